@@ -1,0 +1,5 @@
+pub mod SectionLaws
+pub mod Changes
+pub mod Walks
+pub mod Runs
+pub mod RaspLaws

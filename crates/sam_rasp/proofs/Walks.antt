@@ -1,0 +1,145 @@
+-- Places in lists of sections.
+use Rattle.std.proofs.Common.{◌≡◌, refl, sym, ap, ◌∙◌, subst, ℕ, zero, suc, ◌+◌, ◌-◌, ◌≤◌, ◌<◌, List, [], ◌∷◌, ◌++◌, map, replicate, take, drop, length, get_or, Some, None, arith, max, min, ◌⊎◌, inl, inr, true, false}
+use Rattle.std.specs.Prelude.{Option, slice_get, option_map}
+use Rattle.std.proofs.lemmas.List.{drop_more}
+use Rattle.std.proofs.lemmas.Bool.{cases_lt}
+use Rattle.sam_rasp.specs.Rasp.{PartialText, first_gaps, gaps_in_front, range_from}
+use Rattle.sam_runes.specs.Texts.{part}
+use Rattle.sam_rasp.specs.Sections.{cells, cells_of, size, IsNormal, StaysApart, is_loaded}
+use Rattle.sam_rasp.specs.declared.section.Section.{Section}
+use Rattle.sam_rasp.specs.declared.section.Section.TheVariants.{Loaded, Hole}
+
+pub get-left : {X : Type 0} (s r : List X) (k : ℕ) → k < length s → slice_get (s ++ r) k ≡ slice_get s k
+get-left [] r k l = absurd (omega (arith, l))
+get-left (x ∷ s) r zero l = refl
+get-left (x ∷ s) r (suc k) l = get-left s r k (omega (arith, l))
+
+pub get-past : {X : Type 0} (s r : List X) (k n : ℕ) → length s + n ≡ k → slice_get (s ++ r) k ≡ slice_get r n
+get-past [] r k n e = let same : k ≡ n = omega (arith, e) in ap (λ j. slice_get r j) same
+get-past (x ∷ s) r zero n e = absurd (omega (arith, e))
+get-past (x ∷ s) r (suc k) n e = get-past s r k n (omega (arith, e))
+
+-- the cells from section number i on
+pub cells-next : (xs : List Section) (i : ℕ) (x : Section) → i < length xs → x ≡ get_or xs i x → cells_of (drop i xs) ≡ cells x ++ cells_of (drop (i + 1) xs)
+cells-next xs i x l e = ap cells_of (drop_more xs i x l ∙ ap (λ y. y ∷ drop (i + 1) xs) (sym e))
+
+pub normal-next : (xs : List Section) (i : ℕ) (x : Section) → i < length xs → x ≡ get_or xs i x → IsNormal (drop i xs) → IsNormal (x ∷ drop (i + 1) xs)
+normal-next xs i x l e h = subst IsNormal (drop_more xs i x l ∙ ap (λ y. y ∷ drop (i + 1) xs) (sym e)) h
+
+-- the first hole in the range from p to q among the members r, the first of which stands at the place at
+abbrev pub hole_from : PartialText → ℕ → ℕ → ℕ → Option (ℕ × ℕ)
+hole_from r at p q = option_map (range_from (max p at)) (first_gaps (part r (p - at) (q - at)))
+
+-- a member before the range
+pub step-before : (cell : Option ℕ) (r : PartialText) (at p q : ℕ) → at < p → hole_from (cell ∷ r) at p q ≡ hole_from r (at + 1) p q
+step-before cell r at p q l =
+    let a : ℕ = p - (at + 1) in
+    let b : ℕ = q - (at + 1) in
+    let ea : p - at ≡ suc a = omega (arith, l) in
+    let eb : (q - at) - suc a ≡ b - a = omega (arith, l) in
+    let em : max p at ≡ max p (at + 1) = omega (arith, l) in
+    ap (λ m. option_map (range_from m) (first_gaps (part (cell ∷ r) (p - at) (q - at)))) em
+    ∙ (ap (λ k. option_map (range_from (max p (at + 1))) (first_gaps (take ((q - at) - k) (drop k (cell ∷ r))))) ea
+    ∙ ap (λ k. option_map (range_from (max p (at + 1))) (first_gaps (take k (drop a r)))) eb)
+
+-- members behind the range
+pub none-behind : (r : PartialText) (at p q : ℕ) → p ≤ q → q ≤ at → hole_from r at p q ≡ None
+none-behind r at p q le l =
+    let none : (q - at) - (p - at) ≡ 0 = omega (arith, l) in
+    ap (λ k. option_map (range_from (max p at)) (first_gaps (take k (drop (p - at) r)))) none
+
+-- what stands in the range from its start on
+pub from-start : (r : PartialText) (at p q : ℕ) → p ≤ at → hole_from r at p q ≡ option_map (range_from at) (first_gaps (take (q - at) r))
+from-start r at p q l =
+    let none : p - at ≡ 0 = omega (arith, l) in
+    let all : (q - at) - (p - at) ≡ q - at = omega (arith, l) in
+    let em : max p at ≡ at = omega (arith, l) in
+    ap (λ m. option_map (range_from m) (first_gaps (part r (p - at) (q - at)))) em
+    ∙ (ap (λ k. option_map (range_from at) (first_gaps (take k (drop (p - at) r)))) all
+    ∙ ap (λ k. option_map (range_from at) (first_gaps (take (q - at) (drop k r)))) none)
+
+one-further : (at : ℕ) (h : Option (ℕ × ℕ)) → option_map (range_from at) (option_map (λ (h : ℕ × ℕ). (1 + h.0, h.1)) h) ≡ option_map (range_from (at + 1)) h
+one-further at None = refl
+one-further at (Some (s, n)) =
+    let e : at + (1 + s) ≡ at + 1 + s = omega arith in
+    ap (λ k. Some (k, k + n)) e
+
+-- a rune in the range
+pub step-rune : (c : ℕ) (r : PartialText) (at p q : ℕ) → p ≤ at → at < q → hole_from (Some c ∷ r) at p q ≡ hole_from r (at + 1) p q
+step-rune c r at p q l below =
+    let b : ℕ = q - (at + 1) in
+    let eb : q - at ≡ suc b = omega (arith, below) in
+    from-start (Some c ∷ r) at p q l
+    ∙ (ap (λ k. option_map (range_from at) (first_gaps (take k (Some c ∷ r)))) eb
+    ∙ (one-further at (first_gaps (take b r)) ∙ sym (from-start r (at + 1) p q (omega (arith, l)))))
+
+pub skip-member : (cell : Option ℕ) (r : PartialText) (at p q : ℕ) → p ≤ q → (at < p) ⊎ (q ≤ at) → hole_from (cell ∷ r) at p q ≡ hole_from r (at + 1) p q
+skip-member cell r at p q le (inl l) = step-before cell r at p q l
+skip-member cell r at p q le (inr l) = none-behind (cell ∷ r) at p q le l ∙ sym (none-behind r (at + 1) p q le (omega (arith, l)))
+
+pub skip-rune : (c : ℕ) (r : PartialText) (at p q : ℕ) → p ≤ q → hole_from (Some c ∷ r) at p q ≡ hole_from r (at + 1) p q
+skip-rune c r at p q le = go (cases_lt at p) (cases_lt at q)
+  where
+    go : ((at < p) ⊎ (p ≤ at)) → ((at < q) ⊎ (q ≤ at)) → hole_from (Some c ∷ r) at p q ≡ hole_from r (at + 1) p q
+    go (inl l) m = step-before (Some c) r at p q l
+    go (inr l) (inl m) = step-rune c r at p q l m
+    go (inr l) (inr m) = skip-member (Some c) r at p q le (inr m)
+
+-- a loaded section holds no hole
+pub skip-loaded : (s : List ℕ) (r : PartialText) (at p q end : ℕ) → p ≤ q → at + length s ≡ end → hole_from (map Some s ++ r) at p q ≡ hole_from r end p q
+skip-loaded [] r at p q end le e = let same : at ≡ end = omega (arith, e) in ap (λ k. hole_from r k p q) same
+skip-loaded (c ∷ s) r at p q end le e = skip-rune c (map Some s ++ r) at p q le ∙ skip-loaded s r (at + 1) p q end le (omega (arith, e))
+
+-- a hole outside the range
+pub skip-hole : (n : ℕ) (r : PartialText) (at p q end : ℕ) → p ≤ q → at + n ≡ end → min end q ≤ max at p → hole_from (replicate n None ++ r) at p q ≡ hole_from r end p q
+skip-hole zero r at p q end le e out = let same : at ≡ end = omega (arith, e) in ap (λ k. hole_from r k p q) same
+skip-hole (suc n) r at p q end le e out =
+    skip-member None (replicate n None ++ r) at p q le (outside (cases_lt at p)) ∙ skip-hole n r (at + 1) p q end le (omega (arith, e)) (omega (arith, out))
+  where
+    outside : ((at < p) ⊎ (p ≤ at)) → (at < p) ⊎ (q ≤ at)
+    outside (inl l) = inl l
+    outside (inr l) = inr (omega (arith, out, e, l, le))
+
+pub skip-section : (x : Section) (r : PartialText) (at p q end : ℕ) → p ≤ q → at + size x ≡ end → (is_loaded x ≡ true) ⊎ (min end q ≤ max at p) → hole_from (cells x ++ r) at p q ≡ hole_from r end p q
+skip-section (Loaded s) r at p q end le e out = skip-loaded s r at p q end le e
+skip-section (Hole n) r at p q end le e (inl never) = absurd (cc)
+skip-section (Hole n) r at p q end le e (inr out) = skip-hole n r at p q end le e out
+
+in-front : (b n : ℕ) (r : PartialText) → gaps_in_front r ≡ 0 → gaps_in_front (take b (replicate n None ++ r)) ≡ min b n
+in-front zero n r e = omega arith
+in-front (suc b) zero [] e = omega arith
+in-front (suc b) zero (None ∷ r) e = absurd (omega (arith, e))
+in-front (suc b) zero (Some c ∷ r) e = omega arith
+in-front (suc b) (suc n) r e = omega (arith, in-front b n r e)
+
+-- a hole in the range, with no gap behind it
+pub hole-found : (n : ℕ) (r : PartialText) (at p q : ℕ) → gaps_in_front r ≡ 0 → max at p < min (at + n) q → hole_from (replicate n None ++ r) at p q ≡ Some (max at p, min (at + n) q)
+hole-found zero r at p q e l = absurd (omega (arith, l))
+hole-found (suc n) r at p q e l = go (hole-found n r (at + 1) p q e) (cases_lt at p)
+  where
+    go : (max (at + 1) p < min (at + 1 + n) q → hole_from (replicate n None ++ r) (at + 1) p q ≡ Some (max (at + 1) p, min (at + 1 + n) q))
+        → ((at < p) ⊎ (p ≤ at)) → hole_from (replicate (suc n) None ++ r) at p q ≡ Some (max at p, min (at + suc n) q)
+    go more (inl m) =
+        let es : max (at + 1) p ≡ max at p = omega (arith, m) in
+        let ee : min (at + 1 + n) q ≡ min (at + suc n) q = omega arith in
+        step-before None (replicate n None ++ r) at p q m
+        ∙ (more (omega (arith, l, m)) ∙ (ap (λ k. Some (k, min (at + 1 + n) q)) es ∙ ap (λ k. Some (max at p, k)) ee))
+    go more (inr m) =
+        let b : ℕ = q - (at + 1) in
+        let eb : q - at ≡ suc b = omega (arith, l) in
+        let es : at + 0 ≡ max at p = omega (arith, m) in
+        let ee : at + 0 + (1 + gaps_in_front (take b (replicate n None ++ r))) ≡ min (at + suc n) q = omega (arith, in-front b n r e, l, m, eb) in
+        from-start (None ∷ (replicate n None ++ r)) at p q m
+        ∙ (ap (λ k. option_map (range_from at) (first_gaps (take k (None ∷ (replicate n None ++ r))))) eb
+        ∙ (ap (λ k. Some (k, at + 0 + (1 + gaps_in_front (take b (replicate n None ++ r))))) es ∙ ap (λ k. Some (max at p, k)) ee))
+
+front-loaded : (n : ℕ) (xs : List Section) → StaysApart (Hole n) xs → IsNormal xs → gaps_in_front (cells_of xs) ≡ 0
+front-loaded n [] a h = refl
+front-loaded n (Loaded [] ∷ xs) a h = absurd (omega (arith, h.0))
+front-loaded n (Loaded (c ∷ s) ∷ xs) a h = refl
+front-loaded n (Hole m ∷ xs) a h = absurd (cc)
+
+pub section-found : (x : Section) (xs : List Section) (at p q end : ℕ) → IsNormal (x ∷ xs) → at + size x ≡ end → is_loaded x ≡ false → max at p < min end q → hole_from (cells x ++ cells_of xs) at p q ≡ Some (max at p, min end q)
+section-found (Loaded s) xs at p q end h e never l = absurd (cc)
+section-found (Hole n) xs at p q end h e never l =
+    hole-found n (cells_of xs) at p q (front-loaded n xs h.1 h.2) (omega (arith, l, e)) ∙ ap (λ k. Some (max at p, min k q)) e

@@ -1,0 +1,110 @@
+//! Lists of sections, built from the front so that neighbours are joined, and taken apart from the front.
+//! What is taken apart is held last to first, since a vector gives up its last member at no cost.
+
+ghost use Rattle.std.specs.Prelude.{◌≡◌, ◌<◌, ◌≤◌, ◌+◌, ◌++◌, [], ◌∷◌, length, drop, min, vec_len, vec_capacity};
+ghost use Rattle.sam_runes.specs.Texts.{del};
+ghost use Rattle.sam_rasp.specs.Sections.{cells, cells_of, cells_back, size, may_join, joined, IsNormal};
+
+use crate::section::Section;
+
+/// Puts a section at the end, where there is room for it.
+fn push(out: &mut Vec<Section>, section: Section)
+    requires { vec_len out.old < vec_capacity out.old }
+    ensures items { out.new.items ≡ out.old.items ++ section ∷ [] }
+    ensures len { vec_len out.new ≡ vec_len out.old + 1 }
+    ensures capacity { vec_capacity out.old ≤ vec_capacity out.new }
+{
+    if out.push(section).is_err() {
+        unreachable!();
+    }
+}
+
+/// Puts a section at the end, joined with the last one where the two make one.
+pub fn push_joined(out: &mut Vec<Section>, section: Section)
+    requires normal { IsNormal out.old.items }
+    requires room { vec_len out.old + min 1 (size section) ≤ vec_capacity out.old }
+    requires within { length (cells_of out.old.items) + size section ≤ 1000000 }
+    ensures cells { cells_of out.new.items ≡ cells_of out.old.items ++ cells section }
+    ensures normal { IsNormal out.new.items }
+    ensures len { vec_len out.new ≤ vec_len out.old + min 1 (size section) }
+    ensures capacity { vec_capacity out.old ≤ vec_capacity out.new }
+{
+    if section.len() == 0 {
+        return;
+    }
+    let Some(mut last) = out.pop() else {
+        push(out, section);
+        return;
+    };
+    if last.may_join(&section) {
+        last.absorb(section);
+        push(out, last);
+    } else {
+        push(out, last);
+        push(out, section);
+    }
+}
+
+/// Puts all of `rest` at the end.
+pub fn join_all(out: &mut Vec<Section>, rest: &mut Vec<Section>)
+    requires normal { IsNormal out.old.items }
+    requires room { vec_len out.old + vec_len rest.old ≤ vec_capacity out.old }
+    requires within { length (cells_of out.old.items) + length (cells_back rest.old.items) ≤ 1000000 }
+    ensures cells { cells_of out.new.items ≡ cells_of out.old.items ++ cells_back rest.old.items }
+    ensures normal { IsNormal out.new.items }
+    ensures len { vec_len out.new ≤ vec_len out.old + vec_len rest.old }
+    ensures capacity { vec_capacity out.old ≤ vec_capacity out.new }
+    ensures empty { rest.new.items ≡ [] }
+    ensures kept { vec_capacity rest.old ≤ vec_capacity rest.new }
+{
+    while let Some(section) = rest.pop() {
+        push_joined(out, section);
+    }
+}
+
+/// Moves the sections before place `p` of `rest` to the end of `out`. The result is the section in which `p` stands and the place in it; at the end of `rest` it is an empty one.
+pub fn move_before(out: &mut Vec<Section>, rest: &mut Vec<Section>, p: u32) -> (Section, u32)
+    requires normal { IsNormal out.old.items }
+    requires room { vec_len out.old + vec_len rest.old ≤ vec_capacity out.old }
+    requires within { length (cells_of out.old.items) + length (cells_back rest.old.items) ≤ 1000000 }
+    requires place { p ≤ length (cells_back rest.old.items) }
+    ensures whole { cells_of out.new.items ++ (cells result.0 ++ cells_back rest.new.items) ≡ cells_of out.old.items ++ cells_back rest.old.items }
+    ensures place { length (cells_of out.new.items) + result.1 ≡ length (cells_of out.old.items) + p }
+    ensures inside { result.1 ≤ size result.0 }
+    ensures normal { IsNormal out.new.items }
+    ensures len { vec_len out.new + min 1 (size result.0) + vec_len rest.new ≤ vec_len out.old + vec_len rest.old }
+    ensures capacity { vec_capacity out.old ≤ vec_capacity out.new }
+    ensures kept { vec_capacity rest.old ≤ vec_capacity rest.new }
+{
+    let mut left = p;
+    while let Some(section) = rest.pop() {
+        let len = section.len();
+        if left < len {
+            return (section, left);
+        }
+        left -= len;
+        push_joined(out, section);
+    }
+    (Section::Hole(0), 0)
+}
+
+/// Takes the first `n` members off `rest`. The result is what is left of the section in which that ends; an empty one at the end of `rest`.
+pub fn drop_front(rest: &mut Vec<Section>, n: u32) -> Section
+    requires { n ≤ length (cells_back rest.old.items) }
+    ensures cells { cells result ++ cells_back rest.new.items ≡ drop n (cells_back rest.old.items) }
+    ensures len { vec_len rest.new + min 1 (size result) ≤ vec_len rest.old }
+    ensures limit { size result + length (cells_back rest.new.items) ≤ length (cells_back rest.old.items) }
+    ensures kept { vec_capacity rest.old ≤ vec_capacity rest.new }
+{
+    let mut left = n;
+    while let Some(section) = rest.pop() {
+        let mut section = section;
+        let len = section.len();
+        if left < len {
+            section.cut(0, left);
+            return section;
+        }
+        left -= len;
+    }
+    Section::Hole(0)
+}

@@ -1,0 +1,88 @@
+//! The text of a loaded section, with room for a full one from the start.
+
+ghost use Rattle.std.specs.Prelude.{◌≡◌, ◌≤◌, ◌+◌, ◌++◌, [], length, IfOk, slice_get, take, drop};
+ghost use Rattle.sam_runes.specs.Texts.{del};
+
+use std::alloc::{AllocError, Global};
+use std::marker::Model;
+
+/// How many runes a loaded section has at most.
+pub const PIECE_ROOM: usize = 512;
+
+/// At most `PIECE_ROOM` runes, with memory for that many, so that joining two takes none.
+#[derive(Drop)]
+pub struct Piece {
+    runes: Vec<char>,
+}
+
+impl Model for Piece {
+    ghost use Rattle.std.specs.Prelude.{ℕ, List, ◌≤◌, vec_len, vec_capacity};
+
+    ghost Value = { List ℕ };
+
+    ghost view = { λ a. a.runes.items };
+
+    ghost invariant = { λ a. (vec_len a.runes ≤ 512) × (512 ≤ vec_capacity a.runes) };
+}
+
+impl Piece {
+    /// An empty piece.
+    pub fn new(alloc: Global) -> Result<Piece, AllocError>
+        ensures { IfOk result (λ a. a ≡ []) }
+    {
+        Ok(Piece {
+            runes: Vec::with_capacity(alloc, PIECE_ROOM)?,
+        })
+    }
+
+    pub fn len(&self) -> usize
+        ensures len { result ≡ length self.now }
+        ensures limit { length self.now ≤ 512 }
+    {
+        self.runes.len()
+    }
+
+    pub fn get(&self, place: usize) -> Option<char>
+        ensures { result ≡ slice_get self.now place }
+    {
+        self.runes.get(place).copied()
+    }
+
+    /// Puts `runes` at the end, which takes no memory.
+    pub fn extend(&mut self, runes: &[char])
+        requires { length self.old + length runes.now ≤ 512 }
+        ensures { self.new ≡ self.old ++ runes.now }
+    {
+        if self.runes.extend_from_slice(runes).is_err() {
+            unreachable!();
+        }
+    }
+
+    /// Puts the other piece at the end.
+    pub fn append(&mut self, other: Piece)
+        requires { length self.old + length other ≤ 512 }
+        ensures { self.new ≡ self.old ++ other }
+    {
+        self.extend(other.runes.as_slice());
+    }
+
+    /// Takes out what stands from place `p` to place `q`.
+    pub fn cut(&mut self, p: usize, q: usize)
+        requires ascending { p ≤ q }
+        requires within { q ≤ length self.old }
+        ensures { self.new ≡ del self.old p q }
+    {
+        self.runes.drain(p..q);
+    }
+
+    /// Moves what stands from place `p` on into `tail`, which was empty.
+    pub fn split_into(&mut self, p: usize, tail: &mut Piece)
+        requires within { p ≤ length self.old }
+        requires empty { tail.old ≡ [] }
+        ensures front { self.new ≡ take p self.old }
+        ensures back { tail.new ≡ drop p self.old }
+    {
+        tail.extend(&self.runes.as_slice()[p..]);
+        self.runes.truncate(p);
+    }
+}

@@ -1,0 +1,553 @@
+-- The plain terminal: what it composes for each event and frame, and its state after it.
+use Rattle.std.specs.Prelude.{ℕ, ◌+◌, ◌-◌, min, Bool, true, false, not, ◌&&◌, ◌||◌, if◌then◌else◌, ◌==◌, nat_lt, nat_le, List, [], ◌∷◌, ◌++◌, length, map, replicate, Option, Some, None, is_some, unwrap_or, Result, Ok, Err}
+use Rattle.sam_runes.specs.Texts.{Range, is_empty, max_runes, most_count, most_in_message, snarf_limit, common_version, utf8_length}
+use Rattle.sam_runes.specs.Slots.{Slots, slot, put_slot, free_slot, map_slots}
+use Rattle.sam_runes.specs.Checks.{Checks, first_of_checks}
+use Rattle.sam_rasp.specs.Rasp.{PartialText, ins_cells, del_cells, load_cells, hole_within, place_after_ins, place_after_del}
+use Rattle.sam_term.specs.Locks.{Lock, NoLock, CommandLock, FileLock, lock_of, is_command_line}
+use Rattle.sam_mesg.specs.declared.tmesg.Tmesg.{Tmesg}
+use Rattle.sam_mesg.specs.declared.tmesg.Tmesg.TheVariants.{Tversion, Tstartcmdfile, Tcheck, Trequest, Torigin, Tstartfile, Tworkfile, Ttype, Tcut, Tpaste, Tsnarf, Tstartnewfile, Twrite, Tclose, Tlook, Tsearch, Tsend, Tdclick, Tstartsnarf, Tsetsnarf, Tack, Texit}
+use Rattle.sam_mesg.specs.declared.hmesg.Hmesg.{Hmesg}
+use Rattle.sam_mesg.specs.declared.hmesg.Hmesg.TheVariants.{Hversion, Hbindname, Hcurrent, Hnewname, Hmovname, Hgrow, Hcheck, Hunlock, Hdata, Horigin, Hunlockfile, Hsetdot, Hgrowdata, Hmoveto, Hclean, Hdirty, Hcut, Hsetpat, Hdelname, Hclose, Hsetsnarf, Hsnarflen, Hack, Hexit}
+use Rattle.sam_mesg.specs.declared.hmesg.HFrame.{HFrame}
+use Rattle.sam_term.specs.declared.files.Window.{Window}
+use Rattle.sam_term.specs.declared.files.KnownFile.{KnownFile}
+use Rattle.sam_term.specs.declared.files.Unsent.{Unsent}
+use Rattle.sam_term.specs.declared.event.UserEvent.{UserEvent}
+use Rattle.sam_term.specs.declared.event.UserEvent.TheVariants.{Typed, Select, Cut, Paste, Snarf, Look, Search, Send, Dclick, Scroll, View, Open, Close, Write, Work, OpenCmd, New, Exit, Check, GetSnarf, SetSnarf, Version, Flush}
+use Rattle.sam_term.specs.declared.event.Acted.{Acted}
+use Rattle.sam_term.specs.declared.event.Acted.TheVariants.{Idle, Locked, Done, Refused}
+use Rattle.sam_term.specs.declared.fault.Refusal.{Refusal}
+use Rattle.sam_term.specs.declared.fault.Refusal.TheVariants as refusal
+use Rattle.sam_term.specs.declared.fault.TermFault.{TermFault}
+use Rattle.sam_term.specs.declared.fault.TermFault.TheVariants as fault
+
+-- the terminal
+pub record PlainTerminal : Type 0 where
+  pub files : Slots KnownFile
+  pub current : Option ℕ
+  pub command_lock : Bool
+  pub has_exited : Bool
+  pub unsent : Option Unsent
+  pub held : List UserEvent  -- the oldest first
+  pub sent : ℕ  -- how many messages were composed
+  pub version : ℕ
+  pub pattern : List ℕ
+  pub snarf : List ℕ
+  pub snarf_length : ℕ
+
+abbrev pub blank_window : Window
+blank_window = record { rasp = []; dot = (0, 0); view_start = 0; view_length = 0; locks = 0; awaits = false }
+
+abbrev pub blank_known : KnownFile
+blank_known = record { name = []; dirty = false; window = None }
+
+abbrev pub new_terminal : PlainTerminal
+new_terminal =
+    record {
+      files = [];
+      current = None;
+      command_lock = false;
+      has_exited = false;
+      unsent = None;
+      held = [];
+      sent = 0;
+      version = 1;
+      pattern = [];
+      snarf = [];
+      snarf_length = 0;
+    }
+
+-- ## Files of the terminal
+
+abbrev pub is_known : PlainTerminal → ℕ → Bool
+is_known t f = is_some (slot t.files f)
+
+abbrev pub known_in : Slots KnownFile → ℕ → KnownFile
+known_in files f = unwrap_or (slot files f) blank_known
+
+abbrev pub known_at : PlainTerminal → ℕ → KnownFile
+known_at t f = known_in t.files f
+
+-- the window of a slot, a blank one where it has none
+abbrev pub window_in : Slots KnownFile → ℕ → Window
+window_in files f = unwrap_or (known_in files f).window blank_window
+
+abbrev pub window_of : PlainTerminal → ℕ → Option Window
+window_of t f = (known_at t f).window
+
+abbrev pub is_open : PlainTerminal → ℕ → Bool
+is_open t f = is_some (window_of t f)
+
+-- the window of a file, a blank one where it is not open
+abbrev pub window_at : PlainTerminal → ℕ → Window
+window_at t f = unwrap_or (window_of t f) blank_window
+
+abbrev pub put_known : PlainTerminal → ℕ → KnownFile → PlainTerminal
+put_known t f known = record t { files = put_slot t.files f known }
+
+abbrev pub put_window : PlainTerminal → ℕ → Window → PlainTerminal
+put_window t f w = put_known t f (record (known_at t f) { window = Some w })
+
+-- ## Partial texts, and the places that move with them
+
+-- the window after these members are put in at p
+abbrev pub window_after_ins : Window → ℕ → PartialText → Window
+window_after_ins w p cells =
+    let moved = place_after_ins p (length cells) in
+    record w { rasp = ins_cells w.rasp p cells; dot = (moved w.dot.0, moved w.dot.1); view_start = moved w.view_start }
+
+-- the window after what stands from p to q is removed
+abbrev pub window_after_del : Window → ℕ → ℕ → Window
+window_after_del w p q =
+    let moved = place_after_del p q in
+    record w { rasp = del_cells w.rasp p q; dot = (moved w.dot.0, moved w.dot.1); view_start = moved w.view_start }
+
+-- unsent runes of the file f move with its text
+abbrev pub moved_unsent : ℕ → (ℕ → ℕ) → Option Unsent → Option Unsent
+moved_unsent f moved None = None
+moved_unsent f moved (Some u) = if u.file == f then Some (record u { place = moved u.place }) else Some u
+
+abbrev pub ins_rasp : PlainTerminal → ℕ → ℕ → PartialText → PlainTerminal
+ins_rasp t f p cells =
+    record (put_window t f (window_after_ins (window_at t f) p cells)) {
+      unsent = moved_unsent f (place_after_ins p (length cells)) t.unsent;
+    }
+
+abbrev pub del_rasp : PlainTerminal → ℕ → ℕ → ℕ → PlainTerminal
+del_rasp t f p q =
+    record (put_window t f (window_after_del (window_at t f) p q)) {
+      unsent = moved_unsent f (place_after_del p q) t.unsent;
+    }
+
+abbrev pub set_dot_of : PlainTerminal → ℕ → Range → PlainTerminal
+set_dot_of t f d = put_window t f (record (window_at t f) { dot = d })
+
+abbrev pub set_view_start : PlainTerminal → ℕ → ℕ → PlainTerminal
+set_view_start t f p = put_window t f (record (window_at t f) { view_start = p })
+
+abbrev pub has_empty_dot : PlainTerminal → ℕ → Bool
+has_empty_dot t f = let d = (window_at t f).dot in d.0 == d.1
+
+-- ## Locks
+
+abbrev pub lock_taken : Lock → PlainTerminal → PlainTerminal
+lock_taken NoLock t = t
+lock_taken CommandLock t = record t { command_lock = true }
+lock_taken (FileLock f) t = put_window t f (record (window_at t f) { locks = (window_at t f).locks + 1 })
+
+-- some file is locked
+abbrev pub is_any_locked : Slots KnownFile → Bool
+is_any_locked [] = false
+is_any_locked (None ∷ ss) = is_any_locked ss
+is_any_locked (Some known ∷ ss) = nat_lt 0 (unwrap_or known.window blank_window).locks || is_any_locked ss
+
+-- no window holds a lock or awaits anything
+abbrev pub free_window : Option Window → Option Window
+free_window None = None
+free_window (Some w) = Some (record w { locks = 0; awaits = false })
+
+-- ## Composing messages
+
+-- the terminal, with messages that it composed
+abbrev pub Made : Type 0
+Made = PlainTerminal × List Tmesg
+
+abbrev pub and_then : Made → (PlainTerminal → Made) → Made
+and_then made next = ((next made.0).0, made.1 ++ (next made.0).1)
+
+-- a request awaits its data
+abbrev pub asked : Tmesg → PlainTerminal → PlainTerminal
+asked (Trequest f p n) t = put_window t f (record (window_at t f) { awaits = true })
+asked _ t = t
+
+-- one message is composed: it is counted, and takes its lock
+abbrev pub composed : PlainTerminal → Tmesg → PlainTerminal
+composed t m = asked m (lock_taken (lock_of m) (record t { sent = t.sent + 1 }))
+
+abbrev pub all_composed : PlainTerminal → List Tmesg → PlainTerminal
+all_composed t [] = t
+all_composed t (m ∷ ms) = all_composed (composed t m) ms
+
+-- the unsent runes as a message
+abbrev pub unsent_message : Option Unsent → List Tmesg
+unsent_message None = []
+unsent_message (Some u) = Ttype u.file u.place u.runes ∷ []
+
+-- unsent runes become a Ttype
+unfoldable pub flushed : PlainTerminal → Made
+flushed t = (all_composed (record t { unsent = None }) (unsent_message t.unsent), unsent_message t.unsent)
+
+-- the unsent runes are sent, then the terminal changes, and these messages are composed
+abbrev pub sends : PlainTerminal → (PlainTerminal → PlainTerminal) → List Tmesg → Made
+sends t change ms = and_then (flushed t) (λ u. (all_composed (change u) ms, ms))
+
+-- only a message that there is sends the unsent runes
+abbrev pub sends_if : Option Tmesg → PlainTerminal → Made
+sends_if None t = (t, [])
+sends_if (Some m) t = sends t (λ u. u) (m ∷ [])
+
+abbrev pub unchanged : PlainTerminal → PlainTerminal
+unchanged t = t
+
+-- where the view of a window ends
+abbrev pub view_end : Window → ℕ
+view_end w = min (w.view_start + w.view_length) (length w.rasp)
+
+abbrev pub request_for : ℕ → Option (ℕ × ℕ) → Option Tmesg
+request_for f None = None
+request_for f (Some h) = Some (Trequest f h.0 (min (h.1 - h.0) most_in_message))
+
+-- the request rule: the first gap inside the view of f is asked for, unless a request is awaited already
+abbrev pub wanted : PlainTerminal → ℕ → Option Tmesg
+wanted t f =
+    let w = window_at t f in
+    if is_open t f && not t.has_exited && not w.awaits
+    then request_for f (hole_within w.rasp w.view_start (view_end w))
+    else None
+
+unfoldable pub requested : PlainTerminal → ℕ → Made
+requested t f = sends_if (wanted t f) t
+
+-- ## User events, a function for each kind
+
+-- these runes follow the unsent ones directly, and all fit in one message
+abbrev pub joins : Option Unsent → ℕ → ℕ → List ℕ → Bool
+joins None f p s = false
+joins (Some u) f p s = u.file == f && u.place + length u.runes == p && nat_le (length u.runes + length s) most_in_message
+
+abbrev pub joined : Option Unsent → ℕ → ℕ → List ℕ → Unsent
+joined None f p s = record { file = f; place = p; runes = s }
+joined (Some u) f p s = record u { runes = u.runes ++ s }
+
+-- s becomes unsent behind the runes that it joins; others are sent first
+abbrev pub kept_unsent : PlainTerminal → ℕ → ℕ → List ℕ → Made
+kept_unsent t f p s =
+    if joins t.unsent f p s
+    then (record t { unsent = Some (joined t.unsent f p s) }, [])
+    else and_then (flushed t) (λ u. (record u { unsent = Some (joined None f p s) }, []))
+
+-- s typed in at p, with the dot after it
+abbrev pub typed_rasp : PlainTerminal → ℕ → ℕ → List ℕ → PlainTerminal
+typed_rasp t f p s = set_dot_of (ins_rasp t f p (map Some s)) f (p + length s, p + length s)
+
+-- s typed at p, where the cut dot began
+abbrev pub types : PlainTerminal → ℕ → ℕ → List ℕ → Made
+types t f p s =
+    and_then (kept_unsent t f p s)
+    (λ u. let typed = typed_rasp u f p s in if is_command_line f s then flushed typed else (typed, []))
+
+-- the dot is cut, if it is not empty
+abbrev pub cuts_dot : PlainTerminal → ℕ → Made
+cuts_dot t f =
+    let d = (window_at t f).dot in
+    if has_empty_dot t f then (t, []) else sends t (λ u. del_rasp u f d.0 d.1) (Tcut f d.0 d.1 ∷ [])
+
+unfoldable pub made_by_type : PlainTerminal → ℕ → List ℕ → Made
+made_by_type t f s =
+    and_then (cuts_dot t f) (λ u. if is_empty s then (u, []) else types u f (window_at t f).dot.0 s)
+
+unfoldable pub made_by_cut : PlainTerminal → ℕ → Made
+made_by_cut t f =
+    let d = (window_at t f).dot in
+    if has_empty_dot t f
+    then (t, [])
+    else sends t (λ u. del_rasp u f d.0 d.1) (Tsnarf f d.0 d.1 ∷ Tcut f d.0 d.1 ∷ [])
+
+unfoldable pub made_by_paste : PlainTerminal → ℕ → Made
+made_by_paste t f =
+    and_then (cuts_dot t f) (λ u. sends u unchanged (Tpaste f (window_at t f).dot.0 ∷ []))
+
+unfoldable pub made_by_snarf : PlainTerminal → ℕ → Made
+made_by_snarf t f =
+    let d = (window_at t f).dot in
+    if has_empty_dot t f then (t, []) else sends t unchanged (Tsnarf f d.0 d.1 ∷ [])
+
+-- a message about the dot of f
+abbrev pub sends_dot : PlainTerminal → ℕ → (ℕ → ℕ → ℕ → Tmesg) → Made
+sends_dot t f message = let d = (window_at t f).dot in sends t unchanged (message f d.0 d.1 ∷ [])
+
+unfoldable pub made_by_view : PlainTerminal → ℕ → ℕ → ℕ → Made
+made_by_view t f p n = requested (put_window t f (record (window_at t f) { view_start = p; view_length = n })) f
+
+-- what an event does that nothing stands against
+abbrev pub made_by : PlainTerminal → UserEvent → Made
+made_by t (Typed f s) = made_by_type t f s
+made_by t (Select f p q) = (set_dot_of t f (p, q), [])
+made_by t (Cut f) = made_by_cut t f
+made_by t (Paste f) = made_by_paste t f
+made_by t (Snarf f) = made_by_snarf t f
+made_by t (Look f) = sends_dot t f Tlook
+made_by t (Search f) = sends_dot t f Tsearch
+made_by t (Send f) = sends_dot t f Tsend
+made_by t (Dclick f p) = sends t unchanged (Tdclick f p ∷ [])
+made_by t (Scroll f n) = sends t unchanged (Torigin f (window_at t f).view_start n ∷ [])
+made_by t (View f p n) = made_by_view t f p n
+made_by t (Open f) = sends t unchanged (Tstartfile f ∷ [])
+made_by t (Close f) = sends t unchanged (Tclose f ∷ [])
+made_by t (Write f) = sends t unchanged (Twrite f ∷ [])
+made_by t (Work f) = sends_dot t f Tworkfile
+made_by t OpenCmd = sends t unchanged (Tstartcmdfile ∷ [])
+made_by t New = sends t unchanged (Tstartnewfile ∷ [])
+made_by t Exit = sends t unchanged (Texit ∷ [])
+made_by t (Check f) = sends t unchanged (Tcheck f ∷ [])
+made_by t GetSnarf = sends t unchanged (Tstartsnarf ∷ [])
+made_by t (SetSnarf s) = sends t unchanged (Tsetsnarf s ∷ [])
+made_by t (Version v) = sends t unchanged (Tversion v ∷ [])
+made_by t Flush = flushed t
+
+-- ## What holds an event back
+
+-- the file that an event names
+abbrev pub file_of : UserEvent → Option ℕ
+file_of (Typed f s) = Some f
+file_of (Select f p q) = Some f
+file_of (Cut f) = Some f
+file_of (Paste f) = Some f
+file_of (Snarf f) = Some f
+file_of (Look f) = Some f
+file_of (Search f) = Some f
+file_of (Send f) = Some f
+file_of (Dclick f p) = Some f
+file_of (Scroll f n) = Some f
+file_of (View f p n) = Some f
+file_of (Open f) = Some f
+file_of (Close f) = Some f
+file_of (Write f) = Some f
+file_of (Work f) = Some f
+file_of OpenCmd = None
+file_of New = None
+file_of Exit = None
+file_of (Check f) = Some f
+file_of GetSnarf = None
+file_of (SetSnarf s) = None
+file_of (Version v) = None
+file_of Flush = None
+
+-- the event takes the command lock, so it waits until no lock at all is held
+abbrev pub waits_for_all : UserEvent → Bool
+waits_for_all (Typed f s) = is_command_line f s
+waits_for_all (Send f) = true
+waits_for_all (Open f) = true
+waits_for_all (Close f) = true
+waits_for_all OpenCmd = true
+waits_for_all New = true
+waits_for_all Exit = true
+waits_for_all (Version v) = true
+waits_for_all _ = false
+
+abbrev pub is_bad_version : UserEvent → Bool
+is_bad_version (Version v) = v == 0
+is_bad_version _ = false
+
+abbrev pub is_unknown : PlainTerminal → Option ℕ → Bool
+is_unknown t None = false
+is_unknown t (Some f) = not (is_known t f)
+
+-- the event is not for the command file
+abbrev pub is_for_command_file : UserEvent → Bool
+is_for_command_file (Open f) = f == 0
+is_for_command_file (Close f) = f == 0
+is_for_command_file (Write f) = f == 0
+is_for_command_file (Work f) = f == 0
+is_for_command_file _ = false
+
+abbrev pub is_closed : PlainTerminal → Option ℕ → Bool
+is_closed t None = false
+is_closed t (Some f) = not (is_open t f)
+
+abbrev pub needs_open : UserEvent → Bool
+needs_open (Open f) = false
+needs_open _ = true
+
+abbrev pub is_file_locked : PlainTerminal → Option ℕ → Bool
+is_file_locked t None = false
+is_file_locked t (Some f) = nat_lt 0 (window_at t f).locks
+
+abbrev pub has_bad_place : PlainTerminal → UserEvent → Bool
+has_bad_place t (Select f p q) = nat_lt q p || nat_lt (length (window_at t f).rasp) q
+has_bad_place t (Dclick f p) = nat_lt (length (window_at t f).rasp) p
+has_bad_place t (View f p n) = nat_lt (length (window_at t f).rasp) p
+has_bad_place t _ = false
+
+abbrev pub has_long_text : PlainTerminal → UserEvent → Bool
+has_long_text t (Typed f s) = nat_lt most_in_message (length s)
+has_long_text t (SetSnarf s) = nat_lt (snarf_limit t.version) (utf8_length s)
+has_long_text t _ = false
+
+-- what is left of the file's text beside the dot, with the new runes, would be too long
+abbrev pub makes_too_long : PlainTerminal → UserEvent → Bool
+makes_too_long t (Typed f s) =
+    let w = window_at t f in
+    nat_lt max_runes (length w.rasp - (w.dot.1 - w.dot.0) + length s)
+makes_too_long t _ = false
+
+-- an event that is not done waits, or is refused
+pub data Verdict : Type 0 where
+  Waits : Verdict
+  Refuses : (r : Refusal) → Verdict
+
+-- what stands against an event, in its order
+abbrev pub event_checks : PlainTerminal → UserEvent → Checks Verdict
+event_checks t e =
+    (t.has_exited, Refuses refusal.Exited)
+    ∷ (t.command_lock, Waits)
+    ∷ (is_bad_version e, Refuses refusal.BadVersion)
+    ∷ (is_unknown t (file_of e), Refuses refusal.NoFile)
+    ∷ (is_for_command_file e, Refuses refusal.CommandFile)
+    ∷ (needs_open e && is_closed t (file_of e), Refuses refusal.NotOpen)
+    ∷ (is_file_locked t (file_of e) || (waits_for_all e && is_any_locked t.files), Waits)
+    ∷ (has_bad_place t e, Refuses refusal.BadPosition)
+    ∷ (has_long_text t e, Refuses refusal.TextTooLong)
+    ∷ (makes_too_long t e, Refuses refusal.TooLong)
+    ∷ []
+
+-- ## Act and flush
+
+-- a result, unless the count of composed messages would be passed
+abbrev pub if_countable : {A : Type 0} → ℕ → A → Result A TermFault
+if_countable sent x = if nat_lt most_count sent then Err fault.CountFull else Ok x
+
+abbrev pub decided : Option Verdict → PlainTerminal → List UserEvent → Made → Result (PlainTerminal × Acted) TermFault
+decided (Some Waits) t es made = Ok (t, Locked)
+decided (Some (Refuses r)) t es made = Ok (record t { held = es }, Refused r)
+decided None t es made = if_countable made.0.sent (made.0, Done made.1)
+
+abbrev pub act_on : PlainTerminal → List UserEvent → Result (PlainTerminal × Acted) TermFault
+act_on t [] = Ok (t, Idle)
+act_on t (e ∷ es) = decided (first_of_checks (event_checks t e)) t es (made_by (record t { held = es }) e)
+
+-- the terminal tries the oldest held event
+unfoldable pub act_of : PlainTerminal → Result (PlainTerminal × Acted) TermFault
+act_of t = act_on t t.held
+
+unfoldable pub flush_of : PlainTerminal → Result (PlainTerminal × List Tmesg) TermFault
+flush_of t = if_countable (flushed t).0.sent (flushed t)
+
+-- ## Frames of the host
+
+abbrev pub unknown_file : PlainTerminal → ℕ → Bool × TermFault
+unknown_file t f = (not (is_known t f), fault.NoFile)
+
+abbrev pub not_opened : PlainTerminal → ℕ → Bool × TermFault
+not_opened t f = (not (is_open t f), fault.NotOpen)
+
+abbrev pub bound : PlainTerminal → ℕ → Bool × TermFault
+bound t f = (is_open t f, fault.AlreadyBound)
+
+abbrev pub past_end : PlainTerminal → ℕ → ℕ → Bool × TermFault
+past_end t f p = (nat_lt (length (window_at t f).rasp) p, fault.BadPosition)
+
+abbrev pub no_room : PlainTerminal → ℕ → ℕ → Bool × TermFault
+no_room t f n = (nat_lt max_runes (length (window_at t f).rasp + n), fault.TooLong)
+
+-- what stands against a frame, in its order
+abbrev pub frame_checks : PlainTerminal → Hmesg → Checks TermFault
+frame_checks t (Hversion v) = []
+frame_checks t (Hbindname f) = unknown_file t f ∷ bound t f ∷ []
+frame_checks t (Hcurrent f) = unknown_file t f ∷ []
+frame_checks t (Hnewname f) = (is_known t f, fault.AlreadyBound) ∷ []
+frame_checks t (Hmovname f s) = unknown_file t f ∷ []
+frame_checks t (Hgrow f p n) = unknown_file t f ∷ not_opened t f ∷ past_end t f p ∷ no_room t f n ∷ []
+frame_checks t (Hcheck f) = unknown_file t f ∷ not_opened t f ∷ []
+frame_checks t Hunlock = (not t.command_lock, fault.LockNotHeld) ∷ []
+frame_checks t (Hdata f p s) = unknown_file t f ∷ not_opened t f ∷ past_end t f (p + length s) ∷ []
+frame_checks t (Horigin f p) = unknown_file t f ∷ not_opened t f ∷ past_end t f p ∷ []
+frame_checks t (Hunlockfile f) = unknown_file t f ∷ not_opened t f ∷ ((window_at t f).locks == 0, fault.LockNotHeld) ∷ []
+frame_checks t (Hsetdot f p q) = unknown_file t f ∷ not_opened t f ∷ (nat_lt q p, fault.BadPosition) ∷ past_end t f q ∷ []
+frame_checks t (Hgrowdata f p s) = unknown_file t f ∷ not_opened t f ∷ past_end t f p ∷ no_room t f (length s) ∷ []
+frame_checks t (Hmoveto f p) = unknown_file t f ∷ not_opened t f ∷ past_end t f p ∷ []
+frame_checks t (Hclean f) = unknown_file t f ∷ []
+frame_checks t (Hdirty f) = unknown_file t f ∷ []
+frame_checks t (Hcut f p n) = unknown_file t f ∷ not_opened t f ∷ past_end t f (p + n) ∷ []
+frame_checks t (Hsetpat s) = []
+frame_checks t (Hdelname f) = unknown_file t f ∷ bound t f ∷ []
+frame_checks t (Hclose f) = unknown_file t f ∷ not_opened t f ∷ []
+frame_checks t (Hsetsnarf s) = []
+frame_checks t (Hsnarflen n) = []
+frame_checks t Hack = []
+frame_checks t Hexit = []
+
+-- unsent runes of the file f are dropped
+abbrev pub unsent_without : ℕ → Option Unsent → Option Unsent
+unsent_without f None = None
+unsent_without f (Some u) = if u.file == f then None else Some u
+
+unfoldable pub took_bindname : PlainTerminal → ℕ → PlainTerminal
+took_bindname t f = put_window t f blank_window
+
+-- the runes come into places that are there, and the request that awaited them is over
+unfoldable pub took_data : PlainTerminal → ℕ → ℕ → List ℕ → PlainTerminal
+took_data t f p s =
+    let w = window_at t f in
+    put_window t f (record w { rasp = load_cells w.rasp p s; awaits = false })
+
+unfoldable pub took_grow : PlainTerminal → ℕ → ℕ → ℕ → PlainTerminal
+took_grow t f p n = ins_rasp t f p (replicate n None)
+
+-- gaps, and then the runes in their places
+unfoldable pub took_growdata : PlainTerminal → ℕ → ℕ → List ℕ → PlainTerminal
+took_growdata t f p s = ins_rasp t f p (map Some s)
+
+unfoldable pub took_cut : PlainTerminal → ℕ → ℕ → ℕ → PlainTerminal
+took_cut t f p n = del_rasp t f p (p + n)
+
+unfoldable pub took_unlockfile : PlainTerminal → ℕ → PlainTerminal
+took_unlockfile t f = put_window t f (record (window_at t f) { locks = (window_at t f).locks - 1 })
+
+unfoldable pub took_close : PlainTerminal → ℕ → PlainTerminal
+took_close t f =
+    record (put_known t f (record (known_at t f) { window = None })) { unsent = unsent_without f t.unsent }
+
+abbrev pub freed_known : KnownFile → KnownFile
+freed_known known = record known { window = free_window known.window }
+
+-- the session is over: every lock is free and nothing is awaited
+unfoldable pub took_exit : PlainTerminal → PlainTerminal
+took_exit t =
+    record t {
+      has_exited = true;
+      command_lock = false;
+      files = map_slots freed_known t.files;
+    }
+
+-- what a frame does that nothing stands against
+abbrev pub made_from : PlainTerminal → Hmesg → Made
+made_from t (Hversion v) = (record t { version = if v == 0 then t.version else common_version v }, [])
+made_from t (Hbindname f) = (took_bindname t f, [])
+made_from t (Hcurrent f) = (record t { current = Some f }, [])
+made_from t (Hnewname f) = (put_known t f blank_known, [])
+made_from t (Hmovname f s) = (put_known t f (record (known_at t f) { name = s }), [])
+made_from t (Hgrow f p n) = (took_grow t f p n, [])
+made_from t (Hcheck f) = requested t f
+made_from t Hunlock = (record t { command_lock = false }, [])
+made_from t (Hdata f p s) = (took_data t f p s, [])
+made_from t (Horigin f p) = (set_view_start t f p, [])
+made_from t (Hunlockfile f) = requested (took_unlockfile t f) f
+made_from t (Hsetdot f p q) = (set_dot_of t f (p, q), [])
+made_from t (Hgrowdata f p s) = (took_growdata t f p s, [])
+made_from t (Hmoveto f p) = (set_view_start t f p, [])
+made_from t (Hclean f) = (put_known t f (record (known_at t f) { dirty = false }), [])
+made_from t (Hdirty f) = (put_known t f (record (known_at t f) { dirty = true }), [])
+made_from t (Hcut f p n) = (took_cut t f p n, [])
+made_from t (Hsetpat s) = (record t { pattern = s }, [])
+made_from t (Hdelname f) = (record t { files = free_slot t.files f }, [])
+made_from t (Hclose f) = (took_close t f, [])
+made_from t (Hsetsnarf s) = (record t { snarf = s }, [])
+made_from t (Hsnarflen n) = (record t { snarf_length = n }, [])
+made_from t Hack = if t.has_exited then (t, []) else sends t unchanged (Tack ∷ [])
+made_from t Hexit = (took_exit t, [])
+
+abbrev pub made_unless : Option TermFault → Made → Result (PlainTerminal × List Tmesg) TermFault
+made_unless (Some why) made = Err why
+made_unless None made = if_countable made.0.sent made
+
+-- the terminal takes a frame: one that saw more messages than were sent is refused first
+unfoldable pub take_of : PlainTerminal → HFrame → Result (PlainTerminal × List Tmesg) TermFault
+take_of t frame =
+    made_unless (first_of_checks ((nat_lt t.sent frame.seen, fault.FromTheFuture) ∷ frame_checks t frame.msg))
+    (made_from t frame.msg)
+
+-- the partial text of a file, empty where it is not open
+abbrev pub rasp_at : PlainTerminal → ℕ → PartialText
+rasp_at t f = (window_at t f).rasp
