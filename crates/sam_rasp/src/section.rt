@@ -1,7 +1,7 @@
 //! The sections of a rasp: loaded texts and holes.
 
 ghost use Rattle.std.specs.Prelude.{◌≡◌, ◌<◌, ◌≤◌, ◌+◌, ◌-◌, ◌++◌, [], length, slice_get, take, drop, true, Some};
-ghost use Rattle.sam_runes.specs.Texts.{del};
+ghost use Rattle.sam_runes.specs.Texts.{del, max_runes};
 ghost use Rattle.sam_rasp.specs.Sections.{cells, size, may_join, is_loaded, joined};
 
 use crate::piece::{PIECE_ROOM, Piece};
@@ -66,7 +66,7 @@ impl Section {
     /// Takes the next section in.
     pub fn absorb(&mut self, next: Section)
         requires may { may_join self.old next ≡ true }
-        requires within { size self.old + size next ≤ 1000000 }
+        requires within { size self.old + size next ≤ max_runes }
         ensures { self.new ≡ joined self.old next }
     {
         match self {
