@@ -1,7 +1,7 @@
 //! The sections of a rasp: loaded texts and holes.
 
-ghost use Rattle.std.specs.Prelude.{◌≡◌, ◌<◌, ◌≤◌, ◌+◌, ◌-◌, ◌++◌, [], length, slice_get, take, drop, true, Some};
-ghost use Rattle.sam_runes.specs.Texts.{del, max_runes};
+ghost use Rattle.std.specs.Prelude.{◌≡◌, ◌<◌, ◌≤◌, ◌+◌, ◌-◌, ◌++◌, [], length, map, slice_get, take, drop, true, Some};
+ghost use Rattle.sam_runes.specs.Texts.{del, ins, max_runes};
 ghost use Rattle.sam_rasp.specs.Sections.{cells, size, may_join, is_loaded, joined};
 
 use crate::piece::{PIECE_ROOM, Piece};
@@ -80,6 +80,21 @@ impl Section {
                     *count += more;
                 }
             }
+        }
+    }
+
+    /// Puts `runes` in at place `p` of a loaded section that has room for them.
+    #[tactic(auto, using(crate::proofs::SectionLaws::insert_loaded, crate::proofs::SectionLaws::length_ins))]
+    pub fn insert(&mut self, p: u32, runes: &[char])
+        requires loaded { is_loaded self.old ≡ true }
+        requires within { p ≤ size self.old }
+        requires room { size self.old + length runes.now ≤ 512 }
+        ensures cells { cells self.new ≡ ins (cells self.old) p (map Some runes.now) }
+        ensures size { size self.new ≡ size self.old + length runes.now }
+        ensures loaded { is_loaded self.new ≡ true }
+    {
+        if let Section::Loaded(text) = self {
+            text.insert(p as usize, runes);
         }
     }
 
