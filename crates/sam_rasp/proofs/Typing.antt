@@ -3,10 +3,10 @@ use Rattle.std.proofs.Common.{◌≡◌, refl, sym, ap, ◌∙◌, subst, ℕ, z
 use Rattle.std.proofs.lemmas.List.{append_assoc, take-append-le, drop-append-le}
 use Rattle.sam_runes.specs.Texts.{ins}
 use Rattle.sam_rasp.specs.Rasp.{PartialText}
-use Rattle.sam_rasp.specs.Sections.{cells, cells_of, size, may_join, is_loaded, IsNormal}
+use Rattle.sam_rasp.specs.Sections.{cells, cells_of, size, may_join, is_loaded, IsFilled, IsNormal}
 use Rattle.sam_rasp.specs.declared.section.Section.{Section}
 use Rattle.sam_rasp.specs.declared.section.Section.TheVariants.{Loaded, Hole}
-use Rattle.sam_rasp.proofs.SectionLaws.{length-cells}
+use Rattle.sam_rasp.proofs.SectionLaws.{filled, length-cells}
 use Rattle.sam_rasp.proofs.Changes.{take-past, drop-past}
 use Rattle.sam_rasp.proofs.Runs.{three-parts}
 
@@ -20,6 +20,7 @@ pub record Grows (a b : Section) : Type 0 where
   pub loaded : is_loaded a ≡ true
   pub loaded_after : is_loaded b ≡ true
   pub more : size a ≤ size b
+  pub limit : size b ≤ 512
 
 apart-front : (w a b : Section) → Grows a b → may_join w a ≡ false → may_join w b ≡ false
 apart-front (Loaded r) (Loaded s) (Loaded t) g f = let more = g.more in grind (arith, more, f)
@@ -33,14 +34,18 @@ apart-back (Loaded s) (Loaded t) (Hole n) g f = refl
 apart-back (Hole n) b w g f = let never = g.loaded in absurd (cc)
 apart-back (Loaded s) (Hole n) w g f = let never = g.loaded_after in absurd (cc)
 
+grown-filled : (a b : Section) → Grows a b → 0 < size a → IsFilled b
+grown-filled a (Loaded t) g l = (omega (arith, l, g.more), g.limit)
+grown-filled a (Hole n) g l = let never = g.loaded_after in absurd (cc)
+
 pub normal-set : (xs : List Section) (i : ℕ) (x x' : Section) → IsNormal xs → i < length xs → x ≡ get_or xs i x → Grows x x' → IsNormal (set xs i x')
 normal-set [] i x x' h l e g = absurd (omega (arith, l))
 normal-set (y ∷ []) zero x x' h l e g =
     let g' : Grows y x' = subst (λ a. Grows a x') e g in
-    (omega (arith, h.0, g'.more), tt, tt)
+    (grown-filled y x' g' (filled y h.0), tt, tt)
 normal-set (y ∷ z ∷ zs) zero x x' h l e g =
     let g' : Grows y x' = subst (λ a. Grows a x') e g in
-    (omega (arith, h.0, g'.more), apart-back y x' z g' h.1, h.2)
+    (grown-filled y x' g' (filled y h.0), apart-back y x' z g' h.1, h.2)
 normal-set (y ∷ []) (suc i) x x' h l e g = absurd (omega (arith, l))
 normal-set (y ∷ z ∷ zs) (suc zero) x x' h l e g =
     let g' : Grows z x' = subst (λ a. Grows a x') e g in

@@ -2,7 +2,7 @@
 
 ghost use Rattle.std.specs.Prelude.{◌≡◌, ◌<◌, ◌≤◌, ◌+◌, ◌-◌, ◌++◌, [], length, map, slice_get, take, drop, true, Some};
 ghost use Rattle.sam_runes.specs.Texts.{del, ins, max_runes};
-ghost use Rattle.sam_rasp.specs.Sections.{cells, size, may_join, is_loaded, joined};
+ghost use Rattle.sam_rasp.specs.Sections.{cells, size, may_join, is_loaded, joined, IsShort};
 
 use crate::piece::{PIECE_ROOM, Piece};
 
@@ -18,7 +18,8 @@ pub enum Section {
 impl Section {
     /// How many runes or gaps it has.
     pub fn len(&self) -> u32
-        ensures { result ≡ size self.now }
+        ensures len { result ≡ size self.now }
+        ensures limit { IsShort self.now }
     {
         match self {
             Section::Loaded(text) => text.len() as u32,

@@ -22,4 +22,4 @@ returns-clause-normal c =
     let same : section_at xs i ≡ x = get-any xs i (Hole 0) c.index-sections-index.result c.in-Some.ensures.0 in
     let here : x ≡ get_or xs i x = get-any xs i c.index-sections-index.result x c.in-Some.ensures.0 in
     normal-set xs i x c.insert.new.self c.requires.normal c.in-Some.ensures.0 here
-    (record { loaded = ap is_loaded (sym same) ∙ c.in-Some.ensures.2; loaded_after = c.insert.ensures.loaded; more = omega (arith, c.insert.ensures.size) })
+    (record { loaded = ap is_loaded (sym same) ∙ c.in-Some.ensures.2; loaded_after = c.insert.ensures.loaded; more = omega (arith, c.insert.ensures.size); limit = omega (arith, c.insert.ensures.size, ap size same, c.in-Some.ensures.4) })
