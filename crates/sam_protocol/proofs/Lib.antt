@@ -16,3 +16,4 @@ mod Syncing
 mod LineMeans
 mod Running
 mod Handling
+mod Steady

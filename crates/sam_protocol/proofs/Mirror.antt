@@ -334,7 +334,7 @@ closed_file x a t e = go x.opened x.announced a e
 in_slots : (h : PlainHost) (f : ℕ) (x : PlainFile) → slot h.files.slots f ≡ Some x → f < length h.files.slots
 in_slots h f x e = slot_given h.files.slots f (ap is_some e)
 
-at_there : (h : PlainHost) (f : ℕ) (x : PlainFile) → slot h.files.slots f ≡ Some x → file_at h.files f ≡ x
+pub at_there : (h : PlainHost) (f : ℕ) (x : PlainFile) → slot h.files.slots f ≡ Some x → file_at h.files f ≡ x
 at_there h f x e = ap (λ (s : Option PlainFile). unwrap_or s blank_file) e
 
 pub shown_there : (h : PlainHost) (f : ℕ) (x : PlainFile) → slot h.files.slots f ≡ Some x → file_in h.files.slots f ≡ file_of x
