@@ -17,3 +17,4 @@ mod LineMeans
 mod Running
 mod Handling
 mod Steady
+mod Folds

@@ -6,3 +6,4 @@ pub mod HostView
 pub mod Synced
 pub mod Means
 pub mod Handled
+pub mod Fold
