@@ -6,19 +6,20 @@ use Rattle.sam_runes.specs.Checks.{first_of_checks}
 use Rattle.sam_mesg.specs.declared.tmesg.Tmesg.{Tmesg}
 use Rattle.sam_mesg.specs.declared.tmesg.Tmesg.TheVariants.{Trequest, Tack}
 use Rattle.sam_mesg.specs.declared.hmesg.Hmesg.{Hmesg}
-use Rattle.sam_host.specs.Host.{PlainHost, Reply, counted, host_checks, reply_to}
+use Rattle.sam_host.specs.Host.{PlainHost, Reply, counted, host_checks, reply_to, reply_request}
 use Rattle.sam_host.specs.declared.fault.HostFault.{HostFault}
-use Rattle.sam_protocol.specs.Lens.{Lens, lens, Unknown, Known, Open, Action, move, IsFree, IsAlike, HFile, IsKept, IsSettled}
+use Rattle.sam_protocol.specs.Lens.{locked_more, Lens, lens, Unknown, Known, Open, Action, Fill, Free_file, move, IsFree, IsAlike, IsOpen, exited_of, HFile, Absent, Hidden, Named, Opened, Gone, IsKept, CanRequest, request_actions, AreSkips}
 use Rattle.sam_protocol.specs.Model as P
-use Rattle.sam_protocol.specs.Model.{at_file, action, choose, VersionsGuarded}
+use Rattle.sam_protocol.specs.Model.{Answer, at_file, action, only, choose, requested_frames, VersionsGuarded}
 use Rattle.sam_protocol.specs.Crossing.{Change, Same, Lock, Command, Types, Cuts, Line, changed, commanded, typed_in, cut_out}
 use Rattle.sam_protocol.specs.View.{frame_of}
-use Rattle.sam_protocol.specs.HostView.{file_in, model_of}
+use Rattle.sam_protocol.specs.HostView.{file_in, model_of, Mirrors}
 use Rattle.sam_protocol.specs.Synced.{Synced, change_by}
-use Rattle.sam_protocol.specs.Handled.{IsSteady, Ready, Accepted}
+use Rattle.sam_protocol.specs.Handled.{IsSteady, quiet_outcome}
 use Rattle.sam_protocol.specs.Fold.{replied, reply_of, behind, replied_then, answers, frames_at, Kept, IsAllowed}
 use Rattle.sam_protocol.proofs.Versions.{versions-append}
-use Rattle.sam_protocol.proofs.Kept.{kept_take, kept_append, kept_act, kept_more, alike_same}
+use Rattle.sam_protocol.proofs.Kept.{kept_take, kept_append, kept_act, kept_more, kept_request, kept_skips, alike_same}
+use Rattle.sam_protocol.proofs.Mirror.{open_at, mirror_request, mirror_request_gone}
 
 the_reply : {p q : Reply} → Some p ≡ Some q → p ≡ q
 the_reply e = cc
@@ -135,7 +136,7 @@ alike_changed : (c : Change) (g : ℕ) (v : Lens) → IsAlike v (changed c g v)
 alike_changed Same g v = alike_same v
 alike_changed (Lock f) g v = go (g == f) v
   where
-    go : (b : Bool) (v : Lens) → IsAlike v (choose b (Rattle.sam_protocol.specs.Lens.locked_more v) v)
+    go : (b : Bool) (v : Lens) → IsAlike v (choose b (locked_more v) v)
     go true (lens c e n Unknown) = tt
     go true (lens c e n Known) = tt
     go true (lens c e n (Open r k)) = tt
@@ -176,9 +177,9 @@ free_or_same : (c : Change) (views : ℕ → Lens) (g : ℕ) → IsAllowed c vie
 free_or_same Same views g a = inr (λ v. refl)
 free_or_same (Lock f) views g a = go (bool_cases (g == f))
   where
-    go : ((g == f) ≡ true) ⊎ ((g == f) ≡ false) → IsFree (views g) ⊎ ((v : Lens) → choose (g == f) (Rattle.sam_protocol.specs.Lens.locked_more v) v ≡ v)
+    go : ((g == f) ≡ true) ⊎ ((g == f) ≡ false) → IsFree (views g) ⊎ ((v : Lens) → choose (g == f) (locked_more v) v ≡ v)
     go (inl e) = inl (subst (λ (x : ℕ). IsFree (views x)) (sym (eqb-true _ _ e)) a)
-    go (inr e) = inr (λ v. ap (λ (b : Bool). choose b (Rattle.sam_protocol.specs.Lens.locked_more v) v) e)
+    go (inr e) = inr (λ v. ap (λ (b : Bool). choose b (locked_more v) v) e)
 free_or_same Command views g a = inl (a g)
 free_or_same (Types f p s) views g a = go (bool_cases (g == f))
   where
@@ -197,11 +198,11 @@ pub plain_reply : (h : PlainHost) (m : Tmesg) → h.is_done ≡ false → first_
 plain_reply h m d e = ap (λ (b : Bool). if b then Some (counted h, []) else replied (first_of_checks (host_checks h m)) (reply_to h m)) d ∙ ap (λ (o : Option HostFault). replied o (reply_to h m)) e
 
 -- an act whose message and answer lead from settled to settled
-pub acts : (h : PlainHost) (views : ℕ → Lens) (line : List Tmesg) (down : List Hmesg) (m : Tmesg) (k : Kept h views line down) → k.ahead.is_done ≡ false → IsAllowed (change_by m) views → Synced k.ahead m → IsSteady (reply_to k.ahead m).0 → VersionsGuarded (map frame_of (reply_to k.ahead m).1)
+pub acts : (h : PlainHost) (views : ℕ → Lens) (line : List Tmesg) (down : List Hmesg) (m : Tmesg) (k : Kept h views line down) → k.ahead.is_done ≡ false → IsAllowed (change_by m) views → Synced k.ahead m → IsSteady (reply_to k.ahead m).0
     → Kept h (λ g. changed (change_by m) g (views g)) (line ++ m ∷ []) down
-acts h views line down m k d allowed y steady versions =
+acts h views line down m k d allowed y steady =
     kept_with h views (λ g. changed c g (views g)) line down m (counted r.0, r.1) k (plain_reply k.ahead m d y.passes) each
-    (record { sound = steady.sound; announced = steady.announced; fit = steady.fit }) versions
+    (record { sound = steady.sound; announced = steady.announced; fit = steady.fit }) y.versions
   where
     c : Change
     c = change_by m
@@ -223,3 +224,110 @@ acts h views line down m k d allowed y steady versions =
         go (inr same) = subst (λ (v : Lens). IsKept (s g ++ u g) v r.0.is_done r.0.version (file_in r.0.files.slots g)) (sym (same (views g)))
             (kept_append (s g) (u g) (views g) k.ahead.is_done r.0.is_done k.ahead.version r.0.version (file_in k.ahead.files.slots g) (file_in r.0.files.slots g) (k.each g)
             (λ x z. subst (λ (v : Lens). IsKept (u g) v r.0.is_done r.0.version (file_in r.0.files.slots g)) (same x) (y.each g x z)) (y.gone g))
+
+-- an acknowledgement is answered by nothing
+pub acknowledges : (h : PlainHost) (views : ℕ → Lens) (line : List Tmesg) (down : List Hmesg) → Kept h views line down → Kept h views (line ++ Tack ∷ []) down
+acknowledges h views line down k =
+    kept_with h views views line down Tack (counted k.ahead, []) k (either_way k.ahead.is_done) (λ g. kept_more _ _ _ _ _ (k.each g)) (record { sound = k.steady.sound; announced = k.steady.announced; fit = k.steady.fit }) tt
+  where
+    either_way : (b : Bool) → (if b then (let x : Option Reply = Some (counted k.ahead, []) in x) else Some (counted k.ahead, [])) ≡ Some (counted k.ahead, [])
+    either_way true = refl
+    either_way false = refl
+
+-- ## A request, under any lock
+
+record Requested (h : PlainHost) (f p n : ℕ) : Type 0 where
+  reply : Reply
+  now : reply_of h (Trequest f p n) ≡ Some reply
+  host : reply.0 ≡ counted h
+  frames : map frame_of reply.1 ≡ requested_frames h.is_done (file_in h.files.slots f) f p n
+
+requested : (h : PlainHost) (f p n : ℕ) → CanRequest h.is_done (file_in h.files.slots f) → Requested h f p n
+unfolding reply_request
+requested h f p n c = go h.is_done refl (file_in h.files.slots f) refl c
+  where
+    silent : h.is_done ≡ true → reply_of h (Trequest f p n) ≡ Some (counted h, [])
+    silent d = ap (λ (b : Bool). if b then Some (counted h, []) else replied (first_of_checks (host_checks h (Trequest f p n))) (reply_to h (Trequest f p n))) d
+
+    the_answer : {x y : Answer} → Some x ≡ Some y → x ≡ y
+    the_answer e = cc
+
+    told : h.is_done ≡ false → (d : Bool) (file : HFile) → file_in h.files.slots f ≡ file → (m : Mirrors quiet_outcome h (Trequest f p n)) → (ms : List P.Hmesg) → P.requested (model_of h) file f p n ≡ Some (record { host = model_of h; frames = ms }) → ms ≡ requested_frames h.is_done (file_in h.files.slots f) f p n → Requested h f p n
+    told z d file e m ms folds same =
+        let mirror : m.mirror ≡ record { host = model_of h; frames = ms } = the_answer (sym m.folds ∙ ap (λ (x : HFile). P.requested (model_of h) x f p n) e ∙ folds) in
+        record { reply = (counted h, (reply_to h (Trequest f p n)).1); now = plain_reply h (Trequest f p n) z m.passes; host = refl; frames = m.frames ∙ ap (λ (a : Answer). a.frames) mirror ∙ same }
+
+    go : (d : Bool) → h.is_done ≡ d → (file : HFile) → file_in h.files.slots f ≡ file → CanRequest d file → Requested h f p n
+    go true z file e c = record { reply = (counted h, []); now = silent z; host = refl; frames = ap (λ (b : Bool). requested_frames b (file_in h.files.slots f) f p n) (sym z) }
+    go false z Absent e c = absurd c
+    go false z (Hidden t) e c = absurd c
+    go false z (Named t) e c = absurd c
+    go false z (Opened t) e c = told z false (Opened t) e (mirror_request quiet_outcome h f p n t (open_at h f t e)) (P.request_frames f t p n) refl (λ i. requested_frames (sym z i) (sym e i) f p n)
+    go false z Gone e c = told z false Gone e (mirror_request_gone quiet_outcome h f p n e) [] refl (λ i. requested_frames (sym z i) (sym e i) f p n)
+
+-- at the file itself
+request_there : (g f p n : ℕ) (d : Bool) (file : HFile) → (g == f) ≡ true → at_file g (requested_frames d file f p n) ≡ request_actions d file p n
+request_there g f p n true file e = refl
+request_there g f p n false Absent e = refl
+request_there g f p n false (Hidden t) e = refl
+request_there g f p n false (Named t) e = refl
+request_there g f p n false (Opened t) e = λ i. only (e i) (Fill (min p (length t)) (take (min n 512) (drop p t))) ∷ only (e i) Free_file ∷ []
+request_there g f p n false Gone e = refl
+
+request_elsewhere : (g f p n : ℕ) (d : Bool) (file : HFile) → (g == f) ≡ false → AreSkips (at_file g (requested_frames d file f p n))
+request_elsewhere g f p n true file e = tt
+request_elsewhere g f p n false Absent e = tt
+request_elsewhere g f p n false (Hidden t) e = tt
+request_elsewhere g f p n false (Named t) e = tt
+request_elsewhere g f p n false (Opened t) e = ((λ i. only (e i) (Fill (min p (length t)) (take (min n 512) (drop p t)))), ((λ i. only (e i) Free_file), tt))
+request_elsewhere g f p n false Gone e = tt
+
+request_versions : (d : Bool) (file : HFile) (f p n : ℕ) → VersionsGuarded (requested_frames d file f p n)
+request_versions true file f p n = tt
+request_versions false Absent f p n = tt
+request_versions false (Hidden t) f p n = tt
+request_versions false (Named t) f p n = tt
+request_versions false (Opened t) f p n = (λ e. absurd (true≢false (sym e)), (λ e. absurd (true≢false (sym e)), tt))
+request_versions false Gone f p n = tt
+
+pub requests : (h : PlainHost) (views : ℕ → Lens) (line : List Tmesg) (down : List Hmesg) (f p n : ℕ) → Kept h views line down → IsOpen (views f) → exited_of (views f) ≡ false
+    → Kept h (λ g. changed (Lock f) g (views g)) (line ++ Trequest f p n ∷ []) down
+requests h views line down f p n k is_open here =
+    kept_with h views (λ g. changed (Lock f) g (views g)) line down (Trequest f p n) (counted k.ahead, r.reply.1) k
+    (r.now ∙ ap (λ (x : PlainHost). Some (x, r.reply.1)) r.host) each (record { sound = k.steady.sound; announced = k.steady.announced; fit = k.steady.fit })
+    (subst VersionsGuarded (sym r.frames) (request_versions d (file f) f p n))
+  where
+    d : Bool
+    d = k.ahead.is_done
+
+    v : ℕ
+    v = k.ahead.version
+
+    file : ℕ → HFile
+    file g = file_in k.ahead.files.slots g
+
+    s : ℕ → List Action
+    s g = frames_at g (down ++ k.frames)
+
+    there : (g : ℕ) → (g == f) ≡ true → CanRequest d (file g) × IsKept (s g ++ request_actions d (file g) p n) (locked_more (views g)) d v (file g)
+    there g e =
+        let same : f ≡ g = sym (eqb-true _ _ e) in
+        kept_request (s g) (views g) d v (file g) p n (k.each g) (subst (λ (x : ℕ). IsOpen (views x)) same is_open) (subst (λ (x : ℕ). exited_of (views x) ≡ false) same here)
+
+    r : Requested k.ahead f p n
+    r = requested k.ahead f p n (there f (eq-eqb f f refl)).0
+
+    told : ℕ → List Action
+    told g = at_file g (requested_frames d (file f) f p n)
+
+    each : (g : ℕ) → IsKept (s g ++ frames_at g r.reply.1) (changed (Lock f) g (views g)) d v (file g)
+    each g = subst (λ (u : List P.Hmesg). IsKept (s g ++ at_file g u) (changed (Lock f) g (views g)) d v (file g)) (sym r.frames) (go (bool_cases (g == f)))
+      where
+        go : ((g == f) ≡ true) ⊎ ((g == f) ≡ false) → IsKept (s g ++ told g) (choose (g == f) (locked_more (views g)) (views g)) d v (file g)
+        go (inl e) =
+            let q : request_actions d (file g) p n ≡ told g = ap (λ (x : ℕ). request_actions d (file x) p n) (eqb-true _ _ e) ∙ sym (request_there g f p n d (file f) e) in
+            subst (λ (b : Bool). IsKept (s g ++ told g) (choose b (locked_more (views g)) (views g)) d v (file g)) (sym e)
+            (subst (λ (u : List Action). IsKept (s g ++ u) (locked_more (views g)) d v (file g)) q (there g e).1)
+        go (inr e) =
+            subst (λ (b : Bool). IsKept (s g ++ told g) (choose b (locked_more (views g)) (views g)) d v (file g)) (sym e)
+            (kept_append (s g) (told g) (views g) d d v v (file g) (file g) (k.each g) (λ x y. kept_skips (told g) x d v (file g) (request_elsewhere g f p n d (file f) e) y) (λ q. q))

@@ -1,5 +1,5 @@
 -- What mirrors a message of the crossing's model carries its proof over to the host itself.
-use Rattle.std.proofs.Common.{◌≡◌, ℕ, Bool, false, List, [], map, Option, Some, refl, sym, ap, ◌∙◌, subst}
+use Rattle.std.proofs.Common.{◌≡◌, ◌⊎◌, inl, inr, true, ℕ, Bool, false, List, [], map, Option, Some, refl, sym, ap, ◌∙◌, subst}
 use mathlib.Core.Path.{fun_ext}
 use Rattle.sam_text.specs.Files.{PlainFiles, PlainOutcome}
 use Rattle.sam_mesg.specs.declared.tmesg.Tmesg.{Tmesg}
@@ -7,7 +7,8 @@ use Rattle.sam_mesg.specs.declared.tmesg.Tmesg.TheVariants.{Tversion, Tstartcmdf
 use Rattle.sam_host.specs.Host.{PlainHost, reply_to}
 use Rattle.sam_protocol.specs.Lens.{Lens, HFile, Gone, IsSettled, IsKept}
 use Rattle.sam_protocol.specs.Model as P
-use Rattle.sam_protocol.specs.Model.{Answer, at_file, HostOk, FilesOk, choose}
+use Rattle.sam_protocol.specs.Model.{Answer, at_file, HostOk, FilesOk, choose, VersionsGuarded, unlocks_command}
+use Rattle.sam_protocol.proofs.Versions.{answer_good}
 use Rattle.sam_protocol.specs.Crossing.{Sync, Change, changed, change_of}
 use Rattle.sam_protocol.specs.View.{frame_of}
 use Rattle.sam_protocol.specs.HostView.{file_in, model_of, mesg_of, tools_of, Mirrors}
@@ -50,6 +51,8 @@ synced o h m d k s = record {
   gone = λ g e. files g ∙ s.gone g e;
   sound = subst (λ (f : ℕ → HFile). FilesOk f (model_of r).given (model_of r).work) (sym (fun_ext files))
       (subst (λ (n : ℕ). FilesOk s.reply.host.file n (model_of r).work) (sym given) (subst (FilesOk s.reply.host.file s.reply.host.given) (sym work) s.sound));
+  versions = subst VersionsGuarded frames good.0;
+  changes = change good.1;
 }
   where
     r : PlainHost
@@ -81,3 +84,10 @@ synced o h m d k s = record {
 
     work : (model_of r).work ≡ s.reply.host.work
     work = k.work ∙ ap (λ (a : Answer). a.host.work) same
+
+    good : VersionsGuarded s.reply.frames × ((s.reply.host.version ≡ h.version) ⊎ (unlocks_command s.reply.frames ≡ true))
+    good = answer_good (tools_of o) (model_of h) (mesg_of m) s.reply s.folds
+
+    change : (s.reply.host.version ≡ h.version) ⊎ (unlocks_command s.reply.frames ≡ true) → (r.version ≡ h.version) ⊎ (unlocks_command (map frame_of (reply_to h m).1) ≡ true)
+    change (inl e) = inl (version ∙ e)
+    change (inr e) = inr (subst (λ (u : List P.Hmesg). unlocks_command u ≡ true) frames e)

@@ -1,5 +1,5 @@
 -- From settled lenses, a message and the host's own answer to it lead to settled lenses.
-use Rattle.std.specs.Prelude.{◌≡◌, ℕ, ◌&&◌, ◌==◌, List, map, None}
+use Rattle.std.specs.Prelude.{◌≡◌, ◌⊎◌, true, ℕ, ◌&&◌, ◌==◌, List, map, None}
 use Rattle.sam_runes.specs.Texts.{ends_line}
 use Rattle.sam_runes.specs.Checks.{first_of_checks}
 use Rattle.sam_text.specs.Files.{PlainFiles, PlainOutcome}
@@ -7,7 +7,7 @@ use Rattle.sam_mesg.specs.declared.tmesg.Tmesg.{Tmesg}
 use Rattle.sam_mesg.specs.declared.tmesg.Tmesg.TheVariants.{Tversion, Tstartcmdfile, Tcheck, Trequest, Torigin, Tstartfile, Tworkfile, Ttype, Tcut, Tpaste, Tsnarf, Tstartnewfile, Twrite, Tclose, Tlook, Tsearch, Tsend, Tdclick, Tstartsnarf, Tsetsnarf, Tack, Texit}
 use Rattle.sam_host.specs.Host.{PlainHost, host_checks, reply_to}
 use Rattle.sam_protocol.specs.Lens.{Lens, IsSettled, IsKept, Gone}
-use Rattle.sam_protocol.specs.Model.{at_file, HostOk, choose}
+use Rattle.sam_protocol.specs.Model.{at_file, HostOk, choose, VersionsGuarded, unlocks_command}
 use Rattle.sam_protocol.specs.Crossing.{Change, Same, Lock, Command, Types, Cuts, Line, changed}
 use Rattle.sam_protocol.specs.View.{frame_of}
 use Rattle.sam_protocol.specs.HostView.{file_in, model_of}
@@ -43,3 +43,5 @@ pub record Synced (h : PlainHost) (m : Tmesg) : Type 0 where
       → IsKept (at_file g (map frame_of (reply_to h m).1)) (changed (change_by m) g w) (reply_to h m).0.is_done (reply_to h m).0.version (file_in (reply_to h m).0.files.slots g)
   pub gone : (g : ℕ) → file_in h.files.slots g ≡ Gone → file_in (reply_to h m).0.files.slots g ≡ Gone
   pub sound : HostOk (model_of (reply_to h m).0)
+  pub versions : VersionsGuarded (map frame_of (reply_to h m).1)
+  pub changes : ((reply_to h m).0.version ≡ h.version) ⊎ (unlocks_command (map frame_of (reply_to h m).1) ≡ true)
