@@ -18,3 +18,4 @@ mod Running
 mod Handling
 mod Steady
 mod Folds
+mod Composing
