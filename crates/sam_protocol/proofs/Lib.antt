@@ -19,3 +19,4 @@ mod Handling
 mod Steady
 mod Folds
 mod Composing
+mod Joins
