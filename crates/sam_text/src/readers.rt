@@ -1,7 +1,7 @@
 //! What can be read of the files.
 
 ghost use Rattle.std.specs.Prelude.{◌≡◌, ◌<◌, ◌≤◌, IfOk, IfSome, length, option_map, option_and_then, option_copied, nat_lt};
-ghost use Rattle.sam_runes.specs.Texts.{max_runes, part, searched, most_in_pattern};
+ghost use Rattle.sam_runes.specs.Texts.{max_runes, part, searched, word_at};
 ghost use Rattle.sam_runes.specs.Slots.{slot};
 ghost use Rattle.sam_text.specs.Files.{has_file, file_at, most_in_name, IsFit, HasShortName};
 ghost use Rattle.sam_text.specs.Views.{room_at};
@@ -173,6 +173,18 @@ impl Files {
                 None => file.text().find(lit, 0),
             },
             None => None,
+        }
+    }
+
+    /// The word round a place of a file, inside it or at an edge, else the empty string there.
+    pub fn word(&self, tag: u16, p: u32) -> (u32, u32)
+        requires { p ≤ length (file_at self.now.plain tag).text }
+        ensures value { result ≡ word_at (file_at self.now.plain tag).text p }
+        ensures range { (result.0 ≤ result.1) × (result.1 ≤ length (file_at self.now.plain tag).text) }
+    {
+        match self.file(tag) {
+            Some(file) => file.text().word_at(p),
+            None => (0, 0),
         }
     }
 }
