@@ -3,7 +3,7 @@
 ghost use Rattle.std.specs.Prelude.{◌≡◌, ◌⊎◌, ◌<◌, ◌≤◌, ◌+◌, ◌-◌, ◌∷◌, [], IsOk, OnOk, OnErr, IfOk, IfErr, Err, Some, None, true, length, ◌&&◌, not};
 ghost use Rattle.sam_runes.specs.Checks.{first_of_checks, unless};
 ghost use Rattle.sam_runes.specs.Texts.{max_runes, all_tags, part, word_at, is_empty};
-ghost use Rattle.sam_text.specs.Files.{PlainFile, blank_file, file_at, has_file, put_file, no_file, past_end, no_range, too_long, no_tag, with_dot, with_work, with_new, new_file, without_file, opened_file, announced_file, written_file, typed_file, cut_file, pasted_file, is_printed, has_room, after_print, searched_for, most_in_name};
+ghost use Rattle.sam_text.specs.Files.{PlainFile, blank_file, file_at, has_file, put_file, no_file, past_end, no_range, too_long, no_tag, with_dot, with_work, with_new, new_file, without_file, opened_file, announced_file, written_file, typed_file, cut_file, pasted_file, has_room, after_print, search_of, with_found, look_of, with_look, most_in_name};
 ghost use Rattle.sam_text.specs.Views.{room_at, LeaveRooms};
 
 use crate::fault::FilesFault;
@@ -229,5 +229,160 @@ impl Files {
         let (start, end) = self.word(tag, p);
         self.change(tag, FileChange::Dot(start, end));
         Ok((start, end))
+    }
+
+    /// Adds a clean and closed file of this name and text under the next tag, and answers the tag.
+    pub fn new_file(
+        &mut self,
+        alloc: Global,
+        name: &[char],
+        text: &[char],
+    ) -> Result<u16, FilesFault>
+        requires { length name.now ≤ most_in_name }
+        ensures allowed { OnOk result (first_of_checks (too_long (length text.now) ∷ no_tag self.old.plain ∷ []) ≡ None) }
+        ensures refused { IfErr result (λ why. (why ≡ FilesFault.OutOfMemory) ⊎ (first_of_checks (too_long (length text.now) ∷ no_tag self.old.plain ∷ []) ≡ Some why)) }
+        ensures tag { IfOk result (λ tag. tag ≡ length self.old.plain.slots) }
+        ensures done { OnOk result (self.new.plain ≡ with_new self.old.plain (record blank_file { name = name.now; text = text.now })) }
+        ensures unchanged { OnErr result (self.new.plain ≡ self.old.plain) }
+        ensures rooms { LeaveRooms (length self.old.plain.slots) self.old.rooms self.new.rooms }
+    {
+        if text.len() > MAX_RUNES as usize {
+            return Err(FilesFault::TooLong);
+        }
+        if self.tags() >= 65_536 {
+            return Err(FilesFault::NoTag);
+        }
+        let name = match Runes::from_slice(alloc, name) {
+            Ok(name) => name,
+            Err(_) => return Err(FilesFault::OutOfMemory),
+        };
+        let text = match Text::from_runes(alloc, text) {
+            Ok(text) => text,
+            Err(_) => return Err(FilesFault::OutOfMemory),
+        };
+        self.add_file(name, text)
+    }
+
+    /// Adds a clean and closed file of this name and text under the next tag, and answers the tag.
+    pub fn add_file(&mut self, name: Runes, text: Text) -> Result<u16, FilesFault>
+        requires { length name ≤ most_in_name }
+        ensures allowed { OnOk result (first_of_checks (no_tag self.old.plain ∷ []) ≡ None) }
+        ensures refused { IfErr result (λ why. (why ≡ FilesFault.OutOfMemory) ⊎ (first_of_checks (no_tag self.old.plain ∷ []) ≡ Some why)) }
+        ensures tag { IfOk result (λ tag. tag ≡ length self.old.plain.slots) }
+        ensures done { OnOk result (self.new.plain ≡ with_new self.old.plain (record blank_file { name = name; text = text.runes })) }
+        ensures unchanged { OnErr result (self.new.plain ≡ self.old.plain) }
+        ensures rooms { LeaveRooms (length self.old.plain.slots) self.old.rooms self.new.rooms }
+    {
+        let tag = self.tags();
+        if tag >= 65_536 {
+            return Err(FilesFault::NoTag);
+        }
+        self.add(File::new(name, text))?;
+        Ok(tag as u16)
+    }
+
+    /// Adds an empty file for the terminal under the next tag: clean, open, announced and with no name. Answers the tag.
+    pub fn start_file(&mut self, alloc: Global) -> Result<u16, FilesFault>
+        ensures allowed { OnOk result (first_of_checks (no_tag self.old.plain ∷ []) ≡ None) }
+        ensures refused { IfErr result (λ why. (why ≡ FilesFault.OutOfMemory) ⊎ (first_of_checks (no_tag self.old.plain ∷ []) ≡ Some why)) }
+        ensures tag { IfOk result (λ tag. tag ≡ length self.old.plain.slots) }
+        ensures done { OnOk result (self.new.plain ≡ with_new self.old.plain new_file) }
+        ensures unchanged { OnErr result (self.new.plain ≡ self.old.plain) }
+        ensures rooms { LeaveRooms (length self.old.plain.slots) self.old.rooms self.new.rooms }
+    {
+        let tag = self.tags();
+        if tag >= 65_536 {
+            return Err(FilesFault::NoTag);
+        }
+        self.add(File::for_terminal(alloc))?;
+        Ok(tag as u16)
+    }
+
+    /// What stands from `p` to `q` becomes the pattern, and dot its first occurrence from `q` on, else from the start. Answers the
+    /// new dot. A range that is empty or longer than 128 runes answers none, and leaves all as it is.
+    pub fn look(
+        &mut self,
+        alloc: Global,
+        tag: u16,
+        p: u32,
+        q: u32,
+    ) -> Result<Option<(u32, u32)>, FilesFault>
+        ensures allowed { OnOk result (first_of_checks (no_file self.old.plain tag ∷ no_range self.old.plain tag p q ∷ []) ≡ None) }
+        ensures refused { IfErr result (λ why. (why ≡ FilesFault.OutOfMemory) ⊎ (first_of_checks (no_file self.old.plain tag ∷ no_range self.old.plain tag p q ∷ []) ≡ Some why)) }
+        ensures found { IfOk result (λ found. found ≡ look_of (file_at self.old.plain tag).text (part (file_at self.old.plain tag).text p q) q) }
+        ensures done { OnOk result (self.new.plain ≡ with_look self.old.plain tag (part (file_at self.old.plain tag).text p q) q) }
+        ensures rooms { self.new.rooms ≡ self.old.rooms }
+        ensures unchanged { OnErr result (self.new ≡ self.old) }
+    {
+        self.wants_range(tag, p, q)?;
+        let lit = self.part(tag, p, q);
+        if lit.is_empty() || lit.len() > 128 {
+            return Ok(None);
+        }
+        let pattern = match Runes::from_slice(alloc, lit) {
+            Ok(pattern) => pattern,
+            Err(_) => return Err(FilesFault::OutOfMemory),
+        };
+        let found = self.find(tag, lit, q);
+        self.put_pattern(pattern);
+        if let Some((start, end)) = found {
+            self.change(tag, FileChange::Dot(start, end));
+        }
+        Ok(found)
+    }
+
+    /// Dot becomes the first occurrence of the pattern from `q` on, else from the start. Answers it; none where there is no pattern
+    /// or it stands nowhere, and all is left as it is.
+    pub fn search(&mut self, tag: u16, p: u32, q: u32) -> Result<Option<(u32, u32)>, FilesFault>
+        ensures answer { result ≡ unless (first_of_checks (no_file self.old.plain tag ∷ no_range self.old.plain tag p q ∷ [])) (search_of self.old.plain tag q) }
+        ensures done { OnOk result (self.new.plain ≡ with_found self.old.plain tag (search_of self.old.plain tag q)) }
+        ensures rooms { self.new.rooms ≡ self.old.rooms }
+        ensures unchanged { OnErr result (self.new ≡ self.old) }
+    {
+        self.wants_range(tag, p, q)?;
+        let found = self.search_from(tag, q);
+        if let Some((start, end)) = found {
+            self.change(tag, FileChange::Dot(start, end));
+        }
+        Ok(found)
+    }
+
+    /// What stands in the snarf buffer is put in a file at place `p`. Dot is then what was put in, and a file other than the command
+    /// file is dirty.
+    pub fn paste(&mut self, tag: u16, p: u32) -> Result<(), FilesFault>
+        ensures allowed { OnOk result (first_of_checks (no_file self.old.plain tag ∷ past_end self.old.plain tag p ∷ too_long (length (file_at self.old.plain tag).text + length self.old.plain.snarf) ∷ []) ≡ None) }
+        ensures refused { IfErr result (λ why. (why ≡ FilesFault.OutOfMemory) ⊎ (first_of_checks (no_file self.old.plain tag ∷ past_end self.old.plain tag p ∷ too_long (length (file_at self.old.plain tag).text + length self.old.plain.snarf) ∷ []) ≡ Some why)) }
+        ensures done { OnOk result (self.new.plain ≡ put_file self.old.plain tag (pasted_file tag (file_at self.old.plain tag) p self.old.plain.snarf)) }
+        ensures unchanged { OnErr result (self.new.plain ≡ self.old.plain) }
+        ensures others { LeaveRooms tag self.old.rooms self.new.rooms }
+    {
+        self.wants_place(tag, p)?;
+        if self.snarf_text().len() > MAX_RUNES as usize - self.text_len(tag) {
+            return Err(FilesFault::TooLong);
+        }
+        self.put_snarf_in(tag, p, tag == 0)
+    }
+
+    /// Puts runes at the end of the command file, whose dot is then its new end. False where its text would be too long, and nothing
+    /// is changed. Within its room no memory is asked for.
+    pub fn print(&mut self, runes: &[char]) -> Result<bool, FilesFault>
+        ensures told { IfOk result (λ fits. fits ≡ has_room self.old.plain runes.now) }
+        ensures done { OnOk result (self.new.plain ≡ after_print self.old.plain runes.now) }
+        ensures refused { OnErr result (result ≡ Err FilesFault.OutOfMemory) }
+        ensures unchanged { OnErr result (self.new.plain ≡ self.old.plain) }
+        ensures room { length runes.now ≤ room_at self.old.rooms 0 → IsOk result × (room_at self.old.rooms 0 ≤ room_at self.new.rooms 0 + length runes.now) }
+        ensures others { LeaveRooms 0 self.old.rooms self.new.rooms }
+    {
+        self.known();
+        let len = self.text_len(0);
+        if runes.len() > MAX_RUNES as usize - len {
+            return Ok(false);
+        }
+        if runes.is_empty() {
+            return Ok(true);
+        }
+        let end = (len + runes.len()) as u32;
+        self.put_in(0, len as u32, runes, (end, end), true)?;
+        Ok(true)
     }
 }
