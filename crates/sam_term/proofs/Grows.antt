@@ -23,30 +23,30 @@ bool_cases false = inr refl
 
 pub ins_cases : (p n a : ℕ) → ((p < a) × (place_after_ins p n a ≡ a + n)) ⊎ ((a ≤ p) × (place_after_ins p n a ≡ a))
 ins_cases p n a = elim (bool_cases (nat_lt p a)) [
-      inl e ↦ inl (ltb-true p a e, ap (λ (b : Bool). if b then a + n else a) e)
-      | inr e ↦ inr (ltb-false p a e, ap (λ (b : Bool). if b then a + n else a) e)
-      ]
+  | inl e ↦ inl (ltb-true p a e, ap (λ (b : Bool). if b then a + n else a) e)
+  | inr e ↦ inr (ltb-false p a e, ap (λ (b : Bool). if b then a + n else a) e)
+]
 
 pub del_cases : (p q a : ℕ) → ((q ≤ a) × (place_after_del p q a ≡ a - (q - p))) ⊎ ((a < q) × (place_after_del p q a ≡ min a p))
 del_cases p q a = elim (bool_cases (nat_le q a)) [
-      inl e ↦ inl (leb-true q a e, ap (λ (b : Bool). if b then a - (q - p) else min a p) e)
-      | inr e ↦ inr (leb-false q a e, ap (λ (b : Bool). if b then a - (q - p) else min a p) e)
-      ]
+  | inl e ↦ inl (leb-true q a e, ap (λ (b : Bool). if b then a - (q - p) else min a p) e)
+  | inr e ↦ inr (leb-false q a e, ap (λ (b : Bool). if b then a - (q - p) else min a p) e)
+]
 
 pub ins_rises : (p n a b : ℕ) → a ≤ b → place_after_ins p n a ≤ place_after_ins p n b
 ins_rises p n a b l = elim (ins_cases p n a) [
-      inl h ↦ elim (ins_cases p n b) [ inl k ↦ omega (arith, h.0, h.1, k.0, k.1) | inr k ↦ omega (arith, h.0, h.1, k.0, k.1) ]
-      | inr h ↦ elim (ins_cases p n b) [ inl k ↦ omega (arith, h.0, h.1, k.0, k.1) | inr k ↦ omega (arith, h.0, h.1, k.0, k.1) ]
-      ]
+  | inl h ↦ elim (ins_cases p n b) [ inl k ↦ omega (arith, h.0, h.1, k.0, k.1) | inr k ↦ omega (arith, h.0, h.1, k.0, k.1) ]
+  | inr h ↦ elim (ins_cases p n b) [ inl k ↦ omega (arith, h.0, h.1, k.0, k.1) | inr k ↦ omega (arith, h.0, h.1, k.0, k.1) ]
+]
 
 pub ins_within : (p n a l : ℕ) → a ≤ l → place_after_ins p n a ≤ l + n
 ins_within p n a l k = elim (ins_cases p n a) [ inl h ↦ omega (arith, h.0, h.1) | inr h ↦ omega (arith, h.0, h.1) ]
 
 pub del_rises : (p q a b : ℕ) → p ≤ q → a ≤ b → place_after_del p q a ≤ place_after_del p q b
 del_rises p q a b o l = elim (del_cases p q a) [
-      inl h ↦ elim (del_cases p q b) [ inl k ↦ omega (arith, h.0, h.1, k.0, k.1) | inr k ↦ omega (arith, h.0, h.1, k.0, k.1) ]
-      | inr h ↦ elim (del_cases p q b) [ inl k ↦ omega (arith, h.0, h.1, k.0, k.1) | inr k ↦ omega (arith, h.0, h.1, k.0, k.1) ]
-      ]
+  | inl h ↦ elim (del_cases p q b) [ inl k ↦ omega (arith, h.0, h.1, k.0, k.1) | inr k ↦ omega (arith, h.0, h.1, k.0, k.1) ]
+  | inr h ↦ elim (del_cases p q b) [ inl k ↦ omega (arith, h.0, h.1, k.0, k.1) | inr k ↦ omega (arith, h.0, h.1, k.0, k.1) ]
+]
 
 pub del_within : (p q a l : ℕ) → p ≤ q → q ≤ l → a ≤ l → place_after_del p q a ≤ l - (q - p)
 del_within p q a l o m k = elim (del_cases p q a) [ inl h ↦ omega (arith, h.0, h.1) | inr h ↦ omega (arith, h.0, h.1) ]
@@ -69,9 +69,9 @@ sound-change t g w o s fits k = record { countable = s.countable; windows = wind
   where
     windows : (f : ℕ) → FitsWindow t.sent (window_at (put_window t g w) f)
     windows f = elim (window-put t g w f) [
-        inl h ↦ subst (λ x. FitsWindow t.sent x) (sym h.1) fits
-        | inr h ↦ subst (λ x. FitsWindow t.sent x) (sym h.1) (s.windows f)
-        ]
+      | inl h ↦ subst (λ x. FitsWindow t.sent x) (sym h.1) fits
+      | inr h ↦ subst (λ x. FitsWindow t.sent x) (sym h.1) (s.windows f)
+    ]
 
 -- unsent runes that move with the text of their file
 pub moved_fits : (t : PlainTerminal) (f : ℕ) (w : Window) (moved : ℕ → ℕ) → ((k : ℕ) → k ≤ length (window_at t f).rasp → moved k ≤ length w.rasp) → FitsUnsent t.files t.unsent → FitsUnsent (put_window t f w).files (moved_unsent f moved t.unsent)
@@ -80,17 +80,20 @@ moved_fits t f w moved m fits = go t.unsent fits
   where
     there : (u : Unsent) → u.file ≡ f → u.place ≤ length (window_at t u.file).rasp → moved u.place ≤ length (window_at (put_window t f w) u.file).rasp
     there u e k = elim (window-put t f w u.file) [
-        inl h ↦ subst (λ x. moved u.place ≤ length x.rasp) (sym h.1) (m u.place (subst (λ i. u.place ≤ length (window_at t i).rasp) e k))
-        | inr h ↦ absurd (h.0 (sym e))
-        ]
+      | inl h ↦ subst (λ x. moved u.place ≤ length x.rasp) (sym h.1) (m u.place (subst (λ i. u.place ≤ length (window_at t i).rasp) e k))
+      | inr h ↦ absurd (h.0 (sym e))
+    ]
+
     elsewhere : (u : Unsent) → u.file ≢ f → u.place ≤ length (window_at t u.file).rasp → u.place ≤ length (window_at (put_window t f w) u.file).rasp
     elsewhere u e k = elim (window-put t f w u.file) [
-        inl h ↦ absurd (e (sym h.0))
-        | inr h ↦ subst (λ x. u.place ≤ length x.rasp) (sym h.1) k
-        ]
+      | inl h ↦ absurd (e (sym h.0))
+      | inr h ↦ subst (λ x. u.place ≤ length x.rasp) (sym h.1) k
+    ]
+
     by : (u : Unsent) → ((nat_eq u.file f ≡ true) × (u.file ≡ f)) ⊎ ((nat_eq u.file f ≡ false) × (u.file ≢ f)) → u.place ≤ length (window_at t u.file).rasp → FitsUnsent (put_window t f w).files (if u.file == f then Some (record u { place = moved u.place }) else Some u)
     by u (inl (e, same)) k = rw e (there u same k)
     by u (inr (e, other)) k = rw e (elsewhere u other k)
+
     go : (o : Option Unsent) → FitsUnsent t.files o → FitsUnsent (put_window t f w).files (moved_unsent f moved o)
     go None k = tt
     go (Some u) k = by u (eqb_tells u.file f) k

@@ -4,7 +4,7 @@ ghost use Rattle.std.specs.Prelude.{◌≡◌, ◌+◌, ◌<◌, ◌≤◌, ◌^
 ghost use Rattle.sam_rasp.specs.Rasp.{place_after_ins, place_after_del, load_cells};
 ghost use Rattle.sam_runes.specs.Texts.{max_runes};
 ghost use Rattle.sam_term.specs.Sound.{AreWithin, shifted};
-ghost use Rattle.sam_term.specs.Term.{moved_unsent, window_after_ins, window_after_del};
+ghost use Rattle.sam_term.specs.Term.{unsent_without, moved_unsent, window_after_ins, window_after_del};
 
 use crate::files::{Unsent, Window};
 use std::alloc::AllocError;
@@ -117,4 +117,15 @@ pub fn cut_window(window: &mut Window, p: u32, n: u32)
     }
     window.dot = (after_del(p, n, window.dot.0), after_del(p, n, window.dot.1));
     window.view_start = after_del(p, n, window.view_start);
+}
+
+/// Drops the unsent runes of a file.
+pub fn drop_unsent(unsent: &mut Option<Unsent>, tag: u16)
+    ensures { unsent.new ≡ unsent_without tag unsent.old }
+{
+    if let Some(kept) = unsent {
+        if kept.file == tag {
+            *unsent = None;
+        }
+    }
 }

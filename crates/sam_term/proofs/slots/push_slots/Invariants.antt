@@ -6,5 +6,5 @@ abbrev pub invariant-loop : goal.invariant-loop
 invariant-loop l =
     record {
       items : l.files.items ≡ l.fn.files.items ++ replicate l.counter None;
-      room : vec_len l.files + l.more ≤ vec_capacity l.files + l.counter
+      room : vec_len l.files + l.more ≤ vec_capacity l.files + l.counter;
     }
