@@ -20,3 +20,4 @@ mod Steady
 mod Folds
 mod Composing
 mod Joins
+mod Views
