@@ -21,3 +21,5 @@ mod Folds
 mod Composing
 mod Joins
 mod Views
+mod Dots
+mod Passing
