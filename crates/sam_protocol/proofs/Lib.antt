@@ -23,3 +23,4 @@ mod Joins
 mod Views
 mod Dots
 mod Passing
+mod Sending
