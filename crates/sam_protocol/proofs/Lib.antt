@@ -24,3 +24,4 @@ mod Views
 mod Dots
 mod Passing
 mod Sending
+mod Typing
