@@ -25,3 +25,4 @@ mod Dots
 mod Passing
 mod Sending
 mod Typing
+mod Acting

@@ -151,7 +151,7 @@ sends_goes h t up down m o plain may =
 pub has_open : (P : List (Option ℕ) → Type 0) (t : PlainTerminal) (f : ℕ) → OpenAt P (view f t) → P (window_at t f).rasp
 has_open P t f o = (subst (OpenAt P) (view-open t f (open_is P (view f t) o)) o).2
 
-cut_view : (t : PlainTerminal) (f p q : ℕ) → IsOpen (view f t) → p ≤ q → (g : ℕ) → view g (put_window t f (window_after_del (window_at t f) p q)) ≡ choose (g == f) (cut_out p q (view g t)) (view g t)
+pub cut_view : (t : PlainTerminal) (f p q : ℕ) → IsOpen (view f t) → p ≤ q → (g : ℕ) → view g (put_window t f (window_after_del (window_at t f) p q)) ≡ choose (g == f) (cut_out p q (view g t)) (view g t)
 cut_view t f p q o l g =
     let end : q ≡ p + (q - p) = omega (arith, l) in
     let r : PartialText = (window_at t f).rasp in
