@@ -2,6 +2,7 @@
 use Rattle.std.proofs.Common.{◌≡◌, refl, sym, ap, ◌∙◌, subst, ℕ, zero, suc, ◌≤◌, Bool, true, false, List, [], ◌∷◌, length, Option, Some, None, is_some, if◌then◌else◌, ◌==◌, nat_eq, ◌⊎◌, ◌≢◌, inl, inr, arith}
 use Rattle.std.specs.Prelude.{unwrap_or}
 use Rattle.std.proofs.lemmas.Bool.Decides.{eqb_tells}
+use Rattle.sam_runes.specs.Texts.{most_in_message}
 use Rattle.sam_runes.specs.Slots.{Slots, slot, put_slot, free_slot, map_slots}
 use Rattle.sam_runes.proofs.SlotLaws.{slot-put_same, slot-put_other, slot-free_same, slot-free_other}
 use Rattle.sam_term.specs.Term.{PlainTerminal, window_at, window_in, known_in, known_at, put_known, put_window, is_open, is_known, blank_window, blank_known, freed_known, unsent_without, took_bindname, took_close, took_exit}
@@ -96,6 +97,7 @@ sound-close t f s = record { countable = s.countable; windows = windows; unsent 
     go : (o : Option Unsent) → FitsUnsent t.files o → FitsUnsent (put_slot t.files f shut) (unsent_without f o)
     go None k = tt
     go (Some u) k = by u (eqb_tells u.file f) k
+
     short : (o : Option Unsent) → IsShort o → IsShort (unsent_without f o)
     short None k = k
     short (Some u) k = kept_or (u.file == f)
@@ -138,3 +140,19 @@ sound-exit t s = record { countable = s.countable; windows = windows; unsent = g
     go : (o : Option Unsent) → FitsUnsent t.files o → FitsUnsent (map_slots freed_known t.files) o
     go None k = tt
     go (Some u) k = subst (λ r. u.place ≤ length r) (sym (freed_rasp t.files u.file)) k
+
+-- a terminal that knows no file
+pub sound-new : (t : PlainTerminal) → t.files ≡ [] → t.unsent ≡ None → t.sent ≡ 0 → IsSound t
+unfolding FitsUnsent IsShort
+sound-new t files unsent sent =
+    record {
+      countable = omega arith;
+      windows = λ f. subst (λ ss. FitsWindow t.sent (window_in ss f)) (sym files) (blank_fits t.sent);
+      unsent = subst (λ o. FitsUnsent t.files o) (sym unsent) tt;
+      short = subst (λ o. IsShort o) (sym unsent) tt;
+    }
+
+-- unsent runes are few
+pub few-unsent : (t : PlainTerminal) (u : Unsent) → IsSound t → t.unsent ≡ Some u → length u.runes ≤ most_in_message
+unfolding IsShort
+few-unsent t u s e = subst (λ o. IsShort o) e s.short

@@ -6,7 +6,7 @@ use Rattle.sam_term.specs.Term.{PlainTerminal, window_at, window_in, put_window,
 use Rattle.sam_term.specs.declared.event.Acted.TheVariants.{Done}
 use Rattle.sam_term.specs.Taking.{done, countable, frame_fault, IsAnswer}
 use Rattle.sam_mesg.specs.declared.hmesg.Hmesg.{Hmesg}
-use Rattle.std.specs.Prelude.{Result}
+use Rattle.std.specs.Prelude.{Result, IfOk, IfErr, OnErr}
 use Rattle.sam_mesg.specs.declared.hmesg.HFrame.{HFrame}
 use Rattle.sam_term.specs.declared.fault.TermFault.{TermFault}
 use Rattle.sam_term.specs.declared.fault.TermFault.TheVariants as fault
@@ -142,3 +142,17 @@ unfolding done
 full_done made l =
     let n : nat_lt most_count made.0.sent ≡ true = lt-ltb most_count made.0.sent l in
     rw n refl
+
+-- ## A call's answer, in its three clauses
+
+pub answered : {A : Type 0} (t u : PlainTerminal) (r : Result A TermFault) (answer : Result (PlainTerminal × A) TermFault) → IsAnswer t u r answer → IfOk r (λ x. answer ≡ Ok (u, x))
+answered t u (Ok x) answer h = h
+answered t u (Err why) answer h = tt
+
+pub answer_refused : {A : Type 0} (t u : PlainTerminal) (r : Result A TermFault) (answer : Result (PlainTerminal × A) TermFault) → IsAnswer t u r answer → IfErr r (λ why. (why ≡ fault.OutOfMemory) ⊎ (answer ≡ Err why))
+answer_refused t u (Ok x) answer h = tt
+answer_refused t u (Err why) answer h = h.0
+
+pub answer_unchanged : {A : Type 0} (t u : PlainTerminal) (r : Result A TermFault) (answer : Result (PlainTerminal × A) TermFault) → IsAnswer t u r answer → OnErr r (u ≡ t)
+answer_unchanged t u (Ok x) answer h = tt
+answer_unchanged t u (Err why) answer h = h.1

@@ -60,3 +60,8 @@ pub record AreWithin (n : ℕ) (w : Window) : Type 0 where
 abbrev pub shifted : Window → ℕ → ℕ → Window
 shifted w p n =
     record w { dot = (place_after_ins p n w.dot.0, place_after_ins p n w.dot.1); view_start = place_after_ins p n w.view_start }
+
+-- how many runes are unsent
+abbrev pub unsent_length : Option Unsent → ℕ
+unsent_length None = 0
+unsent_length (Some u) = length u.runes

@@ -4,19 +4,32 @@ ghost use Rattle.std.specs.Prelude.{◌≡◌, ◌+◌, ◌<◌, ◌≤◌, ◌=
 ghost use Rattle.sam_runes.specs.Slots.{free_slot};
 ghost use Rattle.sam_runes.specs.Texts.{most_count, common_version, max_runes};
 ghost use Rattle.sam_term.specs.Taking.{IsAnswer, countable, frame_fault};
-ghost use Rattle.sam_term.specs.Term.{is_open, is_known, window_at, known_at, made_from, took_bindname, took_unlockfile, took_close, took_exit, put_known};
+ghost use Rattle.sam_term.specs.Term.{take_of, is_open, is_known, window_at, known_at, made_from, took_bindname, took_unlockfile, took_close, took_exit, put_known};
 
 use crate::fault::TermFault;
 use crate::files::{KnownFile, Window};
 use crate::moving::drop_unsent;
 use crate::term::Terminal;
-use sam_mesg::{Batch, Hmesg, Tmesg};
+use sam_mesg::{Batch, HFrame, Hmesg, Tmesg};
 use sam_rasp::rasp::Rasp;
 use sam_runes::Runes;
 
 impl Terminal {
+    /// Takes a frame, as the definition says.
+    pub(crate) fn take_frame(&mut self, frame: HFrame) -> Result<Batch, TermFault>
+        ensures { IsAnswer self.old self.new result (take_of self.old frame) }
+    {
+        if self.sent < frame.seen {
+            return Err(TermFault::FromTheFuture);
+        }
+        match self.refusal(&frame.msg) {
+            Some(why) => Err(why),
+            None => self.take(frame.msg),
+        }
+    }
+
     /// Takes a message that nothing stands against.
-    pub(crate) fn take(&mut self, message: Hmesg) -> Result<Batch, TermFault>
+    fn take(&mut self, message: Hmesg) -> Result<Batch, TermFault>
         requires { frame_fault self.old message ≡ None }
         ensures { IsAnswer self.old self.new result (countable (made_from self.old message)) }
     {
