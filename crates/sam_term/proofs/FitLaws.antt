@@ -1,0 +1,228 @@
+-- What is composed fits in the terminal's version.
+use Rattle.std.proofs.Common.{◌≡◌, ◌+◌, ◌≤◌, ◌<◌, ◌++◌, refl, sym, ap, ◌∙◌, subst, ℕ, Bool, true, false, List, [], ◌∷◌, length, length-append, Option, Some, None, if◌then◌else◌, arith, ◌==◌}
+use Rattle.std.specs.Prelude.{nat_lt, nat_le, ◌&&◌, ◌||◌, map, not}
+use Rattle.std.proofs.lemmas.Bool.{ltb-false, leb-true, le-leb}
+use Rattle.sam_runes.specs.Texts.{is_empty, most_in_message, snarf_limit, utf8_length}
+use Rattle.sam_runes.specs.Checks.{first_of_checks}
+use Rattle.sam_rasp.specs.Rasp.{place_after_ins, place_after_del, hole_within}
+use Rattle.sam_term.specs.declared.lock.Lock.{Lock}
+use Rattle.sam_term.specs.declared.lock.Lock.TheVariants.{NoLock, CommandLock, FileLock}
+use Rattle.sam_term.specs.Locks.{lock_of, is_command_line}
+use Rattle.sam_term.specs.Fitting.{all_fit}
+use Rattle.sam_term.specs.Sound.{IsSound, IsShort}
+use Rattle.sam_term.specs.Term.{PlainTerminal, Made, window_at, put_window, del_rasp, lock_taken, asked, composed, all_composed, flushed, unsent_message, and_then, sends, sends_if, unchanged, requested, wanted, request_for, view_end, is_open, joins, joined, kept_unsent, typed_rasp, types, cuts_dot, made_by, made_by_type, made_by_cut, made_by_paste, made_by_snarf, made_by_view, made_from, moved_unsent, event_checks, has_long_text, file_of, is_file_locked, took_unlockfile}
+use Rattle.sam_term.specs.declared.files.Unsent.{Unsent}
+use Rattle.sam_term.specs.declared.event.UserEvent.{UserEvent}
+use Rattle.sam_term.specs.declared.event.UserEvent.TheVariants.{Typed, Select, Cut, Paste, Snarf, Look, Search, Send, Dclick, Scroll, View, Open, Close, Write, Work, OpenCmd, New, Exit, Check, GetSnarf, SetSnarf, Version, Flush}
+use Rattle.sam_mesg.specs.declared.tmesg.Tmesg.{Tmesg}
+use Rattle.sam_mesg.specs.declared.tmesg.Tmesg.TheVariants.{Trequest, Tcut, Tpaste, Tsnarf, Tack, Tsetsnarf}
+use Rattle.sam_mesg.specs.declared.hmesg.Hmesg.{Hmesg}
+use Rattle.sam_mesg.specs.declared.hmesg.Hmesg.TheVariants.{Hcheck, Hunlockfile, Hack}
+use Rattle.sam_term.proofs.Acts.{none_holds, test_at}
+use Rattle.sam_term.proofs.Grows.{moved_short}
+
+-- the messages fit in version v, and so will the unsent runes
+record Good (v : ℕ) (made : Made) : Type 0 where
+  fits : all_fit v made.1 ≡ true
+  short : IsShort made.0.unsent
+
+unsent-lock : (l : Lock) (t : PlainTerminal) → (lock_taken l t).unsent ≡ t.unsent
+unsent-lock NoLock t = refl
+unsent-lock CommandLock t = refl
+unsent-lock (FileLock f) t = refl
+
+unsent-asked : (m : Tmesg) (t : PlainTerminal) → (asked m t).unsent ≡ t.unsent
+unsent-asked (Trequest f p n) t = refl
+unsent-asked _ t = refl
+
+unsent-all : (t : PlainTerminal) (ms : List Tmesg) → (all_composed t ms).unsent ≡ t.unsent
+unsent-all t [] = refl
+unsent-all t (m ∷ ms) =
+    unsent-all (composed t m) ms
+    ∙ (unsent-asked m (lock_taken (lock_of m) (record t { sent = t.sent + 1 }))
+    ∙ unsent-lock (lock_of m) (record t { sent = t.sent + 1 }))
+
+pub unsent-flushed : (t : PlainTerminal) → (flushed t).0.unsent ≡ None
+unfolding flushed
+unsent-flushed t = unsent-all (record t { unsent = None }) (unsent_message t.unsent)
+
+short-none : (o : Option Unsent) → o ≡ None → IsShort o
+unfolding IsShort
+short-none o e = subst (λ x. IsShort x) (sym e) tt
+
+fit-append : (v : ℕ) (ms ns : List Tmesg) → all_fit v ms ≡ true → all_fit v ns ≡ true → all_fit v (ms ++ ns) ≡ true
+fit-append v [] ns a b = b
+fit-append v (m ∷ ms) ns a b = go _ _ _ a (λ (k : all_fit v ms ≡ true). fit-append v ms ns k b)
+  where
+    go : (x y z : Bool) → (x && y) ≡ true → (y ≡ true → z ≡ true) → (x && z) ≡ true
+    go true y z h k = k h
+    go false y z h k = absurd (cc)
+
+fit-unsent : (v : ℕ) (o : Option Unsent) → IsShort o → all_fit v (unsent_message o) ≡ true
+unfolding IsShort
+fit-unsent v None k = refl
+fit-unsent v (Some u) k =
+    let fits : nat_le (length u.runes) most_in_message ≡ true = le-leb (length u.runes) most_in_message k in
+    rw fits refl
+
+good-flushed : (v : ℕ) (t : PlainTerminal) → IsShort t.unsent → Good v (flushed t)
+unfolding flushed
+good-flushed v t k =
+    record { fits = fit-unsent v t.unsent k; short = short-none _ (unsent-flushed t) }
+
+good-then : (v : ℕ) (made : Made) (next : PlainTerminal → Made) → Good v made → Good v (next made.0) → Good v (and_then made next)
+good-then v made next a b = record { fits = fit-append v made.1 (next made.0).1 a.fits b.fits; short = b.short }
+
+good-if : (v : ℕ) (b : Bool) (x y : Made) → (b ≡ true → Good v x) → (b ≡ false → Good v y) → Good v (if b then x else y)
+good-if v true x y here there = here refl
+good-if v false x y here there = there refl
+
+good-all : (v : ℕ) (t : PlainTerminal) (ms : List Tmesg) → t.unsent ≡ None → all_fit v ms ≡ true → Good v (all_composed t ms, ms)
+good-all v t ms e f = record { fits = f; short = short-none _ (unsent-all t ms ∙ e) }
+
+good-sends : (v : ℕ) (t : PlainTerminal) (change : PlainTerminal → PlainTerminal) (ms : List Tmesg) → IsShort t.unsent → ((u : PlainTerminal) → u.unsent ≡ None → (change u).unsent ≡ None) → all_fit v ms ≡ true → Good v (sends t change ms)
+good-sends v t change ms k same f =
+    good-then v (flushed t) (λ u. (all_composed (change u) ms, ms)) (good-flushed v t k)
+    (good-all v (change (flushed t).0) ms (same (flushed t).0 (unsent-flushed t)) f)
+
+good-plain : (v : ℕ) (t : PlainTerminal) (ms : List Tmesg) → IsShort t.unsent → all_fit v ms ≡ true → Good v (sends t unchanged ms)
+good-plain v t ms k f = good-sends v t unchanged ms k (λ u e. e) f
+
+del-none : (f p q : ℕ) (u : PlainTerminal) → u.unsent ≡ None → (del_rasp u f p q).unsent ≡ None
+del-none f p q u e = ap (λ o. moved_unsent f (place_after_del p q) o) e
+
+good-cuts : (v : ℕ) (t : PlainTerminal) (f : ℕ) → IsShort t.unsent → Good v (cuts_dot t f)
+good-cuts v t f k =
+    let d = (window_at t f).dot in
+    good-if v (d.0 == d.1) (t, []) _ (λ e. record { fits = refl; short = k })
+    (λ e. good-sends v t (λ u. del_rasp u f d.0 d.1) (Tcut f d.0 d.1 ∷ []) k (del-none f d.0 d.1) refl)
+
+short-joined : (o : Option Unsent) (f p : ℕ) (s : List ℕ) → joins o f p s ≡ true → IsShort (Some (joined o f p s))
+unfolding IsShort
+short-joined None f p s e = absurd (cc)
+short-joined (Some u) f p s e =
+    let fits = last (u.file == f) (u.place + length u.runes == p) (nat_le (length u.runes + length s) most_in_message) e in
+    let within = leb-true (length u.runes + length s) most_in_message fits in
+    let both = length-append u.runes s in
+    omega arith
+  where
+    last : (x y z : Bool) → (x && y && z) ≡ true → z ≡ true
+    last true true z h = h
+    last true false z h = absurd (cc)
+    last false y z h = absurd (cc)
+
+good-kept : (v : ℕ) (t : PlainTerminal) (f p : ℕ) (s : List ℕ) → IsShort t.unsent → length s ≤ most_in_message → Good v (kept_unsent t f p s)
+unfolding IsShort
+good-kept v t f p s k few =
+    good-if v (joins t.unsent f p s) (record t { unsent = Some (joined t.unsent f p s) }, []) _
+    (λ e. record { fits = refl; short = short-joined t.unsent f p s e })
+    (λ e. good-then v (flushed t) (λ u. (record u { unsent = Some (joined None f p s) }, [])) (good-flushed v t k)
+    (record { fits = refl; short = few }))
+
+good-types : (v : ℕ) (t : PlainTerminal) (f p : ℕ) (s : List ℕ) → IsShort t.unsent → length s ≤ most_in_message → Good v (types t f p s)
+good-types v t f p s k few =
+    let kept = good-kept v t f p s k few in
+    let u = (kept_unsent t f p s).0 in
+    let typed = typed_rasp u f p s in
+    let moved = moved_short f (place_after_ins p (length (map {A = ℕ} {B = Option ℕ} Some s))) u.unsent kept.short in
+    good-then v (kept_unsent t f p s) (λ w. let x = typed_rasp w f p s in if is_command_line f s then flushed x else (x, [])) kept
+    (good-if v (is_command_line f s) (flushed typed) (typed, []) (λ e. good-flushed v typed moved) (λ e. record { fits = refl; short = moved }))
+
+good-sends_if : (v : ℕ) (t : PlainTerminal) (o : Option (ℕ × ℕ)) (f : ℕ) → IsShort t.unsent → Good v (sends_if (request_for f o) t)
+good-sends_if v t None f k = record { fits = refl; short = k }
+good-sends_if v t (Some h) f k = good-sends v t (λ u. u) _ k (λ u e. e) refl
+
+good-requested : (v : ℕ) (t : PlainTerminal) (f : ℕ) → IsShort t.unsent → Good v (requested t f)
+unfolding requested
+good-requested v t f k = go (is_open t f && not_exited && not_awaits)
+  where
+    not_exited : Bool
+    not_exited = not t.has_exited
+
+    not_awaits : Bool
+    not_awaits = not (window_at t f).awaits
+
+    go : (b : Bool) → Good v (sends_if (if b then request_for f (hole_within (window_at t f).rasp (window_at t f).view_start (view_end (window_at t f))) else None) t)
+    go true = good-sends_if v t (hole_within (window_at t f).rasp (window_at t f).view_start (view_end (window_at t f))) f k
+    go false = record { fits = refl; short = k }
+
+few_typed : (t : PlainTerminal) (f : ℕ) (s : List ℕ) → has_long_text t (Typed f s) ≡ false → length s ≤ most_in_message
+few_typed t f s e = ltb-false most_in_message (length s) e
+
+good-event : (t : PlainTerminal) (e : UserEvent) → IsShort t.unsent → has_long_text t e ≡ false → Good t.version (made_by t e)
+unfolding made_by_type made_by_cut made_by_paste made_by_snarf made_by_view
+good-event t (Typed f s) k h =
+    let v = t.version in
+    let cuts = good-cuts v t f k in
+    let u = (cuts_dot t f).0 in
+    good-then v (cuts_dot t f) (λ w. if is_empty s then (w, []) else types w f (window_at t f).dot.0 s) cuts
+    (good-if v (is_empty s) (u, []) (types u f (window_at t f).dot.0 s) (λ e. record { fits = refl; short = cuts.short })
+    (λ e. good-types v u f (window_at t f).dot.0 s cuts.short (few_typed t f s h)))
+good-event t (Select f p q) k h = record { fits = refl; short = k }
+good-event t (Cut f) k h =
+    let d = (window_at t f).dot in
+    good-if t.version (d.0 == d.1) (t, []) _ (λ e. record { fits = refl; short = k })
+    (λ e. good-sends t.version t (λ u. del_rasp u f d.0 d.1) (Tsnarf f d.0 d.1 ∷ Tcut f d.0 d.1 ∷ []) k (del-none f d.0 d.1) refl)
+good-event t (Paste f) k h =
+    let cuts = good-cuts t.version t f k in
+    good-then t.version (cuts_dot t f) (λ u. sends u unchanged (Tpaste f (window_at t f).dot.0 ∷ [])) cuts
+    (good-plain t.version (cuts_dot t f).0 (Tpaste f (window_at t f).dot.0 ∷ []) cuts.short refl)
+good-event t (Snarf f) k h =
+    let d = (window_at t f).dot in
+    good-if t.version (d.0 == d.1) (t, []) _ (λ e. record { fits = refl; short = k }) (λ e. good-plain t.version t (Tsnarf f d.0 d.1 ∷ []) k refl)
+good-event t (Look f) k h = good-plain t.version t _ k refl
+good-event t (Search f) k h = good-plain t.version t _ k refl
+good-event t (Send f) k h = good-plain t.version t _ k refl
+good-event t (Dclick f p) k h = good-plain t.version t _ k refl
+good-event t (Scroll f n) k h = good-plain t.version t _ k refl
+good-event t (View f p n) k h =
+    good-requested t.version (put_window t f (record (window_at t f) { view_start = p; view_length = n })) f k
+good-event t (Open f) k h = good-plain t.version t _ k refl
+good-event t (Close f) k h = good-plain t.version t _ k refl
+good-event t (Write f) k h = good-plain t.version t _ k refl
+good-event t (Work f) k h = good-plain t.version t _ k refl
+good-event t OpenCmd k h = good-plain t.version t _ k refl
+good-event t New k h = good-plain t.version t _ k refl
+good-event t Exit k h = good-plain t.version t _ k refl
+good-event t (Check f) k h = good-plain t.version t _ k refl
+good-event t GetSnarf k h = good-plain t.version t _ k refl
+good-event t (SetSnarf s) k h =
+    let within = ltb-false (snarf_limit t.version) (utf8_length s) h in
+    let fits : nat_le (utf8_length s) (snarf_limit t.version) ≡ true = le-leb (utf8_length s) (snarf_limit t.version) within in
+    good-plain t.version t (Tsetsnarf s ∷ []) k (rw fits refl)
+good-event t (Version v) k h = good-plain t.version t _ k refl
+good-event t Flush k h = good-flushed t.version t k
+
+long_text : (t : PlainTerminal) (e : UserEvent) → first_of_checks (event_checks t e) ≡ None → has_long_text t e ≡ false
+unfolding test_at
+long_text t e n = none_holds (event_checks t e) 8 n
+
+-- what an event composes fits in the version
+pub event_fits : (t : PlainTerminal) (e : UserEvent) → IsSound t → first_of_checks (event_checks t e) ≡ None → all_fit t.version (made_by t e).1 ≡ true
+event_fits t e s n = (good-event t e s.short (long_text t e n)).fits
+
+pub flush_fits : (t : PlainTerminal) → IsSound t → all_fit t.version (flushed t).1 ≡ true
+flush_fits t s = (good-flushed t.version t s.short).fits
+
+-- what the answer to a frame composes fits in the version
+pub frame_fits : (t : PlainTerminal) (m : Hmesg) → IsSound t → all_fit t.version (made_from t m).1 ≡ true
+unfolding took_unlockfile
+frame_fits t (Hcheck f) s = (good-requested t.version t f s.short).fits
+frame_fits t (Hunlockfile f) s = (good-requested t.version (took_unlockfile t f) f s.short).fits
+frame_fits t Hack s = (good-if t.version t.has_exited (t, []) _ (λ e. record { fits = refl; short = s.short }) (λ e. good-plain t.version t (Tack ∷ []) s.short refl)).fits
+frame_fits t _ s = refl
+
+or_left : (a b : Bool) → (a || b) ≡ false → a ≡ false
+or_left true b e = e
+or_left false b e = refl
+
+-- an event on a file that is done found neither the command lock nor a lock of the file
+pub event_finds_no_lock : (t : PlainTerminal) (e : UserEvent) (f : ℕ) → file_of e ≡ Some f → first_of_checks (event_checks t e) ≡ None → (t.command_lock ≡ false) × ((window_at t f).locks ≡ 0)
+unfolding test_at
+event_finds_no_lock t e f names n = (
+  none_holds (event_checks t e) 1 n,
+  (
+      let free = or_left (is_file_locked t (file_of e)) _ (none_holds (event_checks t e) 6 n) in
+      let none = ltb-false 0 (window_at t f).locks (subst (λ o. is_file_locked t o ≡ false) names free) in
+      omega arith),
+)
