@@ -27,3 +27,4 @@ mod Sending
 mod Typing
 mod Acting
 mod Receiving
+mod Ordered
