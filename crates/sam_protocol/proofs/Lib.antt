@@ -28,3 +28,4 @@ mod Typing
 mod Acting
 mod Receiving
 mod Ordered
+mod Starting
