@@ -1,5 +1,5 @@
 use Rattle.std.proofs.Common.{rules, ◌≡◌, ◌∷◌, subst, sym}
-use Rattle.std.proofs.lemmas.List.Elements.{All-tail}
+use Rattle.std.proofs.lemmas.List.Elements.{All-head, All-tail}
 use Rattle.std.specs.Vec.Iter.{into_iter_items}
 use Rattle.sam_mesg.specs.TerminalKinds.{FitsT}
 use Rattle.sam_host.proofs.SoundLaws.{stays_sound}
@@ -19,3 +19,9 @@ loop-message-preserved g c =
 
 pub write_frames-requires : goal.write_frames-requires
 write_frames-requires g c = subst FramesFit (sym c.as_slice.ensures) (answered_fit _ _ _ _ c.in-Ok.ensures.answered c.loop-message.invariant.sound)
+
+pub handle-requires : goal.handle-requires
+handle-requires g c =
+    let left : into_iter_items c.loop-message.message-iterator ≡ c.in-Some.message ∷ into_iter_items c.next.new.self = search rules in
+    let first = All-head (FitsT 2) c.in-Some.message _ (subst AllFit left c.loop-message.invariant.fit) in
+    first.fits
