@@ -1,12 +1,17 @@
 //! What the events do that change a rasp, a dot or a view, or send runes.
 
-ghost use Rattle.std.specs.Prelude.{◌≡◌, IsTrue, None};
+ghost use Rattle.std.specs.Prelude.{◌≡◌, ◌≤◌, ◌∷◌, [], IsTrue, None, drop};
+ghost use Rattle.sam_runes.specs.Texts.{most_count};
 ghost use Rattle.sam_term.specs.Acting.{made_first, free_first, first_event, is_typing, is_snarfing};
+ghost use Rattle.sam_term.specs.Locking.{is_lockable};
+ghost use Rattle.sam_term.specs.Locks.{lock_of};
 ghost use Rattle.sam_term.specs.Taking.{IsAnswer, done};
+ghost use Rattle.sam_term.specs.Term.{sends, unchanged};
 
 use crate::event::{Acted, UserEvent};
 use crate::fault::TermFault;
 use crate::term::Terminal;
+use sam_mesg::{Batch, Tmesg};
 
 impl Terminal {
     /// Puts the runes of the oldest event in the place of the dot.
@@ -24,7 +29,9 @@ impl Terminal {
         requires first { first_event self.old.held ≡ UserEvent.Select tag p q }
         ensures { IsAnswer self.old self.new result (done (made_first self.old)) }
     {
-        Err(TermFault::OutOfMemory)
+        self.drop_first();
+        self.set_dot(tag, p, q);
+        Ok(self.done_quietly())
     }
 
     /// Cuts the dot of a file into the snarf buffer.
@@ -51,7 +58,12 @@ impl Terminal {
         requires first { first_event self.old.held ≡ UserEvent.Snarf tag }
         ensures { IsAnswer self.old self.new result (done (made_first self.old)) }
     {
-        Err(TermFault::OutOfMemory)
+        let dot = self.dot_of(tag);
+        if dot.0 == dot.1 {
+            self.drop_first();
+            return Ok(self.done_quietly());
+        }
+        self.send_last(Tmesg::Tsnarf(tag, dot.0, dot.1))
     }
 
     /// Shows a file from a place on, and asks for the first gap that is shown.
@@ -78,6 +90,41 @@ impl Terminal {
         requires first { first_event self.old.held ≡ UserEvent.Flush }
         ensures { IsAnswer self.old self.new result (done (made_first self.old)) }
     {
-        Err(TermFault::OutOfMemory)
+        match self.flush() {
+            Ok(batch) => {
+                self.drop_first();
+                Ok(Acted::Done(batch))
+            }
+            Err(why) => Err(why),
+        }
+    }
+
+    /// Composes the unsent runes, and then the message of the oldest event, which is done.
+    fn send_last(&mut self, message: Tmesg) -> Result<Acted, TermFault>
+        requires opened { IsTrue (is_lockable self.old (lock_of message)) }
+        ensures { IsAnswer self.old self.new result (done (sends (record self.old { held = drop 1 self.old.held }) unchanged (message ∷ []))) }
+    {
+        match self.send(message) {
+            Ok(batch) => {
+                self.drop_first();
+                Ok(Acted::Done(batch))
+            }
+            Err(why) => Err(why),
+        }
+    }
+
+    /// Drops the oldest held event.
+    fn drop_first(&mut self)
+        ensures { self.new ≡ record self.old { held = drop 1 self.old.held } }
+    {
+        let _ = self.held.take_first();
+    }
+
+    /// An event is done that composed no message.
+    fn done_quietly(&self) -> Acted
+        ensures done { result ≡ Acted.Done [] }
+        ensures countable { self.now.sent ≤ most_count }
+    {
+        Acted::Done(Batch::from_vec(Vec::new(self.alloc)))
     }
 }
