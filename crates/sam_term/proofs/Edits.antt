@@ -3,7 +3,7 @@ use Rattle.std.proofs.Common.{◌≡◌, refl, sym, ap, ◌∙◌, subst, ℕ, z
 use Rattle.std.specs.Prelude.{◌||◌, nat_lt, Result}
 use Rattle.sam_runes.specs.Checks.{Checks, first_of_checks}
 use Rattle.sam_runes.specs.Texts.{most_count}
-use Rattle.sam_term.specs.Term.{PlainTerminal, Made, event_checks, made_by, window_at, is_open, composed, all_composed, lock_taken, asked, flushed, unsent_message, sends, unchanged, flush_of, has_bad_place, made_by_snarf}
+use Rattle.sam_term.specs.Term.{PlainTerminal, Made, event_checks, made_by, window_at, is_open, composed, all_composed, lock_taken, asked, flushed, unsent_message, sends, unchanged, flush_of, has_bad_place, made_by_snarf, made_by_cut, made_by_paste, cuts_dot, and_then, del_rasp, put_window, known_at, moved_unsent, blank_known}
 use Rattle.sam_term.specs.Locks.{lock_of}
 use Rattle.sam_term.specs.Taking.{done, countable}
 use Rattle.sam_term.specs.Acting.{first_event, free_first, made_first}
@@ -19,6 +19,13 @@ use Rattle.sam_mesg.specs.declared.tmesg.Tmesg.{Tmesg}
 use Rattle.sam_mesg.specs.declared.tmesg.Tmesg.TheVariants.{Trequest, Ttype, Tcut, Tpaste, Tsnarf, Tsetsnarf}
 use Rattle.sam_term.proofs.Acts.{made_of}
 use Rattle.sam_term.proofs.Sounds.{loud_done, full_done}
+use Rattle.sam_term.proofs.Composes.{flushed-none}
+use Rattle.sam_term.proofs.CountLaws.{counts-event}
+use Rattle.sam_rasp.specs.Rasp.{place_after_del}
+use Rattle.sam_term.specs.declared.files.Window.{Window}
+use Rattle.std.proofs.Common.{length-append, append_assoc, is_some, ◌⊎◌}
+use Rattle.std.specs.Prelude.{unwrap_or}
+use Rattle.sam_runes.proofs.SlotLaws.{slot-put_same}
 use Rattle.std.proofs.lemmas.Bool.{ltb-false, ne_eqb, eq-eqb}
 
 -- ## An event that is done
@@ -159,3 +166,115 @@ made-snarf t f d e h =
     sym
     (sym (filled-or d.0 d.1 (t, []) (sends t unchanged (Tsnarf f d.0 d.1 ∷ [])) h)
     ∙ ap (λ x. if x.0 == x.1 then (t, []) else sends t unchanged (Tsnarf f x.0 x.1 ∷ [])) e)
+
+pub made-cut_none : (t : PlainTerminal) (f : ℕ) (d : ℕ × ℕ) → d ≡ (window_at t f).dot → d.0 ≡ d.1 → made_by t (Cut f) ≡ (t, [])
+unfolding made_by_cut
+made-cut_none t f d e h =
+    sym
+    (sym (empty-or d.0 d.1 (t, []) (sends t (λ u. del_rasp u f d.0 d.1) (Tsnarf f d.0 d.1 ∷ Tcut f d.0 d.1 ∷ [])) h)
+    ∙ ap (λ x. if x.0 == x.1 then (t, []) else sends t (λ u. del_rasp u f x.0 x.1) (Tsnarf f x.0 x.1 ∷ Tcut f x.0 x.1 ∷ [])) e)
+
+pub made-cut : (t : PlainTerminal) (f : ℕ) (d : ℕ × ℕ) → d ≡ (window_at t f).dot → d.0 ≢ d.1 → made_by t (Cut f) ≡ sends t (λ u. del_rasp u f d.0 d.1) (Tsnarf f d.0 d.1 ∷ Tcut f d.0 d.1 ∷ [])
+unfolding made_by_cut
+made-cut t f d e h =
+    sym
+    (sym (filled-or d.0 d.1 (t, []) (sends t (λ u. del_rasp u f d.0 d.1) (Tsnarf f d.0 d.1 ∷ Tcut f d.0 d.1 ∷ [])) h)
+    ∙ ap (λ x. if x.0 == x.1 then (t, []) else sends t (λ u. del_rasp u f x.0 x.1) (Tsnarf f x.0 x.1 ∷ Tcut f x.0 x.1 ∷ [])) e)
+
+cuts_none : (t : PlainTerminal) (f : ℕ) (d : ℕ × ℕ) → d ≡ (window_at t f).dot → d.0 ≡ d.1 → cuts_dot t f ≡ (t, [])
+cuts_none t f d e h =
+    sym
+    (sym (empty-or d.0 d.1 (t, []) (sends t (λ u. del_rasp u f d.0 d.1) (Tcut f d.0 d.1 ∷ [])) h)
+    ∙ ap (λ x. if x.0 == x.1 then (t, []) else sends t (λ u. del_rasp u f x.0 x.1) (Tcut f x.0 x.1 ∷ [])) e)
+
+-- a dot that is cut
+abbrev pub cut_made : PlainTerminal → ℕ → ℕ × ℕ → Made
+cut_made t f d = (composed (del_rasp (flushed t).0 f d.0 d.1) (Tcut f d.0 d.1), (flushed t).1 ++ Tcut f d.0 d.1 ∷ [])
+
+cuts_some : (t : PlainTerminal) (f : ℕ) (d : ℕ × ℕ) → d ≡ (window_at t f).dot → d.0 ≢ d.1 → cuts_dot t f ≡ cut_made t f d
+cuts_some t f d e h =
+    sym
+    (sym (filled-or d.0 d.1 (t, []) (cut_made t f d) h)
+    ∙ ap (λ x. if x.0 == x.1 then (t, []) else cut_made t f x) e)
+
+-- ## No runes are unsent behind a flush
+
+unsent-lock : (l : Lock) (t : PlainTerminal) → (lock_taken l t).unsent ≡ t.unsent
+unsent-lock NoLock t = refl
+unsent-lock CommandLock t = refl
+unsent-lock (FileLock f) t = refl
+
+unsent-asked : (m : Tmesg) (t : PlainTerminal) → (asked m t).unsent ≡ t.unsent
+unsent-asked (Trequest f p n) t = refl
+unsent-asked _ t = refl
+
+unsent-composed : (t : PlainTerminal) (m : Tmesg) → (composed t m).unsent ≡ t.unsent
+unsent-composed t m =
+    unsent-asked m (lock_taken (lock_of m) (record t { sent = t.sent + 1 }))
+    ∙ unsent-lock (lock_of m) (record t { sent = t.sent + 1 })
+
+unsent-all : (t : PlainTerminal) (ms : List Tmesg) → (all_composed t ms).unsent ≡ t.unsent
+unsent-all t [] = refl
+unsent-all t (m ∷ ms) = unsent-all (composed t m) ms ∙ unsent-composed t m
+
+pub unsent-flushed : (t : PlainTerminal) → (flushed t).0.unsent ≡ None
+unfolding flushed
+unsent-flushed t = unsent-all (record t { unsent = None }) (unsent_message t.unsent)
+
+pub flushed-idle : (t : PlainTerminal) → t.unsent ≡ None → flushed t ≡ (t, [])
+flushed-idle t e = flushed-none t e ∙ ap (λ o. (record t { unsent = o }, [])) (sym e)
+
+pub flushed-messages : (t : PlainTerminal) → (flushed t).1 ≡ unsent_message t.unsent
+unfolding flushed
+flushed-messages t = refl
+
+cut-unsent : (t : PlainTerminal) (f : ℕ) (d : ℕ × ℕ) → (cut_made t f d).0.unsent ≡ None
+cut-unsent t f d = ap (λ o. moved_unsent f (place_after_del d.0 d.1) o) (unsent-flushed t)
+
+pub made-paste_none : (t : PlainTerminal) (f : ℕ) (d : ℕ × ℕ) → d ≡ (window_at t f).dot → d.0 ≡ d.1 → made_by t (Paste f) ≡ sends t unchanged (Tpaste f d.0 ∷ [])
+unfolding made_by_paste
+made-paste_none t f d e h =
+    ap (λ made. and_then made (λ u. sends u unchanged (Tpaste f (window_at t f).dot.0 ∷ []))) (cuts_none t f d e h)
+    ∙ ap (λ x. sends t unchanged (Tpaste f x.0 ∷ [])) (sym e)
+
+pub made-paste : (t : PlainTerminal) (f : ℕ) (d : ℕ × ℕ) → d ≡ (window_at t f).dot → d.0 ≢ d.1 → made_by t (Paste f) ≡ (composed (cut_made t f d).0 (Tpaste f d.0), (flushed t).1 ++ Tcut f d.0 d.1 ∷ Tpaste f d.0 ∷ [])
+unfolding made_by_paste
+made-paste t f d e h =
+    let cut = cut_made t f d in
+    ap (λ made. and_then made (λ u. sends u unchanged (Tpaste f (window_at t f).dot.0 ∷ []))) (cuts_some t f d e h)
+    ∙ (ap (λ x. and_then cut (λ u. sends u unchanged (Tpaste f x.0 ∷ []))) (sym e)
+    ∙ (ap (λ (made : Made). pasted t f d made) (flushed-idle cut.0 (cut-unsent t f d))
+    ∙ ap (λ ms. (composed cut.0 (Tpaste f d.0), ms)) (append_assoc (flushed t).1 (Tcut f d.0 d.1 ∷ []) (Tpaste f d.0 ∷ []))))
+  where
+    pasted : PlainTerminal → ℕ → ℕ × ℕ → Made → Made
+    pasted t f d made = (composed made.0 (Tpaste f d.0), (cut_made t f d).1 ++ (made.1 ++ Tpaste f d.0 ∷ []))
+
+pub opened-put : (t : PlainTerminal) (f : ℕ) (w : Window) → is_open (put_window t f w) f ≡ true
+opened-put t f w =
+    ap (λ s. is_some (unwrap_or s blank_known).window) (slot-put_same t.files f (record (known_at t f) { window = Some w }))
+
+-- ## Messages that can't be counted
+
+made-sent : (t : PlainTerminal) (e : UserEvent) (made : Made) (ms : List Tmesg) → made_by t e ≡ made → made.1 ≡ (flushed t).1 ++ ms → made.0.sent ≡ t.sent + length (unsent_message t.unsent) + length ms
+made-sent t e made ms by m =
+    let count = subst (λ (x : Made). x.0.sent ≡ t.sent + length x.1) by (counts-event t e).sent in
+    let many = ap length m ∙ (length-append (flushed t).1 ms ∙ ap (λ ns. length ns + length ms) (flushed-messages t)) in
+    omega arith
+
+pub refused_by : (t : PlainTerminal) (e : UserEvent) (made : Made) (ms : List Tmesg) (why : TermFault) (count : ℕ) → first_event t.held ≡ e → made_by (later t) e ≡ made → made.1 ≡ (flushed (later t)).1 ++ ms → count ≡ length ms + length (unsent_message t.unsent) → (why ≡ fault.OutOfMemory) ⊎ ((why ≡ fault.CountFull) × (most_count < t.sent + count)) → (why ≡ fault.OutOfMemory) ⊎ (done (made_first t) ≡ Err why)
+refused_by t e made ms why count first by m n h = elim h [
+  | inl o ↦ inl o
+  | inr k ↦ let s = made-sent (later t) e made ms by m in inr (overflows t e made first by (omega (arith, k.1)) ∙ ap Err (sym k.0))
+]
+
+pub loud_answer : (t u : PlainTerminal) (e : UserEvent) (made : Made) (a : Acted) (ms : List Tmesg) → first_event t.held ≡ e → made_by (later t) e ≡ made → u ≡ made.0 → a ≡ Done ms → ms ≡ made.1 → u.sent ≤ most_count → done (made_first t) ≡ Ok (u, a)
+loud_answer t u e made a ms first by b d m l =
+    answers t u e made ms first by b m l ∙ ap {B = Result (PlainTerminal × Acted) TermFault} (λ y. Ok (u, y)) (sym d)
+
+-- messages composed behind those of a flush
+pub one_more : (m0 m1 m2 fl : List Tmesg) (a : Tmesg) → m0 ≡ [] → m1 ≡ m0 ++ fl → m2 ≡ m1 ++ a ∷ [] → m2 ≡ fl ++ a ∷ []
+one_more m0 m1 m2 fl a e0 e1 e2 = e2 ∙ ap (λ x. x ++ a ∷ []) (e1 ∙ ap (λ x. x ++ fl) e0)
+
+pub two_more : (m0 m1 m2 m3 fl : List Tmesg) (a b : Tmesg) → m0 ≡ [] → m1 ≡ m0 ++ fl → m2 ≡ m1 ++ a ∷ [] → m3 ≡ m2 ++ b ∷ [] → m3 ≡ fl ++ a ∷ b ∷ []
+two_more m0 m1 m2 m3 fl a b e0 e1 e2 e3 =
+    e3 ∙ (ap (λ x. x ++ b ∷ []) (one_more m0 m1 m2 fl a e0 e1 e2) ∙ append_assoc fl (a ∷ []) (b ∷ []))
