@@ -135,6 +135,23 @@ fn a_look_locks_its_file_alone(rt: HostRuntime) -> Result<(), Fail> {
 }
 
 #[test]
+fn a_paste_locks_its_file(rt: HostRuntime) -> Result<(), Fail> {
+    let alloc = rt.alloc();
+    let mut terminal = with_five_gaps(alloc)?;
+    match acts(&mut terminal, UserEvent::Paste(1)) {
+        Ok(Acted::Done(messages)) => {
+            assert!(rt; matches!(messages.as_slice(), [Tmesg::Tpaste(1, 0)]));
+        }
+        _ => assert!(rt; false),
+    }
+    let typed = UserEvent::Typed(1, runes(alloc, "a")?);
+    assert!(rt; matches!(acts(&mut terminal, typed), Ok(Acted::Locked)));
+    assert!(rt; matches!(acts(&mut terminal, UserEvent::Flush), Ok(Acted::Locked)));
+    assert_eq!(rt; terminal.locks(1), 1);
+    Ok(())
+}
+
+#[test]
 fn what_the_host_does_to_a_text(rt: HostRuntime) -> Result<(), Fail> {
     let alloc = rt.alloc();
     let mut terminal = with_five_gaps(alloc)?;
