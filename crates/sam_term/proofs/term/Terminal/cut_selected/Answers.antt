@@ -1,7 +1,6 @@
-use Rattle.std.proofs.Common.{◌≡◌, ◌≤◌, sym, ap, ◌∙◌, subst, refl, length, arith, ℕ, is_some}
+use Rattle.std.proofs.Common.{◌≡◌, ap, ◌∙◌, length, arith, ℕ, is_some}
 use Rattle.std.specs.Prelude.{◌+◌, ◌-◌}
-use Rattle.sam_term.specs.Term.{PlainTerminal, known_in, window_in, window_at, del_rasp, flushed}
-use Rattle.sam_term.specs.Sound.{FitsWindow}
+use Rattle.sam_term.specs.Term.{known_in, window_in, del_rasp, flushed}
 use Rattle.sam_term.proofs.Composes.{flushed-files}
 use Rattle.sam_term.proofs.term.Terminal.cut_selected.Goals as goal
 

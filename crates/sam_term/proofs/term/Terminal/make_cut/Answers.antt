@@ -1,12 +1,10 @@
-use Rattle.std.proofs.Common.{◌≡◌, sym, ap, ◌∙◌, refl, subst, inl, inr, arith, [], ◌∷◌, ◌++◌, ◌+◌, length, append_assoc}
-use Rattle.sam_term.specs.Term.{PlainTerminal, is_open, window_at, sends, del_rasp, flushed, composed, unsent_message}
-use Rattle.sam_term.specs.Taking.{IsAnswer, done}
+use Rattle.std.proofs.Common.{ap, ◌∙◌, refl, arith, [], ◌∷◌, ◌++◌, ◌+◌, length}
+use Rattle.sam_term.specs.Term.{del_rasp, flushed, composed, unsent_message}
 use Rattle.sam_mesg.specs.declared.tmesg.Tmesg.TheVariants.{Tsnarf, Tcut}
 use Rattle.sam_term.specs.declared.event.UserEvent.TheVariants.{Cut}
-use Rattle.sam_term.proofs.Acts.{made_of, opened_by}
 use Rattle.sam_term.proofs.Composes.{flushed-sent}
 use Rattle.sam_term.proofs.CountLaws.{sent-composed}
-use Rattle.sam_term.proofs.Edits.{later, quiet_answer, loud_answer, two_more, opened-put, refused_by, made-cut, made-cut_none}
+use Rattle.sam_term.proofs.Edits.{later, quiet_answer, loud_answer, two_more, refused_by, made-cut, made-cut_none}
 use Rattle.sam_term.proofs.term.Terminal.make_cut.Goals as goal
 
 pub returns-then-dot : goal.returns-then-dot

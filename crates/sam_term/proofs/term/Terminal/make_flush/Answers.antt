@@ -1,7 +1,6 @@
-use Rattle.std.proofs.Common.{◌≡◌, sym, ap, ◌∙◌, refl, inl, inr, Err, Ok, drop}
-use Rattle.sam_term.specs.Term.{PlainTerminal, flush_of, flushed}
+use Rattle.std.proofs.Common.{ap, ◌∙◌, inl, inr, drop}
+use Rattle.sam_term.specs.Term.{flush_of, flushed}
 use Rattle.sam_term.specs.Taking.{done, countable}
-use Rattle.sam_term.specs.declared.event.Acted.TheVariants.{Done}
 use Rattle.sam_term.specs.declared.event.UserEvent.TheVariants.{Flush}
 use Rattle.sam_term.proofs.Acts.{made_of}
 use Rattle.sam_term.proofs.Edits.{held-flushed, flushed-held, done_later, refused_later}

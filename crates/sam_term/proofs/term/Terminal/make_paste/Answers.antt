@@ -1,5 +1,5 @@
-use Rattle.std.proofs.Common.{◌≡◌, sym, ap, ◌∙◌, refl, subst, inl, inr, arith, [], ◌∷◌, ◌++◌, ◌+◌, length, append_assoc}
-use Rattle.sam_term.specs.Term.{PlainTerminal, is_open, window_at, sends, del_rasp, flushed, composed, unsent_message}
+use Rattle.std.proofs.Common.{sym, ap, ◌∙◌, refl, subst, arith, [], ◌∷◌, ◌++◌, ◌+◌, length}
+use Rattle.sam_term.specs.Term.{is_open, del_rasp, flushed, composed, unsent_message}
 use Rattle.sam_term.specs.Taking.{IsAnswer, done}
 use Rattle.sam_mesg.specs.declared.tmesg.Tmesg.TheVariants.{Tpaste, Tcut}
 use Rattle.sam_term.specs.declared.event.UserEvent.TheVariants.{Paste}

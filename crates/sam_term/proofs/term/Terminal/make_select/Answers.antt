@@ -1,8 +1,8 @@
-use Rattle.std.proofs.Common.{◌≡◌, ◌≤◌, sym, ap, ◌∙◌, subst, refl, length, drop}
-use Rattle.sam_term.specs.Term.{PlainTerminal, is_open, window_at, set_dot_of}
+use Rattle.std.proofs.Common.{◌≤◌, sym, ap, ◌∙◌, subst, refl, length}
+use Rattle.sam_term.specs.Term.{is_open, window_at, set_dot_of}
 use Rattle.sam_term.specs.declared.event.UserEvent.TheVariants.{Select}
 use Rattle.sam_term.proofs.Acts.{opened_by}
-use Rattle.sam_term.proofs.Edits.{later, quiet_answer, selects_within}
+use Rattle.sam_term.proofs.Edits.{quiet_answer, selects_within}
 use Rattle.sam_term.proofs.term.Terminal.make_select.Goals as goal
 
 pub set_dot-requires-clause-opened : goal.set_dot-requires-clause-opened

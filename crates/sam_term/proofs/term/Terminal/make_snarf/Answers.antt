@@ -1,4 +1,4 @@
-use Rattle.std.proofs.Common.{◌≡◌, sym, ap, ◌∙◌, refl, subst}
+use Rattle.std.proofs.Common.{sym, ◌∙◌, subst}
 use Rattle.sam_term.specs.Taking.{IsAnswer, done}
 use Rattle.sam_term.specs.declared.event.UserEvent.TheVariants.{Snarf}
 use Rattle.sam_term.proofs.Acts.{made_of}

@@ -1,4 +1,4 @@
-use Rattle.std.proofs.Common.{◌≡◌, sym, ap, ◌∙◌, refl, inl, inr, [], ◌∷◌, drop}
+use Rattle.std.proofs.Common.{ap, ◌∙◌, inl, inr, [], ◌∷◌, drop}
 use Rattle.sam_term.specs.Term.{sends, unchanged}
 use Rattle.sam_term.specs.Taking.{done}
 use Rattle.sam_term.proofs.Edits.{held-sends, sends-held, done_later, refused_later}
