@@ -69,17 +69,17 @@ impl Terminal {
         requires first { first_event self.old.held ≡ UserEvent.Paste tag }
         ensures { IsAnswer self.old self.new result (done (made_first self.old)) }
     {
-        let dot = self.dot_of(tag);
-        if dot.0 == dot.1 {
-            return self.send_last(Tmesg::Tpaste(tag, dot.0));
+        let selected = self.dot_of(tag);
+        if selected.0 == selected.1 {
+            return self.send_last(Tmesg::Tpaste(tag, selected.0));
         }
         let count = 2 + self.unsent_count();
         match self.prepare(count, 3) {
             Ok(mut out) => {
                 self.drop_first();
-                self.cut_selected(tag, dot, &mut out);
-                self.compose(Tmesg::Tcut(tag, dot.0, dot.1), &mut out);
-                self.compose(Tmesg::Tpaste(tag, dot.0), &mut out);
+                self.cut_selected(tag, selected, &mut out);
+                self.compose(Tmesg::Tcut(tag, selected.0, selected.1), &mut out);
+                self.compose(Tmesg::Tpaste(tag, selected.0), &mut out);
                 Ok(self.done_with(out))
             }
             Err(why) => Err(why),
