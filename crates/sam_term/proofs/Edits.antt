@@ -3,10 +3,10 @@ use Rattle.std.proofs.Common.{◌≡◌, refl, sym, ap, ◌∙◌, subst, ℕ, z
 use Rattle.std.specs.Prelude.{◌||◌, nat_lt, Result}
 use Rattle.sam_runes.specs.Checks.{Checks, first_of_checks}
 use Rattle.sam_runes.specs.Texts.{most_count}
-use Rattle.sam_term.specs.Term.{PlainTerminal, Made, event_checks, made_by, window_at, is_open, composed, all_composed, lock_taken, asked, flushed, unsent_message, sends, unchanged, flush_of, has_bad_place, made_by_snarf, made_by_cut, made_by_paste, cuts_dot, and_then, del_rasp, put_window, known_at, moved_unsent, blank_known}
+use Rattle.sam_term.specs.Term.{PlainTerminal, Made, event_checks, made_by, window_at, is_open, composed, all_composed, lock_taken, asked, flushed, unsent_message, sends, unchanged, flush_of, has_bad_place, made_by_snarf, made_by_cut, made_by_paste, made_by_view, wanted, request_for, cuts_dot, and_then, del_rasp, put_window, known_at, moved_unsent, blank_known}
 use Rattle.sam_term.specs.Locks.{lock_of}
 use Rattle.sam_term.specs.Taking.{done, countable}
-use Rattle.sam_term.specs.Acting.{first_event, free_first, made_first}
+use Rattle.sam_term.specs.Acting.{first_event, free_first, made_first, is_snarfing, is_typing}
 use Rattle.sam_term.specs.declared.lock.Lock.{Lock}
 use Rattle.sam_term.specs.declared.lock.Lock.TheVariants.{NoLock, CommandLock, FileLock}
 use Rattle.sam_term.specs.declared.event.Acted.{Acted}
@@ -21,10 +21,12 @@ use Rattle.sam_term.proofs.Acts.{made_of}
 use Rattle.sam_term.proofs.Sounds.{loud_done, full_done}
 use Rattle.sam_term.proofs.Composes.{flushed-none}
 use Rattle.sam_term.proofs.CountLaws.{counts-event}
-use Rattle.sam_rasp.specs.Rasp.{place_after_del}
+use Rattle.sam_rasp.specs.Rasp.{place_after_del, hole_within}
 use Rattle.sam_term.specs.declared.files.Window.{Window}
 use Rattle.std.proofs.Common.{length-append, append_assoc, is_some, ◌⊎◌}
-use Rattle.std.specs.Prelude.{unwrap_or}
+use Rattle.std.specs.Prelude.{unwrap_or, not, ◌&&◌, min}
+use Rattle.sam_term.specs.Editing.{shown_from}
+use Rattle.sam_term.proofs.Requests.{wanted-put, requested_some, requested_none}
 use Rattle.sam_runes.proofs.SlotLaws.{slot-put_same}
 use Rattle.std.proofs.lemmas.Bool.{ltb-false, ne_eqb, eq-eqb}
 
@@ -278,3 +280,54 @@ one_more m0 m1 m2 fl a e0 e1 e2 = e2 ∙ ap (λ x. x ++ a ∷ []) (e1 ∙ ap (λ
 pub two_more : (m0 m1 m2 m3 fl : List Tmesg) (a b : Tmesg) → m0 ≡ [] → m1 ≡ m0 ++ fl → m2 ≡ m1 ++ a ∷ [] → m3 ≡ m2 ++ b ∷ [] → m3 ≡ fl ++ a ∷ b ∷ []
 two_more m0 m1 m2 m3 fl a b e0 e1 e2 e3 =
     e3 ∙ (ap (λ x. x ++ b ∷ []) (one_more m0 m1 m2 fl a e0 e1 e2) ∙ append_assoc fl (a ∷ []) (b ∷ []))
+
+-- ## A view
+
+pub views_within : (t : PlainTerminal) (f p n : ℕ) → free_first t ≡ None → first_event t.held ≡ View f p n → p ≤ length (window_at t f).rasp
+views_within t f p n e s = ltb-false (length (window_at t f).rasp) p (good_place t (View f p n) e s)
+
+-- what a file wants that is shown from p on
+pub wanted-shown : (t : PlainTerminal) (f p n : ℕ) (w : Window) → window_at t f ≡ w → t.has_exited ≡ false → w.awaits ≡ false → wanted (shown_from t f p n) f ≡ request_for f (hole_within w.rasp p (min (p + n) (length w.rasp)))
+wanted-shown t f p n w e x a =
+    wanted-put t f (record (window_at t f) { view_start = p; view_length = n })
+    ∙ (ap (λ v. asking t.has_exited v.awaits (request_for f (hole_within v.rasp p (min (p + n) (length v.rasp))))) e
+    ∙ (ap (λ b. asking b w.awaits (request_for f (hole_within w.rasp p (min (p + n) (length w.rasp))))) x
+    ∙ ap (λ b. asking false b (request_for f (hole_within w.rasp p (min (p + n) (length w.rasp))))) a))
+  where
+    asking : Bool → Bool → Option Tmesg → Option Tmesg
+    asking x a o = if true && not x && not a then o else None
+
+pub wanted-quiet : (t : PlainTerminal) (f p n : ℕ) (w : Window) → window_at t f ≡ w → (t.has_exited || w.awaits) ≡ true → wanted (shown_from t f p n) f ≡ None
+wanted-quiet t f p n w e h =
+    wanted-put t f (record (window_at t f) { view_start = p; view_length = n })
+    ∙ (ap (λ v. asking t.has_exited v.awaits (request_for f (hole_within v.rasp p (min (p + n) (length v.rasp))))) e
+    ∙ go t.has_exited w.awaits (request_for f (hole_within w.rasp p (min (p + n) (length w.rasp)))) h)
+  where
+    asking : Bool → Bool → Option Tmesg → Option Tmesg
+    asking x a o = if true && not x && not a then o else None
+
+    go : (x a : Bool) (o : Option Tmesg) → (x || a) ≡ true → asking x a o ≡ None
+    go true a o h = refl
+    go false true o h = refl
+    go false false o h = absurd (cc)
+
+pub made-view : (t : PlainTerminal) (f p n : ℕ) (m : Tmesg) → wanted (shown_from t f p n) f ≡ Some m → made_by t (View f p n) ≡ sends (shown_from t f p n) unchanged (m ∷ [])
+unfolding made_by_view
+made-view t f p n m e = requested_some (shown_from t f p n) f m e
+
+pub made-view_none : (t : PlainTerminal) (f p n : ℕ) → wanted (shown_from t f p n) f ≡ None → made_by t (View f p n) ≡ (shown_from t f p n, [])
+unfolding made_by_view
+made-view_none t f p n e = requested_none (shown_from t f p n) f e
+
+-- ## Runes for the snarf buffer
+
+pub refused_snarf : (t : PlainTerminal) (why : TermFault) (count : ℕ) → is_snarfing (first_event t.held) ≡ true → count ≡ 1 + length (unsent_message t.unsent) → (why ≡ fault.OutOfMemory) ⊎ ((why ≡ fault.CountFull) × (most_count < t.sent + count)) → (why ≡ fault.OutOfMemory) ⊎ (done (made_first t) ≡ Err why)
+refused_snarf t why count i n h = go (first_event t.held) refl i
+  where
+    go : (e : UserEvent) → first_event t.held ≡ e → is_snarfing e ≡ true → (why ≡ fault.OutOfMemory) ⊎ (done (made_first t) ≡ Err why)
+    go (SetSnarf s) f i = refused_by t (SetSnarf s) (sends (later t) unchanged (Tsetsnarf s ∷ [])) (Tsetsnarf s ∷ []) why count f refl refl n h
+    go _ f i = absurd (cc)
+
+pub or_right : (x a : Bool) → a ≡ true → (x || a) ≡ true
+or_right true a e = refl
+or_right false a e = e
