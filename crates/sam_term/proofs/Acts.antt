@@ -1,20 +1,16 @@
 -- The oldest event that is held, and what nothing stands against.
-use Rattle.std.proofs.Common.{◌≡◌, refl, sym, ap, ◌∙◌, subst, ℕ, zero, suc, ◌<◌, Bool, true, false, List, [], ◌∷◌, length, drop, Option, Some, None, Ok, Err, if◌then◌else◌, arith}
+use Rattle.std.proofs.Common.{◌≡◌, refl, sym, ap, ◌∙◌, subst, ℕ, zero, suc, Bool, true, false, List, [], ◌∷◌, drop, Some, None, Ok}
 use Rattle.std.specs.Prelude.{slice_get, not, ◌&&◌}
-use Rattle.std.specs.Prelude.{Result}
 use Rattle.sam_runes.specs.Checks.{Checks, first_of_checks}
 use Rattle.sam_term.specs.Term.{PlainTerminal, Made, act_of, act_on, decided, event_checks, made_by, needs_open, is_closed, file_of, is_open, sends, unchanged}
 use Rattle.sam_term.specs.Taking.{done, not_done}
 use Rattle.sam_term.specs.Acting.{deed_of, first_event, free_first, made_first, is_typing, is_snarfing}
-use Rattle.sam_term.specs.declared.event.Deed.{Deed}
 use Rattle.sam_term.specs.declared.event.Deed.TheVariants.{Sends, Types, Selects, Cuts, Pastes, Snarfs, Views, SetsSnarf, Flushes}
 use Rattle.sam_term.specs.Locks.{lock_of}
 use Rattle.sam_term.specs.Locking.{is_lockable}
-use Rattle.sam_term.specs.declared.event.Acted.{Acted}
 use Rattle.sam_term.specs.declared.event.Acted.TheVariants.{Idle}
 use Rattle.sam_term.specs.declared.event.Verdict.{Verdict}
 use Rattle.sam_term.specs.declared.event.Verdict.TheVariants.{Waits, Refuses}
-use Rattle.sam_term.specs.declared.fault.TermFault.{TermFault}
 use Rattle.sam_term.specs.declared.event.UserEvent.{UserEvent}
 use Rattle.sam_term.specs.declared.event.UserEvent.TheVariants.{Typed, Select, Cut, Paste, Snarf, Look, Search, Send, Dclick, Scroll, View, Open, Close, Write, Work, OpenCmd, New, Exit, Check, GetSnarf, SetSnarf, Version, Flush}
 use Rattle.sam_mesg.specs.declared.tmesg.Tmesg.{Tmesg}

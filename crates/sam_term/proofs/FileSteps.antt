@@ -1,11 +1,11 @@
 -- A terminal stays sound as files are opened, closed, named and dropped.
-use Rattle.std.proofs.Common.{◌≡◌, refl, sym, ap, ◌∙◌, subst, ℕ, zero, suc, ◌≤◌, Bool, true, false, List, [], ◌∷◌, length, Option, Some, None, is_some, if◌then◌else◌, ◌==◌, nat_eq, ◌⊎◌, ◌≢◌, inl, inr, arith}
+use Rattle.std.proofs.Common.{◌≡◌, refl, sym, ap, ◌∙◌, subst, ℕ, zero, suc, ◌≤◌, Bool, true, false, [], ◌∷◌, length, Option, Some, None, is_some, if◌then◌else◌, ◌==◌, nat_eq, ◌⊎◌, ◌≢◌, inl, inr, arith}
 use Rattle.std.specs.Prelude.{unwrap_or}
 use Rattle.std.proofs.lemmas.Bool.Decides.{eqb_tells}
 use Rattle.sam_runes.specs.Texts.{most_in_message}
 use Rattle.sam_runes.specs.Slots.{Slots, slot, put_slot, free_slot, map_slots}
 use Rattle.sam_runes.proofs.SlotLaws.{slot-put_same, slot-put_other, slot-free_same, slot-free_other}
-use Rattle.sam_term.specs.Term.{PlainTerminal, window_at, window_in, known_in, known_at, put_known, put_window, is_open, is_known, blank_window, blank_known, freed_known, unsent_without, took_bindname, took_close, took_exit}
+use Rattle.sam_term.specs.Term.{PlainTerminal, window_at, window_in, known_in, known_at, put_known, is_open, blank_window, blank_known, freed_known, unsent_without}
 use Rattle.sam_term.specs.Sound.{IsSound, FitsWindow, FitsUnsent, IsShort}
 use Rattle.sam_term.specs.declared.files.Window.{Window}
 use Rattle.sam_term.specs.declared.files.KnownFile.{KnownFile}

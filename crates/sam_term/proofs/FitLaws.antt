@@ -1,6 +1,6 @@
 -- What is composed fits in the terminal's version.
-use Rattle.std.proofs.Common.{◌≡◌, ◌+◌, ◌≤◌, ◌<◌, ◌++◌, refl, sym, ap, ◌∙◌, subst, ℕ, Bool, true, false, List, [], ◌∷◌, length, length-append, Option, Some, None, if◌then◌else◌, arith, ◌==◌}
-use Rattle.std.specs.Prelude.{nat_lt, nat_le, ◌&&◌, ◌||◌, map, not}
+use Rattle.std.proofs.Common.{◌≡◌, ◌+◌, ◌≤◌, ◌++◌, refl, sym, ap, ◌∙◌, subst, ℕ, Bool, true, false, List, [], ◌∷◌, length, length-append, Option, Some, None, if◌then◌else◌, arith, ◌==◌}
+use Rattle.std.specs.Prelude.{nat_le, ◌&&◌, ◌||◌, map, not}
 use Rattle.std.proofs.lemmas.Bool.{ltb-false, leb-true, le-leb}
 use Rattle.sam_runes.specs.Texts.{is_empty, most_in_message, snarf_limit, utf8_length}
 use Rattle.sam_runes.specs.Checks.{first_of_checks}
@@ -10,7 +10,7 @@ use Rattle.sam_term.specs.declared.lock.Lock.TheVariants.{NoLock, CommandLock, F
 use Rattle.sam_term.specs.Locks.{lock_of, is_command_line}
 use Rattle.sam_term.specs.Fitting.{all_fit}
 use Rattle.sam_term.specs.Sound.{IsSound, IsShort}
-use Rattle.sam_term.specs.Term.{PlainTerminal, Made, window_at, put_window, del_rasp, lock_taken, asked, composed, all_composed, flushed, unsent_message, and_then, sends, sends_if, unchanged, requested, wanted, request_for, view_end, is_open, joins, joined, kept_unsent, typed_rasp, types, cuts_dot, made_by, made_by_type, made_by_cut, made_by_paste, made_by_snarf, made_by_view, made_from, moved_unsent, event_checks, has_long_text, file_of, is_file_locked, took_unlockfile}
+use Rattle.sam_term.specs.Term.{PlainTerminal, Made, window_at, put_window, del_rasp, lock_taken, asked, composed, all_composed, flushed, unsent_message, and_then, sends, sends_if, unchanged, requested, request_for, view_end, is_open, joins, joined, kept_unsent, typed_rasp, types, cuts_dot, made_by, made_by_type, made_by_cut, made_by_paste, made_by_snarf, made_by_view, made_from, moved_unsent, event_checks, has_long_text, file_of, is_file_locked, took_unlockfile}
 use Rattle.sam_term.specs.declared.files.Unsent.{Unsent}
 use Rattle.sam_term.specs.declared.event.UserEvent.{UserEvent}
 use Rattle.sam_term.specs.declared.event.UserEvent.TheVariants.{Typed, Select, Cut, Paste, Snarf, Look, Search, Send, Dclick, Scroll, View, Open, Close, Write, Work, OpenCmd, New, Exit, Check, GetSnarf, SetSnarf, Version, Flush}

@@ -1,13 +1,12 @@
 -- Requests for gaps.
-use Rattle.std.proofs.Common.{◌≡◌, refl, sym, ap, ◌∙◌, subst, ℕ, Bool, true, false, List, [], ◌∷◌, Option, Some, None, if◌then◌else◌}
+use Rattle.std.proofs.Common.{◌≡◌, refl, sym, ap, ◌∙◌, subst, ℕ, Bool, true, false, [], ◌∷◌, Option, Some, None, if◌then◌else◌}
 use Rattle.std.specs.Prelude.{not, ◌&&◌, ◌-◌, min, is_some, unwrap_or}
 use Rattle.sam_rasp.specs.Rasp.{hole_within}
 use Rattle.sam_runes.proofs.SlotLaws.{slot-put_same}
 use Rattle.sam_term.specs.Locks.{lock_of}
 use Rattle.sam_term.specs.Locking.{is_lockable}
-use Rattle.sam_term.specs.Term.{PlainTerminal, window_at, put_window, known_at, is_open, wanted, request_for, view_end, took_unlockfile, sends_if, sends, requested, unchanged, blank_window, blank_known}
+use Rattle.sam_term.specs.Term.{PlainTerminal, window_at, put_window, known_at, is_open, wanted, request_for, view_end, took_unlockfile, sends_if, sends, requested, unchanged, blank_known}
 use Rattle.sam_term.specs.declared.files.Window.{Window}
-use Rattle.sam_term.specs.declared.files.KnownFile.{KnownFile}
 use Rattle.sam_mesg.specs.declared.tmesg.Tmesg.{Tmesg}
 use Rattle.sam_mesg.specs.declared.tmesg.Tmesg.TheVariants.{Trequest}
 use Rattle.sam_runes.specs.Texts.{most_in_message}

@@ -1,8 +1,8 @@
 -- A terminal stays sound.
-use Rattle.std.proofs.Common.{◌≡◌, refl, sym, ap, ◌∙◌, subst, ℕ, ◌≤◌, Bool, true, false, List, length, Option, Some, None, if◌then◌else◌, ◌==◌, nat_eq, ◌⊎◌, ◌≢◌, inl, inr, arith}
+use Rattle.std.proofs.Common.{◌≡◌, refl, sym, ap, ◌∙◌, subst, ℕ, ◌≤◌, true, false, List, length, Option, Some, None, nat_eq, ◌⊎◌, ◌≢◌, inl, inr, arith}
 use Rattle.std.specs.Prelude.{unwrap_or}
 use Rattle.std.proofs.lemmas.Bool.Decides.{eqb_tells}
-use Rattle.sam_term.specs.Term.{PlainTerminal, window_at, window_in, put_window, known_at, blank_window, blank_known}
+use Rattle.sam_term.specs.Term.{PlainTerminal, window_at, put_window, known_at, blank_window, blank_known}
 use Rattle.sam_term.specs.declared.event.Acted.TheVariants.{Done}
 use Rattle.sam_term.specs.Taking.{done, countable, frame_fault, IsAnswer}
 use Rattle.sam_mesg.specs.declared.hmesg.Hmesg.{Hmesg}
@@ -10,7 +10,7 @@ use Rattle.std.specs.Prelude.{Result, IfOk, IfErr, OnErr}
 use Rattle.sam_mesg.specs.declared.hmesg.HFrame.{HFrame}
 use Rattle.sam_term.specs.declared.fault.TermFault.{TermFault}
 use Rattle.sam_term.specs.declared.fault.TermFault.TheVariants as fault
-use Rattle.sam_term.specs.Term.{Made, take_of, made_unless, made_from, frame_checks}
+use Rattle.sam_term.specs.Term.{Made, take_of, made_unless, made_from}
 use Rattle.sam_runes.specs.Texts.{most_count}
 use Rattle.sam_mesg.specs.declared.tmesg.Tmesg.{Tmesg}
 use Rattle.std.specs.Prelude.{nat_lt, Ok, Err, [], ◌<◌, ◌+◌}
@@ -22,7 +22,6 @@ use Rattle.sam_term.specs.Sound.{IsSound, FitsWindow, FitsUnsent, IsShort}
 use Rattle.sam_term.specs.declared.files.Window.{Window}
 use Rattle.sam_term.specs.declared.files.KnownFile.{KnownFile}
 use Rattle.sam_term.specs.declared.files.Unsent.{Unsent}
-use Rattle.sam_runes.specs.Slots.{slot}
 use Rattle.sam_runes.proofs.SlotLaws.{slot-put_same, slot-put_other}
 
 -- the window of f after the window of g is put

@@ -1,5 +1,5 @@
 -- What the oldest held event does, and which events change nothing but by the one message that they compose.
-use Rattle.std.specs.Prelude.{ℕ, List, [], ◌∷◌, drop, Option, Some, None, Bool, true, false}
+use Rattle.std.specs.Prelude.{List, [], ◌∷◌, drop, Option, Bool, true, false}
 use Rattle.sam_runes.specs.Checks.{first_of_checks}
 use Rattle.sam_term.specs.Term.{PlainTerminal, Made, window_at, made_by, event_checks}
 use Rattle.sam_term.specs.declared.event.Verdict.{Verdict}

@@ -1,5 +1,5 @@
 -- What a call answers, against what its definition answers.
-use Rattle.std.specs.Prelude.{◌≡◌, ◌⊎◌, Bool, true, false, drop, List, Option, Result, Ok, Err}
+use Rattle.std.specs.Prelude.{◌≡◌, ◌⊎◌, drop, List, Option, Result, Ok, Err}
 use Rattle.sam_runes.specs.Checks.{first_of_checks}
 use Rattle.sam_term.specs.Term.{PlainTerminal, Made, frame_checks, if_countable}
 use Rattle.sam_term.specs.declared.event.Acted.{Acted}

@@ -1,5 +1,4 @@
-use Rattle.std.proofs.Common.{◌≡◌, sym, ap, ◌∙◌, arith, length, add-one, set}
-use Rattle.std.specs.Prelude.{get_or, option_map}
+use Rattle.std.proofs.Common.{add-one}
 use Rattle.sam_term.specs.Term.{freed_known}
 use Rattle.sam_term.proofs.SlotSteps.{map_slots-next}
 use Rattle.sam_term.proofs.slots.free_all.Goals as goal

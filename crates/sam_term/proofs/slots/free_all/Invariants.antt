@@ -1,4 +1,4 @@
-use Rattle.std.proofs.Common.{◌≡◌, ◌+◌, ◌≤◌, ◌++◌, take, drop, length}
+use Rattle.std.proofs.Common.{◌≡◌, ◌++◌, take, drop}
 use Rattle.sam_runes.specs.Slots.{map_slots}
 use Rattle.sam_term.specs.Term.{freed_known}
 use Rattle.sam_term.proofs.slots.free_all.Given as goal

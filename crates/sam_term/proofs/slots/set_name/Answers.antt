@@ -1,5 +1,5 @@
-use Rattle.std.proofs.Common.{◌≡◌, sym, ap, ◌∙◌, arith, Some, length}
-use Rattle.sam_runes.specs.Slots.{free_slot, put_slot}
+use Rattle.std.proofs.Common.{ap, ◌∙◌}
+use Rattle.sam_runes.specs.Slots.{put_slot}
 use Rattle.sam_runes.proofs.SlotLaws.{length-free_slot, slot_given}
 use Rattle.sam_term.proofs.SlotSteps.{put_file_back}
 use Rattle.sam_term.proofs.slots.set_name.Goals as goal

@@ -1,4 +1,4 @@
-use Rattle.std.proofs.Common.{◌≡◌, sym, ap, ◌∙◌, set, Some}
+use Rattle.std.proofs.Common.{sym, ap, ◌∙◌, set, Some}
 use Rattle.sam_term.specs.declared.files.KnownFile.{KnownFile}
 use Rattle.sam_runes.specs.Slots.{Slots, put_slot}
 use Rattle.sam_term.proofs.SlotSteps.{put_slot-more}

@@ -1,9 +1,7 @@
-use Rattle.std.proofs.Common.{◌≡◌, sym, ap, ◌∙◌, subst, false, true, None, Some, refl}
-use Rattle.std.specs.Prelude.{unwrap_or}
-use Rattle.sam_runes.specs.Slots.{put_slot, free_slot}
-use Rattle.sam_term.specs.Term.{PlainTerminal, known_at, known_in, put_known, is_open, is_known, window_at, blank_window, blank_known, took_bindname, took_close, took_exit, unsent_without}
+use Rattle.std.proofs.Common.{sym, ap, ◌∙◌, subst}
+use Rattle.sam_term.specs.Term.{PlainTerminal, took_close, unsent_without}
 use Rattle.sam_term.specs.Sound.{IsSound, seen}
-use Rattle.sam_term.proofs.FileSteps.{sound-put_known, sound-free, sound-close, sound-exit, blank_where_shut, blank_where_unknown}
+use Rattle.sam_term.proofs.FileSteps.{sound-close}
 use Rattle.sam_term.proofs.term.Terminal.close_file.Goals as goal
 
 pub invariant_of-self : goal.invariant_of-self

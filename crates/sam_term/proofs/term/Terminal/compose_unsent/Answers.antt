@@ -1,6 +1,6 @@
-use Rattle.std.proofs.Common.{◌≡◌, sym, ap, ◌∙◌, subst, refl, Some, None, [], ◌++◌}
+use Rattle.std.proofs.Common.{sym, ap, ◌∙◌, subst, None, ◌++◌}
 use Rattle.std.proofs.lemmas.List.{append-nil}
-use Rattle.sam_term.specs.Term.{PlainTerminal, flushed, composed}
+use Rattle.sam_term.specs.Term.{PlainTerminal, composed}
 use Rattle.sam_term.specs.Sound.{IsSound, seen}
 use Rattle.sam_mesg.specs.declared.tmesg.Tmesg.TheVariants.{Ttype}
 use Rattle.sam_term.proofs.Sounds.{sound-unsent}

@@ -1,4 +1,4 @@
-use Rattle.std.proofs.Common.{◌≡◌, ◌≤◌, sym, ap, ◌∙◌, subst, arith, length}
+use Rattle.std.proofs.Common.{◌≤◌, sym, ap, ◌∙◌, subst, arith, length}
 use Rattle.std.specs.Prelude.{◌+◌}
 use Rattle.sam_term.specs.Term.{window_at, del_rasp}
 use Rattle.sam_term.specs.Sound.{IsSound, seen}

@@ -1,5 +1,5 @@
-use Rattle.std.proofs.Common.{◌≡◌, sym, ap, ◌∙◌, subst, refl, inr, arith, [], ◌++◌, ◌∷◌}
-use Rattle.sam_term.specs.Term.{PlainTerminal, flushed, flush_of}
+use Rattle.std.proofs.Common.{ap, ◌∙◌, refl, inr, arith, ◌++◌}
+use Rattle.sam_term.specs.Term.{flushed, flush_of}
 use Rattle.sam_term.specs.Taking.{countable}
 use Rattle.sam_term.proofs.Sounds.{loud, full}
 use Rattle.sam_term.proofs.Composes.{flushed-sent}

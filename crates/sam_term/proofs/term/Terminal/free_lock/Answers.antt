@@ -1,10 +1,9 @@
-use Rattle.std.proofs.Common.{◌≡◌, ◌<◌, length, arith, sym, ap, ◌∙◌, subst, refl}
+use Rattle.std.proofs.Common.{arith, ap, ◌∙◌, refl}
 use Rattle.std.specs.Prelude.{◌-◌}
-use Rattle.sam_term.specs.Term.{window_at, took_unlockfile}
+use Rattle.sam_term.specs.Term.{took_unlockfile}
 use Rattle.sam_term.specs.Sound.{seen}
 use Rattle.sam_term.proofs.SlotSteps.{shut_known}
 use Rattle.sam_term.proofs.Sounds.{back, sound_back}
-use Rattle.sam_term.proofs.Grows.{taken_rasp}
 use Rattle.sam_term.proofs.term.Terminal.free_lock.Goals as goal
 
 pub put_window-requires : goal.put_window-requires

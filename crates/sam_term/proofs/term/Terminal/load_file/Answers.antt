@@ -1,4 +1,4 @@
-use Rattle.std.proofs.Common.{◌≡◌, ◌≤◌, sym, ap, ◌∙◌, subst, length, false}
+use Rattle.std.proofs.Common.{◌≤◌, sym, ap, ◌∙◌, subst, length, false}
 use Rattle.std.specs.Prelude.{◌+◌}
 use Rattle.sam_rasp.specs.Rasp.{load_cells}
 use Rattle.sam_term.specs.Term.{window_at, took_data}

@@ -1,5 +1,4 @@
-use Rattle.std.proofs.Common.{◌≡◌, sym, ap, ◌∙◌, subst}
-use Rattle.sam_term.specs.Acting.{first_event, deed_of}
+use Rattle.std.proofs.Common.{sym, ◌∙◌, subst}
 use Rattle.sam_term.specs.Taking.{IsAnswer, done}
 use Rattle.sam_term.proofs.Acts.{lockable_first, made_sends, types, selects, cuts, pastes, snarfs, views, sets_snarf, flushes}
 use Rattle.sam_term.proofs.term.Terminal.perform.Goals as goal

@@ -1,4 +1,4 @@
-use Rattle.std.proofs.Common.{◌≡◌, ap, arith}
+use Rattle.std.proofs.Common.{ap, arith}
 use Rattle.sam_term.proofs.term.Terminal.prepare.Goals as goal
 
 pub returns-clause-counts : goal.returns-clause-counts

@@ -1,4 +1,4 @@
-use Rattle.std.proofs.Common.{◌≡◌, ap, arith, ℕ}
+use Rattle.std.proofs.Common.{ap, arith, ℕ}
 use Rattle.sam_term.proofs.term.Terminal.room_beside_dot.Goals as goal
 
 pub overflow_sub-result : goal.overflow_sub-result

@@ -1,7 +1,6 @@
-use Rattle.std.proofs.Common.{◌≡◌, sym, ap, ◌∙◌, subst, refl, inr, arith, [], ◌++◌, ◌∷◌}
-use Rattle.sam_term.specs.Term.{PlainTerminal, flushed, composed, sends, unchanged}
+use Rattle.std.proofs.Common.{ap, ◌∙◌, refl, inr, arith, [], ◌++◌, ◌∷◌}
+use Rattle.sam_term.specs.Term.{flushed, composed, sends, unchanged}
 use Rattle.sam_term.specs.Locks.{lock_of}
-use Rattle.sam_term.specs.Sound.{IsSound, seen}
 use Rattle.sam_term.proofs.Sounds.{loud, full}
 use Rattle.sam_term.proofs.Composes.{flushed-sent, sends-sent, flushed-files, lockable-files}
 use Rattle.sam_term.proofs.term.Terminal.send.Goals as goal

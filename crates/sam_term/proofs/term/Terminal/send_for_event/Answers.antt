@@ -1,4 +1,4 @@
-use Rattle.std.proofs.Common.{◌≡◌, sym, ap, ◌∙◌, subst, refl, inr, arith, [], ◌++◌, ◌∷◌, drop}
+use Rattle.std.proofs.Common.{ap, ◌∙◌, refl, inr, arith, [], ◌++◌, ◌∷◌, drop}
 use Rattle.sam_term.specs.Term.{PlainTerminal, flushed, composed, sends, unchanged}
 use Rattle.sam_term.specs.Locks.{lock_of}
 use Rattle.sam_term.proofs.Sounds.{loud_done, full_done}

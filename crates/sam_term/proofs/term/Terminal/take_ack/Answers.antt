@@ -1,4 +1,4 @@
-use Rattle.std.proofs.Common.{◌≡◌, sym, ap, ◌∙◌, subst, refl, true, false, if◌then◌else◌, [], ◌∷◌}
+use Rattle.std.proofs.Common.{sym, ap, ◌∙◌, subst, refl, if◌then◌else◌, [], ◌∷◌}
 use Rattle.sam_term.specs.Taking.{IsAnswer, countable}
 use Rattle.sam_term.specs.Term.{sends, unchanged}
 use Rattle.sam_term.proofs.Sounds.{quiet}

@@ -1,4 +1,4 @@
-use Rattle.std.proofs.Common.{◌≡◌, sym, ap, ◌∙◌, subst, refl, Some, None, []}
+use Rattle.std.proofs.Common.{sym, ap, ◌∙◌, subst, refl}
 use Rattle.sam_term.specs.Taking.{IsAnswer, countable}
 use Rattle.sam_term.specs.Term.{requested, sends_if}
 use Rattle.sam_term.proofs.Sounds.{quiet}

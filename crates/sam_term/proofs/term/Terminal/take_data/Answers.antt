@@ -1,4 +1,4 @@
-use Rattle.std.proofs.Common.{◌≡◌, ◌∙◌, ap}
+use Rattle.std.proofs.Common.{◌∙◌, ap}
 use Rattle.sam_term.specs.Term.{took_data}
 use Rattle.sam_term.proofs.Sounds.{quiet}
 use Rattle.sam_term.proofs.term.Terminal.take_data.Goals as goal

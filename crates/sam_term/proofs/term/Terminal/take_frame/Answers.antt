@@ -1,8 +1,5 @@
-use Rattle.std.proofs.Common.{◌≡◌, arith, sym, ap, ◌∙◌, subst, refl, inr, true, false, Err, Ok, None, Some}
-use Rattle.std.specs.Prelude.{nat_lt}
-use Rattle.std.proofs.lemmas.Bool.{le-ltb, lt-ltb}
-use Rattle.sam_term.specs.Term.{take_of}
-use Rattle.sam_term.specs.Taking.{IsAnswer, countable}
+use Rattle.std.proofs.Common.{arith, sym, ap, ◌∙◌, subst, refl, inr}
+use Rattle.sam_term.specs.Taking.{IsAnswer}
 use Rattle.sam_term.proofs.Sounds.{late, refused, taken}
 use Rattle.sam_term.proofs.term.Terminal.take_frame.Goals as goal
 

@@ -1,4 +1,3 @@
-use Rattle.std.proofs.Common.{◌≡◌, ◌∙◌}
 use Rattle.sam_term.specs.Term.{took_grow}
 use Rattle.sam_term.proofs.Sounds.{quiet}
 use Rattle.sam_term.proofs.term.Terminal.take_grow.Goals as goal

@@ -1,4 +1,4 @@
-use Rattle.std.proofs.Common.{◌≡◌, ◌∙◌, ap, map, Some}
+use Rattle.std.proofs.Common.{◌∙◌, ap, map, Some}
 use Rattle.sam_term.specs.Term.{took_growdata, ins_rasp}
 use Rattle.sam_term.proofs.Sounds.{quiet}
 use Rattle.sam_term.proofs.term.Terminal.take_growdata.Goals as goal

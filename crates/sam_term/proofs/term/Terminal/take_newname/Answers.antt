@@ -1,4 +1,4 @@
-use Rattle.std.proofs.Common.{◌≡◌, sym, ap, ◌∙◌, subst, false, true, None, Some, refl}
+use Rattle.std.proofs.Common.{sym, ap, ◌∙◌, subst}
 use Rattle.sam_runes.specs.Slots.{put_slot}
 use Rattle.sam_term.specs.Term.{PlainTerminal, put_known, is_known, blank_known}
 use Rattle.sam_term.specs.Sound.{IsSound, seen}

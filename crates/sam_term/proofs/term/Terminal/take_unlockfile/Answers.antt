@@ -1,9 +1,8 @@
-use Rattle.std.proofs.Common.{◌≡◌, sym, ap, ◌∙◌, subst, refl, inl, inr, Some, None, Err, [], ◌∷◌, ◌++◌, ◌+◌, length, ℕ, arith}
-use Rattle.std.specs.Prelude.{is_some}
-use Rattle.sam_term.specs.Taking.{IsAnswer, countable}
+use Rattle.std.proofs.Common.{sym, ap, ◌∙◌, refl, inl, inr, Err, [], ◌∷◌, ◌++◌, length, arith}
+use Rattle.sam_term.specs.Taking.{countable}
 use Rattle.sam_term.specs.Locks.{lock_of}
 use Rattle.sam_term.specs.Locking.{is_lockable}
-use Rattle.sam_term.specs.Term.{PlainTerminal, sends, unchanged, took_unlockfile, unsent_message}
+use Rattle.sam_term.specs.Term.{sends, unchanged, took_unlockfile, unsent_message}
 use Rattle.sam_term.proofs.Sounds.{quiet, loud, full}
 use Rattle.sam_term.proofs.Composes.{sends-sent}
 use Rattle.sam_term.proofs.Requests.{lockable_wanted, wanted-unlocked, requested_some, requested_none, sent-unlocked, unsent-unlocked}

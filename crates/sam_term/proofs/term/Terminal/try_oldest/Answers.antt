@@ -1,6 +1,6 @@
-use Rattle.std.proofs.Common.{◌≡◌, sym, ap, ◌∙◌, subst, Some, None, Ok}
+use Rattle.std.proofs.Common.{sym, ap, ◌∙◌, subst, Ok}
 use Rattle.std.specs.Prelude.{option_copied, slice_get}
-use Rattle.sam_term.specs.Acting.{first_event, deed_of}
+use Rattle.sam_term.specs.Acting.{deed_of}
 use Rattle.sam_term.specs.Taking.{IsAnswer}
 use Rattle.sam_term.proofs.Acts.{act_none, act_refused, act_done, free, first_is}
 use Rattle.sam_term.proofs.term.Terminal.try_oldest.Goals as goal

@@ -1,4 +1,4 @@
-use Rattle.std.proofs.Common.{◌∙◌, sym, arith}
+use Rattle.std.proofs.Common.{arith}
 use Rattle.sam_term.specs.Sound.{seen}
 use Rattle.sam_term.proofs.FileSteps.{few-unsent}
 use Rattle.sam_term.proofs.term.Terminal.unsent.Goals as goal

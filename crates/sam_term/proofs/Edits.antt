@@ -1,0 +1,333 @@
+-- What the events do that change a rasp, a dot or a view, or send runes.
+use Rattle.std.proofs.Common.{◌≡◌, refl, sym, ap, ◌∙◌, subst, ℕ, zero, suc, ◌≤◌, ◌<◌, ◌+◌, Bool, true, false, List, [], ◌∷◌, ◌++◌, length, drop, Option, Some, None, Ok, Err, if◌then◌else◌, ◌==◌, ◌≢◌, nat_eq, arith, inl, inr}
+use Rattle.std.specs.Prelude.{◌||◌, nat_lt, Result}
+use Rattle.sam_runes.specs.Checks.{Checks, first_of_checks}
+use Rattle.sam_runes.specs.Texts.{most_count}
+use Rattle.sam_term.specs.Term.{PlainTerminal, Made, event_checks, made_by, window_at, is_open, composed, all_composed, lock_taken, asked, flushed, unsent_message, sends, unchanged, flush_of, has_bad_place, made_by_snarf, made_by_cut, made_by_paste, made_by_view, wanted, request_for, cuts_dot, and_then, del_rasp, put_window, known_at, moved_unsent, blank_known}
+use Rattle.sam_term.specs.Locks.{lock_of}
+use Rattle.sam_term.specs.Taking.{done, countable}
+use Rattle.sam_term.specs.Acting.{first_event, free_first, made_first, is_snarfing, is_typing}
+use Rattle.sam_term.specs.declared.lock.Lock.{Lock}
+use Rattle.sam_term.specs.declared.lock.Lock.TheVariants.{NoLock, CommandLock, FileLock}
+use Rattle.sam_term.specs.declared.event.Acted.{Acted}
+use Rattle.sam_term.specs.declared.event.Acted.TheVariants.{Done}
+use Rattle.sam_term.specs.declared.event.UserEvent.{UserEvent}
+use Rattle.sam_term.specs.declared.event.UserEvent.TheVariants.{Typed, Select, Cut, Paste, Snarf, View, SetSnarf, Flush}
+use Rattle.sam_term.specs.declared.fault.TermFault.{TermFault}
+use Rattle.sam_term.specs.declared.fault.TermFault.TheVariants as fault
+use Rattle.sam_mesg.specs.declared.tmesg.Tmesg.{Tmesg}
+use Rattle.sam_mesg.specs.declared.tmesg.Tmesg.TheVariants.{Trequest, Ttype, Tcut, Tpaste, Tsnarf, Tsetsnarf}
+use Rattle.sam_term.proofs.Acts.{made_of}
+use Rattle.sam_term.proofs.Sounds.{loud_done, full_done}
+use Rattle.sam_term.proofs.Composes.{flushed-none}
+use Rattle.sam_term.proofs.CountLaws.{counts-event}
+use Rattle.sam_rasp.specs.Rasp.{place_after_del, hole_within}
+use Rattle.sam_term.specs.declared.files.Window.{Window}
+use Rattle.std.proofs.Common.{length-append, append_assoc, is_some, ◌⊎◌}
+use Rattle.std.specs.Prelude.{unwrap_or, not, ◌&&◌, min}
+use Rattle.sam_term.specs.Editing.{shown_from}
+use Rattle.sam_term.proofs.Requests.{wanted-put, requested_some, requested_none}
+use Rattle.sam_runes.proofs.SlotLaws.{slot-put_same}
+use Rattle.std.proofs.lemmas.Bool.{ltb-false, ne_eqb, eq-eqb}
+
+-- ## An event that is done
+
+-- the terminal without its oldest event
+abbrev pub later : PlainTerminal → PlainTerminal
+later t = record t { held = drop 1 t.held }
+
+pub answers : (t u : PlainTerminal) (e : UserEvent) (made : Made) (ms : List Tmesg) → first_event t.held ≡ e → made_by (later t) e ≡ made → u ≡ made.0 → ms ≡ made.1 → u.sent ≤ most_count → done (made_first t) ≡ Ok (u, Done ms)
+answers t u e made ms first by a b l =
+    ap done (made_of t e first ∙ by) ∙ loud_done made u ms a b (subst (λ x. x.sent ≤ most_count) a l)
+
+pub overflows : (t : PlainTerminal) (e : UserEvent) (made : Made) → first_event t.held ≡ e → made_by (later t) e ≡ made → most_count < made.0.sent → done (made_first t) ≡ Err fault.CountFull
+overflows t e made first by l = ap done (made_of t e first ∙ by) ∙ full_done made l
+
+-- ## What stands against the oldest event
+
+first-stands : {E : Type 0} (b : Bool) (x : E) (cs : Checks E) → first_of_checks ((b, x) ∷ cs) ≡ None → (b ≡ false) × (first_of_checks cs ≡ None)
+first-stands true x cs e = absurd (cc)
+first-stands false x cs e = (refl, e)
+
+-- whether the k-th check stands against it
+unfoldable pub check_at : {E : Type 0} → Checks E → ℕ → Bool
+check_at [] k = false
+check_at (c ∷ cs) zero = c.0
+check_at (c ∷ cs) (suc k) = check_at cs k
+
+none-stands : {E : Type 0} (cs : Checks E) (k : ℕ) → first_of_checks cs ≡ None → check_at cs k ≡ false
+unfolding check_at
+none-stands [] k e = refl
+none-stands (c ∷ cs) zero e = (first-stands c.0 c.1 cs e).0
+none-stands (c ∷ cs) (suc k) e = none-stands cs k (first-stands c.0 c.1 cs e).1
+
+passed : (t : PlainTerminal) (e : UserEvent) (k : ℕ) → free_first t ≡ None → first_event t.held ≡ e → check_at (event_checks t e) k ≡ false
+unfolding free_first
+passed t e k n s = none-stands (event_checks t e) k (ap (λ x. first_of_checks (event_checks t x)) (sym s) ∙ n)
+
+-- the places of the oldest event are those of its file
+pub good_place : (t : PlainTerminal) (e : UserEvent) → free_first t ≡ None → first_event t.held ≡ e → has_bad_place t e ≡ false
+unfolding check_at
+good_place t e n s = passed t e 7 n s
+
+neither : (a b : Bool) → (a || b) ≡ false → (a ≡ false) × (b ≡ false)
+neither true b e = absurd (cc)
+neither false b e = (refl, e)
+
+pub selects_within : (t : PlainTerminal) (f p q : ℕ) → free_first t ≡ None → first_event t.held ≡ Select f p q → (p ≤ q) × (q ≤ length (window_at t f).rasp)
+selects_within t f p q n s =
+    let h = neither (nat_lt q p) (nat_lt (length (window_at t f).rasp) q) (good_place t (Select f p q) n s) in
+    (ltb-false q p h.0, ltb-false (length (window_at t f).rasp) q h.1)
+
+-- ## What is composed takes no note of the held events
+
+held-lock : (l : Lock) (t : PlainTerminal) (es : List UserEvent) → lock_taken l (record t { held = es }) ≡ record (lock_taken l t) { held = es }
+held-lock NoLock t es = refl
+held-lock CommandLock t es = refl
+held-lock (FileLock f) t es = refl
+
+held-asked : (m : Tmesg) (t : PlainTerminal) (es : List UserEvent) → asked m (record t { held = es }) ≡ record (asked m t) { held = es }
+held-asked (Trequest f p n) t es = refl
+held-asked _ t es = refl
+
+pub held-composed : (t : PlainTerminal) (m : Tmesg) (es : List UserEvent) → composed (record t { held = es }) m ≡ record (composed t m) { held = es }
+held-composed t m es =
+    ap (λ u. asked m u) (held-lock (lock_of m) (record t { sent = t.sent + 1 }) es)
+    ∙ held-asked m (lock_taken (lock_of m) (record t { sent = t.sent + 1 })) es
+
+held-all : (t : PlainTerminal) (ms : List Tmesg) (es : List UserEvent) → all_composed (record t { held = es }) ms ≡ record (all_composed t ms) { held = es }
+held-all t [] es = refl
+held-all t (m ∷ ms) es = ap (λ u. all_composed u ms) (held-composed t m es) ∙ held-all (composed t m) ms es
+
+pub held-flushed : (t : PlainTerminal) (es : List UserEvent) → flushed (record t { held = es }) ≡ (record (flushed t).0 { held = es }, (flushed t).1)
+unfolding flushed
+held-flushed t es = ap (λ u. (u, unsent_message t.unsent)) (held-all (record t { unsent = None }) (unsent_message t.unsent) es)
+
+pub held-sends : (t : PlainTerminal) (m : Tmesg) (es : List UserEvent) → sends (record t { held = es }) unchanged (m ∷ []) ≡ (record (sends t unchanged (m ∷ [])).0 { held = es }, (sends t unchanged (m ∷ [])).1)
+held-sends t m es =
+    ap (λ (made : Made). (composed made.0 m, made.1 ++ m ∷ [])) (held-flushed t es)
+    ∙ ap (λ u. (u, (flushed t).1 ++ m ∷ [])) (held-composed (flushed t).0 m es)
+
+abbrev the_countable : Bool → Made → Result Made TermFault
+the_countable b made = if b then Err fault.CountFull else Ok made
+
+abbrev the_done : Bool → Made → Result (PlainTerminal × Acted) TermFault
+the_done b made = if b then Err fault.CountFull else Ok (made.0, Done made.1)
+
+pub flushed-held : (t : PlainTerminal) → (flushed t).0.held ≡ t.held
+flushed-held t = ap (λ (made : Made). made.0.held) (held-flushed t t.held)
+
+pub sends-held : (t : PlainTerminal) (m : Tmesg) → (sends t unchanged (m ∷ [])).0.held ≡ t.held
+sends-held t m = ap (λ (made : Made). made.0.held) (held-sends t m t.held)
+
+-- what was made and could be counted, of an event that is dropped afterwards
+counted : (b : Bool) (t : PlainTerminal) (made : Made) (u v : PlainTerminal) (ms : List Tmesg) → made.0.held ≡ t.held → the_countable b made ≡ Ok (u, ms) → v ≡ record u { held = drop 1 u.held } → the_done b (record made.0 { held = drop 1 t.held }, made.1) ≡ Ok (v, Done ms)
+counted true t made u v ms h e d = absurd (cc)
+counted false t made u v ms h e d =
+    let same : made ≡ (u, ms) = (cc) in
+    ap (λ hs. answer (record made.0 { held = drop 1 hs }) made.1) (sym h)
+    ∙ (ap (λ (x : Made). answer (record x.0 { held = drop 1 x.0.held }) x.1) same ∙ ap (λ w. answer w ms) (sym d))
+  where
+    answer : PlainTerminal → List Tmesg → Result (PlainTerminal × Acted) TermFault
+    answer w ns = Ok (w, Done ns)
+
+uncounted : (b : Bool) (made : Made) (why : TermFault) (es : List UserEvent) → the_countable b made ≡ Err why → the_done b (record made.0 { held = es }, made.1) ≡ Err why
+uncounted true made why es e = (cc)
+uncounted false made why es e = absurd (cc)
+
+pub done_later : (t : PlainTerminal) (made : Made) (u v : PlainTerminal) (ms : List Tmesg) → made.0.held ≡ t.held → countable made ≡ Ok (u, ms) → v ≡ record u { held = drop 1 u.held } → done (record made.0 { held = drop 1 t.held }, made.1) ≡ Ok (v, Done ms)
+unfolding countable done
+done_later t made u v ms h e d = counted (nat_lt most_count made.0.sent) t made u v ms h e d
+
+pub refused_later : (made : Made) (why : TermFault) (es : List UserEvent) → countable made ≡ Err why → done (record made.0 { held = es }, made.1) ≡ Err why
+unfolding countable done
+refused_later made why es e = uncounted (nat_lt most_count made.0.sent) made why es e
+
+pub quiet_answer : (t x u : PlainTerminal) (e : UserEvent) (a : Acted) → first_event t.held ≡ e → made_by (later t) e ≡ (x, []) → u ≡ x → a ≡ Done [] → u.sent ≤ most_count → done (made_first t) ≡ Ok (u, a)
+quiet_answer t x u e a first by b d l =
+    answers t u e (x, []) [] first by b refl l ∙ ap {B = Result (PlainTerminal × Acted) TermFault} (λ y. Ok (u, y)) (sym d)
+
+-- ## What an event makes
+
+empty-or : {X : Type 0} (a b : ℕ) (x y : X) → a ≡ b → (if a == b then x else y) ≡ x
+empty-or a b x y e = let same : nat_eq a b ≡ true = eq-eqb a b e in rw same refl
+
+filled-or : {X : Type 0} (a b : ℕ) (x y : X) → a ≢ b → (if a == b then x else y) ≡ y
+filled-or a b x y e = let other : nat_eq a b ≡ false = ne_eqb a b e in rw other refl
+
+pub made-snarf_none : (t : PlainTerminal) (f : ℕ) (d : ℕ × ℕ) → d ≡ (window_at t f).dot → d.0 ≡ d.1 → made_by t (Snarf f) ≡ (t, [])
+unfolding made_by_snarf
+made-snarf_none t f d e h =
+    sym
+    (sym (empty-or d.0 d.1 (t, []) (sends t unchanged (Tsnarf f d.0 d.1 ∷ [])) h)
+    ∙ ap (λ x. if x.0 == x.1 then (t, []) else sends t unchanged (Tsnarf f x.0 x.1 ∷ [])) e)
+
+pub made-snarf : (t : PlainTerminal) (f : ℕ) (d : ℕ × ℕ) → d ≡ (window_at t f).dot → d.0 ≢ d.1 → made_by t (Snarf f) ≡ sends t unchanged (Tsnarf f d.0 d.1 ∷ [])
+unfolding made_by_snarf
+made-snarf t f d e h =
+    sym
+    (sym (filled-or d.0 d.1 (t, []) (sends t unchanged (Tsnarf f d.0 d.1 ∷ [])) h)
+    ∙ ap (λ x. if x.0 == x.1 then (t, []) else sends t unchanged (Tsnarf f x.0 x.1 ∷ [])) e)
+
+pub made-cut_none : (t : PlainTerminal) (f : ℕ) (d : ℕ × ℕ) → d ≡ (window_at t f).dot → d.0 ≡ d.1 → made_by t (Cut f) ≡ (t, [])
+unfolding made_by_cut
+made-cut_none t f d e h =
+    sym
+    (sym (empty-or d.0 d.1 (t, []) (sends t (λ u. del_rasp u f d.0 d.1) (Tsnarf f d.0 d.1 ∷ Tcut f d.0 d.1 ∷ [])) h)
+    ∙ ap (λ x. if x.0 == x.1 then (t, []) else sends t (λ u. del_rasp u f x.0 x.1) (Tsnarf f x.0 x.1 ∷ Tcut f x.0 x.1 ∷ [])) e)
+
+pub made-cut : (t : PlainTerminal) (f : ℕ) (d : ℕ × ℕ) → d ≡ (window_at t f).dot → d.0 ≢ d.1 → made_by t (Cut f) ≡ sends t (λ u. del_rasp u f d.0 d.1) (Tsnarf f d.0 d.1 ∷ Tcut f d.0 d.1 ∷ [])
+unfolding made_by_cut
+made-cut t f d e h =
+    sym
+    (sym (filled-or d.0 d.1 (t, []) (sends t (λ u. del_rasp u f d.0 d.1) (Tsnarf f d.0 d.1 ∷ Tcut f d.0 d.1 ∷ [])) h)
+    ∙ ap (λ x. if x.0 == x.1 then (t, []) else sends t (λ u. del_rasp u f x.0 x.1) (Tsnarf f x.0 x.1 ∷ Tcut f x.0 x.1 ∷ [])) e)
+
+cuts_none : (t : PlainTerminal) (f : ℕ) (d : ℕ × ℕ) → d ≡ (window_at t f).dot → d.0 ≡ d.1 → cuts_dot t f ≡ (t, [])
+cuts_none t f d e h =
+    sym
+    (sym (empty-or d.0 d.1 (t, []) (sends t (λ u. del_rasp u f d.0 d.1) (Tcut f d.0 d.1 ∷ [])) h)
+    ∙ ap (λ x. if x.0 == x.1 then (t, []) else sends t (λ u. del_rasp u f x.0 x.1) (Tcut f x.0 x.1 ∷ [])) e)
+
+-- a dot that is cut
+abbrev pub cut_made : PlainTerminal → ℕ → ℕ × ℕ → Made
+cut_made t f d = (composed (del_rasp (flushed t).0 f d.0 d.1) (Tcut f d.0 d.1), (flushed t).1 ++ Tcut f d.0 d.1 ∷ [])
+
+cuts_some : (t : PlainTerminal) (f : ℕ) (d : ℕ × ℕ) → d ≡ (window_at t f).dot → d.0 ≢ d.1 → cuts_dot t f ≡ cut_made t f d
+cuts_some t f d e h =
+    sym
+    (sym (filled-or d.0 d.1 (t, []) (cut_made t f d) h)
+    ∙ ap (λ x. if x.0 == x.1 then (t, []) else cut_made t f x) e)
+
+-- ## No runes are unsent behind a flush
+
+unsent-lock : (l : Lock) (t : PlainTerminal) → (lock_taken l t).unsent ≡ t.unsent
+unsent-lock NoLock t = refl
+unsent-lock CommandLock t = refl
+unsent-lock (FileLock f) t = refl
+
+unsent-asked : (m : Tmesg) (t : PlainTerminal) → (asked m t).unsent ≡ t.unsent
+unsent-asked (Trequest f p n) t = refl
+unsent-asked _ t = refl
+
+unsent-composed : (t : PlainTerminal) (m : Tmesg) → (composed t m).unsent ≡ t.unsent
+unsent-composed t m =
+    unsent-asked m (lock_taken (lock_of m) (record t { sent = t.sent + 1 }))
+    ∙ unsent-lock (lock_of m) (record t { sent = t.sent + 1 })
+
+unsent-all : (t : PlainTerminal) (ms : List Tmesg) → (all_composed t ms).unsent ≡ t.unsent
+unsent-all t [] = refl
+unsent-all t (m ∷ ms) = unsent-all (composed t m) ms ∙ unsent-composed t m
+
+pub unsent-flushed : (t : PlainTerminal) → (flushed t).0.unsent ≡ None
+unfolding flushed
+unsent-flushed t = unsent-all (record t { unsent = None }) (unsent_message t.unsent)
+
+pub flushed-idle : (t : PlainTerminal) → t.unsent ≡ None → flushed t ≡ (t, [])
+flushed-idle t e = flushed-none t e ∙ ap (λ o. (record t { unsent = o }, [])) (sym e)
+
+pub flushed-messages : (t : PlainTerminal) → (flushed t).1 ≡ unsent_message t.unsent
+unfolding flushed
+flushed-messages t = refl
+
+cut-unsent : (t : PlainTerminal) (f : ℕ) (d : ℕ × ℕ) → (cut_made t f d).0.unsent ≡ None
+cut-unsent t f d = ap (λ o. moved_unsent f (place_after_del d.0 d.1) o) (unsent-flushed t)
+
+pub made-paste_none : (t : PlainTerminal) (f : ℕ) (d : ℕ × ℕ) → d ≡ (window_at t f).dot → d.0 ≡ d.1 → made_by t (Paste f) ≡ sends t unchanged (Tpaste f d.0 ∷ [])
+unfolding made_by_paste
+made-paste_none t f d e h =
+    ap (λ made. and_then made (λ u. sends u unchanged (Tpaste f (window_at t f).dot.0 ∷ []))) (cuts_none t f d e h)
+    ∙ ap (λ x. sends t unchanged (Tpaste f x.0 ∷ [])) (sym e)
+
+pub made-paste : (t : PlainTerminal) (f : ℕ) (d : ℕ × ℕ) → d ≡ (window_at t f).dot → d.0 ≢ d.1 → made_by t (Paste f) ≡ (composed (cut_made t f d).0 (Tpaste f d.0), (flushed t).1 ++ Tcut f d.0 d.1 ∷ Tpaste f d.0 ∷ [])
+unfolding made_by_paste
+made-paste t f d e h =
+    let cut = cut_made t f d in
+    ap (λ made. and_then made (λ u. sends u unchanged (Tpaste f (window_at t f).dot.0 ∷ []))) (cuts_some t f d e h)
+    ∙ (ap (λ x. and_then cut (λ u. sends u unchanged (Tpaste f x.0 ∷ []))) (sym e)
+    ∙ (ap (λ (made : Made). pasted t f d made) (flushed-idle cut.0 (cut-unsent t f d))
+    ∙ ap (λ ms. (composed cut.0 (Tpaste f d.0), ms)) (append_assoc (flushed t).1 (Tcut f d.0 d.1 ∷ []) (Tpaste f d.0 ∷ []))))
+  where
+    pasted : PlainTerminal → ℕ → ℕ × ℕ → Made → Made
+    pasted t f d made = (composed made.0 (Tpaste f d.0), (cut_made t f d).1 ++ (made.1 ++ Tpaste f d.0 ∷ []))
+
+pub opened-put : (t : PlainTerminal) (f : ℕ) (w : Window) → is_open (put_window t f w) f ≡ true
+opened-put t f w =
+    ap (λ s. is_some (unwrap_or s blank_known).window) (slot-put_same t.files f (record (known_at t f) { window = Some w }))
+
+-- ## Messages that can't be counted
+
+made-sent : (t : PlainTerminal) (e : UserEvent) (made : Made) (ms : List Tmesg) → made_by t e ≡ made → made.1 ≡ (flushed t).1 ++ ms → made.0.sent ≡ t.sent + length (unsent_message t.unsent) + length ms
+made-sent t e made ms by m =
+    let count = subst (λ (x : Made). x.0.sent ≡ t.sent + length x.1) by (counts-event t e).sent in
+    let many = ap length m ∙ (length-append (flushed t).1 ms ∙ ap (λ ns. length ns + length ms) (flushed-messages t)) in
+    omega arith
+
+pub refused_by : (t : PlainTerminal) (e : UserEvent) (made : Made) (ms : List Tmesg) (why : TermFault) (count : ℕ) → first_event t.held ≡ e → made_by (later t) e ≡ made → made.1 ≡ (flushed (later t)).1 ++ ms → count ≡ length ms + length (unsent_message t.unsent) → (why ≡ fault.OutOfMemory) ⊎ ((why ≡ fault.CountFull) × (most_count < t.sent + count)) → (why ≡ fault.OutOfMemory) ⊎ (done (made_first t) ≡ Err why)
+refused_by t e made ms why count first by m n h = elim h [
+  | inl o ↦ inl o
+  | inr k ↦ let s = made-sent (later t) e made ms by m in inr (overflows t e made first by (omega (arith, k.1)) ∙ ap Err (sym k.0))
+]
+
+pub loud_answer : (t u : PlainTerminal) (e : UserEvent) (made : Made) (a : Acted) (ms : List Tmesg) → first_event t.held ≡ e → made_by (later t) e ≡ made → u ≡ made.0 → a ≡ Done ms → ms ≡ made.1 → u.sent ≤ most_count → done (made_first t) ≡ Ok (u, a)
+loud_answer t u e made a ms first by b d m l =
+    answers t u e made ms first by b m l ∙ ap {B = Result (PlainTerminal × Acted) TermFault} (λ y. Ok (u, y)) (sym d)
+
+-- messages composed behind those of a flush
+pub one_more : (m0 m1 m2 fl : List Tmesg) (a : Tmesg) → m0 ≡ [] → m1 ≡ m0 ++ fl → m2 ≡ m1 ++ a ∷ [] → m2 ≡ fl ++ a ∷ []
+one_more m0 m1 m2 fl a e0 e1 e2 = e2 ∙ ap (λ x. x ++ a ∷ []) (e1 ∙ ap (λ x. x ++ fl) e0)
+
+pub two_more : (m0 m1 m2 m3 fl : List Tmesg) (a b : Tmesg) → m0 ≡ [] → m1 ≡ m0 ++ fl → m2 ≡ m1 ++ a ∷ [] → m3 ≡ m2 ++ b ∷ [] → m3 ≡ fl ++ a ∷ b ∷ []
+two_more m0 m1 m2 m3 fl a b e0 e1 e2 e3 =
+    e3 ∙ (ap (λ x. x ++ b ∷ []) (one_more m0 m1 m2 fl a e0 e1 e2) ∙ append_assoc fl (a ∷ []) (b ∷ []))
+
+-- ## A view
+
+pub views_within : (t : PlainTerminal) (f p n : ℕ) → free_first t ≡ None → first_event t.held ≡ View f p n → p ≤ length (window_at t f).rasp
+views_within t f p n e s = ltb-false (length (window_at t f).rasp) p (good_place t (View f p n) e s)
+
+-- what a file wants that is shown from p on
+pub wanted-shown : (t : PlainTerminal) (f p n : ℕ) (w : Window) → window_at t f ≡ w → t.has_exited ≡ false → w.awaits ≡ false → wanted (shown_from t f p n) f ≡ request_for f (hole_within w.rasp p (min (p + n) (length w.rasp)))
+wanted-shown t f p n w e x a =
+    wanted-put t f (record (window_at t f) { view_start = p; view_length = n })
+    ∙ (ap (λ v. asking t.has_exited v.awaits (request_for f (hole_within v.rasp p (min (p + n) (length v.rasp))))) e
+    ∙ (ap (λ b. asking b w.awaits (request_for f (hole_within w.rasp p (min (p + n) (length w.rasp))))) x
+    ∙ ap (λ b. asking false b (request_for f (hole_within w.rasp p (min (p + n) (length w.rasp))))) a))
+  where
+    asking : Bool → Bool → Option Tmesg → Option Tmesg
+    asking x a o = if true && not x && not a then o else None
+
+pub wanted-quiet : (t : PlainTerminal) (f p n : ℕ) (w : Window) → window_at t f ≡ w → (t.has_exited || w.awaits) ≡ true → wanted (shown_from t f p n) f ≡ None
+wanted-quiet t f p n w e h =
+    wanted-put t f (record (window_at t f) { view_start = p; view_length = n })
+    ∙ (ap (λ v. asking t.has_exited v.awaits (request_for f (hole_within v.rasp p (min (p + n) (length v.rasp))))) e
+    ∙ go t.has_exited w.awaits (request_for f (hole_within w.rasp p (min (p + n) (length w.rasp)))) h)
+  where
+    asking : Bool → Bool → Option Tmesg → Option Tmesg
+    asking x a o = if true && not x && not a then o else None
+
+    go : (x a : Bool) (o : Option Tmesg) → (x || a) ≡ true → asking x a o ≡ None
+    go true a o h = refl
+    go false true o h = refl
+    go false false o h = absurd (cc)
+
+pub made-view : (t : PlainTerminal) (f p n : ℕ) (m : Tmesg) → wanted (shown_from t f p n) f ≡ Some m → made_by t (View f p n) ≡ sends (shown_from t f p n) unchanged (m ∷ [])
+unfolding made_by_view
+made-view t f p n m e = requested_some (shown_from t f p n) f m e
+
+pub made-view_none : (t : PlainTerminal) (f p n : ℕ) → wanted (shown_from t f p n) f ≡ None → made_by t (View f p n) ≡ (shown_from t f p n, [])
+unfolding made_by_view
+made-view_none t f p n e = requested_none (shown_from t f p n) f e
+
+-- ## Runes for the snarf buffer
+
+pub refused_snarf : (t : PlainTerminal) (why : TermFault) (count : ℕ) → is_snarfing (first_event t.held) ≡ true → count ≡ 1 + length (unsent_message t.unsent) → (why ≡ fault.OutOfMemory) ⊎ ((why ≡ fault.CountFull) × (most_count < t.sent + count)) → (why ≡ fault.OutOfMemory) ⊎ (done (made_first t) ≡ Err why)
+refused_snarf t why count i n h = go (first_event t.held) refl i
+  where
+    go : (e : UserEvent) → first_event t.held ≡ e → is_snarfing e ≡ true → (why ≡ fault.OutOfMemory) ⊎ (done (made_first t) ≡ Err why)
+    go (SetSnarf s) f i = refused_by t (SetSnarf s) (sends (later t) unchanged (Tsetsnarf s ∷ [])) (Tsetsnarf s ∷ []) why count f refl refl n h
+    go _ f i = absurd (cc)
+
+pub or_right : (x a : Bool) → a ≡ true → (x || a) ≡ true
+or_right true a e = refl
+or_right false a e = e

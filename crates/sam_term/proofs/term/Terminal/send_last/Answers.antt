@@ -1,0 +1,25 @@
+use Rattle.std.proofs.Common.{ap, ◌∙◌, inl, inr, [], ◌∷◌, drop}
+use Rattle.sam_term.specs.Term.{sends, unchanged}
+use Rattle.sam_term.specs.Taking.{done}
+use Rattle.sam_term.proofs.Edits.{held-sends, sends-held, done_later, refused_later}
+use Rattle.sam_term.proofs.term.Terminal.send_last.Goals as goal
+
+pub returns-in-Err : goal.returns-in-Err
+returns-in-Err c =
+    let t = c.args.self.now in
+    let m = c.args.message in
+    let es = drop 1 t.held in (
+      elim c.in-Err.ensures.0 [
+        | inl e ↦ inl e
+        | inr e ↦ inr (ap done (held-sends t m es) ∙ refused_later (sends t unchanged (m ∷ [])) _ es e)
+      ],
+      c.in-Err.ensures.1,
+    )
+
+pub returns-in-Ok : goal.returns-in-Ok
+returns-in-Ok c =
+    let t = c.args.self.now in
+    let m = c.args.message in
+    let es = drop 1 t.held in
+    ap done (held-sends t m es)
+    ∙ done_later t (sends t unchanged (m ∷ [])) _ _ _ (sends-held t m) c.in-Ok.ensures c.drop_first.ensures
