@@ -19,7 +19,8 @@ use Rattle.sam_protocol.specs.Handled.{IsSteady, quiet_outcome}
 use Rattle.sam_protocol.specs.Fold.{replied, reply_of, behind, replied_then, answers, frames_at, Kept, IsAllowed}
 use Rattle.sam_protocol.proofs.Versions.{versions-append}
 use Rattle.sam_protocol.proofs.Kept.{kept_take, kept_append, kept_act, kept_more, kept_request, kept_skips, alike_same}
-use Rattle.sam_protocol.proofs.Mirror.{open_at, mirror_request, mirror_request_gone}
+use Rattle.sam_protocol.proofs.MirrorSteps.{open_at}
+use Rattle.sam_protocol.proofs.Mirror.{mirror_request, mirror_request_gone}
 
 the_reply : {p q : Reply} → Some p ≡ Some q → p ≡ q
 the_reply e = cc

@@ -18,7 +18,8 @@ use Rattle.sam_protocol.specs.HostView.{file_of, file_of_slot, file_in, model_of
 use Rattle.sam_protocol.specs.Synced.{Synced}
 use Rattle.sam_protocol.specs.Handled.{Accepted, quiet_outcome, Ready}
 use Rattle.sam_protocol.proofs.Mirror as mirror
-use Rattle.sam_protocol.proofs.Mirror.{IsAt, bool_cases, open_at}
+use Rattle.sam_protocol.proofs.MirrorSteps as steps
+use Rattle.sam_protocol.proofs.MirrorSteps.{IsAt, bool_cases, open_at}
 use Rattle.sam_protocol.proofs.MirrorVersions.{mirror_version, all_announced}
 use Rattle.sam_protocol.specs.Means.{OpenAnnounced}
 use Rattle.sam_protocol.proofs.Syncing.{synced}
@@ -79,8 +80,8 @@ handled h r (Tstartfile f) a = go a.1
   where
     go : ((t : List ℕ) × (file_in h.files.slots f ≡ Named t)) ⊎ ((t : List ℕ) × (file_in h.files.slots f ≡ Opened t)) → Synced h (Tstartfile f)
     go (inl t) =
-        let z = mirror.some_at h f (Named t.0) t.1 (λ e. cc) (λ e. cc) in
-        let c = mirror.closed_file z.file true t.0 (sym (mirror.shown_there h f z.file z.there) ∙ t.1) in
+        let z = steps.some_at h f (Named t.0) t.1 (λ e. cc) (λ e. cc) in
+        let c = steps.closed_file z.file true t.0 (sym (steps.shown_there h f z.file z.there) ∙ t.1) in
         synced quiet_outcome h (Tstartfile f) r.running (mirror.mirror_startfile quiet_outcome h f z.file z.there a.0 (inr (c.0, c.1))) (commands.sync_start (tools_of quiet_outcome) (model_of h) f t.0 r.running r.steady.sound a.0 t.1)
     go (inr t) =
         let z = open_at h f t.0 t.1 in

@@ -24,7 +24,7 @@ use Rattle.sam_protocol.specs.HostView.{file_in}
 use Rattle.sam_protocol.specs.Means.{AllOpenAnnounced}
 use Rattle.sam_protocol.specs.Handled.{IsSteady}
 use Rattle.sam_protocol.specs.Fold.{replied, reply_of, behind, replied_then, answers, frames_at, Kept}
-use Rattle.sam_protocol.proofs.Mirror.{test, last_test}
+use Rattle.sam_protocol.proofs.MirrorSteps.{test, last_test}
 use Rattle.sam_protocol.proofs.Folds.{Answered, bool_cases, plain_reply, answered, answers-append}
 
 the_reply : {p q : Reply} → Some p ≡ Some q → p ≡ q

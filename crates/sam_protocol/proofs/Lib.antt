@@ -9,6 +9,7 @@ pub mod Edits
 pub mod Commands
 pub mod Lines
 pub mod FrameMoves
+pub mod MirrorSteps
 pub mod Mirror
 pub mod MirrorLines
 pub mod MirrorVersions

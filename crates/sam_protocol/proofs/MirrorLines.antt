@@ -20,7 +20,7 @@ use Rattle.sam_protocol.specs.Model.{Host, Answer, choose, put}
 use Rattle.sam_protocol.specs.View.{frame_of}
 use Rattle.sam_protocol.specs.Means.{Means}
 use Rattle.sam_protocol.specs.HostView.{file_of, file_in, edit_of, outcome_of, IsOpenAt, model_of, tools_of, Mirrors}
-use Rattle.sam_protocol.proofs.Mirror.{open_tests, test, last_test, place, range, the_text, model_opens, model_when, model_range, both, same_if, same_plain, alike_self, shown_there, maps, grown_frames, when_frames, open_at, within, put_opened, Alike, Same, Printed, printed_same, put_again, model_opened, is_opened, kept_length}
+use Rattle.sam_protocol.proofs.MirrorSteps.{open_tests, test, last_test, place, range, the_text, model_opens, model_when, model_range, both, same_if, same_plain, alike_self, shown_there, maps, grown_frames, when_frames, open_at, within, put_opened, Alike, Same, Printed, printed_same, put_again, model_opened, is_opened, kept_length}
 
 -- the host after a text was typed in tag 0, and the line that it runs
 abbrev pub typed_in : PlainHost → ℕ → List ℕ → PlainHost

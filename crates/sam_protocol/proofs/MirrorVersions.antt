@@ -17,7 +17,7 @@ use Rattle.sam_protocol.specs.Model.{choose}
 use Rattle.sam_protocol.specs.View.{frame_of}
 use Rattle.sam_protocol.specs.Means.{OpenAnnounced}
 use Rattle.sam_protocol.specs.HostView.{file_of, file_of_slot, file_in, model_of, tools_of, Mirrors}
-use Rattle.sam_protocol.proofs.Mirror.{maps, when_frames, last_test, model_when}
+use Rattle.sam_protocol.proofs.MirrorSteps.{maps, when_frames, last_test, model_when}
 
 hidden_slot : Option PlainFile → Bool
 hidden_slot None = false

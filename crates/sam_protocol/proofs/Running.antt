@@ -14,7 +14,7 @@ use Rattle.sam_protocol.proofs.Lines as lines
 use Rattle.sam_protocol.specs.HostView.{file_in, model_of, tools_of, outcome_of, IsOpenAt}
 use Rattle.sam_protocol.specs.Synced.{Synced}
 use Rattle.sam_protocol.specs.Handled.{Ready}
-use Rattle.sam_protocol.proofs.Mirror.{slot_open, Printed, printed_same, open_at, put_opened, is_opened, the_text}
+use Rattle.sam_protocol.proofs.MirrorSteps.{slot_open, Printed, printed_same, open_at, put_opened, is_opened, the_text}
 use Rattle.sam_protocol.proofs.MirrorLines.{typed_in, line_typed, printed_with, WorkOk, mirror_line, mirror_send}
 use Rattle.sam_protocol.proofs.Syncing.{synced}
 use Rattle.sam_runes.specs.Slots.{slot}

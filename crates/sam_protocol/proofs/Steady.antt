@@ -18,7 +18,7 @@ use Rattle.sam_protocol.specs.HostView.{file_in, model_of}
 use Rattle.sam_protocol.specs.Means.{OpenAnnounced, AllOpenAnnounced}
 use Rattle.sam_protocol.specs.Synced.{Synced}
 use Rattle.sam_protocol.specs.Handled.{Accepted, IsSteady, Ready}
-use Rattle.sam_protocol.proofs.Mirror.{OpenThere, slot_open, IsAt, some_at, closed_file, shown_there, at_there}
+use Rattle.sam_protocol.proofs.MirrorSteps.{OpenThere, slot_open, IsAt, some_at, closed_file, shown_there, at_there}
 
 -- ## Open files were announced
 

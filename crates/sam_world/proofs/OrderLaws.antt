@@ -32,7 +32,7 @@ use Rattle.sam_protocol.specs.View.{view}
 use Rattle.sam_protocol.specs.Fold.{reply_of, replied_then, behind, answers, Kept}
 use Rattle.sam_protocol.specs.Order.{InOrder}
 use Rattle.sam_protocol.proofs.Folds.{answered}
-use Rattle.sam_protocol.proofs.Mirror.{test}
+use Rattle.sam_protocol.proofs.MirrorSteps.{test}
 use Rattle.sam_protocol.proofs.Passing.{passed, held_passed, free_at}
 use Rattle.sam_protocol.proofs.Sending.{Goes, nothing_goes, flushed_goes}
 use Rattle.sam_protocol.proofs.Acting.{event_goes}
