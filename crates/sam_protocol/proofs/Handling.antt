@@ -1,20 +1,19 @@
 -- Every message that the crossing lets come to the host leads from settled to settled, by the host's own answer.
-use Rattle.std.proofs.Common.{◌≡◌, ℕ, ◌<◌, ◌≤◌, Bool, true, false, not, ◌&&◌, ◌==◌, if◌then◌else◌, List, [], ◌∷◌, length, Option, Some, None, ◌⊎◌, inl, inr, refl, sym, ap, ◌∙◌, subst, true≢false, eqb-true, nat_lt, suc, zero}
+use Rattle.std.proofs.Common.{◌≡◌, ℕ, Bool, true, false, ◌&&◌, ◌==◌, if◌then◌else◌, List, [], ◌∷◌, length, Option, Some, None, ◌⊎◌, inl, inr, refl, sym, ap, ◌∙◌, subst, eqb-true, nat_lt, suc}
 use Rattle.std.specs.Prelude.{unwrap_or}
-use Rattle.sam_runes.specs.Texts.{ends_line, part, as_lines, last_line}
+use Rattle.sam_runes.specs.Texts.{ends_line}
 use Rattle.sam_runes.specs.Slots.{Slots, slot}
-use Rattle.sam_text.specs.Files.{PlainFile, PlainFiles, PlainOutcome, blank_file}
+use Rattle.sam_text.specs.Files.{PlainFile, blank_file}
 use Rattle.sam_mesg.specs.declared.tmesg.Tmesg.{Tmesg}
 use Rattle.sam_mesg.specs.declared.tmesg.Tmesg.TheVariants.{Tversion, Tstartcmdfile, Tcheck, Trequest, Torigin, Tstartfile, Tworkfile, Ttype, Tcut, Tpaste, Tsnarf, Tstartnewfile, Twrite, Tclose, Tlook, Tsearch, Tsend, Tdclick, Tstartsnarf, Tsetsnarf, Tack, Texit}
 use Rattle.sam_host.specs.Host.{PlainHost}
-use Rattle.sam_protocol.specs.Lens.{HFile, Absent, Hidden, Named, Opened, Gone}
-use Rattle.sam_protocol.specs.Model as P
-use Rattle.sam_protocol.specs.Model.{Host, LineFits, IsOpened, IsCommandFile}
+use Rattle.sam_protocol.specs.Lens.{Hidden, Named, Opened}
+use Rattle.sam_protocol.specs.Model.{IsCommandFile}
 use Rattle.sam_protocol.proofs.FileLocks as locks
 use Rattle.sam_protocol.proofs.Edits as edits
 use Rattle.sam_protocol.proofs.Commands as commands
 use Rattle.sam_protocol.proofs.Lines as lines
-use Rattle.sam_protocol.specs.HostView.{file_of, file_of_slot, file_in, model_of, tools_of, outcome_of, IsOpenAt, Mirrors}
+use Rattle.sam_protocol.specs.HostView.{file_of_slot, file_in, model_of, tools_of}
 use Rattle.sam_protocol.specs.Synced.{Synced}
 use Rattle.sam_protocol.specs.Handled.{Accepted, quiet_outcome, Ready}
 use Rattle.sam_protocol.proofs.Mirror as mirror

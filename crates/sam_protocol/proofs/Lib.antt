@@ -1,7 +1,6 @@
 pub mod Runs
 pub mod Kept
 pub mod Texts
-pub mod Answering
 pub mod Versions
 pub mod Making
 pub mod FileLocks

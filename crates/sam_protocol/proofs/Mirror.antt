@@ -1,24 +1,21 @@
 -- The host's answers are those of the crossing's model, message by message.
-use Rattle.std.proofs.Common.{◌≡◌, ℕ, zero, suc, arith, ◌+◌, ◌-◌, ◌<◌, ◌≤◌, ◌≢◌, min, Bool, true, false, not, ◌&&◌, ◌||◌, if◌then◌else◌, ◌==◌, List, [], ◌∷◌, ◌++◌, length, map, take, drop, Option, Some, None, is_some, ◌⊎◌, inl, inr, refl, sym, ap, ◌∙◌, subst, true≢false, eqb-true, eq-eqb, nat_le, nat_lt, nat_eq, le-leb}
-use Rattle.std.specs.Prelude.{unwrap_or}
-use Rattle.std.proofs.lemmas.Bool.{leb-true, le-ltb, lt-ltb, ltb-true, ltb-false, leb-false, lt-leb}
+use Rattle.std.proofs.Common.{◌≡◌, ℕ, suc, arith, ◌+◌, ◌-◌, ◌<◌, ◌≤◌, min, Bool, true, false, not, ◌&&◌, ◌||◌, if◌then◌else◌, ◌==◌, List, [], ◌∷◌, ◌++◌, length, map, take, drop, Option, Some, None, is_some, ◌⊎◌, inl, inr, refl, sym, ap, ◌∙◌, subst, nat_le, nat_lt, le-leb}
+use Rattle.std.proofs.lemmas.Bool.{leb-true, le-ltb, ltb-true, leb-false, lt-leb}
 use Rattle.sam_runes.specs.Texts.{line_start, ins, del, part, max_runes, lines_before, word_at, is_empty, ends_line, searched}
-use Rattle.sam_runes.specs.Slots.{Slots, slot, put_slot, free_slot}
-use Rattle.sam_runes.specs.Checks.{Checks, first_of_checks}
-use Rattle.sam_runes.proofs.SlotLaws.{put_slot-push, slot-put_same, slot-put_other, slot-free_same, slot-free_other, slot_given, slot_past, length-put_slot, length-free_slot}
-use Rattle.sam_text.specs.Files.{printed_file, after_print, put_file, pasted_file, cut_file, typed_file, PlainFile, PlainFiles, PlainOutcome, file_at, blank_file}
-use Rattle.sam_mesg.specs.declared.tmesg.Tmesg.TheVariants.{Tversion, Tstartcmdfile, Tcheck, Trequest, Torigin, Tstartfile, Tworkfile, Ttype, Tcut, Tpaste, Tsnarf, Tstartnewfile, Twrite, Tclose, Tlook, Tsearch, Tsend, Tdclick, Tstartsnarf, Tsetsnarf, Tack, Texit}
+use Rattle.sam_runes.specs.Slots.{slot}
+use Rattle.sam_runes.specs.Checks.{first_of_checks}
+use Rattle.sam_runes.proofs.SlotLaws.{put_slot-push, length-put_slot, length-free_slot}
+use Rattle.sam_text.specs.Files.{after_print, put_file, pasted_file, cut_file, typed_file, PlainFile, PlainOutcome, file_at}
+use Rattle.sam_mesg.specs.declared.tmesg.Tmesg.TheVariants.{Tstartcmdfile, Tcheck, Trequest, Torigin, Tstartfile, Tworkfile, Ttype, Tcut, Tpaste, Tsnarf, Tstartnewfile, Twrite, Tclose, Tlook, Tsearch, Tdclick, Tstartsnarf, Tsetsnarf, Tack, Texit}
 use Rattle.sam_host.specs.Host.{PlainHost, host_checks, reply_check, reply_origin, reply_workfile, reply_cut, reply_snarf, reply_write, reply_close, reply_dclick, reply_startsnarf, reply_setsnarf, reply_exit, reply_type}
-use Rattle.sam_protocol.specs.Lens.{HFile, Absent, Hidden, Named, Opened, Gone}
+use Rattle.sam_protocol.specs.Lens.{HFile, Hidden, Named, Opened, Gone}
 use Rattle.sam_protocol.specs.Model as P
 use Rattle.sam_protocol.specs.Model.{Host, Answer, choose, put, on_open, when, reply, answer_open, inserted, deleted, between}
 use Rattle.sam_host.specs.Host.{new_file, no_tag_left, printed, command_name, with_files, reply_to, with_file, reply_line, when as when_host, grown, told_length, Reply, reply_found, reply_paste, reply_look, reply_search, reply_request, reply_startfile, reply_startcmdfile, reply_startnewfile, work_without, searched_for}
-use Rattle.sam_host.specs.declared.fault.HostFault.{HostFault}
-use Rattle.sam_host.specs.declared.fault.HostFault.TheVariants.{NoFile, NotOpen, BadPosition, TooLong, BadVersion, CountFull, CommandFile}
-use Rattle.sam_mesg.specs.declared.hmesg.Hmesg.{Hmesg}
+use Rattle.sam_host.specs.declared.fault.HostFault.TheVariants.{NoFile, NotOpen, BadPosition, TooLong, CommandFile}
 use Rattle.sam_mesg.specs.declared.tmesg.Tmesg.{Tmesg}
-use Rattle.sam_mesg.specs.declared.hmesg.Hmesg.TheVariants.{Hcurrent, Hunlock, Hbindname, Hnewname, Hmovname, Hdata, Hgrow, Hgrowdata, Hunlockfile, Hsetdot, Hmoveto, Hcheck, Hdirty, Hsetpat}
-use Rattle.std.proofs.lemmas.List.{length-append, append-nil, map-append, length-take, length-drop, drop_min, take_min}
+use Rattle.sam_mesg.specs.declared.hmesg.Hmesg.TheVariants.{Hcurrent, Hunlock, Hbindname, Hnewname, Hmovname, Hdata, Hunlockfile, Hsetdot, Hcheck, Hdirty, Hsetpat}
+use Rattle.std.proofs.lemmas.List.{length-append}
 use Rattle.sam_protocol.specs.Model.{grown_by, cleared}
 use Rattle.sam_protocol.specs.View.{frame_of}
 use Rattle.sam_protocol.specs.HostView.{outcome_of, file_of, file_of_slot, file_in, model_of, mesg_of, tools_of, Mirrors, IsOpenAt}
