@@ -1,6 +1,5 @@
 -- Every run keeps both sides in order; so neither refuses the other, and they agree wherever nothing is under way.
-use Rattle.std.proofs.Common.{◌≡◌, ◌≢◌, ◌⊎◌, inl, inr, ℕ, zero, suc, ◌+◌, ◌<◌, ◌≤◌, Bool, true, false, not, ◌&&◌, ◌||◌, ◌==◌, if◌then◌else◌, nat_lt, List, [], ◌∷◌, ◌++◌, length, map, Option, Some, None, is_some, Result, Ok, Err, refl, sym, ap, ◌∙◌, subst, true≢false, eqb-true, append-nil, arith}
-use Rattle.std.specs.Prelude.{unwrap_or}
+use Rattle.std.proofs.Common.{◌≡◌, ◌≢◌, ◌⊎◌, inl, inr, ℕ, ◌+◌, ◌≤◌, Bool, true, false, not, ◌&&◌, ◌||◌, ◌==◌, if◌then◌else◌, nat_lt, List, [], ◌∷◌, ◌++◌, length, Option, Some, None, is_some, Result, Ok, Err, refl, sym, ap, ◌∙◌, subst, true≢false, eqb-true, arith}
 use Rattle.std.proofs.lemmas.List.{map-append, length-append}
 use Rattle.std.proofs.lemmas.Option.{same_Some}
 use Rattle.std.proofs.lemmas.Bool.{le-ltb}
@@ -8,11 +7,11 @@ use Rattle.std.proofs.lemmas.Bool.Decides.{eqb_tells}
 use Rattle.sam_runes.specs.Texts.{is_empty, most_count}
 use Rattle.sam_runes.specs.Checks.{Checks, first_of_checks}
 use Rattle.sam_rasp.specs.Rasp.{Agrees}
-use Rattle.sam_text.specs.Files.{PlainFiles, file_at}
+use Rattle.sam_text.specs.Files.{file_at}
 use Rattle.sam_host.specs.Host.{PlainHost, Reply, Answer, answer, answer_unless, counted, host_checks, reply_to, stamped}
 use Rattle.sam_host.specs.declared.fault.HostFault.{HostFault}
 use Rattle.sam_host.specs.declared.fault.HostFault.TheVariants as hostfault
-use Rattle.sam_term.specs.Term.{PlainTerminal, Made, blank_window, window_of, window_at, is_open, is_any_locked, is_file_locked, waits_for_all, is_bad_version, is_unknown, is_for_command_file, needs_open, is_closed, has_bad_place, has_long_text, makes_too_long, unsent_message, if_countable, event_checks, file_of, act_of, act_on, decided, flush_of, flushed, take_of, made_by, made_from, made_unless, frame_checks}
+use Rattle.sam_term.specs.Term.{PlainTerminal, Made, window_of, is_any_locked, is_file_locked, waits_for_all, is_bad_version, is_unknown, is_for_command_file, needs_open, is_closed, has_bad_place, has_long_text, makes_too_long, unsent_message, if_countable, event_checks, file_of, act_of, act_on, decided, flush_of, flushed, take_of, made_by, made_from, made_unless, frame_checks}
 use Rattle.sam_term.specs.declared.files.Window.{Window}
 use Rattle.sam_term.specs.declared.files.Unsent.{Unsent}
 use Rattle.sam_term.specs.declared.event.Verdict.{Verdict}
@@ -27,20 +26,18 @@ use Rattle.sam_term.specs.declared.fault.TermFault.TheVariants as fault
 use Rattle.sam_mesg.specs.declared.tmesg.Tmesg.{Tmesg}
 use Rattle.sam_mesg.specs.declared.hmesg.Hmesg.{Hmesg}
 use Rattle.sam_mesg.specs.declared.hmesg.HFrame.{HFrame}
-use Rattle.sam_protocol.specs.Lens.{IsFree}
-use Rattle.sam_protocol.specs.View.{view}
-use Rattle.sam_protocol.specs.Fold.{reply_of, replied_then, behind, answers, Kept}
+use Rattle.sam_protocol.specs.Fold.{answers}
 use Rattle.sam_protocol.specs.Order.{InOrder}
 use Rattle.sam_protocol.proofs.Folds.{answered}
 use Rattle.sam_protocol.proofs.MirrorSteps.{test}
 use Rattle.sam_protocol.proofs.Passing.{passed, held_passed, free_at}
-use Rattle.sam_protocol.proofs.Sending.{Goes, nothing_goes, flushed_goes}
+use Rattle.sam_protocol.proofs.Sending.{nothing_goes, flushed_goes}
 use Rattle.sam_protocol.proofs.Acting.{event_goes}
 use Rattle.sam_protocol.proofs.Receiving.{received}
-use Rattle.sam_protocol.proofs.Ordered.{HostGoes, host_goes, msgs_stamped, answer_is, Shows, free_shows, Settled, quiet_settles, one_version}
+use Rattle.sam_protocol.proofs.Ordered.{HostGoes, host_goes, msgs_stamped, answer_is, free_shows, Settled, quiet_settles, one_version}
 use Rattle.sam_protocol.proofs.Starting.{starts}
-use Rattle.sam_world.specs.World.{PlainWorld, new_world, is_quiet, is_locked, is_unlocked, agrees_where_open, composed_by, after_act, after_compose, after_answer, term_takes, host_takes, step_of, run_of, host_after, host_after_all, ahead, IsSettledWhereQuiet, IsAhead}
-use Rattle.sam_world.specs.Order.{Stamped, IsCounted, mesgs, IsInOrder, IsCountable, StartsInOrder, StepsInOrder, RunsInOrder, HostNeverRefuses, TerminalNeverRefuses, OnlyCountsStop, QuietMeansAgreement, FreeMeansAhead, FreeMeansOneVersion, OthersGoOn}
+use Rattle.sam_world.specs.World.{PlainWorld, agrees_where_open, composed_by, after_act, after_compose, after_answer, term_takes, host_takes, step_of, host_after, host_after_all}
+use Rattle.sam_world.specs.Order.{Stamped, mesgs, IsInOrder, StartsInOrder, StepsInOrder, RunsInOrder, HostNeverRefuses, TerminalNeverRefuses, OnlyCountsStop, QuietMeansAgreement, FreeMeansAhead, FreeMeansOneVersion, OthersGoOn}
 use Rattle.sam_world.specs.declared.event.Event.{Event}
 use Rattle.sam_world.specs.declared.event.Event.TheVariants.{User, Act, Flush, HostTake, TermTake}
 use Rattle.sam_world.proofs.RunLaws.{run_keeps, counted-start, counted_step, answer-counts}

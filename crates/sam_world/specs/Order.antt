@@ -1,5 +1,5 @@
 -- What is kept in order in every state of a run, and what follows from it.
-use Rattle.std.specs.Prelude.{◌≡◌, ℕ, ◌+◌, ◌≤◌, Bool, true, false, List, [], ◌∷◌, length, map, Option, Some, None, Result, Ok, Err}
+use Rattle.std.specs.Prelude.{◌≡◌, ℕ, ◌+◌, ◌≤◌, false, List, [], ◌∷◌, length, map, Some, Ok, Err}
 use Rattle.sam_runes.specs.Texts.{most_count}
 use Rattle.sam_host.specs.Host.{answer}
 use Rattle.sam_host.specs.Laws.{AreGiven}
