@@ -2,14 +2,14 @@
 use Rattle.std.proofs.Common.{◌≡◌, ◌≢◌, ℕ, ◌+◌, ◌-◌, ◌<◌, ◌≤◌, ◌||◌, min, Bool, true, false, not, ◌&&◌, ◌==◌, if◌then◌else◌, nat_lt, List, [], ◌∷◌, ◌++◌, length, take, drop, Option, Some, None, ◌⊎◌, inl, inr, refl, sym, ap, ◌∙◌, subst, true≢false, eqb-true, eq-eqb, append_assoc, arith, take-append-drop}
 use Rattle.std.proofs.lemmas.Bool.{ltb-false}
 use Rattle.std.proofs.lemmas.Bool.Decides.{eqb_tells}
-use Rattle.sam_runes.specs.Texts.{max_runes, is_empty, most_in_message, ends_line}
+use Rattle.sam_runes.specs.Texts.{max_runes, is_empty, most_in_message}
 use Rattle.sam_rasp.specs.Rasp.{PartialText, hole_within}
 use Rattle.sam_mesg.specs.declared.tmesg.Tmesg.{Tmesg}
 use Rattle.sam_mesg.specs.declared.tmesg.Tmesg.TheVariants.{Tversion, Tstartcmdfile, Tcheck, Trequest, Torigin, Tstartfile, Tworkfile, Ttype, Tcut, Tpaste, Tsnarf, Tstartnewfile, Twrite, Tclose, Tlook, Tsearch, Tsend, Tdclick, Tstartsnarf, Tsetsnarf, Tack, Texit}
 use Rattle.sam_mesg.specs.declared.hmesg.Hmesg.{Hmesg}
 use Rattle.sam_host.specs.Host.{PlainHost}
 use Rattle.sam_term.specs.Locks.{is_command_line}
-use Rattle.sam_term.specs.Term.{PlainTerminal, Made, window_at, put_window, window_after_del, set_dot_of, is_open, is_any_locked, has_empty_dot, del_rasp, composed, all_composed, flushed, and_then, sends, sends_if, sends_dot, unchanged, request_for, wanted, view_end, requested, cuts_dot, types, made_by, made_by_type, made_by_cut, made_by_paste, made_by_snarf, made_by_view, event_checks, file_of}
+use Rattle.sam_term.specs.Term.{PlainTerminal, Made, window_at, put_window, set_dot_of, is_open, is_any_locked, has_empty_dot, del_rasp, composed, all_composed, flushed, sends, sends_if, unchanged, request_for, view_end, requested, cuts_dot, types, made_by, made_by_type, made_by_cut, made_by_paste, made_by_snarf, made_by_view}
 use Rattle.sam_term.specs.declared.files.Window.{Window}
 use Rattle.sam_term.specs.declared.files.Unsent.{Unsent}
 use Rattle.sam_term.specs.declared.event.UserEvent.{UserEvent}
@@ -19,9 +19,9 @@ use Rattle.sam_protocol.specs.Lens.{Lens, lens, IsFree, IsOpen, exited_of, comma
 use Rattle.sam_protocol.specs.Model.{choose}
 use Rattle.sam_protocol.specs.Crossing.{Types, Line, cut_out, OpenAt, Anything, Within}
 use Rattle.sam_protocol.specs.View.{view}
-use Rattle.sam_protocol.specs.Fold.{IsAllowed, CanCompose}
+use Rattle.sam_protocol.specs.Fold.{IsAllowed}
 use Rattle.sam_protocol.specs.Order.{AreTidy, IsTidyWindow, IsHeldBack, views, InOrder}
-use Rattle.sam_protocol.proofs.Folds.{bool_cases, requests, acknowledges, kept_views}
+use Rattle.sam_protocol.proofs.Folds.{requests, acknowledges, kept_views}
 use Rattle.sam_protocol.proofs.Views.{view-composed, view-kept, unsent-composed, unsent-flushed, tidy-composed, tidy-window}
 use Rattle.sam_protocol.proofs.Dots.{length-del_cells}
 use Rattle.sam_protocol.proofs.Passing.{Passed, free_at, open_free, opened_at, known_at_view, all_free}

@@ -1,5 +1,5 @@
 -- What the terminal may compose, the host will accept, and its answer is carried behind what is under way.
-use Rattle.std.proofs.Common.{◌≡◌, ℕ, ◌+◌, ◌≤◌, Bool, true, false, ◌||◌, ◌==◌, List, [], ◌∷◌, ◌++◌, length, Option, Some, ◌⊎◌, inl, inr, refl, sym, ap, ◌∙◌, subst, arith}
+use Rattle.std.proofs.Common.{◌≡◌, ℕ, ◌+◌, ◌≤◌, Bool, false, ◌||◌, List, [], ◌∷◌, ◌++◌, length, Option, ◌⊎◌, inl, inr, refl, sym, ap, ◌∙◌, subst, arith}
 use Rattle.sam_runes.specs.Texts.{max_runes}
 use Rattle.sam_mesg.specs.declared.tmesg.Tmesg.{Tmesg}
 use Rattle.sam_mesg.specs.declared.tmesg.Tmesg.TheVariants.{Tversion, Tstartcmdfile, Tcheck, Trequest, Torigin, Tstartfile, Tworkfile, Ttype, Tcut, Tpaste, Tsnarf, Tstartnewfile, Twrite, Tclose, Tlook, Tsearch, Tsend, Tdclick, Tstartsnarf, Tsetsnarf, Tack, Texit}
@@ -8,8 +8,8 @@ use Rattle.sam_host.specs.Host.{PlainHost}
 use Rattle.sam_protocol.specs.Lens.{Lens, lens, Unknown, Known, Open, Action, IsFree, HFile, Absent, Hidden, Named, Opened, Gone, Agrees, IsSettled, IsKept, exited_of, command_of}
 use Rattle.sam_protocol.specs.Crossing.{changed, OpenAt, KnownAt, Anything, Within}
 use Rattle.sam_protocol.specs.HostView.{file_in}
-use Rattle.sam_protocol.specs.Synced.{Synced, change_by}
-use Rattle.sam_protocol.specs.Handled.{IsSteady, Ready, Accepted}
+use Rattle.sam_protocol.specs.Synced.{change_by}
+use Rattle.sam_protocol.specs.Handled.{Ready, Accepted}
 use Rattle.sam_protocol.specs.Fold.{frames_at, Kept, IsAllowed, CanCompose}
 use Rattle.sam_protocol.proofs.Runs.{no_exit, exited_after}
 use Rattle.sam_protocol.proofs.Kept.{kept_free, exited_settled}

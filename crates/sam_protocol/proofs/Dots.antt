@@ -7,7 +7,6 @@ use Rattle.sam_rasp.specs.Rasp.{PartialText, place_after_ins, place_after_del}
 use Rattle.sam_term.specs.Term.{window_after_ins, window_after_del}
 use Rattle.sam_term.specs.declared.files.Window.{Window}
 use Rattle.sam_protocol.specs.Order.{IsTidyWindow}
-use Rattle.sam_protocol.proofs.Folds.{bool_cases}
 
 pub length-ins_cells : {X : Type 0} (r cells : List X) (p : ℕ) → p ≤ length r → length (ins r p cells) ≡ length r + length cells
 length-ins_cells r cells p l = omega (arith, length-append (take p r ++ cells) (drop p r), length-append (take p r) cells, length-take-le p r l, length-drop p r)
@@ -58,8 +57,7 @@ ins_keeps p n a b l = go (leb_tells b p)
 pub tidy-ins : (w : Window) (p : ℕ) (cells : PartialText) → IsTidyWindow w → p ≤ length w.rasp → IsTidyWindow (window_after_ins w p cells)
 tidy-ins w p cells t l =
     let n = length cells in
-    let long : length (ins w.rasp p cells) ≡ length w.rasp + n = length-ins_cells w.rasp cells p l in
-    (
+    let long : length (ins w.rasp p cells) ≡ length w.rasp + n = length-ins_cells w.rasp cells p l in (
       ins_keeps p n w.dot.0 w.dot.1 t.0,
       omega (arith, (ins_place p n w.dot.1).high, t.1, long),
       omega (arith, (ins_place p n w.view_start).high, t.2, long),

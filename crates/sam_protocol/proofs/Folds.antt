@@ -1,7 +1,6 @@
 -- The fold of what is under way, one message or frame more or less.
-use Rattle.std.proofs.Common.{◌≡◌, ℕ, ◌+◌, ◌≤◌, min, Bool, true, false, if◌then◌else◌, ◌==◌, List, [], ◌∷◌, ◌++◌, length, map, take, drop, Option, Some, None, ◌⊎◌, inl, inr, refl, sym, ap, ◌∙◌, subst, append-nil, append_assoc, eqb-true, eq-eqb, true≢false}
+use Rattle.std.proofs.Common.{◌≡◌, ℕ, min, Bool, true, false, if◌then◌else◌, ◌==◌, List, [], ◌∷◌, ◌++◌, length, map, take, drop, Option, Some, None, ◌⊎◌, inl, inr, refl, sym, ap, ◌∙◌, subst, append-nil, append_assoc, eqb-true, eq-eqb, true≢false}
 use Rattle.std.proofs.lemmas.List.{map-append}
-use Rattle.sam_runes.specs.Texts.{max_runes}
 use Rattle.sam_runes.specs.Checks.{first_of_checks}
 use Rattle.sam_mesg.specs.declared.tmesg.Tmesg.{Tmesg}
 use Rattle.sam_mesg.specs.declared.tmesg.Tmesg.TheVariants.{Trequest, Tack}
@@ -19,7 +18,8 @@ use Rattle.sam_protocol.specs.Handled.{IsSteady, quiet_outcome}
 use Rattle.sam_protocol.specs.Fold.{replied, reply_of, behind, replied_then, answers, frames_at, Kept, IsAllowed}
 use Rattle.sam_protocol.proofs.Versions.{versions-append}
 use Rattle.sam_protocol.proofs.Kept.{kept_take, kept_append, kept_act, kept_more, kept_request, kept_skips, alike_same}
-use Rattle.sam_protocol.proofs.Mirror.{open_at, mirror_request, mirror_request_gone}
+use Rattle.sam_protocol.proofs.MirrorSteps.{open_at}
+use Rattle.sam_protocol.proofs.Mirror.{mirror_request, mirror_request_gone}
 
 the_reply : {p q : Reply} → Some p ≡ Some q → p ≡ q
 the_reply e = cc

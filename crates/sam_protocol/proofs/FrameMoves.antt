@@ -1,9 +1,9 @@
 -- Where no lens refuses a frame the terminal doesn't, and each lens moves as the frame's action says.
-use Rattle.std.proofs.Common.{◌≡◌, ℕ, zero, suc, arith, ◌+◌, ◌-◌, ◌<◌, ◌≤◌, ◌≢◌, Bool, true, false, not, ◌&&◌, ◌||◌, if◌then◌else◌, ◌==◌, List, [], ◌∷◌, length, map, replicate, Option, Some, None, is_some, ◌⊎◌, inl, inr, refl, sym, ap, ◌∙◌, subst, true≢false, eqb-true, eq-eqb, nat_le, nat_lt, nat_eq}
+use Rattle.std.proofs.Common.{◌≡◌, ℕ, zero, suc, arith, ◌+◌, ◌-◌, ◌≢◌, Bool, true, false, not, ◌&&◌, if◌then◌else◌, ◌==◌, List, [], ◌∷◌, length, map, replicate, Option, Some, None, is_some, ◌⊎◌, inl, inr, refl, sym, ap, ◌∙◌, true≢false, eqb-true, eq-eqb, nat_le, nat_lt}
 use Rattle.std.specs.Prelude.{unwrap_or, option_map}
 use Rattle.std.proofs.lemmas.Bool.{leb-true, le-ltb}
 use Rattle.sam_runes.specs.Texts.{common_version, max_runes}
-use Rattle.sam_runes.specs.Slots.{Slots, slot, put_slot, free_slot, map_slots}
+use Rattle.sam_runes.specs.Slots.{Slots, slot, put_slot, free_slot}
 use Rattle.sam_runes.specs.Checks.{Checks, first_of_checks}
 use Rattle.sam_runes.proofs.SlotLaws.{slot-put_same, slot-put_other, slot-free_same, slot-free_other, slot-map}
 use Rattle.sam_rasp.specs.Rasp.{ins_cells, del_cells, load_cells}
@@ -14,12 +14,12 @@ use Rattle.sam_term.specs.declared.files.KnownFile.{KnownFile}
 use Rattle.sam_term.specs.declared.fault.TermFault.{TermFault}
 use Rattle.sam_term.specs.declared.fault.TermFault.TheVariants as fault
 use Rattle.sam_mesg.specs.declared.tmesg.Tmesg.TheVariants.{Tack}
-use Rattle.sam_term.specs.Term.{PlainTerminal, Made, made_from, frame_checks, blank_known, blank_window, free_window, freed_known, window_at, wanted, sends_if, sends, unchanged, requested, took_bindname, took_data, took_grow, took_growdata, took_cut, took_unlockfile, took_close, took_exit}
-use Rattle.sam_protocol.specs.Lens.{limit, Slot, Unknown, Known, Open, Lens, lens, Action, Skip, Needs_known, Needs_open, Join, Bind, Close, Leave, Grow, Fill, Insert, Cut, Place, Change, Free_file, Free_command, Exit, move}
+use Rattle.sam_term.specs.Term.{PlainTerminal, blank_known, blank_window, free_window, freed_known, sends_if, sends, unchanged, requested, took_bindname, took_data, took_grow, took_growdata, took_cut, took_unlockfile, took_close, took_exit}
+use Rattle.sam_protocol.specs.Lens.{limit, Slot, Unknown, Known, Open, Lens, lens, Action, Needs_known, Needs_open, Join, Bind, Close, Leave, Grow, Fill, Insert, Cut, Place, Free_file, Free_command, Exit, move}
 use Rattle.sam_protocol.specs.Model as P
 use Rattle.sam_protocol.specs.Model.{action, only}
 use Rattle.sam_protocol.proofs.Runs.{if_some}
-use Rattle.sam_protocol.specs.View.{slot_of_window, slot_of, view, frame_of, effect, composed_for, NoneRefuses, Moves}
+use Rattle.sam_protocol.specs.View.{slot_of_window, slot_of, view, effect, NoneRefuses, Moves}
 
 the : {x y : Lens} → Some x ≡ Some y → x ≡ y
 the e = cc

@@ -1,24 +1,24 @@
 -- Every message that the crossing lets come to the host leads from settled to settled, by the host's own answer.
-use Rattle.std.proofs.Common.{◌≡◌, ℕ, ◌<◌, ◌≤◌, Bool, true, false, not, ◌&&◌, ◌==◌, if◌then◌else◌, List, [], ◌∷◌, length, Option, Some, None, ◌⊎◌, inl, inr, refl, sym, ap, ◌∙◌, subst, true≢false, eqb-true, nat_lt, suc, zero}
+use Rattle.std.proofs.Common.{◌≡◌, ℕ, Bool, true, false, ◌&&◌, ◌==◌, if◌then◌else◌, List, [], ◌∷◌, length, Option, Some, None, ◌⊎◌, inl, inr, refl, sym, ap, ◌∙◌, subst, eqb-true, nat_lt, suc}
 use Rattle.std.specs.Prelude.{unwrap_or}
-use Rattle.sam_runes.specs.Texts.{ends_line, part, as_lines, last_line}
+use Rattle.sam_runes.specs.Texts.{ends_line}
 use Rattle.sam_runes.specs.Slots.{Slots, slot}
-use Rattle.sam_text.specs.Files.{PlainFile, PlainFiles, PlainOutcome, blank_file}
+use Rattle.sam_text.specs.Files.{PlainFile, blank_file}
 use Rattle.sam_mesg.specs.declared.tmesg.Tmesg.{Tmesg}
 use Rattle.sam_mesg.specs.declared.tmesg.Tmesg.TheVariants.{Tversion, Tstartcmdfile, Tcheck, Trequest, Torigin, Tstartfile, Tworkfile, Ttype, Tcut, Tpaste, Tsnarf, Tstartnewfile, Twrite, Tclose, Tlook, Tsearch, Tsend, Tdclick, Tstartsnarf, Tsetsnarf, Tack, Texit}
 use Rattle.sam_host.specs.Host.{PlainHost}
-use Rattle.sam_protocol.specs.Lens.{HFile, Absent, Hidden, Named, Opened, Gone}
-use Rattle.sam_protocol.specs.Model as P
-use Rattle.sam_protocol.specs.Model.{Host, LineFits, IsOpened, IsCommandFile}
+use Rattle.sam_protocol.specs.Lens.{Hidden, Named, Opened}
+use Rattle.sam_protocol.specs.Model.{IsCommandFile}
 use Rattle.sam_protocol.proofs.FileLocks as locks
 use Rattle.sam_protocol.proofs.Edits as edits
 use Rattle.sam_protocol.proofs.Commands as commands
 use Rattle.sam_protocol.proofs.Lines as lines
-use Rattle.sam_protocol.specs.HostView.{file_of, file_of_slot, file_in, model_of, tools_of, outcome_of, IsOpenAt, Mirrors}
+use Rattle.sam_protocol.specs.HostView.{file_of_slot, file_in, model_of, tools_of}
 use Rattle.sam_protocol.specs.Synced.{Synced}
 use Rattle.sam_protocol.specs.Handled.{Accepted, quiet_outcome, Ready}
 use Rattle.sam_protocol.proofs.Mirror as mirror
-use Rattle.sam_protocol.proofs.Mirror.{IsAt, bool_cases, open_at}
+use Rattle.sam_protocol.proofs.MirrorSteps as steps
+use Rattle.sam_protocol.proofs.MirrorSteps.{IsAt, bool_cases, open_at}
 use Rattle.sam_protocol.proofs.MirrorVersions.{mirror_version, all_announced}
 use Rattle.sam_protocol.specs.Means.{OpenAnnounced}
 use Rattle.sam_protocol.proofs.Syncing.{synced}
@@ -79,8 +79,8 @@ handled h r (Tstartfile f) a = go a.1
   where
     go : ((t : List ℕ) × (file_in h.files.slots f ≡ Named t)) ⊎ ((t : List ℕ) × (file_in h.files.slots f ≡ Opened t)) → Synced h (Tstartfile f)
     go (inl t) =
-        let z = mirror.some_at h f (Named t.0) t.1 (λ e. cc) (λ e. cc) in
-        let c = mirror.closed_file z.file true t.0 (sym (mirror.shown_there h f z.file z.there) ∙ t.1) in
+        let z = steps.some_at h f (Named t.0) t.1 (λ e. cc) (λ e. cc) in
+        let c = steps.closed_file z.file true t.0 (sym (steps.shown_there h f z.file z.there) ∙ t.1) in
         synced quiet_outcome h (Tstartfile f) r.running (mirror.mirror_startfile quiet_outcome h f z.file z.there a.0 (inr (c.0, c.1))) (commands.sync_start (tools_of quiet_outcome) (model_of h) f t.0 r.running r.steady.sound a.0 t.1)
     go (inr t) =
         let z = open_at h f t.0 t.1 in

@@ -1,9 +1,8 @@
 -- Runes typed in two messages do what they do in one.
-use Rattle.std.proofs.Common.{◌≡◌, ℕ, suc, ◌+◌, ◌-◌, ◌≤◌, Bool, true, false, ◌&&◌, ◌==◌, if◌then◌else◌, List, [], ◌∷◌, ◌++◌, length, map, Option, Some, None, nat_lt, refl, sym, ap, ◌∙◌, subst, arith, append_assoc, append-nil, length-append, ◌⊎◌, inl, inr}
+use Rattle.std.proofs.Common.{◌≡◌, ℕ, ◌+◌, ◌-◌, ◌≤◌, Bool, true, false, ◌&&◌, ◌==◌, if◌then◌else◌, List, [], ◌∷◌, ◌++◌, length, map, Option, Some, None, nat_lt, refl, sym, ap, ◌∙◌, subst, arith, append_assoc, append-nil, length-append, ◌⊎◌, inl, inr}
 use Rattle.std.specs.Prelude.{unwrap_or}
 use Rattle.std.proofs.lemmas.Bool.{ltb-false, le-ltb}
 use Rattle.sam_runes.specs.Texts.{max_runes, ins, ends_line, part, line_start}
-use Rattle.sam_runes.specs.Slots.{slot, put_slot}
 use Rattle.sam_runes.specs.Checks.{first_of_checks}
 use Rattle.sam_runes.proofs.CheckLaws.{none_holds}
 use Rattle.sam_runes.proofs.SlotLaws.{slot-put_same, put_slot-put_slot}
@@ -17,14 +16,13 @@ use Rattle.sam_mesg.specs.declared.hmesg.Hmesg.{Hmesg}
 use Rattle.sam_host.specs.Host.{PlainHost, Reply, counted, with_file, unknown, not_opened, past_end, no_room, host_checks, reply_to, reply_line, reply_type}
 use Rattle.sam_host.specs.declared.fault.HostFault.{HostFault}
 use Rattle.sam_host.specs.declared.fault.HostFault.TheVariants.{NoFile, NotOpen, BadPosition, TooLong}
-use Rattle.sam_protocol.specs.Lens.{Lens, HFile, IsKept}
+use Rattle.sam_protocol.specs.Lens.{Lens, IsKept}
 use Rattle.sam_protocol.specs.Model.{VersionsGuarded}
 use Rattle.sam_protocol.specs.View.{frame_of}
 use Rattle.sam_protocol.specs.HostView.{file_in}
-use Rattle.sam_protocol.specs.Means.{AllOpenAnnounced}
 use Rattle.sam_protocol.specs.Handled.{IsSteady}
 use Rattle.sam_protocol.specs.Fold.{replied, reply_of, behind, replied_then, answers, frames_at, Kept}
-use Rattle.sam_protocol.proofs.Mirror.{test, last_test}
+use Rattle.sam_protocol.proofs.MirrorSteps.{test, last_test}
 use Rattle.sam_protocol.proofs.Folds.{Answered, bool_cases, plain_reply, answered, answers-append}
 
 the_reply : {p q : Reply} → Some p ≡ Some q → p ≡ q
@@ -56,9 +54,6 @@ alike_after true k j f end a = (record { files = ap (λ (fs : PlainFiles). (line
   where
     line : PlainFiles → Reply
     line fs = let t = (file_at fs f).text in reply_line (record k { files = fs }) [] (part t (line_start t end) end)
-
-alike_counted : (a b : PlainHost) → AreAlike a b → AreAlike (counted a) (counted b)
-alike_counted a b x = record { files = x.files; done = x.done; version = x.version }
 
 at_put : (fs : PlainFiles) (f : ℕ) (x : PlainFile) → file_at (put_file fs f x) f ≡ x
 at_put fs f x = ap (λ (o : Option PlainFile). unwrap_or o blank_file) (slot-put_same fs.slots f x)

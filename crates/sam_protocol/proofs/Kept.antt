@@ -115,11 +115,6 @@ settled_opened (lens c e m Unknown) d n t x = absurd x.3
 settled_opened (lens c e m Known) d n t x = absurd x.3
 settled_opened (lens c e m (Open r k)) d n t x = (r, λ i. lens (x.0 i) (x.1 i) (x.2 i) (Open r (x.3.0 i)), x.3.1)
 
-pub settled_named : (w : Lens) (d : Bool) (n : ℕ) (t : List ℕ) → IsSettled w d n (Named t) → w ≡ lens false d n Known
-settled_named (lens c e m Unknown) d n t x = absurd x.3
-settled_named (lens c e m Known) d n t x = λ i. lens (x.0 i) (x.1 i) (x.2 i) Known
-settled_named (lens c e m (Open r k)) d n t x = absurd x.3
-
 -- the settled lens without its slot
 pub settled_slot : (w : Lens) (d : Bool) (n : ℕ) (file : HFile) → IsSettled w d n file → (s : Slot) × (w ≡ lens false d n s) × Fits_slot s file
 settled_slot (lens c e m s) d n file x = (s, λ i. lens (x.0 i) (x.1 i) (x.2 i) s, x.3)

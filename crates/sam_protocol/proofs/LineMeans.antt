@@ -3,7 +3,7 @@ use Rattle.std.proofs.Common.{◌≡◌, ℕ, ◌+◌, ◌-◌, ◌≤◌, Bool,
 use Rattle.std.specs.Prelude.{option_map, option_and_then, IfSome}
 use Rattle.std.proofs.lemmas.List.{drop_all}
 use Rattle.std.proofs.lemmas.Bool.Decides.{leb_tells}
-use Rattle.sam_runes.specs.Texts.{Range, max_runes, searched, either, leftmost, word_at, lines_before, ends_line}
+use Rattle.sam_runes.specs.Texts.{Range, max_runes, searched, either, leftmost}
 use Rattle.sam_runes.specs.Slots.{slot}
 use Rattle.sam_runes.specs.declared.edit.Edit.{Edit}
 use Rattle.sam_runes.specs.Edits.{edited, all_edited, EditsFit, inserted}
@@ -18,14 +18,12 @@ use Rattle.sam_text.specs.declared.command.Last.{Last}
 use Rattle.sam_text.specs.Reading.{◌>>=◌, command_of}
 use Rattle.sam_text.specs.Ranges.{address_range, chain_ranges}
 use Rattle.sam_text.specs.Files.{PlainFile, PlainFiles, PlainOutcome, blank_file, file_at, AreFit}
-use Rattle.sam_text.specs.Meaning.{WorkFile, meaning, work_on, work_file, line_outcome, or_wrong, effect_of, effect_on, wrong, run_on, run_outcome, edits_of, address_or_dot, later, address_pattern, steps_pattern}
-use Rattle.sam_text.specs.Outcomes.{Fits, IsFileFit, IsRangeOf}
+use Rattle.sam_text.specs.Meaning.{WorkFile, meaning, work_on, work_file, line_outcome, or_wrong, effect_of, effect_on, wrong, run_outcome, edits_of, address_or_dot}
+use Rattle.sam_text.specs.Outcomes.{Fits}
 use Rattle.sam_text.proofs.MeaningLaws.{line_fits}
-use Rattle.sam_host.specs.Host.{PlainHost}
-use Rattle.sam_protocol.specs.Lens.{Opened}
 use Rattle.sam_protocol.specs.Model as P
 use Rattle.sam_protocol.specs.Model.{ToolsOk, RangeFits}
-use Rattle.sam_protocol.specs.HostView.{file_in, edit_of, outcome_of, tools_of}
+use Rattle.sam_protocol.specs.HostView.{edit_of, outcome_of, tools_of}
 use Rattle.sam_protocol.specs.Handled.{quiet_outcome}
 use Rattle.sam_protocol.specs.Means.{Means}
 

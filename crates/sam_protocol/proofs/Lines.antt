@@ -2,7 +2,7 @@
 use Rattle.std.proofs.Common.{◌≡◌, ℕ, zero, suc, ◌+◌, ◌-◌, ◌≤◌, ◌<◌, min, Bool, true, false, not, ◌||◌, ◌&&◌, ◌==◌, List, [], ◌∷◌, ◌++◌, length, take, drop, Option, Some, None, ◌⊎◌, inl, inr, refl, sym, ap, ◌∙◌, subst, true≢false, arith, append-nil, append_assoc, take-append-drop, length-append, eqb-true, eq-eqb, nat_le, le-leb, leb-true, leb-false, lt-ltb, ◌≢◌, if◌then◌else◌}
 use Rattle.std.proofs.lemmas.List.{take_all, drop_all}
 use Rattle.sam_protocol.specs.Lens.{limit, Slot, Unknown, Known, Open, Lens, lens, Action, Skip, Cut, Place, Needs_known, Needs_open, Join, Bind, Change, Free_command, move, run, closes, is_close, typed, without, HFile, Absent, Hidden, Named, Opened, Gone, Agrees, Fits_slot, IsSettled, IsKept, AreSkips}
-use Rattle.sam_protocol.specs.Model.{Tsend, Ttype, Tstartnewfile, Hmesg, Hcurrent, Hunlock, Hbindname, Hnewname, Hmovname, Hdirty, Hsetdot, Hcheck, Hexit, action, at_file, only, Host, Answer, Tools, ToolsOk, Edit, Outcome, EditsFit, RangeFits, LineFits, answer, choose, put, HostOk, FilesOk, IsOpened, IsCommandFile, text_of, reply, inserted, deleted, on_open, when, grown_by, cut_by, edit_frames, edited, with_edits, some_edit, dot_frames, pattern_frames, work_frames, worked, printing, print_frames, with_printed, run_line, is_range, is_place, between, sent, before, new_file, Tversion, Hversion, Hack, announcements, is_hidden, revealed}
+use Rattle.sam_protocol.specs.Model.{Tsend, Ttype, Tstartnewfile, Hmesg, Hcurrent, Hunlock, Hbindname, Hnewname, Hmovname, Hdirty, Hsetdot, Hcheck, Hexit, action, at_file, only, Host, Answer, Tools, Edit, Outcome, EditsFit, RangeFits, LineFits, answer, choose, put, HostOk, FilesOk, IsOpened, IsCommandFile, text_of, reply, inserted, deleted, on_open, when, grown_by, cut_by, edit_frames, edited, with_edits, some_edit, dot_frames, pattern_frames, work_frames, worked, printing, print_frames, with_printed, run_line, is_range, is_place, between, sent, before, new_file, Tversion, Hversion, Hack, announcements, is_hidden, revealed}
 use Rattle.sam_protocol.specs.Crossing.{Line, Types, typed_in, commanded, changed, change_of, Sync}
 use Rattle.sam_protocol.proofs.Runs.{run-append_some}
 use Rattle.sam_protocol.proofs.Kept.{settled_slot, settled_opened, if_passes}
@@ -445,9 +445,6 @@ sync_send_by tools h f p q t fits d k was l l2 = command_case tools h (Tsend f p
       sound = line.sound;
     }
 
-pub sync_send : (tools : Tools) (ok : ToolsOk tools) (h : Host) (f p q : ℕ) (t : List ℕ) → h.done ≡ false → HostOk h → h.file f ≡ Opened t → p ≤ q → q ≤ length t → Sync tools h (Tsend f p q)
-sync_send tools ok h f p q t d k was l l2 = sync_send_by tools h f p q t (λ g k2 e. ok.meaning_fits (printing h (tools.with_newline (between p q t))) (tools.last_line (tools.with_newline (between p q t))) g k2 e) d k was l l2
-
 -- a line typed in tag 0
 pub sync_line_by : (tools : Tools) (h : Host) (p : ℕ) (s t : List ℕ) → LineFits tools (record h { file = put h.file 0 (Opened (inserted p s t)); clean = λ g. choose (g == 0) false (h.clean g) }) (tools.line_of (inserted p s t) (p + length s)) → h.done ≡ false → HostOk h → h.file 0 ≡ Opened t → p ≤ length t → length t + length s ≤ limit → ((0 == 0) && tools.ends_line s) ≡ true → Sync tools h (Ttype 0 p s)
 sync_line_by tools h p s t fits d k was l room ends = record {
@@ -500,9 +497,6 @@ sync_line_by tools h p s t fits d k was l room ends = record {
         subst (λ (y : Lens). IsKept (at_file g line.reply.frames) y line.reply.host.done line.reply.host.version (line.reply.host.file g)) (sym (ap (λ (b : Bool). changed (choose b (Line p s) (Types 0 p s)) g w) ends ∙ u.1))
         (subst (λ (b : Bool). IsKept (at_file g line.reply.frames) (lens true b h.version u.0) line.reply.host.done line.reply.host.version (line.reply.host.file g)) (sym d)
         (line.each g [] u.0 (stays_put [] false h.version u.0 (h2.file g) tt u.2)))
-
-pub sync_line : (tools : Tools) (ok : ToolsOk tools) (h : Host) (p : ℕ) (s t : List ℕ) → h.done ≡ false → HostOk h → h.file 0 ≡ Opened t → p ≤ length t → length t + length s ≤ limit → ((0 == 0) && tools.ends_line s) ≡ true → Sync tools h (Ttype 0 p s)
-sync_line tools ok h p s t d k was l room ends = sync_line_by tools h p s t (λ g k2 e. ok.meaning_fits (record h { file = put h.file 0 (Opened (inserted p s t)); clean = λ g. choose (g == 0) false (h.clean g) }) (tools.line_of (inserted p s t) (p + length s)) g k2 e) d k was l room ends
 
 -- Tstartnewfile
 new_there : (d : Bool) (n : ℕ) (s : Slot) → Fits_slot s Absent → Moves (Join ∷ Bind ∷ Needs_known ∷ []) d n s (Opened [])

@@ -1,11 +1,11 @@
 -- A command line's reply is that of the crossing's model.
-use Rattle.std.proofs.Common.{◌≡◌, ℕ, zero, suc, arith, ◌+◌, ◌-◌, ◌<◌, ◌≤◌, ◌≢◌, Bool, true, false, not, ◌&&◌, ◌||◌, if◌then◌else◌, ◌==◌, List, [], ◌∷◌, ◌++◌, length, map, reverse, Option, Some, None, is_some, ◌⊎◌, inl, inr, refl, sym, ap, ◌∙◌, subst, true≢false, eqb-true, eq-eqb, nat_le, nat_lt, append_assoc, le-leb}
+use Rattle.std.proofs.Common.{◌≡◌, ℕ, zero, suc, arith, ◌+◌, ◌-◌, ◌<◌, ◌≤◌, ◌≢◌, Bool, true, false, not, ◌&&◌, ◌||◌, if◌then◌else◌, ◌==◌, List, [], ◌∷◌, ◌++◌, length, map, reverse, Option, Some, None, is_some, refl, sym, ap, ◌∙◌, subst, true≢false, eq-eqb, nat_le, nat_lt, append_assoc, le-leb}
 use Rattle.std.specs.Prelude.{unwrap_or, flat_map}
 use Rattle.std.proofs.lemmas.Bool.{le-ltb, lt-ltb}
 use Rattle.std.proofs.lemmas.List.{length-reverse}
 use Rattle.sam_runes.specs.Texts.{is_empty, ins, part, line_start, max_runes, ends_line, as_lines, last_line}
-use Rattle.sam_runes.specs.Slots.{Slots, slot, put_slot}
-use Rattle.sam_runes.proofs.SlotLaws.{slot-put_same, slot-put_other, slot_given, length-put_slot}
+use Rattle.sam_runes.specs.Slots.{slot}
+use Rattle.sam_runes.proofs.SlotLaws.{slot-put_same, slot-put_other, length-put_slot}
 use Rattle.sam_runes.specs.declared.edit.Edit.{Edit}
 use Rattle.sam_text.specs.Meaning.{meaning}
 use Rattle.sam_text.specs.Files.{typed_file, is_printed, printed_file, has_room, PlainFile, PlainFiles, PlainOutcome, file_at, blank_file, file_after, put_outcome, committed, after_print, put_file}
@@ -20,7 +20,7 @@ use Rattle.sam_protocol.specs.Model.{Host, Answer, choose, put}
 use Rattle.sam_protocol.specs.View.{frame_of}
 use Rattle.sam_protocol.specs.Means.{Means}
 use Rattle.sam_protocol.specs.HostView.{file_of, file_in, edit_of, outcome_of, IsOpenAt, model_of, tools_of, Mirrors}
-use Rattle.sam_protocol.proofs.Mirror.{open_tests, test, last_test, place, range, the_text, model_opens, model_when, model_range, both, same_if, same_plain, alike_self, shown_there, maps, grown_frames, when_frames, open_at, within, put_opened, Alike, Same, Printed, printed_same, put_again, model_opened, is_opened, kept_length}
+use Rattle.sam_protocol.proofs.MirrorSteps.{open_tests, test, last_test, place, range, the_text, model_opens, model_when, model_range, both, same_if, same_plain, alike_self, shown_there, maps, grown_frames, when_frames, within, put_opened, Alike, Same, Printed, printed_same, put_again, model_opened, is_opened, kept_length}
 
 -- the host after a text was typed in tag 0, and the line that it runs
 abbrev pub typed_in : PlainHost → ℕ → List ℕ → PlainHost

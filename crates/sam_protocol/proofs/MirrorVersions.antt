@@ -1,23 +1,22 @@
 -- The answer to Tversion is that of the crossing's model.
-use Rattle.std.proofs.Common.{◌≡◌, ℕ, zero, suc, arith, ◌+◌, ◌-◌, ◌<◌, ◌≤◌, ◌≢◌, min, Bool, true, false, not, ◌&&◌, ◌||◌, if◌then◌else◌, ◌==◌, List, [], ◌∷◌, ◌++◌, length, map, drop, Option, Some, None, is_some, ◌⊎◌, inl, inr, refl, sym, ap, ◌∙◌, subst, true≢false, eqb-true, eq-eqb, nat_le, nat_lt, append_assoc, append-nil}
+use Rattle.std.proofs.Common.{◌≡◌, ℕ, zero, suc, arith, ◌+◌, ◌-◌, ◌<◌, min, Bool, true, false, not, if◌then◌else◌, ◌==◌, List, [], ◌∷◌, ◌++◌, length, map, drop, Option, Some, None, refl, sym, ap, ◌∙◌, eqb-true, nat_lt, append_assoc, append-nil}
 use Rattle.std.specs.Prelude.{option_map, unwrap_or}
 use Rattle.std.proofs.lemmas.Bool.{lt-ltb}
 use Rattle.sam_runes.specs.Texts.{common_version}
 use Rattle.sam_runes.specs.Slots.{Slots, slot, map_slots}
 use Rattle.sam_runes.proofs.SlotLaws.{slot-map, length-map_slots}
-use Rattle.sam_text.specs.Files.{PlainFile, PlainFiles, PlainOutcome, blank_file}
-use Rattle.sam_mesg.specs.declared.hmesg.Hmesg.{Hmesg}
+use Rattle.sam_text.specs.Files.{PlainFile, PlainOutcome, blank_file}
 use Rattle.sam_mesg.specs.declared.hmesg.Hmesg.TheVariants.{Hversion, Hnewname, Hmovname, Hack, Hunlock}
 use Rattle.sam_mesg.specs.declared.tmesg.Tmesg.TheVariants.{Tversion}
 use Rattle.sam_host.specs.declared.fault.HostFault.TheVariants.{BadVersion}
 use Rattle.sam_host.specs.Host.{PlainHost, when, told_names, announce_all, announced_file, reply_version}
-use Rattle.sam_protocol.specs.Lens.{HFile, Absent, Hidden, Named, Opened, Gone}
+use Rattle.sam_protocol.specs.Lens.{HFile, Hidden, Named, Opened}
 use Rattle.sam_protocol.specs.Model as P
 use Rattle.sam_protocol.specs.Model.{choose}
 use Rattle.sam_protocol.specs.View.{frame_of}
 use Rattle.sam_protocol.specs.Means.{OpenAnnounced}
-use Rattle.sam_protocol.specs.HostView.{file_of, file_of_slot, file_in, model_of, tools_of, Mirrors}
-use Rattle.sam_protocol.proofs.Mirror.{maps, when_frames, last_test, model_when}
+use Rattle.sam_protocol.specs.HostView.{file_of, file_of_slot, file_in, model_of, Mirrors}
+use Rattle.sam_protocol.proofs.MirrorSteps.{maps, when_frames, last_test, model_when}
 
 hidden_slot : Option PlainFile → Bool
 hidden_slot None = false

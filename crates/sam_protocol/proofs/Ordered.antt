@@ -1,9 +1,8 @@
 -- What follows for both sides where all is in order: no refusal, agreement where nothing is under way, and ahead of time.
-use Rattle.std.proofs.Common.{◌≡◌, ℕ, zero, suc, ◌+◌, ◌<◌, ◌≤◌, Bool, true, false, not, ◌&&◌, ◌||◌, ◌==◌, if◌then◌else◌, nat_lt, List, [], ◌∷◌, ◌++◌, length, map, Option, Some, None, is_some, Result, Ok, Err, ◌⊎◌, inl, inr, refl, sym, ap, ◌∙◌, subst, true≢false, eqb-true, append-nil, append_assoc, arith}
+use Rattle.std.proofs.Common.{◌≡◌, ℕ, suc, ◌+◌, Bool, true, false, not, ◌&&◌, ◌||◌, ◌==◌, if◌then◌else◌, nat_lt, List, [], ◌∷◌, ◌++◌, length, map, Option, Some, None, is_some, Ok, Err, ◌⊎◌, inl, inr, refl, sym, ap, ◌∙◌, subst, true≢false}
 use Rattle.std.specs.Prelude.{unwrap_or, drop, nat_le}
 use Rattle.sam_term.specs.declared.files.Unsent.{Unsent}
 use Rattle.std.proofs.lemmas.List.{map-append}
-use Rattle.std.proofs.lemmas.Bool.{le-ltb}
 use Rattle.sam_runes.specs.Texts.{Range, is_empty, max_runes, all_tags, most_in_pattern, most_count, as_lines, part, ends_line, common_version}
 use Rattle.sam_runes.specs.Slots.{Slots, slot}
 use Rattle.sam_runes.specs.Checks.{first_of_checks}
@@ -17,7 +16,7 @@ use Rattle.sam_mesg.specs.declared.hmesg.HFrame.{HFrame}
 use Rattle.sam_host.specs.Host.{PlainHost, Reply, Answer, answer, answer_unless, counted, stamped, host_checks, reply_to, reply_found, told_names, reply_version, reply_startcmdfile, reply_check, reply_request, reply_origin, reply_startfile, reply_workfile, reply_cut, reply_paste, reply_snarf, reply_startnewfile, reply_write, reply_close, reply_look, reply_search, reply_dclick, reply_startsnarf, reply_setsnarf, reply_exit, reply_type, reply_send, with_files}
 use Rattle.sam_host.specs.declared.fault.HostFault.{HostFault}
 use Rattle.sam_host.specs.declared.fault.HostFault.TheVariants as hostfault
-use Rattle.sam_term.specs.Term.{PlainTerminal, blank_known, blank_window, window_of, window_in, window_at, is_open, is_any_locked, unsent_message}
+use Rattle.sam_term.specs.Term.{PlainTerminal, blank_known, blank_window, window_of, window_in, is_open, is_any_locked, unsent_message}
 use Rattle.sam_term.specs.declared.files.Window.{Window}
 use Rattle.sam_term.specs.declared.files.KnownFile.{KnownFile}
 use Rattle.sam_protocol.specs.Lens as lenses
@@ -25,13 +24,13 @@ use Rattle.sam_protocol.specs.Lens.{Slot, Unknown, Known, Open, Lens, lens, Acti
 use Rattle.sam_protocol.specs.Model as P
 use Rattle.sam_protocol.specs.Model.{is_unlock, unlocks_command, VersionsGuarded}
 use Rattle.sam_protocol.specs.View.{slot_of_window, slot_of, view, frame_of}
-use Rattle.sam_protocol.specs.HostView.{file_of, file_of_slot, file_in}
-use Rattle.sam_protocol.specs.Fold.{replied, reply_of, replied_then, behind, answers, frames_at, Kept}
+use Rattle.sam_protocol.specs.HostView.{file_of_slot, file_in}
+use Rattle.sam_protocol.specs.Fold.{replied, reply_of, answers, frames_at}
 use Rattle.sam_protocol.specs.Order.{views, InOrder}
 use Rattle.sam_protocol.proofs.Runs.{no_unlock, same_version}
 use Rattle.sam_protocol.proofs.Kept.{kept_free}
 use Rattle.sam_protocol.proofs.Versions.{unlock_frames, no_changes}
-use Rattle.sam_protocol.proofs.Folds.{Answered, answered, HostTaken, host_takes}
+use Rattle.sam_protocol.proofs.Folds.{answered, host_takes}
 
 -- ## The host goes on
 
@@ -46,11 +45,10 @@ host_goes h t m up down o =
     let x = host_takes h (views t) m (up ++ unsent_message t.unsent) down o.kept in
     record { reply = x.reply; answers_it = x.answers_it; next = record { kept = x.kept; tidy = o.tidy; unsent = o.unsent } }
 
-pub msgs : List HFrame → List Hmesg
+abbrev pub msgs : List HFrame → List Hmesg
 msgs frames = map (λ (f : HFrame). f.msg) frames
 
 pub msgs_stamped : (n : ℕ) (ms : List Hmesg) → msgs (stamped n ms) ≡ ms
-unfolding msgs
 msgs_stamped n [] = refl
 msgs_stamped n (m ∷ ms) = ap (λ (l : List Hmesg). m ∷ l) (msgs_stamped n ms)
 

@@ -1,7 +1,7 @@
 -- The two messages that run a command line: from settled to settled, by the host's own answer.
-use Rattle.std.proofs.Common.{◌≡◌, ℕ, ◌+◌, ◌≤◌, Bool, true, false, ◌&&◌, ◌==◌, List, [], length, Option, Some, refl, sym, ap, ◌∙◌, subst}
+use Rattle.std.proofs.Common.{◌≡◌, ℕ, ◌+◌, ◌≤◌, true, false, ◌&&◌, ◌==◌, List, length, Some, refl, sym, ap, ◌∙◌, subst}
 use Rattle.sam_runes.specs.Texts.{max_runes, ins, ends_line, part, as_lines, last_line}
-use Rattle.sam_text.specs.Files.{PlainFile, PlainFiles, PlainOutcome, file_at, typed_file, AreFit}
+use Rattle.sam_text.specs.Files.{PlainFile, PlainFiles, file_at, typed_file, AreFit}
 use Rattle.sam_mesg.specs.declared.tmesg.Tmesg.TheVariants.{Ttype, Tsend}
 use Rattle.sam_host.specs.Host.{PlainHost}
 use Rattle.sam_text.specs.Meaning.{meaning}
@@ -14,7 +14,7 @@ use Rattle.sam_protocol.proofs.Lines as lines
 use Rattle.sam_protocol.specs.HostView.{file_in, model_of, tools_of, outcome_of, IsOpenAt}
 use Rattle.sam_protocol.specs.Synced.{Synced}
 use Rattle.sam_protocol.specs.Handled.{Ready}
-use Rattle.sam_protocol.proofs.Mirror.{slot_open, Printed, printed_same, open_at, put_opened, is_opened, the_text}
+use Rattle.sam_protocol.proofs.MirrorSteps.{slot_open, printed_same, open_at, put_opened, is_opened, the_text}
 use Rattle.sam_protocol.proofs.MirrorLines.{typed_in, line_typed, printed_with, WorkOk, mirror_line, mirror_send}
 use Rattle.sam_protocol.proofs.Syncing.{synced}
 use Rattle.sam_runes.specs.Slots.{slot}

@@ -1,7 +1,6 @@
 -- Messages that the terminal composes keep both sides in order.
-use Rattle.std.proofs.Common.{◌≡◌, ℕ, zero, suc, ◌+◌, ◌-◌, ◌≤◌, Bool, true, false, ◌&&◌, ◌==◌, if◌then◌else◌, List, [], ◌∷◌, ◌++◌, length, map, take, drop, Option, Some, None, ◌⊎◌, inl, inr, refl, sym, ap, ◌∙◌, subst, true≢false, eqb-true, eq-eqb, append-nil, append_assoc, arith}
+use Rattle.std.proofs.Common.{◌≡◌, ℕ, zero, suc, ◌+◌, ◌-◌, ◌≤◌, Bool, true, false, ◌==◌, if◌then◌else◌, List, [], ◌∷◌, ◌++◌, take, drop, Option, None, refl, sym, ap, ◌∙◌, subst, true≢false, append-nil, append_assoc, arith}
 use mathlib.Core.Path.{fun_ext}
-use Rattle.sam_runes.specs.Texts.{ends_line, max_runes}
 use Rattle.sam_rasp.specs.Rasp.{PartialText, place_after_del}
 use Rattle.sam_mesg.specs.declared.tmesg.Tmesg.{Tmesg}
 use Rattle.sam_mesg.specs.declared.tmesg.Tmesg.TheVariants.{Tversion, Tstartcmdfile, Tcheck, Trequest, Torigin, Tstartfile, Tworkfile, Ttype, Tcut, Tpaste, Tsnarf, Tstartnewfile, Twrite, Tclose, Tlook, Tsearch, Tsend, Tdclick, Tstartsnarf, Tsetsnarf, Tack, Texit}
@@ -10,16 +9,15 @@ use Rattle.sam_host.specs.Host.{PlainHost}
 use Rattle.sam_term.specs.declared.lock.Lock.TheVariants.{CommandLock, NoLock}
 use Rattle.sam_term.specs.Locks.{lock_of, is_command_line}
 use Rattle.sam_term.specs.Term.{PlainTerminal, Made, window_at, put_window, window_after_del, moved_unsent, del_rasp, composed, flushed, unsent_message, and_then, sends, unchanged}
-use Rattle.sam_term.specs.declared.files.Window.{Window}
 use Rattle.sam_term.specs.declared.files.Unsent.{Unsent}
-use Rattle.sam_protocol.specs.Lens.{Slot, Unknown, Known, Open, Lens, lens, IsFree, IsOpen, exited_of, command_of}
+use Rattle.sam_protocol.specs.Lens.{Unknown, Known, Open, Lens, lens, IsFree, IsOpen, exited_of, command_of}
 use Rattle.sam_protocol.specs.Model.{choose}
-use Rattle.sam_protocol.specs.Crossing.{cut_out, changed, OpenAt, KnownAt, Anything, Within}
+use Rattle.sam_protocol.specs.Crossing.{cut_out, changed, OpenAt, Anything, Within}
 use Rattle.sam_protocol.specs.View.{view}
 use Rattle.sam_protocol.specs.Synced.{change_by}
 use Rattle.sam_protocol.specs.Fold.{Kept, IsAllowed, CanCompose}
 use Rattle.sam_protocol.specs.Order.{AreTidy, IsHeldBack, views, InOrder}
-use Rattle.sam_protocol.proofs.Folds.{kept_views, bool_cases}
+use Rattle.sam_protocol.proofs.Folds.{kept_views}
 use Rattle.sam_protocol.proofs.Composing.{composes}
 use Rattle.sam_protocol.proofs.Views.{view-made, view-open, lock_change, LockOpens, view-composed, unsent-composed, view-flushed, unsent-flushed, tidy-composed, tidy-flushed, tidy-window}
 use Rattle.sam_protocol.proofs.Dots.{tidy-del}
@@ -166,10 +164,6 @@ cut_one h t up down f p q o e may =
     (composes h (views t) (up ++ unsent_message t.unsent) down (Tcut f p q) o.kept may.here may.free may.allowed may.can)
     (λ g. sym (cut_view t f p q (open_is (Within p q) (view f t) may.can) within.0 g))
     (tidy-window t f (window_after_del (window_at t f) p q) o.tidy (tidy-del (window_at t f) p q (o.tidy f) within.0 within.1))
-
--- what is shown after a cut
-pub record WasCut (t u : PlainTerminal) (f p q : ℕ) : Type 0 where
-  pub shows : (g : ℕ) → view g u ≡ choose (g == f) (cut_out p q (view g t)) (view g t)
 
 pub exited_cut : (b : Bool) (p q : ℕ) (v : Lens) → exited_of (choose b (cut_out p q v) v) ≡ exited_of v
 exited_cut true p q (lens c e n Unknown) = refl

@@ -1,19 +1,18 @@
 -- The first host, a new terminal and nothing under way are in order.
-use Rattle.std.proofs.Common.{◌≡◌, ℕ, zero, suc, ◌-◌, ◌<◌, ◌≤◌, Bool, true, false, if◌then◌else◌, nat_lt, List, [], ◌∷◌, length, Option, Some, None, refl, sym, ap, ◌∙◌, subst, true≢false, arith}
+use Rattle.std.proofs.Common.{◌≡◌, ℕ, zero, suc, ◌-◌, ◌<◌, ◌≤◌, Bool, true, false, if◌then◌else◌, nat_lt, List, [], ◌∷◌, length, Option, Some, None, refl, sym, ◌∙◌, true≢false, arith}
 use Rattle.std.specs.Prelude.{unwrap_or}
 use Rattle.std.proofs.lemmas.Bool.{le-ltb}
-use Rattle.sam_runes.specs.Texts.{max_runes}
 use Rattle.sam_runes.specs.Slots.{Slots, slot}
 use Rattle.sam_runes.proofs.SlotLaws.{slot_past}
 use Rattle.sam_text.specs.Files.{PlainFile, blank_file}
-use Rattle.sam_host.specs.Host.{PlainHost, new_host, given_file, given_slots, command_name}
+use Rattle.sam_host.specs.Host.{PlainHost, new_host, given_slots}
 use Rattle.sam_host.specs.Laws.{AreGiven}
 use Rattle.sam_host.proofs.SoundLaws.{starts_sound}
 use Rattle.sam_term.specs.Term.{new_terminal}
-use Rattle.sam_protocol.specs.Lens.{HFile, Absent, Hidden, Named, Opened, Gone, Unknown, Fits_slot, IsKept}
-use Rattle.sam_protocol.specs.Model.{FilesOk, text_of}
+use Rattle.sam_protocol.specs.Lens.{Absent, Hidden, Named, Opened, Unknown, Fits_slot}
+use Rattle.sam_protocol.specs.Model.{text_of}
 use Rattle.sam_protocol.specs.View.{view}
-use Rattle.sam_protocol.specs.HostView.{file_of, file_of_slot, file_in, model_of}
+use Rattle.sam_protocol.specs.HostView.{file_of_slot, file_in}
 use Rattle.sam_protocol.specs.Handled.{IsSteady}
 use Rattle.sam_protocol.specs.Fold.{Kept}
 use Rattle.sam_protocol.specs.Order.{views, InOrder}

@@ -1,5 +1,5 @@
 -- What holds of every host lasts under each message that is not refused.
-use Rattle.std.proofs.Common.{◌≡◌, ◌≢◌, ◌⊎◌, ℕ, zero, suc, ◌+◌, ◌<◌, ◌≤◌, List, [], ◌∷◌, ◌++◌, length, Bool, true, false, not, ◌&&◌, ◌||◌, ◌==◌, if◌then◌else◌, cond, Option, Some, None, nat_eq, nat_le, nat_lt, inl, inr, refl, sym, ap, ◌∙◌, subst, true≢false, arith}
+use Rattle.std.proofs.Common.{◌≡◌, ◌≢◌, ◌⊎◌, ℕ, zero, suc, ◌+◌, List, [], ◌∷◌, length, Bool, true, false, not, ◌&&◌, ◌||◌, ◌==◌, if◌then◌else◌, Option, Some, None, nat_eq, nat_le, nat_lt, inl, inr, refl, sym, ap, ◌∙◌, subst, true≢false, arith}
 use Rattle.std.specs.Prelude.{unwrap_or, option_map, ◌-◌}
 use Rattle.std.proofs.lemmas.Bool.Decides.{eqb_tells}
 use Rattle.sam_runes.specs.Texts.{Range, max_runes, most_in_pattern, all_tags, line_start, last_line, is_empty, searched, word_at, as_lines, part, ends_line}
@@ -8,17 +8,17 @@ use Rattle.sam_runes.proofs.SlotLaws.{slot-map, slot-put_same, slot-put_other, s
 use Rattle.sam_text.specs.Files.{PlainFile, PlainFiles, PlainOutcome, blank_file, file_at, put_file, typed_file, cut_file, pasted_file, has_room, is_printed, after_print, printed_file, file_after, put_outcome, committed}
 use Rattle.sam_text.specs.Meaning.{meaning}
 use Rattle.sam_host.proofs.HostFits.{reply_fits}
-use Rattle.sam_host.specs.Host.{PlainHost, Reply, when, grown, printed, told_length, command_name, announced_file, announce_all, new_file, with_file, with_files, reply_version, reply_startcmdfile, reply_check, reply_request, reply_origin, reply_startfile, reply_workfile, reply_cut, reply_paste, reply_snarf, reply_startnewfile, reply_write, reply_close, reply_found, reply_look, reply_search, searched_for, reply_dclick, reply_startsnarf, reply_setsnarf, reply_exit, reply_line, reply_type, reply_send, reply_to, no_tag_left}
+use Rattle.sam_host.specs.Host.{PlainHost, Reply, printed, announced_file, announce_all, new_file, with_file, with_files, reply_version, reply_startcmdfile, reply_check, reply_request, reply_origin, reply_startfile, reply_workfile, reply_cut, reply_paste, reply_snarf, reply_startnewfile, reply_write, reply_close, reply_found, reply_look, reply_search, searched_for, reply_dclick, reply_startsnarf, reply_setsnarf, reply_exit, reply_line, reply_type, reply_send, reply_to, no_tag_left}
 use Rattle.sam_mesg.specs.declared.tmesg.Tmesg.{Tmesg}
 use Rattle.sam_mesg.specs.declared.hmesg.Hmesg.{Hmesg}
-use Rattle.sam_mesg.specs.declared.hmesg.Hmesg.TheVariants.{Hunlock, Hunlockfile, Hnewname, Hmovname, Hbindname, Hcurrent, Hdirty, Hsetdot, Hcheck, Hsetpat}
+use Rattle.sam_mesg.specs.declared.hmesg.Hmesg.TheVariants.{Hsetpat}
 use Rattle.sam_mesg.specs.declared.tmesg.Tmesg.TheVariants.{Tversion, Tstartcmdfile, Tcheck, Trequest, Torigin, Tstartfile, Tworkfile, Ttype, Tcut, Tpaste, Tsnarf, Tstartnewfile, Twrite, Tclose, Tlook, Tsearch, Tsend, Tdclick, Tstartsnarf, Tsetsnarf, Tack, Texit}
 use Rattle.sam_protocol.specs.Lens.{Named, Opened}
-use Rattle.sam_protocol.specs.HostView.{file_in, model_of}
+use Rattle.sam_protocol.specs.HostView.{file_in}
 use Rattle.sam_protocol.specs.Means.{OpenAnnounced, AllOpenAnnounced}
 use Rattle.sam_protocol.specs.Synced.{Synced}
 use Rattle.sam_protocol.specs.Handled.{Accepted, IsSteady, Ready}
-use Rattle.sam_protocol.proofs.Mirror.{OpenThere, slot_open, IsAt, some_at, closed_file, shown_there, at_there}
+use Rattle.sam_protocol.proofs.MirrorSteps.{OpenThere, slot_open, some_at, closed_file, shown_there, at_there}
 
 -- ## Open files were announced
 

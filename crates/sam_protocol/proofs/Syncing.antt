@@ -1,11 +1,11 @@
 -- What mirrors a message of the crossing's model carries its proof over to the host itself.
-use Rattle.std.proofs.Common.{◌≡◌, ◌⊎◌, inl, inr, true, ℕ, Bool, false, List, [], map, Option, Some, refl, sym, ap, ◌∙◌, subst}
+use Rattle.std.proofs.Common.{◌≡◌, ◌⊎◌, inl, inr, true, ℕ, Bool, false, List, [], map, Some, refl, sym, ap, ◌∙◌, subst}
 use mathlib.Core.Path.{fun_ext}
-use Rattle.sam_text.specs.Files.{PlainFiles, PlainOutcome}
+use Rattle.sam_text.specs.Files.{PlainOutcome}
 use Rattle.sam_mesg.specs.declared.tmesg.Tmesg.{Tmesg}
 use Rattle.sam_mesg.specs.declared.tmesg.Tmesg.TheVariants.{Tversion, Tstartcmdfile, Tcheck, Trequest, Torigin, Tstartfile, Tworkfile, Ttype, Tcut, Tpaste, Tsnarf, Tstartnewfile, Twrite, Tclose, Tlook, Tsearch, Tsend, Tdclick, Tstartsnarf, Tsetsnarf, Tack, Texit}
 use Rattle.sam_host.specs.Host.{PlainHost, reply_to}
-use Rattle.sam_protocol.specs.Lens.{Lens, HFile, Gone, IsSettled, IsKept}
+use Rattle.sam_protocol.specs.Lens.{Lens, HFile, IsKept}
 use Rattle.sam_protocol.specs.Model as P
 use Rattle.sam_protocol.specs.Model.{Answer, at_file, HostOk, FilesOk, choose, VersionsGuarded, unlocks_command}
 use Rattle.sam_protocol.proofs.Versions.{answer_good}

@@ -1,29 +1,29 @@
 -- Typing keeps both sides in order, whether its runes are held back, joined to those held back, or sent at once.
-use Rattle.std.proofs.Common.{◌≡◌, ℕ, ◌+◌, ◌-◌, ◌≤◌, Bool, true, false, ◌&&◌, ◌==◌, if◌then◌else◌, nat_le, List, [], ◌∷◌, ◌++◌, length, map, Option, Some, None, ◌⊎◌, inl, inr, refl, sym, ap, ◌∙◌, subst, true≢false, eqb-true, eq-eqb, append-nil, append_assoc, arith}
+use Rattle.std.proofs.Common.{◌≡◌, ℕ, ◌+◌, ◌≤◌, Bool, true, false, ◌&&◌, ◌==◌, if◌then◌else◌, nat_le, List, [], ◌∷◌, ◌++◌, length, map, Option, Some, None, refl, sym, ap, ◌∙◌, subst, true≢false, eqb-true, eq-eqb, append-nil, arith}
 use Rattle.std.proofs.lemmas.List.{length-map}
 use Rattle.sam_runes.specs.Texts.{ends_line, max_runes, most_in_message}
 use Rattle.sam_runes.proofs.PlaceLaws.{ends_line-append}
-use Rattle.sam_rasp.specs.Rasp.{PartialText, place_after_ins}
+use Rattle.sam_rasp.specs.Rasp.{place_after_ins}
 use Rattle.sam_mesg.specs.declared.tmesg.Tmesg.{Tmesg}
 use Rattle.sam_mesg.specs.declared.tmesg.Tmesg.TheVariants.{Ttype}
 use Rattle.sam_mesg.specs.declared.hmesg.Hmesg.{Hmesg}
 use Rattle.sam_host.specs.Host.{PlainHost}
 use Rattle.sam_term.specs.declared.lock.Lock.TheVariants.{CommandLock, NoLock}
-use Rattle.sam_term.specs.Locks.{lock_of, is_command_line}
-use Rattle.sam_term.specs.Term.{PlainTerminal, Made, lock_taken, window_at, put_window, window_after_ins, moved_unsent, ins_rasp, typed_rasp, joins, joined, kept_unsent, types, composed, all_composed, flushed, unsent_message, and_then}
+use Rattle.sam_term.specs.Locks.{is_command_line}
+use Rattle.sam_term.specs.Term.{PlainTerminal, Made, lock_taken, window_at, window_after_ins, moved_unsent, ins_rasp, typed_rasp, joins, joined, types, composed, all_composed, flushed, unsent_message, and_then}
 use Rattle.sam_term.specs.declared.files.Window.{Window}
 use Rattle.sam_term.specs.declared.files.Unsent.{Unsent}
 use Rattle.sam_protocol.specs.Lens.{Unknown, Known, Open, Lens, lens, IsOpen}
 use Rattle.sam_protocol.specs.Model.{choose}
-use Rattle.sam_protocol.specs.Crossing.{Change, Types, Line, typed_in, commanded, changed, OpenAt, Anything}
+use Rattle.sam_protocol.specs.Crossing.{Types, Line, typed_in, commanded, changed, OpenAt, Anything}
 use Rattle.sam_protocol.specs.View.{view}
 use Rattle.sam_protocol.specs.Synced.{change_by}
 use Rattle.sam_protocol.specs.Fold.{Kept}
 use Rattle.sam_protocol.specs.Order.{AreTidy, IsHeldBack, views, InOrder}
-use Rattle.sam_protocol.proofs.Folds.{kept_views, bool_cases}
+use Rattle.sam_protocol.proofs.Folds.{kept_views}
 use Rattle.sam_protocol.proofs.Joins as fold
 use Rattle.sam_protocol.proofs.Composing.{composes}
-use Rattle.sam_protocol.proofs.Views.{view-window, view-made, view-kept, view-open, window-put, unsent-composed, tidy-composed, view-flushed, tidy-flushed, tidy-window}
+use Rattle.sam_protocol.proofs.Views.{view-made, view-kept, window-put, unsent-composed, tidy-composed, view-flushed, tidy-flushed, tidy-window}
 use Rattle.sam_protocol.proofs.Dots.{length-ins_cells, unmoved, tidy-ins}
 use Rattle.sam_protocol.proofs.Sending.{Goes, then_goes, MaySend, open_is, has_open}
 

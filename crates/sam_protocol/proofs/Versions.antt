@@ -1,8 +1,7 @@
 -- The two sides have the same version wherever the command lock is free.
-use Rattle.std.proofs.Common.{◌≡◌, ℕ, zero, suc, ◌+◌, ◌-◌, Bool, true, false, not, ◌||◌, ◌&&◌, ◌==◌, List, [], ◌∷◌, ◌++◌, length, map, Option, Some, None, ◌⊎◌, inl, inr, refl, sym, ap, ◌∙◌, subst, true≢false, nat_le}
-use Rattle.sam_protocol.proofs.Answering.{answered}
+use Rattle.std.proofs.Common.{◌≡◌, ℕ, zero, suc, ◌+◌, ◌-◌, Bool, true, false, not, ◌||◌, ◌&&◌, ◌==◌, List, [], ◌∷◌, ◌++◌, length, map, Option, Some, None, ◌⊎◌, inl, inr, refl, sym, ◌∙◌, subst, true≢false, nat_le}
 use Rattle.sam_protocol.specs.Lens.{Bind, Needs_known, Needs_open, Join, Grow, Fill, Place, Free_file, Insert, Cut, Leave, Close, limit, HFile, Absent, Hidden, Named, Opened, Gone, Action, is_change, changes, is_free_command, frees_command}
-use Rattle.sam_protocol.specs.Model.{Tmesg, Tversion, Tstartcmdfile, Tcheck, Trequest, Torigin, Tstartfile, Tworkfile, Ttype, Tcut, Tpaste, Tsnarf, Tstartnewfile, Twrite, Tclose, Tlook, Tsearch, Tsend, Tdclick, Tstartsnarf, Tsetsnarf, Tack, Texit, Hmesg, Hversion, Hbindname, Hcurrent, Hnewname, Hmovname, Hgrow, Hcheck, Hunlock, Hdata, Horigin, Hunlockfile, Hsetdot, Hgrowdata, Hmoveto, Hclean, Hdirty, Hcut, Hsetpat, Hdelname, Hclose, Hsetsnarf, Hsnarflen, Hack, Hexit, action, only, Host, Answer, Tools, Edit, Outcome, answer, answer_open, answers, choose, reply, on_open, when, is_place, is_range, between, before, grown_by, grown_to, cut_by, edit_frames, some_edit, dot_frames, pattern_frames, work_frames, worked, print_frames, printing, run_line, sent, sent_line, announcements, requested, started, cmd_started, found, searched, pasted, is_unlock, unlocks_command, is_version, VersionsGuarded, text_of, inserted, put}
+use Rattle.sam_protocol.specs.Model.{Tmesg, Tversion, Tstartcmdfile, Tcheck, Trequest, Torigin, Tstartfile, Tworkfile, Ttype, Tcut, Tpaste, Tsnarf, Tstartnewfile, Twrite, Tclose, Tlook, Tsearch, Tsend, Tdclick, Tstartsnarf, Tsetsnarf, Tack, Texit, Hmesg, Hversion, Hbindname, Hcurrent, Hnewname, Hmovname, Hgrow, Hcheck, Hunlock, Hdata, Horigin, Hunlockfile, Hsetdot, Hgrowdata, Hmoveto, Hclean, Hdirty, Hcut, Hsetpat, Hdelname, Hclose, Hsetsnarf, Hsnarflen, Hack, Hexit, action, only, Host, Answer, Tools, Edit, Outcome, answer, answer_open, choose, reply, on_open, when, is_place, is_range, between, before, grown_by, grown_to, cut_by, edit_frames, some_edit, dot_frames, pattern_frames, work_frames, worked, print_frames, printing, run_line, sent, sent_line, announcements, requested, started, cmd_started, found, searched, pasted, is_unlock, unlocks_command, is_version, VersionsGuarded, text_of, inserted, put}
 
 -- no Hversion among them
 abbrev pub IsPlain : List Hmesg → Type 0
@@ -50,9 +49,6 @@ record Good (h : Host) (x : Option Answer) : Type 0 where
 
 good_reply : (h k : Host) (fs : List Hmesg) → VersionsGuarded fs × ((k.version ≡ h.version) ⊎ (unlocks_command fs ≡ true)) → Good h (reply k fs)
 good_reply h k fs g = record { good = g }
-
-plain_good : (h k : Host) (fs : List Hmesg) → k.version ≡ h.version → IsPlain fs → Good h (reply k fs)
-plain_good h k fs e p = record { good = (plain_guarded fs p, inl e) }
 
 open_good : (h : Host) (file : HFile) (k : List ℕ → Option Answer) → ((t : List ℕ) → Good h (k t)) → Good h (on_open file k)
 open_good h Absent k g = record { good = tt }
@@ -314,30 +310,3 @@ no_changes g fs v e = changes_frames g fs ∙ none fs v e
   where
     none : (fs : List Hmesg) → VersionsGuarded fs → unlocks_command fs ≡ false → has_version fs ≡ false
     none fs v e = no_version fs v e
-
--- the version of the host, once it has answered with no Hunlock, is what it was
-pub answers_version : (tools : Tools) (ms : List Tmesg) (h : Host) (a : Answer) → answers tools h ms ≡ Some a → unlocks_command a.frames ≡ false → a.host.version ≡ h.version
-answers_version tools [] h a e u = let q : record { host = h; frames = [] } ≡ a = the_answer e in sym (ap (λ (x : Answer). x.host.version) q)
-  where
-    the_answer : {p q : Answer} → Some p ≡ Some q → p ≡ q
-    the_answer e = cc
-answers_version tools (m ∷ ms) h a e u =
-    let t = answered tools h m ms a e in
-    let none : unlocks_command (t.first.frames ++ t.rest.frames) ≡ false = ap (λ (x : Answer). unlocks_command x.frames) (sym t.whole) ∙ u in
-    let p = none_of t.first.frames t.rest.frames none in
-    ap (λ (x : Answer). x.host.version) t.whole ∙ answers_version tools ms t.first.host t.rest t.later p.1 ∙ first t.first.frames (answer_good tools h m t.first t.now).1 p.0
-  where
-    none_of : (x y : List Hmesg) → unlocks_command (x ++ y) ≡ false → (unlocks_command x ≡ false) × (unlocks_command y ≡ false)
-    none_of x y e = (contra (unlocks_command x) refl, contra2 (unlocks_command y) refl)
-      where
-        contra : (b : Bool) → unlocks_command x ≡ b → b ≡ false
-        contra true q = absurd (true≢false (sym (unlocks-append x y q) ∙ e))
-        contra false q = refl
-
-        contra2 : (b : Bool) → unlocks_command y ≡ b → b ≡ false
-        contra2 true q = absurd (true≢false (sym (unlocks_behind x y q) ∙ e))
-        contra2 false q = refl
-
-    first : {n k : ℕ} (x : List Hmesg) → (n ≡ k) ⊎ (unlocks_command x ≡ true) → unlocks_command x ≡ false → n ≡ k
-    first x (inl q) z = q
-    first x (inr q) z = absurd (true≢false (sym q ∙ z))

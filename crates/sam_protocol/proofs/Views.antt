@@ -1,10 +1,8 @@
 -- What of the terminal concerns one file, after its steps of composing.
-use Rattle.std.proofs.Common.{◌≡◌, ◌≢◌, ℕ, zero, suc, ◌+◌, ◌-◌, ◌≤◌, Bool, true, false, ◌&&◌, ◌==◌, if◌then◌else◌, nat_lt, List, [], ◌∷◌, ◌++◌, length, map, Option, Some, None, is_some, ◌⊎◌, inl, inr, refl, sym, ap, ◌∙◌, subst, true≢false, eqb-true, eq-eqb, arith}
+use Rattle.std.proofs.Common.{◌≡◌, ◌≢◌, ℕ, suc, ◌+◌, Bool, true, false, ◌==◌, if◌then◌else◌, List, Option, Some, None, ◌⊎◌, inl, inr, refl, sym, ap, ◌∙◌, subst, true≢false, eqb-true, eq-eqb, arith}
 use Rattle.std.specs.Prelude.{unwrap_or}
-use Rattle.sam_runes.specs.Texts.{ends_line}
-use Rattle.sam_runes.specs.Slots.{Slots, slot, put_slot}
+use Rattle.sam_runes.specs.Slots.{slot, put_slot}
 use Rattle.sam_runes.proofs.SlotLaws.{slot-put_same, slot-put_other}
-use Rattle.sam_rasp.specs.Rasp.{PartialText}
 use Rattle.sam_mesg.specs.declared.tmesg.Tmesg.{Tmesg}
 use Rattle.sam_mesg.specs.declared.tmesg.Tmesg.TheVariants.{Tversion, Tstartcmdfile, Tcheck, Trequest, Torigin, Tstartfile, Tworkfile, Ttype, Tcut, Tpaste, Tsnarf, Tstartnewfile, Twrite, Tclose, Tlook, Tsearch, Tsend, Tdclick, Tstartsnarf, Tsetsnarf, Tack, Texit}
 use Rattle.sam_term.specs.declared.lock.Lock.{Lock}
@@ -15,9 +13,9 @@ use Rattle.sam_term.specs.declared.files.Window.{Window}
 use Rattle.sam_term.specs.declared.files.KnownFile.{KnownFile}
 use Rattle.sam_term.specs.declared.files.Unsent.{Unsent}
 use Rattle.sam_term.proofs.TermLaws.{known-put}
-use Rattle.sam_protocol.specs.Lens.{Slot, Unknown, Known, Open, Lens, lens, IsFree, IsOpen, locked_more}
+use Rattle.sam_protocol.specs.Lens.{Slot, Unknown, Known, Open, Lens, lens, IsOpen, locked_more}
 use Rattle.sam_protocol.specs.Model.{choose}
-use Rattle.sam_protocol.specs.Crossing.{Change, commanded, changed, OpenAt, Anything}
+use Rattle.sam_protocol.specs.Crossing.{commanded}
 use Rattle.sam_protocol.specs.View.{slot_of_window, slot_of, view}
 use Rattle.sam_protocol.specs.Order.{IsTidyWindow, AreTidy, IsHeldBack, views}
 use Rattle.sam_protocol.proofs.Folds.{bool_cases}

@@ -1,16 +1,13 @@
 -- A message that the crossing lets come to the host, and what the host then owes.
-use Rattle.std.specs.Prelude.{◌≡◌, ℕ, ◌+◌, ◌<◌, ◌≤◌, Bool, true, false, ◌&&◌, ◌==◌, List, [], ◌∷◌, length, Option, None, Some, ◌⊎◌}
-use Rattle.sam_runes.specs.Texts.{ends_line}
-use Rattle.sam_runes.specs.Slots.{Slots}
-use Rattle.sam_text.specs.Files.{PlainFile, PlainFiles, PlainOutcome, AreFit}
+use Rattle.std.specs.Prelude.{◌≡◌, ℕ, ◌+◌, ◌<◌, ◌≤◌, false, ◌==◌, List, [], length, None, ◌⊎◌}
+use Rattle.sam_text.specs.Files.{PlainOutcome, AreFit}
 use Rattle.sam_mesg.specs.declared.tmesg.Tmesg.{Tmesg}
 use Rattle.sam_mesg.specs.declared.tmesg.Tmesg.TheVariants.{Tversion, Tstartcmdfile, Tcheck, Trequest, Torigin, Tstartfile, Tworkfile, Ttype, Tcut, Tpaste, Tsnarf, Tstartnewfile, Twrite, Tclose, Tlook, Tsearch, Tsend, Tdclick, Tstartsnarf, Tsetsnarf, Tack, Texit}
 use Rattle.sam_host.specs.Host.{PlainHost}
 use Rattle.sam_protocol.specs.Lens.{limit, Named, Opened}
-use Rattle.sam_protocol.specs.Model.{HostOk, ToolsOk, EditsFit, RangeFits, edited}
-use Rattle.sam_protocol.specs.HostView.{file_in, model_of, outcome_of, tools_of}
-use Rattle.sam_protocol.specs.Synced.{Synced}
-use Rattle.sam_protocol.specs.Means.{Means, AllOpenAnnounced}
+use Rattle.sam_protocol.specs.Model.{HostOk}
+use Rattle.sam_protocol.specs.HostView.{file_in, model_of}
+use Rattle.sam_protocol.specs.Means.{AllOpenAnnounced}
 
 -- the file is open at the host, with such a text
 abbrev pub Open : PlainHost → ℕ → (List ℕ → Type 0) → Type 0

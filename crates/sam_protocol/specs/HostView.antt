@@ -1,13 +1,13 @@
 -- The host and its messages, as the crossing of messages sees them.
-use Rattle.std.specs.Prelude.{◌≡◌, ℕ, suc, ◌+◌, ◌-◌, Bool, true, false, not, if◌then◌else◌, ◌==◌, nat_lt, List, [], ◌∷◌, length, map, reverse, Option, Some, None, is_some}
+use Rattle.std.specs.Prelude.{◌≡◌, ℕ, ◌-◌, Bool, true, false, not, if◌then◌else◌, nat_lt, List, length, map, reverse, Option, Some, None, is_some}
 use Rattle.sam_runes.specs.Texts.{part, as_lines, ends_line, last_line, line_start, lines_before, searched, word_at}
 use Rattle.sam_runes.specs.Slots.{Slots, slot}
 use Rattle.sam_runes.specs.Checks.{first_of_checks}
 use Rattle.sam_runes.specs.declared.edit.Edit.{Edit}
-use Rattle.sam_text.specs.Files.{PlainFile, PlainFiles, PlainOutcome, file_at}
+use Rattle.sam_text.specs.Files.{PlainFile, PlainOutcome, file_at}
 use Rattle.sam_mesg.specs.declared.tmesg.Tmesg.{Tmesg}
 use Rattle.sam_mesg.specs.declared.tmesg.Tmesg.TheVariants.{Tversion, Tstartcmdfile, Tcheck, Trequest, Torigin, Tstartfile, Tworkfile, Ttype, Tcut, Tpaste, Tsnarf, Tstartnewfile, Twrite, Tclose, Tlook, Tsearch, Tsend, Tdclick, Tstartsnarf, Tsetsnarf, Tack, Texit}
-use Rattle.sam_host.specs.Host.{PlainHost, Reply, host_checks, reply_to, no_tag_left}
+use Rattle.sam_host.specs.Host.{PlainHost, host_checks, reply_to, no_tag_left}
 use Rattle.sam_protocol.specs.Lens.{HFile, Absent, Hidden, Named, Opened, Gone}
 use Rattle.sam_protocol.specs.Model as P
 use Rattle.sam_protocol.specs.Model.{Host, Tools, answer_open}

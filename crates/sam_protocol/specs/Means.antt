@@ -1,6 +1,5 @@
 -- What the meaning of a line owes, and which files are announced.
-use Rattle.std.specs.Prelude.{◌≡◌, ℕ, suc, true, List, [], ◌∷◌, map, reverse, unwrap_or, Option, Some, None}
-use Rattle.sam_runes.specs.Slots.{Slots}
+use Rattle.std.specs.Prelude.{◌≡◌, ℕ, suc, true, [], map, reverse, unwrap_or, Some, None}
 use Rattle.sam_text.specs.Files.{PlainFile, PlainFiles, PlainOutcome, file_at}
 use Rattle.sam_protocol.specs.Model as P
 use Rattle.sam_protocol.specs.HostView.{edit_of}

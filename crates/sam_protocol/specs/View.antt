@@ -1,5 +1,5 @@
 -- The terminal and its frames, as the crossing of messages sees them.
-use Rattle.std.specs.Prelude.{◌≡◌, ℕ, Bool, true, false, if◌then◌else◌, ◌==◌, List, [], ◌∷◌, Option, Some, None}
+use Rattle.std.specs.Prelude.{◌≡◌, ℕ, if◌then◌else◌, ◌==◌, Option, Some, None}
 use Rattle.sam_runes.specs.Texts.{common_version}
 use Rattle.sam_runes.specs.Slots.{slot}
 use Rattle.sam_runes.specs.Checks.{first_of_checks}
