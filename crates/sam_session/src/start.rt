@@ -1,18 +1,25 @@
 //! The host that the program begins with.
-//!
-//! Pending: sam_host is to make this host. Until it does none is made here, and the program wants memory.
 
 ghost use Rattle.std.specs.Prelude.{◌≡◌, ◌≤◌, IfOk, length};
 ghost use Rattle.sam_runes.specs.Texts.{max_runes};
 ghost use Rattle.sam_session.specs.Start.{host_of};
 
+use sam_host::fault::HostFault;
 use sam_host::host::Host;
-use std::alloc::{AllocError, Global};
+use sam_runes::{Runes, Text};
+use std::alloc::Global;
 
 /// The host whose file 1 is named `file` and holds the text.
-pub(crate) fn first_host(_alloc: Global, _text: &[char]) -> Result<Host, AllocError>
-    requires { length _text.now ≤ max_runes }
-    ensures { IfOk result (λ h. h ≡ host_of _text.now) }
+#[tactic(auto, unfolding(crate::specs::Start::host_of))]
+pub(crate) fn first_host(alloc: Global, text: &[char]) -> Result<Host, HostFault>
+    requires { length text.now ≤ max_runes }
+    ensures { IfOk result (λ h. h ≡ host_of text.now) }
 {
-    Err(AllocError)
+    let name = Runes::from_slice(alloc, &['f', 'i', 'l', 'e'])?;
+    let Ok(text) = Text::from_runes(alloc, text) else {
+        return Err(HostFault::OutOfMemory);
+    };
+    let mut files = Vec::with_capacity(alloc, 1)?;
+    files.push((name, text))?;
+    Host::new(alloc, files)
 }

@@ -1,6 +1,9 @@
-//! The program's words and statuses.
-use crate::{ArgFault, Mode, PlayFault, Stop, mode_of, status_of};
+//! The program's words, and rows of input with their output, over readers and writers that give little, or fail.
+use crate::{ArgFault, Mode, PlayFault, Stop, mode_of, play, play_bytes, status_of};
+use sam_runes::Runes;
 use std::alloc::{AllocError, Global};
+use std::io;
+use std::io::{ErrorKind, Read, Write};
 use std::test::Fail;
 
 /// The words of a line, parted by `|`.
@@ -56,4 +59,223 @@ fn each_end_has_its_status(rt: HostRuntime) {
     for (end, status) in wanted {
         assert_eq!(rt; status_of(&end), status);
     }
+}
+
+/// Gives one byte a read, and fails at its nth read, counted from 0.
+#[derive(Drop)]
+struct Drip<'a> {
+    bytes: &'a [u8],
+    fails_at: usize,
+}
+
+impl Read for Drip<'_> {
+    fn read(&mut self, buffer: &mut [u8]) -> io::Result<usize> {
+        if self.fails_at == 0 {
+            return Err(io::Error::from(ErrorKind::Other));
+        }
+        self.fails_at -= 1;
+        let Some((first, rest)) = self.bytes.split_first() else {
+            return Ok(0);
+        };
+        if buffer.is_empty() {
+            return Ok(0);
+        }
+        buffer[0] = *first;
+        self.bytes = rest;
+        Ok(1)
+    }
+}
+
+/// Takes what it is given, and fails at its nth write, counted from 0.
+#[derive(Drop)]
+struct Cut {
+    fails_at: usize,
+}
+
+impl Write for Cut {
+    fn write(&mut self, buffer: &[u8]) -> io::Result<usize> {
+        if self.fails_at == 0 {
+            return Err(io::Error::from(ErrorKind::BrokenPipe));
+        }
+        self.fails_at -= 1;
+        Ok(buffer.len())
+    }
+
+    fn flush(&mut self) -> io::Result<()> {
+        Ok(())
+    }
+}
+
+/// Three Tacks, and then so many bytes of Tsetsnarfs of 4,096 bytes.
+#[derive(Drop)]
+struct Full {
+    given: usize,
+    len: usize,
+}
+
+impl Full {
+    /// The byte at this place of the stream.
+    fn byte(&self, place: usize) -> u8 {
+        if place < 9 {
+            return if place % 3 == 0 { 0x15 } else { 0 };
+        }
+        match (place - 9) % 4_099 {
+            0 => 0x14,
+            1 => 0x10,
+            2 => 0,
+            _ => b'a',
+        }
+    }
+}
+
+impl Read for Full {
+    fn read(&mut self, buffer: &mut [u8]) -> io::Result<usize> {
+        let mut count = 0;
+        for byte in buffer.iter_mut() {
+            if self.given >= self.len {
+                break;
+            }
+            *byte = self.byte(self.given);
+            self.given += 1;
+            count += 1;
+        }
+        Ok(count)
+    }
+}
+
+/// The bytes of a row, written as hexadecimal digits and blanks.
+fn bytes_of(alloc: Global, row: &str) -> Result<Vec<u8>, Fail> {
+    let mut bytes = Vec::new(alloc);
+    let mut high = None;
+    for c in row.chars() {
+        let Some(digit) = c.to_digit(16) else {
+            continue;
+        };
+        match high {
+            None => high = Some(digit as u8),
+            Some(first) => {
+                bytes.push(first * 16 + digit as u8)?;
+                high = None;
+            }
+        }
+    }
+    Ok(bytes)
+}
+
+const ROW: &str = "0600020001 0400080001000000000003";
+
+#[test]
+fn rows_of_frames(rt: HostRuntime) -> Result<(), Fail> {
+    let alloc = rt.alloc();
+    let opened =
+        "42000A 0000000000000001 0001 460012 0000000000000001 0001 00000000 00000005 480008 0000000000000001";
+    let read = "490011 0000000000000002 0001 00000000 68656C 4B000A 0000000000000002 0001";
+    let typed = "490014 0000000000000003 0001 00000000 68656C6C6F21 4B000A 0000000000000003 0001";
+    let version =
+        "41000A 0000000000000001 0001 44000A 0000000000000001 0001 45000E 0000000000000001 0001 66696C65 570008 0000000000000001 480008 0000000000000001";
+    let wanted: [(&str, [&str; 2], Result<(), PlayFault>); 13] = [
+        ("", ["", ""], Ok(())),
+        (ROW, [opened, read], Ok(())),
+        ("0600020005", ["", ""], Err(PlayFault::Side(Stop::Host(1)))),
+        ("0600020000", ["", ""], Err(PlayFault::Side(Stop::Host(8)))),
+        (
+            "0400080001000000000003",
+            ["", ""],
+            Err(PlayFault::Side(Stop::Host(2))),
+        ),
+        (
+            "0600020001 080007 0001 00000005 21 0400080001000000000009",
+            [opened, typed],
+            Ok(()),
+        ),
+        (
+            "0600020001 080007 0001 00000006 21 0400080001000000000009",
+            [opened, ""],
+            Err(PlayFault::Side(Stop::Host(3))),
+        ),
+        ("0100020001", [version, ""], Ok(())),
+        ("0100020000", ["", ""], Err(PlayFault::Side(Stop::Host(5)))),
+        ("160000 0600020009", ["580008 0000000000000001", ""], Ok(())),
+        ("06000200", ["", ""], Err(PlayFault::Side(Stop::Frame(4)))),
+        (
+            "0600020001 17",
+            [opened, ""],
+            Err(PlayFault::Side(Stop::Frame(1))),
+        ),
+        (
+            "0600020001 0600020005 17",
+            [opened, ""],
+            Err(PlayFault::Side(Stop::Host(1))),
+        ),
+    ];
+    let hello: Vec<char> = "hello".chars().collect(alloc)?;
+    for (input, output, end) in wanted {
+        let input = bytes_of(alloc, input)?;
+        let mut expected = bytes_of(alloc, output[0])?;
+        expected.extend_from_slice(&bytes_of(alloc, output[1])?)?;
+        let mut reader = input.as_slice();
+        let mut writer = Vec::new(alloc);
+        assert_eq!(rt;
+            play_bytes(alloc, &mut reader, &mut writer, hello.as_slice()),
+            end
+        );
+        assert_eq!(rt; writer.as_slice(), expected.as_slice());
+        let mut drip = Drip {
+            bytes: input.as_slice(),
+            fails_at: 100,
+        };
+        let mut writer = Vec::new(alloc);
+        let mode = Mode::Bytes(Runes::from_slice(alloc, hello.as_slice())?);
+        assert_eq!(rt; play(alloc, &mut drip, &mut writer, mode), end);
+        assert_eq!(rt; writer.as_slice(), expected.as_slice());
+    }
+    Ok(())
+}
+
+#[test]
+fn a_failed_read_and_a_failed_write(rt: HostRuntime) -> Result<(), Fail> {
+    let alloc = rt.alloc();
+    let input = bytes_of(alloc, ROW)?;
+    for fails_at in 0..17 {
+        let mut drip = Drip {
+            bytes: input.as_slice(),
+            fails_at,
+        };
+        let mut writer = Vec::new(alloc);
+        assert_eq!(rt;
+            play_bytes(alloc, &mut drip, &mut writer, &[]),
+            Err(PlayFault::Read),
+            "at {fails_at}"
+        );
+    }
+    for fails_at in 0..2 {
+        let mut reader = input.as_slice();
+        assert_eq!(rt;
+            play_bytes(alloc, &mut reader, &mut Cut { fails_at }, &[]),
+            Err(PlayFault::Write),
+            "at {fails_at}"
+        );
+    }
+    Ok(())
+}
+
+#[test]
+fn one_byte_too_many(rt: HostRuntime) {
+    let alloc = rt.alloc();
+    let mut sink = Cut {
+        fails_at: usize::MAX,
+    };
+    let mut most = Full {
+        given: 0,
+        len: 16_777_216,
+    };
+    assert_eq!(rt; play_bytes(alloc, &mut most, &mut sink, &[]), Ok(()));
+    let mut more = Full {
+        given: 0,
+        len: 16_777_217,
+    };
+    assert_eq!(rt;
+        play_bytes(alloc, &mut more, &mut sink, &[]),
+        Err(PlayFault::Read)
+    );
 }
