@@ -3,3 +3,4 @@ pub mod Changes
 pub mod Walks
 pub mod Runs
 pub mod RaspLaws
+pub mod Typing

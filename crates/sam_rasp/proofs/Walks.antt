@@ -135,7 +135,7 @@ hole-found (suc n) r at p q e l = go (hole-found n r (at + 1) p q e) (cases_lt a
 
 front-loaded : (n : ℕ) (xs : List Section) → StaysApart (Hole n) xs → IsNormal xs → gaps_in_front (cells_of xs) ≡ 0
 front-loaded n [] a h = refl
-front-loaded n (Loaded [] ∷ xs) a h = absurd (omega (arith, h.0))
+front-loaded n (Loaded [] ∷ xs) a h = absurd (omega (arith, h.0.0))
 front-loaded n (Loaded (c ∷ s) ∷ xs) a h = refl
 front-loaded n (Hole m ∷ xs) a h = absurd (cc)
 

@@ -1,5 +1,5 @@
 -- Partial texts: lists whose members are a rune or a gap. Places in them move as the text changes.
-use Rattle.std.specs.Prelude.{◌≡◌, ℕ, ◌+◌, ◌-◌, min, if◌then◌else◌, nat_lt, nat_le, List, [], ◌∷◌, ◌++◌, map, take, drop, length, Option, Some, None, ⊤, option_map, slice_range, slice_get, reverse, Bool, true, false}
+use Rattle.std.specs.Prelude.{◌≡◌, ℕ, ◌+◌, ◌-◌, min, if◌then◌else◌, nat_lt, nat_le, List, [], ◌∷◌, ◌++◌, map, take, drop, length, Option, Some, None, ⊤, option_map, slice_get, reverse, Bool, true, false}
 use Rattle.std.specs.List.{prefix_len}
 use Rattle.sam_runes.specs.Texts.{ins, del, part}
 use Rattle.sam_rasp.specs.declared.run.Run.{Run}

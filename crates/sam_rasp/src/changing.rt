@@ -1,20 +1,21 @@
 //! The two changes that all others are made of: members are cut out, sections are put in.
 //! Each builds the new list in `spare` and then exchanges the two lists: sections move, texts are not copied.
 
-ghost use Rattle.std.specs.Prelude.{◌≡◌, ◌<◌, ◌≤◌, ◌+◌, ◌++◌, [], map, length, vec_len, vec_capacity, Some, IfOk};
-ghost use Rattle.sam_runes.specs.Texts.{del, ins};
+ghost use Rattle.std.specs.Prelude.{◌≡◌, ◌<◌, ◌≤◌, ◌+◌, ◌++◌, [], map, length, vec_len, vec_capacity, Some, IfOk, if◌then◌else◌};
+ghost use Rattle.sam_runes.specs.Texts.{del, ins, max_runes};
 ghost use Rattle.sam_rasp.specs.Sections.{cells_of, IsNormal};
 
 use crate::joining::{drop_front, join_all, move_before, push_joined};
 use crate::piece::{PIECE_ROOM, Piece};
 use crate::section::Section;
+use crate::walking::room_at;
 use std::alloc::{AllocError, Global};
 use std::mem;
 
 /// Takes `n` members out from place `p` on, which takes no memory.
 pub fn cut_sections(sections: &mut Vec<Section>, spare: &mut Vec<Section>, p: u32, n: u32)
     requires normal { IsNormal sections.old.items }
-    requires limit { length (cells_of sections.old.items) ≤ 1000000 }
+    requires limit { length (cells_of sections.old.items) ≤ max_runes }
     requires within { p + n ≤ length (cells_of sections.old.items) }
     requires empty { spare.old.items ≡ [] }
     requires room { vec_len sections.old ≤ vec_capacity spare.old }
@@ -45,7 +46,7 @@ pub fn insert_sections(
     tail: Piece,
 )
     requires normal { IsNormal sections.old.items }
-    requires limit { length (cells_of sections.old.items) + length (cells_of more.old.items) ≤ 1000000 }
+    requires limit { length (cells_of sections.old.items) + length (cells_of more.old.items) ≤ max_runes }
     requires within { p ≤ length (cells_of sections.old.items) }
     requires empty { spare.old.items ≡ [] }
     requires unused { tail ≡ [] }
@@ -68,9 +69,23 @@ pub fn insert_sections(
     mem::swap(sections, spare);
 }
 
+/// Puts `runes` in at place `p` if a loaded section there has room for them, which moves no other section and takes no memory. The result is whether it did.
+pub fn insert_inside(sections: &mut [Section], p: u32, runes: &[char]) -> bool
+    requires normal { IsNormal sections.old }
+    requires limit { length runes.now ≤ max_runes }
+    ensures cells { cells_of sections.new ≡ (if result then ins (cells_of sections.old) p (map Some runes.now) else cells_of sections.old) }
+    ensures normal { IsNormal sections.new }
+{
+    let Some((index, at)) = room_at(sections, p, runes.len()) else {
+        return false;
+    };
+    sections[index].insert(at, runes);
+    true
+}
+
 /// A text as loaded sections.
 pub fn loaded_sections(alloc: Global, runes: &[char]) -> Result<Vec<Section>, AllocError>
-    requires { length runes.now ≤ 1000000 }
+    requires { length runes.now ≤ max_runes }
     ensures cells { IfOk result (λ v. cells_of v.items ≡ map Some runes.now) }
     ensures len { IfOk result (λ v. vec_len v ≤ length runes.now) }
 {

@@ -2,7 +2,7 @@
 //! What is taken apart is held last to first, since a vector gives up its last member at no cost.
 
 ghost use Rattle.std.specs.Prelude.{◌≡◌, ◌<◌, ◌≤◌, ◌+◌, ◌++◌, [], ◌∷◌, length, drop, min, vec_len, vec_capacity};
-ghost use Rattle.sam_runes.specs.Texts.{del};
+ghost use Rattle.sam_runes.specs.Texts.{del, max_runes};
 ghost use Rattle.sam_rasp.specs.Sections.{cells, cells_of, cells_back, size, may_join, joined, IsNormal};
 
 use crate::section::Section;
@@ -23,7 +23,7 @@ fn push(out: &mut Vec<Section>, section: Section)
 pub fn push_joined(out: &mut Vec<Section>, section: Section)
     requires normal { IsNormal out.old.items }
     requires room { vec_len out.old + min 1 (size section) ≤ vec_capacity out.old }
-    requires within { length (cells_of out.old.items) + size section ≤ 1000000 }
+    requires within { length (cells_of out.old.items) + size section ≤ max_runes }
     ensures cells { cells_of out.new.items ≡ cells_of out.old.items ++ cells section }
     ensures normal { IsNormal out.new.items }
     ensures len { vec_len out.new ≤ vec_len out.old + min 1 (size section) }
@@ -49,7 +49,7 @@ pub fn push_joined(out: &mut Vec<Section>, section: Section)
 pub fn join_all(out: &mut Vec<Section>, rest: &mut Vec<Section>)
     requires normal { IsNormal out.old.items }
     requires room { vec_len out.old + vec_len rest.old ≤ vec_capacity out.old }
-    requires within { length (cells_of out.old.items) + length (cells_back rest.old.items) ≤ 1000000 }
+    requires within { length (cells_of out.old.items) + length (cells_back rest.old.items) ≤ max_runes }
     ensures cells { cells_of out.new.items ≡ cells_of out.old.items ++ cells_back rest.old.items }
     ensures normal { IsNormal out.new.items }
     ensures len { vec_len out.new ≤ vec_len out.old + vec_len rest.old }
@@ -66,7 +66,7 @@ pub fn join_all(out: &mut Vec<Section>, rest: &mut Vec<Section>)
 pub fn move_before(out: &mut Vec<Section>, rest: &mut Vec<Section>, p: u32) -> (Section, u32)
     requires normal { IsNormal out.old.items }
     requires room { vec_len out.old + vec_len rest.old ≤ vec_capacity out.old }
-    requires within { length (cells_of out.old.items) + length (cells_back rest.old.items) ≤ 1000000 }
+    requires within { length (cells_of out.old.items) + length (cells_back rest.old.items) ≤ max_runes }
     requires place { p ≤ length (cells_back rest.old.items) }
     ensures whole { cells_of out.new.items ++ (cells result.0 ++ cells_back rest.new.items) ≡ cells_of out.old.items ++ cells_back rest.old.items }
     ensures place { length (cells_of out.new.items) + result.1 ≡ length (cells_of out.old.items) + p }

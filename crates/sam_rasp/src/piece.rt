@@ -1,7 +1,7 @@
 //! The text of a loaded section, with room for a full one from the start.
 
 ghost use Rattle.std.specs.Prelude.{◌≡◌, ◌≤◌, ◌+◌, ◌++◌, [], length, IfOk, slice_get, take, drop};
-ghost use Rattle.sam_runes.specs.Texts.{del};
+ghost use Rattle.sam_runes.specs.Texts.{del, ins};
 
 use std::alloc::{AllocError, Global};
 use std::marker::Model;
@@ -64,6 +64,17 @@ impl Piece {
         ensures { self.new ≡ self.old ++ other }
     {
         self.extend(other.runes.as_slice());
+    }
+
+    /// Puts `runes` in at place `p`, which takes no memory.
+    pub fn insert(&mut self, p: usize, runes: &[char])
+        requires within { p ≤ length self.old }
+        requires room { length self.old + length runes.now ≤ 512 }
+        ensures { self.new ≡ ins self.old p runes.now }
+    {
+        self.extend(runes);
+        let tail = &mut self.runes[p..];
+        tail.rotate_right(runes.len());
     }
 
     /// Takes out what stands from place `p` to place `q`.

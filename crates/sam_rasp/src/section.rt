@@ -1,8 +1,8 @@
 //! The sections of a rasp: loaded texts and holes.
 
-ghost use Rattle.std.specs.Prelude.{◌≡◌, ◌<◌, ◌≤◌, ◌+◌, ◌-◌, ◌++◌, [], length, slice_get, take, drop, true, Some};
-ghost use Rattle.sam_runes.specs.Texts.{del};
-ghost use Rattle.sam_rasp.specs.Sections.{cells, size, may_join, is_loaded, joined};
+ghost use Rattle.std.specs.Prelude.{◌≡◌, ◌<◌, ◌≤◌, ◌+◌, ◌-◌, ◌++◌, [], length, map, slice_get, take, drop, true, Some};
+ghost use Rattle.sam_runes.specs.Texts.{del, ins, max_runes};
+ghost use Rattle.sam_rasp.specs.Sections.{cells, size, may_join, is_loaded, joined, IsShort};
 
 use crate::piece::{PIECE_ROOM, Piece};
 
@@ -18,7 +18,8 @@ pub enum Section {
 impl Section {
     /// How many runes or gaps it has.
     pub fn len(&self) -> u32
-        ensures { result ≡ size self.now }
+        ensures len { result ≡ size self.now }
+        ensures limit { IsShort self.now }
     {
         match self {
             Section::Loaded(text) => text.len() as u32,
@@ -66,7 +67,7 @@ impl Section {
     /// Takes the next section in.
     pub fn absorb(&mut self, next: Section)
         requires may { may_join self.old next ≡ true }
-        requires within { size self.old + size next ≤ 1000000 }
+        requires within { size self.old + size next ≤ max_runes }
         ensures { self.new ≡ joined self.old next }
     {
         match self {
@@ -80,6 +81,21 @@ impl Section {
                     *count += more;
                 }
             }
+        }
+    }
+
+    /// Puts `runes` in at place `p` of a loaded section that has room for them.
+    #[tactic(auto, using(crate::proofs::SectionLaws::insert_loaded, crate::proofs::SectionLaws::length_ins))]
+    pub fn insert(&mut self, p: u32, runes: &[char])
+        requires loaded { is_loaded self.old ≡ true }
+        requires within { p ≤ size self.old }
+        requires room { size self.old + length runes.now ≤ 512 }
+        ensures cells { cells self.new ≡ ins (cells self.old) p (map Some runes.now) }
+        ensures size { size self.new ≡ size self.old + length runes.now }
+        ensures loaded { is_loaded self.new ≡ true }
+    {
+        if let Section::Loaded(text) = self {
+            text.insert(p as usize, runes);
         }
     }
 

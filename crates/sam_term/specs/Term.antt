@@ -17,6 +17,8 @@ use Rattle.sam_term.specs.declared.event.UserEvent.{UserEvent}
 use Rattle.sam_term.specs.declared.event.UserEvent.TheVariants.{Typed, Select, Cut, Paste, Snarf, Look, Search, Send, Dclick, Scroll, View, Open, Close, Write, Work, OpenCmd, New, Exit, Check, GetSnarf, SetSnarf, Version, Flush}
 use Rattle.sam_term.specs.declared.event.Acted.{Acted}
 use Rattle.sam_term.specs.declared.event.Acted.TheVariants.{Idle, Locked, Done, Refused}
+pub use Rattle.sam_term.specs.declared.event.Verdict.{Verdict}
+pub use Rattle.sam_term.specs.declared.event.Verdict.TheVariants.{Waits, Refuses}
 use Rattle.sam_term.specs.declared.fault.Refusal.{Refusal}
 use Rattle.sam_term.specs.declared.fault.Refusal.TheVariants as refusal
 use Rattle.sam_term.specs.declared.fault.TermFault.{TermFault}
@@ -381,11 +383,6 @@ makes_too_long t (Typed f s) =
     let w = window_at t f in
     nat_lt max_runes (length w.rasp - (w.dot.1 - w.dot.0) + length s)
 makes_too_long t _ = false
-
--- an event that is not done waits, or is refused
-pub data Verdict : Type 0 where
-  Waits : Verdict
-  Refuses : (r : Refusal) → Verdict
 
 -- what stands against an event, in its order
 abbrev pub event_checks : PlainTerminal → UserEvent → Checks Verdict

@@ -1,0 +1,104 @@
+//! What the host reads of its files, and what it wants of a message's tag and places.
+
+ghost use Rattle.std.specs.Prelude.{◌≡◌, ◌≤◌, ◌∷◌, [], IfOk, OnOk, OnErr, Err, true, length};
+ghost use Rattle.sam_host.specs.Host.{unknown, not_opened, past_end, no_range};
+ghost use Rattle.sam_runes.specs.Texts.{max_runes, part};
+ghost use Rattle.sam_runes.specs.Checks.{first_of_checks, unless};
+ghost use Rattle.sam_text.specs.Files.{has_file, file_at};
+
+use crate::fault::HostFault;
+use crate::host::Host;
+use sam_runes::Runes;
+
+impl Host {
+    /// Whether the tag has a file.
+    pub(crate) fn has(&self, f: u16) -> bool
+        ensures { result ≡ has_file self.now.files f }
+    {
+        self.files.file(f).is_some()
+    }
+
+    /// Whether the terminal has a window on the file.
+    pub(crate) fn is_open(&self, f: u16) -> bool
+        ensures { result ≡ (file_at self.now.files f).opened }
+    {
+        match self.files.file(f) {
+            Some(file) => file.is_open(),
+            None => false,
+        }
+    }
+
+    /// Whether the file was changed since it was written or made.
+    pub(crate) fn is_dirty(&self, f: u16) -> bool
+        ensures { result ≡ (file_at self.now.files f).dirty }
+    {
+        match self.files.file(f) {
+            Some(file) => file.is_dirty(),
+            None => false,
+        }
+    }
+
+    /// How long the text of the file is; 0 where there is none.
+    pub(crate) fn text_len(&self, f: u16) -> u32
+        ensures len { result ≡ length (file_at self.now.files f).text }
+        ensures limit { length (file_at self.now.files f).text ≤ max_runes }
+    {
+        match self.files.file(f) {
+            Some(file) => file.text().len(),
+            None => 0,
+        }
+    }
+
+    /// What stands in the file between two places, copied.
+    pub(crate) fn part(&self, f: u16, p: u32, q: u32) -> Result<Runes, HostFault>
+        requires ascending { p ≤ q }
+        requires within { q ≤ length (file_at self.now.files f).text }
+        ensures ok { IfOk result (λ r. r ≡ part (file_at self.now.files f).text p q) }
+        ensures memory { OnErr result (result ≡ Err HostFault.OutOfMemory) }
+    {
+        match self.files.file(f) {
+            Some(file) => Ok(Runes::from_slice(self.alloc, file.text().slice(p, q))?),
+            None => Ok(Runes::from_slice(self.alloc, &[])?),
+        }
+    }
+
+    /// That the file is there and open.
+    pub(crate) fn wants_open(&self, f: u16) -> Result<(), HostFault>
+        ensures answer { result ≡ unless (first_of_checks (unknown self.now f ∷ not_opened self.now f ∷ [])) tt }
+        ensures there { OnOk result (has_file self.now.files f ≡ true) }
+    {
+        if !self.has(f) {
+            return Err(HostFault::NoFile);
+        }
+        if !self.is_open(f) {
+            return Err(HostFault::NotOpen);
+        }
+        Ok(())
+    }
+
+    /// That the file is there and open, and has the place.
+    pub(crate) fn wants_place(&self, f: u16, p: u32) -> Result<(), HostFault>
+        ensures answer { result ≡ unless (first_of_checks (unknown self.now f ∷ not_opened self.now f ∷ past_end self.now f p ∷ [])) tt }
+        ensures there { OnOk result (has_file self.now.files f ≡ true) }
+        ensures within { OnOk result (p ≤ length (file_at self.now.files f).text) }
+    {
+        self.wants_open(f)?;
+        if self.text_len(f) < p {
+            return Err(HostFault::BadPosition);
+        }
+        Ok(())
+    }
+
+    /// That the file is there and open, and has the range.
+    pub(crate) fn wants_range(&self, f: u16, p: u32, q: u32) -> Result<(), HostFault>
+        ensures answer { result ≡ unless (first_of_checks (unknown self.now f ∷ not_opened self.now f ∷ no_range self.now f p q ∷ [])) tt }
+        ensures there { OnOk result (has_file self.now.files f ≡ true) }
+        ensures within { OnOk result ((p ≤ q) × (q ≤ length (file_at self.now.files f).text)) }
+    {
+        self.wants_open(f)?;
+        if q < p || self.text_len(f) < q {
+            return Err(HostFault::BadPosition);
+        }
+        Ok(())
+    }
+}

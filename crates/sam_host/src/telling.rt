@@ -1,0 +1,121 @@
+//! The frames that several answers share. Each is stamped as it is added, with the count that the message will have.
+
+ghost use Rattle.std.specs.Prelude.{◌≡◌, ◌<◌, ◌≤◌, ◌+◌, ◌++◌, ◌∷◌, [], ◌^◌, OnOk, OnErr, Err, not, ◌&&◌, ◌==◌, drop, length};
+ghost use Rattle.sam_host.specs.Host.{stamped, when, grown, told_length, printed, told_names};
+ghost use Rattle.sam_host.specs.Names.{told_at};
+ghost use Rattle.sam_runes.specs.Texts.{max_runes};
+ghost use Rattle.sam_runes.specs.Slots.{slot};
+ghost use Rattle.sam_text.specs.Files.{file_at};
+ghost use Rattle.sam_mesg.specs.declared.hmesg.HFrame.{HFrame};
+
+use crate::fault::HostFault;
+use crate::host::Host;
+use sam_mesg::{HFrame, Hmesg};
+use sam_runes::{MAX_RUNES, Runes};
+
+/// The most runes of one text message.
+const MOST_IN_MESSAGE: usize = 512;
+
+impl Host {
+    /// Adds a frame of the message that is being answered.
+    pub(crate) fn say(&self, frames: &mut Vec<HFrame>, msg: Hmesg) -> Result<(), HostFault>
+        requires { self.now.taken + 1 < 2 ^ 64 }
+        ensures ok { OnOk result (frames.new.items ≡ frames.old.items ++ record { seen = self.now.taken + 1; msg = msg } ∷ []) }
+        ensures memory { OnErr result (result ≡ Err HostFault.OutOfMemory) }
+    {
+        let seen = self.taken + 1;
+        frames.push(HFrame { seen, msg })?;
+        Ok(())
+    }
+
+    /// Tells what was put in at `p`.
+    #[tactic(auto, unfolding(crate::specs::Host::grown, crate::specs::Host::when))]
+    pub(crate) fn grown(&self, frames: &mut Vec<HFrame>, f: u16, p: u32, runes: &[char]) -> Result<(), HostFault>
+        requires count { self.now.taken + 1 < 2 ^ 64 }
+        requires limit { length runes.now ≤ max_runes }
+        ensures ok { OnOk result (frames.new.items ≡ frames.old.items ++ stamped (self.now.taken + 1) (grown self.now.files f p runes.now)) }
+        ensures memory { OnErr result (result ≡ Err HostFault.OutOfMemory) }
+    {
+        if !self.is_open(f) || runes.is_empty() {
+            return Ok(());
+        }
+        if runes.len() > MOST_IN_MESSAGE {
+            return self.say(frames, Hmesg::Hgrow(f, p, runes.len() as u32));
+        }
+        let copy = Runes::from_slice(self.alloc, runes)?;
+        self.say(frames, Hmesg::Hgrowdata(f, p, copy))
+    }
+
+    /// Tells that a file becomes dirty, if it was clean and is not the command file.
+    #[tactic(auto, unfolding(crate::specs::Host::when))]
+    pub(crate) fn tell_dirty(&self, frames: &mut Vec<HFrame>, f: u16) -> Result<(), HostFault>
+        requires count { self.now.taken + 1 < 2 ^ 64 }
+        ensures ok { OnOk result (frames.new.items ≡ frames.old.items ++ stamped (self.now.taken + 1) (when (not (file_at self.now.files f).dirty && not (f == 0)) (Hmesg.Hdirty f ∷ []))) }
+        ensures memory { OnErr result (result ≡ Err HostFault.OutOfMemory) }
+    {
+        if self.is_dirty(f) || f == 0 {
+            return Ok(());
+        }
+        self.say(frames, Hmesg::Hdirty(f))
+    }
+
+    /// Tells the length of a text that is opened.
+    #[tactic(auto, unfolding(crate::specs::Host::told_length, crate::specs::Host::when))]
+    pub(crate) fn tell_length(&self, frames: &mut Vec<HFrame>, f: u16) -> Result<(), HostFault>
+        requires count { self.now.taken + 1 < 2 ^ 64 }
+        ensures ok { OnOk result (frames.new.items ≡ frames.old.items ++ stamped (self.now.taken + 1) (told_length f (file_at self.now.files f))) }
+        ensures memory { OnErr result (result ≡ Err HostFault.OutOfMemory) }
+    {
+        let len = self.text_len(f);
+        if len == 0 {
+            return Ok(());
+        }
+        self.say(frames, Hmesg::Hgrow(f, 0, len))
+    }
+
+    /// How what is printed ends.
+    fn end_print(&self, frames: &mut Vec<HFrame>, end: u32) -> Result<(), HostFault>
+        requires count { self.now.taken + 1 < 2 ^ 64 }
+        ensures ok { OnOk result (frames.new.items ≡ frames.old.items ++ stamped (self.now.taken + 1) (Hmesg.Hsetdot 0 end end ∷ Hmesg.Hcheck 0 ∷ [])) }
+        ensures memory { OnErr result (result ≡ Err HostFault.OutOfMemory) }
+    {
+        self.say(frames, Hmesg::Hsetdot(0, end, end))?;
+        self.say(frames, Hmesg::Hcheck(0))
+    }
+
+    /// Tells what is printed at the end of the command file, where there is room for it.
+    #[tactic(auto, using(crate::proofs::FrameLaws::told_both), unfolding(crate::specs::Host::printed, crate::specs::Host::when))]
+    pub(crate) fn tell_print(&self, frames: &mut Vec<HFrame>, runes: &[char]) -> Result<(), HostFault>
+        requires count { self.now.taken + 1 < 2 ^ 64 }
+        ensures ok { OnOk result (frames.new.items ≡ frames.old.items ++ stamped (self.now.taken + 1) (printed self.now.files runes.now)) }
+        ensures memory { OnErr result (result ≡ Err HostFault.OutOfMemory) }
+    {
+        let len = self.text_len(0);
+        if runes.len() == 0 || runes.len() > MAX_RUNES as usize - len as usize {
+            return Ok(());
+        }
+        if !self.is_open(0) {
+            return Ok(());
+        }
+        self.grown(frames, 0, len, runes)?;
+        self.end_print(frames, len + runes.len() as u32)
+    }
+
+    /// Tells the name of a tag's file, if there is one that was not announced.
+    #[tactic(auto, unfolding(crate::specs::Host::when, crate::specs::Names::told_at))]
+    fn tell_name(&self, frames: &mut Vec<HFrame>, f: u16) -> Result<(), HostFault>
+        requires count { self.now.taken + 1 < 2 ^ 64 }
+        ensures ok { OnOk result (frames.new.items ≡ frames.old.items ++ stamped (self.now.taken + 1) (told_at f (slot self.now.files.slots f))) }
+        ensures memory { OnErr result (result ≡ Err HostFault.OutOfMemory) }
+    {
+        let Some(file) = self.files.file(f) else {
+            return Ok(());
+        };
+        if file.is_announced() {
+            return Ok(());
+        }
+        let name = file.name().copy(self.alloc)?;
+        self.say(frames, Hmesg::Hnewname(f))?;
+        self.say(frames, Hmesg::Hmovname(f, name))
+    }
+}

@@ -1,0 +1,112 @@
+-- What the terminal may compose, the host will accept, and its answer is carried behind what is under way.
+use Rattle.std.proofs.Common.{◌≡◌, ℕ, ◌+◌, ◌≤◌, Bool, true, false, ◌||◌, ◌==◌, List, [], ◌∷◌, ◌++◌, length, Option, Some, ◌⊎◌, inl, inr, refl, sym, ap, ◌∙◌, subst, arith}
+use Rattle.sam_runes.specs.Texts.{max_runes}
+use Rattle.sam_mesg.specs.declared.tmesg.Tmesg.{Tmesg}
+use Rattle.sam_mesg.specs.declared.tmesg.Tmesg.TheVariants.{Tversion, Tstartcmdfile, Tcheck, Trequest, Torigin, Tstartfile, Tworkfile, Ttype, Tcut, Tpaste, Tsnarf, Tstartnewfile, Twrite, Tclose, Tlook, Tsearch, Tsend, Tdclick, Tstartsnarf, Tsetsnarf, Tack, Texit}
+use Rattle.sam_mesg.specs.declared.hmesg.Hmesg.{Hmesg}
+use Rattle.sam_host.specs.Host.{PlainHost}
+use Rattle.sam_protocol.specs.Lens.{Lens, lens, Unknown, Known, Open, Action, IsFree, HFile, Absent, Hidden, Named, Opened, Gone, Agrees, IsSettled, IsKept, exited_of, command_of}
+use Rattle.sam_protocol.specs.Crossing.{changed, OpenAt, KnownAt, Anything, Within}
+use Rattle.sam_protocol.specs.HostView.{file_in}
+use Rattle.sam_protocol.specs.Synced.{Synced, change_by}
+use Rattle.sam_protocol.specs.Handled.{IsSteady, Ready, Accepted}
+use Rattle.sam_protocol.specs.Fold.{frames_at, Kept, IsAllowed, CanCompose}
+use Rattle.sam_protocol.proofs.Runs.{no_exit, exited_after}
+use Rattle.sam_protocol.proofs.Kept.{kept_free, exited_settled}
+use Rattle.sam_protocol.proofs.Texts.{agrees_length}
+use Rattle.sam_protocol.proofs.Handling.{handled}
+use Rattle.sam_protocol.proofs.Steady.{steady_reply}
+use Rattle.sam_protocol.proofs.Folds.{acts}
+
+-- the host that will have handled all is not done where the terminal acts
+pub not_done_ahead : (h : PlainHost) (views : ℕ → Lens) (line : List Tmesg) (down : List Hmesg) (k : Kept h views line down) → exited_of (views 0) ≡ false → command_of (views 0) ≡ false → k.ahead.is_done ≡ false
+not_done_ahead h views line down k e c =
+    let s : List Action = frames_at 0 (down ++ k.frames) in
+    let x = k.each 0 in
+    let none = no_exit s (views 0) x.final x.runs c in
+    sym (exited_settled x.final k.ahead.is_done k.ahead.version (file_in k.ahead.files.slots 0) x.settled) ∙ exited_after s (views 0) x.final x.runs ∙ ap (λ (b : Bool). b || exited_of (views 0)) none ∙ e
+
+-- an open file that is free is open at the host, and agrees
+pub record OpenBoth (P : List (Option ℕ) → Type 0) (file : HFile) : Type 0 where
+  pub rasp : List (Option ℕ)
+  pub text : List ℕ
+  pub opened : file ≡ Opened text
+  pub agrees : Agrees rasp text
+  pub has : P rasp
+
+open_case : (P : List (Option ℕ) → Type 0) (s : List Action) (v : Lens) (d : Bool) (n : ℕ) (file : HFile) → IsKept s v d n file → OpenAt P v → OpenBoth P file
+open_case P s (lens c e n2 Unknown) d n file k o = absurd o
+open_case P s (lens c e n2 Known) d n file k o = absurd o
+open_case P s (lens c e n2 (Open r m)) d n file k o = go file (kept_free s (lens c e n2 (Open r m)) d n file k free)
+  where
+    free : IsFree (lens c e n2 (Open r m))
+    free = subst (λ (x : Bool). IsFree (lens x e n2 (Open r m))) (sym o.0) (subst (λ (x : ℕ). IsFree (lens false e n2 (Open r x))) (sym o.1) tt)
+
+    go : (file : HFile) → IsSettled (lens c e n2 (Open r m)) d n file → OpenBoth P file
+    go Absent x = absurd x.3
+    go (Hidden t) x = absurd x.3
+    go (Named t) x = absurd x.3
+    go (Opened t) x = record { rasp = r; text = t; opened = refl; agrees = x.3.1; has = o.2 }
+    go Gone x = absurd x.3
+
+known_case : (s : List Action) (v : Lens) (d : Bool) (n : ℕ) (file : HFile) → IsKept s v d n file → IsFree v → KnownAt v → ((t : List ℕ) × (file ≡ Named t)) ⊎ ((t : List ℕ) × (file ≡ Opened t))
+known_case s v d n file k free o = go v file (kept_free s v d n file k free) o
+  where
+    go : (v : Lens) (file : HFile) → IsSettled v d n file → KnownAt v → ((t : List ℕ) × (file ≡ Named t)) ⊎ ((t : List ℕ) × (file ≡ Opened t))
+    go (lens c e m Unknown) file x o = absurd o
+    go (lens c e m Known) Absent x o = absurd x.3
+    go (lens c e m Known) (Hidden t) x o = absurd x.3
+    go (lens c e m Known) (Named t) x o = inl (t, refl)
+    go (lens c e m Known) (Opened t) x o = absurd x.3
+    go (lens c e m Known) Gone x o = absurd x.3
+    go (lens c e m (Open r k)) Absent x o = absurd x.3
+    go (lens c e m (Open r k)) (Hidden t) x o = absurd x.3
+    go (lens c e m (Open r k)) (Named t) x o = absurd x.3
+    go (lens c e m (Open r k)) (Opened t) x o = inr (t, refl)
+    go (lens c e m (Open r k)) Gone x o = absurd x.3
+
+within : (r : List (Option ℕ)) (t : List ℕ) (q : ℕ) → Agrees r t → q ≤ length r → q ≤ length t
+within r t q a l = omega (arith, agrees_length r t a)
+
+-- what the terminal may compose is accepted by the host that will have handled all
+accepted : (h : PlainHost) (views : ℕ → Lens) (line : List Tmesg) (down : List Hmesg) (k : Kept h views line down) (m : Tmesg) → IsAllowed (change_by m) views → CanCompose m views → Accepted k.ahead m
+accepted h views line down k m allowed can = go m allowed can
+  where
+    at : (P : List (Option ℕ) → Type 0) (f : ℕ) → OpenAt P (views f) → OpenBoth P (file_in k.ahead.files.slots f)
+    at P f o = open_case P (frames_at f (down ++ k.frames)) (views f) k.ahead.is_done k.ahead.version (file_in k.ahead.files.slots f) (k.each f) o
+
+    go : (m : Tmesg) → IsAllowed (change_by m) views → CanCompose m views → Accepted k.ahead m
+    go (Tversion v) a x = x
+    go Tstartcmdfile a x = tt
+    go (Tcheck f) a x = let o = at Anything f x in (o.text, o.opened, tt)
+    go (Trequest f p n) a x = let o = at Anything f x in (o.text, o.opened, tt)
+    go (Torigin f p n) a x = let o = at (Within p p) f x in (o.text, o.opened, within o.rasp o.text p o.agrees o.has.1)
+    go (Tstartfile f) a x = (x.1, known_case (frames_at f (down ++ k.frames)) (views f) k.ahead.is_done k.ahead.version (file_in k.ahead.files.slots f) (k.each f) (a f) x.0)
+    go (Tworkfile f p q) a x = let o = at (Within p q) f x.0 in (x.1, (o.text, o.opened, (o.has.0, within o.rasp o.text q o.agrees o.has.1)))
+    go (Ttype f p s) a x =
+        let o = at (λ r. (p ≤ length r) × (length r + length s ≤ max_runes)) f x in
+        (o.text, o.opened, (within o.rasp o.text p o.agrees o.has.0, subst (λ (y : ℕ). y + length s ≤ max_runes) (agrees_length o.rasp o.text o.agrees) o.has.1))
+    go (Tcut f p q) a x = let o = at (Within p q) f x in (o.text, o.opened, (o.has.0, within o.rasp o.text q o.agrees o.has.1))
+    go (Tpaste f p) a x = let o = at (Within p p) f x in (o.text, o.opened, within o.rasp o.text p o.agrees o.has.1)
+    go (Tsnarf f p q) a x = let o = at (Within p q) f x in (o.text, o.opened, (o.has.0, within o.rasp o.text q o.agrees o.has.1))
+    go Tstartnewfile a x = tt
+    go (Twrite f) a x = let o = at Anything f x.0 in (x.1, (o.text, o.opened, tt))
+    go (Tclose f) a x = let o = at Anything f x.0 in (x.1, (o.text, o.opened, tt))
+    go (Tlook f p q) a x = let o = at (Within p q) f x in (o.text, o.opened, (o.has.0, within o.rasp o.text q o.agrees o.has.1))
+    go (Tsearch f p q) a x = let o = at (Within p q) f x in (o.text, o.opened, (o.has.0, within o.rasp o.text q o.agrees o.has.1))
+    go (Tsend f p q) a x = let o = at (Within p q) f x in (o.text, o.opened, (o.has.0, within o.rasp o.text q o.agrees o.has.1))
+    go (Tdclick f p) a x = let o = at (Within p p) f x in (o.text, o.opened, within o.rasp o.text p o.agrees o.has.1)
+    go Tstartsnarf a x = tt
+    go (Tsetsnarf s) a x = tt
+    go Tack a x = tt
+    go Texit a x = tt
+
+-- a message that the terminal composes of its own joins what is up
+pub composes : (h : PlainHost) (views : ℕ → Lens) (line : List Tmesg) (down : List Hmesg) (m : Tmesg) → Kept h views line down → exited_of (views 0) ≡ false → command_of (views 0) ≡ false → IsAllowed (change_by m) views → CanCompose m views
+    → Kept h (λ g. changed (change_by m) g (views g)) (line ++ m ∷ []) down
+composes h views line down m k here free allowed can =
+    let d = not_done_ahead h views line down k here free in
+    let ready : Ready k.ahead = record { steady = k.steady; running = d } in
+    let a = accepted h views line down k m allowed can in
+    let y = handled k.ahead ready m a in
+    acts h views line down m k d allowed y (steady_reply k.ahead m ready a y)

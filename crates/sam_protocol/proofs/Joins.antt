@@ -1,0 +1,256 @@
+-- Runes typed in two messages do what they do in one.
+use Rattle.std.proofs.Common.{◌≡◌, ℕ, suc, ◌+◌, ◌-◌, ◌≤◌, Bool, true, false, ◌&&◌, ◌==◌, if◌then◌else◌, List, [], ◌∷◌, ◌++◌, length, map, Option, Some, None, nat_lt, refl, sym, ap, ◌∙◌, subst, arith, append_assoc, append-nil, length-append, ◌⊎◌, inl, inr}
+use Rattle.std.specs.Prelude.{unwrap_or}
+use Rattle.std.proofs.lemmas.Bool.{ltb-false, le-ltb}
+use Rattle.sam_runes.specs.Texts.{max_runes, ins, ends_line, part, line_start}
+use Rattle.sam_runes.specs.Slots.{slot, put_slot}
+use Rattle.sam_runes.specs.Checks.{first_of_checks}
+use Rattle.sam_runes.proofs.CheckLaws.{none_holds}
+use Rattle.sam_runes.proofs.SlotLaws.{slot-put_same, put_slot-put_slot}
+use Rattle.sam_runes.proofs.EditLaws.{length-ins}
+use Rattle.sam_runes.proofs.PlaceLaws.{ends_line-append}
+use Rattle.sam_text.specs.Files.{PlainFile, PlainFiles, blank_file, file_at, put_file, typed_file}
+use Rattle.sam_text.proofs.TypeLaws.{typed_joined}
+use Rattle.sam_mesg.specs.declared.tmesg.Tmesg.{Tmesg}
+use Rattle.sam_mesg.specs.declared.tmesg.Tmesg.TheVariants.{Ttype}
+use Rattle.sam_mesg.specs.declared.hmesg.Hmesg.{Hmesg}
+use Rattle.sam_host.specs.Host.{PlainHost, Reply, counted, with_file, unknown, not_opened, past_end, no_room, host_checks, reply_to, reply_line, reply_type}
+use Rattle.sam_host.specs.declared.fault.HostFault.{HostFault}
+use Rattle.sam_host.specs.declared.fault.HostFault.TheVariants.{NoFile, NotOpen, BadPosition, TooLong}
+use Rattle.sam_protocol.specs.Lens.{Lens, HFile, IsKept}
+use Rattle.sam_protocol.specs.Model.{VersionsGuarded}
+use Rattle.sam_protocol.specs.View.{frame_of}
+use Rattle.sam_protocol.specs.HostView.{file_in}
+use Rattle.sam_protocol.specs.Means.{AllOpenAnnounced}
+use Rattle.sam_protocol.specs.Handled.{IsSteady}
+use Rattle.sam_protocol.specs.Fold.{replied, reply_of, behind, replied_then, answers, frames_at, Kept}
+use Rattle.sam_protocol.proofs.Mirror.{test, last_test}
+use Rattle.sam_protocol.proofs.Folds.{Answered, bool_cases, plain_reply, answered, answers-append}
+
+the_reply : {p q : Reply} → Some p ≡ Some q → p ≡ q
+the_reply e = cc
+
+-- the two are alike but for their counts
+pub record AreAlike (a b : PlainHost) : Type 0 where
+  pub files : a.files ≡ b.files
+  pub done : a.is_done ≡ b.is_done
+  pub version : a.version ≡ b.version
+
+-- ## One typing
+
+typed_host : PlainHost → ℕ → ℕ → List ℕ → PlainHost
+typed_host h f p s = with_file h f (typed_file f (file_at h.files f) p s)
+
+-- the line that a host runs after a typing, where it is one
+after_typing : Bool → PlainHost → ℕ → ℕ → Reply
+after_typing ends k f end = let t = (file_at k.files f).text in if ends then reply_line k [] (part t (line_start t end) end) else (k, [])
+
+typed_reply : (h : PlainHost) (f p : ℕ) (s : List ℕ) → reply_to h (Ttype f p s) ≡ after_typing ((f == 0) && ends_line s) (typed_host h f p s) f (p + length s - 1)
+unfolding reply_type typed_host after_typing
+typed_reply h f p s = refl
+
+alike_after : (ends : Bool) (k j : PlainHost) (f end : ℕ) → AreAlike k j → AreAlike (after_typing ends k f end).0 (after_typing ends j f end).0 × ((after_typing ends k f end).1 ≡ (after_typing ends j f end).1)
+unfolding after_typing
+alike_after false k j f end a = (a, refl)
+alike_after true k j f end a = (record { files = ap (λ (fs : PlainFiles). (line fs).0.files) a.files; done = ap (λ (fs : PlainFiles). (line fs).0.is_done) a.files; version = a.version }, ap (λ (fs : PlainFiles). (line fs).1) a.files)
+  where
+    line : PlainFiles → Reply
+    line fs = let t = (file_at fs f).text in reply_line (record k { files = fs }) [] (part t (line_start t end) end)
+
+alike_counted : (a b : PlainHost) → AreAlike a b → AreAlike (counted a) (counted b)
+alike_counted a b x = record { files = x.files; done = x.done; version = x.version }
+
+at_put : (fs : PlainFiles) (f : ℕ) (x : PlainFile) → file_at (put_file fs f x) f ≡ x
+at_put fs f x = ap (λ (o : Option PlainFile). unwrap_or o blank_file) (slot-put_same fs.slots f x)
+
+typed_twice : (h : PlainHost) (f p : ℕ) (s w : List ℕ) → p ≤ length (file_at h.files f).text → AreAlike (typed_host (counted (typed_host h f p s)) f (p + length s) w) (typed_host h f p (s ++ w))
+unfolding typed_host
+typed_twice h f p s w l =
+    let x = typed_file f (file_at h.files f) p s in
+    let fs = put_file h.files f x in
+    let same : typed_file f (file_at fs f) (p + length s) w ≡ typed_file f (file_at h.files f) p (s ++ w) = ap (λ (y : PlainFile). typed_file f y (p + length s) w) (at_put h.files f x) ∙ typed_joined f (file_at h.files f) p s w l in
+    record {
+      files = ap (λ (y : PlainFile). put_file fs f y) same ∙ ap (λ ss. record h.files { slots = ss }) (put_slot-put_slot h.files.slots f x (typed_file f (file_at h.files f) p (s ++ w)));
+      done = refl;
+      version = refl;
+    }
+
+-- ## What stands against a typing
+
+record CanType (h : PlainHost) (f p : ℕ) (s : List ℕ) : Type 0 where
+  there : (unknown h f).0 ≡ false
+  opened : (not_opened h f).0 ≡ false
+  place : p ≤ length (file_at h.files f).text
+  room : length (file_at h.files f).text + length s ≤ max_runes
+
+can_type : (h : PlainHost) (f p : ℕ) (s : List ℕ) → first_of_checks (host_checks h (Ttype f p s)) ≡ None → CanType h f p s
+can_type h f p s e =
+    let a = none_holds (unknown h f) (not_opened h f ∷ past_end h f p ∷ no_room h f s ∷ []) e in
+    let b = none_holds (not_opened h f) (past_end h f p ∷ no_room h f s ∷ []) a.1 in
+    let c = none_holds (past_end h f p) (no_room h f s ∷ []) b.1 in
+    let d = none_holds (no_room h f s) [] c.1 in
+    record { there = a.0; opened = b.0; place = ltb-false _ p c.0; room = ltb-false max_runes _ d.0 }
+
+may_type : (h : PlainHost) (f p : ℕ) (s : List ℕ) → CanType h f p s → first_of_checks (host_checks h (Ttype f p s)) ≡ None
+may_type h f p s c =
+    let t = (file_at h.files f).text in
+    test (unknown h f).0 NoFile (not_opened h f ∷ past_end h f p ∷ no_room h f s ∷ []) c.there
+    (test (not_opened h f).0 NotOpen (past_end h f p ∷ no_room h f s ∷ []) c.opened
+    (test (nat_lt (length t) p) BadPosition (no_room h f s ∷ []) (le-ltb (length t) p c.place)
+    (last_test (nat_lt max_runes (length t + length s)) TooLong (le-ltb max_runes (length t + length s) c.room))))
+
+-- the reply that was given, by a host that is not done
+record WasTyped (h : PlainHost) (f p : ℕ) (s : List ℕ) (r : Reply) : Type 0 where
+  can : CanType h f p s
+  is : r ≡ (counted (reply_to h (Ttype f p s)).0, (reply_to h (Ttype f p s)).1)
+
+was_typed : (h : PlainHost) (f p : ℕ) (s : List ℕ) (r : Reply) → h.is_done ≡ false → reply_of h (Ttype f p s) ≡ Some r → WasTyped h f p s r
+was_typed h f p s r d e = go (first_of_checks (host_checks h (Ttype f p s))) refl (ap (λ (b : Bool). if b then Some (counted h, []) else replied (first_of_checks (host_checks h (Ttype f p s))) (reply_to h (Ttype f p s))) (sym d) ∙ e)
+  where
+    go : (o : Option HostFault) → first_of_checks (host_checks h (Ttype f p s)) ≡ o → replied o (reply_to h (Ttype f p s)) ≡ Some r → WasTyped h f p s r
+    go None q e = record { can = can_type h f p s q; is = sym (the_reply e) }
+    go (Some w) q e = cc
+
+-- ## Two typings, and the same at once
+
+record Joined (h : PlainHost) (f p : ℕ) (s w : List ℕ) (r1 r2 : Reply) : Type 0 where
+  reply : Reply
+  now : reply_of h (Ttype f p (s ++ w)) ≡ Some reply
+  silent : r1.1 ≡ []
+  alike : AreAlike r2.0 reply.0
+  frames : r2.1 ≡ reply.1
+
+joined_done : (h : PlainHost) (f p : ℕ) (s w : List ℕ) (r1 r2 : Reply) → h.is_done ≡ true → reply_of h (Ttype f p s) ≡ Some r1 → reply_of r1.0 (Ttype f (p + length s) w) ≡ Some r2 → Joined h f p s w r1 r2
+joined_done h f p s w r1 r2 d e1 e2 =
+    let first : (counted h, []) ≡ r1 = the_reply (sym (silent h (Ttype f p s) d) ∙ e1) in
+    let d1 : r1.0.is_done ≡ true = ap (λ (r : Reply). r.0.is_done) (sym first) ∙ d in
+    let second : (counted r1.0, []) ≡ r2 = the_reply (sym (silent r1.0 (Ttype f (p + length s) w) d1) ∙ e2) in
+    record {
+      reply = (counted h, []);
+      now = silent h (Ttype f p (s ++ w)) d;
+      silent = ap (λ (r : Reply). r.1) (sym first);
+      alike =
+          record {
+            files = ap (λ (r : Reply). r.0.files) (sym second) ∙ ap (λ (r : Reply). r.0.files) (sym first);
+            done = ap (λ (r : Reply). r.0.is_done) (sym second) ∙ ap (λ (r : Reply). r.0.is_done) (sym first);
+            version = ap (λ (r : Reply). r.0.version) (sym second) ∙ ap (λ (r : Reply). r.0.version) (sym first);
+          };
+      frames = ap (λ (r : Reply). r.1) (sym second);
+    }
+  where
+    silent : (k : PlainHost) (m : Tmesg) → k.is_done ≡ true → reply_of k m ≡ Some (counted k, [])
+    silent k m d = ap (λ (b : Bool). if b then Some (counted k, []) else replied (first_of_checks (host_checks k m)) (reply_to k m)) d
+
+joined_open : (h : PlainHost) (f p c : ℕ) (s u : List ℕ) (r1 r2 : Reply) → ((f == 0) && ends_line s) ≡ false → h.is_done ≡ false → reply_of h (Ttype f p s) ≡ Some r1 → reply_of r1.0 (Ttype f (p + length s) (c ∷ u)) ≡ Some r2 → Joined h f p s (c ∷ u) r1 r2
+unfolding typed_host after_typing
+joined_open h f p c s u r1 r2 plain d e1 e2 =
+    let w : List ℕ = c ∷ u in
+    let k : PlainHost = counted (typed_host h f p s) in
+    let one = was_typed h f p s r1 d e1 in
+    let quiet : reply_to h (Ttype f p s) ≡ (typed_host h f p s, []) = typed_reply h f p s ∙ ap (λ (b : Bool). after_typing b (typed_host h f p s) f (p + length s - 1)) plain in
+    let first : r1 ≡ (k, []) = one.is ∙ ap (λ (r : Reply). (counted r.0, r.1)) quiet in
+    let two = was_typed k f (p + length s) w r2 d (ap (λ (r : Reply). reply_of r.0 (Ttype f (p + length s) w)) (sym first) ∙ e2) in
+    let t : List ℕ = (file_at h.files f).text in
+    let there : (file_at k.files f).text ≡ ins t p s = ap (λ (y : PlainFile). y.text) (at_put h.files f (typed_file f (file_at h.files f) p s)) in
+    let long : length (s ++ w) ≡ length s + length w = length-append s w in
+    let room : length t + length (s ++ w) ≤ max_runes = omega (arith, long, two.can.room, ap length there, length-ins t s p one.can.place) in
+    let can : CanType h f p (s ++ w) = record { there = one.can.there; opened = one.can.opened; place = one.can.place; room = room } in
+    let end : p + length s + length w - 1 ≡ p + length (s ++ w) - 1 = omega (arith, long) in
+    let ends : ((f == 0) && ends_line w) ≡ ((f == 0) && ends_line (s ++ w)) = ap (λ (b : Bool). (f == 0) && b) (sym (ends_line-append s u c)) in
+    let both = alike_after ((f == 0) && ends_line w) (typed_host k f (p + length s) w) (typed_host h f p (s ++ w)) f (p + length s + length w - 1) (typed_twice h f p s w one.can.place) in
+    let whole : after_typing ((f == 0) && ends_line w) (typed_host h f p (s ++ w)) f (p + length s + length w - 1) ≡ reply_to h (Ttype f p (s ++ w)) = (λ i. after_typing (ends i) (typed_host h f p (s ++ w)) f (end i)) ∙ sym (typed_reply h f p (s ++ w)) in
+    let told : r2 ≡ (counted (after_typing ((f == 0) && ends_line w) (typed_host k f (p + length s) w) f (p + length s + length w - 1)).0, (after_typing ((f == 0) && ends_line w) (typed_host k f (p + length s) w) f (p + length s + length w - 1)).1) = two.is ∙ ap (λ (r : Reply). (counted r.0, r.1)) (typed_reply k f (p + length s) w) in
+    record {
+      reply = (counted (reply_to h (Ttype f p (s ++ w))).0, (reply_to h (Ttype f p (s ++ w))).1);
+      now = plain_reply h (Ttype f p (s ++ w)) d (may_type h f p (s ++ w) can);
+      silent = ap (λ (r : Reply). r.1) first;
+      alike =
+          record {
+            files = ap (λ (r : Reply). r.0.files) told ∙ both.0.files ∙ ap (λ (r : Reply). r.0.files) whole;
+            done = ap (λ (r : Reply). r.0.is_done) told ∙ both.0.done ∙ ap (λ (r : Reply). r.0.is_done) whole;
+            version = ap (λ (r : Reply). r.0.version) told ∙ both.0.version ∙ ap (λ (r : Reply). r.0.version) whole;
+          };
+      frames = ap (λ (r : Reply). r.1) told ∙ both.1 ∙ ap (λ (r : Reply). r.1) whole;
+    }
+
+-- ## Behind other messages
+
+record Split (h : PlainHost) (ms ns : List Tmesg) (x : Reply) : Type 0 where
+  first : Reply
+  last : Reply
+  now : answers h ms ≡ Some first
+  later : answers first.0 ns ≡ Some last
+  whole : x ≡ (last.0, first.1 ++ last.1)
+
+answers_split : (h : PlainHost) (ms ns : List Tmesg) (x : Reply) → answers h (ms ++ ns) ≡ Some x → Split h ms ns x
+answers_split h [] ns x e = record { first = (h, []); last = x; now = refl; later = e; whole = refl }
+answers_split h (m ∷ ms) ns x e =
+    let t = answered h m (ms ++ ns) x e in
+    let r = answers_split t.first.0 ms ns t.rest t.later in
+    record {
+      first = (r.first.0, t.first.1 ++ r.first.1);
+      last = r.last;
+      now = ap (λ (o : Option Reply). replied_then o (λ k. answers k ms)) t.now ∙ ap (behind t.first.1) r.now;
+      later = r.later;
+      whole = t.whole ∙ (λ i. ((r.whole i).0, t.first.1 ++ (r.whole i).1)) ∙ ap (λ (fs : List Hmesg). (r.last.0, fs)) (sym (append_assoc t.first.1 r.first.1 r.last.1));
+    }
+
+-- the fold of one message in place of two
+pub joins : (h : PlainHost) (views : ℕ → Lens) (line : List Tmesg) (down : List Hmesg) (f p c : ℕ) (s u : List ℕ) → ((f == 0) && ends_line s) ≡ false
+    → Kept h views ((line ++ Ttype f p s ∷ []) ++ Ttype f (p + length s) (c ∷ u) ∷ []) down → Kept h views (line ++ Ttype f p (s ++ c ∷ u) ∷ []) down
+joins h views line down f p c s u plain k =
+    record {
+      ahead = j.reply.0;
+      frames = x.first.1 ++ j.reply.1;
+      folds = answers-append h line (Ttype f p (s ++ c ∷ u) ∷ []) x.first j.reply x.now (one (Ttype f p (s ++ c ∷ u)) x.first.0 j.reply j.now);
+      each = λ g.
+          subst (λ (fs : List Hmesg). IsKept (frames_at g (down ++ fs)) (views g) j.reply.0.is_done j.reply.0.version (file_in j.reply.0.files.slots g)) frames
+          (subst (λ (n : ℕ). IsKept (frames_at g (down ++ k.frames)) (views g) j.reply.0.is_done n (file_in j.reply.0.files.slots g)) alike.version
+          (subst (λ (b : Bool). IsKept (frames_at g (down ++ k.frames)) (views g) b k.ahead.version (file_in j.reply.0.files.slots g)) alike.done
+          (subst (λ (fs : PlainFiles). IsKept (frames_at g (down ++ k.frames)) (views g) k.ahead.is_done k.ahead.version (file_in fs.slots g)) alike.files (k.each g))));
+      steady = subst Good alike.files (record { sound = k.steady.sound; announced = k.steady.announced; fit = k.steady.fit });
+      versions = subst (λ (fs : List Hmesg). VersionsGuarded (map frame_of (down ++ fs))) frames k.versions;
+    }
+  where
+    B : Tmesg
+    B = Ttype f p s
+
+    C : Tmesg
+    C = Ttype f (p + length s) (c ∷ u)
+
+    one : (m : Tmesg) (a : PlainHost) (r : Reply) → reply_of a m ≡ Some r → answers a (m ∷ []) ≡ Some r
+    one m a r e = ap (λ (o : Option Reply). replied_then o (λ k. answers k [])) e ∙ ap (λ (fs : List Hmesg). Some (r.0, fs)) (append-nil r.1)
+
+    x : Split h line (B ∷ C ∷ []) (k.ahead, k.frames)
+    x = answers_split h line (B ∷ C ∷ []) (k.ahead, k.frames) (ap (answers h) (sym (append_assoc line (B ∷ []) (C ∷ []))) ∙ k.folds)
+
+    y : Answered x.first.0 B (C ∷ []) x.last
+    y = answered x.first.0 B (C ∷ []) x.last x.later
+
+    z : Answered y.first.0 C [] y.rest
+    z = answered y.first.0 C [] y.rest y.later
+
+    j : Joined x.first.0 f p s (c ∷ u) y.first z.first
+    j = go (bool_cases x.first.0.is_done)
+      where
+        go : (x.first.0.is_done ≡ true) ⊎ (x.first.0.is_done ≡ false) → Joined x.first.0 f p s (c ∷ u) y.first z.first
+        go (inl d) = joined_done x.first.0 f p s (c ∷ u) y.first z.first d y.now z.now
+        go (inr d) = joined_open x.first.0 f p c s u y.first z.first plain d y.now z.now
+
+    last : z.rest ≡ (z.first.0, [])
+    last = sym (the_reply z.later)
+
+    after : x.last ≡ (z.first.0, z.first.1)
+    after = y.whole ∙ (λ i. ((z.whole i).0, j.silent i ++ (z.whole i).1)) ∙ (λ i. ((last i).0, z.first.1 ++ (last i).1)) ∙ ap (λ (fs : List Hmesg). (z.first.0, fs)) (append-nil z.first.1)
+
+    ahead : k.ahead ≡ z.first.0
+    ahead = ap (λ (r : Reply). r.0) x.whole ∙ ap (λ (r : Reply). r.0) after
+
+    frames : k.frames ≡ x.first.1 ++ j.reply.1
+    frames = ap (λ (r : Reply). r.1) x.whole ∙ ap (λ (r : Reply). x.first.1 ++ r.1) after ∙ ap (λ (fs : List Hmesg). x.first.1 ++ fs) j.frames
+
+    alike : AreAlike k.ahead j.reply.0
+    alike = record { files = ap (λ (a : PlainHost). a.files) ahead ∙ j.alike.files; done = ap (λ (a : PlainHost). a.is_done) ahead ∙ j.alike.done; version = ap (λ (a : PlainHost). a.version) ahead ∙ j.alike.version }
+
+    Good : PlainFiles → Type 0
+    Good fs = IsSteady (record j.reply.0 { files = fs })

@@ -1,0 +1,530 @@
+-- Runs of actions at one file.
+use Rattle.std.proofs.Common.{◌≡◌, ℕ, zero, suc, Bool, true, false, ◌||◌, List, [], ◌∷◌, ◌++◌, Option, Some, None, ◌⊎◌, inl, inr, refl, sym, ap, ◌∙◌, subst, true≢false, if◌then◌else◌}
+use Rattle.sam_protocol.specs.Lens.{Slot, Unknown, Known, Open, Lens, lens, Action, Skip, Needs_known, Needs_open, Join, Bind, Close, Leave, Grow, Fill, Insert, Cut, Place, Change, Free_file, Free_command, Exit, move, run, and_then, IsFree, IsOpen, IsAlike, locked_more, exited_of, command_of, version_of, is_change, changes, is_free_command, frees_command, is_crossing, is_freeing, frees, IsGuarded, is_close, closes, is_exit, exits}
+
+and_then-and_then : (m : Option Lens) (f g h : Lens → Option Lens) → ((w : Lens) → h w ≡ and_then (f w) g) → and_then m h ≡ and_then (and_then m f) g
+and_then-and_then None f g h e = refl
+and_then-and_then (Some w) f g h e = e w
+
+pub run-append : (s u : List Action) (v : Lens) → run (s ++ u) v ≡ and_then (run s v) (run u)
+run-append [] u v = refl
+run-append (a ∷ s) u v = and_then-and_then (move a v) (run s) (run u) (run (s ++ u)) (λ w. run-append s u w)
+
+pub run-append_some : (s u : List Action) (v w : Lens) → run s v ≡ Some w → run (s ++ u) v ≡ run u w
+run-append_some s u v w e = run-append s u v ∙ ap (λ (m : Option Lens). and_then m (run u)) e
+
+-- a step that the run takes
+pub record Stepped (a : Action) (rest : List Action) (v w : Lens) : Type 0 where
+  pub mid : Lens
+  pub moves : move a v ≡ Some mid
+  pub on : run rest mid ≡ Some w
+
+pub stepped : (a : Action) (rest : List Action) (v w : Lens) → run (a ∷ rest) v ≡ Some w → Stepped a rest v w
+stepped a rest v w r = go (move a v) refl r
+  where
+    go : (m : Option Lens) → move a v ≡ m → and_then m (run rest) ≡ Some w → Stepped a rest v w
+    go None e q = cc
+    go (Some x) e q = record { mid = x; moves = e; on = q }
+
+pub if_some : (b : Bool) (x w : Lens) → (if b then Some x else None) ≡ Some w → (b ≡ true) × (x ≡ w)
+if_some true x w e = (refl, cc)
+if_some false x w e = cc
+
+free_moved : (x w : Lens) → Some x ≡ Some w → IsFree x → IsFree w
+free_moved x w e f = let q : x ≡ w = cc in subst IsFree q f
+
+-- from a free lens nothing is freed, and what frees nothing leaves it free
+pub free_or_refused : (a : Action) (v w : Lens) → IsFree v → move a v ≡ Some w → (is_freeing a ≡ false) × IsFree w
+free_or_refused Skip (lens true e n s) w f m = absurd f
+free_or_refused Skip (lens false e n Unknown) w f m = (refl, free_moved _ _ m tt)
+free_or_refused Skip (lens false e n Known) w f m = (refl, free_moved _ _ m tt)
+free_or_refused Skip (lens false e n (Open r zero)) w f m = (refl, free_moved _ _ m tt)
+free_or_refused Skip (lens false e n (Open r (suc k))) w f m = absurd f
+free_or_refused Needs_known (lens true e n s) w f m = absurd f
+free_or_refused Needs_known (lens false e n Unknown) w f m = cc
+free_or_refused Needs_known (lens false e n Known) w f m = (refl, free_moved _ _ m tt)
+free_or_refused Needs_known (lens false e n (Open r zero)) w f m = (refl, free_moved _ _ m tt)
+free_or_refused Needs_known (lens false e n (Open r (suc k))) w f m = absurd f
+free_or_refused Needs_open (lens true e n s) w f m = absurd f
+free_or_refused Needs_open (lens false e n Unknown) w f m = cc
+free_or_refused Needs_open (lens false e n Known) w f m = cc
+free_or_refused Needs_open (lens false e n (Open r zero)) w f m = (refl, free_moved _ _ m tt)
+free_or_refused Needs_open (lens false e n (Open r (suc k))) w f m = absurd f
+free_or_refused Join (lens true e n s) w f m = absurd f
+free_or_refused Join (lens false e n Unknown) w f m = (refl, free_moved _ _ m tt)
+free_or_refused Join (lens false e n Known) w f m = cc
+free_or_refused Join (lens false e n (Open r zero)) w f m = cc
+free_or_refused Join (lens false e n (Open r (suc k))) w f m = absurd f
+free_or_refused Bind (lens true e n s) w f m = absurd f
+free_or_refused Bind (lens false e n Unknown) w f m = cc
+free_or_refused Bind (lens false e n Known) w f m = (refl, free_moved _ _ m tt)
+free_or_refused Bind (lens false e n (Open r zero)) w f m = cc
+free_or_refused Bind (lens false e n (Open r (suc k))) w f m = absurd f
+free_or_refused Close (lens true e n s) w f m = absurd f
+free_or_refused Close (lens false e n Unknown) w f m = cc
+free_or_refused Close (lens false e n Known) w f m = cc
+free_or_refused Close (lens false e n (Open r zero)) w f m = (refl, free_moved _ _ m tt)
+free_or_refused Close (lens false e n (Open r (suc k))) w f m = absurd f
+free_or_refused Leave (lens true e n s) w f m = absurd f
+free_or_refused Leave (lens false e n Unknown) w f m = cc
+free_or_refused Leave (lens false e n Known) w f m = (refl, free_moved _ _ m tt)
+free_or_refused Leave (lens false e n (Open r zero)) w f m = cc
+free_or_refused Leave (lens false e n (Open r (suc k))) w f m = absurd f
+free_or_refused (Grow p z) (lens true e n s) w f m = absurd f
+free_or_refused (Grow p z) (lens false e n Unknown) w f m = cc
+free_or_refused (Grow p z) (lens false e n Known) w f m = cc
+free_or_refused (Grow p z) (lens false e n (Open r zero)) w f m = (refl, subst IsFree (if_some _ _ _ m).1 tt)
+free_or_refused (Grow p z) (lens false e n (Open r (suc k))) w f m = absurd f
+free_or_refused (Fill p z) (lens true e n s) w f m = absurd f
+free_or_refused (Fill p z) (lens false e n Unknown) w f m = cc
+free_or_refused (Fill p z) (lens false e n Known) w f m = cc
+free_or_refused (Fill p z) (lens false e n (Open r zero)) w f m = (refl, subst IsFree (if_some _ _ _ m).1 tt)
+free_or_refused (Fill p z) (lens false e n (Open r (suc k))) w f m = absurd f
+free_or_refused (Insert p z) (lens true e n s) w f m = absurd f
+free_or_refused (Insert p z) (lens false e n Unknown) w f m = cc
+free_or_refused (Insert p z) (lens false e n Known) w f m = cc
+free_or_refused (Insert p z) (lens false e n (Open r zero)) w f m = (refl, subst IsFree (if_some _ _ _ m).1 tt)
+free_or_refused (Insert p z) (lens false e n (Open r (suc k))) w f m = absurd f
+free_or_refused (Cut p z) (lens true e n s) w f m = absurd f
+free_or_refused (Cut p z) (lens false e n Unknown) w f m = cc
+free_or_refused (Cut p z) (lens false e n Known) w f m = cc
+free_or_refused (Cut p z) (lens false e n (Open r zero)) w f m = (refl, subst IsFree (if_some _ _ _ m).1 tt)
+free_or_refused (Cut p z) (lens false e n (Open r (suc k))) w f m = absurd f
+free_or_refused (Place p z) (lens true e n s) w f m = absurd f
+free_or_refused (Place p z) (lens false e n Unknown) w f m = cc
+free_or_refused (Place p z) (lens false e n Known) w f m = cc
+free_or_refused (Place p z) (lens false e n (Open r zero)) w f m = (refl, subst IsFree (if_some _ _ _ m).1 tt)
+free_or_refused (Place p z) (lens false e n (Open r (suc k))) w f m = absurd f
+free_or_refused (Change z) (lens true e n s) w f m = absurd f
+free_or_refused (Change z) (lens false e n Unknown) w f m = (refl, free_moved _ _ m tt)
+free_or_refused (Change z) (lens false e n Known) w f m = (refl, free_moved _ _ m tt)
+free_or_refused (Change z) (lens false e n (Open r zero)) w f m = (refl, free_moved _ _ m tt)
+free_or_refused (Change z) (lens false e n (Open r (suc k))) w f m = absurd f
+free_or_refused Free_file (lens true e n s) w f m = absurd f
+free_or_refused Free_file (lens false e n Unknown) w f m = cc
+free_or_refused Free_file (lens false e n Known) w f m = cc
+free_or_refused Free_file (lens false e n (Open r zero)) w f m = cc
+free_or_refused Free_file (lens false e n (Open r (suc k))) w f m = absurd f
+free_or_refused Free_command (lens true e n s) w f m = absurd f
+free_or_refused Free_command (lens false e n Unknown) w f m = cc
+free_or_refused Free_command (lens false e n Known) w f m = cc
+free_or_refused Free_command (lens false e n (Open r zero)) w f m = cc
+free_or_refused Free_command (lens false e n (Open r (suc k))) w f m = absurd f
+free_or_refused Exit (lens true e n s) w f m = absurd f
+free_or_refused Exit (lens false e n Unknown) w f m = cc
+free_or_refused Exit (lens false e n Known) w f m = cc
+free_or_refused Exit (lens false e n (Open r zero)) w f m = cc
+free_or_refused Exit (lens false e n (Open r (suc k))) w f m = absurd f
+
+or_false : (a b : Bool) → a ≡ false → b ≡ false → (a || b) ≡ false
+or_false a b p q = ap (λ x. x || b) p ∙ q
+
+-- what runs from a free lens frees nothing
+pub frees_nothing : (s : List Action) (v w : Lens) → IsFree v → run s v ≡ Some w → frees s ≡ false
+frees_nothing [] v w f r = refl
+frees_nothing (a ∷ s) v w f r =
+    let t = stepped a s v w r in
+    let u = free_or_refused a v t.mid f t.moves in
+    or_false _ _ u.0 (frees_nothing s t.mid w u.1 t.on)
+
+-- an idle action from a free lens: it leaves that lens, and every lens that is alike
+pub idle : (a : Action) (v w x : Lens) → is_freeing a ≡ false → is_crossing a ≡ false → IsAlike v x → move a v ≡ Some w → (w ≡ v) × (move a x ≡ Some x)
+idle Skip v w x i j l m = (cc, refl)
+idle Needs_known (lens c e n Unknown) w (lens c2 e2 n2 Unknown) i j l m = cc
+idle Needs_known (lens c e n Unknown) w (lens c2 e2 n2 Known) i j l m = absurd l
+idle Needs_known (lens c e n Unknown) w (lens c2 e2 n2 (Open r2 k2)) i j l m = absurd l
+idle Needs_known (lens c e n Known) w (lens c2 e2 n2 Unknown) i j l m = absurd l
+idle Needs_known (lens c e n Known) w (lens c2 e2 n2 Known) i j l m = (cc, refl)
+idle Needs_known (lens c e n Known) w (lens c2 e2 n2 (Open r2 k2)) i j l m = absurd l
+idle Needs_known (lens c e n (Open r k)) w (lens c2 e2 n2 Unknown) i j l m = absurd l
+idle Needs_known (lens c e n (Open r k)) w (lens c2 e2 n2 Known) i j l m = absurd l
+idle Needs_known (lens c e n (Open r k)) w (lens c2 e2 n2 (Open r2 k2)) i j l m = (cc, refl)
+idle Needs_open (lens c e n Unknown) w (lens c2 e2 n2 Unknown) i j l m = cc
+idle Needs_open (lens c e n Unknown) w (lens c2 e2 n2 Known) i j l m = absurd l
+idle Needs_open (lens c e n Unknown) w (lens c2 e2 n2 (Open r2 k2)) i j l m = absurd l
+idle Needs_open (lens c e n Known) w (lens c2 e2 n2 Unknown) i j l m = absurd l
+idle Needs_open (lens c e n Known) w (lens c2 e2 n2 Known) i j l m = cc
+idle Needs_open (lens c e n Known) w (lens c2 e2 n2 (Open r2 k2)) i j l m = absurd l
+idle Needs_open (lens c e n (Open r k)) w (lens c2 e2 n2 Unknown) i j l m = absurd l
+idle Needs_open (lens c e n (Open r k)) w (lens c2 e2 n2 Known) i j l m = absurd l
+idle Needs_open (lens c e n (Open r k)) w (lens c2 e2 n2 (Open r2 k2)) i j l m = (cc, refl)
+idle Join v w x i j l m = absurd (true≢false j)
+idle Bind v w x i j l m = absurd (true≢false j)
+idle Close v w x i j l m = absurd (true≢false j)
+idle Leave v w x i j l m = absurd (true≢false j)
+idle (Grow p z) v w x i j l m = absurd (true≢false j)
+idle (Fill p z) v w x i j l m = absurd (true≢false j)
+idle (Insert p z) v w x i j l m = absurd (true≢false j)
+idle (Cut p z) v w x i j l m = absurd (true≢false j)
+idle (Place p z) v w x i j l m = absurd (true≢false j)
+idle (Change z) v w x i j l m = absurd (true≢false j)
+idle Free_file v w x i j l m = absurd (true≢false i)
+idle Free_command v w x i j l m = absurd (true≢false i)
+idle Exit v w x i j l m = absurd (true≢false i)
+
+cases : (b : Bool) → (b ≡ true) ⊎ (b ≡ false)
+cases true = inl refl
+cases false = inr refl
+
+-- what is under way moves no free lens, and would move none that is alike
+pub still : (s : List Action) (v w x : Lens) → IsFree v → IsGuarded s → IsAlike v x → run s v ≡ Some w → (w ≡ v) × (run s x ≡ Some x)
+still [] v w x f g l r = (cc, refl)
+still (a ∷ s) v w x f g l r =
+    let t = stepped a s v w r in
+    let u = free_or_refused a v t.mid f t.moves in
+    let none = frees_nothing s t.mid w u.1 t.on in
+    let quiet : is_crossing a ≡ false = quiet_of (cases (is_crossing a)) g.0 none in
+    let i = idle a v t.mid x u.0 quiet l t.moves in
+    let on : run s v ≡ Some w = subst (λ (m : Lens). run s m ≡ Some w) i.0 t.on in
+    let h = still s v w x f g.1 l on in
+    (h.0, ap (λ (m : Option Lens). and_then m (run s)) i.1 ∙ h.1)
+  where
+    quiet_of : (is_crossing a ≡ true) ⊎ (is_crossing a ≡ false) → (is_crossing a ≡ true → frees s ≡ true) → frees s ≡ false → is_crossing a ≡ false
+    quiet_of (inr q) h none = q
+    quiet_of (inl q) h none = absurd (true≢false (sym (h q) ∙ none))
+
+-- a step with one lock more: the lock stays, or the step ends it
+abbrev pub StepsMore : Action → Lens → Lens → Type 0
+StepsMore a v m = (((is_close a || is_exit a) ≡ true) × (move a (locked_more v) ≡ Some m)) ⊎ (IsOpen m × (move a (locked_more v) ≡ Some (locked_more m)) × ((is_close a || is_exit a) ≡ false))
+
+stays : (a : Action) (v x m : Lens) → move a (locked_more v) ≡ Some (locked_more x) → IsOpen x → x ≡ m → (is_close a || is_exit a) ≡ false → StepsMore a v m
+stays a v x m e o q i = inr (subst IsOpen q o, e ∙ ap (λ (y : Lens). Some (locked_more y)) q, i)
+
+if_true : (b : Bool) (x : Lens) → b ≡ true → (if b then Some x else None) ≡ Some x
+if_true true x e = refl
+if_true false x e = absurd (true≢false (sym e))
+
+steps_more : (a : Action) (v m : Lens) → IsOpen v → move a v ≡ Some m → StepsMore a v m
+steps_more Skip (lens c e n Unknown) m o q = absurd o
+steps_more Skip (lens c e n Known) m o q = absurd o
+steps_more Skip (lens c e n (Open r k)) m o q = stays Skip (lens c e n (Open r k)) (lens c e n (Open r k)) m refl tt (cc) refl
+steps_more Needs_known (lens c e n Unknown) m o q = absurd o
+steps_more Needs_known (lens c e n Known) m o q = absurd o
+steps_more Needs_known (lens c e n (Open r k)) m o q = stays Needs_known (lens c e n (Open r k)) (lens c e n (Open r k)) m refl tt (cc) refl
+steps_more Needs_open (lens c e n Unknown) m o q = absurd o
+steps_more Needs_open (lens c e n Known) m o q = absurd o
+steps_more Needs_open (lens c e n (Open r k)) m o q = stays Needs_open (lens c e n (Open r k)) (lens c e n (Open r k)) m refl tt (cc) refl
+steps_more Join (lens c e n Unknown) m o q = absurd o
+steps_more Join (lens c e n Known) m o q = absurd o
+steps_more Join (lens c e n (Open r k)) m o q = cc
+steps_more Bind (lens c e n Unknown) m o q = absurd o
+steps_more Bind (lens c e n Known) m o q = absurd o
+steps_more Bind (lens c e n (Open r k)) m o q = cc
+steps_more Close (lens c e n Unknown) m o q = absurd o
+steps_more Close (lens c e n Known) m o q = absurd o
+steps_more Close (lens c e n (Open r k)) m o q = inl (refl, q)
+steps_more Leave (lens c e n Unknown) m o q = absurd o
+steps_more Leave (lens c e n Known) m o q = absurd o
+steps_more Leave (lens c e n (Open r k)) m o q = cc
+steps_more (Grow p z) (lens c e n Unknown) m o q = absurd o
+steps_more (Grow p z) (lens c e n Known) m o q = absurd o
+steps_more (Grow p z) (lens c e n (Open r k)) m o q = let t = if_some _ _ _ q in stays (Grow p z) (lens c e n (Open r k)) _ m (if_true _ _ t.0) tt t.1 refl
+steps_more (Fill p z) (lens c e n Unknown) m o q = absurd o
+steps_more (Fill p z) (lens c e n Known) m o q = absurd o
+steps_more (Fill p z) (lens c e n (Open r k)) m o q = let t = if_some _ _ _ q in stays (Fill p z) (lens c e n (Open r k)) _ m (if_true _ _ t.0) tt t.1 refl
+steps_more (Insert p z) (lens c e n Unknown) m o q = absurd o
+steps_more (Insert p z) (lens c e n Known) m o q = absurd o
+steps_more (Insert p z) (lens c e n (Open r k)) m o q = let t = if_some _ _ _ q in stays (Insert p z) (lens c e n (Open r k)) _ m (if_true _ _ t.0) tt t.1 refl
+steps_more (Cut p z) (lens c e n Unknown) m o q = absurd o
+steps_more (Cut p z) (lens c e n Known) m o q = absurd o
+steps_more (Cut p z) (lens c e n (Open r k)) m o q = let t = if_some _ _ _ q in stays (Cut p z) (lens c e n (Open r k)) _ m (if_true _ _ t.0) tt t.1 refl
+steps_more (Place p z) (lens c e n Unknown) m o q = absurd o
+steps_more (Place p z) (lens c e n Known) m o q = absurd o
+steps_more (Place p z) (lens c e n (Open r k)) m o q = let t = if_some _ _ _ q in stays (Place p z) (lens c e n (Open r k)) _ m (if_true _ _ t.0) tt t.1 refl
+steps_more (Change z) (lens c e n Unknown) m o q = absurd o
+steps_more (Change z) (lens c e n Known) m o q = absurd o
+steps_more (Change z) (lens c e n (Open r k)) m o q = stays (Change z) (lens c e n (Open r k)) (lens c e z (Open r k)) m refl tt (cc) refl
+steps_more Free_file (lens c e n Unknown) m o q = absurd o
+steps_more Free_file (lens c e n Known) m o q = absurd o
+steps_more Free_file (lens c e n (Open r zero)) m o q = cc
+steps_more Free_file (lens c e n (Open r (suc k))) m o q = stays Free_file (lens c e n (Open r (suc k))) (lens c e n (Open r k)) m refl tt (cc) refl
+steps_more Free_command (lens c e n Unknown) m o q = absurd o
+steps_more Free_command (lens c e n Known) m o q = absurd o
+steps_more Free_command (lens false e n (Open r k)) m o q = cc
+steps_more Free_command (lens true e n (Open r k)) m o q = stays Free_command (lens true e n (Open r k)) (lens false e n (Open r k)) m refl tt (cc) refl
+steps_more Exit (lens c e n Unknown) m o q = absurd o
+steps_more Exit (lens c e n Known) m o q = absurd o
+steps_more Exit (lens false e n (Open r k)) m o q = cc
+steps_more Exit (lens true e n (Open r k)) m o q = inl (refl, q)
+
+abbrev pub RunsMore : List Action → Lens → Lens → Type 0
+RunsMore s v w = (((closes s || exits s) ≡ true) × (run s (locked_more v) ≡ Some w)) ⊎ (IsOpen w × (run s (locked_more v) ≡ Some (locked_more w)) × ((closes s || exits s) ≡ false))
+
+or_left : (a b c d : Bool) → (a || b) ≡ true → ((a || c) || (b || d)) ≡ true
+or_left true b c d e = refl
+or_left false true true d e = refl
+or_left false true false d e = refl
+or_left false false c d e = absurd (true≢false (sym e))
+
+neither : (a b c d : Bool) → (a || b) ≡ false → (c || d) ≡ false → ((a || c) || (b || d)) ≡ false
+neither true b c d e f = e
+neither false true c d e f = absurd (true≢false e)
+neither false false c d e f = f
+
+or_right : (a b c d : Bool) → (c || d) ≡ true → ((a || c) || (b || d)) ≡ true
+or_right true b c d e = refl
+or_right false true true d e = refl
+or_right false true false d e = refl
+or_right false false c d e = e
+
+-- the same run with one lock more ends with one lock more, or the lock was ended on the way
+pub runs_more : (s : List Action) (v w : Lens) → IsOpen v → run s v ≡ Some w → RunsMore s v w
+runs_more [] v w o r = let q : v ≡ w = cc in inr (subst IsOpen q o, ap (λ (y : Lens). Some (locked_more y)) q, refl)
+runs_more (a ∷ s) v w o r =
+    let t = stepped a s v w r in
+    first_step t.mid t.on (λ o2. runs_more s t.mid w o2 t.on) (steps_more a v t.mid o t.moves)
+  where
+    goes : (x y : Lens) (z : Option Lens) → move a x ≡ Some y → run s y ≡ z → run (a ∷ s) x ≡ z
+    goes x y z e q = ap (λ (m : Option Lens). and_then m (run s)) e ∙ q
+
+    later : (m : Lens) → move a (locked_more v) ≡ Some (locked_more m) → (is_close a || is_exit a) ≡ false → RunsMore s m w → RunsMore (a ∷ s) v w
+    later m e i (inl h) = inl (or_right (is_close a) (is_exit a) (closes s) (exits s) h.0, goes _ _ _ e h.1)
+    later m e i (inr h) = inr (h.0, goes _ _ _ e h.1, neither (is_close a) (is_exit a) (closes s) (exits s) i h.2)
+
+    first_step : (m : Lens) → run s m ≡ Some w → (IsOpen m → RunsMore s m w) → StepsMore a v m → RunsMore (a ∷ s) v w
+    first_step m on more (inl h) = inl (or_left (is_close a) (is_exit a) (closes s) (exits s) h.0, goes _ _ _ h.1 on)
+    first_step m on more (inr h) = later m h.1 h.2 (more h.0)
+
+the : {x y : Lens} → Some x ≡ Some y → x ≡ y
+the e = cc
+
+-- the terminal has exited exactly where an Hexit came
+exits_exactly : (a : Action) (v m : Lens) → move a v ≡ Some m → exited_of m ≡ (is_exit a || exited_of v)
+exits_exactly Skip (lens c e n Unknown) m q = sym (ap exited_of (the q))
+exits_exactly Skip (lens c e n Known) m q = sym (ap exited_of (the q))
+exits_exactly Skip (lens c e n (Open r k)) m q = sym (ap exited_of (the q))
+exits_exactly Needs_known (lens c e n Unknown) m q = cc
+exits_exactly Needs_known (lens c e n Known) m q = sym (ap exited_of (the q))
+exits_exactly Needs_known (lens c e n (Open r k)) m q = sym (ap exited_of (the q))
+exits_exactly Needs_open (lens c e n Unknown) m q = cc
+exits_exactly Needs_open (lens c e n Known) m q = cc
+exits_exactly Needs_open (lens c e n (Open r k)) m q = sym (ap exited_of (the q))
+exits_exactly Join (lens c e n Unknown) m q = sym (ap exited_of (the q))
+exits_exactly Join (lens c e n Known) m q = cc
+exits_exactly Join (lens c e n (Open r k)) m q = cc
+exits_exactly Bind (lens c e n Unknown) m q = cc
+exits_exactly Bind (lens c e n Known) m q = sym (ap exited_of (the q))
+exits_exactly Bind (lens c e n (Open r k)) m q = cc
+exits_exactly Close (lens c e n Unknown) m q = cc
+exits_exactly Close (lens c e n Known) m q = cc
+exits_exactly Close (lens c e n (Open r k)) m q = sym (ap exited_of (the q))
+exits_exactly Leave (lens c e n Unknown) m q = cc
+exits_exactly Leave (lens c e n Known) m q = sym (ap exited_of (the q))
+exits_exactly Leave (lens c e n (Open r k)) m q = cc
+exits_exactly (Grow p z) (lens c e n Unknown) m q = cc
+exits_exactly (Grow p z) (lens c e n Known) m q = cc
+exits_exactly (Grow p z) (lens c e n (Open r k)) m q = sym (ap exited_of (if_some _ _ _ q).1)
+exits_exactly (Fill p z) (lens c e n Unknown) m q = cc
+exits_exactly (Fill p z) (lens c e n Known) m q = cc
+exits_exactly (Fill p z) (lens c e n (Open r k)) m q = sym (ap exited_of (if_some _ _ _ q).1)
+exits_exactly (Insert p z) (lens c e n Unknown) m q = cc
+exits_exactly (Insert p z) (lens c e n Known) m q = cc
+exits_exactly (Insert p z) (lens c e n (Open r k)) m q = sym (ap exited_of (if_some _ _ _ q).1)
+exits_exactly (Cut p z) (lens c e n Unknown) m q = cc
+exits_exactly (Cut p z) (lens c e n Known) m q = cc
+exits_exactly (Cut p z) (lens c e n (Open r k)) m q = sym (ap exited_of (if_some _ _ _ q).1)
+exits_exactly (Place p z) (lens c e n Unknown) m q = cc
+exits_exactly (Place p z) (lens c e n Known) m q = cc
+exits_exactly (Place p z) (lens c e n (Open r k)) m q = sym (ap exited_of (if_some _ _ _ q).1)
+exits_exactly (Change z) (lens c e n Unknown) m q = sym (ap exited_of (the q))
+exits_exactly (Change z) (lens c e n Known) m q = sym (ap exited_of (the q))
+exits_exactly (Change z) (lens c e n (Open r k)) m q = sym (ap exited_of (the q))
+exits_exactly Free_file (lens c e n Unknown) m q = cc
+exits_exactly Free_file (lens c e n Known) m q = cc
+exits_exactly Free_file (lens c e n (Open r zero)) m q = cc
+exits_exactly Free_file (lens c e n (Open r (suc k))) m q = sym (ap exited_of (the q))
+exits_exactly Free_command (lens false e n Unknown) m q = cc
+exits_exactly Free_command (lens true e n Unknown) m q = sym (ap exited_of (the q))
+exits_exactly Free_command (lens false e n Known) m q = cc
+exits_exactly Free_command (lens true e n Known) m q = sym (ap exited_of (the q))
+exits_exactly Free_command (lens false e n (Open r k)) m q = cc
+exits_exactly Free_command (lens true e n (Open r k)) m q = sym (ap exited_of (the q))
+exits_exactly Exit (lens false e n Unknown) m q = cc
+exits_exactly Exit (lens true e n Unknown) m q = sym (ap exited_of (the q))
+exits_exactly Exit (lens false e n Known) m q = cc
+exits_exactly Exit (lens true e n Known) m q = sym (ap exited_of (the q))
+exits_exactly Exit (lens false e n (Open r k)) m q = cc
+exits_exactly Exit (lens true e n (Open r k)) m q = sym (ap exited_of (the q))
+
+or_shift : (p q x : Bool) → (q || (p || x)) ≡ ((p || q) || x)
+or_shift true true x = refl
+or_shift true false x = refl
+or_shift false q x = refl
+
+pub exited_after : (s : List Action) (v w : Lens) → run s v ≡ Some w → exited_of w ≡ (exits s || exited_of v)
+exited_after [] v w r = sym (ap exited_of (the r))
+exited_after (a ∷ s) v w r =
+    let t = stepped a s v w r in
+    exited_after s t.mid w t.on ∙ ap (λ (x : Bool). exits s || x) (exits_exactly a v t.mid t.moves) ∙ or_shift (is_exit a) (exits s) (exited_of v)
+
+refused_free : (c e : Bool) (n : ℕ) (s : Slot) (m : Lens) → move Free_command (lens c e n s) ≡ Some m → c ≡ false → ⊥
+refused_free true e n s m q x = true≢false x
+refused_free false e n s m q x = cc
+
+refused_exit : (c e : Bool) (n : ℕ) (s : Slot) (m : Lens) → move Exit (lens c e n s) ≡ Some m → c ≡ false → ⊥
+refused_exit true e n s m q x = true≢false x
+refused_exit false e n Unknown m q x = cc
+refused_exit false e n Known m q x = cc
+refused_exit false e n (Open r k) m q x = cc
+
+-- without the command lock no Hexit comes
+no_exit_step : (a : Action) (v m : Lens) → move a v ≡ Some m → command_of v ≡ false → (is_exit a ≡ false) × (command_of m ≡ false)
+no_exit_step Skip (lens c e n Unknown) m q x = (refl, sym (ap command_of (the q)) ∙ x)
+no_exit_step Skip (lens c e n Known) m q x = (refl, sym (ap command_of (the q)) ∙ x)
+no_exit_step Skip (lens c e n (Open r k)) m q x = (refl, sym (ap command_of (the q)) ∙ x)
+no_exit_step Needs_known (lens c e n Unknown) m q x = cc
+no_exit_step Needs_known (lens c e n Known) m q x = (refl, sym (ap command_of (the q)) ∙ x)
+no_exit_step Needs_known (lens c e n (Open r k)) m q x = (refl, sym (ap command_of (the q)) ∙ x)
+no_exit_step Needs_open (lens c e n Unknown) m q x = cc
+no_exit_step Needs_open (lens c e n Known) m q x = cc
+no_exit_step Needs_open (lens c e n (Open r k)) m q x = (refl, sym (ap command_of (the q)) ∙ x)
+no_exit_step Join (lens c e n Unknown) m q x = (refl, sym (ap command_of (the q)) ∙ x)
+no_exit_step Join (lens c e n Known) m q x = cc
+no_exit_step Join (lens c e n (Open r k)) m q x = cc
+no_exit_step Bind (lens c e n Unknown) m q x = cc
+no_exit_step Bind (lens c e n Known) m q x = (refl, sym (ap command_of (the q)) ∙ x)
+no_exit_step Bind (lens c e n (Open r k)) m q x = cc
+no_exit_step Close (lens c e n Unknown) m q x = cc
+no_exit_step Close (lens c e n Known) m q x = cc
+no_exit_step Close (lens c e n (Open r k)) m q x = (refl, sym (ap command_of (the q)) ∙ x)
+no_exit_step Leave (lens c e n Unknown) m q x = cc
+no_exit_step Leave (lens c e n Known) m q x = (refl, sym (ap command_of (the q)) ∙ x)
+no_exit_step Leave (lens c e n (Open r k)) m q x = cc
+no_exit_step (Grow p z) (lens c e n Unknown) m q x = cc
+no_exit_step (Grow p z) (lens c e n Known) m q x = cc
+no_exit_step (Grow p z) (lens c e n (Open r k)) m q x = (refl, sym (ap command_of (if_some _ _ _ q).1) ∙ x)
+no_exit_step (Fill p z) (lens c e n Unknown) m q x = cc
+no_exit_step (Fill p z) (lens c e n Known) m q x = cc
+no_exit_step (Fill p z) (lens c e n (Open r k)) m q x = (refl, sym (ap command_of (if_some _ _ _ q).1) ∙ x)
+no_exit_step (Insert p z) (lens c e n Unknown) m q x = cc
+no_exit_step (Insert p z) (lens c e n Known) m q x = cc
+no_exit_step (Insert p z) (lens c e n (Open r k)) m q x = (refl, sym (ap command_of (if_some _ _ _ q).1) ∙ x)
+no_exit_step (Cut p z) (lens c e n Unknown) m q x = cc
+no_exit_step (Cut p z) (lens c e n Known) m q x = cc
+no_exit_step (Cut p z) (lens c e n (Open r k)) m q x = (refl, sym (ap command_of (if_some _ _ _ q).1) ∙ x)
+no_exit_step (Place p z) (lens c e n Unknown) m q x = cc
+no_exit_step (Place p z) (lens c e n Known) m q x = cc
+no_exit_step (Place p z) (lens c e n (Open r k)) m q x = (refl, sym (ap command_of (if_some _ _ _ q).1) ∙ x)
+no_exit_step (Change z) (lens c e n Unknown) m q x = (refl, sym (ap command_of (the q)) ∙ x)
+no_exit_step (Change z) (lens c e n Known) m q x = (refl, sym (ap command_of (the q)) ∙ x)
+no_exit_step (Change z) (lens c e n (Open r k)) m q x = (refl, sym (ap command_of (the q)) ∙ x)
+no_exit_step Free_file (lens c e n Unknown) m q x = cc
+no_exit_step Free_file (lens c e n Known) m q x = cc
+no_exit_step Free_file (lens c e n (Open r zero)) m q x = cc
+no_exit_step Free_file (lens c e n (Open r (suc k))) m q x = (refl, sym (ap command_of (the q)) ∙ x)
+no_exit_step Free_command (lens c e n Unknown) m q x = absurd (refused_free c e n Unknown m q x)
+no_exit_step Free_command (lens c e n Known) m q x = absurd (refused_free c e n Known m q x)
+no_exit_step Free_command (lens c e n (Open r k)) m q x = absurd (refused_free c e n (Open r k) m q x)
+no_exit_step Exit (lens c e n Unknown) m q x = absurd (refused_exit c e n Unknown m q x)
+no_exit_step Exit (lens c e n Known) m q x = absurd (refused_exit c e n Known m q x)
+no_exit_step Exit (lens c e n (Open r k)) m q x = absurd (refused_exit c e n (Open r k) m q x)
+
+pub no_exit : (s : List Action) (v w : Lens) → run s v ≡ Some w → command_of v ≡ false → exits s ≡ false
+no_exit [] v w r x = refl
+no_exit (a ∷ s) v w r x =
+    let t = stepped a s v w r in
+    let h = no_exit_step a v t.mid t.moves x in
+    or_false _ _ h.0 (no_exit s t.mid w t.on h.1)
+
+-- without the command lock no Hunlock comes
+no_unlock_step : (a : Action) (v m : Lens) → move a v ≡ Some m → command_of v ≡ false → is_free_command a ≡ false
+no_unlock_step Free_command (lens c e n s) m q x = absurd (refused_free c e n s m q x)
+no_unlock_step Skip v m q x = refl
+no_unlock_step Needs_known v m q x = refl
+no_unlock_step Needs_open v m q x = refl
+no_unlock_step Join v m q x = refl
+no_unlock_step Bind v m q x = refl
+no_unlock_step Close v m q x = refl
+no_unlock_step Leave v m q x = refl
+no_unlock_step (Grow p z) v m q x = refl
+no_unlock_step (Fill p z) v m q x = refl
+no_unlock_step (Insert p z) v m q x = refl
+no_unlock_step (Cut p z) v m q x = refl
+no_unlock_step (Place p z) v m q x = refl
+no_unlock_step (Change z) v m q x = refl
+no_unlock_step Free_file v m q x = refl
+no_unlock_step Exit v m q x = refl
+
+pub no_unlock : (s : List Action) (v w : Lens) → run s v ≡ Some w → command_of v ≡ false → frees_command s ≡ false
+no_unlock [] v w r x = refl
+no_unlock (a ∷ s) v w r x =
+    let t = stepped a s v w r in
+    or_false _ _ (no_unlock_step a v t.mid t.moves x) (no_unlock s t.mid w t.on (no_exit_step a v t.mid t.moves x).1)
+
+-- where no Hversion comes the version stays
+same_version_step : (a : Action) (v m : Lens) → move a v ≡ Some m → is_change a ≡ false → version_of m ≡ version_of v
+same_version_step Skip (lens c e n Unknown) m q x = sym (ap version_of (the q))
+same_version_step Skip (lens c e n Known) m q x = sym (ap version_of (the q))
+same_version_step Skip (lens c e n (Open r k)) m q x = sym (ap version_of (the q))
+same_version_step Needs_known (lens c e n Unknown) m q x = cc
+same_version_step Needs_known (lens c e n Known) m q x = sym (ap version_of (the q))
+same_version_step Needs_known (lens c e n (Open r k)) m q x = sym (ap version_of (the q))
+same_version_step Needs_open (lens c e n Unknown) m q x = cc
+same_version_step Needs_open (lens c e n Known) m q x = cc
+same_version_step Needs_open (lens c e n (Open r k)) m q x = sym (ap version_of (the q))
+same_version_step Join (lens c e n Unknown) m q x = sym (ap version_of (the q))
+same_version_step Join (lens c e n Known) m q x = cc
+same_version_step Join (lens c e n (Open r k)) m q x = cc
+same_version_step Bind (lens c e n Unknown) m q x = cc
+same_version_step Bind (lens c e n Known) m q x = sym (ap version_of (the q))
+same_version_step Bind (lens c e n (Open r k)) m q x = cc
+same_version_step Close (lens c e n Unknown) m q x = cc
+same_version_step Close (lens c e n Known) m q x = cc
+same_version_step Close (lens c e n (Open r k)) m q x = sym (ap version_of (the q))
+same_version_step Leave (lens c e n Unknown) m q x = cc
+same_version_step Leave (lens c e n Known) m q x = sym (ap version_of (the q))
+same_version_step Leave (lens c e n (Open r k)) m q x = cc
+same_version_step (Grow p z) (lens c e n Unknown) m q x = cc
+same_version_step (Grow p z) (lens c e n Known) m q x = cc
+same_version_step (Grow p z) (lens c e n (Open r k)) m q x = sym (ap version_of (if_some _ _ _ q).1)
+same_version_step (Fill p z) (lens c e n Unknown) m q x = cc
+same_version_step (Fill p z) (lens c e n Known) m q x = cc
+same_version_step (Fill p z) (lens c e n (Open r k)) m q x = sym (ap version_of (if_some _ _ _ q).1)
+same_version_step (Insert p z) (lens c e n Unknown) m q x = cc
+same_version_step (Insert p z) (lens c e n Known) m q x = cc
+same_version_step (Insert p z) (lens c e n (Open r k)) m q x = sym (ap version_of (if_some _ _ _ q).1)
+same_version_step (Cut p z) (lens c e n Unknown) m q x = cc
+same_version_step (Cut p z) (lens c e n Known) m q x = cc
+same_version_step (Cut p z) (lens c e n (Open r k)) m q x = sym (ap version_of (if_some _ _ _ q).1)
+same_version_step (Place p z) (lens c e n Unknown) m q x = cc
+same_version_step (Place p z) (lens c e n Known) m q x = cc
+same_version_step (Place p z) (lens c e n (Open r k)) m q x = sym (ap version_of (if_some _ _ _ q).1)
+same_version_step (Change z) v m q x = absurd (true≢false x)
+same_version_step Free_file (lens c e n Unknown) m q x = cc
+same_version_step Free_file (lens c e n Known) m q x = cc
+same_version_step Free_file (lens c e n (Open r zero)) m q x = cc
+same_version_step Free_file (lens c e n (Open r (suc k))) m q x = sym (ap version_of (the q))
+same_version_step Free_command (lens false e n Unknown) m q x = cc
+same_version_step Free_command (lens true e n Unknown) m q x = sym (ap version_of (the q))
+same_version_step Free_command (lens false e n Known) m q x = cc
+same_version_step Free_command (lens true e n Known) m q x = sym (ap version_of (the q))
+same_version_step Free_command (lens false e n (Open r k)) m q x = cc
+same_version_step Free_command (lens true e n (Open r k)) m q x = sym (ap version_of (the q))
+same_version_step Exit (lens false e n Unknown) m q x = cc
+same_version_step Exit (lens true e n Unknown) m q x = sym (ap version_of (the q))
+same_version_step Exit (lens false e n Known) m q x = cc
+same_version_step Exit (lens true e n Known) m q x = sym (ap version_of (the q))
+same_version_step Exit (lens false e n (Open r k)) m q x = cc
+same_version_step Exit (lens true e n (Open r k)) m q x = sym (ap version_of (the q))
+
+pub same_version : (s : List Action) (v w : Lens) → run s v ≡ Some w → changes s ≡ false → version_of w ≡ version_of v
+same_version [] v w r x = sym (ap version_of (the r))
+same_version (a ∷ s) v w r x =
+    let t = stepped a s v w r in
+    let p = neither_one (is_change a) (changes s) x in
+    same_version s t.mid w t.on p.1 ∙ same_version_step a v t.mid t.moves p.0
+  where
+    neither_one : (a b : Bool) → (a || b) ≡ false → (a ≡ false) × (b ≡ false)
+    neither_one true b e = absurd (true≢false e)
+    neither_one false b e = (refl, e)
+
+-- no action of a free file's first frame needs the user kept out
+pub first_is_quiet : (a : Action) (s : List Action) (v w : Lens) → IsFree v → IsGuarded (a ∷ s) → run (a ∷ s) v ≡ Some w → is_crossing a ≡ false
+first_is_quiet a s v w f g r =
+    let t = stepped a s v w r in
+    let u = free_or_refused a v t.mid f t.moves in
+    quiet_of (cases (is_crossing a)) g.0 (frees_nothing s t.mid w u.1 t.on)
+  where
+    quiet_of : (is_crossing a ≡ true) ⊎ (is_crossing a ≡ false) → (is_crossing a ≡ true → frees s ≡ true) → frees s ≡ false → is_crossing a ≡ false
+    quiet_of (inr q) h none = q
+    quiet_of (inl q) h none = absurd (true≢false (sym (h q) ∙ none))

@@ -1,0 +1,58 @@
+-- A message that the crossing lets come to the host, and what the host then owes.
+use Rattle.std.specs.Prelude.{◌≡◌, ℕ, ◌+◌, ◌<◌, ◌≤◌, Bool, true, false, ◌&&◌, ◌==◌, List, [], ◌∷◌, length, Option, None, Some, ◌⊎◌}
+use Rattle.sam_runes.specs.Texts.{ends_line}
+use Rattle.sam_runes.specs.Slots.{Slots}
+use Rattle.sam_text.specs.Files.{PlainFile, PlainFiles, PlainOutcome, AreFit}
+use Rattle.sam_mesg.specs.declared.tmesg.Tmesg.{Tmesg}
+use Rattle.sam_mesg.specs.declared.tmesg.Tmesg.TheVariants.{Tversion, Tstartcmdfile, Tcheck, Trequest, Torigin, Tstartfile, Tworkfile, Ttype, Tcut, Tpaste, Tsnarf, Tstartnewfile, Twrite, Tclose, Tlook, Tsearch, Tsend, Tdclick, Tstartsnarf, Tsetsnarf, Tack, Texit}
+use Rattle.sam_host.specs.Host.{PlainHost}
+use Rattle.sam_protocol.specs.Lens.{limit, Named, Opened}
+use Rattle.sam_protocol.specs.Model.{HostOk, ToolsOk, EditsFit, RangeFits, edited}
+use Rattle.sam_protocol.specs.HostView.{file_in, model_of, outcome_of, tools_of}
+use Rattle.sam_protocol.specs.Synced.{Synced}
+use Rattle.sam_protocol.specs.Means.{Means, AllOpenAnnounced}
+
+-- the file is open at the host, with such a text
+abbrev pub Open : PlainHost → ℕ → (List ℕ → Type 0) → Type 0
+Open h f P = (t : List ℕ) × (file_in h.files.slots f ≡ Opened t) × P t
+
+abbrev pub Range : ℕ → ℕ → List ℕ → Type 0
+Range p q t = (p ≤ q) × (q ≤ length t)
+
+abbrev pub Accepted : PlainHost → Tmesg → Type 0
+Accepted h (Tversion v) = 0 < v
+Accepted h Tstartcmdfile = Unit
+Accepted h (Tcheck f) = Open h f (λ t. Unit)
+Accepted h (Trequest f p n) = Open h f (λ t. Unit)
+Accepted h (Torigin f p n) = Open h f (λ t. p ≤ length t)
+Accepted h (Tstartfile f) = ((f == 0) ≡ false) × (((t : List ℕ) × (file_in h.files.slots f ≡ Named t)) ⊎ ((t : List ℕ) × (file_in h.files.slots f ≡ Opened t)))
+Accepted h (Tworkfile f p q) = ((f == 0) ≡ false) × Open h f (Range p q)
+Accepted h (Ttype f p s) = Open h f (λ t. (p ≤ length t) × (length t + length s ≤ limit))
+Accepted h (Tcut f p q) = Open h f (Range p q)
+Accepted h (Tpaste f p) = Open h f (λ t. p ≤ length t)
+Accepted h (Tsnarf f p q) = Open h f (Range p q)
+Accepted h Tstartnewfile = Unit
+Accepted h (Twrite f) = ((f == 0) ≡ false) × Open h f (λ t. Unit)
+Accepted h (Tclose f) = ((f == 0) ≡ false) × Open h f (λ t. Unit)
+Accepted h (Tlook f p q) = Open h f (Range p q)
+Accepted h (Tsearch f p q) = Open h f (Range p q)
+Accepted h (Tsend f p q) = Open h f (Range p q)
+Accepted h (Tdclick f p) = Open h f (λ t. p ≤ length t)
+Accepted h Tstartsnarf = Unit
+Accepted h (Tsetsnarf s) = Unit
+Accepted h Tack = Unit
+Accepted h Texit = Unit
+
+abbrev pub quiet_outcome : PlainOutcome
+quiet_outcome = record { file = None; edits = []; text = None; dot = None; name = None; pattern = None; printed = []; quit = false }
+
+-- what holds of every host: tag 0 is there, the work file is open, the open files were announced, texts are short and dots are ranges
+pub record IsSteady (h : PlainHost) : Type 0 where
+  pub sound : HostOk (model_of h)
+  pub announced : AllOpenAnnounced h.files
+  pub fit : AreFit h.files
+
+-- a host that goes on answering
+pub record Ready (h : PlainHost) : Type 0 where
+  pub steady : IsSteady h
+  pub running : h.is_done ≡ false

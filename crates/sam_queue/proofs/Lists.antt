@@ -1,0 +1,41 @@
+-- Lists by place.
+use Rattle.std.proofs.Common.{◌≡◌, ◌≢◌, ℕ, zero, suc, ◌<◌, List, [], ◌∷◌, ◌++◌, length, set, Some, slice_get, All, ◌⊎◌, inl, inr, refl, ap, ⊎_elim, arith}
+use mathlib.Core.Option.{some}
+use lib.ListN.{get_elem?}
+use Rattle.std.proofs.lemmas.List.Elements.{All-nil, All-cons, All-tail}
+
+module _ {A : Type 0} where
+  pub there : (l : List A) (i : ℕ) → i < length l → (a : A) × (get_elem? l i ≡ some a)
+  there [] i less = absurd (omega arith)
+  there (x ∷ xs) zero less = (x, refl)
+  there (x ∷ xs) (suc i) less = there xs i (omega arith)
+
+  pub get_snoc : (l : List A) (a b : A) (k : ℕ) → slice_get (l ++ a ∷ []) k ≡ Some b → (slice_get l k ≡ Some b) ⊎ (a ≡ b)
+  get_snoc [] a b zero e = inr (let h : a ≡ b = cc in h)
+  get_snoc [] a b (suc k) e = cc
+  get_snoc (x ∷ xs) a b zero e = inl e
+  get_snoc (x ∷ xs) a b (suc k) e = get_snoc xs a b k e
+
+  pub get_between : (xs : List A) (x : A) (ys : List A) → slice_get (xs ++ x ∷ ys) (length xs) ≡ Some x
+  get_between [] x ys = refl
+  get_between (z ∷ xs) x ys = get_between xs x ys
+
+  pub get_set : (l : List A) (i : ℕ) (a b : A) (k : ℕ) → slice_get (set l i a) k ≡ Some b → ((k ≡ i) × (a ≡ b)) ⊎ ((k ≢ i) × (slice_get l k ≡ Some b))
+  get_set [] i a b k e = cc
+  get_set (x ∷ xs) zero a b zero e = inl (refl, let h : a ≡ b = cc in h)
+  get_set (x ∷ xs) zero a b (suc k) e = inr ((λ h. omega arith), e)
+  get_set (x ∷ xs) (suc i) a b zero e = inr ((λ h. omega arith), e)
+  get_set (x ∷ xs) (suc i) a b (suc k) e = ⊎_elim (λ (t : (k ≡ i) × (a ≡ b)). inl (ap suc t.0, t.1)) (λ (t : (k ≢ i) × (slice_get xs k ≡ Some b)). let n = t.0 in inr ((λ h. n (omega arith)), t.1)) (get_set xs i a b k e)
+
+  pub found_at : (l : List A) (k : ℕ) → k < length l → (a : A) × (slice_get l k ≡ Some a)
+  found_at [] k less = absurd (omega arith)
+  found_at (x ∷ xs) zero less = (x, refl)
+  found_at (x ∷ xs) (suc k) less = found_at xs k (omega arith)
+
+  pub all_by_place : (P : A → Type 0) (l : List A) → ((k : ℕ) (a : A) → slice_get l k ≡ Some a → P a) → All P l
+  all_by_place P [] each = All-nil P
+  all_by_place P (x ∷ xs) each = All-cons P x xs (each 0 x refl) (all_by_place P xs (λ k a is. each (suc k) a is))
+
+  pub all_right : (P : A → Type 0) (xs ys : List (A)) → All P (xs ++ ys) → All P ys
+  all_right P [] ys all = all
+  all_right P (x ∷ xs) ys all = all_right P xs ys (All-tail P x (xs ++ ys) all)

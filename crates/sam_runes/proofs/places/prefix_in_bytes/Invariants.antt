@@ -1,0 +1,6 @@
+use Rattle.std.proofs.Common.{◌≡◌, ◌+◌, drop, length}
+use Rattle.sam_runes.specs.Texts.{prefix_in_bytes}
+use Rattle.sam_runes.proofs.places.prefix_in_bytes.Given as goal
+
+abbrev pub invariant-loop-at : goal.invariant-loop-at
+invariant-loop-at l = l.at + length (prefix_in_bytes (drop l.at l.runes) l.left) ≡ length (prefix_in_bytes l.runes l.most)

@@ -1,0 +1,188 @@
+-- The oldest event that is held, and what nothing stands against.
+use Rattle.std.proofs.Common.{◌≡◌, refl, sym, ap, ◌∙◌, subst, ℕ, zero, suc, ◌<◌, Bool, true, false, List, [], ◌∷◌, length, drop, Option, Some, None, Ok, Err, if◌then◌else◌, arith}
+use Rattle.std.specs.Prelude.{slice_get, not, ◌&&◌}
+use Rattle.std.specs.Prelude.{Result}
+use Rattle.sam_runes.specs.Checks.{Checks, first_of_checks}
+use Rattle.sam_term.specs.Term.{PlainTerminal, Made, act_of, act_on, decided, event_checks, made_by, needs_open, is_closed, file_of, is_open, sends, unchanged}
+use Rattle.sam_term.specs.Taking.{done, not_done}
+use Rattle.sam_term.specs.Acting.{deed_of, first_event, free_first, made_first, is_typing, is_snarfing}
+use Rattle.sam_term.specs.declared.event.Deed.{Deed}
+use Rattle.sam_term.specs.declared.event.Deed.TheVariants.{Sends, Types, Selects, Cuts, Pastes, Snarfs, Views, SetsSnarf, Flushes}
+use Rattle.sam_term.specs.Locks.{lock_of}
+use Rattle.sam_term.specs.Locking.{is_lockable}
+use Rattle.sam_term.specs.declared.event.Acted.{Acted}
+use Rattle.sam_term.specs.declared.event.Acted.TheVariants.{Idle}
+use Rattle.sam_term.specs.declared.event.Verdict.{Verdict}
+use Rattle.sam_term.specs.declared.event.Verdict.TheVariants.{Waits, Refuses}
+use Rattle.sam_term.specs.declared.fault.TermFault.{TermFault}
+use Rattle.sam_term.specs.declared.event.UserEvent.{UserEvent}
+use Rattle.sam_term.specs.declared.event.UserEvent.TheVariants.{Typed, Select, Cut, Paste, Snarf, Look, Search, Send, Dclick, Scroll, View, Open, Close, Write, Work, OpenCmd, New, Exit, Check, GetSnarf, SetSnarf, Version, Flush}
+use Rattle.sam_mesg.specs.declared.tmesg.Tmesg.{Tmesg}
+
+first-read : (es : List UserEvent) (e : UserEvent) → slice_get es 0 ≡ Some e → es ≡ e ∷ drop 1 es
+first-read [] e s = absurd (cc)
+first-read (x ∷ es) e s = let same : x ≡ e = (cc) in ap (λ y. y ∷ es) same
+
+-- the oldest event, as it is read
+pub first_is : (es : List UserEvent) (e : UserEvent) → slice_get es 0 ≡ Some e → first_event es ≡ e
+first_is [] e s = absurd (cc)
+first_is (x ∷ es) e s = (cc)
+
+-- acting, by what stands against the oldest event
+pub act_first : (t : PlainTerminal) (e : UserEvent) → slice_get t.held 0 ≡ Some e → act_of t ≡ decided (first_of_checks (event_checks t e)) t (drop 1 t.held) (made_by (record t { held = drop 1 t.held }) e)
+unfolding act_of
+act_first t e s = ap (λ es. act_on t es) (first-read t.held e s)
+
+pub act_none : (t : PlainTerminal) → slice_get t.held 0 ≡ None → act_of t ≡ Ok (t, Idle)
+unfolding act_of
+act_none t s = ap (λ es. act_on t es) (none t.held s)
+  where
+    none : (es : List UserEvent) → slice_get es 0 ≡ None → es ≡ []
+    none [] e = refl
+    none (x ∷ es) e = absurd (cc)
+
+rest : {E : Type 0} (b : Bool) (x : E) (cs : Checks E) → first_of_checks ((b, x) ∷ cs) ≡ None → (b ≡ false) × (first_of_checks cs ≡ None)
+rest true x cs e = absurd (cc)
+rest false x cs e = (refl, e)
+
+-- the test at a place of the list
+unfoldable pub test_at : {E : Type 0} → Checks E → ℕ → Bool
+test_at [] k = false
+test_at (c ∷ cs) zero = c.0
+test_at (c ∷ cs) (suc k) = test_at cs k
+
+none_holds : {E : Type 0} (cs : Checks E) (k : ℕ) → first_of_checks cs ≡ None → test_at cs k ≡ false
+unfolding test_at
+none_holds [] k e = refl
+none_holds (c ∷ cs) zero e = (rest c.0 c.1 cs e).0
+none_holds (c ∷ cs) (suc k) e = none_holds cs k (rest c.0 c.1 cs e).1
+
+decided_not : (v : Verdict) (t : PlainTerminal) (made : Made) → decided (Some v) t (drop 1 t.held) made ≡ Ok (not_done v t)
+decided_not Waits t made = refl
+decided_not (Refuses r) t made = refl
+
+pub act_refused : (t : PlainTerminal) (e : UserEvent) (v : Verdict) → slice_get t.held 0 ≡ Some e → first_of_checks (event_checks t e) ≡ Some v → act_of t ≡ Ok (not_done v t)
+act_refused t e v s n =
+    act_first t e s
+    ∙ (ap (λ o. decided o t (drop 1 t.held) (made_by (record t { held = drop 1 t.held }) e)) n
+    ∙ decided_not v t (made_by (record t { held = drop 1 t.held }) e))
+
+-- nothing stands against the oldest event
+pub free : (t : PlainTerminal) (e : UserEvent) → slice_get t.held 0 ≡ Some e → first_of_checks (event_checks t e) ≡ None → free_first t ≡ None
+unfolding free_first
+free t e s n = ap (λ x. first_of_checks (event_checks t x)) (first_is t.held e s) ∙ n
+
+-- and it is done
+pub act_done : (t : PlainTerminal) (e : UserEvent) → slice_get t.held 0 ≡ Some e → first_of_checks (event_checks t e) ≡ None → done (made_first t) ≡ act_of t
+unfolding done made_first
+act_done t e s n =
+    sym
+    (act_first t e s
+    ∙ (ap (λ v. decided v t (drop 1 t.held) (made_by (record t { held = drop 1 t.held }) e)) n
+    ∙ ap (λ x. decided None t (drop 1 t.held) (made_by (record t { held = drop 1 t.held }) x)) (sym (first_is t.held e s))))
+
+-- what the oldest event does, where it is known
+pub made_of : (t : PlainTerminal) (e : UserEvent) → first_event t.held ≡ e → made_first t ≡ made_by (record t { held = drop 1 t.held }) e
+unfolding made_first
+made_of t e s = ap (λ x. made_by (record t { held = drop 1 t.held }) x) s
+
+-- a check of the oldest event that does not stand against it, by its number
+pub passes : (t : PlainTerminal) (e : UserEvent) (k : ℕ) → free_first t ≡ None → first_event t.held ≡ e → test_at (event_checks t e) k ≡ false
+unfolding free_first
+passes t e k n s = none_holds (event_checks t e) k (ap (λ x. first_of_checks (event_checks t x)) (sym s) ∙ n)
+
+opened : (b : Bool) → (not b) ≡ false → b ≡ true
+opened true e = refl
+opened false e = absurd (cc)
+
+-- an event that needs its file open has it open
+pub opened_by : (t : PlainTerminal) (e : UserEvent) (f : ℕ) → free_first t ≡ None → first_event t.held ≡ e → needs_open e ≡ true → file_of e ≡ Some f → is_open t f ≡ true
+unfolding test_at
+opened_by t e f n s needs names =
+    opened (is_open t f)
+    (subst (λ o. is_closed t o ≡ false) names (subst (λ b. (b && is_closed t (file_of e)) ≡ false) needs (passes t e 5 n s)))
+
+same_message : (x y : Tmesg) (t : PlainTerminal) → Sends x ≡ Sends y → is_lockable t (lock_of x) ≡ true → is_lockable t (lock_of y) ≡ true
+same_message x y t e l = let same : x ≡ y = (cc) in subst (λ m. is_lockable t (lock_of m) ≡ true) same l
+
+lockable : (t : PlainTerminal) (e : UserEvent) (m : Tmesg) → free_first t ≡ None → first_event t.held ≡ e → deed_of t e ≡ Sends m → is_lockable t (lock_of m) ≡ true
+lockable t (Look f) m n h s = same_message _ m t s (opened_by t (Look f) f n h refl refl)
+lockable t (Search f) m n h s = same_message _ m t s (opened_by t (Search f) f n h refl refl)
+lockable t (Dclick f p) m n h s = same_message _ m t s (opened_by t (Dclick f p) f n h refl refl)
+lockable t (Scroll f k) m n h s = same_message _ m t s (opened_by t (Scroll f k) f n h refl refl)
+lockable t (Write f) m n h s = same_message _ m t s (opened_by t (Write f) f n h refl refl)
+lockable t (Send f) m n h s = same_message _ m t s refl
+lockable t (Open f) m n h s = same_message _ m t s refl
+lockable t (Close f) m n h s = same_message _ m t s refl
+lockable t (Work f) m n h s = same_message _ m t s refl
+lockable t OpenCmd m n h s = same_message _ m t s refl
+lockable t New m n h s = same_message _ m t s refl
+lockable t Exit m n h s = same_message _ m t s refl
+lockable t (Check f) m n h s = same_message _ m t s refl
+lockable t GetSnarf m n h s = same_message _ m t s refl
+lockable t (Version v) m n h s = same_message _ m t s refl
+lockable t _ m n h s = absurd (cc)
+
+-- the message of the oldest event may take its lock
+pub lockable_first : (t : PlainTerminal) (m : Tmesg) → free_first t ≡ None → Sends m ≡ deed_of t (first_event t.held) → is_lockable t (lock_of m) ≡ true
+lockable_first t m n s = lockable t (first_event t.held) m n refl (sym s)
+
+sends_same : (u : PlainTerminal) (m n : Tmesg) → Sends m ≡ Sends n → sends u unchanged (m ∷ []) ≡ sends u unchanged (n ∷ [])
+sends_same u m n e = let same : m ≡ n = (cc) in ap (λ x. sends u unchanged (x ∷ [])) same
+
+makes : (t : PlainTerminal) (es : List UserEvent) (e : UserEvent) (m : Tmesg) → deed_of t e ≡ Sends m → made_by (record t { held = es }) e ≡ sends (record t { held = es }) unchanged (m ∷ [])
+makes t es (Look f) m s = sends_same (record t { held = es }) _ m s
+makes t es (Search f) m s = sends_same (record t { held = es }) _ m s
+makes t es (Dclick f p) m s = sends_same (record t { held = es }) _ m s
+makes t es (Scroll f k) m s = sends_same (record t { held = es }) _ m s
+makes t es (Write f) m s = sends_same (record t { held = es }) _ m s
+makes t es (Send f) m s = sends_same (record t { held = es }) _ m s
+makes t es (Open f) m s = sends_same (record t { held = es }) _ m s
+makes t es (Close f) m s = sends_same (record t { held = es }) _ m s
+makes t es (Work f) m s = sends_same (record t { held = es }) _ m s
+makes t es OpenCmd m s = sends_same (record t { held = es }) _ m s
+makes t es New m s = sends_same (record t { held = es }) _ m s
+makes t es Exit m s = sends_same (record t { held = es }) _ m s
+makes t es (Check f) m s = sends_same (record t { held = es }) _ m s
+makes t es GetSnarf m s = sends_same (record t { held = es }) _ m s
+makes t es (Version v) m s = sends_same (record t { held = es }) _ m s
+makes t es _ m s = absurd (cc)
+
+-- an event that only sends a message
+pub made_sends : (t : PlainTerminal) (m : Tmesg) → Sends m ≡ deed_of t (first_event t.held) → made_first t ≡ sends (record t { held = drop 1 t.held }) unchanged (m ∷ [])
+unfolding made_first
+made_sends t m s = makes t (drop 1 t.held) (first_event t.held) m (sym s)
+
+-- ## The event by what it does
+
+pub types : (t : PlainTerminal) (e : UserEvent) → Types ≡ deed_of t e → is_typing e ≡ true
+types t (Typed f s) h = refl
+types t _ h = absurd (cc)
+
+pub selects : (t : PlainTerminal) (e : UserEvent) (f p q : ℕ) → Selects f p q ≡ deed_of t e → e ≡ Select f p q
+selects t (Select f' p' q') f p q s = (cc)
+selects t _ f p q s = absurd (cc)
+
+pub cuts : (t : PlainTerminal) (e : UserEvent) (f : ℕ) → Cuts f ≡ deed_of t e → e ≡ Cut f
+cuts t (Cut f') f s = (cc)
+cuts t _ f s = absurd (cc)
+
+pub pastes : (t : PlainTerminal) (e : UserEvent) (f : ℕ) → Pastes f ≡ deed_of t e → e ≡ Paste f
+pastes t (Paste f') f s = (cc)
+pastes t _ f s = absurd (cc)
+
+pub snarfs : (t : PlainTerminal) (e : UserEvent) (f : ℕ) → Snarfs f ≡ deed_of t e → e ≡ Snarf f
+snarfs t (Snarf f') f s = (cc)
+snarfs t _ f s = absurd (cc)
+
+pub views : (t : PlainTerminal) (e : UserEvent) (f p n : ℕ) → Views f p n ≡ deed_of t e → e ≡ View f p n
+views t (View f' p' n') f p n s = (cc)
+views t _ f p n s = absurd (cc)
+
+pub sets_snarf : (t : PlainTerminal) (e : UserEvent) → SetsSnarf ≡ deed_of t e → is_snarfing e ≡ true
+sets_snarf t (SetSnarf s) h = refl
+sets_snarf t _ h = absurd (cc)
+
+pub flushes : (t : PlainTerminal) (e : UserEvent) → Flushes ≡ deed_of t e → e ≡ Flush
+flushes t Flush s = (cc)
+flushes t _ s = absurd (cc)

@@ -1,0 +1,26 @@
+-- What composing a message does, by its lock.
+use Rattle.std.specs.Prelude.{Bool, true, false, ◌+◌, ◌||◌}
+use Rattle.sam_term.specs.declared.lock.Lock.{Lock}
+use Rattle.sam_term.specs.declared.lock.Lock.TheVariants.{NoLock, CommandLock, FileLock}
+use Rattle.sam_term.specs.Term.{PlainTerminal, is_open, window_at, put_window}
+use Rattle.sam_mesg.specs.declared.tmesg.Tmesg.{Tmesg}
+use Rattle.sam_mesg.specs.declared.tmesg.Tmesg.TheVariants.{Trequest}
+
+-- the lock can be taken: a lock of a file needs the file open
+abbrev pub is_lockable : PlainTerminal → Lock → Bool
+is_lockable t NoLock = true
+is_lockable t CommandLock = true
+is_lockable t (FileLock f) = is_open t f
+
+abbrev pub is_request : Tmesg → Bool
+is_request (Trequest f p n) = true
+is_request _ = false
+
+-- a message is counted, and its lock taken
+abbrev pub lock_added : Lock → Bool → PlainTerminal → PlainTerminal
+lock_added NoLock asks t = record t { sent = t.sent + 1 }
+lock_added CommandLock asks t = record t { sent = t.sent + 1; command_lock = true }
+lock_added (FileLock f) asks t =
+    record (put_window t f (record (window_at t f) { locks = (window_at t f).locks + 1; awaits = (window_at t f).awaits || asks })) {
+      sent = t.sent + 1;
+    }

@@ -1,0 +1,44 @@
+-- What is true of every terminal: what its counts and places can be.
+use Rattle.std.specs.Prelude.{ℕ, ◌≤◌, length, Option, Some, None, ⊤}
+use Rattle.sam_runes.specs.Texts.{max_runes, most_count}
+use Rattle.sam_runes.specs.Slots.{Slots}
+use Rattle.sam_term.specs.Term.{PlainTerminal, window_in, window_at}
+use Rattle.sam_term.specs.declared.files.Window.{Window}
+use Rattle.sam_term.specs.declared.files.KnownFile.{KnownFile}
+use Rattle.sam_term.specs.declared.files.Unsent.{Unsent}
+use Rattle.sam_term.specs.declared.term.Terminal.TheInside.{Inside}
+
+-- places of a window stand in its partial text, which is no longer than a text may be, and each lock was counted
+pub record FitsWindow (sent : ℕ) (w : Window) : Type 0 where
+  pub locks : w.locks ≤ sent
+  pub dot_start : w.dot.0 ≤ w.dot.1
+  pub dot_end : w.dot.1 ≤ length w.rasp
+  pub view : w.view_start ≤ length w.rasp
+  pub size : length w.rasp ≤ max_runes
+
+-- unsent runes begin in the partial text of their file
+unfoldable pub FitsUnsent : Slots KnownFile → Option Unsent → Type 0
+FitsUnsent files None = ⊤
+FitsUnsent files (Some u) = u.place ≤ length (window_in files u.file).rasp
+
+pub record IsSound (t : PlainTerminal) : Type 0 where
+  pub countable : t.sent ≤ most_count
+  pub windows : (f : ℕ) → FitsWindow t.sent (window_at t f)
+  pub unsent : FitsUnsent t.files t.unsent
+
+-- the terminal as contracts see it
+abbrev pub seen : Inside → PlainTerminal
+seen a =
+    record {
+      files = a.files;
+      current = a.current;
+      command_lock = a.command_lock;
+      has_exited = a.exited;
+      unsent = a.unsent;
+      held = a.held;
+      sent = a.sent;
+      version = a.version;
+      pattern = a.pattern;
+      snarf = a.snarf;
+      snarf_length = a.snarf_length;
+    }

@@ -1,0 +1,34 @@
+-- What a call answers, against what its definition answers.
+use Rattle.std.specs.Prelude.{◌≡◌, ◌⊎◌, Bool, true, false, drop, List, Option, Result, Ok, Err}
+use Rattle.sam_runes.specs.Checks.{first_of_checks}
+use Rattle.sam_term.specs.Term.{PlainTerminal, Made, frame_checks, if_countable}
+use Rattle.sam_term.specs.declared.event.Acted.{Acted}
+use Rattle.sam_term.specs.declared.event.Acted.TheVariants.{Done, Locked, Refused}
+use Rattle.sam_term.specs.declared.event.Verdict.{Verdict}
+use Rattle.sam_term.specs.declared.event.Verdict.TheVariants.{Waits, Refuses}
+use Rattle.sam_mesg.specs.declared.tmesg.Tmesg.{Tmesg}
+use Rattle.sam_mesg.specs.declared.hmesg.Hmesg.{Hmesg}
+use Rattle.sam_term.specs.declared.fault.TermFault.{TermFault}
+use Rattle.sam_term.specs.declared.fault.TermFault.TheVariants.{OutOfMemory}
+
+-- t became u: at Ok just what the definition answers, else nothing has changed, for want of memory or as the definition refuses
+abbrev pub IsAnswer : {A : Type 0} → PlainTerminal → PlainTerminal → Result A TermFault → Result (PlainTerminal × A) TermFault → Type 0
+IsAnswer t u (Ok x) answer = answer ≡ Ok (u, x)
+IsAnswer t u (Err why) answer = ((why ≡ OutOfMemory) ⊎ (answer ≡ Err why)) × (u ≡ t)
+
+-- what was made, unless the count of composed messages would be passed
+unfoldable pub countable : Made → Result (PlainTerminal × List Tmesg) TermFault
+countable made = if_countable made.0.sent made
+
+-- what stands against a message that was sent in time
+abbrev pub frame_fault : PlainTerminal → Hmesg → Option TermFault
+frame_fault t m = first_of_checks (frame_checks t m)
+
+-- an event that is done, unless the count of composed messages would be passed
+unfoldable pub done : Made → Result (PlainTerminal × Acted) TermFault
+done made = if_countable made.0.sent (made.0, Done made.1)
+
+-- an event that is not done waits, or is dropped
+abbrev pub not_done : Verdict → PlainTerminal → PlainTerminal × Acted
+not_done Waits t = (t, Locked)
+not_done (Refuses r) t = (record t { held = drop 1 t.held }, Refused r)

@@ -1,0 +1,220 @@
+//! The oldest held event: what stands against it, and what it does.
+
+ghost use Rattle.std.specs.Prelude.{◌≡◌, ◌∷◌, [], IsTrue, None, drop};
+ghost use Rattle.sam_runes.specs.Checks.{first_of_checks};
+ghost use Rattle.sam_term.specs.Acting.{deed_of, made_first, free_first, first_event};
+ghost use Rattle.sam_term.specs.Locking.{is_lockable};
+ghost use Rattle.sam_term.specs.Locks.{lock_of};
+ghost use Rattle.sam_term.specs.Taking.{IsAnswer, done, not_done};
+ghost use Rattle.sam_term.specs.Term.{event_checks, is_unknown, is_closed, is_file_locked, has_bad_place, has_long_text, makes_too_long, sends, unchanged};
+
+use crate::event::{Acted, Deed, UserEvent, Verdict};
+use crate::event_tests::{file_of, is_bad_version, is_for_command_file, needs_open, waits_for_all};
+use crate::fault::{Refusal, TermFault};
+use crate::lock::snarf_limit;
+use crate::outbox::Outbox;
+use crate::term::Terminal;
+use sam_mesg::Tmesg;
+use sam_runes::utf8_within;
+
+impl Terminal {
+    /// What stands against an event.
+    pub(crate) fn verdict(&self, event: &UserEvent) -> Option<Verdict>
+        ensures { result ≡ first_of_checks (event_checks self.now event.now) }
+    {
+        if self.exited {
+            return Some(Verdict::Refuses(Refusal::Exited));
+        }
+        if self.command_lock {
+            return Some(Verdict::Waits);
+        }
+        if is_bad_version(event) {
+            return Some(Verdict::Refuses(Refusal::BadVersion));
+        }
+        if self.is_unknown(file_of(event)) {
+            return Some(Verdict::Refuses(Refusal::NoFile));
+        }
+        if is_for_command_file(event) {
+            return Some(Verdict::Refuses(Refusal::CommandFile));
+        }
+        if needs_open(event) && self.is_closed(file_of(event)) {
+            return Some(Verdict::Refuses(Refusal::NotOpen));
+        }
+        if self.is_file_locked(file_of(event))
+            || (waits_for_all(event) && self.files.is_any_locked())
+        {
+            return Some(Verdict::Waits);
+        }
+        if self.has_bad_place(event) {
+            return Some(Verdict::Refuses(Refusal::BadPosition));
+        }
+        if self.has_long_text(event) {
+            return Some(Verdict::Refuses(Refusal::TextTooLong));
+        }
+        if self.makes_too_long(event) {
+            return Some(Verdict::Refuses(Refusal::TooLong));
+        }
+        None
+    }
+
+    fn is_unknown(&self, file: Option<u16>) -> bool
+        ensures { result ≡ is_unknown self.now file }
+    {
+        match file {
+            Some(tag) => !self.knows(tag),
+            None => false,
+        }
+    }
+
+    fn is_closed(&self, file: Option<u16>) -> bool
+        ensures { result ≡ is_closed self.now file }
+    {
+        match file {
+            Some(tag) => !self.has_open(tag),
+            None => false,
+        }
+    }
+
+    fn is_file_locked(&self, file: Option<u16>) -> bool
+        ensures { result ≡ is_file_locked self.now file }
+    {
+        match file {
+            Some(tag) => 0 < self.locks(tag),
+            None => false,
+        }
+    }
+
+    fn has_bad_place(&self, event: &UserEvent) -> bool
+        ensures { result ≡ has_bad_place self.now event.now }
+    {
+        match event {
+            UserEvent::Select(tag, p, q) => q < p || self.rasp_len(*tag) < *q as usize,
+            UserEvent::Dclick(tag, p) => self.rasp_len(*tag) < *p as usize,
+            UserEvent::View(tag, p, _) => self.rasp_len(*tag) < *p as usize,
+            _ => false,
+        }
+    }
+
+    fn has_long_text(&self, event: &UserEvent) -> bool
+        ensures { result ≡ has_long_text self.now event.now }
+    {
+        match event {
+            UserEvent::Typed(_, text) => 512 < text.len(),
+            UserEvent::SetSnarf(text) => !utf8_within(text.as_slice(), snarf_limit(self.version)),
+            _ => false,
+        }
+    }
+
+    fn makes_too_long(&self, event: &UserEvent) -> bool
+        ensures { result ≡ makes_too_long self.now event.now }
+    {
+        match event {
+            UserEvent::Typed(tag, text) => self.room_beside_dot(*tag) < text.len(),
+            _ => false,
+        }
+    }
+
+    /// What an event does that nothing stands against.
+    pub(crate) fn deed_of(&self, event: &UserEvent) -> Deed
+        ensures { result ≡ deed_of self.now event.now }
+    {
+        match event {
+            UserEvent::Look(tag) => {
+                let dot = self.dot_of(*tag);
+                Deed::Sends(Tmesg::Tlook(*tag, dot.0, dot.1))
+            }
+            UserEvent::Search(tag) => {
+                let dot = self.dot_of(*tag);
+                Deed::Sends(Tmesg::Tsearch(*tag, dot.0, dot.1))
+            }
+            UserEvent::Send(tag) => {
+                let dot = self.dot_of(*tag);
+                Deed::Sends(Tmesg::Tsend(*tag, dot.0, dot.1))
+            }
+            UserEvent::Dclick(tag, p) => Deed::Sends(Tmesg::Tdclick(*tag, *p)),
+            UserEvent::Scroll(tag, n) => Deed::Sends(Tmesg::Torigin(
+                *tag,
+                self.view_start(*tag),
+                *n,
+            )),
+            UserEvent::Open(tag) => Deed::Sends(Tmesg::Tstartfile(*tag)),
+            UserEvent::Close(tag) => Deed::Sends(Tmesg::Tclose(*tag)),
+            UserEvent::Write(tag) => Deed::Sends(Tmesg::Twrite(*tag)),
+            UserEvent::Work(tag) => {
+                let dot = self.dot_of(*tag);
+                Deed::Sends(Tmesg::Tworkfile(*tag, dot.0, dot.1))
+            }
+            UserEvent::OpenCmd => Deed::Sends(Tmesg::Tstartcmdfile),
+            UserEvent::New => Deed::Sends(Tmesg::Tstartnewfile),
+            UserEvent::Exit => Deed::Sends(Tmesg::Texit),
+            UserEvent::Check(tag) => Deed::Sends(Tmesg::Tcheck(*tag)),
+            UserEvent::GetSnarf => Deed::Sends(Tmesg::Tstartsnarf),
+            UserEvent::Version(version) => Deed::Sends(Tmesg::Tversion(*version)),
+            UserEvent::Typed(_, _) => Deed::Types,
+            UserEvent::Select(tag, p, q) => Deed::Selects(*tag, *p, *q),
+            UserEvent::Cut(tag) => Deed::Cuts(*tag),
+            UserEvent::Paste(tag) => Deed::Pastes(*tag),
+            UserEvent::Snarf(tag) => Deed::Snarfs(*tag),
+            UserEvent::View(tag, p, n) => Deed::Views(*tag, *p, *n),
+            UserEvent::SetSnarf(_) => Deed::SetsSnarf,
+            UserEvent::Flush => Deed::Flushes,
+        }
+    }
+
+    /// An event that is not done waits, or is dropped.
+    pub(crate) fn not_done(&mut self, verdict: Verdict) -> Acted
+        ensures { not_done verdict self.old ≡ (self.new, result) }
+    {
+        match verdict {
+            Verdict::Waits => Acted::Locked,
+            Verdict::Refuses(why) => {
+                self.drop_oldest();
+                Acted::Refused(why)
+            }
+        }
+    }
+
+    /// Drops the oldest held event.
+    fn drop_oldest(&mut self)
+        ensures { self.new ≡ record self.old { held = drop 1 self.old.held } }
+    {
+        let _ = self.held.take_first();
+    }
+
+    /// Does what the oldest held event does. Nothing stands against it.
+    pub(crate) fn perform(&mut self, deed: Deed) -> Result<Acted, TermFault>
+        requires free { free_first self.old ≡ None }
+        requires deed { deed ≡ deed_of self.old (first_event self.old.held) }
+        ensures { IsAnswer self.old self.new result (done (made_first self.old)) }
+    {
+        match deed {
+            Deed::Sends(message) => self.send_for_event(message),
+            Deed::Types => self.make_typed(),
+            Deed::Selects(tag, p, q) => self.make_select(tag, p, q),
+            Deed::Cuts(tag) => self.make_cut(tag),
+            Deed::Pastes(tag) => self.make_paste(tag),
+            Deed::Snarfs(tag) => self.make_snarf(tag),
+            Deed::Views(tag, p, n) => self.make_view(tag, p, n),
+            Deed::SetsSnarf => self.make_set_snarf(),
+            Deed::Flushes => self.make_flush(),
+        }
+    }
+
+    /// Composes the unsent runes, and then the message of the oldest event, which is done.
+    fn send_for_event(&mut self, message: Tmesg) -> Result<Acted, TermFault>
+        requires opened { IsTrue (is_lockable self.old (lock_of message)) }
+        ensures { IsAnswer self.old self.new result (done (sends (record self.old { held = drop 1 self.old.held }) unchanged (message ∷ []))) }
+    {
+        let count = 1 + self.unsent_count();
+        if u64::MAX - self.sent < count {
+            return Err(TermFault::CountFull);
+        }
+        let Ok(mut out) = Outbox::with_room(self.alloc, 2) else {
+            return Err(TermFault::OutOfMemory);
+        };
+        self.drop_oldest();
+        self.compose_unsent(&mut out);
+        self.compose(message, &mut out);
+        Ok(Acted::Done(out.into_batch()))
+    }
+}

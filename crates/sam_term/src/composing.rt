@@ -1,0 +1,95 @@
+//! Composing messages.
+
+ghost use Rattle.std.specs.Prelude.{◌≡◌, ◌++◌, ◌∷◌, ◌+◌, ◌<◌, ◌≤◌, [], length, IsTrue};
+ghost use Rattle.sam_runes.specs.Texts.{most_count};
+ghost use Rattle.sam_term.specs.Locking.{is_lockable, lock_added};
+ghost use Rattle.sam_term.specs.Locks.{lock_of};
+ghost use Rattle.sam_term.specs.Taking.{IsAnswer, countable};
+ghost use Rattle.sam_term.specs.Term.{is_open, composed, unsent_message, flushed, sends, unchanged};
+
+use crate::fault::TermFault;
+use crate::lock::{Lock, either, is_request, lock_of};
+use crate::outbox::Outbox;
+use crate::term::Terminal;
+use sam_mesg::{Batch, Tmesg};
+
+impl Terminal {
+    /// Counts a message, and takes its lock; a request also awaits its data.
+    fn take_lock(&mut self, lock: Lock, asks: bool)
+        requires counts { self.old.sent < most_count }
+        requires opened { IsTrue (is_lockable self.old lock) }
+        ensures { self.new ≡ lock_added lock asks self.old }
+    {
+        match lock {
+            Lock::NoLock => self.sent += 1,
+            Lock::CommandLock => {
+                self.sent += 1;
+                self.command_lock = true;
+            }
+            Lock::FileLock(tag) => self.lock_file(tag, asks),
+        }
+    }
+
+    /// Counts a message that takes a lock of a file.
+    fn lock_file(&mut self, tag: u16, asks: bool)
+        requires counts { self.old.sent < most_count }
+        requires opened { IsTrue (is_open self.old tag) }
+        ensures { self.new ≡ lock_added (Lock.FileLock tag) asks self.old }
+    {
+        let mut window = self.files.take_window(tag);
+        window.locks += 1;
+        window.awaits = either(window.awaits, asks);
+        self.files.put_window(tag, window);
+        self.sent += 1;
+    }
+
+    /// Composes a message: it is counted, and takes its lock.
+    pub(crate) fn compose(&mut self, message: Tmesg, out: &mut Outbox)
+        requires counts { self.old.sent < most_count }
+        requires opened { IsTrue (is_lockable self.old (lock_of message)) }
+        requires room { 0 < out.old.room }
+        ensures composed { self.new ≡ composed self.old message }
+        ensures messages { out.new.messages ≡ out.old.messages ++ message ∷ [] }
+        ensures room { out.old.room ≤ out.new.room + 1 }
+    {
+        self.take_lock(lock_of(&message), is_request(&message));
+        out.put(message);
+    }
+
+    /// How many messages the unsent runes make.
+    pub(crate) fn unsent_count(&self) -> u64
+        ensures { result ≡ length (unsent_message self.now.unsent) }
+    {
+        if self.unsent.is_some() { 1 } else { 0 }
+    }
+
+    /// Composes the unsent runes.
+    pub(crate) fn compose_unsent(&mut self, out: &mut Outbox)
+        requires counts { self.old.sent + length (unsent_message self.old.unsent) ≤ most_count }
+        requires room { 0 < out.old.room }
+        ensures flushed { self.new ≡ (flushed self.old).0 }
+        ensures messages { out.new.messages ≡ out.old.messages ++ (flushed self.old).1 }
+        ensures room { out.old.room ≤ out.new.room + 1 }
+    {
+        if let Some(unsent) = self.unsent.take() {
+            self.compose(Tmesg::Ttype(unsent.file, unsent.place, unsent.runes), out);
+        }
+    }
+
+    /// Composes the unsent runes, and then the message.
+    pub(crate) fn send(&mut self, message: Tmesg) -> Result<Batch, TermFault>
+        requires opened { IsTrue (is_lockable self.old (lock_of message)) }
+        ensures { IsAnswer self.old self.new result (countable (sends self.old unchanged (message ∷ []))) }
+    {
+        let count = 1 + self.unsent_count();
+        if u64::MAX - self.sent < count {
+            return Err(TermFault::CountFull);
+        }
+        let Ok(mut out) = Outbox::with_room(self.alloc, 2) else {
+            return Err(TermFault::OutOfMemory);
+        };
+        self.compose_unsent(&mut out);
+        self.compose(message, &mut out);
+        Ok(out.into_batch())
+    }
+}

@@ -1,0 +1,142 @@
+-- What holds of all files stays so under each change.
+use Rattle.std.proofs.Common.{◌≡◌, ◌≢◌, ◌⊎◌, ℕ, zero, suc, ◌+◌, ◌<◌, ◌≤◌, List, [], ◌∷◌, length, Bool, true, false, Option, Some, None, nat_eq, inl, inr, refl, sym, ap, ◌∙◌, subst, arith, length-append, if◌then◌else◌, ◌==◌, ◌++◌}
+use Rattle.std.specs.Prelude.{unwrap_or, is_some, option_map, IfSome, Result, Ok, Err, OnOk, OnErr, ⊤}
+use Rattle.std.proofs.lemmas.Bool.Decides.{eqb_tells}
+use Rattle.sam_runes.specs.Texts.{max_runes, all_tags}
+use Rattle.sam_runes.specs.Slots.{Slots, slot, put_slot, free_slot}
+use Rattle.sam_runes.proofs.SlotLaws.{slot-put_same, slot-put_other, slot-free_same, slot-free_other, slot-map, slot_given, length-put_slot, length-free_slot, length-map_slots, put_slot-push}
+use Rattle.sam_text.specs.Files.{PlainFile, PlainFiles, blank_file, file_at, has_file, put_file, with_new, without_file, work_without, announced_file, announce_all, IsFit, AreFit, HasShortName, IsWork, IsPattern, AreKept}
+use Rattle.sam_text.proofs.FitLaws.{fit-put}
+use Rattle.sam_text.proofs.ViewLaws.{is_some-map}
+
+-- a tag that has a file keeps one where a file is put
+pub given-put : {X : Type 0} (ss : Slots X) (f g : ℕ) (x : X) → is_some (slot ss g) ≡ true → is_some (slot (put_slot ss f x) g) ≡ true
+given-put ss f g x e = go (eqb_tells f g)
+  where
+    go : ((nat_eq f g ≡ true) × (f ≡ g)) ⊎ ((nat_eq f g ≡ false) × (f ≢ g)) → is_some (slot (put_slot ss f x) g) ≡ true
+    go (inl (same, here)) = subst (λ k. is_some (slot (put_slot ss f x) k) ≡ true) here (ap is_some (slot-put_same ss f x))
+    go (inr (apart, other)) = ap is_some (slot-put_other ss f g x other) ∙ e
+
+-- a name that is put is short
+pub names-put : (fs : PlainFiles) (g : ℕ) (x : PlainFile) → ((f : ℕ) → HasShortName (file_at fs f)) → HasShortName x → (f : ℕ) → HasShortName (file_at (put_file fs g x) f)
+names-put fs g x all short f = go (eqb_tells g f)
+  where
+    go : ((nat_eq g f ≡ true) × (g ≡ f)) ⊎ ((nat_eq g f ≡ false) × (g ≢ f)) → HasShortName (unwrap_or (slot (put_slot fs.slots g x) f) blank_file)
+    go (inl (e, here)) =
+        subst (λ k. HasShortName (unwrap_or (slot (put_slot fs.slots g x) k) blank_file)) here
+        (subst (λ o. HasShortName (unwrap_or o blank_file)) (sym (slot-put_same fs.slots g x)) short)
+    go (inr (e, other)) = subst (λ o. HasShortName (unwrap_or o blank_file)) (sym (slot-put_other fs.slots g f x other)) (all f)
+
+work-put : (fs : PlainFiles) (g : ℕ) (x : PlainFile) (w : Option ℕ) → IfSome w (IsWork fs) → IfSome w (IsWork (put_file fs g x))
+work-put fs g x None h = tt
+work-put fs g x (Some f) h = (h.0, given-put fs.slots g f x h.1)
+
+-- a file is put where one was
+pub kept_put : (fs : PlainFiles) (g : ℕ) (x : PlainFile) → AreKept fs → has_file fs g ≡ true → IsFit x → HasShortName x → AreKept (put_file fs g x)
+kept_put fs g x all there fit short =
+    let l = length-put_slot fs.slots g x (slot_given fs.slots g there) in
+    let n = all.0 in (
+      omega (arith, l, n),
+      given-put fs.slots g 0 x all.1,
+      work-put fs g x fs.work all.2,
+      all.3,
+      all.4,
+      fit-put fs g x all.5 fit,
+      names-put fs g x all.6 short,
+    )
+
+-- what holds of every file, and of a blank one, holds of every file once one is gone
+all-free : (P : PlainFile → Type 0) (fs : PlainFiles) (g : ℕ) → P blank_file → ((f : ℕ) → P (file_at fs f)) → (f : ℕ) → P (unwrap_or (slot (free_slot fs.slots g) f) blank_file)
+all-free P fs g none all f = go (eqb_tells g f)
+  where
+    go : ((nat_eq g f ≡ true) × (g ≡ f)) ⊎ ((nat_eq g f ≡ false) × (g ≢ f)) → P (unwrap_or (slot (free_slot fs.slots g) f) blank_file)
+    go (inl (e, here)) =
+        subst (λ k. P (unwrap_or (slot (free_slot fs.slots g) k) blank_file)) here
+        (subst (λ o. P (unwrap_or o blank_file)) (sym (slot-free_same fs.slots g)) none)
+    go (inr (e, other)) = subst (λ o. P (unwrap_or o blank_file)) (sym (slot-free_other fs.slots g f other)) (all f)
+
+work-free : (fs : PlainFiles) (g : ℕ) (w : Option ℕ) → IfSome w (IsWork fs) → IfSome (work_without g w) (IsWork (without_file fs g))
+work-free fs g None h = tt
+work-free fs g (Some f) h = go (eqb_tells f g)
+  where
+    go : ((nat_eq f g ≡ true) × (f ≡ g)) ⊎ ((nat_eq f g ≡ false) × (f ≢ g)) → IfSome (if f == g then None else Some f) (IsWork (without_file fs g))
+    go (inl (same, here)) = subst (λ b. IfSome (if b then None else Some f) (IsWork (without_file fs g))) (sym same) tt
+    go (inr (apart, other)) =
+        subst (λ b. IfSome (if b then None else Some f) (IsWork (without_file fs g))) (sym apart)
+        (h.0, ap is_some (slot-free_other fs.slots g f (λ e. other (sym e))) ∙ h.1)
+
+-- a file that is not the command file is taken away
+pub kept_free : (fs : PlainFiles) (g : ℕ) → AreKept fs → 0 < g → AreKept (without_file fs g)
+kept_free fs g all positive =
+    let l = length-free_slot fs.slots g in
+    let n = all.0 in
+    let other : g ≢ 0 = λ e. absurd (omega (arith, e, positive)) in (
+      omega (arith, l, n),
+      ap is_some (slot-free_other fs.slots g 0 other) ∙ all.1,
+      work-free fs g fs.work all.2,
+      all.3,
+      all.4,
+      all-free IsFit fs g (omega arith, omega arith, omega arith) all.5,
+      all-free HasShortName fs g (omega arith) all.6,
+    )
+
+-- a file is added
+pub kept_new : (fs : PlainFiles) (x : PlainFile) → AreKept fs → length fs.slots < all_tags → IsFit x → HasShortName x → AreKept (with_new fs x)
+kept_new fs x all free fit short =
+    let l = ap length (put_slot-push fs.slots x) in
+    let m = length-append fs.slots (Some x ∷ []) in (
+      omega (arith, l, m, free),
+      given-put fs.slots (length fs.slots) 0 x all.1,
+      work-put fs (length fs.slots) x fs.work all.2,
+      all.3,
+      all.4,
+      fit-put fs (length fs.slots) x all.5 fit,
+      names-put fs (length fs.slots) x all.6 short,
+    )
+
+all-announced : (P : PlainFile → Type 0) → ((x : PlainFile) → P x → P (announced_file x)) → (o : Option PlainFile) → P (unwrap_or o blank_file) → P (unwrap_or (option_map announced_file o) blank_file)
+all-announced P step None h = h
+all-announced P step (Some x) h = step x h
+
+all-announce : (P : PlainFile → Type 0) → ((x : PlainFile) → P x → P (announced_file x)) → (ss : Slots PlainFile) → ((f : ℕ) → P (unwrap_or (slot ss f) blank_file)) → (f : ℕ) → P (unwrap_or (slot (announce_all ss) f) blank_file)
+all-announce P step [] all f = all f
+all-announce P step (s ∷ ss) all zero = all 0
+all-announce P step (s ∷ ss) all (suc f) =
+    subst (λ o. P (unwrap_or o blank_file)) (sym (slot-map announced_file ss f)) (all-announced P step (slot ss f) (all (suc f)))
+
+given-announce : (ss : Slots PlainFile) (f : ℕ) → is_some (slot (announce_all ss) f) ≡ is_some (slot ss f)
+given-announce [] f = refl
+given-announce (s ∷ ss) zero = refl
+given-announce (s ∷ ss) (suc f) = ap is_some (slot-map announced_file ss f) ∙ is_some-map announced_file (slot ss f)
+
+length-announce : (ss : Slots PlainFile) → length (announce_all ss) ≡ length ss
+length-announce [] = refl
+length-announce (s ∷ ss) = ap suc (length-map_slots announced_file ss)
+
+work-announce : (fs : PlainFiles) (w : Option ℕ) → IfSome w (IsWork fs) → IfSome w (IsWork (record fs { slots = announce_all fs.slots }))
+work-announce fs None h = tt
+work-announce fs (Some f) h = (h.0, given-announce fs.slots f ∙ h.1)
+
+-- all files but the command file are announced
+pub kept_announce : (fs : PlainFiles) → AreKept fs → AreKept (record fs { slots = announce_all fs.slots })
+kept_announce fs all =
+    let l = length-announce fs.slots in
+    let n = all.0 in (
+      omega (arith, l, n),
+      given-announce fs.slots 0 ∙ all.1,
+      work-announce fs fs.work all.2,
+      all.3,
+      all.4,
+      all-announce IsFit (λ x h. h) fs.slots all.5,
+      all-announce HasShortName (λ x h. h) fs.slots all.6,
+    )
+
+-- a file is put where one was, or nothing is changed
+pub kept_put_or : {E : Type 0} (fs : PlainFiles) (g : ℕ) (x : PlainFile) → AreKept fs → has_file fs g ≡ true → (r : Result ⊤ E) (after : Slots PlainFile) → OnOk r (after ≡ put_slot fs.slots g x) → OnOk r ((IsFit x) × (HasShortName x)) → OnErr r (after ≡ fs.slots) → AreKept (record fs { slots = after })
+kept_put_or fs g x all there (Ok u) after same kept err = subst (λ ss. AreKept (record fs { slots = ss })) (sym same) (kept_put fs g x all there kept.0 kept.1)
+kept_put_or fs g x all there (Err e) after same kept err = subst (λ ss. AreKept (record fs { slots = ss })) (sym err) all
+
+-- a file is added, or nothing is changed
+pub kept_new_or : {E : Type 0} (fs : PlainFiles) (x : PlainFile) → AreKept fs → length fs.slots < all_tags → IsFit x → HasShortName x → (r : Result ⊤ E) (after : Slots PlainFile) → OnOk r (after ≡ put_slot fs.slots (length fs.slots) x) → OnErr r (after ≡ fs.slots) → AreKept (record fs { slots = after })
+kept_new_or fs x all free fit short (Ok u) after same err = subst (λ ss. AreKept (record fs { slots = ss })) (sym same) (kept_new fs x all free fit short)
+kept_new_or fs x all free fit short (Err e) after same err = subst (λ ss. AreKept (record fs { slots = ss })) (sym err) all

@@ -1,0 +1,34 @@
+use Rattle.std.proofs.Common.{arith, refl, subst, sym, ◌∙◌}
+use Rattle.sam_text.specs.Files.{PlainFile, blank_file, IsFit, HasShortName}
+use Rattle.sam_text.specs.Views.{plain_file, changed, FitsIn}
+use Rattle.sam_text.proofs.ViewLaws.{given-view, view-change, view-none, seen_there, seen_kept, rooms_changed}
+use Rattle.sam_text.proofs.files.change_in.Goals as goal
+
+pub returns-then-index-len-clause-plain : goal.returns-then-index-len-clause-plain
+returns-then-index-len-clause-plain c =
+    let l = given-view plain_file _ c.args.index c.requires.there in absurd (omega arith)
+
+pub returns-then-index-len-clause-kept : goal.returns-then-index-len-clause-kept
+returns-then-index-len-clause-kept c =
+    let l = given-view plain_file _ c.args.index c.requires.there in absurd (omega arith)
+
+pub change-requires : goal.change-requires
+change-requires c = seen_there (FitsIn c.args.change) plain_file blank_file _ c.args.index _ _ (omega arith) (sym c.index_mut.ensures.value ∙ c.in-Some.is) c.requires.fits
+
+pub returns-in-Some-clause-plain : goal.returns-in-Some-clause-plain
+returns-in-Some-clause-plain c =
+    view-change plain_file (changed c.args.change) blank_file _ _ _ _ _ (omega arith) (sym c.index_mut.ensures.value ∙ c.in-Some.is) c.change.ensures.plain
+
+pub returns-in-Some-clause-kept : goal.returns-in-Some-clause-kept
+returns-in-Some-clause-kept c =
+    seen_kept (λ (file : PlainFile). (IsFit file) × (HasShortName file)) (changed c.args.change) plain_file blank_file _ c.args.index _ c.in-Some.file c.change.new.self (omega arith) (sym c.index_mut.ensures.value ∙ c.in-Some.is) c.change.ensures.plain
+    (c.known.ensures.fit, c.known.ensures.name)
+
+pub returns-in-Some-clause-rooms : goal.returns-in-Some-clause-rooms
+returns-in-Some-clause-rooms c = rooms_changed c.args.change _ _ _ _ _ (omega arith) (sym c.index_mut.ensures.value ∙ c.in-Some.is) c.change.ensures.room
+
+pub returns-in-None-clause-plain : goal.returns-in-None-clause-plain
+returns-in-None-clause-plain c = absurd (view-none plain_file _ c.args.index _ (omega arith) (sym c.index_mut.ensures.value ∙ c.in-None.is) c.requires.there)
+
+pub returns-in-None-clause-kept : goal.returns-in-None-clause-kept
+returns-in-None-clause-kept c = absurd (view-none plain_file _ c.args.index _ (omega arith) (sym c.index_mut.ensures.value ∙ c.in-None.is) c.requires.there)
