@@ -401,13 +401,6 @@ event_checks t e =
 
 -- ## Act and flush
 
--- the messages that an event composed
-abbrev pub composed_by : Acted → List Tmesg
-composed_by Idle = []
-composed_by Locked = []
-composed_by (Done messages) = messages
-composed_by (Refused why) = []
-
 -- a result, unless the count of composed messages would be passed
 abbrev pub if_countable : {A : Type 0} → ℕ → A → Result A TermFault
 if_countable sent x = if nat_lt most_count sent then Err fault.CountFull else Ok x
