@@ -1,18 +1,19 @@
 -- A terminal stays sound as partial texts grow and shrink.
 use Rattle.std.proofs.Common.{◌≡◌, refl, sym, ap, ◌∙◌, subst, ℕ, ◌≤◌, ◌<◌, ◌+◌, ◌-◌, ◌++◌, Bool, true, false, List, length, Option, Some, None, if◌then◌else◌, ◌==◌, nat_eq, ◌⊎◌, ◌≢◌, inl, inr, arith, take, drop, length-append}
-use Rattle.std.specs.Prelude.{unwrap_or, nat_lt, nat_le, min}
+use Rattle.std.specs.Prelude.{IfSome, unwrap_or, nat_lt, nat_le, min}
 use Rattle.std.proofs.lemmas.Bool.{ltb-true, ltb-false, leb-true, leb-false}
 use Rattle.std.proofs.lemmas.Bool.Decides.{eqb_tells}
-use Rattle.std.proofs.lemmas.List.{length-take, length-drop}
+use Rattle.std.proofs.lemmas.List.{length-take, length-drop, length-map}
 use Rattle.sam_runes.specs.Texts.{max_runes}
 use Rattle.sam_runes.specs.Slots.{Slots, put_slot}
 use Rattle.sam_rasp.specs.Rasp.{PartialText, ins_cells, del_cells, load_cells, place_after_ins, place_after_del}
-use Rattle.sam_term.specs.Term.{PlainTerminal, window_at, window_in, put_window, known_in, window_after_ins, window_after_del, moved_unsent, ins_rasp, del_rasp}
-use Rattle.sam_term.specs.Sound.{IsSound, FitsWindow, FitsUnsent}
+use Rattle.sam_term.specs.Term.{PlainTerminal, window_at, window_in, put_window, known_in, blank_window, window_after_ins, window_after_del, moved_unsent, ins_rasp, del_rasp}
+use Rattle.sam_term.specs.Sound.{IsSound, FitsWindow, FitsUnsent, AreWithin}
 use Rattle.sam_term.specs.declared.files.Window.{Window}
 use Rattle.sam_term.specs.declared.files.KnownFile.{KnownFile}
 use Rattle.sam_term.specs.declared.files.Unsent.{Unsent}
-use Rattle.sam_term.proofs.Sounds.{window-put, back}
+use Rattle.sam_term.proofs.Sounds.{window-put, sound-put}
+use Rattle.sam_term.proofs.SlotSteps.{window_back, put_after_take, put_again}
 
 -- ## Places
 
@@ -22,30 +23,30 @@ bool_cases false = inr refl
 
 pub ins_cases : (p n a : ℕ) → ((p < a) × (place_after_ins p n a ≡ a + n)) ⊎ ((a ≤ p) × (place_after_ins p n a ≡ a))
 ins_cases p n a = elim (bool_cases (nat_lt p a)) [
-      inl e ↦ inl (ltb-true p a e, ap (λ (b : Bool). if b then a + n else a) e)
-      | inr e ↦ inr (ltb-false p a e, ap (λ (b : Bool). if b then a + n else a) e)
-      ]
+  | inl e ↦ inl (ltb-true p a e, ap (λ (b : Bool). if b then a + n else a) e)
+  | inr e ↦ inr (ltb-false p a e, ap (λ (b : Bool). if b then a + n else a) e)
+]
 
 pub del_cases : (p q a : ℕ) → ((q ≤ a) × (place_after_del p q a ≡ a - (q - p))) ⊎ ((a < q) × (place_after_del p q a ≡ min a p))
 del_cases p q a = elim (bool_cases (nat_le q a)) [
-      inl e ↦ inl (leb-true q a e, ap (λ (b : Bool). if b then a - (q - p) else min a p) e)
-      | inr e ↦ inr (leb-false q a e, ap (λ (b : Bool). if b then a - (q - p) else min a p) e)
-      ]
+  | inl e ↦ inl (leb-true q a e, ap (λ (b : Bool). if b then a - (q - p) else min a p) e)
+  | inr e ↦ inr (leb-false q a e, ap (λ (b : Bool). if b then a - (q - p) else min a p) e)
+]
 
 pub ins_rises : (p n a b : ℕ) → a ≤ b → place_after_ins p n a ≤ place_after_ins p n b
 ins_rises p n a b l = elim (ins_cases p n a) [
-      inl h ↦ elim (ins_cases p n b) [ inl k ↦ omega (arith, h.0, h.1, k.0, k.1) | inr k ↦ omega (arith, h.0, h.1, k.0, k.1) ]
-      | inr h ↦ elim (ins_cases p n b) [ inl k ↦ omega (arith, h.0, h.1, k.0, k.1) | inr k ↦ omega (arith, h.0, h.1, k.0, k.1) ]
-      ]
+  | inl h ↦ elim (ins_cases p n b) [ inl k ↦ omega (arith, h.0, h.1, k.0, k.1) | inr k ↦ omega (arith, h.0, h.1, k.0, k.1) ]
+  | inr h ↦ elim (ins_cases p n b) [ inl k ↦ omega (arith, h.0, h.1, k.0, k.1) | inr k ↦ omega (arith, h.0, h.1, k.0, k.1) ]
+]
 
 pub ins_within : (p n a l : ℕ) → a ≤ l → place_after_ins p n a ≤ l + n
 ins_within p n a l k = elim (ins_cases p n a) [ inl h ↦ omega (arith, h.0, h.1) | inr h ↦ omega (arith, h.0, h.1) ]
 
 pub del_rises : (p q a b : ℕ) → p ≤ q → a ≤ b → place_after_del p q a ≤ place_after_del p q b
 del_rises p q a b o l = elim (del_cases p q a) [
-      inl h ↦ elim (del_cases p q b) [ inl k ↦ omega (arith, h.0, h.1, k.0, k.1) | inr k ↦ omega (arith, h.0, h.1, k.0, k.1) ]
-      | inr h ↦ elim (del_cases p q b) [ inl k ↦ omega (arith, h.0, h.1, k.0, k.1) | inr k ↦ omega (arith, h.0, h.1, k.0, k.1) ]
-      ]
+  | inl h ↦ elim (del_cases p q b) [ inl k ↦ omega (arith, h.0, h.1, k.0, k.1) | inr k ↦ omega (arith, h.0, h.1, k.0, k.1) ]
+  | inr h ↦ elim (del_cases p q b) [ inl k ↦ omega (arith, h.0, h.1, k.0, k.1) | inr k ↦ omega (arith, h.0, h.1, k.0, k.1) ]
+]
 
 pub del_within : (p q a l : ℕ) → p ≤ q → q ≤ l → a ≤ l → place_after_del p q a ≤ l - (q - p)
 del_within p q a l o m k = elim (del_cases p q a) [ inl h ↦ omega (arith, h.0, h.1) | inr h ↦ omega (arith, h.0, h.1) ]
@@ -68,9 +69,9 @@ sound-change t g w o s fits k = record { countable = s.countable; windows = wind
   where
     windows : (f : ℕ) → FitsWindow t.sent (window_at (put_window t g w) f)
     windows f = elim (window-put t g w f) [
-        inl h ↦ subst (λ x. FitsWindow t.sent x) (sym h.1) fits
-        | inr h ↦ subst (λ x. FitsWindow t.sent x) (sym h.1) (s.windows f)
-        ]
+      | inl h ↦ subst (λ x. FitsWindow t.sent x) (sym h.1) fits
+      | inr h ↦ subst (λ x. FitsWindow t.sent x) (sym h.1) (s.windows f)
+    ]
 
 -- unsent runes that move with the text of their file
 pub moved_fits : (t : PlainTerminal) (f : ℕ) (w : Window) (moved : ℕ → ℕ) → ((k : ℕ) → k ≤ length (window_at t f).rasp → moved k ≤ length w.rasp) → FitsUnsent t.files t.unsent → FitsUnsent (put_window t f w).files (moved_unsent f moved t.unsent)
@@ -79,17 +80,20 @@ moved_fits t f w moved m fits = go t.unsent fits
   where
     there : (u : Unsent) → u.file ≡ f → u.place ≤ length (window_at t u.file).rasp → moved u.place ≤ length (window_at (put_window t f w) u.file).rasp
     there u e k = elim (window-put t f w u.file) [
-        inl h ↦ subst (λ x. moved u.place ≤ length x.rasp) (sym h.1) (m u.place (subst (λ i. u.place ≤ length (window_at t i).rasp) e k))
-        | inr h ↦ absurd (h.0 (sym e))
-        ]
+      | inl h ↦ subst (λ x. moved u.place ≤ length x.rasp) (sym h.1) (m u.place (subst (λ i. u.place ≤ length (window_at t i).rasp) e k))
+      | inr h ↦ absurd (h.0 (sym e))
+    ]
+
     elsewhere : (u : Unsent) → u.file ≢ f → u.place ≤ length (window_at t u.file).rasp → u.place ≤ length (window_at (put_window t f w) u.file).rasp
     elsewhere u e k = elim (window-put t f w u.file) [
-        inl h ↦ absurd (e (sym h.0))
-        | inr h ↦ subst (λ x. u.place ≤ length x.rasp) (sym h.1) k
-        ]
+      | inl h ↦ absurd (e (sym h.0))
+      | inr h ↦ subst (λ x. u.place ≤ length x.rasp) (sym h.1) k
+    ]
+
     by : (u : Unsent) → ((nat_eq u.file f ≡ true) × (u.file ≡ f)) ⊎ ((nat_eq u.file f ≡ false) × (u.file ≢ f)) → u.place ≤ length (window_at t u.file).rasp → FitsUnsent (put_window t f w).files (if u.file == f then Some (record u { place = moved u.place }) else Some u)
     by u (inl (e, same)) k = rw e (there u same k)
     by u (inr (e, other)) k = rw e (elsewhere u other k)
+
     go : (o : Option Unsent) → FitsUnsent t.files o → FitsUnsent (put_window t f w).files (moved_unsent f moved o)
     go None k = tt
     go (Some u) k = by u (eqb_tells u.file f) k
@@ -134,3 +138,69 @@ sound-del t f p q s o l =
     let e = length-del_cells w.rasp p q o l in
     sound-change t f after (moved_unsent f (place_after_del p q) t.unsent) s (fits-del t.sent w p q (s.windows f) o l)
     (moved_fits t f after (place_after_del p q) (λ k h. subst (λ n. place_after_del p q k ≤ n) (sym e) (del_within p q k (length w.rasp) o l h)) s.unsent)
+
+-- ## Windows that are taken out, changed and put back
+
+module _ (t : PlainTerminal) (mid later : Slots KnownFile) (f : ℕ) (w v : Window) (taken : (known_in t.files f).window ≡ Some w) (shut : mid ≡ put_slot t.files f (record (known_in t.files f) { window = None })) (put : later ≡ put_slot mid f (record (known_in mid f) { window = Some v })) where
+  -- the files where the window was changed
+  pub files_back : (change : Window → Window) → v ≡ change w → later ≡ (put_window t f (change (window_at t f))).files
+  files_back change e =
+      window_back change t.files mid later f w taken shut
+      (put ∙ ap (λ x. put_slot mid f (record (known_in mid f) { window = Some x })) e)
+
+  -- the terminal where it was not
+  pub same_back : v ≡ w → record t { files = later } ≡ t
+  same_back e =
+      ap (λ ss. record t { files = ss })
+      (put
+      ∙ (ap (λ x. put_slot mid f (record (known_in mid f) { window = Some x })) e
+      ∙ (ap (λ ss. put_slot ss f (record (known_in ss f) { window = Some w })) shut ∙ (put_after_take t.files f w ∙ put_again t.files f w taken))))
+
+  pub ins_back : (p : ℕ) (cells : PartialText) (o : Option Unsent) → v ≡ window_after_ins w p cells → o ≡ moved_unsent f (place_after_ins p (length cells)) t.unsent → record t { files = later; unsent = o } ≡ ins_rasp t f p cells
+  ins_back p cells o e m =
+      ap (λ ss. record t { files = ss; unsent = o }) (files_back (λ x. window_after_ins x p cells) e)
+      ∙ ap (λ u. record (put_window t f (window_after_ins (window_at t f) p cells)) { unsent = u }) m
+
+  pub del_back : (p q : ℕ) (o : Option Unsent) → v ≡ window_after_del w p q → o ≡ moved_unsent f (place_after_del p q) t.unsent → record t { files = later; unsent = o } ≡ del_rasp t f p q
+  del_back p q o e m =
+      ap (λ ss. record t { files = ss; unsent = o }) (files_back (λ x. window_after_del x p q) e)
+      ∙ ap (λ u. record (put_window t f (window_after_del (window_at t f) p q)) { unsent = u }) m
+
+-- unsent runes begin within a text
+pub unsent_within : (t : PlainTerminal) → IsSound t → IfSome t.unsent (λ u. u.place ≤ max_runes)
+unfolding FitsUnsent
+unsent_within t s = go t.unsent s.unsent
+  where
+    go : (o : Option Unsent) → FitsUnsent t.files o → IfSome o (λ u. u.place ≤ max_runes)
+    go None k = tt
+    go (Some u) k = let h = (s.windows u.file).size in omega arith
+
+-- the places of a window that was taken out of a sound terminal
+pub taken_within : (t : PlainTerminal) (f : ℕ) (w : Window) → IsSound t → (known_in t.files f).window ≡ Some w → AreWithin max_runes w
+taken_within t f w s e =
+    let same : window_at t f ≡ w = ap (λ o. unwrap_or o blank_window) e in
+    let h : FitsWindow t.sent w = subst (λ x. FitsWindow t.sent x) same (s.windows f) in
+    record { dot_start = omega (arith, h.dot_start, h.dot_end, h.size); dot_end = omega (arith, h.dot_end, h.size); view = omega (arith, h.view, h.size) }
+
+-- and its partial text
+pub taken_rasp : (t : PlainTerminal) (f : ℕ) (w : Window) → (known_in t.files f).window ≡ Some w → window_at t f ≡ w
+taken_rasp t f w e = ap (λ o. unwrap_or o blank_window) e
+
+pub length-load_cells : (r : PartialText) (p : ℕ) (s : List ℕ) → p + length s ≤ length r → length (load_cells r p s) ≡ length r
+length-load_cells r p s l =
+    simp (length-append, length-take, length-drop, length-map) (omega arith)
+
+-- runes are loaded into places that are there
+pub sound-load : (t : PlainTerminal) (f p : ℕ) (s : List ℕ) → IsSound t → p + length s ≤ length (window_at t f).rasp → IsSound (put_window t f (record (window_at t f) { rasp = load_cells (window_at t f).rasp p s; awaits = false }))
+sound-load t f p s sound l =
+    let w = window_at t f in
+    let h = sound.windows f in
+    let e = length-load_cells w.rasp p s l in
+    sound-put t f (record w { rasp = load_cells w.rasp p s; awaits = false }) sound
+    (record {
+      locks = h.locks;
+      dot_start = h.dot_start;
+      dot_end = subst (λ k. w.dot.1 ≤ k) (sym e) h.dot_end;
+      view = subst (λ k. w.view_start ≤ k) (sym e) h.view;
+      size = subst (λ k. k ≤ max_runes) (sym e) h.size;
+    }) e

@@ -1,7 +1,8 @@
 -- What the oldest held event does, and which events change nothing but by the one message that they compose.
 use Rattle.std.specs.Prelude.{ℕ, List, [], ◌∷◌, drop, Option, Some, None, Bool, true, false}
 use Rattle.sam_runes.specs.Checks.{first_of_checks}
-use Rattle.sam_term.specs.Term.{PlainTerminal, Made, window_at, made_by, event_checks, Verdict}
+use Rattle.sam_term.specs.Term.{PlainTerminal, Made, window_at, made_by, event_checks}
+use Rattle.sam_term.specs.declared.event.Verdict.{Verdict}
 use Rattle.sam_term.specs.declared.event.UserEvent.{UserEvent}
 use Rattle.sam_term.specs.declared.event.UserEvent.TheVariants.{Typed, Select, Cut, Paste, Snarf, Look, Search, Send, Dclick, Scroll, View, Open, Close, Write, Work, OpenCmd, New, Exit, Check, GetSnarf, SetSnarf, Version, Flush}
 use Rattle.sam_term.specs.declared.event.Deed.{Deed}

@@ -2,6 +2,7 @@
 use Rattle.std.specs.Prelude.{ℕ, ◌≤◌, length, Option, Some, None, ⊤}
 use Rattle.sam_runes.specs.Texts.{max_runes, most_count}
 use Rattle.sam_runes.specs.Slots.{Slots}
+use Rattle.sam_rasp.specs.Rasp.{place_after_ins}
 use Rattle.sam_term.specs.Term.{PlainTerminal, window_in, window_at}
 use Rattle.sam_term.specs.declared.files.Window.{Window}
 use Rattle.sam_term.specs.declared.files.KnownFile.{KnownFile}
@@ -42,3 +43,14 @@ seen a =
       snarf = a.snarf;
       snarf_length = a.snarf_length;
     }
+
+-- the places of a window are at most n
+pub record AreWithin (n : ℕ) (w : Window) : Type 0 where
+  pub dot_start : w.dot.0 ≤ n
+  pub dot_end : w.dot.1 ≤ n
+  pub view : w.view_start ≤ n
+
+-- a window whose places moved as n members came in at p
+abbrev pub shifted : Window → ℕ → ℕ → Window
+shifted w p n =
+    record w { dot = (place_after_ins p n w.dot.0, place_after_ins p n w.dot.1); view_start = place_after_ins p n w.view_start }

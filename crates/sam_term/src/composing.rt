@@ -1,13 +1,15 @@
 //! Composing messages.
 
-ghost use Rattle.std.specs.Prelude.{◌≡◌, ◌++◌, ◌∷◌, ◌+◌, ◌<◌, ◌≤◌, [], length, IsTrue};
+ghost use Rattle.std.specs.Prelude.{◌≡◌, ◌⊎◌, ◌++◌, ◌∷◌, ◌+◌, ◌<◌, ◌≤◌, [], length, IfOk, IfErr, OnOk, IsTrue};
+ghost use Rattle.sam_rasp.specs.Rasp.{hole_within};
 ghost use Rattle.sam_runes.specs.Texts.{most_count};
 ghost use Rattle.sam_term.specs.Locking.{is_lockable, lock_added};
 ghost use Rattle.sam_term.specs.Locks.{lock_of};
 ghost use Rattle.sam_term.specs.Taking.{IsAnswer, countable};
-ghost use Rattle.sam_term.specs.Term.{is_open, composed, unsent_message, flushed, sends, unchanged};
+ghost use Rattle.sam_term.specs.Term.{is_open, composed, unsent_message, flushed, sends, unchanged, wanted, view_end, request_for};
 
 use crate::fault::TermFault;
+use crate::files::Window;
 use crate::lock::{Lock, either, is_request, lock_of};
 use crate::outbox::Outbox;
 use crate::term::Terminal;
@@ -91,5 +93,62 @@ impl Terminal {
         self.compose_unsent(&mut out);
         self.compose(message, &mut out);
         Ok(out.into_batch())
+    }
+
+    /// Whether so many messages more can be counted, and memory for `n`, before anything changes.
+    pub(crate) fn prepare(&self, count: u64, n: usize) -> Result<Outbox, TermFault>
+        ensures ok { IfOk result (λ out. out ≡ record { messages = []; room = n }) }
+        ensures counts { OnOk result (self.now.sent + count ≤ most_count) }
+        ensures full { IfErr result (λ why. (why ≡ TermFault.OutOfMemory) ⊎ ((why ≡ TermFault.CountFull) × (most_count < self.now.sent + count))) }
+    {
+        if u64::MAX - self.sent < count {
+            return Err(TermFault::CountFull);
+        }
+        let Ok(out) = Outbox::with_room(self.alloc, n) else {
+            return Err(TermFault::OutOfMemory);
+        };
+        Ok(out)
+    }
+
+    /// Composes the unsent runes, and then the message, with memory that was had.
+    pub(crate) fn send_prepared(&mut self, message: Tmesg, out: &mut Outbox)
+        requires counts { self.old.sent + length (unsent_message self.old.unsent) < most_count }
+        requires opened { IsTrue (is_lockable self.old (lock_of message)) }
+        requires room { 1 < out.old.room }
+        ensures sent { self.new ≡ (sends self.old unchanged (message ∷ [])).0 }
+        ensures messages { out.new.messages ≡ out.old.messages ++ (sends self.old unchanged (message ∷ [])).1 }
+        ensures room { out.old.room ≤ out.new.room + 2 }
+    {
+        self.compose_unsent(out);
+        self.compose(message, out);
+    }
+
+    /// The request that a file wants: for the first gap that its view shows, unless one is awaited already.
+    pub(crate) fn wanted(&self, tag: u16) -> Option<Tmesg>
+        ensures { result ≡ wanted self.now tag }
+    {
+        self.known_window(tag);
+        match self.files.window(tag) {
+            Some(window) => {
+                if self.exited || window.awaits {
+                    return None;
+                }
+                request_in(window, tag)
+            }
+            None => None,
+        }
+    }
+}
+
+/// The request for the first gap that a view shows.
+fn request_in(window: &Window, tag: u16) -> Option<Tmesg>
+    requires { window.now.view_start ≤ length window.now.rasp }
+    ensures { result ≡ request_for tag (hole_within window.now.rasp window.now.view_start (view_end window.now)) }
+{
+    let left = window.rasp.len() - window.view_start;
+    let end = window.view_start + window.view_length.min(left);
+    match window.rasp.first_hole(window.view_start, end) {
+        Some(hole) => Some(Tmesg::Trequest(tag, hole.0, (hole.1 - hole.0).min(512) as u16)),
+        None => None,
     }
 }

@@ -1,13 +1,18 @@
 //! What the messages of the host do.
 
-ghost use Rattle.std.specs.Prelude.{◌≡◌, ◌≤◌, ◌==◌, if◌then◌else◌, [], None};
-ghost use Rattle.sam_runes.specs.Texts.{most_count, common_version};
+ghost use Rattle.std.specs.Prelude.{◌≡◌, ◌+◌, ◌≤◌, ◌==◌, if◌then◌else◌, [], length, IsTrue, None, false};
+ghost use Rattle.sam_runes.specs.Slots.{free_slot};
+ghost use Rattle.sam_runes.specs.Texts.{most_count, common_version, max_runes};
 ghost use Rattle.sam_term.specs.Taking.{IsAnswer, countable, frame_fault};
-ghost use Rattle.sam_term.specs.Term.{made_from};
+ghost use Rattle.sam_term.specs.Term.{is_open, is_known, window_at, known_at, made_from, took_bindname, took_close, took_exit, put_known};
 
 use crate::fault::TermFault;
+use crate::files::{KnownFile, Window};
+use crate::moving::drop_unsent;
 use crate::term::Terminal;
 use sam_mesg::{Batch, Hmesg, Tmesg};
+use sam_rasp::rasp::Rasp;
+use sam_runes::Runes;
 
 impl Terminal {
     /// Takes a message that nothing stands against.
@@ -53,6 +58,42 @@ impl Terminal {
                 self.snarf_length = length;
                 Ok(self.nothing())
             }
+            Hmesg::Hbindname(tag) => {
+                self.open_file(tag);
+                Ok(self.nothing())
+            }
+            Hmesg::Hnewname(tag) => self.take_newname(tag),
+            Hmesg::Hmovname(tag, name) => {
+                self.rename_file(tag, name);
+                Ok(self.nothing())
+            }
+            Hmesg::Hgrow(tag, p, n) => self.take_grow(tag, p, n),
+            Hmesg::Hdata(tag, p, text) => self.take_data(tag, p, text),
+            Hmesg::Hgrowdata(tag, p, text) => self.take_growdata(tag, p, text),
+            Hmesg::Hclean(tag) => {
+                self.mark_file(tag, false);
+                Ok(self.nothing())
+            }
+            Hmesg::Hdirty(tag) => {
+                self.mark_file(tag, true);
+                Ok(self.nothing())
+            }
+            Hmesg::Hcut(tag, p, n) => {
+                self.cut_file(tag, p, n);
+                Ok(self.nothing())
+            }
+            Hmesg::Hdelname(tag) => {
+                self.drop_file(tag);
+                Ok(self.nothing())
+            }
+            Hmesg::Hclose(tag) => {
+                self.close_file(tag);
+                Ok(self.nothing())
+            }
+            Hmesg::Hexit => {
+                self.take_exit();
+                Ok(self.nothing())
+            }
             _ => Err(TermFault::OutOfMemory),
         }
     }
@@ -82,5 +123,119 @@ impl Terminal {
             return Ok(self.nothing());
         }
         self.send(Tmesg::Tack)
+    }
+
+    /// Opens a file that is known, with an empty partial text.
+    fn open_file(&mut self, tag: u16)
+        requires known { IsTrue (is_known self.old tag) }
+        requires shut { is_open self.old tag ≡ false }
+        ensures { self.new ≡ took_bindname self.old tag }
+    {
+        let window = Window {
+            rasp: Rasp::new(self.alloc),
+            dot: (0, 0),
+            view_start: 0,
+            view_length: 0,
+            locks: 0,
+            awaits: false,
+        };
+        self.files.put_window(tag, window);
+    }
+
+    /// Takes a new file in, which has no name yet.
+    fn take_newname(&mut self, tag: u16) -> Result<Batch, TermFault>
+        requires { is_known self.old tag ≡ false }
+        ensures { IsAnswer self.old self.new result (countable (made_from self.old (Hmesg.Hnewname tag))) }
+    {
+        let file = KnownFile {
+            name: Runes::from_vec(Vec::new(self.alloc)),
+            dirty: false,
+            window: None,
+        };
+        if let Err(_) = self.files.put_new(tag, file) {
+            return Err(TermFault::OutOfMemory);
+        }
+        Ok(self.nothing())
+    }
+
+    /// Gives a file that is known another name.
+    fn rename_file(&mut self, tag: u16, name: Runes)
+        requires { IsTrue (is_known self.old tag) }
+        ensures { self.new ≡ put_known self.old tag (record (known_at self.old tag) { name = name }) }
+    {
+        self.files.set_name(tag, name);
+    }
+
+    /// Marks a file that is known as changed since it was last written, or as not changed.
+    fn mark_file(&mut self, tag: u16, dirty: bool)
+        requires { IsTrue (is_known self.old tag) }
+        ensures { self.new ≡ put_known self.old tag (record (known_at self.old tag) { dirty = dirty }) }
+    {
+        self.files.set_dirty(tag, dirty);
+    }
+
+    /// Drops a file that is not open.
+    fn drop_file(&mut self, tag: u16)
+        requires known { IsTrue (is_known self.old tag) }
+        requires shut { is_open self.old tag ≡ false }
+        ensures { self.new ≡ record self.old { files = free_slot self.old.files tag } }
+    {
+        let _ = self.files.take_known(tag);
+    }
+
+    /// Takes gaps in.
+    fn take_grow(&mut self, tag: u16, p: u32, n: u32) -> Result<Batch, TermFault>
+        requires opened { IsTrue (is_open self.old tag) }
+        requires place { p ≤ length (window_at self.old tag).rasp }
+        requires size { length (window_at self.old tag).rasp + n ≤ max_runes }
+        ensures { IsAnswer self.old self.new result (countable (made_from self.old (Hmesg.Hgrow tag p n))) }
+    {
+        if let Err(_) = self.grow_file(tag, p, n) {
+            return Err(TermFault::OutOfMemory);
+        }
+        Ok(self.nothing())
+    }
+
+    /// Takes runes into places that are there.
+    fn take_data(&mut self, tag: u16, p: u32, text: Runes) -> Result<Batch, TermFault>
+        requires opened { IsTrue (is_open self.old tag) }
+        requires place { p + length text ≤ length (window_at self.old tag).rasp }
+        ensures { IsAnswer self.old self.new result (countable (made_from self.old (Hmesg.Hdata tag p text))) }
+    {
+        if let Err(_) = self.load_file(tag, p, text.as_slice()) {
+            return Err(TermFault::OutOfMemory);
+        }
+        Ok(self.nothing())
+    }
+
+    /// Takes new runes in.
+    fn take_growdata(&mut self, tag: u16, p: u32, text: Runes) -> Result<Batch, TermFault>
+        requires opened { IsTrue (is_open self.old tag) }
+        requires place { p ≤ length (window_at self.old tag).rasp }
+        requires size { length (window_at self.old tag).rasp + length text ≤ max_runes }
+        ensures { IsAnswer self.old self.new result (countable (made_from self.old (Hmesg.Hgrowdata tag p text))) }
+    {
+        if let Err(_) = self.fill_file(tag, p, text.as_slice()) {
+            return Err(TermFault::OutOfMemory);
+        }
+        Ok(self.nothing())
+    }
+
+    /// Closes a file. What was typed into it and not yet sent is dropped.
+    fn close_file(&mut self, tag: u16)
+        requires { IsTrue (is_known self.old tag) }
+        ensures { self.new ≡ took_close self.old tag }
+    {
+        self.files.shut(tag);
+        drop_unsent(&mut self.unsent, tag);
+    }
+
+    /// Ends the session: every lock is free and nothing is awaited.
+    fn take_exit(&mut self)
+        ensures { self.new ≡ took_exit self.old }
+    {
+        self.exited = true;
+        self.command_lock = false;
+        self.files.free_all();
     }
 }

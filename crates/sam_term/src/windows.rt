@@ -1,11 +1,13 @@
 //! The windows of the terminal's files: reading them, and small changes.
 
-ghost use Rattle.std.specs.Prelude.{◌≡◌, ◌+◌, ◌-◌, ◌≤◌, length, IsTrue};
+ghost use Rattle.std.specs.Prelude.{◌≡◌, ◌+◌, ◌-◌, ◌≤◌, length, OnErr, OnOk, IsTrue, Some, None, map, replicate};
 ghost use Rattle.sam_runes.specs.Texts.{max_runes};
 ghost use Rattle.sam_term.specs.Sound.{FitsWindow};
-ghost use Rattle.sam_term.specs.Term.{is_open, is_known, window_at, set_view_start, set_dot_of};
+ghost use Rattle.sam_term.specs.Term.{is_open, is_known, window_at, set_view_start, set_dot_of, took_data, ins_rasp, del_rasp};
 
+use crate::moving::{cut_window, fill_window, grow_window, load_window, move_by_del, move_by_ins};
 use crate::term::Terminal;
+use std::alloc::AllocError;
 
 impl Terminal {
     /// Whether it knows the file.
@@ -100,5 +102,69 @@ impl Terminal {
         let mut window = self.files.take_window(tag);
         window.dot = (p, q);
         self.files.put_window(tag, window);
+    }
+
+    /// Puts `n` gaps into the partial text of an open file at `p`.
+    pub(crate) fn grow_file(&mut self, tag: u16, p: u32, n: u32) -> Result<(), AllocError>
+        requires opened { IsTrue (is_open self.old tag) }
+        requires place { p ≤ length (window_at self.old tag).rasp }
+        requires size { length (window_at self.old tag).rasp + n ≤ max_runes }
+        ensures ok { OnOk result (self.new ≡ ins_rasp self.old tag p (replicate n None)) }
+        ensures err { OnErr result (self.new ≡ self.old) }
+    {
+        let mut window = self.files.take_window(tag);
+        let grown = grow_window(&mut window, p, n);
+        self.files.put_window(tag, window);
+        if let Err(error) = grown {
+            return Err(error);
+        }
+        move_by_ins(&mut self.unsent, tag, p, n);
+        Ok(())
+    }
+
+    /// Puts runes into the partial text of an open file at `p`.
+    pub(crate) fn fill_file(&mut self, tag: u16, p: u32, runes: &[char]) -> Result<(), AllocError>
+        requires opened { IsTrue (is_open self.old tag) }
+        requires place { p ≤ length (window_at self.old tag).rasp }
+        requires size { length (window_at self.old tag).rasp + length runes.now ≤ max_runes }
+        ensures ok { OnOk result (self.new ≡ ins_rasp self.old tag p (map Some runes.now)) }
+        ensures err { OnErr result (self.new ≡ self.old) }
+    {
+        let mut window = self.files.take_window(tag);
+        let filled = fill_window(&mut window, p, runes);
+        self.files.put_window(tag, window);
+        if let Err(error) = filled {
+            return Err(error);
+        }
+        move_by_ins(&mut self.unsent, tag, p, runes.len() as u32);
+        Ok(())
+    }
+
+    /// Loads runes into places of an open file, which awaits nothing more.
+    pub(crate) fn load_file(&mut self, tag: u16, p: u32, runes: &[char]) -> Result<(), AllocError>
+        requires opened { IsTrue (is_open self.old tag) }
+        requires place { p + length runes.now ≤ length (window_at self.old tag).rasp }
+        ensures ok { OnOk result (self.new ≡ took_data self.old tag p runes.now) }
+        ensures err { OnErr result (self.new ≡ self.old) }
+    {
+        let mut window = self.files.take_window(tag);
+        let loaded = load_window(&mut window, p, runes);
+        self.files.put_window(tag, window);
+        if let Err(error) = loaded {
+            return Err(error);
+        }
+        Ok(())
+    }
+
+    /// Takes the `n` runes or gaps from `p` on out of the partial text of an open file.
+    pub(crate) fn cut_file(&mut self, tag: u16, p: u32, n: u32)
+        requires opened { IsTrue (is_open self.old tag) }
+        requires place { p + n ≤ length (window_at self.old tag).rasp }
+        ensures { self.new ≡ del_rasp self.old tag p (p + n) }
+    {
+        let mut window = self.files.take_window(tag);
+        cut_window(&mut window, p, n);
+        self.files.put_window(tag, window);
+        move_by_del(&mut self.unsent, tag, p, n);
     }
 }

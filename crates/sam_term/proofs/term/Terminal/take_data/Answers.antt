@@ -1,0 +1,10 @@
+use Rattle.std.proofs.Common.{◌≡◌, ◌∙◌, ap}
+use Rattle.sam_term.specs.Term.{took_data}
+use Rattle.sam_term.proofs.Sounds.{quiet}
+use Rattle.sam_term.proofs.term.Terminal.take_data.Goals as goal
+
+pub returns : goal.returns
+returns c =
+    quiet (took_data c.args.self.now c.args.tag c.args.p c.args.text) _ _
+    (c.in_default.ensures.ok ∙ ap (λ s. took_data c.args.self.now c.args.tag c.args.p s) c.as_slice.ensures)
+    c.nothing.ensures.nothing c.nothing.ensures.countable

@@ -1,0 +1,23 @@
+use Rattle.std.proofs.Common.{◌≡◌, sym, ap, ◌∙◌, subst, false, true, None, Some, refl}
+use Rattle.sam_runes.specs.Slots.{put_slot}
+use Rattle.sam_term.specs.Term.{PlainTerminal, put_known, is_known, blank_known}
+use Rattle.sam_term.specs.Sound.{IsSound, seen}
+use Rattle.sam_term.proofs.FileSteps.{sound-put_known, blank_where_unknown}
+use Rattle.sam_term.proofs.Sounds.{quiet}
+use Rattle.sam_term.proofs.term.Terminal.take_newname.Goals as goal
+
+pub invariant_of-self-2 : goal.invariant_of-self-2
+invariant_of-self-2 c =
+    let t = seen c.self.inside in
+    subst (λ ss. IsSound (record t { files = ss }))
+    (sym (c.in_default.ensures.ok ∙ ap (λ s. put_slot t.files c.args.tag (record blank_known { name = s })) (c.from_vec.ensures ∙ c.new.ensures.items)))
+    (sound-put_known t c.args.tag blank_known c.self.invariant
+    (sym (blank_where_unknown t.files c.args.tag (ap (λ u. is_known u c.args.tag) c.self.view_is ∙ c.requires))))
+
+pub returns : goal.returns
+returns c =
+    let t = seen c.self.inside in
+    quiet (put_known c.args.self.now c.args.tag blank_known) _ _
+    (ap (λ ss. record t { files = ss }) (c.in_default.ensures.ok ∙ ap (λ s. put_slot t.files c.args.tag (record blank_known { name = s })) (c.from_vec.ensures ∙ c.new.ensures.items))
+    ∙ ap {A = PlainTerminal} (λ u. put_known u c.args.tag blank_known) c.self.view_is)
+    c.nothing.ensures.nothing c.nothing.ensures.countable
