@@ -2,8 +2,10 @@
 use Rattle.std.proofs.Common.{◌≡◌, refl, sym, ap, ℕ, Bool, true, false, List, [], ◌∷◌, Option, Some, None, Result, Ok, Err, if◌then◌else◌, nat_lt}
 use Rattle.sam_runes.specs.Checks.{first_of_checks}
 use Rattle.sam_runes.specs.Texts.{most_count}
-use Rattle.sam_term.specs.Term.{PlainTerminal, Made, Verdict, Waits, Refuses, act_of, act_on, decided, if_countable, event_checks, made_by}
+use Rattle.sam_term.specs.Term.{PlainTerminal, Made, act_of, act_on, decided, if_countable, event_checks, made_by}
 use Rattle.sam_mesg.specs.declared.tmesg.Tmesg.{Tmesg}
+use Rattle.sam_term.specs.declared.event.Verdict.{Verdict}
+use Rattle.sam_term.specs.declared.event.Verdict.TheVariants.{Waits, Refuses}
 use Rattle.sam_term.specs.declared.event.UserEvent.{UserEvent}
 use Rattle.sam_term.specs.declared.event.Acted.{Acted}
 use Rattle.sam_term.specs.declared.event.Acted.TheVariants.{Idle, Locked, Done, Refused}
