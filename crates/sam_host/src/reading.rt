@@ -94,6 +94,7 @@ impl Host {
         ensures answer { result ≡ unless (first_of_checks (unknown self.now f ∷ not_opened self.now f ∷ no_range self.now f p q ∷ [])) tt }
         ensures there { OnOk result (has_file self.now.files f ≡ true) }
         ensures within { OnOk result ((p ≤ q) × (q ≤ length (file_at self.now.files f).text)) }
+        ensures limit { OnOk result (q ≤ max_runes) }
     {
         self.wants_open(f)?;
         if q < p || self.text_len(f) < q {

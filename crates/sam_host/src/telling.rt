@@ -103,7 +103,7 @@ impl Host {
 
     /// Tells the name of a tag's file, if there is one that was not announced.
     #[tactic(auto, unfolding(crate::specs::Host::when, crate::specs::Names::told_at))]
-    fn tell_name(&self, frames: &mut Vec<HFrame>, f: u16) -> Result<(), HostFault>
+    pub(crate) fn tell_name(&self, frames: &mut Vec<HFrame>, f: u16) -> Result<(), HostFault>
         requires count { self.now.taken + 1 < 2 ^ 64 }
         ensures ok { OnOk result (frames.new.items ≡ frames.old.items ++ stamped (self.now.taken + 1) (told_at f (slot self.now.files.slots f))) }
         ensures memory { OnErr result (result ≡ Err HostFault.OutOfMemory) }

@@ -20,3 +20,9 @@ mod Steady
 mod Folds
 mod Composing
 mod Joins
+mod Views
+mod Dots
+mod Passing
+mod Sending
+mod Typing
+mod Acting

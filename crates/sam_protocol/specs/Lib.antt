@@ -7,3 +7,4 @@ pub mod Synced
 pub mod Means
 pub mod Handled
 pub mod Fold
+pub mod Order

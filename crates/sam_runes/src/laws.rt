@@ -1,7 +1,7 @@
 //! Laws of the definitions, each as the contract of a function that does nothing.
 
 ghost use Rattle.std.specs.Prelude.{◌≡◌, ℕ, ◌+◌, ◌≤◌, List, length, reverse};
-ghost use Rattle.sam_runes.specs.Texts.{max_runes};
+ghost use Rattle.sam_runes.specs.Texts.{max_runes, line_start, lines_before};
 ghost use Rattle.sam_runes.specs.Edits.{Ascend, replace, inserted, all_edited, EditsFit};
 ghost use Rattle.sam_runes.specs.declared.edit.Edit.{Edit};
 
@@ -16,4 +16,10 @@ pub fn last_first_is_at_once()
 #[tactic(auto, using(crate::proofs::EditLaws::edits_fit))]
 pub fn edits_fit_one_by_one()
     ensures { (edits : List Edit) (text : List ℕ) → Ascend text edits → length text + inserted edits ≤ max_runes → EditsFit text (reverse edits) }
+{}
+
+/// The line that stands no line before that of a place is that line itself.
+#[tactic(auto, using(crate::proofs::PlaceLaws::lines_before_none))]
+pub fn line_itself()
+    ensures { (text : List ℕ) (p : ℕ) → p ≤ length text → lines_before text p 0 ≡ line_start text p }
 {}

@@ -1,8 +1,9 @@
 -- What holds of all files stays so under each change.
-use Rattle.std.proofs.Common.{◌≡◌, ◌≢◌, ◌⊎◌, ℕ, zero, suc, ◌+◌, ◌<◌, ◌≤◌, List, [], ◌∷◌, length, Bool, true, false, Option, Some, None, nat_eq, inl, inr, refl, sym, ap, ◌∙◌, subst, arith, length-append, if◌then◌else◌, ◌==◌, ◌++◌}
+use Rattle.std.proofs.Common.{◌≡◌, ◌≢◌, ◌⊎◌, ℕ, zero, suc, ◌+◌, ◌<◌, ◌≤◌, List, [], ◌∷◌, length, Bool, true, false, Option, Some, None, nat_eq, inl, inr, refl, sym, ap, ◌∙◌, subst, arith, length-append, take, drop, ◌-◌, if◌then◌else◌, ◌==◌, ◌++◌}
 use Rattle.std.specs.Prelude.{unwrap_or, is_some, option_map, IfSome, Result, Ok, Err, OnOk, OnErr, ⊤}
 use Rattle.std.proofs.lemmas.Bool.Decides.{eqb_tells}
-use Rattle.sam_runes.specs.Texts.{max_runes, all_tags}
+use Rattle.std.proofs.lemmas.List.{length-drop, length-take-le}
+use Rattle.sam_runes.specs.Texts.{max_runes, all_tags, part}
 use Rattle.sam_runes.specs.Slots.{Slots, slot, put_slot, free_slot}
 use Rattle.sam_runes.proofs.SlotLaws.{slot-put_same, slot-put_other, slot-free_same, slot-free_other, slot-map, slot_given, length-put_slot, length-free_slot, length-map_slots, put_slot-push}
 use Rattle.sam_text.specs.Files.{PlainFile, PlainFiles, blank_file, file_at, has_file, put_file, with_new, without_file, work_without, announced_file, announce_all, IsFit, AreFit, HasShortName, IsWork, IsPattern, AreKept}
@@ -140,3 +141,10 @@ kept_put_or fs g x all there (Err e) after same kept err = subst (λ ss. AreKept
 pub kept_new_or : {E : Type 0} (fs : PlainFiles) (x : PlainFile) → AreKept fs → length fs.slots < all_tags → IsFit x → HasShortName x → (r : Result ⊤ E) (after : Slots PlainFile) → OnOk r (after ≡ put_slot fs.slots (length fs.slots) x) → OnErr r (after ≡ fs.slots) → AreKept (record fs { slots = after })
 kept_new_or fs x all free fit short (Ok u) after same err = subst (λ ss. AreKept (record fs { slots = ss })) (sym same) (kept_new fs x all free fit short)
 kept_new_or fs x all free fit short (Err e) after same err = subst (λ ss. AreKept (record fs { slots = ss })) (sym err) all
+
+-- how long a part of a text is
+pub length_part : {X : Type 0} (t : List X) (p q : ℕ) → p ≤ q → q ≤ length t → length (part t p q) ≡ q - p
+length_part t p q l h = let d = length-drop p t in length-take-le (q - p) (drop p t) (omega (arith, d, l, h))
+
+pub part_within : {X : Type 0} (t : List X) (p q : ℕ) → p ≤ q → q ≤ length t → length (part t p q) ≤ length t
+part_within t p q l h = let n = length_part t p q l h in omega (arith, n, l, h)

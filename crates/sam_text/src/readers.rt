@@ -1,9 +1,9 @@
 //! What can be read of the files.
 
 ghost use Rattle.std.specs.Prelude.{◌≡◌, ◌<◌, ◌≤◌, IfOk, IfSome, length, option_map, option_and_then, option_copied, nat_lt};
-ghost use Rattle.sam_runes.specs.Texts.{max_runes, part, searched, most_in_pattern};
+ghost use Rattle.sam_runes.specs.Texts.{max_runes, part, searched, word_at};
 ghost use Rattle.sam_runes.specs.Slots.{slot};
-ghost use Rattle.sam_text.specs.Files.{has_file, file_at, most_in_name, IsFit, HasShortName};
+ghost use Rattle.sam_text.specs.Files.{has_file, file_at, search_of, most_in_name, IsFit, HasShortName};
 ghost use Rattle.sam_text.specs.Views.{room_at};
 
 use crate::files::Files;
@@ -126,16 +126,25 @@ impl Files {
         }
     }
 
+    /// What stands in a file between two places.
+    pub fn part(&self, tag: u16, p: u32, q: u32) -> &[char]
+        requires ascending { p ≤ q }
+        requires within { q ≤ length (file_at self.now.plain tag).text }
+        ensures { result.now ≡ part (file_at self.now.plain tag).text p q }
+    {
+        match self.file(tag) {
+            Some(file) => file.text().slice(p, q),
+            None => &[],
+        }
+    }
+
     /// What stands in a file between two places, copied.
     pub fn copy_part(&self, alloc: Global, tag: u16, p: u32, q: u32) -> Result<Runes, AllocError>
         requires ascending { p ≤ q }
         requires within { q ≤ length (file_at self.now.plain tag).text }
         ensures { IfOk result (λ r. r ≡ part (file_at self.now.plain tag).text p q) }
     {
-        match self.file(tag) {
-            Some(file) => Runes::from_slice(alloc, file.text().slice(p, q)),
-            None => Runes::from_slice(alloc, &[]),
-        }
+        Runes::from_slice(alloc, self.part(tag, p, q))
     }
 
     /// The whole text of a file, copied.
@@ -165,13 +174,38 @@ impl Files {
     pub fn find(&self, tag: u16, lit: &[char], from: u32) -> Option<(u32, u32)>
         requires filled { 0 < length lit.now }
         requires within { from ≤ length (file_at self.now.plain tag).text }
-        ensures { result ≡ searched (file_at self.now.plain tag).text lit.now from }
+        ensures value { result ≡ searched (file_at self.now.plain tag).text lit.now from }
+        ensures range { IfSome result (λ r. (r.0 ≤ r.1) × (r.1 ≤ length (file_at self.now.plain tag).text)) }
     {
         match self.file(tag) {
             Some(file) => match file.text().find(lit, from) {
                 Some(range) => Some(range),
                 None => file.text().find(lit, 0),
             },
+            None => None,
+        }
+    }
+
+    /// The word round a place of a file, inside it or at an edge, else the empty string there.
+    pub fn word(&self, tag: u16, p: u32) -> (u32, u32)
+        requires { p ≤ length (file_at self.now.plain tag).text }
+        ensures value { result ≡ word_at (file_at self.now.plain tag).text p }
+        ensures range { (result.0 ≤ result.1) × (result.1 ≤ length (file_at self.now.plain tag).text) }
+    {
+        match self.file(tag) {
+            Some(file) => file.text().word_at(p),
+            None => (0, 0),
+        }
+    }
+
+    /// Where the pattern stands in a file from the place `from` on, else from the start; none where there is no pattern.
+    pub fn search_from(&self, tag: u16, from: u32) -> Option<(u32, u32)>
+        requires { from ≤ length (file_at self.now.plain tag).text }
+        ensures value { result ≡ search_of self.now.plain tag from }
+        ensures range { IfSome result (λ r. (r.0 ≤ r.1) × (r.1 ≤ length (file_at self.now.plain tag).text)) }
+    {
+        match self.pattern() {
+            Some(pattern) => self.find(tag, pattern.as_slice(), from),
             None => None,
         }
     }

@@ -1,0 +1,217 @@
+//! What changes a file or the snarf buffer: typing, cutting, pasting, writing.
+
+ghost use Rattle.std.specs.Prelude.{◌≡◌, ◌⊎◌, ◌<◌, ◌≤◌, ◌+◌, ◌++◌, ◌∷◌, [], ◌^◌, IfOk, IfErr, OnOk, OnErr, Err, None, Some, IsTrue, true, not, ◌&&◌, ◌==◌, length};
+ghost use Rattle.sam_host.specs.Host.{host_checks, stamped, when, grown, with_file, reply_cut, reply_paste, reply_snarf, reply_setsnarf, reply_startsnarf, reply_write};
+ghost use Rattle.sam_runes.specs.Texts.{max_runes, snarf_limit};
+ghost use Rattle.sam_runes.specs.Checks.{first_of_checks};
+ghost use Rattle.sam_text.specs.Files.{has_file, file_at, typed_file, pasted_file};
+ghost use Rattle.sam_mesg.specs.TerminalKinds.{fits_t};
+
+use crate::fault::HostFault;
+use crate::host::Host;
+use crate::places::prefix_in_bytes;
+use sam_mesg::{HFrame, Hmesg, Tmesg};
+use sam_runes::{MAX_RUNES, Runes};
+use sam_text::FileChange;
+
+/// The most bytes of snarfed text in one message of version 1, and of version 2.
+const SNARF_LIMITS: (usize, usize) = (4_096, 32_000);
+
+impl Host {
+    /// A range is deleted.
+    #[tactic(auto, unfolding(crate::specs::Host::reply_cut))]
+    pub(crate) fn cut(&mut self, f: u16, p: u32, q: u32) -> Result<Vec<HFrame>, HostFault>
+        requires { self.old.taken + 1 < 2 ^ 64 }
+        ensures allowed { OnOk result (first_of_checks (host_checks self.old (Tmesg.Tcut f p q)) ≡ None) }
+        ensures host { OnOk result (self.new ≡ (reply_cut self.old f p q).0) }
+        ensures frames { IfOk result (λ frames. frames.items ≡ stamped (self.old.taken + 1) (reply_cut self.old f p q).1) }
+        ensures refused { IfErr result (λ why. (why ≡ HostFault.OutOfMemory) ⊎ (first_of_checks (host_checks self.old (Tmesg.Tcut f p q)) ≡ Some why)) }
+        ensures count { self.new.taken ≡ self.old.taken }
+        ensures unchanged { OnErr result (self.new ≡ self.old) }
+    {
+        self.wants_range(f, p, q)?;
+        self.files.change(f, FileChange::Cut(p, q, f == 0));
+        Ok(Vec::new(self.alloc))
+    }
+
+    /// How a paste ends.
+    fn end_paste(&self, frames: &mut Vec<HFrame>, f: u16, p: u32, q: u32) -> Result<(), HostFault>
+        requires count { self.now.taken + 1 < 2 ^ 64 }
+        ensures ok { OnOk result (frames.new.items ≡ frames.old.items ++ stamped (self.now.taken + 1) (Hmesg.Hsetdot f p q ∷ Hmesg.Hcheck f ∷ Hmesg.Hunlockfile f ∷ [])) }
+        ensures memory { OnErr result (result ≡ Err HostFault.OutOfMemory) }
+    {
+        self.say(frames, Hmesg::Hsetdot(f, p, q))?;
+        self.say(frames, Hmesg::Hcheck(f))?;
+        self.say(frames, Hmesg::Hunlockfile(f))
+    }
+
+    /// How a paste of these runes is told.
+    #[tactic(auto, using(crate::proofs::FrameLaws::stamped_append))]
+    fn paste_frames(&self, f: u16, p: u32, runes: &[char]) -> Result<Vec<HFrame>, HostFault>
+        requires count { self.now.taken + 1 < 2 ^ 64 }
+        requires place { p ≤ max_runes }
+        requires limit { length runes.now ≤ max_runes }
+        ensures ok { IfOk result (λ frames. frames.items ≡ stamped (self.now.taken + 1) (grown self.now.files f p runes.now ++ when (not (file_at self.now.files f).dirty && not (f == 0)) (Hmesg.Hdirty f ∷ []) ++ Hmesg.Hsetdot f p (p + length runes.now) ∷ Hmesg.Hcheck f ∷ Hmesg.Hunlockfile f ∷ [])) }
+        ensures memory { OnErr result (result ≡ Err HostFault.OutOfMemory) }
+    {
+        let mut frames = Vec::new(self.alloc);
+        self.grown(&mut frames, f, p, runes)?;
+        self.tell_dirty(&mut frames, f)?;
+        self.end_paste(&mut frames, f, p, p + runes.len() as u32)?;
+        Ok(frames)
+    }
+
+    /// Puts pasted runes in.
+    fn put_pasted(&mut self, f: u16, p: u32, runes: &[char]) -> Result<(), HostFault>
+        requires there { has_file self.old.files f ≡ true }
+        requires place { p ≤ length (file_at self.old.files f).text }
+        requires fits { length (file_at self.old.files f).text + length runes.now ≤ max_runes }
+        ensures ok { OnOk result (self.new ≡ with_file self.old f (pasted_file f (file_at self.old.files f) p runes.now)) }
+        ensures memory { OnErr result (result ≡ Err HostFault.OutOfMemory) }
+        ensures unchanged { OnErr result (self.new ≡ self.old) }
+    {
+        let end = p + runes.len() as u32;
+        match self.files.put_in(f, p, runes, (p, end), f == 0) {
+            Ok(()) => Ok(()),
+            Err(_) => Err(HostFault::OutOfMemory),
+        }
+    }
+
+    /// The snarf buffer is pasted.
+    #[tactic(auto, unfolding(crate::specs::Host::reply_paste))]
+    pub(crate) fn paste(&mut self, f: u16, p: u32) -> Result<Vec<HFrame>, HostFault>
+        requires { self.old.taken + 1 < 2 ^ 64 }
+        ensures allowed { OnOk result (first_of_checks (host_checks self.old (Tmesg.Tpaste f p)) ≡ None) }
+        ensures host { OnOk result (self.new ≡ (reply_paste self.old f p).0) }
+        ensures frames { IfOk result (λ frames. frames.items ≡ stamped (self.old.taken + 1) (reply_paste self.old f p).1) }
+        ensures refused { IfErr result (λ why. (why ≡ HostFault.OutOfMemory) ⊎ (first_of_checks (host_checks self.old (Tmesg.Tpaste f p)) ≡ Some why)) }
+        ensures count { self.new.taken ≡ self.old.taken }
+        ensures unchanged { OnErr result (self.new ≡ self.old) }
+    {
+        self.wants_place(f, p)?;
+        let len = self.files.snarf_text().len();
+        if len == 0 || len > MAX_RUNES as usize - self.text_len(f) as usize {
+            let mut frames = Vec::new(self.alloc);
+            self.say(&mut frames, Hmesg::Hunlockfile(f))?;
+            return Ok(frames);
+        }
+        let runes = self.files.snarf_text().copy(self.alloc)?;
+        let frames = self.paste_frames(f, p, runes.as_slice())?;
+        self.put_pasted(f, p, runes.as_slice())?;
+        Ok(frames)
+    }
+
+    /// A range is taken into the snarf buffer.
+    #[tactic(auto, using(crate::proofs::SnarfLaws::part_length), unfolding(crate::specs::Host::reply_snarf))]
+    pub(crate) fn snarf(&mut self, f: u16, p: u32, q: u32) -> Result<Vec<HFrame>, HostFault>
+        requires { self.old.taken + 1 < 2 ^ 64 }
+        ensures allowed { OnOk result (first_of_checks (host_checks self.old (Tmesg.Tsnarf f p q)) ≡ None) }
+        ensures host { OnOk result (self.new ≡ (reply_snarf self.old f p q).0) }
+        ensures frames { IfOk result (λ frames. frames.items ≡ stamped (self.old.taken + 1) (reply_snarf self.old f p q).1) }
+        ensures refused { IfErr result (λ why. (why ≡ HostFault.OutOfMemory) ⊎ (first_of_checks (host_checks self.old (Tmesg.Tsnarf f p q)) ≡ Some why)) }
+        ensures count { self.new.taken ≡ self.old.taken }
+        ensures unchanged { OnErr result (self.new ≡ self.old) }
+    {
+        self.wants_range(f, p, q)?;
+        let runes = self.part(f, p, q)?;
+        let mut frames = Vec::new(self.alloc);
+        self.say(&mut frames, Hmesg::Hsnarflen(q - p))?;
+        self.files.put_snarf(runes);
+        Ok(frames)
+    }
+
+    /// The snarf buffer holds these runes.
+    #[tactic(auto, using(crate::proofs::SnarfLaws::snarf_short), unfolding(crate::specs::Host::reply_setsnarf))]
+    pub(crate) fn set_snarf(&mut self, runes: Runes) -> Result<Vec<HFrame>, HostFault>
+        requires count { self.old.taken + 1 < 2 ^ 64 }
+        requires fits { IsTrue (fits_t 2 (Tmesg.Tsetsnarf runes)) }
+        ensures allowed { OnOk result (first_of_checks (host_checks self.old (Tmesg.Tsetsnarf runes)) ≡ None) }
+        ensures host { OnOk result (self.new ≡ (reply_setsnarf self.old runes).0) }
+        ensures frames { IfOk result (λ frames. frames.items ≡ stamped (self.old.taken + 1) (reply_setsnarf self.old runes).1) }
+        ensures refused { IfErr result (λ why. (why ≡ HostFault.OutOfMemory) ⊎ (first_of_checks (host_checks self.old (Tmesg.Tsetsnarf runes)) ≡ Some why)) }
+        ensures count { self.new.taken ≡ self.old.taken }
+        ensures unchanged { OnErr result (self.new ≡ self.old) }
+    {
+        let mut frames = Vec::new(self.alloc);
+        self.say(&mut frames, Hmesg::Hsnarflen(runes.len() as u32))?;
+        self.files.put_snarf(runes);
+        Ok(frames)
+    }
+
+    /// The most bytes that the snarf buffer may take in a message of the version.
+    fn snarf_limit(&self) -> usize
+        ensures { result ≡ snarf_limit self.now.version }
+    {
+        if self.version == 1 { SNARF_LIMITS.0 } else { SNARF_LIMITS.1 }
+    }
+
+    /// As much of the snarf buffer as a message may hold is asked for.
+    #[tactic(auto, unfolding(crate::specs::Host::reply_startsnarf))]
+    pub(crate) fn start_snarf(&mut self) -> Result<Vec<HFrame>, HostFault>
+        requires { self.old.taken + 1 < 2 ^ 64 }
+        ensures allowed { OnOk result (first_of_checks (host_checks self.old Tmesg.Tstartsnarf) ≡ None) }
+        ensures host { OnOk result (self.new ≡ (reply_startsnarf self.old).0) }
+        ensures frames { IfOk result (λ frames. frames.items ≡ stamped (self.old.taken + 1) (reply_startsnarf self.old).1) }
+        ensures refused { IfErr result (λ why. (why ≡ HostFault.OutOfMemory) ⊎ (first_of_checks (host_checks self.old Tmesg.Tstartsnarf) ≡ Some why)) }
+        ensures count { self.new.taken ≡ self.old.taken }
+        ensures unchanged { OnErr result (self.new ≡ self.old) }
+    {
+        let snarf = self.files.snarf_text().as_slice();
+        let len = prefix_in_bytes(snarf, self.snarf_limit());
+        let runes = Runes::from_slice(self.alloc, &snarf[..len])?;
+        let mut frames = Vec::new(self.alloc);
+        self.say(&mut frames, Hmesg::Hsetsnarf(runes))?;
+        Ok(frames)
+    }
+
+    /// The whole text of a file, copied.
+    #[tactic(auto, using(crate::proofs::SnarfLaws::part_all))]
+    fn whole(&self, f: u16) -> Result<Runes, HostFault>
+        ensures ok { IfOk result (λ r. r ≡ (file_at self.now.files f).text) }
+        ensures memory { OnErr result (result ≡ Err HostFault.OutOfMemory) }
+    {
+        self.part(f, 0, self.text_len(f))
+    }
+
+    /// A file is written: what is saved is its text, and it is clean.
+    #[tactic(auto, unfolding(crate::specs::Host::reply_write))]
+    pub(crate) fn write(&mut self, f: u16) -> Result<Vec<HFrame>, HostFault>
+        requires { self.old.taken + 1 < 2 ^ 64 }
+        ensures allowed { OnOk result (first_of_checks (host_checks self.old (Tmesg.Twrite f)) ≡ None) }
+        ensures host { OnOk result (self.new ≡ (reply_write self.old f).0) }
+        ensures frames { IfOk result (λ frames. frames.items ≡ stamped (self.old.taken + 1) (reply_write self.old f).1) }
+        ensures refused { IfErr result (λ why. (why ≡ HostFault.OutOfMemory) ⊎ (first_of_checks (host_checks self.old (Tmesg.Twrite f)) ≡ Some why)) }
+        ensures count { self.new.taken ≡ self.old.taken }
+        ensures unchanged { OnErr result (self.new ≡ self.old) }
+    {
+        if !self.has(f) {
+            return Err(HostFault::NoFile);
+        }
+        if f == 0 {
+            return Err(HostFault::CommandFile);
+        }
+        self.wants_open(f)?;
+        let runes = self.whole(f)?;
+        let mut frames = Vec::new(self.alloc);
+        self.say(&mut frames, Hmesg::Hclean(f))?;
+        self.say(&mut frames, Hmesg::Hunlockfile(f))?;
+        self.files.change(f, FileChange::Saved(runes));
+        Ok(frames)
+    }
+
+    /// Puts typed runes in.
+    pub(crate) fn put_typed(&mut self, f: u16, p: u32, runes: &[char]) -> Result<(), HostFault>
+        requires there { has_file self.old.files f ≡ true }
+        requires place { p ≤ length (file_at self.old.files f).text }
+        requires fits { length (file_at self.old.files f).text + length runes.now ≤ max_runes }
+        ensures ok { OnOk result (self.new ≡ with_file self.old f (typed_file f (file_at self.old.files f) p runes.now)) }
+        ensures memory { OnErr result (result ≡ Err HostFault.OutOfMemory) }
+        ensures unchanged { OnErr result (self.new ≡ self.old) }
+    {
+        let end = p + runes.len() as u32;
+        match self.files.put_in(f, p, runes, (end, end), f == 0) {
+            Ok(()) => Ok(()),
+            Err(_) => Err(HostFault::OutOfMemory),
+        }
+    }
+}

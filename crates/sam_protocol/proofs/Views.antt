@@ -1,0 +1,236 @@
+-- What of the terminal concerns one file, after its steps of composing.
+use Rattle.std.proofs.Common.{◌≡◌, ◌≢◌, ℕ, zero, suc, ◌+◌, ◌-◌, ◌≤◌, Bool, true, false, ◌&&◌, ◌==◌, if◌then◌else◌, nat_lt, List, [], ◌∷◌, ◌++◌, length, map, Option, Some, None, is_some, ◌⊎◌, inl, inr, refl, sym, ap, ◌∙◌, subst, true≢false, eqb-true, eq-eqb, arith}
+use Rattle.std.specs.Prelude.{unwrap_or}
+use Rattle.sam_runes.specs.Texts.{ends_line}
+use Rattle.sam_runes.specs.Slots.{Slots, slot, put_slot}
+use Rattle.sam_runes.proofs.SlotLaws.{slot-put_same, slot-put_other}
+use Rattle.sam_rasp.specs.Rasp.{PartialText}
+use Rattle.sam_mesg.specs.declared.tmesg.Tmesg.{Tmesg}
+use Rattle.sam_mesg.specs.declared.tmesg.Tmesg.TheVariants.{Tversion, Tstartcmdfile, Tcheck, Trequest, Torigin, Tstartfile, Tworkfile, Ttype, Tcut, Tpaste, Tsnarf, Tstartnewfile, Twrite, Tclose, Tlook, Tsearch, Tsend, Tdclick, Tstartsnarf, Tsetsnarf, Tack, Texit}
+use Rattle.sam_term.specs.Locks.{Lock, NoLock, CommandLock, FileLock, lock_of, is_command_line}
+use Rattle.sam_term.specs.Term.{PlainTerminal, blank_known, blank_window, known_at, window_at, put_known, put_window, lock_taken, asked, composed, all_composed, flushed, unsent_message}
+use Rattle.sam_term.specs.declared.files.Window.{Window}
+use Rattle.sam_term.specs.declared.files.KnownFile.{KnownFile}
+use Rattle.sam_term.specs.declared.files.Unsent.{Unsent}
+use Rattle.sam_term.proofs.TermLaws.{known-put}
+use Rattle.sam_protocol.specs.Lens.{Slot, Unknown, Known, Open, Lens, lens, IsFree, IsOpen, locked_more}
+use Rattle.sam_protocol.specs.Model.{choose}
+use Rattle.sam_protocol.specs.Crossing.{Change, commanded, changed, OpenAt, Anything}
+use Rattle.sam_protocol.specs.View.{slot_of_window, slot_of, view}
+use Rattle.sam_protocol.specs.Order.{IsTidyWindow, AreTidy, IsHeldBack, views}
+use Rattle.sam_protocol.proofs.Folds.{bool_cases}
+
+-- ## A file that is put
+
+pub view-put : (t : PlainTerminal) (f : ℕ) (x : KnownFile) (g : ℕ) → view g (put_known t f x) ≡ choose (g == f) (lens t.command_lock t.has_exited t.version (slot_of_window x.window)) (view g t)
+view-put t f x g = go (bool_cases (g == f))
+  where
+    P : Option KnownFile → Lens
+    P s = lens t.command_lock t.has_exited t.version (slot_of s)
+
+    go : ((g == f) ≡ true) ⊎ ((g == f) ≡ false) → P (slot (put_slot t.files f x) g) ≡ choose (g == f) (P (Some x)) (P (slot t.files g))
+    go (inl e) =
+        ap (λ (y : ℕ). P (slot (put_slot t.files f x) y)) (eqb-true g f e) ∙ ap P (slot-put_same t.files f x) ∙ ap (λ (b : Bool). choose b (P (Some x)) (P (slot t.files g))) (sym e)
+    go (inr e) =
+        let other : f ≢ g = λ q. true≢false (sym (eq-eqb g f (sym q)) ∙ e) in
+        ap P (slot-put_other t.files f g x other) ∙ ap (λ (b : Bool). choose b (P (Some x)) (P (slot t.files g))) (sym e)
+
+pub view-window : (t : PlainTerminal) (f : ℕ) (w : Window) (g : ℕ) → view g (put_window t f w) ≡ choose (g == f) (lens t.command_lock t.has_exited t.version (Open w.rasp w.locks)) (view g t)
+view-window t f w g = view-put t f (record (known_at t f) { window = Some w }) g
+
+-- what the lens of an open file says
+pub view-open : (t : PlainTerminal) (f : ℕ) → IsOpen (view f t) → view f t ≡ lens t.command_lock t.has_exited t.version (Open (window_at t f).rasp (window_at t f).locks)
+view-open t f o = go (slot t.files f) o
+  where
+    L : Slot → Lens
+    L s = lens t.command_lock t.has_exited t.version s
+
+    at_window : (w : Option Window) → IsOpen (L (slot_of_window w)) → L (slot_of_window w) ≡ L (Open (unwrap_or w blank_window).rasp (unwrap_or w blank_window).locks)
+    at_window None o = absurd o
+    at_window (Some w) o = refl
+
+    go : (s : Option KnownFile) → IsOpen (L (slot_of s)) → L (slot_of s) ≡ L (Open (unwrap_or (unwrap_or s blank_known).window blank_window).rasp (unwrap_or (unwrap_or s blank_known).window blank_window).locks)
+    go None o = absurd o
+    go (Some k) o = at_window k.window o
+
+choose_same : (b : Bool) (v : Lens) → choose b v v ≡ v
+choose_same true v = refl
+choose_same false v = refl
+
+pub choose_here : (g f : ℕ) (x y : ℕ → Lens) → x f ≡ y f → choose (g == f) (x f) (y g) ≡ y g
+choose_here g f x y e = go (bool_cases (g == f))
+  where
+    go : ((g == f) ≡ true) ⊎ ((g == f) ≡ false) → choose (g == f) (x f) (y g) ≡ y g
+    go (inl q) = ap (λ (b : Bool). choose b (x f) (y g)) q ∙ e ∙ ap y (sym (eqb-true g f q))
+    go (inr q) = ap (λ (b : Bool). choose b (x f) (y g)) q
+
+-- a choice of what is made of the lens of f
+pub choose_made : (g f : ℕ) (y : ℕ → Lens) (change : Lens → Lens) → choose (g == f) (change (y f)) (y g) ≡ choose (g == f) (change (y g)) (y g)
+choose_made g f y change = go (bool_cases (g == f))
+  where
+    go : ((g == f) ≡ true) ⊎ ((g == f) ≡ false) → choose (g == f) (change (y f)) (y g) ≡ choose (g == f) (change (y g)) (y g)
+    go (inl q) = ap (λ (k : ℕ). choose (g == f) (change (y k)) (y g)) (sym (eqb-true g f q))
+    go (inr q) = ap (λ (b : Bool). choose b (change (y f)) (y g)) q ∙ ap (λ (b : Bool). choose b (change (y g)) (y g)) (sym q)
+
+-- a window of an open file whose partial text and locks stay
+pub view-kept : (t : PlainTerminal) (f : ℕ) (w : Window) → IsOpen (view f t) → w.rasp ≡ (window_at t f).rasp → w.locks ≡ (window_at t f).locks → (g : ℕ) → view g (put_window t f w) ≡ view g t
+view-kept t f w o r k g =
+    view-window t f w g
+    ∙ choose_here g f (λ y. lens t.command_lock t.has_exited t.version (Open w.rasp w.locks)) (views t)
+    ((λ i. lens t.command_lock t.has_exited t.version (Open (r i) (k i))) ∙ sym (view-open t f o))
+
+-- a window of an open file that is changed so
+pub view-made : (t : PlainTerminal) (f : ℕ) (w : Window) (change : Lens → Lens) → IsOpen (view f t) → lens t.command_lock t.has_exited t.version (Open w.rasp w.locks) ≡ change (lens t.command_lock t.has_exited t.version (Open (window_at t f).rasp (window_at t f).locks)) → (g : ℕ) → view g (put_window t f w) ≡ choose (g == f) (change (view g t)) (view g t)
+view-made t f w change o e g =
+    view-window t f w g ∙ ap (λ (v : Lens). choose (g == f) v (view g t)) (e ∙ ap change (sym (view-open t f o))) ∙ choose_made g f (views t) change
+
+-- ## Locks
+
+-- what taking a lock changes
+abbrev pub lock_change : Lock → ℕ → Lens → Lens
+lock_change NoLock g v = v
+lock_change CommandLock g v = commanded v
+lock_change (FileLock f) g v = choose (g == f) (locked_more v) v
+
+abbrev pub LockOpens : Lock → (ℕ → Lens) → Type 0
+LockOpens NoLock views = Unit
+LockOpens CommandLock views = Unit
+LockOpens (FileLock f) views = IsOpen (views f)
+
+more : (k : ℕ) → k + 1 ≡ suc k
+more k = omega arith
+
+view-lock : (l : Lock) (t : PlainTerminal) → LockOpens l (views t) → (g : ℕ) → view g (lock_taken l t) ≡ lock_change l g (view g t)
+view-lock NoLock t o g = refl
+view-lock CommandLock t o g = refl
+view-lock (FileLock f) t o g =
+    view-made t f (record (window_at t f) { locks = (window_at t f).locks + 1 }) locked_more o
+    (ap (λ (k : ℕ). lens t.command_lock t.has_exited t.version (Open (window_at t f).rasp k)) (more (window_at t f).locks)) g
+
+open_more : (v : Lens) → IsOpen v → IsOpen (locked_more v)
+open_more (lens c e n Unknown) o = o
+open_more (lens c e n Known) o = o
+open_more (lens c e n (Open r k)) o = o
+
+open_chosen : (b : Bool) (v : Lens) → IsOpen v → IsOpen (choose b (locked_more v) v)
+open_chosen true v o = open_more v o
+open_chosen false v o = o
+
+-- one message that is composed takes its lock, and changes nothing else that the views show
+pub view-composed : (t : PlainTerminal) (m : Tmesg) → LockOpens (lock_of m) (views t) → (g : ℕ) → view g (composed t m) ≡ lock_change (lock_of m) g (view g t)
+view-composed t (Trequest f p n) o g =
+    let u : PlainTerminal = lock_taken (FileLock f) (record t { sent = t.sent + 1 }) in
+    let locked = view-lock (FileLock f) (record t { sent = t.sent + 1 }) o in
+    let is_open : IsOpen (view f u) = subst IsOpen (sym (locked f)) (open_chosen (f == f) (view f t) o) in
+    view-kept u f (record (window_at u f) { awaits = true }) is_open refl refl g ∙ locked g
+view-composed t (Tversion v) o g = view-lock CommandLock (record t { sent = t.sent + 1 }) o g
+view-composed t Tstartcmdfile o g = view-lock CommandLock (record t { sent = t.sent + 1 }) o g
+view-composed t (Tcheck f) o g = refl
+view-composed t (Torigin f p n) o g = view-lock (FileLock f) (record t { sent = t.sent + 1 }) o g
+view-composed t (Tstartfile f) o g = view-lock CommandLock (record t { sent = t.sent + 1 }) o g
+view-composed t (Tworkfile f p q) o g = refl
+view-composed t (Ttype f p s) o g = view-lock (lock_of (Ttype f p s)) (record t { sent = t.sent + 1 }) o g
+view-composed t (Tcut f p q) o g = refl
+view-composed t (Tpaste f p) o g = view-lock (FileLock f) (record t { sent = t.sent + 1 }) o g
+view-composed t (Tsnarf f p q) o g = refl
+view-composed t Tstartnewfile o g = view-lock CommandLock (record t { sent = t.sent + 1 }) o g
+view-composed t (Twrite f) o g = view-lock (FileLock f) (record t { sent = t.sent + 1 }) o g
+view-composed t (Tclose f) o g = view-lock CommandLock (record t { sent = t.sent + 1 }) o g
+view-composed t (Tlook f p q) o g = view-lock (FileLock f) (record t { sent = t.sent + 1 }) o g
+view-composed t (Tsearch f p q) o g = view-lock (FileLock f) (record t { sent = t.sent + 1 }) o g
+view-composed t (Tsend f p q) o g = view-lock CommandLock (record t { sent = t.sent + 1 }) o g
+view-composed t (Tdclick f p) o g = view-lock (FileLock f) (record t { sent = t.sent + 1 }) o g
+view-composed t Tstartsnarf o g = refl
+view-composed t (Tsetsnarf s) o g = refl
+view-composed t Tack o g = refl
+view-composed t Texit o g = view-lock CommandLock (record t { sent = t.sent + 1 }) o g
+
+-- ## The unsent runes
+
+pub unsent-composed : (t : PlainTerminal) (m : Tmesg) → (composed t m).unsent ≡ t.unsent
+unsent-composed t m = asks m (lock_taken (lock_of m) (record t { sent = t.sent + 1 })) ∙ locks (lock_of m) (record t { sent = t.sent + 1 })
+  where
+    locks : (l : Lock) (u : PlainTerminal) → (lock_taken l u).unsent ≡ u.unsent
+    locks NoLock u = refl
+    locks CommandLock u = refl
+    locks (FileLock f) u = refl
+
+    asks : (m : Tmesg) (u : PlainTerminal) → (asked m u).unsent ≡ u.unsent
+    asks (Trequest f p n) u = refl
+    asks _ u = refl
+
+view-plain : (t : PlainTerminal) (f p : ℕ) (s : List ℕ) → is_command_line f s ≡ false → (g : ℕ) → view g (composed t (Ttype f p s)) ≡ view g t
+view-plain t f p s e g = ap (λ (b : Bool). view g (lock_taken (if b then CommandLock else NoLock) (record t { sent = t.sent + 1 }))) e
+
+-- runes that were held back are composed: the views stay
+pub view-flushed : (t : PlainTerminal) → IsHeldBack (views t) t.unsent → (g : ℕ) → view g (flushed t).0 ≡ view g t
+unfolding flushed
+view-flushed t h g = go t.unsent h
+  where
+    go : (o : Option Unsent) → IsHeldBack (views t) o → view g (all_composed (record t { unsent = None }) (unsent_message o)) ≡ view g t
+    go None h = refl
+    go (Some u) h = view-plain (record t { unsent = None }) u.file u.place u.runes h.0 g
+
+pub unsent-flushed : (t : PlainTerminal) → (flushed t).0.unsent ≡ None
+unfolding flushed
+unsent-flushed t = go t.unsent
+  where
+    go : (o : Option Unsent) → (all_composed (record t { unsent = None }) (unsent_message o)).unsent ≡ None
+    go None = refl
+    go (Some u) = unsent-composed (record t { unsent = None }) (Ttype u.file u.place u.runes)
+
+-- ## Dots and views lie in their texts
+
+pub tidy-put : (t : PlainTerminal) (f : ℕ) (x : KnownFile) → AreTidy t → IsTidyWindow (unwrap_or x.window blank_window) → AreTidy (put_known t f x)
+tidy-put t f x all here g = subst IsTidyWindow (sym (known-put (λ (k : KnownFile). unwrap_or k.window blank_window) t f x g)) (go (f == g))
+  where
+    go : (b : Bool) → IsTidyWindow (if b then unwrap_or x.window blank_window else window_at t g)
+    go true = here
+    go false = all g
+
+pub tidy-window : (t : PlainTerminal) (f : ℕ) (w : Window) → AreTidy t → IsTidyWindow w → AreTidy (put_window t f w)
+tidy-window t f w all here = tidy-put t f (record (known_at t f) { window = Some w }) all here
+
+-- the window that was put
+pub window-put : (t : PlainTerminal) (f : ℕ) (w : Window) → window_at (put_window t f w) f ≡ w
+window-put t f w = ap (λ (s : Option KnownFile). unwrap_or (unwrap_or s blank_known).window blank_window) (slot-put_same t.files f (record (known_at t f) { window = Some w }))
+
+pub tidy-composed : (t : PlainTerminal) (m : Tmesg) → AreTidy t → AreTidy (composed t m)
+tidy-composed t m all = asks m (lock_taken (lock_of m) (record t { sent = t.sent + 1 })) (locks (lock_of m) (record t { sent = t.sent + 1 }) all)
+  where
+    locks : (l : Lock) (u : PlainTerminal) → AreTidy u → AreTidy (lock_taken l u)
+    locks NoLock u a = a
+    locks CommandLock u a = a
+    locks (FileLock f) u a = tidy-window u f (record (window_at u f) { locks = (window_at u f).locks + 1 }) a (a f)
+
+    asks : (m : Tmesg) (u : PlainTerminal) → AreTidy u → AreTidy (asked m u)
+    asks (Trequest f p n) u a = tidy-window u f (record (window_at u f) { awaits = true }) a (a f)
+    asks (Tversion v) u a = a
+    asks Tstartcmdfile u a = a
+    asks (Tcheck f) u a = a
+    asks (Torigin f p n) u a = a
+    asks (Tstartfile f) u a = a
+    asks (Tworkfile f p q) u a = a
+    asks (Ttype f p s) u a = a
+    asks (Tcut f p q) u a = a
+    asks (Tpaste f p) u a = a
+    asks (Tsnarf f p q) u a = a
+    asks Tstartnewfile u a = a
+    asks (Twrite f) u a = a
+    asks (Tclose f) u a = a
+    asks (Tlook f p q) u a = a
+    asks (Tsearch f p q) u a = a
+    asks (Tsend f p q) u a = a
+    asks (Tdclick f p) u a = a
+    asks Tstartsnarf u a = a
+    asks (Tsetsnarf s) u a = a
+    asks Tack u a = a
+    asks Texit u a = a
+
+pub tidy-flushed : (t : PlainTerminal) → AreTidy t → AreTidy (flushed t).0
+unfolding flushed
+tidy-flushed t all = go t.unsent
+  where
+    go : (o : Option Unsent) → AreTidy (all_composed (record t { unsent = None }) (unsent_message o))
+    go None = all
+    go (Some u) = tidy-composed (record t { unsent = None }) (Ttype u.file u.place u.runes) all

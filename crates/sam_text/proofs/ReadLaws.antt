@@ -1,0 +1,147 @@
+-- What is read of a line is within the limits: each pattern has 1 to 128 runes, and a name at most 64.
+use Rattle.std.proofs.Common.{◌≡◌, ℕ, zero, suc, ◌+◌, ◌<◌, ◌≤◌, List, [], ◌∷◌, length, reverse, Bool, true, false, cond, ◌||◌, ◌&&◌, ◌==◌, Option, Some, None, Result, Ok, Err, option_map, nat_lt, refl, sym, arith}
+use Rattle.std.specs.Prelude.{IfOk, IfSome, ⊤, if◌then◌else◌}
+use Rattle.std.proofs.lemmas.Bool.{ltb-false}
+use Rattle.std.proofs.lemmas.Bool.Decides.{eqb_tells}
+use Rattle.sam_text.specs.declared.word.Word.{Word}
+use Rattle.sam_text.specs.declared.word.Word.TheVariants as word
+use Rattle.sam_text.specs.declared.command.Side.{Side}
+use Rattle.sam_text.specs.declared.command.Side.TheVariants as side
+use Rattle.sam_text.specs.declared.command.Address.{Address}
+use Rattle.sam_text.specs.declared.command.Address.TheVariants as address
+use Rattle.sam_text.specs.declared.command.Kind.{Kind}
+use Rattle.sam_text.specs.declared.command.Step.{Step}
+use Rattle.sam_text.specs.declared.command.Last.{Last}
+use Rattle.sam_text.specs.declared.command.Last.TheVariants as last
+use Rattle.sam_text.specs.declared.command.Command.{Command}
+use Rattle.sam_text.specs.declared.command.Command.TheVariants as command
+use Rattle.sam_text.specs.Files.{IsPattern, most_in_name}
+use Rattle.sam_text.specs.Meaning.{side_pattern, address_pattern, steps_pattern, later}
+use Rattle.sam_text.specs.Reading.{Read, ◌>>=◌, is_digit, is_blank, skip, number_from, quoted, pattern_at, behind_slash, rune_side, side_of, side_at, second_side, address_at, kind_of, last_of, at_head, at_option, chain_at, trimmed, name_of, ended, behind_address, command_of}
+
+-- ## Ways to read
+
+ok_then : {A B : Type 0} (P : A → Type 0) (Q : B → Type 0) (r : Result A Word) (f : A → Result B Word) → IfOk r P → ((x : A) → P x → IfOk (f x) Q) → IfOk (r >>= f) Q
+ok_then P Q (Ok x) f h step = step x h
+ok_then P Q (Err e) f h step = tt
+
+ok_any : {A B : Type 0} (Q : B → Type 0) (r : Result A Word) (f : A → Result B Word) → ((x : A) → IfOk (f x) Q) → IfOk (r >>= f) Q
+ok_any Q (Ok x) f step = step x
+ok_any Q (Err e) f step = tt
+
+ok_if : {A : Type 0} (P : A → Type 0) (b : Bool) (x y : Result A Word) → IfOk x P → IfOk y P → IfOk (cond b x y) P
+ok_if P true x y h k = h
+ok_if P false x y h k = k
+
+-- ## Patterns
+
+pattern_end : (n : ℕ) (p : List ℕ × List ℕ) → n ≡ length p.0 → (a b : Bool) → (n == 0) ≡ a → nat_lt 128 n ≡ b → IfOk (cond (a || b) (Err word.Pattern) (Ok p)) (λ (p : List ℕ × List ℕ). IsPattern p.0)
+pattern_end n p same true b e f = tt
+pattern_end n p same false true e f = tt
+pattern_end zero p same false false e f = absurd (cc)
+pattern_end (suc n) p same false false e f = let m = ltb-false 128 (suc n) f in (omega (arith, same), omega (arith, same, m))
+
+pub pattern-read : (line : List ℕ) → IfOk (pattern_at line) (λ (p : List ℕ × List ℕ). IsPattern p.0)
+unfolding pattern_at
+pattern-read line = ok_any (λ (p : List ℕ × List ℕ). IsPattern p.0) (quoted true false line) _ (λ p. pattern_end (length p.0) p refl _ _ refl refl)
+
+slash-pattern : (line : List ℕ) → IfOk (behind_slash pattern_at line) (λ (p : List ℕ × List ℕ). IsPattern p.0)
+slash-pattern [] = tt
+slash-pattern (c ∷ cs) = ok_if (λ (p : List ℕ × List ℕ). IsPattern p.0) (c == 47) (pattern_at cs) (Err word.Command) (pattern-read cs) tt
+
+-- ## Addresses
+
+abbrev pub SideOk : Option Side × List ℕ → Type 0
+SideOk s = IfSome (side_pattern s.0) IsPattern
+
+abbrev pub AddressOk : Option Address → Type 0
+AddressOk a = IfSome (address_pattern a) IsPattern
+
+rune-side : (line : List ℕ) → IfOk (rune_side line) SideOk
+rune-side [] = tt
+rune-side (c ∷ cs) = ok_if SideOk (is_digit c) _ (Err word.Command) tt tt
+
+side-read : (line : List ℕ) → IfOk (side_of line) SideOk
+side-read [] = tt
+side-read (c ∷ cs) =
+    ok_if SideOk (is_digit c) _ _ tt
+    (ok_if SideOk (c == 35) _ _ (rune-side (skip cs))
+    (ok_if SideOk (c == 47) _ _ (ok_then (λ (p : List ℕ × List ℕ). IsPattern p.0) SideOk (pattern_at cs) _ (pattern-read cs) (λ p h. h))
+    (ok_if SideOk (c == 36) _ _ tt
+    (ok_if SideOk (c == 46) _ _ tt tt))))
+
+later-ok : (a b : Option (List ℕ)) → IfSome a IsPattern → IfSome b IsPattern → IfSome (later a b) IsPattern
+later-ok a None h k = h
+later-ok a (Some p) h k = k
+
+one-ok : (a : Option Side) → IfSome (side_pattern a) IsPattern → AddressOk (option_map address.One a)
+one-ok None h = tt
+one-ok (Some a) h = h
+
+second-side : (a : Option Side) (line : List ℕ) → IfSome (side_pattern a) IsPattern → IfOk (second_side a line) (λ (x : Option Address × List ℕ). AddressOk x.0)
+unfolding side_at
+second-side a [] h = one-ok a h
+second-side a (c ∷ cs) h =
+    ok_if (λ (x : Option Address × List ℕ). AddressOk x.0) (c == 44) _ _
+    (ok_then SideOk (λ (x : Option Address × List ℕ). AddressOk x.0) (side_of (skip cs)) _ (side-read (skip cs)) (λ b k. later-ok (side_pattern a) (side_pattern b.0) h k))
+    (one-ok a h)
+
+address-read : (line : List ℕ) → IfOk (address_at line) (λ (x : Option Address × List ℕ). AddressOk x.0)
+unfolding address_at side_at
+address-read line = ok_then SideOk (λ (x : Option Address × List ℕ). AddressOk x.0) (side_of (skip line)) _ (side-read (skip line)) (λ a h. second-side a.0 (skip a.1) h)
+
+-- ## Chains
+
+abbrev pub ChainOk : List Step × Last → Type 0
+ChainOk x = IfSome (steps_pattern x.0) IsPattern
+
+head-ok : {A : Type 0} (P : A → Type 0) (line : List ℕ) (none : Result A Word) (some : ℕ → List ℕ → Result A Word) → IfOk none P → ((c : ℕ) (cs : List ℕ) → IfOk (some c cs) P) → IfOk (at_head line none some) P
+head-ok P [] none some h step = h
+head-ok P (c ∷ cs) none some h step = step c cs
+
+option-ok : {A B : Type 0} (P : B → Type 0) (o : Option A) (none : Result B Word) (some : A → Result B Word) → IfOk none P → ((x : A) → IfOk (some x) P) → IfOk (at_option o none some) P
+option-ok P None none some h step = h
+option-ok P (Some x) none some h step = step x
+
+chain-read : (n : ℕ) (line : List ℕ) → IfOk (chain_at n line) ChainOk
+unfolding chain_at
+chain-read zero line = tt
+chain-read (suc n) line =
+    head-ok ChainOk (skip line) _ _ tt (λ c cs.
+    option-ok ChainOk (kind_of c) _ _
+    (ok_any ChainOk (last_of c cs) _ (λ l. tt))
+    (λ k. ok_then (λ (p : List ℕ × List ℕ). IsPattern p.0) ChainOk (behind_slash pattern_at (skip cs)) _ (slash-pattern (skip cs)) (λ p h.
+    ok_then ChainOk ChainOk (chain_at n p.1) _ (chain-read n p.1) (λ more m. later-ok (Some p.0) (steps_pattern more.0) h m))))
+
+-- ## Lines
+
+-- the patterns of a command, and its name
+abbrev pub CommandOk : Command → Type 0
+CommandOk (command.Go a) = AddressOk (Some a)
+CommandOk (command.Run a ss l) = (AddressOk a) × (IfSome (steps_pattern ss) IsPattern)
+CommandOk (command.Name n) = length n ≤ most_in_name
+CommandOk command.Quit = ⊤
+
+name_end : (n : List ℕ) (b : Bool) → nat_lt 64 (length n) ≡ b → IfOk (cond b (Err word.Name) (Ok (command.Name n))) CommandOk
+name_end n true e = tt
+name_end n false e = ltb-false 64 (length n) e
+
+name-read : (line : List ℕ) → IfOk (name_of line) CommandOk
+name-read [] = omega arith
+name-read (c ∷ cs) = ok_if CommandOk (is_blank c) _ (Err word.Command) (name_end (trimmed cs) _ refl) tt
+
+behind-read : (a : Option Address) (rest : List ℕ) → AddressOk a → IfOk (behind_address a rest) CommandOk
+behind-read None rest h = ok_then ChainOk CommandOk (chain_at (length rest + 1) rest) _ (chain-read (length rest + 1) rest) (λ c k. (h, k))
+behind-read (Some a) [] h = h
+behind-read (Some a) (c ∷ cs) h = ok_then ChainOk CommandOk (chain_at (length (c ∷ cs) + 1) (c ∷ cs)) _ (chain-read (length (c ∷ cs) + 1) (c ∷ cs)) (λ x k. (h, k))
+
+ended-quit : (line : List ℕ) → IfOk (ended command.Quit line) CommandOk
+ended-quit line = ok_if CommandOk (length (skip line) == 0) (Ok command.Quit) (Err word.Command) tt tt
+
+pub command-read : (line : List ℕ) → IfOk (command_of line) CommandOk
+unfolding command_of
+command-read line =
+    head-ok CommandOk (skip line) _ _ tt (λ c cs.
+    ok_if CommandOk (c == 102) _ _ (name-read cs)
+    (ok_if CommandOk (c == 113) _ _ (ended-quit cs)
+    (ok_then (λ (x : Option Address × List ℕ). AddressOk x.0) CommandOk (address_at (c ∷ cs)) _ (address-read (c ∷ cs)) (λ a h. behind-read a.0 (skip a.1) h))))

@@ -1,0 +1,388 @@
+//! The calls that change files, each with its refusals. After a refusal the files are as they were.
+
+ghost use Rattle.std.specs.Prelude.{◌≡◌, ◌⊎◌, ◌<◌, ◌≤◌, ◌+◌, ◌-◌, ◌∷◌, [], IsOk, OnOk, OnErr, IfOk, IfErr, Err, Some, None, true, length, ◌&&◌, not};
+ghost use Rattle.sam_runes.specs.Checks.{first_of_checks, unless};
+ghost use Rattle.sam_runes.specs.Texts.{max_runes, all_tags, part, word_at, is_empty};
+ghost use Rattle.sam_text.specs.Files.{PlainFile, blank_file, file_at, has_file, put_file, no_file, past_end, no_range, too_long, no_tag, with_dot, with_work, with_new, new_file, without_file, opened_file, announced_file, written_file, typed_file, cut_file, pasted_file, has_room, after_print, search_of, with_found, look_of, with_look, most_in_name};
+ghost use Rattle.sam_text.specs.Views.{room_at, LeaveRooms};
+
+use crate::fault::FilesFault;
+use crate::file::{File, FileChange};
+use crate::files::Files;
+use sam_runes::{MAX_RUNES, Runes, Text};
+use std::alloc::Global;
+
+impl Files {
+    /// Refuses a tag that has no file.
+    fn wants_file(&self, tag: u16) -> Result<(), FilesFault>
+        ensures answer { result ≡ unless (first_of_checks (no_file self.now.plain tag ∷ [])) tt }
+        ensures there { OnOk result (has_file self.now.plain tag ≡ true) }
+    {
+        if !self.has(tag) {
+            return Err(FilesFault::NoFile);
+        }
+        Ok(())
+    }
+
+    /// Refuses a tag that has no file, and a place past its end.
+    fn wants_place(&self, tag: u16, p: u32) -> Result<(), FilesFault>
+        ensures answer { result ≡ unless (first_of_checks (no_file self.now.plain tag ∷ past_end self.now.plain tag p ∷ [])) tt }
+        ensures there { OnOk result (has_file self.now.plain tag ≡ true) }
+        ensures within { OnOk result (p ≤ length (file_at self.now.plain tag).text) }
+    {
+        if !self.has(tag) {
+            return Err(FilesFault::NoFile);
+        }
+        if self.text_len(tag) < p as usize {
+            return Err(FilesFault::BadPosition);
+        }
+        Ok(())
+    }
+
+    /// Refuses a tag that has no file, and what is no range of its text.
+    fn wants_range(&self, tag: u16, p: u32, q: u32) -> Result<(), FilesFault>
+        ensures answer { result ≡ unless (first_of_checks (no_file self.now.plain tag ∷ no_range self.now.plain tag p q ∷ [])) tt }
+        ensures there { OnOk result (has_file self.now.plain tag ≡ true) }
+        ensures within { OnOk result ((p ≤ q) × (q ≤ length (file_at self.now.plain tag).text)) }
+    {
+        if !self.has(tag) {
+            return Err(FilesFault::NoFile);
+        }
+        if q < p || self.text_len(tag) < q as usize {
+            return Err(FilesFault::BadPosition);
+        }
+        Ok(())
+    }
+
+    /// Takes a file and what was saved of it away; where it was the work file there is none. Its tag is not given again.
+    pub fn close(&mut self, tag: u16) -> Result<(), FilesFault>
+        requires { 0 < tag }
+        ensures answer { result ≡ unless (first_of_checks (no_file self.old.plain tag ∷ [])) tt }
+        ensures done { OnOk result (self.new.plain ≡ without_file self.old.plain tag) }
+        ensures rooms { OnOk result (LeaveRooms tag self.old.rooms self.new.rooms) }
+        ensures unchanged { OnErr result (self.new ≡ self.old) }
+    {
+        self.wants_file(tag)?;
+        self.remove(tag);
+        Ok(())
+    }
+
+    /// Saves a copy of the text of a file, which is clean then.
+    pub fn write(&mut self, alloc: Global, tag: u16) -> Result<(), FilesFault>
+        requires { 0 < tag }
+        ensures allowed { OnOk result (first_of_checks (no_file self.old.plain tag ∷ []) ≡ None) }
+        ensures refused { IfErr result (λ why. (why ≡ FilesFault.OutOfMemory) ⊎ (first_of_checks (no_file self.old.plain tag ∷ []) ≡ Some why)) }
+        ensures done { OnOk result (self.new.plain ≡ put_file self.old.plain tag (written_file (file_at self.old.plain tag))) }
+        ensures rooms { self.new.rooms ≡ self.old.rooms }
+        ensures unchanged { OnErr result (self.new ≡ self.old) }
+    {
+        self.wants_file(tag)?;
+        let copy = match self.copy_text(alloc, tag) {
+            Ok(copy) => copy,
+            Err(_) => return Err(FilesFault::OutOfMemory),
+        };
+        self.change(tag, FileChange::Saved(copy));
+        Ok(())
+    }
+
+    /// Makes a file the work file and sets its dot.
+    pub fn set_work(&mut self, tag: u16, p: u32, q: u32) -> Result<(), FilesFault>
+        requires { 0 < tag }
+        ensures answer { result ≡ unless (first_of_checks (no_file self.old.plain tag ∷ no_range self.old.plain tag p q ∷ [])) tt }
+        ensures done { OnOk result (self.new.plain ≡ with_work self.old.plain tag p q) }
+        ensures rooms { self.new.rooms ≡ self.old.rooms }
+        ensures unchanged { OnErr result (self.new ≡ self.old) }
+    {
+        self.wants_range(tag, p, q)?;
+        self.put_work(tag);
+        self.change(tag, FileChange::Dot(p, q));
+        Ok(())
+    }
+
+    /// Opens a file: the terminal has a window on it.
+    pub fn open(&mut self, tag: u16) -> Result<(), FilesFault>
+        ensures answer { result ≡ unless (first_of_checks (no_file self.old.plain tag ∷ [])) tt }
+        ensures done { OnOk result (self.new.plain ≡ put_file self.old.plain tag (opened_file (file_at self.old.plain tag))) }
+        ensures rooms { self.new.rooms ≡ self.old.rooms }
+        ensures unchanged { OnErr result (self.new ≡ self.old) }
+    {
+        self.wants_file(tag)?;
+        self.change(tag, FileChange::Open);
+        Ok(())
+    }
+
+    /// Announces a file: the terminal was told its name.
+    pub fn announce(&mut self, tag: u16) -> Result<(), FilesFault>
+        ensures answer { result ≡ unless (first_of_checks (no_file self.old.plain tag ∷ [])) tt }
+        ensures done { OnOk result (self.new.plain ≡ put_file self.old.plain tag (announced_file (file_at self.old.plain tag))) }
+        ensures rooms { self.new.rooms ≡ self.old.rooms }
+        ensures unchanged { OnErr result (self.new ≡ self.old) }
+    {
+        self.wants_file(tag)?;
+        self.change(tag, FileChange::Announced);
+        Ok(())
+    }
+
+    /// Sets the dot of a file.
+    pub fn set_dot(&mut self, tag: u16, p: u32, q: u32) -> Result<(), FilesFault>
+        ensures answer { result ≡ unless (first_of_checks (no_file self.old.plain tag ∷ no_range self.old.plain tag p q ∷ [])) tt }
+        ensures done { OnOk result (self.new.plain ≡ with_dot self.old.plain tag p q) }
+        ensures rooms { self.new.rooms ≡ self.old.rooms }
+        ensures unchanged { OnErr result (self.new ≡ self.old) }
+    {
+        self.wants_range(tag, p, q)?;
+        self.change(tag, FileChange::Dot(p, q));
+        Ok(())
+    }
+
+    /// Deletes a range of a file. Dot is then the empty string where it stood, and a file other than the command file is dirty.
+    pub fn delete(&mut self, tag: u16, p: u32, q: u32) -> Result<(), FilesFault>
+        ensures answer { result ≡ unless (first_of_checks (no_file self.old.plain tag ∷ no_range self.old.plain tag p q ∷ [])) tt }
+        ensures done { OnOk result (self.new.plain ≡ put_file self.old.plain tag (cut_file tag (file_at self.old.plain tag) p q)) }
+        ensures rooms { OnOk result (LeaveRooms tag self.old.rooms self.new.rooms) }
+        ensures unchanged { OnErr result (self.new ≡ self.old) }
+    {
+        self.wants_range(tag, p, q)?;
+        self.change(tag, FileChange::Cut(p, q, tag == 0));
+        Ok(())
+    }
+
+    /// Puts runes in a file at place `p`. Dot is then the empty string behind them, and a file other than the command file is dirty.
+    /// Within the room of the file no memory is asked for.
+    pub fn insert(&mut self, tag: u16, p: u32, runes: &[char]) -> Result<(), FilesFault>
+        ensures allowed { OnOk result (first_of_checks (no_file self.old.plain tag ∷ past_end self.old.plain tag p ∷ too_long (length (file_at self.old.plain tag).text + length runes.now) ∷ []) ≡ None) }
+        ensures refused { IfErr result (λ why. (why ≡ FilesFault.OutOfMemory) ⊎ (first_of_checks (no_file self.old.plain tag ∷ past_end self.old.plain tag p ∷ too_long (length (file_at self.old.plain tag).text + length runes.now) ∷ []) ≡ Some why)) }
+        ensures done { OnOk result (self.new.plain ≡ put_file self.old.plain tag (typed_file tag (file_at self.old.plain tag) p runes.now)) }
+        ensures unchanged { OnErr result (self.new.plain ≡ self.old.plain) }
+        ensures memory { length runes.now ≤ room_at self.old.rooms tag → result ≡ unless (first_of_checks (no_file self.old.plain tag ∷ past_end self.old.plain tag p ∷ too_long (length (file_at self.old.plain tag).text + length runes.now) ∷ [])) tt }
+        ensures room { OnOk result (length runes.now ≤ room_at self.old.rooms tag → room_at self.old.rooms tag ≤ room_at self.new.rooms tag + length runes.now) }
+        ensures others { LeaveRooms tag self.old.rooms self.new.rooms }
+    {
+        self.wants_place(tag, p)?;
+        if runes.len() > MAX_RUNES as usize - self.text_len(tag) {
+            return Err(FilesFault::TooLong);
+        }
+        let end = p + runes.len() as u32;
+        self.put_in(tag, p, runes, (end, end), tag == 0)
+    }
+
+    /// Makes room for `n` more runes in the text of a file. The files stay as they are.
+    pub fn reserve(&mut self, tag: u16, n: u32) -> Result<(), FilesFault>
+        ensures allowed { OnOk result (first_of_checks (no_file self.old.plain tag ∷ too_long (length (file_at self.old.plain tag).text + n) ∷ []) ≡ None) }
+        ensures refused { IfErr result (λ why. (why ≡ FilesFault.OutOfMemory) ⊎ (first_of_checks (no_file self.old.plain tag ∷ too_long (length (file_at self.old.plain tag).text + n) ∷ []) ≡ Some why)) }
+        ensures unchanged { self.new.plain ≡ self.old.plain }
+        ensures room { OnOk result (n ≤ room_at self.new.rooms tag) }
+        ensures others { LeaveRooms tag self.old.rooms self.new.rooms }
+    {
+        self.wants_file(tag)?;
+        if n as usize > MAX_RUNES as usize - self.text_len(tag) {
+            return Err(FilesFault::TooLong);
+        }
+        self.make_room(tag, n)
+    }
+
+    /// The snarf buffer becomes a range of a file. Answers its length.
+    pub fn snarf(&mut self, alloc: Global, tag: u16, p: u32, q: u32) -> Result<u32, FilesFault>
+        ensures allowed { IfOk result (λ n. (first_of_checks (no_file self.old.plain tag ∷ no_range self.old.plain tag p q ∷ []) ≡ None) × (n ≡ q - p)) }
+        ensures refused { IfErr result (λ why. (why ≡ FilesFault.OutOfMemory) ⊎ (first_of_checks (no_file self.old.plain tag ∷ no_range self.old.plain tag p q ∷ []) ≡ Some why)) }
+        ensures done { OnOk result (self.new.plain ≡ record self.old.plain { snarf = part (file_at self.old.plain tag).text p q }) }
+        ensures rooms { self.new.rooms ≡ self.old.rooms }
+        ensures unchanged { OnErr result (self.new ≡ self.old) }
+    {
+        self.wants_range(tag, p, q)?;
+        self.known_file(tag);
+        let runes = match self.copy_part(alloc, tag, p, q) {
+            Ok(runes) => runes,
+            Err(_) => return Err(FilesFault::OutOfMemory),
+        };
+        self.put_snarf(runes);
+        Ok(q - p)
+    }
+
+    /// The snarf buffer becomes these runes.
+    pub fn set_snarf(&mut self, alloc: Global, runes: &[char]) -> Result<(), FilesFault>
+        ensures allowed { OnOk result (length runes.now ≤ max_runes) }
+        ensures refused { IfErr result (λ why. (why ≡ FilesFault.OutOfMemory) ⊎ (first_of_checks (too_long (length runes.now) ∷ []) ≡ Some why)) }
+        ensures done { OnOk result (self.new.plain ≡ record self.old.plain { snarf = runes.now }) }
+        ensures rooms { self.new.rooms ≡ self.old.rooms }
+        ensures unchanged { OnErr result (self.new ≡ self.old) }
+    {
+        if runes.len() > MAX_RUNES as usize {
+            return Err(FilesFault::TooLong);
+        }
+        let copy = match Runes::from_slice(alloc, runes) {
+            Ok(copy) => copy,
+            Err(_) => return Err(FilesFault::OutOfMemory),
+        };
+        self.put_snarf(copy);
+        Ok(())
+    }
+
+    /// Dot becomes the word round `p`, or the empty string there. Answers it.
+    pub fn double_click(&mut self, tag: u16, p: u32) -> Result<(u32, u32), FilesFault>
+        ensures answer { result ≡ unless (first_of_checks (no_file self.old.plain tag ∷ past_end self.old.plain tag p ∷ [])) (word_at (file_at self.old.plain tag).text p) }
+        ensures done { IfOk result (λ dot. self.new.plain ≡ with_dot self.old.plain tag dot.0 dot.1) }
+        ensures rooms { self.new.rooms ≡ self.old.rooms }
+        ensures unchanged { OnErr result (self.new ≡ self.old) }
+    {
+        self.wants_place(tag, p)?;
+        let (start, end) = self.word(tag, p);
+        self.change(tag, FileChange::Dot(start, end));
+        Ok((start, end))
+    }
+
+    /// Adds a clean and closed file of this name and text under the next tag, and answers the tag.
+    pub fn new_file(
+        &mut self,
+        alloc: Global,
+        name: &[char],
+        text: &[char],
+    ) -> Result<u16, FilesFault>
+        requires { length name.now ≤ most_in_name }
+        ensures allowed { OnOk result (first_of_checks (too_long (length text.now) ∷ no_tag self.old.plain ∷ []) ≡ None) }
+        ensures refused { IfErr result (λ why. (why ≡ FilesFault.OutOfMemory) ⊎ (first_of_checks (too_long (length text.now) ∷ no_tag self.old.plain ∷ []) ≡ Some why)) }
+        ensures tag { IfOk result (λ tag. tag ≡ length self.old.plain.slots) }
+        ensures done { OnOk result (self.new.plain ≡ with_new self.old.plain (record blank_file { name = name.now; text = text.now })) }
+        ensures unchanged { OnErr result (self.new.plain ≡ self.old.plain) }
+        ensures rooms { LeaveRooms (length self.old.plain.slots) self.old.rooms self.new.rooms }
+    {
+        if text.len() > MAX_RUNES as usize {
+            return Err(FilesFault::TooLong);
+        }
+        if self.tags() >= 65_536 {
+            return Err(FilesFault::NoTag);
+        }
+        let name = match Runes::from_slice(alloc, name) {
+            Ok(name) => name,
+            Err(_) => return Err(FilesFault::OutOfMemory),
+        };
+        let text = match Text::from_runes(alloc, text) {
+            Ok(text) => text,
+            Err(_) => return Err(FilesFault::OutOfMemory),
+        };
+        self.add_file(name, text)
+    }
+
+    /// Adds a clean and closed file of this name and text under the next tag, and answers the tag.
+    pub fn add_file(&mut self, name: Runes, text: Text) -> Result<u16, FilesFault>
+        requires { length name ≤ most_in_name }
+        ensures allowed { OnOk result (first_of_checks (no_tag self.old.plain ∷ []) ≡ None) }
+        ensures refused { IfErr result (λ why. (why ≡ FilesFault.OutOfMemory) ⊎ (first_of_checks (no_tag self.old.plain ∷ []) ≡ Some why)) }
+        ensures tag { IfOk result (λ tag. tag ≡ length self.old.plain.slots) }
+        ensures done { OnOk result (self.new.plain ≡ with_new self.old.plain (record blank_file { name = name; text = text.runes })) }
+        ensures unchanged { OnErr result (self.new.plain ≡ self.old.plain) }
+        ensures rooms { LeaveRooms (length self.old.plain.slots) self.old.rooms self.new.rooms }
+    {
+        let tag = self.tags();
+        if tag >= 65_536 {
+            return Err(FilesFault::NoTag);
+        }
+        self.add(File::new(name, text))?;
+        Ok(tag as u16)
+    }
+
+    /// Adds an empty file for the terminal under the next tag: clean, open, announced and with no name. Answers the tag.
+    pub fn start_file(&mut self, alloc: Global) -> Result<u16, FilesFault>
+        ensures allowed { OnOk result (first_of_checks (no_tag self.old.plain ∷ []) ≡ None) }
+        ensures refused { IfErr result (λ why. (why ≡ FilesFault.OutOfMemory) ⊎ (first_of_checks (no_tag self.old.plain ∷ []) ≡ Some why)) }
+        ensures tag { IfOk result (λ tag. tag ≡ length self.old.plain.slots) }
+        ensures done { OnOk result (self.new.plain ≡ with_new self.old.plain new_file) }
+        ensures unchanged { OnErr result (self.new.plain ≡ self.old.plain) }
+        ensures rooms { LeaveRooms (length self.old.plain.slots) self.old.rooms self.new.rooms }
+    {
+        let tag = self.tags();
+        if tag >= 65_536 {
+            return Err(FilesFault::NoTag);
+        }
+        self.add(File::for_terminal(alloc))?;
+        Ok(tag as u16)
+    }
+
+    /// What stands from `p` to `q` becomes the pattern, and dot its first occurrence from `q` on, else from the start. Answers the
+    /// new dot. A range that is empty or longer than 128 runes answers none, and leaves all as it is.
+    pub fn look(
+        &mut self,
+        alloc: Global,
+        tag: u16,
+        p: u32,
+        q: u32,
+    ) -> Result<Option<(u32, u32)>, FilesFault>
+        ensures allowed { OnOk result (first_of_checks (no_file self.old.plain tag ∷ no_range self.old.plain tag p q ∷ []) ≡ None) }
+        ensures refused { IfErr result (λ why. (why ≡ FilesFault.OutOfMemory) ⊎ (first_of_checks (no_file self.old.plain tag ∷ no_range self.old.plain tag p q ∷ []) ≡ Some why)) }
+        ensures found { IfOk result (λ found. found ≡ look_of (file_at self.old.plain tag).text (part (file_at self.old.plain tag).text p q) q) }
+        ensures done { OnOk result (self.new.plain ≡ with_look self.old.plain tag (part (file_at self.old.plain tag).text p q) q) }
+        ensures rooms { self.new.rooms ≡ self.old.rooms }
+        ensures unchanged { OnErr result (self.new ≡ self.old) }
+    {
+        self.wants_range(tag, p, q)?;
+        let lit = self.part(tag, p, q);
+        if lit.is_empty() || lit.len() > 128 {
+            return Ok(None);
+        }
+        let pattern = match Runes::from_slice(alloc, lit) {
+            Ok(pattern) => pattern,
+            Err(_) => return Err(FilesFault::OutOfMemory),
+        };
+        let found = self.find(tag, lit, q);
+        self.put_pattern(pattern);
+        if let Some((start, end)) = found {
+            self.change(tag, FileChange::Dot(start, end));
+        }
+        Ok(found)
+    }
+
+    /// Dot becomes the first occurrence of the pattern from `q` on, else from the start. Answers it; none where there is no pattern
+    /// or it stands nowhere, and all is left as it is.
+    pub fn search(&mut self, tag: u16, p: u32, q: u32) -> Result<Option<(u32, u32)>, FilesFault>
+        ensures answer { result ≡ unless (first_of_checks (no_file self.old.plain tag ∷ no_range self.old.plain tag p q ∷ [])) (search_of self.old.plain tag q) }
+        ensures done { OnOk result (self.new.plain ≡ with_found self.old.plain tag (search_of self.old.plain tag q)) }
+        ensures rooms { self.new.rooms ≡ self.old.rooms }
+        ensures unchanged { OnErr result (self.new ≡ self.old) }
+    {
+        self.wants_range(tag, p, q)?;
+        let found = self.search_from(tag, q);
+        if let Some((start, end)) = found {
+            self.change(tag, FileChange::Dot(start, end));
+        }
+        Ok(found)
+    }
+
+    /// What stands in the snarf buffer is put in a file at place `p`. Dot is then what was put in, and a file other than the command
+    /// file is dirty.
+    pub fn paste(&mut self, tag: u16, p: u32) -> Result<(), FilesFault>
+        ensures allowed { OnOk result (first_of_checks (no_file self.old.plain tag ∷ past_end self.old.plain tag p ∷ too_long (length (file_at self.old.plain tag).text + length self.old.plain.snarf) ∷ []) ≡ None) }
+        ensures refused { IfErr result (λ why. (why ≡ FilesFault.OutOfMemory) ⊎ (first_of_checks (no_file self.old.plain tag ∷ past_end self.old.plain tag p ∷ too_long (length (file_at self.old.plain tag).text + length self.old.plain.snarf) ∷ []) ≡ Some why)) }
+        ensures done { OnOk result (self.new.plain ≡ put_file self.old.plain tag (pasted_file tag (file_at self.old.plain tag) p self.old.plain.snarf)) }
+        ensures unchanged { OnErr result (self.new.plain ≡ self.old.plain) }
+        ensures others { LeaveRooms tag self.old.rooms self.new.rooms }
+    {
+        self.wants_place(tag, p)?;
+        if self.snarf_text().len() > MAX_RUNES as usize - self.text_len(tag) {
+            return Err(FilesFault::TooLong);
+        }
+        self.put_snarf_in(tag, p, tag == 0)
+    }
+
+    /// Puts runes at the end of the command file, whose dot is then its new end. False where its text would be too long, and nothing
+    /// is changed. Within its room no memory is asked for.
+    pub fn print(&mut self, runes: &[char]) -> Result<bool, FilesFault>
+        ensures told { IfOk result (λ fits. fits ≡ has_room self.old.plain runes.now) }
+        ensures done { OnOk result (self.new.plain ≡ after_print self.old.plain runes.now) }
+        ensures refused { OnErr result (result ≡ Err FilesFault.OutOfMemory) }
+        ensures unchanged { OnErr result (self.new.plain ≡ self.old.plain) }
+        ensures room { length runes.now ≤ room_at self.old.rooms 0 → IsOk result × (room_at self.old.rooms 0 ≤ room_at self.new.rooms 0 + length runes.now) }
+        ensures others { LeaveRooms 0 self.old.rooms self.new.rooms }
+    {
+        self.known();
+        let len = self.text_len(0);
+        if runes.len() > MAX_RUNES as usize - len {
+            return Ok(false);
+        }
+        if runes.is_empty() {
+            return Ok(true);
+        }
+        let end = (len + runes.len()) as u32;
+        self.put_in(0, len as u32, runes, (end, end), true)?;
+        Ok(true)
+    }
+}
