@@ -142,7 +142,11 @@ impl Host {
     fn snarf_limit(&self) -> usize
         ensures { result ≡ snarf_limit self.now.version }
     {
-        if self.version == 1 { SNARF_LIMITS.0 } else { SNARF_LIMITS.1 }
+        if self.version == 1 {
+            SNARF_LIMITS.0
+        } else {
+            SNARF_LIMITS.1
+        }
     }
 
     /// As much of the snarf buffer as a message may hold is asked for.

@@ -30,7 +30,13 @@ impl Host {
 
     /// Tells what was put in at `p`.
     #[tactic(auto, unfolding(crate::specs::Host::grown, crate::specs::Host::when))]
-    pub(crate) fn grown(&self, frames: &mut Vec<HFrame>, f: u16, p: u32, runes: &[char]) -> Result<(), HostFault>
+    pub(crate) fn grown(
+        &self,
+        frames: &mut Vec<HFrame>,
+        f: u16,
+        p: u32,
+        runes: &[char],
+    ) -> Result<(), HostFault>
         requires count { self.now.taken + 1 < 2 ^ 64 }
         requires limit { length runes.now ≤ max_runes }
         ensures ok { OnOk result (frames.new.items ≡ frames.old.items ++ stamped (self.now.taken + 1) (grown self.now.files f p runes.now)) }
@@ -85,7 +91,11 @@ impl Host {
 
     /// Tells what is printed at the end of the command file, where there is room for it.
     #[tactic(auto, using(crate::proofs::FrameLaws::told_both), unfolding(crate::specs::Host::printed, crate::specs::Host::when))]
-    pub(crate) fn tell_print(&self, frames: &mut Vec<HFrame>, runes: &[char]) -> Result<(), HostFault>
+    pub(crate) fn tell_print(
+        &self,
+        frames: &mut Vec<HFrame>,
+        runes: &[char],
+    ) -> Result<(), HostFault>
         requires count { self.now.taken + 1 < 2 ^ 64 }
         ensures ok { OnOk result (frames.new.items ≡ frames.old.items ++ stamped (self.now.taken + 1) (printed self.now.files runes.now)) }
         ensures memory { OnErr result (result ≡ Err HostFault.OutOfMemory) }

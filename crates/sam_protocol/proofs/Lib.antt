@@ -26,3 +26,4 @@ mod Passing
 mod Sending
 mod Typing
 mod Acting
+mod Receiving

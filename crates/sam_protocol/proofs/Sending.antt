@@ -7,7 +7,8 @@ use Rattle.sam_mesg.specs.declared.tmesg.Tmesg.{Tmesg}
 use Rattle.sam_mesg.specs.declared.tmesg.Tmesg.TheVariants.{Tversion, Tstartcmdfile, Tcheck, Trequest, Torigin, Tstartfile, Tworkfile, Ttype, Tcut, Tpaste, Tsnarf, Tstartnewfile, Twrite, Tclose, Tlook, Tsearch, Tsend, Tdclick, Tstartsnarf, Tsetsnarf, Tack, Texit}
 use Rattle.sam_mesg.specs.declared.hmesg.Hmesg.{Hmesg}
 use Rattle.sam_host.specs.Host.{PlainHost}
-use Rattle.sam_term.specs.Locks.{CommandLock, NoLock, lock_of, is_command_line}
+use Rattle.sam_term.specs.declared.lock.Lock.TheVariants.{CommandLock, NoLock}
+use Rattle.sam_term.specs.Locks.{lock_of, is_command_line}
 use Rattle.sam_term.specs.Term.{PlainTerminal, Made, window_at, put_window, window_after_del, moved_unsent, del_rasp, composed, flushed, unsent_message, and_then, sends, unchanged}
 use Rattle.sam_term.specs.declared.files.Window.{Window}
 use Rattle.sam_term.specs.declared.files.Unsent.{Unsent}

@@ -8,7 +8,8 @@ use Rattle.sam_mesg.specs.declared.tmesg.Tmesg.{Tmesg}
 use Rattle.sam_mesg.specs.declared.tmesg.Tmesg.TheVariants.{Ttype}
 use Rattle.sam_mesg.specs.declared.hmesg.Hmesg.{Hmesg}
 use Rattle.sam_host.specs.Host.{PlainHost}
-use Rattle.sam_term.specs.Locks.{CommandLock, NoLock, lock_of, is_command_line}
+use Rattle.sam_term.specs.declared.lock.Lock.TheVariants.{CommandLock, NoLock}
+use Rattle.sam_term.specs.Locks.{lock_of, is_command_line}
 use Rattle.sam_term.specs.Term.{PlainTerminal, Made, lock_taken, window_at, put_window, window_after_ins, moved_unsent, ins_rasp, typed_rasp, joins, joined, kept_unsent, types, composed, all_composed, flushed, unsent_message, and_then}
 use Rattle.sam_term.specs.declared.files.Window.{Window}
 use Rattle.sam_term.specs.declared.files.Unsent.{Unsent}

@@ -7,7 +7,7 @@ use Rattle.std.proofs.lemmas.Option.{slice_get_within}
 use Rattle.sam_queue.specs.declared.port.Entry.{Entry}
 use Rattle.sam_queue.specs.declared.port.Port.{Port}
 use Rattle.sam_queue.specs.declared.port.Port.TheVariants.{Receives}
-use Rattle.sam_queue.specs.History.{loads, items_of, has_mark, has_left, IsEnded, said}
+use Rattle.sam_queue.specs.History.{loads, items_of, has_mark, has_left, IsEnded, all_of}
 use Rattle.sam_queue.specs.Views.{PostView, TakeView}
 use Rattle.sam_queue.specs.Audits.{ArePostsOf, Accounted, AllAccounted, HasHistory}
 use Rattle.sam_queue.specs.Ports.{sent_of, received_of, with_posts, IsRest}
@@ -22,15 +22,15 @@ module _ {T : Type 0} where
   at_sent (x ∷ xs) zero p e = let h : x ≡ p = cc in ap (λ (q : PostView T). some (sent_of q)) h
   at_sent (x ∷ xs) (suc k) p e = at_sent xs k p e
 
-  account : (k : ℕ) (taken entries : List (Entry T)) (p : PostView T) (left : List T) → p.number ≡ k → loads k (taken ++ entries) ≡ said p.put p.closed → left ≡ items_of k entries → Accounted taken p left
+  account : (k : ℕ) (taken entries : List (Entry T)) (p : PostView T) (left : List T) → p.number ≡ k → loads k (taken ++ entries) ≡ all_of p.put p.closed → left ≡ items_of k entries → Accounted taken p left
   account k taken entries p left number told is =
-      let parts : loads k taken ++ loads k entries ≡ said p.put p.closed = sym (loads-append k taken entries) ∙ told in
+      let parts : loads k taken ++ loads k entries ≡ all_of p.put p.closed = sym (loads-append k taken entries) ∙ told in
       record {
         items = ap (λ n. items_of n taken ++ left) number ∙ ap (λ l. items_of k taken ++ l) is ∙ sym (items_of-append k taken entries) ∙ ap (λ l. filter_map (λ x. x) l) told ∙ items_said p.put p.closed;
         marked = λ mark.
             let marked : has_mark (loads k taken) ≡ true = ap (λ n. has_left n taken) (sym number) ∙ mark in
             let none = none_after_mark (loads k taken) (loads k entries) p.put p.closed parts marked in
-            let all : loads k taken ≡ said p.put p.closed = sym (append-nil (loads k taken)) ∙ ap (λ l. loads k taken ++ l) (sym none) ∙ parts in
+            let all : loads k taken ≡ all_of p.put p.closed = sym (append-nil (loads k taken)) ∙ ap (λ l. loads k taken ++ l) (sym none) ∙ parts in
             (sym (has_mark_said p.put p.closed) ∙ ap has_mark (sym all) ∙ marked, is ∙ ap (λ l. filter_map (λ x. x) l) none);
       }
 

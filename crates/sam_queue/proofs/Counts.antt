@@ -6,7 +6,7 @@ use Rattle.std.proofs.lemmas.Bool.Decides.{eqb_tells}
 use Rattle.std.proofs.lemmas.List.Elements.{All-head, All-tail}
 use Rattle.sam_queue.specs.declared.port.Entry.{Entry}
 use Rattle.sam_queue.specs.declared.port.Sent.{Sent}
-use Rattle.sam_queue.specs.History.{loads, said}
+use Rattle.sam_queue.specs.History.{loads, all_of}
 use Rattle.sam_queue.proofs.Histories.{loads_mine, loads_other}
 use Rattle.sam_queue.proofs.Lists.{there}
 
@@ -63,8 +63,8 @@ module _ {T : Type 0} where
 
   -- two histories in which each sender has put what was gathered are equally long
   pub same_length : (n : ℕ) (all : List (Sent T)) (h k : List (Entry T)) → length all ≡ n
-      → ((p : ℕ) (s : Sent T) → get_elem? all p ≡ some s → loads p h ≡ said s.put s.closed) → All (λ e. e.sender < n) h
-      → ((p : ℕ) (s : Sent T) → get_elem? all p ≡ some s → loads p k ≡ said s.put s.closed) → All (λ e. e.sender < n) k
+      → ((p : ℕ) (s : Sent T) → get_elem? all p ≡ some s → loads p h ≡ all_of s.put s.closed) → All (λ e. e.sender < n) h
+      → ((p : ℕ) (s : Sent T) → get_elem? all p ≡ some s → loads p k ≡ all_of s.put s.closed) → All (λ e. e.sender < n) k
       → length h ≡ length k
   same_length n all h k many told within told_too within_too =
       let agree : (p : ℕ) → p < n → loads p h ≡ loads p k = λ p less. let t = there all p (omega arith) in told p t.0 t.1 ∙ sym (told_too p t.0 t.1) in

@@ -1,7 +1,7 @@
 -- Laws for callers.
 use Rattle.std.proofs.Common.{◌≡◌, ◌≢◌, ℕ, zero, suc, ◌<◌, ◌≤◌, false, List, [], ◌∷◌, ◌++◌, length, Some, None, slice_get, All, sym, refl, ap, ◌∙◌, subst, append-nil, length-append, arith}
 use Rattle.sam_queue.specs.declared.port.Entry.{Entry}
-use Rattle.sam_queue.specs.History.{loads, items_of, said}
+use Rattle.sam_queue.specs.History.{loads, items_of, all_of}
 use Rattle.sam_queue.specs.Views.{LineView, PostView, WasFull}
 use Rattle.sam_queue.specs.Audits.{ArePostsOf}
 use Rattle.sam_queue.specs.Views.{new_post, new_posts}
@@ -48,7 +48,7 @@ module _ {T : Type 0} where
   items_of_other k h e ne = items_of-append k h (e ∷ []) ∙ ap (λ l. items_of k h ++ l) (no_item k e ne) ∙ append-nil (items_of k h)
 
   -- ---- what a refusal for want of room says of a line with one sender: it has put as much as the line can hold
-  length_said : (put : List T) → length (said put false) ≡ length put
+  length_said : (put : List T) → length (all_of put false) ≡ length put
   length_said [] = refl
   length_said (x ∷ xs) = ap suc (length_said xs)
 
@@ -57,6 +57,6 @@ module _ {T : Type 0} where
       let h : List (Entry T) = f.2.0 ++ f.0 in
       let within = subst (λ n. All (λ (e : Entry T). e.sender < n) h) one f.2.2 in
       let many = length_alone h within in
-      let mine : loads 0 h ≡ said p.put false = (λ k. loads (sym first k) h) ∙ f.2.1 ∙ (λ k. said p.put (still_open k)) in
+      let mine : loads 0 h ≡ all_of p.put false = (λ k. loads (sym first k) h) ∙ f.2.1 ∙ (λ k. all_of p.put (still_open k)) in
       let long : length (loads 0 h) ≡ length p.put = ap length mine ∙ length_said p.put in
       omega (arith, f.1, length-append f.2.0 f.0)

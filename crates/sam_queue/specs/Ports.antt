@@ -7,7 +7,7 @@ use Rattle.sam_queue.specs.declared.port.Sent.{Sent}
 use Rattle.sam_queue.specs.declared.port.Received.{Received}
 use Rattle.sam_queue.specs.declared.port.Port.{Port}
 use Rattle.sam_queue.specs.declared.port.Port.TheVariants.{Sends, Receives, Spent}
-use Rattle.sam_queue.specs.History.{loads, said, StartsWith}
+use Rattle.sam_queue.specs.History.{loads, all_of, StartsWith}
 use Rattle.sam_queue.specs.Views.{PostView, TakeView, with_item, closed_post}
 
 module _ {T : Type 0} where
@@ -72,5 +72,5 @@ module _ {T : Type 0} where
   -- what was taken and these entries are the whole history, which begins as it was seen
   abbrev pub IsRest : Port T → List (Entry T) → Type 0
   IsRest (Sends s) more = ⊥
-  IsRest (Receives r) more = ((p : ℕ) (s : Sent T) → get_elem? r.gathered p ≡ some s → loads p (r.taken ++ more) ≡ said s.put s.closed) × All (λ e. e.sender < r.senders) (r.taken ++ more) × StartsWith (r.taken ++ more) r.seen
+  IsRest (Receives r) more = ((p : ℕ) (s : Sent T) → get_elem? r.gathered p ≡ some s → loads p (r.taken ++ more) ≡ all_of s.put s.closed) × All (λ e. e.sender < r.senders) (r.taken ++ more) × StartsWith (r.taken ++ more) r.seen
   IsRest Spent more = ⊥

@@ -31,7 +31,7 @@ put-put t f w v =
     ap (λ ss. record t { files = ss }) (put_slot-put_slot t.files f k (record (known_at (put_window t f w) f) { window = Some v }))
     ∙ ap (λ s. record t { files = put_slot t.files f (record (unwrap_or s blank_known) { window = Some v }) }) (slot-put_same t.files f k)
 
-window-put_same : (t : PlainTerminal) (f : ℕ) (w : Window) → window_at (put_window t f w) f ≡ w
+pub window-put_same : (t : PlainTerminal) (f : ℕ) (w : Window) → window_at (put_window t f w) f ≡ w
 window-put_same t f w =
     ap (λ s. unwrap_or (unwrap_or s blank_known).window blank_window)
     (slot-put_same t.files f (record (known_at t f) { window = Some w }))

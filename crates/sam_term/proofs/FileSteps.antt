@@ -2,10 +2,11 @@
 use Rattle.std.proofs.Common.{◌≡◌, refl, sym, ap, ◌∙◌, subst, ℕ, zero, suc, ◌≤◌, Bool, true, false, List, [], ◌∷◌, length, Option, Some, None, is_some, if◌then◌else◌, ◌==◌, nat_eq, ◌⊎◌, ◌≢◌, inl, inr, arith}
 use Rattle.std.specs.Prelude.{unwrap_or}
 use Rattle.std.proofs.lemmas.Bool.Decides.{eqb_tells}
+use Rattle.sam_runes.specs.Texts.{most_in_message}
 use Rattle.sam_runes.specs.Slots.{Slots, slot, put_slot, free_slot, map_slots}
 use Rattle.sam_runes.proofs.SlotLaws.{slot-put_same, slot-put_other, slot-free_same, slot-free_other}
 use Rattle.sam_term.specs.Term.{PlainTerminal, window_at, window_in, known_in, known_at, put_known, put_window, is_open, is_known, blank_window, blank_known, freed_known, unsent_without, took_bindname, took_close, took_exit}
-use Rattle.sam_term.specs.Sound.{IsSound, FitsWindow, FitsUnsent}
+use Rattle.sam_term.specs.Sound.{IsSound, FitsWindow, FitsUnsent, IsShort}
 use Rattle.sam_term.specs.declared.files.Window.{Window}
 use Rattle.sam_term.specs.declared.files.KnownFile.{KnownFile}
 use Rattle.sam_term.specs.declared.files.Unsent.{Unsent}
@@ -28,7 +29,7 @@ blank_where_unknown ss f e = go (slot ss f) e
 -- the files change, and no window does
 pub sound-same : (t : PlainTerminal) (later : Slots KnownFile) → IsSound t → ((g : ℕ) → window_in later g ≡ window_in t.files g) → IsSound (record t { files = later })
 unfolding FitsUnsent
-sound-same t later s same = record { countable = s.countable; windows = windows; unsent = go t.unsent s.unsent }
+sound-same t later s same = record { countable = s.countable; windows = windows; unsent = go t.unsent s.unsent; short = s.short }
   where
     windows : (g : ℕ) → FitsWindow t.sent (window_in later g)
     windows g = subst (λ w. FitsWindow t.sent w) (sym (same g)) (s.windows g)
@@ -71,8 +72,8 @@ blank_fits n = record { locks = omega arith; dot_start = omega arith; dot_end = 
 
 -- a file is closed, and its unsent runes dropped
 pub sound-close : (t : PlainTerminal) (f : ℕ) → IsSound t → IsSound (record (put_known t f (record (known_at t f) { window = None })) { unsent = unsent_without f t.unsent })
-unfolding FitsUnsent
-sound-close t f s = record { countable = s.countable; windows = windows; unsent = go t.unsent s.unsent }
+unfolding FitsUnsent IsShort
+sound-close t f s = record { countable = s.countable; windows = windows; unsent = go t.unsent s.unsent; short = short t.unsent s.short }
   where
     shut : KnownFile
     shut = record (known_at t f) { window = None }
@@ -96,6 +97,14 @@ sound-close t f s = record { countable = s.countable; windows = windows; unsent 
     go : (o : Option Unsent) → FitsUnsent t.files o → FitsUnsent (put_slot t.files f shut) (unsent_without f o)
     go None k = tt
     go (Some u) k = by u (eqb_tells u.file f) k
+
+    short : (o : Option Unsent) → IsShort o → IsShort (unsent_without f o)
+    short None k = k
+    short (Some u) k = kept_or (u.file == f)
+      where
+        kept_or : (b : Bool) → IsShort (if b then None else Some u)
+        kept_or true = tt
+        kept_or false = k
 
 -- the window of a file after all locks are freed
 freed_fits : (n : ℕ) (ss : Slots KnownFile) (g : ℕ) → FitsWindow n (window_in ss g) → FitsWindow n (window_in (map_slots freed_known ss) g)
@@ -123,7 +132,7 @@ freed_rasp (Some k ∷ ss) (suc g) = freed_rasp ss g
 -- all locks are freed
 pub sound-exit : (t : PlainTerminal) → IsSound t → IsSound (record t { has_exited = true; command_lock = false; files = map_slots freed_known t.files })
 unfolding FitsUnsent
-sound-exit t s = record { countable = s.countable; windows = windows; unsent = go t.unsent s.unsent }
+sound-exit t s = record { countable = s.countable; windows = windows; unsent = go t.unsent s.unsent; short = s.short }
   where
     windows : (g : ℕ) → FitsWindow t.sent (window_in (map_slots freed_known t.files) g)
     windows g = freed_fits t.sent t.files g (s.windows g)
@@ -131,3 +140,19 @@ sound-exit t s = record { countable = s.countable; windows = windows; unsent = g
     go : (o : Option Unsent) → FitsUnsent t.files o → FitsUnsent (map_slots freed_known t.files) o
     go None k = tt
     go (Some u) k = subst (λ r. u.place ≤ length r) (sym (freed_rasp t.files u.file)) k
+
+-- a terminal that knows no file
+pub sound-new : (t : PlainTerminal) → t.files ≡ [] → t.unsent ≡ None → t.sent ≡ 0 → IsSound t
+unfolding FitsUnsent IsShort
+sound-new t files unsent sent =
+    record {
+      countable = omega arith;
+      windows = λ f. subst (λ ss. FitsWindow t.sent (window_in ss f)) (sym files) (blank_fits t.sent);
+      unsent = subst (λ o. FitsUnsent t.files o) (sym unsent) tt;
+      short = subst (λ o. IsShort o) (sym unsent) tt;
+    }
+
+-- unsent runes are few
+pub few-unsent : (t : PlainTerminal) (u : Unsent) → IsSound t → t.unsent ≡ Some u → length u.runes ≤ most_in_message
+unfolding IsShort
+few-unsent t u s e = subst (λ o. IsShort o) e s.short

@@ -8,7 +8,7 @@ use Rattle.sam_runes.specs.Texts.{max_runes}
 use Rattle.sam_runes.specs.Slots.{Slots, put_slot}
 use Rattle.sam_rasp.specs.Rasp.{PartialText, ins_cells, del_cells, load_cells, place_after_ins, place_after_del}
 use Rattle.sam_term.specs.Term.{PlainTerminal, window_at, window_in, put_window, known_in, blank_window, window_after_ins, window_after_del, moved_unsent, ins_rasp, del_rasp}
-use Rattle.sam_term.specs.Sound.{IsSound, FitsWindow, FitsUnsent, AreWithin}
+use Rattle.sam_term.specs.Sound.{IsSound, FitsWindow, FitsUnsent, IsShort, AreWithin}
 use Rattle.sam_term.specs.declared.files.Window.{Window}
 use Rattle.sam_term.specs.declared.files.KnownFile.{KnownFile}
 use Rattle.sam_term.specs.declared.files.Unsent.{Unsent}
@@ -64,14 +64,24 @@ length-del_cells r p q o l =
 -- ## Sound terminals
 
 -- a window that is put, with places that fit it, and unsent runes that fit the files then
-pub sound-change : (t : PlainTerminal) (g : ℕ) (w : Window) (o : Option Unsent) → IsSound t → FitsWindow t.sent w → FitsUnsent (put_window t g w).files o → IsSound (record (put_window t g w) { unsent = o })
-sound-change t g w o s fits k = record { countable = s.countable; windows = windows; unsent = k }
+pub sound-change : (t : PlainTerminal) (g : ℕ) (w : Window) (o : Option Unsent) → IsSound t → FitsWindow t.sent w → FitsUnsent (put_window t g w).files o → IsShort o → IsSound (record (put_window t g w) { unsent = o })
+sound-change t g w o s fits k m = record { countable = s.countable; windows = windows; unsent = k; short = m }
   where
     windows : (f : ℕ) → FitsWindow t.sent (window_at (put_window t g w) f)
     windows f = elim (window-put t g w f) [
       | inl h ↦ subst (λ x. FitsWindow t.sent x) (sym h.1) fits
       | inr h ↦ subst (λ x. FitsWindow t.sent x) (sym h.1) (s.windows f)
     ]
+
+-- unsent runes that move stay as short
+pub moved_short : (f : ℕ) (moved : ℕ → ℕ) (o : Option Unsent) → IsShort o → IsShort (moved_unsent f moved o)
+unfolding IsShort
+moved_short f moved None k = k
+moved_short f moved (Some u) k = go (u.file == f)
+  where
+    go : (b : Bool) → IsShort (if b then Some (record u { place = moved u.place }) else Some u)
+    go true = k
+    go false = k
 
 -- unsent runes that move with the text of their file
 pub moved_fits : (t : PlainTerminal) (f : ℕ) (w : Window) (moved : ℕ → ℕ) → ((k : ℕ) → k ≤ length (window_at t f).rasp → moved k ≤ length w.rasp) → FitsUnsent t.files t.unsent → FitsUnsent (put_window t f w).files (moved_unsent f moved t.unsent)
@@ -129,6 +139,7 @@ sound-ins t f p cells s l m =
     let e = length-ins_cells w.rasp p cells l in
     sound-change t f after (moved_unsent f (place_after_ins p (length cells)) t.unsent) s (fits-ins t.sent w p cells (s.windows f) l m)
     (moved_fits t f after (place_after_ins p (length cells)) (λ k h. subst (λ n. place_after_ins p (length cells) k ≤ n) (sym e) (ins_within p (length cells) k (length w.rasp) h)) s.unsent)
+    (moved_short f (place_after_ins p (length cells)) t.unsent s.short)
 
 -- something is taken out of it
 pub sound-del : (t : PlainTerminal) (f p q : ℕ) → IsSound t → p ≤ q → q ≤ length (window_at t f).rasp → IsSound (del_rasp t f p q)
@@ -138,6 +149,7 @@ sound-del t f p q s o l =
     let e = length-del_cells w.rasp p q o l in
     sound-change t f after (moved_unsent f (place_after_del p q) t.unsent) s (fits-del t.sent w p q (s.windows f) o l)
     (moved_fits t f after (place_after_del p q) (λ k h. subst (λ n. place_after_del p q k ≤ n) (sym e) (del_within p q k (length w.rasp) o l h)) s.unsent)
+    (moved_short f (place_after_del p q) t.unsent s.short)
 
 -- ## Windows that are taken out, changed and put back
 

@@ -6,7 +6,7 @@ use Rattle.sam_term.specs.Term.{PlainTerminal, window_at, window_in, put_window,
 use Rattle.sam_term.specs.declared.event.Acted.TheVariants.{Done}
 use Rattle.sam_term.specs.Taking.{done, countable, frame_fault, IsAnswer}
 use Rattle.sam_mesg.specs.declared.hmesg.Hmesg.{Hmesg}
-use Rattle.std.specs.Prelude.{Result}
+use Rattle.std.specs.Prelude.{Result, IfOk, IfErr, OnErr}
 use Rattle.sam_mesg.specs.declared.hmesg.HFrame.{HFrame}
 use Rattle.sam_term.specs.declared.fault.TermFault.{TermFault}
 use Rattle.sam_term.specs.declared.fault.TermFault.TheVariants as fault
@@ -18,7 +18,7 @@ use Rattle.std.proofs.lemmas.Bool.{le-ltb, lt-ltb}
 use Rattle.sam_term.proofs.SlotSteps.{window_back}
 use Rattle.sam_term.specs.Term.{known_in}
 use Rattle.sam_runes.specs.Slots.{Slots, put_slot}
-use Rattle.sam_term.specs.Sound.{IsSound, FitsWindow, FitsUnsent}
+use Rattle.sam_term.specs.Sound.{IsSound, FitsWindow, FitsUnsent, IsShort}
 use Rattle.sam_term.specs.declared.files.Window.{Window}
 use Rattle.sam_term.specs.declared.files.KnownFile.{KnownFile}
 use Rattle.sam_term.specs.declared.files.Unsent.{Unsent}
@@ -43,7 +43,7 @@ window-put t g w f = go (eqb_tells g f)
 -- a window that is put, with places that fit it, and no shorter than the unsent runes' place
 pub sound-put : (t : PlainTerminal) (g : ℕ) (w : Window) → IsSound t → FitsWindow t.sent w → length w.rasp ≡ length (window_at t g).rasp → IsSound (put_window t g w)
 unfolding FitsUnsent
-sound-put t g w s fits same = record { countable = s.countable; windows = windows; unsent = unsent t.unsent s.unsent }
+sound-put t g w s fits same = record { countable = s.countable; windows = windows; unsent = unsent t.unsent s.unsent; short = s.short }
   where
     windows : (f : ℕ) → FitsWindow t.sent (window_at (put_window t g w) f)
     windows f = elim (window-put t g w f) [
@@ -117,7 +117,7 @@ full made l =
 
 -- one message more is counted
 pub sound-count : (t : PlainTerminal) → IsSound t → t.sent < most_count → IsSound (record t { sent = t.sent + 1 })
-sound-count t s l = record { countable = omega arith; windows = windows; unsent = s.unsent }
+sound-count t s l = record { countable = omega arith; windows = windows; unsent = s.unsent; short = s.short }
   where
     windows : (f : ℕ) → FitsWindow (t.sent + 1) (window_at t f)
     windows f =
@@ -127,8 +127,8 @@ sound-count t s l = record { countable = omega arith; windows = windows; unsent 
 
 -- without unsent runes
 pub sound-unsent : (t : PlainTerminal) → IsSound t → IsSound (record t { unsent = None })
-unfolding FitsUnsent
-sound-unsent t s = record { countable = s.countable; windows = s.windows; unsent = tt }
+unfolding FitsUnsent IsShort
+sound-unsent t s = record { countable = s.countable; windows = s.windows; unsent = tt; short = tt }
 
 -- the same of an event
 pub loud_done : (made : Made) (u : PlainTerminal) (ms : List Tmesg) → u ≡ made.0 → ms ≡ made.1 → made.0.sent ≤ most_count → done made ≡ Ok (u, Done ms)
@@ -142,3 +142,17 @@ unfolding done
 full_done made l =
     let n : nat_lt most_count made.0.sent ≡ true = lt-ltb most_count made.0.sent l in
     rw n refl
+
+-- ## A call's answer, in its three clauses
+
+pub answered : {A : Type 0} (t u : PlainTerminal) (r : Result A TermFault) (answer : Result (PlainTerminal × A) TermFault) → IsAnswer t u r answer → IfOk r (λ x. answer ≡ Ok (u, x))
+answered t u (Ok x) answer h = h
+answered t u (Err why) answer h = tt
+
+pub answer_refused : {A : Type 0} (t u : PlainTerminal) (r : Result A TermFault) (answer : Result (PlainTerminal × A) TermFault) → IsAnswer t u r answer → IfErr r (λ why. (why ≡ fault.OutOfMemory) ⊎ (answer ≡ Err why))
+answer_refused t u (Ok x) answer h = tt
+answer_refused t u (Err why) answer h = h.0
+
+pub answer_unchanged : {A : Type 0} (t u : PlainTerminal) (r : Result A TermFault) (answer : Result (PlainTerminal × A) TermFault) → IsAnswer t u r answer → OnErr r (u ≡ t)
+answer_unchanged t u (Ok x) answer h = tt
+answer_unchanged t u (Err why) answer h = h.1

@@ -1,6 +1,6 @@
 -- What is true of every terminal: what its counts and places can be.
 use Rattle.std.specs.Prelude.{ℕ, ◌≤◌, length, Option, Some, None, ⊤}
-use Rattle.sam_runes.specs.Texts.{max_runes, most_count}
+use Rattle.sam_runes.specs.Texts.{max_runes, most_count, most_in_message}
 use Rattle.sam_runes.specs.Slots.{Slots}
 use Rattle.sam_rasp.specs.Rasp.{place_after_ins}
 use Rattle.sam_term.specs.Term.{PlainTerminal, window_in, window_at}
@@ -22,10 +22,16 @@ unfoldable pub FitsUnsent : Slots KnownFile → Option Unsent → Type 0
 FitsUnsent files None = ⊤
 FitsUnsent files (Some u) = u.place ≤ length (window_in files u.file).rasp
 
+-- unsent runes fit in one message
+unfoldable pub IsShort : Option Unsent → Type 0
+IsShort None = ⊤
+IsShort (Some u) = length u.runes ≤ most_in_message
+
 pub record IsSound (t : PlainTerminal) : Type 0 where
   pub countable : t.sent ≤ most_count
   pub windows : (f : ℕ) → FitsWindow t.sent (window_at t f)
   pub unsent : FitsUnsent t.files t.unsent
+  pub short : IsShort t.unsent
 
 -- the terminal as contracts see it
 abbrev pub seen : Inside → PlainTerminal
@@ -54,3 +60,8 @@ pub record AreWithin (n : ℕ) (w : Window) : Type 0 where
 abbrev pub shifted : Window → ℕ → ℕ → Window
 shifted w p n =
     record w { dot = (place_after_ins p n w.dot.0, place_after_ins p n w.dot.1); view_start = place_after_ins p n w.view_start }
+
+-- how many runes are unsent
+abbrev pub unsent_length : Option Unsent → ℕ
+unsent_length None = 0
+unsent_length (Some u) = length u.runes

@@ -6,7 +6,7 @@ ghost use Rattle.sam_term.specs.Acting.{deed_of, made_first, free_first, first_e
 ghost use Rattle.sam_term.specs.Locking.{is_lockable};
 ghost use Rattle.sam_term.specs.Locks.{lock_of};
 ghost use Rattle.sam_term.specs.Taking.{IsAnswer, done, not_done};
-ghost use Rattle.sam_term.specs.Term.{event_checks, is_unknown, is_closed, is_file_locked, has_bad_place, has_long_text, makes_too_long, sends, unchanged};
+ghost use Rattle.sam_term.specs.Term.{act_of, event_checks, is_unknown, is_closed, is_file_locked, has_bad_place, has_long_text, makes_too_long, sends, unchanged};
 
 use crate::event::{Acted, Deed, UserEvent, Verdict};
 use crate::event_tests::{file_of, is_bad_version, is_for_command_file, needs_open, waits_for_all};
@@ -18,8 +18,24 @@ use sam_mesg::Tmesg;
 use sam_runes::utf8_within;
 
 impl Terminal {
+    /// Tries the oldest held event, as the definition says.
+    pub(crate) fn try_oldest(&mut self) -> Result<Acted, TermFault>
+        ensures { IsAnswer self.old self.new result (act_of self.old) }
+    {
+        let Some(event) = self.held.first() else {
+            return Ok(Acted::Idle);
+        };
+        match self.verdict(event) {
+            Some(verdict) => Ok(self.not_done(verdict)),
+            None => {
+                let deed = self.deed_of(event);
+                self.perform(deed)
+            }
+        }
+    }
+
     /// What stands against an event.
-    pub(crate) fn verdict(&self, event: &UserEvent) -> Option<Verdict>
+    fn verdict(&self, event: &UserEvent) -> Option<Verdict>
         ensures { result ≡ first_of_checks (event_checks self.now event.now) }
     {
         if self.exited {
@@ -115,7 +131,7 @@ impl Terminal {
     }
 
     /// What an event does that nothing stands against.
-    pub(crate) fn deed_of(&self, event: &UserEvent) -> Deed
+    fn deed_of(&self, event: &UserEvent) -> Deed
         ensures { result ≡ deed_of self.now event.now }
     {
         match event {
@@ -162,7 +178,7 @@ impl Terminal {
     }
 
     /// An event that is not done waits, or is dropped.
-    pub(crate) fn not_done(&mut self, verdict: Verdict) -> Acted
+    fn not_done(&mut self, verdict: Verdict) -> Acted
         ensures { not_done verdict self.old ≡ (self.new, result) }
     {
         match verdict {
@@ -182,7 +198,7 @@ impl Terminal {
     }
 
     /// Does what the oldest held event does. Nothing stands against it.
-    pub(crate) fn perform(&mut self, deed: Deed) -> Result<Acted, TermFault>
+    fn perform(&mut self, deed: Deed) -> Result<Acted, TermFault>
         requires free { free_first self.old ≡ None }
         requires deed { deed ≡ deed_of self.old (first_event self.old.held) }
         ensures { IsAnswer self.old self.new result (done (made_first self.old)) }

@@ -6,7 +6,7 @@ ghost use Rattle.sam_runes.specs.Texts.{most_count};
 ghost use Rattle.sam_term.specs.Locking.{is_lockable, lock_added};
 ghost use Rattle.sam_term.specs.Locks.{lock_of};
 ghost use Rattle.sam_term.specs.Taking.{IsAnswer, countable};
-ghost use Rattle.sam_term.specs.Term.{is_open, composed, unsent_message, flushed, sends, unchanged, wanted, view_end, request_for};
+ghost use Rattle.sam_term.specs.Term.{flush_of, is_open, composed, unsent_message, flushed, sends, unchanged, wanted, view_end, request_for};
 
 use crate::fault::TermFault;
 use crate::files::Window;
@@ -16,6 +16,20 @@ use crate::term::Terminal;
 use sam_mesg::{Batch, Tmesg};
 
 impl Terminal {
+    /// Composes the unsent runes, as the definition says.
+    pub(crate) fn flush_now(&mut self) -> Result<Batch, TermFault>
+        ensures { IsAnswer self.old self.new result (flush_of self.old) }
+    {
+        if u64::MAX - self.sent < self.unsent_count() {
+            return Err(TermFault::CountFull);
+        }
+        let Ok(mut out) = Outbox::with_room(self.alloc, 1) else {
+            return Err(TermFault::OutOfMemory);
+        };
+        self.compose_unsent(&mut out);
+        Ok(out.into_batch())
+    }
+
     /// Counts a message, and takes its lock; a request also awaits its data.
     fn take_lock(&mut self, lock: Lock, asks: bool)
         requires counts { self.old.sent < most_count }
@@ -145,10 +159,20 @@ fn request_in(window: &Window, tag: u16) -> Option<Tmesg>
     requires { window.now.view_start ≤ length window.now.rasp }
     ensures { result ≡ request_for tag (hole_within window.now.rasp window.now.view_start (view_end window.now)) }
 {
-    let left = window.rasp.len() - window.view_start;
-    let end = window.view_start + window.view_length.min(left);
-    match window.rasp.first_hole(window.view_start, end) {
+    match window
+        .rasp
+        .first_hole(window.view_start, end_of_view(window))
+    {
         Some(hole) => Some(Tmesg::Trequest(tag, hole.0, (hole.1 - hole.0).min(512) as u16)),
         None => None,
     }
+}
+
+/// Where a view ends.
+pub fn end_of_view(window: &Window) -> u32
+    requires { window.now.view_start ≤ length window.now.rasp }
+    ensures { result ≡ view_end window.now }
+{
+    let left = window.rasp.len() - window.view_start;
+    window.view_start + window.view_length.min(left)
 }

@@ -1,22 +1,35 @@
 //! What the messages of the host do.
 
-ghost use Rattle.std.specs.Prelude.{◌≡◌, ◌+◌, ◌≤◌, ◌==◌, if◌then◌else◌, [], length, IsTrue, None, false};
+ghost use Rattle.std.specs.Prelude.{◌≡◌, ◌+◌, ◌<◌, ◌≤◌, ◌==◌, if◌then◌else◌, [], length, IsTrue, None, false};
 ghost use Rattle.sam_runes.specs.Slots.{free_slot};
 ghost use Rattle.sam_runes.specs.Texts.{most_count, common_version, max_runes};
 ghost use Rattle.sam_term.specs.Taking.{IsAnswer, countable, frame_fault};
-ghost use Rattle.sam_term.specs.Term.{is_open, is_known, window_at, known_at, made_from, took_bindname, took_close, took_exit, put_known};
+ghost use Rattle.sam_term.specs.Term.{take_of, is_open, is_known, window_at, known_at, made_from, took_bindname, took_unlockfile, took_close, took_exit, put_known};
 
 use crate::fault::TermFault;
 use crate::files::{KnownFile, Window};
 use crate::moving::drop_unsent;
 use crate::term::Terminal;
-use sam_mesg::{Batch, Hmesg, Tmesg};
+use sam_mesg::{Batch, HFrame, Hmesg, Tmesg};
 use sam_rasp::rasp::Rasp;
 use sam_runes::Runes;
 
 impl Terminal {
+    /// Takes a frame, as the definition says.
+    pub(crate) fn take_frame(&mut self, frame: HFrame) -> Result<Batch, TermFault>
+        ensures { IsAnswer self.old self.new result (take_of self.old frame) }
+    {
+        if self.sent < frame.seen {
+            return Err(TermFault::FromTheFuture);
+        }
+        match self.refusal(&frame.msg) {
+            Some(why) => Err(why),
+            None => self.take(frame.msg),
+        }
+    }
+
     /// Takes a message that nothing stands against.
-    pub(crate) fn take(&mut self, message: Hmesg) -> Result<Batch, TermFault>
+    fn take(&mut self, message: Hmesg) -> Result<Batch, TermFault>
         requires { frame_fault self.old message ≡ None }
         ensures { IsAnswer self.old self.new result (countable (made_from self.old message)) }
     {
@@ -94,7 +107,8 @@ impl Terminal {
                 self.take_exit();
                 Ok(self.nothing())
             }
-            _ => Err(TermFault::OutOfMemory),
+            Hmesg::Hcheck(tag) => self.take_check(tag),
+            Hmesg::Hunlockfile(tag) => self.take_unlockfile(tag),
         }
     }
 
@@ -123,6 +137,48 @@ impl Terminal {
             return Ok(self.nothing());
         }
         self.send(Tmesg::Tack)
+    }
+
+    /// Asks for the first gap that a file shows.
+    fn take_check(&mut self, tag: u16) -> Result<Batch, TermFault>
+        ensures { IsAnswer self.old self.new result (countable (made_from self.old (Hmesg.Hcheck tag))) }
+    {
+        match self.wanted(tag) {
+            Some(message) => self.send(message),
+            None => Ok(self.nothing()),
+        }
+    }
+
+    /// Frees one lock of a file, and asks for the first gap that it shows.
+    fn take_unlockfile(&mut self, tag: u16) -> Result<Batch, TermFault>
+        requires opened { IsTrue (is_open self.old tag) }
+        requires locked { 0 < (window_at self.old tag).locks }
+        ensures { IsAnswer self.old self.new result (countable (made_from self.old (Hmesg.Hunlockfile tag))) }
+    {
+        let Some(message) = self.wanted(tag) else {
+            self.free_lock(tag);
+            return Ok(self.nothing());
+        };
+        let count = 1 + self.unsent_count();
+        match self.prepare(count, 2) {
+            Err(why) => Err(why),
+            Ok(mut out) => {
+                self.free_lock(tag);
+                self.send_prepared(message, &mut out);
+                Ok(out.into_batch())
+            }
+        }
+    }
+
+    /// Frees one lock of a file.
+    fn free_lock(&mut self, tag: u16)
+        requires opened { IsTrue (is_open self.old tag) }
+        requires locked { 0 < (window_at self.old tag).locks }
+        ensures { self.new ≡ took_unlockfile self.old tag }
+    {
+        let mut window = self.files.take_window(tag);
+        window.locks -= 1;
+        self.files.put_window(tag, window);
     }
 
     /// Opens a file that is known, with an empty partial text.

@@ -34,8 +34,8 @@ impl Terminal {
         }
     }
 
-    /// How many locks the file holds; none where it is not open.
-    pub(crate) fn locks(&self, tag: u16) -> u64
+    /// How many locks of a file are held, without the command lock; none where it is not open.
+    pub fn locks(&self, tag: u16) -> u64
         ensures { result ≡ (window_at self.now tag).locks }
     {
         match self.files.window(tag) {

@@ -1,9 +1,9 @@
 //! The calls that change files, each with its refusals. After a refusal the files are as they were.
 
-ghost use Rattle.std.specs.Prelude.{◌≡◌, ◌⊎◌, ◌<◌, ◌≤◌, ◌+◌, ◌-◌, ◌∷◌, [], IsOk, OnOk, OnErr, IfOk, IfErr, Err, Some, None, true, length, ◌&&◌, not};
+ghost use Rattle.std.specs.Prelude.{◌≡◌, ◌<◌, ◌≤◌, ◌+◌, ◌-◌, ◌∷◌, [], IsOk, OnOk, OnErr, IfOk, IfErr, Err, Some, None, true, length, ◌&&◌, not};
 ghost use Rattle.sam_runes.specs.Checks.{first_of_checks, unless};
 ghost use Rattle.sam_runes.specs.Texts.{max_runes, all_tags, part, word_at, is_empty};
-ghost use Rattle.sam_text.specs.Files.{PlainFile, blank_file, file_at, has_file, put_file, no_file, past_end, no_range, too_long, no_tag, with_dot, with_work, with_new, new_file, without_file, opened_file, announced_file, written_file, typed_file, cut_file, pasted_file, has_room, after_print, search_of, with_found, look_of, with_look, most_in_name};
+ghost use Rattle.sam_text.specs.Files.{PlainFile, blank_file, file_at, has_file, put_file, no_file, past_end, no_range, too_long, no_tag, with_dot, with_work, with_new, new_file, without_file, opened_file, announced_file, written_file, typed_file, cut_file, pasted_file, has_room, after_print, IsFault, search_of, with_found, look_of, with_look, most_in_name};
 ghost use Rattle.sam_text.specs.Views.{room_at, LeaveRooms};
 
 use crate::fault::FilesFault;
@@ -71,7 +71,7 @@ impl Files {
     pub fn write(&mut self, alloc: Global, tag: u16) -> Result<(), FilesFault>
         requires { 0 < tag }
         ensures allowed { OnOk result (first_of_checks (no_file self.old.plain tag ∷ []) ≡ None) }
-        ensures refused { IfErr result (λ why. (why ≡ FilesFault.OutOfMemory) ⊎ (first_of_checks (no_file self.old.plain tag ∷ []) ≡ Some why)) }
+        ensures refused { IfErr result (IsFault (first_of_checks (no_file self.old.plain tag ∷ []))) }
         ensures done { OnOk result (self.new.plain ≡ put_file self.old.plain tag (written_file (file_at self.old.plain tag))) }
         ensures rooms { self.new.rooms ≡ self.old.rooms }
         ensures unchanged { OnErr result (self.new ≡ self.old) }
@@ -151,7 +151,7 @@ impl Files {
     /// Within the room of the file no memory is asked for.
     pub fn insert(&mut self, tag: u16, p: u32, runes: &[char]) -> Result<(), FilesFault>
         ensures allowed { OnOk result (first_of_checks (no_file self.old.plain tag ∷ past_end self.old.plain tag p ∷ too_long (length (file_at self.old.plain tag).text + length runes.now) ∷ []) ≡ None) }
-        ensures refused { IfErr result (λ why. (why ≡ FilesFault.OutOfMemory) ⊎ (first_of_checks (no_file self.old.plain tag ∷ past_end self.old.plain tag p ∷ too_long (length (file_at self.old.plain tag).text + length runes.now) ∷ []) ≡ Some why)) }
+        ensures refused { IfErr result (IsFault (first_of_checks (no_file self.old.plain tag ∷ past_end self.old.plain tag p ∷ too_long (length (file_at self.old.plain tag).text + length runes.now) ∷ []))) }
         ensures done { OnOk result (self.new.plain ≡ put_file self.old.plain tag (typed_file tag (file_at self.old.plain tag) p runes.now)) }
         ensures unchanged { OnErr result (self.new.plain ≡ self.old.plain) }
         ensures memory { length runes.now ≤ room_at self.old.rooms tag → result ≡ unless (first_of_checks (no_file self.old.plain tag ∷ past_end self.old.plain tag p ∷ too_long (length (file_at self.old.plain tag).text + length runes.now) ∷ [])) tt }
@@ -169,7 +169,7 @@ impl Files {
     /// Makes room for `n` more runes in the text of a file. The files stay as they are.
     pub fn reserve(&mut self, tag: u16, n: u32) -> Result<(), FilesFault>
         ensures allowed { OnOk result (first_of_checks (no_file self.old.plain tag ∷ too_long (length (file_at self.old.plain tag).text + n) ∷ []) ≡ None) }
-        ensures refused { IfErr result (λ why. (why ≡ FilesFault.OutOfMemory) ⊎ (first_of_checks (no_file self.old.plain tag ∷ too_long (length (file_at self.old.plain tag).text + n) ∷ []) ≡ Some why)) }
+        ensures refused { IfErr result (IsFault (first_of_checks (no_file self.old.plain tag ∷ too_long (length (file_at self.old.plain tag).text + n) ∷ []))) }
         ensures unchanged { self.new.plain ≡ self.old.plain }
         ensures room { OnOk result (n ≤ room_at self.new.rooms tag) }
         ensures others { LeaveRooms tag self.old.rooms self.new.rooms }
@@ -184,7 +184,7 @@ impl Files {
     /// The snarf buffer becomes a range of a file. Answers its length.
     pub fn snarf(&mut self, alloc: Global, tag: u16, p: u32, q: u32) -> Result<u32, FilesFault>
         ensures allowed { IfOk result (λ n. (first_of_checks (no_file self.old.plain tag ∷ no_range self.old.plain tag p q ∷ []) ≡ None) × (n ≡ q - p)) }
-        ensures refused { IfErr result (λ why. (why ≡ FilesFault.OutOfMemory) ⊎ (first_of_checks (no_file self.old.plain tag ∷ no_range self.old.plain tag p q ∷ []) ≡ Some why)) }
+        ensures refused { IfErr result (IsFault (first_of_checks (no_file self.old.plain tag ∷ no_range self.old.plain tag p q ∷ []))) }
         ensures done { OnOk result (self.new.plain ≡ record self.old.plain { snarf = part (file_at self.old.plain tag).text p q }) }
         ensures rooms { self.new.rooms ≡ self.old.rooms }
         ensures unchanged { OnErr result (self.new ≡ self.old) }
@@ -202,7 +202,7 @@ impl Files {
     /// The snarf buffer becomes these runes.
     pub fn set_snarf(&mut self, alloc: Global, runes: &[char]) -> Result<(), FilesFault>
         ensures allowed { OnOk result (length runes.now ≤ max_runes) }
-        ensures refused { IfErr result (λ why. (why ≡ FilesFault.OutOfMemory) ⊎ (first_of_checks (too_long (length runes.now) ∷ []) ≡ Some why)) }
+        ensures refused { IfErr result (IsFault (first_of_checks (too_long (length runes.now) ∷ []))) }
         ensures done { OnOk result (self.new.plain ≡ record self.old.plain { snarf = runes.now }) }
         ensures rooms { self.new.rooms ≡ self.old.rooms }
         ensures unchanged { OnErr result (self.new ≡ self.old) }
@@ -240,7 +240,7 @@ impl Files {
     ) -> Result<u16, FilesFault>
         requires { length name.now ≤ most_in_name }
         ensures allowed { OnOk result (first_of_checks (too_long (length text.now) ∷ no_tag self.old.plain ∷ []) ≡ None) }
-        ensures refused { IfErr result (λ why. (why ≡ FilesFault.OutOfMemory) ⊎ (first_of_checks (too_long (length text.now) ∷ no_tag self.old.plain ∷ []) ≡ Some why)) }
+        ensures refused { IfErr result (IsFault (first_of_checks (too_long (length text.now) ∷ no_tag self.old.plain ∷ []))) }
         ensures tag { IfOk result (λ tag. tag ≡ length self.old.plain.slots) }
         ensures done { OnOk result (self.new.plain ≡ with_new self.old.plain (record blank_file { name = name.now; text = text.now })) }
         ensures unchanged { OnErr result (self.new.plain ≡ self.old.plain) }
@@ -267,7 +267,7 @@ impl Files {
     pub fn add_file(&mut self, name: Runes, text: Text) -> Result<u16, FilesFault>
         requires { length name ≤ most_in_name }
         ensures allowed { OnOk result (first_of_checks (no_tag self.old.plain ∷ []) ≡ None) }
-        ensures refused { IfErr result (λ why. (why ≡ FilesFault.OutOfMemory) ⊎ (first_of_checks (no_tag self.old.plain ∷ []) ≡ Some why)) }
+        ensures refused { IfErr result (IsFault (first_of_checks (no_tag self.old.plain ∷ []))) }
         ensures tag { IfOk result (λ tag. tag ≡ length self.old.plain.slots) }
         ensures done { OnOk result (self.new.plain ≡ with_new self.old.plain (record blank_file { name = name; text = text.runes })) }
         ensures unchanged { OnErr result (self.new.plain ≡ self.old.plain) }
@@ -284,7 +284,7 @@ impl Files {
     /// Adds an empty file for the terminal under the next tag: clean, open, announced and with no name. Answers the tag.
     pub fn start_file(&mut self, alloc: Global) -> Result<u16, FilesFault>
         ensures allowed { OnOk result (first_of_checks (no_tag self.old.plain ∷ []) ≡ None) }
-        ensures refused { IfErr result (λ why. (why ≡ FilesFault.OutOfMemory) ⊎ (first_of_checks (no_tag self.old.plain ∷ []) ≡ Some why)) }
+        ensures refused { IfErr result (IsFault (first_of_checks (no_tag self.old.plain ∷ []))) }
         ensures tag { IfOk result (λ tag. tag ≡ length self.old.plain.slots) }
         ensures done { OnOk result (self.new.plain ≡ with_new self.old.plain new_file) }
         ensures unchanged { OnErr result (self.new.plain ≡ self.old.plain) }
@@ -308,7 +308,7 @@ impl Files {
         q: u32,
     ) -> Result<Option<(u32, u32)>, FilesFault>
         ensures allowed { OnOk result (first_of_checks (no_file self.old.plain tag ∷ no_range self.old.plain tag p q ∷ []) ≡ None) }
-        ensures refused { IfErr result (λ why. (why ≡ FilesFault.OutOfMemory) ⊎ (first_of_checks (no_file self.old.plain tag ∷ no_range self.old.plain tag p q ∷ []) ≡ Some why)) }
+        ensures refused { IfErr result (IsFault (first_of_checks (no_file self.old.plain tag ∷ no_range self.old.plain tag p q ∷ []))) }
         ensures found { IfOk result (λ found. found ≡ look_of (file_at self.old.plain tag).text (part (file_at self.old.plain tag).text p q) q) }
         ensures done { OnOk result (self.new.plain ≡ with_look self.old.plain tag (part (file_at self.old.plain tag).text p q) q) }
         ensures rooms { self.new.rooms ≡ self.old.rooms }
@@ -351,7 +351,7 @@ impl Files {
     /// file is dirty.
     pub fn paste(&mut self, tag: u16, p: u32) -> Result<(), FilesFault>
         ensures allowed { OnOk result (first_of_checks (no_file self.old.plain tag ∷ past_end self.old.plain tag p ∷ too_long (length (file_at self.old.plain tag).text + length self.old.plain.snarf) ∷ []) ≡ None) }
-        ensures refused { IfErr result (λ why. (why ≡ FilesFault.OutOfMemory) ⊎ (first_of_checks (no_file self.old.plain tag ∷ past_end self.old.plain tag p ∷ too_long (length (file_at self.old.plain tag).text + length self.old.plain.snarf) ∷ []) ≡ Some why)) }
+        ensures refused { IfErr result (IsFault (first_of_checks (no_file self.old.plain tag ∷ past_end self.old.plain tag p ∷ too_long (length (file_at self.old.plain tag).text + length self.old.plain.snarf) ∷ []))) }
         ensures done { OnOk result (self.new.plain ≡ put_file self.old.plain tag (pasted_file tag (file_at self.old.plain tag) p self.old.plain.snarf)) }
         ensures unchanged { OnErr result (self.new.plain ≡ self.old.plain) }
         ensures others { LeaveRooms tag self.old.rooms self.new.rooms }

@@ -1,0 +1,86 @@
+//! The program: its words name a mode, and the mode reads standard input and writes standard output.
+#![tactic(auto)]
+
+use sam_session::{ArgFault, PlayFault, mode_of, play, status_of};
+use std::alloc::AllocError;
+use std::env::Env;
+use std::io::{BufWriter, ErrorKind, Write};
+use std::process::ExitCode;
+use std::{env, io};
+
+/// What the program could not do.
+#[derive(Clone, Copy, Debug, PartialEq, Eq)]
+enum Fault {
+    /// Its words are wrong.
+    Arguments,
+    /// Want of memory before the mode was known.
+    Memory,
+    /// The mode stopped.
+    Play(PlayFault),
+}
+
+impl From<ArgFault> for Fault {
+    fn from(fault: ArgFault) -> Fault {
+        match fault {
+            ArgFault::Wrong => Fault::Arguments,
+            ArgFault::OutOfMemory => Fault::Memory,
+        }
+    }
+}
+
+impl From<AllocError> for Fault {
+    fn from(_error: AllocError) -> Fault {
+        Fault::Memory
+    }
+}
+
+impl From<PlayFault> for Fault {
+    fn from(fault: PlayFault) -> Fault {
+        Fault::Play(fault)
+    }
+}
+
+fn main(rt: HostRuntime) -> ExitCode {
+    match run(&rt) {
+        Ok(()) => ExitCode::SUCCESS,
+        Err(fault) => ExitCode::from(say(&rt, fault)),
+    }
+}
+
+/// Runs the mode that the words name, over standard input and output.
+fn run<R: Input + Print + Env + AllocGlobal>(rt: &R) -> Result<(), Fault> {
+    let alloc = rt.alloc();
+    let mode = mode_of(alloc, words(rt)?)?;
+    let mut reader = rt.reader();
+    let Ok(mut writer) = BufWriter::new(alloc, io::writer(rt)) else {
+        return Err(Fault::Memory);
+    };
+    let played = play(alloc, &mut reader, &mut writer, mode);
+    if writer.flush().is_err() {
+        return Err(Fault::Play(PlayFault::Write));
+    }
+    Ok(played?)
+}
+
+/// The program's words. Words that are not UTF-8 are wrong.
+fn words<R: Env + AllocGlobal>(rt: &R) -> Result<Vec<String>, Fault> {
+    match env::args(rt) {
+        Ok(words) => Ok(words.collect(rt.alloc())?),
+        Err(error) if error.kind() == ErrorKind::OutOfMemory => Err(Fault::Memory),
+        Err(_) => Err(Fault::Arguments),
+    }
+}
+
+/// The exit status of a fault. The line of a fault that the mode did not meet is printed here; where it cannot be, that is the
+/// status.
+fn say(rt: &impl Print, fault: Fault) -> u8 {
+    let (status, line) = match fault {
+        Fault::Arguments => (2, "= fault arguments"),
+        Fault::Memory => (4, "= fault memory"),
+        Fault::Play(fault) => return status_of(&Err(fault)),
+    };
+    match rt.println(line) {
+        Ok(()) => status,
+        Err(_) => status_of(&Err(PlayFault::Write)),
+    }
+}

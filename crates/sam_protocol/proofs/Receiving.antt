@@ -1,0 +1,274 @@
+-- The terminal takes each frame that comes, and both sides stay in order.
+use Rattle.std.proofs.Common.{◌≡◌, ◌≢◌, ℕ, ◌+◌, ◌-◌, ◌<◌, ◌≤◌, Bool, true, false, not, ◌&&◌, ◌==◌, if◌then◌else◌, nat_lt, nat_eq, List, [], ◌∷◌, ◌++◌, length, map, take, drop, replicate, Option, Some, None, ◌⊎◌, inl, inr, refl, sym, ap, ◌∙◌, subst, true≢false, eqb-true, append-nil, arith, length-append, length-drop, length-take-le}
+use Rattle.std.specs.Prelude.{unwrap_or, option_map}
+use Rattle.std.proofs.lemmas.List.{length-map}
+use Rattle.std.proofs.lemmas.Bool.{ltb-false}
+use Rattle.std.proofs.lemmas.Bool.Decides.{eqb_tells}
+use Rattle.sam_runes.specs.Slots.{Slots, slot, free_slot, map_slots}
+use Rattle.sam_runes.specs.Checks.{Checks, first_of_checks}
+use Rattle.sam_runes.proofs.SlotLaws.{slot-free_same, slot-free_other, slot-map}
+use Rattle.sam_runes.proofs.CheckLaws.{none_holds}
+use Rattle.sam_rasp.specs.Rasp.{PartialText, load_cells, place_after_ins, place_after_del}
+use Rattle.sam_mesg.specs.declared.tmesg.Tmesg.{Tmesg}
+use Rattle.sam_mesg.specs.declared.tmesg.Tmesg.TheVariants.{Tack}
+use Rattle.sam_mesg.specs.declared.hmesg.Hmesg.{Hmesg}
+use Rattle.sam_mesg.specs.declared.hmesg.Hmesg.TheVariants.{Hversion, Hbindname, Hcurrent, Hnewname, Hmovname, Hgrow, Hcheck, Hunlock, Hdata, Horigin, Hunlockfile, Hsetdot, Hgrowdata, Hmoveto, Hclean, Hdirty, Hcut, Hsetpat, Hdelname, Hclose, Hsetsnarf, Hsnarflen, Hack, Hexit}
+use Rattle.sam_host.specs.Host.{PlainHost}
+use Rattle.sam_term.specs.Term.{PlainTerminal, Made, blank_known, blank_window, known_at, window_at, unsent_message, moved_unsent, unsent_without, window_after_ins, window_after_del, free_window, freed_known, unchanged, sends, unknown_file, not_opened, past_end, no_room, frame_checks, made_from, requested, took_bindname, took_data, took_grow, took_growdata, took_cut, took_unlockfile, took_close, took_exit}
+use Rattle.sam_term.specs.declared.files.Window.{Window}
+use Rattle.sam_term.specs.declared.files.KnownFile.{KnownFile}
+use Rattle.sam_term.specs.declared.files.Unsent.{Unsent}
+use Rattle.sam_term.specs.declared.fault.TermFault.{TermFault}
+use Rattle.sam_term.specs.declared.fault.TermFault.TheVariants as fault
+use Rattle.sam_protocol.specs.Lens as lenses
+use Rattle.sam_protocol.specs.Lens.{Lens, lens, Action, IsFree, move, is_crossing, IsKept, HFile}
+use Rattle.sam_protocol.specs.Model.{action, only}
+use Rattle.sam_protocol.specs.Crossing.{OpenAt, Anything}
+use Rattle.sam_protocol.specs.View.{view, frame_of, effect, Moves}
+use Rattle.sam_protocol.specs.HostView.{file_in}
+use Rattle.sam_protocol.specs.Fold.{frames_at, Kept}
+use Rattle.sam_protocol.specs.Order.{IsTidyWindow, AreTidy, IsHeldBack, views, InOrder}
+use Rattle.sam_protocol.proofs.Runs.{free_or_refused, first_is_quiet, idle}
+use Rattle.sam_protocol.proofs.Kept.{alike_same}
+use Rattle.sam_protocol.proofs.Folds.{frame_moves, term_takes}
+use Rattle.sam_protocol.proofs.FrameMoves.{take_law}
+use Rattle.sam_protocol.proofs.Views.{tidy-put, tidy-window}
+use Rattle.sam_protocol.proofs.Dots.{tidy-ins, tidy-del}
+use Rattle.sam_protocol.proofs.Sending.{Goes, nothing_goes}
+use Rattle.sam_protocol.proofs.Acting.{requested_goes, acknowledged_goes}
+
+-- ## The unsent runes are left alone
+
+free_of : (v : Lens) → OpenAt Anything v → IsFree v
+free_of (lens c e n lenses.Unknown) o = absurd o
+free_of (lens c e n lenses.Known) o = absurd o
+free_of (lens c e n (lenses.Open r k)) o = subst (λ (x : Bool). IsFree (lens x e n (lenses.Open r k))) (sym o.0) (subst (λ (x : ℕ). IsFree (lens false e n (lenses.Open r x))) (sym o.1) tt)
+
+-- a frame that comes doesn't touch a free file
+quiet_frame : (a : Action) (s : List Action) (v : Lens) (d : Bool) (n : ℕ) (file : HFile) → IsKept (a ∷ s) v d n file → OpenAt Anything v → is_crossing a ≡ false
+quiet_frame a s v d n file k o = first_is_quiet a s v k.final (free_of v o) k.guarded k.runs
+
+-- and leaves it
+left_open : (a : Action) (s : List Action) (v v2 : Lens) (d : Bool) (n : ℕ) (file : HFile) → IsKept (a ∷ s) v d n file → OpenAt Anything v → move a v ≡ Some v2 → OpenAt Anything v2
+left_open a s v v2 d n file k o m =
+    let f = free_or_refused a v v2 (free_of v o) m in
+    let i = idle a v v2 v f.0 (quiet_frame a s v d n file k o) (alike_same v) m in
+    subst (OpenAt Anything) (sym i.0) o
+
+elsewhere : (b : Bool) (a : Action) → is_crossing a ≡ true → is_crossing (only b a) ≡ false → b ≡ false
+elsewhere true a c e = absurd (true≢false (sym c ∙ e))
+elsewhere false a c e = refl
+
+-- unsent runes of another file stay
+moved_other : (f : ℕ) (moved : ℕ → ℕ) (u : Unsent) → (u.file == f) ≡ false → moved_unsent f moved (Some u) ≡ Some u
+moved_other f moved u e = ap (λ (b : Bool). if b then Some (record u { place = moved u.place }) else Some u) e
+
+kept_other : (f : ℕ) (u : Unsent) → (u.file == f) ≡ false → unsent_without f (Some u) ≡ Some u
+kept_other f u e = ap (λ (b : Bool). if b then None else Some u) e
+
+unsent_stays : (t : PlainTerminal) (m : Hmesg) (u : Unsent) → t.unsent ≡ Some u → is_crossing (action u.file (frame_of m)) ≡ false → (effect t m).unsent ≡ Some u
+unfolding took_bindname took_data took_grow took_growdata took_cut took_unlockfile took_close took_exit
+unsent_stays t (Hversion v) u e q = e
+unsent_stays t (Hbindname f) u e q = e
+unsent_stays t (Hcurrent f) u e q = e
+unsent_stays t (Hnewname f) u e q = e
+unsent_stays t (Hmovname f s) u e q = e
+unsent_stays t (Hgrow f p n) u e q = ap (moved_unsent f (place_after_ins p (length (replicate n None)))) e ∙ moved_other f (place_after_ins p (length (replicate n None))) u (elsewhere (u.file == f) (lenses.Grow p n) refl q)
+unsent_stays t (Hcheck f) u e q = e
+unsent_stays t Hunlock u e q = e
+unsent_stays t (Hdata f p s) u e q = e
+unsent_stays t (Horigin f p) u e q = e
+unsent_stays t (Hunlockfile f) u e q = e
+unsent_stays t (Hsetdot f p r) u e q = e
+unsent_stays t (Hgrowdata f p s) u e q = ap (moved_unsent f (place_after_ins p (length (map Some s)))) e ∙ moved_other f (place_after_ins p (length (map Some s))) u (elsewhere (u.file == f) (lenses.Insert p s) refl q)
+unsent_stays t (Hmoveto f p) u e q = e
+unsent_stays t (Hclean f) u e q = e
+unsent_stays t (Hdirty f) u e q = e
+unsent_stays t (Hcut f p n) u e q = ap (moved_unsent f (place_after_del p (p + n))) e ∙ moved_other f (place_after_del p (p + n)) u (elsewhere (u.file == f) (lenses.Cut p n) refl q)
+unsent_stays t (Hsetpat s) u e q = e
+unsent_stays t (Hdelname f) u e q = e
+unsent_stays t (Hclose f) u e q = ap (unsent_without f) e ∙ kept_other f u (elsewhere (u.file == f) lenses.Close refl q)
+unsent_stays t (Hsetsnarf s) u e q = e
+unsent_stays t (Hsnarflen n) u e q = e
+unsent_stays t Hack u e q = e
+unsent_stays t Hexit u e q = e
+
+unsent_none : (t : PlainTerminal) (m : Hmesg) → t.unsent ≡ None → (effect t m).unsent ≡ None
+unfolding took_bindname took_data took_grow took_growdata took_cut took_unlockfile took_close took_exit
+unsent_none t (Hversion v) e = e
+unsent_none t (Hbindname f) e = e
+unsent_none t (Hcurrent f) e = e
+unsent_none t (Hnewname f) e = e
+unsent_none t (Hmovname f s) e = e
+unsent_none t (Hgrow f p n) e = ap (moved_unsent f (place_after_ins p (length (replicate n None)))) e
+unsent_none t (Hcheck f) e = e
+unsent_none t Hunlock e = e
+unsent_none t (Hdata f p s) e = e
+unsent_none t (Horigin f p) e = e
+unsent_none t (Hunlockfile f) e = e
+unsent_none t (Hsetdot f p r) e = e
+unsent_none t (Hgrowdata f p s) e = ap (moved_unsent f (place_after_ins p (length (map Some s)))) e
+unsent_none t (Hmoveto f p) e = e
+unsent_none t (Hclean f) e = e
+unsent_none t (Hdirty f) e = e
+unsent_none t (Hcut f p n) e = ap (moved_unsent f (place_after_del p (p + n))) e
+unsent_none t (Hsetpat s) e = e
+unsent_none t (Hdelname f) e = e
+unsent_none t (Hclose f) e = ap (unsent_without f) e
+unsent_none t (Hsetsnarf s) e = e
+unsent_none t (Hsnarflen n) e = e
+unsent_none t Hack e = e
+unsent_none t Hexit e = e
+
+-- ## Dots stay in their texts
+
+blank_tidy : IsTidyWindow blank_window
+blank_tidy = (omega arith, omega arith, omega arith)
+
+-- what stands behind the two tests that the file is open
+behind_open : (t : PlainTerminal) (f : ℕ) (rest : Checks TermFault) → first_of_checks (unknown_file t f ∷ not_opened t f ∷ rest) ≡ None → first_of_checks rest ≡ None
+behind_open t f rest e = (none_holds (not_opened t f) rest (none_holds (unknown_file t f) (not_opened t f ∷ rest) e).1).1
+
+place_of : (t : PlainTerminal) (f p : ℕ) (rest : Checks TermFault) → first_of_checks (past_end t f p ∷ rest) ≡ None → p ≤ length (window_at t f).rasp
+place_of t f p rest e = ltb-false _ p (none_holds (past_end t f p) rest e).0
+
+length-load : (r : PartialText) (p : ℕ) (s : List ℕ) → p + length s ≤ length r → length (load_cells r p s) ≡ length r
+length-load r p s l =
+    let lp : p ≤ length r = omega arith in
+    let n : length (map (λ (c : ℕ). Some c) s) ≡ length s = length-map s (λ (c : ℕ). Some c) in
+    omega (arith, n, l, length-append (take p r ++ map (λ (c : ℕ). Some c) s) (drop (p + length s) r), length-append (take p r) (map (λ (c : ℕ). Some c) s), length-take-le p r lp, length-drop (p + length s) r)
+
+tidy-free : (t : PlainTerminal) (f : ℕ) → AreTidy t → AreTidy (record t { files = free_slot t.files f })
+tidy-free t f all g = go (eqb_tells f g)
+  where
+    P : Option KnownFile → Type 0
+    P s = IsTidyWindow (unwrap_or (unwrap_or s blank_known).window blank_window)
+
+    go : ((nat_eq f g ≡ true) × (f ≡ g)) ⊎ ((nat_eq f g ≡ false) × (f ≢ g)) → P (slot (free_slot t.files f) g)
+    go (inl (e, same)) = subst (λ (k : ℕ). P (slot (free_slot t.files f) k)) same (subst P (sym (slot-free_same t.files f)) blank_tidy)
+    go (inr (e, other)) = subst P (sym (slot-free_other t.files f g other)) (all g)
+
+tidy-freed : (t : PlainTerminal) → AreTidy t → (g : ℕ) → IsTidyWindow (unwrap_or (unwrap_or (slot (map_slots freed_known t.files) g) blank_known).window blank_window)
+tidy-freed t all g = subst P (sym (slot-map freed_known t.files g)) (go (slot t.files g) (all g))
+  where
+    P : Option KnownFile → Type 0
+    P s = IsTidyWindow (unwrap_or (unwrap_or s blank_known).window blank_window)
+
+    at_window : (w : Option Window) → IsTidyWindow (unwrap_or w blank_window) → IsTidyWindow (unwrap_or (free_window w) blank_window)
+    at_window None i = i
+    at_window (Some w) i = i
+
+    go : (s : Option KnownFile) → P s → P (option_map freed_known s)
+    go None i = i
+    go (Some k) i = at_window k.window i
+
+tidy_effect : (t : PlainTerminal) (m : Hmesg) → first_of_checks (frame_checks t m) ≡ None → AreTidy t → AreTidy (effect t m)
+unfolding took_bindname took_data took_grow took_growdata took_cut took_unlockfile took_close took_exit
+tidy_effect t (Hversion v) e all = all
+tidy_effect t (Hbindname f) e all = tidy-window t f blank_window all blank_tidy
+tidy_effect t (Hcurrent f) e all = all
+tidy_effect t (Hnewname f) e all = tidy-put t f blank_known all blank_tidy
+tidy_effect t (Hmovname f s) e all = tidy-put t f (record (known_at t f) { name = s }) all (all f)
+tidy_effect t (Hgrow f p n) e all = tidy-window t f (window_after_ins (window_at t f) p (replicate n None)) all (tidy-ins (window_at t f) p (replicate n None) (all f) (place_of t f p (no_room t f n ∷ []) (behind_open t f (past_end t f p ∷ no_room t f n ∷ []) e)))
+tidy_effect t (Hcheck f) e all = all
+tidy_effect t Hunlock e all = all
+tidy_effect t (Hdata f p s) e all =
+    let w : Window = window_at t f in
+    let long : length (load_cells w.rasp p s) ≡ length w.rasp = length-load w.rasp p s (place_of t f (p + length s) [] (behind_open t f (past_end t f (p + length s) ∷ []) e)) in
+    tidy-window t f (record w { rasp = load_cells w.rasp p s; awaits = false }) all ((all f).0, omega (arith, (all f).1, long), omega (arith, (all f).2, long))
+tidy_effect t (Horigin f p) e all =
+    let l = place_of t f p [] (behind_open t f (past_end t f p ∷ []) e) in
+    tidy-window t f (record (window_at t f) { view_start = p }) all ((all f).0, (all f).1, l)
+tidy_effect t (Hunlockfile f) e all = tidy-window t f (record (window_at t f) { locks = (window_at t f).locks - 1 }) all (all f)
+tidy_effect t (Hsetdot f p q) e all =
+    let a = none_holds (nat_lt q p, fault.BadPosition) (past_end t f q ∷ []) (behind_open t f ((nat_lt q p, fault.BadPosition) ∷ past_end t f q ∷ []) e) in
+    tidy-window t f (record (window_at t f) { dot = (p, q) }) all (ltb-false q p a.0, place_of t f q [] a.1, (all f).2)
+tidy_effect t (Hgrowdata f p s) e all = tidy-window t f (window_after_ins (window_at t f) p (map Some s)) all (tidy-ins (window_at t f) p (map Some s) (all f) (place_of t f p (no_room t f (length s) ∷ []) (behind_open t f (past_end t f p ∷ no_room t f (length s) ∷ []) e)))
+tidy_effect t (Hmoveto f p) e all =
+    let l = place_of t f p [] (behind_open t f (past_end t f p ∷ []) e) in
+    tidy-window t f (record (window_at t f) { view_start = p }) all ((all f).0, (all f).1, l)
+tidy_effect t (Hclean f) e all = tidy-put t f (record (known_at t f) { dirty = false }) all (all f)
+tidy_effect t (Hdirty f) e all = tidy-put t f (record (known_at t f) { dirty = true }) all (all f)
+tidy_effect t (Hcut f p n) e all =
+    let l = place_of t f (p + n) [] (behind_open t f (past_end t f (p + n) ∷ []) e) in
+    tidy-window t f (window_after_del (window_at t f) p (p + n)) all (tidy-del (window_at t f) p (p + n) (all f) (omega arith) l)
+tidy_effect t (Hsetpat s) e all = all
+tidy_effect t (Hdelname f) e all = tidy-free t f all
+tidy_effect t (Hclose f) e all = tidy-put t f (record (known_at t f) { window = None }) all blank_tidy
+tidy_effect t (Hsetsnarf s) e all = all
+tidy_effect t (Hsnarflen n) e all = all
+tidy_effect t Hack e all = all
+tidy_effect t Hexit e all = tidy-freed t all
+
+-- ## A frame is taken
+
+-- before anything is composed for it
+effect_order : (h : PlainHost) (t : PlainTerminal) (up : List Tmesg) (m : Hmesg) (down : List Hmesg) → InOrder h t up (m ∷ down) → Moves t m → InOrder h (effect t m) up down
+effect_order h t up m down o v = by_unsent t.unsent refl
+  where
+    k : Kept h (views t) (up ++ unsent_message t.unsent) (m ∷ down)
+    k = o.kept
+
+    s : ℕ → List Action
+    s g = frames_at g (down ++ k.frames)
+
+    at : (g : ℕ) → IsKept (action g (frame_of m) ∷ s g) (view g t) k.ahead.is_done k.ahead.version (file_in k.ahead.files.slots g)
+    at g = k.each g
+
+    taken : Kept h (views (effect t m)) (up ++ unsent_message t.unsent) down
+    taken = term_takes h (views t) (views (effect t m)) (up ++ unsent_message t.unsent) m down k v.moves
+
+    made : (u : Option Unsent) → t.unsent ≡ u → (effect t m).unsent ≡ u → IsHeldBack (views (effect t m)) u → InOrder h (effect t m) up down
+    made u e e2 held = record {
+      kept = subst (λ (x : Option Unsent). Kept h (views (effect t m)) (up ++ unsent_message x) down) (e ∙ sym e2) taken;
+      tidy = tidy_effect t m v.passes o.tidy;
+      unsent = subst (IsHeldBack (views (effect t m))) (sym e2) held;
+    }
+
+    by_unsent : (u : Option Unsent) → t.unsent ≡ u → InOrder h (effect t m) up down
+    by_unsent None e = made None e (unsent_none t m e) tt
+    by_unsent (Some u) e =
+        let held : IsHeldBack (views t) (Some u) = subst (IsHeldBack (views t)) e o.unsent in
+        let quiet = quiet_frame (action u.file (frame_of m)) (s u.file) (view u.file t) _ _ _ (at u.file) held.1 in
+        let open2 = left_open (action u.file (frame_of m)) (s u.file) (view u.file t) (view u.file (effect t m)) _ _ _ (at u.file) held.1 (v.moves u.file) in
+        made (Some u) e (unsent_stays t m u e quiet) (held.0, open2)
+
+-- nothing stands against the frame, and what it makes follows
+pub record Received (h : PlainHost) (t : PlainTerminal) (up : List Tmesg) (m : Hmesg) (down : List Hmesg) : Type 0 where
+  pub passes : first_of_checks (frame_checks t m) ≡ None
+  pub goes : Goes h up down (made_from t m)
+
+made_goes : (h : PlainHost) (t : PlainTerminal) (up : List Tmesg) (m : Hmesg) (down : List Hmesg) → InOrder h (effect t m) up down → Goes h up down (made_from t m)
+made_goes h t up (Hversion v) down o = nothing_goes h (effect t (Hversion v)) up down o
+made_goes h t up (Hbindname f) down o = nothing_goes h (effect t (Hbindname f)) up down o
+made_goes h t up (Hcurrent f) down o = nothing_goes h (effect t (Hcurrent f)) up down o
+made_goes h t up (Hnewname f) down o = nothing_goes h (effect t (Hnewname f)) up down o
+made_goes h t up (Hmovname f s) down o = nothing_goes h (effect t (Hmovname f s)) up down o
+made_goes h t up (Hgrow f p n) down o = nothing_goes h (effect t (Hgrow f p n)) up down o
+made_goes h t up (Hcheck f) down o = requested_goes h t up down f o
+made_goes h t up Hunlock down o = nothing_goes h (effect t Hunlock) up down o
+made_goes h t up (Hdata f p s) down o = nothing_goes h (effect t (Hdata f p s)) up down o
+made_goes h t up (Horigin f p) down o = nothing_goes h (effect t (Horigin f p)) up down o
+made_goes h t up (Hunlockfile f) down o = requested_goes h (took_unlockfile t f) up down f o
+made_goes h t up (Hsetdot f p q) down o = nothing_goes h (effect t (Hsetdot f p q)) up down o
+made_goes h t up (Hgrowdata f p s) down o = nothing_goes h (effect t (Hgrowdata f p s)) up down o
+made_goes h t up (Hmoveto f p) down o = nothing_goes h (effect t (Hmoveto f p)) up down o
+made_goes h t up (Hclean f) down o = nothing_goes h (effect t (Hclean f)) up down o
+made_goes h t up (Hdirty f) down o = nothing_goes h (effect t (Hdirty f)) up down o
+made_goes h t up (Hcut f p n) down o = nothing_goes h (effect t (Hcut f p n)) up down o
+made_goes h t up (Hsetpat s) down o = nothing_goes h (effect t (Hsetpat s)) up down o
+made_goes h t up (Hdelname f) down o = nothing_goes h (effect t (Hdelname f)) up down o
+made_goes h t up (Hclose f) down o = nothing_goes h (effect t (Hclose f)) up down o
+made_goes h t up (Hsetsnarf s) down o = nothing_goes h (effect t (Hsetsnarf s)) up down o
+made_goes h t up (Hsnarflen n) down o = nothing_goes h (effect t (Hsnarflen n)) up down o
+made_goes h t up Hack down o = go t.has_exited
+  where
+    go : (b : Bool) → Goes h up down (if b then (t, []) else sends t unchanged (Tack ∷ []))
+    go true = nothing_goes h t up down o
+    go false = acknowledged_goes h t up down o
+made_goes h t up Hexit down o = nothing_goes h (effect t Hexit) up down o
+
+pub received : (h : PlainHost) (t : PlainTerminal) (up : List Tmesg) (m : Hmesg) (down : List Hmesg) → InOrder h t up (m ∷ down) → Received h t up m down
+received h t up m down o =
+    let v : Moves t m = take_law t m (frame_moves h (views t) (up ++ unsent_message t.unsent) m down o.kept) in
+    record { passes = v.passes; goes = made_goes h t up m down (effect_order h t up m down o v) }

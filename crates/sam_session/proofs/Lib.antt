@@ -1,0 +1,3 @@
+pub mod Serving
+pub mod Playing
+pub mod Unique

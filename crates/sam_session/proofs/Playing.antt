@@ -1,0 +1,221 @@
+-- Where the program stands between two pieces.
+use Rattle.std.proofs.Common.{◌≡◌, ◌∙◌, ℕ, ◌+◌, ◌-◌, ◌^◌, ◌<◌, ◌≤◌, List, [], ◌∷◌, ◌++◌, length, codes, Option, None, Some, IfSome, IfErr, OnOk, Result, Ok, Err, refl, sym, ap, subst, append-nil, length-append, arith}
+use Rattle.std.specs.Io.KnownBytes.{Appends, Consumes, IsAtEnd}
+use Rattle.std.proofs.KnownBytes.{Appends-nil, Appends-trans, Consumes-nil, Consumes-trans, Consumes-whole}
+use Rattle.sam_runes.specs.Texts.{max_runes}
+use Rattle.sam_mesg.specs.declared.tmesg.Tmesg.{Tmesg}
+use Rattle.sam_mesg.specs.declared.fault.MesgFault.{MesgFault}
+use Rattle.sam_frame.specs.Direction.{terminal}
+use Rattle.sam_frame.specs.Stream.{Splits, Shows, version_after, stream_of}
+use Rattle.sam_frame.specs.Framing.{Held, HasRoom, GaveAll, GaveUp, fresh}
+use Rattle.sam_frame.proofs.Fronts.{version_after-append}
+use Rattle.sam_frame.proofs.Cuttings.{Came, Splits-longer, Shows-longer, splits_more, comes_more}
+use Rattle.sam_host.specs.Host.{PlainHost}
+use Rattle.sam_host.specs.Laws.{IsSound}
+use Rattle.sam_host.specs.declared.fault.HostFault.{HostFault}
+use Rattle.sam_host.proofs.SoundLaws.{starts_sound}
+use Rattle.sam_session.specs.Start.{host_of}
+use Rattle.sam_session.specs.Serving.{Served, serve}
+use Rattle.sam_session.specs.Outcome.{refusal_number, frame_number, Stops, stop_at, Plays, Written, OnSide}
+use Rattle.sam_session.specs.Pieces.{Answers, Refuses, AnswersBefore, HaltsBefore, Halts, MayEnd, PieceAnswers, PieceStops}
+use Rattle.sam_session.specs.declared.fault.Stop.{Stop}
+use Rattle.sam_session.specs.declared.fault.Stop.TheVariants.{Frame, Host}
+use Rattle.sam_session.specs.declared.fault.PlayFault.{PlayFault}
+use Rattle.sam_session.specs.declared.fault.PlayFault.TheVariants.{Script, Read, Write, Side, Threads, OutOfMemory}
+use Rattle.sam_session.proofs.Serving.{serve-append, serve-sound}
+
+-- what was read are the messages that a host, h0 at first, answered, and what the framer holds
+pub record Progress (h0 : PlainHost) (first now before after : Option (List ℕ)) (k : Held) (h : PlainHost) (left : ℕ) : Type 0 where
+  pub got : List ℕ
+  pub messages : List Tmesg
+  pub read : Consumes first now got
+  pub count : length got + left ≡ 16777216
+  pub came : Came terminal fresh got messages k
+  pub start : IsSound h0
+  pub state : (serve h0 messages).end ≡ Ok h
+  pub wrote : Appends before after (serve h0 messages).written
+
+pub host_sound : (h0 : PlainHost) (first now before after : Option (List ℕ)) (k : Held) (h : PlainHost) (left : ℕ) → Progress h0 first now before after k h left → IsSound h
+host_sound h0 first now before after k h left p = serve-sound h0 h p.messages p.start p.state
+
+-- a piece can be counted
+pub has_room : (h0 : PlainHost) (piece : List ℕ) (first now before after : Option (List ℕ)) (k : Held) (h : PlainHost) (left : ℕ) → Progress h0 first now before after k h left → length piece ≤ 4096 → HasRoom k piece
+has_room h0 piece first now before after k h left p most =
+    let whole : length p.got ≡ length (stream_of terminal p.messages) + length k.bytes = ap length p.came.splits.whole ∙ length-append (stream_of terminal p.messages) k.bytes in
+    let place : k.offset ≡ 0 + length (stream_of terminal p.messages) = p.came.offset_is in
+    omega (arith, whole, place, p.count, most)
+
+-- the first host is sound
+pub first_sound : (text : List ℕ) → length text ≤ max_runes → IsSound (host_of text)
+unfolding host_of
+first_sound text most = let short : 4 ≤ 64 = omega arith in starts_sound ((codes "file", text) ∷ []) (short, most, tt)
+
+-- nothing was read
+pub begins : (h0 : PlainHost) (first before : Option (List ℕ)) (k : Held) → IsSound h0 → k ≡ fresh → Progress h0 first first before before k h0 16777216
+begins h0 first before k sound empty = record {
+  got = [];
+  messages = [];
+  read = Consumes-nil first;
+  count = refl;
+  came = subst (λ (e : Held). Came terminal fresh [] [] e) (sym empty) (record { splits = record { whole = refl; fit = tt }; opened = tt; version_is = refl; offset_is = refl; sound = refl });
+  start = sound;
+  state = refl;
+  wrote = Appends-nil before;
+}
+
+module _ {W : Type 0} (contents : W → Option (List ℕ)) where
+  -- one more piece was read and answered
+  pub goes_on : (h0 : PlainHost) (piece : List ℕ) (first now later before : Option (List ℕ)) (w x : W) (k e : Held) (h g : PlainHost) (left count : ℕ)
+      → Progress h0 first now before (contents w) k h left → Consumes now later piece → length piece ≡ count → count ≤ left
+      → PieceAnswers contents h g w x k e piece → Progress h0 first later before (contents x) e g (left - count)
+  goes_on h0 piece first now later before w x k e h g left count p reads size most (ms, gave, (end, wrote)) =
+      let more = serve-append h0 h p.messages ms p.state in
+      record {
+        got = p.got ++ piece;
+        messages = p.messages ++ ms;
+        read = Consumes-trans first now later p.got piece p.read reads;
+        count = simp length-append (omega (arith, p.count));
+        came = comes_more terminal fresh p.got p.messages k piece ms e p.came gave;
+        start = p.start;
+        state = ap (λ (s : Served). s.end) more ∙ end;
+        wrote = subst (λ (s : Served). Appends before (contents x) s.written) (sym more) (Appends-trans before (contents w) (contents x) _ _ p.wrote wrote);
+      }
+
+-- known bytes were consumed, and more may be left
+known : (first now : Option (List ℕ)) (got : List ℕ) (P : List ℕ → Type 0) → Consumes first now got → ((more : List ℕ) → P (got ++ more)) → IfSome first P
+known None now got P read all = tt
+known (Some input) None got P read all = absurd read
+known (Some input) (Some more) got P read all = subst P (sym read) (all more)
+
+-- what halts the program halts it whatever comes behind
+halted : (end : Result PlainHost HostFault) (version : ℕ) (rest unread : List ℕ) (s : Stop) → Halts end version rest s → Stops end version (rest ++ unread) (Some s)
+halted (Err why) version rest unread s is = ap Some is
+halted (Ok h) version rest unread s (fault, shows, is) = (Some fault, Shows-longer terminal version rest unread fault shows, ap Some is)
+
+module _ {W : Type 0} (contents : W → Option (List ℕ)) where
+  -- one more piece was read, and stopped the program
+  pub stops : (h0 : PlainHost) (piece : List ℕ) (first now later before : Option (List ℕ)) (w x : W) (k : Held) (h : PlainHost) (left : ℕ) (s : Stop)
+      → Progress h0 first now before (contents w) k h left → Consumes now later piece → PieceStops contents h w x k piece s
+      → Written first before (contents x) (λ input written. Plays h0 input written (Some s))
+  stops h0 piece first now later before w x k h left s p reads (ms, rest, splits, halts, wrote) =
+      let more = serve-append h0 h p.messages ms p.state in
+      let end : (serve h ms).end ≡ (serve h0 (p.messages ++ ms)).end = sym (ap (λ (y : Served). y.end) more) in
+      let version : version_after terminal k.version ms ≡ version_after terminal 1 (p.messages ++ ms) =
+      ap (λ v. version_after terminal v ms) p.came.version_is ∙ sym (version_after-append terminal 1 p.messages ms) in
+      let whole = splits_more terminal fresh p.got p.messages k piece ms rest p.came splits in
+      known first later (p.got ++ piece) (λ input. (written : List ℕ) × Appends before (contents x) written × Plays h0 input written (Some s))
+      (Consumes-trans first now later p.got piece p.read reads)
+      (λ unread. (
+        (serve h0 (p.messages ++ ms)).written,
+        subst (λ (y : Served). Appends before (contents x) y.written) (sym more) (Appends-trans before (contents w) (contents x) _ _ p.wrote wrote),
+        record {
+          messages = p.messages ++ ms;
+          rest = rest ++ unread;
+          splits = Splits-longer terminal 1 (p.got ++ piece) (p.messages ++ ms) rest unread whole;
+          output = refl;
+          stops =
+              subst (λ r. Stops r (version_after terminal 1 (p.messages ++ ms)) (rest ++ unread) (Some s)) end
+              (subst (λ v. Stops (serve h ms).end v (rest ++ unread) (Some s)) version (halted (serve h ms).end (version_after terminal k.version ms) rest unread s halts));
+        },
+      ))
+
+-- the input is read to its end
+pub ends_with : (h0 : PlainHost) (first now later before after : Option (List ℕ)) (k : Held) (h : PlainHost) (left : ℕ) (nothing : List ℕ) (s : Option Stop)
+    → Progress h0 first now before after k h left → Consumes now later nothing → nothing ≡ [] → IsAtEnd later → s ≡ stop_at None k.bytes
+    → Written first before after (λ input written. (length input ≤ 16777216) × Plays h0 input written s)
+ends_with h0 first now later before after k h left nothing s p reads none at_end stopped =
+    let all = Consumes-trans first now later p.got nothing p.read reads in
+    let bytes : p.got ++ nothing ≡ p.got = ap (λ b. p.got ++ b) none ∙ append-nil p.got in
+    let opened = subst (λ v. Stops (Ok h) v k.bytes s) p.came.version_is (None, p.came.opened, stopped) in
+    Consumes-whole first later (p.got ++ nothing) (λ input. (written : List ℕ) × Appends before after written × ((length input ≤ 16777216) × Plays h0 input written s)) all at_end (
+      (serve h0 p.messages).written,
+      p.wrote,
+      (
+        rw bytes (omega (arith, p.count)),
+        record {
+          messages = p.messages;
+          rest = k.bytes;
+          splits = rw bytes p.came.splits;
+          output = refl;
+          stops = subst (λ r. Stops r (version_after terminal 1 p.messages) k.bytes s) (sym p.state) opened;
+        },
+      ),
+    )
+
+-- ---- the end of the input
+
+stop_empty : (rest : List ℕ) → rest ≡ [] → None ≡ stop_at None rest
+stop_empty [] e = refl
+stop_empty (byte ∷ rest) e = absurd (cc)
+
+stop_half : (rest : List ℕ) → (rest ≡ [] → ⊥) → Some (Frame 4) ≡ stop_at None rest
+stop_half [] some = absurd (some refl)
+stop_half (byte ∷ rest) some = refl
+
+only_plays : (input before after : Option (List ℕ)) (h0 : PlainHost) (s : Option Stop) → Written input before after (λ i w. (length i ≤ 16777216) × Plays h0 i w s) → Written input before after (λ i w. Plays h0 i w s)
+only_plays None before after h0 s w = tt
+only_plays (Some i) before after h0 s w = (w.0, w.1, w.2.1)
+
+-- what the program answers there
+pub ends_ok : (h0 : PlainHost) (first now later before after : Option (List ℕ)) (k : Held) (h : PlainHost) (left : ℕ) (nothing : List ℕ) (r : Result (Unit {0}) PlayFault)
+    → Progress h0 first now before after k h left → Consumes now later nothing → nothing ≡ [] → IsAtEnd later → MayEnd k r
+    → OnOk r (Written first before after (λ input written. (length input ≤ 16777216) × Plays h0 input written None))
+ends_ok h0 first now later before after k h left nothing (Ok done) p reads none at_end may = ends_with h0 first now later before after k h left nothing None p reads none at_end (stop_empty k.bytes may)
+ends_ok h0 first now later before after k h left nothing (Err e) p reads none at_end may = tt
+
+pub ends_side : (h0 : PlainHost) (first now later before after : Option (List ℕ)) (k : Held) (h : PlainHost) (left : ℕ) (nothing : List ℕ) (r : Result (Unit {0}) PlayFault)
+    → Progress h0 first now before after k h left → Consumes now later nothing → nothing ≡ [] → IsAtEnd later → MayEnd k r
+    → IfErr r (λ e. OnSide e (λ stop. Written first before after (λ input written. Plays h0 input written (Some stop))))
+ends_side h0 first now later before after k h left nothing (Ok done) p reads none at_end may = tt
+ends_side h0 first now later before after k h left nothing (Err e) p reads none at_end may =
+    subst (λ f. OnSide f (λ stop. Written first before after (λ input written. Plays h0 input written (Some stop)))) (sym may.0)
+    (only_plays first before after h0 (Some (Frame 4)) (ends_with h0 first now later before after k h left nothing (Some (Frame 4)) p reads none at_end (stop_half k.bytes may.1)))
+
+-- ---- the faults of a side
+
+pub on_side : (e : PlayFault) (P Q : Stop → Type 0) → ((s : Stop) → P s → Q s) → OnSide e P → OnSide e Q
+on_side (Side s) P Q f h = f s h
+on_side (Script line) P Q f h = tt
+on_side Read P Q f h = tt
+on_side Write P Q f h = tt
+on_side Threads P Q f h = tt
+on_side OutOfMemory P Q f h = tt
+
+-- messages that came whole were answered up to a refusal
+halts_at : (end : Result PlainHost HostFault) (why : HostFault) (version : ℕ) (rest : List ℕ) (s : Stop) → s ≡ Host (refusal_number why) → end ≡ Err why → Halts end version rest s
+halts_at (Ok h) why version rest s is e = absurd (cc)
+halts_at (Err who) why version rest s is e = let same : who ≡ why = cc in is ∙ ap (λ w. Host (refusal_number w)) (sym same)
+
+pub refused : {W : Type 0} (contents : W → Option (List ℕ)) (h : PlainHost) (w x : W) (k e : Held) (piece : List ℕ) (ms : List Tmesg) (f : PlayFault)
+    → GaveAll terminal k piece ms e → OnSide f (Refuses contents h w x ms) → OnSide f (PieceStops contents h w x k piece)
+refused contents h w x k e piece ms f all = on_side f (Refuses contents h w x ms) (PieceStops contents h w x k piece) (λ s (why, is, end, wrote). (
+  ms,
+  e.bytes,
+  all.gave.splits,
+  halts_at (serve h ms).end why (version_after terminal k.version ms) e.bytes s is end,
+  wrote,
+))
+
+-- messages were answered before a fault
+halts_behind : (end : Result PlainHost HostFault) (version : ℕ) (rest : List ℕ) (fault : MesgFault) (s : Stop) → Shows terminal version rest fault → HaltsBefore end (frame_number fault) s → Halts end version rest s
+halts_behind (Ok h) version rest fault s shows is = (fault, shows, is)
+halts_behind (Err why) version rest fault s shows is = is
+
+pub given_up : {W : Type 0} (contents : W → Option (List ℕ)) (h : PlainHost) (w x : W) (k e : Held) (piece : List ℕ) (ms : List Tmesg) (place : ℕ) (fault : MesgFault) (f : PlayFault)
+    → GaveUp terminal k piece ms place fault e → OnSide f (AnswersBefore contents h w x ms (frame_number fault)) → OnSide f (PieceStops contents h w x k piece)
+given_up contents h w x k e piece ms place fault f up = on_side f (AnswersBefore contents h w x ms (frame_number fault)) (PieceStops contents h w x k piece) (λ s (halts, wrote). (
+  ms,
+  e.bytes,
+  up.gave.splits,
+  halts_behind (serve h ms).end (version_after terminal k.version ms) e.bytes fault s (subst (λ v. Shows terminal v e.bytes fault) up.gave.version_is up.shows) halts,
+  wrote,
+))
+
+-- behind messages that were all answered, and behind a refusal
+pub all_before : {W : Type 0} (contents : W → Option (List ℕ)) (h g : PlainHost) (w x : W) (ms : List Tmesg) (number : ℕ) → Answers contents h g w x ms → AnswersBefore contents h w x ms number (Frame number)
+all_before contents h g w x ms number (end, wrote) = (subst (λ r. HaltsBefore r number (Frame number)) (sym end) refl, wrote)
+
+pub refused_before : {W : Type 0} (contents : W → Option (List ℕ)) (h : PlainHost) (w x : W) (ms : List Tmesg) (number : ℕ) (f : PlayFault)
+    → OnSide f (Refuses contents h w x ms) → OnSide f (AnswersBefore contents h w x ms number)
+refused_before contents h w x ms number f = on_side f (Refuses contents h w x ms) (AnswersBefore contents h w x ms number)
+    (λ s (why, is, end, wrote). (subst (λ r. HaltsBefore r number s) (sym end) is, wrote))

@@ -1,0 +1,87 @@
+-- What a host answers to messages in turn.
+use Rattle.std.proofs.Common.{◌≡◌, ◌∙◌, ℕ, ◌≤◌, List, [], ◌∷◌, ◌++◌, length, Bool, true, false, cond, leb, nat_eq, Option, Result, Ok, Err, refl, sym, ap, subst, flat_map, append_assoc, arith}
+use Rattle.std.specs.Str.{encode_utf8_all}
+use Rattle.std.specs.List.{All}
+use Rattle.std.specs.Io.KnownBytes.{Appends}
+use Rattle.std.proofs.KnownBytes.{Appends-trans}
+use Rattle.std.proofs.lemmas.Bool.{leb-true, le-leb}
+use Rattle.std.proofs.lemmas.List.Elements.{All-nil, All-cons}
+use Rattle.sam_mesg.specs.declared.tmesg.Tmesg.{Tmesg}
+use Rattle.sam_mesg.specs.declared.tmesg.Tmesg.TheVariants.{Tsetsnarf}
+use Rattle.sam_mesg.specs.declared.hmesg.HFrame.{HFrame}
+use Rattle.sam_mesg.specs.TerminalKinds.{fits_t, FitsT}
+use Rattle.sam_mesg.specs.HostKinds.{fits_h, frame_h}
+use Rattle.sam_frame.specs.Direction.{terminal}
+use Rattle.sam_frame.specs.Stream.{FitInTurn}
+use Rattle.sam_host.specs.Host.{PlainHost, Answer, answer}
+use Rattle.sam_host.specs.Laws.{IsSound, FitInPlace, version_after}
+use Rattle.sam_host.proofs.SoundLaws.{stays_sound, frames_fit}
+use Rattle.sam_host.specs.declared.fault.HostFault.{HostFault}
+use Rattle.sam_session.specs.Serving.{Served, served_on, serve, behind}
+use Rattle.sam_session.specs.Pieces.{AllFit, FramesFit}
+
+-- ---- what fits at its place fits in version 2
+
+longer : (is_first : Bool) (n : ℕ) → leb n (cond is_first 4096 32000) ≡ true → leb n 32000 ≡ true
+longer true n e = le-leb n 32000 (omega (arith, leb-true n 4096 e))
+longer false n e = e
+
+grows : (version : ℕ) (m : Tmesg) → fits_t version m ≡ true → fits_t 2 m ≡ true
+grows version (Tsetsnarf s) e = longer (nat_eq version 1) (length (encode_utf8_all s)) e
+grows version m e = e
+
+pub all_fit : (version : ℕ) (ms : List Tmesg) → FitInTurn terminal version ms → AllFit ms
+all_fit version [] fit = All-nil (FitsT 2)
+all_fit version (m ∷ ms) fit =
+    All-cons (FitsT 2) m ms (record { is_message = fit.0.is_message; fits = grows version m fit.0.fits }) (all_fit (terminal.after version m) ms fit.1)
+
+frames_in_place : (version : ℕ) (frames : List HFrame) → FitInPlace version frames → FramesFit frames
+frames_in_place version [] fit = All-nil (λ (f : HFrame). fits_h 2 f.msg ≡ true)
+frames_in_place version (f ∷ frames) fit = All-cons (λ (g : HFrame). fits_h 2 g.msg ≡ true) f frames fit.1 (frames_in_place (version_after version f.msg) frames fit.2)
+
+pub answered_fit : (h g : PlainHost) (m : Tmesg) (frames : List HFrame) → answer h m ≡ Ok (g, frames) → IsSound h → FramesFit frames
+answered_fit h g m frames is sound = frames_in_place h.version frames (frames_fit h g m frames is sound)
+
+-- ---- one message after another
+
+behind-twice : (w x : List ℕ) (s : Served) → behind w (behind x s) ≡ behind (w ++ x) s
+behind-twice w x s = ap (λ written. let r : Served = record { written = written; end = s.end } in r) (sym (append_assoc w x s.written))
+
+-- a host that answered the first messages goes on to the others
+pub serve-append : (h g : PlainHost) (ms ns : List Tmesg) → (serve h ms).end ≡ Ok g → serve h (ms ++ ns) ≡ behind (serve h ms).written (serve g ns)
+serve-append h g [] ns is = let same : h ≡ g = cc in ap (λ d. serve d ns) same
+serve-append h g (m ∷ ms) ns is = go (λ d e. serve-append d g ms ns e) (answer h m) is
+  where
+    go : ((d : PlainHost) → (serve d ms).end ≡ Ok g → serve d (ms ++ ns) ≡ behind (serve d ms).written (serve g ns)) → (r : Answer) → (served_on r (λ d. serve d ms)).end ≡ Ok g
+        → served_on r (λ d. serve d (ms ++ ns)) ≡ behind (served_on r (λ d. serve d ms)).written (serve g ns)
+    go then (Err why) e = absurd (cc)
+    go then (Ok p) e = ap (behind (flat_map frame_h p.1)) (then p.0 e) ∙ behind-twice (flat_map frame_h p.1) (serve p.0 ms).written (serve g ns)
+
+-- behind a refusal nothing is answered
+pub serve-refused : (h : PlainHost) (why : HostFault) (ms ns : List Tmesg) → (serve h ms).end ≡ Err why → serve h (ms ++ ns) ≡ serve h ms
+serve-refused h why [] ns is = absurd (cc)
+serve-refused h why (m ∷ ms) ns is = go (λ d e. serve-refused d why ms ns e) (answer h m) is
+  where
+    go : ((d : PlainHost) → (serve d ms).end ≡ Err why → serve d (ms ++ ns) ≡ serve d ms) → (r : Answer) → (served_on r (λ d. serve d ms)).end ≡ Err why → served_on r (λ d. serve d (ms ++ ns)) ≡ served_on r (λ d. serve d ms)
+    go then (Err k) e = refl
+    go then (Ok p) e = ap (behind (flat_map frame_h p.1)) (then p.0 e)
+
+-- a host stays sound
+pub serve-sound : (h g : PlainHost) (ms : List Tmesg) → IsSound h → (serve h ms).end ≡ Ok g → IsSound g
+serve-sound h g [] sound is = let same : h ≡ g = cc in subst IsSound same sound
+serve-sound h g (m ∷ ms) sound is = go (λ d s e. serve-sound d g ms s e) (answer h m) refl is
+  where
+    go : ((d : PlainHost) → IsSound d → (serve d ms).end ≡ Ok g → IsSound g) → (r : Answer) → answer h m ≡ r → (served_on r (λ d. serve d ms)).end ≡ Ok g → IsSound g
+    go then (Err why) was e = absurd (cc)
+    go then (Ok p) was e = then p.0 (stays_sound h p.0 m p.1 was sound) e
+
+-- one more message was answered
+pub served_more : (before mid after : Option (List ℕ)) (w : List ℕ) (all : Served) (h g : PlainHost) (m : Tmesg) (rest left : List Tmesg) (out sent : List HFrame) → left ≡ m ∷ rest → sent ≡ out
+    → Appends before mid w → all ≡ behind w (serve h left) → answer h m ≡ Ok (g, out) → Appends mid after (flat_map frame_h sent)
+    → (x : List ℕ) × Appends before after x × (all ≡ behind x (serve g rest))
+served_more before mid after w all h g m rest left out sent is same wrote so_far answered writes = (
+  w ++ flat_map frame_h out,
+  Appends-trans before mid after w (flat_map frame_h out) wrote (subst (λ ms. Appends mid after (flat_map frame_h ms)) same writes),
+  so_far ∙ ap (λ ms. behind w (serve h ms)) is ∙ ap (λ r. behind w (served_on r (λ d. serve d rest))) answered
+      ∙ behind-twice w (flat_map frame_h out) (serve g rest),
+)

@@ -1,0 +1,31 @@
+use Rattle.std.proofs.Common.{◌≡◌, [], length, take, ap, arith, length-take}
+use Rattle.std.proofs.lemmas.Result.{err_from_is_err_and}
+use Rattle.sam_session.proofs.Playing.{goes_on, host_sound, ends_side, on_side, stops}
+use Rattle.sam_session.proofs.bytes.answer_input.Goals as goal
+
+pub returns-then-count-eq0-clause-side : goal.returns-then-count-eq0-clause-side
+returns-then-count-eq0-clause-side g c =
+    let bytes = c.in_ok-count.ensures.bytes in
+    let none : take c.in_ok-count.count c.read_piece.new.buffer ≡ [] = ap (λ n. take n c.read_piece.new.buffer) c.if-count-eq0.true in
+    ends_side _ _ _ _ _ _ _ _ _ _ _ c.loop-left.invariant bytes.0 none (bytes.1 c.if-count-eq0.true) c.end_of.ensures
+
+pub answer_piece-requires-clause-host : goal.answer_piece-requires-clause-host
+answer_piece-requires-clause-host g c = host_sound _ _ _ _ _ _ _ _ c.loop-left.invariant
+
+pub loop-left-preserved : goal.loop-left-preserved
+loop-left-preserved g c =
+    let long = c.read_piece.array_long in
+    let size : length (take c.in_ok-count.count c.read_piece.new.buffer) ≡ c.in_ok-count.count = simp length-take (omega (arith, long, c.in_ok-count.ensures.count.1)) in
+    goes_on g.W.Write.contents _ _ _ _ _ _ _ _ _ _ _ _ _ _ c.loop-left.invariant c.in_ok-count.ensures.bytes.0 size c.in_ok-count.ensures.count.0 c.in_ok-answer_piece.ensures.ok
+
+pub returns-in_err-answer_piece-clause-side : goal.returns-in_err-answer_piece-clause-side
+returns-in_err-answer_piece-clause-side g c =
+    let p = err_from_is_err_and c.from_residual-in_err-answer_piece.result c.from_residual-in_err-answer_piece.ensures.1 in
+    rw (p.1, p.2) (on_side _ _ _ (λ s h. stops g.W.Write.contents _ _ _ _ _ _ _ _ _ _ _ s c.loop-left.invariant c.in_ok-count.ensures.bytes.0 h) c.in_err-answer_piece.ensures.side)
+
+pub returns-clause-side : goal.returns-clause-side
+returns-clause-side g c =
+    let bytes = c.in_ok-read_piece.ensures.bytes in
+    let zero : c.in_ok-read_piece.field-0 ≡ 0 = omega (arith, c.if-branch-gt0.false) in
+    let none : take c.in_ok-read_piece.field-0 c.read_piece-2.new.buffer ≡ [] = ap (λ n. take n c.read_piece-2.new.buffer) zero in
+    ends_side _ _ _ _ _ _ _ _ _ _ _ c.loop-left.invariant bytes.0 none (bytes.1 zero) c.end_of-2.ensures

@@ -1,0 +1,6 @@
+pub mod Start
+pub mod Serving
+pub mod Outcome
+pub mod Pieces
+pub mod Status
+pub mod Words

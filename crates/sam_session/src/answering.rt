@@ -1,0 +1,80 @@
+//! Messages answered by the host, and the answers written.
+
+ghost use Rattle.std.specs.Prelude.{◌≡◌, ◌++◌, IfOk, IfErr, OnOk, flat_map};
+ghost use Rattle.std.specs.Io.KnownBytes.{Appends};
+ghost use Rattle.sam_mesg.specs.HostKinds.{frame_h};
+ghost use Rattle.sam_host.specs.Laws.{IsSound};
+ghost use Rattle.sam_session.specs.Outcome.{OnSide, IsOfBytes};
+ghost use Rattle.sam_session.specs.Pieces.{AllFit, FramesFit, Answers, Refuses, of_refusal};
+
+use crate::fault::{PlayFault, Stop};
+use sam_host::fault::HostFault;
+use sam_host::host::Host;
+use sam_mesg::{HFrame, MesgFault, Tmesg, encode_h};
+use std::alloc::Global;
+use std::io::Write;
+
+/// Answers messages in turn, up to the first that is refused.
+pub(crate) fn answer_all<W: Write>(
+    alloc: Global,
+    host: &mut Host,
+    writer: &mut W,
+    messages: Vec<Tmesg>,
+) -> Result<(), PlayFault>
+    requires fit { AllFit messages.items }
+    requires host { IsSound host.old }
+    ensures ok { OnOk result (Answers W.contents host.old host.new writer.old writer.new messages.items) }
+    ensures side { IfErr result (λ e. OnSide e (λ stop.
+        Refuses W.contents host.old writer.old writer.new messages.items stop)) }
+    ensures fault { IfErr result IsOfBytes }
+{
+    for message in messages {
+        let frames = match host.handle(message) {
+            Ok(frames) => frames,
+            Err(fault) => return Err(of_host(fault)),
+        };
+        match write_frames(alloc, writer, frames.as_slice()) {
+            Ok(()) => {}
+            Err(fault) => return Err(fault),
+        }
+    }
+    Ok(())
+}
+
+/// Writes the frames one after another.
+fn write_frames<W: Write>(alloc: Global, writer: &mut W, frames: &[HFrame]) -> Result<(), PlayFault>
+    requires { FramesFit frames.now }
+    ensures ok { OnOk result (Appends (W.contents writer.old) (W.contents writer.new) (flat_map frame_h frames.now)) }
+    ensures side { IfErr result (λ e. OnSide e (λ _. ⊥)) }
+    ensures fault { IfErr result IsOfBytes }
+{
+    let Ok(bytes) = bytes_of(alloc, frames) else {
+        return Err(PlayFault::OutOfMemory);
+    };
+    match writer.write_all(bytes.as_slice()) {
+        Ok(()) => Ok(()),
+        Err(_) => Err(PlayFault::Write),
+    }
+}
+
+/// The bytes of the frames, one after another.
+fn bytes_of(alloc: Global, frames: &[HFrame]) -> Result<Vec<u8>, MesgFault>
+    requires { FramesFit frames.now }
+    ensures { IfOk result (λ bytes. bytes.items ≡ flat_map frame_h frames.now) }
+{
+    let mut bytes = Vec::new(alloc);
+    for frame in frames {
+        encode_h(frame, &mut bytes)?;
+    }
+    Ok(bytes)
+}
+
+/// What a refusal of the host is for the program.
+fn of_host(fault: HostFault) -> PlayFault
+    ensures { result ≡ of_refusal fault }
+{
+    match fault {
+        HostFault::OutOfMemory => PlayFault::OutOfMemory,
+        refused => PlayFault::Side(Stop::Host(refused as u8)),
+    }
+}

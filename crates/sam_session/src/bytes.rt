@@ -1,0 +1,153 @@
+//! Frames in, answering frames out, over any reader and writer.
+
+ghost use Rattle.std.specs.Prelude.{◌≡◌, ◌≤◌, ◌++◌, Some, None, IsErr, IfErr, OnOk, false, length};
+ghost use Rattle.sam_runes.specs.Texts.{max_runes};
+ghost use Rattle.sam_frame.specs.Framing.{HasRoom};
+ghost use Rattle.sam_host.specs.Laws.{IsSound};
+ghost use Rattle.sam_session.specs.Start.{host_of};
+ghost use Rattle.sam_session.specs.Outcome.{OnSide, IsOfBytes, Plays, Written};
+ghost use Rattle.sam_session.specs.Pieces.{AllFit, AnswersBefore, PieceAnswers, PieceStops, MayEnd};
+
+use crate::answering::answer_all;
+use crate::fault::{PlayFault, Stop};
+use crate::reading::{MOST_INPUT, PIECE, read_piece};
+use crate::start::first_host;
+use sam_frame::{FeedFault, FramerT};
+use sam_host::host::Host;
+use sam_mesg::Tmesg;
+use std::alloc::Global;
+use std::io::{Read, Write};
+
+/// Answers the frames of the terminal that the reader gives, by a host whose file 1 is named `file` and holds the text, and
+/// writes the answering frames.
+///
+/// It goes on to the end of the input, or to the first message that the host refuses, or to the first fault of the stream;
+/// half a frame at the end is one. The answers before that are written, and each piece's answers are flushed with it, since a
+/// peer may wait for them. An input of more than `MOST_INPUT` bytes is `Read`.
+pub fn play_bytes<R: Read, W: Write>(
+    alloc: Global,
+    reader: &mut R,
+    writer: &mut W,
+    text: &[char],
+) -> Result<(), PlayFault>
+    requires { length text.now ≤ max_runes }
+    ensures ok { OnOk result (Written (R.remaining reader.old) (W.contents writer.old) (W.contents writer.new)
+        (λ input written. (length input ≤ 16777216) × Plays (host_of text.now) input written None)) }
+    ensures side { IfErr result (λ e. OnSide e (λ stop. Written (R.remaining reader.old) (W.contents writer.old)
+        (W.contents writer.new) (λ input written. Plays (host_of text.now) input written (Some stop)))) }
+    ensures fault { IfErr result IsOfBytes }
+{
+    let Ok(mut host) = first_host(alloc, text) else {
+        return Err(PlayFault::OutOfMemory);
+    };
+    answer_input(alloc, reader, writer, &mut host)
+}
+
+/// Answers the frames of an input piece by piece.
+fn answer_input<R: Read, W: Write>(
+    alloc: Global,
+    reader: &mut R,
+    writer: &mut W,
+    host: &mut Host,
+) -> Result<(), PlayFault>
+    requires { IsSound host.old }
+    ensures ok { OnOk result (Written (R.remaining reader.old) (W.contents writer.old) (W.contents writer.new)
+        (λ input written. (length input ≤ 16777216) × Plays host.old input written None)) }
+    ensures side { IfErr result (λ e. OnSide e (λ stop. Written (R.remaining reader.old) (W.contents writer.old)
+        (W.contents writer.new) (λ input written. Plays host.old input written (Some stop)))) }
+    ensures fault { IfErr result IsOfBytes }
+{
+    let mut framer = FramerT::new(alloc);
+    let mut buffer = [0u8; PIECE];
+    let mut left = MOST_INPUT;
+    while left > 0 {
+        let count = read_piece(reader, &mut buffer, left)?;
+        if count == 0 {
+            return end_of(&framer);
+        }
+        left -= count;
+        answer_piece(alloc, &mut framer, host, writer, &buffer[..count])?;
+    }
+    if read_piece(reader, &mut buffer, 1)? > 0 {
+        return Err(PlayFault::Read);
+    }
+    end_of(&framer)
+}
+
+/// Whether the stream may end here.
+fn end_of(framer: &FramerT) -> Result<(), PlayFault>
+    requires { framer.now.failed ≡ false }
+    ensures { MayEnd framer.now result }
+{
+    match framer.finish() {
+        Ok(()) => Ok(()),
+        Err(_) => Err(PlayFault::Side(Stop::Frame(4))),
+    }
+}
+
+/// Answers the messages that are whole with this piece, and flushes what was written, also before a fault.
+fn answer_piece<W: Write>(
+    alloc: Global,
+    framer: &mut FramerT,
+    host: &mut Host,
+    writer: &mut W,
+    piece: &[u8],
+) -> Result<(), PlayFault>
+    requires sound { framer.old.failed ≡ false }
+    requires room { HasRoom framer.old piece.now }
+    requires host { IsSound host.old }
+    ensures ok { OnOk result (PieceAnswers W.contents host.old host.new writer.old writer.new framer.old framer.new piece.now) }
+    ensures side { IfErr result (λ e. OnSide e
+        (PieceStops W.contents host.old writer.old writer.new framer.old piece.now)) }
+    ensures fault { IfErr result IsOfBytes }
+{
+    let answered = feed_and_answer(alloc, framer, host, writer, piece);
+    if writer.flush().is_err() {
+        return Err(PlayFault::Write);
+    }
+    answered
+}
+
+/// Answers the messages that are whole with this piece, perhaps into the writer's buffer.
+fn feed_and_answer<W: Write>(
+    alloc: Global,
+    framer: &mut FramerT,
+    host: &mut Host,
+    writer: &mut W,
+    piece: &[u8],
+) -> Result<(), PlayFault>
+    requires sound { framer.old.failed ≡ false }
+    requires room { HasRoom framer.old piece.now }
+    requires host { IsSound host.old }
+    ensures ok { OnOk result (PieceAnswers W.contents host.old host.new writer.old writer.new framer.old framer.new piece.now) }
+    ensures side { IfErr result (λ e. OnSide e
+        (PieceStops W.contents host.old writer.old writer.new framer.old piece.now)) }
+    ensures fault { IfErr result IsOfBytes }
+{
+    match framer.feed(piece) {
+        Ok(messages) => answer_all(alloc, host, writer, messages),
+        Err(FeedFault::BadKind(messages, _)) => answer_before(alloc, host, writer, messages, 1),
+        Err(FeedFault::BadLength(messages, _)) => answer_before(alloc, host, writer, messages, 2),
+        Err(FeedFault::BadText(messages, _)) => answer_before(alloc, host, writer, messages, 3),
+        Err(_) => Err(PlayFault::OutOfMemory),
+    }
+}
+
+/// Answers the messages before a fault of this number, and stops.
+fn answer_before<W: Write>(
+    alloc: Global,
+    host: &mut Host,
+    writer: &mut W,
+    messages: Vec<Tmesg>,
+    number: u8,
+) -> Result<(), PlayFault>
+    requires fit { AllFit messages.items }
+    requires host { IsSound host.old }
+    ensures stops { IsErr result }
+    ensures side { IfErr result (λ e. OnSide e
+        (AnswersBefore W.contents host.old writer.old writer.new messages.items number)) }
+    ensures fault { IfErr result IsOfBytes }
+{
+    answer_all(alloc, host, writer, messages)?;
+    Err(PlayFault::Side(Stop::Frame(number)))
+}
