@@ -13,15 +13,15 @@ use Rattle.sam_term.specs.declared.fault.TermFault.{TermFault}
 use Rattle.sam_term.specs.declared.fault.TermFault.TheVariants as fault
 
 -- what a result that is there says
-acted_in : Result (PlainTerminal × Acted) TermFault → Acted → Acted
+unfoldable pub acted_in : Result (PlainTerminal × Acted) TermFault → Acted → Acted
 acted_in (Ok p) acted = p.1
 acted_in (Err why) acted = acted
 
-term_in : Result (PlainTerminal × Acted) TermFault → PlainTerminal → PlainTerminal
+unfoldable pub term_in : Result (PlainTerminal × Acted) TermFault → PlainTerminal → PlainTerminal
 term_in (Ok p) t = p.0
 term_in (Err why) t = t
 
-not_done : (n : ℕ) (t u : PlainTerminal) (ms : List Tmesg) (acted : Acted) → if_countable {A = PlainTerminal × Acted} n (t, Done ms) ≡ Ok (u, acted) → acted ≡ Done ms
+pub not_done : (n : ℕ) (t u : PlainTerminal) (ms : List Tmesg) (acted : Acted) → if_countable {A = PlainTerminal × Acted} n (t, Done ms) ≡ Ok (u, acted) → acted ≡ Done ms
 unfolding acted_in
 not_done n t u ms acted e = go (nat_lt most_count n) e
   where

@@ -1,0 +1,1 @@
+//! Calls with ample memory, and what no clause says.
