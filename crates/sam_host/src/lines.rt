@@ -1,11 +1,12 @@
 //! Command lines: what is typed into the command file or sent to it, and run.
 
-ghost use Rattle.std.specs.Prelude.{◌≡◌, ◌⊎◌, ◌<◌, ◌≤◌, ◌+◌, ◌-◌, ◌++◌, ◌∷◌, [], ◌^◌, IfOk, IfErr, OnOk, OnErr, Err, None, Some, true, not, ◌&&◌, nat_lt, if◌then◌else◌, flat_map, reverse, length};
-ghost use Rattle.sam_host.specs.Host.{host_checks, stamped, when, when_given, printed, told_edit, told_outcome, with_file, reply_line, reply_type, reply_send, reply_startnewfile};
-ghost use Rattle.sam_runes.specs.Texts.{max_runes, is_empty};
+ghost use Rattle.std.specs.Prelude.{◌≡◌, ◌⊎◌, ◌<◌, ◌≤◌, ◌+◌, ◌-◌, ◌++◌, ◌∷◌, [], ◌^◌, IfOk, IfErr, IsTrue, OnOk, OnErr, Err, None, Some, true, not, ◌&&◌, nat_lt, if◌then◌else◌, flat_map, reverse, length};
+ghost use Rattle.sam_host.specs.Typing.{typed_line, sent};
+ghost use Rattle.sam_host.specs.Host.{host_checks, stamped, when, when_given, printed, told_edit, told_outcome, with_file, with_files, no_tag_left, reply_line, reply_type, reply_send, reply_startnewfile};
+ghost use Rattle.sam_runes.specs.Texts.{max_runes, del, is_empty, part, line_start, as_lines, last_line, ends_line};
 ghost use Rattle.sam_runes.specs.Edits.{inserted};
 ghost use Rattle.sam_runes.specs.Checks.{first_of_checks};
-ghost use Rattle.sam_text.specs.Files.{has_file, file_at, typed_file, committed, after_print, IsOutcomeOf};
+ghost use Rattle.sam_text.specs.Files.{has_file, file_at, cut_file, committed, after_print, IsOutcomeOf};
 ghost use Rattle.sam_text.specs.Outcomes.{effect};
 ghost use Rattle.sam_text.specs.Meaning.{meaning};
 
@@ -281,4 +282,290 @@ impl Host {
         self.tell_line(frames, &outcome)?;
         self.put_outcome(outcome)
     }
+
+    /// Deletes a range of the command file.
+    fn cut_command(&mut self, p: u32, q: u32)
+        requires there { has_file self.old.files 0 ≡ true }
+        requires range { (p ≤ q) × (q ≤ length (file_at self.old.files 0).text) }
+        ensures { self.new ≡ with_file self.old 0 (cut_file 0 (file_at self.old.files 0) p q) }
+    {
+        self.files.change(0, FileChange::Cut(p, q, true));
+    }
+
+    /// Sets the dot of the command file.
+    fn set_command_dot(&mut self, dot: (u32, u32))
+        requires there { has_file self.old.files 0 ≡ true }
+        requires range { (dot.0 ≤ dot.1) × (dot.1 ≤ length (file_at self.old.files 0).text) }
+        ensures { self.new ≡ with_file self.old 0 (record (file_at self.old.files 0) { dot = dot }) }
+    {
+        self.files.change(0, FileChange::Dot(dot.0, dot.1));
+    }
+
+    /// Takes out what was typed into the command file last, and sets its dot back.
+    fn undo(&mut self, p: u32, q: u32, dot: (u32, u32))
+        requires there { has_file self.old.files 0 ≡ true }
+        requires range { (p ≤ q) × (q ≤ length (file_at self.old.files 0).text) }
+        requires dot { (dot.0 ≤ dot.1) × (dot.1 ≤ length (del (file_at self.old.files 0).text p q)) }
+        ensures { self.new ≡ with_file self.old 0 (record (file_at self.old.files 0) { text = del (file_at self.old.files 0).text p q; dot = dot }) }
+    {
+        self.cut_command(p, q);
+        self.set_command_dot(dot);
+    }
+
+    /// The dot of the command file.
+    fn command_dot(&self) -> (u32, u32)
+        ensures value { result ≡ (file_at self.now.files 0).dot }
+        ensures range { (result.0 ≤ result.1) × (result.1 ≤ length (file_at self.now.files 0).text) }
+    {
+        match self.files.file(0) {
+            Some(file) => file.dot(),
+            None => (0, 0),
+        }
+    }
+
+    /// The line of the command file that ends at a place.
+    fn line_to(&self, end: u32) -> Result<Runes, HostFault>
+        requires { end ≤ length (file_at self.now.files 0).text }
+        ensures ok { IfOk result (λ r. r ≡ part (file_at self.now.files 0).text (line_start (file_at self.now.files 0).text end) end) }
+        ensures memory { OnErr result (result ≡ Err HostFault.OutOfMemory) }
+    {
+        match self.files.file(0) {
+            Some(file) => {
+                let start = file.text().line_start(end);
+                Ok(Runes::from_slice(self.alloc, file.text().slice(start, end))?)
+            }
+            None => Ok(Runes::from_slice(self.alloc, &[])?),
+        }
+    }
+
+    /// Runs the line of the command file that ends at a place.
+    fn run_to(&mut self, end: u32) -> Result<Vec<HFrame>, HostFault>
+        requires count { self.old.taken + 1 < 2 ^ 64 }
+        requires place { end ≤ length (file_at self.old.files 0).text }
+        ensures host { OnOk result (self.new ≡ (reply_line self.old [] (part (file_at self.old.files 0).text (line_start (file_at self.old.files 0).text end) end)).0) }
+        ensures frames { IfOk result (λ frames. frames.items ≡ stamped (self.old.taken + 1) (reply_line self.old [] (part (file_at self.old.files 0).text (line_start (file_at self.old.files 0).text end) end)).1) }
+        ensures memory { OnErr result (result ≡ Err HostFault.OutOfMemory) }
+        ensures unchanged { OnErr result (self.new ≡ self.old) }
+    {
+        let line = self.line_to(end)?;
+        let mut frames = Vec::new(self.alloc);
+        self.run(&mut frames, line.as_slice())?;
+        Ok(frames)
+    }
+
+    /// Types runes that end in a newline into the command file, and runs the line that this newline ends. Where memory is wanted for
+    /// the line, what was typed is taken out again.
+    fn type_line(&mut self, p: u32, runes: &[char]) -> Result<Vec<HFrame>, HostFault>
+        requires count { self.old.taken + 1 < 2 ^ 64 }
+        requires filled { 0 < length runes.now }
+        requires place { p ≤ length (file_at self.old.files 0).text }
+        requires fits { length (file_at self.old.files 0).text + length runes.now ≤ max_runes }
+        ensures host { OnOk result (self.new ≡ (typed_line self.old p runes.now).0) }
+        ensures frames { IfOk result (λ frames. frames.items ≡ stamped (self.old.taken + 1) (typed_line self.old p runes.now).1) }
+        ensures memory { OnErr result (result ≡ Err HostFault.OutOfMemory) }
+        ensures count { self.new.taken ≡ self.old.taken }
+        ensures unchanged { OnErr result (self.new ≡ self.old) }
+    {
+        self.files.known();
+        let dot = self.command_dot();
+        let end = p + runes.len() as u32;
+        self.put_typed(0, p, runes)?;
+        match self.run_to(end - 1) {
+            Ok(frames) => Ok(frames),
+            Err(why) => {
+                self.undo(p, end, dot);
+                Err(why)
+            }
+        }
+    }
+
+    /// Puts what is sent at the end of the command file, and runs its last line. Where memory is wanted for the line, what was put
+    /// there is taken out again.
+    fn send_line(
+        &mut self,
+        frames: Vec<HFrame>,
+        runes: &[char],
+        line: &[char],
+    ) -> Result<Vec<HFrame>, HostFault>
+        requires count { self.old.taken + 1 < 2 ^ 64 }
+        requires fits { length (file_at self.old.files 0).text + length runes.now ≤ max_runes }
+        ensures host { OnOk result (self.new ≡ (reply_line (sent self.old runes.now) [] line.now).0) }
+        ensures frames { IfOk result (λ result. result.items ≡ frames.items ++ stamped (self.old.taken + 1) (reply_line (sent self.old runes.now) [] line.now).1) }
+        ensures memory { OnErr result (result ≡ Err HostFault.OutOfMemory) }
+        ensures count { self.new.taken ≡ self.old.taken }
+        ensures unchanged { OnErr result (self.new ≡ self.old) }
+    {
+        self.files.known();
+        let dot = self.command_dot();
+        let len = self.text_len(0);
+        let mut frames = frames;
+        self.put_typed(0, len, runes)?;
+        match self.run(&mut frames, line) {
+            Ok(()) => Ok(frames),
+            Err(why) => {
+                self.undo(len, len + runes.len() as u32, dot);
+                Err(why)
+            }
+        }
+    }
+
+    /// Runes are typed. Where they end in a newline and go into the command file, the line that this newline ends is run.
+    #[tactic(auto, using(crate::proofs::TypingLaws::type_as_line, crate::proofs::TypingLaws::type_alone))]
+    pub(crate) fn type_in(
+        &mut self,
+        f: u16,
+        p: u32,
+        runes: &Runes,
+    ) -> Result<Vec<HFrame>, HostFault>
+        requires { self.old.taken + 1 < 2 ^ 64 }
+        ensures allowed { OnOk result (first_of_checks (host_checks self.old (Tmesg.Ttype f p runes.now)) ≡ None) }
+        ensures host { OnOk result (self.new ≡ (reply_type self.old f p runes.now).0) }
+        ensures frames { IfOk result (λ frames. frames.items ≡ stamped (self.old.taken + 1) (reply_type self.old f p runes.now).1) }
+        ensures refused { IfErr result (λ why. (why ≡ HostFault.OutOfMemory) ⊎ (first_of_checks (host_checks self.old (Tmesg.Ttype f p runes.now)) ≡ Some why)) }
+        ensures count { self.new.taken ≡ self.old.taken }
+        ensures unchanged { OnErr result (self.new ≡ self.old) }
+    {
+        self.wants_place(f, p)?;
+        if runes.len() > MAX_RUNES as usize - self.text_len(f) as usize {
+            return Err(HostFault::TooLong);
+        }
+        if f == 0 && ends_line(runes.as_slice()) {
+            let frames = self.type_line(p, runes.as_slice())?;
+            return Ok(frames);
+        }
+        self.put_typed(f, p, runes.as_slice())?;
+        Ok(Vec::new(self.alloc))
+    }
+
+    /// What stands in a file between two places, with a newline added where it ends in none.
+    fn lines_of(&self, f: u16, p: u32, q: u32) -> Result<Runes, HostFault>
+        requires ascending { p ≤ q }
+        requires within { q ≤ length (file_at self.now.files f).text }
+        ensures ok { IfOk result (λ r. r ≡ as_lines (part (file_at self.now.files f).text p q)) }
+        ensures memory { OnErr result (result ≡ Err HostFault.OutOfMemory) }
+    {
+        let runes = self.part(f, p, q)?;
+        if ends_line(runes.as_slice()) {
+            return Ok(runes);
+        }
+        let mut lines = runes.into_vec();
+        lines.push('\n')?;
+        Ok(Runes::from_vec(lines))
+    }
+
+    /// Nothing is sent.
+    fn nothing_sent(&self) -> Result<Vec<HFrame>, HostFault>
+        requires { self.now.taken + 1 < 2 ^ 64 }
+        ensures ok { IfOk result (λ frames. frames.items ≡ stamped (self.now.taken + 1) (Hmesg.Hunlock ∷ [])) }
+        ensures memory { OnErr result (result ≡ Err HostFault.OutOfMemory) }
+    {
+        let mut frames = Vec::new(self.alloc);
+        self.say(&mut frames, Hmesg::Hunlock)?;
+        Ok(frames)
+    }
+
+    /// Sends lines: they are put at the end of the command file, and the last of them is run.
+    fn send_lines(&mut self, lines: &[char]) -> Result<Vec<HFrame>, HostFault>
+        requires count { self.old.taken + 1 < 2 ^ 64 }
+        requires filled { 0 < length lines.now }
+        requires fits { length (file_at self.old.files 0).text + length lines.now ≤ max_runes }
+        ensures host { OnOk result (self.new ≡ (reply_line (sent self.old lines.now) [] (last_line lines.now)).0) }
+        ensures frames { IfOk result (λ frames. frames.items ≡ stamped (self.old.taken + 1) (printed self.old.files lines.now) ++ stamped (self.old.taken + 1) (reply_line (sent self.old lines.now) [] (last_line lines.now)).1) }
+        ensures memory { OnErr result (result ≡ Err HostFault.OutOfMemory) }
+        ensures count { self.new.taken ≡ self.old.taken }
+        ensures unchanged { OnErr result (self.new ≡ self.old) }
+    {
+        let mut frames = Vec::new(self.alloc);
+        self.tell_print(&mut frames, lines)?;
+        let end = lines.len() - 1;
+        let start = start_of_line(lines, end);
+        self.send_line(frames, lines, &lines[start..end])
+    }
+
+    /// A range is sent to the command file.
+    #[tactic(auto, using(crate::proofs::TypingLaws::send_as_line, crate::proofs::TypingLaws::send_nothing, crate::proofs::TypingLaws::lines_filled))]
+    pub(crate) fn send(&mut self, f: u16, p: u32, q: u32) -> Result<Vec<HFrame>, HostFault>
+        requires { self.old.taken + 1 < 2 ^ 64 }
+        ensures allowed { OnOk result (first_of_checks (host_checks self.old (Tmesg.Tsend f p q)) ≡ None) }
+        ensures host { OnOk result (self.new ≡ (reply_send self.old f p q).0) }
+        ensures frames { IfOk result (λ frames. frames.items ≡ stamped (self.old.taken + 1) (reply_send self.old f p q).1) }
+        ensures refused { IfErr result (λ why. (why ≡ HostFault.OutOfMemory) ⊎ (first_of_checks (host_checks self.old (Tmesg.Tsend f p q)) ≡ Some why)) }
+        ensures count { self.new.taken ≡ self.old.taken }
+        ensures unchanged { OnErr result (self.new ≡ self.old) }
+    {
+        self.wants_range(f, p, q)?;
+        if p == q {
+            let frames = self.nothing_sent()?;
+            return Ok(frames);
+        }
+        let lines = self.lines_of(f, p, q)?;
+        if lines.len() > MAX_RUNES as usize - self.text_len(0) as usize {
+            let frames = self.nothing_sent()?;
+            return Ok(frames);
+        }
+        let frames = self.send_lines(lines.as_slice())?;
+        Ok(frames)
+    }
+
+    /// Tells that no tag is left.
+    #[tactic(auto, using(crate::proofs::FrameLaws::stamped_append))]
+    fn no_tag_left(&mut self) -> Result<Vec<HFrame>, HostFault>
+        requires count { self.old.taken + 1 < 2 ^ 64 }
+        ensures host { OnOk result (self.new ≡ with_files self.old (after_print self.old.files no_tag_left)) }
+        ensures frames { IfOk result (λ frames. frames.items ≡ stamped (self.old.taken + 1) (printed self.old.files no_tag_left ++ Hmesg.Hunlock ∷ [])) }
+        ensures memory { OnErr result (result ≡ Err HostFault.OutOfMemory) }
+        ensures unchanged { OnErr result (self.new ≡ self.old) }
+    {
+        let words = ['?', ' ', 'n', 'o', ' ', 't', 'a', 'g', '\n'];
+        let mut frames = Vec::new(self.alloc);
+        self.tell_print(&mut frames, &words)?;
+        self.say(&mut frames, Hmesg::Hunlock)?;
+        match self.files.print(&words) {
+            Ok(_) => Ok(frames),
+            Err(_) => Err(HostFault::OutOfMemory),
+        }
+    }
+
+    /// A file is made for the terminal and is the work file, or there is no tag left for it.
+    #[tactic(auto, using(crate::proofs::WorkLaws::put_is_work), unfolding(crate::specs::Host::reply_startnewfile))]
+    pub(crate) fn start_new_file(&mut self) -> Result<Vec<HFrame>, HostFault>
+        requires { self.old.taken + 1 < 2 ^ 64 }
+        ensures allowed { OnOk result (first_of_checks (host_checks self.old Tmesg.Tstartnewfile) ≡ None) }
+        ensures host { OnOk result (self.new ≡ (reply_startnewfile self.old).0) }
+        ensures frames { IfOk result (λ frames. frames.items ≡ stamped (self.old.taken + 1) (reply_startnewfile self.old).1) }
+        ensures refused { IfErr result (λ why. (why ≡ HostFault.OutOfMemory) ⊎ (first_of_checks (host_checks self.old Tmesg.Tstartnewfile) ≡ Some why)) }
+        ensures count { self.new.taken ≡ self.old.taken }
+        ensures unchanged { OnErr result (self.new ≡ self.old) }
+    {
+        let tags = self.files.tags();
+        if tags >= 65_536 {
+            let frames = self.no_tag_left()?;
+            return Ok(frames);
+        }
+        let f = tags as u16;
+        let mut frames = Vec::new(self.alloc);
+        self.say(&mut frames, Hmesg::Hnewname(f))?;
+        self.say(&mut frames, Hmesg::Hbindname(f))?;
+        self.say(&mut frames, Hmesg::Hcurrent(f))?;
+        self.say(&mut frames, Hmesg::Hunlock)?;
+        match self.files.start_file(self.alloc) {
+            Ok(_) => {}
+            Err(_) => return Err(HostFault::OutOfMemory),
+        }
+        self.files.put_work(f);
+        Ok(frames)
+    }
+}
+
+/// Whether the last rune is a newline.
+#[tactic(auto, using(crate::proofs::TypingLaws::last_ends))]
+fn ends_line(runes: &[char]) -> bool
+    ensures value { result ≡ ends_line runes.now }
+    ensures filled { IsTrue result → 0 < length runes.now }
+{
+    if runes.is_empty() {
+        return false;
+    }
+    let last = runes.len() - 1;
+    runes[last] == '\n'
 }

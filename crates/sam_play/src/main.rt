@@ -50,11 +50,11 @@ fn main(rt: HostRuntime) -> ExitCode {
 /// Runs the mode that the words name, over standard input and output.
 fn run<R: Input + Print + Env + AllocGlobal>(rt: &R) -> Result<(), Fault> {
     let alloc = rt.alloc();
-    let mode = mode_of(alloc, words(rt)?)?;
-    let mut reader = rt.reader();
     let Ok(mut writer) = BufWriter::new(alloc, io::writer(rt)) else {
         return Err(Fault::Memory);
     };
+    let mode = mode_of(alloc, words(rt)?)?;
+    let mut reader = rt.reader();
     let played = play(alloc, &mut reader, &mut writer, mode);
     if writer.flush().is_err() {
         return Err(Fault::Play(PlayFault::Write));

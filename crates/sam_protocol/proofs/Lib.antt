@@ -27,3 +27,5 @@ mod Sending
 mod Typing
 mod Acting
 mod Receiving
+mod Ordered
+mod Starting

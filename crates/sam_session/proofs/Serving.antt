@@ -1,7 +1,6 @@
 -- What a host answers to messages in turn.
-use Rattle.std.proofs.Common.{◌≡◌, ◌∙◌, ℕ, ◌≤◌, List, [], ◌∷◌, ◌++◌, length, Bool, true, false, cond, leb, nat_eq, Option, Result, Ok, Err, refl, sym, ap, subst, flat_map, append_assoc, arith}
+use Rattle.std.proofs.Common.{◌≡◌, ◌∙◌, ℕ, List, [], ◌∷◌, ◌++◌, length, Bool, true, false, cond, leb, nat_eq, Option, Ok, Err, refl, sym, ap, subst, flat_map, append_assoc, arith}
 use Rattle.std.specs.Str.{encode_utf8_all}
-use Rattle.std.specs.List.{All}
 use Rattle.std.specs.Io.KnownBytes.{Appends}
 use Rattle.std.proofs.KnownBytes.{Appends-trans}
 use Rattle.std.proofs.lemmas.Bool.{leb-true, le-leb}

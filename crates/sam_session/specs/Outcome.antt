@@ -14,7 +14,7 @@ use Rattle.sam_session.specs.Serving.{serve}
 use Rattle.sam_session.specs.declared.fault.Stop.{Stop}
 use Rattle.sam_session.specs.declared.fault.Stop.TheVariants.{Frame, Host}
 use Rattle.sam_session.specs.declared.fault.PlayFault.{PlayFault}
-use Rattle.sam_session.specs.declared.fault.PlayFault.TheVariants.{Script, Read, Write, Side, Threads, OutOfMemory}
+use Rattle.sam_session.specs.declared.fault.PlayFault.TheVariants.{Script, Side, Threads}
 
 -- the number of a refusal of the host
 abbrev pub refusal_number : HostFault → ℕ

@@ -1,5 +1,5 @@
 -- What is done with one piece of the input.
-use Rattle.std.specs.Prelude.{◌≡◌, ℕ, List, [], ◌∷◌, ◌++◌, Option, Some, None, Result, Ok, Err, true, false}
+use Rattle.std.specs.Prelude.{◌≡◌, ℕ, List, [], ◌++◌, Option, Result, Ok, Err, true}
 use Rattle.std.specs.List.{All}
 use Rattle.std.specs.Io.KnownBytes.{Appends}
 use Rattle.sam_mesg.specs.declared.tmesg.Tmesg.{Tmesg}
@@ -18,7 +18,7 @@ use Rattle.sam_session.specs.Outcome.{refusal_number, frame_number}
 use Rattle.sam_session.specs.declared.fault.Stop.{Stop}
 use Rattle.sam_session.specs.declared.fault.Stop.TheVariants.{Frame, Host}
 use Rattle.sam_session.specs.declared.fault.PlayFault.{PlayFault}
-use Rattle.sam_session.specs.declared.fault.PlayFault.TheVariants.{Read, Side, OutOfMemory}
+use Rattle.sam_session.specs.declared.fault.PlayFault.TheVariants.{Side, OutOfMemory}
 
 -- each message fits in version 2
 abbrev pub AllFit : List Tmesg → Type 0

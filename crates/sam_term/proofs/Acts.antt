@@ -51,7 +51,7 @@ test_at [] k = false
 test_at (c ∷ cs) zero = c.0
 test_at (c ∷ cs) (suc k) = test_at cs k
 
-none_holds : {E : Type 0} (cs : Checks E) (k : ℕ) → first_of_checks cs ≡ None → test_at cs k ≡ false
+pub none_holds : {E : Type 0} (cs : Checks E) (k : ℕ) → first_of_checks cs ≡ None → test_at cs k ≡ false
 unfolding test_at
 none_holds [] k e = refl
 none_holds (c ∷ cs) zero e = (rest c.0 c.1 cs e).0

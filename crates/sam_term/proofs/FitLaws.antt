@@ -138,8 +138,10 @@ good-requested v t f k = go (is_open t f && not_exited && not_awaits)
   where
     not_exited : Bool
     not_exited = not t.has_exited
+
     not_awaits : Bool
     not_awaits = not (window_at t f).awaits
+
     go : (b : Bool) → Good v (sends_if (if b then request_for f (hole_within (window_at t f).rasp (window_at t f).view_start (view_end (window_at t f))) else None) t)
     go true = good-sends_if v t (hole_within (window_at t f).rasp (window_at t f).view_start (view_end (window_at t f))) f k
     go false = record { fits = refl; short = k }
@@ -217,8 +219,10 @@ or_left false b e = refl
 -- an event on a file that is done found neither the command lock nor a lock of the file
 pub event_finds_no_lock : (t : PlainTerminal) (e : UserEvent) (f : ℕ) → file_of e ≡ Some f → first_of_checks (event_checks t e) ≡ None → (t.command_lock ≡ false) × ((window_at t f).locks ≡ 0)
 unfolding test_at
-event_finds_no_lock t e f names n =
-    (none_holds (event_checks t e) 1 n, (
-    let free = or_left (is_file_locked t (file_of e)) _ (none_holds (event_checks t e) 6 n) in
-    let none = ltb-false 0 (window_at t f).locks (subst (λ o. is_file_locked t o ≡ false) names free) in
-    omega arith))
+event_finds_no_lock t e f names n = (
+  none_holds (event_checks t e) 1 n,
+  (
+      let free = or_left (is_file_locked t (file_of e)) _ (none_holds (event_checks t e) 6 n) in
+      let none = ltb-false 0 (window_at t f).locks (subst (λ o. is_file_locked t o ≡ false) names free) in
+      omega arith),
+)

@@ -1,23 +1,19 @@
 -- What is read of a line is within the limits: each pattern has 1 to 128 runes, and a name at most 64.
-use Rattle.std.proofs.Common.{◌≡◌, ℕ, zero, suc, ◌+◌, ◌<◌, ◌≤◌, List, [], ◌∷◌, length, reverse, Bool, true, false, cond, ◌||◌, ◌&&◌, ◌==◌, Option, Some, None, Result, Ok, Err, option_map, nat_lt, refl, sym, arith}
-use Rattle.std.specs.Prelude.{IfOk, IfSome, ⊤, if◌then◌else◌}
+use Rattle.std.proofs.Common.{◌≡◌, ℕ, zero, suc, ◌+◌, ◌≤◌, List, [], ◌∷◌, length, Bool, true, false, cond, ◌||◌, ◌==◌, Option, Some, None, Result, Ok, Err, option_map, nat_lt, refl, arith}
+use Rattle.std.specs.Prelude.{IfOk, IfSome, ⊤}
 use Rattle.std.proofs.lemmas.Bool.{ltb-false}
-use Rattle.std.proofs.lemmas.Bool.Decides.{eqb_tells}
 use Rattle.sam_text.specs.declared.word.Word.{Word}
 use Rattle.sam_text.specs.declared.word.Word.TheVariants as word
 use Rattle.sam_text.specs.declared.command.Side.{Side}
-use Rattle.sam_text.specs.declared.command.Side.TheVariants as side
 use Rattle.sam_text.specs.declared.command.Address.{Address}
 use Rattle.sam_text.specs.declared.command.Address.TheVariants as address
-use Rattle.sam_text.specs.declared.command.Kind.{Kind}
 use Rattle.sam_text.specs.declared.command.Step.{Step}
 use Rattle.sam_text.specs.declared.command.Last.{Last}
-use Rattle.sam_text.specs.declared.command.Last.TheVariants as last
 use Rattle.sam_text.specs.declared.command.Command.{Command}
 use Rattle.sam_text.specs.declared.command.Command.TheVariants as command
 use Rattle.sam_text.specs.Files.{IsPattern, most_in_name}
 use Rattle.sam_text.specs.Meaning.{side_pattern, address_pattern, steps_pattern, later}
-use Rattle.sam_text.specs.Reading.{Read, ◌>>=◌, is_digit, is_blank, skip, number_from, quoted, pattern_at, behind_slash, rune_side, side_of, side_at, second_side, address_at, kind_of, last_of, at_head, at_option, chain_at, trimmed, name_of, ended, behind_address, command_of}
+use Rattle.sam_text.specs.Reading.{◌>>=◌, is_digit, is_blank, skip, quoted, pattern_at, behind_slash, rune_side, side_of, side_at, second_side, address_at, kind_of, last_of, at_head, at_option, chain_at, trimmed, name_of, ended, behind_address, command_of}
 
 -- ## Ways to read
 

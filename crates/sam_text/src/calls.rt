@@ -363,7 +363,7 @@ impl Files {
         self.put_snarf_in(tag, p, tag == 0)
     }
 
-    /// Puts runes at the end of the command file, whose dot is then its new end. False where its text would be too long, and nothing
+    /// Puts runes at the end of the command file, whose dot is then its new end; no runes change nothing. False where its text would be too long, and nothing
     /// is changed. Within its room no memory is asked for.
     pub fn print(&mut self, runes: &[char]) -> Result<bool, FilesFault>
         ensures told { IfOk result (λ fits. fits ≡ has_room self.old.plain runes.now) }

@@ -1,7 +1,6 @@
-use Rattle.std.proofs.Common.{◌≡◌, ◌-◌, ◌+◌, suc, arith, refl, sym, ap, option_map, ◌∙◌, subst, length}
+use Rattle.std.proofs.Common.{◌≡◌, ◌-◌, suc, arith, refl, ap, ◌∙◌, subst}
 use Rattle.std.proofs.lemmas.List.{length-set}
-use Rattle.sam_text.specs.Files.{announced_file}
-use Rattle.sam_text.specs.Views.{plain_file, file_room, plain_slots}
+use Rattle.sam_text.specs.Views.{plain_file, plain_slots}
 use Rattle.sam_text.proofs.ViewLaws.{announced_behind, announced-none, announced-step, announced-done, rooms_step}
 use Rattle.sam_text.proofs.files.announce_in.Goals as goal
 

@@ -1,4 +1,4 @@
-use Rattle.std.proofs.Common.{arith, refl, subst, sym, ◌∙◌}
+use Rattle.std.proofs.Common.{arith, sym, ◌∙◌}
 use Rattle.sam_text.specs.Files.{PlainFile, blank_file, IsFit, HasShortName}
 use Rattle.sam_text.specs.Views.{plain_file, changed, FitsIn}
 use Rattle.sam_text.proofs.ViewLaws.{given-view, view-change, view-none, seen_there, seen_kept, rooms_changed}

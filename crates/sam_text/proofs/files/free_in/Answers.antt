@@ -1,4 +1,4 @@
-use Rattle.std.proofs.Common.{arith, refl}
+use Rattle.std.proofs.Common.{arith}
 use Rattle.sam_text.specs.Views.{plain_file}
 use Rattle.sam_text.proofs.ViewLaws.{view-free, free_past, rooms_free}
 use Rattle.sam_text.proofs.files.free_in.Goals as goal

@@ -1,4 +1,4 @@
-use Rattle.std.proofs.Common.{arith, refl, subst, sym, ◌∙◌, length, ◌≤◌, ◌+◌, ap}
+use Rattle.std.proofs.Common.{arith, sym, ◌∙◌, length, ◌≤◌, ◌+◌}
 use Rattle.std.proofs.lemmas.Result.{on_ok_weaker, on_err_weaker}
 use Rattle.sam_runes.specs.Texts.{max_runes}
 use Rattle.sam_text.specs.Files.{PlainFile, blank_file, IsFit, HasShortName}

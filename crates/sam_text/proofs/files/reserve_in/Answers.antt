@@ -1,9 +1,9 @@
-use Rattle.std.proofs.Common.{arith, refl, subst, sym, ap, ◌∙◌, length, ◌≤◌, ◌+◌}
+use Rattle.std.proofs.Common.{arith, subst, sym, ◌∙◌, length, ◌≤◌, ◌+◌}
 use Rattle.std.proofs.lemmas.Result.{on_ok_weaker}
 use Rattle.sam_runes.specs.Texts.{max_runes}
 use Rattle.sam_text.specs.Files.{PlainFile, blank_file}
-use Rattle.sam_text.specs.Views.{plain_file, rooms, room_at}
-use Rattle.sam_text.proofs.ViewLaws.{given-view, view-same, view-none, seen_there, rooms_set, room_set}
+use Rattle.sam_text.specs.Views.{plain_file}
+use Rattle.sam_text.proofs.ViewLaws.{view-same, seen_there, rooms_set, room_set}
 use Rattle.sam_text.proofs.files.reserve_in.Goals as goal
 
 pub reserve-requires : goal.reserve-requires

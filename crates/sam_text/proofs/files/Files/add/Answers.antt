@@ -1,5 +1,4 @@
-use Rattle.std.proofs.Common.{◌≡◌, ◌<◌, sym, subst, ap, length}
-use Rattle.std.specs.Prelude.{OnErr}
+use Rattle.std.proofs.Common.{◌<◌, sym, subst, ap, length}
 use Rattle.std.proofs.lemmas.Result.{on_err_weaker}
 use Rattle.sam_runes.specs.Texts.{all_tags}
 use Rattle.sam_text.specs.Files.{PlainFiles, RoomyFiles}

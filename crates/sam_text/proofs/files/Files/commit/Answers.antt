@@ -1,4 +1,3 @@
-use Rattle.std.proofs.Common.{sym}
 use Rattle.sam_text.specs.Outcomes.{effect}
 use Rattle.sam_text.proofs.OutcomeLaws.{puts_there}
 use Rattle.sam_text.proofs.files.Files.commit.Goals as goal

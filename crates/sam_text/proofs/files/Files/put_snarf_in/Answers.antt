@@ -1,7 +1,5 @@
 use Rattle.std.proofs.Common.{◌≡◌, sym, subst, true, ◌+◌}
-use Rattle.std.specs.Prelude.{OnOk, OnErr}
-use Rattle.sam_runes.specs.Slots.{Slots}
-use Rattle.sam_text.specs.Files.{PlainFile, PlainFiles, RoomyFiles, has_file, file_at, AreKept}
+use Rattle.sam_text.specs.Files.{PlainFiles, RoomyFiles, has_file, file_at}
 use Rattle.sam_text.specs.Views.{inserted_file, plain_slots}
 use Rattle.sam_text.proofs.KeptLaws.{kept_put_or}
 use Rattle.sam_text.proofs.files.Files.put_snarf_in.Goals as goal

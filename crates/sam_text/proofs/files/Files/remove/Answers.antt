@@ -1,5 +1,5 @@
-use Rattle.std.proofs.Common.{◌≡◌, sym, subst, ℕ, Option}
-use Rattle.sam_runes.specs.Slots.{Slots, free_slot}
+use Rattle.std.proofs.Common.{sym, subst, ℕ, Option}
+use Rattle.sam_runes.specs.Slots.{Slots}
 use Rattle.sam_text.specs.Files.{PlainFile, PlainFiles, AreKept, work_without}
 use Rattle.sam_text.specs.Views.{plain_slots}
 use Rattle.sam_text.proofs.KeptLaws.{kept_free}

@@ -1,4 +1,4 @@
-use Rattle.std.proofs.Common.{◌≤◌, arith, ap, length, sym, subst}
+use Rattle.std.proofs.Common.{◌≤◌, arith, length, sym, subst}
 use Rattle.sam_runes.specs.Texts.{max_runes}
 use Rattle.sam_text.proofs.KeptLaws.{part_within}
 use Rattle.sam_text.specs.Files.{file_at}

@@ -1,5 +1,4 @@
-use Rattle.std.proofs.Common.{◌≤◌, sym, ◌∙◌, ap, length, arith, refl, subst}
-use Rattle.sam_runes.specs.Texts.{all_tags}
+use Rattle.std.proofs.Common.{sym, ◌∙◌, ap, length, arith}
 use Rattle.sam_runes.proofs.SlotLaws.{length-map_slots, slot_given}
 use Rattle.sam_text.specs.Views.{plain_file, plain_slots}
 use Rattle.sam_text.proofs.files.Files.tags.Goals as goal

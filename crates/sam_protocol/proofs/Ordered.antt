@@ -1,0 +1,331 @@
+-- What follows for both sides where all is in order: no refusal, agreement where nothing is under way, and ahead of time.
+use Rattle.std.proofs.Common.{◌≡◌, ℕ, zero, suc, ◌+◌, ◌<◌, ◌≤◌, Bool, true, false, not, ◌&&◌, ◌||◌, ◌==◌, if◌then◌else◌, nat_lt, List, [], ◌∷◌, ◌++◌, length, map, Option, Some, None, is_some, Result, Ok, Err, ◌⊎◌, inl, inr, refl, sym, ap, ◌∙◌, subst, true≢false, eqb-true, append-nil, append_assoc, arith}
+use Rattle.std.specs.Prelude.{unwrap_or, drop, nat_le}
+use Rattle.sam_term.specs.declared.files.Unsent.{Unsent}
+use Rattle.std.proofs.lemmas.List.{map-append}
+use Rattle.std.proofs.lemmas.Bool.{le-ltb}
+use Rattle.sam_runes.specs.Texts.{Range, is_empty, max_runes, all_tags, most_in_pattern, most_count, as_lines, part, ends_line, common_version}
+use Rattle.sam_runes.specs.Slots.{Slots, slot}
+use Rattle.sam_runes.specs.Checks.{first_of_checks}
+use Rattle.sam_rasp.specs.Rasp.{PartialText, Agrees}
+use Rattle.sam_text.specs.Files.{PlainFile, PlainFiles, blank_file, file_at, has_room}
+use Rattle.sam_mesg.specs.declared.tmesg.Tmesg.{Tmesg}
+use Rattle.sam_mesg.specs.declared.tmesg.Tmesg.TheVariants.{Tversion, Tstartcmdfile, Tcheck, Trequest, Torigin, Tstartfile, Tworkfile, Ttype, Tcut, Tpaste, Tsnarf, Tstartnewfile, Twrite, Tclose, Tlook, Tsearch, Tsend, Tdclick, Tstartsnarf, Tsetsnarf, Tack, Texit}
+use Rattle.sam_mesg.specs.declared.hmesg.Hmesg.{Hmesg}
+use Rattle.sam_mesg.specs.declared.hmesg.Hmesg.TheVariants.{Hversion, Hack, Hunlock}
+use Rattle.sam_mesg.specs.declared.hmesg.HFrame.{HFrame}
+use Rattle.sam_host.specs.Host.{PlainHost, Reply, Answer, answer, answer_unless, counted, stamped, host_checks, reply_to, reply_found, told_names, reply_version, reply_startcmdfile, reply_check, reply_request, reply_origin, reply_startfile, reply_workfile, reply_cut, reply_paste, reply_snarf, reply_startnewfile, reply_write, reply_close, reply_look, reply_search, reply_dclick, reply_startsnarf, reply_setsnarf, reply_exit, reply_type, reply_send, with_files}
+use Rattle.sam_host.specs.declared.fault.HostFault.{HostFault}
+use Rattle.sam_host.specs.declared.fault.HostFault.TheVariants as hostfault
+use Rattle.sam_term.specs.Term.{PlainTerminal, blank_known, blank_window, window_of, window_in, window_at, is_open, is_any_locked, unsent_message}
+use Rattle.sam_term.specs.declared.files.Window.{Window}
+use Rattle.sam_term.specs.declared.files.KnownFile.{KnownFile}
+use Rattle.sam_protocol.specs.Lens as lenses
+use Rattle.sam_protocol.specs.Lens.{Slot, Unknown, Known, Open, Lens, lens, Action, IsFree, HFile, Absent, Hidden, Named, Opened, Gone, Fits_slot, IsSettled, IsKept, version_of, command_of}
+use Rattle.sam_protocol.specs.Model as P
+use Rattle.sam_protocol.specs.Model.{is_unlock, unlocks_command, VersionsGuarded}
+use Rattle.sam_protocol.specs.View.{slot_of_window, slot_of, view, frame_of}
+use Rattle.sam_protocol.specs.HostView.{file_of, file_of_slot, file_in}
+use Rattle.sam_protocol.specs.Fold.{replied, reply_of, replied_then, behind, answers, frames_at, Kept}
+use Rattle.sam_protocol.specs.Order.{views, InOrder}
+use Rattle.sam_protocol.proofs.Runs.{no_unlock, same_version}
+use Rattle.sam_protocol.proofs.Kept.{kept_free}
+use Rattle.sam_protocol.proofs.Versions.{unlock_frames, no_changes}
+use Rattle.sam_protocol.proofs.Folds.{Answered, answered, HostTaken, host_takes}
+
+-- ## The host goes on
+
+-- it answers the first message, and all stays in order
+pub record HostGoes (h : PlainHost) (t : PlainTerminal) (m : Tmesg) (up : List Tmesg) (down : List Hmesg) : Type 0 where
+  pub reply : Reply
+  pub answers_it : reply_of h m ≡ Some reply
+  pub next : InOrder reply.0 t up (down ++ reply.1)
+
+pub host_goes : (h : PlainHost) (t : PlainTerminal) (m : Tmesg) (up : List Tmesg) (down : List Hmesg) → InOrder h t (m ∷ up) down → HostGoes h t m up down
+host_goes h t m up down o =
+    let x = host_takes h (views t) m (up ++ unsent_message t.unsent) down o.kept in
+    record { reply = x.reply; answers_it = x.answers_it; next = record { kept = x.kept; tidy = o.tidy; unsent = o.unsent } }
+
+pub msgs : List HFrame → List Hmesg
+msgs frames = map (λ (f : HFrame). f.msg) frames
+
+pub msgs_stamped : (n : ℕ) (ms : List Hmesg) → msgs (stamped n ms) ≡ ms
+unfolding msgs
+msgs_stamped n [] = refl
+msgs_stamped n (m ∷ ms) = ap (λ (l : List Hmesg). m ∷ l) (msgs_stamped n ms)
+
+-- the answer with its stamps, where the count allows one more
+pub answer_is : (h : PlainHost) (m : Tmesg) (r : Reply) → reply_of h m ≡ Some r → (h.taken == most_count) ≡ false → answer h m ≡ Ok (r.0, stamped r.0.taken r.1)
+unfolding answer
+answer_is h m r e full = ap (λ (b : Bool). if b then Err hostfault.CountFull else plain) full ∙ go h.is_done e
+  where
+    plain : Answer
+    plain = if h.is_done then Ok (counted h, []) else answer_unless (first_of_checks (host_checks h m)) (reply_to h m)
+
+    the_reply : {p q : Reply} → Some p ≡ Some q → p ≡ q
+    the_reply e = cc
+
+    checked : (o : Option HostFault) → replied o (reply_to h m) ≡ Some r → answer_unless o (reply_to h m) ≡ Ok (r.0, stamped r.0.taken r.1)
+    checked None q = ap (λ (x : Reply). Ok (x.0, stamped x.0.taken x.1)) (the_reply q)
+    checked (Some why) q = cc
+
+    go : (b : Bool) → (if b then (let x : Option Reply = Some (counted h, []) in x) else replied (first_of_checks (host_checks h m)) (reply_to h m)) ≡ Some r → (if b then (let x : Answer = Ok (counted h, []) in x) else answer_unless (first_of_checks (host_checks h m)) (reply_to h m)) ≡ Ok (r.0, stamped r.0.taken r.1)
+    go true q = ap (λ (x : Reply). Ok (x.0, stamped x.0.taken x.1)) (the_reply q)
+    go false q = checked (first_of_checks (host_checks h m)) q
+
+-- ## Free files, ahead of time
+
+-- a lens that shows the file as the host has it
+agrees_slot : (s : Slot) (file : HFile) → Fits_slot s file → (r : PartialText) (k : ℕ) → s ≡ Open r k → (t : List ℕ) × (file ≡ Opened t) × (k ≡ 0) × lenses.Agrees r t
+agrees_slot Unknown file f r k e = absurd (let x : Unknown ≡ Open r k = e in cc)
+agrees_slot Known file f r k e = absurd (let x : Known ≡ Open r k = e in cc)
+agrees_slot (Open a b) Absent f r k e = absurd f
+agrees_slot (Open a b) (Hidden t) f r k e = absurd f
+agrees_slot (Open a b) (Named t) f r k e = absurd f
+agrees_slot (Open a b) (Opened t) f r k e =
+    let same_rasp : a ≡ r = cc in
+    let same_locks : b ≡ k = cc in
+    (t, refl, sym same_locks ∙ f.0, subst (λ (x : PartialText). lenses.Agrees x t) same_rasp f.1)
+agrees_slot (Open a b) Gone f r k e = absurd f
+
+same_agrees : (r : PartialText) (t : List ℕ) → lenses.Agrees r t → Agrees r t
+same_agrees [] [] a = tt
+same_agrees [] (c ∷ t) a = absurd a
+same_agrees (None ∷ r) [] a = absurd a
+same_agrees (Some d ∷ r) [] a = absurd a
+same_agrees (None ∷ r) (c ∷ t) a = same_agrees r t a
+same_agrees (Some d ∷ r) (c ∷ t) a = (a.0, same_agrees r t a.1)
+
+-- the text of a file that is open there
+opened_text : (fs : PlainFiles) (f : ℕ) (t : List ℕ) → file_in fs.slots f ≡ Opened t → ((file_at fs f).text ≡ t) × ((file_at fs f).opened ≡ true)
+opened_text fs f t e = go (slot fs.slots f) (nat_lt f (length fs.slots)) e
+  where
+    at_file : (x : PlainFile) (o a : Bool) → x.opened ≡ o → (if o then Opened x.text else if a then Named x.text else Hidden x.text) ≡ Opened t → (x.text ≡ t) × (x.opened ≡ true)
+    at_file x true a q e = ((let y : Opened x.text ≡ Opened t = e in cc), q)
+    at_file x false true q e = absurd (let y : Named x.text ≡ Opened t = e in cc)
+    at_file x false false q e = absurd (let y : Hidden x.text ≡ Opened t = e in cc)
+
+    go : (s : Option PlainFile) (b : Bool) → file_of_slot b s ≡ Opened t → ((unwrap_or s blank_file).text ≡ t) × ((unwrap_or s blank_file).opened ≡ true)
+    go None true e = absurd (let y : Gone ≡ Opened t = e in cc)
+    go None false e = absurd (let y : Absent ≡ Opened t = e in cc)
+    go (Some x) b e = at_file x x.opened x.announced refl e
+
+-- a file that is not open at the host
+closed_there : (fs : PlainFiles) (f : ℕ) → ((t : List ℕ) → file_in fs.slots f ≡ Opened t → ⊥) → (file_at fs f).opened ≡ false
+closed_there fs f h = go (slot fs.slots f) (nat_lt f (length fs.slots)) h
+  where
+    at_file : (x : PlainFile) (o : Bool) → x.opened ≡ o → ((t : List ℕ) → (if o then Opened x.text else if x.announced then Named x.text else Hidden x.text) ≡ Opened t → ⊥) → x.opened ≡ false
+    at_file x true q h = absurd (h x.text refl)
+    at_file x false q h = q
+
+    go : (s : Option PlainFile) (b : Bool) → ((t : List ℕ) → file_of_slot b s ≡ Opened t → ⊥) → (unwrap_or s blank_file).opened ≡ false
+    go None b h = refl
+    go (Some x) b h = at_file x x.opened refl h
+
+-- what a settled lens says of its file
+pub record Shows (t : PlainTerminal) (fs : PlainFiles) (f : ℕ) : Type 0 where
+  pub opened : is_open t f ≡ (file_at fs f).opened
+  pub agrees : (w : Window) → window_of t f ≡ Some w → (w.locks ≡ 0) × Agrees w.rasp (file_at fs f).text
+
+settled_shows : (t : PlainTerminal) (fs : PlainFiles) (f : ℕ) → Fits_slot (slot_of (slot t.files f)) (file_in fs.slots f) → Shows t fs f
+settled_shows t fs f fits = record { opened = opens (slot t.files f) fits; agrees = at (slot t.files f) fits }
+  where
+    W : Option KnownFile → Option Window
+    W s = (unwrap_or s blank_known).window
+
+    open_window : (w : Window) → Fits_slot (Open w.rasp w.locks) (file_in fs.slots f) → (w.locks ≡ 0) × Agrees w.rasp (file_at fs f).text × ((file_at fs f).opened ≡ true)
+    open_window w fit =
+        let x = agrees_slot (Open w.rasp w.locks) (file_in fs.slots f) fit w.rasp w.locks refl in
+        let y = opened_text fs f x.0 x.1 in
+        (x.2, subst (Agrees w.rasp) (sym y.0) (same_agrees w.rasp x.0 x.3), y.1)
+
+    shut : (s : Slot) → ((r : PartialText) (k : ℕ) → s ≡ Open r k → ⊥) → Fits_slot s (file_in fs.slots f) → (file_at fs f).opened ≡ false
+    shut s apart fit = closed_there fs f (λ x e. never x s apart (subst (Fits_slot s) e fit))
+      where
+        never : (x : List ℕ) (s : Slot) → ((r : PartialText) (k : ℕ) → s ≡ Open r k → ⊥) → Fits_slot s (Opened x) → ⊥
+        never x Unknown apart q = q
+        never x Known apart q = q
+        never x (Open r k) apart q = apart r k refl
+
+    opens_window : (w : Option Window) → Fits_slot (slot_of_window w) (file_in fs.slots f) → is_some w ≡ (file_at fs f).opened
+    opens_window None fit = sym (shut Known (λ r k e. absurd (let x : Known ≡ Open r k = e in cc)) fit)
+    opens_window (Some w) fit = sym (open_window w fit).2
+
+    opens : (s : Option KnownFile) → Fits_slot (slot_of s) (file_in fs.slots f) → is_some (W s) ≡ (file_at fs f).opened
+    opens None fit = sym (shut Unknown (λ r k e. absurd (let x : Unknown ≡ Open r k = e in cc)) fit)
+    opens (Some k) fit = opens_window k.window fit
+
+    at_window : (o : Option Window) → Fits_slot (slot_of_window o) (file_in fs.slots f) → (w : Window) → o ≡ Some w → (w.locks ≡ 0) × Agrees w.rasp (file_at fs f).text
+    at_window None fit w e = absurd (let x : None ≡ Some w = e in cc)
+    at_window (Some v) fit w e =
+        let x = open_window v fit in
+        let same : v ≡ w = cc in
+        subst (λ (y : Window). (y.locks ≡ 0) × Agrees y.rasp (file_at fs f).text) same (x.0, x.1)
+
+    at : (s : Option KnownFile) → Fits_slot (slot_of s) (file_in fs.slots f) → (w : Window) → W s ≡ Some w → (w.locks ≡ 0) × Agrees w.rasp (file_at fs f).text
+    at None fit w e = absurd (let x : None ≡ Some w = e in cc)
+    at (Some k) fit w e = at_window k.window fit w e
+
+-- a free file is shown as the host will have it
+pub free_shows : (h : PlainHost) (t : PlainTerminal) (up : List Tmesg) (down : List Hmesg) (o : InOrder h t up down) (f : ℕ) → IsFree (view f t) → Shows t o.kept.ahead.files f
+free_shows h t up down o f free =
+    let k = o.kept in
+    settled_shows t k.ahead.files f (kept_free (frames_at f (down ++ k.frames)) (view f t) k.ahead.is_done k.ahead.version (file_in k.ahead.files.slots f) (k.each f) free).3
+
+-- ## Nothing under way
+
+-- the host is the one that will have handled all
+quiet_ahead : (h : PlainHost) (t : PlainTerminal) (o : InOrder h t [] []) → t.unsent ≡ None → ◌≡◌ {A = Reply} (h, []) (o.kept.ahead, o.kept.frames)
+quiet_ahead h t o e = the_reply (ap (λ (u : Option Unsent). answers h (unsent_message u)) (sym e) ∙ o.kept.folds)
+  where
+    the_reply : {p q : Reply} → Some p ≡ Some q → p ≡ q
+    the_reply e = cc
+
+quiet_settled : (h : PlainHost) (t : PlainTerminal) (o : InOrder h t [] []) → t.unsent ≡ None → (g : ℕ) → IsSettled (view g t) h.is_done h.version (file_in h.files.slots g)
+quiet_settled h t o e g =
+    let x : IsKept [] (view g t) h.is_done h.version (file_in h.files.slots g) = subst (λ (r : Reply). IsKept (frames_at g r.1) (view g t) r.0.is_done r.0.version (file_in r.0.files.slots g)) (sym (quiet_ahead h t o e)) (o.kept.each g) in
+    subst (λ (v : Lens). IsSettled v h.is_done h.version (file_in h.files.slots g)) (the_lens (sym x.runs)) x.settled
+  where
+    the_lens : {p q : Lens} → Some p ≡ Some q → p ≡ q
+    the_lens e = cc
+
+none_any : (ss : Slots KnownFile) → ((g : ℕ) → (window_in ss g).locks ≡ 0) → is_any_locked ss ≡ false
+none_any [] h = refl
+none_any (None ∷ ss) h = none_any ss (λ g. h (suc g))
+none_any (Some k ∷ ss) h =
+    ap (λ (n : ℕ). nat_lt 0 n || is_any_locked ss) (h 0) ∙ none_any ss (λ g. h (suc g))
+
+-- no lock, agreement, and the same files open
+pub record Settled (h : PlainHost) (t : PlainTerminal) : Type 0 where
+  pub command : t.command_lock ≡ false
+  pub locks : is_any_locked t.files ≡ false
+  pub shows : (f : ℕ) → Shows t h.files f
+
+pub quiet_settles : (h : PlainHost) (t : PlainTerminal) → InOrder h t [] [] → t.unsent ≡ None → Settled h t
+quiet_settles h t o e = record { command = (quiet_settled h t o e 0).0; locks = none_any t.files locked; shows = shows }
+  where
+    shows : (f : ℕ) → Shows t h.files f
+    shows f = settled_shows t h.files f (quiet_settled h t o e f).3
+
+    locked : (g : ℕ) → (window_in t.files g).locks ≡ 0
+    locked g = go (window_of t g) (shows g).agrees
+      where
+        go : (w : Option Window) → ((x : Window) → w ≡ Some x → (x.locks ≡ 0) × Agrees x.rasp (file_at h.files g).text) → (unwrap_or w blank_window).locks ≡ 0
+        go None a = refl
+        go (Some x) a = (a x refl).0
+
+-- ## Versions
+
+version-if : (n : ℕ) (b : Bool) (x y : Reply) → x.0.version ≡ n → y.0.version ≡ n → (if b then x else y).0.version ≡ n
+version-if n true x y here there = here
+version-if n false x y here there = there
+
+version-found : (h : PlainHost) (f : ℕ) (d : Option Range) (ms : List Hmesg) → (reply_found h f d ms).0.version ≡ h.version
+version-found h f None ms = refl
+version-found h f (Some d) ms = refl
+
+unlocks-behind : (a b : List P.Hmesg) → unlocks_command b ≡ true → unlocks_command (a ++ b) ≡ true
+unlocks-behind [] b e = e
+unlocks-behind (m ∷ a) b e = go (is_unlock m) (unlocks_command (a ++ b)) (unlocks-behind a b e)
+  where
+    go : (p q : Bool) → q ≡ true → (p || q) ≡ true
+    go true q e = refl
+    go false q e = e
+
+-- the version changes only with an answer that frees the command lock
+version_reply : (h : PlainHost) (m : Tmesg) → ((reply_to h m).0.version ≡ h.version) ⊎ (unlocks_command (map frame_of (reply_to h m).1) ≡ true)
+unfolding reply_version reply_startcmdfile reply_check reply_request reply_origin reply_startfile reply_workfile reply_cut reply_paste reply_snarf reply_startnewfile reply_write reply_close reply_look reply_search reply_dclick reply_startsnarf reply_setsnarf reply_exit reply_type reply_send
+version_reply h (Tversion v) =
+    inr (subst (λ (l : List P.Hmesg). unlocks_command l ≡ true) (sym (map-append frame_of (Hversion (common_version v) ∷ told_names 1 (drop 1 h.files.slots)) (Hack ∷ Hunlock ∷ [])))
+    (unlocks-behind (map frame_of (Hversion (common_version v) ∷ told_names 1 (drop 1 h.files.slots))) (map frame_of (Hack ∷ Hunlock ∷ [])) refl))
+version_reply h Tstartcmdfile = inl (version-if h.version (file_at h.files 0).opened _ _ refl refl)
+version_reply h (Tcheck f) = inl refl
+version_reply h (Trequest f p n) = inl refl
+version_reply h (Torigin f p n) = inl refl
+version_reply h (Tstartfile f) = inl refl
+version_reply h (Tworkfile f p q) = inl refl
+version_reply h (Ttype f p s) = inl (version-if h.version ((f == 0) && ends_line s) _ _ refl refl)
+version_reply h (Tcut f p q) = inl refl
+version_reply h (Tpaste f p) = inl (version-if h.version (is_empty h.files.snarf || nat_lt max_runes (length (file_at h.files f).text + length h.files.snarf)) _ _ refl refl)
+version_reply h (Tsnarf f p q) = inl refl
+version_reply h Tstartnewfile = inl (version-if h.version (nat_le all_tags (length h.files.slots)) _ _ refl refl)
+version_reply h (Twrite f) = inl refl
+version_reply h (Tclose f) = inl refl
+version_reply h (Tlook f p q) =
+    let lit = part (file_at h.files f).text p q in
+    inl (version-if h.version (is_empty lit || nat_lt most_in_pattern (length lit)) _ _ refl (version-found (with_files h (record h.files { pattern = Some lit })) f _ _))
+version_reply h (Tsearch f p q) = inl (version-found h f _ [])
+version_reply h (Tsend f p q) = inl (version-if h.version ((p == q) || not (has_room h.files (as_lines (part (file_at h.files f).text p q)))) _ _ refl refl)
+version_reply h (Tdclick f p) = inl refl
+version_reply h Tstartsnarf = inl refl
+version_reply h (Tsetsnarf s) = inl refl
+version_reply h Tack = inl refl
+version_reply h Texit = inl refl
+
+version_of_reply : (h : PlainHost) (m : Tmesg) (r : Reply) → reply_of h m ≡ Some r → (r.0.version ≡ h.version) ⊎ (unlocks_command (map frame_of r.1) ≡ true)
+version_of_reply h m r e = go h.is_done e
+  where
+    P2 : Reply → Type 0
+    P2 x = (x.0.version ≡ h.version) ⊎ (unlocks_command (map frame_of x.1) ≡ true)
+
+    the_reply : {p q : Reply} → Some p ≡ Some q → p ≡ q
+    the_reply e = cc
+
+    checked : (o : Option HostFault) → replied o (reply_to h m) ≡ Some r → P2 r
+    checked None q = subst P2 (the_reply q) (version_reply h m)
+    checked (Some why) q = absurd (let x : None ≡ Some r = q in cc)
+
+    go : (b : Bool) → (if b then (let x : Option Reply = Some (counted h, []) in x) else replied (first_of_checks (host_checks h m)) (reply_to h m)) ≡ Some r → P2 r
+    go true q = subst P2 (the_reply q) (inl refl)
+    go false q = checked (first_of_checks (host_checks h m)) q
+
+behind_none : (a b : List P.Hmesg) → unlocks_command (a ++ b) ≡ false → unlocks_command b ≡ false
+behind_none [] b e = e
+behind_none (m ∷ a) b e = behind_none a b (right (is_unlock m) (unlocks_command (a ++ b)) e)
+  where
+    right : (p r : Bool) → (p || r) ≡ false → r ≡ false
+    right true r e = absurd (true≢false e)
+    right false r e = e
+
+neither : (p r : Bool) → (p || r) ≡ false → (p ≡ false) × (r ≡ false)
+neither true r e = absurd (true≢false e)
+neither false r e = (refl, e)
+
+first_none : (a b : List P.Hmesg) → unlocks_command (a ++ b) ≡ false → unlocks_command a ≡ false
+first_none [] b e = refl
+first_none (m ∷ a) b e =
+    let parts = neither (is_unlock m) (unlocks_command (a ++ b)) e in
+    ap (λ (x : Bool). x || unlocks_command a) parts.0 ∙ first_none a b parts.1
+
+before_none : (a b : List P.Hmesg) → unlocks_command (a ++ b) ≡ false → unlocks_command a ≡ true → ⊥
+before_none a b e f = true≢false (sym f ∙ first_none a b e)
+
+answers_version : (ms : List Tmesg) (h : PlainHost) (a : Reply) → answers h ms ≡ Some a → unlocks_command (map frame_of a.1) ≡ false → a.0.version ≡ h.version
+answers_version [] h a e u = ap (λ (r : Reply). r.0.version) (sym (the_reply e))
+  where
+    the_reply : {p q : Reply} → Some p ≡ Some q → p ≡ q
+    the_reply e = cc
+answers_version (m ∷ ms) h a e u =
+    let t = answered h m ms a e in
+    let both : unlocks_command (map frame_of t.first.1 ++ map frame_of t.rest.1) ≡ false = sym (ap unlocks_command (ap (λ (r : Reply). map frame_of r.1) t.whole ∙ map-append frame_of t.first.1 t.rest.1)) ∙ u in
+    let later = answers_version ms t.first.0 t.rest t.later (behind_none (map frame_of t.first.1) (map frame_of t.rest.1) both) in
+    let first : t.first.0.version ≡ h.version = go t.first t.rest both (version_of_reply h m t.first t.now) in
+    ap (λ (r : Reply). r.0.version) t.whole ∙ later ∙ first
+  where
+    go : (r s : Reply) → unlocks_command (map frame_of r.1 ++ map frame_of s.1) ≡ false → (r.0.version ≡ h.version) ⊎ (unlocks_command (map frame_of r.1) ≡ true) → r.0.version ≡ h.version
+    go r s b (inl x) = x
+    go r s b (inr x) = absurd (before_none (map frame_of r.1) (map frame_of s.1) b x)
+
+-- where the command lock is free both sides have one version
+pub one_version : (h : PlainHost) (t : PlainTerminal) (up : List Tmesg) (down : List Hmesg) → InOrder h t up down → t.command_lock ≡ false → t.version ≡ h.version
+one_version h t up down o c =
+    let k = o.kept in
+    let x = k.each 0 in
+    let all : List P.Hmesg = map frame_of (down ++ k.frames) in
+    let none : unlocks_command all ≡ false = sym (unlock_frames 0 all) ∙ no_unlock (frames_at 0 (down ++ k.frames)) (view 0 t) x.final x.runs c in
+    let still : version_of x.final ≡ t.version = same_version (frames_at 0 (down ++ k.frames)) (view 0 t) x.final x.runs (no_changes 0 all k.versions none) in
+    let last : unlocks_command (map frame_of k.frames) ≡ false = behind_none (map frame_of down) (map frame_of k.frames) (sym (ap unlocks_command (map-append frame_of down k.frames)) ∙ none) in
+    sym still ∙ settled_version x.final k.ahead.is_done k.ahead.version (file_in k.ahead.files.slots 0) x.settled ∙ answers_version (up ++ unsent_message t.unsent) h (k.ahead, k.frames) k.folds last
+  where
+    settled_version : (v : Lens) (d : Bool) (n : ℕ) (file : HFile) → IsSettled v d n file → version_of v ≡ n
+    settled_version (lens c e m s) d n file x = x.2
