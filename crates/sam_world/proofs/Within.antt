@@ -7,7 +7,7 @@ use Rattle.sam_runes.specs.Checks.{first_of_checks}
 use Rattle.sam_runes.specs.Texts.{most_count, snarf_limit, utf8_length}
 use Rattle.sam_host.specs.Host.{PlainHost, answer}
 use Rattle.sam_host.specs.Laws.{AreGiven, IsSound, FitInPlace}
-use Rattle.sam_host.proofs.SoundLaws.{frames_fit}
+use Rattle.sam_host.proofs.SoundLaws.{starts_sound, stays_sound, frames_fit}
 use Rattle.sam_term.specs.Sound.{IsSound as IsSoundTerminal}
 use Rattle.sam_term.specs.Fitting.{all_fit}
 use Rattle.sam_term.proofs.FitLaws.{event_fits, flush_fits, frame_fits}
@@ -25,9 +25,12 @@ use Rattle.sam_mesg.specs.declared.tmesg.Tmesg.{Tmesg}
 use Rattle.sam_mesg.specs.declared.tmesg.Tmesg.TheVariants.{Ttype, Tsetsnarf}
 use Rattle.sam_mesg.specs.declared.hmesg.HFrame.{HFrame}
 use Rattle.sam_world.proofs.ActLaws.{acted_in, not_done}
-use Rattle.sam_world.specs.World.{PlainWorld, new_world, IsReached, step_of, run_of}
+use Rattle.sam_world.specs.World.{PlainWorld, new_world, IsReached, step_of, run_of, composed_by, after_act, after_compose, after_answer, host_takes, term_takes}
 use Rattle.sam_world.specs.Reached.{WasReached}
 use Rattle.sam_world.specs.declared.event.Event.{Event}
+use Rattle.sam_world.specs.declared.event.Event.TheVariants.{User, Act, Flush, HostTake, TermTake}
+use Rattle.sam_host.specs.declared.fault.HostFault.{HostFault}
+use Rattle.sam_world.proofs.RunLaws.{run_keeps}
 
 -- ## One step more is a run
 
@@ -136,3 +139,42 @@ taken_fits t u frame ms s a = go (first_of_checks ((nat_lt t.sent frame.seen, fa
     go : (o : Option TermFault) → made_unless o (made_from t frame.msg) ≡ Ok (u, ms) → All (λ m. IsTrue (fits_t 2 m)) ms
     go (Some why) q = absurd (cc)
     go None q = fitting t.version ms (made_from t frame.msg).1 (counted_in (made_from t frame.msg).0.sent (made_from t frame.msg) u ms q) (frame_fits t frame.msg s)
+
+-- ## The host of a world is sound
+
+sound-after : (w next : PlainWorld) (r : Result (PlainHost × List HFrame) HostFault) (m : Tmesg) → answer w.host m ≡ r → IsSound w.host → after_answer w r ≡ Some next → IsSound next.host
+sound-after w next (Err why) m a s e = absurd (cc)
+sound-after w next (Ok r) m a s e =
+    subst (λ x. IsSound x.host) (same_Some (record w { host = r.0; down = w.down ++ r.1 }) next e) (stays_sound w.host r.0 m r.1 a s)
+
+still-after : (w next : PlainWorld) (r : Result Made TermFault) → IsSound w.host → after_compose w r ≡ Some next → IsSound next.host
+still-after w next (Err why) s e = absurd (cc)
+still-after w next (Ok r) s e = subst (λ x. IsSound x.host) (same_Some (record w { term = r.0; up = w.up ++ r.1 }) next e) s
+
+sound_step : (w : PlainWorld) (e : Event) (next : PlainWorld) → IsSound w.host → step_of w e ≡ Some next → IsSound next.host
+sound_step w (User x) next s e =
+    subst (λ v. IsSound v.host) (same_Some (record w { term = record w.term { held = w.term.held ++ x ∷ [] } }) next e) s
+sound_step w Act next s e = go (act_of w.term) e
+  where
+    go : (r : Result (PlainTerminal × Acted) TermFault) → after_act w r ≡ Some next → IsSound next.host
+    go (Err why) q = absurd (cc)
+    go (Ok r) q = subst (λ x. IsSound x.host) (same_Some (record w { term = r.0; up = w.up ++ composed_by r.1 }) next q) s
+sound_step w Flush next s e = still-after w next (flush_of w.term) s e
+sound_step w HostTake next s e = go w.up e
+  where
+    go : (ms : List Tmesg) → host_takes w ms ≡ Some next → IsSound next.host
+    go [] q = absurd (cc)
+    go (m ∷ ms) q = sound-after (record w { up = ms }) next (answer w.host m) m refl s q
+sound_step w TermTake next s e = go w.down e
+  where
+    go : (frames : List HFrame) → term_takes w frames ≡ Some next → IsSound next.host
+    go [] q = absurd (cc)
+    go (frame ∷ frames) q = still-after (record w { down = frames }) next (take_of w.term frame) s q
+
+pub reached_sound : (w : PlainWorld) → WasReached w → IsSound w.host
+reached_sound w r =
+    run_keeps (λ v. IsSound v.host) sound_step (new_world r.given) r.reached.0 w (starts_sound r.given r.limits) r.reached.1
+
+-- what the host of a world answers is within the limits
+pub answered_fits : (w : PlainWorld) (g : PlainHost) (m : Tmesg) (frames : List HFrame) → WasReached w → answer w.host m ≡ Ok (g, frames) → All (λ frame. IsTrue (fits_h 2 frame.msg)) frames
+answered_fits w g m frames r a = host_fits w.host g m frames (reached_sound w r) a
