@@ -1,31 +1,31 @@
-mod Runs
-mod Kept
-mod Texts
-mod Answering
-mod Versions
-mod Making
-mod FileLocks
-mod Edits
-mod Commands
-mod Lines
-mod FrameMoves
-mod Mirror
-mod MirrorLines
-mod MirrorVersions
-mod Syncing
-mod LineMeans
-mod Running
-mod Handling
-mod Steady
-mod Folds
-mod Composing
-mod Joins
-mod Views
-mod Dots
-mod Passing
-mod Sending
-mod Typing
-mod Acting
-mod Receiving
-mod Ordered
-mod Starting
+pub mod Runs
+pub mod Kept
+pub mod Texts
+pub mod Answering
+pub mod Versions
+pub mod Making
+pub mod FileLocks
+pub mod Edits
+pub mod Commands
+pub mod Lines
+pub mod FrameMoves
+pub mod Mirror
+pub mod MirrorLines
+pub mod MirrorVersions
+pub mod Syncing
+pub mod LineMeans
+pub mod Running
+pub mod Handling
+pub mod Steady
+pub mod Folds
+pub mod Composing
+pub mod Joins
+pub mod Views
+pub mod Dots
+pub mod Passing
+pub mod Sending
+pub mod Typing
+pub mod Acting
+pub mod Receiving
+pub mod Ordered
+pub mod Starting

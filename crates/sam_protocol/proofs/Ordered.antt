@@ -46,11 +46,10 @@ host_goes h t m up down o =
     let x = host_takes h (views t) m (up ++ unsent_message t.unsent) down o.kept in
     record { reply = x.reply; answers_it = x.answers_it; next = record { kept = x.kept; tidy = o.tidy; unsent = o.unsent } }
 
-pub msgs : List HFrame → List Hmesg
+abbrev pub msgs : List HFrame → List Hmesg
 msgs frames = map (λ (f : HFrame). f.msg) frames
 
 pub msgs_stamped : (n : ℕ) (ms : List Hmesg) → msgs (stamped n ms) ≡ ms
-unfolding msgs
 msgs_stamped n [] = refl
 msgs_stamped n (m ∷ ms) = ap (λ (l : List Hmesg). m ∷ l) (msgs_stamped n ms)
 

@@ -11,9 +11,11 @@ use Rattle.sam_term.specs.declared.event.Verdict.TheVariants.{Waits, Refuses}
 use Rattle.sam_term.specs.declared.files.Window.{Window}
 use Rattle.sam_term.specs.declared.files.KnownFile.{KnownFile}
 use Rattle.sam_term.specs.declared.event.UserEvent.{UserEvent}
+use Rattle.sam_term.specs.declared.event.UserEvent.TheVariants.{Typed, Select, Cut, Paste, Snarf, Look, Search, Send, Dclick, Scroll, View, Open, Close, Write, Work, OpenCmd, New, Exit, Check, GetSnarf, SetSnarf, Version, Flush}
 use Rattle.sam_term.specs.declared.fault.Refusal.TheVariants as refusal
 use Rattle.sam_rasp.specs.Rasp.{PartialText}
-use Rattle.sam_protocol.specs.Lens.{Slot, Unknown, Known, Open, Lens, lens, IsFree, IsOpen}
+use Rattle.sam_protocol.specs.Lens as lenses
+use Rattle.sam_protocol.specs.Lens.{Slot, Lens, lens, IsFree, IsOpen}
 use Rattle.sam_protocol.specs.Crossing.{OpenAt, KnownAt}
 use Rattle.sam_protocol.specs.View.{slot_of_window, slot_of, view}
 
@@ -71,7 +73,7 @@ free_at t f c k = subst (λ (b : Bool). IsFree (lens b t.has_exited t.version (s
 
     at_window : (w : Option Window) → nat_lt 0 (unwrap_or w blank_window).locks ≡ false → IsFree (L (slot_of_window w))
     at_window None k = tt
-    at_window (Some w) k = subst (λ (n : ℕ). IsFree (L (Open w.rasp n))) (sym (no_locks w.locks k)) tt
+    at_window (Some w) k = subst (λ (n : ℕ). IsFree (L (lenses.Open w.rasp n))) (sym (no_locks w.locks k)) tt
 
     go : (s : Option KnownFile) → nat_lt 0 (unwrap_or (unwrap_or s blank_known).window blank_window).locks ≡ false → IsFree (L (slot_of s))
     go None k = tt
@@ -130,3 +132,29 @@ none_locked (Some x ∷ ss) (suc g) e = none_locked ss g (neither (nat_lt 0 (unw
 
 pub all_free : (t : PlainTerminal) → t.command_lock ≡ false → is_any_locked t.files ≡ false → (g : ℕ) → IsFree (view g t)
 all_free t c e g = free_at t g c (none_locked t.files g e)
+
+-- the tests of an event look at no event that is held
+pub held_passed : (t : PlainTerminal) (es : List UserEvent) (e : UserEvent) → Passed t e → Passed (record t { held = es }) e
+held_passed t es (Typed f s) p = record { here = p.here; free = p.free; version = p.version; known = p.known; other = p.other; opened = p.opened; unlocked = p.unlocked; all_unlocked = p.all_unlocked; place = p.place; room = p.room }
+held_passed t es (Select f a b) p = record { here = p.here; free = p.free; version = p.version; known = p.known; other = p.other; opened = p.opened; unlocked = p.unlocked; all_unlocked = p.all_unlocked; place = p.place; room = p.room }
+held_passed t es (Cut f) p = record { here = p.here; free = p.free; version = p.version; known = p.known; other = p.other; opened = p.opened; unlocked = p.unlocked; all_unlocked = p.all_unlocked; place = p.place; room = p.room }
+held_passed t es (Paste f) p = record { here = p.here; free = p.free; version = p.version; known = p.known; other = p.other; opened = p.opened; unlocked = p.unlocked; all_unlocked = p.all_unlocked; place = p.place; room = p.room }
+held_passed t es (Snarf f) p = record { here = p.here; free = p.free; version = p.version; known = p.known; other = p.other; opened = p.opened; unlocked = p.unlocked; all_unlocked = p.all_unlocked; place = p.place; room = p.room }
+held_passed t es (Look f) p = record { here = p.here; free = p.free; version = p.version; known = p.known; other = p.other; opened = p.opened; unlocked = p.unlocked; all_unlocked = p.all_unlocked; place = p.place; room = p.room }
+held_passed t es (Search f) p = record { here = p.here; free = p.free; version = p.version; known = p.known; other = p.other; opened = p.opened; unlocked = p.unlocked; all_unlocked = p.all_unlocked; place = p.place; room = p.room }
+held_passed t es (Send f) p = record { here = p.here; free = p.free; version = p.version; known = p.known; other = p.other; opened = p.opened; unlocked = p.unlocked; all_unlocked = p.all_unlocked; place = p.place; room = p.room }
+held_passed t es (Dclick f a) p = record { here = p.here; free = p.free; version = p.version; known = p.known; other = p.other; opened = p.opened; unlocked = p.unlocked; all_unlocked = p.all_unlocked; place = p.place; room = p.room }
+held_passed t es (Scroll f n) p = record { here = p.here; free = p.free; version = p.version; known = p.known; other = p.other; opened = p.opened; unlocked = p.unlocked; all_unlocked = p.all_unlocked; place = p.place; room = p.room }
+held_passed t es (View f a n) p = record { here = p.here; free = p.free; version = p.version; known = p.known; other = p.other; opened = p.opened; unlocked = p.unlocked; all_unlocked = p.all_unlocked; place = p.place; room = p.room }
+held_passed t es (Open f) p = record { here = p.here; free = p.free; version = p.version; known = p.known; other = p.other; opened = p.opened; unlocked = p.unlocked; all_unlocked = p.all_unlocked; place = p.place; room = p.room }
+held_passed t es (Close f) p = record { here = p.here; free = p.free; version = p.version; known = p.known; other = p.other; opened = p.opened; unlocked = p.unlocked; all_unlocked = p.all_unlocked; place = p.place; room = p.room }
+held_passed t es (Write f) p = record { here = p.here; free = p.free; version = p.version; known = p.known; other = p.other; opened = p.opened; unlocked = p.unlocked; all_unlocked = p.all_unlocked; place = p.place; room = p.room }
+held_passed t es (Work f) p = record { here = p.here; free = p.free; version = p.version; known = p.known; other = p.other; opened = p.opened; unlocked = p.unlocked; all_unlocked = p.all_unlocked; place = p.place; room = p.room }
+held_passed t es OpenCmd p = record { here = p.here; free = p.free; version = p.version; known = p.known; other = p.other; opened = p.opened; unlocked = p.unlocked; all_unlocked = p.all_unlocked; place = p.place; room = p.room }
+held_passed t es New p = record { here = p.here; free = p.free; version = p.version; known = p.known; other = p.other; opened = p.opened; unlocked = p.unlocked; all_unlocked = p.all_unlocked; place = p.place; room = p.room }
+held_passed t es Exit p = record { here = p.here; free = p.free; version = p.version; known = p.known; other = p.other; opened = p.opened; unlocked = p.unlocked; all_unlocked = p.all_unlocked; place = p.place; room = p.room }
+held_passed t es (Check f) p = record { here = p.here; free = p.free; version = p.version; known = p.known; other = p.other; opened = p.opened; unlocked = p.unlocked; all_unlocked = p.all_unlocked; place = p.place; room = p.room }
+held_passed t es GetSnarf p = record { here = p.here; free = p.free; version = p.version; known = p.known; other = p.other; opened = p.opened; unlocked = p.unlocked; all_unlocked = p.all_unlocked; place = p.place; room = p.room }
+held_passed t es (SetSnarf s) p = record { here = p.here; free = p.free; version = p.version; known = p.known; other = p.other; opened = p.opened; unlocked = p.unlocked; all_unlocked = p.all_unlocked; place = p.place; room = p.room }
+held_passed t es (Version v) p = record { here = p.here; free = p.free; version = p.version; known = p.known; other = p.other; opened = p.opened; unlocked = p.unlocked; all_unlocked = p.all_unlocked; place = p.place; room = p.room }
+held_passed t es Flush p = record { here = p.here; free = p.free; version = p.version; known = p.known; other = p.other; opened = p.opened; unlocked = p.unlocked; all_unlocked = p.all_unlocked; place = p.place; room = p.room }

@@ -1,0 +1,85 @@
+-- What is kept in order in every state of a run, and what follows from it.
+use Rattle.std.specs.Prelude.{◌≡◌, ℕ, ◌+◌, ◌≤◌, Bool, true, false, List, [], ◌∷◌, length, map, Option, Some, None, Result, Ok, Err}
+use Rattle.sam_runes.specs.Texts.{most_count}
+use Rattle.sam_host.specs.Host.{answer}
+use Rattle.sam_host.specs.Laws.{AreGiven}
+use Rattle.sam_host.specs.declared.fault.HostFault.{HostFault}
+use Rattle.sam_host.specs.declared.fault.HostFault.TheVariants as hostfault
+use Rattle.sam_term.specs.Term.{PlainTerminal, unsent_message, act_of, flush_of, take_of, file_of, is_file_locked, waits_for_all}
+use Rattle.sam_term.specs.declared.fault.TermFault.{TermFault}
+use Rattle.sam_term.specs.declared.fault.TermFault.TheVariants as fault
+use Rattle.sam_term.specs.declared.event.UserEvent.{UserEvent}
+use Rattle.sam_term.specs.declared.event.Acted.TheVariants.{Locked}
+use Rattle.sam_mesg.specs.declared.tmesg.Tmesg.{Tmesg}
+use Rattle.sam_mesg.specs.declared.hmesg.Hmesg.{Hmesg}
+use Rattle.sam_mesg.specs.declared.hmesg.HFrame.{HFrame}
+use Rattle.sam_protocol.specs.Order.{InOrder}
+use Rattle.sam_world.specs.World.{PlainWorld, new_world, step_of, run_of, IsSettledWhereQuiet, IsAhead, HasOneVersion}
+use Rattle.sam_world.specs.declared.event.Event.{Event}
+
+-- each frame saw at most n messages
+abbrev pub Stamped : ℕ → List HFrame → Type 0
+Stamped n [] = Unit {0}
+Stamped n (frame ∷ frames) = (frame.seen ≤ n) × Stamped n frames
+
+-- what the terminal has sent is what the host has taken and what is under way to it; no frame is from the future
+pub record IsCounted (w : PlainWorld) : Type 0 where
+  pub all : w.host.taken + length w.up ≡ w.term.sent
+  pub stamps : Stamped w.host.taken w.down
+
+abbrev pub mesgs : List HFrame → List Hmesg
+mesgs frames = map (λ (frame : HFrame). frame.msg) frames
+
+-- messages and frames are counted, and once all that is under way was handled, with nothing new begun, no lock is held and both
+-- sides agree
+pub record IsInOrder (w : PlainWorld) : Type 0 where
+  pub counted : IsCounted w
+  pub ordered : InOrder w.host w.term w.up (mesgs w.down)
+
+-- the count of messages has room for the unsent runes
+abbrev pub IsCountable : PlainWorld → Type 0
+IsCountable w = w.term.sent + length (unsent_message w.term.unsent) ≤ most_count
+
+-- ## The laws
+
+abbrev pub StartsInOrder : Type 0
+StartsInOrder = (given : List (List ℕ × List ℕ)) → AreGiven given → IsInOrder (new_world given)
+
+-- whatever the event is, and whatever the user does
+abbrev pub StepsInOrder : Type 0
+StepsInOrder = (w next : PlainWorld) (e : Event) → IsInOrder w → step_of w e ≡ Some next → IsInOrder next
+
+abbrev pub RunsInOrder : Type 0
+RunsInOrder = (w last : PlainWorld) (es : List Event) → IsInOrder w → run_of w es ≡ Some last → IsInOrder last
+
+-- the host refuses no message of the terminal, unless its count is full
+abbrev pub HostNeverRefuses : Type 0
+HostNeverRefuses =
+    (w : PlainWorld) (m : Tmesg) (ms : List Tmesg) (why : HostFault) → IsInOrder w → w.up ≡ m ∷ ms → answer w.host m ≡ Err why
+    → (why ≡ hostfault.CountFull) × (w.host.taken ≡ most_count)
+
+-- the terminal refuses no frame of the host, unless its count would be passed
+abbrev pub TerminalNeverRefuses : Type 0
+TerminalNeverRefuses =
+    (w : PlainWorld) (frame : HFrame) (frames : List HFrame) (why : TermFault) → IsInOrder w → w.down ≡ frame ∷ frames → take_of w.term frame ≡ Err why
+    → why ≡ fault.CountFull
+
+-- nor does an event or a flush stop it otherwise
+abbrev pub OnlyCountsStop : Type 0
+OnlyCountsStop =
+    (t : PlainTerminal) (why : TermFault) → (act_of t ≡ Err why → why ≡ fault.CountFull) × (flush_of t ≡ Err why → why ≡ fault.CountFull)
+
+abbrev pub QuietMeansAgreement : Type 0
+QuietMeansAgreement = (w : PlainWorld) → IsInOrder w → IsSettledWhereQuiet w
+
+abbrev pub FreeMeansAhead : Type 0
+FreeMeansAhead = (w : PlainWorld) (f : ℕ) → IsInOrder w → IsCountable w → IsAhead w f
+
+abbrev pub FreeMeansOneVersion : Type 0
+FreeMeansOneVersion = (w : PlainWorld) → IsInOrder w → HasOneVersion w
+
+-- an event that names a file without a lock, and waits for no other lock, is not held back while the command lock is free
+abbrev pub OthersGoOn : Type 0
+OthersGoOn =
+    (t u : PlainTerminal) (e : UserEvent) (es : List UserEvent) → t.held ≡ e ∷ es → t.command_lock ≡ false → is_file_locked t (file_of e) ≡ false → waits_for_all e ≡ false → act_of t ≡ Ok (u, Locked)
+    → ⊥
