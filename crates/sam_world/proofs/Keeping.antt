@@ -1,0 +1,112 @@
+-- What is kept of every world, step by step.
+use Rattle.std.proofs.Common.{◌≡◌, refl, sym, ap, ◌∙◌, subst, ◌+◌, ◌<◌, ℕ, zero, suc, List, [], ◌∷◌, ◌++◌, drop, length, Option, Some, None, Result, Ok, Err, arith}
+use Rattle.std.specs.Prelude.{All, IsTrue, slice_index_or}
+use Rattle.std.proofs.lemmas.List.Elements.{All-append}
+use Rattle.std.proofs.lemmas.Option.{same_Some}
+use Rattle.sam_host.specs.Host.{PlainHost, answer}
+use Rattle.sam_host.specs.Laws.{AreGiven}
+use Rattle.sam_term.specs.Sound.{IsSound}
+use Rattle.sam_term.specs.Term.{PlainTerminal, act_of, flush_of, take_of}
+use Rattle.sam_term.specs.declared.event.UserEvent.{UserEvent}
+use Rattle.sam_term.specs.declared.event.Acted.{Acted}
+use Rattle.sam_term.specs.declared.event.Acted.TheVariants.{Idle, Locked, Done, Refused}
+use Rattle.sam_mesg.specs.TerminalKinds.{fits_t}
+use Rattle.sam_mesg.specs.HostKinds.{fits_h}
+use Rattle.sam_mesg.specs.declared.tmesg.Tmesg.{Tmesg}
+use Rattle.sam_mesg.specs.declared.hmesg.HFrame.{HFrame}
+use Rattle.sam_world.specs.World.{PlainWorld, new_world, step_of, composed_by, after_act, after_compose, after_answer, host_takes, term_takes}
+use Rattle.sam_world.specs.UnderWay.{head}
+use Rattle.sam_world.specs.Reached.{WasReached, IsKept}
+use Rattle.sam_world.specs.declared.event.Event.TheVariants.{User, Act, Flush, HostTake, TermTake}
+use Rattle.sam_world.proofs.Within.{reached_start, reached_step, act_fits, flushed_fits, taken_fits, answered_fits}
+
+FitUp : List Tmesg → Type 0
+FitUp ms = All (λ m. IsTrue (fits_t 2 m)) ms
+
+FitDown : List HFrame → Type 0
+FitDown frames = All (λ frame. IsTrue (fits_h 2 frame.msg)) frames
+
+fit_none : {X : Type 0} (P : X → Type 0) → All P []
+fit_none P k d l = absurd (omega arith)
+
+fit_rest : {X : Type 0} (P : X → Type 0) (xs : List X) → All P xs → All P (drop 1 xs)
+fit_rest P [] a = a
+fit_rest P (x ∷ xs) a = λ k d l. a (suc k) d (omega (arith, l))
+
+pub kept_start : (given : List (List ℕ × List ℕ)) → AreGiven given → IsKept (new_world given)
+kept_start given limits =
+    record {
+      reached = reached_start given limits;
+      up = fit_none (λ m. IsTrue (fits_t 2 m));
+      down = fit_none (λ frame. IsTrue (fits_h 2 frame.msg));
+    }
+
+pub kept_user : (w : PlainWorld) (e : UserEvent) (t : PlainTerminal) → IsKept w → t ≡ record w.term { held = w.term.held ++ e ∷ [] } → IsKept (record { host = w.host; term = t; up = w.up; down = w.down })
+kept_user w e t k same =
+    subst (λ x. IsKept (record { host = w.host; term = x; up = w.up; down = w.down })) (sym same)
+    (record { reached = reached_step w _ (User e) k.reached refl; up = k.up; down = k.down })
+
+act_done : (w : PlainWorld) (t : PlainTerminal) (acted : Acted) → IsKept w → act_of w.term ≡ Ok (t, acted) → FitUp (composed_by acted) → IsKept (record { host = w.host; term = t; up = w.up ++ composed_by acted; down = w.down })
+unfolding FitUp
+act_done w t acted k a f =
+    record {
+      reached = reached_step w (record { host = w.host; term = t; up = w.up ++ composed_by acted; down = w.down }) Act k.reached (ap (λ x. after_act w x) a);
+      up = All-append (λ m. IsTrue (fits_t 2 m)) w.up (composed_by acted) k.up f;
+      down = k.down;
+    }
+
+pub kept_done : (w : PlainWorld) (t : PlainTerminal) (ms up : List Tmesg) → IsKept w → IsSound w.term → act_of w.term ≡ Ok (t, Done ms) → up ≡ w.up ++ ms → IsKept (record { host = w.host; term = t; up = up; down = w.down })
+unfolding FitUp
+kept_done w t ms up k s a same =
+    subst (λ x. IsKept (record { host = w.host; term = t; up = x; down = w.down })) (sym same)
+    (act_done w t (Done ms) k a (act_fits w.term t ms s a))
+
+append_none : {X : Type 0} (xs : List X) → xs ++ [] ≡ xs
+append_none [] = refl
+append_none (x ∷ xs) = ap (λ ys. x ∷ ys) (append_none xs)
+
+-- an act that composed nothing
+pub kept_silent : (w : PlainWorld) (t : PlainTerminal) (acted : Acted) (up : List Tmesg) → IsKept w → act_of w.term ≡ Ok (t, acted) → composed_by acted ≡ [] → up ≡ w.up → IsKept (record { host = w.host; term = t; up = up; down = w.down })
+unfolding FitUp
+kept_silent w t acted up k a none same =
+    let silent : FitUp (composed_by acted) = subst FitUp (sym none) (fit_none (λ m. IsTrue (fits_t 2 m))) in
+    let joined : w.up ++ composed_by acted ≡ up = ap (λ ms. w.up ++ ms) none ∙ append_none w.up ∙ sym same in
+    subst (λ x. IsKept (record { host = w.host; term = t; up = x; down = w.down })) joined (act_done w t acted k a silent)
+
+pub kept_flush : (w : PlainWorld) (t : PlainTerminal) (ms up : List Tmesg) → IsKept w → IsSound w.term → flush_of w.term ≡ Ok (t, ms) → up ≡ w.up ++ ms → IsKept (record { host = w.host; term = t; up = up; down = w.down })
+kept_flush w t ms up k s a same =
+    subst (λ x. IsKept (record { host = w.host; term = t; up = x; down = w.down })) (sym same)
+    (record {
+      reached = reached_step w (record { host = w.host; term = t; up = w.up ++ ms; down = w.down }) Flush k.reached (ap (λ x. after_compose w x) a);
+      up = All-append (λ m. IsTrue (fits_t 2 m)) w.up ms k.up (flushed_fits w.term t ms s a);
+      down = k.down;
+    })
+
+-- the first member stands before the rest
+first_rest : {X : Type 0} (xs : List X) (x : X) → head xs ≡ Some x → xs ≡ x ∷ drop 1 xs
+first_rest [] x e = absurd (cc)
+first_rest (y ∷ xs) x e = ap (λ z. z ∷ xs) (same_Some y x e)
+
+pub kept_answer : (w : PlainWorld) (h : PlainHost) (m : Tmesg) (up : List Tmesg) (frames down : List HFrame) → IsKept w → head w.up ≡ Some m → answer w.host m ≡ Ok (h, frames) → up ≡ drop 1 w.up → down ≡ w.down ++ frames → IsKept (record { host = h; term = w.term; up = up; down = down })
+kept_answer w h m up frames down k first a rest joined =
+    let goes : step_of w HostTake ≡ Some (record { host = h; term = w.term; up = drop 1 w.up; down = w.down ++ frames }) =
+    ap (λ ms. host_takes w ms) (first_rest w.up m first) ∙ ap (λ x. after_answer (record w { up = drop 1 w.up }) x) a in
+    subst (λ x. IsKept (record { host = h; term = w.term; up = x; down = down })) (sym rest)
+    (subst (λ x. IsKept (record { host = h; term = w.term; up = drop 1 w.up; down = x })) (sym joined)
+    (record {
+      reached = reached_step w (record { host = h; term = w.term; up = drop 1 w.up; down = w.down ++ frames }) HostTake k.reached goes;
+      up = fit_rest (λ m. IsTrue (fits_t 2 m)) w.up k.up;
+      down = All-append (λ frame. IsTrue (fits_h 2 frame.msg)) w.down frames k.down (answered_fits w h m frames k.reached a);
+    }))
+
+pub kept_take : (w : PlainWorld) (t : PlainTerminal) (frame : HFrame) (ms up : List Tmesg) (down : List HFrame) → IsKept w → IsSound w.term → head w.down ≡ Some frame → take_of w.term frame ≡ Ok (t, ms) → up ≡ w.up ++ ms → down ≡ drop 1 w.down → IsKept (record { host = w.host; term = t; up = up; down = down })
+kept_take w t frame ms up down k s first a joined rest =
+    let goes : step_of w TermTake ≡ Some (record { host = w.host; term = t; up = w.up ++ ms; down = drop 1 w.down }) =
+    ap (λ frames. term_takes w frames) (first_rest w.down frame first) ∙ ap (λ x. after_compose (record w { down = drop 1 w.down }) x) a in
+    subst (λ x. IsKept (record { host = w.host; term = t; up = x; down = down })) (sym joined)
+    (subst (λ x. IsKept (record { host = w.host; term = t; up = w.up ++ ms; down = x })) (sym rest)
+    (record {
+      reached = reached_step w (record { host = w.host; term = t; up = w.up ++ ms; down = drop 1 w.down }) TermTake k.reached goes;
+      up = All-append (λ m. IsTrue (fits_t 2 m)) w.up ms k.up (taken_fits w.term t frame ms s a);
+      down = fit_rest (λ frame. IsTrue (fits_h 2 frame.msg)) w.down k.down;
+    }))

@@ -1,0 +1,22 @@
+-- Batches one behind the other.
+use Rattle.std.proofs.Common.{◌≡◌, refl, sym, ap, ◌∙◌, ◌<◌, ℕ, Bool, true, false, ◌==◌, List, [], ◌∷◌, ◌++◌, length, map, Option, Some, None, arith}
+use Rattle.std.proofs.lemmas.List.{append_assoc}
+use Rattle.sam_runes.specs.Texts.{is_empty}
+use Rattle.sam_world.specs.UnderWay.{head, joined, AreFilled}
+
+pub joined-behind : {B M : Type 0} (items : B → List M) (batches : List B) (batch : B) → joined (map items (batches ++ batch ∷ [])) ≡ joined (map items batches) ++ items batch
+joined-behind items [] batch = append_nil (items batch)
+  where
+    append_nil : {M : Type 0} (xs : List M) → xs ++ [] ≡ xs
+    append_nil [] = refl
+    append_nil (x ∷ xs) = ap (λ ys. x ∷ ys) (append_nil xs)
+joined-behind items (b ∷ bs) batch =
+    ap (λ xs. items b ++ xs) (joined-behind items bs batch) ∙ sym (append_assoc (items b) (joined (map items bs)) (items batch))
+
+pub filled-behind : {B M : Type 0} (items : B → List M) (batches : List B) (batch : B) → AreFilled (map items batches) → (items batch ≡ [] → ⊥) → AreFilled (map items (batches ++ batch ∷ []))
+filled-behind items [] batch filled there = (there, tt)
+filled-behind items (b ∷ bs) batch filled there = (filled.0, filled-behind items bs batch filled.1 there)
+
+-- a list of some length is not empty
+pub some_length : {M : Type 0} (n : ℕ) (xs : List M) → n ≡ length xs → (n == 0) ≡ false → xs ≡ [] → ⊥
+some_length n xs len some none = absurd (cc)

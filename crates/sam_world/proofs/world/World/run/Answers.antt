@@ -1,0 +1,10 @@
+use Rattle.std.proofs.Common.{◌≡◌, Some, arith, subst}
+use Rattle.sam_world.specs.World.{step_of}
+use Rattle.sam_world.proofs.Runs.{run_more}
+use Rattle.sam_world.proofs.world.World.run.Goals as goal
+
+pub loop-at-preserved : goal.loop-at-preserved
+loop-at-preserved c =
+    run_more c.args.self.now c.loop-at.self c.step_as.new.self c.args.events.now c.loop-at.at c.index-events-at.result
+    (omega (arith, c.loop-at-test.true)) c.loop-at.invariant
+    (subst (λ e. step_of c.loop-at.self e ≡ Some c.step_as.new.self) c.index-events-at.is c.in_default.ensures.stepped)

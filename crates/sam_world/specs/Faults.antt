@@ -1,0 +1,50 @@
+-- Why a step of the world is not made.
+use Rattle.std.specs.Prelude.{◌≡◌, ◌<◌, ℕ, Bool, true, List, length, take, slice_get, Option, Some, None, IfSome}
+use Rattle.sam_host.specs.declared.fault.HostFault.{HostFault}
+use Rattle.sam_host.specs.declared.fault.HostFault.TheVariants as host
+use Rattle.sam_term.specs.declared.fault.TermFault.{TermFault}
+use Rattle.sam_term.specs.declared.fault.TermFault.TheVariants as term
+use Rattle.sam_world.specs.World.{PlainWorld, step_of, run_of, next_event, drained}
+use Rattle.sam_world.specs.Counts.{passes_count}
+use Rattle.sam_world.specs.declared.event.Event.{Event}
+use Rattle.sam_world.specs.declared.event.RunStop.{RunStop}
+use Rattle.sam_world.specs.declared.event.StepFault.{StepFault}
+use Rattle.sam_world.specs.declared.event.StepFault.TheVariants.{NothingThere, OutOfMemory, CountFull}
+
+-- a fault of the terminal, as the world's
+abbrev pub fault_of_term : TermFault → StepFault
+fault_of_term term.OutOfMemory = OutOfMemory
+fault_of_term term.CountFull = CountFull
+fault_of_term _ = NothingThere
+
+-- a fault of the host, as the world's
+abbrev pub fault_of_host : HostFault → StepFault
+fault_of_host host.OutOfMemory = OutOfMemory
+fault_of_host host.CountFull = CountFull
+fault_of_host _ = NothingThere
+
+-- CountFull is answered only where a count would be passed; nothing is there only where the event is no step; want of memory may
+-- come at any time
+abbrev pub IsFaultOf : PlainWorld → Event → StepFault → Type 0
+IsFaultOf w e NothingThere = step_of w e ≡ None
+IsFaultOf w e CountFull = passes_count w e ≡ true
+IsFaultOf w e OutOfMemory = Unit {0}
+
+-- the events before the place of the stop lead from w to v, and the event there met the fault
+pub record IsStoppedAt (w : PlainWorld) (es : List Event) (stop : RunStop) (v : PlainWorld) : Type 0 where
+  pub within : stop.at < length es
+  pub before : run_of w (take stop.at es) ≡ Some v
+  pub fault : IfSome (slice_get es stop.at) (λ e. IsFaultOf v e stop.fault)
+
+-- the first event that applies in w leads to v
+pub record Advances (w v : PlainWorld) : Type 0 where
+  pub event : Event
+  pub next : next_event w ≡ Some event
+  pub stepped : step_of w event ≡ Some v
+
+-- the first events of the rule, fewer than n, lead from w to v, and the next one met the fault
+pub record IsDrainedUpTo (n : ℕ) (w v : PlainWorld) (why : StepFault) : Type 0 where
+  pub done : ℕ
+  pub fewer : done < n
+  pub leads : v ≡ drained done w
+  pub fault : IfSome (next_event v) (λ e. IsFaultOf v e why)

@@ -1,0 +1,25 @@
+-- One entry of a terminal's log by itself.
+use Rattle.std.specs.Prelude.{ℕ, ◌-◌, max, Bool, true, false, nat_lt, List, [], ◌∷◌, ◌++◌, replicate}
+use Rattle.sam_world.specs.declared.event.Event.{Event}
+use Rattle.sam_world.specs.declared.event.Event.TheVariants.{User, Act, Flush, HostTake, TermTake}
+use Rattle.sam_world.specs.declared.event.TermLog.{TermLog}
+use Rattle.sam_world.specs.declared.event.TermLog.TheVariants as log
+
+-- the events that an entry stands for where the host has taken so many messages
+abbrev pub events_of : ℕ → TermLog → List Event
+events_of done (log.User e) = User e ∷ []
+events_of done log.Act = Act ∷ []
+events_of done log.Flush = Flush ∷ []
+events_of done (log.Take k) = replicate (k - done) HostTake ++ TermTake ∷ []
+
+-- how many it has then taken
+abbrev pub done_after : ℕ → TermLog → ℕ
+done_after done (log.User e) = done
+done_after done log.Act = done
+done_after done log.Flush = done
+done_after done (log.Take k) = max done k
+
+-- the entry takes a frame that saw more than n messages
+abbrev pub is_bad_entry : TermLog → ℕ → Bool
+is_bad_entry (log.Take k) n = nat_lt n k
+is_bad_entry _ n = false
