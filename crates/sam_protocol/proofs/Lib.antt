@@ -28,4 +28,5 @@ pub mod Typing
 pub mod Acting
 pub mod Receiving
 pub mod Ordered
+pub mod Streaming
 pub mod Starting

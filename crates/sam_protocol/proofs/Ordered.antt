@@ -1,19 +1,16 @@
 -- What follows for both sides where all is in order: no refusal, agreement where nothing is under way, and ahead of time.
-use Rattle.std.proofs.Common.{◌≡◌, ℕ, suc, ◌+◌, Bool, true, false, not, ◌&&◌, ◌||◌, ◌==◌, if◌then◌else◌, nat_lt, List, [], ◌∷◌, ◌++◌, length, map, Option, Some, None, is_some, Ok, Err, ◌⊎◌, inl, inr, refl, sym, ap, ◌∙◌, subst, true≢false}
-use Rattle.std.specs.Prelude.{unwrap_or, drop, nat_le}
+use Rattle.std.proofs.Common.{◌≡◌, ℕ, suc, Bool, true, false, ◌||◌, ◌==◌, if◌then◌else◌, nat_lt, List, [], ◌∷◌, ◌++◌, length, map, Option, Some, None, is_some, Ok, Err, refl, sym, ap, ◌∙◌, subst}
+use Rattle.std.specs.Prelude.{unwrap_or}
 use Rattle.sam_term.specs.declared.files.Unsent.{Unsent}
-use Rattle.std.proofs.lemmas.List.{map-append}
-use Rattle.sam_runes.specs.Texts.{Range, is_empty, max_runes, all_tags, most_in_pattern, most_count, as_lines, part, ends_line, common_version}
+use Rattle.sam_runes.specs.Texts.{most_count}
 use Rattle.sam_runes.specs.Slots.{Slots, slot}
 use Rattle.sam_runes.specs.Checks.{first_of_checks}
 use Rattle.sam_rasp.specs.Rasp.{PartialText, Agrees}
-use Rattle.sam_text.specs.Files.{PlainFile, PlainFiles, blank_file, file_at, has_room}
+use Rattle.sam_text.specs.Files.{PlainFile, PlainFiles, blank_file, file_at}
 use Rattle.sam_mesg.specs.declared.tmesg.Tmesg.{Tmesg}
-use Rattle.sam_mesg.specs.declared.tmesg.Tmesg.TheVariants.{Tversion, Tstartcmdfile, Tcheck, Trequest, Torigin, Tstartfile, Tworkfile, Ttype, Tcut, Tpaste, Tsnarf, Tstartnewfile, Twrite, Tclose, Tlook, Tsearch, Tsend, Tdclick, Tstartsnarf, Tsetsnarf, Tack, Texit}
 use Rattle.sam_mesg.specs.declared.hmesg.Hmesg.{Hmesg}
-use Rattle.sam_mesg.specs.declared.hmesg.Hmesg.TheVariants.{Hversion, Hack, Hunlock}
 use Rattle.sam_mesg.specs.declared.hmesg.HFrame.{HFrame}
-use Rattle.sam_host.specs.Host.{PlainHost, Reply, Answer, answer, answer_unless, counted, stamped, host_checks, reply_to, reply_found, told_names, reply_version, reply_startcmdfile, reply_check, reply_request, reply_origin, reply_startfile, reply_workfile, reply_cut, reply_paste, reply_snarf, reply_startnewfile, reply_write, reply_close, reply_look, reply_search, reply_dclick, reply_startsnarf, reply_setsnarf, reply_exit, reply_type, reply_send, with_files}
+use Rattle.sam_host.specs.Host.{PlainHost, Reply, Answer, answer, answer_unless, counted, stamped, host_checks, reply_to}
 use Rattle.sam_host.specs.declared.fault.HostFault.{HostFault}
 use Rattle.sam_host.specs.declared.fault.HostFault.TheVariants as hostfault
 use Rattle.sam_term.specs.Term.{PlainTerminal, blank_known, blank_window, window_of, window_in, is_open, is_any_locked, unsent_message}
@@ -21,16 +18,12 @@ use Rattle.sam_term.specs.declared.files.Window.{Window}
 use Rattle.sam_term.specs.declared.files.KnownFile.{KnownFile}
 use Rattle.sam_protocol.specs.Lens as lenses
 use Rattle.sam_protocol.specs.Lens.{Slot, Unknown, Known, Open, Lens, lens, Action, IsFree, HFile, Absent, Hidden, Named, Opened, Gone, Fits_slot, IsSettled, IsKept, version_of, command_of}
-use Rattle.sam_protocol.specs.Model as P
-use Rattle.sam_protocol.specs.Model.{is_unlock, unlocks_command, VersionsGuarded}
-use Rattle.sam_protocol.specs.View.{slot_of_window, slot_of, view, frame_of}
+use Rattle.sam_protocol.specs.View.{slot_of_window, slot_of, view}
 use Rattle.sam_protocol.specs.HostView.{file_of_slot, file_in}
 use Rattle.sam_protocol.specs.Fold.{replied, reply_of, answers, frames_at}
 use Rattle.sam_protocol.specs.Order.{views, InOrder}
-use Rattle.sam_protocol.proofs.Runs.{no_unlock, same_version}
 use Rattle.sam_protocol.proofs.Kept.{kept_free}
-use Rattle.sam_protocol.proofs.Versions.{unlock_frames, no_changes}
-use Rattle.sam_protocol.proofs.Folds.{answered, host_takes}
+use Rattle.sam_protocol.proofs.Folds.{host_takes}
 
 -- ## The host goes on
 
@@ -211,119 +204,3 @@ quiet_settles h t o e = record { command = (quiet_settled h t o e 0).0; locks = 
         go : (w : Option Window) → ((x : Window) → w ≡ Some x → (x.locks ≡ 0) × Agrees x.rasp (file_at h.files g).text) → (unwrap_or w blank_window).locks ≡ 0
         go None a = refl
         go (Some x) a = (a x refl).0
-
--- ## Versions
-
-version-if : (n : ℕ) (b : Bool) (x y : Reply) → x.0.version ≡ n → y.0.version ≡ n → (if b then x else y).0.version ≡ n
-version-if n true x y here there = here
-version-if n false x y here there = there
-
-version-found : (h : PlainHost) (f : ℕ) (d : Option Range) (ms : List Hmesg) → (reply_found h f d ms).0.version ≡ h.version
-version-found h f None ms = refl
-version-found h f (Some d) ms = refl
-
-unlocks-behind : (a b : List P.Hmesg) → unlocks_command b ≡ true → unlocks_command (a ++ b) ≡ true
-unlocks-behind [] b e = e
-unlocks-behind (m ∷ a) b e = go (is_unlock m) (unlocks_command (a ++ b)) (unlocks-behind a b e)
-  where
-    go : (p q : Bool) → q ≡ true → (p || q) ≡ true
-    go true q e = refl
-    go false q e = e
-
--- the version changes only with an answer that frees the command lock
-version_reply : (h : PlainHost) (m : Tmesg) → ((reply_to h m).0.version ≡ h.version) ⊎ (unlocks_command (map frame_of (reply_to h m).1) ≡ true)
-unfolding reply_version reply_startcmdfile reply_check reply_request reply_origin reply_startfile reply_workfile reply_cut reply_paste reply_snarf reply_startnewfile reply_write reply_close reply_look reply_search reply_dclick reply_startsnarf reply_setsnarf reply_exit reply_type reply_send
-version_reply h (Tversion v) =
-    inr (subst (λ (l : List P.Hmesg). unlocks_command l ≡ true) (sym (map-append frame_of (Hversion (common_version v) ∷ told_names 1 (drop 1 h.files.slots)) (Hack ∷ Hunlock ∷ [])))
-    (unlocks-behind (map frame_of (Hversion (common_version v) ∷ told_names 1 (drop 1 h.files.slots))) (map frame_of (Hack ∷ Hunlock ∷ [])) refl))
-version_reply h Tstartcmdfile = inl (version-if h.version (file_at h.files 0).opened _ _ refl refl)
-version_reply h (Tcheck f) = inl refl
-version_reply h (Trequest f p n) = inl refl
-version_reply h (Torigin f p n) = inl refl
-version_reply h (Tstartfile f) = inl refl
-version_reply h (Tworkfile f p q) = inl refl
-version_reply h (Ttype f p s) = inl (version-if h.version ((f == 0) && ends_line s) _ _ refl refl)
-version_reply h (Tcut f p q) = inl refl
-version_reply h (Tpaste f p) = inl (version-if h.version (is_empty h.files.snarf || nat_lt max_runes (length (file_at h.files f).text + length h.files.snarf)) _ _ refl refl)
-version_reply h (Tsnarf f p q) = inl refl
-version_reply h Tstartnewfile = inl (version-if h.version (nat_le all_tags (length h.files.slots)) _ _ refl refl)
-version_reply h (Twrite f) = inl refl
-version_reply h (Tclose f) = inl refl
-version_reply h (Tlook f p q) =
-    let lit = part (file_at h.files f).text p q in
-    inl (version-if h.version (is_empty lit || nat_lt most_in_pattern (length lit)) _ _ refl (version-found (with_files h (record h.files { pattern = Some lit })) f _ _))
-version_reply h (Tsearch f p q) = inl (version-found h f _ [])
-version_reply h (Tsend f p q) = inl (version-if h.version ((p == q) || not (has_room h.files (as_lines (part (file_at h.files f).text p q)))) _ _ refl refl)
-version_reply h (Tdclick f p) = inl refl
-version_reply h Tstartsnarf = inl refl
-version_reply h (Tsetsnarf s) = inl refl
-version_reply h Tack = inl refl
-version_reply h Texit = inl refl
-
-version_of_reply : (h : PlainHost) (m : Tmesg) (r : Reply) → reply_of h m ≡ Some r → (r.0.version ≡ h.version) ⊎ (unlocks_command (map frame_of r.1) ≡ true)
-version_of_reply h m r e = go h.is_done e
-  where
-    P2 : Reply → Type 0
-    P2 x = (x.0.version ≡ h.version) ⊎ (unlocks_command (map frame_of x.1) ≡ true)
-
-    the_reply : {p q : Reply} → Some p ≡ Some q → p ≡ q
-    the_reply e = cc
-
-    checked : (o : Option HostFault) → replied o (reply_to h m) ≡ Some r → P2 r
-    checked None q = subst P2 (the_reply q) (version_reply h m)
-    checked (Some why) q = absurd (let x : None ≡ Some r = q in cc)
-
-    go : (b : Bool) → (if b then (let x : Option Reply = Some (counted h, []) in x) else replied (first_of_checks (host_checks h m)) (reply_to h m)) ≡ Some r → P2 r
-    go true q = subst P2 (the_reply q) (inl refl)
-    go false q = checked (first_of_checks (host_checks h m)) q
-
-behind_none : (a b : List P.Hmesg) → unlocks_command (a ++ b) ≡ false → unlocks_command b ≡ false
-behind_none [] b e = e
-behind_none (m ∷ a) b e = behind_none a b (right (is_unlock m) (unlocks_command (a ++ b)) e)
-  where
-    right : (p r : Bool) → (p || r) ≡ false → r ≡ false
-    right true r e = absurd (true≢false e)
-    right false r e = e
-
-neither : (p r : Bool) → (p || r) ≡ false → (p ≡ false) × (r ≡ false)
-neither true r e = absurd (true≢false e)
-neither false r e = (refl, e)
-
-first_none : (a b : List P.Hmesg) → unlocks_command (a ++ b) ≡ false → unlocks_command a ≡ false
-first_none [] b e = refl
-first_none (m ∷ a) b e =
-    let parts = neither (is_unlock m) (unlocks_command (a ++ b)) e in
-    ap (λ (x : Bool). x || unlocks_command a) parts.0 ∙ first_none a b parts.1
-
-before_none : (a b : List P.Hmesg) → unlocks_command (a ++ b) ≡ false → unlocks_command a ≡ true → ⊥
-before_none a b e f = true≢false (sym f ∙ first_none a b e)
-
-answers_version : (ms : List Tmesg) (h : PlainHost) (a : Reply) → answers h ms ≡ Some a → unlocks_command (map frame_of a.1) ≡ false → a.0.version ≡ h.version
-answers_version [] h a e u = ap (λ (r : Reply). r.0.version) (sym (the_reply e))
-  where
-    the_reply : {p q : Reply} → Some p ≡ Some q → p ≡ q
-    the_reply e = cc
-answers_version (m ∷ ms) h a e u =
-    let t = answered h m ms a e in
-    let both : unlocks_command (map frame_of t.first.1 ++ map frame_of t.rest.1) ≡ false = sym (ap unlocks_command (ap (λ (r : Reply). map frame_of r.1) t.whole ∙ map-append frame_of t.first.1 t.rest.1)) ∙ u in
-    let later = answers_version ms t.first.0 t.rest t.later (behind_none (map frame_of t.first.1) (map frame_of t.rest.1) both) in
-    let first : t.first.0.version ≡ h.version = go t.first t.rest both (version_of_reply h m t.first t.now) in
-    ap (λ (r : Reply). r.0.version) t.whole ∙ later ∙ first
-  where
-    go : (r s : Reply) → unlocks_command (map frame_of r.1 ++ map frame_of s.1) ≡ false → (r.0.version ≡ h.version) ⊎ (unlocks_command (map frame_of r.1) ≡ true) → r.0.version ≡ h.version
-    go r s b (inl x) = x
-    go r s b (inr x) = absurd (before_none (map frame_of r.1) (map frame_of s.1) b x)
-
--- where the command lock is free both sides have one version
-pub one_version : (h : PlainHost) (t : PlainTerminal) (up : List Tmesg) (down : List Hmesg) → InOrder h t up down → t.command_lock ≡ false → t.version ≡ h.version
-one_version h t up down o c =
-    let k = o.kept in
-    let x = k.each 0 in
-    let all : List P.Hmesg = map frame_of (down ++ k.frames) in
-    let none : unlocks_command all ≡ false = sym (unlock_frames 0 all) ∙ no_unlock (frames_at 0 (down ++ k.frames)) (view 0 t) x.final x.runs c in
-    let still : version_of x.final ≡ t.version = same_version (frames_at 0 (down ++ k.frames)) (view 0 t) x.final x.runs (no_changes 0 all k.versions none) in
-    let last : unlocks_command (map frame_of k.frames) ≡ false = behind_none (map frame_of down) (map frame_of k.frames) (sym (ap unlocks_command (map-append frame_of down k.frames)) ∙ none) in
-    sym still ∙ settled_version x.final k.ahead.is_done k.ahead.version (file_in k.ahead.files.slots 0) x.settled ∙ answers_version (up ++ unsent_message t.unsent) h (k.ahead, k.frames) k.folds last
-  where
-    settled_version : (v : Lens) (d : Bool) (n : ℕ) (file : HFile) → IsSettled v d n file → version_of v ≡ n
-    settled_version (lens c e m s) d n file x = x.2

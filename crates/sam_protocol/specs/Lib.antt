@@ -8,3 +8,4 @@ pub mod Means
 pub mod Handled
 pub mod Fold
 pub mod Order
+pub mod Streams

@@ -11,7 +11,7 @@ use Rattle.sam_text.specs.Files.{file_at}
 use Rattle.sam_host.specs.Host.{PlainHost, Reply, Answer, answer, answer_unless, counted, host_checks, reply_to, stamped}
 use Rattle.sam_host.specs.declared.fault.HostFault.{HostFault}
 use Rattle.sam_host.specs.declared.fault.HostFault.TheVariants as hostfault
-use Rattle.sam_term.specs.Term.{PlainTerminal, Made, window_of, is_any_locked, is_file_locked, waits_for_all, is_bad_version, is_unknown, is_for_command_file, needs_open, is_closed, has_bad_place, has_long_text, makes_too_long, unsent_message, if_countable, event_checks, file_of, act_of, act_on, decided, flush_of, flushed, take_of, made_by, made_from, made_unless, frame_checks}
+use Rattle.sam_term.specs.Term.{blank_window, window_at, PlainTerminal, Made, window_of, is_any_locked, is_file_locked, waits_for_all, is_bad_version, is_unknown, is_for_command_file, needs_open, is_closed, has_bad_place, has_long_text, makes_too_long, unsent_message, if_countable, event_checks, file_of, act_of, act_on, decided, flush_of, flushed, take_of, made_by, made_from, made_unless, frame_checks, known_at, put_window, lock_taken, composed}
 use Rattle.sam_term.specs.declared.files.Window.{Window}
 use Rattle.sam_term.specs.declared.files.Unsent.{Unsent}
 use Rattle.sam_term.specs.declared.event.Verdict.{Verdict}
@@ -34,10 +34,18 @@ use Rattle.sam_protocol.proofs.Passing.{passed, held_passed, free_at}
 use Rattle.sam_protocol.proofs.Sending.{nothing_goes, flushed_goes}
 use Rattle.sam_protocol.proofs.Acting.{event_goes}
 use Rattle.sam_protocol.proofs.Receiving.{received}
-use Rattle.sam_protocol.proofs.Ordered.{HostGoes, host_goes, msgs_stamped, answer_is, free_shows, Settled, quiet_settles, one_version}
+use Rattle.sam_protocol.proofs.Ordered.{HostGoes, host_goes, msgs_stamped, answer_is, free_shows, Settled, quiet_settles}
 use Rattle.sam_protocol.proofs.Starting.{starts}
-use Rattle.sam_world.specs.World.{PlainWorld, agrees_where_open, composed_by, after_act, after_compose, after_answer, term_takes, host_takes, step_of, host_after, host_after_all}
-use Rattle.sam_world.specs.Order.{Stamped, mesgs, IsInOrder, StartsInOrder, StepsInOrder, RunsInOrder, HostNeverRefuses, TerminalNeverRefuses, OnlyCountsStop, QuietMeansAgreement, FreeMeansAhead, FreeMeansOneVersion, OthersGoOn}
+use Rattle.sam_protocol.proofs.Streaming.{one_version, version_at_place}
+use Rattle.sam_term.specs.declared.lock.Lock.{Lock}
+use Rattle.sam_term.specs.declared.lock.Lock.TheVariants.{NoLock, CommandLock, FileLock}
+use Rattle.sam_term.specs.Locks.{lock_of, is_command_line}
+use Rattle.sam_term.specs.declared.files.KnownFile.{KnownFile}
+use Rattle.sam_term.proofs.TermLaws.{known-put}
+use Rattle.std.specs.Prelude.{unwrap_or}
+use Rattle.sam_mesg.specs.declared.tmesg.Tmesg.TheVariants.{Tversion, Tstartcmdfile, Tcheck, Trequest, Torigin, Tstartfile, Tworkfile, Ttype, Tcut, Tpaste, Tsnarf, Tstartnewfile, Twrite, Tclose, Tlook, Tsearch, Tsend, Tdclick, Tstartsnarf, Tsetsnarf, Tack, Texit}
+use Rattle.sam_world.specs.World.{new_world, is_locked, PlainWorld, agrees_where_open, composed_by, after_act, after_compose, after_answer, term_takes, host_takes, step_of, host_after, host_after_all}
+use Rattle.sam_world.specs.Order.{Stamped, mesgs, IsInOrder, StartsInOrder, StepsInOrder, RunsInOrder, HostNeverRefuses, TerminalNeverRefuses, OnlyCountsStop, QuietMeansAgreement, FreeMeansAhead, FreeMeansOneVersion, OthersGoOn, ReachedInOrder, FreeMeansVersionAtPlace, OthersStayFree}
 use Rattle.sam_world.specs.declared.event.Event.{Event}
 use Rattle.sam_world.specs.declared.event.Event.TheVariants.{User, Act, Flush, HostTake, TermTake}
 use Rattle.sam_world.proofs.RunLaws.{run_keeps, counted-start, counted_step, answer-counts}
@@ -169,6 +177,9 @@ steps_in_order w next e i s = record { counted = counted_step w e next i.counted
 pub runs_in_order : RunsInOrder
 runs_in_order w last es i s = run_keeps IsInOrder (λ v e next c q. steps_in_order v next e c q) w es last i s
 
+pub reached_in_order : ReachedInOrder
+reached_in_order given w fit r = runs_in_order (new_world given) w r.0 (starts_in_order given fit) r.1
+
 -- ## No refusal
 
 pub host_never_refuses : HostNeverRefuses
@@ -283,7 +294,72 @@ free_means_ahead w f i room unlocked =
 pub free_means_one_version : FreeMeansOneVersion
 free_means_one_version w i c = one_version w.host w.term w.up (mesgs w.down) i.ordered c
 
+pub version_at_its_place : FreeMeansVersionAtPlace
+version_at_its_place w i c e = version_at_place w.host w.term w.up (mesgs w.down) i.ordered c e
+
 -- ## Other files go on
+
+other_window : (t : PlainTerminal) (f : ℕ) (x : Window) (g : ℕ) → (f == g) ≡ false → window_at (put_window t f x) g ≡ window_at t g
+other_window t f x g e = known-put (λ (k : KnownFile). unwrap_or k.window blank_window) t f (record (known_at t f) { window = Some x }) g ∙ ap (λ (b : Bool). if b then x else window_at t g) e
+
+same_tag : (f g : ℕ) → ◌≡◌ {A = Lock} (FileLock f) (FileLock g) → f ≡ g
+same_tag f g e = cc
+
+locks_alike : (t u : PlainTerminal) (g : ℕ) → u.command_lock ≡ t.command_lock → window_at u g ≡ window_at t g → is_locked u g ≡ is_locked t g
+locks_alike t u g c w = λ i. c i || nat_lt 0 (w i).locks
+
+-- one lock more of another file
+locked_other : (t : PlainTerminal) (f g : ℕ) → (f == g) ≡ false → window_at (lock_taken (FileLock f) t) g ≡ window_at t g
+locked_other t f g e = other_window t f (record (window_at t f) { locks = (window_at t f).locks + 1 }) g e
+
+pub others_stay_free : OthersStayFree
+others_stay_free t m f g l e = go m l
+  where
+    t2 : PlainTerminal
+    t2 = record t { sent = t.sent + 1 }
+
+    other : (k : ℕ) → k ≡ f → (k == g) ≡ false
+    other k q = subst (λ (y : ℕ). (y == g) ≡ false) (sym q) e
+
+    plain : (k : ℕ) → k ≡ f → is_locked (lock_taken (FileLock k) t2) g ≡ is_locked t g
+    plain k q = locks_alike t (lock_taken (FileLock k) t2) g refl (locked_other t2 k g (other k q))
+
+    typed : (b : Bool) → (if b then CommandLock else NoLock) ≡ FileLock f → ⊥
+    typed true q = let x : ◌≡◌ {A = Lock} CommandLock (FileLock f) = q in cc
+    typed false q = let x : ◌≡◌ {A = Lock} NoLock (FileLock f) = q in cc
+
+    command : ◌≡◌ {A = Lock} CommandLock (FileLock f) → ⊥
+    command q = cc
+
+    none : ◌≡◌ {A = Lock} NoLock (FileLock f) → ⊥
+    none q = cc
+
+    go : (m : Tmesg) → lock_of m ≡ FileLock f → is_locked (composed t m) g ≡ is_locked t g
+    go (Tversion v) q = absurd (command q)
+    go Tstartcmdfile q = absurd (command q)
+    go (Tcheck k) q = absurd (none q)
+    go (Trequest k p n) q =
+        let z = other k (same_tag k f q) in
+        locks_alike t (composed t (Trequest k p n)) g refl
+        (other_window (lock_taken (FileLock k) t2) k (record (window_at (lock_taken (FileLock k) t2) k) { awaits = true }) g z ∙ locked_other t2 k g z)
+    go (Torigin k p n) q = plain k (same_tag k f q)
+    go (Tstartfile k) q = absurd (command q)
+    go (Tworkfile k p r) q = absurd (none q)
+    go (Ttype k p s) q = absurd (typed (is_command_line k s) q)
+    go (Tcut k p r) q = absurd (none q)
+    go (Tpaste k p) q = plain k (same_tag k f q)
+    go (Tsnarf k p r) q = absurd (none q)
+    go Tstartnewfile q = absurd (command q)
+    go (Twrite k) q = plain k (same_tag k f q)
+    go (Tclose k) q = absurd (command q)
+    go (Tlook k p r) q = plain k (same_tag k f q)
+    go (Tsearch k p r) q = plain k (same_tag k f q)
+    go (Tsend k p r) q = absurd (command q)
+    go (Tdclick k p) q = plain k (same_tag k f q)
+    go Tstartsnarf q = absurd (none q)
+    go (Tsetsnarf s) q = absurd (none q)
+    go Tack q = absurd (none q)
+    go Texit q = absurd (command q)
 
 some_waits : (x : Checks Verdict) → Type 0
 some_waits x = first_of_checks x ≡ Some Waits

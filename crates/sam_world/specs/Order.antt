@@ -1,11 +1,11 @@
 -- What is kept in order in every state of a run, and what follows from it.
-use Rattle.std.specs.Prelude.{◌≡◌, ℕ, ◌+◌, ◌≤◌, false, List, [], ◌∷◌, length, map, Some, Ok, Err}
+use Rattle.std.specs.Prelude.{◌≡◌, ℕ, ◌+◌, ◌≤◌, ◌==◌, false, List, [], ◌∷◌, length, map, Some, Ok, Err}
 use Rattle.sam_runes.specs.Texts.{most_count}
 use Rattle.sam_host.specs.Host.{answer}
 use Rattle.sam_host.specs.Laws.{AreGiven}
 use Rattle.sam_host.specs.declared.fault.HostFault.{HostFault}
 use Rattle.sam_host.specs.declared.fault.HostFault.TheVariants as hostfault
-use Rattle.sam_term.specs.Term.{PlainTerminal, unsent_message, act_of, flush_of, take_of, file_of, is_file_locked, waits_for_all}
+use Rattle.sam_term.specs.Term.{PlainTerminal, composed, unsent_message, act_of, flush_of, take_of, file_of, is_file_locked, waits_for_all}
 use Rattle.sam_term.specs.declared.fault.TermFault.{TermFault}
 use Rattle.sam_term.specs.declared.fault.TermFault.TheVariants as fault
 use Rattle.sam_term.specs.declared.event.UserEvent.{UserEvent}
@@ -14,7 +14,10 @@ use Rattle.sam_mesg.specs.declared.tmesg.Tmesg.{Tmesg}
 use Rattle.sam_mesg.specs.declared.hmesg.Hmesg.{Hmesg}
 use Rattle.sam_mesg.specs.declared.hmesg.HFrame.{HFrame}
 use Rattle.sam_protocol.specs.Order.{InOrder}
-use Rattle.sam_world.specs.World.{PlainWorld, new_world, step_of, run_of, IsSettledWhereQuiet, IsAhead, HasOneVersion}
+use Rattle.sam_protocol.specs.Streams.{version_behind}
+use Rattle.sam_term.specs.Locks.{lock_of}
+use Rattle.sam_term.specs.declared.lock.Lock.TheVariants.{FileLock}
+use Rattle.sam_world.specs.World.{PlainWorld, new_world, step_of, run_of, IsReached, is_locked, IsSettledWhereQuiet, IsAhead, HasOneVersion}
 use Rattle.sam_world.specs.declared.event.Event.{Event}
 
 -- each frame saw at most n messages
@@ -52,6 +55,10 @@ StepsInOrder = (w next : PlainWorld) (e : Event) → IsInOrder w → step_of w e
 abbrev pub RunsInOrder : Type 0
 RunsInOrder = (w last : PlainWorld) (es : List Event) → IsInOrder w → run_of w es ≡ Some last → IsInOrder last
 
+-- so every state of every run is in order
+abbrev pub ReachedInOrder : Type 0
+ReachedInOrder = (given : List (List ℕ × List ℕ)) (w : PlainWorld) → AreGiven given → IsReached given w → IsInOrder w
+
 -- the host refuses no message of the terminal, unless its count is full
 abbrev pub HostNeverRefuses : Type 0
 HostNeverRefuses =
@@ -77,6 +84,14 @@ FreeMeansAhead = (w : PlainWorld) (f : ℕ) → IsInOrder w → IsCountable w �
 
 abbrev pub FreeMeansOneVersion : Type 0
 FreeMeansOneVersion = (w : PlainWorld) → IsInOrder w → HasOneVersion w
+
+-- where the terminal may act, its version is the one behind all messages that are under way, so what it composes next fits there
+abbrev pub FreeMeansVersionAtPlace : Type 0
+FreeMeansVersionAtPlace = (w : PlainWorld) → IsInOrder w → w.term.command_lock ≡ false → w.term.has_exited ≡ false → w.term.version ≡ version_behind w.host.version w.up
+
+-- a message that locks its file locks no other
+abbrev pub OthersStayFree : Type 0
+OthersStayFree = (t : PlainTerminal) (m : Tmesg) (f g : ℕ) → lock_of m ≡ FileLock f → (f == g) ≡ false → is_locked (composed t m) g ≡ is_locked t g
 
 -- an event that names a file without a lock, and waits for no other lock, is not held back while the command lock is free
 abbrev pub OthersGoOn : Type 0

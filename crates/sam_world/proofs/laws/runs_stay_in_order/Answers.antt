@@ -9,3 +9,6 @@ returns-clause-step c = laws.steps_in_order
 
 pub returns-clause-run : goal.returns-clause-run
 returns-clause-run c = laws.runs_in_order
+
+pub returns-clause-reached : goal.returns-clause-reached
+returns-clause-reached c = laws.reached_in_order

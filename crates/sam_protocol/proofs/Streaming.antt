@@ -1,0 +1,236 @@
+-- Both sides have one version wherever the command lock is free, and it is that of the place of the next message.
+use Rattle.std.proofs.Common.{◌≡◌, ℕ, ◌+◌, Bool, true, false, not, ◌&&◌, ◌||◌, ◌==◌, if◌then◌else◌, nat_lt, List, [], ◌∷◌, ◌++◌, length, map, Option, Some, None, ◌⊎◌, inl, inr, refl, sym, ap, ◌∙◌, subst, true≢false}
+use Rattle.std.specs.Prelude.{drop, nat_le}
+use Rattle.sam_term.specs.declared.files.Unsent.{Unsent}
+use Rattle.std.proofs.lemmas.List.{map-append}
+use Rattle.sam_runes.specs.Texts.{Range, is_empty, max_runes, all_tags, most_in_pattern, as_lines, part, ends_line, common_version}
+use Rattle.sam_runes.specs.Checks.{first_of_checks}
+use Rattle.sam_text.specs.Files.{file_at, has_room}
+use Rattle.sam_mesg.specs.declared.tmesg.Tmesg.{Tmesg}
+use Rattle.sam_mesg.specs.declared.tmesg.Tmesg.TheVariants.{Tversion, Tstartcmdfile, Tcheck, Trequest, Torigin, Tstartfile, Tworkfile, Ttype, Tcut, Tpaste, Tsnarf, Tstartnewfile, Twrite, Tclose, Tlook, Tsearch, Tsend, Tdclick, Tstartsnarf, Tsetsnarf, Tack, Texit}
+use Rattle.sam_mesg.specs.declared.hmesg.Hmesg.{Hmesg}
+use Rattle.sam_mesg.specs.declared.hmesg.Hmesg.TheVariants.{Hversion, Hack, Hunlock}
+use Rattle.sam_host.specs.Host.{PlainHost, Reply, counted, host_checks, reply_to, reply_found, told_names, reply_version, reply_startcmdfile, reply_check, reply_request, reply_origin, reply_startfile, reply_workfile, reply_cut, reply_paste, reply_snarf, reply_startnewfile, reply_write, reply_close, reply_look, reply_search, reply_dclick, reply_startsnarf, reply_setsnarf, reply_exit, reply_type, reply_send, with_files}
+use Rattle.sam_host.specs.declared.fault.HostFault.{HostFault}
+use Rattle.sam_host.specs.declared.fault.HostFault.TheVariants as hostfault
+use Rattle.sam_term.specs.Term.{PlainTerminal, unsent_message}
+use Rattle.sam_protocol.specs.Lens.{Lens, lens, HFile, IsSettled, version_of}
+use Rattle.sam_protocol.specs.Model as P
+use Rattle.sam_protocol.specs.Model.{is_unlock, unlocks_command, VersionsGuarded}
+use Rattle.sam_protocol.specs.View.{view, frame_of}
+use Rattle.sam_protocol.specs.HostView.{file_in}
+use Rattle.sam_protocol.specs.Fold.{replied, reply_of, answers, frames_at}
+use Rattle.sam_protocol.specs.Order.{views, InOrder}
+use Rattle.sam_protocol.proofs.Runs.{no_unlock, same_version}
+use Rattle.sam_protocol.proofs.Versions.{unlock_frames, no_changes}
+use Rattle.sam_protocol.proofs.Folds.{answered}
+use Rattle.sam_runes.proofs.CheckLaws.{none_holds}
+use Rattle.sam_protocol.specs.Streams.{version_past, version_behind}
+use Rattle.sam_protocol.proofs.Composing.{not_done_ahead}
+
+-- ## Versions
+
+version-if : (n : ℕ) (b : Bool) (x y : Reply) → x.0.version ≡ n → y.0.version ≡ n → (if b then x else y).0.version ≡ n
+version-if n true x y here there = here
+version-if n false x y here there = there
+
+version-found : (h : PlainHost) (f : ℕ) (d : Option Range) (ms : List Hmesg) → (reply_found h f d ms).0.version ≡ h.version
+version-found h f None ms = refl
+version-found h f (Some d) ms = refl
+
+unlocks-behind : (a b : List P.Hmesg) → unlocks_command b ≡ true → unlocks_command (a ++ b) ≡ true
+unlocks-behind [] b e = e
+unlocks-behind (m ∷ a) b e = go (is_unlock m) (unlocks_command (a ++ b)) (unlocks-behind a b e)
+  where
+    go : (p q : Bool) → q ≡ true → (p || q) ≡ true
+    go true q e = refl
+    go false q e = e
+
+-- the version behind a message that nothing stands against
+version_next : (h : PlainHost) (m : Tmesg) → first_of_checks (host_checks h m) ≡ None → (reply_to h m).0.version ≡ version_past h.version m
+unfolding reply_version reply_startcmdfile reply_check reply_request reply_origin reply_startfile reply_workfile reply_cut reply_paste reply_snarf reply_startnewfile reply_write reply_close reply_look reply_search reply_dclick reply_startsnarf reply_setsnarf reply_exit reply_type reply_send
+version_next h (Tversion v) e = sym (ap (λ (b : Bool). if b then h.version else common_version v) (none_holds (v == 0, hostfault.BadVersion) [] e).0)
+version_next h Tstartcmdfile e = version-if h.version (file_at h.files 0).opened _ _ refl refl
+version_next h (Tcheck f) e = refl
+version_next h (Trequest f p n) e = refl
+version_next h (Torigin f p n) e = refl
+version_next h (Tstartfile f) e = refl
+version_next h (Tworkfile f p q) e = refl
+version_next h (Ttype f p s) e = version-if h.version ((f == 0) && ends_line s) _ _ refl refl
+version_next h (Tcut f p q) e = refl
+version_next h (Tpaste f p) e = version-if h.version (is_empty h.files.snarf || nat_lt max_runes (length (file_at h.files f).text + length h.files.snarf)) _ _ refl refl
+version_next h (Tsnarf f p q) e = refl
+version_next h Tstartnewfile e = version-if h.version (nat_le all_tags (length h.files.slots)) _ _ refl refl
+version_next h (Twrite f) e = refl
+version_next h (Tclose f) e = refl
+version_next h (Tlook f p q) e =
+    let lit = part (file_at h.files f).text p q in
+    version-if h.version (is_empty lit || nat_lt most_in_pattern (length lit)) _ _ refl (version-found (with_files h (record h.files { pattern = Some lit })) f _ _)
+version_next h (Tsearch f p q) e = version-found h f _ []
+version_next h (Tsend f p q) e = version-if h.version ((p == q) || not (has_room h.files (as_lines (part (file_at h.files f).text p q)))) _ _ refl refl
+version_next h (Tdclick f p) e = refl
+version_next h Tstartsnarf e = refl
+version_next h (Tsetsnarf s) e = refl
+version_next h Tack e = refl
+version_next h Texit e = refl
+
+-- the version changes only with an answer that frees the command lock
+version_reply : (h : PlainHost) (m : Tmesg) → first_of_checks (host_checks h m) ≡ None → ((reply_to h m).0.version ≡ h.version) ⊎ (unlocks_command (map frame_of (reply_to h m).1) ≡ true)
+unfolding reply_version
+version_reply h (Tversion v) e =
+    inr (subst (λ (l : List P.Hmesg). unlocks_command l ≡ true) (sym (map-append frame_of (Hversion (common_version v) ∷ told_names 1 (drop 1 h.files.slots)) (Hack ∷ Hunlock ∷ [])))
+    (unlocks-behind (map frame_of (Hversion (common_version v) ∷ told_names 1 (drop 1 h.files.slots))) (map frame_of (Hack ∷ Hunlock ∷ [])) refl))
+version_reply h Tstartcmdfile e = inl (version_next h Tstartcmdfile e)
+version_reply h (Tcheck f) e = inl (version_next h (Tcheck f) e)
+version_reply h (Trequest f p n) e = inl (version_next h (Trequest f p n) e)
+version_reply h (Torigin f p n) e = inl (version_next h (Torigin f p n) e)
+version_reply h (Tstartfile f) e = inl (version_next h (Tstartfile f) e)
+version_reply h (Tworkfile f p q) e = inl (version_next h (Tworkfile f p q) e)
+version_reply h (Ttype f p s) e = inl (version_next h (Ttype f p s) e)
+version_reply h (Tcut f p q) e = inl (version_next h (Tcut f p q) e)
+version_reply h (Tpaste f p) e = inl (version_next h (Tpaste f p) e)
+version_reply h (Tsnarf f p q) e = inl (version_next h (Tsnarf f p q) e)
+version_reply h Tstartnewfile e = inl (version_next h Tstartnewfile e)
+version_reply h (Twrite f) e = inl (version_next h (Twrite f) e)
+version_reply h (Tclose f) e = inl (version_next h (Tclose f) e)
+version_reply h (Tlook f p q) e = inl (version_next h (Tlook f p q) e)
+version_reply h (Tsearch f p q) e = inl (version_next h (Tsearch f p q) e)
+version_reply h (Tsend f p q) e = inl (version_next h (Tsend f p q) e)
+version_reply h (Tdclick f p) e = inl (version_next h (Tdclick f p) e)
+version_reply h Tstartsnarf e = inl (version_next h Tstartsnarf e)
+version_reply h (Tsetsnarf s) e = inl (version_next h (Tsetsnarf s) e)
+version_reply h Tack e = inl (version_next h Tack e)
+version_reply h Texit e = inl (version_next h Texit e)
+
+version_of_reply : (h : PlainHost) (m : Tmesg) (r : Reply) → reply_of h m ≡ Some r → (r.0.version ≡ h.version) ⊎ (unlocks_command (map frame_of r.1) ≡ true)
+version_of_reply h m r e = go h.is_done e
+  where
+    P2 : Reply → Type 0
+    P2 x = (x.0.version ≡ h.version) ⊎ (unlocks_command (map frame_of x.1) ≡ true)
+
+    the_reply : {p q : Reply} → Some p ≡ Some q → p ≡ q
+    the_reply e = cc
+
+    checked : (o : Option HostFault) → first_of_checks (host_checks h m) ≡ o → replied o (reply_to h m) ≡ Some r → P2 r
+    checked None c q = subst P2 (the_reply q) (version_reply h m c)
+    checked (Some why) c q = absurd (let x : None ≡ Some r = q in cc)
+
+    go : (b : Bool) → (if b then (let x : Option Reply = Some (counted h, []) in x) else replied (first_of_checks (host_checks h m)) (reply_to h m)) ≡ Some r → P2 r
+    go true q = subst P2 (the_reply q) (inl refl)
+    go false q = checked (first_of_checks (host_checks h m)) refl q
+
+behind_none : (a b : List P.Hmesg) → unlocks_command (a ++ b) ≡ false → unlocks_command b ≡ false
+behind_none [] b e = e
+behind_none (m ∷ a) b e = behind_none a b (right (is_unlock m) (unlocks_command (a ++ b)) e)
+  where
+    right : (p r : Bool) → (p || r) ≡ false → r ≡ false
+    right true r e = absurd (true≢false e)
+    right false r e = e
+
+neither : (p r : Bool) → (p || r) ≡ false → (p ≡ false) × (r ≡ false)
+neither true r e = absurd (true≢false e)
+neither false r e = (refl, e)
+
+first_none : (a b : List P.Hmesg) → unlocks_command (a ++ b) ≡ false → unlocks_command a ≡ false
+first_none [] b e = refl
+first_none (m ∷ a) b e =
+    let parts = neither (is_unlock m) (unlocks_command (a ++ b)) e in
+    ap (λ (x : Bool). x || unlocks_command a) parts.0 ∙ first_none a b parts.1
+
+before_none : (a b : List P.Hmesg) → unlocks_command (a ++ b) ≡ false → unlocks_command a ≡ true → ⊥
+before_none a b e f = true≢false (sym f ∙ first_none a b e)
+
+answers_version : (ms : List Tmesg) (h : PlainHost) (a : Reply) → answers h ms ≡ Some a → unlocks_command (map frame_of a.1) ≡ false → a.0.version ≡ h.version
+answers_version [] h a e u = ap (λ (r : Reply). r.0.version) (sym (the_reply e))
+  where
+    the_reply : {p q : Reply} → Some p ≡ Some q → p ≡ q
+    the_reply e = cc
+answers_version (m ∷ ms) h a e u =
+    let t = answered h m ms a e in
+    let both : unlocks_command (map frame_of t.first.1 ++ map frame_of t.rest.1) ≡ false = sym (ap unlocks_command (ap (λ (r : Reply). map frame_of r.1) t.whole ∙ map-append frame_of t.first.1 t.rest.1)) ∙ u in
+    let later = answers_version ms t.first.0 t.rest t.later (behind_none (map frame_of t.first.1) (map frame_of t.rest.1) both) in
+    let first : t.first.0.version ≡ h.version = go t.first t.rest both (version_of_reply h m t.first t.now) in
+    ap (λ (r : Reply). r.0.version) t.whole ∙ later ∙ first
+  where
+    go : (r s : Reply) → unlocks_command (map frame_of r.1 ++ map frame_of s.1) ≡ false → (r.0.version ≡ h.version) ⊎ (unlocks_command (map frame_of r.1) ≡ true) → r.0.version ≡ h.version
+    go r s b (inl x) = x
+    go r s b (inr x) = absurd (before_none (map frame_of r.1) (map frame_of s.1) b x)
+
+-- where the command lock is free the terminal has the version of the host that will have handled all
+ahead_version : (h : PlainHost) (t : PlainTerminal) (up : List Tmesg) (down : List Hmesg) (o : InOrder h t up down) → t.command_lock ≡ false → t.version ≡ o.kept.ahead.version
+ahead_version h t up down o c =
+    let k = o.kept in
+    let x = k.each 0 in
+    let all : List P.Hmesg = map frame_of (down ++ k.frames) in
+    let none : unlocks_command all ≡ false = sym (unlock_frames 0 all) ∙ no_unlock (frames_at 0 (down ++ k.frames)) (view 0 t) x.final x.runs c in
+    let still : version_of x.final ≡ t.version = same_version (frames_at 0 (down ++ k.frames)) (view 0 t) x.final x.runs (no_changes 0 all k.versions none) in
+    sym still ∙ settled_version x.final k.ahead.is_done k.ahead.version (file_in k.ahead.files.slots 0) x.settled
+  where
+    settled_version : (v : Lens) (d : Bool) (n : ℕ) (file : HFile) → IsSettled v d n file → version_of v ≡ n
+    settled_version (lens c e m s) d n file x = x.2
+
+-- and both sides have one version
+pub one_version : (h : PlainHost) (t : PlainTerminal) (up : List Tmesg) (down : List Hmesg) → InOrder h t up down → t.command_lock ≡ false → t.version ≡ h.version
+one_version h t up down o c =
+    let k = o.kept in
+    let x = k.each 0 in
+    let all : List P.Hmesg = map frame_of (down ++ k.frames) in
+    let none : unlocks_command all ≡ false = sym (unlock_frames 0 all) ∙ no_unlock (frames_at 0 (down ++ k.frames)) (view 0 t) x.final x.runs c in
+    let last : unlocks_command (map frame_of k.frames) ≡ false = behind_none (map frame_of down) (map frame_of k.frames) (sym (ap unlocks_command (map-append frame_of down k.frames)) ∙ none) in
+    ahead_version h t up down o c ∙ answers_version (up ++ unsent_message t.unsent) h (k.ahead, k.frames) k.folds last
+
+-- ## The version at the place of the next message
+
+-- a host that is done stays so
+still_done : (ms : List Tmesg) (h : PlainHost) (r : Reply) → answers h ms ≡ Some r → h.is_done ≡ true → r.0.is_done ≡ true
+still_done [] h r e d = ap (λ (x : Reply). x.0.is_done) (sym (the_reply e)) ∙ d
+  where
+    the_reply : {p q : Reply} → Some p ≡ Some q → p ≡ q
+    the_reply e = cc
+still_done (m ∷ ms) h r e d =
+    let t = answered h m ms r e in
+    let silent : ◌≡◌ {A = Reply} (counted h, []) t.first = the_reply (sym (ap (λ (b : Bool). if b then Some (counted h, []) else replied (first_of_checks (host_checks h m)) (reply_to h m)) d) ∙ t.now) in
+    ap (λ (x : Reply). x.0.is_done) t.whole ∙ still_done ms t.first.0 t.rest t.later (ap (λ (x : Reply). x.0.is_done) (sym silent) ∙ d)
+  where
+    the_reply : {p q : Reply} → Some p ≡ Some q → p ≡ q
+    the_reply e = cc
+
+running : (ms : List Tmesg) (h : PlainHost) (r : Reply) → answers h ms ≡ Some r → r.0.is_done ≡ false → h.is_done ≡ false
+running ms h r e d = go h.is_done refl
+  where
+    go : (b : Bool) → h.is_done ≡ b → b ≡ false
+    go true q = absurd (true≢false (sym (still_done ms h r e q) ∙ d))
+    go false q = refl
+
+one_past : (h : PlainHost) (m : Tmesg) (r : Reply) → h.is_done ≡ false → reply_of h m ≡ Some r → r.0.version ≡ version_past h.version m
+one_past h m r d e = go (first_of_checks (host_checks h m)) refl (sym (ap (λ (b : Bool). if b then Some (counted h, []) else replied (first_of_checks (host_checks h m)) (reply_to h m)) d) ∙ e)
+  where
+    the_reply : {p q : Reply} → Some p ≡ Some q → p ≡ q
+    the_reply e = cc
+
+    go : (o : Option HostFault) → first_of_checks (host_checks h m) ≡ o → replied o (reply_to h m) ≡ Some r → r.0.version ≡ version_past h.version m
+    go None c q = ap (λ (x : Reply). x.0.version) (sym (the_reply q)) ∙ version_next h m c
+    go (Some why) c q = absurd (let x : None ≡ Some r = q in cc)
+
+folded_version : (ms : List Tmesg) (h : PlainHost) (r : Reply) → answers h ms ≡ Some r → r.0.is_done ≡ false → r.0.version ≡ version_behind h.version ms
+folded_version [] h r e d = ap (λ (x : Reply). x.0.version) (sym (the_reply e))
+  where
+    the_reply : {p q : Reply} → Some p ≡ Some q → p ≡ q
+    the_reply e = cc
+folded_version (m ∷ ms) h r e d =
+    let t = answered h m ms r e in
+    let later : t.rest.0.is_done ≡ false = ap (λ (x : Reply). x.0.is_done) (sym t.whole) ∙ d in
+    let first = one_past h m t.first (running (m ∷ ms) h r e d) t.now in
+    ap (λ (x : Reply). x.0.version) t.whole ∙ folded_version ms t.first.0 t.rest t.later later ∙ ap (λ (v : ℕ). version_behind v ms) first
+
+unsent_past : (up : List Tmesg) (u : Option Unsent) (v : ℕ) → version_behind v (up ++ unsent_message u) ≡ version_behind v up
+unsent_past [] None v = refl
+unsent_past [] (Some u) v = refl
+unsent_past (m ∷ up) u v = unsent_past up u (version_past v m)
+
+-- where the terminal may act, its version is that of the stream at the place of its next message
+pub version_at_place : (h : PlainHost) (t : PlainTerminal) (up : List Tmesg) (down : List Hmesg) → InOrder h t up down → t.command_lock ≡ false → t.has_exited ≡ false → t.version ≡ version_behind h.version up
+version_at_place h t up down o c e =
+    let k = o.kept in
+    let line : List Tmesg = up ++ unsent_message t.unsent in
+    ahead_version h t up down o c ∙ folded_version line h (k.ahead, k.frames) k.folds (not_done_ahead h (views t) line down k e c) ∙ unsent_past up t.unsent h.version
