@@ -1,0 +1,41 @@
+-- What an answer of the host frees and tells.
+use Rattle.std.specs.Prelude.{◌≡◌, ℕ, Bool, true, if◌then◌else◌, ◌==◌, List, None, MatchOption}
+use Rattle.sam_runes.specs.Checks.{first_of_checks}
+use Rattle.sam_runes.specs.Texts.{ins, del}
+use Rattle.sam_text.specs.Files.{PlainFiles, AreFit, file_at, has_file}
+use Rattle.sam_host.specs.Host.{PlainHost, Reply, host_checks, reply_to}
+use Rattle.sam_term.specs.Locks.{lock_of, one_lock, all_freed}
+use Rattle.sam_term.specs.Effect.{Tells}
+use Rattle.sam_mesg.specs.declared.tmesg.Tmesg.{Tmesg}
+use Rattle.sam_mesg.specs.declared.tmesg.Tmesg.TheVariants.{Trequest, Ttype, Tcut}
+
+-- a request for a file that is gone gets no answer
+abbrev pub is_answered : PlainHost → Tmesg → Bool
+is_answered h (Trequest f p n) = has_file h.files f
+is_answered h _ = true
+
+-- the text of f after a reply
+abbrev pub text_in : Reply → ℕ → List ℕ
+text_in reply f = (file_at reply.0.files f).text
+
+-- what the terminal has changed itself before it sent the message
+abbrev pub own_edit : Tmesg → ℕ → List ℕ → List ℕ
+own_edit (Ttype g p s) f t = if g == f then ins t p s else t
+own_edit (Tcut g p q) f t = if g == f then del t p q else t
+own_edit _ f t = t
+
+-- the work file, where there is one, is open
+abbrev pub IsWorkOpen : PlainFiles → Type 0
+IsWorkOpen fs = MatchOption fs.work (Unit {0}) (λ g. (file_at fs g).opened ≡ true)
+
+-- the frames of an answer free just the lock that composing its message took
+abbrev pub AnswersFree : Type 0
+AnswersFree = (h : PlainHost) (m : Tmesg) → is_answered h m ≡ true → all_freed (reply_to h m).1 ≡ one_lock (lock_of m)
+
+-- the frames of an answer tell how each open file's text changed: a partial text that agreed with the text as the terminal had
+-- left it agrees, after the frames, with the host's new text
+abbrev pub AnswersTell : Type 0
+AnswersTell =
+    (h : PlainHost) (m : Tmesg) (f : ℕ) → first_of_checks (host_checks h m) ≡ None → AreFit h.files → IsWorkOpen h.files
+    → (file_at h.files f).opened ≡ true → (file_at (reply_to h m).0.files f).opened ≡ true
+    → Tells f (reply_to h m).1 (own_edit m f (file_at h.files f).text) (text_in (reply_to h m) f)
