@@ -5,7 +5,11 @@ use Rattle.sam_rasp.specs.Rasp.{PartialText, ins_cells, del_cells, place_after_i
 use Rattle.sam_term.specs.Term.{window_after_ins, window_after_del}
 use Rattle.sam_term.specs.Editing.{typed_over}
 use Rattle.sam_term.specs.declared.files.Window.{Window}
-use Rattle.sam_term.proofs.Grows.{del_cases}
+use Rattle.sam_runes.specs.Texts.{max_runes}
+use Rattle.sam_term.specs.Term.{PlainTerminal, window_at, put_window}
+use Rattle.sam_term.specs.Sound.{IsSound, FitsWindow, FitsUnsent, IsShort}
+use Rattle.std.proofs.Common.{None}
+use Rattle.sam_term.proofs.Grows.{del_cases, sound-change, fits-ins, fits-del, length-ins_cells, length-del_cells}
 use Rattle.std.proofs.Math.Seq.{take-append_seam, drop-append_seam}
 
 take-front : (a b : PartialText) (p : ℕ) → length a ≡ p → take p (a ++ b) ≡ a
@@ -47,3 +51,23 @@ typed-in w s e =
 
     changed-to : ℕ → Window
     changed-to q = changed (length s) q (place_after_del w.dot.0 w.dot.1 w.view_start)
+
+-- places of a window in which runes were typed
+pub fits-typed : (n : ℕ) (w : Window) (s : List ℕ) → FitsWindow n w → length w.rasp + length s ≤ max_runes + (w.dot.1 - w.dot.0) → FitsWindow n (typed_over w s)
+fits-typed n w s h m =
+    let start = h.dot_start in
+    let end = h.dot_end in
+    let cells = map {A = ℕ} {B = Option ℕ} Some s in
+    let cut = window_after_del w w.dot.0 w.dot.1 in
+    let many : length cells ≡ length s = length-map s Some in
+    let left = length-del_cells w.rasp w.dot.0 w.dot.1 start end in
+    let place : w.dot.0 ≤ length cut.rasp = omega (arith, left) in
+    let fits = fits-ins n cut w.dot.0 cells (fits-del n w w.dot.0 w.dot.1 h start end) place (omega (arith, left, many)) in
+    let long = length-ins_cells cut.rasp w.dot.0 cells place in
+    subst (λ x. FitsWindow n x) (typed-cut w s (omega arith))
+    (record { locks = fits.locks; dot_start = omega arith; dot_end = omega (arith, left, many, long); view = fits.view; size = fits.size })
+
+pub sound-typed : (t : PlainTerminal) (f : ℕ) (s : List ℕ) → IsSound t → length (window_at t f).rasp + length s ≤ max_runes + ((window_at t f).dot.1 - (window_at t f).dot.0) → IsSound (record (put_window t f (typed_over (window_at t f) s)) { unsent = None })
+unfolding FitsUnsent IsShort
+sound-typed t f s sound m =
+    sound-change t f (typed_over (window_at t f) s) None sound (fits-typed t.sent (window_at t f) s (sound.windows f) m) tt tt

@@ -1,7 +1,9 @@
 -- What the events change in a window.
-use Rattle.std.specs.Prelude.{ℕ, ◌+◌, ◌++◌, List, length, map, take, drop, Some}
+use Rattle.std.specs.Prelude.{ℕ, ◌+◌, ◌++◌, List, [], length, map, take, drop, Some}
 use Rattle.sam_rasp.specs.Rasp.{place_after_ins, place_after_del}
 use Rattle.sam_term.specs.declared.files.Window.{Window}
+use Rattle.sam_term.specs.declared.event.UserEvent.{UserEvent}
+use Rattle.sam_term.specs.declared.event.UserEvent.TheVariants.{Typed}
 use Rattle.sam_term.specs.Term.{PlainTerminal, window_at, put_window}
 
 -- a file is shown from p on, n places where it has so many
@@ -16,3 +18,8 @@ typed_over w s =
       dot = (w.dot.0 + length s, w.dot.0 + length s);
       view_start = place_after_ins w.dot.0 (length s) (place_after_del w.dot.0 w.dot.1 w.view_start);
     }
+
+-- the runes that an event types
+abbrev pub typed_runes : UserEvent → List ℕ
+typed_runes (Typed f s) = s
+typed_runes _ = []
