@@ -1,7 +1,25 @@
 -- What the events change in a window.
-use Rattle.std.specs.Prelude.{ℕ}
+use Rattle.std.specs.Prelude.{ℕ, ◌+◌, ◌++◌, List, [], length, map, take, drop, Some}
+use Rattle.sam_rasp.specs.Rasp.{place_after_ins, place_after_del}
+use Rattle.sam_term.specs.declared.files.Window.{Window}
+use Rattle.sam_term.specs.declared.event.UserEvent.{UserEvent}
+use Rattle.sam_term.specs.declared.event.UserEvent.TheVariants.{Typed}
 use Rattle.sam_term.specs.Term.{PlainTerminal, window_at, put_window}
 
 -- a file is shown from p on, n places where it has so many
 abbrev pub shown_from : PlainTerminal → ℕ → ℕ → ℕ → PlainTerminal
 shown_from t f p n = put_window t f (record (window_at t f) { view_start = p; view_length = n })
+
+-- a window whose dot gives way to these runes, behind which it then stands
+abbrev pub typed_over : Window → List ℕ → Window
+typed_over w s =
+    record w {
+      rasp = take w.dot.0 w.rasp ++ map Some s ++ drop w.dot.1 w.rasp;
+      dot = (w.dot.0 + length s, w.dot.0 + length s);
+      view_start = place_after_ins w.dot.0 (length s) (place_after_del w.dot.0 w.dot.1 w.view_start);
+    }
+
+-- the runes that an event types
+abbrev pub typed_runes : UserEvent → List ℕ
+typed_runes (Typed f s) = s
+typed_runes _ = []
