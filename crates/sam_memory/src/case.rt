@@ -1,7 +1,7 @@
 //! The cases by their names.
 
 use crate::setup::Tried;
-use crate::{codec, framing, gaps, lines, queue};
+use crate::{answers, codec, framing, gaps, lines, queue};
 use std::alloc::Global;
 use std::sync::Wait;
 
@@ -21,12 +21,15 @@ pub enum Case {
     TypeIn,
     Replace,
     RunLine,
+    HandleLine,
+    HandlePaste,
+    HandleSend,
     Audit,
 }
 
 impl Case {
     /// All cases, in the order in which they run.
-    pub const ALL: [Case; 14] = [
+    pub const ALL: [Case; 17] = [
         Case::EncodeT,
         Case::EncodeH,
         Case::DecodeT,
@@ -40,6 +43,9 @@ impl Case {
         Case::TypeIn,
         Case::Replace,
         Case::RunLine,
+        Case::HandleLine,
+        Case::HandlePaste,
+        Case::HandleSend,
         Case::Audit,
     ];
 
@@ -59,6 +65,9 @@ impl Case {
             Case::TypeIn => "type_in",
             Case::Replace => "replace",
             Case::RunLine => "run_line",
+            Case::HandleLine => "handle_line",
+            Case::HandlePaste => "handle_paste",
+            Case::HandleSend => "handle_send",
             Case::Audit => "audit",
         }
     }
@@ -79,6 +88,9 @@ impl Case {
             Case::TypeIn => gaps::type_in(alloc),
             Case::Replace => gaps::replace(alloc),
             Case::RunLine => lines::run_line(alloc),
+            Case::HandleLine => answers::handle_line(alloc),
+            Case::HandlePaste => answers::handle_paste(alloc),
+            Case::HandleSend => answers::handle_send(alloc),
             Case::Audit => queue::audit_one(rt, alloc),
         }
     }

@@ -5,6 +5,7 @@
 //! first, the second and so on in turn, loaded before the program, shows what each call does then.
 #![tactic(auto)]
 
+mod answers;
 mod case;
 mod codec;
 mod files;

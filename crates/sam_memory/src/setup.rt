@@ -1,6 +1,7 @@
 //! Want of memory, or whatever else, in what a case needs before its call.
 
 use sam_frame::FeedFault;
+use sam_host::fault::HostFault;
 use sam_mesg::MesgFault;
 use sam_queue::OutOfMemory;
 use sam_rasp::RaspFault;
@@ -53,6 +54,12 @@ impl From<RaspFault> for SetUp {
 
 impl From<FilesFault> for SetUp {
     fn from(_fault: FilesFault) -> SetUp {
+        SetUp
+    }
+}
+
+impl From<HostFault> for SetUp {
+    fn from(_fault: HostFault) -> SetUp {
         SetUp
     }
 }
