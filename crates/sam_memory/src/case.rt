@@ -1,7 +1,7 @@
 //! The cases by their names.
 
 use crate::setup::Tried;
-use crate::{answers, codec, framing, gaps, lines, queue};
+use crate::{answers, codec, events, framing, gaps, lines, queue};
 use std::alloc::Global;
 use std::sync::Wait;
 
@@ -24,12 +24,14 @@ pub enum Case {
     HandleLine,
     HandlePaste,
     HandleSend,
+    ActPaste,
+    ReceiveCheck,
     Audit,
 }
 
 impl Case {
     /// All cases, in the order in which they run.
-    pub const ALL: [Case; 17] = [
+    pub const ALL: [Case; 19] = [
         Case::EncodeT,
         Case::EncodeH,
         Case::DecodeT,
@@ -46,6 +48,8 @@ impl Case {
         Case::HandleLine,
         Case::HandlePaste,
         Case::HandleSend,
+        Case::ActPaste,
+        Case::ReceiveCheck,
         Case::Audit,
     ];
 
@@ -68,6 +72,8 @@ impl Case {
             Case::HandleLine => "handle_line",
             Case::HandlePaste => "handle_paste",
             Case::HandleSend => "handle_send",
+            Case::ActPaste => "act_paste",
+            Case::ReceiveCheck => "receive_check",
             Case::Audit => "audit",
         }
     }
@@ -91,6 +97,8 @@ impl Case {
             Case::HandleLine => answers::handle_line(alloc),
             Case::HandlePaste => answers::handle_paste(alloc),
             Case::HandleSend => answers::handle_send(alloc),
+            Case::ActPaste => events::act_paste(alloc),
+            Case::ReceiveCheck => events::receive_check(alloc),
             Case::Audit => queue::audit_one(rt, alloc),
         }
     }

@@ -8,6 +8,7 @@
 mod answers;
 mod case;
 mod codec;
+mod events;
 mod files;
 mod framing;
 mod gaps;

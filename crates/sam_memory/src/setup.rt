@@ -6,6 +6,7 @@ use sam_mesg::MesgFault;
 use sam_queue::OutOfMemory;
 use sam_rasp::RaspFault;
 use sam_runes::{Runes, TextFault};
+use sam_term::TermFault;
 use sam_text::FilesFault;
 use std::alloc::{AllocError, AllocFailed, Global};
 
@@ -60,6 +61,12 @@ impl From<FilesFault> for SetUp {
 
 impl From<HostFault> for SetUp {
     fn from(_fault: HostFault) -> SetUp {
+        SetUp
+    }
+}
+
+impl From<TermFault> for SetUp {
+    fn from(_fault: TermFault) -> SetUp {
         SetUp
     }
 }
