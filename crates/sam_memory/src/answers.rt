@@ -1,0 +1,193 @@
+//! Answers of the host.
+
+use crate::files::is_same_files;
+use crate::setup::{SetUp, Tried, runes, spells};
+use sam_host::fault::HostFault;
+use sam_host::host::Host;
+use sam_mesg::{Frames, HFrame, Hmesg, Tmesg, fits_t};
+use sam_runes::{Runes, Text};
+use std::alloc::Global;
+
+/// Whether the readers tell the same of both.
+fn is_same_host(host: &Host, other: &Host) -> bool {
+    host.taken() == other.taken()
+        && host.is_done() == other.is_done()
+        && host.version() == other.version()
+        && is_same_files(host.files(), other.files())
+}
+
+/// Hands over a message. One that does not fit is none that a case has.
+fn ask(host: &mut Host, message: Tmesg) -> Result<Frames, HostFault> {
+    if !fits_t(2, &message) {
+        return Err(HostFault::TooLong);
+    }
+    host.handle(message)
+}
+
+/// The answers to the message. Where memory for them is refused, the host is to be its twin to every reader, and the message
+/// is handed over again. None where anything else is told.
+fn answers(host: &mut Host, twin: &Host, message: Tmesg, again: Tmesg) -> Option<Frames> {
+    let mut answered = ask(host, message);
+    if matches!(&answered, Err(HostFault::OutOfMemory)) {
+        if !is_same_host(host, twin) {
+            return None;
+        }
+        answered = ask(host, again);
+    }
+    answered.ok()
+}
+
+/// A host whose file 1 has the text and is open.
+fn showing(alloc: Global, text: Text) -> Result<Host, SetUp> {
+    let mut given = Vec::new(alloc);
+    given.push((Runes::from_slice(alloc, &['a'])?, text))?;
+    let mut host = Host::new(alloc, given)?;
+    ask(&mut host, Tmesg::Tstartfile(1))?;
+    Ok(host)
+}
+
+/// A host whose work file is file 1 with the text, and which shows it and the command file.
+fn at_work(alloc: Global, text: &str) -> Result<Host, SetUp> {
+    let text = runes(alloc, text)?;
+    let mut host = showing(alloc, Text::from_runes(alloc, text.as_slice())?)?;
+    ask(&mut host, Tmesg::Tstartcmdfile)?;
+    ask(&mut host, Tmesg::Tworkfile(1, 0, 0))?;
+    Ok(host)
+}
+
+/// A host that shows a text of 999,999 runes, and has refused to paste two more; it is to paste one.
+fn almost_full(alloc: Global) -> Result<Host, SetUp> {
+    let text = vec![in alloc; 'b'; 999_999]?;
+    let mut host = showing(alloc, Text::from_runes(alloc, text.as_slice())?)?;
+    ask(&mut host, Tmesg::Tsetsnarf(runes(alloc, "ab")?))?;
+    ask(&mut host, Tmesg::Tpaste(1, 0))?;
+    ask(&mut host, Tmesg::Tsetsnarf(runes(alloc, "a")?))?;
+    Ok(host)
+}
+
+/// Whether file 1 has the text.
+fn has_text(host: &Host, text: &str) -> bool {
+    match host.files().text(1) {
+        Some(found) => spells(found.slice(0, found.len()), text),
+        None => false,
+    }
+}
+
+/// Whether each frame answers the message of that number.
+fn are_after(frames: &[HFrame], taken: u64) -> bool {
+    for frame in frames {
+        if frame.seen != taken {
+            return false;
+        }
+    }
+    true
+}
+
+/// Whether the frame says that the runes came into the file at the place.
+fn grows(frame: &HFrame, tag: u16, place: u32, text: &str) -> bool {
+    match &frame.msg {
+        Hmesg::Hgrowdata(t, p, runes) => *t == tag && *p == place && spells(runes.as_slice(), text),
+        _ => false,
+    }
+}
+
+/// Whether the frame names the pattern.
+fn finds(frame: &HFrame, pattern: &str) -> bool {
+    match &frame.msg {
+        Hmesg::Hsetpat(runes) => spells(runes.as_slice(), pattern),
+        _ => false,
+    }
+}
+
+/// A typed line that changes each `a` of the work file.
+pub fn handle_line(alloc: Global) -> Tried {
+    let mut host = at_work(alloc, "abab\n")?;
+    let twin = at_work(alloc, "abab\n")?;
+    let line = Tmesg::Ttype(0, 0, runes(alloc, ",x/a/c/X/\n")?);
+    let again = Tmesg::Ttype(0, 0, runes(alloc, ",x/a/c/X/\n")?);
+    match answers(&mut host, &twin, line, again) {
+        Some(frames) => Ok(are_changes(frames.as_slice()) && has_text(&host, "XbXb\n")),
+        None => Ok(false),
+    }
+}
+
+fn are_changes(frames: &[HFrame]) -> bool {
+    let [
+        cut,
+        put,
+        first_cut,
+        first_put,
+        dirty,
+        pattern,
+        dot,
+        check,
+        unlock,
+    ] = frames
+    else {
+        return false;
+    };
+    are_after(frames, 4)
+        && matches!(&cut.msg, Hmesg::Hcut(1, 2, 1))
+        && grows(put, 1, 2, "X")
+        && matches!(&first_cut.msg, Hmesg::Hcut(1, 0, 1))
+        && grows(first_put, 1, 0, "X")
+        && matches!(&dirty.msg, Hmesg::Hdirty(1))
+        && finds(pattern, "a")
+        && matches!(&dot.msg, Hmesg::Hsetdot(1, 0, 5))
+        && matches!(&check.msg, Hmesg::Hcheck(1))
+        && matches!(&unlock.msg, Hmesg::Hunlock)
+}
+
+/// A paste that fills a text to its limit.
+pub fn handle_paste(alloc: Global) -> Tried {
+    let mut host = almost_full(alloc)?;
+    let twin = almost_full(alloc)?;
+    match answers(&mut host, &twin, Tmesg::Tpaste(1, 0), Tmesg::Tpaste(1, 0)) {
+        Some(frames) => Ok(
+            are_of_paste(frames.as_slice()) && host.files().text_len(1) == 1_000_000,
+        ),
+        None => Ok(false),
+    }
+}
+
+fn are_of_paste(frames: &[HFrame]) -> bool {
+    let [put, dirty, dot, check, unlock] = frames else {
+        return false;
+    };
+    are_after(frames, 5)
+        && grows(put, 1, 0, "a")
+        && matches!(&dirty.msg, Hmesg::Hdirty(1))
+        && matches!(&dot.msg, Hmesg::Hsetdot(1, 0, 1))
+        && matches!(&check.msg, Hmesg::Hcheck(1))
+        && matches!(&unlock.msg, Hmesg::Hunlockfile(1))
+}
+
+/// A line that is sent from the work file, and deletes it.
+pub fn handle_send(alloc: Global) -> Tried {
+    let mut host = at_work(alloc, ",d")?;
+    let twin = at_work(alloc, ",d")?;
+    match answers(
+        &mut host,
+        &twin,
+        Tmesg::Tsend(1, 0, 2),
+        Tmesg::Tsend(1, 0, 2),
+    ) {
+        Some(frames) => Ok(are_of_send(frames.as_slice()) && has_text(&host, "")),
+        None => Ok(false),
+    }
+}
+
+fn are_of_send(frames: &[HFrame]) -> bool {
+    let [line, end, told, cut, dirty, dot, check, unlock] = frames else {
+        return false;
+    };
+    are_after(frames, 4)
+        && grows(line, 0, 0, ",d\n")
+        && matches!(&end.msg, Hmesg::Hsetdot(0, 3, 3))
+        && matches!(&told.msg, Hmesg::Hcheck(0))
+        && matches!(&cut.msg, Hmesg::Hcut(1, 0, 2))
+        && matches!(&dirty.msg, Hmesg::Hdirty(1))
+        && matches!(&dot.msg, Hmesg::Hsetdot(1, 0, 0))
+        && matches!(&check.msg, Hmesg::Hcheck(1))
+        && matches!(&unlock.msg, Hmesg::Hunlock)
+}

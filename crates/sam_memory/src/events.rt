@@ -1,0 +1,155 @@
+//! Events and frames at the terminal.
+
+use crate::gaps::{is_same_rasp, shows};
+use crate::setup::{SetUp, Tried, runes};
+use sam_mesg::{Batch, HFrame, Hmesg, Tmesg, fits_h};
+use sam_rasp::Rasp;
+use sam_term::{Acted, TermFault, Terminal, UserEvent};
+use std::alloc::Global;
+
+/// The tags that are compared: those of the cases are less.
+const TAGS: u16 = 4;
+
+fn is_same_part(part: Option<&Rasp>, other: Option<&Rasp>) -> bool {
+    match (part, other) {
+        (None, None) => true,
+        (Some(part), Some(other)) => is_same_rasp(part, other),
+        _ => false,
+    }
+}
+
+fn is_same_window(terminal: &Terminal, other: &Terminal, tag: u16) -> bool {
+    terminal.dot(tag) == other.dot(tag)
+        && terminal.view(tag) == other.view(tag)
+        && terminal.locked(tag) == other.locked(tag)
+        && terminal.locks(tag) == other.locks(tag)
+        && is_same_part(terminal.rasp(tag), other.rasp(tag))
+}
+
+/// Whether the readers tell the same of both.
+fn is_same_terminal(terminal: &Terminal, other: &Terminal) -> bool {
+    for tag in 0..TAGS {
+        if !is_same_window(terminal, other, tag) {
+            return false;
+        }
+    }
+    terminal.command_locked() == other.command_locked()
+        && terminal.exited() == other.exited()
+        && terminal.unsent() == other.unsent()
+        && terminal.sent() == other.sent()
+        && terminal.version() == other.version()
+}
+
+/// Hands over a frame. One that does not fit is none that a case has.
+fn take(terminal: &mut Terminal, seen: u64, msg: Hmesg) -> Result<Batch, TermFault> {
+    let frame = HFrame { seen, msg };
+    if !fits_h(2, &frame.msg) {
+        return Err(TermFault::TooLong);
+    }
+    terminal.receive(frame)
+}
+
+/// An event of the start, which nothing holds back.
+fn does(terminal: &mut Terminal, event: UserEvent) -> Result<(), SetUp> {
+    terminal.user(event)?;
+    match terminal.act()? {
+        Acted::Done(_) => Ok(()),
+        _ => Err(SetUp),
+    }
+}
+
+/// The messages that the oldest held event composes. Where memory for it is refused, the terminal is to be its twin to every
+/// reader, and the event is tried again. None where anything else is told.
+fn composed(terminal: &mut Terminal, twin: &Terminal) -> Option<Batch> {
+    let mut acted = terminal.act();
+    if matches!(&acted, Err(TermFault::OutOfMemory)) {
+        if !is_same_terminal(terminal, twin) {
+            return None;
+        }
+        acted = terminal.act();
+    }
+    match acted {
+        Ok(Acted::Done(messages)) => Some(messages),
+        _ => None,
+    }
+}
+
+/// Opens a window on the file of the tag, with gaps for as many runes.
+fn open(terminal: &mut Terminal, tag: u16, runes: u32) -> Result<(), SetUp> {
+    take(terminal, 0, Hmesg::Hnewname(tag))?;
+    take(terminal, 0, Hmesg::Hbindname(tag))?;
+    if runes > 0 {
+        take(terminal, 0, Hmesg::Hgrow(tag, 0, runes))?;
+    }
+    Ok(())
+}
+
+/// Has the first five runes of file 1 shown and given.
+fn show(alloc: Global, terminal: &mut Terminal, text: &str) -> Result<(), SetUp> {
+    does(terminal, UserEvent::View(1, 0, 5))?;
+    take(terminal, 1, Hmesg::Hdata(1, 0, runes(alloc, text)?))?;
+    take(terminal, 1, Hmesg::Hunlockfile(1))?;
+    Ok(())
+}
+
+/// A terminal with two files, where a paste into the first is held.
+fn to_paste(alloc: Global) -> Result<Terminal, SetUp> {
+    let mut terminal = Terminal::new(alloc);
+    open(&mut terminal, 1, 0)?;
+    open(&mut terminal, 2, 0)?;
+    terminal.user(UserEvent::Paste(1))?;
+    Ok(terminal)
+}
+
+/// A terminal that shows three runes and two gaps of a file, and has asked whether it shows all.
+fn to_fill(alloc: Global) -> Result<Terminal, SetUp> {
+    let mut terminal = Terminal::new(alloc);
+    open(&mut terminal, 0, 0)?;
+    open(&mut terminal, 1, 10)?;
+    show(alloc, &mut terminal, "abcde")?;
+    does(&mut terminal, UserEvent::Select(1, 0, 2))?;
+    does(&mut terminal, UserEvent::Cut(1))?;
+    does(&mut terminal, UserEvent::Check(1))?;
+    take(&mut terminal, 3, Hmesg::Hsnarflen(2))?;
+    Ok(terminal)
+}
+
+fn part_shows(terminal: &Terminal, tag: u16, shown: &str) -> bool {
+    match terminal.rasp(tag) {
+        Some(part) => shows(part, shown),
+        None => false,
+    }
+}
+
+/// A paste asks the host, and locks its file.
+pub fn act_paste(alloc: Global) -> Tried {
+    let mut terminal = to_paste(alloc)?;
+    let twin = to_paste(alloc)?;
+    match composed(&mut terminal, &twin) {
+        Some(messages) => {
+            let asks = matches!(messages.as_slice(), [Tmesg::Tpaste(1, 0)]);
+            Ok(asks && terminal.locks(1) == 1 && terminal.sent() == 1)
+        }
+        None => Ok(false),
+    }
+}
+
+/// A check has the first gap in view asked for.
+pub fn receive_check(alloc: Global) -> Tried {
+    let mut terminal = to_fill(alloc)?;
+    let twin = to_fill(alloc)?;
+    let mut received = take(&mut terminal, 3, Hmesg::Hcheck(1));
+    if matches!(&received, Err(TermFault::OutOfMemory)) {
+        if !is_same_terminal(&terminal, &twin) {
+            return Ok(false);
+        }
+        received = take(&mut terminal, 3, Hmesg::Hcheck(1));
+    }
+    match received {
+        Ok(messages) => {
+            let asks = matches!(messages.as_slice(), [Tmesg::Trequest(1, 3, 2)]);
+            Ok(asks && part_shows(&terminal, 1, "cde_____") && terminal.locks(1) == 1)
+        }
+        Err(_) => Ok(false),
+    }
+}

@@ -1,0 +1,88 @@
+//! Want of memory, or whatever else, in what a case needs before its call.
+
+use sam_frame::FeedFault;
+use sam_host::fault::HostFault;
+use sam_mesg::MesgFault;
+use sam_queue::OutOfMemory;
+use sam_rasp::RaspFault;
+use sam_runes::{Runes, TextFault};
+use sam_term::TermFault;
+use sam_text::FilesFault;
+use std::alloc::{AllocError, AllocFailed, Global};
+
+/// The start of a case was refused, so that nothing is known of its call: the case is to be tried again.
+#[derive(Clone, Copy, Debug, PartialEq, Eq)]
+pub struct SetUp;
+
+/// Whether the call of a case was right, where its start was not refused.
+pub type Tried = Result<bool, SetUp>;
+
+impl From<AllocError> for SetUp {
+    fn from(_error: AllocError) -> SetUp {
+        SetUp
+    }
+}
+
+impl<T: Drop> From<AllocFailed<T>> for SetUp {
+    fn from(_error: AllocFailed<T>) -> SetUp {
+        SetUp
+    }
+}
+
+impl From<TextFault> for SetUp {
+    fn from(_fault: TextFault) -> SetUp {
+        SetUp
+    }
+}
+
+impl From<MesgFault> for SetUp {
+    fn from(_fault: MesgFault) -> SetUp {
+        SetUp
+    }
+}
+
+impl<M: Drop> From<FeedFault<M>> for SetUp {
+    fn from(_fault: FeedFault<M>) -> SetUp {
+        SetUp
+    }
+}
+
+impl From<RaspFault> for SetUp {
+    fn from(_fault: RaspFault) -> SetUp {
+        SetUp
+    }
+}
+
+impl From<FilesFault> for SetUp {
+    fn from(_fault: FilesFault) -> SetUp {
+        SetUp
+    }
+}
+
+impl From<HostFault> for SetUp {
+    fn from(_fault: HostFault) -> SetUp {
+        SetUp
+    }
+}
+
+impl From<TermFault> for SetUp {
+    fn from(_fault: TermFault) -> SetUp {
+        SetUp
+    }
+}
+
+impl From<OutOfMemory> for SetUp {
+    fn from(_fault: OutOfMemory) -> SetUp {
+        SetUp
+    }
+}
+
+/// The runes of a text.
+pub fn runes(alloc: Global, text: &str) -> Result<Runes, SetUp> {
+    Ok(Runes::from_vec(text.chars().collect(alloc)?))
+}
+
+/// Whether the runes are those of the text. It takes no memory.
+pub fn spells(runes: &[char], text: &str) -> bool {
+    runes.iter().copied().eq(text.chars())
+}
