@@ -1,5 +1,5 @@
 -- What holds of every world that a run led to, for the contracts of its calls.
-use Rattle.std.proofs.Common.{◌≡◌, ◌⊎◌, inl, inr, ℕ, true, List, [], ◌∷◌, Option, Some, None, Result, Ok, Err, refl, ap, ◌∙◌, sym}
+use Rattle.std.proofs.Common.{◌≡◌, ◌⊎◌, inl, inr, ℕ, true, List, [], ◌∷◌, Some, None, Result, Ok, Err, refl, ap, ◌∙◌, sym, subst, drop}
 use Rattle.sam_runes.specs.Texts.{is_empty}
 use Rattle.sam_host.specs.Host.{PlainHost, Answer, answer}
 use Rattle.sam_host.specs.declared.fault.HostFault.{HostFault}
@@ -13,6 +13,9 @@ use Rattle.sam_mesg.specs.declared.hmesg.HFrame.{HFrame}
 use Rattle.sam_world.specs.World.{PlainWorld, is_empty_take, step_of, after_act, after_compose, after_answer, host_takes, term_takes, IsSettledWhereQuiet, IsAhead, HasOneVersion}
 use Rattle.sam_world.specs.Counts.{is_term_full, is_host_full, passes_at, composes_past, passes_count}
 use Rattle.sam_world.specs.Reached.{WasReached}
+use Rattle.sam_world.specs.Faults.{IsFaultOf, fault_of_term, fault_of_host}
+use Rattle.sam_world.specs.UnderWay.{head}
+use Rattle.sam_world.proofs.Keeping.{first_rest}
 use Rattle.sam_world.specs.Order.{IsInOrder, IsCountable}
 use Rattle.sam_world.specs.declared.event.Event.{Event}
 use Rattle.sam_world.specs.declared.event.Event.TheVariants.{User, Act, Flush, HostTake, TermTake}
@@ -68,3 +71,37 @@ no_step w TermTake r e = go w.down refl e
     go : (down : List HFrame) → w.down ≡ down → term_takes w down ≡ None → (is_empty down ≡ true) ⊎ (composes_past w.term down ≡ true)
     go [] d n = inl refl
     go (frame ∷ frames) d n = inr (taken frame frames (take_of w.term frame) d refl n)
+
+-- ## Faults of a step
+
+term_full : {A : Type 0} (a : Result A TermFault) (why : TermFault) → a ≡ Err why → why ≡ fault.CountFull → is_term_full a ≡ true
+term_full {A} a why e q = ap (is_term_full {A = A}) e ∙ ap (λ (x : TermFault). is_term_full {A = A} (Err x)) q
+
+memory_fault : (w : PlainWorld) (e : Event) (why : TermFault) → why ≡ fault.OutOfMemory → IsFaultOf w e (fault_of_term why)
+memory_fault w e why q = subst (λ (x : TermFault). IsFaultOf w e (fault_of_term x)) (sym q) tt
+
+full_fault : (w : PlainWorld) (e : Event) (why : TermFault) → why ≡ fault.CountFull → passes_count w e ≡ true → IsFaultOf w e (fault_of_term why)
+full_fault w e why q full = subst (λ (x : TermFault). IsFaultOf w e (fault_of_term x)) (sym q) full
+
+pub act_refused : (w : PlainWorld) (why : TermFault) → (why ≡ fault.OutOfMemory) ⊎ (act_of w.term ≡ Err why) → IsFaultOf w Act (fault_of_term why)
+act_refused w why (inl q) = memory_fault w Act why q
+act_refused w why (inr a) = let q = (only_counts_stop w.term why).0 a in full_fault w Act why q (term_full (act_of w.term) why a q)
+
+pub flush_refused : (w : PlainWorld) (why : TermFault) → (why ≡ fault.OutOfMemory) ⊎ (flush_of w.term ≡ Err why) → IsFaultOf w Flush (fault_of_term why)
+flush_refused w why (inl q) = memory_fault w Flush why q
+flush_refused w why (inr a) = let q = (only_counts_stop w.term why).1 a in full_fault w Flush why q (term_full (flush_of w.term) why a q)
+
+pub take_refused : (w : PlainWorld) (frame : HFrame) (why : TermFault) → WasReached w → head w.down ≡ Some frame → (why ≡ fault.OutOfMemory) ⊎ (take_of w.term frame ≡ Err why) → IsFaultOf w TermTake (fault_of_term why)
+take_refused w frame why r first (inl q) = memory_fault w TermTake why q
+take_refused w frame why r first (inr a) =
+    let list = first_rest w.down frame first in
+    let q = term_fault w frame (drop 1 w.down) why r list a in
+    full_fault w TermTake why q (ap (composes_past w.term) list ∙ term_full (take_of w.term frame) why a q)
+
+pub answer_refused : (w : PlainWorld) (m : Tmesg) (why : HostFault) → WasReached w → head w.up ≡ Some m → (why ≡ hostfault.OutOfMemory) ⊎ (answer w.host m ≡ Err why) → IsFaultOf w HostTake (fault_of_host why)
+answer_refused w m why r first (inl q) = subst (λ (x : HostFault). IsFaultOf w HostTake (fault_of_host x)) (sym q) tt
+answer_refused w m why r first (inr a) =
+    let list = first_rest w.up m first in
+    let q = host_fault w m (drop 1 w.up) why r list a in
+    let full : passes_count w HostTake ≡ true = ap (passes_at w.host) list ∙ ap is_host_full a ∙ ap (λ (x : HostFault). is_host_full {A = PlainHost × List HFrame} (Err x)) q in
+    subst (λ (x : HostFault). IsFaultOf w HostTake (fault_of_host x)) (sym q) full

@@ -1,6 +1,6 @@
 -- In every state of every run, what is under way is within the limits; and one step more is a run.
-use Rattle.std.proofs.Common.{◌≡◌, refl, sym, ap, ◌∙◌, subst, ◌≤◌, ◌<◌, ℕ, zero, suc, Bool, true, false, ◌&&◌, List, [], ◌∷◌, ◌++◌, length, Option, Some, None, Result, Ok, Err, if◌then◌else◌, ◌==◌, nat_le, nat_lt, arith}
-use Rattle.std.specs.Prelude.{option_and_then, All, IsTrue, slice_index_or}
+use Rattle.std.proofs.Common.{◌≡◌, refl, sym, ap, subst, ◌≤◌, ℕ, zero, suc, Bool, true, false, ◌&&◌, List, [], ◌∷◌, ◌++◌, Option, Some, None, Result, Ok, Err, if◌then◌else◌, ◌==◌, nat_lt, arith}
+use Rattle.std.specs.Prelude.{option_and_then, All, IsTrue}
 use Rattle.std.proofs.lemmas.Bool.{leb-true, le-leb}
 use Rattle.std.proofs.lemmas.Option.{same_Some}
 use Rattle.sam_runes.specs.Checks.{first_of_checks}
@@ -25,7 +25,7 @@ use Rattle.sam_mesg.specs.declared.tmesg.Tmesg.{Tmesg}
 use Rattle.sam_mesg.specs.declared.tmesg.Tmesg.TheVariants.{Ttype, Tsetsnarf}
 use Rattle.sam_mesg.specs.declared.hmesg.HFrame.{HFrame}
 use Rattle.sam_world.proofs.ActLaws.{acted_in, not_done}
-use Rattle.sam_world.specs.World.{PlainWorld, new_world, IsReached, step_of, run_of, composed_by, after_act, after_compose, after_answer, host_takes, term_takes}
+use Rattle.sam_world.specs.World.{PlainWorld, new_world, step_of, run_of, composed_by, after_act, after_compose, after_answer, host_takes, term_takes}
 use Rattle.sam_world.specs.Reached.{WasReached}
 use Rattle.sam_world.specs.declared.event.Event.{Event}
 use Rattle.sam_world.specs.declared.event.Event.TheVariants.{User, Act, Flush, HostTake, TermTake}

@@ -1,4 +1,4 @@
-use Rattle.std.proofs.Common.{◌≡◌, refl, sym, ap, ◌∙◌, ◌++◌, ◌∷◌, [], ◌==◌, map, subst}
+use Rattle.std.proofs.Common.{sym, ap, ◌∙◌, ◌++◌, map}
 use Rattle.std.proofs.lemmas.List.{append_assoc}
 use Rattle.sam_world.specs.UnderWay.{joined}
 use Rattle.sam_world.proofs.UnderWayLaws.{joined-behind, filled-behind, some_length}

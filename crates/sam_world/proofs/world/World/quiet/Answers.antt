@@ -1,5 +1,4 @@
-use Rattle.std.proofs.Common.{subst, sym}
-use Rattle.sam_world.specs.World.{PlainWorld}
+use Rattle.std.proofs.Common.{subst}
 use Rattle.sam_world.specs.Reached.{WasReached}
 use Rattle.sam_world.proofs.Reaches.{settled_where_quiet}
 use Rattle.sam_world.proofs.world.World.quiet.Goals as goal
