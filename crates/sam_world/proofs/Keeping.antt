@@ -1,6 +1,6 @@
 -- What is kept of every world, step by step.
-use Rattle.std.proofs.Common.{◌≡◌, refl, sym, ap, ◌∙◌, subst, ◌+◌, ◌<◌, ℕ, zero, suc, List, [], ◌∷◌, ◌++◌, drop, length, Option, Some, None, Result, Ok, Err, arith}
-use Rattle.std.specs.Prelude.{All, IsTrue, slice_index_or}
+use Rattle.std.proofs.Common.{◌≡◌, refl, sym, ap, ◌∙◌, subst, ℕ, suc, List, [], ◌∷◌, ◌++◌, drop, Some, Ok, arith}
+use Rattle.std.specs.Prelude.{All, IsTrue}
 use Rattle.std.proofs.lemmas.List.Elements.{All-append}
 use Rattle.std.proofs.lemmas.Option.{same_Some}
 use Rattle.sam_host.specs.Host.{PlainHost, answer}
@@ -9,14 +9,14 @@ use Rattle.sam_term.specs.Sound.{IsSound}
 use Rattle.sam_term.specs.Term.{PlainTerminal, act_of, flush_of, take_of}
 use Rattle.sam_term.specs.declared.event.UserEvent.{UserEvent}
 use Rattle.sam_term.specs.declared.event.Acted.{Acted}
-use Rattle.sam_term.specs.declared.event.Acted.TheVariants.{Idle, Locked, Done, Refused}
+use Rattle.sam_term.specs.declared.event.Acted.TheVariants.{Done}
 use Rattle.sam_mesg.specs.TerminalKinds.{fits_t}
 use Rattle.sam_mesg.specs.HostKinds.{fits_h}
 use Rattle.sam_mesg.specs.declared.tmesg.Tmesg.{Tmesg}
 use Rattle.sam_mesg.specs.declared.hmesg.HFrame.{HFrame}
 use Rattle.sam_world.specs.World.{PlainWorld, new_world, step_of, composed_by, after_act, after_compose, after_answer, host_takes, term_takes}
 use Rattle.sam_world.specs.UnderWay.{head}
-use Rattle.sam_world.specs.Reached.{WasReached, IsKept}
+use Rattle.sam_world.specs.Reached.{IsKept}
 use Rattle.sam_world.specs.declared.event.Event.TheVariants.{User, Act, Flush, HostTake, TermTake}
 use Rattle.sam_world.proofs.Within.{reached_start, reached_step, act_fits, flushed_fits, taken_fits, answered_fits}
 
@@ -83,7 +83,7 @@ kept_flush w t ms up k s a same =
     })
 
 -- the first member stands before the rest
-first_rest : {X : Type 0} (xs : List X) (x : X) → head xs ≡ Some x → xs ≡ x ∷ drop 1 xs
+pub first_rest : {X : Type 0} (xs : List X) (x : X) → head xs ≡ Some x → xs ≡ x ∷ drop 1 xs
 first_rest [] x e = absurd (cc)
 first_rest (y ∷ xs) x e = ap (λ z. z ∷ xs) (same_Some y x e)
 

@@ -1,5 +1,5 @@
 -- Runs, step by step, and what a drain has done.
-use Rattle.std.proofs.Common.{◌≡◌, refl, sym, ap, ◌∙◌, subst, ◌<◌, ◌≤◌, ◌+◌, ◌-◌, ℕ, zero, suc, Bool, true, false, List, [], ◌∷◌, ◌++◌, take, length, Option, Some, None, arith}
+use Rattle.std.proofs.Common.{◌≡◌, refl, sym, ap, ◌∙◌, subst, ◌<◌, ◌+◌, ℕ, zero, suc, List, [], ◌∷◌, take, length, Option, Some, None, arith}
 use Rattle.std.specs.Prelude.{option_and_then, slice_index_or}
 use Rattle.std.proofs.lemmas.Option.{same_Some}
 use Rattle.sam_world.specs.World.{PlainWorld, step_of, run_of, next_event, advanced, drained}

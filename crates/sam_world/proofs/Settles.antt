@@ -5,7 +5,6 @@ use Rattle.sam_world.specs.declared.event.TermLog.TheVariants as log
 use Rattle.sam_world.specs.declared.event.Event.{Event}
 use Rattle.sam_world.specs.declared.event.Event.TheVariants as event
 use Rattle.sam_term.specs.declared.event.UserEvent.{UserEvent}
-use Rattle.sam_world.specs.Merging.{events_of, done_after}
 use Rattle.sam_world.specs.World.{merged_from, merged}
 use Rattle.sam_world.specs.Logs.{takes, FitsUnder, logged_users, users}
 use Rattle.sam_world.specs.Sides.{Each, Steps, Counts, HostRuns, TermRuns, World, world, and_then, composed, answered, step, run}

@@ -1,8 +1,7 @@
 -- Batches one behind the other.
-use Rattle.std.proofs.Common.{◌≡◌, refl, sym, ap, ◌∙◌, ◌<◌, ℕ, Bool, true, false, ◌==◌, List, [], ◌∷◌, ◌++◌, length, map, Option, Some, None, arith}
+use Rattle.std.proofs.Common.{◌≡◌, refl, sym, ap, ◌∙◌, ℕ, false, ◌==◌, List, [], ◌∷◌, ◌++◌, length, map}
 use Rattle.std.proofs.lemmas.List.{append_assoc}
-use Rattle.sam_runes.specs.Texts.{is_empty}
-use Rattle.sam_world.specs.UnderWay.{head, joined, AreFilled}
+use Rattle.sam_world.specs.UnderWay.{joined, AreFilled}
 
 pub joined-behind : {B M : Type 0} (items : B → List M) (batches : List B) (batch : B) → joined (map items (batches ++ batch ∷ [])) ≡ joined (map items batches) ++ items batch
 joined-behind items [] batch = append_nil (items batch)

@@ -1,6 +1,6 @@
 -- In every state of every run, what is under way is within the limits; and one step more is a run.
-use Rattle.std.proofs.Common.{◌≡◌, refl, sym, ap, ◌∙◌, subst, ◌≤◌, ◌<◌, ℕ, zero, suc, Bool, true, false, ◌&&◌, List, [], ◌∷◌, ◌++◌, length, Option, Some, None, Result, Ok, Err, if◌then◌else◌, ◌==◌, nat_le, nat_lt, arith}
-use Rattle.std.specs.Prelude.{option_and_then, All, IsTrue, slice_index_or}
+use Rattle.std.proofs.Common.{◌≡◌, refl, sym, ap, subst, ◌≤◌, ℕ, zero, suc, Bool, true, false, ◌&&◌, List, [], ◌∷◌, ◌++◌, Option, Some, None, Result, Ok, Err, if◌then◌else◌, ◌==◌, nat_lt, arith}
+use Rattle.std.specs.Prelude.{option_and_then, All, IsTrue}
 use Rattle.std.proofs.lemmas.Bool.{leb-true, le-leb}
 use Rattle.std.proofs.lemmas.Option.{same_Some}
 use Rattle.sam_runes.specs.Checks.{first_of_checks}
@@ -25,7 +25,7 @@ use Rattle.sam_mesg.specs.declared.tmesg.Tmesg.{Tmesg}
 use Rattle.sam_mesg.specs.declared.tmesg.Tmesg.TheVariants.{Ttype, Tsetsnarf}
 use Rattle.sam_mesg.specs.declared.hmesg.HFrame.{HFrame}
 use Rattle.sam_world.proofs.ActLaws.{acted_in, not_done}
-use Rattle.sam_world.specs.World.{PlainWorld, new_world, IsReached, step_of, run_of, composed_by, after_act, after_compose, after_answer, host_takes, term_takes}
+use Rattle.sam_world.specs.World.{PlainWorld, new_world, step_of, run_of, composed_by, after_act, after_compose, after_answer, host_takes, term_takes}
 use Rattle.sam_world.specs.Reached.{WasReached}
 use Rattle.sam_world.specs.declared.event.Event.{Event}
 use Rattle.sam_world.specs.declared.event.Event.TheVariants.{User, Act, Flush, HostTake, TermTake}
@@ -112,6 +112,7 @@ act_fits t u ms s a = go t.held a
         let same : Done ms ≡ Done made.1 = not_done made.0.sent made.0 u made.1 (Done ms) q in
         let sound : IsSoundTerminal (record t { held = es }) = record { countable = s.countable; windows = s.windows; unsent = s.unsent; short = s.short } in
         fitting t.version ms made.1 (ap done_in same) (event_fits (record t { held = es }) x sound n)
+
     go : (es : List UserEvent) → act_on t es ≡ Ok (u, Done ms) → All (λ m. IsTrue (fits_t 2 m)) ms
     go [] q = let other : Idle ≡ Done ms = ap (λ y. acted_in y Locked) q in absurd (cc)
     go (x ∷ es) q = decides x es (first_of_checks (event_checks t x)) refl q

@@ -1,10 +1,10 @@
 -- Why a step of the world is not made.
-use Rattle.std.specs.Prelude.{◌≡◌, ◌<◌, ℕ, Bool, true, List, length, take, slice_get, Option, Some, None, IfSome}
+use Rattle.std.specs.Prelude.{◌≡◌, ◌<◌, ℕ, true, List, length, take, slice_get, Some, IfSome}
 use Rattle.sam_host.specs.declared.fault.HostFault.{HostFault}
 use Rattle.sam_host.specs.declared.fault.HostFault.TheVariants as host
 use Rattle.sam_term.specs.declared.fault.TermFault.{TermFault}
 use Rattle.sam_term.specs.declared.fault.TermFault.TheVariants as term
-use Rattle.sam_world.specs.World.{PlainWorld, step_of, run_of, next_event, drained}
+use Rattle.sam_world.specs.World.{PlainWorld, is_empty_take, step_of, run_of, next_event, drained}
 use Rattle.sam_world.specs.Counts.{passes_count}
 use Rattle.sam_world.specs.declared.event.Event.{Event}
 use Rattle.sam_world.specs.declared.event.RunStop.{RunStop}
@@ -23,10 +23,10 @@ fault_of_host host.OutOfMemory = OutOfMemory
 fault_of_host host.CountFull = CountFull
 fault_of_host _ = NothingThere
 
--- CountFull is answered only where a count would be passed; nothing is there only where the event is no step; want of memory may
+-- CountFull is answered only where a count would be passed; nothing is there only at a take from an empty list; want of memory may
 -- come at any time
 abbrev pub IsFaultOf : PlainWorld → Event → StepFault → Type 0
-IsFaultOf w e NothingThere = step_of w e ≡ None
+IsFaultOf w e NothingThere = is_empty_take w e ≡ true
 IsFaultOf w e CountFull = passes_count w e ≡ true
 IsFaultOf w e OutOfMemory = Unit {0}
 

@@ -1,5 +1,5 @@
 -- One entry of a terminal's log by itself.
-use Rattle.std.specs.Prelude.{ℕ, ◌-◌, max, Bool, true, false, nat_lt, List, [], ◌∷◌, ◌++◌, replicate}
+use Rattle.std.specs.Prelude.{ℕ, ◌-◌, max, Bool, false, nat_lt, List, [], ◌∷◌, ◌++◌, replicate}
 use Rattle.sam_world.specs.declared.event.Event.{Event}
 use Rattle.sam_world.specs.declared.event.Event.TheVariants.{User, Act, Flush, HostTake, TermTake}
 use Rattle.sam_world.specs.declared.event.TermLog.{TermLog}

@@ -1,4 +1,4 @@
-use Rattle.std.proofs.Common.{◌≡◌, ◌++◌, drop}
+use Rattle.std.proofs.Common.{◌≡◌, drop}
 use Rattle.sam_world.specs.World.{is_bad_log}
 use Rattle.sam_world.proofs.merge.merge.Given as goal
 

@@ -1,4 +1,4 @@
-use Rattle.std.proofs.Common.{◌≡◌, refl, sym, ap, ◌∙◌, ◌++◌, ◌∷◌, [], ◌==◌, map, subst}
+use Rattle.std.proofs.Common.{sym, ap, ◌∙◌, ◌++◌, map}
 use Rattle.std.proofs.lemmas.List.{append_assoc}
 use Rattle.sam_world.specs.UnderWay.{joined}
 use Rattle.sam_world.proofs.UnderWayLaws.{joined-behind, filled-behind, some_length}
@@ -15,6 +15,6 @@ invariant_of-self-else-is_empty-2 g c =
 pub returns-else-is_empty-2 : goal.returns-else-is_empty-2
 returns-else-is_empty-2 g c =
     rw (c.push_back_reserved.ensures.items, ← c.self.view_is, ← c.from_vec-batch.ensures.items) (
-      ap (λ xs. c.self.inside.first.items ++ xs) (joined-behind (λ b. b.items) c.self.inside.rest.items c.from_vec-batch.result)
-      ∙ sym (append_assoc c.self.inside.first.items (joined (map (λ b. b.items) c.self.inside.rest.items)) c.from_vec-batch.result.items)
+    ap (λ xs. c.self.inside.first.items ++ xs) (joined-behind (λ b. b.items) c.self.inside.rest.items c.from_vec-batch.result)
+    ∙ sym (append_assoc c.self.inside.first.items (joined (map (λ b. b.items) c.self.inside.rest.items)) c.from_vec-batch.result.items)
     )

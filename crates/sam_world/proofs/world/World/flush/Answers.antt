@@ -1,5 +1,8 @@
-use Rattle.std.proofs.Common.{◌≡◌, ap, ◌∙◌, ◌++◌}
+use Rattle.std.proofs.Common.{ap, ◌∙◌, ◌++◌, subst, sym}
 use Rattle.sam_world.specs.World.{PlainWorld}
+use Rattle.sam_world.specs.Faults.{IsFaultOf, fault_of_term}
+use Rattle.sam_world.specs.declared.event.Event.TheVariants.{Flush}
+use Rattle.sam_world.proofs.Reaches.{flush_refused}
 use Rattle.sam_world.proofs.Keeping.{kept_flush}
 use Rattle.sam_world.proofs.world.World.flush.Goals as goal
 
@@ -8,3 +11,9 @@ invariant_of-self-in-Ok c =
     let before : PlainWorld = record { host = c.self.inside.host; term = c.self.inside.term; up = c.self.inside.up.messages; down = c.self.inside.down.messages } in
     kept_flush before c.flush.new.self c.in-Ok.batch c.join.new.self.messages c.self.invariant c.known.ensures c.in-Ok.ensures.flushed
     (c.join.ensures ∙ ap (λ x. x ++ c.into_vec.result.items) c.in_ok-reserve.ensures.messages ∙ ap (λ x. c.self.inside.up.messages ++ x) c.into_vec.ensures)
+
+pub returns-in-Err-clause-refused : goal.returns-in-Err-clause-refused
+returns-in-Err-clause-refused c =
+    let before : PlainWorld = record { host = c.self.inside.host; term = c.self.inside.term; up = c.self.inside.up.messages; down = c.self.inside.down.messages } in
+    subst (λ x. IsFaultOf c.args.self.now Flush x) (sym c.fault_of_term.ensures)
+    (subst (λ (w : PlainWorld). IsFaultOf w Flush (fault_of_term c.in-Err.fault)) c.self.view_is (flush_refused before c.in-Err.fault c.in-Err.ensures.refused))

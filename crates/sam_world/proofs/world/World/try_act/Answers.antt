@@ -1,7 +1,9 @@
-use Rattle.std.proofs.Common.{◌≡◌, ap, ◌∙◌, ◌++◌, Ok}
+use Rattle.std.proofs.Common.{ap, ◌∙◌, ◌++◌, Ok, subst, sym}
 use Rattle.sam_world.specs.World.{PlainWorld, composed_by}
+use Rattle.sam_world.specs.Faults.{IsFaultOf, fault_of_term}
+use Rattle.sam_world.specs.declared.event.Event.TheVariants.{Act}
+use Rattle.sam_world.proofs.Reaches.{act_refused}
 use Rattle.sam_world.proofs.Keeping.{kept_done, kept_silent}
-use Rattle.sam_term.specs.Term.{act_of}
 use Rattle.sam_world.proofs.ActLaws.{idle_still, locked_still}
 use Rattle.sam_world.proofs.world.World.try_act.Goals as goal
 
@@ -34,3 +36,9 @@ pub invariant_of-self-in-Ok-Locked : goal.invariant_of-self-in-Ok-Locked
 invariant_of-self-in-Ok-Locked c =
     let before : PlainWorld = record { host = c.self.inside.host; term = c.self.inside.term; up = c.self.inside.up.messages; down = c.self.inside.down.messages } in
     kept_silent before c.act.new.self c.in-Ok-Locked.field-0 c.reserve.new.self.messages c.self.invariant c.in-Ok-Locked.ensures.acted (ap (λ a. composed_by a) c.in-Ok-Locked.field-0-is) c.in_ok-reserve.ensures.messages
+
+pub returns-in-Err-clause-refused : goal.returns-in-Err-clause-refused
+returns-in-Err-clause-refused c =
+    let before : PlainWorld = record { host = c.self.inside.host; term = c.self.inside.term; up = c.self.inside.up.messages; down = c.self.inside.down.messages } in
+    subst (λ x. IsFaultOf c.args.self.now Act x) (sym c.fault_of_term.ensures)
+    (subst (λ (w : PlainWorld). IsFaultOf w Act (fault_of_term c.in-Err.fault)) c.self.view_is (act_refused before c.in-Err.fault c.in-Err.ensures.refused))
