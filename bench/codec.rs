@@ -87,7 +87,11 @@ numbers!(u16, u32, u64);
 impl Field for Vec<char> {
     fn put(&self, out: &mut Vec<u8>) {
         for rune in self {
-            out.extend_from_slice(rune.encode_utf8(&mut [0; 4]).as_bytes());
+            if rune.is_ascii() {
+                out.push(*rune as u8);
+            } else {
+                out.extend_from_slice(rune.encode_utf8(&mut [0; 4]).as_bytes());
+            }
         }
     }
 
@@ -111,7 +115,7 @@ fn put_frame(out: &mut Vec<u8>, kind: u8, body: impl FnOnce(&mut Vec<u8>)) {
     out[start - 2..start].copy_from_slice(&len.to_be_bytes());
 }
 
-fn encode_t(out: &mut Vec<u8>, message: &Tmesg) {
+pub fn encode_t(out: &mut Vec<u8>, message: &Tmesg) {
     macro_rules! frame {
         ($kind:literal $($field:ident)*) => { put_frame(out, $kind, |_out| { $($field.put(_out);)* }) };
     }
@@ -141,7 +145,7 @@ fn encode_t(out: &mut Vec<u8>, message: &Tmesg) {
     }
 }
 
-fn encode_h(out: &mut Vec<u8>, frame: &HFrame) {
+pub fn encode_h(out: &mut Vec<u8>, frame: &HFrame) {
     let seen = frame.seen;
     macro_rules! frame {
         ($kind:literal $($field:ident)*) => { put_frame(out, $kind, |out| { seen.put(out); $($field.put(out);)* }) };
@@ -202,7 +206,7 @@ macro_rules! fields {
     }};
 }
 
-fn decode_t(kind: u8, body: &[u8]) -> Option<Tmesg> {
+pub fn decode_t(kind: u8, body: &[u8]) -> Option<Tmesg> {
     let message = match kind {
         1 => fields!(body; Tmesg::Version(v); v: u16),
         2 => fields!(body; Tmesg::StartCmdFile; ),
@@ -378,7 +382,7 @@ fn weight_h(frame: &HFrame) -> u64 {
 }
 
 /// The first frame's kind and body, and what follows.
-fn split(bytes: &[u8]) -> Option<(u8, &[u8], &[u8])> {
+pub fn split(bytes: &[u8]) -> Option<(u8, &[u8], &[u8])> {
     let ([kind, high, low], rest) = bytes.split_first_chunk()?;
     let (body, rest) = rest.split_at_checked(u16::from_be_bytes([*high, *low]) as usize)?;
     Some((*kind, body, rest))

@@ -1,9 +1,11 @@
 //! The jobs of `sam_bench` in plain Rust, with the standard library alone. It prints the same line.
 
+use std::io::Write;
 use std::time::{Duration, Instant};
 
 mod codec;
 mod editing;
+mod host;
 mod loading;
 mod queue;
 mod sample;
@@ -33,6 +35,14 @@ fn find(size: usize) -> Report {
 fn main() {
     let words: Vec<String> = std::env::args().collect();
     let [_, job, size, ..] = words.as_slice() else { return };
+    match job.as_str() {
+        "play" => return host::play(size).expect("input and output"),
+        "frames" => {
+            let bytes = host::frames(size.parse().expect("a size"));
+            return std::io::stdout().write_all(&bytes).expect("output");
+        }
+        _ => {}
+    }
     let size: usize = size.parse().expect("a size");
     let report = match job.as_str() {
         "encode" => codec::encode(size),
