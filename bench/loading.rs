@@ -145,10 +145,10 @@ fn load_pieces(text: &mut impl PartialText, runes: &[char]) {
     }
 }
 
-fn type_runes(text: &mut impl PartialText, size: usize) {
+fn type_runes(text: &mut impl PartialText, count: usize) {
     let mut state = 1;
     let mut place = 0;
-    for i in 0..size / 10 {
+    for i in 0..count {
         if i % 100 == 0 {
             state = next_state(state);
             place = (state >> 33) as usize % text.len().max(1);
@@ -176,11 +176,11 @@ fn load_as<T: PartialText>(size: usize) -> Report {
 }
 
 fn typed_as<T: PartialText>(size: usize) -> Report {
-    let runes = letters(size);
-    let mut text = T::gaps(size);
+    let runes = letters(1_000_000);
+    let mut text = T::gaps(runes.len());
     load_pieces(&mut text, &runes);
     let begin = Instant::now();
-    text.cut(0, size / 10);
+    text.cut(0, size);
     type_runes(&mut text, size);
     let took = begin.elapsed();
     Report { took, check: check_of(&text) }

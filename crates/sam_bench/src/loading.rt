@@ -4,6 +4,7 @@ use crate::fault::Fault;
 use crate::report::Report;
 use crate::sample::{letters, mix, next_state};
 use sam_rasp::Rasp;
+use sam_runes::MAX_RUNES;
 use std::time::{Clock, Instant};
 
 /// How many runes a piece has.
@@ -35,11 +36,11 @@ fn load_pieces(rasp: &mut Rasp, runes: &[char]) -> Result<(), Fault> {
     Ok(())
 }
 
-/// Types a tenth of the runes, 100 at a time at a scattered place, where a tenth was cut before.
-fn type_runes(rasp: &mut Rasp, size: u32) -> Result<(), Fault> {
+/// Types so many runes, 100 at a time at a scattered place.
+fn type_runes(rasp: &mut Rasp, count: u32) -> Result<(), Fault> {
     let mut state = 1;
     let mut place = 0;
-    for i in 0..size / 10 {
+    for i in 0..count {
         if i % 100 == 0 {
             state = next_state(state);
             place = (state >> 33) as u32 % rasp.len().max(1);
@@ -81,16 +82,16 @@ pub fn load<R: AllocGlobal + Clock>(rt: &R, size: u32) -> Result<Report, Fault> 
     })
 }
 
-/// Types runes into a loaded text.
+/// Types `size` runes into a text of 1,000,000 that is loaded, in the place of as many that are cut.
 pub fn typed<R: AllocGlobal + Clock>(rt: &R, size: u32) -> Result<Report, Fault> {
-    let runes = letters(rt.alloc(), size as usize)?;
+    let runes = letters(rt.alloc(), MAX_RUNES as usize)?;
     let mut rasp = Rasp::new(rt.alloc());
-    if rasp.grow(0, size).is_err() {
+    if rasp.grow(0, MAX_RUNES).is_err() {
         return Err(Fault::Refused);
     }
     load_pieces(&mut rasp, runes.as_slice())?;
     let begin = Instant::now(rt)?;
-    if rasp.cut(0, size / 10).is_err() {
+    if rasp.cut(0, size).is_err() {
         return Err(Fault::Refused);
     }
     type_runes(&mut rasp, size)?;
