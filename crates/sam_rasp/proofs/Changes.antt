@@ -1,8 +1,8 @@
 -- Cutting and putting in, part by part.
-use Rattle.std.proofs.Common.{◌≡◌, sym, ap, ◌∙◌, ℕ, zero, suc, ◌+◌, ◌-◌, ◌≤◌, List, [], ◌∷◌, ◌++◌, take, drop, length, arith, reverse, min, map, Some}
-use Rattle.std.proofs.lemmas.List.{append_assoc, reverse-reverse, take-append-le, drop-append-le, drop_min, take-append-drop, drop-take, take-take, map-append}
+use Rattle.std.proofs.Common.{◌≡◌, refl, sym, ap, ◌∙◌, ℕ, zero, suc, ◌+◌, ◌-◌, ◌≤◌, List, [], ◌∷◌, ◌++◌, take, drop, length, arith, reverse, min, map, Some}
+use Rattle.std.proofs.lemmas.List.{append_assoc, reverse-reverse, take-append-le, drop-append-le, drop_min, take-append-drop, drop-take, take-take, map-append, drop-drop, length-append, length-take, length-drop}
 use Rattle.sam_rasp.specs.Rasp.{PartialText}
-use Rattle.sam_runes.specs.Texts.{del, ins}
+use Rattle.sam_runes.specs.Texts.{del}
 use Rattle.sam_rasp.specs.Sections.{cells_of, cells_back}
 use Rattle.sam_rasp.specs.declared.section.Section.{Section}
 
@@ -40,15 +40,32 @@ cut-cells t a s s' r l r' o₁ o₂ o₃ p n at end whole place inside ends cut 
     e₃ ∙ (ap (λ x. x ++ r') e₂ ∙ (append_assoc o₁ l r' ∙ (ap (λ x. o₁ ++ x) left ∙ (ap (λ x. x ++ drop (at + n - end) r) first
     ∙ (append_assoc (a ++ take at s) (drop (at + n) s) (drop (at + n - end) r) ∙ (ap (λ x. x ++ (drop (at + n) s ++ drop (at + n - end) r)) (sym front) ∙ ap (λ x. take p t ++ x) (sym back)))))))
 
-pub insert-cells : (t a s s₁ s₂ r m o₁ o₂ o₃ o₄ : PartialText) (p at : ℕ)
-    → a ++ (s ++ r) ≡ t → length a + at ≡ p → at ≤ length s
-    → s₁ ≡ take at s → s₂ ≡ drop at s → o₁ ≡ a ++ s₁ → o₂ ≡ o₁ ++ m → o₃ ≡ o₂ ++ s₂ → o₄ ≡ o₃ ++ r
-    → o₄ ≡ ins t p m
-insert-cells t a s s₁ s₂ r m o₁ o₂ o₃ o₄ p at whole place inside c₁ c₂ e₁ e₂ e₃ e₄ =
+-- as above; m stands in the place of n members, b is what is left of the back of that section
+pub replace-cells : (t a s s₁ s₂ b r m l r' o₁ o₂ o₃ o₄ o₅ : PartialText) (p n at end : ℕ)
+    → a ++ (s ++ r) ≡ t → length a + at ≡ p → at ≤ length s → length s₂ + at ≡ length s → end ≡ min n (length s₂)
+    → s₁ ≡ take at s → s₂ ≡ drop at s → b ≡ del s₂ 0 end → l ++ r' ≡ drop (n - end) r
+    → o₁ ≡ a ++ s₁ → o₂ ≡ o₁ ++ m → o₃ ≡ o₂ ++ b → o₄ ≡ o₃ ++ l → o₅ ≡ o₄ ++ r'
+    → o₅ ≡ (take p t ++ m) ++ drop (p + n) t
+replace-cells t a s s₁ s₂ b r m l r' o₁ o₂ o₃ o₄ o₅ p n at end whole place inside size ends c₁ c₂ cut left e₁ e₂ e₃ e₄ e₅ =
     let front : take p t ≡ a ++ take at s = ap (take p) (sym whole) ∙ (take-past a (s ++ r) at p place ∙ ap (λ x. a ++ x) (take-append-le at s r inside)) in
-    let back : drop p t ≡ drop at s ++ r = ap (drop p) (sym whole) ∙ (drop-past a (s ++ r) at p place ∙ drop-append-le at s r inside) in
+    let beyond : n - end ≡ n - length s₂ = omega (arith, ends) in
+    let behind : drop p t ≡ s₂ ++ r = ap (drop p) (sym whole) ∙ (drop-past a (s ++ r) at p place ∙ (drop-append-le at s r inside ∙ ap (λ x. x ++ r) (sym c₂))) in
+    let back : drop (p + n) t ≡ drop n s₂ ++ drop (n - end) r = sym (drop-drop n p t) ∙ (ap (drop n) behind ∙ drop-joined s₂ r n (n - end) beyond) in
+    let kept : b ≡ drop n s₂ = cut ∙ (ap (λ j. drop j s₂) ends ∙ drop_min n s₂) in
     let first : o₁ ≡ take p t = e₁ ∙ (ap (λ x. a ++ x) c₁ ∙ sym front) in
-    e₄ ∙ (ap (λ x. x ++ r) e₃ ∙ (append_assoc o₂ s₂ r ∙ (ap (λ x. o₂ ++ (x ++ r)) c₂ ∙ (ap (λ x. o₂ ++ x) (sym back) ∙ (ap (λ x. x ++ drop p t) e₂ ∙ ap (λ x. (x ++ m) ++ drop p t) first)))))
+    let rest : b ++ (l ++ r') ≡ drop (p + n) t = ap (λ x. x ++ (l ++ r')) kept ∙ (ap (λ x. drop n s₂ ++ x) left ∙ sym back) in
+    let whole₃ : o₃ ≡ (take p t ++ m) ++ b = e₃ ∙ (ap (λ x. x ++ b) e₂ ∙ ap (λ x. (x ++ m) ++ b) first) in
+    e₅ ∙ (ap (λ x. x ++ r') e₄ ∙ (append_assoc o₃ l r' ∙ (ap (λ x. x ++ (l ++ r')) whole₃ ∙ (append_assoc (take p t ++ m) b (l ++ r') ∙ ap (λ x. (take p t ++ m) ++ x) rest))))
+
+-- what is put together is as long as the new list
+pub replace-fits : (t a s s₁ s₂ b r m l r' o₁ o₂ o₃ : PartialText) (p n at end most : ℕ)
+    → a ++ (s ++ r) ≡ t → length a + at ≡ p → at ≤ length s → length s₂ + at ≡ length s → end ≡ min n (length s₂)
+    → s₁ ≡ take at s → s₂ ≡ drop at s → b ≡ del s₂ 0 end → l ++ r' ≡ drop (n - end) r
+    → o₁ ≡ a ++ s₁ → o₂ ≡ o₁ ++ m → o₃ ≡ o₂ ++ b → length t + length m ≤ most + n → p + n ≤ length t
+    → length o₃ + (length l + length r') ≤ most
+replace-fits t a s s₁ s₂ b r m l r' o₁ o₂ o₃ p n at end most whole place inside size ends c₁ c₂ cut left e₁ e₂ e₃ total within =
+    let all = ap length (replace-cells t a s s₁ s₂ b r m l r' o₁ o₂ o₃ (o₃ ++ l) ((o₃ ++ l) ++ r') p n at end whole place inside size ends c₁ c₂ cut left e₁ e₂ e₃ refl refl) in
+    omega (arith, all, length-append (o₃ ++ l) r', length-append o₃ l, length-append (take p t ++ m) (drop (p + n) t), length-append (take p t) m, length-take p t, length-drop (p + n) t, total, within)
 
 -- one more stretch of a text
 pub one-more : (old new : PartialText) (t : List ℕ) (at end : ℕ) → old ≡ map Some (take at t) → new ≡ old ++ map Some (take (end - at) (drop at t)) → at ≤ end → new ≡ map Some (take end t)

@@ -1,7 +1,7 @@
 //! The two changes that all others are made of: members are cut out, sections are put in.
 //! Each builds the new list in `spare` and then exchanges the two lists: sections move, texts are not copied.
 
-ghost use Rattle.std.specs.Prelude.{◌≡◌, ◌<◌, ◌≤◌, ◌+◌, ◌++◌, [], map, length, vec_len, vec_capacity, Some, IfOk, if◌then◌else◌};
+ghost use Rattle.std.specs.Prelude.{◌≡◌, ◌<◌, ◌≤◌, ◌+◌, ◌++◌, [], map, length, take, drop, vec_len, vec_capacity, Some, IfOk, if◌then◌else◌};
 ghost use Rattle.sam_runes.specs.Texts.{del, ins, max_runes};
 ghost use Rattle.sam_rasp.specs.Sections.{cells_of, IsNormal};
 
@@ -37,21 +37,23 @@ pub fn cut_sections(sections: &mut Vec<Section>, spare: &mut Vec<Section>, p: u3
     mem::swap(sections, spare);
 }
 
-/// Puts the sections `more` in at place `p`. All memory was had before: room in `spare`, and `tail` for the end of a section that is parted.
-pub fn insert_sections(
+/// Puts the sections `more` in the place of `n` members from place `p` on. All memory was had before: room in `spare`, and `tail` for the end of a section that is parted.
+pub fn replace_sections(
     sections: &mut Vec<Section>,
     spare: &mut Vec<Section>,
     p: u32,
+    n: u32,
     more: &mut Vec<Section>,
     tail: Piece,
 )
     requires normal { IsNormal sections.old.items }
-    requires limit { length (cells_of sections.old.items) + length (cells_of more.old.items) ≤ max_runes }
-    requires within { p ≤ length (cells_of sections.old.items) }
+    requires limit { length (cells_of sections.old.items) ≤ max_runes }
+    requires total { length (cells_of sections.old.items) + length (cells_of more.old.items) ≤ max_runes + n }
+    requires within { p + n ≤ length (cells_of sections.old.items) }
     requires empty { spare.old.items ≡ [] }
     requires unused { tail ≡ [] }
     requires room { vec_len sections.old + vec_len more.old + 2 ≤ vec_capacity spare.old }
-    ensures cells { cells_of sections.new.items ≡ ins (cells_of sections.old.items) p (cells_of more.old.items) }
+    ensures cells { cells_of sections.new.items ≡ take p (cells_of sections.old.items) ++ cells_of more.old.items ++ drop (p + n) (cells_of sections.old.items) }
     ensures normal { IsNormal sections.new.items }
     ensures len { vec_len sections.new ≤ vec_len sections.old + vec_len more.old + 2 }
     ensures empty { spare.new.items ≡ [] }
@@ -60,11 +62,15 @@ pub fn insert_sections(
 {
     sections.reverse();
     let (mut first, at) = move_before(spare, sections, p);
-    let back = first.split(at, tail);
+    let mut back = first.split(at, tail);
+    let end = n.min(back.len());
+    back.cut(0, end);
+    let last = drop_front(sections, n - end);
     push_joined(spare, first);
     more.reverse();
     join_all(spare, more);
     push_joined(spare, back);
+    push_joined(spare, last);
     join_all(spare, sections);
     mem::swap(sections, spare);
 }

@@ -1,8 +1,9 @@
 //! Lists of sections, built from the front so that neighbours are joined, and taken apart from the front.
 //! What is taken apart is held last to first, since a vector gives up its last member at no cost.
 
-ghost use Rattle.std.specs.Prelude.{◌≡◌, ◌<◌, ◌≤◌, ◌+◌, ◌++◌, [], ◌∷◌, length, drop, min, vec_len, vec_capacity};
+ghost use Rattle.std.specs.Prelude.{◌≡◌, ◌<◌, ◌≤◌, ◌+◌, ◌++◌, [], ◌∷◌, List, true, false, length, drop, min, vec_len, vec_capacity};
 ghost use Rattle.sam_runes.specs.Texts.{del, max_runes};
+ghost use Rattle.sam_rasp.specs.declared.section.Section.{Section};
 ghost use Rattle.sam_rasp.specs.Sections.{cells, cells_of, cells_back, size, may_join, joined, IsNormal};
 
 use crate::section::Section;
@@ -19,6 +20,18 @@ fn push(out: &mut Vec<Section>, section: Section)
     }
 }
 
+/// Whether the section makes one with the last one.
+fn joins_last(out: &[Section], section: &Section) -> bool
+    ensures some { result ≡ true → 0 < length out.now }
+    ensures joins { result ≡ true → (xs : List Section) (a : Section) → out.now ≡ xs ++ a ∷ [] → may_join a section.now ≡ true }
+    ensures apart { result ≡ false → (xs : List Section) (a : Section) → out.now ≡ xs ++ a ∷ [] → may_join a section.now ≡ false }
+{
+    match out.last() {
+        Some(last) => last.may_join(section),
+        None => false,
+    }
+}
+
 /// Puts a section at the end, joined with the last one where the two make one.
 pub fn push_joined(out: &mut Vec<Section>, section: Section)
     requires normal { IsNormal out.old.items }
@@ -32,17 +45,15 @@ pub fn push_joined(out: &mut Vec<Section>, section: Section)
     if section.len() == 0 {
         return;
     }
-    let Some(mut last) = out.pop() else {
+    if !joins_last(out.as_slice(), &section) {
         push(out, section);
         return;
-    };
-    if last.may_join(&section) {
-        last.absorb(section);
-        push(out, last);
-    } else {
-        push(out, last);
-        push(out, section);
     }
+    let Some(mut last) = out.pop() else {
+        unreachable!();
+    };
+    last.absorb(section);
+    push(out, last);
 }
 
 /// Puts all of `rest` at the end.

@@ -1,0 +1,426 @@
+//! Messages to bytes and back. A text is a list of runes, since places are counted in runes.
+
+use crate::Report;
+use crate::sample::{mix, mixed};
+use std::time::Instant;
+
+pub enum Tmesg {
+    Version(u16),
+    StartCmdFile,
+    Check(u16),
+    Request(u16, u32, u16),
+    Origin(u16, u32, u32),
+    StartFile(u16),
+    WorkFile(u16, u32, u32),
+    Type(u16, u32, Vec<char>),
+    Cut(u16, u32, u32),
+    Paste(u16, u32),
+    Snarf(u16, u32, u32),
+    StartNewFile,
+    Write(u16),
+    Close(u16),
+    Look(u16, u32, u32),
+    Search(u16, u32, u32),
+    Send(u16, u32, u32),
+    Dclick(u16, u32),
+    StartSnarf,
+    SetSnarf(Vec<char>),
+    Ack,
+    Exit,
+}
+
+pub enum Hmesg {
+    Version(u16),
+    BindName(u16),
+    Current(u16),
+    NewName(u16),
+    MovName(u16, Vec<char>),
+    Grow(u16, u32, u32),
+    Check(u16),
+    Unlock,
+    Data(u16, u32, Vec<char>),
+    Origin(u16, u32),
+    UnlockFile(u16),
+    SetDot(u16, u32, u32),
+    GrowData(u16, u32, Vec<char>),
+    MoveTo(u16, u32),
+    Clean(u16),
+    Dirty(u16),
+    Cut(u16, u32, u32),
+    SetPat(Vec<char>),
+    DelName(u16),
+    Close(u16),
+    SetSnarf(Vec<char>),
+    SnarfLen(u32),
+    Ack,
+    Exit,
+}
+
+pub struct HFrame {
+    pub seen: u64,
+    pub msg: Hmesg,
+}
+
+trait Field: Sized {
+    fn put(&self, out: &mut Vec<u8>);
+    /// The value and what follows it.
+    fn take(bytes: &[u8]) -> Option<(Self, &[u8])>;
+}
+
+macro_rules! numbers {
+    ($($number:ty),*) => {$(
+        impl Field for $number {
+            fn put(&self, out: &mut Vec<u8>) {
+                out.extend_from_slice(&self.to_be_bytes());
+            }
+
+            fn take(bytes: &[u8]) -> Option<($number, &[u8])> {
+                let (first, rest) = bytes.split_first_chunk()?;
+                Some((<$number>::from_be_bytes(*first), rest))
+            }
+        }
+    )*};
+}
+
+numbers!(u16, u32, u64);
+
+impl Field for Vec<char> {
+    fn put(&self, out: &mut Vec<u8>) {
+        for rune in self {
+            if rune.is_ascii() {
+                out.push(*rune as u8);
+            } else {
+                out.extend_from_slice(rune.encode_utf8(&mut [0; 4]).as_bytes());
+            }
+        }
+    }
+
+    fn take(bytes: &[u8]) -> Option<(Vec<char>, &[u8])> {
+        let text = std::str::from_utf8(bytes).ok()?;
+        Some((text.chars().collect(), &[]))
+    }
+}
+
+/// The limit of a text of each sort.
+fn within(text: &[char], most_runes: usize, most_bytes: usize) -> bool {
+    text.len() <= most_runes && text.iter().map(|rune| rune.len_utf8()).sum::<usize>() <= most_bytes
+}
+
+/// Writes a frame: kind, length of the body, body.
+fn put_frame(out: &mut Vec<u8>, kind: u8, body: impl FnOnce(&mut Vec<u8>)) {
+    out.extend_from_slice(&[kind, 0, 0]);
+    let start = out.len();
+    body(out);
+    let len = (out.len() - start) as u16;
+    out[start - 2..start].copy_from_slice(&len.to_be_bytes());
+}
+
+pub fn encode_t(out: &mut Vec<u8>, message: &Tmesg) {
+    macro_rules! frame {
+        ($kind:literal $($field:ident)*) => { put_frame(out, $kind, |_out| { $($field.put(_out);)* }) };
+    }
+    match message {
+        Tmesg::Version(v) => frame!(1 v),
+        Tmesg::StartCmdFile => frame!(2),
+        Tmesg::Check(t) => frame!(3 t),
+        Tmesg::Request(t, p, n) => frame!(4 t p n),
+        Tmesg::Origin(t, p, n) => frame!(5 t p n),
+        Tmesg::StartFile(t) => frame!(6 t),
+        Tmesg::WorkFile(t, p, q) => frame!(7 t p q),
+        Tmesg::Type(t, p, text) => frame!(8 t p text),
+        Tmesg::Cut(t, p, q) => frame!(9 t p q),
+        Tmesg::Paste(t, p) => frame!(10 t p),
+        Tmesg::Snarf(t, p, q) => frame!(11 t p q),
+        Tmesg::StartNewFile => frame!(12),
+        Tmesg::Write(t) => frame!(13 t),
+        Tmesg::Close(t) => frame!(14 t),
+        Tmesg::Look(t, p, q) => frame!(15 t p q),
+        Tmesg::Search(t, p, q) => frame!(16 t p q),
+        Tmesg::Send(t, p, q) => frame!(17 t p q),
+        Tmesg::Dclick(t, p) => frame!(18 t p),
+        Tmesg::StartSnarf => frame!(19),
+        Tmesg::SetSnarf(text) => frame!(20 text),
+        Tmesg::Ack => frame!(21),
+        Tmesg::Exit => frame!(22),
+    }
+}
+
+pub fn encode_h(out: &mut Vec<u8>, frame: &HFrame) {
+    let seen = frame.seen;
+    macro_rules! frame {
+        ($kind:literal $($field:ident)*) => { put_frame(out, $kind, |out| { seen.put(out); $($field.put(out);)* }) };
+    }
+    match &frame.msg {
+        Hmesg::Version(v) => frame!(65 v),
+        Hmesg::BindName(t) => frame!(66 t),
+        Hmesg::Current(t) => frame!(67 t),
+        Hmesg::NewName(t) => frame!(68 t),
+        Hmesg::MovName(t, name) => frame!(69 t name),
+        Hmesg::Grow(t, p, n) => frame!(70 t p n),
+        Hmesg::Check(t) => frame!(71 t),
+        Hmesg::Unlock => frame!(72),
+        Hmesg::Data(t, p, text) => frame!(73 t p text),
+        Hmesg::Origin(t, p) => frame!(74 t p),
+        Hmesg::UnlockFile(t) => frame!(75 t),
+        Hmesg::SetDot(t, p, q) => frame!(76 t p q),
+        Hmesg::GrowData(t, p, text) => frame!(77 t p text),
+        Hmesg::MoveTo(t, p) => frame!(78 t p),
+        Hmesg::Clean(t) => frame!(79 t),
+        Hmesg::Dirty(t) => frame!(80 t),
+        Hmesg::Cut(t, p, n) => frame!(81 t p n),
+        Hmesg::SetPat(text) => frame!(82 text),
+        Hmesg::DelName(t) => frame!(83 t),
+        Hmesg::Close(t) => frame!(84 t),
+        Hmesg::SetSnarf(text) => frame!(85 text),
+        Hmesg::SnarfLen(n) => frame!(86 n),
+        Hmesg::Ack => frame!(87),
+        Hmesg::Exit => frame!(88),
+    }
+}
+
+/// The text of a message is within the limit of its kind, in version 2.
+fn fits_t(message: &Tmesg) -> bool {
+    match message {
+        Tmesg::Type(_, _, text) => text.len() <= 512,
+        Tmesg::SetSnarf(text) => within(text, usize::MAX, 32_000),
+        _ => true,
+    }
+}
+
+fn fits_h(message: &Hmesg) -> bool {
+    match message {
+        Hmesg::MovName(_, name) => name.len() <= 64,
+        Hmesg::Data(_, _, text) | Hmesg::GrowData(_, _, text) => text.len() <= 512,
+        Hmesg::SetPat(text) => text.len() <= 128,
+        Hmesg::SetSnarf(text) => within(text, usize::MAX, 32_000),
+        _ => true,
+    }
+}
+
+/// The fields of a body, which they fill.
+macro_rules! fields {
+    ($body:ident; $make:expr; $($field:ident: $type:ty),*) => {{
+        let _rest: &[u8] = $body;
+        $(let ($field, _rest) = <$type>::take(_rest)?;)*
+        _rest.is_empty().then_some($make)
+    }};
+}
+
+pub fn decode_t(kind: u8, body: &[u8]) -> Option<Tmesg> {
+    let message = match kind {
+        1 => fields!(body; Tmesg::Version(v); v: u16),
+        2 => fields!(body; Tmesg::StartCmdFile; ),
+        3 => fields!(body; Tmesg::Check(t); t: u16),
+        4 => fields!(body; Tmesg::Request(t, p, n); t: u16, p: u32, n: u16),
+        5 => fields!(body; Tmesg::Origin(t, p, n); t: u16, p: u32, n: u32),
+        6 => fields!(body; Tmesg::StartFile(t); t: u16),
+        7 => fields!(body; Tmesg::WorkFile(t, p, q); t: u16, p: u32, q: u32),
+        8 => fields!(body; Tmesg::Type(t, p, text); t: u16, p: u32, text: Vec<char>),
+        9 => fields!(body; Tmesg::Cut(t, p, q); t: u16, p: u32, q: u32),
+        10 => fields!(body; Tmesg::Paste(t, p); t: u16, p: u32),
+        11 => fields!(body; Tmesg::Snarf(t, p, q); t: u16, p: u32, q: u32),
+        12 => fields!(body; Tmesg::StartNewFile; ),
+        13 => fields!(body; Tmesg::Write(t); t: u16),
+        14 => fields!(body; Tmesg::Close(t); t: u16),
+        15 => fields!(body; Tmesg::Look(t, p, q); t: u16, p: u32, q: u32),
+        16 => fields!(body; Tmesg::Search(t, p, q); t: u16, p: u32, q: u32),
+        17 => fields!(body; Tmesg::Send(t, p, q); t: u16, p: u32, q: u32),
+        18 => fields!(body; Tmesg::Dclick(t, p); t: u16, p: u32),
+        19 => fields!(body; Tmesg::StartSnarf; ),
+        20 => fields!(body; Tmesg::SetSnarf(text); text: Vec<char>),
+        21 => fields!(body; Tmesg::Ack; ),
+        22 => fields!(body; Tmesg::Exit; ),
+        _ => None,
+    }?;
+    fits_t(&message).then_some(message)
+}
+
+fn decode_h(kind: u8, body: &[u8]) -> Option<HFrame> {
+    let (seen, body) = u64::take(body)?;
+    let msg = match kind {
+        65 => fields!(body; Hmesg::Version(v); v: u16),
+        66 => fields!(body; Hmesg::BindName(t); t: u16),
+        67 => fields!(body; Hmesg::Current(t); t: u16),
+        68 => fields!(body; Hmesg::NewName(t); t: u16),
+        69 => fields!(body; Hmesg::MovName(t, name); t: u16, name: Vec<char>),
+        70 => fields!(body; Hmesg::Grow(t, p, n); t: u16, p: u32, n: u32),
+        71 => fields!(body; Hmesg::Check(t); t: u16),
+        72 => fields!(body; Hmesg::Unlock; ),
+        73 => fields!(body; Hmesg::Data(t, p, text); t: u16, p: u32, text: Vec<char>),
+        74 => fields!(body; Hmesg::Origin(t, p); t: u16, p: u32),
+        75 => fields!(body; Hmesg::UnlockFile(t); t: u16),
+        76 => fields!(body; Hmesg::SetDot(t, p, q); t: u16, p: u32, q: u32),
+        77 => fields!(body; Hmesg::GrowData(t, p, text); t: u16, p: u32, text: Vec<char>),
+        78 => fields!(body; Hmesg::MoveTo(t, p); t: u16, p: u32),
+        79 => fields!(body; Hmesg::Clean(t); t: u16),
+        80 => fields!(body; Hmesg::Dirty(t); t: u16),
+        81 => fields!(body; Hmesg::Cut(t, p, n); t: u16, p: u32, n: u32),
+        82 => fields!(body; Hmesg::SetPat(text); text: Vec<char>),
+        83 => fields!(body; Hmesg::DelName(t); t: u16),
+        84 => fields!(body; Hmesg::Close(t); t: u16),
+        85 => fields!(body; Hmesg::SetSnarf(text); text: Vec<char>),
+        86 => fields!(body; Hmesg::SnarfLen(n); n: u32),
+        87 => fields!(body; Hmesg::Ack; ),
+        88 => fields!(body; Hmesg::Exit; ),
+        _ => None,
+    }?;
+    fits_h(&msg).then_some(HFrame { seen, msg })
+}
+
+/// One message of each kind, and more of those that a session is full of.
+fn messages_t() -> Vec<Tmesg> {
+    vec![
+        Tmesg::Version(2),
+        Tmesg::StartCmdFile,
+        Tmesg::Check(1),
+        Tmesg::Request(1, 1000, 512),
+        Tmesg::Origin(1, 5000, 20),
+        Tmesg::StartFile(2),
+        Tmesg::WorkFile(1, 10, 20),
+        Tmesg::Type(1, 70, mixed(40)),
+        Tmesg::Type(2, 71, mixed(512)),
+        Tmesg::Cut(1, 70, 110),
+        Tmesg::Paste(1, 70),
+        Tmesg::Snarf(1, 70, 90),
+        Tmesg::StartNewFile,
+        Tmesg::Write(1),
+        Tmesg::Close(2),
+        Tmesg::Look(1, 0, 5),
+        Tmesg::Search(1, 5, 9),
+        Tmesg::Send(1, 0, 20),
+        Tmesg::Dclick(1, 33),
+        Tmesg::StartSnarf,
+        Tmesg::SetSnarf(mixed(1000)),
+        Tmesg::Ack,
+        Tmesg::Exit,
+    ]
+}
+
+fn messages_h() -> Vec<HFrame> {
+    let messages = [
+        Hmesg::Version(2),
+        Hmesg::BindName(1),
+        Hmesg::Current(1),
+        Hmesg::NewName(3),
+        Hmesg::Grow(1, 70, 512),
+        Hmesg::Check(1),
+        Hmesg::Unlock,
+        Hmesg::Origin(1, 70),
+        Hmesg::UnlockFile(1),
+        Hmesg::SetDot(1, 70, 80),
+        Hmesg::MoveTo(1, 99),
+        Hmesg::Clean(1),
+        Hmesg::Dirty(1),
+        Hmesg::Cut(1, 70, 30),
+        Hmesg::DelName(3),
+        Hmesg::Close(2),
+        Hmesg::SnarfLen(400),
+        Hmesg::Ack,
+        Hmesg::Exit,
+        Hmesg::MovName(3, mixed(12)),
+        Hmesg::Data(1, 70, mixed(512)),
+        Hmesg::GrowData(1, 70, mixed(40)),
+        Hmesg::SetPat(mixed(9)),
+        Hmesg::SetSnarf(mixed(1000)),
+    ];
+    messages.into_iter().map(|msg| HFrame { seen: 77, msg }).collect()
+}
+
+fn encode_all_t(out: &mut Vec<u8>, messages: &[Tmesg]) {
+    for message in messages {
+        assert!(fits_t(message));
+        encode_t(out, message);
+    }
+}
+
+fn encode_all_h(out: &mut Vec<u8>, frames: &[HFrame]) {
+    for frame in frames {
+        assert!(fits_h(&frame.msg));
+        encode_h(out, frame);
+    }
+}
+
+pub fn encode(size: usize) -> Report {
+    let messages = messages_t();
+    let frames = messages_h();
+    let mut out = Vec::new();
+    encode_all_t(&mut out, &messages);
+    encode_all_h(&mut out, &frames);
+    let rounds = size / out.len().max(1);
+    let mut check = 0;
+    let begin = Instant::now();
+    for _ in 0..rounds {
+        out.clear();
+        encode_all_t(&mut out, std::hint::black_box(&messages));
+        encode_all_h(&mut out, std::hint::black_box(&frames));
+        check = mix(check, out.len() as u64);
+    }
+    let took = begin.elapsed();
+    let bytes = out.iter().fold(0, |check, byte| mix(check, *byte as u64));
+    Report { took, check: mix(check, bytes) }
+}
+
+fn weight(text: &[char]) -> u64 {
+    text.last().map_or(0, |rune| *rune as u64)
+}
+
+fn weight_t(message: &Tmesg) -> u64 {
+    match message {
+        Tmesg::Cut(_, p, q) => mix(*p as u64, *q as u64),
+        Tmesg::Type(_, p, text) => mix(*p as u64, weight(text)),
+        Tmesg::SetSnarf(text) => weight(text),
+        _ => 1,
+    }
+}
+
+fn weight_h(frame: &HFrame) -> u64 {
+    match &frame.msg {
+        Hmesg::Cut(_, p, n) => mix(*p as u64, *n as u64),
+        Hmesg::Data(_, _, text) | Hmesg::GrowData(_, _, text) | Hmesg::SetSnarf(text) => weight(text),
+        _ => frame.seen,
+    }
+}
+
+/// The first frame's kind and body, and what follows.
+pub fn split(bytes: &[u8]) -> Option<(u8, &[u8], &[u8])> {
+    let ([kind, high, low], rest) = bytes.split_first_chunk()?;
+    let (body, rest) = rest.split_at_checked(u16::from_be_bytes([*high, *low]) as usize)?;
+    Some((*kind, body, rest))
+}
+
+fn decode_all_t(bytes: &[u8]) -> u64 {
+    let mut check = 0;
+    let mut rest = bytes;
+    while let Some((kind, body, after)) = split(rest) {
+        let message = decode_t(kind, body).expect("a message");
+        check = mix(check, weight_t(&message));
+        rest = after;
+    }
+    check
+}
+
+fn decode_all_h(bytes: &[u8]) -> u64 {
+    let mut check = 0;
+    let mut rest = bytes;
+    while let Some((kind, body, after)) = split(rest) {
+        let frame = decode_h(kind, body).expect("a frame");
+        check = mix(check, weight_h(&frame));
+        rest = after;
+    }
+    check
+}
+
+pub fn decode(size: usize) -> Report {
+    let mut bytes_t = Vec::new();
+    let mut bytes_h = Vec::new();
+    encode_all_t(&mut bytes_t, &messages_t());
+    encode_all_h(&mut bytes_h, &messages_h());
+    let round = bytes_t.len() + bytes_h.len();
+    let begin = Instant::now();
+    let mut check = 0;
+    for _ in 0..size / round {
+        check = mix(check, decode_all_t(std::hint::black_box(&bytes_t)));
+        check = mix(check, decode_all_h(std::hint::black_box(&bytes_h)));
+    }
+    Report { took: begin.elapsed(), check }
+}

@@ -1,0 +1,61 @@
+//! The jobs of `sam_bench` in plain Rust, with the standard library alone. It prints the same line.
+
+use std::io::Write;
+use std::time::{Duration, Instant};
+
+mod codec;
+mod editing;
+mod host;
+mod loading;
+mod queue;
+mod sample;
+mod typing;
+
+pub struct Report {
+    pub took: Duration,
+    pub check: u64,
+}
+
+fn find(size: usize) -> Report {
+    let mut text = sample::letters(size.saturating_sub(3));
+    text.extend(['a', 'b', '!']);
+    let pattern = ['a', 'b', '!'];
+    let begin = Instant::now();
+    let mut check = 0u64;
+    for _ in 0..100 {
+        let text = std::hint::black_box(&text);
+        let found = text.windows(3).position(|part| part == pattern);
+        if let Some(start) = found {
+            check = check.wrapping_add(2 * start as u64 + 3);
+        }
+    }
+    Report { took: begin.elapsed(), check }
+}
+
+fn main() {
+    let words: Vec<String> = std::env::args().collect();
+    let [_, job, size, ..] = words.as_slice() else { return };
+    match job.as_str() {
+        "play" => return host::play(size).expect("input and output"),
+        "frames" => {
+            let bytes = host::frames(size.parse().expect("a size"));
+            return std::io::stdout().write_all(&bytes).expect("output");
+        }
+        _ => {}
+    }
+    let size: usize = size.parse().expect("a size");
+    let report = match job.as_str() {
+        "encode" => codec::encode(size),
+        "decode" => codec::decode(size),
+        "find" => find(size),
+        "replace_all" => editing::replace_all(size),
+        "x" => editing::each(size),
+        "rasp_load" => loading::load(size),
+        "rasp_type" => loading::typed(size),
+        "terminal" => typing::typed(size),
+        "rasp_load_list" => loading::load_list(size),
+        "rasp_type_list" => loading::typed_list(size),
+        _ => queue::job(job, size),
+    };
+    println!("{job} {size} {} {}", report.took.as_nanos(), report.check);
+}

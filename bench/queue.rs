@@ -1,0 +1,36 @@
+//! A bounded queue between threads: a `Mutex` round a `VecDeque`, and the standard library's channel.
+
+use crate::Report;
+use std::sync::mpsc;
+use std::thread;
+use std::time::Instant;
+
+/// `channel_SENDERS_CAPACITY`: `size` items in all through a bounded channel.
+pub fn job(job: &str, size: usize) -> Report {
+    let mut words = job.split('_').skip(1).map(|word| word.parse::<usize>().expect("a number"));
+    let senders = words.next().expect("senders");
+    let capacity = words.next().expect("a capacity");
+    channel(size, senders, capacity)
+}
+
+fn channel(size: usize, senders: usize, capacity: usize) -> Report {
+    let begin = Instant::now();
+    let (post, take) = mpsc::sync_channel::<(usize, u64)>(capacity);
+    let check = thread::scope(|scope| {
+        for sender in 0..senders {
+            let post = post.clone();
+            scope.spawn(move || {
+                for item in 0..(size / senders) as u64 {
+                    post.send((sender, item)).expect("the receiver is there");
+                }
+            });
+        }
+        drop(post);
+        let mut check = 0u64;
+        for (sender, item) in take {
+            check = check.wrapping_add(item.wrapping_mul(sender as u64 + 1));
+        }
+        check
+    });
+    Report { took: begin.elapsed(), check }
+}

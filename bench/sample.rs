@@ -1,0 +1,45 @@
+//! Texts to work on, the same as those of `sam_bench`.
+
+pub fn next_state(state: u64) -> u64 {
+    state.wrapping_mul(6_364_136_223_846_793_005).wrapping_add(1_442_695_040_888_963_407)
+}
+
+fn letter(state: u64) -> char {
+    match ((state >> 33) % 27) as u8 {
+        26 => ' ',
+        n => (b'a' + n) as char,
+    }
+}
+
+pub fn letters(count: usize) -> Vec<char> {
+    let mut state = 1;
+    (0..count)
+        .map(|_| {
+            state = next_state(state);
+            letter(state)
+        })
+        .collect()
+}
+
+pub fn mixed(count: usize) -> Vec<char> {
+    let mut state = 1;
+    (0..count)
+        .map(|i| {
+            state = next_state(state);
+            match i % 24 {
+                7 => 'é',
+                15 => '界',
+                23 => '𝄞',
+                _ => letter(state),
+            }
+        })
+        .collect()
+}
+
+pub fn mix(check: u64, more: u64) -> u64 {
+    check.wrapping_mul(31).wrapping_add(more)
+}
+
+pub fn check_of(runes: &[char]) -> u64 {
+    runes.iter().fold(0, |check, rune| mix(check, *rune as u64))
+}

@@ -1,0 +1,103 @@
+//! A text that is loaded piece by piece, and typed into.
+
+use crate::fault::Fault;
+use crate::report::Report;
+use crate::sample::{letters, mix, next_state};
+use sam_rasp::Rasp;
+use sam_runes::MAX_RUNES;
+use std::time::{Clock, Instant};
+
+/// How many runes a piece has.
+const PIECE: usize = 512;
+
+/// A number below 1024 pieces and above, that steps through all pieces in a scattered order: it is a prime, and no divisor
+/// of their number.
+const STEP: usize = 1_000_003;
+
+/// Loads all pieces of the runes into gaps, in a scattered order.
+fn load_pieces(rasp: &mut Rasp, runes: &[char]) -> Result<(), Fault> {
+    let pieces = runes.len().div_ceil(PIECE);
+    for i in 0..pieces {
+        let at = i.wrapping_mul(STEP) % pieces;
+        let Some(start) = at.checked_mul(PIECE) else {
+            return Err(Fault::Words);
+        };
+        let end = start.saturating_add(PIECE).min(runes.len());
+        let Some(piece) = runes.get(start..end) else {
+            return Err(Fault::Words);
+        };
+        let Ok(place) = u32::try_from(start) else {
+            return Err(Fault::Words);
+        };
+        if rasp.data(place, piece).is_err() {
+            return Err(Fault::Refused);
+        }
+    }
+    Ok(())
+}
+
+/// Types so many runes, 100 at a time at a scattered place.
+fn type_runes(rasp: &mut Rasp, count: u32) -> Result<(), Fault> {
+    let mut state = 1;
+    let mut place = 0;
+    for i in 0..count {
+        if i % 100 == 0 {
+            state = next_state(state);
+            place = (state >> 33) as u32 % rasp.len().max(1);
+        }
+        if rasp.type_in(place, &['x']).is_err() {
+            return Err(Fault::Refused);
+        }
+        place = place.saturating_add(1);
+    }
+    Ok(())
+}
+
+/// The check value of some of the members.
+fn check_of(rasp: &Rasp) -> u64 {
+    let mut check = 0;
+    for i in 0..rasp.len() / 997 {
+        let member = match rasp.loaded(i.saturating_mul(997)) {
+            Some(Some(rune)) => rune as u64,
+            _ => 1,
+        };
+        check = mix(check, member);
+    }
+    check
+}
+
+/// Loads a text of `size` gaps.
+pub fn load<R: AllocGlobal + Clock>(rt: &R, size: u32) -> Result<Report, Fault> {
+    let runes = letters(rt.alloc(), size as usize)?;
+    let mut rasp = Rasp::new(rt.alloc());
+    let begin = Instant::now(rt)?;
+    if rasp.grow(0, size).is_err() {
+        return Err(Fault::Refused);
+    }
+    load_pieces(&mut rasp, runes.as_slice())?;
+    let took = begin.elapsed(rt)?;
+    Ok(Report {
+        took,
+        check: check_of(&rasp),
+    })
+}
+
+/// Types `size` runes into a text of 1,000,000 that is loaded, in the place of as many that are cut.
+pub fn typed<R: AllocGlobal + Clock>(rt: &R, size: u32) -> Result<Report, Fault> {
+    let runes = letters(rt.alloc(), MAX_RUNES as usize)?;
+    let mut rasp = Rasp::new(rt.alloc());
+    if rasp.grow(0, MAX_RUNES).is_err() {
+        return Err(Fault::Refused);
+    }
+    load_pieces(&mut rasp, runes.as_slice())?;
+    let begin = Instant::now(rt)?;
+    if rasp.cut(0, size).is_err() {
+        return Err(Fault::Refused);
+    }
+    type_runes(&mut rasp, size)?;
+    let took = begin.elapsed(rt)?;
+    Ok(Report {
+        took,
+        check: check_of(&rasp),
+    })
+}
