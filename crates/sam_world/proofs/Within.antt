@@ -112,6 +112,7 @@ act_fits t u ms s a = go t.held a
         let same : Done ms ≡ Done made.1 = not_done made.0.sent made.0 u made.1 (Done ms) q in
         let sound : IsSoundTerminal (record t { held = es }) = record { countable = s.countable; windows = s.windows; unsent = s.unsent; short = s.short } in
         fitting t.version ms made.1 (ap done_in same) (event_fits (record t { held = es }) x sound n)
+
     go : (es : List UserEvent) → act_on t es ≡ Ok (u, Done ms) → All (λ m. IsTrue (fits_t 2 m)) ms
     go [] q = let other : Idle ≡ Done ms = ap (λ y. acted_in y Locked) q in absurd (cc)
     go (x ∷ es) q = decides x es (first_of_checks (event_checks t x)) refl q

@@ -39,7 +39,12 @@ fn fits_entry(entry: &TermLog, host_taken: u64) -> bool
 }
 
 /// Puts the events of one entry at the end, and tells how many messages the host has then taken.
-fn push_entry(alloc: Global, out: &mut Vec<Event>, done: u64, entry: &TermLog) -> Result<u64, AllocError>
+fn push_entry(
+    alloc: Global,
+    out: &mut Vec<Event>,
+    done: u64,
+    entry: &TermLog,
+) -> Result<u64, AllocError>
     ensures events { OnOk result (out.new.items ≡ out.old.items ++ events_of done entry.now) }
     ensures done { IfOk result (λ n. n ≡ done_after done entry.now) }
 {

@@ -15,6 +15,6 @@ invariant_of-self-else-is_empty-2 g c =
 pub returns-else-is_empty-2 : goal.returns-else-is_empty-2
 returns-else-is_empty-2 g c =
     rw (c.push_back_reserved.ensures.items, ← c.self.view_is, ← c.from_vec-batch.ensures.items) (
-      ap (λ xs. c.self.inside.first.items ++ xs) (joined-behind (λ b. b.items) c.self.inside.rest.items c.from_vec-batch.result)
-      ∙ sym (append_assoc c.self.inside.first.items (joined (map (λ b. b.items) c.self.inside.rest.items)) c.from_vec-batch.result.items)
+    ap (λ xs. c.self.inside.first.items ++ xs) (joined-behind (λ b. b.items) c.self.inside.rest.items c.from_vec-batch.result)
+    ∙ sym (append_assoc c.self.inside.first.items (joined (map (λ b. b.items) c.self.inside.rest.items)) c.from_vec-batch.result.items)
     )

@@ -12,7 +12,7 @@ returns-then-not-branch-clause-done c =
     let all : c.loop-event._event + (100000 - c.loop-event._event) ≡ 100000 = omega (arith, c.loop-event.auto._event-end) in
     still.1
     ∙ sym (subst (λ n. drained n c.args.self.now ≡ c.loop-event.self) all
-      (drained_rest c.loop-event._event (100000 - c.loop-event._event) c.args.self.now c.loop-event.self c.loop-event.invariant (advanced_none c.loop-event.self still.0)))
+    (drained_rest c.loop-event._event (100000 - c.loop-event._event) c.args.self.now c.loop-event.self c.loop-event.invariant (advanced_none c.loop-event.self still.0)))
 
 pub loop-event-preserved : goal.loop-event-preserved
 loop-event-preserved c =
