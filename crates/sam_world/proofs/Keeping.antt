@@ -83,7 +83,7 @@ kept_flush w t ms up k s a same =
     })
 
 -- the first member stands before the rest
-first_rest : {X : Type 0} (xs : List X) (x : X) → head xs ≡ Some x → xs ≡ x ∷ drop 1 xs
+pub first_rest : {X : Type 0} (xs : List X) (x : X) → head xs ≡ Some x → xs ≡ x ∷ drop 1 xs
 first_rest [] x e = absurd (cc)
 first_rest (y ∷ xs) x e = ap (λ z. z ∷ xs) (same_Some y x e)
 
