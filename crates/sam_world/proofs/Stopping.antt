@@ -10,10 +10,10 @@ use Rattle.sam_term.specs.declared.fault.TermFault.{TermFault}
 use Rattle.sam_term.specs.declared.fault.TermFault.TheVariants as term
 use Rattle.sam_mesg.specs.declared.tmesg.Tmesg.{Tmesg}
 use Rattle.sam_mesg.specs.declared.hmesg.HFrame.{HFrame}
-use Rattle.sam_world.specs.World.{PlainWorld, new_world, is_empty_take}
+use Rattle.sam_world.specs.World.{PlainWorld, new_world, is_empty_take, is_quiet, IsSettled, HasOneVersion, IsAhead}
 use Rattle.sam_world.specs.UnderWay.{head}
 use Rattle.sam_world.specs.Reached.{WasReached}
-use Rattle.sam_world.specs.Order.{IsInOrder}
+use Rattle.sam_world.specs.Order.{IsInOrder, IsCountable}
 use Rattle.sam_world.specs.Counts.{passes_count, passes_at, composes_past, is_host_full, is_term_full}
 use Rattle.sam_world.specs.Faults.{IsFaultOf, IsTermStop, IsHostStop}
 use Rattle.sam_world.specs.declared.event.Event.{Event}
@@ -21,10 +21,19 @@ use Rattle.sam_world.specs.declared.event.Event.TheVariants.{User, Act, Flush, H
 use Rattle.sam_world.specs.declared.event.StepFault.{StepFault}
 use Rattle.sam_world.specs.declared.event.StepFault.TheVariants.{NothingThere, OutOfMemory, CountFull}
 use Rattle.sam_world.proofs.Keeping.{first_rest}
-use Rattle.sam_world.proofs.OrderLaws.{starts_in_order, runs_in_order, host_never_refuses, terminal_never_refuses, only_counts_stop}
+use Rattle.sam_world.proofs.OrderLaws.{starts_in_order, runs_in_order, host_never_refuses, terminal_never_refuses, only_counts_stop, quiet_means_agreement, free_means_one_version, free_means_ahead}
 
 pub order_of : (w : PlainWorld) → WasReached w → IsInOrder w
 order_of w r = runs_in_order (new_world r.given) w r.reached.0 (starts_in_order r.given r.limits) r.reached.1
+
+pub settled_of : (w : PlainWorld) → WasReached w → is_quiet w ≡ true → IsSettled w
+settled_of w r quiet = quiet_means_agreement w (order_of w r) quiet
+
+pub version_of : (w : PlainWorld) → WasReached w → HasOneVersion w
+version_of w r = free_means_one_version w (order_of w r)
+
+pub ahead_of : (w : PlainWorld) (f : ℕ) → WasReached w → IsCountable w → IsAhead w f
+ahead_of w f r room = free_means_ahead w f (order_of w r) room
 
 -- ## The faults of a side
 
