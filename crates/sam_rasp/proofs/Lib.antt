@@ -3,4 +3,5 @@ pub mod Changes
 pub mod Walks
 pub mod Runs
 pub mod RaspLaws
+pub mod Agreeing
 pub mod Typing

@@ -1,6 +1,6 @@
 //! The text of a loaded section, with room for a full one from the start.
 
-ghost use Rattle.std.specs.Prelude.{◌≡◌, ◌≤◌, ◌+◌, ◌++◌, [], length, IfOk, slice_get, take, drop};
+ghost use Rattle.std.specs.Prelude.{◌≡◌, ◌≤◌, ◌+◌, ◌++◌, ◌↔◌, [], length, IsTrue, IfOk, slice_get, take, drop};
 ghost use Rattle.sam_runes.specs.Texts.{del, ins};
 
 use std::alloc::{AllocError, Global};
@@ -46,6 +46,13 @@ impl Piece {
         ensures { result ≡ slice_get self.now place }
     {
         self.runes.get(place).copied()
+    }
+
+    /// Whether its runes are these.
+    pub fn is(&self, runes: &[char]) -> bool
+        ensures { IsTrue result ↔ (self.now ≡ runes.now) }
+    {
+        self.runes.as_slice() == runes
     }
 
     /// Puts `runes` at the end, which takes no memory.

@@ -1,7 +1,8 @@
 //! The sections of a rasp: loaded texts and holes.
 
-ghost use Rattle.std.specs.Prelude.{◌≡◌, ◌<◌, ◌≤◌, ◌+◌, ◌-◌, ◌++◌, [], length, map, slice_get, take, drop, true, Some};
+ghost use Rattle.std.specs.Prelude.{◌≡◌, ◌<◌, ◌≤◌, ◌+◌, ◌-◌, ◌++◌, ◌↔◌, IsTrue, [], length, map, slice_get, take, drop, true, Some};
 ghost use Rattle.sam_runes.specs.Texts.{del, ins, max_runes};
+ghost use Rattle.sam_rasp.specs.Rasp.{Agrees};
 ghost use Rattle.sam_rasp.specs.Sections.{cells, size, may_join, is_loaded, joined, IsShort};
 
 use crate::piece::{PIECE_ROOM, Piece};
@@ -36,6 +37,17 @@ impl Section {
         match self {
             Section::Loaded(text) => text.get(place as usize),
             Section::Hole(_) => None,
+        }
+    }
+
+    /// Whether it agrees with a text of its length.
+    pub fn agrees(&self, text: &[char]) -> bool
+        requires { length text.now ≡ size self.now }
+        ensures { IsTrue result ↔ Agrees (cells self.now) text.now }
+    {
+        match self {
+            Section::Loaded(runes) => runes.is(text),
+            Section::Hole(_) => true,
         }
     }
 

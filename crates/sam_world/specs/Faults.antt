@@ -1,5 +1,5 @@
 -- Why a step of the world is not made.
-use Rattle.std.specs.Prelude.{◌≡◌, ◌<◌, ℕ, true, List, length, take, slice_get, Some, IfSome}
+use Rattle.std.specs.Prelude.{◌≡◌, ◌⊎◌, ◌<◌, ℕ, Bool, true, false, List, length, take, slice_get, Option, Some, None, IfSome}
 use Rattle.sam_host.specs.declared.fault.HostFault.{HostFault}
 use Rattle.sam_host.specs.declared.fault.HostFault.TheVariants as host
 use Rattle.sam_term.specs.declared.fault.TermFault.{TermFault}
@@ -11,24 +11,20 @@ use Rattle.sam_world.specs.declared.event.RunStop.{RunStop}
 use Rattle.sam_world.specs.declared.event.StepFault.{StepFault}
 use Rattle.sam_world.specs.declared.event.StepFault.TheVariants.{NothingThere, OutOfMemory, CountFull}
 
--- a fault of the terminal, as the world's
-abbrev pub fault_of_term : TermFault → StepFault
-fault_of_term term.OutOfMemory = OutOfMemory
-fault_of_term term.CountFull = CountFull
-fault_of_term _ = NothingThere
+-- a fault of the terminal, and the fault of the step that it stops
+abbrev pub IsTermStop : TermFault → StepFault → Type 0
+IsTermStop why s = ((why ≡ term.OutOfMemory) × (s ≡ OutOfMemory)) ⊎ ((why ≡ term.CountFull) × (s ≡ CountFull))
 
--- a fault of the host, as the world's
-abbrev pub fault_of_host : HostFault → StepFault
-fault_of_host host.OutOfMemory = OutOfMemory
-fault_of_host host.CountFull = CountFull
-fault_of_host _ = NothingThere
+-- the same for a fault of the host
+abbrev pub IsHostStop : HostFault → StepFault → Type 0
+IsHostStop why s = ((why ≡ host.OutOfMemory) × (s ≡ OutOfMemory)) ⊎ ((why ≡ host.CountFull) × (s ≡ CountFull))
 
--- CountFull is answered only where a count would be passed; nothing is there only at a take from an empty list; want of memory may
--- come at any time
+-- nothing is there exactly where the event is a take from an empty list; CountFull is answered only where the step would take a count
+-- past 2^64-1; want of memory may come at any other time
 abbrev pub IsFaultOf : PlainWorld → Event → StepFault → Type 0
 IsFaultOf w e NothingThere = is_empty_take w e ≡ true
 IsFaultOf w e CountFull = passes_count w e ≡ true
-IsFaultOf w e OutOfMemory = Unit {0}
+IsFaultOf w e OutOfMemory = is_empty_take w e ≡ false
 
 -- the events before the place of the stop lead from w to v, and the event there met the fault
 pub record IsStoppedAt (w : PlainWorld) (es : List Event) (stop : RunStop) (v : PlainWorld) : Type 0 where

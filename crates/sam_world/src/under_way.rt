@@ -69,6 +69,19 @@ impl<M: Drop> UnderWay<M> {
         }
     }
 
+    /// How many messages there are, and the greatest `usize` where there are more. It looks at each batch once.
+    pub fn count(&self) -> usize
+        ensures { result ≡ min (length self.now.messages) (2 ^ 64 - 1) }
+    {
+        let mut count = self.first.len();
+        for at in 0..self.rest.len() {
+            if let Some(batch) = self.rest.get(at) {
+                count = count.saturating_add(batch.len());
+            }
+        }
+        count
+    }
+
     /// Takes the oldest message off.
     pub fn drop_first(&mut self)
         ensures messages { self.new.messages ≡ drop 1 self.old.messages }

@@ -4,6 +4,7 @@ use Rattle.sam_world.specs.Faults.{IsFaultOf, fault_of_term}
 use Rattle.sam_world.specs.declared.event.Event.TheVariants.{Flush}
 use Rattle.sam_world.proofs.Reaches.{flush_refused}
 use Rattle.sam_world.proofs.Keeping.{kept_flush}
+use Rattle.sam_world.proofs.Stopping.{flush_stops}
 use Rattle.sam_world.proofs.world.World.flush.Goals as goal
 
 pub invariant_of-self-in-Ok : goal.invariant_of-self-in-Ok
@@ -12,8 +13,5 @@ invariant_of-self-in-Ok c =
     kept_flush before c.flush.new.self c.in-Ok.batch c.join.new.self.messages c.self.invariant c.known.ensures c.in-Ok.ensures.flushed
     (c.join.ensures ∙ ap (λ x. x ++ c.into_vec.result.items) c.in_ok-reserve.ensures.messages ∙ ap (λ x. c.self.inside.up.messages ++ x) c.into_vec.ensures)
 
-pub returns-in-Err-clause-refused : goal.returns-in-Err-clause-refused
-returns-in-Err-clause-refused c =
-    let before : PlainWorld = record { host = c.self.inside.host; term = c.self.inside.term; up = c.self.inside.up.messages; down = c.self.inside.down.messages } in
-    subst (λ x. IsFaultOf c.args.self.now Flush x) (sym c.fault_of_term.ensures)
-    (subst (λ (w : PlainWorld). IsFaultOf w Flush (fault_of_term c.in-Err.fault)) c.self.view_is (flush_refused before c.in-Err.fault c.in-Err.ensures.refused))
+pub fault_of_term-requires : goal.fault_of_term-requires
+fault_of_term-requires c = flush_stops c.self.inside.term c.in-Err.fault c.in-Err.ensures.refused

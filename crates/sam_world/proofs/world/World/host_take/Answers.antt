@@ -5,6 +5,7 @@ use Rattle.sam_world.specs.Faults.{IsFaultOf, fault_of_host}
 use Rattle.sam_world.specs.declared.event.Event.TheVariants.{HostTake}
 use Rattle.sam_world.proofs.Reaches.{answer_refused}
 use Rattle.sam_world.proofs.Keeping.{kept_answer}
+use Rattle.sam_world.proofs.Stopping.{host_stops}
 use Rattle.sam_world.proofs.world.World.host_take.Goals as goal
 
 pub invariant_of-self-in-Ok : goal.invariant_of-self-in-Ok
@@ -14,8 +15,8 @@ invariant_of-self-in-Ok c =
     (sym c.first.ensures ∙ ap (λ o. option_copied o) c.in-Some.is ∙ ap (λ m. Some m) (sym c.in_ok-message.ensures)) c.in-Ok.ensures.answered c.drop_first.ensures.messages
     (c.join.ensures ∙ ap (λ x. x ++ c.into_vec.result.items) c.in_ok-reserve.ensures.messages ∙ ap (λ x. c.self.inside.down.messages ++ x) c.into_vec.ensures)
 
-pub returns-in-Err-clause-refused : goal.returns-in-Err-clause-refused
-returns-in-Err-clause-refused c =
+pub fault_of_host-requires : goal.fault_of_host-requires
+fault_of_host-requires c =
     let before : PlainWorld = record { host = c.self.inside.host; term = c.self.inside.term; up = c.self.inside.up.messages; down = c.self.inside.down.messages } in
-    subst (λ x. IsFaultOf c.args.self.now HostTake x) (sym c.fault_of_host.ensures)
-    (subst (λ (w : PlainWorld). IsFaultOf w HostTake (fault_of_host c.in-Err.fault)) c.self.view_is (answer_refused before c.in_ok-message.message c.in-Err.fault c.self.invariant.reached (sym c.first.ensures ∙ ap (λ o. option_copied o) c.in-Some.is ∙ ap (λ m. Some m) (sym c.in_ok-message.ensures)) c.in-Err.ensures.refused))
+    host_stops before c.in_ok-message.message c.in-Err.fault c.self.invariant.reached
+    (sym c.first.ensures ∙ ap (λ o. option_copied o) c.in-Some.is ∙ ap (λ m. Some m) (sym c.in_ok-message.ensures)) c.in-Err.ensures.refused

@@ -5,6 +5,7 @@ use Rattle.sam_world.specs.Faults.{IsFaultOf, fault_of_term}
 use Rattle.sam_world.specs.declared.event.Event.TheVariants.{TermTake}
 use Rattle.sam_world.proofs.Reaches.{take_refused}
 use Rattle.sam_world.proofs.Keeping.{kept_take}
+use Rattle.sam_world.proofs.Stopping.{take_stops}
 use Rattle.sam_world.proofs.world.World.term_take.Goals as goal
 
 pub invariant_of-self-in-Ok : goal.invariant_of-self-in-Ok
@@ -14,8 +15,8 @@ invariant_of-self-in-Ok c =
     (sym c.first.ensures ∙ ap (λ o. option_copied o) c.in-Some.is ∙ ap (λ m. Some m) (sym c.in_ok-frame.ensures)) c.in-Ok.ensures.taken
     (c.join.ensures ∙ ap (λ x. x ++ c.into_vec.result.items) c.in_ok-reserve.ensures.messages ∙ ap (λ x. c.self.inside.up.messages ++ x) c.into_vec.ensures) c.drop_first.ensures.messages
 
-pub returns-in-Err-clause-refused : goal.returns-in-Err-clause-refused
-returns-in-Err-clause-refused c =
+pub fault_of_term-requires : goal.fault_of_term-requires
+fault_of_term-requires c =
     let before : PlainWorld = record { host = c.self.inside.host; term = c.self.inside.term; up = c.self.inside.up.messages; down = c.self.inside.down.messages } in
-    subst (λ x. IsFaultOf c.args.self.now TermTake x) (sym c.fault_of_term.ensures)
-    (subst (λ (w : PlainWorld). IsFaultOf w TermTake (fault_of_term c.in-Err.fault)) c.self.view_is (take_refused before c.in_ok-frame.frame c.in-Err.fault c.self.invariant.reached (sym c.first.ensures ∙ ap (λ o. option_copied o) c.in-Some.is ∙ ap (λ m. Some m) (sym c.in_ok-frame.ensures)) c.in-Err.ensures.refused))
+    take_stops before c.in_ok-frame.frame c.in-Err.fault c.self.invariant.reached
+    (sym c.first.ensures ∙ ap (λ o. option_copied o) c.in-Some.is ∙ ap (λ m. Some m) (sym c.in_ok-frame.ensures)) c.in-Err.ensures.refused

@@ -5,6 +5,7 @@ use Rattle.sam_world.specs.declared.event.Event.TheVariants.{Act}
 use Rattle.sam_world.proofs.Reaches.{act_refused}
 use Rattle.sam_world.proofs.Keeping.{kept_done, kept_silent}
 use Rattle.sam_world.proofs.ActLaws.{idle_still, locked_still}
+use Rattle.sam_world.proofs.Stopping.{act_stops}
 use Rattle.sam_world.proofs.world.World.try_act.Goals as goal
 
 pub returns-in-Ok-Idle-clause-still : goal.returns-in-Ok-Idle-clause-still
@@ -37,8 +38,5 @@ invariant_of-self-in-Ok-Locked c =
     let before : PlainWorld = record { host = c.self.inside.host; term = c.self.inside.term; up = c.self.inside.up.messages; down = c.self.inside.down.messages } in
     kept_silent before c.act.new.self c.in-Ok-Locked.field-0 c.reserve.new.self.messages c.self.invariant c.in-Ok-Locked.ensures.acted (ap (λ a. composed_by a) c.in-Ok-Locked.field-0-is) c.in_ok-reserve.ensures.messages
 
-pub returns-in-Err-clause-refused : goal.returns-in-Err-clause-refused
-returns-in-Err-clause-refused c =
-    let before : PlainWorld = record { host = c.self.inside.host; term = c.self.inside.term; up = c.self.inside.up.messages; down = c.self.inside.down.messages } in
-    subst (λ x. IsFaultOf c.args.self.now Act x) (sym c.fault_of_term.ensures)
-    (subst (λ (w : PlainWorld). IsFaultOf w Act (fault_of_term c.in-Err.fault)) c.self.view_is (act_refused before c.in-Err.fault c.in-Err.ensures.refused))
+pub fault_of_term-requires : goal.fault_of_term-requires
+fault_of_term-requires c = act_stops c.self.inside.term c.in-Err.fault c.in-Err.ensures.refused

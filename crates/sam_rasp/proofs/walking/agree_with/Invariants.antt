@@ -1,0 +1,9 @@
+use Rattle.std.proofs.Common.{◌≤◌, drop, length}
+use Rattle.std.specs.Prelude.{◌↔◌}
+use Rattle.sam_rasp.specs.Rasp.{Agrees}
+use Rattle.sam_rasp.specs.Sections.{cells_of}
+use Rattle.sam_rasp.proofs.walking.agree_with.Given as goal
+
+abbrev pub invariant-loop-section : goal.invariant-loop-section
+invariant-loop-section l =
+    (l.at ≤ length l.text) × (Agrees (cells_of (drop l.section-index l.sections)) (drop l.at l.text) ↔ Agrees (cells_of l.sections) l.text)

@@ -1,0 +1,107 @@
+-- Why a step of the world stops: it wants memory, or a count is full. Neither side refuses the other.
+use Rattle.std.proofs.Common.{◌≡◌, ◌⊎◌, inl, inr, refl, sym, ap, ◌∙◌, subst, ℕ, Bool, true, false, List, [], ◌∷◌, drop, Option, Some, None, Result, Ok, Err}
+use Rattle.std.proofs.lemmas.Option.{same_Some}
+use Rattle.sam_runes.specs.Texts.{is_empty}
+use Rattle.sam_host.specs.Host.{answer}
+use Rattle.sam_host.specs.declared.fault.HostFault.{HostFault}
+use Rattle.sam_host.specs.declared.fault.HostFault.TheVariants as host
+use Rattle.sam_term.specs.Term.{PlainTerminal, act_of, flush_of, take_of}
+use Rattle.sam_term.specs.declared.fault.TermFault.{TermFault}
+use Rattle.sam_term.specs.declared.fault.TermFault.TheVariants as term
+use Rattle.sam_mesg.specs.declared.tmesg.Tmesg.{Tmesg}
+use Rattle.sam_mesg.specs.declared.hmesg.HFrame.{HFrame}
+use Rattle.sam_world.specs.World.{PlainWorld, new_world, is_empty_take, is_quiet, IsSettled, HasOneVersion, IsAhead}
+use Rattle.sam_world.specs.UnderWay.{head}
+use Rattle.sam_world.specs.Reached.{WasReached}
+use Rattle.sam_world.specs.Order.{IsInOrder, IsCountable}
+use Rattle.sam_world.specs.Counts.{passes_count, passes_at, composes_past, is_host_full, is_term_full}
+use Rattle.sam_world.specs.Faults.{IsFaultOf, IsTermStop, IsHostStop}
+use Rattle.sam_world.specs.declared.event.Event.{Event}
+use Rattle.sam_world.specs.declared.event.Event.TheVariants.{User, Act, Flush, HostTake, TermTake}
+use Rattle.sam_world.specs.declared.event.StepFault.{StepFault}
+use Rattle.sam_world.specs.declared.event.StepFault.TheVariants.{NothingThere, OutOfMemory, CountFull}
+use Rattle.sam_world.proofs.Keeping.{first_rest}
+use Rattle.sam_world.proofs.OrderLaws.{starts_in_order, runs_in_order, host_never_refuses, terminal_never_refuses, only_counts_stop, quiet_means_agreement, free_means_one_version, free_means_ahead}
+
+pub order_of : (w : PlainWorld) → WasReached w → IsInOrder w
+order_of w r = runs_in_order (new_world r.given) w r.reached.0 (starts_in_order r.given r.limits) r.reached.1
+
+pub settled_of : (w : PlainWorld) → WasReached w → is_quiet w ≡ true → IsSettled w
+settled_of w r quiet = quiet_means_agreement w (order_of w r) quiet
+
+pub version_of : (w : PlainWorld) → WasReached w → HasOneVersion w
+version_of w r = free_means_one_version w (order_of w r)
+
+pub ahead_of : (w : PlainWorld) (f : ℕ) → WasReached w → IsCountable w → IsAhead w f
+ahead_of w f r room = free_means_ahead w f (order_of w r) room
+
+-- ## The faults of a side
+
+abbrev HostStops : HostFault → Type 0
+HostStops why = (why ≡ host.OutOfMemory) ⊎ (why ≡ host.CountFull)
+
+abbrev TermStops : TermFault → Type 0
+TermStops why = (why ≡ term.OutOfMemory) ⊎ (why ≡ term.CountFull)
+
+pub host_stops : (w : PlainWorld) (m : Tmesg) (why : HostFault) → WasReached w → head w.up ≡ Some m → (why ≡ host.OutOfMemory) ⊎ (answer w.host m ≡ Err why) → HostStops why
+host_stops w m why r first (inl memory) = inl memory
+host_stops w m why r first (inr a) = inr (host_never_refuses w m (drop 1 w.up) why (order_of w r) (first_rest w.up m first) a).0
+
+pub take_stops : (w : PlainWorld) (frame : HFrame) (why : TermFault) → WasReached w → head w.down ≡ Some frame → (why ≡ term.OutOfMemory) ⊎ (take_of w.term frame ≡ Err why) → TermStops why
+take_stops w frame why r first (inl memory) = inl memory
+take_stops w frame why r first (inr a) = inr (terminal_never_refuses w frame (drop 1 w.down) why (order_of w r) (first_rest w.down frame first) a)
+
+pub act_stops : (t : PlainTerminal) (why : TermFault) → (why ≡ term.OutOfMemory) ⊎ (act_of t ≡ Err why) → TermStops why
+act_stops t why (inl memory) = inl memory
+act_stops t why (inr a) = inr ((only_counts_stop t why).0 a)
+
+pub flush_stops : (t : PlainTerminal) (why : TermFault) → (why ≡ term.OutOfMemory) ⊎ (flush_of t ≡ Err why) → TermStops why
+flush_stops t why (inl memory) = inl memory
+flush_stops t why (inr a) = inr ((only_counts_stop t why).1 a)
+
+-- ## The fault of the step
+
+some_there : {X : Type 0} (xs : List X) (x : X) → head xs ≡ Some x → is_empty xs ≡ false
+some_there [] x e = absurd (cc)
+some_there (y ∷ xs) x e = refl
+
+memory_fault : (w : PlainWorld) (e : Event) (s : StepFault) → is_empty_take w e ≡ false → s ≡ OutOfMemory → IsFaultOf w e s
+memory_fault w e s there same = subst (IsFaultOf w e) (sym same) there
+
+count_fault : (w : PlainWorld) (e : Event) (s : StepFault) → passes_count w e ≡ true → s ≡ CountFull → IsFaultOf w e s
+count_fault w e s full same = subst (IsFaultOf w e) (sym same) full
+
+term_differs : ◌≡◌ {A = TermFault} term.OutOfMemory term.CountFull → ⊥
+term_differs e = cc
+
+-- what a fault of the terminal says of a step whose call of the terminal gave r
+term_fault : {A : Type 0} (w : PlainWorld) (e : Event) (r : Result A TermFault) (why : TermFault) (s : StepFault) → is_empty_take w e ≡ false → passes_count w e ≡ is_term_full r → (why ≡ term.OutOfMemory) ⊎ (r ≡ Err why) → IsTermStop why s → IsFaultOf w e s
+term_fault w e r why s there counts refused (inl memory) = memory_fault w e s there memory.1
+term_fault w e r why s there counts (inl wants) (inr full) = absurd (term_differs (sym wants ∙ full.0))
+term_fault w e r why s there counts (inr a) (inr full) = count_fault w e s (counts ∙ ap is_term_full (a ∙ ap (λ x. Err x) full.0)) full.1
+
+pub act_fault : (w : PlainWorld) (why : TermFault) (s : StepFault) → (why ≡ term.OutOfMemory) ⊎ (act_of w.term ≡ Err why) → IsTermStop why s → IsFaultOf w Act s
+act_fault w why s refused stop = term_fault w Act (act_of w.term) why s refl refl refused stop
+
+pub flush_fault : (w : PlainWorld) (why : TermFault) (s : StepFault) → (why ≡ term.OutOfMemory) ⊎ (flush_of w.term ≡ Err why) → IsTermStop why s → IsFaultOf w Flush s
+flush_fault w why s refused stop = term_fault w Flush (flush_of w.term) why s refl refl refused stop
+
+pub take_fault : (w : PlainWorld) (frame : HFrame) (why : TermFault) (s : StepFault) → head w.down ≡ Some frame → (why ≡ term.OutOfMemory) ⊎ (take_of w.term frame ≡ Err why) → IsTermStop why s → IsFaultOf w TermTake s
+take_fault w frame why s first refused stop =
+    term_fault w TermTake (take_of w.term frame) why s (some_there w.down frame first) (ap (composes_past w.term) (first_rest w.down frame first)) refused stop
+
+host_differs : ◌≡◌ {A = HostFault} host.OutOfMemory host.CountFull → ⊥
+host_differs e = cc
+
+pub host_fault : (w : PlainWorld) (m : Tmesg) (why : HostFault) (s : StepFault) → head w.up ≡ Some m → (why ≡ host.OutOfMemory) ⊎ (answer w.host m ≡ Err why) → IsHostStop why s → IsFaultOf w HostTake s
+host_fault w m why s first refused (inl memory) = memory_fault w HostTake s (some_there w.up m first) memory.1
+host_fault w m why s first (inl wants) (inr full) = absurd (host_differs (sym wants ∙ full.0))
+host_fault w m why s first (inr a) (inr full) =
+    count_fault w HostTake s (ap (passes_at w.host) (first_rest w.up m first) ∙ ap is_host_full (a ∙ ap (λ x. Err x) full.0)) full.1
+
+-- want of memory while something is there
+pub wants_take : (w : PlainWorld) (frame : HFrame) → head w.down ≡ Some frame → IsFaultOf w TermTake OutOfMemory
+wants_take w frame first = some_there w.down frame first
+
+pub wants_answer : (w : PlainWorld) (m : Tmesg) → head w.up ≡ Some m → IsFaultOf w HostTake OutOfMemory
+wants_answer w m first = some_there w.up m first

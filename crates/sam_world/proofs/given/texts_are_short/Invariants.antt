@@ -1,0 +1,6 @@
+use Rattle.std.proofs.Common.{drop}
+use Rattle.sam_world.specs.Given.{AreShort}
+use Rattle.sam_world.proofs.given.texts_are_short.Given as goal
+
+abbrev pub invariant-loop-file : goal.invariant-loop-file
+invariant-loop-file l = AreShort (drop l.file-index l.files) → AreShort l.files
