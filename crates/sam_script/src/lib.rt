@@ -1,0 +1,12 @@
+//! Scripts: reading their lines, running them over a world, and printing what a world is like.
+#![tactic(auto)]
+
+mod event;
+mod fault;
+mod line;
+mod script;
+mod words;
+
+pub use fault::ScriptFault;
+pub use line::{Line, MOST_NAME, Numbered};
+pub use script::{MOST_FILES, Script};
