@@ -5,8 +5,10 @@ mod event;
 mod fault;
 mod line;
 mod script;
+mod showing;
 mod words;
 
 pub use fault::ScriptFault;
 pub use line::{Line, MOST_NAME, Numbered};
 pub use script::{MOST_FILES, Script};
+pub use showing::show;
