@@ -6,6 +6,7 @@ ghost use Rattle.sam_rasp.specs.Sections.{cells, cells_of};
 ghost use Rattle.sam_text.specs.Views.{plain_file};
 ghost use Rattle.sam_script.specs.Show.{host_line, term_line, host_slot, term_slot, window_line, slot_lines, state_line, show_lines, lock_shown, counts_line, text_rune, name_rune, text_shown, name_shown, rasp_shown};
 
+use crate::fault::ScriptFault;
 use sam_rasp::{Rasp, Section};
 use sam_term::files::{KnownFile, Window};
 use sam_text::{File, Files};
@@ -15,7 +16,7 @@ use std::fmt::Write;
 
 /// Prints what a world is like, in lines that begin with `=`: each file of the host, each file that is open at the terminal, tags ascending,
 /// and then how the sides stand. The only fault is want of memory.
-pub fn show(alloc: Global, world: &World) -> Result<Vec<u8>, AllocError>
+pub fn show(alloc: Global, world: &World) -> Result<Vec<u8>, ScriptFault>
     ensures { IfOk result (λ out. out.items ≡ show_lines world.now) }
 {
     let mut out = String::new(alloc);
