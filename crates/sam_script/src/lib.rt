@@ -12,3 +12,6 @@ pub use fault::ScriptFault;
 pub use line::{Line, MOST_NAME, Numbered};
 pub use script::{MOST_FILES, Script};
 pub use showing::show;
+
+#[cfg(test)]
+mod tests;
