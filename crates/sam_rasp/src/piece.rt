@@ -42,6 +42,13 @@ impl Piece {
         self.runes.len()
     }
 
+    /// The runes, to be read.
+    pub fn as_slice(&self) -> &[char]
+        ensures { result.now ≡ self.now }
+    {
+        self.runes.as_slice()
+    }
+
     pub fn get(&self, place: usize) -> Option<char>
         ensures { result ≡ slice_get self.now place }
     {

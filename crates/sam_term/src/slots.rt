@@ -34,6 +34,13 @@ impl KnownFiles {
         }
     }
 
+    /// What is known by tag.
+    pub fn as_slice(&self) -> &[Option<KnownFile>]
+        ensures { result.now ≡ self.now }
+    {
+        self.slots.as_slice()
+    }
+
     /// The file of a tag.
     pub fn known(&self, tag: u16) -> Option<&KnownFile>
         ensures { option_copied result ≡ slot self.now tag }

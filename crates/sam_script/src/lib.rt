@@ -1,0 +1,17 @@
+//! Scripts: reading their lines, running them over a world, and printing what a world is like.
+#![tactic(auto)]
+
+mod event;
+mod fault;
+mod line;
+mod script;
+mod showing;
+mod words;
+
+pub use fault::ScriptFault;
+pub use line::{Line, MOST_NAME, Numbered};
+pub use script::{MOST_FILES, Script};
+pub use showing::show;
+
+#[cfg(test)]
+mod tests;

@@ -1,0 +1,120 @@
+//! A script: its files, and then its other lines.
+
+ghost use Rattle.std.specs.Prelude.{◌≡◌, ◌≤◌, ◌<◌, IfErr, IfOk, OnOk, length, All};
+ghost use Rattle.sam_script.specs.Script.{PlainScript, IsFile, FitsLine, IsReadFault, keys_of, mouse_of};
+
+use crate::fault::{LineFault, ScriptFault};
+use crate::line::{Line, Numbered, Said, read_line};
+use sam_runes::Runes;
+use sam_term::event::UserEvent;
+use std::alloc::{AllocError, Global};
+use std::marker::Model;
+use std::str;
+
+/// A script: the names and texts of the host's files, and the lines that follow them. It has at most `MOST_FILES` files, with names of 1 to
+/// 64 runes and texts of at most 1,000,000.
+#[derive(Drop)]
+pub struct Script {
+    files: Vec<(Runes, Runes)>,
+    lines: Vec<Numbered>,
+}
+
+impl Model for Script {
+    ghost use Rattle.std.specs.Prelude.{◌≤◌, All, length};
+    ghost use Rattle.sam_script.specs.Script.{PlainScript, IsFile};
+
+    ghost Value = { PlainScript };
+
+    ghost view = { λ a. record { files = a.files.items; lines = a.lines.items } };
+
+    ghost invariant = { λ a. (length a.files.items ≤ 65535) × All IsFile a.files.items };
+}
+
+/// The most files of a script.
+pub const MOST_FILES: usize = 65_535;
+
+impl Script {
+    /// The script that the bytes spell: lines of UTF-8 ended by newlines, the last of which may lack it. The first wrong line is the fault,
+    /// counted from 1.
+    pub fn read(alloc: Global, bytes: &[u8]) -> Result<Script, ScriptFault>
+        ensures fault { IfErr result IsReadFault }
+    {
+        let mut script = Script {
+            files: Vec::new(alloc),
+            lines: Vec::new(alloc),
+        };
+        let mut number: usize = 0;
+        for line in bytes.split(|b| *b == b'\n') {
+            number = number.saturating_add(1);
+            match script.add(alloc, number, line) {
+                Ok(()) => {}
+                Err(LineFault::Wrong) => return Err(ScriptFault::Line(number)),
+                Err(LineFault::OutOfMemory) => return Err(ScriptFault::OutOfMemory),
+            }
+        }
+        Ok(script)
+    }
+
+    /// Adds what a line says.
+    fn add(&mut self, alloc: Global, number: usize, bytes: &[u8]) -> Result<(), LineFault> {
+        let Ok(text) = str::from_utf8(bytes) else {
+            return Err(LineFault::Wrong);
+        };
+        match read_line(alloc, text)? {
+            Said::Nothing => Ok(()),
+            Said::File(name, text) => {
+                if !self.lines.is_empty() || self.files.len() >= MOST_FILES {
+                    return Err(LineFault::Wrong);
+                }
+                self.files.push((name, text))?;
+                Ok(())
+            }
+            Said::Line(line) => {
+                self.lines.push(Numbered { number, line })?;
+                Ok(())
+            }
+        }
+    }
+
+    /// The names and texts of its files; their tags are 1, 2, and so on.
+    pub fn files(&self) -> &[(Runes, Runes)]
+        ensures files { result.now ≡ self.now.files }
+        ensures count { length result.now ≤ 65535 }
+        ensures each { All IsFile result.now }
+    {
+        self.files.as_slice()
+    }
+
+    /// Its other lines, with their numbers.
+    pub fn lines(&self) -> &[Numbered]
+        ensures { result.now ≡ self.now.lines }
+    {
+        self.lines.as_slice()
+    }
+
+    /// Copies of what the user does at the keyboard, in order.
+    pub fn keys(&self, alloc: Global) -> Result<Vec<UserEvent>, AllocError>
+        ensures { IfOk result (λ events. events.items ≡ keys_of self.now.lines) }
+    {
+        let mut out = Vec::new(alloc);
+        for numbered in self.lines() {
+            if let Line::Key(event) = &numbered.line {
+                out.push(event.copy(alloc)?)?;
+            }
+        }
+        Ok(out)
+    }
+
+    /// Copies of what the user does with the mouse, in order.
+    pub fn mouse(&self, alloc: Global) -> Result<Vec<UserEvent>, AllocError>
+        ensures { IfOk result (λ events. events.items ≡ mouse_of self.now.lines) }
+    {
+        let mut out = Vec::new(alloc);
+        for numbered in self.lines() {
+            if let Line::Mouse(event) = &numbered.line {
+                out.push(event.copy(alloc)?)?;
+            }
+        }
+        Ok(out)
+    }
+}
