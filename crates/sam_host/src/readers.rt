@@ -1,6 +1,7 @@
 //! What is read of the host.
 
 ghost use Rattle.std.specs.Prelude.{◌≡◌};
+ghost use Rattle.sam_host.specs.Laws.{IsSound};
 
 use crate::host::Host;
 use sam_text::Files;
@@ -32,5 +33,13 @@ impl Host {
         ensures { result ≡ self.now.version }
     {
         self.version
+    }
+    /// What is known of every host: its texts and names are within their limits, each dot is a range of its text, and its version is 1
+    /// or 2.
+    #[tactic(auto, using(crate::proofs::SoundLaws::known_sound))]
+    pub fn known(&self)
+        ensures { IsSound self.now }
+    {
+        self.files.known();
     }
 }
