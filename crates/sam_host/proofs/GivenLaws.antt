@@ -1,10 +1,10 @@
 -- A host that is made from names and texts, a file further.
-use Rattle.std.proofs.Common.{◌≡◌, ℕ, ◌≤◌, List, [], ◌∷◌, ◌++◌, length, Option, Some, None, refl, sym, ap, ◌∙◌, subst, append_assoc}
+use Rattle.std.proofs.Common.{◌≡◌, ℕ, ◌≤◌, List, [], ◌∷◌, ◌++◌, length, Some, refl, sym, ap, ◌∙◌, subst, append_assoc}
 use Rattle.std.specs.Prelude.{reverse}
 use Rattle.std.proofs.lemmas.List.{reverse-append}
 use Rattle.sam_runes.specs.Texts.{RoomyText}
 use Rattle.sam_runes.specs.Slots.{Slots, put_slot}
-use Rattle.sam_text.specs.Files.{PlainFile, PlainFiles}
+use Rattle.sam_text.specs.Files.{PlainFile}
 use Rattle.sam_host.specs.Host.{given_file, given_slots}
 use Rattle.sam_host.specs.Given.{AreNames, given_of}
 

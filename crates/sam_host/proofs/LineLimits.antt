@@ -1,8 +1,8 @@
 -- What a command line leaves as a name or a pattern is within the limits of a message.
-use Rattle.std.proofs.Common.{◌≡◌, ℕ, zero, suc, ◌+◌, ◌≤◌, List, [], ◌∷◌, length, Bool, true, false, cond, eqb, ltb, Option, Some, None, Result, Ok, Err, refl, arith}
+use Rattle.std.proofs.Common.{◌≡◌, ℕ, zero, suc, ◌+◌, ◌≤◌, List, [], ◌∷◌, length, Bool, true, false, cond, Option, Some, None, Result, Ok, Err, refl, arith}
 use Rattle.std.specs.Prelude.{IfSome, IfOk, ⊤, ◌||◌, ◌==◌, nat_lt, option_and_then, option_map}
 use Rattle.std.proofs.lemmas.Bool.{ltb-false}
-use Rattle.sam_runes.specs.Texts.{either, max_runes, Range}
+use Rattle.sam_runes.specs.Texts.{max_runes}
 use Rattle.sam_runes.specs.Edits.{inserted}
 use Rattle.sam_runes.specs.Slots.{slot}
 use Rattle.sam_text.specs.declared.word.Word.{Word}
@@ -17,10 +17,10 @@ use Rattle.sam_text.specs.declared.command.Last.{Last}
 use Rattle.sam_text.specs.declared.command.Last.TheVariants as last
 use Rattle.sam_text.specs.declared.command.Command.{Command}
 use Rattle.sam_text.specs.declared.command.Command.TheVariants as command
-use Rattle.sam_text.specs.Reading.{Read, ◌>>=◌, is_blank, is_digit, skip, number_from, quoted, pattern_at, behind_slash, rune_side, side_of, side_at, second_side, address_at, kind_of, last_of, chain_at, at_head, at_option, ended, trimmed, name_of, behind_address, command_of}
+use Rattle.sam_text.specs.Reading.{◌>>=◌, is_blank, is_digit, skip, quoted, pattern_at, behind_slash, rune_side, side_of, side_at, second_side, address_at, kind_of, last_of, chain_at, at_head, at_option, ended, trimmed, name_of, behind_address, command_of}
 use Rattle.sam_text.specs.Ranges.{address_range, chain_ranges}
-use Rattle.sam_text.specs.Files.{PlainFile, PlainFiles, PlainOutcome}
-use Rattle.sam_text.specs.Meaning.{WorkFile, later, side_pattern, address_pattern, steps_pattern, edits_of, run_outcome, run_on, address_or_dot, effect_on, effect_of, or_wrong, line_outcome, work_on, meaning}
+use Rattle.sam_text.specs.Files.{PlainFiles, PlainOutcome}
+use Rattle.sam_text.specs.Meaning.{WorkFile, later, side_pattern, address_pattern, steps_pattern, edits_of, run_outcome, address_or_dot, effect_on, effect_of, or_wrong, line_outcome, work_on, meaning}
 
 bind_ok : {A B : Type 0} (P : A → Type 0) (Q : B → Type 0) (x : Result A Word) (f : A → Result B Word) → IfOk x P → ((a : A) → P a → IfOk (f a) Q) → IfOk (x >>= f) Q
 bind_ok P Q (Ok a) f h k = k a h

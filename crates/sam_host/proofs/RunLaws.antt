@@ -1,26 +1,24 @@
 -- What is printed and what a line leaves do not meet: a line never works on the command file.
-use Rattle.std.proofs.Common.{◌≡◌, ◌⊎◌, ℕ, zero, suc, ◌+◌, ◌-◌, ◌<◌, ◌≤◌, List, [], ◌∷◌, ◌++◌, length, take, drop, get_or, Bool, true, false, not, cond, Option, Some, None, Result, Ok, Err, refl, sym, ap, ◌∙◌, subst, arith, append_assoc}
-use Rattle.std.specs.Prelude.{unwrap_or, option_map, option_and_then, is_some, IfSome, if◌then◌else◌, flat_map, reverse, ◌&&◌}
-use Rattle.std.proofs.Math.Seq.{take-suc, take-length}
+use Rattle.std.proofs.Common.{◌≡◌, ℕ, zero, suc, ◌<◌, ◌≤◌, List, [], ◌∷◌, ◌++◌, length, take, get_or, Bool, true, false, cond, Option, Some, None, Result, Ok, Err, refl, sym, ap, ◌∙◌, subst, arith}
+use Rattle.std.specs.Prelude.{unwrap_or, option_map, option_and_then, is_some, IfSome, flat_map, reverse}
+use Rattle.std.proofs.Math.Seq.{take-suc}
 use Rattle.std.proofs.lemmas.List.{reverse-append}
 use Rattle.std.proofs.lemmas.List.Concat.{flat_map-cons}
-use Rattle.sam_runes.specs.Texts.{is_empty, max_runes, ins, del, either}
+use Rattle.sam_runes.specs.Texts.{max_runes, either}
 use Rattle.sam_runes.specs.Edits.{inserted}
 use Rattle.sam_runes.specs.declared.edit.Edit.{Edit}
-use Rattle.sam_runes.specs.Slots.{slot, put_slot}
+use Rattle.sam_runes.specs.Slots.{slot}
 use Rattle.sam_text.specs.Reading.{◌>>=◌, command_of}
 use Rattle.sam_text.specs.declared.word.Word.{Word}
 use Rattle.sam_text.specs.declared.command.Command.{Command}
 use Rattle.sam_text.specs.declared.command.Command.TheVariants as command
 use Rattle.sam_text.specs.Meaning.{meaning, work_on, line_outcome, or_wrong, effect_of}
-use Rattle.sam_text.specs.Outcomes.{Fits}
 use Rattle.sam_text.proofs.MeaningLaws.{line_fits}
-use Rattle.sam_text.specs.Files.{PlainFile, PlainFiles, PlainOutcome, IsOutcomeOf, IsOutcomeFor, IsWork, blank_file, file_at, has_file, put_file, is_printed, printed_file, after_print, file_after, put_outcome, committed, typed_file, AreFit, IsFit}
+use Rattle.sam_text.specs.Files.{PlainFile, PlainFiles, PlainOutcome, IsOutcomeOf, IsOutcomeFor, blank_file, file_at, put_file, is_printed, printed_file, after_print, file_after, put_outcome, committed, AreFit, IsFit}
 use Rattle.sam_mesg.specs.declared.hmesg.Hmesg.{Hmesg}
-use Rattle.sam_mesg.specs.declared.hmesg.Hmesg.TheVariants.{Hexit, Hunlock}
 use Rattle.sam_mesg.specs.declared.hmesg.HFrame.{HFrame}
-use Rattle.sam_host.specs.Host.{stamped, printed, grown, when, told_outcome}
-use Rattle.sam_host.proofs.FrameLaws.{stamped_append, told_both}
+use Rattle.sam_host.specs.Host.{stamped, printed, grown}
+use Rattle.sam_host.proofs.FrameLaws.{told_both}
 
 -- a line works on another file than the command file
 abbrev pub IsElsewhere : Option ℕ → Type 0

@@ -1,13 +1,13 @@
 -- The host stays sound, and its answers are counted.
-use Rattle.std.proofs.Common.{◌≡◌, ◌≢◌, ◌⊎◌, ℕ, zero, suc, ◌+◌, ◌≤◌, List, [], ◌∷◌, length, Bool, true, false, cond, Option, Some, None, Result, Ok, Err, nat_eq, inl, inr, refl, sym, ap, ◌∙◌, subst, arith}
+use Rattle.std.proofs.Common.{◌≡◌, ◌≢◌, ◌⊎◌, ℕ, zero, suc, ◌+◌, ◌≤◌, List, [], ◌∷◌, length, Bool, true, false, cond, Option, Some, None, Ok, Err, nat_eq, inl, inr, refl, sym, ap, subst, arith}
 use Rattle.std.specs.Prelude.{unwrap_or, option_map, IfSome, All, ◌==◌, nat_lt, nat_le, ◌||◌, ◌&&◌, not, min}
 use Rattle.std.proofs.lemmas.Bool.Decides.{eqb_tells}
 use Rattle.std.proofs.lemmas.List.Elements.{All-nil, All-cons}
-use Rattle.sam_runes.specs.Texts.{Range, common_version, most_count, max_runes, most_in_pattern, all_tags, is_empty, part, searched, ends_line, line_start, as_lines, last_line}
+use Rattle.sam_runes.specs.Texts.{Range, common_version, most_count, max_runes, most_in_pattern, all_tags, is_empty, part, searched, ends_line, as_lines, last_line}
 use Rattle.sam_runes.specs.Slots.{Slots, slot, put_slot, free_slot}
 use Rattle.sam_runes.specs.Checks.{first_of_checks}
 use Rattle.sam_runes.proofs.SlotLaws.{slot-put_same, slot-put_other, slot-map, slot-free_same, slot-free_other}
-use Rattle.sam_text.specs.Files.{PlainFile, PlainFiles, PlainOutcome, blank_file, file_at, put_file, typed_file, cut_file, pasted_file, printed_file, is_printed, has_room, after_print, file_after, put_outcome, committed, IsFit, AreFit}
+use Rattle.sam_text.specs.Files.{PlainFile, PlainFiles, PlainOutcome, blank_file, file_at, put_file, typed_file, cut_file, pasted_file, printed_file, is_printed, has_room, after_print, file_after, put_outcome, committed, IsFit, AreFit, AreKept}
 use Rattle.sam_text.specs.Meaning.{meaning}
 use Rattle.sam_mesg.specs.declared.tmesg.Tmesg.{Tmesg}
 use Rattle.sam_mesg.specs.declared.tmesg.Tmesg.TheVariants.{Tversion, Tstartcmdfile, Tcheck, Trequest, Torigin, Tstartfile, Tworkfile, Ttype, Tcut, Tpaste, Tsnarf, Tstartnewfile, Twrite, Tclose, Tlook, Tsearch, Tsend, Tdclick, Tstartsnarf, Tsetsnarf, Tack, Texit}
@@ -15,7 +15,7 @@ use Rattle.sam_mesg.specs.declared.hmesg.Hmesg.{Hmesg}
 use Rattle.sam_mesg.specs.declared.hmesg.HFrame.{HFrame}
 use Rattle.sam_host.specs.declared.fault.HostFault.{HostFault}
 use Rattle.sam_host.specs.declared.fault.HostFault.TheVariants.{BadVersion, CountFull}
-use Rattle.sam_host.specs.Host.{PlainHost, Reply, Answer, answer, answer_unless, counted, stamped, host_checks, command_name, no_tag_left, announced_file, announce_all, new_file, with_file, with_files, given_file, given_slots, new_host, printed, reply_version, reply_startcmdfile, reply_check, reply_request, reply_origin, reply_startfile, reply_workfile, reply_cut, reply_paste, reply_snarf, reply_startnewfile, reply_write, reply_close, reply_found, reply_look, reply_search, searched_for, reply_dclick, reply_startsnarf, reply_setsnarf, reply_exit, reply_line, reply_type, reply_send, reply_to}
+use Rattle.sam_host.specs.Host.{PlainHost, IsVersion, Reply, Answer, answer, answer_unless, counted, stamped, host_checks, no_tag_left, announced_file, announce_all, new_file, with_file, with_files, given_slots, new_host, printed, reply_version, reply_startcmdfile, reply_check, reply_request, reply_origin, reply_startfile, reply_workfile, reply_cut, reply_paste, reply_snarf, reply_startnewfile, reply_write, reply_close, reply_found, reply_look, reply_search, searched_for, reply_dclick, reply_startsnarf, reply_setsnarf, reply_exit, reply_line, reply_type, reply_send, reply_to}
 use Rattle.sam_host.specs.Laws.{AreNamesShort, IsSound, AreGiven, StartsSound, StaysSound, FramesFit, AnswersAreCounted, IsSilentWhereDone, FitInPlace}
 use Rattle.sam_host.proofs.HostFits.{reply_fits}
 use Rattle.sam_host.proofs.LineLimits.{IsWithin, meaning_within}
@@ -193,9 +193,6 @@ reply_stands h (Tsetsnarf s) = refl
 reply_stands h Tack = refl
 reply_stands h Texit = refl
 
-abbrev IsVersion : ℕ → Type 0
-IsVersion v = (v ≡ 1) ⊎ (v ≡ 2)
-
 agreed_version : (v : ℕ) → first_of_checks {E = HostFault} ((v == 0, BadVersion) ∷ []) ≡ None → IsVersion (common_version v)
 agreed_version zero e = absurd (cc)
 agreed_version (suc zero) e = inl refl
@@ -253,6 +250,9 @@ all-seen seen [] = All-nil (λ (frame : HFrame). frame.seen ≡ seen)
 all-seen seen (m ∷ ms) = All-cons (λ (frame : HFrame). frame.seen ≡ seen) (record { seen = seen; msg = m }) (stamped seen ms) refl (all-seen seen ms)
 
 -- ## The laws
+
+pub known_sound : (h : PlainHost) → AreKept h.files → IsVersion h.version → IsSound h
+known_sound h (tags, command, work, snarf, pattern, fit, short) version = record { names = short; files = fit; version = version }
 
 pub stays_sound : StaysSound
 stays_sound h g m frames e sound =

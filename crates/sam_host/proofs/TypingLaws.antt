@@ -1,6 +1,6 @@
 -- What is typed and taken out again leaves the host as it was, and typing and sending in terms of a line.
-use Rattle.std.proofs.Common.{◌≡◌, ◌≢◌, ◌⊎◌, inl, inr, ℕ, zero, suc, ◌+◌, ◌-◌, ◌<◌, ◌≤◌, List, [], ◌∷◌, ◌++◌, length, take, drop, get_or, Bool, true, false, not, cond, Option, Some, None, nat_eq, refl, sym, ap, ◌∙◌, subst, arith, append_assoc, append-nil, length-append}
-use Rattle.std.specs.Prelude.{unwrap_or, is_some, ◌&&◌, ◌||◌, ◌==◌, nat_le, nat_lt, IsTrue}
+use Rattle.std.proofs.Common.{◌≡◌, ◌≢◌, ◌⊎◌, inl, inr, ℕ, zero, suc, ◌+◌, ◌-◌, ◌<◌, ◌≤◌, List, [], ◌∷◌, ◌++◌, length, take, drop, get_or, Bool, true, false, not, cond, Some, None, nat_eq, refl, sym, ap, ◌∙◌, arith, append_assoc, append-nil, length-append}
+use Rattle.std.specs.Prelude.{unwrap_or, is_some, ◌&&◌, ◌||◌, ◌==◌}
 use Rattle.std.proofs.lemmas.List.{take_at, drop_at, take-append-drop, length-take}
 use Rattle.std.proofs.lemmas.Bool.{le-leb}
 use Rattle.std.proofs.lemmas.Bool.Decides.{eqb_tells}
@@ -9,11 +9,11 @@ use Rattle.sam_runes.specs.Texts.{Range, ins, del, part, is_empty, line_start, e
 use Rattle.sam_runes.specs.Slots.{Slots, slot, put_slot}
 use Rattle.sam_runes.proofs.SlotLaws.{slot-put_same}
 use Rattle.sam_runes.proofs.EditLaws.{length-ins}
-use Rattle.sam_text.specs.Files.{PlainFile, PlainFiles, blank_file, file_at, has_file, put_file, committed, typed_file, printed_file, cut_file, is_printed, has_room, after_print}
+use Rattle.sam_text.specs.Files.{PlainFile, blank_file, file_at, has_file, put_file, committed, typed_file, printed_file, is_printed, has_room, after_print}
 use Rattle.sam_mesg.specs.declared.hmesg.Hmesg.{Hmesg}
 use Rattle.sam_mesg.specs.declared.hmesg.Hmesg.TheVariants.{Hunlock, Hexit}
 use Rattle.sam_text.specs.Meaning.{meaning}
-use Rattle.sam_host.specs.Host.{PlainHost, Reply, told_outcome, with_file, with_files, printed, reply_line, reply_type, reply_send}
+use Rattle.sam_host.specs.Host.{PlainHost, told_outcome, with_file, with_files, printed, reply_line, reply_type, reply_send}
 use Rattle.sam_host.specs.Typing.{typed, typed_line, sent}
 
 -- ## Putting the command file

@@ -1,5 +1,5 @@
 -- A file that was put may be the work file.
-use Rattle.std.proofs.Common.{◌≡◌, ℕ, ◌<◌, true, ap}
+use Rattle.std.proofs.Common.{◌≡◌, ℕ, true, ap}
 use Rattle.std.specs.Prelude.{is_some}
 use Rattle.sam_runes.proofs.SlotLaws.{slot-put_same}
 use Rattle.sam_text.specs.Files.{PlainFile, PlainFiles, put_file, has_file}

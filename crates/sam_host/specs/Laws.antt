@@ -1,7 +1,7 @@
 -- What holds of the host in every state, and of the frames of every answer.
-use Rattle.std.specs.Prelude.{◌≡◌, ℕ, ◌+◌, ◌≤◌, ◌⊎◌, ◌==◌, if◌then◌else◌, List, [], ◌∷◌, length, Bool, true, false, All, Option, Some, None, Result, Ok, Err}
+use Rattle.std.specs.Prelude.{◌≡◌, ℕ, ◌+◌, ◌≤◌, ◌⊎◌, ◌==◌, if◌then◌else◌, List, [], ◌∷◌, length, true, false, All, Ok}
 use Rattle.sam_runes.specs.Texts.{common_version, most_count, max_runes}
-use Rattle.sam_text.specs.Files.{PlainFile, PlainFiles, file_at, has_file, AreFit}
+use Rattle.sam_text.specs.Files.{PlainFiles, file_at, AreFit}
 use Rattle.sam_mesg.specs.HostKinds.{fits_h}
 use Rattle.sam_mesg.specs.declared.tmesg.Tmesg.{Tmesg}
 use Rattle.sam_mesg.specs.declared.hmesg.Hmesg.{Hmesg}

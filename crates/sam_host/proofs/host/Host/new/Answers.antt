@@ -1,4 +1,4 @@
-use Rattle.std.proofs.Common.{◌≡◌, ◌++◌, ◌∷◌, [], List, length, append-nil, ap, sym, subst, ◌∙◌, false, arith}
+use Rattle.std.proofs.Common.{◌≡◌, ◌++◌, ◌∷◌, [], List, append-nil, ap, sym, subst, ◌∙◌, false, arith}
 use Rattle.std.specs.Prelude.{reverse}
 use Rattle.std.proofs.lemmas.List.{nil_from_length}
 use Rattle.sam_text.specs.Files.{PlainFiles}

@@ -1,4 +1,4 @@
-use Rattle.std.proofs.Common.{◌≡◌, ◌+◌, ◌≤◌, ap, sym, ◌∙◌, length, [], arith}
+use Rattle.std.proofs.Common.{◌+◌, ◌≤◌, ap, sym, ◌∙◌, length, [], arith}
 use Rattle.sam_runes.specs.Texts.{max_runes, last_line}
 use Rattle.sam_text.specs.Files.{file_at}
 use Rattle.sam_host.specs.Host.{Reply, stamped, printed, reply_line}

@@ -1,4 +1,4 @@
-use Rattle.std.proofs.Common.{◌≡◌, ◌≤◌, ◌+◌, true, ap, sym, ◌∙◌, length, arith}
+use Rattle.std.proofs.Common.{◌≡◌, ◌≤◌, true, ap, sym, ◌∙◌, length, arith}
 use Rattle.sam_text.specs.Files.{file_at, has_file}
 use Rattle.sam_host.specs.Host.{PlainHost}
 use Rattle.sam_host.proofs.TypingLaws.{typed_ready, undone}

@@ -1,4 +1,4 @@
-use Rattle.std.proofs.Common.{◌≡◌, ◌+◌, ◌-◌, ◌++◌, ◌∙◌, ℕ, suc, List, take, length, ap, arith}
+use Rattle.std.proofs.Common.{◌≡◌, ◌+◌, ◌-◌, ◌++◌, ◌∙◌, suc, List, take, length, ap, arith}
 use Rattle.std.specs.Prelude.{flat_map, reverse}
 use Rattle.sam_runes.specs.declared.edit.Edit.{Edit}
 use Rattle.sam_mesg.specs.declared.hmesg.HFrame.{HFrame}

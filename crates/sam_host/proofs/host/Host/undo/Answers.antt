@@ -1,4 +1,4 @@
-use Rattle.std.proofs.Common.{◌≡◌, ap, ◌∙◌, length, arith}
+use Rattle.std.proofs.Common.{ap, ◌∙◌, length, arith}
 use Rattle.sam_text.specs.Files.{PlainFile, file_at, cut_file}
 use Rattle.sam_host.specs.Host.{with_file}
 use Rattle.sam_host.proofs.TypingLaws.{put_there, put_here, put_again}
