@@ -25,7 +25,7 @@ or-true true = refl
 or-true false = refl
 
 -- a window that is put twice
-put-put : (t : PlainTerminal) (f : ℕ) (w v : Window) → put_window (put_window t f w) f v ≡ put_window t f v
+pub put-put : (t : PlainTerminal) (f : ℕ) (w v : Window) → put_window (put_window t f w) f v ≡ put_window t f v
 put-put t f w v =
     let k : KnownFile = record (known_at t f) { window = Some w } in
     ap (λ ss. record t { files = ss }) (put_slot-put_slot t.files f k (record (known_at (put_window t f w) f) { window = Some v }))

@@ -149,10 +149,10 @@ quiet_answer t x u e a first by b d l =
 
 -- ## What an event makes
 
-empty-or : {X : Type 0} (a b : ℕ) (x y : X) → a ≡ b → (if a == b then x else y) ≡ x
+pub empty-or : {X : Type 0} (a b : ℕ) (x y : X) → a ≡ b → (if a == b then x else y) ≡ x
 empty-or a b x y e = let same : nat_eq a b ≡ true = eq-eqb a b e in rw same refl
 
-filled-or : {X : Type 0} (a b : ℕ) (x y : X) → a ≢ b → (if a == b then x else y) ≡ y
+pub filled-or : {X : Type 0} (a b : ℕ) (x y : X) → a ≢ b → (if a == b then x else y) ≡ y
 filled-or a b x y e = let other : nat_eq a b ≡ false = ne_eqb a b e in rw other refl
 
 pub made-snarf_none : (t : PlainTerminal) (f : ℕ) (d : ℕ × ℕ) → d ≡ (window_at t f).dot → d.0 ≡ d.1 → made_by t (Snarf f) ≡ (t, [])
@@ -183,7 +183,7 @@ made-cut t f d e h =
     (sym (filled-or d.0 d.1 (t, []) (sends t (λ u. del_rasp u f d.0 d.1) (Tsnarf f d.0 d.1 ∷ Tcut f d.0 d.1 ∷ [])) h)
     ∙ ap (λ x. if x.0 == x.1 then (t, []) else sends t (λ u. del_rasp u f x.0 x.1) (Tsnarf f x.0 x.1 ∷ Tcut f x.0 x.1 ∷ [])) e)
 
-cuts_none : (t : PlainTerminal) (f : ℕ) (d : ℕ × ℕ) → d ≡ (window_at t f).dot → d.0 ≡ d.1 → cuts_dot t f ≡ (t, [])
+pub cuts_none : (t : PlainTerminal) (f : ℕ) (d : ℕ × ℕ) → d ≡ (window_at t f).dot → d.0 ≡ d.1 → cuts_dot t f ≡ (t, [])
 cuts_none t f d e h =
     sym
     (sym (empty-or d.0 d.1 (t, []) (sends t (λ u. del_rasp u f d.0 d.1) (Tcut f d.0 d.1 ∷ [])) h)
@@ -193,7 +193,7 @@ cuts_none t f d e h =
 abbrev pub cut_made : PlainTerminal → ℕ → ℕ × ℕ → Made
 cut_made t f d = (composed (del_rasp (flushed t).0 f d.0 d.1) (Tcut f d.0 d.1), (flushed t).1 ++ Tcut f d.0 d.1 ∷ [])
 
-cuts_some : (t : PlainTerminal) (f : ℕ) (d : ℕ × ℕ) → d ≡ (window_at t f).dot → d.0 ≢ d.1 → cuts_dot t f ≡ cut_made t f d
+pub cuts_some : (t : PlainTerminal) (f : ℕ) (d : ℕ × ℕ) → d ≡ (window_at t f).dot → d.0 ≢ d.1 → cuts_dot t f ≡ cut_made t f d
 cuts_some t f d e h =
     sym
     (sym (filled-or d.0 d.1 (t, []) (cut_made t f d) h)
@@ -230,7 +230,7 @@ pub flushed-messages : (t : PlainTerminal) → (flushed t).1 ≡ unsent_message 
 unfolding flushed
 flushed-messages t = refl
 
-cut-unsent : (t : PlainTerminal) (f : ℕ) (d : ℕ × ℕ) → (cut_made t f d).0.unsent ≡ None
+pub cut-unsent : (t : PlainTerminal) (f : ℕ) (d : ℕ × ℕ) → (cut_made t f d).0.unsent ≡ None
 cut-unsent t f d = ap (λ o. moved_unsent f (place_after_del d.0 d.1) o) (unsent-flushed t)
 
 pub made-paste_none : (t : PlainTerminal) (f : ℕ) (d : ℕ × ℕ) → d ≡ (window_at t f).dot → d.0 ≡ d.1 → made_by t (Paste f) ≡ sends t unchanged (Tpaste f d.0 ∷ [])

@@ -1,10 +1,12 @@
 -- What the events change in a window.
-use Rattle.std.specs.Prelude.{ℕ, ◌+◌, ◌++◌, List, [], length, map, take, drop, Some}
+use Rattle.std.specs.Prelude.{ℕ, ◌+◌, ◌++◌, ◌∷◌, ◌==◌, if◌then◌else◌, Bool, List, [], length, map, take, drop, Some}
 use Rattle.sam_rasp.specs.Rasp.{place_after_ins, place_after_del}
 use Rattle.sam_term.specs.declared.files.Window.{Window}
 use Rattle.sam_term.specs.declared.event.UserEvent.{UserEvent}
 use Rattle.sam_term.specs.declared.event.UserEvent.TheVariants.{Typed}
-use Rattle.sam_term.specs.Term.{PlainTerminal, window_at, put_window}
+use Rattle.sam_term.specs.Term.{PlainTerminal, Made, window_at, put_window, flushed}
+use Rattle.sam_mesg.specs.declared.tmesg.Tmesg.{Tmesg}
+use Rattle.sam_mesg.specs.declared.tmesg.Tmesg.TheVariants.{Tcut}
 
 -- a file is shown from p on, n places where it has so many
 abbrev pub shown_from : PlainTerminal → ℕ → ℕ → ℕ → PlainTerminal
@@ -23,3 +25,19 @@ typed_over w s =
 abbrev pub typed_runes : UserEvent → List ℕ
 typed_runes (Typed f s) = s
 typed_runes _ = []
+
+-- the file in which an event types
+abbrev pub typed_file : UserEvent → ℕ
+typed_file (Typed f s) = f
+typed_file _ = 0
+
+-- the cut of a dot as messages: one, or none where the dot is empty
+abbrev pub cut_message : ℕ → ℕ × ℕ → List Tmesg
+cut_message f d = if d.0 == d.1 then [] else Tcut f d.0 d.1 ∷ []
+
+abbrev pub one_if : Bool → ℕ
+one_if b = if b then 1 else 0
+
+-- the unsent runes are sent at once, if so
+abbrev pub flushed_if : Bool → PlainTerminal → Made
+flushed_if b t = if b then flushed t else (t, [])

@@ -3,7 +3,7 @@
 ghost use Rattle.std.specs.Prelude.{◌≡◌, ◌+◌, ◌<◌, ◌≤◌, ◌++◌, ◌∷◌, [], length, min, IsTrue, None, drop};
 ghost use Rattle.sam_rasp.specs.Rasp.{hole_within};
 ghost use Rattle.sam_runes.specs.Texts.{most_count};
-ghost use Rattle.sam_term.specs.Acting.{made_first, free_first, first_event, is_typing, is_snarfing};
+ghost use Rattle.sam_term.specs.Acting.{made_first, free_first, first_event, is_snarfing};
 ghost use Rattle.sam_term.specs.Editing.{shown_from};
 ghost use Rattle.sam_term.specs.Locking.{is_lockable};
 ghost use Rattle.sam_term.specs.Locks.{lock_of};
@@ -19,15 +19,6 @@ use sam_mesg::{Batch, Tmesg};
 use sam_runes::Runes;
 
 impl Terminal {
-    /// Puts the runes of the oldest event in the place of the dot.
-    pub(crate) fn make_typed(&mut self) -> Result<Acted, TermFault>
-        requires free { free_first self.old ≡ None }
-        requires first { IsTrue (is_typing (first_event self.old.held)) }
-        ensures { IsAnswer self.old self.new result (done (made_first self.old)) }
-    {
-        Err(TermFault::OutOfMemory)
-    }
-
     /// Sets a dot.
     pub(crate) fn make_select(&mut self, tag: u16, p: u32, q: u32) -> Result<Acted, TermFault>
         requires free { free_first self.old ≡ None }
@@ -170,7 +161,7 @@ impl Terminal {
     }
 
     /// Composes the unsent runes, and then cuts the dot of a file out of its partial text.
-    fn cut_selected(&mut self, tag: u16, dot: (u32, u32), out: &mut Outbox)
+    pub(crate) fn cut_selected(&mut self, tag: u16, dot: (u32, u32), out: &mut Outbox)
         requires opened { IsTrue (is_open self.old tag) }
         requires dot { dot ≡ (window_at self.old tag).dot }
         requires counts { self.old.sent + length (unsent_message self.old.unsent) ≤ most_count }
@@ -224,14 +215,14 @@ impl Terminal {
     }
 
     /// Drops the oldest held event.
-    fn drop_first(&mut self)
+    pub(crate) fn drop_first(&mut self)
         ensures { self.new ≡ record self.old { held = drop 1 self.old.held } }
     {
         let _ = self.held.take_first();
     }
 
     /// An event is done that composed these messages.
-    fn done_with(&self, out: Outbox) -> Acted
+    pub(crate) fn done_with(&self, out: Outbox) -> Acted
         ensures done { result ≡ Acted.Done out.messages }
         ensures countable { self.now.sent ≤ most_count }
     {
@@ -240,7 +231,7 @@ impl Terminal {
     }
 
     /// An event is done that composed no message.
-    fn done_quietly(&self) -> Acted
+    pub(crate) fn done_quietly(&self) -> Acted
         ensures done { result ≡ Acted.Done [] }
         ensures countable { self.now.sent ≤ most_count }
     {

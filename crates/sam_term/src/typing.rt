@@ -1,15 +1,22 @@
 //! Typing runes into a window.
 
-ghost use Rattle.std.specs.Prelude.{◌≡◌, ◌+◌, ◌-◌, ◌<◌, ◌≤◌, ◌^◌, length, OnErr, OnOk, IfOk, IsTrue, None};
+ghost use Rattle.std.specs.Prelude.{◌≡◌, ◌+◌, ◌-◌, ◌<◌, ◌≤◌, ◌^◌, ◌++◌, ◌==◌, ◌&&◌, [], length, OnErr, OnOk, IfOk, IsTrue, None, Some, false, nat_le, not, drop, if◌then◌else◌};
 ghost use Rattle.sam_rasp.specs.Rasp.{place_after_ins, place_after_del};
-ghost use Rattle.sam_runes.specs.Texts.{max_runes};
-ghost use Rattle.sam_term.specs.Acting.{first_event, is_typing};
-ghost use Rattle.sam_term.specs.Editing.{typed_over, typed_runes};
-ghost use Rattle.sam_term.specs.Term.{is_open, window_at, put_window};
+ghost use Rattle.sam_runes.specs.Texts.{is_empty, max_runes, most_count, most_in_message};
+ghost use Rattle.sam_term.specs.Acting.{first_event, free_first, is_typing, made_first};
+ghost use Rattle.sam_term.specs.Editing.{typed_over, typed_runes, typed_file, cut_message, one_if, flushed_if};
+ghost use Rattle.sam_term.specs.Locks.{is_command_line};
+ghost use Rattle.sam_term.specs.Taking.{IsAnswer, done};
+ghost use Rattle.sam_term.specs.Term.{is_open, window_at, put_window, all_composed, unsent_message, joins, joined};
 
-use crate::event::UserEvent;
+use crate::event::{Acted, UserEvent};
+use crate::fault::TermFault;
 use crate::files::{Unsent, Window};
+use crate::lock::ends_line;
+use crate::outbox::Outbox;
 use crate::term::Terminal;
+use sam_mesg::Tmesg;
+use sam_runes::Runes;
 use std::alloc::AllocError;
 
 /// Where a place goes as `n` runes come in the place of those from `p` to `q`.
@@ -58,7 +65,254 @@ fn typed_runes(event: &UserEvent) -> &[char]
     }
 }
 
+/// The file in which an event types.
+fn typed_file(event: &UserEvent) -> u16
+    requires { IsTrue (is_typing event.now) }
+    ensures { result ≡ typed_file event.now }
+{
+    match event {
+        UserEvent::Typed(tag, _) => *tag,
+        _ => unreachable!(),
+    }
+}
+
+/// Whether an event types the end of a command line.
+fn types_line(event: &UserEvent) -> bool
+    requires { IsTrue (is_typing event.now) }
+    ensures { result ≡ is_command_line (typed_file event.now) (typed_runes event.now) }
+{
+    match event {
+        UserEvent::Typed(tag, text) => *tag == 0 && ends_line(text),
+        _ => unreachable!(),
+    }
+}
+
+/// The runes of an event that types.
+fn text_of(event: UserEvent) -> Runes
+    requires { IsTrue (is_typing event) }
+    ensures { result ≡ typed_runes event }
+{
+    match event {
+        UserEvent::Typed(_, text) => text,
+        _ => unreachable!(),
+    }
+}
+
+/// Whether `n` runes typed at `p` follow unsent ones, and all fit in one message.
+fn follows(unsent: &Unsent, tag: u16, p: u32, n: usize) -> bool
+    requires before { length unsent.now.runes ≤ most_in_message }
+    requires few { n ≤ most_in_message }
+    ensures { result ≡ (unsent.now.file == tag && unsent.now.place + length unsent.now.runes == p && nat_le (length unsent.now.runes + n) most_in_message) }
+{
+    let count = unsent.runes.len();
+    unsent.file == tag && unsent.place as u64 + count as u64 == p as u64 && count + n <= 512
+}
+
+/// How many messages cut a dot.
+fn cut_count(dot: (u32, u32)) -> u64
+    ensures { result ≡ one_if (not (dot.0 == dot.1)) }
+{
+    if dot.0 == dot.1 { 0 } else { 1 }
+}
+
+/// How many messages a command line makes.
+fn line_count(line: bool) -> u64
+    ensures { result ≡ one_if line }
+{
+    if line { 1 } else { 0 }
+}
+
 impl Terminal {
+    /// Puts the runes of the oldest event in the place of the dot.
+    pub(crate) fn make_typed(&mut self) -> Result<Acted, TermFault>
+        requires free { free_first self.old ≡ None }
+        requires first { IsTrue (is_typing (first_event self.old.held)) }
+        ensures { IsAnswer self.old self.new result (done (made_first self.old)) }
+    {
+        let Some(event) = self.held.first() else {
+            unreachable!()
+        };
+        let tag = typed_file(event);
+        let line = types_line(event);
+        let runes = typed_runes(event);
+        let dot = self.dot_of(tag);
+        if runes.is_empty() {
+            return self.type_nothing(tag, dot);
+        }
+        if dot.0 == dot.1 && self.joins_unsent(tag, dot.0, runes) {
+            return self.type_behind(tag, dot, line);
+        }
+        self.type_apart(tag, dot, line)
+    }
+
+    /// Whether runes typed at `p` follow the unsent ones, and all fit in one message.
+    fn joins_unsent(&self, tag: u16, p: u32, runes: &[char]) -> bool
+        requires few { length runes.now ≤ most_in_message }
+        ensures { result ≡ joins self.now.unsent tag p runes.now }
+    {
+        match &self.unsent {
+            Some(unsent) => follows(unsent, tag, p, runes.len()),
+            None => false,
+        }
+    }
+
+    /// Only cuts the dot, since the oldest event types no runes.
+    fn type_nothing(&mut self, tag: u16, dot: (u32, u32)) -> Result<Acted, TermFault>
+        requires first { first_event self.old.held ≡ UserEvent.Typed tag [] }
+        requires opened { IsTrue (is_open self.old tag) }
+        requires dot { dot ≡ (window_at self.old tag).dot }
+        ensures { IsAnswer self.old self.new result (done (made_first self.old)) }
+    {
+        if dot.0 == dot.1 {
+            self.drop_first();
+            return Ok(self.done_quietly());
+        }
+        let count = 1 + self.unsent_count();
+        match self.prepare(count, 2) {
+            Ok(mut out) => {
+                self.drop_first();
+                self.cut_selected(tag, dot, &mut out);
+                self.compose(Tmesg::Tcut(tag, dot.0, dot.1), &mut out);
+                Ok(self.done_with(out))
+            }
+            Err(why) => Err(why),
+        }
+    }
+
+    /// Types behind the unsent runes, which they join.
+    fn type_behind(&mut self, tag: u16, dot: (u32, u32), line: bool) -> Result<Acted, TermFault>
+        requires free { free_first self.old ≡ None }
+        requires first { first_event self.old.held ≡ UserEvent.Typed tag (typed_runes (first_event self.old.held)) }
+        requires some { is_empty (typed_runes (first_event self.old.held)) ≡ false }
+        requires dot { dot ≡ (window_at self.old tag).dot }
+        requires line { line ≡ is_command_line tag (typed_runes (first_event self.old.held)) }
+        requires nothing { dot.0 ≡ dot.1 }
+        requires joins { IsTrue (joins self.old.unsent tag dot.0 (typed_runes (first_event self.old.held))) }
+        ensures { IsAnswer self.old self.new result (done (made_first self.old)) }
+    {
+        match self.prepare(line_count(line), 1) {
+            Ok(mut out) => {
+                let Ok(unsent) = self.joined_unsent(tag, dot.0) else {
+                    return Err(TermFault::OutOfMemory);
+                };
+                let Ok(_) = self.type_first(tag) else {
+                    return Err(TermFault::OutOfMemory);
+                };
+                self.drop_first();
+                self.keep_typed(unsent, line, &mut out);
+                Ok(self.done_with(out))
+            }
+            Err(why) => Err(why),
+        }
+    }
+
+    /// Types runes that join no unsent ones: those are sent first, and the dot is cut.
+    fn type_apart(&mut self, tag: u16, dot: (u32, u32), line: bool) -> Result<Acted, TermFault>
+        requires free { free_first self.old ≡ None }
+        requires first { first_event self.old.held ≡ UserEvent.Typed tag (typed_runes (first_event self.old.held)) }
+        requires some { is_empty (typed_runes (first_event self.old.held)) ≡ false }
+        requires dot { dot ≡ (window_at self.old tag).dot }
+        requires line { line ≡ is_command_line tag (typed_runes (first_event self.old.held)) }
+        requires apart { (dot.0 == dot.1 && joins self.old.unsent tag dot.0 (typed_runes (first_event self.old.held))) ≡ false }
+        ensures { IsAnswer self.old self.new result (done (made_first self.old)) }
+    {
+        self.known_window(tag);
+        let count = self.unsent_count() + cut_count(dot) + line_count(line);
+        match self.prepare(count, 3) {
+            Ok(mut out) => {
+                let Ok(before) = self.type_first(tag) else {
+                    return Err(TermFault::OutOfMemory);
+                };
+                let runes = self.take_typed();
+                self.compose_runes(before, &mut out);
+                self.compose_cut(tag, dot, &mut out);
+                let unsent = Unsent {
+                    file: tag,
+                    place: dot.0,
+                    runes,
+                };
+                self.keep_typed(unsent, line, &mut out);
+                Ok(self.done_with(out))
+            }
+            Err(why) => Err(why),
+        }
+    }
+
+    /// The unsent runes together with those of the oldest event, in memory of their own.
+    fn joined_unsent(&self, tag: u16, p: u32) -> Result<Unsent, AllocError>
+        requires first { IsTrue (is_typing (first_event self.now.held)) }
+        requires joins { IsTrue (joins self.now.unsent tag p (typed_runes (first_event self.now.held))) }
+        ensures { IfOk result (λ unsent. unsent ≡ joined self.now.unsent tag p (typed_runes (first_event self.now.held))) }
+    {
+        let Some(event) = self.held.first() else {
+            unreachable!()
+        };
+        let Some(before) = &self.unsent else {
+            unreachable!()
+        };
+        let mut runes = Vec::from_slice(self.alloc, before.runes.as_slice())?;
+        runes.extend_from_slice(typed_runes(event))?;
+        Ok(Unsent {
+            file: before.file,
+            place: before.place,
+            runes: Runes::from_vec(runes),
+        })
+    }
+
+    /// Takes the oldest event out, and gives the runes that it types.
+    fn take_typed(&mut self) -> Runes
+        requires { IsTrue (is_typing (first_event self.old.held)) }
+        ensures runes { result ≡ typed_runes (first_event self.old.held) }
+        ensures dropped { self.new ≡ record self.old { held = drop 1 self.old.held } }
+    {
+        let Some(event) = self.held.take_first() else {
+            unreachable!()
+        };
+        text_of(event)
+    }
+
+    /// Composes runes that were unsent.
+    fn compose_runes(&mut self, before: Option<Unsent>, out: &mut Outbox)
+        requires counts { self.old.sent + length (unsent_message before) ≤ most_count }
+        requires room { 0 < out.old.room }
+        ensures composed { self.new ≡ all_composed self.old (unsent_message before) }
+        ensures messages { out.new.messages ≡ out.old.messages ++ unsent_message before }
+        ensures room { out.old.room ≤ out.new.room + 1 }
+    {
+        if let Some(unsent) = before {
+            self.compose(Tmesg::Ttype(unsent.file, unsent.place, unsent.runes), out);
+        }
+    }
+
+    /// Composes the cut of a dot, where it is not empty.
+    fn compose_cut(&mut self, tag: u16, dot: (u32, u32), out: &mut Outbox)
+        requires counts { self.old.sent + one_if (not (dot.0 == dot.1)) ≤ most_count }
+        requires room { 0 < out.old.room }
+        ensures composed { self.new ≡ all_composed self.old (cut_message tag dot) }
+        ensures messages { out.new.messages ≡ out.old.messages ++ cut_message tag dot }
+        ensures room { out.old.room ≤ out.new.room + 1 }
+    {
+        if dot.0 == dot.1 {
+            return;
+        }
+        self.compose(Tmesg::Tcut(tag, dot.0, dot.1), out);
+    }
+
+    /// Keeps typed runes unsent, or sends them at once where they end a command line.
+    fn keep_typed(&mut self, unsent: Unsent, line: bool, out: &mut Outbox)
+        requires within { unsent.place ≤ (window_at self.old unsent.file).dot.1 }
+        requires short { length unsent.runes ≤ most_in_message }
+        requires counts { self.old.sent + one_if line ≤ most_count }
+        requires room { 0 < out.old.room }
+        ensures kept { self.new ≡ (flushed_if line (record self.old { unsent = Some unsent })).0 }
+        ensures messages { out.new.messages ≡ out.old.messages ++ (flushed_if line (record self.old { unsent = Some unsent })).1 }
+    {
+        self.unsent = Some(unsent);
+        if line {
+            self.compose_unsent(out);
+        }
+    }
+
     /// Puts the runes of the oldest event in the place of the dot of their file. The unsent runes are handed over,
     /// since the place where they begin may go with the dot.
     pub(crate) fn type_first(&mut self, tag: u16) -> Result<Option<Unsent>, AllocError>
