@@ -25,13 +25,14 @@ pub enum Case {
     HandlePaste,
     HandleSend,
     ActPaste,
+    ActType,
     ReceiveCheck,
     Audit,
 }
 
 impl Case {
     /// All cases, in the order in which they run.
-    pub const ALL: [Case; 19] = [
+    pub const ALL: [Case; 20] = [
         Case::EncodeT,
         Case::EncodeH,
         Case::DecodeT,
@@ -49,6 +50,7 @@ impl Case {
         Case::HandlePaste,
         Case::HandleSend,
         Case::ActPaste,
+        Case::ActType,
         Case::ReceiveCheck,
         Case::Audit,
     ];
@@ -73,6 +75,7 @@ impl Case {
             Case::HandlePaste => "handle_paste",
             Case::HandleSend => "handle_send",
             Case::ActPaste => "act_paste",
+            Case::ActType => "act_type",
             Case::ReceiveCheck => "receive_check",
             Case::Audit => "audit",
         }
@@ -98,6 +101,7 @@ impl Case {
             Case::HandlePaste => answers::handle_paste(alloc),
             Case::HandleSend => answers::handle_send(alloc),
             Case::ActPaste => events::act_paste(alloc),
+            Case::ActType => events::act_type(alloc),
             Case::ReceiveCheck => events::receive_check(alloc),
             Case::Audit => queue::audit_one(rt, alloc),
         }

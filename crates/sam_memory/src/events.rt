@@ -101,7 +101,20 @@ fn to_paste(alloc: Global) -> Result<Terminal, SetUp> {
     Ok(terminal)
 }
 
-/// A terminal that shows three runes and two gaps of a file, and has asked whether it shows all.
+/// A terminal where `XY` was typed and sent and is selected, and `Z` is held to be typed in its place.
+fn to_type_over(alloc: Global) -> Result<Terminal, SetUp> {
+    let mut terminal = Terminal::new(alloc);
+    open(&mut terminal, 1, 5)?;
+    show(alloc, &mut terminal, "ab cd")?;
+    does(&mut terminal, UserEvent::Typed(1, runes(alloc, "X")?))?;
+    does(&mut terminal, UserEvent::Typed(1, runes(alloc, "Y")?))?;
+    terminal.flush()?;
+    does(&mut terminal, UserEvent::Select(1, 0, 2))?;
+    terminal.user(UserEvent::Typed(1, runes(alloc, "Z")?))?;
+    Ok(terminal)
+}
+
+/// A terminal that shows three runes and two gaps of a file, has asked whether it shows all, and waits for a line to be run.
 fn to_fill(alloc: Global) -> Result<Terminal, SetUp> {
     let mut terminal = Terminal::new(alloc);
     open(&mut terminal, 0, 0)?;
@@ -110,6 +123,7 @@ fn to_fill(alloc: Global) -> Result<Terminal, SetUp> {
     does(&mut terminal, UserEvent::Select(1, 0, 2))?;
     does(&mut terminal, UserEvent::Cut(1))?;
     does(&mut terminal, UserEvent::Check(1))?;
+    does(&mut terminal, UserEvent::Typed(0, runes(alloc, ",d\n")?))?;
     take(&mut terminal, 3, Hmesg::Hsnarflen(2))?;
     Ok(terminal)
 }
@@ -129,6 +143,19 @@ pub fn act_paste(alloc: Global) -> Tried {
         Some(messages) => {
             let asks = matches!(messages.as_slice(), [Tmesg::Tpaste(1, 0)]);
             Ok(asks && terminal.locks(1) == 1 && terminal.sent() == 1)
+        }
+        None => Ok(false),
+    }
+}
+
+/// Typing over a dot cuts it and types, or does neither.
+pub fn act_type(alloc: Global) -> Tried {
+    let mut terminal = to_type_over(alloc)?;
+    let twin = to_type_over(alloc)?;
+    match composed(&mut terminal, &twin) {
+        Some(messages) => {
+            let cuts = matches!(messages.as_slice(), [Tmesg::Tcut(1, 0, 2)]);
+            Ok(cuts && part_shows(&terminal, 1, "Zab cd") && terminal.unsent() == 1)
         }
         None => Ok(false),
     }
