@@ -1,6 +1,6 @@
 use Rattle.std.proofs.Common.{◌≡◌, ◌++◌, drop}
 use Rattle.sam_world.specs.World.{merged, merged_from}
-use Rattle.sam_world.proofs.merge.merge_fitting.Given as goal
+use Rattle.sam_world.proofs.schedule.merge_fitting.Given as goal
 
 abbrev pub invariant-loop-entry : goal.invariant-loop-entry
 invariant-loop-entry l = l.out.items ++ merged_from l.done (drop l.entry-index l.log) l.host_taken ≡ merged l.log l.host_taken

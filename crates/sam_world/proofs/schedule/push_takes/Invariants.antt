@@ -1,6 +1,6 @@
 use Rattle.std.proofs.Common.{◌≡◌, ◌++◌, replicate}
 use Rattle.sam_world.specs.declared.event.Event.TheVariants.{HostTake}
-use Rattle.sam_world.proofs.merge.push_takes.Given as goal
+use Rattle.sam_world.proofs.schedule.push_takes.Given as goal
 
 abbrev pub invariant-loop-made : goal.invariant-loop-made
 invariant-loop-made l = l.out.items ≡ l.initial.out.items ++ replicate l._made HostTake

@@ -1,0 +1,104 @@
+//! Calls with ample memory, and what no clause says.
+
+use super::*;
+use sam_runes::{Runes, Text};
+use sam_term::UserEvent;
+use std::alloc::Global;
+use std::test::Fail;
+
+fn runes(alloc: Global, text: &str) -> Result<Runes, Fail> {
+    Ok(Runes::from_vec(text.chars().collect(alloc)?))
+}
+
+/// A world whose file 1 is named `a` and holds the text.
+fn world_of(alloc: Global, text: &str) -> Result<World, Fail> {
+    let name = Runes::from_slice(alloc, &['a'])?;
+    let text = Text::from_runes(alloc, runes(alloc, text)?.as_slice())?;
+    let mut given = Vec::new(alloc);
+    given.push((name, text))?;
+    Ok(World::new(alloc, given).ok().ok_or("memory")?)
+}
+
+/// A letter for each event.
+fn letter(event: &Event) -> char {
+    match event {
+        Event::User(_) => 'u',
+        Event::Act => 'a',
+        Event::Flush => 'f',
+        Event::HostTake => 'h',
+        Event::TermTake => 't',
+    }
+}
+
+/// The events of a user who opens the command file and a file, types in both, and leaves.
+fn session(alloc: Global) -> Result<[UserEvent; 7], Fail> {
+    let line = runes(alloc, ",x/l/d\n")?;
+    Ok([
+        UserEvent::Version(1),
+        UserEvent::OpenCmd,
+        UserEvent::Open(1),
+        UserEvent::Typed(1, runes(alloc, "X")?),
+        UserEvent::Typed(0, line),
+        UserEvent::Flush,
+        UserEvent::Exit,
+    ])
+}
+
+#[test]
+fn a_session_drains(rt: HostRuntime) -> Result<(), Fail> {
+    let alloc = rt.alloc();
+    let mut world = world_of(alloc, "hello\n")?;
+    for event in session(alloc)? {
+        assert_eq!(rt; world.step(Event::User(event)), Ok(()));
+    }
+    assert_eq!(rt; world.drain(), Ok(()));
+    assert!(rt; world.quiet() && world.agreed(0) && world.agreed(1));
+    assert!(rt; !world.locked(1) && world.term().exited());
+    assert_eq!(rt; (world.up(), world.down()), (0, 0));
+    assert_eq!(rt; (world.host().taken(), world.term().sent()), (7, 7));
+    let Some(text) = world.host().files().text(1) else {
+        return Err("no file".into());
+    };
+    assert!(rt; text.slice(0, text.len()) == &['X', 'h', 'e', 'o', '\n'][..]);
+    Ok(())
+}
+
+#[test]
+fn a_run_stops_where_nothing_is_there(rt: HostRuntime) -> Result<(), Fail> {
+    let alloc = rt.alloc();
+    let mut world = world_of(alloc, "ab")?;
+    let events = [
+        Event::User(UserEvent::Version(1)),
+        Event::Act,
+        Event::HostTake,
+        Event::HostTake,
+    ];
+    let stop = RunStop {
+        at: 3,
+        fault: StepFault::NothingThere,
+    };
+    assert_eq!(rt; world.run(&events), Err(stop));
+    assert_eq!(rt; (world.up(), world.down()), (0, 5));
+    Ok(())
+}
+
+#[test]
+fn takes_of_the_host_are_merged_in(rt: HostRuntime) -> Result<(), Fail> {
+    let alloc = rt.alloc();
+    let log = [
+        TermLog::User(UserEvent::Flush),
+        TermLog::Act,
+        TermLog::Take(1),
+        TermLog::Take(1),
+    ];
+    let merged = merge(alloc, &log, 2).ok().ok_or("memory")?;
+    let letters: Vec<char> = merged.iter().map(letter).collect(alloc)?;
+    assert!(rt; letters.as_slice() == &['u', 'a', 'h', 't', 't', 'h'][..]);
+    assert!(rt;
+        matches!(
+            merge(alloc, &[TermLog::Take(3)], 2),
+            Err(MergeFault::BadLog)
+        )
+    );
+    Ok(())
+}
