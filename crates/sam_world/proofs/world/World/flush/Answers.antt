@@ -1,8 +1,5 @@
-use Rattle.std.proofs.Common.{ap, ◌∙◌, ◌++◌, subst, sym}
+use Rattle.std.proofs.Common.{◌≡◌, ap, ◌∙◌, ◌++◌}
 use Rattle.sam_world.specs.World.{PlainWorld}
-use Rattle.sam_world.specs.Faults.{IsFaultOf, fault_of_term}
-use Rattle.sam_world.specs.declared.event.Event.TheVariants.{Flush}
-use Rattle.sam_world.proofs.Reaches.{flush_refused}
 use Rattle.sam_world.proofs.Keeping.{kept_flush}
 use Rattle.sam_world.proofs.Stopping.{flush_stops}
 use Rattle.sam_world.proofs.world.World.flush.Goals as goal

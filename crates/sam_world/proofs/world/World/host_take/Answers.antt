@@ -1,9 +1,6 @@
-use Rattle.std.proofs.Common.{ap, sym, ◌∙◌, ◌++◌, Some, subst}
+use Rattle.std.proofs.Common.{◌≡◌, ap, sym, ◌∙◌, ◌++◌, Some}
 use Rattle.std.specs.Option.{option_copied}
 use Rattle.sam_world.specs.World.{PlainWorld}
-use Rattle.sam_world.specs.Faults.{IsFaultOf, fault_of_host}
-use Rattle.sam_world.specs.declared.event.Event.TheVariants.{HostTake}
-use Rattle.sam_world.proofs.Reaches.{answer_refused}
 use Rattle.sam_world.proofs.Keeping.{kept_answer}
 use Rattle.sam_world.proofs.Stopping.{host_stops}
 use Rattle.sam_world.proofs.world.World.host_take.Goals as goal

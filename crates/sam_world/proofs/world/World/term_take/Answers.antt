@@ -1,9 +1,6 @@
-use Rattle.std.proofs.Common.{ap, sym, ◌∙◌, ◌++◌, Some, subst}
+use Rattle.std.proofs.Common.{◌≡◌, ap, sym, ◌∙◌, ◌++◌, Some}
 use Rattle.std.specs.Option.{option_copied}
 use Rattle.sam_world.specs.World.{PlainWorld}
-use Rattle.sam_world.specs.Faults.{IsFaultOf, fault_of_term}
-use Rattle.sam_world.specs.declared.event.Event.TheVariants.{TermTake}
-use Rattle.sam_world.proofs.Reaches.{take_refused}
 use Rattle.sam_world.proofs.Keeping.{kept_take}
 use Rattle.sam_world.proofs.Stopping.{take_stops}
 use Rattle.sam_world.proofs.world.World.term_take.Goals as goal

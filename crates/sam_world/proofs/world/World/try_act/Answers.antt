@@ -1,9 +1,7 @@
-use Rattle.std.proofs.Common.{ap, ◌∙◌, ◌++◌, Ok, subst, sym}
+use Rattle.std.proofs.Common.{◌≡◌, ap, ◌∙◌, ◌++◌, Ok}
 use Rattle.sam_world.specs.World.{PlainWorld, composed_by}
-use Rattle.sam_world.specs.Faults.{IsFaultOf, fault_of_term}
-use Rattle.sam_world.specs.declared.event.Event.TheVariants.{Act}
-use Rattle.sam_world.proofs.Reaches.{act_refused}
 use Rattle.sam_world.proofs.Keeping.{kept_done, kept_silent}
+use Rattle.sam_term.specs.Term.{act_of}
 use Rattle.sam_world.proofs.ActLaws.{idle_still, locked_still}
 use Rattle.sam_world.proofs.Stopping.{act_stops}
 use Rattle.sam_world.proofs.world.World.try_act.Goals as goal
