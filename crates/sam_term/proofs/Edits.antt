@@ -3,20 +3,20 @@ use Rattle.std.proofs.Common.{◌≡◌, refl, sym, ap, ◌∙◌, subst, ℕ, z
 use Rattle.std.specs.Prelude.{◌||◌, nat_lt, Result}
 use Rattle.sam_runes.specs.Checks.{Checks, first_of_checks}
 use Rattle.sam_runes.specs.Texts.{most_count}
-use Rattle.sam_term.specs.Term.{PlainTerminal, Made, event_checks, made_by, window_at, is_open, composed, all_composed, lock_taken, asked, flushed, unsent_message, sends, unchanged, flush_of, has_bad_place, made_by_snarf, made_by_cut, made_by_paste, made_by_view, wanted, request_for, cuts_dot, and_then, del_rasp, put_window, known_at, moved_unsent, blank_known}
+use Rattle.sam_term.specs.Term.{PlainTerminal, Made, event_checks, made_by, window_at, is_open, composed, all_composed, lock_taken, asked, flushed, unsent_message, sends, unchanged, has_bad_place, made_by_snarf, made_by_cut, made_by_paste, made_by_view, wanted, request_for, cuts_dot, and_then, del_rasp, put_window, known_at, moved_unsent, blank_known}
 use Rattle.sam_term.specs.Locks.{lock_of}
 use Rattle.sam_term.specs.Taking.{done, countable}
-use Rattle.sam_term.specs.Acting.{first_event, free_first, made_first, is_snarfing, is_typing}
+use Rattle.sam_term.specs.Acting.{first_event, free_first, made_first, is_snarfing}
 use Rattle.sam_term.specs.declared.lock.Lock.{Lock}
 use Rattle.sam_term.specs.declared.lock.Lock.TheVariants.{NoLock, CommandLock, FileLock}
 use Rattle.sam_term.specs.declared.event.Acted.{Acted}
 use Rattle.sam_term.specs.declared.event.Acted.TheVariants.{Done}
 use Rattle.sam_term.specs.declared.event.UserEvent.{UserEvent}
-use Rattle.sam_term.specs.declared.event.UserEvent.TheVariants.{Typed, Select, Cut, Paste, Snarf, View, SetSnarf, Flush}
+use Rattle.sam_term.specs.declared.event.UserEvent.TheVariants.{Select, Cut, Paste, Snarf, View, SetSnarf}
 use Rattle.sam_term.specs.declared.fault.TermFault.{TermFault}
 use Rattle.sam_term.specs.declared.fault.TermFault.TheVariants as fault
 use Rattle.sam_mesg.specs.declared.tmesg.Tmesg.{Tmesg}
-use Rattle.sam_mesg.specs.declared.tmesg.Tmesg.TheVariants.{Trequest, Ttype, Tcut, Tpaste, Tsnarf, Tsetsnarf}
+use Rattle.sam_mesg.specs.declared.tmesg.Tmesg.TheVariants.{Trequest, Tcut, Tpaste, Tsnarf, Tsetsnarf}
 use Rattle.sam_term.proofs.Acts.{made_of}
 use Rattle.sam_term.proofs.Sounds.{loud_done, full_done}
 use Rattle.sam_term.proofs.Composes.{flushed-none}

@@ -1,5 +1,5 @@
 -- Typing runes in the place of a dot.
-use Rattle.std.proofs.Common.{◌≡◌, sym, ap, ◌∙◌, subst, ℕ, ◌≤◌, ◌+◌, ◌-◌, ◌++◌, List, length, map, take, drop, Option, Some, arith, inl, inr}
+use Rattle.std.proofs.Common.{◌≡◌, ap, ◌∙◌, subst, ℕ, ◌≤◌, ◌+◌, ◌-◌, ◌++◌, List, length, map, take, drop, Option, Some, arith, inl, inr}
 use Rattle.std.proofs.lemmas.List.{length-map, length-take-le}
 use Rattle.sam_rasp.specs.Rasp.{PartialText, ins_cells, del_cells, place_after_ins, place_after_del}
 use Rattle.sam_term.specs.Term.{window_after_ins, window_after_del}

@@ -1,15 +1,15 @@
 -- What typing makes, in the order of the code: the window is changed first, and the messages are composed behind that.
-use Rattle.std.proofs.Common.{◌≡◌, refl, sym, ap, ◌∙◌, subst, ℕ, ◌≤◌, ◌<◌, ◌+◌, ◌-◌, ◌++◌, Bool, true, false, List, [], ◌∷◌, length, map, Option, Some, None, Ok, Err, if◌then◌else◌, ◌==◌, ◌≢◌, ◌⊎◌, nat_eq, arith, inl, inr, length-append, append_assoc, drop}
-use Rattle.std.specs.Prelude.{not, ◌&&◌, nat_lt, nat_le, unwrap_or}
+use Rattle.std.proofs.Common.{◌≡◌, refl, sym, ap, ◌∙◌, subst, ℕ, ◌≤◌, ◌<◌, ◌+◌, ◌-◌, ◌++◌, Bool, true, false, List, [], ◌∷◌, length, map, Option, Some, None, Err, if◌then◌else◌, ◌==◌, ◌≢◌, ◌⊎◌, nat_eq, arith, inl, inr, length-append}
+use Rattle.std.specs.Prelude.{not, ◌&&◌, nat_lt, nat_le}
 use Rattle.std.proofs.lemmas.List.{append-nil}
 use Rattle.std.proofs.lemmas.Bool.{le-ltb, ltb-false, leb-true, eqb-true}
 use Rattle.std.proofs.lemmas.Bool.Decides.{eqb_tells}
 use Rattle.sam_runes.specs.Texts.{is_empty, max_runes, most_count, most_in_message}
-use Rattle.sam_rasp.specs.Rasp.{PartialText, place_after_ins, place_after_del}
-use Rattle.sam_term.specs.Term.{PlainTerminal, Made, window_at, window_in, put_window, window_after_ins, window_after_del, moved_unsent, ins_rasp, del_rasp, set_dot_of, composed, all_composed, flushed, unsent_message, and_then, joins, joined, kept_unsent, typed_rasp, types, cuts_dot, made_by, made_by_type, lock_taken}
+use Rattle.sam_rasp.specs.Rasp.{PartialText, place_after_ins}
+use Rattle.sam_term.specs.Term.{PlainTerminal, Made, window_at, window_in, put_window, window_after_ins, window_after_del, moved_unsent, ins_rasp, set_dot_of, all_composed, flushed, unsent_message, and_then, joins, joined, kept_unsent, typed_rasp, types, cuts_dot, made_by, made_by_type, lock_taken}
 use Rattle.sam_term.specs.Locks.{is_command_line}
 use Rattle.sam_term.specs.Editing.{typed_over, typed_file, typed_runes, cut_message, one_if, flushed_if}
-use Rattle.sam_term.specs.Sound.{IsSound, FitsWindow, FitsUnsent, IsShort}
+use Rattle.sam_term.specs.Sound.{IsSound, FitsUnsent, IsShort}
 use Rattle.sam_term.specs.Acting.{first_event, free_first, made_first, is_typing}
 use Rattle.sam_term.specs.Taking.{done}
 use Rattle.sam_term.specs.declared.files.Window.{Window}
@@ -20,7 +20,7 @@ use Rattle.sam_term.specs.declared.event.UserEvent.TheVariants.{Typed}
 use Rattle.sam_term.specs.declared.fault.TermFault.{TermFault}
 use Rattle.sam_term.specs.declared.fault.TermFault.TheVariants as fault
 use Rattle.sam_mesg.specs.declared.tmesg.Tmesg.{Tmesg}
-use Rattle.sam_mesg.specs.declared.tmesg.Tmesg.TheVariants.{Tcut, Ttype}
+use Rattle.sam_mesg.specs.declared.tmesg.Tmesg.TheVariants.{Tcut}
 use Rattle.sam_term.proofs.Acts.{passes, test_at}
 use Rattle.sam_term.proofs.TypedLaws.{typed-cut, typed-in}
 use Rattle.sam_term.proofs.Composes.{put-put, window-put_same, flushed-files}

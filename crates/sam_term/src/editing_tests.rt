@@ -1,53 +1,41 @@
+//! Events that change a text, a dot or a view, and what they compose.
 use crate::event::{Acted, UserEvent};
-use crate::fault::{Refusal, TermFault};
-use crate::held::HeldEvents;
-use crate::slots::KnownFiles;
+use crate::fault::Refusal;
 use crate::term::Terminal;
-use sam_mesg::{HFrame, Hmesg, Tmesg};
+use crate::tests::{acts, runes, takes, with_five_gaps};
+use sam_mesg::{Batch, Hmesg, Tmesg};
 use sam_runes::Runes;
 use std::alloc::Global;
 use std::test::Fail;
 
-/// A terminal that knows no file.
-fn blank(alloc: Global) -> Terminal {
-    Terminal {
-        alloc,
-        files: KnownFiles::new(alloc),
-        current: None,
-        command_lock: false,
-        exited: false,
-        unsent: None,
-        held: HeldEvents::new(alloc),
-        sent: 0,
-        version: 1,
-        pattern: Runes::from_vec(Vec::new(alloc)),
-        snarf: Runes::from_vec(Vec::new(alloc)),
-        snarf_length: 0,
+/// What an event composes that is done.
+fn done(terminal: &mut Terminal, event: UserEvent) -> Result<Batch, Fail> {
+    match acts(terminal, event) {
+        Ok(Acted::Done(batch)) => Ok(batch),
+        _ => Err("an event that is done".into()),
     }
 }
 
-/// A terminal with file 1 open, of five runes that are not loaded.
-fn with_gap(alloc: Global) -> Result<Terminal, TermFault> {
-    let mut terminal = blank(alloc);
-    for msg in [
-        Hmesg::Hnewname(1),
-        Hmesg::Hbindname(1),
-        Hmesg::Hgrow(1, 0, 5),
-    ] {
-        terminal.receive(HFrame { seen: 0, msg })?;
+/// Opens a file.
+fn opens(terminal: &mut Terminal, tag: u16) -> bool {
+    takes(terminal, Hmesg::Hnewname(tag)) && takes(terminal, Hmesg::Hbindname(tag))
+}
+
+/// A terminal with file 1 open, of five runes: `XY` was typed before them and is sent.
+fn with_typed_runes(alloc: Global) -> Result<Terminal, Fail> {
+    let mut terminal = with_five_gaps(alloc)?;
+    if !takes(&mut terminal, Hmesg::Hdata(1, 0, runes(alloc, "ab cd")?)) {
+        return Err("data that is taken".into());
     }
+    let _ = done(&mut terminal, UserEvent::Typed(1, runes(alloc, "X")?))?;
+    let _ = done(&mut terminal, UserEvent::Typed(1, runes(alloc, "Y")?))?;
+    let _ = done(&mut terminal, UserEvent::Flush)?;
     Ok(terminal)
-}
-
-/// Gives an event, and tries it.
-fn acts(terminal: &mut Terminal, event: UserEvent) -> Result<Acted, TermFault> {
-    terminal.user(event)?;
-    terminal.act()
 }
 
 #[test]
 fn view_asks_for_its_gap(rt: HostRuntime) -> Result<(), Fail> {
-    let mut terminal = with_gap(rt.alloc()).ok().ok_or("a file with a gap")?;
+    let mut terminal = with_five_gaps(rt.alloc())?;
     match acts(&mut terminal, UserEvent::View(1, 0, 5)) {
         Ok(Acted::Done(batch)) => {
             assert_eq!(rt; batch.as_slice().len(), 1);
@@ -60,7 +48,7 @@ fn view_asks_for_its_gap(rt: HostRuntime) -> Result<(), Fail> {
 
 #[test]
 fn cut_of_two_runes(rt: HostRuntime) -> Result<(), Fail> {
-    let mut terminal = with_gap(rt.alloc()).ok().ok_or("a file with a gap")?;
+    let mut terminal = with_five_gaps(rt.alloc())?;
     match acts(&mut terminal, UserEvent::Select(1, 0, 2)) {
         Ok(Acted::Done(batch)) => assert_eq!(rt; batch.as_slice().len(), 0),
         _ => assert!(rt; false),
@@ -87,7 +75,7 @@ fn cut_of_two_runes(rt: HostRuntime) -> Result<(), Fail> {
 
 #[test]
 fn paste_locks_its_file(rt: HostRuntime) -> Result<(), Fail> {
-    let mut terminal = with_gap(rt.alloc()).ok().ok_or("a file with a gap")?;
+    let mut terminal = with_five_gaps(rt.alloc())?;
     match acts(&mut terminal, UserEvent::Paste(1)) {
         Ok(Acted::Done(batch)) => {
             assert_eq!(rt; batch.as_slice().len(), 1);
@@ -106,7 +94,7 @@ fn paste_locks_its_file(rt: HostRuntime) -> Result<(), Fail> {
 
 #[test]
 fn paste_over_a_dot(rt: HostRuntime) -> Result<(), Fail> {
-    let mut terminal = with_gap(rt.alloc()).ok().ok_or("a file with a gap")?;
+    let mut terminal = with_five_gaps(rt.alloc())?;
     assert!(rt; acts(&mut terminal, UserEvent::Select(1, 1, 3)).is_ok());
     match acts(&mut terminal, UserEvent::Paste(1)) {
         Ok(Acted::Done(batch)) => {
@@ -122,7 +110,7 @@ fn paste_over_a_dot(rt: HostRuntime) -> Result<(), Fail> {
 #[test]
 fn runes_for_the_snarf_buffer(rt: HostRuntime) -> Result<(), Fail> {
     let alloc = rt.alloc();
-    let mut terminal = blank(alloc);
+    let mut terminal = Terminal::new(alloc);
     let text = Runes::from_vec(Vec::from_slice(alloc, &['a', 'b'])?);
     match acts(&mut terminal, UserEvent::SetSnarf(text)) {
         Ok(Acted::Done(batch)) => match batch.as_slice().first() {
@@ -143,5 +131,97 @@ fn runes_for_the_snarf_buffer(rt: HostRuntime) -> Result<(), Fail> {
         _ => assert!(rt; false),
     }
     assert_eq!(rt; terminal.sent(), 1);
+    Ok(())
+}
+
+#[test]
+fn typed_runes_are_sent_together(rt: HostRuntime) -> Result<(), Fail> {
+    let alloc = rt.alloc();
+    let mut terminal = with_five_gaps(alloc)?;
+    let batch = done(&mut terminal, UserEvent::View(1, 0, 5))?;
+    assert!(rt; matches!(batch.as_slice(), [Tmesg::Trequest(1, 0, 5)]));
+    let typed = UserEvent::Typed(1, runes(alloc, "X")?);
+    assert!(rt; matches!(acts(&mut terminal, typed), Ok(Acted::Locked)));
+    assert!(rt; takes(&mut terminal, Hmesg::Hdata(1, 0, runes(alloc, "ab cd")?)));
+    assert!(rt; matches!(terminal.act(), Ok(Acted::Locked)));
+    assert!(rt; takes(&mut terminal, Hmesg::Hunlockfile(1)));
+    match terminal.act() {
+        Ok(Acted::Done(batch)) => assert_eq!(rt; batch.as_slice().len(), 0),
+        _ => assert!(rt; false),
+    }
+    let batch = done(&mut terminal, UserEvent::Typed(1, runes(alloc, "Y")?))?;
+    assert_eq!(rt; batch.as_slice().len(), 0);
+    assert_eq!(rt; terminal.unsent(), 2);
+    match terminal.flush() {
+        Ok(batch) => match batch.as_slice() {
+            [Tmesg::Ttype(1, 0, text)] => assert_eq!(rt; text.as_slice(), ['X', 'Y'].as_slice()),
+            _ => assert!(rt; false),
+        },
+        Err(_) => assert!(rt; false),
+    }
+    assert_eq!(rt; terminal.unsent(), 0);
+    assert_eq!(rt; terminal.sent(), 2);
+    assert_eq!(rt; terminal.dot(1), Some((2, 2)));
+    assert_eq!(rt; terminal.rasp_len(1), 7);
+    Ok(())
+}
+
+#[test]
+fn typing_over_a_dot_cuts_it(rt: HostRuntime) -> Result<(), Fail> {
+    let alloc = rt.alloc();
+    let mut terminal = with_typed_runes(alloc)?;
+    let _ = done(&mut terminal, UserEvent::Select(1, 0, 2))?;
+    let batch = done(&mut terminal, UserEvent::Typed(1, runes(alloc, "Z")?))?;
+    assert!(rt; matches!(batch.as_slice(), [Tmesg::Tcut(1, 0, 2)]));
+    assert_eq!(rt; terminal.unsent(), 1);
+    assert_eq!(rt; terminal.dot(1), Some((1, 1)));
+    match terminal.rasp(1) {
+        Some(rasp) => {
+            assert_eq!(rt; rasp.len(), 6);
+            assert_eq!(rt; rasp.loaded(0), Some(Some('Z')));
+            assert_eq!(rt; rasp.loaded(1), Some(Some('a')));
+        }
+        None => assert!(rt; false),
+    }
+    Ok(())
+}
+
+#[test]
+fn typing_nothing_over_a_dot_cuts_it(rt: HostRuntime) -> Result<(), Fail> {
+    let alloc = rt.alloc();
+    let mut terminal = with_typed_runes(alloc)?;
+    let _ = done(&mut terminal, UserEvent::Select(1, 0, 2))?;
+    let batch = done(&mut terminal, UserEvent::Typed(1, runes(alloc, "")?))?;
+    assert!(rt; matches!(batch.as_slice(), [Tmesg::Tcut(1, 0, 2)]));
+    assert_eq!(rt; terminal.unsent(), 0);
+    assert_eq!(rt; terminal.rasp_len(1), 5);
+    Ok(())
+}
+
+#[test]
+fn typing_beside_a_locked_file(rt: HostRuntime) -> Result<(), Fail> {
+    let alloc = rt.alloc();
+    let mut terminal = with_five_gaps(alloc)?;
+    assert!(rt; opens(&mut terminal, 2));
+    let batch = done(&mut terminal, UserEvent::Paste(1))?;
+    assert!(rt; matches!(batch.as_slice(), [Tmesg::Tpaste(1, 0)]));
+    let batch = done(&mut terminal, UserEvent::Typed(2, runes(alloc, "b")?))?;
+    assert_eq!(rt; batch.as_slice().len(), 0);
+    assert_eq!(rt; terminal.unsent(), 1);
+    Ok(())
+}
+
+#[test]
+fn a_command_line_is_sent_at_once(rt: HostRuntime) -> Result<(), Fail> {
+    let alloc = rt.alloc();
+    let mut terminal = with_five_gaps(alloc)?;
+    assert!(rt; opens(&mut terminal, 0));
+    let batch = done(&mut terminal, UserEvent::Typed(0, runes(alloc, ",d\n")?))?;
+    match batch.as_slice() {
+        [Tmesg::Ttype(0, 0, text)] => assert_eq!(rt; text.as_slice(), [',', 'd', '\n'].as_slice()),
+        _ => assert!(rt; false),
+    }
+    assert!(rt; terminal.command_locked());
+    assert_eq!(rt; terminal.unsent(), 0);
     Ok(())
 }

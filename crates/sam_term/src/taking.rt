@@ -11,7 +11,7 @@ use crate::files::{KnownFile, Window};
 use crate::moving::drop_unsent;
 use crate::term::Terminal;
 use sam_mesg::{Batch, HFrame, Hmesg, Tmesg};
-use sam_rasp::rasp::Rasp;
+use sam_rasp::Rasp;
 use sam_runes::Runes;
 
 impl Terminal {

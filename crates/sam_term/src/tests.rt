@@ -6,7 +6,7 @@ use sam_runes::Runes;
 use std::alloc::Global;
 use std::test::Fail;
 
-fn runes(alloc: Global, text: &str) -> Result<Runes, Fail> {
+pub(crate) fn runes(alloc: Global, text: &str) -> Result<Runes, Fail> {
     Ok(Runes::from_vec(text.chars().collect(alloc)?))
 }
 
@@ -19,7 +19,7 @@ fn take(terminal: &mut Terminal, seen: u64, msg: Hmesg) -> Result<Batch, TermFau
 }
 
 /// Whether the message is taken, and composes nothing.
-fn takes(terminal: &mut Terminal, msg: Hmesg) -> bool {
+pub(crate) fn takes(terminal: &mut Terminal, msg: Hmesg) -> bool {
     match take(terminal, 0, msg) {
         Ok(messages) => messages.as_slice().is_empty(),
         Err(_) => false,
@@ -32,7 +32,7 @@ fn refused(terminal: &mut Terminal, msg: Hmesg) -> Option<TermFault> {
 }
 
 /// What becomes of an event that nothing is held before.
-fn acts(terminal: &mut Terminal, event: UserEvent) -> Result<Acted, TermFault> {
+pub(crate) fn acts(terminal: &mut Terminal, event: UserEvent) -> Result<Acted, TermFault> {
     terminal.user(event)?;
     terminal.act()
 }
@@ -46,7 +46,7 @@ fn refusal(terminal: &mut Terminal, event: UserEvent) -> Option<Refusal> {
 }
 
 /// A terminal with file 1 open, of five gaps.
-fn with_five_gaps(alloc: Global) -> Result<Terminal, Fail> {
+pub(crate) fn with_five_gaps(alloc: Global) -> Result<Terminal, Fail> {
     let mut terminal = Terminal::new(alloc);
     if takes(&mut terminal, Hmesg::Hnewname(1))
         && takes(&mut terminal, Hmesg::Hbindname(1))

@@ -1,5 +1,5 @@
-use Rattle.std.proofs.Common.{◌≡◌, sym, ap, ◌∙◌, refl, arith, [], ◌∷◌, ◌++◌}
-use Rattle.sam_term.specs.Term.{PlainTerminal, sends, unchanged}
+use Rattle.std.proofs.Common.{ap, ◌∙◌, refl, arith, [], ◌∷◌, ◌++◌}
+use Rattle.sam_term.specs.Term.{sends, unchanged}
 use Rattle.sam_mesg.specs.declared.tmesg.Tmesg.TheVariants.{Tsetsnarf}
 use Rattle.sam_term.specs.declared.event.UserEvent.TheVariants.{SetSnarf}
 use Rattle.sam_term.proofs.Edits.{later, loud_answer, refused_snarf}

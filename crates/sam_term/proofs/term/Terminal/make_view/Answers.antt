@@ -1,5 +1,5 @@
-use Rattle.std.proofs.Common.{◌≡◌, ◌≤◌, sym, ap, ◌∙◌, subst, refl, arith, [], ◌∷◌, ◌++◌, length}
-use Rattle.sam_term.specs.Term.{PlainTerminal, is_open, window_at, sends, unchanged}
+use Rattle.std.proofs.Common.{◌≤◌, sym, ap, ◌∙◌, subst, refl, arith, [], ◌∷◌, ◌++◌, length}
+use Rattle.sam_term.specs.Term.{is_open, window_at, sends, unchanged}
 use Rattle.sam_term.specs.Editing.{shown_from}
 use Rattle.sam_term.specs.declared.event.UserEvent.TheVariants.{View}
 use Rattle.sam_term.proofs.Acts.{opened_by}

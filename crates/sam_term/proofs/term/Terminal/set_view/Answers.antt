@@ -1,4 +1,4 @@
-use Rattle.std.proofs.Common.{◌≤◌, length, arith, sym, ap, ◌∙◌, subst, refl}
+use Rattle.std.proofs.Common.{◌≤◌, length, sym, ap, ◌∙◌, subst, refl}
 use Rattle.sam_term.specs.Term.{window_at}
 use Rattle.sam_term.specs.Editing.{shown_from}
 use Rattle.sam_term.specs.Sound.{seen}

@@ -1,9 +1,7 @@
-use Rattle.std.proofs.Common.{◌≡◌, ◌≤◌, sym, ap, ◌∙◌, refl, arith, ◌++◌, drop, length, List, ℕ, Some, None}
+use Rattle.std.proofs.Common.{◌≤◌, sym, ap, ◌∙◌, refl, arith, ◌++◌, drop, length, List, ℕ, Some}
 use Rattle.sam_term.specs.Acting.{first_event}
 use Rattle.sam_term.specs.Editing.{typed_over, typed_runes, cut_message, one_if, flushed_if}
-use Rattle.sam_term.specs.Locks.{is_command_line}
-use Rattle.sam_term.specs.Term.{PlainTerminal, Made, window_at, put_window, all_composed, unsent_message, flushed}
-use Rattle.sam_term.specs.declared.files.Unsent.{Unsent}
+use Rattle.sam_term.specs.Term.{PlainTerminal, Made, window_at, all_composed, unsent_message, flushed}
 use Rattle.sam_term.specs.declared.event.UserEvent.TheVariants.{Typed}
 use Rattle.sam_term.proofs.Acts.{opened_by}
 use Rattle.sam_term.proofs.Edits.{later, loud_answer, flushed-messages}

@@ -1,4 +1,4 @@
-use Rattle.std.proofs.Common.{◌≡◌, ◌≤◌, ◌+◌, ◌++◌, sym, ap, ◌∙◌, refl, subst, arith, drop, length, ℕ, Some, None}
+use Rattle.std.proofs.Common.{◌≤◌, ◌++◌, sym, ap, ◌∙◌, refl, subst, arith, drop, length, ℕ, Some}
 use Rattle.sam_term.specs.Acting.{first_event}
 use Rattle.sam_term.specs.Editing.{typed_over, typed_runes, one_if, flushed_if}
 use Rattle.sam_term.specs.Locks.{is_command_line}

@@ -1,9 +1,9 @@
-use Rattle.std.proofs.Common.{◌≡◌, ◌≤◌, sym, ap, ◌∙◌, subst, length, None, List, ℕ}
+use Rattle.std.proofs.Common.{◌≤◌, sym, ap, ◌∙◌, subst, length, None, List, ℕ}
 use Rattle.std.specs.Prelude.{◌+◌, ◌-◌, option_copied}
 use Rattle.sam_runes.specs.Texts.{max_runes}
 use Rattle.sam_term.specs.Acting.{first_event}
 use Rattle.sam_term.specs.Editing.{typed_over, typed_runes}
-use Rattle.sam_term.specs.Term.{PlainTerminal, window_at, put_window}
+use Rattle.sam_term.specs.Term.{window_at, put_window}
 use Rattle.sam_term.specs.Sound.{IsSound, seen}
 use Rattle.sam_term.proofs.SlotSteps.{shut_known}
 use Rattle.sam_term.proofs.Acts.{first_is}

@@ -1,6 +1,6 @@
-use Rattle.std.proofs.Common.{◌≡◌, sym, ap, ◌∙◌, refl}
+use Rattle.std.proofs.Common.{sym, ap, ◌∙◌}
 use Rattle.std.specs.Prelude.{option_copied, ◌||◌}
-use Rattle.sam_term.specs.Term.{PlainTerminal, wanted}
+use Rattle.sam_term.specs.Term.{wanted}
 use Rattle.sam_term.specs.Editing.{shown_from}
 use Rattle.sam_term.specs.Sound.{seen}
 use Rattle.sam_term.proofs.Grows.{taken_rasp}
