@@ -1,1 +1,2 @@
 pub mod ShowLaws
+pub mod Replays

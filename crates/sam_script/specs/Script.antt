@@ -2,7 +2,6 @@
 use Rattle.std.specs.Prelude.{◌≤◌, ◌<◌, ℕ, List, [], ◌∷◌, length, flat_map}
 use Rattle.sam_runes.specs.Texts.{max_runes}
 use Rattle.sam_term.specs.declared.event.UserEvent.{UserEvent}
-use Rattle.sam_script.specs.declared.line.Line.{Line}
 use Rattle.sam_script.specs.declared.line.Line.TheVariants.{Key, Mouse}
 use Rattle.sam_script.specs.declared.line.Said.{Said}
 use Rattle.sam_script.specs.declared.line.Said.TheVariants as said

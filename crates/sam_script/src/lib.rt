@@ -4,12 +4,14 @@
 mod event;
 mod fault;
 mod line;
+mod replaying;
 mod script;
 mod showing;
 mod words;
 
 pub use fault::ScriptFault;
 pub use line::{Line, MOST_NAME, Numbered};
+pub use replaying::replay;
 pub use script::{MOST_FILES, Script};
 pub use showing::show;
 

@@ -1,0 +1,125 @@
+-- What a replay has printed, line by line.
+use Rattle.std.proofs.Common.{◌≡◌, refl, sym, ap, ◌∙◌, subst, ◌<◌, ◌≤◌, ◌+◌, ◌-◌, ℕ, zero, suc, Bool, true, false, List, [], ◌∷◌, ◌++◌, length, take, drop, All, Option, Some, None, Result, Ok, Err, slice_index_or, append_assoc, append-nil, arith}
+use Rattle.std.specs.Prelude.{IfSome, not, if◌then◌else◌, is_some}
+use Rattle.std.proofs.lemmas.List.Elements.{All-head, All-tail}
+use Rattle.sam_runes.specs.Texts.{RoomyText, is_empty}
+use Rattle.sam_host.specs.Given.{AreNames, given_of}
+use Rattle.sam_term.specs.Term.{act_of}
+use Rattle.sam_world.specs.World.{PlainWorld, next_event, acts, is_empty_take, drained}
+use Rattle.sam_world.specs.Faults.{IsDrainedUpTo}
+use Rattle.sam_world.specs.declared.event.Event.{Event}
+use Rattle.sam_world.specs.declared.event.Event.TheVariants.{Act, Flush, HostTake, TermTake}
+use Rattle.sam_world.specs.declared.event.StepFault.TheVariants.{NothingThere}
+use Rattle.sam_world.proofs.Runs.{advanced_none, drained_rest}
+use Rattle.sam_script.specs.Script.{IsFile}
+use Rattle.sam_script.specs.Replay.{after_line, printed_by, behind, and_on, replayed_from, IsStopOf}
+use Rattle.sam_script.specs.declared.line.Numbered.{Numbered}
+use Rattle.sam_script.specs.declared.fault.ScriptFault.{ScriptFault}
+use Rattle.sam_script.specs.declared.fault.ScriptFault.TheVariants as fault
+
+-- ---- a drain that finds nothing there
+
+rule : Bool → Bool → Bool → Bool → Option Event
+rule a b c d = if not a then Some HostTake else if not b then Some TermTake else if c then Some Act else if d then Some Flush else None
+
+never_empty : (v : PlainWorld) → IfSome (next_event v) (λ e. is_empty_take v e ≡ true) → next_event v ≡ None
+unfolding rule
+never_empty v f = go (is_empty v.up) (is_empty v.down) (acts (act_of v.term)) (is_some v.term.unsent) refl refl f
+  where
+    go : (a b c d : Bool) → a ≡ is_empty v.up → b ≡ is_empty v.down → IfSome (rule a b c d) (λ e. is_empty_take v e ≡ true) → rule a b c d ≡ None
+    go false b c d p q f =
+        let there : false ≡ true = p ∙ f in
+        absurd (cc)
+    go true false c d p q f =
+        let there : false ≡ true = q ∙ f in
+        absurd (cc)
+    go true true true d p q f =
+        let there : false ≡ true = f in
+        absurd (cc)
+    go true true false true p q f =
+        let there : false ≡ true = f in
+        absurd (cc)
+    go true true false false p q f = refl
+
+pub nothing_more : (n : ℕ) (w v : PlainWorld) → IsDrainedUpTo n w v NothingThere → v ≡ drained n w
+nothing_more n w v d =
+    let whole : d.done + (n - d.done) ≡ n = omega (arith, d.fewer) in
+    subst (λ k. v ≡ drained k w) whole (sym (drained_rest d.done (n - d.done) w v (sym d.leads) (advanced_none v (never_empty v d.fault))))
+
+-- ---- files
+
+pub given_more : (gs : List (List ℕ × RoomyText)) (g : List ℕ × RoomyText) → given_of (gs ++ g ∷ []) ≡ given_of gs ++ (g.0, g.1.runes) ∷ []
+given_more [] g = refl
+given_more (h ∷ gs) g = ap (λ xs. (h.0, h.1.runes) ∷ xs) (given_more gs g)
+
+pub names_more : (gs : List (List ℕ × RoomyText)) (g : List ℕ × RoomyText) → AreNames gs → length g.0 ≤ 64 → AreNames (gs ++ g ∷ [])
+names_more [] g names short = (short, tt)
+names_more (h ∷ gs) g names short = (names.0, names_more gs g names.1 short)
+
+pub file_there : (fs : List (List ℕ × List ℕ)) (i : ℕ) (d : List ℕ × List ℕ) → i < length fs → All IsFile fs → IsFile (slice_index_or fs i d)
+file_there [] i d within all = absurd (omega (arith, within))
+file_there (f ∷ fs) zero d within all = All-head IsFile f fs all
+file_there (f ∷ fs) (suc i) d within all = file_there fs i d (omega (arith, within)) (All-tail IsFile f fs all)
+
+pub take_more : {X : Type 0} (xs : List X) (i : ℕ) (d : X) → i < length xs → take (i + 1) xs ≡ take i xs ++ slice_index_or xs i d ∷ []
+take_more [] i d within = absurd (omega (arith, within))
+take_more (x ∷ xs) zero d within = refl
+take_more (x ∷ xs) (suc i) d within =
+    let one : suc (i + 1) ≡ suc i + 1 = omega arith in
+    subst (λ k. take k (x ∷ xs) ≡ x ∷ (take i xs ++ slice_index_or xs i d ∷ [])) one (ap (λ ys. x ∷ ys) (take_more xs i d (omega (arith, within))))
+
+-- ---- lines
+
+drop_at : {X : Type 0} (xs : List X) (i : ℕ) (d : X) → i < length xs → drop i xs ≡ slice_index_or xs i d ∷ drop (i + 1) xs
+drop_at [] i d within = absurd (omega (arith, within))
+drop_at (x ∷ xs) zero d within = refl
+drop_at (x ∷ xs) (suc i) d within =
+    let one : suc (i + 1) ≡ suc i + 1 = omega arith in
+    subst (λ k. drop i xs ≡ slice_index_or xs i d ∷ drop k (x ∷ xs)) one (drop_at xs i d (omega (arith, within)))
+
+behind_twice : (p q : List ℕ) (r : Result (List ℕ) ScriptFault) → behind p (behind q r) ≡ behind (p ++ q) r
+behind_twice p q (Ok out) = ap Ok (sym (append_assoc p q out))
+behind_twice p q (Err why) = refl
+
+-- a line more
+pub line_more : (all : Result (List ℕ) ScriptFault) (w v : PlainWorld) (before after : List ℕ) (ls : List Numbered) (i : ℕ) (d : Numbered) → i < length ls
+    → all ≡ behind before (replayed_from w (drop i ls))
+    → after_line (slice_index_or ls i d).number w (slice_index_or ls i d).line ≡ Ok v
+    → after ≡ before ++ printed_by w (slice_index_or ls i d).line
+    → all ≡ behind after (replayed_from v (drop (i + 1) ls))
+line_more all w v before after ls i d within so_far done printed =
+    so_far
+    ∙ ap (λ xs. behind before (replayed_from w xs)) (drop_at ls i d within)
+    ∙ ap (λ r. behind before (behind (printed_by w (slice_index_or ls i d).line) (and_on r (λ u. replayed_from u (drop (i + 1) ls))))) done
+    ∙ behind_twice before (printed_by w (slice_index_or ls i d).line) (replayed_from v (drop (i + 1) ls))
+    ∙ ap (λ out. behind out (replayed_from v (drop (i + 1) ls))) (sym printed)
+
+-- a line that cannot be done
+pub line_stops : (all : Result (List ℕ) ScriptFault) (w : PlainWorld) (before : List ℕ) (ls : List Numbered) (i : ℕ) (d : Numbered) (why : ScriptFault) → i < length ls
+    → all ≡ behind before (replayed_from w (drop i ls))
+    → IsStopOf (after_line (slice_index_or ls i d).number w (slice_index_or ls i d).line) why
+    → IsStopOf all why
+line_stops all w before ls i d why within so_far = go why
+  where
+    there : (k : ScriptFault) → after_line (slice_index_or ls i d).number w (slice_index_or ls i d).line ≡ Err k → all ≡ Err k
+    there k stop =
+        so_far
+        ∙ ap (λ xs. behind before (replayed_from w xs)) (drop_at ls i d within)
+        ∙ ap (λ r. behind before (behind (printed_by w (slice_index_or ls i d).line) (and_on r (λ u. replayed_from u (drop (i + 1) ls))))) stop
+
+    go : (k : ScriptFault) → IsStopOf (after_line (slice_index_or ls i d).number w (slice_index_or ls i d).line) k → IsStopOf all k
+    go (fault.Line n) stop = there _ stop
+    go fault.CountFull stop = tt
+    go fault.OutOfMemory stop = tt
+
+-- no line is left
+pub all_done : (all : Result (List ℕ) ScriptFault) (w : PlainWorld) (out : List ℕ) (ls : List Numbered) (i : ℕ) → length ls ≤ i
+    → all ≡ behind out (replayed_from w (drop i ls)) → all ≡ Ok out
+all_done all w out ls i past so_far =
+    so_far ∙ ap (λ xs. behind out (replayed_from w xs)) (none_left ls i past) ∙ ap Ok (append-nil out)
+  where
+    none_left : (xs : List Numbered) (k : ℕ) → length xs ≤ k → drop k xs ≡ []
+    none_left [] zero past = refl
+    none_left [] (suc k) past = refl
+    none_left (x ∷ xs) zero past = absurd (omega (arith, past))
+    none_left (x ∷ xs) (suc k) past = none_left xs k (omega (arith, past))

@@ -1,0 +1,61 @@
+-- What replaying a script prints.
+use Rattle.std.specs.Prelude.{◌≡◌, ℕ, if◌then◌else◌, List, [], ◌∷◌, ◌++◌, Option, Some, None, Result, Ok, Err}
+use Rattle.sam_world.specs.World.{PlainWorld, new_world, step_of, is_empty_take, drained}
+use Rattle.sam_world.specs.declared.event.Event.{Event}
+use Rattle.sam_world.specs.declared.event.Event.TheVariants as event
+use Rattle.sam_script.specs.Script.{PlainScript}
+use Rattle.sam_script.specs.Show.{show_lines}
+use Rattle.sam_script.specs.declared.line.Line.{Line}
+use Rattle.sam_script.specs.declared.line.Line.TheVariants.{Key, Mouse, Act, Flush, Host, Term, Drain, Show}
+use Rattle.sam_script.specs.declared.line.Numbered.{Numbered}
+use Rattle.sam_script.specs.declared.fault.ScriptFault.{ScriptFault}
+use Rattle.sam_script.specs.declared.fault.ScriptFault.TheVariants as fault
+
+-- a step that is not made, though it takes nothing from an empty list, would pass a count
+abbrev pub or_full : Option PlainWorld → Result PlainWorld ScriptFault
+or_full None = Err fault.CountFull
+or_full (Some v) = Ok v
+
+-- the world after the event of a line with this number
+abbrev pub stepped : ℕ → PlainWorld → Event → Result PlainWorld ScriptFault
+stepped number w e = if is_empty_take w e then Err (fault.Line number) else or_full (step_of w e)
+
+-- the world after a line
+abbrev pub after_line : ℕ → PlainWorld → Line → Result PlainWorld ScriptFault
+after_line number w (Key e) = stepped number w (event.User e)
+after_line number w (Mouse e) = stepped number w (event.User e)
+after_line number w Act = stepped number w event.Act
+after_line number w Flush = stepped number w event.Flush
+after_line number w Host = stepped number w event.HostTake
+after_line number w Term = stepped number w event.TermTake
+after_line number w Drain = Ok (drained 100000 w)
+after_line number w Show = Ok w
+
+-- what a line prints
+abbrev pub printed_by : PlainWorld → Line → List ℕ
+printed_by w Show = show_lines w
+printed_by w _ = []
+
+-- behind what was printed before
+abbrev pub behind : List ℕ → Result (List ℕ) ScriptFault → Result (List ℕ) ScriptFault
+behind before (Ok out) = Ok (before ++ out)
+behind before (Err why) = Err why
+
+abbrev pub and_on : Result PlainWorld ScriptFault → (PlainWorld → Result (List ℕ) ScriptFault) → Result (List ℕ) ScriptFault
+and_on (Ok v) rest = rest v
+and_on (Err why) rest = Err why
+
+-- what lines print, one after another, up to the first that cannot be done
+abbrev pub replayed_from : PlainWorld → List Numbered → Result (List ℕ) ScriptFault
+replayed_from w [] = Ok []
+replayed_from w (numbered ∷ more) =
+    behind (printed_by w numbered.line) (and_on (after_line numbered.number w numbered.line) (λ v. replayed_from v more))
+
+-- what a script prints, over the first world of its files
+unfoldable pub replayed : PlainScript → Result (List ℕ) ScriptFault
+replayed script = replayed_from (new_world script.files) script.lines
+
+-- a wrong line is the first that cannot be done
+abbrev pub IsStopOf : {A : Type 0} → Result A ScriptFault → ScriptFault → Type 0
+IsStopOf replay (fault.Line number) = replay ≡ Err (fault.Line number)
+IsStopOf replay _ = Unit {0}

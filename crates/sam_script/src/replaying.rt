@@ -1,0 +1,116 @@
+//! A script's lines, done one after another over a world of its files.
+
+ghost use Rattle.std.specs.Prelude.{◌≡◌, ◌≤◌, ◌++◌, ◌⊎◌, Ok, Err, IfOk, IfErr, OnOk, All, length, string_bytes};
+ghost use Rattle.sam_world.specs.World.{new_world, drained};
+ghost use Rattle.sam_script.specs.Script.{IsFile};
+ghost use Rattle.sam_script.specs.Replay.{after_line, printed_by, stepped, replayed, IsStopOf};
+
+use crate::fault::ScriptFault;
+use crate::line::{Line, Numbered};
+use crate::script::Script;
+use crate::showing::push_world;
+use sam_runes::{Runes, Text};
+use sam_world::event::{Event, StepFault};
+use sam_world::world::World;
+use std::alloc::Global;
+
+/// Does the lines of a script one after another, over a world of its files that begins anew, and answers what its `show` lines print. A
+/// `host` or `term` line with nothing there is the fault `Line`. `CountFull` is answered only where a side has counted 2^64-1 messages.
+#[tactic(auto, unfolding(crate::specs::Replay::replayed))]
+pub fn replay(alloc: Global, script: &Script) -> Result<Vec<u8>, ScriptFault>
+    ensures ok { IfOk result (λ out. replayed script.now ≡ Ok out.items) }
+    ensures stopped { IfErr result (λ why. IsStopOf (replayed script.now) why) }
+{
+    let Ok(mut world) = first_world(alloc, script.files()) else {
+        return Err(ScriptFault::OutOfMemory);
+    };
+    let mut out = String::new(alloc);
+    for numbered in script.lines() {
+        match do_line(alloc, &mut world, &mut out, numbered) {
+            Ok(()) => {}
+            Err(fault) => return Err(fault),
+        }
+    }
+    Ok(out.into_bytes())
+}
+
+/// The first world of files of these names and texts.
+fn first_world(alloc: Global, files: &[(Runes, Runes)]) -> Result<World, ScriptFault>
+    requires count { length files.now ≤ 65535 }
+    requires each { All IsFile files.now }
+    ensures ok { IfOk result (λ world. world ≡ new_world files.now) }
+    ensures memory { IfErr result (λ why. why ≡ ScriptFault.OutOfMemory) }
+{
+    let mut given = Vec::new(alloc);
+    for file in files {
+        let Ok(name) = file.0.copy(alloc) else {
+            return Err(ScriptFault::OutOfMemory);
+        };
+        let Ok(text) = Text::from_runes(alloc, file.1.as_slice()) else {
+            return Err(ScriptFault::OutOfMemory);
+        };
+        let Ok(()) = given.push((name, text)) else {
+            return Err(ScriptFault::OutOfMemory);
+        };
+    }
+    match World::new(alloc, given) {
+        Ok(world) => Ok(world),
+        Err(_) => Err(ScriptFault::OutOfMemory),
+    }
+}
+
+/// Does what a line says.
+fn do_line(
+    alloc: Global,
+    world: &mut World,
+    out: &mut String,
+    numbered: &Numbered,
+) -> Result<(), ScriptFault>
+    ensures done { OnOk result (after_line numbered.now.number world.old numbered.now.line ≡ Ok world.new) }
+    ensures printed { OnOk result (string_bytes out.new ≡ string_bytes out.old ++ printed_by world.old numbered.now.line) }
+    ensures stopped { IfErr result (λ why. IsStopOf (after_line numbered.now.number world.old numbered.now.line) why) }
+{
+    match &numbered.line {
+        Line::Key(event) | Line::Mouse(event) => match event.copy(alloc) {
+            Ok(event) => do_step(world, numbered.number, Event::User(event)),
+            Err(_) => Err(ScriptFault::OutOfMemory),
+        },
+        Line::Act => do_step(world, numbered.number, Event::Act),
+        Line::Flush => do_step(world, numbered.number, Event::Flush),
+        Line::Host => do_step(world, numbered.number, Event::HostTake),
+        Line::Term => do_step(world, numbered.number, Event::TermTake),
+        Line::Drain => do_drain(world),
+        Line::Show => match push_world(out, world) {
+            Ok(()) => Ok(()),
+            Err(_) => Err(ScriptFault::OutOfMemory),
+        },
+    }
+}
+
+/// Makes the event of a line happen.
+fn do_step(world: &mut World, number: usize, event: Event) -> Result<(), ScriptFault>
+    ensures done { OnOk result (stepped number world.old event ≡ Ok world.new) }
+    ensures stopped { IfErr result (λ why. IsStopOf (stepped number world.old event) why) }
+{
+    match world.step(event) {
+        Ok(()) => Ok(()),
+        Err(StepFault::NothingThere) => Err(ScriptFault::Line(number)),
+        Err(StepFault::CountFull) => Err(ScriptFault::CountFull),
+        Err(StepFault::OutOfMemory) => Err(ScriptFault::OutOfMemory),
+    }
+}
+
+/// Makes happen what can happen without the user.
+#[tactic(auto, using(crate::proofs::Replays::nothing_more))]
+fn do_drain(world: &mut World) -> Result<(), ScriptFault>
+    ensures done { OnOk result (world.new ≡ drained 100000 world.old) }
+    ensures stopped { IfErr result (λ why. (result ≡ Err ScriptFault.CountFull) ⊎ (result ≡ Err ScriptFault.OutOfMemory)) }
+{
+    match world.drain() {
+        Ok(()) => Ok(()),
+        // The rule names a take only where something is there: then nothing more can happen.
+        Err(StepFault::NothingThere) => Ok(()),
+        Err(StepFault::CountFull) => Err(ScriptFault::CountFull),
+        Err(StepFault::OutOfMemory) => Err(ScriptFault::OutOfMemory),
+    }
+}
