@@ -4,3 +4,4 @@ pub mod Outcome
 pub mod Pieces
 pub mod Status
 pub mod Words
+pub mod Replaying

@@ -4,18 +4,21 @@ use Rattle.std.specs.Str.{bytes_eq, encode_utf8_all}
 use Rattle.sam_runes.specs.Texts.{max_runes}
 use Rattle.clap.specs.Words.{App, Row, Rule, Text, first_of, new_app, new_rule, subcommand_of, with_rule, with_subcommand}
 use Rattle.sam_session.specs.declared.words.Mode.{Mode}
-use Rattle.sam_session.specs.declared.words.Mode.TheVariants.{Bytes}
+use Rattle.sam_session.specs.declared.words.Mode.TheVariants.{Bytes, Replay}
 
 -- an option `--name` that takes one value, or else this one
 abbrev pub option_of : Text → Text → Rule
 option_of name default = record (new_rule name) { long = Some name; defaults = default ∷ [] }
 
--- the program: `bytes [--text TEXT]`
+-- the program: `bytes [--text TEXT]`, or `replay`
 abbrev pub bytes_app : App
 bytes_app = with_rule (new_app (codes "bytes")) (option_of (codes "text") [])
 
+abbrev pub replay_app : App
+replay_app = new_app (codes "replay")
+
 abbrev pub program : App
-program = with_subcommand (new_app (codes "sam_play")) bytes_app.top
+program = with_subcommand (with_subcommand (new_app (codes "sam_play")) bytes_app.top) replay_app.top
 
 -- `--text TEXT` as the one word `--text=TEXT`, so that TEXT is taken as it stands; `waits` says that
 -- the word before was `--text`
@@ -37,6 +40,7 @@ abbrev pub HoldsMode : Option (Text × List Row) → Mode → Type 0
 HoldsMode None mode = ⊥
 HoldsMode (Some p) (Bytes text) =
     (p.0 ≡ codes "bytes") × (first_of (codes "text") p.1 ≡ Some (encode_utf8_all text)) × (length text ≤ max_runes)
+HoldsMode (Some p) Replay = p.0 ≡ codes "replay"
 
 -- the mode holds the values of clap's matches of the words
 abbrev pub IsModeOf : List Text → Mode → Type 0
@@ -45,3 +49,9 @@ IsModeOf words mode = HoldsMode (subcommand_of program (attached words)) mode
 -- what holds of the text of mode `bytes`
 abbrev pub OnBytes : Mode → (List ℕ → Type 0) → Type 0
 OnBytes (Bytes text) P = P text
+OnBytes Replay P = Unit {0}
+
+-- what holds of mode `replay`
+abbrev pub OnReplay : Mode → Type 0 → Type 0
+OnReplay Replay P = P
+OnReplay (Bytes text) P = Unit {0}

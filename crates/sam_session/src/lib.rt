@@ -6,8 +6,10 @@ mod bytes;
 mod fault;
 mod law;
 mod reading;
+mod replaying;
 mod run;
 mod start;
+mod whole;
 mod words;
 
 pub use bytes::play_bytes;

@@ -16,6 +16,8 @@ use thiserror::Error;
 pub enum Mode {
     /// Frames of the terminal in, answering frames out, over a host whose file 1 holds this text, of at most `MAX_RUNES` runes.
     Bytes(Runes),
+    /// A script in, what its `show` lines print out.
+    Replay,
 }
 
 /// Why the words name no mode.
@@ -98,7 +100,10 @@ fn command<'a>(alloc: Global) -> Result<Command<'a>, AllocError>
     ensures { IfOk result (λ c. app_of c ≡ program) }
 {
     let bytes = Command::new(alloc, "bytes").arg(option_named(alloc, "text", ""))?;
-    Command::new(alloc, "sam_play").subcommand(bytes)
+    let replay = Command::new(alloc, "replay");
+    Command::new(alloc, "sam_play")
+        .subcommand(bytes)?
+        .subcommand(replay)
 }
 
 /// The mode that the matches hold.
@@ -110,6 +115,9 @@ fn mode_in(alloc: Global, matches: &ArgMatches<'_>) -> Result<Mode, ArgFault>
     };
     if name == "bytes" {
         return Ok(Mode::Bytes(text_in(alloc, inner)?));
+    }
+    if name == "replay" {
+        return Ok(Mode::Replay);
     }
     Err(ArgFault::Wrong)
 }

@@ -10,4 +10,5 @@ top a = a.top
 pub returns : goal.returns
 returns c =
     let bytes_is : app_of c.in_ok-bytes.bytes ≡ bytes_app = c.in_ok-bytes.ensures.shape (search rules) ∙ ap₂ with_rule c.new.ensures.app c.option_named.ensures.rule in
-    IfOk-weaker c.subcommand.result _ _ (λ m h. h.shape (search rules) ∙ ap₂ with_subcommand c.new-2.ensures.app (ap top bytes_is)) c.subcommand.ensures
+    let first_is = c.in_ok-subcommand.ensures.shape (search rules) ∙ ap₂ with_subcommand c.new-2.ensures.app (ap top bytes_is) in
+    IfOk-weaker c.subcommand-2.result _ _ (λ m h. h.shape (search rules) ∙ ap₂ with_subcommand first_is (ap top c.new-replay.ensures.app)) c.subcommand-2.ensures
