@@ -25,6 +25,7 @@ fn words_name_a_mode(rt: HostRuntime) -> Result<(), Fail> {
         ("sam_play|bytes|--text|--text", Some("--text")),
         ("sam_play|bytes|--text|", Some("")),
         ("sam_play|fly", None),
+        ("sam_play|replay|x", None),
         ("sam_play|--help", None),
         ("sam_play|bytes|--help", None),
         ("sam_play|bytes|--text", None),
@@ -278,4 +279,57 @@ fn one_byte_too_many(rt: HostRuntime) {
         play_bytes(alloc, &mut more, &mut sink, &[]),
         Err(PlayFault::Read)
     );
+}
+
+/// What the program prints of a script, with its end.
+fn replayed(alloc: Global, script: &str) -> (Vec<u8>, Result<(), PlayFault>) {
+    let mut reader = script.as_bytes();
+    let mut writer = Vec::new(alloc);
+    let end = play(alloc, &mut reader, &mut writer, Mode::Replay);
+    (writer, end)
+}
+
+#[test]
+fn scripts_and_what_they_print(rt: HostRuntime) {
+    let wanted = [
+        ("", "", Ok(())),
+        ("host\n", "= fault script 1\n", Err(PlayFault::Script(1))),
+        (
+            "show\nfly\n",
+            "= fault script 2\n",
+            Err(PlayFault::Script(2)),
+        ),
+        (
+            "file a hello\\n\nk version 1\nk opencmd\nk open 1\nk type 1 X\nk type 0 ,x/l/d\\n\nm flush\nk exit\ndrain\nshow\n",
+            "= h 0 o c ~~sam~~ |,x/l/d\\n|\n= h 1 o d a |Xheo\\n|\n= t 0 0 7 7 |,x/l/d\\n|\n= t 1 0 0 5 |X\\_\\_\\_\\_|\n= s 0 7 7 0 0 0\n",
+            Ok(()),
+        ),
+        (
+            "file a abcdefghij\nk version 1\nk open 1\nk view 1 0 5\ndrain\nk select 1 0 2\nk cut 1\nk check 1\nk exit\nact\nact\nact\nact\ndrain\nshow\n",
+            "= h 0 - c ~~sam~~ ||\n= h 1 o d a |cdefghij|\n= t 1 0 0 0 |cde\\_\\_\\_\\_\\_|\n= s 0 9 9 0 0 0\n",
+            Ok(()),
+        ),
+        (
+            "file a ab\nk version 1\nk open 1\nact\nshow\ndrain\nshow\n",
+            "= h 0 - c ~~sam~~ ||\n= h 1 - c a |ab|\n= s 1 1 0 0 1 0\n= h 0 - c ~~sam~~ ||\n= h 1 o c a |ab|\n= t 1 0 0 0 |\\_\\_|\n= s 0 3 3 0 0 0\n",
+            Ok(()),
+        ),
+        (
+            "file a abab\nfile b cd\nk version 1\nk open 1\nk open 2\ndrain\nk select 1 0 2\nk look 1\nk type 2 X\nact\nact\nact\nshow\ndrain\nshow\n",
+            "= h 0 - c ~~sam~~ ||\n= h 1 o c a |abab|\n= h 2 o c b |cd|\n= t 1 1 0 2 |\\_\\_\\_\\_|\n= t 2 0 1 1 |X\\_\\_|\n= s 0 5 4 1 1 0\n= h 0 - c ~~sam~~ ||\n= h 1 o c a |abab|\n= h 2 o d b |Xcd|\n= t 1 0 2 4 |\\_\\_\\_\\_|\n= t 2 0 1 1 |X\\_\\_|\n= s 0 6 6 0 0 0\n",
+            Ok(()),
+        ),
+    ];
+    for (script, printed, end) in wanted {
+        let (written, ended) = replayed(rt.alloc(), script);
+        assert_eq!(rt; ended, end, "{script}");
+        assert_eq!(rt; written.as_slice(), printed.as_bytes(), "{script}");
+    }
+}
+
+#[test]
+fn the_word_of_a_replay(rt: HostRuntime) -> Result<(), Fail> {
+    let mode = mode_of(rt.alloc(), words_of(rt.alloc(), "sam_play|replay")?);
+    assert!(rt; matches!(mode, Ok(Mode::Replay)));
+    Ok(())
 }
