@@ -131,23 +131,21 @@ impl Full {
 
 impl Read for Full {
     fn read(&mut self, buffer: &mut [u8]) -> io::Result<usize> {
-        let mut count = 0;
-        for byte in buffer.iter_mut() {
+        for place in 0..buffer.len() {
             if self.given >= self.len {
-                break;
+                return Ok(place);
             }
-            *byte = self.byte(self.given);
+            buffer[place] = self.byte(self.given);
             self.given += 1;
-            count += 1;
         }
-        Ok(count)
+        Ok(buffer.len())
     }
 }
 
 /// The bytes of a row, written as hexadecimal digits and blanks.
 fn bytes_of(alloc: Global, row: &str) -> Result<Vec<u8>, Fail> {
     let mut bytes = Vec::new(alloc);
-    let mut high = None;
+    let mut high: Option<u8> = None;
     for c in row.chars() {
         let Some(digit) = c.to_digit(16) else {
             continue;
@@ -155,7 +153,7 @@ fn bytes_of(alloc: Global, row: &str) -> Result<Vec<u8>, Fail> {
         match high {
             None => high = Some(digit as u8),
             Some(first) => {
-                bytes.push(first * 16 + digit as u8)?;
+                bytes.push(first.wrapping_mul(16).wrapping_add(digit as u8))?;
                 high = None;
             }
         }
