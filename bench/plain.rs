@@ -8,6 +8,7 @@ mod editing;
 mod host;
 mod loading;
 mod queue;
+mod replay;
 mod sample;
 mod typing;
 
@@ -37,6 +38,7 @@ fn main() {
     let [_, job, size, ..] = words.as_slice() else { return };
     match job.as_str() {
         "play" => return host::play(size).expect("input and output"),
+        "replay" => return replay::replay().expect("a script, and output"),
         "frames" => {
             let bytes = host::frames(size.parse().expect("a size"));
             return std::io::stdout().write_all(&bytes).expect("output");

@@ -9,7 +9,7 @@ use sam_runes::{Runes, Text};
 use std::alloc::Global;
 
 /// Whether the readers tell the same of both.
-fn is_same_host(host: &Host, other: &Host) -> bool {
+pub fn is_same_host(host: &Host, other: &Host) -> bool {
     host.taken() == other.taken()
         && host.is_done() == other.is_done()
         && host.version() == other.version()

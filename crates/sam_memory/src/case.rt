@@ -1,7 +1,7 @@
 //! The cases by their names.
 
 use crate::setup::Tried;
-use crate::{answers, codec, events, framing, gaps, lines, queue};
+use crate::{answers, codec, events, framing, gaps, lines, queue, worlds};
 use std::alloc::Global;
 use std::sync::Wait;
 
@@ -27,12 +27,14 @@ pub enum Case {
     ActPaste,
     ActType,
     ReceiveCheck,
+    Step,
+    Merge,
     Audit,
 }
 
 impl Case {
     /// All cases, in the order in which they run.
-    pub const ALL: [Case; 20] = [
+    pub const ALL: [Case; 22] = [
         Case::EncodeT,
         Case::EncodeH,
         Case::DecodeT,
@@ -52,6 +54,8 @@ impl Case {
         Case::ActPaste,
         Case::ActType,
         Case::ReceiveCheck,
+        Case::Step,
+        Case::Merge,
         Case::Audit,
     ];
 
@@ -77,6 +81,8 @@ impl Case {
             Case::ActPaste => "act_paste",
             Case::ActType => "act_type",
             Case::ReceiveCheck => "receive_check",
+            Case::Step => "step",
+            Case::Merge => "merge",
             Case::Audit => "audit",
         }
     }
@@ -103,6 +109,8 @@ impl Case {
             Case::ActPaste => events::act_paste(alloc),
             Case::ActType => events::act_type(alloc),
             Case::ReceiveCheck => events::receive_check(alloc),
+            Case::Step => worlds::step(alloc),
+            Case::Merge => worlds::merge_takes(alloc),
             Case::Audit => queue::audit_one(rt, alloc),
         }
     }

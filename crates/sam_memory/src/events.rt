@@ -27,7 +27,7 @@ fn is_same_window(terminal: &Terminal, other: &Terminal, tag: u16) -> bool {
 }
 
 /// Whether the readers tell the same of both.
-fn is_same_terminal(terminal: &Terminal, other: &Terminal) -> bool {
+pub fn is_same_terminal(terminal: &Terminal, other: &Terminal) -> bool {
     for tag in 0..TAGS {
         if !is_same_window(terminal, other, tag) {
             return false;
@@ -128,7 +128,8 @@ fn to_fill(alloc: Global) -> Result<Terminal, SetUp> {
     Ok(terminal)
 }
 
-fn part_shows(terminal: &Terminal, tag: u16, shown: &str) -> bool {
+/// Whether the part of the file is the shown one, in which `_` stands for a gap.
+pub fn part_shows(terminal: &Terminal, tag: u16, shown: &str) -> bool {
     match terminal.rasp(tag) {
         Some(part) => shows(part, shown),
         None => false,

@@ -15,6 +15,7 @@ mod gaps;
 mod lines;
 mod queue;
 mod setup;
+mod worlds;
 
 use case::Case;
 use setup::SetUp;

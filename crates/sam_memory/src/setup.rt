@@ -8,6 +8,7 @@ use sam_rasp::RaspFault;
 use sam_runes::{Runes, TextFault};
 use sam_term::TermFault;
 use sam_text::FilesFault;
+use sam_world::StepFault;
 use std::alloc::{AllocError, AllocFailed, Global};
 
 /// The start of a case was refused, so that nothing is known of its call: the case is to be tried again.
@@ -67,6 +68,12 @@ impl From<HostFault> for SetUp {
 
 impl From<TermFault> for SetUp {
     fn from(_fault: TermFault) -> SetUp {
+        SetUp
+    }
+}
+
+impl From<StepFault> for SetUp {
+    fn from(_fault: StepFault) -> SetUp {
         SetUp
     }
 }

@@ -6,6 +6,8 @@ use std::alloc::AllocError;
 use std::env::Env;
 use std::io::{BufWriter, ErrorKind, Write};
 use std::process::ExitCode;
+use std::sync::Wait;
+use std::thread::Threads;
 use std::{env, io};
 
 /// What the program could not do.
@@ -48,14 +50,14 @@ fn main(rt: HostRuntime) -> ExitCode {
 }
 
 /// Runs the mode that the words name, over standard input and output.
-fn run<R: Input + Print + Env + AllocGlobal>(rt: &R) -> Result<(), Fault> {
+fn run<R: Input + Print + Env + AllocGlobal + Threads + Wait + Sync>(rt: &R) -> Result<(), Fault> {
     let alloc = rt.alloc();
     let Ok(mut writer) = BufWriter::new(alloc, io::writer(rt)) else {
         return Err(Fault::Memory);
     };
     let mode = mode_of(alloc, words(rt)?)?;
     let mut reader = rt.reader();
-    let played = play(alloc, &mut reader, &mut writer, mode);
+    let played = play(rt, alloc, &mut reader, &mut writer, mode);
     if writer.flush().is_err() {
         return Err(Fault::Play(PlayFault::Write));
     }

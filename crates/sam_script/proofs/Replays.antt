@@ -52,6 +52,10 @@ pub given_more : (gs : List (List ℕ × RoomyText)) (g : List ℕ × RoomyText)
 given_more [] g = refl
 given_more (h ∷ gs) g = ap (λ xs. (h.0, h.1.runes) ∷ xs) (given_more gs g)
 
+pub given_many : (gs : List (List ℕ × RoomyText)) → length gs ≡ length (given_of gs)
+given_many [] = refl
+given_many (g ∷ gs) = ap suc (given_many gs)
+
 pub names_more : (gs : List (List ℕ × RoomyText)) (g : List ℕ × RoomyText) → AreNames gs → length g.0 ≤ 64 → AreNames (gs ++ g ∷ [])
 names_more [] g names short = (short, tt)
 names_more (h ∷ gs) g names short = (names.0, names_more gs g names.1 short)

@@ -1,3 +1,4 @@
 pub mod Script
 pub mod Show
 pub mod Replay
+pub mod RunLines

@@ -4,6 +4,7 @@
 mod event;
 mod fault;
 mod line;
+mod lines_of_run;
 mod replaying;
 mod script;
 mod showing;
@@ -11,7 +12,8 @@ mod words;
 
 pub use fault::ScriptFault;
 pub use line::{Line, MOST_NAME, Numbered};
-pub use replaying::replay;
+pub use lines_of_run::run_lines;
+pub use replaying::{first_world, given_files, replay};
 pub use script::{MOST_FILES, Script};
 pub use showing::show;
 

@@ -1,6 +1,7 @@
 //! A script's lines, done one after another over a world of its files.
 
 ghost use Rattle.std.specs.Prelude.{◌≡◌, ◌≤◌, ◌++◌, ◌⊎◌, Ok, Err, IfOk, IfErr, OnOk, All, length, string_bytes};
+ghost use Rattle.sam_host.specs.Given.{AreNames, given_of};
 ghost use Rattle.sam_world.specs.World.{new_world, drained};
 ghost use Rattle.sam_script.specs.Script.{IsFile};
 ghost use Rattle.sam_script.specs.Replay.{after_line, printed_by, stepped, replayed, IsStopOf};
@@ -9,10 +10,10 @@ use crate::fault::ScriptFault;
 use crate::line::{Line, Numbered};
 use crate::script::Script;
 use crate::showing::push_world;
-use sam_runes::{Runes, Text};
+use sam_runes::{Runes, Text, TextFault};
 use sam_world::event::{Event, StepFault};
 use sam_world::world::World;
-use std::alloc::Global;
+use std::alloc::{AllocError, Global};
 
 /// Does the lines of a script one after another, over a world of its files that begins anew, and answers what its `show` lines print. A
 /// `host` or `term` line with nothing there is the fault `Line`. `CountFull` is answered only where a side has counted 2^64-1 messages.
@@ -34,25 +35,38 @@ pub fn replay(alloc: Global, script: &Script) -> Result<Vec<u8>, ScriptFault>
     Ok(out.into_bytes())
 }
 
+/// Copies of files as a host takes them: names and texts.
+pub fn given_files(
+    alloc: Global,
+    files: &[(Runes, Runes)],
+) -> Result<Vec<(Runes, Text)>, AllocError>
+    requires each { All IsFile files.now }
+    ensures given { IfOk result (λ given. given_of given.items ≡ files.now) }
+    ensures names { IfOk result (λ given. AreNames given.items) }
+{
+    let mut given = Vec::new(alloc);
+    for file in files {
+        let name = file.0.copy(alloc)?;
+        let text = match Text::from_runes(alloc, file.1.as_slice()) {
+            Ok(text) => text,
+            Err(TextFault::TooLong) => unreachable!(),
+            Err(TextFault::OutOfMemory) => return Err(AllocError),
+        };
+        given.push((name, text))?;
+    }
+    Ok(given)
+}
+
 /// The first world of files of these names and texts.
-fn first_world(alloc: Global, files: &[(Runes, Runes)]) -> Result<World, ScriptFault>
+pub fn first_world(alloc: Global, files: &[(Runes, Runes)]) -> Result<World, ScriptFault>
     requires count { length files.now ≤ 65535 }
     requires each { All IsFile files.now }
     ensures ok { IfOk result (λ world. world ≡ new_world files.now) }
     ensures memory { IfErr result (λ why. why ≡ ScriptFault.OutOfMemory) }
 {
-    let mut given = Vec::new(alloc);
-    for file in files {
-        let Ok(name) = file.0.copy(alloc) else {
-            return Err(ScriptFault::OutOfMemory);
-        };
-        let Ok(text) = Text::from_runes(alloc, file.1.as_slice()) else {
-            return Err(ScriptFault::OutOfMemory);
-        };
-        let Ok(()) = given.push((name, text)) else {
-            return Err(ScriptFault::OutOfMemory);
-        };
-    }
+    let Ok(given) = given_files(alloc, files) else {
+        return Err(ScriptFault::OutOfMemory);
+    };
     match World::new(alloc, given) {
         Ok(world) => Ok(world),
         Err(_) => Err(ScriptFault::OutOfMemory),

@@ -135,13 +135,13 @@ fn push_term_line(out: &mut String, tag: usize, window: &Window) -> Result<(), A
     push(out, "|\n")
 }
 
-fn push(out: &mut String, text: &str) -> Result<(), AllocError>
+pub(crate) fn push(out: &mut String, text: &str) -> Result<(), AllocError>
     ensures { OnOk result (string_bytes out.new ≡ string_bytes out.old ++ text.now) }
 {
     out.push_str(text)
 }
 
-fn push_text(out: &mut String, text: &[char]) -> Result<(), AllocError>
+pub(crate) fn push_text(out: &mut String, text: &[char]) -> Result<(), AllocError>
     ensures { OnOk result (string_bytes out.new ≡ string_bytes out.old ++ text_shown text.now) }
 {
     for rune in text {

@@ -1,4 +1,6 @@
 use super::*;
+use sam_world::event::Event;
+use std::alloc::{AllocError, Global};
 
 #[test]
 fn the_first_wrong_line_is_the_fault(rt: HostRuntime) {
@@ -41,4 +43,72 @@ fn the_first_wrong_line_is_the_fault(rt: HostRuntime) {
     }
     let cut = Script::read(rt.alloc(), b"show\n# \xC3");
     assert!(rt; matches!(cut, Err(ScriptFault::Line(2))));
+}
+
+/// A line of each kind, as a run is written down.
+const EACH_KIND: &str = "file a\\b é\\\\\\n|\n\
+    file - \n\
+    k type 1 X y\\n\n\
+    k type 0 \n\
+    k select 65535 4294967295 0\n\
+    k cut 1\n\
+    k paste 2\n\
+    k snarf 3\n\
+    k look 4\n\
+    k search 5\n\
+    k send 6\n\
+    k dclick 7 8\n\
+    k scroll 9 10\n\
+    k view 11 12 13\n\
+    k open 14\n\
+    k close 15\n\
+    k write 16\n\
+    k work 17\n\
+    k opencmd\n\
+    k new\n\
+    k exit\n\
+    k check 18\n\
+    k getsnarf\n\
+    k setsnarf \\\\ \n\
+    k version 1\n\
+    k flush\n\
+    act\n\
+    flush\n\
+    host\n\
+    term\n\
+    show\n";
+
+/// The events of a script's lines, as far as they are events.
+fn events_of(alloc: Global, script: &Script) -> Result<Vec<Event>, AllocError> {
+    let mut events = Vec::new(alloc);
+    for numbered in script.lines() {
+        match &numbered.line {
+            Line::Key(e) => events.push(Event::User(e.copy(alloc)?))?,
+            Line::Act => events.push(Event::Act)?,
+            Line::Flush => events.push(Event::Flush)?,
+            Line::Host => events.push(Event::HostTake)?,
+            Line::Term => events.push(Event::TermTake)?,
+            Line::Mouse(_) | Line::Drain | Line::Show => {}
+        }
+    }
+    Ok(events)
+}
+
+/// The script as it is written down, read and written down again.
+fn written_again(alloc: Global, text: &str) -> Result<Vec<u8>, ScriptFault> {
+    let script = Script::read(alloc, text.as_bytes())?;
+    let events = events_of(alloc, &script)?;
+    run_lines(alloc, &script, events.as_slice())
+}
+
+#[test]
+fn lines_of_a_run_are_read_as_its_events(rt: HostRuntime) {
+    let exit = "k exit\nact\nhost\nterm\nshow\n";
+    for text in ["show\n", exit, EACH_KIND] {
+        let written = written_again(rt.alloc(), text);
+        assert!(rt;
+            matches!(&written, Ok(bytes) if bytes.as_slice() == text.as_bytes()),
+            "at {text:?}"
+        );
+    }
 }

@@ -1,3 +1,5 @@
 pub mod Serving
 pub mod Playing
 pub mod Unique
+pub mod Numbers
+pub mod Unstopped

@@ -18,8 +18,8 @@ use Rattle.sam_session.specs.Start.{host_of}
 use Rattle.sam_session.specs.Serving.{Served, serve}
 use Rattle.sam_session.specs.Outcome.{refusal_number, frame_number, Stops, stop_at, Plays, Written, OnSide}
 use Rattle.sam_session.specs.Pieces.{Answers, Refuses, AnswersBefore, HaltsBefore, Halts, MayEnd, PieceAnswers, PieceStops}
-use Rattle.sam_session.specs.declared.fault.Stop.{Stop}
-use Rattle.sam_session.specs.declared.fault.Stop.TheVariants.{Frame, Host}
+use Rattle.sam_threads.specs.declared.stop.Stop.{Stop}
+use Rattle.sam_threads.specs.declared.stop.Stop.TheVariants.{Frame, Host}
 use Rattle.sam_session.specs.declared.fault.PlayFault.{PlayFault}
 use Rattle.sam_session.specs.declared.fault.PlayFault.TheVariants.{Script, Read, Write, Side, Threads, OutOfMemory}
 use Rattle.sam_session.proofs.Serving.{serve-append, serve-sound}

@@ -8,8 +8,8 @@ use Rattle.sam_host.specs.Host.{PlainHost}
 use Rattle.sam_host.specs.declared.fault.HostFault.{HostFault}
 use Rattle.sam_session.specs.Serving.{Served, serve}
 use Rattle.sam_session.specs.Outcome.{Plays, Stops, stop_at, refusal_number}
-use Rattle.sam_session.specs.declared.fault.Stop.{Stop}
-use Rattle.sam_session.specs.declared.fault.Stop.TheVariants.{Host}
+use Rattle.sam_threads.specs.declared.stop.Stop.{Stop}
+use Rattle.sam_threads.specs.declared.stop.Stop.TheVariants.{Host}
 use Rattle.sam_session.proofs.Serving.{serve-refused}
 
 -- the stop of a refusal

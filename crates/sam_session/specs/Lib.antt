@@ -5,3 +5,4 @@ pub mod Pieces
 pub mod Status
 pub mod Words
 pub mod Replaying
+pub mod Threading

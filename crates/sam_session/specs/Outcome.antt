@@ -10,29 +10,12 @@ use Rattle.sam_host.specs.declared.fault.HostFault.TheVariants as refusal
 use Rattle.sam_frame.specs.Direction.{terminal}
 use Rattle.sam_frame.specs.Stream.{Splits, version_after}
 use Rattle.sam_frame.specs.Splitting.{Ends}
+pub use Rattle.sam_threads.specs.Numbers.{refusal_number, frame_number}
 use Rattle.sam_session.specs.Serving.{serve}
-use Rattle.sam_session.specs.declared.fault.Stop.{Stop}
-use Rattle.sam_session.specs.declared.fault.Stop.TheVariants.{Frame, Host}
+use Rattle.sam_threads.specs.declared.stop.Stop.{Stop}
+use Rattle.sam_threads.specs.declared.stop.Stop.TheVariants.{Frame, Host}
 use Rattle.sam_session.specs.declared.fault.PlayFault.{PlayFault}
 use Rattle.sam_session.specs.declared.fault.PlayFault.TheVariants.{Script, Side, Threads}
-
--- the number of a refusal of the host
-abbrev pub refusal_number : HostFault → ℕ
-refusal_number refusal.NoFile = 1
-refusal_number refusal.NotOpen = 2
-refusal_number refusal.BadPosition = 3
-refusal_number refusal.TooLong = 4
-refusal_number refusal.BadVersion = 5
-refusal_number refusal.CountFull = 6
-refusal_number refusal.OutOfMemory = 7
-refusal_number refusal.CommandFile = 8
-
--- the number of a fault of a frame
-abbrev pub frame_number : MesgFault → ℕ
-frame_number wrong.BadKind = 1
-frame_number wrong.BadLength = 2
-frame_number wrong.BadText = 3
-frame_number wrong.OutOfMemory = 6
 
 -- what stops the program behind the last message: the fault that the rest shows, or half a frame at the end of the input
 abbrev pub stop_at : Option MesgFault → List ℕ → Option Stop

@@ -4,7 +4,7 @@ use Rattle.sam_script.specs.Script.{PlainScript}
 use Rattle.sam_script.specs.Replay.{replayed}
 use Rattle.sam_script.specs.declared.fault.ScriptFault.{ScriptFault}
 use Rattle.sam_script.specs.declared.fault.ScriptFault.TheVariants as fault
-use Rattle.sam_session.specs.declared.fault.Stop.TheVariants.{Host}
+use Rattle.sam_threads.specs.declared.stop.Stop.TheVariants.{Host}
 use Rattle.sam_session.specs.declared.fault.PlayFault.{PlayFault}
 use Rattle.sam_session.specs.declared.fault.PlayFault.TheVariants.{Script, Side, OutOfMemory}
 

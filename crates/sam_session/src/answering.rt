@@ -7,10 +7,11 @@ ghost use Rattle.sam_host.specs.Laws.{IsSound};
 ghost use Rattle.sam_session.specs.Outcome.{OnSide, IsOfBytes};
 ghost use Rattle.sam_session.specs.Pieces.{AllFit, FramesFit, Answers, Refuses, of_refusal};
 
-use crate::fault::{PlayFault, Stop};
+use crate::fault::PlayFault;
 use sam_host::fault::HostFault;
 use sam_host::host::Host;
 use sam_mesg::{HFrame, MesgFault, Tmesg, encode_h};
+use sam_threads::Stop;
 use std::alloc::Global;
 use std::io::Write;
 

@@ -9,12 +9,13 @@ ghost use Rattle.sam_session.specs.Outcome.{OnSide, IsOfBytes, Plays, Written};
 ghost use Rattle.sam_session.specs.Pieces.{AllFit, AnswersBefore, PieceAnswers, PieceStops, MayEnd};
 
 use crate::answering::answer_all;
-use crate::fault::{PlayFault, Stop};
+use crate::fault::PlayFault;
 use crate::reading::{MOST_INPUT, PIECE, read_piece};
 use crate::start::first_host;
 use sam_frame::{FeedFault, FramerT};
 use sam_host::host::Host;
 use sam_mesg::Tmesg;
+use sam_threads::Stop;
 use std::alloc::Global;
 use std::io::{Read, Write};
 

@@ -9,15 +9,22 @@ mod reading;
 mod replaying;
 mod run;
 mod start;
+mod threading;
 mod whole;
 mod words;
 
 pub use bytes::play_bytes;
-pub use fault::{PlayFault, Stop, status_of};
+pub use fault::{PlayFault, status_of};
 pub use law::one_outcome;
 pub use reading::{MOST_INPUT, PIECE};
 pub use run::play;
+pub use sam_threads::{
+    Ends, Fed, FlagGate, Gate, HostEnd, Input, Lines, OpenGate, ReaderEnd, RunFault, SettleFault,
+    Settled, Starts, Stop, TermEnd, UserEnd, feed_terminal, run_ends, run_threads, settle,
+};
 pub use words::{ArgFault, Mode, mode_of};
 
 #[cfg(test)]
 mod tests;
+#[cfg(test)]
+mod threads_tests;

@@ -1,12 +1,13 @@
 //! A script in, what it prints out.
 
-ghost use Rattle.std.specs.Prelude.{◌≡◌, ◌≤◌, OnOk, length};
+ghost use Rattle.std.specs.Prelude.{◌≡◌, ◌≤◌, OnOk, IfOk, IfSome, length};
 ghost use Rattle.sam_session.specs.Outcome.{Written};
 ghost use Rattle.sam_session.specs.Replaying.{IsReplay, of_script};
 
-use crate::fault::{PlayFault, Stop};
+use crate::fault::PlayFault;
 use crate::whole::read_all;
 use sam_script::{Script, ScriptFault, replay};
+use sam_threads::Stop;
 use std::alloc::Global;
 use std::io::{Read, Write};
 
@@ -19,13 +20,9 @@ pub(crate) fn play_replay<R: Read, W: Write>(
     ensures { OnOk result (Written (R.remaining reader.old) (W.contents writer.old) (W.contents writer.new)
         (λ input written. (length input ≤ 16777216) × IsReplay written)) }
 {
-    let input = match read_all(alloc, reader) {
-        Ok(input) => input,
-        Err(fault) => return Err(fault),
-    };
-    let script = match Script::read(alloc, input.as_slice()) {
+    let script = match script_in(alloc, reader) {
         Ok(script) => script,
-        Err(fault) => return Err(of_script(fault)),
+        Err(fault) => return Err(fault),
     };
     let printed = match replay(alloc, &script) {
         Ok(printed) => printed,
@@ -37,8 +34,22 @@ pub(crate) fn play_replay<R: Read, W: Write>(
     }
 }
 
+/// The script that the reader has, which is read whole before it is parsed.
+pub(crate) fn script_in<R: Read>(alloc: Global, reader: &mut R) -> Result<Script, PlayFault>
+    ensures { IfOk result (λ _. IfSome (R.remaining reader.old) (λ input. length input ≤ 16777216)) }
+{
+    let input = match read_all(alloc, reader) {
+        Ok(input) => input,
+        Err(fault) => return Err(fault),
+    };
+    match Script::read(alloc, input.as_slice()) {
+        Ok(script) => Ok(script),
+        Err(fault) => Err(of_script(fault)),
+    }
+}
+
 /// What a fault of a script is for the program.
-fn of_script(fault: ScriptFault) -> PlayFault
+pub(crate) fn of_script(fault: ScriptFault) -> PlayFault
     ensures { result ≡ of_script fault }
 {
     match fault {

@@ -4,7 +4,9 @@ use sam_runes::Runes;
 use std::alloc::{AllocError, Global};
 use std::io;
 use std::io::{ErrorKind, Read, Write};
+use std::sync::Wait;
 use std::test::Fail;
+use std::thread::Threads;
 
 /// The words of a line, parted by `|`.
 fn words_of(alloc: Global, line: &str) -> Result<Vec<String>, AllocError> {
@@ -38,6 +40,37 @@ fn words_name_a_mode(rt: HostRuntime) -> Result<(), Fail> {
             (Ok(Mode::Bytes(runes)), Some(text)) => {
                 let expected: Vec<char> = text.chars().collect(alloc)?;
                 assert_eq!(rt; runes.as_slice(), expected.as_slice(), "{line}");
+            }
+            (Err(fault), None) => assert_eq!(rt; fault, ArgFault::Wrong, "{line}"),
+            _ => return Err(Fail::from(line)),
+        }
+    }
+    Ok(())
+}
+
+#[test]
+fn the_words_of_threads(rt: HostRuntime) -> Result<(), Fail> {
+    let alloc = rt.alloc();
+    let wanted = [
+        ("sam_play|threads", Some((64, 16))),
+        ("sam_play|threads|--piece|1|--cap|1", Some((1, 1))),
+        (
+            "sam_play|threads|--cap=1024|--piece=65536",
+            Some((65_536, 1_024)),
+        ),
+        ("sam_play|threads|--piece|05", Some((5, 16))),
+        ("sam_play|threads|--piece|+5", None),
+        ("sam_play|threads|--piece|0", None),
+        ("sam_play|threads|--piece|65537", None),
+        ("sam_play|threads|--piece|", None),
+        ("sam_play|threads|--cap|1025", None),
+        ("sam_play|threads|--cap|99999999999999999999", None),
+        ("sam_play|threads|64", None),
+    ];
+    for (line, numbers) in wanted {
+        match (mode_of(alloc, words_of(alloc, line)?), numbers) {
+            (Ok(Mode::Threads(piece, capacity)), Some(numbers)) => {
+                assert_eq!(rt; (piece, capacity), numbers, "{line}");
             }
             (Err(fault), None) => assert_eq!(rt; fault, ArgFault::Wrong, "{line}"),
             _ => return Err(Fail::from(line)),
@@ -225,7 +258,7 @@ fn rows_of_frames(rt: HostRuntime) -> Result<(), Fail> {
         };
         let mut writer = Vec::new(alloc);
         let mode = Mode::Bytes(Runes::from_slice(alloc, hello.as_slice())?);
-        assert_eq!(rt; play(alloc, &mut drip, &mut writer, mode), end);
+        assert_eq!(rt; play(&rt, alloc, &mut drip, &mut writer, mode), end);
         assert_eq!(rt; writer.as_slice(), expected.as_slice());
     }
     Ok(())
@@ -280,10 +313,14 @@ fn one_byte_too_many(rt: HostRuntime) {
 }
 
 /// What the program prints of a script, with its end.
-fn replayed(alloc: Global, script: &str) -> (Vec<u8>, Result<(), PlayFault>) {
+fn replayed<T: Threads + Wait + Sync>(
+    rt: &T,
+    alloc: Global,
+    script: &str,
+) -> (Vec<u8>, Result<(), PlayFault>) {
     let mut reader = script.as_bytes();
     let mut writer = Vec::new(alloc);
-    let end = play(alloc, &mut reader, &mut writer, Mode::Replay);
+    let end = play(rt, alloc, &mut reader, &mut writer, Mode::Replay);
     (writer, end)
 }
 
@@ -319,7 +356,7 @@ fn scripts_and_what_they_print(rt: HostRuntime) {
         ),
     ];
     for (script, printed, end) in wanted {
-        let (written, ended) = replayed(rt.alloc(), script);
+        let (written, ended) = replayed(&rt, rt.alloc(), script);
         assert_eq!(rt; ended, end, "{script}");
         assert_eq!(rt; written.as_slice(), printed.as_bytes(), "{script}");
     }

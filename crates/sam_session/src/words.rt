@@ -3,7 +3,7 @@ ghost use Rattle.std.specs.Prelude.{◌≡◌, ◌≤◌, IfOk, Some, map, strin
 ghost use Rattle.std.specs.Str.{encode_utf8_all};
 ghost use Rattle.clap.specs.Words.{app_of, rule_of, found_of, rows_of, subcommand_rows_of, first_of};
 ghost use Rattle.sam_runes.specs.Texts.{max_runes};
-ghost use Rattle.sam_session.specs.Words.{IsModeOf, HoldsMode, attached, option_of, program};
+ghost use Rattle.sam_session.specs.Words.{IsModeOf, HoldsMode, HoldsNumber, attached, option_of, program};
 
 use clap::error::ErrorKind;
 use clap::{Arg, ArgMatches, Command};
@@ -18,7 +18,16 @@ pub enum Mode {
     Bytes(Runes),
     /// A script in, what its `show` lines print out.
     Replay,
+    /// A script in, the schedule that five threads made of its events and what its end shows out. The numbers are the most bytes of a
+    /// piece of the stream and the capacity of a line between threads, in entries.
+    Threads(usize, usize),
 }
+
+/// The most bytes of a piece of the stream between threads.
+pub const MOST_PIECE: usize = 65_536;
+
+/// The greatest capacity of a line between threads, in entries.
+pub const MOST_CAPACITY: usize = 1_024;
 
 /// Why the words name no mode.
 #[derive(Clone, Copy, Debug, PartialEq, Eq, Error)]
@@ -101,9 +110,12 @@ fn command<'a>(alloc: Global) -> Result<Command<'a>, AllocError>
 {
     let bytes = Command::new(alloc, "bytes").arg(option_named(alloc, "text", ""))?;
     let replay = Command::new(alloc, "replay");
+    let cut = Command::new(alloc, "threads").arg(option_named(alloc, "piece", "64"))?;
+    let threads = cut.arg(option_named(alloc, "cap", "16"))?;
     Command::new(alloc, "sam_play")
         .subcommand(bytes)?
-        .subcommand(replay)
+        .subcommand(replay)?
+        .subcommand(threads)
 }
 
 /// The mode that the matches hold.
@@ -118,6 +130,11 @@ fn mode_in(alloc: Global, matches: &ArgMatches<'_>) -> Result<Mode, ArgFault>
     }
     if name == "replay" {
         return Ok(Mode::Replay);
+    }
+    if name == "threads" {
+        let piece = number_in(inner, "piece", MOST_PIECE)?;
+        let capacity = number_in(inner, "cap", MOST_CAPACITY)?;
+        return Ok(Mode::Threads(piece, capacity));
     }
     Err(ArgFault::Wrong)
 }
@@ -135,6 +152,23 @@ fn text_in(alloc: Global, matches: &ArgMatches<'_>) -> Result<Runes, ArgFault>
         return Err(ArgFault::Wrong);
     }
     Ok(Runes::from_vec(runes))
+}
+
+/// The number that an option's value writes in decimal digits alone, from 1 to `most`.
+fn number_in(matches: &ArgMatches<'_>, name: &str, most: usize) -> Result<usize, ArgFault>
+    ensures { IfOk result (λ n. HoldsNumber (first_of name.now (rows_of (found_of matches.now))) most n) }
+{
+    let Some(word) = matches.get_str(name) else {
+        return Err(ArgFault::Wrong);
+    };
+    let bytes = word.as_bytes();
+    if bytes.is_empty() || bytes[0] == b'+' {
+        return Err(ArgFault::Wrong);
+    }
+    match word.parse::<usize>() {
+        Ok(number) if 0 < number && number <= most => Ok(number),
+        _ => Err(ArgFault::Wrong),
+    }
 }
 
 /// The runes that the text spells.

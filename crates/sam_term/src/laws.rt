@@ -7,6 +7,7 @@ ghost use Rattle.sam_runes.specs.Checks.{first_of_checks};
 ghost use Rattle.sam_term.specs.Effect.{shown, changed_by};
 ghost use Rattle.sam_term.specs.Fitting.{all_fit};
 ghost use Rattle.sam_term.specs.Sound.{IsSound};
+ghost use Rattle.sam_term.specs.Unsent.{EventsSendFirst, FramesSendFirst};
 ghost use Rattle.sam_term.specs.Term.{is_open, window_at, event_checks, flushed, made_from, made_by, file_of, rasp_at, PlainTerminal};
 ghost use Rattle.sam_term.specs.declared.event.UserEvent.{UserEvent};
 
@@ -57,4 +58,11 @@ pub fn flush_fits()
 #[tactic(auto, using(crate::proofs::FitLaws::frame_fits))]
 pub fn frame_fits()
     ensures { (t : PlainTerminal) (m : Hmesg) → IsSound t → all_fit t.version (made_from t m).1 ≡ true }
+{}
+
+/// What an event or a frame composes begins with the unsent runes, where there are any.
+#[tactic(auto, using(crate::proofs::UnsentLaws::events_send_first, crate::proofs::UnsentLaws::frames_send_first))]
+pub fn unsent_goes_first()
+    ensures events { EventsSendFirst }
+    ensures frames { FramesSendFirst }
 {}

@@ -1,11 +1,14 @@
 -- What an answer of the host frees and tells.
-use Rattle.std.specs.Prelude.{◌≡◌, ℕ, Bool, true, if◌then◌else◌, ◌==◌, List, None, MatchOption}
+use Rattle.std.specs.Prelude.{◌≡◌, ℕ, Bool, true, if◌then◌else◌, ◌==◌, List, [], ◌∷◌, ◌++◌, None, MatchOption}
 use Rattle.sam_runes.specs.Checks.{first_of_checks}
 use Rattle.sam_runes.specs.Texts.{ins, del}
 use Rattle.sam_text.specs.Files.{PlainFiles, AreFit, file_at, has_file}
 use Rattle.sam_host.specs.Host.{PlainHost, Reply, host_checks, reply_to}
-use Rattle.sam_term.specs.Locks.{lock_of, one_lock, all_freed}
+use Rattle.sam_term.specs.declared.lock.Lock.{Lock}
+use Rattle.sam_term.specs.declared.lock.Lock.TheVariants.{NoLock}
+use Rattle.sam_term.specs.Locks.{lock_of, freed_by, one_lock, all_freed}
 use Rattle.sam_term.specs.Effect.{Tells}
+use Rattle.sam_mesg.specs.declared.hmesg.Hmesg.{Hmesg}
 use Rattle.sam_mesg.specs.declared.tmesg.Tmesg.{Tmesg}
 use Rattle.sam_mesg.specs.declared.tmesg.Tmesg.TheVariants.{Trequest, Ttype, Tcut}
 
@@ -31,6 +34,18 @@ IsWorkOpen fs = MatchOption fs.work (Unit {0}) (λ g. (file_at fs g).opened ≡ 
 -- the frames of an answer free just the lock that composing its message took
 abbrev pub AnswersFree : Type 0
 AnswersFree = (h : PlainHost) (m : Tmesg) → is_answered h m ≡ true → all_freed (reply_to h m).1 ≡ one_lock (lock_of m)
+
+-- the last frame frees this lock, and none before it frees any
+pub record FreesLast (lock : Lock) (frames : List Hmesg) : Type 0 where
+  pub front : List Hmesg
+  pub last : Hmesg
+  pub is : frames ≡ front ++ last ∷ []
+  pub frees : freed_by last ≡ lock
+  pub none : all_freed front ≡ []
+
+-- where the message took a lock, the frame that frees it is the last of its answer: it comes after every frame that touches a rasp
+abbrev pub AnswersFreeLast : Type 0
+AnswersFreeLast = (h : PlainHost) (m : Tmesg) → is_answered h m ≡ true → (lock_of m ≡ NoLock → ⊥) → FreesLast (lock_of m) (reply_to h m).1
 
 -- the frames of an answer tell how each open file's text changed: a partial text that agreed with the text as the terminal had
 -- left it agrees, after the frames, with the host's new text

@@ -1,0 +1,30 @@
+-- The head of a frame, whose length is written once the body stands behind it.
+use Rattle.std.proofs.Common.{◌≡◌, ℕ, ◌+◌, ◌-◌, ◌<◌, List, [], ◌∷◌, ◌++◌, length, take, drop, set, sym, ap, ◌∙◌, append_assoc, arith, length-append}
+use Rattle.std.proofs.lemmas.List.{length-set, set_split, take_more_set, drop-set-lt, take_at, drop_at}
+use Rattle.std.specs.Prelude.{suc}
+use Rattle.std.specs.Int.{w16, to_be_bytes}
+use Rattle.sam_mesg.specs.Spelling.{frame}
+
+-- two neighbours, written one after the other
+pub set_both : (xs : List ℕ) (i j k a b : ℕ) → j ≡ i + 1 → k ≡ i + 2 → i + 1 < length xs → set (set xs i a) j b ≡ take i xs ++ (a ∷ b ∷ []) ++ drop k xs
+set_both xs i j k a b next after lt =
+    let ys = set xs i a in
+    let long : j < length ys = omega (arith, length-set xs i a) in
+    let front : take j ys ≡ take i xs ++ a ∷ [] = ap (λ n. take n ys) next ∙ take_more_set xs i a (omega arith) in
+    let past : suc j ≡ k = omega arith in
+    let behind : drop (suc j) ys ≡ drop k xs = drop-set-lt (suc j) xs i a (omega arith) ∙ ap (λ n. drop n xs) past in
+    set_split ys j b long ∙ ap (λ p. p ++ b ∷ drop (suc j) ys) front ∙ ap (λ r. (take i xs ++ a ∷ []) ++ b ∷ r) behind
+    ∙ append_assoc (take i xs) (a ∷ []) (b ∷ drop k xs) ∙ sym (append_assoc (take i xs) (a ∷ b ∷ []) (drop k xs))
+
+-- a frame whose length bytes were left free
+pub framed : (old now new body : List ℕ) (kind n : ℕ) → now ≡ old ++ kind ∷ 0 ∷ 0 ∷ body → n ≡ length old
+    → new ≡ take (n + 1) now ++ to_be_bytes w16 (length now - (n + 3)) ++ drop (n + 3) now → new ≡ old ++ frame kind body
+framed old now new body kind n is at e =
+    let three : now ≡ (old ++ kind ∷ 0 ∷ 0 ∷ []) ++ body = is ∙ sym (append_assoc old (kind ∷ 0 ∷ 0 ∷ []) body) in
+    let one : now ≡ (old ++ kind ∷ []) ++ 0 ∷ 0 ∷ body = is ∙ sym (append_assoc old (kind ∷ []) (0 ∷ 0 ∷ body)) in
+    let front : take (n + 1) now ≡ old ++ kind ∷ [] = ap (take (n + 1)) one ∙ take_at (old ++ kind ∷ []) (0 ∷ 0 ∷ body) (n + 1) (omega (arith, length-append old (kind ∷ []))) in
+    let behind : drop (n + 3) now ≡ body = ap (drop (n + 3)) three ∙ drop_at (old ++ kind ∷ 0 ∷ 0 ∷ []) body (n + 3) (omega (arith, length-append old (kind ∷ 0 ∷ 0 ∷ []))) in
+    let len : length now - (n + 3) ≡ length body = omega (arith, ap length is, length-append old (kind ∷ 0 ∷ 0 ∷ body)) in
+    e ∙ ap (λ p. p ++ to_be_bytes w16 (length now - (n + 3)) ++ drop (n + 3) now) front ∙ ap (λ m. (old ++ kind ∷ []) ++ to_be_bytes w16 m ++ drop (n + 3) now) len
+    ∙ ap (λ r. (old ++ kind ∷ []) ++ to_be_bytes w16 (length body) ++ r) behind
+    ∙ append_assoc (old ++ kind ∷ []) (to_be_bytes w16 (length body)) body ∙ append_assoc old (kind ∷ []) (to_be_bytes w16 (length body) ++ body)

@@ -1,0 +1,153 @@
+-- Which bytes begin with a rune.
+use Rattle.std.proofs.Common.{◌≡◌, ℕ, ◌+◌, ◌-◌, ◌*◌, ◌/◌, ◌%◌, ◌<◌, ◌≤◌, List, [], ◌∷◌, ◌++◌, length, take, get_or, Option, Some, None, refl, sym, ap, subst, ◌∙◌, arith, le-ltb, lt-ltb, ⊎_elim}
+use Rattle.std.proofs.lemmas.Bool.{cases_lt}
+use Rattle.std.proofs.lemmas.Str.{encode_ascii}
+use Rattle.std.specs.Option.{MatchOption, SomeIff}
+use Rattle.std.specs.Char.{encode_utf8, IsScalar}
+use Rattle.std.specs.Str.{StartsWithNoChar}
+use lib.Utf8.{scalar_cases}
+
+abbrev Follows : ℕ → Type 0
+Follows b = (128 ≤ b) × (b < 192)
+
+-- ---- the bytes of a rune
+
+two : (c : ℕ) → 128 ≤ c → c < 2048 → encode_utf8 c ≡ (192 + c / 64) ∷ (128 + c % 64) ∷ []
+unfolding encode_utf8
+two c low high = rw (le-ltb c 128 (omega arith), lt-ltb c 2048 (omega arith)) refl
+
+three : (c : ℕ) → 2048 ≤ c → c < 65536 → encode_utf8 c ≡ (224 + c / 4096) ∷ (128 + (c / 64) % 64) ∷ (128 + c % 64) ∷ []
+unfolding encode_utf8
+three c low high = rw (le-ltb c 128 (omega arith), le-ltb c 2048 (omega arith), lt-ltb c 65536 (omega arith)) refl
+
+four : (c : ℕ) → 65536 ≤ c → encode_utf8 c ≡ (240 + c / 262144) ∷ (128 + (c / 4096) % 64) ∷ (128 + (c / 64) % 64) ∷ (128 + c % 64) ∷ []
+unfolding encode_utf8
+four c low = rw (le-ltb c 128 (omega arith), le-ltb c 2048 (omega arith), le-ltb c 65536 (omega arith)) refl
+
+-- what n bytes that begin x, y, z, w are, where they begin with the rune c
+pub record Begun (c n x y z w : ℕ) : Type 0 where
+  pub some : 0 < n
+  pub second : 128 ≤ x → (192 ≤ x) × (2 ≤ n) × Follows y
+  pub third : 224 ≤ x → (3 ≤ n) × Follows z
+  pub fourth : 240 ≤ x → (4 ≤ n) × Follows w
+  pub of_two : 128 ≤ x → x < 224 → (c ≡ (x - 192) * 64 + (y - 128)) × (128 ≤ c)
+  pub of_three : 224 ≤ x → x < 240 → (c ≡ ((x - 224) * 64 + (y - 128)) * 64 + (z - 128)) × (2048 ≤ c)
+  pub of_four : 240 ≤ x → (c ≡ (((x - 240) * 64 + (y - 128)) * 64 + (z - 128)) * 64 + (w - 128)) × (65536 ≤ c)
+
+abbrev pub BegunAt : ℕ → List ℕ → Type 0
+BegunAt c bs = Begun c (length bs) (get_or bs 0 0) (get_or bs 1 0) (get_or bs 2 0) (get_or bs 3 0)
+
+begun_1 : (c : ℕ) (rest : List ℕ) → c < 128 → BegunAt c (c ∷ rest)
+begun_1 c rest low = record {
+  some = omega arith;
+  second = λ h. absurd (omega arith);
+  third = λ h. absurd (omega arith);
+  fourth = λ h. absurd (omega arith);
+  of_two = λ h k. absurd (omega arith);
+  of_three = λ h k. absurd (omega arith);
+  of_four = λ h. absurd (omega arith);
+}
+
+begun_2 : (c : ℕ) (rest : List ℕ) → 128 ≤ c → c < 2048 → BegunAt c ((192 + c / 64) ∷ (128 + c % 64) ∷ rest)
+begun_2 c rest low high = record {
+  some = omega arith;
+  second = λ h. (omega arith, omega arith, (omega arith, omega arith));
+  third = λ h. absurd (omega arith);
+  fourth = λ h. absurd (omega arith);
+  of_two = λ h k. (omega arith, low);
+  of_three = λ h k. absurd (omega arith);
+  of_four = λ h. absurd (omega arith);
+}
+
+begun_3 : (c : ℕ) (rest : List ℕ) → 2048 ≤ c → c < 65536 → BegunAt c ((224 + c / 4096) ∷ (128 + (c / 64) % 64) ∷ (128 + c % 64) ∷ rest)
+begun_3 c rest low high = record {
+  some = omega arith;
+  second = λ h. (omega arith, omega arith, (omega arith, omega arith));
+  third = λ h. (omega arith, (omega arith, omega arith));
+  fourth = λ h. absurd (omega arith);
+  of_two = λ h k. absurd (omega arith);
+  of_three = λ h k. (omega arith, low);
+  of_four = λ h. absurd (omega arith);
+}
+
+begun_4 : (c : ℕ) (rest : List ℕ) → 65536 ≤ c → c < 1114112 → BegunAt c ((240 + c / 262144) ∷ (128 + (c / 4096) % 64) ∷ (128 + (c / 64) % 64) ∷ (128 + c % 64) ∷ rest)
+begun_4 c rest low high =
+    let p0 : c ≡ (c / 64) * 64 + c % 64 = omega arith in
+    let p1 : c / 64 ≡ (c / 4096) * 64 + (c / 64) % 64 = omega arith in
+    let p2 : c / 4096 ≡ (c / 262144) * 64 + (c / 4096) % 64 = omega arith in
+    record {
+      some = omega arith;
+      second = λ h. (omega arith, omega arith, (omega arith, omega arith));
+      third = λ h. (omega arith, (omega arith, omega arith));
+      fourth = λ h. (omega arith, (omega arith, omega arith));
+      of_two = λ h k. absurd (omega arith);
+      of_three = λ h k. absurd (omega arith);
+      of_four = λ h. (omega arith, low);
+    }
+
+begun : (c : ℕ) (rest : List ℕ) → IsScalar c → BegunAt c (encode_utf8 c ++ rest)
+begun c rest is =
+    ⊎_elim
+    (λ one. subst (λ p. BegunAt c (p ++ rest)) (sym (encode_ascii c one)) (begun_1 c rest one))
+    (λ past_one. ⊎_elim
+    (λ under. subst (λ p. BegunAt c (p ++ rest)) (sym (two c past_one under)) (begun_2 c rest past_one under))
+    (λ past_two. ⊎_elim
+    (λ under. subst (λ p. BegunAt c (p ++ rest)) (sym (three c past_two under)) (begun_3 c rest past_two under))
+    (λ past_three.
+    let top : c < 1114112 = ⊎_elim (λ low. omega arith) (λ high. high.1) (scalar_cases c is) in
+    subst (λ p. BegunAt c (p ++ rest)) (sym (four c past_three)) (begun_4 c rest past_three top))
+    (cases_lt c 65536))
+    (cases_lt c 2048))
+    (cases_lt c 128)
+
+-- no rune begins bytes that are not so
+pub none_begins : (bs : List ℕ) → ((c : ℕ) → IsScalar c → BegunAt c bs → ⊥) → StartsWithNoChar bs
+none_begins bs refuted c rest is e = refuted c is (subst (BegunAt c) (sym e) (begun c rest is))
+
+pub none_left : {X : Type 0} (r : Option X) (A : Type 0) (P : X → Type 0) → r ≡ None → A → MatchOption r A P
+none_left r A P is h = subst (λ r. MatchOption r A P) (sym is) h
+
+-- what a code is that only a rune of these bytes can have
+pub decoded : (bs : List ℕ) (n code : ℕ) (r : Option ℕ) → SomeIff r (IsScalar code) code → n ≤ length bs → take n bs ≡ encode_utf8 code → ((c : ℕ) → BegunAt c bs → c ≡ code)
+    → MatchOption r (StartsWithNoChar bs) (λ c. (n ≤ length bs) × (take n bs ≡ encode_utf8 c))
+decoded bs n code None out within front only = none_begins bs (λ c is b. out (subst IsScalar (only c b) is))
+decoded bs n code (Some x) out within front only = (within, front ∙ ap encode_utf8 (sym out.1))
+
+front_2 : (bs : List ℕ) → 2 ≤ length bs → take 2 bs ≡ get_or bs 0 0 ∷ get_or bs 1 0 ∷ []
+front_2 [] h = absurd (omega arith)
+front_2 (x ∷ []) h = absurd (omega arith)
+front_2 (x ∷ y ∷ bs) h = refl
+
+front_3 : (bs : List ℕ) → 3 ≤ length bs → take 3 bs ≡ get_or bs 0 0 ∷ get_or bs 1 0 ∷ get_or bs 2 0 ∷ []
+front_3 [] h = absurd (omega arith)
+front_3 (x ∷ bs) h = ap (λ l. x ∷ l) (front_2 bs (omega arith))
+
+front_4 : (bs : List ℕ) → 4 ≤ length bs → take 4 bs ≡ get_or bs 0 0 ∷ get_or bs 1 0 ∷ get_or bs 2 0 ∷ get_or bs 3 0 ∷ []
+front_4 [] h = absurd (omega arith)
+front_4 (x ∷ bs) h = ap (λ l. x ∷ l) (front_3 bs (omega arith))
+
+abbrev IsTail : ℕ → ℕ → Type 0
+IsTail bits byte = (bits < 64) × (128 + bits ≡ byte)
+
+pub spelled_2 : (bs : List ℕ) (s code : ℕ) → 2 ≤ length bs → 192 ≤ get_or bs 0 0 → get_or bs 0 0 < 224 → IsTail s (get_or bs 1 0) → code ≡ (get_or bs 0 0 - 192) * 64 + s → 128 ≤ code → take 2 bs ≡ encode_utf8 code
+spelled_2 bs s code within least most second is low =
+    let a : 192 + code / 64 ≡ get_or bs 0 0 = omega arith in
+    let b : 128 + code % 64 ≡ get_or bs 1 0 = omega arith in
+    front_2 bs within ∙ sym (two code low (omega arith) ∙ rw (a, b) refl)
+
+pub spelled_3 : (bs : List ℕ) (s t code : ℕ) → 3 ≤ length bs → 224 ≤ get_or bs 0 0 → get_or bs 0 0 < 240 → IsTail s (get_or bs 1 0) → IsTail t (get_or bs 2 0)
+    → code ≡ ((get_or bs 0 0 - 224) * 64 + s) * 64 + t → 2048 ≤ code → take 3 bs ≡ encode_utf8 code
+spelled_3 bs s t code within least most second third is low =
+    let a : 224 + code / 4096 ≡ get_or bs 0 0 = omega arith in
+    let b : 128 + (code / 64) % 64 ≡ get_or bs 1 0 = omega arith in
+    let d : 128 + code % 64 ≡ get_or bs 2 0 = omega arith in
+    front_3 bs within ∙ sym (three code low (omega arith) ∙ rw (a, b, d) refl)
+
+pub spelled_4 : (bs : List ℕ) (s t u code : ℕ) → 4 ≤ length bs → 240 ≤ get_or bs 0 0 → IsTail s (get_or bs 1 0) → IsTail t (get_or bs 2 0) → IsTail u (get_or bs 3 0)
+    → code ≡ (((get_or bs 0 0 - 240) * 64 + s) * 64 + t) * 64 + u → 65536 ≤ code → take 4 bs ≡ encode_utf8 code
+spelled_4 bs s t u code within least second third fourth is low =
+    let a : 240 + code / 262144 ≡ get_or bs 0 0 = omega arith in
+    let b : 128 + (code / 4096) % 64 ≡ get_or bs 1 0 = omega arith in
+    let d : 128 + (code / 64) % 64 ≡ get_or bs 2 0 = omega arith in
+    let e : 128 + code % 64 ≡ get_or bs 3 0 = omega arith in
+    front_4 bs within ∙ sym (four code low ∙ rw (a, b, d, e) refl)

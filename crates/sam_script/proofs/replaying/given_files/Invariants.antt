@@ -1,0 +1,10 @@
+use Rattle.std.proofs.Common.{◌≡◌, take, length}
+use Rattle.sam_host.specs.Given.{AreNames, given_of}
+use Rattle.sam_script.proofs.replaying.given_files.Given as goal
+
+abbrev pub invariant-loop-file : goal.invariant-loop-file
+invariant-loop-file l = record {
+  given : given_of l.given.items ≡ take l.file-index l.files;
+  names : AreNames l.given.items;
+  count : length l.given.items ≡ l.file-index;
+}

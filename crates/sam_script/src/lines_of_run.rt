@@ -1,0 +1,169 @@
+//! The script that makes the events of a run happen again.
+
+ghost use Rattle.std.specs.Prelude.{◌≡◌, ◌++◌, IfOk, OnOk, IfErr, string_bytes, flat_map, encode_utf8};
+ghost use Rattle.std.specs.Fmt.{decimal};
+ghost use Rattle.sam_script.specs.RunLines.{with_number, with_place, with_range, with_text, user_words, event_line, file_line, run_lines_of};
+
+use crate::fault::ScriptFault;
+use crate::script::Script;
+use crate::showing::{push, push_text};
+use sam_runes::Runes;
+use sam_term::event::UserEvent;
+use sam_world::event::Event;
+use std::alloc::{AllocError, Global};
+use std::fmt::Write;
+
+/// The script that makes just these events happen: the `file` lines of the script, a line for each event, and a line `show`. The only
+/// fault is want of memory.
+pub fn run_lines(alloc: Global, script: &Script, events: &[Event]) -> Result<Vec<u8>, ScriptFault>
+    ensures lines { IfOk result (λ out. out.items ≡ run_lines_of script.now.files events.now) }
+    ensures memory { IfErr result (λ why. why ≡ ScriptFault.OutOfMemory) }
+{
+    let mut out = String::new(alloc);
+    match push_run(&mut out, script.files(), events) {
+        Ok(()) => Ok(out.into_bytes()),
+        Err(_) => Err(ScriptFault::OutOfMemory),
+    }
+}
+
+/// The lines of a run.
+fn push_run(out: &mut String, files: &[(Runes, Runes)], events: &[Event]) -> Result<(), AllocError>
+    ensures { OnOk result (string_bytes out.new ≡ string_bytes out.old ++ run_lines_of files.now events.now) }
+{
+    push_files(out, files)?;
+    push_events(out, events)?;
+    push(out, "show\n")
+}
+
+fn push_files(out: &mut String, files: &[(Runes, Runes)]) -> Result<(), AllocError>
+    ensures { OnOk result (string_bytes out.new ≡ string_bytes out.old ++ flat_map file_line files.now) }
+{
+    for file in files {
+        push_file(out, file.0.as_slice(), file.1.as_slice())?;
+    }
+    Ok(())
+}
+
+/// The line of a file.
+fn push_file(out: &mut String, name: &[char], text: &[char]) -> Result<(), AllocError>
+    ensures { OnOk result (string_bytes out.new ≡ string_bytes out.old ++ file_line (name.now, text.now)) }
+{
+    push(out, "file ")?;
+    push_plain(out, name)?;
+    push(out, " ")?;
+    push_text(out, text)?;
+    push(out, "\n")
+}
+
+/// Runes as they stand.
+fn push_plain(out: &mut String, runes: &[char]) -> Result<(), AllocError>
+    ensures { OnOk result (string_bytes out.new ≡ string_bytes out.old ++ flat_map encode_utf8 runes.now) }
+{
+    for rune in runes {
+        out.push(*rune)?;
+    }
+    Ok(())
+}
+
+fn push_events(out: &mut String, events: &[Event]) -> Result<(), AllocError>
+    ensures { OnOk result (string_bytes out.new ≡ string_bytes out.old ++ flat_map event_line events.now) }
+{
+    for event in events {
+        push_event(out, event)?;
+    }
+    Ok(())
+}
+
+/// The line of an event.
+fn push_event(out: &mut String, event: &Event) -> Result<(), AllocError>
+    ensures { OnOk result (string_bytes out.new ≡ string_bytes out.old ++ event_line event.now) }
+{
+    match event {
+        Event::User(event) => push_user_line(out, event),
+        Event::Act => push(out, "act\n"),
+        Event::Flush => push(out, "flush\n"),
+        Event::HostTake => push(out, "host\n"),
+        Event::TermTake => push(out, "term\n"),
+    }
+}
+
+fn push_user_line(out: &mut String, event: &UserEvent) -> Result<(), AllocError>
+    ensures { OnOk result (string_bytes out.new ≡ string_bytes out.old ++ event_line (Event.User event.now)) }
+{
+    push(out, "k ")?;
+    push_user(out, event)?;
+    push(out, "\n")
+}
+
+/// What the user does, in a script's words.
+fn push_user(out: &mut String, event: &UserEvent) -> Result<(), AllocError>
+    ensures { OnOk result (string_bytes out.new ≡ string_bytes out.old ++ user_words event.now) }
+{
+    match event {
+        UserEvent::Typed(tag, text) => push_typed(out, *tag, text.as_slice()),
+        UserEvent::Select(tag, p, q) => push_range(out, "select", *tag, *p, *q),
+        UserEvent::Cut(tag) => push_number(out, "cut", *tag),
+        UserEvent::Paste(tag) => push_number(out, "paste", *tag),
+        UserEvent::Snarf(tag) => push_number(out, "snarf", *tag),
+        UserEvent::Look(tag) => push_number(out, "look", *tag),
+        UserEvent::Search(tag) => push_number(out, "search", *tag),
+        UserEvent::Send(tag) => push_number(out, "send", *tag),
+        UserEvent::Dclick(tag, p) => push_place(out, "dclick", *tag, *p),
+        UserEvent::Scroll(tag, n) => push_place(out, "scroll", *tag, *n),
+        UserEvent::View(tag, p, n) => push_range(out, "view", *tag, *p, *n),
+        UserEvent::Open(tag) => push_number(out, "open", *tag),
+        UserEvent::Close(tag) => push_number(out, "close", *tag),
+        UserEvent::Write(tag) => push_number(out, "write", *tag),
+        UserEvent::Work(tag) => push_number(out, "work", *tag),
+        UserEvent::OpenCmd => push(out, "opencmd"),
+        UserEvent::New => push(out, "new"),
+        UserEvent::Exit => push(out, "exit"),
+        UserEvent::Check(tag) => push_number(out, "check", *tag),
+        UserEvent::GetSnarf => push(out, "getsnarf"),
+        UserEvent::SetSnarf(text) => push_with_text(out, "setsnarf", text.as_slice()),
+        UserEvent::Version(version) => push_number(out, "version", *version),
+        UserEvent::Flush => push(out, "flush"),
+    }
+}
+
+fn push_typed(out: &mut String, tag: u16, text: &[char]) -> Result<(), AllocError>
+    ensures { OnOk result (string_bytes out.new ≡ string_bytes out.old ++ user_words (UserEvent.Typed tag text.now)) }
+{
+    push_number(out, "type", tag)?;
+    push_with_text(out, "", text)
+}
+
+fn push_with_text(out: &mut String, word: &str, text: &[char]) -> Result<(), AllocError>
+    ensures { OnOk result (string_bytes out.new ≡ string_bytes out.old ++ with_text word.now text.now) }
+{
+    push(out, word)?;
+    push(out, " ")?;
+    push_text(out, text)
+}
+
+fn push_number(out: &mut String, word: &str, number: u16) -> Result<(), AllocError>
+    ensures { OnOk result (string_bytes out.new ≡ string_bytes out.old ++ with_number word.now number) }
+{
+    push(out, word)?;
+    write!(out, " {number}")
+}
+
+fn push_place(out: &mut String, word: &str, tag: u16, place: u32) -> Result<(), AllocError>
+    ensures { OnOk result (string_bytes out.new ≡ string_bytes out.old ++ with_place word.now tag place) }
+{
+    push_number(out, word, tag)?;
+    write!(out, " {place}")
+}
+
+fn push_range(
+    out: &mut String,
+    word: &str,
+    tag: u16,
+    first: u32,
+    second: u32,
+) -> Result<(), AllocError>
+    ensures { OnOk result (string_bytes out.new ≡ string_bytes out.old ++ with_range word.now tag first second) }
+{
+    push_place(out, word, tag, first)?;
+    write!(out, " {second}")
+}

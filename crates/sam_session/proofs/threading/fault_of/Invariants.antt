@@ -1,0 +1,7 @@
+use Rattle.std.proofs.Common.{◌≡◌, drop}
+use Rattle.sam_session.specs.Threading.{first_cause}
+use Rattle.sam_session.proofs.threading.fault_of.Given as goal
+
+-- those before had no cause of their own
+abbrev pub invariant-loop-stop : goal.invariant-loop-stop
+invariant-loop-stop l = first_cause (drop l.stop-index l.stops) ≡ first_cause l.stops

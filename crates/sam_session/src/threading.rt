@@ -1,0 +1,121 @@
+//! A script in, the schedule that its threads made and what its end shows out.
+
+ghost use Rattle.std.specs.Prelude.{◌≡◌, ◌≤◌, ◌<◌, ◌++◌, OnOk, IfOk, length, None};
+ghost use Rattle.sam_script.specs.RunLines.{run_lines_of};
+ghost use Rattle.sam_script.specs.Show.{show_lines};
+ghost use Rattle.sam_session.specs.Outcome.{Written};
+ghost use Rattle.sam_session.specs.Threading.{of_stops, IsThreaded};
+
+use crate::fault::PlayFault;
+use crate::replaying::{of_script, script_in};
+use sam_script::{Script, run_lines, show};
+use sam_threads::{OpenGate, RunFault, Settled, Stop, run_threads};
+use std::alloc::Global;
+use std::io::{Read, Write};
+use std::sync::Wait;
+use std::thread::Threads;
+
+/// Runs the session of the script that the reader has on five threads, and writes the schedule that they made, as a script that
+/// replays it, and what its end shows. The input is read whole before it is parsed. Where a side stopped nothing of the session is
+/// written.
+pub(crate) fn play_threads<T: Threads + Wait + Sync, R: Read, W: Write>(
+    rt: &T,
+    alloc: Global,
+    reader: &mut R,
+    writer: &mut W,
+    piece: usize,
+    capacity: usize,
+) -> Result<(), PlayFault>
+    requires piece { 0 < piece }
+    requires capacity { 0 < capacity }
+    ensures { OnOk result (Written (R.remaining reader.old) (W.contents writer.old) (W.contents writer.new)
+        (λ input written. (length input ≤ 16777216) × IsThreaded written)) }
+{
+    let script = match script_in(alloc, reader) {
+        Ok(script) => script,
+        Err(fault) => return Err(fault),
+    };
+    let printed = match session_lines(rt, alloc, &script, piece, capacity) {
+        Ok(printed) => printed,
+        Err(fault) => return Err(fault),
+    };
+    match writer.write_all(printed.as_slice()) {
+        Ok(()) => Ok(()),
+        Err(_) => Err(PlayFault::Write),
+    }
+}
+
+/// Runs the session of a script on five threads, and answers what is written of it.
+#[tactic(auto, using(crate::proofs::Unstopped::threaded))]
+fn session_lines<T: Threads + Wait + Sync>(
+    rt: &T,
+    alloc: Global,
+    script: &Script,
+    piece: usize,
+    capacity: usize,
+) -> Result<Vec<u8>, PlayFault>
+    requires piece { 0 < piece }
+    requires capacity { 0 < capacity }
+    ensures { IfOk result (λ lines. IsThreaded lines.items) }
+{
+    let settled = match run_threads(rt, alloc, script, piece, capacity, &OpenGate) {
+        Ok(settled) => settled,
+        Err(fault) => return Err(of_run(fault)),
+    };
+    let lines = match lines_of(alloc, script, &settled) {
+        Ok(lines) => lines,
+        Err(fault) => return Err(fault),
+    };
+    Ok(lines)
+}
+
+/// What is written of a session that settled.
+fn lines_of(alloc: Global, script: &Script, settled: &Settled) -> Result<Vec<u8>, PlayFault>
+    ensures whole { IfOk result (λ _. of_stops settled.now.stops.items ≡ None) }
+    ensures lines { IfOk result (λ lines. lines.items
+        ≡ run_lines_of script.now.files settled.now.schedule.items ++ show_lines settled.now.world) }
+{
+    if let Some(fault) = fault_of(settled.stops.as_slice()) {
+        return Err(fault);
+    }
+    let mut lines = match run_lines(alloc, script, settled.schedule.as_slice()) {
+        Ok(lines) => lines,
+        Err(fault) => return Err(of_script(fault)),
+    };
+    let shown = match show(alloc, &settled.world) {
+        Ok(shown) => shown,
+        Err(fault) => return Err(of_script(fault)),
+    };
+    match lines.extend_from_slice(shown.as_slice()) {
+        Ok(()) => Ok(lines),
+        Err(_) => Err(PlayFault::OutOfMemory),
+    }
+}
+
+/// The fault of a session with these stops.
+fn fault_of(stops: &[Stop]) -> Option<PlayFault>
+    ensures { result ≡ of_stops stops.now }
+{
+    for stop in stops {
+        match stop {
+            Stop::PeerGone => {}
+            Stop::Memory => return Some(PlayFault::OutOfMemory),
+            Stop::Gate => return Some(PlayFault::Threads),
+            Stop::Frame(n) => return Some(PlayFault::Side(Stop::Frame(*n))),
+            Stop::Host(n) => return Some(PlayFault::Side(Stop::Host(*n))),
+            Stop::Term(n) => return Some(PlayFault::Side(Stop::Term(*n))),
+        }
+    }
+    match stops.first() {
+        Some(_) => Some(PlayFault::Side(Stop::PeerGone)),
+        None => None,
+    }
+}
+
+/// What it is for the program that no session was run.
+fn of_run(fault: RunFault) -> PlayFault {
+    match fault {
+        RunFault::GateTimedOut | RunFault::NoThread => PlayFault::Threads,
+        RunFault::OutOfMemory => PlayFault::OutOfMemory,
+    }
+}

@@ -1,0 +1,260 @@
+-- What is composed first is the unsent runes.
+use Rattle.std.proofs.Common.{◌≡◌, refl, sym, ap, ◌∙◌, subst, ℕ, ◌+◌, ◌≤◌, ◌<◌, Bool, true, false, ◌&&◌, ◌==◌, List, [], ◌∷◌, ◌++◌, length, map, Option, Some, None, if◌then◌else◌, inl, inr, ◌⊎◌, arith}
+use Rattle.std.specs.Prelude.{nat_le}
+use Rattle.std.proofs.lemmas.List.{append-nil, append_assoc}
+use Rattle.std.proofs.lemmas.Bool.{eqb-true}
+use Rattle.sam_runes.specs.Texts.{is_empty, most_in_message}
+use Rattle.sam_rasp.specs.Rasp.{place_after_ins}
+use Rattle.sam_mesg.specs.declared.tmesg.Tmesg.{Tmesg}
+use Rattle.sam_mesg.specs.declared.tmesg.Tmesg.TheVariants.{Ttype, Tsnarf, Tcut, Tpaste, Tack}
+use Rattle.sam_mesg.specs.declared.hmesg.Hmesg.{Hmesg}
+use Rattle.sam_mesg.specs.declared.hmesg.Hmesg.TheVariants.{Hversion, Hbindname, Hcurrent, Hnewname, Hmovname, Hgrow, Hcheck, Hunlock, Hdata, Horigin, Hunlockfile, Hsetdot, Hgrowdata, Hmoveto, Hclean, Hdirty, Hcut, Hsetpat, Hdelname, Hclose, Hsetsnarf, Hsnarflen, Hack, Hexit}
+use Rattle.sam_term.specs.Locks.{is_command_line}
+use Rattle.sam_term.specs.declared.event.UserEvent.{UserEvent}
+use Rattle.sam_term.specs.declared.event.UserEvent.TheVariants.{Typed, Select, Cut, Paste, Snarf, Look, Search, Send, Dclick, Scroll, View, Open, Close, Write, Work, OpenCmd, New, Exit, Check, GetSnarf, SetSnarf, Version, Flush}
+use Rattle.sam_term.specs.declared.files.Unsent.{Unsent}
+use Rattle.sam_term.specs.Term.{PlainTerminal, Made, and_then, unsent_message, flushed, sends, sends_if, unchanged, wanted, requested, joins, joined, moved_unsent, kept_unsent, typed_rasp, types, cuts_dot, has_empty_dot, window_at, put_window, del_rasp, made_by_type, made_by_cut, made_by_paste, made_by_snarf, made_by_view, made_by, made_from, took_unlockfile}
+use Rattle.sam_term.specs.Unsent.{SendsFirst, EventsSendFirst, FramesSendFirst}
+use Rattle.sam_term.proofs.Grows.{ins_cases}
+
+-- what is unsent goes on what was unsent before
+abbrev Longer : Option Unsent → Option Unsent → Type 0
+Longer None after = Unit {0}
+Longer (Some u) after = (typed : List ℕ) × (after ≡ Some (record u { runes = u.runes ++ typed }))
+
+-- nothing is composed and what is unsent grows, or the unsent runes go first
+abbrev Goes : Option Unsent → Option Unsent → List Tmesg → Type 0
+Goes before after [] = Longer before after
+Goes before after (m ∷ ms) = SendsFirst before (m ∷ ms)
+
+same : (before : Option Unsent) → Goes before before []
+same None = tt
+same (Some u) = ([], ap (λ (s : List ℕ). Some (record u { runes = s })) (sym (append-nil u.runes)))
+
+first : (before after : Option Unsent) (ms : List Tmesg) → Goes before after ms → SendsFirst before ms
+first None after ms g = tt
+first (Some u) after [] g = tt
+first (Some u) after (m ∷ ms) g = g
+
+-- one after another
+later : (before middle after : Option Unsent) (ms : List Tmesg) → Longer before middle → Goes middle after ms → Goes before after ms
+later None middle after [] l g = tt
+later None middle after (m ∷ ms) l g = tt
+later (Some u) middle after [] l g =
+    let more = subst (λ (o : Option Unsent). Longer o after) l.1 g in
+    (l.0 ++ more.0, more.1 ∙ ap (λ (s : List ℕ). Some (record u { runes = s })) (append_assoc u.runes l.0 more.0))
+later (Some u) middle after (m ∷ ms) l g =
+    let more = subst (λ (o : Option Unsent). SendsFirst o (m ∷ ms)) l.1 g in
+    (l.0 ++ more.0, more.1 ∙ ap (λ (s : List ℕ). Ttype u.file u.place s) (append_assoc u.runes l.0 more.0))
+
+both : (before middle after : Option Unsent) (ms ns : List Tmesg) → Goes before middle ms → Goes middle after ns → Goes before after (ms ++ ns)
+both before middle after [] ns g h = later before middle after ns g h
+both None middle after (m ∷ ms) ns g h = tt
+both (Some u) middle after (m ∷ ms) ns g h = g
+
+-- the unsent runes are composed, and anything behind them
+sent : (before after : Option Unsent) (ms : List Tmesg) → Goes before after (unsent_message before ++ ms)
+sent None after [] = tt
+sent None after (m ∷ ms) = tt
+sent (Some u) after ms = ([], ap (λ (s : List ℕ). Ttype u.file u.place s) (sym (append-nil u.runes)))
+
+flush : (t : PlainTerminal) (after : Option Unsent) → Goes t.unsent after (flushed t).1
+unfolding flushed
+flush t after = subst (λ (ms : List Tmesg). Goes t.unsent after ms) (append-nil (unsent_message t.unsent)) (sent t.unsent after [])
+
+send : (t : PlainTerminal) (after : Option Unsent) (ms : List Tmesg) → Goes t.unsent after ((flushed t).1 ++ ms)
+unfolding flushed
+send t after ms = sent t.unsent after ms
+
+abbrev GoesMade : PlainTerminal → Made → Type 0
+GoesMade t made = Goes t.unsent made.0.unsent made.1
+
+chosen : (t : PlainTerminal) (b : Bool) (x y : Made) → GoesMade t x → GoesMade t y → GoesMade t (if b then x else y)
+chosen t true x y g h = g
+chosen t false x y g h = h
+
+followed : (t : PlainTerminal) (made : Made) (next : PlainTerminal → Made) → GoesMade t made → GoesMade made.0 (next made.0) → GoesMade t (and_then made next)
+followed t made next g h = both t.unsent made.0.unsent (next made.0).0.unsent made.1 (next made.0).1 g h
+
+sending : (t : PlainTerminal) (change : PlainTerminal → PlainTerminal) (ms : List Tmesg) → GoesMade t (sends t change ms)
+sending t change ms = send t (sends t change ms).0.unsent ms
+
+-- ## Typing
+
+-- runes typed behind the unsent ones leave their start where it is
+moved : (f p n : ℕ) (u : Unsent) → u.place ≤ p → moved_unsent f (place_after_ins p n) (Some u) ≡ Some u
+moved f p n u within = go (u.file == f) (ins_cases p n u.place)
+  where
+    go : (b : Bool) → (((p < u.place) × (place_after_ins p n u.place ≡ u.place + n)) ⊎ ((u.place ≤ p) × (place_after_ins p n u.place ≡ u.place)))
+        → (if b then Some (record u { place = place_after_ins p n u.place }) else Some u) ≡ Some u
+    go false c = refl
+    go true (inl c) = absurd (omega (arith, within, c.0))
+    go true (inr c) = ap (λ (x : ℕ). Some (record u { place = x })) c.1
+
+joins_at : (u : Unsent) (f p : ℕ) (s : List ℕ) → joins (Some u) f p s ≡ true → u.place ≤ p
+joins_at u f p s e = go (u.file == f) (u.place + length u.runes == p) (nat_le (length u.runes + length s) most_in_message) (eqb-true (u.place + length u.runes) p) e
+  where
+    go : (a b c : Bool) → (b ≡ true → u.place + length u.runes ≡ p) → (a && b && c) ≡ true → u.place ≤ p
+    go true true true is q = omega (arith, is refl)
+    go true true false is q = absurd (cc)
+    go true false c is q = absurd (cc)
+    go false b c is q = absurd (cc)
+
+grows : (o : Option Unsent) (f p : ℕ) (s : List ℕ) → Longer o (Some (joined o f p s))
+grows None f p s = tt
+grows (Some u) f p s = (s, refl)
+
+keeps : (t : PlainTerminal) (f p : ℕ) (s : List ℕ) → GoesMade t (kept_unsent t f p s)
+keeps t f p s =
+    chosen t (joins t.unsent f p s) (record t { unsent = Some (joined t.unsent f p s) }, []) (and_then (flushed t) (λ u. (record u { unsent = Some (joined None f p s) }, [])))
+    (grows t.unsent f p s) (send t (Some (joined None f p s)) [])
+
+-- what is unsent then begins at or before the place
+record Begins (p : ℕ) (o : Option Unsent) : Type 0 where
+  unsent : Unsent
+  is : o ≡ Some unsent
+  within : unsent.place ≤ p
+
+begins : (t : PlainTerminal) (f p : ℕ) (s : List ℕ) → Begins p (kept_unsent t f p s).0.unsent
+begins t f p s = go (joins t.unsent f p s) refl
+  where
+    joining : (o : Option Unsent) → joins o f p s ≡ true → Begins p (Some (joined o f p s))
+    joining None e = absurd (cc)
+    joining (Some u) e = record { unsent = record u { runes = u.runes ++ s }; is = refl; within = joins_at u f p s e }
+
+    go : (b : Bool) → joins t.unsent f p s ≡ b
+        → Begins p (if b then (record t { unsent = Some (joined t.unsent f p s) }, []) else and_then (flushed t) (λ u. (record u { unsent = Some (joined None f p s) }, []))).0.unsent
+    go true e = joining t.unsent e
+    go false e = record { unsent = joined None f p s; is = refl; within = omega arith }
+
+typing : (u : PlainTerminal) (f p : ℕ) (s : List ℕ) → Begins p u.unsent → GoesMade u (if is_command_line f s then flushed (typed_rasp u f p s) else (typed_rasp u f p s, []))
+typing u f p s b =
+    let typed = typed_rasp u f p s in
+    let is : typed.unsent ≡ u.unsent = ap (moved_unsent f (place_after_ins p (length (map {A = ℕ} {B = Option ℕ} Some s)))) b.is ∙ (moved f p (length (map {A = ℕ} {B = Option ℕ} Some s)) b.unsent b.within ∙ sym b.is) in
+    chosen u (is_command_line f s) (flushed typed) (typed, [])
+    (subst (λ (o : Option Unsent). Goes o (flushed typed).0.unsent (flushed typed).1) is (flush typed (flushed typed).0.unsent))
+    (subst (λ (o : Option Unsent). Goes u.unsent o []) (sym is) (same u.unsent))
+
+type : (t : PlainTerminal) (f p : ℕ) (s : List ℕ) → GoesMade t (types t f p s)
+type t f p s =
+    followed t (kept_unsent t f p s) (λ u. if is_command_line f s then flushed (typed_rasp u f p s) else (typed_rasp u f p s, []))
+    (keeps t f p s) (typing (kept_unsent t f p s).0 f p s (begins t f p s))
+
+-- ## Events
+
+cuts : (t : PlainTerminal) (f : ℕ) → GoesMade t (cuts_dot t f)
+cuts t f =
+    let d = (window_at t f).dot in
+    let change = λ (u : PlainTerminal). del_rasp u f d.0 d.1 in
+    chosen t (has_empty_dot t f) (t, []) (sends t change (Tcut f d.0 d.1 ∷ [])) (same t.unsent) (sending t change (Tcut f d.0 d.1 ∷ []))
+
+typed : (t : PlainTerminal) (f : ℕ) (s : List ℕ) → GoesMade t (made_by_type t f s)
+unfolding made_by_type
+typed t f s =
+    let p = (window_at t f).dot.0 in
+    let u = (cuts_dot t f).0 in
+    followed t (cuts_dot t f) (λ u. if is_empty s then (u, []) else types u f p s) (cuts t f)
+    (chosen u (is_empty s) (u, []) (types u f p s) (same u.unsent) (type u f p s))
+
+cut : (t : PlainTerminal) (f : ℕ) → GoesMade t (made_by_cut t f)
+unfolding made_by_cut
+cut t f =
+    let d = (window_at t f).dot in
+    let change = λ (u : PlainTerminal). del_rasp u f d.0 d.1 in
+    let messages = Tsnarf f d.0 d.1 ∷ Tcut f d.0 d.1 ∷ [] in
+    chosen t (has_empty_dot t f) (t, []) (sends t change messages) (same t.unsent) (sending t change messages)
+
+paste : (t : PlainTerminal) (f : ℕ) → GoesMade t (made_by_paste t f)
+unfolding made_by_paste
+paste t f =
+    followed t (cuts_dot t f) (λ u. sends u unchanged (Tpaste f (window_at t f).dot.0 ∷ [])) (cuts t f)
+    (sending (cuts_dot t f).0 unchanged (Tpaste f (window_at t f).dot.0 ∷ []))
+
+snarf : (t : PlainTerminal) (f : ℕ) → GoesMade t (made_by_snarf t f)
+unfolding made_by_snarf
+snarf t f =
+    let d = (window_at t f).dot in
+    chosen t (has_empty_dot t f) (t, []) (sends t unchanged (Tsnarf f d.0 d.1 ∷ [])) (same t.unsent) (sending t unchanged (Tsnarf f d.0 d.1 ∷ []))
+
+request : (t : PlainTerminal) (f : ℕ) → GoesMade t (requested t f)
+unfolding requested
+request t f = go (wanted t f)
+  where
+    go : (o : Option Tmesg) → GoesMade t (sends_if o t)
+    go None = same t.unsent
+    go (Some m) = sending t (λ u. u) (m ∷ [])
+
+viewed : (t : PlainTerminal) (f p n : ℕ) → GoesMade t (made_by_view t f p n)
+unfolding made_by_view
+viewed t f p n = request (put_window t f (record (window_at t f) { view_start = p; view_length = n })) f
+
+event : (t : PlainTerminal) (e : UserEvent) → GoesMade t (made_by t e)
+event t (Typed f s) = typed t f s
+event t (Select f p q) = same t.unsent
+event t (Cut f) = cut t f
+event t (Paste f) = paste t f
+event t (Snarf f) = snarf t f
+event t (Look f) = sending t unchanged _
+event t (Search f) = sending t unchanged _
+event t (Send f) = sending t unchanged _
+event t (Dclick f p) = sending t unchanged _
+event t (Scroll f n) = sending t unchanged _
+event t (View f p n) = viewed t f p n
+event t (Open f) = sending t unchanged _
+event t (Close f) = sending t unchanged _
+event t (Write f) = sending t unchanged _
+event t (Work f) = sending t unchanged _
+event t OpenCmd = sending t unchanged _
+event t New = sending t unchanged _
+event t Exit = sending t unchanged _
+event t (Check f) = sending t unchanged _
+event t GetSnarf = sending t unchanged _
+event t (SetSnarf s) = sending t unchanged _
+event t (Version v) = sending t unchanged _
+event t Flush = flush t _
+
+pub events_send_first : EventsSendFirst
+events_send_first t e = first t.unsent (made_by t e).0.unsent (made_by t e).1 (event t e)
+
+-- ## Frames
+
+none : (o : Option Unsent) → SendsFirst o []
+none None = tt
+none (Some u) = tt
+
+requests : (t : PlainTerminal) (f : ℕ) → SendsFirst t.unsent (requested t f).1
+requests t f = first t.unsent (requested t f).0.unsent (requested t f).1 (request t f)
+
+unlocked : (t : PlainTerminal) (f : ℕ) → SendsFirst t.unsent (requested (took_unlockfile t f) f).1
+unfolding took_unlockfile
+unlocked t f = requests (took_unlockfile t f) f
+
+acked : (t : PlainTerminal) (b : Bool) (ms : List Tmesg) → SendsFirst t.unsent (if b then (t, []) else sends t unchanged ms).1
+acked t true ms = none t.unsent
+acked t false ms = first t.unsent (sends t unchanged ms).0.unsent (sends t unchanged ms).1 (send t (sends t unchanged ms).0.unsent ms)
+
+pub frames_send_first : FramesSendFirst
+frames_send_first t (Hversion v) = none t.unsent
+frames_send_first t (Hbindname f) = none t.unsent
+frames_send_first t (Hcurrent f) = none t.unsent
+frames_send_first t (Hnewname f) = none t.unsent
+frames_send_first t (Hmovname f s) = none t.unsent
+frames_send_first t (Hgrow f p n) = none t.unsent
+frames_send_first t (Hcheck f) = requests t f
+frames_send_first t Hunlock = none t.unsent
+frames_send_first t (Hdata f p s) = none t.unsent
+frames_send_first t (Horigin f p) = none t.unsent
+frames_send_first t (Hunlockfile f) = unlocked t f
+frames_send_first t (Hsetdot f p q) = none t.unsent
+frames_send_first t (Hgrowdata f p s) = none t.unsent
+frames_send_first t (Hmoveto f p) = none t.unsent
+frames_send_first t (Hclean f) = none t.unsent
+frames_send_first t (Hdirty f) = none t.unsent
+frames_send_first t (Hcut f p n) = none t.unsent
+frames_send_first t (Hsetpat s) = none t.unsent
+frames_send_first t (Hdelname f) = none t.unsent
+frames_send_first t (Hclose f) = none t.unsent
+frames_send_first t (Hsetsnarf s) = none t.unsent
+frames_send_first t (Hsnarflen n) = none t.unsent
+frames_send_first t Hack = acked t t.has_exited (Tack ∷ [])
+frames_send_first t Hexit = none t.unsent

@@ -1,0 +1,79 @@
+-- Messages that fit at their place of a stream, where they fit at all.
+use Rattle.std.proofs.Common.{◌≡◌, ℕ, ◌≤◌, Bool, true, false, List, [], ◌∷◌, ◌++◌, if◌then◌else◌, ◌==◌, refl, arith}
+use Rattle.std.proofs.lemmas.Bool.{leb-true, le-leb}
+use Rattle.sam_runes.specs.Texts.{snarf_limit, utf8_length}
+use Rattle.sam_mesg.specs.declared.tmesg.Tmesg.{Tmesg}
+use Rattle.sam_mesg.specs.declared.tmesg.Tmesg.TheVariants.{Tsetsnarf}
+use Rattle.sam_mesg.specs.declared.hmesg.Hmesg.{Hmesg}
+use Rattle.sam_mesg.specs.declared.hmesg.Hmesg.TheVariants.{Hversion, Hsetsnarf}
+use Rattle.sam_mesg.specs.declared.hmesg.HFrame.{HFrame}
+use Rattle.sam_mesg.specs.TerminalKinds.{fits_t, FitsT}
+use Rattle.sam_mesg.specs.HostKinds.{fits_h, FitsH}
+use Rattle.sam_frame.specs.Direction.{Direction, terminal, host, after_t, after_h}
+use Rattle.sam_frame.specs.Stream.{FitInTurn, version_after}
+use Rattle.sam_world.specs.Sides.{Each}
+
+-- each message that fits in version 2 fits at its place
+abbrev pub InTurn : {M : Type 0} → Direction M → ℕ → List M → Type 0
+InTurn d v [] = Unit {0}
+InTurn d v (m ∷ ms) = (d.good 2 m → d.good v m) × InTurn d (d.after v m) ms
+
+pub in_turn : {M : Type 0} (d : Direction M) (v : ℕ) (ms : List M) → InTurn d v ms → Each (d.good 2) ms → FitInTurn d v ms
+in_turn d v [] p q = tt
+in_turn d v (m ∷ ms) p q = (p.0 q.0, in_turn d (d.after v m) ms p.1 q.1)
+
+pub InTurn-append : {M : Type 0} (d : Direction M) (v : ℕ) (ms ns : List M) → InTurn d v ms → InTurn d (version_after d v ms) ns → InTurn d v (ms ++ ns)
+InTurn-append d v [] ns p q = q
+InTurn-append d v (m ∷ ms) ns p q = (p.0, InTurn-append d (d.after v m) ms ns p.1 q)
+
+-- ## What fits in some version fits in version 2
+
+limit-if : (b : Bool) → (if b then 4096 else 32000) ≤ 32000
+limit-if true = omega arith
+limit-if false = omega arith
+
+within : (v : ℕ) (s : List ℕ) → utf8_length s ≤ snarf_limit v → utf8_length s ≤ 32000
+within v s l = let most : snarf_limit v ≤ 32000 = limit-if (v == 1) in omega (arith, l, most)
+
+later-t : (v : ℕ) (m : Tmesg) → fits_t v m ≡ true → fits_t 2 m ≡ true
+later-t v (Tsetsnarf s) e = le-leb (utf8_length s) 32000 (within v s (leb-true (utf8_length s) (snarf_limit v) e))
+later-t v m e = e
+
+later-h : (v : ℕ) (m : Hmesg) → fits_h v m ≡ true → fits_h 2 m ≡ true
+later-h v (Hsetsnarf s) e = le-leb (utf8_length s) 32000 (within v s (leb-true (utf8_length s) (snarf_limit v) e))
+later-h v m e = e
+
+pub each_t : (v : ℕ) (ms : List Tmesg) → FitInTurn terminal v ms → Each (FitsT 2) ms
+each_t v [] p = tt
+each_t v (m ∷ ms) p = (record { is_message = p.0.is_message; fits = later-t v m p.0.fits }, each_t (after_t v m) ms p.1)
+
+pub each_h : (v : ℕ) (fs : List HFrame) → FitInTurn host v fs → Each (FitsH 2) fs
+each_h v [] p = tt
+each_h v (f ∷ fs) p = (record { is_message = p.0.is_message; fits = later-h v f.msg p.0.fits }, each_h (after_h v f.msg) fs p.1)
+
+-- ## Messages whose limits no version changes
+
+-- the message fits in every version or in none
+abbrev pub IsFree : Tmesg → Type 0
+IsFree (Tsetsnarf s) = ⊥
+IsFree m = Unit {0}
+
+same_fit : (v : ℕ) (m : Tmesg) → IsFree m → fits_t 2 m ≡ true → fits_t v m ≡ true
+same_fit v (Tsetsnarf s) p e = absurd p
+same_fit v m p e = e
+
+pub free_turn : (v : ℕ) (ms : List Tmesg) → Each IsFree ms → InTurn terminal v ms
+free_turn v [] p = tt
+free_turn v (m ∷ ms) p = ((λ g. record { is_message = g.is_message; fits = same_fit v m p.0 g.fits }), free_turn (after_t v m) ms p.1)
+
+pub snarf_turn : (v : ℕ) (s : List ℕ) → utf8_length s ≤ snarf_limit v → InTurn terminal v (Tsetsnarf s ∷ [])
+snarf_turn v s l = ((λ g. record { is_message = g.is_message; fits = le-leb (utf8_length s) (snarf_limit v) l }), tt)
+
+-- the frame says nothing of the version
+abbrev pub IsPlain : Hmesg → Type 0
+IsPlain (Hversion v) = ⊥
+IsPlain m = Unit {0}
+
+pub plain_past : (v : ℕ) (m : Hmesg) → IsPlain m → after_h v m ≡ v
+plain_past v (Hversion n) p = absurd p
+plain_past v m p = refl

@@ -1,0 +1,163 @@
+-- What a terminal composes for frames, and what stops it.
+use Rattle.std.proofs.Common.{◌≡◌, ◌∙◌, ℕ, ◌≤◌, inl, inr, List, [], ◌∷◌, ◌++◌, length, Option, None, Some, Ok, Err, Bool, true, false, cond, leb, nat_eq, if◌then◌else◌, refl, sym, ap, subst, append-nil, append_assoc, length-append, arith, All, IsTrue}
+use Rattle.std.specs.Str.{encode_utf8_all}
+use Rattle.std.proofs.lemmas.Bool.{leb-true, le-leb}
+use Rattle.std.proofs.lemmas.List.Elements.{All-nil, All-cons}
+use Rattle.sam_mesg.specs.declared.tmesg.Tmesg.{Tmesg}
+use Rattle.sam_mesg.specs.declared.tmesg.Tmesg.TheVariants.{Tack}
+use Rattle.sam_mesg.specs.declared.hmesg.Hmesg.{Hmesg}
+use Rattle.sam_mesg.specs.declared.hmesg.Hmesg.TheVariants.{Hversion, Hbindname, Hcurrent, Hnewname, Hmovname, Hgrow, Hcheck, Hunlock, Hdata, Horigin, Hunlockfile, Hsetdot, Hgrowdata, Hmoveto, Hclean, Hdirty, Hcut, Hsetpat, Hdelname, Hclose, Hsetsnarf, Hsnarflen, Hack, Hexit}
+use Rattle.sam_mesg.specs.declared.hmesg.HFrame.{HFrame}
+use Rattle.sam_mesg.specs.declared.fault.MesgFault.{MesgFault}
+use Rattle.sam_mesg.specs.HostKinds.{fits_h}
+use Rattle.sam_frame.specs.Direction.{host}
+use Rattle.sam_frame.specs.Stream.{FitInTurn}
+use Rattle.sam_frame.specs.Framing.{Held}
+use Rattle.sam_term.specs.Term.{PlainTerminal, Made, flushed, unsent_message, sends, sends_if, unchanged, requested, wanted, made_from, made_unless, take_of, took_unlockfile}
+use Rattle.sam_term.specs.declared.files.Unsent.{Unsent}
+use Rattle.sam_term.specs.declared.fault.TermFault.{TermFault}
+use Rattle.sam_term.specs.declared.fault.TermFault.TheVariants as fault
+use Rattle.sam_threads.specs.Feeding.{TakesAll, Gives, FeedsTerminal, StopsAt, TakesOne, TakesUpTo}
+use Rattle.sam_threads.specs.Numbers.{frame_number}
+use Rattle.sam_threads.specs.declared.stop.Stop.{Stop}
+use Rattle.sam_threads.specs.declared.stop.Stop.TheVariants as stop
+
+-- ---- what fits at its place fits in version 2
+
+longer : (is_first : Bool) (n : ℕ) → leb n (cond is_first 4096 32000) ≡ true → leb n 32000 ≡ true
+longer true n e = le-leb n 32000 (omega (arith, leb-true n 4096 e))
+longer false n e = e
+
+grows : (version : ℕ) (m : Hmesg) → fits_h version m ≡ true → fits_h 2 m ≡ true
+grows version (Hsetsnarf s) e = longer (nat_eq version 1) (length (encode_utf8_all s)) e
+grows version m e = e
+
+pub all_fit : (version : ℕ) (frames : List HFrame) → FitInTurn host version frames → All (λ (f : HFrame). IsTrue (fits_h 2 f.msg)) frames
+all_fit version [] fit = All-nil (λ (f : HFrame). IsTrue (fits_h 2 f.msg))
+all_fit version (f ∷ frames) fit =
+    All-cons (λ (g : HFrame). IsTrue (fits_h 2 g.msg)) f frames (grows version f.msg fit.0.fits) (all_fit (host.after version f) frames fit.1)
+
+-- ---- a frame makes a terminal compose two messages at most
+
+record Few (n : ℕ) (made : Made) : Type 0 where
+  pub few : length made.1 ≤ n
+
+few_unsent : (unsent : Option Unsent) → length (unsent_message unsent) ≤ 1
+few_unsent None = omega arith
+few_unsent (Some u) = omega arith
+
+few_flushed : (t : PlainTerminal) → Few 1 (flushed t)
+unfolding flushed
+few_flushed t = record { few = few_unsent t.unsent }
+
+few_sends : (t : PlainTerminal) (change : PlainTerminal → PlainTerminal) (m : Tmesg) → Few 2 (sends t change (m ∷ []))
+few_sends t change m = let f = few_flushed t in record { few = omega (arith, f.few, length-append (flushed t).1 (m ∷ [])) }
+
+few_sends_if : (m : Option Tmesg) (t : PlainTerminal) → Few 2 (sends_if m t)
+few_sends_if None t = record { few = omega arith }
+few_sends_if (Some m) t = few_sends t (λ u. u) m
+
+few_requested : (t : PlainTerminal) (f : ℕ) → Few 2 (requested t f)
+unfolding requested
+few_requested t f = few_sends_if (wanted t f) t
+
+few_ack : (t : PlainTerminal) (b : Bool) → Few 2 (if b then (t, []) else sends t unchanged (Tack ∷ []))
+few_ack t true = record { few = omega arith }
+few_ack t false = few_sends t unchanged Tack
+
+few_from : (t : PlainTerminal) (m : Hmesg) → Few 2 (made_from t m)
+few_from t (Hcheck f) = few_requested t f
+few_from t (Hunlockfile f) = few_requested (took_unlockfile t f) f
+few_from t Hack = few_ack t t.has_exited
+few_from t (Hversion v) = record { few = omega arith }
+few_from t (Hbindname f) = record { few = omega arith }
+few_from t (Hcurrent f) = record { few = omega arith }
+few_from t (Hnewname f) = record { few = omega arith }
+few_from t (Hmovname f s) = record { few = omega arith }
+few_from t (Hgrow f p n) = record { few = omega arith }
+few_from t Hunlock = record { few = omega arith }
+few_from t (Hdata f p s) = record { few = omega arith }
+few_from t (Horigin f p) = record { few = omega arith }
+few_from t (Hsetdot f p q) = record { few = omega arith }
+few_from t (Hgrowdata f p s) = record { few = omega arith }
+few_from t (Hmoveto f p) = record { few = omega arith }
+few_from t (Hclean f) = record { few = omega arith }
+few_from t (Hdirty f) = record { few = omega arith }
+few_from t (Hcut f p n) = record { few = omega arith }
+few_from t (Hsetpat s) = record { few = omega arith }
+few_from t (Hdelname f) = record { few = omega arith }
+few_from t (Hclose f) = record { few = omega arith }
+few_from t (Hsetsnarf s) = record { few = omega arith }
+few_from t (Hsnarflen n) = record { few = omega arith }
+few_from t Hexit = record { few = omega arith }
+
+few_counted : (b : Bool) (made : Made) (u : PlainTerminal) (ms : List Tmesg) → Few 2 made → (if b then Err fault.CountFull else Ok made) ≡ Ok (u, ms) → length ms ≤ 2
+few_counted true made u ms few is = absurd (cc)
+few_counted false made u ms few is =
+    let same : made ≡ (u, ms) = cc in
+    subst (λ (m : Made). length m.1 ≤ 2) same few.few
+
+few_unless : (o : Option TermFault) (made : Made) (u : PlainTerminal) (ms : List Tmesg) → Few 2 made → made_unless o made ≡ Ok (u, ms) → length ms ≤ 2
+few_unless (Some why) made u ms few is = absurd (cc)
+few_unless None made u ms few is = few_counted _ made u ms few is
+
+pub takes_few : (t u : PlainTerminal) (frame : HFrame) (ms : List Tmesg) → take_of t frame ≡ Ok (u, ms) → length ms ≤ 2
+unfolding take_of
+takes_few t u frame ms is = few_unless _ (made_from t frame.msg) u ms (few_from t frame.msg) is
+
+-- ---- one frame after another
+
+pub takes_more : (t u v : PlainTerminal) (frames : List HFrame) (frame : HFrame) (ms some : List Tmesg)
+    → TakesAll t frames ms u → take_of u frame ≡ Ok (v, some) → TakesAll t (frames ++ frame ∷ []) (ms ++ some) v
+takes_more t u v [] frame ms some (none, same) is = (
+  v,
+  some,
+  [],
+  subst (λ (x : PlainTerminal). take_of x frame ≡ Ok (v, some)) same is,
+  ap (λ (l : List Tmesg). l ++ some) none ∙ sym (append-nil some),
+  (refl, refl),
+)
+takes_more t u v (f ∷ frames) frame ms some (w, first, rest, step, parts, took) is = (
+  w,
+  first,
+  rest ++ some,
+  step,
+  ap (λ (l : List Tmesg). l ++ some) parts ∙ append_assoc first rest some,
+  takes_more w u v frames frame rest some took is,
+)
+
+pub one_more : (t u v : PlainTerminal) (frames : List HFrame) (frame : HFrame) (before after : List Tmesg)
+    → TakesAll t frames before u → TakesOne frame u v before after None → TakesAll t (frames ++ frame ∷ []) after v
+one_more t u v frames frame before after took (some, is, grew) =
+    subst (λ (l : List Tmesg). TakesAll t (frames ++ frame ∷ []) l v) (sym grew) (takes_more t u v frames frame before some took is)
+
+-- ---- what a piece came to
+
+stops_at : (h : Held) (piece : List ℕ) (k : Held) (t u : PlainTerminal) (ms : List Tmesg) (done : List HFrame) (frame : HFrame) (rest : List HFrame) (o : Option MesgFault) (s : Stop)
+    → Gives h piece k (done ++ frame ∷ rest) o → TakesAll t done ms u → StopsAt u frame s → FeedsTerminal h piece k t u ms (Some s)
+stops_at h piece k t u ms done frame rest o (stop.Frame n) gives took never = absurd never
+stops_at h piece k t u ms done frame rest o (stop.Host n) gives took never = absurd never
+stops_at h piece k t u ms done frame rest o (stop.Term n) gives took (why, refused, is) = (done, frame, rest, why, (o, gives, took), refused, is)
+stops_at h piece k t u ms done frame rest o stop.PeerGone gives took never = absurd never
+stops_at h piece k t u ms done frame rest o stop.Gate gives took never = absurd never
+stops_at h piece k t u ms done frame rest o stop.Memory gives took wanted = inr (done, frame, rest, (o, gives, took))
+
+stops_before : (h : Held) (piece : List ℕ) (k : Held) (t u : PlainTerminal) (ms : List Tmesg) (frames : List HFrame) (o : Option MesgFault) (stopped : Option Stop)
+    → Gives h piece k frames o
+    → (done : List HFrame) (frame : HFrame) (rest : List HFrame) (s : Stop) → frames ≡ done ++ frame ∷ rest → TakesAll t done ms u → stopped ≡ Some s → StopsAt u frame s
+    → FeedsTerminal h piece k t u ms stopped
+stops_before h piece k t u ms frames o stopped gives done frame rest s parts took is at =
+    subst (λ (x : Option Stop). FeedsTerminal h piece k t u ms x) (sym is)
+    (stops_at h piece k t u ms done frame rest o s (subst (λ (fs : List HFrame). Gives h piece k fs o) parts gives) took at)
+
+pub fed_all : (h : Held) (piece : List ℕ) (k : Held) (t u : PlainTerminal) (ms : List Tmesg) (frames : List HFrame) (stopped : Option Stop)
+    → Gives h piece k frames None → TakesUpTo frames None t u ms stopped → FeedsTerminal h piece k t u ms stopped
+fed_all h piece k t u ms frames stopped gives (inl (took, is)) = subst (λ (x : Option Stop). FeedsTerminal h piece k t u ms x) (sym is) (frames, gives, took)
+fed_all h piece k t u ms frames stopped gives (inr (done, frame, rest, s, parts, took, is, at)) = stops_before h piece k t u ms frames None stopped gives done frame rest s parts took is at
+
+pub fed_before : (h : Held) (piece : List ℕ) (k : Held) (t u : PlainTerminal) (ms : List Tmesg) (frames : List HFrame) (fault : MesgFault) (n : ℕ) (stopped : Option Stop)
+    → Gives h piece k frames (Some fault) → n ≡ frame_number fault → TakesUpTo frames (Some (stop.Frame n)) t u ms stopped → FeedsTerminal h piece k t u ms stopped
+fed_before h piece k t u ms frames fault n stopped gives number (inl (took, is)) =
+    subst (λ (x : Option Stop). FeedsTerminal h piece k t u ms x) (sym is) (inl (frames, fault, gives, number, took))
+fed_before h piece k t u ms frames fault n stopped gives number (inr (done, frame, rest, s, parts, took, is, at)) =
+    stops_before h piece k t u ms frames (Some fault) stopped gives done frame rest s parts took is at

@@ -1,0 +1,199 @@
+-- All that the host's worker takes.
+use Rattle.std.proofs.Common.{◌≡◌, ◌∙◌, inl, inr, ℕ, ◌≤◌, List, [], ◌++◌, length, All, Option, Some, None, Ok, refl, sym, ap, subst, append_assoc, append-nil, arith}
+use Rattle.std.specs.Global.{Vec}
+use Rattle.sam_mesg.specs.declared.tmesg.Tmesg.{Tmesg}
+use Rattle.sam_mesg.specs.declared.hmesg.HFrame.{HFrame}
+use Rattle.sam_frame.specs.Direction.{terminal, host, frame_of}
+use Rattle.sam_frame.specs.Stream.{Splits, IsOpen, version_after, stream_of}
+use Rattle.sam_frame.specs.Framing.{Held, GaveAll, fresh}
+use Rattle.sam_frame.proofs.Fronts.{version_after-append}
+use Rattle.sam_frame.proofs.Cuttings.{Came, comes_more, splits_more}
+use Rattle.sam_host.specs.Host.{PlainHost, new_host}
+use Rattle.sam_queue.specs.declared.port.Entry.{Entry}
+use Rattle.sam_queue.specs.History.{items_of, IsEnded}
+use Rattle.sam_queue.specs.Views.{LineView, PostView, TakeView, TakesNext, Answers, new_post, closed_post}
+use Rattle.sam_queue.specs.declared.take.Got.{Got}
+use Rattle.sam_queue.specs.declared.take.Got.TheVariants.{Left}
+use Rattle.sam_queue.proofs.Laws.{items_of_item, items_of_mark}
+use Rattle.sam_queue.proofs.Sorts.{items_of-append}
+use Rattle.sam_script.specs.Script.{IsFile}
+use Rattle.sam_world.specs.Sides.{HostRuns}
+use Rattle.sam_threads.specs.RealSides.{sides}
+use Rattle.sam_threads.specs.Inputs.{bytes_of}
+use Rattle.sam_threads.specs.Told.{HostStopped, HostTold}
+use Rattle.sam_threads.specs.Handling.{Handled, HandledFront, TakesPiece, Serves, Ends, Halts}
+use Rattle.sam_threads.specs.declared.stop.Stop.{Stop}
+use Rattle.sam_threads.specs.declared.stop.Stop.TheVariants as stop
+use Rattle.sam_threads.specs.declared.ends.HostEnd.{HostEnd}
+use Rattle.sam_threads.proofs.Cut.{bytes_append, bytes_snoc}
+use Rattle.sam_threads.proofs.HostSide.{handled_nothing, handled_on}
+
+-- what was taken are the messages that were handled, and what the framer holds
+pub record Going (h k : PlainHost) (p q : PostView (Vec ℕ)) (held : Held) (taken : List (Entry (Vec ℕ))) : Type 0 where
+  pub messages : List Tmesg
+  pub answered : List HFrame
+  pub did : Handled h k p q messages answered []
+  pub came : Came terminal fresh (bytes_of (items_of 0 taken)) messages held
+
+pub going_begins : (h : PlainHost) (p : PostView (Vec ℕ)) (held : Held) (taken : List (Entry (Vec ℕ))) → held ≡ fresh → taken ≡ [] → Going h h p p held taken
+going_begins h p held taken new none =
+    let begins : Came terminal fresh [] [] fresh = record { splits = record { whole = refl; fit = tt }; opened = tt; version_is = refl; offset_is = refl; sound = refl } in
+    let there : Came terminal fresh (bytes_of (items_of 0 taken)) [] fresh =
+    subst (λ (x : List (Entry (Vec ℕ))). Came terminal fresh (bytes_of (items_of 0 x)) [] fresh) (sym none) begins in
+    record {
+      messages = [];
+      answered = [];
+      did = handled_nothing h p;
+      came = subst (λ (x : Held). Came terminal fresh (bytes_of (items_of 0 taken)) [] x) (sym new) there;
+    }
+
+-- an item of the one sender
+item_is : (senders : ℕ) (a b : TakeView (Vec ℕ)) (sender : ℕ) (piece : Vec ℕ) → senders ≡ 1 → a.line.senders ≡ senders
+    → TakesNext a (record { sender = sender; load = Some piece }) b → bytes_of (items_of 0 b.taken) ≡ bytes_of (items_of 0 a.taken) ++ piece.items
+item_is senders a b sender piece one line next =
+    let few = next.sender in
+    let first : sender ≡ 0 = omega arith in
+    ap (λ (x : List (Entry (Vec ℕ))). bytes_of (items_of 0 x)) next.taken
+    ∙ (ap (λ (x : List (Vec ℕ)). bytes_of x) (items_of_item 0 a.taken (record { sender = sender; load = Some piece }) piece first refl)
+    ∙ bytes_snoc (items_of 0 a.taken) piece)
+
+pub going_item : (refuses : Type 0) (h j k : PlainHost) (p q r : PostView (Vec ℕ)) (held next : Held) (a b : TakeView (Vec ℕ)) (sender : ℕ) (piece : Vec ℕ) (fed : List ℕ)
+    → a.line.senders ≡ 1 → TakesNext a (record { sender = sender; load = Some piece }) b → fed ≡ piece.items
+    → Going h j p q held a.taken → TakesPiece refuses j k q r held next fed (Ok tt) → Going h k p r next b.taken
+going_item refuses h j k p q r held next a b sender piece fed one takes is going (ms, answered, gave, did) = record {
+  messages = going.messages ++ ms;
+  answered = going.answered ++ answered;
+  did = handled_on h j k p q r going.messages ms going.answered answered [] going.did did;
+  came =
+      subst (λ (x : List ℕ). Came terminal fresh x (going.messages ++ ms) next) (sym (item_is 1 a b sender piece refl one takes))
+      (comes_more terminal fresh (bytes_of (items_of 0 a.taken)) going.messages held piece.items ms next going.came (subst (λ (x : List ℕ). GaveAll terminal held x ms next) is gave));
+}
+
+going_mark : (h j : PlainHost) (p q : PostView (Vec ℕ)) (held : Held) (a b : TakeView (Vec ℕ)) (sender : ℕ)
+    → TakesNext a (record { sender = sender; load = None }) b → Going h j p q held a.taken → Going h j p q held b.taken
+going_mark h j p q held a b sender takes going =
+    let same : items_of 0 b.taken ≡ items_of 0 a.taken =
+    ap (λ (x : List (Entry (Vec ℕ))). items_of 0 x) takes.taken ∙ items_of_mark 0 a.taken (record { sender = sender; load = None }) refl in
+    record {
+      messages = going.messages;
+      answered = going.answered;
+      did = going.did;
+      came = subst (λ (x : List (Vec ℕ)). Came terminal fresh (bytes_of x) going.messages held) (sym same) going.came;
+    }
+
+pub going_left : (h j : PlainHost) (p q : PostView (Vec ℕ)) (held : Held) (a b : TakeView (Vec ℕ)) (got : Got (Vec ℕ)) (sender : ℕ)
+    → got ≡ Left sender → Answers a got b → Going h j p q held a.taken → Going h j p q held b.taken
+going_left h j p q held a b got sender is answers going =
+    going_mark h j p q held a b sender (subst (λ (x : Got (Vec ℕ)). Answers a x b) is answers) going
+
+pub going_ends : (refuses : Type 0) (h k : PlainHost) (p q : PostView (Vec ℕ)) (held : Held) (taken : List (Entry (Vec ℕ)))
+    → Going h k p q held taken → IsEnded 1 taken → Serves refuses h k p q taken None
+going_ends refuses h k p q held taken going ended = record {
+  handled = going.messages;
+  answered = going.answered;
+  unput = [];
+  rest = held.bytes;
+  did = going.did;
+  fit = going.came.splits.fit;
+  got = going.came.splits.whole;
+  ends = (ended, refl, subst (λ (v : ℕ). IsOpen terminal v held.bytes) going.came.version_is going.came.opened);
+}
+
+pub going_stops : (refuses : Type 0) (h j k : PlainHost) (p q r : PostView (Vec ℕ)) (held : Held) (a b : TakeView (Vec ℕ)) (sender : ℕ) (piece : Vec ℕ) (fed : List ℕ) (why : Stop)
+    → a.line.senders ≡ 1 → TakesNext a (record { sender = sender; load = Some piece }) b → fed ≡ piece.items
+    → Going h j p q held a.taken → HandledFront refuses j k q r held.version (held.bytes ++ fed) why → Serves refuses h k p r b.taken (Some why)
+going_stops refuses h j k p q r held a b sender piece fed why one takes is going front =
+    let bytes = bytes_of (items_of 0 a.taken) in
+    let splits = subst (λ (x : List ℕ). Splits terminal held.version (held.bytes ++ x) front.handled front.rest) is front.splits in
+    let all = splits_more terminal fresh bytes going.messages held piece.items front.handled front.rest going.came splits in
+    let version : version_after terminal held.version front.handled ≡ version_after terminal 1 (going.messages ++ front.handled) =
+    ap (λ (v : ℕ). version_after terminal v front.handled) going.came.version_is ∙ sym (version_after-append terminal 1 going.messages front.handled) in
+    record {
+      handled = going.messages ++ front.handled;
+      answered = going.answered ++ front.answered;
+      unput = front.unput;
+      rest = front.rest;
+      did = handled_on h j k p q r going.messages front.handled going.answered front.answered front.unput going.did front.did;
+      fit = all.fit;
+      got = item_is 1 a b sender piece refl one takes ∙ all.whole;
+      ends = subst (λ (v : ℕ). Halts refuses k v front.rest why) version front.halts;
+    }
+
+-- the gate did not let it begin
+pub serves_nothing : (refuses : Type 0) (h : PlainHost) (p : PostView (Vec ℕ)) (taken : List (Entry (Vec ℕ))) → taken ≡ [] → refuses → Serves refuses h h p p taken (Some stop.Gate)
+serves_nothing refuses h p taken none stops = record {
+  handled = [];
+  answered = [];
+  unput = [];
+  rest = [];
+  did = handled_nothing h p;
+  fit = tt;
+  got = ap (λ (x : List (Entry (Vec ℕ))). bytes_of (items_of 0 x)) none;
+  ends = stops;
+}
+
+-- ## The end
+
+pub gate_refuses : (refuses : Type 0) (h k : PlainHost) (p q : PostView (Vec ℕ)) (taken : List (Entry (Vec ℕ))) (s : Option Stop) → Serves refuses h k p q taken s → s ≡ Some stop.Gate → refuses
+gate_refuses refuses h k p q taken s serves is =
+    let ends = subst (λ (x : Option Stop). Ends refuses k taken serves.handled serves.unput serves.rest x) is serves.ends in ends
+
+-- where nothing stopped it the end mark was taken
+pub serves_ended : (refuses : Type 0) (h k : PlainHost) (p q : PostView (Vec ℕ)) (taken : List (Entry (Vec ℕ))) (s : Option Stop) (senders : ℕ)
+    → senders ≡ 1 → Serves refuses h k p q taken s → s ≡ None → IsEnded senders taken
+serves_ended refuses h k p q taken s senders one serves is =
+    let ends = subst (λ (x : Option Stop). Ends refuses k taken serves.handled serves.unput serves.rest x) is serves.ends in
+    subst (λ (n : ℕ). IsEnded n taken) (sym one) ends.0
+
+-- what came after the stop was dropped
+ends_dropped : (refuses : Type 0) (e : HostEnd) (taken more : List (Entry (Vec ℕ))) (handled : List Tmesg) (unput rest : List ℕ) (s : Option Stop)
+    → e.take.taken ≡ taken ++ more → (s ≡ None → more ≡ []) → Ends refuses e.host taken handled unput rest s
+    → HostStopped e handled unput (rest ++ bytes_of (items_of 0 more)) s
+ends_dropped refuses e taken more handled unput rest None all none ends =
+    let nothing = none refl in
+    let same : taken ≡ e.take.taken = sym (append-nil taken) ∙ (ap (λ (x : List (Entry (Vec ℕ))). taken ++ x) (sym nothing) ∙ sym all) in
+    let bytes : rest ≡ rest ++ bytes_of (items_of 0 more) = sym (append-nil rest) ∙ ap (λ (x : List (Entry (Vec ℕ))). rest ++ bytes_of (items_of 0 x)) (sym nothing) in (
+      subst (λ (x : List (Entry (Vec ℕ))). IsEnded 1 x) same ends.0,
+      ends.1,
+      subst (λ (x : List ℕ). IsOpen terminal (version_after terminal 1 handled) x) bytes ends.2,
+    )
+ends_dropped refuses e taken more handled unput rest (Some (stop.Frame n)) all none (inl full) = inl full
+ends_dropped refuses e taken more handled unput rest (Some (stop.Frame n)) all none (inr shows) =
+    inr (rest, bytes_of (items_of 0 more), shows.0, refl, shows.1, shows.2)
+ends_dropped refuses e taken more handled unput rest (Some (stop.Host n)) all none next =
+    let dropped = bytes_of (items_of 0 more) in
+    (next.0, next.1 ++ dropped, next.2, next.3, ap (λ (x : List ℕ). x ++ dropped) next.4 ∙ append_assoc (frame_of terminal next.0) next.1 dropped, next.5, next.6)
+ends_dropped refuses e taken more handled unput rest (Some (stop.Term n)) all none ends = ends
+ends_dropped refuses e taken more handled unput rest (Some stop.PeerGone) all none ends = ends
+ends_dropped refuses e taken more handled unput rest (Some stop.Gate) all none ends = tt
+ends_dropped refuses e taken more handled unput rest (Some stop.Memory) all none ends = tt
+
+pub told_of : (refuses : Type 0) (up down : LineView) (h : PlainHost) (p q : PostView (Vec ℕ)) (taken more : List (Entry (Vec ℕ))) (e : HostEnd)
+    → p ≡ new_post down 0 → h ≡ new_host e.files.items → (length e.files.items ≤ 65535) × All IsFile e.files.items
+    → Serves refuses h e.host p q taken e.stop
+    → e.post ≡ closed_post q → e.take.line ≡ up → e.take.taken ≡ taken ++ more → (e.stop ≡ None → more ≡ [])
+    → HostTold up down e
+told_of refuses up down h p q taken more e first begins files serves closed line all none = record {
+  handled = serves.handled;
+  answered = serves.answered;
+  outbox = serves.unput;
+  rest = serves.rest ++ bytes_of (items_of 0 more);
+  take_is = line;
+  post_is = ap (λ (x : PostView (Vec ℕ)). x.line) closed ∙ (serves.did.line ∙ ap (λ (x : PostView (Vec ℕ)). x.line) first);
+  number_is = ap (λ (x : PostView (Vec ℕ)). x.number) closed ∙ (serves.did.number ∙ ap (λ (x : PostView (Vec ℕ)). x.number) first);
+  files = files;
+  runs = subst (λ (x : PlainHost). HostRuns sides x serves.handled serves.answered e.host) begins serves.did.runs;
+  fit = serves.fit;
+  got =
+      ap (λ (x : List (Entry (Vec ℕ))). bytes_of (items_of 0 x)) all
+      ∙ (ap (λ (x : List (Vec ℕ)). bytes_of x) (items_of-append 0 taken more)
+      ∙ (bytes_append (items_of 0 taken) (items_of 0 more)
+      ∙ (ap (λ (x : List ℕ). x ++ bytes_of (items_of 0 more)) serves.got
+      ∙ append_assoc (stream_of terminal serves.handled) serves.rest (bytes_of (items_of 0 more)))));
+  sent =
+      ap (λ (x : PostView (Vec ℕ)). bytes_of x.put ++ serves.unput) closed
+      ∙ (serves.did.put ∙ ap (λ (x : PostView (Vec ℕ)). bytes_of x.put ++ stream_of host serves.answered) first);
+  answers_fit = serves.did.answers_fit;
+  closed = ap (λ (x : PostView (Vec ℕ)). x.closed) closed;
+  stopped = ends_dropped refuses e taken more serves.handled serves.unput serves.rest e.stop all none serves.ends;
+}

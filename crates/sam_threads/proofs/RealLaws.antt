@@ -1,0 +1,176 @@
+-- The real sides count as the law of two sides asks, their frames are told apart, and their world is the plain world.
+use Rattle.std.proofs.Common.{◌≡◌, suc, ◌+◌, ◌≤◌, Bool, true, false, List, [], ◌∷◌, length, Option, Some, None, Result, Ok, Err, nat_lt, refl, sym, ap, ◌∙◌, arith}
+use Rattle.std.specs.Prelude.{option_map, option_and_then, All}
+use Rattle.std.proofs.lemmas.Option.{same_Some}
+use Rattle.std.proofs.lemmas.Bool.{ltb-false}
+use Rattle.sam_runes.specs.Checks.{first_of_checks}
+use Rattle.sam_mesg.specs.declared.tmesg.Tmesg.{Tmesg}
+use Rattle.sam_mesg.specs.declared.hmesg.HFrame.{HFrame}
+use Rattle.sam_mesg.specs.TerminalKinds.{FitsT}
+use Rattle.sam_mesg.specs.HostKinds.{FitsH}
+use Rattle.sam_mesg.proofs.TerminalLaws as upwards
+use Rattle.sam_mesg.proofs.HostLaws as downwards
+use Rattle.sam_frame.specs.Direction.{terminal, host, frame_of}
+use Rattle.sam_frame.specs.Reading.{IsSound}
+use Rattle.sam_host.specs.Host.{PlainHost, answer, new_host}
+use Rattle.sam_host.specs.declared.fault.HostFault.{HostFault}
+use Rattle.sam_host.proofs.SoundLaws.{answers_are_counted}
+use Rattle.sam_term.specs.Term.{PlainTerminal, Made, act_of, flush_of, take_of, made_from, made_unless, frame_checks}
+use Rattle.sam_term.specs.declared.fault.TermFault.{TermFault}
+use Rattle.sam_term.specs.declared.fault.TermFault.TheVariants as fault
+use Rattle.sam_term.specs.declared.event.Acted.{Acted}
+use Rattle.sam_world.specs.declared.event.Event.{Event}
+use Rattle.sam_world.specs.declared.event.Event.TheVariants.{User, Act, Flush, HostTake, TermTake}
+use Rattle.sam_world.specs.World.{PlainWorld, composed_by, after_act, after_compose, after_answer, host_takes, term_takes, step_of, run_of}
+use Rattle.sam_world.specs.Order.{IsCounted}
+use Rattle.sam_world.specs.Sides.{Each, Counts, World, world, and_then, composed, answered, host_take, term_take, step, run}
+use Rattle.sam_world.specs.Streams.{PrefixFree}
+use Rattle.sam_world.proofs.RunLaws.{counted_step}
+use Rattle.sam_threads.specs.RealSides.{sides, unless_refused, acted}
+
+-- ## What a step of the sides was
+
+pub answered_as : {A E : Type 0} (r : Result A E) (x : A) → unless_refused r ≡ Some x → r ≡ Ok x
+answered_as (Ok a) x e = ap Ok (same_Some a x e)
+answered_as (Err why) x e = absurd (cc)
+
+-- a host that is sure of its count, with a terminal
+counting : PlainTerminal → List HFrame → PlainWorld
+counting t down = record { host = record (new_host []) { taken = t.sent }; term = t; up = []; down = down }
+
+counted_act : (t : PlainTerminal) (r : PlainTerminal × Acted) → act_of t ≡ Ok r → r.0.sent ≡ t.sent + length (composed_by r.1)
+unfolding counting
+counted_act t r e =
+    let w = counting t [] in
+    let next : PlainWorld = record w { term = r.0; up = composed_by r.1 } in
+    let start : IsCounted w = record { all = omega arith; stamps = tt } in
+    let went : step_of w Act ≡ Some next = ap (after_act w) e in
+    sym (counted_step w Act next start went).all
+
+counted_flush : (t : PlainTerminal) (r : Made) → flush_of t ≡ Ok r → r.0.sent ≡ t.sent + length r.1
+unfolding counting
+counted_flush t r e =
+    let w = counting t [] in
+    let next : PlainWorld = record w { term = r.0; up = r.1 } in
+    let start : IsCounted w = record { all = omega arith; stamps = tt } in
+    let went : step_of w Flush ≡ Some next = ap (after_compose w) e in
+    sym (counted_step w Flush next start went).all
+
+taken_past : (t : PlainTerminal) (frame : HFrame) (r : Made) → take_of t frame ≡ Ok r → frame.seen ≤ t.sent
+unfolding take_of
+taken_past t frame r e = go (nat_lt t.sent frame.seen) refl e
+  where
+    go : (b : Bool) → nat_lt t.sent frame.seen ≡ b → made_unless (first_of_checks ((b, fault.FromTheFuture) ∷ frame_checks t frame.msg)) (made_from t frame.msg) ≡ Ok r → frame.seen ≤ t.sent
+    go true q e = absurd (cc)
+    go false q e = ltb-false t.sent frame.seen q
+
+counted_take : (t : PlainTerminal) (frame : HFrame) (r : Made) → take_of t frame ≡ Ok r → r.0.sent ≡ t.sent + length r.1
+unfolding counting
+counted_take t frame r e =
+    let w = counting t (frame ∷ []) in
+    let next : PlainWorld = record w { term = r.0; up = r.1; down = [] } in
+    let start : IsCounted w = record { all = omega arith; stamps = (taken_past t frame r e, tt) } in
+    let went : step_of w TermTake ≡ Some next = ap (after_compose (record w { down = [] })) e in
+    sym (counted_step w TermTake next start went).all
+
+to_each : {X : Type 0} (P : X → Type 0) (xs : List X) → All P xs → Each P xs
+to_each P [] a = tt
+to_each P (x ∷ xs) a = (a 0 x (omega arith), to_each P xs (λ k d l. a (suc k) d (omega (arith, l))))
+
+acted_as : (r : Result (PlainTerminal × Acted) TermFault) (u : PlainTerminal) (ms : List Tmesg) → acted r ≡ Some (u, ms)
+    → (p : PlainTerminal × Acted) × (r ≡ Ok p) × (p.0 ≡ u) × (composed_by p.1 ≡ ms)
+acted_as (Ok p) u ms e =
+    let made : Made = (p.0, composed_by p.1) in
+    let given : Made = (u, ms) in
+    let same : made ≡ given = same_Some made given e in
+    (p, refl, ap (λ (x : Made). x.0) same, ap (λ (x : Made). x.1) same)
+acted_as (Err why) u ms e = absurd (cc)
+
+-- ## The counts count
+
+pub counts : Counts sides
+counts = record {
+  taken = λ h m k fs e. (answers_are_counted h k m fs (answered_as (answer h m) (k, fs) e)).0;
+  stamped = λ h m k fs e. to_each (λ (frame : HFrame). frame.seen ≡ k.taken) fs (answers_are_counted h k m fs (answered_as (answer h m) (k, fs) e)).1;
+  user = λ t e. refl;
+  act = λ t u ms e.
+      let x = acted_as (act_of t) u ms e in
+      sym (ap (λ (v : PlainTerminal). v.sent) x.2) ∙ (counted_act t x.0 x.1 ∙ ap (λ (l : List Tmesg). t.sent + length l) x.3);
+  flush = λ t u ms e. counted_flush t (u, ms) (answered_as (flush_of t) (u, ms) e);
+  receive = λ t u frame ms e. counted_take t frame (u, ms) (answered_as (take_of t frame) (u, ms) e);
+  past = λ t u frame ms e. taken_past t frame (u, ms) (answered_as (take_of t frame) (u, ms) e);
+}
+
+-- ## The frames of both directions
+
+pub up_sound : IsSound terminal
+up_sound = record { says = upwards.frame_says; one = upwards.one_frame }
+
+pub down_sound : IsSound host
+down_sound = record { says = downwards.frame_says; one = downwards.one_frame }
+
+pub up_free : PrefixFree (FitsT 2) (frame_of terminal)
+up_free = record { free = λ a b x y p q e. (upwards.one_frame 2 a b x y p q e).0; some = λ a e. absurd (cc) }
+
+pub down_free : PrefixFree (FitsH 2) (frame_of host)
+down_free = record { free = λ a b x y p q e. (downwards.one_frame 2 a b x y p q e).0; some = λ a e. absurd (cc) }
+
+-- ## One world
+
+-- the same world with both sides told apart
+abbrev pub plain : World PlainHost PlainTerminal Tmesg HFrame → PlainWorld
+plain w = record { host = w.host; term = w.term; up = w.up; down = w.down }
+
+pub same_step : (w : World PlainHost PlainTerminal Tmesg HFrame) (e : Event) → step_of (plain w) e ≡ option_map plain (step sides w e)
+same_step w (User e) = refl
+same_step w Act = go (act_of w.term)
+  where
+    go : (r : Result (PlainTerminal × Acted) TermFault) → after_act (plain w) r ≡ option_map plain (composed w (acted r))
+    go (Ok p) = refl
+    go (Err why) = refl
+same_step w Flush = go (flush_of w.term)
+  where
+    go : (r : Result Made TermFault) → after_compose (plain w) r ≡ option_map plain (composed w (unless_refused r))
+    go (Ok p) = refl
+    go (Err why) = refl
+same_step w HostTake = go w.up
+  where
+    taken : (ms : List Tmesg) (r : Result (PlainHost × List HFrame) HostFault) → after_answer (record (plain w) { up = ms }) r ≡ option_map plain (answered w ms (unless_refused r))
+    taken ms (Ok p) = refl
+    taken ms (Err why) = refl
+
+    go : (up : List Tmesg) → host_takes (plain w) up ≡ option_map plain (host_take sides w up)
+    go [] = refl
+    go (m ∷ ms) = taken ms (answer w.host m)
+same_step w TermTake = go w.down
+  where
+    taken : (frames : List HFrame) (r : Result Made TermFault) → after_compose (record (plain w) { down = frames }) r ≡ option_map plain (composed (world w.host w.term w.up frames) (unless_refused r))
+    taken frames (Ok p) = refl
+    taken frames (Err why) = refl
+
+    go : (down : List HFrame) → term_takes (plain w) down ≡ option_map plain (term_take sides w down)
+    go [] = refl
+    go (frame ∷ frames) = taken frames (take_of w.term frame)
+
+pub same_run : (w : World PlainHost PlainTerminal Tmesg HFrame) (es : List Event) → run_of (plain w) es ≡ option_map plain (run sides w es)
+same_run w [] = refl
+same_run w (e ∷ es) =
+    ap (λ (o : Option PlainWorld). option_and_then (λ (next : PlainWorld). run_of next es) o) (same_step w e)
+    ∙ elim (step sides w e) as (λ o. option_and_then (λ (next : PlainWorld). run_of next es) (option_map plain o) ≡ option_map plain (and_then o (λ v. run sides v es))) [
+      | None ↦ refl
+      | Some v ↦ same_run v es
+    ]
+
+-- a run of the two sides is a run of the plain world
+pub plain_run : (w last : World PlainHost PlainTerminal Tmesg HFrame) (es : List Event) → run sides w es ≡ Some last → run_of (plain w) es ≡ Some (plain last)
+plain_run w last es e = same_run w es ∙ ap (λ o. option_map plain o) e
+
+-- and the other way round
+pub sides_run : (w last : World PlainHost PlainTerminal Tmesg HFrame) (es : List Event) → run_of (plain w) es ≡ Some (plain last) → run sides w es ≡ Some last
+sides_run w last es e = go (run sides w es) (sym (same_run w es) ∙ e)
+  where
+    go : (o : Option (World PlainHost PlainTerminal Tmesg HFrame)) → option_map plain o ≡ Some (plain last) → o ≡ Some last
+    go None q = absurd (cc)
+    go (Some v) q =
+        let same : plain v ≡ plain last = same_Some (plain v) (plain last) q in
+        ap (λ (x : PlainWorld). Some (world x.host x.term x.up x.down)) same

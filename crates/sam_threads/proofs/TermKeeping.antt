@@ -1,0 +1,316 @@
+-- What is kept of the terminal's worker, step by step.
+use Rattle.std.proofs.Common.{◌≡◌, ◌⊎◌, inl, inr, refl, sym, ap, subst, ◌∙◌, ℕ, zero, suc, ◌+◌, ◌<◌, ◌≤◌, Bool, true, false, if◌then◌else◌, List, [], ◌∷◌, ◌++◌, Option, Some, None, is_some, append_assoc, append-nil, arith}
+use Rattle.std.specs.Global.{Vec}
+use Rattle.std.specs.Prelude.{MatchBool}
+use Rattle.sam_mesg.specs.declared.tmesg.Tmesg.{Tmesg}
+use Rattle.sam_mesg.specs.declared.hmesg.HFrame.{HFrame}
+use Rattle.sam_mesg.specs.TerminalKinds.{FitsT}
+use Rattle.sam_frame.specs.Direction.{terminal}
+use Rattle.sam_frame.specs.Stream.{stream_of}
+use Rattle.sam_frame.proofs.Fronts.{stream_of-append}
+use Rattle.sam_term.specs.Term.{PlainTerminal, new_terminal}
+use Rattle.sam_term.specs.declared.event.UserEvent.{UserEvent}
+use Rattle.sam_term.specs.declared.event.UserEvent.TheVariants.{Exit}
+use Rattle.sam_world.specs.declared.event.TermLog.{TermLog}
+use Rattle.sam_world.specs.declared.event.TermLog.TheVariants as log
+use Rattle.sam_world.specs.Logs.{logged_users}
+use Rattle.sam_world.specs.Sides.{Each, TermRuns}
+use Rattle.sam_queue.specs.declared.port.Entry.{Entry}
+use Rattle.sam_queue.specs.History.{IsEnded, has_left}
+use Rattle.sam_queue.specs.Views.{LineView, TakeView, PostView, WasFull, closed_post, new_take, new_post}
+use Rattle.sam_threads.specs.RealSides.{sides}
+use Rattle.sam_threads.specs.Inputs.{bytes_of, frames_in, users_in, frame_of_load, user_of_load}
+use Rattle.sam_threads.specs.Outboxes.{Encodes}
+use Rattle.sam_threads.specs.Told.{IsForeign, RefusesFrame}
+use Rattle.sam_threads.specs.TermMoments.{DeskView, Did, SideView, SoFar, Ran, Goes, IsDone, IsQuiet, IsFound}
+use Rattle.sam_threads.proofs.TermSteps.{did_nothing}
+use Rattle.sam_threads.specs.declared.input.Input.{Input}
+use Rattle.sam_threads.specs.declared.term_side.Found.{Found}
+use Rattle.sam_threads.specs.declared.term_side.Found.TheVariants as found
+use Rattle.sam_threads.specs.declared.stop.Stop.{Stop}
+use Rattle.sam_threads.specs.declared.stop.Stop.TheVariants as stop
+
+-- ## Logs that grow
+
+users_append : (es fs : List TermLog) → logged_users (es ++ fs) ≡ logged_users es ++ logged_users fs
+users_append [] fs = refl
+users_append (log.User e ∷ es) fs = ap (λ (x : List UserEvent). e ∷ x) (users_append es fs)
+users_append (log.Act ∷ es) fs = users_append es fs
+users_append (log.Flush ∷ es) fs = users_append es fs
+users_append (log.Take k ∷ es) fs = users_append es fs
+
+-- the log grows at its end
+more : (es : List TermLog) (t u v : PlainTerminal) (fs : List HFrame) (ms : List Tmesg) (es' : List TermLog) (fs' : List HFrame) (ms' : List Tmesg)
+    → TermRuns sides t es fs ms u → TermRuns sides u es' fs' ms' v → TermRuns sides t (es ++ es') (fs ++ fs') (ms ++ ms') v
+more [] t u v fs ms es' fs' ms' r q =
+    let there : TermRuns sides t es' fs' ms' v = subst (λ (x : PlainTerminal). TermRuns sides x es' fs' ms' v) r.2 q in
+    let frames = subst (λ (x : List HFrame). TermRuns sides t es' (x ++ fs') ms' v) (sym r.0) there in
+    subst (λ (x : List Tmesg). TermRuns sides t es' (fs ++ fs') (x ++ ms') v) (sym r.1) frames
+more (log.User e ∷ es) t u v fs ms es' fs' ms' r q = more es (sides.user t e) u v fs ms es' fs' ms' r q
+more (log.Act ∷ es) t u v fs ms es' fs' ms' r q =
+    (r.0, r.1, r.2 ++ ms', r.3, ap (λ (x : List Tmesg). x ++ ms') r.4 ∙ append_assoc r.1 r.2 ms', more es r.0 u v fs r.2 es' fs' ms' r.5 q)
+more (log.Flush ∷ es) t u v fs ms es' fs' ms' r q =
+    (r.0, r.1, r.2 ++ ms', r.3, ap (λ (x : List Tmesg). x ++ ms') r.4 ∙ append_assoc r.1 r.2 ms', more es r.0 u v fs r.2 es' fs' ms' r.5 q)
+more (log.Take n ∷ es) t u v fs ms es' fs' ms' r q = (
+  r.0,
+  r.1 ++ fs',
+  r.2,
+  r.3,
+  r.4 ++ ms',
+  ap (λ (x : List HFrame). x ++ fs') r.5,
+  r.6,
+  r.7,
+  ap (λ (x : List Tmesg). x ++ ms') r.8 ∙ append_assoc r.3 r.4 ms',
+  more es r.2 u v r.1 r.4 es' fs' ms' r.9 q,
+)
+
+pub each_append : (P : Tmesg → Type 0) (xs ys : List Tmesg) → Each P xs → Each P ys → Each P (xs ++ ys)
+each_append P [] ys a b = b
+each_append P (x ∷ xs) ys a b = (a.0, each_append P xs ys a.1 b)
+
+-- the run with what the desk did behind it
+pub runs_on : (v : SideView) (desk : DeskView) (events : List UserEvent) (frames : List HFrame) (ms : List Tmesg) (r : Ran v) → Did v.desk desk events frames ms
+    → TermRuns sides new_terminal desk.log (frames_in r.handled ++ frames) (r.composed ++ ms) desk.term
+runs_on v desk events frames ms r d =
+    subst (λ (x : List TermLog). TermRuns sides new_terminal x (frames_in r.handled ++ frames) (r.composed ++ ms) desk.term) (sym d.log)
+    (more v.desk.log new_terminal v.desk.term desk.term (frames_in r.handled) r.composed d.entries frames ms r.runs d.runs)
+
+pub users_on : (v : SideView) (desk : DeskView) (events : List UserEvent) (frames : List HFrame) (ms : List Tmesg) (r : Ran v) → Did v.desk desk events frames ms
+    → logged_users desk.log ≡ (users_in r.handled ++ r.own) ++ events
+users_on v desk events frames ms r d =
+    ap (λ (x : List TermLog). logged_users x) d.log
+    ∙ (users_append v.desk.log d.entries
+    ∙ (ap (λ (x : List UserEvent). x ++ logged_users d.entries) r.users ∙ ap (λ (x : List UserEvent). (users_in r.handled ++ r.own) ++ x) d.users))
+
+pub none_of : (o : Option Stop) → is_some o ≡ false → o ≡ None
+none_of None e = refl
+none_of (Some x) e = absurd (cc)
+
+-- ## What was put
+
+so_far_of : (t : PlainTerminal) (dropped : List (Entry Input)) (lost : List ℕ) (o : Option Stop) → o ≡ None → SoFar t dropped lost o → (dropped ≡ []) × (lost ≡ [])
+so_far_of t dropped lost None e s = s
+so_far_of t dropped lost (Some x) e s = absurd (cc)
+
+-- nothing is dropped or lost where nothing has stopped it
+pub whole : (v : SideView) (r : Ran v) → v.stop ≡ None → (r.dropped ≡ []) × (r.lost ≡ [])
+whole v r e = so_far_of v.desk.term r.dropped r.lost v.stop e r.so_far
+
+-- the frames of more messages behind those of the others
+pub sent_on : (put before lost after lost' : List ℕ) (composed ms : List Tmesg)
+    → put ++ (before ++ lost) ≡ stream_of terminal composed → lost ≡ [] → after ++ lost' ≡ before ++ stream_of terminal ms
+    → put ++ (after ++ lost') ≡ stream_of terminal (composed ++ ms)
+sent_on put before lost after lost' composed ms sent none grown =
+    let all : put ++ before ≡ stream_of terminal composed =
+    ap (λ (x : List ℕ). put ++ x) (sym (append-nil before) ∙ ap (λ (x : List ℕ). before ++ x) (sym none)) ∙ sent in
+    ap (λ (x : List ℕ). put ++ x) grown
+    ∙ (sym (append_assoc put before (stream_of terminal ms))
+    ∙ (ap (λ (x : List ℕ). x ++ stream_of terminal ms) all ∙ sym (stream_of-append terminal composed ms)))
+
+-- ## Acting, flushing
+
+-- what the desk did without an event or a frame
+kept_step : (v : SideView) (desk : DeskView) (outbox : List ℕ) (why : Option Stop) (ms : List Tmesg) (lost : List ℕ) → Ran v → v.stop ≡ None
+    → Did v.desk desk [] [] ms → Each (FitsT 2) ms → outbox ++ lost ≡ v.outbox ++ stream_of terminal ms → SoFar desk.term [] lost why
+    → Ran (record { take = v.take; post = v.post; desk = desk; outbox = outbox; keyboard_left = v.keyboard_left; mouse_left = v.mouse_left; exit_put = v.exit_put; stop = why })
+kept_step v desk outbox why ms lost r running d fit grown so_far =
+    let none = whole v r running in
+    record {
+      handled = r.handled;
+      dropped = [];
+      composed = r.composed ++ ms;
+      lost = lost;
+      own = r.own;
+      number = r.number;
+      senders = r.senders;
+      took = r.took ∙ ap (λ (x : List (Entry Input)). r.handled ++ x) none.0;
+      runs = subst (λ (x : List HFrame). TermRuns sides new_terminal desk.log x (r.composed ++ ms) desk.term) (append-nil (frames_in r.handled)) (runs_on v desk [] [] ms r d);
+      users = users_on v desk [] [] ms r d ∙ append-nil (users_in r.handled ++ r.own);
+      own_is = r.own_is;
+      all_left = r.all_left;
+      keyboard = r.keyboard;
+      mouse = r.mouse;
+      fit = each_append (FitsT 2) r.composed ms r.fit fit;
+      sent = sent_on (bytes_of v.post.put) v.outbox r.lost outbox lost r.composed ms r.sent none.1 grown;
+      so_far = so_far;
+    }
+
+pub kept_done : (v : SideView) (desk : DeskView) (outbox : List ℕ) (ms : List Tmesg) → Ran v → is_some v.stop ≡ false
+    → Did v.desk desk [] [] ms → Each (FitsT 2) ms → outbox ≡ v.outbox ++ stream_of terminal ms
+    → Ran (record { take = v.take; post = v.post; desk = desk; outbox = outbox; keyboard_left = v.keyboard_left; mouse_left = v.mouse_left; exit_put = v.exit_put; stop = v.stop })
+kept_done v desk outbox ms r running d fit grown =
+    subst (λ (x : Option Stop). Ran (record { take = v.take; post = v.post; desk = desk; outbox = outbox; keyboard_left = v.keyboard_left; mouse_left = v.mouse_left; exit_put = v.exit_put; stop = x })) (sym (none_of v.stop running))
+    (kept_step v desk outbox None ms [] r (none_of v.stop running) d fit (append-nil outbox ∙ grown) (refl, refl))
+
+pub kept_half : (v : SideView) (desk : DeskView) (outbox : List ℕ) (ms : List Tmesg) → Ran v → is_some v.stop ≡ false
+    → Did v.desk desk [] [] ms → Each (FitsT 2) ms → Encodes v.outbox outbox ms
+    → Ran (record { take = v.take; post = v.post; desk = desk; outbox = outbox; keyboard_left = v.keyboard_left; mouse_left = v.mouse_left; exit_put = v.exit_put; stop = Some stop.Memory })
+kept_half v desk outbox ms r running d fit e =
+    kept_step v desk outbox (Some stop.Memory) ms e.lost r (none_of v.stop running) d fit (half v.outbox outbox ms e) tt
+  where
+    half : (before after : List ℕ) (ns : List Tmesg) (q : Encodes before after ns) → after ++ q.lost ≡ before ++ stream_of terminal ns
+    half before after ns q = ap (λ (x : List ℕ). x ++ q.lost) q.grown ∙ (append_assoc before q.added q.lost ∙ ap (λ (x : List ℕ). before ++ x) q.all)
+
+pub kept_silent : (v : SideView) (desk : DeskView) → Ran v → is_some v.stop ≡ false → Did v.desk desk [] [] []
+    → Ran (record { take = v.take; post = v.post; desk = desk; outbox = v.outbox; keyboard_left = v.keyboard_left; mouse_left = v.mouse_left; exit_put = v.exit_put; stop = v.stop })
+kept_silent v desk r running d = kept_done v desk v.outbox [] r running d tt (sym (append-nil v.outbox))
+
+-- a fault of the desk stops it
+pub kept_stop : (v : SideView) (desk : DeskView) (why : Stop) → Ran v → is_some v.stop ≡ false → desk ≡ v.desk → (why ≡ stop.Memory) ⊎ (why ≡ stop.Term 8)
+    → Ran (record { take = v.take; post = v.post; desk = desk; outbox = v.outbox; keyboard_left = v.keyboard_left; mouse_left = v.mouse_left; exit_put = v.exit_put; stop = Some why })
+kept_stop v desk why r running same is =
+    kept_step v desk v.outbox (Some why) [] [] r (none_of v.stop running) (did_nothing v.desk desk same) tt refl (so_far why is)
+  where
+    so_far : (s : Stop) → (s ≡ stop.Memory) ⊎ (s ≡ stop.Term 8) → SoFar desk.term [] [] (Some s)
+    so_far s (inl e) = subst (λ (x : Stop). SoFar desk.term [] [] (Some x)) (sym e) tt
+    so_far s (inr e) = subst (λ (x : Stop). SoFar desk.term [] [] (Some x)) (sym e) (inl refl)
+
+-- the host reader is gone, and the session not over
+pub kept_lost : (v : SideView) → Ran v → is_some v.stop ≡ false → v.desk.term.has_exited ≡ false
+    → Ran (record { take = v.take; post = v.post; desk = v.desk; outbox = v.outbox; keyboard_left = v.keyboard_left; mouse_left = v.mouse_left; exit_put = v.exit_put; stop = Some stop.PeerGone })
+kept_lost v r running e =
+    kept_step v v.desk v.outbox (Some stop.PeerGone) [] [] r (none_of v.stop running) (did_nothing v.desk v.desk refl) tt refl e
+
+-- ## Its own Exit
+
+pub kept_exit : (v : SideView) (desk : DeskView) → Ran v → is_some v.stop ≡ false → Did v.desk desk (Exit ∷ []) [] [] → v.exit_put ≡ false
+    → v.keyboard_left ≡ true → v.mouse_left ≡ true
+    → Ran (record { take = v.take; post = v.post; desk = desk; outbox = v.outbox; keyboard_left = v.keyboard_left; mouse_left = v.mouse_left; exit_put = true; stop = v.stop })
+kept_exit v desk r running d none k m =
+    let halted = whole v r (none_of v.stop running) in
+    let own_none : r.own ≡ [] = r.own_is ∙ ap (λ (x : Bool). if x then Exit ∷ [] else []) none in
+    record {
+      handled = r.handled;
+      dropped = r.dropped;
+      composed = r.composed;
+      lost = r.lost;
+      own = Exit ∷ [];
+      number = r.number;
+      senders = r.senders;
+      took = r.took;
+      runs = subst (λ (x : List Tmesg). TermRuns sides new_terminal desk.log (frames_in r.handled) x desk.term) (append-nil r.composed)
+          (subst (λ (x : List HFrame). TermRuns sides new_terminal desk.log x (r.composed ++ []) desk.term) (append-nil (frames_in r.handled)) (runs_on v desk (Exit ∷ []) [] [] r d));
+      users = users_on v desk (Exit ∷ []) [] [] r d
+          ∙ ap (λ (x : List UserEvent). x ++ Exit ∷ []) (ap (λ (x : List UserEvent). users_in r.handled ++ x) own_none ∙ append-nil (users_in r.handled));
+      own_is = refl;
+      all_left = λ _. (k, m);
+      keyboard = r.keyboard;
+      mouse = r.mouse;
+      fit = r.fit;
+      sent = r.sent;
+      so_far = still_so_far desk.term v.desk.term r.dropped r.lost v.stop (none_of v.stop running) r.so_far;
+    }
+  where
+    still_so_far : (t u : PlainTerminal) (dropped : List (Entry Input)) (lost : List ℕ) (o : Option Stop) → o ≡ None → SoFar u dropped lost o → SoFar t dropped lost o
+    still_so_far t u dropped lost None e s = s
+    still_so_far t u dropped lost (Some x) e s = absurd (cc)
+
+-- ## Its line
+
+moved : (put before put' after lost : List ℕ) → put' ++ after ≡ put ++ before → put' ++ (after ++ lost) ≡ put ++ (before ++ lost)
+moved put before put' after lost e =
+    sym (append_assoc put' after lost) ∙ (ap (λ (x : List ℕ). x ++ lost) e ∙ append_assoc put before lost)
+
+pub kept_put : (v : SideView) (post : PostView (Vec ℕ)) (outbox : List ℕ) → Ran v → post.number ≡ v.post.number
+    → bytes_of post.put ++ outbox ≡ bytes_of v.post.put ++ v.outbox
+    → Ran (record { take = v.take; post = post; desk = v.desk; outbox = outbox; keyboard_left = v.keyboard_left; mouse_left = v.mouse_left; exit_put = v.exit_put; stop = v.stop })
+kept_put v post outbox r number e =
+    record {
+      handled = r.handled;
+      dropped = r.dropped;
+      composed = r.composed;
+      lost = r.lost;
+      own = r.own;
+      number = number ∙ r.number;
+      senders = r.senders;
+      took = r.took;
+      runs = r.runs;
+      users = r.users;
+      own_is = r.own_is;
+      all_left = r.all_left;
+      keyboard = r.keyboard;
+      mouse = r.mouse;
+      fit = r.fit;
+      sent = moved (bytes_of v.post.put) v.outbox (bytes_of post.put) outbox r.lost e ∙ r.sent;
+      so_far = r.so_far;
+    }
+
+-- no memory for the next piece
+pub kept_short : (v : SideView) (post : PostView (Vec ℕ)) (outbox : List ℕ) → Ran v → is_some v.stop ≡ false → post.number ≡ v.post.number
+    → bytes_of post.put ++ outbox ≡ bytes_of v.post.put ++ v.outbox
+    → Ran (record { take = v.take; post = post; desk = v.desk; outbox = outbox; keyboard_left = v.keyboard_left; mouse_left = v.mouse_left; exit_put = v.exit_put; stop = Some stop.Memory })
+kept_short v post outbox r running number e =
+    let w : SideView = record { take = v.take; post = post; desk = v.desk; outbox = outbox; keyboard_left = v.keyboard_left; mouse_left = v.mouse_left; exit_put = v.exit_put; stop = v.stop } in
+    kept_stop w v.desk stop.Memory (kept_put v post outbox r number e) running refl (inl refl)
+
+pub kept_closed : (v : SideView) (post : PostView (Vec ℕ)) (b : Bool) → Ran v → MatchBool b (post ≡ closed_post v.post) ((post ≡ v.post) × (v.post.closed ≡ false) × WasFull v.post)
+    → Ran (record { take = v.take; post = post; desk = v.desk; outbox = v.outbox; keyboard_left = v.keyboard_left; mouse_left = v.mouse_left; exit_put = v.exit_put; stop = v.stop })
+kept_closed v post true r e =
+    kept_put v post v.outbox r (ap (λ (x : PostView (Vec ℕ)). x.number) e) (ap (λ (x : PostView (Vec ℕ)). bytes_of x.put ++ v.outbox) e)
+kept_closed v post false r e =
+    kept_put v post v.outbox r (ap (λ (x : PostView (Vec ℕ)). x.number) e.0) (ap (λ (x : PostView (Vec ℕ)). bytes_of x.put ++ v.outbox) e.0)
+
+-- ## From one moment to another
+
+pub goes_on : (a b c : SideView) → Goes a b → Goes b c → Goes a c
+goes_on a b c p q = record { take = q.take ∙ p.take; line = q.line ∙ p.line; gate = λ is. p.gate (q.gate is) }
+
+pub found_still : (a b : SideView) (f : Found) → Goes a b → IsFound a f → IsFound b f
+found_still a b found.Entry g f = tt
+found_still a b found.Nothing g f = tt
+found_still a b found.Ended g f = subst (λ (x : TakeView Input). IsEnded 3 x.taken) (sym g.take) f
+
+pub done_stopped : (v : SideView) → is_some v.stop ≡ true → v.post.closed ≡ true → IsDone v
+done_stopped v stopped closed =
+    record {
+      closed = closed;
+      ended = λ is. absurd (let e = ap (λ (x : Option Stop). is_some x) is in cc);
+      sent = λ is. absurd (let e = ap (λ (x : Option Stop). is_some x) is in cc);
+      exited = λ is. absurd (let e = ap (λ (x : Option Stop). is_some x) is in cc);
+      none_held = λ is. absurd (let e = ap (λ (x : Option Stop). is_some x) is in cc);
+      none_unsent = λ is. absurd (let e = ap (λ (x : Option Stop). is_some x) is in cc);
+    }
+
+none_in : {X : Type 0} (o : Option X) → is_some o ≡ false → o ≡ None
+none_in None e = refl
+none_in (Some x) e = absurd (cc)
+
+pub done_quiet : (v : SideView) → IsQuiet v → IsEnded 3 v.take.taken → IsDone (record v { post = closed_post v.post })
+done_quiet v q ended =
+    record {
+      closed = refl;
+      ended = λ _. ended;
+      sent = λ _. q.sent;
+      exited = λ _. q.exited;
+      none_held = λ _. q.none_held;
+      none_unsent = λ _. none_in v.desk.term.unsent q.none_unsent;
+    }
+
+pub kept_new : (line : TakeView Input) (post : PostView (Vec ℕ)) (t : PlainTerminal) (desk : DeskView) (outbox : List ℕ) (why : Option Stop)
+    → line ≡ new_take line.line → line.line.senders ≡ 3 → post ≡ new_post post.line 0 → t ≡ new_terminal
+    → desk ≡ record { term = t; log = [] } → outbox ≡ [] → (why ≡ None) ⊎ (why ≡ Some stop.Gate)
+    → Ran (record { take = line; post = post; desk = desk; outbox = outbox; keyboard_left = false; mouse_left = false; exit_put = false; stop = why })
+kept_new line post t desk outbox why fresh three first new laid empty is =
+    record {
+      handled = [];
+      dropped = [];
+      composed = [];
+      lost = [];
+      own = [];
+      number = ap (λ (x : PostView (Vec ℕ)). x.number) first;
+      senders = three;
+      took = ap (λ (x : TakeView Input). x.taken) fresh;
+      runs = subst (λ (x : DeskView). TermRuns sides new_terminal x.log [] [] x.term) (sym laid) (refl, refl, new);
+      users = ap (λ (x : DeskView). logged_users x.log) laid;
+      own_is = refl;
+      all_left = λ is. absurd (cc);
+      keyboard = λ is. absurd (cc);
+      mouse = λ is. absurd (cc);
+      fit = tt;
+      sent = ap (λ (x : PostView (Vec ℕ)). bytes_of x.put ++ (outbox ++ [])) first ∙ ap (λ (x : List ℕ). x ++ []) empty;
+      so_far = so_far why is;
+    }
+  where
+    so_far : (o : Option Stop) → (o ≡ None) ⊎ (o ≡ Some stop.Gate) → SoFar desk.term [] [] o
+    so_far o (inl e) = subst (λ (x : Option Stop). SoFar desk.term [] [] x) (sym e) (refl, refl)
+    so_far o (inr e) = subst (λ (x : Option Stop). SoFar desk.term [] [] x) (sym e) tt

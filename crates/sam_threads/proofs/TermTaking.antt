@@ -1,0 +1,306 @@
+-- What is kept of the terminal's worker as it takes entries.
+use Rattle.std.proofs.Common.{◌≡◌, ◌⊎◌, inl, inr, refl, sym, ap, subst, ◌∙◌, ℕ, zero, suc, ◌+◌, ◌<◌, ◌≤◌, Bool, true, false, if◌then◌else◌, List, [], ◌∷◌, ◌++◌, Option, Some, None, is_some, append_assoc, append-nil, arith}
+use Rattle.std.specs.Global.{Vec}
+use Rattle.std.proofs.lemmas.Grind.{flat_map-append}
+use Rattle.sam_mesg.specs.declared.tmesg.Tmesg.{Tmesg}
+use Rattle.sam_mesg.specs.declared.hmesg.HFrame.{HFrame}
+use Rattle.sam_mesg.specs.TerminalKinds.{FitsT}
+use Rattle.sam_frame.specs.Direction.{terminal}
+use Rattle.sam_frame.specs.Stream.{stream_of}
+use Rattle.sam_term.specs.Term.{PlainTerminal, new_terminal}
+use Rattle.sam_term.specs.declared.event.UserEvent.{UserEvent}
+use Rattle.sam_term.specs.declared.event.UserEvent.TheVariants.{Exit}
+use Rattle.sam_world.specs.Logs.{logged_users}
+use Rattle.sam_world.specs.Sides.{Each, TermRuns}
+use Rattle.sam_queue.specs.declared.port.Entry.{Entry}
+use Rattle.sam_queue.specs.History.{loads, has_mark, has_left}
+use Rattle.sam_queue.specs.Views.{LineView, TakeView, PostView, TakesNext, Answers, new_take, new_post}
+use Rattle.sam_queue.specs.declared.take.Got.{Got}
+use Rattle.sam_queue.specs.declared.take.Got.TheVariants as got
+use Rattle.sam_queue.proofs.Histories.{loads-append}
+use Rattle.sam_threads.specs.RealSides.{sides}
+use Rattle.sam_threads.specs.Inputs.{bytes_of, frames_in, users_in, frame_of_load, user_of_load}
+use Rattle.sam_threads.specs.Outboxes.{Encodes}
+use Rattle.sam_threads.specs.Told.{IsForeign, RefusesFrame}
+use Rattle.sam_threads.specs.TermMoments.{DeskView, Did, SideView, SoFar, Ran, IsOfUser, WasNotHandled}
+use Rattle.sam_threads.specs.declared.input.Input.{Input}
+use Rattle.sam_threads.specs.declared.input.Input.TheVariants.{User, Host}
+use Rattle.sam_threads.specs.declared.stop.Stop.{Stop}
+use Rattle.sam_threads.specs.declared.stop.Stop.TheVariants as stop
+use Rattle.sam_threads.proofs.TermSteps.{did_nothing}
+use Rattle.sam_threads.proofs.TermKeeping.{runs_on, users_on, whole, sent_on, each_append, none_of}
+
+-- ## Marks
+
+mark_stays : (xs ys : List (Option Input)) → has_mark xs ≡ true → has_mark (xs ++ ys) ≡ true
+mark_stays [] ys m = absurd (cc)
+mark_stays (None ∷ xs) ys m = refl
+mark_stays (Some x ∷ xs) ys m = mark_stays xs ys m
+
+mark_comes : (xs : List (Option Input)) → has_mark (xs ++ None ∷ []) ≡ true
+mark_comes [] = refl
+mark_comes (None ∷ xs) = refl
+mark_comes (Some x ∷ xs) = mark_comes xs
+
+left_stays : (i : ℕ) (h more : List (Entry Input)) → has_left i h ≡ true → has_left i (h ++ more) ≡ true
+left_stays i h more m = ap (λ (x : List (Option Input)). has_mark x) (loads-append i h more) ∙ mark_stays (loads i h) (loads i more) m
+
+pub left_now : (h : List (Entry Input)) → has_left 0 (h ++ record { sender = 0; load = None } ∷ []) ≡ true
+left_now h = ap (λ (x : List (Option Input)). has_mark x) (loads-append 0 h (record { sender = 0; load = None } ∷ [])) ∙ mark_comes (loads 0 h)
+
+pub left_now_1 : (h : List (Entry Input)) → has_left 1 (h ++ record { sender = 1; load = None } ∷ []) ≡ true
+left_now_1 h = ap (λ (x : List (Option Input)). has_mark x) (loads-append 1 h (record { sender = 1; load = None } ∷ [])) ∙ mark_comes (loads 1 h)
+
+-- ## An entry that is handled
+
+users_one : (e : Entry Input) → users_in (e ∷ []) ≡ user_of_load e.load
+users_one e = append-nil (user_of_load e.load)
+
+frames_one : (e : Entry Input) → frames_in (e ∷ []) ≡ frame_of_load e.load
+frames_one e = append-nil (frame_of_load e.load)
+
+own_exit : Bool → List UserEvent
+own_exit b = if b then Exit ∷ [] else []
+
+-- behind its own Exit no event of the user comes
+own_behind : (v : SideView) (r : Ran v) (e : Entry Input) → has_left e.sender v.take.taken ≡ false → v.take.taken ≡ r.handled → IsOfUser e.sender (user_of_load e.load)
+    → (users_in r.handled ++ r.own) ++ user_of_load e.load ≡ (users_in r.handled ++ user_of_load e.load) ++ r.own
+own_behind v r e unmarked all (inl none) =
+    ap (λ (x : List UserEvent). (users_in r.handled ++ r.own) ++ x) none
+    ∙ (append-nil (users_in r.handled ++ r.own)
+    ∙ (ap (λ (x : List UserEvent). x ++ r.own) (sym (append-nil (users_in r.handled)))
+    ∙ ap (λ (x : List UserEvent). (users_in r.handled ++ x) ++ r.own) (sym none)))
+own_behind v r e unmarked all (inr low) = go v.exit_put refl
+  where
+    marked : v.exit_put ≡ true → (n : ℕ) → e.sender ≡ n → n < 2 → has_left e.sender v.take.taken ≡ true
+    marked put zero is l =
+        subst (λ (x : ℕ). has_left x v.take.taken ≡ true) (sym is)
+        (subst (λ (x : List (Entry Input)). has_left 0 x ≡ true) (sym all) (r.keyboard ((r.all_left put).0)))
+    marked put (suc zero) is l =
+        subst (λ (x : ℕ). has_left x v.take.taken ≡ true) (sym is)
+        (subst (λ (x : List (Entry Input)). has_left 1 x ≡ true) (sym all) (r.mouse ((r.all_left put).1)))
+    marked put (suc (suc n)) is l = absurd (omega arith)
+
+    go : (b : Bool) → v.exit_put ≡ b → (users_in r.handled ++ r.own) ++ user_of_load e.load ≡ (users_in r.handled ++ user_of_load e.load) ++ r.own
+    go true is = let yes = marked is e.sender refl low in absurd (cc)
+    go false is =
+        let none : r.own ≡ [] = r.own_is ∙ ap (λ (x : Bool). if x then Exit ∷ [] else []) is in
+        ap (λ (x : List UserEvent). (users_in r.handled ++ x) ++ user_of_load e.load) none
+        ∙ (ap (λ (x : List UserEvent). x ++ user_of_load e.load) (append-nil (users_in r.handled))
+        ∙ (sym (append-nil (users_in r.handled ++ user_of_load e.load))
+        ∙ ap (λ (x : List UserEvent). (users_in r.handled ++ user_of_load e.load) ++ x) (sym none)))
+
+kept_entry : (v : SideView) (line : TakeView Input) (e : Entry Input) (desk : DeskView) (outbox : List ℕ) (k m : Bool) (why : Option Stop) (ms : List Tmesg) (lost : List ℕ)
+    → Ran v → v.stop ≡ None → TakesNext v.take e line
+    → Did v.desk desk (user_of_load e.load) (frame_of_load e.load) ms → IsOfUser e.sender (user_of_load e.load) → Each (FitsT 2) ms
+    → outbox ++ lost ≡ v.outbox ++ stream_of terminal ms → SoFar desk.term [] lost why
+    → (v.keyboard_left ≡ true → k ≡ true) → (v.mouse_left ≡ true → m ≡ true)
+    → (k ≡ true → (v.keyboard_left ≡ true) ⊎ (e ≡ record { sender = 0; load = None }))
+    → (m ≡ true → (v.mouse_left ≡ true) ⊎ (e ≡ record { sender = 1; load = None }))
+    → Ran (record { take = line; post = v.post; desk = desk; outbox = outbox; keyboard_left = k; mouse_left = m; exit_put = v.exit_put; stop = why })
+kept_entry v line e desk outbox k m why ms lost r running next d of_user fit grown so_far keeps_k keeps_m new_k new_m =
+    let none = whole v r running in
+    let all : v.take.taken ≡ r.handled = r.took ∙ (ap (λ (x : List (Entry Input)). r.handled ++ x) none.0 ∙ append-nil r.handled) in
+    let frames : frames_in r.handled ++ frame_of_load e.load ≡ frames_in (r.handled ++ e ∷ []) =
+    ap (λ (x : List HFrame). frames_in r.handled ++ x) (sym (frames_one e)) ∙ sym (flat_map-append (λ (x : Entry Input). frame_of_load x.load) r.handled (e ∷ [])) in
+    let users : users_in r.handled ++ user_of_load e.load ≡ users_in (r.handled ++ e ∷ []) =
+    ap (λ (x : List UserEvent). users_in r.handled ++ x) (sym (users_one e)) ∙ sym (flat_map-append (λ (x : Entry Input). user_of_load x.load) r.handled (e ∷ [])) in
+    record {
+      handled = r.handled ++ e ∷ [];
+      dropped = [];
+      composed = r.composed ++ ms;
+      lost = lost;
+      own = r.own;
+      number = r.number;
+      senders = ap (λ (x : LineView). x.senders) next.line ∙ r.senders;
+      took = next.taken ∙ (ap (λ (x : List (Entry Input)). x ++ e ∷ []) all ∙ sym (append-nil (r.handled ++ e ∷ [])));
+      runs = subst (λ (x : List HFrame). TermRuns sides new_terminal desk.log x (r.composed ++ ms) desk.term) frames
+          (runs_on v desk (user_of_load e.load) (frame_of_load e.load) ms r d);
+      users = users_on v desk (user_of_load e.load) (frame_of_load e.load) ms r d
+          ∙ (own_behind v r e next.unmarked all of_user ∙ ap (λ (x : List UserEvent). x ++ r.own) users);
+      own_is = r.own_is;
+      all_left = λ put. (keeps_k ((r.all_left put).0), keeps_m ((r.all_left put).1));
+      keyboard = λ is. elim (new_k is) [
+        | inl was ↦ left_stays 0 r.handled (e ∷ []) (r.keyboard was)
+        | inr now ↦ subst (λ (x : Entry Input). has_left 0 (r.handled ++ x ∷ []) ≡ true) (sym now) (left_now r.handled)
+      ];
+      mouse = λ is. elim (new_m is) [
+        | inl was ↦ left_stays 1 r.handled (e ∷ []) (r.mouse was)
+        | inr now ↦ subst (λ (x : Entry Input). has_left 1 (r.handled ++ x ∷ []) ≡ true) (sym now) (left_now_1 r.handled)
+      ];
+      fit = each_append (FitsT 2) r.composed ms r.fit fit;
+      sent = sent_on (bytes_of v.post.put) v.outbox r.lost outbox lost r.composed ms r.sent none.1 grown;
+      so_far = so_far;
+    }
+
+-- an item was handled, and its messages were encoded
+pub kept_item : (v : SideView) (line : TakeView Input) (sender : ℕ) (input : Input) (desk : DeskView) (outbox : List ℕ) (ms : List Tmesg)
+    → Ran v → is_some v.stop ≡ false → TakesNext v.take (record { sender = sender; load = Some input }) line
+    → Did v.desk desk (user_of_load (Some input)) (frame_of_load (Some input)) ms → IsOfUser sender (user_of_load (Some input)) → Each (FitsT 2) ms
+    → outbox ≡ v.outbox ++ stream_of terminal ms
+    → Ran (record { take = line; post = v.post; desk = desk; outbox = outbox; keyboard_left = v.keyboard_left; mouse_left = v.mouse_left; exit_put = v.exit_put; stop = v.stop })
+kept_item v line sender input desk outbox ms r running next d of_user fit grown =
+    subst
+    (λ (x : Option Stop). Ran (record { take = line; post = v.post; desk = desk; outbox = outbox; keyboard_left = v.keyboard_left; mouse_left = v.mouse_left; exit_put = v.exit_put; stop = x }))
+    (sym (none_of v.stop running))
+    (kept_entry v line (record { sender = sender; load = Some input }) desk outbox v.keyboard_left v.mouse_left None ms [] r (none_of v.stop running) next d of_user fit
+    (append-nil outbox ∙ grown) (refl, refl) (λ is. is) (λ is. is) (λ is. inl is) (λ is. inl is))
+
+half : (before after : List ℕ) (ns : List Tmesg) (q : Encodes before after ns) → after ++ q.lost ≡ before ++ stream_of terminal ns
+half before after ns q = ap (λ (x : List ℕ). x ++ q.lost) q.grown ∙ (append_assoc before q.added q.lost ∙ ap (λ (x : List ℕ). before ++ x) q.all)
+
+-- an item was handled, and not all of its messages could be encoded
+pub kept_half_item : (v : SideView) (line : TakeView Input) (sender : ℕ) (input : Input) (desk : DeskView) (outbox : List ℕ) (ms : List Tmesg)
+    → Ran v → is_some v.stop ≡ false → TakesNext v.take (record { sender = sender; load = Some input }) line
+    → Did v.desk desk (user_of_load (Some input)) (frame_of_load (Some input)) ms → IsOfUser sender (user_of_load (Some input)) → Each (FitsT 2) ms
+    → Encodes v.outbox outbox ms
+    → Ran (record { take = line; post = v.post; desk = desk; outbox = outbox; keyboard_left = v.keyboard_left; mouse_left = v.mouse_left; exit_put = v.exit_put; stop = Some stop.Memory })
+kept_half_item v line sender input desk outbox ms r running next d of_user fit e =
+    kept_entry v line (record { sender = sender; load = Some input }) desk outbox v.keyboard_left v.mouse_left (Some stop.Memory) ms e.lost r (none_of v.stop running) next d of_user fit
+    (half v.outbox outbox ms e) tt (λ is. is) (λ is. is) (λ is. inl is) (λ is. inl is)
+
+mark_handled : (v : SideView) (line : TakeView Input) (e : Entry Input) (k m : Bool) (why : Option Stop) → Ran v → v.stop ≡ None → TakesNext v.take e line → e.load ≡ None
+    → SoFar v.desk.term [] [] why
+    → (v.keyboard_left ≡ true → k ≡ true) → (v.mouse_left ≡ true → m ≡ true)
+    → (k ≡ true → (v.keyboard_left ≡ true) ⊎ (e ≡ record { sender = 0; load = None }))
+    → (m ≡ true → (v.mouse_left ≡ true) ⊎ (e ≡ record { sender = 1; load = None }))
+    → Ran (record { take = line; post = v.post; desk = v.desk; outbox = v.outbox; keyboard_left = k; mouse_left = m; exit_put = v.exit_put; stop = why })
+mark_handled v line e k m why r running next mark so_far keeps_k keeps_m new_k new_m =
+    let nothing : Did v.desk v.desk [] [] [] = did_nothing v.desk v.desk refl in
+    let d : Did v.desk v.desk (user_of_load e.load) (frame_of_load e.load) [] =
+    subst (λ (x : Option Input). Did v.desk v.desk (user_of_load x) (frame_of_load x) []) (sym mark) nothing in
+    kept_entry v line e v.desk v.outbox k m why [] [] r running next d (inl (ap (λ (x : Option Input). user_of_load x) mark)) tt refl so_far keeps_k keeps_m new_k new_m
+
+-- the keyboard, the mouse or the host reader has left
+pub kept_keyboard : (v : SideView) (line : TakeView Input) → Ran v → is_some v.stop ≡ false → TakesNext v.take (record { sender = 0; load = None }) line
+    → Ran (record { take = line; post = v.post; desk = v.desk; outbox = v.outbox; keyboard_left = true; mouse_left = v.mouse_left; exit_put = v.exit_put; stop = v.stop })
+kept_keyboard v line r running next =
+    subst
+    (λ (x : Option Stop). Ran (record { take = line; post = v.post; desk = v.desk; outbox = v.outbox; keyboard_left = true; mouse_left = v.mouse_left; exit_put = v.exit_put; stop = x }))
+    (sym (none_of v.stop running))
+    (mark_handled v line (record { sender = 0; load = None }) true v.mouse_left None r (none_of v.stop running) next refl (refl, refl) (λ is. refl) (λ is. is) (λ is. inr refl) (λ is. inl is))
+
+pub kept_mouse : (v : SideView) (line : TakeView Input) → Ran v → is_some v.stop ≡ false → TakesNext v.take (record { sender = 1; load = None }) line
+    → Ran (record { take = line; post = v.post; desk = v.desk; outbox = v.outbox; keyboard_left = v.keyboard_left; mouse_left = true; exit_put = v.exit_put; stop = v.stop })
+kept_mouse v line r running next =
+    subst
+    (λ (x : Option Stop). Ran (record { take = line; post = v.post; desk = v.desk; outbox = v.outbox; keyboard_left = v.keyboard_left; mouse_left = true; exit_put = v.exit_put; stop = x }))
+    (sym (none_of v.stop running))
+    (mark_handled v line (record { sender = 1; load = None }) v.keyboard_left true None r (none_of v.stop running) next refl (refl, refl) (λ is. is) (λ is. refl) (λ is. inl is) (λ is. inr refl))
+
+pub kept_reader : (v : SideView) (line : TakeView Input) (sender : ℕ) → Ran v → is_some v.stop ≡ false → TakesNext v.take (record { sender = sender; load = None }) line
+    → Ran (record { take = line; post = v.post; desk = v.desk; outbox = v.outbox; keyboard_left = v.keyboard_left; mouse_left = v.mouse_left; exit_put = v.exit_put; stop = v.stop })
+kept_reader v line sender r running next =
+    subst
+    (λ (x : Option Stop). Ran (record { take = line; post = v.post; desk = v.desk; outbox = v.outbox; keyboard_left = v.keyboard_left; mouse_left = v.mouse_left; exit_put = v.exit_put; stop = x }))
+    (sym (none_of v.stop running))
+    (mark_handled v line (record { sender = sender; load = None }) v.keyboard_left v.mouse_left None r (none_of v.stop running) next refl (refl, refl) (λ is. is) (λ is. is) (λ is. inl is) (λ is. inl is))
+
+pub kept_gone : (v : SideView) (line : TakeView Input) (sender : ℕ) → Ran v → is_some v.stop ≡ false → TakesNext v.take (record { sender = sender; load = None }) line
+    → v.desk.term.has_exited ≡ false
+    → Ran (record { take = line; post = v.post; desk = v.desk; outbox = v.outbox; keyboard_left = v.keyboard_left; mouse_left = v.mouse_left; exit_put = v.exit_put; stop = Some stop.PeerGone })
+kept_gone v line sender r running next open_still =
+    mark_handled v line (record { sender = sender; load = None }) v.keyboard_left v.mouse_left (Some stop.PeerGone) r (none_of v.stop running) next refl open_still
+    (λ is. is) (λ is. is) (λ is. inl is) (λ is. inl is)
+
+-- ## An entry that is dropped
+
+pub kept_dropped : (v : SideView) (line : TakeView Input) (e : Entry Input) (why : Stop) → Ran v → is_some v.stop ≡ false → TakesNext v.take e line
+    → SoFar v.desk.term (e ∷ []) [] (Some why)
+    → Ran (record { take = line; post = v.post; desk = v.desk; outbox = v.outbox; keyboard_left = v.keyboard_left; mouse_left = v.mouse_left; exit_put = v.exit_put; stop = Some why })
+kept_dropped v line e why r running next so_far =
+    let none = whole v r (none_of v.stop running) in
+    record {
+      handled = r.handled;
+      dropped = e ∷ [];
+      composed = r.composed;
+      lost = [];
+      own = r.own;
+      number = r.number;
+      senders = ap (λ (x : LineView). x.senders) next.line ∙ r.senders;
+      took = next.taken ∙ ap (λ (x : List (Entry Input)). x ++ e ∷ []) (r.took ∙ (ap (λ (x : List (Entry Input)). r.handled ++ x) none.0 ∙ append-nil r.handled));
+      runs = r.runs;
+      users = r.users;
+      own_is = r.own_is;
+      all_left = r.all_left;
+      keyboard = r.keyboard;
+      mouse = r.mouse;
+      fit = r.fit;
+      sent = ap (λ (x : List ℕ). bytes_of v.post.put ++ (v.outbox ++ x)) (sym none.1) ∙ r.sent;
+      so_far = so_far;
+    }
+
+not_handled : (t : PlainTerminal) (sender : ℕ) (input : Input) (why : Stop) → WasNotHandled t sender input why → SoFar t (record { sender = sender; load = Some input } ∷ []) [] (Some why)
+not_handled t sender input (stop.Frame n) w = w
+not_handled t sender input (stop.Host n) w = w
+not_handled t sender input (stop.Term n) w = inr w
+not_handled t sender input stop.PeerGone w = absurd w
+not_handled t sender input stop.Gate w = tt
+not_handled t sender input stop.Memory w = tt
+
+pub kept_refused : (v : SideView) (line : TakeView Input) (sender : ℕ) (input : Input) (why : Stop) → Ran v → is_some v.stop ≡ false
+    → TakesNext v.take (record { sender = sender; load = Some input }) line → WasNotHandled v.desk.term sender input why
+    → Ran (record { take = line; post = v.post; desk = v.desk; outbox = v.outbox; keyboard_left = v.keyboard_left; mouse_left = v.mouse_left; exit_put = v.exit_put; stop = Some why })
+kept_refused v line sender input why r running next w =
+    kept_dropped v line (record { sender = sender; load = Some input }) why r running next (not_handled v.desk.term sender input why w)
+
+pub kept_gated : (v : SideView) (line : TakeView Input) (sender : ℕ) (input : Input) → Ran v → is_some v.stop ≡ false
+    → TakesNext v.take (record { sender = sender; load = Some input }) line
+    → Ran (record { take = line; post = v.post; desk = v.desk; outbox = v.outbox; keyboard_left = v.keyboard_left; mouse_left = v.mouse_left; exit_put = v.exit_put; stop = Some stop.Gate })
+kept_gated v line sender input r running next = kept_dropped v line (record { sender = sender; load = Some input }) stop.Gate r running next tt
+
+more_dropped : (dropped one : List (Entry Input)) (x : Entry Input) (more : List (Entry Input)) → dropped ≡ x ∷ more → dropped ++ one ≡ x ∷ (more ++ one)
+more_dropped dropped one x more e = ap (λ (y : List (Entry Input)). y ++ one) e
+
+so_far_on : (t : PlainTerminal) (dropped one : List (Entry Input)) (lost : List ℕ) (why : Stop) → SoFar t dropped lost (Some why) → SoFar t (dropped ++ one) lost (Some why)
+so_far_on t dropped one lost (stop.Frame n) (inl s) = inl (s.0, s.1, s.2 ++ one, more_dropped dropped one (record { sender = s.0; load = Some (Host s.1) }) s.2 s.3, s.4, s.5)
+so_far_on t dropped one lost (stop.Frame n) (inr s) = inr (s.0, s.1 ++ one, more_dropped dropped one (record { sender = 2; load = Some (User s.0) }) s.1 s.2, s.3)
+so_far_on t dropped one lost (stop.Host n) s = s
+so_far_on t dropped one lost (stop.Term n) (inl s) = inl s
+so_far_on t dropped one lost (stop.Term n) (inr s) = inr (s.0, s.1, s.2 ++ one, s.3, more_dropped dropped one (record { sender = s.0; load = Some (Host s.1) }) s.2 s.4, s.5, s.6)
+so_far_on t dropped one lost stop.PeerGone s = s
+so_far_on t dropped one lost stop.Gate s = s
+so_far_on t dropped one lost stop.Memory s = s
+
+any_stop : (t : PlainTerminal) (dropped one : List (Entry Input)) (lost : List ℕ) (why : Option Stop) → is_some why ≡ true → SoFar t dropped lost why → SoFar t (dropped ++ one) lost why
+any_stop t dropped one lost None stopped s = absurd (cc)
+any_stop t dropped one lost (Some why) stopped s = so_far_on t dropped one lost why s
+
+-- what comes after a stop is dropped
+pub kept_dropping : (v : SideView) (line : TakeView Input) (e : Entry Input) → Ran v → is_some v.stop ≡ true → TakesNext v.take e line
+    → Ran (record { take = line; post = v.post; desk = v.desk; outbox = v.outbox; keyboard_left = v.keyboard_left; mouse_left = v.mouse_left; exit_put = v.exit_put; stop = v.stop })
+kept_dropping v line e r stopped next =
+    record {
+      handled = r.handled;
+      dropped = r.dropped ++ e ∷ [];
+      composed = r.composed;
+      lost = r.lost;
+      own = r.own;
+      number = r.number;
+      senders = ap (λ (x : LineView). x.senders) next.line ∙ r.senders;
+      took = next.taken ∙ (ap (λ (x : List (Entry Input)). x ++ e ∷ []) r.took ∙ append_assoc r.handled r.dropped (e ∷ []));
+      runs = r.runs;
+      users = r.users;
+      own_is = r.own_is;
+      all_left = r.all_left;
+      keyboard = r.keyboard;
+      mouse = r.mouse;
+      fit = r.fit;
+      sent = r.sent;
+      so_far = any_stop v.desk.term r.dropped (e ∷ []) r.lost v.stop stopped r.so_far;
+    }
+
+pub still : (v : SideView) (line : TakeView Input) → Ran v → line ≡ v.take
+    → Ran (record { take = line; post = v.post; desk = v.desk; outbox = v.outbox; keyboard_left = v.keyboard_left; mouse_left = v.mouse_left; exit_put = v.exit_put; stop = v.stop })
+still v line r same =
+    subst
+    (λ (x : TakeView Input). Ran (record { take = x; post = v.post; desk = v.desk; outbox = v.outbox; keyboard_left = v.keyboard_left; mouse_left = v.mouse_left; exit_put = v.exit_put; stop = v.stop }))
+    (sym same) r
+
+-- whatever the line answers after a stop
+pub kept_answer : (v : SideView) (line : TakeView Input) (g : Got Input) → Ran v → is_some v.stop ≡ true → Answers v.take g line
+    → Ran (record { take = line; post = v.post; desk = v.desk; outbox = v.outbox; keyboard_left = v.keyboard_left; mouse_left = v.mouse_left; exit_put = v.exit_put; stop = v.stop })
+kept_answer v line (got.Item i m) r stopped a = kept_dropping v line (record { sender = i; load = Some m }) r stopped a
+kept_answer v line (got.Left i) r stopped a = kept_dropping v line (record { sender = i; load = None }) r stopped a
+kept_answer v line got.Ended r stopped a = still v line r a.0
+kept_answer v line got.Empty r stopped a = still v line r a.0

@@ -1,0 +1,12 @@
+use Rattle.std.proofs.Common.{◌≡◌, ◌++◌, All, IsTrue}
+use Rattle.std.specs.Vec.Iter.{into_iter_items}
+use Rattle.sam_mesg.specs.HostKinds.{fits_h}
+use Rattle.sam_threads.specs.Feeding.{TakesAll}
+use Rattle.sam_threads.proofs.feeding.take_all.Given as goal
+
+abbrev pub invariant-loop-frame : goal.invariant-loop-frame
+invariant-loop-frame l = record {
+  fit : All (λ frame. IsTrue (fits_h 2 frame.msg)) (into_iter_items l.frame-iterator);
+  left : l.fn.frames.items ≡ l.yielded ++ into_iter_items l.frame-iterator;
+  took : TakesAll l.fn.terminal l.yielded l.composed.items l.terminal;
+}

@@ -1,0 +1,17 @@
+use Rattle.sam_threads.proofs.HostSide.{one_stops, one_all, one_cut, known_fit}
+use Rattle.sam_threads.proofs.host_side.HostSide.answer.Goals as goal
+
+pub returns-in-Err-clause-handles : goal.returns-in-Err-clause-handles
+returns-in-Err-clause-handles g c =
+    rw c.refusal.ensures (one_stops _ _ _ _ c.in-Err.why c.in-Err.ensures.unchanged c.in-Err.ensures.refused)
+
+pub send-requires-clause-fit : goal.send-requires-clause-fit
+send-requires-clause-fit g c = known_fit c.args.self.now.host.version _ _ c.as_slice-slice.ensures c.in-Ok.ensures.fit c.frames_are_known.ensures
+
+pub returns-in-Ok-send-clause-handles : goal.returns-in-Ok-send-clause-handles
+returns-in-Ok-send-clause-handles g c =
+    one_all _ _ _ _ _ _ _ _ _ c.in-Ok.ensures.answered c.in-Ok-send.ensures.host c.as_slice-slice.ensures c.in-Ok.ensures.fit c.frames_are_known.ensures c.in-Ok-send.ensures.puts
+
+pub returns-clause-handles : goal.returns-clause-handles
+returns-clause-handles g c =
+    one_cut _ _ _ _ _ _ _ _ _ c.in-Ok.ensures.answered c.in-Err-send.ensures.host c.as_slice-slice.ensures c.in-Ok.ensures.fit c.frames_are_known.ensures c.in-Err-send.ensures.puts

@@ -1,0 +1,11 @@
+use Rattle.std.proofs.Common.{◌≡◌}
+use Rattle.std.specs.Vec.Iter.{into_iter_items}
+use Rattle.sam_threads.proofs.HostSide.{SoFar}
+use Rattle.sam_threads.proofs.host_side.HostSide.answer_all.Given as goal
+
+abbrev pub invariant-loop-message : goal.invariant-loop-message
+invariant-loop-message g l = record {
+  piece : l.self.piece ≡ l.initial.self.piece;
+  framer : l.self.framer ≡ l.initial.self.framer;
+  so_far : SoFar l.initial.self.host l.self.host l.initial.self.post l.self.post l.fn.messages.items (into_iter_items l.message-iterator);
+}

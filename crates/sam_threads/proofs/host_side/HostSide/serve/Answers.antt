@@ -1,0 +1,27 @@
+use Rattle.std.proofs.Common.{◌∙◌, ap}
+use Rattle.sam_queue.specs.Views.{LineView}
+use Rattle.sam_threads.proofs.HostWhole.{going_item, going_left, going_stops}
+use Rattle.sam_threads.proofs.host_side.HostSide.serve.Goals as goal
+
+pub returns-in-Err-clause-serves : goal.returns-in-Err-clause-serves
+returns-in-Err-clause-serves g c =
+    let one = ap (λ (x : LineView). x.senders) c.loop.invariant.line ∙ c.requires.one in
+    going_stops (g.G.Gate.may_refuse c.args.gate.now 2) _ _ _ _ _ _ _ _ _ _ c.in-Item.piece _ c.in-Err.stop one c.in-Item.ensures.answer c.as_slice.ensures.value c.loop.invariant.going c.in-Err.ensures.takes
+
+pub loop-preserved-in-Item : goal.loop-preserved-in-Item
+loop-preserved-in-Item g c =
+    let one = ap (λ (x : LineView). x.senders) c.loop.invariant.line ∙ c.requires.one in
+    record {
+      goes_on = (tt, tt);
+      piece = c.in-Ok.ensures.piece ∙ c.loop.invariant.piece;
+      line = c.in-Item.ensures.line ∙ c.loop.invariant.line;
+      going = going_item (g.G.Gate.may_refuse c.args.gate.now 2) _ _ _ _ _ _ _ _ _ _ _ c.in-Item.piece _ one c.in-Item.ensures.answer c.as_slice.ensures.value c.loop.invariant.going c.in-Ok.ensures.takes;
+    }
+
+pub loop-preserved : goal.loop-preserved
+loop-preserved g c = record {
+  goes_on = (tt, tt);
+  piece = c.loop.invariant.piece;
+  line = c.recv.ensures.line ∙ c.loop.invariant.line;
+  going = going_left _ _ _ _ _ _ _ c.recv.result _ c.in-Left.is c.recv.ensures.answer c.loop.invariant.going;
+}

@@ -1,0 +1,7 @@
+use Rattle.std.proofs.Common.{drop}
+use Rattle.sam_mesg.specs.HostKinds.{IsHFrame}
+use Rattle.sam_world.specs.Sides.{Each}
+use Rattle.sam_threads.proofs.host_side.frames_are_known.Given as goal
+
+abbrev pub invariant-loop-frame : goal.invariant-loop-frame
+invariant-loop-frame l = Each IsHFrame (drop l.frame-index l.frames) → Each IsHFrame l.frames

@@ -1,0 +1,10 @@
+use Rattle.std.proofs.Common.{◌≡◌}
+use Rattle.sam_queue.specs.History.{StartsWith}
+use Rattle.sam_threads.proofs.reader.drop_rest.Given as goal
+
+abbrev pub invariant-loop-turn : goal.invariant-loop-turn
+invariant-loop-turn g l = record {
+  goes_on : (goal.iterator-loop-turn g).can_next l._turn-iterator × (goal.iterator-loop-turn g).is_finite l._turn-iterator;
+  line_is : l.take.line ≡ l.fn.take.line;
+  taken : StartsWith l.take.taken l.fn.take.taken;
+}

@@ -1,0 +1,10 @@
+use Rattle.std.proofs.Common.{◌≡◌, ◌++◌}
+use Rattle.std.specs.Vec.Iter.{into_iter_items}
+use Rattle.sam_threads.specs.Passing.{sent_on}
+use Rattle.sam_threads.proofs.reader.send_on.Given as goal
+
+abbrev pub invariant-loop-frame : goal.invariant-loop-frame
+invariant-loop-frame g l = record {
+  sent : l.post ≡ sent_on l.fn.post l.yielded;
+  left : l.fn.frames.items ≡ l.yielded ++ into_iter_items l.frame-iterator;
+}

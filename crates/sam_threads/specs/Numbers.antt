@@ -1,0 +1,38 @@
+-- The numbers of faults, by which a stop names them.
+use Rattle.std.specs.Prelude.{ℕ}
+use Rattle.sam_mesg.specs.declared.fault.MesgFault.{MesgFault}
+use Rattle.sam_mesg.specs.declared.fault.MesgFault.TheVariants as wrong
+use Rattle.sam_host.specs.declared.fault.HostFault.{HostFault}
+use Rattle.sam_host.specs.declared.fault.HostFault.TheVariants as refusal
+use Rattle.sam_term.specs.declared.fault.TermFault.{TermFault}
+use Rattle.sam_term.specs.declared.fault.TermFault.TheVariants as fault
+
+-- the number of a refusal of the host
+abbrev pub refusal_number : HostFault → ℕ
+refusal_number refusal.NoFile = 1
+refusal_number refusal.NotOpen = 2
+refusal_number refusal.BadPosition = 3
+refusal_number refusal.TooLong = 4
+refusal_number refusal.BadVersion = 5
+refusal_number refusal.CountFull = 6
+refusal_number refusal.OutOfMemory = 7
+refusal_number refusal.CommandFile = 8
+
+-- the number of a fault of a frame
+abbrev pub frame_number : MesgFault → ℕ
+frame_number wrong.BadKind = 1
+frame_number wrong.BadLength = 2
+frame_number wrong.BadText = 3
+frame_number wrong.OutOfMemory = 6
+
+-- the number of a fault of the terminal
+abbrev pub fault_number : TermFault → ℕ
+fault_number fault.FromTheFuture = 1
+fault_number fault.NoFile = 2
+fault_number fault.NotOpen = 3
+fault_number fault.AlreadyBound = 4
+fault_number fault.BadPosition = 5
+fault_number fault.TooLong = 6
+fault_number fault.LockNotHeld = 7
+fault_number fault.CountFull = 8
+fault_number fault.OutOfMemory = 9

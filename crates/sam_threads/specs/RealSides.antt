@@ -1,0 +1,31 @@
+-- The host and the terminal as two sides that hand messages to each other.
+use Rattle.std.specs.Prelude.{List, [], ◌∷◌, ◌++◌, Option, Some, None, Result, Ok, Err}
+use Rattle.sam_mesg.specs.declared.tmesg.Tmesg.{Tmesg}
+use Rattle.sam_mesg.specs.declared.hmesg.HFrame.{HFrame}
+use Rattle.sam_host.specs.Host.{PlainHost, answer}
+use Rattle.sam_term.specs.Term.{PlainTerminal, act_of, flush_of, take_of}
+use Rattle.sam_term.specs.declared.fault.TermFault.{TermFault}
+use Rattle.sam_term.specs.declared.event.Acted.{Acted}
+use Rattle.sam_world.specs.World.{composed_by}
+use Rattle.sam_world.specs.Sides.{Steps}
+
+-- what was answered or composed, and none at a refusal
+abbrev pub unless_refused : {A E : Type 0} → Result A E → Option A
+unless_refused (Ok a) = Some a
+unless_refused (Err why) = None
+
+abbrev pub acted : Result (PlainTerminal × Acted) TermFault → Option (PlainTerminal × List Tmesg)
+acted (Ok p) = Some (p.0, composed_by p.1)
+acted (Err why) = None
+
+abbrev pub sides : Steps PlainHost PlainTerminal Tmesg HFrame
+sides = record {
+  handle = λ h m. unless_refused (answer h m);
+  taken = λ h. h.taken;
+  user = λ t e. record t { held = t.held ++ e ∷ [] };
+  act = λ t. acted (act_of t);
+  flush = λ t. unless_refused (flush_of t);
+  receive = λ t frame. unless_refused (take_of t frame);
+  sent = λ t. t.sent;
+  seen = λ frame. frame.seen;
+}

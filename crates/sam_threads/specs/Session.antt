@@ -1,0 +1,29 @@
+-- What a session of threads over a script comes to.
+use Rattle.std.specs.Prelude.{◌≡◌, ℕ, [], map, Some, None}
+use Rattle.sam_script.specs.Script.{PlainScript, keys_of, mouse_of}
+use Rattle.sam_world.specs.Streams.{Begins}
+use Rattle.sam_world.specs.World.{new_world, run_of}
+use Rattle.sam_threads.specs.Told.{GatesTold}
+use Rattle.sam_threads.specs.Headline.{Headline}
+use Rattle.sam_threads.specs.Settled.{counts_left, stops_of, AreFull, HasUsers, IsWhole}
+use Rattle.sam_threads.specs.declared.input.Input.TheVariants.{User}
+use Rattle.sam_threads.specs.declared.ends.Ends.{Ends}
+use Rattle.sam_threads.specs.declared.settled.Settled.{Settled}
+
+-- It was settled from the ends of a session in which the host began with the script's files, and keyboard and mouse put the first events that the
+-- script has of each: all of them where nothing stopped that worker
+pub record IsSession (script : PlainScript) (refuses : ℕ → Type 0) (s : Settled) : Type 0 where
+  pub ends : Ends
+  pub headline : Headline ends s
+  pub run : run_of (new_world script.files) s.schedule.items ≡ Some s.world
+  pub states : (s.host ≡ s.world.host) × (s.term ≡ s.world.term)
+  pub users : HasUsers ends s
+  pub keys : Begins ends.keyboard.post.put (map User (keys_of script.lines))
+  pub all_keys : ends.keyboard.stop ≡ None → ends.keyboard.post.put ≡ map User (keys_of script.lines)
+  pub clicks : Begins ends.mouse.post.put (map User (mouse_of script.lines))
+  pub all_clicks : ends.mouse.stop ≡ None → ends.mouse.post.put ≡ map User (mouse_of script.lines)
+  pub left : s.left.items ≡ counts_left ends
+  pub stops : s.stops.items ≡ stops_of ends
+  pub full : AreFull s
+  pub gates : GatesTold refuses ends
+  pub whole : s.stops.items ≡ [] → IsWhole ends s

@@ -1,0 +1,198 @@
+//! The bytes that the terminal has composed and not yet put into its line.
+
+ghost use Rattle.std.specs.Prelude.{◌≡◌, ◌<◌, ◌≤◌, ◌++◌, [], ℕ, List, All, IsTrue, IfOk, OnOk, OnErr, None, Ok, length, drop};
+ghost use Rattle.std.specs.Bool.{OnFalse};
+ghost use Rattle.sam_mesg.specs.TerminalKinds.{fits_t, FitsT};
+ghost use Rattle.sam_frame.specs.Direction.{terminal};
+ghost use Rattle.sam_frame.specs.Stream.{stream_of};
+ghost use Rattle.sam_world.specs.Sides.{Each};
+ghost use Rattle.sam_queue.specs.Views.{IsSamePost};
+ghost use Rattle.sam_threads.specs.Inputs.{bytes_of};
+ghost use Rattle.sam_threads.specs.Outboxes.{piece_bytes, Encodes};
+
+use sam_mesg::{MesgFault, Tmesg, encode_t};
+use sam_queue::{Post, Refused};
+use std::alloc::{AllocError, Global};
+use std::marker::Model;
+use std::sync::Wait;
+
+#[tactic(auto, using(crate::proofs::Outboxes::all_encoded, crate::proofs::Outboxes::rest_lost))]
+// Puts the frames of the messages at the end, as far as there is memory for them.
+fn encode_all(messages: &[Tmesg], out: &mut Vec<u8>) -> Result<(), MesgFault>
+    requires { All (λ m. IsTrue (fits_t 2 m)) messages.now }
+    ensures encoded { OnOk result (out.new.items ≡ out.old.items ++ stream_of terminal messages.now) }
+    ensures begun { Encodes out.old.items out.new.items messages.now }
+{
+    for message in messages {
+        encode_t(message, out)?;
+    }
+    Ok(())
+}
+
+// What is known of each message.
+fn know_all(messages: &[Tmesg])
+    requires { All (λ m. IsTrue (fits_t 2 m)) messages.now }
+    ensures { Each (FitsT 2) messages.now }
+{
+    for message in messages {
+        message.known();
+    }
+}
+
+/// Bytes that are taken from the front, a piece at a time. What was taken is let go of once it is more than half of all, so
+/// that a byte is moved at most once for each byte that was taken.
+#[derive(Drop)]
+struct Uncut {
+    bytes: Vec<u8>,
+    start: usize,
+}
+
+impl Model for Uncut {
+    ghost use Rattle.std.specs.Prelude.{ℕ, List, ◌≤◌, length, drop};
+
+    ghost Value = { List ℕ };
+
+    ghost view = { λ u. drop u.start u.bytes.items };
+
+    ghost invariant = { λ u. u.start ≤ length u.bytes.items };
+}
+
+impl Uncut {
+    fn new(alloc: Global) -> Uncut
+        ensures { result ≡ [] }
+    {
+        Uncut {
+            bytes: Vec::new(alloc),
+            start: 0,
+        }
+    }
+
+    #[tactic(auto, using(crate::proofs::Outboxes::nothing_behind))]
+    fn is_empty(&self) -> bool
+        ensures { IsTrue result → self.now ≡ [] }
+    {
+        self.start == self.bytes.len()
+    }
+
+    #[tactic(auto, using(crate::proofs::Outboxes::behind_start, crate::proofs::Outboxes::within_grown, crate::proofs::Outboxes::all_behind))]
+    fn push_all(&mut self, messages: &[Tmesg]) -> Result<(), MesgFault>
+        requires { All (λ m. IsTrue (fits_t 2 m)) messages.now }
+        ensures encoded { OnOk result (self.new ≡ self.old ++ stream_of terminal messages.now) }
+        ensures begun { Encodes self.old self.new messages.now }
+    {
+        encode_all(messages, &mut self.bytes)
+    }
+
+    // Lets go of the bytes that were taken, where they are more than half.
+    fn forget(&mut self)
+        ensures { self.new ≡ self.old }
+    {
+        let rest = self.bytes.len() - self.start;
+        if rest < self.start {
+            self.bytes.copy_within(self.start.., 0);
+            self.bytes.truncate(rest);
+            self.start = 0;
+        }
+    }
+
+    #[tactic(auto, using(std::proofs::lemmas::List::Folds::drop_split))]
+    // Takes at most so many bytes from the front; nothing where there are none.
+    fn cut(&mut self, alloc: Global, most: usize) -> Result<Option<Vec<u8>>, AllocError>
+        requires { 0 < most }
+        ensures cut { IfOk result (λ piece. self.old ≡ piece_bytes piece ++ self.new) }
+        ensures unchanged { OnErr result (self.new ≡ self.old) }
+    {
+        let len = most.min(self.bytes.len() - self.start);
+        if len == 0 {
+            return Ok(None);
+        }
+        let end = self.start + len;
+        let piece = self.bytes[self.start..end].to_vec(alloc)?;
+        self.start = end;
+        self.forget();
+        Ok(Some(piece))
+    }
+}
+
+/// The bytes of messages that were not yet put. Contracts see them as one list.
+#[derive(Drop)]
+pub(crate) struct Outbox {
+    alloc: Global,
+    // The piece that is next, where it was cut and the line was full.
+    ready: Option<Vec<u8>>,
+    rest: Uncut,
+}
+
+impl Model for Outbox {
+    ghost use Rattle.std.specs.Prelude.{ℕ, List, ◌++◌};
+    ghost use Rattle.sam_threads.specs.Outboxes.{piece_bytes};
+
+    ghost Value = { List ℕ };
+
+    ghost view = { λ o. piece_bytes o.ready ++ o.rest };
+}
+
+impl Outbox {
+    pub(crate) fn new(alloc: Global) -> Outbox
+        ensures { result ≡ [] }
+    {
+        Outbox {
+            alloc,
+            ready: None,
+            rest: Uncut::new(alloc),
+        }
+    }
+
+    /// Whether there is nothing to put.
+    pub(crate) fn is_empty(&self) -> bool
+        ensures { IsTrue result → self.now ≡ [] }
+    {
+        self.ready.is_none() && self.rest.is_empty()
+    }
+
+    #[tactic(auto, using(crate::proofs::Outboxes::behind_front))]
+    /// Puts the frames of the messages behind what is there. Where memory is wanted, the first of their bytes stand there.
+    pub(crate) fn push_all(&mut self, messages: &[Tmesg]) -> Result<(), MesgFault>
+        requires { All (λ m. IsTrue (fits_t 2 m)) messages.now }
+        ensures fit { Each (FitsT 2) messages.now }
+        ensures encoded { OnOk result (self.new ≡ self.old ++ stream_of terminal messages.now) }
+        ensures begun { Encodes self.old self.new messages.now }
+    {
+        know_all(messages);
+        self.rest.push_all(messages)
+    }
+
+    /// Puts the next piece, of at most so many bytes, if the line has room for it. False says that nothing was put.
+    pub(crate) fn put<R: Wait>(
+        &mut self,
+        rt: &R,
+        post: &mut Post<Vec<u8>>,
+        most: usize,
+    ) -> Result<bool, AllocError>
+        requires { 0 < most }
+        ensures post { IsSamePost post.old post.new }
+        ensures closed { post.new.closed ≡ post.old.closed }
+        ensures put { bytes_of post.new.put ++ self.new ≡ bytes_of post.old.put ++ self.old }
+        ensures nothing { IfOk result (λ put. OnFalse put (post.new ≡ post.old)) }
+        ensures unchanged { OnErr result (self.new ≡ self.old) }
+    {
+        let next = match self.ready.take() {
+            Some(piece) => Some(piece),
+            None => self.rest.cut(self.alloc, most)?,
+        };
+        let Some(piece) = next else {
+            return Ok(false);
+        };
+        match post.try_send(rt, piece) {
+            Ok(()) => Ok(true),
+            Err(Refused::Full(piece)) => {
+                self.ready = Some(piece);
+                Ok(false)
+            }
+            Err(Refused::Closed(piece)) => {
+                self.ready = Some(piece);
+                Ok(false)
+            }
+        }
+    }
+}

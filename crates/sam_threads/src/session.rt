@@ -1,0 +1,39 @@
+//! A whole session of threads.
+ghost use Rattle.std.specs.Prelude.{◌≡◌, ◌<◌, IfOk, Err};
+ghost use Rattle.sam_threads.specs.Session.{IsSession};
+ghost use Rattle.sam_threads.specs.Told.{RefusesSome};
+ghost use Rattle.sam_threads.specs.declared.run.RunFault.TheVariants.{GateTimedOut};
+
+use crate::gate::Gate;
+use crate::lines::Lines;
+use crate::run::{RunFault, run_ends};
+use crate::settled::Settled;
+use crate::settling::settle;
+use sam_script::Script;
+use std::alloc::Global;
+use std::sync::Wait;
+use std::thread::Threads;
+
+/// Runs the five threads over lines of so many entries each, in pieces of so many bytes at most, and settles what they came to.
+pub fn run_threads<R: Threads + Wait + Sync, G: Gate>(
+    rt: &R,
+    alloc: Global,
+    script: &Script,
+    piece: usize,
+    capacity: usize,
+    gate: &G,
+) -> Result<Settled, RunFault>
+    requires piece { 0 < piece }
+    requires capacity { 0 < capacity }
+    ensures session { IfOk result (IsSession script.now (G.may_refuse gate.now)) }
+    ensures timed { result ≡ Err RunFault.GateTimedOut → RefusesSome (G.may_refuse gate.now) }
+{
+    let Ok((lines, starts)) = Lines::new(alloc, capacity) else {
+        return Err(RunFault::OutOfMemory);
+    };
+    let ends = run_ends(rt, alloc, &lines, starts, script, piece, gate)?;
+    let Ok(settled) = settle(rt, alloc, ends) else {
+        return Err(RunFault::OutOfMemory);
+    };
+    Ok(settled)
+}

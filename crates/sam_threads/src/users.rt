@@ -1,0 +1,71 @@
+//! The keyboard's and the mouse's worker.
+
+ghost use Rattle.std.specs.Prelude.{◌≡◌, ℕ, ◌<◌, false, length, map, take, MatchBool, Some};
+ghost use Rattle.sam_queue.specs.Views.{new_post};
+ghost use Rattle.sam_threads.specs.Told.{UserTold};
+ghost use Rattle.sam_threads.specs.declared.input.Input.TheVariants.{User};
+
+use crate::ends::UserEnd;
+use crate::gate::Gate;
+use crate::input::Input;
+use crate::stop::Stop;
+use sam_queue::Post;
+use sam_term::event::UserEvent;
+use std::sync::Wait;
+
+/// Sends the events in order and closes. The keyboard is worker 0, the mouse worker 1.
+pub(crate) fn send_events<'q, R: Wait, G: Gate>(
+    rt: &R,
+    gate: &G,
+    worker: usize,
+    events: Vec<UserEvent>,
+    mut post: Post<'q, Input>,
+) -> UserEnd<'q>
+    requires worker { worker < 5 }
+    requires post { post ≡ new_post post.line worker }
+    ensures told { UserTold worker events.items post.entry.line result }
+    ensures begins { result.passed ≡ false → G.may_refuse gate.now worker }
+    ensures way { result.stop ≡ Some Stop.Gate → G.may_refuse gate.now worker }
+{
+    if !gate.pass(worker) {
+        post.close(rt);
+        return UserEnd {
+            post,
+            passed: false,
+            stop: Some(Stop::Gate),
+        };
+    }
+    let sent_all = put_events(rt, gate, worker, events, &mut post);
+    post.close(rt);
+    UserEnd {
+        post,
+        passed: true,
+        stop: if sent_all { None } else { Some(Stop::Gate) },
+    }
+}
+
+/// Puts the events in order as far as the gate lets it go on, and answers whether it put them all.
+fn put_events<R: Wait, G: Gate>(
+    rt: &R,
+    gate: &G,
+    worker: usize,
+    events: Vec<UserEvent>,
+    post: &mut Post<Input>,
+) -> bool
+    requires worker { worker < 5 }
+    requires post { post.old ≡ new_post post.old.line worker }
+    ensures { (many : ℕ) × (post.new ≡ record post.old { put = map User (take many events.items) })
+        × MatchBool result (many ≡ length events.items) (G.may_refuse gate.now worker) }
+{
+    let mut handled: u64 = 0;
+    for event in events {
+        if !gate.go_on(worker, handled) {
+            return false;
+        }
+        if post.send(rt, Input::User(event)).is_err() {
+            unreachable!()
+        }
+        handled = handled.saturating_add(1);
+    }
+    true
+}
