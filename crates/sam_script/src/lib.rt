@@ -16,6 +16,3 @@ pub use lines_of_run::run_lines;
 pub use replaying::{first_world, given_files, replay};
 pub use script::{MOST_FILES, Script};
 pub use showing::show;
-
-#[cfg(test)]
-mod tests;

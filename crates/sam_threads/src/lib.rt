@@ -33,6 +33,3 @@ pub use session::run_threads;
 pub use settled::{SettleFault, Settled};
 pub use settling::settle;
 pub use stop::Stop;
-
-#[cfg(test)]
-mod tests;

@@ -1,5 +1,7 @@
-use super::*;
-use sam_world::event::Event;
+//! Scripts, read and written.
+
+use sam_script::{Line, Script, ScriptFault, run_lines};
+use sam_world::Event;
 use std::alloc::{AllocError, Global};
 
 #[test]

@@ -1,8 +1,8 @@
-//! Calls with ample memory, and what no clause says.
+//! Runs of a world.
 
-use super::*;
 use sam_runes::{Runes, Text};
 use sam_term::UserEvent;
+use sam_world::{Event, MergeFault, RunStop, StepFault, TermLog, World, merge};
 use std::alloc::Global;
 use std::test::Fail;
 

@@ -1,9 +1,8 @@
 //! Rows of the host's stream, and what a terminal makes of them.
-use crate::feeding::feed_terminal;
-use crate::stop::Stop;
 use sam_frame::{FeedFault, FramerH};
 use sam_mesg::Tmesg;
 use sam_term::term::Terminal;
+use sam_threads::{Stop, feed_terminal};
 use std::alloc::Global;
 
 /// What stops a new terminal that is fed this piece.

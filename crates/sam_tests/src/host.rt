@@ -1,5 +1,6 @@
-use crate::fault::HostFault;
-use crate::host::Host;
+//! Each kind of message to a host.
+
+use sam_host::{Host, HostFault};
 use sam_mesg::{Frames, Tmesg, fits_t};
 use sam_runes::{Runes, Text};
 use std::alloc::Global;
