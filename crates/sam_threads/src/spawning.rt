@@ -1,5 +1,5 @@
 //! Starting the five threads and joining them.
-ghost use Rattle.std.specs.Prelude.{◌≡◌, ◌<◌, IfSome};
+ghost use Rattle.std.specs.Prelude.{◌≡◌, ◌<◌, IfSome, Some};
 ghost use Rattle.sam_threads.specs.Promised.{UserKept, HostKept, ReaderKept, TermKept, KeepPromises, PromisesOf};
 ghost use Rattle.sam_threads.specs.Seats.{IsUserSeat, IsHostSeat, IsReaderSeat, IsTermSeat, AreReady};
 
@@ -365,12 +365,22 @@ pub fn spawn_all<'s, 'e: 's, 'q: 's, R: Wait + Sync, G: Gate>(
         term,
     } = seats;
     let (up, down, events) = (lines.up(), lines.down(), lines.events());
+    let users = both(
+        spawn_user(scope, rt, start, gate, 0, events, keyboard),
+        spawn_user(scope, rt, start, gate, 1, events, mouse),
+    );
+    let sides = both(
+        spawn_host(scope, rt, alloc, start, gate, piece, up, down, host),
+        spawn_terminal(scope, rt, alloc, start, gate, piece, events, up, term),
+    );
+    let reader = spawn_reader(scope, rt, alloc, start, gate, down, events, reader);
+    let ((keyboard, mouse), ((host, term), reader)) = both(users, both(sides, reader))?;
     Some(Handles {
-        keyboard: spawn_user(scope, rt, start, gate, 0, events, keyboard)?,
-        mouse: spawn_user(scope, rt, start, gate, 1, events, mouse)?,
-        host: spawn_host(scope, rt, alloc, start, gate, piece, up, down, host)?,
-        reader: spawn_reader(scope, rt, alloc, start, gate, down, events, reader)?,
-        term: spawn_terminal(scope, rt, alloc, start, gate, piece, events, up, term)?,
+        keyboard,
+        mouse,
+        host,
+        reader,
+        term,
     })
 }
 
@@ -388,16 +398,21 @@ pub fn join_all<'s, 'q, R: Threads, G: Gate>(
         reader,
         term,
     } = handles;
-    let keyboard = keyboard.join(rt);
-    let mouse = mouse.join(rt);
-    let host = host.join(rt);
-    let reader = reader.join(rt);
-    let term = term.join(rt);
+    let users = both(keyboard.join(rt), mouse.join(rt));
+    let sides = both(host.join(rt), term.join(rt));
+    let ((keyboard, mouse), ((host, term), reader)) = both(users, both(sides, reader.join(rt)))?;
     Some(Ends {
-        host: host?,
-        reader: reader?,
-        term: term?,
-        keyboard: keyboard?,
-        mouse: mouse?,
+        host,
+        reader,
+        term,
+        keyboard,
+        mouse,
     })
+}
+
+// One exit in place of five, each of which would drop what the others hold.
+fn both<A: Drop, B: Drop>(first: Option<A>, second: Option<B>) -> Option<(A, B)>
+    ensures { IfSome result (λ p. (first ≡ Some p.0) × (second ≡ Some p.1)) }
+{
+    first.zip(second)
 }
