@@ -7,13 +7,12 @@ use Rattle.sam_runes.specs.Texts.{is_empty, most_in_message}
 use Rattle.sam_rasp.specs.Rasp.{place_after_ins}
 use Rattle.sam_mesg.specs.declared.tmesg.Tmesg.{Tmesg}
 use Rattle.sam_mesg.specs.declared.tmesg.Tmesg.TheVariants.{Ttype, Tsnarf, Tcut, Tpaste, Tack}
-use Rattle.sam_mesg.specs.declared.hmesg.Hmesg.{Hmesg}
 use Rattle.sam_mesg.specs.declared.hmesg.Hmesg.TheVariants.{Hversion, Hbindname, Hcurrent, Hnewname, Hmovname, Hgrow, Hcheck, Hunlock, Hdata, Horigin, Hunlockfile, Hsetdot, Hgrowdata, Hmoveto, Hclean, Hdirty, Hcut, Hsetpat, Hdelname, Hclose, Hsetsnarf, Hsnarflen, Hack, Hexit}
 use Rattle.sam_term.specs.Locks.{is_command_line}
 use Rattle.sam_term.specs.declared.event.UserEvent.{UserEvent}
 use Rattle.sam_term.specs.declared.event.UserEvent.TheVariants.{Typed, Select, Cut, Paste, Snarf, Look, Search, Send, Dclick, Scroll, View, Open, Close, Write, Work, OpenCmd, New, Exit, Check, GetSnarf, SetSnarf, Version, Flush}
 use Rattle.sam_term.specs.declared.files.Unsent.{Unsent}
-use Rattle.sam_term.specs.Term.{PlainTerminal, Made, and_then, unsent_message, flushed, sends, sends_if, unchanged, wanted, requested, joins, joined, moved_unsent, kept_unsent, typed_rasp, types, cuts_dot, has_empty_dot, window_at, put_window, del_rasp, made_by_type, made_by_cut, made_by_paste, made_by_snarf, made_by_view, made_by, made_from, took_unlockfile}
+use Rattle.sam_term.specs.Term.{PlainTerminal, Made, and_then, unsent_message, flushed, sends, sends_if, unchanged, wanted, requested, joins, joined, moved_unsent, kept_unsent, typed_rasp, types, cuts_dot, has_empty_dot, window_at, put_window, del_rasp, made_by_type, made_by_cut, made_by_paste, made_by_snarf, made_by_view, made_by, took_unlockfile}
 use Rattle.sam_term.specs.Unsent.{SendsFirst, EventsSendFirst, FramesSendFirst}
 use Rattle.sam_term.proofs.Grows.{ins_cases}
 
