@@ -1,4 +1,4 @@
-use Rattle.std.proofs.Common.{◌≡◌, ◌≤◌, ◌-◌, length, sym, ◌∙◌, ap, arith}
+use Rattle.std.proofs.Common.{sym, ◌∙◌, ap, arith}
 use Rattle.sam_runes.specs.Texts.{lines_before}
 use Rattle.sam_runes.proofs.PlaceLaws.{line_behind_newline, newline_passed, rune_passed}
 use Rattle.sam_runes.proofs.places.lines_before.Goals as goal
