@@ -8,7 +8,6 @@ ghost use Rattle.sam_text.specs.Files.{file_at};
 
 use crate::fault::HostFault;
 use crate::host::Host;
-use crate::places::{after_newlines, newlines};
 use sam_mesg::{HFrame, Hmesg, Tmesg};
 use sam_text::FileChange;
 
@@ -75,9 +74,7 @@ impl Host {
         let Some(file) = self.files.file(f) else {
             return 0;
         };
-        let text = file.text();
-        let behind = newlines(text.slice(0, p)).saturating_sub(n as usize);
-        after_newlines(text.slice(0, text.len()), behind) as u32
+        file.text().lines_before(p, n)
     }
 
     /// The start of a line is asked for.

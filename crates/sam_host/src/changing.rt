@@ -9,8 +9,8 @@ ghost use Rattle.sam_mesg.specs.TerminalKinds.{fits_t};
 
 use crate::fault::HostFault;
 use crate::host::Host;
-use crate::places::prefix_in_bytes;
 use sam_mesg::{HFrame, Hmesg, Tmesg};
+use sam_runes::places::prefix_in_bytes;
 use sam_runes::{MAX_RUNES, Runes};
 use sam_text::FileChange;
 
