@@ -5,3 +5,4 @@ pub mod Runs
 pub mod RaspLaws
 pub mod Agreeing
 pub mod Typing
+pub mod Windows

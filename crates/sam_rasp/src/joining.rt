@@ -4,12 +4,12 @@
 ghost use Rattle.std.specs.Prelude.{◌≡◌, ◌<◌, ◌≤◌, ◌+◌, ◌++◌, [], ◌∷◌, List, true, false, length, drop, min, vec_len, vec_capacity};
 ghost use Rattle.sam_runes.specs.Texts.{del, max_runes};
 ghost use Rattle.sam_rasp.specs.declared.section.Section.{Section};
-ghost use Rattle.sam_rasp.specs.Sections.{cells, cells_of, cells_back, size, may_join, joined, IsNormal};
+ghost use Rattle.sam_rasp.specs.Sections.{cells, cells_of, cells_back, size, may_join, joined, IsApart, IsNormal};
 
 use crate::section::Section;
 
 /// Puts a section at the end, where there is room for it.
-fn push(out: &mut Vec<Section>, section: Section)
+pub fn push(out: &mut Vec<Section>, section: Section)
     requires { vec_len out.old < vec_capacity out.old }
     ensures items { out.new.items ≡ out.old.items ++ section ∷ [] }
     ensures len { vec_len out.new ≡ vec_len out.old + 1 }
@@ -39,6 +39,8 @@ pub fn push_joined(out: &mut Vec<Section>, section: Section)
     requires within { length (cells_of out.old.items) + size section ≤ max_runes }
     ensures cells { cells_of out.new.items ≡ cells_of out.old.items ++ cells section }
     ensures normal { IsNormal out.new.items }
+    ensures front { (w : Section) → IsApart w out.old.items → IsApart w out.new.items }
+    ensures behind { (xs : List Section) → IsNormal (section ∷ xs) → IsNormal (out.new.items ++ xs) }
     ensures len { vec_len out.new ≤ vec_len out.old + min 1 (size section) }
     ensures capacity { vec_capacity out.old ≤ vec_capacity out.new }
 {
@@ -63,6 +65,7 @@ pub fn join_all(out: &mut Vec<Section>, rest: &mut Vec<Section>)
     requires within { length (cells_of out.old.items) + length (cells_back rest.old.items) ≤ max_runes }
     ensures cells { cells_of out.new.items ≡ cells_of out.old.items ++ cells_back rest.old.items }
     ensures normal { IsNormal out.new.items }
+    ensures front { (w : Section) → IsApart w out.old.items → IsApart w out.new.items }
     ensures len { vec_len out.new ≤ vec_len out.old + vec_len rest.old }
     ensures capacity { vec_capacity out.old ≤ vec_capacity out.new }
     ensures empty { rest.new.items ≡ [] }
@@ -83,6 +86,7 @@ pub fn move_before(out: &mut Vec<Section>, rest: &mut Vec<Section>, p: u32) -> (
     ensures place { length (cells_of out.new.items) + result.1 ≡ length (cells_of out.old.items) + p }
     ensures inside { result.1 ≤ size result.0 }
     ensures normal { IsNormal out.new.items }
+    ensures front { (w : Section) → IsApart w out.old.items → IsApart w out.new.items }
     ensures len { vec_len out.new + min 1 (size result.0) + vec_len rest.new ≤ vec_len out.old + vec_len rest.old }
     ensures capacity { vec_capacity out.old ≤ vec_capacity out.new }
     ensures kept { vec_capacity rest.old ≤ vec_capacity rest.new }

@@ -1,6 +1,5 @@
-use Rattle.std.proofs.Common.{◌≡◌, refl, sym, ap, ◌∙◌, true≢false, ◌+◌, ◌-◌, ◌≤◌, drop, take, length, [], List, arith}
+use Rattle.std.proofs.Common.{◌≡◌, sym, ap, ◌∙◌, true≢false, ◌+◌, ◌-◌, drop, take, [], List, arith}
 use Rattle.std.proofs.lemmas.List.{drop_all}
-use Rattle.sam_rasp.specs.Rasp.{Agrees}
 use Rattle.sam_rasp.specs.Sections.{cells, cells_of}
 use Rattle.sam_rasp.specs.declared.section.Section.{Section}
 use Rattle.sam_rasp.proofs.SectionLaws.{length-cells}

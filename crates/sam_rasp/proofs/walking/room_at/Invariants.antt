@@ -1,6 +1,9 @@
-use Rattle.std.proofs.Common.{◌≡◌, ◌+◌, length, take}
-use Rattle.sam_rasp.specs.Sections.{cells_of}
+use Rattle.std.proofs.Common.{◌≤◌, ◌-◌, length}
+use Rattle.sam_rasp.specs.Sections.{IsBegin}
 use Rattle.sam_rasp.proofs.walking.room_at.Given as goal
 
-abbrev pub invariant-loop-index : goal.invariant-loop-index
-invariant-loop-index l = length (cells_of (take l.index l.sections)) + l.left ≡ l.p
+abbrev pub invariant-loop-at : goal.invariant-loop-at
+invariant-loop-at l = IsBegin l.sections l.at × (l.at.place ≤ l.p)
+
+abbrev pub decreases-loop-at : goal.decreases-loop-at
+decreases-loop-at l = length l.sections - l.at.index

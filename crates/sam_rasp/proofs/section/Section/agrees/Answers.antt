@@ -1,4 +1,4 @@
-use Rattle.std.proofs.Common.{◌≡◌, sym, ap, ◌∙◌, subst, rules, map, replicate, Some, None}
+use Rattle.std.proofs.Common.{sym, ap, ◌∙◌, subst, rules, map, replicate, Some, None}
 use Rattle.sam_rasp.specs.Rasp.{Agrees}
 use Rattle.sam_rasp.specs.Sections.{cells, size}
 use Rattle.sam_rasp.proofs.RaspLaws.{Agrees-runes, Agrees-gaps}

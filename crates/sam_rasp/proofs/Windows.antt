@@ -1,0 +1,156 @@
+-- Sections taken out of a list and put back.
+use Rattle.std.proofs.Common.{◌≡◌, refl, sym, ap, ◌∙◌, subst, ℕ, zero, suc, ◌+◌, ◌-◌, ◌≤◌, ◌<◌, List, [], ◌∷◌, ◌++◌, take, drop, length, min, reverse, arith, ◌⊎◌, inl, inr}
+use Rattle.std.proofs.lemmas.List.{append_assoc, nil_from_length, take_at, drop_at, drop_min, drop-drop, take-take, take-append-drop, drop-append-le, length-append, length-reverse, length-take, length-drop, take-append-le, drop-append-le}
+use Rattle.std.proofs.lemmas.List.Concat.{flat_map-append}
+use Rattle.sam_rasp.specs.Rasp.{PartialText}
+use Rattle.sam_rasp.specs.Sections.{cells, cells_of, cells_back, IsApart, StaysApart, IsNormal}
+use Rattle.sam_rasp.specs.declared.section.Section.{Section}
+use Rattle.sam_rasp.proofs.SectionLaws.{normal-between}
+use Rattle.sam_rasp.proofs.Changes.{take-past, drop-past}
+use Rattle.sam_rasp.proofs.Runs.{normal-take}
+use Rattle.std.proofs.lemmas.Bool.{cases_lt}
+
+-- two lists parted at the same place
+first-part : {X : Type 0} (a b c d : List X) → a ++ b ≡ c ++ d → length a ≡ length c → a ≡ c
+first-part a b c d e l = sym (take_at a b (length c) l) ∙ (ap (take (length c)) e ∙ take_at c d (length c) refl)
+
+second-part : {X : Type 0} (a b c d : List X) → a ++ b ≡ c ++ d → length a ≡ length c → b ≡ d
+second-part a b c d e l = sym (drop_at a b (length c) l) ∙ (ap (drop (length c)) e ∙ drop_at c d (length c) refl)
+
+-- s is what is left of xs, w what stood from number front to number last, z the one behind
+pub record Parted {X : Type 0} (xs s w z : List X) (front last : ℕ) : Type 0 where
+  pub left : s ≡ take front xs ++ drop (last + 1) xs
+  pub inner : w ≡ take (last - front) (drop front xs)
+  pub next : z ++ drop (last + 1) xs ≡ drop last xs
+
+pub parted : {X : Type 0} (xs s w z : List X) (front last k : ℕ) → (s ++ w) ++ z ≡ take front xs ++ (drop k (drop front xs) ++ take k (drop front xs))
+    → length w ≡ last - front → last + length z ≡ min (length xs) (last + 1) → k ≡ min (length xs) (last + 1) - front → front ≤ last → last ≤ length xs → Parted xs s w z front last
+parted xs s w z front last k e lw lz lk le within =
+    let d = drop front xs in
+    let m = last - front in
+    let a = take front xs ++ drop k d in
+    let whole : s ++ (w ++ z) ≡ a ++ take k d = sym (append_assoc s w z) ∙ (e ∙ sym (append_assoc (take front xs) (drop k d) (take k d))) in
+    let lengths = sym (length-append s (w ++ z)) ∙ (ap length whole ∙ length-append a (take k d)) in
+    let same : length s ≡ length a = omega (arith, lengths, length-append w z, length-take k d, length-drop front xs, lw, lz, lk, le, within) in
+    let front-part : s ≡ a = first-part s (w ++ z) a (take k d) whole same in
+    let window : w ++ z ≡ take k d = second-part s (w ++ z) a (take k d) whole same in
+    let inner : w ≡ take m d = sym (take_at w z m lw) ∙ (ap (take m) window ∙ take-take m k d (omega (arith, lk, lz))) in
+    let after : z ≡ drop m (take k d) = sym (drop_at w z m lw) ∙ ap (drop m) window in
+    let to : front + k ≡ min (last + 1) (length xs) = omega (arith, lk, le, within) in
+    let tail : drop k d ≡ drop (last + 1) xs = drop-drop k front xs ∙ (ap (λ j. drop j xs) to ∙ drop_min (last + 1) xs) in
+    let sum : front + m ≡ last = omega (arith, le) in
+    let enough : m ≤ length (take k d) = omega (arith, length-take k d, length-drop front xs, lk, lz, within) in
+    let behind : drop m (take k d) ++ drop k d ≡ drop last xs =
+    sym (drop-append-le m (take k d) (drop k d) enough) ∙ (ap (drop m) (take-append-drop k d) ∙ (drop-drop m front xs ∙ ap (λ j. drop j xs) sum)) in
+    record { left = front-part ∙ ap (λ y. take front xs ++ y) tail; inner = inner; next = ap (λ y. y ++ drop (last + 1) xs) after ∙ (ap (λ y. drop m (take k d) ++ y) (sym tail) ∙ behind) }
+
+pub cells-append : (xs ys : List Section) → cells_of (xs ++ ys) ≡ cells_of xs ++ cells_of ys
+cells-append xs ys = flat_map-append cells xs ys
+
+-- what a change reaches of xs: o and w from section number front to number last, and z behind them
+pub record Opened (xs o w z : List Section) (front last : ℕ) (begin first : ℕ) : Type 0 where
+  pub list : xs ≡ take front xs ++ ((o ++ reverse w) ++ (z ++ drop (last + 1) xs))
+  pub whole : cells_of xs ≡ cells_of (take front xs) ++ ((cells_of o ++ cells_back w) ++ (cells_of z ++ cells_of (drop (last + 1) xs)))
+  pub lengths : length (cells_of xs) ≡ begin + ((length (cells_of o) + length (cells_back w)) + (length (cells_of z) + length (cells_of (drop (last + 1) xs))))
+  pub before : begin + length (cells_of o) ≡ first
+  pub ends : length (cells_of (take last xs)) ≡ begin + (length (cells_of o) + length (cells_back w))
+  pub count : length xs ≡ front + ((length o + length w) + (length z + length (drop (last + 1) xs)))
+
+pub opened : (xs o w z : List Section) (front number last begin first : ℕ) → o ++ reverse w ≡ take (last - front) (drop front xs) → z ++ drop (last + 1) xs ≡ drop last xs
+    → front ≤ number → length o ≡ number - front → number ≤ last → last ≤ length xs → length (cells_of (take front xs)) ≡ begin → length (cells_of (take number xs)) ≡ first → Opened xs o w z front last begin first
+opened xs o w z front number last begin first inner next le few ordered within b f =
+    let d = drop (last + 1) xs in
+    let m = last - front in
+    let a = take front xs in
+    let sum : front + m ≡ last = omega (arith, le, ordered) in
+    let behind : drop m (drop front xs) ≡ z ++ d = drop-drop m front xs ∙ (ap (λ j. drop j xs) sum ∙ sym next) in
+    let tail : drop front xs ≡ (o ++ reverse w) ++ (z ++ d) =
+    sym (take-append-drop m (drop front xs)) ∙ (ap (λ y. y ++ drop m (drop front xs)) (sym inner) ∙ ap (λ y. (o ++ reverse w) ++ y) behind) in
+    let list : xs ≡ a ++ ((o ++ reverse w) ++ (z ++ d)) = sym (take-append-drop front xs) ∙ ap (λ y. a ++ y) tail in
+    let la : length a ≡ front = omega (arith, length-take front xs, le, ordered, within) in
+    let lo : front + length o ≡ number = omega (arith, few, le) in
+    let lw : length (o ++ reverse w) ≡ m = ap length inner ∙ omega (arith, length-take m (drop front xs), length-drop front xs, le, ordered, within) in
+    let to-number : take number xs ≡ a ++ o =
+    ap (take number) list ∙ (take-past a ((o ++ reverse w) ++ (z ++ d)) (length o) number (omega (arith, la, lo))
+    ∙ ap (λ y. a ++ y) (ap (take (length o)) (append_assoc o (reverse w) (z ++ d)) ∙ take_at o (reverse w ++ (z ++ d)) (length o) refl)) in
+    let to-last : take last xs ≡ a ++ (o ++ reverse w) =
+    ap (take last) list ∙ (take-past a ((o ++ reverse w) ++ (z ++ d)) m last (omega (arith, la, sum)) ∙ ap (λ y. a ++ y) (take_at (o ++ reverse w) (z ++ d) m lw)) in
+    let inside : cells_of (o ++ reverse w) ≡ cells_of o ++ cells_back w = cells-append o (reverse w) in
+    let whole : cells_of xs ≡ cells_of a ++ ((cells_of o ++ cells_back w) ++ (cells_of z ++ cells_of d)) =
+    ap cells_of list ∙ (cells-append a ((o ++ reverse w) ++ (z ++ d)) ∙ ap (λ y. cells_of a ++ y) (cells-append (o ++ reverse w) (z ++ d)
+    ∙ (ap (λ y. y ++ cells_of (z ++ d)) inside ∙ ap (λ y. (cells_of o ++ cells_back w) ++ y) (cells-append z d)))) in
+    record {
+      list = list;
+      whole = whole;
+      lengths = ap length whole ∙ omega (arith, b, length-append (cells_of a) ((cells_of o ++ cells_back w) ++ (cells_of z ++ cells_of d)), length-append (cells_of o ++ cells_back w) (cells_of z ++ cells_of d), length-append (cells_of o) (cells_back w), length-append (cells_of z) (cells_of d));
+      before = omega (arith, b, f, ap (λ y. length (cells_of y)) to-number, ap length (cells-append a o), length-append (cells_of a) (cells_of o));
+      ends = omega (arith, b, ap (λ y. length (cells_of y)) to-last, ap length (cells-append a (o ++ reverse w)), length-append (cells_of a) (cells_of (o ++ reverse w)), ap length inside, length-append (cells_of o) (cells_back w));
+      count = ap length list ∙ omega (arith, la, length-append a ((o ++ reverse w) ++ (z ++ d)), length-append (o ++ reverse w) (z ++ d), length-append o (reverse w), length-reverse w, length-append z d);
+    }
+
+-- a change inside t, with a before it and b behind it
+pub change-inside : (a t b m : PartialText) (p at n : ℕ) → length a + at ≡ p → at + n ≤ length t
+    → a ++ (((take at t ++ m) ++ drop (at + n) t) ++ b) ≡ (take p (a ++ (t ++ b)) ++ m) ++ drop (p + n) (a ++ (t ++ b))
+change-inside a t b m p at n place within =
+    let front : take p (a ++ (t ++ b)) ≡ a ++ take at t = take-past a (t ++ b) at p place ∙ ap (λ y. a ++ y) (take-append-le at t b (omega (arith, within))) in
+    let back : drop (p + n) (a ++ (t ++ b)) ≡ drop (at + n) t ++ b = drop-past a (t ++ b) (at + n) (p + n) (omega (arith, place)) ∙ drop-append-le (at + n) t b within in
+    ap (λ y. a ++ y) (append_assoc (take at t ++ m) (drop (at + n) t) b ∙ append_assoc (take at t) m (drop (at + n) t ++ b))
+    ∙ (sym (append_assoc a (take at t) (m ++ (drop (at + n) t ++ b)))
+    ∙ (ap (λ y. y ++ (m ++ (drop (at + n) t ++ b))) (sym front)
+    ∙ (sym (append_assoc (take p (a ++ (t ++ b))) m (drop (at + n) t ++ b))
+    ∙ ap (λ y. (take p (a ++ (t ++ b)) ++ m) ++ y) (sym back))))
+
+-- s is what is left of xs as the window is out; o stands in its place
+pub closed : {X : Type 0} (xs s new o : List X) (front last : ℕ) → s ≡ take front xs ++ drop (last + 1) xs → front ≤ length xs → new ≡ (take front s ++ o) ++ drop front s → new ≡ take front xs ++ (o ++ drop (last + 1) xs)
+closed xs s new o front last left le e =
+    let la : length (take front xs) ≡ front = omega (arith, length-take front xs, le) in
+    let a : take front s ≡ take front xs = ap (take front) left ∙ take_at (take front xs) (drop (last + 1) xs) front la in
+    let b : drop front s ≡ drop (last + 1) xs = ap (drop front) left ∙ drop_at (take front xs) (drop (last + 1) xs) front la in
+    e ∙ (ap (λ y. (y ++ o) ++ drop front s) a ∙ (ap (λ y. (take front xs ++ o) ++ y) b ∙ append_assoc (take front xs) o (drop (last + 1) xs)))
+
+pub head-apart : (w : Section) (o r : List Section) → 0 < length o → StaysApart w (o ++ r) → IsApart w o
+head-apart w [] r l s = absurd (omega (arith, l))
+head-apart w (a ∷ o) r l s = s
+
+pub apart-head : (w : Section) (o r : List Section) → IsApart w o → StaysApart w (o ++ r)
+apart-head w [] r s = absurd s
+apart-head w (a ∷ o) r s = s
+
+pub closed-normal : (xs o w z o' : List Section) (front last begin first : ℕ) → Opened xs o w z front last begin first → IsNormal xs → (front ≡ 0) ⊎ (0 < length o)
+    → ((v : Section) → IsApart v o → IsApart v o') → IsNormal (o' ++ drop (last + 1) xs) → IsNormal (take front xs ++ (o' ++ drop (last + 1) xs))
+closed-normal xs o w z o' front last begin first p h (inl none) k g = subst (λ j. IsNormal (take j xs ++ (o' ++ drop (last + 1) xs))) (sym none) g
+closed-normal xs o w z o' front last begin first p h (inr some) k g =
+    let behind = reverse w ++ (z ++ drop (last + 1) xs) in
+    let same : (o ++ reverse w) ++ (z ++ drop (last + 1) xs) ≡ o ++ behind = append_assoc o (reverse w) (z ++ drop (last + 1) xs) in
+    normal-between (take front xs) (o ++ behind) (o' ++ drop (last + 1) xs) (subst IsNormal (p.list ∙ ap (λ y. take front xs ++ y) same) h)
+    (λ v s. apart-head v o' (drop (last + 1) xs) (k v (head-apart v o behind some s))) g
+
+-- where no section is behind the window the list ends
+pub nothing-behind : (xs z : List Section) (last : ℕ) → z ++ drop (last + 1) xs ≡ drop last xs → z ≡ [] → drop (last + 1) xs ≡ []
+nothing-behind xs z last e none =
+    let same = ap length (ap (λ y. y ++ drop (last + 1) xs) (sym none) ∙ e) in
+    nil_from_length (drop (last + 1) xs) (omega (arith, same, length-drop (last + 1) xs, length-drop last xs))
+
+pub normal-drop : (xs : List Section) (i : ℕ) → IsNormal xs → IsNormal (drop i xs)
+normal-drop xs zero h = h
+normal-drop [] (suc i) h = tt
+normal-drop (y ∷ xs) (suc i) h = normal-drop xs i h.2
+
+pub normal-front : (xs o r : List Section) (i n : ℕ) → o ++ r ≡ take n (drop i xs) → IsNormal xs → IsNormal o
+normal-front xs o r i n e h =
+    subst IsNormal (take_at o r (length o) refl) (normal-take (o ++ r) (length o) (subst IsNormal (sym e) (normal-take (drop i xs) n (normal-drop xs i h))))
+
+pub has-front : (front number n : ℕ) → n ≡ number - front → front ≤ number → (front ≡ number → front ≡ 0) → (front ≡ 0) ⊎ (0 < n)
+has-front front number n e le none = go (cases_lt front number)
+  where
+    go : (front < number) ⊎ (number ≤ front) → (front ≡ 0) ⊎ (0 < n)
+    go (inl l) = inr (omega (arith, l, e))
+    go (inr l) = inl (none (omega (arith, l, le)))
+
+pub change-length : (t m : PartialText) (at n : ℕ) → at + n ≤ length t → length ((take at t ++ m) ++ drop (at + n) t) + n ≡ length t + length m
+change-length t m at n le =
+    omega (arith, le, length-append (take at t ++ m) (drop (at + n) t), length-append (take at t) m, length-take at t, length-drop (at + n) t)
+
+-- the sections that are left
+pub left-length : (xs s : List Section) (front last : ℕ) → s ≡ take front xs ++ drop (last + 1) xs → front ≤ length xs → length s ≡ front + length (drop (last + 1) xs)
+left-length xs s front last e le = ap length e ∙ omega (arith, length-append (take front xs) (drop (last + 1) xs), length-take front xs, le)

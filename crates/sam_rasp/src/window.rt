@@ -1,0 +1,172 @@
+//! The sections that a change reaches are taken out of the list, changed, and put back: the others move in bulk.
+
+ghost use Rattle.std.specs.Prelude.{◌≡◌, ◌<◌, ◌≤◌, ◌+◌, ◌-◌, ◌++◌, [], ◌∷◌, List, length, take, drop, reverse, min, vec_len, vec_capacity};
+ghost use Rattle.std.specs.Option.{option_to_list};
+ghost use Rattle.sam_runes.specs.Texts.{max_runes};
+ghost use Rattle.sam_rasp.specs.declared.section.Section.{Section};
+ghost use Rattle.sam_rasp.specs.Sections.{cells_of, IsApart, IsBegin, IsReach, IsNormal};
+
+use crate::changing::replace_members;
+use crate::joining::{push, push_joined};
+use crate::piece::Piece;
+use crate::section::Section;
+use crate::walking::{Begin, begin_at, end_at};
+
+/// What a change reaches: the sections from `first` to number `last`. `front` is the one before them if there is one, otherwise `first`.
+#[derive(Clone, Copy)]
+pub struct Reach {
+    pub front: Begin,
+    pub first: Begin,
+    pub last: usize,
+}
+
+/// What a change from place `p` to place `q` reaches. The walk begins at `near` if that is not behind `p`.
+pub fn reach_of(sections: &[Section], near: Begin, p: u32, q: u32) -> Reach
+    requires near { IsBegin sections.now near }
+    requires ascending { p ≤ q }
+    requires within { q ≤ length (cells_of sections.now) }
+    requires limit { length (cells_of sections.now) ≤ max_runes }
+    ensures { IsReach sections.now p q result }
+{
+    let first = begin_at(sections, near, p);
+    let last = end_at(sections, first, q);
+    let mut front = first;
+    if front.index > 0 {
+        front.index -= 1;
+        front.place -= sections[front.index].len();
+    }
+    Reach { front, first, last }
+}
+
+/// Moves the last `count` sections to the end of `window`, last to first.
+fn move_last(sections: &mut Vec<Section>, window: &mut Vec<Section>, count: usize)
+    requires within { count ≤ vec_len sections.old }
+    requires room { vec_len window.old + count ≤ vec_capacity window.old }
+    ensures items { sections.new.items ++ reverse window.new.items ≡ sections.old.items ++ reverse window.old.items }
+    ensures len { vec_len sections.new + count ≡ vec_len sections.old }
+    ensures moved { vec_len window.new ≡ vec_len window.old + count }
+    ensures capacity { vec_capacity sections.new ≡ vec_capacity sections.old }
+{
+    for _ in 0..count {
+        let Some(section) = sections.pop() else {
+            unreachable!();
+        };
+        push(window, section);
+    }
+}
+
+/// Turns the sections from number `front` to number `last`, and the one behind them, to the end of the list. That one is taken off, if there is one.
+fn turn_out(sections: &mut Vec<Section>, front: usize, last: usize) -> Option<Section>
+    requires ordered { (front ≤ last) × (last ≤ vec_len sections.old) }
+    ensures items { let k = min (vec_len sections.old) (last + 1) - front in let tail = drop front sections.old.items in sections.new.items ++ option_to_list result ≡ take front sections.old.items ++ (drop k tail ++ take k tail) }
+    ensures len { vec_len sections.new + length (option_to_list result) ≡ vec_len sections.old }
+    ensures next { last + length (option_to_list result) ≡ min (vec_len sections.old) (last + 1) }
+    ensures capacity { vec_capacity sections.new ≡ vec_capacity sections.old }
+{
+    let end = sections.len().min(last + 1);
+    let tail = &mut sections[front..];
+    tail.rotate_left(end - front);
+    if last < end {
+        return sections.pop();
+    }
+    None
+}
+
+/// Takes the sections from number `front` to number `last` out, and the one behind them, which is the result. Those from number `first` on are then in `window`, last to first, and what is before them is in `out`.
+fn take_out(
+    sections: &mut Vec<Section>,
+    out: &mut Vec<Section>,
+    window: &mut Vec<Section>,
+    front: usize,
+    first: usize,
+    last: usize,
+) -> Option<Section>
+    requires ordered { (front ≤ first) × (first ≤ front + 1) × (first ≤ last) × (last ≤ vec_len sections.old) }
+    requires empty { (out.old.items ≡ []) × (window.old.items ≡ []) }
+    requires room { (0 < vec_capacity out.old) × (last ≤ vec_capacity window.old + front) }
+    ensures left { sections.new.items ≡ take front sections.old.items ++ drop (last + 1) sections.old.items }
+    ensures next { option_to_list result ++ drop (last + 1) sections.old.items ≡ drop last sections.old.items }
+    ensures window { out.new.items ++ reverse window.new.items ≡ take (last - front) (drop front sections.old.items) }
+    ensures out { vec_len out.new ≡ first - front }
+    ensures capacity { vec_capacity sections.old ≤ vec_capacity sections.new }
+    ensures room { vec_capacity out.old ≤ vec_capacity out.new }
+{
+    let next = turn_out(sections, front, last);
+    move_last(sections, window, last - front);
+    if front < first {
+        let Some(before) = window.pop() else {
+            unreachable!();
+        };
+        push(out, before);
+    }
+    next
+}
+
+/// Puts all of `out` in before section number `front`.
+fn put_back(sections: &mut Vec<Section>, out: &mut Vec<Section>, front: usize)
+    requires within { front ≤ vec_len sections.old }
+    requires room { vec_len sections.old + vec_len out.old ≤ vec_capacity sections.old }
+    ensures items { sections.new.items ≡ take front sections.old.items ++ out.old.items ++ drop front sections.old.items }
+    ensures len { vec_len sections.new ≡ vec_len sections.old + vec_len out.old }
+    ensures empty { out.new.items ≡ [] }
+    ensures capacity { vec_capacity out.new ≡ vec_capacity out.old }
+{
+    let count = out.len();
+    if sections.append(out).is_err() {
+        unreachable!();
+    }
+    let tail = &mut sections[front..];
+    tail.rotate_right(count);
+}
+
+/// Puts the section behind a changed stretch at its end, if there is one.
+fn push_next(out: &mut Vec<Section>, next: Option<Section>)
+    requires normal { IsNormal out.old.items }
+    requires room { vec_len out.old + length (option_to_list next) ≤ vec_capacity out.old }
+    requires within { length (cells_of out.old.items) + length (cells_of (option_to_list next)) ≤ max_runes }
+    ensures cells { cells_of out.new.items ≡ cells_of out.old.items ++ cells_of (option_to_list next) }
+    ensures normal { IsNormal out.new.items }
+    ensures front { (w : Section) → IsApart w out.old.items → IsApart w out.new.items }
+    ensures behind { (xs : List Section) → IsNormal (option_to_list next ++ xs) → (option_to_list next ≡ [] → xs ≡ []) → IsNormal (out.new.items ++ xs) }
+    ensures len { vec_len out.new ≤ vec_len out.old + length (option_to_list next) }
+    ensures capacity { vec_capacity out.old ≤ vec_capacity out.new }
+{
+    if let Some(next) = next {
+        push_joined(out, next);
+    }
+}
+
+/// Puts the sections `more` in the place of what stands from place `p` to place `q`. All memory was had before: room in the three lists, and `tail` for the end of a section that is parted.
+pub fn replace_sections(
+    sections: &mut Vec<Section>,
+    out: &mut Vec<Section>,
+    window: &mut Vec<Section>,
+    reach: Reach,
+    p: u32,
+    q: u32,
+    more: &mut Vec<Section>,
+    tail: Piece,
+)
+    requires normal { IsNormal sections.old.items }
+    requires reach { IsReach sections.old.items p q reach }
+    requires ascending { p ≤ q }
+    requires limit { length (cells_of sections.old.items) ≤ max_runes }
+    requires total { length (cells_of sections.old.items) + length (cells_of more.old.items) ≤ max_runes + (q - p) }
+    requires empty { (out.old.items ≡ []) × (window.old.items ≡ []) }
+    requires unused { tail ≡ [] }
+    requires room { vec_len sections.old + vec_len more.old + 2 ≤ vec_capacity out.old }
+    requires list_room { vec_len sections.old + vec_len more.old + 2 ≤ vec_capacity sections.old }
+    requires window_room { reach.last ≤ vec_capacity window.old + reach.front.index }
+    ensures cells { cells_of sections.new.items ≡ take p (cells_of sections.old.items) ++ cells_of more.old.items ++ drop q (cells_of sections.old.items) }
+    ensures normal { IsNormal sections.new.items }
+    ensures len { vec_len sections.new ≤ vec_len sections.old + vec_len more.old + 2 }
+    ensures empty { out.new.items ≡ [] }
+    ensures capacity { vec_capacity out.old ≤ vec_capacity out.new }
+    ensures begin { IsBegin sections.new.items reach.front }
+{
+    let front = reach.front.index;
+    let next = take_out(sections, out, window, front, reach.first.index, reach.last);
+    replace_members(out, window, p - reach.first.place, q - p, more, tail);
+    push_next(out, next);
+    put_back(sections, out, front);
+}
