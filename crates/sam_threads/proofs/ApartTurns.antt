@@ -39,7 +39,7 @@ later-t : (v : ℕ) (m : Tmesg) → fits_t v m ≡ true → fits_t 2 m ≡ true
 later-t v (Tsetsnarf s) e = le-leb (utf8_length s) 32000 (within v s (leb-true (utf8_length s) (snarf_limit v) e))
 later-t v m e = e
 
-later-h : (v : ℕ) (m : Hmesg) → fits_h v m ≡ true → fits_h 2 m ≡ true
+pub later-h : (v : ℕ) (m : Hmesg) → fits_h v m ≡ true → fits_h 2 m ≡ true
 later-h v (Hsetsnarf s) e = le-leb (utf8_length s) 32000 (within v s (leb-true (utf8_length s) (snarf_limit v) e))
 later-h v m e = e
 

@@ -17,6 +17,7 @@ use Rattle.sam_term.specs.Term.{PlainTerminal, Made, flushed, unsent_message, se
 use Rattle.sam_term.specs.declared.files.Unsent.{Unsent}
 use Rattle.sam_term.specs.declared.fault.TermFault.{TermFault}
 use Rattle.sam_term.specs.declared.fault.TermFault.TheVariants as fault
+use Rattle.sam_threads.proofs.ApartTurns.{later-h}
 use Rattle.sam_threads.specs.Feeding.{TakesAll, Gives, FeedsTerminal, StopsAt, TakesOne, TakesUpTo}
 use Rattle.sam_threads.specs.Numbers.{frame_number}
 use Rattle.sam_threads.specs.declared.stop.Stop.{Stop}
@@ -24,18 +25,10 @@ use Rattle.sam_threads.specs.declared.stop.Stop.TheVariants as stop
 
 -- ---- what fits at its place fits in version 2
 
-longer : (is_first : Bool) (n : ℕ) → leb n (cond is_first 4096 32000) ≡ true → leb n 32000 ≡ true
-longer true n e = le-leb n 32000 (omega (arith, leb-true n 4096 e))
-longer false n e = e
-
-grows : (version : ℕ) (m : Hmesg) → fits_h version m ≡ true → fits_h 2 m ≡ true
-grows version (Hsetsnarf s) e = longer (nat_eq version 1) (length (encode_utf8_all s)) e
-grows version m e = e
-
 pub all_fit : (version : ℕ) (frames : List HFrame) → FitInTurn host version frames → All (λ (f : HFrame). IsTrue (fits_h 2 f.msg)) frames
 all_fit version [] fit = All-nil (λ (f : HFrame). IsTrue (fits_h 2 f.msg))
 all_fit version (f ∷ frames) fit =
-    All-cons (λ (g : HFrame). IsTrue (fits_h 2 g.msg)) f frames (grows version f.msg fit.0.fits) (all_fit (host.after version f) frames fit.1)
+    All-cons (λ (g : HFrame). IsTrue (fits_h 2 g.msg)) f frames (later-h version f.msg fit.0.fits) (all_fit (host.after version f) frames fit.1)
 
 -- ---- a frame makes a terminal compose two messages at most
 

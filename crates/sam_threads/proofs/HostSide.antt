@@ -20,6 +20,7 @@ use Rattle.sam_host.specs.declared.fault.HostFault.{HostFault}
 use Rattle.sam_host.specs.declared.fault.HostFault.TheVariants as refusal
 use Rattle.sam_queue.specs.Views.{PostView}
 use Rattle.sam_world.specs.Sides.{Each, HostRuns}
+use Rattle.sam_world.proofs.Settles.{host_more}
 use Rattle.sam_threads.specs.RealSides.{sides, unless_refused}
 use Rattle.sam_threads.specs.Numbers.{refusal_number, frame_number}
 use Rattle.sam_threads.specs.Inputs.{bytes_of}
@@ -27,23 +28,11 @@ use Rattle.sam_threads.specs.Cutting.{PutSome}
 use Rattle.sam_threads.specs.Handling.{Handled, HandledSome, HandlesAll, HandledFront, TakesPiece, Halts, Leaves, StopsBefore, of_refusal}
 use Rattle.sam_threads.specs.declared.stop.Stop.{Stop}
 use Rattle.sam_threads.specs.declared.stop.Stop.TheVariants as stop
+use Rattle.sam_threads.proofs.ApartTurns.{each_t}
 use Rattle.sam_threads.proofs.Cut.{each_append, bytes_append}
+use Rattle.sam_threads.proofs.RealLaws.{counts}
 
 -- ## Messages that fit
-
-longer : (is_first : Bool) (n : ℕ) → leb n (cond is_first 4096 32000) ≡ true → leb n 32000 ≡ true
-longer true n e = le-leb n 32000 (omega (arith, leb-true n 4096 e))
-longer false n e = e
-
-grows : (version : ℕ) (m : Tmesg) → fits_t version m ≡ true → fits_t 2 m ≡ true
-grows version (Tsetsnarf s) e = longer (nat_eq version 1) (length (encode_utf8_all s)) e
-grows version m e = e
-
--- what fits at its place fits in version 2
-pub each_fits : (version : ℕ) (ms : List Tmesg) → FitInTurn terminal version ms → Each (FitsT 2) ms
-each_fits version [] fit = tt
-each_fits version (m ∷ ms) fit =
-    (record { is_message = fit.0.is_message; fits = grows version m fit.0.fits }, each_fits (terminal.after version m) ms fit.1)
 
 fit_front : (version : ℕ) (ms ns : List Tmesg) → FitInTurn terminal version (ms ++ ns) → FitInTurn terminal version ms
 fit_front version [] ns fit = tt
@@ -60,14 +49,6 @@ frames_fit version (f ∷ frames) fit known =
     (record { is_message = known.0; fits = fit.1 }, frames_fit (host_version version f.msg) frames fit.2 known.1)
 
 -- ## One stretch after another
-
-runs_more : (h j k : PlainHost) (ms : List Tmesg) (fs : List HFrame) (ns : List Tmesg) (gs : List HFrame)
-    → HostRuns sides h ms fs j → HostRuns sides j ns gs k → HostRuns sides h (ms ++ ns) (fs ++ gs) k
-runs_more h j k [] fs ns gs r q =
-    let there : HostRuns sides h ns gs k = subst (λ (x : PlainHost). HostRuns sides x ns gs k) r.1 q in
-    subst (λ (x : List HFrame). HostRuns sides h ns (x ++ gs) k) (sym r.0) there
-runs_more h j k (m ∷ ms) fs ns gs r q =
-    (r.0, r.1, r.2 ++ gs, r.3, ap (λ (x : List HFrame). x ++ gs) r.4 ∙ append_assoc r.1 r.2 gs, runs_more r.0 j k ms r.2 ns gs r.5 q)
 
 pub handled_nothing : (h : PlainHost) (p : PostView (Vec ℕ)) → Handled h h p p [] [] []
 handled_nothing h p = record { runs = (refl, refl); answers_fit = tt; put = refl; line = refl; number = refl; closed = refl }
@@ -90,7 +71,7 @@ handled_one most h k p q m frames unput answered fit puts = record {
 pub handled_on : (h j k : PlainHost) (p q r : PostView (Vec ℕ)) (ms ns : List Tmesg) (fs gs : List HFrame) (unput : List ℕ)
     → Handled h j p q ms fs [] → Handled j k q r ns gs unput → Handled h k p r (ms ++ ns) (fs ++ gs) unput
 handled_on h j k p q r ms ns fs gs unput a b = record {
-  runs = runs_more h j k ms fs ns gs a.runs b.runs;
+  runs = host_more sides counts h j k ms fs ns gs a.runs b.runs;
   answers_fit = each_append (FitsH 2) fs gs a.answers_fit b.answers_fit;
   put =
       b.put
@@ -235,10 +216,10 @@ one_cut most h j k p q m frames slice answered same is fit known puts =
 
 -- ## One piece
 
-leaves_halts : (refuses : Type 0) (k : PlainHost) (version : ℕ) (left : List Tmesg) (bytes : List ℕ) (why : Stop) → Each (FitsT 2) left → Leaves refuses k left why
-    → Halts refuses k version (stream_of terminal left ++ bytes) why
-leaves_halts refuses k version left bytes (stop.Frame n) fits l = absurd l
-leaves_halts refuses k version left bytes (stop.Host n) fits l = (
+leaves_halts : (refuses : Type 0) (k : PlainHost) (version came : ℕ) (left : List Tmesg) (bytes : List ℕ) (why : Stop) → Each (FitsT 2) left → Leaves refuses k left why
+    → Halts refuses k version came (stream_of terminal left ++ bytes) why
+leaves_halts refuses k version came left bytes (stop.Frame n) fits l = absurd l
+leaves_halts refuses k version came left bytes (stop.Host n) fits l = (
   l.0,
   stream_of terminal l.1 ++ bytes,
   l.2,
@@ -247,15 +228,15 @@ leaves_halts refuses k version left bytes (stop.Host n) fits l = (
   l.4,
   l.5,
 )
-leaves_halts refuses k version left bytes (stop.Term n) fits l = l
-leaves_halts refuses k version left bytes stop.PeerGone fits l = l
-leaves_halts refuses k version left bytes stop.Gate fits l = l
-leaves_halts refuses k version left bytes stop.Memory fits l = tt
+leaves_halts refuses k version came left bytes (stop.Term n) fits l = l
+leaves_halts refuses k version came left bytes stop.PeerGone fits l = l
+leaves_halts refuses k version came left bytes stop.Gate fits l = l
+leaves_halts refuses k version came left bytes stop.Memory fits l = tt
 
 -- some messages of those that stand at the front of the bytes were handled
-some_front : (refuses : Type 0) (h k : PlainHost) (p q : PostView (Vec ℕ)) (version : ℕ) (bytes : List ℕ) (ms : List Tmesg) (rest : List ℕ) (why : Stop)
-    → Splits terminal version bytes ms rest → HandledSome refuses h k p q ms why → HandledFront refuses h k p q version bytes why
-some_front refuses h k p q version bytes ms rest why splits s =
+some_front : (refuses : Type 0) (h k : PlainHost) (p q : PostView (Vec ℕ)) (version came : ℕ) (bytes : List ℕ) (ms : List Tmesg) (rest : List ℕ) (why : Stop)
+    → Splits terminal version bytes ms rest → HandledSome refuses h k p q ms why → HandledFront refuses h k p q version came bytes why
+some_front refuses h k p q version came bytes ms rest why splits s =
     let fit : FitInTurn terminal version (s.handled ++ s.left) = subst (λ (x : List Tmesg). FitInTurn terminal version x) s.whole splits.fit in
     record {
       handled = s.handled;
@@ -272,8 +253,8 @@ some_front refuses h k p q version bytes ms rest why splits s =
       };
       did = s.did;
       halts =
-          leaves_halts refuses k (version_after terminal version s.handled) s.left rest why
-          (each_behind (FitsT 2) s.handled s.left (each_fits version (s.handled ++ s.left) fit)) s.leaves;
+          leaves_halts refuses k (version_after terminal version s.handled) came s.left rest why
+          (each_behind (FitsT 2) s.handled s.left (each_t version (s.handled ++ s.left) fit)) s.leaves;
     }
 
 pub piece_all : (refuses : Type 0) (h k : PlainHost) (p q : PostView (Vec ℕ)) (held fed next : Held) (piece : List ℕ) (ms : List Tmesg) (r : Result (Unit {0}) Stop)
@@ -281,16 +262,17 @@ pub piece_all : (refuses : Type 0) (h k : PlainHost) (p q : PostView (Vec ℕ)) 
 piece_all refuses h k p q held fed next piece ms (Ok done) same gave all =
     (ms, all.0, subst (λ (x : Held). GaveAll terminal held piece ms x) (sym same) gave, all.1)
 piece_all refuses h k p q held fed next piece ms (Err why) same gave some =
-    some_front refuses h k p q held.version (held.bytes ++ piece) ms fed.bytes why gave.gave.splits some
+    some_front refuses h k p q held.version (held.offset + length held.bytes + length piece) (held.bytes ++ piece) ms fed.bytes why gave.gave.splits some
 
 pub piece_before : (refuses : Type 0) (h k : PlainHost) (p q : PostView (Vec ℕ)) (held next : Held) (piece : List ℕ) (ms : List Tmesg) (place : ℕ) (fault : MesgFault) (why : Stop)
     → GaveUp terminal held piece ms place fault next → StopsBefore refuses h k p q ms (frame_number fault) why
-    → HandledFront refuses h k p q held.version (held.bytes ++ piece) why
+    → HandledFront refuses h k p q held.version (held.offset + length held.bytes + length piece) (held.bytes ++ piece) why
 piece_before refuses h k p q held next piece ms place fault why up (inl some) =
-    some_front refuses h k p q held.version (held.bytes ++ piece) ms next.bytes why up.gave.splits some
+    some_front refuses h k p q held.version (held.offset + length held.bytes + length piece) (held.bytes ++ piece) ms next.bytes why up.gave.splits some
 piece_before refuses h k p q held next piece ms place fault why up (inr all) =
     let shows : Shows terminal (version_after terminal held.version ms) next.bytes fault = subst (λ (v : ℕ). Shows terminal v next.bytes fault) up.gave.version_is up.shows in
-    let halts : Halts refuses k (version_after terminal held.version ms) next.bytes (stop.Frame (frame_number fault)) = inr (fault, shows, refl) in
+    let came = held.offset + length held.bytes + length piece in
+    let halts : Halts refuses k (version_after terminal held.version ms) came next.bytes (stop.Frame (frame_number fault)) = inr (fault, shows, refl) in
     record {
       handled = ms;
       answered = all.1.0;
@@ -298,13 +280,13 @@ piece_before refuses h k p q held next piece ms place fault why up (inr all) =
       rest = next.bytes;
       splits = up.gave.splits;
       did = all.1.1;
-      halts = subst (λ (s : Stop). Halts refuses k (version_after terminal held.version ms) next.bytes s) (sym all.0) halts;
+      halts = subst (λ (s : Stop). Halts refuses k (version_after terminal held.version ms) came next.bytes s) (sym all.0) halts;
     }
 
 -- the piece was not fed
-pub piece_unfed : (refuses : Type 0) (h : PlainHost) (p : PostView (Vec ℕ)) (version : ℕ) (bytes : List ℕ) (why : Stop) → Halts refuses h version bytes why
-    → HandledFront refuses h h p p version bytes why
-piece_unfed refuses h p version bytes why halts = record {
+pub piece_unfed : (refuses : Type 0) (h : PlainHost) (p : PostView (Vec ℕ)) (version came : ℕ) (bytes : List ℕ) (why : Stop) → Halts refuses h version came bytes why
+    → HandledFront refuses h h p p version came bytes why
+piece_unfed refuses h p version came bytes why halts = record {
   handled = [];
   answered = [];
   unput = [];

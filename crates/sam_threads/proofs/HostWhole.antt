@@ -1,5 +1,5 @@
 -- All that the host's worker takes.
-use Rattle.std.proofs.Common.{◌≡◌, ◌∙◌, inl, inr, ℕ, ◌≤◌, List, [], ◌++◌, length, All, Option, Some, None, Ok, refl, sym, ap, subst, append_assoc, append-nil, arith}
+use Rattle.std.proofs.Common.{◌≡◌, ◌∙◌, inl, inr, ℕ, ◌+◌, ◌^◌, ◌≤◌, List, [], ◌++◌, length, All, Option, Some, None, Ok, refl, sym, ap, subst, append_assoc, append-nil, length-append, arith}
 use Rattle.std.specs.Global.{Vec}
 use Rattle.sam_mesg.specs.declared.tmesg.Tmesg.{Tmesg}
 use Rattle.sam_mesg.specs.declared.hmesg.HFrame.{HFrame}
@@ -20,7 +20,7 @@ use Rattle.sam_script.specs.Script.{IsFile}
 use Rattle.sam_world.specs.Sides.{HostRuns}
 use Rattle.sam_threads.specs.RealSides.{sides}
 use Rattle.sam_threads.specs.Inputs.{bytes_of}
-use Rattle.sam_threads.specs.Told.{HostStopped, HostTold}
+use Rattle.sam_threads.specs.Told.{IsPastCount, HostStopped, HostTold}
 use Rattle.sam_threads.specs.Handling.{Handled, HandledFront, TakesPiece, Serves, Ends, Halts}
 use Rattle.sam_threads.specs.declared.stop.Stop.{Stop}
 use Rattle.sam_threads.specs.declared.stop.Stop.TheVariants as stop
@@ -99,15 +99,26 @@ going_ends refuses h k p q held taken going ended = record {
   ends = (ended, refl, subst (λ (v : ℕ). IsOpen terminal v held.bytes) going.came.version_is going.came.opened);
 }
 
+-- how many bytes came with a piece
+came_is : (bytes : List ℕ) (ms : List Tmesg) (held : Held) (fed piece : List ℕ) → fed ≡ piece → Came terminal fresh bytes ms held
+    → length (bytes ++ piece) ≡ held.offset + length held.bytes + length fed
+came_is bytes ms held fed piece is came =
+    let whole = ap length came.splits.whole in
+    let offset = came.offset_is in
+    let same = ap length is in
+    omega (arith, length-append bytes piece, length-append (stream_of terminal ms) held.bytes)
+
 pub going_stops : (refuses : Type 0) (h j k : PlainHost) (p q r : PostView (Vec ℕ)) (held : Held) (a b : TakeView (Vec ℕ)) (sender : ℕ) (piece : Vec ℕ) (fed : List ℕ) (why : Stop)
     → a.line.senders ≡ 1 → TakesNext a (record { sender = sender; load = Some piece }) b → fed ≡ piece.items
-    → Going h j p q held a.taken → HandledFront refuses j k q r held.version (held.bytes ++ fed) why → Serves refuses h k p r b.taken (Some why)
+    → Going h j p q held a.taken → HandledFront refuses j k q r held.version (held.offset + length held.bytes + length fed) (held.bytes ++ fed) why → Serves refuses h k p r b.taken (Some why)
 going_stops refuses h j k p q r held a b sender piece fed why one takes is going front =
     let bytes = bytes_of (items_of 0 a.taken) in
     let splits = subst (λ (x : List ℕ). Splits terminal held.version (held.bytes ++ x) front.handled front.rest) is front.splits in
     let all = splits_more terminal fresh bytes going.messages held piece.items front.handled front.rest going.came splits in
     let version : version_after terminal held.version front.handled ≡ version_after terminal 1 (going.messages ++ front.handled) =
     ap (λ (v : ℕ). version_after terminal v front.handled) going.came.version_is ∙ sym (version_after-append terminal 1 going.messages front.handled) in
+    let all_came : length (bytes_of (items_of 0 b.taken)) ≡ held.offset + length held.bytes + length fed =
+    ap length (item_is 1 a b sender piece refl one takes) ∙ came_is bytes going.messages held fed piece.items is going.came in
     record {
       handled = going.messages ++ front.handled;
       answered = going.answered ++ front.answered;
@@ -116,7 +127,8 @@ going_stops refuses h j k p q r held a b sender piece fed why one takes is going
       did = handled_on h j k p q r going.messages front.handled going.answered front.answered front.unput going.did front.did;
       fit = all.fit;
       got = item_is 1 a b sender piece refl one takes ∙ all.whole;
-      ends = subst (λ (v : ℕ). Halts refuses k v front.rest why) version front.halts;
+      ends = subst (λ (v : ℕ). Halts refuses k v (length (bytes_of (items_of 0 b.taken))) front.rest why) version
+          (subst (λ (n : ℕ). Halts refuses k (version_after terminal held.version front.handled) n front.rest why) (sym all_came) front.halts);
     }
 
 -- the gate did not let it begin
@@ -145,19 +157,26 @@ serves_ended refuses h k p q taken s senders one serves is =
     let ends = subst (λ (x : Option Stop). Ends refuses k taken serves.handled serves.unput serves.rest x) is serves.ends in
     subst (λ (n : ℕ). IsEnded n taken) (sym one) ends.0
 
+-- so many bytes came, or more
+past_count : (taken more all : List (Entry (Vec ℕ))) → all ≡ taken ++ more → 2 ^ 64 ≤ length (bytes_of (items_of 0 taken)) → IsPastCount all
+past_count taken more all is past =
+    let parts = ap (λ (x : List (Entry (Vec ℕ))). length (bytes_of (items_of 0 x))) is
+    ∙ (ap (λ (x : List (Vec ℕ)). length (bytes_of x)) (items_of-append 0 taken more)
+    ∙ (ap length (bytes_append (items_of 0 taken) (items_of 0 more))
+    ∙ length-append (bytes_of (items_of 0 taken)) (bytes_of (items_of 0 more)))) in
+    omega (arith, parts, past)
+
 -- what came after the stop was dropped
 ends_dropped : (refuses : Type 0) (e : HostEnd) (taken more : List (Entry (Vec ℕ))) (handled : List Tmesg) (unput rest : List ℕ) (s : Option Stop)
     → e.take.taken ≡ taken ++ more → (s ≡ None → more ≡ []) → Ends refuses e.host taken handled unput rest s
     → HostStopped e handled unput (rest ++ bytes_of (items_of 0 more)) s
 ends_dropped refuses e taken more handled unput rest None all none ends =
     let nothing = none refl in
-    let same : taken ≡ e.take.taken = sym (append-nil taken) ∙ (ap (λ (x : List (Entry (Vec ℕ))). taken ++ x) (sym nothing) ∙ sym all) in
     let bytes : rest ≡ rest ++ bytes_of (items_of 0 more) = sym (append-nil rest) ∙ ap (λ (x : List (Entry (Vec ℕ))). rest ++ bytes_of (items_of 0 x)) (sym nothing) in (
-      subst (λ (x : List (Entry (Vec ℕ))). IsEnded 1 x) same ends.0,
       ends.1,
       subst (λ (x : List ℕ). IsOpen terminal (version_after terminal 1 handled) x) bytes ends.2,
     )
-ends_dropped refuses e taken more handled unput rest (Some (stop.Frame n)) all none (inl full) = inl full
+ends_dropped refuses e taken more handled unput rest (Some (stop.Frame n)) all none (inl full) = inl (full.0, past_count taken more e.take.taken all full.1)
 ends_dropped refuses e taken more handled unput rest (Some (stop.Frame n)) all none (inr shows) =
     inr (rest, bytes_of (items_of 0 more), shows.0, refl, shows.1, shows.2)
 ends_dropped refuses e taken more handled unput rest (Some (stop.Host n)) all none next =
@@ -172,8 +191,8 @@ pub told_of : (refuses : Type 0) (up down : LineView) (h : PlainHost) (p q : Pos
     → p ≡ new_post down 0 → h ≡ new_host e.files.items → (length e.files.items ≤ 65535) × All IsFile e.files.items
     → Serves refuses h e.host p q taken e.stop
     → e.post ≡ closed_post q → e.take.line ≡ up → e.take.taken ≡ taken ++ more → (e.stop ≡ None → more ≡ [])
-    → HostTold up down e
-told_of refuses up down h p q taken more e first begins files serves closed line all none = record {
+    → IsEnded 1 e.take.taken → HostTold up down e
+told_of refuses up down h p q taken more e first begins files serves closed line all none ended = record {
   handled = serves.handled;
   answered = serves.answered;
   outbox = serves.unput;
@@ -181,6 +200,7 @@ told_of refuses up down h p q taken more e first begins files serves closed line
   take_is = line;
   post_is = ap (λ (x : PostView (Vec ℕ)). x.line) closed ∙ (serves.did.line ∙ ap (λ (x : PostView (Vec ℕ)). x.line) first);
   number_is = ap (λ (x : PostView (Vec ℕ)). x.number) closed ∙ (serves.did.number ∙ ap (λ (x : PostView (Vec ℕ)). x.number) first);
+  drained = ended;
   files = files;
   runs = subst (λ (x : PlainHost). HostRuns sides x serves.handled serves.answered e.host) begins serves.did.runs;
   fit = serves.fit;

@@ -1,5 +1,6 @@
 -- What stands in an outbox.
 use Rattle.std.proofs.Common.{◌≡◌, refl, sym, ap, subst, ◌∙◌, ℕ, zero, suc, ◌+◌, ◌<◌, ◌≤◌, List, [], ◌∷◌, ◌++◌, length, take, drop, get_or, append_assoc, append-nil, length-append, arith}
+use Rattle.std.specs.Global.{Vec}
 use Rattle.std.specs.Prelude.{All, IsTrue}
 use Rattle.std.proofs.lemmas.List.{take_more, take-append-drop, drop-append-le}
 use Rattle.std.proofs.lemmas.List.Elements.{All-get_or}
@@ -9,7 +10,10 @@ use Rattle.sam_frame.specs.Direction.{terminal}
 use Rattle.sam_frame.specs.Stream.{stream_of}
 use Rattle.sam_frame.proofs.Fronts.{stream_of-append, stream_of-one}
 use Rattle.sam_world.specs.Sides.{Each}
+use Rattle.sam_queue.specs.Views.{PostView, with_item}
+use Rattle.sam_threads.specs.Cutting.{IsPiece, PutSome}
 use Rattle.sam_threads.specs.Outboxes.{Encodes}
+use Rattle.sam_threads.proofs.Cut.{put_none}
 
 -- nothing stands behind the last byte
 pub nothing_behind : (xs : List ℕ) (n : ℕ) → n ≡ length xs → drop n xs ≡ []
@@ -80,3 +84,18 @@ pub one_known : (ms : List Tmesg) (i : ℕ) (d : Tmesg) → i < length ms → Al
 one_known ms i d l fit so_far one =
     subst (λ (x : List Tmesg). Each (FitsT 2) x) (sym (take_more ms i d l))
     (each_last (FitsT 2) (take i ms) (get_or ms i d) so_far (record { is_message = one; fits = All-get_or (λ m. IsTrue (fits_t 2 m)) ms i d l fit }))
+
+-- ## Pieces
+
+pub none_put : (most : ℕ) (a b : PostView (Vec ℕ)) (bytes rest : List ℕ) → b ≡ a → rest ≡ bytes → PutSome most a b bytes rest
+none_put most a b bytes rest same unchanged =
+    subst (λ (x : PostView (Vec ℕ)). PutSome most a x bytes rest) (sym same) (subst (λ (x : List ℕ). PutSome most a a bytes x) (sym unchanged) (put_none most a bytes))
+
+pub one_put : (most : ℕ) (a b : PostView (Vec ℕ)) (bytes rest : List ℕ) (piece : Vec ℕ) → b ≡ with_item a piece → bytes ≡ piece.items ++ rest → IsPiece most piece
+    → PutSome most a b bytes rest
+one_put most a b bytes rest piece put front fit = record {
+  pieces = piece ∷ [];
+  after_is = put;
+  sizes = (fit, tt);
+  whole = ap (λ (x : List ℕ). x ++ rest) (append-nil piece.items) ∙ sym front;
+}

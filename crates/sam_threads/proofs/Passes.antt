@@ -1,5 +1,5 @@
 -- Where the host reader stands between two pieces.
-use Rattle.std.proofs.Common.{◌≡◌, ◌∙◌, ℕ, ◌<◌, inl, inr, List, [], ◌∷◌, ◌++◌, map, Option, None, Some, Bool, refl, sym, ap, subst, append-nil, append_assoc, arith}
+use Rattle.std.proofs.Common.{◌≡◌, ◌∙◌, ℕ, ◌+◌, ◌^◌, ◌<◌, ◌≤◌, inl, inr, List, [], ◌∷◌, ◌++◌, length, map, Option, None, Some, Bool, refl, sym, ap, subst, append-nil, append_assoc, length-append, arith}
 use Rattle.std.specs.Global.{Vec}
 use Rattle.std.proofs.lemmas.List.{map-append}
 use Rattle.std.proofs.lemmas.List.Concat.{flat_map-append}
@@ -17,7 +17,7 @@ use Rattle.sam_queue.proofs.Sorts.{items_of-append, one_item, mark_item}
 use Rattle.sam_threads.specs.Inputs.{bytes_of}
 use Rattle.sam_threads.specs.Numbers.{frame_number}
 use Rattle.sam_threads.specs.Passing.{sent_on, Sends, SendsBefore, StopsBehind, PassesPiece, Passes}
-use Rattle.sam_threads.specs.Told.{ReaderTold, ReaderStopped}
+use Rattle.sam_threads.specs.Told.{IsPastCount, ReaderTold, ReaderStopped}
 use Rattle.sam_threads.specs.declared.ends.ReaderEnd.{ReaderEnd}
 use Rattle.sam_threads.specs.declared.input.Input.{Input}
 use Rattle.sam_threads.specs.declared.input.Input.TheVariants.{Host}
@@ -58,7 +58,7 @@ passed_all h piece k p q frames (Some s) all (done, more, parts, sent, is) = (
   stream_of host more ++ k.bytes,
   front_splits host h.version (h.bytes ++ piece) done more k.bytes (subst (λ (fs : List HFrame). Splits host h.version (h.bytes ++ piece) fs k.bytes) parts all.gave.splits),
   sent,
-  subst (λ (x : Stop). StopsBehind (version_after host h.version done) (stream_of host more ++ k.bytes) x) (sym is) tt,
+  subst (λ (x : Stop). StopsBehind (version_after host h.version done) (h.offset + length h.bytes + length piece) (stream_of host more ++ k.bytes) x) (sym is) tt,
 )
 
 pub passed_before : (h : Held) (piece : List ℕ) (k : Held) (p q : PostView Input) (frames : List HFrame) (place : ℕ) (fault : MesgFault) (n : ℕ) (s : Option Stop)
@@ -69,7 +69,7 @@ passed_before h piece k p q frames place fault n (Some s) up is (inl (done, more
   stream_of host more ++ k.bytes,
   front_splits host h.version (h.bytes ++ piece) done more k.bytes (subst (λ (fs : List HFrame). Splits host h.version (h.bytes ++ piece) fs k.bytes) parts up.gave.splits),
   sent,
-  subst (λ (x : Stop). StopsBehind (version_after host h.version done) (stream_of host more ++ k.bytes) x) (sym gate) tt,
+  subst (λ (x : Stop). StopsBehind (version_after host h.version done) (h.offset + length h.bytes + length piece) (stream_of host more ++ k.bytes) x) (sym gate) tt,
 )
 passed_before h piece k p q frames place fault n (Some s) up is (inr (sent, at)) =
     let shows : Shows host (version_after host h.version frames) k.bytes fault = subst (λ v. Shows host v k.bytes fault) up.gave.version_is up.shows in (
@@ -77,11 +77,11 @@ passed_before h piece k p q frames place fault n (Some s) up is (inr (sent, at))
       k.bytes,
       up.gave.splits,
       sent,
-      subst (λ (x : Stop). StopsBehind (version_after host h.version frames) k.bytes x) (sym at) (inr (fault, shows, is)),
+      subst (λ (x : Stop). StopsBehind (version_after host h.version frames) (h.offset + length h.bytes + length piece) k.bytes x) (sym at) (inr (fault, shows, is)),
     )
 
 -- the framer took nothing of the piece
-pub passed_none : (h : Held) (piece : List ℕ) (k : Held) (p q : PostView Input) (s : Stop) → q ≡ p → StopsBehind h.version (h.bytes ++ piece) s → PassesPiece h piece k p q (Some s)
+pub passed_none : (h : Held) (piece : List ℕ) (k : Held) (p q : PostView Input) (s : Stop) → q ≡ p → StopsBehind h.version (h.offset + length h.bytes + length piece) (h.bytes ++ piece) s → PassesPiece h piece k p q (Some s)
 passed_none h piece k p q s same stops = ([], h.bytes ++ piece, record { whole = refl; fit = tt }, same ∙ sent_none p, stops)
 
 -- ---- piece by piece
@@ -147,6 +147,14 @@ leaves t u v p q k i far next = record {
   sent = far.sent;
 }
 
+-- how many bytes came with a piece
+came_is : (bytes : List ℕ) (frames : List HFrame) (k : Held) (piece : List ℕ) → Came host fresh bytes frames k
+    → length (bytes ++ piece) ≡ k.offset + length k.bytes + length piece
+came_is bytes frames k piece came =
+    let whole = ap length came.splits.whole in
+    let offset = came.offset_is in
+    omega (arith, length-append bytes piece, length-append (stream_of host frames) k.bytes)
+
 pub stops : (t u v : TakeView (Vec ℕ)) (p q r : PostView Input) (k e : Held) (i : ℕ) (piece : Vec ℕ) (s : Stop) → t.line.senders ≡ 1
     → SoFar t u p q k → TakesNext u (record { sender = i; load = Some piece }) v → PassesPiece k piece.items e q r (Some s) → Passes t v p r (Some s)
 stops t u v p q r k e i piece s one far next (frames, rest, splits, sent, behind) =
@@ -154,6 +162,8 @@ stops t u v p q r k e i piece s one far next (frames, rest, splits, sent, behind
     let whole = splits_more host fresh (bytes_of (items_of 0 u.taken)) far.passed k piece.items frames rest far.came splits in
     let version : version_after host k.version frames ≡ version_after host 1 (far.passed ++ frames) =
     ap (λ n. version_after host n frames) far.came.version_is ∙ sym (version_after-append host 1 far.passed frames) in
+    let came : length (bytes_of (items_of 0 v.taken)) ≡ k.offset + length k.bytes + length piece.items =
+    ap length (bytes_taken u v i piece one' next) ∙ came_is (bytes_of (items_of 0 u.taken)) far.passed k piece.items far.came in
     record {
       passed = far.passed ++ frames;
       rest = rest;
@@ -161,7 +171,8 @@ stops t u v p q r k e i piece s one far next (frames, rest, splits, sent, behind
       fit = whole.fit;
       got = bytes_taken u v i piece one' next ∙ whole.whole;
       sent = sent_both p q r far.passed frames far.sent sent;
-      stops = subst (λ n. StopsBehind n rest s) version behind;
+      stops = subst (λ n. StopsBehind n (length (bytes_of (items_of 0 v.taken))) rest s) version
+          (subst (λ n. StopsBehind (version_after host k.version frames) n rest s) (sym came) behind);
     }
 
 pub ends : (t u : TakeView (Vec ℕ)) (p q : PostView Input) (k : Held) → t.line.senders ≡ 1 → SoFar t u p q k → IsEnded u.line.senders u.taken → Passes t u p q None
@@ -179,15 +190,15 @@ ends t u p q k one far ended =
 
 -- ---- at the end
 
-stopped_behind : (e : ReaderEnd) (passed : List HFrame) (rest dropped : List ℕ) (s : Stop)
-    → StopsBehind (version_after host 1 passed) rest s → ReaderStopped e passed (rest ++ dropped) (Some s)
-stopped_behind e passed rest dropped (stop.Frame n) (inl full) = inl full
-stopped_behind e passed rest dropped (stop.Frame n) (inr (fault, shows, is)) = inr (rest, dropped, fault, refl, shows, is)
-stopped_behind e passed rest dropped (stop.Host n) never = never
-stopped_behind e passed rest dropped (stop.Term n) never = never
-stopped_behind e passed rest dropped stop.PeerGone never = never
-stopped_behind e passed rest dropped stop.Gate stopped = tt
-stopped_behind e passed rest dropped stop.Memory stopped = tt
+stopped_behind : (e : ReaderEnd) (passed : List HFrame) (came : ℕ) (rest dropped : List ℕ) (s : Stop)
+    → (2 ^ 64 ≤ came → IsPastCount e.take.taken) → StopsBehind (version_after host 1 passed) came rest s → ReaderStopped e passed (rest ++ dropped) (Some s)
+stopped_behind e passed came rest dropped (stop.Frame n) past (inl full) = inl (full.0, past full.1)
+stopped_behind e passed came rest dropped (stop.Frame n) past (inr (fault, shows, is)) = inr (rest, dropped, fault, refl, shows, is)
+stopped_behind e passed came rest dropped (stop.Host n) past never = never
+stopped_behind e passed came rest dropped (stop.Term n) past never = never
+stopped_behind e passed came rest dropped stop.PeerGone past never = never
+stopped_behind e passed came rest dropped stop.Gate past stopped = tt
+stopped_behind e passed came rest dropped stop.Memory past stopped = tt
 
 abbrev end_of : TakeView (Vec ℕ) → PostView Input → Bool → Option Stop → ReaderEnd
 end_of t p passed s = record { take = t; post = p; passed = passed; stop = s }
@@ -195,12 +206,14 @@ end_of t p passed s = record { take = t; post = p; passed = passed; stop = s }
 -- it stopped, closed its post, and dropped what still came
 pub left_told : (down events : LineView) (t u : TakeView (Vec ℕ)) (p q : PostView Input) (passed : Bool) (s : Stop)
     → Passes (new_take down) t (new_post events 2) p (Some s) → q ≡ closed_post p → u.line ≡ t.line → StartsWith u.taken t.taken
-    → ReaderTold down events (end_of u q passed (Some s))
-left_told down events t u p q passed s went closed line (more, taken) =
+    → down.senders ≡ 1 → IsEnded u.line.senders u.taken → ReaderTold down events (end_of u q passed (Some s))
+left_told down events t u p q passed s went closed line (more, taken) one ended =
     let dropped = bytes_of (items_of 0 more) in
     let joined : bytes_of (items_of 0 u.taken) ≡ bytes_of (items_of 0 t.taken) ++ dropped =
     ap (λ (l : List (Entry (Vec ℕ))). bytes_of (items_of 0 l)) taken ∙ ap bytes_of (items_of-append 0 t.taken more)
     ∙ flat_map-append (λ (v : Vec ℕ). v.items) (items_of 0 t.taken) (items_of 0 more) in
+    let past : 2 ^ 64 ≤ length (bytes_of (items_of 0 t.taken)) → IsPastCount u.taken =
+    λ l. let parts = ap length joined in omega (arith, l, length-append (bytes_of (items_of 0 t.taken)) dropped) in
     record {
       passed = went.passed;
       rest = went.rest ++ dropped;
@@ -211,7 +224,8 @@ left_told down events t u p q passed s went closed line (more, taken) =
       got = joined ∙ ap (λ (b : List ℕ). b ++ dropped) went.got ∙ append_assoc (stream_of host went.passed) went.rest dropped;
       put = ap (λ (x : PostView Input). x.put) (closed ∙ ap closed_post went.sent);
       closed = ap (λ (x : PostView Input). x.closed) closed;
-      stopped = stopped_behind (end_of u q passed (Some s)) went.passed went.rest dropped s went.stops;
+      drained = subst (λ n. IsEnded n u.taken) (ap (λ (l : LineView). l.senders) (line ∙ went.line_is) ∙ one) ended;
+      stopped = stopped_behind (end_of u q passed (Some s)) went.passed (length (bytes_of (items_of 0 t.taken))) went.rest dropped s past went.stops;
     }
 
 -- it went on to the end of the line
@@ -227,7 +241,8 @@ done_told down events t p q passed went closed = record {
   got = went.got;
   put = ap (λ (x : PostView Input). x.put) (closed ∙ ap closed_post went.sent);
   closed = ap (λ (x : PostView Input). x.closed) closed;
-  stopped = went.stops;
+  drained = went.stops.0;
+  stopped = went.stops.1;
 }
 
 -- it took nothing

@@ -7,7 +7,7 @@ use Rattle.sam_script.specs.Script.{PlainScript, keys_of, mouse_of}
 use Rattle.sam_world.specs.Streams.{Begins}
 use Rattle.sam_world.specs.World.{new_world, run_of}
 use Rattle.sam_threads.specs.Lines.{LinesView}
-use Rattle.sam_threads.specs.Told.{Told, UserTold, UserStopped, GatesTold}
+use Rattle.sam_threads.specs.Told.{Told, UserTold, UserStopped, AllPassed, GatesTold}
 use Rattle.sam_threads.specs.Headline.{Headline}
 use Rattle.sam_threads.specs.Settled.{counts_left, stops_of, AreFull, HasUsers, IsWhole}
 use Rattle.sam_threads.specs.Session.{IsSession}
@@ -36,10 +36,13 @@ puts_all number events line e told none =
     told.put ∙ (ap (λ n. map User (take n events)) many ∙ ap (λ l. map User l) (take_all events))
 
 pub session_of : (script : PlainScript) (refuses : ℕ → Type 0) (lines : LinesView) (e : Ends) (s : Settled)
-    → Told (keys_of script.lines) (mouse_of script.lines) lines e → e.host.files.items ≡ script.files → GatesTold refuses e
+    → Told (keys_of script.lines) (mouse_of script.lines) lines e → e.host.files.items ≡ script.files → AllPassed e → GatesTold refuses e
     → Headline e s → (s.host ≡ e.host.host) × (s.term ≡ e.term.term) → HasUsers e s → s.stops.items ≡ stops_of e → s.left.items ≡ counts_left e → AreFull s → (s.stops.items ≡ [] → IsWhole e s) → IsSession script refuses s
-session_of script refuses lines e s told files gates headline states users stops left full whole = record {
+session_of script refuses lines e s told files begun gates headline states users stops left full whole = record {
   ends = e;
+  lines = lines;
+  told = told;
+  begun = begun;
   headline = headline;
   run = ap (λ f. run_of (new_world f) s.schedule.items) (sym files) ∙ headline.run;
   states = (states.0 ∙ sym headline.host, states.1 ∙ sym headline.term);

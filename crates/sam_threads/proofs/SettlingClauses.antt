@@ -34,7 +34,7 @@ use Rattle.sam_threads.specs.Apart.{Apart, Joined}
 use Rattle.sam_threads.specs.Inputs.{bytes_of, frames_in, users_in, frame_of_load}
 use Rattle.sam_threads.specs.Lines.{LinesView}
 use Rattle.sam_threads.specs.Numbers.{refusal_number, fault_number}
-use Rattle.sam_threads.specs.Told.{Told, UserStopped, HostStopped, ReaderStopped, TermStopped, ShowsFault, RefusesFrame, IsForeign, IsOwnExit}
+use Rattle.sam_threads.specs.Told.{Told, UserStopped, HostStopped, ReaderStopped, TermStopped, ShowsFault, RefusesFrame, IsForeign, IsFullUp, IsPastCount, IsOwnExit}
 use Rattle.sam_threads.specs.Headline.{Headline}
 use Rattle.sam_threads.specs.Settling.{LinesGive}
 use Rattle.sam_threads.specs.Settled.{counts_left, stop_of, stops_of, IsFull, count_gone, AreFull, HasUsers, IsWhole}
@@ -44,6 +44,7 @@ use Rattle.sam_threads.specs.declared.stop.Stop.{Stop}
 use Rattle.sam_threads.specs.declared.stop.Stop.TheVariants as stop
 use Rattle.sam_threads.specs.declared.ends.Ends.{Ends}
 use Rattle.sam_threads.specs.declared.settled.Settled.{Settled}
+use Rattle.sam_threads.proofs.Cut.{each_append}
 use Rattle.sam_threads.proofs.SettlingLists.{Parts, parts_of, senders_within, nothing_joined, split_map, each_of_all, frames_taken, all_taken, none_left_of_one, none_left_of_three, items_mine}
 
 -- what the law of the two sides gives
@@ -106,10 +107,6 @@ user_fine n all (Some (stop.Host k)) s = absurd s
 user_fine n all (Some (stop.Term k)) s = absurd s
 user_fine n all (Some stop.PeerGone) s = absurd s
 user_fine n all (Some stop.Memory) s = absurd s
-
-each_joined : (xs ys : List Stop) → Each IsFull xs → Each IsFull ys → Each IsFull (xs ++ ys)
-each_joined [] ys a b = b
-each_joined (x ∷ xs) ys a b = (a.0, each_joined xs ys a.1 b)
 
 count_joined : (xs ys : List Stop) → count_gone (xs ++ ys) ≡ count_gone xs + count_gone ys
 count_joined [] ys = omega arith
@@ -264,8 +261,8 @@ module _ (keys clicks : List UserEvent) (lines : LinesView) (e : Ends) (told : T
     host_fine None s = record { full = tt; gone = omega arith }
     host_fine (Some (stop.Frame n)) s = record { full = (seven s, tt); gone = omega arith }
       where
-        seven : (n ≡ 7) ⊎ ShowsFault terminal handled told.host.rest n → n ≡ 7
-        seven (inl is) = is
+        seven : ((n ≡ 7) × IsPastCount e.host.take.taken) ⊎ ShowsFault terminal handled told.host.rest n → n ≡ 7
+        seven (inl is) = is.0
         seven (inr f) =
             absurd (laws.no_fault_upwards f.0 (f.1 ++ (bytes_of up_parts.left ++ told.term.outbox)) f.2
             (up_bytes
@@ -289,8 +286,8 @@ module _ (keys clicks : List UserEvent) (lines : LinesView) (e : Ends) (told : T
     reader_fine None s = record { full = tt; gone = omega arith }
     reader_fine (Some (stop.Frame n)) s = record { full = (seven s, tt); gone = omega arith }
       where
-        seven : (n ≡ 7) ⊎ ShowsFault host passed told.reader.rest n → n ≡ 7
-        seven (inl is) = is
+        seven : ((n ≡ 7) × IsPastCount e.reader.take.taken) ⊎ ShowsFault host passed told.reader.rest n → n ≡ 7
+        seven (inl is) = is.0
         seven (inr f) =
             absurd (laws.no_fault_downwards f.0 (f.1 ++ (bytes_of down_parts.left ++ told.host.outbox)) f.2
             (down_bytes
@@ -322,14 +319,14 @@ module _ (keys clicks : List UserEvent) (lines : LinesView) (e : Ends) (told : T
         no_user event more [] q = cc
         no_user event more (a ∷ fs) q = let h : User event ≡ Host a = cc in cc
 
-    term_fine : (o : Option Stop) → TermStopped e.term told.term.dropped told.term.outbox o → IsFine 1 o × (0 < count_gone (stop_of o) → e.term.term.has_exited ≡ false)
+    term_fine : (o : Option Stop) → TermStopped e.term told.term.handled told.term.dropped told.term.outbox o → IsFine 1 o × (0 < count_gone (stop_of o) → e.term.term.has_exited ≡ false)
     term_fine None s = (record { full = tt; gone = omega arith }, λ l. absurd (omega arith))
     term_fine (Some (stop.Frame n)) s = absurd (no_foreign n s)
     term_fine (Some (stop.Host n)) s = absurd s
     term_fine (Some (stop.Term n)) s = (record { full = (eight s, tt); gone = omega arith }, λ l. absurd (omega arith))
       where
-        eight : (n ≡ 8) ⊎ RefusesFrame e.term.term told.term.dropped n → n ≡ 8
-        eight (inl is) = is
+        eight : ((n ≡ 8) × IsFullUp e.term.term) ⊎ RefusesFrame e.term.term told.term.dropped n → n ≡ 8
+        eight (inl is) = is.0
         eight (inr f) =
             let dropped = f.4 in
             let rest = frames_in f.2 ++ passing.0 in
@@ -339,7 +336,7 @@ module _ (keys clicks : List UserEvent) (lines : LinesView) (e : Ends) (told : T
             ∙ sym (append_assoc frames (f.1 ∷ []) rest)) in
             let why = laws.terminal_stops_for_a_count f.1 f.3 (record { rest = rest; is = begins }) f.5 in
             f.6 ∙ ap fault_number why
-    term_fine (Some stop.PeerGone) s = (record { full = (tt, tt); gone = omega arith }, λ l. s)
+    term_fine (Some stop.PeerGone) s = (record { full = (tt, tt); gone = omega arith }, λ l. s.0)
     term_fine (Some stop.Gate) s = (record { full = (tt, tt); gone = omega arith }, λ l. absurd (omega arith))
     term_fine (Some stop.Memory) s = (record { full = (tt, tt); gone = omega arith }, λ l. absurd (omega arith))
 
@@ -367,7 +364,7 @@ module _ (keys clicks : List UserEvent) (lines : LinesView) (e : Ends) (told : T
         let all : count_gone s.stops.items ≡ count_gone fs = ap count_gone stops ∙ omega arith in
         record {
           full = subst (λ l. Each IsFull l) (sym stops)
-              (each_joined (os ++ bs ++ cs ++ ds) fs (each_joined (os ++ bs ++ cs) ds (each_joined (os ++ bs) cs (each_joined os bs a.full b.full) c.full) d.full) f.0.full);
+              (each_append IsFull (os ++ bs ++ cs ++ ds) fs (each_append IsFull (os ++ bs ++ cs) ds (each_append IsFull (os ++ bs) cs (each_append IsFull os bs a.full b.full) c.full) d.full) f.0.full);
           gone = omega arith;
           early = λ l. ap (λ (t : PlainTerminal). t.has_exited) term ∙ f.1 (omega arith);
         }
@@ -381,25 +378,25 @@ module _ (keys clicks : List UserEvent) (lines : LinesView) (e : Ends) (told : T
         let o = nothing_stopped e.keyboard.stop e.mouse.stop e.host.stop e.reader.stop e.term.stop (sym stops ∙ none) in
         let h = subst (λ x. HostStopped e.host handled told.host.outbox told.host.rest x) o.2 told.host.stopped in
         let r = subst (λ x. ReaderStopped e.reader passed told.reader.rest x) o.3 told.reader.stopped in
-        let t = subst (λ x. TermStopped e.term told.term.dropped told.term.outbox x) o.4 told.term.stopped in
-        let up_none = up_parts.ended (h.0 0 (omega arith)) in
-        let down_none = down_parts.ended (r.0 0 (omega arith)) in
-        let key_none = key_parts.ended (t.0 0 (omega arith)) in
-        let mouse_none = mouse_parts.ended (t.0 1 (omega arith)) in
-        let frame_none = frame_parts.ended (t.0 2 (omega arith)) in
-        let all_handled : told.term.handled ≡ e.term.take.taken = sym (append-nil told.term.handled) ∙ (ap (λ l. told.term.handled ++ l) (sym t.1) ∙ sym told.term.took) in
+        let t = subst (λ x. TermStopped e.term told.term.handled told.term.dropped told.term.outbox x) o.4 told.term.stopped in
+        let up_none = up_parts.ended (told.host.drained 0 (omega arith)) in
+        let down_none = down_parts.ended (told.reader.drained 0 (omega arith)) in
+        let key_none = key_parts.ended (told.term.drained 0 (omega arith)) in
+        let mouse_none = mouse_parts.ended (told.term.drained 1 (omega arith)) in
+        let frame_none = frame_parts.ended (told.term.drained 2 (omega arith)) in
+        let all_handled : told.term.handled ≡ e.term.take.taken = sym (append-nil told.term.handled) ∙ (ap (λ l. told.term.handled ++ l) (sym t.0) ∙ sym told.term.took) in
         let up_all : handled ≡ composed =
         laws.all_upwards told.host.rest
         (up_bytes
         ∙ (ap (λ l. stream_of terminal handled ++ (told.host.rest ++ (bytes_of l ++ told.term.outbox))) up_none
-        ∙ (ap (λ l. stream_of terminal handled ++ (told.host.rest ++ l)) t.2
-        ∙ ap (λ l. stream_of terminal handled ++ l) (append-nil told.host.rest)))) h.2 in
+        ∙ (ap (λ l. stream_of terminal handled ++ (told.host.rest ++ l)) t.1
+        ∙ ap (λ l. stream_of terminal handled ++ l) (append-nil told.host.rest)))) h.1 in
         let down_all : passed ≡ answered =
         laws.all_downwards told.reader.rest
         (down_bytes
         ∙ (ap (λ l. stream_of host passed ++ (told.reader.rest ++ (bytes_of l ++ told.host.outbox))) down_none
-        ∙ (ap (λ l. stream_of host passed ++ (told.reader.rest ++ l)) h.1
-        ∙ ap (λ l. stream_of host passed ++ l) (append-nil told.reader.rest)))) r.1 in
+        ∙ (ap (λ l. stream_of host passed ++ (told.reader.rest ++ l)) h.0
+        ∙ ap (λ l. stream_of host passed ++ l) (append-nil told.reader.rest)))) r in
         let frames_all : frames ≡ passed = ap frames_in all_handled ∙ frames_there passed (all_taken 2 e.term.take e.reader.post frame_parts frame_none ∙ told.reader.put) in
         let up_empty : last.up ≡ [] = sym (append_cancel_left handled [] last.up (append-nil handled ∙ (up_all ∙ laws.joined.upwards))) in
         let down_empty : last.down ≡ [] = sym (append_cancel_left frames [] last.down (append-nil frames ∙ (frames_all ∙ (down_all ∙ laws.joined.downwards)))) in
@@ -413,7 +410,7 @@ module _ (keys clicks : List UserEvent) (lines : LinesView) (e : Ends) (told : T
           keyboard = all_taken 0 e.term.take e.keyboard.post key_parts key_none;
           mouse = all_taken 1 e.term.take e.mouse.post mouse_parts mouse_none;
           events = (told.term.own, ap users schedule ∙ (laws.joined.users_are ∙ (told.term.users ∙ ap (λ l. users_in l ++ told.term.own) all_handled)), subst (λ l. IsOwnExit told.term.own l) all_handled told.term.exits);
-          exited = ap (λ (x : PlainTerminal). x.has_exited) term ∙ t.3;
-          held = ap (λ (x : PlainTerminal). x.held) term ∙ t.4;
-          quiet = ap is_quiet same ∙ quiet_of last (ap (λ (x : PlainTerminal). x.unsent) laws.joined.term_is ∙ t.5) up_empty down_empty;
+          exited = ap (λ (x : PlainTerminal). x.has_exited) term ∙ t.2;
+          held = ap (λ (x : PlainTerminal). x.held) term ∙ t.3;
+          quiet = ap is_quiet same ∙ quiet_of last (ap (λ (x : PlainTerminal). x.unsent) laws.joined.term_is ∙ t.4) up_empty down_empty;
         }

@@ -15,14 +15,18 @@ use Rattle.sam_world.specs.declared.event.TermLog.{TermLog}
 use Rattle.sam_world.specs.declared.event.TermLog.TheVariants as log
 use Rattle.sam_world.specs.Logs.{logged_users}
 use Rattle.sam_world.specs.Sides.{Each, TermRuns}
+use Rattle.sam_world.proofs.Settles.{term_more}
 use Rattle.sam_queue.specs.declared.port.Entry.{Entry}
 use Rattle.sam_queue.specs.History.{IsEnded, has_left}
 use Rattle.sam_queue.specs.Views.{LineView, TakeView, PostView, WasFull, closed_post, new_take, new_post}
 use Rattle.sam_threads.specs.RealSides.{sides}
 use Rattle.sam_threads.specs.Inputs.{bytes_of, frames_in, users_in, frame_of_load, user_of_load}
 use Rattle.sam_threads.specs.Outboxes.{Encodes}
-use Rattle.sam_threads.specs.Told.{IsForeign, RefusesFrame}
+use Rattle.sam_threads.specs.Told.{IsForeign, RefusesFrame, IsFullUp}
 use Rattle.sam_threads.specs.TermMoments.{DeskView, Did, SideView, SoFar, Ran, Goes, IsDone, IsQuiet, IsFound}
+use Rattle.sam_threads.specs.Cutting.{PutSome}
+use Rattle.sam_threads.proofs.Cut.{each_append, bytes_append}
+use Rattle.sam_threads.proofs.RealLaws.{counts}
 use Rattle.sam_threads.proofs.TermSteps.{did_nothing}
 use Rattle.sam_threads.specs.declared.input.Input.{Input}
 use Rattle.sam_threads.specs.declared.term_side.Found.{Found}
@@ -39,41 +43,12 @@ users_append (log.Act ∷ es) fs = users_append es fs
 users_append (log.Flush ∷ es) fs = users_append es fs
 users_append (log.Take k ∷ es) fs = users_append es fs
 
--- the log grows at its end
-more : (es : List TermLog) (t u v : PlainTerminal) (fs : List HFrame) (ms : List Tmesg) (es' : List TermLog) (fs' : List HFrame) (ms' : List Tmesg)
-    → TermRuns sides t es fs ms u → TermRuns sides u es' fs' ms' v → TermRuns sides t (es ++ es') (fs ++ fs') (ms ++ ms') v
-more [] t u v fs ms es' fs' ms' r q =
-    let there : TermRuns sides t es' fs' ms' v = subst (λ (x : PlainTerminal). TermRuns sides x es' fs' ms' v) r.2 q in
-    let frames = subst (λ (x : List HFrame). TermRuns sides t es' (x ++ fs') ms' v) (sym r.0) there in
-    subst (λ (x : List Tmesg). TermRuns sides t es' (fs ++ fs') (x ++ ms') v) (sym r.1) frames
-more (log.User e ∷ es) t u v fs ms es' fs' ms' r q = more es (sides.user t e) u v fs ms es' fs' ms' r q
-more (log.Act ∷ es) t u v fs ms es' fs' ms' r q =
-    (r.0, r.1, r.2 ++ ms', r.3, ap (λ (x : List Tmesg). x ++ ms') r.4 ∙ append_assoc r.1 r.2 ms', more es r.0 u v fs r.2 es' fs' ms' r.5 q)
-more (log.Flush ∷ es) t u v fs ms es' fs' ms' r q =
-    (r.0, r.1, r.2 ++ ms', r.3, ap (λ (x : List Tmesg). x ++ ms') r.4 ∙ append_assoc r.1 r.2 ms', more es r.0 u v fs r.2 es' fs' ms' r.5 q)
-more (log.Take n ∷ es) t u v fs ms es' fs' ms' r q = (
-  r.0,
-  r.1 ++ fs',
-  r.2,
-  r.3,
-  r.4 ++ ms',
-  ap (λ (x : List HFrame). x ++ fs') r.5,
-  r.6,
-  r.7,
-  ap (λ (x : List Tmesg). x ++ ms') r.8 ∙ append_assoc r.3 r.4 ms',
-  more es r.2 u v r.1 r.4 es' fs' ms' r.9 q,
-)
-
-pub each_append : (P : Tmesg → Type 0) (xs ys : List Tmesg) → Each P xs → Each P ys → Each P (xs ++ ys)
-each_append P [] ys a b = b
-each_append P (x ∷ xs) ys a b = (a.0, each_append P xs ys a.1 b)
-
 -- the run with what the desk did behind it
 pub runs_on : (v : SideView) (desk : DeskView) (events : List UserEvent) (frames : List HFrame) (ms : List Tmesg) (r : Ran v) → Did v.desk desk events frames ms
     → TermRuns sides new_terminal desk.log (frames_in r.handled ++ frames) (r.composed ++ ms) desk.term
 runs_on v desk events frames ms r d =
     subst (λ (x : List TermLog). TermRuns sides new_terminal x (frames_in r.handled ++ frames) (r.composed ++ ms) desk.term) (sym d.log)
-    (more v.desk.log new_terminal v.desk.term desk.term (frames_in r.handled) r.composed d.entries frames ms r.runs d.runs)
+    (term_more sides counts v.desk.log new_terminal v.desk.term desk.term (frames_in r.handled) r.composed d.entries frames ms r.runs d.runs)
 
 pub users_on : (v : SideView) (desk : DeskView) (events : List UserEvent) (frames : List HFrame) (ms : List Tmesg) (r : Ran v) → Did v.desk desk events frames ms
     → logged_users desk.log ≡ (users_in r.handled ++ r.own) ++ events
@@ -96,6 +71,9 @@ so_far_of t dropped lost (Some x) e s = absurd (cc)
 pub whole : (v : SideView) (r : Ran v) → v.stop ≡ None → (r.dropped ≡ []) × (r.lost ≡ [])
 whole v r e = so_far_of v.desk.term r.dropped r.lost v.stop e r.so_far
 
+pub all_handled : (v : SideView) (r : Ran v) → v.stop ≡ None → v.take.taken ≡ r.handled
+all_handled v r e = r.took ∙ (ap (λ (x : List (Entry Input)). r.handled ++ x) (whole v r e).0 ∙ append-nil r.handled)
+
 -- the frames of more messages behind those of the others
 pub sent_on : (put before lost after lost' : List ℕ) (composed ms : List Tmesg)
     → put ++ (before ++ lost) ≡ stream_of terminal composed → lost ≡ [] → after ++ lost' ≡ before ++ stream_of terminal ms
@@ -112,8 +90,9 @@ sent_on put before lost after lost' composed ms sent none grown =
 -- what the desk did without an event or a frame
 kept_step : (v : SideView) (desk : DeskView) (outbox : List ℕ) (why : Option Stop) (ms : List Tmesg) (lost : List ℕ) → Ran v → v.stop ≡ None
     → Did v.desk desk [] [] ms → Each (FitsT 2) ms → outbox ++ lost ≡ v.outbox ++ stream_of terminal ms → SoFar desk.term [] lost why
+    → (why ≡ Some stop.PeerGone → has_left 2 v.take.taken ≡ true)
     → Ran (record { take = v.take; post = v.post; desk = desk; outbox = outbox; keyboard_left = v.keyboard_left; mouse_left = v.mouse_left; exit_put = v.exit_put; stop = why })
-kept_step v desk outbox why ms lost r running d fit grown so_far =
+kept_step v desk outbox why ms lost r running d fit grown so_far gone =
     let none = whole v r running in
     record {
       handled = r.handled;
@@ -133,6 +112,7 @@ kept_step v desk outbox why ms lost r running d fit grown so_far =
       fit = each_append (FitsT 2) r.composed ms r.fit fit;
       sent = sent_on (bytes_of v.post.put) v.outbox r.lost outbox lost r.composed ms r.sent none.1 grown;
       so_far = so_far;
+      gone = λ is. subst (λ (x : List (Entry Input)). has_left 2 x ≡ true) (all_handled v r running) (gone is);
     }
 
 pub kept_done : (v : SideView) (desk : DeskView) (outbox : List ℕ) (ms : List Tmesg) → Ran v → is_some v.stop ≡ false
@@ -140,13 +120,13 @@ pub kept_done : (v : SideView) (desk : DeskView) (outbox : List ℕ) (ms : List 
     → Ran (record { take = v.take; post = v.post; desk = desk; outbox = outbox; keyboard_left = v.keyboard_left; mouse_left = v.mouse_left; exit_put = v.exit_put; stop = v.stop })
 kept_done v desk outbox ms r running d fit grown =
     subst (λ (x : Option Stop). Ran (record { take = v.take; post = v.post; desk = desk; outbox = outbox; keyboard_left = v.keyboard_left; mouse_left = v.mouse_left; exit_put = v.exit_put; stop = x })) (sym (none_of v.stop running))
-    (kept_step v desk outbox None ms [] r (none_of v.stop running) d fit (append-nil outbox ∙ grown) (refl, refl))
+    (kept_step v desk outbox None ms [] r (none_of v.stop running) d fit (append-nil outbox ∙ grown) (refl, refl) (λ is. absurd (cc)))
 
 pub kept_half : (v : SideView) (desk : DeskView) (outbox : List ℕ) (ms : List Tmesg) → Ran v → is_some v.stop ≡ false
     → Did v.desk desk [] [] ms → Each (FitsT 2) ms → Encodes v.outbox outbox ms
     → Ran (record { take = v.take; post = v.post; desk = desk; outbox = outbox; keyboard_left = v.keyboard_left; mouse_left = v.mouse_left; exit_put = v.exit_put; stop = Some stop.Memory })
 kept_half v desk outbox ms r running d fit e =
-    kept_step v desk outbox (Some stop.Memory) ms e.lost r (none_of v.stop running) d fit (half v.outbox outbox ms e) tt
+    kept_step v desk outbox (Some stop.Memory) ms e.lost r (none_of v.stop running) d fit (half v.outbox outbox ms e) tt (λ is. absurd (let same : stop.Memory ≡ stop.PeerGone = cc in cc))
   where
     half : (before after : List ℕ) (ns : List Tmesg) (q : Encodes before after ns) → after ++ q.lost ≡ before ++ stream_of terminal ns
     half before after ns q = ap (λ (x : List ℕ). x ++ q.lost) q.grown ∙ (append_assoc before q.added q.lost ∙ ap (λ (x : List ℕ). before ++ x) q.all)
@@ -156,20 +136,26 @@ pub kept_silent : (v : SideView) (desk : DeskView) → Ran v → is_some v.stop 
 kept_silent v desk r running d = kept_done v desk v.outbox [] r running d tt (sym (append-nil v.outbox))
 
 -- a fault of the desk stops it
-pub kept_stop : (v : SideView) (desk : DeskView) (why : Stop) → Ran v → is_some v.stop ≡ false → desk ≡ v.desk → (why ≡ stop.Memory) ⊎ (why ≡ stop.Term 8)
+pub kept_stop : (v : SideView) (desk : DeskView) (why : Stop) → Ran v → is_some v.stop ≡ false → desk ≡ v.desk → (why ≡ stop.Memory) ⊎ ((why ≡ stop.Term 8) × IsFullUp v.desk.term)
     → Ran (record { take = v.take; post = v.post; desk = desk; outbox = v.outbox; keyboard_left = v.keyboard_left; mouse_left = v.mouse_left; exit_put = v.exit_put; stop = Some why })
 kept_stop v desk why r running same is =
-    kept_step v desk v.outbox (Some why) [] [] r (none_of v.stop running) (did_nothing v.desk desk same) tt refl (so_far why is)
+    kept_step v desk v.outbox (Some why) [] [] r (none_of v.stop running) (did_nothing v.desk desk same) tt refl (so_far why is) (λ gone. absurd (not_gone why is gone))
   where
-    so_far : (s : Stop) → (s ≡ stop.Memory) ⊎ (s ≡ stop.Term 8) → SoFar desk.term [] [] (Some s)
+    so_far : (s : Stop) → (s ≡ stop.Memory) ⊎ ((s ≡ stop.Term 8) × IsFullUp v.desk.term) → SoFar desk.term [] [] (Some s)
     so_far s (inl e) = subst (λ (x : Stop). SoFar desk.term [] [] (Some x)) (sym e) tt
-    so_far s (inr e) = subst (λ (x : Stop). SoFar desk.term [] [] (Some x)) (sym e) (inl refl)
+    so_far s (inr e) =
+        subst (λ (x : Stop). SoFar desk.term [] [] (Some x)) (sym e.0)
+        (inl (refl, subst (λ (x : DeskView). IsFullUp x.term) (sym same) e.1))
+
+    not_gone : (s : Stop) → (s ≡ stop.Memory) ⊎ ((s ≡ stop.Term 8) × IsFullUp v.desk.term) → Some s ≡ Some stop.PeerGone → ⊥
+    not_gone s (inl e) gone = let other : stop.Memory ≡ stop.PeerGone = cc in cc
+    not_gone s (inr e) gone = let first = e.0 in let other : stop.Term 8 ≡ stop.PeerGone = cc in cc
 
 -- the host reader is gone, and the session not over
-pub kept_lost : (v : SideView) → Ran v → is_some v.stop ≡ false → v.desk.term.has_exited ≡ false
+pub kept_lost : (v : SideView) → Ran v → is_some v.stop ≡ false → IsEnded 3 v.take.taken → v.desk.term.has_exited ≡ false
     → Ran (record { take = v.take; post = v.post; desk = v.desk; outbox = v.outbox; keyboard_left = v.keyboard_left; mouse_left = v.mouse_left; exit_put = v.exit_put; stop = Some stop.PeerGone })
-kept_lost v r running e =
-    kept_step v v.desk v.outbox (Some stop.PeerGone) [] [] r (none_of v.stop running) (did_nothing v.desk v.desk refl) tt refl e
+kept_lost v r running ended e =
+    kept_step v v.desk v.outbox (Some stop.PeerGone) [] [] r (none_of v.stop running) (did_nothing v.desk v.desk refl) tt refl e (λ _. ended 2 (omega arith))
 
 -- ## Its own Exit
 
@@ -199,6 +185,7 @@ kept_exit v desk r running d none k m =
       fit = r.fit;
       sent = r.sent;
       so_far = still_so_far desk.term v.desk.term r.dropped r.lost v.stop (none_of v.stop running) r.so_far;
+      gone = r.gone;
     }
   where
     still_so_far : (t u : PlainTerminal) (dropped : List (Entry Input)) (lost : List ℕ) (o : Option Stop) → o ≡ None → SoFar u dropped lost o → SoFar t dropped lost o
@@ -233,15 +220,28 @@ kept_put v post outbox r number e =
       fit = r.fit;
       sent = moved (bytes_of v.post.put) v.outbox (bytes_of post.put) outbox r.lost e ∙ r.sent;
       so_far = r.so_far;
+      gone = r.gone;
     }
 
+-- pieces were put
+pub kept_pieces : (v : SideView) (post : PostView (Vec ℕ)) (outbox : List ℕ) (most : ℕ) → Ran v → PutSome most v.post post v.outbox outbox
+    → Ran (record { take = v.take; post = post; desk = v.desk; outbox = outbox; keyboard_left = v.keyboard_left; mouse_left = v.mouse_left; exit_put = v.exit_put; stop = v.stop })
+kept_pieces v post outbox most r p =
+    kept_put v post outbox r (ap (λ (x : PostView (Vec ℕ)). x.number) p.after_is)
+    (ap (λ (x : PostView (Vec ℕ)). bytes_of x.put ++ outbox) p.after_is
+    ∙ (ap (λ (x : List ℕ). x ++ outbox) (bytes_append v.post.put p.pieces)
+    ∙ (append_assoc (bytes_of v.post.put) (bytes_of p.pieces) outbox
+    ∙ ap (λ (x : List ℕ). bytes_of v.post.put ++ x) p.whole)))
+
+pub goes_put : (most : ℕ) (a b : PostView (Vec ℕ)) (bytes rest : List ℕ) → PutSome most a b bytes rest → b.line ≡ a.line
+goes_put most a b bytes rest p = ap (λ (x : PostView (Vec ℕ)). x.line) p.after_is
+
 -- no memory for the next piece
-pub kept_short : (v : SideView) (post : PostView (Vec ℕ)) (outbox : List ℕ) → Ran v → is_some v.stop ≡ false → post.number ≡ v.post.number
-    → bytes_of post.put ++ outbox ≡ bytes_of v.post.put ++ v.outbox
+pub kept_short : (v : SideView) (post : PostView (Vec ℕ)) (outbox : List ℕ) (most : ℕ) → Ran v → is_some v.stop ≡ false → PutSome most v.post post v.outbox outbox
     → Ran (record { take = v.take; post = post; desk = v.desk; outbox = outbox; keyboard_left = v.keyboard_left; mouse_left = v.mouse_left; exit_put = v.exit_put; stop = Some stop.Memory })
-kept_short v post outbox r running number e =
+kept_short v post outbox most r running p =
     let w : SideView = record { take = v.take; post = post; desk = v.desk; outbox = outbox; keyboard_left = v.keyboard_left; mouse_left = v.mouse_left; exit_put = v.exit_put; stop = v.stop } in
-    kept_stop w v.desk stop.Memory (kept_put v post outbox r number e) running refl (inl refl)
+    kept_stop w v.desk stop.Memory (kept_pieces v post outbox most r p) running refl (inl refl)
 
 pub kept_closed : (v : SideView) (post : PostView (Vec ℕ)) (b : Bool) → Ran v → MatchBool b (post ≡ closed_post v.post) ((post ≡ v.post) × (v.post.closed ≡ false) × WasFull v.post)
     → Ran (record { take = v.take; post = post; desk = v.desk; outbox = v.outbox; keyboard_left = v.keyboard_left; mouse_left = v.mouse_left; exit_put = v.exit_put; stop = v.stop })
@@ -260,11 +260,11 @@ found_still a b found.Entry g f = tt
 found_still a b found.Nothing g f = tt
 found_still a b found.Ended g f = subst (λ (x : TakeView Input). IsEnded 3 x.taken) (sym g.take) f
 
-pub done_stopped : (v : SideView) → is_some v.stop ≡ true → v.post.closed ≡ true → IsDone v
-done_stopped v stopped closed =
+pub done_stopped : (v : SideView) → is_some v.stop ≡ true → IsEnded 3 v.take.taken → IsDone (record v { post = closed_post v.post })
+done_stopped v stopped ended =
     record {
-      closed = closed;
-      ended = λ is. absurd (let e = ap (λ (x : Option Stop). is_some x) is in cc);
+      closed = refl;
+      ended = ended;
       sent = λ is. absurd (let e = ap (λ (x : Option Stop). is_some x) is in cc);
       exited = λ is. absurd (let e = ap (λ (x : Option Stop). is_some x) is in cc);
       none_held = λ is. absurd (let e = ap (λ (x : Option Stop). is_some x) is in cc);
@@ -279,7 +279,7 @@ pub done_quiet : (v : SideView) → IsQuiet v → IsEnded 3 v.take.taken → IsD
 done_quiet v q ended =
     record {
       closed = refl;
-      ended = λ _. ended;
+      ended = ended;
       sent = λ _. q.sent;
       exited = λ _. q.exited;
       none_held = λ _. q.none_held;
@@ -309,8 +309,13 @@ kept_new line post t desk outbox why fresh three first new laid empty is =
       fit = tt;
       sent = ap (λ (x : PostView (Vec ℕ)). bytes_of x.put ++ (outbox ++ [])) first ∙ ap (λ (x : List ℕ). x ++ []) empty;
       so_far = so_far why is;
+      gone = λ gone. absurd (not_gone why is gone);
     }
   where
+    not_gone : (o : Option Stop) → (o ≡ None) ⊎ (o ≡ Some stop.Gate) → o ≡ Some stop.PeerGone → ⊥
+    not_gone o (inl e) gone = cc
+    not_gone o (inr e) gone = let other : stop.Gate ≡ stop.PeerGone = cc in cc
+
     so_far : (o : Option Stop) → (o ≡ None) ⊎ (o ≡ Some stop.Gate) → SoFar desk.term [] [] o
     so_far o (inl e) = subst (λ (x : Option Stop). SoFar desk.term [] [] x) (sym e) (refl, refl)
     so_far o (inr e) = subst (λ (x : Option Stop). SoFar desk.term [] [] x) (sym e) tt

@@ -1,5 +1,5 @@
 -- Single steps of the terminal, as parts of its run.
-use Rattle.std.proofs.Common.{◌≡◌, refl, sym, ap, subst, ◌∙◌, ℕ, List, [], ◌∷◌, ◌++◌, Option, Some, None, Result, Ok, Err, append-nil, append_assoc, arith}
+use Rattle.std.proofs.Common.{◌≡◌, ◌⊎◌, inl, inr, refl, sym, ap, subst, ◌∙◌, ℕ, List, [], ◌∷◌, ◌++◌, Option, Some, None, Result, Ok, Err, append-nil, append_assoc, arith}
 use Rattle.std.specs.Prelude.{All, IsTrue}
 use Rattle.std.proofs.lemmas.List.Elements.{All-nil}
 use Rattle.sam_runes.specs.Checks.{first_of_checks}
@@ -14,12 +14,18 @@ use Rattle.sam_term.specs.declared.event.UserEvent.{UserEvent}
 use Rattle.sam_term.specs.declared.event.Acted.{Acted}
 use Rattle.sam_term.specs.declared.event.Acted.TheVariants.{Idle, Locked, Done, Refused}
 use Rattle.sam_term.specs.declared.fault.Refusal.{Refusal}
+use Rattle.sam_term.specs.declared.fault.TermFault.{TermFault}
+use Rattle.sam_term.specs.declared.fault.TermFault.TheVariants as fault
 use Rattle.sam_world.specs.declared.event.TermLog.{TermLog}
 use Rattle.sam_world.specs.declared.event.TermLog.TheVariants as log
 use Rattle.sam_world.proofs.ActLaws.{acted_in, not_done, idle_still, locked_still}
+use Rattle.sam_world.proofs.OrderLaws.{only_counts_stop}
 use Rattle.sam_world.proofs.Within.{act_fits, flushed_fits, taken_fits}
 use Rattle.sam_threads.specs.RealSides.{sides, acted, unless_refused}
-use Rattle.sam_threads.specs.TermMoments.{DeskView, Did}
+use Rattle.sam_threads.specs.Told.{IsFullUp}
+use Rattle.sam_threads.specs.TermMoments.{DeskView, Did, of_fault}
+use Rattle.sam_threads.specs.declared.stop.Stop.{Stop}
+use Rattle.sam_threads.specs.declared.stop.Stop.TheVariants as stop
 
 none_fit : All (λ m. IsTrue (fits_t 2 m)) []
 none_fit = All-nil (λ m. IsTrue (fits_t 2 m))
@@ -98,3 +104,19 @@ held_none t u e = go t.held e
 -- an idle terminal holds no event
 pub idle_holds_none : (t u : PlainTerminal) → act_of t ≡ Ok (u, Idle) → u.held ≡ []
 idle_holds_none t u e = ap (λ x. x.held) (idle_still t u e) ∙ held_none t u e
+
+-- ## What stops a step
+
+pub stops_act : (t : PlainTerminal) (why : TermFault) (s : Stop) → s ≡ of_fault why → (why ≡ fault.OutOfMemory) ⊎ (act_of t ≡ Err why)
+    → (s ≡ stop.Memory) ⊎ ((s ≡ stop.Term 8) × IsFullUp t)
+stops_act t why s is (inl memory) = inl (is ∙ ap of_fault memory)
+stops_act t why s is (inr refused) =
+    let full = (only_counts_stop t why).0 refused in
+    inr (is ∙ ap of_fault full, inl (refused ∙ ap (λ (x : TermFault). Err x) full))
+
+pub stops_flush : (t : PlainTerminal) (why : TermFault) (s : Stop) → s ≡ of_fault why → (why ≡ fault.OutOfMemory) ⊎ (flush_of t ≡ Err why)
+    → (s ≡ stop.Memory) ⊎ ((s ≡ stop.Term 8) × IsFullUp t)
+stops_flush t why s is (inl memory) = inl (is ∙ ap of_fault memory)
+stops_flush t why s is (inr refused) =
+    let full = (only_counts_stop t why).1 refused in
+    inr (is ∙ ap of_fault full, inr (refused ∙ ap (λ (x : TermFault). Err x) full))

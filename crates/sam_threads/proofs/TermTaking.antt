@@ -1,7 +1,8 @@
 -- What is kept of the terminal's worker as it takes entries.
-use Rattle.std.proofs.Common.{◌≡◌, ◌⊎◌, inl, inr, refl, sym, ap, subst, ◌∙◌, ℕ, zero, suc, ◌+◌, ◌<◌, ◌≤◌, Bool, true, false, if◌then◌else◌, List, [], ◌∷◌, ◌++◌, Option, Some, None, is_some, append_assoc, append-nil, arith}
+use Rattle.std.proofs.Common.{◌≡◌, ◌≢◌, ◌⊎◌, inl, inr, refl, sym, ap, subst, ◌∙◌, ℕ, zero, suc, ◌+◌, ◌<◌, ◌≤◌, Bool, true, false, if◌then◌else◌, List, [], ◌∷◌, ◌++◌, Option, Some, None, is_some, append_assoc, append-nil, arith}
 use Rattle.std.specs.Global.{Vec}
 use Rattle.std.proofs.lemmas.Grind.{flat_map-append}
+use Rattle.std.proofs.lemmas.Option.{same_Some}
 use Rattle.sam_mesg.specs.declared.tmesg.Tmesg.{Tmesg}
 use Rattle.sam_mesg.specs.declared.hmesg.HFrame.{HFrame}
 use Rattle.sam_mesg.specs.TerminalKinds.{FitsT}
@@ -28,7 +29,8 @@ use Rattle.sam_threads.specs.declared.input.Input.TheVariants.{User, Host}
 use Rattle.sam_threads.specs.declared.stop.Stop.{Stop}
 use Rattle.sam_threads.specs.declared.stop.Stop.TheVariants as stop
 use Rattle.sam_threads.proofs.TermSteps.{did_nothing}
-use Rattle.sam_threads.proofs.TermKeeping.{runs_on, users_on, whole, sent_on, each_append, none_of}
+use Rattle.sam_threads.proofs.Cut.{each_append}
+use Rattle.sam_threads.proofs.TermKeeping.{runs_on, users_on, whole, all_handled, sent_on, none_of}
 
 -- ## Marks
 
@@ -50,6 +52,9 @@ left_now h = ap (λ (x : List (Option Input)). has_mark x) (loads-append 0 h (re
 
 pub left_now_1 : (h : List (Entry Input)) → has_left 1 (h ++ record { sender = 1; load = None } ∷ []) ≡ true
 left_now_1 h = ap (λ (x : List (Option Input)). has_mark x) (loads-append 1 h (record { sender = 1; load = None } ∷ [])) ∙ mark_comes (loads 1 h)
+
+left_now_2 : (h : List (Entry Input)) → has_left 2 (h ++ record { sender = 2; load = None } ∷ []) ≡ true
+left_now_2 h = ap (λ (x : List (Option Input)). has_mark x) (loads-append 2 h (record { sender = 2; load = None } ∷ [])) ∙ mark_comes (loads 2 h)
 
 -- ## An entry that is handled
 
@@ -97,10 +102,11 @@ kept_entry : (v : SideView) (line : TakeView Input) (e : Entry Input) (desk : De
     → (v.keyboard_left ≡ true → k ≡ true) → (v.mouse_left ≡ true → m ≡ true)
     → (k ≡ true → (v.keyboard_left ≡ true) ⊎ (e ≡ record { sender = 0; load = None }))
     → (m ≡ true → (v.mouse_left ≡ true) ⊎ (e ≡ record { sender = 1; load = None }))
+    → (why ≡ Some stop.PeerGone → e ≡ record { sender = 2; load = None })
     → Ran (record { take = line; post = v.post; desk = desk; outbox = outbox; keyboard_left = k; mouse_left = m; exit_put = v.exit_put; stop = why })
-kept_entry v line e desk outbox k m why ms lost r running next d of_user fit grown so_far keeps_k keeps_m new_k new_m =
+kept_entry v line e desk outbox k m why ms lost r running next d of_user fit grown so_far keeps_k keeps_m new_k new_m gone =
     let none = whole v r running in
-    let all : v.take.taken ≡ r.handled = r.took ∙ (ap (λ (x : List (Entry Input)). r.handled ++ x) none.0 ∙ append-nil r.handled) in
+    let all = all_handled v r running in
     let frames : frames_in r.handled ++ frame_of_load e.load ≡ frames_in (r.handled ++ e ∷ []) =
     ap (λ (x : List HFrame). frames_in r.handled ++ x) (sym (frames_one e)) ∙ sym (flat_map-append (λ (x : Entry Input). frame_of_load x.load) r.handled (e ∷ [])) in
     let users : users_in r.handled ++ user_of_load e.load ≡ users_in (r.handled ++ e ∷ []) =
@@ -131,6 +137,7 @@ kept_entry v line e desk outbox k m why ms lost r running next d of_user fit gro
       fit = each_append (FitsT 2) r.composed ms r.fit fit;
       sent = sent_on (bytes_of v.post.put) v.outbox r.lost outbox lost r.composed ms r.sent none.1 grown;
       so_far = so_far;
+      gone = λ is. subst (λ (x : Entry Input). has_left 2 (r.handled ++ x ∷ []) ≡ true) (sym (gone is)) (left_now_2 r.handled);
     }
 
 -- an item was handled, and its messages were encoded
@@ -144,7 +151,7 @@ kept_item v line sender input desk outbox ms r running next d of_user fit grown 
     (λ (x : Option Stop). Ran (record { take = line; post = v.post; desk = desk; outbox = outbox; keyboard_left = v.keyboard_left; mouse_left = v.mouse_left; exit_put = v.exit_put; stop = x }))
     (sym (none_of v.stop running))
     (kept_entry v line (record { sender = sender; load = Some input }) desk outbox v.keyboard_left v.mouse_left None ms [] r (none_of v.stop running) next d of_user fit
-    (append-nil outbox ∙ grown) (refl, refl) (λ is. is) (λ is. is) (λ is. inl is) (λ is. inl is))
+    (append-nil outbox ∙ grown) (refl, refl) (λ is. is) (λ is. is) (λ is. inl is) (λ is. inl is) (λ is. absurd (cc)))
 
 half : (before after : List ℕ) (ns : List Tmesg) (q : Encodes before after ns) → after ++ q.lost ≡ before ++ stream_of terminal ns
 half before after ns q = ap (λ (x : List ℕ). x ++ q.lost) q.grown ∙ (append_assoc before q.added q.lost ∙ ap (λ (x : List ℕ). before ++ x) q.all)
@@ -157,19 +164,20 @@ pub kept_half_item : (v : SideView) (line : TakeView Input) (sender : ℕ) (inpu
     → Ran (record { take = line; post = v.post; desk = desk; outbox = outbox; keyboard_left = v.keyboard_left; mouse_left = v.mouse_left; exit_put = v.exit_put; stop = Some stop.Memory })
 kept_half_item v line sender input desk outbox ms r running next d of_user fit e =
     kept_entry v line (record { sender = sender; load = Some input }) desk outbox v.keyboard_left v.mouse_left (Some stop.Memory) ms e.lost r (none_of v.stop running) next d of_user fit
-    (half v.outbox outbox ms e) tt (λ is. is) (λ is. is) (λ is. inl is) (λ is. inl is)
+    (half v.outbox outbox ms e) tt (λ is. is) (λ is. is) (λ is. inl is) (λ is. inl is) (λ is. absurd (let same : stop.Memory ≡ stop.PeerGone = cc in cc))
 
 mark_handled : (v : SideView) (line : TakeView Input) (e : Entry Input) (k m : Bool) (why : Option Stop) → Ran v → v.stop ≡ None → TakesNext v.take e line → e.load ≡ None
     → SoFar v.desk.term [] [] why
     → (v.keyboard_left ≡ true → k ≡ true) → (v.mouse_left ≡ true → m ≡ true)
     → (k ≡ true → (v.keyboard_left ≡ true) ⊎ (e ≡ record { sender = 0; load = None }))
     → (m ≡ true → (v.mouse_left ≡ true) ⊎ (e ≡ record { sender = 1; load = None }))
+    → (why ≡ Some stop.PeerGone → e ≡ record { sender = 2; load = None })
     → Ran (record { take = line; post = v.post; desk = v.desk; outbox = v.outbox; keyboard_left = k; mouse_left = m; exit_put = v.exit_put; stop = why })
-mark_handled v line e k m why r running next mark so_far keeps_k keeps_m new_k new_m =
+mark_handled v line e k m why r running next mark so_far keeps_k keeps_m new_k new_m gone =
     let nothing : Did v.desk v.desk [] [] [] = did_nothing v.desk v.desk refl in
     let d : Did v.desk v.desk (user_of_load e.load) (frame_of_load e.load) [] =
     subst (λ (x : Option Input). Did v.desk v.desk (user_of_load x) (frame_of_load x) []) (sym mark) nothing in
-    kept_entry v line e v.desk v.outbox k m why [] [] r running next d (inl (ap (λ (x : Option Input). user_of_load x) mark)) tt refl so_far keeps_k keeps_m new_k new_m
+    kept_entry v line e v.desk v.outbox k m why [] [] r running next d (inl (ap (λ (x : Option Input). user_of_load x) mark)) tt refl so_far keeps_k keeps_m new_k new_m gone
 
 -- the keyboard, the mouse or the host reader has left
 pub kept_keyboard : (v : SideView) (line : TakeView Input) → Ran v → is_some v.stop ≡ false → TakesNext v.take (record { sender = 0; load = None }) line
@@ -178,7 +186,7 @@ kept_keyboard v line r running next =
     subst
     (λ (x : Option Stop). Ran (record { take = line; post = v.post; desk = v.desk; outbox = v.outbox; keyboard_left = true; mouse_left = v.mouse_left; exit_put = v.exit_put; stop = x }))
     (sym (none_of v.stop running))
-    (mark_handled v line (record { sender = 0; load = None }) true v.mouse_left None r (none_of v.stop running) next refl (refl, refl) (λ is. refl) (λ is. is) (λ is. inr refl) (λ is. inl is))
+    (mark_handled v line (record { sender = 0; load = None }) true v.mouse_left None r (none_of v.stop running) next refl (refl, refl) (λ is. refl) (λ is. is) (λ is. inr refl) (λ is. inl is) (λ is. absurd (cc)))
 
 pub kept_mouse : (v : SideView) (line : TakeView Input) → Ran v → is_some v.stop ≡ false → TakesNext v.take (record { sender = 1; load = None }) line
     → Ran (record { take = line; post = v.post; desk = v.desk; outbox = v.outbox; keyboard_left = v.keyboard_left; mouse_left = true; exit_put = v.exit_put; stop = v.stop })
@@ -186,7 +194,7 @@ kept_mouse v line r running next =
     subst
     (λ (x : Option Stop). Ran (record { take = line; post = v.post; desk = v.desk; outbox = v.outbox; keyboard_left = v.keyboard_left; mouse_left = true; exit_put = v.exit_put; stop = x }))
     (sym (none_of v.stop running))
-    (mark_handled v line (record { sender = 1; load = None }) v.keyboard_left true None r (none_of v.stop running) next refl (refl, refl) (λ is. is) (λ is. refl) (λ is. inl is) (λ is. inr refl))
+    (mark_handled v line (record { sender = 1; load = None }) v.keyboard_left true None r (none_of v.stop running) next refl (refl, refl) (λ is. is) (λ is. refl) (λ is. inl is) (λ is. inr refl) (λ is. absurd (cc)))
 
 pub kept_reader : (v : SideView) (line : TakeView Input) (sender : ℕ) → Ran v → is_some v.stop ≡ false → TakesNext v.take (record { sender = sender; load = None }) line
     → Ran (record { take = line; post = v.post; desk = v.desk; outbox = v.outbox; keyboard_left = v.keyboard_left; mouse_left = v.mouse_left; exit_put = v.exit_put; stop = v.stop })
@@ -194,21 +202,24 @@ kept_reader v line sender r running next =
     subst
     (λ (x : Option Stop). Ran (record { take = line; post = v.post; desk = v.desk; outbox = v.outbox; keyboard_left = v.keyboard_left; mouse_left = v.mouse_left; exit_put = v.exit_put; stop = x }))
     (sym (none_of v.stop running))
-    (mark_handled v line (record { sender = sender; load = None }) v.keyboard_left v.mouse_left None r (none_of v.stop running) next refl (refl, refl) (λ is. is) (λ is. is) (λ is. inl is) (λ is. inl is))
+    (mark_handled v line (record { sender = sender; load = None }) v.keyboard_left v.mouse_left None r (none_of v.stop running) next refl (refl, refl) (λ is. is) (λ is. is) (λ is. inl is) (λ is. inl is) (λ is. absurd (cc)))
 
 pub kept_gone : (v : SideView) (line : TakeView Input) (sender : ℕ) → Ran v → is_some v.stop ≡ false → TakesNext v.take (record { sender = sender; load = None }) line
-    → v.desk.term.has_exited ≡ false
+    → sender ≢ 0 → sender ≢ 1 → v.desk.term.has_exited ≡ false
     → Ran (record { take = line; post = v.post; desk = v.desk; outbox = v.outbox; keyboard_left = v.keyboard_left; mouse_left = v.mouse_left; exit_put = v.exit_put; stop = Some stop.PeerGone })
-kept_gone v line sender r running next open_still =
+kept_gone v line sender r running next not_zero not_one open_still =
+    let few = next.sender in
+    let three = r.senders in
+    let two : sender ≡ 2 = omega arith in
     mark_handled v line (record { sender = sender; load = None }) v.keyboard_left v.mouse_left (Some stop.PeerGone) r (none_of v.stop running) next refl open_still
-    (λ is. is) (λ is. is) (λ is. inl is) (λ is. inl is)
+    (λ is. is) (λ is. is) (λ is. inl is) (λ is. inl is) (λ _. ap (λ (n : ℕ). let e : Entry Input = record { sender = n; load = None } in e) two)
 
 -- ## An entry that is dropped
 
 pub kept_dropped : (v : SideView) (line : TakeView Input) (e : Entry Input) (why : Stop) → Ran v → is_some v.stop ≡ false → TakesNext v.take e line
-    → SoFar v.desk.term (e ∷ []) [] (Some why)
+    → SoFar v.desk.term (e ∷ []) [] (Some why) → (why ≡ stop.PeerGone → ⊥)
     → Ran (record { take = line; post = v.post; desk = v.desk; outbox = v.outbox; keyboard_left = v.keyboard_left; mouse_left = v.mouse_left; exit_put = v.exit_put; stop = Some why })
-kept_dropped v line e why r running next so_far =
+kept_dropped v line e why r running next so_far here =
     let none = whole v r (none_of v.stop running) in
     record {
       handled = r.handled;
@@ -228,6 +239,7 @@ kept_dropped v line e why r running next so_far =
       fit = r.fit;
       sent = ap (λ (x : List ℕ). bytes_of v.post.put ++ (v.outbox ++ x)) (sym none.1) ∙ r.sent;
       so_far = so_far;
+      gone = λ is. absurd (here (same_Some why stop.PeerGone is));
     }
 
 not_handled : (t : PlainTerminal) (sender : ℕ) (input : Input) (why : Stop) → WasNotHandled t sender input why → SoFar t (record { sender = sender; load = Some input } ∷ []) [] (Some why)
@@ -238,16 +250,19 @@ not_handled t sender input stop.PeerGone w = absurd w
 not_handled t sender input stop.Gate w = tt
 not_handled t sender input stop.Memory w = tt
 
+still_there : (t : PlainTerminal) (sender : ℕ) (input : Input) (why : Stop) → WasNotHandled t sender input why → why ≡ stop.PeerGone → ⊥
+still_there t sender input why w is = subst (λ (x : Stop). WasNotHandled t sender input x) is w
+
 pub kept_refused : (v : SideView) (line : TakeView Input) (sender : ℕ) (input : Input) (why : Stop) → Ran v → is_some v.stop ≡ false
     → TakesNext v.take (record { sender = sender; load = Some input }) line → WasNotHandled v.desk.term sender input why
     → Ran (record { take = line; post = v.post; desk = v.desk; outbox = v.outbox; keyboard_left = v.keyboard_left; mouse_left = v.mouse_left; exit_put = v.exit_put; stop = Some why })
 kept_refused v line sender input why r running next w =
-    kept_dropped v line (record { sender = sender; load = Some input }) why r running next (not_handled v.desk.term sender input why w)
+    kept_dropped v line (record { sender = sender; load = Some input }) why r running next (not_handled v.desk.term sender input why w) (still_there v.desk.term sender input why w)
 
 pub kept_gated : (v : SideView) (line : TakeView Input) (sender : ℕ) (input : Input) → Ran v → is_some v.stop ≡ false
     → TakesNext v.take (record { sender = sender; load = Some input }) line
     → Ran (record { take = line; post = v.post; desk = v.desk; outbox = v.outbox; keyboard_left = v.keyboard_left; mouse_left = v.mouse_left; exit_put = v.exit_put; stop = Some stop.Gate })
-kept_gated v line sender input r running next = kept_dropped v line (record { sender = sender; load = Some input }) stop.Gate r running next tt
+kept_gated v line sender input r running next = kept_dropped v line (record { sender = sender; load = Some input }) stop.Gate r running next tt (λ is. cc)
 
 more_dropped : (dropped one : List (Entry Input)) (x : Entry Input) (more : List (Entry Input)) → dropped ≡ x ∷ more → dropped ++ one ≡ x ∷ (more ++ one)
 more_dropped dropped one x more e = ap (λ (y : List (Entry Input)). y ++ one) e
@@ -288,6 +303,7 @@ kept_dropping v line e r stopped next =
       fit = r.fit;
       sent = r.sent;
       so_far = any_stop v.desk.term r.dropped (e ∷ []) r.lost v.stop stopped r.so_far;
+      gone = r.gone;
     }
 
 pub still : (v : SideView) (line : TakeView Input) → Ran v → line ≡ v.take

@@ -28,23 +28,22 @@ exits v r false is = inl (r.own_is ∙ ap (λ (x : Bool). if x then Exit ∷ [] 
 empty_both : (xs ys : List ℕ) → xs ≡ [] → ys ≡ [] → xs ++ ys ≡ []
 empty_both xs ys e f = ap (λ (x : List ℕ). x ++ ys) e ∙ f
 
-stopped : (v : SideView) (e : TermEnd) (dropped : List (Entry Input)) (lost : List ℕ) (o : Option Stop) → e.take ≡ v.take → e.term ≡ v.desk.term → IsDone v → v.stop ≡ o
-    → SoFar v.desk.term dropped lost o → TermStopped e dropped (v.outbox ++ lost) o
-stopped v e dropped lost None take term d is s = (
-  subst (λ (x : TakeView Input). IsEnded 3 x.taken) (sym take) (d.ended is),
+stopped : (v : SideView) (e : TermEnd) (handled dropped : List (Entry Input)) (lost : List ℕ) (o : Option Stop) → e.take ≡ v.take → e.term ≡ v.desk.term → IsDone v → v.stop ≡ o
+    → SoFar v.desk.term dropped lost o → (v.stop ≡ Some stop.PeerGone → has_left 2 handled ≡ true) → TermStopped e handled dropped (v.outbox ++ lost) o
+stopped v e handled dropped lost None take term d is s gone = (
   s.0,
   empty_both v.outbox lost (d.sent is) s.1,
   subst (λ (x : PlainTerminal). x.has_exited ≡ true) (sym term) (d.exited is),
   subst (λ (x : PlainTerminal). x.held ≡ []) (sym term) (d.none_held is),
   subst (λ (x : PlainTerminal). x.unsent ≡ None) (sym term) (d.none_unsent is),
 )
-stopped v e dropped lost (Some (stop.Frame n)) take term d is s = s
-stopped v e dropped lost (Some (stop.Host n)) take term d is s = s
-stopped v e dropped lost (Some (stop.Term n)) take term d is s =
+stopped v e handled dropped lost (Some (stop.Frame n)) take term d is s gone = s
+stopped v e handled dropped lost (Some (stop.Host n)) take term d is s gone = s
+stopped v e handled dropped lost (Some (stop.Term n)) take term d is s gone =
     subst (λ (x : PlainTerminal). SoFar x dropped lost (Some (stop.Term n))) (sym term) s
-stopped v e dropped lost (Some stop.PeerGone) take term d is s = subst (λ (x : PlainTerminal). x.has_exited ≡ false) (sym term) s
-stopped v e dropped lost (Some stop.Gate) take term d is s = tt
-stopped v e dropped lost (Some stop.Memory) take term d is s = tt
+stopped v e handled dropped lost (Some stop.PeerGone) take term d is s gone = (subst (λ (x : PlainTerminal). x.has_exited ≡ false) (sym term) s, gone is)
+stopped v e handled dropped lost (Some stop.Gate) take term d is s gone = tt
+stopped v e handled dropped lost (Some stop.Memory) take term d is s gone = tt
 
 pub told : (v : SideView) (term : PlainTerminal) (log : Vec TermLog) (passed : Bool) → Ran v → IsDone v → record { term = term; log = log.items } ≡ v.desk
     → TermTold v.take.line v.post.line (record { take = v.take; post = v.post; term = term; log = log; passed = passed; stop = v.stop })
@@ -59,6 +58,7 @@ told v term log passed r d same =
       take_is = refl;
       post_is = refl;
       number_is = r.number;
+      drained = d.ended;
       took = r.took;
       runs = subst (λ (x : DeskView). TermRuns sides new_terminal x.log (frames_in r.handled) r.composed x.term) (sym same) r.runs;
       users = ap (λ (x : DeskView). logged_users x.log) same ∙ r.users;
@@ -66,5 +66,5 @@ told v term log passed r d same =
       fit = r.fit;
       sent = r.sent;
       closed = d.closed;
-      stopped = stopped v e r.dropped r.lost v.stop refl (ap (λ (x : DeskView). x.term) same) d refl r.so_far;
+      stopped = stopped v e r.handled r.dropped r.lost v.stop refl (ap (λ (x : DeskView). x.term) same) d refl r.so_far r.gone;
     }

@@ -1,5 +1,5 @@
 -- What the host's worker does between two moments.
-use Rattle.std.specs.Prelude.{◌≡◌, ℕ, ◌⊎◌, List, [], ◌∷◌, ◌++◌, Option, Some, None, Result, Ok, Err}
+use Rattle.std.specs.Prelude.{◌≡◌, ℕ, ◌+◌, ◌^◌, ◌≤◌, ◌⊎◌, List, [], ◌∷◌, ◌++◌, length, Option, Some, None, Result, Ok, Err}
 use Rattle.std.specs.Global.{Vec}
 use Rattle.sam_mesg.specs.declared.tmesg.Tmesg.{Tmesg}
 use Rattle.sam_mesg.specs.declared.hmesg.HFrame.{HFrame}
@@ -71,35 +71,36 @@ StopsBefore refuses h k before after messages number why =
 
 -- ## Pieces
 
--- why the host's worker stops before this rest of the stream
-abbrev pub Halts : Type 0 → PlainHost → ℕ → List ℕ → Stop → Type 0
-Halts refuses h version rest (stop.Frame n) = (n ≡ 7) ⊎ ((fault : MesgFault) × Shows terminal version rest fault × (n ≡ frame_number fault))
-Halts refuses h version rest (stop.Host n) = RefusesNext h rest n
-Halts refuses h version rest stop.Gate = refuses
-Halts refuses h version rest stop.Memory = Unit {0}
-Halts refuses h version rest other = ⊥
+-- why the host's worker stops before this rest of the stream, of which so many bytes came
+abbrev pub Halts : Type 0 → PlainHost → ℕ → ℕ → List ℕ → Stop → Type 0
+Halts refuses h version came rest (stop.Frame n) = ((n ≡ 7) × (2 ^ 64 ≤ came)) ⊎ ((fault : MesgFault) × Shows terminal version rest fault × (n ≡ frame_number fault))
+Halts refuses h version came rest (stop.Host n) = RefusesNext h rest n
+Halts refuses h version came rest stop.Gate = refuses
+Halts refuses h version came rest stop.Memory = Unit {0}
+Halts refuses h version came rest other = ⊥
 
--- the messages at the front of the bytes were handled, and the rest stops the worker
-pub record HandledFront (refuses : Type 0) (h k : PlainHost) (before after : PostView (Vec ℕ)) (version : ℕ) (bytes : List ℕ) (why : Stop) : Type 0 where
+-- the messages at the front of the bytes, with which so many of the stream came, were handled, and the rest stops the worker
+pub record HandledFront (refuses : Type 0) (h k : PlainHost) (before after : PostView (Vec ℕ)) (version came : ℕ) (bytes : List ℕ) (why : Stop) : Type 0 where
   pub handled : List Tmesg
   pub answered : List HFrame
   pub unput : List ℕ
   pub rest : List ℕ
   pub splits : Splits terminal version bytes handled rest
   pub did : Handled h k before after handled answered unput
-  pub halts : Halts refuses k (version_after terminal version handled) rest why
+  pub halts : Halts refuses k (version_after terminal version handled) came rest why
 
 abbrev pub TakesPiece : Type 0 → PlainHost → PlainHost → PostView (Vec ℕ) → PostView (Vec ℕ) → Held → Held → List ℕ → Result (Unit {0}) Stop → Type 0
 TakesPiece refuses h k before after held next piece (Ok done) =
     (messages : List Tmesg) × (answered : List HFrame) × GaveAll terminal held piece messages next × Handled h k before after messages answered []
-TakesPiece refuses h k before after held next piece (Err why) = HandledFront refuses h k before after held.version (held.bytes ++ piece) why
+TakesPiece refuses h k before after held next piece (Err why) =
+    HandledFront refuses h k before after held.version (held.offset + length held.bytes + length piece) (held.bytes ++ piece) why
 
 -- ## The whole
 
 -- why it came to its end: all that was put was taken, or what stopped it
 abbrev pub Ends : Type 0 → PlainHost → List (Entry (Vec ℕ)) → List Tmesg → List ℕ → List ℕ → Option Stop → Type 0
 Ends refuses h taken handled unput rest None = IsEnded 1 taken × (unput ≡ []) × IsOpen terminal (version_after terminal 1 handled) rest
-Ends refuses h taken handled unput rest (Some why) = Halts refuses h (version_after terminal 1 handled) rest why
+Ends refuses h taken handled unput rest (Some why) = Halts refuses h (version_after terminal 1 handled) (length (bytes_of (items_of 0 taken))) rest why
 
 -- what it has taken are the frames of the messages that it handled, and a rest
 pub record Serves (refuses : Type 0) (h k : PlainHost) (before after : PostView (Vec ℕ)) (taken : List (Entry (Vec ℕ))) (why : Option Stop) : Type 0 where

@@ -1,5 +1,5 @@
 -- What the host reader does with the pieces of the host's stream.
-use Rattle.std.specs.Prelude.{◌≡◌, ℕ, ◌⊎◌, List, ◌++◌, map, Option, Some, None}
+use Rattle.std.specs.Prelude.{◌≡◌, ℕ, ◌+◌, ◌^◌, ◌≤◌, ◌⊎◌, List, ◌++◌, length, map, Option, Some, None}
 use Rattle.std.specs.Global.{Vec}
 use Rattle.sam_mesg.specs.declared.hmesg.HFrame.{HFrame}
 use Rattle.sam_mesg.specs.declared.fault.MesgFault.{MesgFault}
@@ -30,25 +30,25 @@ abbrev pub SendsBefore : List HFrame → ℕ → PostView Input → PostView Inp
 SendsBefore frames n p q None = ⊥
 SendsBefore frames n p q (Some s) = Sends frames p q (Some s) ⊎ (Sends frames p q None × (s ≡ stop.Frame n))
 
--- what stands behind the frames that were sent on stops the reader so
-abbrev pub StopsBehind : ℕ → List ℕ → Stop → Type 0
-StopsBehind version rest (stop.Frame n) = (n ≡ 7) ⊎ ((fault : MesgFault) × Shows host version rest fault × (n ≡ frame_number fault))
-StopsBehind version rest (stop.Host n) = ⊥
-StopsBehind version rest (stop.Term n) = ⊥
-StopsBehind version rest stop.PeerGone = ⊥
-StopsBehind version rest stop.Gate = Unit {0}
-StopsBehind version rest stop.Memory = Unit {0}
+-- what stands behind the frames that were sent on stops the reader so, once so many bytes of the stream came
+abbrev pub StopsBehind : ℕ → ℕ → List ℕ → Stop → Type 0
+StopsBehind version came rest (stop.Frame n) = ((n ≡ 7) × (2 ^ 64 ≤ came)) ⊎ ((fault : MesgFault) × Shows host version rest fault × (n ≡ frame_number fault))
+StopsBehind version came rest (stop.Host n) = ⊥
+StopsBehind version came rest (stop.Term n) = ⊥
+StopsBehind version came rest stop.PeerGone = ⊥
+StopsBehind version came rest stop.Gate = Unit {0}
+StopsBehind version came rest stop.Memory = Unit {0}
 
 -- the frames that are whole with the piece were sent on, all of them where nothing stopped it
 abbrev pub PassesPiece : Held → List ℕ → Held → PostView Input → PostView Input → Option Stop → Type 0
 PassesPiece h piece k p q None = (frames : List HFrame) × GaveAll host h piece frames k × (q ≡ sent_on p frames)
 PassesPiece h piece k p q (Some s) =
     (frames : List HFrame) × (rest : List ℕ) × Splits host h.version (h.bytes ++ piece) frames rest × (q ≡ sent_on p frames)
-    × StopsBehind (version_after host h.version frames) rest s
+    × StopsBehind (version_after host h.version frames) (h.offset + length h.bytes + length piece) rest s
 
 abbrev pub PassStops : List (Entry (Vec ℕ)) → List HFrame → List ℕ → Option Stop → Type 0
 PassStops taken frames rest None = IsEnded 1 taken × IsOpen host (version_after host 1 frames) rest
-PassStops taken frames rest (Some s) = StopsBehind (version_after host 1 frames) rest s
+PassStops taken frames rest (Some s) = StopsBehind (version_after host 1 frames) (length (bytes_of (items_of 0 taken))) rest s
 
 -- the pieces that were taken are the frames that were sent on, and a rest
 pub record Passes (t u : TakeView (Vec ℕ)) (p q : PostView Input) (s : Option Stop) : Type 0 where

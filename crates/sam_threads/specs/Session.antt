@@ -3,17 +3,21 @@ use Rattle.std.specs.Prelude.{◌≡◌, ℕ, [], map, Some, None}
 use Rattle.sam_script.specs.Script.{PlainScript, keys_of, mouse_of}
 use Rattle.sam_world.specs.Streams.{Begins}
 use Rattle.sam_world.specs.World.{new_world, run_of}
-use Rattle.sam_threads.specs.Told.{GatesTold}
+use Rattle.sam_threads.specs.Lines.{LinesView}
+use Rattle.sam_threads.specs.Told.{Told, AllPassed, GatesTold}
 use Rattle.sam_threads.specs.Headline.{Headline}
 use Rattle.sam_threads.specs.Settled.{counts_left, stops_of, AreFull, HasUsers, IsWhole}
 use Rattle.sam_threads.specs.declared.input.Input.TheVariants.{User}
 use Rattle.sam_threads.specs.declared.ends.Ends.{Ends}
 use Rattle.sam_threads.specs.declared.settled.Settled.{Settled}
 
--- It was settled from the ends of a session in which the host began with the script's files, and keyboard and mouse put the first events that the
+-- It was settled from the ends of a session in which each worker began and told this, the host began with the script's files, and keyboard and mouse put the first events that the
 -- script has of each: all of them where nothing stopped that worker
 pub record IsSession (script : PlainScript) (refuses : ℕ → Type 0) (s : Settled) : Type 0 where
   pub ends : Ends
+  pub lines : LinesView
+  pub told : Told (keys_of script.lines) (mouse_of script.lines) lines ends
+  pub begun : AllPassed ends
   pub headline : Headline ends s
   pub run : run_of (new_world script.files) s.schedule.items ≡ Some s.world
   pub states : (s.host ≡ s.world.host) × (s.term ≡ s.world.term)

@@ -11,6 +11,7 @@ use Rattle.sam_term.specs.Term.{PlainTerminal, new_terminal, take_of}
 use Rattle.sam_term.specs.declared.event.UserEvent.{UserEvent}
 use Rattle.sam_term.specs.declared.event.UserEvent.TheVariants.{Exit}
 use Rattle.sam_term.specs.declared.fault.TermFault.{TermFault}
+use Rattle.sam_term.specs.declared.fault.TermFault.TheVariants as fault
 use Rattle.sam_world.specs.declared.event.TermLog.{TermLog}
 use Rattle.sam_world.specs.Logs.{logged_users}
 use Rattle.sam_world.specs.Sides.{Each, TermRuns}
@@ -20,7 +21,7 @@ use Rattle.sam_queue.specs.Views.{LineView, TakeView, PostView}
 use Rattle.sam_threads.specs.RealSides.{sides}
 use Rattle.sam_threads.specs.Numbers.{fault_number}
 use Rattle.sam_threads.specs.Inputs.{bytes_of, frames_in, users_in, frame_of_load, user_of_load}
-use Rattle.sam_threads.specs.Told.{RefusesFrame, IsForeign}
+use Rattle.sam_threads.specs.Told.{RefusesFrame, IsForeign, IsFullUp}
 use Rattle.sam_threads.specs.declared.input.Input.{Input}
 use Rattle.sam_threads.specs.declared.input.Input.TheVariants.{User, Host}
 use Rattle.sam_threads.specs.declared.term_side.Found.{Found}
@@ -42,6 +43,11 @@ pub record Did (a b : DeskView) (events : List UserEvent) (frames : List HFrame)
   pub users : logged_users entries ≡ events
   pub runs : TermRuns sides a.term entries frames composed b.term
   pub fit : All (λ m. IsTrue (fits_t 2 m)) composed
+
+-- what a fault of the terminal is for its worker
+abbrev pub of_fault : TermFault → Stop
+of_fault fault.OutOfMemory = stop.Memory
+of_fault why = stop.Term (fault_number why)
 
 -- memory was wanted, or the terminal refuses the frame
 abbrev pub IsRefusedWith : PlainTerminal → HFrame → Stop → Type 0
@@ -77,7 +83,7 @@ abbrev pub SoFar : PlainTerminal → List (Entry Input) → List ℕ → Option 
 SoFar t dropped lost None = (dropped ≡ []) × (lost ≡ [])
 SoFar t dropped lost (Some (stop.Frame n)) = IsForeign dropped n
 SoFar t dropped lost (Some (stop.Host n)) = ⊥
-SoFar t dropped lost (Some (stop.Term n)) = (n ≡ 8) ⊎ RefusesFrame t dropped n
+SoFar t dropped lost (Some (stop.Term n)) = ((n ≡ 8) × IsFullUp t) ⊎ RefusesFrame t dropped n
 SoFar t dropped lost (Some stop.PeerGone) = t.has_exited ≡ false
 SoFar t dropped lost (Some stop.Gate) = Unit {0}
 SoFar t dropped lost (Some stop.Memory) = Unit {0}
@@ -102,6 +108,7 @@ pub record Ran (v : SideView) : Type 0 where
   pub fit : Each (FitsT 2) composed
   pub sent : bytes_of v.post.put ++ (v.outbox ++ lost) ≡ stream_of terminal composed
   pub so_far : SoFar v.desk.term dropped lost v.stop
+  pub gone : v.stop ≡ Some stop.PeerGone → has_left 2 handled ≡ true
 
 -- it stays at its lines, has taken nothing more, and was not stopped by its gate
 pub record Goes (a b : SideView) : Type 0 where
@@ -109,10 +116,10 @@ pub record Goes (a b : SideView) : Type 0 where
   pub line : b.post.line ≡ a.post.line
   pub gate : b.stop ≡ Some stop.Gate → a.stop ≡ Some stop.Gate
 
--- it has closed, and where nothing stopped it, all is done
+-- it has closed and taken all that came, and where nothing stopped it, all is done
 pub record IsDone (v : SideView) : Type 0 where
   pub closed : v.post.closed ≡ true
-  pub ended : v.stop ≡ None → IsEnded 3 v.take.taken
+  pub ended : IsEnded 3 v.take.taken
   pub sent : v.stop ≡ None → v.outbox ≡ []
   pub exited : v.stop ≡ None → v.desk.term.has_exited ≡ true
   pub none_held : v.stop ≡ None → v.desk.term.held ≡ []

@@ -18,6 +18,7 @@ ghost use Rattle.sam_threads.specs.Handling.{HandlesAll, StopsBefore, TakesPiece
 ghost use Rattle.sam_threads.specs.Told.{HostTold};
 ghost use Rattle.sam_threads.specs.declared.stop.Stop.TheVariants.{Gate as GateStop};
 
+use crate::drain::drop_rest;
 use crate::ends::HostEnd;
 use crate::gate::Gate;
 use crate::pieces::send_pieces;
@@ -238,20 +239,6 @@ impl HostSide<'_> {
     }
 }
 
-/// Takes and drops what comes until the end mark.
-fn drop_rest<R: Wait>(rt: &R, take: &mut Take<Vec<u8>>)
-    ensures line { take.new.line ≡ take.old.line }
-    ensures taken { (more : List (Entry (Vec ℕ))) × (take.new.taken ≡ take.old.taken ++ more) }
-    ensures ended { IsEnded take.new.line.senders take.new.taken }
-{
-    for _ in rt.forever() {
-        if let Got::Ended = take.recv(rt) {
-            return;
-        }
-    }
-    unreachable!()
-}
-
 /// Takes and drops the rest where something stopped the worker. Where nothing did, the end mark was taken already.
 fn drop_after<R: Wait>(rt: &R, take: &mut Take<Vec<u8>>, stop: Option<Stop>)
     requires { stop ≡ None → IsEnded take.old.line.senders take.old.taken }
@@ -287,7 +274,6 @@ pub(crate) fn serve_host<'q, R: Wait, G: Gate>(
     ensures files { result.files.items ≡ files.items }
     ensures begins { result.passed ≡ false → G.may_refuse gate.now 2 }
     ensures way { result.stop ≡ Some GateStop → G.may_refuse gate.now 2 }
-    ensures drained { IsEnded 1 result.take.taken }
 {
     let mut take = take;
     let mut side = HostSide {

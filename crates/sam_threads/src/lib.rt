@@ -1,6 +1,7 @@
 //! The five threads of a session: keyboard, mouse, host, host reader and terminal, and the lines between them.
 #![tactic(auto)]
 
+mod drain;
 mod ends;
 mod feeding;
 mod gate;

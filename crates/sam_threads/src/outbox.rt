@@ -6,9 +6,8 @@ ghost use Rattle.sam_mesg.specs.TerminalKinds.{fits_t, FitsT};
 ghost use Rattle.sam_frame.specs.Direction.{terminal};
 ghost use Rattle.sam_frame.specs.Stream.{stream_of};
 ghost use Rattle.sam_world.specs.Sides.{Each};
-ghost use Rattle.sam_queue.specs.Views.{IsSamePost};
-ghost use Rattle.sam_threads.specs.Inputs.{bytes_of};
-ghost use Rattle.sam_threads.specs.Outboxes.{piece_bytes, Encodes};
+ghost use Rattle.sam_threads.specs.Cutting.{PutSome};
+ghost use Rattle.sam_threads.specs.Outboxes.{piece_bytes, IsCut, Encodes};
 
 use sam_mesg::{MesgFault, Tmesg, encode_t};
 use sam_queue::{Post, Refused};
@@ -100,6 +99,7 @@ impl Uncut {
     fn cut(&mut self, alloc: Global, most: usize) -> Result<Option<Vec<u8>>, AllocError>
         requires { 0 < most }
         ensures cut { IfOk result (λ piece. self.old ≡ piece_bytes piece ++ self.new) }
+        ensures sizes { IfOk result (IsCut most) }
         ensures unchanged { OnErr result (self.new ≡ self.old) }
     {
         let len = most.min(self.bytes.len() - self.start);
@@ -114,30 +114,36 @@ impl Uncut {
     }
 }
 
-/// The bytes of messages that were not yet put. Contracts see them as one list.
+/// The bytes of messages that were not yet put. Contracts see them as one list, and how long a piece may be.
 #[derive(Drop)]
 pub(crate) struct Outbox {
     alloc: Global,
+    most: usize,
     // The piece that is next, where it was cut and the line was full.
     ready: Option<Vec<u8>>,
     rest: Uncut,
 }
 
 impl Model for Outbox {
-    ghost use Rattle.std.specs.Prelude.{ℕ, List, ◌++◌};
-    ghost use Rattle.sam_threads.specs.Outboxes.{piece_bytes};
+    ghost use Rattle.std.specs.Prelude.{◌<◌, ◌++◌};
+    ghost use Rattle.sam_threads.specs.Outboxes.{OutboxView, piece_bytes, IsCut};
 
-    ghost Value = { List ℕ };
+    ghost Value = { OutboxView };
 
-    ghost view = { λ o. piece_bytes o.ready ++ o.rest };
+    ghost view = { λ o. record { bytes = piece_bytes o.ready ++ o.rest; most = o.most } };
+
+    ghost invariant = { λ o. (0 < o.most) × IsCut o.most o.ready };
 }
 
 impl Outbox {
-    pub(crate) fn new(alloc: Global) -> Outbox
-        ensures { result ≡ [] }
+    /// An empty one, of which pieces of at most so many bytes are put.
+    pub(crate) fn new(alloc: Global, most: usize) -> Outbox
+        requires { 0 < most }
+        ensures { result ≡ record { bytes = []; most = most } }
     {
         Outbox {
             alloc,
+            most,
             ready: None,
             rest: Uncut::new(alloc),
         }
@@ -145,7 +151,7 @@ impl Outbox {
 
     /// Whether there is nothing to put.
     pub(crate) fn is_empty(&self) -> bool
-        ensures { IsTrue result → self.now ≡ [] }
+        ensures { IsTrue result → self.now.bytes ≡ [] }
     {
         self.ready.is_none() && self.rest.is_empty()
     }
@@ -155,30 +161,29 @@ impl Outbox {
     pub(crate) fn push_all(&mut self, messages: &[Tmesg]) -> Result<(), MesgFault>
         requires { All (λ m. IsTrue (fits_t 2 m)) messages.now }
         ensures fit { Each (FitsT 2) messages.now }
-        ensures encoded { OnOk result (self.new ≡ self.old ++ stream_of terminal messages.now) }
-        ensures begun { Encodes self.old self.new messages.now }
+        ensures encoded { OnOk result (self.new.bytes ≡ self.old.bytes ++ stream_of terminal messages.now) }
+        ensures begun { Encodes self.old.bytes self.new.bytes messages.now }
+        ensures most { self.new.most ≡ self.old.most }
     {
         know_all(messages);
         self.rest.push_all(messages)
     }
 
-    /// Puts the next piece, of at most so many bytes, if the line has room for it. False says that nothing was put.
+    #[tactic(auto, using(crate::proofs::Outboxes::none_put, crate::proofs::Outboxes::one_put))]
+    /// Puts the next piece, if the line has room for it. False says that nothing was put.
     pub(crate) fn put<R: Wait>(
         &mut self,
         rt: &R,
         post: &mut Post<Vec<u8>>,
-        most: usize,
     ) -> Result<bool, AllocError>
-        requires { 0 < most }
-        ensures post { IsSamePost post.old post.new }
-        ensures closed { post.new.closed ≡ post.old.closed }
-        ensures put { bytes_of post.new.put ++ self.new ≡ bytes_of post.old.put ++ self.old }
+        ensures puts { PutSome self.old.most post.old post.new self.old.bytes self.new.bytes }
         ensures nothing { IfOk result (λ put. OnFalse put (post.new ≡ post.old)) }
         ensures unchanged { OnErr result (self.new ≡ self.old) }
+        ensures most { self.new.most ≡ self.old.most }
     {
         let next = match self.ready.take() {
             Some(piece) => Some(piece),
-            None => self.rest.cut(self.alloc, most)?,
+            None => self.rest.cut(self.alloc, self.most)?,
         };
         let Some(piece) = next else {
             return Ok(false);

@@ -1,11 +1,11 @@
 //! The host reader's worker.
 
 ghost use Rattle.std.specs.Prelude.{◌≡◌, false, Some};
-ghost use Rattle.sam_queue.specs.History.{StartsWith};
 ghost use Rattle.sam_queue.specs.Views.{new_post, new_take};
 ghost use Rattle.sam_threads.specs.Passing.{Sends, SendsBefore, PassesPiece, Passes};
 ghost use Rattle.sam_threads.specs.Told.{ReaderTold};
 
+use crate::drain::drop_rest;
 use crate::ends::ReaderEnd;
 use crate::gate::Gate;
 use crate::input::Input;
@@ -75,19 +75,6 @@ fn leave<'q, R: Wait>(
         passed,
         stop: Some(stop),
     }
-}
-
-/// Takes and drops until each sender has left.
-fn drop_rest<T: Drop, R: Wait>(rt: &R, take: &mut Take<T>)
-    ensures line { take.new.line ≡ take.old.line }
-    ensures taken { StartsWith take.new.taken take.old.taken }
-{
-    for _turn in rt.forever() {
-        if let Got::Ended = take.recv(rt) {
-            return;
-        }
-    }
-    unreachable!()
 }
 
 /// Sends on the frames of the pieces that come, until the host has left or something stops it, which is answered.

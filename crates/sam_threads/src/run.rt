@@ -1,9 +1,9 @@
 //! Running the five threads: none begins before all are started.
-ghost use Rattle.std.specs.Prelude.{◌≡◌, ◌<◌, IfOk, IsFalse, Err};
+ghost use Rattle.std.specs.Prelude.{◌≡◌, ◌<◌, IfOk, IsTrue, IsFalse, Err};
 ghost use Rattle.sam_script.specs.Script.{keys_of, mouse_of};
 ghost use Rattle.sam_threads.specs.Promised.{AllKept, SomeRefused};
 ghost use Rattle.sam_threads.specs.Seats.{AreReady};
-ghost use Rattle.sam_threads.specs.Told.{Told, GatesTold, RefusesSome};
+ghost use Rattle.sam_threads.specs.Told.{Told, AllPassed, GatesTold, RefusesSome};
 ghost use Rattle.sam_threads.specs.declared.run.RunFault.TheVariants.{GateTimedOut};
 
 use crate::ends::Ends;
@@ -47,6 +47,7 @@ pub fn run_ends<'q, R: Threads + Wait + Sync, G: Gate>(
     requires piece { 0 < piece }
     ensures ends { IfOk result (Told (keys_of script.now.lines) (mouse_of script.now.lines) lines.now) }
     ensures files { IfOk result (λ e. e.host.files.items ≡ script.now.files) }
+    ensures begun { IfOk result AllPassed }
     ensures gates { IfOk result (GatesTold (G.may_refuse gate.now)) }
     ensures timed { result ≡ Err RunFault.GateTimedOut → RefusesSome (G.may_refuse gate.now) }
 {
@@ -61,6 +62,7 @@ pub fn run_ends<'q, R: Threads + Wait + Sync, G: Gate>(
         move |scope| -> Result<Ends<'_>, RunFault>
             requires { (0 < piece) × AreReady seats.lines.now seats }
             ensures ends { IfOk result (AllKept (G.may_refuse gate.entry.now) seats.entry.keyboard.events.items seats.entry.mouse.events.items seats.entry.host.files.items seats.entry.lines.now) }
+            ensures begun { IfOk result AllPassed }
             ensures timed { result ≡ Err RunFault.GateTimedOut → RefusesSome (G.may_refuse gate.entry.now) }
         { run_all(scope, rt, alloc, start, gate, piece, seats) },
     )
@@ -79,6 +81,7 @@ fn run_all<'s, 'e: 's, 'q: 's, R: Threads + Wait + Sync, G: Gate>(
     requires piece { 0 < piece }
     requires seats { AreReady seats.lines.now seats }
     ensures ends { IfOk result (AllKept (G.may_refuse gate.now) seats.entry.keyboard.events.items seats.entry.mouse.events.items seats.entry.host.files.items seats.entry.lines.now) }
+    ensures begun { IfOk result AllPassed }
     ensures timed { result ≡ Err RunFault.GateTimedOut → RefusesSome (G.may_refuse gate.now) }
 {
     let handles = spawn_all(scope, rt, alloc, start, gate, piece, seats);
@@ -97,7 +100,8 @@ fn run_all<'s, 'e: 's, 'q: 's, R: Threads + Wait + Sync, G: Gate>(
 
 /// Whether each worker's gate let it begin.
 fn all_passed(ends: &Ends) -> bool
-    ensures { IsFalse result → SomeRefused ends.now }
+    ensures passed { IsTrue result → AllPassed ends.now }
+    ensures refused { IsFalse result → SomeRefused ends.now }
 {
     ends.keyboard.passed
         && ends.mouse.passed

@@ -6,7 +6,8 @@ ghost use Rattle.sam_term.specs.Term.{new_terminal, act_of, take_of};
 ghost use Rattle.sam_world.specs.World.{composed_by};
 ghost use Rattle.sam_threads.specs.Inputs.{frame_of_load, user_of_load};
 ghost use Rattle.sam_threads.specs.Numbers.{fault_number};
-ghost use Rattle.sam_threads.specs.TermMoments.{Did, WasNotHandled, IsRefusedWith, IsOfUser};
+ghost use Rattle.sam_threads.specs.Told.{IsFullUp};
+ghost use Rattle.sam_threads.specs.TermMoments.{of_fault, Did, WasNotHandled, IsRefusedWith, IsOfUser};
 
 use crate::input::Input;
 use crate::stop::Stop;
@@ -32,6 +33,16 @@ impl Model for Desk {
     ghost Value = { DeskView };
 
     ghost view = { λ d. record { term = d.term; log = d.log.items } };
+}
+
+// What a fault is for the worker.
+fn stop_of(fault: TermFault) -> Stop
+    ensures { result ≡ of_fault fault }
+{
+    match fault {
+        TermFault::OutOfMemory => Stop::Memory,
+        fault => Stop::Term(fault as u8),
+    }
 }
 
 // The number of a fault.
@@ -107,11 +118,11 @@ impl Desk {
     }
 
     #[tactic(auto, using(crate::proofs::TermSteps::did_done, crate::proofs::TermSteps::did_refused, crate::proofs::TermSteps::did_idle, crate::proofs::TermSteps::did_locked, crate::proofs::TermSteps::idle_holds_none))]
-    /// Tries the oldest event that is held.
+    /// Tries the oldest event that is held. Besides want of memory only a full count refuses that.
     pub(crate) fn act(&mut self) -> Result<Acted, Stop>
         ensures acted { IfOk result (λ acted. Did self.old self.new [] [] (composed_by acted)) }
         ensures idle { result ≡ Ok Acted.Idle → self.new.term.held ≡ [] }
-        ensures refused { IfErr result (λ why. (why ≡ Stop.Memory) ⊎ (why ≡ Stop.Term 8)) }
+        ensures refused { IfErr result (λ why. (why ≡ Stop.Memory) ⊎ ((why ≡ Stop.Term 8) × IsFullUp self.old.term)) }
         ensures unchanged { OnErr result (self.new ≡ self.old) }
     {
         if self.log.reserve(1).is_err() {
@@ -129,17 +140,15 @@ impl Desk {
             }
             Ok(Acted::Idle) => Ok(Acted::Idle),
             Ok(Acted::Locked) => Ok(Acted::Locked),
-            Err(TermFault::OutOfMemory) => Err(Stop::Memory),
-            // An act's only other fault is that of the count.
-            Err(_) => Err(Stop::Term(8)),
+            Err(fault) => Err(stop_of(fault)),
         }
     }
 
     #[tactic(auto, using(crate::proofs::TermSteps::did_flush))]
-    /// Composes the unsent runes.
+    /// Composes the unsent runes. Besides want of memory only a full count refuses that.
     pub(crate) fn flush(&mut self) -> Result<Batch, Stop>
         ensures flushed { IfOk result (λ composed. Did self.old self.new [] [] composed) }
-        ensures refused { IfErr result (λ why. (why ≡ Stop.Memory) ⊎ (why ≡ Stop.Term 8)) }
+        ensures refused { IfErr result (λ why. (why ≡ Stop.Memory) ⊎ ((why ≡ Stop.Term 8) × IsFullUp self.old.term)) }
         ensures unchanged { OnErr result (self.new ≡ self.old) }
     {
         if self.log.reserve(1).is_err() {
@@ -151,9 +160,7 @@ impl Desk {
                 self.log.push_reserved(TermLog::Flush);
                 Ok(batch)
             }
-            Err(TermFault::OutOfMemory) => Err(Stop::Memory),
-            // A flush's only other fault is that of the count.
-            Err(_) => Err(Stop::Term(8)),
+            Err(fault) => Err(stop_of(fault)),
         }
     }
 

@@ -38,13 +38,6 @@ enum Tried {
     Stopped,
 }
 
-/// How many bytes a piece may have.
-#[derive(Drop)]
-struct Piece {
-    most: usize,
-    ghost some: { 0 < most },
-}
-
 /// The terminal with its ends of the lines. It stops handling where `stop` says why.
 #[derive(Drop)]
 struct Side<'q> {
@@ -52,7 +45,6 @@ struct Side<'q> {
     post: Post<'q, Vec<u8>>,
     desk: Desk,
     outbox: Outbox,
-    piece: Piece,
     /// How many items it has handled, up to 2^64-1.
     handled: u64,
     keyboard_left: bool,
@@ -67,9 +59,9 @@ impl<'q> Model for Side<'q> {
 
     ghost Value = { SideView };
 
-    ghost view = { λ s. record { take = s.take; post = s.post; desk = s.desk; outbox = s.outbox; keyboard_left = s.keyboard_left; mouse_left = s.mouse_left; exit_put = s.exit_put; stop = s.stop } };
+    ghost view = { λ s. record { take = s.take; post = s.post; desk = s.desk; outbox = s.outbox.bytes; keyboard_left = s.keyboard_left; mouse_left = s.mouse_left; exit_put = s.exit_put; stop = s.stop } };
 
-    ghost invariant = { λ s. Ran (record { take = s.take; post = s.post; desk = s.desk; outbox = s.outbox; keyboard_left = s.keyboard_left; mouse_left = s.mouse_left; exit_put = s.exit_put; stop = s.stop }) };
+    ghost invariant = { λ s. Ran (record { take = s.take; post = s.post; desk = s.desk; outbox = s.outbox.bytes; keyboard_left = s.keyboard_left; mouse_left = s.mouse_left; exit_put = s.exit_put; stop = s.stop }) };
 }
 
 impl<'q> Side<'q> {
@@ -94,8 +86,7 @@ impl<'q> Side<'q> {
             take,
             post,
             desk: Desk::new(alloc, term),
-            outbox: Outbox::new(alloc),
-            piece: Piece { most: piece },
+            outbox: Outbox::new(alloc, piece),
             handled: 0,
             keyboard_left: false,
             mouse_left: false,
@@ -186,7 +177,7 @@ impl<'q> Side<'q> {
         }
     }
 
-    #[tactic(auto, using(crate::proofs::TermKeeping::kept_put, crate::proofs::TermKeeping::kept_short))]
+    #[tactic(auto, using(crate::proofs::TermKeeping::kept_pieces, crate::proofs::TermKeeping::kept_short, crate::proofs::TermKeeping::goes_put))]
     // Puts the next piece, and tells whether it did.
     fn put_piece<R: Wait>(&mut self, rt: &R) -> bool
         ensures { Goes self.old self.new }
@@ -194,7 +185,7 @@ impl<'q> Side<'q> {
         if self.stop.is_some() {
             return false;
         }
-        let Ok(put) = self.outbox.put(rt, &mut self.post, self.piece.most) else {
+        let Ok(put) = self.outbox.put(rt, &mut self.post) else {
             self.stop = Some(Stop::Memory);
             return false;
         };
@@ -273,6 +264,7 @@ impl<'q> Side<'q> {
         ensures take { self.new.take.line ≡ self.old.take.line }
         ensures post { self.new.post ≡ self.old.post }
         ensures stop { self.new.stop ≡ self.old.stop }
+        ensures ended { IsTrue result → IsEnded 3 self.new.take.taken }
     {
         match self.take.try_recv(rt) {
             Got::Empty => {
@@ -298,6 +290,7 @@ impl<'q> Side<'q> {
     #[tactic(auto, using(crate::proofs::TermKeeping::kept_lost))]
     // Without the host nothing ends the session any more.
     fn lose_host(&mut self)
+        requires { IsEnded 3 self.old.take.taken }
         ensures { Goes self.old self.new }
     {
         if self.stop.is_some() || self.desk.exited() {
@@ -412,7 +405,6 @@ impl<'q> Side<'q> {
             post,
             desk,
             outbox: _,
-            piece: _,
             handled: _,
             keyboard_left: _,
             mouse_left: _,

@@ -13,4 +13,4 @@ returns-then-not-all_passed-clause-timed g c =
     let kept =
     all_kept g.G.Gate.may_refuse c.args.gate.now s.keyboard.events.items s.mouse.events.items s.host.files.items s.lines.now
     c.in-Some.handles c.in-Some-join_all.ends promised c.in-Some-join_all.ensures in
-    λ _. refuses_some _ _ _ _ _ _ kept (c.all_passed.ensures (search rules))
+    λ _. refuses_some _ _ _ _ _ _ kept (c.all_passed.ensures.refused (search rules))

@@ -5,4 +5,4 @@ pub returns-clause-session : goal.returns-clause-session
 returns-clause-session g c =
     let run = c.in_ok-ends.ensures in
     let came = c.in-Ok-settle.ensures in
-    session_of c.args.script.now (g.G.Gate.may_refuse c.args.gate.now) _ c.in_ok-ends.ends c.in-Ok-settle.settled run.ends run.files run.gates came.headline came.states came.users came.stops came.left came.counted came.whole
+    session_of c.args.script.now (g.G.Gate.may_refuse c.args.gate.now) _ c.in_ok-ends.ends c.in-Ok-settle.settled run.ends run.files run.begun run.gates came.headline came.states came.users came.stops came.left came.counted came.whole

@@ -1,10 +1,11 @@
 use Rattle.std.proofs.Common.{inl, refl}
 use Rattle.sam_mesg.specs.declared.fault.MesgFault.TheVariants as wrong
-use Rattle.sam_threads.proofs.HostSide.{each_fits, piece_all, piece_before, piece_unfed}
+use Rattle.sam_threads.proofs.ApartTurns.{each_t}
+use Rattle.sam_threads.proofs.HostSide.{piece_all, piece_before, piece_unfed}
 use Rattle.sam_threads.proofs.host_side.HostSide.take_piece.Goals as goal
 
 pub answer_all-requires-clause-fit : goal.answer_all-requires-clause-fit
-answer_all-requires-clause-fit g c κs within = each_fits c.args.self.now.framer.version _ c.in-Ok.ensures.gave.splits.fit
+answer_all-requires-clause-fit g c κs within = each_t c.args.self.now.framer.version _ c.in-Ok.ensures.gave.splits.fit
 
 pub returns-in-Ok-clause-takes : goal.returns-in-Ok-clause-takes
 returns-in-Ok-clause-takes g c =
@@ -13,7 +14,7 @@ returns-in-Ok-clause-takes g c =
 pub answer_before-requires-clause-fit : goal.answer_before-requires-clause-fit
 answer_before-requires-clause-fit g c κs within =
     let up = rw c.in-Err-BadKind.field-0-is at c.in-Err-BadKind.ensures in
-    each_fits c.args.self.now.framer.version _ up.gave.splits.fit
+    each_t c.args.self.now.framer.version _ up.gave.splits.fit
 
 pub returns-in-Err-BadKind-clause-takes : goal.returns-in-Err-BadKind-clause-takes
 returns-in-Err-BadKind-clause-takes g c =
@@ -23,7 +24,7 @@ returns-in-Err-BadKind-clause-takes g c =
 pub answer_before-requires-in-Err-BadLength-clause-fit : goal.answer_before-requires-in-Err-BadLength-clause-fit
 answer_before-requires-in-Err-BadLength-clause-fit g c κs within =
     let up = rw c.in-Err-BadLength.field-0-is at c.in-Err-BadLength.ensures in
-    each_fits c.args.self.now.framer.version _ up.gave.splits.fit
+    each_t c.args.self.now.framer.version _ up.gave.splits.fit
 
 pub returns-in-Err-BadLength-clause-takes : goal.returns-in-Err-BadLength-clause-takes
 returns-in-Err-BadLength-clause-takes g c =
@@ -33,7 +34,7 @@ returns-in-Err-BadLength-clause-takes g c =
 pub answer_before-requires-in-Err-BadText-clause-fit : goal.answer_before-requires-in-Err-BadText-clause-fit
 answer_before-requires-in-Err-BadText-clause-fit g c κs within =
     let up = rw c.in-Err-BadText.field-0-is at c.in-Err-BadText.ensures in
-    each_fits c.args.self.now.framer.version _ up.gave.splits.fit
+    each_t c.args.self.now.framer.version _ up.gave.splits.fit
 
 pub returns-in-Err-BadText-clause-takes : goal.returns-in-Err-BadText-clause-takes
 returns-in-Err-BadText-clause-takes g c =
@@ -41,7 +42,9 @@ returns-in-Err-BadText-clause-takes g c =
     piece_before (g.G.Gate.may_refuse c.args.gate.now 2) _ _ _ _ _ _ _ _ _ wrong.BadText _ up c.answer_before-in-Err-BadText.ensures.stops
 
 pub returns-in-Err-OutOfMemory-clause-takes : goal.returns-in-Err-OutOfMemory-clause-takes
-returns-in-Err-OutOfMemory-clause-takes g c = piece_unfed (g.G.Gate.may_refuse c.args.gate.now 2) _ _ _ _ _ tt
+returns-in-Err-OutOfMemory-clause-takes g c = piece_unfed (g.G.Gate.may_refuse c.args.gate.now 2) _ _ _ _ _ _ tt
 
 pub returns-in-Err-CountFull-clause-takes : goal.returns-in-Err-CountFull-clause-takes
-returns-in-Err-CountFull-clause-takes g c = piece_unfed (g.G.Gate.may_refuse c.args.gate.now 2) _ _ _ _ _ (inl refl)
+returns-in-Err-CountFull-clause-takes g c =
+    let full = rw c.in-Err-CountFull.field-0-is at c.in-Err-CountFull.ensures in
+    piece_unfed (g.G.Gate.may_refuse c.args.gate.now 2) _ _ _ _ _ _ (inl (refl, full.1))

@@ -12,7 +12,7 @@ invariant_of-self c =
       take = i.take;
       post = i.post;
       desk = i.desk;
-      outbox = i.outbox;
+      outbox = i.outbox.bytes;
       keyboard_left = i.keyboard_left;
       mouse_left = i.mouse_left;
       exit_put = i.exit_put;
@@ -20,7 +20,7 @@ invariant_of-self c =
     } in
     let running : is_some i.stop ≡ false = cc in
     let did : Did i.desk c.flush.new.self [] [] c.as_slice.result.now = subst (λ (x : List Tmesg). Did i.desk c.flush.new.self [] [] x) (sym c.as_slice.ensures) c.in-Ok.ensures.flushed in
-    kept_done v c.flush.new.self c.push_all.new.self c.as_slice.result.now c.self.invariant running did c.push_all.ensures.fit c.in-Ok-push_all.ensures.encoded
+    kept_done v c.flush.new.self c.push_all.new.self.bytes c.as_slice.result.now c.self.invariant running did c.push_all.ensures.fit c.in-Ok-push_all.ensures.encoded
 
 pub invariant_of-self-in-Err-push_all : goal.invariant_of-self-in-Err-push_all
 invariant_of-self-in-Err-push_all c =
@@ -30,7 +30,7 @@ invariant_of-self-in-Err-push_all c =
       take = i.take;
       post = i.post;
       desk = i.desk;
-      outbox = i.outbox;
+      outbox = i.outbox.bytes;
       keyboard_left = i.keyboard_left;
       mouse_left = i.mouse_left;
       exit_put = i.exit_put;
@@ -38,4 +38,4 @@ invariant_of-self-in-Err-push_all c =
     } in
     let running : is_some i.stop ≡ false = cc in
     let did : Did i.desk c.flush.new.self [] [] c.as_slice.result.now = subst (λ (x : List Tmesg). Did i.desk c.flush.new.self [] [] x) (sym c.as_slice.ensures) c.in-Ok.ensures.flushed in
-    kept_half v c.flush.new.self c.push_all.new.self c.as_slice.result.now c.self.invariant running did c.push_all.ensures.fit c.push_all.ensures.begun
+    kept_half v c.flush.new.self c.push_all.new.self.bytes c.as_slice.result.now c.self.invariant running did c.push_all.ensures.fit c.push_all.ensures.begun

@@ -1,9 +1,10 @@
-use Rattle.std.proofs.Common.{◌≡◌, ℕ, sym, subst, true, false, [], List, Some, None, is_some}
+use Rattle.std.proofs.Common.{rules, arith, ◌≡◌, ℕ, ◌≤◌, sym, subst, true, false, [], List, Some, None, is_some}
+use Rattle.std.proofs.lemmas.Grind.{common_steps}
 use Rattle.sam_mesg.specs.declared.tmesg.Tmesg.{Tmesg}
 use Rattle.sam_queue.specs.Views.{TakesNext}
 use Rattle.sam_threads.specs.Inputs.{user_of_load, frame_of_load}
 use Rattle.sam_threads.specs.TermMoments.{SideView, Did}
-use Rattle.sam_threads.proofs.TermTaking.{kept_item, kept_half_item, kept_keyboard, kept_mouse, kept_reader}
+use Rattle.sam_threads.proofs.TermTaking.{kept_item, kept_half_item, kept_keyboard, kept_mouse, kept_reader, kept_gone}
 use Rattle.sam_threads.proofs.term_side.Side.take_next.Goals as goal
 
 pub invariant_of-self-in-0 : goal.invariant_of-self-in-0
@@ -14,7 +15,7 @@ invariant_of-self-in-0 g c =
       take = i.take;
       post = i.post;
       desk = i.desk;
-      outbox = i.outbox;
+      outbox = i.outbox.bytes;
       keyboard_left = i.keyboard_left;
       mouse_left = i.mouse_left;
       exit_put = i.exit_put;
@@ -32,7 +33,7 @@ invariant_of-self-in-1 g c =
       take = i.take;
       post = i.post;
       desk = i.desk;
-      outbox = i.outbox;
+      outbox = i.outbox.bytes;
       keyboard_left = i.keyboard_left;
       mouse_left = i.mouse_left;
       exit_put = i.exit_put;
@@ -50,7 +51,7 @@ invariant_of-self-else-not-exited g c =
       take = i.take;
       post = i.post;
       desk = i.desk;
-      outbox = i.outbox;
+      outbox = i.outbox.bytes;
       keyboard_left = i.keyboard_left;
       mouse_left = i.mouse_left;
       exit_put = i.exit_put;
@@ -67,7 +68,7 @@ invariant_of-self-in-Ok-push_all g c =
       take = i.take;
       post = i.post;
       desk = i.desk;
-      outbox = i.outbox;
+      outbox = i.outbox.bytes;
       keyboard_left = i.keyboard_left;
       mouse_left = i.mouse_left;
       exit_put = i.exit_put;
@@ -76,7 +77,7 @@ invariant_of-self-in-Ok-push_all g c =
     let running : is_some i.stop ≡ false = subst (λ (w : SideView). is_some w.stop ≡ false) (sym c.self.view_is) c.requires.running in
     let did : Did i.desk c.handle.new.self (user_of_load (Some c.in-Item.input)) (frame_of_load (Some c.in-Item.input)) c.as_slice.result.now =
     subst (λ (x : List Tmesg). Did i.desk c.handle.new.self (user_of_load (Some c.in-Item.input)) (frame_of_load (Some c.in-Item.input)) x) (sym c.as_slice.ensures) c.in-Ok.ensures.handled in
-    kept_item v c.try_recv.new.self c.in-Item.sender c.in-Item.input c.handle.new.self c.push_all.new.self c.as_slice.result.now c.self.invariant running c.in-Item.ensures.answer did c.in-Ok.ensures.sender c.push_all.ensures.fit c.in-Ok-push_all.ensures.encoded
+    kept_item v c.try_recv.new.self c.in-Item.sender c.in-Item.input c.handle.new.self c.push_all.new.self.bytes c.as_slice.result.now c.self.invariant running c.in-Item.ensures.answer did c.in-Ok.ensures.sender c.push_all.ensures.fit c.in-Ok-push_all.ensures.encoded
 
 pub invariant_of-self-in-Err-push_all : goal.invariant_of-self-in-Err-push_all
 invariant_of-self-in-Err-push_all g c =
@@ -86,7 +87,7 @@ invariant_of-self-in-Err-push_all g c =
       take = i.take;
       post = i.post;
       desk = i.desk;
-      outbox = i.outbox;
+      outbox = i.outbox.bytes;
       keyboard_left = i.keyboard_left;
       mouse_left = i.mouse_left;
       exit_put = i.exit_put;
@@ -95,4 +96,23 @@ invariant_of-self-in-Err-push_all g c =
     let running : is_some i.stop ≡ false = subst (λ (w : SideView). is_some w.stop ≡ false) (sym c.self.view_is) c.requires.running in
     let did : Did i.desk c.handle.new.self (user_of_load (Some c.in-Item.input)) (frame_of_load (Some c.in-Item.input)) c.as_slice.result.now =
     subst (λ (x : List Tmesg). Did i.desk c.handle.new.self (user_of_load (Some c.in-Item.input)) (frame_of_load (Some c.in-Item.input)) x) (sym c.as_slice.ensures) c.in-Ok.ensures.handled in
-    kept_half_item v c.try_recv.new.self c.in-Item.sender c.in-Item.input c.handle.new.self c.push_all.new.self c.as_slice.result.now c.self.invariant running c.in-Item.ensures.answer did c.in-Ok.ensures.sender c.push_all.ensures.fit c.push_all.ensures.begun
+    kept_half_item v c.try_recv.new.self c.in-Item.sender c.in-Item.input c.handle.new.self c.push_all.new.self.bytes c.as_slice.result.now c.self.invariant running c.in-Item.ensures.answer did c.in-Ok.ensures.sender c.push_all.ensures.fit c.push_all.ensures.begun
+
+pub invariant_of-self-then-not-exited : goal.invariant_of-self-then-not-exited
+invariant_of-self-then-not-exited g c =
+    let i = c.self.inside in
+    let v : SideView =
+    record {
+      take = i.take;
+      post = i.post;
+      desk = i.desk;
+      outbox = i.outbox.bytes;
+      keyboard_left = i.keyboard_left;
+      mouse_left = i.mouse_left;
+      exit_put = i.exit_put;
+      stop = i.stop;
+    } in
+    let running : is_some i.stop ≡ false = subst (λ (w : SideView). is_some w.stop ≡ false) (sym c.self.view_is) c.requires.running in
+    let open_still : i.desk.term.has_exited ≡ false = search rules in
+    let others : 2 ≤ c.in-Left.sender = first_of (grind (arith, common_steps, c.in_default), omega (arith, c.in_default), search rules) in
+    kept_gone v c.try_recv.new.self c.in-Left.sender c.self.invariant running c.in-Left.ensures.answer (λ e. omega (arith, others)) (λ e. omega (arith, others)) open_still

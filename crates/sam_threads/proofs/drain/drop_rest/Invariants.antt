@@ -1,6 +1,6 @@
 use Rattle.std.proofs.Common.{◌≡◌}
 use Rattle.sam_queue.specs.History.{StartsWith}
-use Rattle.sam_threads.proofs.reader.drop_rest.Given as goal
+use Rattle.sam_threads.proofs.drain.drop_rest.Given as goal
 
 abbrev pub invariant-loop-turn : goal.invariant-loop-turn
 invariant-loop-turn g l = record {
