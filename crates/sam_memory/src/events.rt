@@ -92,39 +92,57 @@ fn show(alloc: Global, terminal: &mut Terminal, text: &str) -> Result<(), SetUp>
     Ok(())
 }
 
+/// Opens two files, and holds a paste into the first.
+fn hold_paste(terminal: &mut Terminal) -> Result<(), SetUp> {
+    open(terminal, 1, 0)?;
+    open(terminal, 2, 0)?;
+    terminal.user(UserEvent::Paste(1))?;
+    Ok(())
+}
+
 /// A terminal with two files, where a paste into the first is held.
 fn to_paste(alloc: Global) -> Result<Terminal, SetUp> {
     let mut terminal = Terminal::new(alloc);
-    open(&mut terminal, 1, 0)?;
-    open(&mut terminal, 2, 0)?;
-    terminal.user(UserEvent::Paste(1))?;
+    hold_paste(&mut terminal)?;
     Ok(terminal)
+}
+
+/// Opens a file, types and sends `XY`, selects it, and holds `Z` to be typed in its place.
+fn hold_type(alloc: Global, terminal: &mut Terminal) -> Result<(), SetUp> {
+    open(terminal, 1, 5)?;
+    show(alloc, terminal, "ab cd")?;
+    does(terminal, UserEvent::Typed(1, runes(alloc, "X")?))?;
+    does(terminal, UserEvent::Typed(1, runes(alloc, "Y")?))?;
+    terminal.flush()?;
+    does(terminal, UserEvent::Select(1, 0, 2))?;
+    terminal.user(UserEvent::Typed(1, runes(alloc, "Z")?))?;
+    Ok(())
 }
 
 /// A terminal where `XY` was typed and sent and is selected, and `Z` is held to be typed in its place.
 fn to_type_over(alloc: Global) -> Result<Terminal, SetUp> {
     let mut terminal = Terminal::new(alloc);
-    open(&mut terminal, 1, 5)?;
-    show(alloc, &mut terminal, "ab cd")?;
-    does(&mut terminal, UserEvent::Typed(1, runes(alloc, "X")?))?;
-    does(&mut terminal, UserEvent::Typed(1, runes(alloc, "Y")?))?;
-    terminal.flush()?;
-    does(&mut terminal, UserEvent::Select(1, 0, 2))?;
-    terminal.user(UserEvent::Typed(1, runes(alloc, "Z")?))?;
+    hold_type(alloc, &mut terminal)?;
     Ok(terminal)
+}
+
+/// Shows three runes and two gaps of a file, asks whether it shows all, and types a line to be run.
+fn type_line(alloc: Global, terminal: &mut Terminal) -> Result<(), SetUp> {
+    open(terminal, 0, 0)?;
+    open(terminal, 1, 10)?;
+    show(alloc, terminal, "abcde")?;
+    does(terminal, UserEvent::Select(1, 0, 2))?;
+    does(terminal, UserEvent::Cut(1))?;
+    does(terminal, UserEvent::Check(1))?;
+    does(terminal, UserEvent::Typed(0, runes(alloc, ",d\n")?))?;
+    take(terminal, 3, Hmesg::Hsnarflen(2))?;
+    Ok(())
 }
 
 /// A terminal that shows three runes and two gaps of a file, has asked whether it shows all, and waits for a line to be run.
 fn to_fill(alloc: Global) -> Result<Terminal, SetUp> {
     let mut terminal = Terminal::new(alloc);
-    open(&mut terminal, 0, 0)?;
-    open(&mut terminal, 1, 10)?;
-    show(alloc, &mut terminal, "abcde")?;
-    does(&mut terminal, UserEvent::Select(1, 0, 2))?;
-    does(&mut terminal, UserEvent::Cut(1))?;
-    does(&mut terminal, UserEvent::Check(1))?;
-    does(&mut terminal, UserEvent::Typed(0, runes(alloc, ",d\n")?))?;
-    take(&mut terminal, 3, Hmesg::Hsnarflen(2))?;
+    type_line(alloc, &mut terminal)?;
     Ok(terminal)
 }
 
@@ -136,48 +154,59 @@ pub fn part_shows(terminal: &Terminal, tag: u16, shown: &str) -> bool {
     }
 }
 
+fn pastes(terminal: &mut Terminal, twin: &Terminal) -> bool {
+    let Some(messages) = composed(terminal, twin) else {
+        return false;
+    };
+    let asks = matches!(messages.as_slice(), [Tmesg::Tpaste(1, 0)]);
+    asks && terminal.locks(1) == 1 && terminal.sent() == 1
+}
+
 /// A paste asks the host, and locks its file.
 pub fn act_paste(alloc: Global) -> Tried {
     let mut terminal = to_paste(alloc)?;
     let twin = to_paste(alloc)?;
-    match composed(&mut terminal, &twin) {
-        Some(messages) => {
-            let asks = matches!(messages.as_slice(), [Tmesg::Tpaste(1, 0)]);
-            Ok(asks && terminal.locks(1) == 1 && terminal.sent() == 1)
-        }
-        None => Ok(false),
-    }
+    Ok(pastes(&mut terminal, &twin))
+}
+
+fn types_over(terminal: &mut Terminal, twin: &Terminal) -> bool {
+    let Some(messages) = composed(terminal, twin) else {
+        return false;
+    };
+    let cuts = matches!(messages.as_slice(), [Tmesg::Tcut(1, 0, 2)]);
+    cuts && part_shows(terminal, 1, "Zab cd") && terminal.unsent() == 1
 }
 
 /// Typing over a dot cuts it and types, or does neither.
 pub fn act_type(alloc: Global) -> Tried {
     let mut terminal = to_type_over(alloc)?;
     let twin = to_type_over(alloc)?;
-    match composed(&mut terminal, &twin) {
-        Some(messages) => {
-            let cuts = matches!(messages.as_slice(), [Tmesg::Tcut(1, 0, 2)]);
-            Ok(cuts && part_shows(&terminal, 1, "Zab cd") && terminal.unsent() == 1)
+    Ok(types_over(&mut terminal, &twin))
+}
+
+/// What a check has the terminal compose, as `composed` says it of an event.
+fn checked(terminal: &mut Terminal, twin: &Terminal) -> Option<Batch> {
+    let mut received = take(terminal, 3, Hmesg::Hcheck(1));
+    if matches!(&received, Err(TermFault::OutOfMemory)) {
+        if !is_same_terminal(terminal, twin) {
+            return None;
         }
-        None => Ok(false),
+        received = take(terminal, 3, Hmesg::Hcheck(1));
     }
+    received.ok()
+}
+
+fn asks_for_gap(terminal: &mut Terminal, twin: &Terminal) -> bool {
+    let Some(messages) = checked(terminal, twin) else {
+        return false;
+    };
+    let asks = matches!(messages.as_slice(), [Tmesg::Trequest(1, 3, 2)]);
+    asks && part_shows(terminal, 1, "cde_____") && terminal.locks(1) == 1
 }
 
 /// A check has the first gap in view asked for.
 pub fn receive_check(alloc: Global) -> Tried {
     let mut terminal = to_fill(alloc)?;
     let twin = to_fill(alloc)?;
-    let mut received = take(&mut terminal, 3, Hmesg::Hcheck(1));
-    if matches!(&received, Err(TermFault::OutOfMemory)) {
-        if !is_same_terminal(&terminal, &twin) {
-            return Ok(false);
-        }
-        received = take(&mut terminal, 3, Hmesg::Hcheck(1));
-    }
-    match received {
-        Ok(messages) => {
-            let asks = matches!(messages.as_slice(), [Tmesg::Trequest(1, 3, 2)]);
-            Ok(asks && part_shows(&terminal, 1, "cde_____") && terminal.locks(1) == 1)
-        }
-        Err(_) => Ok(false),
-    }
+    Ok(asks_for_gap(&mut terminal, &twin))
 }

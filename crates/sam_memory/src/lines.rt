@@ -2,7 +2,7 @@
 
 use crate::files::is_same_files;
 use crate::setup::{SetUp, Tried, runes, spells};
-use sam_text::{Files, FilesFault};
+use sam_text::{Files, FilesFault, Outcome};
 use std::alloc::Global;
 
 /// Files whose work file has this text.
@@ -13,28 +13,38 @@ fn with_work(alloc: Global, text: &str) -> Result<Files, SetUp> {
     Ok(files)
 }
 
+/// What the line does. Where memory for it is refused, the files are to be their twin to every reader, and the line is run
+/// again. None where anything else is told.
+fn outcome_of(alloc: Global, files: &Files, twin: &Files, line: &[char]) -> Option<Outcome> {
+    let mut run = files.run_line(alloc, line);
+    if matches!(&run, Err(FilesFault::OutOfMemory)) {
+        if !is_same_files(files, twin) {
+            return None;
+        }
+        run = files.run_line(alloc, line);
+    }
+    run.ok()
+}
+
+/// Whether the outcome leaves three commas in file 1, selected, and prints nothing.
+fn leaves_commas(files: &mut Files, outcome: Outcome) -> bool {
+    let printed = files.commit(outcome);
+    let dot = files.dot(1);
+    match files.text(1) {
+        Some(text) => {
+            spells(text.slice(0, text.len()), ",,,") && dot == Some((0, 3)) && printed.len() == 0
+        }
+        None => false,
+    }
+}
+
 /// What stands between the commas is deleted. The call changes nothing, and what it found is put in without memory.
 pub fn run_line(alloc: Global) -> Tried {
     let mut files = with_work(alloc, "a,b,,c")?;
     let twin = with_work(alloc, "a,b,,c")?;
     let line = runes(alloc, ",y/,/d")?;
-    let mut run = files.run_line(alloc, line.as_slice());
-    if matches!(&run, Err(FilesFault::OutOfMemory)) {
-        if !is_same_files(&files, &twin) {
-            return Ok(false);
-        }
-        run = files.run_line(alloc, line.as_slice());
-    }
-    let Ok(outcome) = run else {
-        return Ok(false);
-    };
-    let printed = files.commit(outcome);
-    let dot = files.dot(1);
-    match files.text(1) {
-        Some(text) => {
-            let right = spells(text.slice(0, text.len()), ",,,");
-            Ok(right && dot == Some((0, 3)) && printed.len() == 0)
-        }
+    match outcome_of(alloc, &files, &twin, line.as_slice()) {
+        Some(outcome) => Ok(leaves_commas(&mut files, outcome)),
         None => Ok(false),
     }
 }
