@@ -1,6 +1,7 @@
 /*
  * Loaded before a program, this answers its request number REFUSE for memory with none, and then writes a byte to
- * descriptor 9. Only requests of the program itself count, from 1, and not those that the C library makes for it.
+ * descriptor 9. Only requests of the program itself count, from 1, whichever thread makes them, and not those that the C
+ * library makes for it.
  */
 #define _GNU_SOURCE
 #include <errno.h>

@@ -1,9 +1,10 @@
 //! The cases by their names.
 
 use crate::setup::Tried;
-use crate::{answers, codec, events, framing, gaps, lines, queue, worlds};
+use crate::{answers, codec, events, framing, gaps, lines, queue, sessions, worlds};
 use std::alloc::Global;
 use std::sync::Wait;
+use std::thread::Threads;
 
 /// A call that is tried as memory is refused.
 #[derive(Clone, Copy, Debug, PartialEq, Eq)]
@@ -30,11 +31,13 @@ pub enum Case {
     Step,
     Merge,
     Audit,
+    Settle,
+    RunThreads,
 }
 
 impl Case {
     /// All cases, in the order in which they run.
-    pub const ALL: [Case; 22] = [
+    pub const ALL: [Case; 24] = [
         Case::EncodeT,
         Case::EncodeH,
         Case::DecodeT,
@@ -57,6 +60,8 @@ impl Case {
         Case::Step,
         Case::Merge,
         Case::Audit,
+        Case::Settle,
+        Case::RunThreads,
     ];
 
     /// The word that chooses the case.
@@ -84,11 +89,13 @@ impl Case {
             Case::Step => "step",
             Case::Merge => "merge",
             Case::Audit => "audit",
+            Case::Settle => "settle",
+            Case::RunThreads => "run_threads",
         }
     }
 
     /// Whether the call answers want of memory where it meets any, is then as if it had not been made, and answers right.
-    pub fn holds<R: Wait>(self, rt: &R, alloc: Global) -> Tried {
+    pub fn holds<R: Threads + Wait + Sync>(self, rt: &R, alloc: Global) -> Tried {
         match self {
             Case::EncodeT => codec::encode_terminal(alloc),
             Case::EncodeH => codec::encode_host(alloc),
@@ -112,6 +119,8 @@ impl Case {
             Case::Step => worlds::step(alloc),
             Case::Merge => worlds::merge_takes(alloc),
             Case::Audit => queue::audit_one(rt, alloc),
+            Case::Settle => sessions::settle_ends(rt, alloc),
+            Case::RunThreads => sessions::run_session(rt, alloc),
         }
     }
 }

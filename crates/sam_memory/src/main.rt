@@ -14,6 +14,7 @@ mod framing;
 mod gaps;
 mod lines;
 mod queue;
+mod sessions;
 mod setup;
 mod worlds;
 
@@ -24,6 +25,7 @@ use std::env;
 use std::env::Env;
 use std::process::ExitCode;
 use std::sync::Wait;
+use std::thread::Threads;
 
 /// How often a start is made again where memory for it was refused.
 const TRIES: usize = 4;
@@ -60,7 +62,7 @@ fn is_chosen(case: Case, words: &[String]) -> bool {
 
 /// Runs the chosen cases, and prints a line for each. The status is 0 where each was right, 1 where one was not, 2 where no
 /// case was chosen, and 5 where a line could not be printed.
-fn run<R: Print + Wait>(rt: &R, alloc: Global, words: &[String]) -> u8 {
+fn run<R: Print + Threads + Wait + Sync>(rt: &R, alloc: Global, words: &[String]) -> u8 {
     let mut status = 2;
     for case in Case::ALL {
         if !is_chosen(case, words) {
@@ -85,7 +87,7 @@ fn told(right: bool) -> &'static str {
 }
 
 /// Tries the case until memory for its start is not refused.
-fn is_right<R: Wait>(rt: &R, alloc: Global, case: Case) -> bool {
+fn is_right<R: Threads + Wait + Sync>(rt: &R, alloc: Global, case: Case) -> bool {
     for _ in 0..TRIES {
         if let Ok(right) = case.holds(rt, alloc) {
             return right;

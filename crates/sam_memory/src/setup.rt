@@ -6,9 +6,11 @@ use sam_mesg::MesgFault;
 use sam_queue::OutOfMemory;
 use sam_rasp::RaspFault;
 use sam_runes::{Runes, TextFault};
+use sam_script::ScriptFault;
 use sam_term::TermFault;
 use sam_text::FilesFault;
-use sam_world::StepFault;
+use sam_threads::RunFault;
+use sam_world::{MergeFault, RunStop, StepFault};
 use std::alloc::{AllocError, AllocFailed, Global};
 
 /// The start of a case was refused, so that nothing is known of its call: the case is to be tried again.
@@ -74,6 +76,30 @@ impl From<TermFault> for SetUp {
 
 impl From<StepFault> for SetUp {
     fn from(_fault: StepFault) -> SetUp {
+        SetUp
+    }
+}
+
+impl From<RunStop> for SetUp {
+    fn from(_stop: RunStop) -> SetUp {
+        SetUp
+    }
+}
+
+impl From<MergeFault> for SetUp {
+    fn from(_fault: MergeFault) -> SetUp {
+        SetUp
+    }
+}
+
+impl From<ScriptFault> for SetUp {
+    fn from(_fault: ScriptFault) -> SetUp {
+        SetUp
+    }
+}
+
+impl From<RunFault> for SetUp {
+    fn from(_fault: RunFault) -> SetUp {
         SetUp
     }
 }

@@ -42,7 +42,7 @@ const ANSWERED: [(Side, usize, usize); 7] = [
 ];
 
 /// Whether the readers tell the same of both.
-fn is_same_world(world: &World, other: &World) -> bool {
+pub fn is_same_world(world: &World, other: &World) -> bool {
     for tag in 0..TAGS {
         if world.agreed(tag) != other.agreed(tag) || world.locked(tag) != other.locked(tag) {
             return false;
