@@ -2,7 +2,7 @@
 
 use crate::files::is_same_files;
 use crate::setup::{SetUp, Tried, runes, spells};
-use sam_text::{Files, FilesFault, Outcome};
+use sam_text::{Files, FilesFault};
 use std::alloc::Global;
 
 /// Files whose work file has this text.
@@ -13,21 +13,19 @@ fn with_work(alloc: Global, text: &str) -> Result<Files, SetUp> {
     Ok(files)
 }
 
-/// What the line does. Where memory for it is refused, the files are to be their twin to every reader, and the line is run
-/// again. None where anything else is told.
-fn outcome_of(alloc: Global, files: &Files, twin: &Files, line: &[char]) -> Option<Outcome> {
+/// Whether the line leaves three commas in file 1, selected, and prints nothing. Where memory for it is refused, the files are
+/// to be their twin to every reader, and the line is run again.
+fn leaves_commas(alloc: Global, files: &mut Files, twin: &Files, line: &[char]) -> bool {
     let mut run = files.run_line(alloc, line);
     if matches!(&run, Err(FilesFault::OutOfMemory)) {
         if !is_same_files(files, twin) {
-            return None;
+            return false;
         }
         run = files.run_line(alloc, line);
     }
-    run.ok()
-}
-
-/// Whether the outcome leaves three commas in file 1, selected, and prints nothing.
-fn leaves_commas(files: &mut Files, outcome: Outcome) -> bool {
+    let Ok(outcome) = run else {
+        return false;
+    };
     let printed = files.commit(outcome);
     let dot = files.dot(1);
     match files.text(1) {
@@ -43,8 +41,5 @@ pub fn run_line(alloc: Global) -> Tried {
     let mut files = with_work(alloc, "a,b,,c")?;
     let twin = with_work(alloc, "a,b,,c")?;
     let line = runes(alloc, ",y/,/d")?;
-    match outcome_of(alloc, &files, &twin, line.as_slice()) {
-        Some(outcome) => Ok(leaves_commas(&mut files, outcome)),
-        None => Ok(false),
-    }
+    Ok(leaves_commas(alloc, &mut files, &twin, line.as_slice()))
 }

@@ -44,22 +44,41 @@ fn session(alloc: Global) -> Result<[UserEvent; 7], Fail> {
     ])
 }
 
+/// Hands the events in, and does what can then happen without the user.
+fn play(world: &mut World, events: [UserEvent; 7]) -> Result<(), StepFault> {
+    for event in events {
+        world.step(Event::User(event))?;
+    }
+    world.drain()
+}
+
+/// Whether the session is over, with nothing under way, and both sides agree.
+fn is_over(world: &World) -> bool {
+    world.quiet()
+        && world.agreed(0)
+        && world.agreed(1)
+        && !world.locked(1)
+        && world.term().exited()
+        && (world.up(), world.down()) == (0, 0)
+}
+
+/// Whether file 1 of the host has the text.
+fn has_text(world: &World, wanted: &[char]) -> bool {
+    match world.host().files().text(1) {
+        Some(text) => text.slice(0, text.len()) == wanted,
+        None => false,
+    }
+}
+
 #[test]
 fn a_session_drains(rt: HostRuntime) -> Result<(), Fail> {
     let alloc = rt.alloc();
+    let events = session(alloc)?;
     let mut world = world_of(alloc, "hello\n")?;
-    for event in session(alloc)? {
-        assert_eq!(rt; world.step(Event::User(event)), Ok(()));
-    }
-    assert_eq!(rt; world.drain(), Ok(()));
-    assert!(rt; world.quiet() && world.agreed(0) && world.agreed(1));
-    assert!(rt; !world.locked(1) && world.term().exited());
-    assert_eq!(rt; (world.up(), world.down()), (0, 0));
+    assert_eq!(rt; play(&mut world, events), Ok(()));
+    assert!(rt; is_over(&world));
     assert_eq!(rt; (world.host().taken(), world.term().sent()), (7, 7));
-    let Some(text) = world.host().files().text(1) else {
-        return Err("no file".into());
-    };
-    assert!(rt; text.slice(0, text.len()) == &['X', 'h', 'e', 'o', '\n'][..]);
+    assert!(rt; has_text(&world, &['X', 'h', 'e', 'o', '\n']));
     Ok(())
 }
 
