@@ -14,7 +14,10 @@ use std::alloc::Global;
 use std::sync::Wait;
 use std::thread::Threads;
 
-/// Runs the five threads over lines of so many entries each, in pieces of so many bytes at most, and settles what they came to.
+/// Runs the script on five threads, over lines that hold `capacity` entries each, in pieces of at most `piece` bytes, and settles what
+/// they came to. It waits for its threads, which may never end. A worker that is stopped on its way, for want of memory too, is told in
+/// `Settled::stops`. `GateTimedOut`: a worker's gate did not let it begin. `NoThread`: a thread could not be started, and none began.
+/// `OutOfMemory`: there was none for the lines, the start or the settling.
 pub fn run_threads<R: Threads + Wait + Sync, G: Gate>(
     rt: &R,
     alloc: Global,

@@ -45,7 +45,8 @@ struct Prepared<'q> {
 }
 
 /// What the five ends of a session came to: what is left in each line, and one schedule of all events, which leads one world of the first
-/// files to the very states of the host and the terminal.
+/// files to the very states of the host and the terminal. The ends are those of one set of lines, as `run_ends` gives them. Want of
+/// memory alone refuses it, before anything is taken from a line.
 pub fn settle<'q, R: Wait>(
     rt: &R,
     alloc: Global,

@@ -20,6 +20,7 @@ pub enum Stop {
     /// Its gate let it go no further.
     #[error("stopped at its gate")]
     Gate,
+    /// A request for memory was refused.
     #[error("out of memory")]
     Memory,
 }
