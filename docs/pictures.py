@@ -1,0 +1,173 @@
+#!/usr/bin/env python3
+"""Draws docs/crates.svg (from crates.txt) and docs/threads.svg. Run it after a crate came, went or stands on others."""
+
+from pathlib import Path
+
+DOCS = Path(__file__).resolve().parent
+CRATES = DOCS.parent / "crates.txt"
+
+STYLE = """
+text { font: 12px -apple-system, 'Segoe UI', Helvetica, Arial, 'DejaVu Sans', sans-serif; fill: #1f2328; }
+.title { font-size: 15px; font-weight: 600; }
+.name { font: 600 12px ui-monospace, SFMono-Regular, Menlo, Consolas, 'DejaVu Sans Mono', monospace; }
+.head { font-weight: 600; font-size: 13px; }
+.grey { fill: #59636e; font-size: 11px; }
+.box { fill: #f6f8fa; stroke: #818b98; }
+.side { fill: #ddf4ff; stroke: #0969da; }
+.part { fill: #ffffff; stroke: #818b98; }
+.cell { fill: #fff8c5; stroke: #9a6700; }
+.edge { stroke: #59636e; stroke-width: 1.2; fill: none; }
+"""
+
+HEAD = (
+    '<marker id="head" viewBox="0 0 8 8" refX="8" refY="4" markerWidth="7" markerHeight="7" orient="auto">'
+    '<path d="M0 0.5 L8 4 L0 7.5 z" fill="#59636e"/></marker>'
+)
+
+
+def text(x, y, words, kind="", anchor="middle"):
+    named = f' class="{kind}"' if kind else ""
+    return f'<text x="{x:g}" y="{y:g}"{named} text-anchor="{anchor}">{words}</text>'
+
+
+def box(x, y, width, height, kind="box"):
+    return f'<rect class="{kind}" x="{x:g}" y="{y:g}" width="{width:g}" height="{height:g}" rx="5"/>'
+
+
+def edge(*points):
+    path = " L".join(f"{x:g} {y:g}" for x, y in points)
+    return f'<path class="edge" d="M{path}" marker-end="url(#head)"/>'
+
+
+def picture(title, width, height, parts):
+    size = f'width="{width}" height="{height}" viewBox="0 0 {width} {height}"'
+    return "\n".join(
+        [
+            f'<svg xmlns="http://www.w3.org/2000/svg" {size} role="img">',
+            f"<title>{title}</title>",
+            f"<style>{STYLE}</style>",
+            f"<defs>{HEAD}</defs>",
+            '<rect width="100%" height="100%" fill="#ffffff"/>',
+            *parts,
+            "</svg>\n",
+        ]
+    )
+
+
+# ---- The crates
+
+BOX_WIDTH, BOX_HEIGHT, ROW_HEIGHT, FIRST_ROW = 152, 40, 70, 46
+SPREAD = 0.16  # how far from the middle of a box its arrows meet it
+# Where each crate stands (its middle, its row from the top), and what it has in a few words.
+PLACES = {
+    "sam_play": (520, 0, "the program"),
+    "sam_session": (520, 1, "modes of the program"),
+    "sam_threads": (520, 2, "five threads, one run"),
+    "sam_script": (350, 3, "scripts, read and shown"),
+    "sam_queue": (700, 3, "lines between threads"),
+    "sam_world": (350, 4, "both sides as one state"),
+    "sam_protocol": (350, 5, "crossing messages agree"),
+    "sam_host": (170, 6, "the host"),
+    "sam_term": (520, 6, "the terminal"),
+    "sam_frame": (700, 6, "streams of messages"),
+    "sam_text": (170, 7, "files, command lines"),
+    "sam_mesg": (350, 7, "messages and their bytes"),
+    "sam_rasp": (520, 7, "texts with gaps"),
+    "sam_runes": (350, 8, "texts as lists of runes"),
+}
+LEFT_OUT = {"sam_tests", "sam_memory", "sam_bench", "sam_examples"}
+
+
+def crates():
+    """What each crate stands on, by crates.txt."""
+    stands_on = {}
+    for line in CRATES.read_text().splitlines():
+        if line and not line.startswith("#"):
+            head, below = line.split(":", 1)
+            stands_on[head.split(" ")[0]] = {name for name in below.split() if name.startswith("sam_")}
+    missing = (set(stands_on) - LEFT_OUT) ^ set(PLACES)
+    if missing:
+        raise SystemExit(f"give a place in docs/pictures.py to, or take out: {', '.join(sorted(missing))}")
+    return {name: below for name, below in stands_on.items() if name in PLACES}
+
+
+def direct(stands_on):
+    """The pairs that don't follow from others."""
+    reached = {}
+    for name, below in stands_on.items():  # lowest first
+        reached[name] = below.union(*(reached[other] for other in below))
+    for name, below in stands_on.items():
+        for other in sorted(below):
+            if not any(other in reached[between] for between in below):
+                yield name, other
+
+
+def crates_picture():
+    parts = [
+        text(24, 34, "The crates", "title", "start"),
+        text(24, 58, "An arrow leads to a crate that this one stands on.", "", "start"),
+        text(24, 76, "What it stands on through others has no arrow.", "", "start"),
+        text(24, 100, "Left out: the crates that test and time these.", "grey", "start"),
+    ]
+    for name, other in direct(crates()):
+        (x, row, _), (other_x, other_row, _) = PLACES[name], PLACES[other]
+        aside = SPREAD * (other_x - x)
+        start = (x + aside, FIRST_ROW + ROW_HEIGHT * row + BOX_HEIGHT / 2)
+        parts.append(edge(start, (other_x - aside, FIRST_ROW + ROW_HEIGHT * other_row - BOX_HEIGHT / 2)))
+    for name, (x, row, words) in PLACES.items():
+        y = FIRST_ROW + ROW_HEIGHT * row
+        kind = "side" if name in ("sam_host", "sam_term") else "box"
+        parts += [box(x - BOX_WIDTH / 2, y - BOX_HEIGHT / 2, BOX_WIDTH, BOX_HEIGHT, kind)]
+        parts += [text(x, y - 3, name, "name"), text(x, y + 13, words, "grey")]
+    return picture("The crates and what each stands on", 800, FIRST_ROW + ROW_HEIGHT * 8 + 44, parts)
+
+
+# ---- The threads
+
+CELL_WIDTH, CELL_HEIGHT = 22, 26
+
+
+def worker(x, y, width, height, name, words, kind="box"):
+    parts = [box(x, y, width, height, kind), text(x + width / 2, y + 21, name, "head")]
+    return parts + [text(x + width / 2, y + 39 + 16 * at, line, "grey") for at, line in enumerate(words)]
+
+
+def line(x, y, cells, name, words):
+    """A line as a row of cells, with its name above and what it carries below."""
+    parts = [box(x + CELL_WIDTH * at, y, CELL_WIDTH, CELL_HEIGHT, "cell") for at in range(cells)]
+    middle = x + CELL_WIDTH * cells / 2
+    parts.append(text(middle, y - 8, name, "head"))
+    return parts + [text(middle, y + CELL_HEIGHT + 15 + 14 * at, each, "grey") for at, each in enumerate(words)]
+
+
+def threads_picture():
+    parts = [text(24, 32, "Five workers and three lines", "title", "start")]
+    parts += worker(24, 66, 116, 52, "Keyboard", ["worker 0"])
+    parts += worker(24, 150, 116, 52, "Mouse", ["worker 1"])
+    parts += line(196, 121, 5, "events", ["user events and frames", "three senders"])
+    parts += worker(356, 66, 150, 136, "Terminal", ["worker 4", "rasps, locks, held events"], "side")
+    parts += [box(381, 150, 100, 34, "part"), text(431, 171, "outbox", "grey")]
+    parts += line(554, 154, 4, "up", ["pieces of bytes"])
+    parts += worker(676, 66, 108, 136, "Host", ["worker 2", "whole texts,", "commands"], "side")
+    parts += line(554, 277, 4, "down", ["pieces of bytes"])
+    parts += worker(356, 262, 150, 56, "Host reader", ["worker 3"])
+    parts += [
+        edge((140, 92), (168, 92), (168, 127), (194, 127)),
+        edge((140, 176), (168, 176), (168, 134), (194, 134)),
+        edge((306, 134), (354, 134)),
+        edge((481, 167), (552, 167)),
+        edge((642, 167), (674, 167)),
+        edge((730, 202), (730, 290), (644, 290)),
+        edge((554, 290), (508, 290)),
+        edge((356, 290), (180, 290), (180, 141), (194, 141)),
+    ]
+    parts += [
+        text(24, 352, "Each line keeps the order of each sender, and holds a bounded number of entries.", "", "start"),
+        text(24, 371, "The terminal never waits in a send: its pieces stand in the outbox until the line up has room.", "", "start"),
+    ]
+    return picture("Five workers and the three lines between them", 800, 390, parts)
+
+
+if __name__ == "__main__":
+    (DOCS / "crates.svg").write_text(crates_picture(), encoding="ascii")
+    (DOCS / "threads.svg").write_text(threads_picture(), encoding="ascii")
