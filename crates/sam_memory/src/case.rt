@@ -13,6 +13,8 @@ pub enum Case {
     EncodeH,
     DecodeT,
     DecodeH,
+    DecodeBadT,
+    DecodeBadH,
     CopyT,
     CopyH,
     FeedWhole,
@@ -37,11 +39,13 @@ pub enum Case {
 
 impl Case {
     /// All cases, in the order in which they run.
-    pub const ALL: [Case; 24] = [
+    pub const ALL: [Case; 26] = [
         Case::EncodeT,
         Case::EncodeH,
         Case::DecodeT,
         Case::DecodeH,
+        Case::DecodeBadT,
+        Case::DecodeBadH,
         Case::CopyT,
         Case::CopyH,
         Case::FeedWhole,
@@ -71,6 +75,8 @@ impl Case {
             Case::EncodeH => "encode_h",
             Case::DecodeT => "decode_t",
             Case::DecodeH => "decode_h",
+            Case::DecodeBadT => "decode_bad_t",
+            Case::DecodeBadH => "decode_bad_h",
             Case::CopyT => "copy_t",
             Case::CopyH => "copy_h",
             Case::FeedWhole => "feed_whole",
@@ -101,6 +107,8 @@ impl Case {
             Case::EncodeH => codec::encode_host(alloc),
             Case::DecodeT => codec::decode_terminal(alloc),
             Case::DecodeH => codec::decode_host(alloc),
+            Case::DecodeBadT => codec::decode_bad_terminal(alloc),
+            Case::DecodeBadH => codec::decode_bad_host(alloc),
             Case::CopyT => codec::copy_terminal(alloc),
             Case::CopyH => codec::copy_host(alloc),
             Case::FeedWhole => framing::feed_whole(alloc),

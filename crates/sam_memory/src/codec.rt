@@ -98,6 +98,58 @@ pub fn decode_host(alloc: Global) -> Tried {
     }
 }
 
+/// The body of a `Ttype` of 513 runes, which is one too many.
+const TYPED_TOO_LONG: [u8; 519] = [0x61; 519];
+
+/// The body of an `Hdata` of 513 runes, which is one too many.
+const GIVEN_TOO_LONG: [u8; 527] = [0x61; 527];
+
+/// Each fault of a body is answered, whatever memory does: a wrong kind, a wrong length, a text that is not UTF-8, one that is
+/// cut, and one that is too long.
+pub fn decode_bad_terminal(alloc: Global) -> Tried {
+    let rows: [(u8, &[u8], MesgFault); 5] = [
+        (0x40, &[], MesgFault::BadKind),
+        (TYPED[1], &[0, 1, 0, 0, 0], MesgFault::BadLength),
+        (
+            TYPED[1],
+            &[0, 1, 0, 0, 0, 0, 0xC0, 0x80],
+            MesgFault::BadText,
+        ),
+        (
+            TYPED[1],
+            &[0, 1, 0, 0, 0, 0, 0x61, 0xE2, 0x82],
+            MesgFault::BadText,
+        ),
+        (TYPED[1], &TYPED_TOO_LONG, MesgFault::BadText),
+    ];
+    for (kind, body, fault) in rows {
+        if !matches!(decode_t(alloc, 1, kind, body), Err(answered) if answered == fault) {
+            return Ok(false);
+        }
+    }
+    Ok(true)
+}
+
+/// The same of the host's bodies.
+pub fn decode_bad_host(alloc: Global) -> Tried {
+    let rows: [(u8, &[u8], MesgFault); 4] = [
+        (0x08, &[], MesgFault::BadKind),
+        (GIVEN[1], &[0, 0, 0, 0, 0, 0, 0, 2], MesgFault::BadLength),
+        (
+            GIVEN[1],
+            &[0, 0, 0, 0, 0, 0, 0, 2, 0, 1, 0, 0, 0, 0, 0xED, 0xA0, 0x80],
+            MesgFault::BadText,
+        ),
+        (GIVEN[1], &GIVEN_TOO_LONG, MesgFault::BadText),
+    ];
+    for (kind, body, fault) in rows {
+        if !matches!(decode_h(alloc, 1, kind, body), Err(answered) if answered == fault) {
+            return Ok(false);
+        }
+    }
+    Ok(true)
+}
+
 /// The copy is the message.
 pub fn copy_terminal(alloc: Global) -> Tried {
     let message = typed(alloc)?;

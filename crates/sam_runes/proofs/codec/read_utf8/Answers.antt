@@ -5,8 +5,8 @@ use Rattle.std.specs.Str.{encode_utf8_all}
 use Rattle.sam_runes.proofs.Codes.{read-more, read-shorter, read-all, left-none}
 use Rattle.sam_runes.proofs.codec.read_utf8.Goals as goal
 
-pub returns-in_default : goal.returns-in_default
-returns-in_default c = left-none c.loop-rest.runes.items c.args.bytes.now c.loop-rest.rest.now c.loop-rest.invariant c.in_default.ensures (grind (arith, nat_tests))
+pub returns-in_default-first_rune : goal.returns-in_default-first_rune
+returns-in_default-first_rune c = left-none c.loop-rest.runes.items c.args.bytes.now c.loop-rest.rest.now c.loop-rest.invariant c.in_default-first_rune.ensures (grind (arith, nat_tests))
 
 pub loop-rest-smaller : goal.loop-rest-smaller
 loop-rest-smaller c =
@@ -16,7 +16,7 @@ loop-rest-smaller c =
 pub loop-rest-preserved : goal.loop-rest-preserved
 loop-rest-preserved c =
     let l = c.loop-rest in
-    rw c.in_ok-push.ensures.items
+    rw c.in-Ok-push.ensures.items
     (read-more l.runes.items l.rest.now _ c.args.bytes.now c.in-Some.rune c.in-Some.len l.invariant c.in-Some.ensures.1 (between_to_end l.rest.now c.in-Some.len (length l.rest.now) (omega arith)))
 
 pub returns : goal.returns
