@@ -3,8 +3,9 @@ use Rattle.std.proofs.Common.{◌≡◌, ◌≢◌, ℕ, zero, suc, ◌+◌, ◌
 use Rattle.std.proofs.lemmas.Bool.Decides.{eqb_tells}
 use Rattle.std.proofs.lemmas.List.Elements.{All-head, All-tail}
 use Rattle.sam_queue.specs.declared.port.Entry.{Entry}
-use Rattle.sam_queue.specs.History.{loads, items_of, has_mark, all_of}
-use Rattle.sam_queue.specs.Views.{LineView, PostView, WasFull, IsAlone, IsFilled}
+use Rattle.sam_queue.specs.declared.port.Part.{Part}
+use Rattle.sam_queue.specs.History.{loads, items_of, has_mark, all_of, StartsWith}
+use Rattle.sam_queue.specs.Views.{LineView, PostView, TakeView, part_of, take_told, KnowsOfNone, WasFull, IsAlone, IsFilled}
 use Rattle.sam_queue.specs.Audits.{ArePostsOf}
 use Rattle.sam_queue.specs.Views.{new_post, new_posts}
 use Rattle.sam_queue.proofs.Sorts.{items_of-append, one_item, no_item, mark_item}
@@ -87,3 +88,19 @@ module _ {T : Type 0} where
       let more : length (loads p.number taken) ≡ length (loads p.number p.known.taken) + length (loads p.number known.0) = ap length (part p.number) ∙ length-append (loads p.number p.known.taken) (loads p.number known.0) in
       let full = f.1 in
       omega (arith, both)
+
+  -- ---- a line with one sender
+  pub alone_by_itself : (p : PostView T) → p.line.senders ≡ 1 → p.number ≡ 0 → IsAlone p
+  alone_by_itself p one first i less ne = absurd (ne (omega arith))
+
+  -- ---- a post that has put nothing finds room where it is alone
+  pub first_not_filled : (p : PostView T) → p.put ≡ [] → 0 < p.line.capacity → ¬ IsFilled p
+  first_not_filled p none room filled = let nothing : length p.put ≡ 0 = ap length none in omega arith
+
+  -- ---- a take that has learned of more than it has taken is not empty
+  pub known_not_empty : (t : TakeView T) (p : PostView T) → length (loads p.number t.taken) < length (all_of p.put p.closed) → ¬ KnowsOfNone (take_told t p)
+  known_not_empty t p more none =
+      let P : Part T → Type 0 = λ s. StartsWith (loads s.number t.taken) (all_of s.put s.closed) in
+      let has = All-head P (part_of p) [] (all_right P t.told (part_of p ∷ []) none.1) in
+      let long : length (loads p.number t.taken) ≡ length (all_of p.put p.closed) + length has.0 = ap length has.1 ∙ length-append (all_of p.put p.closed) has.0 in
+      omega arith
