@@ -1,5 +1,6 @@
 -- Laws for callers.
-use Rattle.std.proofs.Common.{◌≡◌, ◌≢◌, ℕ, zero, suc, ◌+◌, ◌<◌, true, false, eqb, ◌||◌, List, [], ◌∷◌, ◌++◌, length, Some, None, slice_get, All, sym, refl, ap, ◌∙◌, subst, ⊎_elim, append-nil, length-append, arith}
+use Rattle.std.proofs.Common.{◌≡◌, ◌≢◌, ℕ, zero, suc, ◌+◌, ◌<◌, true, false, eqb, ◌||◌, Option, Some, None, sym, refl, ap, ◌∙◌, subst, ⊎_elim, arith}
+use Rattle.std.proofs.Common.{List, [], ◌∷◌, ◌++◌, length, slice_get, All, append-nil, length-append}
 use Rattle.std.proofs.lemmas.Bool.Decides.{eqb_tells}
 use Rattle.std.proofs.lemmas.List.Elements.{All-head, All-tail}
 use Rattle.sam_queue.specs.declared.port.Entry.{Entry}
@@ -62,7 +63,8 @@ module _ {T : Type 0} where
   length_alone n i [] within none = refl
   length_alone n i (e ∷ h) within none = ⊎_elim
       (λ (t : (eqb e.sender i ≡ true) × (e.sender ≡ i)).
-      let rest : length h ≡ length (loads i h) = length_alone n i h (All-tail (λ (x : Entry T). x.sender < n) e h within) (λ j less ne. sym (loads_other j e h (λ q. ne (sym q ∙ t.1))) ∙ none j less ne) in
+      let others : (j : ℕ) → j < n → j ≢ i → loads j h ≡ [] = λ j less ne. sym (loads_other j e h (λ q. ne (sym q ∙ t.1))) ∙ none j less ne in
+      let rest : length h ≡ length (loads i h) = length_alone n i h (All-tail (λ (x : Entry T). x.sender < n) e h within) others in
       ap suc rest ∙ sym (ap length (loads_mine i e h t.1)))
       (λ (t : (eqb e.sender i ≡ false) × (e.sender ≢ i)).
       let nothing : e.load ∷ loads e.sender h ≡ [] = sym (loads_mine e.sender e h refl) ∙ none e.sender (All-head (λ (x : Entry T). x.sender < n) e h within) t.1 in
@@ -85,7 +87,8 @@ module _ {T : Type 0} where
       let mine : loads p.number taken ++ loads p.number held ≡ all_of p.put false = sym (loads-append p.number taken held) ∙ m.0 ∙ ap (all_of p.put) still_open in
       let long : length (loads p.number taken ++ loads p.number held) ≡ length p.put = ap length mine ∙ length_said p.put in
       let both = length-append (loads p.number taken) (loads p.number held) in
-      let more : length (loads p.number taken) ≡ length (loads p.number p.known.taken) + length (loads p.number known.0) = ap length (part p.number) ∙ length-append (loads p.number p.known.taken) (loads p.number known.0) in
+      let mine_known : List (Option T) = loads p.number p.known.taken in
+      let more : length (loads p.number taken) ≡ length mine_known + length (loads p.number known.0) = ap length (part p.number) ∙ length-append mine_known (loads p.number known.0) in
       let full = f.1 in
       omega (arith, both)
 
