@@ -72,8 +72,3 @@ module _ {T : Type 0} where
       let b = length_total n k within_too in
       let c = total_agree n h k agree in
       omega arith
-
-  -- with one sender, a history is as long as that one's part
-  pub length_alone : (h : List (Entry T)) → All (λ e. e.sender < 1) h → length h ≡ length (loads 0 h)
-  unfolding total
-  length_alone h all = let many = length_total 1 h all in omega arith
