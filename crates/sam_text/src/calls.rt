@@ -4,7 +4,7 @@
 ghost use Rattle.std.specs.Prelude.{◌≡◌, ◌<◌, ◌≤◌, ◌+◌, ◌-◌, ◌∷◌, [], IsOk, OnOk, OnErr, IfOk, IfErr, Err, Some, None, true, false, length, ◌&&◌, not};
 ghost use Rattle.sam_runes.specs.Checks.{first_of_checks, unless};
 ghost use Rattle.sam_runes.specs.Texts.{max_runes, all_tags, part, word_at, is_empty};
-ghost use Rattle.sam_text.specs.Files.{PlainFile, blank_file, file_at, has_file, put_file, no_file, past_end, no_range, too_long, no_tag, with_dot, with_work, with_new, new_file, without_file, opened_file, announced_file, written_file, typed_file, cut_file, pasted_file, has_room, after_print, IsFault, search_of, with_found, may_look, look_of, with_look, most_in_name};
+ghost use Rattle.sam_text.specs.Files.{PlainFile, blank_file, file_at, has_file, put_file, no_file, past_end, no_range, too_long, no_tag, with_dot, with_work, with_new, new_file, without_file, opened_file, announced_file, written_file, typed_file, cut_file, pasted_file, has_room, is_printed, after_print, IsFault, search_of, with_found, may_look, look_of, with_look, most_in_name};
 ghost use Rattle.sam_text.specs.Views.{room_at, KeepRooms, KeepRoomsBut};
 
 use crate::fault::FilesFault;
@@ -376,6 +376,8 @@ impl Files {
         ensures told { IfOk result (λ fits. fits ≡ has_room self.old.plain runes.now) }
         ensures done { OnOk result (self.new.plain ≡ after_print self.old.plain runes.now) }
         ensures refused { OnErr result (result ≡ Err FilesFault.OutOfMemory) }
+        // Only what is printed wants memory.
+        ensures memory { OnErr result (is_printed self.old.plain runes.now ≡ true) }
         ensures unchanged { OnErr result (self.new ≡ self.old) }
         ensures room { length runes.now ≤ room_at self.old.rooms 0 → IsOk result × (room_at self.old.rooms 0 ≤ room_at self.new.rooms 0 + length runes.now) }
         ensures rooms { KeepRooms self.old self.new }
