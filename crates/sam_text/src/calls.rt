@@ -175,7 +175,9 @@ impl Files {
         ensures unchanged { self.new.plain ≡ self.old.plain }
         ensures room { OnOk result (n ≤ room_at self.new.rooms tag) }
         // Where that room is there already, it takes no memory and changes nothing.
-        ensures there { n ≤ room_at self.old.rooms tag → (result ≡ unless (first_of_checks (no_file self.old.plain tag ∷ too_long (length (file_at self.old.plain tag).text + n) ∷ [])) tt) × (self.new ≡ self.old) }
+        ensures there { n ≤ room_at self.old.rooms tag → self.new ≡ self.old }
+        ensures memory { n ≤ room_at self.old.rooms tag →
+            result ≡ unless (first_of_checks (no_file self.old.plain tag ∷ too_long (length (file_at self.old.plain tag).text + n) ∷ [])) tt }
         ensures err { OnErr result (self.new ≡ self.old) }
         ensures rooms { KeepRoomsBut (Some tag) self.old self.new }
     {
@@ -317,7 +319,8 @@ impl Files {
         ensures found { IfOk result (λ found. found ≡ look_of (file_at self.old.plain tag).text (part (file_at self.old.plain tag).text p q) q) }
         ensures done { OnOk result (self.new.plain ≡ with_look self.old.plain tag (part (file_at self.old.plain tag).text p q) q) }
         // What may be no pattern wants no memory.
-        ensures memory { may_look (part (file_at self.old.plain tag).text p q) ≡ false → result ≡ unless (first_of_checks (no_file self.old.plain tag ∷ no_range self.old.plain tag p q ∷ [])) None }
+        ensures memory { may_look (part (file_at self.old.plain tag).text p q) ≡ false →
+            result ≡ unless (first_of_checks (no_file self.old.plain tag ∷ no_range self.old.plain tag p q ∷ [])) None }
         ensures rooms { KeepRooms self.old self.new }
         ensures unchanged { OnErr result (self.new ≡ self.old) }
     {
