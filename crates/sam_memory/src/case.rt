@@ -1,7 +1,7 @@
 //! The cases by their names.
 
 use crate::setup::Tried;
-use crate::{answers, codec, events, framing, gaps, lines, queue, sessions, worlds};
+use crate::{answers, codec, events, framing, gaps, lines, queue, refusals, sessions, worlds};
 use std::alloc::Global;
 use std::sync::Wait;
 use std::thread::Threads;
@@ -35,11 +35,18 @@ pub enum Case {
     Audit,
     Settle,
     RunThreads,
+    InsertLong,
+    FilesRefuse,
+    RaspRefuses,
+    ActRefuses,
+    ReceivePast,
+    ReceiveFuture,
+    MergeRefuses,
 }
 
 impl Case {
     /// All cases, in the order in which they run.
-    pub const ALL: [Case; 26] = [
+    pub const ALL: [Case; 33] = [
         Case::EncodeT,
         Case::EncodeH,
         Case::DecodeT,
@@ -66,6 +73,13 @@ impl Case {
         Case::Audit,
         Case::Settle,
         Case::RunThreads,
+        Case::InsertLong,
+        Case::FilesRefuse,
+        Case::RaspRefuses,
+        Case::ActRefuses,
+        Case::ReceivePast,
+        Case::ReceiveFuture,
+        Case::MergeRefuses,
     ];
 
     /// The word that chooses the case.
@@ -97,6 +111,13 @@ impl Case {
             Case::Audit => "audit",
             Case::Settle => "settle",
             Case::RunThreads => "run_threads",
+            Case::InsertLong => "insert_long",
+            Case::FilesRefuse => "files_refuse",
+            Case::RaspRefuses => "rasp_refuses",
+            Case::ActRefuses => "act_refuses",
+            Case::ReceivePast => "receive_past",
+            Case::ReceiveFuture => "receive_future",
+            Case::MergeRefuses => "merge_refuses",
         }
     }
 
@@ -129,6 +150,13 @@ impl Case {
             Case::Audit => queue::audit_one(rt, alloc),
             Case::Settle => sessions::settle_ends(rt, alloc),
             Case::RunThreads => sessions::run_session(rt, alloc),
+            Case::InsertLong => refusals::insert_long(alloc),
+            Case::FilesRefuse => refusals::files_refuse(alloc),
+            Case::RaspRefuses => refusals::rasp_refuses(alloc),
+            Case::ActRefuses => refusals::act_refuses(alloc),
+            Case::ReceivePast => refusals::receive_past(alloc),
+            Case::ReceiveFuture => refusals::receive_future(alloc),
+            Case::MergeRefuses => refusals::merge_refuses(alloc),
         }
     }
 }

@@ -41,7 +41,7 @@ pub fn is_same_terminal(terminal: &Terminal, other: &Terminal) -> bool {
 }
 
 /// Hands over a frame. One that does not fit is none that a case has.
-fn take(terminal: &mut Terminal, seen: u64, msg: Hmesg) -> Result<Batch, TermFault> {
+pub fn take(terminal: &mut Terminal, seen: u64, msg: Hmesg) -> Result<Batch, TermFault> {
     let frame = HFrame { seen, msg };
     if !fits_h(2, &frame.msg) {
         return Err(TermFault::TooLong);
@@ -75,7 +75,7 @@ fn composed(terminal: &mut Terminal, twin: &Terminal) -> Option<Batch> {
 }
 
 /// Opens a window on the file of the tag, with gaps for as many runes.
-fn open(terminal: &mut Terminal, tag: u16, runes: u32) -> Result<(), SetUp> {
+pub fn open(terminal: &mut Terminal, tag: u16, runes: u32) -> Result<(), SetUp> {
     take(terminal, 0, Hmesg::Hnewname(tag))?;
     take(terminal, 0, Hmesg::Hbindname(tag))?;
     if runes > 0 {

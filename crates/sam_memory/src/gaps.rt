@@ -35,7 +35,7 @@ pub fn shows(rasp: &Rasp, shown: &str) -> bool {
 }
 
 /// A rasp of five gaps.
-fn five_gaps(alloc: Global) -> Result<Rasp, SetUp> {
+pub fn five_gaps(alloc: Global) -> Result<Rasp, SetUp> {
     let mut rasp = Rasp::new(alloc);
     rasp.grow(0, 5)?;
     Ok(rasp)

@@ -6,7 +6,7 @@ use sam_text::{Files, FilesFault};
 use std::alloc::Global;
 
 /// Files whose work file has this text.
-fn with_work(alloc: Global, text: &str) -> Result<Files, SetUp> {
+pub fn with_work(alloc: Global, text: &str) -> Result<Files, SetUp> {
     let mut files = Files::new(alloc)?;
     files.new_file(alloc, &['a'], runes(alloc, text)?.as_slice())?;
     files.set_work(1, 0, 0)?;

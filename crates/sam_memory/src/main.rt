@@ -14,6 +14,7 @@ mod framing;
 mod gaps;
 mod lines;
 mod queue;
+mod refusals;
 mod sessions;
 mod setup;
 mod worlds;

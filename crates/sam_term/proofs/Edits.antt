@@ -1,11 +1,11 @@
 -- What the events do that change a rasp, a dot or a view, or send runes.
 use Rattle.std.proofs.Common.{◌≡◌, refl, sym, ap, ◌∙◌, subst, ℕ, zero, suc, ◌≤◌, ◌<◌, ◌+◌, Bool, true, false, List, [], ◌∷◌, ◌++◌, length, drop, Option, Some, None, Ok, Err, if◌then◌else◌, ◌==◌, ◌≢◌, nat_eq, arith, inl, inr}
-use Rattle.std.specs.Prelude.{◌||◌, nat_lt, Result}
+use Rattle.std.specs.Prelude.{◌||◌, nat_lt, Result, IsOk}
 use Rattle.sam_runes.specs.Checks.{Checks, first_of_checks}
 use Rattle.sam_runes.specs.Texts.{most_count}
 use Rattle.sam_term.specs.Term.{PlainTerminal, Made, event_checks, made_by, window_at, is_open, composed, all_composed, lock_taken, asked, flushed, unsent_message, sends, unchanged, has_bad_place, made_by_snarf, made_by_cut, made_by_paste, made_by_view, wanted, request_for, cuts_dot, and_then, del_rasp, put_window, known_at, moved_unsent, blank_known}
 use Rattle.sam_term.specs.Locks.{lock_of}
-use Rattle.sam_term.specs.Taking.{done, countable}
+use Rattle.sam_term.specs.Taking.{done, countable, IsFailure}
 use Rattle.sam_term.specs.Acting.{first_event, free_first, made_first, is_snarfing}
 use Rattle.sam_term.specs.declared.lock.Lock.{Lock}
 use Rattle.sam_term.specs.declared.lock.Lock.TheVariants.{NoLock, CommandLock, FileLock}
@@ -18,7 +18,7 @@ use Rattle.sam_term.specs.declared.fault.TermFault.TheVariants as fault
 use Rattle.sam_mesg.specs.declared.tmesg.Tmesg.{Tmesg}
 use Rattle.sam_mesg.specs.declared.tmesg.Tmesg.TheVariants.{Trequest, Tcut, Tpaste, Tsnarf, Tsetsnarf}
 use Rattle.sam_term.proofs.Acts.{made_of}
-use Rattle.sam_term.proofs.Sounds.{loud_done, full_done}
+use Rattle.sam_term.proofs.Sounds.{loud_done, full_done, is_done}
 use Rattle.sam_term.proofs.Composes.{flushed-none}
 use Rattle.sam_term.proofs.CountLaws.{counts-event}
 use Rattle.sam_rasp.specs.Rasp.{place_after_del, hole_within}
@@ -42,6 +42,9 @@ answers t u e made ms first by a b l =
 
 pub overflows : (t : PlainTerminal) (e : UserEvent) (made : Made) → first_event t.held ≡ e → made_by (later t) e ≡ made → most_count < made.0.sent → done (made_first t) ≡ Err fault.CountFull
 overflows t e made first by l = ap done (made_of t e first ∙ by) ∙ full_done made l
+
+pub fits_count : (t : PlainTerminal) (e : UserEvent) (made : Made) → first_event t.held ≡ e → made_by (later t) e ≡ made → made.0.sent ≤ most_count → IsOk (done (made_first t))
+fits_count t e made first by l = subst IsOk (sym (ap done (made_of t e first ∙ by))) (is_done made l)
 
 -- ## What stands against the oldest event
 
@@ -146,6 +149,18 @@ refused_later made why es e = uncounted (nat_lt most_count made.0.sent) made why
 pub quiet_answer : (t x u : PlainTerminal) (e : UserEvent) (a : Acted) → first_event t.held ≡ e → made_by (later t) e ≡ (x, []) → u ≡ x → a ≡ Done [] → u.sent ≤ most_count → done (made_first t) ≡ Ok (u, a)
 quiet_answer t x u e a first by b d l =
     answers t u e (x, []) [] first by b refl l ∙ ap {B = Result (PlainTerminal × Acted) TermFault} (λ y. Ok (u, y)) (sym d)
+
+uncounted_ok : (b : Bool) (made : Made) (es : List UserEvent) → IsOk (the_countable b made) → IsOk (the_done b (record made.0 { held = es }, made.1))
+uncounted_ok true made es h = absurd (cc)
+uncounted_ok false made es h = refl
+
+-- a fault of a call that composes is a fault of its event
+pub failed_later : (made : Made) (why : TermFault) (es : List UserEvent) → IsFailure (countable made) why → IsFailure (done (record made.0 { held = es }, made.1)) why
+unfolding countable done
+failed_later made why es h = elim h [
+  | inl e ↦ inl (e.0, uncounted_ok (nat_lt most_count made.0.sent) made es e.1)
+  | inr e ↦ inr (refused_later made why es e)
+]
 
 -- ## What an event makes
 
@@ -263,9 +278,9 @@ made-sent t e made ms by m =
     let many = ap length m ∙ (length-append (flushed t).1 ms ∙ ap (λ ns. length ns + length ms) (flushed-messages t)) in
     omega arith
 
-pub refused_by : (t : PlainTerminal) (e : UserEvent) (made : Made) (ms : List Tmesg) (why : TermFault) (count : ℕ) → first_event t.held ≡ e → made_by (later t) e ≡ made → made.1 ≡ (flushed (later t)).1 ++ ms → count ≡ length ms + length (unsent_message t.unsent) → (why ≡ fault.OutOfMemory) ⊎ ((why ≡ fault.CountFull) × (most_count < t.sent + count)) → (why ≡ fault.OutOfMemory) ⊎ (done (made_first t) ≡ Err why)
+pub refused_by : (t : PlainTerminal) (e : UserEvent) (made : Made) (ms : List Tmesg) (why : TermFault) (count : ℕ) → first_event t.held ≡ e → made_by (later t) e ≡ made → made.1 ≡ (flushed (later t)).1 ++ ms → count ≡ length ms + length (unsent_message t.unsent) → ((why ≡ fault.OutOfMemory) × (t.sent + count ≤ most_count)) ⊎ ((why ≡ fault.CountFull) × (most_count < t.sent + count)) → IsFailure (done (made_first t)) why
 refused_by t e made ms why count first by m n h = elim h [
-  | inl o ↦ inl o
+  | inl o ↦ let s = made-sent (later t) e made ms by m in inl (o.0, fits_count t e made first by (omega (arith, o.1)))
   | inr k ↦ let s = made-sent (later t) e made ms by m in inr (overflows t e made first by (omega (arith, k.1)) ∙ ap Err (sym k.0))
 ]
 
@@ -321,10 +336,10 @@ made-view_none t f p n e = requested_none (shown_from t f p n) f e
 
 -- ## Runes for the snarf buffer
 
-pub refused_snarf : (t : PlainTerminal) (why : TermFault) (count : ℕ) → is_snarfing (first_event t.held) ≡ true → count ≡ 1 + length (unsent_message t.unsent) → (why ≡ fault.OutOfMemory) ⊎ ((why ≡ fault.CountFull) × (most_count < t.sent + count)) → (why ≡ fault.OutOfMemory) ⊎ (done (made_first t) ≡ Err why)
+pub refused_snarf : (t : PlainTerminal) (why : TermFault) (count : ℕ) → is_snarfing (first_event t.held) ≡ true → count ≡ 1 + length (unsent_message t.unsent) → ((why ≡ fault.OutOfMemory) × (t.sent + count ≤ most_count)) ⊎ ((why ≡ fault.CountFull) × (most_count < t.sent + count)) → IsFailure (done (made_first t)) why
 refused_snarf t why count i n h = go (first_event t.held) refl i
   where
-    go : (e : UserEvent) → first_event t.held ≡ e → is_snarfing e ≡ true → (why ≡ fault.OutOfMemory) ⊎ (done (made_first t) ≡ Err why)
+    go : (e : UserEvent) → first_event t.held ≡ e → is_snarfing e ≡ true → IsFailure (done (made_first t)) why
     go (SetSnarf s) f i = refused_by t (SetSnarf s) (sends (later t) unchanged (Tsetsnarf s ∷ [])) (Tsetsnarf s ∷ []) why count f refl refl n h
     go _ f i = absurd (cc)
 

@@ -4,9 +4,9 @@ use Rattle.std.specs.Prelude.{unwrap_or}
 use Rattle.std.proofs.lemmas.Bool.Decides.{eqb_tells}
 use Rattle.sam_term.specs.Term.{PlainTerminal, window_at, put_window, known_at, blank_window, blank_known}
 use Rattle.sam_term.specs.declared.event.Acted.TheVariants.{Done}
-use Rattle.sam_term.specs.Taking.{done, countable, frame_fault, IsAnswer}
+use Rattle.sam_term.specs.Taking.{done, countable, frame_fault, IsAnswer, IsFailure}
 use Rattle.sam_mesg.specs.declared.hmesg.Hmesg.{Hmesg}
-use Rattle.std.specs.Prelude.{Result, IfOk, IfErr, OnErr}
+use Rattle.std.specs.Prelude.{Result, IfOk, IfErr, OnErr, IsOk}
 use Rattle.sam_mesg.specs.declared.hmesg.HFrame.{HFrame}
 use Rattle.sam_term.specs.declared.fault.TermFault.{TermFault}
 use Rattle.sam_term.specs.declared.fault.TermFault.TheVariants as fault
@@ -114,6 +114,15 @@ full made l =
     let n : nat_lt most_count made.0.sent ≡ true = lt-ltb most_count made.0.sent l in
     rw n refl
 
+-- what can be counted is an answer
+pub is_countable : (made : Made) → made.0.sent ≤ most_count → IsOk (countable made)
+unfolding countable
+is_countable made l = let n : nat_lt most_count made.0.sent ≡ false = le-ltb most_count made.0.sent l in rw n refl
+
+pub is_done : (made : Made) → made.0.sent ≤ most_count → IsOk (done made)
+unfolding done
+is_done made l = let n : nat_lt most_count made.0.sent ≡ false = le-ltb most_count made.0.sent l in rw n refl
+
 -- one message more is counted
 pub sound-count : (t : PlainTerminal) → IsSound t → t.sent < most_count → IsSound (record t { sent = t.sent + 1 })
 sound-count t s l = record { countable = omega arith; windows = windows; unsent = s.unsent; short = s.short }
@@ -150,7 +159,11 @@ answered t u (Err why) answer h = tt
 
 pub answer_refused : {A : Type 0} (t u : PlainTerminal) (r : Result A TermFault) (answer : Result (PlainTerminal × A) TermFault) → IsAnswer t u r answer → IfErr r (λ why. (why ≡ fault.OutOfMemory) ⊎ (answer ≡ Err why))
 answer_refused t u (Ok x) answer h = tt
-answer_refused t u (Err why) answer h = h.0
+answer_refused t u (Err why) answer h = elim h.0 [ inl e ↦ inl e.0 | inr e ↦ inr e ]
+
+pub answer_failed : {A : Type 0} (t u : PlainTerminal) (r : Result A TermFault) (answer : Result (PlainTerminal × A) TermFault) → IsAnswer t u r answer → IfErr r (IsFailure answer)
+answer_failed t u (Ok x) answer h = tt
+answer_failed t u (Err why) answer h = h.0
 
 pub answer_unchanged : {A : Type 0} (t u : PlainTerminal) (r : Result A TermFault) (answer : Result (PlainTerminal × A) TermFault) → IsAnswer t u r answer → OnErr r (u ≡ t)
 answer_unchanged t u (Ok x) answer h = tt

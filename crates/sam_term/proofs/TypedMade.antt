@@ -11,7 +11,7 @@ use Rattle.sam_term.specs.Locks.{is_command_line}
 use Rattle.sam_term.specs.Editing.{typed_over, typed_file, typed_runes, cut_message, one_if, flushed_if}
 use Rattle.sam_term.specs.Sound.{IsSound, FitsUnsent, IsShort}
 use Rattle.sam_term.specs.Acting.{first_event, free_first, made_first, is_typing}
-use Rattle.sam_term.specs.Taking.{done}
+use Rattle.sam_term.specs.Taking.{done, IsFailure}
 use Rattle.sam_term.specs.declared.files.Window.{Window}
 use Rattle.sam_term.specs.declared.files.Unsent.{Unsent}
 use Rattle.sam_term.specs.declared.lock.Lock.TheVariants.{NoLock, CommandLock}
@@ -25,7 +25,7 @@ use Rattle.sam_term.proofs.Acts.{passes, test_at}
 use Rattle.sam_term.proofs.TypedLaws.{typed-cut, typed-in}
 use Rattle.sam_term.proofs.Composes.{put-put, window-put_same, flushed-files}
 use Rattle.sam_term.proofs.CountLaws.{counts-event}
-use Rattle.sam_term.proofs.Edits.{later, overflows, cut_made, cuts_none, cuts_some, cut-unsent, flushed-idle, flushed-messages, empty-or, filled-or}
+use Rattle.sam_term.proofs.Edits.{later, overflows, fits_count, cut_made, cuts_none, cuts_some, cut-unsent, flushed-idle, flushed-messages, empty-or, filled-or}
 
 -- ## The window
 
@@ -247,9 +247,11 @@ pub flush-count : (b : Bool) (t : PlainTerminal) (j : Unsent) → t.unsent ≡ S
 flush-count true t j e = ap length (flushed-messages t) ∙ ap (λ o. length (unsent_message o)) e
 flush-count false t j e = refl
 
-pub refused_full : (t : PlainTerminal) (e : UserEvent) (made : Made) (why : TermFault) (count : ℕ) → first_event t.held ≡ e → made_by (later t) e ≡ made → count ≡ length made.1 → (why ≡ fault.OutOfMemory) ⊎ ((why ≡ fault.CountFull) × (most_count < t.sent + count)) → (why ≡ fault.OutOfMemory) ⊎ (done (made_first t) ≡ Err why)
+pub refused_full : (t : PlainTerminal) (e : UserEvent) (made : Made) (why : TermFault) (count : ℕ) → first_event t.held ≡ e → made_by (later t) e ≡ made → count ≡ length made.1 → ((why ≡ fault.OutOfMemory) × (t.sent + count ≤ most_count)) ⊎ ((why ≡ fault.CountFull) × (most_count < t.sent + count)) → IsFailure (done (made_first t)) why
 refused_full t e made why count first by n h = elim h [
-  | inl o ↦ inl o
+  | inl o ↦
+      let s = subst (λ (x : Made). x.0.sent ≡ t.sent + length x.1) by (counts-event (later t) e).sent in
+      inl (o.0, fits_count t e made first by (omega (arith, o.1)))
   | inr k ↦
       let s = subst (λ (x : Made). x.0.sent ≡ t.sent + length x.1) by (counts-event (later t) e).sent in
       inr (overflows t e made first by (omega (arith, k.1)) ∙ ap Err (sym k.0))

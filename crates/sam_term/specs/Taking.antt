@@ -1,5 +1,5 @@
 -- What a call answers, against what its definition answers.
-use Rattle.std.specs.Prelude.{◌≡◌, ◌⊎◌, drop, List, Option, Result, Ok, Err}
+use Rattle.std.specs.Prelude.{◌≡◌, ◌⊎◌, drop, List, Option, Result, Ok, Err, IsOk}
 use Rattle.sam_runes.specs.Checks.{first_of_checks}
 use Rattle.sam_term.specs.Term.{PlainTerminal, Made, frame_checks, if_countable}
 use Rattle.sam_term.specs.declared.event.Acted.{Acted}
@@ -11,10 +11,14 @@ use Rattle.sam_mesg.specs.declared.hmesg.Hmesg.{Hmesg}
 use Rattle.sam_term.specs.declared.fault.TermFault.{TermFault}
 use Rattle.sam_term.specs.declared.fault.TermFault.TheVariants.{OutOfMemory}
 
--- t became u: at Ok just what the definition answers, else nothing has changed, for want of memory or as the definition refuses
+-- a call may fail as the definition refuses, and for want of memory only where the definition answers
+abbrev pub IsFailure : {A : Type 0} → Result A TermFault → TermFault → Type 0
+IsFailure answer why = ((why ≡ OutOfMemory) × (IsOk answer)) ⊎ (answer ≡ Err why)
+
+-- t became u: at Ok just what the definition answers, else the call may fail so and has changed nothing
 abbrev pub IsAnswer : {A : Type 0} → PlainTerminal → PlainTerminal → Result A TermFault → Result (PlainTerminal × A) TermFault → Type 0
 IsAnswer t u (Ok x) answer = answer ≡ Ok (u, x)
-IsAnswer t u (Err why) answer = ((why ≡ OutOfMemory) ⊎ (answer ≡ Err why)) × (u ≡ t)
+IsAnswer t u (Err why) answer = (IsFailure answer why) × (u ≡ t)
 
 -- what was made, unless the count of composed messages would be passed
 unfoldable pub countable : Made → Result (PlainTerminal × List Tmesg) TermFault

@@ -113,7 +113,8 @@ impl Terminal {
     pub(crate) fn prepare(&self, count: u64, n: usize) -> Result<Outbox, TermFault>
         ensures ok { IfOk result (λ out. out ≡ record { messages = []; room = n }) }
         ensures counts { OnOk result (self.now.sent + count ≤ most_count) }
-        ensures full { IfErr result (λ why. (why ≡ TermFault.OutOfMemory) ⊎ ((why ≡ TermFault.CountFull) × (most_count < self.now.sent + count))) }
+        ensures full { IfErr result (λ why. ((why ≡ TermFault.OutOfMemory) × (self.now.sent + count ≤ most_count))
+            ⊎ ((why ≡ TermFault.CountFull) × (most_count < self.now.sent + count))) }
     {
         if u64::MAX - self.sent < count {
             return Err(TermFault::CountFull);

@@ -246,6 +246,7 @@ impl Terminal {
         requires size { length (window_at self.old tag).rasp + n ≤ max_runes }
         ensures { IsAnswer self.old self.new result (countable (made_from self.old (Hmesg.Hgrow tag p n))) }
     {
+        self.known();
         if let Err(_) = self.grow_file(tag, p, n) {
             return Err(TermFault::OutOfMemory);
         }
@@ -258,6 +259,7 @@ impl Terminal {
         requires place { p + length text ≤ length (window_at self.old tag).rasp }
         ensures { IsAnswer self.old self.new result (countable (made_from self.old (Hmesg.Hdata tag p text))) }
     {
+        self.known();
         if let Err(_) = self.load_file(tag, p, text.as_slice()) {
             return Err(TermFault::OutOfMemory);
         }
@@ -271,6 +273,7 @@ impl Terminal {
         requires size { length (window_at self.old tag).rasp + length text ≤ max_runes }
         ensures { IsAnswer self.old self.new result (countable (made_from self.old (Hmesg.Hgrowdata tag p text))) }
     {
+        self.known();
         if let Err(_) = self.fill_file(tag, p, text.as_slice()) {
             return Err(TermFault::OutOfMemory);
         }

@@ -1,10 +1,11 @@
-//! The calls that change files, each with its refusals. After a refusal the files are as they were.
+//! The calls that change files, each with its refusals. After a refusal the files are as they were, with their rooms. A call leaves the
+//! room of each text that it leaves.
 
-ghost use Rattle.std.specs.Prelude.{◌≡◌, ◌<◌, ◌≤◌, ◌+◌, ◌-◌, ◌∷◌, [], IsOk, OnOk, OnErr, IfOk, IfErr, Err, Some, None, true, length, ◌&&◌, not};
+ghost use Rattle.std.specs.Prelude.{◌≡◌, ◌<◌, ◌≤◌, ◌+◌, ◌-◌, ◌∷◌, [], IsOk, OnOk, OnErr, IfOk, IfErr, Err, Some, None, true, false, length, ◌&&◌, not};
 ghost use Rattle.sam_runes.specs.Checks.{first_of_checks, unless};
 ghost use Rattle.sam_runes.specs.Texts.{max_runes, all_tags, part, word_at, is_empty};
-ghost use Rattle.sam_text.specs.Files.{PlainFile, blank_file, file_at, has_file, put_file, no_file, past_end, no_range, too_long, no_tag, with_dot, with_work, with_new, new_file, without_file, opened_file, announced_file, written_file, typed_file, cut_file, pasted_file, has_room, after_print, IsFault, search_of, with_found, look_of, with_look, most_in_name};
-ghost use Rattle.sam_text.specs.Views.{room_at, LeaveRooms};
+ghost use Rattle.sam_text.specs.Files.{PlainFile, blank_file, file_at, has_file, put_file, no_file, past_end, no_range, too_long, no_tag, with_dot, with_work, with_new, new_file, without_file, opened_file, announced_file, written_file, typed_file, cut_file, pasted_file, has_room, is_printed, after_print, IsFault, search_of, with_found, may_look, look_of, with_look, most_in_name};
+ghost use Rattle.sam_text.specs.Views.{room_at, KeepRooms, KeepRoomsBut};
 
 use crate::fault::FilesFault;
 use crate::file::{File, FileChange};
@@ -59,7 +60,7 @@ impl Files {
         requires { 0 < tag }
         ensures answer { result ≡ unless (first_of_checks (no_file self.old.plain tag ∷ [])) tt }
         ensures done { OnOk result (self.new.plain ≡ without_file self.old.plain tag) }
-        ensures rooms { OnOk result (LeaveRooms tag self.old.rooms self.new.rooms) }
+        ensures rooms { KeepRooms self.old self.new }
         ensures unchanged { OnErr result (self.new ≡ self.old) }
     {
         self.wants_file(tag)?;
@@ -73,7 +74,7 @@ impl Files {
         ensures allowed { OnOk result (first_of_checks (no_file self.old.plain tag ∷ []) ≡ None) }
         ensures refused { IfErr result (IsFault (first_of_checks (no_file self.old.plain tag ∷ []))) }
         ensures done { OnOk result (self.new.plain ≡ put_file self.old.plain tag (written_file (file_at self.old.plain tag))) }
-        ensures rooms { self.new.rooms ≡ self.old.rooms }
+        ensures rooms { KeepRooms self.old self.new }
         ensures unchanged { OnErr result (self.new ≡ self.old) }
     {
         self.wants_file(tag)?;
@@ -90,7 +91,7 @@ impl Files {
         requires { 0 < tag }
         ensures answer { result ≡ unless (first_of_checks (no_file self.old.plain tag ∷ no_range self.old.plain tag p q ∷ [])) tt }
         ensures done { OnOk result (self.new.plain ≡ with_work self.old.plain tag p q) }
-        ensures rooms { self.new.rooms ≡ self.old.rooms }
+        ensures rooms { KeepRooms self.old self.new }
         ensures unchanged { OnErr result (self.new ≡ self.old) }
     {
         self.wants_range(tag, p, q)?;
@@ -103,7 +104,7 @@ impl Files {
     pub fn open(&mut self, tag: u16) -> Result<(), FilesFault>
         ensures answer { result ≡ unless (first_of_checks (no_file self.old.plain tag ∷ [])) tt }
         ensures done { OnOk result (self.new.plain ≡ put_file self.old.plain tag (opened_file (file_at self.old.plain tag))) }
-        ensures rooms { self.new.rooms ≡ self.old.rooms }
+        ensures rooms { KeepRooms self.old self.new }
         ensures unchanged { OnErr result (self.new ≡ self.old) }
     {
         self.wants_file(tag)?;
@@ -115,7 +116,7 @@ impl Files {
     pub fn announce(&mut self, tag: u16) -> Result<(), FilesFault>
         ensures answer { result ≡ unless (first_of_checks (no_file self.old.plain tag ∷ [])) tt }
         ensures done { OnOk result (self.new.plain ≡ put_file self.old.plain tag (announced_file (file_at self.old.plain tag))) }
-        ensures rooms { self.new.rooms ≡ self.old.rooms }
+        ensures rooms { KeepRooms self.old self.new }
         ensures unchanged { OnErr result (self.new ≡ self.old) }
     {
         self.wants_file(tag)?;
@@ -127,7 +128,7 @@ impl Files {
     pub fn set_dot(&mut self, tag: u16, p: u32, q: u32) -> Result<(), FilesFault>
         ensures answer { result ≡ unless (first_of_checks (no_file self.old.plain tag ∷ no_range self.old.plain tag p q ∷ [])) tt }
         ensures done { OnOk result (self.new.plain ≡ with_dot self.old.plain tag p q) }
-        ensures rooms { self.new.rooms ≡ self.old.rooms }
+        ensures rooms { KeepRooms self.old self.new }
         ensures unchanged { OnErr result (self.new ≡ self.old) }
     {
         self.wants_range(tag, p, q)?;
@@ -139,7 +140,7 @@ impl Files {
     pub fn delete(&mut self, tag: u16, p: u32, q: u32) -> Result<(), FilesFault>
         ensures answer { result ≡ unless (first_of_checks (no_file self.old.plain tag ∷ no_range self.old.plain tag p q ∷ [])) tt }
         ensures done { OnOk result (self.new.plain ≡ put_file self.old.plain tag (cut_file tag (file_at self.old.plain tag) p q)) }
-        ensures rooms { OnOk result (LeaveRooms tag self.old.rooms self.new.rooms) }
+        ensures rooms { KeepRooms self.old self.new }
         ensures unchanged { OnErr result (self.new ≡ self.old) }
     {
         self.wants_range(tag, p, q)?;
@@ -153,10 +154,10 @@ impl Files {
         ensures allowed { OnOk result (first_of_checks (no_file self.old.plain tag ∷ past_end self.old.plain tag p ∷ too_long (length (file_at self.old.plain tag).text + length runes.now) ∷ []) ≡ None) }
         ensures refused { IfErr result (IsFault (first_of_checks (no_file self.old.plain tag ∷ past_end self.old.plain tag p ∷ too_long (length (file_at self.old.plain tag).text + length runes.now) ∷ []))) }
         ensures done { OnOk result (self.new.plain ≡ put_file self.old.plain tag (typed_file tag (file_at self.old.plain tag) p runes.now)) }
-        ensures unchanged { OnErr result (self.new.plain ≡ self.old.plain) }
+        ensures unchanged { OnErr result (self.new ≡ self.old) }
         ensures memory { length runes.now ≤ room_at self.old.rooms tag → result ≡ unless (first_of_checks (no_file self.old.plain tag ∷ past_end self.old.plain tag p ∷ too_long (length (file_at self.old.plain tag).text + length runes.now) ∷ [])) tt }
         ensures room { OnOk result (length runes.now ≤ room_at self.old.rooms tag → room_at self.old.rooms tag ≤ room_at self.new.rooms tag + length runes.now) }
-        ensures others { LeaveRooms tag self.old.rooms self.new.rooms }
+        ensures rooms { KeepRooms self.old self.new }
     {
         self.wants_place(tag, p)?;
         if runes.len() > MAX_RUNES as usize - self.text_len(tag) {
@@ -166,13 +167,19 @@ impl Files {
         self.put_in(tag, p, runes, (end, end), tag == 0)
     }
 
-    /// Makes room for `n` more runes in the text of a file. The files stay as they are.
+    /// Makes room for `n` more runes in the text of a file. The files stay as they are. After a refusal, and where that room is there
+    /// already, all rooms are as before.
     pub fn reserve(&mut self, tag: u16, n: u32) -> Result<(), FilesFault>
         ensures allowed { OnOk result (first_of_checks (no_file self.old.plain tag ∷ too_long (length (file_at self.old.plain tag).text + n) ∷ []) ≡ None) }
         ensures refused { IfErr result (IsFault (first_of_checks (no_file self.old.plain tag ∷ too_long (length (file_at self.old.plain tag).text + n) ∷ []))) }
         ensures unchanged { self.new.plain ≡ self.old.plain }
         ensures room { OnOk result (n ≤ room_at self.new.rooms tag) }
-        ensures others { LeaveRooms tag self.old.rooms self.new.rooms }
+        // Where that room is there already, it takes no memory and changes nothing.
+        ensures there { n ≤ room_at self.old.rooms tag → self.new ≡ self.old }
+        ensures memory { n ≤ room_at self.old.rooms tag →
+            result ≡ unless (first_of_checks (no_file self.old.plain tag ∷ too_long (length (file_at self.old.plain tag).text + n) ∷ [])) tt }
+        ensures err { OnErr result (self.new ≡ self.old) }
+        ensures rooms { KeepRoomsBut (Some tag) self.old self.new }
     {
         self.wants_file(tag)?;
         if n as usize > MAX_RUNES as usize - self.text_len(tag) {
@@ -186,7 +193,7 @@ impl Files {
         ensures allowed { IfOk result (λ n. (first_of_checks (no_file self.old.plain tag ∷ no_range self.old.plain tag p q ∷ []) ≡ None) × (n ≡ q - p)) }
         ensures refused { IfErr result (IsFault (first_of_checks (no_file self.old.plain tag ∷ no_range self.old.plain tag p q ∷ []))) }
         ensures done { OnOk result (self.new.plain ≡ record self.old.plain { snarf = part (file_at self.old.plain tag).text p q }) }
-        ensures rooms { self.new.rooms ≡ self.old.rooms }
+        ensures rooms { KeepRooms self.old self.new }
         ensures unchanged { OnErr result (self.new ≡ self.old) }
     {
         self.wants_range(tag, p, q)?;
@@ -204,7 +211,7 @@ impl Files {
         ensures allowed { OnOk result (length runes.now ≤ max_runes) }
         ensures refused { IfErr result (IsFault (first_of_checks (too_long (length runes.now) ∷ []))) }
         ensures done { OnOk result (self.new.plain ≡ record self.old.plain { snarf = runes.now }) }
-        ensures rooms { self.new.rooms ≡ self.old.rooms }
+        ensures rooms { KeepRooms self.old self.new }
         ensures unchanged { OnErr result (self.new ≡ self.old) }
     {
         if runes.len() > MAX_RUNES as usize {
@@ -222,7 +229,7 @@ impl Files {
     pub fn double_click(&mut self, tag: u16, p: u32) -> Result<(u32, u32), FilesFault>
         ensures answer { result ≡ unless (first_of_checks (no_file self.old.plain tag ∷ past_end self.old.plain tag p ∷ [])) (word_at (file_at self.old.plain tag).text p) }
         ensures done { IfOk result (λ dot. self.new.plain ≡ with_dot self.old.plain tag dot.0 dot.1) }
-        ensures rooms { self.new.rooms ≡ self.old.rooms }
+        ensures rooms { KeepRooms self.old self.new }
         ensures unchanged { OnErr result (self.new ≡ self.old) }
     {
         self.wants_place(tag, p)?;
@@ -243,8 +250,8 @@ impl Files {
         ensures refused { IfErr result (IsFault (first_of_checks (too_long (length text.now) ∷ no_tag self.old.plain ∷ []))) }
         ensures tag { IfOk result (λ tag. tag ≡ length self.old.plain.slots) }
         ensures done { OnOk result (self.new.plain ≡ with_new self.old.plain (record blank_file { name = name.now; text = text.now })) }
-        ensures unchanged { OnErr result (self.new.plain ≡ self.old.plain) }
-        ensures rooms { LeaveRooms (length self.old.plain.slots) self.old.rooms self.new.rooms }
+        ensures unchanged { OnErr result (self.new ≡ self.old) }
+        ensures rooms { KeepRooms self.old self.new }
     {
         if text.len() > MAX_RUNES as usize {
             return Err(FilesFault::TooLong);
@@ -270,8 +277,8 @@ impl Files {
         ensures refused { IfErr result (IsFault (first_of_checks (no_tag self.old.plain ∷ []))) }
         ensures tag { IfOk result (λ tag. tag ≡ length self.old.plain.slots) }
         ensures done { OnOk result (self.new.plain ≡ with_new self.old.plain (record blank_file { name = name; text = text.runes })) }
-        ensures unchanged { OnErr result (self.new.plain ≡ self.old.plain) }
-        ensures rooms { LeaveRooms (length self.old.plain.slots) self.old.rooms self.new.rooms }
+        ensures unchanged { OnErr result (self.new ≡ self.old) }
+        ensures rooms { KeepRooms self.old self.new }
     {
         let tag = self.tags();
         if tag >= 65_536 {
@@ -287,8 +294,8 @@ impl Files {
         ensures refused { IfErr result (IsFault (first_of_checks (no_tag self.old.plain ∷ []))) }
         ensures tag { IfOk result (λ tag. tag ≡ length self.old.plain.slots) }
         ensures done { OnOk result (self.new.plain ≡ with_new self.old.plain new_file) }
-        ensures unchanged { OnErr result (self.new.plain ≡ self.old.plain) }
-        ensures rooms { LeaveRooms (length self.old.plain.slots) self.old.rooms self.new.rooms }
+        ensures unchanged { OnErr result (self.new ≡ self.old) }
+        ensures rooms { KeepRooms self.old self.new }
     {
         let tag = self.tags();
         if tag >= 65_536 {
@@ -311,7 +318,10 @@ impl Files {
         ensures refused { IfErr result (IsFault (first_of_checks (no_file self.old.plain tag ∷ no_range self.old.plain tag p q ∷ []))) }
         ensures found { IfOk result (λ found. found ≡ look_of (file_at self.old.plain tag).text (part (file_at self.old.plain tag).text p q) q) }
         ensures done { OnOk result (self.new.plain ≡ with_look self.old.plain tag (part (file_at self.old.plain tag).text p q) q) }
-        ensures rooms { self.new.rooms ≡ self.old.rooms }
+        // What may be no pattern wants no memory.
+        ensures memory { may_look (part (file_at self.old.plain tag).text p q) ≡ false →
+            result ≡ unless (first_of_checks (no_file self.old.plain tag ∷ no_range self.old.plain tag p q ∷ [])) None }
+        ensures rooms { KeepRooms self.old self.new }
         ensures unchanged { OnErr result (self.new ≡ self.old) }
     {
         self.wants_range(tag, p, q)?;
@@ -336,7 +346,7 @@ impl Files {
     pub fn search(&mut self, tag: u16, p: u32, q: u32) -> Result<Option<(u32, u32)>, FilesFault>
         ensures answer { result ≡ unless (first_of_checks (no_file self.old.plain tag ∷ no_range self.old.plain tag p q ∷ [])) (search_of self.old.plain tag q) }
         ensures done { OnOk result (self.new.plain ≡ with_found self.old.plain tag (search_of self.old.plain tag q)) }
-        ensures rooms { self.new.rooms ≡ self.old.rooms }
+        ensures rooms { KeepRooms self.old self.new }
         ensures unchanged { OnErr result (self.new ≡ self.old) }
     {
         self.wants_range(tag, p, q)?;
@@ -353,8 +363,8 @@ impl Files {
         ensures allowed { OnOk result (first_of_checks (no_file self.old.plain tag ∷ past_end self.old.plain tag p ∷ too_long (length (file_at self.old.plain tag).text + length self.old.plain.snarf) ∷ []) ≡ None) }
         ensures refused { IfErr result (IsFault (first_of_checks (no_file self.old.plain tag ∷ past_end self.old.plain tag p ∷ too_long (length (file_at self.old.plain tag).text + length self.old.plain.snarf) ∷ []))) }
         ensures done { OnOk result (self.new.plain ≡ put_file self.old.plain tag (pasted_file tag (file_at self.old.plain tag) p self.old.plain.snarf)) }
-        ensures unchanged { OnErr result (self.new.plain ≡ self.old.plain) }
-        ensures others { LeaveRooms tag self.old.rooms self.new.rooms }
+        ensures unchanged { OnErr result (self.new ≡ self.old) }
+        ensures rooms { KeepRooms self.old self.new }
     {
         self.wants_place(tag, p)?;
         if self.snarf_text().len() > MAX_RUNES as usize - self.text_len(tag) {
@@ -369,9 +379,11 @@ impl Files {
         ensures told { IfOk result (λ fits. fits ≡ has_room self.old.plain runes.now) }
         ensures done { OnOk result (self.new.plain ≡ after_print self.old.plain runes.now) }
         ensures refused { OnErr result (result ≡ Err FilesFault.OutOfMemory) }
-        ensures unchanged { OnErr result (self.new.plain ≡ self.old.plain) }
+        // Only what is printed wants memory.
+        ensures memory { OnErr result (is_printed self.old.plain runes.now ≡ true) }
+        ensures unchanged { OnErr result (self.new ≡ self.old) }
         ensures room { length runes.now ≤ room_at self.old.rooms 0 → IsOk result × (room_at self.old.rooms 0 ≤ room_at self.new.rooms 0 + length runes.now) }
-        ensures others { LeaveRooms 0 self.old.rooms self.new.rooms }
+        ensures rooms { KeepRooms self.old self.new }
     {
         self.known();
         let len = self.text_len(0);

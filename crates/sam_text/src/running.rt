@@ -1,10 +1,10 @@
 //! Command lines on the files.
 
-ghost use Rattle.std.specs.Prelude.{◌≡◌, ◌≢◌, ℕ, IfOk, OnErr, Err, Some, option_map};
-ghost use Rattle.sam_runes.specs.Slots.{slot};
+ghost use Rattle.std.specs.Prelude.{◌≡◌, ℕ, IfOk, OnErr, Err, Some, option_map};
 ghost use Rattle.sam_text.specs.Files.{RoomyFiles, file_at, committed, IsOutcomeOf};
 ghost use Rattle.sam_text.specs.Meaning.{meaning, work_file};
-ghost use Rattle.sam_text.specs.Outcomes.{effect, work};
+ghost use Rattle.sam_text.specs.Outcomes.{effect, rewritten, work};
+ghost use Rattle.sam_text.specs.Views.{KeepRoomsBut};
 
 use crate::fault::FilesFault;
 use crate::file::{File, FileChange};
@@ -39,12 +39,13 @@ impl Files {
         Some((tag, file))
     }
 
-    /// Puts the outcome of a line in, and hands back what it prints. It takes no memory.
+    /// Puts the outcome of a line in, and hands back what it prints. It takes no memory. A text that the outcome gives brings its own
+    /// room; every other text keeps its room.
     pub fn commit(&mut self, outcome: Outcome) -> Runes
         requires { IsOutcomeOf self.old.plain (effect outcome) }
         ensures done { self.new.plain ≡ committed self.old.plain (effect outcome) }
         ensures printed { result ≡ outcome.printed }
-        ensures others { (g : ℕ) → outcome.file ≢ Some g → slot self.new.rooms g ≡ slot self.old.rooms g }
+        ensures rooms { KeepRoomsBut (rewritten outcome) self.old self.new }
     {
         let Outcome {
             file,

@@ -1,9 +1,9 @@
-use Rattle.std.proofs.Common.{arith, sym, ◌∙◌, length, ◌≤◌, ◌+◌}
+use Rattle.std.proofs.Common.{None, ap, arith, sym, ◌∙◌, length, ◌≤◌, ◌+◌}
 use Rattle.std.proofs.lemmas.Result.{on_ok_weaker, on_err_weaker}
 use Rattle.sam_runes.specs.Texts.{max_runes}
 use Rattle.sam_text.specs.Files.{PlainFile, blank_file, IsFit, HasShortName}
-use Rattle.sam_text.specs.Views.{plain_file, inserted_file}
-use Rattle.sam_text.proofs.ViewLaws.{given-view, view-change, view-same, view-none, seen_there, seen_kept, rooms_set, room_read, room_set}
+use Rattle.sam_text.specs.Views.{plain_file, file_room, inserted_file}
+use Rattle.sam_text.proofs.ViewLaws.{given-view, view-change, view-same, view-none, seen_there, seen_kept, keep_set, keep_inserted, room_read, room_set}
 use Rattle.sam_text.proofs.files.insert_in.Goals as goal
 
 pub returns-then-index-len-clause-room : goal.returns-then-index-len-clause-room
@@ -34,7 +34,13 @@ returns-in-Some-clause-kept c =
 pub returns-in-Some-clause-err : goal.returns-in-Some-clause-err
 returns-in-Some-clause-err c =
     on_err_weaker c.insert-put.result
-    (view-same plain_file _ _ _ c.in-Some.file _ (omega arith) (sym c.index_mut.ensures.value ∙ c.in-Some.is))
+    (λ same. view-same plain_file _ _ _ c.in-Some.file _ (omega arith) (sym c.index_mut.ensures.value ∙ c.in-Some.is) (ap plain_file same))
+    c.insert-put.ensures.err
+
+pub returns-in-Some-clause-err_rooms : goal.returns-in-Some-clause-err_rooms
+returns-in-Some-clause-err_rooms c =
+    on_err_weaker c.insert-put.result
+    (λ same. view-same file_room _ _ _ c.in-Some.file _ (omega arith) (sym c.index_mut.ensures.value ∙ c.in-Some.is) (ap file_room same))
     c.insert-put.ensures.err
 
 pub returns-in-Some-clause-room : goal.returns-in-Some-clause-room
@@ -44,8 +50,11 @@ returns-in-Some-clause-room c = λ h.
     let both = c.insert-put.ensures.room (omega (arith, before, h)) in
     (both.0, omega (arith, before, after, both.1))
 
-pub returns-in-Some-clause-others : goal.returns-in-Some-clause-others
-returns-in-Some-clause-others c = rooms_set c.args.slots.now.items c.args.index c.index_mut.result.now c.in-Some.file c.insert-put.new.self (omega arith)
+pub returns-in-Some-clause-keeps : goal.returns-in-Some-clause-keeps
+returns-in-Some-clause-keeps c =
+    keep_set None c.args.slots.now.items c.args.index c.index_mut.result.now c.in-Some.file c.insert-put.new.self (omega arith) (sym c.index_mut.ensures.value ∙ c.in-Some.is)
+    (λ other. keep_inserted c.in-Some.file c.insert-put.new.self c.args.p c.args.runes.now c.args.dot c.args.keeps c.insert-put.result (seen_there (λ (file : PlainFile). c.args.p ≤ length file.text) plain_file blank_file _ c.args.index _ _ (omega arith) (sym c.index_mut.ensures.value ∙ c.in-Some.is) c.requires.place)
+    c.insert-put.ensures.ok c.insert-put.ensures.err c.insert-put.ensures.nothing)
 
 pub returns-in-None-clause-room : goal.returns-in-None-clause-room
 returns-in-None-clause-room c = absurd (view-none plain_file _ c.args.index _ (omega arith) (sym c.index_mut.ensures.value ∙ c.in-None.is) c.requires.there)

@@ -1,7 +1,7 @@
-use Rattle.std.proofs.Common.{ap, ◌∙◌, refl, inr, arith, ◌++◌}
+use Rattle.std.proofs.Common.{ap, ◌∙◌, refl, inr, arith, ◌++◌, inl}
 use Rattle.sam_term.specs.Term.{flushed, flush_of}
 use Rattle.sam_term.specs.Taking.{countable}
-use Rattle.sam_term.proofs.Sounds.{loud, full}
+use Rattle.sam_term.proofs.Sounds.{loud, full, is_countable}
 use Rattle.sam_term.proofs.Composes.{flushed-sent}
 use Rattle.sam_term.proofs.term.Terminal.flush_now.Goals as goal
 
@@ -29,3 +29,12 @@ returns c =
     (c.into_batch.ensures
     ∙ (c.compose_unsent.ensures.messages ∙ ap (λ o. o.messages ++ (flushed c.args.self.now).1) c.in-Ok.ensures))
     (omega arith)
+
+pub returns-in_default : goal.returns-in_default
+unfolding flush_of countable
+returns-in_default c =
+    let e = flushed-sent c.args.self.now in
+    let u = c.unsent_count.ensures in
+    let v = ap (λ t. t.sent) c.self.view_is in
+    let k = c.if-self-unsent_count.false in
+    (inl (refl, is_countable (flushed c.args.self.now) (omega arith)), refl)

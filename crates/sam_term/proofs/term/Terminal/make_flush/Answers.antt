@@ -1,9 +1,9 @@
-use Rattle.std.proofs.Common.{ap, ◌∙◌, inl, inr, drop}
+use Rattle.std.proofs.Common.{ap, ◌∙◌, sym, subst, drop}
 use Rattle.sam_term.specs.Term.{flush_of, flushed}
-use Rattle.sam_term.specs.Taking.{done, countable}
+use Rattle.sam_term.specs.Taking.{done, countable, IsFailure}
 use Rattle.sam_term.specs.declared.event.UserEvent.TheVariants.{Flush}
 use Rattle.sam_term.proofs.Acts.{made_of}
-use Rattle.sam_term.proofs.Edits.{held-flushed, flushed-held, done_later, refused_later}
+use Rattle.sam_term.proofs.Edits.{held-flushed, flushed-held, done_later, failed_later}
 use Rattle.sam_term.proofs.term.Terminal.make_flush.Goals as goal
 
 pub returns-in-Err : goal.returns-in-Err
@@ -11,10 +11,8 @@ unfolding flush_of countable
 returns-in-Err c =
     let t = c.args.self.now in
     let es = drop 1 t.held in (
-      elim c.in-Err.ensures.0 [
-        | inl e ↦ inl e
-        | inr e ↦ inr (ap done (made_of t Flush c.requires.first ∙ held-flushed t es) ∙ refused_later (flushed t) _ es e)
-      ],
+      subst (λ made. IsFailure (done made) c.in-Err.why) (sym (made_of t Flush c.requires.first ∙ held-flushed t es))
+          (failed_later (flushed t) _ es c.in-Err.ensures.0),
       c.in-Err.ensures.1,
     )
 

@@ -1,7 +1,7 @@
-use Rattle.std.proofs.Common.{ap, ◌∙◌, refl, inr, arith, [], ◌++◌, ◌∷◌}
+use Rattle.std.proofs.Common.{ap, ◌∙◌, refl, inr, arith, [], ◌++◌, ◌∷◌, inl}
 use Rattle.sam_term.specs.Term.{flushed, composed, sends, unchanged}
 use Rattle.sam_term.specs.Locks.{lock_of}
-use Rattle.sam_term.proofs.Sounds.{loud, full}
+use Rattle.sam_term.proofs.Sounds.{loud, full, is_countable}
 use Rattle.sam_term.proofs.Composes.{flushed-sent, sends-sent, flushed-files, lockable-files}
 use Rattle.sam_term.proofs.term.Terminal.send.Goals as goal
 
@@ -42,3 +42,11 @@ returns c =
     ∙ (c.compose.ensures.messages
     ∙ ap (λ ms. ms ++ c.args.message ∷ []) (c.compose_unsent.ensures.messages ∙ ap (λ o. o.messages ++ (flushed c.args.self.now).1) c.in-Ok.ensures)))
     (omega arith)
+
+pub returns-in_default : goal.returns-in_default
+returns-in_default c =
+    let e = sends-sent c.args.self.now c.args.message in
+    let u = c.unsent_count-count.ensures in
+    let v = ap (λ t. t.sent) c.self.view_is in
+    let k = c.if-self-count.false in
+    (inl (refl, is_countable (sends c.args.self.now unchanged (c.args.message ∷ [])) (omega arith)), refl)

@@ -1,7 +1,7 @@
-use Rattle.std.proofs.Common.{ap, ◌∙◌, refl, inr, arith, [], ◌++◌, ◌∷◌, drop}
+use Rattle.std.proofs.Common.{ap, ◌∙◌, refl, inr, arith, [], ◌++◌, ◌∷◌, drop, inl}
 use Rattle.sam_term.specs.Term.{PlainTerminal, flushed, composed, sends, unchanged}
 use Rattle.sam_term.specs.Locks.{lock_of}
-use Rattle.sam_term.proofs.Sounds.{loud_done, full_done}
+use Rattle.sam_term.proofs.Sounds.{loud_done, full_done, is_done}
 use Rattle.sam_term.proofs.Composes.{flushed-sent, sends-sent, flushed-files, lockable-files}
 use Rattle.sam_term.proofs.term.Terminal.send_for_event.Goals as goal
 
@@ -46,3 +46,12 @@ returns c =
     ∙ (c.compose.ensures.messages
     ∙ ap (λ ms. ms ++ c.args.message ∷ []) (c.compose_unsent.ensures.messages ∙ (ap (λ o. o.messages ++ (flushed c.drop_oldest.new.self).1) c.in-Ok.ensures ∙ ap (λ t. (flushed t).1) c.drop_oldest.ensures))))
     (omega arith)
+
+pub returns-in_default : goal.returns-in_default
+returns-in_default c =
+    let t : PlainTerminal = record c.args.self.now { held = drop 1 c.args.self.now.held } in
+    let e = sends-sent t c.args.message in
+    let u = c.unsent_count-count.ensures in
+    let v = ap (λ t. t.sent) c.self.view_is in
+    let k = c.if-self-count.false in
+    (inl (refl, is_done (sends t unchanged (c.args.message ∷ [])) (omega arith)), refl)

@@ -1,7 +1,7 @@
-use Rattle.std.proofs.Common.{ap, ◌∙◌, inl, inr, [], ◌∷◌, drop}
+use Rattle.std.proofs.Common.{ap, ◌∙◌, sym, subst, [], ◌∷◌, drop}
 use Rattle.sam_term.specs.Term.{sends, unchanged}
-use Rattle.sam_term.specs.Taking.{done}
-use Rattle.sam_term.proofs.Edits.{held-sends, sends-held, done_later, refused_later}
+use Rattle.sam_term.specs.Taking.{done, IsFailure}
+use Rattle.sam_term.proofs.Edits.{held-sends, sends-held, done_later, failed_later}
 use Rattle.sam_term.proofs.term.Terminal.send_last.Goals as goal
 
 pub returns-in-Err : goal.returns-in-Err
@@ -9,10 +9,8 @@ returns-in-Err c =
     let t = c.args.self.now in
     let m = c.args.message in
     let es = drop 1 t.held in (
-      elim c.in-Err.ensures.0 [
-        | inl e ↦ inl e
-        | inr e ↦ inr (ap done (held-sends t m es) ∙ refused_later (sends t unchanged (m ∷ [])) _ es e)
-      ],
+      subst (λ made. IsFailure (done made) c.in-Err.why) (sym (held-sends t m es))
+          (failed_later (sends t unchanged (m ∷ [])) _ es c.in-Err.ensures.0),
       c.in-Err.ensures.1,
     )
 

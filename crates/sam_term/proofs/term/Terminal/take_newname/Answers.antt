@@ -1,9 +1,9 @@
-use Rattle.std.proofs.Common.{sym, ap, ◌∙◌, subst}
+use Rattle.std.proofs.Common.{sym, ap, ◌∙◌, subst, inl, refl, [], arith}
 use Rattle.sam_runes.specs.Slots.{put_slot}
 use Rattle.sam_term.specs.Term.{PlainTerminal, put_known, is_known, blank_known}
 use Rattle.sam_term.specs.Sound.{IsSound, seen}
 use Rattle.sam_term.proofs.FileSteps.{sound-put_known, blank_where_unknown}
-use Rattle.sam_term.proofs.Sounds.{quiet}
+use Rattle.sam_term.proofs.Sounds.{quiet, is_countable}
 use Rattle.sam_term.proofs.term.Terminal.take_newname.Goals as goal
 
 pub invariant_of-self-2 : goal.invariant_of-self-2
@@ -21,3 +21,12 @@ returns c =
     (ap (λ ss. record t { files = ss }) (c.in_default.ensures.ok ∙ ap (λ s. put_slot t.files c.args.tag (record blank_known { name = s })) (c.from_vec.ensures ∙ c.new.ensures.items))
     ∙ ap {A = PlainTerminal} (λ u. put_known u c.args.tag blank_known) c.self.view_is)
     c.nothing.ensures.nothing c.nothing.ensures.countable
+
+pub returns-in-Err : goal.returns-in-Err
+returns-in-Err c =
+    let t = seen c.self.inside in
+    let s = c.self.invariant.countable in
+    let v = ap (λ (t : PlainTerminal). t.sent) c.self.view_is in (
+      inl (refl, is_countable (put_known c.args.self.now c.args.tag blank_known, []) (omega arith)),
+      ap {B = PlainTerminal} (λ ss. record t { files = ss }) c.in-Err.ensures.err ∙ c.self.view_is,
+    )

@@ -1,9 +1,10 @@
-use Rattle.std.proofs.Common.{sym, ap, ◌∙◌, refl, inl, inr, Err, [], ◌∷◌, ◌++◌, length, arith}
+use Rattle.std.specs.Prelude.{IsOk}
+use Rattle.std.proofs.Common.{subst, sym, ap, ◌∙◌, refl, inl, inr, Err, [], ◌∷◌, ◌++◌, length, arith}
 use Rattle.sam_term.specs.Taking.{countable}
 use Rattle.sam_term.specs.Locks.{lock_of}
 use Rattle.sam_term.specs.Locking.{is_lockable}
 use Rattle.sam_term.specs.Term.{sends, unchanged, took_unlockfile, unsent_message}
-use Rattle.sam_term.proofs.Sounds.{quiet, loud, full}
+use Rattle.sam_term.proofs.Sounds.{quiet, loud, full, is_countable}
 use Rattle.sam_term.proofs.Composes.{sends-sent}
 use Rattle.sam_term.proofs.Requests.{lockable_wanted, wanted-unlocked, requested_some, requested_none, sent-unlocked, unsent-unlocked}
 use Rattle.sam_term.proofs.term.Terminal.take_unlockfile.Goals as goal
@@ -35,7 +36,16 @@ returns-in-Err c =
     let m = c.in-Some.message in
     let asked = requested_some u c.args.tag m (wanted-unlocked t c.args.tag c.requires.opened ∙ (sym c.wanted.ensures ∙ c.in-Some.is)) in (
       elim c.in-Err.ensures.full [
-        | inl e ↦ inl e
+        | inl e ↦ inl (
+          e.0,
+          subst IsOk (sym (ap countable asked))
+              (is_countable (sends u unchanged (m ∷ []))
+              (let n = c.unsent_count-count.ensures in
+              let s = sends-sent u m in
+              let a = sent-unlocked t c.args.tag in
+              let b = ap (λ o. length (unsent_message o)) (unsent-unlocked t c.args.tag) in
+              omega (arith, e.1))),
+        )
         | inr h ↦ inr (ap countable asked
             ∙ (full (sends u unchanged (m ∷ []))
             (let n = c.unsent_count-count.ensures in

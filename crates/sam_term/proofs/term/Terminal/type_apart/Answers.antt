@@ -1,4 +1,4 @@
-use Rattle.std.proofs.Common.{◌≤◌, sym, ap, ◌∙◌, refl, arith, ◌++◌, drop, length, List, ℕ, Some}
+use Rattle.std.proofs.Common.{◌≤◌, sym, ap, ◌∙◌, refl, arith, ◌++◌, drop, length, List, ℕ, Some, inl}
 use Rattle.sam_term.specs.Acting.{first_event}
 use Rattle.sam_term.specs.Editing.{typed_over, typed_runes, cut_message, one_if, flushed_if}
 use Rattle.sam_term.specs.Term.{PlainTerminal, Made, window_at, all_composed, unsent_message, flushed}
@@ -84,4 +84,21 @@ returns-in-Err c =
       refused_full t (Typed f s) (made_apart (later t) f s d) _ _ c.requires.first
           (made-apart (later t) f s d c.requires.dot c.requires.some within c.requires.apart) (omega arith) c.in-Err.ensures.full,
       refl,
+    )
+
+pub returns-in_default : goal.returns-in_default
+returns-in_default c =
+    let t = c.args.self.now in
+    let f = c.args.tag in
+    let d = c.args.dot in
+    let s = typed_runes (first_event t.held) in
+    let start = ap (λ (x : ℕ × ℕ). x.0) c.requires.dot in
+    let within : d.0 ≤ length (window_at t f).rasp = omega (arith, c.known_window.ensures.dot_start, c.known_window.ensures.dot_end) in
+    let all = apart-count (later t) f s d in
+    let unsent = c.unsent_count.ensures in
+    let cut = c.cut_count.ensures in
+    let line = c.line_count.ensures ∙ ap one_if c.requires.line in (
+      refused_full t (Typed f s) (made_apart (later t) f s d) _ _ c.requires.first
+          (made-apart (later t) f s d c.requires.dot c.requires.some within c.requires.apart) (omega arith) (inl (refl, c.in-Ok.ensures.counts)),
+      c.in_default.ensures.err,
     )

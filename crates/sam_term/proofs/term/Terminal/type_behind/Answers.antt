@@ -1,4 +1,4 @@
-use Rattle.std.proofs.Common.{◌≤◌, ◌++◌, sym, ap, ◌∙◌, refl, subst, arith, drop, length, ℕ, Some}
+use Rattle.std.proofs.Common.{◌≤◌, ◌++◌, sym, ap, ◌∙◌, refl, subst, arith, drop, length, ℕ, Some, inl}
 use Rattle.sam_term.specs.Acting.{first_event}
 use Rattle.sam_term.specs.Editing.{typed_over, typed_runes, one_if, flushed_if}
 use Rattle.sam_term.specs.Locks.{is_command_line}
@@ -70,4 +70,32 @@ returns-in-Err c =
       refused_full t (Typed f s) (flushed_if (is_command_line f s) u) _ _ c.requires.first
           (made-behind (later t) f s d c.requires.dot c.requires.some c.requires.nothing c.requires.joins) line c.in-Err.ensures.full,
       refl,
+    )
+
+pub returns-in_default : goal.returns-in_default
+returns-in_default c =
+    let t = c.args.self.now in
+    let f = c.args.tag in
+    let d = c.args.dot in
+    let s = typed_runes (first_event t.held) in
+    let j = joined t.unsent f d.0 s in
+    let u : PlainTerminal = record (put_window (later t) f (typed_over (window_at t f) s)) { unsent = Some j } in
+    let line = c.line_count.ensures ∙ (ap one_if c.requires.line ∙ sym (flush-count (is_command_line f s) u j refl)) in (
+      refused_full t (Typed f s) (flushed_if (is_command_line f s) u) _ _ c.requires.first
+          (made-behind (later t) f s d c.requires.dot c.requires.some c.requires.nothing c.requires.joins) line (inl (refl, c.in-Ok.ensures.counts)),
+      refl,
+    )
+
+pub returns-in_default-type_first : goal.returns-in_default-type_first
+returns-in_default-type_first c =
+    let t = c.args.self.now in
+    let f = c.args.tag in
+    let d = c.args.dot in
+    let s = typed_runes (first_event t.held) in
+    let j = joined t.unsent f d.0 s in
+    let u : PlainTerminal = record (put_window (later t) f (typed_over (window_at t f) s)) { unsent = Some j } in
+    let line = c.line_count.ensures ∙ (ap one_if c.requires.line ∙ sym (flush-count (is_command_line f s) u j refl)) in (
+      refused_full t (Typed f s) (flushed_if (is_command_line f s) u) _ _ c.requires.first
+          (made-behind (later t) f s d c.requires.dot c.requires.some c.requires.nothing c.requires.joins) line (inl (refl, c.in-Ok.ensures.counts)),
+      c.in_default-type_first.ensures.err,
     )
