@@ -85,14 +85,19 @@ fn turn(rt: &(impl Print + AllocGlobal), side: &mut ByteHost, frame: &[u8]) -> R
     Ok(())
 }
 
-/// Prints what a host with one file answers to each frame, and what it holds at the end.
-pub fn run(rt: &(impl Print + AllocGlobal)) -> Result<()> {
-    let mut side = ByteHost::new(rt.alloc(), "notes", "hello world")?;
+/// Prints what a host answers to each frame, and what it holds at the end.
+fn answer_all(rt: &(impl Print + AllocGlobal), side: &mut ByteHost) -> Result<()> {
     for frame in FROM_TERMINAL {
-        turn(rt, &mut side, frame)?;
+        turn(rt, side, frame)?;
     }
     let taken = side.host.taken();
     let length = side.text(1).len();
     println!(rt; "the host took {taken} messages, and file 1 has {length} runes")?;
     Ok(())
+}
+
+/// Runs a host with one file.
+pub fn run(rt: &(impl Print + AllocGlobal)) -> Result<()> {
+    let mut side = ByteHost::new(rt.alloc(), "notes", "hello world")?;
+    answer_all(rt, &mut side)
 }

@@ -34,6 +34,12 @@ impl ByteTerminal {
         self.act()
     }
 
+    /// The user types a text in the place of what is selected.
+    pub fn type_text(&mut self, tag: u16, text: &str) -> Result<()> {
+        let runes = runes(self.alloc, text)?;
+        self.user(UserEvent::Typed(tag, runes))
+    }
+
     /// Takes the frames that are whole with these bytes, and then lets the events act that waited for them.
     pub fn feed(&mut self, bytes: &[u8]) -> Result<()> {
         let frames = match self.framer.feed(bytes) {
@@ -147,7 +153,7 @@ fn edit(rt: &(impl Print + AllocGlobal), side: &mut ByteTerminal) -> Result<()> 
     turn(rt, side, &REQUEST_ANSWER)?;
     // What is typed stands in the text at once; its runes wait to be sent together.
     side.user(UserEvent::Select(1, 5, 5))?;
-    side.user(UserEvent::Typed(1, runes(rt.alloc(), " new")?))?;
+    side.type_text(1, " new")?;
     turn(rt, side, &[])?;
     side.user(UserEvent::Flush)?;
     turn(rt, side, &[])
