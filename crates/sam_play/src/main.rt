@@ -1,7 +1,7 @@
 //! The program: its words name a mode, and the mode reads standard input and writes standard output.
 #![tactic(auto)]
 
-use sam_session::{ArgFault, PlayFault, mode_of, play, status_of};
+use sam_session::{ArgFault, PlayFault, mode_of, play, status_of, usage};
 use std::alloc::AllocError;
 use std::env::Env;
 use std::io::{BufWriter, ErrorKind, Write};
@@ -73,11 +73,26 @@ fn words<R: Env + AllocGlobal>(rt: &R) -> Result<Vec<String>, Fault> {
     }
 }
 
+/// Tells a person, on standard error, what the words should have been. Where it cannot, it says nothing: standard output and
+/// the status tell of the fault.
+fn say_usage<R: Eprint + Env + AllocGlobal>(rt: &R) {
+    let alloc = rt.alloc();
+    let Ok(words) = words(rt) else {
+        return;
+    };
+    if let Ok(text) = usage(alloc, words) {
+        let _ = eprint!(rt; "{text}");
+    }
+}
+
 /// The exit status of a fault. The line of a fault that the mode did not meet is printed here; where it cannot be, that is the
 /// status.
-fn say(rt: &impl Print, fault: Fault) -> u8 {
+fn say<R: Print + Eprint + Env + AllocGlobal>(rt: &R, fault: Fault) -> u8 {
     let (status, line) = match fault {
-        Fault::Arguments => (2, "= fault arguments"),
+        Fault::Arguments => {
+            say_usage(rt);
+            (2, "= fault arguments")
+        }
         Fault::Memory => (4, "= fault memory"),
         Fault::Play(fault) => return status_of(&Err(fault)),
     };

@@ -22,7 +22,7 @@ pub use sam_threads::{
     Ends, Fed, FlagGate, Gate, HostEnd, Input, Lines, OpenGate, ReaderEnd, RunFault, SettleFault,
     Settled, Starts, Stop, TermEnd, UserEnd, feed_terminal, run_ends, run_threads, settle,
 };
-pub use words::{ArgFault, Mode, mode_of};
+pub use words::{ArgFault, Mode, mode_of, usage};
 
 #[cfg(test)]
 mod tests;

@@ -1,7 +1,8 @@
 //! Which mode the program's words ask for.
 ghost use Rattle.std.specs.Prelude.{◌≡◌, ◌≤◌, IfOk, Some, map, string_bytes, length, codes, false};
 ghost use Rattle.std.specs.Str.{encode_utf8_all};
-ghost use Rattle.clap.specs.Words.{app_of, rule_of, found_of, rows_of, subcommand_rows_of, first_of};
+ghost use Rattle.clap.specs.Words.{app_of, new_app, rule_of, found_of, rows_of, subcommand_rows_of, first_of};
+ghost use Rattle.clap.specs.declared.builder.command.Command.TheViews.{out-Command};
 ghost use Rattle.sam_runes.specs.Texts.{max_runes};
 ghost use Rattle.sam_session.specs.Words.{IsModeOf, HoldsMode, HoldsNumber, attached, option_of, program};
 
@@ -28,6 +29,23 @@ pub const MOST_PIECE: usize = 65_536;
 
 /// The greatest capacity of a line between threads, in entries.
 pub const MOST_CAPACITY: usize = 1_024;
+
+// What help says of the program, its modes and their options. The ranges are those of `MOST_PIECE` and `MOST_CAPACITY`.
+const PROGRAM_HELP: &str = "A host and a terminal after Pike's sam, over standard input and output";
+
+const BYTES_HELP: &str =
+    "Reads the frames of a terminal, and writes those that a host with one file answers";
+
+const TEXT_HELP: &str = "The text of the host's file";
+
+const REPLAY_HELP: &str = "Reads a script, runs it, and prints what its show lines ask for";
+
+const THREADS_HELP: &str =
+    "Reads a script, runs its events on five threads, and prints the schedule that they made and what its end shows";
+
+const PIECE_HELP: &str = "The most bytes of a piece of the stream between threads, from 1 to 65536";
+
+const CAP_HELP: &str = "The capacity of a line between threads, from 1 to 1024";
 
 /// Why the words name no mode.
 #[derive(Clone, Copy, Debug, PartialEq, Eq, Error)]
@@ -70,6 +88,22 @@ pub fn mode_of(alloc: Global, words: Vec<String>) -> Result<Mode, ArgFault>
     mode_in(alloc, &matches)
 }
 
+/// What to tell a person whose words name no mode: the help that they wish for, or what is wrong with them. Only want of
+/// memory refuses it; what the text says is no promise.
+pub fn usage(alloc: Global, words: Vec<String>) -> Result<String, AllocError> {
+    let words = with_text_attached(alloc, &words)?;
+    let mut command = command(alloc)?;
+    let names_mode = match command.try_get_matches_from_mut(words.as_slice()) {
+        Ok(matches) => matches.subcommand().is_some(),
+        Err(error) => return error.to_string(alloc),
+    };
+    if !names_mode {
+        return command.render_help();
+    }
+    let error = command.error(ErrorKind::ValueValidation, "a value is out of its range")?;
+    error.to_string(alloc)
+}
+
 /// The words with each `--text TEXT` as one word, so that clap takes TEXT as it stands.
 fn with_text_attached(alloc: Global, words: &Vec<String>) -> Result<Vec<String>, AllocError>
     ensures { IfOk result (λ v. map string_bytes v.items ≡ attached (map string_bytes words.now.items)) }
@@ -96,23 +130,37 @@ fn with_text_attached(alloc: Global, words: &Vec<String>) -> Result<Vec<String>,
     Ok(out)
 }
 
-/// An option with one value and a default.
-fn option_named<'a>(alloc: Global, name: &'a str, default: &'a str) -> Arg<'a>
+/// A command with what its help says of it.
+fn command_named<'a>(alloc: Global, name: &'a str, about: &'a str) -> Command<'a>
+    ensures app { app_of result ≡ new_app name.entry.now }
+    ensures local { (out-Command result).has_globals ≡ false }
+{
+    Command::new(alloc, name).about(about)
+}
+
+/// An option with one value and a default, and what its help says of it.
+fn option_named<'a>(alloc: Global, name: &'a str, default: &'a str, help: &'a str) -> Arg<'a>
     ensures rule { rule_of result ≡ option_of name.entry.now default.entry.now }
     ensures local { result.global ≡ false }
 {
-    Arg::new(alloc, name).long(name).default_value(default)
+    Arg::new(alloc, name)
+        .long(name)
+        .default_value(default)
+        .help(help)
 }
 
 /// The program's command line.
 fn command<'a>(alloc: Global) -> Result<Command<'a>, AllocError>
     ensures { IfOk result (λ c. app_of c ≡ program) }
 {
-    let bytes = Command::new(alloc, "bytes").arg(option_named(alloc, "text", ""))?;
-    let replay = Command::new(alloc, "replay");
-    let cut = Command::new(alloc, "threads").arg(option_named(alloc, "piece", "64"))?;
-    let threads = cut.arg(option_named(alloc, "cap", "16"))?;
-    Command::new(alloc, "sam_play")
+    let text = option_named(alloc, "text", "", TEXT_HELP);
+    let piece = option_named(alloc, "piece", "64", PIECE_HELP);
+    let cap = option_named(alloc, "cap", "16", CAP_HELP);
+    let bytes = command_named(alloc, "bytes", BYTES_HELP).arg(text)?;
+    let replay = command_named(alloc, "replay", REPLAY_HELP);
+    let cut = command_named(alloc, "threads", THREADS_HELP).arg(piece)?;
+    let threads = cut.arg(cap)?;
+    command_named(alloc, "sam_play", PROGRAM_HELP)
         .subcommand(bytes)?
         .subcommand(replay)?
         .subcommand(threads)
