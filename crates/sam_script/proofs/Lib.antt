@@ -1,2 +1,4 @@
 pub mod ShowLaws
 pub mod Replays
+pub mod WordLaws
+pub mod SpellingLaws
