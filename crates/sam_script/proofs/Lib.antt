@@ -2,3 +2,5 @@ pub mod ShowLaws
 pub mod Replays
 pub mod WordLaws
 pub mod SpellingLaws
+pub mod LineLaws
+pub mod ScriptLaws

@@ -28,22 +28,22 @@ use Rattle.sam_script.proofs.WordLaws.{some_number}
 
 -- ## Options and tests
 
-some_same : {X : Type 0} (x y : X) → Some x ≡ Some y → x ≡ y
+pub some_same : {X : Type 0} (x y : X) → Some x ≡ Some y → x ≡ y
 some_same x y e = ap (λ o. unwrap_or o x) e
 
 pub bind_some : {A B : Type 0} (o : Option A) (f : A → Option B) (y : B) → (o >>= f) ≡ Some y → (x : A) × (o ≡ Some x) × (f x ≡ Some y)
 bind_some (Some x) f y h = (x, refl, h)
 bind_some None f y h = cc
 
-tells : (b : Bool) → (b ≡ true) ⊎ (b ≡ false)
+pub tells : (b : Bool) → (b ≡ true) ⊎ (b ≡ false)
 tells true = inl refl
 tells false = inr refl
 
-both_true : (a b : Bool) → (a && b) ≡ true → (a ≡ true) × (b ≡ true)
+pub both_true : (a b : Bool) → (a && b) ≡ true → (a ≡ true) × (b ≡ true)
 both_true true b h = (refl, h)
 both_true false b h = cc
 
-ended_says : {X : Type 0} (x y : X) (bytes : List ℕ) → ended x bytes ≡ Some y → (bytes ≡ []) × (x ≡ y)
+pub ended_says : {X : Type 0} (x y : X) (bytes : List ℕ) → ended x bytes ≡ Some y → (bytes ≡ []) × (x ≡ y)
 ended_says x y [] h = (refl, some_same x y h)
 ended_says x y (b ∷ bytes) h = cc
 
@@ -333,10 +333,10 @@ typed_read bytes f s u h =
 -- ## The event of a word
 
 -- the reader of a word says what the word and the rest spell
-abbrev ReadsAs : {X : Type 0} → (List ℕ → X → List ℕ → Type 0) → List ℕ × Reader X → Type 0
+abbrev pub ReadsAs : {X : Type 0} → (List ℕ → X → List ℕ → Type 0) → List ℕ × Reader X → Type 0
 ReadsAs {X} P row = (bytes : List ℕ) (x : X) → IsUtf8 bytes → row.1 bytes ≡ Some x → P row.0 x bytes
 
-rows_say : {X : Type 0} (P : List ℕ → X → List ℕ → Type 0) (rows : List (List ℕ × Reader X)) → AllByRecursion (ReadsAs P) rows
+pub rows_say : {X : Type 0} (P : List ℕ → X → List ℕ → Type 0) (rows : List (List ℕ × Reader X)) → AllByRecursion (ReadsAs P) rows
     → (word bytes : List ℕ) (x : X) → IsUtf8 bytes → read_by rows word bytes ≡ Some x → P word x bytes
 rows_say P [] each word bytes x u h = cc
 rows_say P (row ∷ rows) each word bytes x u h = elim (tells (bytes_eq word row.0)) [
@@ -443,7 +443,7 @@ form_word (SetSnarf s) = word_plain (codes "setsnarf")
 form_word (Version f) = word_plain (codes "version")
 form_word user.Flush = word_plain (codes "flush")
 
-event_says : (bytes : List ℕ) (e : UserEvent) → IsUtf8 bytes → event_at bytes ≡ Some e → (event : List ℕ) × (bytes ≡ codes " " ++ event) × SpellsEvent e event
+pub event_says : (bytes : List ℕ) (e : UserEvent) → IsUtf8 bytes → event_at bytes ≡ Some e → (event : List ℕ) × (bytes ≡ codes " " ++ event) × SpellsEvent e event
 unfolding event_at
 event_says bytes e u h =
     let a = bind_some (word_at bytes) (λ x. read_by readers x.0 x.1) e h in
@@ -451,7 +451,7 @@ event_says bytes e u h =
     let p = rows_say IsEventOf readers readers_say a.0.0 a.0.1 e (utf8_rear (codes " " ++ a.0.0) a.0.1 (subst IsUtf8 w.0 u) w.2) a.2 in
     (a.0.0 ++ a.0.1, w.0, (a.0.1, ap (λ x. x ++ a.0.1) (sym p.0), p.1))
 
-event_read : (bytes event : List ℕ) (e : UserEvent) → IsUtf8 bytes → bytes ≡ codes " " ++ event → SpellsEvent e event → event_at bytes ≡ Some e
+pub event_read : (bytes event : List ℕ) (e : UserEvent) → IsUtf8 bytes → bytes ≡ codes " " ++ event → SpellsEvent e event → event_at bytes ≡ Some e
 unfolding event_at
 event_read bytes event e u is (rest, same, parts) =
     let whole : bytes ≡ codes " " ++ (form e).0 ++ rest = is ∙ ap (λ x. 32 ∷ x) same in

@@ -1,5 +1,5 @@
 -- How lines are read, for the clauses of private functions; what a reader must believe is in Spelling.
-use Rattle.std.specs.Prelude.{◌≡◌, ◌^◌, ◌<◌, ◌==◌, ◌&&◌, ℕ, Bool, List, [], ◌∷◌, ◌++◌, Option, Some, None, Result, Ok, Err, codes, length, nat_lt, nat_le, true, false, ◌||◌, not, if◌then◌else◌, bytes_eq, chars}
+use Rattle.std.specs.Prelude.{◌≡◌, ◌^◌, ◌+◌, ◌<◌, ◌==◌, ◌&&◌, ℕ, Bool, List, [], ◌∷◌, ◌++◌, Option, Some, None, Result, Ok, Err, codes, length, nat_lt, nat_le, true, false, ◌||◌, not, if◌then◌else◌, bytes_eq, chars}
 use Rattle.std.specs.Option.{option_and_then}
 use Rattle.std.specs.Str.{all_ascii_digits}
 use Rattle.std.specs.Str.Parse.{digits_value}
@@ -11,6 +11,8 @@ use Rattle.sam_script.specs.declared.line.Line.{Line}
 use Rattle.sam_script.specs.declared.line.Line.TheVariants.{Key, Mouse, Act, Flush, Host, Term, Drain, Show}
 use Rattle.sam_script.specs.declared.line.Said.{Said}
 use Rattle.sam_script.specs.declared.line.Said.TheVariants as said
+use Rattle.sam_script.specs.Script.{PlainScript}
+use Rattle.sam_script.specs.Spelling.{Says, file_said, lines_said}
 use Rattle.sam_script.specs.declared.fault.LineFault.{LineFault}
 use Rattle.sam_script.specs.declared.fault.LineFault.TheVariants.{Wrong, OutOfMemory}
 
@@ -151,3 +153,25 @@ is_silent (b ∷ bytes) = b == 35 || b == 61
 
 unfoldable pub line_at : List ℕ → Option Said
 line_at bytes = if is_silent bytes then Some said.Nothing else read_by line_readers (word_of bytes) (behind_word bytes)
+
+-- a line of bytes says nothing that is allowed
+abbrev pub IsUnsaid : List ℕ → LineFault → Type 0
+IsUnsaid bytes Wrong = (it : Said) → Says it bytes → ⊥
+IsUnsaid bytes OutOfMemory = Unit {0}
+
+-- a file may follow where no other line stands and there is room for one more
+abbrev pub MayFollow : PlainScript → Said → Type 0
+MayFollow script (said.File name text) = (script.lines ≡ []) × (length script.files < 65535)
+MayFollow script (said.Line line) = Unit {0}
+MayFollow script said.Nothing = Unit {0}
+
+-- a script with what the line of this number says behind it
+abbrev pub with_said : ℕ → PlainScript → Said → PlainScript
+with_said number script it = record { files = script.files ++ file_said it; lines = script.lines ++ lines_said number (it ∷ []) }
+
+abbrev pub Adds : ℕ → List ℕ → PlainScript → PlainScript → Type 0
+Adds number bytes old new = (it : Said) × Says it bytes × MayFollow old it × (new ≡ with_said number old it)
+
+abbrev pub AddsNone : List ℕ → PlainScript → LineFault → Type 0
+AddsNone bytes script Wrong = (it : Said) → Says it bytes → MayFollow script it → ⊥
+AddsNone bytes script OutOfMemory = Unit {0}

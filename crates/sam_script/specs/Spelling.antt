@@ -14,6 +14,8 @@ use Rattle.sam_script.specs.declared.line.Line.TheVariants.{Key, Mouse, Act, Flu
 use Rattle.sam_script.specs.declared.line.Said.{Said}
 use Rattle.sam_script.specs.declared.line.Said.TheVariants as said
 use Rattle.sam_script.specs.declared.line.Numbered.{Numbered}
+use Rattle.sam_script.specs.declared.fault.ScriptFault.{ScriptFault}
+use Rattle.sam_script.specs.declared.fault.ScriptFault.TheVariants as fault
 
 -- ## The spelling of an event
 
@@ -153,3 +155,9 @@ abbrev pub IsWrongLine : List ℕ → ℕ → Type 0
 IsWrongLine bytes number =
     (0 < number) × (number ≤ length (lines_of bytes)) × ((script : PlainScript) × SpellsLines (take (number - 1) (lines_of bytes)) script)
     × ((script : PlainScript) → SpellsLines (take number (lines_of bytes)) script → ⊥)
+
+-- why the bytes were not read
+abbrev pub IsReadFault : List ℕ → ScriptFault → Type 0
+IsReadFault bytes (fault.Line number) = IsWrongLine bytes number
+IsReadFault bytes fault.CountFull = ⊥
+IsReadFault bytes fault.OutOfMemory = Unit {0}

@@ -1,7 +1,8 @@
 //! One line of a script.
 
-ghost use Rattle.std.specs.Prelude.{◌≡◌, IfOk, chars};
-ghost use Rattle.sam_script.specs.Reading.{Gives, line_at, file_at, file_text_at, fitting_name, read_by, bare_readers};
+ghost use Rattle.std.specs.Prelude.{◌≡◌, IfOk, IfErr, chars};
+ghost use Rattle.sam_script.specs.Reading.{Gives, IsUnsaid, line_at, file_at, file_text_at, fitting_name, read_by, bare_readers};
+ghost use Rattle.sam_script.specs.Spelling.{Says};
 
 use crate::event::event_at;
 use crate::fault::LineFault;
@@ -9,6 +10,7 @@ use crate::words::{ended, split_word, text_at, word_at};
 use sam_runes::{MAX_RUNES, Runes};
 use sam_term::event::UserEvent;
 use std::alloc::{AllocError, Global};
+use std::str;
 
 /// What a line of a script asks for, `file` lines left out.
 #[derive(Drop)]
@@ -51,9 +53,20 @@ pub enum Said {
 /// The most runes of the name of a file.
 pub const MOST_NAME: usize = 64;
 
-/// What the line says.
+/// What a line of bytes says.
+pub fn said_by(alloc: Global, bytes: &[u8]) -> Result<Said, LineFault>
+    ensures ok { IfOk result (λ it. Says it bytes.now) }
+    ensures wrong { IfErr result (IsUnsaid bytes.now) }
+{
+    match str::from_utf8(bytes) {
+        Ok(text) => read_line(alloc, text),
+        Err(_) => Err(LineFault::Wrong),
+    }
+}
+
+/// What a line of text says.
 #[tactic(auto, unfolding(crate::specs::Reading::line_at))]
-pub fn read_line(alloc: Global, text: &str) -> Result<Said, LineFault>
+fn read_line(alloc: Global, text: &str) -> Result<Said, LineFault>
     ensures { Gives (λ it. it) result (line_at text.now) }
 {
     if text.is_empty() || text.starts_with('#') || text.starts_with('=') {
