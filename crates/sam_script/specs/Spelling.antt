@@ -57,6 +57,14 @@ form (SetSnarf s) = (codes "setsnarf", Rest s ∷ [])
 form (Version v) = (codes "version", Tag v ∷ [])
 form user.Flush = (codes "flush", [])
 
+-- a part as it is printed, and a word with its parts
+abbrev pub part_shown : Part → List ℕ
+part_shown (Number bits n) = codes " " ++ decimal n
+part_shown (Rest s) = codes " " ++ text_shown s
+
+abbrev pub spelling : List ℕ × List Part → List ℕ
+spelling words = words.0 ++ flat_map part_shown words.1
+
 -- one or more ASCII digits, also with zeros in front, which write this number
 abbrev pub IsNumber : List ℕ → ℕ → Type 0
 IsNumber word n = (0 < length word) × (all_ascii_digits word ≡ true) × (digits_value 10 word ≡ n)
