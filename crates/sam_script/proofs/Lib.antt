@@ -4,3 +4,5 @@ pub mod WordLaws
 pub mod SpellingLaws
 pub mod LineLaws
 pub mod ScriptLaws
+pub mod RunSpelled
+pub mod RunReplayed

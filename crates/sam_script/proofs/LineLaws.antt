@@ -1,10 +1,10 @@
 -- What is read of a line is what it says, and each line says one thing.
-use Rattle.std.proofs.Common.{◌≡◌, ◌≢◌, ◌<◌, ◌≤◌, ◌∙◌, ◌+◌, ◌-◌, ◌⊎◌, inl, inr, refl, sym, ap, ap₂, subst, ℕ, zero, suc, List, [], ◌∷◌, ◌++◌, length, take, Bool, true, false, Option, Some, None, Result, Ok, Err, IfOk, IfErr, arith, codes, flat_map, append_assoc, append-nil, encode_utf8}
+use Rattle.std.proofs.Common.{◌≡◌, ◌<◌, ◌≤◌, ◌∙◌, inl, inr, refl, sym, ap, subst, ℕ, List, [], ◌∷◌, ◌++◌, length, true, Some, None, Result, Ok, Err, IfOk, IfErr, codes, flat_map, encode_utf8}
 use Rattle.std.specs.Prelude.{nat_lt, nat_le, ◌&&◌, ◌||◌, ◌==◌, chars, encode_utf8_all}
-use Rattle.std.specs.List.{AllByRecursion, AllZip}
+use Rattle.std.specs.List.{AllByRecursion}
 use Rattle.std.specs.Str.{IsUtf8}
-use Rattle.std.proofs.lemmas.Bool.{ne_eqb, ltb-true, lt-ltb, leb-true, le-leb, eqb-true}
-use Rattle.std.proofs.lemmas.Bool.Decides.{eqb_tells, nat_tests}
+use Rattle.std.proofs.lemmas.Bool.{ltb-true, lt-ltb, leb-true, le-leb, eqb-true}
+use Rattle.std.proofs.lemmas.Bool.Decides.{eqb_tells}
 use Rattle.std.proofs.lemmas.Option.{cond_some}
 use Rattle.std.proofs.lemmas.Str.{chars_from_encodes, encodes-chars}
 use Rattle.sam_runes.specs.Texts.{max_runes}
@@ -15,10 +15,10 @@ use Rattle.sam_script.specs.declared.line.Said.TheVariants as said
 use Rattle.sam_script.specs.declared.fault.LineFault.{LineFault}
 use Rattle.sam_script.specs.declared.fault.LineFault.TheVariants.{Wrong, OutOfMemory}
 use Rattle.sam_script.specs.Script.{IsFile}
-use Rattle.sam_script.specs.Spelling.{Part, SpellsParts, SpellsEvent, IsWord, SpellsFile, SpellsLine, SaysNothing, SaysSo, Says}
+use Rattle.sam_script.specs.Spelling.{SpellsParts, IsWord, SpellsFile, SpellsLine, SaysNothing, SaysSo, Says}
 use Rattle.sam_script.specs.Spelling.Part.{Rest}
-use Rattle.sam_script.specs.Reading.{◌>>=◌, word_of, behind_word, word_at, text_at, ended, Reader, read_by, event_at, fitting_name, fitting_text, file_text_at, file_at, bare, line_readers, is_silent, line_at, Gives, IsUnsaid}
-use Rattle.sam_script.proofs.SpellingLaws.{some_same, bind_some, tells, both_true, ended_says, IsEnd, word_ends, word_split, word_plain, word_says, word_read, utf8_tail, utf8_rear, utf8_front, text_says, text_read, parts_end, ReadsAs, rows_say, event_says, event_read}
+use Rattle.sam_script.specs.Reading.{◌>>=◌, word_of, behind_word, word_at, text_at, event_at, fitting_name, fitting_text, file_text_at, file_at, bare, line_readers, is_silent, line_at, Gives, IsUnsaid}
+use Rattle.sam_script.proofs.SpellingLaws.{some_same, bind_some, tells, both_true, ended_says, IsEnd, word_ends, word_split, word_says, word_read, utf8_tail, utf8_rear, utf8_front, text_says, text_read, parts_end, ReadsAs, rows_say, event_says, event_read}
 
 -- ## A file
 
@@ -102,11 +102,31 @@ bare_row line word spells bytes it u h =
     let n = ended_says (said.Line line) it bytes h in subst (λ i. IsSaidBy word i bytes) n.1 (spells bytes n.0)
 
 line_readers_say : AllByRecursion (ReadsAs IsSaidBy) line_readers
-line_readers_say =
-    (file_row, (key_row, (mouse_row, (bare_row Act (codes "act") (λ bytes e. ap (λ xs. codes "act" ++ xs) e),
-    (bare_row Flush (codes "flush") (λ bytes e. ap (λ xs. codes "flush" ++ xs) e), (bare_row Host (codes "host") (λ bytes e. ap (λ xs. codes "host" ++ xs) e),
-    (bare_row Term (codes "term") (λ bytes e. ap (λ xs. codes "term" ++ xs) e), (bare_row Drain (codes "drain") (λ bytes e. ap (λ xs. codes "drain" ++ xs) e),
-    (bare_row Show (codes "show") (λ bytes e. ap (λ xs. codes "show" ++ xs) e), tt)))))))))
+line_readers_say = (
+  file_row,
+  (
+    key_row,
+    (
+      mouse_row,
+      (
+        bare_row Act (codes "act") (λ bytes e. ap (λ xs. codes "act" ++ xs) e),
+        (
+          bare_row Flush (codes "flush") (λ bytes e. ap (λ xs. codes "flush" ++ xs) e),
+          (
+            bare_row Host (codes "host") (λ bytes e. ap (λ xs. codes "host" ++ xs) e),
+            (
+              bare_row Term (codes "term") (λ bytes e. ap (λ xs. codes "term" ++ xs) e),
+              (
+                bare_row Drain (codes "drain") (λ bytes e. ap (λ xs. codes "drain" ++ xs) e),
+                (bare_row Show (codes "show") (λ bytes e. ap (λ xs. codes "show" ++ xs) e), tt),
+              ),
+            ),
+          ),
+        ),
+      ),
+    ),
+  ),
+)
 
 silent_says : (bytes : List ℕ) → is_silent bytes ≡ true → SaysNothing bytes
 silent_says [] h = tt
@@ -120,18 +140,20 @@ nothing_silent (b ∷ bytes) (inr is) = ap (λ c. c == 35 || c == 61) is
 pub line_says : (bytes : List ℕ) (it : Said) → IsUtf8 bytes → line_at bytes ≡ Some it → SaysSo it bytes
 unfolding line_at
 line_says bytes it u h = elim (tells (is_silent bytes)) [
-    inl t ↦ let here = rw t at h in subst (λ i. SaysSo i bytes) (some_same said.Nothing it here) (silent_says bytes t)
+  | inl t ↦ let here = rw t at h in subst (λ i. SaysSo i bytes) (some_same said.Nothing it here) (silent_says bytes t)
   | inr t ↦
-        let here = rw t at h in
-        let utf8 = utf8_rear (word_of bytes) (behind_word bytes) (subst IsUtf8 (sym (word_split bytes)) u) (word_ends bytes) in
-        subst (SaysSo it) (word_split bytes) (rows_say IsSaidBy line_readers line_readers_say (word_of bytes) (behind_word bytes) it utf8 here) ]
+      let here = rw t at h in
+      let utf8 = utf8_rear (word_of bytes) (behind_word bytes) (subst IsUtf8 (sym (word_split bytes)) u) (word_ends bytes) in
+      subst (SaysSo it) (word_split bytes) (rows_say IsSaidBy line_readers line_readers_say (word_of bytes) (behind_word bytes) it utf8 here)
+]
 
 pub line_read : (bytes : List ℕ) (it : Said) → Says it bytes → line_at bytes ≡ Some it
 unfolding line_at
 line_read bytes said.Nothing (u, h) = rw (nothing_silent bytes h) refl
 line_read bytes (said.File name text) (u, (rest, is, plain, fits, parts)) =
     ap line_at is ∙ ap (λ o. o >>= λ x. Some (said.File x.0 x.1))
-    (file_read (codes " " ++ flat_map encode_utf8 name ++ rest) name text rest (utf8_rear (codes "file") (codes " " ++ flat_map encode_utf8 name ++ rest) (subst IsUtf8 is u) refl) refl plain fits parts)
+    (file_read (codes " " ++ flat_map encode_utf8 name ++ rest) name text rest
+    (utf8_rear (codes "file") (codes " " ++ flat_map encode_utf8 name ++ rest) (subst IsUtf8 is u) refl) refl plain fits parts)
 line_read bytes (said.Line (Key e)) (u, (event, is, spells)) =
     ap line_at is ∙ ap (λ o. o >>= λ d. Some (said.Line (Key d)))
     (event_read (codes " " ++ event) event e (utf8_rear (codes "k") (codes " " ++ event) (subst IsUtf8 is u) refl) refl spells)

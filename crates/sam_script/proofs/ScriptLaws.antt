@@ -1,17 +1,16 @@
 -- A list of lines spells at most one script, and one line more spells it with what the line says.
-use Rattle.std.proofs.Common.{◌≡◌, ◌<◌, ◌≤◌, ◌∙◌, ◌+◌, refl, sym, ap, ap₂, subst, ℕ, zero, suc, List, [], ◌∷◌, ◌++◌, length, take, get_or, ◌-◌, arith, flat_map, append_assoc, append-nil, length-append}
+use Rattle.std.proofs.Common.{◌≡◌, ◌<◌, ◌≤◌, ◌∙◌, ◌+◌, refl, sym, ap, ap₂, subst, ℕ, zero, suc, List, [], ◌∷◌, ◌++◌, length, take, get_or, ◌-◌, arith, append_assoc, append-nil, length-append}
 use Rattle.std.specs.Prelude.{◌==◌}
 use Rattle.std.specs.List.{AllZip}
 use Rattle.std.proofs.lemmas.List.{take_more, take_all, length-take-le}
 use Rattle.std.proofs.lemmas.List.Splits.{length-slice_split}
 use Rattle.std.proofs.lemmas.List.Sums.{count_by-le-length}
-use Rattle.sam_script.specs.declared.line.Numbered.{Numbered}
 use Rattle.sam_script.specs.declared.line.Said.{Said}
 use Rattle.sam_script.specs.declared.line.Said.TheVariants as said
 use Rattle.sam_script.specs.declared.fault.LineFault.TheVariants.{Wrong}
 use Rattle.sam_script.specs.Script.{PlainScript}
 use Rattle.sam_script.specs.Spelling.{Says, file_said, files_said, lines_said, AreFilesFirst, SpellsLines, lines_of, IsWrongLine}
-use Rattle.sam_script.specs.Reading.{MayFollow, with_said, Adds, AddsNone}
+use Rattle.sam_script.specs.Reading.{MayFollow, Adds, AddsNone}
 use Rattle.sam_script.proofs.LineLaws.{says_one}
 
 zip_one : (xs ys : List Said) (lines : List (List ℕ)) → AllZip Says xs lines → AllZip Says ys lines → xs ≡ ys
@@ -152,10 +151,13 @@ read_more lines n k number line old new at is same p adds =
 pub read_wrong : (bytes : List ℕ) (n number : ℕ) (line : List ℕ) (old : PlainScript) → (n < length (lines_of bytes)) × (line ≡ get_or (lines_of bytes) n line) → number ≡ n + 1
     → SpellsLines (take n (lines_of bytes)) old → AddsNone line old Wrong → IsWrongLine bytes number
 read_wrong bytes n number line old at is p none =
-    subst (IsWrongLine bytes) (sym is)
-    (omega arith, omega (arith, at.0), (old, subst (λ j. SpellsLines (take j (lines_of bytes)) old) (one_less n) p),
-    λ script q. spells_no_more (take n (lines_of bytes)) line old p none script
-    (subst (λ (xs : List (List ℕ)). SpellsLines xs script) (take_more (lines_of bytes) n line at.0 ∙ ap (λ l. take n (lines_of bytes) ++ l ∷ []) (sym at.1)) q))
+    subst (IsWrongLine bytes) (sym is) (
+      omega arith,
+      omega (arith, at.0),
+      (old, subst (λ j. SpellsLines (take j (lines_of bytes)) old) (one_less n) p),
+      λ script q. spells_no_more (take n (lines_of bytes)) line old p none script
+          (subst (λ (xs : List (List ℕ)). SpellsLines xs script) (take_more (lines_of bytes) n line at.0 ∙ ap (λ l. take n (lines_of bytes) ++ l ∷ []) (sym at.1)) q),
+    )
   where
     one_less : (m : ℕ) → m ≡ m + 1 - 1
     one_less m = omega arith

@@ -1,29 +1,23 @@
 -- What reading gives is what the grammar says, and what it says is read.
-use Rattle.std.proofs.Common.{◌≡◌, ◌≢◌, ◌<◌, ◌≤◌, ◌∙◌, ◌^◌, ◌+◌, ◌⊎◌, inl, inr, refl, sym, ap, ap₂, subst, ℕ, zero, suc, List, [], ◌∷◌, ◌++◌, length, get_or, take, drop, Bool, true, false, cond, Option, Some, None, arith, codes, flat_map, append_assoc, append-nil, encode_utf8}
-use Rattle.std.specs.Prelude.{nat_lt, nat_le, ◌&&◌, ◌||◌, ◌==◌, not, bytes_eq, chars, encode_utf8_all}
+use Rattle.std.proofs.Common.{◌≡◌, ◌<◌, ◌∙◌, ◌^◌, ◌⊎◌, inl, inr, refl, sym, ap, ap₂, subst, ℕ, List, [], ◌∷◌, ◌++◌, length, get_or, take, drop, Bool, true, false, cond, Option, Some, None, arith, codes, flat_map, append_assoc, append-nil, encode_utf8}
+use Rattle.std.specs.Prelude.{nat_lt, ◌&&◌, ◌==◌, bytes_eq, chars, encode_utf8_all}
 use Rattle.std.specs.Option.{unwrap_or}
-use Rattle.std.specs.List.{AllByRecursion, AllZip}
+use Rattle.std.specs.List.{AllByRecursion}
 use Rattle.std.specs.Char.{is_ascii_digit}
 use Rattle.std.specs.Str.{IsUtf8, all_ascii_digits, IsCharBoundary}
 use Rattle.std.specs.Str.Parse.{digits_value}
-use Rattle.std.proofs.lemmas.Bool.{ne_eqb, ltb-true, lt-ltb}
-use Rattle.std.proofs.lemmas.Bool.Decides.{eqb_tells, nat_tests}
+use Rattle.std.proofs.lemmas.Bool.{ltb-true}
+use Rattle.std.proofs.lemmas.Bool.Decides.{eqb_tells}
 use Rattle.std.proofs.lemmas.Option.{cond_some}
 use Rattle.std.proofs.lemmas.Slice.Eq.{bytes_eq-Decides}
-use Rattle.std.proofs.lemmas.Str.{IsUtf8-nil, IsUtf8-drop, IsUtf8-take, IsUtf8-past_char, IsCharBoundary-before_ascii, IsCharBoundary-end, chars_from_encodes, encodes-chars, encodes-append, encode_ascii}
-use Rattle.sam_runes.specs.Texts.{max_runes}
+use Rattle.std.proofs.lemmas.Str.{IsUtf8-drop, IsUtf8-take, IsUtf8-past_char, IsCharBoundary-before_ascii, IsCharBoundary-end, chars_from_encodes, encodes-chars, encodes-append, encode_ascii}
 use Rattle.sam_term.specs.declared.event.UserEvent.{UserEvent}
 use Rattle.sam_term.specs.declared.event.UserEvent.TheVariants.{Typed, Select, Cut, Paste, Snarf, Look, Search, Send, Dclick, Scroll, View, Open, Close, Write, Work, OpenCmd, New, Exit, Check, GetSnarf, SetSnarf, Version}
 use Rattle.sam_term.specs.declared.event.UserEvent.TheVariants as user
-use Rattle.sam_script.specs.declared.line.Line.{Line}
-use Rattle.sam_script.specs.declared.line.Line.TheVariants.{Key, Mouse, Act, Flush, Host, Term, Drain, Show}
-use Rattle.sam_script.specs.declared.line.Said.{Said}
-use Rattle.sam_script.specs.declared.line.Said.TheVariants as said
-use Rattle.sam_script.specs.Script.{IsFile}
 use Rattle.sam_script.specs.Show.{text_shown, text_rune}
-use Rattle.sam_script.specs.Spelling.{Part, Tag, Place, form, IsNumber, SpellsParts, SpellsEvent, IsWord, SpellsFile, SpellsLine, SaysNothing, SaysSo, Says}
+use Rattle.sam_script.specs.Spelling.{Part, Tag, Place, form, IsNumber, SpellsParts, SpellsEvent, IsWord}
 use Rattle.sam_script.specs.Spelling.Part.{Number, Rest}
-use Rattle.sam_script.specs.Reading.{◌>>=◌, word_of, behind_word, word_at, number_of, number_at, meant, unescaped, text_at, ended, tag_alone, tag_and_place, tag_and_range, tag_and_text, Reader, by_tag, by_place, by_range, readers, read_by, event_at, fitting_name, fitting_text, file_text_at, file_at, bare, line_readers, is_silent, line_at}
+use Rattle.sam_script.specs.Reading.{◌>>=◌, word_of, behind_word, word_at, number_of, number_at, unescaped, text_at, ended, tag_alone, tag_and_place, tag_and_range, tag_and_text, Reader, by_tag, by_place, by_range, readers, read_by, event_at}
 use Rattle.sam_script.proofs.WordLaws.{some_number}
 
 -- ## Options and tests
@@ -79,11 +73,12 @@ word_rear (b ∷ word) rest plain end = rw plain.0 (word_rear word rest plain.1 
 pub word_says : (bytes : List ℕ) (x : List ℕ × List ℕ) → word_at bytes ≡ Some x → (bytes ≡ codes " " ++ x.0 ++ x.1) × IsWord x.0 × IsEnd x.1
 word_says [] x h = cc
 word_says (b ∷ bytes) x h = elim (eqb_tells b 32) [
-  inl t ↦
+  | inl t ↦
       let here = rw t.0 at h in
       subst (λ (y : List ℕ × List ℕ). (b ∷ bytes ≡ codes " " ++ y.0 ++ y.1) × IsWord y.0 × IsEnd y.1) (some_same (word_of bytes, behind_word bytes) x here)
       (ap₂ (λ c xs. c ∷ xs) t.1 (sym (word_split bytes)), word_plain bytes, word_ends bytes)
-  | inr t ↦ let here = rw t.0 at h in cc ]
+  | inr t ↦ let here = rw t.0 at h in cc
+]
 
 pub word_read : (bytes word rest : List ℕ) → bytes ≡ codes " " ++ word ++ rest → IsWord word → IsEnd rest → word_at bytes ≡ Some (word, rest)
 word_read bytes word rest is plain end = ap word_at is ∙ ap₂ (λ w r. Some (w, r)) (word_front word rest plain end) (word_rear word rest plain end)
@@ -173,8 +168,9 @@ escaped = flat_map escape
 
 rune_encodes : (c : ℕ) → encode_utf8_all (escape c) ≡ text_rune c
 rune_encodes c = elim (eqb_tells c 92) [
-  inl t ↦ rw (t.0, e92) refl
-  | inr t ↦ elim (eqb_tells c 10) [ inl k ↦ rw (t.0, k.0, e92, e110) refl | inr k ↦ rw (t.0, k.0) (append-nil (encode_utf8 c)) ] ]
+  | inl t ↦ rw (t.0, e92) refl
+  | inr t ↦ elim (eqb_tells c 10) [ inl k ↦ rw (t.0, k.0, e92, e110) refl | inr k ↦ rw (t.0, k.0) (append-nil (encode_utf8 c)) ]
+]
 
 escaped_encodes : (s : List ℕ) → encode_utf8_all (escaped s) ≡ text_shown s
 escaped_encodes [] = refl
@@ -183,10 +179,12 @@ escaped_encodes (c ∷ s) = encodes-append (escape c) (escaped s) ∙ ap₂ (λ 
 escaped_read : (front s : List ℕ) → unescaped front false (escaped s) ≡ Some (front ++ s)
 escaped_read front [] = ap (λ xs. Some xs) (sym (append-nil front))
 escaped_read front (c ∷ s) = elim (eqb_tells c 92) [
-  inl t ↦ rw t.0 (escaped_read (front ++ 92 ∷ []) s ∙ ap (λ xs. Some xs) (append_assoc front (92 ∷ []) s ∙ ap (λ d. front ++ d ∷ s) (sym t.1)))
+  | inl t ↦ rw t.0 (escaped_read (front ++ 92 ∷ []) s ∙ ap (λ xs. Some xs) (append_assoc front (92 ∷ []) s ∙ ap (λ d. front ++ d ∷ s) (sym t.1)))
   | inr t ↦ elim (eqb_tells c 10) [
-    inl k ↦ rw (t.0, k.0) (escaped_read (front ++ 10 ∷ []) s ∙ ap (λ xs. Some xs) (append_assoc front (10 ∷ []) s ∙ ap (λ d. front ++ d ∷ s) (sym k.1)))
-  | inr k ↦ simp (t.0, k.0) (escaped_read (front ++ c ∷ []) s ∙ ap (λ xs. Some xs) (append_assoc front (c ∷ []) s)) ] ]
+    | inl k ↦ rw (t.0, k.0) (escaped_read (front ++ 10 ∷ []) s ∙ ap (λ xs. Some xs) (append_assoc front (10 ∷ []) s ∙ ap (λ d. front ++ d ∷ s) (sym k.1)))
+    | inr k ↦ simp (t.0, k.0) (escaped_read (front ++ c ∷ []) s ∙ ap (λ xs. Some xs) (append_assoc front (c ∷ []) s))
+  ]
+]
 
 pub text_read : (bytes s : List ℕ) → IsUtf8 bytes → (bytes ≡ codes " " ++ text_shown s) ⊎ ((bytes ≡ []) × (s ≡ [])) → text_at bytes ≡ Some s
 text_read bytes s u (inl is) =
@@ -207,39 +205,46 @@ unescaped_says : (cs front : List ℕ) (is_escaped : Bool) (s : List ℕ) → un
 unescaped_says [] front true s h = cc
 unescaped_says [] front false s h = ([], sym (some_same front s h) ∙ sym (append-nil front), refl)
 unescaped_says (c ∷ cs) front false s h = elim (eqb_tells c 92) [
-  inl t ↦
+  | inl t ↦
       let here = rw t.0 at h in
       let more = unescaped_says cs front true s here in
       (more.0, more.1, ap (λ d. encode_utf8 d ++ encode_utf8_all cs) t.1 ∙ ap (λ xs. xs ++ encode_utf8_all cs) e92 ∙ more.2)
   | inr t ↦ elim (eqb_tells c 10) [
-    inl k ↦ let here = rw (t.0, k.0) at h in cc
-  | inr k ↦
+    | inl k ↦ let here = rw (t.0, k.0) at h in cc
+    | inr k ↦
         let here = simp (t.0, k.0) at h in
         let more = unescaped_says cs (front ++ c ∷ []) false s here in
-        (c ∷ more.0, more.1 ∙ append_assoc front (c ∷ []) more.0, rw (t.0, k.0) (ap (λ xs. encode_utf8 c ++ xs) more.2)) ] ]
+        (c ∷ more.0, more.1 ∙ append_assoc front (c ∷ []) more.0, rw (t.0, k.0) (ap (λ xs. encode_utf8 c ++ xs) more.2))
+  ]
+]
 unescaped_says (c ∷ cs) front true s h =
     let plain = rw (and_false (c == 92)) at h in
     elim (eqb_tells c 110) [
-      inl t ↦
+      | inl t ↦
           let here = rw t.0 at plain in
           let more = unescaped_says cs (front ++ 10 ∷ []) false s here in
-          (10 ∷ more.0, more.1 ∙ append_assoc front (10 ∷ []) more.0, ap (λ d. 92 ∷ (encode_utf8 d ++ encode_utf8_all cs)) t.1 ∙ ap (λ xs. 92 ∷ (xs ++ encode_utf8_all cs)) e110 ∙ ap (λ xs. 92 ∷ 110 ∷ xs) more.2)
-    | inr t ↦ elim (eqb_tells c 92) [
-        inl k ↦
+          (10 ∷ more.0, more.1 ∙ append_assoc front (10 ∷ []) more.0,
+          ap (λ d. 92 ∷ (encode_utf8 d ++ encode_utf8_all cs)) t.1 ∙ ap (λ xs. 92 ∷ (xs ++ encode_utf8_all cs)) e110 ∙ ap (λ xs. 92 ∷ 110 ∷ xs) more.2)
+      | inr t ↦ elim (eqb_tells c 92) [
+        | inl k ↦
             let here = rw (t.0, k.0) at plain in
             let more = unescaped_says cs (front ++ 92 ∷ []) false s here in
-            (92 ∷ more.0, more.1 ∙ append_assoc front (92 ∷ []) more.0, ap (λ d. 92 ∷ (encode_utf8 d ++ encode_utf8_all cs)) k.1 ∙ ap (λ xs. 92 ∷ (xs ++ encode_utf8_all cs)) e92 ∙ ap (λ xs. 92 ∷ 92 ∷ xs) more.2)
-      | inr k ↦ let here = rw (t.0, k.0) at plain in cc ] ]
+            (92 ∷ more.0, more.1 ∙ append_assoc front (92 ∷ []) more.0,
+            ap (λ d. 92 ∷ (encode_utf8 d ++ encode_utf8_all cs)) k.1 ∙ ap (λ xs. 92 ∷ (xs ++ encode_utf8_all cs)) e92 ∙ ap (λ xs. 92 ∷ 92 ∷ xs) more.2)
+        | inr k ↦ let here = rw (t.0, k.0) at plain in cc
+      ]
+    ]
 
 pub text_says : (bytes s : List ℕ) → IsUtf8 bytes → text_at bytes ≡ Some s → (bytes ≡ codes " " ++ text_shown s) ⊎ ((bytes ≡ []) × (s ≡ []))
 text_says [] s u h = inr (refl, sym (some_same [] s h))
 text_says (b ∷ bytes) s u h = elim (eqb_tells b 32) [
-  inl t ↦
+  | inl t ↦
       let here = rw t.0 at h in
       let more = unescaped_says (chars bytes) [] false s here in
       let utf8 = utf8_tail bytes (subst (λ c. IsUtf8 (c ∷ bytes)) t.1 u) in
       inl (ap₂ (λ c xs. c ∷ xs) t.1 (sym (encodes-chars bytes utf8) ∙ more.2 ∙ ap text_shown (sym more.1)))
-  | inr t ↦ let here = rw t.0 at h in cc ]
+  | inr t ↦ let here = rw t.0 at h in cc
+]
 
 -- ## What stands behind the word of an event
 
@@ -340,10 +345,11 @@ pub rows_say : {X : Type 0} (P : List ℕ → X → List ℕ → Type 0) (rows :
     → (word bytes : List ℕ) (x : X) → IsUtf8 bytes → read_by rows word bytes ≡ Some x → P word x bytes
 rows_say P [] each word bytes x u h = cc
 rows_say P (row ∷ rows) each word bytes x u h = elim (tells (bytes_eq word row.0)) [
-    inl t ↦
-        let here = rw t at h in
-        subst (λ w. P w x bytes) (sym ((bytes_eq-Decides word row.0).0 t)) (each.0 bytes x u here)
-  | inr t ↦ let here = rw t at h in rows_say P rows each.1 word bytes x u here ]
+  | inl t ↦
+      let here = rw t at h in
+      subst (λ w. P w x bytes) (sym ((bytes_eq-Decides word row.0).0 t)) (each.0 bytes x u here)
+  | inr t ↦ let here = rw t at h in rows_say P rows each.1 word bytes x u here
+]
 
 abbrev IsEventOf : List ℕ → UserEvent → List ℕ → Type 0
 IsEventOf word e bytes = ((form e).0 ≡ word) × SpellsParts (form e).1 bytes
@@ -382,15 +388,70 @@ snarf_row bytes e u h =
     formed (codes "setsnarf") bytes (Rest a.0 ∷ []) (SetSnarf a.0) e refl (text_says bytes a.0 u a.1, refl) a.2
 
 readers_say : AllByRecursion (ReadsAs IsEventOf) readers
-readers_say =
-    (type_row, (snarf_row, (range_row Select (codes "select") (λ f p q. refl), (range_row View (codes "view") (λ f p q. refl),
-    (place_row Dclick (codes "dclick") (λ f p. refl), (place_row Scroll (codes "scroll") (λ f p. refl), (tag_row Version (codes "version") (λ f. refl),
-    (bare_row OpenCmd (codes "opencmd") refl, (bare_row New (codes "new") refl, (bare_row GetSnarf (codes "getsnarf") refl,
-    (bare_row user.Flush (codes "flush") refl, (bare_row Exit (codes "exit") refl,
-    (tag_row Cut (codes "cut") (λ f. refl), (tag_row Paste (codes "paste") (λ f. refl), (tag_row Snarf (codes "snarf") (λ f. refl),
-    (tag_row Look (codes "look") (λ f. refl), (tag_row Search (codes "search") (λ f. refl), (tag_row Send (codes "send") (λ f. refl),
-    (tag_row Open (codes "open") (λ f. refl), (tag_row Write (codes "write") (λ f. refl), (tag_row Close (codes "close") (λ f. refl),
-    (tag_row Work (codes "work") (λ f. refl), (tag_row Check (codes "check") (λ f. refl), tt)))))))))))))))))))))))
+readers_say = (
+  type_row,
+  (
+    snarf_row,
+    (
+      range_row Select (codes "select") (λ f p q. refl),
+      (
+        range_row View (codes "view") (λ f p q. refl),
+        (
+          place_row Dclick (codes "dclick") (λ f p. refl),
+          (
+            place_row Scroll (codes "scroll") (λ f p. refl),
+            (
+              tag_row Version (codes "version") (λ f. refl),
+              (
+                bare_row OpenCmd (codes "opencmd") refl,
+                (
+                  bare_row New (codes "new") refl,
+                  (
+                    bare_row GetSnarf (codes "getsnarf") refl,
+                    (
+                      bare_row user.Flush (codes "flush") refl,
+                      (
+                        bare_row Exit (codes "exit") refl,
+                        (
+                          tag_row Cut (codes "cut") (λ f. refl),
+                          (
+                            tag_row Paste (codes "paste") (λ f. refl),
+                            (
+                              tag_row Snarf (codes "snarf") (λ f. refl),
+                              (
+                                tag_row Look (codes "look") (λ f. refl),
+                                (
+                                  tag_row Search (codes "search") (λ f. refl),
+                                  (
+                                    tag_row Send (codes "send") (λ f. refl),
+                                    (
+                                      tag_row Open (codes "open") (λ f. refl),
+                                      (
+                                        tag_row Write (codes "write") (λ f. refl),
+                                        (
+                                          tag_row Close (codes "close") (λ f. refl),
+                                          (tag_row Work (codes "work") (λ f. refl), (tag_row Check (codes "check") (λ f. refl), tt)),
+                                        ),
+                                      ),
+                                    ),
+                                  ),
+                                ),
+                              ),
+                            ),
+                          ),
+                        ),
+                      ),
+                    ),
+                  ),
+                ),
+              ),
+            ),
+          ),
+        ),
+      ),
+    ),
+  ),
+)
 
 -- each event is read by the reader of its word
 parts_read : (e : UserEvent) (bytes : List ℕ) → IsUtf8 bytes → SpellsParts (form e).1 bytes → read_by readers (form e).0 bytes ≡ Some e

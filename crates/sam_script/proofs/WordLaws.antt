@@ -1,7 +1,6 @@
 -- The words and numbers of a line, as functions on lists.
-use Rattle.std.proofs.Common.{◌≡◌, ◌≢◌, ◌<◌, ◌≤◌, ◌∙◌, ◌^◌, ◌+◌, refl, sym, ap, ap₂, subst, ℕ, zero, suc, List, [], ◌∷◌, ◌++◌, length, get_or, take, drop, Bool, true, false, cond, Option, Some, None, Result, Ok, Err, MatchOption, MatchResult, arith, inl, inr}
+use Rattle.std.proofs.Common.{◌≡◌, ◌≢◌, ◌<◌, ◌≤◌, ◌∙◌, ◌^◌, ◌+◌, refl, sym, ap, ℕ, zero, suc, List, [], ◌∷◌, ◌++◌, length, get_or, take, drop, Bool, true, false, cond, Some, None, Result, Ok, Err, MatchResult, arith, inl, inr}
 use Rattle.std.specs.Prelude.{nat_lt, ◌&&◌, ◌==◌, ◌⊎◌}
-use Rattle.std.specs.Result.{OkIff}
 use Rattle.std.specs.Str.{all_ascii_digits}
 use Rattle.std.specs.Str.Parse.{ParsesUnsigned, digits_value}
 use Rattle.std.proofs.lemmas.Str.Parse.{parse_plain, numerals_by_value, tells_all_ascii_digits}
@@ -56,7 +55,9 @@ pub some_number : (bits : ℕ) (word : List ℕ) → all_ascii_digits word ≡ t
 some_number bits word digits some small = rw (digits, lt-ltb 0 (length word) some, lt-ltb (digits_value 10 word) (2 ^ bits) small) refl
 
 none_number : (bits : ℕ) (word : List ℕ) → ((all_ascii_digits word ≡ true) × (0 < length word) × (digits_value 10 word < 2 ^ bits) → ⊥) → number_of bits word ≡ None
-none_number bits word not_one = by_tests (all_ascii_digits word) (nat_lt 0 (length word)) (nat_lt (digits_value 10 word) (2 ^ bits)) (digits_value 10 word) (λ d l s. not_one (d, ltb-true 0 (length word) l, ltb-true (digits_value 10 word) (2 ^ bits) s))
+none_number bits word not_one =
+    by_tests (all_ascii_digits word) (nat_lt 0 (length word)) (nat_lt (digits_value 10 word) (2 ^ bits)) (digits_value 10 word)
+    (λ d l s. not_one (d, ltb-true 0 (length word) l, ltb-true (digits_value 10 word) (2 ^ bits) s))
   where
     by_tests : (x y z : Bool) (n : ℕ) → (x ≡ true → y ≡ true → z ≡ true → ⊥) → cond ((x && y) && z) (Some n) None ≡ None
     by_tests true true true n wrong = absurd (wrong refl refl refl)
@@ -69,11 +70,11 @@ module _ {E : Type 0} where
       → MatchResult r (λ n. number_of bits word ≡ Some n) (λ e. number_of bits word ≡ None)
   parsed bits word (Ok n) h plain =
       let is : ((all_ascii_digits word ≡ true) × (0 < length word) × (digits_value 10 word < 2 ^ bits)) × (n ≡ digits_value 10 word) =
-          parse_plain (numerals_by_value (λ ds. all_ascii_digits ds ≡ true) tells_all_ascii_digits) {E = E} bits word (Ok n) h plain in
+      parse_plain (numerals_by_value (λ ds. all_ascii_digits ds ≡ true) tells_all_ascii_digits) {E = E} bits word (Ok n) h plain in
       some_number bits word is.0.0 is.0.1 is.0.2 ∙ ap (λ m. Some m) (sym is.1)
   parsed bits word (Err e) h plain =
       let is : (all_ascii_digits word ≡ true) × (0 < length word) × (digits_value 10 word < 2 ^ bits) → ⊥ =
-          parse_plain (numerals_by_value (λ ds. all_ascii_digits ds ≡ true) tells_all_ascii_digits) {E = E} bits word (Err e) h plain in
+      parse_plain (numerals_by_value (λ ds. all_ascii_digits ds ≡ true) tells_all_ascii_digits) {E = E} bits word (Err e) h plain in
       none_number bits word is
 
 -- one rune more of a text
@@ -87,7 +88,9 @@ pub not_escape : (front rest : List ℕ) (is_escaped : Bool) (c : ℕ) → ((c �
     → unescaped front is_escaped (c ∷ rest) ≡ (meant is_escaped c >>= λ rune. unescaped (front ++ rune ∷ []) false rest)
 not_escape front rest is_escaped c (inl both) = rw both.1 (and_false (c == 92))
   where
-    and_false : (b : Bool) → cond (b && false) (unescaped front true rest) (meant true c >>= λ rune. unescaped (front ++ rune ∷ []) false rest) ≡ (meant true c >>= λ rune. unescaped (front ++ rune ∷ []) false rest)
+    and_false : (b : Bool)
+        → cond (b && false) (unescaped front true rest) (meant true c >>= λ rune. unescaped (front ++ rune ∷ []) false rest)
+        ≡ (meant true c >>= λ rune. unescaped (front ++ rune ∷ []) false rest)
     and_false true = refl
     and_false false = refl
 not_escape front rest is_escaped c (inr other) = rw (ne_eqb c 92 other) refl

@@ -1,6 +1,5 @@
--- How lines are read, for the clauses of private functions; what a reader must believe is in Spelling.
-use Rattle.std.specs.Prelude.{◌≡◌, ◌^◌, ◌+◌, ◌<◌, ◌==◌, ◌&&◌, ℕ, Bool, List, [], ◌∷◌, ◌++◌, Option, Some, None, Result, Ok, Err, codes, length, nat_lt, nat_le, true, false, ◌||◌, not, if◌then◌else◌, bytes_eq, chars}
-use Rattle.std.specs.Option.{option_and_then}
+-- How lines are read, for the clauses of private functions; what a user must believe stands in Spelling.
+use Rattle.std.specs.Prelude.{◌≡◌, ◌^◌, ◌<◌, ◌==◌, ◌&&◌, ℕ, Bool, List, [], ◌∷◌, ◌++◌, Option, Some, None, Result, Ok, Err, codes, length, nat_lt, nat_le, true, false, ◌||◌, not, if◌then◌else◌, bytes_eq, chars}
 use Rattle.std.specs.Str.{all_ascii_digits}
 use Rattle.std.specs.Str.Parse.{digits_value}
 use Rattle.sam_runes.specs.Texts.{max_runes}
@@ -46,7 +45,8 @@ word_at (b ∷ bytes) = if b == 32 then Some (word_of bytes, behind_word bytes) 
 
 abbrev pub number_of : ℕ → List ℕ → Option ℕ
 number_of bits word =
-    if all_ascii_digits word && nat_lt 0 (length word) && nat_lt (digits_value 10 word) (2 ^ bits) then Some (digits_value 10 word) else None
+    if all_ascii_digits word && nat_lt 0 (length word) && nat_lt (digits_value 10 word) (2 ^ bits) then Some (digits_value 10 word)
+    else None
 
 unfoldable pub number_at : ℕ → List ℕ → Option (ℕ × List ℕ)
 number_at bits bytes = word_at bytes >>= λ x. number_of bits x.0 >>= λ n. Some (n, x.1)
@@ -108,7 +108,8 @@ abbrev pub readers : List (List ℕ × Reader UserEvent)
 readers =
     (codes "type", λ bytes. tag_and_text bytes >>= λ x. Some (Typed x.0 x.1))
     ∷ (codes "setsnarf", λ bytes. text_at bytes >>= λ s. Some (SetSnarf s))
-    ∷ (codes "select", by_range Select) ∷ (codes "view", by_range View) ∷ (codes "dclick", by_place Dclick) ∷ (codes "scroll", by_place Scroll)
+    ∷ (codes "select", by_range Select) ∷ (codes "view", by_range View)
+    ∷ (codes "dclick", by_place Dclick) ∷ (codes "scroll", by_place Scroll)
     ∷ (codes "version", by_tag Version) ∷ (codes "opencmd", ended OpenCmd) ∷ (codes "new", ended New) ∷ (codes "getsnarf", ended GetSnarf)
     ∷ (codes "flush", ended user.Flush) ∷ (codes "exit", ended Exit) ∷ file_readers
 

@@ -1,5 +1,5 @@
 -- Which script a list of bytes spells.
-use Rattle.std.specs.Prelude.{◌≡◌, ◌≢◌, ◌<◌, ◌≤◌, ◌+◌, ◌-◌, ◌^◌, ◌==◌, ◌⊎◌, ℕ, List, [], ◌∷◌, ◌++◌, codes, flat_map, length, take, true, false, encode_utf8}
+use Rattle.std.specs.Prelude.{◌≡◌, ◌<◌, ◌≤◌, ◌+◌, ◌-◌, ◌^◌, ◌==◌, ◌⊎◌, ℕ, List, [], ◌∷◌, ◌++◌, codes, flat_map, length, take, true, false, encode_utf8}
 use Rattle.std.specs.Fmt.{decimal}
 use Rattle.std.specs.List.{AllByRecursion, AllZip, slice_split}
 use Rattle.std.specs.Str.{IsUtf8, all_ascii_digits}
@@ -89,8 +89,8 @@ IsWord word = AllByRecursion (λ b. (b == 32) ≡ false) word
 -- `file`, a name without spaces, and a text
 abbrev pub SpellsFile : List ℕ → List ℕ → List ℕ → Type 0
 SpellsFile name text bytes =
-    (rest : List ℕ) × (bytes ≡ codes "file " ++ flat_map encode_utf8 name ++ rest) × IsWord (flat_map encode_utf8 name) × IsFile (name, text)
-    × SpellsParts (Rest text ∷ []) rest
+    (rest : List ℕ) × (bytes ≡ codes "file " ++ flat_map encode_utf8 name ++ rest) × IsWord (flat_map encode_utf8 name)
+    × IsFile (name, text) × SpellsParts (Rest text ∷ []) rest
 
 -- what a line asks for, `file` lines left out
 abbrev pub SpellsLine : Line → List ℕ → Type 0

@@ -4,7 +4,9 @@ ghost use Rattle.std.specs.Prelude.{◌≡◌};
 ghost use Rattle.sam_script.specs.Reading.{Gives, event_at, read_by, readers, file_readers};
 
 use crate::fault::LineFault;
-use crate::words::{ended, tag_alone, tag_and_place, tag_and_range, tag_and_text, text_at, word_at};
+use crate::words::{
+    ended, tag_alone, tag_and_place, tag_and_range, tag_and_text, text_at, word_at,
+};
 use sam_term::event::UserEvent;
 use std::alloc::Global;
 

@@ -123,7 +123,11 @@ fn meant(is_escaped: bool, rune: char) -> Option<char>
 pub fn ended<X: Drop>(value: X, text: &str) -> Result<X, LineFault>
     ensures { Gives (λ x. x) result (ended value text.now) }
 {
-    if text.is_empty() { Ok(value) } else { Err(LineFault::Wrong) }
+    if text.is_empty() {
+        Ok(value)
+    } else {
+        Err(LineFault::Wrong)
+    }
 }
 
 /// A tag, and nothing more.

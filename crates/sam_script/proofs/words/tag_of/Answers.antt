@@ -1,6 +1,6 @@
-use Rattle.std.proofs.Common.{◌≡◌, ◌≢◌, ℕ, get_or, lit<, Ok, Err, arith}
+use Rattle.std.proofs.Common.{◌≢◌, ℕ, get_or, Ok, Err, arith}
 use Rattle.std.proofs.lemmas.Bool.Decides.{nat_tests}
-use Rattle.sam_script.proofs.WordLaws.{plus_fails, parsed}
+use Rattle.sam_script.proofs.WordLaws.{parsed}
 use Rattle.sam_script.proofs.words.tag_of.Goals as goal
 
 pub returns-in-Ok : goal.returns-in-Ok

@@ -1,4 +1,4 @@
-use Rattle.std.proofs.Common.{◌≡◌, ◌≢◌, ◌⊎◌, ◌<◌, ◌≤◌, ◌∙◌, ◌+◌, ◌++◌, ◌∷◌, [], ℕ, List, length, get_or, drop, sym, ap, subst, inl, inr, refl, arith, Some, None, true, false}
+use Rattle.std.proofs.Common.{◌≡◌, ◌≢◌, ◌⊎◌, ◌≤◌, ◌∙◌, ◌+◌, [], ℕ, List, length, drop, sym, ap, subst, inl, inr, arith, Some, true, false}
 use Rattle.std.proofs.lemmas.Iterator.{YieldsList-from_chars}
 use Rattle.std.proofs.lemmas.Iterator.Consumers.{YieldsList-turn, YieldsList-end}
 use Rattle.std.proofs.lemmas.List.{length_push}
@@ -14,14 +14,17 @@ loop-rune-preserved-then-not-is_escaped c =
     let n = length_push c.loop-rune.yielded c.in-Some.rune in
     ap (λ (k : ℕ). unescaped c.loop-rune.runes.items true (drop k (chars c.args.escaped.now))) n
     ∙ turn_escape c.loop-rune.runes.items (chars c.args.escaped.now) (chars c.args.escaped.now) (length c.loop-rune.yielded) c.in-Some.rune
-    (subst (λ b. unescaped c.loop-rune.runes.items b (drop (length c.loop-rune.yielded) (chars c.args.escaped.now)) ≡ unescaped [] false (chars c.args.escaped.now)) c.if-not-is_escaped.true c.loop-rune.invariant)
+    (subst (λ b. unescaped c.loop-rune.runes.items b (drop (length c.loop-rune.yielded) (chars c.args.escaped.now)) ≡ unescaped [] false (chars c.args.escaped.now))
+    c.if-not-is_escaped.true c.loop-rune.invariant)
     t c.if-rune-eq92.true
 
 pub returns-in_default : goal.returns-in_default
 returns-in_default c =
     let t = YieldsList-turn (YieldsList-from_chars c.args.escaped.now c.utf8.escaped cc) c.loop-rune.yielded _ c.loop-rune.yielded_by _ _ c.in-Some.rune c.in-Some.is c.next.ensures.steps in
     let plain : ((c.in-Some.rune ≡ 92) × (c.loop-rune.is_escaped ≡ true)) ⊎ (c.in-Some.rune ≢ 92) =
-        elim c.else-rune-eq92.branch [ else-rune-eq92-via-then-rune-eq92+else-not-is_escaped w ↦ inl (w.if-rune-eq92.true, w.if-not-is_escaped.false) | else-rune-eq92-via-else-rune-eq92 w ↦ inr w.if-rune-eq92.false ] in
+    elim c.else-rune-eq92.branch [
+        else-rune-eq92-via-then-rune-eq92+else-not-is_escaped w ↦ inl (w.if-rune-eq92.true, w.if-not-is_escaped.false)
+      | else-rune-eq92-via-else-rune-eq92 w ↦ inr w.if-rune-eq92.false ] in
     turn_fails c.loop-rune.runes.items (chars c.args.escaped.now) (chars c.args.escaped.now) c.loop-rune.is_escaped (length c.loop-rune.yielded) c.in-Some.rune
     c.loop-rune.invariant t plain cc
 
@@ -30,7 +33,9 @@ loop-rune-preserved c =
     let t = YieldsList-turn (YieldsList-from_chars c.args.escaped.now c.utf8.escaped cc) c.loop-rune.yielded _ c.loop-rune.yielded_by _ _ c.in-Some.rune c.in-Some.is c.next.ensures.steps in
     let n = length_push c.loop-rune.yielded c.in-Some.rune in
     let plain : ((c.in-Some.rune ≡ 92) × (c.loop-rune.is_escaped ≡ true)) ⊎ (c.in-Some.rune ≢ 92) =
-        elim c.else-rune-eq92.branch [ else-rune-eq92-via-then-rune-eq92+else-not-is_escaped w ↦ inl (w.if-rune-eq92.true, w.if-not-is_escaped.false) | else-rune-eq92-via-else-rune-eq92 w ↦ inr w.if-rune-eq92.false ] in
+    elim c.else-rune-eq92.branch [
+        else-rune-eq92-via-then-rune-eq92+else-not-is_escaped w ↦ inl (w.if-rune-eq92.true, w.if-not-is_escaped.false)
+      | else-rune-eq92-via-else-rune-eq92 w ↦ inr w.if-rune-eq92.false ] in
     ap (λ (k : ℕ). unescaped c.push.new.self.items false (drop k (chars c.args.escaped.now))) n
     ∙ ap (λ (xs : List ℕ). unescaped xs false (drop (length c.loop-rune.yielded + 1) (chars c.args.escaped.now))) c.in_ok-push.ensures.items
     ∙ turn_rune c.loop-rune.runes.items (chars c.args.escaped.now) (chars c.args.escaped.now) c.loop-rune.is_escaped (length c.loop-rune.yielded) c.in-Some.rune _
