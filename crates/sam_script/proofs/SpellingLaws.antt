@@ -222,15 +222,19 @@ unescaped_says (c ∷ cs) front true s h =
     elim (eqb_tells c 110) [
       | inl t ↦
           let here = rw t.0 at plain in
-          let more = unescaped_says cs (front ++ 10 ∷ []) false s here in
-          (10 ∷ more.0, more.1 ∙ append_assoc front (10 ∷ []) more.0,
-          ap (λ d. 92 ∷ (encode_utf8 d ++ encode_utf8_all cs)) t.1 ∙ ap (λ xs. 92 ∷ (xs ++ encode_utf8_all cs)) e110 ∙ ap (λ xs. 92 ∷ 110 ∷ xs) more.2)
+          let more = unescaped_says cs (front ++ 10 ∷ []) false s here in (
+            10 ∷ more.0,
+            more.1 ∙ append_assoc front (10 ∷ []) more.0,
+            ap (λ d. 92 ∷ (encode_utf8 d ++ encode_utf8_all cs)) t.1 ∙ ap (λ xs. 92 ∷ (xs ++ encode_utf8_all cs)) e110 ∙ ap (λ xs. 92 ∷ 110 ∷ xs) more.2,
+          )
       | inr t ↦ elim (eqb_tells c 92) [
         | inl k ↦
             let here = rw (t.0, k.0) at plain in
-            let more = unescaped_says cs (front ++ 92 ∷ []) false s here in
-            (92 ∷ more.0, more.1 ∙ append_assoc front (92 ∷ []) more.0,
-            ap (λ d. 92 ∷ (encode_utf8 d ++ encode_utf8_all cs)) k.1 ∙ ap (λ xs. 92 ∷ (xs ++ encode_utf8_all cs)) e92 ∙ ap (λ xs. 92 ∷ 92 ∷ xs) more.2)
+            let more = unescaped_says cs (front ++ 92 ∷ []) false s here in (
+              92 ∷ more.0,
+              more.1 ∙ append_assoc front (92 ∷ []) more.0,
+              ap (λ d. 92 ∷ (encode_utf8 d ++ encode_utf8_all cs)) k.1 ∙ ap (λ xs. 92 ∷ (xs ++ encode_utf8_all cs)) e92 ∙ ap (λ xs. 92 ∷ 92 ∷ xs) more.2,
+            )
         | inr k ↦ let here = rw (t.0, k.0) at plain in cc
       ]
     ]

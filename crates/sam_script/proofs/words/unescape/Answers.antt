@@ -23,8 +23,9 @@ returns-in_default c =
     let t = YieldsList-turn (YieldsList-from_chars c.args.escaped.now c.utf8.escaped cc) c.loop-rune.yielded _ c.loop-rune.yielded_by _ _ c.in-Some.rune c.in-Some.is c.next.ensures.steps in
     let plain : ((c.in-Some.rune ≡ 92) × (c.loop-rune.is_escaped ≡ true)) ⊎ (c.in-Some.rune ≢ 92) =
     elim c.else-rune-eq92.branch [
-        else-rune-eq92-via-then-rune-eq92+else-not-is_escaped w ↦ inl (w.if-rune-eq92.true, w.if-not-is_escaped.false)
-      | else-rune-eq92-via-else-rune-eq92 w ↦ inr w.if-rune-eq92.false ] in
+      | else-rune-eq92-via-then-rune-eq92+else-not-is_escaped w ↦ inl (w.if-rune-eq92.true, w.if-not-is_escaped.false)
+      | else-rune-eq92-via-else-rune-eq92 w ↦ inr w.if-rune-eq92.false
+    ] in
     turn_fails c.loop-rune.runes.items (chars c.args.escaped.now) (chars c.args.escaped.now) c.loop-rune.is_escaped (length c.loop-rune.yielded) c.in-Some.rune
     c.loop-rune.invariant t plain cc
 
@@ -34,8 +35,9 @@ loop-rune-preserved c =
     let n = length_push c.loop-rune.yielded c.in-Some.rune in
     let plain : ((c.in-Some.rune ≡ 92) × (c.loop-rune.is_escaped ≡ true)) ⊎ (c.in-Some.rune ≢ 92) =
     elim c.else-rune-eq92.branch [
-        else-rune-eq92-via-then-rune-eq92+else-not-is_escaped w ↦ inl (w.if-rune-eq92.true, w.if-not-is_escaped.false)
-      | else-rune-eq92-via-else-rune-eq92 w ↦ inr w.if-rune-eq92.false ] in
+      | else-rune-eq92-via-then-rune-eq92+else-not-is_escaped w ↦ inl (w.if-rune-eq92.true, w.if-not-is_escaped.false)
+      | else-rune-eq92-via-else-rune-eq92 w ↦ inr w.if-rune-eq92.false
+    ] in
     ap (λ (k : ℕ). unescaped c.push.new.self.items false (drop k (chars c.args.escaped.now))) n
     ∙ ap (λ (xs : List ℕ). unescaped xs false (drop (length c.loop-rune.yielded + 1) (chars c.args.escaped.now))) c.in_ok-push.ensures.items
     ∙ turn_rune c.loop-rune.runes.items (chars c.args.escaped.now) (chars c.args.escaped.now) c.loop-rune.is_escaped (length c.loop-rune.yielded) c.in-Some.rune _
