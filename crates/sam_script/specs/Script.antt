@@ -3,11 +3,7 @@ use Rattle.std.specs.Prelude.{◌≤◌, ◌<◌, ℕ, List, [], ◌∷◌, leng
 use Rattle.sam_runes.specs.Texts.{max_runes}
 use Rattle.sam_term.specs.declared.event.UserEvent.{UserEvent}
 use Rattle.sam_script.specs.declared.line.Line.TheVariants.{Key, Mouse}
-use Rattle.sam_script.specs.declared.line.Said.{Said}
-use Rattle.sam_script.specs.declared.line.Said.TheVariants as said
 use Rattle.sam_script.specs.declared.line.Numbered.{Numbered}
-use Rattle.sam_script.specs.declared.fault.ScriptFault.{ScriptFault}
-use Rattle.sam_script.specs.declared.fault.ScriptFault.TheVariants as fault
 
 -- the names and texts of the host's files, and the other lines
 pub record PlainScript : Type 0 where
@@ -17,17 +13,6 @@ pub record PlainScript : Type 0 where
 -- a name of 1 to 64 runes, and a text that is not too long
 abbrev pub IsFile : List ℕ × List ℕ → Type 0
 IsFile file = (0 < length file.0) × (length file.0 ≤ 64) × (length file.1 ≤ max_runes)
-
--- a file that a line names is one
-abbrev pub FitsLine : Said → Type 0
-FitsLine (said.File name text) = IsFile (name, text)
-FitsLine other = Unit {0}
-
--- lines are counted from 1, and reading counts no messages
-abbrev pub IsReadFault : ScriptFault → Type 0
-IsReadFault (fault.Line number) = 0 < number
-IsReadFault fault.CountFull = ⊥
-IsReadFault fault.OutOfMemory = Unit {0}
 
 -- what the user does at the keyboard by a line
 abbrev pub key_of : Numbered → List UserEvent

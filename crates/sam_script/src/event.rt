@@ -1,46 +1,76 @@
 //! What the user does, as the words of a line name it.
 
+ghost use Rattle.std.specs.Prelude.{◌≡◌};
+ghost use Rattle.sam_script.specs.Reading.{Gives, event_at, read_by, readers, file_readers};
+
 use crate::fault::LineFault;
-use crate::words::Words;
+use crate::words::{
+    ended, tag_alone, tag_and_place, tag_and_range, tag_and_text, text_at, word_at,
+};
 use sam_term::event::UserEvent;
 use std::alloc::Global;
 
-/// The event that the words name.
-pub fn read_event(alloc: Global, words: &mut Words<'_>) -> Result<UserEvent, LineFault> {
-    let name = words.word()?;
-    let event = match name {
-        "type" => UserEvent::Typed(words.tag()?, words.text(alloc)?),
-        "setsnarf" => UserEvent::SetSnarf(words.text(alloc)?),
-        "select" => UserEvent::Select(words.tag()?, words.number()?, words.number()?),
-        "view" => UserEvent::View(words.tag()?, words.number()?, words.number()?),
-        "dclick" => UserEvent::Dclick(words.tag()?, words.number()?),
-        "scroll" => UserEvent::Scroll(words.tag()?, words.number()?),
-        "version" => UserEvent::Version(words.tag()?),
-        "opencmd" => UserEvent::OpenCmd,
-        "new" => UserEvent::New,
-        "getsnarf" => UserEvent::GetSnarf,
-        "flush" => UserEvent::Flush,
-        "exit" => UserEvent::Exit,
-        _ => on_file(name, words.tag()?)?,
-    };
-    words.end()?;
-    Ok(event)
+/// The event that a word behind a space and the rest of the line name.
+#[tactic(auto, unfolding(crate::specs::Reading::event_at))]
+pub fn event_at(alloc: Global, text: &str) -> Result<UserEvent, LineFault>
+    ensures { Gives (λ e. e) result (event_at text.now) }
+{
+    let (word, rest) = word_at(text)?;
+    read_event(alloc, word, rest)
+}
+
+/// The event of this word.
+fn read_event(alloc: Global, word: &str, rest: &str) -> Result<UserEvent, LineFault>
+    ensures { Gives (λ e. e) result (read_by readers word.now rest.now) }
+{
+    match word {
+        "type" => {
+            let (tag, text) = tag_and_text(alloc, rest)?;
+            Ok(UserEvent::Typed(tag, text))
+        }
+        "setsnarf" => Ok(UserEvent::SetSnarf(text_at(alloc, rest)?)),
+        "select" => {
+            let (tag, start, end) = tag_and_range(rest)?;
+            Ok(UserEvent::Select(tag, start, end))
+        }
+        "view" => {
+            let (tag, place, len) = tag_and_range(rest)?;
+            Ok(UserEvent::View(tag, place, len))
+        }
+        "dclick" => {
+            let (tag, place) = tag_and_place(rest)?;
+            Ok(UserEvent::Dclick(tag, place))
+        }
+        "scroll" => {
+            let (tag, lines) = tag_and_place(rest)?;
+            Ok(UserEvent::Scroll(tag, lines))
+        }
+        "version" => Ok(UserEvent::Version(tag_alone(rest)?)),
+        "opencmd" => ended(UserEvent::OpenCmd, rest),
+        "new" => ended(UserEvent::New, rest),
+        "getsnarf" => ended(UserEvent::GetSnarf, rest),
+        "flush" => ended(UserEvent::Flush, rest),
+        "exit" => ended(UserEvent::Exit, rest),
+        _ => on_file(word, rest),
+    }
 }
 
 /// An event that names a file and nothing more.
-fn on_file(name: &str, tag: u16) -> Result<UserEvent, LineFault> {
-    match name {
-        "cut" => Ok(UserEvent::Cut(tag)),
-        "paste" => Ok(UserEvent::Paste(tag)),
-        "snarf" => Ok(UserEvent::Snarf(tag)),
-        "look" => Ok(UserEvent::Look(tag)),
-        "search" => Ok(UserEvent::Search(tag)),
-        "send" => Ok(UserEvent::Send(tag)),
-        "open" => Ok(UserEvent::Open(tag)),
-        "write" => Ok(UserEvent::Write(tag)),
-        "close" => Ok(UserEvent::Close(tag)),
-        "work" => Ok(UserEvent::Work(tag)),
-        "check" => Ok(UserEvent::Check(tag)),
+fn on_file(word: &str, rest: &str) -> Result<UserEvent, LineFault>
+    ensures { Gives (λ e. e) result (read_by file_readers word.now rest.now) }
+{
+    match word {
+        "cut" => Ok(UserEvent::Cut(tag_alone(rest)?)),
+        "paste" => Ok(UserEvent::Paste(tag_alone(rest)?)),
+        "snarf" => Ok(UserEvent::Snarf(tag_alone(rest)?)),
+        "look" => Ok(UserEvent::Look(tag_alone(rest)?)),
+        "search" => Ok(UserEvent::Search(tag_alone(rest)?)),
+        "send" => Ok(UserEvent::Send(tag_alone(rest)?)),
+        "open" => Ok(UserEvent::Open(tag_alone(rest)?)),
+        "write" => Ok(UserEvent::Write(tag_alone(rest)?)),
+        "close" => Ok(UserEvent::Close(tag_alone(rest)?)),
+        "work" => Ok(UserEvent::Work(tag_alone(rest)?)),
+        "check" => Ok(UserEvent::Check(tag_alone(rest)?)),
         _ => Err(LineFault::Wrong),
     }
 }

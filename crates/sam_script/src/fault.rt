@@ -1,5 +1,8 @@
 //! Why a script could not be read or run.
 
+ghost use Rattle.std.specs.Prelude.{◌≡◌};
+ghost use Rattle.sam_script.specs.declared.fault.LineFault.TheVariants.{OutOfMemory};
+
 use std::alloc::{AllocError, AllocFailed};
 use thiserror::Error;
 
@@ -36,12 +39,16 @@ pub enum LineFault {
 }
 
 impl From<AllocError> for LineFault {
+    ghost from_gives = { λ _ e. e ≡ OutOfMemory };
+
     fn from(_error: AllocError) -> LineFault {
         LineFault::OutOfMemory
     }
 }
 
 impl<T: Drop> From<AllocFailed<T>> for LineFault {
+    ghost from_gives = { λ _ e. e ≡ OutOfMemory };
+
     fn from(_error: AllocFailed<T>) -> LineFault {
         LineFault::OutOfMemory
     }

@@ -3,6 +3,7 @@
 
 mod event;
 mod fault;
+pub mod laws;
 mod line;
 mod lines_of_run;
 mod replaying;

@@ -1,15 +1,16 @@
 //! One line of a script.
 
-ghost use Rattle.std.specs.Prelude.{◌≡◌, ◌≤◌, IfOk, IfSome, length};
-ghost use Rattle.sam_runes.specs.Texts.{max_runes};
-ghost use Rattle.sam_script.specs.Script.{IsFile, FitsLine};
+ghost use Rattle.std.specs.Prelude.{◌≡◌, IfOk, IfErr, chars};
+ghost use Rattle.sam_script.specs.Reading.{Gives, IsUnsaid, line_at, file_at, file_text_at, fitting_name, read_by, bare_readers};
+ghost use Rattle.sam_script.specs.Spelling.{Says};
 
-use crate::event::read_event;
+use crate::event::event_at;
 use crate::fault::LineFault;
-use crate::words::Words;
+use crate::words::{ended, split_word, text_at, word_at};
 use sam_runes::{MAX_RUNES, Runes};
 use sam_term::event::UserEvent;
-use std::alloc::Global;
+use std::alloc::{AllocError, Global};
+use std::str;
 
 /// What a line of a script asks for, `file` lines left out.
 #[derive(Drop)]
@@ -52,44 +53,89 @@ pub enum Said {
 /// The most runes of the name of a file.
 pub const MOST_NAME: usize = 64;
 
-/// What the line says.
-pub fn read_line(alloc: Global, text: &str) -> Result<Said, LineFault>
-    ensures { IfOk result FitsLine }
+/// What a line of bytes says.
+pub fn said_by(alloc: Global, bytes: &[u8]) -> Result<Said, LineFault>
+    ensures ok { IfOk result (λ it. Says it bytes.now) }
+    ensures wrong { IfErr result (IsUnsaid bytes.now) }
+{
+    match str::from_utf8(bytes) {
+        Ok(text) => read_line(alloc, text),
+        Err(_) => Err(LineFault::Wrong),
+    }
+}
+
+/// What a line of text says.
+#[tactic(auto, unfolding(crate::specs::Reading::line_at))]
+fn read_line(alloc: Global, text: &str) -> Result<Said, LineFault>
+    ensures { Gives (λ it. it) result (line_at text.now) }
 {
     if text.is_empty() || text.starts_with('#') || text.starts_with('=') {
         return Ok(Said::Nothing);
     }
-    let mut words = Words::new(text);
-    let line = match words.word()? {
+    let (word, rest) = split_word(text);
+    match word {
         "file" => {
-            let (name, text) = read_file(alloc, &mut words)?;
-            return Ok(Said::File(name, text));
+            let (name, text) = file_at(alloc, rest)?;
+            Ok(Said::File(name, text))
         }
-        "k" => Line::Key(read_event(alloc, &mut words)?),
-        "m" => Line::Mouse(read_event(alloc, &mut words)?),
-        "act" => Line::Act,
-        "flush" => Line::Flush,
-        "host" => Line::Host,
-        "term" => Line::Term,
-        "drain" => Line::Drain,
-        "show" => Line::Show,
-        _ => return Err(LineFault::Wrong),
-    };
-    words.end()?;
-    Ok(Said::Line(line))
+        "k" => Ok(Said::Line(Line::Key(event_at(alloc, rest)?))),
+        "m" => Ok(Said::Line(Line::Mouse(event_at(alloc, rest)?))),
+        _ => bare_line(word, rest),
+    }
+}
+
+/// A line of one word.
+fn bare_line(word: &str, rest: &str) -> Result<Said, LineFault>
+    ensures { Gives (λ it. it) result (read_by bare_readers word.now rest.now) }
+{
+    match word {
+        "act" => ended(Said::Line(Line::Act), rest),
+        "flush" => ended(Said::Line(Line::Flush), rest),
+        "host" => ended(Said::Line(Line::Host), rest),
+        "term" => ended(Said::Line(Line::Term), rest),
+        "drain" => ended(Said::Line(Line::Drain), rest),
+        "show" => ended(Said::Line(Line::Show), rest),
+        _ => Err(LineFault::Wrong),
+    }
 }
 
 /// The name and the text of a `file` line.
-fn read_file(alloc: Global, words: &mut Words<'_>) -> Result<(Runes, Runes), LineFault>
-    ensures { IfOk result IsFile }
+#[tactic(auto, unfolding(crate::specs::Reading::file_at))]
+fn file_at(alloc: Global, text: &str) -> Result<(Runes, Runes), LineFault>
+    ensures { Gives (λ x. (x.0, x.1)) result (file_at text.now) }
 {
-    let name: Vec<char> = words.word()?.chars().collect(alloc)?;
+    let (word, rest) = word_at(text)?;
+    let name = name_of(alloc, word)?;
+    let text = file_text_at(alloc, rest)?;
+    Ok((name, text))
+}
+
+/// The runes of a name, 1 to `MOST_NAME`.
+fn name_of(alloc: Global, word: &str) -> Result<Runes, LineFault>
+    ensures { Gives (λ name. name) result (fitting_name (chars word.now)) }
+{
+    let name = runes_of(alloc, word)?;
     if name.is_empty() || name.len() > MOST_NAME {
         return Err(LineFault::Wrong);
     }
-    let text = words.text(alloc)?;
+    Ok(Runes::from_vec(name))
+}
+
+#[tactic(auto, using(std::proofs::lemmas::Str::chars_from_encodes))]
+fn runes_of(alloc: Global, word: &str) -> Result<Vec<char>, AllocError>
+    ensures { IfOk result (λ runes. runes.items ≡ chars word.now) }
+{
+    word.chars().collect(alloc)
+}
+
+/// The text of a file, at most `MAX_RUNES` runes.
+#[tactic(auto, unfolding(crate::specs::Reading::file_text_at))]
+fn file_text_at(alloc: Global, rest: &str) -> Result<Runes, LineFault>
+    ensures { Gives (λ text. text) result (file_text_at rest.now) }
+{
+    let text = text_at(alloc, rest)?;
     if text.len() > MAX_RUNES as usize {
         return Err(LineFault::Wrong);
     }
-    Ok((Runes::from_vec(name), text))
+    Ok(text)
 }

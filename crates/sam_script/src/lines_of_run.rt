@@ -1,8 +1,9 @@
 //! The script that makes the events of a run happen again.
 
-ghost use Rattle.std.specs.Prelude.{◌≡◌, ◌++◌, IfOk, OnOk, IfErr, string_bytes, flat_map, encode_utf8};
-ghost use Rattle.std.specs.Fmt.{decimal};
-ghost use Rattle.sam_script.specs.RunLines.{with_number, with_place, with_range, with_text, user_words, event_line, file_line, run_lines_of};
+ghost use Rattle.std.specs.Prelude.{◌≡◌, ◌++◌, ◌∷◌, [], IfOk, OnOk, IfErr, string_bytes, flat_map, encode_utf8};
+ghost use Rattle.sam_script.specs.RunLines.{event_line, file_line, run_lines_of};
+ghost use Rattle.sam_script.specs.Spelling.{Tag, Place, form, spelling};
+ghost use Rattle.sam_script.specs.Spelling.Part.{Rest};
 
 use crate::fault::ScriptFault;
 use crate::script::Script;
@@ -97,7 +98,7 @@ fn push_user_line(out: &mut String, event: &UserEvent) -> Result<(), AllocError>
 
 /// What the user does, in a script's words.
 fn push_user(out: &mut String, event: &UserEvent) -> Result<(), AllocError>
-    ensures { OnOk result (string_bytes out.new ≡ string_bytes out.old ++ user_words event.now) }
+    ensures { OnOk result (string_bytes out.new ≡ string_bytes out.old ++ spelling (form event.now)) }
 {
     match event {
         UserEvent::Typed(tag, text) => push_typed(out, *tag, text.as_slice()),
@@ -115,26 +116,32 @@ fn push_user(out: &mut String, event: &UserEvent) -> Result<(), AllocError>
         UserEvent::Close(tag) => push_number(out, "close", *tag),
         UserEvent::Write(tag) => push_number(out, "write", *tag),
         UserEvent::Work(tag) => push_number(out, "work", *tag),
-        UserEvent::OpenCmd => push(out, "opencmd"),
-        UserEvent::New => push(out, "new"),
-        UserEvent::Exit => push(out, "exit"),
+        UserEvent::OpenCmd => push_bare(out, "opencmd"),
+        UserEvent::New => push_bare(out, "new"),
+        UserEvent::Exit => push_bare(out, "exit"),
         UserEvent::Check(tag) => push_number(out, "check", *tag),
-        UserEvent::GetSnarf => push(out, "getsnarf"),
+        UserEvent::GetSnarf => push_bare(out, "getsnarf"),
         UserEvent::SetSnarf(text) => push_with_text(out, "setsnarf", text.as_slice()),
         UserEvent::Version(version) => push_number(out, "version", *version),
-        UserEvent::Flush => push(out, "flush"),
+        UserEvent::Flush => push_bare(out, "flush"),
     }
 }
 
+fn push_bare(out: &mut String, word: &str) -> Result<(), AllocError>
+    ensures { OnOk result (string_bytes out.new ≡ string_bytes out.old ++ spelling (word.now, [])) }
+{
+    push(out, word)
+}
+
 fn push_typed(out: &mut String, tag: u16, text: &[char]) -> Result<(), AllocError>
-    ensures { OnOk result (string_bytes out.new ≡ string_bytes out.old ++ user_words (UserEvent.Typed tag text.now)) }
+    ensures { OnOk result (string_bytes out.new ≡ string_bytes out.old ++ spelling (form (UserEvent.Typed tag text.now))) }
 {
     push_number(out, "type", tag)?;
     push_with_text(out, "", text)
 }
 
 fn push_with_text(out: &mut String, word: &str, text: &[char]) -> Result<(), AllocError>
-    ensures { OnOk result (string_bytes out.new ≡ string_bytes out.old ++ with_text word.now text.now) }
+    ensures { OnOk result (string_bytes out.new ≡ string_bytes out.old ++ spelling (word.now, Rest text.now ∷ [])) }
 {
     push(out, word)?;
     push(out, " ")?;
@@ -142,14 +149,14 @@ fn push_with_text(out: &mut String, word: &str, text: &[char]) -> Result<(), All
 }
 
 fn push_number(out: &mut String, word: &str, number: u16) -> Result<(), AllocError>
-    ensures { OnOk result (string_bytes out.new ≡ string_bytes out.old ++ with_number word.now number) }
+    ensures { OnOk result (string_bytes out.new ≡ string_bytes out.old ++ spelling (word.now, Tag number ∷ [])) }
 {
     push(out, word)?;
     write!(out, " {number}")
 }
 
 fn push_place(out: &mut String, word: &str, tag: u16, place: u32) -> Result<(), AllocError>
-    ensures { OnOk result (string_bytes out.new ≡ string_bytes out.old ++ with_place word.now tag place) }
+    ensures { OnOk result (string_bytes out.new ≡ string_bytes out.old ++ spelling (word.now, Tag tag ∷ Place place ∷ [])) }
 {
     push_number(out, word, tag)?;
     write!(out, " {place}")
@@ -162,7 +169,7 @@ fn push_range(
     first: u32,
     second: u32,
 ) -> Result<(), AllocError>
-    ensures { OnOk result (string_bytes out.new ≡ string_bytes out.old ++ with_range word.now tag first second) }
+    ensures { OnOk result (string_bytes out.new ≡ string_bytes out.old ++ spelling (word.now, Tag tag ∷ Place first ∷ Place second ∷ [])) }
 {
     push_place(out, word, tag, first)?;
     write!(out, " {second}")

@@ -1,15 +1,16 @@
 //! A script: its files, and then its other lines.
 
-ghost use Rattle.std.specs.Prelude.{◌≡◌, ◌≤◌, ◌<◌, IfErr, IfOk, OnOk, length, All};
-ghost use Rattle.sam_script.specs.Script.{PlainScript, IsFile, FitsLine, IsReadFault, keys_of, mouse_of};
+ghost use Rattle.std.specs.Prelude.{◌≡◌, ◌≤◌, IfErr, IfOk, OnOk, length, All};
+ghost use Rattle.sam_script.specs.Reading.{Adds, AddsNone};
+ghost use Rattle.sam_script.specs.Script.{PlainScript, IsFile, keys_of, mouse_of};
+ghost use Rattle.sam_script.specs.Spelling.{Spells, IsReadFault};
 
 use crate::fault::{LineFault, ScriptFault};
-use crate::line::{Line, Numbered, Said, read_line};
+use crate::line::{Line, Numbered, Said, said_by};
 use sam_runes::Runes;
 use sam_term::event::UserEvent;
 use std::alloc::{AllocError, Global};
 use std::marker::Model;
-use std::str;
 
 /// A script: the names and texts of the host's files, and the lines that follow them. It has at most `MOST_FILES` files, with names of 1 to
 /// 64 runes and texts of at most 1,000,000.
@@ -34,10 +35,11 @@ impl Model for Script {
 pub const MOST_FILES: usize = 65_535;
 
 impl Script {
-    /// The script that the bytes spell: lines of UTF-8 ended by newlines, the last of which may lack it. The first wrong line is the fault,
-    /// counted from 1.
+    /// The script that the bytes spell: lines of UTF-8 ended by newlines, the last of which may lack it. The first wrong line is the fault
+    /// `Line`, counted from 1: the lines before it spell a script, and with it they spell none.
     pub fn read(alloc: Global, bytes: &[u8]) -> Result<Script, ScriptFault>
-        ensures fault { IfErr result IsReadFault }
+        ensures ok { IfOk result (λ script. Spells bytes.now script) }
+        ensures fault { IfErr result (IsReadFault bytes.now) }
     {
         let mut script = Script {
             files: Vec::new(alloc),
@@ -56,11 +58,11 @@ impl Script {
     }
 
     /// Adds what a line says.
-    fn add(&mut self, alloc: Global, number: usize, bytes: &[u8]) -> Result<(), LineFault> {
-        let Ok(text) = str::from_utf8(bytes) else {
-            return Err(LineFault::Wrong);
-        };
-        match read_line(alloc, text)? {
+    fn add(&mut self, alloc: Global, number: usize, bytes: &[u8]) -> Result<(), LineFault>
+        ensures ok { OnOk result (Adds number bytes.now self.old self.new) }
+        ensures wrong { IfErr result (AddsNone bytes.now self.old) }
+    {
+        match said_by(alloc, bytes)? {
             Said::Nothing => Ok(()),
             Said::File(name, text) => {
                 if !self.lines.is_empty() || self.files.len() >= MOST_FILES {

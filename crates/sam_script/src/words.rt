@@ -1,81 +1,171 @@
-//! The words of a line, parted by one space each.
+//! The words of a line, each behind one space, its numbers and its text.
+
+ghost use Rattle.std.specs.Prelude.{◌≡◌, [], false, chars};
+ghost use Rattle.sam_script.specs.Reading.{Gives, word_of, behind_word, word_at, number_of, number_at, unescaped, meant, text_at, ended, tag_alone, tag_and_place, tag_and_range, tag_and_text};
+
 use crate::fault::LineFault;
 use sam_runes::Runes;
 use std::alloc::Global;
 
-/// What is left of a line; `None` after its last word.
-#[derive(Clone, Copy, Debug)]
-pub struct Words<'a> {
-    rest: Option<&'a str>,
+/// The bytes up to the first space, and the rest with that space.
+pub fn split_word(text: &str) -> (&str, &str)
+    ensures word { result.0.now ≡ word_of text.now }
+    ensures rest { result.1.now ≡ behind_word text.now }
+{
+    match text.find(' ') {
+        Some(end) => text.split_at(end),
+        None => (text, ""),
+    }
 }
 
-impl<'a> Words<'a> {
-    pub fn new(line: &'a str) -> Words<'a> {
-        Words { rest: Some(line) }
+/// The word behind a space, and the rest of the line.
+pub fn word_at(text: &str) -> Result<(&str, &str), LineFault>
+    ensures { Gives (λ x. (x.0.now, x.1.now)) result (word_at text.now) }
+{
+    match text.strip_prefix(' ') {
+        Some(text) => Ok(split_word(text)),
+        None => Err(LineFault::Wrong),
     }
+}
 
-    /// The next word.
-    pub fn word(&mut self) -> Result<&'a str, LineFault> {
-        let Some(rest) = self.rest else {
-            return Err(LineFault::Wrong);
-        };
-        match rest.split_once(' ') {
-            Some((word, after)) => {
-                self.rest = Some(after);
-                Ok(word)
-            }
-            None => {
-                self.rest = None;
-                Ok(rest)
-            }
+/// The next word as a tag or a version, and the rest of the line.
+#[tactic(auto, unfolding(crate::specs::Reading::number_at))]
+pub fn tag_at(text: &str) -> Result<(u16, &str), LineFault>
+    ensures { Gives (λ x. (x.0, x.1.now)) result (number_at 16 text.now) }
+{
+    let (word, rest) = word_at(text)?;
+    let tag = tag_of(word)?;
+    Ok((tag, rest))
+}
+
+/// The next word as a place, a length or a count of lines, and the rest of the line.
+#[tactic(auto, unfolding(crate::specs::Reading::number_at))]
+pub fn place_at(text: &str) -> Result<(u32, &str), LineFault>
+    ensures { Gives (λ x. (x.0, x.1.now)) result (number_at 32 text.now) }
+{
+    let (word, rest) = word_at(text)?;
+    let place = place_of(word)?;
+    Ok((place, rest))
+}
+
+/// The number of 16 bits that the digits of a word write. `parse` alone would take a plus in front.
+fn tag_of(word: &str) -> Result<u16, LineFault>
+    ensures { Gives (λ n. n) result (number_of 16 word.now) }
+{
+    if word.starts_with('+') {
+        return Err(LineFault::Wrong);
+    }
+    match word.parse::<u16>() {
+        Ok(tag) => Ok(tag),
+        Err(_) => Err(LineFault::Wrong),
+    }
+}
+
+/// The number of 32 bits that the digits of a word write.
+fn place_of(word: &str) -> Result<u32, LineFault>
+    ensures { Gives (λ n. n) result (number_of 32 word.now) }
+{
+    if word.starts_with('+') {
+        return Err(LineFault::Wrong);
+    }
+    match word.parse::<u32>() {
+        Ok(place) => Ok(place),
+        Err(_) => Err(LineFault::Wrong),
+    }
+}
+
+/// The rest of the line as a text, which may lack its space where it is empty.
+pub fn text_at(alloc: Global, text: &str) -> Result<Runes, LineFault>
+    ensures { Gives (λ runes. runes) result (text_at text.now) }
+{
+    match text.strip_prefix(' ') {
+        Some(escaped) => unescape(alloc, escaped),
+        None => ended(Runes::from_vec(Vec::new(alloc)), text),
+    }
+}
+
+/// The runes of a text in which `\n` is a newline and `\\` a backslash.
+fn unescape(alloc: Global, escaped: &str) -> Result<Runes, LineFault>
+    ensures { Gives (λ runes. runes) result (unescaped [] false (chars escaped.now)) }
+{
+    let mut runes = Vec::new(alloc);
+    let mut is_escaped = false;
+    for rune in escaped.chars() {
+        if rune == '\\' && !is_escaped {
+            is_escaped = true;
+        } else {
+            let Some(meant) = meant(is_escaped, rune) else {
+                return Err(LineFault::Wrong);
+            };
+            runes.push(meant)?;
+            is_escaped = false;
         }
     }
-
-    /// The next word as a decimal number.
-    pub fn number(&mut self) -> Result<u32, LineFault> {
-        let word = self.word()?;
-        if !word.bytes().all(|b| b.is_ascii_digit()) {
-            return Err(LineFault::Wrong);
-        }
-        word.parse::<u32>().map_err(|_| LineFault::Wrong)
+    if is_escaped {
+        return Err(LineFault::Wrong);
     }
+    Ok(Runes::from_vec(runes))
+}
 
-    /// The next word as a tag or a version.
-    pub fn tag(&mut self) -> Result<u16, LineFault> {
-        u16::try_from(self.number()?).map_err(|_| LineFault::Wrong)
+/// The rune that stands for itself, or behind a backslash for another.
+fn meant(is_escaped: bool, rune: char) -> Option<char>
+    ensures { result ≡ meant is_escaped rune }
+{
+    match (is_escaped, rune) {
+        (true, 'n') => Some('\n'),
+        (true, '\\') => Some('\\'),
+        (true, _) | (false, '\n') => None,
+        (false, rune) => Some(rune),
     }
+}
 
-    /// The rest of the line, where `\n` is a newline and `\\` a backslash.
-    pub fn text(&mut self, alloc: Global) -> Result<Runes, LineFault> {
-        let rest = self.rest.unwrap_or("");
-        self.rest = None;
-        let mut runes = Vec::new(alloc);
-        let mut is_escaped = false;
-        for rune in rest.chars() {
-            if is_escaped {
-                is_escaped = false;
-                match rune {
-                    'n' => runes.push('\n')?,
-                    '\\' => runes.push('\\')?,
-                    _ => return Err(LineFault::Wrong),
-                }
-            } else if rune == '\\' {
-                is_escaped = true;
-            } else {
-                runes.push(rune)?;
-            }
-        }
-        if is_escaped {
-            return Err(LineFault::Wrong);
-        }
-        Ok(Runes::from_vec(runes))
+/// The value, where nothing is left of the line.
+pub fn ended<X: Drop>(value: X, text: &str) -> Result<X, LineFault>
+    ensures { Gives (λ x. x) result (ended value text.now) }
+{
+    if text.is_empty() {
+        Ok(value)
+    } else {
+        Err(LineFault::Wrong)
     }
+}
 
-    /// No word is left.
-    pub fn end(&self) -> Result<(), LineFault> {
-        match self.rest {
-            None => Ok(()),
-            Some(_) => Err(LineFault::Wrong),
-        }
-    }
+/// A tag, and nothing more.
+#[tactic(auto, unfolding(crate::specs::Reading::tag_alone))]
+pub fn tag_alone(text: &str) -> Result<u16, LineFault>
+    ensures { Gives (λ tag. tag) result (tag_alone text.now) }
+{
+    let (tag, rest) = tag_at(text)?;
+    ended(tag, rest)
+}
+
+/// A tag and a number, and nothing more.
+#[tactic(auto, unfolding(crate::specs::Reading::tag_and_place))]
+pub fn tag_and_place(text: &str) -> Result<(u16, u32), LineFault>
+    ensures { Gives (λ x. (x.0, x.1)) result (tag_and_place text.now) }
+{
+    let (tag, rest) = tag_at(text)?;
+    let (place, rest) = place_at(rest)?;
+    ended((tag, place), rest)
+}
+
+/// A tag and two numbers, and nothing more.
+#[tactic(auto, unfolding(crate::specs::Reading::tag_and_range))]
+pub fn tag_and_range(text: &str) -> Result<(u16, u32, u32), LineFault>
+    ensures { Gives (λ x. (x.0, x.1, x.2)) result (tag_and_range text.now) }
+{
+    let (tag, rest) = tag_at(text)?;
+    let (start, rest) = place_at(rest)?;
+    let (end, rest) = place_at(rest)?;
+    ended((tag, start, end), rest)
+}
+
+/// A tag, and a text that takes the rest.
+#[tactic(auto, unfolding(crate::specs::Reading::tag_and_text))]
+pub fn tag_and_text(alloc: Global, text: &str) -> Result<(u16, Runes), LineFault>
+    ensures { Gives (λ x. (x.0, x.1)) result (tag_and_text text.now) }
+{
+    let (tag, rest) = tag_at(text)?;
+    let runes = text_at(alloc, rest)?;
+    Ok((tag, runes))
 }

@@ -1,0 +1,181 @@
+-- What is read of a line is what it says, and each line says one thing.
+use Rattle.std.proofs.Common.{◌≡◌, ◌<◌, ◌≤◌, ◌∙◌, inl, inr, refl, sym, ap, subst, ℕ, List, [], ◌∷◌, ◌++◌, length, true, Some, None, Result, Ok, Err, IfOk, IfErr, codes, flat_map, encode_utf8}
+use Rattle.std.specs.Prelude.{nat_lt, nat_le, ◌&&◌, ◌||◌, ◌==◌, chars, encode_utf8_all}
+use Rattle.std.specs.List.{AllByRecursion}
+use Rattle.std.specs.Str.{IsUtf8}
+use Rattle.std.proofs.lemmas.Bool.{ltb-true, lt-ltb, leb-true, le-leb, eqb-true}
+use Rattle.std.proofs.lemmas.Bool.Decides.{eqb_tells}
+use Rattle.std.proofs.lemmas.Option.{cond_some}
+use Rattle.std.proofs.lemmas.Str.{chars_from_encodes, encodes-chars}
+use Rattle.sam_runes.specs.Texts.{max_runes}
+use Rattle.sam_script.specs.declared.line.Line.{Line}
+use Rattle.sam_script.specs.declared.line.Line.TheVariants.{Key, Mouse, Act, Flush, Host, Term, Drain, Show}
+use Rattle.sam_script.specs.declared.line.Said.{Said}
+use Rattle.sam_script.specs.declared.line.Said.TheVariants as said
+use Rattle.sam_script.specs.declared.fault.LineFault.{LineFault}
+use Rattle.sam_script.specs.declared.fault.LineFault.TheVariants.{Wrong, OutOfMemory}
+use Rattle.sam_script.specs.Script.{IsFile}
+use Rattle.sam_script.specs.Spelling.{SpellsParts, IsWord, SpellsFile, SpellsLine, SaysNothing, SaysSo, Says}
+use Rattle.sam_script.specs.Spelling.Part.{Rest}
+use Rattle.sam_script.specs.Reading.{◌>>=◌, word_of, behind_word, word_at, text_at, event_at, fitting_name, fitting_text, file_text_at, file_at, bare, line_readers, is_silent, line_at, Gives, IsUnsaid}
+use Rattle.sam_script.proofs.SpellingLaws.{some_same, bind_some, tells, both_true, ended_says, IsEnd, word_ends, word_split, word_says, word_read, utf8_tail, utf8_rear, utf8_front, text_says, text_read, parts_end, ReadsAs, rows_say, event_says, event_read}
+
+-- ## A file
+
+runes_encode : (runes : List ℕ) → flat_map encode_utf8 runes ≡ encode_utf8_all runes
+runes_encode [] = refl
+runes_encode (c ∷ runes) = ap (λ xs. encode_utf8 c ++ xs) (runes_encode runes)
+
+name_says : (word name : List ℕ) → IsUtf8 word → fitting_name (chars word) ≡ Some name → (word ≡ flat_map encode_utf8 name) × (0 < length name) × (length name ≤ 64)
+name_says word name u h =
+    let fits = cond_some (nat_lt 0 (length (chars word)) && nat_le (length (chars word)) 64) (chars word) name h in
+    let two = both_true (nat_lt 0 (length (chars word))) (nat_le (length (chars word)) 64) fits.0 in
+    subst (λ (n : List ℕ). (word ≡ flat_map encode_utf8 n) × (0 < length n) × (length n ≤ 64)) fits.1
+    (sym (runes_encode (chars word) ∙ encodes-chars word u), ltb-true 0 (length (chars word)) two.0, leb-true (length (chars word)) 64 two.1)
+
+name_read : (name : List ℕ) → IsUtf8 (flat_map encode_utf8 name) → 0 < length name → length name ≤ 64 → fitting_name (chars (flat_map encode_utf8 name)) ≡ Some name
+name_read name u some short =
+    ap fitting_name (sym (chars_from_encodes name (flat_map encode_utf8 name) u (sym (runes_encode name))))
+    ∙ rw (lt-ltb 0 (length name) some, le-leb (length name) 64 short) refl
+
+file_text_says : (bytes text : List ℕ) → IsUtf8 bytes → file_text_at bytes ≡ Some text → SpellsParts (Rest text ∷ []) bytes × (length text ≤ max_runes)
+unfolding file_text_at
+file_text_says bytes text u h =
+    let a = bind_some (text_at bytes) fitting_text text h in
+    let fits = cond_some (nat_le (length a.0) max_runes) a.0 text a.2 in
+    subst (λ (t : List ℕ). SpellsParts (Rest t ∷ []) bytes × (length t ≤ max_runes)) fits.1 ((text_says bytes a.0 u a.1, refl), leb-true (length a.0) max_runes fits.0)
+
+file_text_read : (bytes text : List ℕ) → IsUtf8 bytes → SpellsParts (Rest text ∷ []) bytes → length text ≤ max_runes → file_text_at bytes ≡ Some text
+unfolding file_text_at
+file_text_read bytes text u h short = ap (λ o. o >>= fitting_text) (text_read bytes text u h.0) ∙ rw (le-leb (length text) max_runes short) refl
+
+file_says : (bytes : List ℕ) (x : List ℕ × List ℕ) → IsUtf8 bytes → file_at bytes ≡ Some x → SpellsFile x.0 x.1 (codes "file" ++ bytes)
+unfolding file_at
+file_says bytes x u h =
+    let a = bind_some (word_at bytes) (λ w. fitting_name (chars w.0) >>= λ name. file_text_at w.1 >>= λ text. Some (name, text)) x h in
+    let b = bind_some (fitting_name (chars a.0.0)) (λ name. file_text_at a.0.1 >>= λ text. Some (name, text)) x a.2 in
+    let d = bind_some (file_text_at a.0.1) (λ text. Some (b.0, text)) x b.2 in
+    let w = word_says bytes a.0 a.1 in
+    let n = name_says a.0.0 b.0 (utf8_part a.0.0 a.0.1 (subst IsUtf8 w.0 u) w.2) b.1 in
+    let t = file_text_says a.0.1 d.0 (utf8_rear (codes " " ++ a.0.0) a.0.1 (subst IsUtf8 w.0 u) w.2) d.1 in
+    subst (λ (y : List ℕ × List ℕ). SpellsFile y.0 y.1 (codes "file" ++ bytes)) (some_same (b.0, d.0) x d.2)
+    (a.0.1, ap (λ xs. codes "file" ++ xs) w.0 ∙ ap (λ xs. codes "file " ++ xs ++ a.0.1) n.0, subst IsWord n.0 w.1, (n.1, n.2, t.1), t.0)
+  where
+    utf8_part : (word rest : List ℕ) → IsUtf8 (codes " " ++ word ++ rest) → IsEnd rest → IsUtf8 word
+    utf8_part word rest v end = utf8_front word rest (utf8_tail (word ++ rest) v) end
+
+file_read : (bytes name text rest : List ℕ) → IsUtf8 bytes → bytes ≡ codes " " ++ flat_map encode_utf8 name ++ rest → IsWord (flat_map encode_utf8 name) → IsFile (name, text)
+    → SpellsParts (Rest text ∷ []) rest → file_at bytes ≡ Some (name, text)
+unfolding file_at
+file_read bytes name text rest u is plain fits parts =
+    let end = parts_end (Rest text ∷ []) rest parts in
+    let whole = subst IsUtf8 is u in
+    ap (λ o. o >>= λ w. fitting_name (chars w.0) >>= λ n. file_text_at w.1 >>= λ t. Some (n, t)) (word_read bytes (flat_map encode_utf8 name) rest is plain end)
+    ∙ ap (λ o. o >>= λ n. file_text_at rest >>= λ t. Some (n, t)) (name_read name (utf8_front (flat_map encode_utf8 name) rest (utf8_tail (flat_map encode_utf8 name ++ rest) whole) end) fits.0 fits.1)
+    ∙ ap (λ o. o >>= λ t. Some (name, t)) (file_text_read rest text (utf8_rear (codes " " ++ flat_map encode_utf8 name) rest whole end) parts fits.2)
+
+-- ## A line
+
+-- a word and what stands behind it say so
+abbrev IsSaidBy : List ℕ → Said → List ℕ → Type 0
+IsSaidBy word it bytes = SaysSo it (word ++ bytes)
+
+file_row : ReadsAs IsSaidBy (codes "file", λ bytes. file_at bytes >>= λ x. Some (said.File x.0 x.1))
+file_row bytes it u h =
+    let a = bind_some (file_at bytes) (λ x. Some (said.File x.0 x.1)) it h in
+    subst (λ i. IsSaidBy (codes "file") i bytes) (some_same (said.File a.0.0 a.0.1) it a.2) (file_says bytes a.0 u a.1)
+
+key_row : ReadsAs IsSaidBy (codes "k", λ bytes. event_at bytes >>= λ e. Some (said.Line (Key e)))
+key_row bytes it u h =
+    let a = bind_some (event_at bytes) (λ e. Some (said.Line (Key e))) it h in
+    let s = event_says bytes a.0 u a.1 in
+    subst (λ i. IsSaidBy (codes "k") i bytes) (some_same (said.Line (Key a.0)) it a.2) (s.0, ap (λ xs. codes "k" ++ xs) s.1, s.2)
+
+mouse_row : ReadsAs IsSaidBy (codes "m", λ bytes. event_at bytes >>= λ e. Some (said.Line (Mouse e)))
+mouse_row bytes it u h =
+    let a = bind_some (event_at bytes) (λ e. Some (said.Line (Mouse e))) it h in
+    let s = event_says bytes a.0 u a.1 in
+    subst (λ i. IsSaidBy (codes "m") i bytes) (some_same (said.Line (Mouse a.0)) it a.2) (s.0, ap (λ xs. codes "m" ++ xs) s.1, s.2)
+
+bare_row : (line : Line) (word : List ℕ) → ((bytes : List ℕ) → bytes ≡ [] → SpellsLine line (word ++ bytes)) → ReadsAs IsSaidBy (word, bare line)
+bare_row line word spells bytes it u h =
+    let n = ended_says (said.Line line) it bytes h in subst (λ i. IsSaidBy word i bytes) n.1 (spells bytes n.0)
+
+line_readers_say : AllByRecursion (ReadsAs IsSaidBy) line_readers
+line_readers_say = (
+  file_row,
+  (
+    key_row,
+    (
+      mouse_row,
+      (
+        bare_row Act (codes "act") (λ bytes e. ap (λ xs. codes "act" ++ xs) e),
+        (
+          bare_row Flush (codes "flush") (λ bytes e. ap (λ xs. codes "flush" ++ xs) e),
+          (
+            bare_row Host (codes "host") (λ bytes e. ap (λ xs. codes "host" ++ xs) e),
+            (
+              bare_row Term (codes "term") (λ bytes e. ap (λ xs. codes "term" ++ xs) e),
+              (
+                bare_row Drain (codes "drain") (λ bytes e. ap (λ xs. codes "drain" ++ xs) e),
+                (bare_row Show (codes "show") (λ bytes e. ap (λ xs. codes "show" ++ xs) e), tt),
+              ),
+            ),
+          ),
+        ),
+      ),
+    ),
+  ),
+)
+
+silent_says : (bytes : List ℕ) → is_silent bytes ≡ true → SaysNothing bytes
+silent_says [] h = tt
+silent_says (b ∷ bytes) h = elim (eqb_tells b 35) [ inl t ↦ inl t.1 | inr t ↦ let here = rw t.0 at h in inr (eqb-true b 61 here) ]
+
+nothing_silent : (bytes : List ℕ) → SaysNothing bytes → is_silent bytes ≡ true
+nothing_silent [] h = refl
+nothing_silent (b ∷ bytes) (inl is) = ap (λ c. c == 35 || c == 61) is
+nothing_silent (b ∷ bytes) (inr is) = ap (λ c. c == 35 || c == 61) is
+
+pub line_says : (bytes : List ℕ) (it : Said) → IsUtf8 bytes → line_at bytes ≡ Some it → SaysSo it bytes
+unfolding line_at
+line_says bytes it u h = elim (tells (is_silent bytes)) [
+  | inl t ↦ let here = rw t at h in subst (λ i. SaysSo i bytes) (some_same said.Nothing it here) (silent_says bytes t)
+  | inr t ↦
+      let here = rw t at h in
+      let utf8 = utf8_rear (word_of bytes) (behind_word bytes) (subst IsUtf8 (sym (word_split bytes)) u) (word_ends bytes) in
+      subst (SaysSo it) (word_split bytes) (rows_say IsSaidBy line_readers line_readers_say (word_of bytes) (behind_word bytes) it utf8 here)
+]
+
+pub line_read : (bytes : List ℕ) (it : Said) → Says it bytes → line_at bytes ≡ Some it
+unfolding line_at
+line_read bytes said.Nothing (u, h) = rw (nothing_silent bytes h) refl
+line_read bytes (said.File name text) (u, (rest, is, plain, fits, parts)) =
+    ap line_at is ∙ ap (λ o. o >>= λ x. Some (said.File x.0 x.1))
+    (file_read (codes " " ++ flat_map encode_utf8 name ++ rest) name text rest
+    (utf8_rear (codes "file") (codes " " ++ flat_map encode_utf8 name ++ rest) (subst IsUtf8 is u) refl) refl plain fits parts)
+line_read bytes (said.Line (Key e)) (u, (event, is, spells)) =
+    ap line_at is ∙ ap (λ o. o >>= λ d. Some (said.Line (Key d)))
+    (event_read (codes " " ++ event) event e (utf8_rear (codes "k") (codes " " ++ event) (subst IsUtf8 is u) refl) refl spells)
+line_read bytes (said.Line (Mouse e)) (u, (event, is, spells)) =
+    ap line_at is ∙ ap (λ o. o >>= λ d. Some (said.Line (Mouse d)))
+    (event_read (codes " " ++ event) event e (utf8_rear (codes "m") (codes " " ++ event) (subst IsUtf8 is u) refl) refl spells)
+line_read bytes (said.Line Act) (u, is) = ap line_at is
+line_read bytes (said.Line Flush) (u, is) = ap line_at is
+line_read bytes (said.Line Host) (u, is) = ap line_at is
+line_read bytes (said.Line Term) (u, is) = ap line_at is
+line_read bytes (said.Line Drain) (u, is) = ap line_at is
+line_read bytes (said.Line Show) (u, is) = ap line_at is
+
+-- a line says one thing
+pub says_one : (bytes : List ℕ) (x y : Said) → Says x bytes → Says y bytes → x ≡ y
+says_one bytes x y p q = some_same x y (sym (line_read bytes x p) ∙ line_read bytes y q)
+
+pub said_ok : (r : Result Said LineFault) (text bytes : List ℕ) → (text ≡ bytes) × IsUtf8 bytes → Gives (λ it. it) r (line_at text) → IfOk r (λ it. Says it bytes)
+said_ok (Ok it) text bytes is gives = (is.1, line_says bytes it is.1 (ap line_at (sym is.0) ∙ gives))
+said_ok (Err why) text bytes is gives = tt
+
+pub said_wrong : (r : Result Said LineFault) (text bytes : List ℕ) → (text ≡ bytes) × IsUtf8 bytes → Gives (λ it. it) r (line_at text) → IfErr r (IsUnsaid bytes)
+said_wrong (Ok it) text bytes is gives = tt
+said_wrong (Err Wrong) text bytes is gives = λ it says. let both : None ≡ Some it = sym gives ∙ ap line_at is.0 ∙ line_read bytes it says in cc
+said_wrong (Err OutOfMemory) text bytes is gives = tt

@@ -1,0 +1,71 @@
+-- A run that was printed, replayed, shows the world to which it leads.
+use Rattle.std.proofs.Common.{◌≡◌, ◌≤◌, ◌∙◌, ◌+◌, refl, ap, ℕ, List, [], ◌∷◌, ◌++◌, length, map, false, Some, Result, Ok, Err, append-nil}
+use Rattle.std.specs.List.{AllByRecursion}
+use Rattle.std.proofs.lemmas.Option.{option_and_then_some}
+use Rattle.sam_runes.specs.Texts.{is_empty}
+use Rattle.sam_mesg.specs.declared.tmesg.Tmesg.{Tmesg}
+use Rattle.sam_mesg.specs.declared.hmesg.HFrame.{HFrame}
+use Rattle.sam_world.specs.World.{PlainWorld, new_world, step_of, run_of, host_takes, term_takes}
+use Rattle.sam_world.specs.declared.event.Event.{Event}
+use Rattle.sam_world.specs.declared.event.Event.TheVariants.{User, Act, Flush, HostTake, TermTake}
+use Rattle.sam_script.specs.declared.line.Line.TheVariants as line
+use Rattle.sam_script.specs.Script.{PlainScript}
+use Rattle.sam_script.specs.Show.{show_lines}
+use Rattle.sam_script.specs.Spelling.{Spells, lines_of}
+use Rattle.sam_script.specs.Replay.{or_full, after_line, printed_by, behind, and_on, replayed_from, replayed}
+use Rattle.sam_script.specs.RunLines.{run_lines_of, line_of, numbered_from, run_script, CanBeNamed, CanBeWritten}
+use Rattle.sam_script.specs.declared.fault.ScriptFault.{ScriptFault}
+use Rattle.sam_script.proofs.SpellingLaws.{some_same}
+use Rattle.sam_script.proofs.ScriptLaws.{spells_one}
+use Rattle.sam_script.proofs.RunSpelled.{run_is_spelled}
+
+host_there : (w v : PlainWorld) → step_of w HostTake ≡ Some v → is_empty w.up ≡ false
+host_there w v h = there w.up h
+  where
+    there : (ms : List Tmesg) → host_takes w ms ≡ Some v → is_empty ms ≡ false
+    there [] k = cc
+    there (m ∷ ms) k = refl
+
+term_there : (w v : PlainWorld) → step_of w TermTake ≡ Some v → is_empty w.down ≡ false
+term_there w v h = there w.down h
+  where
+    there : (fs : List HFrame) → term_takes w fs ≡ Some v → is_empty fs ≡ false
+    there [] k = cc
+    there (f ∷ fs) k = refl
+
+-- a step is done by the line of its event
+line_steps : (n : ℕ) (w v : PlainWorld) (e : Event) → step_of w e ≡ Some v → after_line n w (line_of e) ≡ Ok v
+line_steps n w v (User e) h = ap or_full h
+line_steps n w v Act h = ap or_full h
+line_steps n w v Flush h = ap or_full h
+line_steps n w v HostTake h = rw (host_there w v h) (ap or_full h)
+line_steps n w v TermTake h = rw (term_there w v h) (ap or_full h)
+
+prints_nothing : (w : PlainWorld) (e : Event) → printed_by w (line_of e) ≡ []
+prints_nothing w (User e) = refl
+prints_nothing w Act = refl
+prints_nothing w Flush = refl
+prints_nothing w HostTake = refl
+prints_nothing w TermTake = refl
+
+behind_nothing : (r : Result (List ℕ) ScriptFault) → behind [] r ≡ r
+behind_nothing (Ok out) = refl
+behind_nothing (Err why) = refl
+
+lines_replay : (n : ℕ) (w v : PlainWorld) (events : List Event) → run_of w events ≡ Some v
+    → replayed_from w (numbered_from n (map line_of events ++ line.Show ∷ [])) ≡ Ok (show_lines v)
+lines_replay n w v [] h = ap (λ out. Ok out) (append-nil (show_lines w) ∙ ap show_lines (some_same w v h))
+lines_replay n w v (e ∷ events) h =
+    option_and_then_some (λ next. run_of next events) (step_of w e) v h
+    (λ next is more.
+    ap (λ before. behind before (and_on (after_line n w (line_of e)) (λ x. replayed_from x (numbered_from (n + 1) (map line_of events ++ line.Show ∷ []))))) (prints_nothing w e)
+    ∙ behind_nothing (and_on (after_line n w (line_of e)) (λ x. replayed_from x (numbered_from (n + 1) (map line_of events ++ line.Show ∷ []))))
+    ∙ ap (λ r. and_on r (λ x. replayed_from x (numbered_from (n + 1) (map line_of events ++ line.Show ∷ [])))) (line_steps n w next e is)
+    ∙ lines_replay (n + 1) next v events more)
+
+pub run_replayed : (files : List (List ℕ × List ℕ)) (events : List Event) (w : PlainWorld) (script : PlainScript) → length files ≤ 65535 → AllByRecursion CanBeNamed files
+    → AllByRecursion CanBeWritten events → run_of (new_world files) events ≡ Some w → Spells (run_lines_of files events) script → replayed script ≡ Ok (show_lines w)
+unfolding replayed
+run_replayed files events w script count named written run spells =
+    ap replayed (spells_one (lines_of (run_lines_of files events)) script (run_script files events) spells (run_is_spelled files events count named written))
+    ∙ lines_replay (1 + length files) (new_world files) w events run

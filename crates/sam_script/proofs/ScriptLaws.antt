@@ -1,0 +1,171 @@
+-- A list of lines spells at most one script, and one line more spells it with what the line says.
+use Rattle.std.proofs.Common.{◌≡◌, ◌<◌, ◌≤◌, ◌∙◌, ◌+◌, refl, sym, ap, ap₂, subst, ℕ, zero, suc, List, [], ◌∷◌, ◌++◌, length, take, get_or, ◌-◌, arith, append_assoc, append-nil, length-append}
+use Rattle.std.specs.Prelude.{◌==◌}
+use Rattle.std.specs.List.{AllZip}
+use Rattle.std.proofs.lemmas.List.{take_more, take_all, length-take-le}
+use Rattle.std.proofs.lemmas.List.Splits.{length-slice_split}
+use Rattle.std.proofs.lemmas.List.Sums.{count_by-le-length}
+use Rattle.sam_script.specs.declared.line.Said.{Said}
+use Rattle.sam_script.specs.declared.line.Said.TheVariants as said
+use Rattle.sam_script.specs.declared.fault.LineFault.TheVariants.{Wrong}
+use Rattle.sam_script.specs.Script.{PlainScript}
+use Rattle.sam_script.specs.Spelling.{Says, file_said, files_said, lines_said, AreFilesFirst, SpellsLines, lines_of, IsWrongLine}
+use Rattle.sam_script.specs.Reading.{MayFollow, Adds, AddsNone}
+use Rattle.sam_script.proofs.LineLaws.{says_one}
+
+zip_one : (xs ys : List Said) (lines : List (List ℕ)) → AllZip Says xs lines → AllZip Says ys lines → xs ≡ ys
+zip_one [] [] lines p q = refl
+zip_one [] (y ∷ ys) [] p q = absurd q
+zip_one [] (y ∷ ys) (line ∷ lines) p q = absurd p
+zip_one (x ∷ xs) ys [] p q = absurd p
+zip_one (x ∷ xs) [] (line ∷ lines) p q = absurd q
+zip_one (x ∷ xs) (y ∷ ys) (line ∷ lines) p q = ap₂ (λ z zs. z ∷ zs) (says_one line x y p.0 q.0) (zip_one xs ys lines p.1 q.1)
+
+zip_push : (xs : List Said) (lines : List (List ℕ)) (x : Said) (line : List ℕ) → AllZip Says xs lines → Says x line → AllZip Says (xs ++ x ∷ []) (lines ++ line ∷ [])
+zip_push [] [] x line p q = (q, tt)
+zip_push [] (l ∷ lines) x line p q = absurd p
+zip_push (y ∷ xs) [] x line p q = absurd p
+zip_push (y ∷ xs) (l ∷ lines) x line p q = (p.0, zip_push xs lines x line p.1 q)
+
+zip_length : (xs : List Said) (lines : List (List ℕ)) → AllZip Says xs lines → length xs ≡ length lines
+zip_length [] [] p = refl
+zip_length [] (l ∷ lines) p = absurd p
+zip_length (y ∷ xs) [] p = absurd p
+zip_length (y ∷ xs) (l ∷ lines) p = ap suc (zip_length xs lines p.1)
+
+zip_last : (xs : List Said) (lines : List (List ℕ)) (line : List ℕ) → AllZip Says xs (lines ++ line ∷ [])
+    → (front : List Said) × (x : Said) × (xs ≡ front ++ x ∷ []) × AllZip Says front lines × Says x line
+zip_last [] [] line p = absurd p
+zip_last [] (l ∷ lines) line p = absurd p
+zip_last (y ∷ []) [] line p = ([], y, refl, tt, p.0)
+zip_last (y ∷ z ∷ xs) [] line p = absurd p.1
+zip_last (y ∷ xs) (l ∷ lines) line p =
+    let more = zip_last xs lines line p.1 in (y ∷ more.0, more.1, ap (λ zs. y ∷ zs) more.2, (p.0, more.3), more.4)
+
+files_push : (xs : List Said) (x : Said) → files_said (xs ++ x ∷ []) ≡ files_said xs ++ file_said x
+files_push [] x = append-nil (file_said x)
+files_push (y ∷ xs) x = ap (λ zs. file_said y ++ zs) (files_push xs x) ∙ sym (append_assoc (file_said y) (files_said xs) (file_said x))
+
+lines_push : (n : ℕ) (xs : List Said) (x : Said) → lines_said n (xs ++ x ∷ []) ≡ lines_said n xs ++ lines_said (length xs + n) (x ∷ [])
+lines_push n [] x = ap (λ k. lines_said k (x ∷ [])) (plus_zero n)
+  where
+    plus_zero : (m : ℕ) → m ≡ zero + m
+    plus_zero m = omega arith
+lines_push n (said.Line line ∷ xs) x = ap (λ zs. record { number = n; line = line } ∷ zs) (lines_push (n + 1) xs x ∙ ap (λ k. lines_said (n + 1) xs ++ lines_said k (x ∷ [])) (moved (length xs) n))
+  where
+    moved : (a b : ℕ) → a + (b + 1) ≡ suc a + b
+    moved a b = omega arith
+lines_push n (said.File name text ∷ xs) x = lines_push (n + 1) xs x ∙ ap (λ k. lines_said (n + 1) xs ++ lines_said k (x ∷ [])) (moved (length xs) n)
+  where
+    moved : (a b : ℕ) → a + (b + 1) ≡ suc a + b
+    moved a b = omega arith
+lines_push n (said.Nothing ∷ xs) x = lines_push (n + 1) xs x ∙ ap (λ k. lines_said (n + 1) xs ++ lines_said k (x ∷ [])) (moved (length xs) n)
+  where
+    moved : (a b : ℕ) → a + (b + 1) ≡ suc a + b
+    moved a b = omega arith
+
+-- what comes last says no file
+ordered_other : (xs : List Said) (x : Said) → AreFilesFirst xs → file_said x ≡ [] → AreFilesFirst (xs ++ x ∷ [])
+ordered_other [] (said.Line line) p none = refl
+ordered_other [] (said.File name text) p none = tt
+ordered_other [] said.Nothing p none = tt
+ordered_other (said.Line line ∷ xs) x p none = files_push xs x ∙ ap₂ (λ a b. a ++ b) p none
+ordered_other (said.File name text ∷ xs) x p none = ordered_other xs x p none
+ordered_other (said.Nothing ∷ xs) x p none = ordered_other xs x p none
+
+ordered_file : (n : ℕ) (xs : List Said) (name text : List ℕ) → AreFilesFirst xs → lines_said n xs ≡ [] → AreFilesFirst (xs ++ said.File name text ∷ [])
+ordered_file n [] name text p none = tt
+ordered_file n (said.Line line ∷ xs) name text p none = cc
+ordered_file n (said.File other words ∷ xs) name text p none = ordered_file (n + 1) xs name text p none
+ordered_file n (said.Nothing ∷ xs) name text p none = ordered_file (n + 1) xs name text p none
+
+ordered_last : (n : ℕ) (xs : List Said) (name text : List ℕ) → AreFilesFirst (xs ++ said.File name text ∷ []) → lines_said n xs ≡ []
+ordered_last n [] name text p = refl
+ordered_last n (said.Line line ∷ xs) name text p =
+    let none : length (files_said xs ++ (name, text) ∷ []) ≡ 0 = ap length (sym (files_push xs (said.File name text)) ∙ p) in
+    absurd (omega (arith, none, length-append (files_said xs) ((name, text) ∷ [])))
+ordered_last n (said.File other words ∷ xs) name text p = ordered_last (n + 1) xs name text p
+ordered_last n (said.Nothing ∷ xs) name text p = ordered_last (n + 1) xs name text p
+
+pub spells_none : SpellsLines [] (record { files = []; lines = [] })
+spells_none = record { said = []; each = tt; ordered = tt; files = refl; others = refl; count = omega arith }
+
+-- one line more
+pub spells_push : (lines : List (List ℕ)) (line : List ℕ) (old new : PlainScript) → SpellsLines lines old → Adds (length lines + 1) line old new
+    → SpellsLines (lines ++ line ∷ []) new
+spells_push lines line old new p (it, says, may, is) = record {
+  said = p.said ++ it ∷ [];
+  each = zip_push p.said lines it line p.each says;
+  ordered = ordered p.said it p.ordered (subst (λ s. MayFollow s it) (same_script old p.said p.files p.others) may);
+  files = ap (λ (s : PlainScript). s.files) is ∙ ap (λ fs. fs ++ file_said it) p.files ∙ sym (files_push p.said it);
+  others =
+      ap (λ (s : PlainScript). s.lines) is ∙ ap (λ ls. ls ++ lines_said (length lines + 1) (it ∷ [])) p.others
+      ∙ ap (λ k. lines_said 1 p.said ++ lines_said (k + 1) (it ∷ [])) (sym (zip_length p.said lines p.each)) ∙ sym (lines_push 1 p.said it);
+  count = subst (λ fs. length fs ≤ 65535) (sym (files_push p.said it)) (room p.said it p.count (subst (λ s. MayFollow s it) (same_script old p.said p.files p.others) may));
+}
+  where
+    same_script : (s : PlainScript) (xs : List Said) → s.files ≡ files_said xs → s.lines ≡ lines_said 1 xs → s ≡ record { files = files_said xs; lines = lines_said 1 xs }
+    same_script s xs e f = ap₂ (λ a b. record { files = a; lines = b }) e f
+
+    ordered : (xs : List Said) (x : Said) → AreFilesFirst xs → MayFollow (record { files = files_said xs; lines = lines_said 1 xs }) x → AreFilesFirst (xs ++ x ∷ [])
+    ordered xs (said.Line l) q follows = ordered_other xs (said.Line l) q refl
+    ordered xs (said.File name text) q follows = ordered_file 1 xs name text q follows.0
+    ordered xs said.Nothing q follows = ordered_other xs said.Nothing q refl
+
+    room : (xs : List Said) (x : Said) → length (files_said xs) ≤ 65535 → MayFollow (record { files = files_said xs; lines = lines_said 1 xs }) x → length (files_said xs ++ file_said x) ≤ 65535
+    room xs (said.Line l) q follows = subst (λ fs. length fs ≤ 65535) (sym (append-nil (files_said xs))) q
+    room xs (said.File name text) q follows = omega (arith, length-append (files_said xs) ((name, text) ∷ []), follows.1)
+    room xs said.Nothing q follows = subst (λ fs. length fs ≤ 65535) (sym (append-nil (files_said xs))) q
+
+-- a line that may not follow
+pub spells_no_more : (lines : List (List ℕ)) (line : List ℕ) (old : PlainScript) → SpellsLines lines old → AddsNone line old Wrong
+    → (script : PlainScript) → SpellsLines (lines ++ line ∷ []) script → ⊥
+spells_no_more lines line old p none script q =
+    let last = zip_last q.said lines line q.each in
+    let same : last.0 ≡ p.said = zip_one last.0 p.said lines last.3 p.each in
+    let whole : q.said ≡ p.said ++ last.1 ∷ [] = last.2 ∙ ap (λ xs. xs ++ last.1 ∷ []) same in
+    none last.1 last.4 (follows old p.said last.1 p.files p.others (subst AreFilesFirst whole q.ordered) (subst (λ xs. length (files_said xs) ≤ 65535) whole q.count))
+  where
+    follows : (s : PlainScript) (xs : List Said) (x : Said) → s.files ≡ files_said xs → s.lines ≡ lines_said 1 xs → AreFilesFirst (xs ++ x ∷ [])
+        → length (files_said (xs ++ x ∷ [])) ≤ 65535 → MayFollow s x
+    follows s xs (said.Line l) e f o c = tt
+    follows s xs said.Nothing e f o c = tt
+    follows s xs (said.File name text) e f o c =
+        let more : length (files_said xs ++ (name, text) ∷ []) ≤ 65535 = subst (λ fs. length fs ≤ 65535) (files_push xs (said.File name text)) c in
+        (f ∙ ordered_last 1 xs name text o, subst (λ fs. length fs < 65535) (sym e) (omega (arith, more, length-append (files_said xs) ((name, text) ∷ []))))
+
+-- lines spell at most one script
+pub spells_one : (lines : List (List ℕ)) (a b : PlainScript) → SpellsLines lines a → SpellsLines lines b → a ≡ b
+spells_one lines a b p q =
+    let same : p.said ≡ q.said = zip_one p.said q.said lines p.each q.each in
+    ap₂ (λ fs ls. record { files = fs; lines = ls }) (p.files ∙ ap files_said same ∙ sym q.files) (p.others ∙ ap (lines_said 1) same ∙ sym q.others)
+
+-- the next line is read
+pub read_more : (lines : List (List ℕ)) (n k number : ℕ) (line : List ℕ) (old new : PlainScript) → (n < length lines) × (line ≡ get_or lines n line) → number ≡ n + 1 → k ≡ n + 1
+    → SpellsLines (take n lines) old → Adds number line old new → SpellsLines (take k lines) new
+read_more lines n k number line old new at is same p adds =
+    subst (λ (xs : List (List ℕ)). SpellsLines xs new) (sym (ap (λ j. take j lines) same ∙ take_more lines n line at.0 ∙ ap (λ l. take n lines ++ l ∷ []) (sym at.1)))
+    (spells_push (take n lines) line old new p (subst (λ j. Adds j line old new) (is ∙ ap (λ j. j + 1) (sym (length-take-le n lines (omega (arith, at.0))))) adds))
+
+-- the next line is wrong
+pub read_wrong : (bytes : List ℕ) (n number : ℕ) (line : List ℕ) (old : PlainScript) → (n < length (lines_of bytes)) × (line ≡ get_or (lines_of bytes) n line) → number ≡ n + 1
+    → SpellsLines (take n (lines_of bytes)) old → AddsNone line old Wrong → IsWrongLine bytes number
+read_wrong bytes n number line old at is p none =
+    subst (IsWrongLine bytes) (sym is) (
+      omega arith,
+      omega (arith, at.0),
+      (old, subst (λ j. SpellsLines (take j (lines_of bytes)) old) (one_less n) p),
+      λ script q. spells_no_more (take n (lines_of bytes)) line old p none script
+          (subst (λ (xs : List (List ℕ)). SpellsLines xs script) (take_more (lines_of bytes) n line at.0 ∙ ap (λ l. take n (lines_of bytes) ++ l ∷ []) (sym at.1)) q),
+    )
+  where
+    one_less : (m : ℕ) → m ≡ m + 1 - 1
+    one_less m = omega arith
+
+-- all lines are read
+pub read_all_lines : (lines : List (List ℕ)) (n : ℕ) (script : PlainScript) → n ≡ length lines → SpellsLines (take n lines) script → SpellsLines lines script
+read_all_lines lines n script is p = subst (λ (xs : List (List ℕ)). SpellsLines xs script) (ap (λ j. take j lines) is ∙ take_all (length lines) lines (omega arith)) p
+
+-- a line has its number
+pub numbered : (bytes : List ℕ) (n : ℕ) → n < length (lines_of bytes) → n ≤ length bytes
+numbered bytes n within = omega (arith, within, length-slice_split (λ b. b == 10) bytes, count_by-le-length (λ b. b == 10) bytes)

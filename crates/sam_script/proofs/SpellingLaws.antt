@@ -1,0 +1,525 @@
+-- What reading gives is what the grammar says, and what it says is read.
+use Rattle.std.proofs.Common.{◌≡◌, ◌<◌, ◌∙◌, ◌^◌, ◌⊎◌, inl, inr, refl, sym, ap, ap₂, subst, ℕ, List, [], ◌∷◌, ◌++◌, length, get_or, take, drop, Bool, true, false, cond, Option, Some, None, arith, codes, flat_map, append_assoc, append-nil, encode_utf8}
+use Rattle.std.specs.Prelude.{nat_lt, ◌&&◌, ◌==◌, bytes_eq, chars, encode_utf8_all}
+use Rattle.std.specs.Option.{unwrap_or}
+use Rattle.std.specs.List.{AllByRecursion}
+use Rattle.std.specs.Char.{is_ascii_digit}
+use Rattle.std.specs.Str.{IsUtf8, all_ascii_digits, IsCharBoundary}
+use Rattle.std.specs.Str.Parse.{digits_value}
+use Rattle.std.proofs.lemmas.Bool.{ltb-true}
+use Rattle.std.proofs.lemmas.Bool.Decides.{eqb_tells}
+use Rattle.std.proofs.lemmas.Option.{cond_some}
+use Rattle.std.proofs.lemmas.Slice.Eq.{bytes_eq-Decides}
+use Rattle.std.proofs.lemmas.Str.{IsUtf8-drop, IsUtf8-take, IsUtf8-past_char, IsCharBoundary-before_ascii, IsCharBoundary-end, chars_from_encodes, encodes-chars, encodes-append, encode_ascii}
+use Rattle.sam_term.specs.declared.event.UserEvent.{UserEvent}
+use Rattle.sam_term.specs.declared.event.UserEvent.TheVariants.{Typed, Select, Cut, Paste, Snarf, Look, Search, Send, Dclick, Scroll, View, Open, Close, Write, Work, OpenCmd, New, Exit, Check, GetSnarf, SetSnarf, Version}
+use Rattle.sam_term.specs.declared.event.UserEvent.TheVariants as user
+use Rattle.sam_script.specs.Show.{text_shown, text_rune}
+use Rattle.sam_script.specs.Spelling.{Part, Tag, Place, form, IsNumber, SpellsParts, SpellsEvent, IsWord}
+use Rattle.sam_script.specs.Spelling.Part.{Number, Rest}
+use Rattle.sam_script.specs.Reading.{◌>>=◌, word_of, behind_word, word_at, number_of, number_at, unescaped, text_at, ended, tag_alone, tag_and_place, tag_and_range, tag_and_text, Reader, by_tag, by_place, by_range, readers, read_by, event_at}
+use Rattle.sam_script.proofs.WordLaws.{some_number}
+
+-- ## Options and tests
+
+pub some_same : {X : Type 0} (x y : X) → Some x ≡ Some y → x ≡ y
+some_same x y e = ap (λ o. unwrap_or o x) e
+
+pub bind_some : {A B : Type 0} (o : Option A) (f : A → Option B) (y : B) → (o >>= f) ≡ Some y → (x : A) × (o ≡ Some x) × (f x ≡ Some y)
+bind_some (Some x) f y h = (x, refl, h)
+bind_some None f y h = cc
+
+pub tells : (b : Bool) → (b ≡ true) ⊎ (b ≡ false)
+tells true = inl refl
+tells false = inr refl
+
+pub both_true : (a b : Bool) → (a && b) ≡ true → (a ≡ true) × (b ≡ true)
+both_true true b h = (refl, h)
+both_true false b h = cc
+
+pub ended_says : {X : Type 0} (x y : X) (bytes : List ℕ) → ended x bytes ≡ Some y → (bytes ≡ []) × (x ≡ y)
+ended_says x y [] h = (refl, some_same x y h)
+ended_says x y (b ∷ bytes) h = cc
+
+-- ## Words
+
+-- nothing, or a space and more
+abbrev pub IsEnd : List ℕ → Type 0
+IsEnd [] = Unit {0}
+IsEnd (b ∷ bytes) = b ≡ 32
+
+pub word_ends : (bytes : List ℕ) → IsEnd (behind_word bytes)
+word_ends [] = tt
+word_ends (b ∷ bytes) = elim (eqb_tells b 32) [ inl h ↦ rw h.0 h.1 | inr h ↦ rw h.0 (word_ends bytes) ]
+
+pub word_split : (bytes : List ℕ) → word_of bytes ++ behind_word bytes ≡ bytes
+word_split [] = refl
+word_split (b ∷ bytes) = elim (eqb_tells b 32) [ inl h ↦ rw h.0 refl | inr h ↦ rw h.0 (ap (λ xs. b ∷ xs) (word_split bytes)) ]
+
+pub word_plain : (bytes : List ℕ) → IsWord (word_of bytes)
+word_plain [] = tt
+word_plain (b ∷ bytes) = elim (eqb_tells b 32) [ inl h ↦ rw h.0 tt | inr h ↦ rw h.0 (h.0, word_plain bytes) ]
+
+pub word_front : (word rest : List ℕ) → IsWord word → IsEnd rest → word_of (word ++ rest) ≡ word
+word_front [] [] plain end = refl
+word_front [] (b ∷ rest) plain end = ap (λ c. word_of (c ∷ rest)) end
+word_front (b ∷ word) rest plain end = rw plain.0 (ap (λ xs. b ∷ xs) (word_front word rest plain.1 end))
+
+pub word_rear : (word rest : List ℕ) → IsWord word → IsEnd rest → behind_word (word ++ rest) ≡ rest
+word_rear [] [] plain end = refl
+word_rear [] (b ∷ rest) plain end = ap (λ c. behind_word (c ∷ rest)) end ∙ ap (λ c. c ∷ rest) (sym end)
+word_rear (b ∷ word) rest plain end = rw plain.0 (word_rear word rest plain.1 end)
+
+pub word_says : (bytes : List ℕ) (x : List ℕ × List ℕ) → word_at bytes ≡ Some x → (bytes ≡ codes " " ++ x.0 ++ x.1) × IsWord x.0 × IsEnd x.1
+word_says [] x h = cc
+word_says (b ∷ bytes) x h = elim (eqb_tells b 32) [
+  | inl t ↦
+      let here = rw t.0 at h in
+      subst (λ (y : List ℕ × List ℕ). (b ∷ bytes ≡ codes " " ++ y.0 ++ y.1) × IsWord y.0 × IsEnd y.1) (some_same (word_of bytes, behind_word bytes) x here)
+      (ap₂ (λ c xs. c ∷ xs) t.1 (sym (word_split bytes)), word_plain bytes, word_ends bytes)
+  | inr t ↦ let here = rw t.0 at h in cc
+]
+
+pub word_read : (bytes word rest : List ℕ) → bytes ≡ codes " " ++ word ++ rest → IsWord word → IsEnd rest → word_at bytes ≡ Some (word, rest)
+word_read bytes word rest is plain end = ap word_at is ∙ ap₂ (λ w r. Some (w, r)) (word_front word rest plain end) (word_rear word rest plain end)
+
+-- ## UTF-8
+
+e32 : encode_utf8 32 ≡ 32 ∷ []
+e32 = encode_ascii 32 (omega arith)
+
+e92 : encode_utf8 92 ≡ 92 ∷ []
+e92 = encode_ascii 92 (omega arith)
+
+e110 : encode_utf8 110 ≡ 110 ∷ []
+e110 = encode_ascii 110 (omega arith)
+
+drop_behind : (xs ys : List ℕ) → drop (length xs) (xs ++ ys) ≡ ys
+drop_behind [] ys = refl
+drop_behind (x ∷ xs) ys = drop_behind xs ys
+
+take_before : (xs ys : List ℕ) → take (length xs) (xs ++ ys) ≡ xs
+take_before [] ys = refl
+take_before (x ∷ xs) ys = ap (λ zs. x ∷ zs) (take_before xs ys)
+
+get_behind : (xs : List ℕ) (y : ℕ) (ys : List ℕ) → get_or (xs ++ y ∷ ys) (length xs) 0 ≡ y
+get_behind [] y ys = refl
+get_behind (x ∷ xs) y ys = get_behind xs y ys
+
+longer : (xs : List ℕ) (y : ℕ) (ys : List ℕ) → length xs < length (xs ++ y ∷ ys)
+longer [] y ys = omega arith
+longer (x ∷ xs) y ys = let more = longer xs y ys in omega arith
+
+end_bounds : (word rest : List ℕ) → IsEnd rest → IsCharBoundary (word ++ rest) (length word)
+end_bounds word [] end = subst (λ xs. IsCharBoundary xs (length word)) (sym (append-nil word)) (IsCharBoundary-end word)
+end_bounds word (b ∷ rest) end =
+    let there = get_behind word b rest in IsCharBoundary-before_ascii (word ++ b ∷ rest) (length word) (longer word b rest) (omega (arith, there, end))
+
+pub utf8_rear : (word rest : List ℕ) → IsUtf8 (word ++ rest) → IsEnd rest → IsUtf8 rest
+utf8_rear word rest u end = subst IsUtf8 (drop_behind word rest) (IsUtf8-drop (word ++ rest) (length word) u (end_bounds word rest end))
+
+pub utf8_front : (word rest : List ℕ) → IsUtf8 (word ++ rest) → IsEnd rest → IsUtf8 word
+utf8_front word rest u end = subst IsUtf8 (take_before word rest) (IsUtf8-take (word ++ rest) (length word) u (end_bounds word rest end))
+
+pub utf8_tail : (bytes : List ℕ) → IsUtf8 (32 ∷ bytes) → IsUtf8 bytes
+utf8_tail bytes u = IsUtf8-past_char (32 ∷ bytes) bytes 32 u (ap (λ xs. xs ++ bytes) (sym e32))
+
+-- ## Numbers
+
+digits_word : (word : List ℕ) → all_ascii_digits word ≡ true → IsWord word
+digits_word [] h = tt
+digits_word (c ∷ word) h =
+    let two = both_true (is_ascii_digit c) (all_ascii_digits word) h in
+    elim (eqb_tells c 32) [ inl t ↦ let wrong : false ≡ true = sym (ap is_ascii_digit t.1) ∙ two.0 in cc | inr t ↦ (t.0, digits_word word two.1) ]
+
+number_of_says : (bits : ℕ) (word : List ℕ) (n : ℕ) → number_of bits word ≡ Some n → IsNumber word n × (n < 2 ^ bits)
+number_of_says bits word n h =
+    let c = cond_some ((all_ascii_digits word && nat_lt 0 (length word)) && nat_lt (digits_value 10 word) (2 ^ bits)) (digits_value 10 word) n h in
+    let two = both_true (all_ascii_digits word && nat_lt 0 (length word)) (nat_lt (digits_value 10 word) (2 ^ bits)) c.0 in
+    let one = both_true (all_ascii_digits word) (nat_lt 0 (length word)) two.0 in
+    ((ltb-true 0 (length word) one.1, one.0, c.1), subst (λ m. m < 2 ^ bits) c.1 (ltb-true (digits_value 10 word) (2 ^ bits) two.1))
+
+pub number_says : (bits : ℕ) (bytes : List ℕ) (x : ℕ × List ℕ) → number_at bits bytes ≡ Some x
+    → (word : List ℕ) × (bytes ≡ codes " " ++ word ++ x.1) × IsNumber word x.0 × (x.0 < 2 ^ bits) × IsEnd x.1
+unfolding number_at
+number_says bits bytes x h =
+    let a = bind_some (word_at bytes) (λ w. number_of bits w.0 >>= λ n. Some (n, w.1)) x h in
+    let b = bind_some (number_of bits a.0.0) (λ n. Some (n, a.0.1)) x a.2 in
+    let w = word_says bytes a.0 a.1 in
+    let n = number_of_says bits a.0.0 b.0 b.1 in
+    subst (λ (y : ℕ × List ℕ). (word : List ℕ) × (bytes ≡ codes " " ++ word ++ y.1) × IsNumber word y.0 × (y.0 < 2 ^ bits) × IsEnd y.1) (some_same (b.0, a.0.1) x b.2)
+    (a.0.0, w.0, n.0, n.1, w.2)
+
+pub number_read : (bits : ℕ) (bytes word rest : List ℕ) (n : ℕ) → bytes ≡ codes " " ++ word ++ rest → IsNumber word n → n < 2 ^ bits → IsEnd rest
+    → number_at bits bytes ≡ Some (n, rest)
+unfolding number_at
+number_read bits bytes word rest n is number small end =
+    ap (λ o. o >>= λ w. number_of bits w.0 >>= λ m. Some (m, w.1)) (word_read bytes word rest is (digits_word word number.1) end)
+    ∙ ap (λ o. o >>= λ m. Some (m, rest)) (some_number bits word number.1 number.0 (subst (λ m. m < 2 ^ bits) (sym number.2) small) ∙ ap (λ m. Some m) number.2)
+
+-- ## Texts
+
+-- a text as it is spelled, in characters
+abbrev escape : ℕ → List ℕ
+escape c = cond (c == 92) (92 ∷ 92 ∷ []) (cond (c == 10) (92 ∷ 110 ∷ []) (c ∷ []))
+
+abbrev escaped : List ℕ → List ℕ
+escaped = flat_map escape
+
+rune_encodes : (c : ℕ) → encode_utf8_all (escape c) ≡ text_rune c
+rune_encodes c = elim (eqb_tells c 92) [
+  | inl t ↦ rw (t.0, e92) refl
+  | inr t ↦ elim (eqb_tells c 10) [ inl k ↦ rw (t.0, k.0, e92, e110) refl | inr k ↦ rw (t.0, k.0) (append-nil (encode_utf8 c)) ]
+]
+
+escaped_encodes : (s : List ℕ) → encode_utf8_all (escaped s) ≡ text_shown s
+escaped_encodes [] = refl
+escaped_encodes (c ∷ s) = encodes-append (escape c) (escaped s) ∙ ap₂ (λ xs ys. xs ++ ys) (rune_encodes c) (escaped_encodes s)
+
+escaped_read : (front s : List ℕ) → unescaped front false (escaped s) ≡ Some (front ++ s)
+escaped_read front [] = ap (λ xs. Some xs) (sym (append-nil front))
+escaped_read front (c ∷ s) = elim (eqb_tells c 92) [
+  | inl t ↦ rw t.0 (escaped_read (front ++ 92 ∷ []) s ∙ ap (λ xs. Some xs) (append_assoc front (92 ∷ []) s ∙ ap (λ d. front ++ d ∷ s) (sym t.1)))
+  | inr t ↦ elim (eqb_tells c 10) [
+    | inl k ↦ rw (t.0, k.0) (escaped_read (front ++ 10 ∷ []) s ∙ ap (λ xs. Some xs) (append_assoc front (10 ∷ []) s ∙ ap (λ d. front ++ d ∷ s) (sym k.1)))
+    | inr k ↦ simp (t.0, k.0) (escaped_read (front ++ c ∷ []) s ∙ ap (λ xs. Some xs) (append_assoc front (c ∷ []) s))
+  ]
+]
+
+pub text_read : (bytes s : List ℕ) → IsUtf8 bytes → (bytes ≡ codes " " ++ text_shown s) ⊎ ((bytes ≡ []) × (s ≡ [])) → text_at bytes ≡ Some s
+text_read bytes s u (inl is) =
+    ap text_at is ∙ ap (λ cs. unescaped [] false cs) (sym (chars_from_encodes (escaped s) (text_shown s) (utf8_tail (text_shown s) (subst IsUtf8 is u)) (escaped_encodes s)))
+    ∙ escaped_read [] s
+text_read bytes s u (inr is) = ap text_at is.0 ∙ ap (λ xs. Some xs) (sym is.1)
+
+abbrev held : Bool → List ℕ
+held true = 92 ∷ []
+held false = []
+
+and_false : (b : Bool) → (b && false) ≡ false
+and_false true = refl
+and_false false = refl
+
+unescaped_says : (cs front : List ℕ) (is_escaped : Bool) (s : List ℕ) → unescaped front is_escaped cs ≡ Some s
+    → (rest : List ℕ) × (s ≡ front ++ rest) × (held is_escaped ++ encode_utf8_all cs ≡ text_shown rest)
+unescaped_says [] front true s h = cc
+unescaped_says [] front false s h = ([], sym (some_same front s h) ∙ sym (append-nil front), refl)
+unescaped_says (c ∷ cs) front false s h = elim (eqb_tells c 92) [
+  | inl t ↦
+      let here = rw t.0 at h in
+      let more = unescaped_says cs front true s here in
+      (more.0, more.1, ap (λ d. encode_utf8 d ++ encode_utf8_all cs) t.1 ∙ ap (λ xs. xs ++ encode_utf8_all cs) e92 ∙ more.2)
+  | inr t ↦ elim (eqb_tells c 10) [
+    | inl k ↦ let here = rw (t.0, k.0) at h in cc
+    | inr k ↦
+        let here = simp (t.0, k.0) at h in
+        let more = unescaped_says cs (front ++ c ∷ []) false s here in
+        (c ∷ more.0, more.1 ∙ append_assoc front (c ∷ []) more.0, rw (t.0, k.0) (ap (λ xs. encode_utf8 c ++ xs) more.2))
+  ]
+]
+unescaped_says (c ∷ cs) front true s h =
+    let plain = rw (and_false (c == 92)) at h in
+    elim (eqb_tells c 110) [
+      | inl t ↦
+          let here = rw t.0 at plain in
+          let more = unescaped_says cs (front ++ 10 ∷ []) false s here in (
+            10 ∷ more.0,
+            more.1 ∙ append_assoc front (10 ∷ []) more.0,
+            ap (λ d. 92 ∷ (encode_utf8 d ++ encode_utf8_all cs)) t.1 ∙ ap (λ xs. 92 ∷ (xs ++ encode_utf8_all cs)) e110 ∙ ap (λ xs. 92 ∷ 110 ∷ xs) more.2,
+          )
+      | inr t ↦ elim (eqb_tells c 92) [
+        | inl k ↦
+            let here = rw (t.0, k.0) at plain in
+            let more = unescaped_says cs (front ++ 92 ∷ []) false s here in (
+              92 ∷ more.0,
+              more.1 ∙ append_assoc front (92 ∷ []) more.0,
+              ap (λ d. 92 ∷ (encode_utf8 d ++ encode_utf8_all cs)) k.1 ∙ ap (λ xs. 92 ∷ (xs ++ encode_utf8_all cs)) e92 ∙ ap (λ xs. 92 ∷ 92 ∷ xs) more.2,
+            )
+        | inr k ↦ let here = rw (t.0, k.0) at plain in cc
+      ]
+    ]
+
+pub text_says : (bytes s : List ℕ) → IsUtf8 bytes → text_at bytes ≡ Some s → (bytes ≡ codes " " ++ text_shown s) ⊎ ((bytes ≡ []) × (s ≡ []))
+text_says [] s u h = inr (refl, sym (some_same [] s h))
+text_says (b ∷ bytes) s u h = elim (eqb_tells b 32) [
+  | inl t ↦
+      let here = rw t.0 at h in
+      let more = unescaped_says (chars bytes) [] false s here in
+      let utf8 = utf8_tail bytes (subst (λ c. IsUtf8 (c ∷ bytes)) t.1 u) in
+      inl (ap₂ (λ c xs. c ∷ xs) t.1 (sym (encodes-chars bytes utf8) ∙ more.2 ∙ ap text_shown (sym more.1)))
+  | inr t ↦ let here = rw t.0 at h in cc
+]
+
+-- ## What stands behind the word of an event
+
+pub parts_end : (parts : List Part) (bytes : List ℕ) → SpellsParts parts bytes → IsEnd bytes
+parts_end [] bytes h = subst IsEnd (sym h) tt
+parts_end (Number bits n ∷ parts) bytes h = subst IsEnd (sym h.2) refl
+parts_end (Rest s ∷ parts) bytes h = text_end bytes s h.0
+  where
+    text_end : (bytes s : List ℕ) → (bytes ≡ codes " " ++ text_shown s) ⊎ ((bytes ≡ []) × (s ≡ [])) → IsEnd bytes
+    text_end bytes s (inl is) = subst IsEnd (sym is) refl
+    text_end bytes s (inr is) = subst IsEnd (sym is.0) tt
+
+-- a number stands first
+number_parts : (bits : ℕ) (bytes : List ℕ) (x : ℕ × List ℕ) (parts : List Part) → number_at bits bytes ≡ Some x → SpellsParts parts x.1
+    → SpellsParts (Number bits x.0 ∷ parts) bytes
+number_parts bits bytes x parts is more = let n = number_says bits bytes x is in (n.0, x.1, n.1, n.2, n.3, more)
+
+parts_number : (bits : ℕ) (bytes : List ℕ) (n : ℕ) (parts : List Part) → SpellsParts (Number bits n ∷ parts) bytes
+    → (rest : List ℕ) × (number_at bits bytes ≡ Some (n, rest)) × SpellsParts parts rest
+parts_number bits bytes n parts h = (h.1, number_read bits bytes h.0 h.1 n h.2 h.3 h.4 (parts_end parts h.1 h.5), h.5)
+
+-- what stands behind a number is UTF-8
+number_utf8 : (bits : ℕ) (bytes : List ℕ) (x : ℕ × List ℕ) → IsUtf8 bytes → number_at bits bytes ≡ Some x → IsUtf8 x.1
+number_utf8 bits bytes x u is = let n = number_says bits bytes x is in utf8_rear (codes " " ++ n.0) x.1 (subst IsUtf8 n.1 u) n.4
+
+pub tag_says : (bytes : List ℕ) (f : ℕ) → tag_alone bytes ≡ Some f → SpellsParts (Tag f ∷ []) bytes
+unfolding tag_alone
+tag_says bytes f h =
+    let a = bind_some (number_at 16 bytes) (λ x. ended x.0 x.1) f h in
+    let e = ended_says a.0.0 f a.0.1 a.2 in
+    subst (λ n. SpellsParts (Tag n ∷ []) bytes) e.1 (number_parts 16 bytes a.0 [] a.1 e.0)
+
+pub tag_read : (bytes : List ℕ) (f : ℕ) → SpellsParts (Tag f ∷ []) bytes → tag_alone bytes ≡ Some f
+unfolding tag_alone
+tag_read bytes f h =
+    let a = parts_number 16 bytes f [] h in
+    ap (λ o. o >>= λ x. ended x.0 x.1) a.1 ∙ ap (λ r. ended f r) a.2
+
+pub place_says : (bytes : List ℕ) (x : ℕ × ℕ) → tag_and_place bytes ≡ Some x → SpellsParts (Tag x.0 ∷ Place x.1 ∷ []) bytes
+unfolding tag_and_place
+place_says bytes x h =
+    let a = bind_some (number_at 16 bytes) (λ f. number_at 32 f.1 >>= λ p. ended (f.0, p.0) p.1) x h in
+    let b = bind_some (number_at 32 a.0.1) (λ p. ended (a.0.0, p.0) p.1) x a.2 in
+    let e = ended_says (a.0.0, b.0.0) x b.0.1 b.2 in
+    subst (λ (y : ℕ × ℕ). SpellsParts (Tag y.0 ∷ Place y.1 ∷ []) bytes) e.1
+    (number_parts 16 bytes a.0 (Place b.0.0 ∷ []) a.1 (number_parts 32 a.0.1 b.0 [] b.1 e.0))
+
+pub place_read : (bytes : List ℕ) (f p : ℕ) → SpellsParts (Tag f ∷ Place p ∷ []) bytes → tag_and_place bytes ≡ Some (f, p)
+unfolding tag_and_place
+place_read bytes f p h =
+    let a = parts_number 16 bytes f (Place p ∷ []) h in
+    let b = parts_number 32 a.0 p [] a.2 in
+    ap (λ o. o >>= λ x. number_at 32 x.1 >>= λ y. ended (x.0, y.0) y.1) a.1 ∙ ap (λ o. o >>= λ y. ended (f, y.0) y.1) b.1 ∙ ap (λ r. ended (f, p) r) b.2
+
+pub range_says : (bytes : List ℕ) (x : ℕ × ℕ × ℕ) → tag_and_range bytes ≡ Some x → SpellsParts (Tag x.0 ∷ Place x.1 ∷ Place x.2 ∷ []) bytes
+unfolding tag_and_range
+range_says bytes x h =
+    let a = bind_some (number_at 16 bytes) (λ f. number_at 32 f.1 >>= λ p. number_at 32 p.1 >>= λ q. ended (f.0, p.0, q.0) q.1) x h in
+    let b = bind_some (number_at 32 a.0.1) (λ p. number_at 32 p.1 >>= λ q. ended (a.0.0, p.0, q.0) q.1) x a.2 in
+    let d = bind_some (number_at 32 b.0.1) (λ q. ended (a.0.0, b.0.0, q.0) q.1) x b.2 in
+    let e = ended_says (a.0.0, b.0.0, d.0.0) x d.0.1 d.2 in
+    subst (λ (y : ℕ × ℕ × ℕ). SpellsParts (Tag y.0 ∷ Place y.1 ∷ Place y.2 ∷ []) bytes) e.1
+    (number_parts 16 bytes a.0 (Place b.0.0 ∷ Place d.0.0 ∷ []) a.1
+    (number_parts 32 a.0.1 b.0 (Place d.0.0 ∷ []) b.1 (number_parts 32 b.0.1 d.0 [] d.1 e.0)))
+
+pub range_read : (bytes : List ℕ) (f p q : ℕ) → SpellsParts (Tag f ∷ Place p ∷ Place q ∷ []) bytes → tag_and_range bytes ≡ Some (f, p, q)
+unfolding tag_and_range
+range_read bytes f p q h =
+    let a = parts_number 16 bytes f (Place p ∷ Place q ∷ []) h in
+    let b = parts_number 32 a.0 p (Place q ∷ []) a.2 in
+    let d = parts_number 32 b.0 q [] b.2 in
+    ap (λ o. o >>= λ x. number_at 32 x.1 >>= λ y. number_at 32 y.1 >>= λ z. ended (x.0, y.0, z.0) z.1) a.1
+    ∙ ap (λ o. o >>= λ y. number_at 32 y.1 >>= λ z. ended (f, y.0, z.0) z.1) b.1
+    ∙ ap (λ o. o >>= λ z. ended (f, p, z.0) z.1) d.1 ∙ ap (λ r. ended (f, p, q) r) d.2
+
+pub typed_says : (bytes : List ℕ) (x : ℕ × List ℕ) → IsUtf8 bytes → tag_and_text bytes ≡ Some x → SpellsParts (Tag x.0 ∷ Rest x.1 ∷ []) bytes
+unfolding tag_and_text
+typed_says bytes x u h =
+    let a = bind_some (number_at 16 bytes) (λ f. text_at f.1 >>= λ s. Some (f.0, s)) x h in
+    let b = bind_some (text_at a.0.1) (λ s. Some (a.0.0, s)) x a.2 in
+    subst (λ (y : ℕ × List ℕ). SpellsParts (Tag y.0 ∷ Rest y.1 ∷ []) bytes) (some_same (a.0.0, b.0) x b.2)
+    (number_parts 16 bytes a.0 (Rest b.0 ∷ []) a.1 (text_says a.0.1 b.0 (number_utf8 16 bytes a.0 u a.1) b.1, refl))
+
+pub typed_read : (bytes : List ℕ) (f : ℕ) (s : List ℕ) → IsUtf8 bytes → SpellsParts (Tag f ∷ Rest s ∷ []) bytes → tag_and_text bytes ≡ Some (f, s)
+unfolding tag_and_text
+typed_read bytes f s u h =
+    let a = parts_number 16 bytes f (Rest s ∷ []) h in
+    ap (λ o. o >>= λ x. text_at x.1 >>= λ t. Some (x.0, t)) a.1
+    ∙ ap (λ o. o >>= λ t. Some (f, t)) (text_read a.0 s (number_utf8 16 bytes (f, a.0) u a.1) a.2.0)
+
+-- ## The event of a word
+
+-- the reader of a word says what the word and the rest spell
+abbrev pub ReadsAs : {X : Type 0} → (List ℕ → X → List ℕ → Type 0) → List ℕ × Reader X → Type 0
+ReadsAs {X} P row = (bytes : List ℕ) (x : X) → IsUtf8 bytes → row.1 bytes ≡ Some x → P row.0 x bytes
+
+pub rows_say : {X : Type 0} (P : List ℕ → X → List ℕ → Type 0) (rows : List (List ℕ × Reader X)) → AllByRecursion (ReadsAs P) rows
+    → (word bytes : List ℕ) (x : X) → IsUtf8 bytes → read_by rows word bytes ≡ Some x → P word x bytes
+rows_say P [] each word bytes x u h = cc
+rows_say P (row ∷ rows) each word bytes x u h = elim (tells (bytes_eq word row.0)) [
+  | inl t ↦
+      let here = rw t at h in
+      subst (λ w. P w x bytes) (sym ((bytes_eq-Decides word row.0).0 t)) (each.0 bytes x u here)
+  | inr t ↦ let here = rw t at h in rows_say P rows each.1 word bytes x u here
+]
+
+abbrev IsEventOf : List ℕ → UserEvent → List ℕ → Type 0
+IsEventOf word e bytes = ((form e).0 ≡ word) × SpellsParts (form e).1 bytes
+
+formed : (word bytes : List ℕ) (parts : List Part) (d e : UserEvent) → form d ≡ (word, parts) → SpellsParts parts bytes → Some d ≡ Some e → IsEventOf word e bytes
+formed word bytes parts d e is spells same =
+    subst (λ g. IsEventOf word g bytes) (some_same d e same) (subst (λ (p : List ℕ × List Part). (p.0 ≡ word) × SpellsParts p.1 bytes) (sym is) (refl, spells))
+
+tag_row : (make : ℕ → UserEvent) (word : List ℕ) → ((f : ℕ) → form (make f) ≡ (word, Tag f ∷ [])) → ReadsAs IsEventOf (word, by_tag make)
+tag_row make word is bytes e u h =
+    let a = bind_some (tag_alone bytes) (λ f. Some (make f)) e h in
+    formed word bytes (Tag a.0 ∷ []) (make a.0) e (is a.0) (tag_says bytes a.0 a.1) a.2
+
+place_row : (make : ℕ → ℕ → UserEvent) (word : List ℕ) → ((f p : ℕ) → form (make f p) ≡ (word, Tag f ∷ Place p ∷ [])) → ReadsAs IsEventOf (word, by_place make)
+place_row make word is bytes e u h =
+    let a = bind_some (tag_and_place bytes) (λ x. Some (make x.0 x.1)) e h in
+    formed word bytes (Tag a.0.0 ∷ Place a.0.1 ∷ []) (make a.0.0 a.0.1) e (is a.0.0 a.0.1) (place_says bytes a.0 a.1) a.2
+
+range_row : (make : ℕ → ℕ → ℕ → UserEvent) (word : List ℕ) → ((f p q : ℕ) → form (make f p q) ≡ (word, Tag f ∷ Place p ∷ Place q ∷ []))
+    → ReadsAs IsEventOf (word, by_range make)
+range_row make word is bytes e u h =
+    let a = bind_some (tag_and_range bytes) (λ x. Some (make x.0 x.1 x.2)) e h in
+    formed word bytes (Tag a.0.0 ∷ Place a.0.1 ∷ Place a.0.2 ∷ []) (make a.0.0 a.0.1 a.0.2) e (is a.0.0 a.0.1 a.0.2) (range_says bytes a.0 a.1) a.2
+
+bare_row : (d : UserEvent) (word : List ℕ) → form d ≡ (word, []) → ReadsAs IsEventOf (word, ended d)
+bare_row d word is bytes e u h = let n = ended_says d e bytes h in formed word bytes [] d e is n.0 (ap (λ g. Some g) n.1)
+
+type_row : ReadsAs IsEventOf (codes "type", λ bytes. tag_and_text bytes >>= λ x. Some (Typed x.0 x.1))
+type_row bytes e u h =
+    let a = bind_some (tag_and_text bytes) (λ x. Some (Typed x.0 x.1)) e h in
+    formed (codes "type") bytes (Tag a.0.0 ∷ Rest a.0.1 ∷ []) (Typed a.0.0 a.0.1) e refl (typed_says bytes a.0 u a.1) a.2
+
+snarf_row : ReadsAs IsEventOf (codes "setsnarf", λ bytes. text_at bytes >>= λ s. Some (SetSnarf s))
+snarf_row bytes e u h =
+    let a = bind_some (text_at bytes) (λ s. Some (SetSnarf s)) e h in
+    formed (codes "setsnarf") bytes (Rest a.0 ∷ []) (SetSnarf a.0) e refl (text_says bytes a.0 u a.1, refl) a.2
+
+readers_say : AllByRecursion (ReadsAs IsEventOf) readers
+readers_say = (
+  type_row,
+  (
+    snarf_row,
+    (
+      range_row Select (codes "select") (λ f p q. refl),
+      (
+        range_row View (codes "view") (λ f p q. refl),
+        (
+          place_row Dclick (codes "dclick") (λ f p. refl),
+          (
+            place_row Scroll (codes "scroll") (λ f p. refl),
+            (
+              tag_row Version (codes "version") (λ f. refl),
+              (
+                bare_row OpenCmd (codes "opencmd") refl,
+                (
+                  bare_row New (codes "new") refl,
+                  (
+                    bare_row GetSnarf (codes "getsnarf") refl,
+                    (
+                      bare_row user.Flush (codes "flush") refl,
+                      (
+                        bare_row Exit (codes "exit") refl,
+                        (
+                          tag_row Cut (codes "cut") (λ f. refl),
+                          (
+                            tag_row Paste (codes "paste") (λ f. refl),
+                            (
+                              tag_row Snarf (codes "snarf") (λ f. refl),
+                              (
+                                tag_row Look (codes "look") (λ f. refl),
+                                (
+                                  tag_row Search (codes "search") (λ f. refl),
+                                  (
+                                    tag_row Send (codes "send") (λ f. refl),
+                                    (
+                                      tag_row Open (codes "open") (λ f. refl),
+                                      (
+                                        tag_row Write (codes "write") (λ f. refl),
+                                        (
+                                          tag_row Close (codes "close") (λ f. refl),
+                                          (tag_row Work (codes "work") (λ f. refl), (tag_row Check (codes "check") (λ f. refl), tt)),
+                                        ),
+                                      ),
+                                    ),
+                                  ),
+                                ),
+                              ),
+                            ),
+                          ),
+                        ),
+                      ),
+                    ),
+                  ),
+                ),
+              ),
+            ),
+          ),
+        ),
+      ),
+    ),
+  ),
+)
+
+-- each event is read by the reader of its word
+parts_read : (e : UserEvent) (bytes : List ℕ) → IsUtf8 bytes → SpellsParts (form e).1 bytes → read_by readers (form e).0 bytes ≡ Some e
+parts_read (Typed f s) bytes u h = ap (λ o. o >>= λ x. Some (Typed x.0 x.1)) (typed_read bytes f s u h)
+parts_read (Select f p q) bytes u h = ap (λ o. o >>= λ x. Some (Select x.0 x.1 x.2)) (range_read bytes f p q h)
+parts_read (Cut f) bytes u h = ap (λ o. o >>= λ x. Some (Cut x)) (tag_read bytes f h)
+parts_read (Paste f) bytes u h = ap (λ o. o >>= λ x. Some (Paste x)) (tag_read bytes f h)
+parts_read (Snarf f) bytes u h = ap (λ o. o >>= λ x. Some (Snarf x)) (tag_read bytes f h)
+parts_read (Look f) bytes u h = ap (λ o. o >>= λ x. Some (Look x)) (tag_read bytes f h)
+parts_read (Search f) bytes u h = ap (λ o. o >>= λ x. Some (Search x)) (tag_read bytes f h)
+parts_read (Send f) bytes u h = ap (λ o. o >>= λ x. Some (Send x)) (tag_read bytes f h)
+parts_read (Dclick f p) bytes u h = ap (λ o. o >>= λ x. Some (Dclick x.0 x.1)) (place_read bytes f p h)
+parts_read (Scroll f p) bytes u h = ap (λ o. o >>= λ x. Some (Scroll x.0 x.1)) (place_read bytes f p h)
+parts_read (View f p q) bytes u h = ap (λ o. o >>= λ x. Some (View x.0 x.1 x.2)) (range_read bytes f p q h)
+parts_read (Open f) bytes u h = ap (λ o. o >>= λ x. Some (Open x)) (tag_read bytes f h)
+parts_read (Close f) bytes u h = ap (λ o. o >>= λ x. Some (Close x)) (tag_read bytes f h)
+parts_read (Write f) bytes u h = ap (λ o. o >>= λ x. Some (Write x)) (tag_read bytes f h)
+parts_read (Work f) bytes u h = ap (λ o. o >>= λ x. Some (Work x)) (tag_read bytes f h)
+parts_read OpenCmd bytes u h = ap (λ b. ended OpenCmd b) h
+parts_read New bytes u h = ap (λ b. ended New b) h
+parts_read Exit bytes u h = ap (λ b. ended Exit b) h
+parts_read (Check f) bytes u h = ap (λ o. o >>= λ x. Some (Check x)) (tag_read bytes f h)
+parts_read GetSnarf bytes u h = ap (λ b. ended GetSnarf b) h
+parts_read (SetSnarf s) bytes u h = ap (λ o. o >>= λ x. Some (SetSnarf x)) (text_read bytes s u h.0)
+parts_read (Version f) bytes u h = ap (λ o. o >>= λ x. Some (Version x)) (tag_read bytes f h)
+parts_read user.Flush bytes u h = ap (λ b. ended user.Flush b) h
+
+form_word : (e : UserEvent) → IsWord (form e).0
+form_word (Typed f s) = word_plain (codes "type")
+form_word (Select f p q) = word_plain (codes "select")
+form_word (Cut f) = word_plain (codes "cut")
+form_word (Paste f) = word_plain (codes "paste")
+form_word (Snarf f) = word_plain (codes "snarf")
+form_word (Look f) = word_plain (codes "look")
+form_word (Search f) = word_plain (codes "search")
+form_word (Send f) = word_plain (codes "send")
+form_word (Dclick f p) = word_plain (codes "dclick")
+form_word (Scroll f p) = word_plain (codes "scroll")
+form_word (View f p q) = word_plain (codes "view")
+form_word (Open f) = word_plain (codes "open")
+form_word (Close f) = word_plain (codes "close")
+form_word (Write f) = word_plain (codes "write")
+form_word (Work f) = word_plain (codes "work")
+form_word OpenCmd = word_plain (codes "opencmd")
+form_word New = word_plain (codes "new")
+form_word Exit = word_plain (codes "exit")
+form_word (Check f) = word_plain (codes "check")
+form_word GetSnarf = word_plain (codes "getsnarf")
+form_word (SetSnarf s) = word_plain (codes "setsnarf")
+form_word (Version f) = word_plain (codes "version")
+form_word user.Flush = word_plain (codes "flush")
+
+pub event_says : (bytes : List ℕ) (e : UserEvent) → IsUtf8 bytes → event_at bytes ≡ Some e → (event : List ℕ) × (bytes ≡ codes " " ++ event) × SpellsEvent e event
+unfolding event_at
+event_says bytes e u h =
+    let a = bind_some (word_at bytes) (λ x. read_by readers x.0 x.1) e h in
+    let w = word_says bytes a.0 a.1 in
+    let p = rows_say IsEventOf readers readers_say a.0.0 a.0.1 e (utf8_rear (codes " " ++ a.0.0) a.0.1 (subst IsUtf8 w.0 u) w.2) a.2 in
+    (a.0.0 ++ a.0.1, w.0, (a.0.1, ap (λ x. x ++ a.0.1) (sym p.0), p.1))
+
+pub event_read : (bytes event : List ℕ) (e : UserEvent) → IsUtf8 bytes → bytes ≡ codes " " ++ event → SpellsEvent e event → event_at bytes ≡ Some e
+unfolding event_at
+event_read bytes event e u is (rest, same, parts) =
+    let whole : bytes ≡ codes " " ++ (form e).0 ++ rest = is ∙ ap (λ x. 32 ∷ x) same in
+    let end = parts_end (form e).1 rest parts in
+    ap (λ o. o >>= λ x. read_by readers x.0 x.1) (word_read bytes (form e).0 rest whole (form_word e) end)
+    ∙ parts_read e rest (utf8_rear (codes " " ++ (form e).0) rest (subst IsUtf8 whole u) end) parts

@@ -1,0 +1,9 @@
+use Rattle.std.proofs.Common.{◌≡◌, length, drop, [], false}
+use Rattle.std.specs.Str.{chars}
+use Rattle.sam_script.specs.Reading.{unescaped}
+use Rattle.sam_script.proofs.words.unescape.Given as goal
+
+-- what the runes that are left come to
+abbrev pub invariant-loop-rune : goal.invariant-loop-rune
+invariant-loop-rune l =
+    unescaped l.runes.items l.is_escaped (drop (length l.yielded) (chars l.escaped)) ≡ unescaped [] false (chars l.escaped)
