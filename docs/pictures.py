@@ -75,7 +75,7 @@ PLACES = {
     "sam_rasp": (520, 7, "texts with gaps"),
     "sam_runes": (350, 8, "texts as lists of runes"),
 }
-LEFT_OUT = {"sam_tests", "sam_memory", "sam_bench", "sam_examples"}
+LEFT_OUT = {"sam_tests", "sam_term_tests", "sam_memory", "sam_bench", "sam_examples"}
 
 
 def crates():

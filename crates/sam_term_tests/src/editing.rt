@@ -1,10 +1,10 @@
 //! Events that change a text, a dot or a view, and what they compose.
-use crate::event::{Acted, UserEvent};
-use crate::fault::Refusal;
-use crate::term::Terminal;
-use crate::tests::{acts, runes, takes, with_five_gaps};
+use crate::terminal::{acts, rasp_len, runes, takes, with_five_gaps};
 use sam_mesg::{Batch, Hmesg, Tmesg};
 use sam_runes::Runes;
+use sam_term::event::{Acted, UserEvent};
+use sam_term::fault::Refusal;
+use sam_term::term::Terminal;
 use std::alloc::Global;
 use std::test::Fail;
 
@@ -68,7 +68,7 @@ fn cut_of_two_runes(rt: HostRuntime) -> Result<(), Fail> {
         }
         _ => assert!(rt; false),
     }
-    assert_eq!(rt; terminal.rasp_len(1), 3);
+    assert_eq!(rt; rasp_len(&terminal, 1), Some(3));
     assert_eq!(rt; terminal.sent(), 3);
     Ok(())
 }
@@ -135,7 +135,7 @@ fn runes_for_the_snarf_buffer(rt: HostRuntime) -> Result<(), Fail> {
 }
 
 #[test]
-fn typed_runes_are_sent_together(rt: HostRuntime) -> Result<(), Fail> {
+fn typing_waits_for_a_request(rt: HostRuntime) -> Result<(), Fail> {
     let alloc = rt.alloc();
     let mut terminal = with_five_gaps(alloc)?;
     let batch = done(&mut terminal, UserEvent::View(1, 0, 5))?;
@@ -145,12 +145,22 @@ fn typed_runes_are_sent_together(rt: HostRuntime) -> Result<(), Fail> {
     assert!(rt; takes(&mut terminal, Hmesg::Hdata(1, 0, runes(alloc, "ab cd")?)));
     assert!(rt; matches!(terminal.act(), Ok(Acted::Locked)));
     assert!(rt; takes(&mut terminal, Hmesg::Hunlockfile(1)));
-    match terminal.act() {
-        Ok(Acted::Done(batch)) => assert_eq!(rt; batch.as_slice().len(), 0),
-        _ => assert!(rt; false),
-    }
-    let batch = done(&mut terminal, UserEvent::Typed(1, runes(alloc, "Y")?))?;
-    assert_eq!(rt; batch.as_slice().len(), 0);
+    assert!(rt; matches!(terminal.act(), Ok(Acted::Done(_))));
+    assert_eq!(rt; terminal.unsent(), 1);
+    Ok(())
+}
+
+/// A terminal with file 1 open, of five gaps, and `XY` typed before them and not sent.
+fn with_unsent_runes(alloc: Global) -> Result<Terminal, Fail> {
+    let mut terminal = with_five_gaps(alloc)?;
+    let _ = done(&mut terminal, UserEvent::Typed(1, runes(alloc, "X")?))?;
+    let _ = done(&mut terminal, UserEvent::Typed(1, runes(alloc, "Y")?))?;
+    Ok(terminal)
+}
+
+#[test]
+fn typed_runes_are_sent_together(rt: HostRuntime) -> Result<(), Fail> {
+    let mut terminal = with_unsent_runes(rt.alloc())?;
     assert_eq!(rt; terminal.unsent(), 2);
     match terminal.flush() {
         Ok(batch) => match batch.as_slice() {
@@ -160,9 +170,9 @@ fn typed_runes_are_sent_together(rt: HostRuntime) -> Result<(), Fail> {
         Err(_) => assert!(rt; false),
     }
     assert_eq!(rt; terminal.unsent(), 0);
-    assert_eq!(rt; terminal.sent(), 2);
+    assert_eq!(rt; terminal.sent(), 1);
     assert_eq!(rt; terminal.dot(1), Some((2, 2)));
-    assert_eq!(rt; terminal.rasp_len(1), 7);
+    assert_eq!(rt; rasp_len(&terminal, 1), Some(7));
     Ok(())
 }
 
@@ -194,7 +204,7 @@ fn typing_nothing_over_a_dot_cuts_it(rt: HostRuntime) -> Result<(), Fail> {
     let batch = done(&mut terminal, UserEvent::Typed(1, runes(alloc, "")?))?;
     assert!(rt; matches!(batch.as_slice(), [Tmesg::Tcut(1, 0, 2)]));
     assert_eq!(rt; terminal.unsent(), 0);
-    assert_eq!(rt; terminal.rasp_len(1), 5);
+    assert_eq!(rt; rasp_len(&terminal, 1), Some(5));
     Ok(())
 }
 

@@ -1,8 +1,10 @@
-//! Calls with ample memory, and what no clause says.
+//! A terminal: what it refuses, what locks it takes, and what the host does to its texts.
 
-use super::*;
 use sam_mesg::{Batch, HFrame, Hmesg, Tmesg, fits_h};
 use sam_runes::Runes;
+use sam_term::event::{Acted, UserEvent};
+use sam_term::fault::{Refusal, TermFault};
+use sam_term::term::Terminal;
 use std::alloc::Global;
 use std::test::Fail;
 
@@ -45,6 +47,11 @@ fn refusal(terminal: &mut Terminal, event: UserEvent) -> Option<Refusal> {
     }
 }
 
+/// How many runes and gaps the file has.
+pub(crate) fn rasp_len(terminal: &Terminal, tag: u16) -> Option<u32> {
+    terminal.rasp(tag).map(|rasp| rasp.len())
+}
+
 /// A terminal with file 1 open, of five gaps.
 pub(crate) fn with_five_gaps(alloc: Global) -> Result<Terminal, Fail> {
     let mut terminal = Terminal::new(alloc);
@@ -85,7 +92,7 @@ fn frames_that_are_refused(rt: HostRuntime) -> Result<(), Fail> {
     assert!(rt; refused(&mut terminal, Hmesg::Hbindname(1)) == Some(TermFault::AlreadyBound));
     assert!(rt; refused(&mut terminal, Hmesg::Hdelname(1)) == Some(TermFault::AlreadyBound));
     assert_eq!(rt; terminal.dot(1), Some((0, 0)));
-    assert_eq!(rt; terminal.locks(1), 0);
+    assert!(rt; !terminal.locked(1));
     Ok(())
 }
 
@@ -147,7 +154,7 @@ fn a_paste_locks_its_file(rt: HostRuntime) -> Result<(), Fail> {
     let typed = UserEvent::Typed(1, runes(alloc, "a")?);
     assert!(rt; matches!(acts(&mut terminal, typed), Ok(Acted::Locked)));
     assert!(rt; matches!(acts(&mut terminal, UserEvent::Flush), Ok(Acted::Locked)));
-    assert_eq!(rt; terminal.locks(1), 1);
+    assert!(rt; terminal.locked(1));
     Ok(())
 }
 

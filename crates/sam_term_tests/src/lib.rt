@@ -1,0 +1,7 @@
+//! Tests of the terminal. They stand in a crate of their own, since a crate with tests is proved twice. It holds nothing else.
+#![tactic(auto)]
+
+#[cfg(test)]
+mod editing;
+#[cfg(test)]
+mod terminal;
