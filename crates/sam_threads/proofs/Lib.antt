@@ -6,17 +6,7 @@ pub mod TermTelling
 pub mod HostWhole
 pub mod Passes
 pub mod RealLaws
-pub mod ApartAnswers
-pub mod ApartWalk
-pub mod ApartComposing
 pub mod Feeds
 pub mod ApartTurns
-pub mod ApartLaws
-pub mod SettlingLists
-pub mod SettlingRuns
-pub mod SettlingClauses
-pub mod SettlingLaws
 pub mod Cut
 pub mod HostSide
-pub mod Kept
-pub mod SessionLaws

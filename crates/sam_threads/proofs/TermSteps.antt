@@ -18,9 +18,9 @@ use Rattle.sam_term.specs.declared.fault.TermFault.{TermFault}
 use Rattle.sam_term.specs.declared.fault.TermFault.TheVariants as fault
 use Rattle.sam_world.specs.declared.event.TermLog.{TermLog}
 use Rattle.sam_world.specs.declared.event.TermLog.TheVariants as log
-use Rattle.sam_world.proofs.ActLaws.{acted_in, not_done, idle_still, locked_still}
+use Rattle.sam_term.proofs.ActLaws.{acted_in, not_done, idle_still, locked_still}
 use Rattle.sam_world.proofs.OrderLaws.{only_counts_stop}
-use Rattle.sam_world.proofs.Within.{act_fits, flushed_fits, taken_fits}
+use Rattle.sam_term.proofs.Fits.{act_fits, flushed_fits, taken_fits}
 use Rattle.sam_threads.specs.RealSides.{sides, acted, unless_refused}
 use Rattle.sam_threads.specs.Told.{IsFullUp}
 use Rattle.sam_threads.specs.TermMoments.{DeskView, Did, of_fault}

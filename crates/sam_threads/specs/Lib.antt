@@ -1,5 +1,4 @@
 pub mod RealSides
-pub mod Apart
 pub mod Lines
 pub mod Numbers
 pub mod Inputs
@@ -8,11 +7,5 @@ pub mod Outboxes
 pub mod TermMoments
 pub mod Cutting
 pub mod Feeding
-pub mod Headline
-pub mod Settled
-pub mod Settling
 pub mod Handling
 pub mod Passing
-pub mod Seats
-pub mod Promised
-pub mod Session

@@ -188,6 +188,10 @@ pub record Told (keys clicks : List UserEvent) (lines : LinesView) (e : Ends) : 
   pub reader : ReaderTold lines.down lines.events e.reader
   pub term : TermTold lines.events lines.up e.term
 
+-- the ends of one session
+abbrev pub AreEnds : Ends → Type 0
+AreEnds ends = (keys : List UserEvent) × (clicks : List UserEvent) × (lines : LinesView) × Told keys clicks lines ends
+
 -- a worker was stopped at its gate only where the gate may refuse it
 pub record GatesTold (refuses : ℕ → Type 0) (e : Ends) : Type 0 where
   pub keyboard : e.keyboard.stop ≡ Some stop.Gate → refuses 0

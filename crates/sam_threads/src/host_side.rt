@@ -254,7 +254,7 @@ fn drop_after<R: Wait>(rt: &R, take: &mut Take<Vec<u8>>, stop: Option<Stop>)
 
 /// The host's worker, number 2: it handles the messages that come up, and sends the frames of its answers down, in pieces of at most
 /// `piece` bytes. Where something stops it, it closes and goes on taking and dropping until the end mark.
-pub(crate) fn serve_host<'q, R: Wait, G: Gate>(
+pub fn serve_host<'q, R: Wait, G: Gate>(
     rt: &R,
     alloc: Global,
     gate: &G,

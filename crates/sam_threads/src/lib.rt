@@ -1,4 +1,4 @@
-//! The five threads of a session: keyboard, mouse, host, host reader and terminal, and the lines between them.
+//! The five workers of a session, keyboard, mouse, host, host reader and terminal, and the lines between them.
 #![tactic(auto)]
 
 mod drain;
@@ -7,17 +7,10 @@ mod feeding;
 mod gate;
 mod host_side;
 mod input;
-mod laws;
 mod lines;
 mod outbox;
 mod pieces;
 mod reader;
-mod run;
-mod seats;
-mod session;
-mod settled;
-mod settling;
-mod spawning;
 mod stop;
 mod term_desk;
 mod term_side;
@@ -26,11 +19,10 @@ mod users;
 pub use ends::{Ends, HostEnd, ReaderEnd, TermEnd, UserEnd};
 pub use feeding::{Fed, feed_terminal};
 pub use gate::{FlagGate, Gate, OpenGate};
+pub use host_side::serve_host;
 pub use input::Input;
-pub use laws::apart_sides_join;
 pub use lines::{Lines, Starts};
-pub use run::{RunFault, run_ends};
-pub use session::run_threads;
-pub use settled::{SettleFault, Settled};
-pub use settling::settle;
+pub use reader::pass_frames;
 pub use stop::Stop;
+pub use term_side::run_terminal;
+pub use users::send_events;

@@ -62,7 +62,7 @@ impl Lines {
     }
 
     /// The line from the terminal to the host.
-    pub(crate) fn up(&self) -> &Line<Vec<u8>>
+    pub fn up(&self) -> &Line<Vec<u8>>
         ensures line { result.now ≡ self.now.up }
         ensures senders { self.now.up.senders ≡ 1 }
     {
@@ -70,7 +70,7 @@ impl Lines {
     }
 
     /// The line from the host to the host reader.
-    pub(crate) fn down(&self) -> &Line<Vec<u8>>
+    pub fn down(&self) -> &Line<Vec<u8>>
         ensures line { result.now ≡ self.now.down }
         ensures senders { self.now.down.senders ≡ 1 }
     {
@@ -78,7 +78,7 @@ impl Lines {
     }
 
     /// The line to the terminal.
-    pub(crate) fn events(&self) -> &Line<Input>
+    pub fn events(&self) -> &Line<Input>
         ensures line { result.now ≡ self.now.events }
         ensures senders { self.now.events.senders ≡ 3 }
     {
@@ -88,7 +88,7 @@ impl Lines {
 
 impl Starts {
     /// The rights to the ends of up, of down and of the line to the terminal.
-    pub(crate) fn parts(self) -> (Start<Vec<u8>>, Start<Vec<u8>>, Start<Input>)
+    pub fn parts(self) -> (Start<Vec<u8>>, Start<Vec<u8>>, Start<Input>)
         ensures up { result.0 ≡ self.up }
         ensures down { result.1 ≡ self.down }
         ensures events { result.2 ≡ self.events }

@@ -22,7 +22,7 @@ const WORKER: usize = 3;
 /// Takes the pieces of the host's stream and sends each frame on to the terminal, as worker 3. A fault of the stream stops it once
 /// the frames before the fault are sent on. Once stopped it closes its post, and goes on taking until the host has left, whose
 /// sends wait for room; what it takes then it drops.
-pub(crate) fn pass_frames<'q, R: Wait, G: Gate>(
+pub fn pass_frames<'q, R: Wait, G: Gate>(
     rt: &R,
     alloc: Global,
     gate: &G,

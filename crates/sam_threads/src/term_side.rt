@@ -429,7 +429,7 @@ impl<'q> Side<'q> {
 
 /// The terminal's worker. It never waits in a send: its bytes stand in its outbox. Where something stops it, it closes its line, and
 /// goes on taking and dropping, so that nobody waits for it.
-pub(crate) fn run_terminal<'q, R: Wait, G: Gate>(
+pub fn run_terminal<'q, R: Wait, G: Gate>(
     rt: &R,
     alloc: Global,
     gate: &G,

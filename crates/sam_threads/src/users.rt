@@ -14,7 +14,7 @@ use sam_term::event::UserEvent;
 use std::sync::Wait;
 
 /// Sends the events in order and closes. The keyboard is worker 0, the mouse worker 1.
-pub(crate) fn send_events<'q, R: Wait, G: Gate>(
+pub fn send_events<'q, R: Wait, G: Gate>(
     rt: &R,
     gate: &G,
     worker: usize,

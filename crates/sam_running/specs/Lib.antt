@@ -1,0 +1,7 @@
+pub mod Apart
+pub mod Headline
+pub mod Settled
+pub mod Settling
+pub mod Session
+pub mod Seats
+pub mod Promised

@@ -1,0 +1,64 @@
+-- What the five threads begin with.
+use Rattle.std.specs.Prelude.{◌≡◌, ℕ, ◌≤◌, length, All}
+use Rattle.sam_host.specs.Host.{new_host}
+use Rattle.sam_term.specs.Term.{new_terminal}
+use Rattle.sam_script.specs.Script.{IsFile}
+use Rattle.sam_queue.specs.Views.{LineView, new_post, new_take}
+use Rattle.sam_threads.specs.Lines.{LinesView}
+use Rattle.sam_running.specs.declared.seats.LineSides.{LineSides}
+use Rattle.sam_running.specs.declared.seats.Roles.{Roles}
+use Rattle.sam_running.specs.declared.seats.UserSeat.{UserSeat}
+use Rattle.sam_running.specs.declared.seats.HostSeat.{HostSeat}
+use Rattle.sam_running.specs.declared.seats.ReaderSeat.{ReaderSeat}
+use Rattle.sam_running.specs.declared.seats.TermSeat.{TermSeat}
+use Rattle.sam_running.specs.declared.seats.Seats.{Seats}
+
+-- nothing was put, taken or handled
+
+abbrev pub IsUserSeat : ℕ → LineView → UserSeat → Type 0
+IsUserSeat number events s = s.post ≡ new_post events number
+
+pub record IsHostSeat (up down : LineView) (s : HostSeat) : Type 0 where
+  pub take : s.take ≡ new_take up
+  pub one : up.senders ≡ 1
+  pub post : s.post ≡ new_post down 0
+  pub files : (length s.files.items ≤ 65535) × All IsFile s.files.items
+  pub host : s.host ≡ new_host s.files.items
+
+pub record IsReaderSeat (down events : LineView) (s : ReaderSeat) : Type 0 where
+  pub take : s.take ≡ new_take down
+  pub one : down.senders ≡ 1
+  pub post : s.post ≡ new_post events 2
+
+pub record IsTermSeat (events up : LineView) (s : TermSeat) : Type 0 where
+  pub take : s.take ≡ new_take events
+  pub three : events.senders ≡ 3
+  pub post : s.post ≡ new_post up 0
+  pub term : s.term ≡ new_terminal
+
+-- the five begin at the ends of these lines
+pub record AreReady (lines : LinesView) (s : Seats) : Type 0 where
+  pub keyboard : IsUserSeat 0 lines.events s.keyboard
+  pub mouse : IsUserSeat 1 lines.events s.mouse
+  pub host : IsHostSeat lines.up lines.down s.host
+  pub reader : IsReaderSeat lines.down lines.events s.reader
+  pub term : IsTermSeat lines.events lines.up s.term
+
+-- ## What the private functions say
+
+-- the sides of these lines, nothing put and nothing taken
+pub record AreNewSides (lines : LinesView) (s : LineSides) : Type 0 where
+  pub senders : (lines.up.senders ≡ 1) × (lines.down.senders ≡ 1) × (lines.events.senders ≡ 3)
+  pub up_post : s.up_post ≡ new_post lines.up 0
+  pub up_take : s.up_take ≡ new_take lines.up
+  pub down_post : s.down_post ≡ new_post lines.down 0
+  pub down_take : s.down_take ≡ new_take lines.down
+  pub keyboard : s.keyboard ≡ new_post lines.events 0
+  pub mouse : s.mouse ≡ new_post lines.events 1
+  pub reader : s.reader ≡ new_post lines.events 2
+  pub events_take : s.events_take ≡ new_take lines.events
+
+-- a new host of the files
+pub record IsHostRole (r : Roles) : Type 0 where
+  pub files : (length r.files.items ≤ 65535) × All IsFile r.files.items
+  pub host : r.host ≡ new_host r.files.items

@@ -1,0 +1,125 @@
+//! Running the five threads: none begins before all are started.
+ghost use Rattle.std.specs.Prelude.{◌≡◌, ◌<◌, IfOk, IfSome, IsSomeAnd, IsTrue, IsFalse, Some, Err};
+ghost use Rattle.sam_script.specs.Script.{keys_of, mouse_of};
+ghost use Rattle.sam_running.specs.Promised.{AllKept, KeepPromises, SomeRefused};
+ghost use Rattle.sam_running.specs.Seats.{AreReady};
+ghost use Rattle.sam_threads.specs.Told.{Told, AllPassed, GatesTold, RefusesSome};
+ghost use Rattle.sam_running.specs.declared.run.RunFault.TheVariants.{GateTimedOut};
+
+use crate::seats::{Seats, ready_seats};
+use crate::spawning::{Handles, join_all, spawn_all};
+use sam_script::Script;
+use sam_threads::{Ends, Gate, Lines, Starts};
+use std::alloc::Global;
+use std::sync::{OnceLock, Wait};
+use std::thread;
+use std::thread::{Scope, Threads};
+use thiserror::Error;
+
+/// Why a session could not be run.
+#[derive(Clone, Copy, Debug, PartialEq, Eq, Drop, Error)]
+pub enum RunFault {
+    /// A worker's gate did not let it begin.
+    #[error("a worker was not let begin")]
+    GateTimedOut = 1,
+    /// A thread could not be started. None of the others began.
+    #[error("no thread could be started")]
+    NoThread = 2,
+    #[error("out of memory")]
+    OutOfMemory = 3,
+}
+
+/// Runs the five workers over the lines, to their ends: the user does at the keyboard and with the mouse what the script says, and the
+/// host has its files. Pieces on the lines have at most `piece` bytes. No worker begins before all five are started, and all memory
+/// that they begin with is had before. A refusal has spent the lines.
+pub fn run_ends<'q, R: Threads + Wait + Sync, G: Gate>(
+    rt: &R,
+    alloc: Global,
+    lines: &'q Lines,
+    starts: Starts,
+    script: &Script,
+    piece: usize,
+    gate: &G,
+) -> Result<Ends<'q>, RunFault>
+    requires together { starts ≡ lines.now }
+    requires piece { 0 < piece }
+    ensures ends { IfOk result (Told (keys_of script.now.lines) (mouse_of script.now.lines) lines.now) }
+    ensures files { IfOk result (λ e. e.host.files.items ≡ script.now.files) }
+    ensures begun { IfOk result AllPassed }
+    ensures gates { IfOk result (GatesTold (G.may_refuse gate.now)) }
+    ensures timed { result ≡ Err RunFault.GateTimedOut → RefusesSome (G.may_refuse gate.now) }
+{
+    let Ok(seats) = ready_seats(alloc, lines, starts, script) else {
+        return Err(RunFault::OutOfMemory);
+    };
+    let cell = OnceLock::new();
+    let start = &cell;
+    thread::scope(
+        thread::scope_env(),
+        rt,
+        move |scope| -> Result<Ends<'_>, RunFault>
+            requires { (0 < piece) × AreReady seats.lines.now seats }
+            ensures ends { IfOk result (AllKept (G.may_refuse gate.entry.now) seats.entry.keyboard.events.items seats.entry.mouse.events.items seats.entry.host.files.items seats.entry.lines.now) }
+            ensures begun { IfOk result AllPassed }
+            ensures timed { result ≡ Err RunFault.GateTimedOut → RefusesSome (G.may_refuse gate.entry.now) }
+        { run_all(scope, rt, alloc, start, gate, piece, seats) },
+    )
+}
+
+/// Starts the five, lets them begin, and joins them.
+fn run_all<'s, 'e: 's, 'q: 's, R: Threads + Wait + Sync, G: Gate>(
+    scope: &'s Scope<'s, &'e ()>,
+    rt: &'s R,
+    alloc: Global,
+    start: &'s OnceLock<bool>,
+    gate: &'s G,
+    piece: usize,
+    seats: Seats<'q>,
+) -> Result<Ends<'q>, RunFault>
+    requires piece { 0 < piece }
+    requires seats { AreReady seats.lines.now seats }
+    ensures ends { IfOk result (AllKept (G.may_refuse gate.now) seats.entry.keyboard.events.items seats.entry.mouse.events.items seats.entry.host.files.items seats.entry.lines.now) }
+    ensures begun { IfOk result AllPassed }
+    ensures timed { result ≡ Err RunFault.GateTimedOut → RefusesSome (G.may_refuse gate.now) }
+{
+    let handles = spawn_all(scope, rt, alloc, start, gate, piece, seats);
+    let _ = start.set(rt, handles.is_some());
+    begun(joined(rt, handles))
+}
+
+/// Joins the threads, if they were started.
+fn joined<'s, 'q, R: Threads, G: Gate>(
+    rt: &R,
+    handles: Option<Handles<'s, 'q, G>>,
+) -> Option<Ends<'q>>
+    ensures { IfSome result (λ ends. IsSomeAnd handles.entry (λ h. KeepPromises G.may_refuse h ends)) }
+{
+    join_all(rt, handles?)
+}
+
+/// The ends of workers that were all let begin.
+fn begun(ends: Option<Ends<'_>>) -> Result<Ends<'_>, RunFault>
+    ensures ends { IfOk result (λ e. ends.entry ≡ Some e) }
+    ensures begun { IfOk result AllPassed }
+    ensures timed { result ≡ Err RunFault.GateTimedOut → IsSomeAnd ends.entry SomeRefused }
+{
+    let Some(ends) = ends else {
+        return Err(RunFault::NoThread);
+    };
+    if !all_passed(&ends) {
+        return Err(RunFault::GateTimedOut);
+    }
+    Ok(ends)
+}
+
+/// Whether each worker's gate let it begin.
+fn all_passed(ends: &Ends) -> bool
+    ensures passed { IsTrue result → AllPassed ends.now }
+    ensures refused { IsFalse result → SomeRefused ends.now }
+{
+    ends.keyboard.passed
+        && ends.mouse.passed
+        && ends.host.passed
+        && ends.reader.passed
+        && ends.term.passed
+}

@@ -1,0 +1,272 @@
+//! Settling a session: its lines are audited, and one run of the world leads to the states of its two ends.
+ghost use Rattle.std.specs.Prelude.{◌≡◌, ◌+◌, ◌^◌, ◌<◌, ◌≤◌, [], ◌∷◌, ◌++◌, length, All, IfOk, IfErr, Some, vec_capacity, sum_by};
+ghost use Rattle.sam_script.specs.Script.{IsFile};
+ghost use Rattle.sam_world.specs.World.{merged};
+ghost use Rattle.sam_threads.specs.Told.{AreEnds};
+ghost use Rattle.sam_running.specs.Headline.{Gives, Headline};
+ghost use Rattle.sam_running.specs.Settled.{left_in, counts_left, stop_of, stops_of};
+ghost use Rattle.sam_running.specs.Settled.{AreFull, HasStreams, HasUsers, IsDrained, IsWhole, MissesHost};
+ghost use Rattle.sam_running.specs.Settling.{IsRoomFor, IsReplay, IsPrepared, ComesTo};
+
+use crate::settled::{SettleFault, Settled};
+use sam_queue::{AuditRoom, Post, Take, audit_within};
+use sam_runes::Runes;
+use sam_script::first_world;
+use sam_threads::{Ends, Input, Stop};
+use sam_world::event::{Event, StepFault, TermLog};
+use sam_world::world::World;
+use sam_world::{MergeFault, merge};
+use std::alloc::{AllocError, Global};
+use std::sync::Wait;
+
+// All memory for the audit of a line.
+#[derive(Drop)]
+struct LineRoom<'q, T> {
+    audit: AuditRoom<T>,
+    posts: Vec<Post<'q, T>>,
+}
+
+// The merged schedule, and the world where it leads.
+#[derive(Drop)]
+struct Replay {
+    schedule: Vec<Event>,
+    world: World,
+}
+
+// All memory for settling. Of a schedule that is no run there is no replay.
+#[derive(Drop)]
+struct Prepared<'q> {
+    up: LineRoom<'q, Vec<u8>>,
+    down: LineRoom<'q, Vec<u8>>,
+    events: LineRoom<'q, Input>,
+    left: Vec<usize>,
+    stops: Vec<Stop>,
+    replay: Option<Replay>,
+}
+
+/// What the five ends of a session came to: one schedule of all events, which leads one world of the first files to the very states of
+/// the host and the terminal. What the host handled is a first part of what the terminal composed, the frames that the terminal handled
+/// are a first part of those that the host answered, and of keyboard and mouse it handled the first events that each put.
+///
+/// The ends are those of one set of lines, as `run_ends` gives them. Want of memory alone refuses it, before anything is taken from a
+/// line.
+pub fn settle<'q, R: Wait>(
+    rt: &R,
+    alloc: Global,
+    ends: Ends<'q>,
+) -> Result<Settled, SettleFault<'q>>
+    requires { AreEnds ends }
+    ensures headline { IfOk result (Headline ends.entry) }
+    ensures states { IfOk result (λ s. (s.host ≡ ends.entry.host.host) × (s.term ≡ ends.entry.term.term)) }
+    ensures schedule { IfOk result (λ s. s.schedule.items ≡ merged ends.entry.term.log.items ends.entry.host.host.taken) }
+    ensures streams { IfOk result (HasStreams ends.entry) }
+    ensures users { IfOk result (HasUsers ends.entry) }
+    ensures stops { IfOk result (λ s. s.stops.items ≡ stops_of ends.entry) }
+    ensures left { IfOk result (λ s. s.left.items ≡ counts_left ends.entry) }
+    ensures drained { IfOk result (IsDrained ends.entry) }
+    ensures counted { IfOk result AreFull }
+    ensures misses { IfOk result (λ s. ends.entry.term.stop ≡ Some Stop.PeerGone → MissesHost ends.entry s) }
+    ensures whole { IfOk result (λ s. s.stops.items ≡ [] → IsWhole ends.entry s) }
+    ensures refused { IfErr result (λ f. f ≡ SettleFault.OutOfMemory ends.entry) }
+{
+    match prepare(alloc, &ends) {
+        Ok(prepared) => Ok(finish(rt, prepared, ends)),
+        Err(_) => Err(SettleFault::OutOfMemory(ends)),
+    }
+}
+
+// All that takes memory.
+fn prepare<'q>(alloc: Global, ends: &Ends<'q>) -> Result<Prepared<'q>, AllocError>
+    requires many { length ends.now.host.files.items ≤ 65535 }
+    requires files { All IsFile ends.now.host.files.items }
+    ensures { IfOk result (IsPrepared ends.now) }
+{
+    let up = room_for(alloc, &ends.host.take, 1)?;
+    let down = room_for(alloc, &ends.reader.take, 1)?;
+    let events = room_for(alloc, &ends.term.take, 3)?;
+    let left = Vec::with_capacity(alloc, 3)?;
+    let stops = Vec::with_capacity(alloc, 5)?;
+    let replay = run_merged(
+        alloc,
+        ends.host.files.as_slice(),
+        ends.term.log.as_slice(),
+        ends.host.host.taken(),
+    )?;
+    Ok(Prepared {
+        up,
+        down,
+        events,
+        left,
+        stops,
+        replay,
+    })
+}
+
+// Room for the audit of the line of a take, with so many posts.
+fn room_for<'q, T: Drop>(
+    alloc: Global,
+    take: &Take<'q, T>,
+    posts: usize,
+) -> Result<LineRoom<'q, T>, AllocError>
+    ensures { IfOk result (IsRoomFor take.now.line posts) }
+{
+    let audit = AuditRoom::new(alloc, take)?;
+    let posts = Vec::with_capacity(alloc, posts)?;
+    Ok(LineRoom { audit, posts })
+}
+
+// Runs the merged schedule over a world of the files, unless it is no run.
+fn run_merged(
+    alloc: Global,
+    files: &[(Runes, Runes)],
+    log: &[TermLog],
+    taken: u64,
+) -> Result<Option<Replay>, AllocError>
+    requires many { length files.now ≤ 65535 }
+    requires files { All IsFile files.now }
+    ensures { IfOk result (IsReplay files.now log.now taken) }
+{
+    let schedule = match merge(alloc, log, taken) {
+        Ok(schedule) => schedule,
+        Err(MergeFault::OutOfMemory) => return Err(AllocError),
+        Err(MergeFault::BadLog) => return Ok(None),
+    };
+    let Ok(mut world) = first_world(alloc, files) else {
+        return Err(AllocError);
+    };
+    match world.run(schedule.as_slice()) {
+        Ok(()) => Ok(Some(Replay { schedule, world })),
+        Err(stop) => match stop.fault {
+            StepFault::OutOfMemory => Err(AllocError),
+            _ => Ok(None),
+        },
+    }
+}
+
+// Audits the three lines, in room that there is. That the schedule is no run can't be.
+fn finish<'q, R: Wait>(rt: &R, prepared: Prepared<'q>, ends: Ends<'q>) -> Settled
+    requires ends { AreEnds ends }
+    requires prepared { IsPrepared ends prepared }
+    ensures { ComesTo ends.entry result }
+{
+    let Prepared {
+        up,
+        down,
+        events,
+        mut left,
+        stops,
+        replay,
+    } = prepared;
+    let stops = noted(stops, &ends);
+    let Ends {
+        host,
+        reader,
+        term,
+        keyboard,
+        mouse,
+    } = ends;
+    left.push_reserved(audit_one(rt, up, host.take, term.post));
+    left.push_reserved(audit_one(rt, down, reader.take, host.post));
+    left.push_reserved(audit_three(
+        rt,
+        events,
+        term.take,
+        keyboard.post,
+        mouse.post,
+        reader.post,
+    ));
+    let Some(Replay { schedule, world }) = replay else {
+        unreachable!()
+    };
+    Settled {
+        host: host.host,
+        term: term.term,
+        schedule,
+        world,
+        left,
+        stops,
+    }
+}
+
+// Why workers stopped.
+fn noted(mut stops: Vec<Stop>, ends: &Ends<'_>) -> Vec<Stop>
+    requires none { stops.items ≡ [] }
+    requires room { 5 ≤ vec_capacity stops }
+    ensures { result.items ≡ stops_of ends.now }
+{
+    note(&mut stops, ends.keyboard.stop);
+    note(&mut stops, ends.mouse.stop);
+    note(&mut stops, ends.host.stop);
+    note(&mut stops, ends.reader.stop);
+    note(&mut stops, ends.term.stop);
+    stops
+}
+
+// Adds a stop, if there is one.
+fn note(stops: &mut Vec<Stop>, stop: Option<Stop>)
+    requires { length stops.old.items < vec_capacity stops.old }
+    ensures noted { stops.new.items ≡ stops.old.items ++ stop_of stop }
+    ensures few { length stops.new.items ≤ length stops.old.items + 1 }
+    ensures room { vec_capacity stops.new ≡ vec_capacity stops.old }
+{
+    if let Some(why) = stop {
+        stops.push_reserved(why);
+    }
+}
+
+// Audits a line of one sender, and says how many items are left in it.
+fn audit_one<'q, T: Drop, R: Wait>(
+    rt: &R,
+    room: LineRoom<'q, T>,
+    take: Take<'q, T>,
+    post: Post<'q, T>,
+) -> usize
+    requires room { IsRoomFor take.line 1 room }
+    requires senders { take.line.senders ≡ 1 }
+    requires post { (post.line ≡ take.line) × (post.number ≡ 0) }
+    ensures gives { Gives take.entry (post.entry ∷ []) }
+    ensures left { result ≡ left_in take.entry (post.entry ∷ []) }
+{
+    let LineRoom { audit, mut posts } = room;
+    posts.push_reserved(post);
+    let found = audit_within(rt, audit, take, posts);
+    count(found.left.as_slice())
+}
+
+// Audits a line of three senders, and says how many items are left in it.
+fn audit_three<'q, T: Drop, R: Wait>(
+    rt: &R,
+    room: LineRoom<'q, T>,
+    take: Take<'q, T>,
+    first: Post<'q, T>,
+    second: Post<'q, T>,
+    third: Post<'q, T>,
+) -> usize
+    requires room { IsRoomFor take.line 3 room }
+    requires senders { take.line.senders ≡ 3 }
+    requires first { (first.line ≡ take.line) × (first.number ≡ 0) }
+    requires second { (second.line ≡ take.line) × (second.number ≡ 1) }
+    requires third { (third.line ≡ take.line) × (third.number ≡ 2) }
+    ensures gives { Gives take.entry (first.entry ∷ second.entry ∷ third.entry ∷ []) }
+    ensures left { result ≡ left_in take.entry (first.entry ∷ second.entry ∷ third.entry ∷ []) }
+{
+    let LineRoom { audit, mut posts } = room;
+    posts.push_reserved(first);
+    posts.push_reserved(second);
+    posts.push_reserved(third);
+    let found = audit_within(rt, audit, take, posts);
+    count(found.left.as_slice())
+}
+
+// How many items the lists have.
+#[tactic(auto, using(std::proofs::lemmas::List::Sums::sum_by_more, std::proofs::lemmas::List::Sums::sum_by_more_le))]
+fn count<T>(lists: &[Vec<T>]) -> usize
+    requires { sum_by (λ list. length list.items) lists.now < 2 ^ 64 }
+    ensures { result ≡ sum_by (λ list. length list.items) lists.now }
+{
+    let mut all = 0;
+    for list in lists {
+        all += list.len();
+    }
+    all
+}

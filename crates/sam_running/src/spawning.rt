@@ -1,0 +1,415 @@
+//! Starting the five threads and joining them.
+ghost use Rattle.std.specs.Prelude.{◌≡◌, ◌<◌, IfSome, Some};
+ghost use Rattle.sam_running.specs.Promised.{UserKept, HostKept, ReaderKept, TermKept, KeepPromises, PromisesOf};
+ghost use Rattle.sam_running.specs.Seats.{IsUserSeat, IsHostSeat, IsReaderSeat, IsTermSeat, AreReady};
+
+use crate::seats::{HostSeat, ReaderSeat, Seats, TermSeat, UserSeat};
+use sam_queue::Line;
+use sam_runes::Runes;
+use sam_term::event::UserEvent;
+use sam_threads::{
+    Ends, Gate, HostEnd, Input, ReaderEnd, TermEnd, UserEnd, pass_frames, run_terminal,
+    send_events, serve_host,
+};
+use std::alloc::Global;
+use std::snapshot::Snapshot;
+use std::sync::{OnceLock, Wait};
+use std::thread::{Promise, PromisedHandle, Scope, Threads};
+
+/// What the joins of the keyboard and the mouse hand on.
+pub struct UserPromise<'a, 'q, G> {
+    pub gate: &'a G,
+    pub worker: usize,
+    pub todo: Snapshot<Vec<UserEvent>>,
+    pub events: &'q Line<Input>,
+}
+
+impl<'a, 'q, G> Drop for UserPromise<'a, 'q, G> {
+    fn drop(self) {
+        let UserPromise {
+            gate: _,
+            worker: _,
+            todo: _,
+            events: _,
+        } = self;
+    }
+}
+
+impl<'a, 'q, G: Gate> Promise<Option<UserEnd<'q>>> for UserPromise<'a, 'q, G> {
+    ghost use Rattle.std.specs.Prelude.{IfSome};
+    ghost use Rattle.sam_running.specs.Promised.{UserKept};
+
+    ghost kept_by = { λ p r. IfSome r (UserKept (G.may_refuse p.gate.now) p.worker p.todo.value.items p.events.now) };
+}
+
+/// What the join of the host hands on.
+pub struct HostPromise<'a, 'q, G> {
+    pub gate: &'a G,
+    pub files: Snapshot<Vec<(Runes, Runes)>>,
+    pub up: &'q Line<Vec<u8>>,
+    pub down: &'q Line<Vec<u8>>,
+}
+
+impl<'a, 'q, G> Drop for HostPromise<'a, 'q, G> {
+    fn drop(self) {
+        let HostPromise {
+            gate: _,
+            files: _,
+            up: _,
+            down: _,
+        } = self;
+    }
+}
+
+impl<'a, 'q, G: Gate> Promise<Option<HostEnd<'q>>> for HostPromise<'a, 'q, G> {
+    ghost use Rattle.std.specs.Prelude.{IfSome};
+    ghost use Rattle.sam_running.specs.Promised.{HostKept};
+
+    ghost kept_by = { λ p r. IfSome r (HostKept (G.may_refuse p.gate.now) p.files.value.items p.up.now p.down.now) };
+}
+
+/// What the join of the host reader hands on.
+pub struct ReaderPromise<'a, 'q, G> {
+    pub gate: &'a G,
+    pub down: &'q Line<Vec<u8>>,
+    pub events: &'q Line<Input>,
+}
+
+impl<'a, 'q, G> Drop for ReaderPromise<'a, 'q, G> {
+    fn drop(self) {
+        let ReaderPromise {
+            gate: _,
+            down: _,
+            events: _,
+        } = self;
+    }
+}
+
+impl<'a, 'q, G: Gate> Promise<Option<ReaderEnd<'q>>> for ReaderPromise<'a, 'q, G> {
+    ghost use Rattle.std.specs.Prelude.{IfSome};
+    ghost use Rattle.sam_running.specs.Promised.{ReaderKept};
+
+    ghost kept_by = { λ p r. IfSome r (ReaderKept (G.may_refuse p.gate.now) p.down.now p.events.now) };
+}
+
+/// What the join of the terminal hands on.
+pub struct TermPromise<'a, 'q, G> {
+    pub gate: &'a G,
+    pub events: &'q Line<Input>,
+    pub up: &'q Line<Vec<u8>>,
+}
+
+impl<'a, 'q, G> Drop for TermPromise<'a, 'q, G> {
+    fn drop(self) {
+        let TermPromise {
+            gate: _,
+            events: _,
+            up: _,
+        } = self;
+    }
+}
+
+impl<'a, 'q, G: Gate> Promise<Option<TermEnd<'q>>> for TermPromise<'a, 'q, G> {
+    ghost use Rattle.std.specs.Prelude.{IfSome};
+    ghost use Rattle.sam_running.specs.Promised.{TermKept};
+
+    ghost kept_by = { λ p r. IfSome r (TermKept (G.may_refuse p.gate.now) p.events.now p.up.now) };
+}
+
+/// Waits for the start. None where it was called off.
+fn begin_user<'q, R: Wait, G: Gate>(
+    rt: &R,
+    start: &OnceLock<bool>,
+    gate: &G,
+    worker: usize,
+    seat: UserSeat<'q>,
+) -> Option<UserEnd<'q>>
+    requires worker { worker < 5 }
+    requires seat { IsUserSeat worker seat.post.line seat }
+    ensures { IfSome result (UserKept (G.may_refuse gate.now) worker seat.entry.events.items seat.entry.post.line) }
+{
+    if !*start.wait(rt) {
+        return None;
+    }
+    let UserSeat {
+        post,
+        events,
+        held: _,
+    } = seat;
+    Some(send_events(rt, gate, worker, events, post))
+}
+
+/// Waits for the start. None where it was called off.
+fn begin_host<'q, R: Wait, G: Gate>(
+    rt: &R,
+    alloc: Global,
+    start: &OnceLock<bool>,
+    gate: &G,
+    piece: usize,
+    seat: HostSeat<'q>,
+) -> Option<HostEnd<'q>>
+    requires piece { 0 < piece }
+    requires seat { IsHostSeat seat.take.line seat.post.line seat }
+    ensures { IfSome result (HostKept (G.may_refuse gate.now) seat.entry.files.items seat.entry.take.line seat.entry.post.line) }
+{
+    if !*start.wait(rt) {
+        return None;
+    }
+    let HostSeat {
+        take,
+        post,
+        files,
+        host,
+        held: _,
+    } = seat;
+    Some(serve_host(rt, alloc, gate, piece, take, post, files, host))
+}
+
+/// Waits for the start. None where it was called off.
+fn begin_reader<'q, R: Wait, G: Gate>(
+    rt: &R,
+    alloc: Global,
+    start: &OnceLock<bool>,
+    gate: &G,
+    seat: ReaderSeat<'q>,
+) -> Option<ReaderEnd<'q>>
+    requires seat { IsReaderSeat seat.take.line seat.post.line seat }
+    ensures { IfSome result (ReaderKept (G.may_refuse gate.now) seat.entry.take.line seat.entry.post.line) }
+{
+    if !*start.wait(rt) {
+        return None;
+    }
+    let ReaderSeat {
+        take,
+        post,
+        held: _,
+    } = seat;
+    Some(pass_frames(rt, alloc, gate, take, post))
+}
+
+/// Waits for the start. None where it was called off.
+fn begin_terminal<'q, R: Wait, G: Gate>(
+    rt: &R,
+    alloc: Global,
+    start: &OnceLock<bool>,
+    gate: &G,
+    piece: usize,
+    seat: TermSeat<'q>,
+) -> Option<TermEnd<'q>>
+    requires piece { 0 < piece }
+    requires seat { IsTermSeat seat.take.line seat.post.line seat }
+    ensures { IfSome result (TermKept (G.may_refuse gate.now) seat.entry.take.line seat.entry.post.line) }
+{
+    if !*start.wait(rt) {
+        return None;
+    }
+    let TermSeat {
+        take,
+        post,
+        term,
+        held: _,
+    } = seat;
+    Some(run_terminal(rt, alloc, gate, piece, take, post, term))
+}
+
+type UserHandle<'s, 'q, G> = PromisedHandle<Option<UserEnd<'q>>, UserPromise<'s, 'q, G>>;
+
+type HostHandle<'s, 'q, G> = PromisedHandle<Option<HostEnd<'q>>, HostPromise<'s, 'q, G>>;
+
+type ReaderHandle<'s, 'q, G> = PromisedHandle<Option<ReaderEnd<'q>>, ReaderPromise<'s, 'q, G>>;
+
+type TermHandle<'s, 'q, G> = PromisedHandle<Option<TermEnd<'q>>, TermPromise<'s, 'q, G>>;
+
+fn spawn_user<'s, 'e: 's, 'q: 's, R: Wait + Sync, G: Gate>(
+    scope: &'s Scope<'s, &'e ()>,
+    rt: &'s R,
+    start: &'s OnceLock<bool>,
+    gate: &'s G,
+    worker: usize,
+    events: &'q Line<Input>,
+    seat: UserSeat<'q>,
+) -> Option<UserHandle<'s, 'q, G>>
+    requires worker { worker < 5 }
+    requires seat { IsUserSeat worker events.now seat }
+    ensures { IfSome result (λ h. (h.promise.gate.now ≡ gate.now) × (h.promise.worker ≡ worker) × (h.promise.todo.value.items ≡ seat.entry.events.items) × (h.promise.events.now ≡ events.now)) }
+{
+    let promise = UserPromise {
+        gate,
+        worker,
+        todo: Snapshot::of(&seat.events),
+        events,
+    };
+    let child = scope.spawn_with(
+        promise,
+        move || -> Option<UserEnd<'_>>
+            requires { (worker < 5) × IsUserSeat worker seat.post.line seat }
+            ensures { IfSome result (UserKept (G.may_refuse gate.entry.now) worker seat.entry.events.items seat.entry.post.line) }
+        { begin_user(rt, start, gate, worker, seat) },
+    );
+    child.ok()
+}
+
+fn spawn_host<'s, 'e: 's, 'q: 's, R: Wait + Sync, G: Gate>(
+    scope: &'s Scope<'s, &'e ()>,
+    rt: &'s R,
+    alloc: Global,
+    start: &'s OnceLock<bool>,
+    gate: &'s G,
+    piece: usize,
+    up: &'q Line<Vec<u8>>,
+    down: &'q Line<Vec<u8>>,
+    seat: HostSeat<'q>,
+) -> Option<HostHandle<'s, 'q, G>>
+    requires piece { 0 < piece }
+    requires seat { IsHostSeat up.now down.now seat }
+    ensures { IfSome result (λ h. (h.promise.gate.now ≡ gate.now) × (h.promise.files.value.items ≡ seat.entry.files.items) × (h.promise.up.now ≡ up.now) × (h.promise.down.now ≡ down.now)) }
+{
+    let promise = HostPromise {
+        gate,
+        files: Snapshot::of(&seat.files),
+        up,
+        down,
+    };
+    let child = scope.spawn_with(
+        promise,
+        move || -> Option<HostEnd<'_>>
+            requires { (0 < piece) × IsHostSeat seat.take.line seat.post.line seat }
+            ensures { IfSome result (HostKept (G.may_refuse gate.entry.now) seat.entry.files.items seat.entry.take.line seat.entry.post.line) }
+        { begin_host(rt, alloc, start, gate, piece, seat) },
+    );
+    child.ok()
+}
+
+fn spawn_reader<'s, 'e: 's, 'q: 's, R: Wait + Sync, G: Gate>(
+    scope: &'s Scope<'s, &'e ()>,
+    rt: &'s R,
+    alloc: Global,
+    start: &'s OnceLock<bool>,
+    gate: &'s G,
+    down: &'q Line<Vec<u8>>,
+    events: &'q Line<Input>,
+    seat: ReaderSeat<'q>,
+) -> Option<ReaderHandle<'s, 'q, G>>
+    requires seat { IsReaderSeat down.now events.now seat }
+    ensures { IfSome result (λ h. (h.promise.gate.now ≡ gate.now) × (h.promise.down.now ≡ down.now) × (h.promise.events.now ≡ events.now)) }
+{
+    let promise = ReaderPromise { gate, down, events };
+    let child = scope.spawn_with(
+        promise,
+        move || -> Option<ReaderEnd<'_>>
+            requires { IsReaderSeat seat.take.line seat.post.line seat }
+            ensures { IfSome result (ReaderKept (G.may_refuse gate.entry.now) seat.entry.take.line seat.entry.post.line) }
+        { begin_reader(rt, alloc, start, gate, seat) },
+    );
+    child.ok()
+}
+
+fn spawn_terminal<'s, 'e: 's, 'q: 's, R: Wait + Sync, G: Gate>(
+    scope: &'s Scope<'s, &'e ()>,
+    rt: &'s R,
+    alloc: Global,
+    start: &'s OnceLock<bool>,
+    gate: &'s G,
+    piece: usize,
+    events: &'q Line<Input>,
+    up: &'q Line<Vec<u8>>,
+    seat: TermSeat<'q>,
+) -> Option<TermHandle<'s, 'q, G>>
+    requires piece { 0 < piece }
+    requires seat { IsTermSeat events.now up.now seat }
+    ensures { IfSome result (λ h. (h.promise.gate.now ≡ gate.now) × (h.promise.events.now ≡ events.now) × (h.promise.up.now ≡ up.now)) }
+{
+    let promise = TermPromise { gate, events, up };
+    let child = scope.spawn_with(
+        promise,
+        move || -> Option<TermEnd<'_>>
+            requires { (0 < piece) × IsTermSeat seat.take.line seat.post.line seat }
+            ensures { IfSome result (TermKept (G.may_refuse gate.entry.now) seat.entry.take.line seat.entry.post.line) }
+        { begin_terminal(rt, alloc, start, gate, piece, seat) },
+    );
+    child.ok()
+}
+
+/// The threads of the five workers.
+pub struct Handles<'s, 'q, G: Gate> {
+    pub keyboard: UserHandle<'s, 'q, G>,
+    pub mouse: UserHandle<'s, 'q, G>,
+    pub host: HostHandle<'s, 'q, G>,
+    pub reader: ReaderHandle<'s, 'q, G>,
+    pub term: TermHandle<'s, 'q, G>,
+}
+
+/// Starts all five. Where one can't be made it answers none, and the caller calls the others off.
+pub fn spawn_all<'s, 'e: 's, 'q: 's, R: Wait + Sync, G: Gate>(
+    scope: &'s Scope<'s, &'e ()>,
+    rt: &'s R,
+    alloc: Global,
+    start: &'s OnceLock<bool>,
+    gate: &'s G,
+    piece: usize,
+    seats: Seats<'q>,
+) -> Option<Handles<'s, 'q, G>>
+    requires piece { 0 < piece }
+    requires seats { AreReady seats.lines.now seats }
+    ensures { IfSome result (PromisesOf gate.now seats.entry.keyboard.events.items seats.entry.mouse.events.items seats.entry.host.files.items seats.entry.lines.now) }
+{
+    let Seats {
+        lines,
+        keyboard,
+        mouse,
+        host,
+        reader,
+        term,
+    } = seats;
+    let (up, down, events) = (lines.up(), lines.down(), lines.events());
+    let users = both(
+        spawn_user(scope, rt, start, gate, 0, events, keyboard),
+        spawn_user(scope, rt, start, gate, 1, events, mouse),
+    );
+    let sides = both(
+        spawn_host(scope, rt, alloc, start, gate, piece, up, down, host),
+        spawn_terminal(scope, rt, alloc, start, gate, piece, events, up, term),
+    );
+    let reader = spawn_reader(scope, rt, alloc, start, gate, down, events, reader);
+    let ((keyboard, mouse), ((host, term), reader)) = both(users, both(sides, reader))?;
+    Some(Handles {
+        keyboard,
+        mouse,
+        host,
+        reader,
+        term,
+    })
+}
+
+/// Joins all five. None where the start was called off, which the caller did not do.
+pub fn join_all<'s, 'q, R: Threads, G: Gate>(
+    rt: &R,
+    handles: Handles<'s, 'q, G>,
+) -> Option<Ends<'q>>
+    ensures { IfSome result (KeepPromises G.may_refuse handles.entry) }
+{
+    let Handles {
+        keyboard,
+        mouse,
+        host,
+        reader,
+        term,
+    } = handles;
+    let users = both(keyboard.join(rt), mouse.join(rt));
+    let sides = both(host.join(rt), term.join(rt));
+    let ((keyboard, mouse), ((host, term), reader)) = both(users, both(sides, reader.join(rt)))?;
+    Some(Ends {
+        host,
+        reader,
+        term,
+        keyboard,
+        mouse,
+    })
+}
+
+// One exit in place of five, each of which would drop what the others hold.
+fn both<A: Drop, B: Drop>(first: Option<A>, second: Option<B>) -> Option<(A, B)>
+    ensures { IfSome result (λ p. (first ≡ Some p.0) × (second ≡ Some p.1)) }
+{
+    first.zip(second)
+}
