@@ -1,50 +1,24 @@
 -- What a replay has printed, line by line.
-use Rattle.std.proofs.Common.{◌≡◌, refl, sym, ap, ◌∙◌, subst, ◌<◌, ◌≤◌, ◌+◌, ◌-◌, ℕ, zero, suc, Bool, true, false, List, [], ◌∷◌, ◌++◌, length, take, drop, All, Option, Some, None, Result, Ok, Err, slice_index_or, append_assoc, append-nil, arith}
-use Rattle.std.specs.Prelude.{IfSome, not, if◌then◌else◌, is_some}
+use Rattle.std.proofs.Common.{◌≡◌, refl, sym, ap, ◌∙◌, subst, ◌<◌, ◌≤◌, ◌+◌, ℕ, zero, suc, true, List, [], ◌∷◌, ◌++◌, length, take, drop, All, Result, Ok, Err, slice_index_or, append_assoc, append-nil, arith}
+use Rattle.std.specs.Prelude.{if◌then◌else◌}
 use Rattle.std.proofs.lemmas.List.Elements.{All-head, All-tail}
-use Rattle.sam_runes.specs.Texts.{RoomyText, is_empty}
+use Rattle.sam_runes.specs.Texts.{RoomyText}
 use Rattle.sam_host.specs.Given.{AreNames, given_of}
-use Rattle.sam_term.specs.Term.{act_of}
-use Rattle.sam_world.specs.World.{PlainWorld, next_event, acts, is_empty_take, drained}
-use Rattle.sam_world.specs.Faults.{IsDrainedUpTo}
+use Rattle.sam_world.specs.World.{PlainWorld, step_of}
+use Rattle.sam_world.specs.Counts.{passes_count}
 use Rattle.sam_world.specs.declared.event.Event.{Event}
-use Rattle.sam_world.specs.declared.event.Event.TheVariants.{Act, Flush, HostTake, TermTake}
-use Rattle.sam_world.specs.declared.event.StepFault.TheVariants.{NothingThere}
-use Rattle.sam_world.proofs.Runs.{advanced_none, drained_rest}
+use Rattle.sam_world.proofs.Stopping.{passing_is_there, passing_stops}
 use Rattle.sam_script.specs.Script.{IsFile}
-use Rattle.sam_script.specs.Replay.{after_line, printed_by, behind, and_on, replayed_from, IsStopOf}
+use Rattle.sam_script.specs.Replay.{after_line, or_full, printed_by, stepped, behind, and_on, replayed_from, IsStopOf}
 use Rattle.sam_script.specs.declared.line.Numbered.{Numbered}
 use Rattle.sam_script.specs.declared.fault.ScriptFault.{ScriptFault}
 use Rattle.sam_script.specs.declared.fault.ScriptFault.TheVariants as fault
 
--- ---- a drain that finds nothing there
+-- ---- a step that would pass a count
 
-rule : Bool → Bool → Bool → Bool → Option Event
-rule a b c d = if not a then Some HostTake else if not b then Some TermTake else if c then Some Act else if d then Some Flush else None
-
-never_empty : (v : PlainWorld) → IfSome (next_event v) (λ e. is_empty_take v e ≡ true) → next_event v ≡ None
-unfolding rule
-never_empty v f = go (is_empty v.up) (is_empty v.down) (acts (act_of v.term)) (is_some v.term.unsent) refl refl f
-  where
-    go : (a b c d : Bool) → a ≡ is_empty v.up → b ≡ is_empty v.down → IfSome (rule a b c d) (λ e. is_empty_take v e ≡ true) → rule a b c d ≡ None
-    go false b c d p q f =
-        let there : false ≡ true = p ∙ f in
-        absurd (cc)
-    go true false c d p q f =
-        let there : false ≡ true = q ∙ f in
-        absurd (cc)
-    go true true true d p q f =
-        let there : false ≡ true = f in
-        absurd (cc)
-    go true true false true p q f =
-        let there : false ≡ true = f in
-        absurd (cc)
-    go true true false false p q f = refl
-
-pub nothing_more : (n : ℕ) (w v : PlainWorld) → IsDrainedUpTo n w v NothingThere → v ≡ drained n w
-nothing_more n w v d =
-    let whole : d.done + (n - d.done) ≡ n = omega (arith, d.fewer) in
-    subst (λ k. v ≡ drained k w) whole (sym (drained_rest d.done (n - d.done) w v (sym d.leads) (advanced_none v (never_empty v d.fault))))
+pub step_is_full : (number : ℕ) (w : PlainWorld) (e : Event) → passes_count w e ≡ true → stepped number w e ≡ Err fault.CountFull
+step_is_full number w e full =
+    ap (λ b. if b then Err (fault.Line number) else or_full (step_of w e)) (passing_is_there w e full) ∙ ap or_full (passing_stops w e full)
 
 -- ---- files
 
@@ -113,7 +87,7 @@ line_stops all w before ls i d why within so_far = go why
 
     go : (k : ScriptFault) → IsStopOf (after_line (slice_index_or ls i d).number w (slice_index_or ls i d).line) k → IsStopOf all k
     go (fault.Line n) stop = there _ stop
-    go fault.CountFull stop = tt
+    go fault.CountFull stop = there _ stop
     go fault.OutOfMemory stop = tt
 
 -- no line is left

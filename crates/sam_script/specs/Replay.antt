@@ -11,7 +11,7 @@ use Rattle.sam_script.specs.declared.line.Numbered.{Numbered}
 use Rattle.sam_script.specs.declared.fault.ScriptFault.{ScriptFault}
 use Rattle.sam_script.specs.declared.fault.ScriptFault.TheVariants as fault
 
--- a step that is not made, though it takes nothing from an empty list, would pass a count
+-- a step that is none, though it takes nothing from an empty list, would pass a count
 abbrev pub or_full : Option PlainWorld → Result PlainWorld ScriptFault
 or_full None = Err fault.CountFull
 or_full (Some v) = Ok v
@@ -28,7 +28,7 @@ after_line number w Act = stepped number w event.Act
 after_line number w Flush = stepped number w event.Flush
 after_line number w Host = stepped number w event.HostTake
 after_line number w Term = stepped number w event.TermTake
-after_line number w Drain = Ok (drained 100000 w)
+after_line number w Drain = or_full (drained 100000 w)
 after_line number w Show = Ok w
 
 -- what a line prints
@@ -55,7 +55,8 @@ replayed_from w (numbered ∷ more) =
 unfoldable pub replayed : PlainScript → Result (List ℕ) ScriptFault
 replayed script = replayed_from (new_world script.files) script.lines
 
--- a wrong line is the first that cannot be done
+-- what a replay stops for: its own fault, or want of memory at any time
 abbrev pub IsStopOf : {A : Type 0} → Result A ScriptFault → ScriptFault → Type 0
 IsStopOf replay (fault.Line number) = replay ≡ Err (fault.Line number)
-IsStopOf replay _ = Unit {0}
+IsStopOf replay fault.CountFull = replay ≡ Err fault.CountFull
+IsStopOf replay fault.OutOfMemory = Unit {0}

@@ -1,10 +1,10 @@
 //! A script's lines, done one after another over a world of its files.
 
-ghost use Rattle.std.specs.Prelude.{◌≡◌, ◌≤◌, ◌++◌, ◌⊎◌, Ok, Err, IfOk, IfErr, OnOk, All, length, string_bytes};
+ghost use Rattle.std.specs.Prelude.{◌≡◌, ◌≤◌, ◌++◌, Ok, Err, IfOk, IfErr, OnOk, All, length, string_bytes};
 ghost use Rattle.sam_host.specs.Given.{AreNames, given_of};
 ghost use Rattle.sam_world.specs.World.{new_world, drained};
 ghost use Rattle.sam_script.specs.Script.{IsFile};
-ghost use Rattle.sam_script.specs.Replay.{after_line, printed_by, stepped, replayed, IsStopOf};
+ghost use Rattle.sam_script.specs.Replay.{after_line, or_full, printed_by, stepped, replayed, IsStopOf};
 
 use crate::fault::ScriptFault;
 use crate::line::{Line, Numbered};
@@ -16,7 +16,9 @@ use sam_world::world::World;
 use std::alloc::{AllocError, Global};
 
 /// Does the lines of a script one after another, over a world of its files that begins anew, and answers what its `show` lines print. A
-/// `host` or `term` line with nothing there is the fault `Line`. `CountFull` is answered only where a side has counted 2^64-1 messages.
+/// `host` or `term` line with nothing there is the fault `Line`, a line whose step, or an event of whose drain, would take a count past
+/// 2^64-1 is the fault `CountFull`: each is the replay's own, so the first line that cannot be done is at fault. Want of memory may come
+/// at any line.
 #[tactic(auto, unfolding(crate::specs::Replay::replayed))]
 pub fn replay(alloc: Global, script: &Script) -> Result<Vec<u8>, ScriptFault>
     ensures ok { IfOk result (λ out. replayed script.now ≡ Ok out.items) }
@@ -102,6 +104,7 @@ fn do_line(
 }
 
 /// Makes the event of a line happen.
+#[tactic(auto, using(crate::proofs::Replays::step_is_full))]
 fn do_step(world: &mut World, number: usize, event: Event) -> Result<(), ScriptFault>
     ensures done { OnOk result (stepped number world.old event ≡ Ok world.new) }
     ensures stopped { IfErr result (λ why. IsStopOf (stepped number world.old event) why) }
@@ -115,15 +118,13 @@ fn do_step(world: &mut World, number: usize, event: Event) -> Result<(), ScriptF
 }
 
 /// Makes happen what can happen without the user.
-#[tactic(auto, using(crate::proofs::Replays::nothing_more))]
 fn do_drain(world: &mut World) -> Result<(), ScriptFault>
-    ensures done { OnOk result (world.new ≡ drained 100000 world.old) }
-    ensures stopped { IfErr result (λ why. (result ≡ Err ScriptFault.CountFull) ⊎ (result ≡ Err ScriptFault.OutOfMemory)) }
+    ensures done { OnOk result (or_full (drained 100000 world.old) ≡ Ok world.new) }
+    ensures stopped { IfErr result (λ why. IsStopOf (or_full (drained 100000 world.old)) why) }
 {
     match world.drain() {
         Ok(()) => Ok(()),
-        // The rule names a take only where something is there: then nothing more can happen.
-        Err(StepFault::NothingThere) => Ok(()),
+        Err(StepFault::NothingThere) => unreachable!(),
         Err(StepFault::CountFull) => Err(ScriptFault::CountFull),
         Err(StepFault::OutOfMemory) => Err(ScriptFault::OutOfMemory),
     }

@@ -2,4 +2,5 @@ pub mod Serving
 pub mod Playing
 pub mod Unique
 pub mod Numbers
-pub mod Unstopped
+pub mod Scripts
+pub mod Sessions

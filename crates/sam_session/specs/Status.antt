@@ -1,6 +1,7 @@
--- The exit status of the program.
-use Rattle.std.specs.Prelude.{ℕ, List, ◌++◌, codes, Result, Ok, Err}
+-- The exit status of the program, and what it writes at a fault.
+use Rattle.std.specs.Prelude.{ℕ, List, ◌++◌, codes, Option, Result, Ok, Err}
 use Rattle.std.specs.Fmt.{decimal}
+use Rattle.std.specs.Io.KnownBytes.{Appends}
 use Rattle.sam_session.specs.declared.fault.PlayFault.{PlayFault}
 use Rattle.sam_session.specs.declared.fault.PlayFault.TheVariants.{Script, Read, Write, Side, Threads, OutOfMemory}
 
@@ -21,3 +22,8 @@ fault_line Threads = codes "= fault threads\n"
 fault_line OutOfMemory = codes "= fault memory\n"
 fault_line Read = codes "= fault device\n"
 fault_line Write = codes "= fault device\n"
+
+-- What is written at a fault is its line and nothing else. Of a failed write nothing is known
+abbrev pub IsTold : Option (List ℕ) → Option (List ℕ) → PlayFault → Type 0
+IsTold before after Write = Unit {0}
+IsTold before after fault = Appends before after (fault_line fault)

@@ -1,14 +1,20 @@
--- What the program prints of a session of five threads, and what a stop is for the program.
-use Rattle.std.specs.Prelude.{◌≡◌, ℕ, true, List, [], ◌∷◌, ◌++◌, Option, Some, None}
+-- What the program prints of a session of five threads, and what stops it.
+use Rattle.std.specs.Prelude.{◌≡◌, ◌⊎◌, ℕ, true, List, [], ◌∷◌, ◌++◌, Option, Some, None}
 use Rattle.sam_script.specs.RunLines.{run_lines_of}
-use Rattle.sam_script.specs.Script.{PlainScript}
+use Rattle.sam_script.specs.Script.{PlainScript, keys_of, mouse_of}
 use Rattle.sam_script.specs.Show.{show_lines}
+use Rattle.sam_term.specs.declared.event.UserEvent.{UserEvent}
+use Rattle.sam_term.specs.declared.event.UserEvent.TheVariants.{Exit}
+use Rattle.sam_world.specs.Logs.{users}
 use Rattle.sam_world.specs.World.{PlainWorld, new_world, run_of, IsSettled}
 use Rattle.sam_world.specs.declared.event.Event.{Event}
+use Rattle.sam_running.specs.Session.{IsSession}
+use Rattle.sam_running.specs.declared.settled.Settled.{Settled}
 use Rattle.sam_threads.specs.declared.stop.Stop.{Stop}
 use Rattle.sam_threads.specs.declared.stop.Stop.TheVariants as stop
+use Rattle.sam_session.specs.Replaying.{OfScript, IsWrongAt}
 use Rattle.sam_session.specs.declared.fault.PlayFault.{PlayFault}
-use Rattle.sam_session.specs.declared.fault.PlayFault.TheVariants.{Side, Threads, OutOfMemory}
+use Rattle.sam_session.specs.declared.fault.PlayFault.TheVariants.{Script, Read, Write, Side, Threads, OutOfMemory}
 
 -- what a stop is for the program
 abbrev pub of_stop : Stop → PlayFault
@@ -40,13 +46,59 @@ of_cause None stops = gone stops
 abbrev pub of_stops : List Stop → Option PlayFault
 of_stops stops = of_cause (first_cause stops) stops
 
--- What is written is a schedule of a session of some script, as a script, and what its end shows. The schedule is a run from the script's
--- files, at whose end the session is over, no lock is held, and both sides agree
-pub record IsThreaded (written : List ℕ) : Type 0 where
-  pub script : PlainScript
-  pub schedule : List Event
-  pub world : PlainWorld
+-- ## Where it ends well
+
+-- the events of two senders, each once and each sender's in order
+abbrev pub IsWoven : List UserEvent → List UserEvent → List UserEvent → Type 0
+IsWoven keys clicks [] = (keys ≡ []) × (clicks ≡ [])
+IsWoven keys clicks (event ∷ events) =
+    ((more : List UserEvent) × (keys ≡ event ∷ more) × IsWoven more clicks events)
+    ⊎ ((more : List UserEvent) × (clicks ≡ event ∷ more) × IsWoven keys more events)
+
+-- the user's events are all those of the script's keyboard and mouse lines, and behind them at most one Exit of the terminal's own
+abbrev pub HasAllUsers : PlainScript → List Event → Type 0
+HasAllUsers script schedule =
+    (woven : List UserEvent) × (own : List UserEvent) × (users schedule ≡ woven ++ own)
+    × IsWoven (keys_of script.lines) (mouse_of script.lines) woven × ((own ≡ []) ⊎ (own ≡ Exit ∷ []))
+
+-- a run from the script's files to this world, in which the user does all that the script says, and at whose end the session is over, no
+-- lock is held, and both sides agree
+pub record IsSchedule (script : PlainScript) (schedule : List Event) (world : PlainWorld) : Type 0 where
   pub run : run_of (new_world script.files) schedule ≡ Some world
+  pub users : HasAllUsers script schedule
   pub exited : world.term.has_exited ≡ true
   pub settled : IsSettled world
-  pub written_is : written ≡ run_lines_of script.files schedule ++ show_lines world
+
+-- what is written is a schedule of the script, as a script, and what its end shows
+abbrev pub PrintsSession : List ℕ → PlainScript → Type 0
+PrintsSession written script =
+    (schedule : List Event) × (world : PlainWorld) × (written ≡ run_lines_of script.files schedule ++ show_lines world)
+    × IsSchedule script schedule world
+
+-- what is written is such a session of the script that the input spells
+abbrev pub IsThreaded : List ℕ → List ℕ → Type 0
+IsThreaded input written = OfScript input (PrintsSession written)
+
+-- ## Where it does not
+
+-- a session of the script, at gates that refuse nobody, has stops of this cause
+abbrev pub StopsSession : PlayFault → PlainScript → Type 0
+StopsSession why script = (s : Settled) × (of_stops s.stops.items ≡ Some why) × IsSession script (λ _. ⊥) s
+
+-- what a session of the script can come to: a side's stop, no threads, or want of memory
+abbrev pub IsSessionFault : PlainScript → PlayFault → Type 0
+IsSessionFault script (Script line) = ⊥
+IsSessionFault script (Side stop) = StopsSession (Side stop) script
+IsSessionFault script Threads = Unit {0}
+IsSessionFault script Read = ⊥
+IsSessionFault script Write = ⊥
+IsSessionFault script OutOfMemory = Unit {0}
+
+-- Which fault comes where. A first wrong line comes before any thread; where there is none, the threads can't be started, or a side stops
+abbrev pub IsThreadsFault : List ℕ → PlayFault → Type 0
+IsThreadsFault input (Script line) = IsWrongAt input line
+IsThreadsFault input (Side stop) = OfScript input (StopsSession (Side stop))
+IsThreadsFault input Threads = OfScript input (λ _. Unit {0})
+IsThreadsFault input Read = Unit {0}
+IsThreadsFault input Write = Unit {0}
+IsThreadsFault input OutOfMemory = Unit {0}

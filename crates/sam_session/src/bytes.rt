@@ -125,12 +125,18 @@ fn feed_and_answer<W: Write>(
         (PieceStops W.contents host.old writer.old writer.new framer.old piece.now)) }
     ensures fault { IfErr result IsOfBytes }
 {
-    match framer.feed(piece) {
-        Ok(messages) => answer_all(alloc, host, writer, messages),
-        Err(FeedFault::BadKind(messages, _)) => answer_before(alloc, host, writer, messages, 1),
-        Err(FeedFault::BadLength(messages, _)) => answer_before(alloc, host, writer, messages, 2),
-        Err(FeedFault::BadText(messages, _)) => answer_before(alloc, host, writer, messages, 3),
-        Err(_) => Err(PlayFault::OutOfMemory),
+    let fault = match framer.feed(piece) {
+        Ok(messages) => return answer_all(alloc, host, writer, messages),
+        Err(fault) => fault,
+    };
+    let number = fault.number();
+    match fault {
+        FeedFault::BadKind(messages, _) => answer_before(alloc, host, writer, messages, number),
+        FeedFault::BadLength(messages, _) => answer_before(alloc, host, writer, messages, number),
+        FeedFault::BadText(messages, _) => answer_before(alloc, host, writer, messages, number),
+        FeedFault::OutOfMemory => Err(PlayFault::OutOfMemory),
+        // The piece has room, nothing failed before, and only the end of the input can come within a frame.
+        FeedFault::CountFull | FeedFault::Failed | FeedFault::Truncated => unreachable!(),
     }
 }
 

@@ -18,9 +18,10 @@ pub use fault::{PlayFault, status_of};
 pub use law::one_outcome;
 pub use reading::{MOST_INPUT, PIECE};
 pub use run::play;
+pub use sam_running::{RunFault, SettleFault, Settled, run_ends, run_threads, settle};
 pub use sam_threads::{
-    Ends, Fed, FlagGate, Gate, HostEnd, Input, Lines, OpenGate, ReaderEnd, RunFault, SettleFault,
-    Settled, Starts, Stop, TermEnd, UserEnd, feed_terminal, run_ends, run_threads, settle,
+    Ends, Fed, FlagGate, Gate, HostEnd, Input, Lines, OpenGate, ReaderEnd, Starts, Stop, TermEnd,
+    UserEnd, feed_terminal,
 };
 pub use words::{ArgFault, Mode, mode_of, usage};
 

@@ -1,42 +1,54 @@
 //! A script in, what it prints out.
 
-ghost use Rattle.std.specs.Prelude.{◌≡◌, ◌≤◌, OnOk, IfOk, IfSome, length};
+ghost use Rattle.std.specs.Prelude.{◌≡◌, ◌≤◌, OnOk, IfOk, IfErr, IfSome, length};
+ghost use Rattle.sam_script.specs.Spelling.{Spells};
 ghost use Rattle.sam_session.specs.Outcome.{Written};
-ghost use Rattle.sam_session.specs.Replaying.{IsReplay, of_script};
+ghost use Rattle.sam_session.specs.Replaying.{IsReplay, IsReplayFault, IsUnread, of_script};
+ghost use Rattle.sam_session.specs.Status.{IsTold};
 
 use crate::fault::PlayFault;
-use crate::whole::read_all;
+use crate::whole::{read_all, write_or_tell};
 use sam_script::{Script, ScriptFault, replay};
 use sam_threads::Stop;
 use std::alloc::Global;
 use std::io::{Read, Write};
 
-/// Replays the script that the reader has, and writes what it prints. The input is read whole before it is parsed.
+/// Replays the script that the reader has, and writes what it prints, or in place of all that the line of the fault.
 pub(crate) fn play_replay<R: Read, W: Write>(
     alloc: Global,
     reader: &mut R,
     writer: &mut W,
 ) -> Result<(), PlayFault>
-    ensures { OnOk result (Written (R.remaining reader.old) (W.contents writer.old) (W.contents writer.new)
-        (λ input written. (length input ≤ 16777216) × IsReplay written)) }
+    ensures ok { OnOk result (Written (R.remaining reader.old) (W.contents writer.old) (W.contents writer.new) IsReplay) }
+    ensures fault { IfErr result (λ fault. IfSome (R.remaining reader.old) (λ input. IsReplayFault input fault)) }
+    ensures told { IfErr result (IsTold (W.contents writer.old) (W.contents writer.new)) }
+{
+    let lines = replay_lines(alloc, reader);
+    write_or_tell(writer, lines)
+}
+
+/// What the script that the reader has prints. The input is read whole before it is parsed, and parsed whole before its first line is
+/// done.
+#[tactic(auto, using(crate::proofs::Scripts::replay_shown, crate::proofs::Scripts::replay_stopped, crate::proofs::Scripts::replay_unread))]
+fn replay_lines<R: Read>(alloc: Global, reader: &mut R) -> Result<Vec<u8>, PlayFault>
+    ensures ok { IfOk result (λ lines. IfSome (R.remaining reader.old) (λ input. IsReplay input lines.items)) }
+    ensures fault { IfErr result (λ fault. IfSome (R.remaining reader.old) (λ input. IsReplayFault input fault)) }
 {
     let script = match script_in(alloc, reader) {
         Ok(script) => script,
         Err(fault) => return Err(fault),
     };
-    let printed = match replay(alloc, &script) {
-        Ok(printed) => printed,
-        Err(fault) => return Err(of_script(fault)),
-    };
-    match writer.write_all(printed.as_slice()) {
-        Ok(()) => Ok(()),
-        Err(_) => Err(PlayFault::Write),
+    match replay(alloc, &script) {
+        Ok(lines) => Ok(lines),
+        Err(fault) => Err(of_script(fault)),
     }
 }
 
 /// The script that the reader has, which is read whole before it is parsed.
+#[tactic(auto, using(crate::proofs::Scripts::script_read, crate::proofs::Scripts::script_wrong, crate::proofs::Scripts::input_failed))]
 pub(crate) fn script_in<R: Read>(alloc: Global, reader: &mut R) -> Result<Script, PlayFault>
-    ensures { IfOk result (λ _. IfSome (R.remaining reader.old) (λ input. length input ≤ 16777216)) }
+    ensures ok { IfOk result (λ script. IfSome (R.remaining reader.old) (λ input. (length input ≤ 16777216) × Spells input script)) }
+    ensures fault { IfErr result (λ fault. IfSome (R.remaining reader.old) (λ input. IsUnread input fault)) }
 {
     let input = match read_all(alloc, reader) {
         Ok(input) => input,

@@ -1,26 +1,37 @@
 //! The program by its mode.
 
-ghost use Rattle.std.specs.Prelude.{◌≡◌, ◌≤◌, ◌<◌, Some, None, IfErr, IsErr, OnOk, length};
+ghost use Rattle.std.specs.Prelude.{◌≤◌, ◌<◌, Some, None, IfErr, IfSome, OnOk, length};
 ghost use Rattle.sam_runes.specs.Texts.{max_runes};
 ghost use Rattle.sam_session.specs.Outcome.{OnSide, IsOfBytes, Plays, Written};
 ghost use Rattle.sam_session.specs.Start.{host_of};
+ghost use Rattle.sam_session.specs.Status.{IsTold};
 ghost use Rattle.sam_session.specs.Words.{OnBytes, OnReplay, OnThreads};
-ghost use Rattle.sam_session.specs.Replaying.{IsReplay};
-ghost use Rattle.sam_session.specs.Threading.{IsThreaded};
+ghost use Rattle.sam_session.specs.Replaying.{IsReplay, IsReplayFault};
+ghost use Rattle.sam_session.specs.Threading.{IsThreaded, IsThreadsFault};
 
 use crate::bytes::play_bytes;
 use crate::fault::PlayFault;
 use crate::replaying::play_replay;
 use crate::threading::play_threads;
-use crate::whole::write_fault;
 use crate::words::Mode;
 use std::alloc::Global;
 use std::io::{Read, Write};
 use std::sync::Wait;
 use std::thread::Threads;
 
-/// Runs the program in this mode, from the reader to the writer. `Bytes` answers frames as `play_bytes` does. `Replay` and `Threads`
-/// read a script whole before it is parsed, and write what it prints, or in place of all that the line of the fault that they met.
+/// Runs the program in this mode, from the reader to the writer. `Bytes` answers frames as `play_bytes` does.
+///
+/// `Replay` and `Threads` read a script whole before they parse it, and parse it whole before anything is done. They write what it
+/// prints, or in place of all that the line of the fault alone. The faults in order:
+///
+/// - `Read`: a read failed, or the input has more than `MOST_INPUT` bytes.
+/// - `Script(line)`: the first wrong line; else, in `Replay`, the line at which nothing is there to take.
+/// - `Threads`: the threads could not be started.
+/// - `Side(stop)`: a side stopped. In `Replay` it had counted as many messages as it can. In `Threads` it is the first stop of the
+///   session that has a cause of its own: a full count, or else that the other side is gone.
+/// - `Write`: the output or the line of the fault could not be written; of how much went out nothing is known.
+///
+/// `OutOfMemory` may come at any of these places.
 pub fn play<T: Threads + Wait + Sync, R: Read, W: Write>(
     rt: &T,
     alloc: Global,
@@ -35,32 +46,21 @@ pub fn play<T: Threads + Wait + Sync, R: Read, W: Write>(
     ensures side { OnBytes mode (λ text. IfErr result (λ e. OnSide e (λ stop. Written (R.remaining reader.old) (W.contents writer.old)
         (W.contents writer.new) (λ input written. Plays (host_of text) input written (Some stop))))) }
     ensures fault { OnBytes mode (λ text. IfErr result IsOfBytes) }
+
     ensures replay { OnReplay mode (OnOk result (Written (R.remaining reader.old) (W.contents writer.old) (W.contents writer.new)
-        (λ input written. (length input ≤ 16777216) × IsReplay written))) }
+        IsReplay)) }
+    ensures replay_fault { OnReplay mode (IfErr result (λ fault. IfSome (R.remaining reader.old) (λ input. IsReplayFault input fault))) }
+    ensures replay_told { OnReplay mode (IfErr result (IsTold (W.contents writer.old) (W.contents writer.new))) }
+
     ensures threads { OnThreads mode (λ _ _. OnOk result (Written (R.remaining reader.old) (W.contents writer.old) (W.contents writer.new)
-        (λ input written. (length input ≤ 16777216) × IsThreaded written))) }
+        IsThreaded)) }
+    ensures threads_fault { OnThreads mode (λ _ _. IfErr result (λ fault. IfSome (R.remaining reader.old)
+        (λ input. IsThreadsFault input fault))) }
+    ensures threads_told { OnThreads mode (λ _ _. IfErr result (IsTold (W.contents writer.old) (W.contents writer.new))) }
 {
     match mode {
         Mode::Bytes(text) => play_bytes(alloc, reader, writer, text.as_slice()),
-        Mode::Replay => match play_replay(alloc, reader, writer) {
-            Ok(()) => Ok(()),
-            Err(fault) => tell(writer, fault),
-        },
-        Mode::Threads(piece, capacity) => {
-            match play_threads(rt, alloc, reader, writer, piece, capacity) {
-                Ok(()) => Ok(()),
-                Err(fault) => tell(writer, fault),
-            }
-        }
-    }
-}
-
-/// Writes the line of a fault, which is the answer then.
-fn tell<W: Write>(writer: &mut W, fault: PlayFault) -> Result<(), PlayFault>
-    ensures { IsErr result }
-{
-    match write_fault(writer, &fault) {
-        Ok(()) => Err(fault),
-        Err(unwritten) => Err(unwritten),
+        Mode::Replay => play_replay(alloc, reader, writer),
+        Mode::Threads(piece, capacity) => play_threads(rt, alloc, reader, writer, piece, capacity),
     }
 }

@@ -1,23 +1,26 @@
 //! A script in, the schedule that its threads made and what its end shows out.
 
-ghost use Rattle.std.specs.Prelude.{◌≡◌, ◌≤◌, ◌<◌, ◌++◌, OnOk, IfOk, length, None};
+ghost use Rattle.std.specs.Prelude.{◌≡◌, ◌<◌, ◌++◌, ◌⊎◌, OnOk, IfOk, IfErr, IfSome, Some, None};
 ghost use Rattle.sam_script.specs.RunLines.{run_lines_of};
 ghost use Rattle.sam_script.specs.Show.{show_lines};
 ghost use Rattle.sam_session.specs.Outcome.{Written};
-ghost use Rattle.sam_session.specs.Threading.{of_stops, IsThreaded};
+ghost use Rattle.sam_session.specs.Status.{IsTold};
+ghost use Rattle.sam_session.specs.Threading.{of_stops, IsThreaded, IsThreadsFault, IsSessionFault, PrintsSession};
 
 use crate::fault::PlayFault;
-use crate::replaying::{of_script, script_in};
+use crate::replaying::script_in;
+use crate::whole::write_or_tell;
+use sam_running::{RunFault, Settled, run_threads};
 use sam_script::{Script, run_lines, show};
-use sam_threads::{OpenGate, RunFault, Settled, Stop, run_threads};
+use sam_threads::{OpenGate, Stop};
 use std::alloc::Global;
 use std::io::{Read, Write};
 use std::sync::Wait;
 use std::thread::Threads;
 
-/// Runs the session of the script that the reader has on five threads, and writes the schedule that they made, as a script that
-/// replays it, and what its end shows. The input is read whole before it is parsed. Where a side stopped nothing of the session is
-/// written.
+/// Runs the session of the script that the reader has on five threads, and writes what it came to, or in place of all that the line of
+/// the fault.
+
 pub(crate) fn play_threads<T: Threads + Wait + Sync, R: Read, W: Write>(
     rt: &T,
     alloc: Global,
@@ -28,25 +31,41 @@ pub(crate) fn play_threads<T: Threads + Wait + Sync, R: Read, W: Write>(
 ) -> Result<(), PlayFault>
     requires piece { 0 < piece }
     requires capacity { 0 < capacity }
-    ensures { OnOk result (Written (R.remaining reader.old) (W.contents writer.old) (W.contents writer.new)
-        (λ input written. (length input ≤ 16777216) × IsThreaded written)) }
+    ensures ok { OnOk result (Written (R.remaining reader.old) (W.contents writer.old) (W.contents writer.new) IsThreaded) }
+    ensures fault { IfErr result (λ fault. IfSome (R.remaining reader.old) (λ input. IsThreadsFault input fault)) }
+    ensures told { IfErr result (IsTold (W.contents writer.old) (W.contents writer.new)) }
+{
+    let lines = threads_lines(rt, alloc, reader, piece, capacity);
+    write_or_tell(writer, lines)
+}
+
+/// The schedule that five threads made of the script that the reader has, as a script that replays it, and what its end shows. The
+/// input is read whole before it is parsed.
+#[tactic(auto, using(crate::proofs::Sessions::session_shown, crate::proofs::Sessions::session_stops, crate::proofs::Sessions::no_session))]
+fn threads_lines<T: Threads + Wait + Sync, R: Read>(
+    rt: &T,
+    alloc: Global,
+    reader: &mut R,
+    piece: usize,
+    capacity: usize,
+) -> Result<Vec<u8>, PlayFault>
+    requires piece { 0 < piece }
+    requires capacity { 0 < capacity }
+    ensures ok { IfOk result (λ lines. IfSome (R.remaining reader.old) (λ input. IsThreaded input lines.items)) }
+    ensures fault { IfErr result (λ fault. IfSome (R.remaining reader.old) (λ input. IsThreadsFault input fault)) }
 {
     let script = match script_in(alloc, reader) {
         Ok(script) => script,
         Err(fault) => return Err(fault),
     };
-    let printed = match session_lines(rt, alloc, &script, piece, capacity) {
-        Ok(printed) => printed,
-        Err(fault) => return Err(fault),
-    };
-    match writer.write_all(printed.as_slice()) {
-        Ok(()) => Ok(()),
-        Err(_) => Err(PlayFault::Write),
+    match session_lines(rt, alloc, &script, piece, capacity) {
+        Ok(lines) => Ok(lines),
+        Err(fault) => Err(fault),
     }
 }
 
 /// Runs the session of a script on five threads, and answers what is written of it.
-#[tactic(auto, using(crate::proofs::Unstopped::threaded))]
+#[tactic(auto, using(crate::proofs::Sessions::not_run, crate::proofs::Sessions::not_printed))]
 fn session_lines<T: Threads + Wait + Sync>(
     rt: &T,
     alloc: Global,
@@ -56,7 +75,8 @@ fn session_lines<T: Threads + Wait + Sync>(
 ) -> Result<Vec<u8>, PlayFault>
     requires piece { 0 < piece }
     requires capacity { 0 < capacity }
-    ensures { IfOk result (λ lines. IsThreaded lines.items) }
+    ensures ok { IfOk result (λ lines. PrintsSession lines.items script.now) }
+    ensures fault { IfErr result (IsSessionFault script.now) }
 {
     let settled = match run_threads(rt, alloc, script, piece, capacity, &OpenGate) {
         Ok(settled) => settled,
@@ -74,17 +94,16 @@ fn lines_of(alloc: Global, script: &Script, settled: &Settled) -> Result<Vec<u8>
     ensures whole { IfOk result (λ _. of_stops settled.now.stops.items ≡ None) }
     ensures lines { IfOk result (λ lines. lines.items
         ≡ run_lines_of script.now.files settled.now.schedule.items ++ show_lines settled.now.world) }
+    ensures fault { IfErr result (λ fault. (fault ≡ PlayFault.OutOfMemory) ⊎ (of_stops settled.now.stops.items ≡ Some fault)) }
 {
     if let Some(fault) = fault_of(settled.stops.as_slice()) {
         return Err(fault);
     }
-    let mut lines = match run_lines(alloc, script, settled.schedule.as_slice()) {
-        Ok(lines) => lines,
-        Err(fault) => return Err(of_script(fault)),
+    let Ok(mut lines) = run_lines(alloc, script, settled.schedule.as_slice()) else {
+        return Err(PlayFault::OutOfMemory);
     };
-    let shown = match show(alloc, &settled.world) {
-        Ok(shown) => shown,
-        Err(fault) => return Err(of_script(fault)),
+    let Ok(shown) = show(alloc, &settled.world) else {
+        return Err(PlayFault::OutOfMemory);
     };
     match lines.extend_from_slice(shown.as_slice()) {
         Ok(()) => Ok(lines),
@@ -113,7 +132,9 @@ fn fault_of(stops: &[Stop]) -> Option<PlayFault>
 }
 
 /// What it is for the program that no session was run.
-fn of_run(fault: RunFault) -> PlayFault {
+fn of_run(fault: RunFault) -> PlayFault
+    ensures { (result ≡ PlayFault.Threads) ⊎ (result ≡ PlayFault.OutOfMemory) }
+{
     match fault {
         RunFault::GateTimedOut | RunFault::NoThread => PlayFault::Threads,
         RunFault::OutOfMemory => PlayFault::OutOfMemory,

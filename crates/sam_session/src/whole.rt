@@ -1,8 +1,9 @@
 //! Whole inputs, and the lines of faults.
 
-ghost use Rattle.std.specs.Prelude.{◌≡◌, ◌≤◌, ◌⊎◌, IfOk, IfErr, OnOk, IfSome, length};
+ghost use Rattle.std.specs.Prelude.{◌≡◌, ◌≤◌, ◌⊎◌, Err, IfOk, IfErr, IsErr, OnOk, IfSome, length};
 ghost use Rattle.std.specs.Io.KnownBytes.{Appends};
-ghost use Rattle.sam_session.specs.Status.{fault_line};
+ghost use Rattle.std.specs.Result.{IsOkAnd};
+ghost use Rattle.sam_session.specs.Status.{fault_line, IsTold};
 
 use crate::fault::PlayFault;
 use crate::reading::{MOST_INPUT, PIECE, read_piece};
@@ -37,8 +38,48 @@ pub(crate) fn read_all<R: Read>(alloc: Global, reader: &mut R) -> Result<Vec<u8>
     }
 }
 
+/// Writes the lines, or in place of them the line of the fault. Where the lines can't be written, it tries to write the line of that
+/// fault behind what went out of them.
+pub(crate) fn write_or_tell<W: Write>(
+    writer: &mut W,
+    lines: Result<Vec<u8>, PlayFault>,
+) -> Result<(), PlayFault>
+    ensures ok { OnOk result (IsOkAnd lines (λ bytes. Appends (W.contents writer.old) (W.contents writer.new) bytes.items)) }
+    ensures fault { IfErr result (λ fault. (fault ≡ PlayFault.Write) ⊎ (lines ≡ Err fault)) }
+    ensures told { IfErr result (IsTold (W.contents writer.old) (W.contents writer.new)) }
+{
+    match lines {
+        Ok(lines) => match writer.write_all(lines.as_slice()) {
+            Ok(()) => Ok(()),
+            Err(_) => tell_write(writer),
+        },
+        Err(fault) => tell(writer, fault),
+    }
+}
+
+/// Tries to write the line of a failed write, which is the answer.
+fn tell_write<W: Write>(writer: &mut W) -> Result<(), PlayFault>
+    ensures { result ≡ Err PlayFault.Write }
+{
+    let _ = write_fault(writer, &PlayFault::Write);
+    Err(PlayFault::Write)
+}
+
+/// Writes the line of a fault, which is the answer then.
+#[tactic(auto, using(crate::proofs::Scripts::told))]
+fn tell<W: Write>(writer: &mut W, fault: PlayFault) -> Result<(), PlayFault>
+    ensures stops { IsErr result }
+    ensures fault { IfErr result (λ why. (why ≡ PlayFault.Write) ⊎ (why ≡ fault)) }
+    ensures told { IfErr result (IsTold (W.contents writer.old) (W.contents writer.new)) }
+{
+    match write_fault(writer, &fault) {
+        Ok(()) => Err(fault),
+        Err(unwritten) => Err(unwritten),
+    }
+}
+
 /// Writes the line that names the fault, and takes no memory.
-pub(crate) fn write_fault<W: Write>(writer: &mut W, fault: &PlayFault) -> Result<(), PlayFault>
+fn write_fault<W: Write>(writer: &mut W, fault: &PlayFault) -> Result<(), PlayFault>
     ensures ok { OnOk result (Appends (W.contents writer.old) (W.contents writer.new) (fault_line fault.now)) }
     ensures fault { IfErr result (λ e. e ≡ PlayFault.Write) }
 {

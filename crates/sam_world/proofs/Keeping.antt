@@ -18,7 +18,8 @@ use Rattle.sam_world.specs.World.{PlainWorld, new_world, step_of, composed_by, a
 use Rattle.sam_world.specs.UnderWay.{head}
 use Rattle.sam_world.specs.Reached.{IsKept}
 use Rattle.sam_world.specs.declared.event.Event.TheVariants.{User, Act, Flush, HostTake, TermTake}
-use Rattle.sam_world.proofs.Within.{reached_start, reached_step, act_fits, flushed_fits, taken_fits, answered_fits}
+use Rattle.sam_term.proofs.Fits.{act_fits, flushed_fits, taken_fits}
+use Rattle.sam_world.proofs.Within.{reached_start, reached_step, answered_fits}
 
 FitUp : List Tmesg → Type 0
 FitUp ms = All (λ m. IsTrue (fits_t 2 m)) ms

@@ -1,5 +1,5 @@
 -- The frame that frees a message's lock is the last of its answer.
-use Rattle.std.proofs.Common.{◌≡◌, refl, sym, ap, ◌∙◌, subst, ℕ, Bool, true, false, List, [], ◌∷◌, ◌++◌, Option, Some, None, if◌then◌else◌}
+use Rattle.std.proofs.Common.{◌≡◌, refl, sym, ap, ◌∙◌, ℕ, Bool, true, false, List, [], ◌∷◌, ◌++◌, Option, Some, None, if◌then◌else◌}
 use Rattle.std.proofs.lemmas.List.{append_assoc}
 use Rattle.std.specs.Prelude.{drop, length, ◌+◌, ◌-◌, ◌||◌, not, ◌==◌}
 use Rattle.sam_runes.specs.Texts.{Range, common_version, part, as_lines, last_line, line_start}
@@ -9,7 +9,7 @@ use Rattle.sam_text.specs.Meaning.{meaning}
 use Rattle.sam_term.specs.declared.lock.Lock.{Lock}
 use Rattle.sam_term.specs.declared.lock.Lock.TheVariants.{NoLock, CommandLock, FileLock}
 use Rattle.sam_term.specs.Locks.{lock_of, is_command_line, freed_by, one_lock, all_freed}
-use Rattle.sam_world.specs.Telling.{is_answered, FreesLast, AnswersFreeLast}
+use Rattle.sam_world.specs.Telling.{is_answered, AnswersFreeLast}
 use Rattle.sam_world.proofs.LockLaws.{freed-append, freed-only, reply_frees}
 use Rattle.sam_mesg.specs.declared.tmesg.Tmesg.{Tmesg}
 use Rattle.sam_mesg.specs.declared.tmesg.Tmesg.TheVariants.{Tversion, Tstartcmdfile, Tcheck, Trequest, Torigin, Tstartfile, Tworkfile, Ttype, Tcut, Tpaste, Tsnarf, Tstartnewfile, Twrite, Tclose, Tlook, Tsearch, Tsend, Tdclick, Tstartsnarf, Tsetsnarf, Tack, Texit}

@@ -1,5 +1,5 @@
 -- Steps that would take a count past the greatest that there is.
-use Rattle.std.specs.Prelude.{Bool, true, false, List, [], ◌∷◌, Result, Err}
+use Rattle.std.specs.Prelude.{◌≡◌, Bool, true, false, List, [], ◌∷◌, None, Result, Err}
 use Rattle.sam_mesg.specs.declared.tmesg.Tmesg.{Tmesg}
 use Rattle.sam_mesg.specs.declared.hmesg.HFrame.{HFrame}
 use Rattle.sam_host.specs.Host.{PlainHost, answer}
@@ -8,7 +8,7 @@ use Rattle.sam_host.specs.declared.fault.HostFault.TheVariants as host
 use Rattle.sam_term.specs.Term.{PlainTerminal, act_of, flush_of, take_of}
 use Rattle.sam_term.specs.declared.fault.TermFault.{TermFault}
 use Rattle.sam_term.specs.declared.fault.TermFault.TheVariants as term
-use Rattle.sam_world.specs.World.{PlainWorld}
+use Rattle.sam_world.specs.World.{PlainWorld, step_of}
 use Rattle.sam_world.specs.declared.event.Event.{Event}
 use Rattle.sam_world.specs.declared.event.Event.TheVariants.{User, Act, Flush, HostTake, TermTake}
 
@@ -39,3 +39,7 @@ passes_count w Act = is_term_full (act_of w.term)
 passes_count w Flush = is_term_full (flush_of w.term)
 passes_count w HostTake = passes_at w.host w.up
 passes_count w TermTake = composes_past w.term w.down
+
+-- such an event is no step
+abbrev pub FullCountsStop : Type 0
+FullCountsStop = (w : PlainWorld) (e : Event) → passes_count w e ≡ true → step_of w e ≡ None

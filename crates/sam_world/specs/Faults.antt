@@ -1,5 +1,5 @@
 -- Why a step of the world is not made.
-use Rattle.std.specs.Prelude.{◌≡◌, ◌⊎◌, ◌<◌, ℕ, Bool, true, false, List, length, take, slice_get, Option, Some, None, IfSome}
+use Rattle.std.specs.Prelude.{◌≡◌, ◌⊎◌, ◌<◌, ℕ, true, false, List, length, take, slice_get, Some, IfSome, MatchOption}
 use Rattle.sam_host.specs.declared.fault.HostFault.{HostFault}
 use Rattle.sam_host.specs.declared.fault.HostFault.TheVariants as host
 use Rattle.sam_term.specs.declared.fault.TermFault.{TermFault}
@@ -38,9 +38,19 @@ pub record Advances (w v : PlainWorld) : Type 0 where
   pub next : next_event w ≡ Some event
   pub stepped : step_of w event ≡ Some v
 
+-- the event that applies in w met the fault; where none applies, only memory can be wanted
+abbrev pub IsNextFault : PlainWorld → StepFault → Type 0
+IsNextFault w why = MatchOption (next_event w) (why ≡ OutOfMemory) (λ e. IsFaultOf w e why)
+
 -- the first events of the rule, fewer than n, lead from w to v, and the next one met the fault
 pub record IsDrainedUpTo (n : ℕ) (w v : PlainWorld) (why : StepFault) : Type 0 where
   pub done : ℕ
   pub fewer : done < n
-  pub leads : v ≡ drained done w
-  pub fault : IfSome (next_event v) (λ e. IsFaultOf v e why)
+  pub leads : drained done w ≡ Some v
+  pub fault : IsNextFault v why
+
+-- n events, each a step, lead from w to v
+pub record HasMade (n : ℕ) (w v : PlainWorld) : Type 0 where
+  pub events : List Event
+  pub many : length events ≡ n
+  pub leads : run_of w events ≡ Some v

@@ -1,14 +1,15 @@
 -- What an answer of the host frees and tells.
-use Rattle.std.specs.Prelude.{◌≡◌, ℕ, Bool, true, if◌then◌else◌, ◌==◌, List, [], ◌∷◌, ◌++◌, None, MatchOption}
+use Rattle.std.specs.Prelude.{◌≡◌, ℕ, Bool, true, if◌then◌else◌, ◌==◌, List, [], ◌∷◌, ◌++◌, None, Ok, MatchOption}
 use Rattle.sam_runes.specs.Checks.{first_of_checks}
 use Rattle.sam_runes.specs.Texts.{ins, del}
 use Rattle.sam_text.specs.Files.{PlainFiles, AreFit, file_at, has_file}
-use Rattle.sam_host.specs.Host.{PlainHost, Reply, host_checks, reply_to}
+use Rattle.sam_host.specs.Host.{PlainHost, Reply, answer, host_checks, new_host, reply_to, with_given}
 use Rattle.sam_term.specs.declared.lock.Lock.{Lock}
 use Rattle.sam_term.specs.declared.lock.Lock.TheVariants.{NoLock}
 use Rattle.sam_term.specs.Locks.{lock_of, freed_by, one_lock, all_freed}
 use Rattle.sam_term.specs.Effect.{Tells}
 use Rattle.sam_mesg.specs.declared.hmesg.Hmesg.{Hmesg}
+use Rattle.sam_mesg.specs.declared.hmesg.HFrame.{HFrame}
 use Rattle.sam_mesg.specs.declared.tmesg.Tmesg.{Tmesg}
 use Rattle.sam_mesg.specs.declared.tmesg.Tmesg.TheVariants.{Trequest, Ttype, Tcut}
 
@@ -30,6 +31,17 @@ own_edit _ f t = t
 -- the work file, where there is one, is open
 abbrev pub IsWorkOpen : PlainFiles → Type 0
 IsWorkOpen fs = MatchOption fs.work (Unit {0}) (λ g. (file_at fs g).opened ≡ true)
+
+-- so it is at the start, and each file that is added and each answer keep it so
+abbrev pub StartsWithWorkOpen : Type 0
+StartsWithWorkOpen = (given : List (List ℕ × List ℕ)) → IsWorkOpen (new_host given).files
+
+abbrev pub AddedFilesKeepWorkOpen : Type 0
+AddedFilesKeepWorkOpen = (h : PlainHost) (given : List ℕ × List ℕ) → IsWorkOpen h.files → IsWorkOpen (with_given h given).files
+
+abbrev pub AnswersKeepWorkOpen : Type 0
+AnswersKeepWorkOpen =
+    (h g : PlainHost) (m : Tmesg) (frames : List HFrame) → answer h m ≡ Ok (g, frames) → IsWorkOpen h.files → IsWorkOpen g.files
 
 -- the frames of an answer free just the lock that composing its message took
 abbrev pub AnswersFree : Type 0

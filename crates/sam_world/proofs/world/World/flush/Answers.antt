@@ -1,4 +1,4 @@
-use Rattle.std.proofs.Common.{◌≡◌, ap, ◌∙◌, ◌++◌}
+use Rattle.std.proofs.Common.{ap, ◌∙◌, ◌++◌}
 use Rattle.sam_world.specs.World.{PlainWorld}
 use Rattle.sam_world.proofs.Keeping.{kept_flush}
 use Rattle.sam_world.proofs.Stopping.{flush_stops}

@@ -1,4 +1,4 @@
-use Rattle.std.proofs.Common.{◌≡◌, sym, ◌∙◌, subst}
+use Rattle.std.proofs.Common.{sym, ◌∙◌, subst}
 use Rattle.sam_world.specs.Reached.{WasReached}
 use Rattle.sam_world.proofs.Stopping.{settled_of, version_of}
 use Rattle.sam_world.proofs.world.World.quiet.Goals as goal

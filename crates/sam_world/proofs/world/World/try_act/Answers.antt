@@ -1,8 +1,7 @@
-use Rattle.std.proofs.Common.{◌≡◌, ap, ◌∙◌, ◌++◌, Ok}
+use Rattle.std.proofs.Common.{ap, ◌∙◌, ◌++◌, Ok}
 use Rattle.sam_world.specs.World.{PlainWorld, composed_by}
 use Rattle.sam_world.proofs.Keeping.{kept_done, kept_silent}
-use Rattle.sam_term.specs.Term.{act_of}
-use Rattle.sam_world.proofs.ActLaws.{idle_still, locked_still}
+use Rattle.sam_term.proofs.ActLaws.{idle_still, locked_still}
 use Rattle.sam_world.proofs.Stopping.{act_stops}
 use Rattle.sam_world.proofs.world.World.try_act.Goals as goal
 

@@ -1,4 +1,3 @@
-use Rattle.std.proofs.Common.{◌≡◌}
 use Rattle.sam_world.specs.World.{PlainWorld}
 use Rattle.sam_world.proofs.Keeping.{kept_user}
 use Rattle.sam_world.proofs.world.World.user.Goals as goal

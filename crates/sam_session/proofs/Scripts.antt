@@ -1,0 +1,97 @@
+-- What comes of an input that is read as a script.
+use Rattle.std.proofs.Common.{◌≡◌, ◌⊎◌, inl, inr, refl, sym, subst, ℕ, ◌≤◌, List, length, Option, Some, None, IfSome, Result, Ok, Err, OnOk, IfOk, IfErr}
+use Rattle.std.specs.Global.{Vec}
+use Rattle.std.specs.Result.{IsOkAnd}
+use Rattle.std.specs.Io.KnownBytes.{Appends}
+use Rattle.sam_script.specs.Script.{PlainScript}
+use Rattle.sam_script.specs.Spelling.{Spells, IsReadFault}
+use Rattle.sam_script.specs.Replay.{replayed, IsStopOf}
+use Rattle.sam_script.specs.declared.fault.ScriptFault.{ScriptFault}
+use Rattle.sam_script.specs.declared.fault.ScriptFault.TheVariants as fault
+use Rattle.sam_session.specs.Outcome.{Written}
+use Rattle.sam_session.specs.Replaying.{of_script, IsUnread, IsReplay, IsReplayFault}
+use Rattle.sam_session.specs.Status.{fault_line, IsTold}
+use Rattle.sam_session.specs.declared.fault.PlayFault.{PlayFault}
+use Rattle.sam_session.specs.declared.fault.PlayFault.TheVariants.{Script, Read, Write, Side, Threads, OutOfMemory}
+
+-- ---- the input
+
+known : (input : Option (List ℕ)) (bytes : List ℕ) (P : List ℕ → Type 0) → IfSome input (λ i. bytes ≡ i) → P bytes → IfSome input P
+known None bytes P is p = tt
+known (Some i) bytes P is p = subst P is p
+
+pub weaker : (input : Option (List ℕ)) (P Q : List ℕ → Type 0) → ((i : List ℕ) → P i → Q i) → IfSome input P → IfSome input Q
+weaker None P Q f p = tt
+weaker (Some i) P Q f p = f i p
+
+pub script_read : (input : Option (List ℕ)) (bytes : List ℕ) (script : PlainScript) → IfSome input (λ i. bytes ≡ i) → length bytes ≤ 16777216 → Spells bytes script
+    → IfSome input (λ i. (length i ≤ 16777216) × Spells i script)
+script_read input bytes script is short spelled = known input bytes (λ i. (length i ≤ 16777216) × Spells i script) is (short, spelled)
+
+unread : (bytes : List ℕ) (why : ScriptFault) → length bytes ≤ 16777216 → IsReadFault bytes why → IsUnread bytes (of_script why)
+unread bytes (fault.Line line) short wrong = (short, wrong)
+unread bytes fault.CountFull short wrong = absurd wrong
+unread bytes fault.OutOfMemory short wrong = tt
+
+pub script_wrong : (input : Option (List ℕ)) (bytes : List ℕ) (why : ScriptFault) → IfSome input (λ i. bytes ≡ i) → length bytes ≤ 16777216 → IsReadFault bytes why
+    → IfSome input (λ i. IsUnread i (of_script why))
+script_wrong input bytes why is short wrong = known input bytes (λ i. IsUnread i (of_script why)) is (unread bytes why short wrong)
+
+pub input_failed : (input : Option (List ℕ)) (e : PlayFault) → (e ≡ Read) ⊎ (e ≡ OutOfMemory) → IfSome input (λ i. IsUnread i e)
+input_failed None e h = tt
+input_failed (Some i) e (inl h) = subst (λ (f : PlayFault). IsUnread i f) (sym h) tt
+input_failed (Some i) e (inr h) = subst (λ (f : PlayFault). IsUnread i f) (sym h) tt
+
+-- ---- a replay
+
+pub replay_shown : (input : Option (List ℕ)) (script : PlainScript) (out : List ℕ) → IfSome input (λ i. (length i ≤ 16777216) × Spells i script) → replayed script ≡ Ok out
+    → IfSome input (λ i. IsReplay i out)
+replay_shown input script out read ran =
+    weaker input (λ i. (length i ≤ 16777216) × Spells i script) (λ i. IsReplay i out) (λ i r. (script, r.0, r.1, ran)) read
+
+stopped : (script : PlainScript) (why : ScriptFault) (i : List ℕ) → (length i ≤ 16777216) × Spells i script → IsStopOf (replayed script) why → IsReplayFault i (of_script why)
+stopped script (fault.Line line) i r stop = inr (script, r.0, r.1, stop)
+stopped script fault.CountFull i r stop = (refl, (script, r.0, r.1, stop))
+stopped script fault.OutOfMemory i r stop = tt
+
+pub replay_stopped : (input : Option (List ℕ)) (script : PlainScript) (why : ScriptFault) → IfSome input (λ i. (length i ≤ 16777216) × Spells i script) → IsStopOf (replayed script) why
+    → IfSome input (λ i. IsReplayFault i (of_script why))
+replay_stopped input script why read stop =
+    weaker input (λ i. (length i ≤ 16777216) × Spells i script) (λ i. IsReplayFault i (of_script why)) (λ i r. stopped script why i r stop) read
+
+unread_first : (i : List ℕ) (e : PlayFault) → IsUnread i e → IsReplayFault i e
+unread_first i (Script line) wrong = inl wrong
+unread_first i (Side stop) wrong = absurd wrong
+unread_first i Threads wrong = absurd wrong
+unread_first i Write wrong = absurd wrong
+unread_first i Read wrong = tt
+unread_first i OutOfMemory wrong = tt
+
+pub replay_unread : (input : Option (List ℕ)) (e : PlayFault) → IfSome input (λ i. IsUnread i e) → IfSome input (λ i. IsReplayFault i e)
+replay_unread input e read = weaker input (λ i. IsUnread i e) (λ i. IsReplayFault i e) (λ i. unread_first i e) read
+
+-- ---- what is written
+
+pub told : (before after : Option (List ℕ)) (e : PlayFault) → Appends before after (fault_line e) → IsTold before after e
+told before after (Script line) wrote = wrote
+told before after (Side stop) wrote = wrote
+told before after Threads wrote = wrote
+told before after OutOfMemory wrote = wrote
+told before after Read wrote = wrote
+told before after Write wrote = tt
+
+-- the lines that came of an input were written
+pub written : {A : Type 0} (input before after : Option (List ℕ)) (P : List ℕ → List ℕ → Type 0) (lines : Result (Vec ℕ) PlayFault) (result : Result A PlayFault)
+    → IfOk lines (λ l. IfSome input (λ i. P i l.items)) → OnOk result (IsOkAnd lines (λ l. Appends before after l.items)) → OnOk result (Written input before after P)
+written input before after P lines (Err e) came wrote = tt
+written None before after P lines (Ok done) came wrote = tt
+written (Some i) before after P (Ok lines) (Ok done) came wrote = (lines.items, wrote, came)
+written (Some i) before after P (Err why) (Ok done) came wrote = absurd wrote
+
+-- a fault that came of an input is the answer, or a write failed
+pub faulted : {A : Type 0} (input : Option (List ℕ)) (Q : List ℕ → PlayFault → Type 0) (lines : Result (Vec ℕ) PlayFault) (result : Result A PlayFault) → ((i : List ℕ) → Q i Write)
+    → IfErr lines (λ why. IfSome input (λ i. Q i why)) → IfErr result (λ e. (e ≡ Write) ⊎ (lines ≡ Err e)) → IfErr result (λ e. IfSome input (λ i. Q i e))
+faulted input Q lines (Ok done) unwritten came h = tt
+faulted None Q lines (Err e) unwritten came h = tt
+faulted (Some i) Q lines (Err e) unwritten came (inl h) = subst (λ (f : PlayFault). Q i f) (sym h) (unwritten i)
+faulted (Some i) Q lines (Err e) unwritten came (inr h) = subst (λ (r : Result (Vec ℕ) PlayFault). IfErr r (λ why. Q i why)) h came

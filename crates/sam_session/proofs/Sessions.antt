@@ -1,0 +1,226 @@
+-- What a session of five threads comes to.
+use Rattle.std.proofs.Common.{◌≡◌, ◌≢◌, ◌∙◌, ◌⊎◌, inl, inr, ⊎_elim, refl, sym, ap, subst, arith, ℕ, ◌<◌, ◌≤◌, true, false, eqb, List, [], ◌∷◌, ◌++◌, length, map, Option, Some, None, IfSome}
+use Rattle.std.proofs.lemmas.Bool.Decides.{eqb_tells}
+use Rattle.std.proofs.lemmas.List.{append-nil}
+use Rattle.std.proofs.lemmas.List.Concat.{flat_map-cons}
+use Rattle.sam_mesg.specs.declared.hmesg.HFrame.{HFrame}
+use Rattle.sam_term.specs.Term.{PlainTerminal}
+use Rattle.sam_term.specs.declared.event.UserEvent.{UserEvent}
+use Rattle.sam_term.specs.declared.event.UserEvent.TheVariants.{Exit}
+use Rattle.sam_world.specs.Logs.{users}
+use Rattle.sam_world.specs.Sides.{Each}
+use Rattle.sam_script.specs.RunLines.{run_lines_of}
+use Rattle.sam_script.specs.Script.{PlainScript, keys_of, mouse_of}
+use Rattle.sam_script.specs.Show.{show_lines}
+use Rattle.sam_script.specs.Spelling.{Spells}
+use Rattle.sam_queue.specs.declared.port.Entry.{Entry}
+use Rattle.sam_queue.specs.History.{items_of}
+use Rattle.sam_queue.specs.Views.{LineView, PostView}
+use Rattle.sam_threads.specs.Inputs.{users_in, user_of_load}
+use Rattle.sam_running.specs.Session.{IsSession}
+use Rattle.sam_running.specs.Settled.{stop_of, stops_of}
+use Rattle.sam_threads.specs.Told.{IsOwnExit}
+use Rattle.sam_threads.specs.declared.ends.Ends.{Ends}
+use Rattle.sam_threads.specs.declared.input.Input.{Input}
+use Rattle.sam_threads.specs.declared.input.Input.TheVariants.{User, Host}
+use Rattle.sam_running.specs.declared.settled.Settled.{Settled}
+use Rattle.sam_threads.specs.declared.stop.Stop.{Stop}
+use Rattle.sam_threads.specs.declared.stop.Stop.TheVariants as stop
+use Rattle.sam_running.proofs.SettlingLists.{loaded, items_mine, items_other, nothing_joined, split_map, parts_of, senders_within}
+use Rattle.sam_session.specs.Replaying.{IsUnread}
+use Rattle.sam_session.specs.Threading.{first_cause, of_cause, of_stops, IsWoven, HasAllUsers, PrintsSession, IsThreaded, IsSessionFault, IsThreadsFault}
+use Rattle.sam_session.specs.declared.fault.PlayFault.{PlayFault}
+use Rattle.sam_session.specs.declared.fault.PlayFault.TheVariants.{Script, Read, Write, Side, Threads, OutOfMemory}
+use Rattle.sam_session.proofs.Scripts.{weaker}
+
+-- ---- the events of keyboard and mouse are woven
+
+-- an entry of the keyboard, of the mouse, and of the host reader, in front of others
+keyed : (o : Option Input) (rest : List Input) (keys clicks events : List UserEvent) → loaded o ++ rest ≡ map User keys
+    → ((more : List UserEvent) → rest ≡ map User more → IsWoven more clicks events) → IsWoven keys clicks (user_of_load o ++ events)
+keyed None rest keys clicks events is then = then keys is
+keyed (Some (Host frame)) rest [] clicks events is then = absurd (cc)
+keyed (Some (Host frame)) rest (a ∷ keys) clicks events is then = let h : Host frame ≡ User a = cc in absurd (cc)
+keyed (Some (User event)) rest [] clicks events is then = absurd (cc)
+keyed (Some (User event)) rest (a ∷ keys) clicks events is then =
+    let h : User event ≡ User a = cc in
+    let same : a ≡ event = cc in
+    let tail : rest ≡ map User keys = cc in
+    inl (keys, ap (λ x. x ∷ keys) same, then keys tail)
+
+clicked : (o : Option Input) (rest : List Input) (keys clicks events : List UserEvent) → loaded o ++ rest ≡ map User clicks
+    → ((more : List UserEvent) → rest ≡ map User more → IsWoven keys more events) → IsWoven keys clicks (user_of_load o ++ events)
+clicked None rest keys clicks events is then = then clicks is
+clicked (Some (Host frame)) rest keys [] events is then = absurd (cc)
+clicked (Some (Host frame)) rest keys (a ∷ clicks) events is then = let h : Host frame ≡ User a = cc in absurd (cc)
+clicked (Some (User event)) rest keys [] events is then = absurd (cc)
+clicked (Some (User event)) rest keys (a ∷ clicks) events is then =
+    let h : User event ≡ User a = cc in
+    let same : a ≡ event = cc in
+    let tail : rest ≡ map User clicks = cc in
+    inr (clicks, ap (λ x. x ∷ clicks) same, then clicks tail)
+
+framed : (o : Option Input) (rest : List Input) (frames : List HFrame) (keys clicks events : List UserEvent) → loaded o ++ rest ≡ map Host frames
+    → ((more : List HFrame) → rest ≡ map Host more → IsWoven keys clicks events) → IsWoven keys clicks (user_of_load o ++ events)
+framed None rest frames keys clicks events is then = then frames is
+framed (Some (User event)) rest [] keys clicks events is then = absurd (cc)
+framed (Some (User event)) rest (a ∷ frames) keys clicks events is then = let h : User event ≡ Host a = cc in absurd (cc)
+framed (Some (Host frame)) rest [] keys clicks events is then = absurd (cc)
+framed (Some (Host frame)) rest (a ∷ frames) keys clicks events is then = let tail : rest ≡ map Host frames = cc in then frames tail
+
+unmapped : {A B : Type 0} (f : A → B) (xs : List A) → [] ≡ map f xs → xs ≡ []
+unmapped f [] e = refl
+unmapped f (x ∷ xs) e = absurd (cc)
+
+-- keyboard and mouse put events and the host reader frames: the user's events among what was taken are those of both, woven
+woven : (entries : List (Entry Input)) (keys clicks : List UserEvent) (frames : List HFrame) → Each (λ e. e.sender < 3) entries
+    → items_of 0 entries ≡ map User keys → items_of 1 entries ≡ map User clicks → items_of 2 entries ≡ map Host frames → IsWoven keys clicks (users_in entries)
+woven [] keys clicks frames within k c f = (unmapped User keys k, unmapped User clicks c)
+woven (e ∷ entries) keys clicks frames within k c f =
+    subst (λ l. IsWoven keys clicks l) (sym (flat_map-cons (λ (x : Entry Input). user_of_load x.load) e entries))
+    (⊎_elim
+    (λ (t : (eqb e.sender 0 ≡ true) × (e.sender ≡ 0)).
+    let is = t.1 in
+    let one = sym (items_other 1 e entries (λ h. omega arith)) ∙ c in
+    let two = sym (items_other 2 e entries (λ h. omega arith)) ∙ f in
+    keyed e.load (items_of 0 entries) keys clicks (users_in entries) (sym (items_mine 0 e entries is) ∙ k)
+    (λ more rest. woven entries more clicks frames within.1 rest one two))
+    (λ (t : (eqb e.sender 0 ≡ false) × (e.sender ≢ 0)).
+    let none = sym (items_other 0 e entries t.1) ∙ k in
+    ⊎_elim
+    (λ (u : (eqb e.sender 1 ≡ true) × (e.sender ≡ 1)).
+    let is = u.1 in
+    let two = sym (items_other 2 e entries (λ h. omega arith)) ∙ f in
+    clicked e.load (items_of 1 entries) keys clicks (users_in entries) (sym (items_mine 1 e entries is) ∙ c)
+    (λ more rest. woven entries keys more frames within.1 none rest two))
+    (λ (u : (eqb e.sender 1 ≡ false) × (e.sender ≢ 1)).
+    let less = within.0 in
+    let not_zero = t.1 in
+    let not_one = u.1 in
+    let is : e.sender ≡ 2 = omega arith in
+    let one = sym (items_other 1 e entries u.1) ∙ c in
+    framed e.load (items_of 2 entries) frames keys clicks (users_in entries) (sym (items_mine 2 e entries is) ∙ f)
+    (λ more rest. woven entries keys clicks more within.1 none one rest))
+    (eqb_tells e.sender 1))
+    (eqb_tells e.sender 0))
+
+-- ---- a session that nothing stopped
+
+-- where there is no fault nothing stopped
+none_stopped : (stops : List Stop) → of_stops stops ≡ None → stops ≡ []
+none_stopped [] e = refl
+none_stopped (why ∷ stops) e = go (first_cause (why ∷ stops)) e
+  where
+    go : (o : Option Stop) → of_cause o (why ∷ stops) ≡ None → why ∷ stops ≡ []
+    go None q = absurd (cc)
+    go (Some cause) q = absurd (cc)
+
+no_stop : (o : Option Stop) → stop_of o ≡ [] → o ≡ None
+no_stop None e = refl
+no_stop (Some why) e = absurd (cc)
+
+-- neither keyboard nor mouse was stopped
+users_unstopped : (e : Ends) → stops_of e ≡ [] → (e.keyboard.stop ≡ None) × (e.mouse.stop ≡ None)
+users_unstopped e none =
+    let four = nothing_joined _ _ none in
+    let three = nothing_joined _ _ four.0 in
+    let two = nothing_joined _ _ three.0 in
+    let one = nothing_joined _ _ two.0 in
+    (no_stop e.keyboard.stop one.0, no_stop e.mouse.stop one.1)
+
+own_exit : (own : List UserEvent) (entries : List (Entry Input)) → IsOwnExit own entries → (own ≡ []) ⊎ (own ≡ Exit ∷ [])
+own_exit own entries (inl none) = inl none
+own_exit own entries (inr one) = inr one.0
+
+all_users : (script : PlainScript) (refuses : ℕ → Type 0) (s : Settled) → IsSession script refuses s → s.stops.items ≡ [] → HasAllUsers script s.schedule.items
+all_users script refuses s session none =
+    let e : Ends = session.ends in
+    let told = session.told in
+    let whole = session.whole none in
+    let unstopped = users_unstopped e (sym session.stops ∙ none) in
+    let posts : List (PostView Input) = e.keyboard.post ∷ e.mouse.post ∷ e.reader.post ∷ [] in
+    let reader = parts_of e.term.take posts session.headline.events 2 e.reader.post refl (omega arith) told.reader.number_is in
+    let frames = split_map Host (items_of 2 e.term.take.taken) reader.left told.reader.passed (reader.items ∙ told.reader.put) in
+    let many : e.term.take.line.senders ≡ 3 = ap (λ (l : LineView). l.senders) told.term.take_is ∙ told.lines_are.2 in
+    let within = subst (λ n. Each (λ (x : Entry Input). x.sender < n) e.term.take.taken) many (senders_within e.term.take posts session.headline.events) in
+    let keys = session.drained.keyboard ∙ session.all_keys unstopped.0 in
+    let clicks = session.drained.mouse ∙ session.all_clicks unstopped.1 in (
+      users_in e.term.take.taken,
+      whole.events.0,
+      whole.events.1,
+      woven e.term.take.taken (keys_of script.lines) (mouse_of script.lines) frames.0 within keys clicks frames.2,
+      own_exit whole.events.0 e.term.take.taken whole.events.2,
+    )
+
+-- ---- what a session prints, and why it does not
+
+pub printed : (script : PlainScript) (refuses : ℕ → Type 0) (s : Settled) (lines : List ℕ) → IsSession script refuses s → of_stops s.stops.items ≡ None
+    → lines ≡ run_lines_of script.files s.schedule.items ++ show_lines s.world → PrintsSession lines script
+printed script refuses s lines session unstopped is =
+    let none = none_stopped s.stops.items unstopped in
+    let whole = session.whole none in (
+      s.schedule.items,
+      s.world,
+      is,
+      record {
+        run = session.run;
+        users = all_users script refuses s session none;
+        exited = sym (ap (λ (t : PlainTerminal). t.has_exited) session.states.1) ∙ whole.exited;
+        settled = session.headline.quiet s.schedule.items [] s.world (sym (append-nil s.schedule.items)) session.headline.run whole.quiet;
+      },
+    )
+
+-- stops are never the fault of a script or a device
+of_cause_is : (cause : Option Stop) (stops : List Stop) (e : PlayFault) → of_cause cause stops ≡ Some e → (P : PlayFault → Type 0) → ((why : Stop) → P (Side why)) → P Threads → P OutOfMemory → P e
+of_cause_is None [] e is P side threads memory = absurd (cc)
+of_cause_is None (why ∷ stops) e is P side threads memory = let same : Side stop.PeerGone ≡ e = cc in subst P same (side stop.PeerGone)
+of_cause_is (Some (stop.Frame n)) stops e is P side threads memory = let same : Side (stop.Frame n) ≡ e = cc in subst P same (side (stop.Frame n))
+of_cause_is (Some (stop.Host n)) stops e is P side threads memory = let same : Side (stop.Host n) ≡ e = cc in subst P same (side (stop.Host n))
+of_cause_is (Some (stop.Term n)) stops e is P side threads memory = let same : Side (stop.Term n) ≡ e = cc in subst P same (side (stop.Term n))
+of_cause_is (Some stop.PeerGone) stops e is P side threads memory = let same : Side stop.PeerGone ≡ e = cc in subst P same (side stop.PeerGone)
+of_cause_is (Some stop.Gate) stops e is P side threads memory = let same : Threads ≡ e = cc in subst P same threads
+of_cause_is (Some stop.Memory) stops e is P side threads memory = let same : OutOfMemory ≡ e = cc in subst P same memory
+
+pub not_run : (script : PlainScript) (e : PlayFault) → (e ≡ Threads) ⊎ (e ≡ OutOfMemory) → IsSessionFault script e
+not_run script e (inl is) = subst (IsSessionFault script) (sym is) tt
+not_run script e (inr is) = subst (IsSessionFault script) (sym is) tt
+
+stopped : (script : PlainScript) (s : Settled) (e : PlayFault) → IsSession script (λ _. ⊥) s → of_stops s.stops.items ≡ Some e → IsSessionFault script e
+stopped script s e session is =
+    of_cause_is (first_cause s.stops.items) s.stops.items e is (λ f. of_stops s.stops.items ≡ Some f → IsSessionFault script f) (λ why same. (s, same, session)) (λ same. tt) (λ same. tt) is
+
+pub not_printed : (script : PlainScript) (s : Settled) (e : PlayFault) → IsSession script (λ _. ⊥) s → (e ≡ OutOfMemory) ⊎ (of_stops s.stops.items ≡ Some e)
+    → IsSessionFault script e
+not_printed script s e session (inl is) = subst (IsSessionFault script) (sym is) tt
+not_printed script s e session (inr is) = stopped script s e session is
+
+-- ---- the session of an input
+
+pub session_shown : (input : Option (List ℕ)) (script : PlainScript) (lines : List ℕ) → IfSome input (λ i. (length i ≤ 16777216) × Spells i script) → PrintsSession lines script
+    → IfSome input (λ i. IsThreaded i lines)
+session_shown input script lines read prints =
+    weaker input (λ i. (length i ≤ 16777216) × Spells i script) (λ i. IsThreaded i lines) (λ i r. (script, r.0, r.1, prints)) read
+
+of_session : (script : PlainScript) (i : List ℕ) (e : PlayFault) → (length i ≤ 16777216) × Spells i script → IsSessionFault script e → IsThreadsFault i e
+of_session script i (Script line) r stop = absurd stop
+of_session script i (Side why) r stop = (script, r.0, r.1, stop)
+of_session script i Threads r stop = (script, r.0, r.1, tt)
+of_session script i Read r stop = absurd stop
+of_session script i Write r stop = absurd stop
+of_session script i OutOfMemory r stop = tt
+
+pub session_stops : (input : Option (List ℕ)) (script : PlainScript) (e : PlayFault) → IfSome input (λ i. (length i ≤ 16777216) × Spells i script) → IsSessionFault script e
+    → IfSome input (λ i. IsThreadsFault i e)
+session_stops input script e read stop =
+    weaker input (λ i. (length i ≤ 16777216) × Spells i script) (λ i. IsThreadsFault i e) (λ i r. of_session script i e r stop) read
+
+unread_first : (i : List ℕ) (e : PlayFault) → IsUnread i e → IsThreadsFault i e
+unread_first i (Script line) wrong = wrong
+unread_first i (Side why) wrong = absurd wrong
+unread_first i Threads wrong = absurd wrong
+unread_first i Write wrong = absurd wrong
+unread_first i Read wrong = tt
+unread_first i OutOfMemory wrong = tt
+
+pub no_session : (input : Option (List ℕ)) (e : PlayFault) → IfSome input (λ i. IsUnread i e) → IfSome input (λ i. IsThreadsFault i e)
+no_session input e read = weaker input (λ i. IsUnread i e) (λ i. IsThreadsFault i e) (λ i. unread_first i e) read

@@ -1,6 +1,0 @@
-use Rattle.std.proofs.Common.{◌≡◌}
-use Rattle.sam_world.specs.World.{drained}
-use Rattle.sam_world.proofs.world.World.drain.Given as goal
-
-abbrev pub invariant-loop-event : goal.invariant-loop-event
-invariant-loop-event l = drained l._event l.initial.self ≡ l.self
