@@ -1,11 +1,11 @@
 -- A host that is made from names and texts, a file further.
-use Rattle.std.proofs.Common.{◌≡◌, ℕ, ◌≤◌, List, [], ◌∷◌, ◌++◌, length, Some, refl, sym, ap, ◌∙◌, subst, append_assoc}
+use Rattle.std.proofs.Common.{◌≡◌, ℕ, ◌≤◌, List, [], ◌∷◌, ◌++◌, length, Option, Some, refl, sym, ap, ◌∙◌, subst, append_assoc}
 use Rattle.std.specs.Prelude.{reverse}
 use Rattle.std.proofs.lemmas.List.{reverse-append}
 use Rattle.sam_runes.specs.Texts.{RoomyText}
 use Rattle.sam_runes.specs.Slots.{Slots, put_slot}
-use Rattle.sam_text.specs.Files.{PlainFile}
-use Rattle.sam_host.specs.Host.{given_file, given_slots}
+use Rattle.sam_text.specs.Files.{PlainFile, blank_file}
+use Rattle.sam_host.specs.Host.{PlainHost, given_file, given_slots, command_name, new_host, with_given}
 use Rattle.sam_host.specs.Given.{AreNames, given_of}
 
 abbrev pub Given : Type 0
@@ -37,3 +37,15 @@ reverse-twice (g ∷ gs) = ap reverse (reverse-cons g gs) ∙ (reverse-append (r
 
 pub twice : (given turned : List Given) → turned ≡ reverse given → reverse turned ≡ given
 twice given turned e = ap reverse e ∙ reverse-twice given
+
+-- a host that is made and then given one more file is as if it had been made with that file too
+pub adds_given : (given : List (List ℕ × List ℕ)) (more : List ℕ × List ℕ) → with_given (new_host given) more ≡ new_host (given ++ more ∷ [])
+adds_given given more =
+    let command : Option PlainFile = Some (record blank_file { name = command_name }) in
+    let host : PlainHost = new_host given in
+    ap (λ (ss : Slots PlainFile). record host { files = record host.files { slots = ss } })
+    (put-end (command ∷ given_slots given) (given_file more) ∙ ap (λ ss. command ∷ ss) (sym (behind given)))
+  where
+    behind : (given : List (List ℕ × List ℕ)) → given_slots (given ++ more ∷ []) ≡ given_slots given ++ Some (given_file more) ∷ []
+    behind [] = refl
+    behind (g ∷ gs) = ap (λ ss. Some (given_file g) ∷ ss) (behind gs)

@@ -1,5 +1,5 @@
 -- What holds of the host in every state, and of the frames of every answer.
-use Rattle.std.specs.Prelude.{◌≡◌, ℕ, ◌+◌, ◌≤◌, ◌⊎◌, ◌==◌, if◌then◌else◌, List, [], ◌∷◌, length, true, false, All, Ok}
+use Rattle.std.specs.Prelude.{◌≡◌, ℕ, ◌+◌, ◌≤◌, ◌⊎◌, ◌==◌, if◌then◌else◌, List, [], ◌∷◌, ◌++◌, length, true, false, All, Ok}
 use Rattle.sam_runes.specs.Texts.{common_version, most_count, max_runes}
 use Rattle.sam_text.specs.Files.{PlainFiles, file_at, AreFit}
 use Rattle.sam_mesg.specs.HostKinds.{fits_h}
@@ -7,7 +7,7 @@ use Rattle.sam_mesg.specs.declared.tmesg.Tmesg.{Tmesg}
 use Rattle.sam_mesg.specs.declared.hmesg.Hmesg.{Hmesg}
 use Rattle.sam_mesg.specs.declared.hmesg.Hmesg.TheVariants.{Hversion}
 use Rattle.sam_mesg.specs.declared.hmesg.HFrame.{HFrame}
-use Rattle.sam_host.specs.Host.{PlainHost, answer, counted, new_host}
+use Rattle.sam_host.specs.Host.{PlainHost, answer, counted, new_host, with_given}
 
 -- every name fits in a message
 abbrev pub AreNamesShort : PlainFiles → Type 0
@@ -35,6 +35,9 @@ AreGiven [] = Unit {0}
 AreGiven (given ∷ more) = (length given.0 ≤ 64) × (length given.1 ≤ max_runes) × AreGiven more
 
 -- ## The laws
+
+abbrev pub AddsGiven : Type 0
+AddsGiven = (given : List (List ℕ × List ℕ)) (more : List ℕ × List ℕ) → with_given (new_host given) more ≡ new_host (given ++ more ∷ [])
 
 abbrev pub StartsSound : Type 0
 StartsSound = (given : List (List ℕ × List ℕ)) → AreGiven given → IsSound (new_host given)

@@ -1,7 +1,13 @@
 //! Laws of what the host answers, for readers and for the crates above. They speak of the definition `answer`, which `Host::handle`
 //! computes.
 
-ghost use Rattle.sam_host.specs.Laws.{StartsSound, StaysSound, FramesFit, AnswersAreCounted, IsSilentWhereDone};
+ghost use Rattle.sam_host.specs.Laws.{AddsGiven, StartsSound, StaysSound, FramesFit, AnswersAreCounted, IsSilentWhereDone};
+
+/// A host to which files are added one by one is the host that is made with all of them.
+#[tactic(auto, using(crate::proofs::GivenLaws::adds_given))]
+pub fn files_can_be_added()
+    ensures { AddsGiven }
+{}
 
 /// A host that is made with names and texts within their limits is sound: its texts and names are within their limits, each dot is a
 /// range of its text, and its version is 1.

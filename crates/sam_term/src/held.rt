@@ -1,6 +1,6 @@
 //! The events that wait until the terminal can do them.
 
-ghost use Rattle.std.specs.Prelude.{◌≡◌, ◌++◌, ◌∷◌, [], OnErr, OnOk, drop, option_copied, slice_get};
+ghost use Rattle.std.specs.Prelude.{◌≡◌, ◌++◌, ◌∷◌, [], OnErr, OnOk, drop, length, option_copied, slice_get};
 
 use crate::event::UserEvent;
 use std::alloc::{AllocError, Global};
@@ -30,6 +30,13 @@ impl HeldEvents {
         HeldEvents {
             events: VecDeque::new(alloc),
         }
+    }
+
+    /// How many there are.
+    pub fn len(&self) -> usize
+        ensures { result ≡ length self.now }
+    {
+        self.events.len()
     }
 
     /// Puts an event behind the others.

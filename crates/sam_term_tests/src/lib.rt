@@ -4,4 +4,6 @@
 #[cfg(test)]
 mod editing;
 #[cfg(test)]
+mod end;
+#[cfg(test)]
 mod terminal;

@@ -3,6 +3,8 @@
 #![tactic(auto)]
 
 #[cfg(test)]
+mod ends_host;
+#[cfg(test)]
 mod feeding;
 #[cfg(test)]
 mod host;

@@ -1,0 +1,109 @@
+//! What a call answers that did not do what it was asked.
+
+use std::fmt;
+
+/// Why a call did not do what it was asked. The faults of each family keep the numbers of include/sam.h.
+#[derive(Clone, Copy, Debug, PartialEq, Eq)]
+#[non_exhaustive]
+pub enum Error {
+    /// No memory, and what the call brought was not taken: make it again.
+    NoMemory,
+    /// No memory, and what the call brought was taken: the next call goes on with what waits; feeding no bytes is such a call.
+    Unfinished,
+    /// A stream of 2^64 bytes, or 2^64 events.
+    CountFull,
+    /// Bytes that are not UTF-8.
+    NotText,
+    /// A host that was fed takes no more files.
+    Begun,
+    /// A name above 64 runes, or a text above 1,000,000.
+    TooLong,
+    /// All 65,536 tags were given.
+    NoTag,
+    /// The other side's stream is wrong, and this side has stopped: a wrong kind (1), length (2) or text (3).
+    Stream(u32),
+    /// The host refused a message, and has stopped.
+    HostRefused(u32),
+    /// The terminal refused a frame, and has stopped.
+    TermRefused(u32),
+    /// A status that this crate doesn't know.
+    Unknown(u32),
+}
+
+impl Error {
+    pub(crate) fn of(status: u32) -> Error {
+        match status {
+            1 => Error::NoMemory,
+            2 => Error::Unfinished,
+            3 => Error::CountFull,
+            6 => Error::NotText,
+            17 => Error::Begun,
+            19 => Error::TooLong,
+            20 => Error::NoTag,
+            33..=35 => Error::Stream(status - 32),
+            65..=72 => Error::HostRefused(status - 64),
+            97..=104 => Error::TermRefused(status - 96),
+            _ => Error::Unknown(status),
+        }
+    }
+}
+
+impl fmt::Display for Error {
+    fn fmt(&self, f: &mut fmt::Formatter<'_>) -> fmt::Result {
+        match self {
+            Error::NoMemory => f.write_str("out of memory: make the call again"),
+            Error::Unfinished => f.write_str("out of memory: the next call goes on"),
+            Error::CountFull => f.write_str("a count is full"),
+            Error::NotText => f.write_str("not UTF-8"),
+            Error::Begun => f.write_str("the host has been fed"),
+            Error::TooLong => f.write_str("too long"),
+            Error::NoTag => f.write_str("no tag is left"),
+            Error::Stream(why) => write!(f, "the stream is wrong (fault {why})"),
+            Error::HostRefused(why) => write!(f, "the host refused a message (fault {why})"),
+            Error::TermRefused(why) => write!(f, "the terminal refused a frame (fault {why})"),
+            Error::Unknown(status) => write!(f, "status {status}"),
+        }
+    }
+}
+
+impl std::error::Error for Error {}
+
+/// Why the terminal refused an event. It goes on.
+#[derive(Clone, Copy, Debug, PartialEq, Eq)]
+#[non_exhaustive]
+pub enum Refusal {
+    /// The session has ended.
+    Exited,
+    /// The terminal knows no file of this tag.
+    NoFile,
+    /// The file has no window.
+    NotOpen,
+    /// A place past the end, or a range whose end is before its start.
+    BadPosition,
+    /// The file would have more than 1,000,000 runes.
+    TooLong,
+    /// More than 512 runes typed, or a snarf buffer that is too long for a message.
+    TextTooLong,
+    /// The command file is never opened, closed or written so.
+    CommandFile,
+    /// There is no version 0.
+    BadVersion,
+    /// A number that this crate doesn't know.
+    Unknown(u32),
+}
+
+impl Refusal {
+    pub(crate) fn of(why: u32) -> Refusal {
+        match why {
+            129 => Refusal::Exited,
+            130 => Refusal::NoFile,
+            131 => Refusal::NotOpen,
+            132 => Refusal::BadPosition,
+            133 => Refusal::TooLong,
+            134 => Refusal::TextTooLong,
+            135 => Refusal::CommandFile,
+            136 => Refusal::BadVersion,
+            _ => Refusal::Unknown(why),
+        }
+    }
+}

@@ -1,0 +1,91 @@
+//! A proved host and a proved terminal for editors whose screen and text live apart, after Rob Pike's sam: safe Rust over
+//! `libsam.a`, which `./build_c` makes. `include/sam.h` and `docs/EMBEDDING.md` have the whole story.
+//!
+//! ```
+//! use sulgrevad::{Host, Terminal};
+//!
+//! let mut host = Host::new()?;
+//! let file = host.add_file("notes", "hello\n")?;
+//! let mut term = Terminal::new()?;
+//!
+//! // In an editor a pipe stands between the two.
+//! fn carry(term: &mut Terminal, host: &mut Host) -> Result<(), sulgrevad::Error> {
+//!     while term.pending() + host.pending() > 0 {
+//!         let up: Vec<u8> = term.out().flatten().collect();
+//!         host.feed(&up)?;
+//!         let down: Vec<u8> = host.out().flatten().collect();
+//!         term.feed(&down)?;
+//!     }
+//!     Ok(())
+//! }
+//!
+//! term.version(2)?; // asks for the names of the files, too
+//! carry(&mut term, &mut host)?;
+//! term.open(file)?;
+//! term.select(file, 5, 5)?; // waits until the file is open
+//! term.type_text(file, " world")?;
+//! carry(&mut term, &mut host)?;
+//! term.idle()?; // the user pauses: what was typed is sent
+//! carry(&mut term, &mut host)?;
+//! assert_eq!(host.text(file).as_deref(), Some("hello world\n"));
+//! # Ok::<(), sulgrevad::Error>(())
+//! ```
+
+mod error;
+mod host;
+mod raw;
+mod terminal;
+
+pub use error::{Error, Refusal};
+pub use host::Host;
+pub use terminal::Terminal;
+
+/// How many bytes one turn of `out` hands out at most.
+const PIECE: usize = 4096;
+
+const OK: u32 = 0;
+
+/// Whether a call did what it was asked.
+fn done(status: u32) -> Result<(), Error> {
+    match status {
+        OK => Ok(()),
+        status => Err(Error::of(status)),
+    }
+}
+
+/// What a reader hands out where it answers that it did: `None` where there is no such thing.
+fn told<T: Default>(read: impl FnOnce(&mut T) -> u32) -> Option<T> {
+    let mut value = T::default();
+    (read(&mut value) == OK).then_some(value)
+}
+
+/// What a reader always hands out of a handle that is made.
+fn tells<T: Default>(read: impl FnOnce(&mut T) -> u32) -> T {
+    told(read).expect("the handle is made")
+}
+
+/// A text that is read in pieces: `read` puts some of it into the buffer from a place on, and tells how many bytes and runes.
+fn whole_text(mut read: impl FnMut(u32, &mut [u8], &mut usize, &mut usize) -> u32) -> Option<String> {
+    let mut text = Vec::new();
+    let mut place = 0;
+    loop {
+        let mut piece = [0; PIECE];
+        let (mut bytes, mut runes) = (0, 0);
+        if read(place, &mut piece, &mut bytes, &mut runes) != OK {
+            return None;
+        }
+        if runes == 0 {
+            return Some(String::from_utf8(text).expect("the library writes UTF-8"));
+        }
+        text.extend_from_slice(&piece[..bytes]);
+        place += runes as u32;
+    }
+}
+
+/// A short text that fits in one buffer.
+fn short_text(read: impl FnOnce(&mut [u8], &mut usize) -> u32) -> Option<String> {
+    let mut piece = [0; PIECE];
+    let mut len = 0;
+    (read(&mut piece, &mut len) == OK)
+        .then(|| String::from_utf8(piece[..len].to_vec()).expect("the library writes UTF-8"))
+}

@@ -1,0 +1,308 @@
+//! The terminal: windows, keyboard and mouse over partly loaded texts.
+
+use crate::raw::{self, Handle};
+use crate::{Error, PIECE, Refusal, done, short_text, tells, told, whole_text};
+
+/// What `read` hands out for a rune that is not loaded.
+const GAP: u32 = u32::MAX;
+
+/// A terminal. It is dropped with what is pending.
+///
+/// Each event acts at once where it can, or is held until the locks that it waits for are free; each call also lets held events act. What is
+/// composed is then pending. Errors: `NoMemory`, `Unfinished`, `CountFull`, `Stream`, `TermRefused`. An event that is refused is no
+/// error: `refusals` tells it.
+pub struct Terminal {
+    handle: Box<Handle>,
+}
+
+// A handle shares nothing with another, and each call has it alone.
+unsafe impl Send for Terminal {}
+
+impl Terminal {
+    /// A terminal that knows no file. Its only error is `NoMemory`.
+    pub fn new() -> Result<Terminal, Error> {
+        let mut handle = Box::new(Handle::EMPTY);
+        done(unsafe { raw::sam_term_new(&mut *handle) })?;
+        Ok(Terminal { handle })
+    }
+
+    fn at(&self) -> *mut Handle {
+        (&raw const *self.handle).cast_mut()
+    }
+
+    /// Types a text, of at most 512 runes, in the place of the dot.
+    pub fn type_text(&mut self, tag: u16, text: &str) -> Result<(), Error> {
+        done(unsafe { raw::sam_term_type(&mut *self.handle, tag, text.as_ptr(), text.len()) })
+    }
+
+    /// Gives the host another snarf buffer.
+    pub fn set_snarf(&mut self, text: &str) -> Result<(), Error> {
+        done(unsafe { raw::sam_term_setsnarf(&mut *self.handle, text.as_ptr(), text.len()) })
+    }
+
+    /// Cuts the dot into the snarf buffer.
+    pub fn cut(&mut self, tag: u16) -> Result<(), Error> {
+        done(unsafe { raw::sam_term_cut(&mut *self.handle, tag) })
+    }
+
+    /// Puts the snarf buffer in the place of the dot.
+    pub fn paste(&mut self, tag: u16) -> Result<(), Error> {
+        done(unsafe { raw::sam_term_paste(&mut *self.handle, tag) })
+    }
+
+    /// Copies the dot into the snarf buffer.
+    pub fn snarf(&mut self, tag: u16) -> Result<(), Error> {
+        done(unsafe { raw::sam_term_snarf(&mut *self.handle, tag) })
+    }
+
+    /// Selects the next occurrence of the dot's text.
+    pub fn look(&mut self, tag: u16) -> Result<(), Error> {
+        done(unsafe { raw::sam_term_look(&mut *self.handle, tag) })
+    }
+
+    /// Selects the next occurrence of the pattern.
+    pub fn search(&mut self, tag: u16) -> Result<(), Error> {
+        done(unsafe { raw::sam_term_search(&mut *self.handle, tag) })
+    }
+
+    /// Runs the dot's text as a command line.
+    pub fn send(&mut self, tag: u16) -> Result<(), Error> {
+        done(unsafe { raw::sam_term_send(&mut *self.handle, tag) })
+    }
+
+    /// Opens a file.
+    pub fn open(&mut self, tag: u16) -> Result<(), Error> {
+        done(unsafe { raw::sam_term_open(&mut *self.handle, tag) })
+    }
+
+    /// Has the host write a file.
+    pub fn write(&mut self, tag: u16) -> Result<(), Error> {
+        done(unsafe { raw::sam_term_write(&mut *self.handle, tag) })
+    }
+
+    /// Closes a file.
+    pub fn close(&mut self, tag: u16) -> Result<(), Error> {
+        done(unsafe { raw::sam_term_close(&mut *self.handle, tag) })
+    }
+
+    /// Makes a file the one that command lines work on.
+    pub fn work(&mut self, tag: u16) -> Result<(), Error> {
+        done(unsafe { raw::sam_term_work(&mut *self.handle, tag) })
+    }
+
+    /// Asks for the first gap that the view shows.
+    pub fn check(&mut self, tag: u16) -> Result<(), Error> {
+        done(unsafe { raw::sam_term_check(&mut *self.handle, tag) })
+    }
+
+    /// Opens the command file, and asks for all names.
+    pub fn open_command_file(&mut self) -> Result<(), Error> {
+        done(unsafe { raw::sam_term_opencmd(&mut *self.handle) })
+    }
+
+    /// Makes an empty file, and opens it.
+    pub fn new_file(&mut self) -> Result<(), Error> {
+        done(unsafe { raw::sam_term_new_file(&mut *self.handle) })
+    }
+
+    /// Asks for the host's snarf buffer.
+    pub fn get_snarf(&mut self) -> Result<(), Error> {
+        done(unsafe { raw::sam_term_getsnarf(&mut *self.handle) })
+    }
+
+    /// Sends the typed runes, once the events before it acted.
+    pub fn flush(&mut self) -> Result<(), Error> {
+        done(unsafe { raw::sam_term_flush(&mut *self.handle) })
+    }
+
+    /// Ends the session.
+    pub fn exit(&mut self) -> Result<(), Error> {
+        done(unsafe { raw::sam_term_exit(&mut *self.handle) })
+    }
+
+    /// Sets the dot.
+    pub fn select(&mut self, tag: u16, start: u32, end: u32) -> Result<(), Error> {
+        done(unsafe { raw::sam_term_select(&mut *self.handle, tag, start, end) })
+    }
+
+    /// Selects the word round a place.
+    pub fn double_click(&mut self, tag: u16, place: u32) -> Result<(), Error> {
+        done(unsafe { raw::sam_term_dclick(&mut *self.handle, tag, place) })
+    }
+
+    /// Shows the file from so many lines further up.
+    pub fn scroll(&mut self, tag: u16, lines: u32) -> Result<(), Error> {
+        done(unsafe { raw::sam_term_scroll(&mut *self.handle, tag, lines) })
+    }
+
+    /// Shows the file from a place on.
+    pub fn view(&mut self, tag: u16, place: u32, len: u32) -> Result<(), Error> {
+        done(unsafe { raw::sam_term_view(&mut *self.handle, tag, place, len) })
+    }
+
+    /// Offers a version: 2 allows longer snarfed texts.
+    pub fn version(&mut self, version: u16) -> Result<(), Error> {
+        done(unsafe { raw::sam_term_version(&mut *self.handle, version) })
+    }
+
+    /// Takes bytes of the host's frames, in whatever pieces they come, and then lets held events act.
+    pub fn feed(&mut self, bytes: &[u8]) -> Result<(), Error> {
+        done(unsafe { raw::sam_term_feed(&mut *self.handle, bytes.as_ptr(), bytes.len()) })
+    }
+
+    /// Composes the typed runes that are not sent yet: to be called when the user pauses.
+    pub fn idle(&mut self) -> Result<(), Error> {
+        done(unsafe { raw::sam_term_idle(&mut *self.handle) })
+    }
+
+    /// How many bytes are pending.
+    pub fn pending(&self) -> usize {
+        tells(|len| unsafe { raw::sam_term_out_len(self.at(), len) })
+    }
+
+    /// Takes the pending bytes, in pieces.
+    pub fn out(&mut self) -> impl Iterator<Item = Vec<u8>> + '_ {
+        std::iter::from_fn(|| {
+            let mut piece = vec![0; PIECE.min(self.pending())];
+            let mut count = 0;
+            unsafe { raw::sam_term_out(&mut *self.handle, piece.as_mut_ptr(), piece.len(), &mut count) };
+            piece.truncate(count);
+            (count > 0).then_some(piece)
+        })
+    }
+
+    /// The events that were refused since this was asked last: which one, counted from 1 over all events, and why.
+    pub fn refusals(&mut self) -> impl Iterator<Item = (u64, Refusal)> + '_ {
+        std::iter::from_fn(|| {
+            let mut why = 0;
+            told(|event| unsafe { raw::sam_term_next_refusal(&mut *self.handle, event, &mut why) })
+                .map(|event| (event, Refusal::of(why)))
+        })
+    }
+
+    /// The runes of an open file from a place on, at most `most`: `None` for each that is not loaded. Nothing where it is not open.
+    pub fn read(&self, tag: u16, place: u32, most: usize) -> Vec<Option<char>> {
+        let mut runes = vec![0; most];
+        let mut count = 0;
+        unsafe { raw::sam_term_read(self.at(), tag, place, runes.as_mut_ptr(), most, &mut count) };
+        runes.truncate(count);
+        runes.into_iter().map(|rune| if rune == GAP { None } else { char::from_u32(rune) }).collect()
+    }
+
+    /// How many events were taken.
+    pub fn events(&self) -> u64 {
+        tells(|value| unsafe { raw::sam_term_events(self.at(), value) })
+    }
+
+    /// How many tags it has room for: each file that it knows has a tag below this.
+    pub fn tags(&self) -> usize {
+        tells(|value| unsafe { raw::sam_term_tags(self.at(), value) })
+    }
+
+    /// Whether it knows a file of this tag.
+    pub fn is_known(&self, tag: u16) -> bool {
+        tells(|value| unsafe { raw::sam_term_is_known(self.at(), tag, value) })
+    }
+
+    /// Whether a file is open.
+    pub fn is_open(&self, tag: u16) -> bool {
+        tells(|value| unsafe { raw::sam_term_is_open(self.at(), tag, value) })
+    }
+
+    /// Whether the command lock or a lock of this file is held: an edit of the file would wait.
+    pub fn is_locked(&self, tag: u16) -> bool {
+        tells(|value| unsafe { raw::sam_term_is_locked(self.at(), tag, value) })
+    }
+
+    /// Whether the command lock is held.
+    pub fn is_command_locked(&self) -> bool {
+        tells(|value| unsafe { raw::sam_term_is_command_locked(self.at(), value) })
+    }
+
+    /// How many events are held.
+    pub fn held(&self) -> usize {
+        tells(|value| unsafe { raw::sam_term_held(self.at(), value) })
+    }
+
+    /// How many typed runes are not sent yet.
+    pub fn unsent(&self) -> u32 {
+        tells(|value| unsafe { raw::sam_term_unsent(self.at(), value) })
+    }
+
+    /// How many messages were composed.
+    pub fn sent(&self) -> u64 {
+        tells(|value| unsafe { raw::sam_term_sent(self.at(), value) })
+    }
+
+    /// How many runes the host's snarf buffer has, as it told last.
+    pub fn snarf_len(&self) -> u32 {
+        tells(|value| unsafe { raw::sam_term_snarf_len(self.at(), value) })
+    }
+
+    /// Whether the host has ended the session.
+    pub fn has_exited(&self) -> bool {
+        tells(|value| unsafe { raw::sam_term_has_exited(self.at(), value) })
+    }
+
+    /// The version of the protocol that both sides speak: 1 or 2.
+    pub fn version_spoken(&self) -> u16 {
+        tells(|value| unsafe { raw::sam_term_version_of(self.at(), value) })
+    }
+
+    /// Whether a known file is dirty; `None` where the tag is not known.
+    pub fn is_dirty(&self, tag: u16) -> Option<bool> {
+        told(|value| unsafe { raw::sam_term_is_dirty(self.at(), tag, value) })
+    }
+
+    /// The file that the host made current last.
+    pub fn current(&self) -> Option<u16> {
+        told(|value| unsafe { raw::sam_term_current(self.at(), value) })
+    }
+
+    /// The length of an open file in runes, gaps counted; `None` where it is not open.
+    pub fn len(&self, tag: u16) -> Option<u32> {
+        told(|value| unsafe { raw::sam_term_len(self.at(), tag, value) })
+    }
+
+    /// The first place of an open file, at or behind `place`, whose rune is not loaded.
+    pub fn first_gap(&self, tag: u16, place: u32) -> Option<u32> {
+        told(|gap| unsafe { raw::sam_term_first_gap(self.at(), tag, place, gap) })
+    }
+
+    /// The dot of an open file.
+    pub fn dot(&self, tag: u16) -> Option<(u32, u32)> {
+        let mut end = 0;
+        told(|start| unsafe { raw::sam_term_dot(self.at(), tag, start, &mut end) }).map(|start| (start, end))
+    }
+
+    /// What an open file shows: the places where its view begins and ends.
+    pub fn view_of(&self, tag: u16) -> Option<(u32, u32)> {
+        let mut end = 0;
+        told(|start| unsafe { raw::sam_term_view_of(self.at(), tag, start, &mut end) }).map(|start| (start, end))
+    }
+
+    /// The name of a known file; `None` where the tag is not known.
+    pub fn name(&self, tag: u16) -> Option<String> {
+        short_text(|into, len| unsafe { raw::sam_term_name(self.at(), tag, into.as_mut_ptr(), into.len(), len) })
+    }
+
+    /// The pattern that the host told last.
+    pub fn pattern(&self) -> String {
+        short_text(|into, len| unsafe { raw::sam_term_pattern(self.at(), into.as_mut_ptr(), into.len(), len) })
+            .expect("the handle is made")
+    }
+
+    /// The snarfed text that the host sent last.
+    pub fn snarfed(&self) -> String {
+        whole_text(|place, into, bytes, runes| unsafe {
+            raw::sam_term_snarfed(self.at(), place, into.as_mut_ptr(), into.len(), bytes, runes)
+        })
+        .expect("the handle is made")
+    }
+}
+
+impl Drop for Terminal {
+    fn drop(&mut self) {
+        unsafe { raw::sam_term_free(&mut *self.handle) };
+    }
+}

@@ -1,0 +1,77 @@
+//! A session over the two ends: crossing edits wait, and both ends agree.
+
+use sulgrevad::{Error, Host, Refusal, Terminal};
+
+/// Carries bytes both ways, cut into pieces, until neither side has any.
+fn carry(term: &mut Terminal, host: &mut Host) -> Result<(), Error> {
+    while term.pending() + host.pending() > 0 {
+        for piece in term.out().flatten().collect::<Vec<u8>>().chunks(3) {
+            host.feed(piece)?;
+        }
+        for piece in host.out().flatten().collect::<Vec<u8>>().chunks(5) {
+            term.feed(piece)?;
+        }
+    }
+    Ok(())
+}
+
+fn opened(text: &str) -> Result<(Host, Terminal, u16), Error> {
+    let mut host = Host::new()?;
+    let file = host.add_file("notes", text)?;
+    let mut term = Terminal::new()?;
+    term.version(2)?;
+    carry(&mut term, &mut host)?;
+    term.open(file)?;
+    carry(&mut term, &mut host)?;
+    Ok((host, term, file))
+}
+
+#[test]
+fn an_edit_that_would_cross_waits() -> Result<(), Error> {
+    let (mut host, mut term, file) = opened("hello\n")?;
+    term.look(file)?; // a lock of the file is held until it is answered
+    term.type_text(file, "é")?;
+    assert_eq!(term.held(), 1);
+    assert!(term.is_locked(file));
+    carry(&mut term, &mut host)?;
+    assert_eq!(term.held(), 0);
+    term.idle()?;
+    carry(&mut term, &mut host)?;
+    assert_eq!(host.text(file).as_deref(), Some("éhello\n"));
+    assert_eq!(term.len(file), Some(7));
+    Ok(())
+}
+
+#[test]
+fn gaps_are_told_and_fill() -> Result<(), Error> {
+    let (mut host, mut term, file) = opened("one\n")?;
+    assert_eq!(term.read(file, 0, 9), vec![None; 4]);
+    assert_eq!(term.first_gap(file, 0), Some(0));
+    term.view(file, 0, 4)?;
+    carry(&mut term, &mut host)?;
+    assert_eq!(term.first_gap(file, 0), None);
+    assert_eq!(term.read(file, 1, 2), vec![Some('n'), Some('e')]);
+    Ok(())
+}
+
+#[test]
+fn a_written_file_is_told_once() -> Result<(), Error> {
+    let (mut host, mut term, file) = opened("one\n")?;
+    term.write(file)?;
+    carry(&mut term, &mut host)?;
+    assert_eq!(host.written().collect::<Vec<u16>>(), vec![file]);
+    assert_eq!(host.written().next(), None);
+    assert_eq!(host.saved(file).as_deref(), Some("one\n"));
+    Ok(())
+}
+
+#[test]
+fn refusals_and_faults_have_names() -> Result<(), Error> {
+    let (mut host, mut term, _) = opened("one\n")?;
+    term.cut(9)?;
+    let refused: Vec<(u64, Refusal)> = term.refusals().collect();
+    assert_eq!(refused, vec![(3, Refusal::NoFile)]);
+    assert_eq!(host.feed(&[23]), Err(Error::Stream(1)));
+    assert_eq!(host.add_file("a", "b"), Err(Error::Begun));
+    Ok(())
+}

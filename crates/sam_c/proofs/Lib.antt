@@ -1,0 +1,5 @@
+pub mod Walks
+pub mod Pieces
+pub mod Ends
+pub mod Filling
+pub mod Putting

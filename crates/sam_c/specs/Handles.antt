@@ -1,0 +1,37 @@
+-- What a handle owns.
+use Rattle.std.specs.Prelude.{ℕ, None, Option, Some}
+use mir.Syntax.{Ty}
+use base.Fml.{Fml, ftrue}
+use denote.RattleType.{RattleType}
+use denote.RawPtr.{Ptr}
+use Rattle.std.specs.Box.Ownership.{box_owns}
+use Rattle.std.specs.Coded.{Coded, coded_option}
+use Rattle.std.specs.Global.{Global}
+use Rattle.std_heap.specs.contracts.GlobalAllocator.TheImpl.{ghosts}
+use Rattle.sam_ends.specs.contracts.host_end.HostEnd.{the_row as HostEnd}
+use Rattle.sam_ends.specs.contracts.term_end.TermEnd.{the_row as TermEnd}
+
+-- what a box of this value owns, its token being the right to free the block; nothing where there is no value
+abbrev pub holds : (Ty → Ptr → Fml) → (R : RattleType) → Ptr → Option R.Denot → Fml
+holds token R at None = ftrue
+holds token R at (Some value) = box_owns token R at value
+
+-- the same of an end in C's heap
+abbrev pub holds_host : Global → Ptr → Option HostEnd.Denot → Fml
+holds_host alloc = holds (ghosts.dealloc_token alloc) HostEnd
+
+abbrev pub holds_term : Global → Ptr → Option TermEnd.Denot → Fml
+holds_term alloc = holds (ghosts.dealloc_token alloc) TermEnd
+
+abbrev pub held_host_coded : Coded (Option HostEnd.Denot)
+held_host_coded = coded_option HostEnd.coded
+
+abbrev pub held_term_coded : Coded (Option TermEnd.Denot)
+held_term_coded = coded_option TermEnd.coded
+
+-- "sam host" and "sam term", the first letter in the highest byte
+abbrev pub host_mark : ℕ
+host_mark = 8314046373061161844
+
+abbrev pub term_mark : ℕ
+term_mark = 8314046373261832813

@@ -1,0 +1,6 @@
+pub mod Handles
+pub mod Buffers
+pub mod Status
+pub mod Calls
+pub mod Hosts
+pub mod Terms

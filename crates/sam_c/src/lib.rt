@@ -1,0 +1,15 @@
+//! The host and the terminal for C. Each export makes one call of an end, and states its clauses again over the handle's value; what a
+//! C program owes and what each call does stands in include/sam.h.
+#![tactic(auto)]
+
+mod handle;
+mod host_calls;
+mod host_readers;
+mod parts;
+mod status;
+mod term_calls;
+mod term_events;
+mod term_readers;
+mod utf8;
+
+pub use handle::{SamHost, SamTerm};

@@ -1,0 +1,242 @@
+//! What C tells a terminal that the user did: see include/sam.h, which says of each what it does.
+
+ghost use Rattle.std.specs.Prelude.{◌≡◌};
+ghost use Rattle.sam_c.specs.Status.{read_status};
+ghost use Rattle.sam_c.specs.Terms.{TermPut, TermPutText};
+ghost use Rattle.sam_term.specs.declared.event.UserEvent.TheVariants.{Check, Close, Cut, Dclick, Exit, Flush, GetSnarf, Look, New, Open, OpenCmd, Paste, Scroll, Search, Select, Send, SetSnarf, Snarf, Typed, Version, View, Work, Write};
+
+use crate::handle::SamTerm;
+use crate::status::{NO_HANDLE, NO_MEMORY, NOT_TEXT, term_status};
+use sam_runes::{ReadFault, read_utf8};
+use sam_term::UserEvent;
+use std::alloc::Global;
+
+/// Brings an event to the terminal that a handle holds.
+fn put(term: &mut SamTerm, event: UserEvent, alloc: Global) -> u32
+    ensures { TermPut term.old.held.end event result term.new.held.end }
+{
+    let Some(mut end) = term.take(alloc) else {
+        return NO_HANDLE;
+    };
+    let status = term_status(end.put(event));
+    term.put(end);
+    status
+}
+
+/// Why a text is not read.
+fn read_status(why: ReadFault) -> u32
+    ensures { result ≡ read_status why }
+{
+    match why {
+        ReadFault::NotText => NOT_TEXT,
+        ReadFault::OutOfMemory => NO_MEMORY,
+    }
+}
+
+/// Types a text in the place of the dot.
+#[unsafe(no_mangle)]
+pub extern "C" fn sam_term_type(term: &mut SamTerm, tag: u16, text: &[u8], alloc: Global) -> u32
+    ensures { TermPutText term.old.held.end text.now (λ runes. Typed tag runes) result term.new.held.end }
+{
+    if !term.is_made() {
+        return NO_HANDLE;
+    }
+    match read_utf8(alloc, text) {
+        Ok(runes) => put(term, UserEvent::Typed(tag, runes), alloc),
+        Err(why) => read_status(why),
+    }
+}
+
+/// Gives the host another snarf buffer.
+#[unsafe(no_mangle)]
+pub extern "C" fn sam_term_setsnarf(term: &mut SamTerm, text: &[u8], alloc: Global) -> u32
+    ensures { TermPutText term.old.held.end text.now (λ runes. SetSnarf runes) result term.new.held.end }
+{
+    if !term.is_made() {
+        return NO_HANDLE;
+    }
+    match read_utf8(alloc, text) {
+        Ok(runes) => put(term, UserEvent::SetSnarf(runes), alloc),
+        Err(why) => read_status(why),
+    }
+}
+
+/// Cuts the dot into the snarf buffer.
+#[unsafe(no_mangle)]
+pub extern "C" fn sam_term_cut(term: &mut SamTerm, tag: u16, alloc: Global) -> u32
+    ensures { TermPut term.old.held.end (Cut tag) result term.new.held.end }
+{
+    put(term, UserEvent::Cut(tag), alloc)
+}
+
+/// Puts the snarf buffer in the place of the dot.
+#[unsafe(no_mangle)]
+pub extern "C" fn sam_term_paste(term: &mut SamTerm, tag: u16, alloc: Global) -> u32
+    ensures { TermPut term.old.held.end (Paste tag) result term.new.held.end }
+{
+    put(term, UserEvent::Paste(tag), alloc)
+}
+
+/// Copies the dot into the snarf buffer.
+#[unsafe(no_mangle)]
+pub extern "C" fn sam_term_snarf(term: &mut SamTerm, tag: u16, alloc: Global) -> u32
+    ensures { TermPut term.old.held.end (Snarf tag) result term.new.held.end }
+{
+    put(term, UserEvent::Snarf(tag), alloc)
+}
+
+/// Selects the next occurrence of the dot's text.
+#[unsafe(no_mangle)]
+pub extern "C" fn sam_term_look(term: &mut SamTerm, tag: u16, alloc: Global) -> u32
+    ensures { TermPut term.old.held.end (Look tag) result term.new.held.end }
+{
+    put(term, UserEvent::Look(tag), alloc)
+}
+
+/// Selects the next occurrence of the pattern.
+#[unsafe(no_mangle)]
+pub extern "C" fn sam_term_search(term: &mut SamTerm, tag: u16, alloc: Global) -> u32
+    ensures { TermPut term.old.held.end (Search tag) result term.new.held.end }
+{
+    put(term, UserEvent::Search(tag), alloc)
+}
+
+/// Runs the dot's text as a command line.
+#[unsafe(no_mangle)]
+pub extern "C" fn sam_term_send(term: &mut SamTerm, tag: u16, alloc: Global) -> u32
+    ensures { TermPut term.old.held.end (Send tag) result term.new.held.end }
+{
+    put(term, UserEvent::Send(tag), alloc)
+}
+
+/// Opens a file.
+#[unsafe(no_mangle)]
+pub extern "C" fn sam_term_open(term: &mut SamTerm, tag: u16, alloc: Global) -> u32
+    ensures { TermPut term.old.held.end (Open tag) result term.new.held.end }
+{
+    put(term, UserEvent::Open(tag), alloc)
+}
+
+/// Has the host write a file.
+#[unsafe(no_mangle)]
+pub extern "C" fn sam_term_write(term: &mut SamTerm, tag: u16, alloc: Global) -> u32
+    ensures { TermPut term.old.held.end (Write tag) result term.new.held.end }
+{
+    put(term, UserEvent::Write(tag), alloc)
+}
+
+/// Closes a file.
+#[unsafe(no_mangle)]
+pub extern "C" fn sam_term_close(term: &mut SamTerm, tag: u16, alloc: Global) -> u32
+    ensures { TermPut term.old.held.end (Close tag) result term.new.held.end }
+{
+    put(term, UserEvent::Close(tag), alloc)
+}
+
+/// Makes a file the one that command lines work on.
+#[unsafe(no_mangle)]
+pub extern "C" fn sam_term_work(term: &mut SamTerm, tag: u16, alloc: Global) -> u32
+    ensures { TermPut term.old.held.end (Work tag) result term.new.held.end }
+{
+    put(term, UserEvent::Work(tag), alloc)
+}
+
+/// Asks for the first gap that the view shows.
+#[unsafe(no_mangle)]
+pub extern "C" fn sam_term_check(term: &mut SamTerm, tag: u16, alloc: Global) -> u32
+    ensures { TermPut term.old.held.end (Check tag) result term.new.held.end }
+{
+    put(term, UserEvent::Check(tag), alloc)
+}
+
+/// Sets the dot.
+#[unsafe(no_mangle)]
+pub extern "C" fn sam_term_select(
+    term: &mut SamTerm,
+    tag: u16,
+    start: u32,
+    end: u32,
+    alloc: Global,
+) -> u32
+    ensures { TermPut term.old.held.end (Select tag start end) result term.new.held.end }
+{
+    put(term, UserEvent::Select(tag, start, end), alloc)
+}
+
+/// Selects the word round a place.
+#[unsafe(no_mangle)]
+pub extern "C" fn sam_term_dclick(term: &mut SamTerm, tag: u16, place: u32, alloc: Global) -> u32
+    ensures { TermPut term.old.held.end (Dclick tag place) result term.new.held.end }
+{
+    put(term, UserEvent::Dclick(tag, place), alloc)
+}
+
+/// Shows the file from so many lines further up.
+#[unsafe(no_mangle)]
+pub extern "C" fn sam_term_scroll(term: &mut SamTerm, tag: u16, lines: u32, alloc: Global) -> u32
+    ensures { TermPut term.old.held.end (Scroll tag lines) result term.new.held.end }
+{
+    put(term, UserEvent::Scroll(tag, lines), alloc)
+}
+
+/// Shows the file from a place on.
+#[unsafe(no_mangle)]
+pub extern "C" fn sam_term_view(
+    term: &mut SamTerm,
+    tag: u16,
+    place: u32,
+    len: u32,
+    alloc: Global,
+) -> u32
+    ensures { TermPut term.old.held.end (View tag place len) result term.new.held.end }
+{
+    put(term, UserEvent::View(tag, place, len), alloc)
+}
+
+/// Opens the command file, and asks for all names.
+#[unsafe(no_mangle)]
+pub extern "C" fn sam_term_opencmd(term: &mut SamTerm, alloc: Global) -> u32
+    ensures { TermPut term.old.held.end OpenCmd result term.new.held.end }
+{
+    put(term, UserEvent::OpenCmd, alloc)
+}
+
+/// Makes an empty file, and opens it.
+#[unsafe(no_mangle)]
+pub extern "C" fn sam_term_new_file(term: &mut SamTerm, alloc: Global) -> u32
+    ensures { TermPut term.old.held.end New result term.new.held.end }
+{
+    put(term, UserEvent::New, alloc)
+}
+
+/// Asks for the host's snarf buffer.
+#[unsafe(no_mangle)]
+pub extern "C" fn sam_term_getsnarf(term: &mut SamTerm, alloc: Global) -> u32
+    ensures { TermPut term.old.held.end GetSnarf result term.new.held.end }
+{
+    put(term, UserEvent::GetSnarf, alloc)
+}
+
+/// Sends the typed runes, once the events before it acted.
+#[unsafe(no_mangle)]
+pub extern "C" fn sam_term_flush(term: &mut SamTerm, alloc: Global) -> u32
+    ensures { TermPut term.old.held.end Flush result term.new.held.end }
+{
+    put(term, UserEvent::Flush, alloc)
+}
+
+/// Ends the session.
+#[unsafe(no_mangle)]
+pub extern "C" fn sam_term_exit(term: &mut SamTerm, alloc: Global) -> u32
+    ensures { TermPut term.old.held.end Exit result term.new.held.end }
+{
+    put(term, UserEvent::Exit, alloc)
+}
+
+/// Offers a version.
+#[unsafe(no_mangle)]
+pub extern "C" fn sam_term_version(term: &mut SamTerm, version: u16, alloc: Global) -> u32
+    ensures { TermPut term.old.held.end (Version version) result term.new.held.end }
+{
+    put(term, UserEvent::Version(version), alloc)
+}

@@ -1,0 +1,66 @@
+-- What waits in a host end fits: messages that a framer gave, and the frames of an answer.
+use Rattle.std.proofs.Common.{◌≡◌, sym, ap, subst, ◌∙◌, ◌≤◌, ℕ, Bool, true, false, List, [], ◌∷◌, Option, Some, None, if◌then◌else◌, ◌==◌, Ok, arith}
+use Rattle.std.specs.Prelude.{IsTrue}
+use Rattle.std.proofs.lemmas.Bool.{leb-true, le-leb}
+use Rattle.std.proofs.lemmas.List.Elements.{All-nil, All-cons, All-tail}
+use Rattle.sam_runes.specs.Texts.{snarf_limit, utf8_length}
+use Rattle.sam_mesg.specs.declared.tmesg.Tmesg.{Tmesg}
+use Rattle.sam_mesg.specs.declared.tmesg.Tmesg.TheVariants.{Tsetsnarf}
+use Rattle.sam_mesg.specs.declared.hmesg.HFrame.{HFrame}
+use Rattle.sam_mesg.specs.TerminalKinds.{fits_t}
+use Rattle.sam_mesg.specs.HostKinds.{fits_h}
+use Rattle.sam_frame.specs.Direction.{terminal}
+use Rattle.sam_frame.specs.Stream.{FitInTurn}
+use Rattle.sam_frame.specs.Framing.{Held}
+use Rattle.sam_host.specs.Laws.{FitInPlace, version_after}
+use Rattle.sam_term.specs.Fitting.{FitsLast}
+use Rattle.sam_ends.specs.declared.fault.StreamFault.{StreamFault}
+use Rattle.sam_ends.specs.Streams.{FitFrames, FitMessages, Gives}
+use Rattle.sam_ends.specs.HostEnds.{PlainHostEnd}
+use Rattle.sam_ends.specs.HostSteps.{IsSound, Splits}
+
+-- what fits in some version fits in the second
+later : (version : ℕ) (m : Tmesg) → fits_t version m ≡ true → fits_t 2 m ≡ true
+later version (Tsetsnarf s) e =
+    let within = leb-true (utf8_length s) (snarf_limit version) e in
+    let least : snarf_limit version ≤ 32000 = limit (version == 1) in
+    le-leb (utf8_length s) 32000 (omega (arith, within, least))
+  where
+    limit : (is_first : Bool) → (if is_first then 4096 else 32000) ≤ 32000
+    limit true = omega arith
+    limit false = omega arith
+later version m e = e
+
+fit_in_turn : (version : ℕ) (ms : List Tmesg) → FitInTurn terminal version ms → FitMessages ms
+fit_in_turn version [] fit = All-nil FitsLast
+fit_in_turn version (m ∷ ms) fit = All-cons FitsLast m ms (later version m fit.0.fits) (fit_in_turn (terminal.after version m) ms fit.1)
+
+fit_in_place : (version : ℕ) (frames : List HFrame) → FitInPlace version frames → FitFrames frames
+fit_in_place version [] fit = All-nil (λ (x : HFrame). IsTrue (fits_h 2 x.msg))
+fit_in_place version (frame ∷ frames) fit = All-cons (λ (x : HFrame). IsTrue (fits_h 2 x.msg)) frame frames fit.1 (fit_in_place (version_after version frame.msg) frames fit.2)
+
+given_fit : (h k : Held) (piece : List ℕ) (ms : List Tmesg) (behind : Option StreamFault) → Gives terminal h piece ms behind k → FitMessages ms
+given_fit h k piece ms None all = fit_in_turn h.version ms all.gave.splits.fit
+given_fit h k piece ms (Some why) (place, up) = fit_in_turn h.version ms up.gave.splits.fit
+
+given_reads : (h k : Held) (piece : List ℕ) (ms : List Tmesg) (behind : Option StreamFault) → Gives terminal h piece ms behind k → behind ≡ None → k.failed ≡ false
+given_reads h k piece ms None all none = all.sound
+given_reads h k piece ms (Some why) up none = absurd (cc)
+
+-- the oldest message was answered
+pub answered_sound : (e g : PlainHostEnd) (version : ℕ) (m : Tmesg) → IsSound e → e.waiting ≡ m ∷ g.waiting → FitInPlace version g.unwritten
+    → g.behind ≡ e.behind → g.framer ≡ e.framer → IsSound g
+answered_sound e g version m sound waited fit behind framer = record {
+  waiting = All-tail FitsLast m g.waiting (subst FitMessages waited sound.waiting);
+  unwritten = fit_in_place version g.unwritten fit;
+  reads = λ none. ap (λ (h : Held). h.failed) framer ∙ sound.reads (sym behind ∙ none);
+}
+
+-- a piece was taken in
+pub taken_sound : (e g : PlainHostEnd) (piece : List ℕ) → IsSound e → Splits e.framer piece (Ok (g.waiting, g.behind)) g.framer
+    → g.unwritten ≡ e.unwritten → IsSound g
+taken_sound e g piece sound gave same = record {
+  waiting = given_fit e.framer g.framer piece g.waiting g.behind gave;
+  unwritten = subst FitFrames (sym same) sound.unwritten;
+  reads = given_reads e.framer g.framer piece g.waiting g.behind gave;
+}

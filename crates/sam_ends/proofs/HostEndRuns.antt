@@ -1,0 +1,268 @@
+-- What every run of a host end comes to.
+use Rattle.std.proofs.Common.{◌≡◌, refl, sym, ap, subst, ◌∙◌, inl, inr, ℕ, List, [], ◌∷◌, ◌++◌, flat_map, Option, Some, None, Result, Ok, Err, append_assoc, append-nil}
+use Rattle.std.specs.Prelude.{option_map}
+use Rattle.sam_mesg.specs.declared.fault.MesgFault.{MesgFault}
+use Rattle.sam_mesg.specs.declared.fault.MesgFault.TheVariants as wrong
+use Rattle.sam_mesg.specs.declared.tmesg.Tmesg.{Tmesg}
+use Rattle.sam_mesg.specs.declared.hmesg.HFrame.{HFrame}
+use Rattle.sam_frame.specs.Direction.{host, terminal}
+use Rattle.sam_frame.specs.Stream.{Splits, stream_of, version_after}
+use Rattle.sam_frame.specs.Splitting.{Ends}
+use Rattle.sam_frame.specs.Framing.{Gave, Held}
+use Rattle.sam_frame.specs.Reading.{IsStream}
+use Rattle.sam_frame.proofs.Fronts.{stream_of-append, version_after-append, Splits-then}
+use Rattle.sam_frame.proofs.Cuttings.{Splits-longer}
+use Rattle.sam_host.specs.Host.{PlainHost, answer}
+use Rattle.sam_host.specs.declared.fault.HostFault.{HostFault}
+use Rattle.sam_ends.specs.declared.fault.HostStop.{HostStop}
+use Rattle.sam_ends.specs.declared.fault.StreamFault.{StreamFault}
+use Rattle.sam_ends.specs.declared.fault.StreamFault.TheVariants.{BadKind, BadLength, BadText}
+use Rattle.sam_ends.specs.declared.fault.EndFault.TheVariants as fault
+use Rattle.sam_ends.specs.Streams.{Gives, mesg_fault}
+use Rattle.sam_ends.specs.HostEnds.{PlainHostEnd, Answers, Feeds, FeedsAfter, FeedsIdle, GoesOn, IsIdle, Serves, TakesIn}
+use Rattle.sam_ends.specs.HostSteps.{Answer}
+use Rattle.sam_ends.specs.HostRuns.{Call, GoesOnAfter, HasServed, Runs, begun_with, came_in, went_out}
+use Rattle.sam_ends.proofs.HostEndGoing.{serves_more}
+
+-- what the run keeps: what it comes to, and the version at this place of the stream
+pub record Kept (h : PlainHost) (stream out : List ℕ) (e : PlainHostEnd) : Type 0 where
+  pub served : HasServed h stream out e
+  pub version : e.framer.version ≡ version_after terminal 1 (served.answered ++ e.waiting)
+
+-- ## Steps
+
+kept_answers : (h : PlainHost) (stream out : List ℕ) (e g : PlainHostEnd) (ms : List Tmesg) → Answers e ms g → Kept h stream out e → Kept h stream out g
+kept_answers h stream out e g ms a kept =
+    let s = kept.served in
+    let all : s.answered ++ e.waiting ≡ (s.answered ++ ms) ++ g.waiting =
+    ap (λ (x : List Tmesg). s.answered ++ x) a.waiting ∙ sym (append_assoc s.answered ms g.waiting) in
+    let reads : IsStream terminal 1 stream ((s.answered ++ ms) ++ g.waiting) g.framer.bytes (option_map mesg_fault g.behind) =
+    subst (λ (x : Held). IsStream terminal 1 stream ((s.answered ++ ms) ++ g.waiting) x.bytes (option_map mesg_fault g.behind)) (sym a.framer)
+    (subst (λ (x : Option StreamFault). IsStream terminal 1 stream ((s.answered ++ ms) ++ g.waiting) e.framer.bytes (option_map mesg_fault x)) (sym a.behind)
+    (subst (λ (x : List Tmesg). IsStream terminal 1 stream x e.framer.bytes (option_map mesg_fault e.behind)) all s.reads)) in
+    record {
+      served = record {
+        answered = s.answered ++ ms;
+        frames = s.frames ++ a.frames;
+        writes = s.writes ++ a.more;
+        serves = serves_more h s.answered s.frames s.writes e.host ms a.frames a.more g.host s.serves a.serves;
+        reads = reads;
+        bytes = bytes_on out e g s.frames a.frames s.bytes a.bytes;
+      };
+      version = ap (λ (x : Held). x.version) a.framer ∙ kept.version ∙ ap (λ (x : List Tmesg). version_after terminal 1 x) all;
+    }
+  where
+    bytes_on : (out : List ℕ) (e g : PlainHostEnd) (frames more : List HFrame) → (out ++ e.outbox) ++ stream_of host e.unwritten ≡ stream_of host frames
+        → g.outbox ++ stream_of host g.unwritten ≡ e.outbox ++ stream_of host (e.unwritten ++ more)
+        → (out ++ g.outbox) ++ stream_of host g.unwritten ≡ stream_of host (frames ++ more)
+    bytes_on out e g frames more p q =
+        append_assoc out g.outbox (stream_of host g.unwritten)
+        ∙ ap (λ (x : List ℕ). out ++ x) q
+        ∙ ap (λ (x : List ℕ). out ++ (e.outbox ++ x)) (stream_of-append host e.unwritten more)
+        ∙ ap (λ (x : List ℕ). out ++ x) (sym (append_assoc e.outbox (stream_of host e.unwritten) (stream_of host more)))
+        ∙ sym (append_assoc out (e.outbox ++ stream_of host e.unwritten) (stream_of host more))
+        ∙ ap (λ (x : List ℕ). x ++ stream_of host more) (sym (append_assoc out e.outbox (stream_of host e.unwritten)) ∙ p)
+        ∙ sym (stream_of-append host frames more)
+
+gave_of : (h k : Held) (piece : List ℕ) (ms : List Tmesg) (behind : Option StreamFault) → Gives terminal h piece ms behind k → Gave terminal h piece ms k
+gave_of h k piece ms None all = all.gave
+gave_of h k piece ms (Some why) (place, up) = up.gave
+
+ends_of : (h k : Held) (piece : List ℕ) (ms : List Tmesg) (behind : Option StreamFault) → Gives terminal h piece ms behind k
+    → Ends terminal k.version k.bytes (option_map mesg_fault behind)
+ends_of h k piece ms None all = all.waits
+ends_of h k piece ms (Some why) (place, up) = up.shows
+
+-- a piece behind a stream
+reads_more : (h k : Held) (stream piece : List ℕ) (before ms : List Tmesg) (behind : Option StreamFault) → Splits terminal 1 stream before h.bytes
+    → h.version ≡ version_after terminal 1 before → Gives terminal h piece ms behind k
+    → IsStream terminal 1 (stream ++ piece) (before ++ ms) k.bytes (option_map mesg_fault behind) × (k.version ≡ version_after terminal 1 (before ++ ms))
+reads_more h k stream piece before ms behind splits version gives =
+    let gave = gave_of h k piece ms behind gives in
+    let first = Splits-longer terminal 1 stream before h.bytes piece splits in
+    let second : Splits terminal (version_after terminal 1 before) (h.bytes ++ piece) ms k.bytes =
+    subst (λ (v : ℕ). Splits terminal v (h.bytes ++ piece) ms k.bytes) version gave.splits in
+    let after : k.version ≡ version_after terminal 1 (before ++ ms) =
+    gave.version_is ∙ ap (λ (v : ℕ). version_after terminal v ms) version ∙ sym (version_after-append terminal 1 before ms) in (
+      record {
+        splits = Splits-then terminal 1 (stream ++ piece) before (h.bytes ++ piece) ms k.bytes first second;
+        ends = subst (λ (v : ℕ). Ends terminal v k.bytes (option_map mesg_fault behind)) after (ends_of h k piece ms behind gives);
+      },
+      after,
+    )
+
+kept_piece : (h : PlainHost) (stream out piece : List ℕ) (e k : PlainHostEnd) → e.waiting ≡ [] → TakesIn e piece k → Kept h stream out e → Kept h (stream ++ piece) out k
+kept_piece h stream out piece e k none (messages, behind, rest, gives, is) kept =
+    let s = kept.served in
+    let all : s.answered ++ e.waiting ≡ s.answered = ap (λ (x : List Tmesg). s.answered ++ x) none ∙ append-nil s.answered in
+    let splits : Splits terminal 1 stream s.answered e.framer.bytes =
+    subst (λ (x : List Tmesg). Splits terminal 1 stream x e.framer.bytes) all s.reads.splits in
+    let version : e.framer.version ≡ version_after terminal 1 s.answered = kept.version ∙ ap (λ (x : List Tmesg). version_after terminal 1 x) all in
+    let more = reads_more e.framer rest stream piece s.answered messages behind splits version gives in
+    subst (λ (x : PlainHostEnd). Kept h (stream ++ piece) out x) (sym is) (record {
+      served = record {
+        answered = s.answered;
+        frames = s.frames;
+        writes = s.writes;
+        serves = s.serves;
+        reads = more.0;
+        bytes = s.bytes;
+      };
+      version = more.1;
+    })
+
+kept_goes_on : (h : PlainHost) (stream out : List ℕ) (e g : PlainHostEnd) (result : Answer) → GoesOnAfter result → GoesOn e result g → Kept h stream out e → Kept h stream out g
+kept_goes_on h stream out e g (Ok done) goes on kept = kept_answers h stream out e g e.waiting on.0 kept
+kept_goes_on h stream out e g (Err fault.Unfinished) goes (ms, a, going) kept = kept_answers h stream out e g ms a kept
+kept_goes_on h stream out e g (Err fault.OutOfMemory) goes on kept = absurd on
+kept_goes_on h stream out e g (Err fault.CountFull) goes on kept = absurd on
+kept_goes_on h stream out e g (Err (fault.Stopped why)) goes on kept = absurd goes
+
+kept_same : (h : PlainHost) (stream out : List ℕ) (e g : PlainHostEnd) → g ≡ e → Kept h stream out e → Kept h (stream ++ []) out g
+kept_same h stream out e g is kept =
+    subst (λ (x : List ℕ). Kept h x out g) (sym (append-nil stream)) (subst (λ (x : PlainHostEnd). Kept h stream out x) (sym is) kept)
+
+kept_idle : (h : PlainHost) (stream out piece : List ℕ) (e g : PlainHostEnd) (result : Answer) → GoesOnAfter result → e.waiting ≡ [] → FeedsIdle e piece result g
+    → Kept h stream out e → Kept h (stream ++ came_in (piece, Some result)) out g
+kept_idle h stream out piece e g (Ok done) goes none (inl (k, takes, on)) kept =
+    kept_goes_on h (stream ++ piece) out k g (Ok done) goes on (kept_piece h stream out piece e k none takes kept)
+kept_idle h stream out piece e g (Err fault.Unfinished) goes none (inl (k, takes, on)) kept =
+    kept_goes_on h (stream ++ piece) out k g (Err fault.Unfinished) goes on (kept_piece h stream out piece e k none takes kept)
+kept_idle h stream out piece e g (Err fault.OutOfMemory) goes none (inl (k, takes, on)) kept = absurd on
+kept_idle h stream out piece e g (Err fault.CountFull) goes none (inl (k, takes, on)) kept = absurd on
+kept_idle h stream out piece e g (Err (fault.Stopped why)) goes none fed kept = absurd goes
+kept_idle h stream out piece e g (Err fault.OutOfMemory) goes none (inr (inl (is, same))) kept = kept_same h stream out e g same kept
+kept_idle h stream out piece e g (Err fault.CountFull) goes none (inr (inr (is, full, same))) kept = kept_same h stream out e g same kept
+kept_idle h stream out piece e g (Ok done) goes none (inr (inl (is, same))) kept = absurd (cc)
+kept_idle h stream out piece e g (Ok done) goes none (inr (inr (is, full, same))) kept = absurd (cc)
+kept_idle h stream out piece e g (Err fault.Unfinished) goes none (inr (inl (is, same))) kept = absurd (cc)
+kept_idle h stream out piece e g (Err fault.Unfinished) goes none (inr (inr (is, full, same))) kept = absurd (cc)
+kept_idle h stream out piece e g (Err fault.OutOfMemory) goes none (inr (inr (is, full, same))) kept = absurd (cc)
+kept_idle h stream out piece e g (Err fault.CountFull) goes none (inr (inl (is, same))) kept = absurd (cc)
+
+-- the fault with which a piece was not taken
+untaken : (h : PlainHost) (stream out piece : List ℕ) (e g : PlainHostEnd) (result : Answer) → result ≡ Err fault.OutOfMemory → g ≡ e → Kept h stream out e
+    → Kept h (stream ++ came_in (piece, Some result)) out g
+untaken h stream out piece e g result is same kept =
+    subst (λ (x : Answer). Kept h (stream ++ came_in (piece, Some x)) out g) (sym is) (kept_same h stream out e g same kept)
+
+stopped_not : (result : Answer) (why : HostStop) → result ≡ Err (fault.Stopped why) → GoesOnAfter result → ⊥
+stopped_not result why is goes = subst GoesOnAfter is goes
+
+kept_after : (h : PlainHost) (stream out piece : List ℕ) (e k g : PlainHostEnd) (first result : Answer) → GoesOnAfter result → GoesOn e first k
+    → FeedsAfter first k piece result g → Kept h stream out e → Kept h (stream ++ came_in (piece, Some result)) out g
+kept_after h stream out piece e k g (Ok done) result goes on after kept =
+    kept_idle h stream out piece k g result goes on.1.waiting after (kept_goes_on h stream out e k (Ok done) tt on kept)
+kept_after h stream out piece e k g (Err fault.Unfinished) result goes on (is, same) kept =
+    untaken h stream out piece k g result is same (kept_goes_on h stream out e k (Err fault.Unfinished) tt on kept)
+kept_after h stream out piece e k g (Err (fault.Stopped why)) result goes on (is, same) kept = absurd (stopped_not result why is goes)
+kept_after h stream out piece e k g (Err fault.OutOfMemory) result goes on after kept = absurd on
+kept_after h stream out piece e k g (Err fault.CountFull) result goes on after kept = absurd on
+
+kept_feed : (h : PlainHost) (stream out piece : List ℕ) (e g : PlainHostEnd) (result : Answer) → GoesOnAfter result → Feeds e piece result g → Kept h stream out e
+    → Kept h (stream ++ came_in (piece, Some result)) out g
+kept_feed h stream out piece e g result goes (inl (why, stops, is, same)) kept = absurd (stopped_not result why is goes)
+kept_feed h stream out piece e g result goes (inr (going, k, first, on, after)) kept = kept_after h stream out piece e k g first result goes on after kept
+
+kept_out : (h : PlainHost) (stream out bytes rest : List ℕ) (e : PlainHostEnd) → e.outbox ≡ bytes ++ rest → Kept h stream out e
+    → Kept h (stream ++ []) (out ++ bytes) (record e { outbox = rest })
+kept_out h stream out bytes rest e is kept =
+    let s = kept.served in
+    subst (λ (x : List ℕ). Kept h x (out ++ bytes) (record e { outbox = rest })) (sym (append-nil stream)) (record {
+      served = record {
+        answered = s.answered;
+        frames = s.frames;
+        writes = s.writes;
+        serves = s.serves;
+        reads = s.reads;
+        bytes = ap (λ (x : List ℕ). x ++ stream_of host e.unwritten) (append_assoc out bytes rest ∙ ap (λ (x : List ℕ). out ++ x) (sym is)) ∙ s.bytes;
+      };
+      version = kept.version;
+    })
+
+-- ## Runs
+
+kept_run : (h : PlainHost) (stream out : List ℕ) (calls : List Call) (e g : PlainHostEnd) → Runs e calls g → Kept h stream out e
+    → Kept h (stream ++ flat_map came_in calls) (out ++ flat_map went_out calls) g
+kept_run h stream out [] e g is kept =
+    subst (λ (x : PlainHostEnd). Kept h (stream ++ []) (out ++ []) x) (sym is)
+    (subst (λ (x : List ℕ). Kept h x (out ++ []) e) (sym (append-nil stream)) (subst (λ (x : List ℕ). Kept h stream x e) (sym (append-nil out)) kept))
+kept_run h stream out ((piece, Some answer) ∷ calls) e g (k, feeds, goes, runs) kept =
+    subst (λ (x : List ℕ). Kept h x (out ++ flat_map went_out calls) g) (append_assoc stream (came_in (piece, Some answer)) (flat_map came_in calls))
+    (kept_run h (stream ++ came_in (piece, Some answer)) out calls k g runs (kept_feed h stream out piece e k answer goes feeds kept))
+kept_run h stream out ((bytes, None) ∷ calls) e g (rest, is, runs) kept =
+    subst (λ (x : List ℕ). Kept h x (out ++ (bytes ++ flat_map went_out calls)) g) (append_assoc stream [] (flat_map came_in calls))
+    (subst (λ (x : List ℕ). Kept h ((stream ++ []) ++ flat_map came_in calls) x g) (append_assoc out bytes (flat_map went_out calls))
+    (kept_run h (stream ++ []) (out ++ bytes) calls (record e { outbox = rest }) g runs (kept_out h stream out bytes rest e is kept)))
+
+pub runs_serve : (h : PlainHost) (calls : List Call) (g : PlainHostEnd) → Runs (begun_with h) calls g → HasServed h (flat_map came_in calls) (flat_map went_out calls) g
+runs_serve h calls g runs = (kept_run h [] [] calls (begun_with h) g runs (record {
+  served = record {
+    answered = [];
+    frames = [];
+    writes = [];
+    serves = (refl, refl, refl);
+    reads = record { splits = record { whole = refl; fit = tt }; ends = tt };
+    bytes = refl;
+  };
+  version = refl;
+})).served
+
+-- ## One outcome
+
+abbrev Reads : Type 0
+Reads =
+    (version : ℕ) (bytes : List ℕ) (ms ns : List Tmesg) (z y : List ℕ) (o p : Option MesgFault)
+    → IsStream terminal version bytes ms z o → IsStream terminal version bytes ns y p → (ms ≡ ns) × (z ≡ y) × (o ≡ p)
+
+abbrev answered_host : PlainHost → Result (PlainHost × List HFrame) HostFault → PlainHost
+answered_host h (Ok r) = r.0
+answered_host h (Err why) = h
+
+abbrev answered_frames : Result (PlainHost × List HFrame) HostFault → List HFrame
+answered_frames (Ok r) = r.1
+answered_frames (Err why) = []
+
+one_service : (h : PlainHost) (ms : List Tmesg) (a b : List HFrame) (v w : List ℕ) (g k : PlainHost) → Serves h ms a v g → Serves h ms b w k → (g ≡ k) × (a ≡ b)
+one_service h [] a b v w g k p q = (p.2 ∙ sym q.2, p.0 ∙ sym q.0)
+one_service h (m ∷ ms) a b v w g k (h1, a1, a2, v2, ans1, af, vf, p) (k1, b1, b2, w2, ans2, bf, wf, q) =
+    let same : Ok (h1, a1) ≡ Ok (k1, b1) = sym ans1 ∙ ans2 in
+    let hosts : h1 ≡ k1 = ap (λ (r : Result (PlainHost × List HFrame) HostFault). answered_host h r) same in
+    let frames : a1 ≡ b1 = ap (λ (r : Result (PlainHost × List HFrame) HostFault). answered_frames r) same in
+    let rest = one_service k1 ms a2 b2 v2 w2 g k (subst (λ (x : PlainHost). Serves x ms a2 v2 g) hosts p) q in
+    (rest.0, af ∙ ap (λ (x : List HFrame). x ++ a2) frames ∙ ap (λ (x : List HFrame). b1 ++ x) rest.1 ∙ sym bf)
+
+abbrev told_fault : Option MesgFault → Option StreamFault
+told_fault None = None
+told_fault (Some wrong.BadKind) = Some BadKind
+told_fault (Some wrong.BadLength) = Some BadLength
+told_fault (Some wrong.BadText) = Some BadText
+told_fault (Some wrong.OutOfMemory) = None
+
+told_back : (o : Option StreamFault) → told_fault (option_map mesg_fault o) ≡ o
+told_back None = refl
+told_back (Some BadKind) = refl
+told_back (Some BadLength) = refl
+told_back (Some BadText) = refl
+
+idle_reads : (h : PlainHost) (stream out : List ℕ) (e : PlainHostEnd) (s : HasServed h stream out e) → e.waiting ≡ []
+    → IsStream terminal 1 stream s.answered e.framer.bytes (option_map mesg_fault e.behind)
+idle_reads h stream out e s none =
+    subst (λ (x : List Tmesg). IsStream terminal 1 stream x e.framer.bytes (option_map mesg_fault e.behind))
+    (ap (λ (x : List Tmesg). s.answered ++ x) none ∙ append-nil s.answered) s.reads
+
+idle_bytes : (h : PlainHost) (stream out : List ℕ) (e : PlainHostEnd) (s : HasServed h stream out e) → e.unwritten ≡ [] → out ++ e.outbox ≡ stream_of host s.frames
+idle_bytes h stream out e s none =
+    sym (append-nil (out ++ e.outbox)) ∙ ap (λ (x : List HFrame). (out ++ e.outbox) ++ stream_of host x) (sym none) ∙ s.bytes
+
+pub one_outcome : Reads → (h : PlainHost) (stream a b : List ℕ) (e g : PlainHostEnd) → HasServed h stream a e → HasServed h stream b g → IsIdle e → IsIdle g
+    → (e.host ≡ g.host) × (a ++ e.outbox ≡ b ++ g.outbox) × (e.behind ≡ g.behind)
+one_outcome reads h stream a b e g s t i j =
+    let one = reads 1 stream s.answered t.answered e.framer.bytes g.framer.bytes (option_map mesg_fault e.behind) (option_map mesg_fault g.behind)
+    (idle_reads h stream a e s i.waiting) (idle_reads h stream b g t j.waiting) in
+    let same = one_service h t.answered s.frames t.frames s.writes t.writes e.host g.host
+    (subst (λ (x : List Tmesg). Serves h x s.frames s.writes e.host) one.0 s.serves) t.serves in (
+      same.0,
+      idle_bytes h stream a e s i.unwritten ∙ ap (λ (x : List HFrame). stream_of host x) same.1 ∙ sym (idle_bytes h stream b g t j.unwritten),
+      sym (told_back e.behind) ∙ ap told_fault one.2 ∙ told_back g.behind,
+    )

@@ -1,0 +1,11 @@
+pub mod Outboxes
+pub mod HostEndFits
+pub mod HostEndGoing
+pub mod HostEndFiles
+pub mod TermEndHeld
+pub mod TermEndFits
+pub mod TermEndMoves
+pub mod TermEndSteps
+pub mod TermEndCalls
+pub mod HostEndRuns
+pub mod Members

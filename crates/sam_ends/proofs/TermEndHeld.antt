@@ -1,0 +1,192 @@
+-- Events leave the held ones only as they are done or refused, one at a time; frames and flushes leave them all.
+use Rattle.std.proofs.Common.{◌≡◌, refl, sym, ap, ◌∙◌, ℕ, ◌+◌, Bool, true, false, List, [], ◌∷◌, ◌++◌, length, Option, Some, None, Result, Ok, Err, if◌then◌else◌, nat_lt, arith}
+use Rattle.sam_runes.specs.Checks.{first_of_checks}
+use Rattle.sam_runes.specs.Texts.{is_empty, most_count}
+use Rattle.sam_mesg.specs.declared.tmesg.Tmesg.{Tmesg}
+use Rattle.sam_mesg.specs.declared.tmesg.Tmesg.TheVariants.{Tversion, Tstartcmdfile, Tcheck, Torigin, Tstartfile, Tworkfile, Tcut, Tpaste, Tsnarf, Tstartnewfile, Twrite, Tclose, Tlook, Tsearch, Tsend, Tdclick, Tstartsnarf, Tsetsnarf, Tack, Texit}
+use Rattle.sam_mesg.specs.declared.hmesg.Hmesg.{Hmesg}
+use Rattle.sam_mesg.specs.declared.hmesg.Hmesg.TheVariants.{Hversion, Hbindname, Hcurrent, Hnewname, Hmovname, Hgrow, Hcheck, Hunlock, Hdata, Horigin, Hunlockfile, Hsetdot, Hgrowdata, Hmoveto, Hclean, Hdirty, Hcut, Hsetpat, Hdelname, Hclose, Hsetsnarf, Hsnarflen, Hack, Hexit}
+use Rattle.sam_mesg.specs.declared.hmesg.HFrame.{HFrame}
+use Rattle.sam_term.specs.Locks.{is_command_line}
+use Rattle.sam_term.specs.Term.{PlainTerminal, Made, act_of, act_on, decided, if_countable, event_checks, frame_checks, flush_of, flushed, take_of, made_by, made_from, made_unless, and_then, all_composed, composed, sends, sends_if, requested, wanted, unchanged, cuts_dot, types, kept_unsent, joins, joined, put_window, has_empty_dot, typed_rasp, made_by_type, made_by_cut, made_by_paste, made_by_snarf, made_by_view, sends_dot, window_at, del_rasp, took_bindname, took_data, took_grow, took_growdata, took_cut, took_unlockfile, took_close, took_exit}
+use Rattle.sam_term.specs.declared.event.Verdict.{Verdict}
+use Rattle.sam_term.specs.declared.event.Verdict.TheVariants.{Waits, Refuses}
+use Rattle.sam_term.specs.declared.event.UserEvent.{UserEvent}
+use Rattle.sam_term.specs.declared.event.UserEvent.TheVariants.{Typed, Select, Cut, Paste, Snarf, Look, Search, Send, Dclick, Scroll, View, Open, Close, Write, Work, OpenCmd, New, Exit, Check, GetSnarf, SetSnarf, Version, Flush}
+use Rattle.sam_term.specs.declared.event.Acted.{Acted}
+use Rattle.sam_term.specs.declared.event.Acted.TheVariants.{Idle, Locked, Done, Refused}
+use Rattle.sam_term.specs.declared.fault.TermFault.{TermFault}
+use Rattle.sam_term.specs.declared.fault.TermFault.TheVariants as fault
+use Rattle.sam_term.proofs.ActLaws.{acted_in, term_in, idle_still, locked_still}
+use Rattle.sam_term.proofs.Edits.{held-composed, flushed-held}
+use Rattle.sam_ends.specs.TermEnds.{IsSettled}
+
+-- the events that are held after messages were composed
+abbrev held_in : Made → List UserEvent
+held_in made = made.0.held
+
+all-held : (t : PlainTerminal) (ms : List Tmesg) → (all_composed t ms).held ≡ t.held
+all-held t [] = refl
+all-held t (m ∷ ms) = all-held (composed t m) ms ∙ ap (λ u. u.held) (held-composed t m t.held)
+
+sends-keeps : (t : PlainTerminal) (change : PlainTerminal → PlainTerminal) (ms : List Tmesg) → ((u : PlainTerminal) → (change u).held ≡ u.held) → held_in (sends t change ms) ≡ t.held
+sends-keeps t change ms same = all-held (change (flushed t).0) ms ∙ same (flushed t).0 ∙ flushed-held t
+
+sends-plain : (t : PlainTerminal) (ms : List Tmesg) → held_in (sends t unchanged ms) ≡ t.held
+sends-plain t ms = sends-keeps t unchanged ms (λ u. refl)
+
+either-keeps : (b : Bool) (x y : Made) (h : List UserEvent) → held_in x ≡ h → held_in y ≡ h → held_in (if b then x else y) ≡ h
+either-keeps true x y h p q = p
+either-keeps false x y h p q = q
+
+requested-keeps : (t : PlainTerminal) (f : ℕ) → held_in (requested t f) ≡ t.held
+unfolding requested
+requested-keeps t f = go (wanted t f)
+  where
+    go : (o : Option Tmesg) → held_in (sends_if o t) ≡ t.held
+    go None = refl
+    go (Some m) = sends-keeps t (λ u. u) (m ∷ []) (λ u. refl)
+
+-- the dot is cut, if it is not empty
+dot-cut : (t : PlainTerminal) (f p q : ℕ) (ms : List Tmesg) → held_in (if has_empty_dot t f then (t, []) else sends t (λ u. del_rasp u f p q) ms) ≡ t.held
+dot-cut t f p q ms = either-keeps (has_empty_dot t f) (t, []) (sends t (λ u. del_rasp u f p q) ms) t.held refl (sends-keeps t (λ u. del_rasp u f p q) ms (λ u. refl))
+
+cuts-keeps : (t : PlainTerminal) (f : ℕ) → held_in (cuts_dot t f) ≡ t.held
+cuts-keeps t f = let d = (window_at t f).dot in dot-cut t f d.0 d.1 (Tcut f d.0 d.1 ∷ [])
+
+dot-sent : (t : PlainTerminal) (f : ℕ) (message : ℕ → ℕ → ℕ → Tmesg) → held_in (sends_dot t f message) ≡ t.held
+dot-sent t f message = let d = (window_at t f).dot in sends-plain t (message f d.0 d.1 ∷ [])
+
+kept-keeps : (t : PlainTerminal) (f p : ℕ) (s : List ℕ) → held_in (kept_unsent t f p s) ≡ t.held
+kept-keeps t f p s =
+    either-keeps (joins t.unsent f p s) (record t { unsent = Some (joined t.unsent f p s) }, [])
+    (and_then (flushed t) (λ u. (record u { unsent = Some (joined None f p s) }, []))) t.held refl (flushed-held t)
+
+types-keeps : (t : PlainTerminal) (f p : ℕ) (s : List ℕ) → held_in (types t f p s) ≡ t.held
+types-keeps t f p s =
+    let u = (kept_unsent t f p s).0 in
+    either-keeps (is_command_line f s) (flushed (typed_rasp u f p s)) (typed_rasp u f p s, []) t.held (flushed-held (typed_rasp u f p s) ∙ kept-keeps t f p s) (kept-keeps t f p s)
+
+type-keeps : (t : PlainTerminal) (f : ℕ) (s : List ℕ) → held_in (made_by_type t f s) ≡ t.held
+unfolding made_by_type
+type-keeps t f s =
+    let u = (cuts_dot t f).0 in
+    either-keeps (is_empty s) (u, []) (types u f (window_at t f).dot.0 s) t.held (cuts-keeps t f) (types-keeps u f (window_at t f).dot.0 s ∙ cuts-keeps t f)
+
+pub event_keeps : (t : PlainTerminal) (e : UserEvent) → held_in (made_by t e) ≡ t.held
+unfolding made_by_cut made_by_paste made_by_snarf made_by_view
+event_keeps t (Typed f s) = type-keeps t f s
+event_keeps t (Select f p q) = refl
+event_keeps t (Cut f) = let d = (window_at t f).dot in dot-cut t f d.0 d.1 (Tsnarf f d.0 d.1 ∷ Tcut f d.0 d.1 ∷ [])
+event_keeps t (Paste f) = sends-plain (cuts_dot t f).0 (Tpaste f (window_at t f).dot.0 ∷ []) ∙ cuts-keeps t f
+event_keeps t (Snarf f) =
+    let d = (window_at t f).dot in
+    either-keeps (has_empty_dot t f) (t, []) (sends t unchanged (Tsnarf f d.0 d.1 ∷ [])) t.held refl (sends-plain t (Tsnarf f d.0 d.1 ∷ []))
+event_keeps t (Look f) = dot-sent t f Tlook
+event_keeps t (Search f) = dot-sent t f Tsearch
+event_keeps t (Send f) = dot-sent t f Tsend
+event_keeps t (Dclick f p) = sends-plain t (Tdclick f p ∷ [])
+event_keeps t (Scroll f n) = sends-plain t (Torigin f (window_at t f).view_start n ∷ [])
+event_keeps t (View f p n) = requested-keeps (put_window t f (record (window_at t f) { view_start = p; view_length = n })) f
+event_keeps t (Open f) = sends-plain t (Tstartfile f ∷ [])
+event_keeps t (Close f) = sends-plain t (Tclose f ∷ [])
+event_keeps t (Write f) = sends-plain t (Twrite f ∷ [])
+event_keeps t (Work f) = dot-sent t f Tworkfile
+event_keeps t OpenCmd = sends-plain t (Tstartcmdfile ∷ [])
+event_keeps t New = sends-plain t (Tstartnewfile ∷ [])
+event_keeps t Exit = sends-plain t (Texit ∷ [])
+event_keeps t (Check f) = sends-plain t (Tcheck f ∷ [])
+event_keeps t GetSnarf = sends-plain t (Tstartsnarf ∷ [])
+event_keeps t (SetSnarf s) = sends-plain t (Tsetsnarf s ∷ [])
+event_keeps t (Version v) = sends-plain t (Tversion v ∷ [])
+event_keeps t Flush = flushed-held t
+
+pub frame_keeps : (t : PlainTerminal) (m : Hmesg) → held_in (made_from t m) ≡ t.held
+unfolding took_bindname took_data took_grow took_growdata took_cut took_unlockfile took_close took_exit
+frame_keeps t (Hversion v) = refl
+frame_keeps t (Hbindname f) = refl
+frame_keeps t (Hcurrent f) = refl
+frame_keeps t (Hnewname f) = refl
+frame_keeps t (Hmovname f s) = refl
+frame_keeps t (Hgrow f p n) = refl
+frame_keeps t (Hcheck f) = requested-keeps t f
+frame_keeps t Hunlock = refl
+frame_keeps t (Hdata f p s) = refl
+frame_keeps t (Horigin f p) = refl
+frame_keeps t (Hunlockfile f) = requested-keeps (took_unlockfile t f) f
+frame_keeps t (Hsetdot f p q) = refl
+frame_keeps t (Hgrowdata f p s) = refl
+frame_keeps t (Hmoveto f p) = refl
+frame_keeps t (Hclean f) = refl
+frame_keeps t (Hdirty f) = refl
+frame_keeps t (Hcut f p n) = refl
+frame_keeps t (Hsetpat s) = refl
+frame_keeps t (Hdelname f) = refl
+frame_keeps t (Hclose f) = refl
+frame_keeps t (Hsetsnarf s) = refl
+frame_keeps t (Hsnarflen n) = refl
+frame_keeps t Hack = either-keeps t.has_exited (t, []) (sends t unchanged (Tack ∷ [])) t.held refl (sends-plain t (Tack ∷ []))
+frame_keeps t Hexit = refl
+
+-- what was made, where it was
+abbrev made_in : Result Made TermFault → PlainTerminal → PlainTerminal
+made_in (Ok made) t = made.0
+made_in (Err why) t = t
+
+counted : (n : ℕ) (made : Made) (u : PlainTerminal) (ms : List Tmesg) → if_countable n made ≡ Ok (u, ms) → u ≡ made.0
+counted n made u ms e = go (nat_lt most_count n) e
+  where
+    go : (b : Bool) → (if b then (let x : Result Made TermFault = Err fault.CountFull in x) else Ok made) ≡ Ok (u, ms) → u ≡ made.0
+    go true q = absurd (cc)
+    go false q = sym (ap (λ r. made_in r u) q)
+
+pub flush_held : (t u : PlainTerminal) (ms : List Tmesg) → flush_of t ≡ Ok (u, ms) → u.held ≡ t.held
+unfolding flush_of
+flush_held t u ms e = ap (λ v. v.held) (counted (flushed t).0.sent (flushed t) u ms e) ∙ flushed-held t
+
+pub take_held : (t u : PlainTerminal) (frame : HFrame) (ms : List Tmesg) → take_of t frame ≡ Ok (u, ms) → u.held ≡ t.held
+unfolding take_of
+take_held t u frame ms e = go (first_of_checks ((nat_lt t.sent frame.seen, fault.FromTheFuture) ∷ frame_checks t frame.msg)) e
+  where
+    go : (o : Option TermFault) → made_unless o (made_from t frame.msg) ≡ Ok (u, ms) → u.held ≡ t.held
+    go (Some why) q = absurd (cc)
+    go None q = ap (λ v. v.held) (counted (made_from t frame.msg).0.sent (made_from t frame.msg) u ms q) ∙ frame_keeps t frame.msg
+
+-- the terminal of an act that could be counted
+done-term : (n : ℕ) (t u : PlainTerminal) (ms : List Tmesg) (acted : Acted) → if_countable {A = PlainTerminal × Acted} n (t, Done ms) ≡ Ok (u, acted) → u ≡ t
+unfolding term_in
+done-term n t u ms acted e = go (nat_lt most_count n) e
+  where
+    go : (b : Bool) → (if b then (let x : Result (PlainTerminal × Acted) TermFault = Err fault.CountFull in x) else Ok (t, Done ms)) ≡ Ok (u, acted) → u ≡ t
+    go true q = absurd (cc)
+    go false q = sym (ap (λ r. term_in r t) q)
+
+locked-not : (acted : Acted) → Locked ≡ acted → IsSettled acted → ⊥
+locked-not Idle e s = s
+locked-not Locked e s = s
+locked-not (Done ms) e s = absurd (cc)
+locked-not (Refused why) e s = absurd (cc)
+
+idle-not : (acted : Acted) → Idle ≡ acted → IsSettled acted → ⊥
+idle-not Idle e s = s
+idle-not Locked e s = s
+idle-not (Done ms) e s = absurd (cc)
+idle-not (Refused why) e s = absurd (cc)
+
+-- an event that is done or refused is held no longer
+pub act_held : (t u : PlainTerminal) (acted : Acted) → act_of t ≡ Ok (u, acted) → IsSettled acted → length u.held + 1 ≡ length t.held
+unfolding act_of acted_in term_in
+act_held t u acted e s = go t.held e
+  where
+    decides : (x : UserEvent) (es : List UserEvent) (o : Option Verdict) → decided o t es (made_by (record t { held = es }) x) ≡ Ok (u, acted) → u.held ≡ es
+    decides x es (Some Waits) q = absurd (locked-not acted (ap (λ r. acted_in r Idle) q) s)
+    decides x es (Some (Refuses r)) q = sym (ap (λ y. (term_in y t).held) q)
+    decides x es None q =
+        let made : Made = made_by (record t { held = es }) x in
+        ap (λ v. v.held) (done-term made.0.sent made.0 u made.1 acted q) ∙ event_keeps (record t { held = es }) x
+
+    go : (es : List UserEvent) → act_on t es ≡ Ok (u, acted) → length u.held + 1 ≡ length es
+    go [] q = absurd (idle-not acted (ap (λ r. acted_in r Locked) q) s)
+    go (x ∷ es) q =
+        let same : length u.held ≡ length es = ap (λ hs. length hs) (decides x es (first_of_checks (event_checks t x)) q) in
+        omega (arith, same)

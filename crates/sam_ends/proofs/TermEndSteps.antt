@@ -1,0 +1,97 @@
+-- One step of a terminal end: what holds of the end after it.
+use Rattle.std.proofs.Common.{◌≡◌, refl, sym, ap, subst, ◌∙◌, ℕ, ◌+◌, ◌-◌, ◌≤◌, ◌⊎◌, inl, inr, false, List, [], ◌∷◌, ◌++◌, length, drop, Option, Some, None, Result, Ok, Err, arith}
+use Rattle.std.specs.Prelude.{slice_get, IsTrue}
+use Rattle.std.proofs.lemmas.List.Elements.{All-tail}
+use Rattle.sam_mesg.specs.HostKinds.{fits_h}
+use Rattle.sam_mesg.specs.declared.tmesg.Tmesg.{Tmesg}
+use Rattle.sam_mesg.specs.declared.hmesg.HFrame.{HFrame}
+use Rattle.sam_frame.specs.Direction.{host}
+use Rattle.sam_frame.specs.Framing.{Held}
+use Rattle.sam_term.specs.Fitting.{composed_in}
+use Rattle.sam_term.specs.Term.{PlainTerminal, act_of, flush_of, take_of}
+use Rattle.sam_term.specs.declared.event.Acted.{Acted}
+use Rattle.sam_term.specs.declared.event.Acted.TheVariants.{Idle, Locked, Done, Refused}
+use Rattle.sam_term.proofs.ActLaws.{idle_still, locked_still}
+use Rattle.sam_ends.specs.declared.fault.StreamFault.{StreamFault}
+use Rattle.sam_ends.specs.Streams.{FitFrames, Gives}
+use Rattle.sam_ends.specs.TermEnds.{PlainTermEnd, IsQuiet, IsSettled, oldest, refusals_from}
+use Rattle.sam_ends.specs.TermSteps.{ActsFirst, IsSound, Receives, ReceivesFirst, Tries, stopped, stopped_by}
+use Rattle.sam_ends.specs.declared.fault.TermStop.{TermStop}
+use Rattle.sam_ends.specs.declared.fault.TermStop.TheVariants as stop
+use Rattle.sam_ends.specs.declared.fault.EndFault.{EndFault}
+use Rattle.sam_ends.specs.declared.fault.EndFault.TheVariants as fault
+use Rattle.sam_ends.proofs.TermEndHeld.{act_held, flush_held, take_held}
+
+pub first_read : (frames : List HFrame) (frame : HFrame) → slice_get frames 0 ≡ Some frame → frames ≡ frame ∷ drop 1 frames
+first_read [] frame s = absurd (cc)
+first_read (x ∷ frames) frame s = let same : x ≡ frame = (cc) in ap (λ y. y ∷ frames) same
+
+pub none_read : (frames : List HFrame) → slice_get frames 0 ≡ None → frames ≡ []
+none_read [] s = refl
+none_read (x ∷ frames) s = absurd (cc)
+
+-- ## Frames
+
+pub rest_fit : (frames : List HFrame) (frame : HFrame) → frames ≡ frame ∷ drop 1 frames → FitFrames frames → FitFrames (drop 1 frames)
+rest_fit frames frame first fit = All-tail (λ (x : HFrame). IsTrue (fits_h 2 x.msg)) frame (drop 1 frames) (subst (λ xs. FitFrames xs) first fit)
+
+pub given_reads : (h : Held) (piece : List ℕ) (frames : List HFrame) (behind : Option StreamFault) (k : Held) → Gives host h piece frames behind k → behind ≡ None → k.failed ≡ false
+given_reads h piece frames None k g none = g.sound
+given_reads h piece frames (Some why) k g none = absurd (cc)
+
+pub taken_counted : (e : PlainTermEnd) (u : PlainTerminal) (frame : HFrame) (ms : List Tmesg) → IsSound e → take_of e.term frame ≡ Ok (u, ms) → length u.held ≤ e.events
+taken_counted e u frame ms s taken = subst (λ hs. length hs ≤ e.events) (sym (take_held e.term u frame ms taken)) s.counted
+
+-- ## Events
+
+pub idle_counted : (e : PlainTermEnd) (u : PlainTerminal) → IsSound e → act_of e.term ≡ Ok (u, Idle) → length u.held ≤ e.events
+idle_counted e u s act = subst (λ t. length t.held ≤ e.events) (sym (idle_still e.term u act)) s.counted
+
+pub locked_counted : (e : PlainTermEnd) (u : PlainTerminal) → IsSound e → act_of e.term ≡ Ok (u, Locked) → length u.held ≤ e.events
+locked_counted e u s act = subst (λ t. length t.held ≤ e.events) (sym (locked_still e.term u act)) s.counted
+
+pub settled_counted : (e : PlainTermEnd) (u : PlainTerminal) (acted : Acted) → IsSound e → act_of e.term ≡ Ok (u, acted) → IsSettled acted → length u.held ≤ e.events
+settled_counted e u acted s act settled = omega (arith, act_held e.term u acted act settled, s.counted)
+
+pub idle_quiet : (e g : PlainTermEnd) (u : PlainTerminal) → act_of e.term ≡ Ok (u, Idle) → g ≡ record e { term = u } → IsQuiet e.term × (g ≡ e)
+idle_quiet e g u act same =
+    let still : u ≡ e.term = idle_still e.term u act in
+    (inl (subst (λ t. act_of e.term ≡ Ok (t, Idle)) still act), same ∙ ap (λ t. record e { term = t }) still)
+
+pub locked_quiet : (e g : PlainTermEnd) (u : PlainTerminal) → act_of e.term ≡ Ok (u, Locked) → g ≡ record e { term = u } → IsQuiet e.term × (g ≡ e)
+locked_quiet e g u act same =
+    let still : u ≡ e.term = locked_still e.term u act in
+    (inr (subst (λ t. act_of e.term ≡ Ok (t, Locked)) still act), same ∙ ap (λ t. record e { term = t }) still)
+
+pub acted_first : (e g : PlainTermEnd) (u : PlainTerminal) (acted : Acted) → IsSound e → act_of e.term ≡ Ok (u, acted) → IsSettled acted
+    → g ≡ record e { term = u; unwritten = composed_in acted; refusals = e.refusals ++ refusals_from (oldest e) (acted ∷ []) } → ActsFirst e g
+acted_first e g u acted s act settled same =
+    let fewer : length u.held + 1 ≡ length e.term.held = act_held e.term u acted act settled in
+    record {
+      term = u;
+      acted = acted;
+      acts = act;
+      settled = settled;
+      after = same;
+      next = ap oldest same ∙ omega (arith, fewer, s.counted);
+      fewer = ap (λ (k : PlainTermEnd). length k.term.held + 1) same ∙ fewer;
+    }
+
+-- the number of an event that is refused, as it is counted
+pub refused_number : (e : PlainTermEnd) (u : PlainTerminal) (acted : Acted) → act_of e.term ≡ Ok (u, acted) → IsSettled acted → e.events - length u.held ≡ oldest e
+refused_number e u acted act settled = let fewer = act_held e.term u acted act settled in omega (arith, fewer)
+
+-- ## Faults
+
+-- the terminal did not receive the oldest frame
+pub receive_failed : (e h g : PlainTermEnd) (frame : HFrame) (rest : List HFrame) (u : PlainTerminal) (why : EndFault TermStop) → e.waiting ≡ frame ∷ rest
+    → Tries {A = List Tmesg} e.term (take_of e.term frame) (Err why) u → h ≡ record e { term = u } → g ≡ stopped_by h why → Receives e (Err why) g
+receive_failed e h g frame rest u fault.Unfinished waited still same after = after ∙ same ∙ ap (λ t. record e { term = t }) still
+receive_failed e h g frame rest u (fault.Stopped (stop.Refused why)) waited (refused, still) same after =
+    (frame, rest, waited, refused, after ∙ ap (λ k. stopped k (stop.Refused why)) (same ∙ ap (λ t. record e { term = t }) still))
+receive_failed e h g frame rest u (fault.Stopped (stop.Stream why)) waited none same after = absurd none
+receive_failed e h g frame rest u fault.OutOfMemory waited none same after = absurd none
+receive_failed e h g frame rest u fault.CountFull waited none same after = absurd none
+
+pub flushed_counted : (e : PlainTermEnd) (u : PlainTerminal) (ms : List Tmesg) → IsSound e → flush_of e.term ≡ Ok (u, ms) → length u.held ≤ e.events
+flushed_counted e u ms s flushed = subst (λ hs. length hs ≤ e.events) (sym (flush_held e.term u ms flushed)) s.counted

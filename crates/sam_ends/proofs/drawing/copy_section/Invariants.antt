@@ -1,0 +1,11 @@
+use Rattle.std.proofs.Common.{◌≡◌, ◌++◌, ◌+◌, drop, length, take}
+use Rattle.std.specs.Prelude.{map}
+use Rattle.sam_rasp.specs.Sections.{cells}
+use Rattle.sam_ends.specs.Drawing.{drawn}
+use Rattle.sam_ends.proofs.drawing.copy_section.Given as goal
+
+abbrev pub invariant-loop-next : goal.invariant-loop-next
+invariant-loop-next l = record {
+  size : length l.into ≡ length l.fn.into;
+  now : l.into ≡ take l.at l.fn.into ++ map drawn (take l.next (drop l.place (cells l.section))) ++ drop (l.at + l.next) l.fn.into;
+}

@@ -1,0 +1,46 @@
+use Rattle.std.proofs.Common.{rules, ◌≡◌, ◌∙◌, ap, subst, sym, length, Ok, Err, arith}
+use Rattle.sam_ends.specs.TermEnds.{PlainTermEnd}
+use Rattle.sam_ends.specs.TermSteps.{Acts, ActsAll, ActsFirst, written}
+use Rattle.sam_ends.proofs.TermEndCalls.{Acting, acted_all, acting_failed, acting_more, acting_none, acting_unwritten, acting_written}
+use Rattle.sam_ends.proofs.term_end.TermEnd.act_all.Goals as goal
+
+pub loop-self-init : goal.loop-self-init
+loop-self-init c = acting_none c.args.self.now c.requires.idle c.requires.running
+
+pub act_first-requires : goal.act_first-requires
+act_first-requires c = c.loop-self.invariant.idle.unwritten
+
+pub returns-in_err-act_first : goal.returns-in_err-act_first
+returns-in_err-act_first c =
+    let why = c.in_err-act_first.field-0.0 in
+    let same : c.from_residual.result ≡ Err why = search rules in
+    subst (λ x. ActsAll c.args.self.now x c.act_first.new.self) (sym same)
+    (acting_failed c.args.self.now c.loop-self.self c.act_first.new.self why c.loop-self.invariant c.in_err-act_first.ensures)
+
+pub loop-self-smaller : goal.loop-self-smaller
+loop-self-smaller c =
+    let f : ActsFirst c.loop-self.self c.act_first.new.self = subst (λ b. Acts c.loop-self.self (Ok b) c.act_first.new.self) c.if-branch.true c.in_ok-act_first.ensures in
+    let wrote : c.write_composed.new.self ≡ written c.act_first.new.self = c.in_ok-write_composed.ensures in
+    let less = ap (λ (x : PlainTermEnd). length x.term.held) wrote in
+    omega (arith, f.fewer, less)
+
+pub loop-self-preserved : goal.loop-self-preserved
+loop-self-preserved c =
+    let e : PlainTermEnd = c.args.self.now in
+    let f : ActsFirst c.loop-self.self c.act_first.new.self = subst (λ b. Acts c.loop-self.self (Ok b) c.act_first.new.self) c.if-branch.true c.in_ok-act_first.ensures in
+    let wrote : c.write_composed.new.self ≡ written c.act_first.new.self = c.in_ok-write_composed.ensures in
+    subst (λ x. Acting e x) (sym wrote) (acting_written e c.act_first.new.self (acting_more e c.loop-self.self c.act_first.new.self c.loop-self.invariant f))
+
+pub returns-in_err-write_composed : goal.returns-in_err-write_composed
+returns-in_err-write_composed c =
+    let e : PlainTermEnd = c.args.self.now in
+    let why = c.in_err-write_composed.field-0.0 in
+    let f : ActsFirst c.loop-self.self c.act_first.new.self = subst (λ b. Acts c.loop-self.self (Ok b) c.act_first.new.self) c.if-branch.true c.in_ok-act_first.ensures in
+    let same : c.from_residual-in_err-write_composed.result ≡ Err why = search rules in
+    subst (λ x. ActsAll e x c.write_composed.new.self) (sym same)
+    (acting_unwritten e c.act_first.new.self c.write_composed.new.self why (acting_more e c.loop-self.self c.act_first.new.self c.loop-self.invariant f) c.in_err-write_composed.ensures)
+
+pub returns : goal.returns
+returns c =
+    acted_all c.args.self.now c.loop-self.self c.act_first.new.self c.loop-self.invariant
+    (subst (λ b. Acts c.loop-self.self (Ok b) c.act_first.new.self) c.if-branch.false c.in_ok-act_first.ensures)

@@ -1,0 +1,23 @@
+use Rattle.std.proofs.Common.{◌≡◌, ap, subst, sym, List, Ok}
+use Rattle.sam_mesg.specs.declared.tmesg.Tmesg.{Tmesg}
+use Rattle.sam_ends.specs.Streams.{FitMessages}
+use Rattle.sam_term.specs.Term.{PlainTerminal, flush_of}
+use Rattle.sam_ends.specs.TermEnds.{PlainTermEnd, shown}
+use Rattle.sam_ends.specs.TermSteps.{Composes}
+use Rattle.sam_ends.proofs.TermEndSteps.{flushed_counted}
+use Rattle.sam_ends.proofs.term_end.TermEnd.compose_unsent.Goals as goal
+
+pub invariant_of-self : goal.invariant_of-self
+invariant_of-self c = record {
+  waiting = c.self.invariant.waiting;
+  unwritten = subst (λ ms. FitMessages ms) (sym c.into_vec.ensures) c.in-Ok.ensures.fit;
+  counted = flushed_counted (shown c.self.inside) c.flush_now.new.term c.in-Ok.composed c.self.invariant c.in-Ok.ensures.tries;
+  reads = c.self.invariant.reads;
+}
+
+pub returns-in-Ok : goal.returns-in-Ok
+returns-in-Ok c =
+    let e : PlainTermEnd = shown c.self.inside in
+    let u = c.flush_now.new.term in
+    let g : PlainTermEnd = record e { term = u; unwritten = c.into_vec.result.items } in
+    subst (λ (x : PlainTermEnd). Composes x (Ok tt) g) c.self.view_is (u, c.in-Ok.composed, c.in-Ok.ensures.tries, ap (λ ms. record e { term = u; unwritten = ms }) c.into_vec.ensures)

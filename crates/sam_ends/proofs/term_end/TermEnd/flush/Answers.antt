@@ -1,0 +1,28 @@
+use Rattle.std.proofs.Common.{rules, ◌≡◌, subst, sym, Err}
+use Rattle.sam_ends.specs.TermEnds.{PlainTermEnd, FlushesIdle, Flushes}
+use Rattle.sam_ends.proofs.TermEndCalls.{call_brought, call_failed, flush_not, flushed_on}
+use Rattle.sam_ends.proofs.term_end.TermEnd.flush.Goals as goal
+
+pub returns-in_err-resume : goal.returns-in_err-resume
+returns-in_err-resume c =
+    let g : PlainTermEnd = c.resume.new.self in
+    let why = c.in_err-resume.field-0.0 in
+    let same : c.from_residual.result ≡ Err why = search rules in
+    subst (λ r. Flushes c.args.self.now r g) (sym same) (call_failed c.args.self.now g why (λ m. FlushesIdle m (Err why) g) c.in_err-resume.ensures)
+
+pub returns-in_err-compose_unsent : goal.returns-in_err-compose_unsent
+returns-in_err-compose_unsent c =
+    let m : PlainTermEnd = c.resume.new.self in
+    let k : PlainTermEnd = c.compose_unsent.new.self in
+    let why = c.in_err-compose_unsent.field-0.0 in
+    let same : c.from_residual-in_err-compose_unsent.result ≡ Err why = search rules in
+    subst (λ r. Flushes c.args.self.now r k) (sym same)
+    (call_brought c.args.self.now m k (Err why) (λ x. FlushesIdle x (Err why) k) c.in_ok-resume.ensures (flush_not m k why c.in_err-compose_unsent.ensures))
+
+pub returns : goal.returns
+returns c =
+    let m : PlainTermEnd = c.resume.new.self in
+    let k : PlainTermEnd = c.compose_unsent.new.self in
+    let g : PlainTermEnd = c.go_on.new.self in
+    call_brought c.args.self.now m g c.go_on.result (λ x. FlushesIdle x c.go_on.result g) c.in_ok-resume.ensures
+    (flushed_on m k c.go_on.new.self c.go_on.result c.in_ok-compose_unsent.ensures c.go_on.ensures)

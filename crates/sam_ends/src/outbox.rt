@@ -1,0 +1,127 @@
+//! Bytes that an end has written and that were not taken yet.
+
+ghost use Rattle.std.specs.Prelude.{◌≡◌, ◌++◌, [], OnOk, OnErr, drop, length, min, take};
+ghost use Rattle.sam_ends.specs.Streams.{FitFrames, FitMessages};
+ghost use Rattle.sam_frame.specs.Direction.{host, terminal};
+ghost use Rattle.sam_frame.specs.Stream.{stream_of};
+
+use sam_mesg::{HFrame, MesgFault, Tmesg, encode_h, encode_t};
+use std::alloc::{AllocError, Global};
+use std::marker::Model;
+
+/// Bytes in the order in which they were written, which contracts see as a list. Taking some costs by those, and not by what is left.
+#[derive(Drop)]
+pub struct Outbox {
+    /// What was written, with bytes in front that were taken since.
+    bytes: Vec<u8>,
+    /// How many bytes at the front were taken: at most all.
+    taken: usize,
+}
+
+impl Model for Outbox {
+    ghost use Rattle.std.specs.Prelude.{List, ℕ, drop, length, ◌≤◌};
+
+    ghost Value = { List ℕ };
+
+    ghost view = { λ a. drop a.taken a.bytes.items };
+
+    ghost invariant = { λ a. a.taken ≤ length a.bytes.items };
+}
+
+impl Outbox {
+    /// No bytes. It takes no memory.
+    pub fn new(alloc: Global) -> Outbox
+        ensures { result ≡ [] }
+    {
+        Outbox {
+            bytes: Vec::new(alloc),
+            taken: 0,
+        }
+    }
+
+    /// How many bytes wait.
+    pub fn len(&self) -> usize
+        ensures { result ≡ length self.now }
+    {
+        self.bytes.len() - self.taken
+    }
+
+    /// Takes the first bytes into the buffer, as many as wait and have room there, and answers how many. The rest of the buffer stays.
+    pub fn take_into(&mut self, into: &mut [u8]) -> usize
+        ensures count { result ≡ min (length self.old) (length into.old) }
+        ensures bytes { into.new ≡ take result self.old ++ drop result into.old }
+        ensures rest { self.new ≡ drop result self.old }
+    {
+        let count = self.len().min(into.len());
+        let end = self.taken + count;
+        into[..count].copy_from_slice(&self.bytes[self.taken..end]);
+        self.taken = end;
+        count
+    }
+
+    /// Forgets the bytes that were taken, once they are half of all: so a byte is moved at most once for each that is taken.
+    fn compact(&mut self)
+        ensures { self.new ≡ self.old }
+    {
+        let rest = self.bytes.len() - self.taken;
+        if self.taken >= rest && self.taken > 0 {
+            self.bytes.copy_within(self.taken.., 0);
+            self.bytes.truncate(rest);
+            self.taken = 0;
+        }
+    }
+
+    /// Puts the frames behind the others, all or none. Its only fault is want of memory.
+    pub fn put_frames(&mut self, frames: &[HFrame]) -> Result<(), AllocError>
+        requires { FitFrames frames.now }
+        ensures written { OnOk result (self.new ≡ self.old ++ stream_of host frames.now) }
+        ensures unchanged { OnErr result (self.new ≡ self.old) }
+    {
+        self.compact();
+        let len = self.bytes.len();
+        if write_frames(&mut self.bytes, frames).is_err() {
+            self.bytes.truncate(len);
+            return Err(AllocError);
+        }
+        Ok(())
+    }
+
+    /// Puts the messages behind the others, all or none. Its only fault is want of memory.
+    pub fn put_messages(&mut self, messages: &[Tmesg]) -> Result<(), AllocError>
+        requires { FitMessages messages.now }
+        ensures written { OnOk result (self.new ≡ self.old ++ stream_of terminal messages.now) }
+        ensures unchanged { OnErr result (self.new ≡ self.old) }
+    {
+        self.compact();
+        let len = self.bytes.len();
+        if write_messages(&mut self.bytes, messages).is_err() {
+            self.bytes.truncate(len);
+            return Err(AllocError);
+        }
+        Ok(())
+    }
+}
+
+/// Puts the frames at the end, up to the first for which memory is refused.
+fn write_frames(out: &mut Vec<u8>, frames: &[HFrame]) -> Result<(), MesgFault>
+    requires { FitFrames frames.now }
+    ensures done { OnOk result (out.new.items ≡ out.old.items ++ stream_of host frames.now) }
+    ensures begins { take (length out.old.items) out.new.items ≡ out.old.items }
+{
+    for frame in frames {
+        encode_h(frame, out)?;
+    }
+    Ok(())
+}
+
+/// Puts the messages at the end, up to the first for which memory is refused.
+fn write_messages(out: &mut Vec<u8>, messages: &[Tmesg]) -> Result<(), MesgFault>
+    requires { FitMessages messages.now }
+    ensures done { OnOk result (out.new.items ≡ out.old.items ++ stream_of terminal messages.now) }
+    ensures begins { take (length out.old.items) out.new.items ≡ out.old.items }
+{
+    for message in messages {
+        encode_t(message, out)?;
+    }
+    Ok(())
+}

@@ -1,0 +1,96 @@
+-- What a terminal composes fits in its version, and so in version 2.
+use Rattle.std.proofs.Common.{◌≡◌, refl, sym, ap, subst, ◌≤◌, ℕ, Bool, true, false, ◌&&◌, List, [], ◌∷◌, Option, Some, None, Result, Ok, Err, if◌then◌else◌, ◌==◌, nat_lt, arith}
+use Rattle.std.specs.Prelude.{All}
+use Rattle.std.proofs.lemmas.Bool.{leb-true, le-leb}
+use Rattle.std.proofs.lemmas.List.Elements.{All-nil, All-cons}
+use Rattle.sam_runes.specs.Checks.{first_of_checks}
+use Rattle.sam_runes.specs.Texts.{most_count, snarf_limit, utf8_length}
+use Rattle.sam_term.specs.Sound.{IsSound}
+use Rattle.sam_term.specs.Fitting.{all_fit, FitsLast, AllFit, composed_in}
+use Rattle.sam_term.proofs.ActLaws.{acted_in, not_done}
+use Rattle.sam_term.proofs.FitLaws.{event_fits, flush_fits, frame_fits}
+use Rattle.sam_term.specs.Term.{PlainTerminal, Made, act_of, act_on, decided, if_countable, event_checks, flush_of, flushed, take_of, made_by, made_from, made_unless, frame_checks}
+use Rattle.sam_term.specs.declared.event.Verdict.{Verdict}
+use Rattle.sam_term.specs.declared.event.Verdict.TheVariants.{Waits, Refuses}
+use Rattle.sam_term.specs.declared.event.UserEvent.{UserEvent}
+use Rattle.sam_term.specs.declared.event.Acted.{Acted}
+use Rattle.sam_term.specs.declared.event.Acted.TheVariants.{Idle, Locked, Done, Refused}
+use Rattle.sam_term.specs.declared.fault.TermFault.{TermFault}
+use Rattle.sam_term.specs.declared.fault.TermFault.TheVariants as fault
+use Rattle.sam_mesg.specs.TerminalKinds.{fits_t}
+use Rattle.sam_mesg.specs.declared.tmesg.Tmesg.{Tmesg}
+use Rattle.sam_mesg.specs.declared.tmesg.Tmesg.TheVariants.{Ttype, Tsetsnarf}
+use Rattle.sam_mesg.specs.declared.hmesg.HFrame.{HFrame}
+
+-- what fits in some version fits in the second
+later : (v : ℕ) (m : Tmesg) → fits_t v m ≡ true → fits_t 2 m ≡ true
+later v (Ttype f p s) e = e
+later v (Tsetsnarf s) e =
+    let within = leb-true (utf8_length s) (snarf_limit v) e in
+    let least : snarf_limit v ≤ 32000 = limit (v == 1) in
+    le-leb (utf8_length s) 32000 (omega (arith, within, least))
+  where
+    limit : (b : Bool) → (if b then 4096 else 32000) ≤ 32000
+    limit true = omega arith
+    limit false = omega arith
+later v _ e = refl
+
+both : (a b : Bool) → (a && b) ≡ true → (a ≡ true) × (b ≡ true)
+both true b e = (refl, e)
+both false b e = absurd (cc)
+
+all-later : (v : ℕ) (ms : List Tmesg) → all_fit v ms ≡ true → AllFit ms
+all-later v [] e = All-nil FitsLast
+all-later v (m ∷ ms) e = let parts = both (fits_t v m) (all_fit v ms) e in All-cons FitsLast m ms (later v m parts.0) (all-later v ms parts.1)
+
+-- messages of a terminal that fit in its version
+fitting : (v : ℕ) (ms ns : List Tmesg) → ms ≡ ns → all_fit v ns ≡ true → AllFit ms
+fitting v ms ns same e = subst (λ x. AllFit x) (sym same) (all-later v ns e)
+
+pub act_fits : (t u : PlainTerminal) (ms : List Tmesg) → IsSound t → act_of t ≡ Ok (u, Done ms) → AllFit ms
+unfolding act_of acted_in
+act_fits t u ms s a = go t.held a
+  where
+    decides : (x : UserEvent) (es : List UserEvent) (o : Option Verdict) → first_of_checks (event_checks t x) ≡ o → decided o t es (made_by (record t { held = es }) x) ≡ Ok (u, Done ms) → AllFit ms
+    decides x es (Some Waits) n q = let other : Locked ≡ Done ms = ap (λ y. acted_in y Idle) q in absurd (cc)
+    decides x es (Some (Refuses r)) n q = let other : Refused r ≡ Done ms = ap (λ y. acted_in y Idle) q in absurd (cc)
+    decides x es None n q =
+        let made : Made = made_by (record t { held = es }) x in
+        let same : Done ms ≡ Done made.1 = not_done made.0.sent made.0 u made.1 (Done ms) q in
+        let sound : IsSound (record t { held = es }) = record { countable = s.countable; windows = s.windows; unsent = s.unsent; short = s.short } in
+        fitting t.version ms made.1 (ap composed_in same) (event_fits (record t { held = es }) x sound n)
+
+    go : (es : List UserEvent) → act_on t es ≡ Ok (u, Done ms) → AllFit ms
+    go [] q = let other : Idle ≡ Done ms = ap (λ y. acted_in y Locked) q in absurd (cc)
+    go (x ∷ es) q = decides x es (first_of_checks (event_checks t x)) refl q
+
+messages_in : Result Made TermFault → List Tmesg
+messages_in (Ok made) = made.1
+messages_in (Err why) = []
+
+counted_in : (n : ℕ) (made : Made) (u : PlainTerminal) (ms : List Tmesg) → if_countable n made ≡ Ok (u, ms) → ms ≡ made.1
+unfolding messages_in
+counted_in n made u ms e = go (nat_lt most_count n) e
+  where
+    go : (b : Bool) → (if b then (let x : Result Made TermFault = Err fault.CountFull in x) else Ok made) ≡ Ok (u, ms) → ms ≡ made.1
+    go true q = absurd (cc)
+    go false q = sym (ap messages_in q)
+
+pub flushed_fits : (t u : PlainTerminal) (ms : List Tmesg) → IsSound t → flush_of t ≡ Ok (u, ms) → AllFit ms
+unfolding flush_of
+flushed_fits t u ms s a = fitting t.version ms (flushed t).1 (counted_in (flushed t).0.sent (flushed t) u ms a) (flush_fits t s)
+
+pub taken_fits : (t u : PlainTerminal) (frame : HFrame) (ms : List Tmesg) → IsSound t → take_of t frame ≡ Ok (u, ms) → AllFit ms
+unfolding take_of
+taken_fits t u frame ms s a = go (first_of_checks ((nat_lt t.sent frame.seen, fault.FromTheFuture) ∷ frame_checks t frame.msg)) a
+  where
+    go : (o : Option TermFault) → made_unless o (made_from t frame.msg) ≡ Ok (u, ms) → AllFit ms
+    go (Some why) q = absurd (cc)
+    go None q = fitting t.version ms (made_from t frame.msg).1 (counted_in (made_from t frame.msg).0.sent (made_from t frame.msg) u ms q) (frame_fits t frame.msg s)
+
+-- what an act answers fits, whatever became of the event
+pub acted_fit : (t u : PlainTerminal) (acted : Acted) → IsSound t → act_of t ≡ Ok (u, acted) → AllFit (composed_in acted)
+acted_fit t u Idle s a = All-nil FitsLast
+acted_fit t u Locked s a = All-nil FitsLast
+acted_fit t u (Done ms) s a = act_fits t u ms s a
+acted_fit t u (Refused why) s a = All-nil FitsLast
