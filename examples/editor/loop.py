@@ -1,0 +1,101 @@
+"""The loop: sleeps until a key, bytes of the host or a signal come, and passes them on.
+
+What the user does goes one way: keys, the terminal, the link, the host, the link, the terminal, the screen.
+"""
+import os
+import select
+import signal
+from typing import Dict, Optional
+
+from editor import Editor
+from keys import waiting
+from link import Link
+from sam import SamError, Terminal
+from screen import Screen
+
+KEYBOARD = 0
+ENDS = (signal.SIGTERM, signal.SIGHUP)
+
+
+class Loop:
+    """One session at a screen."""
+
+    def __init__(self, terminal: Terminal, link: Link, screen: Screen, editor: Editor):
+        self.terminal, self.link, self.screen, self.editor = terminal, link, screen, editor
+        self.signals, wakes = os.pipe()
+        for end in (self.signals, wakes):
+            os.set_blocking(end, False)
+        signal.set_wakeup_fd(wakes, warn_on_full_buffer=False)
+        for number in (signal.SIGWINCH, *ENDS):
+            signal.signal(number, lambda *_: None)
+
+    def run(self) -> None:
+        """Returns when the user has left, or can't be reached any more."""
+        self.editor.arrange(*self.screen.size)
+        while not self.editor.is_over:
+            ready = self._ready(0)
+            if not ready:
+                self._idle()
+                ready = self._ready(None)
+            self._take_keys(ready)
+            self._take_signals(ready)
+            self._take_bytes(ready)
+            self._send()
+
+    def _ready(self, milliseconds: Optional[int]) -> Dict[int, int]:
+        """What is there to be read or written: events by descriptor. Sleeps until something is where no time is given."""
+        poll = select.poll()
+        for descriptor, events in {KEYBOARD: select.POLLIN, self.signals: select.POLLIN, **self.link.wanted()}.items():
+            poll.register(descriptor, events)
+        return dict(poll.poll(milliseconds))
+
+    def _idle(self) -> None:
+        """Before it sleeps: sends what was typed, and draws."""
+        self._do(self.editor.update)
+        if not self.editor.is_lost:
+            self._do(self.terminal.idle)
+        self._send()
+        self.screen.draw(self.editor, self.link)
+
+    def _take_keys(self, ready: Dict[int, int]) -> None:
+        if ready.get(KEYBOARD, 0) & (select.POLLHUP | select.POLLERR | select.POLLNVAL):
+            self.editor.is_over = True
+        elif KEYBOARD in ready:
+            for key in waiting(self.screen.screen):
+                self.editor.take(key)
+            self._do(self.editor.update)
+
+    def _take_signals(self, ready: Dict[int, int]) -> None:
+        if self.signals not in ready:
+            return
+        numbers = os.read(self.signals, 4096)
+        if any(number in ENDS for number in numbers):
+            self.editor.is_over = True
+        elif signal.SIGWINCH in numbers:
+            columns, rows = os.get_terminal_size(KEYBOARD)
+            self.screen.resize(rows, columns)
+            self.editor.arrange(*self.screen.size)
+
+    def _take_bytes(self, ready: Dict[int, int]) -> None:
+        if self.link.messages in ready and not self.link.is_quiet:
+            for line in self.link.listen():
+                self.editor.message = line
+        if self.link.source in ready and not self.link.is_lost:
+            data = self.link.receive()
+            self._do(lambda: self.editor.feed(data))
+            self._do(self.editor.update)
+        if self.link.is_lost and not self.editor.is_lost and not self.editor.is_over:
+            self.editor.lose("the host is gone")
+
+    def _send(self) -> None:
+        self.link.send(self.terminal.out())
+
+    def _do(self, action) -> None:
+        """Does something that the terminal may refuse. Want of memory passes: the next call goes on with what waits."""
+        try:
+            action()
+        except MemoryError as error:
+            self.editor.message = f"there is not enough memory ({error})"
+        except SamError as error:
+            if not self.editor.is_lost:
+                self.editor.lose(f"the host's stream is wrong ({error})")

@@ -1,0 +1,51 @@
+"""What lies over the windows: the menu of files and the help. Each has rows to draw, and takes keys until it is over."""
+from typing import Callable, List, Tuple
+
+from keys import Input, Key, Text, table
+
+Line = Tuple[str, bool]  # a text, and whether it is the chosen one
+
+
+class Help:
+    """The list of keys."""
+
+    title = "Keys"
+
+    def __init__(self):
+        self.is_over, self.first = False, 0
+
+    def lines(self, height: int) -> List[Line]:
+        lines = table()
+        self.first = min(self.first, max(0, len(lines) - height))
+        return [(line, False) for line in lines[self.first : self.first + height]]
+
+    def take(self, key: Input) -> None:
+        if isinstance(key, Key) and key.name in ("Down", "Page Down"):
+            self.first += 5
+        elif isinstance(key, Key) and key.name in ("Up", "Page Up"):
+            self.first = max(0, self.first - 5)
+        elif isinstance(key, (Key, Text)):
+            self.is_over = True
+
+
+class Menu:
+    """Entries of which one is chosen; `choose` is told which, as a number from 0."""
+
+    def __init__(self, title: str, entries: List[str], chosen: int, choose: Callable[[int], None]):
+        self.title, self.entries, self.choose = title, entries, choose
+        self.chosen, self.is_over = max(0, min(chosen, len(entries) - 1)), False
+
+    def lines(self, height: int) -> List[Line]:
+        first = max(0, min(self.chosen - height // 2, len(self.entries) - height))
+        shown = list(enumerate(self.entries))[first : first + height]
+        return [(entry, at == self.chosen) for at, entry in shown]
+
+    def take(self, key: Input) -> None:
+        steps = {"Up": -1, "Down": 1, "Page Up": -10, "Page Down": 10}
+        if isinstance(key, Key) and key.name in steps:
+            self.chosen = max(0, min(self.chosen + steps[key.name], len(self.entries) - 1))
+        elif key == Text("\n"):
+            self.is_over = True
+            self.choose(self.chosen)
+        elif isinstance(key, Key):
+            self.is_over = True
