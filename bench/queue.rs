@@ -1,4 +1,4 @@
-//! A bounded queue between threads: a `Mutex` round a `VecDeque`, and the standard library's channel.
+//! A bounded queue between threads: the standard library's channel.
 
 use crate::Report;
 use std::sync::mpsc;

@@ -2,17 +2,16 @@
 //!
 //! In what order the threads go differs from run to run. So a session is compared with the world where its own events lead.
 
-ghost use Rattle.sam_threads.specs.Settled.{AreEnds};
+ghost use Rattle.sam_threads.specs.Told.{AreEnds};
 
 use crate::answers::is_same_host;
 use crate::events::is_same_terminal;
 use crate::setup::{SetUp, Tried};
 use crate::worlds::is_same_world;
 use sam_runes::Runes;
+use sam_running::{RunFault, SettleFault, Settled, run_ends, run_threads, settle};
 use sam_script::{Script, first_world, run_lines, show};
-use sam_threads::{
-    Ends, Lines, OpenGate, RunFault, SettleFault, Settled, Stop, run_ends, run_threads, settle,
-};
+use sam_threads::{Ends, Lines, OpenGate, Stop};
 use sam_world::{Event, World, merge};
 use std::alloc::Global;
 use std::sync::Wait;

@@ -6,10 +6,10 @@ use sam_mesg::MesgFault;
 use sam_queue::OutOfMemory;
 use sam_rasp::RaspFault;
 use sam_runes::{Runes, TextFault};
+use sam_running::RunFault;
 use sam_script::ScriptFault;
 use sam_term::TermFault;
 use sam_text::FilesFault;
-use sam_threads::RunFault;
 use sam_world::{MergeFault, RunStop, StepFault};
 use std::alloc::{AllocError, AllocFailed, Global};
 

@@ -1,5 +1,5 @@
 use Rattle.std.proofs.Common.{rules, ◌≡◌}
-use Rattle.sam_threads.specs.Settled.{AreEnds}
+use Rattle.sam_threads.specs.Told.{AreEnds}
 use Rattle.sam_memory.proofs.sessions.settled.Goals as goal
 
 pub settle-requires-in-Err-OutOfMemory : goal.settle-requires-in-Err-OutOfMemory
