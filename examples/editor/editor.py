@@ -1,5 +1,4 @@
 """The editor: what each key does to the terminal and to the windows."""
-import time
 from collections import deque
 from typing import Deque, Dict, List, Optional
 
@@ -76,7 +75,7 @@ class Editor:
         self.asked: Optional[str] = None  # the action that asked to be done again
         self.is_lost = self.is_leaving = self.is_over = self.has_begun = False
         self._seen_current: Optional[int] = None
-        self._clicked = (0.0, -1)  # when and where the mouse was pressed last
+        self._clicked = (0.0, -1)  # when and where the mouse was pressed last, by the time of the event: a click may wait for the host
         self._rows = 24
 
     # ---- Windows
@@ -308,13 +307,13 @@ class Editor:
         window.goal = None
         if mouse.row == window.y or not window.is_settled:
             return
-        now, place = time.monotonic(), window.layout().place_at(mouse.row - window.y - 1, mouse.column)
+        place = window.layout().place_at(mouse.row - window.y - 1, mouse.column)
         when, where = self._clicked
-        if where == place and now - when < DOUBLE_CLICK:
+        if where == place and mouse.when - when < DOUBLE_CLICK:
             self.terminal.dclick(window.tag, place)
             self._clicked, window.anchor = (0.0, -1), None
             return
-        self._clicked = (now, place)
+        self._clicked = (mouse.when, place)
         window.select(place)
 
     def _drag(self, mouse: Mouse) -> None:

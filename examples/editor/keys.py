@@ -1,5 +1,6 @@
 """The keys: what each does, and how curses tells of them."""
 import curses
+import time
 from typing import Dict, List, NamedTuple, Optional, Union
 
 
@@ -72,11 +73,12 @@ class Key(NamedTuple):
 
 
 class Mouse(NamedTuple):
-    """`what` is press, release, move, wheel up or wheel down."""
+    """`what` is press, release, move, wheel up or wheel down; `when` is the second at which it was read."""
 
     what: str
     row: int
     column: int
+    when: float
 
 
 Input = Union[Text, Key, Mouse]
@@ -104,7 +106,7 @@ def _mouse() -> Optional[Mouse]:
         (curses.REPORT_MOUSE_POSITION, "move"),
     ):
         if state & bit:
-            return Mouse(what, row, column)
+            return Mouse(what, row, column, time.monotonic())
     return None
 
 
