@@ -11,18 +11,21 @@ use sam_ends::{HostEnd, TermEnd};
 use std::alloc::Global;
 use std::marker::Model;
 
-/// What stands in a host's handle that is made: "sam host" as a number. Any other number says that it is empty.
+/// What stands in a host's handle that is made: "sam host" as a number. Any other number says that the handle is empty.
 const HOST_MARK: u64 = 8_314_046_373_061_161_844;
 
-/// The same of a terminal's handle: "sam term".
+/// What stands in a terminal's handle that is made: "sam term" as a number. Any other number says that the handle is empty.
 const TERM_MARK: u64 = 8_314_046_373_261_832_813;
 
-/// A host behind a pointer, or none. The derived drop leaves the memory to whoever holds the pointer now.
+/// A host end behind a pointer, or none. The derived drop leaves the memory to whoever holds the pointer by then.
 #[repr(C)]
 #[derive(Drop)]
 pub struct HeldHost {
+    /// Where the end lies, as a pointer to bytes; null if there is none.
     at: *mut u8,
+    /// The allocator that the end's box came from.
     alloc: Global,
+    /// The end behind the pointer, as contracts see it.
     pub ghost end: { Option PlainHostEnd } by { held_host_coded },
 }
 
@@ -33,6 +36,7 @@ impl Model for HeldHost {
 unsafe impl Send for HeldHost {}
 
 impl HeldHost {
+    /// Keeps the parts of a box.
     fn of_parts(parts: Parts<HostEnd, Global>) -> HeldHost
         ensures { result.end ≡ parts.value }
     {
@@ -43,6 +47,7 @@ impl HeldHost {
         }
     }
 
+    /// Gives the parts back.
     fn into_parts(self) -> Parts<HostEnd, Global>
         ensures { result.value ≡ self.end }
     {
@@ -54,15 +59,19 @@ impl HeldHost {
     }
 }
 
-/// The handle of a host: `sam_host` of include/sam.h. It is empty, or holds an end, which `held.end` is in a clause.
+/// The handle of a host: `sam_host` of include/sam.h. It is empty, or holds an end, which clauses call `held.end`.
 #[repr(C)]
 pub struct SamHost {
+    /// The end, if the handle is made.
     held: HeldHost,
+    /// `HOST_MARK` if and only if the handle holds an end.
     made: u64,
+    /// States that `held` and `made` agree.
     ghost is_marked: { is_some held.end ≡ eqb made host_mark },
 }
 
 impl SamHost {
+    /// Makes an empty handle.
     fn empty(alloc: Global) -> SamHost
         ensures { result.held.end ≡ None }
     {
@@ -72,6 +81,7 @@ impl SamHost {
         }
     }
 
+    /// Returns the end; `None` if the handle is empty.
     fn into_end(self) -> Option<Box<HostEnd>>
         ensures { option_map (λ end. end.value) result ≡ self.held.end }
     {
@@ -83,14 +93,14 @@ impl SamHost {
         }
     }
 
-    /// Whether the handle holds an end.
+    /// Returns whether the handle holds an end.
     pub(crate) fn is_made(&self) -> bool
         ensures { result ≡ is_some self.now.held.end }
     {
         self.made == HOST_MARK
     }
 
-    /// Takes the end out of the handle, which is empty then. `None` where it was empty.
+    /// Takes the end out of the handle, which is then empty. Returns `None` if it was empty.
     pub(crate) fn take(&mut self, alloc: Global) -> Option<Box<HostEnd>>
         ensures end { option_map (λ end. end.value) result ≡ self.old.held.end }
         ensures empty { self.new.held.end ≡ None }
@@ -113,17 +123,21 @@ impl SamHost {
 }
 
 impl Drop for SamHost {
+    /// Frees the end, if the handle holds one.
     fn drop(self) {
         drop(self.into_end());
     }
 }
 
-/// A terminal behind a pointer, or none. The derived drop leaves the memory to whoever holds the pointer now.
+/// A terminal end behind a pointer, or none. The derived drop leaves the memory to whoever holds the pointer by then.
 #[repr(C)]
 #[derive(Drop)]
 pub struct HeldTerm {
+    /// Where the end lies, as a pointer to bytes; null if there is none.
     at: *mut u8,
+    /// The allocator that the end's box came from.
     alloc: Global,
+    /// The end behind the pointer, as contracts see it.
     pub ghost end: { Option PlainTermEnd } by { held_term_coded },
 }
 
@@ -134,6 +148,7 @@ impl Model for HeldTerm {
 unsafe impl Send for HeldTerm {}
 
 impl HeldTerm {
+    /// Keeps the parts of a box.
     fn of_parts(parts: Parts<TermEnd, Global>) -> HeldTerm
         ensures { result.end ≡ parts.value }
     {
@@ -144,6 +159,7 @@ impl HeldTerm {
         }
     }
 
+    /// Gives the parts back.
     fn into_parts(self) -> Parts<TermEnd, Global>
         ensures { result.value ≡ self.end }
     {
@@ -155,15 +171,19 @@ impl HeldTerm {
     }
 }
 
-/// The handle of a terminal: `sam_term` of include/sam.h. It is empty, or holds an end, which `held.end` is in a clause.
+/// The handle of a terminal: `sam_term` of include/sam.h. It is empty, or holds an end, which clauses call `held.end`.
 #[repr(C)]
 pub struct SamTerm {
+    /// The end, if the handle is made.
     held: HeldTerm,
+    /// `TERM_MARK` if and only if the handle holds an end.
     made: u64,
+    /// States that `held` and `made` agree.
     ghost is_marked: { is_some held.end ≡ eqb made term_mark },
 }
 
 impl SamTerm {
+    /// Makes an empty handle.
     fn empty(alloc: Global) -> SamTerm
         ensures { result.held.end ≡ None }
     {
@@ -173,6 +193,7 @@ impl SamTerm {
         }
     }
 
+    /// Returns the end; `None` if the handle is empty.
     fn into_end(self) -> Option<Box<TermEnd>>
         ensures { option_map (λ end. end.value) result ≡ self.held.end }
     {
@@ -184,14 +205,14 @@ impl SamTerm {
         }
     }
 
-    /// Whether the handle holds an end.
+    /// Returns whether the handle holds an end.
     pub(crate) fn is_made(&self) -> bool
         ensures { result ≡ is_some self.now.held.end }
     {
         self.made == TERM_MARK
     }
 
-    /// Takes the end out of the handle, which is empty then. `None` where it was empty.
+    /// Takes the end out of the handle, which is then empty. Returns `None` if it was empty.
     pub(crate) fn take(&mut self, alloc: Global) -> Option<Box<TermEnd>>
         ensures end { option_map (λ end. end.value) result ≡ self.old.held.end }
         ensures empty { self.new.held.end ≡ None }
@@ -214,6 +235,7 @@ impl SamTerm {
 }
 
 impl Drop for SamTerm {
+    /// Frees the end, if the handle holds one.
     fn drop(self) {
         drop(self.into_end());
     }

@@ -1,4 +1,5 @@
-//! What C calls of a host: see include/sam.h, which says of each what it does.
+//! What C calls of a host: include/sam.h says of each call what it does. A call returns a number of `sam_status`; after `SAM_NO_HANDLE`,
+//! `SAM_NONE` and `SAM_NO_MEMORY` what its other arguments lead to is as it was.
 
 ghost use Rattle.std.specs.Prelude.{◌≡◌, length};
 ghost use Rattle.sam_c.specs.Calls.{Tells};
@@ -9,7 +10,8 @@ use crate::status::{MADE, NO_HANDLE, NO_MEMORY, NONE, OK, add_status, host_statu
 use sam_ends::HostEnd;
 use std::alloc::Global;
 
-/// Makes a host with the command file alone.
+/// Makes a host with the command file alone (tag 0). Errors, in this order: `SAM_MADE` if the handle is made already; `SAM_NO_MEMORY`.
+/// After an error the handle is as it was.
 #[unsafe(no_mangle)]
 pub extern "C" fn sam_host_new(host: &mut SamHost, alloc: Global) -> u32
     ensures { HostMade host.old.held.end result host.new.held.end }
@@ -27,7 +29,7 @@ pub extern "C" fn sam_host_new(host: &mut SamHost, alloc: Global) -> u32
     OK
 }
 
-/// Frees a host, with what was pending.
+/// Frees a host, with what was pending. The handle is then empty. `SAM_NO_HANDLE` if it is empty already.
 #[unsafe(no_mangle)]
 pub extern "C" fn sam_host_free(host: &mut SamHost, alloc: Global) -> u32
     ensures { Freed host.old.held.end result host.new.held.end }
@@ -38,7 +40,11 @@ pub extern "C" fn sam_host_free(host: &mut SamHost, alloc: Global) -> u32
     }
 }
 
-/// Adds a file of this name and text, both in UTF-8, and hands out its tag.
+/// Adds a file, clean and closed, and hands out its tag: 1 for the first, and so on. The name and the text are UTF-8.
+///
+/// Errors, in this order: `SAM_NO_HANDLE`; `SAM_ADD_BEGUN` after the first feed; `SAM_NOT_TEXT` if the name or the text is not UTF-8;
+/// `SAM_ADD_TOO_LONG` for a name of more than 64 runes or a text of more than 1,000,000; `SAM_ADD_NO_TAG` if all tags were given;
+/// `SAM_NO_MEMORY`. After an error the host and the tag are as they were.
 #[unsafe(no_mangle)]
 pub extern "C" fn sam_host_add_file(
     host: &mut SamHost,
@@ -63,7 +69,12 @@ pub extern "C" fn sam_host_add_file(
     status
 }
 
-/// Takes bytes of the terminal's messages, and answers each that is whole.
+/// Takes bytes of the terminal's messages, in whatever pieces they come, and answers each message that is whole. The answers are then
+/// pending.
+///
+/// Returns `SAM_OK`, `SAM_NO_MEMORY`, `SAM_UNFINISHED`, `SAM_COUNT_FULL`, `SAM_NO_HANDLE`, or why the host has stopped, at this call or
+/// before: `SAM_STREAM..`, `SAM_HOST_REFUSED..`. What stood before the fault is answered. `SAM_NO_HANDLE` comes first; the order of the
+/// others is that of [`HostEnd::feed`].
 #[unsafe(no_mangle)]
 pub extern "C" fn sam_host_feed(host: &mut SamHost, bytes: &[u8], alloc: Global) -> u32
     ensures { HostFed host.old.held.end bytes.now result host.new.held.end }
@@ -76,7 +87,7 @@ pub extern "C" fn sam_host_feed(host: &mut SamHost, bytes: &[u8], alloc: Global)
     status
 }
 
-/// How many bytes are pending.
+/// Hands out how many bytes are pending. `SAM_NO_HANDLE` if the handle is empty.
 #[unsafe(no_mangle)]
 pub extern "C" fn sam_host_out_len(host: &mut SamHost, len: &mut usize, alloc: Global) -> u32
     ensures told { Tells host.old.held.end result len.old len.new (λ e. length e.outbox) }
@@ -90,7 +101,8 @@ pub extern "C" fn sam_host_out_len(host: &mut SamHost, len: &mut usize, alloc: G
     OK
 }
 
-/// Moves the first pending bytes into the buffer, as many as have room, and hands out how many.
+/// Moves the first pending bytes into the buffer, as many as it has room for, and hands out how many. `SAM_NO_HANDLE` if the handle is
+/// empty.
 #[unsafe(no_mangle)]
 pub extern "C" fn sam_host_out(
     host: &mut SamHost,
@@ -108,7 +120,8 @@ pub extern "C" fn sam_host_out(
     OK
 }
 
-/// Hands out the oldest tag that the terminal told the host to write and that was not handed out yet.
+/// Hands out the tag of the next file that the terminal told the host to write (Twrite) and that this call has not handed out yet: now is
+/// the time to write `sam_host_saved` of it to disk. `SAM_NO_HANDLE` if the handle is empty; `SAM_NONE` if there is no such tag.
 #[unsafe(no_mangle)]
 pub extern "C" fn sam_host_next_written(host: &mut SamHost, tag: &mut u16, alloc: Global) -> u32
     ensures { HostNextWritten host.old.held.end tag.old result tag.new host.new.held.end }

@@ -1,4 +1,5 @@
-//! What C reads of a host: see include/sam.h, which says of each what it tells.
+//! What C reads of a host: include/sam.h says of each call what it hands out. None of them changes the host. Each returns `SAM_NO_HANDLE`
+//! if the handle is empty; after that, and after `SAM_NONE`, what its other arguments lead to is as it was.
 
 ghost use Rattle.std.specs.Prelude.{◌≡◌, drop, is_some, length, option_map};
 ghost use Rattle.sam_c.specs.Calls.{Tells, TellsName, TellsSome, TellsText, written};
@@ -9,7 +10,7 @@ use crate::status::{NO_HANDLE, NONE, OK};
 use crate::utf8::{runes_from, tell_name, tell_text};
 use std::alloc::Global;
 
-/// Whether the session is over.
+/// Hands out whether the session is over: the terminal has sent Texit, or a command line was `q`.
 #[unsafe(no_mangle)]
 pub extern "C" fn sam_host_is_done(host: &mut SamHost, done: &mut bool, alloc: Global) -> u32
     ensures told { Tells host.old.held.end result done.old done.new (λ e. e.host.is_done) }
@@ -23,7 +24,7 @@ pub extern "C" fn sam_host_is_done(host: &mut SamHost, done: &mut bool, alloc: G
     OK
 }
 
-/// How many messages the host has answered.
+/// Hands out how many messages the host has taken and answered.
 #[unsafe(no_mangle)]
 pub extern "C" fn sam_host_taken(host: &mut SamHost, taken: &mut u64, alloc: Global) -> u32
     ensures told { Tells host.old.held.end result taken.old taken.new (λ e. e.host.taken) }
@@ -37,7 +38,7 @@ pub extern "C" fn sam_host_taken(host: &mut SamHost, taken: &mut u64, alloc: Glo
     OK
 }
 
-/// The version of the protocol.
+/// Hands out the version of the protocol: 1 or 2.
 #[unsafe(no_mangle)]
 pub extern "C" fn sam_host_version(host: &mut SamHost, version: &mut u16, alloc: Global) -> u32
     ensures told { Tells host.old.held.end result version.old version.new (λ e. e.host.version) }
@@ -51,7 +52,7 @@ pub extern "C" fn sam_host_version(host: &mut SamHost, version: &mut u16, alloc:
     OK
 }
 
-/// How many tags were given.
+/// Hands out how many tags were given, the command file's 0 included: the greatest is one less.
 #[unsafe(no_mangle)]
 pub extern "C" fn sam_host_tags(host: &mut SamHost, count: &mut usize, alloc: Global) -> u32
     ensures told { Tells host.old.held.end result count.old count.new (λ e. length e.host.files.slots) }
@@ -65,7 +66,7 @@ pub extern "C" fn sam_host_tags(host: &mut SamHost, count: &mut usize, alloc: Gl
     OK
 }
 
-/// Whether the tag has a file.
+/// Hands out whether the tag has a file now. A file that was closed has none.
 #[unsafe(no_mangle)]
 pub extern "C" fn sam_host_has_file(
     host: &mut SamHost,
@@ -84,7 +85,8 @@ pub extern "C" fn sam_host_has_file(
     OK
 }
 
-/// The name of a file.
+/// Puts the name of a file into the buffer in UTF-8, as many whole runes as have room, and hands out how many bytes. 256 bytes are always
+/// enough. `SAM_NONE` if the tag has no file.
 #[unsafe(no_mangle)]
 pub extern "C" fn sam_host_name(
     host: &mut SamHost,
@@ -107,7 +109,7 @@ pub extern "C" fn sam_host_name(
     status
 }
 
-/// The length of a file's text in runes.
+/// Hands out the length of a file's text in runes. `SAM_NONE` if the tag has no file.
 #[unsafe(no_mangle)]
 pub extern "C" fn sam_host_len(host: &mut SamHost, tag: u16, runes: &mut u32, alloc: Global) -> u32
     ensures told { TellsSome host.old.held.end result runes.old runes.new (λ e. option_map (λ f. length f.text) (file_of e tag)) }
@@ -127,7 +129,7 @@ pub extern "C" fn sam_host_len(host: &mut SamHost, tag: u16, runes: &mut u32, al
     status
 }
 
-/// Whether a file has changed since it was made or written.
+/// Hands out whether a file has changed since it was made or written. `SAM_NONE` if the tag has no file.
 #[unsafe(no_mangle)]
 pub extern "C" fn sam_host_is_dirty(
     host: &mut SamHost,
@@ -151,7 +153,7 @@ pub extern "C" fn sam_host_is_dirty(
     status
 }
 
-/// The dot of a file.
+/// Hands out the dot of a file: the places where the selection begins and ends. `SAM_NONE` if the tag has no file.
 #[unsafe(no_mangle)]
 pub extern "C" fn sam_host_dot(
     host: &mut SamHost,
@@ -178,7 +180,8 @@ pub extern "C" fn sam_host_dot(
     status
 }
 
-/// A file's text from a place on.
+/// Puts a file's text from a place on into the buffer in UTF-8, as many whole runes as have room. Hands out how many bytes and how many
+/// runes: none if the place is at the end or behind it. `SAM_NONE` if the tag has no file.
 #[unsafe(no_mangle)]
 pub extern "C" fn sam_host_text(
     host: &mut SamHost,
@@ -209,7 +212,8 @@ pub extern "C" fn sam_host_text(
     status
 }
 
-/// The length in runes of what a file was when it was written last.
+/// Hands out the length in runes of what a file was when it was written last (Twrite). `SAM_NONE` if it never was, or if the tag has no
+/// file.
 #[unsafe(no_mangle)]
 pub extern "C" fn sam_host_saved_len(
     host: &mut SamHost,
@@ -234,7 +238,8 @@ pub extern "C" fn sam_host_saved_len(
     status
 }
 
-/// What a file was when it was written last, from a place on.
+/// Puts what a file was when it was written last (Twrite), from a place on, into the buffer in UTF-8, as many whole runes as have room.
+/// Hands out how many bytes and how many runes. `SAM_NONE` if it never was written, or if the tag has no file.
 #[unsafe(no_mangle)]
 pub extern "C" fn sam_host_saved(
     host: &mut SamHost,

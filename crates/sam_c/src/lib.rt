@@ -1,5 +1,5 @@
-//! The host and the terminal for C. Each export makes one call of an end, and states its clauses again over the handle's value; what a
-//! C program owes and what each call does stands in include/sam.h.
+//! The host and the terminal for C. Each export makes one call of an end, and states its clauses again over the value that the handle
+//! holds. What a C program owes, and what each call does, stands in include/sam.h.
 #![tactic(auto)]
 
 mod handle;

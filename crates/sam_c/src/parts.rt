@@ -1,4 +1,4 @@
-//! A box taken apart, so that a type without a box in it can carry the pieces.
+//! A box taken apart, so that a type with no box in it can carry the pieces.
 
 ghost use Rattle.std.specs.Prelude.{◌≡◌, None, Option, Some, is_some, true};
 ghost use Rattle.sam_c.specs.Handles.{holds};
@@ -8,10 +8,13 @@ use std::marker::Model;
 
 /// The pointer of a box and its allocator; or a null pointer, with no value behind it.
 ///
-/// It owns what the box owned, and has no drop: what holds a value goes back by `into_box`.
+/// It owns what the box owned, and has no drop: parts that hold a value have to go back by `into_box`.
 pub(crate) struct Parts<T, A: Allocator> {
+    /// Where the box's value lies; null if there is none.
     pub(crate) at: *mut T,
+    /// The allocator that the box came from.
     pub(crate) alloc: A,
+    /// The value behind the pointer, as contracts see it.
     pub ghost value: { Option T },
 }
 
@@ -20,7 +23,7 @@ impl<T, A: Allocator> Model for Parts<T, A> {
 }
 
 impl<T, A: Allocator> Parts<T, A> {
-    /// Parts that hold nothing.
+    /// Makes parts that hold nothing.
     pub(crate) fn none(alloc: A) -> Parts<T, A>
         ensures { result.value ≡ None }
     {
@@ -40,7 +43,7 @@ impl<T, A: Allocator> Parts<T, A> {
         Parts { at, alloc }
     }
 
-    /// Puts a box together again.
+    /// Puts the box together again. The parts hold a value.
     pub(crate) fn into_box(self) -> Box<T, A>
         requires { is_some self.value ≡ true }
         ensures { Some result.value ≡ self.value }

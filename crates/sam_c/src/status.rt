@@ -7,34 +7,46 @@ use sam_ends::{EndFault, HostStop, OpenFault, StreamFault, TermStop};
 use sam_host::HostFault;
 use sam_term::{Refusal, TermFault};
 
+/// The call has done what it was asked.
 pub(crate) const OK: u32 = 0;
 
+/// Memory was refused, and what the call brought was not taken: make it again.
 pub(crate) const NO_MEMORY: u32 = 1;
 
+/// Memory was refused, but what the call brought was taken: the next call goes on with what waits.
 const UNFINISHED: u32 = 2;
 
+/// The stream would have 2^64 bytes, or there would be 2^64 events. What the call brought was not taken.
 const COUNT_FULL: u32 = 3;
 
+/// The handle is empty: not made yet, or freed.
 pub(crate) const NO_HANDLE: u32 = 4;
 
+/// The handle is made already.
 pub(crate) const MADE: u32 = 5;
 
+/// The bytes are not UTF-8.
 pub(crate) const NOT_TEXT: u32 = 6;
 
+/// There is no such file, or nothing more to hand out.
 pub(crate) const NONE: u32 = 7;
 
-// The first number of each family of faults; the fault's own number is added.
+/// The first number of why a file is not added. In each family of faults the fault's own number is added to the first number.
 const ADD: u32 = 16;
 
+/// The first number of what is wrong with the other side's stream, which has stopped the handle.
 const STREAM: u32 = 32;
 
+/// The first number of why the host refused a message, which has stopped the handle.
 const HOST_REFUSED: u32 = 64;
 
+/// The first number of why the terminal refused a frame, or could not count a message, which has stopped the handle.
 const TERM_REFUSED: u32 = 96;
 
+/// The first number of why the terminal refused an event. The handle goes on.
 const REFUSAL: u32 = 128;
 
-/// Why a file is not added.
+/// Returns the number of why a file is not added.
 pub(crate) fn add_status(why: OpenFault) -> u32
     ensures { result ≡ add_status why }
 {
@@ -45,32 +57,35 @@ pub(crate) fn add_status(why: OpenFault) -> u32
     }
 }
 
+/// Returns the number of what is wrong with a stream.
 fn stream_status(why: StreamFault) -> u32
     ensures { result ≡ stream_status why }
 {
     STREAM + why as u32
 }
 
+/// Returns the number of why the host refused a message.
 fn host_refusal(why: HostFault) -> u32
     ensures { result ≡ host_refusal why }
 {
     HOST_REFUSED + why as u32
 }
 
+/// Returns the number of why the terminal refused a frame.
 fn term_refusal(why: TermFault) -> u32
     ensures { result ≡ term_refusal why }
 {
     TERM_REFUSED + why as u32
 }
 
-/// Why an event was refused.
+/// Returns the number of why an event was refused.
 pub(crate) fn refusal_status(why: Refusal) -> u32
     ensures { result ≡ refusal_status why }
 {
     REFUSAL + why as u32
 }
 
-/// What a call to a host end came to.
+/// Returns the number of what came of a call to a host end.
 pub(crate) fn host_status(came: Result<(), EndFault<HostStop>>) -> u32
     ensures { result ≡ host_status came }
 {
@@ -84,7 +99,7 @@ pub(crate) fn host_status(came: Result<(), EndFault<HostStop>>) -> u32
     }
 }
 
-/// What a call to a terminal end came to.
+/// Returns the number of what came of a call to a terminal end.
 pub(crate) fn term_status(came: Result<(), EndFault<TermStop>>) -> u32
     ensures { result ≡ term_status came }
 {

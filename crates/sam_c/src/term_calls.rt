@@ -1,4 +1,5 @@
-//! What else C calls of a terminal: see include/sam.h, which says of each what it does.
+//! What C calls of a terminal beside the user's events: include/sam.h says of each call what it does. A call returns a number of
+//! `sam_status`; after `SAM_NO_HANDLE` and `SAM_NONE` what its other arguments lead to is as it was.
 
 ghost use Rattle.std.specs.Prelude.{◌≡◌, length};
 ghost use Rattle.sam_c.specs.Calls.{Tells};
@@ -10,7 +11,8 @@ use crate::status::{MADE, NO_HANDLE, NO_MEMORY, NONE, OK, refusal_status, term_s
 use sam_ends::TermEnd;
 use std::alloc::Global;
 
-/// Makes a terminal that knows no file.
+/// Makes a terminal that knows no file. Errors, in this order: `SAM_MADE` if the handle is made already; `SAM_NO_MEMORY`. After an error
+/// the handle is as it was.
 #[unsafe(no_mangle)]
 pub extern "C" fn sam_term_new(term: &mut SamTerm, alloc: Global) -> u32
     ensures { TermMade term.old.held.end result term.new.held.end }
@@ -25,7 +27,7 @@ pub extern "C" fn sam_term_new(term: &mut SamTerm, alloc: Global) -> u32
     OK
 }
 
-/// Frees a terminal, with what was pending.
+/// Frees a terminal, with what was pending. The handle is then empty. `SAM_NO_HANDLE` if it is empty already.
 #[unsafe(no_mangle)]
 pub extern "C" fn sam_term_free(term: &mut SamTerm, alloc: Global) -> u32
     ensures { Freed term.old.held.end result term.new.held.end }
@@ -36,7 +38,10 @@ pub extern "C" fn sam_term_free(term: &mut SamTerm, alloc: Global) -> u32
     }
 }
 
-/// Takes bytes of the host's frames, and then lets held events act.
+/// Takes bytes of the host's frames, in whatever pieces they come, and then lets held events act.
+///
+/// Returns `SAM_OK`, `SAM_NO_MEMORY`, `SAM_UNFINISHED`, `SAM_COUNT_FULL`, `SAM_NO_HANDLE`, or why the terminal has stopped, at this call
+/// or before: `SAM_STREAM..`, `SAM_TERM_REFUSED..`. `SAM_NO_HANDLE` comes first; the order of the others is that of [`TermEnd::feed`].
 #[unsafe(no_mangle)]
 pub extern "C" fn sam_term_feed(term: &mut SamTerm, bytes: &[u8], alloc: Global) -> u32
     ensures { TermFed term.old.held.end bytes.now result term.new.held.end }
@@ -49,7 +54,10 @@ pub extern "C" fn sam_term_feed(term: &mut SamTerm, bytes: &[u8], alloc: Global)
     status
 }
 
-/// Composes the typed runes that are not sent yet.
+/// Composes the typed runes that are not sent yet. A program calls it when the user pauses, before the program sleeps.
+///
+/// Returns `SAM_OK`, `SAM_NO_MEMORY`, `SAM_UNFINISHED`, `SAM_NO_HANDLE`, or why the terminal has stopped, at this call or before:
+/// `SAM_STREAM..`, `SAM_TERM_REFUSED..`. `SAM_NO_HANDLE` comes first; the order of the others is that of [`TermEnd::flush`].
 #[unsafe(no_mangle)]
 pub extern "C" fn sam_term_idle(term: &mut SamTerm, alloc: Global) -> u32
     ensures { TermIdled term.old.held.end result term.new.held.end }
@@ -62,7 +70,7 @@ pub extern "C" fn sam_term_idle(term: &mut SamTerm, alloc: Global) -> u32
     status
 }
 
-/// How many bytes are pending.
+/// Hands out how many bytes are pending. `SAM_NO_HANDLE` if the handle is empty.
 #[unsafe(no_mangle)]
 pub extern "C" fn sam_term_out_len(term: &mut SamTerm, len: &mut usize, alloc: Global) -> u32
     ensures told { Tells term.old.held.end result len.old len.new (λ e. length e.outbox) }
@@ -76,7 +84,8 @@ pub extern "C" fn sam_term_out_len(term: &mut SamTerm, len: &mut usize, alloc: G
     OK
 }
 
-/// Moves the first pending bytes into the buffer, as many as have room, and hands out how many.
+/// Moves the first pending bytes into the buffer, as many as it has room for, and hands out how many. `SAM_NO_HANDLE` if the handle is
+/// empty.
 #[unsafe(no_mangle)]
 pub extern "C" fn sam_term_out(
     term: &mut SamTerm,
@@ -94,7 +103,8 @@ pub extern "C" fn sam_term_out(
     OK
 }
 
-/// Hands out the oldest refused event that was not handed out yet, and why it was refused.
+/// Hands out the oldest refused event that was not handed out yet: which one, counted from 1 over all event calls that were taken, and why
+/// (`SAM_REFUSAL..`). `SAM_NO_HANDLE` if the handle is empty; `SAM_NONE` if there is no such event.
 #[unsafe(no_mangle)]
 pub extern "C" fn sam_term_next_refusal(
     term: &mut SamTerm,

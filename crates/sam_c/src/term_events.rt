@@ -1,4 +1,9 @@
-//! What C tells a terminal that the user did: see include/sam.h, which says of each what it does.
+//! What C tells a terminal that the user did: include/sam.h says of each call what it does. An event acts at once if it can, or is held
+//! until the locks that it waits for are free; each call also lets held events act, in order. What is composed is then pending. An event
+//! that is refused is told by `sam_term_next_refusal`, now or later.
+//!
+//! Each returns `SAM_OK`, `SAM_NO_MEMORY`, `SAM_UNFINISHED`, `SAM_COUNT_FULL`, `SAM_NO_HANDLE`, or why the terminal has stopped, at this
+//! call or before: `SAM_STREAM..`, `SAM_TERM_REFUSED..`. `SAM_NO_HANDLE` comes first; the order of the others is that of `TermEnd::put`.
 
 ghost use Rattle.std.specs.Prelude.{◌≡◌};
 ghost use Rattle.sam_c.specs.Status.{read_status};
@@ -11,7 +16,7 @@ use sam_runes::{ReadFault, read_utf8};
 use sam_term::UserEvent;
 use std::alloc::Global;
 
-/// Brings an event to the terminal that a handle holds.
+/// Puts an event to the terminal that a handle holds, and returns what came of it.
 fn put(term: &mut SamTerm, event: UserEvent, alloc: Global) -> u32
     ensures { TermPut term.old.held.end event result term.new.held.end }
 {
@@ -23,7 +28,7 @@ fn put(term: &mut SamTerm, event: UserEvent, alloc: Global) -> u32
     status
 }
 
-/// Why a text is not read.
+/// Returns the number of why a text is not read.
 fn read_status(why: ReadFault) -> u32
     ensures { result ≡ read_status why }
 {
@@ -33,7 +38,8 @@ fn read_status(why: ReadFault) -> u32
     }
 }
 
-/// Types a text in the place of the dot.
+/// Types a text in the place of the dot: at most 512 runes, in UTF-8. Behind `SAM_NO_HANDLE`, and before all else, come `SAM_NOT_TEXT` if
+/// the text is not UTF-8, and `SAM_NO_MEMORY` if there is no memory for its runes.
 #[unsafe(no_mangle)]
 pub extern "C" fn sam_term_type(term: &mut SamTerm, tag: u16, text: &[u8], alloc: Global) -> u32
     ensures { TermPutText term.old.held.end text.now (λ runes. Typed tag runes) result term.new.held.end }
@@ -47,7 +53,8 @@ pub extern "C" fn sam_term_type(term: &mut SamTerm, tag: u16, text: &[u8], alloc
     }
 }
 
-/// Gives the host another snarf buffer.
+/// Gives the host another snarf buffer, in UTF-8: at most 4,096 bytes, or 32,000 in version 2. Behind `SAM_NO_HANDLE`, and before all
+/// else, come `SAM_NOT_TEXT` if the text is not UTF-8, and `SAM_NO_MEMORY` if there is no memory for its runes.
 #[unsafe(no_mangle)]
 pub extern "C" fn sam_term_setsnarf(term: &mut SamTerm, text: &[u8], alloc: Global) -> u32
     ensures { TermPutText term.old.held.end text.now (λ runes. SetSnarf runes) result term.new.held.end }
@@ -117,7 +124,7 @@ pub extern "C" fn sam_term_open(term: &mut SamTerm, tag: u16, alloc: Global) -> 
     put(term, UserEvent::Open(tag), alloc)
 }
 
-/// Has the host write a file.
+/// Has the host write a file: it keeps the text as the file's saved copy.
 #[unsafe(no_mangle)]
 pub extern "C" fn sam_term_write(term: &mut SamTerm, tag: u16, alloc: Global) -> u32
     ensures { TermPut term.old.held.end (Write tag) result term.new.held.end }
@@ -125,7 +132,7 @@ pub extern "C" fn sam_term_write(term: &mut SamTerm, tag: u16, alloc: Global) ->
     put(term, UserEvent::Write(tag), alloc)
 }
 
-/// Closes a file.
+/// Closes a file, which the host then no longer has.
 #[unsafe(no_mangle)]
 pub extern "C" fn sam_term_close(term: &mut SamTerm, tag: u16, alloc: Global) -> u32
     ensures { TermPut term.old.held.end (Close tag) result term.new.held.end }
@@ -149,7 +156,7 @@ pub extern "C" fn sam_term_check(term: &mut SamTerm, tag: u16, alloc: Global) ->
     put(term, UserEvent::Check(tag), alloc)
 }
 
-/// Sets the dot.
+/// Sets the dot, from the place `start` to the place `end`.
 #[unsafe(no_mangle)]
 pub extern "C" fn sam_term_select(
     term: &mut SamTerm,
@@ -171,7 +178,7 @@ pub extern "C" fn sam_term_dclick(term: &mut SamTerm, tag: u16, place: u32, allo
     put(term, UserEvent::Dclick(tag, place), alloc)
 }
 
-/// Shows the file from so many lines further up.
+/// Shows the file from that many lines further up.
 #[unsafe(no_mangle)]
 pub extern "C" fn sam_term_scroll(term: &mut SamTerm, tag: u16, lines: u32, alloc: Global) -> u32
     ensures { TermPut term.old.held.end (Scroll tag lines) result term.new.held.end }
@@ -179,7 +186,7 @@ pub extern "C" fn sam_term_scroll(term: &mut SamTerm, tag: u16, lines: u32, allo
     put(term, UserEvent::Scroll(tag, lines), alloc)
 }
 
-/// Shows the file from a place on.
+/// Shows the file from a place on, `len` runes of it. A gap there is asked for.
 #[unsafe(no_mangle)]
 pub extern "C" fn sam_term_view(
     term: &mut SamTerm,
@@ -193,7 +200,7 @@ pub extern "C" fn sam_term_view(
     put(term, UserEvent::View(tag, place, len), alloc)
 }
 
-/// Opens the command file, and asks for all names.
+/// Opens the command file.
 #[unsafe(no_mangle)]
 pub extern "C" fn sam_term_opencmd(term: &mut SamTerm, alloc: Global) -> u32
     ensures { TermPut term.old.held.end OpenCmd result term.new.held.end }
@@ -217,7 +224,7 @@ pub extern "C" fn sam_term_getsnarf(term: &mut SamTerm, alloc: Global) -> u32
     put(term, UserEvent::GetSnarf, alloc)
 }
 
-/// Sends the typed runes, once the events before it acted.
+/// Sends the typed runes, once the events before it have acted.
 #[unsafe(no_mangle)]
 pub extern "C" fn sam_term_flush(term: &mut SamTerm, alloc: Global) -> u32
     ensures { TermPut term.old.held.end Flush result term.new.held.end }
@@ -233,7 +240,7 @@ pub extern "C" fn sam_term_exit(term: &mut SamTerm, alloc: Global) -> u32
     put(term, UserEvent::Exit, alloc)
 }
 
-/// Offers a version.
+/// Offers a version, and asks for the names of the host's files. Version 2 allows longer snarfed texts; there is no version 0.
 #[unsafe(no_mangle)]
 pub extern "C" fn sam_term_version(term: &mut SamTerm, version: u16, alloc: Global) -> u32
     ensures { TermPut term.old.held.end (Version version) result term.new.held.end }

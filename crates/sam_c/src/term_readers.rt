@@ -1,4 +1,5 @@
-//! What C reads of a terminal: see include/sam.h, which says of each what it tells.
+//! What C reads of a terminal: include/sam.h says of each call what it hands out. None of them changes the terminal. Each returns
+//! `SAM_NO_HANDLE` if the handle is empty; after that, and after `SAM_NONE`, what its other arguments lead to is as it was.
 
 ghost use Rattle.std.specs.Prelude.{◌≡◌, Some, drop, is_some, length, option_and_then, option_copied, option_map};
 ghost use Rattle.sam_c.specs.Calls.{Tells, TellsCells, TellsName, TellsSome, TellsText, written};
@@ -14,7 +15,7 @@ use sam_rasp::Rasp;
 use sam_term::files::KnownFile;
 use std::alloc::Global;
 
-/// What the terminal knows of a tag.
+/// Returns what the terminal knows of a tag; `None` if it knows no file of it.
 fn known_file(end: &TermEnd, tag: u16) -> Option<&KnownFile>
     ensures { option_copied result ≡ known_of end.now tag }
 {
@@ -26,7 +27,7 @@ fn known_file(end: &TermEnd, tag: u16) -> Option<&KnownFile>
     }
 }
 
-/// How many events were taken.
+/// Hands out how many event calls were taken.
 #[unsafe(no_mangle)]
 pub extern "C" fn sam_term_events(term: &mut SamTerm, events: &mut u64, alloc: Global) -> u32
     ensures told { Tells term.old.held.end result events.old events.new (λ e. e.events) }
@@ -40,7 +41,7 @@ pub extern "C" fn sam_term_events(term: &mut SamTerm, events: &mut u64, alloc: G
     OK
 }
 
-/// Whether the command lock or a lock of this file is held.
+/// Hands out whether the command lock or a lock of this file is held: an edit of the file would wait.
 #[unsafe(no_mangle)]
 pub extern "C" fn sam_term_is_locked(
     term: &mut SamTerm,
@@ -59,7 +60,7 @@ pub extern "C" fn sam_term_is_locked(
     OK
 }
 
-/// Whether the command lock is held.
+/// Hands out whether the command lock is held.
 #[unsafe(no_mangle)]
 pub extern "C" fn sam_term_is_command_locked(
     term: &mut SamTerm,
@@ -77,7 +78,7 @@ pub extern "C" fn sam_term_is_command_locked(
     OK
 }
 
-/// How many events are held.
+/// Hands out how many events are held.
 #[unsafe(no_mangle)]
 pub extern "C" fn sam_term_held(term: &mut SamTerm, events: &mut usize, alloc: Global) -> u32
     ensures told { Tells term.old.held.end result events.old events.new (λ e. length e.term.held) }
@@ -91,7 +92,7 @@ pub extern "C" fn sam_term_held(term: &mut SamTerm, events: &mut usize, alloc: G
     OK
 }
 
-/// How many typed runes are not sent yet.
+/// Hands out how many typed runes are not sent yet.
 #[unsafe(no_mangle)]
 pub extern "C" fn sam_term_unsent(term: &mut SamTerm, runes: &mut u32, alloc: Global) -> u32
     ensures told { Tells term.old.held.end result runes.old runes.new (λ e. unsent_length e.term.unsent) }
@@ -105,7 +106,7 @@ pub extern "C" fn sam_term_unsent(term: &mut SamTerm, runes: &mut u32, alloc: Gl
     OK
 }
 
-/// How many messages were composed.
+/// Hands out how many messages were composed.
 #[unsafe(no_mangle)]
 pub extern "C" fn sam_term_sent(term: &mut SamTerm, messages: &mut u64, alloc: Global) -> u32
     ensures told { Tells term.old.held.end result messages.old messages.new (λ e. e.term.sent) }
@@ -119,7 +120,7 @@ pub extern "C" fn sam_term_sent(term: &mut SamTerm, messages: &mut u64, alloc: G
     OK
 }
 
-/// How many runes the host's snarf buffer has.
+/// Hands out how many runes the host's snarf buffer has, as it told last.
 #[unsafe(no_mangle)]
 pub extern "C" fn sam_term_snarf_len(term: &mut SamTerm, runes: &mut u32, alloc: Global) -> u32
     ensures told { Tells term.old.held.end result runes.old runes.new (λ e. e.term.snarf_length) }
@@ -133,7 +134,7 @@ pub extern "C" fn sam_term_snarf_len(term: &mut SamTerm, runes: &mut u32, alloc:
     OK
 }
 
-/// Whether the host has ended the session.
+/// Hands out whether the host has ended the session.
 #[unsafe(no_mangle)]
 pub extern "C" fn sam_term_has_exited(term: &mut SamTerm, exited: &mut bool, alloc: Global) -> u32
     ensures told { Tells term.old.held.end result exited.old exited.new (λ e. e.term.has_exited) }
@@ -147,7 +148,7 @@ pub extern "C" fn sam_term_has_exited(term: &mut SamTerm, exited: &mut bool, all
     OK
 }
 
-/// The version of the protocol that both sides speak.
+/// Hands out the version of the protocol that both sides speak: 1 or 2.
 #[unsafe(no_mangle)]
 pub extern "C" fn sam_term_version_of(term: &mut SamTerm, version: &mut u16, alloc: Global) -> u32
     ensures told { Tells term.old.held.end result version.old version.new (λ e. e.term.version) }
@@ -161,7 +162,7 @@ pub extern "C" fn sam_term_version_of(term: &mut SamTerm, version: &mut u16, all
     OK
 }
 
-/// Whether the terminal knows a file of this tag.
+/// Hands out whether the terminal knows a file of this tag.
 #[unsafe(no_mangle)]
 pub extern "C" fn sam_term_is_known(
     term: &mut SamTerm,
@@ -180,7 +181,7 @@ pub extern "C" fn sam_term_is_known(
     OK
 }
 
-/// Whether a file is open.
+/// Hands out whether a file is open.
 #[unsafe(no_mangle)]
 pub extern "C" fn sam_term_is_open(
     term: &mut SamTerm,
@@ -199,7 +200,7 @@ pub extern "C" fn sam_term_is_open(
     OK
 }
 
-/// The file that the host made current last.
+/// Hands out the tag of the file that the host made current last. `SAM_NONE` if it made none.
 #[unsafe(no_mangle)]
 pub extern "C" fn sam_term_current(term: &mut SamTerm, tag: &mut u16, alloc: Global) -> u32
     ensures told { TellsSome term.old.held.end result tag.old tag.new (λ e. e.term.current) }
@@ -219,7 +220,7 @@ pub extern "C" fn sam_term_current(term: &mut SamTerm, tag: &mut u16, alloc: Glo
     status
 }
 
-/// Whether a known file is dirty.
+/// Hands out whether a known file is dirty, as the host told last. `SAM_NONE` if the tag is not known.
 #[unsafe(no_mangle)]
 pub extern "C" fn sam_term_is_dirty(
     term: &mut SamTerm,
@@ -244,7 +245,7 @@ pub extern "C" fn sam_term_is_dirty(
     status
 }
 
-/// The length of an open file in runes, gaps counted.
+/// Hands out the length of an open file in runes, gaps counted. `SAM_NONE` if it is not open.
 #[unsafe(no_mangle)]
 pub extern "C" fn sam_term_len(term: &mut SamTerm, tag: u16, runes: &mut u32, alloc: Global) -> u32
     ensures told { TellsSome term.old.held.end result runes.old runes.new (λ e. option_map (λ w. length w.rasp) (open_of e tag)) }
@@ -264,7 +265,7 @@ pub extern "C" fn sam_term_len(term: &mut SamTerm, tag: u16, runes: &mut u32, al
     status
 }
 
-/// The dot of an open file.
+/// Hands out the dot of an open file: the places where the selection begins and ends. `SAM_NONE` if it is not open.
 #[unsafe(no_mangle)]
 pub extern "C" fn sam_term_dot(
     term: &mut SamTerm,
@@ -291,7 +292,7 @@ pub extern "C" fn sam_term_dot(
     status
 }
 
-/// What an open file shows: the places where its view begins and ends.
+/// Hands out what an open file shows: the places where its view begins and ends. `SAM_NONE` if it is not open.
 #[unsafe(no_mangle)]
 pub extern "C" fn sam_term_view_of(
     term: &mut SamTerm,
@@ -318,7 +319,7 @@ pub extern "C" fn sam_term_view_of(
     status
 }
 
-/// How many tags the terminal has room for.
+/// Hands out how many tags the terminal has room for: each file that it knows has a tag below this.
 #[unsafe(no_mangle)]
 pub extern "C" fn sam_term_tags(term: &mut SamTerm, count: &mut usize, alloc: Global) -> u32
     ensures told { Tells term.old.held.end result count.old count.new (λ e. length e.term.files) }
@@ -332,7 +333,8 @@ pub extern "C" fn sam_term_tags(term: &mut SamTerm, count: &mut usize, alloc: Gl
     OK
 }
 
-/// The name of a known file.
+/// Puts the name of a known file into the buffer in UTF-8, as many whole runes as have room, and hands out how many bytes. `SAM_NONE` if
+/// the tag is not known.
 #[unsafe(no_mangle)]
 pub extern "C" fn sam_term_name(
     term: &mut SamTerm,
@@ -355,7 +357,7 @@ pub extern "C" fn sam_term_name(
     status
 }
 
-/// The pattern that the host told last.
+/// Puts the pattern that the host told last into the buffer in UTF-8, as many whole runes as have room, and hands out how many bytes.
 #[unsafe(no_mangle)]
 pub extern "C" fn sam_term_pattern(
     term: &mut SamTerm,
@@ -374,7 +376,8 @@ pub extern "C" fn sam_term_pattern(
     status
 }
 
-/// The snarfed text that the host sent last, from a place on.
+/// Puts the snarfed text that the host sent last (`sam_term_getsnarf`), from a place on, into the buffer in UTF-8, as many whole runes as
+/// have room. Hands out how many bytes and how many runes.
 #[unsafe(no_mangle)]
 pub extern "C" fn sam_term_snarfed(
     term: &mut SamTerm,
@@ -396,7 +399,8 @@ pub extern "C" fn sam_term_snarfed(
     status
 }
 
-/// The runes of an open file from a place on.
+/// Puts the runes of an open file from a place on into the buffer as numbers, as many as there are and have room, with `SAM_GAP` for each
+/// that is not loaded, and hands out how many. `SAM_NONE` if the file is not open.
 #[unsafe(no_mangle)]
 pub extern "C" fn sam_term_read(
     term: &mut SamTerm,
@@ -423,7 +427,7 @@ pub extern "C" fn sam_term_read(
     status
 }
 
-/// The first place of a rasp, at or behind a place, whose rune is not loaded.
+/// Returns the first place of a rasp, at or behind a place, whose rune is not loaded.
 fn gap_in(rasp: &Rasp, place: u32) -> Option<u32>
     ensures { result ≡ option_map (λ hole. hole.0) (hole_within rasp.now place (length rasp.now)) }
 {
@@ -436,7 +440,8 @@ fn gap_in(rasp: &Rasp, place: u32) -> Option<u32>
     }
 }
 
-/// The first place of an open file, at or behind a place, whose rune is not loaded.
+/// Hands out the first place of an open file, at or behind `place`, whose rune is not loaded. `SAM_NONE` if the file is not open, or if
+/// all runes are loaded from there on.
 #[unsafe(no_mangle)]
 pub extern "C" fn sam_term_first_gap(
     term: &mut SamTerm,

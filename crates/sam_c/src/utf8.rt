@@ -6,7 +6,7 @@ ghost use Rattle.sam_c.specs.Calls.{Writes, WritesName, written};
 
 use crate::status::OK;
 
-/// How much of a text stands in a buffer now.
+/// How much of a text was put into a buffer. It counts whole runes alone.
 #[derive(Clone, Copy, Debug, PartialEq, Eq, Drop)]
 pub struct Filled {
     /// How many bytes of the buffer were written.
@@ -15,7 +15,7 @@ pub struct Filled {
     pub runes: usize,
 }
 
-/// Puts a rune into the buffer at `at`, and answers where it ends; `None` where it has no room, and the buffer is as it was.
+/// Puts a rune into the buffer at `at`, and returns the place behind it. Returns `None` if it has no room, and the buffer is as it was.
 fn put_rune(rune: char, into: &mut [u8], at: usize) -> Option<usize>
     requires { at ≤ length into.old }
     ensures { Puts rune at into.old into.new result }
@@ -30,7 +30,8 @@ fn put_rune(rune: char, into: &mut [u8], at: usize) -> Option<usize>
     Some(end)
 }
 
-/// Puts the first runes into the buffer in UTF-8 (RFC 3629), as many as have room whole. The rest of the buffer stays as it was.
+/// Puts the first runes into the buffer in UTF-8 (RFC 3629), as many as have room whole. Returns how much it put. The rest of the buffer
+/// stays as it was.
 pub fn fill_utf8(runes: &[char], into: &mut [u8]) -> Filled
     ensures { Fills runes.now into.old into.new result }
 {
@@ -45,7 +46,7 @@ pub fn fill_utf8(runes: &[char], into: &mut [u8]) -> Filled
     filled
 }
 
-/// The runes from a place on: none where it is at or behind the end.
+/// Returns the runes from a place on: none if the place is at the end or behind it.
 pub(crate) fn runes_from(runes: &[char], place: u32) -> &[char]
     ensures { result.now ≡ drop place runes.now }
 {
@@ -53,7 +54,7 @@ pub(crate) fn runes_from(runes: &[char], place: u32) -> &[char]
     &runes[start..]
 }
 
-/// Puts the first runes of a text into the buffer, and hands out how many bytes and runes.
+/// Puts the first runes of a text into the buffer, and hands out how many bytes and runes. Returns `OK`.
 pub(crate) fn tell_text(text: &[char], into: &mut [u8], bytes: &mut usize, runes: &mut usize) -> u32
     ensures { Writes (Some text.now) result (written into.old bytes.old runes.old) (written into.new bytes.new runes.new) }
 {
@@ -63,7 +64,7 @@ pub(crate) fn tell_text(text: &[char], into: &mut [u8], bytes: &mut usize, runes
     OK
 }
 
-/// Puts the first runes of a name into the buffer, and hands out how many bytes.
+/// Puts the first runes of a name into the buffer, and hands out how many bytes. Returns `OK`.
 pub(crate) fn tell_name(name: &[char], into: &mut [u8], len: &mut usize) -> u32
     ensures { WritesName (Some name.now) result into.old into.new len.old len.new }
 {

@@ -6,10 +6,10 @@ ghost use Rattle.sam_rasp.specs.Sections.{cells, cells_of, size};
 
 use sam_rasp::{Rasp, Section};
 
-/// What stands in the place of a rune that is not loaded.
+/// What stands in the buffer for a rune that is not loaded. No rune has this number.
 pub const GAP: u32 = u32::MAX;
 
-/// A rune as its number, or `GAP`.
+/// Returns the number of a rune, or `GAP` for a gap.
 fn drawn(member: Option<char>) -> u32
     ensures { result ≡ drawn member }
 {
@@ -19,7 +19,8 @@ fn drawn(member: Option<char>) -> u32
     }
 }
 
-/// Puts the members of a section from a place on into the buffer at `at`, as many as there are and have room. Answers how many.
+/// Puts the members of a section from `place` on into the buffer at `at`, as many as there are and have room. Returns how many. All else
+/// of the buffer stays as it was.
 fn copy_section(section: &Section, place: u32, into: &mut [u32], at: usize) -> usize
     requires place { place ≤ size section.now }
     requires at { at ≤ length into.old }
@@ -32,8 +33,8 @@ fn copy_section(section: &Section, place: u32, into: &mut [u32], at: usize) -> u
     count
 }
 
-/// Puts the members of the sections from a place on into the buffer, as many as there are and have room, and answers how many. The rest
-/// of the buffer stays. It looks at each section up to the last that it reads, and at the members that it puts.
+/// Puts the members of the sections from `place` on into the buffer, as many as there are and have room, and returns how many. The rest of
+/// the buffer stays as it was. It looks at each section up to the last that it reads, and at the members that it puts.
 fn read_cells(sections: &[Section], place: u32, into: &mut [u32]) -> usize
     ensures { Shows (cells_of sections.now) place into.old into.new result }
 {
@@ -52,9 +53,9 @@ fn read_cells(sections: &[Section], place: u32, into: &mut [u32]) -> usize
     count
 }
 
-/// Reads the runes of a partial text from a place on, as many as there are and have room in the buffer, and answers how many: none where
-/// the place is at its end or past it. A rune that is not loaded is read as `GAP`. The rest of the buffer stays. It costs by the sections
-/// in front, and by the runes that it reads.
+/// Reads the members of a partial text from a place on into the buffer, as many as there are and have room, and returns how many: none if
+/// the place is at the end or past it. A rune is read as its number, and one that is not loaded as `GAP`. The rest of the buffer stays as
+/// it was. The cost is that of the sections in front of the place, and of the members that it reads.
 pub fn read_rasp(rasp: &Rasp, place: u32, into: &mut [u32]) -> usize
     ensures { Shows rasp.now place into.old into.new result }
 {

@@ -1,70 +1,74 @@
-//! Why an end is not made, and why it stops.
+//! Why a file is not added, why a call is not done, and why an end has stopped.
 
 use sam_host::HostFault;
 use sam_term::TermFault;
 use thiserror::Error;
 
-/// Why a file is not added to a host, in the order of the tests. The host is then as it was.
+/// Why a file is not added to a host, in the order of the tests. The host is then as it was. The C library tells a fault by its number.
 #[derive(Clone, Copy, Debug, PartialEq, Eq, Drop, Error)]
 pub enum OpenFault {
-    /// The host has been fed: its files are those that it began with.
+    /// The host end has taken a piece before, be it an empty one. From then on its files are those that it began with.
     #[error("the host has been fed")]
     Begun = 1,
-    /// The name or the text is not UTF-8.
+    /// The name or the text is not UTF-8 (RFC 3629).
     #[error("not UTF-8")]
     NotText = 2,
-    /// The name has more than 64 runes, or the text more than 1,000,000.
+    /// The name has more than 64 runes, or the text has more than 1,000,000.
     #[error("too long")]
     TooLong = 3,
     /// All 65,536 tags were given.
     #[error("no tag")]
     NoTag = 4,
-    /// No memory.
+    /// A request for memory was refused. The call may be made again.
     #[error("out of memory")]
     OutOfMemory = 5,
 }
 
-/// What is wrong with a stream. The numbers are those of `FeedFault`.
+/// What is wrong with a stream. The end that reads it has stopped for good, since nothing behind a fault can be read. The numbers are
+/// those of `FeedFault`.
 #[derive(Clone, Copy, Debug, PartialEq, Eq, Drop, Error)]
 pub enum StreamFault {
-    /// The first byte of a frame is no kind.
+    /// The first byte of a frame is no kind of this direction.
     #[error("no such kind")]
     BadKind = 1,
-    /// The length of a body is none that its kind may have.
+    /// The length of a body is none that its kind may have in the version at this place.
     #[error("a wrong length")]
     BadLength = 2,
-    /// A body is that of no message.
+    /// A body is whole, and is that of no message: its text is not UTF-8, or is too long.
     #[error("a wrong body")]
     BadText = 3,
 }
 
-/// Why a host end has stopped for good.
+/// Why a host end has stopped for good. What stood in the stream before the cause is answered, and its frames can be taken out.
 #[derive(Clone, Copy, Debug, PartialEq, Eq, Drop)]
 pub enum HostStop {
-    /// The terminal's stream is wrong behind the messages that were answered.
+    /// The terminal's stream shows this fault behind the messages that were answered.
     Stream(StreamFault),
-    /// The host refused a message.
+    /// The host refused a message for this reason, which is never `OutOfMemory`. The messages before it were answered.
     Refused(HostFault),
 }
 
-/// Why a terminal end has stopped for good.
+/// Why a terminal end has stopped for good. What stood in the stream before the cause is received, and what it composed can be taken out.
 #[derive(Clone, Copy, Debug, PartialEq, Eq, Drop)]
 pub enum TermStop {
-    /// The host's stream is wrong behind the frames that were taken.
+    /// The host's stream shows this fault behind the frames that were received.
     Stream(StreamFault),
-    /// The terminal refused a frame, or an event would have composed more messages than can be counted.
+    /// The terminal refused a frame, or could not count the messages that an event or typed runes would compose (`CountFull`). The reason
+    /// is never `OutOfMemory`.
     Refused(TermFault),
 }
 
-/// Why a call to an end has not done all that it was asked.
+/// Why a call to an end has not done all that it was asked. Only `Stopped` is for good. After `OutOfMemory` and `CountFull` what the call
+/// brought is not taken; after `Unfinished` it is.
 #[derive(Clone, Copy, Debug, PartialEq, Eq, Drop)]
 pub enum EndFault<S> {
-    /// No memory, and what the call brought was not taken: bring it again. What waited before may have gone on.
+    /// Memory was refused before what the call brought was taken: bring it again. What waited before may have gone on.
     OutOfMemory,
-    /// No memory, and what the call brought was taken: a call that brings nothing goes on with what waits.
+    /// Memory was refused after what the call brought was taken. The rest waits, and any call goes on with it; feeding no bytes does just
+    /// that.
     Unfinished,
-    /// The stream would be longer than 2^64-1 bytes, or the events more. What the call brought was not taken.
+    /// The stream would be longer than 2^64-1 bytes, or 2^64-1 events were taken before. What the call brought was not taken.
     CountFull,
-    /// The end has stopped for good, at this call or before.
+    /// The end has stopped for good, at this call or before. An end that had stopped before is as it was.
     Stopped(S),
 }

@@ -22,10 +22,10 @@ use std::str;
 /// The most runes of a file's name.
 const MAX_NAME: usize = 64;
 
-/// How many tags there are.
+/// How many tags there are, the command file's 0 with them.
 const ALL_TAGS: usize = 65_536;
 
-/// The fault of a call that brought something which was not taken, since what waited could not go on.
+/// Returns the fault of a call whose piece was not taken, since what waited could not go on.
 fn not_taken(fault: EndFault<HostStop>) -> EndFault<HostStop>
     ensures { result ≡ held_back fault }
 {
@@ -37,7 +37,7 @@ fn not_taken(fault: EndFault<HostStop>) -> EndFault<HostStop>
     }
 }
 
-/// How many runes the text has.
+/// Returns how many runes the text has.
 #[tactic(auto, using(std::proofs::lemmas::Str::chars_from_encodes))]
 fn count_runes(text: &str) -> usize
     ensures { result ≡ length (chars text.now) }
@@ -45,7 +45,7 @@ fn count_runes(text: &str) -> usize
     text.chars().count()
 }
 
-/// How many runes the bytes spell; `None` where they are not UTF-8.
+/// Returns how many runes the bytes spell; `None` if they are not UTF-8.
 fn runes_in(bytes: &[u8]) -> Option<usize>
     ensures { MatchOption result (is_utf8 bytes.now ≡ false) (λ count. (is_utf8 bytes.now ≡ true) × (count ≡ length (chars bytes.now))) }
 {
@@ -55,7 +55,7 @@ fn runes_in(bytes: &[u8]) -> Option<usize>
     }
 }
 
-/// The tag that the host writes when it handles the message: a host that is done writes nothing.
+/// Returns the tag of the file that the host writes when it handles the message. A host that is done writes nothing.
 fn write_in(host: &Host, message: &Tmesg) -> Option<u16>
     ensures { option_to_list result ≡ writes_of host.now message.now }
 {
@@ -65,7 +65,7 @@ fn write_in(host: &Host, message: &Tmesg) -> Option<u16>
     }
 }
 
-/// Puts the tag behind the others, for which there is room.
+/// Puts the tag behind the others, if there is one. There is room for it.
 fn note(writes: &mut VecDeque<u16>, tag: Option<u16>)
     requires { deque_len writes.old < deque_capacity writes.old }
     ensures { writes.new.items ≡ writes.old.items ++ option_to_list tag }
@@ -82,7 +82,8 @@ fn forget_first(waiting: &mut VecDeque<Tmesg>)
     let _first = waiting.pop_front();
 }
 
-/// The messages of a piece, and what is wrong with the stream behind them. A framer that has failed is not fed.
+/// Feeds a piece to a framer that has not failed. Returns the messages that are whole now, and what is wrong with the stream behind them.
+/// The errors are `CountFull` and then `OutOfMemory`, and leave the framer as it was.
 fn split(
     framer: &mut FramerT,
     piece: &[u8],
@@ -103,27 +104,40 @@ fn split(
     }
 }
 
-/// A host that takes the bytes of a terminal's messages, answers them in order, and keeps the bytes of its frames until they are taken.
+/// A host that takes the bytes of a terminal's messages, answers them in order, and keeps the bytes of its frames until they are taken
+/// out.
 ///
-/// Want of memory loses nothing: what could not be answered or written waits, and the next call goes on with it. A fault of the
-/// stream and a message that the host refuses stop it for good, behind the messages before them.
+/// Want of memory loses nothing: what could not be answered or written waits, and the next call goes on with it. A fault of the stream, or
+/// a message that the host refuses, stops the end for good, once the messages before it are answered.
+///
+/// ```rust
+/// let mut end = HostEnd::new(alloc)?;
+/// let tag = end.add_file(b"notes", b"hello\n")?;
+/// end.feed(piece)?;                             // bytes that came from the terminal
+/// let count = end.take_out(&mut buffer);        // bytes that go to the terminal
+/// while let Some(tag) = end.next_write() { .. } // now write end.host().files().saved(tag) to disk
+/// ```
 #[derive(Drop)]
 pub struct HostEnd {
+    /// Where everything takes its memory from.
     alloc: Global,
+    /// Cuts the terminal's stream into messages. It has not failed while `behind` is `None`.
     framer: FramerT,
+    /// The host, as the messages answered so far left it.
     host: Host,
-    /// Whether it was fed: from then on no file is added.
+    /// Whether a piece was taken, be it an empty one. From then on no file is added.
     begun: bool,
-    /// The messages that came and are not answered yet; none while a call returns `Ok`.
+    /// The messages that came and are not answered yet, the oldest first. There are none after a call that returned `Ok`.
     waiting: VecDeque<Tmesg>,
-    /// What is wrong with the stream behind them.
+    /// What is wrong with the stream behind these messages; `None` if nothing is.
     behind: Option<StreamFault>,
-    /// The frames of one answer that are not written yet; none while a call returns `Ok`.
+    /// The frames of the last answer, while they are not in the outbox. There are none after a call that returned `Ok`.
     unwritten: Vec<HFrame>,
+    /// The bytes for the terminal that were not taken out yet.
     outbox: Outbox,
-    /// The tags that the host was told to write and that were not asked for yet.
+    /// The tags of files that the host was told to write (Twrite) and `next_write` has not handed out, the oldest first.
     writes: VecDeque<u16>,
-    /// Why it has stopped.
+    /// Why the end has stopped for good; `None` while it goes on.
     stop: Option<HostStop>,
 }
 
@@ -159,7 +173,7 @@ impl Model for HostEnd {
 }
 
 impl HostEnd {
-    /// A host with no file but the command file, to which nothing was fed. Its only fault is want of memory.
+    /// Makes a host with no file but the command file, to which nothing was fed. Its only error is want of memory.
     pub fn new(alloc: Global) -> Result<HostEnd, AllocError>
         ensures { IfOk result (λ end. end ≡ new_host_end) }
     {
@@ -180,7 +194,7 @@ impl HostEnd {
         })
     }
 
-    /// What stands against a file of this name and text, in the order of `OpenFault`.
+    /// Returns the first test of `OpenFault` that stands against a file of this name and text. Want of memory is not among them.
     fn refusal(&self, name: &[u8], text: &[u8]) -> Option<OpenFault>
         ensures { result ≡ first_of_checks (open_checks self.now name.now text.now) }
     {
@@ -202,11 +216,12 @@ impl HostEnd {
         None
     }
 
-    /// Adds a file of this name and text, each in UTF-8, under the next tag, and answers the tag: the first is 1. The file is clean and
-    /// closed, and no name of it is announced.
+    /// Adds a file under the next tag, and returns the tag: 1 for the first file, 2 for the next, and so on. `name` and `text` are UTF-8
+    /// (RFC 3629). The file is clean and closed, and its name is not announced yet. The cost is that of the name and the text.
     ///
-    /// Its faults, in the order of `OpenFault` and whatever memory does: `Begun` once a piece was fed, `NotText`, `TooLong`, `NoTag`, and
-    /// then `OutOfMemory`. After each the end is as it was.
+    /// Errors, in this order: `Begun` if a piece was taken before; `NotText` if the name or the text is not UTF-8; `TooLong` if the name
+    /// has more than 64 runes or the text has more than 1,000,000; `NoTag` if all 65,536 tags were given; `OutOfMemory`. After an error
+    /// the end is as it was.
     pub fn add_file(&mut self, name: &[u8], text: &[u8]) -> Result<u16, OpenFault>
         ensures tag { IfOk result (λ tag. tag ≡ length self.old.host.files.slots) }
         ensures added { OnOk result (self.new ≡ with_file self.old name.now text.now) }
@@ -232,12 +247,18 @@ impl HostEnd {
         }
     }
 
-    /// Takes a piece of the terminal's stream: the host answers the messages that are whole with it, in order, and the bytes of its frames
-    /// wait in the outbox. First it goes on with what waited; an empty piece does just that.
+    /// Takes a piece of the terminal's stream, of any length. The host answers the messages that are whole with it, in order, and the
+    /// bytes of its frames are then pending. Before that it goes on with what waited; with an empty piece it does just that.
     ///
-    /// Faults: `OutOfMemory` and `CountFull` leave the piece untaken, and what waited may have gone on; after `Unfinished` the piece is
-    /// taken, and the next call goes on. `Stopped` is for good: the host refused a message, or the stream shows a fault behind the
-    /// messages that were answered. From then on each call answers it again and changes nothing.
+    /// Errors, in this order:
+    ///
+    /// - `Stopped` if the end had stopped before. It is as it was.
+    /// - `OutOfMemory`, or `Stopped`, as what waited goes on. The piece is not taken.
+    /// - `CountFull` if the stream would be longer than 2^64-1 bytes, and then `OutOfMemory`. The piece is not taken, and nothing waits.
+    /// - `Unfinished` or `Stopped`, as the messages of the piece are answered. The piece is taken, and after `Unfinished` the next call
+    ///   goes on.
+    ///
+    /// It stops at a message that the host refuses, or at a fault of the stream behind all messages. What stands before that is answered.
     pub fn feed(&mut self, piece: &[u8]) -> Result<(), EndFault<HostStop>>
         ensures { Feeds self.old piece.now result self.new }
     {
@@ -251,15 +272,16 @@ impl HostEnd {
         self.go_on()
     }
 
-    /// How many bytes for the terminal wait to be taken.
+    /// Returns how many bytes for the terminal wait to be taken out.
     pub fn pending(&self) -> usize
         ensures { result ≡ length self.now.outbox }
     {
         self.outbox.len()
     }
 
-    /// Takes the first bytes for the terminal into the buffer, as many as wait and have room there, and answers how many. The rest of the
-    /// buffer stays, and so does all else of the end.
+    /// Moves the first bytes for the terminal into the buffer, as many as wait and have room there, and returns how many. The rest of the
+    /// buffer stays as it was, and so does everything else of the end. It works on an end that has stopped, too. The cost is that of the
+    /// bytes it moves.
     pub fn take_out(&mut self, into: &mut [u8]) -> usize
         ensures count { result ≡ min (length self.old.outbox) (length into.old) }
         ensures bytes { into.new ≡ take result self.old.outbox ++ drop result into.old }
@@ -268,7 +290,8 @@ impl HostEnd {
         self.outbox.take_into(into)
     }
 
-    /// The oldest tag that the host was told to write and that was not asked for yet; it is asked for then. `None` where there is none.
+    /// Hands out the oldest tag that the host was told to write (Twrite) and that was not handed out before. Returns `None` if there is
+    /// none.
     pub fn next_write(&mut self) -> Option<u16>
         ensures tag { result ≡ slice_get self.old.writes 0 }
         ensures rest { self.new ≡ record self.old { writes = drop 1 self.old.writes } }
@@ -276,35 +299,35 @@ impl HostEnd {
         self.writes.pop_front()
     }
 
-    /// The host: its files, and how many messages it has taken.
+    /// Returns the host, to be read: its files, its version, and how many messages it has taken.
     pub fn host(&self) -> &Host
         ensures { result.now ≡ self.now.host }
     {
         &self.host
     }
 
-    /// Why the end has stopped for good; `None` while it goes on.
+    /// Returns why the end has stopped for good; `None` while it goes on.
     pub fn stopped(&self) -> Option<HostStop>
         ensures { result ≡ self.now.stop }
     {
         self.stop
     }
 
-    /// Whether no message waits to be answered and no frame to be written. So it is where `feed` answers `Ok`.
+    /// Returns whether no message waits to be answered and no frame waits to be written. That is so whenever `feed` has returned `Ok`.
     pub fn is_idle(&self) -> bool
         ensures { IsTrue result ↔ IsIdle self.now }
     {
         self.waiting.is_empty() && self.unwritten.is_empty()
     }
 
-    /// Whether a message waits to be answered.
+    /// Returns whether a message waits to be answered.
     fn is_waiting(&self) -> bool
         ensures { IsTrue result ↔ (0 < length self.now.waiting) }
     {
         !self.waiting.is_empty()
     }
 
-    /// A copy of the oldest message that waits.
+    /// Returns a copy of the oldest message that waits. Its only error is want of memory.
     fn copy_first(&self) -> Result<Tmesg, AllocError>
         requires { 0 < length self.now.waiting }
         ensures first { IfOk result (λ message. self.now.waiting ≡ message ∷ drop 1 self.now.waiting) }
@@ -316,8 +339,8 @@ impl HostEnd {
         }
     }
 
-    /// Has the host answer the oldest message that waits, which then waits no longer. All memory is had before: after want of it all is
-    /// as it was.
+    /// Has the host answer the oldest message that waits, which then waits no longer. All memory is had before: after `Unfinished` all is
+    /// as it was. After `Stopped` the message waits on.
     fn answer_first(&mut self) -> Result<(), EndFault<HostStop>>
         requires { 0 < length self.old.waiting }
         ensures { Handles self.old result self.new }
@@ -344,7 +367,7 @@ impl HostEnd {
         }
     }
 
-    /// Writes the frames of the last answer into the outbox, all or none.
+    /// Writes the frames of the last answer into the outbox, all or none. Its only error is `Unfinished`.
     fn write_answer(&mut self) -> Result<(), EndFault<HostStop>>
         ensures { Writes self.old result self.new }
     {
@@ -355,7 +378,7 @@ impl HostEnd {
         Ok(())
     }
 
-    /// Stops for good if the stream shows a fault behind all messages, which were answered.
+    /// Stops the end for good if the stream shows a fault, once all messages before it are answered.
     fn end(&mut self) -> Result<(), EndFault<HostStop>>
         ensures { Ends self.old result self.new }
     {
@@ -368,7 +391,7 @@ impl HostEnd {
         }
     }
 
-    /// Goes on with what waits: writes what was answered, and answers and writes one message after another.
+    /// Goes on with what waits: it writes the last answer, and then answers and writes one message after another.
     fn go_on(&mut self) -> Result<(), EndFault<HostStop>>
         requires { self.old.stop ≡ None }
         ensures { GoesOn self.old result self.new }
@@ -381,7 +404,7 @@ impl HostEnd {
         self.end()
     }
 
-    /// Has the framer take the piece in, where nothing waits: its messages wait then, and perhaps a fault behind them.
+    /// Feeds the piece to the framer when nothing waits. Then its messages wait, and perhaps a fault behind them.
     fn take_in(&mut self, piece: &[u8]) -> Result<(), EndFault<HostStop>>
         requires { self.old.behind ≡ None }
         ensures { Brings self.old piece.now result self.new }

@@ -1,5 +1,5 @@
-//! The two ends as parts of any program: bytes of the other side in, bytes for the other side out, whatever carries them.
-//! Want of memory loses nothing: what an end could not do yet it keeps, and goes on with at the next call.
+//! The two ends of a session as parts of any program: bytes of the other side go in, bytes for the other side come out, and the program
+//! carries them. Want of memory loses nothing: an end keeps what it could not do yet, and goes on with it at the next call.
 #![tactic(auto)]
 
 mod drawing;

@@ -9,12 +9,18 @@ use sam_mesg::{HFrame, MesgFault, Tmesg, encode_h, encode_t};
 use std::alloc::{AllocError, Global};
 use std::marker::Model;
 
-/// Bytes in the order in which they were written, which contracts see as a list. Taking some costs by those, and not by what is left.
+/// The bytes that an end has for the other side, in the order in which they were written. Contracts see them as a list. Taking bytes costs
+/// by how many are taken, and not by how many are left.
+///
+/// ```rust
+/// outbox.put_messages(composed.as_slice())?; // all of them, or none
+/// let count = outbox.take_into(&mut buffer); // the first bytes, as many as have room
+/// ```
 #[derive(Drop)]
 pub struct Outbox {
     /// What was written, with bytes in front that were taken since.
     bytes: Vec<u8>,
-    /// How many bytes at the front were taken: at most all.
+    /// How many bytes at the front of `bytes` were taken: at most all.
     taken: usize,
 }
 
@@ -29,7 +35,7 @@ impl Model for Outbox {
 }
 
 impl Outbox {
-    /// No bytes. It takes no memory.
+    /// Makes an empty outbox. It takes no memory.
     pub fn new(alloc: Global) -> Outbox
         ensures { result ≡ [] }
     {
@@ -39,14 +45,15 @@ impl Outbox {
         }
     }
 
-    /// How many bytes wait.
+    /// Returns how many bytes wait to be taken.
     pub fn len(&self) -> usize
         ensures { result ≡ length self.now }
     {
         self.bytes.len() - self.taken
     }
 
-    /// Takes the first bytes into the buffer, as many as wait and have room there, and answers how many. The rest of the buffer stays.
+    /// Moves the first bytes into the buffer, as many as wait and have room there, and returns how many. The rest of the buffer stays as
+    /// it was.
     pub fn take_into(&mut self, into: &mut [u8]) -> usize
         ensures count { result ≡ min (length self.old) (length into.old) }
         ensures bytes { into.new ≡ take result self.old ++ drop result into.old }
@@ -59,7 +66,7 @@ impl Outbox {
         count
     }
 
-    /// Forgets the bytes that were taken, once they are half of all: so a byte is moved at most once for each that is taken.
+    /// Forgets the bytes that were taken, once they are half of all. So a byte is moved at most once for each byte that is taken.
     fn compact(&mut self)
         ensures { self.new ≡ self.old }
     {
@@ -71,7 +78,7 @@ impl Outbox {
         }
     }
 
-    /// Puts the frames behind the others, all or none. Its only fault is want of memory.
+    /// Puts the bytes of the frames behind the others, all or none. Its only error is want of memory, and leaves the bytes as they were.
     pub fn put_frames(&mut self, frames: &[HFrame]) -> Result<(), AllocError>
         requires { FitFrames frames.now }
         ensures written { OnOk result (self.new ≡ self.old ++ stream_of host frames.now) }
@@ -86,7 +93,7 @@ impl Outbox {
         Ok(())
     }
 
-    /// Puts the messages behind the others, all or none. Its only fault is want of memory.
+    /// Puts the bytes of the messages behind the others, all or none. Its only error is want of memory, and leaves the bytes as they were.
     pub fn put_messages(&mut self, messages: &[Tmesg]) -> Result<(), AllocError>
         requires { FitMessages messages.now }
         ensures written { OnOk result (self.new ≡ self.old ++ stream_of terminal messages.now) }
@@ -102,7 +109,7 @@ impl Outbox {
     }
 }
 
-/// Puts the frames at the end, up to the first for which memory is refused.
+/// Adds the bytes of the frames at the end of `out`. After an error, which is want of memory, some of the first of them stand there.
 fn write_frames(out: &mut Vec<u8>, frames: &[HFrame]) -> Result<(), MesgFault>
     requires { FitFrames frames.now }
     ensures done { OnOk result (out.new.items ≡ out.old.items ++ stream_of host frames.now) }
@@ -114,7 +121,7 @@ fn write_frames(out: &mut Vec<u8>, frames: &[HFrame]) -> Result<(), MesgFault>
     Ok(())
 }
 
-/// Puts the messages at the end, up to the first for which memory is refused.
+/// Adds the bytes of the messages at the end of `out`. After an error, which is want of memory, some of the first of them stand there.
 fn write_messages(out: &mut Vec<u8>, messages: &[Tmesg]) -> Result<(), MesgFault>
     requires { FitMessages messages.now }
     ensures done { OnOk result (out.new.items ≡ out.old.items ++ stream_of terminal messages.now) }

@@ -16,28 +16,41 @@ use std::alloc::Global;
 use std::collections::VecDeque;
 use std::marker::Model;
 
-/// A terminal that takes the bytes of a host's frames and the user's events, and keeps the bytes of its messages until they are taken.
+/// A terminal that takes the bytes of a host's frames and the user's events, and keeps the bytes of its messages until they are taken out.
 ///
-/// Frames are received in order, and then the events that no lock holds back act. Want of memory loses nothing: what could not be
-/// received, done or written waits, and the next call goes on with it. A fault of the stream and a frame that the terminal refuses
-/// stop it for good, behind the frames before them. An event that the terminal refuses stops nothing: `next_refusal` tells it.
+/// At each call frames are received in order, and then events act for as long as no lock holds the oldest back. Want of memory loses
+/// nothing: what could not be received, done or written waits, and the next call goes on with it. A fault of the stream, or a frame that
+/// the terminal refuses, stops the end for good, once the frames before it are received. An event that the terminal refuses stops nothing:
+/// `next_refusal` tells of it.
+///
+/// ```rust
+/// let mut end = TermEnd::new(alloc);
+/// end.put(UserEvent::Version(2))?;        // the user does something
+/// let count = end.take_out(&mut buffer);  // bytes that go to the host
+/// end.feed(piece)?;                       // bytes that came from the host
+/// let rasp = end.term().rasp(1);          // what can be drawn of file 1, if it is open
+/// ```
 #[derive(Drop)]
 pub struct TermEnd {
+    /// Where everything takes its memory from.
     alloc: Global,
+    /// Cuts the host's stream into frames. It has not failed while `behind` is `None`.
     framer: FramerH,
+    /// The terminal, as the frames and events so far left it. It holds at most as many events as `events` counts.
     term: Terminal,
-    /// The frames that came and are not received yet; none while a call returns `Ok`.
+    /// The frames that came and are not received yet, the oldest first. There are none after a call that returned `Ok`.
     waiting: VecDeque<HFrame>,
-    /// What is wrong with the stream behind them.
+    /// What is wrong with the stream behind these frames; `None` if nothing is.
     behind: Option<StreamFault>,
-    /// The messages of one answer that are not written yet; none while a call returns `Ok`.
+    /// The messages that were composed last, while they are not in the outbox. There are none after a call that returned `Ok`.
     unwritten: Vec<Tmesg>,
+    /// The bytes for the host that were not taken out yet.
     outbox: Outbox,
-    /// How many events the user made.
+    /// How many events were taken: the number of the last of them.
     events: u64,
-    /// The events that were refused and not asked for yet, by their numbers, and why.
+    /// The events that were refused and `next_refusal` has not handed out, the oldest first: the number of each, from 1, and why.
     refusals: VecDeque<(u64, Refusal)>,
-    /// Why it has stopped.
+    /// Why the end has stopped for good; `None` while it goes on.
     stop: Option<TermStop>,
 }
 
@@ -54,7 +67,7 @@ impl Model for TermEnd {
 }
 
 impl TermEnd {
-    /// A terminal that knows no file, with nothing to read or to write. It takes no memory.
+    /// Makes a terminal that knows no file, to which nothing was fed or put. It takes no memory.
     pub fn new(alloc: Global) -> TermEnd
         ensures { result ≡ new_term_end }
     {
@@ -72,7 +85,7 @@ impl TermEnd {
         }
     }
 
-    /// Writes what was composed, all or nothing.
+    /// Writes what was composed into the outbox, all or none. Its only error is `Unfinished`.
     fn write_composed(&mut self) -> Result<(), EndFault<TermStop>>
         ensures { Writes self.old result self.new }
     {
@@ -83,7 +96,7 @@ impl TermEnd {
         Ok(())
     }
 
-    /// Stops for good if that is what the fault says, and answers the fault.
+    /// Stops the end for good if the fault is `Stopped`, and returns the fault.
     fn stop_by(&mut self, fault: EndFault<TermStop>) -> EndFault<TermStop>
         ensures answer { result ≡ fault }
         ensures stopped { self.new ≡ stopped_by self.old fault }
@@ -94,7 +107,7 @@ impl TermEnd {
         fault
     }
 
-    /// Receives the oldest frame that waits, and answers whether one waited.
+    /// Has the terminal receive the oldest frame that waits. Returns whether one waited.
     fn receive_first(&mut self) -> Result<bool, EndFault<TermStop>>
         ensures { Receives self.old result self.new }
     {
@@ -111,7 +124,7 @@ impl TermEnd {
         }
     }
 
-    /// Has the oldest event act, and answers whether one could. Memory for the news of a refusal is had first.
+    /// Has the oldest held event act. Returns whether it could. Memory to tell of a refusal is had first.
     fn act_first(&mut self) -> Result<bool, EndFault<TermStop>>
         requires { self.old.unwritten ≡ [] }
         ensures { Acts self.old result self.new }
@@ -159,7 +172,7 @@ impl TermEnd {
         Ok(())
     }
 
-    /// Goes on with what waits: writes, receives, and then has events act.
+    /// Goes on with what waits: it writes, receives, stops at a fault of the stream, and then has events act.
     fn go_on(&mut self) -> Result<(), EndFault<TermStop>>
         requires { self.old.stop ≡ None }
         ensures { GoesOn self.old result self.new }
@@ -171,7 +184,7 @@ impl TermEnd {
         self.act_all()
     }
 
-    /// Goes on with what waits, before the call's own work.
+    /// Goes on with what waits, before the call's own work. An end that has stopped answers why.
     fn resume(&mut self) -> Result<(), EndFault<TermStop>>
         ensures { Resumes self.old result self.new }
     {
@@ -184,7 +197,7 @@ impl TermEnd {
         }
     }
 
-    /// Takes the frames of a piece in.
+    /// Feeds the piece to the framer when nothing waits. Then its frames wait, and perhaps a fault behind them.
     fn take_in(&mut self, piece: &[u8]) -> Result<(), EndFault<TermStop>>
         requires { self.old.behind ≡ None }
         ensures { Gains self.old piece.now result self.new }
@@ -195,7 +208,7 @@ impl TermEnd {
         Ok(())
     }
 
-    /// Holds an event behind the others.
+    /// Holds an event behind the others, and counts it. The errors are `CountFull` and then `OutOfMemory`.
     fn hold(&mut self, event: UserEvent) -> Result<(), EndFault<TermStop>>
         ensures { Holds self.old event result self.new }
     {
@@ -209,7 +222,7 @@ impl TermEnd {
         Ok(())
     }
 
-    /// Composes the runes that were typed and are in no message yet.
+    /// Composes the runes that were typed and are in no message yet. The errors are `Stopped` for a full count and then `OutOfMemory`.
     fn compose_unsent(&mut self) -> Result<(), EndFault<TermStop>>
         requires { self.old.unwritten ≡ [] }
         ensures { Composes self.old result self.new }
@@ -223,12 +236,17 @@ impl TermEnd {
         }
     }
 
-    /// Takes an event of the user. It goes on with what waits, holds the event behind the others, and then has events act while one
-    /// can. An event that is refused is no fault: `next_refusal` tells it, by its number.
+    /// Takes an event of the user. It goes on with what waits, holds the event behind the others, and then has events act while one can.
+    /// An event that is refused is no error: `next_refusal` tells of it, by its number.
     ///
-    /// Faults: `Stopped` where the end has stopped, at this call or before; `OutOfMemory` where memory was refused before the event was
-    /// held, so that it is to be put again; `CountFull` where 2^64-1 events were put; `Unfinished` where memory was refused after that.
-    /// Behind `OutOfMemory` and `CountFull` the event is gone and all else is as what waited left it.
+    /// Errors, in this order:
+    ///
+    /// - `Stopped` if the end had stopped before. It is as it was.
+    /// - `OutOfMemory`, or `Stopped`, as what waited goes on.
+    /// - `CountFull` if 2^64-1 events were taken before, and then `OutOfMemory` if there is no room for the event.
+    /// - `Unfinished` or `Stopped`, as events act. The event is taken, and after `Unfinished` the next call goes on.
+    ///
+    /// In all but the last case the event is dropped; after `OutOfMemory` it is to be put again.
     pub fn put(&mut self, event: UserEvent) -> Result<(), EndFault<TermStop>>
         ensures { Puts self.old event result self.new }
     {
@@ -237,12 +255,19 @@ impl TermEnd {
         self.go_on()
     }
 
-    /// Takes a piece of the host's stream, of any length; an empty one has it go on with what waits, and no more. The frames that are
-    /// whole now are received, and then events act while one can.
+    /// Takes a piece of the host's stream, of any length. The terminal receives the frames that are whole with it, and then events act
+    /// while one can. Before that it goes on with what waited; with an empty piece it does just that.
     ///
-    /// Faults: `Stopped` where the end has stopped, at this call or before; `OutOfMemory` where memory was refused before the piece was
-    /// taken, so that it is to be fed again; `CountFull` where the stream would be longer than 2^64-1 bytes; `Unfinished` where memory
-    /// was refused after that. Behind `OutOfMemory` and `CountFull` no byte of the piece was taken.
+    /// Errors, in this order:
+    ///
+    /// - `Stopped` if the end had stopped before. It is as it was.
+    /// - `OutOfMemory`, or `Stopped`, as what waited goes on. The piece is not taken.
+    /// - `CountFull` if the stream would be longer than 2^64-1 bytes, and then `OutOfMemory`. The piece is not taken.
+    /// - `Unfinished` or `Stopped`, as frames are received and events act. The piece is taken, and after `Unfinished` the next call goes
+    ///   on.
+    ///
+    /// It stops at a frame that the terminal refuses, at a fault of the stream behind all frames, or at an event whose messages can't be
+    /// counted.
     pub fn feed(&mut self, piece: &[u8]) -> Result<(), EndFault<TermStop>>
         ensures { Feeds self.old piece.now result self.new }
     {
@@ -251,11 +276,16 @@ impl TermEnd {
         self.go_on()
     }
 
-    /// Sends the runes that were typed and are in no message yet. A program calls it when there is nothing else to do.
+    /// Sends the runes that were typed and are in no message yet. A program calls it when there is nothing else to do, as when the user
+    /// pauses.
     ///
-    /// Faults: `Stopped` where the end has stopped, at this call or before, also where more than 2^64-1 messages would have been
-    /// composed; `OutOfMemory` where memory was refused before the runes were composed, so that it is to be called again; `Unfinished`
-    /// where memory was refused after that.
+    /// Errors, in this order:
+    ///
+    /// - `Stopped` if the end had stopped before. It is as it was.
+    /// - `OutOfMemory`, or `Stopped`, as what waited goes on.
+    /// - `Stopped` if more than 2^64-1 messages would be composed, and then `OutOfMemory`. The runes are as they were, so after
+    ///   `OutOfMemory` it is to be called again.
+    /// - `Unfinished` or `Stopped`, as the message is written and events act. After `Unfinished` the next call goes on.
     pub fn flush(&mut self) -> Result<(), EndFault<TermStop>>
         ensures { Flushes self.old result self.new }
     {
@@ -264,14 +294,16 @@ impl TermEnd {
         self.go_on()
     }
 
-    /// How many bytes for the host wait to be taken.
+    /// Returns how many bytes for the host wait to be taken out.
     pub fn pending(&self) -> usize
         ensures { result ≡ length self.now.outbox }
     {
         self.outbox.len()
     }
 
-    /// Takes bytes for the host into the buffer, as many as wait and have room there, and answers how many. The rest of the buffer stays.
+    /// Moves the first bytes for the host into the buffer, as many as wait and have room there, and returns how many. The rest of the
+    /// buffer stays as it was, and so does everything else of the end. It works on an end that has stopped, too. The cost is that of the
+    /// bytes it moves.
     pub fn take_out(&mut self, into: &mut [u8]) -> usize
         ensures count { result ≡ min (length self.old.outbox) (length into.old) }
         ensures bytes { into.new ≡ take result self.old.outbox ++ drop result into.old }
@@ -280,7 +312,8 @@ impl TermEnd {
         self.outbox.take_into(into)
     }
 
-    /// The oldest event that was refused and not asked for yet, by its number, the first being 1, and why. It is asked for then.
+    /// Hands out the oldest event that was refused and was not handed out before: its number, counted from 1 over all events that were
+    /// taken, and why. Returns `None` if there is none.
     pub fn next_refusal(&mut self) -> Option<(u64, Refusal)>
         ensures told { result ≡ slice_get self.old.refusals 0 }
         ensures rest { self.new ≡ record self.old { refusals = drop 1 self.old.refusals } }
@@ -288,28 +321,29 @@ impl TermEnd {
         self.refusals.pop_front()
     }
 
-    /// The terminal, to be read.
+    /// Returns the terminal, to be read and drawn.
     pub fn term(&self) -> &Terminal
         ensures { result.now ≡ self.now.term }
     {
         &self.term
     }
 
-    /// Why it has stopped for good, if it has.
+    /// Returns why the end has stopped for good; `None` while it goes on.
     pub fn stopped(&self) -> Option<TermStop>
         ensures { result ≡ self.now.stop }
     {
         self.stop
     }
 
-    /// Whether no frame waits to be received and no message to be written, so that only want of memory or a lock can hold an event back.
+    /// Returns whether no frame waits to be received and no message waits to be written. Only a lock, want of memory or a stop can then
+    /// hold an event back. It is so whenever `put`, `feed` or `flush` has returned `Ok`.
     pub fn is_idle(&self) -> bool
         ensures { IsTrue result ↔ IsIdle self.now }
     {
         self.waiting.is_empty() && self.unwritten.is_empty()
     }
 
-    /// How many events were put.
+    /// Returns how many events were taken.
     pub fn events(&self) -> u64
         ensures { result ≡ self.now.events }
     {
@@ -317,7 +351,7 @@ impl TermEnd {
     }
 }
 
-/// What a fault of the terminal is to the end: want of memory leaves work unfinished, and any other fault stops it.
+/// Returns what a fault of the terminal is for the end: want of memory leaves work unfinished, and any other fault stops it.
 fn end_fault(why: TermFault) -> EndFault<TermStop>
     ensures { result ≡ end_fault why }
 {
@@ -327,7 +361,7 @@ fn end_fault(why: TermFault) -> EndFault<TermStop>
     }
 }
 
-/// Want of memory before what the call brings was taken.
+/// Returns the fault of a call that could not take what it brought: `Unfinished` becomes `OutOfMemory`.
 fn not_taken(fault: EndFault<TermStop>) -> EndFault<TermStop>
     ensures { result ≡ not_taken fault }
 {
@@ -337,7 +371,7 @@ fn not_taken(fault: EndFault<TermStop>) -> EndFault<TermStop>
     }
 }
 
-/// The oldest frame.
+/// Returns the oldest frame.
 fn first_frame(frames: &VecDeque<HFrame>) -> Option<&HFrame>
     ensures { option_copied result ≡ slice_get frames.now.items 0 }
 {
@@ -351,7 +385,7 @@ fn drop_first(frames: &mut VecDeque<HFrame>)
     let _first = frames.pop_front();
 }
 
-/// Has the terminal receive a frame, which is copied for it.
+/// Has the terminal receive a copy of a frame, and returns what it composes. After an error the terminal is as it was.
 fn receive_copy(
     term: &mut Terminal,
     frame: &HFrame,
@@ -370,7 +404,7 @@ fn receive_copy(
     }
 }
 
-/// Has the terminal's oldest event act.
+/// Has the terminal's oldest event act, and returns what became of it. After an error the terminal is as it was.
 fn act_now(term: &mut Terminal) -> Result<Acted, EndFault<TermStop>>
     ensures tries { Tries term.old (act_of term.old) result term.new }
     ensures fit { IfOk result (λ acted. AllFit (composed_in acted)) }
@@ -381,7 +415,7 @@ fn act_now(term: &mut Terminal) -> Result<Acted, EndFault<TermStop>>
     }
 }
 
-/// Has the terminal compose its unsent runes.
+/// Has the terminal compose its unsent runes, and returns their message. After an error the terminal is as it was.
 fn flush_now(term: &mut Terminal) -> Result<Batch, EndFault<TermStop>>
     ensures tries { Tries term.old (flush_of term.old) result term.new }
     ensures fit { IfOk result AllFit }
@@ -392,14 +426,16 @@ fn flush_now(term: &mut Terminal) -> Result<Batch, EndFault<TermStop>>
     }
 }
 
-/// What a framer gave: frames, and what is wrong with the stream behind them.
+/// What a framer gave for a piece.
 #[derive(Drop)]
 struct Given {
+    /// The frames that are whole now, in order.
     frames: Vec<HFrame>,
+    /// What is wrong with the stream behind them; `None` if nothing is.
     behind: Option<StreamFault>,
 }
 
-/// Feeds a framer that has not failed.
+/// Feeds a piece to a framer that has not failed. The errors are `CountFull` and then `OutOfMemory`, and leave the framer as it was.
 fn feed_framer(framer: &mut FramerH, piece: &[u8]) -> Result<Given, EndFault<TermStop>>
     requires { framer.old.failed ≡ false }
     ensures { GivesAs framer.old piece.now result framer.new }

@@ -1,4 +1,5 @@
-//! What is asked of a file: a stretch of its text, the start of a line, an occurrence, a word.
+//! The answers to what the terminal asks of a file: a check, a stretch of its text, the start of a line, a word, an occurrence. A method
+//! for a kind leaves the count of messages to its caller, and after an error the host is unchanged.
 
 ghost use Rattle.std.specs.Prelude.{◌≡◌, ◌⊎◌, ◌<◌, ◌≤◌, ◌+◌, ◌++◌, ◌∷◌, [], ◌^◌, IfOk, IfErr, IfSome, OnOk, OnErr, Err, None, Some, length};
 ghost use Rattle.sam_host.specs.Host.{host_checks, stamped, reply_check, reply_request, reply_origin, reply_look, reply_search, reply_dclick, searched_for};
@@ -11,14 +12,15 @@ use crate::host::Host;
 use sam_mesg::{HFrame, Hmesg, Tmesg};
 use sam_text::FileChange;
 
-/// The most runes of one text message.
+/// The most runes in one text message.
 const MOST_IN_MESSAGE: u32 = 512;
 
-/// The most runes of one pattern.
+/// The most runes in a pattern.
 const MOST_IN_PATTERN: usize = 128;
 
 impl Host {
-    /// A file is checked.
+    /// Answers `Tcheck` with `Hcheck`, which reaches the terminal after all that the host has said of the file. Errors, in this order:
+    /// `NoFile`; `NotOpen`; `OutOfMemory`.
     #[tactic(auto, unfolding(crate::specs::Host::reply_check))]
     pub(crate) fn check(&mut self, f: u16) -> Result<Vec<HFrame>, HostFault>
         requires { self.old.taken + 1 < 2 ^ 64 }
@@ -35,7 +37,9 @@ impl Host {
         Ok(frames)
     }
 
-    /// A stretch of a text is asked for.
+    /// Answers `Trequest`: `Hdata` with the runes from `p` on, at most `n` and at most 512, and `Hunlockfile`. A request that reaches past
+    /// the end gets what there is. One for a file that was closed gets no frame, since `Hclose` has freed the lock. Errors, in this order:
+    /// `NoFile` if the tag was never given; `NotOpen`; `OutOfMemory`.
     #[tactic(auto, unfolding(crate::specs::Host::reply_request, crate::specs::Host::when))]
     pub(crate) fn request(&mut self, f: u16, p: u32, n: u16) -> Result<Vec<HFrame>, HostFault>
         requires { self.old.taken + 1 < 2 ^ 64 }
@@ -66,7 +70,7 @@ impl Host {
         Ok(frames)
     }
 
-    /// The start of the line that stands so many lines before the line of the place.
+    /// Returns the start of the line that stands `n` lines before the line of `p`; 0 if there are fewer.
     fn line_start_before(&self, f: u16, p: u32, n: u32) -> u32
         requires { p ≤ length (file_at self.now.files f).text }
         ensures { result ≡ lines_before (file_at self.now.files f).text p n }
@@ -77,7 +81,8 @@ impl Host {
         file.text().lines_before(p, n)
     }
 
-    /// The start of a line is asked for.
+    /// Answers `Torigin`: `Horigin` with the start of the line that stands `n` lines before the line of `p`, or 0 if there are fewer, and
+    /// `Hunlockfile`. Errors, in this order: `NoFile`; `NotOpen`; `BadPosition` if `p` is past the end; `OutOfMemory`.
     #[tactic(auto, unfolding(crate::specs::Host::reply_origin))]
     pub(crate) fn origin(&mut self, f: u16, p: u32, n: u32) -> Result<Vec<HFrame>, HostFault>
         requires { self.old.taken + 1 < 2 ^ 64 }
@@ -96,7 +101,7 @@ impl Host {
         Ok(frames)
     }
 
-    /// The word round a place.
+    /// Returns the range of the word that has `p` inside it or at an edge; the empty range at `p` if there is none.
     fn word(&self, f: u16, p: u32) -> (u32, u32)
         requires { p ≤ length (file_at self.now.files f).text }
         ensures value { result ≡ word_at (file_at self.now.files f).text p }
@@ -108,7 +113,8 @@ impl Host {
         }
     }
 
-    /// The word round a place is selected.
+    /// Answers `Tdclick`: selects the word that has `p` inside it or at an edge, or the empty range at `p`, and tells `Hsetdot` and
+    /// `Hunlockfile`. Errors, in this order: `NoFile`; `NotOpen`; `BadPosition` if `p` is past the end; `OutOfMemory`.
     #[tactic(auto, unfolding(crate::specs::Host::reply_dclick))]
     pub(crate) fn double_click(&mut self, f: u16, p: u32) -> Result<Vec<HFrame>, HostFault>
         requires { self.old.taken + 1 < 2 ^ 64 }
@@ -128,7 +134,7 @@ impl Host {
         Ok(frames)
     }
 
-    /// Where `lit` stands in a file from the place `q` on, else from the start.
+    /// Returns the first occurrence of `lit` in a file that begins at `q` or later, else the first of all; `None` if there is none.
     #[tactic(auto, using(sam_runes::proofs::PlaceLaws::searched_within))]
     fn found_in(&self, f: u16, lit: &[char], q: u32) -> Option<(u32, u32)>
         requires filled { 0 < length lit.now }
@@ -143,7 +149,7 @@ impl Host {
         }
     }
 
-    /// Where the pattern that was searched last stands from the place `q` on, else from the start.
+    /// Returns the occurrence of the pattern that was searched last, as `found_in` does; `None` if there is no pattern.
     fn found(&self, f: u16, q: u32) -> Option<(u32, u32)>
         requires { q ≤ length (file_at self.now.files f).text }
         ensures value { result ≡ searched_for self.now.files.pattern (file_at self.now.files f).text q }
@@ -155,7 +161,7 @@ impl Host {
         }
     }
 
-    /// How an occurrence is told.
+    /// Tells an occurrence: it is the dot, the window has to show it, the terminal is to look for gaps, and the file is free.
     fn tell_found(&self, frames: &mut Vec<HFrame>, f: u16, p: u32, q: u32) -> Result<(), HostFault>
         requires count { self.now.taken + 1 < 2 ^ 64 }
         ensures ok { OnOk result (frames.new.items ≡ frames.old.items ++ stamped (self.now.taken + 1) (Hmesg.Hsetdot f p q ∷ Hmesg.Hmoveto f p ∷ Hmesg.Hcheck f ∷ Hmesg.Hunlockfile f ∷ [])) }
@@ -167,7 +173,10 @@ impl Host {
         self.say(frames, Hmesg::Hunlockfile(f))
     }
 
-    /// The selected text is looked for behind itself, and is the pattern.
+    /// Answers `Tlook`: what stands from `p` to `q` becomes the pattern, and its first occurrence from `q` on, else from the start, becomes
+    /// the dot. The selected text itself counts, so there always is one. If the range is empty or has more than 128 runes, nothing changes,
+    /// and `Hunlockfile` is the one frame. Errors, in this order: `NoFile`; `NotOpen`; `BadPosition` if the text has no such range;
+    /// `OutOfMemory`.
     #[tactic(auto, unfolding(crate::specs::Host::reply_look))]
     pub(crate) fn look(&mut self, f: u16, p: u32, q: u32) -> Result<Vec<HFrame>, HostFault>
         requires { self.old.taken + 1 < 2 ^ 64 }
@@ -201,7 +210,9 @@ impl Host {
         Ok(frames)
     }
 
-    /// The pattern is looked for.
+    /// Answers `Tsearch`: the first occurrence of the pattern from `q` on, else from the start, becomes the dot. If there is no pattern or
+    /// no occurrence, nothing changes, and `Hunlockfile` is the one frame. Errors, in this order: `NoFile`; `NotOpen`; `BadPosition` if the
+    /// text has no range from `p` to `q`; `OutOfMemory`.
     #[tactic(auto, unfolding(crate::specs::Host::reply_search))]
     pub(crate) fn search(&mut self, f: u16, p: u32, q: u32) -> Result<Vec<HFrame>, HostFault>
         requires { self.old.taken + 1 < 2 ^ 64 }

@@ -1,4 +1,5 @@
-//! What changes a file or the snarf buffer: typing, cutting, pasting, writing.
+//! The answers to what changes a file or the snarf buffer: cutting, pasting, snarfing and writing, and how typed runes are put in. A method
+//! for a kind leaves the count of messages to its caller, and after an error the host is unchanged.
 
 ghost use Rattle.std.specs.Prelude.{◌≡◌, ◌⊎◌, ◌<◌, ◌≤◌, ◌+◌, ◌++◌, ◌∷◌, [], ◌^◌, IfOk, IfErr, OnOk, OnErr, Err, None, Some, IsTrue, true, not, ◌&&◌, ◌==◌, length};
 ghost use Rattle.sam_host.specs.Host.{host_checks, stamped, when, grown, with_file, reply_cut, reply_paste, reply_snarf, reply_setsnarf, reply_startsnarf, reply_write};
@@ -14,11 +15,13 @@ use sam_runes::places::prefix_in_bytes;
 use sam_runes::{MAX_RUNES, Runes};
 use sam_text::FileChange;
 
-/// The most bytes of snarfed text in one message of version 1, and of version 2.
+/// The most bytes of UTF-8 that a snarfed text may have in one message: of version 1, and of version 2.
 const SNARF_LIMITS: (usize, usize) = (4_096, 32_000);
 
 impl Host {
-    /// A range is deleted.
+    /// Answers `Tcut` with no frame: takes out what stands from `p` to `q`, as the terminal has done already. The dot is then empty, at
+    /// `p`, and any file but the command file is dirty. It takes no memory. Errors, in this order: `NoFile`; `NotOpen`; `BadPosition` if
+    /// the text has no such range.
     #[tactic(auto, unfolding(crate::specs::Host::reply_cut))]
     pub(crate) fn cut(&mut self, f: u16, p: u32, q: u32) -> Result<Vec<HFrame>, HostFault>
         requires { self.old.taken + 1 < 2 ^ 64 }
@@ -34,7 +37,7 @@ impl Host {
         Ok(Vec::new(self.alloc))
     }
 
-    /// How a paste ends.
+    /// Tells how a paste ends: the dot is what was pasted, from `p` to `q`, the terminal is to look for gaps, and the file is free.
     fn end_paste(&self, frames: &mut Vec<HFrame>, f: u16, p: u32, q: u32) -> Result<(), HostFault>
         requires count { self.now.taken + 1 < 2 ^ 64 }
         ensures ok { OnOk result (frames.new.items ≡ frames.old.items ++ stamped (self.now.taken + 1) (Hmesg.Hsetdot f p q ∷ Hmesg.Hcheck f ∷ Hmesg.Hunlockfile f ∷ [])) }
@@ -45,7 +48,8 @@ impl Host {
         self.say(frames, Hmesg::Hunlockfile(f))
     }
 
-    /// How a paste of these runes is told.
+    /// Returns the frames that tell of a paste of these runes at `p`. They are made before the paste, which changes the dirty mark that
+    /// they go by.
     #[tactic(auto, using(crate::proofs::FrameLaws::stamped_append))]
     fn paste_frames(&self, f: u16, p: u32, runes: &[char]) -> Result<Vec<HFrame>, HostFault>
         requires count { self.now.taken + 1 < 2 ^ 64 }
@@ -61,7 +65,7 @@ impl Host {
         Ok(frames)
     }
 
-    /// Puts pasted runes in.
+    /// Puts pasted runes in at `p` and selects them. The only error is `OutOfMemory`, and the host is then unchanged.
     fn put_pasted(&mut self, f: u16, p: u32, runes: &[char]) -> Result<(), HostFault>
         requires there { has_file self.old.files f ≡ true }
         requires place { p ≤ length (file_at self.old.files f).text }
@@ -77,7 +81,9 @@ impl Host {
         }
     }
 
-    /// The snarf buffer is pasted.
+    /// Answers `Tpaste`: puts the snarf buffer in at `p`, selects it, and tells the terminal what came in. Any file but the command file is
+    /// then dirty. If the buffer is empty, or the text would have more than 1,000,000 runes, nothing changes, and `Hunlockfile` is the one
+    /// frame. Errors, in this order: `NoFile`; `NotOpen`; `BadPosition` if `p` is past the end; `OutOfMemory`.
     #[tactic(auto, unfolding(crate::specs::Host::reply_paste))]
     pub(crate) fn paste(&mut self, f: u16, p: u32) -> Result<Vec<HFrame>, HostFault>
         requires { self.old.taken + 1 < 2 ^ 64 }
@@ -101,7 +107,8 @@ impl Host {
         Ok(frames)
     }
 
-    /// A range is taken into the snarf buffer.
+    /// Answers `Tsnarf`: copies what stands from `p` to `q` into the snarf buffer, and tells its length in runes. Errors, in this order:
+    /// `NoFile`; `NotOpen`; `BadPosition` if the text has no such range; `OutOfMemory`.
     #[tactic(auto, using(crate::proofs::SnarfLaws::part_length), unfolding(crate::specs::Host::reply_snarf))]
     pub(crate) fn snarf(&mut self, f: u16, p: u32, q: u32) -> Result<Vec<HFrame>, HostFault>
         requires { self.old.taken + 1 < 2 ^ 64 }
@@ -120,7 +127,7 @@ impl Host {
         Ok(frames)
     }
 
-    /// The snarf buffer holds these runes.
+    /// Answers `Tsetsnarf`: these runes become the snarf buffer, and their number is told. The only error is `OutOfMemory`.
     #[tactic(auto, using(crate::proofs::SnarfLaws::snarf_short), unfolding(crate::specs::Host::reply_setsnarf))]
     pub(crate) fn set_snarf(&mut self, runes: Runes) -> Result<Vec<HFrame>, HostFault>
         requires count { self.old.taken + 1 < 2 ^ 64 }
@@ -138,7 +145,7 @@ impl Host {
         Ok(frames)
     }
 
-    /// The most bytes that the snarf buffer may take in a message of the version.
+    /// Returns how many bytes of UTF-8 a snarfed text may have in one message of the host's version.
     fn snarf_limit(&self) -> usize
         ensures { result ≡ snarf_limit self.now.version }
     {
@@ -149,7 +156,8 @@ impl Host {
         }
     }
 
-    /// As much of the snarf buffer as a message may hold is asked for.
+    /// Answers `Tstartsnarf`: `Hsetsnarf` with the longest front of the snarf buffer, in whole runes, that fits in a message of the
+    /// version. The only error is `OutOfMemory`.
     #[tactic(auto, unfolding(crate::specs::Host::reply_startsnarf))]
     pub(crate) fn start_snarf(&mut self) -> Result<Vec<HFrame>, HostFault>
         requires { self.old.taken + 1 < 2 ^ 64 }
@@ -168,7 +176,7 @@ impl Host {
         Ok(frames)
     }
 
-    /// The whole text of a file, copied.
+    /// Copies the whole text of a file. The only error is `OutOfMemory`.
     #[tactic(auto, using(crate::proofs::SnarfLaws::part_all))]
     fn whole(&self, f: u16) -> Result<Runes, HostFault>
         ensures ok { IfOk result (λ r. r ≡ (file_at self.now.files f).text) }
@@ -177,7 +185,8 @@ impl Host {
         self.part(f, 0, self.text_len(f))
     }
 
-    /// A file is written: what is saved is its text, and it is clean.
+    /// Answers `Twrite`: a copy of the text becomes the saved copy, and the file is clean. The host touches no disk. Errors, in this order:
+    /// `NoFile`; `CommandFile`; `NotOpen`; `OutOfMemory`.
     #[tactic(auto, unfolding(crate::specs::Host::reply_write))]
     pub(crate) fn write(&mut self, f: u16) -> Result<Vec<HFrame>, HostFault>
         requires { self.old.taken + 1 < 2 ^ 64 }
@@ -203,7 +212,8 @@ impl Host {
         Ok(frames)
     }
 
-    /// Puts typed runes in.
+    /// Puts typed runes in at `p`. The dot is then empty, behind them, and any file but the command file is dirty. The only error is
+    /// `OutOfMemory`, and the host is then unchanged.
     pub(crate) fn put_typed(&mut self, f: u16, p: u32, runes: &[char]) -> Result<(), HostFault>
         requires there { has_file self.old.files f ≡ true }
         requires place { p ≤ length (file_at self.old.files f).text }

@@ -1,40 +1,40 @@
 //! Laws of what the host answers, for readers and for the crates above. They speak of the definition `answer`, which `Host::handle`
-//! computes.
+//! computes. Each function does nothing: its clause is the law.
 
 ghost use Rattle.sam_host.specs.Laws.{AddsGiven, StartsSound, StaysSound, FramesFit, AnswersAreCounted, IsSilentWhereDone};
 
-/// A host to which files are added one by one is the host that is made with all of them.
+/// Says that a host to which files are added one by one is the host that is made with all of them.
 #[tactic(auto, using(crate::proofs::GivenLaws::adds_given))]
 pub fn files_can_be_added()
     ensures { AddsGiven }
 {}
 
-/// A host that is made with names and texts within their limits is sound: its texts and names are within their limits, each dot is a
-/// range of its text, and its version is 1.
+/// Says that a host which is made with names and texts within their limits is sound: its texts and names are within their limits, each dot
+/// is a range of its text, and its version is 1.
 #[tactic(auto, using(crate::proofs::SoundLaws::starts_sound))]
 pub fn hosts_start_sound()
     ensures { StartsSound }
 {}
 
-/// A sound host is sound after every answer: texts, names and dots stay within their limits.
+/// Says that a sound host is sound after every answer: texts, names and dots stay within their limits, and the version is 1 or 2.
 #[tactic(auto, using(crate::proofs::SoundLaws::stays_sound))]
 pub fn hosts_stay_sound()
     ensures { StaysSound }
 {}
 
-/// Each frame that a sound host answers fits in the version at its place of the stream, and in version 2.
+/// Says that each frame which a sound host answers fits in the version at its place of the stream, and in version 2.
 #[tactic(auto, using(crate::proofs::SoundLaws::frames_fit))]
 pub fn frames_fit_in_place()
     ensures { FramesFit }
 {}
 
-/// Each answer adds one to the count of messages, and its frames tell the new count.
+/// Says that each answer adds one to the count of messages, and that its frames carry the new count.
 #[tactic(auto, using(crate::proofs::SoundLaws::answers_are_counted))]
 pub fn answers_are_counted()
     ensures { AnswersAreCounted }
 {}
 
-/// A host that is done answers no frame, and changes nothing but its count.
+/// Says that a host which is done answers no frame, and changes nothing but its count, as long as that is not full.
 #[tactic(auto, using(crate::proofs::SoundLaws::is_silent_where_done))]
 pub fn a_done_host_is_silent()
     ensures { IsSilentWhereDone }

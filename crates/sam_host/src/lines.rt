@@ -1,4 +1,6 @@
-//! Command lines: what is typed into the command file or sent to it, and run.
+//! Typing, command lines, and new files. A line is run when its newline is typed into the command file, or when it is sent there. What it
+//! does is worked out first, then told, and put in last, so that want of memory changes nothing. The functions that tell add frames to
+//! those of the answer. The only error of a private function is `OutOfMemory`, and the host is then unchanged.
 
 ghost use Rattle.std.specs.Prelude.{◌≡◌, ◌⊎◌, ◌<◌, ◌≤◌, ◌+◌, ◌-◌, ◌++◌, ◌∷◌, [], ◌^◌, IfOk, IfErr, IsTrue, OnOk, OnErr, Err, None, Some, true, not, ◌&&◌, nat_lt, if◌then◌else◌, flat_map, reverse, length};
 ghost use Rattle.sam_host.specs.Typing.{typed_line, sent};
@@ -18,7 +20,7 @@ use sam_runes::{Edit, MAX_RUNES, Runes};
 use sam_text::{FileChange, Outcome};
 
 impl Host {
-    /// Tells what an edit takes out.
+    /// Tells what an edit takes out: nothing if the range is empty.
     #[tactic(auto, unfolding(crate::specs::Host::when))]
     fn tell_cut(&self, frames: &mut Vec<HFrame>, f: u16, p: u32, q: u32) -> Result<(), HostFault>
         requires count { self.now.taken + 1 < 2 ^ 64 }
@@ -58,7 +60,7 @@ impl Host {
         Ok(())
     }
 
-    /// Tells a name that a line sets.
+    /// Tells the name that a line sets, if it sets one.
     #[tactic(auto, unfolding(crate::specs::Host::when_given))]
     fn tell_new_name(
         &self,
@@ -79,7 +81,7 @@ impl Host {
         }
     }
 
-    /// Tells a pattern that a line leaves.
+    /// Tells the pattern that a line leaves, if it has one.
     #[tactic(auto, unfolding(crate::specs::Host::when_given))]
     fn tell_pattern(
         &self,
@@ -99,7 +101,7 @@ impl Host {
         }
     }
 
-    /// Tells a dot that a line leaves.
+    /// Tells the dot that a line leaves, if it leaves one.
     #[tactic(auto, unfolding(crate::specs::Host::when_given))]
     fn tell_dot(
         &self,
@@ -117,7 +119,7 @@ impl Host {
         }
     }
 
-    /// Tells that edits make a clean file dirty.
+    /// Tells that a clean file becomes dirty, if there is an edit.
     #[tactic(auto, unfolding(crate::specs::Host::when))]
     fn tell_edited(&self, frames: &mut Vec<HFrame>, f: u16, edits: &[Edit]) -> Result<(), HostFault>
         requires count { self.now.taken + 1 < 2 ^ 64 }
@@ -130,7 +132,7 @@ impl Host {
         self.say(frames, Hmesg::Hdirty(f))
     }
 
-    /// Tells the terminal to look at a file that edits changed.
+    /// Tells the terminal to look for gaps in a file, if there is an edit.
     #[tactic(auto, unfolding(crate::specs::Host::when))]
     fn tell_check(&self, frames: &mut Vec<HFrame>, f: u16, edits: &[Edit]) -> Result<(), HostFault>
         requires count { self.now.taken + 1 < 2 ^ 64 }
@@ -143,7 +145,7 @@ impl Host {
         self.say(frames, Hmesg::Hcheck(f))
     }
 
-    /// Tells what a line did to a file, part by part.
+    /// Tells what a line did to a file: its edits, the mark, the name, the pattern and the dot, in this order, and `Hcheck` last.
     fn tell_parts(
         &self,
         frames: &mut Vec<HFrame>,
@@ -173,7 +175,7 @@ impl Host {
         Ok(())
     }
 
-    /// Tells what a line did to a file.
+    /// Tells what a line did to its file. It hands the parts of the outcome to `tell_parts`.
     #[tactic(auto, unfolding(crate::specs::Host::told_outcome))]
     fn tell_changed(
         &self,
@@ -197,7 +199,7 @@ impl Host {
         )
     }
 
-    /// Tells what a line did.
+    /// Tells what a line did. An outcome that names no file has at most a pattern to tell.
     #[tactic(auto, unfolding(crate::specs::Host::told_outcome))]
     fn tell_outcome(&self, frames: &mut Vec<HFrame>, outcome: &Outcome) -> Result<(), HostFault>
         requires count { self.now.taken + 1 < 2 ^ 64 }
@@ -211,7 +213,7 @@ impl Host {
         }
     }
 
-    /// Tells how a line ends: the host is done, or the terminal may go on.
+    /// Tells how a line ends: the session is over, or the command lock is free.
     fn tell_end(&self, frames: &mut Vec<HFrame>, quit: bool) -> Result<(), HostFault>
         requires count { self.now.taken + 1 < 2 ^ 64 }
         ensures ok { OnOk result (frames.new.items ≡ frames.old.items ++ stamped (self.now.taken + 1) ((if quit then Hmesg.Hexit else Hmesg.Hunlock) ∷ [])) }
@@ -224,7 +226,7 @@ impl Host {
         }
     }
 
-    /// Tells a line: what it did, what it prints, and how it ends.
+    /// Tells a line: what it did, what it prints, and how it ends. The files are still as they were before the line.
     #[tactic(auto, using(crate::proofs::RunLaws::told_line))]
     fn tell_line(&self, frames: &mut Vec<HFrame>, outcome: &Outcome) -> Result<(), HostFault>
         requires count { self.now.taken + 1 < 2 ^ 64 }
@@ -239,7 +241,8 @@ impl Host {
         Ok(())
     }
 
-    /// Puts the outcome of a line in, with what it prints.
+    /// Puts the outcome of a line in, with what it prints. The print comes first: it alone asks for memory, and it changes another file
+    /// than the line does.
     fn put_outcome(&mut self, outcome: Outcome) -> Result<(), HostFault>
         requires { IsOutcomeOf self.old.files (effect outcome) }
         ensures ok { OnOk result (self.new ≡ record self.old { files = after_print (committed self.old.files (effect outcome)) outcome.printed; is_done = outcome.quit }) }
@@ -256,7 +259,7 @@ impl Host {
         Ok(())
     }
 
-    /// What a line does, while nothing is changed yet.
+    /// Works out what a line, without its newline, does. Nothing is changed. A wrong line is no error: its outcome prints a word.
     fn outcome(&self, line: &[char]) -> Result<Outcome, HostFault>
         ensures value { IfOk result (λ o. effect o ≡ meaning self.now.files line.now) }
         ensures fits { IfOk result (λ o. IsOutcomeOf self.now.files (effect o)) }
@@ -270,7 +273,8 @@ impl Host {
         }
     }
 
-    /// Runs a line, whose text stands in the command file already.
+    /// Runs a line, without its newline, whose text stands in the command file already, and adds its frames. The only error is
+    /// `OutOfMemory`, and the host is then unchanged.
     pub(crate) fn run(&mut self, frames: &mut Vec<HFrame>, line: &[char]) -> Result<(), HostFault>
         requires count { self.old.taken + 1 < 2 ^ 64 }
         ensures host { OnOk result (self.new ≡ (reply_line self.old [] line.now).0) }
@@ -283,7 +287,7 @@ impl Host {
         self.put_outcome(outcome)
     }
 
-    /// Deletes a range of the command file.
+    /// Takes out what stands from `p` to `q` in the command file.
     fn cut_command(&mut self, p: u32, q: u32)
         requires there { has_file self.old.files 0 ≡ true }
         requires range { (p ≤ q) × (q ≤ length (file_at self.old.files 0).text) }
@@ -301,7 +305,7 @@ impl Host {
         self.files.change(0, FileChange::Dot(dot.0, dot.1));
     }
 
-    /// Takes out what was typed into the command file last, and sets its dot back.
+    /// Takes what was put into the command file last, from `p` to `q`, out of it again, and sets its dot back.
     fn undo(&mut self, p: u32, q: u32, dot: (u32, u32))
         requires there { has_file self.old.files 0 ≡ true }
         requires range { (p ≤ q) × (q ≤ length (file_at self.old.files 0).text) }
@@ -312,7 +316,7 @@ impl Host {
         self.set_command_dot(dot);
     }
 
-    /// The dot of the command file.
+    /// Returns the dot of the command file.
     fn command_dot(&self) -> (u32, u32)
         ensures value { result ≡ (file_at self.now.files 0).dot }
         ensures range { (result.0 ≤ result.1) × (result.1 ≤ length (file_at self.now.files 0).text) }
@@ -323,7 +327,7 @@ impl Host {
         }
     }
 
-    /// The line of the command file that ends at a place.
+    /// Copies the line of the command file that ends at `end`, without its newline.
     fn line_to(&self, end: u32) -> Result<Runes, HostFault>
         requires { end ≤ length (file_at self.now.files 0).text }
         ensures ok { IfOk result (λ r. r ≡ part (file_at self.now.files 0).text (line_start (file_at self.now.files 0).text end) end) }
@@ -338,7 +342,7 @@ impl Host {
         }
     }
 
-    /// Runs the line of the command file that ends at a place.
+    /// Runs the line of the command file that ends at `end`, where its newline stands, and returns its frames.
     fn run_to(&mut self, end: u32) -> Result<Vec<HFrame>, HostFault>
         requires count { self.old.taken + 1 < 2 ^ 64 }
         requires place { end ≤ length (file_at self.old.files 0).text }
@@ -353,8 +357,8 @@ impl Host {
         Ok(frames)
     }
 
-    /// Types runes that end in a newline into the command file, and runs the line that this newline ends. Where memory is wanted for
-    /// the line, what was typed is taken out again.
+    /// Types runes that end in a newline into the command file at `p`, and runs the line that this newline ends. If the line meets want of
+    /// memory, what was typed is taken out again.
     fn type_line(&mut self, p: u32, runes: &[char]) -> Result<Vec<HFrame>, HostFault>
         requires count { self.old.taken + 1 < 2 ^ 64 }
         requires filled { 0 < length runes.now }
@@ -379,8 +383,8 @@ impl Host {
         }
     }
 
-    /// Puts what is sent at the end of the command file, and runs its last line. Where memory is wanted for the line, what was put
-    /// there is taken out again.
+    /// Puts `runes` at the end of the command file, and runs `line`, which is their last line. If the line meets want of memory, what was
+    /// put there is taken out again.
     fn send_line(
         &mut self,
         frames: Vec<HFrame>,
@@ -409,7 +413,10 @@ impl Host {
         }
     }
 
-    /// Runes are typed. Where they end in a newline and go into the command file, the line that this newline ends is run.
+    /// Answers `Ttype`: puts the runes in at `p`, as the terminal has done already, and so with no frame. If they go into the command file
+    /// and end in a newline, the line that this newline ends is run, and its frames are the answer. Errors, in this order: `NoFile`;
+    /// `NotOpen`; `BadPosition` if `p` is past the end; `TooLong` if the text would have more than 1,000,000 runes; `OutOfMemory`. After an
+    /// error the host is unchanged. The caller counts the message.
     #[tactic(auto, using(crate::proofs::TypingLaws::type_as_line, crate::proofs::TypingLaws::type_alone))]
     pub(crate) fn type_in(
         &mut self,
@@ -437,7 +444,7 @@ impl Host {
         Ok(Vec::new(self.alloc))
     }
 
-    /// What stands in a file between two places, with a newline added where it ends in none.
+    /// Copies what stands in a file from `p` to `q`, with a newline added if it ends in none.
     fn lines_of(&self, f: u16, p: u32, q: u32) -> Result<Runes, HostFault>
         requires ascending { p ≤ q }
         requires within { q ≤ length (file_at self.now.files f).text }
@@ -453,7 +460,7 @@ impl Host {
         Ok(Runes::from_vec(lines))
     }
 
-    /// Nothing is sent.
+    /// Answers a `Tsend` that sends nothing: the command lock is free.
     fn nothing_sent(&self) -> Result<Vec<HFrame>, HostFault>
         requires { self.now.taken + 1 < 2 ^ 64 }
         ensures ok { IfOk result (λ frames. frames.items ≡ stamped (self.now.taken + 1) (Hmesg.Hunlock ∷ [])) }
@@ -464,7 +471,7 @@ impl Host {
         Ok(frames)
     }
 
-    /// Sends lines: they are put at the end of the command file, and the last of them is run.
+    /// Puts lines at the end of the command file, tells them as printed, and runs the last of them.
     fn send_lines(&mut self, lines: &[char]) -> Result<Vec<HFrame>, HostFault>
         requires count { self.old.taken + 1 < 2 ^ 64 }
         requires filled { 0 < length lines.now }
@@ -482,7 +489,10 @@ impl Host {
         self.send_line(frames, lines, &lines[start..end])
     }
 
-    /// A range is sent to the command file.
+    /// Answers `Tsend`: prints what stands from `p` to `q` at the end of the command file, with a newline added if it ends in none, and
+    /// runs the last line of it. If the range is empty, or the command file has no room, nothing changes, and `Hunlock` is the one frame.
+    /// Errors, in this order: `NoFile`; `NotOpen`; `BadPosition` if the text has no such range; `OutOfMemory`. After an error the host is
+    /// unchanged. The caller counts the message.
     #[tactic(auto, using(crate::proofs::TypingLaws::send_as_line, crate::proofs::TypingLaws::send_nothing, crate::proofs::TypingLaws::lines_filled))]
     pub(crate) fn send(&mut self, f: u16, p: u32, q: u32) -> Result<Vec<HFrame>, HostFault>
         requires { self.old.taken + 1 < 2 ^ 64 }
@@ -507,7 +517,7 @@ impl Host {
         Ok(frames)
     }
 
-    /// Tells that no tag is left.
+    /// Answers a `Tstartnewfile` after all tags were given: prints `? no tag`, and frees the command lock.
     #[tactic(auto, using(crate::proofs::FrameLaws::stamped_append))]
     fn no_tag_left(&mut self) -> Result<Vec<HFrame>, HostFault>
         requires count { self.old.taken + 1 < 2 ^ 64 }
@@ -526,7 +536,9 @@ impl Host {
         }
     }
 
-    /// A file is made for the terminal and is the work file, or there is no tag left for it.
+    /// Answers `Tstartnewfile`: makes an empty, clean file with no name under the next tag, opens it, and makes it the work file. If all
+    /// 65,536 tags were given, `? no tag` is printed instead. The only error is `OutOfMemory`, and the host is then unchanged. The caller
+    /// counts the message.
     #[tactic(auto, using(crate::proofs::WorkLaws::put_is_work), unfolding(crate::specs::Host::reply_startnewfile))]
     pub(crate) fn start_new_file(&mut self) -> Result<Vec<HFrame>, HostFault>
         requires { self.old.taken + 1 < 2 ^ 64 }
@@ -557,7 +569,7 @@ impl Host {
     }
 }
 
-/// Whether the last rune is a newline.
+/// Returns whether the last rune is a newline; false if there are no runes.
 #[tactic(auto, using(crate::proofs::TypingLaws::last_ends))]
 fn ends_line(runes: &[char]) -> bool
     ensures value { result ≡ ends_line runes.now }

@@ -1,4 +1,5 @@
-//! The version, and what opens, closes and makes files.
+//! The answers to the version, to what opens, chooses or closes a file, and to the end of the session. (`start_new_file` stands in `lines`,
+//! since it may have to print.) A method for a kind leaves the count of messages to its caller, and after an error the host is unchanged.
 
 ghost use Rattle.std.specs.Prelude.{◌≡◌, ◌⊎◌, ◌<◌, ◌+◌, ◌++◌, ◌∷◌, [], ◌^◌, IfOk, IfErr, OnOk, OnErr, Err, None, Some, true, drop};
 ghost use Rattle.sam_host.specs.Host.{host_checks, stamped, told_names, reply_version, reply_startcmdfile, reply_startfile, reply_workfile, reply_startnewfile, reply_close, reply_exit};
@@ -11,7 +12,7 @@ use sam_runes::Runes;
 use sam_text::FileChange;
 
 impl Host {
-    /// How the answer to a version ends.
+    /// Tells how the answer to `Tversion` ends: the terminal is asked for a `Tack`, and the command lock is free.
     fn tell_ready(&self, frames: &mut Vec<HFrame>) -> Result<(), HostFault>
         requires count { self.now.taken + 1 < 2 ^ 64 }
         ensures ok { OnOk result (frames.new.items ≡ frames.old.items ++ stamped (self.now.taken + 1) (Hmesg.Hack ∷ Hmesg.Hunlock ∷ [])) }
@@ -21,7 +22,8 @@ impl Host {
         self.say(frames, Hmesg::Hunlock)
     }
 
-    /// Tells the names of the files that were not announced, but the command file's.
+    /// Tells the tag and the name of each file that was not announced, tags ascending. The command file is left out: `Tstartcmdfile` tells
+    /// its name.
     fn tell_names(&self, frames: &mut Vec<HFrame>) -> Result<(), HostFault>
         requires count { self.now.taken + 1 < 2 ^ 64 }
         ensures ok { OnOk result (frames.new.items ≡ frames.old.items ++ stamped (self.now.taken + 1) (told_names 1 (drop 1 self.now.files.slots))) }
@@ -36,7 +38,8 @@ impl Host {
         Ok(())
     }
 
-    /// The version is agreed on, and the names are told.
+    /// Answers `Tversion`: the smaller of `offered` and 2 becomes the version, the names that were not announced are told, and all files
+    /// but the command file are then announced. Errors, in this order: `BadVersion` if 0 is offered; `OutOfMemory`.
     #[tactic(auto, using(crate::proofs::FrameLaws::stamped_append), unfolding(crate::specs::Host::reply_version))]
     pub(crate) fn agree(&mut self, offered: u16) -> Result<Vec<HFrame>, HostFault>
         requires { self.old.taken + 1 < 2 ^ 64 }
@@ -59,7 +62,8 @@ impl Host {
         Ok(frames)
     }
 
-    /// The command file is opened.
+    /// Answers `Tstartcmdfile`: opens the command file, and tells its name, its window and its length. If it is open already, nothing
+    /// changes, and `Hunlock` is the one frame. The only error is `OutOfMemory`.
     #[tactic(auto, using(crate::proofs::FrameLaws::stamped_append), unfolding(crate::specs::Host::reply_startcmdfile))]
     pub(crate) fn start_command_file(&mut self) -> Result<Vec<HFrame>, HostFault>
         requires { self.old.taken + 1 < 2 ^ 64 }
@@ -86,7 +90,8 @@ impl Host {
         Ok(frames)
     }
 
-    /// A file is opened and is the work file.
+    /// Answers `Tstartfile`: opens a file and makes it the work file. Its window and its length are told only if it was not open before.
+    /// Errors, in this order: `NoFile`; `CommandFile`; `OutOfMemory`.
     #[tactic(auto, using(crate::proofs::FrameLaws::stamped_append, crate::proofs::WorkLaws::put_is_work), unfolding(crate::specs::Host::reply_startfile, crate::specs::Host::when, crate::specs::Host::told_length))]
     pub(crate) fn start_file(&mut self, f: u16) -> Result<Vec<HFrame>, HostFault>
         requires { self.old.taken + 1 < 2 ^ 64 }
@@ -114,7 +119,8 @@ impl Host {
         Ok(frames)
     }
 
-    /// The file is the work file, with this dot.
+    /// Answers `Tworkfile`: makes an open file the work file, with the dot from `p` to `q`. Errors, in this order: `NoFile`; `CommandFile`;
+    /// `NotOpen`; `BadPosition` if the text has no such range; `OutOfMemory`.
     #[tactic(auto, using(crate::proofs::WorkLaws::put_is_work), unfolding(crate::specs::Host::reply_workfile))]
     pub(crate) fn work_file(&mut self, f: u16, p: u32, q: u32) -> Result<Vec<HFrame>, HostFault>
         requires { self.old.taken + 1 < 2 ^ 64 }
@@ -139,7 +145,8 @@ impl Host {
         Ok(frames)
     }
 
-    /// A file is closed. Its tag is not given again.
+    /// Answers `Tclose`: the file goes, with its text and its saved copy, and its tag is not given again. If it was the work file, there is
+    /// none afterwards. Errors, in this order: `NoFile`; `CommandFile`; `NotOpen`; `OutOfMemory`.
     #[tactic(auto, unfolding(crate::specs::Host::reply_close))]
     pub(crate) fn close(&mut self, f: u16) -> Result<Vec<HFrame>, HostFault>
         requires { self.old.taken + 1 < 2 ^ 64 }
@@ -165,7 +172,7 @@ impl Host {
         Ok(frames)
     }
 
-    /// The host is done.
+    /// Answers `Texit` with `Hexit`, after which the host is done. The only error is `OutOfMemory`.
     #[tactic(auto, unfolding(crate::specs::Host::reply_exit))]
     pub(crate) fn exit(&mut self) -> Result<Vec<HFrame>, HostFault>
         requires { self.old.taken + 1 < 2 ^ 64 }

@@ -1,4 +1,4 @@
-//! What is read of the host.
+//! What can be read of a host.
 
 ghost use Rattle.std.specs.Prelude.{◌≡◌};
 ghost use Rattle.sam_host.specs.Laws.{IsSound};
@@ -7,35 +7,36 @@ use crate::host::Host;
 use sam_text::Files;
 
 impl Host {
-    /// How many messages it has taken.
+    /// Returns how many messages it has taken. The frames of its next answer carry one more.
     pub fn taken(&self) -> u64
         ensures { result ≡ self.now.taken }
     {
         self.taken
     }
 
-    /// Whether it is done.
+    /// Returns whether it is done: a `Texit` or the command line `q` has ended the session, and it answers no frame any more.
     pub fn is_done(&self) -> bool
         ensures { result ≡ self.now.is_done }
     {
         self.done
     }
 
-    /// Its files: texts, names, dots and marks by tag, the snarf buffer, the pattern and the work file.
+    /// Returns its files: text, name, dot and marks of each by tag, with the snarf buffer, the pattern and the work file.
     pub fn files(&self) -> &Files
         ensures { result.now.plain ≡ self.now.files }
     {
         &self.files
     }
 
-    /// The version that was agreed on: 1 before any version message.
+    /// Returns the version that was agreed on last: 1 or 2, and 1 before the first `Tversion`.
     pub fn version(&self) -> u16
         ensures { result ≡ self.now.version }
     {
         self.version
     }
-    /// What is known of every host: its texts and names are within their limits, each dot is a range of its text, and its version is 1
-    /// or 2.
+
+    /// Tells what is true of every host: texts and names are within their limits, each dot is a range of its text, and the version is 1 or
+    /// 2. It does nothing when the program runs.
     #[tactic(auto, using(crate::proofs::SoundLaws::known_sound))]
     pub fn known(&self)
         ensures { IsSound self.now }

@@ -1,4 +1,4 @@
-//! What the host reads of its files, and what it wants of a message's tag and places.
+//! What the host reads of its files, and the tests of a message's tag and places that several kinds share.
 
 ghost use Rattle.std.specs.Prelude.{◌≡◌, ◌≤◌, ◌∷◌, [], IfOk, OnOk, OnErr, Err, true, length};
 ghost use Rattle.sam_host.specs.Host.{unknown, not_opened, past_end, no_range};
@@ -11,14 +11,14 @@ use crate::host::Host;
 use sam_runes::Runes;
 
 impl Host {
-    /// Whether the tag has a file.
+    /// Returns whether the tag has a file.
     pub(crate) fn has(&self, f: u16) -> bool
         ensures { result ≡ has_file self.now.files f }
     {
         self.files.file(f).is_some()
     }
 
-    /// Whether the terminal has a window on the file.
+    /// Returns whether the terminal has a window on the file; false if there is no file.
     pub(crate) fn is_open(&self, f: u16) -> bool
         ensures { result ≡ (file_at self.now.files f).opened }
     {
@@ -28,7 +28,7 @@ impl Host {
         }
     }
 
-    /// Whether the file was changed since it was written or made.
+    /// Returns whether the file was changed since it was written or made; false if there is no file.
     pub(crate) fn is_dirty(&self, f: u16) -> bool
         ensures { result ≡ (file_at self.now.files f).dirty }
     {
@@ -38,7 +38,7 @@ impl Host {
         }
     }
 
-    /// How long the text of the file is; 0 where there is none.
+    /// Returns how many runes the text of the file has: at most 1,000,000, and 0 if there is no file.
     pub(crate) fn text_len(&self, f: u16) -> u32
         ensures len { result ≡ length (file_at self.now.files f).text }
         ensures limit { length (file_at self.now.files f).text ≤ max_runes }
@@ -49,7 +49,7 @@ impl Host {
         }
     }
 
-    /// What stands in the file between two places, copied.
+    /// Copies what stands in the file from place `p` to place `q`. The only error is `OutOfMemory`.
     pub(crate) fn part(&self, f: u16, p: u32, q: u32) -> Result<Runes, HostFault>
         requires ascending { p ≤ q }
         requires within { q ≤ length (file_at self.now.files f).text }
@@ -62,7 +62,7 @@ impl Host {
         }
     }
 
-    /// That the file is there and open.
+    /// Tests that the file is there and open. Errors, in this order: `NoFile`; `NotOpen`.
     pub(crate) fn wants_open(&self, f: u16) -> Result<(), HostFault>
         ensures answer { result ≡ unless (first_of_checks (unknown self.now f ∷ not_opened self.now f ∷ [])) tt }
         ensures there { OnOk result (has_file self.now.files f ≡ true) }
@@ -76,7 +76,8 @@ impl Host {
         Ok(())
     }
 
-    /// That the file is there and open, and has the place.
+    /// Tests that the file is there and open, and has the place `p`. Errors, in this order: `NoFile`; `NotOpen`; `BadPosition` if `p` is
+    /// past the end.
     pub(crate) fn wants_place(&self, f: u16, p: u32) -> Result<(), HostFault>
         ensures answer { result ≡ unless (first_of_checks (unknown self.now f ∷ not_opened self.now f ∷ past_end self.now f p ∷ [])) tt }
         ensures there { OnOk result (has_file self.now.files f ≡ true) }
@@ -89,7 +90,8 @@ impl Host {
         Ok(())
     }
 
-    /// That the file is there and open, and has the range.
+    /// Tests that the file is there and open, and has the range from `p` to `q`. Errors, in this order: `NoFile`; `NotOpen`; `BadPosition`
+    /// if `q` is below `p` or past the end.
     pub(crate) fn wants_range(&self, f: u16, p: u32, q: u32) -> Result<(), HostFault>
         ensures answer { result ≡ unless (first_of_checks (unknown self.now f ∷ not_opened self.now f ∷ no_range self.now f p q ∷ [])) tt }
         ensures there { OnOk result (has_file self.now.files f ≡ true) }

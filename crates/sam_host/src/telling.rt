@@ -1,4 +1,5 @@
-//! The frames that several answers share. Each is stamped as it is added, with the count that the message will have.
+//! The frames that several answers share. Each function adds its frames to those of the answer, stamped with the count that the message
+//! will have. The only error of each is `OutOfMemory`, and the caller then drops the frames.
 
 ghost use Rattle.std.specs.Prelude.{◌≡◌, ◌<◌, ◌≤◌, ◌+◌, ◌++◌, ◌∷◌, [], ◌^◌, OnOk, OnErr, Err, not, ◌&&◌, ◌==◌, drop, length};
 ghost use Rattle.sam_host.specs.Host.{stamped, when, grown, told_length, printed, told_names};
@@ -13,11 +14,11 @@ use crate::host::Host;
 use sam_mesg::{HFrame, Hmesg};
 use sam_runes::{MAX_RUNES, Runes};
 
-/// The most runes of one text message.
+/// The most runes in one text message.
 const MOST_IN_MESSAGE: usize = 512;
 
 impl Host {
-    /// Adds a frame of the message that is being answered.
+    /// Adds one frame of the message that is being answered.
     pub(crate) fn say(&self, frames: &mut Vec<HFrame>, msg: Hmesg) -> Result<(), HostFault>
         requires { self.now.taken + 1 < 2 ^ 64 }
         ensures ok { OnOk result (frames.new.items ≡ frames.old.items ++ record { seen = self.now.taken + 1; msg = msg } ∷ []) }
@@ -28,7 +29,8 @@ impl Host {
         Ok(())
     }
 
-    /// Tells what was put in at `p`.
+    /// Tells that `runes` were put into the file at `p`: by `Hgrowdata` with the runes if there are at most 512, else by `Hgrow` with their
+    /// number alone. Nothing is told if the file is not open or there are no runes.
     #[tactic(auto, unfolding(crate::specs::Host::grown, crate::specs::Host::when))]
     pub(crate) fn grown(
         &self,
@@ -65,7 +67,7 @@ impl Host {
         self.say(frames, Hmesg::Hdirty(f))
     }
 
-    /// Tells the length of a text that is opened.
+    /// Tells how long the text of a file that is being opened is; nothing if it is empty.
     #[tactic(auto, unfolding(crate::specs::Host::told_length, crate::specs::Host::when))]
     pub(crate) fn tell_length(&self, frames: &mut Vec<HFrame>, f: u16) -> Result<(), HostFault>
         requires count { self.now.taken + 1 < 2 ^ 64 }
@@ -79,7 +81,7 @@ impl Host {
         self.say(frames, Hmesg::Hgrow(f, 0, len))
     }
 
-    /// How what is printed ends.
+    /// Tells how a print ends: the command file's dot is empty at its new end, and the terminal is to look for gaps.
     fn end_print(&self, frames: &mut Vec<HFrame>, end: u32) -> Result<(), HostFault>
         requires count { self.now.taken + 1 < 2 ^ 64 }
         ensures ok { OnOk result (frames.new.items ≡ frames.old.items ++ stamped (self.now.taken + 1) (Hmesg.Hsetdot 0 end end ∷ Hmesg.Hcheck 0 ∷ [])) }
@@ -89,7 +91,8 @@ impl Host {
         self.say(frames, Hmesg::Hcheck(0))
     }
 
-    /// Tells what is printed at the end of the command file, where there is room for it.
+    /// Tells what is about to be printed at the end of the command file. Nothing is told if there are no runes, if the command file has no
+    /// room for them, or if it is not open.
     #[tactic(auto, using(crate::proofs::FrameLaws::told_both), unfolding(crate::specs::Host::printed, crate::specs::Host::when))]
     pub(crate) fn tell_print(
         &self,
@@ -111,7 +114,7 @@ impl Host {
         self.end_print(frames, len + runes.len() as u32)
     }
 
-    /// Tells the name of a tag's file, if there is one that was not announced.
+    /// Tells the tag and the name of a file, if there is a file and it was not announced.
     #[tactic(auto, unfolding(crate::specs::Host::when, crate::specs::Names::told_at))]
     pub(crate) fn tell_name(&self, frames: &mut Vec<HFrame>, f: u16) -> Result<(), HostFault>
         requires count { self.now.taken + 1 < 2 ^ 64 }

@@ -10,12 +10,12 @@ use std::sync::Wait;
 use std::thread::Threads;
 use std::{env, io};
 
-/// What the program could not do.
+/// Why the program did not come to its end.
 #[derive(Clone, Copy, Debug, PartialEq, Eq)]
 enum Fault {
-    /// Its words are wrong.
+    /// The words are wrong.
     Arguments,
-    /// Want of memory before the mode was known.
+    /// Memory was refused before the mode was known.
     Memory,
     /// The mode stopped.
     Play(PlayFault),
@@ -42,6 +42,7 @@ impl From<PlayFault> for Fault {
     }
 }
 
+/// Runs the program, and turns a fault into its exit status.
 fn main(rt: HostRuntime) -> ExitCode {
     match run(&rt) {
         Ok(()) => ExitCode::SUCCESS,
@@ -64,7 +65,7 @@ fn run<R: Input + Print + Env + AllocGlobal + Threads + Wait + Sync>(rt: &R) -> 
     Ok(played?)
 }
 
-/// The program's words. Words that are not UTF-8 are wrong.
+/// Returns the program's words. Words that are not UTF-8 are wrong.
 fn words<R: Env + AllocGlobal>(rt: &R) -> Result<Vec<String>, Fault> {
     match env::args(rt) {
         Ok(words) => Ok(words.collect(rt.alloc())?),
@@ -73,8 +74,8 @@ fn words<R: Env + AllocGlobal>(rt: &R) -> Result<Vec<String>, Fault> {
     }
 }
 
-/// Tells a person, on standard error, what the words should have been. Where it cannot, it says nothing: standard output and
-/// the status tell of the fault.
+/// Tells a person, on standard error, what is wrong with the words. If it can't, it says nothing: standard output and the exit status tell
+/// of the fault.
 fn say_usage<R: Eprint + Env + AllocGlobal>(rt: &R) {
     let alloc = rt.alloc();
     let Ok(words) = words(rt) else {
@@ -85,8 +86,8 @@ fn say_usage<R: Eprint + Env + AllocGlobal>(rt: &R) {
     }
 }
 
-/// The exit status of a fault. The line of a fault that the mode did not meet is printed here; where it cannot be, that is the
-/// status.
+/// Returns the exit status of a fault. It prints the line of a fault that came before the mode ran; if that fails, the status is that of a
+/// failed write.
 fn say<R: Print + Eprint + Env + AllocGlobal>(rt: &R, fault: Fault) -> u8 {
     let (status, line) = match fault {
         Fault::Arguments => {

@@ -1,9 +1,35 @@
-//! The crossing of messages and frames between the host and the terminal.
+//! Why no edit is lost where messages and frames cross. This crate computes nothing: it is proofs, from which `sam_world` makes its laws.
+//! docs/DESIGN.md tells the same in prose.
+//!
+//! What they show: take any state that a run reaches, and let both sides handle what is under way and the unsent runes, with no new event
+//! of the user. Then nothing is refused, no lock is held at the end, and the rasp of each open file agrees with the host's text. And
+//! behind each frame that changes a file stands one that frees this file's lock or the command lock.
+//!
+//! One lemma carries all: `still` in proofs/Runs.antt. A user's edit acts only on a free file, where no lock keeps the user out. The
+//! terminal would refuse a frame that frees a lock which isn't held, and it refuses nothing; so no frame under way to a free file frees
+//! a lock. Then none changes the file either, since a frame that frees a lock would stand behind it. Those that are left do nothing to
+//! the file, as it is before the edit and as it is after it: the edit moves past all that is under way.
+//!
+//! Read the files in this order; each name is that of an .antt file.
+//!
+//! 1. specs/Lens: a file as the terminal knows it (`Lens`), what a frame does to it (`move`), and what is kept there (`IsKept`).
+//! 2. proofs/Runs: `still`. proofs/Texts, Kept: each step at one file keeps `IsKept`; `kept_act` is the user's edit.
+//! 3. specs/Model, Crossing: messages and answers, without what doesn't matter here, and what a message with its answer must do (`Sync`).
+//!    proofs/Making, Edits, FileLocks, Commands, Lines: each kind of message does it.
+//! 4. specs/View, HostView, Means, Handled, Synced: the terminal and the host themselves, seen as lenses and as the model's host.
+//!    proofs/FrameMoves, MirrorSteps, Mirror, MirrorVersions, MirrorLines, LineMeans, Versions, Syncing, Running, Handling: they do what
+//!    lenses and model do. [`frames_move`] sums up the terminal, `handled` in proofs/Handling the host.
+//! 5. specs/Fold, Order: all files and all that is under way at once (`Kept`, `InOrder`). proofs/Folds, Steady, Composing: these, with
+//!    one message or frame more or less.
+//! 6. proofs/Starting, Passing, Views, Dots, Sending, Joins, Typing, Acting, Receiving: the first state is in order, and each event of
+//!    the user (`event_goes`) and each frame (`received`) keeps it so.
+//! 7. proofs/Ordered: the host's step (`host_goes`), and what follows. specs/Streams, proofs/Streaming: both sides have one version.
 #![tactic(auto)]
 
 ghost use Rattle.sam_protocol.specs.View.{TakeLaw};
 
-/// Where no lens refuses a frame, the terminal doesn't, and each lens moves as the frame's action says.
+/// Says that where no lens refuses a frame the terminal doesn't either. Each lens then moves as the frame's action says, and besides the
+/// unsent runes at most one message is composed.
 pub fn frames_move()
     ensures take { TakeLaw }
 {}

@@ -1,5 +1,6 @@
-//! The two changes that all others are made of: members are cut out, sections are put in.
-//! Each builds the new list in `spare` and then exchanges the two lists: sections move, texts are not copied.
+//! Changes of a list of sections: runes and gaps are cut out or replaced, or runes are put into a loaded section. Sections move as a
+//! whole, and their runes are copied only where a section is cut in two or joined with another. `loaded_sections`, which makes the
+//! sections to be put in, alone asks for memory.
 
 ghost use Rattle.std.specs.Prelude.{◌≡◌, ◌<◌, ◌≤◌, ◌+◌, ◌++◌, [], map, length, take, drop, vec_len, vec_capacity, Some, IfOk, if◌then◌else◌, false, is_some, IfSome};
 ghost use Rattle.sam_runes.specs.Texts.{del, ins, max_runes};
@@ -13,7 +14,8 @@ use crate::walking::{Begin, room_at};
 use std::alloc::{AllocError, Global};
 use std::mem;
 
-/// Takes `n` members out from place `p` on, which takes no memory.
+/// Takes out `n` runes and gaps from place `p` on. The new list is built in `spare`, which is empty and has room for it; then the two
+/// lists are exchanged.
 pub fn cut_sections(sections: &mut Vec<Section>, spare: &mut Vec<Section>, p: u32, n: u32)
     requires normal { IsNormal sections.old.items }
     requires limit { length (cells_of sections.old.items) ≤ max_runes }
@@ -38,7 +40,8 @@ pub fn cut_sections(sections: &mut Vec<Section>, spare: &mut Vec<Section>, p: u3
     mem::swap(sections, spare);
 }
 
-/// Puts the members of `out` and `rest` together at the end of `out`, with the sections `more` in the place of `n` members from place `p` of `rest` on. All memory was had before: room in `out`, and `tail` for the end of a section that is parted.
+/// Moves all of `rest`, which is held last to first, to the end of `out`. The sections `more` take the place of the `n` runes and gaps
+/// from place `p` of `rest` on. The caller provides all memory: room in `out`, and `tail` for the end of a section that is cut in two.
 pub fn replace_members(
     out: &mut Vec<Section>,
     rest: &mut Vec<Section>,
@@ -72,7 +75,8 @@ pub fn replace_members(
     join_all(out, rest);
 }
 
-/// Puts `runes` in at place `p` if a loaded section there has room for them, which moves no other section and takes no memory. The result is that section. The walk begins at `near` if that is not behind `p`.
+/// Puts `runes` in at place `p` if `room_at` finds a loaded section there with room for them, and returns that section; otherwise
+/// returns `None` and changes nothing. No other section moves. The walk begins at `near` unless that begins after `p`.
 pub fn insert_inside(
     sections: &mut Vec<Section>,
     near: Begin,
@@ -96,7 +100,8 @@ pub fn insert_inside(
     Some(begin)
 }
 
-/// A text as loaded sections.
+/// Returns `runes` as loaded sections, of 512 runes each but for the last; without runes there is none. The only error is want of
+/// memory.
 pub fn loaded_sections(alloc: Global, runes: &[char]) -> Result<Vec<Section>, AllocError>
     requires { length runes.now ≤ max_runes }
     ensures cells { IfOk result (λ v. cells_of v.items ≡ map Some runes.now) }

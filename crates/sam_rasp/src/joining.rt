@@ -1,5 +1,5 @@
-//! Lists of sections, built from the front so that neighbours are joined, and taken apart from the front.
-//! What is taken apart is held last to first, since a vector gives up its last member at no cost.
+//! Lists of sections: they are built from the front, with neighbours joined, and taken apart from the front.
+//! A list that is taken apart is held last to first, since a vector gives up its last member at no cost.
 
 ghost use Rattle.std.specs.Prelude.{◌≡◌, ◌<◌, ◌≤◌, ◌+◌, ◌++◌, [], ◌∷◌, List, true, false, length, drop, min, vec_len, vec_capacity};
 ghost use Rattle.sam_runes.specs.Texts.{del, max_runes};
@@ -8,7 +8,7 @@ ghost use Rattle.sam_rasp.specs.Sections.{cells, cells_of, cells_back, size, may
 
 use crate::section::Section;
 
-/// Puts a section at the end, where there is room for it.
+/// Puts a section at the end. The caller makes sure that the vector has room for it.
 pub fn push(out: &mut Vec<Section>, section: Section)
     requires { vec_len out.old < vec_capacity out.old }
     ensures items { out.new.items ≡ out.old.items ++ section ∷ [] }
@@ -20,7 +20,7 @@ pub fn push(out: &mut Vec<Section>, section: Section)
     }
 }
 
-/// Whether the section makes one with the last one.
+/// Returns whether the last section of the list and `section` are to be one section.
 fn joins_last(out: &[Section], section: &Section) -> bool
     ensures some { result ≡ true → 0 < length out.now }
     ensures joins { result ≡ true → (xs : List Section) (a : Section) → out.now ≡ xs ++ a ∷ [] → may_join a section.now ≡ true }
@@ -32,7 +32,7 @@ fn joins_last(out: &[Section], section: &Section) -> bool
     }
 }
 
-/// Puts a section at the end, joined with the last one where the two make one.
+/// Puts a section at the end, joined with the last section if the two are to be one. An empty section is left out.
 pub fn push_joined(out: &mut Vec<Section>, section: Section)
     requires normal { IsNormal out.old.items }
     requires room { vec_len out.old + min 1 (size section) ≤ vec_capacity out.old }
@@ -58,7 +58,7 @@ pub fn push_joined(out: &mut Vec<Section>, section: Section)
     push(out, last);
 }
 
-/// Puts all of `rest` at the end.
+/// Puts all sections of `rest`, which is held last to first, at the end of `out`, and leaves `rest` empty.
 pub fn join_all(out: &mut Vec<Section>, rest: &mut Vec<Section>)
     requires normal { IsNormal out.old.items }
     requires room { vec_len out.old + vec_len rest.old ≤ vec_capacity out.old }
@@ -76,7 +76,8 @@ pub fn join_all(out: &mut Vec<Section>, rest: &mut Vec<Section>)
     }
 }
 
-/// Moves the sections before place `p` of `rest` to the end of `out`. The result is the section in which `p` stands and the place in it; at the end of `rest` it is an empty one.
+/// Moves the sections of `rest` that end at or before place `p` to the end of `out`. Returns the section in which `p` stands, which
+/// is taken off `rest`, and the place in it. If `p` is the end of `rest`, it returns an empty hole and 0.
 pub fn move_before(out: &mut Vec<Section>, rest: &mut Vec<Section>, p: u32) -> (Section, u32)
     requires normal { IsNormal out.old.items }
     requires room { vec_len out.old + vec_len rest.old ≤ vec_capacity out.old }
@@ -103,7 +104,8 @@ pub fn move_before(out: &mut Vec<Section>, rest: &mut Vec<Section>, p: u32) -> (
     (Section::Hole(0), 0)
 }
 
-/// Takes the first `n` members off `rest`. The result is what is left of the section in which that ends; an empty one at the end of `rest`.
+/// Takes the first `n` runes and gaps off `rest`, and also the section in which place `n` stands. Returns what that section has from
+/// place `n` on, or an empty hole if `n` is the end of `rest`.
 pub fn drop_front(rest: &mut Vec<Section>, n: u32) -> Section
     requires { n ≤ length (cells_back rest.old.items) }
     ensures cells { cells result ++ cells_back rest.new.items ≡ drop n (cells_back rest.old.items) }

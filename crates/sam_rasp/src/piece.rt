@@ -1,4 +1,4 @@
-//! The text of a loaded section, with room for a full one from the start.
+//! `Piece`: the text of a loaded section, with room for a full one from the start.
 
 ghost use Rattle.std.specs.Prelude.{◌≡◌, ◌≤◌, ◌+◌, ◌++◌, ◌↔◌, [], length, IsTrue, IfOk, slice_get, take, drop};
 ghost use Rattle.sam_runes.specs.Texts.{del, ins};
@@ -6,12 +6,14 @@ ghost use Rattle.sam_runes.specs.Texts.{del, ins};
 use std::alloc::{AllocError, Global};
 use std::marker::Model;
 
-/// How many runes a loaded section has at most.
+/// The most runes that a loaded section has.
 pub const PIECE_ROOM: usize = 512;
 
-/// At most `PIECE_ROOM` runes, with memory for that many, so that joining two takes none.
+/// The text of a loaded section: at most `PIECE_ROOM` runes. It has memory for that many from the start, so that no later change of
+/// it asks for memory.
 #[derive(Drop)]
 pub struct Piece {
+    /// The runes: at most `PIECE_ROOM`, in a vector with room for at least that many.
     runes: Vec<char>,
 }
 
@@ -26,7 +28,7 @@ impl Model for Piece {
 }
 
 impl Piece {
-    /// An empty piece.
+    /// Returns an empty piece with memory for `PIECE_ROOM` runes. The only error is want of memory.
     pub fn new(alloc: Global) -> Result<Piece, AllocError>
         ensures { IfOk result (λ a. a ≡ []) }
     {
@@ -35,6 +37,7 @@ impl Piece {
         })
     }
 
+    /// Returns how many runes it has: at most `PIECE_ROOM`.
     pub fn len(&self) -> usize
         ensures len { result ≡ length self.now }
         ensures limit { length self.now ≤ 512 }
@@ -42,27 +45,28 @@ impl Piece {
         self.runes.len()
     }
 
-    /// The runes, to be read.
+    /// Returns the runes.
     pub fn as_slice(&self) -> &[char]
         ensures { result.now ≡ self.now }
     {
         self.runes.as_slice()
     }
 
+    /// Returns the rune at `place`, or `None` from the end on.
     pub fn get(&self, place: usize) -> Option<char>
         ensures { result ≡ slice_get self.now place }
     {
         self.runes.get(place).copied()
     }
 
-    /// Whether its runes are these.
+    /// Returns whether its runes are exactly `runes`.
     pub fn is(&self, runes: &[char]) -> bool
         ensures { IsTrue result ↔ (self.now ≡ runes.now) }
     {
         self.runes.as_slice() == runes
     }
 
-    /// Puts `runes` at the end, which takes no memory.
+    /// Puts `runes` at the end. The caller makes sure that there is room for them.
     pub fn extend(&mut self, runes: &[char])
         requires { length self.old + length runes.now ≤ 512 }
         ensures { self.new ≡ self.old ++ runes.now }
@@ -72,7 +76,7 @@ impl Piece {
         }
     }
 
-    /// Puts the other piece at the end.
+    /// Puts the runes of `other` at the end. The caller makes sure that there is room for them.
     pub fn append(&mut self, other: Piece)
         requires { length self.old + length other ≤ 512 }
         ensures { self.new ≡ self.old ++ other }
@@ -80,7 +84,7 @@ impl Piece {
         self.extend(other.runes.as_slice());
     }
 
-    /// Puts `runes` in at place `p`, which takes no memory.
+    /// Puts `runes` in at place `p`. The caller makes sure that there is room for them.
     pub fn insert(&mut self, p: usize, runes: &[char])
         requires within { p ≤ length self.old }
         requires room { length self.old + length runes.now ≤ 512 }
@@ -91,7 +95,7 @@ impl Piece {
         tail.rotate_right(runes.len());
     }
 
-    /// Takes out what stands from place `p` to place `q`.
+    /// Takes out the runes from place `p` to place `q`.
     pub fn cut(&mut self, p: usize, q: usize)
         requires ascending { p ≤ q }
         requires within { q ≤ length self.old }
@@ -100,7 +104,7 @@ impl Piece {
         self.runes.drain(p..q);
     }
 
-    /// Moves what stands from place `p` on into `tail`, which was empty.
+    /// Moves the runes from place `p` on into `tail`, which must be empty.
     pub fn split_into(&mut self, p: usize, tail: &mut Piece)
         requires within { p ≤ length self.old }
         requires empty { tail.old ≡ [] }

@@ -1,4 +1,4 @@
-//! The sections of a rasp: loaded texts and holes.
+//! `Section`: a stretch of a rasp, either a loaded text or a hole.
 
 ghost use Rattle.std.specs.Prelude.{◌≡◌, ◌<◌, ◌≤◌, ◌+◌, ◌-◌, ◌++◌, ◌↔◌, IsTrue, [], length, map, slice_get, take, drop, true, Some};
 ghost use Rattle.sam_runes.specs.Texts.{del, ins, max_runes};
@@ -7,17 +7,29 @@ ghost use Rattle.sam_rasp.specs.Sections.{cells, size, may_join, is_loaded, join
 
 use crate::piece::{PIECE_ROOM, Piece};
 
-/// A stretch of a rasp.
+/// A stretch of a rasp: either runes that are loaded, or a hole, which keeps only how many gaps it has. In a rasp no section is
+/// empty, a loaded one has at most 512 runes, and no two neighbours are left that could be one section (see `may_join`).
+///
+/// `Rasp::parts` returns the sections of a rasp in order:
+///
+/// ```rust
+/// for section in rasp.parts() {
+///     match section {
+///         Section::Loaded(text) => put_runes(text.as_slice()),
+///         Section::Hole(count) => put_gaps(*count),
+///     }
+/// }
+/// ```
 #[derive(Drop)]
 pub enum Section {
-    /// Runes that are known.
+    /// Runes that are loaded.
     Loaded(Piece),
-    /// Gaps, by their number.
+    /// A hole with this many gaps.
     Hole(u32),
 }
 
 impl Section {
-    /// How many runes or gaps it has.
+    /// Returns how many runes or gaps it has. A loaded section has at most 512.
     pub fn len(&self) -> u32
         ensures len { result ≡ size self.now }
         ensures limit { IsShort self.now }
@@ -28,7 +40,7 @@ impl Section {
         }
     }
 
-    /// The rune at `place`, or a gap.
+    /// Returns the rune at `place`, which is counted from the start of the section, or `None` if a gap stands there.
     #[tactic(auto, using(crate::proofs::SectionLaws::read_loaded, crate::proofs::SectionLaws::read_hole))]
     pub fn get(&self, place: u32) -> Option<char>
         requires { place < size self.now }
@@ -40,7 +52,8 @@ impl Section {
         }
     }
 
-    /// Whether it agrees with a text of its length.
+    /// Returns whether each of its runes is the rune of `text` at the same place. The text has the length of the section; a hole
+    /// agrees with every text of its length.
     pub fn agrees(&self, text: &[char]) -> bool
         requires { length text.now ≡ size self.now }
         ensures { IsTrue result ↔ Agrees (cells self.now) text.now }
@@ -51,6 +64,7 @@ impl Section {
         }
     }
 
+    /// Returns whether it is a loaded text and not a hole.
     pub fn is_loaded(&self) -> bool
         ensures { result ≡ is_loaded self.now }
     {
@@ -60,7 +74,8 @@ impl Section {
         }
     }
 
-    /// Whether the two make one section.
+    /// Returns whether this section and `next`, which follows it, are to be one section. Two holes always are; two loaded texts are
+    /// if they have at most 512 runes together.
     pub fn may_join(&self, next: &Section) -> bool
         ensures { result ≡ may_join self.now next.now }
     {
@@ -76,7 +91,7 @@ impl Section {
         }
     }
 
-    /// Takes the next section in.
+    /// Puts the runes or gaps of `next` at its end. The caller makes sure that `may_join` is true of the two.
     pub fn absorb(&mut self, next: Section)
         requires may { may_join self.old next ≡ true }
         requires within { size self.old + size next ≤ max_runes }
@@ -96,7 +111,7 @@ impl Section {
         }
     }
 
-    /// Puts `runes` in at place `p` of a loaded section that has room for them.
+    /// Puts `runes` in at place `p`. The caller makes sure that the section is loaded and has room for them.
     #[tactic(auto, using(crate::proofs::SectionLaws::insert_loaded, crate::proofs::SectionLaws::length_ins))]
     pub fn insert(&mut self, p: u32, runes: &[char])
         requires loaded { is_loaded self.old ≡ true }
@@ -111,7 +126,7 @@ impl Section {
         }
     }
 
-    /// Takes out what stands from place `p` to place `q`.
+    /// Takes out the runes or gaps from place `p` to place `q`, which may leave the section empty.
     #[tactic(auto, using(crate::proofs::SectionLaws::cut_loaded, crate::proofs::SectionLaws::cut_hole, crate::proofs::SectionLaws::length_cut))]
     pub fn cut(&mut self, p: u32, q: u32)
         requires ascending { p ≤ q }
@@ -125,7 +140,8 @@ impl Section {
         }
     }
 
-    /// Parts it at place `p`: what stands from there on is the result, for which `tail` has the memory.
+    /// Cuts the section in two at place `p`: it keeps what stands before `p`, and what stands from `p` on is returned. The returned
+    /// section is made in `tail`, an empty piece, so that no memory is asked for.
     #[tactic(auto, using(crate::proofs::SectionLaws::front_loaded, crate::proofs::SectionLaws::back_loaded, crate::proofs::SectionLaws::front_hole, crate::proofs::SectionLaws::back_hole))]
     pub fn split(&mut self, p: u32, tail: Piece) -> Section
         requires within { p ≤ size self.old }

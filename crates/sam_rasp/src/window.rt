@@ -1,4 +1,4 @@
-//! The sections that a change reaches are taken out of the list, changed, and put back: the others move in bulk.
+//! A change of some sections of a list: those that it reaches are taken out, changed, and put back. The others move in bulk.
 
 ghost use Rattle.std.specs.Prelude.{◌≡◌, ◌<◌, ◌≤◌, ◌+◌, ◌-◌, ◌++◌, [], ◌∷◌, List, length, take, drop, reverse, min, vec_len, vec_capacity};
 ghost use Rattle.std.specs.Option.{option_to_list};
@@ -12,15 +12,19 @@ use crate::piece::Piece;
 use crate::section::Section;
 use crate::walking::{Begin, begin_at, end_at};
 
-/// What a change reaches: the sections from `first` to number `last`. `front` is the one before them if there is one, otherwise `first`.
+/// What a change reaches: the sections from `first` up to, but not including, number `last`. There may be none, where the change only
+/// puts something in between two sections or at the end.
 #[derive(Clone, Copy)]
 pub struct Reach {
+    /// The section before `first`, with which the change may have to be joined. It is `first` itself if there is none.
     pub front: Begin,
+    /// The section in which the change begins, or the end of the list.
     pub first: Begin,
+    /// The number of the section after the last one that is reached. At the end of the list it is the number of sections.
     pub last: usize,
 }
 
-/// What a change from place `p` to place `q` reaches. The walk begins at `near` if that is not behind `p`.
+/// Returns what a change from place `p` to place `q` reaches. The walk begins at `near` unless that begins after `p`.
 pub fn reach_of(sections: &[Section], near: Begin, p: u32, q: u32) -> Reach
     requires near { IsBegin sections.now near }
     requires ascending { p ≤ q }
@@ -38,7 +42,7 @@ pub fn reach_of(sections: &[Section], near: Begin, p: u32, q: u32) -> Reach
     Reach { front, first, last }
 }
 
-/// Moves the last `count` sections to the end of `window`, last to first.
+/// Moves the last `count` sections to the end of `window`, last to first. The caller makes sure that `window` has room for them.
 fn move_last(sections: &mut Vec<Section>, window: &mut Vec<Section>, count: usize)
     requires within { count ≤ vec_len sections.old }
     requires room { vec_len window.old + count ≤ vec_capacity window.old }
@@ -55,7 +59,8 @@ fn move_last(sections: &mut Vec<Section>, window: &mut Vec<Section>, count: usiz
     }
 }
 
-/// Turns the sections from number `front` to number `last`, and the one behind them, to the end of the list. That one is taken off, if there is one.
+/// Rotates the sections from number `front` up to and including number `last` to the end of the list. Takes section number `last`, if
+/// there is one, off the list again and returns it.
 fn turn_out(sections: &mut Vec<Section>, front: usize, last: usize) -> Option<Section>
     requires ordered { (front ≤ last) × (last ≤ vec_len sections.old) }
     ensures items { let k = min (vec_len sections.old) (last + 1) - front in let tail = drop front sections.old.items in sections.new.items ++ option_to_list result ≡ take front sections.old.items ++ (drop k tail ++ take k tail) }
@@ -72,7 +77,8 @@ fn turn_out(sections: &mut Vec<Section>, front: usize, last: usize) -> Option<Se
     None
 }
 
-/// Takes the sections from number `front` to number `last` out, and the one behind them, which is the result. Those from number `first` on are then in `window`, last to first, and what is before them is in `out`.
+/// Takes out the sections from number `front` up to and including number `last`. Section number `last` is returned, if there is one.
+/// The others from number `first` on are then in `window`, last to first, and the one before `first`, if it was taken, is in `out`.
 fn take_out(
     sections: &mut Vec<Section>,
     out: &mut Vec<Section>,
@@ -102,7 +108,7 @@ fn take_out(
     next
 }
 
-/// Puts all of `out` in before section number `front`.
+/// Puts all of `out` in before section number `front`, and leaves `out` empty.
 fn put_back(sections: &mut Vec<Section>, out: &mut Vec<Section>, front: usize)
     requires within { front ≤ vec_len sections.old }
     requires room { vec_len sections.old + vec_len out.old ≤ vec_capacity sections.old }
@@ -119,7 +125,7 @@ fn put_back(sections: &mut Vec<Section>, out: &mut Vec<Section>, front: usize)
     tail.rotate_right(count);
 }
 
-/// Puts the section behind a changed stretch at its end, if there is one.
+/// Puts the section that follows a changed stretch, if there is one, at its end, joined with the last one if the two are to be one.
 fn push_next(out: &mut Vec<Section>, next: Option<Section>)
     requires normal { IsNormal out.old.items }
     requires room { vec_len out.old + length (option_to_list next) ≤ vec_capacity out.old }
@@ -136,7 +142,8 @@ fn push_next(out: &mut Vec<Section>, next: Option<Section>)
     }
 }
 
-/// Puts the sections `more` in the place of what stands from place `p` to place `q`. All memory was had before: room in the three lists, and `tail` for the end of a section that is parted.
+/// Puts the sections `more` in the place of what stands from place `p` to place `q`. The caller provides all memory: room in the first
+/// three lists, and `tail` for the end of a section that is cut in two.
 pub fn replace_sections(
     sections: &mut Vec<Section>,
     out: &mut Vec<Section>,

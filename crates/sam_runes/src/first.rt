@@ -1,10 +1,10 @@
-//! The rune that begins bytes, in UTF-8 as RFC 3629 defines it. The bytes of a rune give its code, and a code that a shorter
-//! row of bytes would give is refused.
+//! The rune that begins some bytes, in UTF-8 as RFC 3629 defines it. Overlong forms, whose code fewer bytes could spell, are no
+//! runes.
 
 ghost use Rattle.std.specs.Prelude.{◌≡◌, ◌≤◌, ◌<◌, ◌+◌, ◌⊎◌, take, length, slice_index, encode_utf8, MatchOption};
 ghost use Rattle.std.specs.Str.{StartsWithNoChar};
 
-/// The six bits of a byte that goes on with a rune.
+/// Returns the six bits of a continuation byte, which is 0x80 to 0xBF, or `None` for any other byte.
 #[inline(always)]
 fn tail(byte: u8) -> Option<u32>
     ensures { MatchOption result ((byte < 128) ⊎ (192 ≤ byte)) (λ bits. (bits < 64) × (128 + bits ≡ byte)) }
@@ -16,7 +16,7 @@ fn tail(byte: u8) -> Option<u32>
     }
 }
 
-/// The rune of two bytes that begins the bytes.
+/// The rune of two bytes that begins the bytes. `None` if the continuation byte is missing or the form is overlong.
 #[inline(always)]
 fn rune_of_two(bytes: &[u8]) -> Option<char>
     requires least { 192 ≤ slice_index bytes.now 0 }
@@ -33,7 +33,8 @@ fn rune_of_two(bytes: &[u8]) -> Option<char>
     char::from_u32(code)
 }
 
-/// The rune of three bytes that begins the bytes.
+/// The rune of three bytes that begins the bytes. `None` if a continuation byte is missing, the form is overlong, or the code is a
+/// surrogate.
 #[inline(always)]
 fn rune_of_three(bytes: &[u8]) -> Option<char>
     requires least { 224 ≤ slice_index bytes.now 0 }
@@ -50,7 +51,8 @@ fn rune_of_three(bytes: &[u8]) -> Option<char>
     char::from_u32(code)
 }
 
-/// The rune of four bytes that begins the bytes.
+/// The rune of four bytes that begins the bytes. `None` if a continuation byte is missing, the form is overlong, or the code is
+/// above U+10FFFF.
 #[inline(always)]
 fn rune_of_four(bytes: &[u8]) -> Option<char>
     requires least { 240 ≤ slice_index bytes.now 0 }
@@ -66,7 +68,7 @@ fn rune_of_four(bytes: &[u8]) -> Option<char>
     char::from_u32(code)
 }
 
-/// The rune that begins the bytes, and how many of them it takes.
+/// Returns the rune that begins the bytes, and how many of them it takes, or `None` if no rune begins them.
 #[inline(always)]
 pub fn first_rune(bytes: &[u8]) -> Option<(char, usize)>
     ensures { MatchOption result (StartsWithNoChar bytes.now) (λ x. (x.1 ≤ length bytes.now) × (take x.1 bytes.now ≡ encode_utf8 x.0)) }

@@ -1,5 +1,5 @@
-//! A session of five threads: the workers started and joined, and what their ends come to. The lines are audited, and one run of the
-//! world leads to the very states of both sides.
+//! A session of five threads: the workers are started and joined, and their ends are put together. The lines are audited, and one run of
+//! the world leads to the states of both sides.
 #![tactic(auto)]
 
 mod laws;

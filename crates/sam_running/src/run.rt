@@ -1,4 +1,4 @@
-//! Running the five threads: none begins before all are started.
+//! Running the five workers: none begins before all are started.
 ghost use Rattle.std.specs.Prelude.{◌≡◌, ◌<◌, IfOk, IfSome, IsSomeAnd, IsTrue, IsFalse, Some, Err};
 ghost use Rattle.sam_script.specs.Script.{keys_of, mouse_of};
 ghost use Rattle.sam_running.specs.Promised.{AllKept, KeepPromises, SomeRefused};
@@ -16,22 +16,29 @@ use std::thread;
 use std::thread::{Scope, Threads};
 use thiserror::Error;
 
-/// Why a session could not be run.
+/// Why a session could not be run. The right to the ends of its lines is spent, so another try needs new lines.
 #[derive(Clone, Copy, Debug, PartialEq, Eq, Drop, Error)]
 pub enum RunFault {
-    /// A worker's gate did not let it begin.
+    /// The gate did not let some worker begin. The other workers may have begun, and have ended.
     #[error("a worker was not let begin")]
     GateTimedOut = 1,
-    /// A thread could not be started. None of the others began.
+    /// A thread could not be started. No worker began.
     #[error("no thread could be started")]
     NoThread = 2,
+    /// A request for memory was refused: for the lines, for what the workers begin with, or for the settling.
     #[error("out of memory")]
     OutOfMemory = 3,
 }
 
-/// Runs the five workers over the lines, to their ends: the user does at the keyboard and with the mouse what the script says, and the
-/// host has its files. Pieces on the lines have at most `piece` bytes. No worker begins before all five are started, and all memory
-/// that they begin with is had before. A refusal has spent the lines.
+/// Runs the five workers of a session over its lines, and returns their ends. The user does at the keyboard and with the mouse what the
+/// script says, and the host begins with the script's files. `starts` came with `lines`, and is spent. Pieces on the lines have at most
+/// `piece` bytes, and `piece` is at least 1.
+///
+/// No worker begins before all five are started, and all memory that they begin with is had before. The call waits for its threads, which
+/// may never end.
+///
+/// Errors, in this order: `OutOfMemory` if there is no memory for what the workers begin with; `NoThread` if a thread could not be
+/// started; `GateTimedOut` if the gate did not let a worker begin. A worker that stops on its way is no error: its end tells why.
 pub fn run_ends<'q, R: Threads + Wait + Sync, G: Gate>(
     rt: &R,
     alloc: Global,
@@ -66,7 +73,7 @@ pub fn run_ends<'q, R: Threads + Wait + Sync, G: Gate>(
     )
 }
 
-/// Starts the five, lets them begin, and joins them.
+/// Starts the five threads, lets their workers begin if all could be started, and joins them.
 fn run_all<'s, 'e: 's, 'q: 's, R: Threads + Wait + Sync, G: Gate>(
     scope: &'s Scope<'s, &'e ()>,
     rt: &'s R,
@@ -87,7 +94,7 @@ fn run_all<'s, 'e: 's, 'q: 's, R: Threads + Wait + Sync, G: Gate>(
     begun(joined(rt, handles))
 }
 
-/// Joins the threads, if they were started.
+/// Joins the threads, if all could be started.
 fn joined<'s, 'q, R: Threads, G: Gate>(
     rt: &R,
     handles: Option<Handles<'s, 'q, G>>,
@@ -97,7 +104,8 @@ fn joined<'s, 'q, R: Threads, G: Gate>(
     join_all(rt, handles?)
 }
 
-/// The ends of workers that were all let begin.
+/// Returns the ends if each worker was let begin. The errors are `NoThread` if there are no ends, and `GateTimedOut` if a worker was
+/// refused.
 fn begun(ends: Option<Ends<'_>>) -> Result<Ends<'_>, RunFault>
     ensures ends { IfOk result (λ e. ends.entry ≡ Some e) }
     ensures begun { IfOk result AllPassed }
@@ -112,7 +120,7 @@ fn begun(ends: Option<Ends<'_>>) -> Result<Ends<'_>, RunFault>
     Ok(ends)
 }
 
-/// Whether each worker's gate let it begin.
+/// Returns whether the gate let each worker begin.
 fn all_passed(ends: &Ends) -> bool
     ensures passed { IsTrue result → AllPassed ends.now }
     ensures refused { IsFalse result → SomeRefused ends.now }

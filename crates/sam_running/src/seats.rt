@@ -1,4 +1,4 @@
-//! What the five threads begin with. All their memory is had before a thread is started.
+//! What the five workers begin with. All their memory is had before a thread is started.
 ghost use Rattle.std.specs.Prelude.{◌≡◌, ◌≤◌, length, All, IfOk};
 ghost use Rattle.sam_host.specs.Host.{new_host};
 ghost use Rattle.sam_queue.specs.Views.{new_post, new_take};
@@ -15,77 +15,111 @@ use sam_threads::{Input, Lines, Starts};
 use std::alloc::{AllocError, Global};
 use std::marker::PhantomData;
 
-// Each has a field `held`: with it a thread's closure that captures the seat keeps its contract.
+// Each seat has a field `held`, which holds nothing: with it a thread's closure that captures the seat keeps its contract.
 
-/// What the keyboard or the mouse begins with.
+/// What the worker of the keyboard or of the mouse begins with. Nothing is put yet.
 #[derive(Drop)]
 pub struct UserSeat<'q> {
+    /// The post to the line of events: number 0 for the keyboard, 1 for the mouse.
     pub post: Post<'q, Input>,
+    /// What the user does there, in order.
     pub events: Vec<UserEvent>,
+    /// Ties the seat to its lines.
     pub held: PhantomData<&'q Lines>,
 }
 
-/// What the host begins with.
+/// What the host's worker begins with. Nothing is put, taken or handled yet.
 #[derive(Drop)]
 pub struct HostSeat<'q> {
+    /// The take of the line up.
     pub take: Take<'q, Vec<u8>>,
+    /// The post to the line down.
     pub post: Post<'q, Vec<u8>>,
+    /// The names and texts of the host's files, by tags from 1: at most 65,535.
     pub files: Vec<(Runes, Runes)>,
+    /// A new host of these files.
     pub host: Host,
+    /// Ties the seat to its lines.
     pub held: PhantomData<&'q Lines>,
 }
 
-/// What the host reader begins with.
+/// What the host reader begins with. Nothing is put or taken yet.
 #[derive(Drop)]
 pub struct ReaderSeat<'q> {
+    /// The take of the line down.
     pub take: Take<'q, Vec<u8>>,
+    /// The post to the line of events: number 2.
     pub post: Post<'q, Input>,
+    /// Ties the seat to its lines.
     pub held: PhantomData<&'q Lines>,
 }
 
-/// What the terminal begins with.
+/// What the terminal's worker begins with. Nothing is put, taken or handled yet.
 #[derive(Drop)]
 pub struct TermSeat<'q> {
+    /// The take of the line of events.
     pub take: Take<'q, Input>,
+    /// The post to the line up.
     pub post: Post<'q, Vec<u8>>,
+    /// A new terminal.
     pub term: Terminal,
+    /// Ties the seat to its lines.
     pub held: PhantomData<&'q Lines>,
 }
 
-/// What the five begin with, and their lines.
+/// What the five workers begin with, and their lines. The posts and takes are all of these lines.
 #[derive(Drop)]
 pub struct Seats<'q> {
+    /// The lines of the session.
     pub lines: &'q Lines,
+    /// The seat of the keyboard's worker.
     pub keyboard: UserSeat<'q>,
+    /// The seat of the mouse's worker.
     pub mouse: UserSeat<'q>,
+    /// The seat of the host's worker.
     pub host: HostSeat<'q>,
+    /// The seat of the host reader.
     pub reader: ReaderSeat<'q>,
+    /// The seat of the terminal's worker.
     pub term: TermSeat<'q>,
 }
 
-/// The sides of three lines.
+/// The ends of the three lines, with nothing put and nothing taken.
 #[derive(Drop)]
 struct LineSides<'q> {
+    /// The terminal's post to the line up.
     up_post: Post<'q, Vec<u8>>,
+    /// The host's take of the line up.
     up_take: Take<'q, Vec<u8>>,
+    /// The host's post to the line down.
     down_post: Post<'q, Vec<u8>>,
+    /// The host reader's take of the line down.
     down_take: Take<'q, Vec<u8>>,
+    /// The keyboard's post to the line of events.
     keyboard: Post<'q, Input>,
+    /// The mouse's post to the line of events.
     mouse: Post<'q, Input>,
+    /// The host reader's post to the line of events.
     reader: Post<'q, Input>,
+    /// The terminal's take of the line of events.
     events_take: Take<'q, Input>,
 }
 
 /// What the user is to do, and what the host begins with.
 #[derive(Drop)]
 struct Roles {
+    /// What the user does at the keyboard, in order.
     keys: Vec<UserEvent>,
+    /// What the user does with the mouse, in order.
     clicks: Vec<UserEvent>,
+    /// The names and texts of the host's files, by tags from 1.
     files: Vec<(Runes, Runes)>,
+    /// A new host of these files.
     host: Host,
 }
 
-/// The seats of a script, at the ends of the lines.
+/// Makes the seats of a session: the ends of the lines, and what the script says that each worker does. `starts` came with `lines`, and is
+/// spent. Its only error is want of memory.
 pub fn ready_seats<'q>(
     alloc: Global,
     lines: &'q Lines,
@@ -104,7 +138,7 @@ pub fn ready_seats<'q>(
     Ok(seated(alloc, lines, sides, roles))
 }
 
-/// Each worker with its sides of the lines and its role.
+/// Gives each worker its ends of the lines and its role.
 fn seated<'q>(alloc: Global, lines: &'q Lines, sides: LineSides<'q>, roles: Roles) -> Seats<'q>
     requires sides { AreNewSides lines.now sides }
     requires host { IsHostRole roles }
@@ -147,7 +181,7 @@ fn seated<'q>(alloc: Global, lines: &'q Lines, sides: LineSides<'q>, roles: Role
     }
 }
 
-/// What the workers do by a script.
+/// Copies out of the script what the workers do, and makes the host.
 fn roles_of(alloc: Global, script: &Script) -> Result<Roles, AllocError>
     ensures keys { IfOk result (λ r. r.keys.items ≡ keys_of script.now.lines) }
     ensures clicks { IfOk result (λ r. r.clicks.items ≡ mouse_of script.now.lines) }
@@ -165,7 +199,7 @@ fn roles_of(alloc: Global, script: &Script) -> Result<Roles, AllocError>
     })
 }
 
-/// The sides of the lines, nothing put and nothing taken.
+/// Makes the ends of the three lines, with nothing put and nothing taken.
 fn split_lines<'q>(
     alloc: Global,
     lines: &'q Lines,
@@ -190,7 +224,7 @@ fn split_lines<'q>(
     })
 }
 
-/// The post and the take of a line of one sender.
+/// Makes the post and the take of a line of one sender.
 fn split_in_one<'q, T>(
     alloc: Global,
     start: Start<T>,
@@ -210,7 +244,7 @@ fn split_in_one<'q, T>(
     Ok((post, take))
 }
 
-/// The posts and the take of a line of three senders.
+/// Makes the posts, in the order of their numbers, and the take of a line of three senders.
 fn split_in_three<'q, T>(
     alloc: Global,
     start: Start<T>,
@@ -238,7 +272,7 @@ fn split_in_three<'q, T>(
     Ok((first, second, third, take))
 }
 
-/// The names and texts of a script's files, and the host that begins with them.
+/// Copies the names and texts of a script's files, and makes the host that begins with them.
 fn first_host(alloc: Global, script: &Script) -> Result<(Vec<(Runes, Runes)>, Host), AllocError>
     ensures files { IfOk result (λ r. r.0.items ≡ script.now.files) }
     ensures host { IfOk result (λ r. r.1 ≡ new_host script.now.files) }
@@ -253,7 +287,7 @@ fn first_host(alloc: Global, script: &Script) -> Result<(Vec<(Runes, Runes)>, Ho
     Ok((files, host))
 }
 
-/// Copies of names and texts.
+/// Copies names and texts.
 fn copied_files(alloc: Global, files: &[(Runes, Runes)]) -> Result<Vec<(Runes, Runes)>, AllocError>
     ensures { IfOk result (λ copies. copies.items ≡ files.now) }
 {

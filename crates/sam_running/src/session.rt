@@ -1,4 +1,4 @@
-//! A whole session of threads.
+//! A whole session of five threads.
 ghost use Rattle.std.specs.Prelude.{◌≡◌, ◌<◌, IfOk, Err};
 ghost use Rattle.sam_running.specs.Session.{IsSession};
 ghost use Rattle.sam_threads.specs.Told.{RefusesSome};
@@ -13,10 +13,19 @@ use std::alloc::Global;
 use std::sync::Wait;
 use std::thread::Threads;
 
-/// Runs the script on five threads, over lines that hold `capacity` entries each, in pieces of at most `piece` bytes, and settles what
-/// they came to. It waits for its threads, which may never end. A worker that is stopped on its way, for want of memory too, is told in
-/// `Settled::stops`. `GateTimedOut`: a worker's gate did not let it begin. `NoThread`: a thread could not be started, and none began.
-/// `OutOfMemory`: there was none for the lines, the start or the settling.
+/// Runs the script on five threads, and settles what the session came to. The lines hold `capacity` entries each, and pieces on them have
+/// at most `piece` bytes; both are at least 1. The user does at the keyboard and with the mouse what the script says. The script's steps
+/// don't count: the threads go on as they like. The call waits for its threads, which may never end.
+///
+/// ```rust
+/// let script = Script::read(alloc, b"file a hello\nk version 1\nk open 1\nk exit\n")?;
+/// let settled = run_threads(rt, alloc, &script, 64, 16, &OpenGate)?;
+/// if settled.stops.is_empty() { .. } // both sides came to their end
+/// ```
+///
+/// Errors, in this order: `OutOfMemory` if there is no memory for the lines or for what the workers begin with; `NoThread` if a thread
+/// could not be started, and then no worker began; `GateTimedOut` if the gate did not let a worker begin; `OutOfMemory` if there is no
+/// memory for the settling. A worker that stops on its way, for want of memory too, is no error: `Settled::stops` tells it.
 pub fn run_threads<R: Threads + Wait + Sync, G: Gate>(
     rt: &R,
     alloc: Global,
@@ -36,7 +45,7 @@ pub fn run_threads<R: Threads + Wait + Sync, G: Gate>(
     run_over(rt, alloc, &lines, starts, script, piece, gate)
 }
 
-/// Runs the script over these lines, and settles what it came to.
+/// Runs the script over these lines, and settles what the session came to.
 fn run_over<R: Threads + Wait + Sync, G: Gate>(
     rt: &R,
     alloc: Global,

@@ -1,4 +1,4 @@
-//! What a session comes to.
+//! What a session came to, and why it may not be settled.
 
 use sam_host::host::Host;
 use sam_term::term::Terminal;
@@ -6,25 +6,34 @@ use sam_threads::{Ends, Stop};
 use sam_world::event::Event;
 use sam_world::world::World;
 
-/// What a session came to.
+/// What a session of five threads came to: its two sides, and the one run of the world that leads to them. `settle` makes it of the five
+/// ends, and `run_threads` hands it out. The schedule can be run again:
+///
+/// ```rust
+/// let mut world = first_world(alloc, script.files())?;
+/// world.run(settled.schedule.as_slice())?; // world is now what settled.world is
+/// ```
 #[derive(Drop)]
 pub struct Settled {
+    /// The host as the session left it: the host of `world`.
     pub host: Host,
+    /// The terminal as the session left it: the terminal of `world`.
     pub term: Terminal,
-    /// One order of all events of the session, which leads to these two.
+    /// One order of all events of the session, which leads from the first world of the host's files to `world`.
     pub schedule: Vec<Event>,
-    /// The world where the schedule leads.
+    /// The world where the schedule leads: both sides, and what is still under way between them.
     pub world: World,
-    /// How many items of the lines up, down and of events were put and not taken. Each worker takes its line to the end, so these are
-    /// zeros.
+    /// How many items of the line up, of the line down and of the line of events were put and not taken, in this order. Each worker takes
+    /// its line to the end, so these are zeros.
     pub left: Vec<usize>,
-    /// Why workers stopped, of those that did: the keyboard, the mouse, the host, the host reader and the terminal, in this order.
+    /// Why workers stopped before their time, in the order keyboard, mouse, host, host reader, terminal. A worker that did not stop has no
+    /// entry; if there is none at all, the session is over and nothing is under way.
     pub stops: Vec<Stop>,
 }
 
-/// Why a session was not settled.
+/// Why a session was not settled. The ends come back with it.
 #[derive(Drop)]
 pub enum SettleFault<'q> {
-    /// There was no memory. The ends are as they were, and can be settled again to the same result.
+    /// A request for memory was refused. The ends are as they were, and can be settled again with the same result.
     OutOfMemory(Ends<'q>),
 }

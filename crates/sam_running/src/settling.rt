@@ -1,4 +1,4 @@
-//! Settling a session: its lines are audited, and one run of the world leads to the states of its two ends.
+//! Settling a session: its lines are audited, and one run of the world leads to the states of its two sides.
 ghost use Rattle.std.specs.Prelude.{◌≡◌, ◌+◌, ◌^◌, ◌<◌, ◌≤◌, [], ◌∷◌, ◌++◌, length, All, IfOk, IfErr, Some, vec_capacity, sum_by};
 ghost use Rattle.sam_script.specs.Script.{IsFile};
 ghost use Rattle.sam_world.specs.World.{merged};
@@ -19,37 +19,50 @@ use sam_world::{MergeFault, merge};
 use std::alloc::{AllocError, Global};
 use std::sync::Wait;
 
-// All memory for the audit of a line.
+/// All memory for the audit of a line.
 #[derive(Drop)]
 struct LineRoom<'q, T> {
+    /// Room for what the audit finds.
     audit: AuditRoom<T>,
+    /// An empty list with room for the posts of the line.
     posts: Vec<Post<'q, T>>,
 }
 
-// The merged schedule, and the world where it leads.
+/// The merged schedule, and the world where it leads.
 #[derive(Drop)]
 struct Replay {
+    /// The terminal's log, merged with the messages that the host took.
     schedule: Vec<Event>,
+    /// The world where the schedule leads from the host's first files.
     world: World,
 }
 
-// All memory for settling. Of a schedule that is no run there is no replay.
+/// All memory for settling, had before anything is taken from a line.
 #[derive(Drop)]
 struct Prepared<'q> {
+    /// Room to audit the line up.
     up: LineRoom<'q, Vec<u8>>,
+    /// Room to audit the line down.
     down: LineRoom<'q, Vec<u8>>,
+    /// Room to audit the line of events.
     events: LineRoom<'q, Input>,
+    /// An empty list with room for three counts.
     left: Vec<usize>,
+    /// An empty list with room for five stops.
     stops: Vec<Stop>,
+    /// The replay of the merged schedule; `None` if the schedule is no run, which no session leads to.
     replay: Option<Replay>,
 }
 
-/// What the five ends of a session came to: one schedule of all events, which leads one world of the first files to the very states of
-/// the host and the terminal. What the host handled is a first part of what the terminal composed, the frames that the terminal handled
-/// are a first part of those that the host answered, and of keyboard and mouse it handled the first events that each put.
+/// Puts the five ends of a session together. Returns one schedule of all its events, which leads one world of the host's first files to
+/// the very states of the host and the terminal, with what is left in the lines and why workers stopped.
 ///
-/// The ends are those of one set of lines, as `run_ends` gives them. Want of memory alone refuses it, before anything is taken from a
-/// line.
+/// The messages that the host handled are the first of those that the terminal composed, and the frames that the terminal handled are the
+/// first of those that the host answered. Of the keyboard and of the mouse the terminal handled the first events that each put. The ends
+/// are those of one set of lines, as `run_ends` returns them. The whole run is made once more, so it costs about as much as the session
+/// did.
+///
+/// Its only error is `SettleFault::OutOfMemory`, with the ends as they were: nothing is taken from a line before all memory is had.
 pub fn settle<'q, R: Wait>(
     rt: &R,
     alloc: Global,
@@ -75,7 +88,7 @@ pub fn settle<'q, R: Wait>(
     }
 }
 
-// All that takes memory.
+/// Makes all that takes memory.
 fn prepare<'q>(alloc: Global, ends: &Ends<'q>) -> Result<Prepared<'q>, AllocError>
     requires many { length ends.now.host.files.items ≤ 65535 }
     requires files { All IsFile ends.now.host.files.items }
@@ -102,7 +115,7 @@ fn prepare<'q>(alloc: Global, ends: &Ends<'q>) -> Result<Prepared<'q>, AllocErro
     })
 }
 
-// Room for the audit of the line of a take, with so many posts.
+/// Makes room for the audit of the line of a take, with so many posts.
 fn room_for<'q, T: Drop>(
     alloc: Global,
     take: &Take<'q, T>,
@@ -115,7 +128,7 @@ fn room_for<'q, T: Drop>(
     Ok(LineRoom { audit, posts })
 }
 
-// Runs the merged schedule over a world of the files, unless it is no run.
+/// Runs the merged schedule over a world of the files. Returns `None` if the schedule is no run.
 fn run_merged(
     alloc: Global,
     files: &[(Runes, Runes)],
@@ -143,7 +156,7 @@ fn run_merged(
     }
 }
 
-// Audits the three lines, in room that there is. That the schedule is no run can't be.
+/// Audits the three lines in the room that was made. A session's schedule always is a run, so there is a replay.
 fn finish<'q, R: Wait>(rt: &R, prepared: Prepared<'q>, ends: Ends<'q>) -> Settled
     requires ends { AreEnds ends }
     requires prepared { IsPrepared ends prepared }
@@ -188,7 +201,7 @@ fn finish<'q, R: Wait>(rt: &R, prepared: Prepared<'q>, ends: Ends<'q>) -> Settle
     }
 }
 
-// Why workers stopped.
+/// Returns the stops of the workers that stopped, in the order of `Settled::stops`.
 fn noted(mut stops: Vec<Stop>, ends: &Ends<'_>) -> Vec<Stop>
     requires none { stops.items ≡ [] }
     requires room { 5 ≤ vec_capacity stops }
@@ -202,7 +215,7 @@ fn noted(mut stops: Vec<Stop>, ends: &Ends<'_>) -> Vec<Stop>
     stops
 }
 
-// Adds a stop, if there is one.
+/// Adds a stop, if there is one.
 fn note(stops: &mut Vec<Stop>, stop: Option<Stop>)
     requires { length stops.old.items < vec_capacity stops.old }
     ensures noted { stops.new.items ≡ stops.old.items ++ stop_of stop }
@@ -214,7 +227,7 @@ fn note(stops: &mut Vec<Stop>, stop: Option<Stop>)
     }
 }
 
-// Audits a line of one sender, and says how many items are left in it.
+/// Audits a line of one sender. Returns how many items are left in it.
 fn audit_one<'q, T: Drop, R: Wait>(
     rt: &R,
     room: LineRoom<'q, T>,
@@ -233,7 +246,7 @@ fn audit_one<'q, T: Drop, R: Wait>(
     count(found.left.as_slice())
 }
 
-// Audits a line of three senders, and says how many items are left in it.
+/// Audits a line of three senders. Returns how many items are left in it.
 fn audit_three<'q, T: Drop, R: Wait>(
     rt: &R,
     room: LineRoom<'q, T>,
@@ -258,7 +271,7 @@ fn audit_three<'q, T: Drop, R: Wait>(
     count(found.left.as_slice())
 }
 
-// How many items the lists have.
+/// Returns how many items the lists have together.
 #[tactic(auto, using(std::proofs::lemmas::List::Sums::sum_by_more, std::proofs::lemmas::List::Sums::sum_by_more_le))]
 fn count<T>(lists: &[Vec<T>]) -> usize
     requires { sum_by (λ list. length list.items) lists.now < 2 ^ 64 }

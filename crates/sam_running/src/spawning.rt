@@ -1,4 +1,4 @@
-//! Starting the five threads and joining them.
+//! Starting the five threads, and joining them.
 ghost use Rattle.std.specs.Prelude.{◌≡◌, ◌<◌, IfSome, Some};
 ghost use Rattle.sam_running.specs.Promised.{UserKept, HostKept, ReaderKept, TermKept, KeepPromises, PromisesOf};
 ghost use Rattle.sam_running.specs.Seats.{IsUserSeat, IsHostSeat, IsReaderSeat, IsTermSeat, AreReady};
@@ -16,11 +16,16 @@ use std::snapshot::Snapshot;
 use std::sync::{OnceLock, Wait};
 use std::thread::{Promise, PromisedHandle, Scope, Threads};
 
-/// What the joins of the keyboard and the mouse hand on.
+/// What the thread of the keyboard or of the mouse promises, and its join hands on: an end of this worker, with these events, on this
+/// line. It is kept beside the thread's handle, for clauses alone.
 pub struct UserPromise<'a, 'q, G> {
+    /// The gate that the worker asks.
     pub gate: &'a G,
+    /// The worker's number: 0 for the keyboard, 1 for the mouse.
     pub worker: usize,
+    /// The events that the worker was given.
     pub todo: Snapshot<Vec<UserEvent>>,
+    /// The line of events.
     pub events: &'q Line<Input>,
 }
 
@@ -42,11 +47,16 @@ impl<'a, 'q, G: Gate> Promise<Option<UserEnd<'q>>> for UserPromise<'a, 'q, G> {
     ghost kept_by = { λ p r. IfSome r (UserKept (G.may_refuse p.gate.now) p.worker p.todo.value.items p.events.now) };
 }
 
-/// What the join of the host hands on.
+/// What the host's thread promises, and its join hands on: an end of the host's worker, with these files, on these lines. It is kept
+/// beside the thread's handle, for clauses alone.
 pub struct HostPromise<'a, 'q, G> {
+    /// The gate that the worker asks.
     pub gate: &'a G,
+    /// The names and texts that the host began with.
     pub files: Snapshot<Vec<(Runes, Runes)>>,
+    /// The line up.
     pub up: &'q Line<Vec<u8>>,
+    /// The line down.
     pub down: &'q Line<Vec<u8>>,
 }
 
@@ -68,10 +78,14 @@ impl<'a, 'q, G: Gate> Promise<Option<HostEnd<'q>>> for HostPromise<'a, 'q, G> {
     ghost kept_by = { λ p r. IfSome r (HostKept (G.may_refuse p.gate.now) p.files.value.items p.up.now p.down.now) };
 }
 
-/// What the join of the host reader hands on.
+/// What the host reader's thread promises, and its join hands on: an end of the host reader, on these lines. It is kept beside the
+/// thread's handle, for clauses alone.
 pub struct ReaderPromise<'a, 'q, G> {
+    /// The gate that the worker asks.
     pub gate: &'a G,
+    /// The line down.
     pub down: &'q Line<Vec<u8>>,
+    /// The line of events.
     pub events: &'q Line<Input>,
 }
 
@@ -92,10 +106,14 @@ impl<'a, 'q, G: Gate> Promise<Option<ReaderEnd<'q>>> for ReaderPromise<'a, 'q, G
     ghost kept_by = { λ p r. IfSome r (ReaderKept (G.may_refuse p.gate.now) p.down.now p.events.now) };
 }
 
-/// What the join of the terminal hands on.
+/// What the terminal's thread promises, and its join hands on: an end of the terminal's worker, on these lines. It is kept beside the
+/// thread's handle, for clauses alone.
 pub struct TermPromise<'a, 'q, G> {
+    /// The gate that the worker asks.
     pub gate: &'a G,
+    /// The line of events.
     pub events: &'q Line<Input>,
+    /// The line up.
     pub up: &'q Line<Vec<u8>>,
 }
 
@@ -116,7 +134,7 @@ impl<'a, 'q, G: Gate> Promise<Option<TermEnd<'q>>> for TermPromise<'a, 'q, G> {
     ghost kept_by = { λ p r. IfSome r (TermKept (G.may_refuse p.gate.now) p.events.now p.up.now) };
 }
 
-/// Waits for the start. None where it was called off.
+/// Waits for the start, and then runs the keyboard's or the mouse's worker. Returns `None` if the start was called off.
 fn begin_user<'q, R: Wait, G: Gate>(
     rt: &R,
     start: &OnceLock<bool>,
@@ -139,7 +157,7 @@ fn begin_user<'q, R: Wait, G: Gate>(
     Some(send_events(rt, gate, worker, events, post))
 }
 
-/// Waits for the start. None where it was called off.
+/// Waits for the start, and then runs the host's worker. Returns `None` if the start was called off.
 fn begin_host<'q, R: Wait, G: Gate>(
     rt: &R,
     alloc: Global,
@@ -165,7 +183,7 @@ fn begin_host<'q, R: Wait, G: Gate>(
     Some(serve_host(rt, alloc, gate, piece, take, post, files, host))
 }
 
-/// Waits for the start. None where it was called off.
+/// Waits for the start, and then runs the host reader. Returns `None` if the start was called off.
 fn begin_reader<'q, R: Wait, G: Gate>(
     rt: &R,
     alloc: Global,
@@ -187,7 +205,7 @@ fn begin_reader<'q, R: Wait, G: Gate>(
     Some(pass_frames(rt, alloc, gate, take, post))
 }
 
-/// Waits for the start. None where it was called off.
+/// Waits for the start, and then runs the terminal's worker. Returns `None` if the start was called off.
 fn begin_terminal<'q, R: Wait, G: Gate>(
     rt: &R,
     alloc: Global,
@@ -212,14 +230,19 @@ fn begin_terminal<'q, R: Wait, G: Gate>(
     Some(run_terminal(rt, alloc, gate, piece, take, post, term))
 }
 
+/// The handle of the keyboard's or the mouse's thread, with its promise.
 type UserHandle<'s, 'q, G> = PromisedHandle<Option<UserEnd<'q>>, UserPromise<'s, 'q, G>>;
 
+/// The handle of the host's thread, with its promise.
 type HostHandle<'s, 'q, G> = PromisedHandle<Option<HostEnd<'q>>, HostPromise<'s, 'q, G>>;
 
+/// The handle of the host reader's thread, with its promise.
 type ReaderHandle<'s, 'q, G> = PromisedHandle<Option<ReaderEnd<'q>>, ReaderPromise<'s, 'q, G>>;
 
+/// The handle of the terminal's thread, with its promise.
 type TermHandle<'s, 'q, G> = PromisedHandle<Option<TermEnd<'q>>, TermPromise<'s, 'q, G>>;
 
+/// Starts the thread of the keyboard or of the mouse. Returns `None` if it could not be started.
 fn spawn_user<'s, 'e: 's, 'q: 's, R: Wait + Sync, G: Gate>(
     scope: &'s Scope<'s, &'e ()>,
     rt: &'s R,
@@ -249,6 +272,7 @@ fn spawn_user<'s, 'e: 's, 'q: 's, R: Wait + Sync, G: Gate>(
     child.ok()
 }
 
+/// Starts the thread of the host. Returns `None` if it could not be started.
 fn spawn_host<'s, 'e: 's, 'q: 's, R: Wait + Sync, G: Gate>(
     scope: &'s Scope<'s, &'e ()>,
     rt: &'s R,
@@ -280,6 +304,7 @@ fn spawn_host<'s, 'e: 's, 'q: 's, R: Wait + Sync, G: Gate>(
     child.ok()
 }
 
+/// Starts the thread of the host reader. Returns `None` if it could not be started.
 fn spawn_reader<'s, 'e: 's, 'q: 's, R: Wait + Sync, G: Gate>(
     scope: &'s Scope<'s, &'e ()>,
     rt: &'s R,
@@ -304,6 +329,7 @@ fn spawn_reader<'s, 'e: 's, 'q: 's, R: Wait + Sync, G: Gate>(
     child.ok()
 }
 
+/// Starts the thread of the terminal. Returns `None` if it could not be started.
 fn spawn_terminal<'s, 'e: 's, 'q: 's, R: Wait + Sync, G: Gate>(
     scope: &'s Scope<'s, &'e ()>,
     rt: &'s R,
@@ -330,16 +356,22 @@ fn spawn_terminal<'s, 'e: 's, 'q: 's, R: Wait + Sync, G: Gate>(
     child.ok()
 }
 
-/// The threads of the five workers.
+/// The handles of the five threads, all started. `spawn_all` makes them, and `join_all` takes them.
 pub struct Handles<'s, 'q, G: Gate> {
+    /// The keyboard's thread.
     pub keyboard: UserHandle<'s, 'q, G>,
+    /// The mouse's thread.
     pub mouse: UserHandle<'s, 'q, G>,
+    /// The host's thread.
     pub host: HostHandle<'s, 'q, G>,
+    /// The host reader's thread.
     pub reader: ReaderHandle<'s, 'q, G>,
+    /// The terminal's thread.
     pub term: TermHandle<'s, 'q, G>,
 }
 
-/// Starts all five. Where one can't be made it answers none, and the caller calls the others off.
+/// Starts the five threads, whose workers wait for `start`. Returns `None` if one of them could not be started, and then the caller has to
+/// call the start off.
 pub fn spawn_all<'s, 'e: 's, 'q: 's, R: Wait + Sync, G: Gate>(
     scope: &'s Scope<'s, &'e ()>,
     rt: &'s R,
@@ -381,7 +413,7 @@ pub fn spawn_all<'s, 'e: 's, 'q: 's, R: Wait + Sync, G: Gate>(
     })
 }
 
-/// Joins all five. None where the start was called off, which the caller did not do.
+/// Joins the five threads, and returns their ends. Returns `None` if the start was called off, which nobody does who has handles.
 pub fn join_all<'s, 'q, R: Threads, G: Gate>(
     rt: &R,
     handles: Handles<'s, 'q, G>,
@@ -407,7 +439,7 @@ pub fn join_all<'s, 'q, R: Threads, G: Gate>(
     })
 }
 
-// One exit in place of five, each of which would drop what the others hold.
+/// Pairs two options. With it a caller has one exit in place of five, and each of those would drop what the others hold.
 fn both<A: Drop, B: Drop>(first: Option<A>, second: Option<B>) -> Option<(A, B)>
     ensures { IfSome result (λ p. (first ≡ Some p.0) × (second ≡ Some p.1)) }
 {

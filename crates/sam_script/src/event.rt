@@ -1,4 +1,4 @@
-//! What the user does, as the words of a line name it.
+//! Reads what the user does from the words of a `k` or `m` line.
 
 ghost use Rattle.std.specs.Prelude.{◌≡◌};
 ghost use Rattle.sam_script.specs.Reading.{Gives, event_at, read_by, readers, file_readers};
@@ -10,7 +10,7 @@ use crate::words::{
 use sam_term::event::UserEvent;
 use std::alloc::Global;
 
-/// The event that a word behind a space and the rest of the line name.
+/// Reads the event that stands behind the first word of a line, from the space in front of it to the end of the line.
 #[tactic(auto, unfolding(crate::specs::Reading::event_at))]
 pub fn event_at(alloc: Global, text: &str) -> Result<UserEvent, LineFault>
     ensures { Gives (λ e. e) result (event_at text.now) }
@@ -19,7 +19,7 @@ pub fn event_at(alloc: Global, text: &str) -> Result<UserEvent, LineFault>
     read_event(alloc, word, rest)
 }
 
-/// The event of this word.
+/// Reads the event of this word, with `rest` behind it.
 fn read_event(alloc: Global, word: &str, rest: &str) -> Result<UserEvent, LineFault>
     ensures { Gives (λ e. e) result (read_by readers word.now rest.now) }
 {
@@ -55,7 +55,7 @@ fn read_event(alloc: Global, word: &str, rest: &str) -> Result<UserEvent, LineFa
     }
 }
 
-/// An event that names a file and nothing more.
+/// Reads an event that has a tag behind its word and nothing more.
 fn on_file(word: &str, rest: &str) -> Result<UserEvent, LineFault>
     ensures { Gives (λ e. e) result (read_by file_readers word.now rest.now) }
 {

@@ -1,4 +1,4 @@
-//! Why a script could not be read or run.
+//! Why a script could not be read, replayed or written.
 
 ghost use Rattle.std.specs.Prelude.{◌≡◌};
 ghost use Rattle.sam_script.specs.declared.fault.LineFault.TheVariants.{OutOfMemory};
@@ -6,15 +6,17 @@ ghost use Rattle.sam_script.specs.declared.fault.LineFault.TheVariants.{OutOfMem
 use std::alloc::{AllocError, AllocFailed};
 use thiserror::Error;
 
-/// Why a script could not be read or run.
+/// Why a script could not be read, replayed or written. Reading returns `Line` and `OutOfMemory`, replaying all three, and the other
+/// calls `OutOfMemory` alone.
 #[derive(Clone, Copy, Debug, PartialEq, Eq, Error)]
 pub enum ScriptFault {
-    /// The text is wrong at this line, counted from 1; in a run, nothing is there for a side to take.
+    /// Reading: this line, counted from 1, is the first wrong one. Replaying: it is `host` or `term`, and found nothing to take.
     #[error("wrong script at line {0}")]
     Line(usize),
-    /// A side has counted 2^64-1 messages.
+    /// Replaying: a step would take a count of messages past 2^64-1.
     #[error("too many messages to count")]
     CountFull,
+    /// A request for memory was refused. The same call may be made again.
     #[error("out of memory")]
     OutOfMemory,
 }
@@ -31,10 +33,12 @@ impl<T: Drop> From<AllocFailed<T>> for ScriptFault {
     }
 }
 
-/// Why a line could not be read.
+/// Why a line could not be read or added to a script. `Script::read` turns it into a `ScriptFault`, with the line's number.
 #[derive(Clone, Copy, Debug, PartialEq, Eq)]
 pub enum LineFault {
+    /// The line breaks the grammar, or may not stand where it stands.
     Wrong,
+    /// A request for memory was refused.
     OutOfMemory,
 }
 

@@ -1,4 +1,4 @@
-//! One line of a script.
+//! Reads one line of a script.
 
 ghost use Rattle.std.specs.Prelude.{◌≡◌, IfOk, IfErr, chars};
 ghost use Rattle.sam_script.specs.Reading.{Gives, IsUnsaid, line_at, file_at, file_text_at, fitting_name, read_by, bare_readers};
@@ -12,48 +12,52 @@ use sam_term::event::UserEvent;
 use std::alloc::{AllocError, Global};
 use std::str;
 
-/// What a line of a script asks for, `file` lines left out.
+/// What a line of a script asks for: an event of the user, or a step. `file` lines and lines that say nothing are not among them.
+/// [`replay`](crate::replay) does one after another. A session of threads takes the events of the user alone.
 #[derive(Drop)]
 pub enum Line {
-    /// The user does something at the keyboard: the event waits behind those that are held.
+    /// `k`: the user does this at the keyboard, and the terminal holds it behind the events that it holds already.
     Key(UserEvent),
-    /// The user does something with the mouse: the event waits behind those that are held.
+    /// `m`: the user does this with the mouse. A replay treats it as `Key`; in a session it has a thread of its own.
     Mouse(UserEvent),
-    /// The terminal tries the oldest event that is held.
+    /// `act`: the terminal tries its oldest held event, if it holds one.
     Act,
-    /// The terminal sends its unsent runes.
+    /// `flush`: the terminal composes its unsent runes, if there are any.
     Flush,
-    /// The host takes the oldest message that is under way to it.
+    /// `host`: the host takes the oldest message that is under way to it.
     Host,
-    /// The terminal takes the oldest frame that is under way to it.
+    /// `term`: the terminal takes the oldest frame that is under way to it.
     Term,
-    /// What can happen without the user happens.
+    /// `drain`: all that can happen without the user happens, as `World::drain` says.
     Drain,
-    /// The world is printed.
+    /// `show`: the world is printed, as [`show`](crate::show) says.
     Show,
 }
 
-/// A line of a script with its number, counted from 1.
+/// A line of a script with its number. A replay that finds nothing to take at the line names it by that number.
 #[derive(Drop)]
 pub struct Numbered {
+    /// The number of the line, counted from 1. `file` lines and lines that say nothing count too.
     pub number: usize,
+    /// What the line asks for.
     pub line: Line,
 }
 
-/// What a line says.
+/// What a line says by itself, wherever it stands in its script.
 #[derive(Drop)]
 pub enum Said {
-    /// Nothing: it is empty, a comment, or a line that was printed.
+    /// Nothing: it is empty, or it begins with `#` or `=`.
     Nothing,
-    /// The host has a file of this name and text.
+    /// The host has a file of this name and this text, both within the limits.
     File(Runes, Runes),
+    /// It asks for this.
     Line(Line),
 }
 
-/// The most runes of the name of a file.
+/// The most runes of a file's name in a script. It has at least one.
 pub const MOST_NAME: usize = 64;
 
-/// What a line of bytes says.
+/// Reads what a line says. The bytes stand without their newline. `Wrong` comes only if they are not UTF-8 or not in the grammar.
 pub fn said_by(alloc: Global, bytes: &[u8]) -> Result<Said, LineFault>
     ensures ok { IfOk result (λ it. Says it bytes.now) }
     ensures wrong { IfErr result (IsUnsaid bytes.now) }
@@ -64,7 +68,7 @@ pub fn said_by(alloc: Global, bytes: &[u8]) -> Result<Said, LineFault>
     }
 }
 
-/// What a line of text says.
+/// Reads what a line of text says.
 #[tactic(auto, unfolding(crate::specs::Reading::line_at))]
 fn read_line(alloc: Global, text: &str) -> Result<Said, LineFault>
     ensures { Gives (λ it. it) result (line_at text.now) }
@@ -84,7 +88,7 @@ fn read_line(alloc: Global, text: &str) -> Result<Said, LineFault>
     }
 }
 
-/// A line of one word.
+/// Reads a line that is one word.
 fn bare_line(word: &str, rest: &str) -> Result<Said, LineFault>
     ensures { Gives (λ it. it) result (read_by bare_readers word.now rest.now) }
 {
@@ -99,7 +103,7 @@ fn bare_line(word: &str, rest: &str) -> Result<Said, LineFault>
     }
 }
 
-/// The name and the text of a `file` line.
+/// Reads the name and the text of a `file` line, which stand behind its first word.
 #[tactic(auto, unfolding(crate::specs::Reading::file_at))]
 fn file_at(alloc: Global, text: &str) -> Result<(Runes, Runes), LineFault>
     ensures { Gives (λ x. (x.0, x.1)) result (file_at text.now) }
@@ -110,7 +114,7 @@ fn file_at(alloc: Global, text: &str) -> Result<(Runes, Runes), LineFault>
     Ok((name, text))
 }
 
-/// The runes of a name, 1 to `MOST_NAME`.
+/// Returns the runes of a name, which are `Wrong` if there are none or more than `MOST_NAME`.
 fn name_of(alloc: Global, word: &str) -> Result<Runes, LineFault>
     ensures { Gives (λ name. name) result (fitting_name (chars word.now)) }
 {
@@ -121,6 +125,7 @@ fn name_of(alloc: Global, word: &str) -> Result<Runes, LineFault>
     Ok(Runes::from_vec(name))
 }
 
+/// Returns the runes of a word, as they stand.
 #[tactic(auto, using(std::proofs::lemmas::Str::chars_from_encodes))]
 fn runes_of(alloc: Global, word: &str) -> Result<Vec<char>, AllocError>
     ensures { IfOk result (λ runes. runes.items ≡ chars word.now) }
@@ -128,7 +133,7 @@ fn runes_of(alloc: Global, word: &str) -> Result<Vec<char>, AllocError>
     word.chars().collect(alloc)
 }
 
-/// The text of a file, at most `MAX_RUNES` runes.
+/// Reads the text of a file, which is `Wrong` if it has more than `MAX_RUNES` runes.
 #[tactic(auto, unfolding(crate::specs::Reading::file_text_at))]
 fn file_text_at(alloc: Global, rest: &str) -> Result<Runes, LineFault>
     ensures { Gives (λ text. text) result (file_text_at rest.now) }

@@ -1,4 +1,4 @@
-//! The script that makes the events of a run happen again.
+//! Writes the script that makes the events of a run happen again.
 
 ghost use Rattle.std.specs.Prelude.{◌≡◌, ◌++◌, ◌∷◌, [], IfOk, OnOk, IfErr, string_bytes, flat_map, encode_utf8};
 ghost use Rattle.sam_script.specs.RunLines.{event_line, file_line, run_lines_of};
@@ -14,8 +14,9 @@ use sam_world::event::Event;
 use std::alloc::{AllocError, Global};
 use std::fmt::Write;
 
-/// The script that makes just these events happen: the `file` lines of the script, a line for each event, and a line `show`. The only
-/// fault is want of memory.
+/// Returns the script that makes just these events happen, as bytes: a `file` line for each file of `script`, a line for each event,
+/// and a line `show`. Each event of the user is a `k` line, also where it was the mouse's. If the events are a run from these files, a
+/// replay of the bytes shows the world to which they lead. The only error is `OutOfMemory`.
 pub fn run_lines(alloc: Global, script: &Script, events: &[Event]) -> Result<Vec<u8>, ScriptFault>
     ensures lines { IfOk result (λ out. out.items ≡ run_lines_of script.now.files events.now) }
     ensures memory { IfErr result (λ why. why ≡ ScriptFault.OutOfMemory) }
@@ -27,7 +28,7 @@ pub fn run_lines(alloc: Global, script: &Script, events: &[Event]) -> Result<Vec
     }
 }
 
-/// The lines of a run.
+/// Appends the lines of a run. After an error a part of them may stand there, as with each function below.
 fn push_run(out: &mut String, files: &[(Runes, Runes)], events: &[Event]) -> Result<(), AllocError>
     ensures { OnOk result (string_bytes out.new ≡ string_bytes out.old ++ run_lines_of files.now events.now) }
 {
@@ -36,6 +37,7 @@ fn push_run(out: &mut String, files: &[(Runes, Runes)], events: &[Event]) -> Res
     push(out, "show\n")
 }
 
+/// Appends a line for each file.
 fn push_files(out: &mut String, files: &[(Runes, Runes)]) -> Result<(), AllocError>
     ensures { OnOk result (string_bytes out.new ≡ string_bytes out.old ++ flat_map file_line files.now) }
 {
@@ -45,7 +47,7 @@ fn push_files(out: &mut String, files: &[(Runes, Runes)]) -> Result<(), AllocErr
     Ok(())
 }
 
-/// The line of a file.
+/// Appends the line of a file. Its name needs no escapes, since a script's names have no spaces and no newlines.
 fn push_file(out: &mut String, name: &[char], text: &[char]) -> Result<(), AllocError>
     ensures { OnOk result (string_bytes out.new ≡ string_bytes out.old ++ file_line (name.now, text.now)) }
 {
@@ -56,7 +58,7 @@ fn push_file(out: &mut String, name: &[char], text: &[char]) -> Result<(), Alloc
     push(out, "\n")
 }
 
-/// Runes as they stand.
+/// Appends runes as they stand.
 fn push_plain(out: &mut String, runes: &[char]) -> Result<(), AllocError>
     ensures { OnOk result (string_bytes out.new ≡ string_bytes out.old ++ flat_map encode_utf8 runes.now) }
 {
@@ -66,6 +68,7 @@ fn push_plain(out: &mut String, runes: &[char]) -> Result<(), AllocError>
     Ok(())
 }
 
+/// Appends a line for each event.
 fn push_events(out: &mut String, events: &[Event]) -> Result<(), AllocError>
     ensures { OnOk result (string_bytes out.new ≡ string_bytes out.old ++ flat_map event_line events.now) }
 {
@@ -75,7 +78,7 @@ fn push_events(out: &mut String, events: &[Event]) -> Result<(), AllocError>
     Ok(())
 }
 
-/// The line of an event.
+/// Appends the line of an event.
 fn push_event(out: &mut String, event: &Event) -> Result<(), AllocError>
     ensures { OnOk result (string_bytes out.new ≡ string_bytes out.old ++ event_line event.now) }
 {
@@ -88,6 +91,7 @@ fn push_event(out: &mut String, event: &Event) -> Result<(), AllocError>
     }
 }
 
+/// Appends the line of an event of the user.
 fn push_user_line(out: &mut String, event: &UserEvent) -> Result<(), AllocError>
     ensures { OnOk result (string_bytes out.new ≡ string_bytes out.old ++ event_line (Event.User event.now)) }
 {
@@ -96,7 +100,7 @@ fn push_user_line(out: &mut String, event: &UserEvent) -> Result<(), AllocError>
     push(out, "\n")
 }
 
-/// What the user does, in a script's words.
+/// Appends what the user does, in a script's words.
 fn push_user(out: &mut String, event: &UserEvent) -> Result<(), AllocError>
     ensures { OnOk result (string_bytes out.new ≡ string_bytes out.old ++ spelling (form event.now)) }
 {
@@ -127,12 +131,14 @@ fn push_user(out: &mut String, event: &UserEvent) -> Result<(), AllocError>
     }
 }
 
+/// Appends an event that is one word.
 fn push_bare(out: &mut String, word: &str) -> Result<(), AllocError>
     ensures { OnOk result (string_bytes out.new ≡ string_bytes out.old ++ spelling (word.now, [])) }
 {
     push(out, word)
 }
 
+/// Appends a `type` event.
 fn push_typed(out: &mut String, tag: u16, text: &[char]) -> Result<(), AllocError>
     ensures { OnOk result (string_bytes out.new ≡ string_bytes out.old ++ spelling (form (UserEvent.Typed tag text.now))) }
 {
@@ -140,6 +146,7 @@ fn push_typed(out: &mut String, tag: u16, text: &[char]) -> Result<(), AllocErro
     push_with_text(out, "", text)
 }
 
+/// Appends a word, which may be empty, and a text.
 fn push_with_text(out: &mut String, word: &str, text: &[char]) -> Result<(), AllocError>
     ensures { OnOk result (string_bytes out.new ≡ string_bytes out.old ++ spelling (word.now, Rest text.now ∷ [])) }
 {
@@ -148,6 +155,7 @@ fn push_with_text(out: &mut String, word: &str, text: &[char]) -> Result<(), All
     push_text(out, text)
 }
 
+/// Appends a word and a tag or a version.
 fn push_number(out: &mut String, word: &str, number: u16) -> Result<(), AllocError>
     ensures { OnOk result (string_bytes out.new ≡ string_bytes out.old ++ spelling (word.now, Tag number ∷ [])) }
 {
@@ -155,6 +163,7 @@ fn push_number(out: &mut String, word: &str, number: u16) -> Result<(), AllocErr
     write!(out, " {number}")
 }
 
+/// Appends a word, a tag, and a place or a count of lines.
 fn push_place(out: &mut String, word: &str, tag: u16, place: u32) -> Result<(), AllocError>
     ensures { OnOk result (string_bytes out.new ≡ string_bytes out.old ++ spelling (word.now, Tag tag ∷ Place place ∷ [])) }
 {
@@ -162,6 +171,7 @@ fn push_place(out: &mut String, word: &str, tag: u16, place: u32) -> Result<(), 
     write!(out, " {place}")
 }
 
+/// Appends a word, a tag, and two places, or a place and a length.
 fn push_range(
     out: &mut String,
     word: &str,

@@ -1,4 +1,4 @@
-//! A script's lines, done one after another over a world of its files.
+//! Replays a script: its lines are done one after another, on one thread, over a world of its files.
 
 ghost use Rattle.std.specs.Prelude.{◌≡◌, ◌≤◌, ◌++◌, Ok, Err, IfOk, IfErr, OnOk, All, length, string_bytes};
 ghost use Rattle.sam_host.specs.Given.{AreNames, given_of};
@@ -15,10 +15,11 @@ use sam_world::event::{Event, StepFault};
 use sam_world::world::World;
 use std::alloc::{AllocError, Global};
 
-/// Does the lines of a script one after another, over a world of its files that begins anew, and answers what its `show` lines print. A
-/// `host` or `term` line with nothing there is the fault `Line`, a line whose step, or an event of whose drain, would take a count past
-/// 2^64-1 is the fault `CountFull`: each is the replay's own, so the first line that cannot be done is at fault. Want of memory may come
-/// at any line.
+/// Does the lines of a script one after another, over the first world of its files, and returns all that its `show` lines print.
+///
+/// The first line that can't be done stops it, and then nothing of what was printed is returned. The error is `Line(n)` if line n is
+/// `host` or `term` and nothing is under way to that side, and `CountFull` if the line's step, or an event of its drain, would take a
+/// count of messages past 2^64-1. `OutOfMemory` may come at any line, and before the first.
 #[tactic(auto, unfolding(crate::specs::Replay::replayed))]
 pub fn replay(alloc: Global, script: &Script) -> Result<Vec<u8>, ScriptFault>
     ensures ok { IfOk result (λ out. replayed script.now ≡ Ok out.items) }
@@ -37,7 +38,8 @@ pub fn replay(alloc: Global, script: &Script) -> Result<Vec<u8>, ScriptFault>
     Ok(out.into_bytes())
 }
 
-/// Copies of files as a host takes them: names and texts.
+/// Returns copies of files, names and texts, as `Host::new` and `World::new` take them. Each name has 1 to 64 runes and each text at
+/// most 1,000,000, as in a [`Script`]. The only error is want of memory.
 pub fn given_files(
     alloc: Global,
     files: &[(Runes, Runes)],
@@ -59,7 +61,8 @@ pub fn given_files(
     Ok(given)
 }
 
-/// The first world of files of these names and texts.
+/// Makes the first world of files of these names and texts, as `World::new` does. There are at most 65,535 of them, each as in a
+/// [`Script`]. The only error is `OutOfMemory`.
 pub fn first_world(alloc: Global, files: &[(Runes, Runes)]) -> Result<World, ScriptFault>
     requires count { length files.now ≤ 65535 }
     requires each { All IsFile files.now }
@@ -75,7 +78,7 @@ pub fn first_world(alloc: Global, files: &[(Runes, Runes)]) -> Result<World, Scr
     }
 }
 
-/// Does what a line says.
+/// Does what a line asks for. What it prints stands behind what was printed before; at an error a part of that may stand there too.
 fn do_line(
     alloc: Global,
     world: &mut World,
@@ -103,7 +106,7 @@ fn do_line(
     }
 }
 
-/// Makes the event of a line happen.
+/// Makes the event of the line of this number happen.
 #[tactic(auto, using(crate::proofs::Replays::step_is_full))]
 fn do_step(world: &mut World, number: usize, event: Event) -> Result<(), ScriptFault>
     ensures done { OnOk result (stepped number world.old event ≡ Ok world.new) }
@@ -117,7 +120,7 @@ fn do_step(world: &mut World, number: usize, event: Event) -> Result<(), ScriptF
     }
 }
 
-/// Makes happen what can happen without the user.
+/// Makes happen what can happen without the user. A drain takes only what is there, so the fault is never `Line`.
 fn do_drain(world: &mut World) -> Result<(), ScriptFault>
     ensures done { OnOk result (or_full (drained 100000 world.old) ≡ Ok world.new) }
     ensures stopped { IfErr result (λ why. IsStopOf (or_full (drained 100000 world.old)) why) }

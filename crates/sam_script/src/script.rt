@@ -1,4 +1,4 @@
-//! A script: its files, and then its other lines.
+//! Reads a script: its files, and then its other lines.
 
 ghost use Rattle.std.specs.Prelude.{◌≡◌, ◌≤◌, IfErr, IfOk, OnOk, length, All};
 ghost use Rattle.sam_script.specs.Reading.{Adds, AddsNone};
@@ -12,11 +12,18 @@ use sam_term::event::UserEvent;
 use std::alloc::{AllocError, Global};
 use std::marker::Model;
 
-/// A script: the names and texts of the host's files, and the lines that follow them. It has at most `MOST_FILES` files, with names of 1 to
-/// 64 runes and texts of at most 1,000,000.
+/// A script that was read: the names and texts of the host's files, and the lines that follow them. It has at most `MOST_FILES` files,
+/// with names of 1 to 64 runes and texts of at most 1,000,000. Every script comes from [`Script::read`]:
+///
+/// ```rust
+/// let script = Script::read(alloc, b"file a hello\nk version 1\nk open 1\nk type 1 X\ndrain\nshow\n")?;
+/// let shown = replay(alloc, &script)?; // the lines that `show` prints, such as `= h 1 o d a |Xhello|`
+/// ```
 #[derive(Drop)]
 pub struct Script {
+    /// The names and texts of its `file` lines, in their order: those of tags 1, 2, and so on. All are within the limits.
     files: Vec<(Runes, Runes)>,
+    /// Its other lines that say something, in their order.
     lines: Vec<Numbered>,
 }
 
@@ -31,12 +38,17 @@ impl Model for Script {
     ghost invariant = { λ a. (length a.files.items ≤ 65535) × All IsFile a.files.items };
 }
 
-/// The most files of a script.
+/// The most files of a script: there are 65,536 tags, and the command file has one of them.
 pub const MOST_FILES: usize = 65_535;
 
 impl Script {
-    /// The script that the bytes spell: lines of UTF-8 ended by newlines, the last of which may lack it. The first wrong line is the fault
-    /// `Line`, counted from 1: the lines before it spell a script, and with it they spell none.
+    /// Reads the script that the bytes spell: lines of UTF-8, parted by newlines. So the last newline may be missing, and the empty
+    /// input is one empty line.
+    ///
+    /// The lines are read in their order, up to the first that is wrong or wants memory that is refused. `Line(n)` says that line n,
+    /// counted from 1, is wrong: the n-1 lines before it spell a script, and with it they spell none. A line is wrong if it is not in the
+    /// grammar, if it is a `file` line behind a line that asks for something, or if it is the 65,536th `file` line. `OutOfMemory` may come
+    /// at any line.
     pub fn read(alloc: Global, bytes: &[u8]) -> Result<Script, ScriptFault>
         ensures ok { IfOk result (λ script. Spells bytes.now script) }
         ensures fault { IfErr result (IsReadFault bytes.now) }
@@ -57,7 +69,7 @@ impl Script {
         Ok(script)
     }
 
-    /// Adds what a line says.
+    /// Adds what the line of this number says, unless it may not stand behind what was added before.
     fn add(&mut self, alloc: Global, number: usize, bytes: &[u8]) -> Result<(), LineFault>
         ensures ok { OnOk result (Adds number bytes.now self.old self.new) }
         ensures wrong { IfErr result (AddsNone bytes.now self.old) }
@@ -78,7 +90,7 @@ impl Script {
         }
     }
 
-    /// The names and texts of its files; their tags are 1, 2, and so on.
+    /// Returns the names and texts of its files, in order; their tags are 1, 2, and so on.
     pub fn files(&self) -> &[(Runes, Runes)]
         ensures files { result.now ≡ self.now.files }
         ensures count { length result.now ≤ 65535 }
@@ -87,14 +99,14 @@ impl Script {
         self.files.as_slice()
     }
 
-    /// Its other lines, with their numbers.
+    /// Returns its other lines, with their numbers, in order.
     pub fn lines(&self) -> &[Numbered]
         ensures { result.now ≡ self.now.lines }
     {
         self.lines.as_slice()
     }
 
-    /// Copies of what the user does at the keyboard, in order.
+    /// Returns copies of the events of its `k` lines, in order. The only error is want of memory.
     pub fn keys(&self, alloc: Global) -> Result<Vec<UserEvent>, AllocError>
         ensures { IfOk result (λ events. events.items ≡ keys_of self.now.lines) }
     {
@@ -107,7 +119,7 @@ impl Script {
         Ok(out)
     }
 
-    /// Copies of what the user does with the mouse, in order.
+    /// Returns copies of the events of its `m` lines, in order. The only error is want of memory.
     pub fn mouse(&self, alloc: Global) -> Result<Vec<UserEvent>, AllocError>
         ensures { IfOk result (λ events. events.items ≡ mouse_of self.now.lines) }
     {

@@ -1,4 +1,4 @@
-//! The lines that show what a world is like.
+//! Prints the lines that show what a world is like.
 
 ghost use Rattle.std.specs.Prelude.{◌≡◌, ◌++◌, ◌<◌, ◌≤◌, IfOk, OnOk, IfErr, Some, None, string_bytes, flat_map, map, option_map, option_copied, replicate};
 ghost use Rattle.sam_runes.specs.Slots.{slot};
@@ -14,8 +14,10 @@ use sam_world::world::World;
 use std::alloc::{AllocError, Global};
 use std::fmt::Write;
 
-/// Prints what a world is like, in lines that begin with `=`: each file of the host, each file that is open at the terminal, tags ascending,
-/// and then how the sides stand. The only fault is want of memory.
+/// Returns the lines that show a world, each beginning with `=` and a space: one for each file of the host, one for each file that is
+/// open at the terminal, tags ascending, and one for both sides. That one says whether the command lock is held, how many messages were
+/// composed and taken, how many runes are unsent, and how much is under way each way. Held events are not shown. A script may hold such
+/// lines, which say nothing there. The only error is `OutOfMemory`.
 pub fn show(alloc: Global, world: &World) -> Result<Vec<u8>, ScriptFault>
     ensures { IfOk result (λ out. out.items ≡ show_lines world.now) }
 {
@@ -24,7 +26,7 @@ pub fn show(alloc: Global, world: &World) -> Result<Vec<u8>, ScriptFault>
     Ok(out.into_bytes())
 }
 
-/// The lines of a world.
+/// Appends the lines of a world. After an error a part of them may stand there, as with each function below.
 pub fn push_world(out: &mut String, world: &World) -> Result<(), AllocError>
     ensures { OnOk result (string_bytes out.new ≡ string_bytes out.old ++ show_lines world.now) }
 {
@@ -33,7 +35,7 @@ pub fn push_world(out: &mut String, world: &World) -> Result<(), AllocError>
     push_state(out, world)
 }
 
-/// How the sides stand.
+/// Appends the line for both sides.
 fn push_state(out: &mut String, world: &World) -> Result<(), AllocError>
     ensures { OnOk result (string_bytes out.new ≡ string_bytes out.old ++ state_line world.now) }
 {
@@ -44,7 +46,7 @@ fn push_state(out: &mut String, world: &World) -> Result<(), AllocError>
     push_counts(out, locked, sent, taken, unsent, world.up(), world.down())
 }
 
-/// The last line, by its numbers.
+/// Appends the line for both sides, from its numbers.
 fn push_counts(
     out: &mut String,
     locked: bool,
@@ -62,14 +64,14 @@ fn push_counts(
     push(out, "\n")
 }
 
-/// Whether the command lock is held.
+/// Appends `1` if the command lock is held, else `0`, and a space.
 fn push_lock(out: &mut String, held: bool) -> Result<(), AllocError>
     ensures { OnOk result (string_bytes out.new ≡ string_bytes out.old ++ lock_shown held) }
 {
     push(out, if held { "1 " } else { "0 " })
 }
 
-/// The files of the host.
+/// Appends a line for each file of the host, tags ascending.
 fn push_host_files(out: &mut String, files: &Files) -> Result<(), AllocError>
     ensures { OnOk result (string_bytes out.new ≡ string_bytes out.old ++ slot_lines host_slot 0 files.now.plain.slots) }
 {
@@ -79,6 +81,7 @@ fn push_host_files(out: &mut String, files: &Files) -> Result<(), AllocError>
     Ok(())
 }
 
+/// Appends the line of a file of the host, if the tag has one.
 fn push_host_slot(out: &mut String, tag: usize, file: Option<&File>) -> Result<(), AllocError>
     ensures { OnOk result (string_bytes out.new ≡ string_bytes out.old ++ host_slot tag (option_map plain_file (option_copied file.entry))) }
 {
@@ -88,6 +91,7 @@ fn push_host_slot(out: &mut String, tag: usize, file: Option<&File>) -> Result<(
     }
 }
 
+/// Appends a file of the host: its tag, whether it is open (`o`, else `-`) and dirty (`d`, else `c`), its name and its text.
 fn push_host_line(out: &mut String, tag: usize, file: &File) -> Result<(), AllocError>
     ensures { OnOk result (string_bytes out.new ≡ string_bytes out.old
         ++ host_line tag file.now.plain.opened file.now.plain.dirty file.now.plain.name file.now.plain.text) }
@@ -101,7 +105,7 @@ fn push_host_line(out: &mut String, tag: usize, file: &File) -> Result<(), Alloc
     push(out, "|\n")
 }
 
-/// The files that are open at the terminal.
+/// Appends a line for each file that is open at the terminal, tags ascending.
 fn push_term_files(out: &mut String, files: &[Option<KnownFile>]) -> Result<(), AllocError>
     ensures { OnOk result (string_bytes out.new ≡ string_bytes out.old ++ slot_lines term_slot 0 files.now) }
 {
@@ -111,6 +115,7 @@ fn push_term_files(out: &mut String, files: &[Option<KnownFile>]) -> Result<(), 
     Ok(())
 }
 
+/// Appends the line of a file, if it is open at the terminal.
 fn push_term_slot(out: &mut String, tag: usize, file: &Option<KnownFile>) -> Result<(), AllocError>
     ensures { OnOk result (string_bytes out.new ≡ string_bytes out.old ++ term_slot tag file.now) }
 {
@@ -123,6 +128,7 @@ fn push_term_slot(out: &mut String, tag: usize, file: &Option<KnownFile>) -> Res
     }
 }
 
+/// Appends a file that is open at the terminal: its tag, the number of its locks, its dot and its rasp.
 fn push_term_line(out: &mut String, tag: usize, window: &Window) -> Result<(), AllocError>
     ensures { OnOk result (string_bytes out.new ≡ string_bytes out.old
         ++ term_line tag window.now.locks window.now.dot.0 window.now.dot.1 window.now.rasp) }
@@ -135,12 +141,14 @@ fn push_term_line(out: &mut String, tag: usize, window: &Window) -> Result<(), A
     push(out, "|\n")
 }
 
+/// Appends a text as it stands.
 pub(crate) fn push(out: &mut String, text: &str) -> Result<(), AllocError>
     ensures { OnOk result (string_bytes out.new ≡ string_bytes out.old ++ text.now) }
 {
     out.push_str(text)
 }
 
+/// Appends runes as a text, in which backslash and newline are escaped.
 pub(crate) fn push_text(out: &mut String, text: &[char]) -> Result<(), AllocError>
     ensures { OnOk result (string_bytes out.new ≡ string_bytes out.old ++ text_shown text.now) }
 {
@@ -150,6 +158,7 @@ pub(crate) fn push_text(out: &mut String, text: &[char]) -> Result<(), AllocErro
     Ok(())
 }
 
+/// Appends one rune of a text, escaped if it is a backslash or a newline.
 fn push_rune(out: &mut String, rune: char) -> Result<(), AllocError>
     ensures { OnOk result (string_bytes out.new ≡ string_bytes out.old ++ text_rune rune) }
 {
@@ -160,6 +169,7 @@ fn push_rune(out: &mut String, rune: char) -> Result<(), AllocError>
     }
 }
 
+/// Appends a name, in which spaces are escaped too. An empty name is `\e`, so that it can be seen.
 fn push_name(out: &mut String, name: &[char]) -> Result<(), AllocError>
     ensures { OnOk result (string_bytes out.new ≡ string_bytes out.old ++ name_shown name.now) }
 {
@@ -169,6 +179,7 @@ fn push_name(out: &mut String, name: &[char]) -> Result<(), AllocError>
     push_name_runes(out, name)
 }
 
+/// Appends the runes of a name.
 fn push_name_runes(out: &mut String, name: &[char]) -> Result<(), AllocError>
     ensures { OnOk result (string_bytes out.new ≡ string_bytes out.old ++ flat_map name_rune name.now) }
 {
@@ -182,13 +193,14 @@ fn push_name_runes(out: &mut String, name: &[char]) -> Result<(), AllocError>
     Ok(())
 }
 
-/// A rasp, section by section.
+/// Appends a rasp as a text in which each gap is `\_`, section by section.
 fn push_rasp(out: &mut String, rasp: &Rasp) -> Result<(), AllocError>
     ensures { OnOk result (string_bytes out.new ≡ string_bytes out.old ++ rasp_shown rasp.now) }
 {
     push_sections(out, rasp.parts())
 }
 
+/// Appends the sections of a rasp.
 fn push_sections(out: &mut String, sections: &[Section]) -> Result<(), AllocError>
     ensures { OnOk result (string_bytes out.new ≡ string_bytes out.old ++ rasp_shown (cells_of sections.now)) }
 {
@@ -198,6 +210,7 @@ fn push_sections(out: &mut String, sections: &[Section]) -> Result<(), AllocErro
     Ok(())
 }
 
+/// Appends one section: its runes, or its gaps.
 #[tactic(auto, using(crate::proofs::ShowLaws::shown_loaded))]
 fn push_section(out: &mut String, section: &Section) -> Result<(), AllocError>
     ensures { OnOk result (string_bytes out.new ≡ string_bytes out.old ++ rasp_shown (cells section.now)) }
@@ -208,6 +221,7 @@ fn push_section(out: &mut String, section: &Section) -> Result<(), AllocError>
     }
 }
 
+/// Appends this many gaps.
 fn push_gaps(out: &mut String, count: u32) -> Result<(), AllocError>
     ensures { OnOk result (string_bytes out.new ≡ string_bytes out.old ++ rasp_shown (replicate count None)) }
 {

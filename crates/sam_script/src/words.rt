@@ -1,4 +1,4 @@
-//! The words of a line, each behind one space, its numbers and its text.
+//! Reads the parts of a line: words, each behind one space, numbers, and a text up to the end of the line.
 
 ghost use Rattle.std.specs.Prelude.{◌≡◌, [], false, chars};
 ghost use Rattle.sam_script.specs.Reading.{Gives, word_of, behind_word, word_at, number_of, number_at, unescaped, meant, text_at, ended, tag_alone, tag_and_place, tag_and_range, tag_and_text};
@@ -7,7 +7,7 @@ use crate::fault::LineFault;
 use sam_runes::Runes;
 use std::alloc::Global;
 
-/// The bytes up to the first space, and the rest with that space.
+/// Returns what stands before the first space, and the rest from that space on. Without a space all is before it.
 pub fn split_word(text: &str) -> (&str, &str)
     ensures word { result.0.now ≡ word_of text.now }
     ensures rest { result.1.now ≡ behind_word text.now }
@@ -18,7 +18,7 @@ pub fn split_word(text: &str) -> (&str, &str)
     }
 }
 
-/// The word behind a space, and the rest of the line.
+/// Reads the word behind one space, and returns it with the rest of the line. The word may be empty.
 pub fn word_at(text: &str) -> Result<(&str, &str), LineFault>
     ensures { Gives (λ x. (x.0.now, x.1.now)) result (word_at text.now) }
 {
@@ -28,7 +28,7 @@ pub fn word_at(text: &str) -> Result<(&str, &str), LineFault>
     }
 }
 
-/// The next word as a tag or a version, and the rest of the line.
+/// Reads the next word as a tag or a version, and returns it with the rest of the line.
 #[tactic(auto, unfolding(crate::specs::Reading::number_at))]
 pub fn tag_at(text: &str) -> Result<(u16, &str), LineFault>
     ensures { Gives (λ x. (x.0, x.1.now)) result (number_at 16 text.now) }
@@ -38,7 +38,7 @@ pub fn tag_at(text: &str) -> Result<(u16, &str), LineFault>
     Ok((tag, rest))
 }
 
-/// The next word as a place, a length or a count of lines, and the rest of the line.
+/// Reads the next word as a place, a length or a count of lines, and returns it with the rest of the line.
 #[tactic(auto, unfolding(crate::specs::Reading::number_at))]
 pub fn place_at(text: &str) -> Result<(u32, &str), LineFault>
     ensures { Gives (λ x. (x.0, x.1.now)) result (number_at 32 text.now) }
@@ -48,7 +48,7 @@ pub fn place_at(text: &str) -> Result<(u32, &str), LineFault>
     Ok((place, rest))
 }
 
-/// The number of 16 bits that the digits of a word write. `parse` alone would take a plus in front.
+/// Returns the number of 16 bits that the digits of a word write. `parse` alone would take a plus in front.
 fn tag_of(word: &str) -> Result<u16, LineFault>
     ensures { Gives (λ n. n) result (number_of 16 word.now) }
 {
@@ -61,7 +61,7 @@ fn tag_of(word: &str) -> Result<u16, LineFault>
     }
 }
 
-/// The number of 32 bits that the digits of a word write.
+/// Returns the number of 32 bits that the digits of a word write. Here too a plus is wrong.
 fn place_of(word: &str) -> Result<u32, LineFault>
     ensures { Gives (λ n. n) result (number_of 32 word.now) }
 {
@@ -74,7 +74,7 @@ fn place_of(word: &str) -> Result<u32, LineFault>
     }
 }
 
-/// The rest of the line as a text, which may lack its space where it is empty.
+/// Reads the rest of the line as a text behind one space. An empty text may lack its space.
 pub fn text_at(alloc: Global, text: &str) -> Result<Runes, LineFault>
     ensures { Gives (λ runes. runes) result (text_at text.now) }
 {
@@ -84,7 +84,7 @@ pub fn text_at(alloc: Global, text: &str) -> Result<Runes, LineFault>
     }
 }
 
-/// The runes of a text in which `\n` is a newline and `\\` a backslash.
+/// Returns the runes of a text in which `\n` is a newline and `\\` a backslash. Any other backslash is `Wrong`.
 fn unescape(alloc: Global, escaped: &str) -> Result<Runes, LineFault>
     ensures { Gives (λ runes. runes) result (unescaped [] false (chars escaped.now)) }
 {
@@ -107,7 +107,8 @@ fn unescape(alloc: Global, escaped: &str) -> Result<Runes, LineFault>
     Ok(Runes::from_vec(runes))
 }
 
-/// The rune that stands for itself, or behind a backslash for another.
+/// Returns what a rune means, by itself or behind a backslash, or `None` if it may not stand there. `unescape` asks for no backslash
+/// by itself.
 fn meant(is_escaped: bool, rune: char) -> Option<char>
     ensures { result ≡ meant is_escaped rune }
 {
@@ -119,7 +120,7 @@ fn meant(is_escaped: bool, rune: char) -> Option<char>
     }
 }
 
-/// The value, where nothing is left of the line.
+/// Returns the value if nothing is left of the line, else `Wrong`.
 pub fn ended<X: Drop>(value: X, text: &str) -> Result<X, LineFault>
     ensures { Gives (λ x. x) result (ended value text.now) }
 {
@@ -130,7 +131,7 @@ pub fn ended<X: Drop>(value: X, text: &str) -> Result<X, LineFault>
     }
 }
 
-/// A tag, and nothing more.
+/// Reads a tag and nothing more.
 #[tactic(auto, unfolding(crate::specs::Reading::tag_alone))]
 pub fn tag_alone(text: &str) -> Result<u16, LineFault>
     ensures { Gives (λ tag. tag) result (tag_alone text.now) }
@@ -139,7 +140,7 @@ pub fn tag_alone(text: &str) -> Result<u16, LineFault>
     ended(tag, rest)
 }
 
-/// A tag and a number, and nothing more.
+/// Reads a tag, a number of 32 bits and nothing more.
 #[tactic(auto, unfolding(crate::specs::Reading::tag_and_place))]
 pub fn tag_and_place(text: &str) -> Result<(u16, u32), LineFault>
     ensures { Gives (λ x. (x.0, x.1)) result (tag_and_place text.now) }
@@ -149,7 +150,7 @@ pub fn tag_and_place(text: &str) -> Result<(u16, u32), LineFault>
     ended((tag, place), rest)
 }
 
-/// A tag and two numbers, and nothing more.
+/// Reads a tag, two numbers of 32 bits and nothing more. The second may be less than the first.
 #[tactic(auto, unfolding(crate::specs::Reading::tag_and_range))]
 pub fn tag_and_range(text: &str) -> Result<(u16, u32, u32), LineFault>
     ensures { Gives (λ x. (x.0, x.1, x.2)) result (tag_and_range text.now) }
@@ -160,7 +161,7 @@ pub fn tag_and_range(text: &str) -> Result<(u16, u32, u32), LineFault>
     ended((tag, start, end), rest)
 }
 
-/// A tag, and a text that takes the rest.
+/// Reads a tag and a text that takes the rest of the line.
 #[tactic(auto, unfolding(crate::specs::Reading::tag_and_text))]
 pub fn tag_and_text(alloc: Global, text: &str) -> Result<(u16, Runes), LineFault>
     ensures { Gives (λ x. (x.0, x.1)) result (tag_and_text text.now) }

@@ -15,7 +15,9 @@ use sam_threads::Stop;
 use std::alloc::Global;
 use std::io::Write;
 
-/// Answers messages in turn, up to the first that is refused.
+/// Answers the messages in order, and writes each answer, up to the first message that the host refuses. Errors, for each message:
+/// `Side(Stop::Host(..))` if the host refuses it, `OutOfMemory` if there is no memory for its answer, `Write` if the answer can't be
+/// written.
 pub(crate) fn answer_all<W: Write>(
     alloc: Global,
     host: &mut Host,
@@ -42,7 +44,7 @@ pub(crate) fn answer_all<W: Write>(
     Ok(())
 }
 
-/// Writes the frames one after another.
+/// Writes the frames one after another. The errors are `OutOfMemory` and then `Write`.
 fn write_frames<W: Write>(alloc: Global, writer: &mut W, frames: &[HFrame]) -> Result<(), PlayFault>
     requires { FramesFit frames.now }
     ensures ok { OnOk result (Appends (W.contents writer.old) (W.contents writer.new) (flat_map frame_h frames.now)) }
@@ -58,7 +60,7 @@ fn write_frames<W: Write>(alloc: Global, writer: &mut W, frames: &[HFrame]) -> R
     }
 }
 
-/// The bytes of the frames, one after another.
+/// Returns the bytes of the frames, one frame after another. The error is want of memory.
 fn bytes_of(alloc: Global, frames: &[HFrame]) -> Result<Vec<u8>, MesgFault>
     requires { FramesFit frames.now }
     ensures { IfOk result (λ bytes. bytes.items ≡ flat_map frame_h frames.now) }
@@ -70,7 +72,7 @@ fn bytes_of(alloc: Global, frames: &[HFrame]) -> Result<Vec<u8>, MesgFault>
     Ok(bytes)
 }
 
-/// What a refusal of the host is for the program.
+/// Returns what a refusal of the host is for the program.
 fn of_host(fault: HostFault) -> PlayFault
     ensures { result ≡ of_refusal fault }
 {

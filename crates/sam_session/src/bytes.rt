@@ -1,4 +1,4 @@
-//! Frames in, answering frames out, over any reader and writer.
+//! Mode `bytes`: frames in, answering frames out, over any reader and writer.
 
 ghost use Rattle.std.specs.Prelude.{◌≡◌, ◌≤◌, ◌++◌, Some, None, IsErr, IfErr, OnOk, false, length};
 ghost use Rattle.sam_runes.specs.Texts.{max_runes};
@@ -19,12 +19,16 @@ use sam_threads::Stop;
 use std::alloc::Global;
 use std::io::{Read, Write};
 
-/// Answers the frames of the terminal that the reader gives, by a host whose file 1 is named `file` and holds the text, and
-/// writes the answering frames.
+/// Answers the frames of the terminal that the reader gives, and writes the answering frames. The host has one file: its tag is 1, its
+/// name `file`, and its text `text`, which has at most `MAX_RUNES` runes.
 ///
-/// It goes on to the end of the input, or to the first message that the host refuses, or to the first fault of the stream;
-/// half a frame at the end is one. The answers before that are written, and each piece's answers are flushed with it, since a
-/// peer may wait for them. An input of more than `MOST_INPUT` bytes is `Read`.
+/// It goes on to the end of the input. Before that it stops at the first message that the host refuses, or at the first fault of the
+/// stream, with the answers to what stands before it written. The answers to a piece are flushed before the next piece is read, since the
+/// other side may wait for them.
+///
+/// Errors, piece by piece: `Read` if a read fails or the input has more than `MOST_INPUT` bytes; `Side(Stop::Host(..))` for a message that
+/// the host refuses; `Side(Stop::Frame(..))` for a fault of the stream behind the messages, with 4 for half a frame at the end of the
+/// input; `Write` if a write fails, or if the flush does, which hides another fault of the piece. `OutOfMemory` may come at any place.
 pub fn play_bytes<R: Read, W: Write>(
     alloc: Global,
     reader: &mut R,
@@ -44,7 +48,7 @@ pub fn play_bytes<R: Read, W: Write>(
     answer_input(alloc, reader, writer, &mut host)
 }
 
-/// Answers the frames of an input piece by piece.
+/// Answers the frames of an input piece by piece, to its end.
 fn answer_input<R: Read, W: Write>(
     alloc: Global,
     reader: &mut R,
@@ -75,7 +79,7 @@ fn answer_input<R: Read, W: Write>(
     end_of(&framer)
 }
 
-/// Whether the stream may end here.
+/// Tests whether the stream may end here. The error is `Side(Stop::Frame(4))` if half a frame is held.
 fn end_of(framer: &FramerT) -> Result<(), PlayFault>
     requires { framer.now.failed ≡ false }
     ensures { MayEnd framer.now result }
@@ -86,7 +90,8 @@ fn end_of(framer: &FramerT) -> Result<(), PlayFault>
     }
 }
 
-/// Answers the messages that are whole with this piece, and flushes what was written, also before a fault.
+/// Answers the messages that are whole with this piece, and flushes what was written, also before a fault. A flush that fails is the error
+/// in place of that fault.
 fn answer_piece<W: Write>(
     alloc: Global,
     framer: &mut FramerT,
@@ -109,7 +114,7 @@ fn answer_piece<W: Write>(
     answered
 }
 
-/// Answers the messages that are whole with this piece, perhaps into the writer's buffer.
+/// Answers the messages that are whole with this piece. What it writes may stand in the writer's buffer yet.
 fn feed_and_answer<W: Write>(
     alloc: Global,
     framer: &mut FramerT,
@@ -140,7 +145,7 @@ fn feed_and_answer<W: Write>(
     }
 }
 
-/// Answers the messages before a fault of this number, and stops.
+/// Answers the messages before a fault of this number. The error is the fault, or what comes before it.
 fn answer_before<W: Write>(
     alloc: Global,
     host: &mut Host,

@@ -1,4 +1,4 @@
-//! What holds of the definitions alone.
+//! What holds of the program's definitions alone.
 
 ghost use Rattle.std.specs.Prelude.{◌≡◌, ℕ, List, Option};
 ghost use Rattle.sam_host.specs.Host.{PlainHost};
@@ -7,8 +7,8 @@ ghost use Rattle.sam_threads.specs.declared.stop.Stop.{Stop};
 
 use sam_mesg::{frame_says_t, one_frame_t};
 
-/// Over one host an input has one output and one end. So the program ends well only where nothing stops it, and it stops at a side's fault
-/// only where that fault is the first.
+/// States that over one host an input has one output and one end. So the program ends well only if nothing stops it, and it stops at a
+/// fault of a side only if that fault is the first. The function changes nothing; its clause is the law.
 pub fn one_outcome()
     ensures { (h : PlainHost) (input first second : List ℕ) (one other : Option Stop) → Plays h input first one
         → Plays h input second other → (first ≡ second) × (one ≡ other) }

@@ -1,4 +1,4 @@
-//! The program by its modes: bytes in and bytes out, over any reader and writer.
+//! The program `sam_play` by its modes: bytes in and bytes out, over any reader and writer.
 #![tactic(auto)]
 
 mod answering;

@@ -1,4 +1,4 @@
-//! Pieces of an input.
+//! Reading an input in pieces.
 
 ghost use Rattle.std.specs.Prelude.{◌≡◌, ◌<◌, ◌≤◌, IfOk, IfErr, take};
 ghost use Rattle.std.specs.Io.KnownBytes.{Consumes, IsAtEnd};
@@ -6,13 +6,14 @@ ghost use Rattle.std.specs.Io.KnownBytes.{Consumes, IsAtEnd};
 use crate::fault::PlayFault;
 use std::io::Read;
 
-/// The most bytes of one piece.
+/// The most bytes of a piece that is read at once.
 pub const PIECE: usize = 4_096;
 
-/// The most bytes of an input.
+/// The most bytes of an input. A longer one is `PlayFault::Read`.
 pub const MOST_INPUT: usize = 16_777_216;
 
-/// Reads at most `most` bytes into the front of the buffer; none where the input is at its end.
+/// Reads at most `most` bytes, and at most `PIECE`, into the front of the buffer. Returns how many it read: none only if the input is at
+/// its end. `most` is at least 1. Its only error is `Read`.
 pub(crate) fn read_piece<R: Read>(
     reader: &mut R,
     buffer: &mut [u8; PIECE],

@@ -1,4 +1,4 @@
-//! A script in, what it prints out.
+//! Mode `replay`: a script in, what it prints out.
 
 ghost use Rattle.std.specs.Prelude.{◌≡◌, ◌≤◌, OnOk, IfOk, IfErr, IfSome, length};
 ghost use Rattle.sam_script.specs.Spelling.{Spells};
@@ -13,7 +13,8 @@ use sam_threads::Stop;
 use std::alloc::Global;
 use std::io::{Read, Write};
 
-/// Replays the script that the reader has, and writes what it prints, or in place of all that the line of the fault.
+/// Replays the script that the reader gives, and writes what it prints, or in place of all that the line of the fault. The faults and
+/// their order stand at [`play`](crate::play).
 pub(crate) fn play_replay<R: Read, W: Write>(
     alloc: Global,
     reader: &mut R,
@@ -27,8 +28,8 @@ pub(crate) fn play_replay<R: Read, W: Write>(
     write_or_tell(writer, lines)
 }
 
-/// What the script that the reader has prints. The input is read whole before it is parsed, and parsed whole before its first line is
-/// done.
+/// Returns what the script that the reader gives prints. The input is read whole before it is parsed, and parsed whole before its first
+/// line is done.
 #[tactic(auto, using(crate::proofs::Scripts::replay_shown, crate::proofs::Scripts::replay_stopped, crate::proofs::Scripts::replay_unread))]
 fn replay_lines<R: Read>(alloc: Global, reader: &mut R) -> Result<Vec<u8>, PlayFault>
     ensures ok { IfOk result (λ lines. IfSome (R.remaining reader.old) (λ input. IsReplay input lines.items)) }
@@ -44,7 +45,8 @@ fn replay_lines<R: Read>(alloc: Global, reader: &mut R) -> Result<Vec<u8>, PlayF
     }
 }
 
-/// The script that the reader has, which is read whole before it is parsed.
+/// Reads the script that the reader gives. The input is read whole before it is parsed, so the errors are those of the reading, and then
+/// those of the script.
 #[tactic(auto, using(crate::proofs::Scripts::script_read, crate::proofs::Scripts::script_wrong, crate::proofs::Scripts::input_failed))]
 pub(crate) fn script_in<R: Read>(alloc: Global, reader: &mut R) -> Result<Script, PlayFault>
     ensures ok { IfOk result (λ script. IfSome (R.remaining reader.old) (λ input. (length input ≤ 16777216) × Spells input script)) }
@@ -60,7 +62,7 @@ pub(crate) fn script_in<R: Read>(alloc: Global, reader: &mut R) -> Result<Script
     }
 }
 
-/// What a fault of a script is for the program.
+/// Returns what a fault of a script is for the program.
 pub(crate) fn of_script(fault: ScriptFault) -> PlayFault
     ensures { result ≡ of_script fault }
 {

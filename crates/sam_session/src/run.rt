@@ -1,4 +1,4 @@
-//! The program by its mode.
+//! The program, run in one of its modes.
 
 ghost use Rattle.std.specs.Prelude.{◌≤◌, ◌<◌, Some, None, IfErr, IfSome, OnOk, length};
 ghost use Rattle.sam_runes.specs.Texts.{max_runes};
@@ -19,17 +19,26 @@ use std::io::{Read, Write};
 use std::sync::Wait;
 use std::thread::Threads;
 
-/// Runs the program in this mode, from the reader to the writer. `Bytes` answers frames as `play_bytes` does.
+/// Runs the program in this mode, from the reader to the writer.
 ///
-/// `Replay` and `Threads` read a script whole before they parse it, and parse it whole before anything is done. They write what it
-/// prints, or in place of all that the line of the fault alone. The faults in order:
+/// ```rust
+/// let mode = mode_of(alloc, words)?;
+/// let played = play(rt, alloc, &mut reader, &mut writer, mode);
+/// let status = status_of(&played);
+/// ```
 ///
-/// - `Read`: a read failed, or the input has more than `MOST_INPUT` bytes.
-/// - `Script(line)`: the first wrong line; else, in `Replay`, the line at which nothing is there to take.
-/// - `Threads`: the threads could not be started.
-/// - `Side(stop)`: a side stopped. In `Replay` it had counted as many messages as it can. In `Threads` it is the first stop of the
-///   session that has a cause of its own: a full count, or else that the other side is gone.
-/// - `Write`: the output or the line of the fault could not be written; of how much went out nothing is known.
+/// `Bytes` answers frames, with the faults that stand at [`play_bytes`]. Its text has at most `MAX_RUNES` runes.
+///
+/// `Replay` and `Threads` read the input whole before they parse it, and parse the script whole before anything is done. They write what
+/// the mode prints, or in place of all that the line of the fault. The numbers of `Threads` are at least 1. The faults, in this order:
+///
+/// - `Read` if a read failed, or if the input has more than `MOST_INPUT` bytes.
+/// - `Script(line)` at the first wrong line. If there is none, in `Replay`, at the first line that finds nothing to take.
+/// - `Threads` if the threads could not be started.
+/// - `Side(stop)` if a side stopped. In `Replay` it is `Stop::Host(6)`, whichever side had counted as many messages as it can. In
+///   `Threads` it is the first stop of the session that has a cause of its own, which is a full count; if no stop has one, it is
+///   `Stop::PeerGone`.
+/// - `Write` if the output, or the line of the fault, could not be written. How much went out is not known.
 ///
 /// `OutOfMemory` may come at any of these places.
 pub fn play<T: Threads + Wait + Sync, R: Read, W: Write>(
@@ -46,12 +55,10 @@ pub fn play<T: Threads + Wait + Sync, R: Read, W: Write>(
     ensures side { OnBytes mode (λ text. IfErr result (λ e. OnSide e (λ stop. Written (R.remaining reader.old) (W.contents writer.old)
         (W.contents writer.new) (λ input written. Plays (host_of text) input written (Some stop))))) }
     ensures fault { OnBytes mode (λ text. IfErr result IsOfBytes) }
-
     ensures replay { OnReplay mode (OnOk result (Written (R.remaining reader.old) (W.contents writer.old) (W.contents writer.new)
         IsReplay)) }
     ensures replay_fault { OnReplay mode (IfErr result (λ fault. IfSome (R.remaining reader.old) (λ input. IsReplayFault input fault))) }
     ensures replay_told { OnReplay mode (IfErr result (IsTold (W.contents writer.old) (W.contents writer.new))) }
-
     ensures threads { OnThreads mode (λ _ _. OnOk result (Written (R.remaining reader.old) (W.contents writer.old) (W.contents writer.new)
         IsThreaded)) }
     ensures threads_fault { OnThreads mode (λ _ _. IfErr result (λ fault. IfSome (R.remaining reader.old)

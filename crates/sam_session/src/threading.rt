@@ -1,4 +1,4 @@
-//! A script in, the schedule that its threads made and what its end shows out.
+//! Mode `threads`: a script in; the schedule that its threads made, and what the end of that shows, out.
 
 ghost use Rattle.std.specs.Prelude.{◌≡◌, ◌<◌, ◌++◌, ◌⊎◌, OnOk, IfOk, IfErr, IfSome, Some, None};
 ghost use Rattle.sam_script.specs.RunLines.{run_lines_of};
@@ -18,9 +18,8 @@ use std::io::{Read, Write};
 use std::sync::Wait;
 use std::thread::Threads;
 
-/// Runs the session of the script that the reader has on five threads, and writes what it came to, or in place of all that the line of
-/// the fault.
-
+/// Runs the session of the script that the reader gives on five threads, and writes what it came to, or in place of all that the line of
+/// the fault. The faults and their order stand at [`play`](crate::play).
 pub(crate) fn play_threads<T: Threads + Wait + Sync, R: Read, W: Write>(
     rt: &T,
     alloc: Global,
@@ -39,8 +38,8 @@ pub(crate) fn play_threads<T: Threads + Wait + Sync, R: Read, W: Write>(
     write_or_tell(writer, lines)
 }
 
-/// The schedule that five threads made of the script that the reader has, as a script that replays it, and what its end shows. The
-/// input is read whole before it is parsed.
+/// Returns the schedule that five threads made of the script that the reader gives, as a script that replays it, with what its end shows.
+/// The input is read whole before it is parsed.
 #[tactic(auto, using(crate::proofs::Sessions::session_shown, crate::proofs::Sessions::session_stops, crate::proofs::Sessions::no_session))]
 fn threads_lines<T: Threads + Wait + Sync, R: Read>(
     rt: &T,
@@ -64,7 +63,7 @@ fn threads_lines<T: Threads + Wait + Sync, R: Read>(
     }
 }
 
-/// Runs the session of a script on five threads, and answers what is written of it.
+/// Runs the session of a script on five threads, and returns what is written of it.
 #[tactic(auto, using(crate::proofs::Sessions::not_run, crate::proofs::Sessions::not_printed))]
 fn session_lines<T: Threads + Wait + Sync>(
     rt: &T,
@@ -89,7 +88,7 @@ fn session_lines<T: Threads + Wait + Sync>(
     Ok(lines)
 }
 
-/// What is written of a session that settled.
+/// Returns what is written of a session that was settled. The errors are the fault of its stops, and then `OutOfMemory`.
 fn lines_of(alloc: Global, script: &Script, settled: &Settled) -> Result<Vec<u8>, PlayFault>
     ensures whole { IfOk result (λ _. of_stops settled.now.stops.items ≡ None) }
     ensures lines { IfOk result (λ lines. lines.items
@@ -111,7 +110,8 @@ fn lines_of(alloc: Global, script: &Script, settled: &Settled) -> Result<Vec<u8>
     }
 }
 
-/// The fault of a session with these stops.
+/// Returns the fault of a session with these stops, or `None` if there are none: that of the first stop other than `PeerGone`, and
+/// `Side(Stop::PeerGone)` if there is no other.
 fn fault_of(stops: &[Stop]) -> Option<PlayFault>
     ensures { result ≡ of_stops stops.now }
 {
@@ -131,7 +131,7 @@ fn fault_of(stops: &[Stop]) -> Option<PlayFault>
     }
 }
 
-/// What it is for the program that no session was run.
+/// Returns what it is for the program that no session was run.
 fn of_run(fault: RunFault) -> PlayFault
     ensures { (result ≡ PlayFault.Threads) ⊎ (result ≡ PlayFault.OutOfMemory) }
 {

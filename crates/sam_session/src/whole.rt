@@ -1,4 +1,4 @@
-//! Whole inputs, and the lines of faults.
+//! Whole inputs, and the lines that name faults.
 
 ghost use Rattle.std.specs.Prelude.{◌≡◌, ◌≤◌, ◌⊎◌, Err, IfOk, IfErr, IsErr, OnOk, IfSome, length};
 ghost use Rattle.std.specs.Io.KnownBytes.{Appends};
@@ -10,7 +10,8 @@ use crate::reading::{MOST_INPUT, PIECE, read_piece};
 use std::alloc::Global;
 use std::io::{Read, Write};
 
-/// All that the reader has, at most `MOST_INPUT` bytes.
+/// Reads all that the reader has. Errors: `Read` if a read fails or the input has more than `MOST_INPUT` bytes, and `OutOfMemory`,
+/// whichever comes first in the input.
 pub(crate) fn read_all<R: Read>(alloc: Global, reader: &mut R) -> Result<Vec<u8>, PlayFault>
     ensures ok { IfOk result (λ bytes. (length bytes.items ≤ 16777216)
         × IfSome (R.remaining reader.old) (λ input. bytes.items ≡ input)) }
@@ -38,8 +39,8 @@ pub(crate) fn read_all<R: Read>(alloc: Global, reader: &mut R) -> Result<Vec<u8>
     }
 }
 
-/// Writes the lines, or in place of them the line of the fault. Where the lines can't be written, it tries to write the line of that
-/// fault behind what went out of them.
+/// Writes the lines, or in place of them the line of the fault, which it then returns. If a write fails the error is `Write`; if it was a
+/// write of the lines, it tries to write the line of that fault behind what went out.
 pub(crate) fn write_or_tell<W: Write>(
     writer: &mut W,
     lines: Result<Vec<u8>, PlayFault>,
@@ -57,7 +58,7 @@ pub(crate) fn write_or_tell<W: Write>(
     }
 }
 
-/// Tries to write the line of a failed write, which is the answer.
+/// Tries to write the line of a failed write, and returns that fault.
 fn tell_write<W: Write>(writer: &mut W) -> Result<(), PlayFault>
     ensures { result ≡ Err PlayFault.Write }
 {
@@ -65,7 +66,7 @@ fn tell_write<W: Write>(writer: &mut W) -> Result<(), PlayFault>
     Err(PlayFault::Write)
 }
 
-/// Writes the line of a fault, which is the answer then.
+/// Writes the line of a fault, and returns the fault; `Write` if the line can't be written.
 #[tactic(auto, using(crate::proofs::Scripts::told))]
 fn tell<W: Write>(writer: &mut W, fault: PlayFault) -> Result<(), PlayFault>
     ensures stops { IsErr result }
@@ -78,7 +79,7 @@ fn tell<W: Write>(writer: &mut W, fault: PlayFault) -> Result<(), PlayFault>
     }
 }
 
-/// Writes the line that names the fault, and takes no memory.
+/// Writes the line that names the fault. It takes no memory.
 fn write_fault<W: Write>(writer: &mut W, fault: &PlayFault) -> Result<(), PlayFault>
     ensures ok { OnOk result (Appends (W.contents writer.old) (W.contents writer.new) (fault_line fault.now)) }
     ensures fault { IfErr result (λ e. e ≡ PlayFault.Write) }
@@ -92,7 +93,7 @@ fn write_fault<W: Write>(writer: &mut W, fault: &PlayFault) -> Result<(), PlayFa
     }
 }
 
-/// Writes the line of a wrong script.
+/// Writes the line that names a line of the script.
 fn write_script_line<W: Write>(writer: &mut W, line: usize) -> Result<(), PlayFault>
     ensures ok { OnOk result (Appends (W.contents writer.old) (W.contents writer.new) (fault_line (PlayFault.Script line))) }
     ensures fault { IfErr result (λ e. e ≡ PlayFault.Write) }
@@ -103,7 +104,7 @@ fn write_script_line<W: Write>(writer: &mut W, line: usize) -> Result<(), PlayFa
     }
 }
 
-/// Writes a line.
+/// Writes a line as it stands, and turns a fault of the writer into `Write`.
 fn write_line<W: Write>(writer: &mut W, line: &[u8]) -> Result<(), PlayFault>
     ensures ok { OnOk result (Appends (W.contents writer.old) (W.contents writer.new) line.now) }
     ensures fault { IfErr result (λ e. e ≡ PlayFault.Write) }

@@ -12,25 +12,26 @@ use sam_runes::{MAX_RUNES, Runes};
 use std::alloc::{AllocError, AllocFailed, Global};
 use thiserror::Error;
 
-/// What the program is asked to do.
+/// What the program is asked to do. `mode_of` reads it from the program's words, and `play` does it.
 #[derive(Drop)]
 pub enum Mode {
-    /// Frames of the terminal in, answering frames out, over a host whose file 1 holds this text, of at most `MAX_RUNES` runes.
+    /// Reads frames of the terminal, and writes those that a host answers whose file 1 holds this text, of at most `MAX_RUNES` runes.
     Bytes(Runes),
-    /// A script in, what its `show` lines print out.
+    /// Reads a script, runs it, and writes what its `show` lines print.
     Replay,
-    /// A script in, the schedule that five threads made of its events and what its end shows out. The numbers are the most bytes of a
-    /// piece of the stream and the capacity of a line between threads, in entries.
+    /// Reads a script, runs its events on five threads, and writes the schedule that they made and what its end shows. The numbers, each
+    /// at least 1, are the most bytes of a piece of the stream and the capacity of a line between threads, in entries. From the words they
+    /// are at most 65,536 and 1,024.
     Threads(usize, usize),
 }
 
-/// The most bytes of a piece of the stream between threads.
+/// The most bytes that a piece of the stream between threads may have: the greatest number for `--piece`.
 pub const MOST_PIECE: usize = 65_536;
 
-/// The greatest capacity of a line between threads, in entries.
+/// The greatest capacity of a line between threads, in entries: the greatest number for `--cap`.
 pub const MOST_CAPACITY: usize = 1_024;
 
-// What help says of the program, its modes and their options. The ranges are those of `MOST_PIECE` and `MOST_CAPACITY`.
+// What help says of the program, its modes and their options. The ranges in it are those of `MOST_PIECE` and `MOST_CAPACITY`.
 const PROGRAM_HELP: &str = "A host and a terminal after Pike's sam, over standard input and output";
 
 const BYTES_HELP: &str =
@@ -47,12 +48,13 @@ const PIECE_HELP: &str = "The most bytes of a piece of the stream between thread
 
 const CAP_HELP: &str = "The capacity of a line between threads, from 1 to 1024";
 
-/// Why the words name no mode.
+/// Why the words name no mode. The program then does nothing, and its exit status is 2, or 4 for want of memory.
 #[derive(Clone, Copy, Debug, PartialEq, Eq, Error)]
 pub enum ArgFault {
-    /// They are none of the program's, or a value is out of its range; a wish for help is wrong too.
+    /// The words are none of the program's, or a value is out of its range. A wish for help is wrong, too.
     #[error("wrong arguments")]
     Wrong,
+    /// A request for memory was refused.
     #[error("out of memory")]
     OutOfMemory,
 }
@@ -79,7 +81,8 @@ impl From<clap::Error> for ArgFault {
     }
 }
 
-/// The mode that the words name; the first word is the program's name.
+/// Returns the mode that the words name. The first word is the program's name, and is not looked at. The errors are `Wrong` if the words
+/// name no mode, and `OutOfMemory`, which may come before it.
 pub fn mode_of(alloc: Global, words: Vec<String>) -> Result<Mode, ArgFault>
     ensures { IfOk result (IsModeOf (map string_bytes words.items)) }
 {
@@ -88,8 +91,8 @@ pub fn mode_of(alloc: Global, words: Vec<String>) -> Result<Mode, ArgFault>
     mode_in(alloc, &matches)
 }
 
-/// What to tell a person whose words name no mode: the help that they wish for, or what is wrong with them. Only want of
-/// memory refuses it; what the text says is no promise.
+/// Returns what to tell a person whose words name no mode: the help that they wish for, or what is wrong with them. The first word is the
+/// program's name. Its only error is want of memory. What the text says is no promise.
 pub fn usage(alloc: Global, words: Vec<String>) -> Result<String, AllocError> {
     let words = with_text_attached(alloc, &words)?;
     let mut command = command(alloc)?;
@@ -104,7 +107,7 @@ pub fn usage(alloc: Global, words: Vec<String>) -> Result<String, AllocError> {
     error.to_string(alloc)
 }
 
-/// The words with each `--text TEXT` as one word, so that clap takes TEXT as it stands.
+/// Returns the words with each `--text TEXT` as the one word `--text=TEXT`, so that clap takes TEXT as it stands.
 fn with_text_attached(alloc: Global, words: &Vec<String>) -> Result<Vec<String>, AllocError>
     ensures { IfOk result (λ v. map string_bytes v.items ≡ attached (map string_bytes words.now.items)) }
 {
@@ -130,7 +133,7 @@ fn with_text_attached(alloc: Global, words: &Vec<String>) -> Result<Vec<String>,
     Ok(out)
 }
 
-/// A command with what its help says of it.
+/// Makes a command, with what its help says of it.
 fn command_named<'a>(alloc: Global, name: &'a str, about: &'a str) -> Command<'a>
     ensures app { app_of result ≡ new_app name.entry.now }
     ensures local { (out-Command result).has_globals ≡ false }
@@ -138,7 +141,7 @@ fn command_named<'a>(alloc: Global, name: &'a str, about: &'a str) -> Command<'a
     Command::new(alloc, name).about(about)
 }
 
-/// An option with one value and a default, and what its help says of it.
+/// Makes an option with one value and a default, and with what its help says of it.
 fn option_named<'a>(alloc: Global, name: &'a str, default: &'a str, help: &'a str) -> Arg<'a>
     ensures rule { rule_of result ≡ option_of name.entry.now default.entry.now }
     ensures local { result.global ≡ false }
@@ -149,7 +152,7 @@ fn option_named<'a>(alloc: Global, name: &'a str, default: &'a str, help: &'a st
         .help(help)
 }
 
-/// The program's command line.
+/// Makes the program's command line.
 fn command<'a>(alloc: Global) -> Result<Command<'a>, AllocError>
     ensures { IfOk result (λ c. app_of c ≡ program) }
 {
@@ -166,7 +169,7 @@ fn command<'a>(alloc: Global) -> Result<Command<'a>, AllocError>
         .subcommand(threads)
 }
 
-/// The mode that the matches hold.
+/// Returns the mode that the matches hold.
 fn mode_in(alloc: Global, matches: &ArgMatches<'_>) -> Result<Mode, ArgFault>
     ensures { IfOk result (HoldsMode (subcommand_rows_of matches.now)) }
 {
@@ -187,7 +190,7 @@ fn mode_in(alloc: Global, matches: &ArgMatches<'_>) -> Result<Mode, ArgFault>
     Err(ArgFault::Wrong)
 }
 
-/// The runes of `--text`.
+/// Returns the runes of `--text`. The errors are `OutOfMemory`, and then `Wrong` if they are more than `MAX_RUNES`.
 fn text_in(alloc: Global, matches: &ArgMatches<'_>) -> Result<Runes, ArgFault>
     ensures value { IfOk result (λ text. first_of (codes "text") (rows_of (found_of matches.now)) ≡ Some (encode_utf8_all text)) }
     ensures limit { IfOk result (λ text. length text ≤ max_runes) }
@@ -202,7 +205,7 @@ fn text_in(alloc: Global, matches: &ArgMatches<'_>) -> Result<Runes, ArgFault>
     Ok(Runes::from_vec(runes))
 }
 
-/// The number that an option's value writes in decimal digits alone, from 1 to `most`.
+/// Returns the number that an option's value writes in decimal digits alone. It is `Wrong` if it is not from 1 to `most`.
 fn number_in(matches: &ArgMatches<'_>, name: &str, most: usize) -> Result<usize, ArgFault>
     ensures { IfOk result (λ n. HoldsNumber (first_of name.now (rows_of (found_of matches.now))) most n) }
 {
@@ -219,7 +222,7 @@ fn number_in(matches: &ArgMatches<'_>, name: &str, most: usize) -> Result<usize,
     }
 }
 
-/// The runes that the text spells.
+/// Returns the runes that the text spells.
 fn runes_of(alloc: Global, text: &str) -> Result<Vec<char>, AllocError>
     ensures { IfOk result (λ runes. encode_utf8_all runes.items ≡ text.now) }
 {

@@ -1,4 +1,4 @@
-//! The oldest held event: what stands against it, and what it does.
+//! What `act` does with the oldest held event: the tests that may stand against it, and the deed that it calls for.
 
 ghost use Rattle.std.specs.Prelude.{◌≡◌, ◌∷◌, [], IsTrue, None, drop};
 ghost use Rattle.sam_runes.specs.Checks.{first_of_checks};
@@ -18,7 +18,8 @@ use sam_mesg::Tmesg;
 use sam_runes::utf8_within;
 
 impl Terminal {
-    /// Tries the oldest held event, as the definition says.
+    /// Tries the oldest held event, as `Terminal::act` says. Errors, in this order: `CountFull`; `OutOfMemory`. The terminal is then
+    /// unchanged.
     pub(crate) fn try_oldest(&mut self) -> Result<Acted, TermFault>
         ensures { IsAnswer self.old self.new result (act_of self.old) }
     {
@@ -34,7 +35,7 @@ impl Terminal {
         }
     }
 
-    /// What stands against an event.
+    /// Returns what stands against an event: the first test that holds, in the order that `Refusal` tells, or `None`.
     fn verdict(&self, event: &UserEvent) -> Option<Verdict>
         ensures { result ≡ first_of_checks (event_checks self.now event.now) }
     {
@@ -73,6 +74,7 @@ impl Terminal {
         None
     }
 
+    /// Returns whether the file that an event names, if any, is not known.
     fn is_unknown(&self, file: Option<u16>) -> bool
         ensures { result ≡ is_unknown self.now file }
     {
@@ -82,6 +84,7 @@ impl Terminal {
         }
     }
 
+    /// Returns whether the file that an event names, if any, is not open.
     fn is_closed(&self, file: Option<u16>) -> bool
         ensures { result ≡ is_closed self.now file }
     {
@@ -91,6 +94,7 @@ impl Terminal {
         }
     }
 
+    /// Returns whether the file that an event names, if any, has a lock. The command lock does not count.
     fn is_file_locked(&self, file: Option<u16>) -> bool
         ensures { result ≡ is_file_locked self.now file }
     {
@@ -100,6 +104,7 @@ impl Terminal {
         }
     }
 
+    /// Returns whether an event names a place past the end of the rasp, or a range that ends before it begins.
     fn has_bad_place(&self, event: &UserEvent) -> bool
         ensures { result ≡ has_bad_place self.now event.now }
     {
@@ -111,6 +116,7 @@ impl Terminal {
         }
     }
 
+    /// Returns whether the text of an event is too long for its message.
     fn has_long_text(&self, event: &UserEvent) -> bool
         ensures { result ≡ has_long_text self.now event.now }
     {
@@ -121,6 +127,7 @@ impl Terminal {
         }
     }
 
+    /// Returns whether an event would type so many runes that the file has more than 1,000,000.
     fn makes_too_long(&self, event: &UserEvent) -> bool
         ensures { result ≡ makes_too_long self.now event.now }
     {
@@ -130,7 +137,7 @@ impl Terminal {
         }
     }
 
-    /// What an event does that nothing stands against.
+    /// Returns what the terminal has to do for an event that nothing stands against.
     fn deed_of(&self, event: &UserEvent) -> Deed
         ensures { result ≡ deed_of self.now event.now }
     {
@@ -177,7 +184,7 @@ impl Terminal {
         }
     }
 
-    /// An event that is not done waits, or is dropped.
+    /// Drops the oldest held event if it is refused, or leaves it if it waits, and returns what became of it.
     fn not_done(&mut self, verdict: Verdict) -> Acted
         ensures { not_done verdict self.old ≡ (self.new, result) }
     {
@@ -197,7 +204,8 @@ impl Terminal {
         let _ = self.held.take_first();
     }
 
-    /// Does what the oldest held event does. Nothing stands against it.
+    /// Does the deed of the oldest held event, and drops the event. Errors, in this order: `CountFull`; `OutOfMemory`. The terminal is then
+    /// unchanged.
     fn perform(&mut self, deed: Deed) -> Result<Acted, TermFault>
         requires free { free_first self.old ≡ None }
         requires deed { deed ≡ deed_of self.old (first_event self.old.held) }
@@ -216,7 +224,8 @@ impl Terminal {
         }
     }
 
-    /// Composes the unsent runes, and then the message of the oldest event, which is done.
+    /// Composes the unsent runes and then the message of the oldest event, which is dropped. Errors, in this order: `CountFull`;
+    /// `OutOfMemory`. The terminal is then unchanged.
     fn send_for_event(&mut self, message: Tmesg) -> Result<Acted, TermFault>
         requires opened { IsTrue (is_lockable self.old (lock_of message)) }
         ensures { IsAnswer self.old self.new result (done (sends (record self.old { held = drop 1 self.old.held }) unchanged (message ∷ []))) }

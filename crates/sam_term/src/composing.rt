@@ -1,4 +1,4 @@
-//! Composing messages.
+//! Composing messages: each is counted and takes its lock, and the unsent runes go first. It also finds the request that a file wants.
 
 ghost use Rattle.std.specs.Prelude.{◌≡◌, ◌⊎◌, ◌++◌, ◌∷◌, ◌+◌, ◌<◌, ◌≤◌, [], length, IfOk, IfErr, OnOk, IsTrue};
 ghost use Rattle.sam_rasp.specs.Rasp.{hole_within};
@@ -16,7 +16,8 @@ use crate::term::Terminal;
 use sam_mesg::{Batch, Tmesg};
 
 impl Terminal {
-    /// Composes the unsent runes, as the definition says.
+    /// Composes the unsent runes, if there are any. Errors, in this order: `CountFull`; `OutOfMemory`, which may come even if there are
+    /// none. The terminal is then unchanged.
     pub(crate) fn flush_now(&mut self) -> Result<Batch, TermFault>
         ensures { IsAnswer self.old self.new result (flush_of self.old) }
     {
@@ -30,7 +31,7 @@ impl Terminal {
         Ok(out.into_batch())
     }
 
-    /// Counts a message, and takes its lock; a request also awaits its data.
+    /// Counts a message and takes its lock. `asks` tells that it is a request, whose file then awaits its data.
     fn take_lock(&mut self, lock: Lock, asks: bool)
         requires counts { self.old.sent < most_count }
         requires opened { IsTrue (is_lockable self.old lock) }
@@ -46,7 +47,7 @@ impl Terminal {
         }
     }
 
-    /// Counts a message that takes a lock of a file.
+    /// Counts a message and takes a lock of an open file. `asks` tells that it is a request.
     fn lock_file(&mut self, tag: u16, asks: bool)
         requires counts { self.old.sent < most_count }
         requires opened { IsTrue (is_open self.old tag) }
@@ -59,7 +60,8 @@ impl Terminal {
         self.sent += 1;
     }
 
-    /// Composes a message: it is counted, and takes its lock.
+    /// Composes a message: it is counted, takes its lock, and goes behind the others of the outbox. The caller makes sure of all that could
+    /// stand against it, so it cannot fail.
     pub(crate) fn compose(&mut self, message: Tmesg, out: &mut Outbox)
         requires counts { self.old.sent < most_count }
         requires opened { IsTrue (is_lockable self.old (lock_of message)) }
@@ -72,14 +74,14 @@ impl Terminal {
         out.put(message);
     }
 
-    /// How many messages the unsent runes make.
+    /// Returns how many messages the unsent runes make: 1, or 0 if there are none.
     pub(crate) fn unsent_count(&self) -> u64
         ensures { result ≡ length (unsent_message self.now.unsent) }
     {
         if self.unsent.is_some() { 1 } else { 0 }
     }
 
-    /// Composes the unsent runes.
+    /// Composes the unsent runes, if there are any. Nothing is unsent afterwards.
     pub(crate) fn compose_unsent(&mut self, out: &mut Outbox)
         requires counts { self.old.sent + length (unsent_message self.old.unsent) ≤ most_count }
         requires room { 0 < out.old.room }
@@ -92,7 +94,7 @@ impl Terminal {
         }
     }
 
-    /// Composes the unsent runes, and then the message.
+    /// Composes the unsent runes and then the message. Errors, in this order: `CountFull`; `OutOfMemory`. The terminal is then unchanged.
     pub(crate) fn send(&mut self, message: Tmesg) -> Result<Batch, TermFault>
         requires opened { IsTrue (is_lockable self.old (lock_of message)) }
         ensures { IsAnswer self.old self.new result (countable (sends self.old unchanged (message ∷ []))) }
@@ -109,7 +111,8 @@ impl Terminal {
         Ok(out.into_batch())
     }
 
-    /// Whether so many messages more can be counted, and memory for `n`, before anything changes.
+    /// Makes an outbox with room for `n` messages, after a test that `count` more can be counted. It comes before the first change of a
+    /// call. Errors, in this order: `CountFull`; `OutOfMemory`.
     pub(crate) fn prepare(&self, count: u64, n: usize) -> Result<Outbox, TermFault>
         ensures ok { IfOk result (λ out. out ≡ record { messages = []; room = n }) }
         ensures counts { OnOk result (self.now.sent + count ≤ most_count) }
@@ -125,7 +128,7 @@ impl Terminal {
         Ok(out)
     }
 
-    /// Composes the unsent runes, and then the message, with memory that was had.
+    /// Composes the unsent runes and then the message into an outbox that has room for both.
     pub(crate) fn send_prepared(&mut self, message: Tmesg, out: &mut Outbox)
         requires counts { self.old.sent + length (unsent_message self.old.unsent) < most_count }
         requires opened { IsTrue (is_lockable self.old (lock_of message)) }
@@ -138,7 +141,8 @@ impl Terminal {
         self.compose(message, out);
     }
 
-    /// The request that a file wants: for the first gap that its view shows, unless one is awaited already.
+    /// Returns the request that a file wants: for the first stretch of gaps in its view, at most 512 of them. `None` if there is no gap,
+    /// the file is not open, the session is over, or a request is awaited already. The cost goes by the sections before the gap.
     pub(crate) fn wanted(&self, tag: u16) -> Option<Tmesg>
         ensures { result ≡ wanted self.now tag }
     {
@@ -155,7 +159,7 @@ impl Terminal {
     }
 }
 
-/// The request for the first gap that a view shows.
+/// Returns the request for the first stretch of gaps in the view of a window, if it has one.
 fn request_in(window: &Window, tag: u16) -> Option<Tmesg>
     requires { window.now.view_start ≤ length window.now.rasp }
     ensures { result ≡ request_for tag (hole_within window.now.rasp window.now.view_start (view_end window.now)) }
@@ -169,7 +173,7 @@ fn request_in(window: &Window, tag: u16) -> Option<Tmesg>
     }
 }
 
-/// Where a view ends.
+/// Returns the place where the view of a window ends: its start plus the wished length, or the end of the rasp if that comes first.
 pub fn end_of_view(window: &Window) -> u32
     requires { window.now.view_start ≤ length window.now.rasp }
     ensures { result ≡ view_end window.now }

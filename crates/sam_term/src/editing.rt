@@ -1,4 +1,6 @@
-//! What the events do that change a rasp, a dot or a view, or send runes.
+//! What the events `Select`, `Cut`, `Paste`, `Snarf`, `View`, `SetSnarf` and `Flush` do. (`typing` has `Typed`; each of the others only
+//! composes a message, by `send_for_event` in `acting`.) A `make_` method does the oldest held event and drops it. Its errors, in this
+//! order: `CountFull`; `OutOfMemory`. The terminal is then unchanged.
 
 ghost use Rattle.std.specs.Prelude.{◌≡◌, ◌+◌, ◌<◌, ◌≤◌, ◌++◌, ◌∷◌, [], length, min, IsTrue, None, drop};
 ghost use Rattle.sam_rasp.specs.Rasp.{hole_within};
@@ -19,7 +21,7 @@ use sam_mesg::{Batch, Tmesg};
 use sam_runes::Runes;
 
 impl Terminal {
-    /// Sets a dot.
+    /// Does a `Select`: sets the dot. It composes nothing and has no error.
     pub(crate) fn make_select(&mut self, tag: u16, p: u32, q: u32) -> Result<Acted, TermFault>
         requires free { free_first self.old ≡ None }
         requires first { first_event self.old.held ≡ UserEvent.Select tag p q }
@@ -30,7 +32,7 @@ impl Terminal {
         Ok(self.done_quietly())
     }
 
-    /// Cuts the dot of a file into the snarf buffer.
+    /// Does a `Cut`: composes `Tsnarf` and `Tcut` of the dot, which goes out of the rasp. An empty dot is left alone.
     pub(crate) fn make_cut(&mut self, tag: u16) -> Result<Acted, TermFault>
         requires free { free_first self.old ≡ None }
         requires first { first_event self.old.held ≡ UserEvent.Cut tag }
@@ -54,7 +56,8 @@ impl Terminal {
         }
     }
 
-    /// Cuts the dot of a file, and asks for the snarf buffer in its place.
+    /// Does a `Paste`: composes `Tcut` of the dot, which goes out of the rasp, unless it is empty, and then `Tpaste` in its place. What is
+    /// pasted comes with the host's answer, and a lock of the file is held until then.
     pub(crate) fn make_paste(&mut self, tag: u16) -> Result<Acted, TermFault>
         requires free { free_first self.old ≡ None }
         requires first { first_event self.old.held ≡ UserEvent.Paste tag }
@@ -77,7 +80,7 @@ impl Terminal {
         }
     }
 
-    /// Sends the dot of a file to the snarf buffer.
+    /// Does a `Snarf`: composes `Tsnarf` of the dot, unless it is empty.
     pub(crate) fn make_snarf(&mut self, tag: u16) -> Result<Acted, TermFault>
         requires free { free_first self.old ≡ None }
         requires first { first_event self.old.held ≡ UserEvent.Snarf tag }
@@ -91,7 +94,7 @@ impl Terminal {
         self.send_last(Tmesg::Tsnarf(tag, dot.0, dot.1))
     }
 
-    /// Shows a file from a place on, and asks for the first gap that is shown.
+    /// Does a `View`: shows a file from `p` on, `n` runes and gaps at most, and composes the request that it then wants, if any.
     pub(crate) fn make_view(&mut self, tag: u16, p: u32, n: u32) -> Result<Acted, TermFault>
         requires free { free_first self.old ≡ None }
         requires first { first_event self.old.held ≡ UserEvent.View tag p n }
@@ -114,7 +117,7 @@ impl Terminal {
         }
     }
 
-    /// Sends the runes of the oldest event to the snarf buffer.
+    /// Does a `SetSnarf`: composes its runes as `Tsetsnarf`.
     pub(crate) fn make_set_snarf(&mut self) -> Result<Acted, TermFault>
         requires free { free_first self.old ≡ None }
         requires first { IsTrue (is_snarfing (first_event self.old.held)) }
@@ -131,7 +134,7 @@ impl Terminal {
         }
     }
 
-    /// Composes the unsent runes.
+    /// Does a `Flush`: composes the unsent runes, if there are any.
     pub(crate) fn make_flush(&mut self) -> Result<Acted, TermFault>
         requires free { free_first self.old ≡ None }
         requires first { first_event self.old.held ≡ UserEvent.Flush }
@@ -146,7 +149,7 @@ impl Terminal {
         }
     }
 
-    /// Composes the unsent runes, and then the message of the oldest event, which is done.
+    /// Composes the unsent runes and then the message of the oldest event, which is dropped.
     fn send_last(&mut self, message: Tmesg) -> Result<Acted, TermFault>
         requires opened { IsTrue (is_lockable self.old (lock_of message)) }
         ensures { IsAnswer self.old self.new result (done (sends (record self.old { held = drop 1 self.old.held }) unchanged (message ∷ []))) }
@@ -160,7 +163,7 @@ impl Terminal {
         }
     }
 
-    /// Composes the unsent runes, and then cuts the dot of a file out of its partial text.
+    /// Composes the unsent runes, and then takes the dot of a file out of its rasp. The caller composes the cut.
     pub(crate) fn cut_selected(&mut self, tag: u16, dot: (u32, u32), out: &mut Outbox)
         requires opened { IsTrue (is_open self.old tag) }
         requires dot { dot ≡ (window_at self.old tag).dot }
@@ -175,7 +178,7 @@ impl Terminal {
         self.cut_file(tag, dot.0, dot.1 - dot.0);
     }
 
-    /// Shows an open file from `p` on, `n` runes where it has so many.
+    /// Shows an open file from `p` on, `n` runes and gaps at most.
     fn set_view(&mut self, tag: u16, p: u32, n: u32)
         requires opened { IsTrue (is_open self.old tag) }
         requires within { p ≤ length (window_at self.old tag).rasp }
@@ -187,7 +190,7 @@ impl Terminal {
         self.files.put_window(tag, window);
     }
 
-    /// The request that an open file wants once it is shown from `p` on.
+    /// Returns the request that an open file will want once it is shown from `p` on. Its view is still the old one.
     fn wanted_from(&self, tag: u16, p: u32, n: u32) -> Option<Tmesg>
         requires opened { IsTrue (is_open self.now tag) }
         requires within { p ≤ length (window_at self.now tag).rasp }
@@ -202,7 +205,7 @@ impl Terminal {
         request_from(window, tag, p, n)
     }
 
-    /// Takes the oldest event out, and gives its runes, which are for the snarf buffer.
+    /// Takes the oldest event, a `SetSnarf`, out of the held ones and returns its runes.
     fn take_snarf(&mut self) -> Runes
         requires { IsTrue (is_snarfing (first_event self.old.held)) }
         ensures runes { first_event self.old.held ≡ UserEvent.SetSnarf result }
@@ -221,7 +224,7 @@ impl Terminal {
         let _ = self.held.take_first();
     }
 
-    /// An event is done that composed these messages.
+    /// Returns `Done` with the messages that an event composed.
     pub(crate) fn done_with(&self, out: Outbox) -> Acted
         ensures done { result ≡ Acted.Done out.messages }
         ensures countable { self.now.sent ≤ most_count }
@@ -230,7 +233,7 @@ impl Terminal {
         Acted::Done(out.into_batch())
     }
 
-    /// An event is done that composed no message.
+    /// Returns `Done` with no messages. No memory is asked for.
     pub(crate) fn done_quietly(&self) -> Acted
         ensures done { result ≡ Acted.Done [] }
         ensures countable { self.now.sent ≤ most_count }
@@ -239,7 +242,7 @@ impl Terminal {
     }
 }
 
-/// The request for the first gap from `p` on, among the `n` places that are shown.
+/// Returns the request for the first stretch of gaps from `p` on, among `n` runes and gaps, if there is one.
 fn request_from(window: &Window, tag: u16, p: u32, n: u32) -> Option<Tmesg>
     requires { p ≤ length window.now.rasp }
     ensures { result ≡ request_for tag (hole_within window.now.rasp p (min (p + n) (length window.now.rasp))) }
@@ -251,7 +254,7 @@ fn request_from(window: &Window, tag: u16, p: u32, n: u32) -> Option<Tmesg>
     }
 }
 
-/// The runes of an event that are for the snarf buffer.
+/// Returns the runes of a `SetSnarf`, which is used up.
 fn snarf_of(event: UserEvent) -> Runes
     requires { IsTrue (is_snarfing event) }
     ensures { event ≡ UserEvent.SetSnarf result }

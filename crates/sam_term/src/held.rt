@@ -7,9 +7,11 @@ use std::alloc::{AllocError, Global};
 use std::collections::VecDeque;
 use std::marker::Model;
 
-/// Held events, which contracts see as a list with the oldest first.
+/// The held events in the order in which the user made them. They leave only at the front, so none acts before those in front of it.
+/// Contracts see a list with the oldest first.
 #[derive(Drop)]
 pub struct HeldEvents {
+    /// The events, the oldest in front.
     events: VecDeque<UserEvent>,
 }
 
@@ -23,7 +25,7 @@ impl Model for HeldEvents {
 }
 
 impl HeldEvents {
-    /// No events.
+    /// Returns a queue with no events. No memory is asked for.
     pub fn new(alloc: Global) -> HeldEvents
         ensures { result ≡ [] }
     {
@@ -32,14 +34,14 @@ impl HeldEvents {
         }
     }
 
-    /// How many there are.
+    /// Returns how many events there are.
     pub fn len(&self) -> usize
         ensures { result ≡ length self.now }
     {
         self.events.len()
     }
 
-    /// Puts an event behind the others.
+    /// Puts an event behind the others. The only error is want of memory, and nothing has changed then.
     pub fn put(&mut self, event: UserEvent) -> Result<(), AllocError>
         ensures ok { OnOk result (self.new ≡ self.old ++ event ∷ []) }
         ensures err { OnErr result (self.new ≡ self.old) }
@@ -48,14 +50,14 @@ impl HeldEvents {
         Ok(())
     }
 
-    /// The oldest event.
+    /// Returns the oldest event, or `None` if there is none.
     pub fn first(&self) -> Option<&UserEvent>
         ensures { option_copied result ≡ slice_get self.now 0 }
     {
         self.events.front()
     }
 
-    /// Takes the oldest event out.
+    /// Takes the oldest event out and returns it, or returns `None` if there is none.
     pub fn take_first(&mut self) -> Option<UserEvent>
         ensures event { result ≡ slice_get self.old 0 }
         ensures others { self.new ≡ drop 1 self.old }

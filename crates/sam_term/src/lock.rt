@@ -1,4 +1,4 @@
-//! Which message takes which lock as it is composed.
+//! The lock that each kind of message takes as it is composed, as in samterm, and small tests of texts and messages.
 
 ghost use Rattle.std.specs.Prelude.{◌≡◌, ◌||◌};
 ghost use Rattle.sam_runes.specs.Texts.{ends_line, snarf_limit};
@@ -8,15 +8,19 @@ ghost use Rattle.sam_term.specs.Locks.{lock_of};
 use sam_mesg::Tmesg;
 use sam_runes::Runes;
 
-/// No lock, the command lock, or one lock of a file.
+/// The lock that composing a message takes. It keeps the user out of a file, or of all files, until the host's answer has come: a frame
+/// frees it.
 #[derive(Drop)]
 pub enum Lock {
+    /// None: the user may go on at once.
     NoLock,
+    /// The command lock, under which no event acts. `Hunlock` or `Hexit` frees it.
     CommandLock,
+    /// One lock of this file, under which no event on it acts. `Hunlockfile` frees one, `Hclose` all of the file, `Hexit` all.
     FileLock(u16),
 }
 
-/// Whether the last rune is a newline.
+/// Returns whether the last rune is a newline; false if there are no runes.
 pub fn ends_line(text: &Runes) -> bool
     ensures { result ≡ ends_line text.now }
 {
@@ -26,14 +30,14 @@ pub fn ends_line(text: &Runes) -> bool
     }
 }
 
-/// Whether one of both is so.
+/// Returns whether `a` or `b` is true, or both.
 pub fn either(a: bool, b: bool) -> bool
     ensures { result ≡ (a || b) }
 {
     a || b
 }
 
-/// Whether the message is a request for runes.
+/// Returns whether a message is a `Trequest`, whose file then awaits its `Hdata`.
 pub fn is_request(message: &Tmesg) -> bool
     ensures { result ≡ is_request message.now }
 {
@@ -43,7 +47,7 @@ pub fn is_request(message: &Tmesg) -> bool
     }
 }
 
-/// The lock that composing the message takes.
+/// Returns the lock that composing a message takes. A `Ttype` takes the command lock if it ends a line of the command file, else none.
 pub fn lock_of(message: &Tmesg) -> Lock
     ensures { result ≡ lock_of message.now }
 {
@@ -79,7 +83,7 @@ pub fn lock_of(message: &Tmesg) -> Lock
     }
 }
 
-/// How many bytes the text of the snarf buffer may have in a message.
+/// Returns how many bytes of UTF-8 a snarfed text may have in one message of a version: 4,096 in version 1, else 32,000.
 pub fn snarf_limit(version: u16) -> usize
     ensures { result ≡ snarf_limit version }
 {

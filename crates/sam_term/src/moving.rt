@@ -1,4 +1,5 @@
-//! Places that move with the text of a file, and the changes of its window.
+//! How a place moves as a text changes, and the changes of one `Window` with its dot and its view. They know nothing of tags or of the
+//! terminal. Only the functions for unsent runes are given a tag, since these may be of another file.
 
 ghost use Rattle.std.specs.Prelude.{◌≡◌, ◌+◌, ◌<◌, ◌≤◌, ◌^◌, length, OnErr, OnOk, Some, None, false, map, replicate, IfSome};
 ghost use Rattle.sam_rasp.specs.Rasp.{place_after_ins, place_after_del, load_cells};
@@ -9,7 +10,7 @@ ghost use Rattle.sam_term.specs.Term.{unsent_without, moved_unsent, window_after
 use crate::files::{Unsent, Window};
 use std::alloc::AllocError;
 
-/// Where a place goes as `n` runes or gaps come in at `p`.
+/// Returns where a place goes as `n` runes or gaps come in at `p`: one above `p` moves by `n`, the others stay.
 fn after_ins(p: u32, n: u32, place: u32) -> u32
     requires { place + n < 2 ^ 32 }
     ensures { result ≡ place_after_ins p n place }
@@ -17,7 +18,8 @@ fn after_ins(p: u32, n: u32, place: u32) -> u32
     if p < place { place + n } else { place }
 }
 
-/// Where a place goes as the `n` runes or gaps from `p` on are taken out.
+/// Returns where a place goes as the `n` runes or gaps from `p` on are taken out: one behind them moves back by `n`, and one among them
+/// goes to `p`.
 fn after_del(p: u32, n: u32, place: u32) -> u32
     ensures { result ≡ place_after_del p (p + n) place }
 {
@@ -30,7 +32,7 @@ fn after_del(p: u32, n: u32, place: u32) -> u32
     }
 }
 
-/// Moves the unsent runes of a file as `n` runes or gaps come in at `p`.
+/// Moves the place of the unsent runes, if they are of this file, as `n` runes or gaps come in at `p`.
 pub fn move_by_ins(unsent: &mut Option<Unsent>, tag: u16, p: u32, n: u32)
     requires within { IfSome unsent.old (λ u. u.place ≤ max_runes) }
     requires size { n ≤ max_runes }
@@ -43,7 +45,7 @@ pub fn move_by_ins(unsent: &mut Option<Unsent>, tag: u16, p: u32, n: u32)
     }
 }
 
-/// Moves the unsent runes of a file as the `n` runes or gaps from `p` on are taken out.
+/// Moves the place of the unsent runes, if they are of this file, as the `n` runes or gaps from `p` on are taken out.
 pub fn move_by_del(unsent: &mut Option<Unsent>, tag: u16, p: u32, n: u32)
     ensures { unsent.new ≡ moved_unsent tag (place_after_del p (p + n)) unsent.old }
 {
@@ -54,7 +56,7 @@ pub fn move_by_del(unsent: &mut Option<Unsent>, tag: u16, p: u32, n: u32)
     }
 }
 
-/// Moves the places of a window as `n` runes or gaps come in at `p`.
+/// Moves dot and view of a window as `n` runes or gaps come in at `p`.
 fn shift_window(window: &mut Window, p: u32, n: u32)
     requires within { AreWithin max_runes window.old }
     requires size { n ≤ max_runes }
@@ -64,7 +66,7 @@ fn shift_window(window: &mut Window, p: u32, n: u32)
     window.view_start = after_ins(p, n, window.view_start);
 }
 
-/// Puts `n` gaps into a window at `p`.
+/// Puts `n` gaps into a window at `p`. The only error is want of memory, and the window is then unchanged.
 pub fn grow_window(window: &mut Window, p: u32, n: u32) -> Result<(), AllocError>
     requires place { p ≤ length window.old.rasp }
     requires size { length window.old.rasp + n ≤ max_runes }
@@ -79,7 +81,7 @@ pub fn grow_window(window: &mut Window, p: u32, n: u32) -> Result<(), AllocError
     Ok(())
 }
 
-/// Puts runes into a window at `p`.
+/// Puts runes into a window at `p`. The only error is want of memory, and the window is then unchanged.
 pub fn fill_window(window: &mut Window, p: u32, runes: &[char]) -> Result<(), AllocError>
     requires place { p ≤ length window.old.rasp }
     requires size { length window.old.rasp + length runes.now ≤ max_runes }
@@ -94,7 +96,8 @@ pub fn fill_window(window: &mut Window, p: u32, runes: &[char]) -> Result<(), Al
     Ok(())
 }
 
-/// Loads runes into places of a window that are there. What was asked for has come.
+/// Loads runes into the places of a window from `p` on, which then awaits nothing more. The only error is want of memory, and the window is
+/// then unchanged.
 pub fn load_window(window: &mut Window, p: u32, runes: &[char]) -> Result<(), AllocError>
     requires { p + length runes.now ≤ length window.old.rasp }
     ensures ok { OnOk result (window.new ≡ record window.old { rasp = load_cells window.old.rasp p runes.now; awaits = false }) }
@@ -107,7 +110,7 @@ pub fn load_window(window: &mut Window, p: u32, runes: &[char]) -> Result<(), Al
     Ok(())
 }
 
-/// Takes the `n` runes or gaps from `p` on out of a window.
+/// Takes the `n` runes and gaps from `p` on out of a window. It takes no memory.
 pub fn cut_window(window: &mut Window, p: u32, n: u32)
     requires { p + n ≤ length window.old.rasp }
     ensures { window.new ≡ window_after_del window.old p (p + n) }
@@ -119,7 +122,7 @@ pub fn cut_window(window: &mut Window, p: u32, n: u32)
     window.view_start = after_del(p, n, window.view_start);
 }
 
-/// Drops the unsent runes of a file.
+/// Drops the unsent runes, if they are of this file.
 pub fn drop_unsent(unsent: &mut Option<Unsent>, tag: u16)
     ensures { unsent.new ≡ unsent_without tag unsent.old }
 {

@@ -6,9 +6,11 @@ use sam_mesg::{Batch, Tmesg};
 use std::alloc::{AllocError, Global};
 use std::marker::Model;
 
-/// Messages in the order in which they are composed.
+/// Messages in the order in which one call composes them. It gets its memory as it is made, before the terminal changes, so that composing
+/// a message never fails halfway. Contracts see the messages and the room that is left.
 #[derive(Drop)]
 pub struct Outbox {
+    /// The messages, the first one composed in front. It never grows past the memory that it was made with.
     messages: Vec<Tmesg>,
 }
 
@@ -22,7 +24,7 @@ impl Model for Outbox {
 }
 
 impl Outbox {
-    /// No messages, with room for `n`.
+    /// Returns an outbox with no messages and room for `n`. The only error is want of memory.
     pub fn with_room(alloc: Global, n: usize) -> Result<Outbox, AllocError>
         ensures { IfOk result (λ out. out ≡ record { messages = []; room = n }) }
     {
@@ -31,7 +33,7 @@ impl Outbox {
         })
     }
 
-    /// Puts a message behind the others.
+    /// Puts a message behind the others. The caller makes sure that there is room, so no memory is asked for.
     pub fn put(&mut self, message: Tmesg)
         requires { 0 < self.old.room }
         ensures messages { self.new.messages ≡ self.old.messages ++ message ∷ [] }
@@ -42,7 +44,7 @@ impl Outbox {
         }
     }
 
-    /// The messages.
+    /// Returns the messages in order, without asking for memory.
     pub fn into_batch(self) -> Batch
         ensures { result ≡ self.messages }
     {

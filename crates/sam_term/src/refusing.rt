@@ -1,4 +1,4 @@
-//! What stands against a message of the host.
+//! What stands against a frame of the host: one function for each group of kinds with the same tests.
 
 ghost use Rattle.std.specs.Prelude.{◌≡◌, ◌∷◌, ◌+◌, ◌==◌, [], nat_lt};
 ghost use Rattle.sam_runes.specs.Checks.{first_of_checks};
@@ -10,7 +10,8 @@ use crate::term::Terminal;
 use sam_mesg::Hmesg;
 
 impl Terminal {
-    /// What stands against a message of the host.
+    /// Returns what stands against a message of the host: the first of its kind's tests that holds, in the order of `TermFault`, or `None`.
+    /// The stamp of the frame is not tested here.
     pub(crate) fn refusal(&self, message: &Hmesg) -> Option<TermFault>
         ensures { result ≡ frame_fault self.now message.now }
     {
@@ -54,6 +55,7 @@ impl Terminal {
         }
     }
 
+    /// Tests that the file is known. The one fault is `NoFile`.
     fn refusal_of_unknown(&self, tag: u16) -> Option<TermFault>
         ensures { result ≡ first_of_checks (unknown_file self.now tag ∷ []) }
     {
@@ -63,6 +65,7 @@ impl Terminal {
         None
     }
 
+    /// Tests that the file is known and not open. Faults, in this order: `NoFile`; `AlreadyBound`.
     fn refusal_of_bound(&self, tag: u16) -> Option<TermFault>
         ensures { result ≡ first_of_checks (unknown_file self.now tag ∷ bound self.now tag ∷ []) }
     {
@@ -75,6 +78,7 @@ impl Terminal {
         None
     }
 
+    /// Tests that the file is known and open. Faults, in this order: `NoFile`; `NotOpen`.
     fn refusal_of_shut(&self, tag: u16) -> Option<TermFault>
         ensures { result ≡ first_of_checks (unknown_file self.now tag ∷ not_opened self.now tag ∷ []) }
     {
@@ -87,6 +91,8 @@ impl Terminal {
         None
     }
 
+    /// Tests that the file is known and open, and that `p` is not past the end of its rasp. Faults, in this order: `NoFile`; `NotOpen`;
+    /// `BadPosition`.
     fn refusal_of_place(&self, tag: u16, p: u64) -> Option<TermFault>
         ensures { result ≡ first_of_checks (unknown_file self.now tag ∷ not_opened self.now tag ∷ past_end self.now tag p ∷ []) }
     {
@@ -102,6 +108,8 @@ impl Terminal {
         None
     }
 
+    /// Tests that the file is known and open, and has `n` runes and gaps from `p` on. Faults, in this order: `NoFile`; `NotOpen`;
+    /// `BadPosition`.
     fn refusal_of_data(&self, tag: u16, p: u32, n: usize) -> Option<TermFault>
         ensures { result ≡ first_of_checks (unknown_file self.now tag ∷ not_opened self.now tag ∷ past_end self.now tag (p + n) ∷ []) }
     {
@@ -118,6 +126,7 @@ impl Terminal {
         None
     }
 
+    /// Tests that the file is known and open, and has the range from `p` to `q`. Faults, in this order: `NoFile`; `NotOpen`; `BadPosition`.
     fn refusal_of_range(&self, tag: u16, p: u32, q: u32) -> Option<TermFault>
         ensures { result ≡ first_of_checks (unknown_file self.now tag ∷ not_opened self.now tag ∷ (nat_lt q p, TermFault.BadPosition) ∷ past_end self.now tag q ∷ []) }
     {
@@ -136,6 +145,8 @@ impl Terminal {
         None
     }
 
+    /// Tests that the file is known and open, and that `n` more runes or gaps may come in at `p`. Faults, in this order: `NoFile`;
+    /// `NotOpen`; `BadPosition` if `p` is past the end; `TooLong` if there would be more than 1,000,000.
     fn refusal_of_growth(&self, tag: u16, p: u32, n: usize) -> Option<TermFault>
         ensures { result ≡ first_of_checks (unknown_file self.now tag ∷ not_opened self.now tag ∷ past_end self.now tag p ∷ no_room self.now tag n ∷ []) }
     {
@@ -155,6 +166,7 @@ impl Terminal {
         None
     }
 
+    /// Tests that the file is known and open, and has a lock. Faults, in this order: `NoFile`; `NotOpen`; `LockNotHeld`.
     fn refusal_of_free(&self, tag: u16) -> Option<TermFault>
         ensures { result ≡ first_of_checks (unknown_file self.now tag ∷ not_opened self.now tag ∷ ((window_at self.now tag).locks == 0, TermFault.LockNotHeld) ∷ []) }
     {

@@ -1,4 +1,6 @@
-//! The terminal's files by tag: reading a slot, and taking out what it holds to change it.
+//! The list of the terminal's files by tag. It finds, adds, changes and frees what stands at a tag, and hands a window out to be changed
+//! and put back. It holds no event back, composes no message and moves no unsent runes: the methods of `Terminal` in `windows` stand above
+//! it, and the records of `files` stand in it.
 
 ghost use Rattle.std.specs.Prelude.{◌≡◌, ◌++◌, ◌∷◌, ◌+◌, ◌-◌, ◌<◌, ◌≤◌, ◌^◌, [], length, OnErr, OnOk, IsTrue, is_some, Some, None, option_copied, replicate, vec_len, vec_capacity, option_map};
 ghost use Rattle.sam_runes.specs.Slots.{slot, put_slot, free_slot, map_slots};
@@ -9,9 +11,12 @@ use sam_runes::Runes;
 use std::alloc::{AllocError, Global};
 use std::marker::Model;
 
-/// Files by tag, which contracts see as a list of slots.
+/// The files that the terminal knows, by tag. Contracts see a list of slots, whose index is the tag. A file can be changed only through the
+/// calls here, each of which leaves the other tags as they are; `free_all` alone changes all.
 #[derive(Drop)]
 pub struct KnownFiles {
+    /// What is known of each tag: `None` for a tag that is not known. A tag behind the end is not known either. It grows up to the highest
+    /// tag that came, 65,536 slots at most, and never shrinks.
     slots: Vec<Option<KnownFile>>,
 }
 
@@ -25,7 +30,7 @@ impl Model for KnownFiles {
 }
 
 impl KnownFiles {
-    /// No files.
+    /// Returns a list with no files. No memory is asked for.
     pub fn new(alloc: Global) -> KnownFiles
         ensures { result ≡ [] }
     {
@@ -34,35 +39,35 @@ impl KnownFiles {
         }
     }
 
-    /// What is known by tag.
+    /// Returns the slots, first to last: the index is the tag.
     pub fn as_slice(&self) -> &[Option<KnownFile>]
         ensures { result.now ≡ self.now }
     {
         self.slots.as_slice()
     }
 
-    /// The file of a tag.
+    /// Returns the file of a tag, or `None` if the tag is not known.
     pub fn known(&self, tag: u16) -> Option<&KnownFile>
         ensures { option_copied result ≡ slot self.now tag }
     {
         known(&self.slots, tag as usize)
     }
 
-    /// The window of a file that is open.
+    /// Returns the window of a tag, or `None` if the tag is not known or its file not open.
     pub fn window(&self, tag: u16) -> Option<&Window>
         ensures { option_copied result ≡ (known_in self.now tag).window }
     {
         window(&self.slots, tag as usize)
     }
 
-    /// Whether some file is locked.
+    /// Returns whether some file has a lock. The command lock does not count. The cost goes by the number of slots.
     pub fn is_any_locked(&self) -> bool
         ensures { result ≡ is_any_locked self.now }
     {
         is_any_locked(&self.slots)
     }
 
-    /// Takes the window of an open file out, to be changed and put back.
+    /// Takes the window of an open file out and returns it. The caller changes it and puts it back.
     pub fn take_window(&mut self, tag: u16) -> Window
         requires { IsTrue (is_some (known_in self.old tag).window) }
         ensures window { (known_in self.old tag).window ≡ Some result }
@@ -71,7 +76,7 @@ impl KnownFiles {
         take_window(&mut self.slots, tag as usize)
     }
 
-    /// Puts a window into a file.
+    /// Puts a window into a file that is known; the one that it had, if any, is dropped.
     pub fn put_window(&mut self, tag: u16, window: Window)
         requires { IsTrue (is_some (slot self.old tag)) }
         ensures { self.new ≡ put_slot self.old tag (record (known_in self.old tag) { window = Some window }) }
@@ -79,7 +84,8 @@ impl KnownFiles {
         put_window(&mut self.slots, tag as usize, window);
     }
 
-    /// Puts a new file into a slot. All memory is had before the first change.
+    /// Puts a file at a tag; what stood there is dropped. All memory is had before the first change: the only error is want of memory, and
+    /// nothing has changed then.
     pub fn put_new(&mut self, tag: u16, file: KnownFile) -> Result<(), AllocError>
         ensures ok { OnOk result (self.new ≡ put_slot self.old tag file) }
         ensures err { OnErr result (self.new ≡ self.old) }
@@ -90,7 +96,7 @@ impl KnownFiles {
         Ok(())
     }
 
-    /// Gives a file another name.
+    /// Gives a file that is known another name.
     pub fn set_name(&mut self, tag: u16, name: Runes)
         requires { IsTrue (is_some (slot self.old tag)) }
         ensures { self.new ≡ put_slot self.old tag (record (known_in self.old tag) { name = name }) }
@@ -98,7 +104,7 @@ impl KnownFiles {
         set_name(&mut self.slots, tag as usize, name);
     }
 
-    /// Marks a file as changed since it was last written, or as not changed.
+    /// Marks a file that is known as dirty, or as clean.
     pub fn set_dirty(&mut self, tag: u16, dirty: bool)
         requires { IsTrue (is_some (slot self.old tag)) }
         ensures { self.new ≡ put_slot self.old tag (record (known_in self.old tag) { dirty = dirty }) }
@@ -106,7 +112,7 @@ impl KnownFiles {
         set_dirty(&mut self.slots, tag as usize, dirty);
     }
 
-    /// Drops the window of a file.
+    /// Drops the window of a file that is known, if it has one.
     pub fn shut(&mut self, tag: u16)
         requires { IsTrue (is_some (slot self.old tag)) }
         ensures { self.new ≡ put_slot self.old tag (record (known_in self.old tag) { window = None }) }
@@ -114,14 +120,14 @@ impl KnownFiles {
         shut(&mut self.slots, tag as usize);
     }
 
-    /// Frees every lock of every file; nothing is awaited.
+    /// Frees every lock of every file, after which no request is awaited either.
     pub fn free_all(&mut self)
         ensures { self.new ≡ map_slots freed_known self.old }
     {
         free_all(&mut self.slots);
     }
 
-    /// Takes a file out.
+    /// Takes a file that is known out of the list and returns it. Its tag is not known afterwards.
     pub fn take_known(&mut self, tag: u16) -> KnownFile
         requires { IsTrue (is_some (slot self.old tag)) }
         ensures known { slot self.old tag ≡ Some result }
@@ -131,7 +137,7 @@ impl KnownFiles {
     }
 }
 
-/// The file of a slot.
+/// Returns the file at an index, if there is one.
 fn known(files: &[Option<KnownFile>], index: usize) -> Option<&KnownFile>
     ensures { option_copied result ≡ slot files.now index }
 {
@@ -142,7 +148,7 @@ fn known(files: &[Option<KnownFile>], index: usize) -> Option<&KnownFile>
     }
 }
 
-/// The window of a slot.
+/// Returns the window at an index, if there is one.
 fn window(files: &[Option<KnownFile>], index: usize) -> Option<&Window>
     ensures { option_copied result ≡ (known_in files.now index).window }
 {
@@ -152,7 +158,7 @@ fn window(files: &[Option<KnownFile>], index: usize) -> Option<&Window>
     }
 }
 
-/// Takes a file out of its slot.
+/// Takes a file out of its slot, which stays in the list.
 fn take_known(files: &mut [Option<KnownFile>], index: usize) -> KnownFile
     requires { IsTrue (is_some (slot files.old index)) }
     ensures known { slot files.old index ≡ Some result }
@@ -165,7 +171,7 @@ fn take_known(files: &mut [Option<KnownFile>], index: usize) -> KnownFile
     file
 }
 
-/// Puts a file into a slot that was given.
+/// Puts a file into a slot that is in the list.
 fn put_known(files: &mut [Option<KnownFile>], index: usize, file: KnownFile)
     requires { index < length files.old }
     ensures { files.new ≡ put_slot files.old index file }
@@ -173,7 +179,8 @@ fn put_known(files: &mut [Option<KnownFile>], index: usize, file: KnownFile)
     files[index] = Some(file);
 }
 
-/// Adds slots that hold nothing up to that of an index. All memory is had before the first.
+/// Adds empty slots up to that of an index; none if it is there already. All memory is had before the first: the only error is want of
+/// memory, and the list is unchanged then.
 fn add_slots(files: &mut Vec<Option<KnownFile>>, index: usize) -> Result<(), AllocError>
     requires { index < 2 ^ 32 }
     ensures ok { OnOk result (files.new.items ≡ files.old.items ++ replicate (index + 1 - length files.old.items) None) }
@@ -188,7 +195,7 @@ fn add_slots(files: &mut Vec<Option<KnownFile>>, index: usize) -> Result<(), All
     Ok(())
 }
 
-/// Puts slots that hold nothing behind the others.
+/// Adds `more` empty slots at the end, for which there is room.
 fn push_slots(files: &mut Vec<Option<KnownFile>>, more: usize)
     requires { vec_len files.old + more ≤ vec_capacity files.old }
     ensures { files.new.items ≡ files.old.items ++ replicate more None }
@@ -210,7 +217,7 @@ fn set_name(files: &mut [Option<KnownFile>], index: usize, name: Runes)
     put_known(files, index, file);
 }
 
-/// Marks a file.
+/// Marks a file as dirty, or as clean.
 fn set_dirty(files: &mut [Option<KnownFile>], index: usize, dirty: bool)
     requires { IsTrue (is_some (slot files.old index)) }
     ensures { files.new ≡ put_slot files.old index (record (known_in files.old index) { dirty = dirty }) }
@@ -230,7 +237,7 @@ fn shut(files: &mut [Option<KnownFile>], index: usize)
     put_known(files, index, file);
 }
 
-/// Frees every lock of every file; nothing is awaited.
+/// Frees every lock of every file, after which no request is awaited either.
 fn free_all(files: &mut [Option<KnownFile>])
     ensures { files.new ≡ map_slots freed_known files.old }
 {
@@ -239,7 +246,7 @@ fn free_all(files: &mut [Option<KnownFile>])
     }
 }
 
-/// Frees the locks of a file; nothing is awaited.
+/// Frees the locks of a file, if there is one and it is open; it then awaits nothing.
 fn free_one(file: &mut Option<KnownFile>)
     ensures { file.new ≡ option_map freed_known file.old }
 {
@@ -275,7 +282,7 @@ fn put_window(files: &mut [Option<KnownFile>], index: usize, window: Window)
     put_known(files, index, file);
 }
 
-/// Whether some file is locked.
+/// Returns whether some file has a lock.
 fn is_any_locked(files: &[Option<KnownFile>]) -> bool
     ensures { result ≡ is_any_locked files.now }
 {
@@ -287,7 +294,7 @@ fn is_any_locked(files: &[Option<KnownFile>]) -> bool
     false
 }
 
-/// Whether a file is locked.
+/// Returns whether a file has a lock; false if it is not open.
 fn is_locked(file: &Option<KnownFile>) -> bool
     ensures { result ≡ is_any_locked (file.now ∷ []) }
 {

@@ -1,4 +1,4 @@
-//! What the messages of the host do.
+//! What each frame of the host does to the terminal, once nothing stands against it. `refusing` has the tests.
 
 ghost use Rattle.std.specs.Prelude.{◌≡◌, ◌+◌, ◌<◌, ◌≤◌, ◌==◌, if◌then◌else◌, [], length, IsTrue, None, false};
 ghost use Rattle.sam_runes.specs.Slots.{free_slot};
@@ -15,7 +15,8 @@ use sam_rasp::Rasp;
 use sam_runes::Runes;
 
 impl Terminal {
-    /// Takes a frame, as the definition says.
+    /// Takes a frame, as `Terminal::receive` says: its stamp is tested first, then what stands against its message. The terminal is
+    /// unchanged after an error.
     pub(crate) fn take_frame(&mut self, frame: HFrame) -> Result<Batch, TermFault>
         ensures { IsAnswer self.old self.new result (take_of self.old frame) }
     {
@@ -28,7 +29,7 @@ impl Terminal {
         }
     }
 
-    /// Takes a message that nothing stands against.
+    /// Takes a message that nothing stands against. Errors, in this order: `CountFull`; `OutOfMemory`. The terminal is then unchanged.
     fn take(&mut self, message: Hmesg) -> Result<Batch, TermFault>
         requires { frame_fault self.old message ≡ None }
         ensures { IsAnswer self.old self.new result (countable (made_from self.old message)) }
@@ -112,7 +113,7 @@ impl Terminal {
         }
     }
 
-    /// No messages.
+    /// Returns no messages. No memory is asked for.
     fn nothing(&self) -> Batch
         ensures nothing { result ≡ [] }
         ensures countable { self.now.sent ≤ most_count }
@@ -120,7 +121,7 @@ impl Terminal {
         Batch::from_vec(Vec::new(self.alloc))
     }
 
-    /// Takes the version that both sides speak; 0 offers none.
+    /// Takes the version that both sides speak: the smaller of `version` and 2. Version 0 changes nothing.
     fn set_version(&mut self, version: u16)
         ensures { self.new ≡ record self.old { version = if version == 0 then self.old.version else common_version version } }
     {
@@ -129,7 +130,7 @@ impl Terminal {
         }
     }
 
-    /// Answers an acknowledgement, unless the session is over.
+    /// Takes `Hack`: composes the unsent runes and a `Tack`, unless the session is over.
     fn take_ack(&mut self) -> Result<Batch, TermFault>
         ensures { IsAnswer self.old self.new result (countable (made_from self.old Hmesg.Hack)) }
     {
@@ -139,7 +140,7 @@ impl Terminal {
         self.send(Tmesg::Tack)
     }
 
-    /// Asks for the first gap that a file shows.
+    /// Takes `Hcheck`: composes the request that the file wants, if any, with the unsent runes before it.
     fn take_check(&mut self, tag: u16) -> Result<Batch, TermFault>
         ensures { IsAnswer self.old self.new result (countable (made_from self.old (Hmesg.Hcheck tag))) }
     {
@@ -149,7 +150,8 @@ impl Terminal {
         }
     }
 
-    /// Frees one lock of a file, and asks for the first gap that it shows.
+    /// Takes `Hunlockfile`: frees one lock of the file, and composes the request that it wants, if any, with the unsent runes before it.
+    /// Count and memory are tested before the lock is freed.
     fn take_unlockfile(&mut self, tag: u16) -> Result<Batch, TermFault>
         requires opened { IsTrue (is_open self.old tag) }
         requires locked { 0 < (window_at self.old tag).locks }
@@ -170,7 +172,7 @@ impl Terminal {
         }
     }
 
-    /// Frees one lock of a file.
+    /// Frees one lock of a file, which is open and has one.
     fn free_lock(&mut self, tag: u16)
         requires opened { IsTrue (is_open self.old tag) }
         requires locked { 0 < (window_at self.old tag).locks }
@@ -181,7 +183,7 @@ impl Terminal {
         self.files.put_window(tag, window);
     }
 
-    /// Opens a file that is known, with an empty partial text.
+    /// Takes `Hbindname`: opens a file that is known, with an empty rasp.
     fn open_file(&mut self, tag: u16)
         requires known { IsTrue (is_known self.old tag) }
         requires shut { is_open self.old tag ≡ false }
@@ -198,7 +200,7 @@ impl Terminal {
         self.files.put_window(tag, window);
     }
 
-    /// Takes a new file in, which has no name yet.
+    /// Takes `Hnewname`: makes the tag known, as a file that has no name yet and is not open.
     fn take_newname(&mut self, tag: u16) -> Result<Batch, TermFault>
         requires { is_known self.old tag ≡ false }
         ensures { IsAnswer self.old self.new result (countable (made_from self.old (Hmesg.Hnewname tag))) }
@@ -214,7 +216,7 @@ impl Terminal {
         Ok(self.nothing())
     }
 
-    /// Gives a file that is known another name.
+    /// Takes `Hmovname`: gives a file that is known another name.
     fn rename_file(&mut self, tag: u16, name: Runes)
         requires { IsTrue (is_known self.old tag) }
         ensures { self.new ≡ put_known self.old tag (record (known_at self.old tag) { name = name }) }
@@ -222,7 +224,7 @@ impl Terminal {
         self.files.set_name(tag, name);
     }
 
-    /// Marks a file that is known as changed since it was last written, or as not changed.
+    /// Takes `Hdirty` or `Hclean`: marks a file that is known as dirty or clean.
     fn mark_file(&mut self, tag: u16, dirty: bool)
         requires { IsTrue (is_known self.old tag) }
         ensures { self.new ≡ put_known self.old tag (record (known_at self.old tag) { dirty = dirty }) }
@@ -230,7 +232,7 @@ impl Terminal {
         self.files.set_dirty(tag, dirty);
     }
 
-    /// Drops a file that is not open.
+    /// Takes `Hdelname`: drops a file that is not open, whose tag is not known afterwards.
     fn drop_file(&mut self, tag: u16)
         requires known { IsTrue (is_known self.old tag) }
         requires shut { is_open self.old tag ≡ false }
@@ -239,7 +241,7 @@ impl Terminal {
         let _ = self.files.take_known(tag);
     }
 
-    /// Takes gaps in.
+    /// Takes `Hgrow`: puts `n` gaps into the rasp at `p`.
     fn take_grow(&mut self, tag: u16, p: u32, n: u32) -> Result<Batch, TermFault>
         requires opened { IsTrue (is_open self.old tag) }
         requires place { p ≤ length (window_at self.old tag).rasp }
@@ -253,7 +255,7 @@ impl Terminal {
         Ok(self.nothing())
     }
 
-    /// Takes runes into places that are there.
+    /// Takes `Hdata`: loads runes into places that are there.
     fn take_data(&mut self, tag: u16, p: u32, text: Runes) -> Result<Batch, TermFault>
         requires opened { IsTrue (is_open self.old tag) }
         requires place { p + length text ≤ length (window_at self.old tag).rasp }
@@ -266,7 +268,7 @@ impl Terminal {
         Ok(self.nothing())
     }
 
-    /// Takes new runes in.
+    /// Takes `Hgrowdata`: puts runes into the rasp at `p`.
     fn take_growdata(&mut self, tag: u16, p: u32, text: Runes) -> Result<Batch, TermFault>
         requires opened { IsTrue (is_open self.old tag) }
         requires place { p ≤ length (window_at self.old tag).rasp }
@@ -280,7 +282,7 @@ impl Terminal {
         Ok(self.nothing())
     }
 
-    /// Closes a file. What was typed into it and not yet sent is dropped.
+    /// Takes `Hclose`: drops the window of a file with its locks, and what was typed into it and is unsent.
     fn close_file(&mut self, tag: u16)
         requires { IsTrue (is_known self.old tag) }
         ensures { self.new ≡ took_close self.old tag }
@@ -289,7 +291,7 @@ impl Terminal {
         drop_unsent(&mut self.unsent, tag);
     }
 
-    /// Ends the session: every lock is free and nothing is awaited.
+    /// Takes `Hexit`: the session is over, every lock is free and nothing is awaited.
     fn take_exit(&mut self)
         ensures { self.new ≡ took_exit self.old }
     {

@@ -1,4 +1,5 @@
-//! Typing runes into a window.
+//! What the event `Typed` does: its runes come in the place of the dot, join the unsent ones if they follow them, and go to the host at
+//! once if they end a command line.
 
 ghost use Rattle.std.specs.Prelude.{◌≡◌, ◌+◌, ◌-◌, ◌<◌, ◌≤◌, ◌^◌, ◌++◌, ◌==◌, ◌&&◌, [], length, OnErr, OnOk, IfOk, IsTrue, None, Some, false, nat_le, not, drop, if◌then◌else◌};
 ghost use Rattle.sam_rasp.specs.Rasp.{place_after_ins, place_after_del};
@@ -19,7 +20,7 @@ use sam_mesg::Tmesg;
 use sam_runes::Runes;
 use std::alloc::AllocError;
 
-/// Where a place goes as `n` runes come in the place of those from `p` to `q`.
+/// Returns where a place goes as `n` runes come in the place of what stands from `p` to `q`.
 fn after_typing(p: u32, q: u32, n: u32, place: u32) -> u32
     requires ordered { p ≤ q }
     requires fits { place + n < 2 ^ 32 }
@@ -35,7 +36,8 @@ fn after_typing(p: u32, q: u32, n: u32, place: u32) -> u32
     if p < moved { moved + n } else { moved }
 }
 
-/// Puts runes in the place of the dot, which then stands behind them.
+/// Puts runes in the place of the dot of a window, which is then empty and behind them. The only error is want of memory, and the window is
+/// then unchanged.
 pub fn type_over(window: &mut Window, runes: &[char]) -> Result<(), AllocError>
     requires ordered { window.old.dot.0 ≤ window.old.dot.1 }
     requires within { window.old.dot.1 ≤ max_runes }
@@ -54,7 +56,7 @@ pub fn type_over(window: &mut Window, runes: &[char]) -> Result<(), AllocError>
     Ok(())
 }
 
-/// The runes that an event types.
+/// Returns the runes of a `Typed`.
 fn typed_runes(event: &UserEvent) -> &[char]
     requires { IsTrue (is_typing event.now) }
     ensures { result.now ≡ typed_runes event.now }
@@ -65,7 +67,7 @@ fn typed_runes(event: &UserEvent) -> &[char]
     }
 }
 
-/// The file in which an event types.
+/// Returns the file of a `Typed`.
 fn typed_file(event: &UserEvent) -> u16
     requires { IsTrue (is_typing event.now) }
     ensures { result ≡ typed_file event.now }
@@ -76,7 +78,7 @@ fn typed_file(event: &UserEvent) -> u16
     }
 }
 
-/// Whether an event types the end of a command line.
+/// Returns whether a `Typed` ends a line of the command file.
 fn types_line(event: &UserEvent) -> bool
     requires { IsTrue (is_typing event.now) }
     ensures { result ≡ is_command_line (typed_file event.now) (typed_runes event.now) }
@@ -87,7 +89,7 @@ fn types_line(event: &UserEvent) -> bool
     }
 }
 
-/// The runes of an event that types.
+/// Returns the runes of a `Typed`, which is used up.
 fn text_of(event: UserEvent) -> Runes
     requires { IsTrue (is_typing event) }
     ensures { result ≡ typed_runes event }
@@ -98,7 +100,7 @@ fn text_of(event: UserEvent) -> Runes
     }
 }
 
-/// Whether `n` runes typed at `p` follow unsent ones, and all fit in one message.
+/// Returns whether `n` runes typed at `p` stand right behind the unsent ones, in the same file, and all fit in one message.
 fn follows(unsent: &Unsent, tag: u16, p: u32, n: usize) -> bool
     requires before { length unsent.now.runes ≤ most_in_message }
     requires few { n ≤ most_in_message }
@@ -108,14 +110,14 @@ fn follows(unsent: &Unsent, tag: u16, p: u32, n: usize) -> bool
     unsent.file == tag && unsent.place as u64 + count as u64 == p as u64 && count + n <= 512
 }
 
-/// How many messages cut a dot.
+/// Returns how many messages the cut of a dot makes: 1, or 0 if it is empty.
 fn cut_count(dot: (u32, u32)) -> u64
     ensures { result ≡ one_if (not (dot.0 == dot.1)) }
 {
     if dot.0 == dot.1 { 0 } else { 1 }
 }
 
-/// How many messages a command line makes.
+/// Returns how many messages the typed runes make at once: 1 if they end a command line, else 0.
 fn line_count(line: bool) -> u64
     ensures { result ≡ one_if line }
 {
@@ -123,7 +125,8 @@ fn line_count(line: bool) -> u64
 }
 
 impl Terminal {
-    /// Puts the runes of the oldest event in the place of the dot.
+    /// Does a `Typed`: puts its runes in the place of the dot, and keeps them unsent. Errors, in this order: `CountFull`; `OutOfMemory`.
+    /// The terminal is then unchanged.
     pub(crate) fn make_typed(&mut self) -> Result<Acted, TermFault>
         requires free { free_first self.old ≡ None }
         requires first { IsTrue (is_typing (first_event self.old.held)) }
@@ -145,7 +148,7 @@ impl Terminal {
         self.type_apart(tag, dot, line)
     }
 
-    /// Whether runes typed at `p` follow the unsent ones, and all fit in one message.
+    /// Returns whether runes typed at `p` join the unsent ones, if there are any.
     fn joins_unsent(&self, tag: u16, p: u32, runes: &[char]) -> bool
         requires few { length runes.now ≤ most_in_message }
         ensures { result ≡ joins self.now.unsent tag p runes.now }
@@ -156,7 +159,7 @@ impl Terminal {
         }
     }
 
-    /// Only cuts the dot, since the oldest event types no runes.
+    /// Does a `Typed` with no runes, which only cuts the dot.
     fn type_nothing(&mut self, tag: u16, dot: (u32, u32)) -> Result<Acted, TermFault>
         requires first { first_event self.old.held ≡ UserEvent.Typed tag [] }
         requires opened { IsTrue (is_open self.old tag) }
@@ -179,7 +182,7 @@ impl Terminal {
         }
     }
 
-    /// Types behind the unsent runes, which they join.
+    /// Does a `Typed` whose runes join the unsent ones. The dot is empty.
     fn type_behind(&mut self, tag: u16, dot: (u32, u32), line: bool) -> Result<Acted, TermFault>
         requires free { free_first self.old ≡ None }
         requires first { first_event self.old.held ≡ UserEvent.Typed tag (typed_runes (first_event self.old.held)) }
@@ -206,7 +209,8 @@ impl Terminal {
         }
     }
 
-    /// Types runes that join no unsent ones: those are sent first, and the dot is cut.
+    /// Does a `Typed` whose runes join no unsent ones: these are composed first, and then the cut of the dot. The new runes are then
+    /// unsent.
     fn type_apart(&mut self, tag: u16, dot: (u32, u32), line: bool) -> Result<Acted, TermFault>
         requires free { free_first self.old ≡ None }
         requires first { first_event self.old.held ≡ UserEvent.Typed tag (typed_runes (first_event self.old.held)) }
@@ -238,7 +242,7 @@ impl Terminal {
         }
     }
 
-    /// The unsent runes together with those of the oldest event, in memory of their own.
+    /// Copies the unsent runes, and those of the oldest event behind them, so that want of memory changes nothing.
     fn joined_unsent(&self, tag: u16, p: u32) -> Result<Unsent, AllocError>
         requires first { IsTrue (is_typing (first_event self.now.held)) }
         requires joins { IsTrue (joins self.now.unsent tag p (typed_runes (first_event self.now.held))) }
@@ -259,7 +263,7 @@ impl Terminal {
         })
     }
 
-    /// Takes the oldest event out, and gives the runes that it types.
+    /// Takes the oldest event, a `Typed`, out of the held ones and returns its runes.
     fn take_typed(&mut self) -> Runes
         requires { IsTrue (is_typing (first_event self.old.held)) }
         ensures runes { result ≡ typed_runes (first_event self.old.held) }
@@ -271,7 +275,7 @@ impl Terminal {
         text_of(event)
     }
 
-    /// Composes runes that were unsent.
+    /// Composes runes that `type_first` handed over as they were unsent, if there were any.
     fn compose_runes(&mut self, before: Option<Unsent>, out: &mut Outbox)
         requires counts { self.old.sent + length (unsent_message before) ≤ most_count }
         requires room { 0 < out.old.room }
@@ -284,7 +288,7 @@ impl Terminal {
         }
     }
 
-    /// Composes the cut of a dot, where it is not empty.
+    /// Composes the cut of a dot, if it is not empty. The rasp was cut before.
     fn compose_cut(&mut self, tag: u16, dot: (u32, u32), out: &mut Outbox)
         requires counts { self.old.sent + one_if (not (dot.0 == dot.1)) ≤ most_count }
         requires room { 0 < out.old.room }
@@ -298,7 +302,7 @@ impl Terminal {
         self.compose(Tmesg::Tcut(tag, dot.0, dot.1), out);
     }
 
-    /// Keeps typed runes unsent, or sends them at once where they end a command line.
+    /// Keeps typed runes unsent, or composes them at once if they end a command line.
     fn keep_typed(&mut self, unsent: Unsent, line: bool, out: &mut Outbox)
         requires within { unsent.place ≤ (window_at self.old unsent.file).dot.1 }
         requires short { length unsent.runes ≤ most_in_message }
@@ -313,8 +317,8 @@ impl Terminal {
         }
     }
 
-    /// Puts the runes of the oldest event in the place of the dot of their file. The unsent runes are handed over,
-    /// since the place where they begin may go with the dot.
+    /// Puts the runes of the oldest event in the place of the dot of their file. The unsent runes are handed over, since the place where
+    /// they begin may go with the dot. The only error is want of memory, and the terminal is then unchanged.
     pub(crate) fn type_first(&mut self, tag: u16) -> Result<Option<Unsent>, AllocError>
         requires opened { IsTrue (is_open self.old tag) }
         requires first { IsTrue (is_typing (first_event self.old.held)) }

@@ -1,4 +1,6 @@
-//! The windows of the terminal's files: reading them, and small changes.
+//! The methods of `Terminal` that read or change the window of one file. A change takes the window out of the list in `slots`, has `moving`
+//! change it, and puts it back; as runes or gaps come or go, the place of the unsent runes moves along. `files` has the records, and
+//! `slots` knows only the list.
 
 ghost use Rattle.std.specs.Prelude.{◌≡◌, ◌+◌, ◌-◌, ◌≤◌, length, OnErr, OnOk, IsTrue, Some, None, map, replicate};
 ghost use Rattle.sam_runes.specs.Texts.{max_runes};
@@ -10,21 +12,21 @@ use crate::term::Terminal;
 use std::alloc::AllocError;
 
 impl Terminal {
-    /// Whether it knows the file.
+    /// Returns whether it knows the file.
     pub(crate) fn knows(&self, tag: u16) -> bool
         ensures { result ≡ is_known self.now tag }
     {
         self.files.known(tag).is_some()
     }
 
-    /// Whether the file is open.
+    /// Returns whether the file is open.
     pub(crate) fn has_open(&self, tag: u16) -> bool
         ensures { result ≡ is_open self.now tag }
     {
         self.files.window(tag).is_some()
     }
 
-    /// How long the partial text of the file is; 0 where it is not open.
+    /// Returns how many runes and gaps the rasp of the file has; 0 if it is not open.
     pub(crate) fn rasp_len(&self, tag: u16) -> usize
         ensures { result ≡ length (window_at self.now tag).rasp }
     {
@@ -34,7 +36,7 @@ impl Terminal {
         }
     }
 
-    /// How many locks of a file are held, without the command lock; none where it is not open.
+    /// Returns how many locks of a file are held, the command lock aside; 0 if it is not open.
     pub fn locks(&self, tag: u16) -> u64
         ensures { result ≡ (window_at self.now tag).locks }
     {
@@ -44,7 +46,7 @@ impl Terminal {
         }
     }
 
-    /// The dot of a file; at the start where it is not open.
+    /// Returns the dot of a file; (0, 0) if it is not open.
     pub(crate) fn dot_of(&self, tag: u16) -> (u32, u32)
         ensures { result ≡ (window_at self.now tag).dot }
     {
@@ -54,7 +56,7 @@ impl Terminal {
         }
     }
 
-    /// Where the view of a file begins.
+    /// Returns the place where the view of a file begins; 0 if it is not open.
     pub(crate) fn view_start(&self, tag: u16) -> u32
         ensures { result ≡ (window_at self.now tag).view_start }
     {
@@ -64,14 +66,15 @@ impl Terminal {
         }
     }
 
-    /// What is known of each window: its places stand in its partial text.
+    /// Tells what is true of each window: dot and view lie within the rasp, which has at most 1,000,000 runes and gaps, and it has no more
+    /// locks than messages were composed. It does nothing when the program runs.
     pub(crate) fn known_window(&self, tag: u16)
         ensures { FitsWindow self.now.sent (window_at self.now tag) }
     {
         let _ = &self.alloc;
     }
 
-    /// How many runes the text of a file can take in the place of its dot.
+    /// Returns the most runes that may be typed in the place of a file's dot. The file then has 1,000,000 runes.
     pub(crate) fn room_beside_dot(&self, tag: u16) -> usize
         ensures room { result + length (window_at self.now tag).rasp ≡ max_runes + ((window_at self.now tag).dot.1 - (window_at self.now tag).dot.0) }
         ensures within { (window_at self.now tag).dot.1 - (window_at self.now tag).dot.0 ≤ length (window_at self.now tag).rasp }
@@ -81,7 +84,7 @@ impl Terminal {
         1_000_000 - self.rasp_len(tag) + (dot.1 - dot.0) as usize
     }
 
-    /// The view of an open file begins at `p`.
+    /// Has the view of an open file begin at `p`.
     pub(crate) fn set_view_start(&mut self, tag: u16, p: u32)
         requires opened { IsTrue (is_open self.old tag) }
         requires within { p ≤ length (window_at self.old tag).rasp }
@@ -92,7 +95,7 @@ impl Terminal {
         self.files.put_window(tag, window);
     }
 
-    /// Sets the dot of an open file.
+    /// Sets the dot of an open file, from `p` to `q`.
     pub(crate) fn set_dot(&mut self, tag: u16, p: u32, q: u32)
         requires opened { IsTrue (is_open self.old tag) }
         requires ordered { p ≤ q }
@@ -104,7 +107,8 @@ impl Terminal {
         self.files.put_window(tag, window);
     }
 
-    /// Puts `n` gaps into the partial text of an open file at `p`.
+    /// Puts `n` gaps into the rasp of an open file at `p`; dot, view and unsent runes move along. The only error is want of memory, and the
+    /// terminal is then unchanged.
     pub(crate) fn grow_file(&mut self, tag: u16, p: u32, n: u32) -> Result<(), AllocError>
         requires opened { IsTrue (is_open self.old tag) }
         requires place { p ≤ length (window_at self.old tag).rasp }
@@ -122,7 +126,8 @@ impl Terminal {
         Ok(())
     }
 
-    /// Puts runes into the partial text of an open file at `p`.
+    /// Puts runes into the rasp of an open file at `p`; dot, view and unsent runes move along. The only error is want of memory, and the
+    /// terminal is then unchanged.
     pub(crate) fn fill_file(&mut self, tag: u16, p: u32, runes: &[char]) -> Result<(), AllocError>
         requires opened { IsTrue (is_open self.old tag) }
         requires place { p ≤ length (window_at self.old tag).rasp }
@@ -140,7 +145,8 @@ impl Terminal {
         Ok(())
     }
 
-    /// Loads runes into places of an open file, which awaits nothing more.
+    /// Loads runes into the places of an open file from `p` on, whatever stood there. The file awaits nothing more, and no place moves. The
+    /// only error is want of memory, and the terminal is then unchanged.
     pub(crate) fn load_file(&mut self, tag: u16, p: u32, runes: &[char]) -> Result<(), AllocError>
         requires opened { IsTrue (is_open self.old tag) }
         requires place { p + length runes.now ≤ length (window_at self.old tag).rasp }
@@ -156,7 +162,7 @@ impl Terminal {
         Ok(())
     }
 
-    /// Takes the `n` runes or gaps from `p` on out of the partial text of an open file.
+    /// Takes the `n` runes and gaps from `p` on out of the rasp of an open file; dot, view and unsent runes move along. It takes no memory.
     pub(crate) fn cut_file(&mut self, tag: u16, p: u32, n: u32)
         requires opened { IsTrue (is_open self.old tag) }
         requires place { p + n ≤ length (window_at self.old tag).rasp }

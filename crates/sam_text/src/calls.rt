@@ -1,5 +1,5 @@
-//! The calls that change files, each with its refusals. After a refusal the files are as they were, with their rooms. A call leaves the
-//! room of each text that it leaves.
+//! The calls that change files and check their arguments. After an error the files and their rooms are unchanged. Every text that
+//! a call does not change keeps its room, unless the call is there to make room in it.
 
 ghost use Rattle.std.specs.Prelude.{◌≡◌, ◌<◌, ◌≤◌, ◌+◌, ◌-◌, ◌∷◌, [], IsOk, OnOk, OnErr, IfOk, IfErr, Err, Some, None, true, false, length, ◌&&◌, not};
 ghost use Rattle.sam_runes.specs.Checks.{first_of_checks, unless};
@@ -14,7 +14,7 @@ use sam_runes::{MAX_RUNES, Runes, Text};
 use std::alloc::Global;
 
 impl Files {
-    /// Refuses a tag that has no file.
+    /// Returns `NoFile` if the tag has no file.
     fn wants_file(&self, tag: u16) -> Result<(), FilesFault>
         ensures answer { result ≡ unless (first_of_checks (no_file self.now.plain tag ∷ [])) tt }
         ensures there { OnOk result (has_file self.now.plain tag ≡ true) }
@@ -25,7 +25,7 @@ impl Files {
         Ok(())
     }
 
-    /// Refuses a tag that has no file, and a place past its end.
+    /// Returns `NoFile` if the tag has no file, or else `BadPosition` if `p` is past the end of its text.
     fn wants_place(&self, tag: u16, p: u32) -> Result<(), FilesFault>
         ensures answer { result ≡ unless (first_of_checks (no_file self.now.plain tag ∷ past_end self.now.plain tag p ∷ [])) tt }
         ensures there { OnOk result (has_file self.now.plain tag ≡ true) }
@@ -40,7 +40,7 @@ impl Files {
         Ok(())
     }
 
-    /// Refuses a tag that has no file, and what is no range of its text.
+    /// Returns `NoFile` if the tag has no file, or else `BadPosition` if `q` is less than `p` or past the end of its text.
     fn wants_range(&self, tag: u16, p: u32, q: u32) -> Result<(), FilesFault>
         ensures answer { result ≡ unless (first_of_checks (no_file self.now.plain tag ∷ no_range self.now.plain tag p q ∷ [])) tt }
         ensures there { OnOk result (has_file self.now.plain tag ≡ true) }
@@ -55,7 +55,8 @@ impl Files {
         Ok(())
     }
 
-    /// Takes a file and what was saved of it away; where it was the work file there is none. Its tag is not given again.
+    /// Closes a file: takes it away, with its saved copy. If it was the work file, there is none afterwards. The tag is not given again;
+    /// the caller makes sure that it is not 0. The only error is `NoFile` if the tag has no file; the files are then unchanged.
     pub fn close(&mut self, tag: u16) -> Result<(), FilesFault>
         requires { 0 < tag }
         ensures answer { result ≡ unless (first_of_checks (no_file self.old.plain tag ∷ [])) tt }
@@ -68,7 +69,9 @@ impl Files {
         Ok(())
     }
 
-    /// Saves a copy of the text of a file, which is clean then.
+    /// Keeps a copy of the text of a file as its saved copy, and marks the file as clean. The caller makes sure that the tag is not 0.
+    ///
+    /// Errors, in this order: `NoFile` if the tag has no file; `OutOfMemory`. After an error the files are unchanged.
     pub fn write(&mut self, alloc: Global, tag: u16) -> Result<(), FilesFault>
         requires { 0 < tag }
         ensures allowed { OnOk result (first_of_checks (no_file self.old.plain tag ∷ []) ≡ None) }
@@ -86,7 +89,10 @@ impl Files {
         Ok(())
     }
 
-    /// Makes a file the work file and sets its dot.
+    /// Makes a file the work file, and sets its dot to the range from place `p` to place `q`. The caller makes sure that the tag isn't 0.
+    ///
+    /// Errors, in this order: `NoFile` if the tag has no file; `BadPosition` if `q` is less than `p` or past the end of the text. After an
+    /// error the files are unchanged.
     pub fn set_work(&mut self, tag: u16, p: u32, q: u32) -> Result<(), FilesFault>
         requires { 0 < tag }
         ensures answer { result ≡ unless (first_of_checks (no_file self.old.plain tag ∷ no_range self.old.plain tag p q ∷ [])) tt }
@@ -100,7 +106,8 @@ impl Files {
         Ok(())
     }
 
-    /// Opens a file: the terminal has a window on it.
+    /// Marks a file as open: the terminal has a window on it. The only error is `NoFile` if the tag has no file; the files are then
+    /// unchanged.
     pub fn open(&mut self, tag: u16) -> Result<(), FilesFault>
         ensures answer { result ≡ unless (first_of_checks (no_file self.old.plain tag ∷ [])) tt }
         ensures done { OnOk result (self.new.plain ≡ put_file self.old.plain tag (opened_file (file_at self.old.plain tag))) }
@@ -112,7 +119,8 @@ impl Files {
         Ok(())
     }
 
-    /// Announces a file: the terminal was told its name.
+    /// Marks a file as announced: the terminal was told its name. The only error is `NoFile` if the tag has no file; the files are then
+    /// unchanged.
     pub fn announce(&mut self, tag: u16) -> Result<(), FilesFault>
         ensures answer { result ≡ unless (first_of_checks (no_file self.old.plain tag ∷ [])) tt }
         ensures done { OnOk result (self.new.plain ≡ put_file self.old.plain tag (announced_file (file_at self.old.plain tag))) }
@@ -124,7 +132,10 @@ impl Files {
         Ok(())
     }
 
-    /// Sets the dot of a file.
+    /// Sets the dot of a file to the range from place `p` to place `q`.
+    ///
+    /// Errors, in this order: `NoFile` if the tag has no file; `BadPosition` if `q` is less than `p` or past the end of the text. After an
+    /// error the files are unchanged.
     pub fn set_dot(&mut self, tag: u16, p: u32, q: u32) -> Result<(), FilesFault>
         ensures answer { result ≡ unless (first_of_checks (no_file self.old.plain tag ∷ no_range self.old.plain tag p q ∷ [])) tt }
         ensures done { OnOk result (self.new.plain ≡ with_dot self.old.plain tag p q) }
@@ -136,7 +147,11 @@ impl Files {
         Ok(())
     }
 
-    /// Deletes a range of a file. Dot is then the empty string where it stood, and a file other than the command file is dirty.
+    /// Deletes the runes of a file from place `p` to place `q`. Dot is then the empty range at `p`, and the file becomes dirty, unless it
+    /// is the command file. No memory is asked for.
+    ///
+    /// Errors, in this order: `NoFile` if the tag has no file; `BadPosition` if `q` is less than `p` or past the end of the text. After an
+    /// error the files are unchanged.
     pub fn delete(&mut self, tag: u16, p: u32, q: u32) -> Result<(), FilesFault>
         ensures answer { result ≡ unless (first_of_checks (no_file self.old.plain tag ∷ no_range self.old.plain tag p q ∷ [])) tt }
         ensures done { OnOk result (self.new.plain ≡ put_file self.old.plain tag (cut_file tag (file_at self.old.plain tag) p q)) }
@@ -148,8 +163,12 @@ impl Files {
         Ok(())
     }
 
-    /// Puts runes in a file at place `p`. Dot is then the empty string behind them, and a file other than the command file is dirty.
-    /// Within the room of the file no memory is asked for.
+    /// Puts `runes` in a file at place `p`. Dot is then the empty range after them, and the file becomes dirty, unless it is the command
+    /// file. Within the room of the file no memory is asked for, only what stands after `p` is moved, and the room shrinks by no more than
+    /// what is put in.
+    ///
+    /// Errors, in this order: `NoFile` if the tag has no file; `BadPosition` if `p` is past the end of the text; `TooLong` if the text
+    /// would have more than 1,000,000 runes; `OutOfMemory`. After an error the files and their rooms are unchanged.
     pub fn insert(&mut self, tag: u16, p: u32, runes: &[char]) -> Result<(), FilesFault>
         ensures allowed { OnOk result (first_of_checks (no_file self.old.plain tag ∷ past_end self.old.plain tag p ∷ too_long (length (file_at self.old.plain tag).text + length runes.now) ∷ []) ≡ None) }
         ensures refused { IfErr result (IsFault (first_of_checks (no_file self.old.plain tag ∷ past_end self.old.plain tag p ∷ too_long (length (file_at self.old.plain tag).text + length runes.now) ∷ []))) }
@@ -167,8 +186,11 @@ impl Files {
         self.put_in(tag, p, runes, (end, end), tag == 0)
     }
 
-    /// Makes room for `n` more runes in the text of a file. The files stay as they are. After a refusal, and where that room is there
-    /// already, all rooms are as before.
+    /// Makes room for `n` more runes in the text of a file, so that they can be put in without asking for memory. No text, name or mark
+    /// is changed, and if the room is there already, no room either.
+    ///
+    /// Errors, in this order: `NoFile` if the tag has no file; `TooLong` if the length and `n` together are more than 1,000,000;
+    /// `OutOfMemory`. After an error all rooms are unchanged.
     pub fn reserve(&mut self, tag: u16, n: u32) -> Result<(), FilesFault>
         ensures allowed { OnOk result (first_of_checks (no_file self.old.plain tag ∷ too_long (length (file_at self.old.plain tag).text + n) ∷ []) ≡ None) }
         ensures refused { IfErr result (IsFault (first_of_checks (no_file self.old.plain tag ∷ too_long (length (file_at self.old.plain tag).text + n) ∷ []))) }
@@ -188,7 +210,10 @@ impl Files {
         self.make_room(tag, n)
     }
 
-    /// The snarf buffer becomes a range of a file. Answers its length.
+    /// Copies the runes of a file from place `p` to place `q` into the snarf buffer, and returns how many they are.
+    ///
+    /// Errors, in this order: `NoFile` if the tag has no file; `BadPosition` if `q` is less than `p` or past the end of the text;
+    /// `OutOfMemory`. After an error the files and the snarf buffer are unchanged.
     pub fn snarf(&mut self, alloc: Global, tag: u16, p: u32, q: u32) -> Result<u32, FilesFault>
         ensures allowed { IfOk result (λ n. (first_of_checks (no_file self.old.plain tag ∷ no_range self.old.plain tag p q ∷ []) ≡ None) × (n ≡ q - p)) }
         ensures refused { IfErr result (IsFault (first_of_checks (no_file self.old.plain tag ∷ no_range self.old.plain tag p q ∷ []))) }
@@ -206,7 +231,9 @@ impl Files {
         Ok(q - p)
     }
 
-    /// The snarf buffer becomes these runes.
+    /// Copies `runes` into the snarf buffer.
+    ///
+    /// Errors, in this order: `TooLong` if there are more than 1,000,000; `OutOfMemory`. After an error the snarf buffer is unchanged.
     pub fn set_snarf(&mut self, alloc: Global, runes: &[char]) -> Result<(), FilesFault>
         ensures allowed { OnOk result (length runes.now ≤ max_runes) }
         ensures refused { IfErr result (IsFault (first_of_checks (too_long (length runes.now) ∷ []))) }
@@ -225,7 +252,11 @@ impl Files {
         Ok(())
     }
 
-    /// Dot becomes the word round `p`, or the empty string there. Answers it.
+    /// Sets the dot of a file to the word that has place `p` inside it or at an edge, or to the empty range at `p` if there is none.
+    /// Returns the new dot. A word is made of ASCII letters, digits and underscores, and of runes above U+007F.
+    ///
+    /// Errors, in this order: `NoFile` if the tag has no file; `BadPosition` if `p` is past the end of the text. After an error the files
+    /// are unchanged.
     pub fn double_click(&mut self, tag: u16, p: u32) -> Result<(u32, u32), FilesFault>
         ensures answer { result ≡ unless (first_of_checks (no_file self.old.plain tag ∷ past_end self.old.plain tag p ∷ [])) (word_at (file_at self.old.plain tag).text p) }
         ensures done { IfOk result (λ dot. self.new.plain ≡ with_dot self.old.plain tag dot.0 dot.1) }
@@ -238,7 +269,11 @@ impl Files {
         Ok((start, end))
     }
 
-    /// Adds a clean and closed file of this name and text under the next tag, and answers the tag.
+    /// Adds a file with copies of this name and text under the next tag, and returns the tag. The file is clean, closed and not announced.
+    /// The caller makes sure that the name has at most 64 runes.
+    ///
+    /// Errors, in this order: `TooLong` if the text has more than 1,000,000 runes; `NoTag` if all 65,536 tags were given; `OutOfMemory`.
+    /// After an error the files are unchanged.
     pub fn new_file(
         &mut self,
         alloc: Global,
@@ -270,7 +305,10 @@ impl Files {
         self.add_file(name, text)
     }
 
-    /// Adds a clean and closed file of this name and text under the next tag, and answers the tag.
+    /// Adds a file of this name and text, which are not copied, under the next tag, and returns the tag. The file is clean, closed and not
+    /// announced. The caller makes sure that the name has at most 64 runes.
+    ///
+    /// Errors, in this order: `NoTag` if all 65,536 tags were given; `OutOfMemory`. After an error the files are unchanged.
     pub fn add_file(&mut self, name: Runes, text: Text) -> Result<u16, FilesFault>
         requires { length name ≤ most_in_name }
         ensures allowed { OnOk result (first_of_checks (no_tag self.old.plain ∷ []) ≡ None) }
@@ -288,7 +326,10 @@ impl Files {
         Ok(tag as u16)
     }
 
-    /// Adds an empty file for the terminal under the next tag: clean, open, announced and with no name. Answers the tag.
+    /// Adds a file for the terminal under the next tag, and returns the tag. The file has an empty text and no name, and it is clean, open
+    /// and announced.
+    ///
+    /// Errors, in this order: `NoTag` if all 65,536 tags were given; `OutOfMemory`. After an error the files are unchanged.
     pub fn start_file(&mut self, alloc: Global) -> Result<u16, FilesFault>
         ensures allowed { OnOk result (first_of_checks (no_tag self.old.plain ∷ []) ≡ None) }
         ensures refused { IfErr result (IsFault (first_of_checks (no_tag self.old.plain ∷ []))) }
@@ -305,8 +346,12 @@ impl Files {
         Ok(tag as u16)
     }
 
-    /// What stands from `p` to `q` becomes the pattern, and dot its first occurrence from `q` on, else from the start. Answers the
-    /// new dot. A range that is empty or longer than 128 runes answers none, and leaves all as it is.
+    /// Searches a file for what stands in it from place `p` to place `q`: that becomes the pattern, and its first occurrence from `q` on,
+    /// or else the first of the text, becomes dot. Returns the new dot. There is always one, since the range itself is an occurrence;
+    /// but if the range is empty or longer than 128 runes, the call returns `None`, changes nothing, and asks for no memory.
+    ///
+    /// Errors, in this order: `NoFile` if the tag has no file; `BadPosition` if `q` is less than `p` or past the end of the text;
+    /// `OutOfMemory`. After an error files and pattern are unchanged.
     pub fn look(
         &mut self,
         alloc: Global,
@@ -318,7 +363,7 @@ impl Files {
         ensures refused { IfErr result (IsFault (first_of_checks (no_file self.old.plain tag ∷ no_range self.old.plain tag p q ∷ []))) }
         ensures found { IfOk result (λ found. found ≡ look_of (file_at self.old.plain tag).text (part (file_at self.old.plain tag).text p q) q) }
         ensures done { OnOk result (self.new.plain ≡ with_look self.old.plain tag (part (file_at self.old.plain tag).text p q) q) }
-        // What may be no pattern wants no memory.
+        // A range that may not be a pattern asks for no memory.
         ensures memory { may_look (part (file_at self.old.plain tag).text p q) ≡ false →
             result ≡ unless (first_of_checks (no_file self.old.plain tag ∷ no_range self.old.plain tag p q ∷ [])) None }
         ensures rooms { KeepRooms self.old self.new }
@@ -341,8 +386,12 @@ impl Files {
         Ok(found)
     }
 
-    /// Dot becomes the first occurrence of the pattern from `q` on, else from the start. Answers it; none where there is no pattern
-    /// or it stands nowhere, and all is left as it is.
+    /// Searches a file for the pattern that was searched last: its first occurrence from place `q` on, or else the first of the text,
+    /// becomes dot. Returns the new dot. If there is no pattern or it stands nowhere, returns `None` and changes nothing. Place `p` is
+    /// only checked.
+    ///
+    /// Errors, in this order: `NoFile` if the tag has no file; `BadPosition` if `q` is less than `p` or past the end of the text. After an
+    /// error the files are unchanged.
     pub fn search(&mut self, tag: u16, p: u32, q: u32) -> Result<Option<(u32, u32)>, FilesFault>
         ensures answer { result ≡ unless (first_of_checks (no_file self.old.plain tag ∷ no_range self.old.plain tag p q ∷ [])) (search_of self.old.plain tag q) }
         ensures done { OnOk result (self.new.plain ≡ with_found self.old.plain tag (search_of self.old.plain tag q)) }
@@ -357,8 +406,11 @@ impl Files {
         Ok(found)
     }
 
-    /// What stands in the snarf buffer is put in a file at place `p`. Dot is then what was put in, and a file other than the command
-    /// file is dirty.
+    /// Puts what is in the snarf buffer in a file at place `p`. Dot is then what was put in, and the file becomes dirty, unless it is the
+    /// command file.
+    ///
+    /// Errors, in this order: `NoFile` if the tag has no file; `BadPosition` if `p` is past the end of the text; `TooLong` if the text
+    /// would have more than 1,000,000 runes; `OutOfMemory`. After an error the files and their rooms are unchanged.
     pub fn paste(&mut self, tag: u16, p: u32) -> Result<(), FilesFault>
         ensures allowed { OnOk result (first_of_checks (no_file self.old.plain tag ∷ past_end self.old.plain tag p ∷ too_long (length (file_at self.old.plain tag).text + length self.old.plain.snarf) ∷ []) ≡ None) }
         ensures refused { IfErr result (IsFault (first_of_checks (no_file self.old.plain tag ∷ past_end self.old.plain tag p ∷ too_long (length (file_at self.old.plain tag).text + length self.old.plain.snarf) ∷ []))) }
@@ -373,13 +425,16 @@ impl Files {
         self.put_snarf_in(tag, p, tag == 0)
     }
 
-    /// Puts runes at the end of the command file, whose dot is then its new end; no runes change nothing. False where its text would
-    /// be too long, and nothing is changed. Within its room no memory is asked for.
+    /// Prints `runes`: puts them at the end of the command file, and sets its dot to the empty range at the new end. Returns false, and
+    /// changes nothing, if its text would have more than 1,000,000 runes; true otherwise. To print no runes changes nothing.
+    ///
+    /// The only error is `OutOfMemory`, which doesn't come while the room of the command file is enough. After it the files and their
+    /// rooms are unchanged.
     pub fn print(&mut self, runes: &[char]) -> Result<bool, FilesFault>
         ensures told { IfOk result (λ fits. fits ≡ has_room self.old.plain runes.now) }
         ensures done { OnOk result (self.new.plain ≡ after_print self.old.plain runes.now) }
         ensures refused { OnErr result (result ≡ Err FilesFault.OutOfMemory) }
-        // Only what is printed wants memory.
+        // Memory is asked for only if something is printed.
         ensures memory { OnErr result (is_printed self.old.plain runes.now ≡ true) }
         ensures unchanged { OnErr result (self.new ≡ self.old) }
         ensures room { length runes.now ≤ room_at self.old.rooms 0 → IsOk result × (room_at self.old.rooms 0 ≤ room_at self.new.rooms 0 + length runes.now) }

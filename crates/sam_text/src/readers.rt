@@ -1,4 +1,4 @@
-//! What can be read of the files.
+//! What can be read of `Files` by tag: texts, names, dots, marks, and where words and patterns stand.
 
 ghost use Rattle.std.specs.Prelude.{◌≡◌, ◌<◌, ◌≤◌, IfOk, IfSome, length, option_map, option_and_then, option_copied, nat_lt};
 ghost use Rattle.sam_runes.specs.Texts.{max_runes, part, searched, word_at};
@@ -11,21 +11,22 @@ use sam_runes::{Runes, Text};
 use std::alloc::{AllocError, Global};
 
 impl Files {
-    /// Whether the tag has a file.
+    /// Returns whether the tag has a file.
     pub fn has(&self, tag: u16) -> bool
         ensures { result ≡ has_file self.now.plain tag }
     {
         self.file(tag).is_some()
     }
 
-    /// Whether the tag was given; its file may be closed since.
+    /// Returns whether the tag was given. Its file may have been closed since.
     pub fn was_given(&self, tag: u16) -> bool
         ensures { result ≡ nat_lt tag (length self.now.plain.slots) }
     {
         (tag as usize) < self.tags()
     }
 
-    /// What is known of a file: its dot is a range of its text, its text has at most 1,000,000 runes and its name at most 64.
+    /// Tells a proof what is always true of a file: its dot is a range of its text, its text has at most 1,000,000 runes, and its name at
+    /// most 64. It does nothing.
     pub fn known_file(&self, tag: u16)
         ensures fit { IsFit (file_at self.now.plain tag) }
         ensures name { HasShortName (file_at self.now.plain tag) }
@@ -33,7 +34,7 @@ impl Files {
         self.known();
     }
 
-    /// The text of a file.
+    /// Returns the text of a file, or `None` if the tag has no file.
     pub fn text(&self, tag: u16) -> Option<&Text>
         ensures { option_map (λ t. t.runes) (option_copied result) ≡ option_map (λ f. f.text) (slot self.now.plain.slots tag) }
     {
@@ -43,7 +44,7 @@ impl Files {
         }
     }
 
-    /// How many runes the text of a file has; 0 where the tag has none.
+    /// Returns how many runes the text of a file has, at most 1,000,000, or 0 if the tag has no file.
     pub fn text_len(&self, tag: u16) -> usize
         ensures len { result ≡ length (file_at self.now.plain tag).text }
         ensures limit { length (file_at self.now.plain tag).text ≤ max_runes }
@@ -54,7 +55,7 @@ impl Files {
         }
     }
 
-    /// The name of a file: at most 64 runes.
+    /// Returns the name of a file, at most 64 runes, or `None` if the tag has no file.
     pub fn name(&self, tag: u16) -> Option<&Runes>
         ensures value { option_copied result ≡ option_map (λ f. f.name) (slot self.now.plain.slots tag) }
         ensures short { IfSome result (λ name. length name.now ≤ most_in_name) }
@@ -65,7 +66,7 @@ impl Files {
         }
     }
 
-    /// The dot of a file: the range that is selected.
+    /// Returns the dot of a file, the selected range of its text, or `None` if the tag has no file.
     pub fn dot(&self, tag: u16) -> Option<(u32, u32)>
         ensures value { result ≡ option_map (λ f. f.dot) (slot self.now.plain.slots tag) }
         ensures range { IfSome result (λ dot. (dot.0 ≤ dot.1) × (dot.1 ≤ length (file_at self.now.plain tag).text)) }
@@ -76,7 +77,7 @@ impl Files {
         }
     }
 
-    /// What was written of a file last.
+    /// Returns the text of a file as it was written last, or `None` if it never was, or the tag has no file.
     pub fn saved(&self, tag: u16) -> Option<&Runes>
         ensures { option_copied result ≡ (file_at self.now.plain tag).saved }
     {
@@ -86,7 +87,7 @@ impl Files {
         }
     }
 
-    /// Whether the terminal has a window on the file of a tag.
+    /// Returns whether the terminal has a window on the file of a tag; false if the tag has no file.
     pub fn is_open(&self, tag: u16) -> bool
         ensures { result ≡ (file_at self.now.plain tag).opened }
     {
@@ -96,7 +97,7 @@ impl Files {
         }
     }
 
-    /// Whether the file of a tag was changed since it was written or made.
+    /// Returns whether the file of a tag was changed since it was made or written; false if the tag has no file.
     pub fn is_dirty(&self, tag: u16) -> bool
         ensures { result ≡ (file_at self.now.plain tag).dirty }
     {
@@ -106,7 +107,7 @@ impl Files {
         }
     }
 
-    /// Whether the terminal was told the name of the file of a tag.
+    /// Returns whether the terminal was told the name of the file of a tag; false if the tag has no file.
     pub fn is_announced(&self, tag: u16) -> bool
         ensures { result ≡ (file_at self.now.plain tag).announced }
     {
@@ -116,7 +117,7 @@ impl Files {
         }
     }
 
-    /// How many more runes can be put in the text of a file with no new memory; 0 where the tag has none.
+    /// Returns how many more runes the text of a file takes without asking for memory, or 0 if the tag has no file.
     pub fn room(&self, tag: u16) -> u32
         ensures { result ≡ room_at self.now.rooms tag }
     {
@@ -126,7 +127,8 @@ impl Files {
         }
     }
 
-    /// What stands in a file between two places.
+    /// Returns what stands in a file from place `p` to place `q`. The caller makes sure that this is a range of the text, which counts as
+    /// empty if the tag has no file.
     pub fn part(&self, tag: u16, p: u32, q: u32) -> &[char]
         requires ascending { p ≤ q }
         requires within { q ≤ length (file_at self.now.plain tag).text }
@@ -138,7 +140,8 @@ impl Files {
         }
     }
 
-    /// What stands in a file between two places, copied.
+    /// Returns a copy of what stands in a file from place `p` to place `q`. The caller makes sure that this is a range of the text, which
+    /// counts as empty if the tag has no file. The only error is want of memory.
     pub fn copy_part(&self, alloc: Global, tag: u16, p: u32, q: u32) -> Result<Runes, AllocError>
         requires ascending { p ≤ q }
         requires within { q ≤ length (file_at self.now.plain tag).text }
@@ -147,7 +150,7 @@ impl Files {
         Runes::from_slice(alloc, self.part(tag, p, q))
     }
 
-    /// The whole text of a file, copied.
+    /// Returns a copy of the text of a file, or no runes if the tag has no file. The only error is want of memory.
     pub fn copy_text(&self, alloc: Global, tag: u16) -> Result<Runes, AllocError>
         ensures { IfOk result (λ r. r ≡ (file_at self.now.plain tag).text) }
     {
@@ -160,7 +163,7 @@ impl Files {
         }
     }
 
-    /// The name of a file, copied.
+    /// Returns a copy of the name of a file, or no runes if the tag has no file. The only error is want of memory.
     pub fn copy_name(&self, alloc: Global, tag: u16) -> Result<Runes, AllocError>
         ensures { IfOk result (λ r. r ≡ (file_at self.now.plain tag).name) }
     {
@@ -170,7 +173,8 @@ impl Files {
         }
     }
 
-    /// Where `lit` stands in a file, from the place `from` on, else from the start.
+    /// Returns the first occurrence of `lit` in a file that begins at or after place `from`, or else the first of the text, as the places
+    /// of its start and its end; `None` if there is none. The caller makes sure that `lit` is not empty, and `from` not past the end.
     pub fn find(&self, tag: u16, lit: &[char], from: u32) -> Option<(u32, u32)>
         requires filled { 0 < length lit.now }
         requires within { from ≤ length (file_at self.now.plain tag).text }
@@ -186,7 +190,8 @@ impl Files {
         }
     }
 
-    /// The word round a place of a file, inside it or at an edge, else the empty string there.
+    /// Returns the word of a file that has place `p` inside it or at an edge, or the empty range at `p` if there is none. The caller makes
+    /// sure that `p` is not past the end. A word is made of ASCII letters, digits and underscores, and of runes above U+007F.
     pub fn word(&self, tag: u16, p: u32) -> (u32, u32)
         requires { p ≤ length (file_at self.now.plain tag).text }
         ensures value { result ≡ word_at (file_at self.now.plain tag).text p }
@@ -198,7 +203,8 @@ impl Files {
         }
     }
 
-    /// Where the pattern stands in a file from the place `from` on, else from the start; none where there is no pattern.
+    /// Returns the first occurrence of the pattern that was searched last in a file from place `from` on, or else the first of the text;
+    /// `None` if there is no pattern or it stands nowhere. The caller makes sure that `from` is not past the end.
     pub fn search_from(&self, tag: u16, from: u32) -> Option<(u32, u32)>
         requires { from ≤ length (file_at self.now.plain tag).text }
         ensures value { result ≡ search_of self.now.plain tag from }

@@ -1,4 +1,4 @@
-//! Command lines on the files.
+//! Command lines on the files: what a line does, and how that is put in.
 
 ghost use Rattle.std.specs.Prelude.{◌≡◌, ℕ, IfOk, OnErr, Err, Some, option_map};
 ghost use Rattle.sam_text.specs.Files.{RoomyFiles, file_at, committed, IsOutcomeOf};
@@ -15,12 +15,15 @@ use sam_runes::Runes;
 use std::alloc::Global;
 
 impl Files {
-    /// What a command line, without its newline, does to the work file. Nothing is changed. A wrong line is no refusal: its outcome
-    /// prints its word and does nothing else.
+    /// Returns what a command line, given without its newline, does to the work file. Nothing is changed yet: `commit` puts the outcome
+    /// in. A wrong line is not an error: its outcome prints a word such as `? search`, and does nothing else.
+    ///
+    /// The only error is `OutOfMemory`. If there are edits, the outcome holds the whole new text. The cost is linear in the length of the
+    /// text, once for each step of a chain, and in what the edits put in.
     pub fn run_line(&self, alloc: Global, line: &[char]) -> Result<Outcome, FilesFault>
         ensures value { IfOk result (λ o. effect o ≡ meaning self.now.plain line.now) }
         ensures refused { OnErr result (result ≡ Err FilesFault.OutOfMemory) }
-        // It can be put in while the files are as they were.
+        // The outcome can be committed while the files are as they were.
         ensures fits { IfOk result (λ o. IsOutcomeOf self.now.plain (effect o)) }
     {
         self.known();
@@ -30,7 +33,7 @@ impl Files {
         }
     }
 
-    /// The work file with its tag.
+    /// Returns the work file with its tag, if there is one.
     fn work_file(&self) -> Option<(u16, &File)>
         ensures { option_map (λ f. work f.0 f.1.now) result ≡ work_file self.now.plain }
     {
@@ -39,8 +42,11 @@ impl Files {
         Some((tag, file))
     }
 
-    /// Puts the outcome of a line in, and hands back what it prints. It takes no memory. A text that the outcome gives brings its own
-    /// room; every other text keeps its room.
+    /// Puts the outcome of a line in: the text, dot and name of its file, and the pattern. Returns what the line prints, which is not
+    /// printed yet. The file becomes dirty if there were edits. The caller makes sure that the outcome fits the files, as it does while its
+    /// file is as `run_line` found it. If `quit` is true, it is also the caller who ends the session.
+    ///
+    /// No memory is asked for. A new text brings its own room; every other text keeps its room.
     pub fn commit(&mut self, outcome: Outcome) -> Runes
         requires { IsOutcomeOf self.old.plain (effect outcome) }
         ensures done { self.new.plain ≡ committed self.old.plain (effect outcome) }

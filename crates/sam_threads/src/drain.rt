@@ -1,4 +1,4 @@
-//! Taking what nobody wants any more.
+//! Emptying a line whose items nobody wants any more.
 
 ghost use Rattle.std.specs.Prelude.{◌≡◌};
 ghost use Rattle.sam_queue.specs.History.{IsEnded, StartsWith};
@@ -6,7 +6,7 @@ ghost use Rattle.sam_queue.specs.History.{IsEnded, StartsWith};
 use sam_queue::{Got, Take};
 use std::sync::Wait;
 
-/// Takes and drops until each sender has left.
+/// Takes entries and drops them until each sender has left, and waits while the line is empty. So no sender waits forever for room.
 pub(crate) fn drop_rest<T: Drop, R: Wait>(rt: &R, take: &mut Take<T>)
     ensures line { take.new.line ≡ take.old.line }
     ensures taken { StartsWith take.new.taken take.old.taken }

@@ -1,4 +1,4 @@
-//! A terminal fed by pieces of the host's stream.
+//! A terminal that is fed the host's stream in pieces.
 
 ghost use Rattle.std.specs.Prelude.{◌≡◌, [], IsTrue, All, Some};
 ghost use Rattle.sam_mesg.specs.HostKinds.{fits_h};
@@ -11,23 +11,38 @@ use sam_term::fault::TermFault;
 use sam_term::term::Terminal;
 use std::alloc::Global;
 
-// The most messages that one frame makes a terminal compose: its unsent runes, and a request or an acknowledgement.
+/// The most messages that a terminal composes for one frame: its unsent runes, and then a request or an acknowledgement.
 const MOST: usize = 2;
 
-/// What a piece of the host's stream came to.
+/// What came of a piece of the host's stream that was fed to a terminal. If something stopped it, `composed` still has the messages for
+/// the frames before that.
 #[derive(Drop)]
 pub struct Fed {
-    /// What the terminal composed for the frames that it took, in order.
+    /// The messages that the terminal composed for the frames that it took, in order.
     pub composed: Vec<Tmesg>,
-    /// What stopped it: a fault of the stream (`Frame`), a refusal of the terminal (`Term`), or want of memory.
+    /// What stopped it: `Frame` for a fault of the stream, `Term` for a frame that the terminal refused, `Memory` for want of memory.
+    /// `None` if nothing did: then every frame that is whole with the piece was taken.
     pub stop: Option<Stop>,
 }
 
-/// Feeds the piece to the framer, and lets the terminal receive the frames that are whole with it, in order, up to the first fault.
+/// Feeds a piece of the host's stream to the framer, and lets the terminal take the frames that are whole with it, in order, up to the
+/// first that stops it.
 ///
-/// The terminal is left where the frames before the fault leave it, and the framer where `feed` leaves it: a frame that the terminal
-/// refuses, or that it had no memory for, is gone with those behind it. Where the framer itself met want of memory nothing has
-/// changed, and the piece may be fed again.
+/// ```rust
+/// let mut framer = FramerH::new(alloc);
+/// let fed = feed_terminal(alloc, &mut terminal, &mut framer, piece);
+/// for message in fed.composed { .. } // goes to the host
+/// ```
+///
+/// Stops, in this order:
+///
+/// - `Frame(5)` if the framer had failed before, `Frame(7)` if the stream would be longer than 2^64-1 bytes, `Memory` if there is no
+///   memory for the piece. Nothing has changed; after `Memory` the piece may be fed again.
+/// - For each frame: `Memory` if there is no memory for it, `Term` if the terminal refuses it. The frame is lost, and so are those behind
+///   it.
+/// - `Frame(1)`, `Frame(2)` or `Frame(3)` if the stream shows a fault behind the frames.
+///
+/// The terminal is where the frames that it took leave it, and the framer is where its `feed` leaves it.
 pub fn feed_terminal(
     alloc: Global,
     terminal: &mut Terminal,
@@ -63,7 +78,7 @@ pub fn feed_terminal(
     }
 }
 
-/// A piece that the framer refused.
+/// Returns what came of a piece that the framer did not take.
 fn nothing(alloc: Global, stop: Stop) -> Fed
     ensures { (result.composed.items ≡ []) × (result.stop ≡ Some stop) }
 {
@@ -73,7 +88,7 @@ fn nothing(alloc: Global, stop: Stop) -> Fed
     }
 }
 
-/// Lets the terminal receive the frames in order, up to the first that stops it. `behind` is what stops it behind the last.
+/// Lets the terminal take the frames in order, up to the first that stops it. `behind` is what stops it behind the last frame.
 fn take_all(
     alloc: Global,
     terminal: &mut Terminal,
@@ -98,7 +113,7 @@ fn take_all(
     }
 }
 
-/// Lets the terminal receive a frame. Room for what it composes is had before.
+/// Lets the terminal take a frame, and returns what stopped it. Room for the messages is made first, so that none is lost.
 fn take_one(terminal: &mut Terminal, frame: HFrame, composed: &mut Vec<Tmesg>) -> Option<Stop>
     requires { IsTrue (fits_h 2 frame.msg) }
     ensures { TakesOne frame terminal.old terminal.new composed.old.items composed.new.items result }

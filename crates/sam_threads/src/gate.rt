@@ -1,20 +1,23 @@
-//! Who may be stopped before it begins, or on its way.
+//! Gates, which let the workers of a session begin and go on, or stop them.
 ghost use Rattle.std.specs.Prelude.{ℕ, ◌<◌, IsFalse};
 
 use std::sync::atomic::{AtomicU64, Ordering};
 
-/// It lets the workers of a session begin and go on: keyboard 0, mouse 1, host 2, host reader 3, terminal 4.
+/// Lets the workers of a session begin and go on, or stops them. All five ask the same gate, each from its own thread: keyboard 0, mouse
+/// 1, host 2, host reader 3, terminal 4. A test can use a gate of its own to stop a worker where it likes.
 pub trait Gate: Sync {
-    /// Which workers it may refuse. It answers false for no other.
+    /// The workers that the gate may refuse: it returns false for no other.
     ghost may_refuse: { Self → ℕ → Type 0 };
 
-    /// Asked once as a worker begins. A worker that is refused does nothing, and the session was not run.
+    /// Returns whether the worker may begin. It is asked once, as the worker begins. A worker that is refused does no work, and the
+    /// session counts as not run.
     fn pass(&self, worker: usize) -> bool
         requires { worker < 5 }
         ensures { IsFalse result → may_refuse self.now worker };
 
-    /// Asked before each further event that a worker sends (0 and 1), message that it handles (2), frame that it sends on (3) or
-    /// item that it handles (4). `handled` counts these so far; once at 2^64-1 it stays there. A worker that is refused stops.
+    /// Returns whether the worker may go on. It is asked before each event that a worker sends (workers 0 and 1), message that it handles
+    /// (2), frame that it sends on (3), or item that it handles (4). `handled` is how many of these the worker has done; once it is 2^64-1
+    /// it stays there. A worker that is refused stops with [`Stop::Gate`](crate::Stop::Gate).
     fn go_on(&self, worker: usize, handled: u64) -> bool
         requires { worker < 5 }
         ensures { IsFalse result → may_refuse self.now worker }
@@ -23,7 +26,7 @@ pub trait Gate: Sync {
     }
 }
 
-/// It refuses nobody.
+/// A gate that refuses nobody. It is the one to use outside of tests.
 #[derive(Drop)]
 pub struct OpenGate;
 
@@ -35,15 +38,18 @@ impl Gate for OpenGate {
     }
 }
 
-/// It lets workers begin once all five are there. It may refuse any.
+/// A gate that lets workers begin only once all five have come to it. A worker raises its flag and then looks at all five flags; it is
+/// refused if it has looked `turns` times and never saw all of them up. Flags stay up, so a gate serves one session.
 #[derive(Drop)]
 pub struct FlagGate {
+    /// A flag for each worker, by its number: 0 until the worker has come to the gate, and 1 from then on.
     flags: [AtomicU64; 5],
+    /// How often a worker looks at the flags before it is refused.
     turns: u64,
 }
 
 impl FlagGate {
-    /// A gate at which a worker raises its flag, and looks at all five at most so many times; it passes once it sees all of them up.
+    /// Makes a gate with all flags down. A worker looks at the flags at most `turns` times, so with 0 each worker is refused.
     pub fn new(turns: u64) -> FlagGate {
         FlagGate {
             flags: [
@@ -57,7 +63,7 @@ impl FlagGate {
         }
     }
 
-    /// Whether all five flags are up.
+    /// Returns whether all five flags are up.
     fn all_up(&self) -> bool {
         for flag in &self.flags {
             if flag.load(Ordering::SeqCst) == 0 {
@@ -71,6 +77,7 @@ impl FlagGate {
 impl Gate for FlagGate {
     ghost may_refuse = { λ _ _. Unit {0} };
 
+    /// Raises the worker's flag, and returns true once it sees all five up. It returns false if it has looked `turns` times.
     fn pass(&self, worker: usize) -> bool {
         self.flags[worker].store(1, Ordering::SeqCst);
         for _ in 0..self.turns {

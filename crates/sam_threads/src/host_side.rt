@@ -1,4 +1,4 @@
-//! The host's worker.
+//! The worker of the host.
 
 ghost use Rattle.std.specs.Prelude.{◌≡◌, ◌<◌, ◌≤◌, ◌++◌, ◌∷◌, [], List, ℕ, All, IfOk, Some, None, false, length};
 ghost use Rattle.std.specs.Global.{Vec};
@@ -32,7 +32,7 @@ use sam_runes::Runes;
 use std::alloc::{AllocError, Global};
 use std::sync::Wait;
 
-/// Reads off each frame that it is a value of its type.
+/// Reads off each frame what is known of it: that it is a value of its type. It does nothing else.
 fn frames_are_known(frames: &[HFrame])
     ensures { Each IsHFrame frames.now }
 {
@@ -41,7 +41,7 @@ fn frames_are_known(frames: &[HFrame])
     }
 }
 
-/// The bytes of the frames, one after another.
+/// Returns the bytes of the frames, one frame after another. The error is want of memory.
 fn bytes_of(alloc: Global, frames: &[HFrame]) -> Result<Vec<u8>, MesgFault>
     requires { Each (FitsH 2) frames.now }
     ensures { IfOk result (λ bytes. bytes.items ≡ stream_of host frames.now) }
@@ -53,7 +53,7 @@ fn bytes_of(alloc: Global, frames: &[HFrame]) -> Result<Vec<u8>, MesgFault>
     Ok(bytes)
 }
 
-/// What a refusal of the host is for its worker.
+/// Returns what a refusal of the host is for its worker.
 fn refusal(why: HostFault) -> Stop
     ensures { result ≡ of_refusal why }
 {
@@ -63,21 +63,27 @@ fn refusal(why: HostFault) -> Stop
     }
 }
 
-/// The host, and what stands between it and the lines.
+/// The host, and what stands between it and its lines. Bytes go from the line up into the framer, messages from there to the host, and the
+/// bytes of its frames into the post.
 #[derive(Drop)]
 struct HostSide<'q> {
+    /// Where the bytes of the answers take their memory from.
     alloc: Global,
-    /// The most bytes of a piece.
+    /// The most bytes of a piece: at least 1.
     piece: usize,
+    /// The host, as the messages handled so far left it.
     host: Host,
+    /// Cuts the terminal's stream into messages, and holds what is no whole message yet.
     framer: FramerT,
+    /// The worker's post to the line down, open until the worker has come to its end.
     post: Post<'q, Vec<u8>>,
-    /// How many messages were handled, as far as that can be counted.
+    /// How many messages were handled; once at 2^64-1 it stays there.
     handled: u64,
 }
 
 impl HostSide<'_> {
-    /// Puts the frames' bytes.
+    /// Puts the bytes of the frames into the line down, and waits while it is full. Its only error is want of memory; the first of the
+    /// bytes may then have been put.
     fn send<R: Wait>(&mut self, rt: &R, frames: &[HFrame]) -> Result<(), AllocError>
         requires piece { 0 < self.old.piece }
         requires open { self.old.post.closed ≡ false }
@@ -93,7 +99,8 @@ impl HostSide<'_> {
         send_pieces(rt, self.alloc, &mut self.post, bytes.as_slice(), self.piece)
     }
 
-    /// Handles one message.
+    /// Lets the host handle one message, and sends its answer. The errors are the host's refusal, and `Memory`; after `Memory` the host
+    /// may have handled the message, and a part of the answer may be missing.
     fn answer<R: Wait>(&mut self, rt: &R, message: Tmesg) -> Result<(), Stop>
         requires piece { 0 < self.old.piece }
         requires open { self.old.post.closed ≡ false }
@@ -114,7 +121,7 @@ impl HostSide<'_> {
         }
     }
 
-    /// Handles messages in order, as far as nothing stops it.
+    /// Handles the messages in order, up to the first at which something stops it, which is the error.
     fn answer_all<R: Wait, G: Gate>(
         &mut self,
         rt: &R,
@@ -141,7 +148,7 @@ impl HostSide<'_> {
         Ok(())
     }
 
-    /// Handles the messages before a fault of this number, and stops.
+    /// Handles the messages before a fault of this number. Returns the fault, or what stopped it before that.
     fn answer_before<R: Wait, G: Gate>(
         &mut self,
         rt: &R,
@@ -162,7 +169,7 @@ impl HostSide<'_> {
         }
     }
 
-    /// Handles the messages that are whole with this piece, also before a fault.
+    /// Handles the messages that are whole with this piece, also those before a fault of the stream.
     fn take_piece<R: Wait, G: Gate>(&mut self, rt: &R, gate: &G, piece: &[u8]) -> Result<(), Stop>
         requires piece { 0 < self.old.piece }
         requires open { self.old.post.closed ≡ false }
@@ -187,7 +194,7 @@ impl HostSide<'_> {
         }
     }
 
-    /// Handles what comes until the end mark, and answers what stopped it before that.
+    /// Handles what comes until the end mark. Returns what stopped it before that.
     fn serve<R: Wait, G: Gate>(
         &mut self,
         rt: &R,
@@ -216,7 +223,7 @@ impl HostSide<'_> {
         unreachable!()
     }
 
-    /// Serves if the gate lets it begin, and answers whether it did and what stopped it.
+    /// Serves if the gate lets the worker begin. Returns whether it did, and what stopped it.
     fn run<R: Wait, G: Gate>(
         &mut self,
         rt: &R,
@@ -239,7 +246,7 @@ impl HostSide<'_> {
     }
 }
 
-/// Takes and drops the rest where something stopped the worker. Where nothing did, the end mark was taken already.
+/// Takes and drops the rest if something stopped the worker. If nothing did, the end mark was taken already.
 fn drop_after<R: Wait>(rt: &R, take: &mut Take<Vec<u8>>, stop: Option<Stop>)
     requires { stop ≡ None → IsEnded take.old.line.senders take.old.taken }
     ensures line { take.new.line ≡ take.old.line }
@@ -252,8 +259,14 @@ fn drop_after<R: Wait>(rt: &R, take: &mut Take<Vec<u8>>, stop: Option<Stop>)
     drop_rest(rt, take);
 }
 
-/// The host's worker, number 2: it handles the messages that come up, and sends the frames of its answers down, in pieces of at most
-/// `piece` bytes. Where something stops it, it closes and goes on taking and dropping until the end mark.
+/// Handles the messages that come up, sends the frames of the answers down in pieces of at most `piece` bytes, and returns the worker's
+/// end. It is worker 2, the host. It begins with `host`, a new host of `files`: at most 65,535 names and texts. It waits while the line up
+/// is empty or the line down is full.
+///
+/// The end's `stop` tells why it stopped before the end mark: `Gate` if the gate refused it; `Host` if the host refused a message;
+/// `Frame(1)`, `Frame(2)` or `Frame(3)` for a fault of the stream, once the messages before the fault are handled; `Frame(7)` if the
+/// stream is longer than 2^64-1 bytes; `Memory` for want of memory, and then the end of the last answer may be missing. Once stopped it
+/// closes its post, and takes and drops until the end mark, so that the terminal's bytes always find room.
 pub fn serve_host<'q, R: Wait, G: Gate>(
     rt: &R,
     alloc: Global,

@@ -1,13 +1,14 @@
-//! What comes to the terminal.
+//! What the line of events carries to the terminal.
 
 use sam_mesg::HFrame;
 use sam_term::event::UserEvent;
 
-/// What the line of events carries to the terminal.
+/// One item of the line of events. The keyboard (sender 0) and the mouse (sender 1) send only `User`, and the host reader (sender 2) sends
+/// only `Host`.
 #[derive(Drop)]
 pub enum Input {
-    /// What the user does, from the keyboard or the mouse.
+    /// Something the user did, at the keyboard or with the mouse.
     User(UserEvent),
-    /// A frame of the host, from the host reader.
+    /// A frame of the host, as the host reader cut it from the stream.
     Host(HFrame),
 }

@@ -1,4 +1,5 @@
-//! The five workers of a session, keyboard, mouse, host, host reader and terminal, and the lines between them.
+//! The five workers of a session and the three lines between them. The terminal sends bytes up to the host, the host sends bytes down to
+//! the host reader, and the keyboard, the mouse and the host reader send events and frames to the terminal.
 #![tactic(auto)]
 
 mod drain;

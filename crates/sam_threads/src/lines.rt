@@ -1,4 +1,4 @@
-//! The lines of a session.
+//! The three lines of a session.
 ghost use Rattle.std.specs.Prelude.{◌≡◌, ◌<◌, IfOk};
 
 use crate::input::Input;
@@ -6,12 +6,20 @@ use sam_queue::{Line, OutOfMemory, Start};
 use std::alloc::Global;
 use std::marker::Model;
 
-/// The three lines of one session: up carries pieces of bytes from the terminal to the host, down from the host to the host reader, and
-/// the line of events carries what comes to the terminal from the keyboard, the mouse and the host reader.
+/// The three lines of one session. Up carries pieces of bytes from the terminal to the host, and down from the host to the host reader.
+/// The line of events carries to the terminal what comes from the keyboard, the mouse and the host reader.
+///
+/// ```rust
+/// let (lines, starts) = Lines::new(alloc, 16)?;
+/// let ends = run_ends(rt, alloc, &lines, starts, &script, 64, &OpenGate)?;
+/// ```
 #[derive(Drop)]
 pub struct Lines {
+    /// From the terminal to the host. It has one sender.
     pub(crate) up: Line<Vec<u8>>,
+    /// From the host to the host reader. It has one sender.
     pub(crate) down: Line<Vec<u8>>,
+    /// To the terminal. It has three senders: keyboard 0, mouse 1, host reader 2.
     pub(crate) events: Line<Input>,
 }
 
@@ -26,11 +34,15 @@ impl Model for Lines {
     ghost invariant = { λ l. (l.up.senders ≡ 1) × (l.down.senders ≡ 1) × (l.events.senders ≡ 3) };
 }
 
-/// The right to the ends of one session's lines, once. Contracts see it as its lines.
+/// The right to make the ends of one session's lines, once. `Lines::new` hands it out with the lines, and running the session spends it.
+/// Contracts see it as its lines.
 #[derive(Drop)]
 pub struct Starts {
+    /// The right to the ends of the line up.
     pub(crate) up: Start<Vec<u8>>,
+    /// The right to the ends of the line down.
     pub(crate) down: Start<Vec<u8>>,
+    /// The right to the ends of the line of events.
     pub(crate) events: Start<Input>,
 }
 
@@ -43,7 +55,8 @@ impl Model for Starts {
 }
 
 impl Lines {
-    /// Makes empty lines that hold up to so many entries each, with the right to their ends.
+    /// Makes three empty lines, with the right to their ends. Each line holds up to `capacity` entries, items and end marks alike;
+    /// `capacity` is at least 1. All slots are made here, so sending and taking need no memory. Its only error is want of memory.
     pub fn new(alloc: Global, capacity: usize) -> Result<(Lines, Starts), OutOfMemory>
         requires { 0 < capacity }
         ensures together { IfOk result (λ r. r.1 ≡ r.0) }
@@ -61,7 +74,7 @@ impl Lines {
         Ok((lines, starts))
     }
 
-    /// The line from the terminal to the host.
+    /// Returns the line from the terminal to the host. It has one sender.
     pub fn up(&self) -> &Line<Vec<u8>>
         ensures line { result.now ≡ self.now.up }
         ensures senders { self.now.up.senders ≡ 1 }
@@ -69,7 +82,7 @@ impl Lines {
         &self.up
     }
 
-    /// The line from the host to the host reader.
+    /// Returns the line from the host to the host reader. It has one sender.
     pub fn down(&self) -> &Line<Vec<u8>>
         ensures line { result.now ≡ self.now.down }
         ensures senders { self.now.down.senders ≡ 1 }
@@ -77,7 +90,7 @@ impl Lines {
         &self.down
     }
 
-    /// The line to the terminal.
+    /// Returns the line of events, which leads to the terminal. It has three senders.
     pub fn events(&self) -> &Line<Input>
         ensures line { result.now ≡ self.now.events }
         ensures senders { self.now.events.senders ≡ 3 }
@@ -87,7 +100,7 @@ impl Lines {
 }
 
 impl Starts {
-    /// The rights to the ends of up, of down and of the line to the terminal.
+    /// Returns the rights to the ends of the line up, of the line down and of the line of events, in this order.
     pub fn parts(self) -> (Start<Vec<u8>>, Start<Vec<u8>>, Start<Input>)
         ensures up { result.0 ≡ self.up }
         ensures down { result.1 ≡ self.down }

@@ -15,8 +15,9 @@ use std::alloc::{AllocError, Global};
 use std::marker::Model;
 use std::sync::Wait;
 
+/// Adds the bytes of the messages at the end of `out`, in order. After an error, which is want of memory, some of the first of these bytes
+/// stand there.
 #[tactic(auto, using(crate::proofs::Outboxes::all_encoded, crate::proofs::Outboxes::rest_lost))]
-// Puts the frames of the messages at the end, as far as there is memory for them.
 fn encode_all(messages: &[Tmesg], out: &mut Vec<u8>) -> Result<(), MesgFault>
     requires { All (λ m. IsTrue (fits_t 2 m)) messages.now }
     ensures encoded { OnOk result (out.new.items ≡ out.old.items ++ stream_of terminal messages.now) }
@@ -28,7 +29,7 @@ fn encode_all(messages: &[Tmesg], out: &mut Vec<u8>) -> Result<(), MesgFault>
     Ok(())
 }
 
-// What is known of each message.
+/// Reads off each message what is known of it: that it fits in version 2. It does nothing else.
 fn know_all(messages: &[Tmesg])
     requires { All (λ m. IsTrue (fits_t 2 m)) messages.now }
     ensures { Each (FitsT 2) messages.now }
@@ -38,11 +39,13 @@ fn know_all(messages: &[Tmesg])
     }
 }
 
-/// Bytes that are taken from the front, a piece at a time. What was taken is let go of once it is more than half of all, so
-/// that a byte is moved at most once for each byte that was taken.
+/// Bytes that are taken from the front, a piece at a time. Taken bytes are let go of once they are more than half of all, so that a byte
+/// is moved at most once for each byte that is taken. Contracts see the bytes that are not taken yet.
 #[derive(Drop)]
 struct Uncut {
+    /// The bytes, with those in front that are taken already.
     bytes: Vec<u8>,
+    /// How many bytes in front are taken: at most all.
     start: usize,
 }
 
@@ -57,6 +60,7 @@ impl Model for Uncut {
 }
 
 impl Uncut {
+    /// Makes an empty list of bytes. It takes no memory.
     fn new(alloc: Global) -> Uncut
         ensures { result ≡ [] }
     {
@@ -66,6 +70,7 @@ impl Uncut {
         }
     }
 
+    /// Returns whether no byte is left to take.
     #[tactic(auto, using(crate::proofs::Outboxes::nothing_behind))]
     fn is_empty(&self) -> bool
         ensures { IsTrue result → self.now ≡ [] }
@@ -73,6 +78,7 @@ impl Uncut {
         self.start == self.bytes.len()
     }
 
+    /// Adds the bytes of the messages behind the others. After an error, which is want of memory, some of the first of them stand there.
     #[tactic(auto, using(crate::proofs::Outboxes::behind_start, crate::proofs::Outboxes::within_grown, crate::proofs::Outboxes::all_behind))]
     fn push_all(&mut self, messages: &[Tmesg]) -> Result<(), MesgFault>
         requires { All (λ m. IsTrue (fits_t 2 m)) messages.now }
@@ -82,7 +88,7 @@ impl Uncut {
         encode_all(messages, &mut self.bytes)
     }
 
-    // Lets go of the bytes that were taken, where they are more than half.
+    /// Lets go of the bytes that are taken, if they are more than half of all.
     fn forget(&mut self)
         ensures { self.new ≡ self.old }
     {
@@ -94,8 +100,9 @@ impl Uncut {
         }
     }
 
+    /// Takes up to `most` bytes from the front as a piece. Returns `None` if there are none. After an error, which is want of memory, all
+    /// is as it was.
     #[tactic(auto, using(std::proofs::lemmas::List::Folds::drop_split))]
-    // Takes at most so many bytes from the front; nothing where there are none.
     fn cut(&mut self, alloc: Global, most: usize) -> Result<Option<Vec<u8>>, AllocError>
         requires { 0 < most }
         ensures cut { IfOk result (λ piece. self.old ≡ piece_bytes piece ++ self.new) }
@@ -114,13 +121,17 @@ impl Uncut {
     }
 }
 
-/// The bytes of messages that were not yet put. Contracts see them as one list, and how long a piece may be.
+/// The bytes of composed messages that are not put into the line yet. They stand here so that the terminal never waits in a send.
+/// Contracts see them as one list, and how many bytes a piece may have.
 #[derive(Drop)]
 pub(crate) struct Outbox {
+    /// Where pieces take their memory from.
     alloc: Global,
+    /// The most bytes of a piece: at least 1.
     most: usize,
-    // The piece that is next, where it was cut and the line was full.
+    /// The next piece, if it was cut and the line was full. It has 1 to `most` bytes.
     ready: Option<Vec<u8>>,
+    /// The bytes behind that piece.
     rest: Uncut,
 }
 
@@ -136,7 +147,7 @@ impl Model for Outbox {
 }
 
 impl Outbox {
-    /// An empty one, of which pieces of at most so many bytes are put.
+    /// Makes an empty outbox, for pieces of at most `most` bytes. It takes no memory.
     pub(crate) fn new(alloc: Global, most: usize) -> Outbox
         requires { 0 < most }
         ensures { result ≡ record { bytes = []; most = most } }
@@ -149,15 +160,15 @@ impl Outbox {
         }
     }
 
-    /// Whether there is nothing to put.
+    /// Returns whether nothing is left to put.
     pub(crate) fn is_empty(&self) -> bool
         ensures { IsTrue result → self.now.bytes ≡ [] }
     {
         self.ready.is_none() && self.rest.is_empty()
     }
 
+    /// Adds the bytes of the messages behind the others. After an error, which is want of memory, some of the first of them stand there.
     #[tactic(auto, using(crate::proofs::Outboxes::behind_front))]
-    /// Puts the frames of the messages behind what is there. Where memory is wanted, the first of their bytes stand there.
     pub(crate) fn push_all(&mut self, messages: &[Tmesg]) -> Result<(), MesgFault>
         requires { All (λ m. IsTrue (fits_t 2 m)) messages.now }
         ensures fit { Each (FitsT 2) messages.now }
@@ -169,8 +180,9 @@ impl Outbox {
         self.rest.push_all(messages)
     }
 
+    /// Puts the next piece if the line has room for it, without waiting. Returns whether it put one. After an error, which is want of
+    /// memory, all is as it was.
     #[tactic(auto, using(crate::proofs::Outboxes::none_put, crate::proofs::Outboxes::one_put))]
-    /// Puts the next piece, if the line has room for it. False says that nothing was put.
     pub(crate) fn put<R: Wait>(
         &mut self,
         rt: &R,

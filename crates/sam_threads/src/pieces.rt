@@ -1,4 +1,4 @@
-//! Bytes put into a line piece by piece.
+//! Bytes put into a line in pieces.
 
 ghost use Rattle.std.specs.Prelude.{◌≡◌, ◌<◌, false};
 ghost use Rattle.sam_queue.specs.Views.{with_item};
@@ -8,7 +8,7 @@ use sam_queue::Post;
 use std::alloc::{AllocError, Global};
 use std::sync::Wait;
 
-/// Puts one piece.
+/// Puts one piece, and waits while the line is full.
 fn send_piece<R: Wait>(rt: &R, post: &mut Post<Vec<u8>>, piece: Vec<u8>)
     requires { post.old.closed ≡ false }
     ensures { post.new ≡ with_item post.old piece }
@@ -19,8 +19,8 @@ fn send_piece<R: Wait>(rt: &R, post: &mut Post<Vec<u8>>, piece: Vec<u8>)
     }
 }
 
-/// Puts the bytes in order, cut into pieces of so many bytes, of which the last may be shorter. Where memory is wanting the first
-/// pieces have been put.
+/// Puts the bytes in order, in pieces of `piece` bytes; the last piece may be shorter. It waits while the line is full. Its only error is
+/// want of memory; the first pieces have then been put, and the rest has not.
 pub(crate) fn send_pieces<R: Wait>(
     rt: &R,
     alloc: Global,

@@ -1,4 +1,4 @@
-//! The host reader's worker.
+//! The worker of the host reader, which cuts the host's stream into frames.
 
 ghost use Rattle.std.specs.Prelude.{◌≡◌, false, Some};
 ghost use Rattle.sam_queue.specs.Views.{new_post, new_take};
@@ -16,12 +16,16 @@ use sam_queue::{Got, Post, Take};
 use std::alloc::Global;
 use std::sync::Wait;
 
-// The host reader's number among the workers.
+/// The host reader's number among the workers.
 const WORKER: usize = 3;
 
-/// Takes the pieces of the host's stream and sends each frame on to the terminal, as worker 3. A fault of the stream stops it once
-/// the frames before the fault are sent on. Once stopped it closes its post, and goes on taking until the host has left, whose
-/// sends wait for room; what it takes then it drops.
+/// Takes the pieces of the host's stream, sends each frame on to the terminal, and returns the worker's end. It is worker 3, the host
+/// reader. It waits while the line down is empty or the line of events is full.
+///
+/// The end's `stop` tells why it stopped before the host had left: `Gate` if the gate refused it; `Frame(1)`, `Frame(2)` or `Frame(3)` for
+/// a fault of the stream, once the frames before the fault are sent on; `Frame(7)` if the stream is longer than 2^64-1 bytes; `Memory` for
+/// want of memory. Once stopped it closes its post, and takes and drops until the host has left, so that the host never waits forever for
+/// room.
 pub fn pass_frames<'q, R: Wait, G: Gate>(
     rt: &R,
     alloc: Global,
@@ -53,7 +57,7 @@ pub fn pass_frames<'q, R: Wait, G: Gate>(
     }
 }
 
-/// Closes the post, and then takes and drops until the host has left.
+/// Closes the post, takes and drops until the host has left, and returns the worker's end.
 fn leave<'q, R: Wait>(
     rt: &R,
     mut take: Take<'q, Vec<u8>>,
@@ -77,7 +81,7 @@ fn leave<'q, R: Wait>(
     }
 }
 
-/// Sends on the frames of the pieces that come, until the host has left or something stops it, which is answered.
+/// Sends on the frames of the pieces that come, until the host has left. Returns what stopped it before that.
 fn pass_pieces<R: Wait, G: Gate>(
     rt: &R,
     alloc: Global,
@@ -108,8 +112,7 @@ fn pass_pieces<R: Wait, G: Gate>(
     unreachable!()
 }
 
-/// Sends on the frames that are whole with this piece, and answers what stops it. It stops at a fault once the frames before it are
-/// sent on.
+/// Sends on the frames that are whole with this piece, also those before a fault of the stream. Returns what stopped it.
 fn pass_piece<R: Wait, G: Gate>(
     rt: &R,
     gate: &G,
@@ -134,7 +137,7 @@ fn pass_piece<R: Wait, G: Gate>(
     }
 }
 
-/// Sends on the frames before a fault of this number, and stops.
+/// Sends on the frames before a fault of this number. Returns what stopped it: the gate, or else the fault.
 fn send_before<R: Wait, G: Gate>(
     rt: &R,
     gate: &G,
@@ -150,7 +153,7 @@ fn send_before<R: Wait, G: Gate>(
     send_on(rt, gate, frames, post, handled).or(Some(Stop::Frame(number)))
 }
 
-/// Sends the frames on as far as the gate lets it go on.
+/// Sends the frames on for as long as the gate lets the worker go on, and counts them in `handled`. Returns `Gate` if it was refused.
 fn send_on<R: Wait, G: Gate>(
     rt: &R,
     gate: &G,

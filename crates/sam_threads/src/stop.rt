@@ -1,23 +1,27 @@
-//! Why a side stops.
+//! Why a worker of a session stops before its time.
 
 use thiserror::Error;
 
-/// Why a side stopped. A number is that of the fault in its own type.
+/// Why a worker of a session stopped before its time. A number is that of the fault in the type that the variant names, so `Host(1)` is
+/// `HostFault::NoFile`. [`feed_terminal`](crate::feed_terminal) and the program's modes tell their stops by it, too.
 #[derive(Clone, Copy, Debug, PartialEq, Eq, Error)]
 pub enum Stop {
-    /// The stream to it showed this fault: a number of `FeedFault`.
+    /// The stream to the side is wrong, by a number of `FeedFault`: 1 to 3 for a wrong frame, 4 if the stream ends within a frame, 5 if
+    /// the framer had failed before, 7 if the stream is too long to be counted. For the terminal's worker 1 is an event of the user that
+    /// the host reader sent, and 2 a frame that doesn't fit in version 2.
     #[error("bad frame ({0})")]
     Frame(u8),
-    /// The host refused a message: a number of `HostFault`.
+    /// The host refused a message, by a number of `HostFault`. Want of memory is `Memory`.
     #[error("refused by the host ({0})")]
     Host(u8),
-    /// The terminal refused a frame: a number of `TermFault`.
+    /// The terminal refused a frame, or it could not count the messages that it would compose (8), by a number of `TermFault`. Want of
+    /// memory is `Memory`.
     #[error("refused by the terminal ({0})")]
     Term(u8),
-    /// What it takes from ended before it was done.
+    /// The host reader left before the host had ended the session. Only the terminal's worker stops for this.
     #[error("the other side is gone")]
     PeerGone,
-    /// Its gate let it go no further.
+    /// The gate did not let the worker begin, or did not let it go on.
     #[error("stopped at its gate")]
     Gate,
     /// A request for memory was refused.

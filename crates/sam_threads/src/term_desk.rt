@@ -19,11 +19,14 @@ use sam_world::TermLog;
 use std::alloc::Global;
 use std::marker::Model;
 
-/// The terminal, and what it did. Room for an entry of the log is made before the step, so that no step is left out.
+/// The terminal, and a log of what it did. Room for an entry of the log is made before the step, so that the log misses no step.
 #[derive(Drop)]
 pub(crate) struct Desk {
+    /// Where the log and the copies of events in it take their memory from.
     pub(crate) alloc: Global,
+    /// The terminal, as the steps of the log left it.
     pub(crate) term: Terminal,
+    /// The steps made since the desk was made, in order.
     pub(crate) log: Vec<TermLog>,
 }
 
@@ -35,7 +38,7 @@ impl Model for Desk {
     ghost view = { λ d. record { term = d.term; log = d.log.items } };
 }
 
-// What a fault is for the worker.
+/// Returns what a fault of the terminal is for the worker.
 fn stop_of(fault: TermFault) -> Stop
     ensures { result ≡ of_fault fault }
 {
@@ -45,7 +48,7 @@ fn stop_of(fault: TermFault) -> Stop
     }
 }
 
-// The number of a fault.
+/// Returns the number of a fault.
 fn number_of(fault: TermFault) -> u8
     ensures { result ≡ fault_number fault }
 {
@@ -53,6 +56,7 @@ fn number_of(fault: TermFault) -> u8
 }
 
 impl Desk {
+    /// Makes a desk with this terminal and an empty log.
     pub(crate) fn new(alloc: Global, term: Terminal) -> Desk
         ensures { result ≡ record { term = term; log = [] } }
     {
@@ -63,22 +67,22 @@ impl Desk {
         }
     }
 
-    /// Whether the host ended the session.
+    /// Returns whether the host has ended the session.
     pub(crate) fn exited(&self) -> bool
         ensures { result ≡ self.now.term.has_exited }
     {
         self.term.exited()
     }
 
-    /// Whether runes are typed that no message has yet.
+    /// Returns whether some typed runes are in no message yet.
     pub(crate) fn has_unsent(&self) -> bool
         ensures { result ≡ is_some self.now.term.unsent }
     {
         self.term.has_unsent()
     }
 
+    /// Puts an event of the user behind the held ones. Its only error is `Memory`, and leaves the desk as it was.
     #[tactic(auto, using(crate::proofs::TermSteps::did_user))]
-    /// Puts an event of the user behind the held ones. Only want of memory refuses it.
     pub(crate) fn user(&mut self, event: UserEvent) -> Result<(), Stop>
         ensures held { OnOk result (Did self.old self.new (event ∷ []) [] []) }
         ensures refused { IfErr result (λ why. why ≡ Stop.Memory) }
@@ -94,8 +98,9 @@ impl Desk {
         Ok(())
     }
 
+    /// Lets the terminal take a frame, and returns the messages that it composes. The errors are `Term` with the number of the terminal's
+    /// fault, and `Memory`, which may come before it; they leave the desk as it was.
     #[tactic(auto, using(crate::proofs::TermSteps::did_take))]
-    /// Takes a frame, and answers what it composes.
     pub(crate) fn receive(&mut self, frame: HFrame) -> Result<Batch, Stop>
         requires { IsTrue (fits_h 2 frame.msg) }
         ensures taken { IfOk result (λ composed. Did self.old self.new [] (frame ∷ []) composed) }
@@ -117,8 +122,9 @@ impl Desk {
         }
     }
 
+    /// Tries the oldest held event, and returns what became of it. The errors are `Term(8)` for a full count, and `Memory`, which may come
+    /// before it; they leave the desk as it was.
     #[tactic(auto, using(crate::proofs::TermSteps::did_done, crate::proofs::TermSteps::did_refused, crate::proofs::TermSteps::did_idle, crate::proofs::TermSteps::did_locked, crate::proofs::TermSteps::idle_holds_none))]
-    /// Tries the oldest event that is held. Besides want of memory only a full count refuses that.
     pub(crate) fn act(&mut self) -> Result<Acted, Stop>
         ensures acted { IfOk result (λ acted. Did self.old self.new [] [] (composed_by acted)) }
         ensures idle { result ≡ Ok Acted.Idle → self.new.term.held ≡ [] }
@@ -144,8 +150,9 @@ impl Desk {
         }
     }
 
+    /// Composes the unsent runes, and returns their message. The errors are `Term(8)` for a full count, and `Memory`, which may come
+    /// before it; they leave the desk as it was.
     #[tactic(auto, using(crate::proofs::TermSteps::did_flush))]
-    /// Composes the unsent runes. Besides want of memory only a full count refuses that.
     pub(crate) fn flush(&mut self) -> Result<Batch, Stop>
         ensures flushed { IfOk result (λ composed. Did self.old self.new [] [] composed) }
         ensures refused { IfErr result (λ why. (why ≡ Stop.Memory) ⊎ ((why ≡ Stop.Term 8) × IsFullUp self.old.term)) }
@@ -164,7 +171,11 @@ impl Desk {
         }
     }
 
-    /// Handles an item of a sender, and answers what it composes.
+    /// Handles an item of the line of events, and returns the messages that the terminal composes. `sender` is 0 for the keyboard, 1 for
+    /// the mouse and 2 for the host reader.
+    ///
+    /// Errors, which leave the desk as it was: `Frame(1)` for an event of the user from the host reader; `Frame(2)` for a frame that
+    /// doesn't fit in version 2; else those of `user` or `receive`.
     pub(crate) fn handle(&mut self, sender: usize, input: Input) -> Result<Batch, Stop>
         requires { sender < 3 }
         ensures handled { IfOk result (λ composed. Did self.old self.new (user_of_load (Some input)) (frame_of_load (Some input)) composed) }

@@ -1,4 +1,4 @@
-//! The terminal's worker.
+//! The worker of the terminal.
 
 ghost use Rattle.std.specs.Prelude.{◌≡◌, ◌⊎◌, ◌<◌, [], IsTrue, Some, None, is_some, true, false};
 ghost use Rattle.sam_term.specs.Term.{new_terminal};
@@ -24,33 +24,48 @@ use std::thread;
 /// What a turn found in the line of events.
 #[derive(Clone, Copy, PartialEq, Eq)]
 enum Found {
+    /// An entry, which was taken.
     Entry,
+    /// No entry, though some sender has not left.
     Nothing,
+    /// The end mark of each sender was taken before.
     Ended,
 }
 
-/// What became of the oldest event that is held.
+/// What became of the oldest held event.
 #[derive(Clone, Copy, PartialEq, Eq)]
 enum Tried {
+    /// It was done or refused, and is held no longer.
     Went,
+    /// No event is held.
     Idle,
+    /// A lock holds it back.
     Locked,
+    /// The worker has stopped, at this try or before.
     Stopped,
 }
 
-/// The terminal with its ends of the lines. It stops handling where `stop` says why.
+/// The terminal with its ends of the lines. Once `stop` tells why, it handles nothing more: it only takes and drops what comes, and closes
+/// its post.
 #[derive(Drop)]
 struct Side<'q> {
+    /// The worker's take of the line of events, which has three senders.
     take: Take<'q, Input>,
+    /// The worker's post to the line up.
     post: Post<'q, Vec<u8>>,
+    /// The terminal, and its log from a new terminal on.
     desk: Desk,
+    /// The bytes of composed messages that are not put yet.
     outbox: Outbox,
-    /// How many items it has handled, up to 2^64-1.
+    /// How many items were handled; once at 2^64-1 it stays there.
     handled: u64,
+    /// Whether the end mark of the keyboard was taken.
     keyboard_left: bool,
+    /// Whether the end mark of the mouse was taken.
     mouse_left: bool,
-    /// Whether it has put an Exit of its own.
+    /// Whether the worker has put an Exit of its own, which it does only once keyboard and mouse have left.
     exit_put: bool,
+    /// Why the worker has stopped handling; `None` while it goes on.
     stop: Option<Stop>,
 }
 
@@ -65,6 +80,7 @@ impl<'q> Model for Side<'q> {
 }
 
 impl<'q> Side<'q> {
+    /// Makes the worker's state at its beginning. `stop` is `Gate` if the gate refused it.
     #[tactic(auto, using(crate::proofs::TermKeeping::kept_new))]
     fn new(
         alloc: Global,
@@ -95,7 +111,7 @@ impl<'q> Side<'q> {
         }
     }
 
-    // Tries the oldest event that is held.
+    /// Tries the oldest held event, and puts what it composes into the outbox.
     fn act_once(&mut self) -> Tried
         ensures goes { Goes self.old self.new }
         ensures tried { IsTried self.new result }
@@ -123,8 +139,8 @@ impl<'q> Side<'q> {
         }
     }
 
+    /// Acts until no event is held, a lock holds the oldest back, or something stops it.
     #[tactic(auto, using(crate::proofs::TermKeeping::goes_on))]
-    // Acts until no event is held, or a lock holds the oldest back.
     fn act_all<R: Wait>(&mut self, rt: &R)
         ensures { Goes self.old self.new }
     {
@@ -137,7 +153,7 @@ impl<'q> Side<'q> {
         unreachable!()
     }
 
-    // Sends the unsent runes.
+    /// Composes the unsent runes, if there are any.
     fn flush(&mut self)
         ensures { Goes self.old self.new }
     {
@@ -153,7 +169,8 @@ impl<'q> Side<'q> {
         }
     }
 
-    // Whether it is to put an Exit of its own: once keyboard and mouse have left, unless the session is over.
+    /// Returns whether an Exit of its own is to be put: once keyboard and mouse have left, if the session is not over and none was put
+    /// before.
     fn may_exit(&self) -> bool
         ensures { IsTrue result → MayExit self.now }
     {
@@ -164,7 +181,7 @@ impl<'q> Side<'q> {
             && !self.desk.exited()
     }
 
-    // Puts an Exit of its own behind the held events, if it is to.
+    /// Puts an Exit of its own behind the held events, if one is to be put.
     fn put_exit(&mut self)
         ensures { Goes self.old self.new }
     {
@@ -177,8 +194,8 @@ impl<'q> Side<'q> {
         }
     }
 
+    /// Puts the next piece if there is one and the line has room for it. Returns whether it put one.
     #[tactic(auto, using(crate::proofs::TermKeeping::kept_pieces, crate::proofs::TermKeeping::kept_short, crate::proofs::TermKeeping::goes_put))]
-    // Puts the next piece, and tells whether it did.
     fn put_piece<R: Wait>(&mut self, rt: &R) -> bool
         ensures { Goes self.old self.new }
     {
@@ -192,8 +209,8 @@ impl<'q> Side<'q> {
         put
     }
 
+    /// Puts pieces until none is left or the line is full. Returns whether it put any.
     #[tactic(auto, using(crate::proofs::TermKeeping::goes_on))]
-    // Puts pieces until none is left or the line is full. It tells whether it put any.
     fn put_pieces<R: Wait>(&mut self, rt: &R) -> bool
         ensures { Goes self.old self.new }
     {
@@ -207,8 +224,8 @@ impl<'q> Side<'q> {
         unreachable!()
     }
 
+    /// Closes the post unless the line is full. Returns whether the post is closed.
     #[tactic(auto, using(crate::proofs::TermKeeping::kept_closed))]
-    // Closes its line, unless that is full.
     fn try_close<R: Wait>(&mut self, rt: &R) -> bool
         ensures goes { Goes self.old self.new }
         ensures closed { IsTrue result → self.new ≡ record self.old { post = closed_post self.old.post } }
@@ -216,8 +233,9 @@ impl<'q> Side<'q> {
         self.post.try_close(rt)
     }
 
+    /// Takes the next entry, if there is one. It lets the terminal handle an item, and notes who has left. If the host reader has left
+    /// before the session is over, it stops.
     #[tactic(auto, using(crate::proofs::TermTaking::kept_gone, crate::proofs::TermTaking::kept_refused, crate::proofs::TermTaking::kept_gated))]
-    // Takes the next entry, and handles it.
     fn take_next<R: Wait, G: Gate>(&mut self, rt: &R, gate: &G) -> Found
         requires running { is_some self.old.stop ≡ false }
         ensures take { self.new.take.line ≡ self.old.take.line }
@@ -258,7 +276,7 @@ impl<'q> Side<'q> {
         }
     }
 
-    // Takes the next entry and drops it. It tells whether all have left.
+    /// Takes the next entry and drops it. Returns whether all have left before.
     fn drop_next<R: Wait>(&mut self, rt: &R) -> bool
         requires stopped { is_some self.old.stop ≡ true }
         ensures take { self.new.take.line ≡ self.old.take.line }
@@ -277,18 +295,20 @@ impl<'q> Side<'q> {
         }
     }
 
+    /// Returns whether something has stopped the worker.
     fn is_stopped(&self) -> bool
         ensures { result ≡ is_some self.now.stop }
     {
         self.stop.is_some()
     }
 
+    /// Returns whether all that was composed is put.
     fn has_empty_outbox(&self) -> bool {
         self.outbox.is_empty()
     }
 
+    /// Stops the worker if the session is not over: everybody has left, and without the host nothing ends it any more.
     #[tactic(auto, using(crate::proofs::TermKeeping::kept_lost))]
-    // Without the host nothing ends the session any more.
     fn lose_host(&mut self)
         requires { IsEnded 3 self.old.take.taken }
         ensures { Goes self.old self.new }
@@ -299,7 +319,7 @@ impl<'q> Side<'q> {
         self.stop = Some(Stop::PeerGone);
     }
 
-    // Whether the session is over, and nothing is held, unsent or not put.
+    /// Tries the oldest held event. Returns true only if the session is over, and nothing is held, unsent or not put.
     fn is_quiet(&mut self) -> bool
         ensures goes { Goes self.old self.new }
         ensures quiet { IsTrue result → IsQuiet self.new }
@@ -310,8 +330,8 @@ impl<'q> Side<'q> {
         }
     }
 
+    /// Closes the post if the session is over and all is put. Returns whether nothing more comes either, and so all is done.
     #[tactic(auto, using(crate::proofs::TermKeeping::goes_on, crate::proofs::TermKeeping::done_quiet))]
-    // Closes its line once all is put, and tells whether nothing more comes either.
     fn finish<R: Wait>(&mut self, rt: &R, found: Found) -> bool
         requires { IsFound self.old found }
         ensures goes { Goes self.old self.new }
@@ -331,8 +351,8 @@ impl<'q> Side<'q> {
         }
     }
 
+    /// Makes one turn where nothing has stopped the worker: it takes, acts, puts, and tries to finish. Returns whether all is done.
     #[tactic(auto, using(crate::proofs::TermKeeping::goes_on, crate::proofs::TermKeeping::found_still))]
-    // One turn where nothing has stopped it. It tells whether all is done.
     fn turn<R: Wait, G: Gate>(&mut self, rt: &R, gate: &G) -> bool
         requires running { is_some self.old.stop ≡ false }
         ensures take { self.new.take.line ≡ self.old.take.line }
@@ -355,8 +375,8 @@ impl<'q> Side<'q> {
         done
     }
 
+    /// Makes one turn after a stop: it drops an entry, and tries to close. Returns whether all have left and the post is closed.
     #[tactic(auto, using(crate::proofs::TermKeeping::done_stopped))]
-    // One turn after a stop. It tells whether all have left and its line is closed.
     fn last_turn<R: Wait>(&mut self, rt: &R) -> bool
         requires stopped { is_some self.old.stop ≡ true }
         ensures take { self.new.take.line ≡ self.old.take.line }
@@ -372,7 +392,7 @@ impl<'q> Side<'q> {
         ended && closed
     }
 
-    // Takes turns until all is done.
+    /// Makes turns until all is done.
     fn run<R: Wait, G: Gate>(&mut self, rt: &R, gate: &G)
         requires gate { self.old.stop ≡ Some Stop.Gate → G.may_refuse gate.now 4 }
         ensures take { self.new.take.line ≡ self.old.take.line }
@@ -393,6 +413,7 @@ impl<'q> Side<'q> {
         unreachable!()
     }
 
+    /// Returns the worker's end.
     #[tactic(auto, using(crate::proofs::TermTelling::told))]
     fn into_end(self, passed: bool) -> TermEnd<'q>
         requires { IsDone self }
@@ -427,8 +448,17 @@ impl<'q> Side<'q> {
     }
 }
 
-/// The terminal's worker. It never waits in a send: its bytes stand in its outbox. Where something stops it, it closes its line, and
-/// goes on taking and dropping, so that nobody waits for it.
+/// Runs the terminal on what comes over the line of events, puts the bytes of its messages into the line up in pieces of at most `piece`
+/// bytes, and returns the worker's end. It is worker 4, the terminal. It begins with `term`, a new terminal.
+///
+/// It never waits in a send: bytes for which the line has no room stand in an outbox. Once an entry is taken, held events act. Typed runes
+/// go up when the line of events is empty and nothing else is to be put. Once keyboard and mouse have left it puts an Exit of its own
+/// behind the held events, unless the session is over.
+///
+/// The end's `stop` is `None` if the host ended the session, everybody left, and nothing is held, unsent or not put. Else it is `Gate` if
+/// the gate refused the worker; `Frame(1)` or `Frame(2)` for an item that no worker of a session sends; `Term` if the terminal refused a
+/// frame or could not count a message; `PeerGone` if the host reader left before the session was over; `Memory` for want of memory. Once
+/// stopped it closes its post, and takes and drops until everybody has left, so that nobody waits for it.
 pub fn run_terminal<'q, R: Wait, G: Gate>(
     rt: &R,
     alloc: Global,

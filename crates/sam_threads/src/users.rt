@@ -1,4 +1,4 @@
-//! The keyboard's and the mouse's worker.
+//! The worker of the keyboard or of the mouse.
 
 ghost use Rattle.std.specs.Prelude.{◌≡◌, ℕ, ◌<◌, false, length, map, take, MatchBool, Some};
 ghost use Rattle.sam_queue.specs.Views.{new_post};
@@ -13,7 +13,11 @@ use sam_queue::Post;
 use sam_term::event::UserEvent;
 use std::sync::Wait;
 
-/// Sends the events in order and closes. The keyboard is worker 0, the mouse worker 1.
+/// Sends the events in order to the terminal, closes the post, and returns the worker's end. `worker` is 0 for the keyboard and 1 for the
+/// mouse. It waits while the line is full.
+///
+/// If the end's `stop` is `None`, all events were sent. If it is `Gate`, the gate refused the worker: at its beginning, and then nothing
+/// was sent, or on its way, and then only the first events were.
 pub fn send_events<'q, R: Wait, G: Gate>(
     rt: &R,
     gate: &G,
@@ -44,7 +48,7 @@ pub fn send_events<'q, R: Wait, G: Gate>(
     }
 }
 
-/// Puts the events in order as far as the gate lets it go on, and answers whether it put them all.
+/// Sends the events in order for as long as the gate lets the worker go on. Returns whether it sent them all.
 fn put_events<R: Wait, G: Gate>(
     rt: &R,
     gate: &G,

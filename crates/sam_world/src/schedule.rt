@@ -1,4 +1,4 @@
-//! The schedule that a terminal's log stands for.
+//! How a terminal's log becomes a schedule of both sides.
 
 ghost use Rattle.std.specs.Prelude.{◌≡◌, ◌++◌, ◌↔◌, ℕ, IfOk, OnOk, Err, IsTrue, replicate, true, not};
 ghost use Rattle.sam_world.specs.World.{merged, is_bad_log};
@@ -8,17 +8,18 @@ use crate::event::{Event, TermLog};
 use std::alloc::{AllocError, Global};
 use thiserror::Error;
 
-/// Why no schedule was made of a log.
+/// Why no schedule was made of a log. `BadLog` is tested first, for the whole log.
 #[derive(Clone, Copy, Debug, PartialEq, Eq, Error)]
 pub enum MergeFault {
-    /// Some frame that was taken saw more messages than the host took.
+    /// The log takes a frame that saw more messages than the host took in all.
     #[error("the log takes a frame from the future")]
     BadLog = 1,
+    /// A request for memory was refused. The same call may be made again.
     #[error("out of memory")]
     OutOfMemory = 2,
 }
 
-/// Puts so many takes of the host at the end.
+/// Appends this many takes of the host.
 fn push_takes(out: &mut Vec<Event>, count: u64) -> Result<(), AllocError>
     ensures { OnOk result (out.new.items ≡ out.old.items ++ replicate count Event.HostTake) }
 {
@@ -28,7 +29,7 @@ fn push_takes(out: &mut Vec<Event>, count: u64) -> Result<(), AllocError>
     Ok(())
 }
 
-/// Whether the entry takes no frame that saw more than so many messages.
+/// Returns false if and only if the entry takes a frame that saw more than `host_taken` messages.
 fn fits_entry(entry: &TermLog, host_taken: u64) -> bool
     ensures { result ≡ not (is_bad_entry entry.now host_taken) }
 {
@@ -38,7 +39,7 @@ fn fits_entry(entry: &TermLog, host_taken: u64) -> bool
     }
 }
 
-/// Puts the events of one entry at the end, and tells how many messages the host has then taken.
+/// Appends the events of one entry, before which the host has taken `done` messages. Returns how many it has taken behind them.
 fn push_entry(
     alloc: Global,
     out: &mut Vec<Event>,
@@ -69,6 +70,7 @@ fn push_entry(
     }
 }
 
+/// Makes the schedule, once no entry is known to be bad.
 fn merge_fitting(alloc: Global, log: &[TermLog], host_taken: u64) -> Result<Vec<Event>, AllocError>
     ensures { IfOk result (λ v. v.items ≡ merged log.now host_taken) }
 {
@@ -81,8 +83,12 @@ fn merge_fitting(alloc: Global, log: &[TermLog], host_taken: u64) -> Result<Vec<
     Ok(out)
 }
 
-/// The schedule that a terminal's log stands for, beside a host that took so many messages: before each frame that is taken
-/// the host's takes of the messages that the frame saw, and the host's other takes at the end.
+/// Returns the schedule of both sides that a terminal's log stands for, where the host took `host_taken` messages in all. It is the
+/// log in its order, with the host's takes put in: before each frame that the terminal takes, as many as are missing to the number of
+/// messages that the frame had seen, and at the end those that are left. Whether a world can make these steps is not looked at.
+///
+/// Errors, in this order: `BadLog` if and only if some frame of the log saw more than `host_taken` messages, whatever memory does;
+/// then `OutOfMemory`. The cost goes by the log and `host_taken`, with a copy of each user event.
 pub fn merge(alloc: Global, log: &[TermLog], host_taken: u64) -> Result<Vec<Event>, MergeFault>
     ensures merged { IfOk result (λ events. events.items ≡ merged log.now host_taken) }
     ensures bad { (result ≡ Err MergeFault.BadLog) ↔ IsTrue (is_bad_log log.now host_taken) }

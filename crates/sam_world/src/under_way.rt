@@ -1,4 +1,4 @@
-//! What is under way in one direction.
+//! What is under way in one direction, in the order in which it was composed.
 
 ghost use Rattle.std.specs.Prelude.{◌≡◌, ◌≤◌, ◌<◌, ◌-◌, ◌^◌, ◌++◌, ◌∷◌, [], ◌↔◌, IsTrue, OnOk, OnErr, drop, length, min, option_copied};
 ghost use Rattle.sam_runes.specs.Texts.{is_empty};
@@ -8,13 +8,13 @@ use std::alloc::{AllocError, Global};
 use std::collections::VecDeque;
 use std::marker::Model;
 
-/// Messages of one direction, the oldest first. Each batch, as one event composed it, is one entry, so that room for a batch
-/// can be had before it is known how many messages it has.
+/// The messages that are under way in one direction, the oldest first. What one event composed is kept together as one batch. So
+/// `reserve` can make room for a batch before anyone knows how many messages it will have, and `join` then needs no memory.
 #[derive(Drop)]
 pub struct UnderWay<M: Drop> {
-    /// The batch that is being taken.
+    /// What is left of the oldest batch. It is empty if and only if nothing is under way.
     first: VecDeque<M>,
-    /// The batches behind it; none where `first` is empty.
+    /// The batches behind `first`, the oldest first. None of them is empty, and where `first` is empty there are none.
     rest: VecDeque<VecDeque<M>>,
 }
 
@@ -34,7 +34,7 @@ impl<M: Drop> Model for UnderWay<M> {
 }
 
 impl<M: Drop> UnderWay<M> {
-    /// Nothing is under way.
+    /// Returns a list with nothing under way.
     pub fn new(alloc: Global) -> UnderWay<M>
         ensures { result.messages ≡ [] }
     {
@@ -44,7 +44,7 @@ impl<M: Drop> UnderWay<M> {
         }
     }
 
-    /// Makes room for one more batch.
+    /// Makes room for one more batch, of any length. The messages stay as they are, also at the only error, want of memory.
     pub fn reserve(&mut self) -> Result<(), AllocError>
         ensures messages { self.new.messages ≡ self.old.messages }
         ensures room { OnOk result (0 < self.new.room) }
@@ -52,14 +52,14 @@ impl<M: Drop> UnderWay<M> {
         self.rest.reserve(1)
     }
 
-    /// The oldest message.
+    /// Returns the oldest message, or `None` if nothing is under way.
     pub fn first(&self) -> Option<&M>
         ensures { option_copied result ≡ head self.now.messages }
     {
         self.first.front()
     }
 
-    /// Whether nothing is under way.
+    /// Returns true if and only if nothing is under way.
     pub fn is_empty(&self) -> bool
         ensures { result ≡ is_empty self.now.messages }
     {
@@ -69,7 +69,7 @@ impl<M: Drop> UnderWay<M> {
         }
     }
 
-    /// How many messages there are, and the greatest `usize` where there are more. It looks at each batch once.
+    /// Returns the number of messages, or the greatest `usize` where there are more. It looks at each batch once.
     pub fn count(&self) -> usize
         ensures { result ≡ min (length self.now.messages) (2 ^ 64 - 1) }
     {
@@ -82,7 +82,7 @@ impl<M: Drop> UnderWay<M> {
         count
     }
 
-    /// Takes the oldest message off.
+    /// Drops the oldest message, if there is one. The room for batches doesn't shrink.
     pub fn drop_first(&mut self)
         ensures messages { self.new.messages ≡ drop 1 self.old.messages }
         ensures room { self.old.room ≤ self.new.room }
@@ -95,7 +95,7 @@ impl<M: Drop> UnderWay<M> {
         }
     }
 
-    /// Puts a batch behind the others, which takes no memory.
+    /// Puts a batch behind the others, in room that `reserve` has made. It takes no memory. An empty batch changes nothing.
     pub fn join(&mut self, batch: Vec<M>)
         requires { 0 < self.old.room }
         ensures { self.new.messages ≡ self.old.messages ++ batch.items }
