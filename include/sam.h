@@ -23,10 +23,10 @@
  * again. At SAM_UNFINISHED it was taken: the next call goes on with what waits, and feeding no bytes is such a call. Only a fault
  * of the other side's stream, or a message or frame that is refused, stops a handle; its readers and _out go on to work.
  *
- * What the caller owes, and nothing here can test: pointers are not NULL but for a length of 0, lengths are right, buffers don't
- * overlap, and a handle is in one call at a time. A handle may not move between threads while it is in a call. No call is made
- * from a signal handler, or in the child of a fork of a program with threads. malloc, realloc and free are those of one
- * allocator.
+ * What the caller owes, and nothing here can test: pointers other than handles are not NULL but for a length of 0, lengths are
+ * right, buffers don't overlap, and a handle is in one call at a time. A handle may not move between threads while it is in a
+ * call. No call is made from a signal handler, or in the child of a fork of a program with threads. malloc, realloc and free are
+ * those of one allocator.
  */
 #ifndef SAM_H
 #define SAM_H
@@ -48,7 +48,7 @@ enum sam_status {
     SAM_NO_MEMORY = 1,  /* what the call brought was not taken: make it again */
     SAM_UNFINISHED = 2, /* what the call brought was taken; the next call goes on with what waits */
     SAM_COUNT_FULL = 3, /* a stream of 2^64 bytes, or 2^64 events; what the call brought was not taken */
-    SAM_NO_HANDLE = 4,  /* the handle is empty: not made yet, or freed */
+    SAM_NO_HANDLE = 4,  /* the handle is NULL, or empty: not made yet, or freed */
     SAM_MADE = 5,       /* the handle is made already */
     SAM_NOT_TEXT = 6,   /* the bytes are not UTF-8 */
     SAM_NONE = 7,       /* there is no such file, or nothing more to hand out */
@@ -98,10 +98,11 @@ enum sam_status {
 
 /* ---- The host ---- */
 
-/* Makes a host with the command file alone (tag 0). SAM_MADE, then SAM_NO_MEMORY: the handle is as it was. */
+/* Makes a host with the command file alone (tag 0). SAM_NO_HANDLE where the handle is NULL, SAM_MADE, SAM_NO_MEMORY: it is as it
+ * was. */
 uint32_t sam_host_new(sam_host *host);
 
-/* Frees a host, with what was pending. SAM_NO_HANDLE where it is empty. */
+/* Frees a host, with what was pending. SAM_NO_HANDLE where it is empty or NULL. */
 uint32_t sam_host_free(sam_host *host);
 
 /* Adds a file, clean and closed, and hands out its tag: 1 for the first, and so on. Refused, in this order: SAM_NO_HANDLE;
@@ -164,10 +165,10 @@ uint32_t sam_host_dot(sam_host *host, uint16_t tag, uint32_t *start, uint32_t *e
 
 /* ---- The terminal ---- */
 
-/* Makes a terminal that knows no file. SAM_MADE, then SAM_NO_MEMORY: the handle is as it was. */
+/* Makes a terminal that knows no file. SAM_NO_HANDLE where the handle is NULL, SAM_MADE, SAM_NO_MEMORY: it is as it was. */
 uint32_t sam_term_new(sam_term *term);
 
-/* Frees a terminal, with what was pending. SAM_NO_HANDLE where it is empty. */
+/* Frees a terminal, with what was pending. SAM_NO_HANDLE where it is empty or NULL. */
 uint32_t sam_term_free(sam_term *term);
 
 /* What the user does. An event acts at once where it can, or is held until the locks that it waits for are free; each call also lets
