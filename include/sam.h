@@ -195,7 +195,7 @@ uint32_t sam_term_work(sam_term *term, uint16_t tag);                           
 uint32_t sam_term_check(sam_term *term, uint16_t tag);                                 /* asks for the first gap that the view shows */
 uint32_t sam_term_getsnarf(sam_term *term);                                            /* asks for the host's snarf buffer */
 uint32_t sam_term_setsnarf(sam_term *term, const uint8_t *text, size_t len);           /* gives the host another snarf buffer */
-uint32_t sam_term_version(sam_term *term, uint16_t version);                           /* offers a version (2: longer snarfed texts), asks for names */
+uint32_t sam_term_version(sam_term *term, uint16_t version);                           /* offers a version, and asks for all names */
 uint32_t sam_term_flush(sam_term *term);                                               /* sends typed runes, once events before it acted */
 uint32_t sam_term_exit(sam_term *term);                                                /* ends the session */
 
@@ -279,7 +279,7 @@ uint32_t sam_term_snarf_len(sam_term *term, uint32_t *runes);
 /* Whether the host has ended the session. */
 uint32_t sam_term_has_exited(sam_term *term, bool *exited);
 
-/* The version of the protocol that both sides speak: 1 or 2. */
+/* The version of the protocol that both sides speak: 1, or 2 where both know it: that allows longer snarfed texts. */
 uint32_t sam_term_version_of(sam_term *term, uint16_t *version);
 
 #ifdef __cplusplus

@@ -8,8 +8,8 @@ const GAP: u32 = u32::MAX;
 
 /// A terminal. It is dropped with what is pending.
 ///
-/// Each event acts at once where it can, or is held until the locks that it waits for are free; each call also lets held events act. What is
-/// composed is then pending. Errors: `NoMemory`, `Unfinished`, `CountFull`, `Stream`, `TermRefused`. An event that is refused is no
+/// Each event acts at once where it can, or is held until the locks that it waits for are free; each call also lets held events
+/// act. What is composed is then pending. Errors: `NoMemory`, `Unfinished`, `CountFull`, `Stream`, `TermRefused`. An event that is refused is no
 /// error: `refusals` tells it.
 pub struct Terminal {
     handle: Box<Handle>,
