@@ -17,16 +17,16 @@
  * it, and sam_host_free or sam_term_free leaves it empty again. The caller doesn't read, change or copy a handle that is made.
  *
  * Status. Each call answers one number of enum sam_status, and hands other results out through pointers. Where a call answers
- * SAM_NO_HANDLE or SAM_NO_MEMORY, and where a page below says 'refused', what the pointers lead to is left as it was.
+ * SAM_NO_HANDLE, SAM_NO_MEMORY or SAM_NONE, and where a comment below says 'refused', what the pointers lead to is left as it was.
  *
  * Want of memory loses nothing and ends no handle. At SAM_NO_MEMORY what the call brought was not taken: make the same call
  * again. At SAM_UNFINISHED it was taken: the next call goes on with what waits, and feeding no bytes is such a call. Only a fault
  * of the other side's stream, or a message or frame that is refused, stops a handle; its readers and _out go on to work.
  *
- * What the caller owes, and nothing here can test: pointers are not NULL but for a length of 0, lengths are right, buffers don't
- * overlap, and a handle is in one call at a time. A handle may not move between threads while it is in a call. No call is made
- * from a signal handler, or in the child of a fork of a program with threads. malloc, realloc and free are those of one
- * allocator.
+ * What the caller owes, and nothing here can test: pointers other than handles are not NULL but for a length of 0, lengths are
+ * right, buffers don't overlap, and a handle is in one call at a time. A handle may not move between threads while it is in a
+ * call. No call is made from a signal handler, or in the child of a fork of a program with threads. malloc, realloc and free are
+ * those of one allocator.
  */
 #ifndef SAM_H
 #define SAM_H
@@ -48,7 +48,7 @@ enum sam_status {
     SAM_NO_MEMORY = 1,  /* what the call brought was not taken: make it again */
     SAM_UNFINISHED = 2, /* what the call brought was taken; the next call goes on with what waits */
     SAM_COUNT_FULL = 3, /* a stream of 2^64 bytes, or 2^64 events; what the call brought was not taken */
-    SAM_NO_HANDLE = 4,  /* the handle is empty: not made yet, or freed */
+    SAM_NO_HANDLE = 4,  /* the handle is NULL, or empty: not made yet, or freed */
     SAM_MADE = 5,       /* the handle is made already */
     SAM_NOT_TEXT = 6,   /* the bytes are not UTF-8 */
     SAM_NONE = 7,       /* there is no such file, or nothing more to hand out */
@@ -72,7 +72,7 @@ enum sam_status {
     SAM_HOST_COUNT_FULL = SAM_HOST_REFUSED + 6,
     SAM_HOST_COMMAND_FILE = SAM_HOST_REFUSED + 8,
 
-    SAM_TERM_REFUSED = 96, /* the terminal refused a frame, and has stopped */
+    SAM_TERM_REFUSED = 96, /* the terminal refused a frame, and has stopped; COUNT_FULL may also come of an event */
     SAM_TERM_FROM_THE_FUTURE = SAM_TERM_REFUSED + 1,
     SAM_TERM_NO_FILE = SAM_TERM_REFUSED + 2,
     SAM_TERM_NOT_OPEN = SAM_TERM_REFUSED + 3,
@@ -98,10 +98,11 @@ enum sam_status {
 
 /* ---- The host ---- */
 
-/* Makes a host with the command file alone (tag 0). SAM_MADE, then SAM_NO_MEMORY: the handle is as it was. */
+/* Makes a host with the command file alone (tag 0). SAM_NO_HANDLE where the handle is NULL, SAM_MADE, SAM_NO_MEMORY: it is as it
+ * was. */
 uint32_t sam_host_new(sam_host *host);
 
-/* Frees a host, with what was pending. SAM_NO_HANDLE where it is empty. */
+/* Frees a host, with what was pending. SAM_NO_HANDLE where it is empty or NULL. */
 uint32_t sam_host_free(sam_host *host);
 
 /* Adds a file, clean and closed, and hands out its tag: 1 for the first, and so on. Refused, in this order: SAM_NO_HANDLE;
@@ -125,7 +126,7 @@ uint32_t sam_host_out(sam_host *host, uint8_t *into, size_t room, size_t *count)
  * time to write sam_host_saved of it to disk. SAM_NONE where there is none. */
 uint32_t sam_host_next_written(sam_host *host, uint16_t *tag);
 
-/* Whether the session is over: the terminal has sent Texit. */
+/* Whether the session is over: the terminal has sent Texit, or a command line was `q`. */
 uint32_t sam_host_is_done(sam_host *host, bool *done);
 
 /* How many messages the host has answered. */
@@ -156,7 +157,7 @@ uint32_t sam_host_text(sam_host *host, uint16_t tag, uint32_t place, uint8_t *in
 /* The length in runes of what a file was when it was written last (Twrite). SAM_NONE where it never was, or where there is no file. */
 uint32_t sam_host_saved_len(sam_host *host, uint16_t tag, size_t *runes);
 
-/* What a file was when it was written last, from a place on; as sam_host_text. */
+/* What a file was when it was written last, from a place on; as sam_host_text. SAM_NONE also where it never was. */
 uint32_t sam_host_saved(sam_host *host, uint16_t tag, uint32_t place, uint8_t *into, size_t room, size_t *bytes, size_t *runes);
 
 /* The dot of a file: the places where the selection begins and ends. SAM_NONE where the tag has no file. */
@@ -164,16 +165,16 @@ uint32_t sam_host_dot(sam_host *host, uint16_t tag, uint32_t *start, uint32_t *e
 
 /* ---- The terminal ---- */
 
-/* Makes a terminal that knows no file. SAM_MADE, then SAM_NO_MEMORY: the handle is as it was. */
+/* Makes a terminal that knows no file. SAM_NO_HANDLE where the handle is NULL, SAM_MADE, SAM_NO_MEMORY: it is as it was. */
 uint32_t sam_term_new(sam_term *term);
 
-/* Frees a terminal, with what was pending. SAM_NO_HANDLE where it is empty. */
+/* Frees a terminal, with what was pending. SAM_NO_HANDLE where it is empty or NULL. */
 uint32_t sam_term_free(sam_term *term);
 
 /* What the user does. An event acts at once where it can, or is held until the locks that it waits for are free; each call also lets
  * events that are held act, in order. What is composed is then pending. An event that is refused is told by sam_term_next_refusal, now or
  * later. Each answers SAM_OK, SAM_NO_MEMORY, SAM_UNFINISHED, SAM_COUNT_FULL, SAM_NO_HANDLE, or why the terminal has stopped:
- * SAM_STREAM.., SAM_TERM_REFUSED... The two that bring a text answer SAM_NOT_TEXT before want of memory. */
+ * SAM_STREAM.., SAM_TERM_REFUSED... The two that bring a text answer SAM_NOT_TEXT first of all but SAM_NO_HANDLE. */
 uint32_t sam_term_type(sam_term *term, uint16_t tag, const uint8_t *text, size_t len); /* in the place of the dot: at most 512 runes */
 uint32_t sam_term_select(sam_term *term, uint16_t tag, uint32_t start, uint32_t end);  /* sets the dot */
 uint32_t sam_term_cut(sam_term *term, uint16_t tag);                                   /* the dot, into the snarf buffer */
@@ -181,12 +182,12 @@ uint32_t sam_term_paste(sam_term *term, uint16_t tag);                          
 uint32_t sam_term_snarf(sam_term *term, uint16_t tag);                                 /* copies the dot into the snarf buffer */
 uint32_t sam_term_look(sam_term *term, uint16_t tag);                                  /* selects the next occurrence of the dot's text */
 uint32_t sam_term_search(sam_term *term, uint16_t tag);                                /* selects the next occurrence of the pattern */
-uint32_t sam_term_send(sam_term *term, uint16_t tag);                                  /* runs the dot's text as a command line */
+uint32_t sam_term_send(sam_term *term, uint16_t tag);                                  /* prints the dot's text, and runs its last line */
 uint32_t sam_term_dclick(sam_term *term, uint16_t tag, uint32_t place);                /* selects the word round a place */
 uint32_t sam_term_scroll(sam_term *term, uint16_t tag, uint32_t lines);                /* shows the file from that many lines further up */
 uint32_t sam_term_view(sam_term *term, uint16_t tag, uint32_t place, uint32_t len);    /* shows the file from a place on */
 uint32_t sam_term_open(sam_term *term, uint16_t tag);                                  /* opens a file */
-uint32_t sam_term_opencmd(sam_term *term);                                             /* opens the command file, and asks for all names */
+uint32_t sam_term_opencmd(sam_term *term);                                             /* opens the command file */
 uint32_t sam_term_new_file(sam_term *term);                                            /* makes an empty file, and opens it */
 uint32_t sam_term_write(sam_term *term, uint16_t tag);                                 /* has the host write a file */
 uint32_t sam_term_close(sam_term *term, uint16_t tag);                                 /* closes a file */
@@ -194,14 +195,15 @@ uint32_t sam_term_work(sam_term *term, uint16_t tag);                           
 uint32_t sam_term_check(sam_term *term, uint16_t tag);                                 /* asks for the first gap that the view shows */
 uint32_t sam_term_getsnarf(sam_term *term);                                            /* asks for the host's snarf buffer */
 uint32_t sam_term_setsnarf(sam_term *term, const uint8_t *text, size_t len);           /* gives the host another snarf buffer */
-uint32_t sam_term_version(sam_term *term, uint16_t version);                           /* offers a version: 2 allows longer snarfed texts */
+uint32_t sam_term_version(sam_term *term, uint16_t version);                           /* offers a version, and asks for all names */
 uint32_t sam_term_flush(sam_term *term);                                               /* sends typed runes, once events before it acted */
 uint32_t sam_term_exit(sam_term *term);                                                /* ends the session */
 
 /* Takes bytes of the host's frames, in whatever pieces they come, and then lets held events act. Answers as an event does. */
 uint32_t sam_term_feed(sam_term *term, const uint8_t *bytes, size_t len);
 
-/* Composes the typed runes that are not sent yet; to be called when the user pauses, before the program sleeps. Answers as an event does. */
+/* Composes the typed runes that are not sent yet; to be called when the user pauses, before the program sleeps. Answers as an event
+ * does, but never SAM_COUNT_FULL. */
 uint32_t sam_term_idle(sam_term *term);
 
 /* How many bytes are pending. */
@@ -277,7 +279,7 @@ uint32_t sam_term_snarf_len(sam_term *term, uint32_t *runes);
 /* Whether the host has ended the session. */
 uint32_t sam_term_has_exited(sam_term *term, bool *exited);
 
-/* The version of the protocol that both sides speak: 1 or 2. */
+/* The version of the protocol that both sides speak: 1, or 2 where both know it: that allows longer snarfed texts. */
 uint32_t sam_term_version_of(sam_term *term, uint16_t *version);
 
 #ifdef __cplusplus

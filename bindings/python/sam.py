@@ -433,7 +433,7 @@ class Terminal(_Side):
         self._call("search", tag)
 
     def send(self, tag: int) -> None:
-        """Runs the dot's text as a command line."""
+        """Prints the dot's text in the command file, and runs its last line as a command line."""
         self._call("send", tag)
 
     def dclick(self, tag: int, place: int) -> None:

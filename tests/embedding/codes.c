@@ -30,8 +30,8 @@ static void carry(sam_term *term, sam_host *host)
 	}
 }
 
-/* A handle that is empty: not made yet, or freed. */
-static void empty_handles(sam_host *host, sam_term *term)
+/* A handle that is NULL, or empty: not made yet, or freed. */
+static void no_handles(sam_host *host, sam_term *term)
 {
 	uint8_t buffer[8] = "unused";
 	uint32_t runes[4] = {9, 9, 9, 9}, a = 1, b = 2;
@@ -427,7 +427,10 @@ static void session(void)
 	wants_refusal(&term, SAM_REFUSAL_EXITED);
 	WANT(sam_host_free(&host), SAM_OK);
 	WANT(sam_term_free(&term), SAM_OK);
-	empty_handles(&host, &term);
+	no_handles(NULL, NULL);
+	WANT(sam_host_new(NULL), SAM_NO_HANDLE);
+	WANT(sam_term_new(NULL), SAM_NO_HANDLE);
+	no_handles(&host, &term);
 }
 
 /* A file that is known and not open: the events that want a window. */
@@ -452,7 +455,7 @@ int main(void)
 {
 	sam_host host = {0};
 	sam_term term = {0};
-	empty_handles(&host, &term);
+	no_handles(&host, &term);
 	puts("empty handles");
 	adding();
 	all_tags();

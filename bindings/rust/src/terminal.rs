@@ -8,8 +8,8 @@ const GAP: u32 = u32::MAX;
 
 /// A terminal. It is dropped with what is pending.
 ///
-/// Each event acts at once where it can, or is held until the locks that it waits for are free; each call also lets held events act. What is
-/// composed is then pending. Errors: `NoMemory`, `Unfinished`, `CountFull`, `Stream`, `TermRefused`. An event that is refused is no
+/// Each event acts at once where it can, or is held until the locks that it waits for are free; each call also lets held events
+/// act. What is composed is then pending. Errors: `NoMemory`, `Unfinished`, `CountFull`, `Stream`, `TermRefused`. An event that is refused is no
 /// error: `refusals` tells it.
 pub struct Terminal {
     handle: Box<Handle>,
@@ -65,7 +65,7 @@ impl Terminal {
         done(unsafe { raw::sam_term_search(&mut *self.handle, tag) })
     }
 
-    /// Runs the dot's text as a command line.
+    /// Prints the dot's text in the command file, and runs its last line as a command line.
     pub fn send(&mut self, tag: u16) -> Result<(), Error> {
         done(unsafe { raw::sam_term_send(&mut *self.handle, tag) })
     }
@@ -95,7 +95,7 @@ impl Terminal {
         done(unsafe { raw::sam_term_check(&mut *self.handle, tag) })
     }
 
-    /// Opens the command file, and asks for all names.
+    /// Opens the command file.
     pub fn open_command_file(&mut self) -> Result<(), Error> {
         done(unsafe { raw::sam_term_opencmd(&mut *self.handle) })
     }

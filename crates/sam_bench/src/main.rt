@@ -4,6 +4,7 @@
 
 mod codec;
 mod editing;
+mod embedded;
 mod fault;
 mod loading;
 mod queueing;
@@ -65,6 +66,7 @@ fn report_of<R: AllocGlobal + Clock>(rt: &R, job: &str, size: u32) -> Result<Rep
         "rasp_load" => loading::load(rt, size),
         "rasp_type" => loading::typed(rt, size),
         "terminal" => typing::typed(rt, size),
+        "embedded" => embedded::typed(rt, size),
         _ => Err(Fault::Words),
     }
 }

@@ -24,8 +24,3 @@ pub use sam_threads::{
     UserEnd, feed_terminal,
 };
 pub use words::{ArgFault, Mode, mode_of, usage};
-
-#[cfg(test)]
-mod tests;
-#[cfg(test)]
-mod threads_tests;

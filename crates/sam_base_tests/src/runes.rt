@@ -1,6 +1,8 @@
+//! Texts of runes, and their bytes.
 ghost use Rattle.std.specs.Prelude.{◌≡◌, IfOk};
 
-use super::*;
+use sam_runes::places::prefix_in_bytes;
+use sam_runes::{Edit, MAX_RUNES, Runes, Text, TextFault, read_utf8, utf8_len, write_utf8};
 use std::alloc::Global;
 use std::test::Fail;
 
@@ -112,7 +114,7 @@ fn prefix_of_whole_runes(rt: HostRuntime) -> Result<(), Fail> {
     snarf.resize(4_095, 'a')?;
     snarf.push('é')?;
     assert_eq!(rt; utf8_len(snarf.as_slice()), 4_097);
-    assert_eq!(rt; places::prefix_in_bytes(snarf.as_slice(), 4_096), 4_095);
+    assert_eq!(rt; prefix_in_bytes(snarf.as_slice(), 4_096), 4_095);
     Ok(())
 }
 

@@ -1,10 +1,10 @@
 //! Sessions of five threads: what they print, what their gates stop, and that their schedules replay.
 ghost use Rattle.std.specs.Prelude.{◌<◌};
 
-use crate::{
+use sam_script::{Script, first_world, show};
+use sam_session::{
     FlagGate, Gate, Mode, OpenGate, PlayFault, RunFault, Settled, Stop, play, run_threads,
 };
-use sam_script::{Script, first_world, show};
 use sam_world::{Event, World};
 use std::alloc::Global;
 use std::sync::Wait;
