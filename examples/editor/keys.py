@@ -1,7 +1,7 @@
 """The keys: what each does, and how curses tells of them."""
 import curses
 import time
-from typing import Dict, List, NamedTuple, Optional, Union
+from typing import Dict, List, NamedTuple, Union
 
 
 class Binding(NamedTuple):
@@ -57,7 +57,14 @@ CURSES_NAMES = {
 
 WHEEL_UP = curses.BUTTON4_PRESSED
 WHEEL_DOWN = getattr(curses, "BUTTON5_PRESSED", 1 << 21)
-MOUSE = curses.BUTTON1_PRESSED | curses.BUTTON1_RELEASED | WHEEL_UP | WHEEL_DOWN | curses.REPORT_MOUSE_POSITION
+MOUSE_EVENTS = (
+    (curses.BUTTON1_PRESSED, "press"),
+    (curses.BUTTON1_RELEASED, "release"),
+    (WHEEL_UP, "wheel up"),
+    (WHEEL_DOWN, "wheel down"),
+    (curses.REPORT_MOUSE_POSITION, "move"),
+)
+MOUSE = sum(bit for bit, _ in MOUSE_EVENTS)  # each is a bit of its own
 
 
 class Text(NamedTuple):
@@ -93,36 +100,32 @@ def _character(rune: str) -> Input:
     return Key(names.get(rune) or "^" + chr(ord(rune) + 64))
 
 
-def _mouse() -> Optional[Mouse]:
-    try:
-        _, column, row, _, state = curses.getmouse()
-    except curses.error:
-        return None
-    for bit, what in (
-        (curses.BUTTON1_PRESSED, "press"),
-        (curses.BUTTON1_RELEASED, "release"),
-        (WHEEL_UP, "wheel up"),
-        (WHEEL_DOWN, "wheel down"),
-        (curses.REPORT_MOUSE_POSITION, "move"),
-    ):
-        if state & bit:
-            return Mouse(what, row, column, time.monotonic())
-    return None
+def _mouse() -> List[Input]:
+    """What the mouse did, in order. One KEY_MOUSE stands for all events that came together, and curses hands out the last one first."""
+    events: List[Input] = []
+    while True:
+        try:
+            _, column, row, _, state = curses.getmouse()
+        except curses.error:
+            return events[::-1]
+        what = next((what for bit, what in MOUSE_EVENTS if state & bit), None)
+        if what is not None:
+            events.append(Mouse(what, row, column, time.monotonic()))
 
 
-def _decoded(code: Union[str, int]) -> Optional[Input]:
-    """What curses handed out; None for what means nothing here."""
+def _decoded(code: Union[str, int]) -> List[Input]:
+    """What curses handed out; nothing for what means nothing here."""
     if isinstance(code, str):
-        return _character(code)
+        return [_character(code)]
     name = curses.keyname(code).decode("ascii", "replace")
     if name == "KEY_MOUSE":
         return _mouse()
     if name == "KEY_ENTER":
-        return Text("\n")
+        return [Text("\n")]
     if name.startswith("KEY_F("):
-        return Key("F" + name[6:-1])
+        return [Key("F" + name[6:-1])]
     known = CURSES_NAMES.get(name)
-    return Key(known) if known else None
+    return [Key(known)] if known else []
 
 
 def waiting(screen) -> List[Input]:
@@ -133,11 +136,11 @@ def waiting(screen) -> List[Input]:
             code = screen.get_wch()
         except curses.error:
             return inputs
-        key = _decoded(code)
-        if isinstance(key, Text) and inputs and isinstance(inputs[-1], Text):
-            inputs[-1] = Text(inputs[-1].runes + key.runes)
-        elif key is not None:
-            inputs.append(key)
+        for key in _decoded(code):
+            if isinstance(key, Text) and inputs and isinstance(inputs[-1], Text):
+                inputs[-1] = Text(inputs[-1].runes + key.runes)
+            else:
+                inputs.append(key)
 
 
 def table() -> List[str]:
