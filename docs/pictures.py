@@ -65,11 +65,11 @@ PLACES = {
     "sam_running": (520, 2, "five threads, one run"),
     "sam_threads": (520, 3, "five workers"),
     "sam_script": (350, 4, "scripts, read and shown"),
-    "sam_queue": (700, 4, "lines between threads"),
+    "sam_queue": (170, 4, "lines between threads"),
     "sam_world": (350, 5, "both sides as one state"),
     "sam_protocol": (350, 6, "crossing messages agree"),
-    "sam_c": (700, 5, "the library for C"),
-    "sam_ends": (700, 6, "the ends of two streams"),
+    "sam_c": (740, 3, "the library for C"),
+    "sam_ends": (740, 6, "the ends of two streams"),
     "sam_host": (170, 7, "the host"),
     "sam_term": (520, 7, "the terminal"),
     "sam_frame": (700, 7, "streams of messages"),
@@ -122,7 +122,7 @@ def crates_picture():
         kind = "side" if name in ("sam_host", "sam_term") else "box"
         parts += [box(x - BOX_WIDTH / 2, y - BOX_HEIGHT / 2, BOX_WIDTH, BOX_HEIGHT, kind)]
         parts += [text(x, y - 3, name, "name"), text(x, y + 13, words, "grey")]
-    return picture("The crates and what each stands on", 800, FIRST_ROW + ROW_HEIGHT * 9 + 44, parts)
+    return picture("The crates and what each stands on", 840, FIRST_ROW + ROW_HEIGHT * 9 + 44, parts)
 
 
 # ---- The threads

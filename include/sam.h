@@ -90,7 +90,11 @@ enum sam_status {
     SAM_REFUSAL_TOO_LONG = SAM_REFUSAL + 5,
     SAM_REFUSAL_TEXT_TOO_LONG = SAM_REFUSAL + 6,
     SAM_REFUSAL_COMMAND_FILE = SAM_REFUSAL + 7,
-    SAM_REFUSAL_BAD_VERSION = SAM_REFUSAL + 8
+    SAM_REFUSAL_BAD_VERSION = SAM_REFUSAL + 8,
+
+    SAM_SCRIPT = 160, /* why sam_replay did not replay a script */
+    SAM_SCRIPT_LINE = SAM_SCRIPT + 1,
+    SAM_SCRIPT_COUNT_FULL = SAM_SCRIPT + 2
 };
 
 /* What sam_term_read hands out for a rune that is not loaded. */
@@ -281,6 +285,19 @@ uint32_t sam_term_has_exited(sam_term *term, bool *exited);
 
 /* The version of the protocol that both sides speak: 1, or 2 where both know it: that allows longer snarfed texts. */
 uint32_t sam_term_version_of(sam_term *term, uint16_t *version);
+
+/* ---- Scripts ---- */
+
+/* Runs a script over a host and a terminal of its own, and hands out what its `show` lines print: docs/SCRIPTS.md tells the language.
+ * It takes no handle. All lines are read before the first is done.
+ *
+ * SAM_OK: *out_len is the number of all bytes that are printed, and the first of them stand in `out`, as many as have room. The rest of
+ * the buffer is as it was. Where *out_len is above out_room, call again with so much room: a script prints the same each time.
+ * SAM_SCRIPT_LINE: *line, counted from 1, is the first wrong line. Where no line is wrong, the first that can't be done decides:
+ * SAM_SCRIPT_LINE tells a `host` or `term` at which nothing is there to take, SAM_SCRIPT_COUNT_FULL a line that would count more than
+ * 2^64-1 messages. SAM_NO_MEMORY may come at any line.
+ * What the pointers lead to is as it was but for `out` and *out_len at SAM_OK, and *line at SAM_SCRIPT_LINE. */
+uint32_t sam_replay(const uint8_t *script, size_t script_len, uint8_t *out, size_t out_room, size_t *out_len, size_t *line);
 
 #ifdef __cplusplus
 }

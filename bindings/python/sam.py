@@ -17,6 +17,8 @@ of them reads or writes anything: the program carries the bytes.
 Units: places and lengths count runes (Unicode scalar values, the characters of a `str`), and a text has at most 1,000,000. A text that
 is given may be a `str`, or its UTF-8 as `bytes`.
 
+`replay` runs a script of docs/SCRIPTS.md over a host and a terminal of its own.
+
 Errors: each family of status codes has an exception class below `SamError`, whose `code` is the `Status`. Want of memory is told by
 `NoMemory` (what the call brought was not taken: make it again) and by `Unfinished` (it was taken: any next call goes on, and
 `feed()` without bytes is one); both are `MemoryError`s, and neither ends anything.
@@ -32,15 +34,15 @@ from pathlib import Path
 from typing import Iterator, List, NamedTuple, Optional, Tuple, Union
 
 __all__ = [
-    "AddRefused", "CountFull", "HandleFault", "Host", "HostRefused", "Missing", "NoMemory", "NotText", "Refusal", "SamError", "Status",
-    "StreamFault", "Terminal", "TerminalRefused", "Unfinished",
+    "AddRefused", "CountFull", "HandleFault", "Host", "HostRefused", "Missing", "NoMemory", "NotText", "Refusal", "SamError",
+    "ScriptFault", "Status", "StreamFault", "Terminal", "TerminalRefused", "Unfinished", "replay",
 ]  # fmt: skip
 
 Text = Union[str, bytes]
 
 MOST_IN_NAME = 256  # bytes of the longest name
 MOST_IN_PATTERN = 512  # bytes of the longest pattern
-PIECE = 65_536  # bytes of a text that are read at once
+PIECE = 65_536  # bytes of a text that are read at once, and the room that a replay is given first
 GAP = 2**32 - 1  # what stands for a rune that is not loaded
 
 
@@ -84,6 +86,8 @@ class Status(enum.IntEnum):
     REFUSAL_TEXT_TOO_LONG = 134
     REFUSAL_COMMAND_FILE = 135
     REFUSAL_BAD_VERSION = 136
+    SCRIPT_LINE = 161
+    SCRIPT_COUNT_FULL = 162
 
 
 class SamError(Exception):
@@ -139,6 +143,13 @@ class TerminalRefused(SamError):
     """The terminal refused a frame, and has stopped (SAM_TERM_..)."""
 
 
+class ScriptFault(SamError, ValueError):
+    """A script can't be replayed (SAM_SCRIPT_..). `line` is its first wrong line, counted from 1, or where none is wrong the line at
+    which nothing is there to take; None where a count is full."""
+
+    line: Optional[int] = None
+
+
 SINGLE = {
     Status.NO_MEMORY: NoMemory,
     Status.UNFINISHED: Unfinished,
@@ -148,7 +159,9 @@ SINGLE = {
     Status.NOT_TEXT: NotText,
     Status.NONE: Missing,
 }
-FAMILIES = ((16, 32, AddRefused), (32, 64, StreamFault), (64, 96, HostRefused), (96, 128, TerminalRefused))
+FAMILIES = (
+    (16, 32, AddRefused), (32, 64, StreamFault), (64, 96, HostRefused), (96, 128, TerminalRefused), (160, 192, ScriptFault),
+)  # fmt: skip
 
 
 def error_of(code: int) -> SamError:
@@ -199,6 +212,9 @@ _SIGNATURES = {
     "term_version_of": (_TAG,),
 }  # fmt: skip
 
+# The arguments of the one call that takes no handle.
+_REPLAY_SIGNATURE = (*_BYTES, *_BUFFER, _SIZE, _SIZE)
+
 
 def _load():
     """The shared library, with the arguments of each call set. ImportError where it is not there, or lacks a call."""
@@ -208,6 +224,7 @@ def _load():
         for name, arguments in _SIGNATURES.items():
             function = getattr(library, f"sam_{name}")
             function.argtypes, function.restype = (POINTER(_Handle), *arguments), c_uint32
+        library.sam_replay.argtypes, library.sam_replay.restype = _REPLAY_SIGNATURE, c_uint32
     except (OSError, AttributeError) as error:
         raise ImportError(f"the library {path} can't be used: {error}") from error
     return library
@@ -219,6 +236,22 @@ _LIBRARY = _load()
 def _bytes(text: Text) -> bytes:
     """The text as bytes. A surrogate stays, so that the library refuses it."""
     return text.encode("utf-8", "surrogatepass") if isinstance(text, str) else bytes(text)
+
+
+def replay(script: Text) -> bytes:
+    """What the `show` lines of a script print, which is run over a host and a terminal of its own. Raises ScriptFault; NoMemory."""
+    script, room = _bytes(script), PIECE
+    while True:
+        out, length, line = ctypes.create_string_buffer(room), c_size_t(), c_size_t()
+        code = _LIBRARY.sam_replay(script, len(script), out, room, byref(length), byref(line))
+        if code != Status.OK:
+            error = error_of(code)
+            if code == Status.SCRIPT_LINE:
+                error.line = line.value
+            raise error
+        if length.value <= room:
+            return out.raw[: length.value]
+        room = length.value
 
 
 class _Side:

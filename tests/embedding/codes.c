@@ -451,6 +451,48 @@ static void not_open(void)
 	WANT(sam_host_free(&host), SAM_OK);
 }
 
+/* Replays a script into a buffer that has this room, with an untouched byte behind it; wants the status, the line, the number of bytes
+ * that are printed, and those that fit. */
+static void replays(const char *script, size_t room, uint32_t status, size_t line, const char *printed)
+{
+	uint8_t buffer[80];
+	size_t len = 777, at = 888, all = strlen(printed), put = all < room ? all : room;
+	memset(buffer, 9, sizeof buffer);
+	WANT(room < sizeof buffer, 1);
+	WANT(sam_replay((const uint8_t *)script, strlen(script), room > 0 ? buffer : NULL, room, &len, &at), status);
+	WANT(len, status == SAM_OK ? all : 777);
+	WANT(at, status == SAM_SCRIPT_LINE ? line : 888);
+	WANT(memcmp(buffer, printed, put), 0);
+	for (size_t i = put; i < sizeof buffer; i++) WANT(buffer[i], 9);
+}
+
+/* What an empty host and an empty terminal show, and a host with one file. */
+#define SHOWN "= h 0 - c ~~sam~~ ||\n= s 0 0 0 0 0 0\n"
+#define SHOWN_FILE "= h 0 - c ~~sam~~ ||\n= h 1 - c n |t|\n= s 0 0 0 0 0 0\n"
+
+/* The replay of scripts: with room, without, and with too little; wrong lines, and lines that can't be done. */
+static void replaying(void)
+{
+	size_t len = 777, line = 888;
+	uint8_t buffer[8];
+	WANT(sam_replay(NULL, 0, buffer, sizeof buffer, &len, &line), SAM_OK);
+	WANT(len == 0 && line == 888, 1);
+	replays("", 8, SAM_OK, 0, "");
+	replays("show\n", 79, SAM_OK, 0, SHOWN);
+	replays("show", sizeof SHOWN - 1, SAM_OK, 0, SHOWN);
+	replays("show", sizeof SHOWN - 2, SAM_OK, 0, SHOWN);
+	replays("show", 1, SAM_OK, 0, SHOWN);
+	replays("show", 0, SAM_OK, 0, SHOWN);
+	replays("file n t\ndrain\nshow\n", 79, SAM_OK, 0, SHOWN_FILE);
+	replays("show\nshow\n", 60, SAM_OK, 0, SHOWN SHOWN);
+	replays("show\nfly\nhost\n", 79, SAM_SCRIPT_LINE, 2, "");
+	replays("host\nfly\n", 79, SAM_SCRIPT_LINE, 2, ""); /* no line is done before all are read */
+	replays("show\nhost\nterm\n", 79, SAM_SCRIPT_LINE, 2, "");
+	replays("k version 1\nact\nhost\nterm\nterm\nterm\n", 79, SAM_OK, 0, ""); /* Hversion, Hack, Hunlock */
+	replays("k version 1\nact\nhost\nterm\nterm\nterm\nterm\n", 79, SAM_SCRIPT_LINE, 7, "");
+	replays("show\n\xFF\n", 79, SAM_SCRIPT_LINE, 2, "");
+}
+
 int main(void)
 {
 	sam_host host = {0};
@@ -467,5 +509,7 @@ int main(void)
 	puts("refusals");
 	session();
 	puts("a session");
+	replaying();
+	puts("replays");
 	return 0;
 }

@@ -26,6 +26,10 @@ pub enum Error {
     HostRefused(u32),
     /// The terminal refused a frame, and has stopped.
     TermRefused(u32),
+    /// The first wrong line of a script, counted from 1; or where none is wrong the line at which nothing is there to take.
+    ScriptLine(usize),
+    /// A line of a script would count more than 2^64-1 messages.
+    ScriptCountFull,
     /// A status that this crate doesn't know.
     Unknown(u32),
 }
@@ -43,6 +47,7 @@ impl Error {
             33..=35 => Error::Stream(status - 32),
             65..=72 => Error::HostRefused(status - 64),
             97..=104 => Error::TermRefused(status - 96),
+            162 => Error::ScriptCountFull,
             _ => Error::Unknown(status),
         }
     }
@@ -61,6 +66,8 @@ impl fmt::Display for Error {
             Error::Stream(why) => write!(f, "the stream is wrong (fault {why})"),
             Error::HostRefused(why) => write!(f, "the host refused a message (fault {why})"),
             Error::TermRefused(why) => write!(f, "the terminal refused a frame (fault {why})"),
+            Error::ScriptLine(line) => write!(f, "the script is wrong at line {line}"),
+            Error::ScriptCountFull => f.write_str("the script has too many messages to count"),
             Error::Unknown(status) => write!(f, "status {status}"),
         }
     }

@@ -34,13 +34,15 @@
 mod error;
 mod host;
 mod raw;
+mod script;
 mod terminal;
 
 pub use error::{Error, Refusal};
 pub use host::Host;
+pub use script::replay;
 pub use terminal::Terminal;
 
-/// How many bytes one turn of `out` hands out at most.
+/// How many bytes one turn of `out` hands out at most, and the room that a replay is given first.
 const PIECE: usize = 4096;
 
 const OK: u32 = 0;

@@ -84,4 +84,6 @@ unsafe extern "C" {
     pub fn sam_term_snarf_len(term: *mut Handle, runes: *mut u32) -> u32;
     pub fn sam_term_has_exited(term: *mut Handle, exited: *mut bool) -> u32;
     pub fn sam_term_version_of(term: *mut Handle, version: *mut u16) -> u32;
+
+    pub fn sam_replay(script: *const u8, script_len: usize, out: *mut u8, out_room: usize, out_len: *mut usize, line: *mut usize) -> u32;
 }

@@ -3,3 +3,4 @@ pub mod Pieces
 pub mod Ends
 pub mod Filling
 pub mod Putting
+pub mod Replaying

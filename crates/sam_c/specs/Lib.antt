@@ -4,3 +4,4 @@ pub mod Status
 pub mod Calls
 pub mod Hosts
 pub mod Terms
+pub mod Scripts

@@ -1,5 +1,5 @@
 -- The numbers by which C knows what came of a call: enum sam_status of include/sam.h.
-use Rattle.std.specs.Prelude.{ℕ, ◌+◌, Result, Ok, Err}
+use Rattle.std.specs.Prelude.{ℕ, ◌+◌, List, Result, Ok, Err}
 use Rattle.sam_runes.specs.declared.codec.ReadFault.{ReadFault}
 use Rattle.sam_runes.specs.declared.codec.ReadFault.TheVariants as reading
 use Rattle.sam_host.specs.declared.fault.HostFault.{HostFault}
@@ -8,6 +8,8 @@ use Rattle.sam_term.specs.declared.fault.TermFault.{TermFault}
 use Rattle.sam_term.specs.declared.fault.TermFault.TheVariants as term
 use Rattle.sam_term.specs.declared.fault.Refusal.{Refusal}
 use Rattle.sam_term.specs.declared.fault.Refusal.TheVariants as refusal
+use Rattle.sam_script.specs.declared.fault.ScriptFault.{ScriptFault}
+use Rattle.sam_script.specs.declared.fault.ScriptFault.TheVariants as script
 use Rattle.sam_ends.specs.declared.fault.OpenFault.{OpenFault}
 use Rattle.sam_ends.specs.declared.fault.OpenFault.TheVariants as opening
 use Rattle.sam_ends.specs.declared.fault.StreamFault.{StreamFault}
@@ -100,6 +102,17 @@ refusal_status refusal.TooLong = 133
 refusal_status refusal.TextTooLong = 134
 refusal_status refusal.CommandFile = 135
 refusal_status refusal.BadVersion = 136
+
+-- why a script is not replayed
+abbrev pub script_status : ScriptFault → ℕ
+script_status (script.Line line) = 161
+script_status script.CountFull = 162
+script_status script.OutOfMemory = no_memory
+
+-- what a replay answers
+abbrev pub replay_status : Result (List ℕ) ScriptFault → ℕ
+replay_status (Ok printed) = ok
+replay_status (Err why) = script_status why
 
 -- what a call to an end answers, where stops have these numbers
 abbrev pub call_status : {S : Type 0} → (S → ℕ) → Result (Unit {0}) (EndFault S) → ℕ

@@ -1,11 +1,13 @@
-//! The host and the terminal for C. Each export makes one call of an end, and states its clauses again over the value that the handle
-//! holds. What a C program owes, and what each call does, stands in include/sam.h.
+//! The host and the terminal for C, and the replay of scripts. Each export makes one call of a lower crate, and states its clauses again
+//! over the value that the handle holds, or over the bytes that it is given. What a C program owes, and what each call does, stands in
+//! include/sam.h.
 #![tactic(auto)]
 
 mod handle;
 mod host_calls;
 mod host_readers;
 mod parts;
+mod scripts;
 mod status;
 mod term_calls;
 mod term_events;

@@ -1,10 +1,12 @@
 //! The numbers by which C knows what came of a call: enum sam_status of include/sam.h.
 
 ghost use Rattle.std.specs.Prelude.{◌≡◌};
-ghost use Rattle.sam_c.specs.Status.{add_status, host_refusal, host_status, refusal_status, stream_status, term_refusal, term_status};
+ghost use Rattle.sam_c.specs.Status.{add_status, host_refusal, host_status, refusal_status, script_status, stream_status};
+ghost use Rattle.sam_c.specs.Status.{term_refusal, term_status};
 
 use sam_ends::{EndFault, HostStop, OpenFault, StreamFault, TermStop};
 use sam_host::HostFault;
+use sam_script::ScriptFault;
 use sam_term::{Refusal, TermFault};
 
 /// The call has done what it was asked.
@@ -46,6 +48,9 @@ const TERM_REFUSED: u32 = 96;
 /// The first number of why the terminal refused an event. The handle goes on.
 const REFUSAL: u32 = 128;
 
+/// The first number of why a script is not replayed.
+const SCRIPT: u32 = 160;
+
 /// Returns the number of why a file is not added.
 pub(crate) fn add_status(why: OpenFault) -> u32
     ensures { result ≡ add_status why }
@@ -83,6 +88,17 @@ pub(crate) fn refusal_status(why: Refusal) -> u32
     ensures { result ≡ refusal_status why }
 {
     REFUSAL + why as u32
+}
+
+/// Returns the number of why a script is not replayed.
+pub(crate) fn script_status(why: ScriptFault) -> u32
+    ensures { result ≡ script_status why }
+{
+    match why {
+        ScriptFault::Line(_) => SCRIPT + 1,
+        ScriptFault::CountFull => SCRIPT + 2,
+        ScriptFault::OutOfMemory => NO_MEMORY,
+    }
 }
 
 /// Returns the number of what came of a call to a host end.

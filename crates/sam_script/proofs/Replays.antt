@@ -1,5 +1,5 @@
 -- What a replay has printed, line by line.
-use Rattle.std.proofs.Common.{◌≡◌, refl, sym, ap, ◌∙◌, subst, ◌<◌, ◌≤◌, ◌+◌, ℕ, zero, suc, true, List, [], ◌∷◌, ◌++◌, length, take, drop, All, Result, Ok, Err, slice_index_or, append_assoc, append-nil, arith}
+use Rattle.std.proofs.Common.{◌≡◌, inl, inr, refl, sym, ap, ◌∙◌, subst, ◌<◌, ◌≤◌, ◌+◌, ℕ, zero, suc, true, List, [], ◌∷◌, ◌++◌, length, take, drop, All, Result, Ok, Err, slice_index_or, append_assoc, append-nil, arith}
 use Rattle.std.specs.Prelude.{if◌then◌else◌}
 use Rattle.std.proofs.lemmas.List.Elements.{All-head, All-tail}
 use Rattle.sam_runes.specs.Texts.{RoomyText}
@@ -8,8 +8,9 @@ use Rattle.sam_world.specs.World.{PlainWorld, step_of}
 use Rattle.sam_world.specs.Counts.{passes_count}
 use Rattle.sam_world.specs.declared.event.Event.{Event}
 use Rattle.sam_world.proofs.Stopping.{passing_is_there, passing_stops}
-use Rattle.sam_script.specs.Script.{IsFile}
-use Rattle.sam_script.specs.Replay.{after_line, or_full, printed_by, stepped, behind, and_on, replayed_from, IsStopOf}
+use Rattle.sam_script.specs.Script.{IsFile, PlainScript}
+use Rattle.sam_script.specs.Spelling.{Spells, IsReadFault}
+use Rattle.sam_script.specs.Replay.{after_line, or_full, printed_by, stepped, behind, and_on, replayed_from, replayed, IsReplayFault, IsStopOf}
 use Rattle.sam_script.specs.declared.line.Numbered.{Numbered}
 use Rattle.sam_script.specs.declared.fault.ScriptFault.{ScriptFault}
 use Rattle.sam_script.specs.declared.fault.ScriptFault.TheVariants as fault
@@ -101,3 +102,15 @@ all_done all w out ls i past so_far =
     none_left [] (suc k) past = refl
     none_left (x ∷ xs) zero past = absurd (omega (arith, past))
     none_left (x ∷ xs) (suc k) past = none_left xs k (omega (arith, past))
+
+-- ---- the script that bytes spell
+
+pub unread : (bytes : List ℕ) (why : ScriptFault) → IsReadFault bytes why → IsReplayFault bytes why
+unread bytes (fault.Line number) wrong = inl wrong
+unread bytes fault.CountFull wrong = absurd wrong
+unread bytes fault.OutOfMemory wrong = tt
+
+pub stopped : (bytes : List ℕ) (script : PlainScript) (why : ScriptFault) → Spells bytes script → IsStopOf (replayed script) why → IsReplayFault bytes why
+stopped bytes script (fault.Line number) spelt stop = inr (script, spelt, stop)
+stopped bytes script fault.CountFull spelt stop = (script, spelt, stop)
+stopped bytes script fault.OutOfMemory spelt stop = tt

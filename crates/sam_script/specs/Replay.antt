@@ -1,10 +1,11 @@
--- What replaying a script prints.
-use Rattle.std.specs.Prelude.{◌≡◌, ℕ, if◌then◌else◌, List, [], ◌∷◌, ◌++◌, Option, Some, None, Result, Ok, Err}
+-- What replaying a script prints, and the script that bytes spell.
+use Rattle.std.specs.Prelude.{◌≡◌, ◌⊎◌, ℕ, if◌then◌else◌, List, [], ◌∷◌, ◌++◌, Option, Some, None, Result, Ok, Err}
 use Rattle.sam_world.specs.World.{PlainWorld, new_world, step_of, is_empty_take, drained}
 use Rattle.sam_world.specs.declared.event.Event.{Event}
 use Rattle.sam_world.specs.declared.event.Event.TheVariants as event
 use Rattle.sam_script.specs.Script.{PlainScript}
 use Rattle.sam_script.specs.Show.{show_lines}
+use Rattle.sam_script.specs.Spelling.{Spells, IsWrongLine}
 use Rattle.sam_script.specs.declared.line.Line.{Line}
 use Rattle.sam_script.specs.declared.line.Line.TheVariants.{Key, Mouse, Act, Flush, Host, Term, Drain, Show}
 use Rattle.sam_script.specs.declared.line.Numbered.{Numbered}
@@ -60,3 +61,24 @@ abbrev pub IsStopOf : {A : Type 0} → Result A ScriptFault → ScriptFault → 
 IsStopOf replay (fault.Line number) = replay ≡ Err (fault.Line number)
 IsStopOf replay fault.CountFull = replay ≡ Err fault.CountFull
 IsStopOf replay fault.OutOfMemory = Unit {0}
+
+-- ## The script that bytes spell
+
+-- the bytes spell a script of which this holds
+abbrev pub OfScript : List ℕ → (PlainScript → Type 0) → Type 0
+OfScript bytes P = (script : PlainScript) × Spells bytes script × P script
+
+-- this is what the script that the bytes spell prints, replayed to its end
+abbrev pub IsReplay : List ℕ → List ℕ → Type 0
+IsReplay bytes printed = OfScript bytes (λ script. replayed script ≡ Ok printed)
+
+-- the replay of the script stops for this
+abbrev pub StopsReplay : ScriptFault → PlainScript → Type 0
+StopsReplay why script = IsStopOf (replayed script) why
+
+-- Which fault comes where. The first wrong line comes before anything is done. Where no line is wrong, the replay comes to its own fault.
+-- Memory may be short at any time
+abbrev pub IsReplayFault : List ℕ → ScriptFault → Type 0
+IsReplayFault bytes (fault.Line number) = IsWrongLine bytes number ⊎ OfScript bytes (StopsReplay (fault.Line number))
+IsReplayFault bytes fault.CountFull = OfScript bytes (StopsReplay fault.CountFull)
+IsReplayFault bytes fault.OutOfMemory = Unit {0}

@@ -4,7 +4,7 @@ ghost use Rattle.std.specs.Prelude.{◌≡◌, ◌≤◌, ◌++◌, Ok, Err, IfO
 ghost use Rattle.sam_host.specs.Given.{AreNames, given_of};
 ghost use Rattle.sam_world.specs.World.{new_world, drained};
 ghost use Rattle.sam_script.specs.Script.{IsFile};
-ghost use Rattle.sam_script.specs.Replay.{after_line, or_full, printed_by, stepped, replayed, IsStopOf};
+ghost use Rattle.sam_script.specs.Replay.{after_line, or_full, printed_by, stepped, replayed, IsReplay, IsReplayFault, IsStopOf};
 
 use crate::fault::ScriptFault;
 use crate::line::{Line, Numbered};
@@ -14,6 +14,23 @@ use sam_runes::{Runes, Text, TextFault};
 use sam_world::event::{Event, StepFault};
 use sam_world::world::World;
 use std::alloc::{AllocError, Global};
+
+/// Reads the script that the bytes spell, as [`Script::read`] does, and returns what its `show` lines print, as [`replay`] does. All lines
+/// are read before the first is done.
+///
+/// The error is `Line(n)` if line n, counted from 1, is the first wrong line. If no line is wrong, the first line that can't be done
+/// decides: `Line(n)` or `CountFull`, as [`replay`] says. `OutOfMemory` may come at any line, and before the first.
+#[tactic(auto, using(crate::proofs::Replays::unread, crate::proofs::Replays::stopped))]
+pub fn replay_bytes(alloc: Global, bytes: &[u8]) -> Result<Vec<u8>, ScriptFault>
+    ensures ok { IfOk result (λ printed. IsReplay bytes.now printed.items) }
+    ensures fault { IfErr result (IsReplayFault bytes.now) }
+{
+    let script = match Script::read(alloc, bytes) {
+        Ok(script) => script,
+        Err(fault) => return Err(fault),
+    };
+    replay(alloc, &script)
+}
 
 /// Does the lines of a script one after another, over the first world of its files, and returns all that its `show` lines print.
 ///

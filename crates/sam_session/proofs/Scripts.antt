@@ -5,11 +5,12 @@ use Rattle.std.specs.Result.{IsOkAnd}
 use Rattle.std.specs.Io.KnownBytes.{Appends}
 use Rattle.sam_script.specs.Script.{PlainScript}
 use Rattle.sam_script.specs.Spelling.{Spells, IsReadFault}
-use Rattle.sam_script.specs.Replay.{replayed, IsStopOf}
+use Rattle.sam_script.specs.Replay as replay
 use Rattle.sam_script.specs.declared.fault.ScriptFault.{ScriptFault}
 use Rattle.sam_script.specs.declared.fault.ScriptFault.TheVariants as fault
 use Rattle.sam_session.specs.Outcome.{Written}
-use Rattle.sam_session.specs.Replaying.{of_script, IsUnread, IsReplay, IsReplayFault}
+use Rattle.sam_session.specs.Replaying.{of_script, IsReplay, IsReplayFault}
+use Rattle.sam_session.specs.Threading.{IsUnread}
 use Rattle.sam_session.specs.Status.{fault_line, IsTold}
 use Rattle.sam_session.specs.declared.fault.PlayFault.{PlayFault}
 use Rattle.sam_session.specs.declared.fault.PlayFault.TheVariants.{Script, Read, Write, Side, Threads, OutOfMemory}
@@ -44,31 +45,22 @@ input_failed (Some i) e (inr h) = subst (λ (f : PlayFault). IsUnread i f) (sym 
 
 -- ---- a replay
 
-pub replay_shown : (input : Option (List ℕ)) (script : PlainScript) (out : List ℕ) → IfSome input (λ i. (length i ≤ 16777216) × Spells i script) → replayed script ≡ Ok out
-    → IfSome input (λ i. IsReplay i out)
-replay_shown input script out read ran =
-    weaker input (λ i. (length i ≤ 16777216) × Spells i script) (λ i. IsReplay i out) (λ i r. (script, r.0, r.1, ran)) read
+pub replay_shown : (input : Option (List ℕ)) (bytes out : List ℕ) → IfSome input (λ i. bytes ≡ i) → length bytes ≤ 16777216 → replay.IsReplay bytes out → IfSome input (λ i. IsReplay i out)
+replay_shown input bytes out is short ran = known input bytes (λ i. IsReplay i out) is (short, ran)
 
-stopped : (script : PlainScript) (why : ScriptFault) (i : List ℕ) → (length i ≤ 16777216) × Spells i script → IsStopOf (replayed script) why → IsReplayFault i (of_script why)
-stopped script (fault.Line line) i r stop = inr (script, r.0, r.1, stop)
-stopped script fault.CountFull i r stop = (refl, (script, r.0, r.1, stop))
-stopped script fault.OutOfMemory i r stop = tt
+faulty : (bytes : List ℕ) (why : ScriptFault) → length bytes ≤ 16777216 → replay.IsReplayFault bytes why → IsReplayFault bytes (of_script why)
+faulty bytes (fault.Line line) short stop = (short, stop)
+faulty bytes fault.CountFull short stop = (refl, short, stop)
+faulty bytes fault.OutOfMemory short stop = tt
 
-pub replay_stopped : (input : Option (List ℕ)) (script : PlainScript) (why : ScriptFault) → IfSome input (λ i. (length i ≤ 16777216) × Spells i script) → IsStopOf (replayed script) why
+pub replay_stopped : (input : Option (List ℕ)) (bytes : List ℕ) (why : ScriptFault) → IfSome input (λ i. bytes ≡ i) → length bytes ≤ 16777216 → replay.IsReplayFault bytes why
     → IfSome input (λ i. IsReplayFault i (of_script why))
-replay_stopped input script why read stop =
-    weaker input (λ i. (length i ≤ 16777216) × Spells i script) (λ i. IsReplayFault i (of_script why)) (λ i r. stopped script why i r stop) read
+replay_stopped input bytes why is short stop = known input bytes (λ i. IsReplayFault i (of_script why)) is (faulty bytes why short stop)
 
-unread_first : (i : List ℕ) (e : PlayFault) → IsUnread i e → IsReplayFault i e
-unread_first i (Script line) wrong = inl wrong
-unread_first i (Side stop) wrong = absurd wrong
-unread_first i Threads wrong = absurd wrong
-unread_first i Write wrong = absurd wrong
-unread_first i Read wrong = tt
-unread_first i OutOfMemory wrong = tt
-
-pub replay_unread : (input : Option (List ℕ)) (e : PlayFault) → IfSome input (λ i. IsUnread i e) → IfSome input (λ i. IsReplayFault i e)
-replay_unread input e read = weaker input (λ i. IsUnread i e) (λ i. IsReplayFault i e) (λ i. unread_first i e) read
+pub replay_unread : (input : Option (List ℕ)) (e : PlayFault) → (e ≡ Read) ⊎ (e ≡ OutOfMemory) → IfSome input (λ i. IsReplayFault i e)
+replay_unread None e h = tt
+replay_unread (Some i) e (inl h) = subst (λ (f : PlayFault). IsReplayFault i f) (sym h) tt
+replay_unread (Some i) e (inr h) = subst (λ (f : PlayFault). IsReplayFault i f) (sym h) tt
 
 -- ---- what is written
 

@@ -7,7 +7,6 @@ use Rattle.sam_mesg.specs.declared.hmesg.HFrame.{HFrame}
 use Rattle.sam_term.specs.Term.{PlainTerminal}
 use Rattle.sam_term.specs.declared.event.UserEvent.{UserEvent}
 use Rattle.sam_term.specs.declared.event.UserEvent.TheVariants.{Exit}
-use Rattle.sam_world.specs.Logs.{users}
 use Rattle.sam_world.specs.Sides.{Each}
 use Rattle.sam_script.specs.RunLines.{run_lines_of}
 use Rattle.sam_script.specs.Script.{PlainScript, keys_of, mouse_of}
@@ -27,8 +26,7 @@ use Rattle.sam_running.specs.declared.settled.Settled.{Settled}
 use Rattle.sam_threads.specs.declared.stop.Stop.{Stop}
 use Rattle.sam_threads.specs.declared.stop.Stop.TheVariants as stop
 use Rattle.sam_running.proofs.SettlingLists.{loaded, items_mine, items_other, nothing_joined, split_map, parts_of, senders_within}
-use Rattle.sam_session.specs.Replaying.{IsUnread}
-use Rattle.sam_session.specs.Threading.{first_cause, of_cause, of_stops, IsWoven, HasAllUsers, PrintsSession, IsThreaded, IsSessionFault, IsThreadsFault}
+use Rattle.sam_session.specs.Threading.{first_cause, of_cause, of_stops, IsWoven, HasAllUsers, PrintsSession, IsThreaded, IsSessionFault, IsThreadsFault, IsUnread}
 use Rattle.sam_session.specs.declared.fault.PlayFault.{PlayFault}
 use Rattle.sam_session.specs.declared.fault.PlayFault.TheVariants.{Script, Read, Write, Side, Threads, OutOfMemory}
 use Rattle.sam_session.proofs.Scripts.{weaker}
@@ -199,12 +197,12 @@ not_printed script s e session (inr is) = stopped script s e session is
 pub session_shown : (input : Option (List ℕ)) (script : PlainScript) (lines : List ℕ) → IfSome input (λ i. (length i ≤ 16777216) × Spells i script) → PrintsSession lines script
     → IfSome input (λ i. IsThreaded i lines)
 session_shown input script lines read prints =
-    weaker input (λ i. (length i ≤ 16777216) × Spells i script) (λ i. IsThreaded i lines) (λ i r. (script, r.0, r.1, prints)) read
+    weaker input (λ i. (length i ≤ 16777216) × Spells i script) (λ i. IsThreaded i lines) (λ i r. (r.0, (script, r.1, prints))) read
 
 of_session : (script : PlainScript) (i : List ℕ) (e : PlayFault) → (length i ≤ 16777216) × Spells i script → IsSessionFault script e → IsThreadsFault i e
 of_session script i (Script line) r stop = absurd stop
-of_session script i (Side why) r stop = (script, r.0, r.1, stop)
-of_session script i Threads r stop = (script, r.0, r.1, tt)
+of_session script i (Side why) r stop = (r.0, (script, r.1, stop))
+of_session script i Threads r stop = (r.0, (script, r.1, tt))
 of_session script i Read r stop = absurd stop
 of_session script i Write r stop = absurd stop
 of_session script i OutOfMemory r stop = tt

@@ -1,8 +1,10 @@
 -- What the program prints of a session of five threads, and what stops it.
 use Rattle.std.specs.Prelude.{◌≡◌, ◌⊎◌, ℕ, true, List, [], ◌∷◌, ◌++◌, Option, Some, None}
+use Rattle.sam_script.specs.Replay.{OfScript}
 use Rattle.sam_script.specs.RunLines.{run_lines_of}
 use Rattle.sam_script.specs.Script.{PlainScript, keys_of, mouse_of}
 use Rattle.sam_script.specs.Show.{show_lines}
+use Rattle.sam_script.specs.Spelling.{IsWrongLine}
 use Rattle.sam_term.specs.declared.event.UserEvent.{UserEvent}
 use Rattle.sam_term.specs.declared.event.UserEvent.TheVariants.{Exit}
 use Rattle.sam_world.specs.Logs.{users}
@@ -12,7 +14,7 @@ use Rattle.sam_running.specs.Session.{IsSession}
 use Rattle.sam_running.specs.declared.settled.Settled.{Settled}
 use Rattle.sam_threads.specs.declared.stop.Stop.{Stop}
 use Rattle.sam_threads.specs.declared.stop.Stop.TheVariants as stop
-use Rattle.sam_session.specs.Replaying.{OfScript, IsWrongAt}
+use Rattle.sam_session.specs.Replaying.{IsShort}
 use Rattle.sam_session.specs.declared.fault.PlayFault.{PlayFault}
 use Rattle.sam_session.specs.declared.fault.PlayFault.TheVariants.{Script, Read, Write, Side, Threads, OutOfMemory}
 
@@ -77,7 +79,7 @@ PrintsSession written script =
 
 -- what is written is such a session of the script that the input spells
 abbrev pub IsThreaded : List ℕ → List ℕ → Type 0
-IsThreaded input written = OfScript input (PrintsSession written)
+IsThreaded input written = IsShort input × OfScript input (PrintsSession written)
 
 -- ## Where it does not
 
@@ -94,11 +96,20 @@ IsSessionFault script Read = ⊥
 IsSessionFault script Write = ⊥
 IsSessionFault script OutOfMemory = Unit {0}
 
+-- Why an input is not read as a script. That a read failed, or that memory was short, no bytes can tell
+abbrev pub IsUnread : List ℕ → PlayFault → Type 0
+IsUnread input (Script line) = IsShort input × IsWrongLine input line
+IsUnread input (Side stop) = ⊥
+IsUnread input Threads = ⊥
+IsUnread input Write = ⊥
+IsUnread input Read = Unit {0}
+IsUnread input OutOfMemory = Unit {0}
+
 -- Which fault comes where. A first wrong line comes before any thread; where there is none, the threads can't be started, or a side stops
 abbrev pub IsThreadsFault : List ℕ → PlayFault → Type 0
-IsThreadsFault input (Script line) = IsWrongAt input line
-IsThreadsFault input (Side stop) = OfScript input (StopsSession (Side stop))
-IsThreadsFault input Threads = OfScript input (λ _. Unit {0})
+IsThreadsFault input (Script line) = IsShort input × IsWrongLine input line
+IsThreadsFault input (Side stop) = IsShort input × OfScript input (StopsSession (Side stop))
+IsThreadsFault input Threads = IsShort input × OfScript input (λ _. Unit {0})
 IsThreadsFault input Read = Unit {0}
 IsThreadsFault input Write = Unit {0}
 IsThreadsFault input OutOfMemory = Unit {0}

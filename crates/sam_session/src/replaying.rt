@@ -1,14 +1,13 @@
 //! Mode `replay`: a script in, what it prints out.
 
-ghost use Rattle.std.specs.Prelude.{◌≡◌, ◌≤◌, OnOk, IfOk, IfErr, IfSome, length};
-ghost use Rattle.sam_script.specs.Spelling.{Spells};
+ghost use Rattle.std.specs.Prelude.{◌≡◌, OnOk, IfOk, IfErr, IfSome};
 ghost use Rattle.sam_session.specs.Outcome.{Written};
-ghost use Rattle.sam_session.specs.Replaying.{IsReplay, IsReplayFault, IsUnread, of_script};
+ghost use Rattle.sam_session.specs.Replaying.{IsReplay, IsReplayFault, of_script};
 ghost use Rattle.sam_session.specs.Status.{IsTold};
 
 use crate::fault::PlayFault;
 use crate::whole::{read_all, write_or_tell};
-use sam_script::{Script, ScriptFault, replay};
+use sam_script::{ScriptFault, replay_bytes};
 use sam_threads::Stop;
 use std::alloc::Global;
 use std::io::{Read, Write};
@@ -35,29 +34,12 @@ fn replay_lines<R: Read>(alloc: Global, reader: &mut R) -> Result<Vec<u8>, PlayF
     ensures ok { IfOk result (λ lines. IfSome (R.remaining reader.old) (λ input. IsReplay input lines.items)) }
     ensures fault { IfErr result (λ fault. IfSome (R.remaining reader.old) (λ input. IsReplayFault input fault)) }
 {
-    let script = match script_in(alloc, reader) {
-        Ok(script) => script,
-        Err(fault) => return Err(fault),
-    };
-    match replay(alloc, &script) {
-        Ok(lines) => Ok(lines),
-        Err(fault) => Err(of_script(fault)),
-    }
-}
-
-/// Reads the script that the reader gives. The input is read whole before it is parsed, so the errors are those of the reading, and then
-/// those of the script.
-#[tactic(auto, using(crate::proofs::Scripts::script_read, crate::proofs::Scripts::script_wrong, crate::proofs::Scripts::input_failed))]
-pub(crate) fn script_in<R: Read>(alloc: Global, reader: &mut R) -> Result<Script, PlayFault>
-    ensures ok { IfOk result (λ script. IfSome (R.remaining reader.old) (λ input. (length input ≤ 16777216) × Spells input script)) }
-    ensures fault { IfErr result (λ fault. IfSome (R.remaining reader.old) (λ input. IsUnread input fault)) }
-{
     let input = match read_all(alloc, reader) {
         Ok(input) => input,
         Err(fault) => return Err(fault),
     };
-    match Script::read(alloc, input.as_slice()) {
-        Ok(script) => Ok(script),
+    match replay_bytes(alloc, input.as_slice()) {
+        Ok(lines) => Ok(lines),
         Err(fault) => Err(of_script(fault)),
     }
 }

@@ -1,15 +1,16 @@
 //! Mode `threads`: a script in; the schedule that its threads made, and what the end of that shows, out.
 
-ghost use Rattle.std.specs.Prelude.{◌≡◌, ◌<◌, ◌++◌, ◌⊎◌, OnOk, IfOk, IfErr, IfSome, Some, None};
+ghost use Rattle.std.specs.Prelude.{◌≡◌, ◌≤◌, ◌<◌, ◌++◌, ◌⊎◌, OnOk, IfOk, IfErr, IfSome, Some, None, length};
 ghost use Rattle.sam_script.specs.RunLines.{run_lines_of};
 ghost use Rattle.sam_script.specs.Show.{show_lines};
+ghost use Rattle.sam_script.specs.Spelling.{Spells};
 ghost use Rattle.sam_session.specs.Outcome.{Written};
 ghost use Rattle.sam_session.specs.Status.{IsTold};
-ghost use Rattle.sam_session.specs.Threading.{of_stops, IsThreaded, IsThreadsFault, IsSessionFault, PrintsSession};
+ghost use Rattle.sam_session.specs.Threading.{of_stops, IsThreaded, IsThreadsFault, IsSessionFault, IsUnread, PrintsSession};
 
 use crate::fault::PlayFault;
-use crate::replaying::script_in;
-use crate::whole::write_or_tell;
+use crate::replaying::of_script;
+use crate::whole::{read_all, write_or_tell};
 use sam_running::{RunFault, Settled, run_threads};
 use sam_script::{Script, run_lines, show};
 use sam_threads::{OpenGate, Stop};
@@ -60,6 +61,23 @@ fn threads_lines<T: Threads + Wait + Sync, R: Read>(
     match session_lines(rt, alloc, &script, piece, capacity) {
         Ok(lines) => Ok(lines),
         Err(fault) => Err(fault),
+    }
+}
+
+/// Reads the script that the reader gives. The input is read whole before it is parsed, so the errors are those of the reading, and then
+/// those of the script.
+#[tactic(auto, using(crate::proofs::Scripts::script_read, crate::proofs::Scripts::script_wrong, crate::proofs::Scripts::input_failed))]
+fn script_in<R: Read>(alloc: Global, reader: &mut R) -> Result<Script, PlayFault>
+    ensures ok { IfOk result (λ script. IfSome (R.remaining reader.old) (λ input. (length input ≤ 16777216) × Spells input script)) }
+    ensures fault { IfErr result (λ fault. IfSome (R.remaining reader.old) (λ input. IsUnread input fault)) }
+{
+    let input = match read_all(alloc, reader) {
+        Ok(input) => input,
+        Err(fault) => return Err(fault),
+    };
+    match Script::read(alloc, input.as_slice()) {
+        Ok(script) => Ok(script),
+        Err(fault) => Err(of_script(fault)),
     }
 }
 

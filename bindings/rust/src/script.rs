@@ -1,0 +1,32 @@
+//! Scripts, which are run over a host and a terminal of their own.
+
+use crate::raw;
+use crate::{Error, PIECE, done};
+
+/// SAM_SCRIPT_LINE of include/sam.h.
+const SCRIPT_LINE: u32 = 161;
+
+/// What the `show` lines of a script print; docs/SCRIPTS.md tells the language. Errors: `ScriptLine`, `ScriptCountFull`, `NoMemory`.
+///
+/// ```
+/// let shown = sulgrevad::replay(b"file notes hello\nshow\n")?;
+/// assert_eq!(shown, b"= h 0 - c ~~sam~~ ||\n= h 1 - c notes |hello|\n= s 0 0 0 0 0 0\n");
+/// assert_eq!(sulgrevad::replay(b"show\nfly\n"), Err(sulgrevad::Error::ScriptLine(2)));
+/// # Ok::<(), sulgrevad::Error>(())
+/// ```
+pub fn replay(script: &[u8]) -> Result<Vec<u8>, Error> {
+    let mut out = vec![0; PIECE];
+    loop {
+        let (mut len, mut line) = (0, 0);
+        let status = unsafe { raw::sam_replay(script.as_ptr(), script.len(), out.as_mut_ptr(), out.len(), &mut len, &mut line) };
+        if status == SCRIPT_LINE {
+            return Err(Error::ScriptLine(line));
+        }
+        done(status)?;
+        let is_whole = len <= out.len();
+        out.resize(len, 0);
+        if is_whole {
+            return Ok(out);
+        }
+    }
+}
