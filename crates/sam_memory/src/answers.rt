@@ -1,7 +1,7 @@
 //! Answers of the host.
 
 use crate::files::is_same_files;
-use crate::setup::{SetUp, Tried, runes, spells};
+use crate::setup::{SetUp, Tried, beside_twin, prepared, runes, spells};
 use sam_host::fault::HostFault;
 use sam_host::host::Host;
 use sam_mesg::{Frames, HFrame, Hmesg, Tmesg, fits_t};
@@ -27,42 +27,48 @@ fn ask(host: &mut Host, message: Tmesg) -> Result<Frames, HostFault> {
 /// The answers to the message. Where memory for them is refused, the host is to be its twin to every reader, and the message
 /// is handed over again. None where anything else is told.
 fn answers(host: &mut Host, twin: &Host, message: Tmesg, again: Tmesg) -> Option<Frames> {
-    let mut answered = ask(host, message);
-    if matches!(&answered, Err(HostFault::OutOfMemory)) {
-        if !is_same_host(host, twin) {
-            return None;
-        }
-        answered = ask(host, again);
+    match ask(host, message) {
+        Err(HostFault::OutOfMemory) if is_same_host(host, twin) => ask(host, again).ok(),
+        answered => answered.ok(),
     }
-    answered.ok()
 }
 
-/// A host whose file 1 has the text and is open.
-fn showing(alloc: Global, text: Text) -> Result<Host, SetUp> {
+/// A host whose file 1 has the text.
+fn with_text(alloc: Global, text: Text) -> Result<Host, SetUp> {
     let mut given = Vec::new(alloc);
     given.push((Runes::from_slice(alloc, &['a'])?, text))?;
-    let mut host = Host::new(alloc, given)?;
-    ask(&mut host, Tmesg::Tstartfile(1))?;
-    Ok(host)
+    Ok(Host::new(alloc, given)?)
+}
+
+/// Shows file 1, which becomes the work file, and the command file.
+fn start_work(host: &mut Host) -> Result<(), SetUp> {
+    ask(host, Tmesg::Tstartfile(1))?;
+    ask(host, Tmesg::Tstartcmdfile)?;
+    ask(host, Tmesg::Tworkfile(1, 0, 0))?;
+    Ok(())
 }
 
 /// A host whose work file is file 1 with the text, and which shows it and the command file.
 fn at_work(alloc: Global, text: &str) -> Result<Host, SetUp> {
     let text = runes(alloc, text)?;
-    let mut host = showing(alloc, Text::from_runes(alloc, text.as_slice())?)?;
-    ask(&mut host, Tmesg::Tstartcmdfile)?;
-    ask(&mut host, Tmesg::Tworkfile(1, 0, 0))?;
-    Ok(host)
+    let host = with_text(alloc, Text::from_runes(alloc, text.as_slice())?)?;
+    prepared(host, start_work)
+}
+
+/// Shows file 1, asks for a paste of two runes, and then has one to paste.
+fn snarf(alloc: Global, host: &mut Host) -> Result<(), SetUp> {
+    ask(host, Tmesg::Tstartfile(1))?;
+    ask(host, Tmesg::Tsetsnarf(runes(alloc, "ab")?))?;
+    ask(host, Tmesg::Tpaste(1, 0))?;
+    ask(host, Tmesg::Tsetsnarf(runes(alloc, "a")?))?;
+    Ok(())
 }
 
 /// A host that shows a text of 999,999 runes, and has refused to paste two more; it is to paste one.
 fn almost_full(alloc: Global) -> Result<Host, SetUp> {
     let text = vec![in alloc; 'b'; 999_999]?;
-    let mut host = showing(alloc, Text::from_runes(alloc, text.as_slice())?)?;
-    ask(&mut host, Tmesg::Tsetsnarf(runes(alloc, "ab")?))?;
-    ask(&mut host, Tmesg::Tpaste(1, 0))?;
-    ask(&mut host, Tmesg::Tsetsnarf(runes(alloc, "a")?))?;
-    Ok(host)
+    let host = with_text(alloc, Text::from_runes(alloc, text.as_slice())?)?;
+    prepared(host, |host| snarf(alloc, host))
 }
 
 /// Whether file 1 has the text.
@@ -100,15 +106,26 @@ fn finds(frame: &HFrame, pattern: &str) -> bool {
 }
 
 /// A typed line that changes each `a` of the work file.
-pub fn handle_line(alloc: Global) -> Tried {
-    let mut host = at_work(alloc, "abab\n")?;
-    let twin = at_work(alloc, "abab\n")?;
-    let line = Tmesg::Ttype(0, 0, runes(alloc, ",x/a/c/X/\n")?);
-    let again = Tmesg::Ttype(0, 0, runes(alloc, ",x/a/c/X/\n")?);
-    match answers(&mut host, &twin, line, again) {
-        Some(frames) => Ok(are_changes(frames.as_slice()) && has_text(&host, "XbXb\n")),
+fn line(alloc: Global) -> Result<Tmesg, SetUp> {
+    Ok(Tmesg::Ttype(0, 0, runes(alloc, ",x/a/c/X/\n")?))
+}
+
+fn changes(alloc: Global, host: &mut Host, twin: &Host) -> Tried {
+    let first = line(alloc)?;
+    let again = line(alloc)?;
+    match answers(host, twin, first, again) {
+        Some(frames) => Ok(are_changes(frames.as_slice()) && has_text(host, "XbXb\n")),
         None => Ok(false),
     }
+}
+
+/// A line that changes each `a` of the work file is typed.
+pub fn handle_line(alloc: Global) -> Tried {
+    beside_twin(
+        alloc,
+        |alloc| at_work(alloc, "abab\n"),
+        |host, twin| changes(alloc, host, twin),
+    )
 }
 
 fn are_changes(frames: &[HFrame]) -> bool {
@@ -138,16 +155,18 @@ fn are_changes(frames: &[HFrame]) -> bool {
         && matches!(&unlock.msg, Hmesg::Hunlock)
 }
 
-/// A paste that fills a text to its limit.
-pub fn handle_paste(alloc: Global) -> Tried {
-    let mut host = almost_full(alloc)?;
-    let twin = almost_full(alloc)?;
-    match answers(&mut host, &twin, Tmesg::Tpaste(1, 0), Tmesg::Tpaste(1, 0)) {
+fn pastes(host: &mut Host, twin: &mut Host) -> Tried {
+    match answers(host, twin, Tmesg::Tpaste(1, 0), Tmesg::Tpaste(1, 0)) {
         Some(frames) => Ok(
             are_of_paste(frames.as_slice()) && host.files().text_len(1) == 1_000_000,
         ),
         None => Ok(false),
     }
+}
+
+/// A paste that fills a text to its limit.
+pub fn handle_paste(alloc: Global) -> Tried {
+    beside_twin(alloc, almost_full, pastes)
 }
 
 fn are_of_paste(frames: &[HFrame]) -> bool {
@@ -162,19 +181,16 @@ fn are_of_paste(frames: &[HFrame]) -> bool {
         && matches!(&unlock.msg, Hmesg::Hunlockfile(1))
 }
 
-/// A line that is sent from the work file, and deletes it.
-pub fn handle_send(alloc: Global) -> Tried {
-    let mut host = at_work(alloc, ",d")?;
-    let twin = at_work(alloc, ",d")?;
-    match answers(
-        &mut host,
-        &twin,
-        Tmesg::Tsend(1, 0, 2),
-        Tmesg::Tsend(1, 0, 2),
-    ) {
-        Some(frames) => Ok(are_of_send(frames.as_slice()) && has_text(&host, "")),
+fn sends(host: &mut Host, twin: &mut Host) -> Tried {
+    match answers(host, twin, Tmesg::Tsend(1, 0, 2), Tmesg::Tsend(1, 0, 2)) {
+        Some(frames) => Ok(are_of_send(frames.as_slice()) && has_text(host, "")),
         None => Ok(false),
     }
+}
+
+/// A line that is sent from the work file, and deletes it.
+pub fn handle_send(alloc: Global) -> Tried {
+    beside_twin(alloc, |alloc| at_work(alloc, ",d"), sends)
 }
 
 fn are_of_send(frames: &[HFrame]) -> bool {

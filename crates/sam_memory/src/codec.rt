@@ -1,6 +1,6 @@
 //! Messages written, read and copied.
 
-use crate::setup::{SetUp, Tried, runes, spells};
+use crate::setup::{SetUp, Tried, runes, spells, told_of};
 use sam_mesg::{
     HFrame, Hmesg, MesgFault, Tmesg, decode_h, decode_t, encode_h, encode_t, fits_h, fits_t,
 };
@@ -40,62 +40,64 @@ fn is_given(frame: &HFrame) -> bool {
     }
 }
 
+fn encodes_typed(message: &Tmesg, out: &mut Vec<u8>) -> bool {
+    if !fits_t(2, message) {
+        return false;
+    }
+    let mut put = encode_t(message, out);
+    if put == Err(MesgFault::OutOfMemory) {
+        if out.as_slice() != &TYPED[..1] || !is_typed(message) {
+            return false;
+        }
+        put = encode_t(message, out);
+    }
+    put == Ok(()) && out.as_slice() == TYPED.as_slice()
+}
+
 /// The frame is appended whole, or nothing is.
 pub fn encode_terminal(alloc: Global) -> Tried {
     let message = typed(alloc)?;
     let mut out = Vec::from_slice(alloc, &TYPED[..1])?;
-    if !fits_t(2, &message) {
-        return Ok(false);
+    Ok(encodes_typed(&message, &mut out))
+}
+
+fn encodes_given(frame: &HFrame, out: &mut Vec<u8>) -> bool {
+    if !fits_h(2, &frame.msg) {
+        return false;
     }
-    let mut put = encode_t(&message, &mut out);
+    let mut put = encode_h(frame, out);
     if put == Err(MesgFault::OutOfMemory) {
-        if out.as_slice() != &TYPED[..1] || !is_typed(&message) {
-            return Ok(false);
+        if out.as_slice() != &GIVEN[..1] || !is_given(frame) {
+            return false;
         }
-        put = encode_t(&message, &mut out);
+        put = encode_h(frame, out);
     }
-    Ok(put == Ok(()) && out.as_slice() == TYPED.as_slice())
+    put == Ok(()) && out.as_slice() == GIVEN.as_slice()
 }
 
 /// The frame is appended whole, or nothing is.
 pub fn encode_host(alloc: Global) -> Tried {
     let frame = given(alloc)?;
     let mut out = Vec::from_slice(alloc, &GIVEN[..1])?;
-    if !fits_h(2, &frame.msg) {
-        return Ok(false);
-    }
-    let mut put = encode_h(&frame, &mut out);
-    if put == Err(MesgFault::OutOfMemory) {
-        if out.as_slice() != &GIVEN[..1] || !is_given(&frame) {
-            return Ok(false);
-        }
-        put = encode_h(&frame, &mut out);
-    }
-    Ok(put == Ok(()) && out.as_slice() == GIVEN.as_slice())
+    Ok(encodes_given(&frame, &mut out))
 }
 
 /// The body is read as the message.
 pub fn decode_terminal(alloc: Global) -> Tried {
-    let mut read = decode_t(alloc, 1, TYPED[1], &TYPED[4..]);
-    if matches!(&read, Err(MesgFault::OutOfMemory)) {
-        read = decode_t(alloc, 1, TYPED[1], &TYPED[4..]);
-    }
-    match read {
-        Ok(message) => Ok(is_typed(&message)),
-        Err(_) => Ok(false),
-    }
+    let read = match decode_t(alloc, 1, TYPED[1], &TYPED[4..]) {
+        Err(MesgFault::OutOfMemory) => decode_t(alloc, 1, TYPED[1], &TYPED[4..]),
+        read => read,
+    };
+    Ok(matches!(&read, Ok(message) if is_typed(message)))
 }
 
 /// The body is read as the frame.
 pub fn decode_host(alloc: Global) -> Tried {
-    let mut read = decode_h(alloc, 1, GIVEN[1], &GIVEN[4..]);
-    if matches!(&read, Err(MesgFault::OutOfMemory)) {
-        read = decode_h(alloc, 1, GIVEN[1], &GIVEN[4..]);
-    }
-    match read {
-        Ok(frame) => Ok(is_given(&frame)),
-        Err(_) => Ok(false),
-    }
+    let read = match decode_h(alloc, 1, GIVEN[1], &GIVEN[4..]) {
+        Err(MesgFault::OutOfMemory) => decode_h(alloc, 1, GIVEN[1], &GIVEN[4..]),
+        read => read,
+    };
+    Ok(matches!(&read, Ok(frame) if is_given(frame)))
 }
 
 /// The body of a `Ttype` of 513 runes, which is one too many.
@@ -150,34 +152,28 @@ pub fn decode_bad_host(alloc: Global) -> Tried {
     Ok(true)
 }
 
+fn copies_typed(alloc: Global, message: &Tmesg) -> bool {
+    let copied = match message.copy(alloc) {
+        Err(_) if is_typed(message) => message.copy(alloc),
+        copied => copied,
+    };
+    matches!(&copied, Ok(copy) if is_typed(copy)) && is_typed(message)
+}
+
 /// The copy is the message.
 pub fn copy_terminal(alloc: Global) -> Tried {
-    let message = typed(alloc)?;
-    let mut copied = message.copy(alloc);
-    if copied.is_err() {
-        if !is_typed(&message) {
-            return Ok(false);
-        }
-        copied = message.copy(alloc);
-    }
-    match copied {
-        Ok(copy) => Ok(is_typed(&copy) && is_typed(&message)),
-        Err(_) => Ok(false),
-    }
+    Ok(told_of(typed(alloc)?, |message| copies_typed(alloc, message)))
+}
+
+fn copies_given(alloc: Global, frame: &HFrame) -> bool {
+    let copied = match frame.copy(alloc) {
+        Err(_) if is_given(frame) => frame.copy(alloc),
+        copied => copied,
+    };
+    matches!(&copied, Ok(copy) if is_given(copy)) && is_given(frame)
 }
 
 /// The copy is the frame.
 pub fn copy_host(alloc: Global) -> Tried {
-    let frame = given(alloc)?;
-    let mut copied = frame.copy(alloc);
-    if copied.is_err() {
-        if !is_given(&frame) {
-            return Ok(false);
-        }
-        copied = frame.copy(alloc);
-    }
-    match copied {
-        Ok(copy) => Ok(is_given(&copy) && is_given(&frame)),
-        Err(_) => Ok(false),
-    }
+    Ok(told_of(given(alloc)?, |frame| copies_given(alloc, frame)))
 }

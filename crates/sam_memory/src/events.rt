@@ -1,7 +1,7 @@
 //! Events and frames at the terminal.
 
 use crate::gaps::{is_same_rasp, shows};
-use crate::setup::{SetUp, Tried, runes};
+use crate::setup::{SetUp, Tried, beside_twin, prepared, runes};
 use sam_mesg::{Batch, HFrame, Hmesg, Tmesg, fits_h};
 use sam_rasp::Rasp;
 use sam_term::{Acted, TermFault, Terminal, UserEvent};
@@ -58,19 +58,22 @@ fn does(terminal: &mut Terminal, event: UserEvent) -> Result<(), SetUp> {
     }
 }
 
-/// The messages that the oldest held event composes. Where memory for it is refused, the terminal is to be its twin to every
-/// reader, and the event is tried again. None where anything else is told.
-fn composed(terminal: &mut Terminal, twin: &Terminal) -> Option<Batch> {
-    let mut acted = terminal.act();
-    if matches!(&acted, Err(TermFault::OutOfMemory)) {
-        if !is_same_terminal(terminal, twin) {
-            return None;
-        }
-        acted = terminal.act();
-    }
+/// The messages of an event that was done.
+fn messages_of(acted: Result<Acted, TermFault>) -> Option<Batch> {
     match acted {
         Ok(Acted::Done(messages)) => Some(messages),
         _ => None,
+    }
+}
+
+/// The messages that the oldest held event composes. Where memory for it is refused, the terminal is to be its twin to every
+/// reader, and the event is tried again. None where anything else is told.
+fn composed(terminal: &mut Terminal, twin: &Terminal) -> Option<Batch> {
+    match terminal.act() {
+        Err(TermFault::OutOfMemory) if is_same_terminal(terminal, twin) => {
+            messages_of(terminal.act())
+        }
+        acted => messages_of(acted),
     }
 }
 
@@ -102,9 +105,7 @@ fn hold_paste(terminal: &mut Terminal) -> Result<(), SetUp> {
 
 /// A terminal with two files, where a paste into the first is held.
 fn to_paste(alloc: Global) -> Result<Terminal, SetUp> {
-    let mut terminal = Terminal::new(alloc);
-    hold_paste(&mut terminal)?;
-    Ok(terminal)
+    prepared(Terminal::new(alloc), hold_paste)
 }
 
 /// Opens a file, types and sends `XY`, selects it, and holds `Z` to be typed in its place.
@@ -121,9 +122,7 @@ fn hold_type(alloc: Global, terminal: &mut Terminal) -> Result<(), SetUp> {
 
 /// A terminal where `XY` was typed and sent and is selected, and `Z` is held to be typed in its place.
 fn to_type_over(alloc: Global) -> Result<Terminal, SetUp> {
-    let mut terminal = Terminal::new(alloc);
-    hold_type(alloc, &mut terminal)?;
-    Ok(terminal)
+    prepared(Terminal::new(alloc), |terminal| hold_type(alloc, terminal))
 }
 
 /// Shows three runes and two gaps of a file, asks whether it shows all, and types a line to be run.
@@ -141,9 +140,7 @@ fn type_line(alloc: Global, terminal: &mut Terminal) -> Result<(), SetUp> {
 
 /// A terminal that shows three runes and two gaps of a file, has asked whether it shows all, and waits for a line to be run.
 fn to_fill(alloc: Global) -> Result<Terminal, SetUp> {
-    let mut terminal = Terminal::new(alloc);
-    type_line(alloc, &mut terminal)?;
-    Ok(terminal)
+    prepared(Terminal::new(alloc), |terminal| type_line(alloc, terminal))
 }
 
 /// Whether the part of the file is the shown one, in which `_` stands for a gap.
@@ -154,59 +151,51 @@ pub fn part_shows(terminal: &Terminal, tag: u16, shown: &str) -> bool {
     }
 }
 
-fn pastes(terminal: &mut Terminal, twin: &Terminal) -> bool {
+fn pastes(terminal: &mut Terminal, twin: &mut Terminal) -> Tried {
     let Some(messages) = composed(terminal, twin) else {
-        return false;
+        return Ok(false);
     };
     let asks = matches!(messages.as_slice(), [Tmesg::Tpaste(1, 0)]);
-    asks && terminal.locks(1) == 1 && terminal.sent() == 1
+    Ok(asks && terminal.locks(1) == 1 && terminal.sent() == 1)
 }
 
 /// A paste asks the host, and locks its file.
 pub fn act_paste(alloc: Global) -> Tried {
-    let mut terminal = to_paste(alloc)?;
-    let twin = to_paste(alloc)?;
-    Ok(pastes(&mut terminal, &twin))
+    beside_twin(alloc, to_paste, pastes)
 }
 
-fn types_over(terminal: &mut Terminal, twin: &Terminal) -> bool {
+fn types_over(terminal: &mut Terminal, twin: &mut Terminal) -> Tried {
     let Some(messages) = composed(terminal, twin) else {
-        return false;
+        return Ok(false);
     };
     let cuts = matches!(messages.as_slice(), [Tmesg::Tcut(1, 0, 2)]);
-    cuts && part_shows(terminal, 1, "Zab cd") && terminal.unsent() == 1
+    Ok(cuts && part_shows(terminal, 1, "Zab cd") && terminal.unsent() == 1)
 }
 
 /// Typing over a dot cuts it and types, or does neither.
 pub fn act_type(alloc: Global) -> Tried {
-    let mut terminal = to_type_over(alloc)?;
-    let twin = to_type_over(alloc)?;
-    Ok(types_over(&mut terminal, &twin))
+    beside_twin(alloc, to_type_over, types_over)
 }
 
 /// What a check has the terminal compose, as `composed` says it of an event.
 fn checked(terminal: &mut Terminal, twin: &Terminal) -> Option<Batch> {
-    let mut received = take(terminal, 3, Hmesg::Hcheck(1));
-    if matches!(&received, Err(TermFault::OutOfMemory)) {
-        if !is_same_terminal(terminal, twin) {
-            return None;
+    match take(terminal, 3, Hmesg::Hcheck(1)) {
+        Err(TermFault::OutOfMemory) if is_same_terminal(terminal, twin) => {
+            take(terminal, 3, Hmesg::Hcheck(1)).ok()
         }
-        received = take(terminal, 3, Hmesg::Hcheck(1));
+        received => received.ok(),
     }
-    received.ok()
 }
 
-fn asks_for_gap(terminal: &mut Terminal, twin: &Terminal) -> bool {
+fn asks_for_gap(terminal: &mut Terminal, twin: &mut Terminal) -> Tried {
     let Some(messages) = checked(terminal, twin) else {
-        return false;
+        return Ok(false);
     };
     let asks = matches!(messages.as_slice(), [Tmesg::Trequest(1, 3, 2)]);
-    asks && part_shows(terminal, 1, "cde_____") && terminal.locks(1) == 1
+    Ok(asks && part_shows(terminal, 1, "cde_____") && terminal.locks(1) == 1)
 }
 
 /// A check has the first gap in view asked for.
 pub fn receive_check(alloc: Global) -> Tried {
-    let mut terminal = to_fill(alloc)?;
-    let twin = to_fill(alloc)?;
-    Ok(asks_for_gap(&mut terminal, &twin))
+    beside_twin(alloc, to_fill, asks_for_gap)
 }

@@ -20,6 +20,14 @@ fn is_fresh(framer: &FramerT) -> bool {
 /// What a feed answers.
 type Fed = Result<Vec<Tmesg>, FeedFault<Tmesg>>;
 
+/// Feeds the piece. Where memory for it is refused, nothing is to seem to have been fed, and the piece is fed again.
+fn fed(framer: &mut FramerT, piece: &[u8]) -> Fed {
+    match framer.feed(piece) {
+        Err(FeedFault::OutOfMemory) if is_fresh(framer) => framer.feed(piece),
+        fed => fed,
+    }
+}
+
 /// Whether the piece gave that one message.
 fn gives_typed(fed: &Fed) -> bool {
     match fed {
@@ -41,26 +49,14 @@ fn gives_fault(fed: &Fed) -> bool {
 /// A piece that is one frame gives its message.
 pub fn feed_whole(alloc: Global) -> Tried {
     let mut framer: FramerT = Framer::new(alloc);
-    let mut fed = framer.feed(&WHOLE);
-    if matches!(&fed, Err(FeedFault::OutOfMemory)) {
-        if !is_fresh(&framer) {
-            return Ok(false);
-        }
-        fed = framer.feed(&WHOLE);
-    }
+    let fed = fed(&mut framer, &WHOLE);
     Ok(gives_typed(&fed) && is_fresh(&framer))
 }
 
 /// A piece with a fault gives the message before it and the place of the fault.
 pub fn feed_fault(alloc: Global) -> Tried {
     let mut framer: FramerT = Framer::new(alloc);
-    let mut fed = framer.feed(&FAULTY);
-    if matches!(&fed, Err(FeedFault::OutOfMemory)) {
-        if !is_fresh(&framer) {
-            return Ok(false);
-        }
-        fed = framer.feed(&FAULTY);
-    }
+    let fed = fed(&mut framer, &FAULTY);
     let failed = matches!(framer.finish(), Err(FeedFault::Failed));
     Ok(gives_fault(&fed) && failed)
 }

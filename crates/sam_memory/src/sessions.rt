@@ -2,16 +2,17 @@
 //!
 //! In what order the threads go differs from run to run. So a session is compared with the world where its own events lead.
 
+ghost use Rattle.std.specs.Prelude.{◌≡◌};
 ghost use Rattle.sam_threads.specs.Told.{AreEnds};
 
 use crate::answers::is_same_host;
 use crate::events::is_same_terminal;
-use crate::setup::{SetUp, Tried};
+use crate::setup::{SetUp, Tried, prepared, told_of};
 use crate::worlds::is_same_world;
 use sam_runes::Runes;
 use sam_running::{RunFault, SettleFault, Settled, run_ends, run_threads, settle};
 use sam_script::{Script, first_world, run_lines, show};
-use sam_threads::{Ends, Lines, OpenGate, Stop};
+use sam_threads::{Ends, Lines, OpenGate, Starts, Stop};
 use sam_world::{Event, World, merge};
 use std::alloc::Global;
 use std::sync::Wait;
@@ -51,9 +52,9 @@ struct Reading {
 
 /// The world where the events lead from the script's files.
 fn led(alloc: Global, script: &Script, events: &[Event]) -> Result<World, SetUp> {
-    let mut world = first_world(alloc, script.files())?;
-    world.run(events)?;
-    Ok(world)
+    prepared(first_world(alloc, script.files())?, |world| {
+        Ok(world.run(events)?)
+    })
 }
 
 /// The schedule of the two logs.
@@ -62,7 +63,11 @@ fn merged(alloc: Global, ends: &Ends<'_>) -> Result<Vec<Event>, SetUp> {
     Ok(schedule)
 }
 
+/// Reads the ends, where nothing stopped a worker.
 fn read(alloc: Global, script: &Script, ends: &Ends<'_>) -> Result<Reading, SetUp> {
+    if !are_unstopped(ends) {
+        return Err(SetUp);
+    }
     let schedule = merged(alloc, ends)?;
     let lines = run_lines(alloc, script, schedule.as_slice())?;
     let world = led(alloc, script, schedule.as_slice())?;
@@ -104,6 +109,25 @@ fn is_as_read(alloc: Global, script: &Script, ends: &Ends<'_>, before: &Reading)
     )
 }
 
+/// What the ends settle to, if they are as they were read. None where anything else is told.
+fn settled_again<R: Wait>(
+    rt: &R,
+    alloc: Global,
+    script: &Script,
+    ends: Ends<'_>,
+    before: &Reading,
+) -> Result<Option<Settled>, SetUp>
+    requires { AreEnds ends }
+{
+    match is_as_read(alloc, script, &ends, before) {
+        Ok(true) => Ok(settle(rt, alloc, ends).ok()),
+        kept => {
+            drop(ends);
+            kept.map(|_| None)
+        }
+    }
+}
+
 /// What the ends settle to. Where memory for it is refused, they are to be as they were read, and are settled again. None where anything else
 /// is told.
 fn settled<R: Wait>(
@@ -117,23 +141,18 @@ fn settled<R: Wait>(
 {
     match settle(rt, alloc, ends) {
         Ok(settled) => Ok(Some(settled)),
-        Err(SettleFault::OutOfMemory(ends)) => {
-            if !is_as_read(alloc, script, &ends, before)? {
-                return Ok(None);
-            }
-            Ok(settle(rt, alloc, ends).ok())
-        }
+        Err(SettleFault::OutOfMemory(ends)) => settled_again(rt, alloc, script, ends, before),
     }
 }
 
 /// Whether the schedule leads from the script's files to the two ends, and to the settled world.
 fn replays(alloc: Global, script: &Script, settled: &Settled) -> Tried {
     let world = led(alloc, script, settled.schedule.as_slice())?;
-    Ok(
+    Ok(told_of(world, |world| {
         is_same_host(&settled.host, world.host())
             && is_same_terminal(&settled.term, world.term())
-            && is_same_world(&settled.world, &world),
-    )
+            && is_same_world(&settled.world, world)
+    }))
 }
 
 /// Whether the session came to its end: nothing stopped a worker, nothing is left in a line, and it replays to what its end shows.
@@ -164,23 +183,42 @@ fn settles<R: Wait>(
     requires { AreEnds ends }
 {
     match settled(rt, alloc, script, ends, before)? {
-        Some(settled) => Ok(
-            is_whole(alloc, script, &settled)? && has_schedule(alloc, script, &settled, before)?,
-        ),
+        Some(settled) => told_of(settled, |settled| {
+            Ok(is_whole(alloc, script, settled)? && has_schedule(alloc, script, settled, before)?)
+        }),
         None => Ok(false),
     }
+}
+
+/// Runs the script over the lines, reads the ends, and settles them.
+fn settles_over<R: Threads + Wait + Sync>(
+    rt: &R,
+    alloc: Global,
+    script: &Script,
+    lines: &Lines,
+    starts: Starts,
+) -> Tried
+    requires { starts ≡ lines.now }
+{
+    let ends = run_ends(rt, alloc, lines, starts, script, PIECE, &OpenGate)?;
+    match read(alloc, script, &ends) {
+        Ok(before) => told_of(before, |before| settles(rt, alloc, script, ends, before)),
+        Err(refused) => {
+            drop(ends);
+            Err(refused)
+        }
+    }
+}
+
+fn settles_script<R: Threads + Wait + Sync>(rt: &R, alloc: Global, script: &Script) -> Tried {
+    let (lines, starts) = Lines::new(alloc, CAPACITY)?;
+    settles_over(rt, alloc, script, &lines, starts)
 }
 
 /// Five ends are settled. They come back where that is refused.
 pub fn settle_ends<R: Threads + Wait + Sync>(rt: &R, alloc: Global) -> Tried {
     let script = Script::read(alloc, SCRIPT.as_bytes())?;
-    let (lines, starts) = Lines::new(alloc, CAPACITY)?;
-    let ends = run_ends(rt, alloc, &lines, starts, &script, PIECE, &OpenGate)?;
-    if !are_unstopped(&ends) {
-        return Err(SetUp);
-    }
-    let before = read(alloc, &script, &ends)?;
-    settles(rt, alloc, &script, ends, &before)
+    settles_script(rt, alloc, &script)
 }
 
 /// Whether a worker stopped for want of memory, and no other for anything but that or since the other side was gone.
@@ -203,10 +241,10 @@ fn run_script<R: Threads + Wait + Sync>(
 
 /// Whether the session comes to its end.
 fn runs_whole<R: Threads + Wait + Sync>(rt: &R, alloc: Global, script: &Script) -> Tried {
-    match run_script(rt, alloc, script) {
-        Ok(settled) => is_whole(alloc, script, &settled),
+    told_of(run_script(rt, alloc, script), |run| match run {
+        Ok(settled) => is_whole(alloc, script, settled),
         Err(_) => Ok(false),
-    }
+    })
 }
 
 /// What a session came to.
@@ -239,11 +277,11 @@ fn run_once<R: Threads + Wait + Sync>(
     alloc: Global,
     script: &Script,
 ) -> Result<Outcome, SetUp> {
-    match run_script(rt, alloc, script) {
-        Ok(settled) => judge(alloc, script, &settled),
+    told_of(run_script(rt, alloc, script), |run| match run {
+        Ok(settled) => judge(alloc, script, settled),
         Err(RunFault::NoThread | RunFault::OutOfMemory) => Ok(Outcome::Short),
         Err(RunFault::GateTimedOut) => Ok(Outcome::Wrong),
-    }
+    })
 }
 
 /// A session comes to its end. Where memory is refused it is told, or a worker stopped for it and the session replays as far as it came.

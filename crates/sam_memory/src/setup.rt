@@ -110,6 +110,39 @@ impl From<OutOfMemory> for SetUp {
     }
 }
 
+/// The value, once it is prepared.
+pub fn prepared<T: Drop, F: FnOnce(&mut T) -> Result<(), SetUp>>(
+    value: T,
+    prepare: F,
+) -> Result<T, SetUp>
+    requires { F.IsAlwaysCallable prepare }
+{
+    let mut value = value;
+    prepare(&mut value)?;
+    Ok(value)
+}
+
+/// What a look at the value tells. The value is then let go.
+pub fn told_of<T: Drop, A, F: FnOnce(&T) -> A>(value: T, look: F) -> A
+    requires { F.IsAlwaysCallable look }
+{
+    look(&value)
+}
+
+/// Tries a value beside its twin, which is made as it was.
+pub fn beside_twin<
+    T: Drop,
+    M: FnMut(Global) -> Result<T, SetUp>,
+    C: FnOnce(&mut T, &mut T) -> Tried,
+>(alloc: Global, mut make: M, call: C) -> Tried
+    requires make { M.IsAlwaysCallable make }
+    requires call { C.IsAlwaysCallable call }
+{
+    let mut value = make(alloc)?;
+    let mut twin = make(alloc)?;
+    call(&mut value, &mut twin)
+}
+
 /// The runes of a text.
 pub fn runes(alloc: Global, text: &str) -> Result<Runes, SetUp> {
     Ok(Runes::from_vec(text.chars().collect(alloc)?))

@@ -4,7 +4,7 @@ ghost use Rattle.std.specs.Prelude.{◌≤◌, IfOk, length};
 
 use crate::answers::is_same_host;
 use crate::events::{is_same_terminal, part_shows};
-use crate::setup::{SetUp, Tried, runes, spells};
+use crate::setup::{SetUp, Tried, beside_twin, prepared, runes, spells};
 use sam_runes::{Runes, Text};
 use sam_term::UserEvent;
 use sam_world::{Event, MergeFault, StepFault, TermLog, World, merge};
@@ -96,17 +96,21 @@ fn open(world: &mut World) -> Result<(), SetUp> {
     Ok(())
 }
 
+/// Shows three runes and five gaps of the file, asks whether it shows all, and types a line that deletes the text.
+fn type_line(alloc: Global, world: &mut World) -> Result<(), SetUp> {
+    open(world)?;
+    does(world, UserEvent::Select(1, 0, 2))?;
+    does(world, UserEvent::Cut(1))?;
+    does(world, UserEvent::Check(1))?;
+    does(world, UserEvent::Typed(0, runes(alloc, ",d\n")?))
+}
+
 /// A world where three runes and five gaps of a file are shown, of which two are in view, and a check and a line that deletes the
 /// text are under way.
 fn to_delete(alloc: Global) -> Result<World, SetUp> {
-    let mut world = with_text(alloc, "abcdefghij")?;
-    open(&mut world)?;
-    does(&mut world, UserEvent::Select(1, 0, 2))?;
-    does(&mut world, UserEvent::Cut(1))?;
-    does(&mut world, UserEvent::Check(1))?;
-    let line = runes(alloc, ",d\n")?;
-    does(&mut world, UserEvent::Typed(0, line))?;
-    Ok(world)
+    prepared(with_text(alloc, "abcdefghij")?, |world| {
+        type_line(alloc, world)
+    })
 }
 
 fn take(world: &mut World, side: Side) -> Result<(), StepFault> {
@@ -166,9 +170,7 @@ fn deletes(world: &mut World, twin: &mut World) -> Tried {
 
 /// A file is deleted by a line while the terminal asks for a part of it.
 pub fn step(alloc: Global) -> Tried {
-    let mut world = to_delete(alloc)?;
-    let mut twin = to_delete(alloc)?;
-    deletes(&mut world, &mut twin)
+    beside_twin(alloc, to_delete, deletes)
 }
 
 fn types_hi(event: &UserEvent) -> bool {
@@ -218,14 +220,10 @@ fn log(alloc: Global) -> Result<[TermLog; 4], SetUp> {
 /// The schedule of the log. Where memory for it is refused, the log is to be as it was, and the schedule is asked for again. None where
 /// anything else is told.
 fn schedule(alloc: Global, log: &[TermLog]) -> Option<Vec<Event>> {
-    let mut merged = merge(alloc, log, 2);
-    if matches!(&merged, Err(MergeFault::OutOfMemory)) {
-        if !is_log(log) {
-            return None;
-        }
-        merged = merge(alloc, log, 2);
+    match merge(alloc, log, 2) {
+        Err(MergeFault::OutOfMemory) if is_log(log) => merge(alloc, log, 2).ok(),
+        merged => merged.ok(),
     }
-    merged.ok()
 }
 
 /// The host's takes are put between what the terminal did.
