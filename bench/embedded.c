@@ -39,7 +39,7 @@ static uint64_t carry(sam_host *host, sam_term *term)
 	}
 }
 
-/* A host and a terminal with open files, each shown whole, with the dot in it. */
+/* A host and a terminal with open files, each shown whole, with the dot at its end. */
 static void open_files(sam_host *host, sam_term *term)
 {
 	uint8_t text[LENGTH];
@@ -54,7 +54,7 @@ static void open_files(sam_host *host, sam_term *term)
 		want(sam_term_open(term, tag));
 		carry(host, term);
 		want(sam_term_view(term, tag, 0, LENGTH));
-		want(sam_term_select(term, tag, 200, 200));
+		want(sam_term_select(term, tag, LENGTH, LENGTH));
 		carry(host, term);
 	}
 }

@@ -55,7 +55,7 @@ fn put(term: &mut TermEnd, event: UserEvent) -> Result<(), Fault> {
     }
 }
 
-/// Opens the files at the terminal, each shown whole, with the dot in it.
+/// Opens the files at the terminal, each shown whole, with the dot at its end.
 fn open(host: &mut HostEnd, term: &mut TermEnd) -> Result<(), Fault> {
     put(term, UserEvent::Version(2))?;
     carry(host, term)?;
@@ -63,7 +63,7 @@ fn open(host: &mut HostEnd, term: &mut TermEnd) -> Result<(), Fault> {
         put(term, UserEvent::Open(tag))?;
         carry(host, term)?;
         put(term, UserEvent::View(tag, 0, LENGTH as u32))?;
-        put(term, UserEvent::Select(tag, 200, 200))?;
+        put(term, UserEvent::Select(tag, LENGTH as u32, LENGTH as u32))?;
         carry(host, term)?;
     }
     Ok(())
