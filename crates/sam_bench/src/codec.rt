@@ -16,8 +16,14 @@ fn text(alloc: Global, count: usize) -> Result<Runes, AllocError> {
     Ok(Runes::from_vec(mixed(alloc, count)?))
 }
 
-/// One message of the terminal of each kind, and more of those that a session is full of.
-fn messages_t(alloc: Global) -> Result<Vec<Tmesg>, AllocError> {
+/// One message of the terminal of each kind, and more of those that a session is full of. The texts are of what is typed, and of what
+/// is snarfed.
+fn messages_with(
+    alloc: Global,
+    typed: Runes,
+    typed_long: Runes,
+    snarfed: Runes,
+) -> Result<Vec<Tmesg>, AllocError> {
     Ok(vec![in alloc;
         Tmesg::Tversion(2),
         Tmesg::Tstartcmdfile,
@@ -26,8 +32,8 @@ fn messages_t(alloc: Global) -> Result<Vec<Tmesg>, AllocError> {
         Tmesg::Torigin(1, 5000, 20),
         Tmesg::Tstartfile(2),
         Tmesg::Tworkfile(1, 10, 20),
-        Tmesg::Ttype(1, 70, text(alloc, 40)?),
-        Tmesg::Ttype(2, 71, text(alloc, 512)?),
+        Tmesg::Ttype(1, 70, typed),
+        Tmesg::Ttype(2, 71, typed_long),
         Tmesg::Tcut(1, 70, 110),
         Tmesg::Tpaste(1, 70),
         Tmesg::Tsnarf(1, 70, 90),
@@ -39,10 +45,20 @@ fn messages_t(alloc: Global) -> Result<Vec<Tmesg>, AllocError> {
         Tmesg::Tsend(1, 0, 20),
         Tmesg::Tdclick(1, 33),
         Tmesg::Tstartsnarf,
-        Tmesg::Tsetsnarf(text(alloc, 1000)?),
+        Tmesg::Tsetsnarf(snarfed),
         Tmesg::Tack,
         Tmesg::Texit,
     ]?)
+}
+
+/// Such messages, with texts of 40, 512 and 1000 runes.
+fn messages_t(alloc: Global) -> Result<Vec<Tmesg>, AllocError> {
+    messages_with(
+        alloc,
+        text(alloc, 40)?,
+        text(alloc, 512)?,
+        text(alloc, 1000)?,
+    )
 }
 
 /// A frame of the host.
@@ -106,20 +122,27 @@ fn encode_all_h(out: &mut Vec<u8>, frames: &[HFrame]) -> Result<(), Fault> {
     Ok(())
 }
 
-/// Encodes messages of all kinds, over and over, up to `size` bytes.
-pub fn encode<R: AllocGlobal + Clock>(rt: &R, size: u32) -> Result<Report, Fault> {
-    let messages = messages_t(rt.alloc())?;
-    let frames = messages_h(rt.alloc())?;
-    let mut out = Vec::new(rt.alloc());
-    encode_all_t(&mut out, messages.as_slice())?;
-    encode_all_h(&mut out, frames.as_slice())?;
+/// Puts in place of what the bytes hold the frames of all messages, first the terminal's.
+fn encode_round(out: &mut Vec<u8>, messages: &[Tmesg], frames: &[HFrame]) -> Result<(), Fault> {
+    out.clear();
+    encode_all_t(out, messages)?;
+    encode_all_h(out, frames)
+}
+
+/// Times how long it takes to encode the messages, over and over, up to `size` bytes.
+fn time_encoding<R: Clock>(
+    rt: &R,
+    out: &mut Vec<u8>,
+    messages: &[Tmesg],
+    frames: &[HFrame],
+    size: u32,
+) -> Result<Report, Fault> {
+    encode_round(out, messages, frames)?;
     let rounds = size as usize / out.len().max(1);
     let mut check = 0;
     let begin = Instant::now(rt)?;
     for _ in 0..rounds {
-        out.clear();
-        encode_all_t(&mut out, messages.as_slice())?;
-        encode_all_h(&mut out, frames.as_slice())?;
+        encode_round(out, messages, frames)?;
         check = mix(check, out.len() as u64);
     }
     let took = begin.elapsed(rt)?;
@@ -127,6 +150,14 @@ pub fn encode<R: AllocGlobal + Clock>(rt: &R, size: u32) -> Result<Report, Fault
         took,
         check: mix(check, check_of(out.as_slice())),
     })
+}
+
+/// Encodes messages of all kinds, over and over, up to `size` bytes.
+pub fn encode<R: AllocGlobal + Clock>(rt: &R, size: u32) -> Result<Report, Fault> {
+    let messages = messages_t(rt.alloc())?;
+    let frames = messages_h(rt.alloc())?;
+    let mut out = Vec::new(rt.alloc());
+    time_encoding(rt, &mut out, messages.as_slice(), frames.as_slice(), size)
 }
 
 /// The check value of bytes.
@@ -227,22 +258,45 @@ fn decode_all_h(alloc: Global, bytes: &[u8]) -> Result<u64, Fault> {
     Ok(check)
 }
 
-/// Decodes frames of all kinds, over and over, up to `size` bytes.
-pub fn decode<R: AllocGlobal + Clock>(rt: &R, size: u32) -> Result<Report, Fault> {
-    let alloc = rt.alloc();
-    let mut bytes_t = Vec::new(alloc);
-    let mut bytes_h = Vec::new(alloc);
-    encode_all_t(&mut bytes_t, messages_t(alloc)?.as_slice())?;
-    encode_all_h(&mut bytes_h, messages_h(alloc)?.as_slice())?;
-    let round = bytes_t.len().saturating_add(bytes_h.len());
+/// The frames of all messages of the terminal.
+fn bytes_t(alloc: Global) -> Result<Vec<u8>, Fault> {
+    let messages = messages_t(alloc)?;
+    let mut bytes = Vec::new(alloc);
+    encode_all_t(&mut bytes, messages.as_slice())?;
+    Ok(bytes)
+}
+
+/// The frames of all messages of the host.
+fn bytes_h(alloc: Global) -> Result<Vec<u8>, Fault> {
+    let frames = messages_h(alloc)?;
+    let mut bytes = Vec::new(alloc);
+    encode_all_h(&mut bytes, frames.as_slice())?;
+    Ok(bytes)
+}
+
+/// Times how long it takes to decode the frames, over and over, up to `size` bytes.
+fn time_decoding<R: AllocGlobal + Clock>(
+    rt: &R,
+    terminal: &[u8],
+    host: &[u8],
+    size: u32,
+) -> Result<Report, Fault> {
+    let round = terminal.len().saturating_add(host.len());
     let begin = Instant::now(rt)?;
     let mut check = 0;
     for _ in 0..size as usize / round.max(1) {
-        check = mix(check, decode_all_t(alloc, bytes_t.as_slice())?);
-        check = mix(check, decode_all_h(alloc, bytes_h.as_slice())?);
+        check = mix(check, decode_all_t(rt.alloc(), terminal)?);
+        check = mix(check, decode_all_h(rt.alloc(), host)?);
     }
     Ok(Report {
         took: begin.elapsed(rt)?,
         check,
     })
+}
+
+/// Decodes frames of all kinds, over and over, up to `size` bytes.
+pub fn decode<R: AllocGlobal + Clock>(rt: &R, size: u32) -> Result<Report, Fault> {
+    let terminal = bytes_t(rt.alloc())?;
+    let host = bytes_h(rt.alloc())?;
+    time_decoding(rt, terminal.as_slice(), host.as_slice(), size)
 }

@@ -58,31 +58,54 @@ pub fn replace_all<R: AllocGlobal + Clock>(rt: &R, size: u32) -> Result<Report, 
     Ok(Report { took, check })
 }
 
-/// Runs `,x/a/c/b/` on a file of `size` runes, all of them `a`, and puts the outcome in.
-pub fn each<R: AllocGlobal + Clock>(rt: &R, size: u32) -> Result<Report, Fault> {
-    let alloc = rt.alloc();
-    let Ok(mut files) = Files::new(alloc) else {
-        return Err(Fault::System);
-    };
+/// The tag of the first file.
+const FIRST: u16 = 1;
+
+/// Makes a first file of `size` runes, all of them `a`, the work file.
+fn start_work(alloc: Global, files: &mut Files, size: u32) -> Result<(), Fault> {
     let runes: Vec<char> = vec![in alloc; 'a'; size as usize]?;
-    let Ok(tag) = files.new_file(alloc, &['f'], runes.as_slice()) else {
-        return Err(Fault::Refused);
-    };
-    if files.set_work(tag, 0, 0).is_err() {
+    if files.new_file(alloc, &['f'], runes.as_slice()).is_err() {
         return Err(Fault::Refused);
     }
+    match files.set_work(FIRST, 0, 0) {
+        Ok(()) => Ok(()),
+        Err(_) => Err(Fault::Refused),
+    }
+}
+
+/// Runs `,x/a/c/b/` on the work file, and puts the outcome in.
+fn run_line(alloc: Global, files: &mut Files) -> Result<(), Fault> {
     let line = [',', 'x', '/', 'a', '/', 'c', '/', 'b', '/'];
-    let begin = Instant::now(rt)?;
     let Ok(outcome) = files.run_line(alloc, &line) else {
         return Err(Fault::System);
     };
     files.commit(outcome);
+    Ok(())
+}
+
+/// Times how long the line takes on a new file of `size` runes.
+fn time_line<R: AllocGlobal + Clock>(
+    rt: &R,
+    files: &mut Files,
+    size: u32,
+) -> Result<Report, Fault> {
+    start_work(rt.alloc(), files, size)?;
+    let begin = Instant::now(rt)?;
+    run_line(rt.alloc(), files)?;
     let took = begin.elapsed(rt)?;
-    match files.text(tag) {
+    match files.text(FIRST) {
         Some(text) => Ok(Report {
             took,
             check: check_of(text.slice(0, text.len())),
         }),
         None => Err(Fault::Refused),
+    }
+}
+
+/// Runs `,x/a/c/b/` on a file of `size` runes, all of them `a`, and puts the outcome in.
+pub fn each<R: AllocGlobal + Clock>(rt: &R, size: u32) -> Result<Report, Fault> {
+    match Files::new(rt.alloc()) {
+        Ok(mut files) => time_line(rt, &mut files, size),
+        Err(_) => Err(Fault::System),
     }
 }

@@ -53,34 +53,48 @@ fn act(terminal: &mut Terminal, event: UserEvent) -> Result<u64, Fault> {
     }
 }
 
-/// A terminal with open files, each of 512 runes that it shows.
-fn open_files(alloc: Global) -> Result<Terminal, Fault> {
-    let mut terminal = Terminal::new(alloc);
-    for tag in 1..FILES + 1 {
-        receive(&mut terminal, Hmesg::Hnewname(tag))?;
-        receive(&mut terminal, Hmesg::Hbindname(tag))?;
-        let text = Runes::from_vec(letters(alloc, 512)?);
-        receive(&mut terminal, Hmesg::Hgrowdata(tag, 0, text))?;
-        act(&mut terminal, UserEvent::View(tag, 0, 400))?;
-        act(&mut terminal, UserEvent::Select(tag, 200, 200))?;
-    }
-    Ok(terminal)
+/// Opens a file of 512 runes, and shows it.
+fn open(alloc: Global, terminal: &mut Terminal, tag: u16) -> Result<(), Fault> {
+    receive(terminal, Hmesg::Hnewname(tag))?;
+    receive(terminal, Hmesg::Hbindname(tag))?;
+    let text = Runes::from_vec(letters(alloc, 512)?);
+    receive(terminal, Hmesg::Hgrowdata(tag, 0, text))?;
+    act(terminal, UserEvent::View(tag, 0, 400))?;
+    act(terminal, UserEvent::Select(tag, 200, 200))?;
+    Ok(())
 }
 
 /// Types `size` runes, ten at a time into each file in turn.
-pub fn typed<R: AllocGlobal + Clock>(rt: &R, size: u32) -> Result<Report, Fault> {
-    let alloc = rt.alloc();
-    let mut terminal = open_files(alloc)?;
+fn type_runes(alloc: Global, terminal: &mut Terminal, size: u32) -> Result<u64, Fault> {
     let mut check = 0;
-    let begin = Instant::now(rt)?;
     for i in 0..size {
         let tag = (i / 10 % FILES as u32) as u16 + 1;
         let text = Runes::from_slice(alloc, &['x'])?;
-        check = mix(check, act(&mut terminal, UserEvent::Typed(tag, text))?);
+        check = mix(check, act(terminal, UserEvent::Typed(tag, text))?);
     }
+    Ok(check)
+}
+
+/// Opens the files, and times how long it takes to type `size` runes.
+fn time_typing<R: AllocGlobal + Clock>(
+    rt: &R,
+    terminal: &mut Terminal,
+    size: u32,
+) -> Result<Report, Fault> {
+    for tag in 1..FILES + 1 {
+        open(rt.alloc(), terminal, tag)?;
+    }
+    let begin = Instant::now(rt)?;
+    let check = type_runes(rt.alloc(), terminal, size)?;
     let took = begin.elapsed(rt)?;
     Ok(Report {
         took,
         check: mix(check, terminal.sent()),
     })
+}
+
+/// Types `size` runes at a terminal of its own.
+pub fn typed<R: AllocGlobal + Clock>(rt: &R, size: u32) -> Result<Report, Fault> {
+    let mut terminal = Terminal::new(rt.alloc());
+    time_typing(rt, &mut terminal, size)
 }
