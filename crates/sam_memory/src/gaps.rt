@@ -1,6 +1,6 @@
 //! Changes of a rasp.
 
-use crate::setup::{SetUp, Tried, beside_twin, prepared};
+use crate::setup::{SetUp, Tried};
 use sam_rasp::{Rasp, RaspFault};
 use std::alloc::Global;
 
@@ -34,83 +34,80 @@ pub fn shows(rasp: &Rasp, shown: &str) -> bool {
     rasp.len() == p
 }
 
-/// A rasp of so many gaps.
-fn gaps(alloc: Global, count: u32) -> Result<Rasp, SetUp> {
-    prepared(Rasp::new(alloc), |rasp| Ok(rasp.grow(0, count)?))
-}
-
 /// A rasp of five gaps.
 pub fn five_gaps(alloc: Global) -> Result<Rasp, SetUp> {
-    gaps(alloc, 5)
-}
-
-/// Makes a rasp of five gaps one of a gap, `d` and a gap.
-fn put_one(rasp: &mut Rasp) -> Result<(), SetUp> {
-    rasp.data(2, &['c', 'd'])?;
-    rasp.cut(1, 2)?;
-    Ok(())
+    let mut rasp = Rasp::new(alloc);
+    rasp.grow(0, 5)?;
+    Ok(rasp)
 }
 
 /// A rasp of a gap, `d` and a gap.
 fn one_between_gaps(alloc: Global) -> Result<Rasp, SetUp> {
-    prepared(five_gaps(alloc)?, put_one)
+    let mut rasp = five_gaps(alloc)?;
+    rasp.data(2, &['c', 'd'])?;
+    rasp.cut(1, 2)?;
+    Ok(rasp)
 }
 
 /// A rasp of 1,000,000 gaps.
 fn full(alloc: Global) -> Result<Rasp, SetUp> {
-    gaps(alloc, 1_000_000)
-}
-
-fn grows(rasp: &mut Rasp, twin: &mut Rasp) -> Tried {
-    let mut grown = rasp.grow(0, 5);
-    if grown == Err(RaspFault::OutOfMemory) {
-        if !is_same_rasp(rasp, twin) {
-            return Ok(false);
-        }
-        grown = rasp.grow(0, 5);
-    }
-    Ok(grown == Ok(()) && shows(rasp, "_____"))
+    let mut rasp = Rasp::new(alloc);
+    rasp.grow(0, 1_000_000)?;
+    Ok(rasp)
 }
 
 /// An empty rasp grows by five gaps.
 pub fn grow(alloc: Global) -> Tried {
-    beside_twin(alloc, |alloc| Ok(Rasp::new(alloc)), grows)
-}
-
-fn puts_runes(rasp: &mut Rasp, twin: &mut Rasp) -> Tried {
-    let mut put = rasp.data(2, &['c', 'd']);
-    if put == Err(RaspFault::OutOfMemory) {
-        if !is_same_rasp(rasp, twin) {
+    let mut rasp = Rasp::new(alloc);
+    let mut grown = rasp.grow(0, 5);
+    if grown == Err(RaspFault::OutOfMemory) {
+        if !is_same_rasp(&rasp, &Rasp::new(alloc)) {
             return Ok(false);
         }
-        put = rasp.data(2, &['c', 'd']);
+        grown = rasp.grow(0, 5);
     }
-    Ok(put == Ok(()) && shows(rasp, "__cd_"))
+    Ok(grown == Ok(()) && shows(&rasp, "_____"))
 }
 
 /// Runes are put where there were gaps.
 pub fn data(alloc: Global) -> Tried {
-    beside_twin(alloc, five_gaps, puts_runes)
-}
-
-fn types_rune(rasp: &mut Rasp, twin: &mut Rasp) -> Tried {
-    let mut typed = rasp.type_in(1, &['x']);
-    if typed == Err(RaspFault::OutOfMemory) {
-        if !is_same_rasp(rasp, twin) {
+    let mut rasp = five_gaps(alloc)?;
+    let twin = five_gaps(alloc)?;
+    let mut put = rasp.data(2, &['c', 'd']);
+    if put == Err(RaspFault::OutOfMemory) {
+        if !is_same_rasp(&rasp, &twin) {
             return Ok(false);
         }
-        typed = rasp.type_in(1, &['x']);
+        put = rasp.data(2, &['c', 'd']);
     }
-    Ok(typed == Ok(()) && shows(rasp, "_xd_"))
+    Ok(put == Ok(()) && shows(&rasp, "__cd_"))
 }
 
 /// A rune is typed between a gap and a rune.
 pub fn type_in(alloc: Global) -> Tried {
-    beside_twin(alloc, one_between_gaps, types_rune)
+    let mut rasp = one_between_gaps(alloc)?;
+    let twin = one_between_gaps(alloc)?;
+    let mut typed = rasp.type_in(1, &['x']);
+    if typed == Err(RaspFault::OutOfMemory) {
+        if !is_same_rasp(&rasp, &twin) {
+            return Ok(false);
+        }
+        typed = rasp.type_in(1, &['x']);
+    }
+    Ok(typed == Ok(()) && shows(&rasp, "_xd_"))
 }
 
-/// Whether the rasp has `ab` and 999,998 gaps.
-fn is_replaced(rasp: &Rasp) -> bool {
+/// Two of 1,000,000 gaps become two runes, all or nothing.
+pub fn replace(alloc: Global) -> Tried {
+    let mut rasp = full(alloc)?;
+    let twin = full(alloc)?;
+    let mut replaced = rasp.replace(0, 2, &['a', 'b']);
+    if replaced == Err(RaspFault::OutOfMemory) {
+        if !is_same_rasp(&rasp, &twin) {
+            return Ok(false);
+        }
+        replaced = rasp.replace(0, 2, &['a', 'b']);
+    }
     let read = [
         rasp.loaded(0),
         rasp.loaded(1),
@@ -118,21 +115,5 @@ fn is_replaced(rasp: &Rasp) -> bool {
         rasp.loaded(999_999),
     ];
     let wanted = [Some(Some('a')), Some(Some('b')), Some(None), Some(None)];
-    rasp.len() == 1_000_000 && read == wanted && rasp.sections() == 2
-}
-
-fn replaces(rasp: &mut Rasp, twin: &mut Rasp) -> Tried {
-    let mut replaced = rasp.replace(0, 2, &['a', 'b']);
-    if replaced == Err(RaspFault::OutOfMemory) {
-        if !is_same_rasp(rasp, twin) {
-            return Ok(false);
-        }
-        replaced = rasp.replace(0, 2, &['a', 'b']);
-    }
-    Ok(replaced == Ok(()) && is_replaced(rasp))
-}
-
-/// Two of 1,000,000 gaps become two runes, all or nothing.
-pub fn replace(alloc: Global) -> Tried {
-    beside_twin(alloc, full, replaces)
+    Ok(replaced == Ok(()) && rasp.len() == 1_000_000 && read == wanted && rasp.sections() == 2)
 }
