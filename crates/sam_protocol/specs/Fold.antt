@@ -1,5 +1,5 @@
 -- What is under way, folded ahead of time: the host answers all that is up, and the terminal takes all that is down then.
-use Rattle.std.specs.Prelude.{◌≡◌, ℕ, ◌+◌, ◌<◌, ◌≤◌, false, if◌then◌else◌, ◌==◌, List, [], ◌∷◌, ◌++◌, length, map, Option, Some, None}
+use Rattle.std.specs.Prelude.{◌≡◌, ℕ, ◌+◌, ◌<◌, ◌≤◌, false, if◌then◌else◌, ◌==◌, List, [], ◌∷◌, ◌++◌, length, Option, Some, None}
 use Rattle.sam_runes.specs.Texts.{max_runes}
 use Rattle.sam_runes.specs.Checks.{first_of_checks}
 use Rattle.sam_mesg.specs.declared.tmesg.Tmesg.{Tmesg}
@@ -8,10 +8,9 @@ use Rattle.sam_mesg.specs.declared.hmesg.Hmesg.{Hmesg}
 use Rattle.sam_host.specs.Host.{PlainHost, Reply, counted, host_checks, reply_to}
 use Rattle.sam_host.specs.declared.fault.HostFault.{HostFault}
 use Rattle.sam_protocol.specs.Lens.{Lens, IsFree, IsKept}
-use Rattle.sam_protocol.specs.Model.{at_file, VersionsGuarded}
+use Rattle.sam_protocol.specs.Frames.{at_file, VersionsGuarded}
 use Rattle.sam_protocol.specs.Crossing.{Change, Same, Lock, Command, Types, Cuts, Line, OpenAt, KnownAt, Anything, Within}
-use Rattle.sam_protocol.specs.View.{frame_of}
-use Rattle.sam_protocol.specs.HostView.{file_in}
+use Rattle.sam_protocol.specs.View.{file_in}
 use Rattle.sam_protocol.specs.Handled.{IsSteady}
 
 -- the host's answer without stamps, its count of messages aside: none where it refuses
@@ -35,9 +34,6 @@ abbrev pub answers : PlainHost → List Tmesg → Option Reply
 answers h [] = Some (h, [])
 answers h (m ∷ ms) = replied_then (reply_of h m) (λ k. answers k ms)
 
-abbrev pub frames_at : ℕ → List Hmesg → List Rattle.sam_protocol.specs.Lens.Action
-frames_at g frames = at_file g (map frame_of frames)
-
 -- Once all that is under way was handled and nothing new was begun, no lock is held and the two sides agree. `views` is what
 -- the terminal shows of each file, `line` what is under way to the host with the unsent runes behind it, `down` what is under way
 -- to the terminal
@@ -45,9 +41,9 @@ pub record Kept (h : PlainHost) (views : ℕ → Lens) (line : List Tmesg) (down
   pub ahead : PlainHost  -- the host once it has handled all
   pub frames : List Hmesg  -- what it will have answered
   pub folds : answers h line ≡ Some (ahead, frames)
-  pub each : (g : ℕ) → IsKept (frames_at g (down ++ frames)) (views g) ahead.is_done ahead.version (file_in ahead.files.slots g)
+  pub each : (g : ℕ) → IsKept (at_file g (down ++ frames)) (views g) ahead.is_done ahead.version (file_in ahead.files.slots g)
   pub steady : IsSteady ahead
-  pub versions : VersionsGuarded (map frame_of (down ++ frames))
+  pub versions : VersionsGuarded (down ++ frames)
 
 -- who must be free before the terminal acts
 abbrev pub IsAllowed : Change → (ℕ → Lens) → Type 0

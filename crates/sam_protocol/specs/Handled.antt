@@ -1,13 +1,12 @@
 -- A message that the crossing lets come to the host, and what the host then owes.
-use Rattle.std.specs.Prelude.{◌≡◌, ℕ, ◌+◌, ◌<◌, ◌≤◌, false, ◌==◌, List, [], length, None, ◌⊎◌}
-use Rattle.sam_text.specs.Files.{PlainOutcome, AreFit}
+use Rattle.std.specs.Prelude.{◌≡◌, ℕ, suc, ◌+◌, ◌<◌, ◌≤◌, true, false, ◌==◌, List, length, Some, ◌⊎◌}
+use Rattle.sam_runes.specs.Texts.{max_runes}
+use Rattle.sam_text.specs.Files.{PlainFile, PlainFiles, file_at, AreFit}
 use Rattle.sam_mesg.specs.declared.tmesg.Tmesg.{Tmesg}
 use Rattle.sam_mesg.specs.declared.tmesg.Tmesg.TheVariants.{Tversion, Tstartcmdfile, Tcheck, Trequest, Torigin, Tstartfile, Tworkfile, Ttype, Tcut, Tpaste, Tsnarf, Tstartnewfile, Twrite, Tclose, Tlook, Tsearch, Tsend, Tdclick, Tstartsnarf, Tsetsnarf, Tack, Texit}
 use Rattle.sam_host.specs.Host.{PlainHost}
-use Rattle.sam_protocol.specs.Lens.{limit, Named, Opened}
-use Rattle.sam_protocol.specs.Model.{HostOk}
-use Rattle.sam_protocol.specs.HostView.{file_in, model_of}
-use Rattle.sam_protocol.specs.Means.{AllOpenAnnounced}
+use Rattle.sam_protocol.specs.Lens.{Named, Opened, IsOpened, IsCommandFile}
+use Rattle.sam_protocol.specs.View.{file_in}
 
 -- the file is open at the host, with such a text
 abbrev pub Open : PlainHost → ℕ → (List ℕ → Type 0) → Type 0
@@ -24,7 +23,7 @@ Accepted h (Trequest f p n) = Open h f (λ t. Unit)
 Accepted h (Torigin f p n) = Open h f (λ t. p ≤ length t)
 Accepted h (Tstartfile f) = ((f == 0) ≡ false) × (((t : List ℕ) × (file_in h.files.slots f ≡ Named t)) ⊎ ((t : List ℕ) × (file_in h.files.slots f ≡ Opened t)))
 Accepted h (Tworkfile f p q) = ((f == 0) ≡ false) × Open h f (Range p q)
-Accepted h (Ttype f p s) = Open h f (λ t. (p ≤ length t) × (length t + length s ≤ limit))
+Accepted h (Ttype f p s) = Open h f (λ t. (p ≤ length t) × (length t + length s ≤ max_runes))
 Accepted h (Tcut f p q) = Open h f (Range p q)
 Accepted h (Tpaste f p) = Open h f (λ t. p ≤ length t)
 Accepted h (Tsnarf f p q) = Open h f (Range p q)
@@ -40,12 +39,21 @@ Accepted h (Tsetsnarf s) = Unit
 Accepted h Tack = Unit
 Accepted h Texit = Unit
 
-abbrev pub quiet_outcome : PlainOutcome
-quiet_outcome = record { file = None; edits = []; text = None; dot = None; name = None; pattern = None; printed = []; quit = false }
+-- an open file was announced, but tag 0
+abbrev pub OpenAnnounced : PlainFile → Type 0
+OpenAnnounced x = x.opened ≡ true → x.announced ≡ true
 
--- what holds of every host: tag 0 is there, the work file is open, the open files were announced, texts are short and dots are ranges
+abbrev pub AllOpenAnnounced : PlainFiles → Type 0
+AllOpenAnnounced fs = (f : ℕ) → OpenAnnounced (file_at fs (suc f))
+
+-- tag 0 is there, and the work file is open
+pub record HasFiles (fs : PlainFiles) : Type 0 where
+  pub works : (f : ℕ) → fs.work ≡ Some f → IsOpened (file_in fs.slots f) × ((f == 0) ≡ false)
+  pub commands : IsCommandFile (file_in fs.slots 0)
+
+-- what holds of every host: it has its files, the open ones were announced, texts are short and dots are ranges
 pub record IsSteady (h : PlainHost) : Type 0 where
-  pub sound : HostOk (model_of h)
+  pub sound : HasFiles h.files
   pub announced : AllOpenAnnounced h.files
   pub fit : AreFit h.files
 

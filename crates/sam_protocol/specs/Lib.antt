@@ -1,11 +1,9 @@
 pub mod Lens
-pub mod Model
+pub mod Frames
 pub mod Crossing
 pub mod View
-pub mod HostView
-pub mod Synced
-pub mod Means
 pub mod Handled
+pub mod Synced
 pub mod Fold
 pub mod Order
 pub mod Streams
