@@ -16,10 +16,10 @@ use Rattle.sam_term.specs.declared.files.Unsent.{Unsent}
 use Rattle.sam_term.specs.declared.event.UserEvent.{UserEvent}
 use Rattle.sam_term.specs.declared.event.UserEvent.TheVariants.{Typed, Select, Cut, Paste, Snarf, Look, Search, Send, Dclick, Scroll, View, Open, Close, Write, Work, OpenCmd, New, Exit, Check, GetSnarf, SetSnarf, Version, Flush}
 use Rattle.sam_protocol.specs.Lens as lenses
-use Rattle.sam_protocol.specs.Lens.{Lens, lens, IsFree, IsOpen, exited_of, command_of}
-use Rattle.sam_protocol.specs.Crossing.{type_change, cut_out, OpenAt, Anything, Within}
+use Rattle.sam_protocol.specs.Lens.{Lens, lens, OpenAt, Anything}
+use Rattle.sam_protocol.proofs.Lenses.{IsFree, IsOpen, exited_of, command_of}
+use Rattle.sam_protocol.proofs.Changes.{type_change, cut_out, Within, IsAllowed}
 use Rattle.sam_protocol.specs.View.{view}
-use Rattle.sam_protocol.specs.Fold.{IsAllowed}
 use Rattle.sam_protocol.specs.Order.{AreTidy, IsTidyWindow, IsHeldBack, views, InOrder}
 use Rattle.sam_protocol.proofs.Folds.{requests, acknowledges, kept_views}
 use Rattle.sam_protocol.proofs.Views.{view-composed, view-kept, unsent-composed, unsent-flushed, tidy-composed, tidy-window}

@@ -10,11 +10,12 @@ use Rattle.sam_mesg.specs.declared.hmesg.Hmesg.{Hmesg}
 use Rattle.sam_mesg.specs.declared.hmesg.Hmesg.TheVariants.{Hversion, Hnewname, Hmovname, Hack, Hunlock}
 use Rattle.sam_host.specs.declared.fault.HostFault.TheVariants.{BadVersion}
 use Rattle.sam_host.specs.Host.{PlainHost, when, told_names, reply_version}
-use Rattle.sam_protocol.specs.Lens.{Slot, Unknown, Known, Open, lens, Action, Skip, Needs_known, Join, Change, Free_command, HFile, Absent, Hidden, Named, Opened, Gone, IsOpened, IsCommandFile, Fits_slot, IsKept, AreSkips}
+use Rattle.sam_protocol.specs.Lens.{Slot, Unknown, Known, Open, lens, Action, Skip, Needs_known, Join, Change, Free_command, HFile, Absent, Hidden, Named, Opened, Gone, IsOpened, IsCommandFile, Fits_slot, IsKept}
+use Rattle.sam_protocol.proofs.Lenses.{AreSkips}
 use Rattle.sam_protocol.specs.Frames.{at_file, only}
 use Rattle.sam_protocol.specs.View.{file_of, file_of_slot, file_in}
-use Rattle.sam_protocol.specs.Handled.{OpenAnnounced, AllOpenAnnounced, HasFiles}
-use Rattle.sam_protocol.specs.Synced.{Synced}
+use Rattle.sam_protocol.specs.Steady.{OpenAnnounced, AllOpenAnnounced, HasFiles}
+use Rattle.sam_protocol.proofs.Accepting.{Synced}
 use Rattle.sam_protocol.proofs.Runs.{run-append_some}
 use Rattle.sam_protocol.proofs.HostFiles.{bool_cases, Lasts, still_has}
 use Rattle.sam_protocol.proofs.Tests.{last_test}

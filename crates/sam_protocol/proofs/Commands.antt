@@ -12,12 +12,13 @@ use Rattle.sam_mesg.specs.declared.hmesg.Hmesg.{Hmesg}
 use Rattle.sam_mesg.specs.declared.hmesg.Hmesg.TheVariants.{Hcurrent, Hunlock, Hbindname, Hnewname, Hmovname, Hsetdot, Hcheck}
 use Rattle.sam_host.specs.Host.{PlainHost, Reply, host_checks, reply_to, with_files, when, grown, told_length, printed, no_tag_left, is_command, reply_startcmdfile, reply_startfile, reply_startnewfile, reply_close, reply_exit}
 use Rattle.sam_host.specs.declared.fault.HostFault.TheVariants.{NoFile, CommandFile}
-use Rattle.sam_protocol.specs.Lens.{Slot, Unknown, Known, Open, Lens, lens, Action, Skip, Needs_known, Join, Bind, Close, Leave, Free_command, Exit, move, run, and_then, closes, is_close, HFile, Absent, Hidden, Named, Opened, Gone, IsOpened, IsCommandFile, Fits_slot, IsSettled, IsKept, AreSkips}
+use Rattle.sam_protocol.specs.Lens.{Slot, Unknown, Known, Open, Lens, lens, Action, Skip, Needs_known, Join, Bind, Close, Leave, Free_command, Exit, move, run, and_then, closes, is_close, HFile, Absent, Hidden, Named, Opened, Gone, IsOpened, IsCommandFile, Fits_slot, IsSettled, IsKept}
+use Rattle.sam_protocol.proofs.Lenses.{AreSkips}
 use Rattle.sam_protocol.specs.Frames.{at_file, only}
-use Rattle.sam_protocol.specs.Crossing.{Change, Command, commanded, changed, change_by}
+use Rattle.sam_protocol.proofs.Changes.{Change, Command, commanded, changed, change_by}
 use Rattle.sam_protocol.specs.View.{file_of, file_in}
-use Rattle.sam_protocol.specs.Handled.{HasFiles}
-use Rattle.sam_protocol.specs.Synced.{Synced}
+use Rattle.sam_protocol.specs.Steady.{HasFiles}
+use Rattle.sam_protocol.proofs.Accepting.{Synced}
 use Rattle.sam_protocol.proofs.Runs.{run-append_some}
 use Rattle.sam_protocol.proofs.Kept.{settled_slot}
 use Rattle.sam_protocol.proofs.HostFiles.{bool_cases, put, put_other, put_same, put_again, file_in-put, file_in-free, file_in-push, not_given, in_slots, shown_at, file_opened, file_hidden, file_named, put_opened, Opens, Lasts, lasts_same, lasts_then, lasts_put, lasts_opened, still_has, works_on}

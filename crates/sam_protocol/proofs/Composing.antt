@@ -5,12 +5,13 @@ use Rattle.sam_mesg.specs.declared.tmesg.Tmesg.{Tmesg}
 use Rattle.sam_mesg.specs.declared.tmesg.Tmesg.TheVariants.{Tversion, Tstartcmdfile, Tcheck, Trequest, Torigin, Tstartfile, Tworkfile, Ttype, Tcut, Tpaste, Tsnarf, Tstartnewfile, Twrite, Tclose, Tlook, Tsearch, Tsend, Tdclick, Tstartsnarf, Tsetsnarf, Tack, Texit}
 use Rattle.sam_mesg.specs.declared.hmesg.Hmesg.{Hmesg}
 use Rattle.sam_host.specs.Host.{PlainHost}
-use Rattle.sam_protocol.specs.Lens.{Lens, lens, Unknown, Known, Open, Action, IsFree, HFile, Absent, Hidden, Named, Opened, Gone, Agrees, IsSettled, IsKept, exited_of, command_of}
-use Rattle.sam_protocol.specs.Crossing.{change_by, changed, OpenAt, KnownAt, Anything, Within}
+use Rattle.sam_protocol.specs.Lens.{Lens, lens, Unknown, Known, Open, Action, HFile, Absent, Hidden, Named, Opened, Gone, Agrees, IsSettled, IsKept, OpenAt, Anything}
+use Rattle.sam_protocol.proofs.Lenses.{IsFree, exited_of, command_of}
+use Rattle.sam_protocol.proofs.Changes.{change_by, changed, KnownAt, Within, IsAllowed, CanCompose}
 use Rattle.sam_protocol.specs.View.{file_in}
-use Rattle.sam_protocol.specs.Handled.{Ready, Accepted}
+use Rattle.sam_protocol.proofs.Accepting.{Ready, Accepted}
 use Rattle.sam_protocol.specs.Frames.{at_file}
-use Rattle.sam_protocol.specs.Fold.{Kept, IsAllowed, CanCompose}
+use Rattle.sam_protocol.specs.Fold.{Kept}
 use Rattle.sam_protocol.proofs.Runs.{no_exit, exited_after}
 use Rattle.sam_protocol.proofs.Kept.{kept_free, exited_settled}
 use Rattle.sam_protocol.proofs.Texts.{agrees_length}

@@ -10,10 +10,10 @@ use Rattle.sam_term.specs.Locks.{is_command_line}
 use Rattle.sam_host.specs.Host.{PlainHost, Reply, host_checks, with_file, past_end, no_range, no_room, reply_check, reply_workfile, reply_cut, reply_snarf, reply_line, reply_type, reply_startsnarf, reply_setsnarf}
 use Rattle.sam_protocol.specs.Lens.{Open, Lens, lens, Action, Skip, Needs_known, Needs_open, move, run, and_then, is_crossing, is_close, HFile, Opened, Agrees, IsSettled, IsKept, IsOpened, without}
 use Rattle.sam_protocol.specs.Frames.{at_file, only}
-use Rattle.sam_protocol.specs.Crossing.{type_change, typed_in, cut_out, changed}
+use Rattle.sam_protocol.proofs.Changes.{type_change, typed_in, cut_out, changed}
 use Rattle.sam_protocol.specs.View.{file_in}
-use Rattle.sam_protocol.specs.Handled.{HasFiles}
-use Rattle.sam_protocol.specs.Synced.{Synced}
+use Rattle.sam_protocol.specs.Steady.{HasFiles}
+use Rattle.sam_protocol.proofs.Accepting.{Synced}
 use Rattle.sam_protocol.proofs.Kept.{kept_skips, settled_opened}
 use Rattle.sam_protocol.proofs.Texts.{agrees_typed, agrees_without}
 use Rattle.sam_protocol.proofs.HostFiles.{bool_cases, put, put_again, put_opened, Opens, Lasts, lasts_opened, lasts_same, still_has, works_on}

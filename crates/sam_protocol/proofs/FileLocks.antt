@@ -15,12 +15,13 @@ use Rattle.sam_mesg.specs.declared.hmesg.Hmesg.{Hmesg}
 use Rattle.sam_mesg.specs.declared.hmesg.Hmesg.TheVariants.{Horigin, Hdata, Hunlockfile, Hsetdot, Hmoveto, Hcheck, Hsetpat, Hclean, Hdirty}
 use Rattle.sam_host.specs.Host.{PlainHost, Reply, host_checks, reply_to, with_file, with_files, when, grown, past_end, no_range, reply_found, reply_request, reply_origin, reply_paste, reply_write, reply_look, reply_search, reply_dclick}
 use Rattle.sam_host.specs.declared.fault.HostFault.TheVariants.{NoFile, NotOpen}
-use Rattle.sam_protocol.specs.Lens.{Open, Lens, lens, Action, Fill, Free_file, locked_more, HFile, Opened, Agrees, IsSettled, IsKept, AreSkips, request_actions}
+use Rattle.sam_protocol.specs.Lens.{Open, Lens, lens, Action, Fill, Free_file, HFile, Opened, Agrees, IsSettled, IsKept}
+use Rattle.sam_protocol.proofs.Lenses.{locked_more, AreSkips, request_actions}
 use Rattle.sam_protocol.specs.Frames.{at_file, only}
-use Rattle.sam_protocol.specs.Crossing.{Change, Lock, changed, change_by}
+use Rattle.sam_protocol.proofs.Changes.{Change, Lock, changed, change_by}
 use Rattle.sam_protocol.specs.View.{file_in}
-use Rattle.sam_protocol.specs.Handled.{HasFiles}
-use Rattle.sam_protocol.specs.Synced.{Synced}
+use Rattle.sam_protocol.specs.Steady.{HasFiles}
+use Rattle.sam_protocol.proofs.Accepting.{Synced}
 use Rattle.sam_protocol.proofs.Runs.{run-append_some}
 use Rattle.sam_protocol.proofs.Kept.{kept_skips, kept_data, settled_opened}
 use Rattle.sam_protocol.proofs.HostFiles.{bool_cases, put, put_again, put_opened, Opens, Lasts, lasts_opened, still_has}

@@ -6,13 +6,14 @@ use Rattle.sam_mesg.specs.declared.tmesg.Tmesg.TheVariants.{Trequest, Tack}
 use Rattle.sam_mesg.specs.declared.hmesg.Hmesg.{Hmesg}
 use Rattle.sam_host.specs.Host.{PlainHost, Reply, counted, host_checks, reply_to, reply_request}
 use Rattle.sam_host.specs.declared.fault.HostFault.{HostFault}
-use Rattle.sam_protocol.specs.Lens.{locked_more, Lens, lens, Unknown, Known, Open, Action, move, IsFree, IsAlike, IsOpen, exited_of, HFile, Absent, Hidden, Named, Opened, Gone, IsKept, CanRequest, request_actions}
+use Rattle.sam_protocol.proofs.Lenses.{locked_more, IsFree, IsAlike, IsOpen, exited_of, CanRequest, request_actions}
+use Rattle.sam_protocol.specs.Lens.{Lens, lens, Unknown, Known, Open, Action, move, HFile, Absent, Hidden, Named, Opened, Gone, IsKept}
 use Rattle.sam_protocol.specs.Frames.{at_file, action, only, VersionsGuarded}
-use Rattle.sam_protocol.specs.Crossing.{change_by, Change, Same, Lock, Command, Types, Cuts, Line, changed, commanded, typed_in, cut_out}
+use Rattle.sam_protocol.proofs.Changes.{change_by, Change, Same, Lock, Command, Types, Cuts, Line, changed, commanded, typed_in, cut_out, IsAllowed}
 use Rattle.sam_protocol.specs.View.{file_in}
-use Rattle.sam_protocol.specs.Synced.{Synced}
-use Rattle.sam_protocol.specs.Handled.{IsSteady}
-use Rattle.sam_protocol.specs.Fold.{replied, reply_of, behind, replied_then, answers, Kept, IsAllowed}
+use Rattle.sam_protocol.proofs.Accepting.{Synced}
+use Rattle.sam_protocol.specs.Steady.{IsSteady}
+use Rattle.sam_protocol.specs.Fold.{replied, reply_of, behind, replied_then, answers, Kept}
 use Rattle.sam_protocol.proofs.Versions.{versions-append, guarded_reply}
 use Rattle.sam_protocol.proofs.Kept.{kept_take, kept_append, kept_act, kept_more, kept_request, kept_skips, alike_same}
 use Rattle.sam_protocol.proofs.HostFiles.{bool_cases, opens_at, gone_at}

@@ -2,7 +2,8 @@
 use Rattle.std.proofs.Common.{◌≡◌, ℕ, Bool, true, false, not, ◌||◌, ◌&&◌, List, [], ◌∷◌, ◌++◌, Some, None, refl, sym, ap, ◌∙◌, true≢false, if◌then◌else◌}
 use Rattle.std.proofs.lemmas.List.{map-append}
 use Rattle.sam_mesg.specs.declared.hmesg.Hmesg.{Hmesg}
-use Rattle.sam_protocol.specs.Lens.{Lens, Action, move, run, and_then, frees, closes, is_close, IsGuarded, guard_holds, HFile, IsSettled, IsKept, AreSkips}
+use Rattle.sam_protocol.specs.Lens.{Lens, Action, move, run, and_then, frees, closes, is_close, IsGuarded, HFile, IsSettled, IsKept}
+use Rattle.sam_protocol.proofs.Lenses.{guard_holds, AreSkips}
 use Rattle.sam_protocol.specs.Frames.{action, at_file}
 
 not_true : (a b : Bool) → (not a || b) ≡ true → a ≡ true → b ≡ true

@@ -9,8 +9,7 @@ use Rattle.sam_term.specs.Locks.{is_command_line}
 use Rattle.sam_host.specs.Host.{PlainHost}
 use Rattle.sam_protocol.specs.Lens.{HFile, Absent, Hidden, Named, Opened, Gone, IsCommandFile}
 use Rattle.sam_protocol.specs.View.{file_in}
-use Rattle.sam_protocol.specs.Synced.{Synced}
-use Rattle.sam_protocol.specs.Handled.{Open, Accepted, Ready}
+use Rattle.sam_protocol.proofs.Accepting.{Synced, Open, Accepted, Ready}
 use Rattle.sam_protocol.proofs.HostFiles.{bool_cases, some_at, at_there, shown_there, closed_file, Opens, opens_at}
 use Rattle.sam_protocol.proofs.FileLocks as locks
 use Rattle.sam_protocol.proofs.Edits as edits

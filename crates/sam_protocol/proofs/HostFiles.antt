@@ -8,7 +8,7 @@ use Rattle.sam_runes.proofs.SlotLaws.{put_slot-push, slot-put_same, slot-put_oth
 use Rattle.sam_text.specs.Files.{PlainFile, PlainFiles, file_at, has_file, blank_file}
 use Rattle.sam_protocol.specs.Lens.{HFile, Absent, Hidden, Named, Opened, Gone, IsOpened, IsCommandFile}
 use Rattle.sam_protocol.specs.View.{file_of, file_of_slot, file_in}
-use Rattle.sam_protocol.specs.Handled.{HasFiles}
+use Rattle.sam_protocol.specs.Steady.{HasFiles}
 
 pub bool_cases : (b : Bool) → (b ≡ true) ⊎ (b ≡ false)
 bool_cases true = inl refl

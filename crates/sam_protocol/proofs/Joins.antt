@@ -19,7 +19,7 @@ use Rattle.sam_host.specs.declared.fault.HostFault.TheVariants.{NoFile, NotOpen,
 use Rattle.sam_protocol.specs.Lens.{Lens, IsKept}
 use Rattle.sam_protocol.specs.Frames.{at_file, VersionsGuarded}
 use Rattle.sam_protocol.specs.View.{file_in}
-use Rattle.sam_protocol.specs.Handled.{IsSteady}
+use Rattle.sam_protocol.specs.Steady.{IsSteady}
 use Rattle.sam_protocol.specs.Fold.{replied, reply_of, behind, replied_then, answers, Kept}
 use Rattle.sam_protocol.proofs.Tests.{test, last_test}
 use Rattle.sam_protocol.proofs.HostFiles.{bool_cases}

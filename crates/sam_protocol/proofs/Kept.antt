@@ -3,7 +3,8 @@ use Rattle.std.proofs.Common.{◌≡◌, ℕ, ◌+◌, ◌≤◌, min, Bool, tru
 use Rattle.std.proofs.lemmas.List.{drop_min, take_min}
 use Rattle.sam_runes.specs.Texts.{most_in_message}
 use Rattle.sam_protocol.proofs.Texts.{agrees_length, agrees_filled}
-use Rattle.sam_protocol.specs.Lens.{Slot, Unknown, Known, Open, Lens, lens, Action, Free_file, move, run, and_then, IsFree, IsOpen, IsAlike, locked_more, exited_of, is_freeing, frees, IsGuarded, is_close, closes, exits, HFile, Absent, Hidden, Named, Opened, Gone, Agrees, Fits_slot, IsSettled, IsKept, AreSkips, CanRequest, request_actions, filled}
+use Rattle.sam_protocol.specs.Lens.{Slot, Unknown, Known, Open, Lens, lens, Action, Free_file, move, run, and_then, is_freeing, frees, IsGuarded, is_close, closes, HFile, Absent, Hidden, Named, Opened, Gone, Agrees, Fits_slot, IsSettled, IsKept, filled}
+use Rattle.sam_protocol.proofs.Lenses.{IsFree, IsOpen, IsAlike, locked_more, exited_of, exits, AreSkips, CanRequest, request_actions}
 use Rattle.sam_protocol.proofs.Runs.{run-append_some, stepped, still, runs_more, exited_after}
 
 or_right_true : (a b : Bool) → b ≡ true → (a || b) ≡ true

@@ -1,3 +1,6 @@
+pub mod Lenses
+pub mod Changes
+pub mod Accepting
 pub mod Runs
 pub mod Kept
 pub mod Texts

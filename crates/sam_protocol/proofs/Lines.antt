@@ -19,12 +19,13 @@ use Rattle.sam_mesg.specs.declared.hmesg.Hmesg.{Hmesg}
 use Rattle.sam_mesg.specs.declared.hmesg.Hmesg.TheVariants.{Hmovname, Hdirty, Hsetpat, Hsetdot, Hcheck, Hexit, Hunlock}
 use Rattle.sam_term.specs.declared.lock.Lock.TheVariants.{CommandLock, NoLock}
 use Rattle.sam_host.specs.Host.{PlainHost, Reply, with_file, with_files, when, when_given, printed, told_edit, told_outcome, no_range, reply_line, reply_type, reply_send}
-use Rattle.sam_protocol.specs.Lens.{Slot, Open, Lens, lens, Action, Free_command, HFile, Opened, Fits_slot, IsSettled, IsKept, AreSkips, typed}
+use Rattle.sam_protocol.specs.Lens.{Slot, Open, Lens, lens, Action, Free_command, HFile, Opened, Fits_slot, IsSettled, IsKept, typed}
+use Rattle.sam_protocol.proofs.Lenses.{AreSkips}
 use Rattle.sam_protocol.specs.Frames.{at_file}
-use Rattle.sam_protocol.specs.Crossing.{type_change, typed_in, commanded, changed}
+use Rattle.sam_protocol.proofs.Changes.{type_change, typed_in, commanded, changed}
 use Rattle.sam_protocol.specs.View.{file_in}
-use Rattle.sam_protocol.specs.Handled.{HasFiles, IsSteady}
-use Rattle.sam_protocol.specs.Synced.{Synced}
+use Rattle.sam_protocol.specs.Steady.{HasFiles, IsSteady}
+use Rattle.sam_protocol.proofs.Accepting.{Synced}
 use Rattle.sam_protocol.proofs.Kept.{settled_slot, settled_opened}
 use Rattle.sam_protocol.proofs.Texts.{agrees_typed}
 use Rattle.sam_protocol.proofs.HostFiles.{bool_cases, put, put_other, put_opened, Opens, work_opens, Lasts, lasts_same, lasts_then, lasts_opened, still_has, at_there}

@@ -17,7 +17,8 @@ use Rattle.sam_term.specs.Term.{PlainTerminal, blank_known, blank_window, window
 use Rattle.sam_term.specs.declared.files.Window.{Window}
 use Rattle.sam_term.specs.declared.files.KnownFile.{KnownFile}
 use Rattle.sam_protocol.specs.Lens as lenses
-use Rattle.sam_protocol.specs.Lens.{Slot, Unknown, Known, Open, Lens, lens, Action, IsFree, HFile, Absent, Hidden, Named, Opened, Gone, Fits_slot, IsSettled, IsKept, version_of, command_of}
+use Rattle.sam_protocol.specs.Lens.{Slot, Unknown, Known, Open, Lens, lens, Action, HFile, Absent, Hidden, Named, Opened, Gone, Fits_slot, IsSettled, IsKept}
+use Rattle.sam_protocol.proofs.Lenses.{IsFree}
 use Rattle.sam_protocol.specs.Frames.{at_file}
 use Rattle.sam_protocol.specs.View.{slot_of_window, slot_of, view, file_of_slot, file_in}
 use Rattle.sam_protocol.specs.Fold.{replied, reply_of, answers}

@@ -21,9 +21,9 @@ use Rattle.sam_term.specs.declared.files.Unsent.{Unsent}
 use Rattle.sam_term.specs.declared.fault.TermFault.{TermFault}
 use Rattle.sam_term.specs.declared.fault.TermFault.TheVariants as fault
 use Rattle.sam_protocol.specs.Lens as lenses
-use Rattle.sam_protocol.specs.Lens.{Lens, lens, Action, IsFree, move, is_crossing, IsKept, HFile}
+use Rattle.sam_protocol.specs.Lens.{Lens, lens, Action, move, is_crossing, IsKept, HFile, OpenAt, Anything}
+use Rattle.sam_protocol.proofs.Lenses.{IsFree}
 use Rattle.sam_protocol.specs.Frames.{action, only, at_file}
-use Rattle.sam_protocol.specs.Crossing.{OpenAt, Anything}
 use Rattle.sam_protocol.specs.View.{view, effect, Moves, file_in}
 use Rattle.sam_protocol.specs.Fold.{Kept}
 use Rattle.sam_protocol.specs.Order.{IsTidyWindow, AreTidy, IsHeldBack, views, InOrder}

@@ -10,10 +10,11 @@ use Rattle.sam_term.specs.declared.lock.Lock.TheVariants.{CommandLock, NoLock}
 use Rattle.sam_term.specs.Locks.{lock_of, is_command_line}
 use Rattle.sam_term.specs.Term.{PlainTerminal, Made, window_at, put_window, window_after_del, moved_unsent, del_rasp, composed, flushed, unsent_message, and_then, sends, unchanged}
 use Rattle.sam_term.specs.declared.files.Unsent.{Unsent}
-use Rattle.sam_protocol.specs.Lens.{Unknown, Known, Open, Lens, lens, IsFree, IsOpen, exited_of, command_of}
-use Rattle.sam_protocol.specs.Crossing.{change_by, cut_out, changed, OpenAt, Anything, Within}
+use Rattle.sam_protocol.specs.Lens.{Unknown, Known, Open, Lens, lens, OpenAt, Anything}
+use Rattle.sam_protocol.proofs.Lenses.{IsFree, IsOpen, exited_of, command_of}
+use Rattle.sam_protocol.proofs.Changes.{change_by, cut_out, changed, Within, IsAllowed, CanCompose}
 use Rattle.sam_protocol.specs.View.{view}
-use Rattle.sam_protocol.specs.Fold.{Kept, IsAllowed, CanCompose}
+use Rattle.sam_protocol.specs.Fold.{Kept}
 use Rattle.sam_protocol.specs.Order.{AreTidy, IsHeldBack, views, InOrder}
 use Rattle.sam_protocol.proofs.Folds.{kept_views}
 use Rattle.sam_protocol.proofs.Composing.{composes}

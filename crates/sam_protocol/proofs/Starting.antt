@@ -9,7 +9,7 @@ use Rattle.sam_host.proofs.SoundLaws.{starts_sound}
 use Rattle.sam_term.specs.Term.{new_terminal}
 use Rattle.sam_protocol.specs.Lens.{Hidden, Named, Opened, Unknown, Fits_slot}
 use Rattle.sam_protocol.specs.View.{view, file_of_slot}
-use Rattle.sam_protocol.specs.Handled.{IsSteady}
+use Rattle.sam_protocol.specs.Steady.{IsSteady}
 use Rattle.sam_protocol.specs.Fold.{Kept}
 use Rattle.sam_protocol.specs.Order.{views, InOrder}
 

@@ -15,8 +15,8 @@ use Rattle.sam_mesg.specs.declared.hmesg.Hmesg.TheVariants.{Hsetpat}
 use Rattle.sam_mesg.specs.declared.tmesg.Tmesg.TheVariants.{Tversion, Tstartcmdfile, Tcheck, Trequest, Torigin, Tstartfile, Tworkfile, Ttype, Tcut, Tpaste, Tsnarf, Tstartnewfile, Twrite, Tclose, Tlook, Tsearch, Tsend, Tdclick, Tstartsnarf, Tsetsnarf, Tack, Texit}
 use Rattle.sam_protocol.specs.Lens.{Named, Opened}
 use Rattle.sam_protocol.specs.View.{file_in}
-use Rattle.sam_protocol.specs.Synced.{Synced}
-use Rattle.sam_protocol.specs.Handled.{OpenAnnounced, AllOpenAnnounced, Accepted, IsSteady, Ready}
+use Rattle.sam_protocol.proofs.Accepting.{Synced, Accepted, Ready}
+use Rattle.sam_protocol.specs.Steady.{OpenAnnounced, AllOpenAnnounced, IsSteady}
 use Rattle.sam_protocol.proofs.HostFiles.{opens_at, some_at, closed_file, shown_there, at_there}
 
 -- ## Open files were announced

@@ -13,7 +13,8 @@ use Rattle.sam_host.specs.Host.{PlainHost, Reply, counted, host_checks, reply_to
 use Rattle.sam_host.specs.declared.fault.HostFault.{HostFault}
 use Rattle.sam_host.specs.declared.fault.HostFault.TheVariants as hostfault
 use Rattle.sam_term.specs.Term.{PlainTerminal, unsent_message}
-use Rattle.sam_protocol.specs.Lens.{Lens, lens, HFile, IsSettled, version_of}
+use Rattle.sam_protocol.specs.Lens.{Lens, lens, HFile, IsSettled}
+use Rattle.sam_protocol.proofs.Lenses.{version_of}
 use Rattle.sam_protocol.specs.Frames.{at_file, is_unlock, unlocks_command}
 use Rattle.sam_protocol.specs.View.{view, file_in}
 use Rattle.sam_protocol.specs.Fold.{replied, reply_of, answers}

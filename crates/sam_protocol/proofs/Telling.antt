@@ -11,7 +11,8 @@ use Rattle.sam_text.specs.Files.{PlainFile, PlainFiles, file_at}
 use Rattle.sam_mesg.specs.declared.hmesg.Hmesg.{Hmesg}
 use Rattle.sam_mesg.specs.declared.hmesg.Hmesg.TheVariants.{Hcurrent, Hmovname, Hgrow, Hcheck, Horigin, Hsetdot, Hgrowdata, Hmoveto, Hclean, Hdirty, Hcut, Hsetpat}
 use Rattle.sam_host.specs.Host.{when, when_given, grown, told_length, told_edit}
-use Rattle.sam_protocol.specs.Lens.{Open, lens, Action, Skip, Needs_known, Needs_open, Grow, Insert, Cut, Place, move, run, and_then, Lens, closes, Agrees, AreSkips, grown as grown_cells, typed, without}
+use Rattle.sam_protocol.specs.Lens.{Open, lens, Action, Skip, Needs_known, Needs_open, Grow, Insert, Cut, Place, move, run, and_then, Lens, closes, Agrees, grown as grown_cells, typed, without}
+use Rattle.sam_protocol.proofs.Lenses.{AreSkips}
 use Rattle.sam_protocol.specs.Frames.{action, at_file, only}
 use Rattle.sam_protocol.proofs.Runs.{run-append_some}
 use Rattle.sam_protocol.proofs.Texts.{agrees_length, agrees_grown, agrees_typed, agrees_without}

@@ -13,8 +13,9 @@ use Rattle.sam_term.specs.Locks.{is_command_line}
 use Rattle.sam_term.specs.Term.{PlainTerminal, Made, lock_taken, window_at, window_after_ins, moved_unsent, ins_rasp, typed_rasp, joins, joined, types, composed, all_composed, flushed, unsent_message, and_then}
 use Rattle.sam_term.specs.declared.files.Window.{Window}
 use Rattle.sam_term.specs.declared.files.Unsent.{Unsent}
-use Rattle.sam_protocol.specs.Lens.{Unknown, Known, Open, Lens, lens, IsOpen}
-use Rattle.sam_protocol.specs.Crossing.{change_by, type_change, typed_in, commanded, changed, OpenAt, Anything}
+use Rattle.sam_protocol.specs.Lens.{Unknown, Known, Open, Lens, lens, OpenAt, Anything}
+use Rattle.sam_protocol.proofs.Lenses.{IsOpen}
+use Rattle.sam_protocol.proofs.Changes.{change_by, type_change, typed_in, commanded, changed}
 use Rattle.sam_protocol.specs.View.{view}
 use Rattle.sam_protocol.specs.Fold.{Kept}
 use Rattle.sam_protocol.specs.Order.{AreTidy, IsHeldBack, views, InOrder}

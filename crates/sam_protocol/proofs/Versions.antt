@@ -11,7 +11,8 @@ use Rattle.sam_mesg.specs.declared.tmesg.Tmesg.TheVariants.{Tversion, Tstartcmdf
 use Rattle.sam_mesg.specs.declared.hmesg.Hmesg.{Hmesg}
 use Rattle.sam_mesg.specs.declared.hmesg.Hmesg.TheVariants.{Hversion, Hbindname, Hcurrent, Hnewname, Hmovname, Hgrow, Hcheck, Hunlock, Hdata, Horigin, Hunlockfile, Hsetdot, Hgrowdata, Hmoveto, Hclean, Hdirty, Hcut, Hsetpat, Hdelname, Hclose, Hsetsnarf, Hsnarflen, Hack, Hexit}
 use Rattle.sam_host.specs.Host.{PlainHost, Reply, when, when_given, grown, told_length, printed, told_edit, told_outcome, told_names, no_tag_left, with_file, with_files, reply_version, reply_startcmdfile, reply_check, reply_request, reply_origin, reply_startfile, reply_workfile, reply_cut, reply_paste, reply_snarf, reply_startnewfile, reply_write, reply_close, reply_found, reply_look, reply_search, reply_dclick, reply_startsnarf, reply_setsnarf, reply_exit, reply_line, reply_type, reply_send, reply_to}
-use Rattle.sam_protocol.specs.Lens.{Action, Skip, Needs_known, Needs_open, Join, Bind, Close, Leave, Grow, Fill, Insert, Cut, Place, Change, Free_file, is_change, changes, is_free_command, frees_command}
+use Rattle.sam_protocol.specs.Lens.{Action, Skip, Needs_known, Needs_open, Join, Bind, Close, Leave, Grow, Fill, Insert, Cut, Place, Change, Free_file}
+use Rattle.sam_protocol.proofs.Lenses.{is_change, changes, is_free_command, frees_command}
 use Rattle.sam_protocol.specs.Frames.{action, at_file, only, is_unlock, unlocks_command, is_version, VersionsGuarded}
 
 -- no Hversion among them

@@ -13,8 +13,9 @@ use Rattle.sam_term.specs.declared.files.Window.{Window}
 use Rattle.sam_term.specs.declared.files.KnownFile.{KnownFile}
 use Rattle.sam_term.specs.declared.files.Unsent.{Unsent}
 use Rattle.sam_term.proofs.TermLaws.{known-put}
-use Rattle.sam_protocol.specs.Lens.{Slot, Unknown, Known, Open, Lens, lens, IsOpen, locked_more}
-use Rattle.sam_protocol.specs.Crossing.{commanded}
+use Rattle.sam_protocol.specs.Lens.{Slot, Unknown, Known, Open, Lens, lens}
+use Rattle.sam_protocol.proofs.Lenses.{IsOpen, locked_more}
+use Rattle.sam_protocol.proofs.Changes.{commanded}
 use Rattle.sam_protocol.specs.View.{slot_of_window, slot_of, view}
 use Rattle.sam_protocol.specs.Order.{IsTidyWindow, AreTidy, IsHeldBack, views}
 use Rattle.sam_protocol.proofs.HostFiles.{bool_cases}

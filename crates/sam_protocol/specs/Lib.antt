@@ -1,9 +1,7 @@
 pub mod Lens
 pub mod Frames
-pub mod Crossing
 pub mod View
-pub mod Handled
-pub mod Synced
+pub mod Steady
 pub mod Fold
 pub mod Order
 pub mod Streams
