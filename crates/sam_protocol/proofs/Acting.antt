@@ -8,6 +8,7 @@ use Rattle.sam_mesg.specs.declared.tmesg.Tmesg.{Tmesg}
 use Rattle.sam_mesg.specs.declared.tmesg.Tmesg.TheVariants.{Tversion, Tstartcmdfile, Tcheck, Trequest, Torigin, Tstartfile, Tworkfile, Ttype, Tcut, Tpaste, Tsnarf, Tstartnewfile, Twrite, Tclose, Tlook, Tsearch, Tsend, Tdclick, Tstartsnarf, Tsetsnarf, Tack, Texit}
 use Rattle.sam_mesg.specs.declared.hmesg.Hmesg.{Hmesg}
 use Rattle.sam_host.specs.Host.{PlainHost}
+use Rattle.sam_term.specs.declared.lock.Lock.TheVariants.{CommandLock, NoLock}
 use Rattle.sam_term.specs.Locks.{is_command_line}
 use Rattle.sam_term.specs.Term.{PlainTerminal, Made, window_at, put_window, set_dot_of, is_open, is_any_locked, has_empty_dot, del_rasp, composed, all_composed, flushed, sends, sends_if, unchanged, request_for, view_end, requested, cuts_dot, types, made_by, made_by_type, made_by_cut, made_by_paste, made_by_snarf, made_by_view}
 use Rattle.sam_term.specs.declared.files.Window.{Window}
@@ -15,11 +16,10 @@ use Rattle.sam_term.specs.declared.files.Unsent.{Unsent}
 use Rattle.sam_term.specs.declared.event.UserEvent.{UserEvent}
 use Rattle.sam_term.specs.declared.event.UserEvent.TheVariants.{Typed, Select, Cut, Paste, Snarf, Look, Search, Send, Dclick, Scroll, View, Open, Close, Write, Work, OpenCmd, New, Exit, Check, GetSnarf, SetSnarf, Version, Flush}
 use Rattle.sam_protocol.specs.Lens as lenses
-use Rattle.sam_protocol.specs.Lens.{Lens, lens, IsFree, IsOpen, exited_of, command_of}
-use Rattle.sam_protocol.specs.Model.{choose}
-use Rattle.sam_protocol.specs.Crossing.{Types, Line, cut_out, OpenAt, Anything, Within}
+use Rattle.sam_protocol.specs.Lens.{Lens, lens, OpenAt, Anything}
+use Rattle.sam_protocol.proofs.Lenses.{IsFree, IsOpen, exited_of, command_of}
+use Rattle.sam_protocol.proofs.Changes.{type_change, cut_out, Within, IsAllowed}
 use Rattle.sam_protocol.specs.View.{view}
-use Rattle.sam_protocol.specs.Fold.{IsAllowed}
 use Rattle.sam_protocol.specs.Order.{AreTidy, IsTidyWindow, IsHeldBack, views, InOrder}
 use Rattle.sam_protocol.proofs.Folds.{requests, acknowledges, kept_views}
 use Rattle.sam_protocol.proofs.Views.{view-composed, view-kept, unsent-composed, unsent-flushed, tidy-composed, tidy-window}
@@ -89,7 +89,7 @@ acknowledged_goes h t up down o =
 -- what was made cuts the range of f
 record AfterCut (h : PlainHost) (t : PlainTerminal) (up : List Tmesg) (down : List Hmesg) (f p q : ℕ) (made : Made) : Type 0 where
   goes : Goes h up down made
-  shows : (g : ℕ) → view g made.0 ≡ choose (g == f) (cut_out p q (view g t)) (view g t)
+  shows : (g : ℕ) → view g made.0 ≡ (if g == f then cut_out p q (view g t) else view g t)
 
 cut_nothing : (p q : ℕ) (v : Lens) → p ≡ q → cut_out p q v ≡ v
 cut_nothing p q (lens c e n lenses.Unknown) same = refl
@@ -98,9 +98,9 @@ cut_nothing p q (lens c e n (lenses.Open r k)) same =
     let all : p + (q - p) ≡ p = omega (arith, same) in
     ap (λ (x : PartialText). lens c e n (lenses.Open x k)) (ap (λ (m : ℕ). take p r ++ drop m r) all ∙ take-append-drop p r)
 
-choose_same : (b : Bool) (v : Lens) → choose b v v ≡ v
-choose_same true v = refl
-choose_same false v = refl
+if_same : (b : Bool) (v : Lens) → (if b then v else v) ≡ v
+if_same true v = refl
+if_same false v = refl
 
 after_cut : (h : PlainHost) (t : PlainTerminal) (up : List Tmesg) (down : List Hmesg) (f : ℕ) → InOrder h t up down → MaySend (views t) (Tcut f (window_at t f).dot.0 (window_at t f).dot.1) → AfterCut h t up down f (window_at t f).dot.0 (window_at t f).dot.1 (cuts_dot t f)
 after_cut h t up down f o may = go (has_empty_dot t f) refl
@@ -120,12 +120,12 @@ after_cut h t up down f o may = go (has_empty_dot t f) refl
     go : (b : Bool) → has_empty_dot t f ≡ b → AfterCut h t up down f p q (if b then (t, []) else sends t (λ u. del_rasp u f p q) (Tcut f p q ∷ []))
     go true e = record {
       goes = nothing_goes h t up down o;
-      shows = λ g. sym (ap (λ (v : Lens). choose (g == f) v (view g t)) (cut_nothing p q (view g t) (eqb-true p q e)) ∙ choose_same (g == f) (view g t));
+      shows = λ g. sym (ap (λ (v : Lens). (if g == f then v else view g t)) (cut_nothing p q (view g t) (eqb-true p q e)) ∙ if_same (g == f) (view g t));
     }
     go false e = record {
       goes = then_goes h up down (flushed t) (λ u. (composed (del_rasp u f p q) (Tcut f p q), Tcut f p q ∷ []))
           (cut_one h (flushed t).0 (up ++ (flushed t).1) down f p q (flushed_goes h t up down o) (unsent-flushed t) there);
-      shows = λ g. cut_view (flushed t).0 f p q (open_is (Within p q) (view f (flushed t).0) there.can) (o.tidy f).0 g ∙ ap (λ (v : ℕ → Lens). choose (g == f) (cut_out p q (v g)) (v g)) (sym same);
+      shows = λ g. cut_view (flushed t).0 f p q (open_is (Within p q) (view f (flushed t).0) there.can) (o.tidy f).0 g ∙ ap (λ (v : ℕ → Lens). (if g == f then cut_out p q (v g) else v g)) (sym same);
     }
 
 -- ## What the tests of an event allow
@@ -136,7 +136,7 @@ may_dot t f p q e tidy here free opened unlocked ep eq =
     (let z = tidy f in (omega (arith, z.0, ep, eq), omega (arith, z.1, eq)))
 
 -- the state after the dot was cut: the file is as free as before
-module _ (t u : PlainTerminal) (f p q : ℕ) (shows : (g : ℕ) → view g u ≡ choose (g == f) (cut_out p q (view g t)) (view g t)) where
+module _ (t u : PlainTerminal) (f p q : ℕ) (shows : (g : ℕ) → view g u ≡ (if g == f then cut_out p q (view g t) else view g t)) where
   here_cut : t.has_exited ≡ false → exited_of (view 0 u) ≡ false
   here_cut e = ap exited_of (shows 0) ∙ exited_cut (0 == f) p q (view 0 t) ∙ e
 
@@ -147,7 +147,7 @@ module _ (t u : PlainTerminal) (f p q : ℕ) (shows : (g : ℕ) → view g u ≡
   still_free g i = subst IsFree (sym (shows g)) (free_cut (g == f) p q (view g t) i)
 
   still_open : (P Q : List (Option ℕ) → Type 0) → OpenAt P (view f t) → ((r : List (Option ℕ)) → P r → Q (take p r ++ drop (p + (q - p)) r)) → OpenAt Q (view f u)
-  still_open P Q o h = subst (OpenAt Q) (sym (shows f ∙ ap (λ (b : Bool). choose b (cut_out p q (view f t)) (view f t)) (eq-eqb f f refl))) (open_cut P Q p q (view f t) o h)
+  still_open P Q o h = subst (OpenAt Q) (sym (shows f ∙ ap (λ (b : Bool). (if b then cut_out p q (view f t) else view f t)) (eq-eqb f f refl))) (open_cut P Q p q (view f t) o h)
 
 -- the length of what a cut leaves
 cut_length : (r : List (Option ℕ)) (p q : ℕ) → p ≤ q → q ≤ length r → length (take p r ++ drop (p + (q - p)) r) ≡ length r - (q - p)
@@ -187,7 +187,7 @@ type_goes h t up down f s o pass = then_goes h up down (cuts_dot t f) (λ u. if 
     narrow : (r : List (Option ℕ)) → Wide r → (p ≤ length (take p r ++ drop (p + (q - p)) r)) × (length (take p r ++ drop (p + (q - p)) r) + length s ≤ max_runes)
     narrow r w = let n = cut_length r p q w.0 w.1 in (omega (arith, n, w.0, w.1), omega (arith, n, w.2))
 
-    allowed : (line : Bool) → is_command_line f s ≡ line → IsAllowed (choose line (Line p s) (Types f p s)) (views u)
+    allowed : (line : Bool) → is_command_line f s ≡ line → IsAllowed (type_change (if line then CommandLock else NoLock) f p s) (views u)
     allowed false e = still_free t u f p q cut.shows f (free_at t f pass.free pass.unlocked)
     allowed true e = λ g. still_free t u f p q cut.shows g (all_free t pass.free (sym (ap (λ (b : Bool). b && is_any_locked t.files) e) ∙ pass.all_unlocked) g)
 

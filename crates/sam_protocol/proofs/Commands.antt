@@ -1,14 +1,34 @@
 -- The messages that take the command lock: from settled to settled.
-use Rattle.std.proofs.Common.{◌≡◌, ℕ, ◌+◌, ◌≤◌, ◌<◌, Bool, true, false, not, ◌||◌, ◌==◌, List, [], ◌∷◌, ◌++◌, length, Option, Some, None, ◌⊎◌, inl, inr, refl, sym, ap, ◌∙◌, subst, true≢false, arith, append-nil, eqb-true, eq-eqb, le-leb}
-use Rattle.sam_protocol.specs.Lens.{limit, Slot, Unknown, Known, Open, Lens, lens, Action, Skip, Grow, Needs_known, Join, Bind, Close, Leave, Free_command, Exit, move, run, and_then, closes, is_close, grown, HFile, Absent, Hidden, Named, Opened, Gone, Agrees, Fits_slot, IsSettled, IsKept, AreSkips}
-use Rattle.sam_protocol.specs.Model.{Tmesg, Tstartcmdfile, Tstartfile, Tclose, Texit, Hmesg, Hunlock, Hbindname, Hnewname, Hmovname, Hclose, Hdelname, Hexit, at_file, only, Host, Answer, Tools, answer, choose, put, HostOk, FilesOk, IsOpened, IsCommandFile, text_of, reply, on_open, when, grown_to, started, cmd_started, cleared}
-use Rattle.sam_protocol.specs.Crossing.{commanded, changed, change_of, Sync}
+use Rattle.std.proofs.Common.{◌≡◌, ℕ, ◌+◌, ◌<◌, ◌≤◌, Bool, true, false, not, ◌||◌, ◌&&◌, ◌==◌, if◌then◌else◌, List, [], ◌∷◌, ◌++◌, length, map, Option, Some, None, is_some, ◌⊎◌, inl, inr, refl, sym, ap, ◌∙◌, subst, true≢false, arith, append-nil, eqb-true, eq-eqb, nat_le, leb-true}
+use Rattle.std.proofs.lemmas.List.{take_all, drop_all}
+use Rattle.sam_runes.specs.Texts.{ins, is_empty, max_runes, all_tags}
+use Rattle.sam_runes.specs.Slots.{slot, free_slot}
+use Rattle.sam_runes.proofs.EditLaws.{length-ins}
+use Rattle.sam_runes.specs.Checks.{first_of_checks}
+use Rattle.sam_text.specs.Files.{PlainFile, PlainFiles, file_at, has_file, put_file, has_room, is_printed, after_print, printed_file, new_file, command_name, work_without, AreFit}
+use Rattle.sam_mesg.specs.declared.tmesg.Tmesg.{Tmesg}
+use Rattle.sam_mesg.specs.declared.tmesg.Tmesg.TheVariants.{Tstartcmdfile, Tstartfile, Tstartnewfile, Tclose, Texit}
+use Rattle.sam_mesg.specs.declared.hmesg.Hmesg.{Hmesg}
+use Rattle.sam_mesg.specs.declared.hmesg.Hmesg.TheVariants.{Hcurrent, Hunlock, Hbindname, Hnewname, Hmovname, Hsetdot, Hcheck}
+use Rattle.sam_host.specs.Host.{PlainHost, Reply, host_checks, reply_to, with_files, when, grown, told_length, printed, no_tag_left, is_command, reply_startcmdfile, reply_startfile, reply_startnewfile, reply_close, reply_exit}
+use Rattle.sam_host.specs.declared.fault.HostFault.TheVariants.{NoFile, CommandFile}
+use Rattle.sam_protocol.specs.Lens.{Slot, Unknown, Known, Open, Lens, lens, Action, Skip, Needs_known, Join, Bind, Close, Leave, Free_command, Exit, move, run, and_then, closes, is_close, HFile, Absent, Hidden, Named, Opened, Gone, IsOpened, IsCommandFile, Fits_slot, IsSettled, IsKept}
+use Rattle.sam_protocol.proofs.Lenses.{AreSkips}
+use Rattle.sam_protocol.specs.Frames.{at_file, only}
+use Rattle.sam_protocol.proofs.Changes.{Change, Command, commanded, changed, change_by}
+use Rattle.sam_protocol.specs.View.{file_of, file_in}
+use Rattle.sam_protocol.specs.Steady.{HasFiles}
+use Rattle.sam_protocol.proofs.Accepting.{Synced}
 use Rattle.sam_protocol.proofs.Runs.{run-append_some}
-use Rattle.sam_protocol.proofs.Kept.{settled_slot, if_passes}
-use Rattle.sam_protocol.proofs.Texts.{agrees_grown}
-use Rattle.sam_protocol.proofs.Making.{guarded_by, guarded_before, no_close_behind, no_close_skips, made, bool_cases, put_other, put_same, not_done, both, at_file-append, skips_run}
+use Rattle.sam_protocol.proofs.Kept.{settled_slot}
+use Rattle.sam_protocol.proofs.HostFiles.{bool_cases, put, put_other, put_same, put_again, file_in-put, file_in-free, file_in-push, not_given, in_slots, shown_at, file_opened, file_hidden, file_named, put_opened, Opens, Lasts, lasts_same, lasts_then, lasts_put, lasts_opened, still_has, works_on}
+use Rattle.sam_protocol.proofs.Tests.{test, last_test, window_tests}
+use Rattle.sam_protocol.proofs.Guards.{guarded_by, guarded_before, no_close_behind, no_close_skips, kept_by, at_file-append, skips_run}
+use Rattle.sam_protocol.proofs.Telling.{Told, Rewrites, tells_there, tells_elsewhere, told-append, told_when, told_grown, told_dot, told_check, told_opened}
 
--- with the command lock held and no other, the actions take the slot to one that fits the file
+-- ## Frames while the command lock is held and no other
+
+-- they take the slot to one that fits the file
 pub record Moves (u : List Action) (d : Bool) (n : ℕ) (s : Slot) (file : HFile) : Type 0 where
   pub slot : Slot
   pub runs : run u (lens true d n s) ≡ Some (lens true d n slot)
@@ -23,9 +43,47 @@ and_moves u w d n s file file2 m k =
     let m2 = k m.slot m.fits in
     record { slot = m2.slot; runs = run-append_some u w (lens true d n s) (lens true d n m.slot) m.runs ∙ m2.runs; fits = m2.fits; no_close = no_close_behind u w m.no_close m2.no_close }
 
+-- one action first
+pub and_first : (a : Action) (u : List Action) (d : Bool) (n : ℕ) (s s2 : Slot) (file : HFile) → move a (lens true d n s) ≡ Some (lens true d n s2) → is_close a ≡ false → Moves u d n s2 file → Moves (a ∷ u) d n s file
+and_first a u d n s s2 file e c m = record { slot = m.slot; runs = ap (λ (o : Option Lens). and_then o (run u)) e ∙ m.runs; fits = m.fits; no_close = ap (λ (b : Bool). b || closes u) c ∙ m.no_close }
+
+pub moves_rewrite : (u : List Action) (t t2 : List ℕ) (d : Bool) (n : ℕ) (s : Slot) → Rewrites u t t2 → Fits_slot s (Opened t) → Moves u d n s (Opened t2)
+moves_rewrite u t t2 d n Unknown x f = absurd f
+moves_rewrite u t t2 d n Known x f = absurd f
+moves_rewrite u t t2 d n (Open r k) x f = let e = x.runs true d n r k f.1 in record { slot = Open e.rasp k; runs = e.is; fits = (f.0, e.agrees); no_close = x.no_close }
+
+-- they take each slot that fits the files a to one that fits the files b, and b has what a has
+pub record Carries (d : Bool) (n : ℕ) (a : ℕ → HFile) (frames : List Hmesg) (b : ℕ → HFile) : Type 0 where
+  pub moves : (g : ℕ) (s : Slot) → Fits_slot s (a g) → Moves (at_file g frames) d n s (b g)
+  pub lasts : Lasts a b
+
+pub carries_nothing : (d : Bool) (n : ℕ) (a b : ℕ → HFile) → ((g : ℕ) → b g ≡ a g) → Carries d n a [] b
+carries_nothing d n a b same = record { moves = λ g s x. stays_put [] d n s (b g) tt (subst (Fits_slot s) (sym (same g)) x); lasts = lasts_same a b same }
+
+pub carries-append : (d : Bool) (n : ℕ) (a b c : ℕ → HFile) (u w : List Hmesg) → Carries d n a u b → Carries d n b w c → Carries d n a (u ++ w) c
+carries-append d n a b c u w x y = record {
+  moves = λ g s f. subst (λ (v : List Action). Moves v d n s (c g)) (sym (at_file-append g u w)) (and_moves (at_file g u) (at_file g w) d n s (b g) (c g) (x.moves g s f) (λ s2 f2. y.moves g s2 f2));
+  lasts = lasts_then a b c x.lasts y.lasts;
+}
+
+-- frames about the file f alone
+pub carries_at : (d : Bool) (n : ℕ) (a b : ℕ → HFile) (f : ℕ) (frames : List Hmesg) (acts : List Action) (x : HFile) → ((g : ℕ) → at_file g frames ≡ map (only (g == f)) acts) → ((g : ℕ) → b g ≡ put a f x g)
+    → ((s : Slot) → Fits_slot s (a f) → Moves acts d n s x) → Lasts a b → Carries d n a frames b
+carries_at d n a b f frames acts x tells is there lasts = record { moves = λ g s y. subst (Moves (at_file g frames) d n s) (sym (is g)) (go g s y (bool_cases (g == f))); lasts = lasts }
+  where
+    go : (g : ℕ) (s : Slot) → Fits_slot s (a g) → ((g == f) ≡ true) ⊎ ((g == f) ≡ false) → Moves (at_file g frames) d n s (put a f x g)
+    go g s y (inl e) =
+        subst (λ (b : Bool). Moves (at_file g frames) d n s (if b then x else a g)) (sym e)
+        (subst (λ (u : List Action). Moves u d n s x) (sym (tells_there f g frames acts (tells g) e)) (there s (subst (λ (k : ℕ). Fits_slot s (a k)) (eqb-true g f e) y)))
+    go g s y (inr e) = subst (λ (b : Bool). Moves (at_file g frames) d n s (if b then x else a g)) (sym e) (stays_put _ d n s (a g) (tells_elsewhere f g frames acts (tells g) e) y)
+
+-- and that file is open
+pub carries_told : (d : Bool) (n : ℕ) (a b : ℕ → HFile) (f : ℕ) (frames : List Hmesg) (t t2 : List ℕ) → a f ≡ Opened t → ((g : ℕ) → b g ≡ put a f (Opened t2) g) → Told f frames t t2 → Carries d n a frames b
+carries_told d n a b f frames t t2 e is told = carries_at d n a b f frames told.acts (Opened t2) told.tells is (λ s x. moves_rewrite told.acts t t2 d n s told.rewrites (subst (Fits_slot s) e x)) (lasts_opened a b f t t2 e is)
+
 -- Hunlock ends it
 pub unlocks : (u : List Action) (d : Bool) (n : ℕ) (s : Slot) (file : HFile) → Moves u d n s file → IsKept (u ++ Free_command ∷ []) (lens true d n s) d n file
-unlocks u d n s file m = made (u ++ Free_command ∷ []) (lens true d n s) (lens false d n m.slot) d n file
+unlocks u d n s file m = kept_by (u ++ Free_command ∷ []) (lens true d n s) (lens false d n m.slot) d n file
     (run-append_some u (Free_command ∷ []) (lens true d n s) (lens true d n m.slot) m.runs) (refl, refl, refl, m.fits)
     (guarded_before u (Free_command ∷ []) refl (guarded_by (Free_command ∷ []) refl)) (no_close_behind u (Free_command ∷ []) m.no_close refl)
 
@@ -41,41 +99,57 @@ pub exits_kept : (u : List Action) (d : Bool) (n : ℕ) (s : Slot) (file : HFile
 exits_kept u d n s file m = go m.slot m.runs m.fits
   where
     go : (s2 : Slot) → run u (lens true d n s) ≡ Some (lens true d n s2) → Fits_slot s2 file → IsKept (u ++ Exit ∷ []) (lens true d n s) true n file
-    go Unknown r f = made (u ++ Exit ∷ []) (lens true d n s) (lens false true n Unknown) true n file (run-append_some u (Exit ∷ []) (lens true d n s) _ r) (refl, refl, refl, f)
+    go Unknown r f = kept_by (u ++ Exit ∷ []) (lens true d n s) (lens false true n Unknown) true n file (run-append_some u (Exit ∷ []) (lens true d n s) _ r) (refl, refl, refl, f)
         (guarded_before u (Exit ∷ []) refl (guarded_by (Exit ∷ []) refl)) (no_close_behind u (Exit ∷ []) m.no_close refl)
-    go Known r f = made (u ++ Exit ∷ []) (lens true d n s) (lens false true n Known) true n file (run-append_some u (Exit ∷ []) (lens true d n s) _ r) (refl, refl, refl, f)
+    go Known r f = kept_by (u ++ Exit ∷ []) (lens true d n s) (lens false true n Known) true n file (run-append_some u (Exit ∷ []) (lens true d n s) _ r) (refl, refl, refl, f)
         (guarded_before u (Exit ∷ []) refl (guarded_by (Exit ∷ []) refl)) (no_close_behind u (Exit ∷ []) m.no_close refl)
-    go (Open rasp k) r f = made (u ++ Exit ∷ []) (lens true d n s) (lens false true n (Open rasp 0)) true n file (run-append_some u (Exit ∷ []) (lens true d n s) _ r) (refl, refl, refl, exit_fits rasp k file f)
+    go (Open rasp k) r f = kept_by (u ++ Exit ∷ []) (lens true d n s) (lens false true n (Open rasp 0)) true n file (run-append_some u (Exit ∷ []) (lens true d n s) _ r) (refl, refl, refl, exit_fits rasp k file f)
         (guarded_before u (Exit ∷ []) refl (guarded_by (Exit ∷ []) refl)) (no_close_behind u (Exit ∷ []) m.no_close refl)
 
-pub record CommandCase (tools : Tools) (h : Host) (m : Tmesg) : Type 0 where
-  pub reply : Answer
-  pub folds : answer tools h m ≡ Some reply
-  pub each : (g : ℕ) (s : Slot) → Fits_slot s (h.file g) → IsKept (at_file g reply.frames) (lens true h.done h.version s) reply.host.done reply.host.version (reply.host.file g)
-  pub gone : (g : ℕ) → h.file g ≡ Gone → reply.host.file g ≡ Gone
-  pub sound : HostOk reply.host
+-- ## A message that takes the command lock
 
-pub command_case : (tools : Tools) (h : Host) (m : Tmesg) → ((g : ℕ) (v : Lens) → changed (change_of tools m) g v ≡ commanded v) → CommandCase tools h m → Sync tools h m
-command_case tools h m c k = record { reply = k.reply; folds = k.folds; each = each; gone = k.gone; sound = k.sound }
+pub commands : (h : PlainHost) (m : Tmesg) → change_by m ≡ Command → first_of_checks (host_checks h m) ≡ None
+    → ((g : ℕ) (s : Slot) → Fits_slot s (file_in h.files.slots g) → IsKept (at_file g (reply_to h m).1) (lens true h.is_done h.version s) (reply_to h m).0.is_done (reply_to h m).0.version (file_in (reply_to h m).0.files.slots g))
+    → ((g : ℕ) → file_in h.files.slots g ≡ Gone → file_in (reply_to h m).0.files.slots g ≡ Gone) → HasFiles (reply_to h m).0.files → Synced h m
+commands h m c passes each gone sound = record { passes = passes; each = kept; gone = gone; sound = sound }
   where
-    each : (g : ℕ) (w : Lens) → IsSettled w h.done h.version (h.file g) → IsKept (at_file g k.reply.frames) (changed (change_of tools m) g w) k.reply.host.done k.reply.host.version (k.reply.host.file g)
-    each g w x =
-        let s = settled_slot w h.done h.version (h.file g) x in
-        let v : lens true h.done h.version s.0 ≡ changed (change_of tools m) g w = ap commanded (sym s.1) ∙ sym (c g w) in
-        subst (λ (y : Lens). IsKept (at_file g k.reply.frames) y k.reply.host.done k.reply.host.version (k.reply.host.file g)) v (k.each g s.0 s.2)
+    r : Reply
+    r = reply_to h m
 
--- Hunlock alone
-pub only_unlock : (d : Bool) (n : ℕ) (s : Slot) (file : HFile) → Fits_slot s file → IsKept (Free_command ∷ []) (lens true d n s) d n file
-only_unlock d n s file f = unlocks [] d n s file (stays_put [] d n s file tt f)
+    kept : (g : ℕ) (w : Lens) → IsSettled w h.is_done h.version (file_in h.files.slots g) → IsKept (at_file g r.1) (changed (change_by m) g w) r.0.is_done r.0.version (file_in r.0.files.slots g)
+    kept g w x =
+        let s = settled_slot w h.is_done h.version (file_in h.files.slots g) x in
+        subst (λ (y : Lens). IsKept (at_file g r.1) y r.0.is_done r.0.version (file_in r.0.files.slots g)) (ap commanded (sym s.1) ∙ sym (ap (λ (k : Change). changed k g w) c)) (each g s.0 s.2)
 
-pub sync_exit : (tools : Tools) (h : Host) → h.done ≡ false → HostOk h → Sync tools h Texit
-sync_exit tools h d k = command_case tools h Texit (λ g v. refl) (record {
-  reply = record { host = record h { done = true }; frames = Hexit ∷ [] };
-  folds = not_done tools h Texit _ d refl;
-  each = λ g s f. exits_kept [] h.done h.version s (h.file g) (stays_put [] h.done h.version s (h.file g) tt f);
-  gone = λ g q. q;
-  sound = k;
-})
+-- what a reply owes that ends the command lock: where the host is the same but for its files
+pub record Unlocked (h : PlainHost) (r : Reply) : Type 0 where
+  pub each : (g : ℕ) (s : Slot) → Fits_slot s (file_in h.files.slots g) → IsKept (at_file g r.1) (lens true h.is_done h.version s) r.0.is_done r.0.version (file_in r.0.files.slots g)
+  pub gone : (g : ℕ) → file_in h.files.slots g ≡ Gone → file_in r.0.files.slots g ≡ Gone
+  pub sound : HasFiles r.0.files
+
+pub unlocked : (h : PlainHost) (fs : PlainFiles) (front : List Hmesg) → Carries h.is_done h.version (file_in h.files.slots) front (file_in fs.slots) → HasFiles fs → Unlocked h (with_files h fs, front ++ Hunlock ∷ [])
+unlocked h fs front c sound = record {
+  each = λ g s x. subst (λ (u : List Action). IsKept u (lens true h.is_done h.version s) h.is_done h.version (file_in fs.slots g)) (sym (at_file-append g front (Hunlock ∷ []))) (unlocks (at_file g front) h.is_done h.version s (file_in fs.slots g) (c.moves g s x));
+  gone = c.lasts.gone;
+  sound = sound;
+}
+
+pub unlocked_if : (h : PlainHost) (b : Bool) (x y : Reply) → (b ≡ true → Unlocked h x) → (b ≡ false → Unlocked h y) → Unlocked h (if b then x else y)
+unlocked_if h true x y p q = p refl
+unlocked_if h false x y p q = q refl
+
+-- nothing but the lock is freed
+pub unlocked_only : (h : PlainHost) → HasFiles h.files → Unlocked h (h, Hunlock ∷ [])
+unlocked_only h sound = record { each = λ g s x. unlocks [] h.is_done h.version s (file_in h.files.slots g) (stays_put [] h.is_done h.version s (file_in h.files.slots g) tt x); gone = λ g e. e; sound = sound }
+
+pub sync_by : (h : PlainHost) (m : Tmesg) → change_by m ≡ Command → first_of_checks (host_checks h m) ≡ None → Unlocked h (reply_to h m) → Synced h m
+sync_by h m c passes x = commands h m c passes x.each x.gone x.sound
+
+-- ## The messages
+
+pub sync_exit : (h : PlainHost) → HasFiles h.files → Synced h Texit
+unfolding reply_exit
+sync_exit h sound = commands h Texit refl refl (λ g s f. exits_kept [] h.is_done h.version s (file_in h.files.slots g) (stays_put [] h.is_done h.version s (file_in h.files.slots g) tt f)) (λ g e. e) sound
 
 -- a file is closed for good
 close_there : (d : Bool) (n : ℕ) (s : Slot) (t : List ℕ) → Fits_slot s (Opened t) → IsKept (Close ∷ Leave ∷ Free_command ∷ []) (lens true d n s) d n Gone
@@ -83,206 +157,283 @@ close_there d n Unknown t f = absurd f
 close_there d n Known t f = absurd f
 close_there d n (Open r k) t f = record { final = lens false d n Unknown; runs = refl; settled = (refl, refl, refl, tt); guarded = guarded_by (Close ∷ Leave ∷ Free_command ∷ []) refl; closed = λ e. refl }
 
-pub sync_close : (tools : Tools) (h : Host) (f : ℕ) (t : List ℕ) → h.done ≡ false → HostOk h → h.file f ≡ Opened t → (f == 0) ≡ false → Sync tools h (Tclose f)
-sync_close tools h f t d k was z = command_case tools h (Tclose f) (λ g v. refl) (record {
-  reply = record { host = h2; frames = Hclose f ∷ Hdelname f ∷ Hunlock ∷ [] };
-  folds = not_done tools h (Tclose f) _ d (ap (λ (b : Bool). when (not b) (on_open (h.file f) (λ t2. reply h2 (Hclose f ∷ Hdelname f ∷ Hunlock ∷ [])))) z ∙ ap (λ (x : HFile). on_open x (λ t2. reply h2 (Hclose f ∷ Hdelname f ∷ Hunlock ∷ []))) was);
-  each = λ g s x. each g s x (bool_cases (g == f));
-  gone = λ g q. gone g q (g == f);
-  sound = record { short = λ g. short g (g == f); fresh = λ g lt. fresh g lt (bool_cases (g == f)); works = λ g e. works g h.work (cleared_is h.work g e) (bool_cases (g == f)); commands = commands };
-})
+pub sync_close : (h : PlainHost) (f : ℕ) → HasFiles h.files → Opens h.files f → (f == 0) ≡ false → Synced h (Tclose f)
+unfolding reply_close
+sync_close h f sound o z = commands h (Tclose f) refl (window_tests h f o z [] refl)
+    (λ g s x. subst (IsKept (only (g == f) Close ∷ only (g == f) Leave ∷ Free_command ∷ []) (lens true h.is_done h.version s) h.is_done h.version) (sym (files g)) (each g s x (bool_cases (g == f))))
+    (λ g e. files g ∙ gone g e (g == f))
+    (record { works = λ g e. works g h.files.work (cleared_is h.files.work g e); commands = subst IsCommandFile (sym (files 0)) (command (bool_cases (0 == f))) })
   where
-    h2 : Host
-    h2 = record h { file = put h.file f Gone; work = cleared h.work f }
+    a : ℕ → HFile
+    a = file_in h.files.slots
 
-    each : (g : ℕ) (s : Slot) → Fits_slot s (h.file g) → ((g == f) ≡ true) ⊎ ((g == f) ≡ false) → IsKept (only (g == f) Close ∷ only (g == f) Leave ∷ Free_command ∷ []) (lens true h.done h.version s) h.done h.version (put h.file f Gone g)
-    each g s x (inl e) = subst (λ (b : Bool). IsKept (only b Close ∷ only b Leave ∷ Free_command ∷ []) (lens true h.done h.version s) h.done h.version (choose b Gone (h.file g))) (sym e)
-        (close_there h.done h.version s t (subst (Fits_slot s) (ap h.file (eqb-true _ _ e) ∙ was) x))
-    each g s x (inr e) = subst (λ (b : Bool). IsKept (only b Close ∷ only b Leave ∷ Free_command ∷ []) (lens true h.done h.version s) h.done h.version (choose b Gone (h.file g))) (sym e)
-        (unlocks (Skip ∷ Skip ∷ []) h.done h.version s (h.file g) (stays_put (Skip ∷ Skip ∷ []) h.done h.version s (h.file g) (refl, (refl, tt)) x))
+    files : (g : ℕ) → file_in (free_slot h.files.slots f) g ≡ put a f Gone g
+    files = file_in-free h.files.slots f o.given
 
-    gone : (g : ℕ) → h.file g ≡ Gone → (b : Bool) → choose b Gone (h.file g) ≡ Gone
+    each : (g : ℕ) (s : Slot) → Fits_slot s (a g) → ((g == f) ≡ true) ⊎ ((g == f) ≡ false) → IsKept (only (g == f) Close ∷ only (g == f) Leave ∷ Free_command ∷ []) (lens true h.is_done h.version s) h.is_done h.version (put a f Gone g)
+    each g s x (inl e) = subst (λ (b : Bool). IsKept (only b Close ∷ only b Leave ∷ Free_command ∷ []) (lens true h.is_done h.version s) h.is_done h.version (if b then Gone else a g)) (sym e)
+        (close_there h.is_done h.version s (file_at h.files f).text (subst (Fits_slot s) (ap a (eqb-true _ _ e) ∙ o.shown) x))
+    each g s x (inr e) = subst (λ (b : Bool). IsKept (only b Close ∷ only b Leave ∷ Free_command ∷ []) (lens true h.is_done h.version s) h.is_done h.version (if b then Gone else a g)) (sym e)
+        (unlocks (Skip ∷ Skip ∷ []) h.is_done h.version s (a g) (stays_put (Skip ∷ Skip ∷ []) h.is_done h.version s (a g) (refl, (refl, tt)) x))
+
+    gone : (g : ℕ) → a g ≡ Gone → (b : Bool) → (if b then Gone else a g) ≡ Gone
     gone g q true = refl
     gone g q false = q
 
-    short : (g : ℕ) (b : Bool) → length (text_of (choose b Gone (h.file g))) ≤ limit
-    short g true = omega arith
-    short g false = k.short g
-
-    fresh : (g : ℕ) → h.given < g → ((g == f) ≡ true) ⊎ ((g == f) ≡ false) → put h.file f Gone g ≡ Absent
-    fresh g lt (inl q) = let x : Opened t ≡ Absent = sym was ∙ sym (ap h.file (eqb-true _ _ q)) ∙ k.fresh g lt in cc
-    fresh g lt (inr q) = put_other h.file f Gone g q ∙ k.fresh g lt
-
-    cleared_is : (o : Option ℕ) (g : ℕ) → cleared o f ≡ Some g → (o ≡ Some g) × ((g == f) ≡ false)
+    cleared_is : (w : Option ℕ) (g : ℕ) → work_without f w ≡ Some g → (w ≡ Some g) × ((g == f) ≡ false)
     cleared_is None g e = cc
     cleared_is (Some x) g e = go (bool_cases (x == f)) e
       where
-        go : ((x == f) ≡ true) ⊎ ((x == f) ≡ false) → choose (x == f) None (Some x) ≡ Some g → (Some x ≡ Some g) × ((g == f) ≡ false)
-        go (inl q) e = let y : None ≡ Some g = sym (ap (λ (b : Bool). choose b None (Some x)) q) ∙ e in cc
-        go (inr q) e = let y : Some x ≡ Some g = sym (ap (λ (b : Bool). choose b None (Some x)) q) ∙ e in let z2 : x ≡ g = cc in (y, subst (λ (v : ℕ). (v == f) ≡ false) z2 q)
+        go : ((x == f) ≡ true) ⊎ ((x == f) ≡ false) → (if x == f then None else Some x) ≡ Some g → (Some x ≡ Some g) × ((g == f) ≡ false)
+        go (inl q) e = let y : None ≡ Some g = sym (ap (λ (b : Bool). if b then None else Some x) q) ∙ e in cc
+        go (inr q) e = let y : Some x ≡ Some g = sym (ap (λ (b : Bool). if b then None else Some x) q) ∙ e in let z2 : x ≡ g = cc in (y, subst (λ (v : ℕ). (v == f) ≡ false) z2 q)
 
-    works : (g : ℕ) (o : Option ℕ) → (h.work ≡ Some g) × ((g == f) ≡ false) → ((g == f) ≡ true) ⊎ ((g == f) ≡ false) → IsOpened (put h.file f Gone g) × ((g == 0) ≡ false)
-    works g o q c = (subst IsOpened (sym (put_other h.file f Gone g q.1)) (k.works g q.0).0, (k.works g q.0).1)
+    works : (g : ℕ) (w : Option ℕ) → (h.files.work ≡ Some g) × ((g == f) ≡ false) → IsOpened (file_in (free_slot h.files.slots f) g) × ((g == 0) ≡ false)
+    works g w q = (subst IsOpened (sym (files g ∙ put_other a f Gone g q.1)) (sound.works g q.0).0, (sound.works g q.0).1)
 
-    commands : IsCommandFile (put h.file f Gone 0)
-    commands = go (bool_cases (0 == f))
+    command : ((0 == f) ≡ true) ⊎ ((0 == f) ≡ false) → IsCommandFile (put a f Gone 0)
+    command (inl q) = let x : f ≡ 0 = sym (eqb-true _ _ q) in absurd (true≢false (sym (eq-eqb f 0 x) ∙ z))
+    command (inr q) = subst IsCommandFile (sym (put_other a f Gone 0 q)) sound.commands
+
+-- a window of a file that the terminal knows: bound, and as long as the text
+bind_moves : (f : ℕ) (x : PlainFile) (d : Bool) (n : ℕ) (s : Slot) (told : Told f (told_length f x) [] x.text) → Fits_slot s (Named x.text) → Moves (Bind ∷ told.acts) d n s (Opened x.text)
+bind_moves f x d n Unknown told y = absurd y
+bind_moves f x d n Known told y = and_first Bind told.acts d n Known (Open [] 0) (Opened x.text) refl refl (moves_rewrite told.acts [] x.text d n (Open [] 0) told.rewrites (refl, tt))
+bind_moves f x d n (Open r k) told y = absurd y
+
+pub sync_start : (h : PlainHost) (f : ℕ) (x : PlainFile) → HasFiles h.files → AreFit h.files → slot h.files.slots f ≡ Some x → (f == 0) ≡ false → ((file_at h.files f).opened ≡ true) ⊎ (((file_at h.files f).opened ≡ false) × ((file_at h.files f).announced ≡ true)) → Synced h (Tstartfile f)
+unfolding reply_startfile when
+sync_start h f x sound fit e z c =
+    sync_by h (Tstartfile f) refl (test (not (has_file h.files f)) NoFile (is_command f ∷ []) (ap (λ (b : Bool). not b) (ap is_some e)) (last_test (f == 0) CommandFile z))
+    (unlocked h fs (when (not file.opened) (Hbindname f ∷ told_length f file)) carries (works_on h.files fs f sound refl z (subst IsOpened (sym (files f ∙ put_same a f (Opened file.text))) tt) carries.lasts))
+  where
+    file : PlainFile
+    file = file_at h.files f
+
+    fs : PlainFiles
+    fs = record (put_file h.files f (record file { opened = true })) { work = Some f }
+
+    a : ℕ → HFile
+    a = file_in h.files.slots
+
+    files : (g : ℕ) → file_in fs.slots g ≡ put a f (Opened file.text) g
+    files = put_opened h.files f (in_slots h.files f x e) (record file { opened = true }) refl
+
+    shown : a f ≡ file_of file
+    shown = shown_at h.files f x e
+
+    told : Told f (told_length f file) [] file.text
+    told = told_opened f file (fit f).2
+
+    binds : file.opened ≡ false → file.announced ≡ true → Carries h.is_done h.version a (Hbindname f ∷ told_length f file) (file_in fs.slots)
+    binds w n =
+        let named : a f ≡ Named file.text = shown ∙ file_named file w n in
+        carries_at h.is_done h.version a (file_in fs.slots) f (Hbindname f ∷ told_length f file) (Bind ∷ told.acts) (Opened file.text) (λ g. ap (λ (u : List Action). only (g == f) Bind ∷ u) (told.tells g)) files
+        (λ s y. bind_moves f file h.is_done h.version s told (subst (Fits_slot s) named y))
+        (lasts_put a (file_in fs.slots) f (Opened file.text) (λ q. let y : Named file.text ≡ Gone = sym named ∙ q in cc) (λ y. tt) (λ q y. tt) files)
+
+    when_false : file.opened ≡ true → when (not file.opened) (Hbindname f ∷ told_length f file) ≡ []
+    when_false w = ap (λ (b : Bool). when (not b) (Hbindname f ∷ told_length f file)) w
+
+    when_true : file.opened ≡ false → when (not file.opened) (Hbindname f ∷ told_length f file) ≡ Hbindname f ∷ told_length f file
+    when_true w = ap (λ (b : Bool). when (not b) (Hbindname f ∷ told_length f file)) w
+
+    carries : Carries h.is_done h.version a (when (not file.opened) (Hbindname f ∷ told_length f file)) (file_in fs.slots)
+    carries = go c
       where
-        go : ((0 == f) ≡ true) ⊎ ((0 == f) ≡ false) → IsCommandFile (put h.file f Gone 0)
-        go (inl q) = let x : f ≡ 0 = sym (eqb-true _ _ q) in absurd (true≢false (sym (eq-eqb f 0 x) ∙ z))
-        go (inr q) = subst IsCommandFile (sym (put_other h.file f Gone 0 q)) k.commands
+        go : (file.opened ≡ true) ⊎ ((file.opened ≡ false) × (file.announced ≡ true)) → Carries h.is_done h.version a (when (not file.opened) (Hbindname f ∷ told_length f file)) (file_in fs.slots)
+        go (inl w) = subst (λ (u : List Hmesg). Carries h.is_done h.version a u (file_in fs.slots)) (sym (when_false w)) (carries_nothing h.is_done h.version a (file_in fs.slots) (λ g. files g ∙ sym (put_again a f (Opened file.text) g (shown ∙ file_opened file w))))
+        go (inr w) = subst (λ (u : List Hmesg). Carries h.is_done h.version a u (file_in fs.slots)) (sym (when_true w.0)) (binds w.0 w.1)
 
--- a file that is opened grows to its length
-opened_moves : (g f : ℕ) (t : List ℕ) (d : Bool) (n : ℕ) → (g == f) ≡ true → length t ≤ limit → Moves (at_file g (grown_to f t)) d n (Open [] 0) (Opened t)
-opened_moves g f [] d n e l = record { slot = Open [] 0; runs = refl; fits = (refl, tt); no_close = refl }
-opened_moves g f (x ∷ t) d n e l =
-    let m = length (x ∷ t) in
-    let r : List (Option ℕ) = grown 0 m [] in
-    let l1 : 0 ≤ length {A = Option ℕ} [] = omega arith in
-    let l2 : length {A = Option ℕ} [] + m ≤ limit = omega arith in
-    record {
-      slot = Open r 0;
-      runs = ap (λ (b : Bool). run (only b (Grow 0 m) ∷ []) (lens true d n (Open [] 0))) e ∙ if_passes _ (lens true d n (Open r 0)) (run []) _ (both _ _ (le-leb _ _ l1) (le-leb _ _ l2)) refl;
-      fits = (refl, subst (Agrees r) (append-nil (x ∷ t)) (agrees_grown 0 (x ∷ t) [] [] tt));
-      no_close = ap (λ (b : Bool). closes (only b (Grow 0 m) ∷ [])) e;
-    }
+-- the command file is announced and opened at once
+first_moves : (x : PlainFile) (d : Bool) (n : ℕ) (s : Slot) (told : Told 0 (told_length 0 x) [] x.text) → Fits_slot s (Hidden x.text) → Moves (Join ∷ Needs_known ∷ Bind ∷ told.acts) d n s (Opened x.text)
+first_moves x d n Unknown told y =
+    and_first Join (Needs_known ∷ Bind ∷ told.acts) d n Unknown Known (Opened x.text) refl refl
+    (and_first Needs_known (Bind ∷ told.acts) d n Known Known (Opened x.text) refl refl (bind_moves 0 x d n Known told tt))
+first_moves x d n Known told y = absurd y
+first_moves x d n (Open r k) told y = absurd y
 
-opened_elsewhere : (g f : ℕ) (t : List ℕ) → (g == f) ≡ false → AreSkips (at_file g (grown_to f t))
-opened_elsewhere g f [] e = tt
-opened_elsewhere g f (x ∷ t) e = (ap (λ (b : Bool). only b (Grow 0 (length (x ∷ t)))) e, tt)
-
--- one action first
-pub and_first : (a : Action) (u : List Action) (d : Bool) (n : ℕ) (s s2 : Slot) (file : HFile) → move a (lens true d n s) ≡ Some (lens true d n s2) → is_close a ≡ false → Moves u d n s2 file → Moves (a ∷ u) d n s file
-and_first a u d n s s2 file e c m = record { slot = m.slot; runs = ap (λ (o : Option Lens). and_then o (run u)) e ∙ m.runs; fits = m.fits; no_close = ap (λ (b : Bool). b || closes u) c ∙ m.no_close }
-
-bind_moves : (g f : ℕ) (s : Slot) (t : List ℕ) (d : Bool) (n : ℕ) → (g == f) ≡ true → length t ≤ limit → Fits_slot s (Named t) → Moves (only (g == f) Bind ∷ at_file g (grown_to f t)) d n s (Opened t)
-bind_moves g f Unknown t d n e l x = absurd x
-bind_moves g f Known t d n e l x = subst (λ (b : Bool). Moves (only b Bind ∷ at_file g (grown_to f t)) d n Known (Opened t)) (sym e) (and_first Bind (at_file g (grown_to f t)) d n Known (Open [] 0) (Opened t) refl refl (opened_moves g f t d n e l))
-bind_moves g f (Open r k) t d n e l x = absurd x
-
--- an announced or hidden file is opened
-ok_open : (m : ℕ → HFile) (given : ℕ) (work : Option ℕ) (f : ℕ) (t : List ℕ) → FilesOk m given work → length t ≤ limit → (given < f → ⊥) → FilesOk (put m f (Opened t)) given work
-ok_open m given work f t k l lt = record {
-  short = λ g. short g (g == f);
-  fresh = λ g x. fresh g x (bool_cases (g == f));
-  works = λ g q. (works g (g == f) (k.works g q).0, (k.works g q).1);
-  commands = commands (0 == f);
-}
+pub sync_first : (h : PlainHost) (x : PlainFile) → HasFiles h.files → AreFit h.files → slot h.files.slots 0 ≡ Some x → ((file_at h.files 0).opened ≡ true) ⊎ (((file_at h.files 0).opened ≡ false) × ((file_at h.files 0).announced ≡ false)) → Synced h Tstartcmdfile
+unfolding reply_startcmdfile
+sync_first h x sound fit e c =
+    sync_by h Tstartcmdfile refl refl
+    (unlocked_if h file.opened (h, Hunlock ∷ []) (with_files h fs, (Hnewname 0 ∷ Hmovname 0 command_name ∷ Hbindname 0 ∷ told_length 0 file) ++ Hunlock ∷ []) (λ w. unlocked_only h sound) (λ w. opening w (hidden w c)))
   where
-    short : (g : ℕ) (b : Bool) → length (text_of (choose b (Opened t) (m g))) ≤ limit
-    short g true = l
-    short g false = k.short g
+    file : PlainFile
+    file = file_at h.files 0
 
-    fresh : (g : ℕ) → given < g → ((g == f) ≡ true) ⊎ ((g == f) ≡ false) → put m f (Opened t) g ≡ Absent
-    fresh g x (inl q) = absurd (lt (subst (λ (y : ℕ). given < y) (eqb-true _ _ q) x))
-    fresh g x (inr q) = put_other m f (Opened t) g q ∙ k.fresh g x
+    fs : PlainFiles
+    fs = put_file h.files 0 (record file { opened = true })
 
-    works : (g : ℕ) (b : Bool) → IsOpened (m g) → IsOpened (choose b (Opened t) (m g))
-    works g true o = tt
-    works g false o = o
+    a : ℕ → HFile
+    a = file_in h.files.slots
 
-    commands : (b : Bool) → IsCommandFile (choose b (Opened t) (m 0))
-    commands true = tt
-    commands false = k.commands
+    told : Told 0 (told_length 0 file) [] file.text
+    told = told_opened 0 file (fit 0).2
 
-not_fresh : (m : ℕ → HFile) (given : ℕ) (work : Option ℕ) (f : ℕ) → FilesOk m given work → (m f ≡ Absent → ⊥) → given < f → ⊥
-not_fresh m given work f k there lt = there (k.fresh f lt)
+    hidden : file.opened ≡ false → (file.opened ≡ true) ⊎ ((file.opened ≡ false) × (file.announced ≡ false)) → file.announced ≡ false
+    hidden w (inl q) = absurd (true≢false (sym q ∙ w))
+    hidden w (inr q) = q.1
 
-pub sync_start : (tools : Tools) (h : Host) (f : ℕ) (t : List ℕ) → h.done ≡ false → HostOk h → (f == 0) ≡ false → h.file f ≡ Named t → Sync tools h (Tstartfile f)
-sync_start tools h f t d k z was = command_case tools h (Tstartfile f) (λ g v. refl) (record {
-  reply = record { host = h2; frames = Hbindname f ∷ (grown_to f t ++ Hunlock ∷ []) };
-  folds = not_done tools h (Tstartfile f) _ d (ap (λ (b : Bool). when (not b) (started h (h.file f) f)) z ∙ ap (λ (x : HFile). started h x f) was);
-  each = λ g s x. each g s x (bool_cases (g == f));
-  gone = λ g q. gone g q (bool_cases (g == f));
-  sound = sound (ok_open h.file h.given h.work f t k long (not_fresh h.file h.given h.work f k (λ e. absurd_file e)));
-})
+    opening : file.opened ≡ false → file.announced ≡ false → Unlocked h (with_files h fs, (Hnewname 0 ∷ Hmovname 0 command_name ∷ Hbindname 0 ∷ told_length 0 file) ++ Hunlock ∷ [])
+    opening w n =
+        let shown : a 0 ≡ Hidden file.text = shown_at h.files 0 x e ∙ file_hidden file w n in
+        let files : (g : ℕ) → file_in fs.slots g ≡ put a 0 (Opened file.text) g = put_opened h.files 0 (in_slots h.files 0 x e) (record file { opened = true }) refl in
+        let lasts : Lasts a (file_in fs.slots) = lasts_put a (file_in fs.slots) 0 (Opened file.text) (λ q. let y : Hidden file.text ≡ Gone = sym shown ∙ q in cc) (λ y. tt) (λ q y. tt) files in
+        unlocked h fs (Hnewname 0 ∷ Hmovname 0 command_name ∷ Hbindname 0 ∷ told_length 0 file)
+        (carries_at h.is_done h.version a (file_in fs.slots) 0 (Hnewname 0 ∷ Hmovname 0 command_name ∷ Hbindname 0 ∷ told_length 0 file) (Join ∷ Needs_known ∷ Bind ∷ told.acts) (Opened file.text)
+        (λ g. ap (λ (u : List Action). only (g == 0) Join ∷ only (g == 0) Needs_known ∷ only (g == 0) Bind ∷ u) (told.tells g)) files
+        (λ s y. first_moves file h.is_done h.version s told (subst (Fits_slot s) shown y)) lasts)
+        (still_has h.files fs sound refl lasts)
+
+-- ## What is printed at the end of tag 0
+
+end_is : (t s : List ℕ) → ins t (length t) s ≡ t ++ s
+end_is t s =
+    let l : length t ≤ length t = omega arith in
+    (λ i. take_all (length t) t l i ++ s ++ drop_all (length t) t l i) ∙ append-nil (t ++ s)
+
+-- of a file that is not open nothing is told, whatever its text
+shut_fits : (x : PlainFile) (u : List ℕ) (s : Slot) → x.opened ≡ false → Fits_slot s (file_of x) → Fits_slot s (file_of (record x { text = u }))
+shut_fits x u s e y = subst (λ (b : Bool). Fits_slot s (if b then Opened u else if x.announced then Named u else Hidden u)) (sym e) (go x.announced s (subst (λ (b : Bool). Fits_slot s (if b then Opened x.text else if x.announced then Named x.text else Hidden x.text)) e y))
   where
-    h2 : Host
-    h2 = record h { file = put h.file f (Opened t); work = Some f }
+    go : (n : Bool) (s : Slot) → Fits_slot s (if n then Named x.text else Hidden x.text) → Fits_slot s (if n then Named u else Hidden u)
+    go true Unknown y = y
+    go true Known y = y
+    go true (Open r k) y = y
+    go false Unknown y = y
+    go false Known y = y
+    go false (Open r k) y = y
 
-    long : length t ≤ limit
-    long = subst (λ (x : HFile). length (text_of x) ≤ limit) was (k.short f)
+pub printed_carries : (d : Bool) (n : ℕ) (fs : PlainFiles) (s : List ℕ) (x : PlainFile) → slot fs.slots 0 ≡ Some x → Carries d n (file_in fs.slots) (printed fs s) (file_in (after_print fs s).slots)
+unfolding printed when
+printed_carries d n fs s x e = go (is_printed fs s) refl
+  where
+    file : PlainFile
+    file = file_at fs 0
 
-    absurd_file : h.file f ≡ Absent → ⊥
-    absurd_file e = let x : Named t ≡ Absent = sym was ∙ e in cc
+    t : List ℕ
+    t = file.text
 
-    each : (g : ℕ) (s : Slot) → Fits_slot s (h.file g) → ((g == f) ≡ true) ⊎ ((g == f) ≡ false) → IsKept (at_file g (Hbindname f ∷ (grown_to f t ++ Hunlock ∷ []))) (lens true h.done h.version s) h.done h.version (put h.file f (Opened t) g)
-    each g s x (inl e) = subst (λ (y : HFile). IsKept (at_file g (Hbindname f ∷ (grown_to f t ++ Hunlock ∷ []))) (lens true h.done h.version s) h.done h.version y) (sym (ap (λ (b : Bool). choose b (Opened t) (h.file g)) e))
-        (subst (λ (u : List Action). IsKept (only (g == f) Bind ∷ u) (lens true h.done h.version s) h.done h.version (Opened t)) (sym (at_file-append g (grown_to f t) (Hunlock ∷ [])))
-        (unlocks (only (g == f) Bind ∷ at_file g (grown_to f t)) h.done h.version s (Opened t) (bind_moves g f s t h.done h.version e long (subst (Fits_slot s) (ap h.file (eqb-true _ _ e) ∙ was) x))))
-    each g s x (inr e) = subst (λ (y : HFile). IsKept (at_file g (Hbindname f ∷ (grown_to f t ++ Hunlock ∷ []))) (lens true h.done h.version s) h.done h.version y) (sym (ap (λ (b : Bool). choose b (Opened t) (h.file g)) e))
-        (subst (λ (u : List Action). IsKept (only (g == f) Bind ∷ u) (lens true h.done h.version s) h.done h.version (h.file g)) (sym (at_file-append g (grown_to f t) (Hunlock ∷ [])))
-        (unlocks (only (g == f) Bind ∷ at_file g (grown_to f t)) h.done h.version s (h.file g) (stays_put _ h.done h.version s (h.file g) (ap (λ (b : Bool). only b Bind) e, opened_elsewhere g f t e) x)))
+    a : ℕ → HFile
+    a = file_in fs.slots
 
-    gone : (g : ℕ) → h.file g ≡ Gone → ((g == f) ≡ true) ⊎ ((g == f) ≡ false) → put h.file f (Opened t) g ≡ Gone
-    gone g q (inl e) = let x : Named t ≡ Gone = sym was ∙ sym (ap h.file (eqb-true _ _ e)) ∙ q in cc
-    gone g q (inr e) = put_other h.file f (Opened t) g e ∙ q
+    end : ℕ
+    end = length t + length s
 
-    sound : FilesOk (put h.file f (Opened t)) h.given h.work → FilesOk (put h.file f (Opened t)) h.given (Some f)
-    sound o = record { short = o.short; fresh = o.fresh; works = works; commands = o.commands }
+    told : List Hmesg
+    told = grown fs 0 (length t) s ++ Hsetdot 0 end end ∷ Hcheck 0 ∷ []
+
+    out : PlainFiles
+    out = put_file fs 0 (printed_file file s)
+
+    files : (g : ℕ) → file_in out.slots g ≡ put a 0 (file_of (printed_file file s)) g
+    files = file_in-put fs.slots 0 (printed_file file s) (in_slots fs 0 x e)
+
+    shown : a 0 ≡ file_of file
+    shown = shown_at fs 0 x e
+
+    room : is_printed fs s ≡ true → end ≤ max_runes
+    room q = leb-true end max_runes (right (not (is_empty s)) (has_room fs s) q)
       where
-        works : (g : ℕ) → Some f ≡ Some g → IsOpened (put h.file f (Opened t) g) × ((g == 0) ≡ false)
-        works g e = let q : f ≡ g = cc in subst (λ (x : ℕ). IsOpened (put h.file f (Opened t) x) × ((x == 0) ≡ false)) q (subst IsOpened (sym (put_same h.file f (Opened t))) tt, z)
+        right : (a b : Bool) → (a && b) ≡ true → b ≡ true
+        right true b q = q
+        right false b q = absurd (true≢false (sym q))
 
--- it was open already
-pub sync_start_open : (tools : Tools) (h : Host) (f : ℕ) (t : List ℕ) → h.done ≡ false → HostOk h → (f == 0) ≡ false → h.file f ≡ Opened t → Sync tools h (Tstartfile f)
-sync_start_open tools h f t d k z was = command_case tools h (Tstartfile f) (λ g v. refl) (record {
-  reply = record { host = record h { work = Some f }; frames = Hunlock ∷ [] };
-  folds = not_done tools h (Tstartfile f) _ d (ap (λ (b : Bool). when (not b) (started h (h.file f) f)) z ∙ ap (λ (x : HFile). started h x f) was);
-  each = λ g s x. only_unlock h.done h.version s (h.file g) x;
-  gone = λ g q. q;
-  sound = record { short = k.short; fresh = k.fresh; works = works; commands = k.commands };
-})
-  where
-    works : (g : ℕ) → Some f ≡ Some g → IsOpened (h.file g) × ((g == 0) ≡ false)
-    works g e = let q : f ≡ g = cc in subst (λ (x : ℕ). IsOpened (h.file x) × ((x == 0) ≡ false)) q (subst IsOpened (sym was) tt, z)
-
--- the command file
-cmd_moves : (g : ℕ) (s : Slot) (t : List ℕ) (d : Bool) (n : ℕ) → (g == 0) ≡ true → length t ≤ limit → Fits_slot s (Hidden t) → Moves (only (g == 0) Join ∷ only (g == 0) Needs_known ∷ only (g == 0) Bind ∷ at_file g (grown_to 0 t)) d n s (Opened t)
-cmd_moves g Unknown t d n e l x = subst (λ (b : Bool). Moves (only b Join ∷ only b Needs_known ∷ only b Bind ∷ at_file g (grown_to 0 t)) d n Unknown (Opened t)) (sym e)
-    (and_first Join _ d n Unknown Known (Opened t) refl refl (and_first Needs_known _ d n Known Known (Opened t) refl refl (and_first Bind (at_file g (grown_to 0 t)) d n Known (Open [] 0) (Opened t) refl refl (opened_moves g 0 t d n e l))))
-cmd_moves g Known t d n e l x = absurd x
-cmd_moves g (Open r k) t d n e l x = absurd x
-
-pub sync_cmd : (tools : Tools) (h : Host) → h.done ≡ false → HostOk h → Sync tools h Tstartcmdfile
-sync_cmd tools h d k = command_case tools h Tstartcmdfile (λ g v. refl) (go (h.file 0) refl k.commands)
-  where
-    go : (x : HFile) → h.file 0 ≡ x → IsCommandFile x → CommandCase tools h Tstartcmdfile
-    go Absent e c = absurd c
-    go (Named t) e c = absurd c
-    go Gone e c = absurd c
-    go (Opened t) e c = record {
-      reply = record { host = h; frames = Hunlock ∷ [] };
-      folds = not_done tools h Tstartcmdfile _ d (ap (cmd_started h) e);
-      each = λ g s x. only_unlock h.done h.version s (h.file g) x;
-      gone = λ g q. q;
-      sound = k;
-    }
-    go (Hidden t) e c = record {
-      reply = record { host = record h { file = put h.file 0 (Opened t) }; frames = fs };
-      folds = not_done tools h Tstartcmdfile _ d (ap (cmd_started h) e);
-      each = λ g s x. each g s x (bool_cases (g == 0));
-      gone = λ g q. gone g q (bool_cases (g == 0));
-      sound = ok_open h.file h.given h.work 0 t k long (not_fresh h.file h.given h.work 0 k (λ y. absurd_file y));
-    }
+    opened : (o : Bool) → file.opened ≡ o → end ≤ max_runes → Carries d n a (when (true && o) told) (file_in out.slots)
+    opened true w l =
+        let l0 : length t ≤ length t = omega arith in
+        let longer : end ≤ length (t ++ s) = subst (λ (u : List ℕ). end ≤ length u) (end_is t s) (omega (arith, length-ins t s (length t) l0)) in
+        let dot : Told 0 (Hsetdot 0 end end ∷ []) (t ++ s) (t ++ s) = told_dot 0 end end (t ++ s) (omega arith) longer in
+        let first : Told 0 (grown fs 0 (length t) s) t (t ++ s) = subst (Told 0 (grown fs 0 (length t) s) t) (end_is t s) (told_grown fs 0 (length t) s t w l0 l) in
+        let all : Told 0 told t (t ++ s) = told-append 0 (grown fs 0 (length t) s) (Hsetdot 0 end end ∷ Hcheck 0 ∷ []) t (t ++ s) (t ++ s) first (told-append 0 (Hsetdot 0 end end ∷ []) (Hcheck 0 ∷ []) (t ++ s) (t ++ s) (t ++ s) dot (told_check 0 (t ++ s))) in
+        carries_told d n a (file_in out.slots) 0 (when true told) t (t ++ s) (shown ∙ file_opened file w) (λ g. files g ∙ ap (λ (y : HFile). put a 0 y g) (file_opened (printed_file file s) w)) (told_when true 0 told t (t ++ s) (λ q. all) (λ q. absurd (true≢false q)))
+    opened false w l =
+        carries_at d n a (file_in out.slots) 0 (when false told) [] (file_of (printed_file file s)) (λ g. refl) files
+        (λ u y. stays_put [] d n u (file_of (printed_file file s)) tt (shut_fits file (t ++ s) u w (subst (Fits_slot u) shown y)))
+        (lasts_put a (file_in out.slots) 0 (file_of (printed_file file s)) there open_one command files)
       where
-        fs : List Hmesg
-        fs = Hnewname 0 ∷ Hmovname 0 ∷ Hbindname 0 ∷ (grown_to 0 t ++ Hunlock ∷ [])
+        there : a 0 ≡ Gone → ⊥
+        there q = marks file.opened file.announced (sym shown ∙ q)
+          where
+            marks : (o n : Bool) → (if o then Opened t else if n then Named t else Hidden t) ≡ Gone → ⊥
+            marks true n q = cc
+            marks false true q = cc
+            marks false false q = cc
 
-        long : length t ≤ limit
-        long = subst (λ (x : HFile). length (text_of x) ≤ limit) e (k.short 0)
+        open_one : IsOpened (a 0) → IsOpened (file_of (printed_file file s))
+        open_one y = marks file.opened file.announced (subst IsOpened shown y)
+          where
+            marks : (o n : Bool) → IsOpened (if o then Opened t else if n then Named t else Hidden t) → IsOpened (if o then Opened (t ++ s) else if n then Named (t ++ s) else Hidden (t ++ s))
+            marks true n y = tt
+            marks false true y = absurd y
+            marks false false y = absurd y
 
-        absurd_file : h.file 0 ≡ Absent → ⊥
-        absurd_file y = let x : Hidden t ≡ Absent = sym e ∙ y in cc
+        command : ◌≡◌ {A = ℕ} 0 0 → IsCommandFile (a 0) → IsCommandFile (file_of (printed_file file s))
+        command q y = marks file.opened file.announced (subst IsCommandFile shown y)
+          where
+            marks : (o n : Bool) → IsCommandFile (if o then Opened t else if n then Named t else Hidden t) → IsCommandFile (if o then Opened (t ++ s) else if n then Named (t ++ s) else Hidden (t ++ s))
+            marks true n y = tt
+            marks false true y = absurd y
+            marks false false y = tt
 
-        gone : (g : ℕ) → h.file g ≡ Gone → ((g == 0) ≡ true) ⊎ ((g == 0) ≡ false) → put h.file 0 (Opened t) g ≡ Gone
-        gone g q (inl y) = let x : Hidden t ≡ Gone = sym e ∙ sym (ap h.file (eqb-true _ _ y)) ∙ q in cc
-        gone g q (inr y) = put_other h.file 0 (Opened t) g y ∙ q
+    go : (b : Bool) → is_printed fs s ≡ b → Carries d n a (when (b && file.opened) told) (file_in (if b then out else fs).slots)
+    go true q = opened file.opened refl (room q)
+    go false q = carries_nothing d n a a (λ g. refl)
 
-        each : (g : ℕ) (s : Slot) → Fits_slot s (h.file g) → ((g == 0) ≡ true) ⊎ ((g == 0) ≡ false) → IsKept (at_file g fs) (lens true h.done h.version s) h.done h.version (put h.file 0 (Opened t) g)
-        each g s x (inl y) = subst (λ (f : HFile). IsKept (at_file g fs) (lens true h.done h.version s) h.done h.version f) (sym (ap (λ (b : Bool). choose b (Opened t) (h.file g)) y))
-            (subst (λ (u : List Action). IsKept (only (g == 0) Join ∷ only (g == 0) Needs_known ∷ only (g == 0) Bind ∷ u) (lens true h.done h.version s) h.done h.version (Opened t)) (sym (at_file-append g (grown_to 0 t) (Hunlock ∷ [])))
-            (unlocks (only (g == 0) Join ∷ only (g == 0) Needs_known ∷ only (g == 0) Bind ∷ at_file g (grown_to 0 t)) h.done h.version s (Opened t) (cmd_moves g s t h.done h.version y long (subst (Fits_slot s) (ap h.file (eqb-true _ _ y) ∙ e) x))))
-        each g s x (inr y) = subst (λ (f : HFile). IsKept (at_file g fs) (lens true h.done h.version s) h.done h.version f) (sym (ap (λ (b : Bool). choose b (Opened t) (h.file g)) y))
-            (subst (λ (u : List Action). IsKept (only (g == 0) Join ∷ only (g == 0) Needs_known ∷ only (g == 0) Bind ∷ u) (lens true h.done h.version s) h.done h.version (h.file g)) (sym (at_file-append g (grown_to 0 t) (Hunlock ∷ [])))
-            (unlocks (only (g == 0) Join ∷ only (g == 0) Needs_known ∷ only (g == 0) Bind ∷ at_file g (grown_to 0 t)) h.done h.version s (h.file g)
-            (stays_put _ h.done h.version s (h.file g) (ap (λ (b : Bool). only b Join) y, (ap (λ (b : Bool). only b Needs_known) y, (ap (λ (b : Bool). only b Bind) y, opened_elsewhere g 0 t y))) x)))
+-- ## A new file
+
+new_there : (d : Bool) (n : ℕ) (s : Slot) → Fits_slot s Absent → Moves (Join ∷ Bind ∷ Needs_known ∷ []) d n s (Opened [])
+new_there d n Unknown x = record { slot = Open [] 0; runs = refl; fits = (refl, tt); no_close = refl }
+new_there d n Known x = absurd x
+new_there d n (Open r k) x = absurd x
+
+pub sync_new : (h : PlainHost) (x : PlainFile) → HasFiles h.files → slot h.files.slots 0 ≡ Some x → Synced h Tstartnewfile
+unfolding reply_startnewfile
+sync_new h x sound e =
+    sync_by h Tstartnewfile refl refl
+    (unlocked_if h (nat_le all_tags f) (with_files h (after_print h.files no_tag_left), printed h.files no_tag_left ++ Hunlock ∷ []) (with_files h fs, (Hnewname f ∷ Hbindname f ∷ Hcurrent f ∷ []) ++ Hunlock ∷ []) (λ w. full) (λ w. fresh))
+  where
+    f : ℕ
+    f = length h.files.slots
+
+    a : ℕ → HFile
+    a = file_in h.files.slots
+
+    fs : PlainFiles
+    fs = record (put_file h.files f new_file) { work = Some f }
+
+    files : (g : ℕ) → file_in fs.slots g ≡ put a f (Opened []) g
+    files = file_in-push h.files.slots new_file
+
+    absent : a f ≡ Absent
+    absent = not_given h.files.slots f (omega arith)
+
+    some : 0 < f
+    some = in_slots h.files 0 x e
+
+    not_zero : (f == 0) ≡ false
+    not_zero = go (bool_cases (f == 0))
+      where
+        go : ((f == 0) ≡ true) ⊎ ((f == 0) ≡ false) → (f == 0) ≡ false
+        go (inl q) = let y : f ≡ 0 = eqb-true f 0 q in absurd (omega (arith, y, some))
+        go (inr q) = q
+
+    printed_work : (after_print h.files no_tag_left).work ≡ h.files.work
+    printed_work = go (is_printed h.files no_tag_left)
+      where
+        go : (b : Bool) → (if b then put_file h.files 0 (printed_file (file_at h.files 0) no_tag_left) else h.files).work ≡ h.files.work
+        go true = refl
+        go false = refl
+
+    full : Unlocked h (with_files h (after_print h.files no_tag_left), printed h.files no_tag_left ++ Hunlock ∷ [])
+    full =
+        let c = printed_carries h.is_done h.version h.files no_tag_left x e in
+        unlocked h (after_print h.files no_tag_left) (printed h.files no_tag_left) c (still_has h.files (after_print h.files no_tag_left) sound printed_work c.lasts)
+
+    fresh : Unlocked h (with_files h fs, (Hnewname f ∷ Hbindname f ∷ Hcurrent f ∷ []) ++ Hunlock ∷ [])
+    fresh =
+        let lasts : Lasts a (file_in fs.slots) = lasts_put a (file_in fs.slots) f (Opened []) (λ q. let y : Absent ≡ Gone = sym absent ∙ q in cc) (λ y. tt) (λ q y. tt) files in
+        unlocked h fs (Hnewname f ∷ Hbindname f ∷ Hcurrent f ∷ [])
+        (carries_at h.is_done h.version a (file_in fs.slots) f (Hnewname f ∷ Hbindname f ∷ Hcurrent f ∷ []) (Join ∷ Bind ∷ Needs_known ∷ []) (Opened []) (λ g. refl) files (λ s y. new_there h.is_done h.version s (subst (Fits_slot s) absent y)) lasts)
+        (works_on h.files fs f sound refl not_zero (subst IsOpened (sym (files f ∙ put_same a f (Opened []))) tt) lasts)

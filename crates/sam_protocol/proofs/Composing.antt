@@ -5,12 +5,13 @@ use Rattle.sam_mesg.specs.declared.tmesg.Tmesg.{Tmesg}
 use Rattle.sam_mesg.specs.declared.tmesg.Tmesg.TheVariants.{Tversion, Tstartcmdfile, Tcheck, Trequest, Torigin, Tstartfile, Tworkfile, Ttype, Tcut, Tpaste, Tsnarf, Tstartnewfile, Twrite, Tclose, Tlook, Tsearch, Tsend, Tdclick, Tstartsnarf, Tsetsnarf, Tack, Texit}
 use Rattle.sam_mesg.specs.declared.hmesg.Hmesg.{Hmesg}
 use Rattle.sam_host.specs.Host.{PlainHost}
-use Rattle.sam_protocol.specs.Lens.{Lens, lens, Unknown, Known, Open, Action, IsFree, HFile, Absent, Hidden, Named, Opened, Gone, Agrees, IsSettled, IsKept, exited_of, command_of}
-use Rattle.sam_protocol.specs.Crossing.{changed, OpenAt, KnownAt, Anything, Within}
-use Rattle.sam_protocol.specs.HostView.{file_in}
-use Rattle.sam_protocol.specs.Synced.{change_by}
-use Rattle.sam_protocol.specs.Handled.{Ready, Accepted}
-use Rattle.sam_protocol.specs.Fold.{frames_at, Kept, IsAllowed, CanCompose}
+use Rattle.sam_protocol.specs.Lens.{Lens, lens, Unknown, Known, Open, Action, HFile, Absent, Hidden, Named, Opened, Gone, Agrees, IsSettled, IsKept, OpenAt, Anything}
+use Rattle.sam_protocol.proofs.Lenses.{IsFree, exited_of, command_of}
+use Rattle.sam_protocol.proofs.Changes.{change_by, changed, KnownAt, Within, IsAllowed, CanCompose}
+use Rattle.sam_protocol.specs.View.{file_in}
+use Rattle.sam_protocol.proofs.Accepting.{Ready, Accepted}
+use Rattle.sam_protocol.specs.Frames.{at_file}
+use Rattle.sam_protocol.specs.Fold.{Kept}
 use Rattle.sam_protocol.proofs.Runs.{no_exit, exited_after}
 use Rattle.sam_protocol.proofs.Kept.{kept_free, exited_settled}
 use Rattle.sam_protocol.proofs.Texts.{agrees_length}
@@ -21,7 +22,7 @@ use Rattle.sam_protocol.proofs.Folds.{acts}
 -- the host that will have handled all is not done where the terminal acts
 pub not_done_ahead : (h : PlainHost) (views : ℕ → Lens) (line : List Tmesg) (down : List Hmesg) (k : Kept h views line down) → exited_of (views 0) ≡ false → command_of (views 0) ≡ false → k.ahead.is_done ≡ false
 not_done_ahead h views line down k e c =
-    let s : List Action = frames_at 0 (down ++ k.frames) in
+    let s : List Action = at_file 0 (down ++ k.frames) in
     let x = k.each 0 in
     let none = no_exit s (views 0) x.final x.runs c in
     sym (exited_settled x.final k.ahead.is_done k.ahead.version (file_in k.ahead.files.slots 0) x.settled) ∙ exited_after s (views 0) x.final x.runs ∙ ap (λ (b : Bool). b || exited_of (views 0)) none ∙ e
@@ -73,7 +74,7 @@ accepted : (h : PlainHost) (views : ℕ → Lens) (line : List Tmesg) (down : Li
 accepted h views line down k m allowed can = go m allowed can
   where
     at : (P : List (Option ℕ) → Type 0) (f : ℕ) → OpenAt P (views f) → OpenBoth P (file_in k.ahead.files.slots f)
-    at P f o = open_case P (frames_at f (down ++ k.frames)) (views f) k.ahead.is_done k.ahead.version (file_in k.ahead.files.slots f) (k.each f) o
+    at P f o = open_case P (at_file f (down ++ k.frames)) (views f) k.ahead.is_done k.ahead.version (file_in k.ahead.files.slots f) (k.each f) o
 
     go : (m : Tmesg) → IsAllowed (change_by m) views → CanCompose m views → Accepted k.ahead m
     go (Tversion v) a x = x
@@ -81,7 +82,7 @@ accepted h views line down k m allowed can = go m allowed can
     go (Tcheck f) a x = let o = at Anything f x in (o.text, o.opened, tt)
     go (Trequest f p n) a x = let o = at Anything f x in (o.text, o.opened, tt)
     go (Torigin f p n) a x = let o = at (Within p p) f x in (o.text, o.opened, within o.rasp o.text p o.agrees o.has.1)
-    go (Tstartfile f) a x = (x.1, known_case (frames_at f (down ++ k.frames)) (views f) k.ahead.is_done k.ahead.version (file_in k.ahead.files.slots f) (k.each f) (a f) x.0)
+    go (Tstartfile f) a x = (x.1, known_case (at_file f (down ++ k.frames)) (views f) k.ahead.is_done k.ahead.version (file_in k.ahead.files.slots f) (k.each f) (a f) x.0)
     go (Tworkfile f p q) a x = let o = at (Within p q) f x.0 in (x.1, (o.text, o.opened, (o.has.0, within o.rasp o.text q o.agrees o.has.1)))
     go (Ttype f p s) a x =
         let o = at (λ r. (p ≤ length r) × (length r + length s ≤ max_runes)) f x in

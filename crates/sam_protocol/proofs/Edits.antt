@@ -1,87 +1,99 @@
 -- The messages that lock nothing: from settled to settled.
-use Rattle.std.proofs.Common.{◌≡◌, ℕ, ◌+◌, ◌-◌, ◌≤◌, Bool, true, false, not, ◌||◌, ◌&&◌, ◌==◌, List, [], ◌∷◌, length, Option, Some, ◌⊎◌, inl, inr, refl, sym, ap, ◌∙◌, subst, true≢false, arith, eqb-true, nat_le, le-leb}
-use Rattle.sam_protocol.specs.Lens.{limit, Open, Lens, lens, Action, Skip, Needs_known, Needs_open, move, run, and_then, is_crossing, is_close, HFile, Opened, Gone, Agrees, IsSettled, IsKept}
-use Rattle.sam_protocol.specs.Model.{Tcheck, Tworkfile, Ttype, Tcut, Tsnarf, Tstartsnarf, Tsetsnarf, Tack, Hcurrent, Hcheck, Hsnarflen, Hsetsnarf, only, Host, Answer, Tools, choose, put, HostOk, IsOpened, text_of, reply, inserted, deleted, on_open, when, is_range, is_place, between, run_line}
-use Rattle.sam_protocol.specs.Crossing.{Change, Types, Line, typed_in, cut_out, changed, Sync}
+use Rattle.std.proofs.Common.{◌≡◌, ℕ, ◌+◌, ◌-◌, ◌≤◌, Bool, true, false, ◌||◌, ◌==◌, if◌then◌else◌, List, [], ◌∷◌, length, Option, Some, None, ◌⊎◌, inl, inr, refl, sym, ap, ◌∙◌, subst, true≢false, arith, eqb-true}
+use Rattle.sam_runes.specs.Texts.{ins, del, max_runes, part, line_start}
+use Rattle.sam_runes.specs.Slots.{Slots, put_slot}
+use Rattle.sam_runes.specs.Checks.{first_of_checks}
+use Rattle.sam_text.specs.Files.{PlainFile, PlainFiles, file_at, cut_file, typed_file}
+use Rattle.sam_mesg.specs.declared.tmesg.Tmesg.TheVariants.{Tcheck, Tworkfile, Ttype, Tcut, Tsnarf, Tstartsnarf, Tsetsnarf, Tack}
+use Rattle.sam_term.specs.declared.lock.Lock.TheVariants.{CommandLock, NoLock}
+use Rattle.sam_term.specs.Locks.{is_command_line}
+use Rattle.sam_host.specs.Host.{PlainHost, Reply, host_checks, with_file, past_end, no_range, no_room, reply_check, reply_workfile, reply_cut, reply_snarf, reply_line, reply_type, reply_startsnarf, reply_setsnarf}
+use Rattle.sam_protocol.specs.Lens.{Open, Lens, lens, Action, Skip, Needs_known, Needs_open, move, run, and_then, is_crossing, is_close, HFile, Opened, Agrees, IsSettled, IsKept, IsOpened, without}
+use Rattle.sam_protocol.specs.Frames.{at_file, only}
+use Rattle.sam_protocol.proofs.Changes.{type_change, typed_in, cut_out, changed}
+use Rattle.sam_protocol.specs.View.{file_in}
+use Rattle.sam_protocol.specs.Steady.{HasFiles}
+use Rattle.sam_protocol.proofs.Accepting.{Synced}
 use Rattle.sam_protocol.proofs.Kept.{kept_skips, settled_opened}
-use Rattle.sam_protocol.proofs.Texts.{agrees_typed, agrees_without, length-inserted, length-deleted}
-use Rattle.sam_protocol.proofs.Making.{made, bool_cases, put_other, ok_put, not_done, both}
-
-when_true : (b : Bool) (x : Option Answer) → b ≡ true → when b x ≡ x
-when_true b x e = ap (λ (c : Bool). when c x) e
-
-opens : (h : Host) (f : ℕ) (t : List ℕ) (k : List ℕ → Option Answer) → h.file f ≡ Opened t → on_open (h.file f) k ≡ k t
-opens h f t k e = ap (λ (x : HFile). on_open x k) e
-
-range_true : (p q : ℕ) (t : List ℕ) → p ≤ q → q ≤ length t → is_range p q t ≡ true
-range_true p q t a b = both _ _ (le-leb _ _ a) (le-leb _ _ b)
+use Rattle.sam_protocol.proofs.Texts.{agrees_typed, agrees_without}
+use Rattle.sam_protocol.proofs.HostFiles.{bool_cases, put, put_again, put_opened, Opens, Lasts, lasts_opened, lasts_same, still_has, works_on}
+use Rattle.sam_protocol.proofs.Tests.{open_tests, window_tests, place_test, range_test, room_test}
+use Rattle.sam_protocol.proofs.Guards.{kept_by}
 
 nothing : (v : Lens) (d : Bool) (n : ℕ) (file : HFile) → IsSettled v d n file → IsKept [] v d n file
-nothing v d n file s = made [] v v d n file refl s tt refl
+nothing v d n file s = kept_by [] v v d n file refl s tt refl
 
 -- an edit of f's rasp, made in the host's text too, and no frame
-edit_case : (h h2 : Host) (f : ℕ) (t t2 : List ℕ) (e : Lens → Lens) → h.file f ≡ Opened t → h2.file ≡ put h.file f (Opened t2) → h2.done ≡ h.done → h2.version ≡ h.version
-    → ((r : List (Option ℕ)) → Agrees r t → IsSettled (e (lens false h.done h.version (Open r 0))) h.done h.version (Opened t2))
-    → (g : ℕ) (w : Lens) → IsSettled w h.done h.version (h.file g) → IsKept [] (choose (g == f) (e w) w) h2.done h2.version (h2.file g)
-edit_case h h2 f t t2 e was file done version keeps g w s =
-    subst (λ (x : Bool). IsKept [] (choose (g == f) (e w) w) x h2.version (h2.file g)) (sym done)
-    (subst (λ (x : ℕ). IsKept [] (choose (g == f) (e w) w) h.done x (h2.file g)) (sym version)
-    (subst (λ (x : ℕ → HFile). IsKept [] (choose (g == f) (e w) w) h.done h.version (x g)) (sym file) (go (bool_cases (g == f)))))
+edit_case : (h k : PlainHost) (f : ℕ) (text : List ℕ) (e : Lens → Lens) → Opens h.files f → ((g : ℕ) → file_in k.files.slots g ≡ put (file_in h.files.slots) f (Opened text) g) → k.is_done ≡ h.is_done → k.version ≡ h.version
+    → ((r : List (Option ℕ)) → Agrees r (file_at h.files f).text → IsSettled (e (lens false h.is_done h.version (Open r 0))) h.is_done h.version (Opened text))
+    → (g : ℕ) (w : Lens) → IsSettled w h.is_done h.version (file_in h.files.slots g) → IsKept [] (if g == f then e w else w) k.is_done k.version (file_in k.files.slots g)
+edit_case h k f text e o files done version keeps g w s =
+    subst (λ (x : Bool). IsKept [] (if g == f then e w else w) x k.version (file_in k.files.slots g)) (sym done)
+    (subst (λ (x : ℕ). IsKept [] (if g == f then e w else w) h.is_done x (file_in k.files.slots g)) (sym version)
+    (subst (λ (x : HFile). IsKept [] (if g == f then e w else w) h.is_done h.version x) (sym (files g)) (go (bool_cases (g == f)))))
   where
-    here : g ≡ f → IsKept [] (e w) h.done h.version (Opened t2)
+    here : g ≡ f → IsKept [] (e w) h.is_done h.version (Opened text)
     here q =
-        let o = settled_opened w h.done h.version t (subst (IsSettled w h.done h.version) (ap h.file q ∙ was) s) in
-        subst (λ (x : Lens). IsKept [] (e x) h.done h.version (Opened t2)) (sym o.1) (nothing _ _ _ _ (keeps o.0 o.2))
+        let u = settled_opened w h.is_done h.version (file_at h.files f).text (subst (IsSettled w h.is_done h.version) (ap (file_in h.files.slots) q ∙ o.shown) s) in
+        subst (λ (x : Lens). IsKept [] (e x) h.is_done h.version (Opened text)) (sym u.1) (nothing _ _ _ _ (keeps u.0 u.2))
 
-    go : ((g == f) ≡ true) ⊎ ((g == f) ≡ false) → IsKept [] (choose (g == f) (e w) w) h.done h.version (put h.file f (Opened t2) g)
-    go (inl q) = subst (λ (b : Bool). IsKept [] (choose b (e w) w) h.done h.version (choose b (Opened t2) (h.file g))) (sym q) (here (eqb-true _ _ q))
-    go (inr q) = subst (λ (b : Bool). IsKept [] (choose b (e w) w) h.done h.version (choose b (Opened t2) (h.file g))) (sym q) (nothing _ _ _ _ s)
+    go : ((g == f) ≡ true) ⊎ ((g == f) ≡ false) → IsKept [] (if g == f then e w else w) h.is_done h.version (put (file_in h.files.slots) f (Opened text) g)
+    go (inl q) = subst (λ (b : Bool). IsKept [] (if b then e w else w) h.is_done h.version (if b then Opened text else file_in h.files.slots g)) (sym q) (here (eqb-true _ _ q))
+    go (inr q) = subst (λ (b : Bool). IsKept [] (if b then e w else w) h.is_done h.version (if b then Opened text else file_in h.files.slots g)) (sym q) (nothing _ _ _ _ s)
 
-put_gone : (m : ℕ → HFile) (f : ℕ) (t : List ℕ) (x : HFile) → m f ≡ Opened t → (g : ℕ) → m g ≡ Gone → put m f x g ≡ Gone
-put_gone m f t x was g q = go (bool_cases (g == f))
-  where
-    go : ((g == f) ≡ true) ⊎ ((g == f) ≡ false) → put m f x g ≡ Gone
-    go (inl e) = let y : Opened t ≡ Gone = sym was ∙ sym (ap m (eqb-true _ _ e)) ∙ q in cc
-    go (inr e) = put_other m f x g e ∙ q
-
-pub sync_cut : (tools : Tools) (h : Host) (f p q : ℕ) (t : List ℕ) → h.done ≡ false → HostOk h → h.file f ≡ Opened t → p ≤ q → q ≤ length t → Sync tools h (Tcut f p q)
-sync_cut tools h f p q t d k was l l2 = record {
-  reply = record { host = h2; frames = [] };
-  folds = not_done tools h (Tcut f p q) _ d (opens h f t _ was ∙ when_true (is_range p q t) _ (range_true p q t l l2));
-  each = edit_case h h2 f t (deleted p (q - p) t) (cut_out p q) was refl refl refl (λ r a. (refl, refl, refl, (refl, agrees_without p (q - p) r t a)));
-  gone = put_gone h.file f t (Opened (deleted p (q - p) t)) was;
-  sound = ok_put h.file h.given h.work f t (deleted p (q - p) t) k was short;
+pub sync_cut : (h : PlainHost) (f p q : ℕ) → HasFiles h.files → Opens h.files f → p ≤ q → q ≤ length (file_at h.files f).text → Synced h (Tcut f p q)
+unfolding reply_cut
+sync_cut h f p q sound o l l2 = record {
+  passes = open_tests h f o (no_range h f p q ∷ []) (range_test h f p q l l2);
+  each = edit_case h k f (del t p q) (cut_out p q) o files refl refl (λ r a. (refl, refl, refl, (refl, subst (λ (j : ℕ). Agrees (without p (q - p) r) (del t p j)) to (agrees_without p (q - p) r t a))));
+  gone = lasts.gone;
+  sound = still_has h.files k.files sound refl lasts;
 }
   where
-    h2 : Host
-    h2 = record h { file = put h.file f (Opened (deleted p (q - p) t)); clean = λ g. choose (g == f) false (h.clean g) }
+    t : List ℕ
+    t = (file_at h.files f).text
 
-    within : p + (q - p) ≤ length t
-    within = omega arith
+    k : PlainHost
+    k = with_file h f (cut_file f (file_at h.files f) p q)
 
-    long : length t ≤ limit
-    long = subst (λ (x : HFile). length (text_of x) ≤ limit) was (k.short f)
+    to : p + (q - p) ≡ q
+    to = omega arith
 
-    short : length (deleted p (q - p) t) ≤ limit
-    short = omega (arith, length-deleted p (q - p) t within, long)
+    files : (g : ℕ) → file_in k.files.slots g ≡ put (file_in h.files.slots) f (Opened (del t p q)) g
+    files = put_opened h.files f o.given (cut_file f (file_at h.files f) p q) o.opened
+
+    lasts : Lasts (file_in h.files.slots) (file_in k.files.slots)
+    lasts = lasts_opened (file_in h.files.slots) (file_in k.files.slots) f t (del t p q) o.shown files
+
+-- the tests of typing
+pub type_passes : (h : PlainHost) (f p : ℕ) (s : List ℕ) → Opens h.files f → p ≤ length (file_at h.files f).text → length (file_at h.files f).text + length s ≤ max_runes → first_of_checks (host_checks h (Ttype f p s)) ≡ None
+type_passes h f p s o l room = open_tests h f o (past_end h f p ∷ no_room h f s ∷ []) (place_test h f p (no_room h f s ∷ []) l (room_test h f s room))
 
 -- typing that ends no line of tag 0
-pub sync_type : (tools : Tools) (h : Host) (f p : ℕ) (s t : List ℕ) → h.done ≡ false → HostOk h → h.file f ≡ Opened t → p ≤ length t → length t + length s ≤ limit → ((f == 0) && tools.ends_line s) ≡ false → Sync tools h (Ttype f p s)
-sync_type tools h f p s t d k was l room ends = record {
-  reply = record { host = h2; frames = [] };
-  folds = not_done tools h (Ttype f p s) _ d (opens h f t _ was ∙ when_true (is_place p t && nat_le (length t + length s) limit) _ (both _ _ (le-leb _ _ l) (le-leb _ _ room))
-      ∙ ap (λ (b : Bool). choose b (run_line h2 (tools.meaning h2 (tools.line_of (inserted p s t) (p + length s)))) (reply h2 [])) ends);
-  each = λ g w x. subst (λ (c : Change). IsKept [] (changed c g w) h2.done h2.version (h2.file g)) (sym (ap (λ (b : Bool). choose b (Line p s) (Types f p s)) ends))
-      (edit_case h h2 f t (inserted p s t) (typed_in p s) was refl refl refl (λ r a. (refl, refl, refl, (refl, agrees_typed p s r t a))) g w x);
-  gone = put_gone h.file f t (Opened (inserted p s t)) was;
-  sound = ok_put h.file h.given h.work f t (inserted p s t) k was long;
+pub sync_type : (h : PlainHost) (f p : ℕ) (s : List ℕ) → HasFiles h.files → Opens h.files f → p ≤ length (file_at h.files f).text → length (file_at h.files f).text + length s ≤ max_runes → is_command_line f s ≡ false → Synced h (Ttype f p s)
+unfolding reply_type
+sync_type h f p s sound o l room ends = record {
+  passes = type_passes h f p s o l room;
+  each = λ g w x. subst (λ (b : Bool). IsKept (at_file g (if b then line else (typed, [])).1) (changed (type_change (if b then CommandLock else NoLock) f p s) g w) (if b then line else (typed, [])).0.is_done (if b then line else (typed, [])).0.version (file_in (if b then line else (typed, [])).0.files.slots g)) (sym ends)
+      (edit_case h typed f (ins t p s) (typed_in p s) o files refl refl (λ r a. (refl, refl, refl, (refl, agrees_typed p s r t a))) g w x);
+  gone = λ g e. ap (λ (b : Bool). file_in (if b then line else (typed, [])).0.files.slots g) ends ∙ lasts.gone g e;
+  sound = subst (λ (b : Bool). HasFiles (if b then line else (typed, [])).0.files) (sym ends) (still_has h.files typed.files sound refl lasts);
 }
   where
-    h2 : Host
-    h2 = record h { file = put h.file f (Opened (inserted p s t)); clean = λ g. choose (g == f) false (h.clean g) }
+    t : List ℕ
+    t = (file_at h.files f).text
 
-    long : length (inserted p s t) ≤ limit
-    long = omega (arith, length-inserted p s t l)
+    typed : PlainHost
+    typed = with_file h f (typed_file f (file_at h.files f) p s)
+
+    line : Reply
+    line = let u = (file_at typed.files f).text in reply_line typed [] (part u (line_start u (p + length s - 1)) (p + length s - 1))
+
+    files : (g : ℕ) → file_in typed.files.slots g ≡ put (file_in h.files.slots) f (Opened (ins t p s)) g
+    files = put_opened h.files f o.given (typed_file f (file_at h.files f) p s) o.opened
+
+    lasts : Lasts (file_in h.files.slots) (file_in typed.files.slots)
+    lasts = lasts_opened (file_in h.files.slots) (file_in typed.files.slots) f t (ins t p s) o.shown files
 
 -- frames that need the file to be there, and change nothing
 checks : (f : ℕ) (t : List ℕ) (a : Action) (g : ℕ) (w : Lens) (d : Bool) (n : ℕ) (file : HFile) → (g ≡ f → file ≡ Opened t) → IsSettled w d n file → is_close a ≡ false → is_crossing a ≡ false
@@ -93,65 +105,57 @@ checks f t a g w d n file was s close crossing m = go (bool_cases (g == f))
         let e = was (eqb-true _ _ q) in
         let o = settled_opened w d n t (subst (IsSettled w d n) e s) in
         subst (λ (b : Bool). IsKept (only b a ∷ []) w d n file) (sym q)
-        (made (a ∷ []) w w d n file (subst (λ (x : Lens). and_then (move a x) (run []) ≡ Some x) (sym o.1) (ap (λ (y : Option Lens). and_then y (run [])) (m o.0))) s ((λ c. absurd (true≢false (sym c ∙ crossing))), tt) (ap (λ (b : Bool). b || false) close))
-    go (inr q) = subst (λ (b : Bool). IsKept (only b a ∷ []) w d n file) (sym q) (made (Skip ∷ []) w w d n file refl s ((λ c. absurd (true≢false (sym c))), tt) refl)
+        (kept_by (a ∷ []) w w d n file (subst (λ (x : Lens). and_then (move a x) (run []) ≡ Some x) (sym o.1) (ap (λ (y : Option Lens). and_then y (run [])) (m o.0))) s ((λ c. absurd (true≢false (sym c ∙ crossing))), tt) (ap (λ (b : Bool). b || false) close))
+    go (inr q) = subst (λ (b : Bool). IsKept (only b a ∷ []) w d n file) (sym q) (kept_by (Skip ∷ []) w w d n file refl s ((λ c. absurd (true≢false (sym c))), tt) refl)
 
-pub sync_check : (tools : Tools) (h : Host) (f : ℕ) (t : List ℕ) → h.done ≡ false → HostOk h → h.file f ≡ Opened t → Sync tools h (Tcheck f)
-sync_check tools h f t d k was = record {
-  reply = record { host = h; frames = Hcheck f ∷ [] };
-  folds = not_done tools h (Tcheck f) _ d (opens h f t _ was);
-  each = λ g w s. checks f t Needs_open g w h.done h.version (h.file g) (λ e. ap h.file e ∙ was) s refl refl (λ r. refl);
+-- the host keeps its files
+kept_files : (h : PlainHost) (fs : PlainFiles) → fs.slots ≡ h.files.slots → fs.work ≡ h.files.work → HasFiles h.files → HasFiles fs
+kept_files h fs slots work sound = still_has h.files fs sound work (lasts_same (file_in h.files.slots) (file_in fs.slots) (λ g. ap (λ (ss : Slots PlainFile). file_in ss g) slots))
+
+pub sync_check : (h : PlainHost) (f : ℕ) → HasFiles h.files → Opens h.files f → Synced h (Tcheck f)
+unfolding reply_check
+sync_check h f sound o = record {
+  passes = open_tests h f o [] refl;
+  each = λ g w s. checks f (file_at h.files f).text Needs_open g w h.is_done h.version (file_in h.files.slots g) (λ e. ap (file_in h.files.slots) e ∙ o.shown) s refl refl (λ r. refl);
   gone = λ g q. q;
-  sound = k;
+  sound = sound;
 }
 
-pub sync_work : (tools : Tools) (h : Host) (f p q : ℕ) (t : List ℕ) → h.done ≡ false → HostOk h → h.file f ≡ Opened t → (f == 0) ≡ false → p ≤ q → q ≤ length t → Sync tools h (Tworkfile f p q)
-sync_work tools h f p q t d k was z l l2 = record {
-  reply = record { host = h2; frames = Hcurrent f ∷ [] };
-  folds = not_done tools h (Tworkfile f p q) _ d (ap (λ (b : Bool). when (not b) (on_open (h.file f) (λ t2. when (is_range p q t2) (reply h2 (Hcurrent f ∷ []))))) z ∙ opens h f t _ was ∙ when_true (is_range p q t) _ (range_true p q t l l2));
-  each = λ g w s. checks f t Needs_known g w h.done h.version (h.file g) (λ e. ap h.file e ∙ was) s refl refl (λ r. refl);
-  gone = λ g q. q;
-  sound = record { short = k.short; fresh = k.fresh; works = works; commands = k.commands };
+pub sync_work : (h : PlainHost) (f p q : ℕ) → HasFiles h.files → Opens h.files f → (f == 0) ≡ false → p ≤ q → q ≤ length (file_at h.files f).text → Synced h (Tworkfile f p q)
+unfolding reply_workfile
+sync_work h f p q sound o z l l2 = record {
+  passes = window_tests h f o z (no_range h f p q ∷ []) (range_test h f p q l l2);
+  each = λ g w s. subst (λ (x : HFile). IsKept (only (g == f) Needs_known ∷ []) w h.is_done h.version x) (sym (same g))
+      (checks f (file_at h.files f).text Needs_known g w h.is_done h.version (file_in h.files.slots g) (λ e. ap (file_in h.files.slots) e ∙ o.shown) s refl refl (λ r. refl));
+  gone = λ g e. same g ∙ e;
+  sound = works_on h.files k f sound refl z (subst IsOpened (sym (same f ∙ o.shown)) tt) (lasts_same (file_in h.files.slots) (file_in k.slots) same);
 }
   where
-    h2 : Host
-    h2 = record h { work = Some f }
+    x : PlainFile
+    x = record (file_at h.files f) { dot = (p, q) }
 
-    works : (g : ℕ) → Some f ≡ Some g → IsOpened (h.file g) × ((g == 0) ≡ false)
-    works g e = let q : f ≡ g = cc in subst (λ (x : ℕ). IsOpened (h.file x) × ((x == 0) ≡ false)) q (subst IsOpened (sym was) tt, z)
+    k : PlainFiles
+    k = record h.files { slots = put_slot h.files.slots f x; work = Some f }
 
-pub sync_snarf : (tools : Tools) (h : Host) (f p q : ℕ) (t : List ℕ) → h.done ≡ false → HostOk h → h.file f ≡ Opened t → p ≤ q → q ≤ length t → Sync tools h (Tsnarf f p q)
-sync_snarf tools h f p q t d k was l l2 = record {
-  reply = record { host = record h { snarf = between p q t }; frames = Hsnarflen ∷ [] };
-  folds = not_done tools h (Tsnarf f p q) _ d (opens h f t _ was ∙ when_true (is_range p q t) _ (range_true p q t l l2));
-  each = λ g w s. kept_skips (Skip ∷ []) w h.done h.version (h.file g) (refl, tt) s;
+    same : (g : ℕ) → file_in k.slots g ≡ file_in h.files.slots g
+    same g = put_opened h.files f o.given x o.opened g ∙ sym (put_again (file_in h.files.slots) f (Opened (file_at h.files f).text) g o.shown)
+
+pub sync_snarf : (h : PlainHost) (f p q : ℕ) → HasFiles h.files → Opens h.files f → p ≤ q → q ≤ length (file_at h.files f).text → Synced h (Tsnarf f p q)
+unfolding reply_snarf
+sync_snarf h f p q sound o l l2 = record {
+  passes = open_tests h f o (no_range h f p q ∷ []) (range_test h f p q l l2);
+  each = λ g w s. kept_skips (Skip ∷ []) w h.is_done h.version (file_in h.files.slots g) (refl, tt) s;
   gone = λ g q. q;
-  sound = k;
+  sound = kept_files h _ refl refl sound;
 }
 
-pub sync_get_snarf : (tools : Tools) (h : Host) → h.done ≡ false → HostOk h → Sync tools h Tstartsnarf
-sync_get_snarf tools h d k = record {
-  reply = record { host = h; frames = Hsetsnarf ∷ [] };
-  folds = not_done tools h Tstartsnarf _ d refl;
-  each = λ g w s. kept_skips (Skip ∷ []) w h.done h.version (h.file g) (refl, tt) s;
-  gone = λ g q. q;
-  sound = k;
-}
+pub sync_get_snarf : (h : PlainHost) → HasFiles h.files → Synced h Tstartsnarf
+unfolding reply_startsnarf
+sync_get_snarf h sound = record { passes = refl; each = λ g w s. kept_skips (Skip ∷ []) w h.is_done h.version (file_in h.files.slots g) (refl, tt) s; gone = λ g q. q; sound = sound }
 
-pub sync_set_snarf : (tools : Tools) (h : Host) (s : List ℕ) → h.done ≡ false → HostOk h → Sync tools h (Tsetsnarf s)
-sync_set_snarf tools h s d k = record {
-  reply = record { host = record h { snarf = s }; frames = Hsnarflen ∷ [] };
-  folds = not_done tools h (Tsetsnarf s) _ d refl;
-  each = λ g w x. kept_skips (Skip ∷ []) w h.done h.version (h.file g) (refl, tt) x;
-  gone = λ g q. q;
-  sound = k;
-}
+pub sync_set_snarf : (h : PlainHost) (s : List ℕ) → HasFiles h.files → Synced h (Tsetsnarf s)
+unfolding reply_setsnarf
+sync_set_snarf h s sound = record { passes = refl; each = λ g w x. kept_skips (Skip ∷ []) w h.is_done h.version (file_in h.files.slots g) (refl, tt) x; gone = λ g q. q; sound = kept_files h _ refl refl sound }
 
-pub sync_ack : (tools : Tools) (h : Host) → h.done ≡ false → HostOk h → Sync tools h Tack
-sync_ack tools h d k = record {
-  reply = record { host = h; frames = [] };
-  folds = not_done tools h Tack _ d refl;
-  each = λ g w x. nothing w h.done h.version (h.file g) x;
-  gone = λ g q. q;
-  sound = k;
-}
+pub sync_ack : (h : PlainHost) → HasFiles h.files → Synced h Tack
+sync_ack h sound = record { passes = refl; each = λ g w x. nothing w h.is_done h.version (file_in h.files.slots g) x; gone = λ g q. q; sound = sound }

@@ -1,321 +1,284 @@
 -- The messages that lock their file: from settled to settled.
-use Rattle.std.proofs.Common.{◌≡◌, ℕ, ◌+◌, ◌-◌, ◌≤◌, min, Bool, true, false, not, ◌||◌, ◌&&◌, ◌==◌, List, [], ◌∷◌, ◌++◌, length, take, drop, Option, Some, None, ◌⊎◌, inl, inr, refl, sym, ap, ◌∙◌, subst, true≢false, arith, nat_le, nat_lt, le-leb, leb-true}
-use Rattle.sam_protocol.specs.Lens.{limit, Open, Lens, lens, Action, Skip, Place, Needs_known, Needs_open, Free_file, run, frees, closes, HFile, Opened, Gone, Agrees, IsKept, AreSkips, Fill, request_actions}
-use Rattle.sam_protocol.specs.Model.{Tmesg, Trequest, Torigin, Tpaste, Twrite, Tlook, Tsearch, Tdclick, Horigin, Hunlockfile, Hsetdot, Hmoveto, Hcheck, Hsetpat, Hclean, Hdirty, at_file, only, Host, Answer, Tools, answer, choose, put, HostOk, reply, grown_by, inserted, on_open, when, is_range, is_place, between, found, searched, pasted, ToolsOk, RangeFits, requested, request_frames}
-use Rattle.sam_protocol.specs.Crossing.{Lock, change_of, Sync}
+use Rattle.std.proofs.Common.{◌≡◌, ℕ, ◌+◌, ◌-◌, ◌<◌, ◌≤◌, min, Bool, true, false, not, ◌||◌, ◌&&◌, ◌==◌, if◌then◌else◌, List, [], ◌∷◌, ◌++◌, length, map, take, drop, Option, Some, None, is_some, ◌⊎◌, inl, inr, refl, sym, ap, ◌∙◌, subst, true≢false, arith, append_assoc, eqb-true, eq-eqb, nat_lt, nat_le}
+use Rattle.std.specs.Prelude.{IfSome}
+use Rattle.std.proofs.lemmas.List.{length-drop, drop_min, take_min}
+use Rattle.std.proofs.lemmas.Bool.{ltb-false, lt-leb}
+use Rattle.sam_runes.specs.Texts.{Range, ins, is_empty, part, max_runes, most_in_message, most_in_pattern, lines_before, word_at, searched}
+use Rattle.sam_runes.specs.Slots.{slot}
+use Rattle.sam_runes.specs.Checks.{first_of_checks}
+use Rattle.sam_runes.proofs.EditLaws.{length-ins}
+use Rattle.sam_runes.proofs.PlaceLaws.{InRange, searched_within, word_at_within, lines_before_within}
+use Rattle.sam_text.specs.Files.{PlainFile, file_at, has_file, pasted_file, searched_for}
+use Rattle.sam_mesg.specs.declared.tmesg.Tmesg.{Tmesg}
+use Rattle.sam_mesg.specs.declared.tmesg.Tmesg.TheVariants.{Trequest, Torigin, Tpaste, Twrite, Tlook, Tsearch, Tdclick}
+use Rattle.sam_mesg.specs.declared.hmesg.Hmesg.{Hmesg}
+use Rattle.sam_mesg.specs.declared.hmesg.Hmesg.TheVariants.{Horigin, Hdata, Hunlockfile, Hsetdot, Hmoveto, Hcheck, Hsetpat, Hclean, Hdirty}
+use Rattle.sam_host.specs.Host.{PlainHost, Reply, host_checks, reply_to, with_file, with_files, when, grown, past_end, no_range, reply_found, reply_request, reply_origin, reply_paste, reply_write, reply_look, reply_search, reply_dclick}
+use Rattle.sam_host.specs.declared.fault.HostFault.TheVariants.{NoFile, NotOpen}
+use Rattle.sam_protocol.specs.Lens.{Open, Lens, lens, Action, Fill, Free_file, HFile, Opened, Agrees, IsSettled, IsKept}
+use Rattle.sam_protocol.proofs.Lenses.{locked_more, AreSkips, request_actions}
+use Rattle.sam_protocol.specs.Frames.{at_file, only}
+use Rattle.sam_protocol.proofs.Changes.{Change, Lock, changed, change_by}
+use Rattle.sam_protocol.specs.View.{file_in}
+use Rattle.sam_protocol.specs.Steady.{HasFiles}
+use Rattle.sam_protocol.proofs.Accepting.{Synced}
 use Rattle.sam_protocol.proofs.Runs.{run-append_some}
-use Rattle.sam_protocol.proofs.Kept.{if_passes, closes-append, kept_data}
-use Rattle.sam_protocol.proofs.Texts.{agrees_length, length-inserted}
-use Rattle.sam_protocol.proofs.Making.{guarded_by, guarded_before, no_close_behind, made, bool_cases, same_tag, at_file-append, skips-append, lock_case, put_other, put_same, ok_put, GrownRun, grown_there, grown_elsewhere, not_done, both}
+use Rattle.sam_protocol.proofs.Kept.{kept_skips, kept_data, settled_opened}
+use Rattle.sam_protocol.proofs.HostFiles.{bool_cases, put, put_again, put_opened, Opens, Lasts, lasts_opened, still_has}
+use Rattle.sam_protocol.proofs.Tests.{open_tests, window_tests, place_test, range_test, test, last_test}
+use Rattle.sam_protocol.proofs.Guards.{guarded_by, guarded_before, no_close_behind, kept_by, at_file-append, skips-append}
+use Rattle.sam_protocol.proofs.Telling.{Told, tells_there, tells_elsewhere, told_nothing, told-append, told_if, told_grown, told_origin, told_move, told_dot, told_check, told_clean, told_dirty, told_pattern}
 
-pub record LockReply (h : Host) (f : ℕ) (t : List ℕ) (x : Option Answer) : Type 0 where
-  pub reply : Answer
-  pub is : x ≡ Some reply
-  pub text2 : List ℕ
-  pub done : reply.host.done ≡ h.done
-  pub version : reply.host.version ≡ h.version
-  pub becomes : reply.host.file f ≡ Opened text2
-  pub others : (g : ℕ) → (g == f) ≡ false → reply.host.file g ≡ h.file g
-  pub here : (r : List (Option ℕ)) → Agrees r t → IsKept (at_file f reply.frames) (lens false h.done h.version (Open r 1)) h.done h.version (Opened text2)
-  pub elsewhere : (g : ℕ) → (g == f) ≡ false → AreSkips (at_file g reply.frames)
-  pub sound : HostOk reply.host
+-- ## The shared ending: the frames tell of the file f, and then its lock is freed
 
-locks_by : (tools : Tools) (h : Host) (m : Tmesg) (f : ℕ) (t : List ℕ) (x : Option Answer) → change_of tools m ≡ Lock f → h.file f ≡ Opened t → answer tools h m ≡ x → LockReply h f t x → Sync tools h m
-locks_by tools h m f t x c was e k = lock_case tools h m f c (record {
-  text = t;
-  text2 = k.text2;
-  was = was;
-  reply = k.reply;
-  folds = e ∙ k.is;
-  done = k.done;
-  version = k.version;
-  becomes = k.becomes;
-  others = k.others;
-  here = k.here;
-  elsewhere = k.elsewhere;
-  sound = k.sound;
-})
+-- what the host has after it: the file has this text, and all else is as it was
+record HasText (h k : PlainHost) (f : ℕ) (text : List ℕ) : Type 0 where
+  files : (g : ℕ) → file_in k.files.slots g ≡ put (file_in h.files.slots) f (Opened text) g
+  work : k.files.work ≡ h.files.work
+  done : k.is_done ≡ h.is_done
+  version : k.version ≡ h.version
 
--- the file's lock is freed
-frees_it : (f : ℕ) (d : Bool) (n : ℕ) (r : List (Option ℕ)) (t : List ℕ) → Agrees r t → IsKept (at_file f (Hunlockfile f ∷ [])) (lens false d n (Open r 1)) d n (Opened t)
-frees_it f d n r t a = subst (λ (b : Bool). IsKept (only b Free_file ∷ []) (lens false d n (Open r 1)) d n (Opened t)) (sym (same_tag f))
-    (made (Free_file ∷ []) (lens false d n (Open r 1)) (lens false d n (Open r 0)) d n (Opened t) refl (refl, refl, refl, (refl, a)) (guarded_by (Free_file ∷ []) refl) refl)
+-- at the file the frames lead from one lock to none, and to a partial text that agrees; elsewhere they do nothing
+record Freed (h : PlainHost) (f : ℕ) (r : Reply) : Type 0 where
+  text : List ℕ
+  has : HasText h r.0 f text
+  here : (rasp : List (Option ℕ)) → Agrees rasp (file_at h.files f).text → IsKept (at_file f r.1) (lens false h.is_done h.version (Open rasp 1)) h.is_done h.version (Opened text)
+  elsewhere : (g : ℕ) → (g == f) ≡ false → AreSkips (at_file g r.1)
 
--- nothing but that
-freed : (h : Host) (f : ℕ) (t : List ℕ) → HostOk h → h.file f ≡ Opened t → LockReply h f t (reply h (Hunlockfile f ∷ []))
-freed h f t k was = record {
-  reply = record { host = h; frames = Hunlockfile f ∷ [] };
-  is = refl;
-  text2 = t;
-  done = refl;
-  version = refl;
-  becomes = was;
-  others = λ g e. refl;
-  here = λ r a. frees_it f h.done h.version r t a;
-  elsewhere = λ g e. (ap (λ (b : Bool). only b Free_file) e, tt);
-  sound = k;
-}
-
-place_passes : (p q : ℕ) (r : List (Option ℕ)) (t : List ℕ) → Agrees r t → p ≤ q → q ≤ length t → (nat_le p q && nat_le q (length r)) ≡ true
-place_passes p q r t a lp lq =
-    let l : q ≤ length r = omega (arith, agrees_length r t a) in
-    both _ _ (le-leb _ _ lp) (le-leb _ _ l)
-
--- Horigin, Hunlockfile
-pub sync_origin : (tools : Tools) (ok : ToolsOk tools) (h : Host) (f p n : ℕ) (t : List ℕ) → h.done ≡ false → HostOk h → h.file f ≡ Opened t → p ≤ length t → Sync tools h (Torigin f p n)
-sync_origin tools ok h f p n t d k was l =
-    locks_by tools h (Torigin f p n) f t _ refl was
-    (not_done tools h (Torigin f p n) _ d (ap (λ (x : HFile). on_open x (λ t2. when (is_place p t2) (reply h (Horigin f (tools.origin t2 p n) ∷ Hunlockfile f ∷ [])))) was ∙ ap (λ (b : Bool). when b (reply h (Horigin f (tools.origin t p n) ∷ Hunlockfile f ∷ []))) (le-leb _ _ l)))
-    (record {
-      reply = record { host = h; frames = Horigin f o ∷ Hunlockfile f ∷ [] };
-      is = refl;
-      text2 = t;
-      done = refl;
-      version = refl;
-      becomes = was;
-      others = λ g e. refl;
-      here = λ r a. subst (λ (b : Bool). IsKept (only b (Place o o) ∷ only b Free_file ∷ []) (lens false h.done h.version (Open r 1)) h.done h.version (Opened t)) (sym (same_tag f))
-          (made (Place o o ∷ Free_file ∷ []) (lens false h.done h.version (Open r 1)) (lens false h.done h.version (Open r 0)) h.done h.version (Opened t)
-          (if_passes _ (lens false h.done h.version (Open r 1)) (run (Free_file ∷ [])) _ (place_passes o o r t a le_self (ok.origin_fits t p n l)) refl)
-          (refl, refl, refl, (refl, a)) (guarded_by (Place o o ∷ Free_file ∷ []) refl) refl);
-      elsewhere = λ g e. (ap (λ (b : Bool). only b (Place o o)) e, (ap (λ (b : Bool). only b Free_file) e, tt));
-      sound = k;
-    })
+-- a message that locks f, with such an answer
+locks : (h : PlainHost) (m : Tmesg) (f : ℕ) → change_by m ≡ Lock f → HasFiles h.files → Opens h.files f → first_of_checks (host_checks h m) ≡ None → Freed h f (reply_to h m) → Synced h m
+locks h m f c sound o passes k = record { passes = passes; each = each; gone = lasts.gone; sound = still_has h.files r.0.files sound k.has.work lasts }
   where
-    o : ℕ
-    o = tools.origin t p n
+    r : Reply
+    r = reply_to h m
 
-    le_self : o ≤ o
-    le_self = omega arith
+    t : List ℕ
+    t = (file_at h.files f).text
 
--- Hclean, Hunlockfile
-pub sync_write : (tools : Tools) (h : Host) (f : ℕ) (t : List ℕ) → h.done ≡ false → HostOk h → h.file f ≡ Opened t → (f == 0) ≡ false → Sync tools h (Twrite f)
-sync_write tools h f t d k was z =
-    locks_by tools h (Twrite f) f t _ refl was
-    (not_done tools h (Twrite f) _ d (ap (λ (b : Bool). when (not b) (on_open (h.file f) (λ t2. reply h2 (Hclean f ∷ Hunlockfile f ∷ [])))) z ∙ ap (λ (x : HFile). on_open x (λ t2. reply h2 (Hclean f ∷ Hunlockfile f ∷ []))) was))
-    (record {
-      reply = record { host = h2; frames = Hclean f ∷ Hunlockfile f ∷ [] };
-      is = refl;
-      text2 = t;
-      done = refl;
-      version = refl;
-      becomes = was;
-      others = λ g e. refl;
-      here = λ r a. subst (λ (b : Bool). IsKept (only b Needs_known ∷ only b Free_file ∷ []) (lens false h.done h.version (Open r 1)) h.done h.version (Opened t)) (sym (same_tag f))
-          (made (Needs_known ∷ Free_file ∷ []) (lens false h.done h.version (Open r 1)) (lens false h.done h.version (Open r 0)) h.done h.version (Opened t) refl
-          (refl, refl, refl, (refl, a)) (guarded_by (Needs_known ∷ Free_file ∷ []) refl) refl);
-      elsewhere = λ g e. (ap (λ (b : Bool). only b Needs_known) e, (ap (λ (b : Bool). only b Free_file) e, tt));
-      sound = k;
-    })
+    lasts : Lasts (file_in h.files.slots) (file_in r.0.files.slots)
+    lasts = lasts_opened (file_in h.files.slots) (file_in r.0.files.slots) f t k.text o.shown k.has.files
+
+    -- what is kept, in the words of the host before
+    after : (g : ℕ) (v : Lens) → IsKept (at_file g r.1) v h.is_done h.version (put (file_in h.files.slots) f (Opened k.text) g) → IsKept (at_file g r.1) v r.0.is_done r.0.version (file_in r.0.files.slots g)
+    after g v x =
+        subst (λ (y : HFile). IsKept (at_file g r.1) v r.0.is_done r.0.version y) (sym (k.has.files g))
+        (subst (λ (y : ℕ). IsKept (at_file g r.1) v r.0.is_done y (put (file_in h.files.slots) f (Opened k.text) g)) (sym k.has.version)
+        (subst (λ (y : Bool). IsKept (at_file g r.1) v y h.version (put (file_in h.files.slots) f (Opened k.text) g)) (sym k.has.done) x))
+
+    each : (g : ℕ) (w : Lens) → IsSettled w h.is_done h.version (file_in h.files.slots g) → IsKept (at_file g r.1) (changed (change_by m) g w) r.0.is_done r.0.version (file_in r.0.files.slots g)
+    each g w s = subst (λ (x : Change). IsKept (at_file g r.1) (changed x g w) r.0.is_done r.0.version (file_in r.0.files.slots g)) (sym c) (after g _ (go (bool_cases (g == f))))
+      where
+        here : g ≡ f → IsKept (at_file g r.1) (locked_more w) h.is_done h.version (Opened k.text)
+        here e =
+            let u = settled_opened w h.is_done h.version t (subst (IsSettled w h.is_done h.version) (ap (file_in h.files.slots) e ∙ o.shown) s) in
+            subst (λ (y : Lens). IsKept (at_file g r.1) (locked_more y) h.is_done h.version (Opened k.text)) (sym u.1)
+            (subst (λ (y : ℕ). IsKept (at_file y r.1) (lens false h.is_done h.version (Open u.0 1)) h.is_done h.version (Opened k.text)) (sym e) (k.here u.0 u.2))
+
+        go : ((g == f) ≡ true) ⊎ ((g == f) ≡ false) → IsKept (at_file g r.1) (if g == f then locked_more w else w) h.is_done h.version (if g == f then Opened k.text else file_in h.files.slots g)
+        go (inl e) = subst (λ (b : Bool). IsKept (at_file g r.1) (if b then locked_more w else w) h.is_done h.version (if b then Opened k.text else file_in h.files.slots g)) (sym e) (here (eqb-true _ _ e))
+        go (inr e) = subst (λ (b : Bool). IsKept (at_file g r.1) (if b then locked_more w else w) h.is_done h.version (if b then Opened k.text else file_in h.files.slots g)) (sym e)
+            (kept_skips (at_file g r.1) w h.is_done h.version (file_in h.files.slots g) (k.elsewhere g e) s)
+
+-- the host as it was
+has_same : (h : PlainHost) (f : ℕ) → Opens h.files f → HasText h h f (file_at h.files f).text
+has_same h f o = record { files = λ g. put_again (file_in h.files.slots) f (Opened (file_at h.files f).text) g o.shown; work = refl; done = refl; version = refl }
+
+-- the host with an open file in its place
+has_put : (h : PlainHost) (f : ℕ) (x : PlainFile) → Opens h.files f → x.opened ≡ true → HasText h (with_file h f x) f x.text
+has_put h f x o e = record { files = put_opened h.files f o.given x e; work = refl; done = refl; version = refl }
+
+-- frames that tell of the file, and Hunlockfile
+freed : (h k : PlainHost) (f : ℕ) (front : List Hmesg) (text : List ℕ) → HasText h k f text → Told f front (file_at h.files f).text text → Freed h f (k, front ++ Hunlockfile f ∷ [])
+freed h k f front text has told = record { text = text; has = has; here = here; elsewhere = elsewhere }
   where
-    h2 : Host
-    h2 = record h { clean = λ g. choose (g == f) true (h.clean g) }
+    d : Bool
+    d = h.is_done
 
--- Hsetdot, Hunlockfile
-pub sync_dclick : (tools : Tools) (ok : ToolsOk tools) (h : Host) (f p : ℕ) (t : List ℕ) → h.done ≡ false → HostOk h → h.file f ≡ Opened t → p ≤ length t → Sync tools h (Tdclick f p)
-sync_dclick tools ok h f p t d k was l =
-    locks_by tools h (Tdclick f p) f t _ refl was
-    (not_done tools h (Tdclick f p) _ d (ap (λ (x : HFile). on_open x (λ t2. when (is_place p t2) (reply h (Hsetdot f (tools.word_at t2 p).0 (tools.word_at t2 p).1 ∷ Hunlockfile f ∷ [])))) was ∙ ap (λ (b : Bool). when b (reply h (Hsetdot f x y ∷ Hunlockfile f ∷ []))) (le-leb _ _ l)))
-    (record {
-      reply = record { host = h; frames = Hsetdot f x y ∷ Hunlockfile f ∷ [] };
-      is = refl;
-      text2 = t;
-      done = refl;
-      version = refl;
-      becomes = was;
-      others = λ g e. refl;
-      here = λ r a. subst (λ (b : Bool). IsKept (only b (Place x y) ∷ only b Free_file ∷ []) (lens false h.done h.version (Open r 1)) h.done h.version (Opened t)) (sym (same_tag f))
-          (made (Place x y ∷ Free_file ∷ []) (lens false h.done h.version (Open r 1)) (lens false h.done h.version (Open r 0)) h.done h.version (Opened t)
-          (if_passes _ (lens false h.done h.version (Open r 1)) (run (Free_file ∷ [])) _ (place_passes x y r t a (ok.word_fits t p l).0 (ok.word_fits t p l).1) refl)
-          (refl, refl, refl, (refl, a)) (guarded_by (Place x y ∷ Free_file ∷ []) refl) refl);
-      elsewhere = λ g e. (ap (λ (b : Bool). only b (Place x y)) e, (ap (λ (b : Bool). only b Free_file) e, tt));
-      sound = k;
-    })
+    n : ℕ
+    n = h.version
+
+    here : (rasp : List (Option ℕ)) → Agrees rasp (file_at h.files f).text → IsKept (at_file f (front ++ Hunlockfile f ∷ [])) (lens false d n (Open rasp 1)) d n (Opened text)
+    here rasp a =
+        let x = told.rewrites.runs false d n rasp 1 a in
+        let same : told.acts ++ Free_file ∷ [] ≡ at_file f (front ++ Hunlockfile f ∷ []) =
+        (λ i. sym (tells_there f f front told.acts (told.tells f) (eq-eqb f f refl)) i ++ only (sym (eq-eqb f f refl) i) Free_file ∷ []) ∙ sym (at_file-append f front (Hunlockfile f ∷ [])) in
+        subst (λ (u : List Action). IsKept u (lens false d n (Open rasp 1)) d n (Opened text)) same
+        (kept_by (told.acts ++ Free_file ∷ []) (lens false d n (Open rasp 1)) (lens false d n (Open x.rasp 0)) d n (Opened text)
+        (run-append_some told.acts (Free_file ∷ []) (lens false d n (Open rasp 1)) (lens false d n (Open x.rasp 1)) x.is)
+        (refl, refl, refl, (refl, x.agrees))
+        (guarded_before told.acts (Free_file ∷ []) refl (guarded_by (Free_file ∷ []) refl))
+        (no_close_behind told.acts (Free_file ∷ []) told.rewrites.no_close refl))
+
+    elsewhere : (g : ℕ) → (g == f) ≡ false → AreSkips (at_file g (front ++ Hunlockfile f ∷ []))
+    elsewhere g e = subst AreSkips (sym (at_file-append g front (Hunlockfile f ∷ []))) (skips-append _ _ (tells_elsewhere f g front told.acts (told.tells g) e) (ap (λ (b : Bool). only b Free_file) e, tt))
+
+freed_by : (h : PlainHost) (f : ℕ) (k : PlainHost) (frames u : List Hmesg) → u ≡ frames → Freed h f (k, u) → Freed h f (k, frames)
+freed_by h f k frames u e x = subst (λ (v : List Hmesg). Freed h f (k, v)) e x
+
+-- nothing but the lock is freed
+freed_only : (h : PlainHost) (f : ℕ) → Opens h.files f → Freed h f (h, Hunlockfile f ∷ [])
+freed_only h f o = freed h h f [] (file_at h.files f).text (has_same h f o) (told_nothing f (file_at h.files f).text)
+
+freed_if : (h : PlainHost) (f : ℕ) (b : Bool) (x y : Reply) → (b ≡ true → Freed h f x) → (b ≡ false → Freed h f y) → Freed h f (if b then x else y)
+freed_if h f true x y p q = p refl
+freed_if h f false x y p q = q refl
+
+-- ## The shared ending of a search, found or not
+
+abbrev InText : List ℕ → Option Range → Type 0
+InText t d = IfSome d (InRange (length t))
+
+freed_found : (h : PlainHost) (f : ℕ) (d : Option Range) (frames : List Hmesg) → Opens h.files f → InText (file_at h.files f).text d → Told f frames (file_at h.files f).text (file_at h.files f).text → Freed h f (reply_found h f d frames)
+freed_found h f None frames o within told = freed_only h f o
+freed_found h f (Some d) frames o within told =
+    let t : List ℕ = (file_at h.files f).text in
+    let last : List Hmesg = Hsetdot f d.0 d.1 ∷ Hmoveto f d.0 ∷ Hcheck f ∷ [] in
+    let first : d.0 ≤ length t = omega (arith, within.0, within.1) in
+    freed_by h f (with_file h f (record (file_at h.files f) { dot = d })) (frames ++ Hsetdot f d.0 d.1 ∷ Hmoveto f d.0 ∷ Hcheck f ∷ Hunlockfile f ∷ []) ((frames ++ last) ++ Hunlockfile f ∷ []) (append_assoc frames last (Hunlockfile f ∷ []))
+    (freed h (with_file h f (record (file_at h.files f) { dot = d })) f (frames ++ last) t (has_put h f (record (file_at h.files f) { dot = d }) o o.opened)
+    (told-append f frames last t t t told
+    (told-append f (Hsetdot f d.0 d.1 ∷ []) (Hmoveto f d.0 ∷ Hcheck f ∷ []) t t t (told_dot f d.0 d.1 t within.0 within.1)
+    (told-append f (Hmoveto f d.0 ∷ []) (Hcheck f ∷ []) t t t (told_move f d.0 t first) (told_check f t)))))
+
+-- what is searched for lies in the text
+searched_in : (t lit : List ℕ) (q : ℕ) → q ≤ length t → InText t (searched t lit q)
+searched_in t lit q l = searched_within t lit q l
+
+-- ## The messages
+
+pub sync_origin : (h : PlainHost) (f p n : ℕ) → HasFiles h.files → Opens h.files f → p ≤ length (file_at h.files f).text → Synced h (Torigin f p n)
+unfolding reply_origin
+sync_origin h f p n sound o l =
+    let t : List ℕ = (file_at h.files f).text in
+    let at : ℕ = lines_before t p n in
+    locks h (Torigin f p n) f refl sound o (open_tests h f o (past_end h f p ∷ []) (place_test h f p [] l refl))
+    (freed h h f (Horigin f at ∷ []) t (has_same h f o) (told_origin f at t (lines_before_within t p n)))
+
+pub sync_write : (h : PlainHost) (f : ℕ) → HasFiles h.files → Opens h.files f → (f == 0) ≡ false → Synced h (Twrite f)
+unfolding reply_write
+sync_write h f sound o z =
+    let file : PlainFile = file_at h.files f in
+    let written : PlainFile = record file { saved = Some file.text; dirty = false } in
+    locks h (Twrite f) f refl sound o (window_tests h f o z [] refl)
+    (freed h (with_file h f written) f (Hclean f ∷ []) file.text (has_put h f written o o.opened) (told_clean f file.text))
+
+pub sync_dclick : (h : PlainHost) (f p : ℕ) → HasFiles h.files → Opens h.files f → p ≤ length (file_at h.files f).text → Synced h (Tdclick f p)
+unfolding reply_dclick
+sync_dclick h f p sound o l =
+    let file : PlainFile = file_at h.files f in
+    let d : Range = word_at file.text p in
+    let in_text = word_at_within file.text p l in
+    locks h (Tdclick f p) f refl sound o (open_tests h f o (past_end h f p ∷ []) (place_test h f p [] l refl))
+    (freed h (with_file h f (record file { dot = d })) f (Hsetdot f d.0 d.1 ∷ []) file.text (has_put h f (record file { dot = d }) o o.opened) (told_dot f d.0 d.1 file.text in_text.0 in_text.1))
+
+pub sync_look : (h : PlainHost) (f p q : ℕ) → HasFiles h.files → Opens h.files f → p ≤ q → q ≤ length (file_at h.files f).text → Synced h (Tlook f p q)
+unfolding reply_look
+sync_look h f p q sound o l l2 =
+    let t : List ℕ = (file_at h.files f).text in
+    let lit : List ℕ = part t p q in
+    let k : PlainHost = with_files h (record h.files { pattern = Some lit }) in
+    let x = freed_found k f (searched t lit q) (Hsetpat lit ∷ []) (record { given = o.given; there = o.there; opened = o.opened; shown = o.shown }) (searched_in t lit q l2) (told_pattern f lit t) in
+    locks h (Tlook f p q) f refl sound o (open_tests h f o (no_range h f p q ∷ []) (range_test h f p q l l2))
+    (freed_if h f (is_empty lit || nat_lt most_in_pattern (length lit)) (h, Hunlockfile f ∷ []) (reply_found k f (searched t lit q) (Hsetpat lit ∷ [])) (λ e. freed_only h f o)
+    (λ e. record { text = x.text; has = record { files = x.has.files; work = x.has.work; done = x.has.done; version = x.has.version }; here = x.here; elsewhere = x.elsewhere }))
+
+pub sync_search : (h : PlainHost) (f p q : ℕ) → HasFiles h.files → Opens h.files f → p ≤ q → q ≤ length (file_at h.files f).text → Synced h (Tsearch f p q)
+unfolding reply_search
+sync_search h f p q sound o l l2 =
+    locks h (Tsearch f p q) f refl sound o (open_tests h f o (no_range h f p q ∷ []) (range_test h f p q l l2))
+    (freed_found h f (searched_for h.files.pattern t q) [] o (found h.files.pattern) (told_nothing f t))
   where
-    x : ℕ
-    x = (tools.word_at t p).0
+    t : List ℕ
+    t = (file_at h.files f).text
 
-    y : ℕ
-    y = (tools.word_at t p).1
+    found : (lit : Option (List ℕ)) → InText t (searched_for lit t q)
+    found None = tt
+    found (Some lit) = searched_within t lit q l2
 
-found_runs : (d : Bool) (n : ℕ) (r : List (Option ℕ)) (t : List ℕ) → Agrees r t → (x y : ℕ) → x ≤ y → y ≤ length t → run (Place x y ∷ Place x x ∷ Needs_open ∷ Free_file ∷ []) (lens false d n (Open r 1)) ≡ Some (lens false d n (Open r 0))
-found_runs d n r t a x y l l2 =
-    let l3 : x ≤ length t = omega arith in
-    let l4 : x ≤ x = omega arith in
-    if_passes _ (lens false d n (Open r 1)) (run (Place x x ∷ Needs_open ∷ Free_file ∷ [])) _ (place_passes x y r t a l l2)
-    (if_passes _ (lens false d n (Open r 1)) (run (Needs_open ∷ Free_file ∷ [])) _ (place_passes x x r t a l4 l3) refl)
-
--- a search, found or not
-found_reply : (h : Host) (f : ℕ) (t : List ℕ) (o : Option (ℕ × ℕ)) (pat : Bool) → HostOk h → h.file f ≡ Opened t → RangeFits o t → LockReply h f t (found h f o (choose pat (Hsetpat ∷ []) []))
-found_reply h f t None pat k was fits = freed h f t k was
-found_reply h f t (Some x) true k was fits = record {
-  reply = record { host = h; frames = Hsetpat ∷ Hsetdot f x.0 x.1 ∷ Hmoveto f x.0 ∷ Hcheck f ∷ Hunlockfile f ∷ [] };
-  is = refl;
-  text2 = t;
-  done = refl;
-  version = refl;
-  becomes = was;
-  others = λ g e. refl;
-  here = λ r a. subst (λ (b : Bool). IsKept (Skip ∷ only b (Place x.0 x.1) ∷ only b (Place x.0 x.0) ∷ only b Needs_open ∷ only b Free_file ∷ []) (lens false h.done h.version (Open r 1)) h.done h.version (Opened t)) (sym (same_tag f))
-      (made (Skip ∷ Place x.0 x.1 ∷ Place x.0 x.0 ∷ Needs_open ∷ Free_file ∷ []) (lens false h.done h.version (Open r 1)) (lens false h.done h.version (Open r 0)) h.done h.version (Opened t)
-      (found_runs h.done h.version r t a x.0 x.1 fits.0 fits.1)
-      (refl, refl, refl, (refl, a)) (guarded_by (Skip ∷ Place x.0 x.1 ∷ Place x.0 x.0 ∷ Needs_open ∷ Free_file ∷ []) refl) refl);
-  elsewhere = λ g e. (refl, (ap (λ (b : Bool). only b (Place x.0 x.1)) e, (ap (λ (b : Bool). only b (Place x.0 x.0)) e, (ap (λ (b : Bool). only b Needs_open) e, (ap (λ (b : Bool). only b Free_file) e, tt)))));
-  sound = k;
-}
-found_reply h f t (Some x) false k was fits = record {
-  reply = record { host = h; frames = Hsetdot f x.0 x.1 ∷ Hmoveto f x.0 ∷ Hcheck f ∷ Hunlockfile f ∷ [] };
-  is = refl;
-  text2 = t;
-  done = refl;
-  version = refl;
-  becomes = was;
-  others = λ g e. refl;
-  here = λ r a. subst (λ (b : Bool). IsKept (only b (Place x.0 x.1) ∷ only b (Place x.0 x.0) ∷ only b Needs_open ∷ only b Free_file ∷ []) (lens false h.done h.version (Open r 1)) h.done h.version (Opened t)) (sym (same_tag f))
-      (made (Place x.0 x.1 ∷ Place x.0 x.0 ∷ Needs_open ∷ Free_file ∷ []) (lens false h.done h.version (Open r 1)) (lens false h.done h.version (Open r 0)) h.done h.version (Opened t)
-      (found_runs h.done h.version r t a x.0 x.1 fits.0 fits.1)
-      (refl, refl, refl, (refl, a)) (guarded_by (Place x.0 x.1 ∷ Place x.0 x.0 ∷ Needs_open ∷ Free_file ∷ []) refl) refl);
-  elsewhere = λ g e. (ap (λ (b : Bool). only b (Place x.0 x.1)) e, (ap (λ (b : Bool). only b (Place x.0 x.0)) e, (ap (λ (b : Bool). only b Needs_open) e, (ap (λ (b : Bool). only b Free_file) e, tt))));
-  sound = k;
-}
-
-when_true : (b : Bool) (x : Option Answer) → b ≡ true → when b x ≡ x
-when_true b x e = ap (λ (c : Bool). when c x) e
-
--- a message of an open file, with places in range
-opens : (h : Host) (f : ℕ) (t : List ℕ) (k : List ℕ → Option Answer) → h.file f ≡ Opened t → on_open (h.file f) k ≡ k t
-opens h f t k e = ap (λ (x : HFile). on_open x k) e
-
-range_true : (p q : ℕ) (t : List ℕ) → p ≤ q → q ≤ length t → is_range p q t ≡ true
-range_true p q t a b = both _ _ (le-leb _ _ a) (le-leb _ _ b)
-
-pub sync_look : (tools : Tools) (ok : ToolsOk tools) (h : Host) (f p q : ℕ) (t : List ℕ) → h.done ≡ false → HostOk h → h.file f ≡ Opened t → p ≤ q → q ≤ length t → Sync tools h (Tlook f p q)
-sync_look tools ok h f p q t d k was l l2 =
-    locks_by tools h (Tlook f p q) f t _ refl was
-    (not_done tools h (Tlook f p q) _ d (opens h f t _ was ∙ when_true (is_range p q t) _ (range_true p q t l l2)))
-    (go ((p == q) || nat_lt 128 (q - p)))
+pub sync_paste : (h : PlainHost) (f p : ℕ) → HasFiles h.files → Opens h.files f → p ≤ length (file_at h.files f).text → Synced h (Tpaste f p)
+unfolding reply_paste
+sync_paste h f p sound o l =
+    locks h (Tpaste f p) f refl sound o (open_tests h f o (past_end h f p ∷ []) (place_test h f p [] l refl))
+    (freed_if h f (is_empty s || nat_lt max_runes (length t + length s)) (h, Hunlockfile f ∷ []) (with_file h f pasted, (grown h.files f p s ++ dirty) ++ (last ++ Hunlockfile f ∷ [])) (λ e. freed_only h f o) (λ e. fits (ltb-false _ _ (right (is_empty s) (nat_lt max_runes (length t + length s)) e))))
   where
-    h2 : Host
-    h2 = record h { pattern = Some (between p q t) }
+    file : PlainFile
+    file = file_at h.files f
 
-    hit : LockReply h f t (found h2 f (tools.find t (between p q t) q) (Hsetpat ∷ []))
-    hit = let x = found_reply h2 f t (tools.find t (between p q t) q) true k was (ok.find_fits t (between p q t) q) in
-        record { reply = x.reply; is = x.is; text2 = x.text2; done = x.done; version = x.version; becomes = x.becomes; others = x.others; here = x.here; elsewhere = x.elsewhere; sound = x.sound }
+    t : List ℕ
+    t = file.text
 
-    go : (b : Bool) → LockReply h f t (choose b (reply h (Hunlockfile f ∷ [])) (found h2 f (tools.find t (between p q t) q) (Hsetpat ∷ [])))
-    go true = freed h f t k was
-    go false = hit
+    s : List ℕ
+    s = h.files.snarf
 
-pub sync_search : (tools : Tools) (ok : ToolsOk tools) (h : Host) (f p q : ℕ) (t : List ℕ) → h.done ≡ false → HostOk h → h.file f ≡ Opened t → p ≤ q → q ≤ length t → Sync tools h (Tsearch f p q)
-sync_search tools ok h f p q t d k was l l2 =
-    locks_by tools h (Tsearch f p q) f t _ refl was
-    (not_done tools h (Tsearch f p q) _ d (opens h f t _ was ∙ when_true (is_range p q t) _ (range_true p q t l l2)))
-    (go h.pattern)
-  where
-    go : (o : Option (List ℕ)) → LockReply h f t (searched tools h f t q o)
-    go None = freed h f t k was
-    go (Some s) = found_reply h f t (tools.find t s q) false k was (ok.find_fits t s q)
+    pasted : PlainFile
+    pasted = pasted_file f file p s
 
--- Hsetdot, Hcheck, Hunlockfile
-tail_kept : (f x y : ℕ) (d : Bool) (n : ℕ) (r : List (Option ℕ)) (t : List ℕ) → Agrees r t → x ≤ y → y ≤ length t → IsKept (at_file f (Hsetdot f x y ∷ Hcheck f ∷ Hunlockfile f ∷ [])) (lens false d n (Open r 1)) d n (Opened t)
-tail_kept f x y d n r t a l l2 = subst (λ (b : Bool). IsKept (only b (Place x y) ∷ only b Needs_open ∷ only b Free_file ∷ []) (lens false d n (Open r 1)) d n (Opened t)) (sym (same_tag f))
-    (made (Place x y ∷ Needs_open ∷ Free_file ∷ []) (lens false d n (Open r 1)) (lens false d n (Open r 0)) d n (Opened t)
-    (if_passes _ (lens false d n (Open r 1)) (run (Needs_open ∷ Free_file ∷ [])) _ (place_passes x y r t a l l2) refl)
-    (refl, refl, refl, (refl, a)) (guarded_by (Place x y ∷ Needs_open ∷ Free_file ∷ []) refl) refl)
+    dirty : List Hmesg
+    dirty = when (not file.dirty && not (f == 0)) (Hdirty f ∷ [])
 
-tail_frees : (f x y : ℕ) → frees (at_file f (Hsetdot f x y ∷ Hcheck f ∷ Hunlockfile f ∷ [])) ≡ true
-tail_frees f x y = ap (λ (b : Bool). frees (only b (Place x y) ∷ only b Needs_open ∷ only b Free_file ∷ [])) (same_tag f)
+    last : List Hmesg
+    last = Hsetdot f p (p + length s) ∷ Hcheck f ∷ []
 
-dirty_runs : (f : ℕ) (x : Bool) (c e : Bool) (n : ℕ) (r : List (Option ℕ)) (k : ℕ) → run (at_file f (choose x (Hdirty f ∷ []) [])) (lens c e n (Open r k)) ≡ Some (lens c e n (Open r k))
-dirty_runs f true c e n r k = ap (λ (b : Bool). run (only b Needs_known ∷ []) (lens c e n (Open r k))) (same_tag f)
-dirty_runs f false c e n r k = refl
+    right : (a b : Bool) → (a || b) ≡ false → b ≡ false
+    right true b e = absurd (true≢false e)
+    right false b e = e
 
-dirty_no_close : (f : ℕ) (x : Bool) → closes (at_file f (choose x (Hdirty f ∷ []) [])) ≡ false
-dirty_no_close f true = ap (λ (b : Bool). closes (only b Needs_known ∷ [])) (same_tag f)
-dirty_no_close f false = refl
-
-dirty_elsewhere : (g f : ℕ) (x : Bool) → (g == f) ≡ false → AreSkips (at_file g (choose x (Hdirty f ∷ []) []))
-dirty_elsewhere g f true e = (ap (λ (b : Bool). only b Needs_known) e, tt)
-dirty_elsewhere g f false e = tt
-
--- frames behind frames
-behind : (u rest : List Action) (v w : Lens) (d : Bool) (n : ℕ) (file : HFile) → run u v ≡ Some w → closes u ≡ false → frees rest ≡ true → IsKept rest w d n file → IsKept (u ++ rest) v d n file
-behind u rest v w d n file r c fr k = record {
-  final = k.final;
-  runs = run-append_some u rest v w r ∙ k.runs;
-  settled = k.settled;
-  guarded = guarded_before u rest fr k.guarded;
-  closed = λ e. either (closes-append u rest e) k.closed;
-}
-  where
-    either : (closes u ≡ true) ⊎ (closes rest ≡ true) → (closes rest ≡ true → file ≡ Gone) → file ≡ Gone
-    either (inl e) h = absurd (true≢false (sym e ∙ c))
-    either (inr e) h = h e
-
--- a paste
-pub sync_paste : (tools : Tools) (h : Host) (f p : ℕ) (t : List ℕ) → h.done ≡ false → HostOk h → h.file f ≡ Opened t → p ≤ length t → Sync tools h (Tpaste f p)
-sync_paste tools h f p t d k was l =
-    locks_by tools h (Tpaste f p) f t _ refl was
-    (not_done tools h (Tpaste f p) _ d (opens h f t _ was ∙ when_true (is_place p t) _ (le-leb _ _ l)))
-    (go h.snarf)
-  where
-    pastes : (s : List ℕ) (x : Bool) → length t + length s ≤ limit → (clean : ℕ → Bool) → LockReply h f t (reply (record h { file = put h.file f (Opened (inserted p s t)); clean = clean }) ((grown_by f p s ++ choose x (Hdirty f ∷ []) []) ++ (Hsetdot f p (p + length s) ∷ Hcheck f ∷ Hunlockfile f ∷ [])))
-    pastes s x room clean =
-        let last : p + length s ≤ length (inserted p s t) = omega (arith, length-inserted p s t l) in
+    fits : length t + length s ≤ max_runes → Freed h f (with_file h f pasted, (grown h.files f p s ++ dirty) ++ (last ++ Hunlockfile f ∷ []))
+    fits room =
+        let longer : length (ins t p s) ≡ length t + length s = length-ins t s p l in
         let first : p ≤ p + length s = omega arith in
-        let long : length (inserted p s t) ≤ limit = omega (arith, length-inserted p s t l) in
-        record {
-          reply = record { host = record h { file = put h.file f (Opened (inserted p s t)); clean = clean }; frames = (grown_by f p s ++ choose x (Hdirty f ∷ []) []) ++ (Hsetdot f p (p + length s) ∷ Hcheck f ∷ Hunlockfile f ∷ []) };
-          is = refl;
-          text2 = inserted p s t;
-          done = refl;
-          version = refl;
-          becomes = put_same h.file f (Opened (inserted p s t));
-          others = λ g e. put_other h.file f (Opened (inserted p s t)) g e;
-          here = λ r a. subst (λ (u : List Action). IsKept u (lens false h.done h.version (Open r 1)) h.done h.version (Opened (inserted p s t))) (sym (at_file-append f (grown_by f p s ++ choose x (Hdirty f ∷ []) []) (Hsetdot f p (p + length s) ∷ Hcheck f ∷ Hunlockfile f ∷ [])))
-              (here r a (grown_there f f p s false h.done h.version r 1 t (same_tag f) a l room) first last);
-          elsewhere = λ g e. subst AreSkips (sym (at_file-append g (grown_by f p s ++ choose x (Hdirty f ∷ []) []) (Hsetdot f p (p + length s) ∷ Hcheck f ∷ Hunlockfile f ∷ []) ∙ ap (λ (u : List Action). u ++ at_file g (Hsetdot f p (p + length s) ∷ Hcheck f ∷ Hunlockfile f ∷ [])) (at_file-append g (grown_by f p s) (choose x (Hdirty f ∷ []) []))))
-              (skips-append _ _ (skips-append _ _ (grown_elsewhere g f p s e) (dirty_elsewhere g f x e)) (ap (λ (b : Bool). only b (Place p (p + length s))) e, (ap (λ (b : Bool). only b Needs_open) e, (ap (λ (b : Bool). only b Free_file) e, tt))));
-          sound = ok_put h.file h.given h.work f t (inserted p s t) k was long;
-        }
-      where
-        here : (r : List (Option ℕ)) → Agrees r t → GrownRun (at_file f (grown_by f p s)) false h.done h.version r 1 (inserted p s t) → p ≤ p + length s → p + length s ≤ length (inserted p s t)
-            → IsKept (at_file f (grown_by f p s ++ choose x (Hdirty f ∷ []) []) ++ at_file f (Hsetdot f p (p + length s) ∷ Hcheck f ∷ Hunlockfile f ∷ [])) (lens false h.done h.version (Open r 1)) h.done h.version (Opened (inserted p s t))
-        here r a g first last =
-            let joined = at_file-append f (grown_by f p s) (choose x (Hdirty f ∷ []) []) in
-            behind _ _ _ (lens false h.done h.version (Open g.rasp 1)) _ _ _
-            (ap (λ (u : List Action). run u (lens false h.done h.version (Open r 1))) joined ∙ run-append_some (at_file f (grown_by f p s)) (at_file f (choose x (Hdirty f ∷ []) [])) _ _ g.runs ∙ dirty_runs f x false h.done h.version g.rasp 1)
-            (ap closes joined ∙ no_close_behind (at_file f (grown_by f p s)) _ g.no_close (dirty_no_close f x))
-            (tail_frees f p (p + length s))
-            (tail_kept f p (p + length s) h.done h.version g.rasp (inserted p s t) g.agrees first last)
+        let end : p + length s ≤ length (ins t p s) = omega (arith, longer, l) in
+        freed_by h f (with_file h f pasted) ((grown h.files f p s ++ dirty) ++ (last ++ Hunlockfile f ∷ [])) (((grown h.files f p s ++ dirty) ++ last) ++ Hunlockfile f ∷ []) (append_assoc (grown h.files f p s ++ dirty) last (Hunlockfile f ∷ []))
+        (freed h (with_file h f pasted) f ((grown h.files f p s ++ dirty) ++ last) (ins t p s) (has_put h f pasted o o.opened)
+        (told-append f (grown h.files f p s ++ dirty) last t (ins t p s) (ins t p s)
+        (told-append f (grown h.files f p s) dirty t (ins t p s) (ins t p s) (told_grown h.files f p s t o.opened l room) (told_if _ f (Hdirty f ∷ []) (ins t p s) (told_dirty f (ins t p s))))
+        (told-append f (Hsetdot f p (p + length s) ∷ []) (Hcheck f ∷ []) (ins t p s) (ins t p s) (ins t p s) (told_dot f p (p + length s) (ins t p s) first end) (told_check f (ins t p s)))))
 
-    go : (s : List ℕ) → LockReply h f t (pasted h f p t s)
-    go [] = freed h f t k was
-    go (x ∷ s) = fits (bool_cases (nat_le (length t + length (x ∷ s)) limit))
-      where
-        fits : ((nat_le (length t + length (x ∷ s)) limit) ≡ true) ⊎ ((nat_le (length t + length (x ∷ s)) limit) ≡ false) → LockReply h f t (pasted h f p t (x ∷ s))
-        fits (inl e) = subst (LockReply h f t) (sym (ap (λ (b : Bool). choose b
-            (reply (record h { file = put h.file f (Opened (inserted p (x ∷ s) t)); clean = λ g. choose (g == f) false (h.clean g) }) (grown_by f p (x ∷ s) ++ choose (h.clean f && not (f == 0)) (Hdirty f ∷ []) [] ++ Hsetdot f p (p + length (x ∷ s)) ∷ Hcheck f ∷ Hunlockfile f ∷ []))
-            (reply h (Hunlockfile f ∷ []))) e)) (pastes (x ∷ s) (h.clean f && not (f == 0)) (leb-true _ _ e) (λ g. choose (g == f) false (h.clean g)))
-        fits (inr e) = subst (LockReply h f t) (sym (ap (λ (b : Bool). choose b
-            (reply (record h { file = put h.file f (Opened (inserted p (x ∷ s) t)); clean = λ g. choose (g == f) false (h.clean g) }) (grown_by f p (x ∷ s) ++ choose (h.clean f && not (f == 0)) (Hdirty f ∷ []) [] ++ Hsetdot f p (p + length (x ∷ s)) ∷ Hcheck f ∷ Hunlockfile f ∷ []))
-            (reply h (Hunlockfile f ∷ []))) e)) (freed h f t k was)
+-- ## A request
 
--- a Trequest that an event composes
-pub sync_request : (tools : Tools) (h : Host) (f p n : ℕ) (t : List ℕ) → h.done ≡ false → HostOk h → h.file f ≡ Opened t → Sync tools h (Trequest f p n)
-sync_request tools h f p n t d k was =
-    locks_by tools h (Trequest f p n) f t _ refl was
-    (not_done tools h (Trequest f p n) _ d (ap (λ (x : HFile). requested h x f p n) was))
-    (record {
-      reply = record { host = h; frames = request_frames f t p n };
-      is = refl;
-      text2 = t;
-      done = refl;
-      version = refl;
-      becomes = was;
-      others = λ g e. refl;
-      here = λ r a. subst (λ (b : Bool). IsKept (only b (Fill (min p (length t)) (take (min n 512) (drop p t))) ∷ only b Free_file ∷ []) (lens false h.done h.version (Open r 1)) h.done h.version (Opened t)) (sym (same_tag f))
-          (subst (λ (x : Bool). IsKept (request_actions x (Opened t) p n) (lens false h.done h.version (Open r 1)) h.done h.version (Opened t)) d (kept_data h.done h.version r t p n d a));
-      elsewhere = λ g e. (ap (λ (b : Bool). only b (Fill (min p (length t)) (take (min n 512) (drop p t)))) e, (ap (λ (b : Bool). only b Free_file) e, tt));
-      sound = k;
-    })
+-- what is asked for
+asked : (t : List ℕ) (p k : ℕ) → part t (min p (length t)) (min (p + k) (length t)) ≡ take k (drop p t)
+asked t p k =
+    let n : min (p + k) (length t) - min p (length t) ≡ min k (length (drop p t)) = omega (arith, length-drop p t) in
+    ap (λ (u : List ℕ). take (min (p + k) (length t) - min p (length t)) u) (drop_min p t)
+    ∙ ap (λ (j : ℕ). take j (drop p t)) n
+    ∙ take_min k (drop p t)
+
+-- how the frames that answer it act at the file and elsewhere
+pub request_tells : (h : PlainHost) (f p n : ℕ) → Opens h.files f → (g : ℕ) → at_file g (reply_request h f p n).1 ≡ map (only (g == f)) (request_actions false (Opened (file_at h.files f).text) p n)
+unfolding reply_request when
+request_tells h f p n o g =
+    let t : List ℕ = (file_at h.files f).text in
+    ap (λ (b : Bool). at_file g (if b then Hdata f (min p (length t)) (part t (min p (length t)) (min (p + min n most_in_message) (length t))) ∷ Hunlockfile f ∷ [] else [])) o.there
+    ∙ ap (λ (x : List ℕ). only (g == f) (Fill (min p (length t)) x) ∷ only (g == f) Free_file ∷ []) (asked t p (min n most_in_message))
+
+pub request_passes : (h : PlainHost) (f p n : ℕ) → f < length h.files.slots → (has_file h.files f && not (file_at h.files f).opened) ≡ false → first_of_checks (host_checks h (Trequest f p n)) ≡ None
+request_passes h f p n l e = test (nat_le (length h.files.slots) f) NoFile ((has_file h.files f && not (file_at h.files f).opened, NotOpen) ∷ []) (lt-leb (length h.files.slots) f l) (last_test (has_file h.files f && not (file_at h.files f).opened) NotOpen e)
+
+pub open_passes : (h : PlainHost) (f : ℕ) → Opens h.files f → (has_file h.files f && not (file_at h.files f).opened) ≡ false
+open_passes h f o = λ i. o.there i && not (o.opened i)
+
+-- of a file that was closed
+pub none_passes : (h : PlainHost) (f : ℕ) → slot h.files.slots f ≡ None → (has_file h.files f && not (file_at h.files f).opened) ≡ false
+none_passes h f e = ap (λ (b : Bool). b && not (file_at h.files f).opened) (ap is_some e)
+
+pub none_tells : (h : PlainHost) (f p n : ℕ) → slot h.files.slots f ≡ None → (g : ℕ) → at_file g (reply_request h f p n).1 ≡ []
+unfolding reply_request when
+none_tells h f p n e g =
+    let t : List ℕ = (file_at h.files f).text in
+    ap (λ (x : Option PlainFile). at_file g (if is_some x then Hdata f (min p (length t)) (part t (min p (length t)) (min (p + min n most_in_message) (length t))) ∷ Hunlockfile f ∷ [] else [])) e
+
+-- one that an event composes
+pub sync_request : (h : PlainHost) (f p n : ℕ) → h.is_done ≡ false → HasFiles h.files → Opens h.files f → Synced h (Trequest f p n)
+unfolding reply_request
+sync_request h f p n d sound o =
+    locks h (Trequest f p n) f refl sound o (request_passes h f p n o.given (open_passes h f o))
+    (record { text = t; has = has_same h f o; here = here; elsewhere = λ g e. tells_elsewhere f g (reply_request h f p n).1 (request_actions false (Opened t) p n) (request_tells h f p n o g) e })
+  where
+    t : List ℕ
+    t = (file_at h.files f).text
+
+    here : (rasp : List (Option ℕ)) → Agrees rasp t → IsKept (at_file f (reply_request h f p n).1) (lens false h.is_done h.version (Open rasp 1)) h.is_done h.version (Opened t)
+    here rasp a =
+        subst (λ (u : List Action). IsKept u (lens false h.is_done h.version (Open rasp 1)) h.is_done h.version (Opened t)) (sym (tells_there f f (reply_request h f p n).1 (request_actions false (Opened t) p n) (request_tells h f p n o f) (eq-eqb f f refl)))
+        (subst (λ (b : Bool). IsKept (request_actions b (Opened t) p n) (lens false h.is_done h.version (Open rasp 1)) h.is_done h.version (Opened t)) d (kept_data h.is_done h.version rasp t p n d a))

@@ -1,25 +1,25 @@
 -- The fold of what is under way, one message or frame more or less.
-use Rattle.std.proofs.Common.{◌≡◌, ℕ, min, Bool, true, false, if◌then◌else◌, ◌==◌, List, [], ◌∷◌, ◌++◌, length, map, take, drop, Option, Some, None, ◌⊎◌, inl, inr, refl, sym, ap, ◌∙◌, subst, append-nil, append_assoc, eqb-true, eq-eqb, true≢false}
-use Rattle.std.proofs.lemmas.List.{map-append}
+use Rattle.std.proofs.Common.{◌≡◌, ℕ, Bool, true, false, if◌then◌else◌, ◌==◌, List, [], ◌∷◌, ◌++◌, map, Option, Some, None, ◌⊎◌, inl, inr, refl, sym, ap, ◌∙◌, subst, append-nil, append_assoc, eqb-true, eq-eqb}
 use Rattle.sam_runes.specs.Checks.{first_of_checks}
 use Rattle.sam_mesg.specs.declared.tmesg.Tmesg.{Tmesg}
 use Rattle.sam_mesg.specs.declared.tmesg.Tmesg.TheVariants.{Trequest, Tack}
 use Rattle.sam_mesg.specs.declared.hmesg.Hmesg.{Hmesg}
 use Rattle.sam_host.specs.Host.{PlainHost, Reply, counted, host_checks, reply_to, reply_request}
 use Rattle.sam_host.specs.declared.fault.HostFault.{HostFault}
-use Rattle.sam_protocol.specs.Lens.{locked_more, Lens, lens, Unknown, Known, Open, Action, Fill, Free_file, move, IsFree, IsAlike, IsOpen, exited_of, HFile, Absent, Hidden, Named, Opened, Gone, IsKept, CanRequest, request_actions, AreSkips}
-use Rattle.sam_protocol.specs.Model as P
-use Rattle.sam_protocol.specs.Model.{Answer, at_file, action, only, choose, requested_frames, VersionsGuarded}
-use Rattle.sam_protocol.specs.Crossing.{Change, Same, Lock, Command, Types, Cuts, Line, changed, commanded, typed_in, cut_out}
-use Rattle.sam_protocol.specs.View.{frame_of}
-use Rattle.sam_protocol.specs.HostView.{file_in, model_of, Mirrors}
-use Rattle.sam_protocol.specs.Synced.{Synced, change_by}
-use Rattle.sam_protocol.specs.Handled.{IsSteady, quiet_outcome}
-use Rattle.sam_protocol.specs.Fold.{replied, reply_of, behind, replied_then, answers, frames_at, Kept, IsAllowed}
-use Rattle.sam_protocol.proofs.Versions.{versions-append}
+use Rattle.sam_protocol.proofs.Lenses.{locked_more, IsFree, IsAlike, IsOpen, exited_of, CanRequest, request_actions}
+use Rattle.sam_protocol.specs.Lens.{Lens, lens, Unknown, Known, Open, Action, move, HFile, Absent, Hidden, Named, Opened, Gone, IsKept}
+use Rattle.sam_protocol.specs.Frames.{at_file, action, only, VersionsGuarded}
+use Rattle.sam_protocol.proofs.Changes.{change_by, Change, Same, Lock, Command, Types, Cuts, Line, changed, commanded, typed_in, cut_out, IsAllowed}
+use Rattle.sam_protocol.specs.View.{file_in}
+use Rattle.sam_protocol.proofs.Accepting.{Synced}
+use Rattle.sam_protocol.specs.Steady.{IsSteady}
+use Rattle.sam_protocol.specs.Fold.{replied, reply_of, behind, replied_then, answers, Kept}
+use Rattle.sam_protocol.proofs.Versions.{versions-append, guarded_reply}
 use Rattle.sam_protocol.proofs.Kept.{kept_take, kept_append, kept_act, kept_more, kept_request, kept_skips, alike_same}
-use Rattle.sam_protocol.proofs.MirrorSteps.{open_at}
-use Rattle.sam_protocol.proofs.Mirror.{mirror_request, mirror_request_gone}
+use Rattle.sam_protocol.proofs.HostFiles.{bool_cases, opens_at, gone_at}
+use Rattle.sam_protocol.proofs.Guards.{at_file-append}
+use Rattle.sam_protocol.proofs.Telling.{tells_there, tells_elsewhere}
+use Rattle.sam_protocol.proofs.FileLocks.{request_tells, request_passes, open_passes, none_passes, none_tells}
 
 the_reply : {p q : Reply} → Some p ≡ Some q → p ≡ q
 the_reply e = cc
@@ -56,9 +56,6 @@ answers-append h (m ∷ ms) ns a b e f =
     ∙ ap (λ (fs : List Hmesg). Some (b.0, fs)) (sym (append_assoc t.first.1 t.rest.1 b.1))
     ∙ ap (λ (x : Reply). Some (b.0, x.1 ++ b.1)) (sym t.whole)
 
-pub frames_at-append : (g : ℕ) (a b : List Hmesg) → frames_at g (a ++ b) ≡ frames_at g a ++ frames_at g b
-frames_at-append g a b = ap (at_file g) (map-append frame_of a b) ∙ map-append (action g) (map frame_of a) (map frame_of b)
-
 -- ## The host takes the first message
 
 -- it doesn't refuse it, and what it answers joins what is down
@@ -81,28 +78,28 @@ host_takes h views m line down k =
             ahead = k.ahead;
             frames = t.rest.1;
             folds = t.later ∙ ap (λ (x : PlainHost). Some (x, t.rest.1)) (sym ahead);
-            each = λ g. subst (λ (u : List Hmesg). IsKept (frames_at g u) (views g) k.ahead.is_done k.ahead.version (file_in k.ahead.files.slots g)) same (k.each g);
+            each = λ g. subst (λ (u : List Hmesg). IsKept (at_file g u) (views g) k.ahead.is_done k.ahead.version (file_in k.ahead.files.slots g)) same (k.each g);
             steady = k.steady;
-            versions = subst (λ (u : List Hmesg). VersionsGuarded (map frame_of u)) same k.versions;
+            versions = subst (λ (u : List Hmesg). VersionsGuarded u) same k.versions;
           };
     }
 
 -- ## The terminal takes the first frame
 
 -- no lens refuses it
-pub frame_moves : (h : PlainHost) (views : ℕ → Lens) (line : List Tmesg) (m : Hmesg) (down : List Hmesg) → Kept h views line (m ∷ down) → (g : ℕ) → (v : Lens) × (move (action g (frame_of m)) (views g) ≡ Some v)
+pub frame_moves : (h : PlainHost) (views : ℕ → Lens) (line : List Tmesg) (m : Hmesg) (down : List Hmesg) → Kept h views line (m ∷ down) → (g : ℕ) → (v : Lens) × (move (action g m) (views g) ≡ Some v)
 frame_moves h views line m down k g =
-    let t = kept_take (action g (frame_of m)) (frames_at g (down ++ k.frames)) (views g) k.ahead.is_done k.ahead.version (file_in k.ahead.files.slots g) (k.each g) in
+    let t = kept_take (action g m) (at_file g (down ++ k.frames)) (views g) k.ahead.is_done k.ahead.version (file_in k.ahead.files.slots g) (k.each g) in
     (t.mid, t.moves)
 
-pub term_takes : (h : PlainHost) (views views2 : ℕ → Lens) (line : List Tmesg) (m : Hmesg) (down : List Hmesg) → Kept h views line (m ∷ down) → ((g : ℕ) → move (action g (frame_of m)) (views g) ≡ Some (views2 g)) → Kept h views2 line down
+pub term_takes : (h : PlainHost) (views views2 : ℕ → Lens) (line : List Tmesg) (m : Hmesg) (down : List Hmesg) → Kept h views line (m ∷ down) → ((g : ℕ) → move (action g m) (views g) ≡ Some (views2 g)) → Kept h views2 line down
 term_takes h views views2 line m down k moves = record {
   ahead = k.ahead;
   frames = k.frames;
   folds = k.folds;
   each = λ g.
-      let t = kept_take (action g (frame_of m)) (frames_at g (down ++ k.frames)) (views g) k.ahead.is_done k.ahead.version (file_in k.ahead.files.slots g) (k.each g) in
-      subst (λ (v : Lens). IsKept (frames_at g (down ++ k.frames)) v k.ahead.is_done k.ahead.version (file_in k.ahead.files.slots g)) (the_lens (sym t.moves ∙ moves g)) t.kept;
+      let t = kept_take (action g m) (at_file g (down ++ k.frames)) (views g) k.ahead.is_done k.ahead.version (file_in k.ahead.files.slots g) (k.each g) in
+      subst (λ (v : Lens). IsKept (at_file g (down ++ k.frames)) v k.ahead.is_done k.ahead.version (file_in k.ahead.files.slots g)) (the_lens (sym t.moves ∙ moves g)) t.kept;
   steady = k.steady;
   versions = k.versions.1;
 }
@@ -114,11 +111,11 @@ term_takes h views views2 line m down k moves = record {
 
 -- views that are alike at each file
 pub kept_views : (h : PlainHost) (views views2 : ℕ → Lens) (line : List Tmesg) (down : List Hmesg) → Kept h views line down → ((g : ℕ) → views g ≡ views2 g) → Kept h views2 line down
-kept_views h views views2 line down k same = record { ahead = k.ahead; frames = k.frames; folds = k.folds; each = λ g. subst (λ (v : Lens). IsKept (frames_at g (down ++ k.frames)) v k.ahead.is_done k.ahead.version (file_in k.ahead.files.slots g)) (same g) (k.each g); steady = k.steady; versions = k.versions }
+kept_views h views views2 line down k same = record { ahead = k.ahead; frames = k.frames; folds = k.folds; each = λ g. subst (λ (v : Lens). IsKept (at_file g (down ++ k.frames)) v k.ahead.is_done k.ahead.version (file_in k.ahead.files.slots g)) (same g) (k.each g); steady = k.steady; versions = k.versions }
 
 -- another list of messages that folds to the same, counts aside
 pub kept_with : (h : PlainHost) (views views2 : ℕ → Lens) (line : List Tmesg) (down : List Hmesg) (m : Tmesg) (r : Reply) (k : Kept h views line down) → reply_of k.ahead m ≡ Some r
-    → ((g : ℕ) → IsKept (frames_at g (down ++ k.frames) ++ frames_at g r.1) (views2 g) r.0.is_done r.0.version (file_in r.0.files.slots g)) → IsSteady r.0 → VersionsGuarded (map frame_of r.1) → Kept h views2 (line ++ m ∷ []) down
+    → ((g : ℕ) → IsKept (at_file g (down ++ k.frames) ++ at_file g r.1) (views2 g) r.0.is_done r.0.version (file_in r.0.files.slots g)) → IsSteady r.0 → VersionsGuarded r.1 → Kept h views2 (line ++ m ∷ []) down
 kept_with h views views2 line down m r k replies each steady versions =
     let one : answers k.ahead (m ∷ []) ≡ Some r = ap (λ (o : Option Reply). replied_then o (λ x. answers x [])) replies ∙ ap (λ (fs : List Hmesg). Some (r.0, fs)) (append-nil r.1) in
     let same : (down ++ k.frames) ++ r.1 ≡ down ++ (k.frames ++ r.1) = append_assoc down k.frames r.1 in
@@ -126,17 +123,16 @@ kept_with h views views2 line down m r k replies each steady versions =
       ahead = r.0;
       frames = k.frames ++ r.1;
       folds = answers-append h line (m ∷ []) (k.ahead, k.frames) r k.folds one;
-      each = λ g. subst (λ (u : List Action). IsKept u (views2 g) r.0.is_done r.0.version (file_in r.0.files.slots g)) (sym (frames_at-append g (down ++ k.frames) r.1) ∙ ap (frames_at g) same) (each g);
+      each = λ g. subst (λ (u : List Action). IsKept u (views2 g) r.0.is_done r.0.version (file_in r.0.files.slots g)) (sym (at_file-append g (down ++ k.frames) r.1) ∙ ap (at_file g) same) (each g);
       steady = steady;
-      versions = subst (λ (u : List Hmesg). VersionsGuarded (map frame_of u)) same
-          (subst VersionsGuarded (sym (map-append frame_of (down ++ k.frames) r.1)) (versions-append (map frame_of (down ++ k.frames)) (map frame_of r.1) k.versions versions));
+      versions = subst VersionsGuarded same (versions-append (down ++ k.frames) r.1 k.versions versions);
     }
 
 alike_changed : (c : Change) (g : ℕ) (v : Lens) → IsAlike v (changed c g v)
 alike_changed Same g v = alike_same v
 alike_changed (Lock f) g v = go (g == f) v
   where
-    go : (b : Bool) (v : Lens) → IsAlike v (choose b (locked_more v) v)
+    go : (b : Bool) (v : Lens) → IsAlike v (if b then locked_more v else v)
     go true (lens c e n Unknown) = tt
     go true (lens c e n Known) = tt
     go true (lens c e n (Open r k)) = tt
@@ -146,21 +142,21 @@ alike_changed Command g (lens c e n Known) = tt
 alike_changed Command g (lens c e n (Open r k)) = tt
 alike_changed (Types f p s) g v = go (g == f) v
   where
-    go : (b : Bool) (v : Lens) → IsAlike v (choose b (typed_in p s v) v)
+    go : (b : Bool) (v : Lens) → IsAlike v (if b then typed_in p s v else v)
     go true (lens c e n Unknown) = tt
     go true (lens c e n Known) = tt
     go true (lens c e n (Open r k)) = tt
     go false v = alike_same v
 alike_changed (Cuts f p q) g v = go (g == f) v
   where
-    go : (b : Bool) (v : Lens) → IsAlike v (choose b (cut_out p q v) v)
+    go : (b : Bool) (v : Lens) → IsAlike v (if b then cut_out p q v else v)
     go true (lens c e n Unknown) = tt
     go true (lens c e n Known) = tt
     go true (lens c e n (Open r k)) = tt
     go false v = alike_same v
 alike_changed (Line p s) g v = go (g == 0) v
   where
-    go : (b : Bool) (v : Lens) → IsAlike v (commanded (choose b (typed_in p s v) v))
+    go : (b : Bool) (v : Lens) → IsAlike v (commanded (if b then typed_in p s v else v))
     go true (lens c e n Unknown) = tt
     go true (lens c e n Known) = tt
     go true (lens c e n (Open r k)) = tt
@@ -168,29 +164,25 @@ alike_changed (Line p s) g v = go (g == 0) v
     go false (lens c e n Known) = tt
     go false (lens c e n (Open r k)) = tt
 
-pub bool_cases : (b : Bool) → (b ≡ true) ⊎ (b ≡ false)
-bool_cases true = inl refl
-bool_cases false = inr refl
-
 -- a file that the act changes is free
 free_or_same : (c : Change) (views : ℕ → Lens) (g : ℕ) → IsAllowed c views → IsFree (views g) ⊎ ((v : Lens) → changed c g v ≡ v)
 free_or_same Same views g a = inr (λ v. refl)
 free_or_same (Lock f) views g a = go (bool_cases (g == f))
   where
-    go : ((g == f) ≡ true) ⊎ ((g == f) ≡ false) → IsFree (views g) ⊎ ((v : Lens) → choose (g == f) (locked_more v) v ≡ v)
+    go : ((g == f) ≡ true) ⊎ ((g == f) ≡ false) → IsFree (views g) ⊎ ((v : Lens) → (if g == f then locked_more v else v) ≡ v)
     go (inl e) = inl (subst (λ (x : ℕ). IsFree (views x)) (sym (eqb-true _ _ e)) a)
-    go (inr e) = inr (λ v. ap (λ (b : Bool). choose b (locked_more v) v) e)
+    go (inr e) = inr (λ v. ap (λ (b : Bool). (if b then locked_more v else v)) e)
 free_or_same Command views g a = inl (a g)
 free_or_same (Types f p s) views g a = go (bool_cases (g == f))
   where
-    go : ((g == f) ≡ true) ⊎ ((g == f) ≡ false) → IsFree (views g) ⊎ ((v : Lens) → choose (g == f) (typed_in p s v) v ≡ v)
+    go : ((g == f) ≡ true) ⊎ ((g == f) ≡ false) → IsFree (views g) ⊎ ((v : Lens) → (if g == f then typed_in p s v else v) ≡ v)
     go (inl e) = inl (subst (λ (x : ℕ). IsFree (views x)) (sym (eqb-true _ _ e)) a)
-    go (inr e) = inr (λ v. ap (λ (b : Bool). choose b (typed_in p s v) v) e)
+    go (inr e) = inr (λ v. ap (λ (b : Bool). (if b then typed_in p s v else v)) e)
 free_or_same (Cuts f p q) views g a = go (bool_cases (g == f))
   where
-    go : ((g == f) ≡ true) ⊎ ((g == f) ≡ false) → IsFree (views g) ⊎ ((v : Lens) → choose (g == f) (cut_out p q v) v ≡ v)
+    go : ((g == f) ≡ true) ⊎ ((g == f) ≡ false) → IsFree (views g) ⊎ ((v : Lens) → (if g == f then cut_out p q v else v) ≡ v)
     go (inl e) = inl (subst (λ (x : ℕ). IsFree (views x)) (sym (eqb-true _ _ e)) a)
-    go (inr e) = inr (λ v. ap (λ (b : Bool). choose b (cut_out p q v) v) e)
+    go (inr e) = inr (λ v. ap (λ (b : Bool). (if b then cut_out p q v else v)) e)
 free_or_same (Line p s) views g a = inl (a g)
 
 -- the host's reply to a message that nothing stands against
@@ -202,7 +194,7 @@ pub acts : (h : PlainHost) (views : ℕ → Lens) (line : List Tmesg) (down : Li
     → Kept h (λ g. changed (change_by m) g (views g)) (line ++ m ∷ []) down
 acts h views line down m k d allowed y steady =
     kept_with h views (λ g. changed c g (views g)) line down m (counted r.0, r.1) k (plain_reply k.ahead m d y.passes) each
-    (record { sound = steady.sound; announced = steady.announced; fit = steady.fit }) y.versions
+    (record { sound = steady.sound; announced = steady.announced; fit = steady.fit }) (guarded_reply k.ahead m)
   where
     c : Change
     c = change_by m
@@ -211,10 +203,10 @@ acts h views line down m k d allowed y steady =
     r = reply_to k.ahead m
 
     s : ℕ → List Action
-    s g = frames_at g (down ++ k.frames)
+    s g = at_file g (down ++ k.frames)
 
     u : ℕ → List Action
-    u g = frames_at g r.1
+    u g = at_file g r.1
 
     each : (g : ℕ) → IsKept (s g ++ u g) (changed c g (views g)) r.0.is_done r.0.version (file_in r.0.files.slots g)
     each g = go (free_or_same c views g allowed)
@@ -237,65 +229,41 @@ acknowledges h views line down k =
 -- ## A request, under any lock
 
 record Requested (h : PlainHost) (f p n : ℕ) : Type 0 where
-  reply : Reply
-  now : reply_of h (Trequest f p n) ≡ Some reply
-  host : reply.0 ≡ counted h
-  frames : map frame_of reply.1 ≡ requested_frames h.is_done (file_in h.files.slots f) f p n
+  frames : List Hmesg
+  now : reply_of h (Trequest f p n) ≡ Some (counted h, frames)
+  tells : (g : ℕ) → at_file g frames ≡ map (only (g == f)) (request_actions h.is_done (file_in h.files.slots f) p n)
+  versions : VersionsGuarded frames
 
 requested : (h : PlainHost) (f p n : ℕ) → CanRequest h.is_done (file_in h.files.slots f) → Requested h f p n
 unfolding reply_request
 requested h f p n c = go h.is_done refl (file_in h.files.slots f) refl c
   where
+    frames : List Hmesg
+    frames = (reply_to h (Trequest f p n)).1
+
     silent : h.is_done ≡ true → reply_of h (Trequest f p n) ≡ Some (counted h, [])
     silent d = ap (λ (b : Bool). if b then Some (counted h, []) else replied (first_of_checks (host_checks h (Trequest f p n))) (reply_to h (Trequest f p n))) d
 
-    the_answer : {x y : Answer} → Some x ≡ Some y → x ≡ y
-    the_answer e = cc
-
-    told : h.is_done ≡ false → (d : Bool) (file : HFile) → file_in h.files.slots f ≡ file → (m : Mirrors quiet_outcome h (Trequest f p n)) → (ms : List P.Hmesg) → P.requested (model_of h) file f p n ≡ Some (record { host = model_of h; frames = ms }) → ms ≡ requested_frames h.is_done (file_in h.files.slots f) f p n → Requested h f p n
-    told z d file e m ms folds same =
-        let mirror : m.mirror ≡ record { host = model_of h; frames = ms } = the_answer (sym m.folds ∙ ap (λ (x : HFile). P.requested (model_of h) x f p n) e ∙ folds) in
-        record { reply = (counted h, (reply_to h (Trequest f p n)).1); now = plain_reply h (Trequest f p n) z m.passes; host = refl; frames = m.frames ∙ ap (λ (a : Answer). a.frames) mirror ∙ same }
+    told : h.is_done ≡ false → (file : HFile) → file_in h.files.slots f ≡ file → first_of_checks (host_checks h (Trequest f p n)) ≡ None → ((g : ℕ) → at_file g frames ≡ map (only (g == f)) (request_actions false file p n)) → Requested h f p n
+    told z file e passes tells = record { frames = frames; now = plain_reply h (Trequest f p n) z passes; tells = λ g. tells g ∙ (λ i. map (only (g == f)) (request_actions (sym z i) (sym e i) p n)); versions = guarded_reply h (Trequest f p n) }
 
     go : (d : Bool) → h.is_done ≡ d → (file : HFile) → file_in h.files.slots f ≡ file → CanRequest d file → Requested h f p n
-    go true z file e c = record { reply = (counted h, []); now = silent z; host = refl; frames = ap (λ (b : Bool). requested_frames b (file_in h.files.slots f) f p n) (sym z) }
+    go true z file e c = record { frames = []; now = silent z; tells = λ g. ap (λ (b : Bool). map (only (g == f)) (request_actions b (file_in h.files.slots f) p n)) (sym z); versions = tt }
     go false z Absent e c = absurd c
     go false z (Hidden t) e c = absurd c
     go false z (Named t) e c = absurd c
-    go false z (Opened t) e c = told z false (Opened t) e (mirror_request quiet_outcome h f p n t (open_at h f t e)) (P.request_frames f t p n) refl (λ i. requested_frames (sym z i) (sym e i) f p n)
-    go false z Gone e c = told z false Gone e (mirror_request_gone quiet_outcome h f p n e) [] refl (λ i. requested_frames (sym z i) (sym e i) f p n)
-
--- at the file itself
-request_there : (g f p n : ℕ) (d : Bool) (file : HFile) → (g == f) ≡ true → at_file g (requested_frames d file f p n) ≡ request_actions d file p n
-request_there g f p n true file e = refl
-request_there g f p n false Absent e = refl
-request_there g f p n false (Hidden t) e = refl
-request_there g f p n false (Named t) e = refl
-request_there g f p n false (Opened t) e = λ i. only (e i) (Fill (min p (length t)) (take (min n 512) (drop p t))) ∷ only (e i) Free_file ∷ []
-request_there g f p n false Gone e = refl
-
-request_elsewhere : (g f p n : ℕ) (d : Bool) (file : HFile) → (g == f) ≡ false → AreSkips (at_file g (requested_frames d file f p n))
-request_elsewhere g f p n true file e = tt
-request_elsewhere g f p n false Absent e = tt
-request_elsewhere g f p n false (Hidden t) e = tt
-request_elsewhere g f p n false (Named t) e = tt
-request_elsewhere g f p n false (Opened t) e = ((λ i. only (e i) (Fill (min p (length t)) (take (min n 512) (drop p t)))), ((λ i. only (e i) Free_file), tt))
-request_elsewhere g f p n false Gone e = tt
-
-request_versions : (d : Bool) (file : HFile) (f p n : ℕ) → VersionsGuarded (requested_frames d file f p n)
-request_versions true file f p n = tt
-request_versions false Absent f p n = tt
-request_versions false (Hidden t) f p n = tt
-request_versions false (Named t) f p n = tt
-request_versions false (Opened t) f p n = (λ e. absurd (true≢false (sym e)), (λ e. absurd (true≢false (sym e)), tt))
-request_versions false Gone f p n = tt
+    go false z (Opened t) e c =
+        let o = opens_at h.files f t e in
+        told z (Opened t) e (request_passes h f p n o.0.given (open_passes h f o.0)) (λ g. request_tells h f p n o.0 g ∙ ap (λ (u : List ℕ). map (only (g == f)) (request_actions false (Opened u) p n)) o.1)
+    go false z Gone e c =
+        let x = gone_at h.files.slots f e in
+        told z Gone e (request_passes h f p n x.0 (none_passes h f x.1)) (none_tells h f p n x.1)
 
 pub requests : (h : PlainHost) (views : ℕ → Lens) (line : List Tmesg) (down : List Hmesg) (f p n : ℕ) → Kept h views line down → IsOpen (views f) → exited_of (views f) ≡ false
     → Kept h (λ g. changed (Lock f) g (views g)) (line ++ Trequest f p n ∷ []) down
 requests h views line down f p n k is_open here =
-    kept_with h views (λ g. changed (Lock f) g (views g)) line down (Trequest f p n) (counted k.ahead, r.reply.1) k
-    (r.now ∙ ap (λ (x : PlainHost). Some (x, r.reply.1)) r.host) each (record { sound = k.steady.sound; announced = k.steady.announced; fit = k.steady.fit })
-    (subst VersionsGuarded (sym r.frames) (request_versions d (file f) f p n))
+    kept_with h views (λ g. changed (Lock f) g (views g)) line down (Trequest f p n) (counted k.ahead, r.frames) k r.now each
+    (record { sound = k.steady.sound; announced = k.steady.announced; fit = k.steady.fit }) r.versions
   where
     d : Bool
     d = k.ahead.is_done
@@ -307,7 +275,7 @@ requests h views line down f p n k is_open here =
     file g = file_in k.ahead.files.slots g
 
     s : ℕ → List Action
-    s g = frames_at g (down ++ k.frames)
+    s g = at_file g (down ++ k.frames)
 
     there : (g : ℕ) → (g == f) ≡ true → CanRequest d (file g) × IsKept (s g ++ request_actions d (file g) p n) (locked_more (views g)) d v (file g)
     there g e =
@@ -318,16 +286,16 @@ requests h views line down f p n k is_open here =
     r = requested k.ahead f p n (there f (eq-eqb f f refl)).0
 
     told : ℕ → List Action
-    told g = at_file g (requested_frames d (file f) f p n)
+    told g = at_file g r.frames
 
-    each : (g : ℕ) → IsKept (s g ++ frames_at g r.reply.1) (changed (Lock f) g (views g)) d v (file g)
-    each g = subst (λ (u : List P.Hmesg). IsKept (s g ++ at_file g u) (changed (Lock f) g (views g)) d v (file g)) (sym r.frames) (go (bool_cases (g == f)))
+    each : (g : ℕ) → IsKept (s g ++ told g) (changed (Lock f) g (views g)) d v (file g)
+    each g = go (bool_cases (g == f))
       where
-        go : ((g == f) ≡ true) ⊎ ((g == f) ≡ false) → IsKept (s g ++ told g) (choose (g == f) (locked_more (views g)) (views g)) d v (file g)
+        go : ((g == f) ≡ true) ⊎ ((g == f) ≡ false) → IsKept (s g ++ told g) (if g == f then locked_more (views g) else views g) d v (file g)
         go (inl e) =
-            let q : request_actions d (file g) p n ≡ told g = ap (λ (x : ℕ). request_actions d (file x) p n) (eqb-true _ _ e) ∙ sym (request_there g f p n d (file f) e) in
-            subst (λ (b : Bool). IsKept (s g ++ told g) (choose b (locked_more (views g)) (views g)) d v (file g)) (sym e)
+            let q : request_actions d (file g) p n ≡ told g = ap (λ (x : ℕ). request_actions d (file x) p n) (eqb-true _ _ e) ∙ sym (tells_there f g r.frames (request_actions d (file f) p n) (r.tells g) e) in
+            subst (λ (b : Bool). IsKept (s g ++ told g) (if b then locked_more (views g) else views g) d v (file g)) (sym e)
             (subst (λ (u : List Action). IsKept (s g ++ u) (locked_more (views g)) d v (file g)) q (there g e).1)
         go (inr e) =
-            subst (λ (b : Bool). IsKept (s g ++ told g) (choose b (locked_more (views g)) (views g)) d v (file g)) (sym e)
-            (kept_append (s g) (told g) (views g) d d v v (file g) (file g) (k.each g) (λ x y. kept_skips (told g) x d v (file g) (request_elsewhere g f p n d (file f) e) y) (λ q. q))
+            subst (λ (b : Bool). IsKept (s g ++ told g) (if b then locked_more (views g) else views g) d v (file g)) (sym e)
+            (kept_append (s g) (told g) (views g) d d v v (file g) (file g) (k.each g) (λ x y. kept_skips (told g) x d v (file g) (tells_elsewhere f g r.frames (request_actions d (file f) p n) (r.tells g) e) y) (λ q. q))

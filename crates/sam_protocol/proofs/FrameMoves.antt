@@ -15,9 +15,8 @@ use Rattle.sam_term.specs.declared.fault.TermFault.{TermFault}
 use Rattle.sam_term.specs.declared.fault.TermFault.TheVariants as fault
 use Rattle.sam_mesg.specs.declared.tmesg.Tmesg.TheVariants.{Tack}
 use Rattle.sam_term.specs.Term.{PlainTerminal, blank_known, blank_window, free_window, freed_known, sends_if, sends, unchanged, requested, took_bindname, took_data, took_grow, took_growdata, took_cut, took_unlockfile, took_close, took_exit}
-use Rattle.sam_protocol.specs.Lens.{limit, Slot, Unknown, Known, Open, Lens, lens, Action, Needs_known, Needs_open, Join, Bind, Close, Leave, Grow, Fill, Insert, Cut, Place, Free_file, Free_command, Exit, move}
-use Rattle.sam_protocol.specs.Model as P
-use Rattle.sam_protocol.specs.Model.{action, only}
+use Rattle.sam_protocol.specs.Lens.{Slot, Unknown, Known, Open, Lens, lens, Action, Skip, Change, Needs_known, Needs_open, Join, Bind, Close, Leave, Grow, Fill, Insert, Cut, Place, Free_file, Free_command, Exit, move}
+use Rattle.sam_protocol.specs.Frames.{only}
 use Rattle.sam_protocol.proofs.Runs.{if_some}
 use Rattle.sam_protocol.specs.View.{slot_of_window, slot_of, view, effect, NoneRefuses, Moves}
 
@@ -98,14 +97,14 @@ on_slot a tests next on unknown closed c e n (Some known) v q = on_window a test
 on_grow : (p m : ℕ) → OnOpen (Grow p m) (λ w. (nat_lt (length w.rasp) p, fault.BadPosition) ∷ (nat_lt max_runes (length w.rasp + m), fault.TooLong) ∷ []) (λ w. Open (ins_cells w.rasp p (replicate m None)) w.locks)
 on_grow p m c e n w v q =
     let x = if_some _ _ _ q in
-    let y = and_parts (nat_le p (length w.rasp)) (nat_le (length w.rasp + m) limit) x.0 in
-    (two_tests (nat_lt (length w.rasp) p) (nat_lt max_runes (length w.rasp + m)) fault.BadPosition fault.TooLong (within p (length w.rasp) y.0) (within (length w.rasp + m) limit y.1), sym x.1)
+    let y = and_parts (nat_le p (length w.rasp)) (nat_le (length w.rasp + m) max_runes) x.0 in
+    (two_tests (nat_lt (length w.rasp) p) (nat_lt max_runes (length w.rasp + m)) fault.BadPosition fault.TooLong (within p (length w.rasp) y.0) (within (length w.rasp + m) max_runes y.1), sym x.1)
 
 on_growdata : (p : ℕ) (s : List ℕ) → OnOpen (Insert p s) (λ w. (nat_lt (length w.rasp) p, fault.BadPosition) ∷ (nat_lt max_runes (length w.rasp + length s), fault.TooLong) ∷ []) (λ w. Open (ins_cells w.rasp p (map Some s)) w.locks)
 on_growdata p s c e n w v q =
     let x = if_some _ _ _ q in
-    let y = and_parts (nat_le p (length w.rasp)) (nat_le (length w.rasp + length s) limit) x.0 in
-    (two_tests (nat_lt (length w.rasp) p) (nat_lt max_runes (length w.rasp + length s)) fault.BadPosition fault.TooLong (within p (length w.rasp) y.0) (within (length w.rasp + length s) limit y.1), sym x.1)
+    let y = and_parts (nat_le p (length w.rasp)) (nat_le (length w.rasp + length s) max_runes) x.0 in
+    (two_tests (nat_lt (length w.rasp) p) (nat_lt max_runes (length w.rasp + length s)) fault.BadPosition fault.TooLong (within p (length w.rasp) y.0) (within (length w.rasp + length s) max_runes y.1), sym x.1)
 
 on_data : (p : ℕ) (s : List ℕ) → OnOpen (Fill p s) (λ w. (nat_lt (length w.rasp) (p + length s), fault.BadPosition) ∷ []) (λ w. Open (load_cells w.rasp p s) w.locks)
 on_data p s c e n w v q =
@@ -252,7 +251,7 @@ exit_moves t g v q = go t.command_lock t.has_exited t.version (slot t.files g) q
     go false e n None q = cc
     go c e n (Some k) q = at_window c e n k.window q
 
-version_moves : (v : ℕ) (t : PlainTerminal) (g : ℕ) (b : Bool) → move (action g (if b then P.Hsetpat else P.Hversion (common_version v))) (view g t) ≡ Some (lens t.command_lock t.has_exited (if b then t.version else common_version v) (slot_of (slot t.files g)))
+version_moves : (v : ℕ) (t : PlainTerminal) (g : ℕ) (b : Bool) → move (if b then Skip else Change (common_version v)) (view g t) ≡ Some (lens t.command_lock t.has_exited (if b then t.version else common_version v) (slot_of (slot t.files g)))
 version_moves v t g true = refl
 version_moves v t g false = refl
 

@@ -1,99 +1,103 @@
 -- Every message that the crossing lets come to the host leads from settled to settled, by the host's own answer.
-use Rattle.std.proofs.Common.{◌≡◌, ℕ, Bool, true, false, ◌&&◌, ◌==◌, if◌then◌else◌, List, [], ◌∷◌, length, Option, Some, None, ◌⊎◌, inl, inr, refl, sym, ap, ◌∙◌, subst, eqb-true, nat_lt, suc}
-use Rattle.std.specs.Prelude.{unwrap_or}
-use Rattle.sam_runes.specs.Texts.{ends_line}
-use Rattle.sam_runes.specs.Slots.{Slots, slot}
-use Rattle.sam_text.specs.Files.{PlainFile, blank_file}
+use Rattle.std.proofs.Common.{◌≡◌, ℕ, ◌+◌, ◌≤◌, Bool, true, false, ◌&&◌, ◌==◌, if◌then◌else◌, List, length, Some, ◌⊎◌, inl, inr, refl, sym, ap, ◌∙◌, subst, eqb-true}
+use Rattle.sam_runes.specs.Texts.{max_runes, ends_line}
+use Rattle.sam_runes.specs.Slots.{slot}
+use Rattle.sam_text.specs.Files.{PlainFile, file_at}
 use Rattle.sam_mesg.specs.declared.tmesg.Tmesg.{Tmesg}
 use Rattle.sam_mesg.specs.declared.tmesg.Tmesg.TheVariants.{Tversion, Tstartcmdfile, Tcheck, Trequest, Torigin, Tstartfile, Tworkfile, Ttype, Tcut, Tpaste, Tsnarf, Tstartnewfile, Twrite, Tclose, Tlook, Tsearch, Tsend, Tdclick, Tstartsnarf, Tsetsnarf, Tack, Texit}
+use Rattle.sam_term.specs.Locks.{is_command_line}
 use Rattle.sam_host.specs.Host.{PlainHost}
-use Rattle.sam_protocol.specs.Lens.{Hidden, Named, Opened}
-use Rattle.sam_protocol.specs.Model.{IsCommandFile}
+use Rattle.sam_protocol.specs.Lens.{HFile, Absent, Hidden, Named, Opened, Gone, IsCommandFile}
+use Rattle.sam_protocol.specs.View.{file_in}
+use Rattle.sam_protocol.proofs.Accepting.{Synced, Open, Accepted, Ready}
+use Rattle.sam_protocol.proofs.HostFiles.{bool_cases, some_at, at_there, shown_there, closed_file, Opens, opens_at}
 use Rattle.sam_protocol.proofs.FileLocks as locks
 use Rattle.sam_protocol.proofs.Edits as edits
 use Rattle.sam_protocol.proofs.Commands as commands
+use Rattle.sam_protocol.proofs.Announcing as announcing
 use Rattle.sam_protocol.proofs.Lines as lines
-use Rattle.sam_protocol.specs.HostView.{file_of_slot, file_in, model_of, tools_of}
-use Rattle.sam_protocol.specs.Synced.{Synced}
-use Rattle.sam_protocol.specs.Handled.{Accepted, quiet_outcome, Ready}
-use Rattle.sam_protocol.proofs.Mirror as mirror
-use Rattle.sam_protocol.proofs.MirrorSteps as steps
-use Rattle.sam_protocol.proofs.MirrorSteps.{IsAt, bool_cases, open_at}
-use Rattle.sam_protocol.proofs.MirrorVersions.{mirror_version, all_announced}
-use Rattle.sam_protocol.specs.Means.{OpenAnnounced}
-use Rattle.sam_protocol.proofs.Syncing.{synced}
-use Rattle.sam_protocol.proofs.LineMeans.{texts_ok}
-use Rattle.sam_protocol.proofs.Running.{typed_line, sent_line}
+
+-- a file that is there is open, or closed with a mark
+record There (h : PlainHost) (f : ℕ) (announced : Bool) : Type 0 where
+  file : PlainFile
+  there : slot h.files.slots f ≡ Some file
+  kind : ((file_at h.files f).opened ≡ true) ⊎ (((file_at h.files f).opened ≡ false) × ((file_at h.files f).announced ≡ announced))
+
+open_there : (h : PlainHost) (f : ℕ) (a : Bool) (t : List ℕ) → file_in h.files.slots f ≡ Opened t → There h f a
+open_there h f a t e =
+    let x = some_at h.files f (Opened t) e (λ q. cc) (λ q. cc) in
+    record { file = x.file; there = x.there; kind = inl (opens_at h.files f t e).0.opened }
+
+shut_there : (h : PlainHost) (f : ℕ) (a : Bool) (t : List ℕ) → file_in h.files.slots f ≡ (if a then Named t else Hidden t) → There h f a
+shut_there h f a t e =
+    let x = some_at h.files f (if a then Named t else Hidden t) e (not_absent a) (not_gone a) in
+    let c = closed_file x.file a t (sym (shown_there h.files f x.file x.there) ∙ e) in
+    record { file = x.file; there = x.there; kind = inr (ap (λ (y : PlainFile). y.opened) (at_there h.files f x.file x.there) ∙ c.0, ap (λ (y : PlainFile). y.announced) (at_there h.files f x.file x.there) ∙ c.1) }
+  where
+    not_absent : (a : Bool) → (if a then Named t else Hidden t) ≡ Absent → ⊥
+    not_absent true q = cc
+    not_absent false q = cc
+
+    not_gone : (a : Bool) → (if a then Named t else Hidden t) ≡ Gone → ⊥
+    not_gone true q = cc
+    not_gone false q = cc
 
 -- tag 0 is there, open or not announced
-record First (h : PlainHost) : Type 0 where
-  file : PlainFile
-  there : slot h.files.slots 0 ≡ Some file
-  kind : (file.opened ≡ true) ⊎ ((file.opened ≡ false) × (file.announced ≡ false))
-
-first_file : (h : PlainHost) → IsCommandFile (file_in h.files.slots 0) → First h
-first_file h c = go (slot h.files.slots 0) refl c
+first_there : (h : PlainHost) → IsCommandFile (file_in h.files.slots 0) → There h 0 false
+first_there h c = go (file_in h.files.slots 0) refl c
   where
-    kinds : (x : PlainFile) (o n : Bool) → x.opened ≡ o → x.announced ≡ n → IsCommandFile (if o then Opened x.text else if n then Named x.text else Hidden x.text) → (x.opened ≡ true) ⊎ ((x.opened ≡ false) × (x.announced ≡ false))
-    kinds x true n e q c = inl e
-    kinds x false true e q c = absurd c
-    kinds x false false e q c = inr (e, q)
+    go : (y : HFile) → file_in h.files.slots 0 ≡ y → IsCommandFile y → There h 0 false
+    go Absent e c = absurd c
+    go (Hidden t) e c = shut_there h 0 false t e
+    go (Named t) e c = absurd c
+    go (Opened t) e c = open_there h 0 false t e
+    go Gone e c = absurd c
 
-    none : (b : Bool) → IsCommandFile (file_of_slot b None) → ⊥
-    none true c = c
-    none false c = c
+known_there : (h : PlainHost) (f : ℕ) → ((t : List ℕ) × (file_in h.files.slots f ≡ Named t)) ⊎ ((t : List ℕ) × (file_in h.files.slots f ≡ Opened t)) → There h f true
+known_there h f (inl a) = shut_there h f true a.0 a.1
+known_there h f (inr a) = open_there h f true a.0 a.1
 
-    go : (y : Option PlainFile) → slot h.files.slots 0 ≡ y → IsCommandFile (file_of_slot (nat_lt 0 (length h.files.slots)) y) → First h
-    go None e c = absurd (none (nat_lt 0 (length h.files.slots)) c)
-    go (Some x) e c = record { file = x; there = e; kind = kinds x x.opened x.announced refl refl c }
+-- the tag of an accepted message holds an open file, and the places lie in its text
+opened : (h : PlainHost) (f : ℕ) (P : List ℕ → Type 0) → Open h f P → Opens h.files f × P (file_at h.files f).text
+opened h f P a = let o = opens_at h.files f a.0 a.1 in (o.0, subst P (sym o.1) a.2)
 
 first_holds : (a b : Bool) → (a && b) ≡ true → a ≡ true
 first_holds true b e = refl
 first_holds false b e = e
 
-pub handled : (h : PlainHost) → Ready h → (m : Tmesg) → Accepted h m → Synced h m
-handled h r (Tcheck f) a = synced quiet_outcome h (Tcheck f) r.running (mirror.mirror_check quiet_outcome h f a.0 (open_at h f a.0 a.1)) (edits.sync_check (tools_of quiet_outcome) (model_of h) f a.0 r.running r.steady.sound a.1)
-handled h r (Trequest f p n) a = synced quiet_outcome h (Trequest f p n) r.running (mirror.mirror_request quiet_outcome h f p n a.0 (open_at h f a.0 a.1)) (locks.sync_request (tools_of quiet_outcome) (model_of h) f p n a.0 r.running r.steady.sound a.1)
-handled h r (Torigin f p n) a = synced quiet_outcome h (Torigin f p n) r.running (mirror.mirror_origin quiet_outcome h f p n a.0 (open_at h f a.0 a.1) a.2) (locks.sync_origin (tools_of quiet_outcome) texts_ok (model_of h) f p n a.0 r.running r.steady.sound a.1 a.2)
-handled h r (Tworkfile f p q) a = synced quiet_outcome h (Tworkfile f p q) r.running (mirror.mirror_workfile quiet_outcome h f p q a.1.0 (open_at h f a.1.0 a.1.1) a.0 a.1.2.0 a.1.2.1) (edits.sync_work (tools_of quiet_outcome) (model_of h) f p q a.1.0 r.running r.steady.sound a.1.1 a.0 a.1.2.0 a.1.2.1)
-handled h r (Tcut f p q) a = synced quiet_outcome h (Tcut f p q) r.running (mirror.mirror_cut quiet_outcome h f p q a.0 (open_at h f a.0 a.1) a.2.0 a.2.1) (edits.sync_cut (tools_of quiet_outcome) (model_of h) f p q a.0 r.running r.steady.sound a.1 a.2.0 a.2.1)
-handled h r (Tpaste f p) a = synced quiet_outcome h (Tpaste f p) r.running (mirror.mirror_paste quiet_outcome h f p a.0 (open_at h f a.0 a.1) a.2) (locks.sync_paste (tools_of quiet_outcome) (model_of h) f p a.0 r.running r.steady.sound a.1 a.2)
-handled h r (Tsnarf f p q) a = synced quiet_outcome h (Tsnarf f p q) r.running (mirror.mirror_snarf quiet_outcome h f p q a.0 (open_at h f a.0 a.1) a.2.0 a.2.1) (edits.sync_snarf (tools_of quiet_outcome) (model_of h) f p q a.0 r.running r.steady.sound a.1 a.2.0 a.2.1)
-handled h r (Twrite f) a = synced quiet_outcome h (Twrite f) r.running (mirror.mirror_write quiet_outcome h f a.1.0 (open_at h f a.1.0 a.1.1) a.0) (locks.sync_write (tools_of quiet_outcome) (model_of h) f a.1.0 r.running r.steady.sound a.1.1 a.0)
-handled h r (Tclose f) a = synced quiet_outcome h (Tclose f) r.running (mirror.mirror_close quiet_outcome h f a.1.0 (open_at h f a.1.0 a.1.1) a.0) (commands.sync_close (tools_of quiet_outcome) (model_of h) f a.1.0 r.running r.steady.sound a.1.1 a.0)
-handled h r (Tlook f p q) a = synced quiet_outcome h (Tlook f p q) r.running (mirror.mirror_look quiet_outcome h f p q a.0 (open_at h f a.0 a.1) a.2.0 a.2.1) (locks.sync_look (tools_of quiet_outcome) texts_ok (model_of h) f p q a.0 r.running r.steady.sound a.1 a.2.0 a.2.1)
-handled h r (Tsearch f p q) a = synced quiet_outcome h (Tsearch f p q) r.running (mirror.mirror_search quiet_outcome h f p q a.0 (open_at h f a.0 a.1) a.2.0 a.2.1) (locks.sync_search (tools_of quiet_outcome) texts_ok (model_of h) f p q a.0 r.running r.steady.sound a.1 a.2.0 a.2.1)
-handled h r (Tdclick f p) a = synced quiet_outcome h (Tdclick f p) r.running (mirror.mirror_dclick quiet_outcome h f p a.0 (open_at h f a.0 a.1) a.2) (locks.sync_dclick (tools_of quiet_outcome) texts_ok (model_of h) f p a.0 r.running r.steady.sound a.1 a.2)
-handled h r Tstartsnarf a = synced quiet_outcome h Tstartsnarf r.running (mirror.mirror_startsnarf quiet_outcome h) (edits.sync_get_snarf (tools_of quiet_outcome) (model_of h) r.running r.steady.sound)
-handled h r (Tsetsnarf s) a = synced quiet_outcome h (Tsetsnarf s) r.running (mirror.mirror_setsnarf quiet_outcome h s) (edits.sync_set_snarf (tools_of quiet_outcome) (model_of h) s r.running r.steady.sound)
-handled h r Tack a = synced quiet_outcome h Tack r.running (mirror.mirror_ack quiet_outcome h) (edits.sync_ack (tools_of quiet_outcome) (model_of h) r.running r.steady.sound)
-handled h r Texit a = synced quiet_outcome h Texit r.running (mirror.mirror_exit quiet_outcome h) (commands.sync_exit (tools_of quiet_outcome) (model_of h) r.running r.steady.sound)
-handled h r (Tversion v) a = go h.files.slots refl
+handled_type : (h : PlainHost) → Ready h → (f p : ℕ) (s : List ℕ) → Opens h.files f × ((p ≤ length (file_at h.files f).text) × (length (file_at h.files f).text + length s ≤ max_runes)) → (is_command_line f s ≡ true) ⊎ (is_command_line f s ≡ false) → Synced h (Ttype f p s)
+handled_type h r f p s a (inr e) = edits.sync_type h f p s r.steady.sound a.0 a.1.0 a.1.1 e
+handled_type h r f p s a (inl e) = subst Typed (sym zero) line a e
   where
-    go : (u : Slots PlainFile) → h.files.slots ≡ u → Synced h (Tversion v)
-    go [] e = absurd (subst (λ (u : Slots PlainFile). IsCommandFile (file_in u 0)) e r.steady.sound.commands)
-    go (s ∷ ss) e = synced quiet_outcome h (Tversion v) r.running (mirror_version quiet_outcome h v s ss e (all_announced ss (λ f. subst (λ (u : Slots PlainFile). OpenAnnounced (unwrap_or (slot u (suc f)) blank_file)) e (r.steady.announced f))) a) (lines.sync_version (tools_of quiet_outcome) (model_of h) v r.running r.steady.sound a)
-handled h r Tstartcmdfile a = let z = first_file h r.steady.sound.commands in synced quiet_outcome h Tstartcmdfile r.running (mirror.mirror_startcmdfile quiet_outcome h z.file z.there z.kind) (commands.sync_cmd (tools_of quiet_outcome) (model_of h) r.running r.steady.sound)
-handled h r Tstartnewfile a = let z = first_file h r.steady.sound.commands in synced quiet_outcome h Tstartnewfile r.running (mirror.mirror_new quiet_outcome h z.file z.there) (lines.sync_new (tools_of quiet_outcome) (model_of h) r.running r.steady.sound)
-handled h r (Tstartfile f) a = go a.1
-  where
-    go : ((t : List ℕ) × (file_in h.files.slots f ≡ Named t)) ⊎ ((t : List ℕ) × (file_in h.files.slots f ≡ Opened t)) → Synced h (Tstartfile f)
-    go (inl t) =
-        let z = steps.some_at h f (Named t.0) t.1 (λ e. cc) (λ e. cc) in
-        let c = steps.closed_file z.file true t.0 (sym (steps.shown_there h f z.file z.there) ∙ t.1) in
-        synced quiet_outcome h (Tstartfile f) r.running (mirror.mirror_startfile quiet_outcome h f z.file z.there a.0 (inr (c.0, c.1))) (commands.sync_start (tools_of quiet_outcome) (model_of h) f t.0 r.running r.steady.sound a.0 t.1)
-    go (inr t) =
-        let z = open_at h f t.0 t.1 in
-        synced quiet_outcome h (Tstartfile f) r.running (mirror.mirror_startfile quiet_outcome h f z.file z.there a.0 (inl z.opened)) (commands.sync_start_open (tools_of quiet_outcome) (model_of h) f t.0 r.running r.steady.sound a.0 t.1)
-handled h r (Ttype f p s) a = go (bool_cases ((f == 0) && ends_line s))
-  where
-    line : ((f == 0) && ends_line s) ≡ true → Synced h (Ttype f p s)
-    line ends =
-        let zero : 0 ≡ f = sym (eqb-true f 0 (first_holds (f == 0) (ends_line s) ends)) in
-        subst (λ (y : ℕ). Synced h (Ttype y p s)) zero
-        (typed_line h r p s a.0 (ap (file_in h.files.slots) zero ∙ a.1) a.2.0 a.2.1 (subst (λ (y : ℕ). ((y == 0) && ends_line s) ≡ true) (sym zero) ends))
+    Typed : ℕ → Type 0
+    Typed g = Opens h.files g × ((p ≤ length (file_at h.files g).text) × (length (file_at h.files g).text + length s ≤ max_runes)) → is_command_line g s ≡ true → Synced h (Ttype g p s)
 
-    go : (((f == 0) && ends_line s) ≡ true) ⊎ (((f == 0) && ends_line s) ≡ false) → Synced h (Ttype f p s)
-    go (inr plain) = synced quiet_outcome h (Ttype f p s) r.running (mirror.mirror_type quiet_outcome h f p s a.0 (open_at h f a.0 a.1) a.2.0 a.2.1 plain) (edits.sync_type (tools_of quiet_outcome) (model_of h) f p s a.0 r.running r.steady.sound a.1 a.2.0 a.2.1 plain)
-    go (inl ends) = line ends
-handled h r (Tsend f p q) a = let z = first_file h r.steady.sound.commands in sent_line h r z.file z.there f p q a.0 a.1 a.2.0 a.2.1
+    zero : f ≡ 0
+    zero = eqb-true f 0 (first_holds (f == 0) (ends_line s) e)
+
+    line : Typed 0
+    line b q = let x = first_there h r.steady.sound.commands in lines.sync_line h p s r.steady r.running b.0 (x.file, x.there) b.1.0 b.1.1 q
+
+pub handled : (h : PlainHost) → Ready h → (m : Tmesg) → Accepted h m → Synced h m
+handled h r (Tversion v) a = announcing.sync_version h v r.steady.sound r.steady.announced a
+handled h r Tstartcmdfile a = let x = first_there h r.steady.sound.commands in commands.sync_first h x.file r.steady.sound r.steady.fit x.there x.kind
+handled h r (Tcheck f) a = edits.sync_check h f r.steady.sound (opened h f _ a).0
+handled h r (Trequest f p n) a = locks.sync_request h f p n r.running r.steady.sound (opened h f _ a).0
+handled h r (Torigin f p n) a = let o = opened h f _ a in locks.sync_origin h f p n r.steady.sound o.0 o.1
+handled h r (Tstartfile f) a = let x = known_there h f a.1 in commands.sync_start h f x.file r.steady.sound r.steady.fit x.there a.0 x.kind
+handled h r (Tworkfile f p q) a = let o = opened h f _ a.1 in edits.sync_work h f p q r.steady.sound o.0 a.0 o.1.0 o.1.1
+handled h r (Ttype f p s) a = handled_type h r f p s (opened h f _ a) (bool_cases (is_command_line f s))
+handled h r (Tcut f p q) a = let o = opened h f _ a in edits.sync_cut h f p q r.steady.sound o.0 o.1.0 o.1.1
+handled h r (Tpaste f p) a = let o = opened h f _ a in locks.sync_paste h f p r.steady.sound o.0 o.1
+handled h r (Tsnarf f p q) a = let o = opened h f _ a in edits.sync_snarf h f p q r.steady.sound o.0 o.1.0 o.1.1
+handled h r Tstartnewfile a = let x = first_there h r.steady.sound.commands in commands.sync_new h x.file r.steady.sound x.there
+handled h r (Twrite f) a = locks.sync_write h f r.steady.sound (opened h f _ a.1).0 a.0
+handled h r (Tclose f) a = commands.sync_close h f r.steady.sound (opened h f _ a.1).0 a.0
+handled h r (Tlook f p q) a = let o = opened h f _ a in locks.sync_look h f p q r.steady.sound o.0 o.1.0 o.1.1
+handled h r (Tsearch f p q) a = let o = opened h f _ a in locks.sync_search h f p q r.steady.sound o.0 o.1.0 o.1.1
+handled h r (Tsend f p q) a = let o = opened h f _ a in let x = first_there h r.steady.sound.commands in lines.sync_send h f p q r.steady r.running o.0 (x.file, x.there) o.1.0 o.1.1
+handled h r (Tdclick f p) a = let o = opened h f _ a in locks.sync_dclick h f p r.steady.sound o.0 o.1
+handled h r Tstartsnarf a = edits.sync_get_snarf h r.steady.sound
+handled h r (Tsetsnarf s) a = edits.sync_set_snarf h s r.steady.sound
+handled h r Tack a = edits.sync_ack h r.steady.sound
+handled h r Texit a = commands.sync_exit h r.steady.sound

@@ -1,5 +1,5 @@
 -- Runes typed in two messages do what they do in one.
-use Rattle.std.proofs.Common.{◌≡◌, ℕ, ◌+◌, ◌-◌, ◌≤◌, Bool, true, false, ◌&&◌, ◌==◌, if◌then◌else◌, List, [], ◌∷◌, ◌++◌, length, map, Option, Some, None, nat_lt, refl, sym, ap, ◌∙◌, subst, arith, append_assoc, append-nil, length-append, ◌⊎◌, inl, inr}
+use Rattle.std.proofs.Common.{◌≡◌, ℕ, ◌+◌, ◌-◌, ◌≤◌, Bool, true, false, ◌&&◌, ◌==◌, if◌then◌else◌, List, [], ◌∷◌, ◌++◌, length, Option, Some, None, nat_lt, refl, sym, ap, ◌∙◌, subst, arith, append_assoc, append-nil, length-append, ◌⊎◌, inl, inr}
 use Rattle.std.specs.Prelude.{unwrap_or}
 use Rattle.std.proofs.lemmas.Bool.{ltb-false, le-ltb}
 use Rattle.sam_runes.specs.Texts.{max_runes, ins, ends_line, part, line_start}
@@ -17,13 +17,13 @@ use Rattle.sam_host.specs.Host.{PlainHost, Reply, counted, with_file, unknown, n
 use Rattle.sam_host.specs.declared.fault.HostFault.{HostFault}
 use Rattle.sam_host.specs.declared.fault.HostFault.TheVariants.{NoFile, NotOpen, BadPosition, TooLong}
 use Rattle.sam_protocol.specs.Lens.{Lens, IsKept}
-use Rattle.sam_protocol.specs.Model.{VersionsGuarded}
-use Rattle.sam_protocol.specs.View.{frame_of}
-use Rattle.sam_protocol.specs.HostView.{file_in}
-use Rattle.sam_protocol.specs.Handled.{IsSteady}
-use Rattle.sam_protocol.specs.Fold.{replied, reply_of, behind, replied_then, answers, frames_at, Kept}
-use Rattle.sam_protocol.proofs.MirrorSteps.{test, last_test}
-use Rattle.sam_protocol.proofs.Folds.{Answered, bool_cases, plain_reply, answered, answers-append}
+use Rattle.sam_protocol.specs.Frames.{at_file, VersionsGuarded}
+use Rattle.sam_protocol.specs.View.{file_in}
+use Rattle.sam_protocol.specs.Steady.{IsSteady}
+use Rattle.sam_protocol.specs.Fold.{replied, reply_of, behind, replied_then, answers, Kept}
+use Rattle.sam_protocol.proofs.Tests.{test, last_test}
+use Rattle.sam_protocol.proofs.HostFiles.{bool_cases}
+use Rattle.sam_protocol.proofs.Folds.{Answered, plain_reply, answered, answers-append}
 
 the_reply : {p q : Reply} → Some p ≡ Some q → p ≡ q
 the_reply e = cc
@@ -199,12 +199,12 @@ joins h views line down f p c s u plain k =
       frames = x.first.1 ++ j.reply.1;
       folds = answers-append h line (Ttype f p (s ++ c ∷ u) ∷ []) x.first j.reply x.now (one (Ttype f p (s ++ c ∷ u)) x.first.0 j.reply j.now);
       each = λ g.
-          subst (λ (fs : List Hmesg). IsKept (frames_at g (down ++ fs)) (views g) j.reply.0.is_done j.reply.0.version (file_in j.reply.0.files.slots g)) frames
-          (subst (λ (n : ℕ). IsKept (frames_at g (down ++ k.frames)) (views g) j.reply.0.is_done n (file_in j.reply.0.files.slots g)) alike.version
-          (subst (λ (b : Bool). IsKept (frames_at g (down ++ k.frames)) (views g) b k.ahead.version (file_in j.reply.0.files.slots g)) alike.done
-          (subst (λ (fs : PlainFiles). IsKept (frames_at g (down ++ k.frames)) (views g) k.ahead.is_done k.ahead.version (file_in fs.slots g)) alike.files (k.each g))));
+          subst (λ (fs : List Hmesg). IsKept (at_file g (down ++ fs)) (views g) j.reply.0.is_done j.reply.0.version (file_in j.reply.0.files.slots g)) frames
+          (subst (λ (n : ℕ). IsKept (at_file g (down ++ k.frames)) (views g) j.reply.0.is_done n (file_in j.reply.0.files.slots g)) alike.version
+          (subst (λ (b : Bool). IsKept (at_file g (down ++ k.frames)) (views g) b k.ahead.version (file_in j.reply.0.files.slots g)) alike.done
+          (subst (λ (fs : PlainFiles). IsKept (at_file g (down ++ k.frames)) (views g) k.ahead.is_done k.ahead.version (file_in fs.slots g)) alike.files (k.each g))));
       steady = subst Good alike.files (record { sound = k.steady.sound; announced = k.steady.announced; fit = k.steady.fit });
-      versions = subst (λ (fs : List Hmesg). VersionsGuarded (map frame_of (down ++ fs))) frames k.versions;
+      versions = subst (λ (fs : List Hmesg). VersionsGuarded (down ++ fs)) frames k.versions;
     }
   where
     B : Tmesg

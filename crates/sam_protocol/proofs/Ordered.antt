@@ -17,10 +17,11 @@ use Rattle.sam_term.specs.Term.{PlainTerminal, blank_known, blank_window, window
 use Rattle.sam_term.specs.declared.files.Window.{Window}
 use Rattle.sam_term.specs.declared.files.KnownFile.{KnownFile}
 use Rattle.sam_protocol.specs.Lens as lenses
-use Rattle.sam_protocol.specs.Lens.{Slot, Unknown, Known, Open, Lens, lens, Action, IsFree, HFile, Absent, Hidden, Named, Opened, Gone, Fits_slot, IsSettled, IsKept, version_of, command_of}
-use Rattle.sam_protocol.specs.View.{slot_of_window, slot_of, view}
-use Rattle.sam_protocol.specs.HostView.{file_of_slot, file_in}
-use Rattle.sam_protocol.specs.Fold.{replied, reply_of, answers, frames_at}
+use Rattle.sam_protocol.specs.Lens.{Slot, Unknown, Known, Open, Lens, lens, Action, HFile, Absent, Hidden, Named, Opened, Gone, Fits_slot, IsSettled, IsKept}
+use Rattle.sam_protocol.proofs.Lenses.{IsFree}
+use Rattle.sam_protocol.specs.Frames.{at_file}
+use Rattle.sam_protocol.specs.View.{slot_of_window, slot_of, view, file_of_slot, file_in}
+use Rattle.sam_protocol.specs.Fold.{replied, reply_of, answers}
 use Rattle.sam_protocol.specs.Order.{views, InOrder}
 use Rattle.sam_protocol.proofs.Kept.{kept_free}
 use Rattle.sam_protocol.proofs.Folds.{host_takes}
@@ -91,27 +92,27 @@ same_agrees (Some d ∷ r) (c ∷ t) a = (a.0, same_agrees r t a.1)
 opened_text : (fs : PlainFiles) (f : ℕ) (t : List ℕ) → file_in fs.slots f ≡ Opened t → ((file_at fs f).text ≡ t) × ((file_at fs f).opened ≡ true)
 opened_text fs f t e = go (slot fs.slots f) (nat_lt f (length fs.slots)) e
   where
-    at_file : (x : PlainFile) (o a : Bool) → x.opened ≡ o → (if o then Opened x.text else if a then Named x.text else Hidden x.text) ≡ Opened t → (x.text ≡ t) × (x.opened ≡ true)
-    at_file x true a q e = ((let y : Opened x.text ≡ Opened t = e in cc), q)
-    at_file x false true q e = absurd (let y : Named x.text ≡ Opened t = e in cc)
-    at_file x false false q e = absurd (let y : Hidden x.text ≡ Opened t = e in cc)
+    at_one : (x : PlainFile) (o a : Bool) → x.opened ≡ o → (if o then Opened x.text else if a then Named x.text else Hidden x.text) ≡ Opened t → (x.text ≡ t) × (x.opened ≡ true)
+    at_one x true a q e = ((let y : Opened x.text ≡ Opened t = e in cc), q)
+    at_one x false true q e = absurd (let y : Named x.text ≡ Opened t = e in cc)
+    at_one x false false q e = absurd (let y : Hidden x.text ≡ Opened t = e in cc)
 
     go : (s : Option PlainFile) (b : Bool) → file_of_slot b s ≡ Opened t → ((unwrap_or s blank_file).text ≡ t) × ((unwrap_or s blank_file).opened ≡ true)
     go None true e = absurd (let y : Gone ≡ Opened t = e in cc)
     go None false e = absurd (let y : Absent ≡ Opened t = e in cc)
-    go (Some x) b e = at_file x x.opened x.announced refl e
+    go (Some x) b e = at_one x x.opened x.announced refl e
 
 -- a file that is not open at the host
 closed_there : (fs : PlainFiles) (f : ℕ) → ((t : List ℕ) → file_in fs.slots f ≡ Opened t → ⊥) → (file_at fs f).opened ≡ false
 closed_there fs f h = go (slot fs.slots f) (nat_lt f (length fs.slots)) h
   where
-    at_file : (x : PlainFile) (o : Bool) → x.opened ≡ o → ((t : List ℕ) → (if o then Opened x.text else if x.announced then Named x.text else Hidden x.text) ≡ Opened t → ⊥) → x.opened ≡ false
-    at_file x true q h = absurd (h x.text refl)
-    at_file x false q h = q
+    at_one : (x : PlainFile) (o : Bool) → x.opened ≡ o → ((t : List ℕ) → (if o then Opened x.text else if x.announced then Named x.text else Hidden x.text) ≡ Opened t → ⊥) → x.opened ≡ false
+    at_one x true q h = absurd (h x.text refl)
+    at_one x false q h = q
 
     go : (s : Option PlainFile) (b : Bool) → ((t : List ℕ) → file_of_slot b s ≡ Opened t → ⊥) → (unwrap_or s blank_file).opened ≡ false
     go None b h = refl
-    go (Some x) b h = at_file x x.opened refl h
+    go (Some x) b h = at_one x x.opened refl h
 
 -- what a settled lens says of its file
 pub record Shows (t : PlainTerminal) (fs : PlainFiles) (f : ℕ) : Type 0 where
@@ -161,7 +162,7 @@ settled_shows t fs f fits = record { opened = opens (slot t.files f) fits; agree
 pub free_shows : (h : PlainHost) (t : PlainTerminal) (up : List Tmesg) (down : List Hmesg) (o : InOrder h t up down) (f : ℕ) → IsFree (view f t) → Shows t o.kept.ahead.files f
 free_shows h t up down o f free =
     let k = o.kept in
-    settled_shows t k.ahead.files f (kept_free (frames_at f (down ++ k.frames)) (view f t) k.ahead.is_done k.ahead.version (file_in k.ahead.files.slots f) (k.each f) free).3
+    settled_shows t k.ahead.files f (kept_free (at_file f (down ++ k.frames)) (view f t) k.ahead.is_done k.ahead.version (file_in k.ahead.files.slots f) (k.each f) free).3
 
 -- ## Nothing under way
 
@@ -174,7 +175,7 @@ quiet_ahead h t o e = the_reply (ap (λ (u : Option Unsent). answers h (unsent_m
 
 quiet_settled : (h : PlainHost) (t : PlainTerminal) (o : InOrder h t [] []) → t.unsent ≡ None → (g : ℕ) → IsSettled (view g t) h.is_done h.version (file_in h.files.slots g)
 quiet_settled h t o e g =
-    let x : IsKept [] (view g t) h.is_done h.version (file_in h.files.slots g) = subst (λ (r : Reply). IsKept (frames_at g r.1) (view g t) r.0.is_done r.0.version (file_in r.0.files.slots g)) (sym (quiet_ahead h t o e)) (o.kept.each g) in
+    let x : IsKept [] (view g t) h.is_done h.version (file_in h.files.slots g) = subst (λ (r : Reply). IsKept (at_file g r.1) (view g t) r.0.is_done r.0.version (file_in r.0.files.slots g)) (sym (quiet_ahead h t o e)) (o.kept.each g) in
     subst (λ (v : Lens). IsSettled v h.is_done h.version (file_in h.files.slots g)) (the_lens (sym x.runs)) x.settled
   where
     the_lens : {p q : Lens} → Some p ≡ Some q → p ≡ q

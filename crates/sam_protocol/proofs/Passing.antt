@@ -15,8 +15,9 @@ use Rattle.sam_term.specs.declared.event.UserEvent.TheVariants.{Typed, Select, C
 use Rattle.sam_term.specs.declared.fault.Refusal.TheVariants as refusal
 use Rattle.sam_rasp.specs.Rasp.{PartialText}
 use Rattle.sam_protocol.specs.Lens as lenses
-use Rattle.sam_protocol.specs.Lens.{Slot, Lens, lens, IsFree, IsOpen}
-use Rattle.sam_protocol.specs.Crossing.{OpenAt, KnownAt}
+use Rattle.sam_protocol.specs.Lens.{Slot, Lens, lens, OpenAt}
+use Rattle.sam_protocol.proofs.Lenses.{IsFree, IsOpen}
+use Rattle.sam_protocol.proofs.Changes.{KnownAt}
 use Rattle.sam_protocol.specs.View.{slot_of_window, slot_of, view}
 
 -- each test of an event, none of which holds

@@ -21,12 +21,11 @@ use Rattle.sam_term.specs.declared.files.Unsent.{Unsent}
 use Rattle.sam_term.specs.declared.fault.TermFault.{TermFault}
 use Rattle.sam_term.specs.declared.fault.TermFault.TheVariants as fault
 use Rattle.sam_protocol.specs.Lens as lenses
-use Rattle.sam_protocol.specs.Lens.{Lens, lens, Action, IsFree, move, is_crossing, IsKept, HFile}
-use Rattle.sam_protocol.specs.Model.{action, only}
-use Rattle.sam_protocol.specs.Crossing.{OpenAt, Anything}
-use Rattle.sam_protocol.specs.View.{view, frame_of, effect, Moves}
-use Rattle.sam_protocol.specs.HostView.{file_in}
-use Rattle.sam_protocol.specs.Fold.{frames_at, Kept}
+use Rattle.sam_protocol.specs.Lens.{Lens, lens, Action, move, is_crossing, IsKept, HFile, OpenAt, Anything}
+use Rattle.sam_protocol.proofs.Lenses.{IsFree}
+use Rattle.sam_protocol.specs.Frames.{action, only, at_file}
+use Rattle.sam_protocol.specs.View.{view, effect, Moves, file_in}
+use Rattle.sam_protocol.specs.Fold.{Kept}
 use Rattle.sam_protocol.specs.Order.{IsTidyWindow, AreTidy, IsHeldBack, views, InOrder}
 use Rattle.sam_protocol.proofs.Runs.{free_or_refused, first_is_quiet, idle}
 use Rattle.sam_protocol.proofs.Kept.{alike_same}
@@ -66,7 +65,7 @@ moved_other f moved u e = ap (λ (b : Bool). if b then Some (record u { place = 
 kept_other : (f : ℕ) (u : Unsent) → (u.file == f) ≡ false → unsent_without f (Some u) ≡ Some u
 kept_other f u e = ap (λ (b : Bool). if b then None else Some u) e
 
-unsent_stays : (t : PlainTerminal) (m : Hmesg) (u : Unsent) → t.unsent ≡ Some u → is_crossing (action u.file (frame_of m)) ≡ false → (effect t m).unsent ≡ Some u
+unsent_stays : (t : PlainTerminal) (m : Hmesg) (u : Unsent) → t.unsent ≡ Some u → is_crossing (action u.file m) ≡ false → (effect t m).unsent ≡ Some u
 unfolding took_bindname took_data took_grow took_growdata took_cut took_unlockfile took_close took_exit
 unsent_stays t (Hversion v) u e q = e
 unsent_stays t (Hbindname f) u e q = e
@@ -210,9 +209,9 @@ effect_order h t up m down o v = by_unsent t.unsent refl
     k = o.kept
 
     s : ℕ → List Action
-    s g = frames_at g (down ++ k.frames)
+    s g = at_file g (down ++ k.frames)
 
-    at : (g : ℕ) → IsKept (action g (frame_of m) ∷ s g) (view g t) k.ahead.is_done k.ahead.version (file_in k.ahead.files.slots g)
+    at : (g : ℕ) → IsKept (action g m ∷ s g) (view g t) k.ahead.is_done k.ahead.version (file_in k.ahead.files.slots g)
     at g = k.each g
 
     taken : Kept h (views (effect t m)) (up ++ unsent_message t.unsent) down
@@ -229,8 +228,8 @@ effect_order h t up m down o v = by_unsent t.unsent refl
     by_unsent None e = made None e (unsent_none t m e) tt
     by_unsent (Some u) e =
         let held : IsHeldBack (views t) (Some u) = subst (IsHeldBack (views t)) e o.unsent in
-        let quiet = quiet_frame (action u.file (frame_of m)) (s u.file) (view u.file t) _ _ _ (at u.file) held.1 in
-        let open2 = left_open (action u.file (frame_of m)) (s u.file) (view u.file t) (view u.file (effect t m)) _ _ _ (at u.file) held.1 (v.moves u.file) in
+        let quiet = quiet_frame (action u.file m) (s u.file) (view u.file t) _ _ _ (at u.file) held.1 in
+        let open2 = left_open (action u.file m) (s u.file) (view u.file t) (view u.file (effect t m)) _ _ _ (at u.file) held.1 (v.moves u.file) in
         made (Some u) e (unsent_stays t m u e quiet) (held.0, open2)
 
 -- nothing stands against the frame, and what it makes follows

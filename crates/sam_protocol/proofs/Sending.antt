@@ -10,12 +10,11 @@ use Rattle.sam_term.specs.declared.lock.Lock.TheVariants.{CommandLock, NoLock}
 use Rattle.sam_term.specs.Locks.{lock_of, is_command_line}
 use Rattle.sam_term.specs.Term.{PlainTerminal, Made, window_at, put_window, window_after_del, moved_unsent, del_rasp, composed, flushed, unsent_message, and_then, sends, unchanged}
 use Rattle.sam_term.specs.declared.files.Unsent.{Unsent}
-use Rattle.sam_protocol.specs.Lens.{Unknown, Known, Open, Lens, lens, IsFree, IsOpen, exited_of, command_of}
-use Rattle.sam_protocol.specs.Model.{choose}
-use Rattle.sam_protocol.specs.Crossing.{cut_out, changed, OpenAt, Anything, Within}
+use Rattle.sam_protocol.specs.Lens.{Unknown, Known, Open, Lens, lens, OpenAt, Anything}
+use Rattle.sam_protocol.proofs.Lenses.{IsFree, IsOpen, exited_of, command_of}
+use Rattle.sam_protocol.proofs.Changes.{change_by, cut_out, changed, Within, IsAllowed, CanCompose}
 use Rattle.sam_protocol.specs.View.{view}
-use Rattle.sam_protocol.specs.Synced.{change_by}
-use Rattle.sam_protocol.specs.Fold.{Kept, IsAllowed, CanCompose}
+use Rattle.sam_protocol.specs.Fold.{Kept}
 use Rattle.sam_protocol.specs.Order.{AreTidy, IsHeldBack, views, InOrder}
 use Rattle.sam_protocol.proofs.Folds.{kept_views}
 use Rattle.sam_protocol.proofs.Composing.{composes}
@@ -150,7 +149,7 @@ sends_goes h t up down m o plain may =
 pub has_open : (P : List (Option ℕ) → Type 0) (t : PlainTerminal) (f : ℕ) → OpenAt P (view f t) → P (window_at t f).rasp
 has_open P t f o = (subst (OpenAt P) (view-open t f (open_is P (view f t) o)) o).2
 
-pub cut_view : (t : PlainTerminal) (f p q : ℕ) → IsOpen (view f t) → p ≤ q → (g : ℕ) → view g (put_window t f (window_after_del (window_at t f) p q)) ≡ choose (g == f) (cut_out p q (view g t)) (view g t)
+pub cut_view : (t : PlainTerminal) (f p q : ℕ) → IsOpen (view f t) → p ≤ q → (g : ℕ) → view g (put_window t f (window_after_del (window_at t f) p q)) ≡ (if g == f then cut_out p q (view g t) else view g t)
 cut_view t f p q o l g =
     let end : q ≡ p + (q - p) = omega (arith, l) in
     let r : PartialText = (window_at t f).rasp in
@@ -165,19 +164,19 @@ cut_one h t up down f p q o e may =
     (λ g. sym (cut_view t f p q (open_is (Within p q) (view f t) may.can) within.0 g))
     (tidy-window t f (window_after_del (window_at t f) p q) o.tidy (tidy-del (window_at t f) p q (o.tidy f) within.0 within.1))
 
-pub exited_cut : (b : Bool) (p q : ℕ) (v : Lens) → exited_of (choose b (cut_out p q v) v) ≡ exited_of v
+pub exited_cut : (b : Bool) (p q : ℕ) (v : Lens) → exited_of (if b then cut_out p q v else v) ≡ exited_of v
 exited_cut true p q (lens c e n Unknown) = refl
 exited_cut true p q (lens c e n Known) = refl
 exited_cut true p q (lens c e n (Open r k)) = refl
 exited_cut false p q v = refl
 
-pub command_cut : (b : Bool) (p q : ℕ) (v : Lens) → command_of (choose b (cut_out p q v) v) ≡ command_of v
+pub command_cut : (b : Bool) (p q : ℕ) (v : Lens) → command_of (if b then cut_out p q v else v) ≡ command_of v
 command_cut true p q (lens c e n Unknown) = refl
 command_cut true p q (lens c e n Known) = refl
 command_cut true p q (lens c e n (Open r k)) = refl
 command_cut false p q v = refl
 
-pub free_cut : (b : Bool) (p q : ℕ) (v : Lens) → IsFree v → IsFree (choose b (cut_out p q v) v)
+pub free_cut : (b : Bool) (p q : ℕ) (v : Lens) → IsFree v → IsFree (if b then cut_out p q v else v)
 free_cut true p q (lens c e n Unknown) f = f
 free_cut true p q (lens c e n Known) f = f
 free_cut true p q (lens true e n (Open r k)) f = f

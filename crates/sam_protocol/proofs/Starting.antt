@@ -1,19 +1,15 @@
 -- The first host, a new terminal and nothing under way are in order.
-use Rattle.std.proofs.Common.{◌≡◌, ℕ, zero, suc, ◌-◌, ◌<◌, ◌≤◌, Bool, true, false, if◌then◌else◌, nat_lt, List, [], ◌∷◌, length, Option, Some, None, refl, sym, ◌∙◌, true≢false, arith}
+use Rattle.std.proofs.Common.{◌≡◌, ℕ, zero, suc, Bool, true, false, if◌then◌else◌, nat_lt, List, [], ◌∷◌, length, Option, Some, None, refl, sym, ◌∙◌, true≢false, arith}
 use Rattle.std.specs.Prelude.{unwrap_or}
-use Rattle.std.proofs.lemmas.Bool.{le-ltb}
 use Rattle.sam_runes.specs.Slots.{Slots, slot}
-use Rattle.sam_runes.proofs.SlotLaws.{slot_past}
 use Rattle.sam_text.specs.Files.{PlainFile, blank_file}
 use Rattle.sam_host.specs.Host.{PlainHost, new_host, given_slots}
 use Rattle.sam_host.specs.Laws.{AreGiven}
 use Rattle.sam_host.proofs.SoundLaws.{starts_sound}
 use Rattle.sam_term.specs.Term.{new_terminal}
-use Rattle.sam_protocol.specs.Lens.{Absent, Hidden, Named, Opened, Unknown, Fits_slot}
-use Rattle.sam_protocol.specs.Model.{text_of}
-use Rattle.sam_protocol.specs.View.{view}
-use Rattle.sam_protocol.specs.HostView.{file_of_slot, file_in}
-use Rattle.sam_protocol.specs.Handled.{IsSteady}
+use Rattle.sam_protocol.specs.Lens.{Hidden, Named, Opened, Unknown, Fits_slot}
+use Rattle.sam_protocol.specs.View.{view, file_of_slot}
+use Rattle.sam_protocol.specs.Steady.{IsSteady}
 use Rattle.sam_protocol.specs.Fold.{Kept}
 use Rattle.sam_protocol.specs.Order.{views, InOrder}
 
@@ -45,17 +41,6 @@ shut_announced : (s : Option PlainFile) → IsShut s → (unwrap_or s blank_file
 shut_announced None i e = absurd (true≢false (sym e))
 shut_announced (Some x) i e = absurd (true≢false (sym e ∙ i.0))
 
--- the text of a file, as the crossing sees it
-slot_text : (b : Bool) (s : Option PlainFile) → length (text_of (file_of_slot b s)) ≤ length (unwrap_or s blank_file).text
-slot_text true None = omega arith
-slot_text false None = omega arith
-slot_text b (Some x) = go x.opened x.announced
-  where
-    go : (o a : Bool) → length (text_of (if o then Opened x.text else if a then Named x.text else Hidden x.text)) ≤ length x.text
-    go true a = omega arith
-    go false true = omega arith
-    go false false = omega arith
-
 pub starts : (given : List (List ℕ × List ℕ)) → AreGiven given → InOrder (new_host given) new_terminal [] []
 starts given fit = record { kept = kept; tidy = λ f. (omega arith, omega arith, omega arith); unsent = tt }
   where
@@ -68,16 +53,11 @@ starts given fit = record { kept = kept; tidy = λ f. (omega arith, omega arith,
     none_works : (f : ℕ) → h.files.work ≡ Some f → ⊥
     none_works f e = cc
 
-    past : (g : ℕ) → length ss - 1 < g → file_in ss g ≡ Absent
-    past g l =
-        let beyond : length ss ≤ g = omega (arith, l) in
-        (λ i. file_of_slot (le-ltb g (length ss) beyond i) (slot_past ss g beyond i))
-
     steady : IsSteady h
     steady =
         let sound = starts_sound given fit in
         record {
-          sound = record { short = λ g. omega (arith, slot_text (nat_lt g (length ss)) (slot ss g), (sound.files g).2); fresh = past; works = λ f e. absurd (none_works f e); commands = tt };
+          sound = record { works = λ f e. absurd (none_works f e); commands = tt };
           announced = λ f. shut_announced (slot ss (suc f)) (all_shut given (suc f));
           fit = sound.files;
         }

@@ -14,11 +14,10 @@ use Rattle.sam_mesg.specs.declared.hmesg.Hmesg.{Hmesg}
 use Rattle.sam_mesg.specs.declared.hmesg.Hmesg.TheVariants.{Hsetpat}
 use Rattle.sam_mesg.specs.declared.tmesg.Tmesg.TheVariants.{Tversion, Tstartcmdfile, Tcheck, Trequest, Torigin, Tstartfile, Tworkfile, Ttype, Tcut, Tpaste, Tsnarf, Tstartnewfile, Twrite, Tclose, Tlook, Tsearch, Tsend, Tdclick, Tstartsnarf, Tsetsnarf, Tack, Texit}
 use Rattle.sam_protocol.specs.Lens.{Named, Opened}
-use Rattle.sam_protocol.specs.HostView.{file_in}
-use Rattle.sam_protocol.specs.Means.{OpenAnnounced, AllOpenAnnounced}
-use Rattle.sam_protocol.specs.Synced.{Synced}
-use Rattle.sam_protocol.specs.Handled.{Accepted, IsSteady, Ready}
-use Rattle.sam_protocol.proofs.MirrorSteps.{OpenThere, slot_open, some_at, closed_file, shown_there, at_there}
+use Rattle.sam_protocol.specs.View.{file_in}
+use Rattle.sam_protocol.proofs.Accepting.{Synced, Accepted, Ready}
+use Rattle.sam_protocol.specs.Steady.{OpenAnnounced, AllOpenAnnounced, IsSteady}
+use Rattle.sam_protocol.proofs.HostFiles.{opens_at, some_at, closed_file, shown_there, at_there}
 
 -- ## Open files were announced
 
@@ -99,14 +98,11 @@ announced-found h f (Some d) frames all = announced-same h.files f (record (file
 -- a file that the terminal knows was announced, but tag 0
 known_announced : (h : PlainHost) (f : ℕ) → AllOpenAnnounced h.files → (f == 0) ≡ false → ((t : List ℕ) × (file_in h.files.slots f ≡ Named t)) ⊎ ((t : List ℕ) × (file_in h.files.slots f ≡ Opened t)) → (file_at h.files f).announced ≡ true
 known_announced h f all z (inl t) =
-    let x = some_at h f (Named t.0) t.1 (λ e. cc) (λ e. cc) in
-    let c = closed_file x.file true t.0 (sym (shown_there h f x.file x.there) ∙ t.1) in
-    ap (λ (y : PlainFile). y.announced) (at_there h f x.file x.there) ∙ c.1
-known_announced h f all z (inr t) = go f z (ap (λ (y : PlainFile). y.opened) (at_there h f o.file o.there) ∙ o.opened)
+    let x = some_at h.files f (Named t.0) t.1 (λ e. cc) (λ e. cc) in
+    let c = closed_file x.file true t.0 (sym (shown_there h.files f x.file x.there) ∙ t.1) in
+    ap (λ (y : PlainFile). y.announced) (at_there h.files f x.file x.there) ∙ c.1
+known_announced h f all z (inr t) = go f z (opens_at h.files f t.0 t.1).0.opened
   where
-    o : OpenThere h.files f t.0
-    o = slot_open h.files f t.0 t.1
-
     go : (k : ℕ) → (k == 0) ≡ false → (file_at h.files k).opened ≡ true → (file_at h.files k).announced ≡ true
     go zero z e = absurd (true≢false z)
     go (suc k) z e = all k e

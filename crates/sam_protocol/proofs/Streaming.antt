@@ -1,8 +1,7 @@
 -- Both sides have one version wherever the command lock is free, and it is that of the place of the next message.
-use Rattle.std.proofs.Common.{◌≡◌, ℕ, ◌+◌, Bool, true, false, not, ◌&&◌, ◌||◌, ◌==◌, if◌then◌else◌, nat_lt, List, [], ◌∷◌, ◌++◌, length, map, Option, Some, None, ◌⊎◌, inl, inr, refl, sym, ap, ◌∙◌, subst, true≢false}
+use Rattle.std.proofs.Common.{◌≡◌, ℕ, ◌+◌, Bool, true, false, not, ◌&&◌, ◌||◌, ◌==◌, if◌then◌else◌, nat_lt, List, [], ◌∷◌, ◌++◌, length, Option, Some, None, ◌⊎◌, inl, inr, refl, sym, ap, ◌∙◌, subst, true≢false}
 use Rattle.std.specs.Prelude.{drop, nat_le}
 use Rattle.sam_term.specs.declared.files.Unsent.{Unsent}
-use Rattle.std.proofs.lemmas.List.{map-append}
 use Rattle.sam_runes.specs.Texts.{Range, is_empty, max_runes, all_tags, most_in_pattern, as_lines, part, ends_line, common_version}
 use Rattle.sam_runes.specs.Checks.{first_of_checks}
 use Rattle.sam_text.specs.Files.{file_at, has_room}
@@ -14,15 +13,14 @@ use Rattle.sam_host.specs.Host.{PlainHost, Reply, counted, host_checks, reply_to
 use Rattle.sam_host.specs.declared.fault.HostFault.{HostFault}
 use Rattle.sam_host.specs.declared.fault.HostFault.TheVariants as hostfault
 use Rattle.sam_term.specs.Term.{PlainTerminal, unsent_message}
-use Rattle.sam_protocol.specs.Lens.{Lens, lens, HFile, IsSettled, version_of}
-use Rattle.sam_protocol.specs.Model as P
-use Rattle.sam_protocol.specs.Model.{is_unlock, unlocks_command, VersionsGuarded}
-use Rattle.sam_protocol.specs.View.{view, frame_of}
-use Rattle.sam_protocol.specs.HostView.{file_in}
-use Rattle.sam_protocol.specs.Fold.{replied, reply_of, answers, frames_at}
+use Rattle.sam_protocol.specs.Lens.{Lens, lens, HFile, IsSettled}
+use Rattle.sam_protocol.proofs.Lenses.{version_of}
+use Rattle.sam_protocol.specs.Frames.{at_file, is_unlock, unlocks_command}
+use Rattle.sam_protocol.specs.View.{view, file_in}
+use Rattle.sam_protocol.specs.Fold.{replied, reply_of, answers}
 use Rattle.sam_protocol.specs.Order.{views, InOrder}
 use Rattle.sam_protocol.proofs.Runs.{no_unlock, same_version}
-use Rattle.sam_protocol.proofs.Versions.{unlock_frames, no_changes}
+use Rattle.sam_protocol.proofs.Versions.{unlocks_behind, unlock_frames, no_changes}
 use Rattle.sam_protocol.proofs.Folds.{answered}
 use Rattle.sam_runes.proofs.CheckLaws.{none_holds}
 use Rattle.sam_protocol.specs.Streams.{version_past, version_behind}
@@ -37,14 +35,6 @@ version-if n false x y here there = there
 version-found : (h : PlainHost) (f : ℕ) (d : Option Range) (ms : List Hmesg) → (reply_found h f d ms).0.version ≡ h.version
 version-found h f None ms = refl
 version-found h f (Some d) ms = refl
-
-unlocks-behind : (a b : List P.Hmesg) → unlocks_command b ≡ true → unlocks_command (a ++ b) ≡ true
-unlocks-behind [] b e = e
-unlocks-behind (m ∷ a) b e = go (is_unlock m) (unlocks_command (a ++ b)) (unlocks-behind a b e)
-  where
-    go : (p q : Bool) → q ≡ true → (p || q) ≡ true
-    go true q e = refl
-    go false q e = e
 
 -- the version behind a message that nothing stands against
 version_next : (h : PlainHost) (m : Tmesg) → first_of_checks (host_checks h m) ≡ None → (reply_to h m).0.version ≡ version_past h.version m
@@ -75,11 +65,10 @@ version_next h Tack e = refl
 version_next h Texit e = refl
 
 -- the version changes only with an answer that frees the command lock
-version_reply : (h : PlainHost) (m : Tmesg) → first_of_checks (host_checks h m) ≡ None → ((reply_to h m).0.version ≡ h.version) ⊎ (unlocks_command (map frame_of (reply_to h m).1) ≡ true)
+version_reply : (h : PlainHost) (m : Tmesg) → first_of_checks (host_checks h m) ≡ None → ((reply_to h m).0.version ≡ h.version) ⊎ (unlocks_command (reply_to h m).1 ≡ true)
 unfolding reply_version
 version_reply h (Tversion v) e =
-    inr (subst (λ (l : List P.Hmesg). unlocks_command l ≡ true) (sym (map-append frame_of (Hversion (common_version v) ∷ told_names 1 (drop 1 h.files.slots)) (Hack ∷ Hunlock ∷ [])))
-    (unlocks-behind (map frame_of (Hversion (common_version v) ∷ told_names 1 (drop 1 h.files.slots))) (map frame_of (Hack ∷ Hunlock ∷ [])) refl))
+    inr (unlocks_behind (Hversion (common_version v) ∷ told_names 1 (drop 1 h.files.slots)) (Hack ∷ Hunlock ∷ []) refl)
 version_reply h Tstartcmdfile e = inl (version_next h Tstartcmdfile e)
 version_reply h (Tcheck f) e = inl (version_next h (Tcheck f) e)
 version_reply h (Trequest f p n) e = inl (version_next h (Trequest f p n) e)
@@ -102,11 +91,11 @@ version_reply h (Tsetsnarf s) e = inl (version_next h (Tsetsnarf s) e)
 version_reply h Tack e = inl (version_next h Tack e)
 version_reply h Texit e = inl (version_next h Texit e)
 
-version_of_reply : (h : PlainHost) (m : Tmesg) (r : Reply) → reply_of h m ≡ Some r → (r.0.version ≡ h.version) ⊎ (unlocks_command (map frame_of r.1) ≡ true)
+version_of_reply : (h : PlainHost) (m : Tmesg) (r : Reply) → reply_of h m ≡ Some r → (r.0.version ≡ h.version) ⊎ (unlocks_command r.1 ≡ true)
 version_of_reply h m r e = go h.is_done e
   where
     P2 : Reply → Type 0
-    P2 x = (x.0.version ≡ h.version) ⊎ (unlocks_command (map frame_of x.1) ≡ true)
+    P2 x = (x.0.version ≡ h.version) ⊎ (unlocks_command x.1 ≡ true)
 
     the_reply : {p q : Reply} → Some p ≡ Some q → p ≡ q
     the_reply e = cc
@@ -119,7 +108,7 @@ version_of_reply h m r e = go h.is_done e
     go true q = subst P2 (the_reply q) (inl refl)
     go false q = checked (first_of_checks (host_checks h m)) refl q
 
-behind_none : (a b : List P.Hmesg) → unlocks_command (a ++ b) ≡ false → unlocks_command b ≡ false
+behind_none : (a b : List Hmesg) → unlocks_command (a ++ b) ≡ false → unlocks_command b ≡ false
 behind_none [] b e = e
 behind_none (m ∷ a) b e = behind_none a b (right (is_unlock m) (unlocks_command (a ++ b)) e)
   where
@@ -131,39 +120,39 @@ neither : (p r : Bool) → (p || r) ≡ false → (p ≡ false) × (r ≡ false)
 neither true r e = absurd (true≢false e)
 neither false r e = (refl, e)
 
-first_none : (a b : List P.Hmesg) → unlocks_command (a ++ b) ≡ false → unlocks_command a ≡ false
+first_none : (a b : List Hmesg) → unlocks_command (a ++ b) ≡ false → unlocks_command a ≡ false
 first_none [] b e = refl
 first_none (m ∷ a) b e =
     let parts = neither (is_unlock m) (unlocks_command (a ++ b)) e in
     ap (λ (x : Bool). x || unlocks_command a) parts.0 ∙ first_none a b parts.1
 
-before_none : (a b : List P.Hmesg) → unlocks_command (a ++ b) ≡ false → unlocks_command a ≡ true → ⊥
+before_none : (a b : List Hmesg) → unlocks_command (a ++ b) ≡ false → unlocks_command a ≡ true → ⊥
 before_none a b e f = true≢false (sym f ∙ first_none a b e)
 
-answers_version : (ms : List Tmesg) (h : PlainHost) (a : Reply) → answers h ms ≡ Some a → unlocks_command (map frame_of a.1) ≡ false → a.0.version ≡ h.version
+answers_version : (ms : List Tmesg) (h : PlainHost) (a : Reply) → answers h ms ≡ Some a → unlocks_command a.1 ≡ false → a.0.version ≡ h.version
 answers_version [] h a e u = ap (λ (r : Reply). r.0.version) (sym (the_reply e))
   where
     the_reply : {p q : Reply} → Some p ≡ Some q → p ≡ q
     the_reply e = cc
 answers_version (m ∷ ms) h a e u =
     let t = answered h m ms a e in
-    let both : unlocks_command (map frame_of t.first.1 ++ map frame_of t.rest.1) ≡ false = sym (ap unlocks_command (ap (λ (r : Reply). map frame_of r.1) t.whole ∙ map-append frame_of t.first.1 t.rest.1)) ∙ u in
-    let later = answers_version ms t.first.0 t.rest t.later (behind_none (map frame_of t.first.1) (map frame_of t.rest.1) both) in
+    let both : unlocks_command (t.first.1 ++ t.rest.1) ≡ false = sym (ap (λ (r : Reply). unlocks_command r.1) t.whole) ∙ u in
+    let later = answers_version ms t.first.0 t.rest t.later (behind_none t.first.1 t.rest.1 both) in
     let first : t.first.0.version ≡ h.version = go t.first t.rest both (version_of_reply h m t.first t.now) in
     ap (λ (r : Reply). r.0.version) t.whole ∙ later ∙ first
   where
-    go : (r s : Reply) → unlocks_command (map frame_of r.1 ++ map frame_of s.1) ≡ false → (r.0.version ≡ h.version) ⊎ (unlocks_command (map frame_of r.1) ≡ true) → r.0.version ≡ h.version
+    go : (r s : Reply) → unlocks_command (r.1 ++ s.1) ≡ false → (r.0.version ≡ h.version) ⊎ (unlocks_command r.1 ≡ true) → r.0.version ≡ h.version
     go r s b (inl x) = x
-    go r s b (inr x) = absurd (before_none (map frame_of r.1) (map frame_of s.1) b x)
+    go r s b (inr x) = absurd (before_none r.1 s.1 b x)
 
 -- where the command lock is free the terminal has the version of the host that will have handled all
 ahead_version : (h : PlainHost) (t : PlainTerminal) (up : List Tmesg) (down : List Hmesg) (o : InOrder h t up down) → t.command_lock ≡ false → t.version ≡ o.kept.ahead.version
 ahead_version h t up down o c =
     let k = o.kept in
     let x = k.each 0 in
-    let all : List P.Hmesg = map frame_of (down ++ k.frames) in
-    let none : unlocks_command all ≡ false = sym (unlock_frames 0 all) ∙ no_unlock (frames_at 0 (down ++ k.frames)) (view 0 t) x.final x.runs c in
-    let still : version_of x.final ≡ t.version = same_version (frames_at 0 (down ++ k.frames)) (view 0 t) x.final x.runs (no_changes 0 all k.versions none) in
+    let all : List Hmesg = down ++ k.frames in
+    let none : unlocks_command all ≡ false = sym (unlock_frames 0 all) ∙ no_unlock (at_file 0 (down ++ k.frames)) (view 0 t) x.final x.runs c in
+    let still : version_of x.final ≡ t.version = same_version (at_file 0 (down ++ k.frames)) (view 0 t) x.final x.runs (no_changes 0 all k.versions none) in
     sym still ∙ settled_version x.final k.ahead.is_done k.ahead.version (file_in k.ahead.files.slots 0) x.settled
   where
     settled_version : (v : Lens) (d : Bool) (n : ℕ) (file : HFile) → IsSettled v d n file → version_of v ≡ n
@@ -174,9 +163,9 @@ pub one_version : (h : PlainHost) (t : PlainTerminal) (up : List Tmesg) (down : 
 one_version h t up down o c =
     let k = o.kept in
     let x = k.each 0 in
-    let all : List P.Hmesg = map frame_of (down ++ k.frames) in
-    let none : unlocks_command all ≡ false = sym (unlock_frames 0 all) ∙ no_unlock (frames_at 0 (down ++ k.frames)) (view 0 t) x.final x.runs c in
-    let last : unlocks_command (map frame_of k.frames) ≡ false = behind_none (map frame_of down) (map frame_of k.frames) (sym (ap unlocks_command (map-append frame_of down k.frames)) ∙ none) in
+    let all : List Hmesg = down ++ k.frames in
+    let none : unlocks_command all ≡ false = sym (unlock_frames 0 all) ∙ no_unlock (at_file 0 (down ++ k.frames)) (view 0 t) x.final x.runs c in
+    let last : unlocks_command k.frames ≡ false = behind_none down k.frames none in
     ahead_version h t up down o c ∙ answers_version (up ++ unsent_message t.unsent) h (k.ahead, k.frames) k.folds last
 
 -- ## The version at the place of the next message

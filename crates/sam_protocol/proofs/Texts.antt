@@ -1,8 +1,8 @@
 -- A partial text that agrees with a text still does when both are changed alike.
-use Rattle.std.proofs.Common.{◌≡◌, ℕ, zero, suc, ◌+◌, ◌-◌, ◌≤◌, List, [], ◌∷◌, ◌++◌, length, take, drop, map, replicate, Option, Some, None, refl, sym, ap, ◌∙◌, subst, arith, length-append, length-drop, length-take-le, take-append-drop, append_assoc}
+use Rattle.std.proofs.Common.{◌≡◌, ℕ, zero, suc, ◌+◌, List, [], ◌∷◌, ◌++◌, length, take, drop, map, replicate, Option, Some, None, refl, sym, ap, ◌∙◌, subst, take-append-drop, append_assoc}
 use Rattle.std.proofs.lemmas.List.{drop-drop}
 use Rattle.sam_protocol.specs.Lens.{Agrees, grown, filled, typed, without}
-use Rattle.sam_protocol.specs.Model.{inserted, deleted}
+use Rattle.sam_runes.specs.Texts.{ins, del}
 
 pub agrees_length : (r : List (Option ℕ)) (t : List ℕ) → Agrees r t → length r ≡ length t
 agrees_length [] [] a = refl
@@ -42,13 +42,13 @@ pub agrees_loaded : (s : List ℕ) → Agrees (map Some s) s
 agrees_loaded [] = tt
 agrees_loaded (x ∷ s) = (refl, agrees_loaded s)
 
-pub agrees_grown : (p : ℕ) (s : List ℕ) (r : List (Option ℕ)) (t : List ℕ) → Agrees r t → Agrees (grown p (length s) r) (inserted p s t)
+pub agrees_grown : (p : ℕ) (s : List ℕ) (r : List (Option ℕ)) (t : List ℕ) → Agrees r t → Agrees (grown p (length s) r) (ins t p s)
 agrees_grown p s r t a = agrees_append (take p r ++ replicate (length s) None) (take p t ++ s) (drop p r) (drop p t) (agrees_append (take p r) (take p t) (replicate (length s) None) s (agrees_take p r t a) (agrees_gaps s)) (agrees_drop p r t a)
 
-pub agrees_typed : (p : ℕ) (s : List ℕ) (r : List (Option ℕ)) (t : List ℕ) → Agrees r t → Agrees (typed p s r) (inserted p s t)
+pub agrees_typed : (p : ℕ) (s : List ℕ) (r : List (Option ℕ)) (t : List ℕ) → Agrees r t → Agrees (typed p s r) (ins t p s)
 agrees_typed p s r t a = agrees_append (take p r ++ map Some s) (take p t ++ s) (drop p r) (drop p t) (agrees_append (take p r) (take p t) (map Some s) s (agrees_take p r t a) (agrees_loaded s)) (agrees_drop p r t a)
 
-pub agrees_without : (p n : ℕ) (r : List (Option ℕ)) (t : List ℕ) → Agrees r t → Agrees (without p n r) (deleted p n t)
+pub agrees_without : (p n : ℕ) (r : List (Option ℕ)) (t : List ℕ) → Agrees r t → Agrees (without p n r) (del t p (p + n))
 agrees_without p n r t a = agrees_append (take p r) (take p t) (drop (p + n) r) (drop (p + n) t) (agrees_take p r t a) (agrees_drop (p + n) r t a)
 
 -- the host's own runes, put where they stand
@@ -60,9 +60,3 @@ agrees_filled p s r t a e =
   where
     rest : s ≡ take (length s) (drop p t) → s ++ drop (p + length s) t ≡ drop p t
     rest e = ap (λ (x : List ℕ). x ++ drop (p + length s) t) e ∙ ap (λ (x : List ℕ). take (length s) (drop p t) ++ x) (sym (drop-drop (length s) p t)) ∙ take-append-drop (length s) (drop p t)
-
-pub length-inserted : (p : ℕ) (s t : List ℕ) → p ≤ length t → length (inserted p s t) ≡ length t + length s
-length-inserted p s t h = omega (arith, length-append (take p t ++ s) (drop p t), length-append (take p t) s, length-take-le p t h, length-drop p t)
-
-pub length-deleted : (p n : ℕ) (t : List ℕ) → p + n ≤ length t → length (deleted p n t) ≡ length t - n
-length-deleted p n t h = let q : p ≤ length t = omega arith in omega (arith, length-append (take p t) (drop (p + n) t), length-take-le p t q, length-drop (p + n) t)

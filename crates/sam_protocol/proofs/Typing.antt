@@ -13,11 +13,10 @@ use Rattle.sam_term.specs.Locks.{is_command_line}
 use Rattle.sam_term.specs.Term.{PlainTerminal, Made, lock_taken, window_at, window_after_ins, moved_unsent, ins_rasp, typed_rasp, joins, joined, types, composed, all_composed, flushed, unsent_message, and_then}
 use Rattle.sam_term.specs.declared.files.Window.{Window}
 use Rattle.sam_term.specs.declared.files.Unsent.{Unsent}
-use Rattle.sam_protocol.specs.Lens.{Unknown, Known, Open, Lens, lens, IsOpen}
-use Rattle.sam_protocol.specs.Model.{choose}
-use Rattle.sam_protocol.specs.Crossing.{Types, Line, typed_in, commanded, changed, OpenAt, Anything}
+use Rattle.sam_protocol.specs.Lens.{Unknown, Known, Open, Lens, lens, OpenAt, Anything}
+use Rattle.sam_protocol.proofs.Lenses.{IsOpen}
+use Rattle.sam_protocol.proofs.Changes.{change_by, type_change, typed_in, commanded, changed}
 use Rattle.sam_protocol.specs.View.{view}
-use Rattle.sam_protocol.specs.Synced.{change_by}
 use Rattle.sam_protocol.specs.Fold.{Kept}
 use Rattle.sam_protocol.specs.Order.{AreTidy, IsHeldBack, views, InOrder}
 use Rattle.sam_protocol.proofs.Folds.{kept_views}
@@ -40,7 +39,7 @@ typed_open p s P (lens c e n Unknown) o = o
 typed_open p s P (lens c e n Known) o = o
 typed_open p s P (lens c e n (Open r k)) o = (o.0, o.1, tt)
 
-open_typed : (b : Bool) (p : ℕ) (s : List ℕ) (v : Lens) → IsOpen v → IsOpen (choose b (typed_in p s v) v)
+open_typed : (b : Bool) (p : ℕ) (s : List ℕ) (v : Lens) → IsOpen v → IsOpen (if b then typed_in p s v else v)
 open_typed true p s (lens c e n Unknown) o = o
 open_typed true p s (lens c e n Known) o = o
 open_typed true p s (lens c e n (Open r k)) o = tt
@@ -52,10 +51,10 @@ module _ (x : PlainTerminal) (f p : ℕ) (s : List ℕ) where
   grown : PlainTerminal
   grown = ins_rasp x f p (map Some s)
 
-  pub typed_view : IsOpen (view f x) → (g : ℕ) → view g (typed_rasp x f p s) ≡ choose (g == f) (typed_in p s (view g x)) (view g x)
+  pub typed_view : IsOpen (view f x) → (g : ℕ) → view g (typed_rasp x f p s) ≡ (if g == f then typed_in p s (view g x) else view g x)
   unfolding grown
   typed_view o g =
-      let first : (g : ℕ) → view g grown ≡ choose (g == f) (typed_in p s (view g x)) (view g x) = λ g. view-made x f (window_after_ins (window_at x f) p (map Some s)) (typed_in p s) o refl g in
+      let first : (g : ℕ) → view g grown ≡ (if g == f then typed_in p s (view g x) else view g x) = λ g. view-made x f (window_after_ins (window_at x f) p (map Some s)) (typed_in p s) o refl g in
       view-kept grown f (record (window_at grown f) { dot = (p + length s, p + length s) }) (subst IsOpen (sym (first f)) (open_typed (f == f) p s (view f x) o)) refl refl g ∙ first g
 
   pub typed_tidy : AreTidy x → p ≤ length (window_at x f).rasp → AreTidy (typed_rasp x f p s)
@@ -75,7 +74,7 @@ module _ (x : PlainTerminal) (f p : ℕ) (s : List ℕ) where
 module _ (h : PlainHost) (down : List Hmesg) (u : PlainTerminal) (f p : ℕ) (s : List ℕ) (line : Bool) where
   -- what is shown once s is typed
   abbrev shown : ℕ → Lens
-  shown g = changed (choose line (Line p s) (Types f p s)) g (view g u)
+  shown g = changed (type_change (if line then CommandLock else NoLock) f p s) g (view g u)
 
   -- the runes of z wait in x, and the fold has them
   record Waiting (x : PlainTerminal) (z : Unsent) (up : List Tmesg) : Type 0 where
@@ -111,8 +110,8 @@ module _ (h : PlainHost) (down : List Hmesg) (u : PlainTerminal) (f p : ℕ) (s 
       open_x : IsOpen (view f x)
       open_x = subst IsOpen (sym (a.same f)) open_u
 
-      shows : (g : ℕ) → view g t ≡ choose (g == f) (typed_in p s (view g u)) (view g u)
-      shows g = typed_view x f p s open_x g ∙ ap (λ (v : Lens). choose (g == f) (typed_in p s v) v) (a.same g)
+      shows : (g : ℕ) → view g t ≡ (if g == f then typed_in p s (view g u) else view g u)
+      shows g = typed_view x f p s open_x g ∙ ap (λ (v : Lens). (if g == f then typed_in p s v else v)) (a.same g)
 
       place_x : p ≤ length (window_at x f).rasp
       place_x = (has_open (Room p s) x f (subst (OpenAt (Room p s)) (sym (a.same f)) o)).0
@@ -125,8 +124,8 @@ module _ (h : PlainHost) (down : List Hmesg) (u : PlainTerminal) (f p : ℕ) (s 
 
       go : (b : Bool) → line ≡ b → Goes h up down (if b then flushed t else (t, []))
       go false e =
-          let k : Kept h (views t) (up ++ Ttype z.file z.place z.runes ∷ []) down = kept_views h shown (views t) (up ++ Ttype z.file z.place z.runes ∷ []) down a.fold (λ g. ap (λ (b : Bool). changed (choose b (Line p s) (Types f p s)) g (view g u)) e ∙ sym (shows g)) in
-          let here : view z.file t ≡ typed_in p s (view f u) = ap (λ (y : ℕ). view y t) a.file ∙ shows f ∙ ap (λ (b : Bool). choose b (typed_in p s (view f u)) (view f u)) (eq-eqb f f refl) in
+          let k : Kept h (views t) (up ++ Ttype z.file z.place z.runes ∷ []) down = kept_views h shown (views t) (up ++ Ttype z.file z.place z.runes ∷ []) down a.fold (λ g. ap (λ (b : Bool). changed (type_change (if b then CommandLock else NoLock) f p s) g (view g u)) e ∙ sym (shows g)) in
+          let here : view z.file t ≡ typed_in p s (view f u) = ap (λ (y : ℕ). view y t) a.file ∙ shows f ∙ ap (λ (b : Bool). (if b then typed_in p s (view f u) else view f u)) (eq-eqb f f refl) in
           record {
             kept = subst (λ (l : List Tmesg). Kept h (views t) l down) (ap (λ (l : List Tmesg). l ++ Ttype z.file z.place z.runes ∷ []) (sym (append-nil up)) ∙ ap (λ (y : Option Unsent). (up ++ []) ++ unsent_message y) (sym waits)) k;
             tidy = tidy;
@@ -138,8 +137,8 @@ module _ (h : PlainHost) (down : List Hmesg) (u : PlainTerminal) (f p : ℕ) (s 
           let zero : f ≡ 0 = eqb-true f 0 (and_parts (f == 0) (ends_line s) (is ∙ e)).0 in
           let locked : (g : ℕ) → view g (composed base m) ≡ commanded (view g t) = λ g. ap (λ (b : Bool). view g (lock_taken (if b then CommandLock else NoLock) (record base { sent = t.sent + 1 }))) (a.ends ∙ e) in
           let same : (g : ℕ) → shown g ≡ view g (composed base m) = λ g.
-          ap (λ (b : Bool). changed (choose b (Line p s) (Types f p s)) g (view g u)) e
-          ∙ ap (λ (y : ℕ). commanded (choose (g == y) (typed_in p s (view g u)) (view g u))) (sym zero)
+          ap (λ (b : Bool). changed (type_change (if b then CommandLock else NoLock) f p s) g (view g u)) e
+          ∙ ap (λ (y : ℕ). commanded (if g == y then typed_in p s (view g u) else view g u)) (sym zero)
           ∙ ap commanded (sym (shows g)) ∙ sym (locked g) in
           let none : (composed base m).unsent ≡ None = unsent-composed base m in
           let sent : InOrder h (composed base m) (up ++ m ∷ []) down = record {

@@ -1,7 +1,19 @@
--- The two sides have the same version wherever the command lock is free.
-use Rattle.std.proofs.Common.{◌≡◌, ℕ, zero, suc, ◌+◌, ◌-◌, Bool, true, false, not, ◌||◌, ◌&&◌, ◌==◌, List, [], ◌∷◌, ◌++◌, length, map, Option, Some, None, ◌⊎◌, inl, inr, refl, sym, ◌∙◌, subst, true≢false, nat_le}
-use Rattle.sam_protocol.specs.Lens.{Bind, Needs_known, Needs_open, Join, Grow, Fill, Place, Free_file, Insert, Cut, Leave, Close, limit, HFile, Absent, Hidden, Named, Opened, Gone, Action, is_change, changes, is_free_command, frees_command}
-use Rattle.sam_protocol.specs.Model.{Tmesg, Tversion, Tstartcmdfile, Tcheck, Trequest, Torigin, Tstartfile, Tworkfile, Ttype, Tcut, Tpaste, Tsnarf, Tstartnewfile, Twrite, Tclose, Tlook, Tsearch, Tsend, Tdclick, Tstartsnarf, Tsetsnarf, Tack, Texit, Hmesg, Hversion, Hbindname, Hcurrent, Hnewname, Hmovname, Hgrow, Hcheck, Hunlock, Hdata, Horigin, Hunlockfile, Hsetdot, Hgrowdata, Hmoveto, Hclean, Hdirty, Hcut, Hsetpat, Hdelname, Hclose, Hsetsnarf, Hsnarflen, Hack, Hexit, action, only, Host, Answer, Tools, Edit, Outcome, answer, answer_open, choose, reply, on_open, when, is_place, is_range, between, before, grown_by, grown_to, cut_by, edit_frames, some_edit, dot_frames, pattern_frames, work_frames, worked, print_frames, printing, run_line, sent, sent_line, announcements, requested, started, cmd_started, found, searched, pasted, is_unlock, unlocks_command, is_version, VersionsGuarded, text_of, inserted, put}
+-- The two sides have the same version wherever the command lock is free: behind each Hversion stands an Hunlock.
+use Rattle.std.proofs.Common.{◌≡◌, ℕ, ◌+◌, ◌-◌, Bool, true, false, not, ◌||◌, ◌&&◌, ◌==◌, if◌then◌else◌, List, [], ◌∷◌, ◌++◌, length, reverse, Option, Some, None, refl, sym, ap, ◌∙◌, true≢false, nat_le, nat_lt}
+use Rattle.std.specs.Prelude.{flat_map, drop}
+use Rattle.sam_runes.specs.Texts.{common_version, Range, is_empty, max_runes, all_tags, most_in_message, most_in_pattern, as_lines, part, ends_line, line_start, last_line, searched}
+use Rattle.sam_runes.specs.Slots.{Slots}
+use Rattle.sam_runes.specs.declared.edit.Edit.{Edit}
+use Rattle.sam_text.specs.Files.{PlainFile, PlainFiles, PlainOutcome, file_at, has_file, has_room, is_printed, after_print, typed_file, searched_for}
+use Rattle.sam_text.specs.Meaning.{meaning}
+use Rattle.sam_mesg.specs.declared.tmesg.Tmesg.{Tmesg}
+use Rattle.sam_mesg.specs.declared.tmesg.Tmesg.TheVariants.{Tversion, Tstartcmdfile, Tcheck, Trequest, Torigin, Tstartfile, Tworkfile, Ttype, Tcut, Tpaste, Tsnarf, Tstartnewfile, Twrite, Tclose, Tlook, Tsearch, Tsend, Tdclick, Tstartsnarf, Tsetsnarf, Tack, Texit}
+use Rattle.sam_mesg.specs.declared.hmesg.Hmesg.{Hmesg}
+use Rattle.sam_mesg.specs.declared.hmesg.Hmesg.TheVariants.{Hversion, Hbindname, Hcurrent, Hnewname, Hmovname, Hgrow, Hcheck, Hunlock, Hdata, Horigin, Hunlockfile, Hsetdot, Hgrowdata, Hmoveto, Hclean, Hdirty, Hcut, Hsetpat, Hdelname, Hclose, Hsetsnarf, Hsnarflen, Hack, Hexit}
+use Rattle.sam_host.specs.Host.{PlainHost, Reply, when, when_given, grown, told_length, printed, told_edit, told_outcome, told_names, no_tag_left, with_file, with_files, reply_version, reply_startcmdfile, reply_check, reply_request, reply_origin, reply_startfile, reply_workfile, reply_cut, reply_paste, reply_snarf, reply_startnewfile, reply_write, reply_close, reply_found, reply_look, reply_search, reply_dclick, reply_startsnarf, reply_setsnarf, reply_exit, reply_line, reply_type, reply_send, reply_to}
+use Rattle.sam_protocol.specs.Lens.{Action, Skip, Needs_known, Needs_open, Join, Bind, Close, Leave, Grow, Fill, Insert, Cut, Place, Change, Free_file}
+use Rattle.sam_protocol.proofs.Lenses.{is_change, changes, is_free_command, frees_command}
+use Rattle.sam_protocol.specs.Frames.{action, at_file, only, is_unlock, unlocks_command, is_version, VersionsGuarded}
 
 -- no Hversion among them
 abbrev pub IsPlain : List Hmesg → Type 0
@@ -24,7 +36,7 @@ unlocks-append (m ∷ a) b e = go (is_unlock m) (unlocks_command a) (unlocks_com
     go true q r h e = refl
     go false q r h e = h e
 
-unlocks_behind : (a b : List Hmesg) → unlocks_command b ≡ true → unlocks_command (a ++ b) ≡ true
+pub unlocks_behind : (a b : List Hmesg) → unlocks_command b ≡ true → unlocks_command (a ++ b) ≡ true
 unlocks_behind [] b e = e
 unlocks_behind (m ∷ a) b e = go (is_unlock m) (unlocks_command (a ++ b)) (unlocks_behind a b e)
   where
@@ -36,183 +48,134 @@ pub versions-append : (a b : List Hmesg) → VersionsGuarded a → VersionsGuard
 versions-append [] b p q = q
 versions-append (m ∷ a) b p q = ((λ e. unlocks-append a b (p.0 e)), versions-append a b p.1 q)
 
--- an answer is good: its Hversion has an Hunlock behind it, and it changes the version only with an Hunlock
-abbrev pub IsGood : Host → Option Answer → Type 0
-IsGood h None = Unit
-IsGood h (Some r) = VersionsGuarded r.frames × ((r.host.version ≡ h.version) ⊎ (unlocks_command r.frames ≡ true))
+-- ## No answer but that to Tversion has an Hversion
 
 no_v : {A : Type 0} → false ≡ true → A
 no_v e = absurd (true≢false (sym e))
 
-record Good (h : Host) (x : Option Answer) : Type 0 where
-  good : IsGood h x
+plain_when : (b : Bool) (ms : List Hmesg) → IsPlain ms → IsPlain (when b ms)
+unfolding when
+plain_when true ms p = p
+plain_when false ms p = tt
 
-good_reply : (h k : Host) (fs : List Hmesg) → VersionsGuarded fs × ((k.version ≡ h.version) ⊎ (unlocks_command fs ≡ true)) → Good h (reply k fs)
-good_reply h k fs g = record { good = g }
+plain_given : {A : Type 0} (o : Option A) (frame : A → Hmesg) → ((x : A) → is_version (frame x) ≡ false) → IsPlain (when_given o frame)
+unfolding when_given
+plain_given None frame p = tt
+plain_given (Some x) frame p = (p x, tt)
 
-open_good : (h : Host) (file : HFile) (k : List ℕ → Option Answer) → ((t : List ℕ) → Good h (k t)) → Good h (on_open file k)
-open_good h Absent k g = record { good = tt }
-open_good h (Hidden t) k g = record { good = tt }
-open_good h (Named t) k g = record { good = tt }
-open_good h (Opened t) k g = g t
-open_good h Gone k g = record { good = tt }
+plain_if : (b : Bool) (x y : Reply) → IsPlain x.1 → IsPlain y.1 → IsPlain (if b then x else y).1
+plain_if true x y p q = p
+plain_if false x y p q = q
 
-when_good : (h : Host) (b : Bool) (x : Option Answer) → Good h x → Good h (when b x)
-when_good h true x g = g
-when_good h false x g = record { good = tt }
-
-choose_good : (h : Host) (b : Bool) (x y : Option Answer) → Good h x → Good h y → Good h (choose b x y)
-choose_good h true x y g q = g
-choose_good h false x y g q = q
-
-choose_plain : (b : Bool) (x y : List Hmesg) → IsPlain x → IsPlain y → IsPlain (choose b x y)
-choose_plain true x y p q = p
-choose_plain false x y p q = q
-
-grown_by_plain : (f p : ℕ) (s : List ℕ) → IsPlain (grown_by f p s)
-grown_by_plain f p [] = tt
-grown_by_plain f p (x ∷ s) = go (nat_le (length (x ∷ s)) 512)
+plain_grown : (fs : PlainFiles) (f p : ℕ) (s : List ℕ) → IsPlain (grown fs f p s)
+unfolding grown
+plain_grown fs f p s = plain_when ((file_at fs f).opened && not (is_empty s)) ((if nat_le (length s) most_in_message then Hgrowdata f p s else Hgrow f p (length s)) ∷ []) (go (nat_le (length s) most_in_message))
   where
-    go : (b : Bool) → IsPlain (choose b (Hgrowdata f p (x ∷ s)) (Hgrow f p (length (x ∷ s))) ∷ [])
+    go : (b : Bool) → IsPlain ((if b then Hgrowdata f p s else Hgrow f p (length s)) ∷ [])
     go true = (refl, tt)
     go false = (refl, tt)
 
-grown_to_plain : (f : ℕ) (t : List ℕ) → IsPlain (grown_to f t)
-grown_to_plain f [] = tt
-grown_to_plain f (x ∷ t) = (refl, tt)
+plain_length : (f : ℕ) (x : PlainFile) → IsPlain (told_length f x)
+unfolding told_length
+plain_length f x = plain_when (not (is_empty x.text)) (Hgrow f 0 (length x.text) ∷ []) (refl, tt)
 
-cut_by_plain : (f p m : ℕ) → IsPlain (cut_by f p m)
-cut_by_plain f p zero = tt
-cut_by_plain f p (suc m) = (refl, tt)
+plain_printed : (fs : PlainFiles) (s : List ℕ) → IsPlain (printed fs s)
+unfolding printed
+plain_printed fs s =
+    let end = length (file_at fs 0).text + length s in
+    plain_when (is_printed fs s && (file_at fs 0).opened) (grown fs 0 (length (file_at fs 0).text) s ++ Hsetdot 0 end end ∷ Hcheck 0 ∷ [])
+    (plain-append (grown fs 0 (length (file_at fs 0).text) s) (Hsetdot 0 end end ∷ Hcheck 0 ∷ []) (plain_grown fs 0 (length (file_at fs 0).text) s) (refl, (refl, tt)))
 
-edits_plain : (f : ℕ) (es : List Edit) → IsPlain (edit_frames f es)
-edits_plain f [] = tt
-edits_plain f (e ∷ es) = plain-append _ (edit_frames f es) (plain-append (cut_by f e.p (e.q - e.p)) (grown_by f e.p e.runes) (cut_by_plain f e.p (e.q - e.p)) (grown_by_plain f e.p e.runes)) (edits_plain f es)
+plain_edits : (fs : PlainFiles) (f : ℕ) (es : List Edit) → IsPlain (flat_map (told_edit fs f) es)
+unfolding told_edit
+plain_edits fs f [] = tt
+plain_edits fs f (e ∷ es) =
+    plain-append (told_edit fs f e) (flat_map (told_edit fs f) es)
+    (plain-append (when (nat_lt e.p e.q) (Hcut f e.p (e.q - e.p) ∷ [])) (grown fs f e.p e.text) (plain_when (nat_lt e.p e.q) (Hcut f e.p (e.q - e.p) ∷ []) (refl, tt)) (plain_grown fs f e.p e.text)) (plain_edits fs f es)
 
-dot_plain : (f : ℕ) (o : Option (ℕ × ℕ)) → IsPlain (dot_frames f o)
-dot_plain f None = tt
-dot_plain f (Some d) = (refl, tt)
+plain_outcome : (w : Option ℕ) (fs : PlainFiles) (o : PlainOutcome) → IsPlain (told_outcome w fs o)
+unfolding told_outcome
+plain_outcome None fs o = plain_given o.pattern Hsetpat (λ s. refl)
+plain_outcome (Some f) fs o =
+    plain-append _ (when (not (is_empty o.edits)) (Hcheck f ∷ []))
+    (plain-append _ (when_given o.dot (λ d. Hsetdot f d.0 d.1))
+    (plain-append _ (when_given o.pattern Hsetpat)
+    (plain-append _ (when_given o.name (Hmovname f))
+    (plain-append (flat_map (told_edit fs f) (reverse o.edits)) (when (not (is_empty o.edits) && not (file_at fs f).dirty) (Hdirty f ∷ [])) (plain_edits fs f (reverse o.edits)) (plain_when _ (Hdirty f ∷ []) (refl, tt)))
+    (plain_given o.name (Hmovname f) (λ s. refl)))
+    (plain_given o.pattern Hsetpat (λ s. refl)))
+    (plain_given o.dot (λ d. Hsetdot f d.0 d.1) (λ d. refl)))
+    (plain_when _ (Hcheck f ∷ []) (refl, tt))
 
-pattern_plain : (o : Option (List ℕ)) → IsPlain (pattern_frames o)
-pattern_plain None = tt
-pattern_plain (Some d) = (refl, tt)
+plain_names : (f : ℕ) (ss : Slots PlainFile) → IsPlain (told_names f ss)
+unfolding told_names
+plain_names f [] = tt
+plain_names f (None ∷ ss) = plain_names (1 + f) ss
+plain_names f (Some x ∷ ss) = plain-append (when (not x.announced) (Hnewname f ∷ Hmovname f x.name ∷ [])) (told_names (1 + f) ss) (plain_when (not x.announced) (Hnewname f ∷ Hmovname f x.name ∷ []) (refl, (refl, tt))) (plain_names (1 + f) ss)
 
-work_plain : (h : Host) (f : ℕ) (o : Outcome) → IsPlain (work_frames h f o)
-work_plain h f o =
-    plain-append _ (choose (some_edit o.edits) (Hcheck f ∷ []) [])
-    (plain-append _ (dot_frames f o.dot)
-    (plain-append _ (pattern_frames o.pattern)
-    (plain-append _ (choose o.named (Hmovname f ∷ []) [])
-    (plain-append (edit_frames f o.edits) (choose (some_edit o.edits && h.clean f) (Hdirty f ∷ []) []) (edits_plain f o.edits) (choose_plain _ (Hdirty f ∷ []) [] (refl, tt) tt))
-    (choose_plain _ (Hmovname f ∷ []) [] (refl, tt) tt))
-    (pattern_plain o.pattern))
-    (dot_plain f o.dot))
-    (choose_plain _ (Hcheck f ∷ []) [] (refl, tt) tt)
+plain_found : (h : PlainHost) (f : ℕ) (d : Option Range) (ms : List Hmesg) → IsPlain ms → IsPlain (reply_found h f d ms).1
+plain_found h f None ms p = (refl, tt)
+plain_found h f (Some d) ms p = plain-append ms (Hsetdot f d.0 d.1 ∷ Hmoveto f d.0 ∷ Hcheck f ∷ Hunlockfile f ∷ []) p (refl, (refl, (refl, (refl, tt))))
 
-print_plain : (file : HFile) (s : List ℕ) → IsPlain (print_frames file s)
-print_plain Absent [] = tt
-print_plain Absent (c ∷ s) = tt
-print_plain (Hidden t) [] = tt
-print_plain (Hidden t) (c ∷ s) = tt
-print_plain (Named t) [] = tt
-print_plain (Named t) (c ∷ s) = tt
-print_plain (Opened t) [] = tt
-print_plain (Opened t) (c ∷ s) =
-    let m = length t + length (c ∷ s) in
-    let t3 = Hsetdot 0 m m ∷ Hcheck 0 ∷ [] in
-    choose_plain (nat_le m limit) (grown_by 0 (length t) (c ∷ s) ++ t3) [] (plain-append (grown_by 0 (length t) (c ∷ s)) t3 (grown_by_plain 0 (length t) (c ∷ s)) (refl, (refl, tt))) tt
-print_plain Gone [] = tt
-print_plain Gone (c ∷ s) = tt
+plain_line : (h : PlainHost) (before : List Hmesg) (line : List ℕ) → IsPlain before → IsPlain (reply_line h before line).1
+plain_line h before line p =
+    let o = meaning h.files line in
+    plain-append _ ((if o.quit then Hexit else Hunlock) ∷ []) (plain-append _ (printed _ o.printed) (plain-append before (told_outcome o.file h.files o) p (plain_outcome o.file h.files o)) (plain_printed _ o.printed)) (last o.quit)
+  where
+    last : (b : Bool) → IsPlain ((if b then Hexit else Hunlock) ∷ [])
+    last true = (refl, tt)
+    last false = (refl, tt)
 
-announce_plain : (m : ℕ → HFile) (n : ℕ) → IsPlain (announcements m n)
-announce_plain m zero = tt
-announce_plain m (suc n) = plain-append (announcements m n) _ (announce_plain m n) (choose_plain _ (Hnewname (suc n) ∷ Hmovname (suc n) ∷ []) [] (refl, (refl, tt)) tt)
-
-worked_plain : (k : Host) (work : Option ℕ) (o : Outcome) → IsPlain (worked k work o).frames × ((worked k work o).host.version ≡ k.version)
-worked_plain k None o = (pattern_plain o.pattern, refl)
-worked_plain k (Some f) o = (work_plain k f o, refl)
-
-last_plain : (q : Bool) → IsPlain (choose q Hexit Hunlock ∷ [])
-last_plain true = (refl, tt)
-last_plain false = (refl, tt)
-
-line_plain : (k : Host) (o : Outcome) → IsPlain (((worked k k.work o).frames ++ print_frames ((worked k k.work o).host.file 0) o.printed) ++ choose o.quit Hexit Hunlock ∷ [])
-line_plain k o = plain-append _ _ (plain-append _ _ (worked_plain k k.work o).0 (print_plain _ o.printed)) (last_plain o.quit)
-
-line_good : (h k : Host) (o : Outcome) → k.version ≡ h.version → Good h (run_line k o)
-line_good h k o e = record { good = (plain_guarded _ (line_plain k o), inl ((worked_plain k k.work o).1 ∙ e)) }
-
-sent_good : (h k : Host) (o : Outcome) (fs : List Hmesg) → k.version ≡ h.version → IsPlain fs → Good h (before fs (run_line k o))
-sent_good h k o fs e p = record { good = (plain_guarded _ (plain-append fs _ p (line_plain k o)), inl ((worked_plain k k.work o).1 ∙ e)) }
-
-requested_good : (h : Host) (file : HFile) (f p n : ℕ) → Good h (requested h file f p n)
-requested_good h Absent f p n = record { good = tt }
-requested_good h (Hidden t) f p n = record { good = tt }
-requested_good h (Named t) f p n = record { good = tt }
-requested_good h (Opened t) f p n = good_reply h _ _ ((no_v, (no_v, tt)), inl refl)
-requested_good h Gone f p n = (good_reply h _ _ (tt, inl refl))
-
-started_good : (h : Host) (file : HFile) (f : ℕ) → Good h (started h file f)
-started_good h Absent f = record { good = tt }
-started_good h (Hidden t) f = record { good = tt }
-started_good h (Named t) f = good_reply h _ _ ((no_v, plain_guarded (grown_to f t ++ Hunlock ∷ []) (plain-append (grown_to f t) (Hunlock ∷ []) (grown_to_plain f t) (refl, tt))), inl refl)
-started_good h (Opened t) f = good_reply h _ _ ((no_v, tt), inl refl)
-started_good h Gone f = record { good = tt }
-
-cmd_good : (h : Host) (file : HFile) → Good h (cmd_started h file)
-cmd_good h Absent = record { good = tt }
-cmd_good h (Hidden t) = good_reply h _ _ ((no_v, (no_v, (no_v, plain_guarded (grown_to 0 t ++ Hunlock ∷ []) (plain-append (grown_to 0 t) (Hunlock ∷ []) (grown_to_plain 0 t) (refl, tt))))), inl refl)
-cmd_good h (Named t) = record { good = tt }
-cmd_good h (Opened t) = good_reply h _ _ ((no_v, tt), inl refl)
-cmd_good h Gone = record { good = tt }
-
-found_good : (h k : Host) (f : ℕ) (o : Option (ℕ × ℕ)) (fs : List Hmesg) → k.version ≡ h.version → IsPlain fs → Good h (found k f o fs)
-found_good h k f None fs e p = good_reply h _ _ ((no_v, tt), inl e)
-found_good h k f (Some d) fs e p = good_reply h _ _ (plain_guarded (fs ++ Hsetdot f d.0 d.1 ∷ Hmoveto f d.0 ∷ Hcheck f ∷ Hunlockfile f ∷ []) (plain-append fs (Hsetdot f d.0 d.1 ∷ Hmoveto f d.0 ∷ Hcheck f ∷ Hunlockfile f ∷ []) p (refl, (refl, (refl, (refl, tt))))), inl e)
-
-searched_good : (tools : Tools) (h : Host) (f : ℕ) (t : List ℕ) (q : ℕ) (o : Option (List ℕ)) → Good h (searched tools h f t q o)
-searched_good tools h f t q None = good_reply h _ _ ((no_v, tt), inl refl)
-searched_good tools h f t q (Some s) = found_good h h f (tools.find t s q) [] refl tt
-
-pasted_good : (h : Host) (f p : ℕ) (t s : List ℕ) → Good h (pasted h f p t s)
-pasted_good h f p t [] = good_reply h _ _ ((no_v, tt), inl refl)
-pasted_good h f p t (x ∷ s) = choose_good h _ _ _ (let d = choose (h.clean f && not (f == 0)) (Hdirty f ∷ []) [] in let t3 = Hsetdot f p (p + length (x ∷ s)) ∷ Hcheck f ∷ Hunlockfile f ∷ [] in
-    good_reply h _ _ (plain_guarded ((grown_by f p (x ∷ s) ++ d) ++ t3) (plain-append (grown_by f p (x ∷ s) ++ d) t3 (plain-append (grown_by f p (x ∷ s)) d (grown_by_plain f p (x ∷ s)) (choose_plain (h.clean f && not (f == 0)) (Hdirty f ∷ []) [] (refl, tt) tt)) (refl, (refl, (refl, tt)))), inl refl)) (good_reply h h (Hunlockfile f ∷ []) ((no_v, tt), inl refl))
-
-send_good : (tools : Tools) (h : Host) (empty : Bool) (s : List ℕ) → Good h (sent tools h empty s)
-send_good tools h empty s =
-    let k = printing h s in
-    choose_good h (empty || not (nat_le (length (text_of (h.file 0)) + length s) limit)) (reply h (Hunlock ∷ [])) (before (print_frames (h.file 0) s) (sent_line tools k s))
-    (good_reply h h (Hunlock ∷ []) ((no_v, tt), inl refl)) (sent_good h k (tools.meaning k (tools.last_line s)) (print_frames (h.file 0) s) refl (print_plain (h.file 0) s))
-
-open_answer_good : (tools : Tools) (h : Host) (m : Tmesg) → Good h (answer_open tools h m)
-open_answer_good tools h (Tversion v) = when_good h _ _ (good_reply h _ _ (((λ e. unlocks_behind (announcements h.file h.given) (Hack ∷ Hunlock ∷ []) refl), plain_guarded _ (plain-append (announcements h.file h.given) (Hack ∷ Hunlock ∷ []) (announce_plain h.file h.given) (refl, (refl, tt)))), inr (unlocks_behind (announcements h.file h.given) (Hack ∷ Hunlock ∷ []) refl)))
-open_answer_good tools h Tstartcmdfile = cmd_good h (h.file 0)
-open_answer_good tools h (Tcheck f) = open_good h (h.file f) _ (λ t. (good_reply h _ _ ((no_v, tt), inl refl)))
-open_answer_good tools h (Trequest f p n) = requested_good h (h.file f) f p n
-open_answer_good tools h (Torigin f p n) = open_good h (h.file f) _ (λ t. when_good h _ _ ((good_reply h _ _ ((no_v, (no_v, tt)), inl refl))))
-open_answer_good tools h (Tstartfile f) = when_good h _ _ (started_good h (h.file f) f)
-open_answer_good tools h (Tworkfile f p q) = when_good h _ _ (open_good h (h.file f) _ (λ t. when_good h _ _ ((good_reply h _ _ ((no_v, tt), inl refl)))))
-open_answer_good tools h (Ttype f p s) = open_good h (h.file f) _ (λ t. when_good h (is_place p t && nat_le (length t + length s) limit) _
-    (let k = record h { file = put h.file f (Opened (inserted p s t)); clean = λ g. choose (g == f) false (h.clean g) } in
-    choose_good h ((f == 0) && tools.ends_line s) (run_line k (tools.meaning k (tools.line_of (inserted p s t) (p + length s)))) (reply k []) (line_good h k (tools.meaning k (tools.line_of (inserted p s t) (p + length s))) refl) (good_reply h k [] (tt, inl refl))))
-open_answer_good tools h (Tcut f p q) = open_good h (h.file f) _ (λ t. when_good h _ _ ((good_reply h _ _ (tt, inl refl))))
-open_answer_good tools h (Tpaste f p) = open_good h (h.file f) _ (λ t. when_good h _ _ (pasted_good h f p t h.snarf))
-open_answer_good tools h (Tsnarf f p q) = open_good h (h.file f) _ (λ t. when_good h _ _ ((good_reply h _ _ ((no_v, tt), inl refl))))
-open_answer_good tools h Tstartnewfile = choose_good h _ _ _ (good_reply h _ _ (plain_guarded (print_frames (h.file 0) tools.no_tag ++ Hunlock ∷ []) (plain-append (print_frames (h.file 0) tools.no_tag) (Hunlock ∷ []) (print_plain (h.file 0) tools.no_tag) (refl, tt)), inl refl)) ((good_reply h _ _ ((no_v, (no_v, (no_v, (no_v, tt)))), inl refl)))
-open_answer_good tools h (Twrite f) = when_good h _ _ (open_good h (h.file f) _ (λ t. (good_reply h _ _ ((no_v, (no_v, tt)), inl refl))))
-open_answer_good tools h (Tclose f) = when_good h _ _ (open_good h (h.file f) _ (λ t. (good_reply h _ _ ((no_v, (no_v, (no_v, tt))), inl refl))))
-open_answer_good tools h (Tlook f p q) = open_good h (h.file f) _ (λ t. when_good h _ _ (choose_good h _ _ _ ((good_reply h _ _ ((no_v, tt), inl refl))) (found_good h _ f _ (Hsetpat ∷ []) refl (refl, tt))))
-open_answer_good tools h (Tsearch f p q) = open_good h (h.file f) _ (λ t. when_good h _ _ (searched_good tools h f t q h.pattern))
-open_answer_good tools h (Tsend f p q) = open_good h (h.file f) _ (λ t. when_good h (is_range p q t) _ (send_good tools h (p == q) (tools.with_newline (between p q t))))
-open_answer_good tools h (Tdclick f p) = open_good h (h.file f) _ (λ t. when_good h _ _ ((good_reply h _ _ ((no_v, (no_v, tt)), inl refl))))
-open_answer_good tools h Tstartsnarf = good_reply h _ _ ((no_v, tt), inl refl)
-open_answer_good tools h (Tsetsnarf s) = good_reply h _ _ ((no_v, tt), inl refl)
-open_answer_good tools h Tack = (good_reply h _ _ (tt, inl refl))
-open_answer_good tools h Texit = good_reply h _ _ ((no_v, tt), inl refl)
-
-pub answer_good : (tools : Tools) (h : Host) (m : Tmesg) (r : Answer) → answer tools h m ≡ Some r → VersionsGuarded r.frames × ((r.host.version ≡ h.version) ⊎ (unlocks_command r.frames ≡ true))
-answer_good tools h m r e = subst (IsGood h) e (choose_good h h.done (reply h []) (answer_open tools h m) (good_reply h h [] (tt, inl refl)) (open_answer_good tools h m)).good
+pub guarded_reply : (h : PlainHost) (m : Tmesg) → VersionsGuarded (reply_to h m).1
+unfolding reply_version reply_startcmdfile reply_check reply_request reply_origin reply_startfile reply_workfile reply_cut reply_paste reply_snarf reply_startnewfile reply_write reply_close reply_look reply_search reply_dclick reply_startsnarf reply_setsnarf reply_exit reply_type reply_send
+guarded_reply h (Tversion v) =
+    let names = told_names 1 (drop 1 h.files.slots) in
+    ((λ e. unlocks_behind names (Hack ∷ Hunlock ∷ []) refl), plain_guarded (names ++ Hack ∷ Hunlock ∷ []) (plain-append names (Hack ∷ Hunlock ∷ []) (plain_names 1 (drop 1 h.files.slots)) (refl, (refl, tt))))
+guarded_reply h Tstartcmdfile =
+    let file = file_at h.files 0 in
+    plain_guarded _ (plain_if file.opened (h, Hunlock ∷ []) (with_file h 0 (record file { opened = true }), Hnewname 0 ∷ Hmovname 0 _ ∷ Hbindname 0 ∷ told_length 0 file ++ Hunlock ∷ []) (refl, tt)
+    (refl, (refl, (refl, plain-append (told_length 0 file) (Hunlock ∷ []) (plain_length 0 file) (refl, tt)))))
+guarded_reply h (Tcheck f) = (no_v, tt)
+guarded_reply h (Trequest f p n) = plain_guarded _ (plain_when (has_file h.files f) _ (refl, (refl, tt)))
+guarded_reply h (Torigin f p n) = (no_v, (no_v, tt))
+guarded_reply h (Tstartfile f) =
+    let file = file_at h.files f in
+    plain_guarded _ (plain-append (when (not file.opened) (Hbindname f ∷ told_length f file)) (Hunlock ∷ []) (plain_when (not file.opened) (Hbindname f ∷ told_length f file) (refl, plain_length f file)) (refl, tt))
+guarded_reply h (Tworkfile f p q) = (no_v, tt)
+guarded_reply h (Ttype f p s) =
+    let typed = with_file h f (typed_file f (file_at h.files f) p s) in
+    let end = p + length s - 1 in
+    let t = (file_at typed.files f).text in
+    plain_guarded _ (plain_if ((f == 0) && ends_line s) (reply_line typed [] (part t (line_start t end) end)) (typed, []) (plain_line typed [] (part t (line_start t end) end) tt) tt)
+guarded_reply h (Tcut f p q) = tt
+guarded_reply h (Tpaste f p) =
+    let file = file_at h.files f in
+    let s = h.files.snarf in
+    let dirty = when (not file.dirty && not (f == 0)) (Hdirty f ∷ []) in
+    let rest = Hsetdot f p (p + length s) ∷ Hcheck f ∷ Hunlockfile f ∷ [] in
+    plain_guarded _ (plain_if (is_empty s || nat_lt max_runes (length file.text + length s)) (h, Hunlockfile f ∷ []) (_, (grown h.files f p s ++ dirty) ++ rest) (refl, tt)
+    (plain-append (grown h.files f p s ++ dirty) rest (plain-append (grown h.files f p s) dirty (plain_grown h.files f p s) (plain_when (not file.dirty && not (f == 0)) (Hdirty f ∷ []) (refl, tt))) (refl, (refl, (refl, tt)))))
+guarded_reply h (Tsnarf f p q) = (no_v, tt)
+guarded_reply h Tstartnewfile =
+    let f = length h.files.slots in
+    plain_guarded _ (plain_if (nat_le all_tags f) (with_files h (after_print h.files no_tag_left), printed h.files no_tag_left ++ Hunlock ∷ []) (_, Hnewname f ∷ Hbindname f ∷ Hcurrent f ∷ Hunlock ∷ [])
+    (plain-append (printed h.files no_tag_left) (Hunlock ∷ []) (plain_printed h.files no_tag_left) (refl, tt)) (refl, (refl, (refl, (refl, tt)))))
+guarded_reply h (Twrite f) = (no_v, (no_v, tt))
+guarded_reply h (Tclose f) = (no_v, (no_v, (no_v, tt)))
+guarded_reply h (Tlook f p q) =
+    let t = (file_at h.files f).text in
+    let lit = part t p q in
+    plain_guarded _ (plain_if (is_empty lit || nat_lt most_in_pattern (length lit)) (h, Hunlockfile f ∷ []) _ (refl, tt) (plain_found (with_files h (record h.files { pattern = Some lit })) f (searched t lit q) (Hsetpat lit ∷ []) (refl, tt)))
+guarded_reply h (Tsearch f p q) = plain_guarded _ (plain_found h f (searched_for h.files.pattern (file_at h.files f).text q) [] tt)
+guarded_reply h (Tsend f p q) =
+    let s = as_lines (part (file_at h.files f).text p q) in
+    let k = with_files h (after_print h.files s) in
+    plain_guarded _ (plain_if ((p == q) || not (has_room h.files s)) (h, Hunlock ∷ []) (reply_line k (printed h.files s) (last_line s)) (refl, tt) (plain_line k (printed h.files s) (last_line s) (plain_printed h.files s)))
+guarded_reply h (Tdclick f p) = (no_v, (no_v, tt))
+guarded_reply h Tstartsnarf = (no_v, tt)
+guarded_reply h (Tsetsnarf s) = (no_v, tt)
+guarded_reply h Tack = tt
+guarded_reply h Texit = (no_v, tt)
 
 -- the actions of frames, as far as versions go
 only_unlock_same : (b : Bool) (a : Action) → is_free_command a ≡ false → is_free_command (only b a) ≡ false
@@ -224,11 +187,15 @@ only_change_same true a e = e
 only_change_same false a e = refl
 
 is_unlock_same : (g : ℕ) (m : Hmesg) → is_free_command (action g m) ≡ is_unlock m
-is_unlock_same g (Hversion v) = refl
+is_unlock_same g (Hversion v) = go (v == 0)
+  where
+    go : (b : Bool) → is_free_command (if b then Skip else Change (common_version v)) ≡ false
+    go true = refl
+    go false = refl
 is_unlock_same g (Hbindname f) = only_unlock_same (g == f) Bind refl
 is_unlock_same g (Hcurrent f) = only_unlock_same (g == f) Needs_known refl
 is_unlock_same g (Hnewname f) = only_unlock_same (g == f) Join refl
-is_unlock_same g (Hmovname f) = only_unlock_same (g == f) Needs_known refl
+is_unlock_same g (Hmovname f s) = only_unlock_same (g == f) Needs_known refl
 is_unlock_same g (Hgrow f p n) = only_unlock_same (g == f) (Grow p n) refl
 is_unlock_same g (Hcheck f) = only_unlock_same (g == f) Needs_open refl
 is_unlock_same g Hunlock = refl
@@ -241,41 +208,42 @@ is_unlock_same g (Hmoveto f p) = only_unlock_same (g == f) (Place p p) refl
 is_unlock_same g (Hclean f) = only_unlock_same (g == f) Needs_known refl
 is_unlock_same g (Hdirty f) = only_unlock_same (g == f) Needs_known refl
 is_unlock_same g (Hcut f p n) = only_unlock_same (g == f) (Cut p n) refl
-is_unlock_same g Hsetpat = refl
+is_unlock_same g (Hsetpat s) = refl
 is_unlock_same g (Hdelname f) = only_unlock_same (g == f) Leave refl
 is_unlock_same g (Hclose f) = only_unlock_same (g == f) Close refl
-is_unlock_same g Hsetsnarf = refl
-is_unlock_same g Hsnarflen = refl
+is_unlock_same g (Hsetsnarf s) = refl
+is_unlock_same g (Hsnarflen n) = refl
 is_unlock_same g Hack = refl
 is_unlock_same g Hexit = refl
 
-is_version_same : (g : ℕ) (m : Hmesg) → is_change (action g m) ≡ is_version m
-is_version_same g (Hversion v) = refl
-is_version_same g (Hbindname f) = only_change_same (g == f) Bind refl
-is_version_same g (Hcurrent f) = only_change_same (g == f) Needs_known refl
-is_version_same g (Hnewname f) = only_change_same (g == f) Join refl
-is_version_same g (Hmovname f) = only_change_same (g == f) Needs_known refl
-is_version_same g (Hgrow f p n) = only_change_same (g == f) (Grow p n) refl
-is_version_same g (Hcheck f) = only_change_same (g == f) Needs_open refl
-is_version_same g Hunlock = refl
-is_version_same g (Hdata f p u) = only_change_same (g == f) (Fill p u) refl
-is_version_same g (Horigin f p) = only_change_same (g == f) (Place p p) refl
-is_version_same g (Hunlockfile f) = only_change_same (g == f) Free_file refl
-is_version_same g (Hsetdot f p q) = only_change_same (g == f) (Place p q) refl
-is_version_same g (Hgrowdata f p u) = only_change_same (g == f) (Insert p u) refl
-is_version_same g (Hmoveto f p) = only_change_same (g == f) (Place p p) refl
-is_version_same g (Hclean f) = only_change_same (g == f) Needs_known refl
-is_version_same g (Hdirty f) = only_change_same (g == f) Needs_known refl
-is_version_same g (Hcut f p n) = only_change_same (g == f) (Cut p n) refl
-is_version_same g Hsetpat = refl
-is_version_same g (Hdelname f) = only_change_same (g == f) Leave refl
-is_version_same g (Hclose f) = only_change_same (g == f) Close refl
-is_version_same g Hsetsnarf = refl
-is_version_same g Hsnarflen = refl
-is_version_same g Hack = refl
-is_version_same g Hexit = refl
+-- a frame that is no Hversion changes no version
+no_change : (g : ℕ) (m : Hmesg) → is_version m ≡ false → is_change (action g m) ≡ false
+no_change g (Hversion v) e = absurd (true≢false e)
+no_change g (Hbindname f) e = only_change_same (g == f) Bind refl
+no_change g (Hcurrent f) e = only_change_same (g == f) Needs_known refl
+no_change g (Hnewname f) e = only_change_same (g == f) Join refl
+no_change g (Hmovname f s) e = only_change_same (g == f) Needs_known refl
+no_change g (Hgrow f p n) e = only_change_same (g == f) (Grow p n) refl
+no_change g (Hcheck f) e = only_change_same (g == f) Needs_open refl
+no_change g Hunlock e = refl
+no_change g (Hdata f p u) e = only_change_same (g == f) (Fill p u) refl
+no_change g (Horigin f p) e = only_change_same (g == f) (Place p p) refl
+no_change g (Hunlockfile f) e = only_change_same (g == f) Free_file refl
+no_change g (Hsetdot f p q) e = only_change_same (g == f) (Place p q) refl
+no_change g (Hgrowdata f p u) e = only_change_same (g == f) (Insert p u) refl
+no_change g (Hmoveto f p) e = only_change_same (g == f) (Place p p) refl
+no_change g (Hclean f) e = only_change_same (g == f) Needs_known refl
+no_change g (Hdirty f) e = only_change_same (g == f) Needs_known refl
+no_change g (Hcut f p n) e = only_change_same (g == f) (Cut p n) refl
+no_change g (Hsetpat s) e = refl
+no_change g (Hdelname f) e = only_change_same (g == f) Leave refl
+no_change g (Hclose f) e = only_change_same (g == f) Close refl
+no_change g (Hsetsnarf s) e = refl
+no_change g (Hsnarflen n) e = refl
+no_change g Hack e = refl
+no_change g Hexit e = refl
 
-pub unlock_frames : (g : ℕ) (fs : List Hmesg) → frees_command (map (action g) fs) ≡ unlocks_command fs
+pub unlock_frames : (g : ℕ) (fs : List Hmesg) → frees_command (at_file g fs) ≡ unlocks_command fs
 unlock_frames g [] = refl
 unlock_frames g (m ∷ fs) = λ i. is_unlock_same g m i || unlock_frames g fs i
 
@@ -299,14 +267,13 @@ no_version (m ∷ fs) v e = go (is_version m) refl (no_version fs v.1 (or_parts 
     go true q h = absurd (true≢false (sym (v.0 q) ∙ rest))
     go false q h = h
 
-changes_frames : (g : ℕ) (fs : List Hmesg) → changes (map (action g) fs) ≡ has_version fs
+changes_frames : (g : ℕ) (fs : List Hmesg) → has_version fs ≡ false → changes (at_file g fs) ≡ false
 unfolding has_version
-changes_frames g [] = refl
-changes_frames g (m ∷ fs) = λ i. is_version_same g m i || changes_frames g fs i
+changes_frames g [] e = refl
+changes_frames g (m ∷ fs) e =
+    let parts = or_parts (is_version m) (has_version fs) e in
+    ap (λ (b : Bool). b || changes (at_file g fs)) (no_change g m parts.0) ∙ changes_frames g fs parts.1
 
 -- without an Hunlock there is no Hversion
-pub no_changes : (g : ℕ) (fs : List Hmesg) → VersionsGuarded fs → unlocks_command fs ≡ false → changes (map (action g) fs) ≡ false
-no_changes g fs v e = changes_frames g fs ∙ none fs v e
-  where
-    none : (fs : List Hmesg) → VersionsGuarded fs → unlocks_command fs ≡ false → has_version fs ≡ false
-    none fs v e = no_version fs v e
+pub no_changes : (g : ℕ) (fs : List Hmesg) → VersionsGuarded fs → unlocks_command fs ≡ false → changes (at_file g fs) ≡ false
+no_changes g fs v e = changes_frames g fs (no_version fs v e)

@@ -13,29 +13,29 @@ use Rattle.sam_term.specs.declared.files.Window.{Window}
 use Rattle.sam_term.specs.declared.files.KnownFile.{KnownFile}
 use Rattle.sam_term.specs.declared.files.Unsent.{Unsent}
 use Rattle.sam_term.proofs.TermLaws.{known-put}
-use Rattle.sam_protocol.specs.Lens.{Slot, Unknown, Known, Open, Lens, lens, IsOpen, locked_more}
-use Rattle.sam_protocol.specs.Model.{choose}
-use Rattle.sam_protocol.specs.Crossing.{commanded}
+use Rattle.sam_protocol.specs.Lens.{Slot, Unknown, Known, Open, Lens, lens}
+use Rattle.sam_protocol.proofs.Lenses.{IsOpen, locked_more}
+use Rattle.sam_protocol.proofs.Changes.{commanded}
 use Rattle.sam_protocol.specs.View.{slot_of_window, slot_of, view}
 use Rattle.sam_protocol.specs.Order.{IsTidyWindow, AreTidy, IsHeldBack, views}
-use Rattle.sam_protocol.proofs.Folds.{bool_cases}
+use Rattle.sam_protocol.proofs.HostFiles.{bool_cases}
 
 -- ## A file that is put
 
-pub view-put : (t : PlainTerminal) (f : ℕ) (x : KnownFile) (g : ℕ) → view g (put_known t f x) ≡ choose (g == f) (lens t.command_lock t.has_exited t.version (slot_of_window x.window)) (view g t)
+pub view-put : (t : PlainTerminal) (f : ℕ) (x : KnownFile) (g : ℕ) → view g (put_known t f x) ≡ (if g == f then lens t.command_lock t.has_exited t.version (slot_of_window x.window) else view g t)
 view-put t f x g = go (bool_cases (g == f))
   where
     P : Option KnownFile → Lens
     P s = lens t.command_lock t.has_exited t.version (slot_of s)
 
-    go : ((g == f) ≡ true) ⊎ ((g == f) ≡ false) → P (slot (put_slot t.files f x) g) ≡ choose (g == f) (P (Some x)) (P (slot t.files g))
+    go : ((g == f) ≡ true) ⊎ ((g == f) ≡ false) → P (slot (put_slot t.files f x) g) ≡ (if g == f then P (Some x) else P (slot t.files g))
     go (inl e) =
-        ap (λ (y : ℕ). P (slot (put_slot t.files f x) y)) (eqb-true g f e) ∙ ap P (slot-put_same t.files f x) ∙ ap (λ (b : Bool). choose b (P (Some x)) (P (slot t.files g))) (sym e)
+        ap (λ (y : ℕ). P (slot (put_slot t.files f x) y)) (eqb-true g f e) ∙ ap P (slot-put_same t.files f x) ∙ ap (λ (b : Bool). (if b then P (Some x) else P (slot t.files g))) (sym e)
     go (inr e) =
         let other : f ≢ g = λ q. true≢false (sym (eq-eqb g f (sym q)) ∙ e) in
-        ap P (slot-put_other t.files f g x other) ∙ ap (λ (b : Bool). choose b (P (Some x)) (P (slot t.files g))) (sym e)
+        ap P (slot-put_other t.files f g x other) ∙ ap (λ (b : Bool). (if b then P (Some x) else P (slot t.files g))) (sym e)
 
-pub view-window : (t : PlainTerminal) (f : ℕ) (w : Window) (g : ℕ) → view g (put_window t f w) ≡ choose (g == f) (lens t.command_lock t.has_exited t.version (Open w.rasp w.locks)) (view g t)
+pub view-window : (t : PlainTerminal) (f : ℕ) (w : Window) (g : ℕ) → view g (put_window t f w) ≡ (if g == f then lens t.command_lock t.has_exited t.version (Open w.rasp w.locks) else view g t)
 view-window t f w g = view-put t f (record (known_at t f) { window = Some w }) g
 
 -- what the lens of an open file says
@@ -53,36 +53,36 @@ view-open t f o = go (slot t.files f) o
     go None o = absurd o
     go (Some k) o = at_window k.window o
 
-choose_same : (b : Bool) (v : Lens) → choose b v v ≡ v
-choose_same true v = refl
-choose_same false v = refl
+if_same : (b : Bool) (v : Lens) → (if b then v else v) ≡ v
+if_same true v = refl
+if_same false v = refl
 
-pub choose_here : (g f : ℕ) (x y : ℕ → Lens) → x f ≡ y f → choose (g == f) (x f) (y g) ≡ y g
-choose_here g f x y e = go (bool_cases (g == f))
+pub if_here : (g f : ℕ) (x y : ℕ → Lens) → x f ≡ y f → (if g == f then x f else y g) ≡ y g
+if_here g f x y e = go (bool_cases (g == f))
   where
-    go : ((g == f) ≡ true) ⊎ ((g == f) ≡ false) → choose (g == f) (x f) (y g) ≡ y g
-    go (inl q) = ap (λ (b : Bool). choose b (x f) (y g)) q ∙ e ∙ ap y (sym (eqb-true g f q))
-    go (inr q) = ap (λ (b : Bool). choose b (x f) (y g)) q
+    go : ((g == f) ≡ true) ⊎ ((g == f) ≡ false) → (if g == f then x f else y g) ≡ y g
+    go (inl q) = ap (λ (b : Bool). (if b then x f else y g)) q ∙ e ∙ ap y (sym (eqb-true g f q))
+    go (inr q) = ap (λ (b : Bool). (if b then x f else y g)) q
 
 -- a choice of what is made of the lens of f
-pub choose_made : (g f : ℕ) (y : ℕ → Lens) (change : Lens → Lens) → choose (g == f) (change (y f)) (y g) ≡ choose (g == f) (change (y g)) (y g)
-choose_made g f y change = go (bool_cases (g == f))
+pub if_made : (g f : ℕ) (y : ℕ → Lens) (change : Lens → Lens) → (if g == f then change (y f) else y g) ≡ (if g == f then change (y g) else y g)
+if_made g f y change = go (bool_cases (g == f))
   where
-    go : ((g == f) ≡ true) ⊎ ((g == f) ≡ false) → choose (g == f) (change (y f)) (y g) ≡ choose (g == f) (change (y g)) (y g)
-    go (inl q) = ap (λ (k : ℕ). choose (g == f) (change (y k)) (y g)) (sym (eqb-true g f q))
-    go (inr q) = ap (λ (b : Bool). choose b (change (y f)) (y g)) q ∙ ap (λ (b : Bool). choose b (change (y g)) (y g)) (sym q)
+    go : ((g == f) ≡ true) ⊎ ((g == f) ≡ false) → (if g == f then change (y f) else y g) ≡ (if g == f then change (y g) else y g)
+    go (inl q) = ap (λ (k : ℕ). (if g == f then change (y k) else y g)) (sym (eqb-true g f q))
+    go (inr q) = ap (λ (b : Bool). (if b then change (y f) else y g)) q ∙ ap (λ (b : Bool). (if b then change (y g) else y g)) (sym q)
 
 -- a window of an open file whose partial text and locks stay
 pub view-kept : (t : PlainTerminal) (f : ℕ) (w : Window) → IsOpen (view f t) → w.rasp ≡ (window_at t f).rasp → w.locks ≡ (window_at t f).locks → (g : ℕ) → view g (put_window t f w) ≡ view g t
 view-kept t f w o r k g =
     view-window t f w g
-    ∙ choose_here g f (λ y. lens t.command_lock t.has_exited t.version (Open w.rasp w.locks)) (views t)
+    ∙ if_here g f (λ y. lens t.command_lock t.has_exited t.version (Open w.rasp w.locks)) (views t)
     ((λ i. lens t.command_lock t.has_exited t.version (Open (r i) (k i))) ∙ sym (view-open t f o))
 
 -- a window of an open file that is changed so
-pub view-made : (t : PlainTerminal) (f : ℕ) (w : Window) (change : Lens → Lens) → IsOpen (view f t) → lens t.command_lock t.has_exited t.version (Open w.rasp w.locks) ≡ change (lens t.command_lock t.has_exited t.version (Open (window_at t f).rasp (window_at t f).locks)) → (g : ℕ) → view g (put_window t f w) ≡ choose (g == f) (change (view g t)) (view g t)
+pub view-made : (t : PlainTerminal) (f : ℕ) (w : Window) (change : Lens → Lens) → IsOpen (view f t) → lens t.command_lock t.has_exited t.version (Open w.rasp w.locks) ≡ change (lens t.command_lock t.has_exited t.version (Open (window_at t f).rasp (window_at t f).locks)) → (g : ℕ) → view g (put_window t f w) ≡ (if g == f then change (view g t) else view g t)
 view-made t f w change o e g =
-    view-window t f w g ∙ ap (λ (v : Lens). choose (g == f) v (view g t)) (e ∙ ap change (sym (view-open t f o))) ∙ choose_made g f (views t) change
+    view-window t f w g ∙ ap (λ (v : Lens). (if g == f then v else view g t)) (e ∙ ap change (sym (view-open t f o))) ∙ if_made g f (views t) change
 
 -- ## Locks
 
@@ -90,7 +90,7 @@ view-made t f w change o e g =
 abbrev pub lock_change : Lock → ℕ → Lens → Lens
 lock_change NoLock g v = v
 lock_change CommandLock g v = commanded v
-lock_change (FileLock f) g v = choose (g == f) (locked_more v) v
+lock_change (FileLock f) g v = (if g == f then locked_more v else v)
 
 abbrev pub LockOpens : Lock → (ℕ → Lens) → Type 0
 LockOpens NoLock views = Unit
@@ -112,7 +112,7 @@ open_more (lens c e n Unknown) o = o
 open_more (lens c e n Known) o = o
 open_more (lens c e n (Open r k)) o = o
 
-open_chosen : (b : Bool) (v : Lens) → IsOpen v → IsOpen (choose b (locked_more v) v)
+open_chosen : (b : Bool) (v : Lens) → IsOpen v → IsOpen (if b then locked_more v else v)
 open_chosen true v o = open_more v o
 open_chosen false v o = o
 

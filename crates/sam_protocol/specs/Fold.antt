@@ -1,18 +1,14 @@
 -- What is under way, folded ahead of time: the host answers all that is up, and the terminal takes all that is down then.
-use Rattle.std.specs.Prelude.{◌≡◌, ℕ, ◌+◌, ◌<◌, ◌≤◌, false, if◌then◌else◌, ◌==◌, List, [], ◌∷◌, ◌++◌, length, map, Option, Some, None}
-use Rattle.sam_runes.specs.Texts.{max_runes}
+use Rattle.std.specs.Prelude.{◌≡◌, ℕ, if◌then◌else◌, List, [], ◌∷◌, ◌++◌, Option, Some, None}
 use Rattle.sam_runes.specs.Checks.{first_of_checks}
 use Rattle.sam_mesg.specs.declared.tmesg.Tmesg.{Tmesg}
-use Rattle.sam_mesg.specs.declared.tmesg.Tmesg.TheVariants.{Tversion, Tstartcmdfile, Tcheck, Trequest, Torigin, Tstartfile, Tworkfile, Ttype, Tcut, Tpaste, Tsnarf, Tstartnewfile, Twrite, Tclose, Tlook, Tsearch, Tsend, Tdclick, Tstartsnarf, Tsetsnarf, Tack, Texit}
 use Rattle.sam_mesg.specs.declared.hmesg.Hmesg.{Hmesg}
 use Rattle.sam_host.specs.Host.{PlainHost, Reply, counted, host_checks, reply_to}
 use Rattle.sam_host.specs.declared.fault.HostFault.{HostFault}
-use Rattle.sam_protocol.specs.Lens.{Lens, IsFree, IsKept}
-use Rattle.sam_protocol.specs.Model.{at_file, VersionsGuarded}
-use Rattle.sam_protocol.specs.Crossing.{Change, Same, Lock, Command, Types, Cuts, Line, OpenAt, KnownAt, Anything, Within}
-use Rattle.sam_protocol.specs.View.{frame_of}
-use Rattle.sam_protocol.specs.HostView.{file_in}
-use Rattle.sam_protocol.specs.Handled.{IsSteady}
+use Rattle.sam_protocol.specs.Lens.{Lens, IsKept}
+use Rattle.sam_protocol.specs.Frames.{at_file, VersionsGuarded}
+use Rattle.sam_protocol.specs.View.{file_in}
+use Rattle.sam_protocol.specs.Steady.{IsSteady}
 
 -- the host's answer without stamps, its count of messages aside: none where it refuses
 abbrev pub replied : Option HostFault → Reply → Option Reply
@@ -35,9 +31,6 @@ abbrev pub answers : PlainHost → List Tmesg → Option Reply
 answers h [] = Some (h, [])
 answers h (m ∷ ms) = replied_then (reply_of h m) (λ k. answers k ms)
 
-abbrev pub frames_at : ℕ → List Hmesg → List Rattle.sam_protocol.specs.Lens.Action
-frames_at g frames = at_file g (map frame_of frames)
-
 -- Once all that is under way was handled and nothing new was begun, no lock is held and the two sides agree. `views` is what
 -- the terminal shows of each file, `line` what is under way to the host with the unsent runes behind it, `down` what is under way
 -- to the terminal
@@ -45,40 +38,6 @@ pub record Kept (h : PlainHost) (views : ℕ → Lens) (line : List Tmesg) (down
   pub ahead : PlainHost  -- the host once it has handled all
   pub frames : List Hmesg  -- what it will have answered
   pub folds : answers h line ≡ Some (ahead, frames)
-  pub each : (g : ℕ) → IsKept (frames_at g (down ++ frames)) (views g) ahead.is_done ahead.version (file_in ahead.files.slots g)
+  pub each : (g : ℕ) → IsKept (at_file g (down ++ frames)) (views g) ahead.is_done ahead.version (file_in ahead.files.slots g)
   pub steady : IsSteady ahead
-  pub versions : VersionsGuarded (map frame_of (down ++ frames))
-
--- who must be free before the terminal acts
-abbrev pub IsAllowed : Change → (ℕ → Lens) → Type 0
-IsAllowed Same views = Unit
-IsAllowed (Lock f) views = IsFree (views f)
-IsAllowed Command views = (g : ℕ) → IsFree (views g)
-IsAllowed (Types f p s) views = IsFree (views f)
-IsAllowed (Cuts f p q) views = IsFree (views f)
-IsAllowed (Line p s) views = (g : ℕ) → IsFree (views g)
-
--- what the terminal has tested before it composes the message
-abbrev pub CanCompose : Tmesg → (ℕ → Lens) → Type 0
-CanCompose (Tversion v) views = 0 < v
-CanCompose Tstartcmdfile views = Unit
-CanCompose (Tcheck f) views = OpenAt Anything (views f)
-CanCompose (Trequest f p n) views = OpenAt Anything (views f)
-CanCompose (Torigin f p n) views = OpenAt (Within p p) (views f)
-CanCompose (Tstartfile f) views = KnownAt (views f) × ((f == 0) ≡ false)
-CanCompose (Tworkfile f p q) views = OpenAt (Within p q) (views f) × ((f == 0) ≡ false)
-CanCompose (Ttype f p s) views = OpenAt (λ r. (p ≤ length r) × (length r + length s ≤ max_runes)) (views f)
-CanCompose (Tcut f p q) views = OpenAt (Within p q) (views f)
-CanCompose (Tpaste f p) views = OpenAt (Within p p) (views f)
-CanCompose (Tsnarf f p q) views = OpenAt (Within p q) (views f)
-CanCompose Tstartnewfile views = Unit
-CanCompose (Twrite f) views = OpenAt Anything (views f) × ((f == 0) ≡ false)
-CanCompose (Tclose f) views = OpenAt Anything (views f) × ((f == 0) ≡ false)
-CanCompose (Tlook f p q) views = OpenAt (Within p q) (views f)
-CanCompose (Tsearch f p q) views = OpenAt (Within p q) (views f)
-CanCompose (Tsend f p q) views = OpenAt (Within p q) (views f)
-CanCompose (Tdclick f p) views = OpenAt (Within p p) (views f)
-CanCompose Tstartsnarf views = Unit
-CanCompose (Tsetsnarf s) views = Unit
-CanCompose Tack views = Unit
-CanCompose Texit views = Unit
+  pub versions : VersionsGuarded (down ++ frames)

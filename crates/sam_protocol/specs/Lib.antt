@@ -1,11 +1,7 @@
 pub mod Lens
-pub mod Model
-pub mod Crossing
+pub mod Frames
 pub mod View
-pub mod HostView
-pub mod Synced
-pub mod Means
-pub mod Handled
+pub mod Steady
 pub mod Fold
 pub mod Order
 pub mod Streams

@@ -7,8 +7,7 @@ use Rattle.sam_term.specs.Locks.{is_command_line}
 use Rattle.sam_term.specs.Term.{PlainTerminal, window_at, unsent_message}
 use Rattle.sam_term.specs.declared.files.Window.{Window}
 use Rattle.sam_term.specs.declared.files.Unsent.{Unsent}
-use Rattle.sam_protocol.specs.Lens.{Lens}
-use Rattle.sam_protocol.specs.Crossing.{OpenAt, Anything}
+use Rattle.sam_protocol.specs.Lens.{Lens, OpenAt, Anything}
 use Rattle.sam_protocol.specs.View.{view}
 use Rattle.sam_protocol.specs.Fold.{Kept}
 

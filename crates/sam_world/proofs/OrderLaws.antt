@@ -29,7 +29,7 @@ use Rattle.sam_mesg.specs.declared.hmesg.HFrame.{HFrame}
 use Rattle.sam_protocol.specs.Fold.{answers}
 use Rattle.sam_protocol.specs.Order.{InOrder}
 use Rattle.sam_protocol.proofs.Folds.{answered}
-use Rattle.sam_protocol.proofs.MirrorSteps.{test}
+use Rattle.sam_protocol.proofs.Tests.{test}
 use Rattle.sam_protocol.proofs.Passing.{passed, held_passed, free_at}
 use Rattle.sam_protocol.proofs.Sending.{nothing_goes, flushed_goes}
 use Rattle.sam_protocol.proofs.Acting.{event_goes}

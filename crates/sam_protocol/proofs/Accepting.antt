@@ -1,13 +1,16 @@
--- A message that the crossing lets come to the host, and what the host then owes.
-use Rattle.std.specs.Prelude.{◌≡◌, ℕ, ◌+◌, ◌<◌, ◌≤◌, false, ◌==◌, List, [], length, None, ◌⊎◌}
-use Rattle.sam_text.specs.Files.{PlainOutcome, AreFit}
+-- A message that the crossing lets come to the host, and what the host then owes: from settled lenses, the message and the host's own
+-- answer to it lead to settled lenses.
+use Rattle.std.specs.Prelude.{◌≡◌, ℕ, ◌+◌, ◌<◌, ◌≤◌, false, ◌==◌, List, length, None, ◌⊎◌}
+use Rattle.sam_runes.specs.Texts.{max_runes}
+use Rattle.sam_runes.specs.Checks.{first_of_checks}
 use Rattle.sam_mesg.specs.declared.tmesg.Tmesg.{Tmesg}
 use Rattle.sam_mesg.specs.declared.tmesg.Tmesg.TheVariants.{Tversion, Tstartcmdfile, Tcheck, Trequest, Torigin, Tstartfile, Tworkfile, Ttype, Tcut, Tpaste, Tsnarf, Tstartnewfile, Twrite, Tclose, Tlook, Tsearch, Tsend, Tdclick, Tstartsnarf, Tsetsnarf, Tack, Texit}
-use Rattle.sam_host.specs.Host.{PlainHost}
-use Rattle.sam_protocol.specs.Lens.{limit, Named, Opened}
-use Rattle.sam_protocol.specs.Model.{HostOk}
-use Rattle.sam_protocol.specs.HostView.{file_in, model_of}
-use Rattle.sam_protocol.specs.Means.{AllOpenAnnounced}
+use Rattle.sam_host.specs.Host.{PlainHost, host_checks, reply_to}
+use Rattle.sam_protocol.specs.Lens.{Lens, Named, Opened, Gone, IsSettled, IsKept}
+use Rattle.sam_protocol.specs.Frames.{at_file}
+use Rattle.sam_protocol.specs.View.{file_in}
+use Rattle.sam_protocol.specs.Steady.{HasFiles, IsSteady}
+use Rattle.sam_protocol.proofs.Changes.{changed, change_by}
 
 -- the file is open at the host, with such a text
 abbrev pub Open : PlainHost → ℕ → (List ℕ → Type 0) → Type 0
@@ -24,7 +27,7 @@ Accepted h (Trequest f p n) = Open h f (λ t. Unit)
 Accepted h (Torigin f p n) = Open h f (λ t. p ≤ length t)
 Accepted h (Tstartfile f) = ((f == 0) ≡ false) × (((t : List ℕ) × (file_in h.files.slots f ≡ Named t)) ⊎ ((t : List ℕ) × (file_in h.files.slots f ≡ Opened t)))
 Accepted h (Tworkfile f p q) = ((f == 0) ≡ false) × Open h f (Range p q)
-Accepted h (Ttype f p s) = Open h f (λ t. (p ≤ length t) × (length t + length s ≤ limit))
+Accepted h (Ttype f p s) = Open h f (λ t. (p ≤ length t) × (length t + length s ≤ max_runes))
 Accepted h (Tcut f p q) = Open h f (Range p q)
 Accepted h (Tpaste f p) = Open h f (λ t. p ≤ length t)
 Accepted h (Tsnarf f p q) = Open h f (Range p q)
@@ -40,16 +43,16 @@ Accepted h (Tsetsnarf s) = Unit
 Accepted h Tack = Unit
 Accepted h Texit = Unit
 
-abbrev pub quiet_outcome : PlainOutcome
-quiet_outcome = record { file = None; edits = []; text = None; dot = None; name = None; pattern = None; printed = []; quit = false }
-
--- what holds of every host: tag 0 is there, the work file is open, the open files were announced, texts are short and dots are ranges
-pub record IsSteady (h : PlainHost) : Type 0 where
-  pub sound : HostOk (model_of h)
-  pub announced : AllOpenAnnounced h.files
-  pub fit : AreFit h.files
-
 -- a host that goes on answering
 pub record Ready (h : PlainHost) : Type 0 where
   pub steady : IsSteady h
   pub running : h.is_done ≡ false
+
+-- the host doesn't refuse the message; at each file the terminal's own change and then the frames lead from settled to settled; no file
+-- that was closed comes back; and the host has its files
+pub record Synced (h : PlainHost) (m : Tmesg) : Type 0 where
+  pub passes : first_of_checks (host_checks h m) ≡ None
+  pub each : (g : ℕ) (w : Lens) → IsSettled w h.is_done h.version (file_in h.files.slots g)
+      → IsKept (at_file g (reply_to h m).1) (changed (change_by m) g w) (reply_to h m).0.is_done (reply_to h m).0.version (file_in (reply_to h m).0.files.slots g)
+  pub gone : (g : ℕ) → file_in h.files.slots g ≡ Gone → file_in (reply_to h m).0.files.slots g ≡ Gone
+  pub sound : HasFiles (reply_to h m).0.files
