@@ -106,14 +106,14 @@ fn replace_members(
 }
 
 /// Puts `runes` in at place `p` if `room_at` finds a loaded section there with room for them, and returns that section; otherwise
-/// returns `None` and changes nothing. No other section moves. The walk begins at `near` unless that begins after `p`.
+/// returns `None` and changes nothing. No other section moves. The walk begins at `near`.
 pub fn insert_inside(
     sections: &mut Vec<Section>,
     near: Begin,
     p: u32,
     runes: &[char],
 ) -> Option<Begin>
-    requires near { IsBegin sections.old.items near }
+    requires near { IsBegin sections.old.items near × (near.place ≤ p) }
     requires normal { IsNormal sections.old.items }
     requires limit { length (cells_of sections.old.items) ≤ max_runes }
     requires count { length runes.now ≤ max_runes }
@@ -122,6 +122,8 @@ pub fn insert_inside(
     ensures begin { IfSome result (λ b. IsBegin sections.new.items b) }
     ensures kept { is_some result ≡ false → sections.new.items ≡ sections.old.items }
     ensures len { vec_len sections.new ≡ vec_len sections.old }
+    ensures before { IfSome result (λ b. take b.index sections.new.items ≡ take b.index sections.old.items) }
+    ensures behind { IfSome result (λ b. drop (b.index + 1) sections.new.items ≡ drop (b.index + 1) sections.old.items) }
 {
     let Some((begin, at)) = room_at(sections.as_slice(), near, p, runes.len()) else {
         return None;

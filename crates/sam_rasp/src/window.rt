@@ -24,9 +24,9 @@ pub struct Reach {
     pub last: usize,
 }
 
-/// Returns what a change from place `p` to place `q` reaches. The walk begins at `near` unless that begins after `p`.
+/// Returns what a change from place `p` to place `q` reaches. The walk begins at `near`.
 pub fn reach_of(sections: &[Section], near: Begin, p: u32, q: u32) -> Reach
-    requires near { IsBegin sections.now near }
+    requires near { IsBegin sections.now near × (near.place ≤ p) }
     requires ascending { p ≤ q }
     requires within { q ≤ length (cells_of sections.now) }
     requires limit { length (cells_of sections.now) ≤ max_runes }
