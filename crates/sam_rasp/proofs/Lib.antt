@@ -6,3 +6,4 @@ pub mod RaspLaws
 pub mod Agreeing
 pub mod Typing
 pub mod Windows
+pub mod Marking

@@ -1,6 +1,6 @@
 -- Sections taken out of a list and put back.
 use Rattle.std.proofs.Common.{◌≡◌, refl, sym, ap, ◌∙◌, subst, ℕ, zero, suc, ◌+◌, ◌-◌, ◌≤◌, ◌<◌, List, [], ◌∷◌, ◌++◌, take, drop, length, min, reverse, arith, ◌⊎◌, inl, inr}
-use Rattle.std.proofs.lemmas.List.{append_assoc, nil_from_length, take_at, drop_at, drop_min, drop-drop, take-take, take-append-drop, drop-append-le, length-append, length-reverse, length-take, length-drop, take-append-le, drop-append-le}
+use Rattle.std.proofs.lemmas.List.{append-nil, append_assoc, drop-take, nil_from_length, take_at, drop_at, drop_min, drop-drop, take-take, take-append-drop, drop-append-le, length-append, length-reverse, length-take, length-drop, take-append-le, drop-append-le}
 use Rattle.std.proofs.lemmas.List.Concat.{flat_map-append}
 use Rattle.sam_rasp.specs.Rasp.{PartialText}
 use Rattle.sam_rasp.specs.Sections.{cells, cells_of, cells_back, IsApart, StaysApart, IsNormal}
@@ -10,39 +10,60 @@ use Rattle.sam_rasp.proofs.Changes.{take-past, drop-past}
 use Rattle.sam_rasp.proofs.Runs.{normal-take}
 use Rattle.std.proofs.lemmas.Bool.{cases_lt}
 
--- two lists parted at the same place
-first-part : {X : Type 0} (a b c d : List X) → a ++ b ≡ c ++ d → length a ≡ length c → a ≡ c
-first-part a b c d e l = sym (take_at a b (length c) l) ∙ (ap (take (length c)) e ∙ take_at c d (length c) refl)
+pub take-below : {X : Type 0} (xs ys : List X) (n m : ℕ) → n ≤ m → take m xs ≡ take m ys → take n xs ≡ take n ys
+take-below xs ys n m le e = sym (take-take n m xs le) ∙ (ap (take n) e ∙ take-take n m ys le)
 
-second-part : {X : Type 0} (a b c d : List X) → a ++ b ≡ c ++ d → length a ≡ length c → b ≡ d
-second-part a b c d e l = sym (drop_at a b (length c) l) ∙ (ap (drop (length c)) e ∙ drop_at c d (length c) refl)
+-- y in the place of what stood in v from number front to number end, as a write to a part of a vector leaves it
+pub behind-part : {X : Type 0} (v y old : List X) (front n end len : ℕ) → length v ≡ len → length y ≡ n → front + n ≡ end → end ≤ len
+    → drop end (take len ((take front v ++ (y ++ drop n (drop front v))) ++ drop (length (take front v ++ (y ++ drop n (drop front v)))) old)) ≡ drop end v
+behind-part v y old front n end len lv ly sum within =
+    let rest = drop n (drop front v) in
+    let m = take front v ++ (y ++ rest) in
+    let same : length m ≡ len = omega (arith, length-append (take front v) (y ++ rest), length-append y rest, length-take front v, length-drop n (drop front v), length-drop front v, lv, ly, sum, within) in
+    let la : length (take front v) + n ≡ end = omega (arith, length-take front v, lv, sum, within) in
+    ap (drop end) (take_at m (drop (length m) old) len same)
+    ∙ (drop-past (take front v) (y ++ rest) n end la ∙ (drop_at y rest n ly ∙ (drop-drop n front v ∙ ap (λ j. drop j v) sum)))
 
--- s is what is left of xs, w what stood from number front to number last, z the one behind
-pub record Parted {X : Type 0} (xs s w z : List X) (front last : ℕ) : Type 0 where
-  pub left : s ≡ take front xs ++ drop (last + 1) xs
+-- y is v from number at on, turned round so that its last sections, so many as more, come first
+pub behind-turned : {X : Type 0} (v y old xs : List X) (at n more k len : ℕ) → length v ≡ len → length xs + more ≡ len → take (length xs) v ≡ xs → at ≤ length xs → n ≡ len - at → k ≡ n - more
+    → y ≡ drop k (drop at v) ++ take k (drop at v)
+    → drop (at + more) (take len ((take at v ++ (y ++ drop n (drop at v))) ++ drop (length (take at v ++ (y ++ drop n (drop at v)))) old)) ≡ drop at xs
+behind-turned v y old xs at n more k len lv lx e within en ek ey =
+    let d = drop at v in
+    let rest = drop n d in
+    let m = take at v ++ (y ++ rest) in
+    let ly = ap length ey in
+    let sides : length y ≡ n = omega (arith, ly, length-append (drop k d) (take k d), length-drop k d, length-take k d, length-drop at v, lv, en, ek, lx, within) in
+    let same : length m ≡ len = omega (arith, length-append (take at v) (y ++ rest), length-append y rest, length-take at v, length-drop n d, length-drop at v, lv, sides, en, lx, within) in
+    let la : length (take at v) + more ≡ at + more = omega (arith, length-take at v, lv, lx, within) in
+    let none : rest ≡ [] = nil_from_length rest (omega (arith, length-drop n d, length-drop at v, lv, en)) in
+    let lk : length (drop k d) ≡ more = omega (arith, length-drop k d, length-drop at v, lv, en, ek, lx, within) in
+    let sum : at + k ≡ length xs = omega (arith, en, ek, lx, within) in
+    ap (drop (at + more)) (take_at m (drop (length m) old) len same)
+    ∙ (drop-past (take at v) (y ++ rest) more (at + more) la
+    ∙ (ap (λ z. drop more (y ++ z)) none ∙ (ap (drop more) (append-nil y ∙ ey) ∙ (drop_at (drop k d) (take k d) more lk
+    ∙ (sym (drop-take at k v) ∙ ap (drop at) (ap (λ j. take j v) sum ∙ e))))))
+
+-- w and the section z behind it stood from number front to number end; z is there if last is below end
+pub record Parted {X : Type 0} (xs w z : List X) (front last : ℕ) : Type 0 where
   pub inner : w ≡ take (last - front) (drop front xs)
   pub next : z ++ drop (last + 1) xs ≡ drop last xs
 
-pub parted : {X : Type 0} (xs s w z : List X) (front last k : ℕ) → (s ++ w) ++ z ≡ take front xs ++ (drop k (drop front xs) ++ take k (drop front xs))
-    → length w ≡ last - front → last + length z ≡ min (length xs) (last + 1) → k ≡ min (length xs) (last + 1) - front → front ≤ last → last ≤ length xs → Parted xs s w z front last
-parted xs s w z front last k e lw lz lk le within =
+pub parted : {X : Type 0} (xs w z : List X) (front last end : ℕ) → w ++ z ≡ take (end - front) (drop front xs)
+    → length w ≡ last - front → end ≡ min (length xs) (last + 1) → front ≤ last → last ≤ length xs → Parted xs w z front last
+parted xs w z front last end e lw le ordered within =
     let d = drop front xs in
     let m = last - front in
-    let a = take front xs ++ drop k d in
-    let whole : s ++ (w ++ z) ≡ a ++ take k d = sym (append_assoc s w z) ∙ (e ∙ sym (append_assoc (take front xs) (drop k d) (take k d))) in
-    let lengths = sym (length-append s (w ++ z)) ∙ (ap length whole ∙ length-append a (take k d)) in
-    let same : length s ≡ length a = omega (arith, lengths, length-append w z, length-take k d, length-drop front xs, lw, lz, lk, le, within) in
-    let front-part : s ≡ a = first-part s (w ++ z) a (take k d) whole same in
-    let window : w ++ z ≡ take k d = second-part s (w ++ z) a (take k d) whole same in
-    let inner : w ≡ take m d = sym (take_at w z m lw) ∙ (ap (take m) window ∙ take-take m k d (omega (arith, lk, lz))) in
-    let after : z ≡ drop m (take k d) = sym (drop_at w z m lw) ∙ ap (drop m) window in
-    let to : front + k ≡ min (last + 1) (length xs) = omega (arith, lk, le, within) in
+    let k = end - front in
+    let inner : w ≡ take m d = sym (take_at w z m lw) ∙ (ap (take m) e ∙ take-take m k d (omega (arith, le, ordered, within))) in
+    let after : z ≡ drop m (take k d) = sym (drop_at w z m lw) ∙ ap (drop m) e in
+    let to : front + k ≡ min (last + 1) (length xs) = omega (arith, le, ordered, within) in
     let tail : drop k d ≡ drop (last + 1) xs = drop-drop k front xs ∙ (ap (λ j. drop j xs) to ∙ drop_min (last + 1) xs) in
-    let sum : front + m ≡ last = omega (arith, le) in
-    let enough : m ≤ length (take k d) = omega (arith, length-take k d, length-drop front xs, lk, lz, within) in
+    let sum : front + m ≡ last = omega (arith, ordered) in
+    let enough : m ≤ length (take k d) = omega (arith, length-take k d, length-drop front xs, le, ordered, within) in
     let behind : drop m (take k d) ++ drop k d ≡ drop last xs =
     sym (drop-append-le m (take k d) (drop k d) enough) ∙ (ap (drop m) (take-append-drop k d) ∙ (drop-drop m front xs ∙ ap (λ j. drop j xs) sum)) in
-    record { left = front-part ∙ ap (λ y. take front xs ++ y) tail; inner = inner; next = ap (λ y. y ++ drop (last + 1) xs) after ∙ (ap (λ y. drop m (take k d) ++ y) (sym tail) ∙ behind) }
+    record { inner = inner; next = ap (λ y. y ++ drop (last + 1) xs) after ∙ (ap (λ y. drop m (take k d) ++ y) (sym tail) ∙ behind) }
 
 pub cells-append : (xs ys : List Section) → cells_of (xs ++ ys) ≡ cells_of xs ++ cells_of ys
 cells-append xs ys = flat_map-append cells xs ys
@@ -100,13 +121,11 @@ change-inside a t b m p at n place within =
     ∙ (sym (append_assoc (take p (a ++ (t ++ b))) m (drop (at + n) t ++ b))
     ∙ ap (λ y. (take p (a ++ (t ++ b)) ++ m) ++ y) (sym back))))
 
--- s is what is left of xs as the window is out; o stands in its place
-pub closed : {X : Type 0} (xs s new o : List X) (front last : ℕ) → s ≡ take front xs ++ drop (last + 1) xs → front ≤ length xs → new ≡ (take front s ++ o) ++ drop front s → new ≡ take front xs ++ (o ++ drop (last + 1) xs)
-closed xs s new o front last left le e =
-    let la : length (take front xs) ≡ front = omega (arith, length-take front xs, le) in
-    let a : take front s ≡ take front xs = ap (take front) left ∙ take_at (take front xs) (drop (last + 1) xs) front la in
-    let b : drop front s ≡ drop (last + 1) xs = ap (drop front) left ∙ drop_at (take front xs) (drop (last + 1) xs) front la in
-    e ∙ (ap (λ y. (y ++ o) ++ drop front s) a ∙ (ap (λ y. (take front xs ++ o) ++ y) b ∙ append_assoc (take front xs) o (drop (last + 1) xs)))
+-- s is xs but for the places of the window; o stands there now
+pub closed : {X : Type 0} (xs s new o : List X) (front last : ℕ) → take front s ≡ take front xs → drop (last + 1) s ≡ drop (last + 1) xs
+    → new ≡ (take front s ++ o) ++ drop (last + 1) s → new ≡ take front xs ++ (o ++ drop (last + 1) xs)
+closed xs s new o front last before behind e =
+    e ∙ (ap (λ y. (y ++ o) ++ drop (last + 1) s) before ∙ (ap (λ y. (take front xs ++ o) ++ y) behind ∙ append_assoc (take front xs) o (drop (last + 1) xs)))
 
 pub head-apart : (w : Section) (o r : List Section) → 0 < length o → StaysApart w (o ++ r) → IsApart w o
 head-apart w [] r l s = absurd (omega (arith, l))
@@ -150,7 +169,3 @@ has-front front number n e le none = go (cases_lt front number)
 pub change-length : (t m : PartialText) (at n : ℕ) → at + n ≤ length t → length ((take at t ++ m) ++ drop (at + n) t) + n ≡ length t + length m
 change-length t m at n le =
     omega (arith, le, length-append (take at t ++ m) (drop (at + n) t), length-append (take at t) m, length-take at t, length-drop (at + n) t)
-
--- the sections that are left
-pub left-length : (xs s : List Section) (front last : ℕ) → s ≡ take front xs ++ drop (last + 1) xs → front ≤ length xs → length s ≡ front + length (drop (last + 1) xs)
-left-length xs s front last e le = ap length e ∙ omega (arith, length-append (take front xs) (drop (last + 1) xs), length-take front xs, le)

@@ -5,44 +5,72 @@
 ghost use Rattle.std.specs.Prelude.{◌≡◌, ◌<◌, ◌≤◌, ◌+◌, ◌++◌, [], map, length, take, drop, vec_len, vec_capacity, Some, IfOk, if◌then◌else◌, false, is_some, IfSome};
 ghost use Rattle.sam_runes.specs.Texts.{del, ins, max_runes};
 ghost use Rattle.sam_rasp.specs.declared.section.Section.{Section};
-ghost use Rattle.sam_rasp.specs.Sections.{cells_of, cells_back, IsApart, IsBegin, IsNormal};
+ghost use Rattle.sam_rasp.specs.Sections.{cells_of, cells_back, ends, IsApart, IsBegin, IsNormal};
 
 use crate::joining::{drop_front, join_all, move_before, push_joined};
 use crate::piece::{PIECE_ROOM, Piece};
 use crate::section::Section;
 use crate::walking::{Begin, room_at};
 use std::alloc::{AllocError, Global};
-use std::mem;
 
-/// Takes out `n` runes and gaps from place `p` on. The new list is built in `spare`, which is empty and has room for it; then the two
-/// lists are exchanged.
-pub fn cut_sections(sections: &mut Vec<Section>, spare: &mut Vec<Section>, p: u32, n: u32)
-    requires normal { IsNormal sections.old.items }
-    requires limit { length (cells_of sections.old.items) ≤ max_runes }
-    requires within { p + n ≤ length (cells_of sections.old.items) }
-    requires empty { spare.old.items ≡ [] }
-    requires room { vec_len sections.old ≤ vec_capacity spare.old }
-    ensures cells { cells_of sections.new.items ≡ del (cells_of sections.old.items) p (p + n) }
-    ensures normal { IsNormal sections.new.items }
-    ensures len { vec_len sections.new ≤ vec_len sections.old }
-    ensures empty { spare.new.items ≡ [] }
-    ensures capacity { vec_capacity spare.old ≤ vec_capacity sections.new }
-    ensures kept { vec_capacity sections.old ≤ vec_capacity spare.new }
+/// Moves all of `rest`, which is held last to first, to the end of `out`, without the `n` runes and gaps from place `p` of `rest` on.
+/// The caller provides room in `out`.
+fn cut_members(out: &mut Vec<Section>, rest: &mut Vec<Section>, p: u32, n: u32)
+    requires normal { IsNormal out.old.items }
+    requires limit { length (cells_of out.old.items) + length (cells_back rest.old.items) ≤ max_runes }
+    requires within { p + n ≤ length (cells_back rest.old.items) }
+    requires room { vec_len out.old + vec_len rest.old ≤ vec_capacity out.old }
+    ensures cells { let t = cells_of out.old.items ++ cells_back rest.old.items in let at = length (cells_of out.old.items) + p in cells_of out.new.items ≡ del t at (at + n) }
+    ensures normal { IsNormal out.new.items }
+    ensures front { (w : Section) → IsApart w out.old.items → IsApart w out.new.items }
+    ensures len { vec_len out.new ≤ vec_len out.old + vec_len rest.old }
+    ensures capacity { vec_capacity out.old ≤ vec_capacity out.new }
+    ensures empty { rest.new.items ≡ [] }
+    ensures kept { vec_capacity rest.old ≤ vec_capacity rest.new }
 {
-    sections.reverse();
-    let (mut first, at) = move_before(spare, sections, p);
+    let (mut first, at) = move_before(out, rest, p);
     let end = (at + n).min(first.len());
     first.cut(at, end);
-    push_joined(spare, first);
-    let last = drop_front(sections, at + n - end);
-    push_joined(spare, last);
-    join_all(spare, sections);
-    mem::swap(sections, spare);
+    push_joined(out, first);
+    let last = drop_front(rest, at + n - end);
+    push_joined(out, last);
+    join_all(out, rest);
 }
 
 /// Moves all of `rest`, which is held last to first, to the end of `out`. The sections `more` take the place of the `n` runes and gaps
 /// from place `p` of `rest` on. The caller provides all memory: room in `out`, and `tail` for the end of a section that is cut in two.
-pub fn replace_members(
+/// Without a `tail` nothing is put in, and no section is cut in two.
+pub fn change_members(
+    out: &mut Vec<Section>,
+    rest: &mut Vec<Section>,
+    p: u32,
+    n: u32,
+    more: &mut Vec<Section>,
+    tail: Option<Piece>,
+)
+    requires normal { IsNormal out.old.items }
+    requires limit { length (cells_of out.old.items) + length (cells_back rest.old.items) ≤ max_runes }
+    requires total { length (cells_of out.old.items) + length (cells_back rest.old.items) + length (cells_of more.old.items) ≤ max_runes + n }
+    requires within { p + n ≤ length (cells_back rest.old.items) }
+    requires unused { (is_some tail ≡ false → more.old.items ≡ []) × IfSome tail (λ t. t ≡ []) }
+    requires room { vec_len out.old + vec_len rest.old + vec_len more.old + ends tail ≤ vec_capacity out.old }
+    ensures cells { let t = cells_of out.old.items ++ cells_back rest.old.items in let at = length (cells_of out.old.items) + p in cells_of out.new.items ≡ take at t ++ cells_of more.old.items ++ drop (at + n) t }
+    ensures normal { IsNormal out.new.items }
+    ensures front { (w : Section) → IsApart w out.old.items → IsApart w out.new.items }
+    ensures len { vec_len out.new ≤ vec_len out.old + vec_len rest.old + vec_len more.old + ends tail }
+    ensures capacity { vec_capacity out.old ≤ vec_capacity out.new }
+    ensures empty { rest.new.items ≡ [] }
+    ensures kept { vec_capacity rest.old ≤ vec_capacity rest.new }
+{
+    match tail {
+        Some(tail) => replace_members(out, rest, p, n, more, tail),
+        None => cut_members(out, rest, p, n),
+    }
+}
+
+/// Moves all of `rest`, which is held last to first, to the end of `out`. The sections `more` take the place of the `n` runes and gaps
+/// from place `p` of `rest` on. The caller provides all memory: room in `out`, and `tail` for the end of a section that is cut in two.
+fn replace_members(
     out: &mut Vec<Section>,
     rest: &mut Vec<Section>,
     p: u32,
@@ -61,6 +89,8 @@ pub fn replace_members(
     ensures front { (w : Section) → IsApart w out.old.items → IsApart w out.new.items }
     ensures len { vec_len out.new ≤ vec_len out.old + vec_len rest.old + vec_len more.old + 2 }
     ensures capacity { vec_capacity out.old ≤ vec_capacity out.new }
+    ensures empty { rest.new.items ≡ [] }
+    ensures kept { vec_capacity rest.old ≤ vec_capacity rest.new }
 {
     let (mut first, at) = move_before(out, rest, p);
     let mut back = first.split(at, tail);
@@ -76,14 +106,14 @@ pub fn replace_members(
 }
 
 /// Puts `runes` in at place `p` if `room_at` finds a loaded section there with room for them, and returns that section; otherwise
-/// returns `None` and changes nothing. No other section moves. The walk begins at `near` unless that begins after `p`.
+/// returns `None` and changes nothing. No other section moves. The walk begins at `near`.
 pub fn insert_inside(
     sections: &mut Vec<Section>,
     near: Begin,
     p: u32,
     runes: &[char],
 ) -> Option<Begin>
-    requires near { IsBegin sections.old.items near }
+    requires near { IsBegin sections.old.items near × (near.place ≤ p) }
     requires normal { IsNormal sections.old.items }
     requires limit { length (cells_of sections.old.items) ≤ max_runes }
     requires count { length runes.now ≤ max_runes }
@@ -92,6 +122,8 @@ pub fn insert_inside(
     ensures begin { IfSome result (λ b. IsBegin sections.new.items b) }
     ensures kept { is_some result ≡ false → sections.new.items ≡ sections.old.items }
     ensures len { vec_len sections.new ≡ vec_len sections.old }
+    ensures before { IfSome result (λ b. take b.index sections.new.items ≡ take b.index sections.old.items) }
+    ensures behind { IfSome result (λ b. drop (b.index + 1) sections.new.items ≡ drop (b.index + 1) sections.old.items) }
 {
     let Some((begin, at)) = room_at(sections.as_slice(), near, p, runes.len()) else {
         return None;

@@ -1,12 +1,12 @@
 //! A change of some sections of a list: those that it reaches are taken out, changed, and put back. The others move in bulk.
 
-ghost use Rattle.std.specs.Prelude.{◌≡◌, ◌<◌, ◌≤◌, ◌+◌, ◌-◌, ◌++◌, [], ◌∷◌, List, length, take, drop, reverse, min, vec_len, vec_capacity};
+ghost use Rattle.std.specs.Prelude.{◌≡◌, ◌<◌, ◌≤◌, ◌+◌, ◌-◌, ◌++◌, [], ◌∷◌, List, length, take, drop, reverse, min, vec_len, vec_capacity, is_some, IfSome, false};
 ghost use Rattle.std.specs.Option.{option_to_list};
 ghost use Rattle.sam_runes.specs.Texts.{max_runes};
 ghost use Rattle.sam_rasp.specs.declared.section.Section.{Section};
-ghost use Rattle.sam_rasp.specs.Sections.{cells_of, IsApart, IsBegin, IsReach, IsNormal};
+ghost use Rattle.sam_rasp.specs.Sections.{cells_of, ends, IsApart, IsBegin, IsReach, IsNormal};
 
-use crate::changing::replace_members;
+use crate::changing::change_members;
 use crate::joining::{push, push_joined};
 use crate::piece::Piece;
 use crate::section::Section;
@@ -24,9 +24,9 @@ pub struct Reach {
     pub last: usize,
 }
 
-/// Returns what a change from place `p` to place `q` reaches. The walk begins at `near` unless that begins after `p`.
+/// Returns what a change from place `p` to place `q` reaches. The walk begins at `near`.
 pub fn reach_of(sections: &[Section], near: Begin, p: u32, q: u32) -> Reach
-    requires near { IsBegin sections.now near }
+    requires near { IsBegin sections.now near × (near.place ≤ p) }
     requires ascending { p ≤ q }
     requires within { q ≤ length (cells_of sections.now) }
     requires limit { length (cells_of sections.now) ≤ max_runes }
@@ -42,43 +42,52 @@ pub fn reach_of(sections: &[Section], near: Begin, p: u32, q: u32) -> Reach
     Reach { front, first, last }
 }
 
-/// Moves the last `count` sections to the end of `window`, last to first. The caller makes sure that `window` has room for them.
-fn move_last(sections: &mut Vec<Section>, window: &mut Vec<Section>, count: usize)
-    requires within { count ≤ vec_len sections.old }
-    requires room { vec_len window.old + count ≤ vec_capacity window.old }
-    ensures items { sections.new.items ++ reverse window.new.items ≡ sections.old.items ++ reverse window.old.items }
-    ensures len { vec_len sections.new + count ≡ vec_len sections.old }
-    ensures moved { vec_len window.new ≡ vec_len window.old + count }
-    ensures capacity { vec_capacity sections.new ≡ vec_capacity sections.old }
+/// Puts so many empty holes at the end. The caller makes sure that there is room for them.
+fn push_holes(sections: &mut Vec<Section>, count: usize)
+    requires { vec_len sections.old + count ≤ vec_capacity sections.old }
+    ensures front { take (vec_len sections.old) sections.new.items ≡ sections.old.items }
+    ensures len { vec_len sections.new ≡ vec_len sections.old + count }
+    ensures capacity { vec_capacity sections.old ≤ vec_capacity sections.new }
 {
     for _ in 0..count {
-        let Some(section) = sections.pop() else {
-            unreachable!();
-        };
-        push(window, section);
+        push(sections, Section::Hole(0));
     }
 }
 
-/// Rotates the sections from number `front` up to and including number `last` to the end of the list. Takes section number `last`, if
-/// there is one, off the list again and returns it.
-fn turn_out(sections: &mut Vec<Section>, front: usize, last: usize) -> Option<Section>
-    requires ordered { (front ≤ last) × (last ≤ vec_len sections.old) }
-    ensures items { let k = min (vec_len sections.old) (last + 1) - front in let tail = drop front sections.old.items in sections.new.items ++ option_to_list result ≡ take front sections.old.items ++ (drop k tail ++ take k tail) }
-    ensures len { vec_len sections.new + length (option_to_list result) ≡ vec_len sections.old }
-    ensures next { last + length (option_to_list result) ≡ min (vec_len sections.old) (last + 1) }
+/// Moves the sections from number `front` up to, but not including, number `end` into `window`, in order. Empty holes keep their places.
+/// The caller makes sure that `window` is empty and has room for them.
+fn lift(sections: &mut Vec<Section>, window: &mut Vec<Section>, front: usize, end: usize)
+    requires ordered { (front ≤ end) × (end ≤ vec_len sections.old) }
+    requires empty { window.old.items ≡ [] }
+    requires room { end ≤ vec_capacity window.old + front }
+    ensures window { window.new.items ≡ take (end - front) (drop front sections.old.items) }
+    ensures before { take front sections.new.items ≡ take front sections.old.items }
+    ensures behind { drop end sections.new.items ≡ drop end sections.old.items }
+    ensures len { (vec_len sections.new ≡ vec_len sections.old) × (vec_len window.new ≡ end - front) }
     ensures capacity { vec_capacity sections.new ≡ vec_capacity sections.old }
+    ensures kept { vec_capacity window.old ≤ vec_capacity window.new }
 {
-    let end = sections.len().min(last + 1);
-    let tail = &mut sections[front..];
-    tail.rotate_left(end - front);
-    if last < end {
-        return sections.pop();
+    push_holes(window, end - front);
+    let lifted = &mut sections[front..end];
+    lifted.swap_with_slice(window.as_mut_slice());
+}
+
+/// Takes the last section off if there is one more than `kept`, and returns it.
+fn take_next(window: &mut Vec<Section>, kept: usize) -> Option<Section>
+    requires { vec_len window.old ≤ kept + 1 }
+    ensures items { window.new.items ++ option_to_list result ≡ window.old.items }
+    ensures len { vec_len window.new ≡ min kept (vec_len window.old) }
+    ensures capacity { vec_capacity window.new ≡ vec_capacity window.old }
+{
+    if kept < window.len() {
+        return window.pop();
     }
     None
 }
 
-/// Takes out the sections from number `front` up to and including number `last`. Section number `last` is returned, if there is one.
-/// The others from number `first` on are then in `window`, last to first, and the one before `first`, if it was taken, is in `out`.
+/// Takes out the sections from number `front` up to and including number `last`; empty holes keep their places. Section number `last` is
+/// returned, if there is one. The others from number `first` on are then in `window`, last to first, and the one before `first`, if it
+/// was taken, is in `out`.
 fn take_out(
     sections: &mut Vec<Section>,
     out: &mut Vec<Section>,
@@ -89,16 +98,20 @@ fn take_out(
 ) -> Option<Section>
     requires ordered { (front ≤ first) × (first ≤ front + 1) × (first ≤ last) × (last ≤ vec_len sections.old) }
     requires empty { (out.old.items ≡ []) × (window.old.items ≡ []) }
-    requires room { (0 < vec_capacity out.old) × (last ≤ vec_capacity window.old + front) }
-    ensures left { sections.new.items ≡ take front sections.old.items ++ drop (last + 1) sections.old.items }
+    requires room { (first ≤ vec_capacity out.old + front) × (min (vec_len sections.old) (last + 1) ≤ vec_capacity window.old + front) }
+    ensures before { take front sections.new.items ≡ take front sections.old.items }
+    ensures behind { drop (last + 1) sections.new.items ≡ drop (last + 1) sections.old.items }
     ensures next { option_to_list result ++ drop (last + 1) sections.old.items ≡ drop last sections.old.items }
     ensures window { out.new.items ++ reverse window.new.items ≡ take (last - front) (drop front sections.old.items) }
     ensures out { vec_len out.new ≡ first - front }
-    ensures capacity { vec_capacity sections.old ≤ vec_capacity sections.new }
-    ensures room { vec_capacity out.old ≤ vec_capacity out.new }
+    ensures len { vec_len sections.new ≡ vec_len sections.old }
+    ensures capacity { vec_capacity sections.new ≡ vec_capacity sections.old }
+    ensures kept { (vec_capacity out.old ≤ vec_capacity out.new) × (vec_capacity window.old ≤ vec_capacity window.new) }
 {
-    let next = turn_out(sections, front, last);
-    move_last(sections, window, last - front);
+    let end = sections.len().min(last + 1);
+    lift(sections, window, front, end);
+    let next = take_next(window, last - front);
+    window.reverse();
     if front < first {
         let Some(before) = window.pop() else {
             unreachable!();
@@ -108,21 +121,67 @@ fn take_out(
     next
 }
 
-/// Puts all of `out` in before section number `front`, and leaves `out` empty.
-fn put_back(sections: &mut Vec<Section>, out: &mut Vec<Section>, front: usize)
-    requires within { front ≤ vec_len sections.old }
-    requires room { vec_len sections.old + vec_len out.old ≤ vec_capacity sections.old }
-    ensures items { sections.new.items ≡ take front sections.old.items ++ out.old.items ++ drop front sections.old.items }
-    ensures len { vec_len sections.new ≡ vec_len sections.old + vec_len out.old }
-    ensures empty { out.new.items ≡ [] }
-    ensures capacity { vec_capacity out.new ≡ vec_capacity out.old }
+/// Makes the places from number `front` up to, but not including, number `end` so many as `count`. What stands in them is of no
+/// account afterwards. The sections behind move once, and only if the number changes.
+fn fit(sections: &mut Vec<Section>, front: usize, end: usize, count: usize)
+    requires ordered { (front ≤ end) × (end ≤ vec_len sections.old) }
+    requires room { vec_len sections.old + count ≤ vec_capacity sections.old + (end - front) }
+    ensures before { take front sections.new.items ≡ take front sections.old.items }
+    ensures behind { drop (front + count) sections.new.items ≡ drop end sections.old.items }
+    ensures len { vec_len sections.new + (end - front) ≡ vec_len sections.old + count }
+    ensures capacity { vec_capacity sections.old ≤ vec_capacity sections.new }
 {
-    let count = out.len();
-    if sections.append(out).is_err() {
-        unreachable!();
+    let have = end - front;
+    if have < count {
+        widen(sections, end, count - have);
+        return;
     }
-    let tail = &mut sections[front..];
-    tail.rotate_right(count);
+    if count < have {
+        narrow(sections, front + count, end);
+    }
+}
+
+/// Lets go of the sections from number `from` up to, but not including, number `end`.
+fn narrow(sections: &mut Vec<Section>, from: usize, end: usize)
+    requires ordered { (from ≤ end) × (end ≤ vec_len sections.old) }
+    ensures items { sections.new.items ≡ take from sections.old.items ++ drop end sections.old.items }
+    ensures len { vec_len sections.new + (end - from) ≡ vec_len sections.old }
+    ensures capacity { vec_capacity sections.new ≡ vec_capacity sections.old }
+{
+    sections.drain(from..end);
+}
+
+/// Puts `more` empty holes in before section number `at`. The caller makes sure that there is room for them.
+fn widen(sections: &mut Vec<Section>, at: usize, more: usize)
+    requires within { at ≤ vec_len sections.old }
+    requires room { vec_len sections.old + more ≤ vec_capacity sections.old }
+    ensures before { take at sections.new.items ≡ take at sections.old.items }
+    ensures behind { drop (at + more) sections.new.items ≡ drop at sections.old.items }
+    ensures len { vec_len sections.new ≡ vec_len sections.old + more }
+    ensures capacity { vec_capacity sections.old ≤ vec_capacity sections.new }
+{
+    push_holes(sections, more);
+    let tail = &mut sections[at..];
+    tail.rotate_right(more);
+}
+
+/// Puts all of `out` in the place of the sections from number `front` up to and including number `last`, if there is one, and leaves
+/// `out` empty.
+fn put_back(sections: &mut Vec<Section>, out: &mut Vec<Section>, front: usize, last: usize)
+    requires ordered { (front ≤ last) × (last ≤ vec_len sections.old) }
+    requires room { vec_len sections.old + vec_len out.old ≤ vec_capacity sections.old + (min (vec_len sections.old) (last + 1) - front) }
+    ensures items { sections.new.items ≡ take front sections.old.items ++ out.old.items ++ drop (last + 1) sections.old.items }
+    ensures len { vec_len sections.new + (min (vec_len sections.old) (last + 1) - front) ≡ vec_len sections.old + vec_len out.old }
+    ensures capacity { vec_capacity sections.old ≤ vec_capacity sections.new }
+    ensures empty { out.new.items ≡ [] }
+    ensures kept { vec_capacity out.new ≡ vec_capacity out.old }
+{
+    let end = sections.len().min(last + 1);
+    let count = out.len();
+    fit(sections, front, end, count);
+    let places = &mut sections[front..front + count];
+    places.swap_with_slice(out.as_mut_slice());
+    out.clear();
 }
 
 /// Puts the section that follows a changed stretch, if there is one, at its end, joined with the last one if the two are to be one.
@@ -143,7 +202,8 @@ fn push_next(out: &mut Vec<Section>, next: Option<Section>)
 }
 
 /// Puts the sections `more` in the place of what stands from place `p` to place `q`. The caller provides all memory: room in the first
-/// three lists, and `tail` for the end of a section that is cut in two.
+/// three lists, and `tail` for the end of a section that is cut in two. Without a `tail` nothing is put in. The sections behind those that
+/// are reached move only if the number of sections changes.
 pub fn replace_sections(
     sections: &mut Vec<Section>,
     out: &mut Vec<Section>,
@@ -152,7 +212,7 @@ pub fn replace_sections(
     p: u32,
     q: u32,
     more: &mut Vec<Section>,
-    tail: Piece,
+    tail: Option<Piece>,
 )
     requires normal { IsNormal sections.old.items }
     requires reach { IsReach sections.old.items p q reach }
@@ -160,20 +220,22 @@ pub fn replace_sections(
     requires limit { length (cells_of sections.old.items) ≤ max_runes }
     requires total { length (cells_of sections.old.items) + length (cells_of more.old.items) ≤ max_runes + (q - p) }
     requires empty { (out.old.items ≡ []) × (window.old.items ≡ []) }
-    requires unused { tail ≡ [] }
-    requires room { vec_len sections.old + vec_len more.old + 2 ≤ vec_capacity out.old }
-    requires list_room { vec_len sections.old + vec_len more.old + 2 ≤ vec_capacity sections.old }
-    requires window_room { reach.last ≤ vec_capacity window.old + reach.front.index }
+    requires unused { (is_some tail ≡ false → more.old.items ≡ []) × IfSome tail (λ t. t ≡ []) }
+    requires room { vec_len sections.old + vec_len more.old + ends tail ≤ vec_capacity out.old }
+    requires list_room { vec_len sections.old + vec_len more.old + ends tail ≤ vec_capacity sections.old }
+    requires window_room { vec_len sections.old ≤ vec_capacity window.old }
     ensures cells { cells_of sections.new.items ≡ take p (cells_of sections.old.items) ++ cells_of more.old.items ++ drop q (cells_of sections.old.items) }
     ensures normal { IsNormal sections.new.items }
-    ensures len { vec_len sections.new ≤ vec_len sections.old + vec_len more.old + 2 }
-    ensures empty { out.new.items ≡ [] }
-    ensures capacity { vec_capacity out.old ≤ vec_capacity out.new }
+    ensures len { vec_len sections.new ≤ vec_len sections.old + vec_len more.old + ends tail }
+    ensures empty { (out.new.items ≡ []) × (window.new.items ≡ []) }
+    ensures capacity { (vec_capacity out.old ≤ vec_capacity out.new) × (vec_capacity window.old ≤ vec_capacity window.new) }
     ensures begin { IsBegin sections.new.items reach.front }
+    ensures before { take reach.front.index sections.new.items ≡ take reach.front.index sections.old.items }
+    ensures behind { drop (reach.last + 1 + vec_len sections.new - vec_len sections.old) sections.new.items ≡ drop (reach.last + 1) sections.old.items }
 {
     let front = reach.front.index;
     let next = take_out(sections, out, window, front, reach.first.index, reach.last);
-    replace_members(out, window, p - reach.first.place, q - p, more, tail);
+    change_members(out, window, p - reach.first.place, q - p, more, tail);
     push_next(out, next);
-    put_back(sections, out, front);
+    put_back(sections, out, front, reach.last);
 }

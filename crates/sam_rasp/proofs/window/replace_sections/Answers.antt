@@ -1,16 +1,16 @@
 use Rattle.std.proofs.Common.{◌≡◌, ◌∙◌, ap, sym, subst, ◌++◌, ◌-◌, ◌+◌, ◌≤◌, drop, take, length, reverse, arith}
 use Rattle.std.specs.Option.{option_to_list}
-use Rattle.std.proofs.lemmas.List.{append_assoc, length-append}
+use Rattle.std.proofs.lemmas.List.{append_assoc, length-append, length-drop}
 use Rattle.sam_rasp.specs.Sections.{cells_of, cells_back, IsNormal}
-use Rattle.sam_rasp.proofs.Windows.{opened, closed, closed-normal, change-inside, change-length, cells-append, has-front, left-length, normal-drop, normal-front, nothing-behind}
+use Rattle.sam_rasp.proofs.Windows.{opened, closed, closed-normal, change-inside, change-length, cells-append, has-front, normal-drop, normal-front, nothing-behind}
 use Rattle.sam_rasp.proofs.window.replace_sections.Goals as goal
 
-pub replace_members-requires-clause-normal : goal.replace_members-requires-clause-normal
-replace_members-requires-clause-normal c =
+pub change_members-requires-clause-normal : goal.change_members-requires-clause-normal
+change_members-requires-clause-normal c =
     normal-front c.args.sections.now.items c.take_out-next.new.out.items (reverse c.take_out-next.new.window.items) c.args.reach.front.index (c.args.reach.last - c.args.reach.front.index) c.take_out-next.ensures.window c.requires.normal
 
-pub replace_members-requires-clause-limit : goal.replace_members-requires-clause-limit
-replace_members-requires-clause-limit c =
+pub change_members-requires-clause-limit : goal.change_members-requires-clause-limit
+change_members-requires-clause-limit c =
     let xs = c.args.sections.now.items in
     let o = c.take_out-next.new.out.items in
     let w = c.take_out-next.new.window.items in
@@ -20,8 +20,8 @@ replace_members-requires-clause-limit c =
     c.take_out-next.ensures.window c.take_out-next.ensures.next r.3 (omega (arith, c.take_out-next.ensures.out, c.take_out-next.new.out.ok)) r.6 r.7 r.0.1 r.1.1 in
     omega (arith, k.lengths, c.requires.limit)
 
-pub replace_members-requires-clause-total : goal.replace_members-requires-clause-total
-replace_members-requires-clause-total c =
+pub change_members-requires-clause-total : goal.change_members-requires-clause-total
+change_members-requires-clause-total c =
     let xs = c.args.sections.now.items in
     let o = c.take_out-next.new.out.items in
     let w = c.take_out-next.new.window.items in
@@ -31,8 +31,8 @@ replace_members-requires-clause-total c =
     c.take_out-next.ensures.window c.take_out-next.ensures.next r.3 (omega (arith, c.take_out-next.ensures.out, c.take_out-next.new.out.ok)) r.6 r.7 r.0.1 r.1.1 in
     omega (arith, k.lengths, c.requires.total)
 
-pub replace_members-requires-clause-within : goal.replace_members-requires-clause-within
-replace_members-requires-clause-within c =
+pub change_members-requires-clause-within : goal.change_members-requires-clause-within
+change_members-requires-clause-within c =
     let xs = c.args.sections.now.items in
     let o = c.take_out-next.new.out.items in
     let w = c.take_out-next.new.window.items in
@@ -42,8 +42,8 @@ replace_members-requires-clause-within c =
     c.take_out-next.ensures.window c.take_out-next.ensures.next r.3 (omega (arith, c.take_out-next.ensures.out, c.take_out-next.new.out.ok)) r.6 r.7 r.0.1 r.1.1 in
     omega (arith, k.before, k.ends, r.2, r.8, c.requires.ascending)
 
-pub replace_members-requires-clause-room : goal.replace_members-requires-clause-room
-replace_members-requires-clause-room c =
+pub change_members-requires-clause-room : goal.change_members-requires-clause-room
+change_members-requires-clause-room c =
     let xs = c.args.sections.now.items in
     let o = c.take_out-next.new.out.items in
     let w = c.take_out-next.new.window.items in
@@ -51,7 +51,7 @@ replace_members-requires-clause-room c =
     let r = c.requires.reach in
     let k = opened xs o w z c.args.reach.front.index c.args.reach.first.index c.args.reach.last c.args.reach.front.place c.args.reach.first.place
     c.take_out-next.ensures.window c.take_out-next.ensures.next r.3 (omega (arith, c.take_out-next.ensures.out, c.take_out-next.new.out.ok)) r.6 r.7 r.0.1 r.1.1 in
-    omega (arith, k.count, c.take_out-next.new.out.ok, c.take_out-next.new.window.ok, c.args.sections.now.ok, c.requires.room, c.take_out-next.ensures.room)
+    omega (arith, k.count, c.take_out-next.new.out.ok, c.take_out-next.new.window.ok, c.args.sections.now.ok, c.requires.room, c.take_out-next.ensures.kept)
 
 pub push_next-requires-clause-room : goal.push_next-requires-clause-room
 push_next-requires-clause-room c =
@@ -62,7 +62,7 @@ push_next-requires-clause-room c =
     let r = c.requires.reach in
     let k = opened xs o w z c.args.reach.front.index c.args.reach.first.index c.args.reach.last c.args.reach.front.place c.args.reach.first.place
     c.take_out-next.ensures.window c.take_out-next.ensures.next r.3 (omega (arith, c.take_out-next.ensures.out, c.take_out-next.new.out.ok)) r.6 r.7 r.0.1 r.1.1 in
-    omega (arith, k.count, c.take_out-next.new.out.ok, c.take_out-next.new.window.ok, c.args.sections.now.ok, c.requires.room, c.take_out-next.ensures.room, c.replace_members.ensures.len, c.replace_members.ensures.capacity)
+    omega (arith, k.count, c.take_out-next.new.out.ok, c.take_out-next.new.window.ok, c.args.sections.now.ok, c.requires.room, c.take_out-next.ensures.kept, c.change_members.ensures.len, c.change_members.ensures.capacity)
 
 pub push_next-requires-clause-within : goal.push_next-requires-clause-within
 push_next-requires-clause-within c =
@@ -79,7 +79,7 @@ push_next-requires-clause-within c =
     let n = c.args.q - c.args.p in
     let sum = length-append (cells_of o) (cells_back w) in
     let inside : at + n ≤ length t = omega (arith, sum, k.before, k.ends, r.2, r.8, c.requires.ascending) in
-    omega (arith, sum, ap length c.replace_members.ensures.cells, change-length t m at n inside, k.lengths, c.requires.total)
+    omega (arith, sum, ap length c.change_members.ensures.cells, change-length t m at n inside, k.lengths, c.requires.total)
 
 pub put_back-requires-clause-room : goal.put_back-requires-clause-room
 put_back-requires-clause-room c =
@@ -90,8 +90,8 @@ put_back-requires-clause-room c =
     let r = c.requires.reach in
     let k = opened xs o w z c.args.reach.front.index c.args.reach.first.index c.args.reach.last c.args.reach.front.place c.args.reach.first.place
     c.take_out-next.ensures.window c.take_out-next.ensures.next r.3 (omega (arith, c.take_out-next.ensures.out, c.take_out-next.new.out.ok)) r.6 r.7 r.0.1 r.1.1 in
-    let left = left-length xs c.take_out-next.new.sections.items c.args.reach.front.index c.args.reach.last c.take_out-next.ensures.left r.0.0 in
-    omega (arith, k.count, c.take_out-next.new.out.ok, c.take_out-next.new.window.ok, c.args.sections.now.ok, c.requires.room, c.take_out-next.ensures.room, left, c.take_out-next.new.sections.ok, c.replace_members.ensures.len, c.push_next.ensures.len, c.take_out-next.ensures.capacity, c.requires.list_room)
+    let behind = length-drop (c.args.reach.last + 1) xs in
+    omega (arith, k.count, c.take_out-next.new.out.ok, c.take_out-next.new.window.ok, c.args.sections.now.ok, c.requires.room, c.take_out-next.ensures.kept, behind, c.take_out-next.ensures.len, c.take_out-next.new.sections.ok, c.change_members.ensures.len, c.push_next.ensures.len, c.take_out-next.ensures.capacity, c.requires.list_room)
 
 pub returns-clause-len : goal.returns-clause-len
 returns-clause-len c =
@@ -102,8 +102,8 @@ returns-clause-len c =
     let r = c.requires.reach in
     let k = opened xs o w z c.args.reach.front.index c.args.reach.first.index c.args.reach.last c.args.reach.front.place c.args.reach.first.place
     c.take_out-next.ensures.window c.take_out-next.ensures.next r.3 (omega (arith, c.take_out-next.ensures.out, c.take_out-next.new.out.ok)) r.6 r.7 r.0.1 r.1.1 in
-    let left = left-length xs c.take_out-next.new.sections.items c.args.reach.front.index c.args.reach.last c.take_out-next.ensures.left r.0.0 in
-    omega (arith, k.count, c.take_out-next.new.out.ok, c.take_out-next.new.window.ok, c.args.sections.now.ok, c.requires.room, c.take_out-next.ensures.room, left, c.take_out-next.new.sections.ok, c.replace_members.ensures.len, c.push_next.ensures.len, c.put_back.ensures.len)
+    let behind = length-drop (c.args.reach.last + 1) xs in
+    omega (arith, k.count, c.take_out-next.new.out.ok, c.take_out-next.new.window.ok, c.args.sections.now.ok, c.requires.room, c.take_out-next.ensures.kept, behind, c.take_out-next.ensures.len, c.take_out-next.new.sections.ok, c.change_members.ensures.len, c.push_next.ensures.len, c.put_back.ensures.len)
 
 pub returns-clause-cells : goal.returns-clause-cells
 returns-clause-cells c =
@@ -123,11 +123,11 @@ returns-clause-cells c =
     let d = drop (c.args.reach.last + 1) xs in
     let o' = c.push_next.new.out.items in
     let a = take c.args.reach.front.index xs in
-    let list = closed xs c.take_out-next.new.sections.items c.put_back.new.sections.items o' c.args.reach.front.index c.args.reach.last c.take_out-next.ensures.left r.0.0 c.put_back.ensures.items in
+    let list = closed xs c.take_out-next.new.sections.items c.put_back.new.sections.items o' c.args.reach.front.index c.args.reach.last c.take_out-next.ensures.before c.take_out-next.ensures.behind c.put_back.ensures.items in
     let b = cells_of z ++ cells_of d in
     let changed = (take at t ++ m) ++ drop (at + n) t in
     let stretch : cells_of (o' ++ d) ≡ changed ++ b =
-    cells-append o' d ∙ (ap (λ y. y ++ cells_of d) (c.push_next.ensures.cells ∙ ap (λ y. y ++ cells_of z) c.replace_members.ensures.cells) ∙ append_assoc changed (cells_of z) (cells_of d)) in
+    cells-append o' d ∙ (ap (λ y. y ++ cells_of d) (c.push_next.ensures.cells ∙ ap (λ y. y ++ cells_of z) c.change_members.ensures.cells) ∙ append_assoc changed (cells_of z) (cells_of d)) in
     let end : c.args.p + n ≡ c.args.q = omega (arith, c.requires.ascending) in
     ap cells_of list ∙ (cells-append a (o' ++ d) ∙ (ap (λ y. cells_of a ++ y) stretch
     ∙ (change-inside (cells_of a) t b m c.args.p at n (omega (arith, r.0.1, r.2, k.before)) inside
@@ -145,9 +145,9 @@ returns-clause-normal c =
     let d = drop (c.args.reach.last + 1) xs in
     let o' = c.push_next.new.out.items in
     let a = take c.args.reach.front.index xs in
-    let list = closed xs c.take_out-next.new.sections.items c.put_back.new.sections.items o' c.args.reach.front.index c.args.reach.last c.take_out-next.ensures.left r.0.0 c.put_back.ensures.items in
+    let list = closed xs c.take_out-next.new.sections.items c.put_back.new.sections.items o' c.args.reach.front.index c.args.reach.last c.take_out-next.ensures.before c.take_out-next.ensures.behind c.put_back.ensures.items in
     subst IsNormal (sym list)
     (closed-normal xs o w z o' c.args.reach.front.index c.args.reach.last c.args.reach.front.place c.args.reach.first.place k c.requires.normal
     (has-front c.args.reach.front.index c.args.reach.first.index (length o) (omega (arith, c.take_out-next.ensures.out, c.take_out-next.new.out.ok)) r.3 r.5)
-    (λ v f. c.push_next.ensures.front v (c.replace_members.ensures.front v f))
+    (λ v f. c.push_next.ensures.front v (c.change_members.ensures.front v f))
     (c.push_next.ensures.behind d (subst IsNormal (sym c.take_out-next.ensures.next) (normal-drop xs c.args.reach.last c.requires.normal)) (nothing-behind xs z c.args.reach.last c.take_out-next.ensures.next)))

@@ -1,0 +1,38 @@
+-- Marks as a list of sections changes.
+use Rattle.std.proofs.Common.{◌≡◌, sym, ap, ◌∙◌, subst, ℕ, ◌+◌, ◌-◌, ◌<◌, ◌≤◌, List, ◌++◌, take, drop, length, set, arith}
+use Rattle.std.specs.List.{AllWithin}
+use Rattle.std.proofs.lemmas.List.Elements.{AllWithin-more_set}
+use Rattle.std.proofs.lemmas.List.{get_or-set_other, drop-drop, take-append-drop, length-append, length-drop}
+use Rattle.sam_rasp.specs.Sections.{cells_of, IsBegin, IsChange}
+use Rattle.sam_rasp.specs.declared.section.Section.{Section}
+use Rattle.sam_rasp.specs.declared.walking.Begin.{Begin}
+use Rattle.sam_rasp.specs.declared.marks.Change.{Change}
+use Rattle.sam_rasp.proofs.Windows.{cells-append, take-below}
+
+pub kept_before : (xs ys : List Section) (c : Change) (m : Begin) → IsChange xs ys c → IsBegin xs m → m.index ≤ c.front.index → IsBegin ys m
+kept_before xs ys c m change begin le =
+    (omega (arith, change.0.0, le), ap (λ zs. length (cells_of zs)) (take-below ys xs m.index c.front.index le change.1) ∙ begin.1)
+
+-- the cells before section number i and those from it on
+parts : (xs : List Section) (i : ℕ) → length (cells_of (take i xs)) + length (cells_of (drop i xs)) ≡ length (cells_of xs)
+parts xs i = sym (length-append (cells_of (take i xs)) (cells_of (drop i xs))) ∙ ap length (sym (cells-append (take i xs) (drop i xs)) ∙ ap cells_of (take-append-drop i xs))
+
+pub moved_behind : (xs ys : List Section) (c : Change) (m b : Begin) → IsChange xs ys c → IsBegin xs m → c.last < m.index
+    → b.index ≡ c.new_count - (c.old_count - m.index) → b.place ≡ c.new_len - (c.old_len - m.place) → IsBegin ys b
+moved_behind xs ys c m b change begin less ei ep =
+    let k = c.last + 1 in
+    let e = m.index - k in
+    let j = k + length ys - length xs in
+    let lengths = ap length change.2 in
+    let sum : k + e ≡ m.index = omega (arith, less) in
+    let to : j + e ≡ b.index = omega (arith, less, ei, begin.0, change.3, change.4, lengths, length-drop j ys, length-drop k xs) in
+    let same : drop b.index ys ≡ drop m.index xs =
+    ap (λ i. drop i ys) (sym to) ∙ (sym (drop-drop e j ys) ∙ (ap (drop e) change.2 ∙ (drop-drop e k xs ∙ ap (λ i. drop i xs) sum))) in
+    let cells = ap (λ zs. length (cells_of zs)) same in
+    (omega (arith, ei, change.4), omega (arith, ep, cells, parts ys b.index, parts xs m.index, begin.1, change.5, change.6))
+
+-- b is written at number i: P holds of one more from the front, and Q of one less to the end
+pub written : (P Q : Begin → Type 0) (ms : List Begin) (i n : ℕ) (b : Begin) → i < length ms → AllWithin P ms 0 i → AllWithin Q ms i n → P b
+    → AllWithin P (set ms i b) 0 (i + 1) × AllWithin Q (set ms i b) (i + 1) n
+written P Q ms i n b less done left h =
+    (AllWithin-more_set ms i b less P done h, λ k d lo hi. subst Q (sym (get_or-set_other ms i k b d (λ e. omega (arith, lo, e)))) (left k d (omega (arith, lo)) hi))
