@@ -11,6 +11,7 @@ ghost use Rattle.sam_term.specs.Term.{act_of, event_checks, is_unknown, is_close
 use crate::event::{Acted, Deed, UserEvent, Verdict};
 use crate::event_tests::{file_of, is_bad_version, is_for_command_file, needs_open, waits_for_all};
 use crate::fault::{Refusal, TermFault};
+use crate::files::MOST_IN_MESSAGE;
 use crate::lock::snarf_limit;
 use crate::term::Terminal;
 use sam_mesg::Tmesg;
@@ -120,13 +121,13 @@ impl Terminal {
         ensures { result ≡ has_long_text self.now event.now }
     {
         match event {
-            UserEvent::Typed(_, text) => 512 < text.len(),
+            UserEvent::Typed(_, text) => MOST_IN_MESSAGE < text.len(),
             UserEvent::SetSnarf(text) => !utf8_within(text.as_slice(), snarf_limit(self.version)),
             _ => false,
         }
     }
 
-    /// Returns whether an event would type so many runes that the file has more than 1,000,000.
+    /// Returns whether an event would type so many runes that the file has more than `MAX_RUNES`.
     fn makes_too_long(&self, event: &UserEvent) -> bool
         ensures { result ≡ makes_too_long self.now event.now }
     {

@@ -10,7 +10,7 @@ ghost use Rattle.sam_term.specs.Taking.{IsAnswer, countable};
 ghost use Rattle.sam_term.specs.Term.{flush_of, is_open, window_at, composed, unsent_message, flushed, sends, unchanged, wanted, view_end, request_for};
 
 use crate::fault::TermFault;
-use crate::files::Window;
+use crate::files::{MOST_IN_MESSAGE, Window};
 use crate::lock::{Lock, is_request, lock_of};
 use crate::outbox::Outbox;
 use crate::term::Terminal;
@@ -136,7 +136,7 @@ impl Terminal {
         self.compose(message, out);
     }
 
-    /// Returns the request that a file wants: for the first stretch of gaps in its view, at most 512 of them. `None` if there is no gap,
+    /// Returns the request that a file wants: for the first stretch of gaps in its view, at most `MOST_IN_MESSAGE` of them. `None` if there is no gap,
     /// the file is not open, the session is over, or a request is awaited already. The cost goes by the sections before the gap.
     pub(crate) fn wanted(&self, tag: u16) -> Option<Tmesg>
         ensures { result ≡ wanted self.now tag }
@@ -172,7 +172,10 @@ fn request_from(window: &Window, tag: u16, p: u32, n: u32) -> Option<Tmesg>
 {
     let end = p + n.min(window.rasp.len() - p);
     match window.rasp.first_hole(p, end) {
-        Some(hole) => Some(Tmesg::Trequest(tag, hole.0, (hole.1 - hole.0).min(512) as u16)),
+        Some(hole) => {
+            let count = (hole.1 - hole.0).min(MOST_IN_MESSAGE as u32) as u16;
+            Some(Tmesg::Trequest(tag, hole.0, count))
+        }
         None => None,
     }
 }

@@ -12,7 +12,7 @@ ghost use Rattle.sam_term.specs.Term.{is_open, window_at, put_window, all_compos
 
 use crate::event::{Acted, UserEvent};
 use crate::fault::TermFault;
-use crate::files::{Unsent, Window};
+use crate::files::{MOST_IN_MESSAGE, Unsent, Window};
 use crate::lock::ends_line;
 use crate::outbox::Outbox;
 use crate::term::Terminal;
@@ -107,7 +107,9 @@ fn follows(unsent: &Unsent, tag: u16, p: u32, n: usize) -> bool
     ensures { result ≡ (unsent.now.file == tag && unsent.now.place + length unsent.now.runes == p && nat_le (length unsent.now.runes + n) most_in_message) }
 {
     let count = unsent.runes.len();
-    unsent.file == tag && unsent.place as u64 + count as u64 == p as u64 && count + n <= 512
+    unsent.file == tag
+        && unsent.place as u64 + count as u64 == p as u64
+        && count + n <= MOST_IN_MESSAGE
 }
 
 /// Puts runes behind the unsent ones, if there are any. The only error is want of memory, and nothing has changed then.

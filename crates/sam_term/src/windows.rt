@@ -9,6 +9,7 @@ ghost use Rattle.sam_term.specs.Term.{is_open, is_known, window_at, set_view_sta
 
 use crate::moving::{cut_window, fill_window, grow_window, load_window, move_by_del, move_by_ins};
 use crate::term::Terminal;
+use sam_runes::MAX_RUNES;
 use std::alloc::AllocError;
 
 impl Terminal {
@@ -66,7 +67,7 @@ impl Terminal {
         }
     }
 
-    /// Tells what is true of each window: dot and view lie within the rasp, which has at most 1,000,000 runes and gaps, and it has no more
+    /// Tells what is true of each window: dot and view lie within the rasp, which has at most `MAX_RUNES` runes and gaps, and it has no more
     /// locks than messages were composed. It does nothing when the program runs.
     pub(crate) fn known_window(&self, tag: u16)
         ensures { FitsWindow self.now.sent (window_at self.now tag) }
@@ -74,14 +75,14 @@ impl Terminal {
         let _ = &self.alloc;
     }
 
-    /// Returns the most runes that may be typed in the place of a file's dot. The file then has 1,000,000 runes.
+    /// Returns the most runes that may be typed in the place of a file's dot. The file then has `MAX_RUNES`.
     pub(crate) fn room_beside_dot(&self, tag: u16) -> usize
         ensures room { result + length (window_at self.now tag).rasp ≡ max_runes + ((window_at self.now tag).dot.1 - (window_at self.now tag).dot.0) }
         ensures within { (window_at self.now tag).dot.1 - (window_at self.now tag).dot.0 ≤ length (window_at self.now tag).rasp }
     {
         self.known_window(tag);
         let dot = self.dot_of(tag);
-        1_000_000 - self.rasp_len(tag) + (dot.1 - dot.0) as usize
+        MAX_RUNES as usize - self.rasp_len(tag) + (dot.1 - dot.0) as usize
     }
 
     /// Has the view of an open file begin at `p`.
