@@ -1,19 +1,19 @@
 -- A terminal stays sound as partial texts grow and shrink.
 use Rattle.std.proofs.Common.{◌≡◌, refl, sym, ap, ◌∙◌, subst, ℕ, ◌≤◌, ◌<◌, ◌+◌, ◌-◌, Bool, true, false, List, length, Option, Some, None, if◌then◌else◌, ◌==◌, nat_eq, ◌⊎◌, ◌≢◌, inl, inr, arith, length-append}
-use Rattle.std.specs.Prelude.{IfSome, unwrap_or, nat_lt, nat_le, min}
+use Rattle.std.specs.Prelude.{IfSome, OnErr, OnOk, is_err, Result, Ok, Err, nat_lt, nat_le, min}
 use Rattle.std.proofs.lemmas.Bool.{ltb-true, ltb-false, leb-true, leb-false}
 use Rattle.std.proofs.lemmas.Bool.Decides.{eqb_tells}
 use Rattle.std.proofs.lemmas.List.{length-take, length-drop, length-map}
 use Rattle.sam_runes.specs.Texts.{max_runes}
-use Rattle.sam_runes.specs.Slots.{Slots, put_slot}
+use Rattle.sam_runes.specs.Slots.{put_slot}
 use Rattle.sam_rasp.specs.Rasp.{PartialText, ins_cells, del_cells, load_cells, place_after_ins, place_after_del}
-use Rattle.sam_term.specs.Term.{PlainTerminal, window_at, put_window, known_in, blank_window, window_after_ins, window_after_del, moved_unsent, ins_rasp, del_rasp}
+use Rattle.sam_term.specs.Term.{PlainTerminal, window_at, is_open, put_window, known_in, window_after_ins, window_after_del, moved_unsent, ins_rasp, del_rasp}
 use Rattle.sam_term.specs.Sound.{IsSound, FitsWindow, FitsUnsent, IsShort, AreWithin}
 use Rattle.sam_term.specs.declared.files.Window.{Window}
 use Rattle.sam_term.specs.declared.files.KnownFile.{KnownFile}
 use Rattle.sam_term.specs.declared.files.Unsent.{Unsent}
 use Rattle.sam_term.proofs.Sounds.{window-put, sound-put}
-use Rattle.sam_term.proofs.SlotSteps.{window_back, put_after_take, put_again}
+use Rattle.sam_term.proofs.SlotSteps.{put_again}
 
 -- ## Places
 
@@ -151,32 +151,35 @@ sound-del t f p q s o l =
     (moved_fits t f after (place_after_del p q) (λ k h. subst (λ n. place_after_del p q k ≤ n) (sym e) (del_within p q k (length w.rasp) o l h)) s.unsent)
     (moved_short f (place_after_del p q) t.unsent s.short)
 
--- ## Windows that are taken out, changed and put back
+-- ## Windows that are lent, and changed or left as they were
 
-module _ (t : PlainTerminal) (mid later : Slots KnownFile) (f : ℕ) (w v : Window) (taken : (known_in t.files f).window ≡ Some w) (shut : mid ≡ put_slot t.files f (record (known_in t.files f) { window = None })) (put : later ≡ put_slot mid f (record (known_in mid f) { window = Some v })) where
-  -- the files where the window was changed
-  pub files_back : (change : Window → Window) → v ≡ change w → later ≡ (put_window t f (change (window_at t f))).files
-  files_back change e =
-      window_back change t.files mid later f w taken shut
-      (put ∙ ap (λ x. put_slot mid f (record (known_in mid f) { window = Some x })) e)
+pub lent_same : (t : PlainTerminal) (f : ℕ) (w v : Window) → is_open t f ≡ true → w ≡ window_at t f → v ≡ w → put_window t f v ≡ t
+lent_same t f w v o e same = ap (λ ss. record t { files = ss }) (ap (λ x. put_slot t.files f (record (known_in t.files f) { window = Some x })) (same ∙ e) ∙ put_again t.files f o)
 
-  -- the terminal where it was not
-  pub same_back : v ≡ w → record t { files = later } ≡ t
-  same_back e =
-      ap (λ ss. record t { files = ss })
-      (put
-      ∙ (ap (λ x. put_slot mid f (record (known_in mid f) { window = Some x })) e
-      ∙ (ap (λ ss. put_slot ss f (record (known_in ss f) { window = Some w })) shut ∙ (put_after_take t.files f w ∙ put_again t.files f w taken))))
-
-  pub ins_back : (p : ℕ) (cells : PartialText) (o : Option Unsent) → v ≡ window_after_ins w p cells → o ≡ moved_unsent f (place_after_ins p (length cells)) t.unsent → record t { files = later; unsent = o } ≡ ins_rasp t f p cells
-  ins_back p cells o e m =
-      ap (λ ss. record t { files = ss; unsent = o }) (files_back (λ x. window_after_ins x p cells) e)
+module _ (t : PlainTerminal) (f : ℕ) (w v : Window) (o : Option Unsent) (same : w ≡ window_at t f) where
+  pub lent_ins : (p : ℕ) (cells : PartialText) → v ≡ window_after_ins w p cells → o ≡ moved_unsent f (place_after_ins p (length cells)) t.unsent → record (put_window t f v) { unsent = o } ≡ ins_rasp t f p cells
+  lent_ins p cells e m =
+      ap (λ x. record (put_window t f x) { unsent = o }) (e ∙ ap (λ x. window_after_ins x p cells) same)
       ∙ ap (λ u. record (put_window t f (window_after_ins (window_at t f) p cells)) { unsent = u }) m
 
-  pub del_back : (p q : ℕ) (o : Option Unsent) → v ≡ window_after_del w p q → o ≡ moved_unsent f (place_after_del p q) t.unsent → record t { files = later; unsent = o } ≡ del_rasp t f p q
-  del_back p q o e m =
-      ap (λ ss. record t { files = ss; unsent = o }) (files_back (λ x. window_after_del x p q) e)
+  pub lent_del : (p q : ℕ) → v ≡ window_after_del w p q → o ≡ moved_unsent f (place_after_del p q) t.unsent → record (put_window t f v) { unsent = o } ≡ del_rasp t f p q
+  lent_del p q e m =
+      ap (λ x. record (put_window t f x) { unsent = o }) (e ∙ ap (λ x. window_after_del x p q) same)
       ∙ ap (λ u. record (put_window t f (window_after_del (window_at t f) p q)) { unsent = u }) m
+
+-- what is true after a call is true where that failed
+pub on_err : {A E X : Type 0} (r : Result A E) → X → OnErr r X
+on_err (Ok a) x = tt
+on_err (Err e) x = x
+
+-- what is true where a call fails, and where it does not
+pub at_err : {A E X : Type 0} (r : Result A E) → is_err r ≡ true → OnErr r X → X
+at_err (Ok a) e x = absurd (cc)
+at_err (Err e) same x = x
+
+pub at_ok : {A E X : Type 0} (r : Result A E) → is_err r ≡ false → OnOk r X → X
+at_ok (Ok a) e x = x
+at_ok (Err e) same x = absurd (cc)
 
 -- unsent runes begin within a text
 pub unsent_within : (t : PlainTerminal) → IsSound t → IfSome t.unsent (λ u. u.place ≤ max_runes)
@@ -187,16 +190,11 @@ unsent_within t s = go t.unsent s.unsent
     go None k = tt
     go (Some u) k = let h = (s.windows u.file).size in omega arith
 
--- the places of a window that was taken out of a sound terminal
-pub taken_within : (t : PlainTerminal) (f : ℕ) (w : Window) → IsSound t → (known_in t.files f).window ≡ Some w → AreWithin max_runes w
-taken_within t f w s e =
-    let same : window_at t f ≡ w = ap (λ o. unwrap_or o blank_window) e in
-    let h : FitsWindow t.sent w = subst (λ x. FitsWindow t.sent x) same (s.windows f) in
+-- the places of a window of a sound terminal
+pub lent_within : (t : PlainTerminal) (f : ℕ) (w : Window) → IsSound t → w ≡ window_at t f → AreWithin max_runes w
+lent_within t f w s e =
+    let h : FitsWindow t.sent w = subst (λ x. FitsWindow t.sent x) (sym e) (s.windows f) in
     record { dot_start = omega (arith, h.dot_start, h.dot_end, h.size); dot_end = omega (arith, h.dot_end, h.size); view = omega (arith, h.view, h.size) }
-
--- and its partial text
-pub taken_rasp : (t : PlainTerminal) (f : ℕ) (w : Window) → (known_in t.files f).window ≡ Some w → window_at t f ≡ w
-taken_rasp t f w e = ap (λ o. unwrap_or o blank_window) e
 
 pub length-load_cells : (r : PartialText) (p : ℕ) (s : List ℕ) → p + length s ≤ length r → length (load_cells r p s) ≡ length r
 length-load_cells r p s l =

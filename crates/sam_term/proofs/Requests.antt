@@ -5,12 +5,14 @@ use Rattle.sam_rasp.specs.Rasp.{hole_within}
 use Rattle.sam_runes.proofs.SlotLaws.{slot-put_same}
 use Rattle.sam_term.specs.Locks.{lock_of}
 use Rattle.sam_term.specs.Locking.{is_lockable}
-use Rattle.sam_term.specs.Term.{PlainTerminal, window_at, put_window, known_at, is_open, wanted, request_for, view_end, took_unlockfile, sends_if, sends, requested, unchanged, blank_known}
+use Rattle.sam_term.specs.Term.{PlainTerminal, window_at, put_window, known_at, is_open, wanted, request_for, view_end, took_unlockfile, sends_if, sends, requested, unchanged, window_of, blank_known, blank_window}
 use Rattle.sam_term.specs.declared.files.Window.{Window}
 use Rattle.sam_mesg.specs.declared.tmesg.Tmesg.{Tmesg}
 use Rattle.sam_mesg.specs.declared.tmesg.Tmesg.TheVariants.{Trequest}
 use Rattle.sam_runes.specs.Texts.{most_in_message}
+use Rattle.sam_term.specs.Editing.{shown_from}
 use Rattle.sam_term.proofs.Composes.{window-put_same}
+use Rattle.sam_term.proofs.SlotSteps.{put_again}
 
 -- what a window asks for
 abbrev asks : ℕ → Bool → Bool → Window → Option Tmesg
@@ -67,3 +69,10 @@ sent-unlocked t f = refl
 pub unsent-unlocked : (t : PlainTerminal) (f : ℕ) → (took_unlockfile t f).unsent ≡ t.unsent
 unfolding took_unlockfile
 unsent-unlocked t f = refl
+
+-- an open file, shown as it is
+pub shown_same : (t : PlainTerminal) (f : ℕ) (w : Window) → window_of t f ≡ Some w → shown_from t f w.view_start w.view_length ≡ t
+shown_same t f w e =
+    let here : w ≡ window_at t f = sym (ap (λ o. unwrap_or o blank_window) e) in
+    ap (λ (v : Window). put_window t f (record (window_at t f) { view_start = v.view_start; view_length = v.view_length })) here
+    ∙ ap (λ ss. record t { files = ss }) (put_again t.files f (ap is_some e))

@@ -15,9 +15,6 @@ use Rattle.sam_runes.specs.Texts.{most_count}
 use Rattle.sam_mesg.specs.declared.tmesg.Tmesg.{Tmesg}
 use Rattle.std.specs.Prelude.{nat_lt, Ok, Err, [], ◌<◌, ◌+◌}
 use Rattle.std.proofs.lemmas.Bool.{le-ltb, lt-ltb}
-use Rattle.sam_term.proofs.SlotSteps.{window_back}
-use Rattle.sam_term.specs.Term.{known_in}
-use Rattle.sam_runes.specs.Slots.{Slots, put_slot}
 use Rattle.sam_term.specs.Sound.{IsSound, FitsWindow, FitsUnsent, IsShort}
 use Rattle.sam_term.specs.declared.files.Window.{Window}
 use Rattle.sam_term.specs.declared.files.KnownFile.{KnownFile}
@@ -67,14 +64,10 @@ quiet x u ms e none l =
     sent_fits : u.sent ≡ x.sent → u.sent ≤ most_count → nat_lt most_count x.sent ≡ false
     sent_fits a b = le-ltb most_count x.sent (omega arith)
 
--- a window was taken out, changed and put back: the terminal afterwards
-pub back : (t : PlainTerminal) (change : Window → Window) (mid later : Slots KnownFile) (f : ℕ) (w : Window) → (known_in t.files f).window ≡ Some w → mid ≡ put_slot t.files f (record (known_in t.files f) { window = None }) → later ≡ put_slot mid f (record (known_in mid f) { window = Some (change w) }) → record t { files = later } ≡ put_window t f (change (window_at t f))
-back t change mid later f w e m l = ap (λ ss. record t { files = ss }) (window_back change t.files mid later f w e m l)
-
--- and it is sound where the changed window fits and is as long
-pub sound_back : (t : PlainTerminal) (change : Window → Window) (mid later : Slots KnownFile) (f : ℕ) (w : Window) → (known_in t.files f).window ≡ Some w → mid ≡ put_slot t.files f (record (known_in t.files f) { window = None }) → later ≡ put_slot mid f (record (known_in mid f) { window = Some (change w) }) → IsSound t → FitsWindow t.sent (change (window_at t f)) → length (change (window_at t f)).rasp ≡ length (window_at t f).rasp → IsSound (record t { files = later })
-sound_back t change mid later f w e m l s fits same =
-    subst (λ u. IsSound u) (sym (back t change mid later f w e m l)) (sound-put t f (change (window_at t f)) s fits same)
+-- a window that is lent and changed, so that its places fit and it is as long
+pub sound_lent : (t : PlainTerminal) (f : ℕ) (w : Window) (change : Window → Window) → w ≡ window_at t f → IsSound t → FitsWindow t.sent (change (window_at t f)) → length (change (window_at t f)).rasp ≡ length (window_at t f).rasp → IsSound (put_window t f (change w))
+sound_lent t f w change e s fits same =
+    subst (λ v. IsSound (put_window t f (change v))) (sym e) (sound-put t f (change (window_at t f)) s fits same)
 
 -- ## A frame, by its count and what stands against its message
 

@@ -1,6 +1,6 @@
 -- What typing makes, in the order of the code: the window is changed first, and the messages are composed behind that.
 use Rattle.std.proofs.Common.{◌≡◌, refl, sym, ap, ◌∙◌, subst, ℕ, ◌≤◌, ◌<◌, ◌+◌, ◌-◌, ◌++◌, Bool, true, false, List, [], ◌∷◌, length, map, Option, Some, None, Err, if◌then◌else◌, ◌==◌, ◌≢◌, ◌⊎◌, nat_eq, arith, inl, inr, length-append}
-use Rattle.std.specs.Prelude.{not, ◌&&◌, nat_lt, nat_le}
+use Rattle.std.specs.Prelude.{not, ◌&&◌, nat_lt, nat_le, option_map, take}
 use Rattle.std.proofs.lemmas.List.{append-nil}
 use Rattle.std.proofs.lemmas.Bool.{le-ltb, ltb-false, leb-true, eqb-true}
 use Rattle.std.proofs.lemmas.Bool.Decides.{eqb_tells}
@@ -8,7 +8,7 @@ use Rattle.sam_runes.specs.Texts.{is_empty, max_runes, most_count, most_in_messa
 use Rattle.sam_rasp.specs.Rasp.{PartialText, place_after_ins}
 use Rattle.sam_term.specs.Term.{PlainTerminal, Made, window_at, window_in, put_window, window_after_ins, window_after_del, moved_unsent, ins_rasp, set_dot_of, all_composed, flushed, unsent_message, and_then, joins, joined, kept_unsent, typed_rasp, types, cuts_dot, made_by, made_by_type, lock_taken}
 use Rattle.sam_term.specs.Locks.{is_command_line}
-use Rattle.sam_term.specs.Editing.{typed_over, typed_file, typed_runes, cut_message, one_if, flushed_if}
+use Rattle.sam_term.specs.Editing.{typed_over, joined_at, lengthened, shortened, typed_file, typed_runes, cut_message, one_if, flushed_if}
 use Rattle.sam_term.specs.Sound.{IsSound, FitsUnsent, IsShort}
 use Rattle.sam_term.specs.Acting.{first_event, free_first, made_first, is_typing}
 use Rattle.sam_term.specs.Taking.{done, IsFailure}
@@ -22,7 +22,8 @@ use Rattle.sam_term.specs.declared.fault.TermFault.TheVariants as fault
 use Rattle.sam_mesg.specs.declared.tmesg.Tmesg.{Tmesg}
 use Rattle.sam_mesg.specs.declared.tmesg.Tmesg.TheVariants.{Tcut}
 use Rattle.sam_term.proofs.Acts.{passes, test_at}
-use Rattle.sam_term.proofs.TypedLaws.{typed-cut, typed-in}
+use Rattle.sam_term.proofs.TypedLaws.{typed-cut, typed-in, sound-typed}
+use Rattle.std.proofs.Math.Seq.{take-append_seam}
 use Rattle.sam_term.proofs.Composes.{put-put, window-put_same, flushed-files}
 use Rattle.sam_term.proofs.CountLaws.{counts-event}
 use Rattle.sam_term.proofs.Edits.{later, overflows, fits_count, cut_made, cuts_none, cuts_some, cut-unsent, flushed-idle, flushed-messages, empty-or, filled-or}
@@ -329,3 +330,26 @@ joined-within u o f p s w e same l =
     let end = ap (λ g. (window_at u g).dot.1) (joined-file o f p s e) in
     let there = ap (λ (v : Window). v.dot.1) same in
     omega arith
+
+-- unsent runes that get more behind them are those that they are joined to
+pub lengthened-joined : (o : Option Unsent) (f p : ℕ) (s : List ℕ) → joins o f p s ≡ true → option_map (lengthened s) o ≡ Some (joined o f p s)
+lengthened-joined None f p s e = absurd (cc)
+lengthened-joined (Some u) f p s e = refl
+
+-- and cut back they are what they were
+pub shortened-again : (o : Option Unsent) (s : List ℕ) → option_map (shortened (length s)) (option_map (lengthened s) o) ≡ o
+shortened-again None s = refl
+shortened-again (Some u) s =
+    let both = length-append u.runes s in
+    let many : length (u.runes ++ s) - length s ≡ length u.runes = omega arith in
+    ap (λ r. Some (record u { runes = r })) (ap (λ n. take n (u.runes ++ s)) many ∙ take-append_seam u.runes s)
+
+-- a terminal stays sound as runes are typed behind the unsent ones
+pub sound-joined : (t : PlainTerminal) (f : ℕ) (s : List ℕ) → IsSound t → (window_at t f).dot.0 ≡ (window_at t f).dot.1 → length (window_at t f).rasp + length s ≤ max_runes → joins t.unsent f (window_at t f).dot.0 s ≡ true → IsSound (joined_at t f s)
+sound-joined t f s sound same fits e =
+    let p = (window_at t f).dot.0 in
+    let w = typed_over (window_at t f) s in
+    let u : PlainTerminal = record (put_window t f w) { unsent = None } in
+    let end : p ≤ w.dot.1 = omega arith in
+    sound-kept u (joined t.unsent f p s) (sound-typed t f s sound (omega arith)) (joined-within u t.unsent f p s w e (window-put_same t f w) end)
+    (joined-short t.unsent f p s e)

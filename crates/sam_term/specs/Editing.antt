@@ -1,10 +1,11 @@
 -- What the events change in a window.
-use Rattle.std.specs.Prelude.{ℕ, ◌+◌, ◌++◌, ◌∷◌, ◌==◌, if◌then◌else◌, Bool, List, [], length, map, take, drop, Some}
+use Rattle.std.specs.Prelude.{ℕ, ◌+◌, ◌-◌, ◌++◌, ◌∷◌, ◌==◌, if◌then◌else◌, Bool, List, [], length, map, take, drop, Some}
 use Rattle.sam_rasp.specs.Rasp.{place_after_ins, place_after_del}
 use Rattle.sam_term.specs.declared.files.Window.{Window}
+use Rattle.sam_term.specs.declared.files.Unsent.{Unsent}
 use Rattle.sam_term.specs.declared.event.UserEvent.{UserEvent}
 use Rattle.sam_term.specs.declared.event.UserEvent.TheVariants.{Typed}
-use Rattle.sam_term.specs.Term.{PlainTerminal, Made, window_at, put_window, flushed}
+use Rattle.sam_term.specs.Term.{PlainTerminal, Made, window_at, put_window, flushed, joined}
 use Rattle.sam_mesg.specs.declared.tmesg.Tmesg.{Tmesg}
 use Rattle.sam_mesg.specs.declared.tmesg.Tmesg.TheVariants.{Tcut}
 
@@ -20,6 +21,19 @@ typed_over w s =
       dot = (w.dot.0 + length s, w.dot.0 + length s);
       view_start = place_after_ins w.dot.0 (length s) (place_after_del w.dot.0 w.dot.1 w.view_start);
     }
+
+-- unsent runes with more behind them, and without the last n
+abbrev pub lengthened : List ℕ → Unsent → Unsent
+lengthened s u = record u { runes = u.runes ++ s }
+
+abbrev pub shortened : ℕ → Unsent → Unsent
+shortened n u = record u { runes = take (length u.runes - n) u.runes }
+
+-- these runes come in the place of the dot of f, and join the unsent ones
+abbrev pub joined_at : PlainTerminal → ℕ → List ℕ → PlainTerminal
+joined_at t f s =
+    let w = window_at t f in
+    record (put_window t f (typed_over w s)) { unsent = Some (joined t.unsent f w.dot.0 s) }
 
 -- the runes that an event types
 abbrev pub typed_runes : UserEvent → List ℕ

@@ -11,8 +11,8 @@ ghost use Rattle.sam_term.specs.Term.{act_of, event_checks, is_unknown, is_close
 use crate::event::{Acted, Deed, UserEvent, Verdict};
 use crate::event_tests::{file_of, is_bad_version, is_for_command_file, needs_open, waits_for_all};
 use crate::fault::{Refusal, TermFault};
+use crate::files::MOST_IN_MESSAGE;
 use crate::lock::snarf_limit;
-use crate::outbox::Outbox;
 use crate::term::Terminal;
 use sam_mesg::Tmesg;
 use sam_runes::utf8_within;
@@ -121,13 +121,13 @@ impl Terminal {
         ensures { result ≡ has_long_text self.now event.now }
     {
         match event {
-            UserEvent::Typed(_, text) => 512 < text.len(),
+            UserEvent::Typed(_, text) => MOST_IN_MESSAGE < text.len(),
             UserEvent::SetSnarf(text) => !utf8_within(text.as_slice(), snarf_limit(self.version)),
             _ => false,
         }
     }
 
-    /// Returns whether an event would type so many runes that the file has more than 1,000,000.
+    /// Returns whether an event would type so many runes that the file has more than `MAX_RUNES`.
     fn makes_too_long(&self, event: &UserEvent) -> bool
         ensures { result ≡ makes_too_long self.now event.now }
     {
@@ -191,17 +191,10 @@ impl Terminal {
         match verdict {
             Verdict::Waits => Acted::Locked,
             Verdict::Refuses(why) => {
-                self.drop_oldest();
+                self.drop_first();
                 Acted::Refused(why)
             }
         }
-    }
-
-    /// Drops the oldest held event.
-    fn drop_oldest(&mut self)
-        ensures { self.new ≡ record self.old { held = drop 1 self.old.held } }
-    {
-        let _ = self.held.take_first();
     }
 
     /// Does the deed of the oldest held event, and drops the event. Errors, in this order: `CountFull`; `OutOfMemory`. The terminal is then
@@ -226,20 +219,16 @@ impl Terminal {
 
     /// Composes the unsent runes and then the message of the oldest event, which is dropped. Errors, in this order: `CountFull`;
     /// `OutOfMemory`. The terminal is then unchanged.
-    fn send_for_event(&mut self, message: Tmesg) -> Result<Acted, TermFault>
+    pub(crate) fn send_for_event(&mut self, message: Tmesg) -> Result<Acted, TermFault>
         requires opened { IsTrue (is_lockable self.old (lock_of message)) }
         ensures { IsAnswer self.old self.new result (done (sends (record self.old { held = drop 1 self.old.held }) unchanged (message ∷ []))) }
     {
-        let count = 1 + self.unsent_count();
-        if u64::MAX - self.sent < count {
-            return Err(TermFault::CountFull);
+        match self.send(message) {
+            Ok(batch) => {
+                self.drop_first();
+                Ok(Acted::Done(batch))
+            }
+            Err(why) => Err(why),
         }
-        let Ok(mut out) = Outbox::with_room(self.alloc, 2) else {
-            return Err(TermFault::OutOfMemory);
-        };
-        self.drop_oldest();
-        self.compose_unsent(&mut out);
-        self.compose(message, &mut out);
-        Ok(Acted::Done(out.into_batch()))
     }
 }

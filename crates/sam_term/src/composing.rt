@@ -1,34 +1,33 @@
 //! Composing messages: each is counted and takes its lock, and the unsent runes go first. It also finds the request that a file wants.
 
-ghost use Rattle.std.specs.Prelude.{◌≡◌, ◌⊎◌, ◌++◌, ◌∷◌, ◌+◌, ◌<◌, ◌≤◌, [], length, IfOk, IfErr, OnOk, IsTrue};
+ghost use Rattle.std.specs.Prelude.{◌≡◌, ◌⊎◌, ◌++◌, ◌∷◌, ◌+◌, ◌<◌, ◌≤◌, [], length, min, IfOk, IfErr, OnOk, IsTrue};
 ghost use Rattle.sam_rasp.specs.Rasp.{hole_within};
 ghost use Rattle.sam_runes.specs.Texts.{most_count};
+ghost use Rattle.sam_term.specs.Editing.{shown_from};
 ghost use Rattle.sam_term.specs.Locking.{is_lockable, lock_added};
 ghost use Rattle.sam_term.specs.Locks.{lock_of};
 ghost use Rattle.sam_term.specs.Taking.{IsAnswer, countable};
-ghost use Rattle.sam_term.specs.Term.{flush_of, is_open, composed, unsent_message, flushed, sends, unchanged, wanted, view_end, request_for};
+ghost use Rattle.sam_term.specs.Term.{flush_of, is_open, window_at, composed, unsent_message, flushed, sends, unchanged, wanted, view_end, request_for};
 
 use crate::fault::TermFault;
-use crate::files::Window;
-use crate::lock::{Lock, either, is_request, lock_of};
+use crate::files::{MOST_IN_MESSAGE, Window};
+use crate::lock::{Lock, is_request, lock_of};
 use crate::outbox::Outbox;
 use crate::term::Terminal;
 use sam_mesg::{Batch, Tmesg};
 
 impl Terminal {
-    /// Composes the unsent runes, if there are any. Errors, in this order: `CountFull`; `OutOfMemory`, which may come even if there are
-    /// none. The terminal is then unchanged.
+    /// Composes the unsent runes, if there are any. Errors, in this order: `CountFull`; `OutOfMemory`. The terminal is then unchanged.
     pub(crate) fn flush_now(&mut self) -> Result<Batch, TermFault>
         ensures { IsAnswer self.old self.new result (flush_of self.old) }
     {
-        if u64::MAX - self.sent < self.unsent_count() {
-            return Err(TermFault::CountFull);
+        match self.prepare(self.unsent_count()) {
+            Ok(mut out) => {
+                self.compose_unsent(&mut out);
+                Ok(out.into_batch())
+            }
+            Err(why) => Err(why),
         }
-        let Ok(mut out) = Outbox::with_room(self.alloc, 1) else {
-            return Err(TermFault::OutOfMemory);
-        };
-        self.compose_unsent(&mut out);
-        Ok(out.into_batch())
     }
 
     /// Counts a message and takes its lock. `asks` tells that it is a request, whose file then awaits its data.
@@ -53,10 +52,9 @@ impl Terminal {
         requires opened { IsTrue (is_open self.old tag) }
         ensures { self.new ≡ lock_added (Lock.FileLock tag) asks self.old }
     {
-        let mut window = self.files.take_window(tag);
+        let window = self.files.window_mut(tag);
         window.locks += 1;
-        window.awaits = either(window.awaits, asks);
-        self.files.put_window(tag, window);
+        window.awaits = window.awaits || asks;
         self.sent += 1;
     }
 
@@ -75,7 +73,7 @@ impl Terminal {
     }
 
     /// Returns how many messages the unsent runes make: 1, or 0 if there are none.
-    pub(crate) fn unsent_count(&self) -> u64
+    pub(crate) fn unsent_count(&self) -> usize
         ensures { result ≡ length (unsent_message self.now.unsent) }
     {
         if self.unsent.is_some() { 1 } else { 0 }
@@ -84,10 +82,10 @@ impl Terminal {
     /// Composes the unsent runes, if there are any. Nothing is unsent afterwards.
     pub(crate) fn compose_unsent(&mut self, out: &mut Outbox)
         requires counts { self.old.sent + length (unsent_message self.old.unsent) ≤ most_count }
-        requires room { 0 < out.old.room }
+        requires room { length (unsent_message self.old.unsent) ≤ out.old.room }
         ensures flushed { self.new ≡ (flushed self.old).0 }
         ensures messages { out.new.messages ≡ out.old.messages ++ (flushed self.old).1 }
-        ensures room { out.old.room ≤ out.new.room + 1 }
+        ensures room { out.old.room ≤ out.new.room + length (unsent_message self.old.unsent) }
     {
         if let Some(unsent) = self.unsent.take() {
             self.compose(Tmesg::Ttype(unsent.file, unsent.place, unsent.runes), out);
@@ -100,29 +98,27 @@ impl Terminal {
         ensures { IsAnswer self.old self.new result (countable (sends self.old unchanged (message ∷ []))) }
     {
         let count = 1 + self.unsent_count();
-        if u64::MAX - self.sent < count {
-            return Err(TermFault::CountFull);
+        match self.prepare(count) {
+            Ok(mut out) => {
+                self.send_prepared(message, &mut out);
+                Ok(out.into_batch())
+            }
+            Err(why) => Err(why),
         }
-        let Ok(mut out) = Outbox::with_room(self.alloc, 2) else {
-            return Err(TermFault::OutOfMemory);
-        };
-        self.compose_unsent(&mut out);
-        self.compose(message, &mut out);
-        Ok(out.into_batch())
     }
 
-    /// Makes an outbox with room for `n` messages, after a test that `count` more can be counted. It comes before the first change of a
-    /// call. Errors, in this order: `CountFull`; `OutOfMemory`.
-    pub(crate) fn prepare(&self, count: u64, n: usize) -> Result<Outbox, TermFault>
-        ensures ok { IfOk result (λ out. out ≡ record { messages = []; room = n }) }
+    /// Makes an outbox with room for `count` messages, after a test that so many more can be counted. It comes before the first change of a
+    /// call, and asks for no memory if `count` is 0. Errors, in this order: `CountFull`; `OutOfMemory`.
+    pub(crate) fn prepare(&self, count: usize) -> Result<Outbox, TermFault>
+        ensures ok { IfOk result (λ out. out ≡ record { messages = []; room = count }) }
         ensures counts { OnOk result (self.now.sent + count ≤ most_count) }
         ensures full { IfErr result (λ why. ((why ≡ TermFault.OutOfMemory) × (self.now.sent + count ≤ most_count))
             ⊎ ((why ≡ TermFault.CountFull) × (most_count < self.now.sent + count))) }
     {
-        if u64::MAX - self.sent < count {
+        if u64::MAX - self.sent < count as u64 {
             return Err(TermFault::CountFull);
         }
-        let Ok(out) = Outbox::with_room(self.alloc, n) else {
+        let Ok(out) = Outbox::with_room(self.alloc, count) else {
             return Err(TermFault::OutOfMemory);
         };
         Ok(out)
@@ -132,43 +128,54 @@ impl Terminal {
     pub(crate) fn send_prepared(&mut self, message: Tmesg, out: &mut Outbox)
         requires counts { self.old.sent + length (unsent_message self.old.unsent) < most_count }
         requires opened { IsTrue (is_lockable self.old (lock_of message)) }
-        requires room { 1 < out.old.room }
+        requires room { length (unsent_message self.old.unsent) < out.old.room }
         ensures sent { self.new ≡ (sends self.old unchanged (message ∷ [])).0 }
         ensures messages { out.new.messages ≡ out.old.messages ++ (sends self.old unchanged (message ∷ [])).1 }
-        ensures room { out.old.room ≤ out.new.room + 2 }
     {
         self.compose_unsent(out);
         self.compose(message, out);
     }
 
-    /// Returns the request that a file wants: for the first stretch of gaps in its view, at most 512 of them. `None` if there is no gap,
+    /// Returns the request that a file wants: for the first stretch of gaps in its view, at most `MOST_IN_MESSAGE` of them. `None` if there is no gap,
     /// the file is not open, the session is over, or a request is awaited already. The cost goes by the sections before the gap.
     pub(crate) fn wanted(&self, tag: u16) -> Option<Tmesg>
         ensures { result ≡ wanted self.now tag }
     {
         self.known_window(tag);
         match self.files.window(tag) {
-            Some(window) => {
-                if self.exited || window.awaits {
-                    return None;
-                }
-                request_in(window, tag)
-            }
+            Some(window) => self.wanted_from(tag, window.view_start, window.view_length),
             None => None,
         }
     }
+
+    /// Returns the request that an open file will want once it is shown from `p` on, `n` runes and gaps at most. Its view is still the old
+    /// one.
+    pub(crate) fn wanted_from(&self, tag: u16, p: u32, n: u32) -> Option<Tmesg>
+        requires opened { IsTrue (is_open self.now tag) }
+        requires within { p ≤ length (window_at self.now tag).rasp }
+        ensures { result ≡ wanted (shown_from self.now tag p n) tag }
+    {
+        let Some(window) = self.files.window(tag) else {
+            unreachable!()
+        };
+        if self.exited || window.awaits {
+            return None;
+        }
+        request_from(window, tag, p, n)
+    }
 }
 
-/// Returns the request for the first stretch of gaps in the view of a window, if it has one.
-fn request_in(window: &Window, tag: u16) -> Option<Tmesg>
-    requires { window.now.view_start ≤ length window.now.rasp }
-    ensures { result ≡ request_for tag (hole_within window.now.rasp window.now.view_start (view_end window.now)) }
+/// Returns the request for the first stretch of gaps from `p` on, among `n` runes and gaps, if there is one.
+fn request_from(window: &Window, tag: u16, p: u32, n: u32) -> Option<Tmesg>
+    requires { p ≤ length window.now.rasp }
+    ensures { result ≡ request_for tag (hole_within window.now.rasp p (min (p + n) (length window.now.rasp))) }
 {
-    match window
-        .rasp
-        .first_hole(window.view_start, end_of_view(window))
-    {
-        Some(hole) => Some(Tmesg::Trequest(tag, hole.0, (hole.1 - hole.0).min(512) as u16)),
+    let end = p + n.min(window.rasp.len() - p);
+    match window.rasp.first_hole(p, end) {
+        Some(hole) => {
+            let count = (hole.1 - hole.0).min(MOST_IN_MESSAGE as u32) as u16;
+            Some(Tmesg::Trequest(tag, hole.0, count))
+        }
         None => None,
     }
 }

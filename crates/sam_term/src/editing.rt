@@ -2,19 +2,15 @@
 //! composes a message, by `send_for_event` in `acting`.) A `make_` method does the oldest held event and drops it. Its errors, in this
 //! order: `CountFull`; `OutOfMemory`. The terminal is then unchanged.
 
-ghost use Rattle.std.specs.Prelude.{◌≡◌, ◌+◌, ◌<◌, ◌≤◌, ◌++◌, ◌∷◌, [], length, min, IsTrue, None, drop};
-ghost use Rattle.sam_rasp.specs.Rasp.{hole_within};
+ghost use Rattle.std.specs.Prelude.{◌≡◌, ◌+◌, ◌<◌, ◌≤◌, ◌++◌, ◌∷◌, [], length, IsTrue, None, drop};
 ghost use Rattle.sam_runes.specs.Texts.{most_count};
 ghost use Rattle.sam_term.specs.Acting.{made_first, free_first, first_event, is_snarfing};
 ghost use Rattle.sam_term.specs.Editing.{shown_from};
-ghost use Rattle.sam_term.specs.Locking.{is_lockable};
-ghost use Rattle.sam_term.specs.Locks.{lock_of};
 ghost use Rattle.sam_term.specs.Taking.{IsAnswer, done};
-ghost use Rattle.sam_term.specs.Term.{is_open, wanted, request_for, window_at, del_rasp, flushed, unsent_message, sends, unchanged};
+ghost use Rattle.sam_term.specs.Term.{is_open, window_at, del_rasp, flushed, unsent_message};
 
 use crate::event::{Acted, UserEvent};
 use crate::fault::TermFault;
-use crate::files::Window;
 use crate::outbox::Outbox;
 use crate::term::Terminal;
 use sam_mesg::{Batch, Tmesg};
@@ -44,7 +40,7 @@ impl Terminal {
             return Ok(self.done_quietly());
         }
         let count = 2 + self.unsent_count();
-        match self.prepare(count, 3) {
+        match self.prepare(count) {
             Ok(mut out) => {
                 self.drop_first();
                 self.cut_selected(tag, dot, &mut out);
@@ -65,10 +61,10 @@ impl Terminal {
     {
         let selected = self.dot_of(tag);
         if selected.0 == selected.1 {
-            return self.send_last(Tmesg::Tpaste(tag, selected.0));
+            return self.send_for_event(Tmesg::Tpaste(tag, selected.0));
         }
         let count = 2 + self.unsent_count();
-        match self.prepare(count, 3) {
+        match self.prepare(count) {
             Ok(mut out) => {
                 self.drop_first();
                 self.cut_selected(tag, selected, &mut out);
@@ -91,7 +87,7 @@ impl Terminal {
             self.drop_first();
             return Ok(self.done_quietly());
         }
-        self.send_last(Tmesg::Tsnarf(tag, dot.0, dot.1))
+        self.send_for_event(Tmesg::Tsnarf(tag, dot.0, dot.1))
     }
 
     /// Does a `View`: shows a file from `p` on, `n` runes and gaps at most, and composes the request that it then wants, if any.
@@ -106,7 +102,7 @@ impl Terminal {
             return Ok(self.done_quietly());
         };
         let count = 1 + self.unsent_count();
-        match self.prepare(count, 2) {
+        match self.prepare(count) {
             Ok(mut out) => {
                 self.drop_first();
                 self.set_view(tag, p, n);
@@ -124,7 +120,7 @@ impl Terminal {
         ensures { IsAnswer self.old self.new result (done (made_first self.old)) }
     {
         let count = 1 + self.unsent_count();
-        match self.prepare(count, 2) {
+        match self.prepare(count) {
             Ok(mut out) => {
                 let text = self.take_snarf();
                 self.send_prepared(Tmesg::Tsetsnarf(text), &mut out);
@@ -149,29 +145,15 @@ impl Terminal {
         }
     }
 
-    /// Composes the unsent runes and then the message of the oldest event, which is dropped.
-    fn send_last(&mut self, message: Tmesg) -> Result<Acted, TermFault>
-        requires opened { IsTrue (is_lockable self.old (lock_of message)) }
-        ensures { IsAnswer self.old self.new result (done (sends (record self.old { held = drop 1 self.old.held }) unchanged (message ∷ []))) }
-    {
-        match self.send(message) {
-            Ok(batch) => {
-                self.drop_first();
-                Ok(Acted::Done(batch))
-            }
-            Err(why) => Err(why),
-        }
-    }
-
     /// Composes the unsent runes, and then takes the dot of a file out of its rasp. The caller composes the cut.
     pub(crate) fn cut_selected(&mut self, tag: u16, dot: (u32, u32), out: &mut Outbox)
         requires opened { IsTrue (is_open self.old tag) }
         requires dot { dot ≡ (window_at self.old tag).dot }
         requires counts { self.old.sent + length (unsent_message self.old.unsent) ≤ most_count }
-        requires room { 0 < out.old.room }
+        requires room { length (unsent_message self.old.unsent) ≤ out.old.room }
         ensures cut { self.new ≡ del_rasp (flushed self.old).0 tag dot.0 dot.1 }
         ensures messages { out.new.messages ≡ out.old.messages ++ (flushed self.old).1 }
-        ensures room { out.old.room ≤ out.new.room + 1 }
+        ensures room { out.old.room ≤ out.new.room + length (unsent_message self.old.unsent) }
     {
         self.known_window(tag);
         self.compose_unsent(out);
@@ -184,25 +166,9 @@ impl Terminal {
         requires within { p ≤ length (window_at self.old tag).rasp }
         ensures { self.new ≡ shown_from self.old tag p n }
     {
-        let mut window = self.files.take_window(tag);
+        let window = self.files.window_mut(tag);
         window.view_start = p;
         window.view_length = n;
-        self.files.put_window(tag, window);
-    }
-
-    /// Returns the request that an open file will want once it is shown from `p` on. Its view is still the old one.
-    fn wanted_from(&self, tag: u16, p: u32, n: u32) -> Option<Tmesg>
-        requires opened { IsTrue (is_open self.now tag) }
-        requires within { p ≤ length (window_at self.now tag).rasp }
-        ensures { result ≡ wanted (shown_from self.now tag p n) tag }
-    {
-        let Some(window) = self.files.window(tag) else {
-            unreachable!()
-        };
-        if self.exited || window.awaits {
-            return None;
-        }
-        request_from(window, tag, p, n)
     }
 
     /// Takes the oldest event, a `SetSnarf`, out of the held ones and returns its runes.
@@ -239,18 +205,6 @@ impl Terminal {
         ensures countable { self.now.sent ≤ most_count }
     {
         Acted::Done(Batch::from_vec(Vec::new(self.alloc)))
-    }
-}
-
-/// Returns the request for the first stretch of gaps from `p` on, among `n` runes and gaps, if there is one.
-fn request_from(window: &Window, tag: u16, p: u32, n: u32) -> Option<Tmesg>
-    requires { p ≤ length window.now.rasp }
-    ensures { result ≡ request_for tag (hole_within window.now.rasp p (min (p + n) (length window.now.rasp))) }
-{
-    let end = p + n.min(window.rasp.len() - p);
-    match window.rasp.first_hole(p, end) {
-        Some(hole) => Some(Tmesg::Trequest(tag, hole.0, (hole.1 - hole.0).min(512) as u16)),
-        None => None,
     }
 }
 

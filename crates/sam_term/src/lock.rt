@@ -1,6 +1,6 @@
 //! The lock that each kind of message takes as it is composed, as in samterm, and small tests of texts and messages.
 
-ghost use Rattle.std.specs.Prelude.{◌≡◌, ◌||◌};
+ghost use Rattle.std.specs.Prelude.{◌≡◌};
 ghost use Rattle.sam_runes.specs.Texts.{ends_line, snarf_limit};
 ghost use Rattle.sam_term.specs.Locking.{is_request};
 ghost use Rattle.sam_term.specs.Locks.{lock_of};
@@ -28,13 +28,6 @@ pub fn ends_line(text: &Runes) -> bool
         Some(rune) => *rune == '\n',
         None => false,
     }
-}
-
-/// Returns whether `a` or `b` is true, or both.
-pub fn either(a: bool, b: bool) -> bool
-    ensures { result ≡ (a || b) }
-{
-    a || b
 }
 
 /// Returns whether a message is a `Trequest`, whose file then awaits its `Hdata`.

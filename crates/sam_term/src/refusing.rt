@@ -8,6 +8,7 @@ ghost use Rattle.sam_term.specs.Term.{window_at, unknown_file, not_opened, bound
 use crate::fault::TermFault;
 use crate::term::Terminal;
 use sam_mesg::Hmesg;
+use sam_runes::MAX_RUNES;
 
 impl Terminal {
     /// Returns what stands against a message of the host: the first of its kind's tests that holds, in the order of `TermFault`, or `None`.
@@ -146,7 +147,7 @@ impl Terminal {
     }
 
     /// Tests that the file is known and open, and that `n` more runes or gaps may come in at `p`. Faults, in this order: `NoFile`;
-    /// `NotOpen`; `BadPosition` if `p` is past the end; `TooLong` if there would be more than 1,000,000.
+    /// `NotOpen`; `BadPosition` if `p` is past the end; `TooLong` if there would be more than `MAX_RUNES`.
     fn refusal_of_growth(&self, tag: u16, p: u32, n: usize) -> Option<TermFault>
         ensures { result ≡ first_of_checks (unknown_file self.now tag ∷ not_opened self.now tag ∷ past_end self.now tag p ∷ no_room self.now tag n ∷ []) }
     {
@@ -160,7 +161,8 @@ impl Terminal {
         if len < p as usize {
             return Some(TermFault::BadPosition);
         }
-        if 1_000_000 < len || 1_000_000 - len < n {
+        let most = MAX_RUNES as usize;
+        if most < len || most - len < n {
             return Some(TermFault::TooLong);
         }
         None

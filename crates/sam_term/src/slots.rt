@@ -1,10 +1,11 @@
-//! The list of the terminal's files by tag. It finds, adds, changes and frees what stands at a tag, and hands a window out to be changed
-//! and put back. It holds no event back, composes no message and moves no unsent runes: the methods of `Terminal` in `windows` stand above
+//! The list of the terminal's files by tag. It finds, adds and frees what stands at a tag, and lends a file or its window to be changed. It holds no event back, composes no message and moves no unsent runes: the methods of `Terminal` in `windows` stand above
 //! it, and the records of `files` stand in it.
 
-ghost use Rattle.std.specs.Prelude.{◌≡◌, ◌++◌, ◌∷◌, ◌+◌, ◌-◌, ◌<◌, ◌≤◌, ◌^◌, [], length, OnErr, OnOk, IsTrue, is_some, Some, None, option_copied, replicate, vec_len, vec_capacity, option_map};
+ghost use Rattle.std.specs.Prelude.{◌≡◌, ◌++◌, ◌∷◌, ◌+◌, ◌-◌, ◌<◌, ◌≤◌, ◌^◌, [], length, OnErr, OnOk, IsTrue, is_some, Some, None, option_copied, replicate, vec_len, vec_capacity, option_map, unwrap_or};
 ghost use Rattle.sam_runes.specs.Slots.{slot, put_slot, free_slot, map_slots};
-ghost use Rattle.sam_term.specs.Term.{known_in, is_any_locked, freed_known};
+ghost use Rattle.std.specs.Borrow.{sem};
+ghost use Rattle.sam_term.specs.Lending.{LendsFile, LendsKnown, LendsOpen, LendsWindow};
+ghost use Rattle.sam_term.specs.Term.{blank_known, freed_known, is_any_locked, known_in, window_in};
 
 use crate::files::{KnownFile, Window};
 use sam_runes::Runes;
@@ -67,21 +68,22 @@ impl KnownFiles {
         is_any_locked(&self.slots)
     }
 
-    /// Takes the window of an open file out and returns it. The caller changes it and puts it back.
-    pub fn take_window(&mut self, tag: u16) -> Window
-        requires { IsTrue (is_some (known_in self.old tag).window) }
-        ensures window { (known_in self.old tag).window ≡ Some result }
-        ensures files { self.new ≡ put_slot self.old tag (record (known_in self.old tag) { window = None }) }
+    /// Lends a file that is known, to be changed.
+    pub fn file_mut(&mut self, tag: u16) -> &mut KnownFile
+        requires { IsTrue (is_some (slot self.old tag)) }
+        ensures* writes_back { sem 𝓛 (LendsFile self.entry tag result) }
+        ensures value { result.now ≡ known_in self.old tag }
     {
-        take_window(&mut self.slots, tag as usize)
+        known_mut(&mut self.slots[tag as usize])
     }
 
-    /// Puts a window into a file that is known; the one that it had, if any, is dropped.
-    pub fn put_window(&mut self, tag: u16, window: Window)
-        requires { IsTrue (is_some (slot self.old tag)) }
-        ensures { self.new ≡ put_slot self.old tag (record (known_in self.old tag) { window = Some window }) }
+    /// Lends the window of an open file, to be changed.
+    pub fn window_mut(&mut self, tag: u16) -> &mut Window
+        requires { IsTrue (is_some (known_in self.old tag).window) }
+        ensures* writes_back { sem 𝓛 (LendsWindow self.entry tag result) }
+        ensures value { result.now ≡ window_in self.old tag }
     {
-        put_window(&mut self.slots, tag as usize, window);
+        open_window(&mut self.slots[tag as usize])
     }
 
     /// Puts a file at a tag; what stood there is dropped. All memory is had before the first change: the only error is want of memory, and
@@ -94,30 +96,6 @@ impl KnownFiles {
         add_slots(&mut self.slots, index)?;
         self.slots[index] = Some(file);
         Ok(())
-    }
-
-    /// Gives a file that is known another name.
-    pub fn set_name(&mut self, tag: u16, name: Runes)
-        requires { IsTrue (is_some (slot self.old tag)) }
-        ensures { self.new ≡ put_slot self.old tag (record (known_in self.old tag) { name = name }) }
-    {
-        set_name(&mut self.slots, tag as usize, name);
-    }
-
-    /// Marks a file that is known as dirty, or as clean.
-    pub fn set_dirty(&mut self, tag: u16, dirty: bool)
-        requires { IsTrue (is_some (slot self.old tag)) }
-        ensures { self.new ≡ put_slot self.old tag (record (known_in self.old tag) { dirty = dirty }) }
-    {
-        set_dirty(&mut self.slots, tag as usize, dirty);
-    }
-
-    /// Drops the window of a file that is known, if it has one.
-    pub fn shut(&mut self, tag: u16)
-        requires { IsTrue (is_some (slot self.old tag)) }
-        ensures { self.new ≡ put_slot self.old tag (record (known_in self.old tag) { window = None }) }
-    {
-        shut(&mut self.slots, tag as usize);
     }
 
     /// Frees every lock of every file, after which no request is awaited either.
@@ -171,12 +149,31 @@ fn take_known(files: &mut [Option<KnownFile>], index: usize) -> KnownFile
     file
 }
 
-/// Puts a file into a slot that is in the list.
-fn put_known(files: &mut [Option<KnownFile>], index: usize, file: KnownFile)
-    requires { index < length files.old }
-    ensures { files.new ≡ put_slot files.old index file }
+/// Lends the file of a slot that has one.
+fn known_mut(slot: &mut Option<KnownFile>) -> &mut KnownFile
+    requires { IsTrue (is_some slot.old) }
+    ensures* writes_back { sem 𝓛 (LendsKnown slot.entry result) }
+    ensures value { slot.old ≡ Some result.now }
 {
-    files[index] = Some(file);
+    match slot {
+        Some(file) => file,
+        None => unreachable!(),
+    }
+}
+
+/// Lends the window of a slot whose file is open.
+fn open_window(slot: &mut Option<KnownFile>) -> &mut Window
+    requires { IsTrue (is_some (unwrap_or slot.old blank_known).window) }
+    ensures* writes_back { sem 𝓛 (LendsOpen slot.entry result) }
+    ensures value { (unwrap_or slot.old blank_known).window ≡ Some result.now }
+{
+    match slot {
+        Some(file) => match &mut file.window {
+            Some(window) => window,
+            None => unreachable!(),
+        },
+        None => unreachable!(),
+    }
 }
 
 /// Adds empty slots up to that of an index; none if it is there already. All memory is had before the first: the only error is want of
@@ -207,36 +204,6 @@ fn push_slots(files: &mut Vec<Option<KnownFile>>, more: usize)
     }
 }
 
-/// Gives a file another name.
-fn set_name(files: &mut [Option<KnownFile>], index: usize, name: Runes)
-    requires { IsTrue (is_some (slot files.old index)) }
-    ensures { files.new ≡ put_slot files.old index (record (known_in files.old index) { name = name }) }
-{
-    let mut file = take_known(files, index);
-    file.name = name;
-    put_known(files, index, file);
-}
-
-/// Marks a file as dirty, or as clean.
-fn set_dirty(files: &mut [Option<KnownFile>], index: usize, dirty: bool)
-    requires { IsTrue (is_some (slot files.old index)) }
-    ensures { files.new ≡ put_slot files.old index (record (known_in files.old index) { dirty = dirty }) }
-{
-    let mut file = take_known(files, index);
-    file.dirty = dirty;
-    put_known(files, index, file);
-}
-
-/// Drops the window of a file.
-fn shut(files: &mut [Option<KnownFile>], index: usize)
-    requires { IsTrue (is_some (slot files.old index)) }
-    ensures { files.new ≡ put_slot files.old index (record (known_in files.old index) { window = None }) }
-{
-    let mut file = take_known(files, index);
-    file.window = None;
-    put_known(files, index, file);
-}
-
 /// Frees every lock of every file, after which no request is awaited either.
 fn free_all(files: &mut [Option<KnownFile>])
     ensures { files.new ≡ map_slots freed_known files.old }
@@ -256,30 +223,6 @@ fn free_one(file: &mut Option<KnownFile>)
             window.awaits = false;
         }
     }
-}
-
-/// Takes the window of an open file out of its slot.
-fn take_window(files: &mut [Option<KnownFile>], index: usize) -> Window
-    requires { IsTrue (is_some (known_in files.old index).window) }
-    ensures window { (known_in files.old index).window ≡ Some result }
-    ensures files { files.new ≡ put_slot files.old index (record (known_in files.old index) { window = None }) }
-{
-    let mut file = take_known(files, index);
-    let Some(window) = file.window.take() else {
-        unreachable!()
-    };
-    put_known(files, index, file);
-    window
-}
-
-/// Puts a window into the slot of a file.
-fn put_window(files: &mut [Option<KnownFile>], index: usize, window: Window)
-    requires { IsTrue (is_some (slot files.old index)) }
-    ensures { files.new ≡ put_slot files.old index (record (known_in files.old index) { window = Some window }) }
-{
-    let mut file = take_known(files, index);
-    file.window = Some(window);
-    put_known(files, index, file);
 }
 
 /// Returns whether some file has a lock.

@@ -162,7 +162,7 @@ impl Terminal {
             return Ok(self.nothing());
         };
         let count = 1 + self.unsent_count();
-        match self.prepare(count, 2) {
+        match self.prepare(count) {
             Err(why) => Err(why),
             Ok(mut out) => {
                 self.free_lock(tag);
@@ -178,9 +178,8 @@ impl Terminal {
         requires locked { 0 < (window_at self.old tag).locks }
         ensures { self.new ≡ took_unlockfile self.old tag }
     {
-        let mut window = self.files.take_window(tag);
+        let window = self.files.window_mut(tag);
         window.locks -= 1;
-        self.files.put_window(tag, window);
     }
 
     /// Takes `Hbindname`: opens a file that is known, with an empty rasp.
@@ -197,7 +196,7 @@ impl Terminal {
             locks: 0,
             awaits: false,
         };
-        self.files.put_window(tag, window);
+        self.files.file_mut(tag).window = Some(window);
     }
 
     /// Takes `Hnewname`: makes the tag known, as a file that has no name yet and is not open.
@@ -221,7 +220,7 @@ impl Terminal {
         requires { IsTrue (is_known self.old tag) }
         ensures { self.new ≡ put_known self.old tag (record (known_at self.old tag) { name = name }) }
     {
-        self.files.set_name(tag, name);
+        self.files.file_mut(tag).name = name;
     }
 
     /// Takes `Hdirty` or `Hclean`: marks a file that is known as dirty or clean.
@@ -229,7 +228,7 @@ impl Terminal {
         requires { IsTrue (is_known self.old tag) }
         ensures { self.new ≡ put_known self.old tag (record (known_at self.old tag) { dirty = dirty }) }
     {
-        self.files.set_dirty(tag, dirty);
+        self.files.file_mut(tag).dirty = dirty;
     }
 
     /// Takes `Hdelname`: drops a file that is not open, whose tag is not known afterwards.
@@ -287,7 +286,7 @@ impl Terminal {
         requires { IsTrue (is_known self.old tag) }
         ensures { self.new ≡ took_close self.old tag }
     {
-        self.files.shut(tag);
+        self.files.file_mut(tag).window = None;
         drop_unsent(&mut self.unsent, tag);
     }
 

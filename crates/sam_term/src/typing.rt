@@ -1,18 +1,18 @@
 //! What the event `Typed` does: its runes come in the place of the dot, join the unsent ones if they follow them, and go to the host at
 //! once if they end a command line.
 
-ghost use Rattle.std.specs.Prelude.{◌≡◌, ◌+◌, ◌-◌, ◌<◌, ◌≤◌, ◌^◌, ◌++◌, ◌==◌, ◌&&◌, [], length, OnErr, OnOk, IfOk, IsTrue, None, Some, false, nat_le, not, drop, if◌then◌else◌};
+ghost use Rattle.std.specs.Prelude.{◌≡◌, ◌+◌, ◌-◌, ◌<◌, ◌≤◌, ◌^◌, ◌++◌, ◌==◌, ◌&&◌, [], length, OnErr, OnOk, IfOk, IsTrue, None, Some, false, nat_le, not, is_some, option_map, drop, if◌then◌else◌};
 ghost use Rattle.sam_rasp.specs.Rasp.{place_after_ins, place_after_del};
 ghost use Rattle.sam_runes.specs.Texts.{is_empty, max_runes, most_count, most_in_message};
 ghost use Rattle.sam_term.specs.Acting.{first_event, free_first, is_typing, made_first};
-ghost use Rattle.sam_term.specs.Editing.{typed_over, typed_runes, typed_file, cut_message, one_if, flushed_if};
+ghost use Rattle.sam_term.specs.Editing.{typed_over, typed_runes, typed_file, joined_at, lengthened, shortened, cut_message, one_if, flushed_if};
 ghost use Rattle.sam_term.specs.Locks.{is_command_line};
 ghost use Rattle.sam_term.specs.Taking.{IsAnswer, done};
-ghost use Rattle.sam_term.specs.Term.{is_open, window_at, put_window, all_composed, unsent_message, joins, joined};
+ghost use Rattle.sam_term.specs.Term.{is_open, window_at, put_window, all_composed, unsent_message, joins};
 
 use crate::event::{Acted, UserEvent};
 use crate::fault::TermFault;
-use crate::files::{Unsent, Window};
+use crate::files::{MOST_IN_MESSAGE, Unsent, Window};
 use crate::lock::ends_line;
 use crate::outbox::Outbox;
 use crate::term::Terminal;
@@ -107,18 +107,54 @@ fn follows(unsent: &Unsent, tag: u16, p: u32, n: usize) -> bool
     ensures { result ≡ (unsent.now.file == tag && unsent.now.place + length unsent.now.runes == p && nat_le (length unsent.now.runes + n) most_in_message) }
 {
     let count = unsent.runes.len();
-    unsent.file == tag && unsent.place as u64 + count as u64 == p as u64 && count + n <= 512
+    unsent.file == tag
+        && unsent.place as u64 + count as u64 == p as u64
+        && count + n <= MOST_IN_MESSAGE
+}
+
+/// Puts runes behind the unsent ones, if there are any. The only error is want of memory, and nothing has changed then.
+fn lengthen(unsent: &mut Option<Unsent>, more: &[char]) -> Result<(), AllocError>
+    ensures ok { OnOk result (unsent.new ≡ option_map (lengthened more.now) unsent.old) }
+    ensures err { OnErr result (unsent.new ≡ unsent.old) }
+{
+    let Some(before) = unsent.take() else {
+        return Ok(());
+    };
+    let mut runes = before.runes.into_vec();
+    let grown = runes.extend_from_slice(more);
+    *unsent = Some(Unsent {
+        file: before.file,
+        place: before.place,
+        runes: Runes::from_vec(runes),
+    });
+    grown
+}
+
+/// Takes the last `n` of the unsent runes off, if there are any.
+fn shorten(unsent: &mut Option<Unsent>, n: usize)
+    ensures { unsent.new ≡ option_map (shortened n) unsent.old }
+{
+    let Some(before) = unsent.take() else {
+        return;
+    };
+    let mut runes = before.runes.into_vec();
+    runes.truncate(runes.len().saturating_sub(n));
+    *unsent = Some(Unsent {
+        file: before.file,
+        place: before.place,
+        runes: Runes::from_vec(runes),
+    });
 }
 
 /// Returns how many messages the cut of a dot makes: 1, or 0 if it is empty.
-fn cut_count(dot: (u32, u32)) -> u64
+fn cut_count(dot: (u32, u32)) -> usize
     ensures { result ≡ one_if (not (dot.0 == dot.1)) }
 {
     if dot.0 == dot.1 { 0 } else { 1 }
 }
 
 /// Returns how many messages the typed runes make at once: 1 if they end a command line, else 0.
-fn line_count(line: bool) -> u64
+fn line_count(line: bool) -> usize
     ensures { result ≡ one_if line }
 {
     if line { 1 } else { 0 }
@@ -171,7 +207,7 @@ impl Terminal {
             return Ok(self.done_quietly());
         }
         let count = 1 + self.unsent_count();
-        match self.prepare(count, 2) {
+        match self.prepare(count) {
             Ok(mut out) => {
                 self.drop_first();
                 self.cut_selected(tag, dot, &mut out);
@@ -193,16 +229,13 @@ impl Terminal {
         requires joins { IsTrue (joins self.old.unsent tag dot.0 (typed_runes (first_event self.old.held))) }
         ensures { IsAnswer self.old self.new result (done (made_first self.old)) }
     {
-        match self.prepare(line_count(line), 1) {
+        match self.prepare(line_count(line)) {
             Ok(mut out) => {
-                let Ok(unsent) = self.joined_unsent(tag, dot.0) else {
-                    return Err(TermFault::OutOfMemory);
-                };
-                let Ok(_) = self.type_first(tag) else {
+                let Ok(_) = self.join_first(tag) else {
                     return Err(TermFault::OutOfMemory);
                 };
                 self.drop_first();
-                self.keep_typed(unsent, line, &mut out);
+                self.compose_line(line, &mut out);
                 Ok(self.done_with(out))
             }
             Err(why) => Err(why),
@@ -222,7 +255,7 @@ impl Terminal {
     {
         self.known_window(tag);
         let count = self.unsent_count() + cut_count(dot) + line_count(line);
-        match self.prepare(count, 3) {
+        match self.prepare(count) {
             Ok(mut out) => {
                 let Ok(before) = self.type_first(tag) else {
                     return Err(TermFault::OutOfMemory);
@@ -242,25 +275,28 @@ impl Terminal {
         }
     }
 
-    /// Copies the unsent runes, and those of the oldest event behind them, so that want of memory changes nothing.
-    fn joined_unsent(&self, tag: u16, p: u32) -> Result<Unsent, AllocError>
-        requires first { IsTrue (is_typing (first_event self.now.held)) }
-        requires joins { IsTrue (joins self.now.unsent tag p (typed_runes (first_event self.now.held))) }
-        ensures { IfOk result (λ unsent. unsent ≡ joined self.now.unsent tag p (typed_runes (first_event self.now.held))) }
+    /// Puts the runes of the oldest event in the place of the dot of their file, which is empty, and behind the unsent ones, which they
+    /// join. The only error is want of memory, and the terminal is then unchanged.
+    fn join_first(&mut self, tag: u16) -> Result<(), AllocError>
+        requires opened { IsTrue (is_open self.old tag) }
+        requires first { IsTrue (is_typing (first_event self.old.held)) }
+        requires size { length (window_at self.old tag).rasp + length (typed_runes (first_event self.old.held)) ≤ max_runes }
+        requires nothing { (window_at self.old tag).dot.0 ≡ (window_at self.old tag).dot.1 }
+        requires joins { IsTrue (joins self.old.unsent tag (window_at self.old tag).dot.0 (typed_runes (first_event self.old.held))) }
+        ensures ok { OnOk result (self.new ≡ joined_at self.old tag (typed_runes (first_event self.old.held))) }
+        ensures err { OnErr result (self.new ≡ self.old) }
     {
         let Some(event) = self.held.first() else {
             unreachable!()
         };
-        let Some(before) = &self.unsent else {
-            unreachable!()
-        };
-        let mut runes = Vec::from_slice(self.alloc, before.runes.as_slice())?;
-        runes.extend_from_slice(typed_runes(event))?;
-        Ok(Unsent {
-            file: before.file,
-            place: before.place,
-            runes: Runes::from_vec(runes),
-        })
+        let runes = typed_runes(event);
+        lengthen(&mut self.unsent, runes)?;
+        // Only the unsent runes can be cut back without memory, so they come first.
+        let typed = type_over(self.files.window_mut(tag), runes);
+        if typed.is_err() {
+            shorten(&mut self.unsent, runes.len());
+        }
+        typed
     }
 
     /// Takes the oldest event, a `Typed`, out of the held ones and returns its runes.
@@ -278,10 +314,10 @@ impl Terminal {
     /// Composes runes that `type_first` handed over as they were unsent, if there were any.
     fn compose_runes(&mut self, before: Option<Unsent>, out: &mut Outbox)
         requires counts { self.old.sent + length (unsent_message before) ≤ most_count }
-        requires room { 0 < out.old.room }
+        requires room { length (unsent_message before) ≤ out.old.room }
         ensures composed { self.new ≡ all_composed self.old (unsent_message before) }
         ensures messages { out.new.messages ≡ out.old.messages ++ unsent_message before }
-        ensures room { out.old.room ≤ out.new.room + 1 }
+        ensures room { out.old.room ≤ out.new.room + length (unsent_message before) }
     {
         if let Some(unsent) = before {
             self.compose(Tmesg::Ttype(unsent.file, unsent.place, unsent.runes), out);
@@ -291,10 +327,10 @@ impl Terminal {
     /// Composes the cut of a dot, if it is not empty. The rasp was cut before.
     fn compose_cut(&mut self, tag: u16, dot: (u32, u32), out: &mut Outbox)
         requires counts { self.old.sent + one_if (not (dot.0 == dot.1)) ≤ most_count }
-        requires room { 0 < out.old.room }
+        requires room { one_if (not (dot.0 == dot.1)) ≤ out.old.room }
         ensures composed { self.new ≡ all_composed self.old (cut_message tag dot) }
         ensures messages { out.new.messages ≡ out.old.messages ++ cut_message tag dot }
-        ensures room { out.old.room ≤ out.new.room + 1 }
+        ensures room { out.old.room ≤ out.new.room + one_if (not (dot.0 == dot.1)) }
     {
         if dot.0 == dot.1 {
             return;
@@ -307,11 +343,22 @@ impl Terminal {
         requires within { unsent.place ≤ (window_at self.old unsent.file).dot.1 }
         requires short { length unsent.runes ≤ most_in_message }
         requires counts { self.old.sent + one_if line ≤ most_count }
-        requires room { 0 < out.old.room }
+        requires room { one_if line ≤ out.old.room }
         ensures kept { self.new ≡ (flushed_if line (record self.old { unsent = Some unsent })).0 }
         ensures messages { out.new.messages ≡ out.old.messages ++ (flushed_if line (record self.old { unsent = Some unsent })).1 }
     {
         self.unsent = Some(unsent);
+        self.compose_line(line, out);
+    }
+
+    /// Composes the unsent runes at once if they end a command line.
+    fn compose_line(&mut self, line: bool, out: &mut Outbox)
+        requires some { IsTrue (is_some self.old.unsent) }
+        requires counts { self.old.sent + one_if line ≤ most_count }
+        requires room { one_if line ≤ out.old.room }
+        ensures composed { self.new ≡ (flushed_if line self.old).0 }
+        ensures messages { out.new.messages ≡ out.old.messages ++ (flushed_if line self.old).1 }
+    {
         if line {
             self.compose_unsent(out);
         }
@@ -330,12 +377,7 @@ impl Terminal {
         let Some(event) = self.held.first() else {
             unreachable!()
         };
-        let mut window = self.files.take_window(tag);
-        let typed = type_over(&mut window, typed_runes(event));
-        self.files.put_window(tag, window);
-        if let Err(error) = typed {
-            return Err(error);
-        }
+        type_over(self.files.window_mut(tag), typed_runes(event))?;
         Ok(self.unsent.take())
     }
 }

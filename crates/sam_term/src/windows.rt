@@ -1,5 +1,5 @@
-//! The methods of `Terminal` that read or change the window of one file. A change takes the window out of the list in `slots`, has `moving`
-//! change it, and puts it back; as runes or gaps come or go, the place of the unsent runes moves along. `files` has the records, and
+//! The methods of `Terminal` that read or change the window of one file. The list in `slots` lends the window, and
+//! `moving` changes it; as runes or gaps come or go, the place of the unsent runes moves along. `files` has the records, and
 //! `slots` knows only the list.
 
 ghost use Rattle.std.specs.Prelude.{◌≡◌, ◌+◌, ◌-◌, ◌≤◌, length, OnErr, OnOk, IsTrue, Some, None, map, replicate};
@@ -9,6 +9,7 @@ ghost use Rattle.sam_term.specs.Term.{is_open, is_known, window_at, set_view_sta
 
 use crate::moving::{cut_window, fill_window, grow_window, load_window, move_by_del, move_by_ins};
 use crate::term::Terminal;
+use sam_runes::MAX_RUNES;
 use std::alloc::AllocError;
 
 impl Terminal {
@@ -66,7 +67,7 @@ impl Terminal {
         }
     }
 
-    /// Tells what is true of each window: dot and view lie within the rasp, which has at most 1,000,000 runes and gaps, and it has no more
+    /// Tells what is true of each window: dot and view lie within the rasp, which has at most `MAX_RUNES` runes and gaps, and it has no more
     /// locks than messages were composed. It does nothing when the program runs.
     pub(crate) fn known_window(&self, tag: u16)
         ensures { FitsWindow self.now.sent (window_at self.now tag) }
@@ -74,14 +75,14 @@ impl Terminal {
         let _ = &self.alloc;
     }
 
-    /// Returns the most runes that may be typed in the place of a file's dot. The file then has 1,000,000 runes.
+    /// Returns the most runes that may be typed in the place of a file's dot. The file then has `MAX_RUNES`.
     pub(crate) fn room_beside_dot(&self, tag: u16) -> usize
         ensures room { result + length (window_at self.now tag).rasp ≡ max_runes + ((window_at self.now tag).dot.1 - (window_at self.now tag).dot.0) }
         ensures within { (window_at self.now tag).dot.1 - (window_at self.now tag).dot.0 ≤ length (window_at self.now tag).rasp }
     {
         self.known_window(tag);
         let dot = self.dot_of(tag);
-        1_000_000 - self.rasp_len(tag) + (dot.1 - dot.0) as usize
+        MAX_RUNES as usize - self.rasp_len(tag) + (dot.1 - dot.0) as usize
     }
 
     /// Has the view of an open file begin at `p`.
@@ -90,9 +91,7 @@ impl Terminal {
         requires within { p ≤ length (window_at self.old tag).rasp }
         ensures { self.new ≡ set_view_start self.old tag p }
     {
-        let mut window = self.files.take_window(tag);
-        window.view_start = p;
-        self.files.put_window(tag, window);
+        self.files.window_mut(tag).view_start = p;
     }
 
     /// Sets the dot of an open file, from `p` to `q`.
@@ -102,9 +101,7 @@ impl Terminal {
         requires within { q ≤ length (window_at self.old tag).rasp }
         ensures { self.new ≡ set_dot_of self.old tag (p, q) }
     {
-        let mut window = self.files.take_window(tag);
-        window.dot = (p, q);
-        self.files.put_window(tag, window);
+        self.files.window_mut(tag).dot = (p, q);
     }
 
     /// Puts `n` gaps into the rasp of an open file at `p`; dot, view and unsent runes move along. The only error is want of memory, and the
@@ -116,12 +113,7 @@ impl Terminal {
         ensures ok { OnOk result (self.new ≡ ins_rasp self.old tag p (replicate n None)) }
         ensures err { OnErr result (self.new ≡ self.old) }
     {
-        let mut window = self.files.take_window(tag);
-        let grown = grow_window(&mut window, p, n);
-        self.files.put_window(tag, window);
-        if let Err(error) = grown {
-            return Err(error);
-        }
+        grow_window(self.files.window_mut(tag), p, n)?;
         move_by_ins(&mut self.unsent, tag, p, n);
         Ok(())
     }
@@ -135,12 +127,7 @@ impl Terminal {
         ensures ok { OnOk result (self.new ≡ ins_rasp self.old tag p (map Some runes.now)) }
         ensures err { OnErr result (self.new ≡ self.old) }
     {
-        let mut window = self.files.take_window(tag);
-        let filled = fill_window(&mut window, p, runes);
-        self.files.put_window(tag, window);
-        if let Err(error) = filled {
-            return Err(error);
-        }
+        fill_window(self.files.window_mut(tag), p, runes)?;
         move_by_ins(&mut self.unsent, tag, p, runes.len() as u32);
         Ok(())
     }
@@ -153,12 +140,7 @@ impl Terminal {
         ensures ok { OnOk result (self.new ≡ took_data self.old tag p runes.now) }
         ensures err { OnErr result (self.new ≡ self.old) }
     {
-        let mut window = self.files.take_window(tag);
-        let loaded = load_window(&mut window, p, runes);
-        self.files.put_window(tag, window);
-        if let Err(error) = loaded {
-            return Err(error);
-        }
+        load_window(self.files.window_mut(tag), p, runes)?;
         Ok(())
     }
 
@@ -168,9 +150,7 @@ impl Terminal {
         requires place { p + n ≤ length (window_at self.old tag).rasp }
         ensures { self.new ≡ del_rasp self.old tag p (p + n) }
     {
-        let mut window = self.files.take_window(tag);
-        cut_window(&mut window, p, n);
-        self.files.put_window(tag, window);
+        cut_window(self.files.window_mut(tag), p, n);
         move_by_del(&mut self.unsent, tag, p, n);
     }
 }

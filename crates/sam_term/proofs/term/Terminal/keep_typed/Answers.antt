@@ -8,8 +8,3 @@ pub invariant_of-self : goal.invariant_of-self
 invariant_of-self c =
     sound-kept (seen c.self.inside) c.args.unsent c.self.invariant
     (subst (λ t. c.args.unsent.place ≤ (window_at t c.args.unsent.file).dot.1) (sym c.self.view_is) c.requires.within) c.requires.short
-
-pub invariant_of-self-else-line : goal.invariant_of-self-else-line
-invariant_of-self-else-line c =
-    sound-kept (seen c.self.inside) c.args.unsent c.self.invariant
-    (subst (λ t. c.args.unsent.place ≤ (window_at t c.args.unsent.file).dot.1) (sym c.self.view_is) c.requires.within) c.requires.short

@@ -11,9 +11,9 @@ use Rattle.sam_term.proofs.term.Terminal.make_paste.Goals as goal
 
 pub returns-then-selected : goal.returns-then-selected
 returns-then-selected c =
-    subst (λ made. IsAnswer c.args.self.now c.send_last.new.self c.send_last.result (done made))
+    subst (λ made. IsAnswer c.args.self.now c.send_for_event.new.self c.send_for_event.result (done made))
     (sym (made_of c.args.self.now (Paste c.args.tag) c.requires.first ∙ made-paste_none (later c.args.self.now) c.args.tag _ c.dot_of-selected.ensures c.if-selected.true))
-    c.send_last.ensures
+    c.send_for_event.ensures
 
 pub returns-in-Err : goal.returns-in-Err
 returns-in-Err c =
@@ -41,8 +41,8 @@ compose-requires-in-Ok-clause-counts c =
     let m = ap (λ t. t.sent) c.compose.ensures.composed ∙ sent-composed c.cut_selected.new.self (Tcut c.args.tag c.dot_of-selected.result.0 c.dot_of-selected.result.1) in
     omega arith
 
-pub send_last-requires : goal.send_last-requires
-send_last-requires c = record { opened = opened_by c.args.self.now (Paste c.args.tag) c.args.tag c.requires.free c.requires.first refl refl }
+pub send_for_event-requires : goal.send_for_event-requires
+send_for_event-requires c = record { opened = opened_by c.args.self.now (Paste c.args.tag) c.args.tag c.requires.free c.requires.first refl refl }
 
 pub compose-requires-in-Ok-clause-opened : goal.compose-requires-in-Ok-clause-opened
 compose-requires-in-Ok-clause-opened c =

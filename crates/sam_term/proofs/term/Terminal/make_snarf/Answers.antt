@@ -13,6 +13,6 @@ returns-then-dot c =
 
 pub returns : goal.returns
 returns c =
-    subst (λ made. IsAnswer c.args.self.now c.send_last.new.self c.send_last.result (done made))
+    subst (λ made. IsAnswer c.args.self.now c.send_for_event.new.self c.send_for_event.result (done made))
     (sym (made_of c.args.self.now (Snarf c.args.tag) c.requires.first ∙ made-snarf (later c.args.self.now) c.args.tag _ c.dot_of-dot.ensures c.if-dot.false))
-    c.send_last.ensures
+    c.send_for_event.ensures

@@ -1,21 +1,21 @@
 use Rattle.std.proofs.Common.{sym, ap, ◌∙◌, subst, Some}
-use Rattle.sam_runes.specs.Slots.{put_slot}
-use Rattle.sam_term.specs.Term.{PlainTerminal, known_at, known_in, is_open, blank_window, took_bindname}
+use Rattle.sam_term.specs.Term.{PlainTerminal, put_known, is_open, blank_window, took_bindname}
 use Rattle.sam_term.specs.Sound.{IsSound, seen}
+use Rattle.sam_term.specs.declared.files.KnownFile.{KnownFile}
 use Rattle.sam_term.proofs.FileSteps.{sound-put_known, blank_where_shut}
 use Rattle.sam_term.proofs.term.Terminal.open_file.Goals as goal
 
 pub invariant_of-self : goal.invariant_of-self
 invariant_of-self c =
     let t = seen c.self.inside in
-    subst (λ ss. IsSound (record t { files = ss }))
-    (sym (c.put_window.ensures ∙ ap (λ r. put_slot t.files c.args.tag (record (known_in t.files c.args.tag) { window = Some (record blank_window { rasp = r }) })) c.new.ensures))
-    (sound-put_known t c.args.tag (record (known_at t c.args.tag) { window = Some blank_window }) c.self.invariant
+    subst (λ r. IsSound (put_known t c.args.tag (record c.file_mut.result.now { window = Some (record blank_window { rasp = r }) }))) (sym c.new.ensures)
+    (sound-put_known t c.args.tag (record c.file_mut.result.now { window = Some blank_window }) c.self.invariant
     (sym (blank_where_shut t.files c.args.tag (ap (λ u. is_open u c.args.tag) c.self.view_is ∙ c.requires.shut))))
 
 pub returns : goal.returns
 unfolding took_bindname
 returns c =
     let t = seen c.self.inside in
-    ap (λ ss. record t { files = ss }) (c.put_window.ensures ∙ ap (λ r. put_slot t.files c.args.tag (record (known_in t.files c.args.tag) { window = Some (record blank_window { rasp = r }) })) c.new.ensures)
-    ∙ ap {A = PlainTerminal} (λ u. took_bindname u c.args.tag) c.self.view_is
+    ap (λ r. put_known t c.args.tag (record c.file_mut.result.now { window = Some (record blank_window { rasp = r }) })) c.new.ensures
+    ∙ (ap {A = KnownFile} (λ k. put_known t c.args.tag (record k { window = Some blank_window })) c.file_mut.ensures.value
+    ∙ ap {A = PlainTerminal} (λ u. took_bindname u c.args.tag) c.self.view_is)

@@ -1,15 +1,11 @@
-use Rattle.std.proofs.Common.{sym, ap, ◌∙◌, subst, refl}
-use Rattle.sam_term.specs.Term.{PlainTerminal, known_at, put_known}
-use Rattle.sam_term.specs.Sound.{IsSound, seen}
+use Rattle.std.proofs.Common.{ap}
+use Rattle.std.specs.Prelude.{unwrap_or}
+use Rattle.sam_term.specs.Term.{blank_window}
+use Rattle.sam_term.specs.Sound.{seen}
 use Rattle.sam_term.proofs.FileSteps.{sound-put_known}
 use Rattle.sam_term.proofs.term.Terminal.rename_file.Goals as goal
 
 pub invariant_of-self : goal.invariant_of-self
 invariant_of-self c =
-    subst (λ ss. IsSound (record (seen c.self.inside) { files = ss })) (sym c.set_name.ensures)
-    (sound-put_known (seen c.self.inside) c.args.tag (record (known_at (seen c.self.inside) c.args.tag) { name = c.args.name }) c.self.invariant refl)
-
-pub returns : goal.returns
-returns c =
-    ap (λ ss. record (seen c.self.inside) { files = ss }) c.set_name.ensures
-    ∙ ap {A = PlainTerminal} (λ t. put_known t c.args.tag (record (known_at t c.args.tag) { name = c.args.name })) c.self.view_is
+    sound-put_known (seen c.self.inside) c.args.tag (record c.file_mut.result.now { name = c.args.name }) c.self.invariant
+    (ap (λ k. unwrap_or k.window blank_window) c.file_mut.ensures.value)

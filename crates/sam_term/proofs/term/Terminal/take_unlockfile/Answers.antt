@@ -17,6 +17,13 @@ send_prepared-requires-clause-counts c =
     let n = ap (λ o. length (unsent_message o)) (ap (λ t. t.unsent) c.free_lock-in-Ok.ensures ∙ unsent-unlocked c.args.self.now c.args.tag) in
     omega arith
 
+pub send_prepared-requires-clause-room : goal.send_prepared-requires-clause-room
+send_prepared-requires-clause-room c =
+    let u = c.unsent_count-count.ensures in
+    let n = ap (λ o. length (unsent_message o)) (ap (λ t. t.unsent) c.free_lock-in-Ok.ensures ∙ unsent-unlocked c.args.self.now c.args.tag) in
+    let r = ap (λ o. o.room) c.in-Ok.ensures.ok in
+    omega arith
+
 pub send_prepared-requires-clause-opened : goal.send_prepared-requires-clause-opened
 send_prepared-requires-clause-opened c =
     ap (λ t. is_lockable t (lock_of c.in-Some.message)) c.free_lock-in-Ok.ensures

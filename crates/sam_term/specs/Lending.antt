@@ -1,0 +1,27 @@
+-- What the files end as where one of them, or its window, is lent to be changed.
+use Rattle.std.specs.Prelude.{ℕ, Option, Some, unwrap_or}
+use Rattle.std.specs.Borrow.{Lends, MutBor, Fml}
+use Rattle.std.specs.contracts.option.Option.{the_row as option_row}
+use Rattle.sam_runes.specs.Slots.{Slots, put_slot}
+use Rattle.sam_term.specs.Term.{blank_known, known_in}
+use Rattle.sam_term.specs.declared.files.Window.{Window}
+use Rattle.sam_term.specs.declared.files.KnownFile.{KnownFile}
+use Rattle.sam_term.specs.contracts.slots.KnownFiles.{the_row}
+use Rattle.sam_term.specs.contracts.files.KnownFile.{the_row as file_row}
+use Rattle.sam_term.specs.contracts.files.Window.{the_row as window_row}
+
+-- the file of f ends as it is left behind r
+abbrev pub LendsFile : MutBor (Slots KnownFile) → ℕ → MutBor KnownFile → Fml
+LendsFile s f r = Lends the_row file_row s r (put_slot s.now f)
+
+-- the window of f ends as it is left behind r
+abbrev pub LendsWindow : MutBor (Slots KnownFile) → ℕ → MutBor Window → Fml
+LendsWindow s f r = Lends the_row window_row s r (λ w. put_slot s.now f (record (known_in s.now f) { window = Some w }))
+
+-- the same of one slot
+abbrev pub LendsKnown : MutBor (Option KnownFile) → MutBor KnownFile → Fml
+LendsKnown s r = Lends (option_row file_row) file_row s r Some
+
+abbrev pub LendsOpen : MutBor (Option KnownFile) → MutBor Window → Fml
+LendsOpen s r =
+    Lends (option_row file_row) window_row s r (λ w. Some (record (unwrap_or s.now blank_known) { window = Some w }))
