@@ -300,8 +300,8 @@ take_law t (Hmovname f s) h =
     record { passes = x.passes; moves = put_moves f Needs_known t (effect t (Hmovname f s)) (record (known_of (slot t.files f)) { name = s }) refl refl refl refl x.moves; composes = refl }
 take_law t (Hgrow f p n) h =
     let x =
-            opened_here f (Grow p n) t (λ w. (nat_lt (length w.rasp) p, fault.BadPosition) ∷ (nat_lt max_runes (length w.rasp + n), fault.TooLong) ∷ [])
-            (λ w. Open (ins_cells w.rasp p (replicate n None)) w.locks) (on_grow p n) (λ c e v. refl) (λ c e v. refl) h in
+    opened_here f (Grow p n) t (λ w. (nat_lt (length w.rasp) p, fault.BadPosition) ∷ (nat_lt max_runes (length w.rasp + n), fault.TooLong) ∷ [])
+    (λ w. Open (ins_cells w.rasp p (replicate n None)) w.locks) (on_grow p n) (λ c e v. refl) (λ c e v. refl) h in
     record { passes = x.passes; moves = put_moves f (Grow p n) t (effect t (Hgrow f p n)) _ refl refl refl refl x.moves; composes = refl }
 take_law t (Hcheck f) h =
     let x = opened_here f Needs_open t (λ w. []) (λ w. Open w.rasp w.locks) on_check (λ c e v. refl) (λ c e v. refl) h in
@@ -321,8 +321,8 @@ take_law t Hunlock h =
     (h 0).1 in record { passes = rw e refl; moves = λ g. ap (λ (b : Bool). move Free_command (lens b t.has_exited t.version (slot_of (slot t.files g)))) e; composes = refl }
 take_law t (Hdata f p s) h =
     let x =
-            opened_here f (Fill p s) t (λ w. (nat_lt (length w.rasp) (p + length s), fault.BadPosition) ∷ []) (λ w. Open (load_cells w.rasp p s) w.locks) (on_data p s) (λ c e v. refl)
-            (λ c e v. refl) h in
+    opened_here f (Fill p s) t (λ w. (nat_lt (length w.rasp) (p + length s), fault.BadPosition) ∷ []) (λ w. Open (load_cells w.rasp p s) w.locks) (on_data p s) (λ c e v. refl)
+    (λ c e v. refl) h in
     record { passes = x.passes; moves = put_moves f (Fill p s) t (effect t (Hdata f p s)) _ refl refl refl refl x.moves; composes = refl }
 take_law t (Horigin f p) h =
     let x = opened_here f (Place p p) t (λ w. (nat_lt (length w.rasp) p, fault.BadPosition) ∷ []) (λ w. Open w.rasp w.locks) (on_place p) (λ c e v. refl) (λ c e v. refl) h in
@@ -332,13 +332,13 @@ take_law t (Hunlockfile f) h =
     record { passes = x.passes; moves = put_moves f Free_file t (effect t (Hunlockfile f)) _ refl refl refl refl x.moves; composes = refl }
 take_law t (Hsetdot f p q) h =
     let x =
-            opened_here f (Place p q) t (λ w. (nat_lt q p, fault.BadPosition) ∷ (nat_lt (length w.rasp) q, fault.BadPosition) ∷ []) (λ w. Open w.rasp w.locks) (on_setdot p q) (λ c e v. refl)
-            (λ c e v. refl) h in
+    opened_here f (Place p q) t (λ w. (nat_lt q p, fault.BadPosition) ∷ (nat_lt (length w.rasp) q, fault.BadPosition) ∷ []) (λ w. Open w.rasp w.locks) (on_setdot p q) (λ c e v. refl)
+    (λ c e v. refl) h in
     record { passes = x.passes; moves = put_moves f (Place p q) t (effect t (Hsetdot f p q)) _ refl refl refl refl x.moves; composes = refl }
 take_law t (Hgrowdata f p s) h =
     let x =
-            opened_here f (Insert p s) t (λ w. (nat_lt (length w.rasp) p, fault.BadPosition) ∷ (nat_lt max_runes (length w.rasp + length s), fault.TooLong) ∷ [])
-            (λ w. Open (ins_cells w.rasp p (map Some s)) w.locks) (on_growdata p s) (λ c e v. refl) (λ c e v. refl) h in
+    opened_here f (Insert p s) t (λ w. (nat_lt (length w.rasp) p, fault.BadPosition) ∷ (nat_lt max_runes (length w.rasp + length s), fault.TooLong) ∷ [])
+    (λ w. Open (ins_cells w.rasp p (map Some s)) w.locks) (on_growdata p s) (λ c e v. refl) (λ c e v. refl) h in
     record { passes = x.passes; moves = put_moves f (Insert p s) t (effect t (Hgrowdata f p s)) _ refl refl refl refl x.moves; composes = refl }
 take_law t (Hmoveto f p) h =
     let x = opened_here f (Place p p) t (λ w. (nat_lt (length w.rasp) p, fault.BadPosition) ∷ []) (λ w. Open w.rasp w.locks) (on_place p) (λ c e v. refl) (λ c e v. refl) h in
