@@ -30,12 +30,14 @@ use Rattle.sam_protocol.proofs.Typing.{types_goes}
 
 -- ## Requests, and acknowledgements
 
-request_one : (h : PlainHost) (t : PlainTerminal) (up : List Tmesg) (down : List Hmesg) (f p n : ℕ) → InOrder h t up down → t.unsent ≡ None → IsOpen (view f t) → t.has_exited ≡ false → InOrder h (composed t (Trequest f p n)) (up ++ Trequest f p n ∷ []) down
+request_one : (h : PlainHost) (t : PlainTerminal) (up : List Tmesg) (down : List Hmesg) (f p n : ℕ) → InOrder h t up down → t.unsent ≡ None → IsOpen (view f t) → t.has_exited ≡ false
+    → InOrder h (composed t (Trequest f p n)) (up ++ Trequest f p n ∷ []) down
 request_one h t up down f p n o e is_open here =
     carried h t (composed t (Trequest f p n)) up down (Trequest f p n) o e (unsent-composed t (Trequest f p n) ∙ e)
     (requests h (views t) _ down f p n o.kept is_open here) (λ g. sym (view-composed t (Trequest f p n) is_open g)) (tidy-composed t (Trequest f p n) o.tidy)
 
-sent_request : (h : PlainHost) (t : PlainTerminal) (up : List Tmesg) (down : List Hmesg) (f p n : ℕ) → InOrder h t up down → IsOpen (view f t) → t.has_exited ≡ false → Goes h up down (sends t (λ u. u) (Trequest f p n ∷ []))
+sent_request : (h : PlainHost) (t : PlainTerminal) (up : List Tmesg) (down : List Hmesg) (f p n : ℕ) → InOrder h t up down → IsOpen (view f t) → t.has_exited ≡ false
+    → Goes h up down (sends t (λ u. u) (Trequest f p n ∷ []))
 sent_request h t up down f p n o is_open here =
     let same = flushed_views t o.unsent in
     then_goes h up down (flushed t) (λ u. (composed u (Trequest f p n), Trequest f p n ∷ []))
@@ -102,7 +104,8 @@ if_same : (b : Bool) (v : Lens) → (if b then v else v) ≡ v
 if_same true v = refl
 if_same false v = refl
 
-after_cut : (h : PlainHost) (t : PlainTerminal) (up : List Tmesg) (down : List Hmesg) (f : ℕ) → InOrder h t up down → MaySend (views t) (Tcut f (window_at t f).dot.0 (window_at t f).dot.1) → AfterCut h t up down f (window_at t f).dot.0 (window_at t f).dot.1 (cuts_dot t f)
+after_cut : (h : PlainHost) (t : PlainTerminal) (up : List Tmesg) (down : List Hmesg) (f : ℕ) → InOrder h t up down → MaySend (views t) (Tcut f (window_at t f).dot.0 (window_at t f).dot.1)
+    → AfterCut h t up down f (window_at t f).dot.0 (window_at t f).dot.1 (cuts_dot t f)
 after_cut h t up down f o may = go (has_empty_dot t f) refl
   where
     p : ℕ
@@ -130,7 +133,8 @@ after_cut h t up down f o may = go (has_empty_dot t f) refl
 
 -- ## What the tests of an event allow
 
-may_dot : (t : PlainTerminal) (f p q : ℕ) (e : UserEvent) → AreTidy t → t.has_exited ≡ false → t.command_lock ≡ false → not (is_open t f) ≡ false → nat_lt 0 (window_at t f).locks ≡ false → p ≡ (window_at t f).dot.0 → q ≡ (window_at t f).dot.1 → OpenAt (Within p q) (view f t)
+may_dot : (t : PlainTerminal) (f p q : ℕ) (e : UserEvent) → AreTidy t → t.has_exited ≡ false → t.command_lock ≡ false → not (is_open t f) ≡ false → nat_lt 0 (window_at t f).locks ≡ false
+    → p ≡ (window_at t f).dot.0 → q ≡ (window_at t f).dot.1 → OpenAt (Within p q) (view f t)
 may_dot t f p q e tidy here free opened unlocked ep eq =
     open_free (Within p q) t f free (not_false (is_open t f) opened) unlocked
     (let z = tidy f in (omega (arith, z.0, ep, eq), omega (arith, z.1, eq)))
@@ -243,17 +247,22 @@ cut_goes h t up down f o pass = go (has_empty_dot t f)
     same : views t ≡ views (flushed t).0
     same = flushed_views t o.unsent
 
-    both : (u : PlainTerminal) (line : List Tmesg) → InOrder h u line down → u.unsent ≡ None → views t ≡ views u → InOrder h (all_composed (del_rasp u f p q) (Tsnarf f p q ∷ Tcut f p q ∷ [])) (line ++ Tsnarf f p q ∷ Tcut f p q ∷ []) down
+    both : (u : PlainTerminal) (line : List Tmesg) → InOrder h u line down → u.unsent ≡ None → views t ≡ views u
+        → InOrder h (all_composed (del_rasp u f p q) (Tsnarf f p q ∷ Tcut f p q ∷ [])) (line ++ Tsnarf f p q ∷ Tcut f p q ∷ []) down
     both u line i e v =
         let snarf : MaySend (views u) (Tsnarf f p q) = subst (λ (x : ℕ → Lens). MaySend x (Tsnarf f p q)) v (record { here = pass.here; free = pass.free; allowed = tt; can = within }) in
-        let cut : MaySend (views u) (Tcut f p q) = subst (λ (x : ℕ → Lens). MaySend x (Tcut f p q)) v (record { here = pass.here; free = pass.free; allowed = free_at t f pass.free pass.unlocked; can = within }) in
+        let cut : MaySend (views u) (Tcut f p q) =
+        subst (λ (x : ℕ → Lens). MaySend x (Tcut f p q)) v (record { here = pass.here; free = pass.free; allowed = free_at t f pass.free pass.unlocked; can = within }) in
         let one : InOrder h (composed u (Tsnarf f p q)) (line ++ Tsnarf f p q ∷ []) down = send_one h u line down (Tsnarf f p q) i e refl snarf in
-        let two : InOrder h (composed (del_rasp (composed u (Tsnarf f p q)) f p q) (Tcut f p q)) ((line ++ Tsnarf f p q ∷ []) ++ Tcut f p q ∷ []) down = cut_one h (composed u (Tsnarf f p q)) (line ++ Tsnarf f p q ∷ []) down f p q one e cut in
+        let two : InOrder h (composed (del_rasp (composed u (Tsnarf f p q)) f p q) (Tcut f p q)) ((line ++ Tsnarf f p q ∷ []) ++ Tcut f p q ∷ []) down =
+        cut_one h (composed u (Tsnarf f p q)) (line ++ Tsnarf f p q ∷ []) down f p q one e cut in
         subst (λ (l : List Tmesg). InOrder h (all_composed (del_rasp u f p q) (Tsnarf f p q ∷ Tcut f p q ∷ [])) l down) (append_assoc line (Tsnarf f p q ∷ []) (Tcut f p q ∷ [])) two
 
     go : (b : Bool) → Goes h up down (if b then (t, []) else sends t (λ u. del_rasp u f p q) (Tsnarf f p q ∷ Tcut f p q ∷ []))
     go true = nothing_goes h t up down o
-    go false = then_goes h up down (flushed t) (λ u. (all_composed (del_rasp u f p q) (Tsnarf f p q ∷ Tcut f p q ∷ []), Tsnarf f p q ∷ Tcut f p q ∷ [])) (both (flushed t).0 (up ++ (flushed t).1) (flushed_goes h t up down o) (unsent-flushed t) same)
+    go false =
+        then_goes h up down (flushed t) (λ u. (all_composed (del_rasp u f p q) (Tsnarf f p q ∷ Tcut f p q ∷ []), Tsnarf f p q ∷ Tcut f p q ∷ []))
+        (both (flushed t).0 (up ++ (flushed t).1) (flushed_goes h t up down o) (unsent-flushed t) same)
 
 snarf_goes : (h : PlainHost) (t : PlainTerminal) (up : List Tmesg) (down : List Hmesg) (f : ℕ) → InOrder h t up down → Passed t (Snarf f) → Goes h up down (made_by t (Snarf f))
 unfolding made_by_snarf
@@ -267,12 +276,15 @@ snarf_goes h t up down f o pass = go (has_empty_dot t f)
 
     go : (b : Bool) → Goes h up down (if b then (t, []) else sends t unchanged (Tsnarf f p q ∷ []))
     go true = nothing_goes h t up down o
-    go false = sends_goes h t up down (Tsnarf f p q) o refl (record { here = pass.here; free = pass.free; allowed = tt; can = may_dot t f p q (Snarf f) o.tidy pass.here pass.free pass.opened pass.unlocked refl refl })
+    go false =
+        sends_goes h t up down (Tsnarf f p q) o refl
+        (record { here = pass.here; free = pass.free; allowed = tt; can = may_dot t f p q (Snarf f) o.tidy pass.here pass.free pass.opened pass.unlocked refl refl })
 
 -- ## Windows that are shown otherwise
 
 -- a window of an open file, with its partial text and locks, and another dot or view
-shown_goes : (h : PlainHost) (t : PlainTerminal) (up : List Tmesg) (down : List Hmesg) (f : ℕ) (w : Window) → InOrder h t up down → IsOpen (view f t) → w.rasp ≡ (window_at t f).rasp → w.locks ≡ (window_at t f).locks → IsTidyWindow w → InOrder h (put_window t f w) up down
+shown_goes : (h : PlainHost) (t : PlainTerminal) (up : List Tmesg) (down : List Hmesg) (f : ℕ) (w : Window) → InOrder h t up down → IsOpen (view f t) → w.rasp ≡ (window_at t f).rasp
+    → w.locks ≡ (window_at t f).locks → IsTidyWindow w → InOrder h (put_window t f w) up down
 shown_goes h t up down f w o i r k tidy = record {
   kept = kept_views h (views t) (views (put_window t f w)) _ down o.kept same;
   tidy = tidy-window t f w o.tidy tidy;
@@ -304,32 +316,45 @@ event_goes h t up down (Paste f) o p = paste_goes h t up down f o p
 event_goes h t up down (Snarf f) o p = snarf_goes h t up down f o p
 event_goes h t up down (Look f) o p =
     let d = (window_at t f).dot in
-    sends_goes h t up down (Tlook f d.0 d.1) o refl (record { here = p.here; free = p.free; allowed = free_at t f p.free p.unlocked; can = may_dot t f d.0 d.1 (Look f) o.tidy p.here p.free p.opened p.unlocked refl refl })
+    sends_goes h t up down (Tlook f d.0 d.1) o refl
+    (record { here = p.here; free = p.free; allowed = free_at t f p.free p.unlocked; can = may_dot t f d.0 d.1 (Look f) o.tidy p.here p.free p.opened p.unlocked refl refl })
 event_goes h t up down (Search f) o p =
     let d = (window_at t f).dot in
-    sends_goes h t up down (Tsearch f d.0 d.1) o refl (record { here = p.here; free = p.free; allowed = free_at t f p.free p.unlocked; can = may_dot t f d.0 d.1 (Search f) o.tidy p.here p.free p.opened p.unlocked refl refl })
+    sends_goes h t up down (Tsearch f d.0 d.1) o refl
+    (record { here = p.here; free = p.free; allowed = free_at t f p.free p.unlocked; can = may_dot t f d.0 d.1 (Search f) o.tidy p.here p.free p.opened p.unlocked refl refl })
 event_goes h t up down (Send f) o p =
     let d = (window_at t f).dot in
-    sends_goes h t up down (Tsend f d.0 d.1) o refl (record { here = p.here; free = p.free; allowed = all_free t p.free p.all_unlocked; can = may_dot t f d.0 d.1 (Send f) o.tidy p.here p.free p.opened p.unlocked refl refl })
+    sends_goes h t up down (Tsend f d.0 d.1) o refl
+    (record { here = p.here; free = p.free; allowed = all_free t p.free p.all_unlocked; can = may_dot t f d.0 d.1 (Send f) o.tidy p.here p.free p.opened p.unlocked refl refl })
 event_goes h t up down (Dclick f a) o p =
     let l : a ≤ length (window_at t f).rasp = ltb-false (length (window_at t f).rasp) a p.place in
-    sends_goes h t up down (Tdclick f a) o refl (record { here = p.here; free = p.free; allowed = free_at t f p.free p.unlocked; can = open_free (Within a a) t f p.free (not_false (is_open t f) p.opened) p.unlocked (omega arith, l) })
+    sends_goes h t up down (Tdclick f a) o refl
+    (record { here = p.here; free = p.free; allowed = free_at t f p.free p.unlocked; can = open_free (Within a a) t f p.free (not_false (is_open t f) p.opened) p.unlocked (omega arith, l) })
 event_goes h t up down (Scroll f n) o p =
     let a = (window_at t f).view_start in
-    sends_goes h t up down (Torigin f a n) o refl (record { here = p.here; free = p.free; allowed = free_at t f p.free p.unlocked; can = open_free (Within a a) t f p.free (not_false (is_open t f) p.opened) p.unlocked (omega arith, (o.tidy f).2) })
+    sends_goes h t up down (Torigin f a n) o refl
+    (record { here = p.here; free = p.free; allowed = free_at t f p.free p.unlocked; can = open_free (Within a a) t f p.free (not_false (is_open t f) p.opened) p.unlocked (omega arith, (o.tidy f).2) })
 event_goes h t up down (View f a n) o p =
     let w : Window = record (window_at t f) { view_start = a; view_length = n } in
-    requested_goes h (put_window t f w) up down f (shown_goes h t up down f w o (opened_at t f (not_false (is_open t f) p.opened)) refl refl ((o.tidy f).0, (o.tidy f).1, ltb-false (length (window_at t f).rasp) a p.place))
-event_goes h t up down (Open f) o p = sends_goes h t up down (Tstartfile f) o refl (record { here = p.here; free = p.free; allowed = all_free t p.free p.all_unlocked; can = (known_at_view t f p.known, p.other) })
-event_goes h t up down (Close f) o p = sends_goes h t up down (Tclose f) o refl (record { here = p.here; free = p.free; allowed = all_free t p.free p.all_unlocked; can = (open_free Anything t f p.free (not_false (is_open t f) p.opened) p.unlocked tt, p.other) })
-event_goes h t up down (Write f) o p = sends_goes h t up down (Twrite f) o refl (record { here = p.here; free = p.free; allowed = free_at t f p.free p.unlocked; can = (open_free Anything t f p.free (not_false (is_open t f) p.opened) p.unlocked tt, p.other) })
+    requested_goes h (put_window t f w) up down f
+    (shown_goes h t up down f w o (opened_at t f (not_false (is_open t f) p.opened)) refl refl ((o.tidy f).0, (o.tidy f).1, ltb-false (length (window_at t f).rasp) a p.place))
+event_goes h t up down (Open f) o p =
+    sends_goes h t up down (Tstartfile f) o refl (record { here = p.here; free = p.free; allowed = all_free t p.free p.all_unlocked; can = (known_at_view t f p.known, p.other) })
+event_goes h t up down (Close f) o p =
+    sends_goes h t up down (Tclose f) o refl
+    (record { here = p.here; free = p.free; allowed = all_free t p.free p.all_unlocked; can = (open_free Anything t f p.free (not_false (is_open t f) p.opened) p.unlocked tt, p.other) })
+event_goes h t up down (Write f) o p =
+    sends_goes h t up down (Twrite f) o refl
+    (record { here = p.here; free = p.free; allowed = free_at t f p.free p.unlocked; can = (open_free Anything t f p.free (not_false (is_open t f) p.opened) p.unlocked tt, p.other) })
 event_goes h t up down (Work f) o p =
     let d = (window_at t f).dot in
-    sends_goes h t up down (Tworkfile f d.0 d.1) o refl (record { here = p.here; free = p.free; allowed = tt; can = (may_dot t f d.0 d.1 (Work f) o.tidy p.here p.free p.opened p.unlocked refl refl, p.other) })
+    sends_goes h t up down (Tworkfile f d.0 d.1) o refl
+    (record { here = p.here; free = p.free; allowed = tt; can = (may_dot t f d.0 d.1 (Work f) o.tidy p.here p.free p.opened p.unlocked refl refl, p.other) })
 event_goes h t up down OpenCmd o p = sends_goes h t up down Tstartcmdfile o refl (record { here = p.here; free = p.free; allowed = all_free t p.free p.all_unlocked; can = tt })
 event_goes h t up down New o p = sends_goes h t up down Tstartnewfile o refl (record { here = p.here; free = p.free; allowed = all_free t p.free p.all_unlocked; can = tt })
 event_goes h t up down Exit o p = sends_goes h t up down Texit o refl (record { here = p.here; free = p.free; allowed = all_free t p.free p.all_unlocked; can = tt })
-event_goes h t up down (Check f) o p = sends_goes h t up down (Tcheck f) o refl (record { here = p.here; free = p.free; allowed = tt; can = open_free Anything t f p.free (not_false (is_open t f) p.opened) p.unlocked tt })
+event_goes h t up down (Check f) o p =
+    sends_goes h t up down (Tcheck f) o refl (record { here = p.here; free = p.free; allowed = tt; can = open_free Anything t f p.free (not_false (is_open t f) p.opened) p.unlocked tt })
 event_goes h t up down GetSnarf o p = sends_goes h t up down Tstartsnarf o refl (record { here = p.here; free = p.free; allowed = tt; can = tt })
 event_goes h t up down (SetSnarf s) o p = sends_goes h t up down (Tsetsnarf s) o refl (record { here = p.here; free = p.free; allowed = tt; can = tt })
 event_goes h t up down (Version v) o p = sends_goes h t up down (Tversion v) o refl (record { here = p.here; free = p.free; allowed = all_free t p.free p.all_unlocked; can = positive v p.version })

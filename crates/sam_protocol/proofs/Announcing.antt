@@ -53,15 +53,18 @@ names_skip g k (Some x ∷ ss) l =
     (skips-append _ _ (one_skips g k x (not x.announced) (not_same g k differs)) (names_skip g (1 + k) ss (omega (arith, l))))
 
 -- a file that was not announced is now
-one_moves : (d : Bool) (n g k : ℕ) (x : PlainFile) (s : Slot) → (g == k) ≡ true → OpenAnnounced x → Fits_slot s (file_of x) → Moves (at_file g (when (not x.announced) (names_of k x))) d n s (file_of (announced_file x))
+one_moves : (d : Bool) (n g k : ℕ) (x : PlainFile) (s : Slot) → (g == k) ≡ true → OpenAnnounced x → Fits_slot s (file_of x)
+    → Moves (at_file g (when (not x.announced) (names_of k x))) d n s (file_of (announced_file x))
 unfolding when names_of
 one_moves d n g k x s e a y = go x.opened x.announced a s y
   where
-    go : (o w : Bool) → (o ≡ true → w ≡ true) → (s : Slot) → Fits_slot s (if o then Opened x.text else if w then Named x.text else Hidden x.text) → Moves (at_file g (when (not w) (names_of k x))) d n s (if o then Opened x.text else Named x.text)
+    go : (o w : Bool) → (o ≡ true → w ≡ true) → (s : Slot) → Fits_slot s (if o then Opened x.text else if w then Named x.text else Hidden x.text)
+        → Moves (at_file g (when (not w) (names_of k x))) d n s (if o then Opened x.text else Named x.text)
     go true true a s y = stays_put [] d n s (Opened x.text) tt y
     go true false a s y = absurd (true≢false (sym (a refl)))
     go false true a s y = stays_put [] d n s (Named x.text) tt y
-    go false false a Unknown y = subst (λ (b : Bool). Moves (only b Join ∷ only b Needs_known ∷ []) d n Unknown (Named x.text)) (sym e) (record { slot = Known; runs = refl; fits = tt; no_close = refl })
+    go false false a Unknown y =
+        subst (λ (b : Bool). Moves (only b Join ∷ only b Needs_known ∷ []) d n Unknown (Named x.text)) (sym e) (record { slot = Known; runs = refl; fits = tt; no_close = refl })
     go false false a Known y = absurd y
     go false false a (Open r m) y = absurd y
 
@@ -69,7 +72,8 @@ announced_slot : (given : Bool) (s : Option PlainFile) → HFile
 announced_slot given s = file_of_slot given (option_map announced_file s)
 
 -- the names from tag k on, at the file k + i
-names_move : (d : Bool) (n k i g : ℕ) (ss : Slots PlainFile) (given : Bool) (s : Slot) → g ≡ k + i → AllAnnounced ss → Fits_slot s (file_of_slot given (slot ss i)) → Moves (at_file g (told_names k ss)) d n s (announced_slot given (slot ss i))
+names_move : (d : Bool) (n k i g : ℕ) (ss : Slots PlainFile) (given : Bool) (s : Slot) → g ≡ k + i → AllAnnounced ss → Fits_slot s (file_of_slot given (slot ss i))
+    → Moves (at_file g (told_names k ss)) d n s (announced_slot given (slot ss i))
 unfolding told_names names_of announced_slot
 names_move d n k i g [] true s e a y = stays_put [] d n s Gone tt y
 names_move d n k i g [] false s e a y = stays_put [] d n s Absent tt y
@@ -129,13 +133,16 @@ sync_version h v sound all l =
     later (s ∷ ss) g = λ i. file_of_slot (nat_lt (suc g) (suc (length-map_slots announced_file ss i))) (slot-map announced_file ss g i)
 
     moves : (g : ℕ) (s : Slot) → Fits_slot s (file_in ss g) → Moves (at_file g names) h.is_done (common_version v) s (file_in out.slots g)
-    moves zero s y = subst (Moves (at_file 0 names) h.is_done (common_version v) s) (sym (first ss)) (stays_put _ h.is_done (common_version v) s (file_in ss 0) (names_skip 0 1 (drop 1 ss) (omega arith)) y)
+    moves zero s y =
+        subst (Moves (at_file 0 names) h.is_done (common_version v) s) (sym (first ss)) (stays_put _ h.is_done (common_version v) s (file_in ss 0) (names_skip 0 1 (drop 1 ss) (omega arith)) y)
     moves (suc g) s y =
         subst (Moves (at_file (suc g) names) h.is_done (common_version v) s) (ap (announced_slot (nat_lt (suc g) (length ss))) (behind ss g) ∙ sym (later ss g))
         (names_move h.is_done (common_version v) 1 g (suc g) (drop 1 ss) (nat_lt (suc g) (length ss)) s (omega arith)
-        (λ f. subst (λ (x : Option PlainFile). OpenAnnounced (unwrap_or x blank_file)) (sym (behind ss f)) (all f)) (subst (λ (x : Option PlainFile). Fits_slot s (file_of_slot (nat_lt (suc g) (length ss)) x)) (sym (behind ss g)) y))
+        (λ f. subst (λ (x : Option PlainFile). OpenAnnounced (unwrap_or x blank_file)) (sym (behind ss f)) (all f))
+        (subst (λ (x : Option PlainFile). Fits_slot s (file_of_slot (nat_lt (suc g) (length ss)) x)) (sym (behind ss g)) y))
 
-    each : (g : ℕ) (s : Slot) → Fits_slot s (file_in ss g) → IsKept (at_file g (Hversion (common_version v) ∷ (names ++ Hack ∷ Hunlock ∷ []))) (lens true h.is_done h.version s) h.is_done (common_version v) (file_in out.slots g)
+    each : (g : ℕ) (s : Slot) → Fits_slot s (file_in ss g) → IsKept (at_file g (Hversion (common_version v) ∷ (names ++ Hack ∷ Hunlock ∷ []))) (lens true h.is_done h.version s) h.is_done
+        (common_version v) (file_in out.slots g)
     each g s y =
         let same : at_file g (Hversion (common_version v) ∷ (names ++ Hack ∷ Hunlock ∷ [])) ≡ Change (common_version v) ∷ (at_file g names ++ Skip ∷ Free_command ∷ []) =
         (λ i. version_action v l i ∷ at_file-append g names (Hack ∷ Hunlock ∷ []) i) in

@@ -44,7 +44,8 @@ and_moves u w d n s file file2 m k =
     record { slot = m2.slot; runs = run-append_some u w (lens true d n s) (lens true d n m.slot) m.runs ∙ m2.runs; fits = m2.fits; no_close = no_close_behind u w m.no_close m2.no_close }
 
 -- one action first
-pub and_first : (a : Action) (u : List Action) (d : Bool) (n : ℕ) (s s2 : Slot) (file : HFile) → move a (lens true d n s) ≡ Some (lens true d n s2) → is_close a ≡ false → Moves u d n s2 file → Moves (a ∷ u) d n s file
+pub and_first : (a : Action) (u : List Action) (d : Bool) (n : ℕ) (s s2 : Slot) (file : HFile) → move a (lens true d n s) ≡ Some (lens true d n s2) → is_close a ≡ false → Moves u d n s2 file
+    → Moves (a ∷ u) d n s file
 and_first a u d n s s2 file e c m = record { slot = m.slot; runs = ap (λ (o : Option Lens). and_then o (run u)) e ∙ m.runs; fits = m.fits; no_close = ap (λ (b : Bool). b || closes u) c ∙ m.no_close }
 
 pub moves_rewrite : (u : List Action) (t t2 : List ℕ) (d : Bool) (n : ℕ) (s : Slot) → Rewrites u t t2 → Fits_slot s (Opened t) → Moves u d n s (Opened t2)
@@ -67,7 +68,8 @@ carries-append d n a b c u w x y = record {
 }
 
 -- frames about the file f alone
-pub carries_at : (d : Bool) (n : ℕ) (a b : ℕ → HFile) (f : ℕ) (frames : List Hmesg) (acts : List Action) (x : HFile) → ((g : ℕ) → at_file g frames ≡ map (only (g == f)) acts) → ((g : ℕ) → b g ≡ put a f x g)
+pub carries_at : (d : Bool) (n : ℕ) (a b : ℕ → HFile) (f : ℕ) (frames : List Hmesg) (acts : List Action) (x : HFile) → ((g : ℕ) → at_file g frames ≡ map (only (g == f)) acts)
+    → ((g : ℕ) → b g ≡ put a f x g)
     → ((s : Slot) → Fits_slot s (a f) → Moves acts d n s x) → Lasts a b → Carries d n a frames b
 carries_at d n a b f frames acts x tells is there lasts = record { moves = λ g s y. subst (Moves (at_file g frames) d n s) (sym (is g)) (go g s y (bool_cases (g == f))); lasts = lasts }
   where
@@ -78,8 +80,10 @@ carries_at d n a b f frames acts x tells is there lasts = record { moves = λ g 
     go g s y (inr e) = subst (λ (b : Bool). Moves (at_file g frames) d n s (if b then x else a g)) (sym e) (stays_put _ d n s (a g) (tells_elsewhere f g frames acts (tells g) e) y)
 
 -- and that file is open
-pub carries_told : (d : Bool) (n : ℕ) (a b : ℕ → HFile) (f : ℕ) (frames : List Hmesg) (t t2 : List ℕ) → a f ≡ Opened t → ((g : ℕ) → b g ≡ put a f (Opened t2) g) → Told f frames t t2 → Carries d n a frames b
-carries_told d n a b f frames t t2 e is told = carries_at d n a b f frames told.acts (Opened t2) told.tells is (λ s x. moves_rewrite told.acts t t2 d n s told.rewrites (subst (Fits_slot s) e x)) (lasts_opened a b f t t2 e is)
+pub carries_told : (d : Bool) (n : ℕ) (a b : ℕ → HFile) (f : ℕ) (frames : List Hmesg) (t t2 : List ℕ) → a f ≡ Opened t → ((g : ℕ) → b g ≡ put a f (Opened t2) g) → Told f frames t t2
+    → Carries d n a frames b
+carries_told d n a b f frames t t2 e is told =
+    carries_at d n a b f frames told.acts (Opened t2) told.tells is (λ s x. moves_rewrite told.acts t t2 d n s told.rewrites (subst (Fits_slot s) e x)) (lasts_opened a b f t t2 e is)
 
 -- Hunlock ends it
 pub unlocks : (u : List Action) (d : Bool) (n : ℕ) (s : Slot) (file : HFile) → Moves u d n s file → IsKept (u ++ Free_command ∷ []) (lens true d n s) d n file
@@ -103,7 +107,8 @@ exits_kept u d n s file m = go m.slot m.runs m.fits
         (guarded_before u (Exit ∷ []) refl (guarded_by (Exit ∷ []) refl)) (no_close_behind u (Exit ∷ []) m.no_close refl)
     go Known r f = kept_by (u ++ Exit ∷ []) (lens true d n s) (lens false true n Known) true n file (run-append_some u (Exit ∷ []) (lens true d n s) _ r) (refl, refl, refl, f)
         (guarded_before u (Exit ∷ []) refl (guarded_by (Exit ∷ []) refl)) (no_close_behind u (Exit ∷ []) m.no_close refl)
-    go (Open rasp k) r f = kept_by (u ++ Exit ∷ []) (lens true d n s) (lens false true n (Open rasp 0)) true n file (run-append_some u (Exit ∷ []) (lens true d n s) _ r) (refl, refl, refl, exit_fits rasp k file f)
+    go (Open rasp k) r f =
+        kept_by (u ++ Exit ∷ []) (lens true d n s) (lens false true n (Open rasp 0)) true n file (run-append_some u (Exit ∷ []) (lens true d n s) _ r) (refl, refl, refl, exit_fits rasp k file f)
         (guarded_before u (Exit ∷ []) refl (guarded_by (Exit ∷ []) refl)) (no_close_behind u (Exit ∷ []) m.no_close refl)
 
 -- ## A message that takes the command lock
@@ -127,9 +132,11 @@ pub record Unlocked (h : PlainHost) (r : Reply) : Type 0 where
   pub gone : (g : ℕ) → file_in h.files.slots g ≡ Gone → file_in r.0.files.slots g ≡ Gone
   pub sound : HasFiles r.0.files
 
-pub unlocked : (h : PlainHost) (fs : PlainFiles) (front : List Hmesg) → Carries h.is_done h.version (file_in h.files.slots) front (file_in fs.slots) → HasFiles fs → Unlocked h (with_files h fs, front ++ Hunlock ∷ [])
+pub unlocked : (h : PlainHost) (fs : PlainFiles) (front : List Hmesg) → Carries h.is_done h.version (file_in h.files.slots) front (file_in fs.slots) → HasFiles fs
+    → Unlocked h (with_files h fs, front ++ Hunlock ∷ [])
 unlocked h fs front c sound = record {
-  each = λ g s x. subst (λ (u : List Action). IsKept u (lens true h.is_done h.version s) h.is_done h.version (file_in fs.slots g)) (sym (at_file-append g front (Hunlock ∷ []))) (unlocks (at_file g front) h.is_done h.version s (file_in fs.slots g) (c.moves g s x));
+  each = λ g s x. subst (λ (u : List Action). IsKept u (lens true h.is_done h.version s) h.is_done h.version (file_in fs.slots g)) (sym (at_file-append g front (Hunlock ∷ [])))
+      (unlocks (at_file g front) h.is_done h.version s (file_in fs.slots g) (c.moves g s x));
   gone = c.lasts.gone;
   sound = sound;
 }
@@ -140,7 +147,8 @@ unlocked_if h false x y p q = q refl
 
 -- nothing but the lock is freed
 pub unlocked_only : (h : PlainHost) → HasFiles h.files → Unlocked h (h, Hunlock ∷ [])
-unlocked_only h sound = record { each = λ g s x. unlocks [] h.is_done h.version s (file_in h.files.slots g) (stays_put [] h.is_done h.version s (file_in h.files.slots g) tt x); gone = λ g e. e; sound = sound }
+unlocked_only h sound =
+    record { each = λ g s x. unlocks [] h.is_done h.version s (file_in h.files.slots g) (stays_put [] h.is_done h.version s (file_in h.files.slots g) tt x); gone = λ g e. e; sound = sound }
 
 pub sync_by : (h : PlainHost) (m : Tmesg) → change_by m ≡ Command → first_of_checks (host_checks h m) ≡ None → Unlocked h (reply_to h m) → Synced h m
 sync_by h m c passes x = commands h m c passes x.each x.gone x.sound
@@ -149,13 +157,15 @@ sync_by h m c passes x = commands h m c passes x.each x.gone x.sound
 
 pub sync_exit : (h : PlainHost) → HasFiles h.files → Synced h Texit
 unfolding reply_exit
-sync_exit h sound = commands h Texit refl refl (λ g s f. exits_kept [] h.is_done h.version s (file_in h.files.slots g) (stays_put [] h.is_done h.version s (file_in h.files.slots g) tt f)) (λ g e. e) sound
+sync_exit h sound =
+    commands h Texit refl refl (λ g s f. exits_kept [] h.is_done h.version s (file_in h.files.slots g) (stays_put [] h.is_done h.version s (file_in h.files.slots g) tt f)) (λ g e. e) sound
 
 -- a file is closed for good
 close_there : (d : Bool) (n : ℕ) (s : Slot) (t : List ℕ) → Fits_slot s (Opened t) → IsKept (Close ∷ Leave ∷ Free_command ∷ []) (lens true d n s) d n Gone
 close_there d n Unknown t f = absurd f
 close_there d n Known t f = absurd f
-close_there d n (Open r k) t f = record { final = lens false d n Unknown; runs = refl; settled = (refl, refl, refl, tt); guarded = guarded_by (Close ∷ Leave ∷ Free_command ∷ []) refl; closed = λ e. refl }
+close_there d n (Open r k) t f =
+    record { final = lens false d n Unknown; runs = refl; settled = (refl, refl, refl, tt); guarded = guarded_by (Close ∷ Leave ∷ Free_command ∷ []) refl; closed = λ e. refl }
 
 pub sync_close : (h : PlainHost) (f : ℕ) → HasFiles h.files → Opens h.files f → (f == 0) ≡ false → Synced h (Tclose f)
 unfolding reply_close
@@ -170,7 +180,8 @@ sync_close h f sound o z = commands h (Tclose f) refl (window_tests h f o z [] r
     files : (g : ℕ) → file_in (free_slot h.files.slots f) g ≡ put a f Gone g
     files = file_in-free h.files.slots f o.given
 
-    each : (g : ℕ) (s : Slot) → Fits_slot s (a g) → ((g == f) ≡ true) ⊎ ((g == f) ≡ false) → IsKept (only (g == f) Close ∷ only (g == f) Leave ∷ Free_command ∷ []) (lens true h.is_done h.version s) h.is_done h.version (put a f Gone g)
+    each : (g : ℕ) (s : Slot) → Fits_slot s (a g) → ((g == f) ≡ true) ⊎ ((g == f) ≡ false)
+        → IsKept (only (g == f) Close ∷ only (g == f) Leave ∷ Free_command ∷ []) (lens true h.is_done h.version s) h.is_done h.version (put a f Gone g)
     each g s x (inl e) = subst (λ (b : Bool). IsKept (only b Close ∷ only b Leave ∷ Free_command ∷ []) (lens true h.is_done h.version s) h.is_done h.version (if b then Gone else a g)) (sym e)
         (close_there h.is_done h.version s (file_at h.files f).text (subst (Fits_slot s) (ap a (eqb-true _ _ e) ∙ o.shown) x))
     each g s x (inr e) = subst (λ (b : Bool). IsKept (only b Close ∷ only b Leave ∷ Free_command ∷ []) (lens true h.is_done h.version s) h.is_done h.version (if b then Gone else a g)) (sym e)
@@ -201,7 +212,8 @@ bind_moves f x d n Unknown told y = absurd y
 bind_moves f x d n Known told y = and_first Bind told.acts d n Known (Open [] 0) (Opened x.text) refl refl (moves_rewrite told.acts [] x.text d n (Open [] 0) told.rewrites (refl, tt))
 bind_moves f x d n (Open r k) told y = absurd y
 
-pub sync_start : (h : PlainHost) (f : ℕ) (x : PlainFile) → HasFiles h.files → AreFit h.files → slot h.files.slots f ≡ Some x → (f == 0) ≡ false → ((file_at h.files f).opened ≡ true) ⊎ (((file_at h.files f).opened ≡ false) × ((file_at h.files f).announced ≡ true)) → Synced h (Tstartfile f)
+pub sync_start : (h : PlainHost) (f : ℕ) (x : PlainFile) → HasFiles h.files → AreFit h.files → slot h.files.slots f ≡ Some x → (f == 0) ≡ false
+    → ((file_at h.files f).opened ≡ true) ⊎ (((file_at h.files f).opened ≡ false) × ((file_at h.files f).announced ≡ true)) → Synced h (Tstartfile f)
 unfolding reply_startfile when
 sync_start h f x sound fit e z c =
     sync_by h (Tstartfile f) refl (test (not (has_file h.files f)) NoFile (is_command f ∷ []) (ap (λ (b : Bool). not b) (ap is_some e)) (last_test (f == 0) CommandFile z))
@@ -228,7 +240,8 @@ sync_start h f x sound fit e z c =
     binds : file.opened ≡ false → file.announced ≡ true → Carries h.is_done h.version a (Hbindname f ∷ told_length f file) (file_in fs.slots)
     binds w n =
         let named : a f ≡ Named file.text = shown ∙ file_named file w n in
-        carries_at h.is_done h.version a (file_in fs.slots) f (Hbindname f ∷ told_length f file) (Bind ∷ told.acts) (Opened file.text) (λ g. ap (λ (u : List Action). only (g == f) Bind ∷ u) (told.tells g)) files
+        carries_at h.is_done h.version a (file_in fs.slots) f (Hbindname f ∷ told_length f file) (Bind ∷ told.acts) (Opened file.text)
+        (λ g. ap (λ (u : List Action). only (g == f) Bind ∷ u) (told.tells g)) files
         (λ s y. bind_moves f file h.is_done h.version s told (subst (Fits_slot s) named y))
         (lasts_put a (file_in fs.slots) f (Opened file.text) (λ q. let y : Named file.text ≡ Gone = sym named ∙ q in cc) (λ y. tt) (λ q y. tt) files)
 
@@ -242,18 +255,22 @@ sync_start h f x sound fit e z c =
     carries = go c
       where
         go : (file.opened ≡ true) ⊎ ((file.opened ≡ false) × (file.announced ≡ true)) → Carries h.is_done h.version a (when (not file.opened) (Hbindname f ∷ told_length f file)) (file_in fs.slots)
-        go (inl w) = subst (λ (u : List Hmesg). Carries h.is_done h.version a u (file_in fs.slots)) (sym (when_false w)) (carries_nothing h.is_done h.version a (file_in fs.slots) (λ g. files g ∙ sym (put_again a f (Opened file.text) g (shown ∙ file_opened file w))))
+        go (inl w) =
+            subst (λ (u : List Hmesg). Carries h.is_done h.version a u (file_in fs.slots)) (sym (when_false w))
+            (carries_nothing h.is_done h.version a (file_in fs.slots) (λ g. files g ∙ sym (put_again a f (Opened file.text) g (shown ∙ file_opened file w))))
         go (inr w) = subst (λ (u : List Hmesg). Carries h.is_done h.version a u (file_in fs.slots)) (sym (when_true w.0)) (binds w.0 w.1)
 
 -- the command file is announced and opened at once
-first_moves : (x : PlainFile) (d : Bool) (n : ℕ) (s : Slot) (told : Told 0 (told_length 0 x) [] x.text) → Fits_slot s (Hidden x.text) → Moves (Join ∷ Needs_known ∷ Bind ∷ told.acts) d n s (Opened x.text)
+first_moves : (x : PlainFile) (d : Bool) (n : ℕ) (s : Slot) (told : Told 0 (told_length 0 x) [] x.text) → Fits_slot s (Hidden x.text)
+    → Moves (Join ∷ Needs_known ∷ Bind ∷ told.acts) d n s (Opened x.text)
 first_moves x d n Unknown told y =
     and_first Join (Needs_known ∷ Bind ∷ told.acts) d n Unknown Known (Opened x.text) refl refl
     (and_first Needs_known (Bind ∷ told.acts) d n Known Known (Opened x.text) refl refl (bind_moves 0 x d n Known told tt))
 first_moves x d n Known told y = absurd y
 first_moves x d n (Open r k) told y = absurd y
 
-pub sync_first : (h : PlainHost) (x : PlainFile) → HasFiles h.files → AreFit h.files → slot h.files.slots 0 ≡ Some x → ((file_at h.files 0).opened ≡ true) ⊎ (((file_at h.files 0).opened ≡ false) × ((file_at h.files 0).announced ≡ false)) → Synced h Tstartcmdfile
+pub sync_first : (h : PlainHost) (x : PlainFile) → HasFiles h.files → AreFit h.files → slot h.files.slots 0 ≡ Some x
+    → ((file_at h.files 0).opened ≡ true) ⊎ (((file_at h.files 0).opened ≡ false) × ((file_at h.files 0).announced ≡ false)) → Synced h Tstartcmdfile
 unfolding reply_startcmdfile
 sync_first h x sound fit e c =
     sync_by h Tstartcmdfile refl refl
@@ -295,7 +312,9 @@ end_is t s =
 
 -- of a file that is not open nothing is told, whatever its text
 shut_fits : (x : PlainFile) (u : List ℕ) (s : Slot) → x.opened ≡ false → Fits_slot s (file_of x) → Fits_slot s (file_of (record x { text = u }))
-shut_fits x u s e y = subst (λ (b : Bool). Fits_slot s (if b then Opened u else if x.announced then Named u else Hidden u)) (sym e) (go x.announced s (subst (λ (b : Bool). Fits_slot s (if b then Opened x.text else if x.announced then Named x.text else Hidden x.text)) e y))
+shut_fits x u s e y =
+    subst (λ (b : Bool). Fits_slot s (if b then Opened u else if x.announced then Named u else Hidden u)) (sym e)
+    (go x.announced s (subst (λ (b : Bool). Fits_slot s (if b then Opened x.text else if x.announced then Named x.text else Hidden x.text)) e y))
   where
     go : (n : Bool) (s : Slot) → Fits_slot s (if n then Named x.text else Hidden x.text) → Fits_slot s (if n then Named u else Hidden u)
     go true Unknown y = y
@@ -346,8 +365,11 @@ printed_carries d n fs s x e = go (is_printed fs s) refl
         let longer : end ≤ length (t ++ s) = subst (λ (u : List ℕ). end ≤ length u) (end_is t s) (omega (arith, length-ins t s (length t) l0)) in
         let dot : Told 0 (Hsetdot 0 end end ∷ []) (t ++ s) (t ++ s) = told_dot 0 end end (t ++ s) (omega arith) longer in
         let first : Told 0 (grown fs 0 (length t) s) t (t ++ s) = subst (Told 0 (grown fs 0 (length t) s) t) (end_is t s) (told_grown fs 0 (length t) s t w l0 l) in
-        let all : Told 0 told t (t ++ s) = told-append 0 (grown fs 0 (length t) s) (Hsetdot 0 end end ∷ Hcheck 0 ∷ []) t (t ++ s) (t ++ s) first (told-append 0 (Hsetdot 0 end end ∷ []) (Hcheck 0 ∷ []) (t ++ s) (t ++ s) (t ++ s) dot (told_check 0 (t ++ s))) in
-        carries_told d n a (file_in out.slots) 0 (when true told) t (t ++ s) (shown ∙ file_opened file w) (λ g. files g ∙ ap (λ (y : HFile). put a 0 y g) (file_opened (printed_file file s) w)) (told_when true 0 told t (t ++ s) (λ q. all) (λ q. absurd (true≢false q)))
+        let all : Told 0 told t (t ++ s) =
+        told-append 0 (grown fs 0 (length t) s) (Hsetdot 0 end end ∷ Hcheck 0 ∷ []) t (t ++ s) (t ++ s) first
+        (told-append 0 (Hsetdot 0 end end ∷ []) (Hcheck 0 ∷ []) (t ++ s) (t ++ s) (t ++ s) dot (told_check 0 (t ++ s))) in
+        carries_told d n a (file_in out.slots) 0 (when true told) t (t ++ s) (shown ∙ file_opened file w) (λ g. files g ∙ ap (λ (y : HFile). put a 0 y g) (file_opened (printed_file file s) w))
+        (told_when true 0 told t (t ++ s) (λ q. all) (λ q. absurd (true≢false q)))
     opened false w l =
         carries_at d n a (file_in out.slots) 0 (when false told) [] (file_of (printed_file file s)) (λ g. refl) files
         (λ u y. stays_put [] d n u (file_of (printed_file file s)) tt (shut_fits file (t ++ s) u w (subst (Fits_slot u) shown y)))
@@ -372,7 +394,8 @@ printed_carries d n fs s x e = go (is_printed fs s) refl
         command : ◌≡◌ {A = ℕ} 0 0 → IsCommandFile (a 0) → IsCommandFile (file_of (printed_file file s))
         command q y = marks file.opened file.announced (subst IsCommandFile shown y)
           where
-            marks : (o n : Bool) → IsCommandFile (if o then Opened t else if n then Named t else Hidden t) → IsCommandFile (if o then Opened (t ++ s) else if n then Named (t ++ s) else Hidden (t ++ s))
+            marks : (o n : Bool) → IsCommandFile (if o then Opened t else if n then Named t else Hidden t)
+                → IsCommandFile (if o then Opened (t ++ s) else if n then Named (t ++ s) else Hidden (t ++ s))
             marks true n y = tt
             marks false true y = absurd y
             marks false false y = tt

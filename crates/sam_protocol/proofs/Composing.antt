@@ -2,7 +2,7 @@
 use Rattle.std.proofs.Common.{◌≡◌, ℕ, ◌+◌, ◌≤◌, Bool, false, ◌||◌, List, [], ◌∷◌, ◌++◌, length, Option, ◌⊎◌, inl, inr, refl, sym, ap, ◌∙◌, subst, arith}
 use Rattle.sam_runes.specs.Texts.{max_runes}
 use Rattle.sam_mesg.specs.declared.tmesg.Tmesg.{Tmesg}
-use Rattle.sam_mesg.specs.declared.tmesg.Tmesg.TheVariants.{Tversion, Tstartcmdfile, Tcheck, Trequest, Torigin, Tstartfile, Tworkfile, Ttype, Tcut, Tpaste, Tsnarf, Tstartnewfile, Twrite, Tclose, Tlook, Tsearch, Tsend, Tdclick, Tstartsnarf, Tsetsnarf, Tack, Texit}
+use Rattle.sam_mesg.specs.declared.tmesg.Tmesg.TheVariants.{Tversion, Tcheck, Trequest, Torigin, Tstartfile, Tworkfile, Ttype, Tcut, Tpaste, Tsnarf, Twrite, Tclose, Tlook, Tsearch, Tsend, Tdclick}
 use Rattle.sam_mesg.specs.declared.hmesg.Hmesg.{Hmesg}
 use Rattle.sam_host.specs.Host.{PlainHost}
 use Rattle.sam_protocol.specs.Lens.{Lens, lens, Unknown, Known, Open, Action, HFile, Absent, Hidden, Named, Opened, Gone, Agrees, IsSettled, IsKept, OpenAt, Anything}
@@ -20,12 +20,14 @@ use Rattle.sam_protocol.proofs.Steady.{steady_reply}
 use Rattle.sam_protocol.proofs.Folds.{acts}
 
 -- the host that will have handled all is not done where the terminal acts
-pub not_done_ahead : (h : PlainHost) (views : ℕ → Lens) (line : List Tmesg) (down : List Hmesg) (k : Kept h views line down) → exited_of (views 0) ≡ false → command_of (views 0) ≡ false → k.ahead.is_done ≡ false
+pub not_done_ahead : (h : PlainHost) (views : ℕ → Lens) (line : List Tmesg) (down : List Hmesg) (k : Kept h views line down) → exited_of (views 0) ≡ false → command_of (views 0) ≡ false
+    → k.ahead.is_done ≡ false
 not_done_ahead h views line down k e c =
     let s : List Action = at_file 0 (down ++ k.frames) in
     let x = k.each 0 in
     let none = no_exit s (views 0) x.final x.runs c in
-    sym (exited_settled x.final k.ahead.is_done k.ahead.version (file_in k.ahead.files.slots 0) x.settled) ∙ exited_after s (views 0) x.final x.runs ∙ ap (λ (b : Bool). b || exited_of (views 0)) none ∙ e
+    sym (exited_settled x.final k.ahead.is_done k.ahead.version (file_in k.ahead.files.slots 0) x.settled) ∙ exited_after s (views 0) x.final x.runs ∙ ap
+    (λ (b : Bool). b || exited_of (views 0)) none ∙ e
 
 -- an open file that is free is open at the host, and agrees
 pub record OpenBoth (P : List (Option ℕ) → Type 0) (file : HFile) : Type 0 where
@@ -78,7 +80,6 @@ accepted h views line down k m allowed can = go m allowed can
 
     go : (m : Tmesg) → IsAllowed (change_by m) views → CanCompose m views → Accepted k.ahead m
     go (Tversion v) a x = x
-    go Tstartcmdfile a x = tt
     go (Tcheck f) a x = let o = at Anything f x in (o.text, o.opened, tt)
     go (Trequest f p n) a x = let o = at Anything f x in (o.text, o.opened, tt)
     go (Torigin f p n) a x = let o = at (Within p p) f x in (o.text, o.opened, within o.rasp o.text p o.agrees o.has.1)
@@ -90,20 +91,17 @@ accepted h views line down k m allowed can = go m allowed can
     go (Tcut f p q) a x = let o = at (Within p q) f x in (o.text, o.opened, (o.has.0, within o.rasp o.text q o.agrees o.has.1))
     go (Tpaste f p) a x = let o = at (Within p p) f x in (o.text, o.opened, within o.rasp o.text p o.agrees o.has.1)
     go (Tsnarf f p q) a x = let o = at (Within p q) f x in (o.text, o.opened, (o.has.0, within o.rasp o.text q o.agrees o.has.1))
-    go Tstartnewfile a x = tt
     go (Twrite f) a x = let o = at Anything f x.0 in (x.1, (o.text, o.opened, tt))
     go (Tclose f) a x = let o = at Anything f x.0 in (x.1, (o.text, o.opened, tt))
     go (Tlook f p q) a x = let o = at (Within p q) f x in (o.text, o.opened, (o.has.0, within o.rasp o.text q o.agrees o.has.1))
     go (Tsearch f p q) a x = let o = at (Within p q) f x in (o.text, o.opened, (o.has.0, within o.rasp o.text q o.agrees o.has.1))
     go (Tsend f p q) a x = let o = at (Within p q) f x in (o.text, o.opened, (o.has.0, within o.rasp o.text q o.agrees o.has.1))
     go (Tdclick f p) a x = let o = at (Within p p) f x in (o.text, o.opened, within o.rasp o.text p o.agrees o.has.1)
-    go Tstartsnarf a x = tt
-    go (Tsetsnarf s) a x = tt
-    go Tack a x = tt
-    go Texit a x = tt
+    go _ a x = tt
 
 -- a message that the terminal composes of its own joins what is up
-pub composes : (h : PlainHost) (views : ℕ → Lens) (line : List Tmesg) (down : List Hmesg) (m : Tmesg) → Kept h views line down → exited_of (views 0) ≡ false → command_of (views 0) ≡ false → IsAllowed (change_by m) views → CanCompose m views
+pub composes : (h : PlainHost) (views : ℕ → Lens) (line : List Tmesg) (down : List Hmesg) (m : Tmesg) → Kept h views line down → exited_of (views 0) ≡ false → command_of (views 0) ≡ false
+    → IsAllowed (change_by m) views → CanCompose m views
     → Kept h (λ g. changed (change_by m) g (views g)) (line ++ m ∷ []) down
 composes h views line down m k here free allowed can =
     let d = not_done_ahead h views line down k here free in

@@ -24,7 +24,8 @@ nothing : (v : Lens) (d : Bool) (n : ℕ) (file : HFile) → IsSettled v d n fil
 nothing v d n file s = kept_by [] v v d n file refl s tt refl
 
 -- an edit of f's rasp, made in the host's text too, and no frame
-edit_case : (h k : PlainHost) (f : ℕ) (text : List ℕ) (e : Lens → Lens) → Opens h.files f → ((g : ℕ) → file_in k.files.slots g ≡ put (file_in h.files.slots) f (Opened text) g) → k.is_done ≡ h.is_done → k.version ≡ h.version
+edit_case : (h k : PlainHost) (f : ℕ) (text : List ℕ) (e : Lens → Lens) → Opens h.files f → ((g : ℕ) → file_in k.files.slots g ≡ put (file_in h.files.slots) f (Opened text) g)
+    → k.is_done ≡ h.is_done → k.version ≡ h.version
     → ((r : List (Option ℕ)) → Agrees r (file_at h.files f).text → IsSettled (e (lens false h.is_done h.version (Open r 0))) h.is_done h.version (Opened text))
     → (g : ℕ) (w : Lens) → IsSettled w h.is_done h.version (file_in h.files.slots g) → IsKept [] (if g == f then e w else w) k.is_done k.version (file_in k.files.slots g)
 edit_case h k f text e o files done version keeps g w s =
@@ -45,7 +46,8 @@ pub sync_cut : (h : PlainHost) (f p q : ℕ) → HasFiles h.files → Opens h.fi
 unfolding reply_cut
 sync_cut h f p q sound o l l2 = record {
   passes = open_tests h f o (no_range h f p q ∷ []) (range_test h f p q l l2);
-  each = edit_case h k f (del t p q) (cut_out p q) o files refl refl (λ r a. (refl, refl, refl, (refl, subst (λ (j : ℕ). Agrees (without p (q - p) r) (del t p j)) to (agrees_without p (q - p) r t a))));
+  each = edit_case h k f (del t p q) (cut_out p q) o files refl refl
+      (λ r a. (refl, refl, refl, (refl, subst (λ (j : ℕ). Agrees (without p (q - p) r) (del t p j)) to (agrees_without p (q - p) r t a))));
   gone = lasts.gone;
   sound = still_has h.files k.files sound refl lasts;
 }
@@ -66,15 +68,18 @@ sync_cut h f p q sound o l l2 = record {
     lasts = lasts_opened (file_in h.files.slots) (file_in k.files.slots) f t (del t p q) o.shown files
 
 -- the tests of typing
-pub type_passes : (h : PlainHost) (f p : ℕ) (s : List ℕ) → Opens h.files f → p ≤ length (file_at h.files f).text → length (file_at h.files f).text + length s ≤ max_runes → first_of_checks (host_checks h (Ttype f p s)) ≡ None
+pub type_passes : (h : PlainHost) (f p : ℕ) (s : List ℕ) → Opens h.files f → p ≤ length (file_at h.files f).text → length (file_at h.files f).text + length s ≤ max_runes
+    → first_of_checks (host_checks h (Ttype f p s)) ≡ None
 type_passes h f p s o l room = open_tests h f o (past_end h f p ∷ no_room h f s ∷ []) (place_test h f p (no_room h f s ∷ []) l (room_test h f s room))
 
 -- typing that ends no line of tag 0
-pub sync_type : (h : PlainHost) (f p : ℕ) (s : List ℕ) → HasFiles h.files → Opens h.files f → p ≤ length (file_at h.files f).text → length (file_at h.files f).text + length s ≤ max_runes → is_command_line f s ≡ false → Synced h (Ttype f p s)
+pub sync_type : (h : PlainHost) (f p : ℕ) (s : List ℕ) → HasFiles h.files → Opens h.files f → p ≤ length (file_at h.files f).text → length (file_at h.files f).text + length s ≤ max_runes
+    → is_command_line f s ≡ false → Synced h (Ttype f p s)
 unfolding reply_type
 sync_type h f p s sound o l room ends = record {
   passes = type_passes h f p s o l room;
-  each = λ g w x. subst (λ (b : Bool). IsKept (at_file g (if b then line else (typed, [])).1) (changed (type_change (if b then CommandLock else NoLock) f p s) g w) (if b then line else (typed, [])).0.is_done (if b then line else (typed, [])).0.version (file_in (if b then line else (typed, [])).0.files.slots g)) (sym ends)
+  each = λ g w x. subst
+      (λ (b : Bool). IsKept (at_file g (if b then line else (typed, [])).1) (changed (type_change (if b then CommandLock else NoLock) f p s) g w) (if b then line else (typed, [])).0.is_done (if b then line else (typed, [])).0.version (file_in (if b then line else (typed, [])).0.files.slots g)) (sym ends)
       (edit_case h typed f (ins t p s) (typed_in p s) o files refl refl (λ r a. (refl, refl, refl, (refl, agrees_typed p s r t a))) g w x);
   gone = λ g e. ap (λ (b : Bool). file_in (if b then line else (typed, [])).0.files.slots g) ends ∙ lasts.gone g e;
   sound = subst (λ (b : Bool). HasFiles (if b then line else (typed, [])).0.files) (sym ends) (still_has h.files typed.files sound refl lasts);
@@ -155,7 +160,8 @@ sync_get_snarf h sound = record { passes = refl; each = λ g w s. kept_skips (Sk
 
 pub sync_set_snarf : (h : PlainHost) (s : List ℕ) → HasFiles h.files → Synced h (Tsetsnarf s)
 unfolding reply_setsnarf
-sync_set_snarf h s sound = record { passes = refl; each = λ g w x. kept_skips (Skip ∷ []) w h.is_done h.version (file_in h.files.slots g) (refl, tt) x; gone = λ g q. q; sound = kept_files h _ refl refl sound }
+sync_set_snarf h s sound =
+    record { passes = refl; each = λ g w x. kept_skips (Skip ∷ []) w h.is_done h.version (file_in h.files.slots g) (refl, tt) x; gone = λ g q. q; sound = kept_files h _ refl refl sound }
 
 pub sync_ack : (h : PlainHost) → HasFiles h.files → Synced h Tack
 sync_ack h sound = record { passes = refl; each = λ g w x. nothing w h.is_done h.version (file_in h.files.slots g) x; gone = λ g q. q; sound = sound }

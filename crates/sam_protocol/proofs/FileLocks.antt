@@ -59,7 +59,8 @@ locks h m f c sound o passes k = record { passes = passes; each = each; gone = l
     lasts = lasts_opened (file_in h.files.slots) (file_in r.0.files.slots) f t k.text o.shown k.has.files
 
     -- what is kept, in the words of the host before
-    after : (g : ℕ) (v : Lens) → IsKept (at_file g r.1) v h.is_done h.version (put (file_in h.files.slots) f (Opened k.text) g) → IsKept (at_file g r.1) v r.0.is_done r.0.version (file_in r.0.files.slots g)
+    after : (g : ℕ) (v : Lens) → IsKept (at_file g r.1) v h.is_done h.version (put (file_in h.files.slots) f (Opened k.text) g)
+        → IsKept (at_file g r.1) v r.0.is_done r.0.version (file_in r.0.files.slots g)
     after g v x =
         subst (λ (y : HFile). IsKept (at_file g r.1) v r.0.is_done r.0.version y) (sym (k.has.files g))
         (subst (λ (y : ℕ). IsKept (at_file g r.1) v r.0.is_done y (put (file_in h.files.slots) f (Opened k.text) g)) (sym k.has.version)
@@ -75,7 +76,8 @@ locks h m f c sound o passes k = record { passes = passes; each = each; gone = l
             (subst (λ (y : ℕ). IsKept (at_file y r.1) (lens false h.is_done h.version (Open u.0 1)) h.is_done h.version (Opened k.text)) (sym e) (k.here u.0 u.2))
 
         go : ((g == f) ≡ true) ⊎ ((g == f) ≡ false) → IsKept (at_file g r.1) (if g == f then locked_more w else w) h.is_done h.version (if g == f then Opened k.text else file_in h.files.slots g)
-        go (inl e) = subst (λ (b : Bool). IsKept (at_file g r.1) (if b then locked_more w else w) h.is_done h.version (if b then Opened k.text else file_in h.files.slots g)) (sym e) (here (eqb-true _ _ e))
+        go (inl e) =
+            subst (λ (b : Bool). IsKept (at_file g r.1) (if b then locked_more w else w) h.is_done h.version (if b then Opened k.text else file_in h.files.slots g)) (sym e) (here (eqb-true _ _ e))
         go (inr e) = subst (λ (b : Bool). IsKept (at_file g r.1) (if b then locked_more w else w) h.is_done h.version (if b then Opened k.text else file_in h.files.slots g)) (sym e)
             (kept_skips (at_file g r.1) w h.is_done h.version (file_in h.files.slots g) (k.elsewhere g e) s)
 
@@ -110,7 +112,8 @@ freed h k f front text has told = record { text = text; has = has; here = here; 
         (no_close_behind told.acts (Free_file ∷ []) told.rewrites.no_close refl))
 
     elsewhere : (g : ℕ) → (g == f) ≡ false → AreSkips (at_file g (front ++ Hunlockfile f ∷ []))
-    elsewhere g e = subst AreSkips (sym (at_file-append g front (Hunlockfile f ∷ []))) (skips-append _ _ (tells_elsewhere f g front told.acts (told.tells g) e) (ap (λ (b : Bool). only b Free_file) e, tt))
+    elsewhere g e =
+        subst AreSkips (sym (at_file-append g front (Hunlockfile f ∷ []))) (skips-append _ _ (tells_elsewhere f g front told.acts (told.tells g) e) (ap (λ (b : Bool). only b Free_file) e, tt))
 
 freed_by : (h : PlainHost) (f : ℕ) (k : PlainHost) (frames u : List Hmesg) → u ≡ frames → Freed h f (k, u) → Freed h f (k, frames)
 freed_by h f k frames u e x = subst (λ (v : List Hmesg). Freed h f (k, v)) e x
@@ -128,13 +131,15 @@ freed_if h f false x y p q = q refl
 abbrev InText : List ℕ → Option Range → Type 0
 InText t d = IfSome d (InRange (length t))
 
-freed_found : (h : PlainHost) (f : ℕ) (d : Option Range) (frames : List Hmesg) → Opens h.files f → InText (file_at h.files f).text d → Told f frames (file_at h.files f).text (file_at h.files f).text → Freed h f (reply_found h f d frames)
+freed_found : (h : PlainHost) (f : ℕ) (d : Option Range) (frames : List Hmesg) → Opens h.files f → InText (file_at h.files f).text d
+    → Told f frames (file_at h.files f).text (file_at h.files f).text → Freed h f (reply_found h f d frames)
 freed_found h f None frames o within told = freed_only h f o
 freed_found h f (Some d) frames o within told =
     let t : List ℕ = (file_at h.files f).text in
     let last : List Hmesg = Hsetdot f d.0 d.1 ∷ Hmoveto f d.0 ∷ Hcheck f ∷ [] in
     let first : d.0 ≤ length t = omega (arith, within.0, within.1) in
-    freed_by h f (with_file h f (record (file_at h.files f) { dot = d })) (frames ++ Hsetdot f d.0 d.1 ∷ Hmoveto f d.0 ∷ Hcheck f ∷ Hunlockfile f ∷ []) ((frames ++ last) ++ Hunlockfile f ∷ []) (append_assoc frames last (Hunlockfile f ∷ []))
+    freed_by h f (with_file h f (record (file_at h.files f) { dot = d })) (frames ++ Hsetdot f d.0 d.1 ∷ Hmoveto f d.0 ∷ Hcheck f ∷ Hunlockfile f ∷ []) ((frames ++ last) ++ Hunlockfile f ∷ [])
+    (append_assoc frames last (Hunlockfile f ∷ []))
     (freed h (with_file h f (record (file_at h.files f) { dot = d })) f (frames ++ last) t (has_put h f (record (file_at h.files f) { dot = d }) o o.opened)
     (told-append f frames last t t t told
     (told-append f (Hsetdot f d.0 d.1 ∷ []) (Hmoveto f d.0 ∷ Hcheck f ∷ []) t t t (told_dot f d.0 d.1 t within.0 within.1)
@@ -228,7 +233,8 @@ sync_paste h f p sound o l =
         let longer : length (ins t p s) ≡ length t + length s = length-ins t s p l in
         let first : p ≤ p + length s = omega arith in
         let end : p + length s ≤ length (ins t p s) = omega (arith, longer, l) in
-        freed_by h f (with_file h f pasted) ((grown h.files f p s ++ dirty) ++ (last ++ Hunlockfile f ∷ [])) (((grown h.files f p s ++ dirty) ++ last) ++ Hunlockfile f ∷ []) (append_assoc (grown h.files f p s ++ dirty) last (Hunlockfile f ∷ []))
+        freed_by h f (with_file h f pasted) ((grown h.files f p s ++ dirty) ++ (last ++ Hunlockfile f ∷ [])) (((grown h.files f p s ++ dirty) ++ last) ++ Hunlockfile f ∷ [])
+        (append_assoc (grown h.files f p s ++ dirty) last (Hunlockfile f ∷ []))
         (freed h (with_file h f pasted) f ((grown h.files f p s ++ dirty) ++ last) (ins t p s) (has_put h f pasted o o.opened)
         (told-append f (grown h.files f p s ++ dirty) last t (ins t p s) (ins t p s)
         (told-append f (grown h.files f p s) dirty t (ins t p s) (ins t p s) (told_grown h.files f p s t o.opened l room) (told_if _ f (Hdirty f ∷ []) (ins t p s) (told_dirty f (ins t p s))))
@@ -253,7 +259,9 @@ request_tells h f p n o g =
     ∙ ap (λ (x : List ℕ). only (g == f) (Fill (min p (length t)) x) ∷ only (g == f) Free_file ∷ []) (asked t p (min n most_in_message))
 
 pub request_passes : (h : PlainHost) (f p n : ℕ) → f < length h.files.slots → (has_file h.files f && not (file_at h.files f).opened) ≡ false → first_of_checks (host_checks h (Trequest f p n)) ≡ None
-request_passes h f p n l e = test (nat_le (length h.files.slots) f) NoFile ((has_file h.files f && not (file_at h.files f).opened, NotOpen) ∷ []) (lt-leb (length h.files.slots) f l) (last_test (has_file h.files f && not (file_at h.files f).opened) NotOpen e)
+request_passes h f p n l e =
+    test (nat_le (length h.files.slots) f) NoFile ((has_file h.files f && not (file_at h.files f).opened, NotOpen) ∷ []) (lt-leb (length h.files.slots) f l)
+    (last_test (has_file h.files f && not (file_at h.files f).opened) NotOpen e)
 
 pub open_passes : (h : PlainHost) (f : ℕ) → Opens h.files f → (has_file h.files f && not (file_at h.files f).opened) ≡ false
 open_passes h f o = λ i. o.there i && not (o.opened i)
@@ -280,5 +288,6 @@ sync_request h f p n d sound o =
 
     here : (rasp : List (Option ℕ)) → Agrees rasp t → IsKept (at_file f (reply_request h f p n).1) (lens false h.is_done h.version (Open rasp 1)) h.is_done h.version (Opened t)
     here rasp a =
-        subst (λ (u : List Action). IsKept u (lens false h.is_done h.version (Open rasp 1)) h.is_done h.version (Opened t)) (sym (tells_there f f (reply_request h f p n).1 (request_actions false (Opened t) p n) (request_tells h f p n o f) (eq-eqb f f refl)))
+        subst (λ (u : List Action). IsKept u (lens false h.is_done h.version (Open rasp 1)) h.is_done h.version (Opened t))
+        (sym (tells_there f f (reply_request h f p n).1 (request_actions false (Opened t) p n) (request_tells h f p n o f) (eq-eqb f f refl)))
         (subst (λ (b : Bool). IsKept (request_actions b (Opened t) p n) (lens false h.is_done h.version (Open rasp 1)) h.is_done h.version (Opened t)) d (kept_data h.is_done h.version rasp t p n d a))

@@ -92,7 +92,8 @@ frame_moves h views line m down k g =
     let t = kept_take (action g m) (at_file g (down ++ k.frames)) (views g) k.ahead.is_done k.ahead.version (file_in k.ahead.files.slots g) (k.each g) in
     (t.mid, t.moves)
 
-pub term_takes : (h : PlainHost) (views views2 : ℕ → Lens) (line : List Tmesg) (m : Hmesg) (down : List Hmesg) → Kept h views line (m ∷ down) → ((g : ℕ) → move (action g m) (views g) ≡ Some (views2 g)) → Kept h views2 line down
+pub term_takes : (h : PlainHost) (views views2 : ℕ → Lens) (line : List Tmesg) (m : Hmesg) (down : List Hmesg) → Kept h views line (m ∷ down)
+    → ((g : ℕ) → move (action g m) (views g) ≡ Some (views2 g)) → Kept h views2 line down
 term_takes h views views2 line m down k moves = record {
   ahead = k.ahead;
   frames = k.frames;
@@ -111,11 +112,13 @@ term_takes h views views2 line m down k moves = record {
 
 -- views that are alike at each file
 pub kept_views : (h : PlainHost) (views views2 : ℕ → Lens) (line : List Tmesg) (down : List Hmesg) → Kept h views line down → ((g : ℕ) → views g ≡ views2 g) → Kept h views2 line down
-kept_views h views views2 line down k same = record { ahead = k.ahead; frames = k.frames; folds = k.folds; each = λ g. subst (λ (v : Lens). IsKept (at_file g (down ++ k.frames)) v k.ahead.is_done k.ahead.version (file_in k.ahead.files.slots g)) (same g) (k.each g); steady = k.steady; versions = k.versions }
+kept_views h views views2 line down k same =
+    record { ahead = k.ahead; frames = k.frames; folds = k.folds; each = λ g. subst (λ (v : Lens). IsKept (at_file g (down ++ k.frames)) v k.ahead.is_done k.ahead.version (file_in k.ahead.files.slots g)) (same g) (k.each g); steady = k.steady; versions = k.versions }
 
 -- another list of messages that folds to the same, counts aside
 pub kept_with : (h : PlainHost) (views views2 : ℕ → Lens) (line : List Tmesg) (down : List Hmesg) (m : Tmesg) (r : Reply) (k : Kept h views line down) → reply_of k.ahead m ≡ Some r
-    → ((g : ℕ) → IsKept (at_file g (down ++ k.frames) ++ at_file g r.1) (views2 g) r.0.is_done r.0.version (file_in r.0.files.slots g)) → IsSteady r.0 → VersionsGuarded r.1 → Kept h views2 (line ++ m ∷ []) down
+    → ((g : ℕ) → IsKept (at_file g (down ++ k.frames) ++ at_file g r.1) (views2 g) r.0.is_done r.0.version (file_in r.0.files.slots g)) → IsSteady r.0 → VersionsGuarded r.1
+    → Kept h views2 (line ++ m ∷ []) down
 kept_with h views views2 line down m r k replies each steady versions =
     let one : answers k.ahead (m ∷ []) ≡ Some r = ap (λ (o : Option Reply). replied_then o (λ x. answers x [])) replies ∙ ap (λ (fs : List Hmesg). Some (r.0, fs)) (append-nil r.1) in
     let same : (down ++ k.frames) ++ r.1 ≡ down ++ (k.frames ++ r.1) = append_assoc down k.frames r.1 in
@@ -190,7 +193,8 @@ pub plain_reply : (h : PlainHost) (m : Tmesg) → h.is_done ≡ false → first_
 plain_reply h m d e = ap (λ (b : Bool). if b then Some (counted h, []) else replied (first_of_checks (host_checks h m)) (reply_to h m)) d ∙ ap (λ (o : Option HostFault). replied o (reply_to h m)) e
 
 -- an act whose message and answer lead from settled to settled
-pub acts : (h : PlainHost) (views : ℕ → Lens) (line : List Tmesg) (down : List Hmesg) (m : Tmesg) (k : Kept h views line down) → k.ahead.is_done ≡ false → IsAllowed (change_by m) views → Synced k.ahead m → IsSteady (reply_to k.ahead m).0
+pub acts : (h : PlainHost) (views : ℕ → Lens) (line : List Tmesg) (down : List Hmesg) (m : Tmesg) (k : Kept h views line down) → k.ahead.is_done ≡ false → IsAllowed (change_by m) views
+    → Synced k.ahead m → IsSteady (reply_to k.ahead m).0
     → Kept h (λ g. changed (change_by m) g (views g)) (line ++ m ∷ []) down
 acts h views line down m k d allowed y steady =
     kept_with h views (λ g. changed c g (views g)) line down m (counted r.0, r.1) k (plain_reply k.ahead m d y.passes) each
@@ -212,7 +216,9 @@ acts h views line down m k d allowed y steady =
     each g = go (free_or_same c views g allowed)
       where
         go : IsFree (views g) ⊎ ((v : Lens) → changed c g v ≡ v) → IsKept (s g ++ u g) (changed c g (views g)) r.0.is_done r.0.version (file_in r.0.files.slots g)
-        go (inl free) = kept_act (s g) (u g) (views g) (changed c g (views g)) k.ahead.is_done r.0.is_done k.ahead.version r.0.version (file_in k.ahead.files.slots g) (file_in r.0.files.slots g) (k.each g) free (alike_changed c g (views g)) (y.each g (views g)) (y.gone g)
+        go (inl free) =
+            kept_act (s g) (u g) (views g) (changed c g (views g)) k.ahead.is_done r.0.is_done k.ahead.version r.0.version (file_in k.ahead.files.slots g) (file_in r.0.files.slots g)
+            (k.each g) free (alike_changed c g (views g)) (y.each g (views g)) (y.gone g)
         go (inr same) = subst (λ (v : Lens). IsKept (s g ++ u g) v r.0.is_done r.0.version (file_in r.0.files.slots g)) (sym (same (views g)))
             (kept_append (s g) (u g) (views g) k.ahead.is_done r.0.is_done k.ahead.version r.0.version (file_in k.ahead.files.slots g) (file_in r.0.files.slots g) (k.each g)
             (λ x z. subst (λ (v : Lens). IsKept (u g) v r.0.is_done r.0.version (file_in r.0.files.slots g)) (same x) (y.each g x z)) (y.gone g))
@@ -220,7 +226,8 @@ acts h views line down m k d allowed y steady =
 -- an acknowledgement is answered by nothing
 pub acknowledges : (h : PlainHost) (views : ℕ → Lens) (line : List Tmesg) (down : List Hmesg) → Kept h views line down → Kept h views (line ++ Tack ∷ []) down
 acknowledges h views line down k =
-    kept_with h views views line down Tack (counted k.ahead, []) k (either_way k.ahead.is_done) (λ g. kept_more _ _ _ _ _ (k.each g)) (record { sound = k.steady.sound; announced = k.steady.announced; fit = k.steady.fit }) tt
+    kept_with h views views line down Tack (counted k.ahead, []) k (either_way k.ahead.is_done) (λ g. kept_more _ _ _ _ _ (k.each g))
+    (record { sound = k.steady.sound; announced = k.steady.announced; fit = k.steady.fit }) tt
   where
     either_way : (b : Bool) → (if b then (let x : Option Reply = Some (counted k.ahead, []) in x) else Some (counted k.ahead, [])) ≡ Some (counted k.ahead, [])
     either_way true = refl
@@ -244,8 +251,10 @@ requested h f p n c = go h.is_done refl (file_in h.files.slots f) refl c
     silent : h.is_done ≡ true → reply_of h (Trequest f p n) ≡ Some (counted h, [])
     silent d = ap (λ (b : Bool). if b then Some (counted h, []) else replied (first_of_checks (host_checks h (Trequest f p n))) (reply_to h (Trequest f p n))) d
 
-    told : h.is_done ≡ false → (file : HFile) → file_in h.files.slots f ≡ file → first_of_checks (host_checks h (Trequest f p n)) ≡ None → ((g : ℕ) → at_file g frames ≡ map (only (g == f)) (request_actions false file p n)) → Requested h f p n
-    told z file e passes tells = record { frames = frames; now = plain_reply h (Trequest f p n) z passes; tells = λ g. tells g ∙ (λ i. map (only (g == f)) (request_actions (sym z i) (sym e i) p n)); versions = guarded_reply h (Trequest f p n) }
+    told : h.is_done ≡ false → (file : HFile) → file_in h.files.slots f ≡ file → first_of_checks (host_checks h (Trequest f p n)) ≡ None
+        → ((g : ℕ) → at_file g frames ≡ map (only (g == f)) (request_actions false file p n)) → Requested h f p n
+    told z file e passes tells =
+        record { frames = frames; now = plain_reply h (Trequest f p n) z passes; tells = λ g. tells g ∙ (λ i. map (only (g == f)) (request_actions (sym z i) (sym e i) p n)); versions = guarded_reply h (Trequest f p n) }
 
     go : (d : Bool) → h.is_done ≡ d → (file : HFile) → file_in h.files.slots f ≡ file → CanRequest d file → Requested h f p n
     go true z file e c = record { frames = []; now = silent z; tells = λ g. ap (λ (b : Bool). map (only (g == f)) (request_actions b (file_in h.files.slots f) p n)) (sym z); versions = tt }
@@ -254,7 +263,8 @@ requested h f p n c = go h.is_done refl (file_in h.files.slots f) refl c
     go false z (Named t) e c = absurd c
     go false z (Opened t) e c =
         let o = opens_at h.files f t e in
-        told z (Opened t) e (request_passes h f p n o.0.given (open_passes h f o.0)) (λ g. request_tells h f p n o.0 g ∙ ap (λ (u : List ℕ). map (only (g == f)) (request_actions false (Opened u) p n)) o.1)
+        told z (Opened t) e (request_passes h f p n o.0.given (open_passes h f o.0))
+        (λ g. request_tells h f p n o.0 g ∙ ap (λ (u : List ℕ). map (only (g == f)) (request_actions false (Opened u) p n)) o.1)
     go false z Gone e c =
         let x = gone_at h.files.slots f e in
         told z Gone e (request_passes h f p n x.0 (none_passes h f x.1)) (none_tells h f p n x.1)
@@ -293,7 +303,8 @@ requests h views line down f p n k is_open here =
       where
         go : ((g == f) ≡ true) ⊎ ((g == f) ≡ false) → IsKept (s g ++ told g) (if g == f then locked_more (views g) else views g) d v (file g)
         go (inl e) =
-            let q : request_actions d (file g) p n ≡ told g = ap (λ (x : ℕ). request_actions d (file x) p n) (eqb-true _ _ e) ∙ sym (tells_there f g r.frames (request_actions d (file f) p n) (r.tells g) e) in
+            let q : request_actions d (file g) p n ≡ told g =
+            ap (λ (x : ℕ). request_actions d (file x) p n) (eqb-true _ _ e) ∙ sym (tells_there f g r.frames (request_actions d (file f) p n) (r.tells g) e) in
             subst (λ (b : Bool). IsKept (s g ++ told g) (if b then locked_more (views g) else views g) d v (file g)) (sym e)
             (subst (λ (u : List Action). IsKept (s g ++ u) (locked_more (views g)) d v (file g)) q (there g e).1)
         go (inr e) =

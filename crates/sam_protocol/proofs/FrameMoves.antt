@@ -94,13 +94,15 @@ on_slot : (a : Action) (tests : Window → Checks TermFault) (next : Window → 
 on_slot a tests next on unknown closed c e n None v q = let x : None ≡ Some v = sym (unknown c e n) ∙ q in cc
 on_slot a tests next on unknown closed c e n (Some known) v q = on_window a tests next on closed c e n known.window v q
 
-on_grow : (p m : ℕ) → OnOpen (Grow p m) (λ w. (nat_lt (length w.rasp) p, fault.BadPosition) ∷ (nat_lt max_runes (length w.rasp + m), fault.TooLong) ∷ []) (λ w. Open (ins_cells w.rasp p (replicate m None)) w.locks)
+on_grow : (p m : ℕ) → OnOpen (Grow p m) (λ w. (nat_lt (length w.rasp) p, fault.BadPosition) ∷ (nat_lt max_runes (length w.rasp + m), fault.TooLong) ∷ [])
+    (λ w. Open (ins_cells w.rasp p (replicate m None)) w.locks)
 on_grow p m c e n w v q =
     let x = if_some _ _ _ q in
     let y = and_parts (nat_le p (length w.rasp)) (nat_le (length w.rasp + m) max_runes) x.0 in
     (two_tests (nat_lt (length w.rasp) p) (nat_lt max_runes (length w.rasp + m)) fault.BadPosition fault.TooLong (within p (length w.rasp) y.0) (within (length w.rasp + m) max_runes y.1), sym x.1)
 
-on_growdata : (p : ℕ) (s : List ℕ) → OnOpen (Insert p s) (λ w. (nat_lt (length w.rasp) p, fault.BadPosition) ∷ (nat_lt max_runes (length w.rasp + length s), fault.TooLong) ∷ []) (λ w. Open (ins_cells w.rasp p (map Some s)) w.locks)
+on_growdata : (p : ℕ) (s : List ℕ) → OnOpen (Insert p s) (λ w. (nat_lt (length w.rasp) p, fault.BadPosition) ∷ (nat_lt max_runes (length w.rasp + length s), fault.TooLong) ∷ [])
+    (λ w. Open (ins_cells w.rasp p (map Some s)) w.locks)
 on_growdata p s c e n w v q =
     let x = if_some _ _ _ q in
     let y = and_parts (nat_le p (length w.rasp)) (nat_le (length w.rasp + length s) max_runes) x.0 in
@@ -161,7 +163,8 @@ on_known a c e n s v same q = go s (ap (λ (b : Action). move b (lens c e n (slo
     at_window None q = sym (the q)
     at_window (Some w) q = sym (the q)
 
-    go : (s : Option KnownFile) → move Needs_known (lens c e n (slot_of s)) ≡ Some v → (first_of_checks ((not (is_some s), fault.NoFile) ∷ []) ≡ None) × (v ≡ lens c e n (slot_of_window (known_of s).window))
+    go : (s : Option KnownFile) → move Needs_known (lens c e n (slot_of s)) ≡ Some v
+        → (first_of_checks ((not (is_some s), fault.NoFile) ∷ []) ≡ None) × (v ≡ lens c e n (slot_of_window (known_of s).window))
     go None q = cc
     go (Some known) q = (refl, at_window known.window q)
 
@@ -176,7 +179,8 @@ on_shut a next unknown known opened c e n s v q = go s q
     at_window None q = (refl, sym (the (sym (known c e n) ∙ q)))
     at_window (Some w) q = let x : None ≡ Some v = sym (opened c e n w) ∙ q in cc
 
-    go : (s : Option KnownFile) → move a (lens c e n (slot_of s)) ≡ Some v → (first_of_checks ((not (is_some s), fault.NoFile) ∷ (is_some (known_of s).window, fault.AlreadyBound) ∷ []) ≡ None) × (v ≡ lens c e n next)
+    go : (s : Option KnownFile) → move a (lens c e n (slot_of s)) ≡ Some v
+        → (first_of_checks ((not (is_some s), fault.NoFile) ∷ (is_some (known_of s).window, fault.AlreadyBound) ∷ []) ≡ None) × (v ≡ lens c e n next)
     go None q = let x : None ≡ Some v = sym (unknown c e n) ∙ q in cc
     go (Some k) q = at_window k.window q
 
@@ -231,7 +235,8 @@ known_here f t h =
     let x = on_known Needs_known t.command_lock t.has_exited t.version (slot t.files f) q.0 refl q.1 in
     record { passes = x.0; moves = q.1 ∙ ap Some x.1 }
 
-removed_moves : (f : ℕ) (t : PlainTerminal) → move Leave (view f t) ≡ Some (lens t.command_lock t.has_exited t.version Unknown) → (g : ℕ) → move (only (g == f) Leave) (view g t) ≡ Some (view g (record t { files = free_slot t.files f }))
+removed_moves : (f : ℕ) (t : PlainTerminal) → move Leave (view f t) ≡ Some (lens t.command_lock t.has_exited t.version Unknown) → (g : ℕ)
+    → move (only (g == f) Leave) (view g t) ≡ Some (view g (record t { files = free_slot t.files f }))
 removed_moves f t here = tagged f Leave t (record t { files = free_slot t.files f }) refl refl refl (λ g n. slot-free_other t.files f g n)
     (here ∙ ap (λ (s : Option KnownFile). Some (lens t.command_lock t.has_exited t.version (slot_of s))) (sym (slot-free_same t.files f)))
 
@@ -240,7 +245,8 @@ exit_moves : (t : PlainTerminal) (g : ℕ) (v : Lens) → move Exit (view g t) �
 unfolding took_exit
 exit_moves t g v q = go t.command_lock t.has_exited t.version (slot t.files g) q ∙ ap (λ (s : Option KnownFile). Some (lens false true t.version (slot_of s))) (sym (slot-map freed_known t.files g))
   where
-    at_window : (c e : Bool) (n : ℕ) (w : Option Window) → move Exit (lens c e n (slot_of_window w)) ≡ Some v → move Exit (lens c e n (slot_of_window w)) ≡ Some (lens false true n (slot_of_window (free_window w)))
+    at_window : (c e : Bool) (n : ℕ) (w : Option Window) → move Exit (lens c e n (slot_of_window w)) ≡ Some v
+        → move Exit (lens c e n (slot_of_window w)) ≡ Some (lens false true n (slot_of_window (free_window w)))
     at_window true e n None q = refl
     at_window true e n (Some w) q = refl
     at_window false e n None q = cc
@@ -251,7 +257,8 @@ exit_moves t g v q = go t.command_lock t.has_exited t.version (slot t.files g) q
     go false e n None q = cc
     go c e n (Some k) q = at_window c e n k.window q
 
-version_moves : (v : ℕ) (t : PlainTerminal) (g : ℕ) (b : Bool) → move (if b then Skip else Change (common_version v)) (view g t) ≡ Some (lens t.command_lock t.has_exited (if b then t.version else common_version v) (slot_of (slot t.files g)))
+version_moves : (v : ℕ) (t : PlainTerminal) (g : ℕ) (b : Bool)
+    → move (if b then Skip else Change (common_version v)) (view g t) ≡ Some (lens t.command_lock t.has_exited (if b then t.version else common_version v) (slot_of (slot t.files g)))
 version_moves v t g true = refl
 version_moves v t g false = refl
 
@@ -280,7 +287,8 @@ take_law t (Hcurrent f) h =
     known_same : (f : ℕ) (t : PlainTerminal) → Refuses f Needs_known t → Some (lens t.command_lock t.has_exited t.version (slot_of_window (known_of (slot t.files f)).window)) ≡ Some (view f t)
     known_same f t h = let q = here_moves f Needs_known t h in go (slot t.files f) q.0 q.1
       where
-        go : (s : Option KnownFile) (v : Lens) → move Needs_known (lens t.command_lock t.has_exited t.version (slot_of s)) ≡ Some v → Some (lens t.command_lock t.has_exited t.version (slot_of_window (known_of s).window)) ≡ Some (lens t.command_lock t.has_exited t.version (slot_of s))
+        go : (s : Option KnownFile) (v : Lens) → move Needs_known (lens t.command_lock t.has_exited t.version (slot_of s)) ≡ Some v
+            → Some (lens t.command_lock t.has_exited t.version (slot_of_window (known_of s).window)) ≡ Some (lens t.command_lock t.has_exited t.version (slot_of s))
         go None v q = cc
         go (Some k) v q = refl
 take_law t (Hnewname f) h =
@@ -291,22 +299,30 @@ take_law t (Hmovname f s) h =
     let x = known_here f t h in
     record { passes = x.passes; moves = put_moves f Needs_known t (effect t (Hmovname f s)) (record (known_of (slot t.files f)) { name = s }) refl refl refl refl x.moves; composes = refl }
 take_law t (Hgrow f p n) h =
-    let x = opened_here f (Grow p n) t (λ w. (nat_lt (length w.rasp) p, fault.BadPosition) ∷ (nat_lt max_runes (length w.rasp + n), fault.TooLong) ∷ []) (λ w. Open (ins_cells w.rasp p (replicate n None)) w.locks) (on_grow p n) (λ c e v. refl) (λ c e v. refl) h in
+    let x =
+    opened_here f (Grow p n) t (λ w. (nat_lt (length w.rasp) p, fault.BadPosition) ∷ (nat_lt max_runes (length w.rasp + n), fault.TooLong) ∷ [])
+    (λ w. Open (ins_cells w.rasp p (replicate n None)) w.locks) (on_grow p n) (λ c e v. refl) (λ c e v. refl) h in
     record { passes = x.passes; moves = put_moves f (Grow p n) t (effect t (Hgrow f p n)) _ refl refl refl refl x.moves; composes = refl }
 take_law t (Hcheck f) h =
     let x = opened_here f Needs_open t (λ w. []) (λ w. Open w.rasp w.locks) on_check (λ c e v. refl) (λ c e v. refl) h in
     record { passes = x.passes; moves = tagged f Needs_open t t refl refl refl (λ g n. refl) (open_same (slot t.files f) (here_moves f Needs_open t h).0 (here_moves f Needs_open t h).1); composes = refl }
   where
-    open_same : (s : Option KnownFile) (v : Lens) → move Needs_open (lens t.command_lock t.has_exited t.version (slot_of s)) ≡ Some v → move Needs_open (lens t.command_lock t.has_exited t.version (slot_of s)) ≡ Some (lens t.command_lock t.has_exited t.version (slot_of s))
+    open_same : (s : Option KnownFile) (v : Lens) → move Needs_open (lens t.command_lock t.has_exited t.version (slot_of s)) ≡ Some v
+        → move Needs_open (lens t.command_lock t.has_exited t.version (slot_of s)) ≡ Some (lens t.command_lock t.has_exited t.version (slot_of s))
     open_same None v q = cc
     open_same (Some k) v q = go k.window q
       where
-        go : (w : Option Window) → move Needs_open (lens t.command_lock t.has_exited t.version (slot_of_window w)) ≡ Some v → move Needs_open (lens t.command_lock t.has_exited t.version (slot_of_window w)) ≡ Some (lens t.command_lock t.has_exited t.version (slot_of_window w))
+        go : (w : Option Window) → move Needs_open (lens t.command_lock t.has_exited t.version (slot_of_window w)) ≡ Some v
+            → move Needs_open (lens t.command_lock t.has_exited t.version (slot_of_window w)) ≡ Some (lens t.command_lock t.has_exited t.version (slot_of_window w))
         go None q = cc
         go (Some w) q = refl
-take_law t Hunlock h = let e = unlock_moves t (h 0).0 (h 0).1 in record { passes = rw e refl; moves = λ g. ap (λ (b : Bool). move Free_command (lens b t.has_exited t.version (slot_of (slot t.files g)))) e; composes = refl }
+take_law t Hunlock h =
+    let e = unlock_moves t (h 0).0
+    (h 0).1 in record { passes = rw e refl; moves = λ g. ap (λ (b : Bool). move Free_command (lens b t.has_exited t.version (slot_of (slot t.files g)))) e; composes = refl }
 take_law t (Hdata f p s) h =
-    let x = opened_here f (Fill p s) t (λ w. (nat_lt (length w.rasp) (p + length s), fault.BadPosition) ∷ []) (λ w. Open (load_cells w.rasp p s) w.locks) (on_data p s) (λ c e v. refl) (λ c e v. refl) h in
+    let x =
+    opened_here f (Fill p s) t (λ w. (nat_lt (length w.rasp) (p + length s), fault.BadPosition) ∷ []) (λ w. Open (load_cells w.rasp p s) w.locks) (on_data p s) (λ c e v. refl)
+    (λ c e v. refl) h in
     record { passes = x.passes; moves = put_moves f (Fill p s) t (effect t (Hdata f p s)) _ refl refl refl refl x.moves; composes = refl }
 take_law t (Horigin f p) h =
     let x = opened_here f (Place p p) t (λ w. (nat_lt (length w.rasp) p, fault.BadPosition) ∷ []) (λ w. Open w.rasp w.locks) (on_place p) (λ c e v. refl) (λ c e v. refl) h in
@@ -315,10 +331,14 @@ take_law t (Hunlockfile f) h =
     let x = opened_here f Free_file t (λ w. (w.locks == 0, fault.LockNotHeld) ∷ []) (λ w. Open w.rasp (w.locks - 1)) on_unlockfile (λ c e v. refl) (λ c e v. refl) h in
     record { passes = x.passes; moves = put_moves f Free_file t (effect t (Hunlockfile f)) _ refl refl refl refl x.moves; composes = refl }
 take_law t (Hsetdot f p q) h =
-    let x = opened_here f (Place p q) t (λ w. (nat_lt q p, fault.BadPosition) ∷ (nat_lt (length w.rasp) q, fault.BadPosition) ∷ []) (λ w. Open w.rasp w.locks) (on_setdot p q) (λ c e v. refl) (λ c e v. refl) h in
+    let x =
+    opened_here f (Place p q) t (λ w. (nat_lt q p, fault.BadPosition) ∷ (nat_lt (length w.rasp) q, fault.BadPosition) ∷ []) (λ w. Open w.rasp w.locks) (on_setdot p q) (λ c e v. refl)
+    (λ c e v. refl) h in
     record { passes = x.passes; moves = put_moves f (Place p q) t (effect t (Hsetdot f p q)) _ refl refl refl refl x.moves; composes = refl }
 take_law t (Hgrowdata f p s) h =
-    let x = opened_here f (Insert p s) t (λ w. (nat_lt (length w.rasp) p, fault.BadPosition) ∷ (nat_lt max_runes (length w.rasp + length s), fault.TooLong) ∷ []) (λ w. Open (ins_cells w.rasp p (map Some s)) w.locks) (on_growdata p s) (λ c e v. refl) (λ c e v. refl) h in
+    let x =
+    opened_here f (Insert p s) t (λ w. (nat_lt (length w.rasp) p, fault.BadPosition) ∷ (nat_lt max_runes (length w.rasp + length s), fault.TooLong) ∷ [])
+    (λ w. Open (ins_cells w.rasp p (map Some s)) w.locks) (on_growdata p s) (λ c e v. refl) (λ c e v. refl) h in
     record { passes = x.passes; moves = put_moves f (Insert p s) t (effect t (Hgrowdata f p s)) _ refl refl refl refl x.moves; composes = refl }
 take_law t (Hmoveto f p) h =
     let x = opened_here f (Place p p) t (λ w. (nat_lt (length w.rasp) p, fault.BadPosition) ∷ []) (λ w. Open w.rasp w.locks) (on_place p) (λ c e v. refl) (λ c e v. refl) h in

@@ -65,7 +65,8 @@ first_holds : (a b : Bool) → (a && b) ≡ true → a ≡ true
 first_holds true b e = refl
 first_holds false b e = e
 
-handled_type : (h : PlainHost) → Ready h → (f p : ℕ) (s : List ℕ) → Opens h.files f × ((p ≤ length (file_at h.files f).text) × (length (file_at h.files f).text + length s ≤ max_runes)) → (is_command_line f s ≡ true) ⊎ (is_command_line f s ≡ false) → Synced h (Ttype f p s)
+handled_type : (h : PlainHost) → Ready h → (f p : ℕ) (s : List ℕ) → Opens h.files f × ((p ≤ length (file_at h.files f).text) × (length (file_at h.files f).text + length s ≤ max_runes))
+    → (is_command_line f s ≡ true) ⊎ (is_command_line f s ≡ false) → Synced h (Ttype f p s)
 handled_type h r f p s a (inr e) = edits.sync_type h f p s r.steady.sound a.0 a.1.0 a.1.1 e
 handled_type h r f p s a (inl e) = subst Typed (sym zero) line a e
   where

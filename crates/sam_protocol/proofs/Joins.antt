@@ -47,10 +47,12 @@ typed_reply : (h : PlainHost) (f p : ℕ) (s : List ℕ) → reply_to h (Ttype f
 unfolding reply_type typed_host after_typing
 typed_reply h f p s = refl
 
-alike_after : (ends : Bool) (k j : PlainHost) (f end : ℕ) → AreAlike k j → AreAlike (after_typing ends k f end).0 (after_typing ends j f end).0 × ((after_typing ends k f end).1 ≡ (after_typing ends j f end).1)
+alike_after : (ends : Bool) (k j : PlainHost) (f end : ℕ) → AreAlike k j
+    → AreAlike (after_typing ends k f end).0 (after_typing ends j f end).0 × ((after_typing ends k f end).1 ≡ (after_typing ends j f end).1)
 unfolding after_typing
 alike_after false k j f end a = (a, refl)
-alike_after true k j f end a = (record { files = ap (λ (fs : PlainFiles). (line fs).0.files) a.files; done = ap (λ (fs : PlainFiles). (line fs).0.is_done) a.files; version = a.version }, ap (λ (fs : PlainFiles). (line fs).1) a.files)
+alike_after true k j f end a =
+    (record { files = ap (λ (fs : PlainFiles). (line fs).0.files) a.files; done = ap (λ (fs : PlainFiles). (line fs).0.is_done) a.files; version = a.version }, ap (λ (fs : PlainFiles). (line fs).1) a.files)
   where
     line : PlainFiles → Reply
     line fs = let t = (file_at fs f).text in reply_line (record k { files = fs }) [] (part t (line_start t end) end)
@@ -63,7 +65,8 @@ unfolding typed_host
 typed_twice h f p s w l =
     let x = typed_file f (file_at h.files f) p s in
     let fs = put_file h.files f x in
-    let same : typed_file f (file_at fs f) (p + length s) w ≡ typed_file f (file_at h.files f) p (s ++ w) = ap (λ (y : PlainFile). typed_file f y (p + length s) w) (at_put h.files f x) ∙ typed_joined f (file_at h.files f) p s w l in
+    let same : typed_file f (file_at fs f) (p + length s) w ≡ typed_file f (file_at h.files f) p (s ++ w) =
+    ap (λ (y : PlainFile). typed_file f y (p + length s) w) (at_put h.files f x) ∙ typed_joined f (file_at h.files f) p s w l in
     record {
       files = ap (λ (y : PlainFile). put_file fs f y) same ∙ ap (λ ss. record h.files { slots = ss }) (put_slot-put_slot h.files.slots f x (typed_file f (file_at h.files f) p (s ++ w)));
       done = refl;
@@ -100,7 +103,9 @@ record WasTyped (h : PlainHost) (f p : ℕ) (s : List ℕ) (r : Reply) : Type 0 
   is : r ≡ (counted (reply_to h (Ttype f p s)).0, (reply_to h (Ttype f p s)).1)
 
 was_typed : (h : PlainHost) (f p : ℕ) (s : List ℕ) (r : Reply) → h.is_done ≡ false → reply_of h (Ttype f p s) ≡ Some r → WasTyped h f p s r
-was_typed h f p s r d e = go (first_of_checks (host_checks h (Ttype f p s))) refl (ap (λ (b : Bool). if b then Some (counted h, []) else replied (first_of_checks (host_checks h (Ttype f p s))) (reply_to h (Ttype f p s))) (sym d) ∙ e)
+was_typed h f p s r d e =
+    go (first_of_checks (host_checks h (Ttype f p s))) refl
+    (ap (λ (b : Bool). if b then Some (counted h, []) else replied (first_of_checks (host_checks h (Ttype f p s))) (reply_to h (Ttype f p s))) (sym d) ∙ e)
   where
     go : (o : Option HostFault) → first_of_checks (host_checks h (Ttype f p s)) ≡ o → replied o (reply_to h (Ttype f p s)) ≡ Some r → WasTyped h f p s r
     go None q e = record { can = can_type h f p s q; is = sym (the_reply e) }
@@ -115,7 +120,8 @@ record Joined (h : PlainHost) (f p : ℕ) (s w : List ℕ) (r1 r2 : Reply) : Typ
   alike : AreAlike r2.0 reply.0
   frames : r2.1 ≡ reply.1
 
-joined_done : (h : PlainHost) (f p : ℕ) (s w : List ℕ) (r1 r2 : Reply) → h.is_done ≡ true → reply_of h (Ttype f p s) ≡ Some r1 → reply_of r1.0 (Ttype f (p + length s) w) ≡ Some r2 → Joined h f p s w r1 r2
+joined_done : (h : PlainHost) (f p : ℕ) (s w : List ℕ) (r1 r2 : Reply) → h.is_done ≡ true → reply_of h (Ttype f p s) ≡ Some r1 → reply_of r1.0 (Ttype f (p + length s) w) ≡ Some r2
+    → Joined h f p s w r1 r2
 joined_done h f p s w r1 r2 d e1 e2 =
     let first : (counted h, []) ≡ r1 = the_reply (sym (silent h (Ttype f p s) d) ∙ e1) in
     let d1 : r1.0.is_done ≡ true = ap (λ (r : Reply). r.0.is_done) (sym first) ∙ d in
@@ -136,7 +142,8 @@ joined_done h f p s w r1 r2 d e1 e2 =
     silent : (k : PlainHost) (m : Tmesg) → k.is_done ≡ true → reply_of k m ≡ Some (counted k, [])
     silent k m d = ap (λ (b : Bool). if b then Some (counted k, []) else replied (first_of_checks (host_checks k m)) (reply_to k m)) d
 
-joined_open : (h : PlainHost) (f p c : ℕ) (s u : List ℕ) (r1 r2 : Reply) → ((f == 0) && ends_line s) ≡ false → h.is_done ≡ false → reply_of h (Ttype f p s) ≡ Some r1 → reply_of r1.0 (Ttype f (p + length s) (c ∷ u)) ≡ Some r2 → Joined h f p s (c ∷ u) r1 r2
+joined_open : (h : PlainHost) (f p c : ℕ) (s u : List ℕ) (r1 r2 : Reply) → ((f == 0) && ends_line s) ≡ false → h.is_done ≡ false → reply_of h (Ttype f p s) ≡ Some r1
+    → reply_of r1.0 (Ttype f (p + length s) (c ∷ u)) ≡ Some r2 → Joined h f p s (c ∷ u) r1 r2
 unfolding typed_host after_typing
 joined_open h f p c s u r1 r2 plain d e1 e2 =
     let w : List ℕ = c ∷ u in
@@ -153,8 +160,10 @@ joined_open h f p c s u r1 r2 plain d e1 e2 =
     let end : p + length s + length w - 1 ≡ p + length (s ++ w) - 1 = omega (arith, long) in
     let ends : ((f == 0) && ends_line w) ≡ ((f == 0) && ends_line (s ++ w)) = ap (λ (b : Bool). (f == 0) && b) (sym (ends_line-append s u c)) in
     let both = alike_after ((f == 0) && ends_line w) (typed_host k f (p + length s) w) (typed_host h f p (s ++ w)) f (p + length s + length w - 1) (typed_twice h f p s w one.can.place) in
-    let whole : after_typing ((f == 0) && ends_line w) (typed_host h f p (s ++ w)) f (p + length s + length w - 1) ≡ reply_to h (Ttype f p (s ++ w)) = (λ i. after_typing (ends i) (typed_host h f p (s ++ w)) f (end i)) ∙ sym (typed_reply h f p (s ++ w)) in
-    let told : r2 ≡ (counted (after_typing ((f == 0) && ends_line w) (typed_host k f (p + length s) w) f (p + length s + length w - 1)).0, (after_typing ((f == 0) && ends_line w) (typed_host k f (p + length s) w) f (p + length s + length w - 1)).1) = two.is ∙ ap (λ (r : Reply). (counted r.0, r.1)) (typed_reply k f (p + length s) w) in
+    let whole : after_typing ((f == 0) && ends_line w) (typed_host h f p (s ++ w)) f (p + length s + length w - 1) ≡ reply_to h (Ttype f p (s ++ w)) =
+    (λ i. after_typing (ends i) (typed_host h f p (s ++ w)) f (end i)) ∙ sym (typed_reply h f p (s ++ w)) in
+    let told : r2 ≡ (counted (after_typing ((f == 0) && ends_line w) (typed_host k f (p + length s) w) f (p + length s + length w - 1)).0, (after_typing ((f == 0) && ends_line w) (typed_host k f (p + length s) w) f (p + length s + length w - 1)).1) =
+    two.is ∙ ap (λ (r : Reply). (counted r.0, r.1)) (typed_reply k f (p + length s) w) in
     record {
       reply = (counted (reply_to h (Ttype f p (s ++ w))).0, (reply_to h (Ttype f p (s ++ w))).1);
       now = plain_reply h (Ttype f p (s ++ w)) d (may_type h f p (s ++ w) can);

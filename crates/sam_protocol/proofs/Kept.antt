@@ -54,7 +54,8 @@ kept_take a s v d n file k =
     }
 
 -- frames are answered from the settled state
-pub kept_append : (s u : List Action) (v : Lens) (d d2 : Bool) (n n2 : ℕ) (file file2 : HFile) → IsKept s v d n file → ((w : Lens) → IsSettled w d n file → IsKept u w d2 n2 file2) → (file ≡ Gone → file2 ≡ Gone) → IsKept (s ++ u) v d2 n2 file2
+pub kept_append : (s u : List Action) (v : Lens) (d d2 : Bool) (n n2 : ℕ) (file file2 : HFile) → IsKept s v d n file → ((w : Lens) → IsSettled w d n file → IsKept u w d2 n2 file2)
+    → (file ≡ Gone → file2 ≡ Gone) → IsKept (s ++ u) v d2 n2 file2
 kept_append s u v d d2 n n2 file file2 k on gone =
     let next = on k.final k.settled in
     record {
@@ -70,7 +71,8 @@ kept_append s u v d d2 n n2 file file2 k on gone =
     either (inr p) f g = g p
 
 -- the user acts on a free file: what is under way doesn't notice
-pub kept_act : (s u : List Action) (v x : Lens) (d d2 : Bool) (n n2 : ℕ) (file file2 : HFile) → IsKept s v d n file → IsFree v → IsAlike v x → (IsSettled v d n file → IsKept u x d2 n2 file2) → (file ≡ Gone → file2 ≡ Gone) → IsKept (s ++ u) x d2 n2 file2
+pub kept_act : (s u : List Action) (v x : Lens) (d d2 : Bool) (n n2 : ℕ) (file file2 : HFile) → IsKept s v d n file → IsFree v → IsAlike v x → (IsSettled v d n file → IsKept u x d2 n2 file2)
+    → (file ≡ Gone → file2 ≡ Gone) → IsKept (s ++ u) x d2 n2 file2
 kept_act s u v x d d2 n n2 file file2 k free alike on gone =
     let h = still s v k.final x free k.guarded alike k.runs in
     let next = on (subst (λ (w : Lens). IsSettled w d n file) h.0 k.settled) in
@@ -162,7 +164,8 @@ can_request_open true t = tt
 can_request_open false t = tt
 
 -- a Trequest that the terminal composes while it takes a frame, and its answer
-pub kept_request : (s : List Action) (v : Lens) (d : Bool) (n : ℕ) (file : HFile) (p m : ℕ) → IsKept s v d n file → IsOpen v → exited_of v ≡ false → CanRequest d file × IsKept (s ++ request_actions d file p m) (locked_more v) d n file
+pub kept_request : (s : List Action) (v : Lens) (d : Bool) (n : ℕ) (file : HFile) (p m : ℕ) → IsKept s v d n file → IsOpen v → exited_of v ≡ false
+    → CanRequest d file × IsKept (s ++ request_actions d file p m) (locked_more v) d n file
 kept_request s v d n file p m k o e = go (runs_more s v k.final o k.runs)
   where
     exited : d ≡ (exits s || exited_of v)
@@ -177,7 +180,8 @@ kept_request s v d n file p m k o e = go (runs_more s v k.final o k.runs)
         let q = no_actions d file p m h in
         (q.0, subst (λ (u : List Action). IsKept (s ++ u) (locked_more v) d n file) (sym q.1) (kept_more s (locked_more v) d n file (record { final = k.final; runs = r; settled = k.settled; guarded = k.guarded; closed = k.closed })))
 
-    running : (t : List ℕ) → file ≡ Opened t → (closes s ≡ true → file ≡ Gone) → (x : Lens) → run s (locked_more v) ≡ Some x → IsKept (request_actions d (Opened t) p m) x d n (Opened t) → CanRequest d file × IsKept (s ++ request_actions d file p m) (locked_more v) d n file
+    running : (t : List ℕ) → file ≡ Opened t → (closes s ≡ true → file ≡ Gone) → (x : Lens) → run s (locked_more v) ≡ Some x → IsKept (request_actions d (Opened t) p m) x d n (Opened t)
+        → CanRequest d file × IsKept (s ++ request_actions d file p m) (locked_more v) d n file
     running t q gone x r loads = subst (λ (f : HFile). CanRequest d f × IsKept (s ++ request_actions d f p m) (locked_more v) d n f) (sym q) (
       can_request_open d t,
       record {
@@ -189,11 +193,13 @@ kept_request s v d n file p m k o e = go (runs_more s v k.final o k.runs)
       },
     )
       where
-        either : (closes s ≡ true) ⊎ (closes (request_actions d (Opened t) p m) ≡ true) → (closes s ≡ true → Opened t ≡ Gone) → (closes (request_actions d (Opened t) p m) ≡ true → Opened t ≡ Gone) → Opened t ≡ Gone
+        either : (closes s ≡ true) ⊎ (closes (request_actions d (Opened t) p m) ≡ true) → (closes s ≡ true → Opened t ≡ Gone)
+            → (closes (request_actions d (Opened t) p m) ≡ true → Opened t ≡ Gone) → Opened t ≡ Gone
         either (inl c) f g = f c
         either (inr c) f g = g c
 
-    go : ((((closes s || exits s) ≡ true) × (run s (locked_more v) ≡ Some k.final)) ⊎ (IsOpen k.final × (run s (locked_more v) ≡ Some (locked_more k.final)) × ((closes s || exits s) ≡ false))) → CanRequest d file × IsKept (s ++ request_actions d file p m) (locked_more v) d n file
+    go : ((((closes s || exits s) ≡ true) × (run s (locked_more v) ≡ Some k.final)) ⊎ (IsOpen k.final × (run s (locked_more v) ≡ Some (locked_more k.final)) × ((closes s || exits s) ≡ false)))
+        → CanRequest d file × IsKept (s ++ request_actions d file p m) (locked_more v) d n file
     go (inl h) = ended h.1 (why (or_split _ _ h.0))
     go (inr h) =
         let so = settled_open k.final d n file h.0 k.settled in
@@ -205,7 +211,8 @@ pub kept_skips : (u : List Action) (w : Lens) (d : Bool) (n : ℕ) (file : HFile
 kept_skips [] w d n file a x = record { final = w; runs = refl; settled = x; guarded = tt; closed = λ c. absurd (true≢false (sym c)) }
 kept_skips (a ∷ u) w d n file q x =
     let k = kept_skips u w d n file q.1 x in
-    subst (λ (b : Action). IsKept (b ∷ u) w d n file) (sym q.0) (record { final = k.final; runs = k.runs; settled = k.settled; guarded = (λ c. absurd (true≢false (sym c)), k.guarded); closed = k.closed })
+    subst (λ (b : Action). IsKept (b ∷ u) w d n file) (sym q.0)
+    (record { final = k.final; runs = k.runs; settled = k.settled; guarded = (λ c. absurd (true≢false (sym c)), k.guarded); closed = k.closed })
 
 -- the terminal changes the lens of a free file, or of none
 pub alike_same : (v : Lens) → IsAlike v v

@@ -63,8 +63,10 @@ line_on fs line f fit e = by_work fs.work refl
     at_slot : (g : ℕ) → fs.work ≡ Some g → (y : Option PlainFile) → slot fs.slots g ≡ y → LineOn fs line f
     at_slot g w None q = none (ap (option_and_then (λ (k : ℕ). option_map (work_on k) (slot fs.slots k))) w ∙ ap (option_map (work_on g)) q)
     at_slot g w (Some x) q =
-        let here : work_file fs ≡ Some (work_on g (file_at fs g)) = ap (option_and_then (λ (k : ℕ). option_map (work_on k) (slot fs.slots k))) w ∙ (ap (option_map (work_on g)) q ∙ ap (λ (y : PlainFile). Some (work_on g y)) (sym (at_there fs g x q))) in
-        let fits : Fits (work_on g (file_at fs g)) (meaning fs line) = subst (λ (k : Option WorkFile). Fits (work_on g (file_at fs g)) (line_outcome k line)) (sym here) (line_fits (work_on g (file_at fs g)) line (fit g)) in
+        let here : work_file fs ≡ Some (work_on g (file_at fs g)) =
+        ap (option_and_then (λ (k : ℕ). option_map (work_on k) (slot fs.slots k))) w ∙ (ap (option_map (work_on g)) q ∙ ap (λ (y : PlainFile). Some (work_on g y)) (sym (at_there fs g x q))) in
+        let fits : Fits (work_on g (file_at fs g)) (meaning fs line) =
+        subst (λ (k : Option WorkFile). Fits (work_on g (file_at fs g)) (line_outcome k line)) (sym here) (line_fits (work_on g (file_at fs g)) line (fit g)) in
         let same : g ≡ f = sym (fits.own f e) in
         record { is_work = w ∙ ap Some same; fits = subst (λ (k : ℕ). Fits (work_on k (file_at fs k)) (meaning fs line)) same fits }
 
@@ -73,7 +75,8 @@ line_on fs line f fit e = by_work fs.work refl
     by_work (Some g) w = at_slot g w (slot fs.slots g) refl
 
 -- how it is told at the work file
-outcome_told : (fs : PlainFiles) (o : PlainOutcome) (f : ℕ) → Opens fs f → Fits (work_on f (file_at fs f)) o → Told f (told_outcome (Some f) fs o) (file_at fs f).text (unwrap_or o.text (file_at fs f).text)
+outcome_told : (fs : PlainFiles) (o : PlainOutcome) (f : ℕ) → Opens fs f → Fits (work_on f (file_at fs f)) o
+    → Told f (told_outcome (Some f) fs o) (file_at fs f).text (unwrap_or o.text (file_at fs f).text)
 unfolding told_outcome
 outcome_told fs o f opens fit =
     told-append f _ (when (not (is_empty o.edits)) (Hcheck f ∷ [])) t t2 t2
@@ -111,7 +114,8 @@ unfolding told_outcome
 none_told d n fs o = record { moves = λ g s x. stays_put _ d n s (file_in fs.slots g) (skips_pattern g o.pattern) x; lasts = lasts_same (file_in fs.slots) (file_in fs.slots) (λ g. refl) }
 
 -- the outcome of a line, told and put in
-outcome_carries : (d : Bool) (n : ℕ) (fs : PlainFiles) (line : List ℕ) → HasFiles fs → AreFit fs → Carries d n (file_in fs.slots) (told_outcome (meaning fs line).file fs (meaning fs line)) (file_in (committed fs (meaning fs line)).slots)
+outcome_carries : (d : Bool) (n : ℕ) (fs : PlainFiles) (line : List ℕ) → HasFiles fs → AreFit fs
+    → Carries d n (file_in fs.slots) (told_outcome (meaning fs line).file fs (meaning fs line)) (file_in (committed fs (meaning fs line)).slots)
 outcome_carries d n fs line sound fit = go (meaning fs line).file refl
   where
     o : PlainOutcome
@@ -161,9 +165,11 @@ holds_printed fs s h = go (is_printed fs s)
 
 -- behind frames that lead from the files a to those of k, the line leads on
 line_each : (a : ℕ → HFile) (k : PlainHost) (before : List Hmesg) (line : List ℕ) → HasFiles k.files → AreFit k.files → Holds k.files → Carries k.is_done k.version a before (file_in k.files.slots)
-    → k.is_done ≡ false → (g : ℕ) (s : Slot) → Fits_slot s (a g) → IsKept (at_file g (reply_line k before line).1) (lens true k.is_done k.version s) (reply_line k before line).0.is_done k.version (file_in (reply_line k before line).0.files.slots g)
+    → k.is_done ≡ false → (g : ℕ) (s : Slot) → Fits_slot s (a g)
+    → IsKept (at_file g (reply_line k before line).1) (lens true k.is_done k.version s) (reply_line k before line).0.is_done k.version (file_in (reply_line k before line).0.files.slots g)
 line_each a k before line sound fit holds first done g s x =
-    subst (λ (u : List Action). IsKept u (lens true k.is_done k.version s) o.quit k.version (file_in out.slots g)) (sym (at_file-append g front ((if o.quit then Hexit else Hunlock) ∷ []))) (last o.quit)
+    subst (λ (u : List Action). IsKept u (lens true k.is_done k.version s) o.quit k.version (file_in out.slots g)) (sym (at_file-append g front ((if o.quit then Hexit else Hunlock) ∷ [])))
+    (last o.quit)
   where
     o : PlainOutcome
     o = meaning k.files line
@@ -188,15 +194,19 @@ line_each a k before line sound fit holds first done g s x =
 
     last : (q : Bool) → IsKept (at_file g front ++ at_file g ((if q then Hexit else Hunlock) ∷ [])) (lens true k.is_done k.version s) q k.version (file_in out.slots g)
     last true = exits_kept (at_file g front) k.is_done k.version s (file_in out.slots g) (all.moves g s x)
-    last false = subst (λ (d : Bool). IsKept (at_file g front ++ Free_command ∷ []) (lens true k.is_done k.version s) d k.version (file_in out.slots g)) done (unlocks (at_file g front) k.is_done k.version s (file_in out.slots g) (all.moves g s x))
+    last false =
+        subst (λ (d : Bool). IsKept (at_file g front ++ Free_command ∷ []) (lens true k.is_done k.version s) d k.version (file_in out.slots g)) done
+        (unlocks (at_file g front) k.is_done k.version s (file_in out.slots g) (all.moves g s x))
 
 -- what it keeps of the files
-line_lasts : (k : PlainHost) (before : List Hmesg) (line : List ℕ) → HasFiles k.files → AreFit k.files → Holds k.files → Lasts (file_in k.files.slots) (file_in (reply_line k before line).0.files.slots)
+line_lasts : (k : PlainHost) (before : List Hmesg) (line : List ℕ) → HasFiles k.files → AreFit k.files → Holds k.files
+    → Lasts (file_in k.files.slots) (file_in (reply_line k before line).0.files.slots)
 line_lasts k before line sound fit holds =
     let o = meaning k.files line in
     let fs = committed k.files o in
     let there = holds_committed k.files o holds in
-    lasts_then (file_in k.files.slots) (file_in fs.slots) (file_in (after_print fs o.printed).slots) (outcome_carries false 1 k.files line sound fit).lasts (printed_carries false 1 fs o.printed there.0 there.1).lasts
+    lasts_then (file_in k.files.slots) (file_in fs.slots) (file_in (after_print fs o.printed).slots) (outcome_carries false 1 k.files line sound fit).lasts
+    (printed_carries false 1 fs o.printed there.0 there.1).lasts
 
 line_sound : (k : PlainHost) (before : List Hmesg) (line : List ℕ) → HasFiles k.files → AreFit k.files → Holds k.files → HasFiles (reply_line k before line).0.files
 line_sound k before line sound fit holds =
@@ -212,12 +222,14 @@ line_sound k before line sound fit holds =
 -- ## The messages
 
 -- typing that ends a line of tag 0
-pub sync_line : (h : PlainHost) (p : ℕ) (s : List ℕ) → IsSteady h → h.is_done ≡ false → Opens h.files 0 → Holds h.files → p ≤ length (file_at h.files 0).text → length (file_at h.files 0).text + length s ≤ max_runes
+pub sync_line : (h : PlainHost) (p : ℕ) (s : List ℕ) → IsSteady h → h.is_done ≡ false → Opens h.files 0 → Holds h.files → p ≤ length (file_at h.files 0).text
+    → length (file_at h.files 0).text + length s ≤ max_runes
     → ((0 == 0) && ends_line s) ≡ true → Synced h (Ttype 0 p s)
 unfolding reply_type
 sync_line h p s steady done o holds l room ends = record {
   passes = type_passes h 0 p s o l room;
-  each = λ g w x. subst (λ (b : Bool). IsKept (at_file g (if b then run else (typed_host, [])).1) (changed (type_change (if b then CommandLock else NoLock) 0 p s) g w) (if b then run else (typed_host, [])).0.is_done (if b then run else (typed_host, [])).0.version (file_in (if b then run else (typed_host, [])).0.files.slots g)) (sym ends) (each g w x);
+  each = λ g w x. subst
+      (λ (b : Bool). IsKept (at_file g (if b then run else (typed_host, [])).1) (changed (type_change (if b then CommandLock else NoLock) 0 p s) g w) (if b then run else (typed_host, [])).0.is_done (if b then run else (typed_host, [])).0.version (file_in (if b then run else (typed_host, [])).0.files.slots g)) (sym ends) (each g w x);
   gone = λ g e. ap (λ (b : Bool). file_in (if b then run else (typed_host, [])).0.files.slots g) ends ∙ line.gone g (lasts.gone g e);
   sound = subst (λ (b : Bool). HasFiles (if b then run else (typed_host, [])).0.files) (sym ends) (line_sound typed_host [] text has fit holds2);
 }
@@ -258,7 +270,8 @@ sync_line h p s steady done o holds l room ends = record {
     line : Lasts a (file_in run.0.files.slots)
     line = line_lasts typed_host [] text has fit holds2
 
-    slot_of : (g : ℕ) (w : Lens) → IsSettled w h.is_done h.version (file_in h.files.slots g) → ((g == 0) ≡ true) ⊎ ((g == 0) ≡ false) → (x : Slot) × (commanded (if g == 0 then typed_in p s w else w) ≡ lens true h.is_done h.version x) × Fits_slot x (a g)
+    slot_of : (g : ℕ) (w : Lens) → IsSettled w h.is_done h.version (file_in h.files.slots g) → ((g == 0) ≡ true) ⊎ ((g == 0) ≡ false)
+        → (x : Slot) × (commanded (if g == 0 then typed_in p s w else w) ≡ lens true h.is_done h.version x) × Fits_slot x (a g)
     slot_of g w x (inl e) =
         let u = settled_opened w h.is_done h.version t (subst (IsSettled w h.is_done h.version) (ap (file_in h.files.slots) (eqb-true _ _ e) ∙ o.shown) x) in (
           Open (typed p s u.0) 0,
@@ -269,7 +282,8 @@ sync_line h p s steady done o holds l room ends = record {
         let u = settled_slot w h.is_done h.version (file_in h.files.slots g) x in
         (u.0, ap (λ (b : Bool). commanded (if b then typed_in p s w else w)) e ∙ ap commanded u.1, subst (Fits_slot u.0) (sym (files g ∙ put_other (file_in h.files.slots) 0 (Opened (ins t p s)) g e)) u.2)
 
-    each : (g : ℕ) (w : Lens) → IsSettled w h.is_done h.version (file_in h.files.slots g) → IsKept (at_file g run.1) (commanded (if g == 0 then typed_in p s w else w)) run.0.is_done run.0.version (file_in run.0.files.slots g)
+    each : (g : ℕ) (w : Lens) → IsSettled w h.is_done h.version (file_in h.files.slots g)
+        → IsKept (at_file g run.1) (commanded (if g == 0 then typed_in p s w else w)) run.0.is_done run.0.version (file_in run.0.files.slots g)
     each g w x =
         let u = slot_of g w x (bool_cases (g == 0)) in
         subst (λ (y : Lens). IsKept (at_file g run.1) y run.0.is_done run.0.version (file_in run.0.files.slots g)) (sym u.1)

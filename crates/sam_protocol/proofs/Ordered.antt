@@ -61,7 +61,8 @@ answer_is h m r e full = ap (λ (b : Bool). if b then Err hostfault.CountFull el
     checked None q = ap (λ (x : Reply). Ok (x.0, stamped x.0.taken x.1)) (the_reply q)
     checked (Some why) q = cc
 
-    go : (b : Bool) → (if b then (let x : Option Reply = Some (counted h, []) in x) else replied (first_of_checks (host_checks h m)) (reply_to h m)) ≡ Some r → (if b then (let x : Answer = Ok (counted h, []) in x) else answer_unless (first_of_checks (host_checks h m)) (reply_to h m)) ≡ Ok (r.0, stamped r.0.taken r.1)
+    go : (b : Bool) → (if b then (let x : Option Reply = Some (counted h, []) in x) else replied (first_of_checks (host_checks h m)) (reply_to h m)) ≡ Some r
+        → (if b then (let x : Answer = Ok (counted h, []) in x) else answer_unless (first_of_checks (host_checks h m)) (reply_to h m)) ≡ Ok (r.0, stamped r.0.taken r.1)
     go true q = ap (λ (x : Reply). Ok (x.0, stamped x.0.taken x.1)) (the_reply q)
     go false q = checked (first_of_checks (host_checks h m)) q
 
@@ -175,7 +176,8 @@ quiet_ahead h t o e = the_reply (ap (λ (u : Option Unsent). answers h (unsent_m
 
 quiet_settled : (h : PlainHost) (t : PlainTerminal) (o : InOrder h t [] []) → t.unsent ≡ None → (g : ℕ) → IsSettled (view g t) h.is_done h.version (file_in h.files.slots g)
 quiet_settled h t o e g =
-    let x : IsKept [] (view g t) h.is_done h.version (file_in h.files.slots g) = subst (λ (r : Reply). IsKept (at_file g r.1) (view g t) r.0.is_done r.0.version (file_in r.0.files.slots g)) (sym (quiet_ahead h t o e)) (o.kept.each g) in
+    let x : IsKept [] (view g t) h.is_done h.version (file_in h.files.slots g) =
+    subst (λ (r : Reply). IsKept (at_file g r.1) (view g t) r.0.is_done r.0.version (file_in r.0.files.slots g)) (sym (quiet_ahead h t o e)) (o.kept.each g) in
     subst (λ (v : Lens). IsSettled v h.is_done h.version (file_in h.files.slots g)) (the_lens (sym x.runs)) x.settled
   where
     the_lens : {p q : Lens} → Some p ≡ Some q → p ≡ q

@@ -11,7 +11,6 @@ use Rattle.sam_term.specs.declared.event.Verdict.TheVariants.{Waits, Refuses}
 use Rattle.sam_term.specs.declared.files.Window.{Window}
 use Rattle.sam_term.specs.declared.files.KnownFile.{KnownFile}
 use Rattle.sam_term.specs.declared.event.UserEvent.{UserEvent}
-use Rattle.sam_term.specs.declared.event.UserEvent.TheVariants.{Typed, Select, Cut, Paste, Snarf, Look, Search, Send, Dclick, Scroll, View, Open, Close, Write, Work, OpenCmd, New, Exit, Check, GetSnarf, SetSnarf, Version, Flush}
 use Rattle.sam_term.specs.declared.fault.Refusal.TheVariants as refusal
 use Rattle.sam_rasp.specs.Rasp.{PartialText}
 use Rattle.sam_protocol.specs.Lens as lenses
@@ -81,7 +80,8 @@ free_at t f c k = subst (λ (b : Bool). IsFree (lens b t.has_exited t.version (s
     go (Some x) k = at_window x.window k
 
 -- one that is open and has no locks
-pub open_free : (P : PartialText → Type 0) (t : PlainTerminal) (f : ℕ) → t.command_lock ≡ false → is_open t f ≡ true → nat_lt 0 (window_at t f).locks ≡ false → P (window_at t f).rasp → OpenAt P (view f t)
+pub open_free : (P : PartialText → Type 0) (t : PlainTerminal) (f : ℕ) → t.command_lock ≡ false → is_open t f ≡ true → nat_lt 0 (window_at t f).locks ≡ false → P (window_at t f).rasp
+    → OpenAt P (view f t)
 open_free P t f c o k p = go (slot t.files f) o k p
   where
     L : Slot → Lens
@@ -91,7 +91,8 @@ open_free P t f c o k p = go (slot t.files f) o k p
     at_window None o k p = absurd (true≢false (sym o))
     at_window (Some w) o k p = (c, no_locks w.locks k, p)
 
-    go : (s : Option KnownFile) → is_some (unwrap_or s blank_known).window ≡ true → nat_lt 0 (unwrap_or (unwrap_or s blank_known).window blank_window).locks ≡ false → P (unwrap_or (unwrap_or s blank_known).window blank_window).rasp → OpenAt P (L (slot_of s))
+    go : (s : Option KnownFile) → is_some (unwrap_or s blank_known).window ≡ true → nat_lt 0 (unwrap_or (unwrap_or s blank_known).window blank_window).locks ≡ false
+        → P (unwrap_or (unwrap_or s blank_known).window blank_window).rasp → OpenAt P (L (slot_of s))
     go None o k p = absurd (true≢false (sym o))
     go (Some x) o k p = at_window x.window o k p
 
@@ -136,26 +137,5 @@ all_free t c e g = free_at t g c (none_locked t.files g e)
 
 -- the tests of an event look at no event that is held
 pub held_passed : (t : PlainTerminal) (es : List UserEvent) (e : UserEvent) → Passed t e → Passed (record t { held = es }) e
-held_passed t es (Typed f s) p = record { here = p.here; free = p.free; version = p.version; known = p.known; other = p.other; opened = p.opened; unlocked = p.unlocked; all_unlocked = p.all_unlocked; place = p.place; room = p.room }
-held_passed t es (Select f a b) p = record { here = p.here; free = p.free; version = p.version; known = p.known; other = p.other; opened = p.opened; unlocked = p.unlocked; all_unlocked = p.all_unlocked; place = p.place; room = p.room }
-held_passed t es (Cut f) p = record { here = p.here; free = p.free; version = p.version; known = p.known; other = p.other; opened = p.opened; unlocked = p.unlocked; all_unlocked = p.all_unlocked; place = p.place; room = p.room }
-held_passed t es (Paste f) p = record { here = p.here; free = p.free; version = p.version; known = p.known; other = p.other; opened = p.opened; unlocked = p.unlocked; all_unlocked = p.all_unlocked; place = p.place; room = p.room }
-held_passed t es (Snarf f) p = record { here = p.here; free = p.free; version = p.version; known = p.known; other = p.other; opened = p.opened; unlocked = p.unlocked; all_unlocked = p.all_unlocked; place = p.place; room = p.room }
-held_passed t es (Look f) p = record { here = p.here; free = p.free; version = p.version; known = p.known; other = p.other; opened = p.opened; unlocked = p.unlocked; all_unlocked = p.all_unlocked; place = p.place; room = p.room }
-held_passed t es (Search f) p = record { here = p.here; free = p.free; version = p.version; known = p.known; other = p.other; opened = p.opened; unlocked = p.unlocked; all_unlocked = p.all_unlocked; place = p.place; room = p.room }
-held_passed t es (Send f) p = record { here = p.here; free = p.free; version = p.version; known = p.known; other = p.other; opened = p.opened; unlocked = p.unlocked; all_unlocked = p.all_unlocked; place = p.place; room = p.room }
-held_passed t es (Dclick f a) p = record { here = p.here; free = p.free; version = p.version; known = p.known; other = p.other; opened = p.opened; unlocked = p.unlocked; all_unlocked = p.all_unlocked; place = p.place; room = p.room }
-held_passed t es (Scroll f n) p = record { here = p.here; free = p.free; version = p.version; known = p.known; other = p.other; opened = p.opened; unlocked = p.unlocked; all_unlocked = p.all_unlocked; place = p.place; room = p.room }
-held_passed t es (View f a n) p = record { here = p.here; free = p.free; version = p.version; known = p.known; other = p.other; opened = p.opened; unlocked = p.unlocked; all_unlocked = p.all_unlocked; place = p.place; room = p.room }
-held_passed t es (Open f) p = record { here = p.here; free = p.free; version = p.version; known = p.known; other = p.other; opened = p.opened; unlocked = p.unlocked; all_unlocked = p.all_unlocked; place = p.place; room = p.room }
-held_passed t es (Close f) p = record { here = p.here; free = p.free; version = p.version; known = p.known; other = p.other; opened = p.opened; unlocked = p.unlocked; all_unlocked = p.all_unlocked; place = p.place; room = p.room }
-held_passed t es (Write f) p = record { here = p.here; free = p.free; version = p.version; known = p.known; other = p.other; opened = p.opened; unlocked = p.unlocked; all_unlocked = p.all_unlocked; place = p.place; room = p.room }
-held_passed t es (Work f) p = record { here = p.here; free = p.free; version = p.version; known = p.known; other = p.other; opened = p.opened; unlocked = p.unlocked; all_unlocked = p.all_unlocked; place = p.place; room = p.room }
-held_passed t es OpenCmd p = record { here = p.here; free = p.free; version = p.version; known = p.known; other = p.other; opened = p.opened; unlocked = p.unlocked; all_unlocked = p.all_unlocked; place = p.place; room = p.room }
-held_passed t es New p = record { here = p.here; free = p.free; version = p.version; known = p.known; other = p.other; opened = p.opened; unlocked = p.unlocked; all_unlocked = p.all_unlocked; place = p.place; room = p.room }
-held_passed t es Exit p = record { here = p.here; free = p.free; version = p.version; known = p.known; other = p.other; opened = p.opened; unlocked = p.unlocked; all_unlocked = p.all_unlocked; place = p.place; room = p.room }
-held_passed t es (Check f) p = record { here = p.here; free = p.free; version = p.version; known = p.known; other = p.other; opened = p.opened; unlocked = p.unlocked; all_unlocked = p.all_unlocked; place = p.place; room = p.room }
-held_passed t es GetSnarf p = record { here = p.here; free = p.free; version = p.version; known = p.known; other = p.other; opened = p.opened; unlocked = p.unlocked; all_unlocked = p.all_unlocked; place = p.place; room = p.room }
-held_passed t es (SetSnarf s) p = record { here = p.here; free = p.free; version = p.version; known = p.known; other = p.other; opened = p.opened; unlocked = p.unlocked; all_unlocked = p.all_unlocked; place = p.place; room = p.room }
-held_passed t es (Version v) p = record { here = p.here; free = p.free; version = p.version; known = p.known; other = p.other; opened = p.opened; unlocked = p.unlocked; all_unlocked = p.all_unlocked; place = p.place; room = p.room }
-held_passed t es Flush p = record { here = p.here; free = p.free; version = p.version; known = p.known; other = p.other; opened = p.opened; unlocked = p.unlocked; all_unlocked = p.all_unlocked; place = p.place; room = p.room }
+held_passed t es _ p =
+    record { here = p.here; free = p.free; version = p.version; known = p.known; other = p.other; opened = p.opened; unlocked = p.unlocked; all_unlocked = p.all_unlocked; place = p.place; room = p.room }

@@ -67,57 +67,21 @@ kept_other f u e = ap (λ (b : Bool). if b then None else Some u) e
 
 unsent_stays : (t : PlainTerminal) (m : Hmesg) (u : Unsent) → t.unsent ≡ Some u → is_crossing (action u.file m) ≡ false → (effect t m).unsent ≡ Some u
 unfolding took_bindname took_data took_grow took_growdata took_cut took_unlockfile took_close took_exit
-unsent_stays t (Hversion v) u e q = e
-unsent_stays t (Hbindname f) u e q = e
-unsent_stays t (Hcurrent f) u e q = e
-unsent_stays t (Hnewname f) u e q = e
-unsent_stays t (Hmovname f s) u e q = e
-unsent_stays t (Hgrow f p n) u e q = ap (moved_unsent f (place_after_ins p (length (replicate n None)))) e ∙ moved_other f (place_after_ins p (length (replicate n None))) u (elsewhere (u.file == f) (lenses.Grow p n) refl q)
-unsent_stays t (Hcheck f) u e q = e
-unsent_stays t Hunlock u e q = e
-unsent_stays t (Hdata f p s) u e q = e
-unsent_stays t (Horigin f p) u e q = e
-unsent_stays t (Hunlockfile f) u e q = e
-unsent_stays t (Hsetdot f p r) u e q = e
-unsent_stays t (Hgrowdata f p s) u e q = ap (moved_unsent f (place_after_ins p (length (map Some s)))) e ∙ moved_other f (place_after_ins p (length (map Some s))) u (elsewhere (u.file == f) (lenses.Insert p s) refl q)
-unsent_stays t (Hmoveto f p) u e q = e
-unsent_stays t (Hclean f) u e q = e
-unsent_stays t (Hdirty f) u e q = e
+unsent_stays t (Hgrow f p n) u e q =
+    ap (moved_unsent f (place_after_ins p (length (replicate n None)))) e ∙ moved_other f (place_after_ins p (length (replicate n None))) u (elsewhere (u.file == f) (lenses.Grow p n) refl q)
+unsent_stays t (Hgrowdata f p s) u e q =
+    ap (moved_unsent f (place_after_ins p (length (map Some s)))) e ∙ moved_other f (place_after_ins p (length (map Some s))) u (elsewhere (u.file == f) (lenses.Insert p s) refl q)
 unsent_stays t (Hcut f p n) u e q = ap (moved_unsent f (place_after_del p (p + n))) e ∙ moved_other f (place_after_del p (p + n)) u (elsewhere (u.file == f) (lenses.Cut p n) refl q)
-unsent_stays t (Hsetpat s) u e q = e
-unsent_stays t (Hdelname f) u e q = e
 unsent_stays t (Hclose f) u e q = ap (unsent_without f) e ∙ kept_other f u (elsewhere (u.file == f) lenses.Close refl q)
-unsent_stays t (Hsetsnarf s) u e q = e
-unsent_stays t (Hsnarflen n) u e q = e
-unsent_stays t Hack u e q = e
-unsent_stays t Hexit u e q = e
+unsent_stays t _ u e q = e
 
 unsent_none : (t : PlainTerminal) (m : Hmesg) → t.unsent ≡ None → (effect t m).unsent ≡ None
 unfolding took_bindname took_data took_grow took_growdata took_cut took_unlockfile took_close took_exit
-unsent_none t (Hversion v) e = e
-unsent_none t (Hbindname f) e = e
-unsent_none t (Hcurrent f) e = e
-unsent_none t (Hnewname f) e = e
-unsent_none t (Hmovname f s) e = e
 unsent_none t (Hgrow f p n) e = ap (moved_unsent f (place_after_ins p (length (replicate n None)))) e
-unsent_none t (Hcheck f) e = e
-unsent_none t Hunlock e = e
-unsent_none t (Hdata f p s) e = e
-unsent_none t (Horigin f p) e = e
-unsent_none t (Hunlockfile f) e = e
-unsent_none t (Hsetdot f p r) e = e
 unsent_none t (Hgrowdata f p s) e = ap (moved_unsent f (place_after_ins p (length (map Some s)))) e
-unsent_none t (Hmoveto f p) e = e
-unsent_none t (Hclean f) e = e
-unsent_none t (Hdirty f) e = e
 unsent_none t (Hcut f p n) e = ap (moved_unsent f (place_after_del p (p + n))) e
-unsent_none t (Hsetpat s) e = e
-unsent_none t (Hdelname f) e = e
 unsent_none t (Hclose f) e = ap (unsent_without f) e
-unsent_none t (Hsetsnarf s) e = e
-unsent_none t (Hsnarflen n) e = e
-unsent_none t Hack e = e
-unsent_none t Hexit e = e
+unsent_none t _ e = e
 
 -- ## Dots stay in their texts
 
@@ -163,14 +127,12 @@ tidy-freed t all g = subst P (sym (slot-map freed_known t.files g)) (go (slot t.
 
 tidy_effect : (t : PlainTerminal) (m : Hmesg) → first_of_checks (frame_checks t m) ≡ None → AreTidy t → AreTidy (effect t m)
 unfolding took_bindname took_data took_grow took_growdata took_cut took_unlockfile took_close took_exit
-tidy_effect t (Hversion v) e all = all
 tidy_effect t (Hbindname f) e all = tidy-window t f blank_window all blank_tidy
-tidy_effect t (Hcurrent f) e all = all
 tidy_effect t (Hnewname f) e all = tidy-put t f blank_known all blank_tidy
 tidy_effect t (Hmovname f s) e all = tidy-put t f (record (known_at t f) { name = s }) all (all f)
-tidy_effect t (Hgrow f p n) e all = tidy-window t f (window_after_ins (window_at t f) p (replicate n None)) all (tidy-ins (window_at t f) p (replicate n None) (all f) (place_of t f p (no_room t f n ∷ []) (behind_open t f (past_end t f p ∷ no_room t f n ∷ []) e)))
-tidy_effect t (Hcheck f) e all = all
-tidy_effect t Hunlock e all = all
+tidy_effect t (Hgrow f p n) e all =
+    tidy-window t f (window_after_ins (window_at t f) p (replicate n None)) all
+    (tidy-ins (window_at t f) p (replicate n None) (all f) (place_of t f p (no_room t f n ∷ []) (behind_open t f (past_end t f p ∷ no_room t f n ∷ []) e)))
 tidy_effect t (Hdata f p s) e all =
     let w : Window = window_at t f in
     let long : length (load_cells w.rasp p s) ≡ length w.rasp = length-load w.rasp p s (place_of t f (p + length s) [] (behind_open t f (past_end t f (p + length s) ∷ []) e)) in
@@ -182,7 +144,9 @@ tidy_effect t (Hunlockfile f) e all = tidy-window t f (record (window_at t f) { 
 tidy_effect t (Hsetdot f p q) e all =
     let a = none_holds (nat_lt q p, fault.BadPosition) (past_end t f q ∷ []) (behind_open t f ((nat_lt q p, fault.BadPosition) ∷ past_end t f q ∷ []) e) in
     tidy-window t f (record (window_at t f) { dot = (p, q) }) all (ltb-false q p a.0, place_of t f q [] a.1, (all f).2)
-tidy_effect t (Hgrowdata f p s) e all = tidy-window t f (window_after_ins (window_at t f) p (map Some s)) all (tidy-ins (window_at t f) p (map Some s) (all f) (place_of t f p (no_room t f (length s) ∷ []) (behind_open t f (past_end t f p ∷ no_room t f (length s) ∷ []) e)))
+tidy_effect t (Hgrowdata f p s) e all =
+    tidy-window t f (window_after_ins (window_at t f) p (map Some s)) all
+    (tidy-ins (window_at t f) p (map Some s) (all f) (place_of t f p (no_room t f (length s) ∷ []) (behind_open t f (past_end t f p ∷ no_room t f (length s) ∷ []) e)))
 tidy_effect t (Hmoveto f p) e all =
     let l = place_of t f p [] (behind_open t f (past_end t f p ∷ []) e) in
     tidy-window t f (record (window_at t f) { view_start = p }) all ((all f).0, (all f).1, l)
@@ -191,13 +155,10 @@ tidy_effect t (Hdirty f) e all = tidy-put t f (record (known_at t f) { dirty = t
 tidy_effect t (Hcut f p n) e all =
     let l = place_of t f (p + n) [] (behind_open t f (past_end t f (p + n) ∷ []) e) in
     tidy-window t f (window_after_del (window_at t f) p (p + n)) all (tidy-del (window_at t f) p (p + n) (all f) (omega arith) l)
-tidy_effect t (Hsetpat s) e all = all
 tidy_effect t (Hdelname f) e all = tidy-free t f all
 tidy_effect t (Hclose f) e all = tidy-put t f (record (known_at t f) { window = None }) all blank_tidy
-tidy_effect t (Hsetsnarf s) e all = all
-tidy_effect t (Hsnarflen n) e all = all
-tidy_effect t Hack e all = all
 tidy_effect t Hexit e all = tidy-freed t all
+tidy_effect t _ e all = all
 
 -- ## A frame is taken
 

@@ -3,7 +3,7 @@ use Rattle.std.proofs.Common.{◌≡◌, ℕ, zero, suc, ◌+◌, ◌-◌, ◌�
 use mathlib.Core.Path.{fun_ext}
 use Rattle.sam_rasp.specs.Rasp.{PartialText, place_after_del}
 use Rattle.sam_mesg.specs.declared.tmesg.Tmesg.{Tmesg}
-use Rattle.sam_mesg.specs.declared.tmesg.Tmesg.TheVariants.{Tversion, Tstartcmdfile, Tcheck, Trequest, Torigin, Tstartfile, Tworkfile, Ttype, Tcut, Tpaste, Tsnarf, Tstartnewfile, Twrite, Tclose, Tlook, Tsearch, Tsend, Tdclick, Tstartsnarf, Tsetsnarf, Tack, Texit}
+use Rattle.sam_mesg.specs.declared.tmesg.Tmesg.TheVariants.{Trequest, Torigin, Ttype, Tcut, Tpaste, Twrite, Tlook, Tsearch, Tdclick}
 use Rattle.sam_mesg.specs.declared.hmesg.Hmesg.{Hmesg}
 use Rattle.sam_host.specs.Host.{PlainHost}
 use Rattle.sam_term.specs.declared.lock.Lock.TheVariants.{CommandLock, NoLock}
@@ -12,13 +12,13 @@ use Rattle.sam_term.specs.Term.{PlainTerminal, Made, window_at, put_window, wind
 use Rattle.sam_term.specs.declared.files.Unsent.{Unsent}
 use Rattle.sam_protocol.specs.Lens.{Unknown, Known, Open, Lens, lens, OpenAt, Anything}
 use Rattle.sam_protocol.proofs.Lenses.{IsFree, IsOpen, exited_of, command_of}
-use Rattle.sam_protocol.proofs.Changes.{change_by, cut_out, changed, Within, IsAllowed, CanCompose}
+use Rattle.sam_protocol.proofs.Changes.{change_of_lock, change_by, cut_out, changed, Within, IsAllowed, CanCompose}
 use Rattle.sam_protocol.specs.View.{view}
 use Rattle.sam_protocol.specs.Fold.{Kept}
 use Rattle.sam_protocol.specs.Order.{AreTidy, IsHeldBack, views, InOrder}
 use Rattle.sam_protocol.proofs.Folds.{kept_views}
 use Rattle.sam_protocol.proofs.Composing.{composes}
-use Rattle.sam_protocol.proofs.Views.{view-made, view-open, lock_change, LockOpens, view-composed, unsent-composed, view-flushed, unsent-flushed, tidy-composed, tidy-flushed, tidy-window}
+use Rattle.sam_protocol.proofs.Views.{view-made, view-open, LockOpens, view-composed, unsent-composed, view-flushed, unsent-flushed, tidy-composed, tidy-flushed, tidy-window}
 use Rattle.sam_protocol.proofs.Dots.{tidy-del}
 
 -- what was made follows a terminal that is in order
@@ -61,29 +61,10 @@ is_edit (Ttype f p s) = true
 is_edit (Tcut f p q) = true
 is_edit _ = false
 
-same_change : (m : Tmesg) → is_edit m ≡ false → (g : ℕ) (v : Lens) → lock_change (lock_of m) g v ≡ changed (change_by m) g v
-same_change (Tversion n) e g v = refl
-same_change Tstartcmdfile e g v = refl
-same_change (Tcheck f) e g v = refl
-same_change (Trequest f p n) e g v = refl
-same_change (Torigin f p n) e g v = refl
-same_change (Tstartfile f) e g v = refl
-same_change (Tworkfile f p q) e g v = refl
+same_change : (m : Tmesg) → is_edit m ≡ false → (g : ℕ) (v : Lens) → changed (change_of_lock (lock_of m)) g v ≡ changed (change_by m) g v
 same_change (Ttype f p s) e g v = absurd (true≢false e)
 same_change (Tcut f p q) e g v = absurd (true≢false e)
-same_change (Tpaste f p) e g v = refl
-same_change (Tsnarf f p q) e g v = refl
-same_change Tstartnewfile e g v = refl
-same_change (Twrite f) e g v = refl
-same_change (Tclose f) e g v = refl
-same_change (Tlook f p q) e g v = refl
-same_change (Tsearch f p q) e g v = refl
-same_change (Tsend f p q) e g v = refl
-same_change (Tdclick f p) e g v = refl
-same_change Tstartsnarf e g v = refl
-same_change (Tsetsnarf s) e g v = refl
-same_change Tack e g v = refl
-same_change Texit e g v = refl
+same_change _ e g v = refl
 
 pub open_is : (P : List (Option ℕ) → Type 0) (v : Lens) → OpenAt P v → IsOpen v
 open_is P (lens c e n Unknown) o = o
@@ -91,54 +72,45 @@ open_is P (lens c e n Known) o = o
 open_is P (lens c e n (Open r k)) o = tt
 
 opens_for : (m : Tmesg) (v : ℕ → Lens) → CanCompose m v → LockOpens (lock_of m) v
-opens_for (Tversion n) v c = tt
-opens_for Tstartcmdfile v c = tt
-opens_for (Tcheck f) v c = tt
 opens_for (Trequest f p n) v c = open_is Anything (v f) c
 opens_for (Torigin f p n) v c = open_is (Within p p) (v f) c
-opens_for (Tstartfile f) v c = tt
-opens_for (Tworkfile f p q) v c = tt
 opens_for (Ttype f p s) v c = go (is_command_line f s)
   where
     go : (b : Bool) → LockOpens (if b then CommandLock else NoLock) v
     go true = tt
     go false = tt
-opens_for (Tcut f p q) v c = tt
 opens_for (Tpaste f p) v c = open_is (Within p p) (v f) c
-opens_for (Tsnarf f p q) v c = tt
-opens_for Tstartnewfile v c = tt
 opens_for (Twrite f) v c = open_is Anything (v f) c.0
-opens_for (Tclose f) v c = tt
 opens_for (Tlook f p q) v c = open_is (Within p q) (v f) c
 opens_for (Tsearch f p q) v c = open_is (Within p q) (v f) c
-opens_for (Tsend f p q) v c = tt
 opens_for (Tdclick f p) v c = open_is (Within p p) (v f) c
-opens_for Tstartsnarf v c = tt
-opens_for (Tsetsnarf s) v c = tt
-opens_for Tack v c = tt
-opens_for Texit v c = tt
+opens_for _ v c = tt
 
 -- where nothing is unsent before and after it
 line_path : (up : List Tmesg) (m : Tmesg) (o o2 : Option Unsent) → o ≡ None → o2 ≡ None → (up ++ unsent_message o) ++ m ∷ [] ≡ (up ++ m ∷ []) ++ unsent_message o2
 line_path up m o o2 e e2 =
-    ap (λ (x : Option Unsent). (up ++ unsent_message x) ++ m ∷ []) e ∙ ap (λ (l : List Tmesg). l ++ m ∷ []) (append-nil up) ∙ sym (append-nil (up ++ m ∷ [])) ∙ ap (λ (x : Option Unsent). (up ++ m ∷ []) ++ unsent_message x) (sym e2)
+    ap (λ (x : Option Unsent). (up ++ unsent_message x) ++ m ∷ []) e ∙ ap (λ (l : List Tmesg). l ++ m ∷ []) (append-nil up) ∙ sym (append-nil (up ++ m ∷ [])) ∙ ap
+    (λ (x : Option Unsent). (up ++ m ∷ []) ++ unsent_message x) (sym e2)
 
 -- a message that the fold carries, and what the terminal shows then
 pub carried : (h : PlainHost) (t t2 : PlainTerminal) (up : List Tmesg) (down : List Hmesg) (m : Tmesg) → InOrder h t up down → t.unsent ≡ None → t2.unsent ≡ None
-    → Kept h (λ g. changed (change_by m) g (view g t)) ((up ++ unsent_message t.unsent) ++ m ∷ []) down → ((g : ℕ) → changed (change_by m) g (view g t) ≡ view g t2) → AreTidy t2 → InOrder h t2 (up ++ m ∷ []) down
+    → Kept h (λ g. changed (change_by m) g (view g t)) ((up ++ unsent_message t.unsent) ++ m ∷ []) down → ((g : ℕ) → changed (change_by m) g (view g t) ≡ view g t2) → AreTidy t2
+    → InOrder h t2 (up ++ m ∷ []) down
 carried h t t2 up down m o e e2 k same tidy = record {
   kept = subst (λ (l : List Tmesg). Kept h (views t2) l down) (line_path up m t.unsent t2.unsent e e2) (kept_views h (λ g. changed (change_by m) g (view g t)) (views t2) _ down k same);
   tidy = tidy;
   unsent = subst (IsHeldBack (views t2)) (sym e2) tt;
 }
 
-pub send_one : (h : PlainHost) (t : PlainTerminal) (up : List Tmesg) (down : List Hmesg) (m : Tmesg) → InOrder h t up down → t.unsent ≡ None → is_edit m ≡ false → MaySend (views t) m → InOrder h (composed t m) (up ++ m ∷ []) down
+pub send_one : (h : PlainHost) (t : PlainTerminal) (up : List Tmesg) (down : List Hmesg) (m : Tmesg) → InOrder h t up down → t.unsent ≡ None → is_edit m ≡ false → MaySend (views t) m
+    → InOrder h (composed t m) (up ++ m ∷ []) down
 send_one h t up down m o e plain may =
     carried h t (composed t m) up down m o e (unsent-composed t m ∙ e) (composes h (views t) (up ++ unsent_message t.unsent) down m o.kept may.here may.free may.allowed may.can)
     (λ g. sym (view-composed t m (opens_for m (views t) may.can) g ∙ same_change m plain g (view g t))) (tidy-composed t m o.tidy)
 
 -- the unsent runes and then a message
-pub sends_goes : (h : PlainHost) (t : PlainTerminal) (up : List Tmesg) (down : List Hmesg) (m : Tmesg) → InOrder h t up down → is_edit m ≡ false → MaySend (views t) m → Goes h up down (sends t unchanged (m ∷ []))
+pub sends_goes : (h : PlainHost) (t : PlainTerminal) (up : List Tmesg) (down : List Hmesg) (m : Tmesg) → InOrder h t up down → is_edit m ≡ false → MaySend (views t) m
+    → Goes h up down (sends t unchanged (m ∷ []))
 sends_goes h t up down m o plain may =
     then_goes h up down (flushed t) (λ u. (composed u m, m ∷ []))
     (send_one h (flushed t).0 (up ++ (flushed t).1) down m (flushed_goes h t up down o) (unsent-flushed t) plain (subst (λ (v : ℕ → Lens). MaySend v m) (flushed_views t o.unsent) may))
@@ -149,14 +121,16 @@ sends_goes h t up down m o plain may =
 pub has_open : (P : List (Option ℕ) → Type 0) (t : PlainTerminal) (f : ℕ) → OpenAt P (view f t) → P (window_at t f).rasp
 has_open P t f o = (subst (OpenAt P) (view-open t f (open_is P (view f t) o)) o).2
 
-pub cut_view : (t : PlainTerminal) (f p q : ℕ) → IsOpen (view f t) → p ≤ q → (g : ℕ) → view g (put_window t f (window_after_del (window_at t f) p q)) ≡ (if g == f then cut_out p q (view g t) else view g t)
+pub cut_view : (t : PlainTerminal) (f p q : ℕ) → IsOpen (view f t) → p ≤ q → (g : ℕ)
+    → view g (put_window t f (window_after_del (window_at t f) p q)) ≡ (if g == f then cut_out p q (view g t) else view g t)
 cut_view t f p q o l g =
     let end : q ≡ p + (q - p) = omega (arith, l) in
     let r : PartialText = (window_at t f).rasp in
     view-made t f (window_after_del (window_at t f) p q) (cut_out p q) o
     (ap (λ (k : ℕ). lens t.command_lock t.has_exited t.version (Open (take p r ++ drop k r) (window_at t f).locks)) end) g
 
-pub cut_one : (h : PlainHost) (t : PlainTerminal) (up : List Tmesg) (down : List Hmesg) (f p q : ℕ) → InOrder h t up down → t.unsent ≡ None → MaySend (views t) (Tcut f p q) → InOrder h (composed (del_rasp t f p q) (Tcut f p q)) (up ++ Tcut f p q ∷ []) down
+pub cut_one : (h : PlainHost) (t : PlainTerminal) (up : List Tmesg) (down : List Hmesg) (f p q : ℕ) → InOrder h t up down → t.unsent ≡ None → MaySend (views t) (Tcut f p q)
+    → InOrder h (composed (del_rasp t f p q) (Tcut f p q)) (up ++ Tcut f p q ∷ []) down
 cut_one h t up down f p q o e may =
     let within = has_open (Within p q) t f may.can in
     carried h t (composed (del_rasp t f p q) (Tcut f p q)) up down (Tcut f p q) o e (ap (moved_unsent f (place_after_del p q)) e)

@@ -12,7 +12,7 @@ use Rattle.sam_host.specs.Host.{PlainHost, Reply, printed, announced_file, annou
 use Rattle.sam_mesg.specs.declared.tmesg.Tmesg.{Tmesg}
 use Rattle.sam_mesg.specs.declared.hmesg.Hmesg.{Hmesg}
 use Rattle.sam_mesg.specs.declared.hmesg.Hmesg.TheVariants.{Hsetpat}
-use Rattle.sam_mesg.specs.declared.tmesg.Tmesg.TheVariants.{Tversion, Tstartcmdfile, Tcheck, Trequest, Torigin, Tstartfile, Tworkfile, Ttype, Tcut, Tpaste, Tsnarf, Tstartnewfile, Twrite, Tclose, Tlook, Tsearch, Tsend, Tdclick, Tstartsnarf, Tsetsnarf, Tack, Texit}
+use Rattle.sam_mesg.specs.declared.tmesg.Tmesg.TheVariants.{Tversion, Tstartcmdfile, Tstartfile, Tworkfile, Ttype, Tcut, Tpaste, Tstartnewfile, Twrite, Tclose, Tlook, Tsearch, Tsend, Tdclick}
 use Rattle.sam_protocol.specs.Lens.{Named, Opened}
 use Rattle.sam_protocol.specs.View.{file_in}
 use Rattle.sam_protocol.proofs.Accepting.{Synced, Accepted, Ready}
@@ -96,7 +96,8 @@ announced-found h f None frames all = all
 announced-found h f (Some d) frames all = announced-same h.files f (record (file_at h.files f) { dot = d }) all refl refl
 
 -- a file that the terminal knows was announced, but tag 0
-known_announced : (h : PlainHost) (f : ℕ) → AllOpenAnnounced h.files → (f == 0) ≡ false → ((t : List ℕ) × (file_in h.files.slots f ≡ Named t)) ⊎ ((t : List ℕ) × (file_in h.files.slots f ≡ Opened t)) → (file_at h.files f).announced ≡ true
+known_announced : (h : PlainHost) (f : ℕ) → AllOpenAnnounced h.files → (f == 0) ≡ false
+    → ((t : List ℕ) × (file_in h.files.slots f ≡ Named t)) ⊎ ((t : List ℕ) × (file_in h.files.slots f ≡ Opened t)) → (file_at h.files f).announced ≡ true
 known_announced h f all z (inl t) =
     let x = some_at h.files f (Named t.0) t.1 (λ e. cc) (λ e. cc) in
     let c = closed_file x.file true t.0 (sym (shown_there h.files f x.file x.there) ∙ t.1) in
@@ -113,9 +114,6 @@ announced-reply h (Tversion v) a all = announced-all h.files.slots
 announced-reply h Tstartcmdfile a all =
     announced-if (file_at h.files 0).opened (h, _) (with_file h 0 (record (file_at h.files 0) { opened = true }), _) all
     (announced-put h.files 0 (record (file_at h.files 0) { opened = true }) all (λ z. absurd (true≢false z)))
-announced-reply h (Tcheck f) a all = all
-announced-reply h (Trequest f p n) a all = all
-announced-reply h (Torigin f p n) a all = all
 announced-reply h (Tstartfile f) a all = announced-put h.files f (record (file_at h.files f) { opened = true }) all (λ z e. known_announced h f all z a.1)
 announced-reply h (Tworkfile f p q) a all = announced-same h.files f (record (file_at h.files f) { dot = (p, q) }) all refl refl
 announced-reply h (Ttype f p s) a all =
@@ -129,15 +127,16 @@ announced-reply h (Tcut f p q) a all = announced-same h.files f (cut_file f (fil
 announced-reply h (Tpaste f p) a all =
     announced-if (is_empty h.files.snarf || nat_lt max_runes (length (file_at h.files f).text + length h.files.snarf)) (h, _) (with_file h f (pasted_file f (file_at h.files f) p h.files.snarf), _) all
     (announced-same h.files f (pasted_file f (file_at h.files f) p h.files.snarf) all refl refl)
-announced-reply h (Tsnarf f p q) a all = all
 announced-reply h Tstartnewfile a all =
-    announced-if (nat_le all_tags (length h.files.slots)) (with_files h (after_print h.files no_tag_left), _) (with_files h (record (put_file h.files (length h.files.slots) new_file) { work = Some (length h.files.slots) }), _)
+    announced-if (nat_le all_tags (length h.files.slots)) (with_files h (after_print h.files no_tag_left), _)
+    (with_files h (record (put_file h.files (length h.files.slots) new_file) { work = Some (length h.files.slots) }), _)
     (announced-print h.files no_tag_left all) (announced-put h.files (length h.files.slots) new_file all (λ z e. refl))
 announced-reply h (Twrite f) a all = announced-same h.files f (record (file_at h.files f) { saved = Some (file_at h.files f).text; dirty = false }) all refl refl
 announced-reply h (Tclose f) a all = announced-free h.files f all
 announced-reply h (Tlook f p q) a all =
     let lit = part (file_at h.files f).text p q in
-    announced-if (is_empty lit || nat_lt most_in_pattern (length lit)) (h, _) (reply_found (with_files h (record h.files { pattern = Some lit })) f (searched (file_at h.files f).text lit q) (Hsetpat lit ∷ [])) all
+    announced-if (is_empty lit || nat_lt most_in_pattern (length lit)) (h, _)
+    (reply_found (with_files h (record h.files { pattern = Some lit })) f (searched (file_at h.files f).text lit q) (Hsetpat lit ∷ [])) all
     (announced-found (with_files h (record h.files { pattern = Some lit })) f (searched (file_at h.files f).text lit q) (Hsetpat lit ∷ []) all)
 announced-reply h (Tsearch f p q) a all = announced-found h f (searched_for h.files.pattern (file_at h.files f).text q) [] all
 announced-reply h (Tsend f p q) a all =
@@ -146,10 +145,7 @@ announced-reply h (Tsend f p q) a all =
     announced-if ((p == q) || not (has_room h.files s)) (h, _) (reply_line h2 (printed h.files s) (last_line s)) all
     (announced-line h2 (printed h.files s) (last_line s) (announced-print h.files s all))
 announced-reply h (Tdclick f p) a all = announced-same h.files f (record (file_at h.files f) { dot = word_at (file_at h.files f).text p }) all refl refl
-announced-reply h Tstartsnarf a all = all
-announced-reply h (Tsetsnarf s) a all = all
-announced-reply h Tack a all = all
-announced-reply h Texit a all = all
+announced-reply h _ a all = all
 
 -- a host that is ready stays so, unless it is done
 pub steady_reply : (h : PlainHost) (m : Tmesg) → Ready h → Accepted h m → Synced h m → IsSteady (reply_to h m).0

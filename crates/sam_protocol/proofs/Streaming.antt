@@ -6,7 +6,7 @@ use Rattle.sam_runes.specs.Texts.{Range, is_empty, max_runes, all_tags, most_in_
 use Rattle.sam_runes.specs.Checks.{first_of_checks}
 use Rattle.sam_text.specs.Files.{file_at, has_room}
 use Rattle.sam_mesg.specs.declared.tmesg.Tmesg.{Tmesg}
-use Rattle.sam_mesg.specs.declared.tmesg.Tmesg.TheVariants.{Tversion, Tstartcmdfile, Tcheck, Trequest, Torigin, Tstartfile, Tworkfile, Ttype, Tcut, Tpaste, Tsnarf, Tstartnewfile, Twrite, Tclose, Tlook, Tsearch, Tsend, Tdclick, Tstartsnarf, Tsetsnarf, Tack, Texit}
+use Rattle.sam_mesg.specs.declared.tmesg.Tmesg.TheVariants.{Tversion, Tstartcmdfile, Ttype, Tpaste, Tstartnewfile, Tlook, Tsearch, Tsend}
 use Rattle.sam_mesg.specs.declared.hmesg.Hmesg.{Hmesg}
 use Rattle.sam_mesg.specs.declared.hmesg.Hmesg.TheVariants.{Hversion, Hack, Hunlock}
 use Rattle.sam_host.specs.Host.{PlainHost, Reply, counted, host_checks, reply_to, reply_found, told_names, reply_version, reply_startcmdfile, reply_check, reply_request, reply_origin, reply_startfile, reply_workfile, reply_cut, reply_paste, reply_snarf, reply_startnewfile, reply_write, reply_close, reply_look, reply_search, reply_dclick, reply_startsnarf, reply_setsnarf, reply_exit, reply_type, reply_send, with_files}
@@ -41,55 +41,22 @@ version_next : (h : PlainHost) (m : Tmesg) → first_of_checks (host_checks h m)
 unfolding reply_version reply_startcmdfile reply_check reply_request reply_origin reply_startfile reply_workfile reply_cut reply_paste reply_snarf reply_startnewfile reply_write reply_close reply_look reply_search reply_dclick reply_startsnarf reply_setsnarf reply_exit reply_type reply_send
 version_next h (Tversion v) e = sym (ap (λ (b : Bool). if b then h.version else common_version v) (none_holds (v == 0, hostfault.BadVersion) [] e).0)
 version_next h Tstartcmdfile e = version-if h.version (file_at h.files 0).opened _ _ refl refl
-version_next h (Tcheck f) e = refl
-version_next h (Trequest f p n) e = refl
-version_next h (Torigin f p n) e = refl
-version_next h (Tstartfile f) e = refl
-version_next h (Tworkfile f p q) e = refl
 version_next h (Ttype f p s) e = version-if h.version ((f == 0) && ends_line s) _ _ refl refl
-version_next h (Tcut f p q) e = refl
 version_next h (Tpaste f p) e = version-if h.version (is_empty h.files.snarf || nat_lt max_runes (length (file_at h.files f).text + length h.files.snarf)) _ _ refl refl
-version_next h (Tsnarf f p q) e = refl
 version_next h Tstartnewfile e = version-if h.version (nat_le all_tags (length h.files.slots)) _ _ refl refl
-version_next h (Twrite f) e = refl
-version_next h (Tclose f) e = refl
 version_next h (Tlook f p q) e =
     let lit = part (file_at h.files f).text p q in
     version-if h.version (is_empty lit || nat_lt most_in_pattern (length lit)) _ _ refl (version-found (with_files h (record h.files { pattern = Some lit })) f _ _)
 version_next h (Tsearch f p q) e = version-found h f _ []
 version_next h (Tsend f p q) e = version-if h.version ((p == q) || not (has_room h.files (as_lines (part (file_at h.files f).text p q)))) _ _ refl refl
-version_next h (Tdclick f p) e = refl
-version_next h Tstartsnarf e = refl
-version_next h (Tsetsnarf s) e = refl
-version_next h Tack e = refl
-version_next h Texit e = refl
+version_next h _ e = refl
 
 -- the version changes only with an answer that frees the command lock
 version_reply : (h : PlainHost) (m : Tmesg) → first_of_checks (host_checks h m) ≡ None → ((reply_to h m).0.version ≡ h.version) ⊎ (unlocks_command (reply_to h m).1 ≡ true)
 unfolding reply_version
 version_reply h (Tversion v) e =
     inr (unlocks_behind (Hversion (common_version v) ∷ told_names 1 (drop 1 h.files.slots)) (Hack ∷ Hunlock ∷ []) refl)
-version_reply h Tstartcmdfile e = inl (version_next h Tstartcmdfile e)
-version_reply h (Tcheck f) e = inl (version_next h (Tcheck f) e)
-version_reply h (Trequest f p n) e = inl (version_next h (Trequest f p n) e)
-version_reply h (Torigin f p n) e = inl (version_next h (Torigin f p n) e)
-version_reply h (Tstartfile f) e = inl (version_next h (Tstartfile f) e)
-version_reply h (Tworkfile f p q) e = inl (version_next h (Tworkfile f p q) e)
-version_reply h (Ttype f p s) e = inl (version_next h (Ttype f p s) e)
-version_reply h (Tcut f p q) e = inl (version_next h (Tcut f p q) e)
-version_reply h (Tpaste f p) e = inl (version_next h (Tpaste f p) e)
-version_reply h (Tsnarf f p q) e = inl (version_next h (Tsnarf f p q) e)
-version_reply h Tstartnewfile e = inl (version_next h Tstartnewfile e)
-version_reply h (Twrite f) e = inl (version_next h (Twrite f) e)
-version_reply h (Tclose f) e = inl (version_next h (Tclose f) e)
-version_reply h (Tlook f p q) e = inl (version_next h (Tlook f p q) e)
-version_reply h (Tsearch f p q) e = inl (version_next h (Tsearch f p q) e)
-version_reply h (Tsend f p q) e = inl (version_next h (Tsend f p q) e)
-version_reply h (Tdclick f p) e = inl (version_next h (Tdclick f p) e)
-version_reply h Tstartsnarf e = inl (version_next h Tstartsnarf e)
-version_reply h (Tsetsnarf s) e = inl (version_next h (Tsetsnarf s) e)
-version_reply h Tack e = inl (version_next h Tack e)
-version_reply h Texit e = inl (version_next h Texit e)
+version_reply h m e = inl (version_next h m e)
 
 version_of_reply : (h : PlainHost) (m : Tmesg) (r : Reply) → reply_of h m ≡ Some r → (r.0.version ≡ h.version) ⊎ (unlocks_command r.1 ≡ true)
 version_of_reply h m r e = go h.is_done e
@@ -178,7 +145,8 @@ still_done [] h r e d = ap (λ (x : Reply). x.0.is_done) (sym (the_reply e)) ∙
     the_reply e = cc
 still_done (m ∷ ms) h r e d =
     let t = answered h m ms r e in
-    let silent : ◌≡◌ {A = Reply} (counted h, []) t.first = the_reply (sym (ap (λ (b : Bool). if b then Some (counted h, []) else replied (first_of_checks (host_checks h m)) (reply_to h m)) d) ∙ t.now) in
+    let silent : ◌≡◌ {A = Reply} (counted h, []) t.first =
+    the_reply (sym (ap (λ (b : Bool). if b then Some (counted h, []) else replied (first_of_checks (host_checks h m)) (reply_to h m)) d) ∙ t.now) in
     ap (λ (x : Reply). x.0.is_done) t.whole ∙ still_done ms t.first.0 t.rest t.later (ap (λ (x : Reply). x.0.is_done) (sym silent) ∙ d)
   where
     the_reply : {p q : Reply} → Some p ≡ Some q → p ≡ q
@@ -218,7 +186,8 @@ unsent_past [] (Some u) v = refl
 unsent_past (m ∷ up) u v = unsent_past up u (version_past v m)
 
 -- where the terminal may act, its version is that of the stream at the place of its next message
-pub version_at_place : (h : PlainHost) (t : PlainTerminal) (up : List Tmesg) (down : List Hmesg) → InOrder h t up down → t.command_lock ≡ false → t.has_exited ≡ false → t.version ≡ version_behind h.version up
+pub version_at_place : (h : PlainHost) (t : PlainTerminal) (up : List Tmesg) (down : List Hmesg) → InOrder h t up down → t.command_lock ≡ false → t.has_exited ≡ false
+    → t.version ≡ version_behind h.version up
 version_at_place h t up down o c e =
     let k = o.kept in
     let line : List Tmesg = up ++ unsent_message t.unsent in

@@ -44,7 +44,8 @@ rewrites-append u w t t2 t3 x y = record {
 
 -- one action, by its move
 pub rewrites_one : (a : Action) (t t2 : List ℕ) (to : List (Option ℕ) → List (Option ℕ)) → (closes (a ∷ []) ≡ false)
-    → ((c e : Bool) (n : ℕ) (r : List (Option ℕ)) (k : ℕ) → Agrees r t → move a (lens c e n (Open r k)) ≡ Some (lens c e n (Open (to r) k))) → ((r : List (Option ℕ)) → Agrees r t → Agrees (to r) t2) → Rewrites (a ∷ []) t t2
+    → ((c e : Bool) (n : ℕ) (r : List (Option ℕ)) (k : ℕ) → Agrees r t → move a (lens c e n (Open r k)) ≡ Some (lens c e n (Open (to r) k)))
+    → ((r : List (Option ℕ)) → Agrees r t → Agrees (to r) t2) → Rewrites (a ∷ []) t t2
 rewrites_one a t t2 to close moves agrees = record {
   runs = λ c e n r k x. record { rasp = to r; is = ap (λ (o : Option Lens). and_then o (run [])) (moves c e n r k x); agrees = agrees r x };
   no_close = close;
@@ -73,7 +74,8 @@ rewrites_insert : (p : ℕ) (s t : List ℕ) → p ≤ length t → length t + l
 rewrites_insert p s t l room = rewrites_one (Insert p s) t (ins t p s) (typed p s) refl (λ c e n r k a. if_holds _ _ (room_passes p (length s) r t a l room)) (λ r a. agrees_typed p s r t a)
 
 rewrites_grow : (p : ℕ) (s t : List ℕ) → p ≤ length t → length t + length s ≤ max_runes → Rewrites (Grow p (length s) ∷ []) t (ins t p s)
-rewrites_grow p s t l room = rewrites_one (Grow p (length s)) t (ins t p s) (grown_cells p (length s)) refl (λ c e n r k a. if_holds _ _ (room_passes p (length s) r t a l room)) (λ r a. agrees_grown p s r t a)
+rewrites_grow p s t l room =
+    rewrites_one (Grow p (length s)) t (ins t p s) (grown_cells p (length s)) refl (λ c e n r k a. if_holds _ _ (room_passes p (length s) r t a l room)) (λ r a. agrees_grown p s r t a)
 
 rewrites_cut : (p m : ℕ) (t : List ℕ) → p + m ≤ length t → Rewrites (Cut p m ∷ []) t (del t p (p + m))
 rewrites_cut p m t l = rewrites_one (Cut p m) t (del t p (p + m)) (without p m) refl
@@ -191,7 +193,8 @@ told_cut f p q t l l2 = told_when (nat_lt p q) f (Hcut f p (q - p) ∷ []) t (de
     inside : p + (q - p) ≤ length t
     inside = omega arith
 
-told_one_edit : (fs : PlainFiles) (f : ℕ) (e : Edit) (t : List ℕ) → (file_at fs f).opened ≡ true → e.p ≤ e.q → e.q ≤ length t → length t + length e.text ≤ max_runes + (e.q - e.p) → Told f (told_edit fs f e) t (edited t e)
+told_one_edit : (fs : PlainFiles) (f : ℕ) (e : Edit) (t : List ℕ) → (file_at fs f).opened ≡ true → e.p ≤ e.q → e.q ≤ length t → length t + length e.text ≤ max_runes + (e.q - e.p)
+    → Told f (told_edit fs f e) t (edited t e)
 unfolding told_edit
 told_one_edit fs f e t o l l2 room =
     let rest : List ℕ = del t e.p e.q in

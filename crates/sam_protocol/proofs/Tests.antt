@@ -18,7 +18,8 @@ last_test b x e = test b x [] e refl
 pub open_tests : (h : PlainHost) (f : ℕ) → Opens h.files f → (rest : Checks HostFault) → first_of_checks rest ≡ None → first_of_checks (unknown h f ∷ not_opened h f ∷ rest) ≡ None
 open_tests h f o rest e = test (not (has_file h.files f)) NoFile (not_opened h f ∷ rest) (ap not o.there) (test (not (file_at h.files f).opened) NotOpen rest (ap not o.opened) e)
 
-pub window_tests : (h : PlainHost) (f : ℕ) → Opens h.files f → (f == 0) ≡ false → (rest : Checks HostFault) → first_of_checks rest ≡ None → first_of_checks (unknown h f ∷ is_command f ∷ not_opened h f ∷ rest) ≡ None
+pub window_tests : (h : PlainHost) (f : ℕ) → Opens h.files f → (f == 0) ≡ false → (rest : Checks HostFault) → first_of_checks rest ≡ None
+    → first_of_checks (unknown h f ∷ is_command f ∷ not_opened h f ∷ rest) ≡ None
 window_tests h f o z rest e = test (not (has_file h.files f)) NoFile (is_command f ∷ not_opened h f ∷ rest) (ap not o.there)
     (test (f == 0) CommandFile (not_opened h f ∷ rest) z (test (not (file_at h.files f).opened) NotOpen rest (ap not o.opened) e))
 
@@ -26,7 +27,8 @@ pub place_test : (h : PlainHost) (f p : ℕ) (rest : Checks HostFault) → p ≤
 place_test h f p rest l e = test (nat_lt (length (file_at h.files f).text) p) BadPosition rest (le-ltb _ p l) e
 
 pub range_test : (h : PlainHost) (f p q : ℕ) → p ≤ q → q ≤ length (file_at h.files f).text → first_of_checks (no_range h f p q ∷ []) ≡ None
-range_test h f p q l l2 = last_test (nat_lt q p || nat_lt (length (file_at h.files f).text) q) BadPosition (ap (λ (x : Bool). x || nat_lt (length (file_at h.files f).text) q) (le-ltb q p l) ∙ le-ltb _ q l2)
+range_test h f p q l l2 =
+    last_test (nat_lt q p || nat_lt (length (file_at h.files f).text) q) BadPosition (ap (λ (x : Bool). x || nat_lt (length (file_at h.files f).text) q) (le-ltb q p l) ∙ le-ltb _ q l2)
 
 pub room_test : (h : PlainHost) (f : ℕ) (s : List ℕ) → length (file_at h.files f).text + length s ≤ max_runes → first_of_checks (no_room h f s ∷ []) ≡ None
 room_test h f s l = last_test (nat_lt max_runes (length (file_at h.files f).text + length s)) TooLong (le-ltb max_runes _ l)

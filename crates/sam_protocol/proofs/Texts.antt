@@ -43,10 +43,13 @@ agrees_loaded [] = tt
 agrees_loaded (x ∷ s) = (refl, agrees_loaded s)
 
 pub agrees_grown : (p : ℕ) (s : List ℕ) (r : List (Option ℕ)) (t : List ℕ) → Agrees r t → Agrees (grown p (length s) r) (ins t p s)
-agrees_grown p s r t a = agrees_append (take p r ++ replicate (length s) None) (take p t ++ s) (drop p r) (drop p t) (agrees_append (take p r) (take p t) (replicate (length s) None) s (agrees_take p r t a) (agrees_gaps s)) (agrees_drop p r t a)
+agrees_grown p s r t a =
+    agrees_append (take p r ++ replicate (length s) None) (take p t ++ s) (drop p r) (drop p t)
+    (agrees_append (take p r) (take p t) (replicate (length s) None) s (agrees_take p r t a) (agrees_gaps s)) (agrees_drop p r t a)
 
 pub agrees_typed : (p : ℕ) (s : List ℕ) (r : List (Option ℕ)) (t : List ℕ) → Agrees r t → Agrees (typed p s r) (ins t p s)
-agrees_typed p s r t a = agrees_append (take p r ++ map Some s) (take p t ++ s) (drop p r) (drop p t) (agrees_append (take p r) (take p t) (map Some s) s (agrees_take p r t a) (agrees_loaded s)) (agrees_drop p r t a)
+agrees_typed p s r t a =
+    agrees_append (take p r ++ map Some s) (take p t ++ s) (drop p r) (drop p t) (agrees_append (take p r) (take p t) (map Some s) s (agrees_take p r t a) (agrees_loaded s)) (agrees_drop p r t a)
 
 pub agrees_without : (p n : ℕ) (r : List (Option ℕ)) (t : List ℕ) → Agrees r t → Agrees (without p n r) (del t p (p + n))
 agrees_without p n r t a = agrees_append (take p r) (take p t) (drop (p + n) r) (drop (p + n) t) (agrees_take p r t a) (agrees_drop (p + n) r t a)
@@ -54,7 +57,9 @@ agrees_without p n r t a = agrees_append (take p r) (take p t) (drop (p + n) r) 
 -- the host's own runes, put where they stand
 pub agrees_filled : (p : ℕ) (s : List ℕ) (r : List (Option ℕ)) (t : List ℕ) → Agrees r t → s ≡ take (length s) (drop p t) → Agrees (filled p s r) t
 agrees_filled p s r t a e =
-    let parts : Agrees (filled p s r) (take p t ++ s ++ drop (p + length s) t) = agrees_append (take p r ++ map Some s) (take p t ++ s) (drop (p + length s) r) (drop (p + length s) t) (agrees_append (take p r) (take p t) (map Some s) s (agrees_take p r t a) (agrees_loaded s)) (agrees_drop (p + length s) r t a) in
+    let parts : Agrees (filled p s r) (take p t ++ s ++ drop (p + length s) t) =
+    agrees_append (take p r ++ map Some s) (take p t ++ s) (drop (p + length s) r) (drop (p + length s) t)
+    (agrees_append (take p r) (take p t) (map Some s) s (agrees_take p r t a) (agrees_loaded s)) (agrees_drop (p + length s) r t a) in
     let whole : take p t ++ s ++ drop (p + length s) t ≡ t = append_assoc (take p t) s (drop (p + length s) t) ∙ ap (λ (x : List ℕ). take p t ++ x) (rest e) ∙ take-append-drop p t in
     subst (Agrees (filled p s r)) whole parts
   where

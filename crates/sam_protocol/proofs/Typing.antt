@@ -97,7 +97,8 @@ module _ (h : PlainHost) (down : List Hmesg) (u : PlainTerminal) (f p : ℕ) (s 
       go false e = refl
 
   -- the command line is sent at once, other runes wait
-  typed_goes : (x : PlainTerminal) (z : Unsent) (up : List Tmesg) → ((f == 0) && ends_line s) ≡ line → Waiting x z up → OpenAt (Room p s) (view f u) → Goes h up down (if line then flushed (typed_rasp x f p s) else (typed_rasp x f p s, []))
+  typed_goes : (x : PlainTerminal) (z : Unsent) (up : List Tmesg) → ((f == 0) && ends_line s) ≡ line → Waiting x z up → OpenAt (Room p s) (view f u)
+      → Goes h up down (if line then flushed (typed_rasp x f p s) else (typed_rasp x f p s, []))
   unfolding flushed Room
   typed_goes x z up is a o = go line refl
     where
@@ -124,10 +125,13 @@ module _ (h : PlainHost) (down : List Hmesg) (u : PlainTerminal) (f p : ℕ) (s 
 
       go : (b : Bool) → line ≡ b → Goes h up down (if b then flushed t else (t, []))
       go false e =
-          let k : Kept h (views t) (up ++ Ttype z.file z.place z.runes ∷ []) down = kept_views h shown (views t) (up ++ Ttype z.file z.place z.runes ∷ []) down a.fold (λ g. ap (λ (b : Bool). changed (type_change (if b then CommandLock else NoLock) f p s) g (view g u)) e ∙ sym (shows g)) in
+          let k : Kept h (views t) (up ++ Ttype z.file z.place z.runes ∷ []) down =
+          kept_views h shown (views t) (up ++ Ttype z.file z.place z.runes ∷ []) down a.fold
+          (λ g. ap (λ (b : Bool). changed (type_change (if b then CommandLock else NoLock) f p s) g (view g u)) e ∙ sym (shows g)) in
           let here : view z.file t ≡ typed_in p s (view f u) = ap (λ (y : ℕ). view y t) a.file ∙ shows f ∙ ap (λ (b : Bool). (if b then typed_in p s (view f u) else view f u)) (eq-eqb f f refl) in
           record {
-            kept = subst (λ (l : List Tmesg). Kept h (views t) l down) (ap (λ (l : List Tmesg). l ++ Ttype z.file z.place z.runes ∷ []) (sym (append-nil up)) ∙ ap (λ (y : Option Unsent). (up ++ []) ++ unsent_message y) (sym waits)) k;
+            kept = subst (λ (l : List Tmesg). Kept h (views t) l down)
+                (ap (λ (l : List Tmesg). l ++ Ttype z.file z.place z.runes ∷ []) (sym (append-nil up)) ∙ ap (λ (y : Option Unsent). (up ++ []) ++ unsent_message y) (sym waits)) k;
             tidy = tidy;
             unsent = subst (IsHeldBack (views t)) (sym waits) (a.ends ∙ e, subst (OpenAt Anything) (sym here) (typed_open p s (Room p s) (view f u) o));
           }
@@ -135,14 +139,17 @@ module _ (h : PlainHost) (down : List Hmesg) (u : PlainTerminal) (f p : ℕ) (s 
           let m : Tmesg = Ttype z.file z.place z.runes in
           let base : PlainTerminal = record t { unsent = None } in
           let zero : f ≡ 0 = eqb-true f 0 (and_parts (f == 0) (ends_line s) (is ∙ e)).0 in
-          let locked : (g : ℕ) → view g (composed base m) ≡ commanded (view g t) = λ g. ap (λ (b : Bool). view g (lock_taken (if b then CommandLock else NoLock) (record base { sent = t.sent + 1 }))) (a.ends ∙ e) in
+          let locked : (g : ℕ) → view g (composed base m) ≡ commanded (view g t) =
+          λ g. ap (λ (b : Bool). view g (lock_taken (if b then CommandLock else NoLock) (record base { sent = t.sent + 1 }))) (a.ends ∙ e) in
           let same : (g : ℕ) → shown g ≡ view g (composed base m) = λ g.
           ap (λ (b : Bool). changed (type_change (if b then CommandLock else NoLock) f p s) g (view g u)) e
           ∙ ap (λ (y : ℕ). commanded (if g == y then typed_in p s (view g u) else view g u)) (sym zero)
           ∙ ap commanded (sym (shows g)) ∙ sym (locked g) in
           let none : (composed base m).unsent ≡ None = unsent-composed base m in
           let sent : InOrder h (composed base m) (up ++ m ∷ []) down = record {
-            kept = subst (λ (l : List Tmesg). Kept h (views (composed base m)) l down) (sym (append-nil (up ++ m ∷ [])) ∙ ap (λ (y : Option Unsent). (up ++ m ∷ []) ++ unsent_message y) (sym none)) (kept_views h shown (views (composed base m)) (up ++ m ∷ []) down a.fold same);
+            kept = subst (λ (l : List Tmesg). Kept h (views (composed base m)) l down)
+                (sym (append-nil (up ++ m ∷ [])) ∙ ap (λ (y : Option Unsent). (up ++ m ∷ []) ++ unsent_message y) (sym none))
+                (kept_views h shown (views (composed base m)) (up ++ m ∷ []) down a.fold same);
             tidy = tidy-composed base m tidy;
             unsent = subst (IsHeldBack (views (composed base m))) (sym none) tt;
           } in
@@ -150,7 +157,8 @@ module _ (h : PlainHost) (down : List Hmesg) (u : PlainTerminal) (f p : ℕ) (s 
 
 -- ## The whole
 
-pub types_goes : (h : PlainHost) (u : PlainTerminal) (up : List Tmesg) (down : List Hmesg) (f p c : ℕ) (s : List ℕ) → InOrder h u up down → MaySend (views u) (Ttype f p (c ∷ s)) → Goes h up down (types u f p (c ∷ s))
+pub types_goes : (h : PlainHost) (u : PlainTerminal) (up : List Tmesg) (down : List Hmesg) (f p c : ℕ) (s : List ℕ) → InOrder h u up down → MaySend (views u) (Ttype f p (c ∷ s))
+    → Goes h up down (types u f p (c ∷ s))
 unfolding flushed Room
 types_goes h u up down f p c s o may = go u.unsent refl (joins u.unsent f p w) refl
   where
@@ -173,7 +181,8 @@ types_goes h u up down f p c s o may = go u.unsent refl (joins u.unsent f p w) r
     alone_goes =
         let x : PlainTerminal = record (flushed u).0 { unsent = Some (joined None f p w) } in
         let first : List Tmesg = unsent_message u.unsent ++ [] in
-        let path : (up ++ unsent_message u.unsent) ++ Ttype f p w ∷ [] ≡ (up ++ first) ++ Ttype f p w ∷ [] = ap (λ (l : List Tmesg). (up ++ l) ++ Ttype f p w ∷ []) (sym (append-nil (unsent_message u.unsent))) in
+        let path : (up ++ unsent_message u.unsent) ++ Ttype f p w ∷ [] ≡ (up ++ first) ++ Ttype f p w ∷ [] =
+        ap (λ (l : List Tmesg). (up ++ l) ++ Ttype f p w ∷ []) (sym (append-nil (unsent_message u.unsent))) in
         then_goes h up down alone next
         (typed_goes h down u f p w line x (joined None f p w) (up ++ first) refl
         (record { file = refl; place = omega arith; ends = refl; waits = refl; same = λ g. view-flushed u o.unsent g; tidy = tidy-flushed u o.tidy; fold = subst (λ (l : List Tmesg). Kept h (λ g. changed (change_by (Ttype f p w)) g (view g u)) l down) path k }) may.can)
@@ -185,8 +194,11 @@ types_goes h u up down f p c s o may = go u.unsent refl (joins u.unsent f p w) r
         let file : y.file ≡ f = eqb-true y.file f tests.0 in
         let place : y.place + length y.runes ≡ p = eqb-true (y.place + length y.runes) p tests.1 in
         let held : IsHeldBack (views u) (Some y) = subst (IsHeldBack (views u)) e o.unsent in
-        let list : (up ++ unsent_message u.unsent) ++ Ttype f p w ∷ [] ≡ (up ++ Ttype y.file y.place y.runes ∷ []) ++ Ttype y.file (y.place + length y.runes) w ∷ [] = λ i. (up ++ unsent_message (e i)) ++ Ttype (sym file i) (sym place i) w ∷ [] in
-        let one = fold.joins h (λ g. changed (change_by (Ttype f p w)) g (view g u)) up down y.file y.place c y.runes s held.0 (subst (λ (l : List Tmesg). Kept h (λ g. changed (change_by (Ttype f p w)) g (view g u)) l down) list k) in
+        let list : (up ++ unsent_message u.unsent) ++ Ttype f p w ∷ [] ≡ (up ++ Ttype y.file y.place y.runes ∷ []) ++ Ttype y.file (y.place + length y.runes) w ∷ [] =
+        λ i. (up ++ unsent_message (e i)) ++ Ttype (sym file i) (sym place i) w ∷ [] in
+        let one =
+        fold.joins h (λ g. changed (change_by (Ttype f p w)) g (view g u)) up down y.file y.place c y.runes s held.0
+        (subst (λ (l : List Tmesg). Kept h (λ g. changed (change_by (Ttype f p w)) g (view g u)) l down) list k) in
         let ends : is_command_line y.file (y.runes ++ w) ≡ line = λ i. (file i == 0) && ends_line-append y.runes s c i in
         let x : PlainTerminal = record u { unsent = Some (joined (Some y) f p w) } in
         then_goes h up down (x, []) next

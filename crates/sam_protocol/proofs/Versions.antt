@@ -69,7 +69,8 @@ plain_if false x y p q = q
 
 plain_grown : (fs : PlainFiles) (f p : ℕ) (s : List ℕ) → IsPlain (grown fs f p s)
 unfolding grown
-plain_grown fs f p s = plain_when ((file_at fs f).opened && not (is_empty s)) ((if nat_le (length s) most_in_message then Hgrowdata f p s else Hgrow f p (length s)) ∷ []) (go (nat_le (length s) most_in_message))
+plain_grown fs f p s =
+    plain_when ((file_at fs f).opened && not (is_empty s)) ((if nat_le (length s) most_in_message then Hgrowdata f p s else Hgrow f p (length s)) ∷ []) (go (nat_le (length s) most_in_message))
   where
     go : (b : Bool) → IsPlain ((if b then Hgrowdata f p s else Hgrow f p (length s)) ∷ [])
     go true = (refl, tt)
@@ -111,7 +112,9 @@ plain_names : (f : ℕ) (ss : Slots PlainFile) → IsPlain (told_names f ss)
 unfolding told_names
 plain_names f [] = tt
 plain_names f (None ∷ ss) = plain_names (1 + f) ss
-plain_names f (Some x ∷ ss) = plain-append (when (not x.announced) (Hnewname f ∷ Hmovname f x.name ∷ [])) (told_names (1 + f) ss) (plain_when (not x.announced) (Hnewname f ∷ Hmovname f x.name ∷ []) (refl, (refl, tt))) (plain_names (1 + f) ss)
+plain_names f (Some x ∷ ss) =
+    plain-append (when (not x.announced) (Hnewname f ∷ Hmovname f x.name ∷ [])) (told_names (1 + f) ss) (plain_when (not x.announced) (Hnewname f ∷ Hmovname f x.name ∷ []) (refl, (refl, tt)))
+    (plain_names (1 + f) ss)
 
 plain_found : (h : PlainHost) (f : ℕ) (d : Option Range) (ms : List Hmesg) → IsPlain ms → IsPlain (reply_found h f d ms).1
 plain_found h f None ms p = (refl, tt)
@@ -120,7 +123,8 @@ plain_found h f (Some d) ms p = plain-append ms (Hsetdot f d.0 d.1 ∷ Hmoveto f
 plain_line : (h : PlainHost) (before : List Hmesg) (line : List ℕ) → IsPlain before → IsPlain (reply_line h before line).1
 plain_line h before line p =
     let o = meaning h.files line in
-    plain-append _ ((if o.quit then Hexit else Hunlock) ∷ []) (plain-append _ (printed _ o.printed) (plain-append before (told_outcome o.file h.files o) p (plain_outcome o.file h.files o)) (plain_printed _ o.printed)) (last o.quit)
+    plain-append _ ((if o.quit then Hexit else Hunlock) ∷ [])
+    (plain-append _ (printed _ o.printed) (plain-append before (told_outcome o.file h.files o) p (plain_outcome o.file h.files o)) (plain_printed _ o.printed)) (last o.quit)
   where
     last : (b : Bool) → IsPlain ((if b then Hexit else Hunlock) ∷ [])
     last true = (refl, tt)

@@ -4,7 +4,7 @@ use Rattle.std.specs.Prelude.{unwrap_or}
 use Rattle.sam_runes.specs.Slots.{slot, put_slot}
 use Rattle.sam_runes.proofs.SlotLaws.{slot-put_same, slot-put_other}
 use Rattle.sam_mesg.specs.declared.tmesg.Tmesg.{Tmesg}
-use Rattle.sam_mesg.specs.declared.tmesg.Tmesg.TheVariants.{Tversion, Tstartcmdfile, Tcheck, Trequest, Torigin, Tstartfile, Tworkfile, Ttype, Tcut, Tpaste, Tsnarf, Tstartnewfile, Twrite, Tclose, Tlook, Tsearch, Tsend, Tdclick, Tstartsnarf, Tsetsnarf, Tack, Texit}
+use Rattle.sam_mesg.specs.declared.tmesg.Tmesg.TheVariants.{Trequest, Ttype}
 use Rattle.sam_term.specs.declared.lock.Lock.{Lock}
 use Rattle.sam_term.specs.declared.lock.Lock.TheVariants.{NoLock, CommandLock, FileLock}
 use Rattle.sam_term.specs.Locks.{lock_of, is_command_line}
@@ -15,7 +15,7 @@ use Rattle.sam_term.specs.declared.files.Unsent.{Unsent}
 use Rattle.sam_term.proofs.TermLaws.{known-put}
 use Rattle.sam_protocol.specs.Lens.{Slot, Unknown, Known, Open, Lens, lens}
 use Rattle.sam_protocol.proofs.Lenses.{IsOpen, locked_more}
-use Rattle.sam_protocol.proofs.Changes.{commanded}
+use Rattle.sam_protocol.proofs.Changes.{changed, change_of_lock}
 use Rattle.sam_protocol.specs.View.{slot_of_window, slot_of, view}
 use Rattle.sam_protocol.specs.Order.{IsTidyWindow, AreTidy, IsHeldBack, views}
 use Rattle.sam_protocol.proofs.HostFiles.{bool_cases}
@@ -49,7 +49,8 @@ view-open t f o = go (slot t.files f) o
     at_window None o = absurd o
     at_window (Some w) o = refl
 
-    go : (s : Option KnownFile) → IsOpen (L (slot_of s)) → L (slot_of s) ≡ L (Open (unwrap_or (unwrap_or s blank_known).window blank_window).rasp (unwrap_or (unwrap_or s blank_known).window blank_window).locks)
+    go : (s : Option KnownFile) → IsOpen (L (slot_of s)) → L (slot_of s) ≡ L
+        (Open (unwrap_or (unwrap_or s blank_known).window blank_window).rasp (unwrap_or (unwrap_or s blank_known).window blank_window).locks)
     go None o = absurd o
     go (Some k) o = at_window k.window o
 
@@ -80,17 +81,13 @@ view-kept t f w o r k g =
     ((λ i. lens t.command_lock t.has_exited t.version (Open (r i) (k i))) ∙ sym (view-open t f o))
 
 -- a window of an open file that is changed so
-pub view-made : (t : PlainTerminal) (f : ℕ) (w : Window) (change : Lens → Lens) → IsOpen (view f t) → lens t.command_lock t.has_exited t.version (Open w.rasp w.locks) ≡ change (lens t.command_lock t.has_exited t.version (Open (window_at t f).rasp (window_at t f).locks)) → (g : ℕ) → view g (put_window t f w) ≡ (if g == f then change (view g t) else view g t)
+pub view-made : (t : PlainTerminal) (f : ℕ) (w : Window) (change : Lens → Lens) → IsOpen (view f t)
+    → lens t.command_lock t.has_exited t.version (Open w.rasp w.locks) ≡ change (lens t.command_lock t.has_exited t.version (Open (window_at t f).rasp (window_at t f).locks)) → (g : ℕ)
+    → view g (put_window t f w) ≡ (if g == f then change (view g t) else view g t)
 view-made t f w change o e g =
     view-window t f w g ∙ ap (λ (v : Lens). (if g == f then v else view g t)) (e ∙ ap change (sym (view-open t f o))) ∙ if_made g f (views t) change
 
 -- ## Locks
-
--- what taking a lock changes
-abbrev pub lock_change : Lock → ℕ → Lens → Lens
-lock_change NoLock g v = v
-lock_change CommandLock g v = commanded v
-lock_change (FileLock f) g v = (if g == f then locked_more v else v)
 
 abbrev pub LockOpens : Lock → (ℕ → Lens) → Type 0
 LockOpens NoLock views = Unit
@@ -100,7 +97,7 @@ LockOpens (FileLock f) views = IsOpen (views f)
 more : (k : ℕ) → k + 1 ≡ suc k
 more k = omega arith
 
-view-lock : (l : Lock) (t : PlainTerminal) → LockOpens l (views t) → (g : ℕ) → view g (lock_taken l t) ≡ lock_change l g (view g t)
+view-lock : (l : Lock) (t : PlainTerminal) → LockOpens l (views t) → (g : ℕ) → view g (lock_taken l t) ≡ changed (change_of_lock l) g (view g t)
 view-lock NoLock t o g = refl
 view-lock CommandLock t o g = refl
 view-lock (FileLock f) t o g =
@@ -117,33 +114,13 @@ open_chosen true v o = open_more v o
 open_chosen false v o = o
 
 -- one message that is composed takes its lock, and changes nothing else that the views show
-pub view-composed : (t : PlainTerminal) (m : Tmesg) → LockOpens (lock_of m) (views t) → (g : ℕ) → view g (composed t m) ≡ lock_change (lock_of m) g (view g t)
+pub view-composed : (t : PlainTerminal) (m : Tmesg) → LockOpens (lock_of m) (views t) → (g : ℕ) → view g (composed t m) ≡ changed (change_of_lock (lock_of m)) g (view g t)
 view-composed t (Trequest f p n) o g =
     let u : PlainTerminal = lock_taken (FileLock f) (record t { sent = t.sent + 1 }) in
     let locked = view-lock (FileLock f) (record t { sent = t.sent + 1 }) o in
     let is_open : IsOpen (view f u) = subst IsOpen (sym (locked f)) (open_chosen (f == f) (view f t) o) in
     view-kept u f (record (window_at u f) { awaits = true }) is_open refl refl g ∙ locked g
-view-composed t (Tversion v) o g = view-lock CommandLock (record t { sent = t.sent + 1 }) o g
-view-composed t Tstartcmdfile o g = view-lock CommandLock (record t { sent = t.sent + 1 }) o g
-view-composed t (Tcheck f) o g = refl
-view-composed t (Torigin f p n) o g = view-lock (FileLock f) (record t { sent = t.sent + 1 }) o g
-view-composed t (Tstartfile f) o g = view-lock CommandLock (record t { sent = t.sent + 1 }) o g
-view-composed t (Tworkfile f p q) o g = refl
-view-composed t (Ttype f p s) o g = view-lock (lock_of (Ttype f p s)) (record t { sent = t.sent + 1 }) o g
-view-composed t (Tcut f p q) o g = refl
-view-composed t (Tpaste f p) o g = view-lock (FileLock f) (record t { sent = t.sent + 1 }) o g
-view-composed t (Tsnarf f p q) o g = refl
-view-composed t Tstartnewfile o g = view-lock CommandLock (record t { sent = t.sent + 1 }) o g
-view-composed t (Twrite f) o g = view-lock (FileLock f) (record t { sent = t.sent + 1 }) o g
-view-composed t (Tclose f) o g = view-lock CommandLock (record t { sent = t.sent + 1 }) o g
-view-composed t (Tlook f p q) o g = view-lock (FileLock f) (record t { sent = t.sent + 1 }) o g
-view-composed t (Tsearch f p q) o g = view-lock (FileLock f) (record t { sent = t.sent + 1 }) o g
-view-composed t (Tsend f p q) o g = view-lock CommandLock (record t { sent = t.sent + 1 }) o g
-view-composed t (Tdclick f p) o g = view-lock (FileLock f) (record t { sent = t.sent + 1 }) o g
-view-composed t Tstartsnarf o g = refl
-view-composed t (Tsetsnarf s) o g = refl
-view-composed t Tack o g = refl
-view-composed t Texit o g = view-lock CommandLock (record t { sent = t.sent + 1 }) o g
+view-composed t m o g = view-lock (lock_of m) (record t { sent = t.sent + 1 }) o g
 
 -- ## The unsent runes
 
@@ -205,27 +182,7 @@ tidy-composed t m all = asks m (lock_taken (lock_of m) (record t { sent = t.sent
 
     asks : (m : Tmesg) (u : PlainTerminal) → AreTidy u → AreTidy (asked m u)
     asks (Trequest f p n) u a = tidy-window u f (record (window_at u f) { awaits = true }) a (a f)
-    asks (Tversion v) u a = a
-    asks Tstartcmdfile u a = a
-    asks (Tcheck f) u a = a
-    asks (Torigin f p n) u a = a
-    asks (Tstartfile f) u a = a
-    asks (Tworkfile f p q) u a = a
-    asks (Ttype f p s) u a = a
-    asks (Tcut f p q) u a = a
-    asks (Tpaste f p) u a = a
-    asks (Tsnarf f p q) u a = a
-    asks Tstartnewfile u a = a
-    asks (Twrite f) u a = a
-    asks (Tclose f) u a = a
-    asks (Tlook f p q) u a = a
-    asks (Tsearch f p q) u a = a
-    asks (Tsend f p q) u a = a
-    asks (Tdclick f p) u a = a
-    asks Tstartsnarf u a = a
-    asks (Tsetsnarf s) u a = a
-    asks Tack u a = a
-    asks Texit u a = a
+    asks _ u a = a
 
 pub tidy-flushed : (t : PlainTerminal) → AreTidy t → AreTidy (flushed t).0
 unfolding flushed

@@ -10,20 +10,24 @@
 //! a lock. Then none changes the file either, since a frame that frees a lock would stand behind it. Those that are left do nothing to
 //! the file, as it is before the edit and as it is after it: the edit moves past all that is under way.
 //!
+//! Nothing of the two sides is written here a second time: the messages are those of sam_mesg, the answers are sam_host's `reply_to`, the
+//! terminal's steps and locks are sam_term's. Projections forget what doesn't matter here: `view` of a terminal, `file_in` of a host's
+//! files, `action` of a frame.
+//!
 //! Read the files in this order; each name is that of an .antt file.
 //!
-//! 1. specs/Lens: a file as the terminal knows it (`Lens`), what a frame does to it (`move`), and what is kept there (`IsKept`).
-//! 2. proofs/Runs: `still`. proofs/Texts, Kept: each step at one file keeps `IsKept`; `kept_act` is the user's edit.
-//! 3. specs/Model, Crossing: messages and answers, without what doesn't matter here, and what a message with its answer must do (`Sync`).
-//!    proofs/Making, Edits, FileLocks, Commands, Lines: each kind of message does it.
-//! 4. specs/View, HostView, Means, Handled, Synced: the terminal and the host themselves, seen as lenses and as the model's host.
-//!    proofs/FrameMoves, MirrorSteps, Mirror, MirrorVersions, MirrorLines, LineMeans, Versions, Syncing, Running, Handling: they do what
-//!    lenses and model do. [`frames_move`] sums up the terminal, `handled` in proofs/Handling the host.
-//! 5. specs/Fold, Order: all files and all that is under way at once (`Kept`, `InOrder`). proofs/Folds, Steady, Composing: these, with
-//!    one message or frame more or less.
-//! 6. proofs/Starting, Passing, Views, Dots, Sending, Joins, Typing, Acting, Receiving: the first state is in order, and each event of
+//! 1. specs/Lens, Frames: a file as the terminal knows it (`Lens`), what a frame does to it (`action`, `move`), what is kept (`IsKept`).
+//! 2. proofs/Runs: `still`. proofs/Lenses, Texts, Kept: each step at one file keeps `IsKept`; `kept_act` is the user's edit.
+//! 3. proofs/Changes, Accepting: what the terminal changes as it composes a message, by sam_term's `lock_of` (`change_by`), which messages
+//!    come to the host (`Accepted`), and what a message with its answer must do then (`Synced`).
+//! 4. proofs/HostFiles, Tests, Guards: aids. proofs/Telling: what frames about one open file do (`Told`), one lemma for each ending that
+//!    answers share. proofs/FileLocks, Edits, Commands, Announcing, Lines: one lemma for each kind of message; Handling sums them up.
+//! 5. specs/View, proofs/FrameMoves: the terminal itself, seen as lenses, does what they do. [`frames_move`] sums it up.
+//! 6. specs/Steady, Fold, Order: all files and all that is under way at once (`Kept`, `InOrder`). proofs/Versions, Folds, Steady,
+//!    Composing: these, with one message or frame more or less.
+//! 7. proofs/Starting, Passing, Views, Dots, Sending, Joins, Typing, Acting, Receiving: the first state is in order, and each event of
 //!    the user (`event_goes`) and each frame (`received`) keeps it so.
-//! 7. proofs/Ordered: the host's step (`host_goes`), and what follows. specs/Streams, proofs/Streaming: both sides have one version.
+//! 8. proofs/Ordered: the host's step (`host_goes`), and what follows. specs/Streams, proofs/Streaming: both sides have one version.
 #![tactic(auto)]
 
 ghost use Rattle.sam_protocol.specs.View.{TakeLaw};

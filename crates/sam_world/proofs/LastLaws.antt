@@ -12,7 +12,7 @@ use Rattle.sam_term.specs.Locks.{lock_of, is_command_line, freed_by, one_lock, a
 use Rattle.sam_world.specs.Telling.{is_answered, AnswersFreeLast}
 use Rattle.sam_world.proofs.LockLaws.{freed-append, freed-only, reply_frees}
 use Rattle.sam_mesg.specs.declared.tmesg.Tmesg.{Tmesg}
-use Rattle.sam_mesg.specs.declared.tmesg.Tmesg.TheVariants.{Tversion, Tstartcmdfile, Tcheck, Trequest, Torigin, Tstartfile, Tworkfile, Ttype, Tcut, Tpaste, Tsnarf, Tstartnewfile, Twrite, Tclose, Tlook, Tsearch, Tsend, Tdclick, Tstartsnarf, Tsetsnarf, Tack, Texit}
+use Rattle.sam_mesg.specs.declared.tmesg.Tmesg.TheVariants.{Tversion, Tstartcmdfile, Trequest, Torigin, Tstartfile, Ttype, Tpaste, Tstartnewfile, Twrite, Tclose, Tlook, Tsearch, Tsend, Tdclick, Texit}
 use Rattle.sam_mesg.specs.declared.hmesg.Hmesg.{Hmesg}
 use Rattle.sam_mesg.specs.declared.hmesg.Hmesg.TheVariants.{Hversion, Hbindname, Hnewname, Hmovname, Hunlock, Hunlockfile, Hack, Hexit}
 
@@ -131,15 +131,11 @@ ends-send h f p q =
 ends : (h : PlainHost) (m : Tmesg) → is_answered h m ≡ true → (lock_of m ≡ NoLock → ⊥) → Ends (lock_of m) (reply_to h m).1
 ends h (Tversion v) e some = ends-version h v
 ends h Tstartcmdfile e some = ends-startcmdfile h
-ends h (Tcheck f) e some = absurd (some refl)
 ends h (Trequest f p n) e some = ends-request h f p n e
 ends h (Torigin f p n) e some = ends-origin h f p n
 ends h (Tstartfile f) e some = ends-startfile h f
-ends h (Tworkfile f p q) e some = absurd (some refl)
 ends h (Ttype f p s) e some = ends-type h f p s some
-ends h (Tcut f p q) e some = absurd (some refl)
 ends h (Tpaste f p) e some = ends-paste h f p
-ends h (Tsnarf f p q) e some = absurd (some refl)
 ends h Tstartnewfile e some = ends-startnewfile h
 ends h (Twrite f) e some = ends-write h f
 ends h (Tclose f) e some = ends-close h f
@@ -147,10 +143,8 @@ ends h (Tlook f p q) e some = ends-look h f p q
 ends h (Tsearch f p q) e some = ends-search h f p q
 ends h (Tsend f p q) e some = ends-send h f p q
 ends h (Tdclick f p) e some = ends-dclick h f p
-ends h Tstartsnarf e some = absurd (some refl)
-ends h (Tsetsnarf s) e some = absurd (some refl)
-ends h Tack e some = absurd (some refl)
 ends h Texit e some = ends-exit h
+ends h _ e some = absurd (some refl)
 
 -- where one lock is freed in all and the last frame frees it, none is freed before
 none-before : (front : List Hmesg) (l : Lock) (all : List Lock) → all_freed front ++ one_lock l ≡ all → all ≡ one_lock l → (l ≡ NoLock → ⊥) → all_freed front ≡ []

@@ -39,11 +39,11 @@ use Rattle.sam_protocol.proofs.Starting.{starts}
 use Rattle.sam_protocol.proofs.Streaming.{one_version, version_at_place}
 use Rattle.sam_term.specs.declared.lock.Lock.{Lock}
 use Rattle.sam_term.specs.declared.lock.Lock.TheVariants.{NoLock, CommandLock, FileLock}
-use Rattle.sam_term.specs.Locks.{lock_of, is_command_line}
+use Rattle.sam_term.specs.Locks.{lock_of}
 use Rattle.sam_term.specs.declared.files.KnownFile.{KnownFile}
 use Rattle.sam_term.proofs.TermLaws.{known-put}
 use Rattle.std.specs.Prelude.{unwrap_or}
-use Rattle.sam_mesg.specs.declared.tmesg.Tmesg.TheVariants.{Tversion, Tstartcmdfile, Tcheck, Trequest, Torigin, Tstartfile, Tworkfile, Ttype, Tcut, Tpaste, Tsnarf, Tstartnewfile, Twrite, Tclose, Tlook, Tsearch, Tsend, Tdclick, Tstartsnarf, Tsetsnarf, Tack, Texit}
+use Rattle.sam_mesg.specs.declared.tmesg.Tmesg.TheVariants.{Trequest}
 use Rattle.sam_world.specs.World.{new_world, is_locked, PlainWorld, agrees_where_open, composed_by, after_act, after_compose, after_answer, term_takes, host_takes, step_of, host_after, host_after_all}
 use Rattle.sam_world.specs.Order.{Stamped, mesgs, IsInOrder, StartsInOrder, StepsInOrder, RunsInOrder, HostNeverRefuses, TerminalNeverRefuses, OnlyCountsStop, QuietMeansAgreement, FreeMeansAhead, FreeMeansOneVersion, OthersGoOn, ReachedInOrder, FreeMeansVersionAtPlace, OthersStayFree}
 use Rattle.sam_world.specs.declared.event.Event.{Event}
@@ -324,42 +324,17 @@ others_stay_free t m f g l e = go m l
     plain : (k : ℕ) → k ≡ f → is_locked (lock_taken (FileLock k) t2) g ≡ is_locked t g
     plain k q = locks_alike t (lock_taken (FileLock k) t2) g refl (locked_other t2 k g (other k q))
 
-    typed : (b : Bool) → (if b then CommandLock else NoLock) ≡ FileLock f → ⊥
-    typed true q = let x : ◌≡◌ {A = Lock} CommandLock (FileLock f) = q in cc
-    typed false q = let x : ◌≡◌ {A = Lock} NoLock (FileLock f) = q in cc
-
-    command : ◌≡◌ {A = Lock} CommandLock (FileLock f) → ⊥
-    command q = cc
-
-    none : ◌≡◌ {A = Lock} NoLock (FileLock f) → ⊥
-    none q = cc
+    by_lock : (l : Lock) → l ≡ FileLock f → is_locked (lock_taken l t2) g ≡ is_locked t g
+    by_lock NoLock q = absurd (let x : ◌≡◌ {A = Lock} NoLock (FileLock f) = q in cc)
+    by_lock CommandLock q = absurd (let x : ◌≡◌ {A = Lock} CommandLock (FileLock f) = q in cc)
+    by_lock (FileLock k) q = plain k (same_tag k f q)
 
     go : (m : Tmesg) → lock_of m ≡ FileLock f → is_locked (composed t m) g ≡ is_locked t g
-    go (Tversion v) q = absurd (command q)
-    go Tstartcmdfile q = absurd (command q)
-    go (Tcheck k) q = absurd (none q)
     go (Trequest k p n) q =
         let z = other k (same_tag k f q) in
         locks_alike t (composed t (Trequest k p n)) g refl
         (other_window (lock_taken (FileLock k) t2) k (record (window_at (lock_taken (FileLock k) t2) k) { awaits = true }) g z ∙ locked_other t2 k g z)
-    go (Torigin k p n) q = plain k (same_tag k f q)
-    go (Tstartfile k) q = absurd (command q)
-    go (Tworkfile k p r) q = absurd (none q)
-    go (Ttype k p s) q = absurd (typed (is_command_line k s) q)
-    go (Tcut k p r) q = absurd (none q)
-    go (Tpaste k p) q = plain k (same_tag k f q)
-    go (Tsnarf k p r) q = absurd (none q)
-    go Tstartnewfile q = absurd (command q)
-    go (Twrite k) q = plain k (same_tag k f q)
-    go (Tclose k) q = absurd (command q)
-    go (Tlook k p r) q = plain k (same_tag k f q)
-    go (Tsearch k p r) q = plain k (same_tag k f q)
-    go (Tsend k p r) q = absurd (command q)
-    go (Tdclick k p) q = plain k (same_tag k f q)
-    go Tstartsnarf q = absurd (none q)
-    go (Tsetsnarf s) q = absurd (none q)
-    go Tack q = absurd (none q)
-    go Texit q = absurd (command q)
+    go m q = by_lock (lock_of m) q
 
 some_waits : (x : Checks Verdict) → Type 0
 some_waits x = first_of_checks x ≡ Some Waits

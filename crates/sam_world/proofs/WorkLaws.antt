@@ -13,7 +13,7 @@ use Rattle.sam_host.specs.Host.{PlainHost, Reply, Answer, given_file, answer, an
 use Rattle.sam_host.specs.declared.fault.HostFault.{HostFault}
 use Rattle.sam_host.specs.declared.fault.HostFault.TheVariants.{CountFull}
 use Rattle.sam_mesg.specs.declared.tmesg.Tmesg.{Tmesg}
-use Rattle.sam_mesg.specs.declared.tmesg.Tmesg.TheVariants.{Tversion, Tstartcmdfile, Tcheck, Trequest, Torigin, Tstartfile, Tworkfile, Ttype, Tcut, Tpaste, Tsnarf, Tstartnewfile, Twrite, Tclose, Tlook, Tsearch, Tsend, Tdclick, Tstartsnarf, Tsetsnarf, Tack, Texit}
+use Rattle.sam_mesg.specs.declared.tmesg.Tmesg.TheVariants.{Tversion, Tstartcmdfile, Tstartfile, Tworkfile, Ttype, Tcut, Tpaste, Tstartnewfile, Twrite, Tclose, Tlook, Tsearch, Tsend, Tdclick}
 use Rattle.sam_mesg.specs.declared.hmesg.Hmesg.{Hmesg}
 use Rattle.sam_mesg.specs.declared.hmesg.HFrame.{HFrame}
 use Rattle.sam_world.specs.World.{PlainWorld, new_world}
@@ -162,15 +162,11 @@ reply_work : (h : PlainHost) (m : Tmesg) â†’ first_of_checks (host_checks h m) â
 unfolding reply_check reply_request reply_origin reply_cut reply_snarf reply_write reply_search reply_dclick reply_startsnarf reply_setsnarf reply_exit
 reply_work h (Tversion v) checked w = work-version h v w
 reply_work h Tstartcmdfile checked w = work-startcmdfile h w
-reply_work h (Tcheck f) checked w = w
-reply_work h (Trequest f p n) checked w = w
-reply_work h (Torigin f p n) checked w = w
 reply_work h (Tstartfile f) checked w = work-startfile h f
 reply_work h (Tworkfile f p q) checked w = work-workfile h f p q checked
 reply_work h (Ttype f p s) checked w = work-type h f p s w
 reply_work h (Tcut f p q) checked w = work-put h.files f (cut_file f (file_at h.files f) p q) refl w
 reply_work h (Tpaste f p) checked w = work-paste h f p w
-reply_work h (Tsnarf f p q) checked w = w
 reply_work h Tstartnewfile checked w = work-startnewfile h w
 reply_work h (Twrite f) checked w = work-put h.files f (record (file_at h.files f) { saved = Some (file_at h.files f).text; dirty = false }) refl w
 reply_work h (Tclose f) checked w = work-close h f w
@@ -178,10 +174,7 @@ reply_work h (Tlook f p q) checked w = work-look h f p q w
 reply_work h (Tsearch f p q) checked w = work-found h f (searched_for h.files.pattern (file_at h.files f).text q) [] w
 reply_work h (Tsend f p q) checked w = work-send h f p q w
 reply_work h (Tdclick f p) checked w = work-put h.files f (record (file_at h.files f) { dot = _ }) refl w
-reply_work h Tstartsnarf checked w = w
-reply_work h (Tsetsnarf s) checked w = w
-reply_work h Tack checked w = w
-reply_work h Texit checked w = w
+reply_work h _ checked w = w
 
 -- ## The laws
 
