@@ -271,6 +271,11 @@ uint32_t sam_term_unsent(sam_term *term, uint32_t *runes);
 /* How many messages were composed. */
 uint32_t sam_term_sent(sam_term *term, uint64_t *messages);
 
+/* How many of the composed messages the host has not taken, as far as its frames tell. 0 means that it has taken them all. Else it is an
+ * upper bound: the host answers typing (but the end of a command line) and the cutting of a selection by no frame, and such a message
+ * counts until the host answers a later one. sam_term_check asks for an answer that changes nothing. */
+uint32_t sam_term_under_way(sam_term *term, uint64_t *messages);
+
 /* The pattern that the host told last, in UTF-8: as many whole runes as have room. */
 uint32_t sam_term_pattern(sam_term *term, uint8_t *into, size_t room, size_t *len);
 

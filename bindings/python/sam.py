@@ -208,8 +208,8 @@ _SIGNATURES = {
     "term_read": (c_uint16, c_uint32, *_RUNES, _SIZE), "term_first_gap": (c_uint16, c_uint32, _U32),
     "term_dot": (c_uint16, _U32, _U32), "term_view_of": (c_uint16, _U32, _U32), "term_is_locked": (c_uint16, _BOOL),
     "term_is_command_locked": (_BOOL,), "term_held": (_SIZE,), "term_unsent": (_U32,), "term_sent": (_U64,),
-    "term_pattern": (*_BUFFER, _SIZE), "term_snarfed": _TEXT_FROM, "term_snarf_len": (_U32,), "term_has_exited": (_BOOL,),
-    "term_version_of": (_TAG,),
+    "term_under_way": (_U64,), "term_pattern": (*_BUFFER, _SIZE), "term_snarfed": _TEXT_FROM, "term_snarf_len": (_U32,),
+    "term_has_exited": (_BOOL,), "term_version_of": (_TAG,),
 }  # fmt: skip
 
 # The arguments of the one call that takes no handle.
@@ -633,6 +633,15 @@ class Terminal(_Side):
     def sent(self) -> int:
         """How many messages were composed."""
         return self._read("sent", c_uint64)
+
+    @property
+    def under_way(self) -> int:
+        """How many of the composed messages the host has not taken, as far as its frames tell; 0 means that it has taken them all.
+
+        Else it is an upper bound: the host answers typing and the cutting of a selection by no frame, and such a message counts until the
+        host answers a later one. `check` asks for an answer that changes nothing.
+        """
+        return self._read("under_way", c_uint64)
 
     @property
     def pattern(self) -> str:

@@ -5,6 +5,7 @@ from typing import Deque, Dict, List, Optional
 from keys import ACTIONS, Input, Key, Mouse, Text
 from menus import Help, Menu
 from sam import Refusal, SamError, Status, Terminal
+from way import Way
 from windows import Window
 
 COMMAND = 0  # the tag of the command file
@@ -64,6 +65,7 @@ class Editor:
     def __init__(self, terminal: Terminal):
         self.terminal = terminal
         self.marks = Marks(terminal)
+        self.way = Way(terminal)
         self.feeds = 0  # pieces that came from the host
         self.all_windows: Dict[int, Window] = {}
         self.command = self.window_of(COMMAND)
@@ -141,6 +143,11 @@ class Editor:
         self.feeds += 1
         self.terminal.feed(data)
         self._meet_files()
+
+    def pause(self) -> None:
+        """The user pauses: sends what was typed, and asks the host by the command file, unless a lock says that an answer is due."""
+        is_answer_due = self.terminal.held > 0 or any(self.terminal.is_locked(tag) for tag in self.all_windows)
+        self.way.send(COMMAND if self.command.is_open and not is_answer_due else None)
 
     def lose(self, why: str) -> None:
         """The host is gone: what is loaded can still be read."""

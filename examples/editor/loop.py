@@ -35,27 +35,28 @@ class Loop:
         while not self.editor.is_over:
             ready = self._ready(0)
             if not ready:
-                self._idle()
-                ready = self._ready(None)
+                ready = self._ready(self._idle())
             self._take_keys(ready)
             self._take_signals(ready)
             self._take_bytes(ready)
             self._send()
 
     def _ready(self, milliseconds: Optional[int]) -> Dict[int, int]:
-        """What is there to be read or written: events by descriptor. Sleeps until something is where no time is given."""
+        """What is there to be read or written: events by descriptor. Sleeps until something is, or so long where a time is given."""
         poll = select.poll()
         for descriptor, events in {KEYBOARD: select.POLLIN, self.signals: select.POLLIN, **self.link.wanted()}.items():
             poll.register(descriptor, events)
         return dict(poll.poll(milliseconds))
 
-    def _idle(self) -> None:
-        """Before it sleeps: sends what was typed, and draws."""
+    def _idle(self) -> Optional[int]:
+        """Before it sleeps: sends what was typed, and draws. Returns how many milliseconds it may sleep; None where that has no end."""
         self._do(self.editor.update)
         if not self.editor.is_lost:
-            self._do(self.terminal.idle)
+            self._do(self.editor.pause)
         self._send()
+        longest = self.editor.way.milliseconds  # before it draws, so that a wait which ends in between is drawn then
         self.screen.draw(self.editor, self.link)
+        return longest
 
     def _take_keys(self, ready: Dict[int, int]) -> None:
         if ready.get(KEYBOARD, 0) & (select.POLLHUP | select.POLLERR | select.POLLNVAL):

@@ -133,7 +133,7 @@ def menu_rows(menu, rows: int, columns: int) -> Dict[int, List[Run]]:
 
 
 def status(editor: Editor, link: Link) -> str:
-    """Name, dirty mark, dot, locks, held events, runes not sent, and the bytes of the link."""
+    """Name, dirty mark, dot, locks, held events, runes not sent, messages on the way, and the bytes of the link."""
     terminal, window = editor.terminal, editor.active
     name = editor.name(window.tag)
     parts = [("…" + name[-MOST_IN_STATUS:] if len(name) > MOST_IN_STATUS else name) + (" *" if editor.marks.is_dirty(window.tag) else "")]
@@ -146,6 +146,8 @@ def status(editor: Editor, link: Link) -> str:
     for name, count in (("held", terminal.held + len(editor.deferred)), ("unsent", terminal.unsent), ("waiting", len(link.waiting))):
         if count:
             parts.append(f"{name} {count}")
+    if editor.way.told:
+        parts.append(f"{editor.way.told} on the way")
     parts.append(f"up {link.up} down {link.down}")
     return " | ".join(parts)
 

@@ -103,6 +103,7 @@ static void no_handles(sam_host *host, sam_term *term)
 	WANT(sam_term_held(term, &len), SAM_NO_HANDLE);
 	WANT(sam_term_unsent(term, &a), SAM_NO_HANDLE);
 	WANT(sam_term_sent(term, &many), SAM_NO_HANDLE);
+	WANT(sam_term_under_way(term, &many), SAM_NO_HANDLE);
 	WANT(sam_term_pattern(term, buffer, sizeof buffer, &len), SAM_NO_HANDLE);
 	WANT(sam_term_snarfed(term, 0, buffer, sizeof buffer, &len, &more), SAM_NO_HANDLE);
 	WANT(sam_term_snarf_len(term, &a), SAM_NO_HANDLE);
@@ -247,6 +248,13 @@ static void wants_refusal(sam_term *term, uint32_t should)
 	WANT(event, events);
 }
 
+static void wants_under_way(sam_term *term, uint64_t should)
+{
+	uint64_t messages = 99;
+	WANT(sam_term_under_way(term, &messages), SAM_OK);
+	WANT(messages, should);
+}
+
 static void same_text(sam_host *host, uint16_t tag, const char *text)
 {
 	uint8_t bytes[256];
@@ -334,14 +342,21 @@ static void session(void)
 	WANT(sam_term_paste(&term, 1), SAM_OK);
 	carry(&term, &host);
 	same_text(&host, 1, "oneone two \n");
+	wants_under_way(&term, 0);
 	WANT(sam_term_type(&term, 1, BYTES("\xC3\xA9")), SAM_OK); /* in the place of what was pasted */
 	WANT(sam_term_unsent(&term, &a), SAM_OK);
 	WANT(a, 1);
 	WANT(sam_term_idle(&term), SAM_OK);
 	WANT(sam_term_unsent(&term, &a), SAM_OK);
 	WANT(a, 0);
+	wants_under_way(&term, 2); /* Tcut and Ttype */
 	carry(&term, &host);
 	same_text(&host, 1, "\xC3\xA9one two \n");
+	wants_under_way(&term, 2); /* the host has taken both, and answers neither */
+	WANT(sam_term_check(&term, 1), SAM_OK);
+	wants_under_way(&term, 3);
+	carry(&term, &host);
+	wants_under_way(&term, 0);
 	WANT(sam_host_text(&host, 1, 0, bytes, 1, &len, &more), SAM_OK); /* no whole rune has room */
 	WANT(len == 0 && more == 0, 1);
 	WANT(sam_host_is_dirty(&host, 1, &is), SAM_OK);

@@ -79,6 +79,7 @@ unsafe extern "C" {
     pub fn sam_term_held(term: *mut Handle, events: *mut usize) -> u32;
     pub fn sam_term_unsent(term: *mut Handle, runes: *mut u32) -> u32;
     pub fn sam_term_sent(term: *mut Handle, messages: *mut u64) -> u32;
+    pub fn sam_term_under_way(term: *mut Handle, messages: *mut u64) -> u32;
     pub fn sam_term_pattern(term: *mut Handle, into: *mut u8, room: usize, len: *mut usize) -> u32;
     pub fn sam_term_snarfed(term: *mut Handle, place: u32, into: *mut u8, room: usize, bytes: *mut usize, runes: *mut usize) -> u32;
     pub fn sam_term_snarf_len(term: *mut Handle, runes: *mut u32) -> u32;

@@ -234,6 +234,14 @@ impl Terminal {
         tells(|value| unsafe { raw::sam_term_sent(self.at(), value) })
     }
 
+    /// How many of the composed messages the host has not taken, as far as its frames tell; 0 means that it has taken them all.
+    ///
+    /// Else it is an upper bound: the host answers typing and the cutting of a selection by no frame, and such a message counts until the
+    /// host answers a later one. [`Terminal::check`] asks for an answer that changes nothing.
+    pub fn under_way(&self) -> u64 {
+        tells(|value| unsafe { raw::sam_term_under_way(self.at(), value) })
+    }
+
     /// How many runes the host's snarf buffer has, as it told last.
     pub fn snarf_len(&self) -> u32 {
         tells(|value| unsafe { raw::sam_term_snarf_len(self.at(), value) })

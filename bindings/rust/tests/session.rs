@@ -43,6 +43,22 @@ fn an_edit_that_would_cross_waits() -> Result<(), Error> {
 }
 
 #[test]
+fn messages_without_an_answer_count_until_a_later_one_is_answered() -> Result<(), Error> {
+    let (mut host, mut term, file) = opened("hello\n")?;
+    assert_eq!(term.under_way(), 0);
+    term.type_text(file, "é")?;
+    term.idle()?;
+    carry(&mut term, &mut host)?;
+    assert_eq!(host.text(file).as_deref(), Some("éhello\n"));
+    assert_eq!(term.under_way(), 1);
+    term.check(file)?;
+    assert_eq!(term.under_way(), 2);
+    carry(&mut term, &mut host)?;
+    assert_eq!(term.under_way(), 0);
+    Ok(())
+}
+
+#[test]
 fn gaps_are_told_and_fill() -> Result<(), Error> {
     let (mut host, mut term, file) = opened("one\n")?;
     assert_eq!(term.read(file, 0, 9), vec![None; 4]);

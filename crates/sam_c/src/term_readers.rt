@@ -4,6 +4,7 @@
 ghost use Rattle.std.specs.Prelude.{◌≡◌, Some, drop, is_some, length, option_and_then, option_copied, option_map};
 ghost use Rattle.sam_c.specs.Calls.{Tells, TellsCells, TellsName, TellsSome, TellsText, written};
 ghost use Rattle.sam_c.specs.Terms.{dot_of, gap_from, is_held_back, known_of, open_of, rasp_of, shown_of};
+ghost use Rattle.sam_ends.specs.TermEnds.{under_way};
 ghost use Rattle.sam_rasp.specs.Rasp.{hole_within};
 ghost use Rattle.sam_term.specs.Sound.{unsent_length};
 
@@ -116,6 +117,21 @@ pub extern "C" fn sam_term_sent(term: &mut SamTerm, messages: &mut u64, alloc: G
         return NO_HANDLE;
     };
     *messages = end.term().sent();
+    term.put(end);
+    OK
+}
+
+/// Hands out how many of the composed messages the host has not taken, as far as its frames tell. It is an upper bound: a message that
+/// the host answers by no frame counts until a later one is answered. 0 means that the host has taken them all.
+#[unsafe(no_mangle)]
+pub extern "C" fn sam_term_under_way(term: &mut SamTerm, messages: &mut u64, alloc: Global) -> u32
+    ensures told { Tells term.old.held.end result messages.old messages.new under_way }
+    ensures kept { term.new.held.end ≡ term.old.held.end }
+{
+    let Some(end) = term.take(alloc) else {
+        return NO_HANDLE;
+    };
+    *messages = end.under_way();
     term.put(end);
     OK
 }

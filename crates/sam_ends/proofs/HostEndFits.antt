@@ -1,5 +1,5 @@
 -- What waits in a host end fits: messages that a framer gave, and the frames of an answer.
-use Rattle.std.proofs.Common.{◌≡◌, sym, ap, subst, ◌∙◌, ◌≤◌, ℕ, Bool, true, false, List, [], ◌∷◌, Option, Some, None, if◌then◌else◌, ◌==◌, Ok, arith}
+use Rattle.std.proofs.Common.{◌≡◌, sym, ap, subst, ◌∙◌, ◌≤◌, ℕ, Bool, true, false, List, [], ◌∷◌, Option, Some, None, if◌then◌else◌, ◌==◌, arith}
 use Rattle.std.specs.Prelude.{IsTrue}
 use Rattle.std.proofs.lemmas.Bool.{leb-true, le-leb}
 use Rattle.std.proofs.lemmas.List.Elements.{All-nil, All-cons, All-tail}
@@ -17,7 +17,7 @@ use Rattle.sam_term.specs.Fitting.{FitsLast}
 use Rattle.sam_ends.specs.declared.fault.StreamFault.{StreamFault}
 use Rattle.sam_ends.specs.Streams.{FitFrames, FitMessages, Gives}
 use Rattle.sam_ends.specs.HostEnds.{PlainHostEnd}
-use Rattle.sam_ends.specs.HostSteps.{IsSound, Splits}
+use Rattle.sam_ends.specs.HostSteps.{IsSound}
 
 -- what fits in some version fits in the second
 later : (version : ℕ) (m : Tmesg) → fits_t version m ≡ true → fits_t 2 m ≡ true
@@ -57,7 +57,7 @@ answered_sound e g version m sound waited fit behind framer = record {
 }
 
 -- a piece was taken in
-pub taken_sound : (e g : PlainHostEnd) (piece : List ℕ) → IsSound e → Splits e.framer piece (Ok (g.waiting, g.behind)) g.framer
+pub taken_sound : (e g : PlainHostEnd) (piece : List ℕ) → IsSound e → Gives terminal e.framer piece g.waiting g.behind g.framer
     → g.unwritten ≡ e.unwritten → IsSound g
 taken_sound e g piece sound gave same = record {
   waiting = given_fit e.framer g.framer piece g.waiting g.behind gave;

@@ -1,17 +1,20 @@
 -- Going on with what waits, step by step.
-use Rattle.std.proofs.Common.{◌≡◌, refl, sym, ap, subst, ◌∙◌, ◌<◌, ℕ, List, [], ◌∷◌, ◌++◌, length, drop, Some, None, Ok, Err, inl, inr, append_assoc, append-nil, arith}
+use Rattle.std.proofs.Common.{◌≡◌, refl, sym, ap, subst, ◌∙◌, ◌<◌, ℕ, List, [], ◌∷◌, ◌++◌, length, drop, true, Option, Some, None, Ok, Err, inl, inr, append_assoc, append-nil, arith}
 use Rattle.sam_mesg.specs.declared.tmesg.Tmesg.{Tmesg}
 use Rattle.sam_mesg.specs.declared.hmesg.HFrame.{HFrame}
-use Rattle.sam_frame.specs.Direction.{host}
+use Rattle.sam_frame.specs.Direction.{host, terminal}
 use Rattle.sam_frame.specs.Stream.{stream_of}
+use Rattle.sam_frame.specs.Framing.{Held}
 use Rattle.sam_frame.proofs.Fronts.{stream_of-append}
 use Rattle.sam_host.specs.Host.{PlainHost, answer}
+use Rattle.sam_ends.specs.declared.fault.StreamFault.{StreamFault}
 use Rattle.sam_ends.specs.declared.fault.HostStop.{HostStop}
 use Rattle.sam_ends.specs.declared.fault.HostStop.TheVariants as stop
 use Rattle.sam_ends.specs.declared.fault.EndFault.{EndFault}
 use Rattle.sam_ends.specs.declared.fault.EndFault.TheVariants as fault
+use Rattle.sam_ends.specs.Streams.{Gives, not_taken}
 use Rattle.sam_ends.specs.HostEnds.{PlainHostEnd, Answers, Feeds, GoesOn, Serves, TakesIn, writes_of}
-use Rattle.sam_ends.specs.HostSteps.{Answer, AnswersFirst, Brings, Ends, Handles, Writes, held_back, stopped, written}
+use Rattle.sam_ends.specs.HostSteps.{Answer, AnswersFirst, Brings, Ends, Handles, Writes, stopped, written}
 
 -- ## Answers one behind another
 
@@ -221,11 +224,15 @@ ends e l g (Err fault.CountFull) gone none bad = absurd bad
 pub fed_stopped : (e : PlainHostEnd) (piece : List ℕ) (why : HostStop) → e.stop ≡ Some why → Feeds e piece (Err (fault.Stopped why)) e
 fed_stopped e piece why is = inl (why, is, refl, refl)
 
-pub fed_held_back : (e g : PlainHostEnd) (piece : List ℕ) (why : EndFault HostStop) → e.stop ≡ None → GoesOn e (Err why) g → Feeds e piece (Err (held_back why)) g
-fed_held_back e g piece fault.Unfinished goes on = inr (goes, g, Err fault.Unfinished, on, (refl, refl))
-fed_held_back e g piece (fault.Stopped why) goes on = inr (goes, g, Err (fault.Stopped why), on, (refl, refl))
-fed_held_back e g piece fault.OutOfMemory goes on = absurd on
-fed_held_back e g piece fault.CountFull goes on = absurd on
+pub fed_not_taken : (e g : PlainHostEnd) (piece : List ℕ) (why : EndFault HostStop) → e.stop ≡ None → GoesOn e (Err why) g → Feeds e piece (Err (not_taken why)) g
+fed_not_taken e g piece fault.Unfinished goes on = inr (goes, g, Err fault.Unfinished, on, (refl, refl))
+fed_not_taken e g piece (fault.Stopped why) goes on = inr (goes, g, Err (fault.Stopped why), on, (refl, refl))
+fed_not_taken e g piece fault.OutOfMemory goes on = absurd on
+fed_not_taken e g piece fault.CountFull goes on = absurd on
+
+pub taken_in : (e before g : PlainHostEnd) (piece : List ℕ) (messages : List Tmesg) (behind : Option StreamFault) (rest : Held) → before ≡ e
+    → Gives terminal before.framer piece messages behind rest → g ≡ record before { framer = rest; is_begun = true; waiting = messages; behind = behind } → TakesIn e piece g
+taken_in e before g piece messages behind rest is gives after = subst (λ (x : PlainHostEnd). TakesIn x piece g) is (messages, behind, rest, gives, after)
 
 pub nothing_behind : (e k : PlainHostEnd) → GoesOn e (Ok tt) k → k.behind ≡ None
 nothing_behind e k on = on.0.behind ∙ on.2

@@ -3,6 +3,7 @@ pub mod HostEndFits
 pub mod HostEndGoing
 pub mod HostEndFiles
 pub mod TermEndHeld
+pub mod TermEndStamps
 pub mod TermEndFits
 pub mod TermEndMoves
 pub mod TermEndSteps

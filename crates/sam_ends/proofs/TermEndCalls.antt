@@ -1,8 +1,6 @@
 -- The calls of a terminal end, of its steps.
-use Rattle.std.proofs.Common.{◌≡◌, refl, sym, ap, subst, ◌∙◌, ℕ, ◌+◌, ◌-◌, ◌^◌, ◌≤◌, ◌⊎◌, inl, inr, Bool, true, false, List, [], ◌∷◌, ◌++◌, length, Option, Some, None, Result, Ok, Err, arith}
-use Rattle.sam_mesg.specs.declared.tmesg.Tmesg.{Tmesg}
+use Rattle.std.proofs.Common.{◌≡◌, refl, sym, ap, subst, ◌∙◌, ℕ, ◌+◌, ◌-◌, inl, inr, List, [], ◌∷◌, ◌++◌, length, Some, None, Ok, Err, arith}
 use Rattle.sam_mesg.specs.declared.hmesg.HFrame.{HFrame}
-use Rattle.sam_term.specs.Term.{PlainTerminal, act_of, take_of}
 use Rattle.sam_term.specs.declared.event.Acted.{Acted}
 use Rattle.sam_term.specs.declared.event.UserEvent.{UserEvent}
 use Rattle.sam_ends.specs.declared.fault.StreamFault.{StreamFault}
@@ -10,8 +8,9 @@ use Rattle.sam_ends.specs.declared.fault.TermStop.{TermStop}
 use Rattle.sam_ends.specs.declared.fault.TermStop.TheVariants as stop
 use Rattle.sam_ends.specs.declared.fault.EndFault.{EndFault}
 use Rattle.sam_ends.specs.declared.fault.EndFault.TheVariants as fault
-use Rattle.sam_ends.specs.TermEnds.{PlainTermEnd, Calls, FeedsIdle, Feeds, Flushes, FlushesIdle, GoesOn, InOrder, IsIdle, IsQuiet, Moves, Puts, PutsIdle, TakesIn, oldest, with_event}
-use Rattle.sam_ends.specs.TermSteps.{Acts, ActsAll, ActsFirst, Answer, Composes, Gains, Holds, Receives, ReceivesAll, ReceivesFirst, Resumes, Writes, not_taken, stopped, written}
+use Rattle.sam_ends.specs.Streams.{not_taken}
+use Rattle.sam_ends.specs.TermEnds.{PlainTermEnd, Calls, FeedsIdle, FlushesIdle, GoesOn, InOrder, IsIdle, IsQuiet, Moves, PutsIdle, oldest}
+use Rattle.sam_ends.specs.TermSteps.{Acts, ActsAll, ActsFirst, Answer, Composes, Gains, Holds, Receives, ReceivesAll, ReceivesFirst, Resumes, Writes, stopped, written}
 use Rattle.sam_ends.proofs.TermEndHeld.{take_held}
 use Rattle.sam_ends.proofs.TermEndMoves.{moves_acted, moves_both, moves_none, moves_received, moves_stopped, moves_written, nil_right}
 

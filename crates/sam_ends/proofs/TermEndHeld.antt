@@ -1,5 +1,5 @@
 -- Events leave the held ones only as they are done or refused, one at a time; frames and flushes leave them all.
-use Rattle.std.proofs.Common.{◌≡◌, refl, sym, ap, ◌∙◌, ℕ, ◌+◌, Bool, true, false, List, [], ◌∷◌, ◌++◌, length, Option, Some, None, Result, Ok, Err, if◌then◌else◌, nat_lt, arith}
+use Rattle.std.proofs.Common.{◌≡◌, refl, sym, ap, ◌∙◌, ℕ, ◌+◌, Bool, true, false, List, [], ◌∷◌, length, Option, Some, None, Result, Ok, Err, if◌then◌else◌, nat_lt, arith}
 use Rattle.sam_runes.specs.Checks.{first_of_checks}
 use Rattle.sam_runes.specs.Texts.{is_empty, most_count}
 use Rattle.sam_mesg.specs.declared.tmesg.Tmesg.{Tmesg}
@@ -17,7 +17,7 @@ use Rattle.sam_term.specs.declared.event.Acted.{Acted}
 use Rattle.sam_term.specs.declared.event.Acted.TheVariants.{Idle, Locked, Done, Refused}
 use Rattle.sam_term.specs.declared.fault.TermFault.{TermFault}
 use Rattle.sam_term.specs.declared.fault.TermFault.TheVariants as fault
-use Rattle.sam_term.proofs.ActLaws.{acted_in, term_in, idle_still, locked_still}
+use Rattle.sam_term.proofs.ActLaws.{acted_in, term_in}
 use Rattle.sam_term.proofs.Edits.{held-composed, flushed-held}
 use Rattle.sam_ends.specs.TermEnds.{IsSettled}
 
@@ -133,7 +133,7 @@ abbrev made_in : Result Made TermFault → PlainTerminal → PlainTerminal
 made_in (Ok made) t = made.0
 made_in (Err why) t = t
 
-counted : (n : ℕ) (made : Made) (u : PlainTerminal) (ms : List Tmesg) → if_countable n made ≡ Ok (u, ms) → u ≡ made.0
+pub counted : (n : ℕ) (made : Made) (u : PlainTerminal) (ms : List Tmesg) → if_countable n made ≡ Ok (u, ms) → u ≡ made.0
 counted n made u ms e = go (nat_lt most_count n) e
   where
     go : (b : Bool) → (if b then (let x : Result Made TermFault = Err fault.CountFull in x) else Ok made) ≡ Ok (u, ms) → u ≡ made.0
@@ -153,7 +153,7 @@ take_held t u frame ms e = go (first_of_checks ((nat_lt t.sent frame.seen, fault
     go None q = ap (λ v. v.held) (counted (made_from t frame.msg).0.sent (made_from t frame.msg) u ms q) ∙ frame_keeps t frame.msg
 
 -- the terminal of an act that could be counted
-done-term : (n : ℕ) (t u : PlainTerminal) (ms : List Tmesg) (acted : Acted) → if_countable {A = PlainTerminal × Acted} n (t, Done ms) ≡ Ok (u, acted) → u ≡ t
+pub done-term : (n : ℕ) (t u : PlainTerminal) (ms : List Tmesg) (acted : Acted) → if_countable {A = PlainTerminal × Acted} n (t, Done ms) ≡ Ok (u, acted) → u ≡ t
 unfolding term_in
 done-term n t u ms acted e = go (nat_lt most_count n) e
   where

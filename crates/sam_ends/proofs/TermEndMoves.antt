@@ -1,5 +1,5 @@
 -- What an end has received, done and written so far grows by its steps.
-use Rattle.std.proofs.Common.{◌≡◌, refl, sym, ap, subst, ◌∙◌, ℕ, ◌+◌, ◌-◌, ◌≤◌, Bool, true, false, List, [], ◌∷◌, ◌++◌, length, flat_map, Option, Some, None, Result, Ok, Err, append_assoc, arith}
+use Rattle.std.proofs.Common.{◌≡◌, refl, sym, ap, subst, ◌∙◌, ℕ, ◌+◌, List, [], ◌∷◌, ◌++◌, length, Ok, append_assoc, arith}
 use Rattle.std.proofs.lemmas.Grind.{flat_map-append}
 use Rattle.sam_mesg.specs.declared.tmesg.Tmesg.{Tmesg}
 use Rattle.sam_mesg.specs.declared.hmesg.HFrame.{HFrame}
@@ -9,8 +9,7 @@ use Rattle.sam_term.specs.Fitting.{composed_in}
 use Rattle.sam_term.specs.Term.{PlainTerminal, act_of, take_of}
 use Rattle.sam_term.specs.declared.event.Acted.{Acted}
 use Rattle.sam_term.specs.declared.event.Acted.TheVariants.{Idle, Locked, Done, Refused}
-use Rattle.sam_term.specs.declared.fault.Refusal.{Refusal}
-use Rattle.sam_ends.specs.TermEnds.{PlainTermEnd, Acts, IsSettled, Moves, Receives, composed_by, oldest, refusals_from}
+use Rattle.sam_ends.specs.TermEnds.{PlainTermEnd, Acts, IsSettled, Moves, Receives, composed_by, last_stamp, oldest, refusals_from}
 use Rattle.sam_ends.specs.TermSteps.{ActsFirst, ReceivesFirst, stopped, written}
 use Rattle.sam_ends.specs.declared.fault.TermStop.{TermStop}
 
@@ -41,6 +40,11 @@ refusals-more n (Refused why ∷ acts) acted =
 composed-more : (acts : List Acted) (acted : Acted) → composed_by (acts ++ acted ∷ []) ≡ composed_by acts ++ composed_in acted
 composed-more acts acted = flat_map-append composed_in acts (acted ∷ []) ∙ ap (λ l. composed_by acts ++ l) (nil_right (composed_in acted))
 
+-- the last of the frames is the one that came last
+last-stamp-more : (before : ℕ) (frames : List HFrame) (frame : HFrame) → last_stamp before (frames ++ frame ∷ []) ≡ frame.seen
+last-stamp-more before [] frame = refl
+last-stamp-more before (f ∷ frames) frame = last-stamp-more f.seen frames frame
+
 -- where nothing is unwritten, what is composed next comes behind
 behind : (out base : List ℕ) (left before more : List Tmesg) → left ≡ [] → out ++ stream_of terminal left ≡ base ++ stream_of terminal before
     → out ++ stream_of terminal more ≡ base ++ stream_of terminal (before ++ more)
@@ -59,6 +63,7 @@ moves_none e = record {
   waiting = refl;
   bytes = ap (λ ms. e.outbox ++ stream_of terminal ms) (sym (nil_right (e.unwritten ++ []) ∙ nil_right e.unwritten));
   refusals = sym (nil_right e.refusals);
+  seen = refl;
   framer = refl;
   events = refl;
   behind = refl;
@@ -73,6 +78,7 @@ moves_written e g frames acts m = record {
   waiting = m.waiting;
   bytes = nil_right (g.outbox ++ stream_of terminal g.unwritten) ∙ m.bytes;
   refusals = m.refusals;
+  seen = m.seen;
   framer = m.framer;
   events = m.events;
   behind = m.behind;
@@ -87,6 +93,7 @@ moves_stopped e g frames acts why m = record {
   waiting = m.waiting;
   bytes = m.bytes;
   refusals = m.refusals;
+  seen = m.seen;
   framer = m.framer;
   events = m.events;
   behind = m.behind;
@@ -102,6 +109,7 @@ moves_received e g k frames m none r = subst (λ x. Moves e (frames ++ r.frame �
   bytes = behind g.outbox e.outbox g.unwritten (e.unwritten ++ m.composed) r.composed none (m.bytes ∙ ap (λ ms. e.outbox ++ stream_of terminal ms) (nil_right (e.unwritten ++ m.composed)))
       ∙ ap (λ ms. e.outbox ++ stream_of terminal ms) (append_assoc e.unwritten m.composed r.composed ∙ sym (nil_right (e.unwritten ++ (m.composed ++ r.composed))));
   refusals = m.refusals;
+  seen = sym (last-stamp-more e.seen frames r.frame);
   framer = m.framer;
   events = m.events;
   behind = m.behind;
@@ -122,6 +130,7 @@ moves_acted e g k frames acts m none number a = subst (λ x. Moves e frames (act
       ∙ append_assoc e.refusals (refusals_from (oldest e) acts) (refusals_from (oldest g) (a.acted ∷ []))
       ∙ ap (λ n. e.refusals ++ (refusals_from (oldest e) acts ++ refusals_from n (a.acted ∷ []))) number
       ∙ ap (λ l. e.refusals ++ l) (sym (refusals-more (oldest e) acts a.acted));
+  seen = m.seen;
   framer = m.framer;
   events = m.events;
   behind = m.behind;
@@ -143,6 +152,7 @@ moves_both e m g frames acts a none number b =
           ∙ behind m.outbox e.outbox m.unwritten ((e.unwritten ++ a.composed) ++ []) (composed_by acts) none a.bytes
           ∙ ap (λ ms. e.outbox ++ stream_of terminal (ms ++ composed_by acts)) (nil_right (e.unwritten ++ a.composed));
       refusals = b.refusals ∙ ap (λ l. l ++ refusals_from (oldest m) acts) (a.refusals ∙ nil_right e.refusals) ∙ ap (λ n. e.refusals ++ refusals_from n acts) number;
+      seen = b.seen ∙ a.seen;
       framer = b.framer ∙ a.framer;
       events = b.events ∙ a.events;
       behind = b.behind ∙ a.behind;

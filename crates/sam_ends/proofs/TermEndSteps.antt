@@ -1,5 +1,5 @@
 -- One step of a terminal end: what holds of the end after it.
-use Rattle.std.proofs.Common.{◌≡◌, refl, sym, ap, subst, ◌∙◌, ℕ, ◌+◌, ◌-◌, ◌≤◌, ◌⊎◌, inl, inr, false, List, [], ◌∷◌, ◌++◌, length, drop, Option, Some, None, Result, Ok, Err, arith}
+use Rattle.std.proofs.Common.{◌≡◌, refl, sym, ap, subst, ◌∙◌, ℕ, ◌+◌, ◌-◌, ◌≤◌, inl, inr, false, List, [], ◌∷◌, ◌++◌, length, drop, Option, Some, None, Ok, Err, arith}
 use Rattle.std.specs.Prelude.{slice_get, IsTrue}
 use Rattle.std.proofs.lemmas.List.Elements.{All-tail}
 use Rattle.sam_mesg.specs.HostKinds.{fits_h}
@@ -10,17 +10,18 @@ use Rattle.sam_frame.specs.Framing.{Held}
 use Rattle.sam_term.specs.Fitting.{composed_in}
 use Rattle.sam_term.specs.Term.{PlainTerminal, act_of, flush_of, take_of}
 use Rattle.sam_term.specs.declared.event.Acted.{Acted}
-use Rattle.sam_term.specs.declared.event.Acted.TheVariants.{Idle, Locked, Done, Refused}
+use Rattle.sam_term.specs.declared.event.Acted.TheVariants.{Idle, Locked}
 use Rattle.sam_term.proofs.ActLaws.{idle_still, locked_still}
 use Rattle.sam_ends.specs.declared.fault.StreamFault.{StreamFault}
 use Rattle.sam_ends.specs.Streams.{FitFrames, Gives}
 use Rattle.sam_ends.specs.TermEnds.{PlainTermEnd, IsQuiet, IsSettled, oldest, refusals_from}
-use Rattle.sam_ends.specs.TermSteps.{ActsFirst, IsSound, Receives, ReceivesFirst, Tries, stopped, stopped_by}
+use Rattle.sam_ends.specs.TermSteps.{ActsFirst, IsSound, Receives, Tries, stopped, stopped_by}
 use Rattle.sam_ends.specs.declared.fault.TermStop.{TermStop}
 use Rattle.sam_ends.specs.declared.fault.TermStop.TheVariants as stop
 use Rattle.sam_ends.specs.declared.fault.EndFault.{EndFault}
 use Rattle.sam_ends.specs.declared.fault.EndFault.TheVariants as fault
 use Rattle.sam_ends.proofs.TermEndHeld.{act_held, flush_held, take_held}
+use Rattle.sam_ends.proofs.TermEndStamps.{act_counts, flush_counts}
 
 pub first_read : (frames : List HFrame) (frame : HFrame) → slice_get frames 0 ≡ Some frame → frames ≡ frame ∷ drop 1 frames
 first_read [] frame s = absurd (cc)
@@ -80,6 +81,14 @@ acted_first e g u acted s act settled same =
 -- the number of an event that is refused, as it is counted
 pub refused_number : (e : PlainTermEnd) (u : PlainTerminal) (acted : Acted) → act_of e.term ≡ Ok (u, acted) → IsSettled acted → e.events - length u.held ≡ oldest e
 refused_number e u acted act settled = let fewer = act_held e.term u acted act settled in omega (arith, fewer)
+
+-- ## Stamps
+
+pub acted_stamped : (e : PlainTermEnd) (u : PlainTerminal) (acted : Acted) → IsSound e → act_of e.term ≡ Ok (u, acted) → e.seen ≤ u.sent
+acted_stamped e u acted s act = omega (arith, act_counts e.term u acted act, s.stamped)
+
+pub flushed_stamped : (e : PlainTermEnd) (u : PlainTerminal) (ms : List Tmesg) → IsSound e → flush_of e.term ≡ Ok (u, ms) → e.seen ≤ u.sent
+flushed_stamped e u ms s flushed = omega (arith, flush_counts e.term u ms flushed, s.stamped)
 
 -- ## Faults
 

@@ -1,17 +1,15 @@
 -- What the steps of a host end do, of which its calls are made.
-use Rattle.std.specs.Prelude.{◌≡◌, ℕ, ◌+◌, ◌^◌, ◌≤◌, List, [], ◌∷◌, ◌++◌, length, false, Option, Some, None, Result, Ok, Err}
+use Rattle.std.specs.Prelude.{◌≡◌, ℕ, ◌+◌, ◌^◌, ◌≤◌, List, [], ◌∷◌, ◌++◌, length, false, Some, None, Result, Ok, Err}
 use Rattle.sam_mesg.specs.declared.tmesg.Tmesg.{Tmesg}
 use Rattle.sam_mesg.specs.declared.hmesg.HFrame.{HFrame}
-use Rattle.sam_frame.specs.Direction.{host, terminal}
+use Rattle.sam_frame.specs.Direction.{host}
 use Rattle.sam_frame.specs.Stream.{stream_of}
-use Rattle.sam_frame.specs.Framing.{Held}
 use Rattle.sam_host.specs.Host.{PlainHost, answer}
-use Rattle.sam_ends.specs.declared.fault.StreamFault.{StreamFault}
 use Rattle.sam_ends.specs.declared.fault.HostStop.{HostStop}
 use Rattle.sam_ends.specs.declared.fault.HostStop.TheVariants as stop
 use Rattle.sam_ends.specs.declared.fault.EndFault.{EndFault}
 use Rattle.sam_ends.specs.declared.fault.EndFault.TheVariants as fault
-use Rattle.sam_ends.specs.Streams.{FitFrames, FitMessages, Gives}
+use Rattle.sam_ends.specs.Streams.{FitFrames, FitMessages}
 use Rattle.sam_ends.specs.HostEnds.{PlainHostEnd, TakesIn, writes_of}
 
 -- what holds of every host end
@@ -74,16 +72,3 @@ Brings e piece (Err fault.OutOfMemory) g = g ≡ e
 Brings e piece (Err fault.CountFull) g = (2 ^ 64 ≤ e.framer.offset + length e.framer.bytes + length piece) × (g ≡ e)
 Brings e piece (Err fault.Unfinished) g = ⊥
 Brings e piece (Err (fault.Stopped why)) g = ⊥
-
--- what a framer gave: messages, and perhaps a fault behind them; or it was left as it is
-abbrev pub Splits : Held → List ℕ → Result (List Tmesg × Option StreamFault) (EndFault HostStop) → Held → Type 0
-Splits h piece (Ok (messages, behind)) k = Gives terminal h piece messages behind k
-Splits h piece (Err fault.OutOfMemory) k = k ≡ h
-Splits h piece (Err fault.CountFull) k = (2 ^ 64 ≤ h.offset + length h.bytes + length piece) × (k ≡ h)
-Splits h piece (Err fault.Unfinished) k = ⊥
-Splits h piece (Err (fault.Stopped why)) k = ⊥
-
--- why the piece is not taken, where what waited can't go on
-abbrev pub held_back : EndFault HostStop → EndFault HostStop
-held_back fault.Unfinished = fault.OutOfMemory
-held_back why = why

@@ -1,5 +1,5 @@
 -- What both ends share: what can be written, and a stream that shows a fault.
-use Rattle.std.specs.Prelude.{ℕ, List, Option, Some, None, All, IsTrue}
+use Rattle.std.specs.Prelude.{◌≡◌, ℕ, ◌+◌, ◌^◌, ◌≤◌, List, length, Option, Some, None, Result, Ok, Err, All, IsTrue}
 use Rattle.sam_mesg.specs.declared.hmesg.HFrame.{HFrame}
 use Rattle.sam_mesg.specs.declared.tmesg.Tmesg.{Tmesg}
 use Rattle.sam_mesg.specs.declared.fault.MesgFault.{MesgFault}
@@ -8,8 +8,11 @@ use Rattle.sam_mesg.specs.HostKinds.{fits_h}
 use Rattle.sam_frame.specs.Direction.{Direction}
 use Rattle.sam_frame.specs.Framing.{Held, GaveAll, GaveUp}
 use Rattle.sam_term.specs.Fitting.{AllFit}
+use Rattle.sam_ends.specs.declared.fault.EndFault.{EndFault}
+use Rattle.sam_ends.specs.declared.fault.EndFault.TheVariants as fault
 use Rattle.sam_ends.specs.declared.fault.StreamFault.{StreamFault}
 use Rattle.sam_ends.specs.declared.fault.StreamFault.TheVariants.{BadKind, BadLength, BadText}
+use Rattle.sam_ends.specs.declared.incoming.Given.{Given}
 
 -- each frame fits in version 2, and so can be written
 abbrev pub FitFrames : List HFrame → Type 0
@@ -28,3 +31,16 @@ mesg_fault BadText = wrong.BadText
 abbrev pub Gives : {M : Type 0} → Direction M → Held → List ℕ → List M → Option StreamFault → Held → Type 0
 Gives d h piece messages None k = GaveAll d h piece messages k
 Gives d h piece messages (Some fault) k = (place : ℕ) × GaveUp d h piece messages place (mesg_fault fault) k
+
+-- what the framer gave for the piece; or it took none of it and is as before
+abbrev pub GivesAs : {M S : Type 0} → Direction M → Held → List ℕ → Result (Given M) (EndFault S) → Held → Type 0
+GivesAs d h piece (Ok given) k = Gives d h piece given.messages.items given.behind k
+GivesAs d h piece (Err fault.OutOfMemory) k = k ≡ h
+GivesAs d h piece (Err fault.CountFull) k = (2 ^ 64 ≤ h.offset + length h.bytes + length piece) × (k ≡ h)
+GivesAs d h piece (Err fault.Unfinished) k = ⊥
+GivesAs d h piece (Err (fault.Stopped why)) k = ⊥
+
+-- want of memory before what the call brought was taken
+abbrev pub not_taken : {S : Type 0} → EndFault S → EndFault S
+not_taken fault.Unfinished = fault.OutOfMemory
+not_taken why = why

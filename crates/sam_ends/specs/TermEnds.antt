@@ -1,5 +1,5 @@
 -- A terminal behind a stream of bytes each way, and what its calls do.
-use Rattle.std.specs.Prelude.{◌≡◌, ℕ, ◌+◌, ◌-◌, ◌^◌, ◌≤◌, ◌⊎◌, List, [], ◌∷◌, ◌++◌, length, flat_map, Bool, true, false, Option, Some, None, is_some, Result, Ok, Err}
+use Rattle.std.specs.Prelude.{◌≡◌, ℕ, ◌+◌, ◌-◌, ◌^◌, ◌≤◌, ◌⊎◌, List, [], ◌∷◌, ◌++◌, length, flat_map, Option, Some, None, Result, Ok, Err}
 use Rattle.sam_mesg.specs.declared.tmesg.Tmesg.{Tmesg}
 use Rattle.sam_mesg.specs.declared.hmesg.HFrame.{HFrame}
 use Rattle.sam_frame.specs.Direction.{host, terminal}
@@ -27,6 +27,7 @@ pub record PlainTermEnd : Type 0 where
   pub behind : Option StreamFault  -- what is wrong with the stream behind them
   pub unwritten : List Tmesg  -- messages that were composed and are not in the outbox yet, for want of memory
   pub outbox : List ℕ  -- bytes for the host that were not taken yet
+  pub seen : ℕ  -- the stamp of the last frame that was received: how many messages the host had taken; 0 before the first
   pub events : ℕ  -- how many events the user made
   pub refusals : List (ℕ × Refusal)  -- the events that were refused and not asked for yet, each by its number, the first being 1
   pub stop : Option TermStop  -- why it has stopped for good
@@ -41,6 +42,7 @@ shown a =
       behind = a.behind;
       unwritten = a.unwritten.items;
       outbox = a.outbox;
+      seen = a.seen;
       events = a.events;
       refusals = a.refusals.items;
       stop = a.stop;
@@ -55,6 +57,7 @@ new_term_end =
       behind = None;
       unwritten = [];
       outbox = [];
+      seen = 0;
       events = 0;
       refusals = [];
       stop = None;
@@ -66,6 +69,15 @@ Receives t [] composed u = (composed ≡ []) × (u ≡ t)
 Receives t (frame ∷ frames) composed u =
     (v : PlainTerminal) × (first : List Tmesg) × (rest : List Tmesg)
     × (take_of t frame ≡ Ok (v, first)) × (composed ≡ first ++ rest) × Receives v frames rest u
+
+-- the stamp of the last of the frames, or the one before where there is none
+abbrev pub last_stamp : ℕ → List HFrame → ℕ
+last_stamp before [] = before
+last_stamp before (frame ∷ frames) = last_stamp frame.seen frames
+
+-- how many messages the host has not taken, as far as its frames tell
+abbrev pub under_way : PlainTermEnd → ℕ
+under_way e = e.term.sent - e.seen
 
 -- the event was done or refused, and so is held no longer
 abbrev pub IsSettled : Acted → Type 0
@@ -105,6 +117,7 @@ pub record Moves (e : PlainTermEnd) (frames : List HFrame) (acts : List Acted) (
   pub waiting : e.waiting ≡ frames ++ g.waiting
   pub bytes : g.outbox ++ stream_of terminal g.unwritten ≡ e.outbox ++ stream_of terminal (e.unwritten ++ composed ++ composed_by acts)
   pub refusals : g.refusals ≡ e.refusals ++ refusals_from (oldest e) acts
+  pub seen : g.seen ≡ last_stamp e.seen frames
   pub framer : g.framer ≡ e.framer
   pub events : g.events ≡ e.events
   pub behind : g.behind ≡ e.behind

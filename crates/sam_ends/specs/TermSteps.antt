@@ -1,23 +1,20 @@
 -- What the steps of a terminal end do, of which its calls are made.
-use Rattle.std.specs.Prelude.{◌≡◌, ℕ, ◌+◌, ◌-◌, ◌^◌, ◌≤◌, ◌⊎◌, List, [], ◌∷◌, ◌++◌, length, Bool, true, false, Option, Some, None, Result, Ok, Err, drop, map}
+use Rattle.std.specs.Prelude.{◌≡◌, ℕ, ◌+◌, ◌-◌, ◌^◌, ◌≤◌, ◌⊎◌, List, [], ◌∷◌, ◌++◌, length, Bool, true, false, Some, None, Result, Ok, Err}
 use Rattle.sam_mesg.specs.declared.tmesg.Tmesg.{Tmesg}
 use Rattle.sam_mesg.specs.declared.hmesg.HFrame.{HFrame}
-use Rattle.sam_frame.specs.Direction.{host, terminal}
+use Rattle.sam_frame.specs.Direction.{terminal}
 use Rattle.sam_frame.specs.Stream.{stream_of}
 use Rattle.sam_term.specs.Fitting.{composed_in}
 use Rattle.sam_term.specs.Term.{PlainTerminal, act_of, flush_of, take_of}
 use Rattle.sam_term.specs.declared.event.Acted.{Acted}
 use Rattle.sam_term.specs.declared.event.UserEvent.{UserEvent}
-use Rattle.sam_term.specs.declared.fault.Refusal.{Refusal}
 use Rattle.sam_ends.specs.declared.fault.TermStop.{TermStop}
 use Rattle.sam_ends.specs.declared.fault.TermStop.TheVariants as stop
 use Rattle.sam_ends.specs.declared.fault.EndFault.{EndFault}
 use Rattle.sam_ends.specs.declared.fault.EndFault.TheVariants as fault
 use Rattle.sam_term.specs.declared.fault.TermFault.{TermFault}
 use Rattle.sam_term.specs.declared.fault.TermFault.TheVariants as refusal
-use Rattle.sam_frame.specs.Framing.{Held}
-use Rattle.sam_ends.specs.declared.term_end.Given.{Given}
-use Rattle.sam_ends.specs.Streams.{FitFrames, FitMessages, Gives}
+use Rattle.sam_ends.specs.Streams.{FitFrames, FitMessages}
 use Rattle.sam_ends.specs.TermEnds.{PlainTermEnd, GoesOn, IsIdle, IsQuiet, IsSettled, Moves, TakesIn, oldest, refusals_from, with_event}
 
 -- what holds of every terminal end
@@ -25,6 +22,7 @@ pub record IsSound (e : PlainTermEnd) : Type 0 where
   pub waiting : FitFrames e.waiting
   pub unwritten : FitMessages e.unwritten
   pub counted : length e.term.held ≤ e.events
+  pub stamped : e.seen ≤ e.term.sent
   pub reads : e.behind ≡ None → e.framer.failed ≡ false
 
 abbrev pub Answer : Type 0
@@ -50,11 +48,6 @@ abbrev pub end_fault : TermFault → EndFault TermStop
 end_fault refusal.OutOfMemory = fault.Unfinished
 end_fault why = fault.Stopped (stop.Refused why)
 
--- want of memory before what the call brings was taken
-abbrev pub not_taken : EndFault TermStop → EndFault TermStop
-not_taken fault.Unfinished = fault.OutOfMemory
-not_taken why = why
-
 -- a call of the terminal answers as the definition does, or refuses as it does, or is short of memory; without an answer it changes nothing
 abbrev pub Tries : {A : Type 0} → PlainTerminal → Result (PlainTerminal × A) TermFault
     → Result A (EndFault TermStop) → PlainTerminal → Type 0
@@ -64,14 +57,6 @@ Tries t answer (Err (fault.Stopped (stop.Refused why))) u = (answer ≡ Err why)
 Tries t answer (Err (fault.Stopped (stop.Stream why))) u = ⊥
 Tries t answer (Err fault.OutOfMemory) u = ⊥
 Tries t answer (Err fault.CountFull) u = ⊥
-
--- what a framer gives for a piece, or that it takes none of it
-abbrev pub GivesAs : Held → List ℕ → Result Given (EndFault TermStop) → Held → Type 0
-GivesAs h piece (Ok given) k = Gives host h piece given.frames.items given.behind k
-GivesAs h piece (Err fault.OutOfMemory) k = k ≡ h
-GivesAs h piece (Err fault.CountFull) k = (2 ^ 64 ≤ h.offset + length h.bytes + length piece) × (k ≡ h)
-GivesAs h piece (Err fault.Unfinished) k = ⊥
-GivesAs h piece (Err (fault.Stopped why)) k = ⊥
 
 -- what was composed is written, or all stays
 abbrev pub Writes : PlainTermEnd → Answer → PlainTermEnd → Type 0
@@ -89,7 +74,7 @@ pub record ReceivesFirst (e : PlainTermEnd) (g : PlainTermEnd) : Type 0 where
   pub composed : List Tmesg
   pub waited : e.waiting ≡ frame ∷ rest
   pub taken : take_of e.term frame ≡ Ok (term, composed)
-  pub after : g ≡ record e { term = term; waiting = rest; unwritten = composed }
+  pub after : g ≡ record e { term = term; waiting = rest; unwritten = composed; seen = frame.seen }
 
 -- it is received, or none waits, or all stays, or the terminal refuses it
 abbrev pub Receives : PlainTermEnd → Result Bool (EndFault TermStop) → PlainTermEnd → Type 0

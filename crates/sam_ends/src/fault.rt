@@ -1,5 +1,8 @@
 //! Why a file is not added, why a call is not done, and why an end has stopped.
 
+ghost use Rattle.std.specs.Prelude.{◌≡◌};
+ghost use Rattle.sam_ends.specs.Streams.{not_taken};
+
 use sam_host::HostFault;
 use sam_term::TermFault;
 use thiserror::Error;
@@ -71,4 +74,17 @@ pub enum EndFault<S> {
     CountFull,
     /// The end has stopped for good, at this call or before. An end that had stopped before is as it was.
     Stopped(S),
+}
+
+impl<S: Copy> EndFault<S> {
+    /// Returns the fault of a call that could not take what it brought, since what waited before could not go on: `Unfinished` becomes
+    /// `OutOfMemory`.
+    pub(crate) fn not_taken(self) -> EndFault<S>
+        ensures { result ≡ not_taken self }
+    {
+        match self {
+            EndFault::Unfinished => EndFault::OutOfMemory,
+            fault => fault,
+        }
+    }
 }

@@ -1,16 +1,17 @@
 //! A host behind a stream of bytes each way.
 
-ghost use Rattle.std.specs.Prelude.{◌≡◌, ◌↔◌, ℕ, ◌+◌, ◌<◌, ◌≤◌, [], ◌∷◌, ◌++◌, IsTrue, IfOk, IfErr, OnOk, OnErr, MatchOption, drop, length, min, take, true, false, None, Ok, slice_get, option_to_list};
+ghost use Rattle.std.specs.Prelude.{◌≡◌, ◌↔◌, ℕ, ◌+◌, ◌<◌, ◌≤◌, [], ◌∷◌, ◌++◌, IsTrue, IfOk, IfErr, OnOk, OnErr, MatchOption, drop, length, min, take, true, false, None, slice_get, option_to_list};
 ghost use Rattle.std.specs.Str.{chars, is_utf8};
 ghost use Rattle.std.specs.VecDeque.{deque_len, deque_capacity};
 ghost use Rattle.sam_runes.specs.Checks.{first_of_checks};
 ghost use Rattle.sam_term.specs.Fitting.{FitsLast};
 ghost use Rattle.sam_ends.specs.HostEnds.{Feeds, GoesOn, IsIdle, IsOpenFault, new_host_end, open_checks, with_file, writes_of};
-ghost use Rattle.sam_ends.specs.HostSteps.{Brings, Ends, Handles, Splits, Writes, held_back};
+ghost use Rattle.sam_ends.specs.HostSteps.{Brings, Ends, Handles, Writes};
 
 use crate::fault::{EndFault, HostStop, OpenFault, StreamFault};
+use crate::incoming::{drop_first, feed_framer};
 use crate::outbox::Outbox;
-use sam_frame::{FeedFault, FramerT};
+use sam_frame::FramerT;
 use sam_host::{Host, HostFault};
 use sam_mesg::{HFrame, Tmesg};
 use sam_runes::{MAX_RUNES, Text, read_utf8};
@@ -24,18 +25,6 @@ const MAX_NAME: usize = 64;
 
 /// How many tags there are, the command file's 0 with them.
 const ALL_TAGS: usize = 65_536;
-
-/// Returns the fault of a call whose piece was not taken, since what waited could not go on.
-fn not_taken(fault: EndFault<HostStop>) -> EndFault<HostStop>
-    ensures { result ≡ held_back fault }
-{
-    match fault {
-        EndFault::Unfinished => EndFault::OutOfMemory,
-        EndFault::OutOfMemory => EndFault::OutOfMemory,
-        EndFault::CountFull => EndFault::CountFull,
-        EndFault::Stopped(why) => EndFault::Stopped(why),
-    }
-}
 
 /// Returns how many runes the text has.
 #[tactic(auto, using(std::proofs::lemmas::Str::chars_from_encodes))]
@@ -72,35 +61,6 @@ fn note(writes: &mut VecDeque<u16>, tag: Option<u16>)
 {
     if let Some(tag) = tag {
         writes.push_back_reserved(tag);
-    }
-}
-
-/// Drops the oldest message.
-fn forget_first(waiting: &mut VecDeque<Tmesg>)
-    ensures { waiting.new.items ≡ drop 1 waiting.old.items }
-{
-    let _first = waiting.pop_front();
-}
-
-/// Feeds a piece to a framer that has not failed. Returns the messages that are whole now, and what is wrong with the stream behind them.
-/// The errors are `CountFull` and then `OutOfMemory`, and leave the framer as it was.
-fn split(
-    framer: &mut FramerT,
-    piece: &[u8],
-) -> Result<(Vec<Tmesg>, Option<StreamFault>), EndFault<HostStop>>
-    requires { framer.old.failed ≡ false }
-    ensures gave { IfOk result (λ split. Splits framer.old piece.now (Ok (split.0.items, split.1)) framer.new) }
-    ensures kept { IfErr result (λ why. Splits framer.old piece.now (Err why) framer.new) }
-{
-    match framer.feed(piece) {
-        Ok(messages) => Ok((messages, None)),
-        Err(FeedFault::BadKind(messages, _)) => Ok((messages, Some(StreamFault::BadKind))),
-        Err(FeedFault::BadLength(messages, _)) => Ok((messages, Some(StreamFault::BadLength))),
-        Err(FeedFault::BadText(messages, _)) => Ok((messages, Some(StreamFault::BadText))),
-        Err(FeedFault::OutOfMemory) => Err(EndFault::OutOfMemory),
-        Err(FeedFault::CountFull) => Err(EndFault::CountFull),
-        Err(FeedFault::Truncated) => unreachable!(),
-        Err(FeedFault::Failed) => unreachable!(),
     }
 }
 
@@ -266,7 +226,7 @@ impl HostEnd {
             return Err(EndFault::Stopped(why));
         }
         if let Err(fault) = self.go_on() {
-            return Err(not_taken(fault));
+            return Err(fault.not_taken());
         }
         self.take_in(piece)?;
         self.go_on()
@@ -354,7 +314,7 @@ impl HostEnd {
         let tag = write_in(&self.host, &message);
         match self.host.handle(message) {
             Ok(frames) => {
-                forget_first(&mut self.waiting);
+                drop_first(&mut self.waiting);
                 note(&mut self.writes, tag);
                 self.unwritten = frames.into_vec();
                 Ok(())
@@ -409,10 +369,10 @@ impl HostEnd {
         requires { self.old.behind ≡ None }
         ensures { Brings self.old piece.now result self.new }
     {
-        let (messages, behind) = split(&mut self.framer, piece)?;
+        let given = feed_framer(&mut self.framer, piece)?;
         self.begun = true;
-        self.waiting = VecDeque::from_vec(messages);
-        self.behind = behind;
+        self.waiting = VecDeque::from_vec(given.messages);
+        self.behind = given.behind;
         Ok(())
     }
 }

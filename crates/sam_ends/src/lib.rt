@@ -5,6 +5,7 @@
 mod drawing;
 mod fault;
 mod host_end;
+mod incoming;
 pub mod laws;
 mod outbox;
 mod term_end;

@@ -1,15 +1,16 @@
 //! A terminal behind a stream of bytes each way.
 
-ghost use Rattle.std.specs.Prelude.{◌≡◌, ◌↔◌, IfOk, IsTrue, None, [], false, drop, length, min, option_copied, take, slice_get, ◌++◌};
-ghost use Rattle.sam_ends.specs.TermEnds.{Feeds, Flushes, GoesOn, IsIdle, Puts, new_term_end};
-ghost use Rattle.sam_ends.specs.TermSteps.{Acts, ActsAll, Composes, Gains, GivesAs, Holds, Receives, ReceivesAll, Resumes, Tries, Writes, end_fault, not_taken, stopped_by};
+ghost use Rattle.std.specs.Prelude.{◌≡◌, ◌↔◌, IfOk, IsTrue, None, [], ◌≤◌, drop, length, min, option_copied, take, slice_get, ◌++◌};
+ghost use Rattle.sam_ends.specs.TermEnds.{Feeds, Flushes, GoesOn, IsIdle, Puts, new_term_end, under_way};
+ghost use Rattle.sam_ends.specs.TermSteps.{Acts, ActsAll, Composes, Gains, Holds, Receives, ReceivesAll, Resumes, Tries, Writes, end_fault, stopped_by};
 ghost use Rattle.sam_mesg.specs.HostKinds.{fits_h};
 ghost use Rattle.sam_term.specs.Fitting.{AllFit, composed_in};
 ghost use Rattle.sam_term.specs.Term.{act_of, flush_of, take_of};
 
 use crate::fault::{EndFault, StreamFault, TermStop};
+use crate::incoming::{drop_first, feed_framer};
 use crate::outbox::Outbox;
-use sam_frame::{FeedFault, FramerH};
+use sam_frame::FramerH;
 use sam_mesg::{Batch, HFrame, Tmesg};
 use sam_term::{Acted, Refusal, TermFault, Terminal, UserEvent};
 use std::alloc::Global;
@@ -46,6 +47,9 @@ pub struct TermEnd {
     unwritten: Vec<Tmesg>,
     /// The bytes for the host that were not taken out yet.
     outbox: Outbox,
+    /// The stamp of the last frame that was received: how many messages the host had taken when it made it; 0 before the first. It is at
+    /// most the count of the messages that the terminal composed.
+    seen: u64,
     /// How many events were taken: the number of the last of them.
     events: u64,
     /// The events that were refused and `next_refusal` has not handed out, the oldest first: the number of each, from 1, and why.
@@ -79,6 +83,7 @@ impl TermEnd {
             behind: None,
             unwritten: Vec::new(alloc),
             outbox: Outbox::new(alloc),
+            seen: 0,
             events: 0,
             refusals: VecDeque::new(alloc),
             stop: None,
@@ -114,10 +119,12 @@ impl TermEnd {
         let Some(frame) = first_frame(&self.waiting) else {
             return Ok(false);
         };
+        let stamp = frame.seen;
         match receive_copy(&mut self.term, frame, self.alloc) {
             Ok(composed) => {
                 drop_first(&mut self.waiting);
                 self.unwritten = composed.into_vec();
+                self.seen = stamp;
                 Ok(true)
             }
             Err(fault) => Err(self.stop_by(fault)),
@@ -193,7 +200,7 @@ impl TermEnd {
         }
         match self.go_on() {
             Ok(()) => Ok(()),
-            Err(why) => Err(not_taken(why)),
+            Err(why) => Err(why.not_taken()),
         }
     }
 
@@ -203,7 +210,7 @@ impl TermEnd {
         ensures { Gains self.old piece.now result self.new }
     {
         let given = feed_framer(&mut self.framer, piece)?;
-        self.waiting = VecDeque::from_vec(given.frames);
+        self.waiting = VecDeque::from_vec(given.messages);
         self.behind = given.behind;
         Ok(())
     }
@@ -232,7 +239,7 @@ impl TermEnd {
                 self.unwritten = composed.into_vec();
                 Ok(())
             }
-            Err(fault) => Err(not_taken(self.stop_by(fault))),
+            Err(fault) => Err(self.stop_by(fault).not_taken()),
         }
     }
 
@@ -343,6 +350,26 @@ impl TermEnd {
         self.waiting.is_empty() && self.unwritten.is_empty()
     }
 
+    /// Returns the stamp of the last frame that was received: how many messages the host had taken when it made that frame; 0 before the
+    /// first. It never goes down where the host keeps to the protocol, and it is at most the count of composed messages.
+    pub fn seen(&self) -> u64
+        ensures stamp { result ≡ self.now.seen }
+        ensures most { result ≤ self.now.term.sent }
+    {
+        self.seen
+    }
+
+    /// Returns how many of the composed messages the host has not taken, as far as its frames tell: those above the stamp of the last
+    /// frame that was received. It is an upper bound, and 0 means that the host has taken them all.
+    ///
+    /// The host answers a `Tcut`, a `Tack`, and a `Ttype` that ends no command line, by no frame. Such a message counts until the host
+    /// answers a later one. To learn that it arrived, compose one that is answered at once and changes nothing: `UserEvent::Check`.
+    pub fn under_way(&self) -> u64
+        ensures { result ≡ under_way self.now }
+    {
+        self.term.sent() - self.seen
+    }
+
     /// Returns how many events were taken.
     pub fn events(&self) -> u64
         ensures { result ≡ self.now.events }
@@ -361,28 +388,11 @@ fn end_fault(why: TermFault) -> EndFault<TermStop>
     }
 }
 
-/// Returns the fault of a call that could not take what it brought: `Unfinished` becomes `OutOfMemory`.
-fn not_taken(fault: EndFault<TermStop>) -> EndFault<TermStop>
-    ensures { result ≡ not_taken fault }
-{
-    match fault {
-        EndFault::Unfinished => EndFault::OutOfMemory,
-        _ => fault,
-    }
-}
-
 /// Returns the oldest frame.
 fn first_frame(frames: &VecDeque<HFrame>) -> Option<&HFrame>
     ensures { option_copied result ≡ slice_get frames.now.items 0 }
 {
     frames.front()
-}
-
-/// Drops the oldest frame.
-fn drop_first(frames: &mut VecDeque<HFrame>)
-    ensures { frames.new.items ≡ drop 1 frames.old.items }
-{
-    let _first = frames.pop_front();
 }
 
 /// Has the terminal receive a copy of a frame, and returns what it composes. After an error the terminal is as it was.
@@ -424,31 +434,4 @@ fn flush_now(term: &mut Terminal) -> Result<Batch, EndFault<TermStop>>
         Ok(composed) => Ok(composed),
         Err(why) => Err(end_fault(why)),
     }
-}
-
-/// What a framer gave for a piece.
-#[derive(Drop)]
-struct Given {
-    /// The frames that are whole now, in order.
-    frames: Vec<HFrame>,
-    /// What is wrong with the stream behind them; `None` if nothing is.
-    behind: Option<StreamFault>,
-}
-
-/// Feeds a piece to a framer that has not failed. The errors are `CountFull` and then `OutOfMemory`, and leave the framer as it was.
-fn feed_framer(framer: &mut FramerH, piece: &[u8]) -> Result<Given, EndFault<TermStop>>
-    requires { framer.old.failed ≡ false }
-    ensures { GivesAs framer.old piece.now result framer.new }
-{
-    let (frames, behind) = match framer.feed(piece) {
-        Ok(frames) => (frames, None),
-        Err(FeedFault::BadKind(frames, _)) => (frames, Some(StreamFault::BadKind)),
-        Err(FeedFault::BadLength(frames, _)) => (frames, Some(StreamFault::BadLength)),
-        Err(FeedFault::BadText(frames, _)) => (frames, Some(StreamFault::BadText)),
-        Err(FeedFault::OutOfMemory) => return Err(EndFault::OutOfMemory),
-        Err(FeedFault::CountFull) => return Err(EndFault::CountFull),
-        Err(FeedFault::Truncated) => unreachable!(),
-        Err(FeedFault::Failed) => unreachable!(),
-    };
-    Ok(Given { frames, behind })
 }

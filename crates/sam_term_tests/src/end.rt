@@ -78,3 +78,31 @@ fn typed_runes_go_out_at_a_flush(rt: HostRuntime) -> Result<(), Fail> {
     assert!(rt; gives(&mut end, &[8, 0, 7, 0, 1, 0, 0, 0, 0, 97]));
     Ok(())
 }
+
+/// So many messages are under way, and the host had taken so many when it made its last frame.
+fn waits_for(end: &TermEnd, under_way: u64, seen: u64) -> bool {
+    end.under_way() == under_way && end.seen() == seen
+}
+
+#[test]
+fn messages_are_under_way_until_a_later_one_is_answered(rt: HostRuntime) -> Result<(), Fail> {
+    let mut end = TermEnd::new(rt.alloc());
+    assert!(rt; waits_for(&end, 0, 0));
+    assert!(rt; puts(&mut end, UserEvent::Version(2)) && waits_for(&end, 1, 0));
+    // Hack, which is answered by the second message, and Hunlock: both answer the first.
+    assert!(rt; feeds(&mut end, &[87, 0, 8, 0, 0, 0, 0, 0, 0, 0, 1]) && waits_for(&end, 1, 1));
+    assert!(rt; feeds(&mut end, &[72, 0, 8, 0, 0, 0, 0, 0, 0, 0, 1]) && waits_for(&end, 1, 1));
+    assert!(rt; puts(&mut end, UserEvent::OpenCmd) && waits_for(&end, 2, 1));
+    // Hunlock, which answers the third.
+    assert!(rt; feeds(&mut end, &[72, 0, 8, 0, 0, 0, 0, 0, 0, 0, 3]) && waits_for(&end, 0, 3));
+    Ok(())
+}
+
+#[test]
+fn refused_frame_leaves_the_stamp(rt: HostRuntime) -> Result<(), Fail> {
+    let mut end = TermEnd::new(rt.alloc());
+    assert!(rt; puts(&mut end, UserEvent::Version(2)));
+    // Hunlock of a host that has taken two messages, where one was composed.
+    assert!(rt; !feeds(&mut end, &[72, 0, 8, 0, 0, 0, 0, 0, 0, 0, 2]) && waits_for(&end, 1, 0));
+    Ok(())
+}

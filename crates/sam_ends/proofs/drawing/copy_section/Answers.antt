@@ -1,4 +1,4 @@
-use Rattle.std.proofs.Common.{rules, arith, ◌≡◌, ◌∙◌, refl, length}
+use Rattle.std.proofs.Common.{rules, arith, ◌∙◌, refl}
 use Rattle.std.proofs.lemmas.List.{length-set}
 use Rattle.sam_rasp.proofs.SectionLaws.{length-cells}
 use Rattle.sam_rasp.specs.Sections.{cells}

@@ -1,4 +1,4 @@
-use Rattle.std.proofs.Common.{rules, arith, ◌≡◌, ◌∙◌, ap, sym, subst, refl, ◌+◌, ◌++◌, length, length-append, inl, inr, take, take-append-drop}
+use Rattle.std.proofs.Common.{rules, arith, ap, sym, subst, ◌+◌, ◌++◌, length, length-append, inr, take}
 use Rattle.sam_rasp.proofs.SectionLaws.{length-cells}
 use Rattle.sam_rasp.proofs.Runs.{cells-before}
 use Rattle.sam_rasp.specs.Sections.{cells, cells_of}

@@ -1,11 +1,19 @@
-use Rattle.std.proofs.Common.{refl, sym, subst, List, Ok}
+use Rattle.std.proofs.Common.{refl, sym, subst, List}
 use Rattle.sam_mesg.specs.declared.tmesg.Tmesg.{Tmesg}
-use Rattle.sam_ends.specs.HostSteps.{Splits}
+use Rattle.sam_frame.specs.Direction.{terminal}
+use Rattle.sam_ends.specs.Streams.{Gives}
 use Rattle.sam_ends.proofs.HostEndFits.{taken_sound}
+use Rattle.sam_ends.proofs.HostEndGoing.{taken_in}
 use Rattle.sam_ends.proofs.host_end.HostEnd.take_in.Goals as goal
 
 pub invariant_of-self-2 : goal.invariant_of-self-2
 invariant_of-self-2 c =
     taken_sound _ _ c.args.piece.now c.self.invariant
-    (subst (λ (x : List Tmesg). Splits c.self.inside.framer c.args.piece.now (Ok (x, c.in_ok-messages.behind)) c.split.new.framer) (sym c.from_vec.ensures.items)
-    c.in_ok-messages.ensures.gave) refl
+    (subst (λ (x : List Tmesg). Gives terminal c.self.inside.framer c.args.piece.now x c.in_ok-given.given.behind c.feed_framer.new.framer) (sym c.from_vec.ensures.items)
+    c.in_ok-given.ensures) refl
+
+pub returns : goal.returns
+returns c =
+    taken_in c.args.self.now _ _ c.args.piece.now c.from_vec.result.items c.in_ok-given.given.behind c.feed_framer.new.framer c.self.view_is
+    (subst (λ (x : List Tmesg). Gives terminal c.self.inside.framer c.args.piece.now x c.in_ok-given.given.behind c.feed_framer.new.framer) (sym c.from_vec.ensures.items)
+    c.in_ok-given.ensures) refl

@@ -1,4 +1,4 @@
-use Rattle.std.proofs.Common.{rules, ◌≡◌, ◌∙◌, ap, subst, sym, length, Ok, Err, arith}
+use Rattle.std.proofs.Common.{rules, ◌≡◌, ap, subst, sym, length, Ok, Err, arith}
 use Rattle.sam_ends.specs.TermEnds.{PlainTermEnd}
 use Rattle.sam_ends.specs.TermSteps.{Acts, ActsAll, ActsFirst, written}
 use Rattle.sam_ends.proofs.TermEndCalls.{Acting, acted_all, acting_failed, acting_more, acting_none, acting_unwritten, acting_written}

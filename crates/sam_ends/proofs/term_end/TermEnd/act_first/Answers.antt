@@ -1,4 +1,4 @@
-use Rattle.std.proofs.Common.{◌≡◌, ◌∙◌, sym, ap, subst, ◌++◌, ◌∷◌, ◌-◌, ◌≤◌, [], length, Ok, arith}
+use Rattle.std.proofs.Common.{◌≡◌, ◌∙◌, sym, ap, subst, ◌++◌, ◌∷◌, ◌-◌, [], Ok, arith}
 use Rattle.sam_ends.specs.Streams.{FitMessages}
 use Rattle.sam_term.specs.Fitting.{AllFit, composed_in}
 use Rattle.sam_term.specs.Term.{act_of}
@@ -6,7 +6,7 @@ use Rattle.sam_term.specs.declared.event.Acted.TheVariants.{Idle, Locked, Done, 
 use Rattle.sam_ends.specs.TermEnds.{PlainTermEnd, IsQuiet, oldest, shown}
 use Rattle.sam_ends.specs.TermSteps.{ActsFirst}
 use Rattle.sam_ends.proofs.TermEndMoves.{nil_right}
-use Rattle.sam_ends.proofs.TermEndSteps.{idle_counted, locked_counted, settled_counted, idle_quiet, locked_quiet, acted_first, refused_number}
+use Rattle.sam_ends.proofs.TermEndSteps.{idle_counted, locked_counted, settled_counted, acted_stamped, idle_quiet, locked_quiet, acted_first, refused_number}
 use Rattle.sam_ends.proofs.term_end.TermEnd.act_first.Goals as goal
 
 pub invariant_of-self-in-Ok-Idle : goal.invariant_of-self-in-Ok-Idle
@@ -16,6 +16,7 @@ invariant_of-self-in-Ok-Idle c =
       waiting = c.self.invariant.waiting;
       unwritten = c.self.invariant.unwritten;
       counted = idle_counted (shown c.self.inside) c.act_now.new.term c.self.invariant act;
+      stamped = acted_stamped (shown c.self.inside) c.act_now.new.term Idle c.self.invariant act;
       reads = c.self.invariant.reads;
     }
 
@@ -27,6 +28,7 @@ invariant_of-self-in-Ok-Locked c =
       waiting = c.self.invariant.waiting;
       unwritten = c.self.invariant.unwritten;
       counted = locked_counted (shown c.self.inside) c.act_now.new.term c.self.invariant act;
+      stamped = acted_stamped (shown c.self.inside) c.act_now.new.term Locked c.self.invariant act;
       reads = c.self.invariant.reads;
     }
 
@@ -39,6 +41,7 @@ invariant_of-self-in-Ok-Done c =
       waiting = c.self.invariant.waiting;
       unwritten = subst (λ ms. FitMessages ms) (sym c.into_vec.ensures) fit;
       counted = settled_counted (shown c.self.inside) c.act_now.new.term (Done c.in-Ok-Done.composed) c.self.invariant act tt;
+      stamped = acted_stamped (shown c.self.inside) c.act_now.new.term (Done c.in-Ok-Done.composed) c.self.invariant act;
       reads = c.self.invariant.reads;
     }
 
@@ -56,6 +59,7 @@ invariant_of-self-in-Ok-Refused c =
       waiting = c.self.invariant.waiting;
       unwritten = c.self.invariant.unwritten;
       counted = settled_counted (shown c.self.inside) c.act_now.new.term (Refused c.in-Ok-Refused.why) c.self.invariant act tt;
+      stamped = acted_stamped (shown c.self.inside) c.act_now.new.term (Refused c.in-Ok-Refused.why) c.self.invariant act;
       reads = c.self.invariant.reads;
     }
 

@@ -1,10 +1,8 @@
-use Rattle.std.proofs.Common.{◌≡◌, ap, subst, sym, List, Ok}
-use Rattle.sam_mesg.specs.declared.tmesg.Tmesg.{Tmesg}
+use Rattle.std.proofs.Common.{ap, subst, sym, Ok}
 use Rattle.sam_ends.specs.Streams.{FitMessages}
-use Rattle.sam_term.specs.Term.{PlainTerminal, flush_of}
 use Rattle.sam_ends.specs.TermEnds.{PlainTermEnd, shown}
 use Rattle.sam_ends.specs.TermSteps.{Composes}
-use Rattle.sam_ends.proofs.TermEndSteps.{flushed_counted}
+use Rattle.sam_ends.proofs.TermEndSteps.{flushed_counted, flushed_stamped}
 use Rattle.sam_ends.proofs.term_end.TermEnd.compose_unsent.Goals as goal
 
 pub invariant_of-self : goal.invariant_of-self
@@ -12,6 +10,7 @@ invariant_of-self c = record {
   waiting = c.self.invariant.waiting;
   unwritten = subst (λ ms. FitMessages ms) (sym c.into_vec.ensures) c.in-Ok.ensures.fit;
   counted = flushed_counted (shown c.self.inside) c.flush_now.new.term c.in-Ok.composed c.self.invariant c.in-Ok.ensures.tries;
+  stamped = flushed_stamped (shown c.self.inside) c.flush_now.new.term c.in-Ok.composed c.self.invariant c.in-Ok.ensures.tries;
   reads = c.self.invariant.reads;
 }
 

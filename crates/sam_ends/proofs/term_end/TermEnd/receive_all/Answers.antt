@@ -1,6 +1,6 @@
-use Rattle.std.proofs.Common.{rules, ◌≡◌, ◌∙◌, refl, ap, subst, sym, length, Ok, Err, [], arith}
+use Rattle.std.proofs.Common.{rules, ◌≡◌, ◌∙◌, ap, subst, sym, length, Ok, Err, [], arith}
 use Rattle.sam_ends.specs.TermEnds.{PlainTermEnd}
-use Rattle.sam_ends.specs.TermSteps.{Receives, ReceivesAll, ReceivesFirst, Writes, written}
+use Rattle.sam_ends.specs.TermSteps.{Receives, ReceivesAll, ReceivesFirst, written}
 use Rattle.sam_ends.proofs.TermEndCalls.{Receiving, receiving_none, receiving_written, receiving_more, receiving_failed, received_all, writing_failed}
 use Rattle.sam_ends.proofs.term_end.TermEnd.receive_all.Goals as goal
 

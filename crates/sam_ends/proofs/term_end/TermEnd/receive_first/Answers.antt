@@ -1,9 +1,9 @@
-use Rattle.std.proofs.Common.{◌≡◌, ◌∙◌, ap, refl, subst, sym, ◌∷◌, drop, Some, Ok, Err}
-use Rattle.std.specs.Prelude.{option_copied, slice_get}
-use Rattle.sam_mesg.specs.HostKinds.{fits_h}
+use Rattle.std.proofs.Common.{◌≡◌, ◌∙◌, ap, refl, subst, sym, ◌∷◌, drop, Err}
+use Rattle.std.specs.Prelude.{option_copied}
 use Rattle.sam_ends.specs.Streams.{FitFrames, FitMessages}
 use Rattle.sam_ends.specs.TermEnds.{PlainTermEnd, shown}
 use Rattle.sam_ends.specs.TermSteps.{Receives, ReceivesFirst}
+use Rattle.sam_ends.proofs.TermEndStamps.{take_stamped}
 use Rattle.sam_ends.proofs.TermEndSteps.{first_read, receive_failed, rest_fit, taken_counted}
 use Rattle.sam_ends.proofs.term_end.TermEnd.receive_first.Goals as goal
 
@@ -16,6 +16,7 @@ invariant_of-self c =
       waiting = subst (λ frames. FitFrames frames) (sym c.drop_first.ensures) (rest_fit c.self.inside.waiting.items frame first c.self.invariant.waiting);
       unwritten = subst (λ ms. FitMessages ms) (sym c.into_vec.ensures) c.in-Ok.ensures.fit;
       counted = taken_counted (shown c.self.inside) c.receive_copy.new.term frame c.in-Ok.composed c.self.invariant c.in-Ok.ensures.tries;
+      stamped = take_stamped c.self.inside.term c.receive_copy.new.term frame c.in-Ok.composed c.in-Ok.ensures.tries;
       reads = c.self.invariant.reads;
     }
 
@@ -24,7 +25,7 @@ returns-in-Ok c =
     let e : PlainTermEnd = shown c.self.inside in
     let frame = c.in-Some.frame.now in
     let u = c.receive_copy.new.term in
-    let g : PlainTermEnd = record e { term = u; waiting = c.drop_first.new.frames.items; unwritten = c.into_vec.result.items } in
+    let g : PlainTermEnd = record e { term = u; waiting = c.drop_first.new.waiting.items; unwritten = c.into_vec.result.items; seen = frame.seen } in
     subst (λ (x : PlainTermEnd). ReceivesFirst x g) c.self.view_is (record {
       frame = frame;
       rest = drop 1 c.self.inside.waiting.items;
@@ -32,8 +33,8 @@ returns-in-Ok c =
       composed = c.in-Ok.composed;
       waited = first_read c.self.inside.waiting.items frame (sym c.first_frame.ensures ∙ ap (λ o. option_copied o) c.in-Some.is);
       taken = c.in-Ok.ensures.tries;
-      after = ap (λ frames. record e { term = u; waiting = frames; unwritten = c.into_vec.result.items }) c.drop_first.ensures
-          ∙ ap (λ ms. record e { term = u; waiting = drop 1 c.self.inside.waiting.items; unwritten = ms }) c.into_vec.ensures;
+      after = ap (λ frames. record e { term = u; waiting = frames; unwritten = c.into_vec.result.items; seen = frame.seen }) c.drop_first.ensures
+          ∙ ap (λ ms. record e { term = u; waiting = drop 1 c.self.inside.waiting.items; unwritten = ms; seen = frame.seen }) c.into_vec.ensures;
     })
 
 pub returns-in-Err : goal.returns-in-Err

@@ -10,10 +10,11 @@ invariant_of-self-2 c =
     let given = c.in_ok-given.given in
     record {
       waiting = subst (λ frames. FitFrames frames) (sym c.from_vec.ensures.items)
-          (given_fit c.self.inside.framer c.args.piece.now given.frames.items given.behind c.feed_framer.new.framer c.in_ok-given.ensures);
+          (given_fit c.self.inside.framer c.args.piece.now given.messages.items given.behind c.feed_framer.new.framer c.in_ok-given.ensures);
       unwritten = c.self.invariant.unwritten;
       counted = c.self.invariant.counted;
-      reads = given_reads c.self.inside.framer c.args.piece.now given.frames.items given.behind c.feed_framer.new.framer c.in_ok-given.ensures;
+      stamped = c.self.invariant.stamped;
+      reads = given_reads c.self.inside.framer c.args.piece.now given.messages.items given.behind c.feed_framer.new.framer c.in_ok-given.ensures;
     }
 
 pub returns : goal.returns
@@ -23,4 +24,4 @@ returns c =
     let framer = c.feed_framer.new.framer in
     let g : PlainTermEnd = record e { framer = framer; waiting = c.from_vec.result.items; behind = given.behind } in
     subst (λ (x : PlainTermEnd). TakesIn x c.args.piece.now g) c.self.view_is
-    (given.frames.items, given.behind, framer, c.in_ok-given.ensures, ap (λ frames. record e { framer = framer; waiting = frames; behind = given.behind }) c.from_vec.ensures.items)
+    (given.messages.items, given.behind, framer, c.in_ok-given.ensures, ap (λ frames. record e { framer = framer; waiting = frames; behind = given.behind }) c.from_vec.ensures.items)
