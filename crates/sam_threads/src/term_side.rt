@@ -350,8 +350,8 @@ impl<'q> Side<'q> {
         }
     }
 
-    /// Makes one turn where nothing has stopped the worker: it takes, acts, puts, and tries to finish. Where there was nothing to take or to
-    /// put, it waits a little for an entry. Returns whether all is done.
+    /// Makes one turn where nothing has stopped the worker: it takes, acts, puts, and tries to finish. If it took and put nothing, it waits
+    /// a little for an entry. Returns whether all is done.
     #[tactic(auto, using(crate::proofs::TermKeeping::goes_on, crate::proofs::TermKeeping::found_still))]
     fn turn<R: Wait, G: Gate>(&mut self, rt: &R, gate: &G, backoff: &mut Backoff) -> bool
         requires running { is_some self.old.stop ≡ false }
