@@ -13,13 +13,12 @@ use crate::input::Input;
 use crate::outbox::Outbox;
 use crate::stop::Stop;
 use crate::term_desk::Desk;
-use sam_queue::{Got, Post, Take};
+use sam_queue::{Backoff, Got, Post, Take};
 use sam_term::event::{Acted, UserEvent};
 use sam_term::term::Terminal;
 use std::alloc::Global;
 use std::marker::Model;
 use std::sync::Wait;
-use std::thread;
 
 /// What a turn found in the line of events.
 #[derive(Clone, Copy, PartialEq, Eq)]
@@ -276,8 +275,8 @@ impl<'q> Side<'q> {
         }
     }
 
-    /// Takes the next entry and drops it. Returns whether all have left before.
-    fn drop_next<R: Wait>(&mut self, rt: &R) -> bool
+    /// Takes the next entry and drops it, or waits a little for one. Returns whether all have left before.
+    fn drop_next<R: Wait>(&mut self, rt: &R, backoff: &mut Backoff) -> bool
         requires stopped { is_some self.old.stop ≡ true }
         ensures take { self.new.take.line ≡ self.old.take.line }
         ensures post { self.new.post ≡ self.old.post }
@@ -286,7 +285,7 @@ impl<'q> Side<'q> {
     {
         match self.take.try_recv(rt) {
             Got::Empty => {
-                thread::yield_now();
+                self.take.wait(rt, backoff);
                 false
             }
             Got::Ended => true,
@@ -351,9 +350,10 @@ impl<'q> Side<'q> {
         }
     }
 
-    /// Makes one turn where nothing has stopped the worker: it takes, acts, puts, and tries to finish. Returns whether all is done.
+    /// Makes one turn where nothing has stopped the worker: it takes, acts, puts, and tries to finish. If it took and put nothing, it waits
+    /// a little for an entry. Returns whether all is done.
     #[tactic(auto, using(crate::proofs::TermKeeping::goes_on, crate::proofs::TermKeeping::found_still))]
-    fn turn<R: Wait, G: Gate>(&mut self, rt: &R, gate: &G) -> bool
+    fn turn<R: Wait, G: Gate>(&mut self, rt: &R, gate: &G, backoff: &mut Backoff) -> bool
         requires running { is_some self.old.stop ≡ false }
         ensures take { self.new.take.line ≡ self.old.take.line }
         ensures post { self.new.post.line ≡ self.old.post.line }
@@ -370,24 +370,26 @@ impl<'q> Side<'q> {
         let put = self.put_pieces(rt);
         let done = self.finish(rt, found);
         if waits && !put && !done {
-            thread::yield_now();
+            self.take.wait(rt, backoff);
+        } else {
+            *backoff = Backoff::new();
         }
         done
     }
 
     /// Makes one turn after a stop: it drops an entry, and tries to close. Returns whether all have left and the post is closed.
     #[tactic(auto, using(crate::proofs::TermKeeping::done_stopped))]
-    fn last_turn<R: Wait>(&mut self, rt: &R) -> bool
+    fn last_turn<R: Wait>(&mut self, rt: &R, backoff: &mut Backoff) -> bool
         requires stopped { is_some self.old.stop ≡ true }
         ensures take { self.new.take.line ≡ self.old.take.line }
         ensures post { self.new.post.line ≡ self.old.post.line }
         ensures stop { self.new.stop ≡ Some Stop.Gate → self.old.stop ≡ Some Stop.Gate }
         ensures done { IsTrue result → IsDone self.new }
     {
-        let ended = self.drop_next(rt);
+        let ended = self.drop_next(rt, backoff);
         let closed = self.try_close(rt);
         if ended && !closed {
-            thread::yield_now();
+            self.take.wait(rt, backoff);
         }
         ended && closed
     }
@@ -400,11 +402,12 @@ impl<'q> Side<'q> {
         ensures gate { self.new.stop ≡ Some Stop.Gate → G.may_refuse gate.now 4 }
         ensures done { IsDone self.new }
     {
+        let mut backoff = Backoff::new();
         for _turn in rt.forever() {
             let done = if self.is_stopped() {
-                self.last_turn(rt)
+                self.last_turn(rt, &mut backoff)
             } else {
-                self.turn(rt, gate)
+                self.turn(rt, gate, &mut backoff)
             };
             if done {
                 return;

@@ -1,0 +1,79 @@
+//! How an end of a line waits: it gives way to other threads a few times, and then sleeps until the other side of the line acts.
+//! No contract speaks of it: what an end has put or taken is said of its tries alone.
+
+use std::sync::Wait;
+use std::sync::atomic::{AtomicU64, Ordering};
+use std::thread;
+use std::time::Duration;
+
+/// How often a wait gives way before it sleeps. That takes about as long as to wake a thread, so that ends of a busy line
+/// seldom sleep.
+const YIELDS: u32 = 50;
+
+/// The first sleep of a wait, in microseconds. Each further one may take twice as long.
+const FIRST_SLEEP: u64 = 100;
+
+/// How often the time of a sleep doubles: the longest takes 25.6 milliseconds.
+const DOUBLINGS: u32 = 8;
+
+/// The state of a bell that nobody waits for.
+const QUIET: u64 = 0;
+
+/// The state of a bell that somebody waits for.
+const AWAITED: u32 = 1;
+
+/// How often an end has tried in vain, so that it waits longer each time. A wait begins with a new one.
+#[derive(Clone, Copy, Debug, Default)]
+pub struct Backoff {
+    /// The tries in vain; once at 2^32-1 they stay there.
+    tries: u32,
+}
+
+impl Backoff {
+    /// Makes the backoff of a wait that begins.
+    pub fn new() -> Backoff {
+        Backoff { tries: 0 }
+    }
+}
+
+/// What the waiting ends of one side of a line sleep on. The other side rings it after each step that can let them go on.
+#[derive(Drop)]
+pub(crate) struct Bell {
+    /// `QUIET` or `AWAITED`. Whoever waits sets it to `AWAITED`, tries once more, and sleeps only while it stays so.
+    state: AtomicU64,
+}
+
+impl Bell {
+    /// Makes a bell that nobody waits for.
+    pub(crate) const fn new() -> Bell {
+        Bell {
+            state: AtomicU64::new(QUIET),
+        }
+    }
+
+    /// Wakes all who wait. While nobody does it only looks.
+    pub(crate) fn ring(&self) {
+        if self.state.load(Ordering::SeqCst) == QUIET {
+            return;
+        }
+        self.state.store(QUIET, Ordering::SeqCst);
+        self.state.wake_all();
+    }
+
+    /// Waits after a try in vain. It may return though nothing has changed, so the caller tries again each time. Between the
+    /// call that sets `AWAITED` and the one that sleeps lies such a try, so no ring is lost; if one were, a sleep is short.
+    pub(crate) fn wait<R: Wait>(&self, rt: &R, backoff: &mut Backoff) {
+        let tries = backoff.tries;
+        backoff.tries = tries.saturating_add(1);
+        if tries < YIELDS {
+            thread::yield_now();
+            return;
+        }
+        if tries > YIELDS {
+            let longest = FIRST_SLEEP << (tries - YIELDS - 1).min(DOUBLINGS);
+            self.state
+                .park_timeout(rt, AWAITED, Duration::from_micros(longest));
+        }
+        self.state.store(AWAITED as u64, Ordering::SeqCst);
+    }
+}
