@@ -191,7 +191,12 @@ type_goes h t up down f s o pass = then_goes h up down (cuts_dot t f) (λ u. if 
     go (c ∷ x) e =
         types_goes h u (up ++ (cuts_dot t f).1) down f p c x cut.goes
         (subst (λ (y : List ℕ). MaySend (views u) (Ttype f p y)) e
-        (record { here = here_cut t u f p q cut.shows pass.here; free = command_free_cut t u f p q cut.shows pass.free; allowed = allowed (is_command_line f s) refl; can = still_open t u f p q cut.shows Wide (λ r. (p ≤ length r) × (length r + length s ≤ max_runes)) wide narrow }))
+        (record {
+          here = here_cut t u f p q cut.shows pass.here;
+          free = command_free_cut t u f p q cut.shows pass.free;
+          allowed = allowed (is_command_line f s) refl;
+          can = still_open t u f p q cut.shows Wide (λ r. (p ≤ length r) × (length r + length s ≤ max_runes)) wide narrow;
+        }))
 
 paste_goes : (h : PlainHost) (t : PlainTerminal) (up : List Tmesg) (down : List Hmesg) (f : ℕ) → InOrder h t up down → Passed t (Paste f) → Goes h up down (made_by t (Paste f))
 unfolding made_by_paste
@@ -301,7 +306,8 @@ event_goes h t up down (Typed f s) o p = type_goes h t up down f s o p
 event_goes h t up down (Select f a b) o p =
     let z = or_parts (nat_lt b a) (nat_lt (length (window_at t f).rasp) b) p.place in
     nothing_goes h (set_dot_of t f (a, b)) up down
-    (shown_goes h t up down f (record (window_at t f) { dot = (a, b) }) o (opened_at t f (not_false (is_open t f) p.opened)) refl refl (ltb-false b a z.0, ltb-false (length (window_at t f).rasp) b z.1, (o.tidy f).2))
+    (shown_goes h t up down f (record (window_at t f) { dot = (a, b) }) o (opened_at t f (not_false (is_open t f) p.opened)) refl refl
+    (ltb-false b a z.0, ltb-false (length (window_at t f).rasp) b z.1, (o.tidy f).2))
 event_goes h t up down (Cut f) o p = cut_goes h t up down f o p
 event_goes h t up down (Paste f) o p = paste_goes h t up down f o p
 event_goes h t up down (Snarf f) o p = snarf_goes h t up down f o p
@@ -324,7 +330,13 @@ event_goes h t up down (Dclick f a) o p =
 event_goes h t up down (Scroll f n) o p =
     let a = (window_at t f).view_start in
     sends_goes h t up down (Torigin f a n) o refl
-    (record { here = p.here; free = p.free; allowed = free_at t f p.free p.unlocked; can = open_free (Within a a) t f p.free (not_false (is_open t f) p.opened) p.unlocked (omega arith, (o.tidy f).2) })
+    (record {
+      here = p.here;
+      free = p.free;
+      allowed = free_at t f p.free p.unlocked;
+      can = open_free (Within a a) t f p.free (not_false (is_open t f) p.opened) p.unlocked
+          (omega arith, (o.tidy f).2);
+    })
 event_goes h t up down (View f a n) o p =
     let w : Window = record (window_at t f) { view_start = a; view_length = n } in
     requested_goes h (put_window t f w) up down f

@@ -76,7 +76,8 @@ unfolding reply_type
 sync_type h f p s sound o l room ends = record {
   passes = type_passes h f p s o l room;
   each = λ g w x. subst
-      (λ (b : Bool). IsKept (at_file g (if b then line else (typed, [])).1) (changed (type_change (if b then CommandLock else NoLock) f p s) g w) (if b then line else (typed, [])).0.is_done (if b then line else (typed, [])).0.version (file_in (if b then line else (typed, [])).0.files.slots g)) (sym ends)
+      (λ (b : Bool). IsKept (at_file g (if b then line else (typed, [])).1) (changed (type_change (if b then CommandLock else NoLock) f p s) g w) (if b then line else (typed, [])).0.is_done
+      (if b then line else (typed, [])).0.version (file_in (if b then line else (typed, [])).0.files.slots g)) (sym ends)
       (edit_case h typed f (ins t p s) (typed_in p s) o files refl refl (λ r a. (refl, refl, refl, (refl, agrees_typed p s r t a))) g w x);
   gone = λ g e. ap (λ (b : Bool). file_in (if b then line else (typed, [])).0.files.slots g) ends ∙ lasts.gone g e;
   sound = subst (λ (b : Bool). HasFiles (if b then line else (typed, [])).0.files) (sym ends) (still_has h.files typed.files sound refl lasts);
@@ -107,7 +108,8 @@ checks f t a g w d n file was s close crossing m = go (bool_cases (g == f))
         let e = was (eqb-true _ _ q) in
         let o = settled_opened w d n t (subst (IsSettled w d n) e s) in
         subst (λ (b : Bool). IsKept (only b a ∷ []) w d n file) (sym q)
-        (kept_by (a ∷ []) w w d n file (subst (λ (x : Lens). and_then (move a x) (run []) ≡ Some x) (sym o.1) (ap (λ (y : Option Lens). and_then y (run [])) (m o.0))) s ((λ c. absurd (true≢false (sym c ∙ crossing))), tt) (ap (λ (b : Bool). b || false) close))
+        (kept_by (a ∷ []) w w d n file (subst (λ (x : Lens). and_then (move a x) (run []) ≡ Some x) (sym o.1) (ap (λ (y : Option Lens). and_then y (run [])) (m o.0))) s
+        ((λ c. absurd (true≢false (sym c ∙ crossing))), tt) (ap (λ (b : Bool). b || false) close))
     go (inr q) = subst (λ (b : Bool). IsKept (only b a ∷ []) w d n file) (sym q) (kept_by (Skip ∷ []) w w d n file refl s ((λ c. absurd (true≢false (sym c))), tt) refl)
 
 -- the host keeps its files

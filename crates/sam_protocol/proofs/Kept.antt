@@ -178,8 +178,11 @@ kept_request s v d n file p m k o e = go (runs_more s v k.final o k.runs)
 
     ended : run s (locked_more v) ≡ Some k.final → (d ≡ true) ⊎ (file ≡ Gone) → CanRequest d file × IsKept (s ++ request_actions d file p m) (locked_more v) d n file
     ended r h =
-        let q = no_actions d file p m h in
-        (q.0, subst (λ (u : List Action). IsKept (s ++ u) (locked_more v) d n file) (sym q.1) (kept_more s (locked_more v) d n file (record { final = k.final; runs = r; settled = k.settled; guarded = k.guarded; closed = k.closed })))
+        let q = no_actions d file p m h in (
+          q.0,
+          subst (λ (u : List Action). IsKept (s ++ u) (locked_more v) d n file) (sym q.1)
+              (kept_more s (locked_more v) d n file (record { final = k.final; runs = r; settled = k.settled; guarded = k.guarded; closed = k.closed })),
+        )
 
     running : (t : List ℕ) → file ≡ Opened t → (closes s ≡ true → file ≡ Gone) → (x : Lens) → run s (locked_more v) ≡ Some x → IsKept (request_actions d (Opened t) p m) x d n (Opened t)
         → CanRequest d file × IsKept (s ++ request_actions d file p m) (locked_more v) d n file

@@ -230,7 +230,8 @@ unfolding reply_type
 sync_line h p s steady done o holds l room ends = record {
   passes = type_passes h 0 p s o l room;
   each = λ g w x. subst
-      (λ (b : Bool). IsKept (at_file g (if b then run else (typed_host, [])).1) (changed (type_change (if b then CommandLock else NoLock) 0 p s) g w) (if b then run else (typed_host, [])).0.is_done (if b then run else (typed_host, [])).0.version (file_in (if b then run else (typed_host, [])).0.files.slots g)) (sym ends) (each g w x);
+      (λ (b : Bool). IsKept (at_file g (if b then run else (typed_host, [])).1) (changed (type_change (if b then CommandLock else NoLock) 0 p s) g w)
+      (if b then run else (typed_host, [])).0.is_done (if b then run else (typed_host, [])).0.version (file_in (if b then run else (typed_host, [])).0.files.slots g)) (sym ends) (each g w x);
   gone = λ g e. ap (λ (b : Bool). file_in (if b then run else (typed_host, [])).0.files.slots g) ends ∙ line.gone g (lasts.gone g e);
   sound = subst (λ (b : Bool). HasFiles (if b then run else (typed_host, [])).0.files) (sym ends) (line_sound typed_host [] text has fit holds2);
 }
@@ -280,8 +281,12 @@ sync_line h p s steady done o holds l room ends = record {
           subst (Fits_slot (Open (ins_cells u.0 p (map Some s)) 0)) (sym (files g ∙ ap (λ (b : Bool). if b then Opened (ins t p s) else file_in h.files.slots g) e)) (refl, agrees_typed p s u.0 t u.2),
         )
     slot_of g w x (inr e) =
-        let u = settled_slot w h.is_done h.version (file_in h.files.slots g) x in
-        (u.0, ap (λ (b : Bool). commanded (if b then typed_in p s w else w)) e ∙ ap commanded u.1, subst (Fits_slot u.0) (sym (files g ∙ put_other (file_in h.files.slots) 0 (Opened (ins t p s)) g e)) u.2)
+        let u = settled_slot w h.is_done h.version (file_in h.files.slots g) x in (
+          u.0,
+          ap (λ (b : Bool). commanded (if b then typed_in p s w else w)) e ∙ ap commanded u.1,
+          subst (Fits_slot u.0)
+              (sym (files g ∙ put_other (file_in h.files.slots) 0 (Opened (ins t p s)) g e)) u.2,
+        )
 
     each : (g : ℕ) (w : Lens) → IsSettled w h.is_done h.version (file_in h.files.slots g)
         → IsKept (at_file g run.1) (commanded (if g == 0 then typed_in p s w else w)) run.0.is_done run.0.version (file_in run.0.files.slots g)

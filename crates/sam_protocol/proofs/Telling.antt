@@ -72,11 +72,13 @@ room_passes p m r t a l room =
     both _ _ (le-leb _ _ l2) (le-leb _ _ room2)
 
 rewrites_insert : (p : ℕ) (s t : List ℕ) → p ≤ length t → length t + length s ≤ max_runes → Rewrites (Insert p s ∷ []) t (ins t p s)
-rewrites_insert p s t l room = rewrites_one (Insert p s) t (ins t p s) (λ r. ins_cells r p (map Some s)) refl (λ c e n r k a. if_holds _ _ (room_passes p (length s) r t a l room)) (λ r a. agrees_typed p s r t a)
+rewrites_insert p s t l room =
+    rewrites_one (Insert p s) t (ins t p s) (λ r. ins_cells r p (map Some s)) refl (λ c e n r k a. if_holds _ _ (room_passes p (length s) r t a l room)) (λ r a. agrees_typed p s r t a)
 
 rewrites_grow : (p : ℕ) (s t : List ℕ) → p ≤ length t → length t + length s ≤ max_runes → Rewrites (Grow p (length s) ∷ []) t (ins t p s)
 rewrites_grow p s t l room =
-    rewrites_one (Grow p (length s)) t (ins t p s) (λ r. ins_cells r p (replicate (length s) None)) refl (λ c e n r k a. if_holds _ _ (room_passes p (length s) r t a l room)) (λ r a. agrees_grown p s r t a)
+    rewrites_one (Grow p (length s)) t (ins t p s) (λ r. ins_cells r p (replicate (length s) None)) refl (λ c e n r k a. if_holds _ _ (room_passes p (length s) r t a l room))
+    (λ r a. agrees_grown p s r t a)
 
 rewrites_cut : (p m : ℕ) (t : List ℕ) → p + m ≤ length t → Rewrites (Cut p m ∷ []) t (del t p (p + m))
 rewrites_cut p m t l = rewrites_one (Cut p m) t (del t p (p + m)) (λ r. del_cells r p (p + m)) refl
