@@ -1,9 +1,10 @@
 -- An event that nothing stands against keeps both sides in order.
-use Rattle.std.proofs.Common.{◌≡◌, ◌≢◌, ℕ, ◌+◌, ◌-◌, ◌<◌, ◌≤◌, ◌||◌, min, Bool, true, false, not, ◌&&◌, ◌==◌, if◌then◌else◌, nat_lt, List, [], ◌∷◌, ◌++◌, length, take, drop, Option, Some, None, ◌⊎◌, inl, inr, refl, sym, ap, ◌∙◌, subst, true≢false, eqb-true, eq-eqb, append_assoc, arith, take-append-drop}
+use Rattle.std.proofs.Common.{◌≡◌, ◌≢◌, ℕ, ◌+◌, ◌-◌, ◌<◌, ◌≤◌, ◌||◌, min, Bool, true, false, not, ◌&&◌, ◌==◌, if◌then◌else◌, nat_lt, List, [], ◌∷◌, ◌++◌, length, Option, Some, None, ◌⊎◌, inl, inr, refl, sym, ap, ◌∙◌, subst, true≢false, eqb-true, eq-eqb, append_assoc, arith}
 use Rattle.std.proofs.lemmas.Bool.{ltb-false}
 use Rattle.std.proofs.lemmas.Bool.Decides.{eqb_tells}
 use Rattle.sam_runes.specs.Texts.{max_runes, is_empty, most_in_message}
-use Rattle.sam_rasp.specs.Rasp.{PartialText, hole_within}
+use Rattle.sam_runes.proofs.EditLaws.{del-nothing}
+use Rattle.sam_rasp.specs.Rasp.{PartialText, del_cells, hole_within}
 use Rattle.sam_mesg.specs.declared.tmesg.Tmesg.{Tmesg}
 use Rattle.sam_mesg.specs.declared.tmesg.Tmesg.TheVariants.{Tversion, Tstartcmdfile, Tcheck, Trequest, Torigin, Tstartfile, Tworkfile, Ttype, Tcut, Tpaste, Tsnarf, Tstartnewfile, Twrite, Tclose, Tlook, Tsearch, Tsend, Tdclick, Tstartsnarf, Tsetsnarf, Tack, Texit}
 use Rattle.sam_mesg.specs.declared.hmesg.Hmesg.{Hmesg}
@@ -96,9 +97,7 @@ record AfterCut (h : PlainHost) (t : PlainTerminal) (up : List Tmesg) (down : Li
 cut_nothing : (p q : ℕ) (v : Lens) → p ≡ q → cut_out p q v ≡ v
 cut_nothing p q (lens c e n lenses.Unknown) same = refl
 cut_nothing p q (lens c e n lenses.Known) same = refl
-cut_nothing p q (lens c e n (lenses.Open r k)) same =
-    let all : p + (q - p) ≡ p = omega (arith, same) in
-    ap (λ (x : PartialText). lens c e n (lenses.Open x k)) (ap (λ (m : ℕ). take p r ++ drop m r) all ∙ take-append-drop p r)
+cut_nothing p q (lens c e n (lenses.Open r k)) same = ap (λ (x : PartialText). lens c e n (lenses.Open x k)) (del-nothing r p q same)
 
 if_same : (b : Bool) (v : Lens) → (if b then v else v) ≡ v
 if_same true v = refl
@@ -128,7 +127,7 @@ after_cut h t up down f o may = go (has_empty_dot t f) refl
     go false e = record {
       goes = then_goes h up down (flushed t) (λ u. (composed (del_rasp u f p q) (Tcut f p q), Tcut f p q ∷ []))
           (cut_one h (flushed t).0 (up ++ (flushed t).1) down f p q (flushed_goes h t up down o) (unsent-flushed t) there);
-      shows = λ g. cut_view (flushed t).0 f p q (open_is (Within p q) (view f (flushed t).0) there.can) (o.tidy f).0 g ∙ ap (λ (v : ℕ → Lens). (if g == f then cut_out p q (v g) else v g)) (sym same);
+      shows = λ g. cut_view (flushed t).0 f p q (open_is (Within p q) (view f (flushed t).0) there.can) g ∙ ap (λ (v : ℕ → Lens). (if g == f then cut_out p q (v g) else v g)) (sym same);
     }
 
 -- ## What the tests of an event allow
@@ -150,16 +149,8 @@ module _ (t u : PlainTerminal) (f p q : ℕ) (shows : (g : ℕ) → view g u ≡
   still_free : (g : ℕ) → IsFree (view g t) → IsFree (view g u)
   still_free g i = subst IsFree (sym (shows g)) (free_cut (g == f) p q (view g t) i)
 
-  still_open : (P Q : List (Option ℕ) → Type 0) → OpenAt P (view f t) → ((r : List (Option ℕ)) → P r → Q (take p r ++ drop (p + (q - p)) r)) → OpenAt Q (view f u)
+  still_open : (P Q : List (Option ℕ) → Type 0) → OpenAt P (view f t) → ((r : List (Option ℕ)) → P r → Q (del_cells r p q)) → OpenAt Q (view f u)
   still_open P Q o h = subst (OpenAt Q) (sym (shows f ∙ ap (λ (b : Bool). (if b then cut_out p q (view f t) else view f t)) (eq-eqb f f refl))) (open_cut P Q p q (view f t) o h)
-
--- the length of what a cut leaves
-cut_length : (r : List (Option ℕ)) (p q : ℕ) → p ≤ q → q ≤ length r → length (take p r ++ drop (p + (q - p)) r) ≡ length r - (q - p)
-cut_length r p q l h =
-    let a : p ≤ p + (q - p) = omega arith in
-    let b : p + (q - p) ≤ length r = omega (arith, l, h) in
-    let c = length-del_cells r p (p + (q - p)) a b in
-    omega (arith, c, l)
 
 -- ## Typing and pasting over the dot
 
@@ -188,8 +179,8 @@ type_goes h t up down f s o pass = then_goes h up down (cuts_dot t f) (λ u. if 
     wide : OpenAt Wide (view f t)
     wide = open_free Wide t f pass.free (not_false (is_open t f) pass.opened) pass.unlocked ((o.tidy f).0, (o.tidy f).1, ltb-false max_runes _ pass.room)
 
-    narrow : (r : List (Option ℕ)) → Wide r → (p ≤ length (take p r ++ drop (p + (q - p)) r)) × (length (take p r ++ drop (p + (q - p)) r) + length s ≤ max_runes)
-    narrow r w = let n = cut_length r p q w.0 w.1 in (omega (arith, n, w.0, w.1), omega (arith, n, w.2))
+    narrow : (r : List (Option ℕ)) → Wide r → (p ≤ length (del_cells r p q)) × (length (del_cells r p q) + length s ≤ max_runes)
+    narrow r w = let n = length-del_cells r p q w.0 w.1 in (omega (arith, n, w.0, w.1), omega (arith, n, w.2))
 
     allowed : (line : Bool) → is_command_line f s ≡ line → IsAllowed (type_change (if line then CommandLock else NoLock) f p s) (views u)
     allowed false e = still_free t u f p q cut.shows f (free_at t f pass.free pass.unlocked)
@@ -200,7 +191,12 @@ type_goes h t up down f s o pass = then_goes h up down (cuts_dot t f) (λ u. if 
     go (c ∷ x) e =
         types_goes h u (up ++ (cuts_dot t f).1) down f p c x cut.goes
         (subst (λ (y : List ℕ). MaySend (views u) (Ttype f p y)) e
-        (record { here = here_cut t u f p q cut.shows pass.here; free = command_free_cut t u f p q cut.shows pass.free; allowed = allowed (is_command_line f s) refl; can = still_open t u f p q cut.shows Wide (λ r. (p ≤ length r) × (length r + length s ≤ max_runes)) wide narrow }))
+        (record {
+          here = here_cut t u f p q cut.shows pass.here;
+          free = command_free_cut t u f p q cut.shows pass.free;
+          allowed = allowed (is_command_line f s) refl;
+          can = still_open t u f p q cut.shows Wide (λ r. (p ≤ length r) × (length r + length s ≤ max_runes)) wide narrow;
+        }))
 
 paste_goes : (h : PlainHost) (t : PlainTerminal) (up : List Tmesg) (down : List Hmesg) (f : ℕ) → InOrder h t up down → Passed t (Paste f) → Goes h up down (made_by t (Paste f))
 unfolding made_by_paste
@@ -226,7 +222,7 @@ paste_goes h t up down f o pass = then_goes h up down (cuts_dot t f) (λ u. send
       here = here_cut t u f p q cut.shows pass.here;
       free = command_free_cut t u f p q cut.shows pass.free;
       allowed = still_free t u f p q cut.shows f (free_at t f pass.free pass.unlocked);
-      can = still_open t u f p q cut.shows (Within p q) (Within p p) within (λ r w. let n = cut_length r p q w.0 w.1 in (omega arith, omega (arith, n, w.0, w.1)));
+      can = still_open t u f p q cut.shows (Within p q) (Within p p) within (λ r w. let n = length-del_cells r p q w.0 w.1 in (omega arith, omega (arith, n, w.0, w.1)));
     }
 
 -- ## Cut: what goes is kept by the host first
@@ -310,7 +306,8 @@ event_goes h t up down (Typed f s) o p = type_goes h t up down f s o p
 event_goes h t up down (Select f a b) o p =
     let z = or_parts (nat_lt b a) (nat_lt (length (window_at t f).rasp) b) p.place in
     nothing_goes h (set_dot_of t f (a, b)) up down
-    (shown_goes h t up down f (record (window_at t f) { dot = (a, b) }) o (opened_at t f (not_false (is_open t f) p.opened)) refl refl (ltb-false b a z.0, ltb-false (length (window_at t f).rasp) b z.1, (o.tidy f).2))
+    (shown_goes h t up down f (record (window_at t f) { dot = (a, b) }) o (opened_at t f (not_false (is_open t f) p.opened)) refl refl
+    (ltb-false b a z.0, ltb-false (length (window_at t f).rasp) b z.1, (o.tidy f).2))
 event_goes h t up down (Cut f) o p = cut_goes h t up down f o p
 event_goes h t up down (Paste f) o p = paste_goes h t up down f o p
 event_goes h t up down (Snarf f) o p = snarf_goes h t up down f o p
@@ -333,7 +330,13 @@ event_goes h t up down (Dclick f a) o p =
 event_goes h t up down (Scroll f n) o p =
     let a = (window_at t f).view_start in
     sends_goes h t up down (Torigin f a n) o refl
-    (record { here = p.here; free = p.free; allowed = free_at t f p.free p.unlocked; can = open_free (Within a a) t f p.free (not_false (is_open t f) p.opened) p.unlocked (omega arith, (o.tidy f).2) })
+    (record {
+      here = p.here;
+      free = p.free;
+      allowed = free_at t f p.free p.unlocked;
+      can = open_free (Within a a) t f p.free (not_false (is_open t f) p.opened) p.unlocked
+          (omega arith, (o.tidy f).2);
+    })
 event_goes h t up down (View f a n) o p =
     let w : Window = record (window_at t f) { view_start = a; view_length = n } in
     requested_goes h (put_window t f w) up down f

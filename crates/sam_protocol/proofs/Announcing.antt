@@ -88,7 +88,8 @@ names_move d n k zero g (Some x ∷ ss) given s e a y =
 names_move d n k (suc i) g (Some x ∷ ss) given s e a y =
     let differs : g ≡ k → ⊥ = λ q. omega (arith, e, q) in
     subst (λ (u : List Action). Moves u d n s (announced_slot given (slot ss i))) (sym (at_file-append g (when (not x.announced) (names_of k x)) (told_names (1 + k) ss)))
-    (and_moves _ _ d n s (file_of_slot given (slot ss i)) (announced_slot given (slot ss i)) (stays_put _ d n s (file_of_slot given (slot ss i)) (one_skips g k x (not x.announced) (not_same g k differs)) y)
+    (and_moves _ _ d n s (file_of_slot given (slot ss i)) (announced_slot given (slot ss i))
+    (stays_put _ d n s (file_of_slot given (slot ss i)) (one_skips g k x (not x.announced) (not_same g k differs)) y)
     (λ s2 z. names_move d n (1 + k) i g ss given s2 (omega (arith, e)) (λ j. a (suc j)) z))
 
 version_kept : (u : List Action) (d : Bool) (n v : ℕ) (s : Slot) (file : HFile) → Moves u d v s file → IsKept (Change v ∷ (u ++ Skip ∷ Free_command ∷ [])) (lens true d n s) d v file

@@ -1,12 +1,13 @@
 -- What the terminal changes on its own side as it composes a message, and what it has tested before.
-use Rattle.std.specs.Prelude.{◌≡◌, ℕ, ◌+◌, ◌-◌, ◌<◌, ◌≤◌, true, false, if◌then◌else◌, ◌==◌, List, length, Option}
+use Rattle.std.specs.Prelude.{◌≡◌, ℕ, ◌+◌, ◌<◌, ◌≤◌, true, false, if◌then◌else◌, ◌==◌, List, length, map, Option, Some}
 use Rattle.sam_runes.specs.Texts.{max_runes}
+use Rattle.sam_rasp.specs.Rasp.{ins_cells, del_cells}
 use Rattle.sam_mesg.specs.declared.tmesg.Tmesg.{Tmesg}
 use Rattle.sam_mesg.specs.declared.tmesg.Tmesg.TheVariants.{Tversion, Tstartcmdfile, Tcheck, Trequest, Torigin, Tstartfile, Tworkfile, Ttype, Tcut, Tpaste, Tsnarf, Tstartnewfile, Twrite, Tclose, Tlook, Tsearch, Tsend, Tdclick, Tstartsnarf, Tsetsnarf, Tack, Texit}
 use Rattle.sam_term.specs.declared.lock.Lock.{Lock as TakenLock}
 use Rattle.sam_term.specs.declared.lock.Lock.TheVariants.{NoLock, CommandLock, FileLock}
 use Rattle.sam_term.specs.Locks.{lock_of}
-use Rattle.sam_protocol.specs.Lens.{Unknown, Known, Open, Lens, lens, typed, without, OpenAt, Anything}
+use Rattle.sam_protocol.specs.Lens.{Unknown, Known, Open, Lens, lens, OpenAt, Anything}
 use Rattle.sam_protocol.proofs.Lenses.{IsFree, locked_more}
 
 -- what the terminal does to its own side when it composes a message
@@ -24,12 +25,12 @@ commanded (lens c e n s) = lens true e n s
 abbrev pub typed_in : ℕ → List ℕ → Lens → Lens
 typed_in p s (lens c e n Unknown) = lens c e n Unknown
 typed_in p s (lens c e n Known) = lens c e n Known
-typed_in p s (lens c e n (Open r k)) = lens c e n (Open (typed p s r) k)
+typed_in p s (lens c e n (Open r k)) = lens c e n (Open (ins_cells r p (map Some s)) k)
 
 abbrev pub cut_out : ℕ → ℕ → Lens → Lens
 cut_out p q (lens c e n Unknown) = lens c e n Unknown
 cut_out p q (lens c e n Known) = lens c e n Known
-cut_out p q (lens c e n (Open r k)) = lens c e n (Open (without p (q - p) r) k)
+cut_out p q (lens c e n (Open r k)) = lens c e n (Open (del_cells r p q) k)
 
 abbrev pub changed : Change → ℕ → Lens → Lens
 changed Same g v = v

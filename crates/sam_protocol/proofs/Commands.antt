@@ -114,7 +114,8 @@ exits_kept u d n s file m = go m.slot m.runs m.fits
 -- ## A message that takes the command lock
 
 pub commands : (h : PlainHost) (m : Tmesg) → change_by m ≡ Command → first_of_checks (host_checks h m) ≡ None
-    → ((g : ℕ) (s : Slot) → Fits_slot s (file_in h.files.slots g) → IsKept (at_file g (reply_to h m).1) (lens true h.is_done h.version s) (reply_to h m).0.is_done (reply_to h m).0.version (file_in (reply_to h m).0.files.slots g))
+    → ((g : ℕ) (s : Slot) → Fits_slot s (file_in h.files.slots g) → IsKept (at_file g (reply_to h m).1) (lens true h.is_done h.version s) (reply_to h m).0.is_done (reply_to h m).0.version
+    (file_in (reply_to h m).0.files.slots g))
     → ((g : ℕ) → file_in h.files.slots g ≡ Gone → file_in (reply_to h m).0.files.slots g ≡ Gone) → HasFiles (reply_to h m).0.files → Synced h m
 commands h m c passes each gone sound = record { passes = passes; each = kept; gone = gone; sound = sound }
   where
@@ -217,7 +218,8 @@ pub sync_start : (h : PlainHost) (f : ℕ) (x : PlainFile) → HasFiles h.files 
 unfolding reply_startfile when
 sync_start h f x sound fit e z c =
     sync_by h (Tstartfile f) refl (test (not (has_file h.files f)) NoFile (is_command f ∷ []) (ap (λ (b : Bool). not b) (ap is_some e)) (last_test (f == 0) CommandFile z))
-    (unlocked h fs (when (not file.opened) (Hbindname f ∷ told_length f file)) carries (works_on h.files fs f sound refl z (subst IsOpened (sym (files f ∙ put_same a f (Opened file.text))) tt) carries.lasts))
+    (unlocked h fs (when (not file.opened) (Hbindname f ∷ told_length f file)) carries (works_on h.files fs f sound refl z
+    (subst IsOpened (sym (files f ∙ put_same a f (Opened file.text))) tt) carries.lasts))
   where
     file : PlainFile
     file = file_at h.files f
@@ -274,7 +276,8 @@ pub sync_first : (h : PlainHost) (x : PlainFile) → HasFiles h.files → AreFit
 unfolding reply_startcmdfile
 sync_first h x sound fit e c =
     sync_by h Tstartcmdfile refl refl
-    (unlocked_if h file.opened (h, Hunlock ∷ []) (with_files h fs, (Hnewname 0 ∷ Hmovname 0 command_name ∷ Hbindname 0 ∷ told_length 0 file) ++ Hunlock ∷ []) (λ w. unlocked_only h sound) (λ w. opening w (hidden w c)))
+    (unlocked_if h file.opened (h, Hunlock ∷ []) (with_files h fs, (Hnewname 0 ∷ Hmovname 0 command_name ∷ Hbindname 0 ∷ told_length 0 file) ++ Hunlock ∷ []) (λ w. unlocked_only h sound)
+    (λ w. opening w (hidden w c)))
   where
     file : PlainFile
     file = file_at h.files 0
@@ -415,7 +418,8 @@ pub sync_new : (h : PlainHost) (x : PlainFile) → HasFiles h.files → slot h.f
 unfolding reply_startnewfile
 sync_new h x sound e =
     sync_by h Tstartnewfile refl refl
-    (unlocked_if h (nat_le all_tags f) (with_files h (after_print h.files no_tag_left), printed h.files no_tag_left ++ Hunlock ∷ []) (with_files h fs, (Hnewname f ∷ Hbindname f ∷ Hcurrent f ∷ []) ++ Hunlock ∷ []) (λ w. full) (λ w. fresh))
+    (unlocked_if h (nat_le all_tags f) (with_files h (after_print h.files no_tag_left), printed h.files no_tag_left ++ Hunlock ∷ [])
+    (with_files h fs, (Hnewname f ∷ Hbindname f ∷ Hcurrent f ∷ []) ++ Hunlock ∷ []) (λ w. full) (λ w. fresh))
   where
     f : ℕ
     f = length h.files.slots
@@ -458,5 +462,6 @@ sync_new h x sound e =
     fresh =
         let lasts : Lasts a (file_in fs.slots) = lasts_put a (file_in fs.slots) f (Opened []) (λ q. let y : Absent ≡ Gone = sym absent ∙ q in cc) (λ y. tt) (λ q y. tt) files in
         unlocked h fs (Hnewname f ∷ Hbindname f ∷ Hcurrent f ∷ [])
-        (carries_at h.is_done h.version a (file_in fs.slots) f (Hnewname f ∷ Hbindname f ∷ Hcurrent f ∷ []) (Join ∷ Bind ∷ Needs_known ∷ []) (Opened []) (λ g. refl) files (λ s y. new_there h.is_done h.version s (subst (Fits_slot s) absent y)) lasts)
+        (carries_at h.is_done h.version a (file_in fs.slots) f (Hnewname f ∷ Hbindname f ∷ Hcurrent f ∷ []) (Join ∷ Bind ∷ Needs_known ∷ []) (Opened []) (λ g. refl) files
+        (λ s y. new_there h.is_done h.version s (subst (Fits_slot s) absent y)) lasts)
         (works_on h.files fs f sound refl not_zero (subst IsOpened (sym (files f ∙ put_same a f (Opened []))) tt) lasts)

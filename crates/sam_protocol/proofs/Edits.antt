@@ -1,5 +1,5 @@
 -- The messages that lock nothing: from settled to settled.
-use Rattle.std.proofs.Common.{◌≡◌, ℕ, ◌+◌, ◌-◌, ◌≤◌, Bool, true, false, ◌||◌, ◌==◌, if◌then◌else◌, List, [], ◌∷◌, length, Option, Some, None, ◌⊎◌, inl, inr, refl, sym, ap, ◌∙◌, subst, true≢false, arith, eqb-true}
+use Rattle.std.proofs.Common.{◌≡◌, ℕ, ◌+◌, ◌-◌, ◌≤◌, Bool, true, false, ◌||◌, ◌==◌, if◌then◌else◌, List, [], ◌∷◌, length, Option, Some, None, ◌⊎◌, inl, inr, refl, sym, ap, ◌∙◌, subst, true≢false, eqb-true}
 use Rattle.sam_runes.specs.Texts.{ins, del, max_runes, part, line_start}
 use Rattle.sam_runes.specs.Slots.{Slots, put_slot}
 use Rattle.sam_runes.specs.Checks.{first_of_checks}
@@ -8,14 +8,14 @@ use Rattle.sam_mesg.specs.declared.tmesg.Tmesg.TheVariants.{Tcheck, Tworkfile, T
 use Rattle.sam_term.specs.declared.lock.Lock.TheVariants.{CommandLock, NoLock}
 use Rattle.sam_term.specs.Locks.{is_command_line}
 use Rattle.sam_host.specs.Host.{PlainHost, Reply, host_checks, with_file, past_end, no_range, no_room, reply_check, reply_workfile, reply_cut, reply_snarf, reply_line, reply_type, reply_startsnarf, reply_setsnarf}
-use Rattle.sam_protocol.specs.Lens.{Open, Lens, lens, Action, Skip, Needs_known, Needs_open, move, run, and_then, is_crossing, is_close, HFile, Opened, Agrees, IsSettled, IsKept, IsOpened, without}
+use Rattle.sam_protocol.specs.Lens.{Open, Lens, lens, Action, Skip, Needs_known, Needs_open, move, run, and_then, is_crossing, is_close, HFile, Opened, Agrees, IsSettled, IsKept, IsOpened}
 use Rattle.sam_protocol.specs.Frames.{at_file, only}
 use Rattle.sam_protocol.proofs.Changes.{type_change, typed_in, cut_out, changed}
 use Rattle.sam_protocol.specs.View.{file_in}
 use Rattle.sam_protocol.specs.Steady.{HasFiles}
 use Rattle.sam_protocol.proofs.Accepting.{Synced}
 use Rattle.sam_protocol.proofs.Kept.{kept_skips, settled_opened}
-use Rattle.sam_protocol.proofs.Texts.{agrees_typed, agrees_without}
+use Rattle.sam_protocol.proofs.Texts.{agrees_typed, agrees_cut}
 use Rattle.sam_protocol.proofs.HostFiles.{bool_cases, put, put_again, put_opened, Opens, Lasts, lasts_opened, lasts_same, still_has, works_on}
 use Rattle.sam_protocol.proofs.Tests.{open_tests, window_tests, place_test, range_test, room_test}
 use Rattle.sam_protocol.proofs.Guards.{kept_by}
@@ -47,7 +47,7 @@ unfolding reply_cut
 sync_cut h f p q sound o l l2 = record {
   passes = open_tests h f o (no_range h f p q ∷ []) (range_test h f p q l l2);
   each = edit_case h k f (del t p q) (cut_out p q) o files refl refl
-      (λ r a. (refl, refl, refl, (refl, subst (λ (j : ℕ). Agrees (without p (q - p) r) (del t p j)) to (agrees_without p (q - p) r t a))));
+      (λ r a. (refl, refl, refl, (refl, agrees_cut p q r t a)));
   gone = lasts.gone;
   sound = still_has h.files k.files sound refl lasts;
 }
@@ -57,9 +57,6 @@ sync_cut h f p q sound o l l2 = record {
 
     k : PlainHost
     k = with_file h f (cut_file f (file_at h.files f) p q)
-
-    to : p + (q - p) ≡ q
-    to = omega arith
 
     files : (g : ℕ) → file_in k.files.slots g ≡ put (file_in h.files.slots) f (Opened (del t p q)) g
     files = put_opened h.files f o.given (cut_file f (file_at h.files f) p q) o.opened
@@ -79,7 +76,8 @@ unfolding reply_type
 sync_type h f p s sound o l room ends = record {
   passes = type_passes h f p s o l room;
   each = λ g w x. subst
-      (λ (b : Bool). IsKept (at_file g (if b then line else (typed, [])).1) (changed (type_change (if b then CommandLock else NoLock) f p s) g w) (if b then line else (typed, [])).0.is_done (if b then line else (typed, [])).0.version (file_in (if b then line else (typed, [])).0.files.slots g)) (sym ends)
+      (λ (b : Bool). IsKept (at_file g (if b then line else (typed, [])).1) (changed (type_change (if b then CommandLock else NoLock) f p s) g w) (if b then line else (typed, [])).0.is_done
+      (if b then line else (typed, [])).0.version (file_in (if b then line else (typed, [])).0.files.slots g)) (sym ends)
       (edit_case h typed f (ins t p s) (typed_in p s) o files refl refl (λ r a. (refl, refl, refl, (refl, agrees_typed p s r t a))) g w x);
   gone = λ g e. ap (λ (b : Bool). file_in (if b then line else (typed, [])).0.files.slots g) ends ∙ lasts.gone g e;
   sound = subst (λ (b : Bool). HasFiles (if b then line else (typed, [])).0.files) (sym ends) (still_has h.files typed.files sound refl lasts);
@@ -110,7 +108,8 @@ checks f t a g w d n file was s close crossing m = go (bool_cases (g == f))
         let e = was (eqb-true _ _ q) in
         let o = settled_opened w d n t (subst (IsSettled w d n) e s) in
         subst (λ (b : Bool). IsKept (only b a ∷ []) w d n file) (sym q)
-        (kept_by (a ∷ []) w w d n file (subst (λ (x : Lens). and_then (move a x) (run []) ≡ Some x) (sym o.1) (ap (λ (y : Option Lens). and_then y (run [])) (m o.0))) s ((λ c. absurd (true≢false (sym c ∙ crossing))), tt) (ap (λ (b : Bool). b || false) close))
+        (kept_by (a ∷ []) w w d n file (subst (λ (x : Lens). and_then (move a x) (run []) ≡ Some x) (sym o.1) (ap (λ (y : Option Lens). and_then y (run [])) (m o.0))) s
+        ((λ c. absurd (true≢false (sym c ∙ crossing))), tt) (ap (λ (b : Bool). b || false) close))
     go (inr q) = subst (λ (b : Bool). IsKept (only b a ∷ []) w d n file) (sym q) (kept_by (Skip ∷ []) w w d n file refl s ((λ c. absurd (true≢false (sym c))), tt) refl)
 
 -- the host keeps its files

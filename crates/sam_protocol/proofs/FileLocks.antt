@@ -204,7 +204,8 @@ pub sync_paste : (h : PlainHost) (f p : ℕ) → HasFiles h.files → Opens h.fi
 unfolding reply_paste
 sync_paste h f p sound o l =
     locks h (Tpaste f p) f refl sound o (open_tests h f o (past_end h f p ∷ []) (place_test h f p [] l refl))
-    (freed_if h f (is_empty s || nat_lt max_runes (length t + length s)) (h, Hunlockfile f ∷ []) (with_file h f pasted, (grown h.files f p s ++ dirty) ++ (last ++ Hunlockfile f ∷ [])) (λ e. freed_only h f o) (λ e. fits (ltb-false _ _ (right (is_empty s) (nat_lt max_runes (length t + length s)) e))))
+    (freed_if h f (is_empty s || nat_lt max_runes (length t + length s)) (h, Hunlockfile f ∷ []) (with_file h f pasted, (grown h.files f p s ++ dirty) ++ (last ++ Hunlockfile f ∷ []))
+    (λ e. freed_only h f o) (λ e. fits (ltb-false _ _ (right (is_empty s) (nat_lt max_runes (length t + length s)) e))))
   where
     file : PlainFile
     file = file_at h.files f

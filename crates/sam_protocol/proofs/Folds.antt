@@ -113,7 +113,15 @@ term_takes h views views2 line m down k moves = record {
 -- views that are alike at each file
 pub kept_views : (h : PlainHost) (views views2 : ℕ → Lens) (line : List Tmesg) (down : List Hmesg) → Kept h views line down → ((g : ℕ) → views g ≡ views2 g) → Kept h views2 line down
 kept_views h views views2 line down k same =
-    record { ahead = k.ahead; frames = k.frames; folds = k.folds; each = λ g. subst (λ (v : Lens). IsKept (at_file g (down ++ k.frames)) v k.ahead.is_done k.ahead.version (file_in k.ahead.files.slots g)) (same g) (k.each g); steady = k.steady; versions = k.versions }
+    record {
+      ahead = k.ahead;
+      frames = k.frames;
+      folds = k.folds;
+      each = λ g. subst (λ (v : Lens). IsKept (at_file g (down ++ k.frames)) v k.ahead.is_done k.ahead.version
+          (file_in k.ahead.files.slots g)) (same g) (k.each g);
+      steady = k.steady;
+      versions = k.versions;
+    }
 
 -- another list of messages that folds to the same, counts aside
 pub kept_with : (h : PlainHost) (views views2 : ℕ → Lens) (line : List Tmesg) (down : List Hmesg) (m : Tmesg) (r : Reply) (k : Kept h views line down) → reply_of k.ahead m ≡ Some r
@@ -254,7 +262,12 @@ requested h f p n c = go h.is_done refl (file_in h.files.slots f) refl c
     told : h.is_done ≡ false → (file : HFile) → file_in h.files.slots f ≡ file → first_of_checks (host_checks h (Trequest f p n)) ≡ None
         → ((g : ℕ) → at_file g frames ≡ map (only (g == f)) (request_actions false file p n)) → Requested h f p n
     told z file e passes tells =
-        record { frames = frames; now = plain_reply h (Trequest f p n) z passes; tells = λ g. tells g ∙ (λ i. map (only (g == f)) (request_actions (sym z i) (sym e i) p n)); versions = guarded_reply h (Trequest f p n) }
+        record {
+          frames = frames;
+          now = plain_reply h (Trequest f p n) z passes;
+          tells = λ g. tells g ∙ (λ i. map (only (g == f)) (request_actions (sym z i) (sym e i) p n));
+          versions = guarded_reply h (Trequest f p n);
+        }
 
     go : (d : Bool) → h.is_done ≡ d → (file : HFile) → file_in h.files.slots f ≡ file → CanRequest d file → Requested h f p n
     go true z file e c = record { frames = []; now = silent z; tells = λ g. ap (λ (b : Bool). map (only (g == f)) (request_actions b (file_in h.files.slots f) p n)) (sym z); versions = tt }
@@ -309,4 +322,5 @@ requests h views line down f p n k is_open here =
             (subst (λ (u : List Action). IsKept (s g ++ u) (locked_more (views g)) d v (file g)) q (there g e).1)
         go (inr e) =
             subst (λ (b : Bool). IsKept (s g ++ told g) (if b then locked_more (views g) else views g) d v (file g)) (sym e)
-            (kept_append (s g) (told g) (views g) d d v v (file g) (file g) (k.each g) (λ x y. kept_skips (told g) x d v (file g) (tells_elsewhere f g r.frames (request_actions d (file f) p n) (r.tells g) e) y) (λ q. q))
+            (kept_append (s g) (told g) (views g) d d v v (file g) (file g) (k.each g) (λ x y. kept_skips (told g) x d v (file g)
+            (tells_elsewhere f g r.frames (request_actions d (file f) p n) (r.tells g) e) y) (λ q. q))

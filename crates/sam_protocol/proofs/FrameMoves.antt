@@ -105,8 +105,11 @@ on_growdata : (p : ℕ) (s : List ℕ) → OnOpen (Insert p s) (λ w. (nat_lt (l
     (λ w. Open (ins_cells w.rasp p (map Some s)) w.locks)
 on_growdata p s c e n w v q =
     let x = if_some _ _ _ q in
-    let y = and_parts (nat_le p (length w.rasp)) (nat_le (length w.rasp + length s) max_runes) x.0 in
-    (two_tests (nat_lt (length w.rasp) p) (nat_lt max_runes (length w.rasp + length s)) fault.BadPosition fault.TooLong (within p (length w.rasp) y.0) (within (length w.rasp + length s) max_runes y.1), sym x.1)
+    let y = and_parts (nat_le p (length w.rasp)) (nat_le (length w.rasp + length s) max_runes) x.0 in (
+      two_tests (nat_lt (length w.rasp) p) (nat_lt max_runes (length w.rasp + length s)) fault.BadPosition fault.TooLong (within p (length w.rasp) y.0)
+          (within (length w.rasp + length s) max_runes y.1),
+      sym x.1,
+    )
 
 on_data : (p : ℕ) (s : List ℕ) → OnOpen (Fill p s) (λ w. (nat_lt (length w.rasp) (p + length s), fault.BadPosition) ∷ []) (λ w. Open (load_cells w.rasp p s) w.locks)
 on_data p s c e n w v q =
@@ -279,7 +282,11 @@ take_law t (Hversion v) h = record { passes = refl; moves = λ g. version_moves 
 take_law t (Hbindname f) h =
     let q = here_moves f Bind t h in
     let x = on_shut Bind (Open [] 0) (λ c e n. refl) (λ c e n. refl) (λ c e n w. refl) t.command_lock t.has_exited t.version (slot t.files f) q.0 q.1 in
-    record { passes = x.0; moves = put_moves f Bind t (effect t (Hbindname f)) (record (known_of (slot t.files f)) { window = Some blank_window }) refl refl refl refl (q.1 ∙ ap Some x.1); composes = refl }
+    record {
+      passes = x.0;
+      moves = put_moves f Bind t (effect t (Hbindname f)) (record (known_of (slot t.files f)) { window = Some blank_window }) refl refl refl refl (q.1 ∙ ap Some x.1);
+      composes = refl;
+    }
 take_law t (Hcurrent f) h =
     let x = known_here f t h in
     record { passes = x.passes; moves = tagged f Needs_known t (record t { current = Some f }) refl refl refl (λ g n. refl) (x.moves ∙ known_same f t h); composes = refl }
@@ -305,7 +312,11 @@ take_law t (Hgrow f p n) h =
     record { passes = x.passes; moves = put_moves f (Grow p n) t (effect t (Hgrow f p n)) _ refl refl refl refl x.moves; composes = refl }
 take_law t (Hcheck f) h =
     let x = opened_here f Needs_open t (λ w. []) (λ w. Open w.rasp w.locks) on_check (λ c e v. refl) (λ c e v. refl) h in
-    record { passes = x.passes; moves = tagged f Needs_open t t refl refl refl (λ g n. refl) (open_same (slot t.files f) (here_moves f Needs_open t h).0 (here_moves f Needs_open t h).1); composes = refl }
+    record {
+      passes = x.passes;
+      moves = tagged f Needs_open t t refl refl refl (λ g n. refl) (open_same (slot t.files f) (here_moves f Needs_open t h).0 (here_moves f Needs_open t h).1);
+      composes = refl;
+    }
   where
     open_same : (s : Option KnownFile) (v : Lens) → move Needs_open (lens t.command_lock t.has_exited t.version (slot_of s)) ≡ Some v
         → move Needs_open (lens t.command_lock t.has_exited t.version (slot_of s)) ≡ Some (lens t.command_lock t.has_exited t.version (slot_of s))

@@ -32,7 +32,15 @@ shut_there : (h : PlainHost) (f : ℕ) (a : Bool) (t : List ℕ) → file_in h.f
 shut_there h f a t e =
     let x = some_at h.files f (if a then Named t else Hidden t) e (not_absent a) (not_gone a) in
     let c = closed_file x.file a t (sym (shown_there h.files f x.file x.there) ∙ e) in
-    record { file = x.file; there = x.there; kind = inr (ap (λ (y : PlainFile). y.opened) (at_there h.files f x.file x.there) ∙ c.0, ap (λ (y : PlainFile). y.announced) (at_there h.files f x.file x.there) ∙ c.1) }
+    record {
+      file = x.file;
+      there = x.there;
+      kind = inr (
+        ap (λ (y : PlainFile). y.opened) (at_there h.files f x.file x.there) ∙ c.0,
+        ap (λ (y : PlainFile). y.announced)
+            (at_there h.files f x.file x.there) ∙ c.1,
+      );
+    }
   where
     not_absent : (a : Bool) → (if a then Named t else Hidden t) ≡ Absent → ⊥
     not_absent true q = cc

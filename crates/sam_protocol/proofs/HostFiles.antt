@@ -222,7 +222,12 @@ lasts_then a b c x y = record { gone = λ g e. y.gone g (x.gone g e); opened = �
 -- one file is another, which is open or what it was before
 pub lasts_put : (a b : ℕ → HFile) (f : ℕ) (x : HFile) → (a f ≡ Gone → ⊥) → (IsOpened (a f) → IsOpened x) → (f ≡ 0 → IsCommandFile (a 0) → IsCommandFile x) → ((g : ℕ) → b g ≡ put a f x g) → Lasts a b
 lasts_put a b f x there opened commands is =
-    record { gone = λ g e. is g ∙ gone g e (bool_cases (g == f)); opened = λ g o. subst IsOpened (sym (is g)) (open_one g o (bool_cases (g == f))); commands = λ c. subst IsCommandFile (sym (is 0)) (command c (bool_cases (0 == f))) }
+    record {
+      gone = λ g e. is g ∙ gone g e (bool_cases (g == f));
+      opened = λ g o. subst IsOpened (sym (is g)) (open_one g o (bool_cases (g == f)));
+      commands = λ c. subst IsCommandFile
+          (sym (is 0)) (command c (bool_cases (0 == f)));
+    }
   where
     gone : (g : ℕ) → a g ≡ Gone → ((g == f) ≡ true) ⊎ ((g == f) ≡ false) → put a f x g ≡ Gone
     gone g e (inl q) = absurd (there (sym (ap a (eqb-true g f q)) ∙ e))

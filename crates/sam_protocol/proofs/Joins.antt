@@ -51,8 +51,11 @@ alike_after : (ends : Bool) (k j : PlainHost) (f end : ℕ) → AreAlike k j
     → AreAlike (after_typing ends k f end).0 (after_typing ends j f end).0 × ((after_typing ends k f end).1 ≡ (after_typing ends j f end).1)
 unfolding after_typing
 alike_after false k j f end a = (a, refl)
-alike_after true k j f end a =
-    (record { files = ap (λ (fs : PlainFiles). (line fs).0.files) a.files; done = ap (λ (fs : PlainFiles). (line fs).0.is_done) a.files; version = a.version }, ap (λ (fs : PlainFiles). (line fs).1) a.files)
+alike_after true k j f end a = (
+  record { files = ap (λ (fs : PlainFiles). (line fs).0.files) a.files; done = ap (λ (fs : PlainFiles). (line fs).0.is_done) a.files; version = a.version },
+  ap
+      (λ (fs : PlainFiles). (line fs).1) a.files,
+)
   where
     line : PlainFiles → Reply
     line fs = let t = (file_at fs f).text in reply_line (record k { files = fs }) [] (part t (line_start t end) end)
@@ -162,7 +165,11 @@ joined_open h f p c s u r1 r2 plain d e1 e2 =
     let both = alike_after ((f == 0) && ends_line w) (typed_host k f (p + length s) w) (typed_host h f p (s ++ w)) f (p + length s + length w - 1) (typed_twice h f p s w one.can.place) in
     let whole : after_typing ((f == 0) && ends_line w) (typed_host h f p (s ++ w)) f (p + length s + length w - 1) ≡ reply_to h (Ttype f p (s ++ w)) =
     (λ i. after_typing (ends i) (typed_host h f p (s ++ w)) f (end i)) ∙ sym (typed_reply h f p (s ++ w)) in
-    let told : r2 ≡ (counted (after_typing ((f == 0) && ends_line w) (typed_host k f (p + length s) w) f (p + length s + length w - 1)).0, (after_typing ((f == 0) && ends_line w) (typed_host k f (p + length s) w) f (p + length s + length w - 1)).1) =
+    let told : r2 ≡ (
+      counted (after_typing ((f == 0) && ends_line w) (typed_host k f (p + length s) w) f (p + length s + length w - 1)).0,
+      (after_typing ((f == 0) && ends_line w)
+          (typed_host k f (p + length s) w) f (p + length s + length w - 1)).1,
+    ) =
     two.is ∙ ap (λ (r : Reply). (counted r.0, r.1)) (typed_reply k f (p + length s) w) in
     record {
       reply = (counted (reply_to h (Ttype f p (s ++ w))).0, (reply_to h (Ttype f p (s ++ w))).1);
@@ -254,7 +261,12 @@ joins h views line down f p c s u plain k =
     frames = ap (λ (r : Reply). r.1) x.whole ∙ ap (λ (r : Reply). x.first.1 ++ r.1) after ∙ ap (λ (fs : List Hmesg). x.first.1 ++ fs) j.frames
 
     alike : AreAlike k.ahead j.reply.0
-    alike = record { files = ap (λ (a : PlainHost). a.files) ahead ∙ j.alike.files; done = ap (λ (a : PlainHost). a.is_done) ahead ∙ j.alike.done; version = ap (λ (a : PlainHost). a.version) ahead ∙ j.alike.version }
+    alike = record {
+      files = ap (λ (a : PlainHost). a.files) ahead ∙ j.alike.files;
+      done = ap (λ (a : PlainHost). a.is_done) ahead ∙ j.alike.done;
+      version = ap
+          (λ (a : PlainHost). a.version) ahead ∙ j.alike.version;
+    }
 
     Good : PlainFiles → Type 0
     Good fs = IsSteady (record j.reply.0 { files = fs })

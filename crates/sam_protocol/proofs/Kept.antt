@@ -2,8 +2,9 @@
 use Rattle.std.proofs.Common.{◌≡◌, ℕ, ◌+◌, ◌≤◌, min, Bool, true, false, ◌||◌, List, [], ◌∷◌, ◌++◌, length, take, drop, Option, Some, None, ◌⊎◌, inl, inr, refl, sym, ap, ◌∙◌, subst, true≢false, arith, append-nil, length-take, length-drop, nat_le, if◌then◌else◌, le-leb}
 use Rattle.std.proofs.lemmas.List.{drop_min, take_min}
 use Rattle.sam_runes.specs.Texts.{most_in_message}
+use Rattle.sam_rasp.specs.Rasp.{load_cells}
 use Rattle.sam_protocol.proofs.Texts.{agrees_length, agrees_filled}
-use Rattle.sam_protocol.specs.Lens.{Slot, Unknown, Known, Open, Lens, lens, Action, Free_file, move, run, and_then, is_freeing, frees, IsGuarded, is_close, closes, HFile, Absent, Hidden, Named, Opened, Gone, Agrees, Fits_slot, IsSettled, IsKept, filled}
+use Rattle.sam_protocol.specs.Lens.{Slot, Unknown, Known, Open, Lens, lens, Action, Free_file, move, run, and_then, is_freeing, frees, IsGuarded, is_close, closes, HFile, Absent, Hidden, Named, Opened, Gone, Agrees, Fits_slot, IsSettled, IsKept}
 use Rattle.sam_protocol.proofs.Lenses.{IsFree, IsOpen, IsAlike, locked_more, exited_of, exits, AreSkips, CanRequest, request_actions}
 use Rattle.sam_protocol.proofs.Runs.{run-append_some, stepped, still, runs_more, exited_after}
 
@@ -140,8 +141,8 @@ kept_data false n r t p m e a =
     let long : q + length x ≤ length r = omega (arith, agrees_length r t a, length-take (min m most_in_message) (drop p t), length-drop p t) in
     let same : x ≡ take (length x) (drop q t) = sym (take_min (min m most_in_message) (drop p t)) ∙ (λ i. take (sym (length-take (min m most_in_message) (drop p t)) i) (sym (drop_min p t) i)) in
     record {
-      final = lens false false n (Open (filled q x r) 0);
-      runs = if_passes (nat_le (q + length x) (length r)) (lens false false n (Open (filled q x r) 1)) (run (Free_file ∷ [])) _ (le-leb _ _ long) refl;
+      final = lens false false n (Open (load_cells r q x) 0);
+      runs = if_passes (nat_le (q + length x) (length r)) (lens false false n (Open (load_cells r q x) 1)) (run (Free_file ∷ [])) _ (le-leb _ _ long) refl;
       settled = (refl, refl, refl, (refl, agrees_filled q x r t a same));
       guarded = (λ c. refl, (λ c. absurd (true≢false (sym c)), tt));
       closed = λ c. absurd (true≢false (sym c));
@@ -177,8 +178,11 @@ kept_request s v d n file p m k o e = go (runs_more s v k.final o k.runs)
 
     ended : run s (locked_more v) ≡ Some k.final → (d ≡ true) ⊎ (file ≡ Gone) → CanRequest d file × IsKept (s ++ request_actions d file p m) (locked_more v) d n file
     ended r h =
-        let q = no_actions d file p m h in
-        (q.0, subst (λ (u : List Action). IsKept (s ++ u) (locked_more v) d n file) (sym q.1) (kept_more s (locked_more v) d n file (record { final = k.final; runs = r; settled = k.settled; guarded = k.guarded; closed = k.closed })))
+        let q = no_actions d file p m h in (
+          q.0,
+          subst (λ (u : List Action). IsKept (s ++ u) (locked_more v) d n file) (sym q.1)
+              (kept_more s (locked_more v) d n file (record { final = k.final; runs = r; settled = k.settled; guarded = k.guarded; closed = k.closed })),
+        )
 
     running : (t : List ℕ) → file ≡ Opened t → (closes s ≡ true → file ≡ Gone) → (x : Lens) → run s (locked_more v) ≡ Some x → IsKept (request_actions d (Opened t) p m) x d n (Opened t)
         → CanRequest d file × IsKept (s ++ request_actions d file p m) (locked_more v) d n file

@@ -1,10 +1,11 @@
 -- The two messages that run a command line, and what a line does: from settled to settled.
-use Rattle.std.proofs.Common.{◌≡◌, ℕ, ◌+◌, ◌-◌, ◌≤◌, Bool, true, false, not, ◌||◌, ◌&&◌, ◌==◌, if◌then◌else◌, List, [], ◌∷◌, ◌++◌, length, reverse, Option, Some, None, Result, Ok, Err, unwrap_or, ◌⊎◌, inl, inr, refl, sym, ap, ◌∙◌, subst, true≢false, eqb-true, eq-eqb}
+use Rattle.std.proofs.Common.{◌≡◌, ℕ, ◌+◌, ◌-◌, ◌≤◌, Bool, true, false, not, ◌||◌, ◌&&◌, ◌==◌, if◌then◌else◌, List, [], ◌∷◌, ◌++◌, length, map, reverse, Option, Some, None, Result, Ok, Err, unwrap_or, ◌⊎◌, inl, inr, refl, sym, ap, ◌∙◌, subst, true≢false, eqb-true, eq-eqb}
 use Rattle.std.specs.Prelude.{option_map, option_and_then, flat_map}
 use Rattle.sam_runes.specs.Texts.{Range, ins, is_empty, max_runes, part, line_start, ends_line, as_lines, last_line}
 use Rattle.sam_runes.specs.Slots.{slot, put_slot}
 use Rattle.sam_runes.proofs.EditLaws.{last_first_is_at_once, edits_fit}
 use Rattle.sam_runes.proofs.SlotLaws.{slot-put_same, slot-put_other}
+use Rattle.sam_rasp.specs.Rasp.{ins_cells}
 use Rattle.sam_text.specs.declared.word.Word.{Word}
 use Rattle.sam_text.specs.declared.command.Command.{Command}
 use Rattle.sam_text.specs.declared.command.Command.TheVariants as command
@@ -19,7 +20,7 @@ use Rattle.sam_mesg.specs.declared.hmesg.Hmesg.{Hmesg}
 use Rattle.sam_mesg.specs.declared.hmesg.Hmesg.TheVariants.{Hmovname, Hdirty, Hsetpat, Hsetdot, Hcheck, Hexit, Hunlock}
 use Rattle.sam_term.specs.declared.lock.Lock.TheVariants.{CommandLock, NoLock}
 use Rattle.sam_host.specs.Host.{PlainHost, Reply, with_file, with_files, when, when_given, printed, told_edit, told_outcome, no_range, reply_line, reply_type, reply_send}
-use Rattle.sam_protocol.specs.Lens.{Slot, Open, Lens, lens, Action, Free_command, HFile, Opened, Fits_slot, IsSettled, IsKept, typed}
+use Rattle.sam_protocol.specs.Lens.{Slot, Open, Lens, lens, Action, Free_command, HFile, Opened, Fits_slot, IsSettled, IsKept}
 use Rattle.sam_protocol.proofs.Lenses.{AreSkips}
 use Rattle.sam_protocol.specs.Frames.{at_file}
 use Rattle.sam_protocol.proofs.Changes.{type_change, typed_in, commanded, changed}
@@ -229,7 +230,8 @@ unfolding reply_type
 sync_line h p s steady done o holds l room ends = record {
   passes = type_passes h 0 p s o l room;
   each = λ g w x. subst
-      (λ (b : Bool). IsKept (at_file g (if b then run else (typed_host, [])).1) (changed (type_change (if b then CommandLock else NoLock) 0 p s) g w) (if b then run else (typed_host, [])).0.is_done (if b then run else (typed_host, [])).0.version (file_in (if b then run else (typed_host, [])).0.files.slots g)) (sym ends) (each g w x);
+      (λ (b : Bool). IsKept (at_file g (if b then run else (typed_host, [])).1) (changed (type_change (if b then CommandLock else NoLock) 0 p s) g w)
+      (if b then run else (typed_host, [])).0.is_done (if b then run else (typed_host, [])).0.version (file_in (if b then run else (typed_host, [])).0.files.slots g)) (sym ends) (each g w x);
   gone = λ g e. ap (λ (b : Bool). file_in (if b then run else (typed_host, [])).0.files.slots g) ends ∙ line.gone g (lasts.gone g e);
   sound = subst (λ (b : Bool). HasFiles (if b then run else (typed_host, [])).0.files) (sym ends) (line_sound typed_host [] text has fit holds2);
 }
@@ -274,13 +276,17 @@ sync_line h p s steady done o holds l room ends = record {
         → (x : Slot) × (commanded (if g == 0 then typed_in p s w else w) ≡ lens true h.is_done h.version x) × Fits_slot x (a g)
     slot_of g w x (inl e) =
         let u = settled_opened w h.is_done h.version t (subst (IsSettled w h.is_done h.version) (ap (file_in h.files.slots) (eqb-true _ _ e) ∙ o.shown) x) in (
-          Open (typed p s u.0) 0,
+          Open (ins_cells u.0 p (map Some s)) 0,
           ap (λ (b : Bool). commanded (if b then typed_in p s w else w)) e ∙ ap (λ (y : Lens). commanded (typed_in p s y)) u.1,
-          subst (Fits_slot (Open (typed p s u.0) 0)) (sym (files g ∙ ap (λ (b : Bool). if b then Opened (ins t p s) else file_in h.files.slots g) e)) (refl, agrees_typed p s u.0 t u.2),
+          subst (Fits_slot (Open (ins_cells u.0 p (map Some s)) 0)) (sym (files g ∙ ap (λ (b : Bool). if b then Opened (ins t p s) else file_in h.files.slots g) e)) (refl, agrees_typed p s u.0 t u.2),
         )
     slot_of g w x (inr e) =
-        let u = settled_slot w h.is_done h.version (file_in h.files.slots g) x in
-        (u.0, ap (λ (b : Bool). commanded (if b then typed_in p s w else w)) e ∙ ap commanded u.1, subst (Fits_slot u.0) (sym (files g ∙ put_other (file_in h.files.slots) 0 (Opened (ins t p s)) g e)) u.2)
+        let u = settled_slot w h.is_done h.version (file_in h.files.slots g) x in (
+          u.0,
+          ap (λ (b : Bool). commanded (if b then typed_in p s w else w)) e ∙ ap commanded u.1,
+          subst (Fits_slot u.0)
+              (sym (files g ∙ put_other (file_in h.files.slots) 0 (Opened (ins t p s)) g e)) u.2,
+        )
 
     each : (g : ℕ) (w : Lens) → IsSettled w h.is_done h.version (file_in h.files.slots g)
         → IsKept (at_file g run.1) (commanded (if g == 0 then typed_in p s w else w)) run.0.is_done run.0.version (file_in run.0.files.slots g)

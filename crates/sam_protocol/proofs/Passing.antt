@@ -138,4 +138,15 @@ all_free t c e g = free_at t g c (none_locked t.files g e)
 -- the tests of an event look at no event that is held
 pub held_passed : (t : PlainTerminal) (es : List UserEvent) (e : UserEvent) → Passed t e → Passed (record t { held = es }) e
 held_passed t es _ p =
-    record { here = p.here; free = p.free; version = p.version; known = p.known; other = p.other; opened = p.opened; unlocked = p.unlocked; all_unlocked = p.all_unlocked; place = p.place; room = p.room }
+    record {
+      here = p.here;
+      free = p.free;
+      version = p.version;
+      known = p.known;
+      other = p.other;
+      opened = p.opened;
+      unlocked = p.unlocked;
+      all_unlocked = p.all_unlocked;
+      place = p.place;
+      room = p.room;
+    }

@@ -99,7 +99,16 @@ length-load : (r : PartialText) (p : ℕ) (s : List ℕ) → p + length s ≤ le
 length-load r p s l =
     let lp : p ≤ length r = omega arith in
     let n : length (map (λ (c : ℕ). Some c) s) ≡ length s = length-map s (λ (c : ℕ). Some c) in
-    omega (arith, n, l, length-append (take p r ++ map (λ (c : ℕ). Some c) s) (drop (p + length s) r), length-append (take p r) (map (λ (c : ℕ). Some c) s), length-take-le p r lp, length-drop (p + length s) r)
+    omega (
+      arith,
+      n,
+      l,
+      length-append (take p r ++ map (λ (c : ℕ). Some c) s) (drop (p + length s) r),
+      length-append (take p r) (map (λ (c : ℕ). Some c) s),
+      length-take-le p r lp,
+      length-drop
+          (p + length s) r,
+    )
 
 tidy-free : (t : PlainTerminal) (f : ℕ) → AreTidy t → AreTidy (record t { files = free_slot t.files f })
 tidy-free t f all g = go (eqb_tells f g)

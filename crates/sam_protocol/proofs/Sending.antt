@@ -1,7 +1,7 @@
 -- Messages that the terminal composes keep both sides in order.
-use Rattle.std.proofs.Common.{◌≡◌, ℕ, zero, suc, ◌+◌, ◌-◌, ◌≤◌, Bool, true, false, ◌==◌, if◌then◌else◌, List, [], ◌∷◌, ◌++◌, take, drop, Option, None, refl, sym, ap, ◌∙◌, subst, true≢false, append-nil, append_assoc, arith}
+use Rattle.std.proofs.Common.{◌≡◌, ℕ, zero, suc, Bool, true, false, ◌==◌, if◌then◌else◌, List, [], ◌∷◌, ◌++◌, Option, None, refl, sym, ap, ◌∙◌, subst, true≢false, append-nil, append_assoc}
 use mathlib.Core.Path.{fun_ext}
-use Rattle.sam_rasp.specs.Rasp.{PartialText, place_after_del}
+use Rattle.sam_rasp.specs.Rasp.{del_cells, place_after_del}
 use Rattle.sam_mesg.specs.declared.tmesg.Tmesg.{Tmesg}
 use Rattle.sam_mesg.specs.declared.tmesg.Tmesg.TheVariants.{Trequest, Torigin, Ttype, Tcut, Tpaste, Twrite, Tlook, Tsearch, Tdclick}
 use Rattle.sam_mesg.specs.declared.hmesg.Hmesg.{Hmesg}
@@ -121,13 +121,9 @@ sends_goes h t up down m o plain may =
 pub has_open : (P : List (Option ℕ) → Type 0) (t : PlainTerminal) (f : ℕ) → OpenAt P (view f t) → P (window_at t f).rasp
 has_open P t f o = (subst (OpenAt P) (view-open t f (open_is P (view f t) o)) o).2
 
-pub cut_view : (t : PlainTerminal) (f p q : ℕ) → IsOpen (view f t) → p ≤ q → (g : ℕ)
+pub cut_view : (t : PlainTerminal) (f p q : ℕ) → IsOpen (view f t) → (g : ℕ)
     → view g (put_window t f (window_after_del (window_at t f) p q)) ≡ (if g == f then cut_out p q (view g t) else view g t)
-cut_view t f p q o l g =
-    let end : q ≡ p + (q - p) = omega (arith, l) in
-    let r : PartialText = (window_at t f).rasp in
-    view-made t f (window_after_del (window_at t f) p q) (cut_out p q) o
-    (ap (λ (k : ℕ). lens t.command_lock t.has_exited t.version (Open (take p r ++ drop k r) (window_at t f).locks)) end) g
+cut_view t f p q o g = view-made t f (window_after_del (window_at t f) p q) (cut_out p q) o refl g
 
 pub cut_one : (h : PlainHost) (t : PlainTerminal) (up : List Tmesg) (down : List Hmesg) (f p q : ℕ) → InOrder h t up down → t.unsent ≡ None → MaySend (views t) (Tcut f p q)
     → InOrder h (composed (del_rasp t f p q) (Tcut f p q)) (up ++ Tcut f p q ∷ []) down
@@ -135,7 +131,7 @@ cut_one h t up down f p q o e may =
     let within = has_open (Within p q) t f may.can in
     carried h t (composed (del_rasp t f p q) (Tcut f p q)) up down (Tcut f p q) o e (ap (moved_unsent f (place_after_del p q)) e)
     (composes h (views t) (up ++ unsent_message t.unsent) down (Tcut f p q) o.kept may.here may.free may.allowed may.can)
-    (λ g. sym (cut_view t f p q (open_is (Within p q) (view f t) may.can) within.0 g))
+    (λ g. sym (cut_view t f p q (open_is (Within p q) (view f t) may.can) g))
     (tidy-window t f (window_after_del (window_at t f) p q) o.tidy (tidy-del (window_at t f) p q (o.tidy f) within.0 within.1))
 
 pub exited_cut : (b : Bool) (p q : ℕ) (v : Lens) → exited_of (if b then cut_out p q v else v) ≡ exited_of v
@@ -158,7 +154,7 @@ free_cut true p q (lens false e n (Open r zero)) f = f
 free_cut true p q (lens false e n (Open r (suc k))) f = f
 free_cut false p q v f = f
 
-pub open_cut : (P Q : List (Option ℕ) → Type 0) (p q : ℕ) (v : Lens) → OpenAt P v → ((r : List (Option ℕ)) → P r → Q (take p r ++ drop (p + (q - p)) r)) → OpenAt Q (cut_out p q v)
+pub open_cut : (P Q : List (Option ℕ) → Type 0) (p q : ℕ) (v : Lens) → OpenAt P v → ((r : List (Option ℕ)) → P r → Q (del_cells r p q)) → OpenAt Q (cut_out p q v)
 open_cut P Q p q (lens c e n Unknown) o h = o
 open_cut P Q p q (lens c e n Known) o h = o
 open_cut P Q p q (lens c e n (Open r k)) o h = (o.0, o.1, h r o.2)

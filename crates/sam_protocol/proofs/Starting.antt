@@ -67,7 +67,13 @@ starts given fit = record { kept = kept; tidy = λ f. (omega arith, omega arith,
       ahead = h;
       frames = [];
       folds = refl;
-      each = λ g. record { final = view g new_terminal; runs = refl; settled = (refl, refl, refl, shut_fits (nat_lt g (length ss)) (slot ss g) (all_shut given g)); guarded = tt; closed = λ e. absurd (true≢false (sym e)) };
+      each = λ g. record {
+        final = view g new_terminal;
+        runs = refl;
+        settled = (refl, refl, refl, shut_fits (nat_lt g (length ss)) (slot ss g) (all_shut given g));
+        guarded = tt;
+        closed = λ e. absurd (true≢false (sym e));
+      };
       steady = steady;
       versions = tt;
     }

@@ -1,7 +1,8 @@
 -- A partial text that agrees with a text still does when both are changed alike.
 use Rattle.std.proofs.Common.{◌≡◌, ℕ, zero, suc, ◌+◌, List, [], ◌∷◌, ◌++◌, length, take, drop, map, replicate, Option, Some, None, refl, sym, ap, ◌∙◌, subst, take-append-drop, append_assoc}
 use Rattle.std.proofs.lemmas.List.{drop-drop}
-use Rattle.sam_protocol.specs.Lens.{Agrees, grown, filled, typed, without}
+use Rattle.sam_rasp.specs.Rasp.{ins_cells, del_cells, load_cells}
+use Rattle.sam_protocol.specs.Lens.{Agrees}
 use Rattle.sam_runes.specs.Texts.{ins, del}
 
 pub agrees_length : (r : List (Option ℕ)) (t : List ℕ) → Agrees r t → length r ≡ length t
@@ -42,26 +43,26 @@ pub agrees_loaded : (s : List ℕ) → Agrees (map Some s) s
 agrees_loaded [] = tt
 agrees_loaded (x ∷ s) = (refl, agrees_loaded s)
 
-pub agrees_grown : (p : ℕ) (s : List ℕ) (r : List (Option ℕ)) (t : List ℕ) → Agrees r t → Agrees (grown p (length s) r) (ins t p s)
+pub agrees_grown : (p : ℕ) (s : List ℕ) (r : List (Option ℕ)) (t : List ℕ) → Agrees r t → Agrees (ins_cells r p (replicate (length s) None)) (ins t p s)
 agrees_grown p s r t a =
     agrees_append (take p r ++ replicate (length s) None) (take p t ++ s) (drop p r) (drop p t)
     (agrees_append (take p r) (take p t) (replicate (length s) None) s (agrees_take p r t a) (agrees_gaps s)) (agrees_drop p r t a)
 
-pub agrees_typed : (p : ℕ) (s : List ℕ) (r : List (Option ℕ)) (t : List ℕ) → Agrees r t → Agrees (typed p s r) (ins t p s)
+pub agrees_typed : (p : ℕ) (s : List ℕ) (r : List (Option ℕ)) (t : List ℕ) → Agrees r t → Agrees (ins_cells r p (map Some s)) (ins t p s)
 agrees_typed p s r t a =
     agrees_append (take p r ++ map Some s) (take p t ++ s) (drop p r) (drop p t) (agrees_append (take p r) (take p t) (map Some s) s (agrees_take p r t a) (agrees_loaded s)) (agrees_drop p r t a)
 
-pub agrees_without : (p n : ℕ) (r : List (Option ℕ)) (t : List ℕ) → Agrees r t → Agrees (without p n r) (del t p (p + n))
-agrees_without p n r t a = agrees_append (take p r) (take p t) (drop (p + n) r) (drop (p + n) t) (agrees_take p r t a) (agrees_drop (p + n) r t a)
+pub agrees_cut : (p q : ℕ) (r : List (Option ℕ)) (t : List ℕ) → Agrees r t → Agrees (del_cells r p q) (del t p q)
+agrees_cut p q r t a = agrees_append (take p r) (take p t) (drop q r) (drop q t) (agrees_take p r t a) (agrees_drop q r t a)
 
 -- the host's own runes, put where they stand
-pub agrees_filled : (p : ℕ) (s : List ℕ) (r : List (Option ℕ)) (t : List ℕ) → Agrees r t → s ≡ take (length s) (drop p t) → Agrees (filled p s r) t
+pub agrees_filled : (p : ℕ) (s : List ℕ) (r : List (Option ℕ)) (t : List ℕ) → Agrees r t → s ≡ take (length s) (drop p t) → Agrees (load_cells r p s) t
 agrees_filled p s r t a e =
-    let parts : Agrees (filled p s r) (take p t ++ s ++ drop (p + length s) t) =
+    let parts : Agrees (load_cells r p s) (take p t ++ s ++ drop (p + length s) t) =
     agrees_append (take p r ++ map Some s) (take p t ++ s) (drop (p + length s) r) (drop (p + length s) t)
     (agrees_append (take p r) (take p t) (map Some s) s (agrees_take p r t a) (agrees_loaded s)) (agrees_drop (p + length s) r t a) in
     let whole : take p t ++ s ++ drop (p + length s) t ≡ t = append_assoc (take p t) s (drop (p + length s) t) ∙ ap (λ (x : List ℕ). take p t ++ x) (rest e) ∙ take-append-drop p t in
-    subst (Agrees (filled p s r)) whole parts
+    subst (Agrees (load_cells r p s)) whole parts
   where
     rest : s ≡ take (length s) (drop p t) → s ++ drop (p + length s) t ≡ drop p t
     rest e = ap (λ (x : List ℕ). x ++ drop (p + length s) t) e ∙ ap (λ (x : List ℕ). take (length s) (drop p t) ++ x) (sym (drop-drop (length s) p t)) ∙ take-append-drop (length s) (drop p t)

@@ -185,7 +185,16 @@ types_goes h u up down f p c s o may = go u.unsent refl (joins u.unsent f p w) r
         ap (λ (l : List Tmesg). (up ++ l) ++ Ttype f p w ∷ []) (sym (append-nil (unsent_message u.unsent))) in
         then_goes h up down alone next
         (typed_goes h down u f p w line x (joined None f p w) (up ++ first) refl
-        (record { file = refl; place = omega arith; ends = refl; waits = refl; same = λ g. view-flushed u o.unsent g; tidy = tidy-flushed u o.tidy; fold = subst (λ (l : List Tmesg). Kept h (λ g. changed (change_by (Ttype f p w)) g (view g u)) l down) path k }) may.can)
+        (record {
+          file = refl;
+          place = omega arith;
+          ends = refl;
+          waits = refl;
+          same = λ g. view-flushed u o.unsent g;
+          tidy = tidy-flushed u o.tidy;
+          fold = subst
+              (λ (l : List Tmesg). Kept h (λ g. changed (change_by (Ttype f p w)) g (view g u)) l down) path k;
+        }) may.can)
 
     both_go : (y : Unsent) → u.unsent ≡ Some y → joins (Some y) f p w ≡ true → Goes h up down (and_then (record u { unsent = Some (joined (Some y) f p w) }, []) next)
     both_go y e j =
@@ -203,7 +212,16 @@ types_goes h u up down f p c s o may = go u.unsent refl (joins u.unsent f p w) r
         let x : PlainTerminal = record u { unsent = Some (joined (Some y) f p w) } in
         then_goes h up down (x, []) next
         (typed_goes h down u f p w line x (joined (Some y) f p w) (up ++ []) refl
-        (record { file = file; place = omega (arith, place); ends = ends; waits = refl; same = λ g. refl; tidy = o.tidy; fold = subst (λ (l : List Tmesg). Kept h (λ g. changed (change_by (Ttype f p w)) g (view g u)) (l ++ Ttype y.file y.place (y.runes ++ w) ∷ []) down) (sym (append-nil up)) one }) may.can)
+        (record {
+          file = file;
+          place = omega (arith, place);
+          ends = ends;
+          waits = refl;
+          same = λ g. refl;
+          tidy = o.tidy;
+          fold = subst
+              (λ (l : List Tmesg). Kept h (λ g. changed (change_by (Ttype f p w)) g (view g u)) (l ++ Ttype y.file y.place (y.runes ++ w) ∷ []) down) (sym (append-nil up)) one;
+        }) may.can)
 
     go : (y : Option Unsent) → u.unsent ≡ y → (b : Bool) → joins y f p w ≡ b → Goes h up down (and_then (if b then (record u { unsent = Some (joined y f p w) }, []) else alone) next)
     go y e false j = alone_goes

@@ -92,7 +92,8 @@ unfolding told_edit
 plain_edits fs f [] = tt
 plain_edits fs f (e ∷ es) =
     plain-append (told_edit fs f e) (flat_map (told_edit fs f) es)
-    (plain-append (when (nat_lt e.p e.q) (Hcut f e.p (e.q - e.p) ∷ [])) (grown fs f e.p e.text) (plain_when (nat_lt e.p e.q) (Hcut f e.p (e.q - e.p) ∷ []) (refl, tt)) (plain_grown fs f e.p e.text)) (plain_edits fs f es)
+    (plain-append (when (nat_lt e.p e.q) (Hcut f e.p (e.q - e.p) ∷ [])) (grown fs f e.p e.text) (plain_when (nat_lt e.p e.q) (Hcut f e.p (e.q - e.p) ∷ []) (refl, tt))
+    (plain_grown fs f e.p e.text)) (plain_edits fs f es)
 
 plain_outcome : (w : Option ℕ) (fs : PlainFiles) (o : PlainOutcome) → IsPlain (told_outcome w fs o)
 unfolding told_outcome
@@ -102,7 +103,8 @@ plain_outcome (Some f) fs o =
     (plain-append _ (when_given o.dot (λ d. Hsetdot f d.0 d.1))
     (plain-append _ (when_given o.pattern Hsetpat)
     (plain-append _ (when_given o.name (Hmovname f))
-    (plain-append (flat_map (told_edit fs f) (reverse o.edits)) (when (not (is_empty o.edits) && not (file_at fs f).dirty) (Hdirty f ∷ [])) (plain_edits fs f (reverse o.edits)) (plain_when _ (Hdirty f ∷ []) (refl, tt)))
+    (plain-append (flat_map (told_edit fs f) (reverse o.edits)) (when (not (is_empty o.edits) && not (file_at fs f).dirty) (Hdirty f ∷ [])) (plain_edits fs f (reverse o.edits))
+    (plain_when _ (Hdirty f ∷ []) (refl, tt)))
     (plain_given o.name (Hmovname f) (λ s. refl)))
     (plain_given o.pattern Hsetpat (λ s. refl)))
     (plain_given o.dot (λ d. Hsetdot f d.0 d.1) (λ d. refl)))
@@ -133,8 +135,11 @@ plain_line h before line p =
 pub guarded_reply : (h : PlainHost) (m : Tmesg) → VersionsGuarded (reply_to h m).1
 unfolding reply_version reply_startcmdfile reply_check reply_request reply_origin reply_startfile reply_workfile reply_cut reply_paste reply_snarf reply_startnewfile reply_write reply_close reply_look reply_search reply_dclick reply_startsnarf reply_setsnarf reply_exit reply_type reply_send
 guarded_reply h (Tversion v) =
-    let names = told_names 1 (drop 1 h.files.slots) in
-    ((λ e. unlocks_behind names (Hack ∷ Hunlock ∷ []) refl), plain_guarded (names ++ Hack ∷ Hunlock ∷ []) (plain-append names (Hack ∷ Hunlock ∷ []) (plain_names 1 (drop 1 h.files.slots)) (refl, (refl, tt))))
+    let names = told_names 1 (drop 1 h.files.slots) in (
+      (λ e. unlocks_behind names (Hack ∷ Hunlock ∷ []) refl),
+      plain_guarded (names ++ Hack ∷ Hunlock ∷ [])
+          (plain-append names (Hack ∷ Hunlock ∷ []) (plain_names 1 (drop 1 h.files.slots)) (refl, (refl, tt))),
+    )
 guarded_reply h Tstartcmdfile =
     let file = file_at h.files 0 in
     plain_guarded _ (plain_if file.opened (h, Hunlock ∷ []) (with_file h 0 (record file { opened = true }), Hnewname 0 ∷ Hmovname 0 _ ∷ Hbindname 0 ∷ told_length 0 file ++ Hunlock ∷ []) (refl, tt)
@@ -144,7 +149,8 @@ guarded_reply h (Trequest f p n) = plain_guarded _ (plain_when (has_file h.files
 guarded_reply h (Torigin f p n) = (no_v, (no_v, tt))
 guarded_reply h (Tstartfile f) =
     let file = file_at h.files f in
-    plain_guarded _ (plain-append (when (not file.opened) (Hbindname f ∷ told_length f file)) (Hunlock ∷ []) (plain_when (not file.opened) (Hbindname f ∷ told_length f file) (refl, plain_length f file)) (refl, tt))
+    plain_guarded _ (plain-append (when (not file.opened) (Hbindname f ∷ told_length f file)) (Hunlock ∷ [])
+    (plain_when (not file.opened) (Hbindname f ∷ told_length f file) (refl, plain_length f file)) (refl, tt))
 guarded_reply h (Tworkfile f p q) = (no_v, tt)
 guarded_reply h (Ttype f p s) =
     let typed = with_file h f (typed_file f (file_at h.files f) p s) in
@@ -158,23 +164,27 @@ guarded_reply h (Tpaste f p) =
     let dirty = when (not file.dirty && not (f == 0)) (Hdirty f ∷ []) in
     let rest = Hsetdot f p (p + length s) ∷ Hcheck f ∷ Hunlockfile f ∷ [] in
     plain_guarded _ (plain_if (is_empty s || nat_lt max_runes (length file.text + length s)) (h, Hunlockfile f ∷ []) (_, (grown h.files f p s ++ dirty) ++ rest) (refl, tt)
-    (plain-append (grown h.files f p s ++ dirty) rest (plain-append (grown h.files f p s) dirty (plain_grown h.files f p s) (plain_when (not file.dirty && not (f == 0)) (Hdirty f ∷ []) (refl, tt))) (refl, (refl, (refl, tt)))))
+    (plain-append (grown h.files f p s ++ dirty) rest (plain-append (grown h.files f p s) dirty (plain_grown h.files f p s)
+    (plain_when (not file.dirty && not (f == 0)) (Hdirty f ∷ []) (refl, tt))) (refl, (refl, (refl, tt)))))
 guarded_reply h (Tsnarf f p q) = (no_v, tt)
 guarded_reply h Tstartnewfile =
     let f = length h.files.slots in
-    plain_guarded _ (plain_if (nat_le all_tags f) (with_files h (after_print h.files no_tag_left), printed h.files no_tag_left ++ Hunlock ∷ []) (_, Hnewname f ∷ Hbindname f ∷ Hcurrent f ∷ Hunlock ∷ [])
+    plain_guarded _ (plain_if (nat_le all_tags f) (with_files h (after_print h.files no_tag_left), printed h.files no_tag_left ++ Hunlock ∷ [])
+    (_, Hnewname f ∷ Hbindname f ∷ Hcurrent f ∷ Hunlock ∷ [])
     (plain-append (printed h.files no_tag_left) (Hunlock ∷ []) (plain_printed h.files no_tag_left) (refl, tt)) (refl, (refl, (refl, (refl, tt)))))
 guarded_reply h (Twrite f) = (no_v, (no_v, tt))
 guarded_reply h (Tclose f) = (no_v, (no_v, (no_v, tt)))
 guarded_reply h (Tlook f p q) =
     let t = (file_at h.files f).text in
     let lit = part t p q in
-    plain_guarded _ (plain_if (is_empty lit || nat_lt most_in_pattern (length lit)) (h, Hunlockfile f ∷ []) _ (refl, tt) (plain_found (with_files h (record h.files { pattern = Some lit })) f (searched t lit q) (Hsetpat lit ∷ []) (refl, tt)))
+    plain_guarded _ (plain_if (is_empty lit || nat_lt most_in_pattern (length lit)) (h, Hunlockfile f ∷ []) _ (refl, tt)
+    (plain_found (with_files h (record h.files { pattern = Some lit })) f (searched t lit q) (Hsetpat lit ∷ []) (refl, tt)))
 guarded_reply h (Tsearch f p q) = plain_guarded _ (plain_found h f (searched_for h.files.pattern (file_at h.files f).text q) [] tt)
 guarded_reply h (Tsend f p q) =
     let s = as_lines (part (file_at h.files f).text p q) in
     let k = with_files h (after_print h.files s) in
-    plain_guarded _ (plain_if ((p == q) || not (has_room h.files s)) (h, Hunlock ∷ []) (reply_line k (printed h.files s) (last_line s)) (refl, tt) (plain_line k (printed h.files s) (last_line s) (plain_printed h.files s)))
+    plain_guarded _ (plain_if ((p == q) || not (has_room h.files s)) (h, Hunlock ∷ []) (reply_line k (printed h.files s) (last_line s)) (refl, tt)
+    (plain_line k (printed h.files s) (last_line s) (plain_printed h.files s)))
 guarded_reply h (Tdclick f p) = (no_v, (no_v, tt))
 guarded_reply h Tstartsnarf = (no_v, tt)
 guarded_reply h (Tsetsnarf s) = (no_v, tt)
