@@ -4,6 +4,8 @@
 #[cfg(test)]
 mod frame;
 #[cfg(test)]
+mod lending;
+#[cfg(test)]
 mod mesg;
 #[cfg(test)]
 mod rasp;

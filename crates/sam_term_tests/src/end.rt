@@ -1,9 +1,9 @@
 //! A terminal behind two streams of bytes: each public call on its way to the right end. The bytes are those of docs/PROTOCOL.md.
-use crate::terminal::runes;
+use crate::trying::{lent, runes};
 use sam_ends::TermEnd;
 use sam_term::event::UserEvent;
 use sam_term::fault::Refusal;
-use std::test::Fail;
+use std::alloc::Global;
 
 /// The event is taken, and nothing fails.
 fn puts(end: &mut TermEnd, event: UserEvent) -> bool {
@@ -30,53 +30,69 @@ fn refuses(end: &mut TermEnd, number: u64, why: Refusal) -> bool {
     end.next_refusal() == Some((number, why))
 }
 
-#[test]
-fn version_goes_out(rt: HostRuntime) -> Result<(), Fail> {
-    let mut end = TermEnd::new(rt.alloc());
-    assert!(rt; puts(&mut end, UserEvent::Version(2)));
-    assert!(rt; gives(&mut end, &[1, 0, 2, 0, 2]));
-    Ok(())
+/// Puts a typed text.
+fn types(alloc: Global, end: &mut TermEnd, tag: u16, text: &str) -> bool {
+    match runes(alloc, text) {
+        Ok(text) => puts(end, UserEvent::Typed(tag, text)),
+        Err(_) => false,
+    }
 }
 
 #[test]
-fn held_event_acts_behind_its_frame(rt: HostRuntime) -> Result<(), Fail> {
-    let mut end = TermEnd::new(rt.alloc());
-    assert!(rt; puts(&mut end, UserEvent::Version(2)) && puts(&mut end, UserEvent::OpenCmd));
-    assert!(rt; gives(&mut end, &[1, 0, 2, 0, 2]));
-    // Hunlock, in two pieces.
-    assert!(rt; feeds(&mut end, &[72, 0, 8, 0]) && gives(&mut end, &[]));
-    assert!(rt; feeds(&mut end, &[0, 0, 0, 0, 0, 0, 1]) && gives(&mut end, &[2, 0, 0]));
-    Ok(())
-}
-
-#[test]
-fn refusal_is_told_once(rt: HostRuntime) -> Result<(), Fail> {
-    let mut end = TermEnd::new(rt.alloc());
-    assert!(rt; puts(&mut end, UserEvent::Version(2)) && puts(&mut end, UserEvent::Cut(7)));
-    // Hunlock: the cut is tried, of a file that isn't known.
-    assert!(rt; feeds(&mut end, &[72, 0, 8, 0, 0, 0, 0, 0, 0, 0, 1]));
-    assert!(rt; refuses(&mut end, 2, Refusal::NoFile) && end.next_refusal().is_none());
-    Ok(())
-}
-
-#[test]
-fn typed_runes_go_out_at_a_flush(rt: HostRuntime) -> Result<(), Fail> {
-    let mut end = TermEnd::new(rt.alloc());
-    // Hnewname and Hbindname of file 1.
-    assert!(rt;
-        feeds(
-            &mut end,
-            &[
-                68, 0, 10, 0, 0, 0, 0, 0, 0, 0, 0, 0, 1, 66, 0, 10, 0, 0, 0, 0, 0, 0, 0, 0, 0, 1
-            ]
+fn version_goes_out(rt: HostRuntime) {
+    let told = lent(TermEnd::new(rt.alloc()), |end| {
+        (
+            puts(end, UserEvent::Version(2)),
+            gives(end, &[1, 0, 2, 0, 2]),
         )
-    );
-    assert!(rt;
-        puts(&mut end, UserEvent::Typed(1, runes(rt.alloc(), "a")?)) && gives(&mut end, &[])
-    );
-    assert!(rt; end.flush().is_ok());
-    assert!(rt; gives(&mut end, &[8, 0, 7, 0, 1, 0, 0, 0, 0, 97]));
-    Ok(())
+    });
+    assert_eq!(rt; told, (true, true));
+}
+
+#[test]
+fn held_event_acts_behind_its_frame(rt: HostRuntime) {
+    let told = lent(TermEnd::new(rt.alloc()), |end| {
+        (
+            puts(end, UserEvent::Version(2)) && puts(end, UserEvent::OpenCmd),
+            gives(end, &[1, 0, 2, 0, 2]),
+            // Hunlock, in two pieces.
+            feeds(end, &[72, 0, 8, 0]) && gives(end, &[]),
+            feeds(end, &[0, 0, 0, 0, 0, 0, 1]) && gives(end, &[2, 0, 0]),
+        )
+    });
+    assert_eq!(rt; told, (true, true, true, true));
+}
+
+#[test]
+fn refusal_is_told_once(rt: HostRuntime) {
+    let told = lent(TermEnd::new(rt.alloc()), |end| {
+        (
+            puts(end, UserEvent::Version(2)) && puts(end, UserEvent::Cut(7)),
+            // Hunlock: the cut is tried, of a file that isn't known.
+            feeds(end, &[72, 0, 8, 0, 0, 0, 0, 0, 0, 0, 1]),
+            refuses(end, 2, Refusal::NoFile),
+            end.next_refusal(),
+        )
+    });
+    assert_eq!(rt; told, (true, true, true, None));
+}
+
+#[test]
+fn typed_runes_go_out_at_a_flush(rt: HostRuntime) {
+    let alloc = rt.alloc();
+    // Hnewname and Hbindname of file 1.
+    let opening = [
+        68, 0, 10, 0, 0, 0, 0, 0, 0, 0, 0, 0, 1, 66, 0, 10, 0, 0, 0, 0, 0, 0, 0, 0, 0, 1,
+    ];
+    let told = lent(TermEnd::new(alloc), |end| {
+        (
+            feeds(end, &opening),
+            types(alloc, end, 1, "a") && gives(end, &[]),
+            end.flush().is_ok(),
+            gives(end, &[8, 0, 7, 0, 1, 0, 0, 0, 0, 97]),
+        )
+    });
+    assert_eq!(rt; told, (true, true, true, true));
 }
 
 /// So many messages are under way, and the host had taken so many when it made its last frame.
@@ -85,24 +101,34 @@ fn waits_for(end: &TermEnd, under_way: u64, seen: u64) -> bool {
 }
 
 #[test]
-fn messages_are_under_way_until_a_later_one_is_answered(rt: HostRuntime) -> Result<(), Fail> {
-    let mut end = TermEnd::new(rt.alloc());
-    assert!(rt; waits_for(&end, 0, 0));
-    assert!(rt; puts(&mut end, UserEvent::Version(2)) && waits_for(&end, 1, 0));
-    // Hack, which is answered by the second message, and Hunlock: both answer the first.
-    assert!(rt; feeds(&mut end, &[87, 0, 8, 0, 0, 0, 0, 0, 0, 0, 1]) && waits_for(&end, 1, 1));
-    assert!(rt; feeds(&mut end, &[72, 0, 8, 0, 0, 0, 0, 0, 0, 0, 1]) && waits_for(&end, 1, 1));
-    assert!(rt; puts(&mut end, UserEvent::OpenCmd) && waits_for(&end, 2, 1));
-    // Hunlock, which answers the third.
-    assert!(rt; feeds(&mut end, &[72, 0, 8, 0, 0, 0, 0, 0, 0, 0, 3]) && waits_for(&end, 0, 3));
-    Ok(())
+fn messages_are_under_way_until_a_later_one_is_answered(rt: HostRuntime) {
+    // Hack, which is answered by the second message, and Hunlock: both answer the first. Then Hunlock, which answers the third.
+    let acked = [87, 0, 8, 0, 0, 0, 0, 0, 0, 0, 1];
+    let unlocked = [72, 0, 8, 0, 0, 0, 0, 0, 0, 0, 1];
+    let unlocked_again = [72, 0, 8, 0, 0, 0, 0, 0, 0, 0, 3];
+    let told = lent(TermEnd::new(rt.alloc()), |end| {
+        (
+            waits_for(end, 0, 0),
+            puts(end, UserEvent::Version(2)) && waits_for(end, 1, 0),
+            feeds(end, &acked) && waits_for(end, 1, 1),
+            feeds(end, &unlocked) && waits_for(end, 1, 1),
+            puts(end, UserEvent::OpenCmd) && waits_for(end, 2, 1),
+            feeds(end, &unlocked_again) && waits_for(end, 0, 3),
+        )
+    });
+    assert_eq!(rt; told, (true, true, true, true, true, true));
 }
 
 #[test]
-fn refused_frame_leaves_the_stamp(rt: HostRuntime) -> Result<(), Fail> {
-    let mut end = TermEnd::new(rt.alloc());
-    assert!(rt; puts(&mut end, UserEvent::Version(2)));
+fn refused_frame_leaves_the_stamp(rt: HostRuntime) {
     // Hunlock of a host that has taken two messages, where one was composed.
-    assert!(rt; !feeds(&mut end, &[72, 0, 8, 0, 0, 0, 0, 0, 0, 0, 2]) && waits_for(&end, 1, 0));
-    Ok(())
+    let unlocked = [72, 0, 8, 0, 0, 0, 0, 0, 0, 0, 2];
+    let told = lent(TermEnd::new(rt.alloc()), |end| {
+        (
+            puts(end, UserEvent::Version(2)),
+            feeds(end, &unlocked),
+            waits_for(end, 1, 0),
+        )
+    });
+    assert_eq!(rt; told, (true, false, true));
 }

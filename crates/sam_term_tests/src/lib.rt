@@ -7,3 +7,5 @@ mod editing;
 mod end;
 #[cfg(test)]
 mod terminal;
+#[cfg(test)]
+mod trying;

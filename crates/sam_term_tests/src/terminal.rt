@@ -1,185 +1,218 @@
 //! A terminal: what it refuses, what locks it takes, and what the host does to its texts.
 
-use sam_mesg::{Batch, HFrame, Hmesg, Tmesg, fits_h};
+use crate::trying::{
+    composed, goes_on, is_held, lent, loaded, opens_five_gaps, rasp_len, refusal, refused, runes,
+    take, takes, takes_runes, typing_is_held, waits,
+};
+use sam_mesg::{Hmesg, Tmesg};
 use sam_runes::Runes;
-use sam_term::event::{Acted, UserEvent};
+use sam_term::event::UserEvent;
 use sam_term::fault::{Refusal, TermFault};
 use sam_term::term::Terminal;
-use std::alloc::Global;
 use std::test::Fail;
-
-pub(crate) fn runes(alloc: Global, text: &str) -> Result<Runes, Fail> {
-    Ok(Runes::from_vec(text.chars().collect(alloc)?))
-}
-
-/// Hands a message of the host in.
-fn take(terminal: &mut Terminal, seen: u64, msg: Hmesg) -> Result<Batch, TermFault> {
-    if !fits_h(2, &msg) {
-        return Err(TermFault::OutOfMemory);
-    }
-    terminal.receive(HFrame { seen, msg })
-}
-
-/// Whether the message is taken, and composes nothing.
-pub(crate) fn takes(terminal: &mut Terminal, msg: Hmesg) -> bool {
-    match take(terminal, 0, msg) {
-        Ok(messages) => messages.as_slice().is_empty(),
-        Err(_) => false,
-    }
-}
-
-/// Why a message is refused.
-fn refused(terminal: &mut Terminal, msg: Hmesg) -> Option<TermFault> {
-    take(terminal, 0, msg).err()
-}
-
-/// What becomes of an event that nothing is held before.
-pub(crate) fn acts(terminal: &mut Terminal, event: UserEvent) -> Result<Acted, TermFault> {
-    terminal.user(event)?;
-    terminal.act()
-}
-
-/// Why an event is refused.
-fn refusal(terminal: &mut Terminal, event: UserEvent) -> Option<Refusal> {
-    match acts(terminal, event) {
-        Ok(Acted::Refused(why)) => Some(why),
-        _ => None,
-    }
-}
-
-/// How many runes and gaps the file has.
-pub(crate) fn rasp_len(terminal: &Terminal, tag: u16) -> Option<u32> {
-    terminal.rasp(tag).map(|rasp| rasp.len())
-}
-
-/// A terminal with file 1 open, of five gaps.
-pub(crate) fn with_five_gaps(alloc: Global) -> Result<Terminal, Fail> {
-    let mut terminal = Terminal::new(alloc);
-    if takes(&mut terminal, Hmesg::Hnewname(1))
-        && takes(&mut terminal, Hmesg::Hbindname(1))
-        && takes(&mut terminal, Hmesg::Hgrow(1, 0, 5))
-    {
-        Ok(terminal)
-    } else {
-        Err("frames that are taken".into())
-    }
-}
 
 #[test]
 fn an_answer_to_what_was_not_sent(rt: HostRuntime) {
-    let mut terminal = Terminal::new(rt.alloc());
-    assert!(rt;
-        matches!(
-            acts(&mut terminal, UserEvent::Version(1)),
-            Ok(Acted::Done(_))
+    let told = lent(Terminal::new(rt.alloc()), |terminal| {
+        (
+            composed(terminal, UserEvent::Version(1), |messages| messages.len()),
+            terminal.sent(),
+            refused(terminal, 2, Hmesg::Hversion(1)),
+            take(terminal, 1, Hmesg::Hversion(1)).is_ok(),
+        )
+    });
+    assert_eq!(rt; told, (Some(1), 1, Some(TermFault::FromTheFuture), true));
+}
+
+#[test]
+fn frames_that_are_refused(rt: HostRuntime) {
+    let told = lent(Terminal::new(rt.alloc()), |terminal| {
+        (
+            opens_five_gaps(terminal),
+            refused(terminal, 0, Hmesg::Hunlock),
+            refused(terminal, 0, Hmesg::Hunlockfile(2)),
+            refused(terminal, 0, Hmesg::Hbindname(1)),
+            refused(terminal, 0, Hmesg::Hdelname(1)),
+        )
+    });
+    let already_bound = Some(TermFault::AlreadyBound);
+    let not_held = Some(TermFault::LockNotHeld);
+    assert_eq!(rt;
+        told,
+        (
+            true,
+            not_held,
+            Some(TermFault::NoFile),
+            already_bound,
+            already_bound
         )
     );
-    assert_eq!(rt; terminal.sent(), 1);
-    assert!(rt;
-        matches!(
-            take(&mut terminal, 2, Hmesg::Hversion(1)),
-            Err(TermFault::FromTheFuture)
+}
+
+#[test]
+fn refused_frames_change_nothing(rt: HostRuntime) {
+    let told = lent(Terminal::new(rt.alloc()), |terminal| {
+        (
+            opens_five_gaps(terminal),
+            refused(terminal, 0, Hmesg::Hbindname(1)).is_some(),
+            terminal.dot(1),
+            terminal.locked(1),
+        )
+    });
+    assert_eq!(rt; told, (true, true, Some((0, 0)), false));
+}
+
+#[test]
+fn events_that_are_refused(rt: HostRuntime) {
+    let told = lent(Terminal::new(rt.alloc()), |terminal| {
+        (
+            opens_five_gaps(terminal),
+            refusal(terminal, UserEvent::Select(1, 0, 9)),
+            refusal(terminal, UserEvent::Open(0)),
+            takes(terminal, Hmesg::Hnewname(0)),
+            refusal(terminal, UserEvent::Open(0)),
+        )
+    });
+    let no_file = Some(Refusal::NoFile);
+    let command_file = Some(Refusal::CommandFile);
+    assert_eq!(rt;
+        told,
+        (
+            true,
+            Some(Refusal::BadPosition),
+            no_file,
+            true,
+            command_file
         )
     );
-    assert!(rt; take(&mut terminal, 1, Hmesg::Hversion(1)).is_ok());
 }
 
 #[test]
-fn frames_that_are_refused(rt: HostRuntime) -> Result<(), Fail> {
-    let mut terminal = with_five_gaps(rt.alloc())?;
-    assert!(rt; refused(&mut terminal, Hmesg::Hunlock) == Some(TermFault::LockNotHeld));
-    assert!(rt; refused(&mut terminal, Hmesg::Hunlockfile(2)) == Some(TermFault::NoFile));
-    assert!(rt; refused(&mut terminal, Hmesg::Hbindname(1)) == Some(TermFault::AlreadyBound));
-    assert!(rt; refused(&mut terminal, Hmesg::Hdelname(1)) == Some(TermFault::AlreadyBound));
-    assert_eq!(rt; terminal.dot(1), Some((0, 0)));
-    assert!(rt; !terminal.locked(1));
-    Ok(())
-}
-
-#[test]
-fn events_that_are_refused(rt: HostRuntime) -> Result<(), Fail> {
+fn typing_that_is_refused(rt: HostRuntime) -> Result<(), Fail> {
     let alloc = rt.alloc();
-    let mut terminal = with_five_gaps(alloc)?;
-    let mut long = Vec::new(alloc);
-    for _ in 0..513 {
-        long.push('a')?;
-    }
-    let long = Runes::from_vec(long);
-    let select = UserEvent::Select(1, 0, 9);
-    assert!(rt; refusal(&mut terminal, select) == Some(Refusal::BadPosition));
-    let typed = UserEvent::Typed(1, long);
-    assert!(rt; refusal(&mut terminal, typed) == Some(Refusal::TextTooLong));
-    let unknown = UserEvent::Typed(9, runes(alloc, "a")?);
-    assert!(rt; refusal(&mut terminal, unknown) == Some(Refusal::NoFile));
-    assert!(rt; refusal(&mut terminal, UserEvent::Open(0)) == Some(Refusal::NoFile));
-    assert!(rt; takes(&mut terminal, Hmesg::Hnewname(0)));
-    assert!(rt; refusal(&mut terminal, UserEvent::Open(0)) == Some(Refusal::CommandFile));
+    let long = Runes::from_vec(vec![in alloc; 'a'; 513]?);
+    let short = runes(alloc, "a")?;
+    let told = lent(Terminal::new(alloc), |terminal| {
+        (
+            opens_five_gaps(terminal),
+            refusal(terminal, UserEvent::Typed(1, long)),
+            refusal(terminal, UserEvent::Typed(9, short)),
+        )
+    });
+    assert_eq!(rt;
+        told,
+        (true, Some(Refusal::TextTooLong), Some(Refusal::NoFile))
+    );
     Ok(())
 }
 
 #[test]
-fn a_look_locks_its_file_alone(rt: HostRuntime) -> Result<(), Fail> {
+fn a_look_locks_its_file_alone(rt: HostRuntime) {
     let alloc = rt.alloc();
-    let mut terminal = with_five_gaps(alloc)?;
-    match acts(&mut terminal, UserEvent::Look(1)) {
-        Ok(Acted::Done(messages)) => {
-            assert!(rt; matches!(messages.as_slice(), [Tmesg::Tlook(1, 0, 0)]));
-        }
-        _ => assert!(rt; false),
-    }
-    assert!(rt; terminal.locked(1));
-    assert!(rt; !terminal.locked(2));
-    assert!(rt; !terminal.command_locked());
-    let typed = UserEvent::Typed(1, runes(alloc, "a")?);
-    assert!(rt; matches!(acts(&mut terminal, typed), Ok(Acted::Locked)));
-    let mut other = with_five_gaps(alloc)?;
-    assert!(rt; acts(&mut other, UserEvent::Look(1)).is_ok());
-    assert!(rt; matches!(acts(&mut other, UserEvent::OpenCmd), Ok(Acted::Locked)));
-    assert!(rt; takes(&mut other, Hmesg::Hunlockfile(1)));
-    assert!(rt; matches!(other.act(), Ok(Acted::Done(_))));
-    assert!(rt; other.command_locked());
-    Ok(())
+    let told = lent(Terminal::new(alloc), |terminal| {
+        (
+            opens_five_gaps(terminal),
+            composed(terminal, UserEvent::Look(1), |messages| {
+                matches!(messages, [Tmesg::Tlook(1, 0, 0)])
+            }),
+            (
+                terminal.locked(1),
+                terminal.locked(2),
+                terminal.command_locked(),
+            ),
+            typing_is_held(alloc, terminal, 1, "a"),
+        )
+    });
+    assert_eq!(rt; told, (true, Some(true), (true, false, false), true));
 }
 
 #[test]
-fn a_paste_locks_its_file(rt: HostRuntime) -> Result<(), Fail> {
-    let alloc = rt.alloc();
-    let mut terminal = with_five_gaps(alloc)?;
-    match acts(&mut terminal, UserEvent::Paste(1)) {
-        Ok(Acted::Done(messages)) => {
-            assert!(rt; matches!(messages.as_slice(), [Tmesg::Tpaste(1, 0)]));
-        }
-        _ => assert!(rt; false),
-    }
-    let typed = UserEvent::Typed(1, runes(alloc, "a")?);
-    assert!(rt; matches!(acts(&mut terminal, typed), Ok(Acted::Locked)));
-    assert!(rt; matches!(acts(&mut terminal, UserEvent::Flush), Ok(Acted::Locked)));
-    assert!(rt; terminal.locked(1));
-    Ok(())
+fn a_command_event_waits_for_each_file(rt: HostRuntime) {
+    let told = lent(Terminal::new(rt.alloc()), |terminal| {
+        (
+            opens_five_gaps(terminal),
+            composed(terminal, UserEvent::Look(1), |messages| messages.len()),
+            is_held(terminal, UserEvent::OpenCmd),
+            takes(terminal, Hmesg::Hunlockfile(1)),
+            (goes_on(terminal), terminal.command_locked()),
+        )
+    });
+    assert_eq!(rt; told, (true, Some(1), true, true, (true, true)));
 }
 
 #[test]
-fn what_the_host_does_to_a_text(rt: HostRuntime) -> Result<(), Fail> {
+fn a_paste_locks_its_file(rt: HostRuntime) {
     let alloc = rt.alloc();
-    let mut terminal = with_five_gaps(alloc)?;
-    assert!(rt; takes(&mut terminal, Hmesg::Hdata(1, 0, runes(alloc, "ab cd")?)));
-    assert!(rt; takes(&mut terminal, Hmesg::Hsetdot(1, 1, 4)));
-    assert!(rt; takes(&mut terminal, Hmesg::Hgrowdata(1, 0, runes(alloc, "xy")?)));
-    assert_eq!(rt; terminal.dot(1), Some((3, 6)));
-    assert!(rt; takes(&mut terminal, Hmesg::Hcut(1, 1, 4)));
-    assert_eq!(rt; terminal.dot(1), Some((1, 2)));
-    match terminal.rasp(1) {
-        Some(rasp) => {
-            assert_eq!(rt; rasp.len(), 3);
-            assert_eq!(rt; rasp.loaded(0), Some(Some('x')));
-            assert_eq!(rt; rasp.loaded(1), Some(Some('c')));
-        }
-        None => assert!(rt; false),
-    }
-    assert!(rt; takes(&mut terminal, Hmesg::Hmovname(1, runes(alloc, "name")?)));
-    assert!(rt; takes(&mut terminal, Hmesg::Hclose(1)));
-    assert_eq!(rt; terminal.dot(1), None);
-    Ok(())
+    let told = lent(Terminal::new(alloc), |terminal| {
+        (
+            opens_five_gaps(terminal),
+            composed(terminal, UserEvent::Paste(1), |messages| {
+                matches!(messages, [Tmesg::Tpaste(1, 0)])
+            }),
+            typing_is_held(alloc, terminal, 1, "a"),
+            is_held(terminal, UserEvent::Flush),
+            terminal.locked(1),
+        )
+    });
+    assert_eq!(rt; told, (true, Some(true), true, true, true));
+}
+
+#[test]
+fn what_the_host_puts_into_a_text(rt: HostRuntime) {
+    let alloc = rt.alloc();
+    let told = lent(Terminal::new(alloc), |terminal| {
+        (
+            opens_five_gaps(terminal),
+            takes_runes(alloc, terminal, "ab cd", |text| Hmesg::Hdata(1, 0, text)),
+            takes(terminal, Hmesg::Hsetdot(1, 1, 4)),
+            takes_runes(alloc, terminal, "xy", |text| Hmesg::Hgrowdata(1, 0, text)),
+            terminal.dot(1),
+        )
+    });
+    assert_eq!(rt; told, (true, true, true, true, Some((3, 6))));
+}
+
+#[test]
+fn what_the_host_cuts_out_of_a_text(rt: HostRuntime) {
+    let alloc = rt.alloc();
+    let told = lent(Terminal::new(alloc), |terminal| {
+        (
+            opens_five_gaps(terminal)
+                && takes_runes(alloc, terminal, "abcde", |text| Hmesg::Hdata(1, 0, text)),
+            takes(terminal, Hmesg::Hsetdot(1, 3, 5)),
+            takes(terminal, Hmesg::Hcut(1, 1, 3)),
+            terminal.dot(1),
+            (
+                rasp_len(terminal, 1),
+                loaded(terminal, 1, 0),
+                loaded(terminal, 1, 1),
+            ),
+        )
+    });
+    assert_eq!(rt;
+        told,
+        (
+            true,
+            true,
+            true,
+            Some((1, 2)),
+            (Some(2), Some('a'), Some('e'))
+        )
+    );
+}
+
+#[test]
+fn a_closed_file_has_no_dot(rt: HostRuntime) {
+    let alloc = rt.alloc();
+    let told = lent(Terminal::new(alloc), |terminal| {
+        (
+            opens_five_gaps(terminal),
+            takes_runes(alloc, terminal, "name", |text| Hmesg::Hmovname(1, text)),
+            takes(terminal, Hmesg::Hclose(1)),
+            terminal.dot(1),
+        )
+    });
+    assert_eq!(rt; told, (true, true, true, None));
 }
 
 #[test]
