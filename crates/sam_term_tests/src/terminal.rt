@@ -2,7 +2,7 @@
 
 use crate::trying::{
     composed, goes_on, is_held, lent, loaded, opens_five_gaps, rasp_len, refusal, refused, runes,
-    take, takes, takes_runes, typing_is_held, waits,
+    take, takes, takes_runes, typing_is_held,
 };
 use sam_mesg::{Hmesg, Tmesg};
 use sam_runes::Runes;
