@@ -4,6 +4,10 @@ use crate::Report;
 use crate::sample::{mix, mixed};
 use std::time::Instant;
 
+/// The most runes of a text that is typed or told of.
+pub const MOST_IN_MESSAGE: usize = 512;
+
+#[derive(Clone)]
 pub enum Tmesg {
     Version(u16),
     StartCmdFile,
@@ -179,18 +183,18 @@ pub fn encode_h(out: &mut Vec<u8>, frame: &HFrame) {
 }
 
 /// The text of a message is within the limit of its kind, in version 2.
-fn fits_t(message: &Tmesg) -> bool {
+pub fn fits_t(message: &Tmesg) -> bool {
     match message {
-        Tmesg::Type(_, _, text) => text.len() <= 512,
+        Tmesg::Type(_, _, text) => text.len() <= MOST_IN_MESSAGE,
         Tmesg::SetSnarf(text) => within(text, usize::MAX, 32_000),
         _ => true,
     }
 }
 
-fn fits_h(message: &Hmesg) -> bool {
+pub fn fits_h(message: &Hmesg) -> bool {
     match message {
         Hmesg::MovName(_, name) => name.len() <= 64,
-        Hmesg::Data(_, _, text) | Hmesg::GrowData(_, _, text) => text.len() <= 512,
+        Hmesg::Data(_, _, text) | Hmesg::GrowData(_, _, text) => text.len() <= MOST_IN_MESSAGE,
         Hmesg::SetPat(text) => text.len() <= 128,
         Hmesg::SetSnarf(text) => within(text, usize::MAX, 32_000),
         _ => true,
@@ -235,7 +239,7 @@ pub fn decode_t(kind: u8, body: &[u8]) -> Option<Tmesg> {
     fits_t(&message).then_some(message)
 }
 
-fn decode_h(kind: u8, body: &[u8]) -> Option<HFrame> {
+pub fn decode_h(kind: u8, body: &[u8]) -> Option<HFrame> {
     let (seen, body) = u64::take(body)?;
     let msg = match kind {
         65 => fields!(body; Hmesg::Version(v); v: u16),
@@ -373,7 +377,7 @@ fn weight_t(message: &Tmesg) -> u64 {
     }
 }
 
-fn weight_h(frame: &HFrame) -> u64 {
+pub fn weight_h(frame: &HFrame) -> u64 {
     match &frame.msg {
         Hmesg::Cut(_, p, n) => mix(*p as u64, *n as u64),
         Hmesg::Data(_, _, text) | Hmesg::GrowData(_, _, text) | Hmesg::SetSnarf(text) => weight(text),

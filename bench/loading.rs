@@ -67,6 +67,67 @@ impl Chunks {
         }
         (self.chunks.len(), left)
     }
+
+    /// As `find`, for what comes in: at the end of the text it is the end of the last chunk.
+    fn find_room(&self, p: usize) -> (usize, usize) {
+        match self.chunks.last() {
+            Some(chunk) if p == self.len => (self.chunks.len() - 1, chunk.len()),
+            _ => self.find(p),
+        }
+    }
+
+    /// Puts runes in.
+    pub fn insert(&mut self, p: usize, runes: &[char]) {
+        self.insert_all(p, runes.iter().copied().map(Some));
+    }
+
+    /// Puts gaps in.
+    pub fn insert_gaps(&mut self, p: usize, count: usize) {
+        self.insert_all(p, std::iter::repeat_n(None, count));
+    }
+
+    /// Into the chunk of `p` where that has room, else into chunks of their own between its two parts.
+    fn insert_all(&mut self, p: usize, mut items: impl ExactSizeIterator<Item = Option<char>>) {
+        let (index, at) = self.find_room(p);
+        self.len += items.len();
+        if let Some(chunk) = self.chunks.get_mut(index) {
+            let has_room = chunk.len() + items.len() <= MOST;
+            let tail = chunk.split_off(at);
+            if has_room {
+                chunk.extend(items);
+                chunk.extend_from_slice(&tail);
+                return;
+            }
+            self.chunks.insert(index + 1, tail);
+        }
+        let index = self.chunks.len().min(index + 1);
+        let mut new = Vec::new();
+        while items.len() > 0 {
+            new.push(items.by_ref().take(PIECE).collect());
+        }
+        self.chunks.splice(index..index, new);
+        self.chunks.retain(|chunk| !chunk.is_empty());
+    }
+
+    /// The first stretch of gaps between two places: where it begins, and how many they are.
+    pub fn first_gaps(&self, from: usize, to: usize) -> Option<(usize, usize)> {
+        let (index, mut at) = self.find(from);
+        let mut place = from;
+        let mut count = 0;
+        for chunk in self.chunks.get(index..)? {
+            let part = &chunk[at..];
+            let part = &part[..part.len().min(to.saturating_sub(place))];
+            let loaded = if count == 0 { part.iter().take_while(|item| item.is_some()).count() } else { 0 };
+            let gaps = part[loaded..].iter().take_while(|item| item.is_none()).count();
+            place += loaded + gaps;
+            count += gaps;
+            if loaded + gaps < part.len() || place >= to {
+                break;
+            }
+            at = 0;
+        }
+        (count > 0).then_some((place - count, count))
+    }
 }
 
 impl PartialText for Chunks {
@@ -113,7 +174,7 @@ impl PartialText for Chunks {
     }
 
     fn type_in(&mut self, p: usize, rune: char) {
-        let (mut index, mut at) = self.find(p);
+        let (mut index, mut at) = self.find_room(p);
         if index == self.chunks.len() {
             self.chunks.push(Vec::new());
             at = 0;

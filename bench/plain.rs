@@ -5,11 +5,17 @@ use std::time::{Duration, Instant};
 
 mod codec;
 mod editing;
+mod handling;
 mod host;
 mod loading;
+mod play;
 mod queue;
+mod receiving;
 mod replay;
 mod sample;
+mod schedule;
+mod session;
+mod terminal;
 mod typing;
 
 pub struct Report {
@@ -35,17 +41,18 @@ fn find(size: usize) -> Report {
 
 fn main() {
     let words: Vec<String> = std::env::args().collect();
-    let [_, job, size, ..] = words.as_slice() else { return };
+    let [_, job, size, rest @ ..] = words.as_slice() else { return };
     match job.as_str() {
-        "play" => return host::play(size).expect("input and output"),
+        "play" => return play::play(size).expect("input and output"),
         "replay" => return replay::replay().expect("a script, and output"),
         "frames" => {
-            let bytes = host::frames(size.parse().expect("a size"));
+            let bytes = play::frames(size.parse().expect("a size"));
             return std::io::stdout().write_all(&bytes).expect("output");
         }
         _ => {}
     }
-    let size: usize = size.parse().expect("a size");
+    let number = |word: &String| word.parse::<usize>().expect("a number");
+    let size = number(size);
     let report = match job.as_str() {
         "encode" => codec::encode(size),
         "decode" => codec::decode(size),
@@ -55,9 +62,13 @@ fn main() {
         "rasp_load" => loading::load(size),
         "rasp_type" => loading::typed(size),
         "terminal" => typing::typed(size),
+        "receive" => receiving::received(size),
+        "handle" => handling::handled(size),
+        "schedule" => schedule::replayed(size),
         "rasp_load_list" => loading::load_list(size),
         "rasp_type_list" => loading::typed_list(size),
-        _ => queue::job(job, size),
+        "channel" => queue::channel(size, number(&rest[0]), number(&rest[1])),
+        _ => panic!("no such job"),
     };
     println!("{job} {size} {} {}", report.took.as_nanos(), report.check);
 }

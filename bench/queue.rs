@@ -5,15 +5,8 @@ use std::sync::mpsc;
 use std::thread;
 use std::time::Instant;
 
-/// `channel_SENDERS_CAPACITY`: `size` items in all through a bounded channel.
-pub fn job(job: &str, size: usize) -> Report {
-    let mut words = job.split('_').skip(1).map(|word| word.parse::<usize>().expect("a number"));
-    let senders = words.next().expect("senders");
-    let capacity = words.next().expect("a capacity");
-    channel(size, senders, capacity)
-}
-
-fn channel(size: usize, senders: usize, capacity: usize) -> Report {
+/// Sends `size` items in all from so many senders through a bounded channel.
+pub fn channel(size: usize, senders: usize, capacity: usize) -> Report {
     let begin = Instant::now();
     let (post, take) = mpsc::sync_channel::<(usize, u64)>(capacity);
     let check = thread::scope(|scope| {

@@ -1,61 +1,103 @@
-//! The edits of a script, made in four texts: what `sam_play replay` comes to, for the lines that `bench/run` writes.
+//! What `sam_play replay` does with the scripts that `bench/run` writes: all lines are read, and then done one after another.
 
-use std::io::{self, BufWriter, Read, Write};
+use crate::session::{Session, Step};
+use crate::terminal::Event;
+use std::fmt::Write as _;
+use std::io::{self, Read, Write};
 
-struct File {
-    name: String,
-    text: Vec<char>,
-    dot: usize,
+enum Line {
+    User(Event),
+    Drain,
+    Show,
 }
 
-fn unescaped(text: &str) -> Vec<char> {
-    text.replace("\\n", "\n").chars().collect()
+/// The names and texts of the files, and the lines behind them.
+type Script = (Vec<(Vec<char>, Vec<char>)>, Vec<Line>);
+
+/// The text that a word of a script spells: `\n` is a newline.
+fn unescaped(text: &str) -> Option<Vec<char>> {
+    let mut runes = Vec::new();
+    let mut left = text.chars();
+    while let Some(rune) = left.next() {
+        match rune {
+            '\\' => runes.push(match left.next()? {
+                'n' => '\n',
+                '\\' => '\\',
+                _ => return None,
+            }),
+            rune => runes.push(rune),
+        }
+    }
+    Some(runes)
 }
 
-/// The places and the text of `#P,#Qc/TEXT/`.
-fn command(line: &str) -> Option<(usize, usize, &str)> {
-    let (p, rest) = line.strip_prefix('#')?.split_once(",#")?;
-    let (q, text) = rest.split_once("c/")?;
-    Some((p.parse().ok()?, q.parse().ok()?, text.split_once('/')?.0))
+/// What the user does, by the words behind `k`.
+fn event(words: &str) -> Option<Event> {
+    let (word, rest) = words.split_once(' ').unwrap_or((words, ""));
+    match word {
+        "type" => {
+            let (tag, text) = rest.split_once(' ')?;
+            Some(Event::Typed(tag.parse().ok()?, unescaped(text)?))
+        }
+        "select" => {
+            let (tag, places) = rest.split_once(' ')?;
+            let (p, q) = places.split_once(' ')?;
+            Some(Event::Select(tag.parse().ok()?, p.parse().ok()?, q.parse().ok()?))
+        }
+        "open" => Some(Event::Open(rest.parse().ok()?)),
+        "work" => Some(Event::Work(rest.parse().ok()?)),
+        "version" => Some(Event::Version(rest.parse().ok()?)),
+        "opencmd" => Some(Event::OpenCmd),
+        "new" => Some(Event::New),
+        _ => None,
+    }
 }
 
-/// Makes the edit of a line, if it makes one.
-fn edit(files: &mut Vec<File>, work: &mut usize, line: &str) -> Option<()> {
-    let words: Vec<&str> = line.splitn(4, ' ').collect();
-    match words.as_slice() {
-        ["file", name, ..] => {
-            let text = line.splitn(3, ' ').nth(2)?;
-            files.push(File { name: name.to_string(), text: unescaped(text), dot: 0 });
+fn read(text: &str) -> Option<Script> {
+    let (mut files, mut lines) = (Vec::new(), Vec::new());
+    for line in text.lines() {
+        let (word, rest) = line.split_once(' ').unwrap_or((line, ""));
+        match word {
+            "file" => {
+                let (name, text) = rest.split_once(' ')?;
+                files.push((name.chars().collect(), unescaped(text)?));
+            }
+            "k" => lines.push(Line::User(event(rest)?)),
+            "drain" => lines.push(Line::Drain),
+            "show" => lines.push(Line::Show),
+            _ => return None,
         }
-        ["k", "work", tag] => *work = tag.parse::<usize>().ok()? - 1,
-        ["k", "select", tag, dot] => files[tag.parse::<usize>().ok()? - 1].dot = dot.split_once(' ')?.0.parse().ok()?,
-        ["k", "type", "0", line] => {
-            let (p, q, text) = command(line)?;
-            files[*work].text.splice(p..q, text.chars());
-        }
-        ["k", "type", tag, typed] => {
-            let file = &mut files[tag.parse::<usize>().ok()? - 1];
-            let typed = unescaped(typed);
-            file.text.splice(file.dot..file.dot, typed.iter().copied());
-            file.dot += typed.len();
-        }
-        _ => {}
+    }
+    Some((files, lines))
+}
+
+/// The texts, as a shown world has them.
+fn show(session: &Session, out: &mut String) -> Option<()> {
+    for (at, (name, text)) in session.host.texts().enumerate() {
+        let text = String::from_iter(text).replace('\\', "\\\\").replace('\n', "\\n");
+        writeln!(out, "= h {} o d {} |{text}|", at + 1, String::from_iter(name)).ok()?;
     }
     Some(())
 }
 
-/// Prints the texts as a replay shows them.
+fn replayed(text: &str) -> Option<String> {
+    let (files, lines) = read(text)?;
+    let mut session = Session::new(files);
+    let mut out = String::new();
+    for line in lines {
+        match line {
+            Line::User(event) => session.step(Step::User(event))?,
+            Line::Drain => session.drain()?,
+            Line::Show => show(&session, &mut out)?,
+        }
+    }
+    Some(out)
+}
+
+/// Prints what the script on standard input shows.
 pub fn replay() -> io::Result<()> {
     let mut script = String::new();
     io::stdin().read_to_string(&mut script)?;
-    let (mut files, mut work) = (Vec::new(), 0);
-    for line in script.lines() {
-        edit(&mut files, &mut work, line).ok_or(io::ErrorKind::InvalidData)?;
-    }
-    let mut out = BufWriter::new(io::stdout().lock());
-    for (at, file) in files.iter().enumerate() {
-        let text = String::from_iter(&file.text).replace('\n', "\\n");
-        writeln!(out, "= h {} o d {} |{text}|", at + 1, file.name)?;
-    }
-    out.flush()
+    let out = replayed(&script).ok_or(io::ErrorKind::InvalidData)?;
+    io::stdout().write_all(out.as_bytes())
 }

@@ -113,7 +113,7 @@ fn encode_all_t(out: &mut Vec<u8>, messages: &[Tmesg]) -> Result<(), Fault> {
 }
 
 /// Puts all frames of the host at the end.
-fn encode_all_h(out: &mut Vec<u8>, frames: &[HFrame]) -> Result<(), Fault> {
+pub fn encode_all_h(out: &mut Vec<u8>, frames: &[HFrame]) -> Result<(), Fault> {
     for frame in frames {
         if !fits_h(2, &frame.msg) || encode_h(frame, out).is_err() {
             return Err(Fault::Refused);
@@ -180,7 +180,7 @@ fn weight_t(message: &Tmesg) -> u64 {
 }
 
 /// What a message of the host adds to the check value.
-fn weight_h(frame: &HFrame) -> u64 {
+pub fn weight_h(frame: &HFrame) -> u64 {
     match &frame.msg {
         Hmesg::Hcut(_, p, n) => mix(*p as u64, *n as u64),
         Hmesg::Hdata(_, _, text) => weight(text),

@@ -6,10 +6,13 @@ mod codec;
 mod editing;
 mod embedded;
 mod fault;
+mod handling;
 mod loading;
 mod queueing;
+mod receiving;
 mod report;
 mod sample;
+mod schedule;
 mod searching;
 mod typing;
 
@@ -67,6 +70,9 @@ fn report_of<R: AllocGlobal + Clock>(rt: &R, job: &str, size: u32) -> Result<Rep
         "rasp_type" => loading::typed(rt, size),
         "terminal" => typing::typed(rt, size),
         "embedded" => embedded::typed(rt, size),
+        "receive" => receiving::received(rt, size),
+        "handle" => handling::handled(rt, size),
+        "schedule" => schedule::replayed(rt, size),
         _ => Err(Fault::Words),
     }
 }

@@ -40,7 +40,7 @@ fn weight(acted: &Acted) -> Option<u64> {
 }
 
 /// Puts an event in, and does it.
-fn act(terminal: &mut Terminal, event: UserEvent) -> Result<u64, Fault> {
+pub fn act(terminal: &mut Terminal, event: UserEvent) -> Result<u64, Fault> {
     if terminal.user(event).is_err() {
         return Err(Fault::System);
     }
