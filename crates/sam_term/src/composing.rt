@@ -136,8 +136,8 @@ impl Terminal {
         self.compose(message, out);
     }
 
-    /// Returns the request that a file wants: for the first stretch of gaps in its view, at most `MOST_IN_MESSAGE` of them. `None` if there is no gap,
-    /// the file is not open, the session is over, or a request is awaited already. The cost goes by the sections before the gap.
+    /// Returns the request that a file wants: for the first stretch of gaps in its view, at most `MOST_IN_MESSAGE` of them. `None` if there
+    /// is no gap, the file is not open, the session is over, or a request is awaited already. The cost goes by the sections before the gap.
     pub(crate) fn wanted(&self, tag: u16) -> Option<Tmesg>
         ensures { result ≡ wanted self.now tag }
     {

@@ -67,8 +67,8 @@ impl Terminal {
         }
     }
 
-    /// Tells what is true of each window: dot and view lie within the rasp, which has at most `MAX_RUNES` runes and gaps, and it has no more
-    /// locks than messages were composed. It does nothing when the program runs.
+    /// Tells what is true of each window: dot and view lie within the rasp, which has at most `MAX_RUNES` runes and gaps, and it has no
+    /// more locks than messages were composed. It does nothing when the program runs.
     pub(crate) fn known_window(&self, tag: u16)
         ensures { FitsWindow self.now.sent (window_at self.now tag) }
     {
