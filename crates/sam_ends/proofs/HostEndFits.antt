@@ -8,36 +8,25 @@ use Rattle.sam_mesg.specs.declared.tmesg.Tmesg.{Tmesg}
 use Rattle.sam_mesg.specs.declared.tmesg.Tmesg.TheVariants.{Tsetsnarf}
 use Rattle.sam_mesg.specs.declared.hmesg.HFrame.{HFrame}
 use Rattle.sam_mesg.specs.TerminalKinds.{fits_t}
-use Rattle.sam_mesg.specs.HostKinds.{fits_h}
+use Rattle.sam_mesg.specs.HostKinds.{fits_h, after_h}
+use Rattle.sam_mesg.proofs.Versions.{fits_last_t}
 use Rattle.sam_frame.specs.Direction.{terminal}
 use Rattle.sam_frame.specs.Stream.{FitInTurn}
 use Rattle.sam_frame.specs.Framing.{Held}
-use Rattle.sam_host.specs.Laws.{FitInPlace, version_after}
+use Rattle.sam_host.specs.Laws.{FitInPlace}
 use Rattle.sam_term.specs.Fitting.{FitsLast}
 use Rattle.sam_ends.specs.declared.fault.StreamFault.{StreamFault}
 use Rattle.sam_ends.specs.Streams.{FitFrames, FitMessages, Gives}
 use Rattle.sam_ends.specs.HostEnds.{PlainHostEnd}
 use Rattle.sam_ends.specs.HostSteps.{IsSound}
 
--- what fits in some version fits in the second
-later : (version : ℕ) (m : Tmesg) → fits_t version m ≡ true → fits_t 2 m ≡ true
-later version (Tsetsnarf s) e =
-    let within = leb-true (utf8_length s) (snarf_limit version) e in
-    let least : snarf_limit version ≤ 32000 = limit (version == 1) in
-    le-leb (utf8_length s) 32000 (omega (arith, within, least))
-  where
-    limit : (is_first : Bool) → (if is_first then 4096 else 32000) ≤ 32000
-    limit true = omega arith
-    limit false = omega arith
-later version m e = e
-
 fit_in_turn : (version : ℕ) (ms : List Tmesg) → FitInTurn terminal version ms → FitMessages ms
 fit_in_turn version [] fit = All-nil FitsLast
-fit_in_turn version (m ∷ ms) fit = All-cons FitsLast m ms (later version m fit.0.fits) (fit_in_turn (terminal.after version m) ms fit.1)
+fit_in_turn version (m ∷ ms) fit = All-cons FitsLast m ms (fits_last_t version m fit.0.fits) (fit_in_turn (terminal.after version m) ms fit.1)
 
 fit_in_place : (version : ℕ) (frames : List HFrame) → FitInPlace version frames → FitFrames frames
 fit_in_place version [] fit = All-nil (λ (x : HFrame). IsTrue (fits_h 2 x.msg))
-fit_in_place version (frame ∷ frames) fit = All-cons (λ (x : HFrame). IsTrue (fits_h 2 x.msg)) frame frames fit.1 (fit_in_place (version_after version frame.msg) frames fit.2)
+fit_in_place version (frame ∷ frames) fit = All-cons (λ (x : HFrame). IsTrue (fits_h 2 x.msg)) frame frames fit.1 (fit_in_place (after_h version frame.msg) frames fit.2)
 
 given_fit : (h k : Held) (piece : List ℕ) (ms : List Tmesg) (behind : Option StreamFault) → Gives terminal h piece ms behind k → FitMessages ms
 given_fit h k piece ms None all = fit_in_turn h.version ms all.gave.splits.fit

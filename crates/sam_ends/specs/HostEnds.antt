@@ -2,7 +2,7 @@
 use Rattle.std.specs.Prelude.{◌≡◌, ℕ, ◌+◌, ◌^◌, ◌≤◌, ◌⊎◌, List, [], ◌∷◌, ◌++◌, length, Bool, true, false, not, ◌&&◌, ◌||◌, nat_lt, nat_le, if◌then◌else◌, Option, Some, None, Result, Ok, Err}
 use Rattle.std.specs.Str.{chars, is_utf8}
 use Rattle.sam_runes.specs.Checks.{Checks}
-use Rattle.sam_runes.specs.Texts.{all_tags, max_runes}
+use Rattle.sam_runes.specs.Texts.{all_tags, max_runes, most_in_name}
 use Rattle.sam_mesg.specs.declared.tmesg.Tmesg.{Tmesg}
 use Rattle.sam_mesg.specs.declared.tmesg.Tmesg.TheVariants.{Twrite}
 use Rattle.sam_mesg.specs.declared.hmesg.HFrame.{HFrame}
@@ -123,7 +123,7 @@ abbrev pub open_checks : PlainHostEnd → List ℕ → List ℕ → Checks OpenF
 open_checks e name text =
     (e.is_begun, refusal.Begun)
     ∷ (not (is_utf8 name && is_utf8 text), refusal.NotText)
-    ∷ (nat_lt 64 (length (chars name)) || nat_lt max_runes (length (chars text)), refusal.TooLong)
+    ∷ (nat_lt most_in_name (length (chars name)) || nat_lt max_runes (length (chars text)), refusal.TooLong)
     ∷ (nat_le all_tags (length e.host.files.slots), refusal.NoTag)
     ∷ []
 

@@ -16,10 +16,10 @@ pub enum OpenFault {
     /// The name or the text is not UTF-8 (RFC 3629).
     #[error("not UTF-8")]
     NotText = 2,
-    /// The name has more than 64 runes, or the text has more than 1,000,000.
+    /// The name has more than `MOST_IN_NAME` runes, or the text more than `MAX_RUNES`.
     #[error("too long")]
     TooLong = 3,
-    /// All 65,536 tags were given.
+    /// All tags were given.
     #[error("no tag")]
     NoTag = 4,
     /// A request for memory was refused. The call may be made again.

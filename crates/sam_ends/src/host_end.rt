@@ -14,17 +14,11 @@ use crate::outbox::Outbox;
 use sam_frame::FramerT;
 use sam_host::{Host, HostFault};
 use sam_mesg::{HFrame, Tmesg};
-use sam_runes::{MAX_RUNES, Text, read_utf8};
+use sam_runes::{ALL_TAGS, MAX_RUNES, MOST_IN_NAME, Text, read_utf8};
 use std::alloc::{AllocError, Global};
 use std::collections::VecDeque;
 use std::marker::Model;
 use std::str;
-
-/// The most runes of a file's name.
-const MAX_NAME: usize = 64;
-
-/// How many tags there are, the command file's 0 with them.
-const ALL_TAGS: usize = 65_536;
 
 /// Returns how many runes the text has.
 #[tactic(auto, using(std::proofs::lemmas::Str::chars_from_encodes))]
@@ -67,8 +61,8 @@ fn note(writes: &mut VecDeque<u16>, tag: Option<u16>)
 /// A host that takes the bytes of a terminal's messages, answers them in order, and keeps the bytes of its frames until they are taken
 /// out.
 ///
-/// Want of memory loses nothing: what could not be answered or written waits, and the next call goes on with it. A fault of the stream, or
-/// a message that the host refuses, stops the end for good, once the messages before it are answered.
+/// Want of memory loses nothing: what could not be answered or written waits, and the next call goes on with it. A fault of the stream,
+/// or a message that the host refuses, stops the end for good, once the messages before it are answered.
 ///
 /// ```rust
 /// let mut end = HostEnd::new(alloc)?;
@@ -167,7 +161,7 @@ impl HostEnd {
         let Some(text) = runes_in(text) else {
             return Some(OpenFault::NotText);
         };
-        if name > MAX_NAME || text > MAX_RUNES as usize {
+        if name > MOST_IN_NAME || text > MAX_RUNES as usize {
             return Some(OpenFault::TooLong);
         }
         if self.host.files().tags() >= ALL_TAGS {
@@ -180,8 +174,8 @@ impl HostEnd {
     /// (RFC 3629). The file is clean and closed, and its name is not announced yet. The cost is that of the name and the text.
     ///
     /// Errors, in this order: `Begun` if a piece was taken before; `NotText` if the name or the text is not UTF-8; `TooLong` if the name
-    /// has more than 64 runes or the text has more than 1,000,000; `NoTag` if all 65,536 tags were given; `OutOfMemory`. After an error
-    /// the end is as it was.
+    /// has more than `MOST_IN_NAME` runes or the text more than `MAX_RUNES`; `NoTag` if all tags were given; `OutOfMemory`. After an
+    /// error the end is as it was.
     pub fn add_file(&mut self, name: &[u8], text: &[u8]) -> Result<u16, OpenFault>
         ensures tag { IfOk result (λ tag. tag ≡ length self.old.host.files.slots) }
         ensures added { OnOk result (self.new ≡ with_file self.old name.now text.now) }

@@ -4,18 +4,19 @@ use Rattle.std.specs.Prelude.{◌&&◌, ◌||◌, ◌==◌, min, nat_lt, nat_le,
 use Rattle.std.proofs.lemmas.Bool.{le-leb, ltb-false}
 use Rattle.std.proofs.lemmas.List.{length-take}
 use Rattle.sam_runes.specs.declared.edit.Edit.{Edit}
-use Rattle.sam_runes.specs.Texts.{Range, common_version, part, is_empty, max_runes, most_in_message, most_in_pattern, snarf_limit, utf8_length, prefix_in_bytes, searched, all_tags, ends_line, as_lines, last_line}
+use Rattle.sam_runes.specs.Texts.{Range, common_version, part, is_empty, max_runes, most_in_message, most_in_pattern, snarf_limit, utf8_length, prefix_in_bytes, searched, all_tags, ends_line, as_lines, last_line, most_in_name}
 use Rattle.sam_runes.specs.Slots.{Slots, slot}
 use Rattle.sam_runes.proofs.PlaceLaws.{prefix_within}
 use Rattle.sam_text.specs.Files.{PlainFile, PlainFiles, PlainOutcome, blank_file, file_at, has_file, is_printed, has_room, after_print, committed, typed_file}
 use Rattle.sam_text.specs.Meaning.{meaning}
-use Rattle.sam_mesg.specs.HostKinds.{fits_h}
+use Rattle.sam_mesg.specs.HostKinds.{fits_h, after_h}
+use Rattle.sam_mesg.proofs.Versions.{fits_last_h}
 use Rattle.sam_mesg.specs.declared.tmesg.Tmesg.{Tmesg}
 use Rattle.sam_mesg.specs.declared.tmesg.Tmesg.TheVariants.{Tversion, Tstartcmdfile, Tcheck, Trequest, Torigin, Tstartfile, Tworkfile, Ttype, Tcut, Tpaste, Tsnarf, Tstartnewfile, Twrite, Tclose, Tlook, Tsearch, Tsend, Tdclick, Tstartsnarf, Tsetsnarf, Tack, Texit}
 use Rattle.sam_mesg.specs.declared.hmesg.Hmesg.{Hmesg}
 use Rattle.sam_mesg.specs.declared.hmesg.Hmesg.TheVariants.{Hversion, Hbindname, Hnewname, Hmovname, Hgrow, Hcheck, Hunlock, Hdata, Hunlockfile, Hsetdot, Hgrowdata, Hdirty, Hcut, Hsetpat, Hsetsnarf, Hack, Hexit}
 use Rattle.sam_host.specs.Host.{PlainHost, Reply, when, when_given, grown, told_length, printed, told_edit, told_outcome, told_names, command_name, no_tag_left, with_file, with_files, stamped, reply_version, reply_startcmdfile, reply_check, reply_request, reply_origin, reply_startfile, reply_workfile, reply_cut, reply_paste, reply_snarf, reply_startnewfile, reply_write, reply_close, reply_found, reply_look, reply_search, searched_for, reply_dclick, reply_startsnarf, reply_setsnarf, reply_exit, reply_line, reply_type, reply_send, reply_to}
-use Rattle.sam_host.specs.Laws.{AreNamesShort, FitInPlace, version_after}
+use Rattle.sam_host.specs.Laws.{AreNamesShort, FitInPlace}
 use Rattle.sam_host.proofs.LineLimits.{IsWithin, meaning_within}
 
 -- a message that fits in every version, and messages that all do
@@ -32,7 +33,7 @@ fit-both (m ∷ ms) ns h k = (h.0, fit-both ms ns h.1 k)
 
 pub all-stamped : (v seen : ℕ) (ms : List Hmesg) → AllFit ms → FitInPlace v (stamped seen ms)
 all-stamped v seen [] h = tt
-all-stamped v seen (m ∷ ms) h = (h.0 v, h.0 2, all-stamped (version_after v m) seen ms h.1)
+all-stamped v seen (m ∷ ms) h = (h.0 v, h.0 2, all-stamped (after_h v m) seen ms h.1)
 
 fit-when : (b : Bool) (ms : List Hmesg) → (b ≡ true → AllFit ms) → AllFit (when b ms)
 unfolding when
@@ -80,11 +81,11 @@ unfolding when_given
 short-given limit None frame h k = tt
 short-given limit (Some s) frame h k = (h s k, tt)
 
-name-fits : (f : ℕ) (s : List ℕ) → length s ≤ 64 → Always (Hmovname f s)
-name-fits f s h = λ v. le-leb (length s) 64 h
+name-fits : (f : ℕ) (s : List ℕ) → length s ≤ most_in_name → Always (Hmovname f s)
+name-fits f s h = λ v. le-leb (length s) most_in_name h
 
-pattern-fits : (s : List ℕ) → length s ≤ 128 → Always (Hsetpat s)
-pattern-fits s h = λ v. le-leb (length s) 128 h
+pattern-fits : (s : List ℕ) → length s ≤ most_in_pattern → Always (Hsetpat s)
+pattern-fits s h = λ v. le-leb (length s) most_in_pattern h
 
 dot-given : (f : ℕ) (o : Option Range) → AllFit (when_given o (λ d. Hsetdot f d.0 d.1))
 unfolding when_given
@@ -93,17 +94,17 @@ dot-given f (Some d) = (λ v. refl, tt)
 
 fit-outcome : (x : Option ℕ) (fs : PlainFiles) (o : PlainOutcome) → IsWithin o → AllFit (told_outcome x fs o)
 unfolding told_outcome
-fit-outcome None fs o h = short-given 128 o.pattern Hsetpat pattern-fits h.pattern
+fit-outcome None fs o h = short-given most_in_pattern o.pattern Hsetpat pattern-fits h.pattern
 fit-outcome (Some f) fs o h =
     let edits = fit-edits fs f (reverse o.edits) in
     let dirty = fit-when (not (is_empty o.edits) && not (file_at fs f).dirty) (Hdirty f ∷ []) (λ e. (λ v. refl, tt)) in
-    let name = short-given 64 o.name (Hmovname f) (name-fits f) h.name in
-    let pattern = short-given 128 o.pattern Hsetpat pattern-fits h.pattern in
+    let name = short-given most_in_name o.name (Hmovname f) (name-fits f) h.name in
+    let pattern = short-given most_in_pattern o.pattern Hsetpat pattern-fits h.pattern in
     let dot = dot-given f o.dot in
     let check = fit-when (not (is_empty o.edits)) (Hcheck f ∷ []) (λ e. (λ v. refl, tt)) in
     fit-both _ _ (fit-both _ _ (fit-both _ _ (fit-both _ _ (fit-both _ _ edits dirty) name) pattern) dot) check
 
-fit-names : (f : ℕ) (ss : Slots PlainFile) → ((g : ℕ) → length (unwrap_or (slot ss g) blank_file).name ≤ 64) → AllFit (told_names f ss)
+fit-names : (f : ℕ) (ss : Slots PlainFile) → ((g : ℕ) → length (unwrap_or (slot ss g) blank_file).name ≤ most_in_name) → AllFit (told_names f ss)
 unfolding told_names
 fit-names f [] h = tt
 fit-names f (None ∷ ss) h = fit-names (1 + f) ss (λ g. h (suc g))
@@ -112,7 +113,7 @@ fit-names f (Some file ∷ ss) h =
     (fit-when (not file.announced) (Hnewname f ∷ Hmovname f file.name ∷ []) (λ e. (λ v. refl, (name-fits f file.name (h 0), tt))))
     (fit-names (1 + f) ss (λ g. h (suc g)))
 
-behind-first : (ss : Slots PlainFile) → ((g : ℕ) → length (unwrap_or (slot ss g) blank_file).name ≤ 64) → (g : ℕ) → length (unwrap_or (slot (drop 1 ss) g) blank_file).name ≤ 64
+behind-first : (ss : Slots PlainFile) → ((g : ℕ) → length (unwrap_or (slot ss g) blank_file).name ≤ most_in_name) → (g : ℕ) → length (unwrap_or (slot (drop 1 ss) g) blank_file).name ≤ most_in_name
 behind-first [] h g = h g
 behind-first (s ∷ ss) h g = h (suc g)
 
@@ -179,7 +180,7 @@ fit-request h f p n =
     let t = (file_at h.files f).text in
     let a = min p (length t) in
     let b = min (p + min n most_in_message) (length t) in
-    fit-when (has_file h.files f) (Hdata f a (part t a b) ∷ Hunlockfile f ∷ []) (λ e. (λ v. le-leb (length (part t a b)) 512 (part-short t a b 512 (omega arith)), (λ v. refl, tt)))
+    fit-when (has_file h.files f) (Hdata f a (part t a b) ∷ Hunlockfile f ∷ []) (λ e. (λ v. le-leb (length (part t a b)) most_in_message (part-short t a b most_in_message (omega arith)), (λ v. refl, tt)))
 
 fit-type : (h : PlainHost) (f p : ℕ) (s : List ℕ) → AllFit (reply_type h f p s).1
 unfolding reply_type
@@ -194,13 +195,8 @@ fit-send h f p q =
 snarf-fits : (v : ℕ) (s : List ℕ) → fits_h v (Hsetsnarf (prefix_in_bytes s (snarf_limit v))) ≡ true
 snarf-fits v s = le-leb (utf8_length (prefix_in_bytes s (snarf_limit v))) (snarf_limit v) (prefix_within s (snarf_limit v))
 
-limit-if : (b : Bool) → cond b 4096 32000 ≤ 32000
-limit-if true = omega arith
-limit-if false = omega arith
-
 snarf-fits_later : (v : ℕ) (s : List ℕ) → fits_h 2 (Hsetsnarf (prefix_in_bytes s (snarf_limit v))) ≡ true
-snarf-fits_later v s =
-    le-leb (utf8_length (prefix_in_bytes s (snarf_limit v))) 32000 (omega (arith, prefix_within s (snarf_limit v), limit-if (v == 1)))
+snarf-fits_later v s = fits_last_h v (Hsetsnarf (prefix_in_bytes s (snarf_limit v))) (snarf-fits v s)
 
 pub reply_frames_fit : (h : PlainHost) (m : Tmesg) (seen : ℕ) → AreNamesShort h.files → FitInPlace h.version (stamped seen (reply_to h m).1)
 unfolding reply_version reply_check reply_origin reply_startfile reply_workfile reply_cut reply_snarf reply_write reply_close reply_search reply_dclick reply_startsnarf reply_setsnarf reply_exit

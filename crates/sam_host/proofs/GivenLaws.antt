@@ -2,7 +2,7 @@
 use Rattle.std.proofs.Common.{◌≡◌, ℕ, ◌≤◌, List, [], ◌∷◌, ◌++◌, length, Option, Some, refl, sym, ap, ◌∙◌, subst, append_assoc}
 use Rattle.std.specs.Prelude.{reverse}
 use Rattle.std.proofs.lemmas.List.{reverse-append}
-use Rattle.sam_runes.specs.Texts.{RoomyText}
+use Rattle.sam_runes.specs.Texts.{RoomyText, most_in_name}
 use Rattle.sam_runes.specs.Slots.{Slots, put_slot}
 use Rattle.sam_text.specs.Files.{PlainFile, blank_file}
 use Rattle.sam_host.specs.Host.{PlainHost, given_file, given_slots, command_name, new_host, with_given}
@@ -25,7 +25,7 @@ given_step ss all rest g e =
     ∙ (append_assoc ss (Some x ∷ []) (given_slots (given_of (reverse rest)))
     ∙ ap (λ (gs : List Given). ss ++ given_slots (given_of gs)) (sym (turned all rest g e)))
 
-pub names_step : (all rest : List Given) (g : Given) → all ≡ rest ++ g ∷ [] → AreNames (reverse all) → (length g.0 ≤ 64) × AreNames (reverse rest)
+pub names_step : (all rest : List Given) (g : Given) → all ≡ rest ++ g ∷ [] → AreNames (reverse all) → (length g.0 ≤ most_in_name) × AreNames (reverse rest)
 names_step all rest g e h = subst AreNames (turned all rest g e) h
 
 reverse-twice : (gs : List Given) → reverse (reverse gs) ≡ gs

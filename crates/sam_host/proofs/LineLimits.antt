@@ -2,7 +2,7 @@
 use Rattle.std.proofs.Common.{◌≡◌, ℕ, zero, suc, ◌+◌, ◌≤◌, List, [], ◌∷◌, length, Bool, true, false, cond, Option, Some, None, Result, Ok, Err, refl, arith}
 use Rattle.std.specs.Prelude.{IfSome, IfOk, ⊤, ◌||◌, ◌==◌, nat_lt, option_and_then, option_map}
 use Rattle.std.proofs.lemmas.Bool.{ltb-false}
-use Rattle.sam_runes.specs.Texts.{max_runes}
+use Rattle.sam_runes.specs.Texts.{max_runes, most_in_name, most_in_pattern}
 use Rattle.sam_runes.specs.Edits.{inserted}
 use Rattle.sam_runes.specs.Slots.{slot}
 use Rattle.sam_text.specs.declared.word.Word.{Word}
@@ -41,7 +41,7 @@ second_test false b e = e
 -- ## Patterns
 
 abbrev IsShort : List ℕ → Type 0
-IsShort p = length p ≤ 128
+IsShort p = length p ≤ most_in_pattern
 
 abbrev IsSideShort : Option Side → Type 0
 IsSideShort (Some (side.Find p)) = IsShort p
@@ -59,15 +59,15 @@ AreStepsShort (s ∷ ss) = IsShort s.pattern × AreStepsShort ss
 abbrev IsCommandShort : Command → Type 0
 IsCommandShort (command.Go a) = IsAddressShort (Some a)
 IsCommandShort (command.Run a ss l) = IsAddressShort a × AreStepsShort ss
-IsCommandShort (command.Name n) = length n ≤ 64
+IsCommandShort (command.Name n) = length n ≤ most_in_name
 IsCommandShort command.Quit = ⊤
 
 pattern_short : (line : List ℕ) → IfOk (pattern_at line) (λ p. IsShort p.0)
 unfolding pattern_at
 pattern_short line =
     bind_any (λ (p : List ℕ × List ℕ). IsShort p.0) (quoted true false line) _
-    (λ p. ok_if (λ (p : List ℕ × List ℕ). IsShort p.0) ((length p.0 == 0) || nat_lt 128 (length p.0)) (Err word.Pattern) (Ok p) (λ e. tt)
-    (λ e. ltb-false 128 (length p.0) (second_test (length p.0 == 0) _ e)))
+    (λ p. ok_if (λ (p : List ℕ × List ℕ). IsShort p.0) ((length p.0 == 0) || nat_lt most_in_pattern (length p.0)) (Err word.Pattern) (Ok p) (λ e. tt)
+    (λ e. ltb-false most_in_pattern (length p.0) (second_test (length p.0 == 0) _ e)))
 
 behind_slash_short : (line : List ℕ) → IfOk (behind_slash pattern_at line) (λ p. IsShort p.0)
 behind_slash_short [] = tt
@@ -134,7 +134,7 @@ name_short : (line : List ℕ) → IfOk (name_of line) IsCommandShort
 name_short [] = omega arith
 name_short (c ∷ cs) =
     ok_if IsCommandShort (is_blank c) _ (Err word.Command)
-    (λ e. ok_if IsCommandShort (nat_lt 64 (length (trimmed cs))) (Err word.Name) _ (λ e. tt) (λ e. ltb-false 64 (length (trimmed cs)) e))
+    (λ e. ok_if IsCommandShort (nat_lt most_in_name (length (trimmed cs))) (Err word.Name) _ (λ e. tt) (λ e. ltb-false most_in_name (length (trimmed cs)) e))
     (λ e. tt)
 
 behind_address_short : (a : Option Address) (rest : List ℕ) → IsAddressShort a → IfOk (behind_address a rest) IsCommandShort
@@ -158,8 +158,8 @@ command_short line = at_line (skip line)
 
 -- what an outcome leaves as a name or a pattern
 pub record IsWithin (o : PlainOutcome) : Type 0 where
-  pub name : IfSome o.name (λ n. length n ≤ 64)
-  pub pattern : IfSome o.pattern (λ p. length p ≤ 128)
+  pub name : IfSome o.name (λ n. length n ≤ most_in_name)
+  pub pattern : IfSome o.pattern (λ p. length p ≤ most_in_pattern)
 
 later_short : (x y : Option (List ℕ)) → IfSome x IsShort → IfSome y IsShort → IfSome (later x y) IsShort
 later_short x None h k = h

@@ -6,7 +6,7 @@ use Rattle.std.proofs.lemmas.List.{length-take}
 use Rattle.std.proofs.Math.Seq.{take-length}
 use Rattle.std.proofs.lemmas.Bool.{leb-true}
 use Rattle.std.proofs.lemmas.Str.{length-encode, len_utf8_bounds}
-use Rattle.sam_runes.specs.Texts.{max_runes, part}
+use Rattle.sam_runes.specs.Texts.{max_runes, part, last_snarf_limit}
 use Rattle.sam_mesg.specs.TerminalKinds.{fits_t}
 use Rattle.sam_mesg.specs.declared.tmesg.Tmesg.TheVariants.{Tsetsnarf}
 
@@ -20,7 +20,7 @@ runes_below_bytes (c ∷ runes) =
     omega arith
 
 pub snarf_short : (runes : List ℕ) → IsTrue (fits_t 2 (Tsetsnarf runes)) → length runes ≤ max_runes
-snarf_short runes e = omega (arith, runes_below_bytes runes, leb-true (length (encode_utf8_all runes)) 32000 e)
+snarf_short runes e = omega (arith, runes_below_bytes runes, leb-true (length (encode_utf8_all runes)) last_snarf_limit e)
 
 pub part_all : (t : List ℕ) → part t 0 (length t) ≡ t
 part_all t =

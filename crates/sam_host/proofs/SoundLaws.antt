@@ -3,7 +3,7 @@ use Rattle.std.proofs.Common.{◌≡◌, ◌≢◌, ◌⊎◌, ℕ, zero, suc, �
 use Rattle.std.specs.Prelude.{unwrap_or, option_map, IfSome, All, ◌==◌, nat_lt, nat_le, ◌||◌, ◌&&◌, not, min}
 use Rattle.std.proofs.lemmas.Bool.Decides.{eqb_tells}
 use Rattle.std.proofs.lemmas.List.Elements.{All-nil, All-cons}
-use Rattle.sam_runes.specs.Texts.{Range, common_version, most_count, max_runes, most_in_pattern, all_tags, is_empty, part, searched, ends_line, as_lines, last_line}
+use Rattle.sam_runes.specs.Texts.{Range, common_version, most_count, max_runes, most_in_pattern, all_tags, is_empty, part, searched, ends_line, as_lines, last_line, most_in_name}
 use Rattle.sam_runes.specs.Slots.{Slots, slot, put_slot, free_slot}
 use Rattle.sam_runes.specs.Checks.{first_of_checks}
 use Rattle.sam_runes.proofs.SlotLaws.{slot-put_same, slot-put_other, slot-map, slot-free_same, slot-free_other}
@@ -24,9 +24,9 @@ use Rattle.sam_host.proofs.FrameFits.{reply_frames_fit}
 -- ## Names
 
 abbrev IsShort : Option PlainFile → Type 0
-IsShort o = length (unwrap_or o blank_file).name ≤ 64
+IsShort o = length (unwrap_or o blank_file).name ≤ most_in_name
 
-names-put : (fs : PlainFiles) (g : ℕ) (x : PlainFile) → AreNamesShort fs → length x.name ≤ 64 → AreNamesShort (put_file fs g x)
+names-put : (fs : PlainFiles) (g : ℕ) (x : PlainFile) → AreNamesShort fs → length x.name ≤ most_in_name → AreNamesShort (put_file fs g x)
 names-put fs g x all short f = go (eqb_tells g f)
   where
     go : ((nat_eq g f ≡ true) × (g ≡ f)) ⊎ ((nat_eq g f ≡ false) × (g ≢ f)) → IsShort (slot (put_slot fs.slots g x) f)
@@ -56,10 +56,10 @@ names-print fs s all = go (is_printed fs s)
     go true = names-put fs 0 (printed_file (file_at fs 0) s) all (all 0)
     go false = all
 
-short-after : (file : PlainFile) (o : PlainOutcome) → length file.name ≤ 64 → IsWithin o → length (file_after file o).name ≤ 64
+short-after : (file : PlainFile) (o : PlainOutcome) → length file.name ≤ most_in_name → IsWithin o → length (file_after file o).name ≤ most_in_name
 short-after file o h within = go o.name within.name
   where
-    go : (n : Option (List ℕ)) → IfSome n (λ n. length n ≤ 64) → length (unwrap_or n file.name) ≤ 64
+    go : (n : Option (List ℕ)) → IfSome n (λ n. length n ≤ most_in_name) → length (unwrap_or n file.name) ≤ most_in_name
     go None k = h
     go (Some n) k = k
 

@@ -1,11 +1,11 @@
 -- The names and texts that a host is made with.
 use Rattle.std.specs.Prelude.{ℕ, ◌≤◌, List, [], ◌∷◌, length}
-use Rattle.sam_runes.specs.Texts.{RoomyText}
+use Rattle.sam_runes.specs.Texts.{RoomyText, most_in_name}
 
--- each name has at most 64 runes
+-- each name is within the limit
 abbrev pub AreNames : List (List ℕ × RoomyText) → Type 0
 AreNames [] = Unit {0}
-AreNames (given ∷ more) = (length given.0 ≤ 64) × AreNames more
+AreNames (given ∷ more) = (length given.0 ≤ most_in_name) × AreNames more
 
 -- the names and texts, without the rooms
 abbrev pub given_of : List (List ℕ × RoomyText) → List (List ℕ × List ℕ)

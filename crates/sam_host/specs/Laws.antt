@@ -1,17 +1,15 @@
 -- What holds of the host in every state, and of the frames of every answer.
 use Rattle.std.specs.Prelude.{◌≡◌, ℕ, ◌+◌, ◌≤◌, ◌⊎◌, ◌==◌, if◌then◌else◌, List, [], ◌∷◌, ◌++◌, length, true, false, All, Ok}
-use Rattle.sam_runes.specs.Texts.{common_version, most_count, max_runes}
+use Rattle.sam_runes.specs.Texts.{common_version, most_count, max_runes, most_in_name}
 use Rattle.sam_text.specs.Files.{PlainFiles, file_at, AreFit}
-use Rattle.sam_mesg.specs.HostKinds.{fits_h}
+use Rattle.sam_mesg.specs.HostKinds.{after_h, fits_h}
 use Rattle.sam_mesg.specs.declared.tmesg.Tmesg.{Tmesg}
-use Rattle.sam_mesg.specs.declared.hmesg.Hmesg.{Hmesg}
-use Rattle.sam_mesg.specs.declared.hmesg.Hmesg.TheVariants.{Hversion}
 use Rattle.sam_mesg.specs.declared.hmesg.HFrame.{HFrame}
 use Rattle.sam_host.specs.Host.{PlainHost, answer, counted, new_host, with_given}
 
 -- every name fits in a message
 abbrev pub AreNamesShort : PlainFiles → Type 0
-AreNamesShort fs = (f : ℕ) → length (file_at fs f).name ≤ 64
+AreNamesShort fs = (f : ℕ) → length (file_at fs f).name ≤ most_in_name
 
 -- names fit in a message, texts are within their limit with dots that are ranges of them, and the version is one of the two
 pub record IsSound (h : PlainHost) : Type 0 where
@@ -19,20 +17,15 @@ pub record IsSound (h : PlainHost) : Type 0 where
   pub files : AreFit h.files
   pub version : (h.version ≡ 1) ⊎ (h.version ≡ 2)
 
--- the version behind a message, where it was this one before
-abbrev pub version_after : ℕ → Hmesg → ℕ
-version_after version (Hversion offered) = if offered == 0 then version else common_version offered
-version_after version m = version
-
 -- each frame fits in the version at its place, and in the last one
 abbrev pub FitInPlace : ℕ → List HFrame → Type 0
 FitInPlace version [] = Unit {0}
-FitInPlace version (f ∷ fs) = (fits_h version f.msg ≡ true) × (fits_h 2 f.msg ≡ true) × FitInPlace (version_after version f.msg) fs
+FitInPlace version (f ∷ fs) = (fits_h version f.msg ≡ true) × (fits_h 2 f.msg ≡ true) × FitInPlace (after_h version f.msg) fs
 
 -- the names and texts that a host is made with are within their limits
 abbrev pub AreGiven : List (List ℕ × List ℕ) → Type 0
 AreGiven [] = Unit {0}
-AreGiven (given ∷ more) = (length given.0 ≤ 64) × (length given.1 ≤ max_runes) × AreGiven more
+AreGiven (given ∷ more) = (length given.0 ≤ most_in_name) × (length given.1 ≤ max_runes) × AreGiven more
 
 -- ## The laws
 

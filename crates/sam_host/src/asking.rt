@@ -10,13 +10,8 @@ ghost use Rattle.sam_text.specs.Files.{file_at};
 use crate::fault::HostFault;
 use crate::host::Host;
 use sam_mesg::{HFrame, Hmesg, Tmesg};
+use sam_runes::{MOST_IN_MESSAGE, MOST_IN_PATTERN};
 use sam_text::FileChange;
-
-/// The most runes in one text message.
-const MOST_IN_MESSAGE: u32 = 512;
-
-/// The most runes in a pattern.
-const MOST_IN_PATTERN: usize = 128;
 
 impl Host {
     /// Answers `Tcheck` with `Hcheck`, which reaches the terminal after all that the host has said of the file. Errors, in this order:
@@ -37,9 +32,9 @@ impl Host {
         Ok(frames)
     }
 
-    /// Answers `Trequest`: `Hdata` with the runes from `p` on, at most `n` and at most 512, and `Hunlockfile`. A request that reaches past
-    /// the end gets what there is. One for a file that was closed gets no frame, since `Hclose` has freed the lock. Errors, in this order:
-    /// `NoFile` if the tag was never given; `NotOpen`; `OutOfMemory`.
+    /// Answers `Trequest`: `Hdata` with the runes from `p` on, at most `n` and at most `MOST_IN_MESSAGE`, and `Hunlockfile`. A request
+    /// that reaches past the end gets what there is. One for a file that was closed gets no frame, since `Hclose` has freed the lock.
+    /// Errors, in this order: `NoFile` if the tag was never given; `NotOpen`; `OutOfMemory`.
     #[tactic(auto, unfolding(crate::specs::Host::reply_request, crate::specs::Host::when))]
     pub(crate) fn request(&mut self, f: u16, p: u32, n: u16) -> Result<Vec<HFrame>, HostFault>
         requires { self.old.taken + 1 < 2 ^ 64 }
@@ -62,7 +57,7 @@ impl Host {
         }
         let len = self.text_len(f);
         let start = p.min(len);
-        let wanted = (n as u32).min(MOST_IN_MESSAGE);
+        let wanted = (n as u32).min(MOST_IN_MESSAGE as u32);
         let end = if p < len { (p + wanted).min(len) } else { len };
         let runes = self.part(f, start, end)?;
         self.say(&mut frames, Hmesg::Hdata(f, start, runes))?;
@@ -173,10 +168,10 @@ impl Host {
         self.say(frames, Hmesg::Hunlockfile(f))
     }
 
-    /// Answers `Tlook`: what stands from `p` to `q` becomes the pattern, and its first occurrence from `q` on, else from the start, becomes
-    /// the dot. The selected text itself counts, so there always is one. If the range is empty or has more than 128 runes, nothing changes,
-    /// and `Hunlockfile` is the one frame. Errors, in this order: `NoFile`; `NotOpen`; `BadPosition` if the text has no such range;
-    /// `OutOfMemory`.
+    /// Answers `Tlook`: what stands from `p` to `q` becomes the pattern, and its first occurrence from `q` on, else from the start,
+    /// becomes the dot. The selected text itself counts, so there always is one. If the range is empty or has more than `MOST_IN_PATTERN`
+    /// runes, nothing changes, and `Hunlockfile` is the one frame. Errors, in this order: `NoFile`; `NotOpen`; `BadPosition` if the text
+    /// has no such range; `OutOfMemory`.
     #[tactic(auto, unfolding(crate::specs::Host::reply_look))]
     pub(crate) fn look(&mut self, f: u16, p: u32, q: u32) -> Result<Vec<HFrame>, HostFault>
         requires { self.old.taken + 1 < 2 ^ 64 }
@@ -210,9 +205,9 @@ impl Host {
         Ok(frames)
     }
 
-    /// Answers `Tsearch`: the first occurrence of the pattern from `q` on, else from the start, becomes the dot. If there is no pattern or
-    /// no occurrence, nothing changes, and `Hunlockfile` is the one frame. Errors, in this order: `NoFile`; `NotOpen`; `BadPosition` if the
-    /// text has no range from `p` to `q`; `OutOfMemory`.
+    /// Answers `Tsearch`: the first occurrence of the pattern from `q` on, else from the start, becomes the dot. If there is no pattern
+    /// or no occurrence, nothing changes, and `Hunlockfile` is the one frame. Errors, in this order: `NoFile`; `NotOpen`; `BadPosition`
+    /// if the text has no range from `p` to `q`; `OutOfMemory`.
     #[tactic(auto, unfolding(crate::specs::Host::reply_search))]
     pub(crate) fn search(&mut self, f: u16, p: u32, q: u32) -> Result<Vec<HFrame>, HostFault>
         requires { self.old.taken + 1 < 2 ^ 64 }

@@ -1,9 +1,9 @@
-//! The answers to what changes a file or the snarf buffer: cutting, pasting, snarfing and writing, and how typed runes are put in. A method
-//! for a kind leaves the count of messages to its caller, and after an error the host is unchanged.
+//! The answers to what changes a file or the snarf buffer: cutting, pasting, snarfing and writing, and how typed runes are put in. A
+//! method for a kind leaves the count of messages to its caller, and after an error the host is unchanged.
 
 ghost use Rattle.std.specs.Prelude.{◌≡◌, ◌⊎◌, ◌<◌, ◌≤◌, ◌+◌, ◌++◌, ◌∷◌, [], ◌^◌, IfOk, IfErr, OnOk, OnErr, Err, None, Some, IsTrue, true, not, ◌&&◌, ◌==◌, length};
 ghost use Rattle.sam_host.specs.Host.{host_checks, stamped, when, grown, with_file, reply_cut, reply_paste, reply_snarf, reply_setsnarf, reply_startsnarf, reply_write};
-ghost use Rattle.sam_runes.specs.Texts.{max_runes, snarf_limit};
+ghost use Rattle.sam_runes.specs.Texts.{max_runes};
 ghost use Rattle.sam_runes.specs.Checks.{first_of_checks};
 ghost use Rattle.sam_text.specs.Files.{has_file, file_at, typed_file, pasted_file};
 ghost use Rattle.sam_mesg.specs.TerminalKinds.{fits_t};
@@ -12,11 +12,8 @@ use crate::fault::HostFault;
 use crate::host::Host;
 use sam_mesg::{HFrame, Hmesg, Tmesg};
 use sam_runes::places::prefix_in_bytes;
-use sam_runes::{MAX_RUNES, Runes};
+use sam_runes::{MAX_RUNES, Runes, snarf_limit};
 use sam_text::FileChange;
-
-/// The most bytes of UTF-8 that a snarfed text may have in one message: of version 1, and of version 2.
-const SNARF_LIMITS: (usize, usize) = (4_096, 32_000);
 
 impl Host {
     /// Answers `Tcut` with no frame: takes out what stands from `p` to `q`, as the terminal has done already. The dot is then empty, at
@@ -81,9 +78,9 @@ impl Host {
         }
     }
 
-    /// Answers `Tpaste`: puts the snarf buffer in at `p`, selects it, and tells the terminal what came in. Any file but the command file is
-    /// then dirty. If the buffer is empty, or the text would have more than 1,000,000 runes, nothing changes, and `Hunlockfile` is the one
-    /// frame. Errors, in this order: `NoFile`; `NotOpen`; `BadPosition` if `p` is past the end; `OutOfMemory`.
+    /// Answers `Tpaste`: puts the snarf buffer in at `p`, selects it, and tells the terminal what came in. Any file but the command file
+    /// is then dirty. If the buffer is empty, or the text would have more than `MAX_RUNES` runes, nothing changes, and `Hunlockfile` is
+    /// the one frame. Errors, in this order: `NoFile`; `NotOpen`; `BadPosition` if `p` is past the end; `OutOfMemory`.
     #[tactic(auto, unfolding(crate::specs::Host::reply_paste))]
     pub(crate) fn paste(&mut self, f: u16, p: u32) -> Result<Vec<HFrame>, HostFault>
         requires { self.old.taken + 1 < 2 ^ 64 }
@@ -145,17 +142,6 @@ impl Host {
         Ok(frames)
     }
 
-    /// Returns how many bytes of UTF-8 a snarfed text may have in one message of the host's version.
-    fn snarf_limit(&self) -> usize
-        ensures { result ≡ snarf_limit self.now.version }
-    {
-        if self.version == 1 {
-            SNARF_LIMITS.0
-        } else {
-            SNARF_LIMITS.1
-        }
-    }
-
     /// Answers `Tstartsnarf`: `Hsetsnarf` with the longest front of the snarf buffer, in whole runes, that fits in a message of the
     /// version. The only error is `OutOfMemory`.
     #[tactic(auto, unfolding(crate::specs::Host::reply_startsnarf))]
@@ -169,7 +155,7 @@ impl Host {
         ensures unchanged { OnErr result (self.new ≡ self.old) }
     {
         let snarf = self.files.snarf_text().as_slice();
-        let len = prefix_in_bytes(snarf, self.snarf_limit());
+        let len = prefix_in_bytes(snarf, snarf_limit(self.version));
         let runes = Runes::from_slice(self.alloc, &snarf[..len])?;
         let mut frames = Vec::new(self.alloc);
         self.say(&mut frames, Hmesg::Hsetsnarf(runes))?;
@@ -185,8 +171,8 @@ impl Host {
         self.part(f, 0, self.text_len(f))
     }
 
-    /// Answers `Twrite`: a copy of the text becomes the saved copy, and the file is clean. The host touches no disk. Errors, in this order:
-    /// `NoFile`; `CommandFile`; `NotOpen`; `OutOfMemory`.
+    /// Answers `Twrite`: a copy of the text becomes the saved copy, and the file is clean. The host touches no disk. Errors, in this
+    /// order: `NoFile`; `CommandFile`; `NotOpen`; `OutOfMemory`.
     #[tactic(auto, unfolding(crate::specs::Host::reply_write))]
     pub(crate) fn write(&mut self, f: u16) -> Result<Vec<HFrame>, HostFault>
         requires { self.old.taken + 1 < 2 ^ 64 }

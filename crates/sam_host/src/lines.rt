@@ -16,7 +16,7 @@ use crate::fault::HostFault;
 use crate::host::Host;
 use sam_mesg::{HFrame, Hmesg, Tmesg};
 use sam_runes::places::start_of_line;
-use sam_runes::{Edit, MAX_RUNES, Runes};
+use sam_runes::{ALL_TAGS, Edit, MAX_RUNES, Runes};
 use sam_text::{FileChange, Outcome};
 
 impl Host {
@@ -357,8 +357,8 @@ impl Host {
         Ok(frames)
     }
 
-    /// Types runes that end in a newline into the command file at `p`, and runs the line that this newline ends. If the line meets want of
-    /// memory, what was typed is taken out again.
+    /// Types runes that end in a newline into the command file at `p`, and runs the line that this newline ends. If the line meets want
+    /// of memory, what was typed is taken out again.
     fn type_line(&mut self, p: u32, runes: &[char]) -> Result<Vec<HFrame>, HostFault>
         requires count { self.old.taken + 1 < 2 ^ 64 }
         requires filled { 0 < length runes.now }
@@ -413,10 +413,10 @@ impl Host {
         }
     }
 
-    /// Answers `Ttype`: puts the runes in at `p`, as the terminal has done already, and so with no frame. If they go into the command file
-    /// and end in a newline, the line that this newline ends is run, and its frames are the answer. Errors, in this order: `NoFile`;
-    /// `NotOpen`; `BadPosition` if `p` is past the end; `TooLong` if the text would have more than 1,000,000 runes; `OutOfMemory`. After an
-    /// error the host is unchanged. The caller counts the message.
+    /// Answers `Ttype`: puts the runes in at `p`, as the terminal has done already, and so with no frame. If they go into the command
+    /// file and end in a newline, the line that this newline ends is run, and its frames are the answer. Errors, in this order: `NoFile`;
+    /// `NotOpen`; `BadPosition` if `p` is past the end; `TooLong` if the text would have more than `MAX_RUNES` runes; `OutOfMemory`.
+    /// After an error the host is unchanged. The caller counts the message.
     #[tactic(auto, using(crate::proofs::TypingLaws::type_as_line, crate::proofs::TypingLaws::type_alone))]
     pub(crate) fn type_in(
         &mut self,
@@ -537,7 +537,7 @@ impl Host {
     }
 
     /// Answers `Tstartnewfile`: makes an empty, clean file with no name under the next tag, opens it, and makes it the work file. If all
-    /// 65,536 tags were given, `? no tag` is printed instead. The only error is `OutOfMemory`, and the host is then unchanged. The caller
+    /// tags were given, `? no tag` is printed instead. The only error is `OutOfMemory`, and the host is then unchanged. The caller
     /// counts the message.
     #[tactic(auto, using(crate::proofs::WorkLaws::put_is_work), unfolding(crate::specs::Host::reply_startnewfile))]
     pub(crate) fn start_new_file(&mut self) -> Result<Vec<HFrame>, HostFault>
@@ -550,7 +550,7 @@ impl Host {
         ensures unchanged { OnErr result (self.new ≡ self.old) }
     {
         let tags = self.files.tags();
-        if tags >= 65_536 {
+        if tags >= ALL_TAGS {
             let frames = self.no_tag_left()?;
             return Ok(frames);
         }

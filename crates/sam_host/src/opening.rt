@@ -8,7 +8,7 @@ ghost use Rattle.sam_runes.specs.Checks.{first_of_checks};
 use crate::fault::HostFault;
 use crate::host::Host;
 use sam_mesg::{HFrame, Hmesg, Tmesg};
-use sam_runes::Runes;
+use sam_runes::{Runes, common_version};
 use sam_text::FileChange;
 
 impl Host {
@@ -54,10 +54,10 @@ impl Host {
             return Err(HostFault::BadVersion);
         }
         let mut frames = Vec::new(self.alloc);
-        self.say(&mut frames, Hmesg::Hversion(offered.min(2)))?;
+        self.say(&mut frames, Hmesg::Hversion(common_version(offered)))?;
         self.tell_names(&mut frames)?;
         self.tell_ready(&mut frames)?;
-        self.version = offered.min(2);
+        self.version = common_version(offered);
         self.files.announce_all();
         Ok(frames)
     }

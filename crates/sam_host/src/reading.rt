@@ -38,7 +38,7 @@ impl Host {
         }
     }
 
-    /// Returns how many runes the text of the file has: at most 1,000,000, and 0 if there is no file.
+    /// Returns how many runes the text of the file has: at most `MAX_RUNES`, and 0 if there is no file.
     pub(crate) fn text_len(&self, f: u16) -> u32
         ensures len { result ≡ length (file_at self.now.files f).text }
         ensures limit { length (file_at self.now.files f).text ≤ max_runes }
@@ -90,8 +90,8 @@ impl Host {
         Ok(())
     }
 
-    /// Tests that the file is there and open, and has the range from `p` to `q`. Errors, in this order: `NoFile`; `NotOpen`; `BadPosition`
-    /// if `q` is below `p` or past the end.
+    /// Tests that the file is there and open, and has the range from `p` to `q`. Errors, in this order: `NoFile`; `NotOpen`;
+    /// `BadPosition` if `q` is below `p` or past the end.
     pub(crate) fn wants_range(&self, f: u16, p: u32, q: u32) -> Result<(), HostFault>
         ensures answer { result ≡ unless (first_of_checks (unknown self.now f ∷ not_opened self.now f ∷ no_range self.now f p q ∷ [])) tt }
         ensures there { OnOk result (has_file self.now.files f ≡ true) }

@@ -12,10 +12,7 @@ ghost use Rattle.sam_mesg.specs.declared.hmesg.HFrame.{HFrame};
 use crate::fault::HostFault;
 use crate::host::Host;
 use sam_mesg::{HFrame, Hmesg};
-use sam_runes::{MAX_RUNES, Runes};
-
-/// The most runes in one text message.
-const MOST_IN_MESSAGE: usize = 512;
+use sam_runes::{MAX_RUNES, MOST_IN_MESSAGE, Runes};
 
 impl Host {
     /// Adds one frame of the message that is being answered.
@@ -29,8 +26,8 @@ impl Host {
         Ok(())
     }
 
-    /// Tells that `runes` were put into the file at `p`: by `Hgrowdata` with the runes if there are at most 512, else by `Hgrow` with their
-    /// number alone. Nothing is told if the file is not open or there are no runes.
+    /// Tells that `runes` were put into the file at `p`: by `Hgrowdata` with the runes if there are at most `MOST_IN_MESSAGE`, else by
+    /// `Hgrow` with their number alone. Nothing is told if the file is not open or there are no runes.
     #[tactic(auto, unfolding(crate::specs::Host::grown, crate::specs::Host::when))]
     pub(crate) fn grown(
         &self,
@@ -91,8 +88,8 @@ impl Host {
         self.say(frames, Hmesg::Hcheck(0))
     }
 
-    /// Tells what is about to be printed at the end of the command file. Nothing is told if there are no runes, if the command file has no
-    /// room for them, or if it is not open.
+    /// Tells what is about to be printed at the end of the command file. Nothing is told if there are no runes, if the command file has
+    /// no room for them, or if it is not open.
     #[tactic(auto, using(crate::proofs::FrameLaws::told_both), unfolding(crate::specs::Host::printed, crate::specs::Host::when))]
     pub(crate) fn tell_print(
         &self,

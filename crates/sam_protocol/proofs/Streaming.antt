@@ -23,7 +23,8 @@ use Rattle.sam_protocol.proofs.Runs.{no_unlock, same_version}
 use Rattle.sam_protocol.proofs.Versions.{unlocks_behind, unlock_frames, no_changes}
 use Rattle.sam_protocol.proofs.Folds.{answered}
 use Rattle.sam_runes.proofs.CheckLaws.{none_holds}
-use Rattle.sam_protocol.specs.Streams.{version_past, version_behind}
+use Rattle.sam_mesg.specs.TerminalKinds.{after_t}
+use Rattle.sam_protocol.specs.Streams.{version_behind}
 use Rattle.sam_protocol.proofs.Composing.{not_done_ahead}
 
 -- ## Versions
@@ -37,7 +38,7 @@ version-found h f None ms = refl
 version-found h f (Some d) ms = refl
 
 -- the version behind a message that nothing stands against
-version_next : (h : PlainHost) (m : Tmesg) → first_of_checks (host_checks h m) ≡ None → (reply_to h m).0.version ≡ version_past h.version m
+version_next : (h : PlainHost) (m : Tmesg) → first_of_checks (host_checks h m) ≡ None → (reply_to h m).0.version ≡ after_t h.version m
 unfolding reply_version reply_startcmdfile reply_check reply_request reply_origin reply_startfile reply_workfile reply_cut reply_paste reply_snarf reply_startnewfile reply_write reply_close reply_look reply_search reply_dclick reply_startsnarf reply_setsnarf reply_exit reply_type reply_send
 version_next h (Tversion v) e = sym (ap (λ (b : Bool). if b then h.version else common_version v) (none_holds (v == 0, hostfault.BadVersion) [] e).0)
 version_next h Tstartcmdfile e = version-if h.version (file_at h.files 0).opened _ _ refl refl
@@ -159,13 +160,13 @@ running ms h r e d = go h.is_done refl
     go true q = absurd (true≢false (sym (still_done ms h r e q) ∙ d))
     go false q = refl
 
-one_past : (h : PlainHost) (m : Tmesg) (r : Reply) → h.is_done ≡ false → reply_of h m ≡ Some r → r.0.version ≡ version_past h.version m
+one_past : (h : PlainHost) (m : Tmesg) (r : Reply) → h.is_done ≡ false → reply_of h m ≡ Some r → r.0.version ≡ after_t h.version m
 one_past h m r d e = go (first_of_checks (host_checks h m)) refl (sym (ap (λ (b : Bool). if b then Some (counted h, []) else replied (first_of_checks (host_checks h m)) (reply_to h m)) d) ∙ e)
   where
     the_reply : {p q : Reply} → Some p ≡ Some q → p ≡ q
     the_reply e = cc
 
-    go : (o : Option HostFault) → first_of_checks (host_checks h m) ≡ o → replied o (reply_to h m) ≡ Some r → r.0.version ≡ version_past h.version m
+    go : (o : Option HostFault) → first_of_checks (host_checks h m) ≡ o → replied o (reply_to h m) ≡ Some r → r.0.version ≡ after_t h.version m
     go None c q = ap (λ (x : Reply). x.0.version) (sym (the_reply q)) ∙ version_next h m c
     go (Some why) c q = absurd (let x : None ≡ Some r = q in cc)
 
@@ -183,7 +184,7 @@ folded_version (m ∷ ms) h r e d =
 unsent_past : (up : List Tmesg) (u : Option Unsent) (v : ℕ) → version_behind v (up ++ unsent_message u) ≡ version_behind v up
 unsent_past [] None v = refl
 unsent_past [] (Some u) v = refl
-unsent_past (m ∷ up) u v = unsent_past up u (version_past v m)
+unsent_past (m ∷ up) u v = unsent_past up u (after_t v m)
 
 -- where the terminal may act, its version is that of the stream at the place of its next message
 pub version_at_place : (h : PlainHost) (t : PlainTerminal) (up : List Tmesg) (down : List Hmesg) → InOrder h t up down → t.command_lock ≡ false → t.has_exited ≡ false

@@ -1,7 +1,7 @@
 -- Runes put into a loaded section that has room for them.
 use Rattle.std.proofs.Common.{◌≡◌, refl, sym, ap, ◌∙◌, subst, ℕ, zero, suc, ◌+◌, ◌≤◌, ◌<◌, List, [], ◌∷◌, ◌++◌, take, drop, length, get_or, set, arith, true, false}
 use Rattle.std.proofs.lemmas.List.{append_assoc, take-append-le, drop-append-le}
-use Rattle.sam_runes.specs.Texts.{ins}
+use Rattle.sam_runes.specs.Texts.{ins, most_in_message}
 use Rattle.sam_rasp.specs.Rasp.{PartialText}
 use Rattle.sam_rasp.specs.Sections.{cells, cells_of, size, may_join, is_loaded, IsFilled, IsNormal}
 use Rattle.sam_rasp.specs.declared.section.Section.{Section}
@@ -20,7 +20,7 @@ pub record Grows (a b : Section) : Type 0 where
   pub loaded : is_loaded a ≡ true
   pub loaded_after : is_loaded b ≡ true
   pub more : size a ≤ size b
-  pub limit : size b ≤ 512
+  pub limit : size b ≤ most_in_message
 
 apart-front : (w a b : Section) → Grows a b → may_join w a ≡ false → may_join w b ≡ false
 apart-front (Loaded r) (Loaded s) (Loaded t) g f = let more = g.more in grind (arith, more, f)

@@ -8,9 +8,10 @@ ghost use Rattle.sam_rasp.specs.declared.section.Section.{Section};
 ghost use Rattle.sam_rasp.specs.Sections.{cells_of, cells_back, ends, IsApart, IsBegin, IsNormal};
 
 use crate::joining::{drop_front, join_all, move_before, push_joined};
-use crate::piece::{PIECE_ROOM, Piece};
+use crate::piece::Piece;
 use crate::section::Section;
 use crate::walking::{Begin, room_at};
+use sam_runes::MOST_IN_MESSAGE;
 use std::alloc::{AllocError, Global};
 
 /// Moves all of `rest`, which is held last to first, to the end of `out`, without the `n` runes and gaps from place `p` of `rest` on.
@@ -132,8 +133,8 @@ pub fn insert_inside(
     Some(begin)
 }
 
-/// Returns `runes` as loaded sections, of 512 runes each but for the last; without runes there is none. The only error is want of
-/// memory.
+/// Returns `runes` as loaded sections, of `MOST_IN_MESSAGE` runes each but for the last; without runes there is none. The only error is
+/// want of memory.
 pub fn loaded_sections(alloc: Global, runes: &[char]) -> Result<Vec<Section>, AllocError>
     requires { length runes.now ≤ max_runes }
     ensures cells { IfOk result (λ v. cells_of v.items ≡ map Some runes.now) }
@@ -142,7 +143,7 @@ pub fn loaded_sections(alloc: Global, runes: &[char]) -> Result<Vec<Section>, Al
     let mut sections = Vec::new(alloc);
     let mut at = 0;
     while at < runes.len() {
-        let end = runes.len().min(at + PIECE_ROOM);
+        let end = runes.len().min(at + MOST_IN_MESSAGE);
         let mut piece = Piece::new(alloc)?;
         piece.extend(&runes[at..end]);
         sections.push(Section::Loaded(piece))?;

@@ -1,46 +1,45 @@
 //! `Piece`: the text of a loaded section, with room for a full one from the start.
 
 ghost use Rattle.std.specs.Prelude.{◌≡◌, ◌≤◌, ◌+◌, ◌++◌, ◌↔◌, [], length, IsTrue, IfOk, slice_get, take, drop};
-ghost use Rattle.sam_runes.specs.Texts.{del, ins};
+ghost use Rattle.sam_runes.specs.Texts.{del, ins, most_in_message};
 
+use sam_runes::MOST_IN_MESSAGE;
 use std::alloc::{AllocError, Global};
 use std::marker::Model;
 
-/// The most runes that a loaded section has.
-pub const PIECE_ROOM: usize = 512;
-
-/// The text of a loaded section: at most `PIECE_ROOM` runes. It has memory for that many from the start, so that no later change of
+/// The text of a loaded section: at most `MOST_IN_MESSAGE` runes. It has memory for that many from the start, so that no later change of
 /// it asks for memory.
 #[derive(Drop)]
 pub struct Piece {
-    /// The runes: at most `PIECE_ROOM`, in a vector with room for at least that many.
+    /// The runes: at most `MOST_IN_MESSAGE`, in a vector with room for at least that many.
     runes: Vec<char>,
 }
 
 impl Model for Piece {
     ghost use Rattle.std.specs.Prelude.{ℕ, List, ◌≤◌, vec_len, vec_capacity};
+    ghost use Rattle.sam_runes.specs.Texts.{most_in_message};
 
     ghost Value = { List ℕ };
 
     ghost view = { λ a. a.runes.items };
 
-    ghost invariant = { λ a. (vec_len a.runes ≤ 512) × (512 ≤ vec_capacity a.runes) };
+    ghost invariant = { λ a. (vec_len a.runes ≤ most_in_message) × (most_in_message ≤ vec_capacity a.runes) };
 }
 
 impl Piece {
-    /// Returns an empty piece with memory for `PIECE_ROOM` runes. The only error is want of memory.
+    /// Returns an empty piece with memory for `MOST_IN_MESSAGE` runes. The only error is want of memory.
     pub fn new(alloc: Global) -> Result<Piece, AllocError>
         ensures { IfOk result (λ a. a ≡ []) }
     {
         Ok(Piece {
-            runes: Vec::with_capacity(alloc, PIECE_ROOM)?,
+            runes: Vec::with_capacity(alloc, MOST_IN_MESSAGE)?,
         })
     }
 
-    /// Returns how many runes it has: at most `PIECE_ROOM`.
+    /// Returns how many runes it has: at most `MOST_IN_MESSAGE`.
     pub fn len(&self) -> usize
         ensures len { result ≡ length self.now }
-        ensures limit { length self.now ≤ 512 }
+        ensures limit { length self.now ≤ most_in_message }
     {
         self.runes.len()
     }
@@ -68,7 +67,7 @@ impl Piece {
 
     /// Puts `runes` at the end. The caller makes sure that there is room for them.
     pub fn extend(&mut self, runes: &[char])
-        requires { length self.old + length runes.now ≤ 512 }
+        requires { length self.old + length runes.now ≤ most_in_message }
         ensures { self.new ≡ self.old ++ runes.now }
     {
         if self.runes.extend_from_slice(runes).is_err() {
@@ -78,7 +77,7 @@ impl Piece {
 
     /// Puts the runes of `other` at the end. The caller makes sure that there is room for them.
     pub fn append(&mut self, other: Piece)
-        requires { length self.old + length other ≤ 512 }
+        requires { length self.old + length other ≤ most_in_message }
         ensures { self.new ≡ self.old ++ other }
     {
         self.extend(other.runes.as_slice());
@@ -87,7 +86,7 @@ impl Piece {
     /// Puts `runes` in at place `p`. The caller makes sure that there is room for them.
     pub fn insert(&mut self, p: usize, runes: &[char])
         requires within { p ≤ length self.old }
-        requires room { length self.old + length runes.now ≤ 512 }
+        requires room { length self.old + length runes.now ≤ most_in_message }
         ensures { self.new ≡ ins self.old p runes.now }
     {
         self.extend(runes);

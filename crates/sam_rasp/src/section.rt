@@ -1,14 +1,15 @@
 //! `Section`: a stretch of a rasp, either a loaded text or a hole.
 
 ghost use Rattle.std.specs.Prelude.{◌≡◌, ◌<◌, ◌≤◌, ◌+◌, ◌-◌, ◌++◌, ◌↔◌, IsTrue, [], length, map, slice_get, take, drop, true, Some};
-ghost use Rattle.sam_runes.specs.Texts.{del, ins, max_runes};
+ghost use Rattle.sam_runes.specs.Texts.{del, ins, max_runes, most_in_message};
 ghost use Rattle.sam_rasp.specs.Rasp.{Agrees};
 ghost use Rattle.sam_rasp.specs.Sections.{cells, size, may_join, is_loaded, joined, IsShort};
 
-use crate::piece::{PIECE_ROOM, Piece};
+use crate::piece::Piece;
+use sam_runes::MOST_IN_MESSAGE;
 
 /// A stretch of a rasp: either runes that are loaded, or a hole, which keeps only how many gaps it has. In a rasp no section is
-/// empty, a loaded one has at most 512 runes, and no two neighbours are left that could be one section (see `may_join`).
+/// empty, a loaded one has at most `MOST_IN_MESSAGE` runes, and no two neighbours are left that could be one section (see `may_join`).
 ///
 /// `Rasp::parts` returns the sections of a rasp in order:
 ///
@@ -29,7 +30,7 @@ pub enum Section {
 }
 
 impl Section {
-    /// Returns how many runes or gaps it has. A loaded section has at most 512.
+    /// Returns how many runes or gaps it has. A loaded section has at most `MOST_IN_MESSAGE`.
     pub fn len(&self) -> u32
         ensures len { result ≡ size self.now }
         ensures limit { IsShort self.now }
@@ -75,13 +76,13 @@ impl Section {
     }
 
     /// Returns whether this section and `next`, which follows it, are to be one section. Two holes always are; two loaded texts are
-    /// if they have at most 512 runes together.
+    /// if they have at most `MOST_IN_MESSAGE` runes together.
     pub fn may_join(&self, next: &Section) -> bool
         ensures { result ≡ may_join self.now next.now }
     {
         match self {
             Section::Loaded(text) => match next {
-                Section::Loaded(more) => text.len() + more.len() <= PIECE_ROOM,
+                Section::Loaded(more) => text.len() + more.len() <= MOST_IN_MESSAGE,
                 Section::Hole(_) => false,
             },
             Section::Hole(_) => match next {
@@ -116,7 +117,7 @@ impl Section {
     pub fn insert(&mut self, p: u32, runes: &[char])
         requires loaded { is_loaded self.old ≡ true }
         requires within { p ≤ size self.old }
-        requires room { size self.old + length runes.now ≤ 512 }
+        requires room { size self.old + length runes.now ≤ most_in_message }
         ensures cells { cells self.new ≡ ins (cells self.old) p (map Some runes.now) }
         ensures size { size self.new ≡ size self.old + length runes.now }
         ensures loaded { is_loaded self.new ≡ true }

@@ -6,6 +6,8 @@ use Rattle.sam_runes.specs.Checks.{first_of_checks}
 use Rattle.sam_runes.specs.Texts.{Range, common_version, part, is_empty, max_runes, most_count, most_in_message, most_in_pattern, searched, all_tags, ends_line, as_lines, last_line}
 use Rattle.sam_runes.specs.Slots.{Slots}
 use Rattle.sam_runes.proofs.CheckLaws.{none_holds}
+use Rattle.sam_mesg.specs.HostKinds.{after_h}
+use Rattle.sam_mesg.specs.TerminalKinds.{after_t}
 use Rattle.sam_text.specs.Files.{PlainFile, PlainFiles, PlainOutcome, file_at, has_file, is_printed, has_room, after_print, committed, typed_file}
 use Rattle.sam_text.specs.Meaning.{meaning}
 use Rattle.sam_mesg.specs.declared.tmesg.Tmesg.{Tmesg}
@@ -13,7 +15,7 @@ use Rattle.sam_mesg.specs.declared.tmesg.Tmesg.TheVariants.{Tversion, Tstartcmdf
 use Rattle.sam_mesg.specs.declared.hmesg.Hmesg.{Hmesg}
 use Rattle.sam_mesg.specs.declared.hmesg.Hmesg.TheVariants.{Hversion, Hbindname, Hnewname, Hmovname, Hgrow, Hcheck, Hunlock, Hunlockfile, Hsetdot, Hgrowdata, Hdirty, Hcut, Hsetpat, Hack, Hexit}
 use Rattle.sam_mesg.specs.declared.hmesg.HFrame.{HFrame}
-use Rattle.sam_frame.specs.Direction.{host, after_t, after_h}
+use Rattle.sam_frame.specs.Direction.{host}
 use Rattle.sam_frame.specs.Stream.{version_after}
 use Rattle.sam_host.specs.Host.{PlainHost, Reply, Answer, answer, answer_unless, counted, host_checks, when, when_given, grown, told_length, printed, told_edit, told_outcome, told_names, command_name, no_tag_left, with_file, with_files, stamped, reply_version, reply_startcmdfile, reply_check, reply_request, reply_origin, reply_startfile, reply_workfile, reply_cut, reply_paste, reply_snarf, reply_startnewfile, reply_write, reply_close, reply_found, reply_look, reply_search, searched_for, reply_dclick, reply_startsnarf, reply_setsnarf, reply_exit, reply_line, reply_type, reply_send, reply_to}
 use Rattle.sam_host.specs.Laws.{IsSound, FitInPlace}

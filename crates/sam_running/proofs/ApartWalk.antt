@@ -3,9 +3,10 @@ use Rattle.std.proofs.Common.{◌≡◌, ℕ, Bool, true, false, List, [], ◌�
 use Rattle.std.proofs.lemmas.List.{append-nil}
 use Rattle.std.proofs.lemmas.Option.{same_Some}
 use Rattle.sam_runes.specs.Checks.{first_of_checks}
+use Rattle.sam_mesg.specs.TerminalKinds.{after_t}
 use Rattle.sam_mesg.specs.declared.tmesg.Tmesg.{Tmesg}
 use Rattle.sam_mesg.specs.declared.hmesg.HFrame.{HFrame}
-use Rattle.sam_frame.specs.Direction.{terminal, after_t}
+use Rattle.sam_frame.specs.Direction.{terminal}
 use Rattle.sam_frame.specs.Stream.{version_after}
 use Rattle.sam_frame.proofs.Fronts.{version_after-append}
 use Rattle.sam_host.specs.Host.{PlainHost, Reply, answer, counted, host_checks, reply_to}

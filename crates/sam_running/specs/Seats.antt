@@ -1,5 +1,6 @@
 -- What the five threads begin with.
 use Rattle.std.specs.Prelude.{◌≡◌, ℕ, ◌≤◌, length, All}
+use Rattle.sam_runes.specs.Texts.{most_files}
 use Rattle.sam_host.specs.Host.{new_host}
 use Rattle.sam_term.specs.Term.{new_terminal}
 use Rattle.sam_script.specs.Script.{IsFile}
@@ -22,7 +23,7 @@ pub record IsHostSeat (up down : LineView) (s : HostSeat) : Type 0 where
   pub take : s.take ≡ new_take up
   pub one : up.senders ≡ 1
   pub post : s.post ≡ new_post down 0
-  pub files : (length s.files.items ≤ 65535) × All IsFile s.files.items
+  pub files : (length s.files.items ≤ most_files) × All IsFile s.files.items
   pub host : s.host ≡ new_host s.files.items
 
 pub record IsReaderSeat (down events : LineView) (s : ReaderSeat) : Type 0 where
@@ -60,5 +61,5 @@ pub record AreNewSides (lines : LinesView) (s : LineSides) : Type 0 where
 
 -- a new host of the files
 pub record IsHostRole (r : Roles) : Type 0 where
-  pub files : (length r.files.items ≤ 65535) × All IsFile r.files.items
+  pub files : (length r.files.items ≤ most_files) × All IsFile r.files.items
   pub host : r.host ≡ new_host r.files.items

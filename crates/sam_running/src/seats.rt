@@ -1,5 +1,6 @@
 //! What the five workers begin with. All their memory is had before a thread is started.
 ghost use Rattle.std.specs.Prelude.{◌≡◌, ◌≤◌, length, All, IfOk};
+ghost use Rattle.sam_runes.specs.Texts.{most_files};
 ghost use Rattle.sam_host.specs.Host.{new_host};
 ghost use Rattle.sam_queue.specs.Views.{new_post, new_take};
 ghost use Rattle.sam_script.specs.Script.{IsFile, keys_of, mouse_of};
@@ -35,7 +36,7 @@ pub struct HostSeat<'q> {
     pub take: Take<'q, Vec<u8>>,
     /// The post to the line down.
     pub post: Post<'q, Vec<u8>>,
-    /// The names and texts of the host's files, by tags from 1: at most 65,535.
+    /// The names and texts of the host's files, by tags from 1: at most `MOST_FILES`.
     pub files: Vec<(Runes, Runes)>,
     /// A new host of these files.
     pub host: Host,
@@ -118,8 +119,8 @@ struct Roles {
     host: Host,
 }
 
-/// Makes the seats of a session: the ends of the lines, and what the script says that each worker does. `starts` came with `lines`, and is
-/// spent. Its only error is want of memory.
+/// Makes the seats of a session: the ends of the lines, and what the script says that each worker does. `starts` came with `lines`, and
+/// is spent. Its only error is want of memory.
 pub fn ready_seats<'q>(
     alloc: Global,
     lines: &'q Lines,
@@ -276,7 +277,7 @@ fn split_in_three<'q, T>(
 fn first_host(alloc: Global, script: &Script) -> Result<(Vec<(Runes, Runes)>, Host), AllocError>
     ensures files { IfOk result (λ r. r.0.items ≡ script.now.files) }
     ensures host { IfOk result (λ r. r.1 ≡ new_host script.now.files) }
-    ensures limits { (length script.now.files ≤ 65535) × All IsFile script.now.files }
+    ensures limits { (length script.now.files ≤ most_files) × All IsFile script.now.files }
 {
     let names_and_texts = script.files();
     let files = copied_files(alloc, names_and_texts)?;

@@ -1,5 +1,6 @@
 //! Settling a session: its lines are audited, and one run of the world leads to the states of its two sides.
 ghost use Rattle.std.specs.Prelude.{◌≡◌, ◌+◌, ◌^◌, ◌<◌, ◌≤◌, [], ◌∷◌, ◌++◌, length, All, IfOk, IfErr, Some, vec_capacity, sum_by};
+ghost use Rattle.sam_runes.specs.Texts.{most_files};
 ghost use Rattle.sam_script.specs.Script.{IsFile};
 ghost use Rattle.sam_world.specs.World.{merged};
 ghost use Rattle.sam_threads.specs.Told.{AreEnds};
@@ -90,7 +91,7 @@ pub fn settle<'q, R: Wait>(
 
 /// Makes all that takes memory.
 fn prepare<'q>(alloc: Global, ends: &Ends<'q>) -> Result<Prepared<'q>, AllocError>
-    requires many { length ends.now.host.files.items ≤ 65535 }
+    requires many { length ends.now.host.files.items ≤ most_files }
     requires files { All IsFile ends.now.host.files.items }
     ensures { IfOk result (IsPrepared ends.now) }
 {
@@ -135,7 +136,7 @@ fn run_merged(
     log: &[TermLog],
     taken: u64,
 ) -> Result<Option<Replay>, AllocError>
-    requires many { length files.now ≤ 65535 }
+    requires many { length files.now ≤ most_files }
     requires files { All IsFile files.now }
     ensures { IfOk result (IsReplay files.now log.now taken) }
 {

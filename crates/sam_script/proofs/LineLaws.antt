@@ -7,7 +7,7 @@ use Rattle.std.proofs.lemmas.Bool.{ltb-true, lt-ltb, leb-true, le-leb, eqb-true}
 use Rattle.std.proofs.lemmas.Bool.Decides.{eqb_tells}
 use Rattle.std.proofs.lemmas.Option.{cond_some}
 use Rattle.std.proofs.lemmas.Str.{chars_from_encodes, encodes-chars}
-use Rattle.sam_runes.specs.Texts.{max_runes}
+use Rattle.sam_runes.specs.Texts.{max_runes, most_in_name}
 use Rattle.sam_script.specs.declared.line.Line.{Line}
 use Rattle.sam_script.specs.declared.line.Line.TheVariants.{Key, Mouse, Act, Flush, Host, Term, Drain, Show}
 use Rattle.sam_script.specs.declared.line.Said.{Said}
@@ -26,17 +26,17 @@ runes_encode : (runes : List ℕ) → flat_map encode_utf8 runes ≡ encode_utf8
 runes_encode [] = refl
 runes_encode (c ∷ runes) = ap (λ xs. encode_utf8 c ++ xs) (runes_encode runes)
 
-name_says : (word name : List ℕ) → IsUtf8 word → fitting_name (chars word) ≡ Some name → (word ≡ flat_map encode_utf8 name) × (0 < length name) × (length name ≤ 64)
+name_says : (word name : List ℕ) → IsUtf8 word → fitting_name (chars word) ≡ Some name → (word ≡ flat_map encode_utf8 name) × (0 < length name) × (length name ≤ most_in_name)
 name_says word name u h =
-    let fits = cond_some (nat_lt 0 (length (chars word)) && nat_le (length (chars word)) 64) (chars word) name h in
-    let two = both_true (nat_lt 0 (length (chars word))) (nat_le (length (chars word)) 64) fits.0 in
-    subst (λ (n : List ℕ). (word ≡ flat_map encode_utf8 n) × (0 < length n) × (length n ≤ 64)) fits.1
-    (sym (runes_encode (chars word) ∙ encodes-chars word u), ltb-true 0 (length (chars word)) two.0, leb-true (length (chars word)) 64 two.1)
+    let fits = cond_some (nat_lt 0 (length (chars word)) && nat_le (length (chars word)) most_in_name) (chars word) name h in
+    let two = both_true (nat_lt 0 (length (chars word))) (nat_le (length (chars word)) most_in_name) fits.0 in
+    subst (λ (n : List ℕ). (word ≡ flat_map encode_utf8 n) × (0 < length n) × (length n ≤ most_in_name)) fits.1
+    (sym (runes_encode (chars word) ∙ encodes-chars word u), ltb-true 0 (length (chars word)) two.0, leb-true (length (chars word)) most_in_name two.1)
 
-name_read : (name : List ℕ) → IsUtf8 (flat_map encode_utf8 name) → 0 < length name → length name ≤ 64 → fitting_name (chars (flat_map encode_utf8 name)) ≡ Some name
+name_read : (name : List ℕ) → IsUtf8 (flat_map encode_utf8 name) → 0 < length name → length name ≤ most_in_name → fitting_name (chars (flat_map encode_utf8 name)) ≡ Some name
 name_read name u some short =
     ap fitting_name (sym (chars_from_encodes name (flat_map encode_utf8 name) u (sym (runes_encode name))))
-    ∙ rw (lt-ltb 0 (length name) some, le-leb (length name) 64 short) refl
+    ∙ rw (lt-ltb 0 (length name) some, le-leb (length name) most_in_name short) refl
 
 file_text_says : (bytes text : List ℕ) → IsUtf8 bytes → file_text_at bytes ≡ Some text → SpellsParts (Rest text ∷ []) bytes × (length text ≤ max_runes)
 unfolding file_text_at

@@ -2,7 +2,7 @@
 use Rattle.std.proofs.Common.{◌≡◌, inl, inr, refl, sym, ap, ◌∙◌, subst, ◌<◌, ◌≤◌, ◌+◌, ℕ, zero, suc, true, List, [], ◌∷◌, ◌++◌, length, take, drop, All, Result, Ok, Err, slice_index_or, append_assoc, append-nil, arith}
 use Rattle.std.specs.Prelude.{if◌then◌else◌}
 use Rattle.std.proofs.lemmas.List.Elements.{All-head, All-tail}
-use Rattle.sam_runes.specs.Texts.{RoomyText}
+use Rattle.sam_runes.specs.Texts.{RoomyText, most_in_name}
 use Rattle.sam_host.specs.Given.{AreNames, given_of}
 use Rattle.sam_world.specs.World.{PlainWorld, step_of}
 use Rattle.sam_world.specs.Counts.{passes_count}
@@ -31,7 +31,7 @@ pub given_many : (gs : List (List ℕ × RoomyText)) → length gs ≡ length (g
 given_many [] = refl
 given_many (g ∷ gs) = ap suc (given_many gs)
 
-pub names_more : (gs : List (List ℕ × RoomyText)) (g : List ℕ × RoomyText) → AreNames gs → length g.0 ≤ 64 → AreNames (gs ++ g ∷ [])
+pub names_more : (gs : List (List ℕ × RoomyText)) (g : List ℕ × RoomyText) → AreNames gs → length g.0 ≤ most_in_name → AreNames (gs ++ g ∷ [])
 names_more [] g names short = (short, tt)
 names_more (h ∷ gs) g names short = (names.0, names_more gs g names.1 short)
 

@@ -2,7 +2,7 @@
 use Rattle.std.proofs.Common.{◌≡◌, ◌≤◌, ◌∙◌, ◌+◌, refl, ap, ℕ, List, [], ◌∷◌, ◌++◌, length, map, false, Some, Result, Ok, Err, append-nil}
 use Rattle.std.specs.List.{AllByRecursion}
 use Rattle.std.proofs.lemmas.Option.{option_and_then_some}
-use Rattle.sam_runes.specs.Texts.{is_empty}
+use Rattle.sam_runes.specs.Texts.{is_empty, most_files}
 use Rattle.sam_mesg.specs.declared.tmesg.Tmesg.{Tmesg}
 use Rattle.sam_mesg.specs.declared.hmesg.HFrame.{HFrame}
 use Rattle.sam_world.specs.World.{PlainWorld, new_world, step_of, run_of, host_takes, term_takes}
@@ -63,7 +63,7 @@ lines_replay n w v (e ∷ events) h =
     ∙ ap (λ r. and_on r (λ x. replayed_from x (numbered_from (n + 1) (map line_of events ++ line.Show ∷ [])))) (line_steps n w next e is)
     ∙ lines_replay (n + 1) next v events more)
 
-pub run_replayed : (files : List (List ℕ × List ℕ)) (events : List Event) (w : PlainWorld) (script : PlainScript) → length files ≤ 65535 → AllByRecursion CanBeNamed files
+pub run_replayed : (files : List (List ℕ × List ℕ)) (events : List Event) (w : PlainWorld) (script : PlainScript) → length files ≤ most_files → AllByRecursion CanBeNamed files
     → AllByRecursion CanBeWritten events → run_of (new_world files) events ≡ Some w → Spells (run_lines_of files events) script → replayed script ≡ Ok (show_lines w)
 unfolding replayed
 run_replayed files events w script count named written run spells =

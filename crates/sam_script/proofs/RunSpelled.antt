@@ -4,6 +4,7 @@ use Rattle.std.specs.Prelude.{◌&&◌, ◌==◌, nat_lt}
 use Rattle.std.specs.Fmt.{decimal}
 use Rattle.std.specs.Char.{is_ascii_digit, IsScalar}
 use Rattle.std.proofs.Math.Pow.{pow_mono}
+use Rattle.sam_runes.specs.Texts.{most_files}
 use lib.Utf8.{scalar}
 use lib.Dec.{leb}
 use Rattle.std.specs.List.{AllByRecursion, AllZip, onto_first}
@@ -276,7 +277,7 @@ their_lines n (file ∷ files) events = their_lines (n + 1) files events ∙ ap 
     moved : (a b : ℕ) → a + 1 + b ≡ a + suc b
     moved a b = omega arith
 
-pub run_is_spelled : (files : List (List ℕ × List ℕ)) (events : List Event) → length files ≤ 65535 → AllByRecursion CanBeNamed files
+pub run_is_spelled : (files : List (List ℕ × List ℕ)) (events : List Event) → length files ≤ most_files → AllByRecursion CanBeNamed files
     → AllByRecursion CanBeWritten events → Spells (run_lines_of files events) (run_script files events)
 run_is_spelled files events count named written = record {
   said = all_said files events;
@@ -288,7 +289,7 @@ run_is_spelled files events count named written = record {
   ordered = files_first files events;
   files = sym (their_files files events);
   others = sym (their_lines 1 files events);
-  count = subst (λ fs. length fs ≤ 65535) (sym (their_files files events)) count;
+  count = subst (λ fs. length fs ≤ most_files) (sym (their_files files events)) count;
 }
   where
     lines : (fs : List (List ℕ × List ℕ)) (es : List Event) → AllByRecursion CanBeNamed fs → AllByRecursion CanBeWritten es

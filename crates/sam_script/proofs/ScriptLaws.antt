@@ -5,6 +5,7 @@ use Rattle.std.specs.List.{AllZip}
 use Rattle.std.proofs.lemmas.List.{take_more, take_all, length-take-le}
 use Rattle.std.proofs.lemmas.List.Splits.{length-slice_split}
 use Rattle.std.proofs.lemmas.List.Sums.{count_by-le-length}
+use Rattle.sam_runes.specs.Texts.{most_files}
 use Rattle.sam_script.specs.declared.line.Said.{Said}
 use Rattle.sam_script.specs.declared.line.Said.TheVariants as said
 use Rattle.sam_script.specs.declared.fault.LineFault.TheVariants.{Wrong}
@@ -101,7 +102,7 @@ spells_push lines line old new p (it, says, may, is) = record {
   others =
       ap (λ (s : PlainScript). s.lines) is ∙ ap (λ ls. ls ++ lines_said (length lines + 1) (it ∷ [])) p.others
       ∙ ap (λ k. lines_said 1 p.said ++ lines_said (k + 1) (it ∷ [])) (sym (zip_length p.said lines p.each)) ∙ sym (lines_push 1 p.said it);
-  count = subst (λ fs. length fs ≤ 65535) (sym (files_push p.said it)) (room p.said it p.count (subst (λ s. MayFollow s it) (same_script old p.said p.files p.others) may));
+  count = subst (λ fs. length fs ≤ most_files) (sym (files_push p.said it)) (room p.said it p.count (subst (λ s. MayFollow s it) (same_script old p.said p.files p.others) may));
 }
   where
     same_script : (s : PlainScript) (xs : List Said) → s.files ≡ files_said xs → s.lines ≡ lines_said 1 xs → s ≡ record { files = files_said xs; lines = lines_said 1 xs }
@@ -112,10 +113,10 @@ spells_push lines line old new p (it, says, may, is) = record {
     ordered xs (said.File name text) q follows = ordered_file 1 xs name text q follows.0
     ordered xs said.Nothing q follows = ordered_other xs said.Nothing q refl
 
-    room : (xs : List Said) (x : Said) → length (files_said xs) ≤ 65535 → MayFollow (record { files = files_said xs; lines = lines_said 1 xs }) x → length (files_said xs ++ file_said x) ≤ 65535
-    room xs (said.Line l) q follows = subst (λ fs. length fs ≤ 65535) (sym (append-nil (files_said xs))) q
+    room : (xs : List Said) (x : Said) → length (files_said xs) ≤ most_files → MayFollow (record { files = files_said xs; lines = lines_said 1 xs }) x → length (files_said xs ++ file_said x) ≤ most_files
+    room xs (said.Line l) q follows = subst (λ fs. length fs ≤ most_files) (sym (append-nil (files_said xs))) q
     room xs (said.File name text) q follows = omega (arith, length-append (files_said xs) ((name, text) ∷ []), follows.1)
-    room xs said.Nothing q follows = subst (λ fs. length fs ≤ 65535) (sym (append-nil (files_said xs))) q
+    room xs said.Nothing q follows = subst (λ fs. length fs ≤ most_files) (sym (append-nil (files_said xs))) q
 
 -- a line that may not follow
 pub spells_no_more : (lines : List (List ℕ)) (line : List ℕ) (old : PlainScript) → SpellsLines lines old → AddsNone line old Wrong
@@ -124,15 +125,15 @@ spells_no_more lines line old p none script q =
     let last = zip_last q.said lines line q.each in
     let same : last.0 ≡ p.said = zip_one last.0 p.said lines last.3 p.each in
     let whole : q.said ≡ p.said ++ last.1 ∷ [] = last.2 ∙ ap (λ xs. xs ++ last.1 ∷ []) same in
-    none last.1 last.4 (follows old p.said last.1 p.files p.others (subst AreFilesFirst whole q.ordered) (subst (λ xs. length (files_said xs) ≤ 65535) whole q.count))
+    none last.1 last.4 (follows old p.said last.1 p.files p.others (subst AreFilesFirst whole q.ordered) (subst (λ xs. length (files_said xs) ≤ most_files) whole q.count))
   where
     follows : (s : PlainScript) (xs : List Said) (x : Said) → s.files ≡ files_said xs → s.lines ≡ lines_said 1 xs → AreFilesFirst (xs ++ x ∷ [])
-        → length (files_said (xs ++ x ∷ [])) ≤ 65535 → MayFollow s x
+        → length (files_said (xs ++ x ∷ [])) ≤ most_files → MayFollow s x
     follows s xs (said.Line l) e f o c = tt
     follows s xs said.Nothing e f o c = tt
     follows s xs (said.File name text) e f o c =
-        let more : length (files_said xs ++ (name, text) ∷ []) ≤ 65535 = subst (λ fs. length fs ≤ 65535) (files_push xs (said.File name text)) c in
-        (f ∙ ordered_last 1 xs name text o, subst (λ fs. length fs < 65535) (sym e) (omega (arith, more, length-append (files_said xs) ((name, text) ∷ []))))
+        let more : length (files_said xs ++ (name, text) ∷ []) ≤ most_files = subst (λ fs. length fs ≤ most_files) (files_push xs (said.File name text)) c in
+        (f ∙ ordered_last 1 xs name text o, subst (λ fs. length fs < most_files) (sym e) (omega (arith, more, length-append (files_said xs) ((name, text) ∷ []))))
 
 -- lines spell at most one script
 pub spells_one : (lines : List (List ℕ)) (a b : PlainScript) → SpellsLines lines a → SpellsLines lines b → a ≡ b

@@ -2,7 +2,7 @@
 use Rattle.std.specs.Prelude.{◌≡◌, ◌^◌, ◌<◌, ◌==◌, ◌&&◌, ℕ, Bool, List, [], ◌∷◌, ◌++◌, Option, Some, None, Result, Ok, Err, codes, length, nat_lt, nat_le, true, false, ◌||◌, not, if◌then◌else◌, bytes_eq, chars}
 use Rattle.std.specs.Str.{all_ascii_digits}
 use Rattle.std.specs.Str.Parse.{digits_value}
-use Rattle.sam_runes.specs.Texts.{max_runes}
+use Rattle.sam_runes.specs.Texts.{max_runes, most_files, most_in_name}
 use Rattle.sam_term.specs.declared.event.UserEvent.{UserEvent}
 use Rattle.sam_term.specs.declared.event.UserEvent.TheVariants.{Typed, Select, Cut, Paste, Snarf, Look, Search, Send, Dclick, Scroll, View, Open, Close, Write, Work, OpenCmd, New, Exit, Check, GetSnarf, SetSnarf, Version}
 use Rattle.sam_term.specs.declared.event.UserEvent.TheVariants as user
@@ -123,7 +123,7 @@ event_at bytes = word_at bytes >>= λ x. read_by readers x.0 x.1
 
 -- a file's name and text
 abbrev pub fitting_name : List ℕ → Option (List ℕ)
-fitting_name name = if nat_lt 0 (length name) && nat_le (length name) 64 then Some name else None
+fitting_name name = if nat_lt 0 (length name) && nat_le (length name) most_in_name then Some name else None
 
 abbrev pub fitting_text : List ℕ → Option (List ℕ)
 fitting_text text = if nat_le (length text) max_runes then Some text else None
@@ -162,7 +162,7 @@ IsUnsaid bytes OutOfMemory = Unit {0}
 
 -- a file may follow where no other line stands and there is room for one more
 abbrev pub MayFollow : PlainScript → Said → Type 0
-MayFollow script (said.File name text) = (script.lines ≡ []) × (length script.files < 65535)
+MayFollow script (said.File name text) = (script.lines ≡ []) × (length script.files < most_files)
 MayFollow script (said.Line line) = Unit {0}
 MayFollow script said.Nothing = Unit {0}
 

@@ -1,6 +1,6 @@
 -- What replaying a script prints, and the script that bytes spell.
 use Rattle.std.specs.Prelude.{◌≡◌, ◌⊎◌, ℕ, if◌then◌else◌, List, [], ◌∷◌, ◌++◌, Option, Some, None, Result, Ok, Err}
-use Rattle.sam_world.specs.World.{PlainWorld, new_world, step_of, is_empty_take, drained}
+use Rattle.sam_world.specs.World.{PlainWorld, new_world, step_of, is_empty_take, drained, drain_limit}
 use Rattle.sam_world.specs.declared.event.Event.{Event}
 use Rattle.sam_world.specs.declared.event.Event.TheVariants as event
 use Rattle.sam_script.specs.Script.{PlainScript}
@@ -29,7 +29,7 @@ after_line number w Act = stepped number w event.Act
 after_line number w Flush = stepped number w event.Flush
 after_line number w Host = stepped number w event.HostTake
 after_line number w Term = stepped number w event.TermTake
-after_line number w Drain = or_full (drained 100000 w)
+after_line number w Drain = or_full (drained drain_limit w)
 after_line number w Show = Ok w
 
 -- what a line prints

@@ -4,6 +4,7 @@ use Rattle.std.specs.Fmt.{decimal}
 use Rattle.std.specs.List.{AllByRecursion, AllZip, slice_split}
 use Rattle.std.specs.Str.{IsUtf8, all_ascii_digits}
 use Rattle.std.specs.Str.Parse.{digits_value}
+use Rattle.sam_runes.specs.Texts.{most_files}
 use Rattle.sam_term.specs.declared.event.UserEvent.{UserEvent}
 use Rattle.sam_term.specs.declared.event.UserEvent.TheVariants.{Typed, Select, Cut, Paste, Snarf, Look, Search, Send, Dclick, Scroll, View, Open, Close, Write, Work, OpenCmd, New, Exit, Check, GetSnarf, SetSnarf, Version}
 use Rattle.sam_term.specs.declared.event.UserEvent.TheVariants as user
@@ -142,14 +143,14 @@ AreFilesFirst (said.Line line ∷ more) = files_said more ≡ []
 AreFilesFirst (said.File name text ∷ more) = AreFilesFirst more
 AreFilesFirst (said.Nothing ∷ more) = AreFilesFirst more
 
--- lines spell a script: each says something, the files come first, and there are at most 65,535
+-- lines spell a script: each says something, the files come first, and there are at most most_files
 pub record SpellsLines (lines : List (List ℕ)) (script : PlainScript) : Type 0 where
   pub said : List Said
   pub each : AllZip Says said lines
   pub ordered : AreFilesFirst said
   pub files : script.files ≡ files_said said
   pub others : script.lines ≡ lines_said 1 said
-  pub count : length (files_said said) ≤ 65535
+  pub count : length (files_said said) ≤ most_files
 
 -- bytes, parted at each newline
 abbrev pub lines_of : List ℕ → List (List ℕ)

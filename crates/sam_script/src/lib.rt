@@ -15,8 +15,8 @@ mod showing;
 mod words;
 
 pub use fault::ScriptFault;
-pub use line::{Line, MOST_NAME, Numbered};
+pub use line::{Line, Numbered};
 pub use lines_of_run::run_lines;
 pub use replaying::{first_world, given_files, replay, replay_bytes};
-pub use script::{MOST_FILES, Script};
+pub use script::Script;
 pub use showing::show;

@@ -7,7 +7,7 @@ ghost use Rattle.sam_script.specs.Spelling.{Says};
 use crate::event::event_at;
 use crate::fault::LineFault;
 use crate::words::{ended, split_word, text_at, word_at};
-use sam_runes::{MAX_RUNES, Runes};
+use sam_runes::{MAX_RUNES, MOST_IN_NAME, Runes};
 use sam_term::event::UserEvent;
 use std::alloc::{AllocError, Global};
 use std::str;
@@ -53,9 +53,6 @@ pub enum Said {
     /// It asks for this.
     Line(Line),
 }
-
-/// The most runes of a file's name in a script. It has at least one.
-pub const MOST_NAME: usize = 64;
 
 /// Reads what a line says. The bytes stand without their newline. `Wrong` comes only if they are not UTF-8 or not in the grammar.
 pub fn said_by(alloc: Global, bytes: &[u8]) -> Result<Said, LineFault>
@@ -114,12 +111,12 @@ fn file_at(alloc: Global, text: &str) -> Result<(Runes, Runes), LineFault>
     Ok((name, text))
 }
 
-/// Returns the runes of a name, which are `Wrong` if there are none or more than `MOST_NAME`.
+/// Returns the runes of a name, which are `Wrong` if there are none or more than `MOST_IN_NAME`.
 fn name_of(alloc: Global, word: &str) -> Result<Runes, LineFault>
     ensures { Gives (λ name. name) result (fitting_name (chars word.now)) }
 {
     let name = runes_of(alloc, word)?;
-    if name.is_empty() || name.len() > MOST_NAME {
+    if name.is_empty() || name.len() > MOST_IN_NAME {
         return Err(LineFault::Wrong);
     }
     Ok(Runes::from_vec(name))

@@ -1,8 +1,9 @@
 //! Replays a script: its lines are done one after another, on one thread, over a world of its files.
 
 ghost use Rattle.std.specs.Prelude.{◌≡◌, ◌≤◌, ◌++◌, Ok, Err, IfOk, IfErr, OnOk, All, length, string_bytes};
+ghost use Rattle.sam_runes.specs.Texts.{most_files};
 ghost use Rattle.sam_host.specs.Given.{AreNames, given_of};
-ghost use Rattle.sam_world.specs.World.{new_world, drained};
+ghost use Rattle.sam_world.specs.World.{new_world, drained, drain_limit};
 ghost use Rattle.sam_script.specs.Script.{IsFile};
 ghost use Rattle.sam_script.specs.Replay.{after_line, or_full, printed_by, stepped, replayed, IsReplay, IsReplayFault, IsStopOf};
 
@@ -15,8 +16,8 @@ use sam_world::event::{Event, StepFault};
 use sam_world::world::World;
 use std::alloc::{AllocError, Global};
 
-/// Reads the script that the bytes spell, as [`Script::read`] does, and returns what its `show` lines print, as [`replay`] does. All lines
-/// are read before the first is done.
+/// Reads the script that the bytes spell, as [`Script::read`] does, and returns what its `show` lines print, as [`replay`] does. All
+/// lines are read before the first is done.
 ///
 /// The error is `Line(n)` if line n, counted from 1, is the first wrong line. If no line is wrong, the first line that can't be done
 /// decides: `Line(n)` or `CountFull`, as [`replay`] says. `OutOfMemory` may come at any line, and before the first.
@@ -55,8 +56,8 @@ pub fn replay(alloc: Global, script: &Script) -> Result<Vec<u8>, ScriptFault>
     Ok(out.into_bytes())
 }
 
-/// Returns copies of files, names and texts, as `Host::new` and `World::new` take them. Each name has 1 to 64 runes and each text at
-/// most 1,000,000, as in a [`Script`]. The only error is want of memory.
+/// Returns copies of files, names and texts, as `Host::new` and `World::new` take them. Each name has 1 to `MOST_IN_NAME` runes and each
+/// text at most `MAX_RUNES`, as in a [`Script`]. The only error is want of memory.
 pub fn given_files(
     alloc: Global,
     files: &[(Runes, Runes)],
@@ -78,10 +79,10 @@ pub fn given_files(
     Ok(given)
 }
 
-/// Makes the first world of files of these names and texts, as `World::new` does. There are at most 65,535 of them, each as in a
+/// Makes the first world of files of these names and texts, as `World::new` does. There are at most `MOST_FILES` of them, each as in a
 /// [`Script`]. The only error is `OutOfMemory`.
 pub fn first_world(alloc: Global, files: &[(Runes, Runes)]) -> Result<World, ScriptFault>
-    requires count { length files.now ≤ 65535 }
+    requires count { length files.now ≤ most_files }
     requires each { All IsFile files.now }
     ensures ok { IfOk result (λ world. world ≡ new_world files.now) }
     ensures memory { IfErr result (λ why. why ≡ ScriptFault.OutOfMemory) }
@@ -139,8 +140,8 @@ fn do_step(world: &mut World, number: usize, event: Event) -> Result<(), ScriptF
 
 /// Makes happen what can happen without the user. A drain takes only what is there, so the fault is never `Line`.
 fn do_drain(world: &mut World) -> Result<(), ScriptFault>
-    ensures done { OnOk result (or_full (drained 100000 world.old) ≡ Ok world.new) }
-    ensures stopped { IfErr result (λ why. IsStopOf (or_full (drained 100000 world.old)) why) }
+    ensures done { OnOk result (or_full (drained drain_limit world.old) ≡ Ok world.new) }
+    ensures stopped { IfErr result (λ why. IsStopOf (or_full (drained drain_limit world.old)) why) }
 {
     match world.drain() {
         Ok(()) => Ok(()),

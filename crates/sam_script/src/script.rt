@@ -1,19 +1,20 @@
 //! Reads a script: its files, and then its other lines.
 
 ghost use Rattle.std.specs.Prelude.{◌≡◌, ◌≤◌, IfErr, IfOk, OnOk, length, All};
+ghost use Rattle.sam_runes.specs.Texts.{most_files};
 ghost use Rattle.sam_script.specs.Reading.{Adds, AddsNone};
 ghost use Rattle.sam_script.specs.Script.{PlainScript, IsFile, keys_of, mouse_of};
 ghost use Rattle.sam_script.specs.Spelling.{Spells, IsReadFault};
 
 use crate::fault::{LineFault, ScriptFault};
 use crate::line::{Line, Numbered, Said, said_by};
-use sam_runes::Runes;
+use sam_runes::{MOST_FILES, Runes};
 use sam_term::event::UserEvent;
 use std::alloc::{AllocError, Global};
 use std::marker::Model;
 
 /// A script that was read: the names and texts of the host's files, and the lines that follow them. It has at most `MOST_FILES` files,
-/// with names of 1 to 64 runes and texts of at most 1,000,000. Every script comes from [`Script::read`]:
+/// with names of 1 to `MOST_IN_NAME` runes and texts of at most `MAX_RUNES`. Every script comes from [`Script::read`]:
 ///
 /// ```rust
 /// let script = Script::read(alloc, b"file a hello\nk version 1\nk open 1\nk type 1 X\ndrain\nshow\n")?;
@@ -35,11 +36,8 @@ impl Model for Script {
 
     ghost view = { λ a. record { files = a.files.items; lines = a.lines.items } };
 
-    ghost invariant = { λ a. (length a.files.items ≤ 65535) × All IsFile a.files.items };
+    ghost invariant = { λ a. (length a.files.items ≤ most_files) × All IsFile a.files.items };
 }
-
-/// The most files of a script: there are 65,536 tags, and the command file has one of them.
-pub const MOST_FILES: usize = 65_535;
 
 impl Script {
     /// Reads the script that the bytes spell: lines of UTF-8, parted by newlines. So the last newline may be missing, and the empty
@@ -47,8 +45,8 @@ impl Script {
     ///
     /// The lines are read in their order, up to the first that is wrong or wants memory that is refused. `Line(n)` says that line n,
     /// counted from 1, is wrong: the n-1 lines before it spell a script, and with it they spell none. A line is wrong if it is not in the
-    /// grammar, if it is a `file` line behind a line that asks for something, or if it is the 65,536th `file` line. `OutOfMemory` may come
-    /// at any line.
+    /// grammar, if it is a `file` line behind a line that asks for something, or if it is the 65,536th `file` line. `OutOfMemory` may
+    /// come at any line.
     pub fn read(alloc: Global, bytes: &[u8]) -> Result<Script, ScriptFault>
         ensures ok { IfOk result (λ script. Spells bytes.now script) }
         ensures fault { IfErr result (IsReadFault bytes.now) }
@@ -93,7 +91,7 @@ impl Script {
     /// Returns the names and texts of its files, in order; their tags are 1, 2, and so on.
     pub fn files(&self) -> &[(Runes, Runes)]
         ensures files { result.now ≡ self.now.files }
-        ensures count { length result.now ≤ 65535 }
+        ensures count { length result.now ≤ most_files }
         ensures each { All IsFile result.now }
     {
         self.files.as_slice()

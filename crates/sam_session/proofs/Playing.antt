@@ -2,7 +2,7 @@
 use Rattle.std.proofs.Common.{◌≡◌, ◌∙◌, ℕ, ◌+◌, ◌-◌, ◌≤◌, List, [], ◌∷◌, ◌++◌, length, codes, Option, None, Some, IfSome, IfErr, OnOk, Result, Ok, Err, refl, sym, ap, subst, append-nil, length-append, arith}
 use Rattle.std.specs.Io.KnownBytes.{Appends, Consumes, IsAtEnd}
 use Rattle.std.proofs.KnownBytes.{Appends-nil, Appends-trans, Consumes-nil, Consumes-trans, Consumes-whole}
-use Rattle.sam_runes.specs.Texts.{max_runes}
+use Rattle.sam_runes.specs.Texts.{max_runes, most_in_name}
 use Rattle.sam_mesg.specs.declared.tmesg.Tmesg.{Tmesg}
 use Rattle.sam_mesg.specs.declared.fault.MesgFault.{MesgFault}
 use Rattle.sam_frame.specs.Direction.{terminal}
@@ -48,7 +48,7 @@ has_room h0 piece first now before after k h left p most =
 -- the first host is sound
 pub first_sound : (text : List ℕ) → length text ≤ max_runes → IsSound (host_of text)
 unfolding host_of
-first_sound text most = let short : 4 ≤ 64 = omega arith in starts_sound ((codes "file", text) ∷ []) (short, most, tt)
+first_sound text most = let short : 4 ≤ most_in_name = omega arith in starts_sound ((codes "file", text) ∷ []) (short, most, tt)
 
 -- nothing was read
 pub begins : (h0 : PlainHost) (first before : Option (List ℕ)) (k : Held) → IsSound h0 → k ≡ fresh → Progress h0 first first before before k h0 16777216

@@ -9,34 +9,25 @@ use Rattle.sam_mesg.specs.declared.tmesg.Tmesg.{Tmesg}
 use Rattle.sam_mesg.specs.declared.tmesg.Tmesg.TheVariants.{Tsetsnarf}
 use Rattle.sam_mesg.specs.declared.hmesg.HFrame.{HFrame}
 use Rattle.sam_mesg.specs.TerminalKinds.{fits_t, FitsT}
-use Rattle.sam_mesg.specs.HostKinds.{fits_h, frame_h}
+use Rattle.sam_mesg.specs.HostKinds.{fits_h, frame_h, after_h}
+use Rattle.sam_mesg.proofs.Versions.{fits_last_t}
 use Rattle.sam_frame.specs.Direction.{terminal}
 use Rattle.sam_frame.specs.Stream.{FitInTurn}
 use Rattle.sam_host.specs.Host.{PlainHost, Answer, answer}
-use Rattle.sam_host.specs.Laws.{IsSound, FitInPlace, version_after}
+use Rattle.sam_host.specs.Laws.{IsSound, FitInPlace}
 use Rattle.sam_host.proofs.SoundLaws.{stays_sound, frames_fit}
 use Rattle.sam_host.specs.declared.fault.HostFault.{HostFault}
 use Rattle.sam_session.specs.Serving.{Served, served_on, serve, behind}
 use Rattle.sam_session.specs.Pieces.{AllFit, FramesFit}
 
--- ---- what fits at its place fits in version 2
-
-longer : (is_first : Bool) (n : ℕ) → leb n (cond is_first 4096 32000) ≡ true → leb n 32000 ≡ true
-longer true n e = le-leb n 32000 (omega (arith, leb-true n 4096 e))
-longer false n e = e
-
-grows : (version : ℕ) (m : Tmesg) → fits_t version m ≡ true → fits_t 2 m ≡ true
-grows version (Tsetsnarf s) e = longer (nat_eq version 1) (length (encode_utf8_all s)) e
-grows version m e = e
-
 pub all_fit : (version : ℕ) (ms : List Tmesg) → FitInTurn terminal version ms → AllFit ms
 all_fit version [] fit = All-nil (FitsT 2)
 all_fit version (m ∷ ms) fit =
-    All-cons (FitsT 2) m ms (record { is_message = fit.0.is_message; fits = grows version m fit.0.fits }) (all_fit (terminal.after version m) ms fit.1)
+    All-cons (FitsT 2) m ms (record { is_message = fit.0.is_message; fits = fits_last_t version m fit.0.fits }) (all_fit (terminal.after version m) ms fit.1)
 
 frames_in_place : (version : ℕ) (frames : List HFrame) → FitInPlace version frames → FramesFit frames
 frames_in_place version [] fit = All-nil (λ (f : HFrame). fits_h 2 f.msg ≡ true)
-frames_in_place version (f ∷ frames) fit = All-cons (λ (g : HFrame). fits_h 2 g.msg ≡ true) f frames fit.1 (frames_in_place (version_after version f.msg) frames fit.2)
+frames_in_place version (f ∷ frames) fit = All-cons (λ (g : HFrame). fits_h 2 g.msg ≡ true) f frames fit.1 (frames_in_place (after_h version f.msg) frames fit.2)
 
 pub answered_fit : (h g : PlainHost) (m : Tmesg) (frames : List HFrame) → answer h m ≡ Ok (g, frames) → IsSound h → FramesFit frames
 answered_fit h g m frames is sound = frames_in_place h.version frames (frames_fit h g m frames is sound)

@@ -21,19 +21,7 @@ use Rattle.sam_mesg.specs.TerminalKinds.{fits_t}
 use Rattle.sam_mesg.specs.declared.tmesg.Tmesg.{Tmesg}
 use Rattle.sam_mesg.specs.declared.tmesg.Tmesg.TheVariants.{Ttype, Tsetsnarf}
 use Rattle.sam_mesg.specs.declared.hmesg.HFrame.{HFrame}
-
--- what fits in some version fits in the second
-later : (v : ℕ) (m : Tmesg) → fits_t v m ≡ true → fits_t 2 m ≡ true
-later v (Ttype f p s) e = e
-later v (Tsetsnarf s) e =
-    let within = leb-true (utf8_length s) (snarf_limit v) e in
-    let least : snarf_limit v ≤ 32000 = limit (v == 1) in
-    le-leb (utf8_length s) 32000 (omega (arith, within, least))
-  where
-    limit : (b : Bool) → (if b then 4096 else 32000) ≤ 32000
-    limit true = omega arith
-    limit false = omega arith
-later v _ e = refl
+use Rattle.sam_mesg.proofs.Versions.{fits_last_t}
 
 both : (a b : Bool) → (a && b) ≡ true → (a ≡ true) × (b ≡ true)
 both true b e = (refl, e)
@@ -41,7 +29,7 @@ both false b e = absurd (cc)
 
 all-later : (v : ℕ) (ms : List Tmesg) → all_fit v ms ≡ true → AllFit ms
 all-later v [] e = All-nil FitsLast
-all-later v (m ∷ ms) e = let parts = both (fits_t v m) (all_fit v ms) e in All-cons FitsLast m ms (later v m parts.0) (all-later v ms parts.1)
+all-later v (m ∷ ms) e = let parts = both (fits_t v m) (all_fit v ms) e in All-cons FitsLast m ms (fits_last_t v m parts.0) (all-later v ms parts.1)
 
 -- messages of a terminal that fit in its version
 fitting : (v : ℕ) (ms ns : List Tmesg) → ms ≡ ns → all_fit v ns ≡ true → AllFit ms

@@ -1,6 +1,6 @@
 -- The plain terminal: what it composes for each event and frame, and its state after it.
 use Rattle.std.specs.Prelude.{ℕ, ◌+◌, ◌-◌, min, Bool, true, false, not, ◌&&◌, ◌||◌, if◌then◌else◌, ◌==◌, nat_lt, nat_le, List, [], ◌∷◌, ◌++◌, length, map, replicate, Option, Some, None, is_some, unwrap_or, Result, Ok, Err}
-use Rattle.sam_runes.specs.Texts.{Range, is_empty, max_runes, most_count, most_in_message, snarf_limit, common_version, utf8_length}
+use Rattle.sam_runes.specs.Texts.{Range, is_empty, max_runes, most_count, most_in_message, snarf_limit, agreed, utf8_length}
 use Rattle.sam_runes.specs.Slots.{Slots, slot, put_slot, free_slot, map_slots}
 use Rattle.sam_runes.specs.Checks.{Checks, first_of_checks}
 use Rattle.sam_rasp.specs.Rasp.{PartialText, ins_cells, del_cells, load_cells, hole_within, place_after_ins, place_after_del}
@@ -511,7 +511,7 @@ took_exit t =
 
 -- what a frame does that nothing stands against
 abbrev pub made_from : PlainTerminal → Hmesg → Made
-made_from t (Hversion v) = (record t { version = if v == 0 then t.version else common_version v }, [])
+made_from t (Hversion v) = (record t { version = agreed t.version v }, [])
 made_from t (Hbindname f) = (took_bindname t f, [])
 made_from t (Hcurrent f) = (record t { current = Some f }, [])
 made_from t (Hnewname f) = (put_known t f blank_known, [])

@@ -11,11 +11,9 @@ ghost use Rattle.sam_term.specs.Term.{act_of, event_checks, is_unknown, is_close
 use crate::event::{Acted, Deed, UserEvent, Verdict};
 use crate::event_tests::{file_of, is_bad_version, is_for_command_file, needs_open, waits_for_all};
 use crate::fault::{Refusal, TermFault};
-use crate::files::MOST_IN_MESSAGE;
-use crate::lock::snarf_limit;
 use crate::term::Terminal;
 use sam_mesg::Tmesg;
-use sam_runes::utf8_within;
+use sam_runes::{MOST_IN_MESSAGE, snarf_limit, utf8_within};
 
 impl Terminal {
     /// Tries the oldest held event, as `Terminal::act` says. Errors, in this order: `CountFull`; `OutOfMemory`. The terminal is then
@@ -197,8 +195,8 @@ impl Terminal {
         }
     }
 
-    /// Does the deed of the oldest held event, and drops the event. Errors, in this order: `CountFull`; `OutOfMemory`. The terminal is then
-    /// unchanged.
+    /// Does the deed of the oldest held event, and drops the event. Errors, in this order: `CountFull`; `OutOfMemory`. The terminal is
+    /// then unchanged.
     fn perform(&mut self, deed: Deed) -> Result<Acted, TermFault>
         requires free { free_first self.old ≡ None }
         requires deed { deed ≡ deed_of self.old (first_event self.old.held) }

@@ -10,11 +10,12 @@ ghost use Rattle.sam_term.specs.Taking.{IsAnswer, countable};
 ghost use Rattle.sam_term.specs.Term.{flush_of, is_open, window_at, composed, unsent_message, flushed, sends, unchanged, wanted, view_end, request_for};
 
 use crate::fault::TermFault;
-use crate::files::{MOST_IN_MESSAGE, Window};
+use crate::files::Window;
 use crate::lock::{Lock, is_request, lock_of};
 use crate::outbox::Outbox;
 use crate::term::Terminal;
 use sam_mesg::{Batch, Tmesg};
+use sam_runes::MOST_IN_MESSAGE;
 
 impl Terminal {
     /// Composes the unsent runes, if there are any. Errors, in this order: `CountFull`; `OutOfMemory`. The terminal is then unchanged.
@@ -58,8 +59,8 @@ impl Terminal {
         self.sent += 1;
     }
 
-    /// Composes a message: it is counted, takes its lock, and goes behind the others of the outbox. The caller makes sure of all that could
-    /// stand against it, so it cannot fail.
+    /// Composes a message: it is counted, takes its lock, and goes behind the others of the outbox. The caller makes sure of all that
+    /// could stand against it, so it cannot fail.
     pub(crate) fn compose(&mut self, message: Tmesg, out: &mut Outbox)
         requires counts { self.old.sent < most_count }
         requires opened { IsTrue (is_lockable self.old (lock_of message)) }
@@ -107,8 +108,8 @@ impl Terminal {
         }
     }
 
-    /// Makes an outbox with room for `count` messages, after a test that so many more can be counted. It comes before the first change of a
-    /// call, and asks for no memory if `count` is 0. Errors, in this order: `CountFull`; `OutOfMemory`.
+    /// Makes an outbox with room for `count` messages, after a test that so many more can be counted. It comes before the first change of
+    /// a call, and asks for no memory if `count` is 0. Errors, in this order: `CountFull`; `OutOfMemory`.
     pub(crate) fn prepare(&self, count: usize) -> Result<Outbox, TermFault>
         ensures ok { IfOk result (λ out. out ≡ record { messages = []; room = count }) }
         ensures counts { OnOk result (self.now.sent + count ≤ most_count) }
@@ -136,8 +137,9 @@ impl Terminal {
         self.compose(message, out);
     }
 
-    /// Returns the request that a file wants: for the first stretch of gaps in its view, at most `MOST_IN_MESSAGE` of them. `None` if there
-    /// is no gap, the file is not open, the session is over, or a request is awaited already. The cost goes by the sections before the gap.
+    /// Returns the request that a file wants: for the first stretch of gaps in its view, at most `MOST_IN_MESSAGE` of them. `None` if
+    /// there is no gap, the file is not open, the session is over, or a request is awaited already. The cost goes by the sections before
+    /// the gap.
     pub(crate) fn wanted(&self, tag: u16) -> Option<Tmesg>
         ensures { result ≡ wanted self.now tag }
     {
@@ -148,8 +150,8 @@ impl Terminal {
         }
     }
 
-    /// Returns the request that an open file will want once it is shown from `p` on, `n` runes and gaps at most. Its view is still the old
-    /// one.
+    /// Returns the request that an open file will want once it is shown from `p` on, `n` runes and gaps at most. Its view is still the
+    /// old one.
     pub(crate) fn wanted_from(&self, tag: u16, p: u32, n: u32) -> Option<Tmesg>
         requires opened { IsTrue (is_open self.now tag) }
         requires within { p ≤ length (window_at self.now tag).rasp }

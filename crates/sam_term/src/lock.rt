@@ -1,7 +1,7 @@
 //! The lock that each kind of message takes as it is composed, as in samterm, and small tests of texts and messages.
 
 ghost use Rattle.std.specs.Prelude.{◌≡◌};
-ghost use Rattle.sam_runes.specs.Texts.{ends_line, snarf_limit};
+ghost use Rattle.sam_runes.specs.Texts.{ends_line};
 ghost use Rattle.sam_term.specs.Locking.{is_request};
 ghost use Rattle.sam_term.specs.Locks.{lock_of};
 
@@ -74,11 +74,4 @@ pub fn lock_of(message: &Tmesg) -> Lock
         Tmesg::Tack => Lock::NoLock,
         Tmesg::Texit => Lock::CommandLock,
     }
-}
-
-/// Returns how many bytes of UTF-8 a snarfed text may have in one message of a version: 4,096 in version 1, else 32,000.
-pub fn snarf_limit(version: u16) -> usize
-    ensures { result ≡ snarf_limit version }
-{
-    if version == 1 { 4_096 } else { 32_000 }
 }

@@ -13,12 +13,12 @@ use sam_runes::Runes;
 use std::alloc::{AllocError, Global};
 use std::marker::Model;
 
-/// The files that the terminal knows, by tag. Contracts see a list of slots, whose index is the tag. A file can be changed only through the
-/// calls here, each of which leaves the other tags as they are; `free_all` alone changes all.
+/// The files that the terminal knows, by tag. Contracts see a list of slots, whose index is the tag. A file can be changed only through
+/// the calls here, each of which leaves the other tags as they are; `free_all` alone changes all.
 #[derive(Drop)]
 pub struct KnownFiles {
-    /// What is known of each tag: `None` for a tag that is not known. A tag behind the end is not known either. It grows up to the highest
-    /// tag that came, 65,536 slots at most, and never shrinks.
+    /// What is known of each tag: `None` for a tag that is not known. A tag behind the end is not known either. It grows up to the
+    /// highest tag that came, `ALL_TAGS` slots at most, and never shrinks.
     slots: Vec<Option<KnownFile>>,
 }
 
@@ -87,8 +87,8 @@ impl KnownFiles {
         open_window(&mut self.slots[tag as usize])
     }
 
-    /// Puts a file at a tag; what stood there is dropped. All memory is had before the first change: the only error is want of memory, and
-    /// nothing has changed then.
+    /// Puts a file at a tag; what stood there is dropped. All memory is had before the first change: the only error is want of memory,
+    /// and nothing has changed then.
     pub fn put_new(&mut self, tag: u16, file: KnownFile) -> Result<(), AllocError>
         ensures ok { OnOk result (self.new ≡ put_slot self.old tag file) }
         ensures err { OnErr result (self.new ≡ self.old) }

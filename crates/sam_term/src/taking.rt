@@ -2,7 +2,7 @@
 
 ghost use Rattle.std.specs.Prelude.{◌≡◌, ◌+◌, ◌<◌, ◌≤◌, ◌==◌, if◌then◌else◌, [], length, IsTrue, None, false};
 ghost use Rattle.sam_runes.specs.Slots.{free_slot};
-ghost use Rattle.sam_runes.specs.Texts.{most_count, common_version, max_runes};
+ghost use Rattle.sam_runes.specs.Texts.{agreed, most_count, max_runes};
 ghost use Rattle.sam_term.specs.Taking.{IsAnswer, countable, frame_fault};
 ghost use Rattle.sam_term.specs.Term.{take_of, is_open, is_known, window_at, known_at, made_from, took_bindname, took_unlockfile, took_close, took_exit, put_known};
 
@@ -12,7 +12,7 @@ use crate::moving::drop_unsent;
 use crate::term::Terminal;
 use sam_mesg::{Batch, HFrame, Hmesg, Tmesg};
 use sam_rasp::Rasp;
-use sam_runes::Runes;
+use sam_runes::{Runes, agreed};
 
 impl Terminal {
     /// Takes a frame, as `Terminal::receive` says: its stamp is tested first, then what stands against its message. The terminal is
@@ -121,13 +121,11 @@ impl Terminal {
         Batch::from_vec(Vec::new(self.alloc))
     }
 
-    /// Takes the version that both sides speak: the smaller of `version` and 2. Version 0 changes nothing.
+    /// Takes the version that both sides speak. Version 0 changes nothing.
     fn set_version(&mut self, version: u16)
-        ensures { self.new ≡ record self.old { version = if version == 0 then self.old.version else common_version version } }
+        ensures { self.new ≡ record self.old { version = agreed self.old.version version } }
     {
-        if version != 0 {
-            self.version = if version < 2 { version } else { 2 };
-        }
+        self.version = agreed(self.version, version);
     }
 
     /// Takes `Hack`: composes the unsent runes and a `Tack`, unless the session is over.

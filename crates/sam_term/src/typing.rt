@@ -12,12 +12,12 @@ ghost use Rattle.sam_term.specs.Term.{is_open, window_at, put_window, all_compos
 
 use crate::event::{Acted, UserEvent};
 use crate::fault::TermFault;
-use crate::files::{MOST_IN_MESSAGE, Unsent, Window};
+use crate::files::{Unsent, Window};
 use crate::lock::ends_line;
 use crate::outbox::Outbox;
 use crate::term::Terminal;
 use sam_mesg::Tmesg;
-use sam_runes::Runes;
+use sam_runes::{MOST_IN_MESSAGE, Runes};
 use std::alloc::AllocError;
 
 /// Returns where a place goes as `n` runes come in the place of what stands from `p` to `q`.
@@ -36,8 +36,8 @@ fn after_typing(p: u32, q: u32, n: u32, place: u32) -> u32
     if p < moved { moved + n } else { moved }
 }
 
-/// Puts runes in the place of the dot of a window, which is then empty and behind them. The only error is want of memory, and the window is
-/// then unchanged.
+/// Puts runes in the place of the dot of a window, which is then empty and behind them. The only error is want of memory, and the window
+/// is then unchanged.
 pub fn type_over(window: &mut Window, runes: &[char]) -> Result<(), AllocError>
     requires ordered { window.old.dot.0 ≤ window.old.dot.1 }
     requires within { window.old.dot.1 ≤ max_runes }

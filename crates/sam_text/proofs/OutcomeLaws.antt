@@ -1,14 +1,14 @@
 -- What each line does can be put in: its file can be the work file, dot is a range of its text, name and pattern are within their limits.
 use Rattle.std.proofs.Common.{◌≡◌, ℕ, ◌≤◌, List, [], ◌∷◌, length, Bool, true, false, cond, Option, Some, None, Result, Ok, Err, refl, sym, subst, ap}
 use Rattle.std.specs.Prelude.{IfOk, IfSome, unwrap_or, option_map, option_and_then, nat_lt}
-use Rattle.sam_runes.specs.Texts.{max_runes}
+use Rattle.sam_runes.specs.Texts.{max_runes, most_in_name}
 use Rattle.sam_runes.specs.Slots.{slot}
 use Rattle.sam_text.specs.declared.word.Word.{Word}
 use Rattle.sam_text.specs.declared.command.Command.{Command}
 use Rattle.sam_text.specs.declared.command.Command.TheVariants as command
 use Rattle.sam_text.specs.Reading.{◌>>=◌, command_of}
 use Rattle.sam_text.specs.Ranges.{address_range}
-use Rattle.sam_text.specs.Files.{PlainFile, PlainFiles, PlainOutcome, blank_file, file_at, file_after, IsFit, IsPattern, IsWork, IsOutcomeFor, IsOutcomeOf, AreKept, most_in_name}
+use Rattle.sam_text.specs.Files.{PlainFile, PlainFiles, PlainOutcome, blank_file, file_at, file_after, IsFit, IsPattern, IsWork, IsOutcomeFor, IsOutcomeOf, AreKept}
 use Rattle.sam_text.specs.Meaning.{WorkFile, meaning, work_on, work_file, line_outcome, effect_of, effect_on, effect_of_line, or_wrong, address_or_dot, address_pattern, steps_pattern, later}
 use Rattle.sam_text.proofs.ReadLaws.{CommandOk, command-read}
 use Rattle.sam_text.proofs.MeaningLaws.{line_fits}

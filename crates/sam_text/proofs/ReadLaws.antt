@@ -1,7 +1,8 @@
--- What is read of a line is within the limits: each pattern has 1 to 128 runes, and a name at most 64.
+-- What is read of a line is within the limits: each pattern has 1 to most_in_pattern runes, and a name at most most_in_name.
 use Rattle.std.proofs.Common.{◌≡◌, ℕ, zero, suc, ◌+◌, ◌≤◌, List, [], ◌∷◌, length, Bool, true, false, cond, ◌||◌, ◌==◌, Option, Some, None, Result, Ok, Err, option_map, nat_lt, refl, arith}
 use Rattle.std.specs.Prelude.{IfOk, IfSome, ⊤}
 use Rattle.std.proofs.lemmas.Bool.{ltb-false}
+use Rattle.sam_runes.specs.Texts.{most_in_name, most_in_pattern}
 use Rattle.sam_text.specs.declared.word.Word.{Word}
 use Rattle.sam_text.specs.declared.word.Word.TheVariants as word
 use Rattle.sam_text.specs.declared.command.Side.{Side}
@@ -11,7 +12,7 @@ use Rattle.sam_text.specs.declared.command.Step.{Step}
 use Rattle.sam_text.specs.declared.command.Last.{Last}
 use Rattle.sam_text.specs.declared.command.Command.{Command}
 use Rattle.sam_text.specs.declared.command.Command.TheVariants as command
-use Rattle.sam_text.specs.Files.{IsPattern, most_in_name}
+use Rattle.sam_text.specs.Files.{IsPattern}
 use Rattle.sam_text.specs.Meaning.{side_pattern, address_pattern, steps_pattern, later}
 use Rattle.sam_text.specs.Reading.{◌>>=◌, is_digit, is_blank, skip, quoted, pattern_at, behind_slash, rune_side, side_of, side_at, second_side, address_at, kind_of, last_of, at_head, at_option, chain_at, trimmed, name_of, ended, behind_address, command_of}
 
@@ -31,11 +32,11 @@ ok_if P false x y h k = k
 
 -- ## Patterns
 
-pattern_end : (n : ℕ) (p : List ℕ × List ℕ) → n ≡ length p.0 → (a b : Bool) → (n == 0) ≡ a → nat_lt 128 n ≡ b → IfOk (cond (a || b) (Err word.Pattern) (Ok p)) (λ (p : List ℕ × List ℕ). IsPattern p.0)
+pattern_end : (n : ℕ) (p : List ℕ × List ℕ) → n ≡ length p.0 → (a b : Bool) → (n == 0) ≡ a → nat_lt most_in_pattern n ≡ b → IfOk (cond (a || b) (Err word.Pattern) (Ok p)) (λ (p : List ℕ × List ℕ). IsPattern p.0)
 pattern_end n p same true b e f = tt
 pattern_end n p same false true e f = tt
 pattern_end zero p same false false e f = absurd (cc)
-pattern_end (suc n) p same false false e f = let m = ltb-false 128 (suc n) f in (omega (arith, same), omega (arith, same, m))
+pattern_end (suc n) p same false false e f = let m = ltb-false most_in_pattern (suc n) f in (omega (arith, same), omega (arith, same, m))
 
 pub pattern-read : (line : List ℕ) → IfOk (pattern_at line) (λ (p : List ℕ × List ℕ). IsPattern p.0)
 unfolding pattern_at
@@ -118,9 +119,9 @@ CommandOk (command.Run a ss l) = (AddressOk a) × (IfSome (steps_pattern ss) IsP
 CommandOk (command.Name n) = length n ≤ most_in_name
 CommandOk command.Quit = ⊤
 
-name_end : (n : List ℕ) (b : Bool) → nat_lt 64 (length n) ≡ b → IfOk (cond b (Err word.Name) (Ok (command.Name n))) CommandOk
+name_end : (n : List ℕ) (b : Bool) → nat_lt most_in_name (length n) ≡ b → IfOk (cond b (Err word.Name) (Ok (command.Name n))) CommandOk
 name_end n true e = tt
-name_end n false e = ltb-false 64 (length n) e
+name_end n false e = ltb-false most_in_name (length n) e
 
 name-read : (line : List ℕ) → IfOk (name_of line) CommandOk
 name-read [] = omega arith

@@ -3,14 +3,14 @@
 
 ghost use Rattle.std.specs.Prelude.{◌≡◌, ◌<◌, ◌≤◌, ◌+◌, ◌-◌, ◌∷◌, [], IsOk, OnOk, OnErr, IfOk, IfErr, Err, Some, None, true, false, length, ◌&&◌, not};
 ghost use Rattle.sam_runes.specs.Checks.{first_of_checks, unless};
-ghost use Rattle.sam_runes.specs.Texts.{max_runes, all_tags, part, word_at, is_empty};
-ghost use Rattle.sam_text.specs.Files.{PlainFile, blank_file, file_at, has_file, put_file, no_file, past_end, no_range, too_long, no_tag, with_dot, with_work, with_new, new_file, without_file, opened_file, announced_file, written_file, typed_file, cut_file, pasted_file, has_room, is_printed, after_print, IsFault, search_of, with_found, may_look, look_of, with_look, most_in_name};
+ghost use Rattle.sam_runes.specs.Texts.{max_runes, all_tags, part, word_at, is_empty, most_in_name};
+ghost use Rattle.sam_text.specs.Files.{PlainFile, blank_file, file_at, has_file, put_file, no_file, past_end, no_range, too_long, no_tag, with_dot, with_work, with_new, new_file, without_file, opened_file, announced_file, written_file, typed_file, cut_file, pasted_file, has_room, is_printed, after_print, IsFault, search_of, with_found, may_look, look_of, with_look};
 ghost use Rattle.sam_text.specs.Views.{room_at, KeepRooms, KeepRoomsBut};
 
 use crate::fault::FilesFault;
 use crate::file::{File, FileChange};
 use crate::files::Files;
-use sam_runes::{MAX_RUNES, Runes, Text};
+use sam_runes::{ALL_TAGS, MAX_RUNES, MOST_IN_PATTERN, Runes, Text};
 use std::alloc::Global;
 
 impl Files {
@@ -91,8 +91,8 @@ impl Files {
 
     /// Makes a file the work file, and sets its dot to the range from place `p` to place `q`. The caller makes sure that the tag isn't 0.
     ///
-    /// Errors, in this order: `NoFile` if the tag has no file; `BadPosition` if `q` is less than `p` or past the end of the text. After an
-    /// error the files are unchanged.
+    /// Errors, in this order: `NoFile` if the tag has no file; `BadPosition` if `q` is less than `p` or past the end of the text. After
+    /// an error the files are unchanged.
     pub fn set_work(&mut self, tag: u16, p: u32, q: u32) -> Result<(), FilesFault>
         requires { 0 < tag }
         ensures answer { result ≡ unless (first_of_checks (no_file self.old.plain tag ∷ no_range self.old.plain tag p q ∷ [])) tt }
@@ -134,8 +134,8 @@ impl Files {
 
     /// Sets the dot of a file to the range from place `p` to place `q`.
     ///
-    /// Errors, in this order: `NoFile` if the tag has no file; `BadPosition` if `q` is less than `p` or past the end of the text. After an
-    /// error the files are unchanged.
+    /// Errors, in this order: `NoFile` if the tag has no file; `BadPosition` if `q` is less than `p` or past the end of the text. After
+    /// an error the files are unchanged.
     pub fn set_dot(&mut self, tag: u16, p: u32, q: u32) -> Result<(), FilesFault>
         ensures answer { result ≡ unless (first_of_checks (no_file self.old.plain tag ∷ no_range self.old.plain tag p q ∷ [])) tt }
         ensures done { OnOk result (self.new.plain ≡ with_dot self.old.plain tag p q) }
@@ -150,8 +150,8 @@ impl Files {
     /// Deletes the runes of a file from place `p` to place `q`. Dot is then the empty range at `p`, and the file becomes dirty, unless it
     /// is the command file. No memory is asked for.
     ///
-    /// Errors, in this order: `NoFile` if the tag has no file; `BadPosition` if `q` is less than `p` or past the end of the text. After an
-    /// error the files are unchanged.
+    /// Errors, in this order: `NoFile` if the tag has no file; `BadPosition` if `q` is less than `p` or past the end of the text. After
+    /// an error the files are unchanged.
     pub fn delete(&mut self, tag: u16, p: u32, q: u32) -> Result<(), FilesFault>
         ensures answer { result ≡ unless (first_of_checks (no_file self.old.plain tag ∷ no_range self.old.plain tag p q ∷ [])) tt }
         ensures done { OnOk result (self.new.plain ≡ put_file self.old.plain tag (cut_file tag (file_at self.old.plain tag) p q)) }
@@ -164,11 +164,11 @@ impl Files {
     }
 
     /// Puts `runes` in a file at place `p`. Dot is then the empty range after them, and the file becomes dirty, unless it is the command
-    /// file. Within the room of the file no memory is asked for, only what stands after `p` is moved, and the room shrinks by no more than
-    /// what is put in.
+    /// file. Within the room of the file no memory is asked for, only what stands after `p` is moved, and the room shrinks by no more
+    /// than what is put in.
     ///
     /// Errors, in this order: `NoFile` if the tag has no file; `BadPosition` if `p` is past the end of the text; `TooLong` if the text
-    /// would have more than 1,000,000 runes; `OutOfMemory`. After an error the files and their rooms are unchanged.
+    /// would have more than `MAX_RUNES` runes; `OutOfMemory`. After an error the files and their rooms are unchanged.
     pub fn insert(&mut self, tag: u16, p: u32, runes: &[char]) -> Result<(), FilesFault>
         ensures allowed { OnOk result (first_of_checks (no_file self.old.plain tag ∷ past_end self.old.plain tag p ∷ too_long (length (file_at self.old.plain tag).text + length runes.now) ∷ []) ≡ None) }
         ensures refused { IfErr result (IsFault (first_of_checks (no_file self.old.plain tag ∷ past_end self.old.plain tag p ∷ too_long (length (file_at self.old.plain tag).text + length runes.now) ∷ []))) }
@@ -189,7 +189,7 @@ impl Files {
     /// Makes room for `n` more runes in the text of a file, so that they can be put in without asking for memory. No text, name or mark
     /// is changed, and if the room is there already, no room either.
     ///
-    /// Errors, in this order: `NoFile` if the tag has no file; `TooLong` if the length and `n` together are more than 1,000,000;
+    /// Errors, in this order: `NoFile` if the tag has no file; `TooLong` if the length and `n` together are more than `MAX_RUNES`;
     /// `OutOfMemory`. After an error all rooms are unchanged.
     pub fn reserve(&mut self, tag: u16, n: u32) -> Result<(), FilesFault>
         ensures allowed { OnOk result (first_of_checks (no_file self.old.plain tag ∷ too_long (length (file_at self.old.plain tag).text + n) ∷ []) ≡ None) }
@@ -233,7 +233,7 @@ impl Files {
 
     /// Copies `runes` into the snarf buffer.
     ///
-    /// Errors, in this order: `TooLong` if there are more than 1,000,000; `OutOfMemory`. After an error the snarf buffer is unchanged.
+    /// Errors, in this order: `TooLong` if there are more than `MAX_RUNES`; `OutOfMemory`. After an error the snarf buffer is unchanged.
     pub fn set_snarf(&mut self, alloc: Global, runes: &[char]) -> Result<(), FilesFault>
         ensures allowed { OnOk result (length runes.now ≤ max_runes) }
         ensures refused { IfErr result (IsFault (first_of_checks (too_long (length runes.now) ∷ []))) }
@@ -269,10 +269,10 @@ impl Files {
         Ok((start, end))
     }
 
-    /// Adds a file with copies of this name and text under the next tag, and returns the tag. The file is clean, closed and not announced.
-    /// The caller makes sure that the name has at most 64 runes.
+    /// Adds a file with copies of this name and text under the next tag, and returns the tag. The file is clean, closed and not
+    /// announced. The caller makes sure that the name has at most `MOST_IN_NAME` runes.
     ///
-    /// Errors, in this order: `TooLong` if the text has more than 1,000,000 runes; `NoTag` if all 65,536 tags were given; `OutOfMemory`.
+    /// Errors, in this order: `TooLong` if the text has more than `MAX_RUNES` runes; `NoTag` if all tags were given; `OutOfMemory`.
     /// After an error the files are unchanged.
     pub fn new_file(
         &mut self,
@@ -291,7 +291,7 @@ impl Files {
         if text.len() > MAX_RUNES as usize {
             return Err(FilesFault::TooLong);
         }
-        if self.tags() >= 65_536 {
+        if self.tags() >= ALL_TAGS {
             return Err(FilesFault::NoTag);
         }
         let name = match Runes::from_slice(alloc, name) {
@@ -305,10 +305,10 @@ impl Files {
         self.add_file(name, text)
     }
 
-    /// Adds a file of this name and text, which are not copied, under the next tag, and returns the tag. The file is clean, closed and not
-    /// announced. The caller makes sure that the name has at most 64 runes.
+    /// Adds a file of this name and text, which are not copied, under the next tag, and returns the tag. The file is clean, closed and
+    /// not announced. The caller makes sure that the name has at most `MOST_IN_NAME` runes.
     ///
-    /// Errors, in this order: `NoTag` if all 65,536 tags were given; `OutOfMemory`. After an error the files are unchanged.
+    /// Errors, in this order: `NoTag` if all tags were given; `OutOfMemory`. After an error the files are unchanged.
     pub fn add_file(&mut self, name: Runes, text: Text) -> Result<u16, FilesFault>
         requires { length name ≤ most_in_name }
         ensures allowed { OnOk result (first_of_checks (no_tag self.old.plain ∷ []) ≡ None) }
@@ -319,17 +319,17 @@ impl Files {
         ensures rooms { KeepRooms self.old self.new }
     {
         let tag = self.tags();
-        if tag >= 65_536 {
+        if tag >= ALL_TAGS {
             return Err(FilesFault::NoTag);
         }
         self.add(File::new(name, text))?;
         Ok(tag as u16)
     }
 
-    /// Adds a file for the terminal under the next tag, and returns the tag. The file has an empty text and no name, and it is clean, open
-    /// and announced.
+    /// Adds a file for the terminal under the next tag, and returns the tag. The file has an empty text and no name, and it is clean,
+    /// open and announced.
     ///
-    /// Errors, in this order: `NoTag` if all 65,536 tags were given; `OutOfMemory`. After an error the files are unchanged.
+    /// Errors, in this order: `NoTag` if all tags were given; `OutOfMemory`. After an error the files are unchanged.
     pub fn start_file(&mut self, alloc: Global) -> Result<u16, FilesFault>
         ensures allowed { OnOk result (first_of_checks (no_tag self.old.plain ∷ []) ≡ None) }
         ensures refused { IfErr result (IsFault (first_of_checks (no_tag self.old.plain ∷ []))) }
@@ -339,7 +339,7 @@ impl Files {
         ensures rooms { KeepRooms self.old self.new }
     {
         let tag = self.tags();
-        if tag >= 65_536 {
+        if tag >= ALL_TAGS {
             return Err(FilesFault::NoTag);
         }
         self.add(File::for_terminal(alloc))?;
@@ -347,8 +347,8 @@ impl Files {
     }
 
     /// Searches a file for what stands in it from place `p` to place `q`: that becomes the pattern, and its first occurrence from `q` on,
-    /// or else the first of the text, becomes dot. Returns the new dot. There is always one, since the range itself is an occurrence;
-    /// but if the range is empty or longer than 128 runes, the call returns `None`, changes nothing, and asks for no memory.
+    /// or else the first of the text, becomes dot. Returns the new dot. There is always one, since the range itself is an occurrence; but
+    /// if the range is empty or longer than `MOST_IN_PATTERN` runes, the call returns `None`, changes nothing, and asks for no memory.
     ///
     /// Errors, in this order: `NoFile` if the tag has no file; `BadPosition` if `q` is less than `p` or past the end of the text;
     /// `OutOfMemory`. After an error files and pattern are unchanged.
@@ -371,7 +371,7 @@ impl Files {
     {
         self.wants_range(tag, p, q)?;
         let lit = self.part(tag, p, q);
-        if lit.is_empty() || lit.len() > 128 {
+        if lit.is_empty() || lit.len() > MOST_IN_PATTERN {
             return Ok(None);
         }
         let pattern = match Runes::from_slice(alloc, lit) {
@@ -390,8 +390,8 @@ impl Files {
     /// becomes dot. Returns the new dot. If there is no pattern or it stands nowhere, returns `None` and changes nothing. Place `p` is
     /// only checked.
     ///
-    /// Errors, in this order: `NoFile` if the tag has no file; `BadPosition` if `q` is less than `p` or past the end of the text. After an
-    /// error the files are unchanged.
+    /// Errors, in this order: `NoFile` if the tag has no file; `BadPosition` if `q` is less than `p` or past the end of the text. After
+    /// an error the files are unchanged.
     pub fn search(&mut self, tag: u16, p: u32, q: u32) -> Result<Option<(u32, u32)>, FilesFault>
         ensures answer { result ≡ unless (first_of_checks (no_file self.old.plain tag ∷ no_range self.old.plain tag p q ∷ [])) (search_of self.old.plain tag q) }
         ensures done { OnOk result (self.new.plain ≡ with_found self.old.plain tag (search_of self.old.plain tag q)) }
@@ -410,7 +410,7 @@ impl Files {
     /// command file.
     ///
     /// Errors, in this order: `NoFile` if the tag has no file; `BadPosition` if `p` is past the end of the text; `TooLong` if the text
-    /// would have more than 1,000,000 runes; `OutOfMemory`. After an error the files and their rooms are unchanged.
+    /// would have more than `MAX_RUNES` runes; `OutOfMemory`. After an error the files and their rooms are unchanged.
     pub fn paste(&mut self, tag: u16, p: u32) -> Result<(), FilesFault>
         ensures allowed { OnOk result (first_of_checks (no_file self.old.plain tag ∷ past_end self.old.plain tag p ∷ too_long (length (file_at self.old.plain tag).text + length self.old.plain.snarf) ∷ []) ≡ None) }
         ensures refused { IfErr result (IsFault (first_of_checks (no_file self.old.plain tag ∷ past_end self.old.plain tag p ∷ too_long (length (file_at self.old.plain tag).text + length self.old.plain.snarf) ∷ []))) }
@@ -426,7 +426,7 @@ impl Files {
     }
 
     /// Prints `runes`: puts them at the end of the command file, and sets its dot to the empty range at the new end. Returns false, and
-    /// changes nothing, if its text would have more than 1,000,000 runes; true otherwise. To print no runes changes nothing.
+    /// changes nothing, if its text would have more than `MAX_RUNES` runes; true otherwise. To print no runes changes nothing.
     ///
     /// The only error is `OutOfMemory`, which doesn't come while the room of the command file is enough. After it the files and their
     /// rooms are unchanged.

@@ -1,9 +1,9 @@
 //! What can be read of `Files` by tag: texts, names, dots, marks, and where words and patterns stand.
 
 ghost use Rattle.std.specs.Prelude.{◌≡◌, ◌<◌, ◌≤◌, IfOk, IfSome, length, option_map, option_and_then, option_copied, nat_lt};
-ghost use Rattle.sam_runes.specs.Texts.{max_runes, part, searched, word_at};
+ghost use Rattle.sam_runes.specs.Texts.{max_runes, part, searched, word_at, most_in_name};
 ghost use Rattle.sam_runes.specs.Slots.{slot};
-ghost use Rattle.sam_text.specs.Files.{has_file, file_at, search_of, most_in_name, IsFit, HasShortName};
+ghost use Rattle.sam_text.specs.Files.{has_file, file_at, search_of, IsFit, HasShortName};
 ghost use Rattle.sam_text.specs.Views.{room_at};
 
 use crate::files::Files;
@@ -25,8 +25,8 @@ impl Files {
         (tag as usize) < self.tags()
     }
 
-    /// Tells a proof what is always true of a file: its dot is a range of its text, its text has at most 1,000,000 runes, and its name at
-    /// most 64. It does nothing.
+    /// Tells a proof what is always true of a file: its dot is a range of its text, its text has at most `MAX_RUNES` runes, and its name
+    /// at most `MOST_IN_NAME`. It does nothing.
     pub fn known_file(&self, tag: u16)
         ensures fit { IsFit (file_at self.now.plain tag) }
         ensures name { HasShortName (file_at self.now.plain tag) }
@@ -44,7 +44,7 @@ impl Files {
         }
     }
 
-    /// Returns how many runes the text of a file has, at most 1,000,000, or 0 if the tag has no file.
+    /// Returns how many runes the text of a file has, at most `MAX_RUNES`, or 0 if the tag has no file.
     pub fn text_len(&self, tag: u16) -> usize
         ensures len { result ≡ length (file_at self.now.plain tag).text }
         ensures limit { length (file_at self.now.plain tag).text ≤ max_runes }
@@ -55,7 +55,7 @@ impl Files {
         }
     }
 
-    /// Returns the name of a file, at most 64 runes, or `None` if the tag has no file.
+    /// Returns the name of a file, at most `MOST_IN_NAME` runes, or `None` if the tag has no file.
     pub fn name(&self, tag: u16) -> Option<&Runes>
         ensures value { option_copied result ≡ option_map (λ f. f.name) (slot self.now.plain.slots tag) }
         ensures short { IfSome result (λ name. length name.now ≤ most_in_name) }
@@ -190,8 +190,8 @@ impl Files {
         }
     }
 
-    /// Returns the word of a file that has place `p` inside it or at an edge, or the empty range at `p` if there is none. The caller makes
-    /// sure that `p` is not past the end. A word is made of ASCII letters, digits and underscores, and of runes above U+007F.
+    /// Returns the word of a file that has place `p` inside it or at an edge, or the empty range at `p` if there is none. The caller
+    /// makes sure that `p` is not past the end. A word is made of ASCII letters, digits and underscores, and of runes above U+007F.
     pub fn word(&self, tag: u16, p: u32) -> (u32, u32)
         requires { p ≤ length (file_at self.now.plain tag).text }
         ensures value { result ≡ word_at (file_at self.now.plain tag).text p }

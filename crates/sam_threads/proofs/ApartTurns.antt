@@ -7,9 +7,10 @@ use Rattle.sam_mesg.specs.declared.tmesg.Tmesg.TheVariants.{Tsetsnarf}
 use Rattle.sam_mesg.specs.declared.hmesg.Hmesg.{Hmesg}
 use Rattle.sam_mesg.specs.declared.hmesg.Hmesg.TheVariants.{Hversion, Hsetsnarf}
 use Rattle.sam_mesg.specs.declared.hmesg.HFrame.{HFrame}
-use Rattle.sam_mesg.specs.TerminalKinds.{fits_t, FitsT}
-use Rattle.sam_mesg.specs.HostKinds.{fits_h, FitsH}
-use Rattle.sam_frame.specs.Direction.{Direction, terminal, host, after_t, after_h}
+use Rattle.sam_mesg.specs.TerminalKinds.{fits_t, FitsT, after_t}
+use Rattle.sam_mesg.specs.HostKinds.{fits_h, FitsH, after_h}
+use Rattle.sam_mesg.proofs.Versions.{fits_last_t, fits_last_h}
+use Rattle.sam_frame.specs.Direction.{Direction, terminal, host}
 use Rattle.sam_frame.specs.Stream.{FitInTurn, version_after}
 use Rattle.sam_world.specs.Sides.{Each}
 
@@ -26,30 +27,13 @@ pub InTurn-append : {M : Type 0} (d : Direction M) (v : ℕ) (ms ns : List M) �
 InTurn-append d v [] ns p q = q
 InTurn-append d v (m ∷ ms) ns p q = (p.0, InTurn-append d (d.after v m) ms ns p.1 q)
 
--- ## What fits in some version fits in version 2
-
-limit-if : (b : Bool) → (if b then 4096 else 32000) ≤ 32000
-limit-if true = omega arith
-limit-if false = omega arith
-
-within : (v : ℕ) (s : List ℕ) → utf8_length s ≤ snarf_limit v → utf8_length s ≤ 32000
-within v s l = let most : snarf_limit v ≤ 32000 = limit-if (v == 1) in omega (arith, l, most)
-
-later-t : (v : ℕ) (m : Tmesg) → fits_t v m ≡ true → fits_t 2 m ≡ true
-later-t v (Tsetsnarf s) e = le-leb (utf8_length s) 32000 (within v s (leb-true (utf8_length s) (snarf_limit v) e))
-later-t v m e = e
-
-pub later-h : (v : ℕ) (m : Hmesg) → fits_h v m ≡ true → fits_h 2 m ≡ true
-later-h v (Hsetsnarf s) e = le-leb (utf8_length s) 32000 (within v s (leb-true (utf8_length s) (snarf_limit v) e))
-later-h v m e = e
-
 pub each_t : (v : ℕ) (ms : List Tmesg) → FitInTurn terminal v ms → Each (FitsT 2) ms
 each_t v [] p = tt
-each_t v (m ∷ ms) p = (record { is_message = p.0.is_message; fits = later-t v m p.0.fits }, each_t (after_t v m) ms p.1)
+each_t v (m ∷ ms) p = (record { is_message = p.0.is_message; fits = fits_last_t v m p.0.fits }, each_t (after_t v m) ms p.1)
 
 pub each_h : (v : ℕ) (fs : List HFrame) → FitInTurn host v fs → Each (FitsH 2) fs
 each_h v [] p = tt
-each_h v (f ∷ fs) p = (record { is_message = p.0.is_message; fits = later-h v f.msg p.0.fits }, each_h (after_h v f.msg) fs p.1)
+each_h v (f ∷ fs) p = (record { is_message = p.0.is_message; fits = fits_last_h v f.msg p.0.fits }, each_h (after_h v f.msg) fs p.1)
 
 -- ## Messages whose limits no version changes
 

@@ -9,13 +9,13 @@ use Rattle.sam_mesg.specs.declared.tmesg.Tmesg.TheVariants.{Tsetsnarf}
 use Rattle.sam_mesg.specs.declared.hmesg.HFrame.{HFrame}
 use Rattle.sam_mesg.specs.declared.fault.MesgFault.{MesgFault}
 use Rattle.sam_mesg.specs.TerminalKinds.{fits_t, FitsT}
-use Rattle.sam_mesg.specs.HostKinds.{FitsH, IsHFrame, frame_h}
+use Rattle.sam_mesg.specs.HostKinds.{FitsH, IsHFrame, frame_h, after_h}
 use Rattle.sam_frame.specs.Direction.{terminal, host, frame_of}
 use Rattle.sam_frame.specs.Stream.{FitInTurn, Splits, Shows, version_after, stream_of}
 use Rattle.sam_frame.specs.Framing.{Held, GaveAll, GaveUp}
 use Rattle.sam_frame.proofs.Fronts.{stream_of-append}
 use Rattle.sam_host.specs.Host.{PlainHost, answer}
-use Rattle.sam_host.specs.Laws.{FitInPlace, version_after as host_version}
+use Rattle.sam_host.specs.Laws.{FitInPlace}
 use Rattle.sam_host.specs.declared.fault.HostFault.{HostFault}
 use Rattle.sam_host.specs.declared.fault.HostFault.TheVariants as refusal
 use Rattle.sam_queue.specs.Views.{PostView}
@@ -46,7 +46,7 @@ each_behind P (x ∷ xs) ys a = each_behind P xs ys a.1
 pub frames_fit : (version : ℕ) (frames : List HFrame) → FitInPlace version frames → Each IsHFrame frames → Each (FitsH 2) frames
 frames_fit version [] fit known = tt
 frames_fit version (f ∷ frames) fit known =
-    (record { is_message = known.0; fits = fit.1 }, frames_fit (host_version version f.msg) frames fit.2 known.1)
+    (record { is_message = known.0; fits = fit.1 }, frames_fit (after_h version f.msg) frames fit.2 known.1)
 
 -- ## One stretch after another
 

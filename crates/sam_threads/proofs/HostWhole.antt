@@ -1,6 +1,7 @@
 -- All that the host's worker takes.
 use Rattle.std.proofs.Common.{◌≡◌, ◌∙◌, inl, inr, ℕ, ◌+◌, ◌^◌, ◌≤◌, List, [], ◌++◌, length, All, Option, Some, None, Ok, refl, sym, ap, subst, append_assoc, append-nil, length-append, arith}
 use Rattle.std.specs.Global.{Vec}
+use Rattle.sam_runes.specs.Texts.{most_files}
 use Rattle.sam_mesg.specs.declared.tmesg.Tmesg.{Tmesg}
 use Rattle.sam_mesg.specs.declared.hmesg.HFrame.{HFrame}
 use Rattle.sam_frame.specs.Direction.{terminal, host, frame_of}
@@ -188,7 +189,7 @@ ends_dropped refuses e taken more handled unput rest (Some stop.Gate) all none e
 ends_dropped refuses e taken more handled unput rest (Some stop.Memory) all none ends = tt
 
 pub told_of : (refuses : Type 0) (up down : LineView) (h : PlainHost) (p q : PostView (Vec ℕ)) (taken more : List (Entry (Vec ℕ))) (e : HostEnd)
-    → p ≡ new_post down 0 → h ≡ new_host e.files.items → (length e.files.items ≤ 65535) × All IsFile e.files.items
+    → p ≡ new_post down 0 → h ≡ new_host e.files.items → (length e.files.items ≤ most_files) × All IsFile e.files.items
     → Serves refuses h e.host p q taken e.stop
     → e.post ≡ closed_post q → e.take.line ≡ up → e.take.taken ≡ taken ++ more → (e.stop ≡ None → more ≡ [])
     → IsEnded 1 e.take.taken → HostTold up down e

@@ -1,6 +1,7 @@
 -- What each thread tells of its end. A list that a record names is there, whatever the thread's schedule was.
 use Rattle.std.specs.Prelude.{◌≡◌, ℕ, ◌^◌, ◌<◌, ◌≤◌, ◌⊎◌, Bool, true, false, List, [], ◌∷◌, ◌++◌, length, map, take, All, Option, Some, None, Err}
 use Rattle.std.specs.Global.{Vec}
+use Rattle.sam_runes.specs.Texts.{most_files}
 use Rattle.sam_mesg.specs.declared.tmesg.Tmesg.{Tmesg}
 use Rattle.sam_mesg.specs.declared.hmesg.HFrame.{HFrame}
 use Rattle.sam_mesg.specs.declared.fault.MesgFault.{MesgFault}
@@ -88,7 +89,7 @@ pub record HostTold (up down : LineView) (e : HostEnd) : Type 0 where
   pub post_is : e.post.line ≡ down
   pub number_is : e.post.number ≡ 0
   pub drained : IsEnded 1 e.take.taken
-  pub files : (length e.files.items ≤ 65535) × All IsFile e.files.items
+  pub files : (length e.files.items ≤ most_files) × All IsFile e.files.items
   pub runs : HostRuns sides (new_host e.files.items) handled answered e.host
   pub fit : FitInTurn terminal 1 handled
   pub got : bytes_of (items_of 0 e.take.taken) ≡ stream_of terminal handled ++ rest

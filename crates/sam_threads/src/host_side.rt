@@ -2,6 +2,7 @@
 
 ghost use Rattle.std.specs.Prelude.{◌≡◌, ◌<◌, ◌≤◌, ◌++◌, ◌∷◌, [], List, ℕ, All, IfOk, Some, None, false, length};
 ghost use Rattle.std.specs.Global.{Vec};
+ghost use Rattle.sam_runes.specs.Texts.{most_files};
 ghost use Rattle.sam_mesg.specs.HostKinds.{IsHFrame, FitsH};
 ghost use Rattle.sam_mesg.specs.TerminalKinds.{FitsT};
 ghost use Rattle.sam_frame.specs.Direction.{host};
@@ -63,8 +64,8 @@ fn refusal(why: HostFault) -> Stop
     }
 }
 
-/// The host, and what stands between it and its lines. Bytes go from the line up into the framer, messages from there to the host, and the
-/// bytes of its frames into the post.
+/// The host, and what stands between it and its lines. Bytes go from the line up into the framer, messages from there to the host, and
+/// the bytes of its frames into the post.
 #[derive(Drop)]
 struct HostSide<'q> {
     /// Where the bytes of the answers take their memory from.
@@ -260,8 +261,8 @@ fn drop_after<R: Wait>(rt: &R, take: &mut Take<Vec<u8>>, stop: Option<Stop>)
 }
 
 /// Handles the messages that come up, sends the frames of the answers down in pieces of at most `piece` bytes, and returns the worker's
-/// end. It is worker 2, the host. It begins with `host`, a new host of `files`: at most 65,535 names and texts. It waits while the line up
-/// is empty or the line down is full.
+/// end. It is worker 2, the host. It begins with `host`, a new host of `files`: at most `MOST_FILES` names and texts. It waits while the
+/// line up is empty or the line down is full.
 ///
 /// The end's `stop` tells why it stopped before the end mark: `Gate` if the gate refused it; `Host` if the host refused a message;
 /// `Frame(1)`, `Frame(2)` or `Frame(3)` for a fault of the stream, once the messages before the fault are handled; `Frame(7)` if the
@@ -281,7 +282,7 @@ pub fn serve_host<'q, R: Wait, G: Gate>(
     requires take { take ≡ new_take take.line }
     requires one { take.line.senders ≡ 1 }
     requires post { post ≡ new_post post.line 0 }
-    requires files { (length files.items ≤ 65535) × All IsFile files.items }
+    requires files { (length files.items ≤ most_files) × All IsFile files.items }
     requires host { host ≡ new_host files.items }
     ensures told { HostTold take.entry.line post.entry.line result }
     ensures files { result.files.items ≡ files.items }

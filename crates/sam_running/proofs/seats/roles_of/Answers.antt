@@ -1,4 +1,5 @@
 use Rattle.std.proofs.Common.{◌∙◌, ◌≤◌, ap, sym, subst, length, All}
+use Rattle.sam_runes.specs.Texts.{most_files}
 use Rattle.sam_host.specs.Host.{new_host}
 use Rattle.sam_script.specs.Script.{IsFile}
 use Rattle.sam_running.proofs.seats.roles_of.Goals as goal
@@ -7,6 +8,6 @@ pub returns-clause-host : goal.returns-clause-host
 returns-clause-host c =
     let files = sym c.in_ok-files.ensures.files in
     record {
-      files = subst (λ f. (length f ≤ 65535) × All IsFile f) files c.in_ok-files.ensures.limits;
+      files = subst (λ f. (length f ≤ most_files) × All IsFile f) files c.in_ok-files.ensures.limits;
       host = c.in_ok-files.ensures.host ∙ ap new_host files;
     }

@@ -1,4 +1,5 @@
 use Rattle.std.proofs.Common.{◌≡◌, ◌∙◌, ◌≤◌, ap, sym, subst, length}
+use Rattle.sam_runes.specs.Texts.{most_files}
 use Rattle.sam_script.proofs.Replays.{given_many}
 use Rattle.sam_script.proofs.replaying.first_world.Goals as goal
 
@@ -6,4 +7,4 @@ pub new-requires-clause-count : goal.new-requires-clause-count
 new-requires-clause-count c =
     let given = c.in-Ok.given.items in
     let many : length c.args.files.now ≡ length given = ap length (sym c.in-Ok.ensures.given) ∙ sym (given_many given) in
-    subst (λ n. n ≤ 65535) many c.requires.count
+    subst (λ n. n ≤ most_files) many c.requires.count

@@ -1,4 +1,5 @@
 use Rattle.std.proofs.Common.{◌≡◌, ◌≤◌, ◌∙◌, ◌+◌, ◌++◌, ◌∷◌, ℕ, List, [], ap, ap₂, sym, subst, length, length-append, slice_index_or}
+use Rattle.sam_runes.specs.Texts.{most_in_name}
 use Rattle.sam_host.specs.Given.{AreNames, given_of}
 use Rattle.sam_script.proofs.Replays.{given_more, names_more, file_there, take_more}
 use Rattle.sam_script.proofs.replaying.given_files.Goals as goal
@@ -20,6 +21,6 @@ loop-file-preserved c =
           ap given_of items ∙ given_more gs (name, text)
           ∙ ap₂ (λ xs f. xs ++ f ∷ []) c.loop-file.invariant.given (file ∙ c.file-item.is)
           ∙ sym (take_more fs i d c.loop-file-test.true);
-      names = subst AreNames (sym items) (names_more gs (name, text) c.loop-file.invariant.names (subst (λ n. n ≤ 64) named short.1));
+      names = subst AreNames (sym items) (names_more gs (name, text) c.loop-file.invariant.names (subst (λ n. n ≤ most_in_name) named short.1));
       count = ap length items ∙ length-append gs ((name, text) ∷ []) ∙ ap (λ n. n + 1) c.loop-file.invariant.count;
     }
