@@ -36,7 +36,11 @@ pub const LAST_SNARF_LIMIT: usize = 32_000;
 pub fn snarf_limit(version: u16) -> usize
     ensures { result ≡ snarf_limit version }
 {
-    if version == 1 { FIRST_SNARF_LIMIT } else { LAST_SNARF_LIMIT }
+    if version == 1 {
+        FIRST_SNARF_LIMIT
+    } else {
+        LAST_SNARF_LIMIT
+    }
 }
 
 /// Returns the version that both sides speak where one offers `offered`: that, or `LAST_VERSION` if it is above it.
@@ -50,5 +54,9 @@ pub fn common_version(offered: u16) -> u16
 pub fn agreed(version: u16, offered: u16) -> u16
     ensures { result ≡ agreed version offered }
 {
-    if offered == 0 { version } else { common_version(offered) }
+    if offered == 0 {
+        version
+    } else {
+        common_version(offered)
+    }
 }
