@@ -1,14 +1,15 @@
 //! A whole session of five threads.
-ghost use Rattle.std.specs.Prelude.{◌≡◌, ◌<◌, IfOk, Err};
+ghost use Rattle.std.specs.Prelude.{◌≡◌, ◌<◌, IfOk, IfErr, Err};
+ghost use Rattle.sam_script.specs.Script.{keys_of, mouse_of};
 ghost use Rattle.sam_running.specs.Session.{IsSession};
-ghost use Rattle.sam_threads.specs.Told.{RefusesSome};
-ghost use Rattle.sam_running.specs.declared.run.RunFault.TheVariants.{GateTimedOut};
+ghost use Rattle.sam_threads.specs.Told.{AllPassed, GatesTold, RefusesSome, Told};
+ghost use Rattle.sam_running.specs.declared.run.RunFault.TheVariants.{GateTimedOut, OutOfMemory};
 
 use crate::run::{RunFault, run_ends};
 use crate::settled::Settled;
 use crate::settling::settle;
 use sam_script::Script;
-use sam_threads::{Gate, Lines, Starts};
+use sam_threads::{Ends, Gate, Lines, Starts};
 use std::alloc::Global;
 use std::sync::Wait;
 use std::thread::Threads;
@@ -61,6 +62,25 @@ fn run_over<R: Threads + Wait + Sync, G: Gate>(
     ensures timed { result ≡ Err RunFault.GateTimedOut → RefusesSome (G.may_refuse gate.now) }
 {
     let ends = run_ends(rt, alloc, lines, starts, script, piece, gate)?;
+    settle_run(rt, alloc, lines, script, gate, ends)
+}
+
+/// Settles the ends that a run of the script over these lines left. The only error is `OutOfMemory`.
+fn settle_run<'q, R: Wait, G: Gate>(
+    rt: &R,
+    alloc: Global,
+    lines: &'q Lines,
+    script: &Script,
+    gate: &G,
+    ends: Ends<'q>,
+) -> Result<Settled, RunFault>
+    requires told { Told (keys_of script.now.lines) (mouse_of script.now.lines) lines.now ends }
+    requires files { ends.host.files.items ≡ script.now.files }
+    requires begun { AllPassed ends }
+    requires gates { GatesTold (G.may_refuse gate.now) ends }
+    ensures session { IfOk result (IsSession script.now (G.may_refuse gate.now)) }
+    ensures memory { IfErr result (λ why. why ≡ RunFault.OutOfMemory) }
+{
     let Ok(settled) = settle(rt, alloc, ends) else {
         return Err(RunFault::OutOfMemory);
     };
