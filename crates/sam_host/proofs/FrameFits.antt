@@ -2,22 +2,23 @@
 use Rattle.std.proofs.Common.{◌≡◌, ℕ, suc, ◌+◌, ◌-◌, ◌≤◌, List, [], ◌∷◌, ◌++◌, length, Bool, true, false, not, cond, Option, Some, None, refl, arith}
 use Rattle.std.specs.Prelude.{◌&&◌, ◌||◌, ◌==◌, min, nat_lt, nat_le, IfSome, flat_map, reverse, drop, unwrap_or}
 use Rattle.std.proofs.lemmas.Bool.{le-leb, ltb-false}
-use Rattle.std.proofs.lemmas.List.{length-take}
 use Rattle.sam_runes.specs.declared.edit.Edit.{Edit}
 use Rattle.sam_runes.specs.Texts.{Range, common_version, part, is_empty, max_runes, most_in_message, most_in_pattern, snarf_limit, utf8_length, prefix_in_bytes, searched, all_tags, ends_line, as_lines, last_line, most_in_name}
 use Rattle.sam_runes.specs.Slots.{Slots, slot}
 use Rattle.sam_runes.proofs.PlaceLaws.{prefix_within}
-use Rattle.sam_text.specs.Files.{PlainFile, PlainFiles, PlainOutcome, blank_file, file_at, has_file, is_printed, has_room, after_print, committed, typed_file}
-use Rattle.sam_text.specs.Meaning.{meaning}
-use Rattle.sam_mesg.specs.HostKinds.{fits_h, after_h}
+use Rattle.sam_text.specs.Files.{PlainFile, PlainFiles, PlainOutcome, blank_file, file_at, has_file, is_printed, has_room, after_print, committed, typed_file, IsPattern}
+use Rattle.sam_text.specs.Meaning.{meaning, work_file}
+use Rattle.sam_text.proofs.OutcomeLaws.{HasShortParts, line_short}
+use Rattle.sam_mesg.specs.HostKinds.{after_h, fits_h}
 use Rattle.sam_mesg.proofs.Versions.{fits_last_h}
 use Rattle.sam_mesg.specs.declared.tmesg.Tmesg.{Tmesg}
 use Rattle.sam_mesg.specs.declared.tmesg.Tmesg.TheVariants.{Tversion, Tstartcmdfile, Tcheck, Trequest, Torigin, Tstartfile, Tworkfile, Ttype, Tcut, Tpaste, Tsnarf, Tstartnewfile, Twrite, Tclose, Tlook, Tsearch, Tsend, Tdclick, Tstartsnarf, Tsetsnarf, Tack, Texit}
 use Rattle.sam_mesg.specs.declared.hmesg.Hmesg.{Hmesg}
 use Rattle.sam_mesg.specs.declared.hmesg.Hmesg.TheVariants.{Hversion, Hbindname, Hnewname, Hmovname, Hgrow, Hcheck, Hunlock, Hdata, Hunlockfile, Hsetdot, Hgrowdata, Hdirty, Hcut, Hsetpat, Hsetsnarf, Hack, Hexit}
-use Rattle.sam_host.specs.Host.{PlainHost, Reply, when, when_given, grown, told_length, printed, told_edit, told_outcome, told_names, command_name, no_tag_left, with_file, with_files, stamped, reply_version, reply_startcmdfile, reply_check, reply_request, reply_origin, reply_startfile, reply_workfile, reply_cut, reply_paste, reply_snarf, reply_startnewfile, reply_write, reply_close, reply_found, reply_look, reply_search, searched_for, reply_dclick, reply_startsnarf, reply_setsnarf, reply_exit, reply_line, reply_type, reply_send, reply_to}
+use Rattle.sam_host.specs.Host.{PlainHost, Reply, when, when_given, grown, told_dirty, told_length, printed, told_edit, told_outcome, told_names, command_name, no_tag_left, with_file, with_files, stamped, reply_version, reply_startcmdfile, reply_check, reply_request, reply_origin, reply_startfile, reply_workfile, reply_cut, reply_paste, reply_snarf, reply_startnewfile, reply_write, reply_close, reply_found, reply_look, reply_search, searched_for, reply_dclick, reply_startsnarf, reply_setsnarf, reply_exit, reply_line, reply_type, reply_send, reply_to}
 use Rattle.sam_host.specs.Laws.{AreNamesShort, FitInPlace}
-use Rattle.sam_host.proofs.LineLimits.{IsWithin, meaning_within}
+use Rattle.sam_host.proofs.FrameLaws.{replies_opened}
+use Rattle.sam_host.proofs.FileLaws.{part_length}
 
 -- a message that fits in every version, and messages that all do
 abbrev pub Always : Hmesg → Type 0
@@ -27,6 +28,7 @@ abbrev pub AllFit : List Hmesg → Type 0
 AllFit [] = Unit {0}
 AllFit (m ∷ ms) = Always m × AllFit ms
 
+-- messages that fit, and others behind them
 pub fit-both : (ms ns : List Hmesg) → AllFit ms → AllFit ns → AllFit (ms ++ ns)
 fit-both [] ns h k = k
 fit-both (m ∷ ms) ns h k = (h.0, fit-both ms ns h.1 k)
@@ -40,10 +42,12 @@ unfolding when
 fit-when true ms h = h refl
 fit-when false ms h = tt
 
-fit-given : {A : Type 0} (o : Option A) (frame : A → Hmesg) → IfSome o (λ x. Always (frame x)) → AllFit (when_given o frame)
+-- the frame of what is given, where it fits for all that P holds of
+given-fits : {A : Type 0} (P : A → Type 0) (o : Option A) (frame : A → Hmesg) → ((x : A) → P x → Always (frame x)) → IfSome o P
+    → AllFit (when_given o frame)
 unfolding when_given
-fit-given None frame h = tt
-fit-given (Some x) frame h = (h, tt)
+given-fits P None frame h k = tt
+given-fits P (Some x) frame h k = (h x k, tt)
 
 if-fits : (b : Bool) (m n : Hmesg) → (b ≡ true → Always m) → (b ≡ false → Always n) → Always (cond b m n)
 if-fits true m n h k = h refl
@@ -56,6 +60,9 @@ unfolding grown
 fit-grown fs f p s =
     fit-when ((file_at fs f).opened && not (is_empty s)) _
     (λ e. (if-fits (nat_le (length s) most_in_message) (Hgrowdata f p s) (Hgrow f p (length s)) (λ e v. e) (λ e v. refl), tt))
+
+fit-dirty : (fs : PlainFiles) (f : ℕ) → AllFit (told_dirty fs f)
+fit-dirty fs f = fit-when (not (file_at fs f).dirty && not (f == 0)) (Hdirty f ∷ []) (λ e. (λ v. refl, tt))
 
 fit-length : (f : ℕ) (file : PlainFile) → AllFit (told_length f file)
 unfolding told_length
@@ -76,11 +83,6 @@ fit-edits : (fs : PlainFiles) (f : ℕ) (es : List Edit) → AllFit (flat_map (t
 fit-edits fs f [] = tt
 fit-edits fs f (e ∷ es) = fit-both (told_edit fs f e) (flat_map (told_edit fs f) es) (fit-edit fs f e) (fit-edits fs f es)
 
-short-given : (limit : ℕ) (o : Option (List ℕ)) (frame : List ℕ → Hmesg) → ((s : List ℕ) → length s ≤ limit → Always (frame s)) → IfSome o (λ s. length s ≤ limit) → AllFit (when_given o frame)
-unfolding when_given
-short-given limit None frame h k = tt
-short-given limit (Some s) frame h k = (h s k, tt)
-
 name-fits : (f : ℕ) (s : List ℕ) → length s ≤ most_in_name → Always (Hmovname f s)
 name-fits f s h = λ v. le-leb (length s) most_in_name h
 
@@ -92,14 +94,14 @@ unfolding when_given
 dot-given f None = tt
 dot-given f (Some d) = (λ v. refl, tt)
 
-fit-outcome : (x : Option ℕ) (fs : PlainFiles) (o : PlainOutcome) → IsWithin o → AllFit (told_outcome x fs o)
+fit-outcome : (x : Option ℕ) (fs : PlainFiles) (o : PlainOutcome) → HasShortParts o → AllFit (told_outcome x fs o)
 unfolding told_outcome
-fit-outcome None fs o h = short-given most_in_pattern o.pattern Hsetpat pattern-fits h.pattern
+fit-outcome None fs o h = given-fits IsPattern o.pattern Hsetpat (λ p k. pattern-fits p k.1) h.1
 fit-outcome (Some f) fs o h =
     let edits = fit-edits fs f (reverse o.edits) in
     let dirty = fit-when (not (is_empty o.edits) && not (file_at fs f).dirty) (Hdirty f ∷ []) (λ e. (λ v. refl, tt)) in
-    let name = short-given most_in_name o.name (Hmovname f) (name-fits f) h.name in
-    let pattern = short-given most_in_pattern o.pattern Hsetpat pattern-fits h.pattern in
+    let name = given-fits (λ (name : List ℕ). length name ≤ most_in_name) o.name (Hmovname f) (name-fits f) h.0 in
+    let pattern = given-fits IsPattern o.pattern Hsetpat (λ p k. pattern-fits p k.1) h.1 in
     let dot = dot-given f o.dot in
     let check = fit-when (not (is_empty o.edits)) (Hcheck f ∷ []) (λ e. (λ v. refl, tt)) in
     fit-both _ _ (fit-both _ _ (fit-both _ _ (fit-both _ _ (fit-both _ _ edits dirty) name) pattern) dot) check
@@ -135,7 +137,7 @@ fit-line : (h : PlainHost) (before : List Hmesg) (line : List ℕ) → AllFit be
 fit-line h before line k =
     let o = meaning h.files line in
     let fs = committed h.files o in
-    fit-both _ _ (fit-both _ _ (fit-both before _ k (fit-outcome o.file h.files o (meaning_within h.files line))) (fit-printed fs o.printed)) (end-fits o.quit, tt)
+    fit-both _ _ (fit-both _ _ (fit-both before _ k (fit-outcome o.file h.files o (line_short (work_file h.files) line))) (fit-printed fs o.printed)) (end-fits o.quit, tt)
 
 second-false : (a b : Bool) → (a || b) ≡ false → b ≡ false
 second-false true b e = absurd (cc)
@@ -156,13 +158,16 @@ unfolding reply_paste
 fit-paste h f p =
     reply-if (is_empty h.files.snarf || nat_lt max_runes (length (file_at h.files f).text + length h.files.snarf)) _ _
     (λ e. (λ v. refl, tt))
-    (λ e. fit-both _ _ (fit-both _ _ (fit-grown h.files f p h.files.snarf) (fit-when (not (file_at h.files f).dirty && not (f == 0)) (Hdirty f ∷ []) (λ e. (λ v. refl, tt)))) (λ v. refl, (λ v. refl, (λ v. refl, tt))))
+    (λ e. fit-both _ _ (fit-both _ _ (fit-grown h.files f p h.files.snarf) (fit-dirty h.files f)) (λ v. refl, (λ v. refl, (λ v. refl, tt))))
 
 fit-startcmdfile : (h : PlainHost) → AllFit (reply_startcmdfile h).1
 unfolding reply_startcmdfile
 fit-startcmdfile h =
-    reply-if (file_at h.files 0).opened _ _ (λ e. (λ v. refl, tt))
-    (λ e. fit-both (Hnewname 0 ∷ Hmovname 0 command_name ∷ Hbindname 0 ∷ told_length 0 (file_at h.files 0)) (Hunlock ∷ []) (fit-both (Hnewname 0 ∷ Hmovname 0 command_name ∷ Hbindname 0 ∷ []) (told_length 0 (file_at h.files 0)) (λ v. refl, (λ v. refl, (λ v. refl, tt))) (fit-length 0 (file_at h.files 0))) (λ v. refl, tt))
+    let names = Hnewname 0 ∷ Hmovname 0 command_name ∷ Hbindname 0 ∷ [] in
+    let file = file_at h.files 0 in
+    let named : AllFit names = (λ v. refl, (λ v. refl, (λ v. refl, tt))) in
+    reply-if file.opened _ _ (λ e. (λ v. refl, tt))
+    (λ e. fit-both (names ++ told_length 0 file) (Hunlock ∷ []) (fit-both names (told_length 0 file) named (fit-length 0 file)) (λ v. refl, tt))
 
 fit-startnewfile : (h : PlainHost) → AllFit (reply_startnewfile h).1
 unfolding reply_startnewfile
@@ -172,7 +177,7 @@ fit-startnewfile h =
     (λ e. (λ v. refl, (λ v. refl, (λ v. refl, (λ v. refl, tt)))))
 
 part-short : (t : List ℕ) (a b n : ℕ) → b ≤ a + n → length (part t a b) ≤ n
-part-short t a b n h = omega (arith, length-take (b - a) (drop a t))
+part-short t a b n h = omega (arith, part_length t a b)
 
 fit-request : (h : PlainHost) (f p n : ℕ) → AllFit (reply_request h f p n).1
 unfolding reply_request
@@ -198,12 +203,16 @@ snarf-fits v s = le-leb (utf8_length (prefix_in_bytes s (snarf_limit v))) (snarf
 snarf-fits_later : (v : ℕ) (s : List ℕ) → fits_h 2 (Hsetsnarf (prefix_in_bytes s (snarf_limit v))) ≡ true
 snarf-fits_later v s = fits_last_h v (Hsetsnarf (prefix_in_bytes s (snarf_limit v))) (snarf-fits v s)
 
+-- the frames of each reply fit where they stand in the stream
 pub reply_frames_fit : (h : PlainHost) (m : Tmesg) (seen : ℕ) → AreNamesShort h.files → FitInPlace h.version (stamped seen (reply_to h m).1)
-unfolding reply_version reply_check reply_origin reply_startfile reply_workfile reply_cut reply_snarf reply_write reply_close reply_search reply_dclick reply_startsnarf reply_setsnarf reply_exit
+unfolding replies_opened
 reply_frames_fit h (Tversion v) seen names =
     let ready : AllFit (Hack ∷ Hunlock ∷ []) = (λ v. refl, (λ v. refl, tt)) in
     let first : AllFit (Hversion (common_version v) ∷ []) = (λ v. refl, tt) in
-    all-stamped h.version seen (reply_version h v).1 (fit-both (Hversion (common_version v) ∷ told_names 1 (drop 1 h.files.slots)) (Hack ∷ Hunlock ∷ []) (fit-both (Hversion (common_version v) ∷ []) (told_names 1 (drop 1 h.files.slots)) first (fit-names 1 (drop 1 h.files.slots) (behind-first h.files.slots names))) ready)
+    let told = told_names 1 (drop 1 h.files.slots) in
+    let named : AllFit told = fit-names 1 (drop 1 h.files.slots) (behind-first h.files.slots names) in
+    all-stamped h.version seen (reply_version h v).1
+    (fit-both (Hversion (common_version v) ∷ told) (Hack ∷ Hunlock ∷ []) (fit-both (Hversion (common_version v) ∷ []) told first named) ready)
 reply_frames_fit h Tstartcmdfile seen names = all-stamped h.version seen (reply_startcmdfile h).1 (fit-startcmdfile h)
 reply_frames_fit h (Tcheck f) seen names = all-stamped h.version seen (reply_check h f).1 (λ v. refl, tt)
 reply_frames_fit h (Trequest f p n) seen names = all-stamped h.version seen (reply_request h f p n).1 (fit-request h f p n)

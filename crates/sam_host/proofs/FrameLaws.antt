@@ -6,8 +6,19 @@ use Rattle.sam_mesg.specs.declared.tmesg.Tmesg.{Tmesg}
 use Rattle.sam_mesg.specs.declared.hmesg.Hmesg.{Hmesg}
 use Rattle.sam_mesg.specs.declared.hmesg.HFrame.{HFrame}
 use Rattle.sam_host.specs.declared.fault.HostFault.{HostFault}
-use Rattle.sam_host.specs.Host.{PlainHost, stamped, answer, host_checks, reply_to, counted, Answer, Reply, answer_unless}
+use Rattle.sam_host.specs.Host.{PlainHost, stamped, answer, host_checks, reply_to, counted, Answer, Reply, answer_unless, reply_version, reply_startcmdfile, reply_check, reply_request, reply_origin, reply_startfile, reply_workfile, reply_type, reply_cut, reply_paste, reply_snarf, reply_startnewfile, reply_write, reply_close, reply_look, reply_search, reply_send, reply_dclick, reply_startsnarf, reply_setsnarf, reply_exit}
 
+-- opens the answers to messages about a text
+unfoldable pub text_replies_opened : ℕ
+unfolding reply_check reply_request reply_origin reply_type reply_cut reply_paste reply_snarf reply_look reply_search reply_dclick reply_send
+text_replies_opened = 0
+
+-- opens the answer to each kind of message
+unfoldable pub replies_opened : ℕ
+unfolding text_replies_opened reply_version reply_startcmdfile reply_startfile reply_workfile reply_startnewfile reply_write reply_close reply_startsnarf reply_setsnarf reply_exit
+replies_opened = 0
+
+-- frames that are stamped one after another are stamped at once
 pub stamped_append : (seen : ℕ) (ms ns : List Hmesg) → stamped seen (ms ++ ns) ≡ stamped seen ms ++ stamped seen ns
 stamped_append seen [] ns = refl
 stamped_append seen (m ∷ ms) ns = ap (λ rest. record { seen = seen; msg = m } ∷ rest) (stamped_append seen ms ns)
@@ -26,7 +37,9 @@ told_reply r new frames taken host told count =
     λ i. Ok (counted (sym host i), (ap (λ n. stamped (n + 1) r.1) same ∙ sym told) i)
 
 -- an answer of the whole, from the parts that a reply gives
-pub answered : (h new : PlainHost) (m : Tmesg) (frames : List HFrame) → (h.taken == most_count) ≡ false → h.is_done ≡ false → first_of_checks (host_checks h m) ≡ None → new ≡ (reply_to h m).0 → frames ≡ stamped (h.taken + 1) (reply_to h m).1 → new.taken ≡ h.taken → answer h m ≡ Ok (counted new, frames)
+pub answered : (h new : PlainHost) (m : Tmesg) (frames : List HFrame) → (h.taken == most_count) ≡ false → h.is_done ≡ false
+    → first_of_checks (host_checks h m) ≡ None → new ≡ (reply_to h m).0 → frames ≡ stamped (h.taken + 1) (reply_to h m).1 → new.taken ≡ h.taken
+    → answer h m ≡ Ok (counted new, frames)
 unfolding answer
 answered h new m frames less undone allowed host told count =
     third _ _ _ _ _ less undone

@@ -1,9 +1,10 @@
 -- A host that is made from names and texts, a file further.
 use Rattle.std.proofs.Common.{◌≡◌, ℕ, ◌≤◌, List, [], ◌∷◌, ◌++◌, length, Option, Some, refl, sym, ap, ◌∙◌, subst, append_assoc}
 use Rattle.std.specs.Prelude.{reverse}
-use Rattle.std.proofs.lemmas.List.{reverse-append}
+use Rattle.std.proofs.lemmas.List.{reverse-append, reverse-reverse}
 use Rattle.sam_runes.specs.Texts.{RoomyText, most_in_name}
 use Rattle.sam_runes.specs.Slots.{Slots, put_slot}
+use Rattle.sam_runes.proofs.SlotLaws.{put_slot-push}
 use Rattle.sam_text.specs.Files.{PlainFile, blank_file}
 use Rattle.sam_host.specs.Host.{PlainHost, given_file, given_slots, command_name, new_host, with_given}
 use Rattle.sam_host.specs.Given.{AreNames, given_of}
@@ -11,32 +12,24 @@ use Rattle.sam_host.specs.Given.{AreNames, given_of}
 abbrev pub Given : Type 0
 Given = List ℕ × RoomyText
 
-put-end : (ss : Slots PlainFile) (x : PlainFile) → put_slot ss (length ss) x ≡ ss ++ Some x ∷ []
-put-end [] x = refl
-put-end (s ∷ ss) x = ap (λ rest. s ∷ rest) (put-end ss x)
-
+-- the last of all is the first where they are turned round
 turned : (all rest : List Given) (g : Given) → all ≡ rest ++ g ∷ [] → reverse all ≡ g ∷ reverse rest
 turned all rest g e = ap reverse e ∙ reverse-append rest (g ∷ [])
 
-pub given_step : (ss : Slots PlainFile) (all rest : List Given) (g : Given) → all ≡ rest ++ g ∷ [] → put_slot ss (length ss) (given_file (g.0, g.1.runes)) ++ given_slots (given_of (reverse rest)) ≡ ss ++ given_slots (given_of (reverse all))
+-- the file that is popped last stands behind those that were added, in front of those that are left
+pub given_step : (ss : Slots PlainFile) (all rest : List Given) (g : Given) → all ≡ rest ++ g ∷ []
+    → put_slot ss (length ss) (given_file (g.0, g.1.runes)) ++ given_slots (given_of (reverse rest)) ≡ ss ++ given_slots (given_of (reverse all))
 given_step ss all rest g e =
     let x = given_file (g.0, g.1.runes) in
-    ap (λ ss. ss ++ given_slots (given_of (reverse rest))) (put-end ss x)
+    ap (λ ss. ss ++ given_slots (given_of (reverse rest))) (put_slot-push ss x)
     ∙ (append_assoc ss (Some x ∷ []) (given_slots (given_of (reverse rest)))
     ∙ ap (λ (gs : List Given). ss ++ given_slots (given_of gs)) (sym (turned all rest g e)))
 
 pub names_step : (all rest : List Given) (g : Given) → all ≡ rest ++ g ∷ [] → AreNames (reverse all) → (length g.0 ≤ most_in_name) × AreNames (reverse rest)
 names_step all rest g e h = subst AreNames (turned all rest g e) h
 
-reverse-twice : (gs : List Given) → reverse (reverse gs) ≡ gs
-reverse-twice [] = refl
-reverse-twice (g ∷ gs) = ap reverse (reverse-cons g gs) ∙ (reverse-append (reverse gs) (g ∷ []) ∙ ap (λ rest. g ∷ rest) (reverse-twice gs))
-  where
-    reverse-cons : (g : Given) (gs : List Given) → reverse (g ∷ gs) ≡ reverse gs ++ g ∷ []
-    reverse-cons g gs = reverse-append (g ∷ []) gs
-
 pub twice : (given turned : List Given) → turned ≡ reverse given → reverse turned ≡ given
-twice given turned e = ap reverse e ∙ reverse-twice given
+twice given turned e = ap reverse e ∙ reverse-reverse given
 
 -- a host that is made and then given one more file is as if it had been made with that file too
 pub adds_given : (given : List (List ℕ × List ℕ)) (more : List ℕ × List ℕ) → with_given (new_host given) more ≡ new_host (given ++ more ∷ [])
@@ -44,7 +37,7 @@ adds_given given more =
     let command : Option PlainFile = Some (record blank_file { name = command_name }) in
     let host : PlainHost = new_host given in
     ap (λ (ss : Slots PlainFile). record host { files = record host.files { slots = ss } })
-    (put-end (command ∷ given_slots given) (given_file more) ∙ ap (λ ss. command ∷ ss) (sym (behind given)))
+    (put_slot-push (command ∷ given_slots given) (given_file more) ∙ ap (λ ss. command ∷ ss) (sym (behind given)))
   where
     behind : (given : List (List ℕ × List ℕ)) → given_slots (given ++ more ∷ []) ≡ given_slots given ++ Some (given_file more) ∷ []
     behind [] = refl

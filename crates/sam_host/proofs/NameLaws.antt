@@ -5,15 +5,13 @@ use Rattle.sam_runes.specs.Slots.{Slots, slot}
 use Rattle.sam_text.specs.Files.{PlainFile}
 use Rattle.sam_mesg.specs.declared.hmesg.Hmesg.{Hmesg}
 use Rattle.sam_mesg.specs.declared.hmesg.HFrame.{HFrame}
-use Rattle.sam_host.specs.Host.{stamped, told_names}
-use Rattle.sam_host.specs.Names.{told_at}
+use Rattle.sam_host.specs.Host.{stamped, told_at, told_names}
 use Rattle.sam_host.proofs.FrameLaws.{stamped_append}
 
 names_at : (g f : ℕ) (ss : Slots PlainFile) → f < length ss → told_names g (drop f ss) ≡ told_at g (slot ss f) ++ told_names (1 + g) (drop (suc f) ss)
-unfolding told_names told_at
+unfolding told_names
 names_at g f [] l = absurd (omega arith)
-names_at g zero (None ∷ ss) l = refl
-names_at g zero (Some file ∷ ss) l = refl
+names_at g zero (s ∷ ss) l = refl
 names_at g (suc f) (s ∷ ss) l = names_at g f ss (omega arith)
 
 later : (f : ℕ) (ss : Slots PlainFile) (ms : List Hmesg) → ms ++ told_names (1 + f) (drop (suc f) ss) ≡ ms ++ told_names (f + 1) (drop (f + 1) ss)
@@ -23,7 +21,8 @@ later f ss ms =
     λ i. ms ++ told_names (next i) (drop (behind i) ss)
 
 -- a name that is told
-pub name_told : (seen f : ℕ) (ss : Slots PlainFile) (before : List HFrame) → f < length ss → (before ++ stamped seen (told_at f (slot ss f))) ++ stamped seen (told_names (f + 1) (drop (f + 1) ss)) ≡ before ++ stamped seen (told_names f (drop f ss))
+pub name_told : (seen f : ℕ) (ss : Slots PlainFile) (before : List HFrame) → f < length ss
+    → (before ++ stamped seen (told_at f (slot ss f))) ++ stamped seen (told_names (f + 1) (drop (f + 1) ss)) ≡ before ++ stamped seen (told_names f (drop f ss))
 name_told seen f ss before l =
     let step : told_names f (drop f ss) ≡ told_at f (slot ss f) ++ told_names (f + 1) (drop (f + 1) ss) = names_at f f ss l ∙ later f ss (told_at f (slot ss f)) in
     append_assoc before (stamped seen (told_at f (slot ss f))) (stamped seen (told_names (f + 1) (drop (f + 1) ss)))

@@ -1,5 +1,5 @@
 -- What is printed and what a line leaves do not meet: a line never works on the command file.
-use Rattle.std.proofs.Common.{◌≡◌, ℕ, zero, suc, ◌<◌, ◌≤◌, List, [], ◌∷◌, ◌++◌, length, take, get_or, Bool, true, false, cond, Option, Some, None, Result, Ok, Err, refl, sym, ap, ◌∙◌, subst, arith}
+use Rattle.std.proofs.Common.{◌≡◌, ℕ, zero, suc, ◌<◌, ◌≤◌, List, [], ◌∷◌, ◌++◌, length, take, get_or, Bool, true, false, cond, Option, Some, None, refl, sym, ap, ◌∙◌, subst, arith}
 use Rattle.std.specs.Prelude.{unwrap_or, option_map, option_and_then, is_some, IfSome, flat_map, reverse}
 use Rattle.std.proofs.Math.Seq.{take-suc}
 use Rattle.std.proofs.lemmas.List.{reverse-append}
@@ -8,12 +8,8 @@ use Rattle.sam_runes.specs.Texts.{max_runes, either}
 use Rattle.sam_runes.specs.Edits.{inserted}
 use Rattle.sam_runes.specs.declared.edit.Edit.{Edit}
 use Rattle.sam_runes.specs.Slots.{slot}
-use Rattle.sam_text.specs.Reading.{◌>>=◌, command_of}
-use Rattle.sam_text.specs.declared.word.Word.{Word}
-use Rattle.sam_text.specs.declared.command.Command.{Command}
-use Rattle.sam_text.specs.declared.command.Command.TheVariants as command
-use Rattle.sam_text.specs.Meaning.{meaning, work_on, line_outcome, or_wrong, effect_of}
-use Rattle.sam_text.proofs.MeaningLaws.{line_fits}
+use Rattle.sam_text.specs.Meaning.{meaning, work_on, line_outcome}
+use Rattle.sam_text.proofs.MeaningLaws.{line_fits, without_work}
 use Rattle.sam_text.specs.Files.{PlainFile, PlainFiles, PlainOutcome, IsOutcomeOf, IsOutcomeFor, blank_file, file_at, put_file, is_printed, printed_file, after_print, file_after, put_outcome, committed, AreFit, IsFit}
 use Rattle.sam_mesg.specs.declared.hmesg.Hmesg.{Hmesg}
 use Rattle.sam_mesg.specs.declared.hmesg.HFrame.{HFrame}
@@ -27,13 +23,16 @@ IsElsewhere o = IfSome o (λ f. 0 < f)
 abbrev with_slots : PlainFiles → List (Option PlainFile) → PlainFiles
 with_slots fs ss = record fs { slots = ss }
 
-print-put : (fs : PlainFiles) (ss : List (Option PlainFile)) (o : PlainOutcome) (s : List ℕ) (f : ℕ) → put_outcome (Some (suc f)) (after_print (with_slots fs ss) s) o ≡ after_print (put_outcome (Some (suc f)) (with_slots fs ss) o) s
+print-put : (fs : PlainFiles) (ss : List (Option PlainFile)) (o : PlainOutcome) (s : List ℕ) (f : ℕ)
+    → put_outcome (Some (suc f)) (after_print (with_slots fs ss) s) o ≡ after_print (put_outcome (Some (suc f)) (with_slots fs ss) o) s
 print-put fs [] o s f = go (is_printed (with_slots fs []) s)
   where
     x : PlainFile
     x = printed_file blank_file s
 
-    go : (b : Bool) → put_outcome (Some (suc f)) (cond b (put_file (with_slots fs []) 0 x) (with_slots fs [])) o ≡ cond b (put_file (put_outcome (Some (suc f)) (with_slots fs []) o) 0 x) (put_outcome (Some (suc f)) (with_slots fs []) o)
+    go : (b : Bool)
+        → put_outcome (Some (suc f)) (cond b (put_file (with_slots fs []) 0 x) (with_slots fs [])) o
+        ≡ cond b (put_file (put_outcome (Some (suc f)) (with_slots fs []) o) 0 x) (put_outcome (Some (suc f)) (with_slots fs []) o)
     go true = refl
     go false = refl
 print-put fs (y ∷ ys) o s f = go (is_printed (with_slots fs (y ∷ ys)) s)
@@ -41,7 +40,9 @@ print-put fs (y ∷ ys) o s f = go (is_printed (with_slots fs (y ∷ ys)) s)
     x : PlainFile
     x = printed_file (unwrap_or y blank_file) s
 
-    go : (b : Bool) → put_outcome (Some (suc f)) (cond b (put_file (with_slots fs (y ∷ ys)) 0 x) (with_slots fs (y ∷ ys))) o ≡ cond b (put_file (put_outcome (Some (suc f)) (with_slots fs (y ∷ ys)) o) 0 x) (put_outcome (Some (suc f)) (with_slots fs (y ∷ ys)) o)
+    go : (b : Bool)
+        → put_outcome (Some (suc f)) (cond b (put_file (with_slots fs (y ∷ ys)) 0 x) (with_slots fs (y ∷ ys))) o
+        ≡ cond b (put_file (put_outcome (Some (suc f)) (with_slots fs (y ∷ ys)) o) 0 x) (put_outcome (Some (suc f)) (with_slots fs (y ∷ ys)) o)
     go true = refl
     go false = refl
 
@@ -65,6 +66,7 @@ same-pattern fs s = go (is_printed fs s)
     go true = refl
     go false = refl
 
+-- a print and an outcome that is put in leave the same files in either order
 pub commit_print : (fs : PlainFiles) (o : PlainOutcome) (s : List ℕ) → IsElsewhere o.file → committed (after_print fs s) o ≡ after_print (committed fs o) s
 commit_print fs o s h =
     (λ i. record (put_print o.file fs o s h i) { pattern = either o.pattern (same-pattern fs s i) })
@@ -79,11 +81,13 @@ is_elsewhere fs o h = go o.file h.0
     go (Some f) k = k.0.0
 
 -- what is printed stands in the command file, which no outcome changes
-printed-slots : (fs : PlainFiles) (ss : List (Option PlainFile)) (o : PlainOutcome) (p : Option (List ℕ)) (s : List ℕ) (f : ℕ) → printed (record (put_outcome (Some (suc f)) (with_slots fs ss) o) { pattern = p }) s ≡ printed (with_slots fs ss) s
+printed-slots : (fs : PlainFiles) (ss : List (Option PlainFile)) (o : PlainOutcome) (p : Option (List ℕ)) (s : List ℕ) (f : ℕ)
+    → printed (record (put_outcome (Some (suc f)) (with_slots fs ss) o) { pattern = p }) s ≡ printed (with_slots fs ss) s
 unfolding printed grown
 printed-slots fs [] o p s f = refl
 printed-slots fs (y ∷ ys) o p s f = refl
 
+-- what is printed is told the same before and after an outcome is put in
 pub printed_committed : (fs : PlainFiles) (o : PlainOutcome) (s : List ℕ) → IsElsewhere o.file → printed (committed fs o) s ≡ printed fs s
 unfolding printed grown
 printed_committed fs o s h = go o.file h
@@ -106,6 +110,7 @@ slot-printed fs (y ∷ ys) s f = go (is_printed (with_slots fs (y ∷ ys)) s)
     go true = refl
     go false = refl
 
+-- an outcome that can be put in can be put in after a print
 pub outcome_after_print : (fs : PlainFiles) (o : PlainOutcome) (s : List ℕ) → IsOutcomeOf fs o → IsOutcomeOf (after_print fs s) o
 outcome_after_print fs o s h = (go o.file h.0, h.1, h.2)
   where
@@ -121,16 +126,9 @@ outcome_after_print fs o s h = (go o.file h.0, h.1, h.2)
 -- ## What a line puts in
 
 no-edits : (line : List ℕ) → inserted (line_outcome None line).edits ≤ max_runes
-unfolding line_outcome
-no-edits line = go (command_of line)
-  where
-    go : (c : Result Command Word) → inserted (or_wrong (c >>= effect_of None)).edits ≤ max_runes
-    go (Err w) = omega arith
-    go (Ok (command.Go a)) = omega arith
-    go (Ok (command.Run a ss l)) = omega arith
-    go (Ok (command.Name n)) = omega arith
-    go (Ok command.Quit) = omega arith
+no-edits line = subst (λ es. inserted es ≤ max_runes) (sym (without_work line).1) (omega arith)
 
+-- what a line puts in is no more than a text may have
 pub meaning_inserted : (fs : PlainFiles) (line : List ℕ) → AreFit fs → inserted (meaning fs line).edits ≤ max_runes
 meaning_inserted fs line all = go fs.work
   where
@@ -142,6 +140,7 @@ meaning_inserted fs line all = go fs.work
     go None = no-edits line
     go (Some g) = at g (slot fs.slots g) (all g)
 
+-- what one edit puts in is no more than all that is put in
 pub text_below_inserted : (es : List Edit) (i : ℕ) (d : Edit) → i < length es → length (get_or es i d).text ≤ inserted es
 text_below_inserted [] i d l = absurd (omega arith)
 text_below_inserted (e ∷ es) zero d l = omega arith
@@ -150,7 +149,8 @@ text_below_inserted (e ∷ es) (suc i) d l = omega (arith, text_below_inserted e
 -- ## How a line is told
 
 -- an edit more is told, before those in front of it
-pub edit_told : (tell : Edit → List Hmesg) (before : List HFrame) (seen : ℕ) (es : List Edit) (i : ℕ) (e : Edit) → i < length es → e ≡ get_or es i e → (before ++ stamped seen (tell e)) ++ stamped seen (flat_map tell (reverse (take i es))) ≡ before ++ stamped seen (flat_map tell (reverse (take (suc i) es)))
+pub edit_told : (tell : Edit → List Hmesg) (before : List HFrame) (seen : ℕ) (es : List Edit) (i : ℕ) (e : Edit) → i < length es → e ≡ get_or es i e
+    → (before ++ stamped seen (tell e)) ++ stamped seen (flat_map tell (reverse (take i es))) ≡ before ++ stamped seen (flat_map tell (reverse (take (suc i) es)))
 edit_told tell before seen es i e l is =
     let more : take (suc i) es ≡ take i es ++ e ∷ [] = take-suc es i e l ∙ ap (λ x. take i es ++ x ∷ []) (sym is) in
     let turned : reverse (take (suc i) es) ≡ e ∷ reverse (take i es) = ap reverse more ∙ reverse-append (take i es) (e ∷ []) in
@@ -159,7 +159,8 @@ edit_told tell before seen es i e l is =
     ∙ ap (λ (xs : List Edit). before ++ stamped seen (flat_map tell xs)) (sym turned)
 
 -- six parts that are told one after another
-pub told_six : (before : List HFrame) (seen : ℕ) (a b c d e f : List Hmesg) → before ++ stamped seen (a ++ b ++ c ++ d ++ e ++ f) ≡ (((((before ++ stamped seen a) ++ stamped seen b) ++ stamped seen c) ++ stamped seen d) ++ stamped seen e) ++ stamped seen f
+pub told_six : (before : List HFrame) (seen : ℕ) (a b c d e f : List Hmesg)
+    → before ++ stamped seen (a ++ b ++ c ++ d ++ e ++ f) ≡ (((((before ++ stamped seen a) ++ stamped seen b) ++ stamped seen c) ++ stamped seen d) ++ stamped seen e) ++ stamped seen f
 told_six before seen a b c d e f =
     told_both before seen (a ++ b ++ c ++ d ++ e) f
     ∙ ap (λ x. x ++ stamped seen f)
@@ -171,13 +172,17 @@ told_six before seen a b c d e f =
     ∙ ap (λ x. x ++ stamped seen c) (told_both before seen a b))))
 
 -- what a line did, what it prints, and its end
-pub told_line : (before : List HFrame) (seen : ℕ) (fs : PlainFiles) (o : PlainOutcome) (s : List ℕ) (a c : List Hmesg) → IsOutcomeOf fs o → before ++ stamped seen (a ++ printed (committed fs o) s ++ c) ≡ ((before ++ stamped seen a) ++ stamped seen (printed fs s)) ++ stamped seen c
+pub told_line : (before : List HFrame) (seen : ℕ) (fs : PlainFiles) (o : PlainOutcome) (s : List ℕ) (a c : List Hmesg) → IsOutcomeOf fs o
+    → before ++ stamped seen (a ++ printed (committed fs o) s ++ c) ≡ ((before ++ stamped seen a) ++ stamped seen (printed fs s)) ++ stamped seen c
 told_line before seen fs o s a c h =
     ap (λ ms. before ++ stamped seen (a ++ ms ++ c)) (printed_committed fs o s (is_elsewhere fs o h))
     ∙ told_both before seen (a ++ printed fs s) c
     ∙ ap (λ x. x ++ stamped seen c) (told_both before seen a (printed fs s))
 
-pub six_told : (before x1 x2 x3 x4 x5 x6 : List HFrame) (seen : ℕ) (a b c d e f : List Hmesg) → x1 ≡ before ++ stamped seen a → x2 ≡ x1 ++ stamped seen b → x3 ≡ x2 ++ stamped seen c → x4 ≡ x3 ++ stamped seen d → x5 ≡ x4 ++ stamped seen e → x6 ≡ x5 ++ stamped seen f → x6 ≡ before ++ stamped seen (a ++ b ++ c ++ d ++ e ++ f)
+-- the frames after six parts, each told behind those before it
+pub six_told : (before x1 x2 x3 x4 x5 x6 : List HFrame) (seen : ℕ) (a b c d e f : List Hmesg) → x1 ≡ before ++ stamped seen a → x2 ≡ x1 ++ stamped seen b
+    → x3 ≡ x2 ++ stamped seen c → x4 ≡ x3 ++ stamped seen d → x5 ≡ x4 ++ stamped seen e → x6 ≡ x5 ++ stamped seen f
+    → x6 ≡ before ++ stamped seen (a ++ b ++ c ++ d ++ e ++ f)
 six_told before x1 x2 x3 x4 x5 x6 seen a b c d e f e1 e2 e3 e4 e5 e6 =
     e6
     ∙ (ap (λ x. x ++ stamped seen f) (e5 ∙ ap (λ x. x ++ stamped seen e) (e4 ∙ ap (λ x. x ++ stamped seen d) (e3 ∙ ap (λ x. x ++ stamped seen c) (e2 ∙ ap (λ x. x ++ stamped seen b) e1))))

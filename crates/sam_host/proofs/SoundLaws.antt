@@ -1,14 +1,15 @@
 -- The host stays sound, and its answers are counted.
 use Rattle.std.proofs.Common.{◌≡◌, ◌≢◌, ◌⊎◌, ℕ, zero, suc, ◌+◌, ◌≤◌, List, [], ◌∷◌, length, Bool, true, false, cond, Option, Some, None, Ok, Err, nat_eq, inl, inr, refl, sym, ap, subst, arith}
 use Rattle.std.specs.Prelude.{unwrap_or, option_map, IfSome, All, ◌==◌, nat_lt, nat_le, ◌||◌, ◌&&◌, not, min}
-use Rattle.std.proofs.lemmas.Bool.Decides.{eqb_tells}
 use Rattle.std.proofs.lemmas.List.Elements.{All-nil, All-cons}
 use Rattle.sam_runes.specs.Texts.{Range, common_version, most_count, max_runes, most_in_pattern, all_tags, is_empty, part, searched, ends_line, as_lines, last_line, most_in_name}
 use Rattle.sam_runes.specs.Slots.{Slots, slot, put_slot, free_slot}
 use Rattle.sam_runes.specs.Checks.{first_of_checks}
-use Rattle.sam_runes.proofs.SlotLaws.{slot-put_same, slot-put_other, slot-map, slot-free_same, slot-free_other}
-use Rattle.sam_text.specs.Files.{PlainFile, PlainFiles, PlainOutcome, blank_file, file_at, put_file, typed_file, cut_file, pasted_file, printed_file, is_printed, has_room, after_print, file_after, put_outcome, committed, IsFit, AreFit, AreKept}
-use Rattle.sam_text.specs.Meaning.{meaning}
+use Rattle.sam_text.specs.Files.{PlainFile, PlainFiles, PlainOutcome, blank_file, file_at, put_file, typed_file, cut_file, pasted_file, printed_file, is_printed, has_room, after_print, file_after, put_outcome, committed, HasShortName, IsFit, AreFit, AreKept}
+use Rattle.sam_text.specs.Meaning.{meaning, work_file}
+use Rattle.sam_text.proofs.FitLaws.{all-put}
+use Rattle.sam_text.proofs.KeptLaws.{all-free, all-announce}
+use Rattle.sam_text.proofs.OutcomeLaws.{HasShortParts, line_short, named-within}
 use Rattle.sam_mesg.specs.declared.tmesg.Tmesg.{Tmesg}
 use Rattle.sam_mesg.specs.declared.tmesg.Tmesg.TheVariants.{Tversion, Tstartcmdfile, Tcheck, Trequest, Torigin, Tstartfile, Tworkfile, Ttype, Tcut, Tpaste, Tsnarf, Tstartnewfile, Twrite, Tclose, Tlook, Tsearch, Tsend, Tdclick, Tstartsnarf, Tsetsnarf, Tack, Texit}
 use Rattle.sam_mesg.specs.declared.hmesg.Hmesg.{Hmesg}
@@ -17,8 +18,8 @@ use Rattle.sam_host.specs.declared.fault.HostFault.{HostFault}
 use Rattle.sam_host.specs.declared.fault.HostFault.TheVariants.{BadVersion, CountFull}
 use Rattle.sam_host.specs.Host.{PlainHost, IsVersion, Reply, Answer, answer, answer_unless, counted, stamped, host_checks, no_tag_left, announced_file, announce_all, new_file, with_file, with_files, given_slots, new_host, printed, reply_version, reply_startcmdfile, reply_check, reply_request, reply_origin, reply_startfile, reply_workfile, reply_cut, reply_paste, reply_snarf, reply_startnewfile, reply_write, reply_close, reply_found, reply_look, reply_search, searched_for, reply_dclick, reply_startsnarf, reply_setsnarf, reply_exit, reply_line, reply_type, reply_send, reply_to}
 use Rattle.sam_host.specs.Laws.{AreNamesShort, IsSound, AreGiven, StartsSound, StaysSound, FramesFit, AnswersAreCounted, IsSilentWhereDone, FitInPlace}
+use Rattle.sam_host.proofs.FrameLaws.{replies_opened}
 use Rattle.sam_host.proofs.HostFits.{reply_fits}
-use Rattle.sam_host.proofs.LineLimits.{IsWithin, meaning_within}
 use Rattle.sam_host.proofs.FrameFits.{reply_frames_fit}
 
 -- ## Names
@@ -27,27 +28,7 @@ abbrev IsShort : Option PlainFile → Type 0
 IsShort o = length (unwrap_or o blank_file).name ≤ most_in_name
 
 names-put : (fs : PlainFiles) (g : ℕ) (x : PlainFile) → AreNamesShort fs → length x.name ≤ most_in_name → AreNamesShort (put_file fs g x)
-names-put fs g x all short f = go (eqb_tells g f)
-  where
-    go : ((nat_eq g f ≡ true) × (g ≡ f)) ⊎ ((nat_eq g f ≡ false) × (g ≢ f)) → IsShort (slot (put_slot fs.slots g x) f)
-    go (inl (e, here)) = subst (λ k. IsShort (slot (put_slot fs.slots g x) k)) here (subst IsShort (sym (slot-put_same fs.slots g x)) short)
-    go (inr (e, other)) = subst IsShort (sym (slot-put_other fs.slots g f x other)) (all f)
-
-names-free : (fs : PlainFiles) (g : ℕ) → AreNamesShort fs → (f : ℕ) → IsShort (slot (free_slot fs.slots g) f)
-names-free fs g all f = go (eqb_tells g f)
-  where
-    go : ((nat_eq g f ≡ true) × (g ≡ f)) ⊎ ((nat_eq g f ≡ false) × (g ≢ f)) → IsShort (slot (free_slot fs.slots g) f)
-    go (inl (e, here)) = subst (λ k. IsShort (slot (free_slot fs.slots g) k)) here (subst IsShort (sym (slot-free_same fs.slots g)) (omega arith))
-    go (inr (e, other)) = subst IsShort (sym (slot-free_other fs.slots g f other)) (all f)
-
-short-announced : (o : Option PlainFile) → IsShort o → IsShort (option_map announced_file o)
-short-announced None h = h
-short-announced (Some x) h = h
-
-names-announce : (ss : Slots PlainFile) → ((f : ℕ) → IsShort (slot ss f)) → (f : ℕ) → IsShort (slot (announce_all ss) f)
-names-announce [] all f = all f
-names-announce (s ∷ ss) all zero = all 0
-names-announce (s ∷ ss) all (suc f) = subst IsShort (sym (slot-map announced_file ss f)) (short-announced (slot ss f) (all (suc f)))
+names-put fs g x all short = all-put HasShortName fs g x all short
 
 names-print : (fs : PlainFiles) (s : List ℕ) → AreNamesShort fs → AreNamesShort (after_print fs s)
 names-print fs s all = go (is_printed fs s)
@@ -56,16 +37,9 @@ names-print fs s all = go (is_printed fs s)
     go true = names-put fs 0 (printed_file (file_at fs 0) s) all (all 0)
     go false = all
 
-short-after : (file : PlainFile) (o : PlainOutcome) → length file.name ≤ most_in_name → IsWithin o → length (file_after file o).name ≤ most_in_name
-short-after file o h within = go o.name within.name
-  where
-    go : (n : Option (List ℕ)) → IfSome n (λ n. length n ≤ most_in_name) → length (unwrap_or n file.name) ≤ most_in_name
-    go None k = h
-    go (Some n) k = k
-
-names-outcome : (x : Option ℕ) (fs : PlainFiles) (o : PlainOutcome) → AreNamesShort fs → IsWithin o → AreNamesShort (put_outcome x fs o)
+names-outcome : (x : Option ℕ) (fs : PlainFiles) (o : PlainOutcome) → AreNamesShort fs → HasShortParts o → AreNamesShort (put_outcome x fs o)
 names-outcome None fs o all h = all
-names-outcome (Some f) fs o all h = names-put fs f (file_after (file_at fs f) o) all (short-after (file_at fs f) o (all f) h)
+names-outcome (Some f) fs o all h = names-put fs f (file_after (file_at fs f) o) all (named-within o.name (file_at fs f).name h.0 (all f))
 
 names-if : (b : Bool) (x y : Reply) → AreNamesShort x.0.files → AreNamesShort y.0.files → AreNamesShort (cond b x y).0.files
 names-if true x y h k = h
@@ -74,7 +48,7 @@ names-if false x y h k = k
 names-line : (h : PlainHost) (before : List Hmesg) (line : List ℕ) → AreNamesShort h.files → AreNamesShort (reply_line h before line).0.files
 names-line h before line all =
     let o = meaning h.files line in
-    names-print (committed h.files o) o.printed (names-outcome o.file h.files o all (meaning_within h.files line))
+    names-print (committed h.files o) o.printed (names-outcome o.file h.files o all (line_short (work_file h.files) line))
 
 names-found : (h : PlainHost) (f : ℕ) (d : Option Range) (frames : List Hmesg) → AreNamesShort h.files → AreNamesShort (reply_found h f d frames).0.files
 names-found h f None frames all = all
@@ -124,29 +98,22 @@ names-startnewfile h all =
     (names-print h.files no_tag_left all) (names-put h.files f new_file all (omega arith))
 
 reply_names : (h : PlainHost) (m : Tmesg) → AreNamesShort h.files → AreNamesShort (reply_to h m).0.files
-unfolding reply_version reply_check reply_request reply_origin reply_startfile reply_workfile reply_cut reply_snarf reply_write reply_close reply_search reply_dclick reply_startsnarf reply_setsnarf reply_exit
-reply_names h (Tversion v) all = names-announce h.files.slots all
+unfolding replies_opened
+reply_names h (Tversion v) all = all-announce HasShortName (λ x k. k) h.files.slots all
 reply_names h Tstartcmdfile all = names-startcmdfile h all
-reply_names h (Tcheck f) all = all
-reply_names h (Trequest f p n) all = all
-reply_names h (Torigin f p n) all = all
 reply_names h (Tstartfile f) all = names-put h.files f (record (file_at h.files f) { opened = true }) all (all f)
 reply_names h (Tworkfile f p q) all = names-put h.files f (record (file_at h.files f) { dot = (p, q) }) all (all f)
 reply_names h (Ttype f p s) all = names-type h f p s all
 reply_names h (Tcut f p q) all = names-put h.files f (cut_file f (file_at h.files f) p q) all (all f)
 reply_names h (Tpaste f p) all = names-paste h f p all
-reply_names h (Tsnarf f p q) all = all
 reply_names h Tstartnewfile all = names-startnewfile h all
 reply_names h (Twrite f) all = names-put h.files f (record (file_at h.files f) { saved = Some (file_at h.files f).text; dirty = false }) all (all f)
-reply_names h (Tclose f) all = names-free h.files f all
+reply_names h (Tclose f) all = all-free HasShortName h.files f (omega arith) all
 reply_names h (Tlook f p q) all = names-look h f p q all
 reply_names h (Tsearch f p q) all = names-found h f (searched_for h.files.pattern (file_at h.files f).text q) [] all
 reply_names h (Tsend f p q) all = names-send h f p q all
 reply_names h (Tdclick f p) all = names-put h.files f (record (file_at h.files f) { dot = _ }) all (all f)
-reply_names h Tstartsnarf all = all
-reply_names h (Tsetsnarf s) all = all
-reply_names h Tack all = all
-reply_names h Texit all = all
+reply_names h _ all = all
 
 -- ## The count and the version
 
@@ -168,63 +135,37 @@ stands-look h f p q =
     stands-if h (is_empty lit || nat_lt most_in_pattern (length lit)) _ _ (refl, refl)
     (stands-found (with_files h (record h.files { pattern = Some lit })) f (searched (file_at h.files f).text lit q) _)
 
-reply_stands : (h : PlainHost) (m : Tmesg) → (reply_to h m).0.taken ≡ h.taken
-unfolding reply_version reply_startcmdfile reply_check reply_request reply_origin reply_startfile reply_workfile reply_cut reply_paste reply_snarf reply_startnewfile reply_write reply_close reply_search reply_dclick reply_startsnarf reply_setsnarf reply_exit reply_type reply_send
-reply_stands h (Tversion v) = refl
-reply_stands h Tstartcmdfile = (stands-if h (file_at h.files 0).opened _ _ (refl, refl) (refl, refl)).0
-reply_stands h (Tcheck f) = refl
-reply_stands h (Trequest f p n) = refl
-reply_stands h (Torigin f p n) = refl
-reply_stands h (Tstartfile f) = refl
-reply_stands h (Tworkfile f p q) = refl
-reply_stands h (Ttype f p s) = (stands-if h ((f == 0) && ends_line s) _ _ (refl, refl) (refl, refl)).0
-reply_stands h (Tcut f p q) = refl
-reply_stands h (Tpaste f p) = (stands-if h (is_empty h.files.snarf || nat_lt max_runes (length (file_at h.files f).text + length h.files.snarf)) _ _ (refl, refl) (refl, refl)).0
-reply_stands h (Tsnarf f p q) = refl
-reply_stands h Tstartnewfile = (stands-if h (nat_le all_tags (length h.files.slots)) _ _ (refl, refl) (refl, refl)).0
-reply_stands h (Twrite f) = refl
-reply_stands h (Tclose f) = refl
-reply_stands h (Tlook f p q) = (stands-look h f p q).0
-reply_stands h (Tsearch f p q) = (stands-found h f (searched_for h.files.pattern (file_at h.files f).text q) []).0
-reply_stands h (Tsend f p q) = (stands-if h ((p == q) || not (has_room h.files (as_lines (part (file_at h.files f).text p q)))) _ _ (refl, refl) (refl, refl)).0
-reply_stands h (Tdclick f p) = refl
-reply_stands h Tstartsnarf = refl
-reply_stands h (Tsetsnarf s) = refl
-reply_stands h Tack = refl
-reply_stands h Texit = refl
+-- the version behind a message, where it was this one before
+abbrev version_by : ℕ → Tmesg → ℕ
+version_by version (Tversion v) = common_version v
+version_by version _ = version
+
+-- no reply changes the count, and only that to Tversion the version
+reply_stands : (h : PlainHost) (m : Tmesg) → ((reply_to h m).0.taken ≡ h.taken) × ((reply_to h m).0.version ≡ version_by h.version m)
+unfolding replies_opened
+reply_stands h Tstartcmdfile = stands-if h (file_at h.files 0).opened _ _ (refl, refl) (refl, refl)
+reply_stands h (Ttype f p s) = stands-if h ((f == 0) && ends_line s) _ _ (refl, refl) (refl, refl)
+reply_stands h (Tpaste f p) =
+    stands-if h (is_empty h.files.snarf || nat_lt max_runes (length (file_at h.files f).text + length h.files.snarf)) _ _ (refl, refl) (refl, refl)
+reply_stands h Tstartnewfile = stands-if h (nat_le all_tags (length h.files.slots)) _ _ (refl, refl) (refl, refl)
+reply_stands h (Tlook f p q) = stands-look h f p q
+reply_stands h (Tsearch f p q) = stands-found h f (searched_for h.files.pattern (file_at h.files f).text q) []
+reply_stands h (Tsend f p q) =
+    let s = as_lines (part (file_at h.files f).text p q) in
+    stands-if h ((p == q) || not (has_room h.files s)) _ _ (refl, refl) (refl, refl)
+reply_stands h _ = (refl, refl)
 
 agreed_version : (v : ℕ) → first_of_checks {E = HostFault} ((v == 0, BadVersion) ∷ []) ≡ None → IsVersion (common_version v)
 agreed_version zero e = absurd (cc)
 agreed_version (suc zero) e = inl refl
 agreed_version (suc (suc v)) e = let n : min (suc (suc v)) 2 ≡ 2 = omega arith in inr n
 
-same-version : (h : PlainHost) (r : Reply) → Stands h r → IsVersion h.version → IsVersion r.0.version
-same-version h r s v = subst IsVersion (sym s.1) v
+version_by-is : (h : PlainHost) (m : Tmesg) → first_of_checks (host_checks h m) ≡ None → IsVersion h.version → IsVersion (version_by h.version m)
+version_by-is h (Tversion v) e is = agreed_version v e
+version_by-is h _ e is = is
 
 reply_version-is : (h : PlainHost) (m : Tmesg) → first_of_checks (host_checks h m) ≡ None → IsVersion h.version → IsVersion (reply_to h m).0.version
-unfolding reply_version reply_startcmdfile reply_check reply_request reply_origin reply_startfile reply_workfile reply_cut reply_paste reply_snarf reply_startnewfile reply_write reply_close reply_search reply_dclick reply_startsnarf reply_setsnarf reply_exit reply_type reply_send
-reply_version-is h (Tversion v) e is = agreed_version v e
-reply_version-is h Tstartcmdfile e is = same-version h (reply_startcmdfile h) (stands-if h (file_at h.files 0).opened _ _ (refl, refl) (refl, refl)) is
-reply_version-is h (Tcheck f) e is = is
-reply_version-is h (Trequest f p n) e is = is
-reply_version-is h (Torigin f p n) e is = is
-reply_version-is h (Tstartfile f) e is = is
-reply_version-is h (Tworkfile f p q) e is = is
-reply_version-is h (Ttype f p s) e is = same-version h (reply_type h f p s) (stands-if h ((f == 0) && ends_line s) _ _ (refl, refl) (refl, refl)) is
-reply_version-is h (Tcut f p q) e is = is
-reply_version-is h (Tpaste f p) e is = same-version h (reply_paste h f p) (stands-if h (is_empty h.files.snarf || nat_lt max_runes (length (file_at h.files f).text + length h.files.snarf)) _ _ (refl, refl) (refl, refl)) is
-reply_version-is h (Tsnarf f p q) e is = is
-reply_version-is h Tstartnewfile e is = same-version h (reply_startnewfile h) (stands-if h (nat_le all_tags (length h.files.slots)) _ _ (refl, refl) (refl, refl)) is
-reply_version-is h (Twrite f) e is = is
-reply_version-is h (Tclose f) e is = is
-reply_version-is h (Tlook f p q) e is = same-version h (reply_look h f p q) (stands-look h f p q) is
-reply_version-is h (Tsearch f p q) e is = same-version h (reply_search h f p q) (stands-found h f (searched_for h.files.pattern (file_at h.files f).text q) []) is
-reply_version-is h (Tsend f p q) e is = same-version h (reply_send h f p q) (stands-if h ((p == q) || not (has_room h.files (as_lines (part (file_at h.files f).text p q)))) _ _ (refl, refl) (refl, refl)) is
-reply_version-is h (Tdclick f p) e is = is
-reply_version-is h Tstartsnarf e is = is
-reply_version-is h (Tsetsnarf s) e is = is
-reply_version-is h Tack e is = is
-reply_version-is h Texit e is = is
+reply_version-is h m e is = subst IsVersion (sym (reply_stands h m).1) (version_by-is h m e is)
 
 -- ## What stands of every answer
 
@@ -232,11 +173,14 @@ abbrev IfAnswer : (PlainHost → List HFrame → Type 0) → Answer → Type 0
 IfAnswer P (Ok x) = P x.0 x.1
 IfAnswer P (Err why) = Unit {0}
 
-answer_is : (P : PlainHost → List HFrame → Type 0) (h : PlainHost) (m : Tmesg) → P (counted h) [] → (first_of_checks (host_checks h m) ≡ None → P (counted (reply_to h m).0) (stamped ((reply_to h m).0.taken + 1) (reply_to h m).1)) → IfAnswer P (answer h m)
+answer_is : (P : PlainHost → List HFrame → Type 0) (h : PlainHost) (m : Tmesg) → P (counted h) []
+    → (first_of_checks (host_checks h m) ≡ None → P (counted (reply_to h m).0) (stamped ((reply_to h m).0.taken + 1) (reply_to h m).1))
+    → IfAnswer P (answer h m)
 unfolding answer
 answer_is P h m silent reply = go (h.taken == most_count) h.is_done (first_of_checks (host_checks h m)) refl
   where
-    go : (full finished : Bool) (o : Option HostFault) → first_of_checks (host_checks h m) ≡ o → IfAnswer P (cond full (Err CountFull) (cond finished (Ok (counted h, [])) (answer_unless o (reply_to h m))))
+    go : (full finished : Bool) (o : Option HostFault) → first_of_checks (host_checks h m) ≡ o
+        → IfAnswer P (cond full (Err CountFull) (cond finished (Ok (counted h, [])) (answer_unless o (reply_to h m))))
     go true finished o e = tt
     go false true o e = silent
     go false false None e = reply e
@@ -275,13 +219,14 @@ answers_are_counted h g m frames e =
     let P : PlainHost → List HFrame → Type 0 = λ g frames. (g.taken ≡ h.taken + 1) × All (λ (frame : HFrame). frame.seen ≡ g.taken) frames in
     of_answer P h g m frames e
     (answer_is P h m (refl, All-nil (λ (frame : HFrame). frame.seen ≡ h.taken + 1))
-    (λ allowed. (ap (λ n. n + 1) (reply_stands h m), all-seen ((reply_to h m).0.taken + 1) (reply_to h m).1)))
+    (λ allowed. (ap (λ n. n + 1) (reply_stands h m).0, all-seen ((reply_to h m).0.taken + 1) (reply_to h m).1)))
 
 pub is_silent_where_done : IsSilentWhereDone
 unfolding answer
 is_silent_where_done h m done less = go (h.taken == most_count) h.is_done less done
   where
-    go : (full finished : Bool) → full ≡ false → finished ≡ true → cond full (Err CountFull) (cond finished (Ok (counted h, [])) (answer_unless (first_of_checks (host_checks h m)) (reply_to h m))) ≡ Ok (counted h, [])
+    go : (full finished : Bool) → full ≡ false → finished ≡ true
+        → cond full (Err CountFull) (cond finished (Ok (counted h, [])) (answer_unless (first_of_checks (host_checks h m)) (reply_to h m))) ≡ Ok (counted h, [])
     go true finished l d = absurd (cc)
     go false false l d = absurd (cc)
     go false true l d = refl

@@ -18,6 +18,7 @@ use Rattle.sam_host.specs.Typing.{typed, typed_line, sent}
 
 -- ## Putting the command file
 
+-- a command file that was put is there, is what was put, and gives way to the next
 pub put_there : (h g : PlainHost) (x : PlainFile) → g ≡ with_file h 0 x → has_file g.files 0 ≡ true
 put_there h g x e = ap (λ (g : PlainHost). has_file g.files 0) e ∙ ap is_some (slot-put_same h.files.slots 0 x)
 
@@ -45,7 +46,9 @@ del_ins t s p h =
     let back : drop (p + length s) (take p t ++ s ++ drop p t) ≡ drop p t = drop_at (take p t ++ s) (drop p t) (p + length s) m in
     (λ i. front i ++ back i) ∙ take-append-drop p t
 
-pub typed_ready : (h g : PlainHost) (p : ℕ) (s : List ℕ) → g ≡ typed h p s → p ≤ length (file_at h.files 0).text → (has_file g.files 0 ≡ true) × (p + length s ≤ length (file_at g.files 0).text) × (del (file_at g.files 0).text p (p + length s) ≡ (file_at h.files 0).text)
+-- what was typed can be taken out again, which gives the old text
+pub typed_ready : (h g : PlainHost) (p : ℕ) (s : List ℕ) → g ≡ typed h p s → p ≤ length (file_at h.files 0).text
+    → (has_file g.files 0 ≡ true) × (p + length s ≤ length (file_at g.files 0).text) × (del (file_at g.files 0).text p (p + length s) ≡ (file_at h.files 0).text)
 typed_ready h g p s e place =
     let t = (file_at h.files 0).text in
     let x = typed_file 0 (file_at h.files 0) p s in
@@ -59,12 +62,16 @@ abbrev host_with : PlainHost → Slots PlainFile → PlainHost
 host_with h ss = with_files h (record h.files { slots = ss })
 
 undone-slots : (h : PlainHost) (ss : Slots PlainFile) (p : ℕ) (s : List ℕ) → is_some (slot ss 0) ≡ true → p ≤ length (unwrap_or (slot ss 0) blank_file).text
-    → (let g = typed (host_with h ss) p s in with_file g 0 (record (file_at g.files 0) { text = del (file_at g.files 0).text p (p + length s); dot = (unwrap_or (slot ss 0) blank_file).dot }) ≡ host_with h ss)
+    → (let g = typed (host_with h ss) p s in
+    let dot = (unwrap_or (slot ss 0) blank_file).dot in
+    with_file g 0 (record (file_at g.files 0) { text = del (file_at g.files 0).text p (p + length s); dot = dot }) ≡ host_with h ss)
 undone-slots h [] p s there place = absurd (cc)
 undone-slots h (None ∷ ss) p s there place = absurd (cc)
 undone-slots h (Some y ∷ ss) p s there place = λ i. host_with h (Some (record y { text = del_ins y.text s p place i }) ∷ ss)
 
-pub undone : (h g k : PlainHost) (p : ℕ) (s : List ℕ) (dot : Range) → has_file h.files 0 ≡ true → p ≤ length (file_at h.files 0).text → g ≡ typed h p s → k ≡ with_file g 0 (record (file_at g.files 0) { text = del (file_at g.files 0).text p (p + length s); dot = dot }) → dot ≡ (file_at h.files 0).dot → k ≡ h
+-- a host whose typing was taken out again, and whose dot was set back, is as it was
+pub undone : (h g k : PlainHost) (p : ℕ) (s : List ℕ) (dot : Range) → has_file h.files 0 ≡ true → p ≤ length (file_at h.files 0).text → g ≡ typed h p s
+    → k ≡ with_file g 0 (record (file_at g.files 0) { text = del (file_at g.files 0).text p (p + length s); dot = dot }) → dot ≡ (file_at h.files 0).dot → k ≡ h
 undone h g k p s dot there place e f d =
     f
     ∙ ((λ i. with_file (e i) 0 (record (file_at (e i).files 0) { text = del (file_at (e i).files 0).text p (p + length s); dot = d i }))
@@ -90,6 +97,7 @@ typed-as-line h f p s e test =
     ap (λ b. cond b (reply_line g [] (part t (line_start t end) end)) (g, [])) test
     ∙ ap (λ f. let g = with_file h f (typed_file f (file_at h.files f) p s) in let t = (file_at g.files f).text in reply_line g [] (part t (line_start t (p + length s - 1)) (p + length s - 1))) e
 
+-- typing that ends a line of the command file runs it, and any other runs none
 pub type_as_line : (h : PlainHost) (f p : ℕ) (s : List ℕ) → f ≡ 0 → ends_line s ≡ true → reply_type h f p s ≡ typed_line h p s
 type_as_line h f p s e ends =
     typed-as-line h f p s e (ap (λ f. nat_eq f 0 && ends_line s) e ∙ ends)
@@ -116,10 +124,12 @@ print-if h s filled room =
     let test : is_printed h.files s ≡ true = (λ i. not (not-empty s filled i) && room i) in
     ap (λ b. with_files h (cond b (put_file h.files 0 (printed_file (file_at h.files 0) s)) h.files)) test
 
+-- what is printed is typed at the end
 pub print_as_typed : (h : PlainHost) (s : List ℕ) → 0 < length s → has_room h.files s ≡ true → with_files h (after_print h.files s) ≡ sent h s
 print_as_typed h s filled room =
-    print-if h s filled room
-    ∙ (λ i. with_file h 0 (record (file_at h.files 0) { text = sym (ins_end (file_at h.files 0).text s) i; dot = (length (file_at h.files 0).text + length s, length (file_at h.files 0).text + length s) }))
+    let file = file_at h.files 0 in
+    let end = length file.text + length s in
+    print-if h s filled room ∙ (λ i. with_file h 0 (record file { text = sym (ins_end file.text s) i; dot = (end, end) }))
 
 lines-or : (b : Bool) (s : List ℕ) → ends_line s ≡ b → 0 < length (cond b s (s ++ newline ∷ []))
 lines-or false s e = omega (arith, length-append s (newline ∷ []))
@@ -139,13 +149,15 @@ line-behind h before line =
     let regrouped : before ++ a ++ b ++ c ≡ before ++ (a ++ b ++ c) = ap (λ x. x ++ c) (append_assoc before a b) ∙ append_assoc before (a ++ b) c in
     λ i. ((reply_line h [] line).0, regrouped i)
 
+-- a send of nothing, or without room, does nothing; any other runs its last line behind what it prints
 pub send_nothing : (h : PlainHost) (f p q : ℕ) → ((p == q) || not (has_room h.files (as_lines (part (file_at h.files f).text p q)))) ≡ true → reply_send h f p q ≡ (h, Hunlock ∷ [])
 unfolding reply_send
 send_nothing h f p q test =
     let s = as_lines (part (file_at h.files f).text p q) in
     ap (λ b. cond b (h, Hunlock ∷ []) (reply_line (with_files h (after_print h.files s)) (printed h.files s) (last_line s))) test
 
-pub send_as_line : (h : PlainHost) (f p q : ℕ) → ((p == q) || not (has_room h.files (as_lines (part (file_at h.files f).text p q)))) ≡ false → has_room h.files (as_lines (part (file_at h.files f).text p q)) ≡ true
+pub send_as_line : (h : PlainHost) (f p q : ℕ) → ((p == q) || not (has_room h.files (as_lines (part (file_at h.files f).text p q)))) ≡ false
+    → has_room h.files (as_lines (part (file_at h.files f).text p q)) ≡ true
     → (let s = as_lines (part (file_at h.files f).text p q) in reply_send h f p q ≡ ((reply_line (sent h s) [] (last_line s)).0, printed h.files s ++ (reply_line (sent h s) [] (last_line s)).1))
 unfolding reply_send
 send_as_line h f p q test room =

@@ -1,11 +1,11 @@
 -- What holds of the host in every state, and of the frames of every answer.
-use Rattle.std.specs.Prelude.{◌≡◌, ℕ, ◌+◌, ◌≤◌, ◌⊎◌, ◌==◌, if◌then◌else◌, List, [], ◌∷◌, ◌++◌, length, true, false, All, Ok}
+use Rattle.std.specs.Prelude.{◌≡◌, ℕ, ◌+◌, ◌≤◌, ◌==◌, if◌then◌else◌, List, [], ◌∷◌, ◌++◌, length, true, false, All, Ok}
 use Rattle.sam_runes.specs.Texts.{common_version, most_count, max_runes, most_in_name}
 use Rattle.sam_text.specs.Files.{PlainFiles, file_at, AreFit}
 use Rattle.sam_mesg.specs.HostKinds.{after_h, fits_h}
 use Rattle.sam_mesg.specs.declared.tmesg.Tmesg.{Tmesg}
 use Rattle.sam_mesg.specs.declared.hmesg.HFrame.{HFrame}
-use Rattle.sam_host.specs.Host.{PlainHost, answer, counted, new_host, with_given}
+use Rattle.sam_host.specs.Host.{PlainHost, IsVersion, answer, counted, new_host, with_given}
 
 -- every name fits in a message
 abbrev pub AreNamesShort : PlainFiles → Type 0
@@ -15,7 +15,7 @@ AreNamesShort fs = (f : ℕ) → length (file_at fs f).name ≤ most_in_name
 pub record IsSound (h : PlainHost) : Type 0 where
   pub names : AreNamesShort h.files
   pub files : AreFit h.files
-  pub version : (h.version ≡ 1) ⊎ (h.version ≡ 2)
+  pub version : IsVersion h.version
 
 -- each frame fits in the version at its place, and in the last one
 abbrev pub FitInPlace : ℕ → List HFrame → Type 0

@@ -1,9 +1,9 @@
 //! The answers to what the terminal asks of a file: a check, a stretch of its text, the start of a line, a word, an occurrence. A method
 //! for a kind leaves the count of messages to its caller, and after an error the host is unchanged.
 
-ghost use Rattle.std.specs.Prelude.{◌≡◌, ◌⊎◌, ◌<◌, ◌≤◌, ◌+◌, ◌++◌, ◌∷◌, [], ◌^◌, IfOk, IfErr, IfSome, OnOk, OnErr, Err, None, Some, length};
-ghost use Rattle.sam_host.specs.Host.{host_checks, stamped, reply_check, reply_request, reply_origin, reply_look, reply_search, reply_dclick, searched_for};
-ghost use Rattle.sam_runes.specs.Texts.{lines_before, searched, word_at};
+ghost use Rattle.std.specs.Prelude.{◌≡◌, ◌<◌, ◌≤◌, ◌+◌, ◌^◌, IfOk, OnOk, OnErr, Err, None, length};
+ghost use Rattle.sam_host.specs.Host.{host_checks, Refuses, Tells, stamped, told_found, reply_check, reply_request, reply_origin, reply_look, reply_search, reply_dclick};
+ghost use Rattle.sam_runes.specs.Texts.{lines_before};
 ghost use Rattle.sam_runes.specs.Checks.{first_of_checks};
 ghost use Rattle.sam_text.specs.Files.{file_at};
 
@@ -22,7 +22,7 @@ impl Host {
         ensures allowed { OnOk result (first_of_checks (host_checks self.old (Tmesg.Tcheck f)) ≡ None) }
         ensures host { OnOk result (self.new ≡ (reply_check self.old f).0) }
         ensures frames { IfOk result (λ frames. frames.items ≡ stamped (self.old.taken + 1) (reply_check self.old f).1) }
-        ensures refused { IfErr result (λ why. (why ≡ HostFault.OutOfMemory) ⊎ (first_of_checks (host_checks self.old (Tmesg.Tcheck f)) ≡ Some why)) }
+        ensures refused { Refuses self.old (Tmesg.Tcheck f) result }
         ensures count { self.new.taken ≡ self.old.taken }
         ensures unchanged { OnErr result (self.new ≡ self.old) }
     {
@@ -41,7 +41,7 @@ impl Host {
         ensures allowed { OnOk result (first_of_checks (host_checks self.old (Tmesg.Trequest f p n)) ≡ None) }
         ensures host { OnOk result (self.new ≡ (reply_request self.old f p n).0) }
         ensures frames { IfOk result (λ frames. frames.items ≡ stamped (self.old.taken + 1) (reply_request self.old f p n).1) }
-        ensures refused { IfErr result (λ why. (why ≡ HostFault.OutOfMemory) ⊎ (first_of_checks (host_checks self.old (Tmesg.Trequest f p n)) ≡ Some why)) }
+        ensures refused { Refuses self.old (Tmesg.Trequest f p n) result }
         ensures count { self.new.taken ≡ self.old.taken }
         ensures unchanged { OnErr result (self.new ≡ self.old) }
     {
@@ -84,7 +84,7 @@ impl Host {
         ensures allowed { OnOk result (first_of_checks (host_checks self.old (Tmesg.Torigin f p n)) ≡ None) }
         ensures host { OnOk result (self.new ≡ (reply_origin self.old f p n).0) }
         ensures frames { IfOk result (λ frames. frames.items ≡ stamped (self.old.taken + 1) (reply_origin self.old f p n).1) }
-        ensures refused { IfErr result (λ why. (why ≡ HostFault.OutOfMemory) ⊎ (first_of_checks (host_checks self.old (Tmesg.Torigin f p n)) ≡ Some why)) }
+        ensures refused { Refuses self.old (Tmesg.Torigin f p n) result }
         ensures count { self.new.taken ≡ self.old.taken }
         ensures unchanged { OnErr result (self.new ≡ self.old) }
     {
@@ -96,18 +96,6 @@ impl Host {
         Ok(frames)
     }
 
-    /// Returns the range of the word that has `p` inside it or at an edge; the empty range at `p` if there is none.
-    fn word(&self, f: u16, p: u32) -> (u32, u32)
-        requires { p ≤ length (file_at self.now.files f).text }
-        ensures value { result ≡ word_at (file_at self.now.files f).text p }
-        ensures range { (result.0 ≤ result.1) × (result.1 ≤ length (file_at self.now.files f).text) }
-    {
-        match self.files.file(f) {
-            Some(file) => file.text().word_at(p),
-            None => (p, p),
-        }
-    }
-
     /// Answers `Tdclick`: selects the word that has `p` inside it or at an edge, or the empty range at `p`, and tells `Hsetdot` and
     /// `Hunlockfile`. Errors, in this order: `NoFile`; `NotOpen`; `BadPosition` if `p` is past the end; `OutOfMemory`.
     #[tactic(auto, unfolding(crate::specs::Host::reply_dclick))]
@@ -116,12 +104,12 @@ impl Host {
         ensures allowed { OnOk result (first_of_checks (host_checks self.old (Tmesg.Tdclick f p)) ≡ None) }
         ensures host { OnOk result (self.new ≡ (reply_dclick self.old f p).0) }
         ensures frames { IfOk result (λ frames. frames.items ≡ stamped (self.old.taken + 1) (reply_dclick self.old f p).1) }
-        ensures refused { IfErr result (λ why. (why ≡ HostFault.OutOfMemory) ⊎ (first_of_checks (host_checks self.old (Tmesg.Tdclick f p)) ≡ Some why)) }
+        ensures refused { Refuses self.old (Tmesg.Tdclick f p) result }
         ensures count { self.new.taken ≡ self.old.taken }
         ensures unchanged { OnErr result (self.new ≡ self.old) }
     {
         self.wants_place(f, p)?;
-        let (start, end) = self.word(f, p);
+        let (start, end) = self.files.word(f, p);
         let mut frames = Vec::new(self.alloc);
         self.say(&mut frames, Hmesg::Hsetdot(f, start, end))?;
         self.say(&mut frames, Hmesg::Hunlockfile(f))?;
@@ -129,37 +117,10 @@ impl Host {
         Ok(frames)
     }
 
-    /// Returns the first occurrence of `lit` in a file that begins at `q` or later, else the first of all; `None` if there is none.
-    #[tactic(auto, using(sam_runes::proofs::PlaceLaws::searched_within))]
-    fn found_in(&self, f: u16, lit: &[char], q: u32) -> Option<(u32, u32)>
-        requires filled { 0 < length lit.now }
-        requires within { q ≤ length (file_at self.now.files f).text }
-        ensures value { result ≡ searched (file_at self.now.files f).text lit.now q }
-        ensures range { IfSome result (λ r. (r.0 ≤ r.1) × (r.1 ≤ length (file_at self.now.files f).text)) }
-    {
-        let text = self.files.file(f)?.text();
-        match text.find(lit, q) {
-            Some(range) => Some(range),
-            None => text.find(lit, 0),
-        }
-    }
-
-    /// Returns the occurrence of the pattern that was searched last, as `found_in` does; `None` if there is no pattern.
-    fn found(&self, f: u16, q: u32) -> Option<(u32, u32)>
-        requires { q ≤ length (file_at self.now.files f).text }
-        ensures value { result ≡ searched_for self.now.files.pattern (file_at self.now.files f).text q }
-        ensures range { IfSome result (λ r. (r.0 ≤ r.1) × (r.1 ≤ length (file_at self.now.files f).text)) }
-    {
-        match self.files.pattern() {
-            Some(lit) => self.found_in(f, lit.as_slice(), q),
-            None => None,
-        }
-    }
-
     /// Tells an occurrence: it is the dot, the window has to show it, the terminal is to look for gaps, and the file is free.
     fn tell_found(&self, frames: &mut Vec<HFrame>, f: u16, p: u32, q: u32) -> Result<(), HostFault>
         requires count { self.now.taken + 1 < 2 ^ 64 }
-        ensures ok { OnOk result (frames.new.items ≡ frames.old.items ++ stamped (self.now.taken + 1) (Hmesg.Hsetdot f p q ∷ Hmesg.Hmoveto f p ∷ Hmesg.Hcheck f ∷ Hmesg.Hunlockfile f ∷ [])) }
+        ensures ok { OnOk result (Tells self.now frames.old.items frames.new.items (told_found f (p, q))) }
         ensures memory { OnErr result (result ≡ Err HostFault.OutOfMemory) }
     {
         self.say(frames, Hmesg::Hsetdot(f, p, q))?;
@@ -178,7 +139,7 @@ impl Host {
         ensures allowed { OnOk result (first_of_checks (host_checks self.old (Tmesg.Tlook f p q)) ≡ None) }
         ensures host { OnOk result (self.new ≡ (reply_look self.old f p q).0) }
         ensures frames { IfOk result (λ frames. frames.items ≡ stamped (self.old.taken + 1) (reply_look self.old f p q).1) }
-        ensures refused { IfErr result (λ why. (why ≡ HostFault.OutOfMemory) ⊎ (first_of_checks (host_checks self.old (Tmesg.Tlook f p q)) ≡ Some why)) }
+        ensures refused { Refuses self.old (Tmesg.Tlook f p q) result }
         ensures count { self.new.taken ≡ self.old.taken }
         ensures unchanged { OnErr result (self.new ≡ self.old) }
     {
@@ -189,7 +150,7 @@ impl Host {
             self.say(&mut frames, Hmesg::Hunlockfile(f))?;
             return Ok(frames);
         }
-        match self.found_in(f, lit.as_slice(), q) {
+        match self.files.find(f, lit.as_slice(), q) {
             None => {
                 self.say(&mut frames, Hmesg::Hunlockfile(f))?;
                 self.files.put_pattern(lit);
@@ -214,13 +175,13 @@ impl Host {
         ensures allowed { OnOk result (first_of_checks (host_checks self.old (Tmesg.Tsearch f p q)) ≡ None) }
         ensures host { OnOk result (self.new ≡ (reply_search self.old f p q).0) }
         ensures frames { IfOk result (λ frames. frames.items ≡ stamped (self.old.taken + 1) (reply_search self.old f p q).1) }
-        ensures refused { IfErr result (λ why. (why ≡ HostFault.OutOfMemory) ⊎ (first_of_checks (host_checks self.old (Tmesg.Tsearch f p q)) ≡ Some why)) }
+        ensures refused { Refuses self.old (Tmesg.Tsearch f p q) result }
         ensures count { self.new.taken ≡ self.old.taken }
         ensures unchanged { OnErr result (self.new ≡ self.old) }
     {
         self.wants_range(f, p, q)?;
         let mut frames = Vec::new(self.alloc);
-        match self.found(f, q) {
+        match self.files.search_from(f, q) {
             None => self.say(&mut frames, Hmesg::Hunlockfile(f))?,
             Some((start, end)) => {
                 self.tell_found(&mut frames, f, start, end)?;

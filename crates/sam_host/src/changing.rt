@@ -1,8 +1,8 @@
-//! The answers to what changes a file or the snarf buffer: cutting, pasting, snarfing and writing, and how typed runes are put in. A
-//! method for a kind leaves the count of messages to its caller, and after an error the host is unchanged.
+//! The answers to what changes a file or the snarf buffer: cutting, pasting, snarfing and writing, and how typed runes are put in. A method
+//! for a kind leaves the count of messages to its caller, and after an error the host is unchanged.
 
-ghost use Rattle.std.specs.Prelude.{◌≡◌, ◌⊎◌, ◌<◌, ◌≤◌, ◌+◌, ◌++◌, ◌∷◌, [], ◌^◌, IfOk, IfErr, OnOk, OnErr, Err, None, Some, IsTrue, true, not, ◌&&◌, ◌==◌, length};
-ghost use Rattle.sam_host.specs.Host.{host_checks, stamped, when, grown, with_file, reply_cut, reply_paste, reply_snarf, reply_setsnarf, reply_startsnarf, reply_write};
+ghost use Rattle.std.specs.Prelude.{◌≡◌, ◌<◌, ◌≤◌, ◌+◌, ◌∷◌, [], ◌^◌, IfOk, OnOk, OnErr, Err, None, IsTrue, true, length};
+ghost use Rattle.sam_host.specs.Host.{host_checks, Refuses, Tells, stamped, told_paste, with_file, reply_cut, reply_paste, reply_snarf, reply_setsnarf, reply_startsnarf, reply_write};
 ghost use Rattle.sam_runes.specs.Texts.{max_runes};
 ghost use Rattle.sam_runes.specs.Checks.{first_of_checks};
 ghost use Rattle.sam_text.specs.Files.{has_file, file_at, typed_file, pasted_file};
@@ -12,7 +12,7 @@ use crate::fault::HostFault;
 use crate::host::Host;
 use sam_mesg::{HFrame, Hmesg, Tmesg};
 use sam_runes::places::prefix_in_bytes;
-use sam_runes::{MAX_RUNES, Runes, snarf_limit};
+use sam_runes::{Runes, snarf_limit};
 use sam_text::FileChange;
 
 impl Host {
@@ -25,7 +25,7 @@ impl Host {
         ensures allowed { OnOk result (first_of_checks (host_checks self.old (Tmesg.Tcut f p q)) ≡ None) }
         ensures host { OnOk result (self.new ≡ (reply_cut self.old f p q).0) }
         ensures frames { IfOk result (λ frames. frames.items ≡ stamped (self.old.taken + 1) (reply_cut self.old f p q).1) }
-        ensures refused { IfErr result (λ why. (why ≡ HostFault.OutOfMemory) ⊎ (first_of_checks (host_checks self.old (Tmesg.Tcut f p q)) ≡ Some why)) }
+        ensures refused { Refuses self.old (Tmesg.Tcut f p q) result }
         ensures count { self.new.taken ≡ self.old.taken }
         ensures unchanged { OnErr result (self.new ≡ self.old) }
     {
@@ -37,7 +37,8 @@ impl Host {
     /// Tells how a paste ends: the dot is what was pasted, from `p` to `q`, the terminal is to look for gaps, and the file is free.
     fn end_paste(&self, frames: &mut Vec<HFrame>, f: u16, p: u32, q: u32) -> Result<(), HostFault>
         requires count { self.now.taken + 1 < 2 ^ 64 }
-        ensures ok { OnOk result (frames.new.items ≡ frames.old.items ++ stamped (self.now.taken + 1) (Hmesg.Hsetdot f p q ∷ Hmesg.Hcheck f ∷ Hmesg.Hunlockfile f ∷ [])) }
+        ensures ok { OnOk result (Tells self.now frames.old.items frames.new.items
+            (Hmesg.Hsetdot f p q ∷ Hmesg.Hcheck f ∷ Hmesg.Hunlockfile f ∷ [])) }
         ensures memory { OnErr result (result ≡ Err HostFault.OutOfMemory) }
     {
         self.say(frames, Hmesg::Hsetdot(f, p, q))?;
@@ -52,7 +53,7 @@ impl Host {
         requires count { self.now.taken + 1 < 2 ^ 64 }
         requires place { p ≤ max_runes }
         requires limit { length runes.now ≤ max_runes }
-        ensures ok { IfOk result (λ frames. frames.items ≡ stamped (self.now.taken + 1) (grown self.now.files f p runes.now ++ when (not (file_at self.now.files f).dirty && not (f == 0)) (Hmesg.Hdirty f ∷ []) ++ Hmesg.Hsetdot f p (p + length runes.now) ∷ Hmesg.Hcheck f ∷ Hmesg.Hunlockfile f ∷ [])) }
+        ensures ok { IfOk result (λ frames. frames.items ≡ stamped (self.now.taken + 1) (told_paste self.now.files f p runes.now)) }
         ensures memory { OnErr result (result ≡ Err HostFault.OutOfMemory) }
     {
         let mut frames = Vec::new(self.alloc);
@@ -78,22 +79,22 @@ impl Host {
         }
     }
 
-    /// Answers `Tpaste`: puts the snarf buffer in at `p`, selects it, and tells the terminal what came in. Any file but the command file
-    /// is then dirty. If the buffer is empty, or the text would have more than `MAX_RUNES` runes, nothing changes, and `Hunlockfile` is
-    /// the one frame. Errors, in this order: `NoFile`; `NotOpen`; `BadPosition` if `p` is past the end; `OutOfMemory`.
+    /// Answers `Tpaste`: puts the snarf buffer in at `p`, selects it, and tells the terminal what came in. Any file but the command file is
+    /// then dirty. If the buffer is empty, or the text would have more than `MAX_RUNES` runes, nothing changes, and `Hunlockfile` is the one
+    /// frame. Errors, in this order: `NoFile`; `NotOpen`; `BadPosition` if `p` is past the end; `OutOfMemory`.
     #[tactic(auto, unfolding(crate::specs::Host::reply_paste))]
     pub(crate) fn paste(&mut self, f: u16, p: u32) -> Result<Vec<HFrame>, HostFault>
         requires { self.old.taken + 1 < 2 ^ 64 }
         ensures allowed { OnOk result (first_of_checks (host_checks self.old (Tmesg.Tpaste f p)) ≡ None) }
         ensures host { OnOk result (self.new ≡ (reply_paste self.old f p).0) }
         ensures frames { IfOk result (λ frames. frames.items ≡ stamped (self.old.taken + 1) (reply_paste self.old f p).1) }
-        ensures refused { IfErr result (λ why. (why ≡ HostFault.OutOfMemory) ⊎ (first_of_checks (host_checks self.old (Tmesg.Tpaste f p)) ≡ Some why)) }
+        ensures refused { Refuses self.old (Tmesg.Tpaste f p) result }
         ensures count { self.new.taken ≡ self.old.taken }
         ensures unchanged { OnErr result (self.new ≡ self.old) }
     {
         self.wants_place(f, p)?;
         let len = self.files.snarf_text().len();
-        if len == 0 || len > MAX_RUNES as usize - self.text_len(f) as usize {
+        if len == 0 || self.passes_limit(f, len) {
             let mut frames = Vec::new(self.alloc);
             self.say(&mut frames, Hmesg::Hunlockfile(f))?;
             return Ok(frames);
@@ -106,13 +107,13 @@ impl Host {
 
     /// Answers `Tsnarf`: copies what stands from `p` to `q` into the snarf buffer, and tells its length in runes. Errors, in this order:
     /// `NoFile`; `NotOpen`; `BadPosition` if the text has no such range; `OutOfMemory`.
-    #[tactic(auto, using(crate::proofs::SnarfLaws::part_length), unfolding(crate::specs::Host::reply_snarf))]
+    #[tactic(auto, using(crate::proofs::FileLaws::part_length), unfolding(crate::specs::Host::reply_snarf))]
     pub(crate) fn snarf(&mut self, f: u16, p: u32, q: u32) -> Result<Vec<HFrame>, HostFault>
         requires { self.old.taken + 1 < 2 ^ 64 }
         ensures allowed { OnOk result (first_of_checks (host_checks self.old (Tmesg.Tsnarf f p q)) ≡ None) }
         ensures host { OnOk result (self.new ≡ (reply_snarf self.old f p q).0) }
         ensures frames { IfOk result (λ frames. frames.items ≡ stamped (self.old.taken + 1) (reply_snarf self.old f p q).1) }
-        ensures refused { IfErr result (λ why. (why ≡ HostFault.OutOfMemory) ⊎ (first_of_checks (host_checks self.old (Tmesg.Tsnarf f p q)) ≡ Some why)) }
+        ensures refused { Refuses self.old (Tmesg.Tsnarf f p q) result }
         ensures count { self.new.taken ≡ self.old.taken }
         ensures unchanged { OnErr result (self.new ≡ self.old) }
     {
@@ -125,14 +126,14 @@ impl Host {
     }
 
     /// Answers `Tsetsnarf`: these runes become the snarf buffer, and their number is told. The only error is `OutOfMemory`.
-    #[tactic(auto, using(crate::proofs::SnarfLaws::snarf_short), unfolding(crate::specs::Host::reply_setsnarf))]
+    #[tactic(auto, using(crate::proofs::FileLaws::snarf_short), unfolding(crate::specs::Host::reply_setsnarf))]
     pub(crate) fn set_snarf(&mut self, runes: Runes) -> Result<Vec<HFrame>, HostFault>
         requires count { self.old.taken + 1 < 2 ^ 64 }
         requires fits { IsTrue (fits_t 2 (Tmesg.Tsetsnarf runes)) }
         ensures allowed { OnOk result (first_of_checks (host_checks self.old (Tmesg.Tsetsnarf runes)) ≡ None) }
         ensures host { OnOk result (self.new ≡ (reply_setsnarf self.old runes).0) }
         ensures frames { IfOk result (λ frames. frames.items ≡ stamped (self.old.taken + 1) (reply_setsnarf self.old runes).1) }
-        ensures refused { IfErr result (λ why. (why ≡ HostFault.OutOfMemory) ⊎ (first_of_checks (host_checks self.old (Tmesg.Tsetsnarf runes)) ≡ Some why)) }
+        ensures refused { Refuses self.old (Tmesg.Tsetsnarf runes) result }
         ensures count { self.new.taken ≡ self.old.taken }
         ensures unchanged { OnErr result (self.new ≡ self.old) }
     {
@@ -150,7 +151,7 @@ impl Host {
         ensures allowed { OnOk result (first_of_checks (host_checks self.old Tmesg.Tstartsnarf) ≡ None) }
         ensures host { OnOk result (self.new ≡ (reply_startsnarf self.old).0) }
         ensures frames { IfOk result (λ frames. frames.items ≡ stamped (self.old.taken + 1) (reply_startsnarf self.old).1) }
-        ensures refused { IfErr result (λ why. (why ≡ HostFault.OutOfMemory) ⊎ (first_of_checks (host_checks self.old Tmesg.Tstartsnarf) ≡ Some why)) }
+        ensures refused { Refuses self.old Tmesg.Tstartsnarf result }
         ensures count { self.new.taken ≡ self.old.taken }
         ensures unchanged { OnErr result (self.new ≡ self.old) }
     {
@@ -162,35 +163,21 @@ impl Host {
         Ok(frames)
     }
 
-    /// Copies the whole text of a file. The only error is `OutOfMemory`.
-    #[tactic(auto, using(crate::proofs::SnarfLaws::part_all))]
-    fn whole(&self, f: u16) -> Result<Runes, HostFault>
-        ensures ok { IfOk result (λ r. r ≡ (file_at self.now.files f).text) }
-        ensures memory { OnErr result (result ≡ Err HostFault.OutOfMemory) }
-    {
-        self.part(f, 0, self.text_len(f))
-    }
-
-    /// Answers `Twrite`: a copy of the text becomes the saved copy, and the file is clean. The host touches no disk. Errors, in this
-    /// order: `NoFile`; `CommandFile`; `NotOpen`; `OutOfMemory`.
+    /// Answers `Twrite`: a copy of the text becomes the saved copy, and the file is clean. The host touches no disk. Errors, in this order:
+    /// `NoFile`; `CommandFile`; `NotOpen`; `OutOfMemory`.
     #[tactic(auto, unfolding(crate::specs::Host::reply_write))]
     pub(crate) fn write(&mut self, f: u16) -> Result<Vec<HFrame>, HostFault>
         requires { self.old.taken + 1 < 2 ^ 64 }
         ensures allowed { OnOk result (first_of_checks (host_checks self.old (Tmesg.Twrite f)) ≡ None) }
         ensures host { OnOk result (self.new ≡ (reply_write self.old f).0) }
         ensures frames { IfOk result (λ frames. frames.items ≡ stamped (self.old.taken + 1) (reply_write self.old f).1) }
-        ensures refused { IfErr result (λ why. (why ≡ HostFault.OutOfMemory) ⊎ (first_of_checks (host_checks self.old (Tmesg.Twrite f)) ≡ Some why)) }
+        ensures refused { Refuses self.old (Tmesg.Twrite f) result }
         ensures count { self.new.taken ≡ self.old.taken }
         ensures unchanged { OnErr result (self.new ≡ self.old) }
     {
-        if !self.has(f) {
-            return Err(HostFault::NoFile);
-        }
-        if f == 0 {
-            return Err(HostFault::CommandFile);
-        }
+        self.wants_other(f)?;
         self.wants_open(f)?;
-        let runes = self.whole(f)?;
+        let runes = self.files.copy_text(self.alloc, f)?;
         let mut frames = Vec::new(self.alloc);
         self.say(&mut frames, Hmesg::Hclean(f))?;
         self.say(&mut frames, Hmesg::Hunlockfile(f))?;

@@ -2,21 +2,21 @@
 //! does is worked out first, then told, and put in last, so that want of memory changes nothing. The functions that tell add frames to
 //! those of the answer. The only error of a private function is `OutOfMemory`, and the host is then unchanged.
 
-ghost use Rattle.std.specs.Prelude.{◌≡◌, ◌⊎◌, ◌<◌, ◌≤◌, ◌+◌, ◌-◌, ◌++◌, ◌∷◌, [], ◌^◌, IfOk, IfErr, IsTrue, OnOk, OnErr, Err, None, Some, true, not, ◌&&◌, nat_lt, if◌then◌else◌, flat_map, reverse, length};
-ghost use Rattle.sam_host.specs.Typing.{typed_line, sent};
-ghost use Rattle.sam_host.specs.Host.{host_checks, stamped, when, when_given, printed, told_edit, told_outcome, with_file, with_files, no_tag_left, reply_line, reply_type, reply_send, reply_startnewfile};
-ghost use Rattle.sam_runes.specs.Texts.{max_runes, del, is_empty, part, line_start, as_lines, last_line, ends_line};
+ghost use Rattle.std.specs.Prelude.{◌≡◌, ◌<◌, ◌≤◌, ◌+◌, ◌-◌, ◌++◌, ◌∷◌, [], ◌^◌, IfOk, IsTrue, OnOk, OnErr, Err, None, Some, true, not, ◌&&◌, nat_lt, if◌then◌else◌, length};
+ghost use Rattle.sam_host.specs.Typing.{reply_line_to, typed_line, sent};
+ghost use Rattle.sam_host.specs.Host.{host_checks, Refuses, Tells, stamped, when, when_given, printed, told_edit, told_edits, told_outcome, with_file, with_files, no_tag_left, line_to, reply_outcome, reply_line, reply_type, reply_send, reply_startnewfile};
+ghost use Rattle.sam_runes.specs.Texts.{max_runes, del, is_empty, part, as_lines, last_line, ends_line};
 ghost use Rattle.sam_runes.specs.Edits.{inserted};
 ghost use Rattle.sam_runes.specs.Checks.{first_of_checks};
-ghost use Rattle.sam_text.specs.Files.{has_file, file_at, cut_file, committed, after_print, IsOutcomeOf};
+ghost use Rattle.sam_text.specs.Files.{has_file, file_at, cut_file, after_print, IsOutcomeOf};
 ghost use Rattle.sam_text.specs.Outcomes.{effect};
-ghost use Rattle.sam_text.specs.Meaning.{meaning};
+ghost use Rattle.sam_text.specs.Meaning.{meaning, nothing};
 
 use crate::fault::HostFault;
 use crate::host::Host;
 use sam_mesg::{HFrame, Hmesg, Tmesg};
 use sam_runes::places::start_of_line;
-use sam_runes::{ALL_TAGS, Edit, MAX_RUNES, Runes};
+use sam_runes::{ALL_TAGS, Edit, Runes};
 use sam_text::{FileChange, Outcome};
 
 impl Host {
@@ -24,7 +24,7 @@ impl Host {
     #[tactic(auto, unfolding(crate::specs::Host::when))]
     fn tell_cut(&self, frames: &mut Vec<HFrame>, f: u16, p: u32, q: u32) -> Result<(), HostFault>
         requires count { self.now.taken + 1 < 2 ^ 64 }
-        ensures ok { OnOk result (frames.new.items ≡ frames.old.items ++ stamped (self.now.taken + 1) (when (nat_lt p q) (Hmesg.Hcut f p (q - p) ∷ []))) }
+        ensures ok { OnOk result (Tells self.now frames.old.items frames.new.items (when (nat_lt p q) (Hmesg.Hcut f p (q - p) ∷ []))) }
         ensures memory { OnErr result (result ≡ Err HostFault.OutOfMemory) }
     {
         if p < q {
@@ -38,7 +38,7 @@ impl Host {
     fn tell_edit(&self, frames: &mut Vec<HFrame>, f: u16, edit: &Edit) -> Result<(), HostFault>
         requires count { self.now.taken + 1 < 2 ^ 64 }
         requires limit { length edit.now.text ≤ max_runes }
-        ensures ok { OnOk result (frames.new.items ≡ frames.old.items ++ stamped (self.now.taken + 1) (told_edit self.now.files f edit.now)) }
+        ensures ok { OnOk result (Tells self.now frames.old.items frames.new.items (told_edit self.now.files f edit.now)) }
         ensures memory { OnErr result (result ≡ Err HostFault.OutOfMemory) }
     {
         self.tell_cut(frames, f, edit.p, edit.q)?;
@@ -49,7 +49,7 @@ impl Host {
     fn tell_edits(&self, frames: &mut Vec<HFrame>, f: u16, edits: &[Edit]) -> Result<(), HostFault>
         requires count { self.now.taken + 1 < 2 ^ 64 }
         requires limit { inserted edits.now ≤ max_runes }
-        ensures ok { OnOk result (frames.new.items ≡ frames.old.items ++ stamped (self.now.taken + 1) (flat_map (told_edit self.now.files f) (reverse edits.now))) }
+        ensures ok { OnOk result (Tells self.now frames.old.items frames.new.items (told_edits self.now.files f edits.now)) }
         ensures memory { OnErr result (result ≡ Err HostFault.OutOfMemory) }
     {
         let mut left = edits.len();
@@ -69,7 +69,7 @@ impl Host {
         name: &Option<Runes>,
     ) -> Result<(), HostFault>
         requires count { self.now.taken + 1 < 2 ^ 64 }
-        ensures ok { OnOk result (frames.new.items ≡ frames.old.items ++ stamped (self.now.taken + 1) (when_given name.now (Hmesg.Hmovname f))) }
+        ensures ok { OnOk result (Tells self.now frames.old.items frames.new.items (when_given name.now (Hmesg.Hmovname f))) }
         ensures memory { OnErr result (result ≡ Err HostFault.OutOfMemory) }
     {
         match name {
@@ -89,7 +89,7 @@ impl Host {
         pattern: &Option<Runes>,
     ) -> Result<(), HostFault>
         requires count { self.now.taken + 1 < 2 ^ 64 }
-        ensures ok { OnOk result (frames.new.items ≡ frames.old.items ++ stamped (self.now.taken + 1) (when_given pattern.now Hmesg.Hsetpat)) }
+        ensures ok { OnOk result (Tells self.now frames.old.items frames.new.items (when_given pattern.now Hmesg.Hsetpat)) }
         ensures memory { OnErr result (result ≡ Err HostFault.OutOfMemory) }
     {
         match pattern {
@@ -110,7 +110,7 @@ impl Host {
         dot: Option<(u32, u32)>,
     ) -> Result<(), HostFault>
         requires count { self.now.taken + 1 < 2 ^ 64 }
-        ensures ok { OnOk result (frames.new.items ≡ frames.old.items ++ stamped (self.now.taken + 1) (when_given dot (λ d. Hmesg.Hsetdot f d.0 d.1))) }
+        ensures ok { OnOk result (Tells self.now frames.old.items frames.new.items (when_given dot (λ d. Hmesg.Hsetdot f d.0 d.1))) }
         ensures memory { OnErr result (result ≡ Err HostFault.OutOfMemory) }
     {
         match dot {
@@ -123,7 +123,8 @@ impl Host {
     #[tactic(auto, unfolding(crate::specs::Host::when))]
     fn tell_edited(&self, frames: &mut Vec<HFrame>, f: u16, edits: &[Edit]) -> Result<(), HostFault>
         requires count { self.now.taken + 1 < 2 ^ 64 }
-        ensures ok { OnOk result (frames.new.items ≡ frames.old.items ++ stamped (self.now.taken + 1) (when (not (is_empty edits.now) && not (file_at self.now.files f).dirty) (Hmesg.Hdirty f ∷ []))) }
+        ensures ok { OnOk result (Tells self.now frames.old.items frames.new.items
+            (when (not (is_empty edits.now) && not (file_at self.now.files f).dirty) (Hmesg.Hdirty f ∷ []))) }
         ensures memory { OnErr result (result ≡ Err HostFault.OutOfMemory) }
     {
         if edits.is_empty() || self.is_dirty(f) {
@@ -136,7 +137,8 @@ impl Host {
     #[tactic(auto, unfolding(crate::specs::Host::when))]
     fn tell_check(&self, frames: &mut Vec<HFrame>, f: u16, edits: &[Edit]) -> Result<(), HostFault>
         requires count { self.now.taken + 1 < 2 ^ 64 }
-        ensures ok { OnOk result (frames.new.items ≡ frames.old.items ++ stamped (self.now.taken + 1) (when (not (is_empty edits.now)) (Hmesg.Hcheck f ∷ []))) }
+        ensures ok { OnOk result (Tells self.now frames.old.items frames.new.items
+            (when (not (is_empty edits.now)) (Hmesg.Hcheck f ∷ []))) }
         ensures memory { OnErr result (result ≡ Err HostFault.OutOfMemory) }
     {
         if edits.is_empty() {
@@ -157,13 +159,9 @@ impl Host {
     ) -> Result<(), HostFault>
         requires count { self.now.taken + 1 < 2 ^ 64 }
         requires limit { inserted edits.now ≤ max_runes }
-        ensures ok { OnOk result (frames.new.items ≡ frames.old.items ++ stamped (self.now.taken + 1) (
-            flat_map (told_edit self.now.files f) (reverse edits.now)
-            ++ when (not (is_empty edits.now) && not (file_at self.now.files f).dirty) (Hmesg.Hdirty f ∷ [])
-            ++ when_given name.now (Hmesg.Hmovname f)
-            ++ when_given pattern.now Hmesg.Hsetpat
-            ++ when_given dot (λ d. Hmesg.Hsetdot f d.0 d.1)
-            ++ when (not (is_empty edits.now)) (Hmesg.Hcheck f ∷ []))) }
+        ensures ok { OnOk result (Tells self.now frames.old.items frames.new.items
+            (told_outcome (Some f) self.now.files
+                (record nothing { edits = edits.now; name = name.now; pattern = pattern.now; dot = dot }))) }
         ensures memory { OnErr result (result ≡ Err HostFault.OutOfMemory) }
     {
         self.tell_edits(frames, f, edits)?;
@@ -185,7 +183,8 @@ impl Host {
     ) -> Result<(), HostFault>
         requires count { self.now.taken + 1 < 2 ^ 64 }
         requires limit { inserted (effect outcome.now).edits ≤ max_runes }
-        ensures ok { OnOk result (frames.new.items ≡ frames.old.items ++ stamped (self.now.taken + 1) (told_outcome (Some f) self.now.files (effect outcome.now))) }
+        ensures ok { OnOk result (Tells self.now frames.old.items frames.new.items
+            (told_outcome (Some f) self.now.files (effect outcome.now))) }
         ensures memory { OnErr result (result ≡ Err HostFault.OutOfMemory) }
     {
         let edits = outcome.edits.items.as_slice();
@@ -204,7 +203,8 @@ impl Host {
     fn tell_outcome(&self, frames: &mut Vec<HFrame>, outcome: &Outcome) -> Result<(), HostFault>
         requires count { self.now.taken + 1 < 2 ^ 64 }
         requires limit { inserted (effect outcome.now).edits ≤ max_runes }
-        ensures ok { OnOk result (frames.new.items ≡ frames.old.items ++ stamped (self.now.taken + 1) (told_outcome outcome.now.file self.now.files (effect outcome.now))) }
+        ensures ok { OnOk result (Tells self.now frames.old.items frames.new.items
+            (told_outcome outcome.now.file self.now.files (effect outcome.now))) }
         ensures memory { OnErr result (result ≡ Err HostFault.OutOfMemory) }
     {
         match outcome.file {
@@ -216,7 +216,7 @@ impl Host {
     /// Tells how a line ends: the session is over, or the command lock is free.
     fn tell_end(&self, frames: &mut Vec<HFrame>, quit: bool) -> Result<(), HostFault>
         requires count { self.now.taken + 1 < 2 ^ 64 }
-        ensures ok { OnOk result (frames.new.items ≡ frames.old.items ++ stamped (self.now.taken + 1) ((if quit then Hmesg.Hexit else Hmesg.Hunlock) ∷ [])) }
+        ensures ok { OnOk result (Tells self.now frames.old.items frames.new.items ((if quit then Hmesg.Hexit else Hmesg.Hunlock) ∷ [])) }
         ensures memory { OnErr result (result ≡ Err HostFault.OutOfMemory) }
     {
         if quit {
@@ -232,7 +232,7 @@ impl Host {
         requires count { self.now.taken + 1 < 2 ^ 64 }
         requires limit { inserted (effect outcome.now).edits ≤ max_runes }
         requires fits { IsOutcomeOf self.now.files (effect outcome.now) }
-        ensures ok { OnOk result (frames.new.items ≡ frames.old.items ++ stamped (self.now.taken + 1) (told_outcome outcome.now.file self.now.files (effect outcome.now) ++ printed (committed self.now.files (effect outcome.now)) outcome.now.printed ++ (if outcome.now.quit then Hmesg.Hexit else Hmesg.Hunlock) ∷ [])) }
+        ensures ok { OnOk result (Tells self.now frames.old.items frames.new.items (reply_outcome self.now [] (effect outcome.now)).1) }
         ensures memory { OnErr result (result ≡ Err HostFault.OutOfMemory) }
     {
         self.tell_outcome(frames, outcome)?;
@@ -245,7 +245,7 @@ impl Host {
     /// than the line does.
     fn put_outcome(&mut self, outcome: Outcome) -> Result<(), HostFault>
         requires { IsOutcomeOf self.old.files (effect outcome) }
-        ensures ok { OnOk result (self.new ≡ record self.old { files = after_print (committed self.old.files (effect outcome)) outcome.printed; is_done = outcome.quit }) }
+        ensures ok { OnOk result (self.new ≡ (reply_outcome self.old [] (effect outcome)).0) }
         ensures memory { OnErr result (result ≡ Err HostFault.OutOfMemory) }
         ensures unchanged { OnErr result (self.new ≡ self.old) }
     {
@@ -278,7 +278,7 @@ impl Host {
     pub(crate) fn run(&mut self, frames: &mut Vec<HFrame>, line: &[char]) -> Result<(), HostFault>
         requires count { self.old.taken + 1 < 2 ^ 64 }
         ensures host { OnOk result (self.new ≡ (reply_line self.old [] line.now).0) }
-        ensures frames { OnOk result (frames.new.items ≡ frames.old.items ++ stamped (self.old.taken + 1) (reply_line self.old [] line.now).1) }
+        ensures frames { OnOk result (Tells self.old frames.old.items frames.new.items (reply_line self.old [] line.now).1) }
         ensures memory { OnErr result (result ≡ Err HostFault.OutOfMemory) }
         ensures unchanged { OnErr result (self.new ≡ self.old) }
     {
@@ -310,7 +310,8 @@ impl Host {
         requires there { has_file self.old.files 0 ≡ true }
         requires range { (p ≤ q) × (q ≤ length (file_at self.old.files 0).text) }
         requires dot { (dot.0 ≤ dot.1) × (dot.1 ≤ length (del (file_at self.old.files 0).text p q)) }
-        ensures { self.new ≡ with_file self.old 0 (record (file_at self.old.files 0) { text = del (file_at self.old.files 0).text p q; dot = dot }) }
+        ensures { self.new ≡ with_file self.old 0
+            (record (file_at self.old.files 0) { text = del (file_at self.old.files 0).text p q; dot = dot }) }
     {
         self.cut_command(p, q);
         self.set_command_dot(dot);
@@ -330,7 +331,7 @@ impl Host {
     /// Copies the line of the command file that ends at `end`, without its newline.
     fn line_to(&self, end: u32) -> Result<Runes, HostFault>
         requires { end ≤ length (file_at self.now.files 0).text }
-        ensures ok { IfOk result (λ r. r ≡ part (file_at self.now.files 0).text (line_start (file_at self.now.files 0).text end) end) }
+        ensures ok { IfOk result (λ r. r ≡ line_to (file_at self.now.files 0).text end) }
         ensures memory { OnErr result (result ≡ Err HostFault.OutOfMemory) }
     {
         match self.files.file(0) {
@@ -346,8 +347,8 @@ impl Host {
     fn run_to(&mut self, end: u32) -> Result<Vec<HFrame>, HostFault>
         requires count { self.old.taken + 1 < 2 ^ 64 }
         requires place { end ≤ length (file_at self.old.files 0).text }
-        ensures host { OnOk result (self.new ≡ (reply_line self.old [] (part (file_at self.old.files 0).text (line_start (file_at self.old.files 0).text end) end)).0) }
-        ensures frames { IfOk result (λ frames. frames.items ≡ stamped (self.old.taken + 1) (reply_line self.old [] (part (file_at self.old.files 0).text (line_start (file_at self.old.files 0).text end) end)).1) }
+        ensures host { OnOk result (self.new ≡ (reply_line_to self.old end).0) }
+        ensures frames { IfOk result (λ frames. frames.items ≡ stamped (self.old.taken + 1) (reply_line_to self.old end).1) }
         ensures memory { OnErr result (result ≡ Err HostFault.OutOfMemory) }
         ensures unchanged { OnErr result (self.new ≡ self.old) }
     {
@@ -357,8 +358,8 @@ impl Host {
         Ok(frames)
     }
 
-    /// Types runes that end in a newline into the command file at `p`, and runs the line that this newline ends. If the line meets want
-    /// of memory, what was typed is taken out again.
+    /// Types runes that end in a newline into the command file at `p`, and runs the line that this newline ends. If the line meets want of
+    /// memory, what was typed is taken out again.
     fn type_line(&mut self, p: u32, runes: &[char]) -> Result<Vec<HFrame>, HostFault>
         requires count { self.old.taken + 1 < 2 ^ 64 }
         requires filled { 0 < length runes.now }
@@ -394,7 +395,7 @@ impl Host {
         requires count { self.old.taken + 1 < 2 ^ 64 }
         requires fits { length (file_at self.old.files 0).text + length runes.now ≤ max_runes }
         ensures host { OnOk result (self.new ≡ (reply_line (sent self.old runes.now) [] line.now).0) }
-        ensures frames { IfOk result (λ result. result.items ≡ frames.items ++ stamped (self.old.taken + 1) (reply_line (sent self.old runes.now) [] line.now).1) }
+        ensures frames { IfOk result (λ all. Tells self.old frames.items all.items (reply_line (sent self.old runes.now) [] line.now).1) }
         ensures memory { OnErr result (result ≡ Err HostFault.OutOfMemory) }
         ensures count { self.new.taken ≡ self.old.taken }
         ensures unchanged { OnErr result (self.new ≡ self.old) }
@@ -413,10 +414,10 @@ impl Host {
         }
     }
 
-    /// Answers `Ttype`: puts the runes in at `p`, as the terminal has done already, and so with no frame. If they go into the command
-    /// file and end in a newline, the line that this newline ends is run, and its frames are the answer. Errors, in this order: `NoFile`;
-    /// `NotOpen`; `BadPosition` if `p` is past the end; `TooLong` if the text would have more than `MAX_RUNES` runes; `OutOfMemory`.
-    /// After an error the host is unchanged. The caller counts the message.
+    /// Answers `Ttype`: puts the runes in at `p`, as the terminal has done already, and so with no frame. If they go into the command file
+    /// and end in a newline, the line that this newline ends is run, and its frames are the answer. Errors, in this order: `NoFile`;
+    /// `NotOpen`; `BadPosition` if `p` is past the end; `TooLong` if the text would have more than `MAX_RUNES` runes; `OutOfMemory`. After an
+    /// error the host is unchanged. The caller counts the message.
     #[tactic(auto, using(crate::proofs::TypingLaws::type_as_line, crate::proofs::TypingLaws::type_alone))]
     pub(crate) fn type_in(
         &mut self,
@@ -428,12 +429,12 @@ impl Host {
         ensures allowed { OnOk result (first_of_checks (host_checks self.old (Tmesg.Ttype f p runes.now)) ≡ None) }
         ensures host { OnOk result (self.new ≡ (reply_type self.old f p runes.now).0) }
         ensures frames { IfOk result (λ frames. frames.items ≡ stamped (self.old.taken + 1) (reply_type self.old f p runes.now).1) }
-        ensures refused { IfErr result (λ why. (why ≡ HostFault.OutOfMemory) ⊎ (first_of_checks (host_checks self.old (Tmesg.Ttype f p runes.now)) ≡ Some why)) }
+        ensures refused { Refuses self.old (Tmesg.Ttype f p runes.now) result }
         ensures count { self.new.taken ≡ self.old.taken }
         ensures unchanged { OnErr result (self.new ≡ self.old) }
     {
         self.wants_place(f, p)?;
-        if runes.len() > MAX_RUNES as usize - self.text_len(f) as usize {
+        if self.passes_limit(f, runes.len()) {
             return Err(HostFault::TooLong);
         }
         if f == 0 && ends_line(runes.as_slice()) {
@@ -477,7 +478,9 @@ impl Host {
         requires filled { 0 < length lines.now }
         requires fits { length (file_at self.old.files 0).text + length lines.now ≤ max_runes }
         ensures host { OnOk result (self.new ≡ (reply_line (sent self.old lines.now) [] (last_line lines.now)).0) }
-        ensures frames { IfOk result (λ frames. frames.items ≡ stamped (self.old.taken + 1) (printed self.old.files lines.now) ++ stamped (self.old.taken + 1) (reply_line (sent self.old lines.now) [] (last_line lines.now)).1) }
+        ensures frames { IfOk result (λ frames. Tells self.old
+            (stamped (self.old.taken + 1) (printed self.old.files lines.now)) frames.items
+            (reply_line (sent self.old lines.now) [] (last_line lines.now)).1) }
         ensures memory { OnErr result (result ≡ Err HostFault.OutOfMemory) }
         ensures count { self.new.taken ≡ self.old.taken }
         ensures unchanged { OnErr result (self.new ≡ self.old) }
@@ -493,13 +496,20 @@ impl Host {
     /// runs the last line of it. If the range is empty, or the command file has no room, nothing changes, and `Hunlock` is the one frame.
     /// Errors, in this order: `NoFile`; `NotOpen`; `BadPosition` if the text has no such range; `OutOfMemory`. After an error the host is
     /// unchanged. The caller counts the message.
-    #[tactic(auto, using(crate::proofs::TypingLaws::send_as_line, crate::proofs::TypingLaws::send_nothing, crate::proofs::TypingLaws::lines_filled))]
+    #[tactic(
+        auto,
+        using(
+            crate::proofs::TypingLaws::send_as_line,
+            crate::proofs::TypingLaws::send_nothing,
+            crate::proofs::TypingLaws::lines_filled
+        )
+    )]
     pub(crate) fn send(&mut self, f: u16, p: u32, q: u32) -> Result<Vec<HFrame>, HostFault>
         requires { self.old.taken + 1 < 2 ^ 64 }
         ensures allowed { OnOk result (first_of_checks (host_checks self.old (Tmesg.Tsend f p q)) ≡ None) }
         ensures host { OnOk result (self.new ≡ (reply_send self.old f p q).0) }
         ensures frames { IfOk result (λ frames. frames.items ≡ stamped (self.old.taken + 1) (reply_send self.old f p q).1) }
-        ensures refused { IfErr result (λ why. (why ≡ HostFault.OutOfMemory) ⊎ (first_of_checks (host_checks self.old (Tmesg.Tsend f p q)) ≡ Some why)) }
+        ensures refused { Refuses self.old (Tmesg.Tsend f p q) result }
         ensures count { self.new.taken ≡ self.old.taken }
         ensures unchanged { OnErr result (self.new ≡ self.old) }
     {
@@ -509,7 +519,7 @@ impl Host {
             return Ok(frames);
         }
         let lines = self.lines_of(f, p, q)?;
-        if lines.len() > MAX_RUNES as usize - self.text_len(0) as usize {
+        if self.passes_limit(0, lines.len()) {
             let frames = self.nothing_sent()?;
             return Ok(frames);
         }
@@ -522,7 +532,8 @@ impl Host {
     fn no_tag_left(&mut self) -> Result<Vec<HFrame>, HostFault>
         requires count { self.old.taken + 1 < 2 ^ 64 }
         ensures host { OnOk result (self.new ≡ with_files self.old (after_print self.old.files no_tag_left)) }
-        ensures frames { IfOk result (λ frames. frames.items ≡ stamped (self.old.taken + 1) (printed self.old.files no_tag_left ++ Hmesg.Hunlock ∷ [])) }
+        ensures frames { IfOk result (λ frames. frames.items
+            ≡ stamped (self.old.taken + 1) (printed self.old.files no_tag_left ++ Hmesg.Hunlock ∷ [])) }
         ensures memory { OnErr result (result ≡ Err HostFault.OutOfMemory) }
         ensures unchanged { OnErr result (self.new ≡ self.old) }
     {
@@ -539,13 +550,13 @@ impl Host {
     /// Answers `Tstartnewfile`: makes an empty, clean file with no name under the next tag, opens it, and makes it the work file. If all
     /// tags were given, `? no tag` is printed instead. The only error is `OutOfMemory`, and the host is then unchanged. The caller
     /// counts the message.
-    #[tactic(auto, using(crate::proofs::WorkLaws::put_is_work), unfolding(crate::specs::Host::reply_startnewfile))]
+    #[tactic(auto, using(crate::proofs::FileLaws::put_is_work), unfolding(crate::specs::Host::reply_startnewfile))]
     pub(crate) fn start_new_file(&mut self) -> Result<Vec<HFrame>, HostFault>
         requires { self.old.taken + 1 < 2 ^ 64 }
         ensures allowed { OnOk result (first_of_checks (host_checks self.old Tmesg.Tstartnewfile) ≡ None) }
         ensures host { OnOk result (self.new ≡ (reply_startnewfile self.old).0) }
         ensures frames { IfOk result (λ frames. frames.items ≡ stamped (self.old.taken + 1) (reply_startnewfile self.old).1) }
-        ensures refused { IfErr result (λ why. (why ≡ HostFault.OutOfMemory) ⊎ (first_of_checks (host_checks self.old Tmesg.Tstartnewfile) ≡ Some why)) }
+        ensures refused { Refuses self.old Tmesg.Tstartnewfile result }
         ensures count { self.new.taken ≡ self.old.taken }
         ensures unchanged { OnErr result (self.new ≡ self.old) }
     {

@@ -1,8 +1,8 @@
 //! The answers to the version, to what opens, chooses or closes a file, and to the end of the session. (`start_new_file` stands in `lines`,
 //! since it may have to print.) A method for a kind leaves the count of messages to its caller, and after an error the host is unchanged.
 
-ghost use Rattle.std.specs.Prelude.{◌≡◌, ◌⊎◌, ◌<◌, ◌+◌, ◌++◌, ◌∷◌, [], ◌^◌, IfOk, IfErr, OnOk, OnErr, Err, None, Some, true, drop};
-ghost use Rattle.sam_host.specs.Host.{host_checks, stamped, told_names, reply_version, reply_startcmdfile, reply_startfile, reply_workfile, reply_startnewfile, reply_close, reply_exit};
+ghost use Rattle.std.specs.Prelude.{◌≡◌, ◌<◌, ◌+◌, ◌∷◌, [], ◌^◌, IfOk, OnOk, OnErr, Err, None, true, drop};
+ghost use Rattle.sam_host.specs.Host.{host_checks, Refuses, Tells, stamped, told_names, reply_version, reply_startcmdfile, reply_startfile, reply_workfile, reply_close, reply_exit};
 ghost use Rattle.sam_runes.specs.Checks.{first_of_checks};
 
 use crate::fault::HostFault;
@@ -15,7 +15,7 @@ impl Host {
     /// Tells how the answer to `Tversion` ends: the terminal is asked for a `Tack`, and the command lock is free.
     fn tell_ready(&self, frames: &mut Vec<HFrame>) -> Result<(), HostFault>
         requires count { self.now.taken + 1 < 2 ^ 64 }
-        ensures ok { OnOk result (frames.new.items ≡ frames.old.items ++ stamped (self.now.taken + 1) (Hmesg.Hack ∷ Hmesg.Hunlock ∷ [])) }
+        ensures ok { OnOk result (Tells self.now frames.old.items frames.new.items (Hmesg.Hack ∷ Hmesg.Hunlock ∷ [])) }
         ensures memory { OnErr result (result ≡ Err HostFault.OutOfMemory) }
     {
         self.say(frames, Hmesg::Hack)?;
@@ -26,7 +26,7 @@ impl Host {
     /// its name.
     fn tell_names(&self, frames: &mut Vec<HFrame>) -> Result<(), HostFault>
         requires count { self.now.taken + 1 < 2 ^ 64 }
-        ensures ok { OnOk result (frames.new.items ≡ frames.old.items ++ stamped (self.now.taken + 1) (told_names 1 (drop 1 self.now.files.slots))) }
+        ensures ok { OnOk result (Tells self.now frames.old.items frames.new.items (told_names 1 (drop 1 self.now.files.slots))) }
         ensures memory { OnErr result (result ≡ Err HostFault.OutOfMemory) }
     {
         let tags = self.files.tags();
@@ -46,7 +46,7 @@ impl Host {
         ensures allowed { OnOk result (first_of_checks (host_checks self.old (Tmesg.Tversion offered)) ≡ None) }
         ensures host { OnOk result (self.new ≡ (reply_version self.old offered).0) }
         ensures frames { IfOk result (λ frames. frames.items ≡ stamped (self.old.taken + 1) (reply_version self.old offered).1) }
-        ensures refused { IfErr result (λ why. (why ≡ HostFault.OutOfMemory) ⊎ (first_of_checks (host_checks self.old (Tmesg.Tversion offered)) ≡ Some why)) }
+        ensures refused { Refuses self.old (Tmesg.Tversion offered) result }
         ensures count { self.new.taken ≡ self.old.taken }
         ensures unchanged { OnErr result (self.new ≡ self.old) }
     {
@@ -70,7 +70,7 @@ impl Host {
         ensures allowed { OnOk result (first_of_checks (host_checks self.old Tmesg.Tstartcmdfile) ≡ None) }
         ensures host { OnOk result (self.new ≡ (reply_startcmdfile self.old).0) }
         ensures frames { IfOk result (λ frames. frames.items ≡ stamped (self.old.taken + 1) (reply_startcmdfile self.old).1) }
-        ensures refused { IfErr result (λ why. (why ≡ HostFault.OutOfMemory) ⊎ (first_of_checks (host_checks self.old Tmesg.Tstartcmdfile) ≡ Some why)) }
+        ensures refused { Refuses self.old Tmesg.Tstartcmdfile result }
         ensures count { self.new.taken ≡ self.old.taken }
         ensures unchanged { OnErr result (self.new ≡ self.old) }
     {
@@ -92,22 +92,28 @@ impl Host {
 
     /// Answers `Tstartfile`: opens a file and makes it the work file. Its window and its length are told only if it was not open before.
     /// Errors, in this order: `NoFile`; `CommandFile`; `OutOfMemory`.
-    #[tactic(auto, using(crate::proofs::FrameLaws::stamped_append, crate::proofs::WorkLaws::put_is_work), unfolding(crate::specs::Host::reply_startfile, crate::specs::Host::when, crate::specs::Host::told_length))]
+    #[tactic(
+        auto,
+        using(
+            crate::proofs::FrameLaws::stamped_append,
+            crate::proofs::FileLaws::put_is_work
+        ),
+        unfolding(
+            crate::specs::Host::reply_startfile,
+            crate::specs::Host::when,
+            crate::specs::Host::told_length
+        )
+    )]
     pub(crate) fn start_file(&mut self, f: u16) -> Result<Vec<HFrame>, HostFault>
         requires { self.old.taken + 1 < 2 ^ 64 }
         ensures allowed { OnOk result (first_of_checks (host_checks self.old (Tmesg.Tstartfile f)) ≡ None) }
         ensures host { OnOk result (self.new ≡ (reply_startfile self.old f).0) }
         ensures frames { IfOk result (λ frames. frames.items ≡ stamped (self.old.taken + 1) (reply_startfile self.old f).1) }
-        ensures refused { IfErr result (λ why. (why ≡ HostFault.OutOfMemory) ⊎ (first_of_checks (host_checks self.old (Tmesg.Tstartfile f)) ≡ Some why)) }
+        ensures refused { Refuses self.old (Tmesg.Tstartfile f) result }
         ensures count { self.new.taken ≡ self.old.taken }
         ensures unchanged { OnErr result (self.new ≡ self.old) }
     {
-        if !self.has(f) {
-            return Err(HostFault::NoFile);
-        }
-        if f == 0 {
-            return Err(HostFault::CommandFile);
-        }
+        self.wants_other(f)?;
         let mut frames = Vec::new(self.alloc);
         if !self.is_open(f) {
             self.say(&mut frames, Hmesg::Hbindname(f))?;
@@ -121,22 +127,17 @@ impl Host {
 
     /// Answers `Tworkfile`: makes an open file the work file, with the dot from `p` to `q`. Errors, in this order: `NoFile`; `CommandFile`;
     /// `NotOpen`; `BadPosition` if the text has no such range; `OutOfMemory`.
-    #[tactic(auto, using(crate::proofs::WorkLaws::put_is_work), unfolding(crate::specs::Host::reply_workfile))]
+    #[tactic(auto, using(crate::proofs::FileLaws::put_is_work), unfolding(crate::specs::Host::reply_workfile))]
     pub(crate) fn work_file(&mut self, f: u16, p: u32, q: u32) -> Result<Vec<HFrame>, HostFault>
         requires { self.old.taken + 1 < 2 ^ 64 }
         ensures allowed { OnOk result (first_of_checks (host_checks self.old (Tmesg.Tworkfile f p q)) ≡ None) }
         ensures host { OnOk result (self.new ≡ (reply_workfile self.old f p q).0) }
         ensures frames { IfOk result (λ frames. frames.items ≡ stamped (self.old.taken + 1) (reply_workfile self.old f p q).1) }
-        ensures refused { IfErr result (λ why. (why ≡ HostFault.OutOfMemory) ⊎ (first_of_checks (host_checks self.old (Tmesg.Tworkfile f p q)) ≡ Some why)) }
+        ensures refused { Refuses self.old (Tmesg.Tworkfile f p q) result }
         ensures count { self.new.taken ≡ self.old.taken }
         ensures unchanged { OnErr result (self.new ≡ self.old) }
     {
-        if !self.has(f) {
-            return Err(HostFault::NoFile);
-        }
-        if f == 0 {
-            return Err(HostFault::CommandFile);
-        }
+        self.wants_other(f)?;
         self.wants_range(f, p, q)?;
         let mut frames = Vec::new(self.alloc);
         self.say(&mut frames, Hmesg::Hcurrent(f))?;
@@ -153,16 +154,11 @@ impl Host {
         ensures allowed { OnOk result (first_of_checks (host_checks self.old (Tmesg.Tclose f)) ≡ None) }
         ensures host { OnOk result (self.new ≡ (reply_close self.old f).0) }
         ensures frames { IfOk result (λ frames. frames.items ≡ stamped (self.old.taken + 1) (reply_close self.old f).1) }
-        ensures refused { IfErr result (λ why. (why ≡ HostFault.OutOfMemory) ⊎ (first_of_checks (host_checks self.old (Tmesg.Tclose f)) ≡ Some why)) }
+        ensures refused { Refuses self.old (Tmesg.Tclose f) result }
         ensures count { self.new.taken ≡ self.old.taken }
         ensures unchanged { OnErr result (self.new ≡ self.old) }
     {
-        if !self.has(f) {
-            return Err(HostFault::NoFile);
-        }
-        if f == 0 {
-            return Err(HostFault::CommandFile);
-        }
+        self.wants_other(f)?;
         self.wants_open(f)?;
         let mut frames = Vec::new(self.alloc);
         self.say(&mut frames, Hmesg::Hclose(f))?;
@@ -179,7 +175,7 @@ impl Host {
         ensures allowed { OnOk result (first_of_checks (host_checks self.old Tmesg.Texit) ≡ None) }
         ensures host { OnOk result (self.new ≡ (reply_exit self.old).0) }
         ensures frames { IfOk result (λ frames. frames.items ≡ stamped (self.old.taken + 1) (reply_exit self.old).1) }
-        ensures refused { IfErr result (λ why. (why ≡ HostFault.OutOfMemory) ⊎ (first_of_checks (host_checks self.old Tmesg.Texit) ≡ Some why)) }
+        ensures refused { Refuses self.old Tmesg.Texit result }
         ensures count { self.new.taken ≡ self.old.taken }
         ensures unchanged { OnErr result (self.new ≡ self.old) }
     {

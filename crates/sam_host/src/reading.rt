@@ -1,7 +1,7 @@
 //! What the host reads of its files, and the tests of a message's tag and places that several kinds share.
 
-ghost use Rattle.std.specs.Prelude.{◌≡◌, ◌≤◌, ◌∷◌, [], IfOk, OnOk, OnErr, Err, true, length};
-ghost use Rattle.sam_host.specs.Host.{unknown, not_opened, past_end, no_range};
+ghost use Rattle.std.specs.Prelude.{◌≡◌, ◌≤◌, ◌+◌, ◌∷◌, [], ◌==◌, IfOk, OnOk, OnErr, Err, true, false, length, nat_lt};
+ghost use Rattle.sam_host.specs.Host.{unknown, is_command, not_opened, past_end, no_range};
 ghost use Rattle.sam_runes.specs.Texts.{max_runes, part};
 ghost use Rattle.sam_runes.specs.Checks.{first_of_checks, unless};
 ghost use Rattle.sam_text.specs.Files.{has_file, file_at};
@@ -15,27 +15,21 @@ impl Host {
     pub(crate) fn has(&self, f: u16) -> bool
         ensures { result ≡ has_file self.now.files f }
     {
-        self.files.file(f).is_some()
+        self.files.has(f)
     }
 
     /// Returns whether the terminal has a window on the file; false if there is no file.
     pub(crate) fn is_open(&self, f: u16) -> bool
         ensures { result ≡ (file_at self.now.files f).opened }
     {
-        match self.files.file(f) {
-            Some(file) => file.is_open(),
-            None => false,
-        }
+        self.files.is_open(f)
     }
 
     /// Returns whether the file was changed since it was written or made; false if there is no file.
     pub(crate) fn is_dirty(&self, f: u16) -> bool
         ensures { result ≡ (file_at self.now.files f).dirty }
     {
-        match self.files.file(f) {
-            Some(file) => file.is_dirty(),
-            None => false,
-        }
+        self.files.is_dirty(f)
     }
 
     /// Returns how many runes the text of the file has: at most `MAX_RUNES`, and 0 if there is no file.
@@ -43,10 +37,14 @@ impl Host {
         ensures len { result ≡ length (file_at self.now.files f).text }
         ensures limit { length (file_at self.now.files f).text ≤ max_runes }
     {
-        match self.files.file(f) {
-            Some(file) => file.text().len(),
-            None => 0,
-        }
+        self.files.text_len(f) as u32
+    }
+
+    /// Returns whether the text of the file and `n` more runes together are more than 1,000,000.
+    pub(crate) fn passes_limit(&self, f: u16, n: usize) -> bool
+        ensures { result ≡ nat_lt max_runes (length (file_at self.now.files f).text + n) }
+    {
+        self.files.passes_limit(f, n)
     }
 
     /// Copies what stands in the file from place `p` to place `q`. The only error is `OutOfMemory`.
@@ -56,10 +54,22 @@ impl Host {
         ensures ok { IfOk result (λ r. r ≡ part (file_at self.now.files f).text p q) }
         ensures memory { OnErr result (result ≡ Err HostFault.OutOfMemory) }
     {
-        match self.files.file(f) {
-            Some(file) => Ok(Runes::from_slice(self.alloc, file.text().slice(p, q))?),
-            None => Ok(Runes::from_slice(self.alloc, &[])?),
+        Ok(self.files.copy_part(self.alloc, f, p, q)?)
+    }
+
+    /// Tests that the file is there, and is not the command file. Errors, in this order: `NoFile`; `CommandFile`.
+    pub(crate) fn wants_other(&self, f: u16) -> Result<(), HostFault>
+        ensures answer { result ≡ unless (first_of_checks (unknown self.now f ∷ is_command f ∷ [])) tt }
+        ensures there { OnOk result (has_file self.now.files f ≡ true) }
+        ensures other { OnOk result ((f == 0) ≡ false) }
+    {
+        if !self.has(f) {
+            return Err(HostFault::NoFile);
         }
+        if f == 0 {
+            return Err(HostFault::CommandFile);
+        }
+        Ok(())
     }
 
     /// Tests that the file is there and open. Errors, in this order: `NoFile`; `NotOpen`.
@@ -84,7 +94,7 @@ impl Host {
         ensures within { OnOk result (p ≤ length (file_at self.now.files f).text) }
     {
         self.wants_open(f)?;
-        if self.text_len(f) < p {
+        if self.files.is_past_end(f, p) {
             return Err(HostFault::BadPosition);
         }
         Ok(())
@@ -99,7 +109,7 @@ impl Host {
         ensures limit { OnOk result (q ≤ max_runes) }
     {
         self.wants_open(f)?;
-        if q < p || self.text_len(f) < q {
+        if self.files.lacks_range(f, p, q) {
             return Err(HostFault::BadPosition);
         }
         Ok(())

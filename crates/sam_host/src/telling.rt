@@ -1,9 +1,8 @@
 //! The frames that several answers share. Each function adds its frames to those of the answer, stamped with the count that the message
 //! will have. The only error of each is `OutOfMemory`, and the caller then drops the frames.
 
-ghost use Rattle.std.specs.Prelude.{◌≡◌, ◌<◌, ◌≤◌, ◌+◌, ◌++◌, ◌∷◌, [], ◌^◌, OnOk, OnErr, Err, not, ◌&&◌, ◌==◌, drop, length};
-ghost use Rattle.sam_host.specs.Host.{stamped, when, grown, told_length, printed, told_names};
-ghost use Rattle.sam_host.specs.Names.{told_at};
+ghost use Rattle.std.specs.Prelude.{◌≡◌, ◌<◌, ◌≤◌, ◌+◌, ◌++◌, ◌∷◌, [], ◌^◌, OnOk, OnErr, Err, drop, length};
+ghost use Rattle.sam_host.specs.Host.{Tells, grown, told_dirty, told_length, printed, told_at};
 ghost use Rattle.sam_runes.specs.Texts.{max_runes};
 ghost use Rattle.sam_runes.specs.Slots.{slot};
 ghost use Rattle.sam_text.specs.Files.{file_at};
@@ -12,7 +11,7 @@ ghost use Rattle.sam_mesg.specs.declared.hmesg.HFrame.{HFrame};
 use crate::fault::HostFault;
 use crate::host::Host;
 use sam_mesg::{HFrame, Hmesg};
-use sam_runes::{MAX_RUNES, MOST_IN_MESSAGE, Runes};
+use sam_runes::{MOST_IN_MESSAGE, Runes};
 
 impl Host {
     /// Adds one frame of the message that is being answered.
@@ -26,8 +25,8 @@ impl Host {
         Ok(())
     }
 
-    /// Tells that `runes` were put into the file at `p`: by `Hgrowdata` with the runes if there are at most `MOST_IN_MESSAGE`, else by
-    /// `Hgrow` with their number alone. Nothing is told if the file is not open or there are no runes.
+    /// Tells that `runes` were put into the file at `p`: by `Hgrowdata` with the runes if there are at most `MOST_IN_MESSAGE`, else by `Hgrow` with their
+    /// number alone. Nothing is told if the file is not open or there are no runes.
     #[tactic(auto, unfolding(crate::specs::Host::grown, crate::specs::Host::when))]
     pub(crate) fn grown(
         &self,
@@ -38,7 +37,7 @@ impl Host {
     ) -> Result<(), HostFault>
         requires count { self.now.taken + 1 < 2 ^ 64 }
         requires limit { length runes.now ≤ max_runes }
-        ensures ok { OnOk result (frames.new.items ≡ frames.old.items ++ stamped (self.now.taken + 1) (grown self.now.files f p runes.now)) }
+        ensures ok { OnOk result (Tells self.now frames.old.items frames.new.items (grown self.now.files f p runes.now)) }
         ensures memory { OnErr result (result ≡ Err HostFault.OutOfMemory) }
     {
         if !self.is_open(f) || runes.is_empty() {
@@ -55,7 +54,7 @@ impl Host {
     #[tactic(auto, unfolding(crate::specs::Host::when))]
     pub(crate) fn tell_dirty(&self, frames: &mut Vec<HFrame>, f: u16) -> Result<(), HostFault>
         requires count { self.now.taken + 1 < 2 ^ 64 }
-        ensures ok { OnOk result (frames.new.items ≡ frames.old.items ++ stamped (self.now.taken + 1) (when (not (file_at self.now.files f).dirty && not (f == 0)) (Hmesg.Hdirty f ∷ []))) }
+        ensures ok { OnOk result (Tells self.now frames.old.items frames.new.items (told_dirty self.now.files f)) }
         ensures memory { OnErr result (result ≡ Err HostFault.OutOfMemory) }
     {
         if self.is_dirty(f) || f == 0 {
@@ -68,7 +67,7 @@ impl Host {
     #[tactic(auto, unfolding(crate::specs::Host::told_length, crate::specs::Host::when))]
     pub(crate) fn tell_length(&self, frames: &mut Vec<HFrame>, f: u16) -> Result<(), HostFault>
         requires count { self.now.taken + 1 < 2 ^ 64 }
-        ensures ok { OnOk result (frames.new.items ≡ frames.old.items ++ stamped (self.now.taken + 1) (told_length f (file_at self.now.files f))) }
+        ensures ok { OnOk result (Tells self.now frames.old.items frames.new.items (told_length f (file_at self.now.files f))) }
         ensures memory { OnErr result (result ≡ Err HostFault.OutOfMemory) }
     {
         let len = self.text_len(f);
@@ -81,15 +80,15 @@ impl Host {
     /// Tells how a print ends: the command file's dot is empty at its new end, and the terminal is to look for gaps.
     fn end_print(&self, frames: &mut Vec<HFrame>, end: u32) -> Result<(), HostFault>
         requires count { self.now.taken + 1 < 2 ^ 64 }
-        ensures ok { OnOk result (frames.new.items ≡ frames.old.items ++ stamped (self.now.taken + 1) (Hmesg.Hsetdot 0 end end ∷ Hmesg.Hcheck 0 ∷ [])) }
+        ensures ok { OnOk result (Tells self.now frames.old.items frames.new.items (Hmesg.Hsetdot 0 end end ∷ Hmesg.Hcheck 0 ∷ [])) }
         ensures memory { OnErr result (result ≡ Err HostFault.OutOfMemory) }
     {
         self.say(frames, Hmesg::Hsetdot(0, end, end))?;
         self.say(frames, Hmesg::Hcheck(0))
     }
 
-    /// Tells what is about to be printed at the end of the command file. Nothing is told if there are no runes, if the command file has
-    /// no room for them, or if it is not open.
+    /// Tells what is about to be printed at the end of the command file. Nothing is told if there are no runes, if the command file has no
+    /// room for them, or if it is not open.
     #[tactic(auto, using(crate::proofs::FrameLaws::told_both), unfolding(crate::specs::Host::printed, crate::specs::Host::when))]
     pub(crate) fn tell_print(
         &self,
@@ -97,11 +96,11 @@ impl Host {
         runes: &[char],
     ) -> Result<(), HostFault>
         requires count { self.now.taken + 1 < 2 ^ 64 }
-        ensures ok { OnOk result (frames.new.items ≡ frames.old.items ++ stamped (self.now.taken + 1) (printed self.now.files runes.now)) }
+        ensures ok { OnOk result (Tells self.now frames.old.items frames.new.items (printed self.now.files runes.now)) }
         ensures memory { OnErr result (result ≡ Err HostFault.OutOfMemory) }
     {
         let len = self.text_len(0);
-        if runes.len() == 0 || runes.len() > MAX_RUNES as usize - len as usize {
+        if runes.len() == 0 || self.passes_limit(0, runes.len()) {
             return Ok(());
         }
         if !self.is_open(0) {
@@ -112,10 +111,10 @@ impl Host {
     }
 
     /// Tells the tag and the name of a file, if there is a file and it was not announced.
-    #[tactic(auto, unfolding(crate::specs::Host::when, crate::specs::Names::told_at))]
+    #[tactic(auto, unfolding(crate::specs::Host::when))]
     pub(crate) fn tell_name(&self, frames: &mut Vec<HFrame>, f: u16) -> Result<(), HostFault>
         requires count { self.now.taken + 1 < 2 ^ 64 }
-        ensures ok { OnOk result (frames.new.items ≡ frames.old.items ++ stamped (self.now.taken + 1) (told_at f (slot self.now.files.slots f))) }
+        ensures ok { OnOk result (Tells self.now frames.old.items frames.new.items (told_at f (slot self.now.files.slots f))) }
         ensures memory { OnErr result (result ≡ Err HostFault.OutOfMemory) }
     {
         let Some(file) = self.files.file(f) else {

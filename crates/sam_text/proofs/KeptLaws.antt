@@ -7,7 +7,7 @@ use Rattle.sam_runes.specs.Texts.{all_tags, part}
 use Rattle.sam_runes.specs.Slots.{Slots, slot, put_slot, free_slot}
 use Rattle.sam_runes.proofs.SlotLaws.{slot-put_same, slot-put_other, slot-free_same, slot-free_other, slot-map, slot_given, length-put_slot, length-free_slot, length-map_slots, put_slot-push}
 use Rattle.sam_text.specs.Files.{PlainFile, PlainFiles, blank_file, file_at, has_file, put_file, with_new, without_file, work_without, announced_file, announce_all, IsFit, HasShortName, IsWork, AreKept}
-use Rattle.sam_text.proofs.FitLaws.{fit-put}
+use Rattle.sam_text.proofs.FitLaws.{all-put, fit-put}
 use Rattle.sam_text.proofs.ViewLaws.{is_some-map}
 
 -- a tag that has a file keeps one where a file is put
@@ -17,16 +17,6 @@ given-put ss f g x e = go (eqb_tells f g)
     go : ((nat_eq f g ≡ true) × (f ≡ g)) ⊎ ((nat_eq f g ≡ false) × (f ≢ g)) → is_some (slot (put_slot ss f x) g) ≡ true
     go (inl (same, here)) = subst (λ k. is_some (slot (put_slot ss f x) k) ≡ true) here (ap is_some (slot-put_same ss f x))
     go (inr (apart, other)) = ap is_some (slot-put_other ss f g x other) ∙ e
-
--- a name that is put is short
-pub names-put : (fs : PlainFiles) (g : ℕ) (x : PlainFile) → ((f : ℕ) → HasShortName (file_at fs f)) → HasShortName x → (f : ℕ) → HasShortName (file_at (put_file fs g x) f)
-names-put fs g x all short f = go (eqb_tells g f)
-  where
-    go : ((nat_eq g f ≡ true) × (g ≡ f)) ⊎ ((nat_eq g f ≡ false) × (g ≢ f)) → HasShortName (unwrap_or (slot (put_slot fs.slots g x) f) blank_file)
-    go (inl (e, here)) =
-        subst (λ k. HasShortName (unwrap_or (slot (put_slot fs.slots g x) k) blank_file)) here
-        (subst (λ o. HasShortName (unwrap_or o blank_file)) (sym (slot-put_same fs.slots g x)) short)
-    go (inr (e, other)) = subst (λ o. HasShortName (unwrap_or o blank_file)) (sym (slot-put_other fs.slots g f x other)) (all f)
 
 work-put : (fs : PlainFiles) (g : ℕ) (x : PlainFile) (w : Option ℕ) → IfSome w (IsWork fs) → IfSome w (IsWork (put_file fs g x))
 work-put fs g x None h = tt
@@ -43,11 +33,11 @@ kept_put fs g x all there fit short =
       all.3,
       all.4,
       fit-put fs g x all.5 fit,
-      names-put fs g x all.6 short,
+      all-put HasShortName fs g x all.6 short,
     )
 
 -- what holds of every file, and of a blank one, holds of every file once one is gone
-all-free : (P : PlainFile → Type 0) (fs : PlainFiles) (g : ℕ) → P blank_file → ((f : ℕ) → P (file_at fs f)) → (f : ℕ) → P (unwrap_or (slot (free_slot fs.slots g) f) blank_file)
+pub all-free : (P : PlainFile → Type 0) (fs : PlainFiles) (g : ℕ) → P blank_file → ((f : ℕ) → P (file_at fs f)) → (f : ℕ) → P (unwrap_or (slot (free_slot fs.slots g) f) blank_file)
 all-free P fs g none all f = go (eqb_tells g f)
   where
     go : ((nat_eq g f ≡ true) × (g ≡ f)) ⊎ ((nat_eq g f ≡ false) × (g ≢ f)) → P (unwrap_or (slot (free_slot fs.slots g) f) blank_file)
@@ -92,14 +82,16 @@ kept_new fs x all free fit short =
       all.3,
       all.4,
       fit-put fs (length fs.slots) x all.5 fit,
-      names-put fs (length fs.slots) x all.6 short,
+      all-put HasShortName fs (length fs.slots) x all.6 short,
     )
 
 all-announced : (P : PlainFile → Type 0) → ((x : PlainFile) → P x → P (announced_file x)) → (o : Option PlainFile) → P (unwrap_or o blank_file) → P (unwrap_or (option_map announced_file o) blank_file)
 all-announced P step None h = h
 all-announced P step (Some x) h = step x h
 
-all-announce : (P : PlainFile → Type 0) → ((x : PlainFile) → P x → P (announced_file x)) → (ss : Slots PlainFile) → ((f : ℕ) → P (unwrap_or (slot ss f) blank_file)) → (f : ℕ) → P (unwrap_or (slot (announce_all ss) f) blank_file)
+-- what holds of every file, also once it is announced, holds of every file once all are announced
+pub all-announce : (P : PlainFile → Type 0) → ((x : PlainFile) → P x → P (announced_file x)) → (ss : Slots PlainFile)
+    → ((f : ℕ) → P (unwrap_or (slot ss f) blank_file)) → (f : ℕ) → P (unwrap_or (slot (announce_all ss) f) blank_file)
 all-announce P step [] all f = all f
 all-announce P step (s ∷ ss) all zero = all 0
 all-announce P step (s ∷ ss) all (suc f) =
@@ -133,12 +125,15 @@ kept_announce fs all =
     )
 
 -- a file is put where one was, or nothing is changed
-pub kept_put_or : {E : Type 0} (fs : PlainFiles) (g : ℕ) (x : PlainFile) → AreKept fs → has_file fs g ≡ true → (r : Result ⊤ E) (after : Slots PlainFile) → OnOk r (after ≡ put_slot fs.slots g x) → OnOk r ((IsFit x) × (HasShortName x)) → OnErr r (after ≡ fs.slots) → AreKept (record fs { slots = after })
+pub kept_put_or : {E : Type 0} (fs : PlainFiles) (g : ℕ) (x : PlainFile) → AreKept fs → has_file fs g ≡ true → (r : Result ⊤ E) (after : Slots PlainFile)
+    → OnOk r (after ≡ put_slot fs.slots g x) → OnOk r ((IsFit x) × (HasShortName x)) → OnErr r (after ≡ fs.slots) → AreKept (record fs { slots = after })
 kept_put_or fs g x all there (Ok u) after same kept err = subst (λ ss. AreKept (record fs { slots = ss })) (sym same) (kept_put fs g x all there kept.0 kept.1)
 kept_put_or fs g x all there (Err e) after same kept err = subst (λ ss. AreKept (record fs { slots = ss })) (sym err) all
 
 -- a file is added, or nothing is changed
-pub kept_new_or : {E : Type 0} (fs : PlainFiles) (x : PlainFile) → AreKept fs → length fs.slots < all_tags → IsFit x → HasShortName x → (r : Result ⊤ E) (after : Slots PlainFile) → OnOk r (after ≡ put_slot fs.slots (length fs.slots) x) → OnErr r (after ≡ fs.slots) → AreKept (record fs { slots = after })
+pub kept_new_or : {E : Type 0} (fs : PlainFiles) (x : PlainFile) → AreKept fs → length fs.slots < all_tags → IsFit x → HasShortName x
+    → (r : Result ⊤ E) (after : Slots PlainFile) → OnOk r (after ≡ put_slot fs.slots (length fs.slots) x) → OnErr r (after ≡ fs.slots)
+    → AreKept (record fs { slots = after })
 kept_new_or fs x all free fit short (Ok u) after same err = subst (λ ss. AreKept (record fs { slots = ss })) (sym same) (kept_new fs x all free fit short)
 kept_new_or fs x all free fit short (Err e) after same err = subst (λ ss. AreKept (record fs { slots = ss })) (sym err) all
 

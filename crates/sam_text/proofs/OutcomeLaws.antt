@@ -11,23 +11,23 @@ use Rattle.sam_text.specs.Ranges.{address_range}
 use Rattle.sam_text.specs.Files.{PlainFile, PlainFiles, PlainOutcome, blank_file, file_at, file_after, IsFit, IsPattern, IsWork, IsOutcomeFor, IsOutcomeOf, AreKept}
 use Rattle.sam_text.specs.Meaning.{WorkFile, meaning, work_on, work_file, line_outcome, effect_of, effect_on, effect_of_line, or_wrong, address_or_dot, address_pattern, steps_pattern, later}
 use Rattle.sam_text.proofs.ReadLaws.{CommandOk, command-read}
-use Rattle.sam_text.proofs.MeaningLaws.{line_fits}
+use Rattle.sam_text.proofs.MeaningLaws.{line_fits, without_work}
 use Rattle.sam_text.proofs.FitLaws.{fit-after}
 use Rattle.sam_text.specs.Outcomes.{Fits}
 
 -- the name and the pattern of an outcome are within their limits
-abbrev pub IsShort : PlainOutcome → Type 0
-IsShort o = (IfSome o.name (λ (name : List ℕ). length name ≤ most_in_name)) × (IfSome o.pattern IsPattern)
+abbrev pub HasShortParts : PlainOutcome → Type 0
+HasShortParts o = (IfSome o.name (λ (name : List ℕ). length name ≤ most_in_name)) × (IfSome o.pattern IsPattern)
 
-short-or : (r : Result PlainOutcome Word) → IfOk r IsShort → IsShort (or_wrong r)
+short-or : (r : Result PlainOutcome Word) → IfOk r HasShortParts → HasShortParts (or_wrong r)
 short-or (Ok o) h = h
 short-or (Err w) h = (tt, tt)
 
-short-then : {A : Type 0} (r : Result A Word) (f : A → Result PlainOutcome Word) → ((x : A) → IfOk (f x) IsShort) → IfOk (r >>= f) IsShort
+short-then : {A : Type 0} (r : Result A Word) (f : A → Result PlainOutcome Word) → ((x : A) → IfOk (f x) HasShortParts) → IfOk (r >>= f) HasShortParts
 short-then (Ok x) f step = step x
 short-then (Err e) f step = tt
 
-short-if : (b : Bool) (w : Word) (o : PlainOutcome) → IsShort o → IfOk (cond b (Err w) (Ok o)) IsShort
+short-if : (b : Bool) (w : Word) (o : PlainOutcome) → HasShortParts o → IfOk (cond b (Err w) (Ok o)) HasShortParts
 short-if true w o h = tt
 short-if false w o h = h
 
@@ -35,7 +35,7 @@ later-short : (a b : Option (List ℕ)) → IfSome a IsPattern → IfSome b IsPa
 later-short a None h k = h
 later-short a (Some p) h k = k
 
-short-on : (f : WorkFile) (c : Command) → CommandOk c → IfOk (effect_on f c) IsShort
+short-on : (f : WorkFile) (c : Command) → CommandOk c → IfOk (effect_on f c) HasShortParts
 short-on f (command.Go a) h = short-then (address_range f.text f.dot a) _ (λ r. (tt, h))
 short-on f (command.Run a ss l) h =
     short-then (address_or_dot f a) _ (λ r. short-if (nat_lt max_runes _) _ _ (tt, later-short (address_pattern a) (steps_pattern ss) h.0 h.1))
@@ -43,33 +43,21 @@ short-on f (command.Name []) h = (tt, tt)
 short-on f (command.Name (c ∷ cs)) h = (h, tt)
 short-on f command.Quit h = (tt, tt)
 
-short-of : (f : Option WorkFile) (c : Command) → CommandOk c → IfOk (effect_of f c) IsShort
+short-of : (f : Option WorkFile) (c : Command) → CommandOk c → IfOk (effect_of f c) HasShortParts
 short-of (Some f) c h = short-on f c h
 short-of None (command.Go a) h = tt
 short-of None (command.Run a ss l) h = tt
 short-of None (command.Name n) h = tt
 short-of None command.Quit h = (tt, tt)
 
-short-read : (f : Option WorkFile) (r : Result Command Word) → IfOk r CommandOk → IfOk (r >>= effect_of f) IsShort
+short-read : (f : Option WorkFile) (r : Result Command Word) → IfOk r CommandOk → IfOk (r >>= effect_of f) HasShortParts
 short-read f (Ok c) h = short-of f c h
 short-read f (Err e) h = tt
 
 -- the name and the pattern of every line
-pub line_short : (f : Option WorkFile) (line : List ℕ) → IsShort (line_outcome f line)
+pub line_short : (f : Option WorkFile) (line : List ℕ) → HasShortParts (line_outcome f line)
 unfolding line_outcome
 line_short f line = short-or (effect_of_line f line) (short-read f (command_of line) (command-read line))
-
--- without a work file no file is named
-nowhere : (line : List ℕ) → (line_outcome None line).file ≡ None
-unfolding line_outcome
-nowhere line = go (command_of line)
-  where
-    go : (r : Result Command Word) → (or_wrong (r >>= effect_of None)).file ≡ None
-    go (Err w) = refl
-    go (Ok (command.Go a)) = refl
-    go (Ok (command.Run a ss l)) = refl
-    go (Ok (command.Name n)) = refl
-    go (Ok command.Quit) = refl
 
 puts-none : (fs : PlainFiles) (o : PlainOutcome) → o.file ≡ None → IfSome o.file (IsOutcomeFor fs o)
 puts-none fs o e = subst (λ x. IfSome x (IsOutcomeFor fs o)) (sym e) tt
@@ -82,11 +70,11 @@ puts-some fs o (Some g) h = h g refl
 pub meaning_puts : (fs : PlainFiles) (line : List ℕ) → AreKept fs → IsOutcomeOf fs (meaning fs line)
 meaning_puts fs line all = (go fs.work all.2, short.0, short.1)
   where
-    short : IsShort (meaning fs line)
+    short : HasShortParts (meaning fs line)
     short = line_short (work_file fs) line
 
     at : (g : ℕ) (s : Option PlainFile) → slot fs.slots g ≡ s → IsWork fs g → (let o = line_outcome (option_map (work_on g) s) line in IfSome o.file (IsOutcomeFor fs o))
-    at g None e w = puts-none fs (line_outcome None line) (nowhere line)
+    at g None e w = puts-none fs (line_outcome None line) (without_work line).0
     at g (Some file) e w =
         let here : file_at fs g ≡ file = ap (λ x. unwrap_or x blank_file) e in
         let fit : IsFit file = subst IsFit here (all.5 g) in
@@ -96,15 +84,17 @@ meaning_puts fs line all = (go fs.work all.2, short.0, short.1)
         (λ k i. subst (λ n. IsOutcomeFor fs o n) (sym (fits.own k i)) (w, subst (λ x. IsFit (file_after x o)) (sym here) (fit-after g file o fit fits)))
 
     go : (x : Option ℕ) → IfSome x (IsWork fs) → (let o = line_outcome (option_and_then (λ g. option_map (work_on g) (slot fs.slots g)) x) line in IfSome o.file (IsOutcomeFor fs o))
-    go None w = puts-none fs (line_outcome None line) (nowhere line)
+    go None w = puts-none fs (line_outcome None line) (without_work line).0
     go (Some g) w = at g (slot fs.slots g) refl w
 
--- an outcome that can be put in leaves its file fit, and its name short
-named-within : (name : Option (List ℕ)) (old : List ℕ) → IfSome name (λ (name : List ℕ). length name ≤ most_in_name) → length old ≤ most_in_name → length (unwrap_or name old) ≤ most_in_name
+-- a name within the limit, or the old one, is within the limit
+pub named-within : (name : Option (List ℕ)) (old : List ℕ) → IfSome name (λ (name : List ℕ). length name ≤ most_in_name) → length old ≤ most_in_name → length (unwrap_or name old) ≤ most_in_name
 named-within None old h k = k
 named-within (Some n) old h k = h
 
-pub puts_there : (fs : PlainFiles) (o : PlainOutcome) (f : ℕ) → AreKept fs → IsOutcomeOf fs o → o.file ≡ Some f → (IsFit (file_after (file_at fs f) o)) × (length (unwrap_or o.name (file_at fs f).name) ≤ most_in_name)
+-- an outcome that can be put in leaves its file fit, and its name short
+pub puts_there : (fs : PlainFiles) (o : PlainOutcome) (f : ℕ) → AreKept fs → IsOutcomeOf fs o → o.file ≡ Some f
+    → (IsFit (file_after (file_at fs f) o)) × (length (unwrap_or o.name (file_at fs f).name) ≤ most_in_name)
 puts_there fs o f all puts e =
     let there : IsOutcomeFor fs o f = subst (λ y. IfSome y (IsOutcomeFor fs o)) e puts.0 in
     (there.1, named-within o.name (file_at fs f).name puts.1 (all.6 f))

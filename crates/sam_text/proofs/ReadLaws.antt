@@ -38,6 +38,7 @@ pattern_end n p same false true e f = tt
 pattern_end zero p same false false e f = absurd (cc)
 pattern_end (suc n) p same false false e f = let m = ltb-false most_in_pattern (suc n) f in (omega (arith, same), omega (arith, same, m))
 
+-- a pattern that is read is within its limits
 pub pattern-read : (line : List ℕ) → IfOk (pattern_at line) (λ (p : List ℕ × List ℕ). IsPattern p.0)
 unfolding pattern_at
 pattern-read line = ok_any (λ (p : List ℕ × List ℕ). IsPattern p.0) (quoted true false line) _ (λ p. pattern_end (length p.0) p refl _ _ refl refl)
@@ -92,7 +93,8 @@ address-read line = ok_then SideOk (λ (x : Option Address × List ℕ). Address
 abbrev pub ChainOk : List Step × Last → Type 0
 ChainOk x = IfSome (steps_pattern x.0) IsPattern
 
-head-ok : {A : Type 0} (P : A → Type 0) (line : List ℕ) (none : Result A Word) (some : ℕ → List ℕ → Result A Word) → IfOk none P → ((c : ℕ) (cs : List ℕ) → IfOk (some c cs) P) → IfOk (at_head line none some) P
+head-ok : {A : Type 0} (P : A → Type 0) (line : List ℕ) (none : Result A Word) (some : ℕ → List ℕ → Result A Word) → IfOk none P
+    → ((c : ℕ) (cs : List ℕ) → IfOk (some c cs) P) → IfOk (at_head line none some) P
 head-ok P [] none some h step = h
 head-ok P (c ∷ cs) none some h step = step c cs
 
@@ -135,6 +137,7 @@ behind-read (Some a) (c ∷ cs) h = ok_then ChainOk CommandOk (chain_at (length 
 ended-quit : (line : List ℕ) → IfOk (ended command.Quit line) CommandOk
 ended-quit line = ok_if CommandOk (length (skip line) == 0) (Ok command.Quit) (Err word.Command) tt tt
 
+-- each pattern of a command that is read, and its name, are within their limits
 pub command-read : (line : List ℕ) → IfOk (command_of line) CommandOk
 unfolding command_of
 command-read line =

@@ -1,11 +1,11 @@
 //! The calls that change files and check their arguments. After an error the files and their rooms are unchanged. Every text that
 //! a call does not change keeps its room, unless the call is there to make room in it.
 
-ghost use Rattle.std.specs.Prelude.{◌≡◌, ◌<◌, ◌≤◌, ◌+◌, ◌-◌, ◌∷◌, [], IsOk, OnOk, OnErr, IfOk, IfErr, Err, Some, None, true, false, length, ◌&&◌, not};
+ghost use Rattle.std.specs.Prelude.{◌≡◌, ◌<◌, ◌≤◌, ◌+◌, ◌-◌, ◌∷◌, [], OnOk, OnErr, IfOk, Err, Some, None, true, false, length};
 ghost use Rattle.sam_runes.specs.Checks.{first_of_checks, unless};
-ghost use Rattle.sam_runes.specs.Texts.{max_runes, all_tags, part, word_at, is_empty, most_in_name};
-ghost use Rattle.sam_text.specs.Files.{PlainFile, blank_file, file_at, has_file, put_file, no_file, past_end, no_range, too_long, no_tag, with_dot, with_work, with_new, new_file, without_file, opened_file, announced_file, written_file, typed_file, cut_file, pasted_file, has_room, is_printed, after_print, IsFault, search_of, with_found, may_look, look_of, with_look};
-ghost use Rattle.sam_text.specs.Views.{room_at, KeepRooms, KeepRoomsBut};
+ghost use Rattle.sam_runes.specs.Texts.{max_runes, word_at, most_in_name};
+ghost use Rattle.sam_text.specs.Files.{blank_file, file_at, has_file, part_at, change_file, too_long, no_tag, file_checks, place_checks, range_checks, insert_checks, room_checks, IsChecked, with_dot, with_work, with_new, new_file, without_file, opened_file, announced_file, written_file, typed_file, cut_file, pasted_file, has_room, is_printed, after_print, search_of, with_found, may_look, look_of, with_look};
+ghost use Rattle.sam_text.specs.Views.{room_at, StaysInRoom, KeepRooms, KeepRoomsBut};
 
 use crate::fault::FilesFault;
 use crate::file::{File, FileChange};
@@ -16,7 +16,7 @@ use std::alloc::Global;
 impl Files {
     /// Returns `NoFile` if the tag has no file.
     fn wants_file(&self, tag: u16) -> Result<(), FilesFault>
-        ensures answer { result ≡ unless (first_of_checks (no_file self.now.plain tag ∷ [])) tt }
+        ensures answer { result ≡ unless (first_of_checks (file_checks self.now.plain tag)) tt }
         ensures there { OnOk result (has_file self.now.plain tag ≡ true) }
     {
         if !self.has(tag) {
@@ -27,14 +27,12 @@ impl Files {
 
     /// Returns `NoFile` if the tag has no file, or else `BadPosition` if `p` is past the end of its text.
     fn wants_place(&self, tag: u16, p: u32) -> Result<(), FilesFault>
-        ensures answer { result ≡ unless (first_of_checks (no_file self.now.plain tag ∷ past_end self.now.plain tag p ∷ [])) tt }
+        ensures answer { result ≡ unless (first_of_checks (place_checks self.now.plain tag p)) tt }
         ensures there { OnOk result (has_file self.now.plain tag ≡ true) }
         ensures within { OnOk result (p ≤ length (file_at self.now.plain tag).text) }
     {
-        if !self.has(tag) {
-            return Err(FilesFault::NoFile);
-        }
-        if self.text_len(tag) < p as usize {
+        self.wants_file(tag)?;
+        if self.is_past_end(tag, p) {
             return Err(FilesFault::BadPosition);
         }
         Ok(())
@@ -42,14 +40,12 @@ impl Files {
 
     /// Returns `NoFile` if the tag has no file, or else `BadPosition` if `q` is less than `p` or past the end of its text.
     fn wants_range(&self, tag: u16, p: u32, q: u32) -> Result<(), FilesFault>
-        ensures answer { result ≡ unless (first_of_checks (no_file self.now.plain tag ∷ no_range self.now.plain tag p q ∷ [])) tt }
+        ensures answer { result ≡ unless (first_of_checks (range_checks self.now.plain tag p q)) tt }
         ensures there { OnOk result (has_file self.now.plain tag ≡ true) }
         ensures within { OnOk result ((p ≤ q) × (q ≤ length (file_at self.now.plain tag).text)) }
     {
-        if !self.has(tag) {
-            return Err(FilesFault::NoFile);
-        }
-        if q < p || self.text_len(tag) < q as usize {
+        self.wants_file(tag)?;
+        if self.lacks_range(tag, p, q) {
             return Err(FilesFault::BadPosition);
         }
         Ok(())
@@ -59,7 +55,7 @@ impl Files {
     /// the caller makes sure that it is not 0. The only error is `NoFile` if the tag has no file; the files are then unchanged.
     pub fn close(&mut self, tag: u16) -> Result<(), FilesFault>
         requires { 0 < tag }
-        ensures answer { result ≡ unless (first_of_checks (no_file self.old.plain tag ∷ [])) tt }
+        ensures answer { result ≡ unless (first_of_checks (file_checks self.old.plain tag)) tt }
         ensures done { OnOk result (self.new.plain ≡ without_file self.old.plain tag) }
         ensures rooms { KeepRooms self.old self.new }
         ensures unchanged { OnErr result (self.new ≡ self.old) }
@@ -74,28 +70,24 @@ impl Files {
     /// Errors, in this order: `NoFile` if the tag has no file; `OutOfMemory`. After an error the files are unchanged.
     pub fn write(&mut self, alloc: Global, tag: u16) -> Result<(), FilesFault>
         requires { 0 < tag }
-        ensures allowed { OnOk result (first_of_checks (no_file self.old.plain tag ∷ []) ≡ None) }
-        ensures refused { IfErr result (IsFault (first_of_checks (no_file self.old.plain tag ∷ []))) }
-        ensures done { OnOk result (self.new.plain ≡ put_file self.old.plain tag (written_file (file_at self.old.plain tag))) }
+        ensures checked { IsChecked (file_checks self.old.plain tag) result }
+        ensures done { OnOk result (self.new.plain ≡ change_file self.old.plain tag written_file) }
         ensures rooms { KeepRooms self.old self.new }
         ensures unchanged { OnErr result (self.new ≡ self.old) }
     {
         self.wants_file(tag)?;
-        let copy = match self.copy_text(alloc, tag) {
-            Ok(copy) => copy,
-            Err(_) => return Err(FilesFault::OutOfMemory),
-        };
+        let copy = self.copy_text(alloc, tag)?;
         self.change(tag, FileChange::Saved(copy));
         Ok(())
     }
 
     /// Makes a file the work file, and sets its dot to the range from place `p` to place `q`. The caller makes sure that the tag isn't 0.
     ///
-    /// Errors, in this order: `NoFile` if the tag has no file; `BadPosition` if `q` is less than `p` or past the end of the text. After
-    /// an error the files are unchanged.
+    /// Errors, in this order: `NoFile` if the tag has no file; `BadPosition` if `q` is less than `p` or past the end of the text. After an
+    /// error the files are unchanged.
     pub fn set_work(&mut self, tag: u16, p: u32, q: u32) -> Result<(), FilesFault>
         requires { 0 < tag }
-        ensures answer { result ≡ unless (first_of_checks (no_file self.old.plain tag ∷ no_range self.old.plain tag p q ∷ [])) tt }
+        ensures answer { result ≡ unless (first_of_checks (range_checks self.old.plain tag p q)) tt }
         ensures done { OnOk result (self.new.plain ≡ with_work self.old.plain tag p q) }
         ensures rooms { KeepRooms self.old self.new }
         ensures unchanged { OnErr result (self.new ≡ self.old) }
@@ -109,8 +101,8 @@ impl Files {
     /// Marks a file as open: the terminal has a window on it. The only error is `NoFile` if the tag has no file; the files are then
     /// unchanged.
     pub fn open(&mut self, tag: u16) -> Result<(), FilesFault>
-        ensures answer { result ≡ unless (first_of_checks (no_file self.old.plain tag ∷ [])) tt }
-        ensures done { OnOk result (self.new.plain ≡ put_file self.old.plain tag (opened_file (file_at self.old.plain tag))) }
+        ensures answer { result ≡ unless (first_of_checks (file_checks self.old.plain tag)) tt }
+        ensures done { OnOk result (self.new.plain ≡ change_file self.old.plain tag opened_file) }
         ensures rooms { KeepRooms self.old self.new }
         ensures unchanged { OnErr result (self.new ≡ self.old) }
     {
@@ -122,8 +114,8 @@ impl Files {
     /// Marks a file as announced: the terminal was told its name. The only error is `NoFile` if the tag has no file; the files are then
     /// unchanged.
     pub fn announce(&mut self, tag: u16) -> Result<(), FilesFault>
-        ensures answer { result ≡ unless (first_of_checks (no_file self.old.plain tag ∷ [])) tt }
-        ensures done { OnOk result (self.new.plain ≡ put_file self.old.plain tag (announced_file (file_at self.old.plain tag))) }
+        ensures answer { result ≡ unless (first_of_checks (file_checks self.old.plain tag)) tt }
+        ensures done { OnOk result (self.new.plain ≡ change_file self.old.plain tag announced_file) }
         ensures rooms { KeepRooms self.old self.new }
         ensures unchanged { OnErr result (self.new ≡ self.old) }
     {
@@ -134,10 +126,10 @@ impl Files {
 
     /// Sets the dot of a file to the range from place `p` to place `q`.
     ///
-    /// Errors, in this order: `NoFile` if the tag has no file; `BadPosition` if `q` is less than `p` or past the end of the text. After
-    /// an error the files are unchanged.
+    /// Errors, in this order: `NoFile` if the tag has no file; `BadPosition` if `q` is less than `p` or past the end of the text. After an
+    /// error the files are unchanged.
     pub fn set_dot(&mut self, tag: u16, p: u32, q: u32) -> Result<(), FilesFault>
-        ensures answer { result ≡ unless (first_of_checks (no_file self.old.plain tag ∷ no_range self.old.plain tag p q ∷ [])) tt }
+        ensures answer { result ≡ unless (first_of_checks (range_checks self.old.plain tag p q)) tt }
         ensures done { OnOk result (self.new.plain ≡ with_dot self.old.plain tag p q) }
         ensures rooms { KeepRooms self.old self.new }
         ensures unchanged { OnErr result (self.new ≡ self.old) }
@@ -150,11 +142,11 @@ impl Files {
     /// Deletes the runes of a file from place `p` to place `q`. Dot is then the empty range at `p`, and the file becomes dirty, unless it
     /// is the command file. No memory is asked for.
     ///
-    /// Errors, in this order: `NoFile` if the tag has no file; `BadPosition` if `q` is less than `p` or past the end of the text. After
-    /// an error the files are unchanged.
+    /// Errors, in this order: `NoFile` if the tag has no file; `BadPosition` if `q` is less than `p` or past the end of the text. After an
+    /// error the files are unchanged.
     pub fn delete(&mut self, tag: u16, p: u32, q: u32) -> Result<(), FilesFault>
-        ensures answer { result ≡ unless (first_of_checks (no_file self.old.plain tag ∷ no_range self.old.plain tag p q ∷ [])) tt }
-        ensures done { OnOk result (self.new.plain ≡ put_file self.old.plain tag (cut_file tag (file_at self.old.plain tag) p q)) }
+        ensures answer { result ≡ unless (first_of_checks (range_checks self.old.plain tag p q)) tt }
+        ensures done { OnOk result (self.new.plain ≡ change_file self.old.plain tag (λ file. cut_file tag file p q)) }
         ensures rooms { KeepRooms self.old self.new }
         ensures unchanged { OnErr result (self.new ≡ self.old) }
     {
@@ -164,22 +156,23 @@ impl Files {
     }
 
     /// Puts `runes` in a file at place `p`. Dot is then the empty range after them, and the file becomes dirty, unless it is the command
-    /// file. Within the room of the file no memory is asked for, only what stands after `p` is moved, and the room shrinks by no more
-    /// than what is put in.
+    /// file. Within the room of the file no memory is asked for, only what stands after `p` is moved, and the room shrinks by no more than
+    /// what is put in.
     ///
     /// Errors, in this order: `NoFile` if the tag has no file; `BadPosition` if `p` is past the end of the text; `TooLong` if the text
     /// would have more than `MAX_RUNES` runes; `OutOfMemory`. After an error the files and their rooms are unchanged.
     pub fn insert(&mut self, tag: u16, p: u32, runes: &[char]) -> Result<(), FilesFault>
-        ensures allowed { OnOk result (first_of_checks (no_file self.old.plain tag ∷ past_end self.old.plain tag p ∷ too_long (length (file_at self.old.plain tag).text + length runes.now) ∷ []) ≡ None) }
-        ensures refused { IfErr result (IsFault (first_of_checks (no_file self.old.plain tag ∷ past_end self.old.plain tag p ∷ too_long (length (file_at self.old.plain tag).text + length runes.now) ∷ []))) }
-        ensures done { OnOk result (self.new.plain ≡ put_file self.old.plain tag (typed_file tag (file_at self.old.plain tag) p runes.now)) }
+        ensures checked { IsChecked (insert_checks self.old.plain tag p (length runes.now)) result }
+        ensures done { OnOk result (self.new.plain ≡ change_file self.old.plain tag (λ file. typed_file tag file p runes.now)) }
         ensures unchanged { OnErr result (self.new ≡ self.old) }
-        ensures memory { length runes.now ≤ room_at self.old.rooms tag → result ≡ unless (first_of_checks (no_file self.old.plain tag ∷ past_end self.old.plain tag p ∷ too_long (length (file_at self.old.plain tag).text + length runes.now) ∷ [])) tt }
-        ensures room { OnOk result (length runes.now ≤ room_at self.old.rooms tag → room_at self.old.rooms tag ≤ room_at self.new.rooms tag + length runes.now) }
+        ensures memory { length runes.now ≤ room_at self.old.rooms tag →
+            result ≡ unless (first_of_checks (insert_checks self.old.plain tag p (length runes.now))) tt }
+        ensures room { OnOk result (length runes.now ≤ room_at self.old.rooms tag →
+            room_at self.old.rooms tag ≤ room_at self.new.rooms tag + length runes.now) }
         ensures rooms { KeepRooms self.old self.new }
     {
         self.wants_place(tag, p)?;
-        if runes.len() > MAX_RUNES as usize - self.text_len(tag) {
+        if self.passes_limit(tag, runes.len()) {
             return Err(FilesFault::TooLong);
         }
         let end = p + runes.len() as u32;
@@ -192,19 +185,18 @@ impl Files {
     /// Errors, in this order: `NoFile` if the tag has no file; `TooLong` if the length and `n` together are more than `MAX_RUNES`;
     /// `OutOfMemory`. After an error all rooms are unchanged.
     pub fn reserve(&mut self, tag: u16, n: u32) -> Result<(), FilesFault>
-        ensures allowed { OnOk result (first_of_checks (no_file self.old.plain tag ∷ too_long (length (file_at self.old.plain tag).text + n) ∷ []) ≡ None) }
-        ensures refused { IfErr result (IsFault (first_of_checks (no_file self.old.plain tag ∷ too_long (length (file_at self.old.plain tag).text + n) ∷ []))) }
+        ensures checked { IsChecked (room_checks self.old.plain tag n) result }
         ensures unchanged { self.new.plain ≡ self.old.plain }
         ensures room { OnOk result (n ≤ room_at self.new.rooms tag) }
         // Where that room is there already, it takes no memory and changes nothing.
         ensures there { n ≤ room_at self.old.rooms tag → self.new ≡ self.old }
         ensures memory { n ≤ room_at self.old.rooms tag →
-            result ≡ unless (first_of_checks (no_file self.old.plain tag ∷ too_long (length (file_at self.old.plain tag).text + n) ∷ [])) tt }
+            result ≡ unless (first_of_checks (room_checks self.old.plain tag n)) tt }
         ensures err { OnErr result (self.new ≡ self.old) }
         ensures rooms { KeepRoomsBut (Some tag) self.old self.new }
     {
         self.wants_file(tag)?;
-        if n as usize > MAX_RUNES as usize - self.text_len(tag) {
+        if self.passes_limit(tag, n as usize) {
             return Err(FilesFault::TooLong);
         }
         self.make_room(tag, n)
@@ -215,18 +207,15 @@ impl Files {
     /// Errors, in this order: `NoFile` if the tag has no file; `BadPosition` if `q` is less than `p` or past the end of the text;
     /// `OutOfMemory`. After an error the files and the snarf buffer are unchanged.
     pub fn snarf(&mut self, alloc: Global, tag: u16, p: u32, q: u32) -> Result<u32, FilesFault>
-        ensures allowed { IfOk result (λ n. (first_of_checks (no_file self.old.plain tag ∷ no_range self.old.plain tag p q ∷ []) ≡ None) × (n ≡ q - p)) }
-        ensures refused { IfErr result (IsFault (first_of_checks (no_file self.old.plain tag ∷ no_range self.old.plain tag p q ∷ []))) }
-        ensures done { OnOk result (self.new.plain ≡ record self.old.plain { snarf = part (file_at self.old.plain tag).text p q }) }
+        ensures checked { IsChecked (range_checks self.old.plain tag p q) result }
+        ensures count { IfOk result (λ n. n ≡ q - p) }
+        ensures done { OnOk result (self.new.plain ≡ record self.old.plain { snarf = part_at self.old.plain tag p q }) }
         ensures rooms { KeepRooms self.old self.new }
         ensures unchanged { OnErr result (self.new ≡ self.old) }
     {
         self.wants_range(tag, p, q)?;
         self.known_file(tag);
-        let runes = match self.copy_part(alloc, tag, p, q) {
-            Ok(runes) => runes,
-            Err(_) => return Err(FilesFault::OutOfMemory),
-        };
+        let runes = self.copy_part(alloc, tag, p, q)?;
         self.put_snarf(runes);
         Ok(q - p)
     }
@@ -235,8 +224,8 @@ impl Files {
     ///
     /// Errors, in this order: `TooLong` if there are more than `MAX_RUNES`; `OutOfMemory`. After an error the snarf buffer is unchanged.
     pub fn set_snarf(&mut self, alloc: Global, runes: &[char]) -> Result<(), FilesFault>
-        ensures allowed { OnOk result (length runes.now ≤ max_runes) }
-        ensures refused { IfErr result (IsFault (first_of_checks (too_long (length runes.now) ∷ []))) }
+        ensures checked { IsChecked (too_long (length runes.now) ∷ []) result }
+        ensures limit { OnOk result (length runes.now ≤ max_runes) }
         ensures done { OnOk result (self.new.plain ≡ record self.old.plain { snarf = runes.now }) }
         ensures rooms { KeepRooms self.old self.new }
         ensures unchanged { OnErr result (self.new ≡ self.old) }
@@ -244,10 +233,7 @@ impl Files {
         if runes.len() > MAX_RUNES as usize {
             return Err(FilesFault::TooLong);
         }
-        let copy = match Runes::from_slice(alloc, runes) {
-            Ok(copy) => copy,
-            Err(_) => return Err(FilesFault::OutOfMemory),
-        };
+        let copy = Runes::from_slice(alloc, runes)?;
         self.put_snarf(copy);
         Ok(())
     }
@@ -258,7 +244,8 @@ impl Files {
     /// Errors, in this order: `NoFile` if the tag has no file; `BadPosition` if `p` is past the end of the text. After an error the files
     /// are unchanged.
     pub fn double_click(&mut self, tag: u16, p: u32) -> Result<(u32, u32), FilesFault>
-        ensures answer { result ≡ unless (first_of_checks (no_file self.old.plain tag ∷ past_end self.old.plain tag p ∷ [])) (word_at (file_at self.old.plain tag).text p) }
+        ensures answer { result
+            ≡ unless (first_of_checks (place_checks self.old.plain tag p)) (word_at (file_at self.old.plain tag).text p) }
         ensures done { IfOk result (λ dot. self.new.plain ≡ with_dot self.old.plain tag dot.0 dot.1) }
         ensures rooms { KeepRooms self.old self.new }
         ensures unchanged { OnErr result (self.new ≡ self.old) }
@@ -269,8 +256,8 @@ impl Files {
         Ok((start, end))
     }
 
-    /// Adds a file with copies of this name and text under the next tag, and returns the tag. The file is clean, closed and not
-    /// announced. The caller makes sure that the name has at most `MOST_IN_NAME` runes.
+    /// Adds a file with copies of this name and text under the next tag, and returns the tag. The file is clean, closed and not announced.
+    /// The caller makes sure that the name has at most `MOST_IN_NAME` runes.
     ///
     /// Errors, in this order: `TooLong` if the text has more than `MAX_RUNES` runes; `NoTag` if all tags were given; `OutOfMemory`.
     /// After an error the files are unchanged.
@@ -281,8 +268,7 @@ impl Files {
         text: &[char],
     ) -> Result<u16, FilesFault>
         requires { length name.now ≤ most_in_name }
-        ensures allowed { OnOk result (first_of_checks (too_long (length text.now) ∷ no_tag self.old.plain ∷ []) ≡ None) }
-        ensures refused { IfErr result (IsFault (first_of_checks (too_long (length text.now) ∷ no_tag self.old.plain ∷ []))) }
+        ensures checked { IsChecked (too_long (length text.now) ∷ no_tag self.old.plain ∷ []) result }
         ensures tag { IfOk result (λ tag. tag ≡ length self.old.plain.slots) }
         ensures done { OnOk result (self.new.plain ≡ with_new self.old.plain (record blank_file { name = name.now; text = text.now })) }
         ensures unchanged { OnErr result (self.new ≡ self.old) }
@@ -294,10 +280,7 @@ impl Files {
         if self.tags() >= ALL_TAGS {
             return Err(FilesFault::NoTag);
         }
-        let name = match Runes::from_slice(alloc, name) {
-            Ok(name) => name,
-            Err(_) => return Err(FilesFault::OutOfMemory),
-        };
+        let name = Runes::from_slice(alloc, name)?;
         let text = match Text::from_runes(alloc, text) {
             Ok(text) => text,
             Err(_) => return Err(FilesFault::OutOfMemory),
@@ -305,14 +288,13 @@ impl Files {
         self.add_file(name, text)
     }
 
-    /// Adds a file of this name and text, which are not copied, under the next tag, and returns the tag. The file is clean, closed and
-    /// not announced. The caller makes sure that the name has at most `MOST_IN_NAME` runes.
+    /// Adds a file of this name and text, which are not copied, under the next tag, and returns the tag. The file is clean, closed and not
+    /// announced. The caller makes sure that the name has at most `MOST_IN_NAME` runes.
     ///
     /// Errors, in this order: `NoTag` if all tags were given; `OutOfMemory`. After an error the files are unchanged.
     pub fn add_file(&mut self, name: Runes, text: Text) -> Result<u16, FilesFault>
         requires { length name ≤ most_in_name }
-        ensures allowed { OnOk result (first_of_checks (no_tag self.old.plain ∷ []) ≡ None) }
-        ensures refused { IfErr result (IsFault (first_of_checks (no_tag self.old.plain ∷ []))) }
+        ensures checked { IsChecked (no_tag self.old.plain ∷ []) result }
         ensures tag { IfOk result (λ tag. tag ≡ length self.old.plain.slots) }
         ensures done { OnOk result (self.new.plain ≡ with_new self.old.plain (record blank_file { name = name; text = text.runes })) }
         ensures unchanged { OnErr result (self.new ≡ self.old) }
@@ -326,13 +308,12 @@ impl Files {
         Ok(tag as u16)
     }
 
-    /// Adds a file for the terminal under the next tag, and returns the tag. The file has an empty text and no name, and it is clean,
-    /// open and announced.
+    /// Adds a file for the terminal under the next tag, and returns the tag. The file has an empty text and no name, and it is clean, open
+    /// and announced.
     ///
     /// Errors, in this order: `NoTag` if all tags were given; `OutOfMemory`. After an error the files are unchanged.
     pub fn start_file(&mut self, alloc: Global) -> Result<u16, FilesFault>
-        ensures allowed { OnOk result (first_of_checks (no_tag self.old.plain ∷ []) ≡ None) }
-        ensures refused { IfErr result (IsFault (first_of_checks (no_tag self.old.plain ∷ []))) }
+        ensures checked { IsChecked (no_tag self.old.plain ∷ []) result }
         ensures tag { IfOk result (λ tag. tag ≡ length self.old.plain.slots) }
         ensures done { OnOk result (self.new.plain ≡ with_new self.old.plain new_file) }
         ensures unchanged { OnErr result (self.new ≡ self.old) }
@@ -347,8 +328,8 @@ impl Files {
     }
 
     /// Searches a file for what stands in it from place `p` to place `q`: that becomes the pattern, and its first occurrence from `q` on,
-    /// or else the first of the text, becomes dot. Returns the new dot. There is always one, since the range itself is an occurrence; but
-    /// if the range is empty or longer than `MOST_IN_PATTERN` runes, the call returns `None`, changes nothing, and asks for no memory.
+    /// or else the first of the text, becomes dot. Returns the new dot. There is always one, since the range itself is an occurrence;
+    /// but if the range is empty or longer than `MOST_IN_PATTERN` runes, the call returns `None`, changes nothing, and asks for no memory.
     ///
     /// Errors, in this order: `NoFile` if the tag has no file; `BadPosition` if `q` is less than `p` or past the end of the text;
     /// `OutOfMemory`. After an error files and pattern are unchanged.
@@ -359,13 +340,12 @@ impl Files {
         p: u32,
         q: u32,
     ) -> Result<Option<(u32, u32)>, FilesFault>
-        ensures allowed { OnOk result (first_of_checks (no_file self.old.plain tag ∷ no_range self.old.plain tag p q ∷ []) ≡ None) }
-        ensures refused { IfErr result (IsFault (first_of_checks (no_file self.old.plain tag ∷ no_range self.old.plain tag p q ∷ []))) }
-        ensures found { IfOk result (λ found. found ≡ look_of (file_at self.old.plain tag).text (part (file_at self.old.plain tag).text p q) q) }
-        ensures done { OnOk result (self.new.plain ≡ with_look self.old.plain tag (part (file_at self.old.plain tag).text p q) q) }
+        ensures checked { IsChecked (range_checks self.old.plain tag p q) result }
+        ensures found { IfOk result (λ found. found ≡ look_of self.old.plain tag (part_at self.old.plain tag p q) q) }
+        ensures done { OnOk result (self.new.plain ≡ with_look self.old.plain tag (part_at self.old.plain tag p q) q) }
         // A range that may not be a pattern asks for no memory.
-        ensures memory { may_look (part (file_at self.old.plain tag).text p q) ≡ false →
-            result ≡ unless (first_of_checks (no_file self.old.plain tag ∷ no_range self.old.plain tag p q ∷ [])) None }
+        ensures memory { may_look (part_at self.old.plain tag p q) ≡ false →
+            result ≡ unless (first_of_checks (range_checks self.old.plain tag p q)) None }
         ensures rooms { KeepRooms self.old self.new }
         ensures unchanged { OnErr result (self.new ≡ self.old) }
     {
@@ -374,10 +354,7 @@ impl Files {
         if lit.is_empty() || lit.len() > MOST_IN_PATTERN {
             return Ok(None);
         }
-        let pattern = match Runes::from_slice(alloc, lit) {
-            Ok(pattern) => pattern,
-            Err(_) => return Err(FilesFault::OutOfMemory),
-        };
+        let pattern = Runes::from_slice(alloc, lit)?;
         let found = self.find(tag, lit, q);
         self.put_pattern(pattern);
         if let Some((start, end)) = found {
@@ -390,10 +367,10 @@ impl Files {
     /// becomes dot. Returns the new dot. If there is no pattern or it stands nowhere, returns `None` and changes nothing. Place `p` is
     /// only checked.
     ///
-    /// Errors, in this order: `NoFile` if the tag has no file; `BadPosition` if `q` is less than `p` or past the end of the text. After
-    /// an error the files are unchanged.
+    /// Errors, in this order: `NoFile` if the tag has no file; `BadPosition` if `q` is less than `p` or past the end of the text. After an
+    /// error the files are unchanged.
     pub fn search(&mut self, tag: u16, p: u32, q: u32) -> Result<Option<(u32, u32)>, FilesFault>
-        ensures answer { result ≡ unless (first_of_checks (no_file self.old.plain tag ∷ no_range self.old.plain tag p q ∷ [])) (search_of self.old.plain tag q) }
+        ensures answer { result ≡ unless (first_of_checks (range_checks self.old.plain tag p q)) (search_of self.old.plain tag q) }
         ensures done { OnOk result (self.new.plain ≡ with_found self.old.plain tag (search_of self.old.plain tag q)) }
         ensures rooms { KeepRooms self.old self.new }
         ensures unchanged { OnErr result (self.new ≡ self.old) }
@@ -412,14 +389,13 @@ impl Files {
     /// Errors, in this order: `NoFile` if the tag has no file; `BadPosition` if `p` is past the end of the text; `TooLong` if the text
     /// would have more than `MAX_RUNES` runes; `OutOfMemory`. After an error the files and their rooms are unchanged.
     pub fn paste(&mut self, tag: u16, p: u32) -> Result<(), FilesFault>
-        ensures allowed { OnOk result (first_of_checks (no_file self.old.plain tag ∷ past_end self.old.plain tag p ∷ too_long (length (file_at self.old.plain tag).text + length self.old.plain.snarf) ∷ []) ≡ None) }
-        ensures refused { IfErr result (IsFault (first_of_checks (no_file self.old.plain tag ∷ past_end self.old.plain tag p ∷ too_long (length (file_at self.old.plain tag).text + length self.old.plain.snarf) ∷ []))) }
-        ensures done { OnOk result (self.new.plain ≡ put_file self.old.plain tag (pasted_file tag (file_at self.old.plain tag) p self.old.plain.snarf)) }
+        ensures checked { IsChecked (insert_checks self.old.plain tag p (length self.old.plain.snarf)) result }
+        ensures done { OnOk result (self.new.plain ≡ change_file self.old.plain tag (λ file. pasted_file tag file p self.old.plain.snarf)) }
         ensures unchanged { OnErr result (self.new ≡ self.old) }
         ensures rooms { KeepRooms self.old self.new }
     {
         self.wants_place(tag, p)?;
-        if self.snarf_text().len() > MAX_RUNES as usize - self.text_len(tag) {
+        if self.passes_limit(tag, self.snarf_text().len()) {
             return Err(FilesFault::TooLong);
         }
         self.put_snarf_in(tag, p, tag == 0)
@@ -437,12 +413,12 @@ impl Files {
         // Memory is asked for only if something is printed.
         ensures memory { OnErr result (is_printed self.old.plain runes.now ≡ true) }
         ensures unchanged { OnErr result (self.new ≡ self.old) }
-        ensures room { length runes.now ≤ room_at self.old.rooms 0 → IsOk result × (room_at self.old.rooms 0 ≤ room_at self.new.rooms 0 + length runes.now) }
+        ensures room { StaysInRoom (room_at self.old.rooms 0) (room_at self.new.rooms 0) (length runes.now) result }
         ensures rooms { KeepRooms self.old self.new }
     {
         self.known();
         let len = self.text_len(0);
-        if runes.len() > MAX_RUNES as usize - len {
+        if self.passes_limit(0, runes.len()) {
             return Ok(false);
         }
         if runes.is_empty() {

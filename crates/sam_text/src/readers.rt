@@ -1,13 +1,13 @@
 //! What can be read of `Files` by tag: texts, names, dots, marks, and where words and patterns stand.
 
-ghost use Rattle.std.specs.Prelude.{◌≡◌, ◌<◌, ◌≤◌, IfOk, IfSome, length, option_map, option_and_then, option_copied, nat_lt};
+ghost use Rattle.std.specs.Prelude.{◌≡◌, ◌<◌, ◌≤◌, ◌+◌, ◌||◌, IfOk, IfSome, length, option_map, option_and_then, option_copied, nat_lt};
 ghost use Rattle.sam_runes.specs.Texts.{max_runes, part, searched, word_at, most_in_name};
 ghost use Rattle.sam_runes.specs.Slots.{slot};
 ghost use Rattle.sam_text.specs.Files.{has_file, file_at, search_of, IsFit, HasShortName};
 ghost use Rattle.sam_text.specs.Views.{room_at};
 
 use crate::files::Files;
-use sam_runes::{Runes, Text};
+use sam_runes::{MAX_RUNES, Runes, Text};
 use std::alloc::{AllocError, Global};
 
 impl Files {
@@ -25,8 +25,8 @@ impl Files {
         (tag as usize) < self.tags()
     }
 
-    /// Tells a proof what is always true of a file: its dot is a range of its text, its text has at most `MAX_RUNES` runes, and its name
-    /// at most `MOST_IN_NAME`. It does nothing.
+    /// Tells a proof what is always true of a file: its dot is a range of its text, its text has at most `MAX_RUNES` runes, and its name at
+    /// most `MOST_IN_NAME`. It does nothing.
     pub fn known_file(&self, tag: u16)
         ensures fit { IsFit (file_at self.now.plain tag) }
         ensures name { HasShortName (file_at self.now.plain tag) }
@@ -53,6 +53,29 @@ impl Files {
             Some(file) => file.text().len() as usize,
             None => 0,
         }
+    }
+
+    /// Returns whether place `p` is past the end of the text of a file, which counts as empty if the tag has no file.
+    pub fn is_past_end(&self, tag: u16, p: u32) -> bool
+        ensures { result ≡ nat_lt (length (file_at self.now.plain tag).text) p }
+    {
+        self.text_len(tag) < p as usize
+    }
+
+    /// Returns whether the text of a file, which counts as empty if the tag has no file, has no range from place `p` to place `q`: `q` is
+    /// less than `p` or past the end.
+    pub fn lacks_range(&self, tag: u16, p: u32, q: u32) -> bool
+        ensures { result ≡ nat_lt q p || nat_lt (length (file_at self.now.plain tag).text) q }
+    {
+        q < p || self.is_past_end(tag, q)
+    }
+
+    /// Returns whether the text of a file, which counts as empty if the tag has no file, and `n` more runes together are more than
+    /// `MAX_RUNES`.
+    pub fn passes_limit(&self, tag: u16, n: usize) -> bool
+        ensures { result ≡ nat_lt max_runes (length (file_at self.now.plain tag).text + n) }
+    {
+        n > MAX_RUNES as usize - self.text_len(tag)
     }
 
     /// Returns the name of a file, at most `MOST_IN_NAME` runes, or `None` if the tag has no file.
@@ -182,16 +205,13 @@ impl Files {
         ensures range { IfSome result (λ r. (r.0 ≤ r.1) × (r.1 ≤ length (file_at self.now.plain tag).text)) }
     {
         match self.file(tag) {
-            Some(file) => match file.text().find(lit, from) {
-                Some(range) => Some(range),
-                None => file.text().find(lit, 0),
-            },
+            Some(file) => file.text().search(lit, from),
             None => None,
         }
     }
 
-    /// Returns the word of a file that has place `p` inside it or at an edge, or the empty range at `p` if there is none. The caller
-    /// makes sure that `p` is not past the end. A word is made of ASCII letters, digits and underscores, and of runes above U+007F.
+    /// Returns the word of a file that has place `p` inside it or at an edge, or the empty range at `p` if there is none. The caller makes
+    /// sure that `p` is not past the end. A word is made of ASCII letters, digits and underscores, and of runes above U+007F.
     pub fn word(&self, tag: u16, p: u32) -> (u32, u32)
         requires { p ≤ length (file_at self.now.plain tag).text }
         ensures value { result ≡ word_at (file_at self.now.plain tag).text p }

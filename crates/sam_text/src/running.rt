@@ -27,10 +27,8 @@ impl Files {
         ensures fits { IfOk result (λ o. IsOutcomeOf self.now.plain (effect o)) }
     {
         self.known();
-        match lines::run_line(alloc, self.work_file(), line) {
-            Ok(outcome) => Ok(outcome),
-            Err(_) => Err(FilesFault::OutOfMemory),
-        }
+        let outcome = lines::run_line(alloc, self.work_file(), line)?;
+        Ok(outcome)
     }
 
     /// Returns the work file with its tag, if there is one.

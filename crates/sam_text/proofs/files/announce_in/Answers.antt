@@ -6,7 +6,8 @@ use Rattle.sam_text.proofs.files.announce_in.Goals as goal
 
 pub loop-i-init : goal.loop-i-init
 loop-i-init c =
-    (subst (λ n. plain_slots c.args.slots.now.items ≡ announced_behind n (plain_slots c.args.slots.now.items)) (omega arith) (announced-none plain_file c.args.slots.now.items), refl, omega arith, λ h. omega arith, refl)
+    let ss = plain_slots c.args.slots.now.items in
+    (subst (λ n. ss ≡ announced_behind n ss) (omega arith) (announced-none plain_file c.args.slots.now.items), refl, omega arith, λ h. omega arith, refl)
 
 pub loop-i-preserved : goal.loop-i-preserved
 loop-i-preserved c =
@@ -21,7 +22,8 @@ loop-i-preserved c =
       len ∙ c.loop-i.invariant.1,
       omega (arith, len, within),
       λ h. omega arith,
-      rooms_step c.loop-i.slots.items c.args.slots.now.items (c.loop-i.i - 1) c.index_mut.result.now c.announce_slot.new.slot (omega (arith, within, whole)) c.loop-i.invariant.4 c.loop-i.invariant.1 c.index_mut.ensures.value c.announce_slot.ensures.room,
+      rooms_step c.loop-i.slots.items c.args.slots.now.items (c.loop-i.i - 1) c.index_mut.result.now c.announce_slot.new.slot (omega (arith, within, whole))
+          c.loop-i.invariant.4 c.loop-i.invariant.1 c.index_mut.ensures.value c.announce_slot.ensures.room,
     )
 
 pub returns-clause-plain : goal.returns-clause-plain

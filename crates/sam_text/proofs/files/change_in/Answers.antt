@@ -1,5 +1,5 @@
 use Rattle.std.proofs.Common.{arith, sym, ◌∙◌}
-use Rattle.sam_text.specs.Files.{PlainFile, blank_file, IsFit, HasShortName}
+use Rattle.sam_text.specs.Files.{blank_file, IsKept}
 use Rattle.sam_text.specs.Views.{plain_file, changed, given_text, FitsIn}
 use Rattle.sam_text.proofs.ViewLaws.{given-view, view-change, view-none, seen_there, seen_kept, keep_set, keep_changed}
 use Rattle.sam_text.proofs.files.change_in.Goals as goal
@@ -21,14 +21,15 @@ returns-in-Some-clause-plain c =
 
 pub returns-in-Some-clause-kept : goal.returns-in-Some-clause-kept
 returns-in-Some-clause-kept c =
-    seen_kept (λ (file : PlainFile). (IsFit file) × (HasShortName file)) (changed c.args.change) plain_file blank_file _ c.args.index _ c.in-Some.file c.change.new.self (omega arith) (sym c.index_mut.ensures.value ∙ c.in-Some.is) c.change.ensures.plain
-    (c.known.ensures.fit, c.known.ensures.name)
+    seen_kept IsKept (changed c.args.change) plain_file blank_file _ c.args.index _ c.in-Some.file c.change.new.self (omega arith)
+    (sym c.index_mut.ensures.value ∙ c.in-Some.is) c.change.ensures.plain (c.known.ensures.fit, c.known.ensures.name)
 
 pub returns-in-Some-clause-rooms : goal.returns-in-Some-clause-rooms
 returns-in-Some-clause-rooms c =
-    keep_set (given_text c.args.index c.args.change) _ _ _ c.in-Some.file c.change.new.self (omega arith) (sym c.index_mut.ensures.value ∙ c.in-Some.is)
-    (keep_changed c.args.change c.args.index c.in-Some.file c.change.new.self (seen_there (FitsIn c.args.change) plain_file blank_file _ c.args.index _ _ (omega arith) (sym c.index_mut.ensures.value ∙ c.in-Some.is) c.requires.fits)
-    c.change.ensures.plain c.change.ensures.room)
+    let read = sym c.index_mut.ensures.value ∙ c.in-Some.is in
+    let fits = seen_there (FitsIn c.args.change) plain_file blank_file _ c.args.index _ _ (omega arith) read c.requires.fits in
+    keep_set (given_text c.args.index c.args.change) _ _ _ c.in-Some.file c.change.new.self (omega arith) read
+    (keep_changed c.args.change c.args.index c.in-Some.file c.change.new.self fits c.change.ensures.plain c.change.ensures.room)
 
 pub returns-in-None-clause-plain : goal.returns-in-None-clause-plain
 returns-in-None-clause-plain c = absurd (view-none plain_file _ c.args.index _ (omega arith) (sym c.index_mut.ensures.value ∙ c.in-None.is) c.requires.there)

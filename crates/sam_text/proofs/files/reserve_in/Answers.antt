@@ -7,7 +7,10 @@ use Rattle.sam_text.proofs.ViewLaws.{given-view, view-none, view-same, seen_ther
 use Rattle.sam_text.proofs.files.reserve_in.Goals as goal
 
 pub reserve-requires : goal.reserve-requires
-reserve-requires c = record { fits = seen_there (λ (file : PlainFile). length file.text + c.args.n ≤ max_runes) plain_file blank_file _ c.args.index _ _ (omega arith) (sym c.index_mut.ensures.value ∙ c.in-Some.is) c.requires.fits }
+reserve-requires c = record {
+  fits = seen_there (λ (file : PlainFile). length file.text + c.args.n ≤ max_runes) plain_file blank_file _ c.args.index _ _ (omega arith)
+      (sym c.index_mut.ensures.value ∙ c.in-Some.is) c.requires.fits;
+}
 
 pub returns-in-Some-clause-plain : goal.returns-in-Some-clause-plain
 returns-in-Some-clause-plain c = view-same plain_file _ _ _ c.in-Some.file _ (omega arith) (sym c.index_mut.ensures.value ∙ c.in-Some.is) c.reserve.ensures.plain

@@ -1,19 +1,20 @@
 use Rattle.std.proofs.Common.{◌+◌, not, [], ◌∷◌}
-use Rattle.std.specs.Prelude.{flat_map, reverse, ◌&&◌}
+use Rattle.std.specs.Prelude.{◌&&◌}
 use Rattle.sam_runes.specs.Texts.{is_empty}
 use Rattle.sam_mesg.specs.declared.hmesg.Hmesg.TheVariants.{Hdirty, Hmovname, Hsetpat, Hsetdot, Hcheck}
 use Rattle.sam_text.specs.Files.{file_at}
-use Rattle.sam_host.specs.Host.{told_edit, when, when_given}
+use Rattle.sam_host.specs.Host.{told_edits, told_outcome, when, when_given}
 use Rattle.sam_host.proofs.RunLaws.{six_told}
 use Rattle.sam_host.proofs.host.Host.tell_parts.Goals as goal
 
 pub returns-clause-ok : goal.returns-clause-ok
+unfolding told_outcome
 returns-clause-ok c =
     let fs = c.args.self.now.files in
     let f = c.args.f in
     let es = c.args.edits.now in
     six_told c.args.frames.now.items _ _ _ _ _ _ (c.args.self.now.taken + 1)
-    (flat_map (told_edit fs f) (reverse es))
+    (told_edits fs f es)
     (when (not (is_empty es) && not (file_at fs f).dirty) (Hdirty f ∷ []))
     (when_given c.args.name.now (Hmovname f))
     (when_given c.args.pattern.now Hsetpat)

@@ -4,7 +4,7 @@ use Rattle.sam_text.specs.Meaning.{line_outcome}
 use Rattle.sam_text.proofs.OutcomeLaws.{meaning_puts}
 use Rattle.sam_text.proofs.files.Files.run_line.Goals as goal
 
-pub returns-in-Ok-clause-fits : goal.returns-in-Ok-clause-fits
-returns-in-Ok-clause-fits c =
-    subst (IsOutcomeOf c.args.self.now.plain) (sym (c.in-Ok.ensures.value ∙ ap (λ f. line_outcome f c.args.line.now) c.work_file.ensures))
+pub returns-clause-fits : goal.returns-clause-fits
+returns-clause-fits c =
+    subst (IsOutcomeOf c.args.self.now.plain) (sym (c.in_ok-outcome.ensures.value ∙ ap (λ f. line_outcome f c.args.line.now) c.work_file.ensures))
     (meaning_puts c.args.self.now.plain c.args.line.now c.known.ensures)
