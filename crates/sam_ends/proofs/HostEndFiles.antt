@@ -2,7 +2,7 @@
 use Rattle.std.proofs.Common.{◌≡◌, refl, ap, ◌∙◌, ◌≤◌, ℕ, Bool, true, false, ◌&&◌, ◌||◌, not, nat_lt, nat_le, List, [], ◌∷◌, length, None}
 use Rattle.std.specs.Str.{chars, is_utf8, IsUtf8, encode_utf8_all}
 use Rattle.std.proofs.lemmas.Str.{IsUtf8-from_is_utf8, chars_from_encodes}
-use Rattle.std.proofs.lemmas.Bool.{ltb-false}
+use Rattle.std.proofs.lemmas.Bool.{ltb-false, or_parts}
 use Rattle.sam_runes.specs.Checks.{first_of_checks}
 use Rattle.sam_runes.specs.Reading.{AreRunes}
 use Rattle.sam_runes.specs.Texts.{all_tags, max_runes, most_in_name}
@@ -28,17 +28,13 @@ third_fails false true c d w x y z e = absurd (cc)
 third_fails false false true d w x y z e = absurd (cc)
 third_fails false false false d w x y z e = refl
 
-neither : (a b : Bool) → (a || b) ≡ false → a ≡ false
-neither true b e = absurd (cc)
-neither false b e = refl
-
 -- a name against which nothing stands has at most most_in_name runes
 pub name_fits : (e : PlainHostEnd) (name text : List ℕ) → first_of_checks (open_checks e name text) ≡ None → length (chars name) ≤ most_in_name
 name_fits e name text none =
     let long : Bool = nat_lt most_in_name (length (chars name)) in
     let within = third_fails e.is_begun (not (is_utf8 name && is_utf8 text)) (long || nat_lt max_runes (length (chars text)))
     (nat_le all_tags (length e.host.files.slots)) refusal.Begun refusal.NotText refusal.TooLong refusal.NoTag none in
-    ltb-false most_in_name (length (chars name)) (neither long (nat_lt max_runes (length (chars text))) within)
+    ltb-false most_in_name (length (chars name)) (or_parts long (nat_lt max_runes (length (chars text))) within).0
 
 pub file_added : (e before g : PlainHostEnd) (h : PlainHost) (name text n t : List ℕ) → before ≡ e → g ≡ record before { host = h }
     → h ≡ with_given before.host (n, t) → n ≡ chars name → t ≡ chars text → g ≡ with_file e name text

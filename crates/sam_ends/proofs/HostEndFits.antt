@@ -1,15 +1,11 @@
 -- What waits in a host end fits: messages that a framer gave, and the frames of an answer.
-use Rattle.std.proofs.Common.{◌≡◌, sym, ap, subst, ◌∙◌, ◌≤◌, ℕ, Bool, true, false, List, [], ◌∷◌, Option, Some, None, if◌then◌else◌, ◌==◌, arith}
+use Rattle.std.proofs.Common.{◌≡◌, sym, ap, subst, ◌∙◌, ℕ, false, List, [], ◌∷◌, Option, Some, None}
 use Rattle.std.specs.Prelude.{IsTrue}
-use Rattle.std.proofs.lemmas.Bool.{leb-true, le-leb}
 use Rattle.std.proofs.lemmas.List.Elements.{All-nil, All-cons, All-tail}
-use Rattle.sam_runes.specs.Texts.{snarf_limit, utf8_length}
 use Rattle.sam_mesg.specs.declared.tmesg.Tmesg.{Tmesg}
-use Rattle.sam_mesg.specs.declared.tmesg.Tmesg.TheVariants.{Tsetsnarf}
 use Rattle.sam_mesg.specs.declared.hmesg.HFrame.{HFrame}
-use Rattle.sam_mesg.specs.TerminalKinds.{fits_t}
 use Rattle.sam_mesg.specs.HostKinds.{fits_h, after_h}
-use Rattle.sam_mesg.proofs.Versions.{fits_last_t}
+use Rattle.sam_mesg.proofs.Versions.{grows_t}
 use Rattle.sam_frame.specs.Direction.{terminal}
 use Rattle.sam_frame.specs.Stream.{FitInTurn}
 use Rattle.sam_frame.specs.Framing.{Held}
@@ -22,7 +18,7 @@ use Rattle.sam_ends.specs.HostSteps.{IsSound}
 
 fit_in_turn : (version : ℕ) (ms : List Tmesg) → FitInTurn terminal version ms → FitMessages ms
 fit_in_turn version [] fit = All-nil FitsLast
-fit_in_turn version (m ∷ ms) fit = All-cons FitsLast m ms (fits_last_t version m fit.0.fits) (fit_in_turn (terminal.after version m) ms fit.1)
+fit_in_turn version (m ∷ ms) fit = All-cons FitsLast m ms (grows_t version m fit.0.fits) (fit_in_turn (terminal.after version m) ms fit.1)
 
 fit_in_place : (version : ℕ) (frames : List HFrame) → FitInPlace version frames → FitFrames frames
 fit_in_place version [] fit = All-nil (λ (x : HFrame). IsTrue (fits_h 2 x.msg))

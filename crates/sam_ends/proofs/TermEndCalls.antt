@@ -1,5 +1,5 @@
 -- The calls of a terminal end, of its steps.
-use Rattle.std.proofs.Common.{◌≡◌, refl, sym, ap, subst, ◌∙◌, ℕ, ◌+◌, ◌-◌, inl, inr, List, [], ◌∷◌, ◌++◌, length, Some, None, Ok, Err, arith}
+use Rattle.std.proofs.Common.{◌≡◌, refl, sym, ap, subst, ◌∙◌, ℕ, ◌+◌, ◌-◌, inl, inr, List, [], ◌∷◌, ◌++◌, length, Some, None, Ok, Err, arith, append-nil}
 use Rattle.sam_mesg.specs.declared.hmesg.HFrame.{HFrame}
 use Rattle.sam_term.specs.declared.event.Acted.{Acted}
 use Rattle.sam_term.specs.declared.event.UserEvent.{UserEvent}
@@ -12,7 +12,7 @@ use Rattle.sam_ends.specs.Streams.{not_taken}
 use Rattle.sam_ends.specs.TermEnds.{PlainTermEnd, Calls, FeedsIdle, FlushesIdle, GoesOn, InOrder, IsIdle, IsQuiet, Moves, PutsIdle, oldest}
 use Rattle.sam_ends.specs.TermSteps.{Acts, ActsAll, ActsFirst, Answer, Composes, Gains, Holds, Receives, ReceivesAll, ReceivesFirst, Resumes, Writes, stopped, written}
 use Rattle.sam_ends.proofs.TermEndHeld.{take_held}
-use Rattle.sam_ends.proofs.TermEndMoves.{moves_acted, moves_both, moves_none, moves_received, moves_stopped, moves_written, nil_right}
+use Rattle.sam_ends.proofs.TermEndMoves.{moves_acted, moves_both, moves_none, moves_received, moves_stopped, moves_written}
 
 -- ## The loop over frames
 
@@ -39,7 +39,7 @@ receiving_more e g k r none f = record {
 
 pub received_all : (e g : PlainTermEnd) → Receiving e g → g.waiting ≡ [] → g.unwritten ≡ [] → ReceivesAll e (Ok tt) g
 received_all e g r none idle =
-    let all : e.waiting ≡ r.frames = r.moves.waiting ∙ ap (λ l. r.frames ++ l) none ∙ nil_right r.frames in
+    let all : e.waiting ≡ r.frames = r.moves.waiting ∙ ap (λ l. r.frames ++ l) none ∙ append-nil r.frames in
     (subst (λ frames. Moves e frames [] g) (sym all) r.moves, record { waiting = none; unwritten = idle }, r.number, r.runs)
 
 -- a step of it failed

@@ -1,14 +1,10 @@
 -- Frames that a framer gives fit in version 2.
-use Rattle.std.proofs.Common.{◌≡◌, refl, ◌≤◌, ℕ, Bool, true, false, List, [], ◌∷◌, Option, Some, None, if◌then◌else◌, ◌==◌, arith}
+use Rattle.std.proofs.Common.{ℕ, List, [], ◌∷◌, Option, Some, None}
 use Rattle.std.specs.Prelude.{IsTrue}
-use Rattle.std.proofs.lemmas.Bool.{leb-true, le-leb}
 use Rattle.std.proofs.lemmas.List.Elements.{All-nil, All-cons}
-use Rattle.sam_runes.specs.Texts.{snarf_limit, utf8_length}
 use Rattle.sam_mesg.specs.HostKinds.{fits_h}
-use Rattle.sam_mesg.specs.declared.hmesg.Hmesg.{Hmesg}
-use Rattle.sam_mesg.specs.declared.hmesg.Hmesg.TheVariants.{Hmovname, Hdata, Hgrowdata, Hsetpat, Hsetsnarf}
 use Rattle.sam_mesg.specs.declared.hmesg.HFrame.{HFrame}
-use Rattle.sam_mesg.proofs.Versions.{fits_last_h}
+use Rattle.sam_mesg.proofs.Versions.{grows_h}
 use Rattle.sam_frame.specs.Direction.{host}
 use Rattle.sam_frame.specs.Stream.{FitInTurn}
 use Rattle.sam_frame.specs.Framing.{Held}
@@ -18,7 +14,7 @@ use Rattle.sam_ends.specs.Streams.{FitFrames, Gives}
 pub frames_fit : (v : ℕ) (frames : List HFrame) → FitInTurn host v frames → FitFrames frames
 frames_fit v [] fit = All-nil (λ (frame : HFrame). IsTrue (fits_h 2 frame.msg))
 frames_fit v (frame ∷ frames) fit =
-    All-cons (λ (x : HFrame). IsTrue (fits_h 2 x.msg)) frame frames (fits_last_h v frame.msg fit.0.fits) (frames_fit (host.after v frame) frames fit.1)
+    All-cons (λ (x : HFrame). IsTrue (fits_h 2 x.msg)) frame frames (grows_h v frame.msg fit.0.fits) (frames_fit (host.after v frame) frames fit.1)
 
 pub given_fit : (h : Held) (piece : List ℕ) (frames : List HFrame) (behind : Option StreamFault) (k : Held) → Gives host h piece frames behind k → FitFrames frames
 given_fit h piece frames None k g = frames_fit h.version frames g.gave.splits.fit

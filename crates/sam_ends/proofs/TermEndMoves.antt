@@ -1,5 +1,5 @@
 -- What an end has received, done and written so far grows by its steps.
-use Rattle.std.proofs.Common.{◌≡◌, refl, sym, ap, subst, ◌∙◌, ℕ, ◌+◌, List, [], ◌∷◌, ◌++◌, length, Ok, append_assoc, arith}
+use Rattle.std.proofs.Common.{◌≡◌, refl, sym, ap, subst, ◌∙◌, ℕ, ◌+◌, List, [], ◌∷◌, ◌++◌, length, Ok, append_assoc, arith, append-nil}
 use Rattle.std.proofs.lemmas.Grind.{flat_map-append}
 use Rattle.sam_mesg.specs.declared.tmesg.Tmesg.{Tmesg}
 use Rattle.sam_mesg.specs.declared.hmesg.HFrame.{HFrame}
@@ -13,14 +13,10 @@ use Rattle.sam_ends.specs.TermEnds.{PlainTermEnd, Acts, IsSettled, Moves, Receiv
 use Rattle.sam_ends.specs.TermSteps.{ActsFirst, ReceivesFirst, stopped, written}
 use Rattle.sam_ends.specs.declared.fault.TermStop.{TermStop}
 
-pub nil_right : {A : Type 0} (xs : List A) → xs ++ [] ≡ xs
-nil_right [] = refl
-nil_right (x ∷ xs) = ap (λ l. x ∷ l) (nil_right xs)
-
 receives-more : (t u v : PlainTerminal) (frames : List HFrame) (frame : HFrame) (ms ns : List Tmesg) → Receives t frames ms u
     → take_of u frame ≡ Ok (v, ns) → Receives t (frames ++ frame ∷ []) (ms ++ ns) v
 receives-more t u v [] frame ms ns (none, same) taken =
-    (v, ns, [], subst (λ w. take_of w frame ≡ Ok (v, ns)) same taken, ap (λ l. l ++ ns) none ∙ sym (nil_right ns), (refl, refl))
+    (v, ns, [], subst (λ w. take_of w frame ≡ Ok (v, ns)) same taken, ap (λ l. l ++ ns) none ∙ sym (append-nil ns), (refl, refl))
 receives-more t u v (f ∷ frames) frame ms ns (w, first, rest, one, all, more) taken =
     (w, first, rest ++ ns, one, ap (λ l. l ++ ns) all ∙ append_assoc first rest ns, receives-more w u v frames frame rest ns more taken)
 
@@ -38,7 +34,7 @@ refusals-more n (Refused why ∷ acts) acted =
     ap (λ l. (n, why) ∷ l) (refusals-more (n + 1) acts acted ∙ ap (λ k. refusals_from (n + 1) acts ++ refusals_from k (acted ∷ [])) (omega arith))
 
 composed-more : (acts : List Acted) (acted : Acted) → composed_by (acts ++ acted ∷ []) ≡ composed_by acts ++ composed_in acted
-composed-more acts acted = flat_map-append composed_in acts (acted ∷ []) ∙ ap (λ l. composed_by acts ++ l) (nil_right (composed_in acted))
+composed-more acts acted = flat_map-append composed_in acts (acted ∷ []) ∙ ap (λ l. composed_by acts ++ l) (append-nil (composed_in acted))
 
 -- the last of the frames is the one that came last
 last-stamp-more : (before : ℕ) (frames : List HFrame) (frame : HFrame) → last_stamp before (frames ++ frame ∷ []) ≡ frame.seen
@@ -49,7 +45,7 @@ last-stamp-more before (f ∷ frames) frame = last-stamp-more f.seen frames fram
 behind : (out base : List ℕ) (left before more : List Tmesg) → left ≡ [] → out ++ stream_of terminal left ≡ base ++ stream_of terminal before
     → out ++ stream_of terminal more ≡ base ++ stream_of terminal (before ++ more)
 behind out base left before more none so_far =
-    let all : out ≡ base ++ stream_of terminal before = sym (nil_right out) ∙ ap (λ ms. out ++ stream_of terminal ms) (sym none) ∙ so_far in
+    let all : out ≡ base ++ stream_of terminal before = sym (append-nil out) ∙ ap (λ ms. out ++ stream_of terminal ms) (sym none) ∙ so_far in
     ap (λ bytes. bytes ++ stream_of terminal more) all
     ∙ append_assoc base (stream_of terminal before) (stream_of terminal more)
     ∙ ap (λ bytes. base ++ bytes) (sym (flat_map-append (frame_of terminal) before more))
@@ -61,8 +57,8 @@ moves_none e = record {
   receives = (refl, refl);
   acted = refl;
   waiting = refl;
-  bytes = ap (λ ms. e.outbox ++ stream_of terminal ms) (sym (nil_right (e.unwritten ++ []) ∙ nil_right e.unwritten));
-  refusals = sym (nil_right e.refusals);
+  bytes = ap (λ ms. e.outbox ++ stream_of terminal ms) (sym (append-nil (e.unwritten ++ []) ∙ append-nil e.unwritten));
+  refusals = sym (append-nil e.refusals);
   seen = refl;
   framer = refl;
   events = refl;
@@ -76,7 +72,7 @@ moves_written e g frames acts m = record {
   receives = m.receives;
   acted = m.acted;
   waiting = m.waiting;
-  bytes = nil_right (g.outbox ++ stream_of terminal g.unwritten) ∙ m.bytes;
+  bytes = append-nil (g.outbox ++ stream_of terminal g.unwritten) ∙ m.bytes;
   refusals = m.refusals;
   seen = m.seen;
   framer = m.framer;
@@ -106,8 +102,8 @@ moves_received e g k frames m none r = subst (λ x. Moves e (frames ++ r.frame �
   receives = receives-more e.term m.middle r.term frames r.frame m.composed r.composed m.receives (subst (λ t. take_of t r.frame ≡ Ok (r.term, r.composed)) m.acted r.taken);
   acted = refl;
   waiting = m.waiting ∙ ap (λ l. frames ++ l) r.waited ∙ sym (append_assoc frames (r.frame ∷ []) r.rest);
-  bytes = behind g.outbox e.outbox g.unwritten (e.unwritten ++ m.composed) r.composed none (m.bytes ∙ ap (λ ms. e.outbox ++ stream_of terminal ms) (nil_right (e.unwritten ++ m.composed)))
-      ∙ ap (λ ms. e.outbox ++ stream_of terminal ms) (append_assoc e.unwritten m.composed r.composed ∙ sym (nil_right (e.unwritten ++ (m.composed ++ r.composed))));
+  bytes = behind g.outbox e.outbox g.unwritten (e.unwritten ++ m.composed) r.composed none (m.bytes ∙ ap (λ ms. e.outbox ++ stream_of terminal ms) (append-nil (e.unwritten ++ m.composed)))
+      ∙ ap (λ ms. e.outbox ++ stream_of terminal ms) (append_assoc e.unwritten m.composed r.composed ∙ sym (append-nil (e.unwritten ++ (m.composed ++ r.composed))));
   refusals = m.refusals;
   seen = sym (last-stamp-more e.seen frames r.frame);
   framer = m.framer;
@@ -148,10 +144,10 @@ moves_both e m g frames acts a none number b =
       acted = subst (λ t. Acts t acts g.term) (still ∙ a.acted) b.acted;
       waiting = a.waiting ∙ ap (λ l. frames ++ l) b.waiting;
       bytes = b.bytes
-          ∙ ap (λ ms. m.outbox ++ stream_of terminal (ms ++ composed_by acts)) (ap (λ l. m.unwritten ++ l) quiet ∙ nil_right m.unwritten ∙ none)
+          ∙ ap (λ ms. m.outbox ++ stream_of terminal (ms ++ composed_by acts)) (ap (λ l. m.unwritten ++ l) quiet ∙ append-nil m.unwritten ∙ none)
           ∙ behind m.outbox e.outbox m.unwritten ((e.unwritten ++ a.composed) ++ []) (composed_by acts) none a.bytes
-          ∙ ap (λ ms. e.outbox ++ stream_of terminal (ms ++ composed_by acts)) (nil_right (e.unwritten ++ a.composed));
-      refusals = b.refusals ∙ ap (λ l. l ++ refusals_from (oldest m) acts) (a.refusals ∙ nil_right e.refusals) ∙ ap (λ n. e.refusals ++ refusals_from n acts) number;
+          ∙ ap (λ ms. e.outbox ++ stream_of terminal (ms ++ composed_by acts)) (append-nil (e.unwritten ++ a.composed));
+      refusals = b.refusals ∙ ap (λ l. l ++ refusals_from (oldest m) acts) (a.refusals ∙ append-nil e.refusals) ∙ ap (λ n. e.refusals ++ refusals_from n acts) number;
       seen = b.seen ∙ a.seen;
       framer = b.framer ∙ a.framer;
       events = b.events ∙ a.events;

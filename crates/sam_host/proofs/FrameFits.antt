@@ -10,7 +10,7 @@ use Rattle.sam_text.specs.Files.{PlainFile, PlainFiles, PlainOutcome, blank_file
 use Rattle.sam_text.specs.Meaning.{meaning, work_file}
 use Rattle.sam_text.proofs.OutcomeLaws.{HasShortParts, line_short}
 use Rattle.sam_mesg.specs.HostKinds.{after_h, fits_h}
-use Rattle.sam_mesg.proofs.Versions.{fits_last_h}
+use Rattle.sam_mesg.proofs.Versions.{grows_h}
 use Rattle.sam_mesg.specs.declared.tmesg.Tmesg.{Tmesg}
 use Rattle.sam_mesg.specs.declared.tmesg.Tmesg.TheVariants.{Tversion, Tstartcmdfile, Tcheck, Trequest, Torigin, Tstartfile, Tworkfile, Ttype, Tcut, Tpaste, Tsnarf, Tstartnewfile, Twrite, Tclose, Tlook, Tsearch, Tsend, Tdclick, Tstartsnarf, Tsetsnarf, Tack, Texit}
 use Rattle.sam_mesg.specs.declared.hmesg.Hmesg.{Hmesg}
@@ -201,7 +201,7 @@ snarf-fits : (v : ℕ) (s : List ℕ) → fits_h v (Hsetsnarf (prefix_in_bytes s
 snarf-fits v s = le-leb (utf8_length (prefix_in_bytes s (snarf_limit v))) (snarf_limit v) (prefix_within s (snarf_limit v))
 
 snarf-fits_later : (v : ℕ) (s : List ℕ) → fits_h 2 (Hsetsnarf (prefix_in_bytes s (snarf_limit v))) ≡ true
-snarf-fits_later v s = fits_last_h v (Hsetsnarf (prefix_in_bytes s (snarf_limit v))) (snarf-fits v s)
+snarf-fits_later v s = grows_h v (Hsetsnarf (prefix_in_bytes s (snarf_limit v))) (snarf-fits v s)
 
 -- the frames of each reply fit where they stand in the stream
 pub reply_frames_fit : (h : PlainHost) (m : Tmesg) (seen : ℕ) → AreNamesShort h.files → FitInPlace h.version (stamped seen (reply_to h m).1)

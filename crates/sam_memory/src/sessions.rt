@@ -128,8 +128,8 @@ fn settled_again<R: Wait>(
     }
 }
 
-/// What the ends settle to. Where memory for it is refused, they are to be as they were read, and are settled again. None where anything else
-/// is told.
+/// What the ends settle to. Where memory for it is refused, they are to be as they were read, and are settled again. None where
+/// anything else is told.
 fn settled<R: Wait>(
     rt: &R,
     alloc: Global,

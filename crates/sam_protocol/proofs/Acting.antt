@@ -1,9 +1,10 @@
 -- An event that nothing stands against keeps both sides in order.
-use Rattle.std.proofs.Common.{◌≡◌, ◌≢◌, ℕ, ◌+◌, ◌-◌, ◌<◌, ◌≤◌, ◌||◌, min, Bool, true, false, not, ◌&&◌, ◌==◌, if◌then◌else◌, nat_lt, List, [], ◌∷◌, ◌++◌, length, Option, Some, None, ◌⊎◌, inl, inr, refl, sym, ap, ◌∙◌, subst, true≢false, eqb-true, eq-eqb, append_assoc, arith}
-use Rattle.std.proofs.lemmas.Bool.{ltb-false}
+use Rattle.std.proofs.Common.{◌≡◌, ◌≢◌, ℕ, ◌+◌, ◌-◌, ◌<◌, ◌≤◌, min, Bool, true, false, not, ◌&&◌, ◌==◌, if◌then◌else◌, nat_lt, List, [], ◌∷◌, ◌++◌, length, Option, Some, None, ◌⊎◌, inl, inr, refl, sym, ap, ◌∙◌, subst, true≢false, eqb-true, eq-eqb, append_assoc, arith}
+use Rattle.std.proofs.lemmas.Bool.{ltb-false, and_parts, not-true, not-false, or_parts}
 use Rattle.std.proofs.lemmas.Bool.Decides.{eqb_tells}
 use Rattle.sam_runes.specs.Texts.{max_runes, is_empty, most_in_message}
 use Rattle.sam_runes.proofs.EditLaws.{del-nothing}
+use Rattle.sam_runes.proofs.Choices.{if-same}
 use Rattle.sam_rasp.specs.Rasp.{PartialText, del_cells, hole_within}
 use Rattle.sam_mesg.specs.declared.tmesg.Tmesg.{Tmesg}
 use Rattle.sam_mesg.specs.declared.tmesg.Tmesg.TheVariants.{Tversion, Tstartcmdfile, Tcheck, Trequest, Torigin, Tstartfile, Tworkfile, Ttype, Tcut, Tpaste, Tsnarf, Tstartnewfile, Twrite, Tclose, Tlook, Tsearch, Tsend, Tdclick, Tstartsnarf, Tsetsnarf, Tack, Texit}
@@ -48,18 +49,6 @@ sent_request h t up down f p n o is_open here =
     ap_open : (v v2 : ℕ → Lens) → v ≡ v2 → (f : ℕ) → IsOpen (v f) → IsOpen (v2 f)
     ap_open v v2 e f o = subst (λ (x : ℕ → Lens). IsOpen (x f)) e o
 
-and_parts : (a b : Bool) → (a && b) ≡ true → (a ≡ true) × (b ≡ true)
-and_parts true b e = (refl, e)
-and_parts false b e = absurd (true≢false (sym e))
-
-not_true : (b : Bool) → not b ≡ true → b ≡ false
-not_true true e = absurd (true≢false (sym e))
-not_true false e = refl
-
-not_false : (b : Bool) → not b ≡ false → b ≡ true
-not_false true e = refl
-not_false false e = absurd (true≢false e)
-
 -- the request rule, whatever locks are held
 pub requested_goes : (h : PlainHost) (t : PlainTerminal) (up : List Tmesg) (down : List Hmesg) (f : ℕ) → InOrder h t up down → Goes h up down (requested t f)
 unfolding requested
@@ -77,7 +66,7 @@ requested_goes h t up down f o = go (is_open t f && not t.has_exited && not (win
     go true e =
         let x = and_parts (is_open t f && not t.has_exited) (not (window_at t f).awaits) e in
         let y = and_parts (is_open t f) (not t.has_exited) x.0 in
-        asks hole (opened_at t f y.0) (not_true t.has_exited y.1)
+        asks hole (opened_at t f y.0) (not-true t.has_exited y.1)
 
 pub acknowledged_goes : (h : PlainHost) (t : PlainTerminal) (up : List Tmesg) (down : List Hmesg) → InOrder h t up down → Goes h up down (sends t unchanged (Tack ∷ []))
 acknowledged_goes h t up down o =
@@ -99,10 +88,6 @@ cut_nothing p q (lens c e n lenses.Unknown) same = refl
 cut_nothing p q (lens c e n lenses.Known) same = refl
 cut_nothing p q (lens c e n (lenses.Open r k)) same = ap (λ (x : PartialText). lens c e n (lenses.Open x k)) (del-nothing r p q same)
 
-if_same : (b : Bool) (v : Lens) → (if b then v else v) ≡ v
-if_same true v = refl
-if_same false v = refl
-
 after_cut : (h : PlainHost) (t : PlainTerminal) (up : List Tmesg) (down : List Hmesg) (f : ℕ) → InOrder h t up down → MaySend (views t) (Tcut f (window_at t f).dot.0 (window_at t f).dot.1)
     → AfterCut h t up down f (window_at t f).dot.0 (window_at t f).dot.1 (cuts_dot t f)
 after_cut h t up down f o may = go (has_empty_dot t f) refl
@@ -122,7 +107,7 @@ after_cut h t up down f o may = go (has_empty_dot t f) refl
     go : (b : Bool) → has_empty_dot t f ≡ b → AfterCut h t up down f p q (if b then (t, []) else sends t (λ u. del_rasp u f p q) (Tcut f p q ∷ []))
     go true e = record {
       goes = nothing_goes h t up down o;
-      shows = λ g. sym (ap (λ (v : Lens). (if g == f then v else view g t)) (cut_nothing p q (view g t) (eqb-true p q e)) ∙ if_same (g == f) (view g t));
+      shows = λ g. sym (ap (λ (v : Lens). (if g == f then v else view g t)) (cut_nothing p q (view g t) (eqb-true p q e)) ∙ if-same (g == f) (view g t));
     }
     go false e = record {
       goes = then_goes h up down (flushed t) (λ u. (composed (del_rasp u f p q) (Tcut f p q), Tcut f p q ∷ []))
@@ -135,7 +120,7 @@ after_cut h t up down f o may = go (has_empty_dot t f) refl
 may_dot : (t : PlainTerminal) (f p q : ℕ) (e : UserEvent) → AreTidy t → t.has_exited ≡ false → t.command_lock ≡ false → not (is_open t f) ≡ false → nat_lt 0 (window_at t f).locks ≡ false
     → p ≡ (window_at t f).dot.0 → q ≡ (window_at t f).dot.1 → OpenAt (Within p q) (view f t)
 may_dot t f p q e tidy here free opened unlocked ep eq =
-    open_free (Within p q) t f free (not_false (is_open t f) opened) unlocked
+    open_free (Within p q) t f free (not-false (is_open t f) opened) unlocked
     (let z = tidy f in (omega (arith, z.0, ep, eq), omega (arith, z.1, eq)))
 
 -- the state after the dot was cut: the file is as free as before
@@ -177,7 +162,7 @@ type_goes h t up down f s o pass = then_goes h up down (cuts_dot t f) (λ u. if 
     Wide r = (p ≤ q) × (q ≤ length r) × (length r - (q - p) + length s ≤ max_runes)
 
     wide : OpenAt Wide (view f t)
-    wide = open_free Wide t f pass.free (not_false (is_open t f) pass.opened) pass.unlocked ((o.tidy f).0, (o.tidy f).1, ltb-false max_runes _ pass.room)
+    wide = open_free Wide t f pass.free (not-false (is_open t f) pass.opened) pass.unlocked ((o.tidy f).0, (o.tidy f).1, ltb-false max_runes _ pass.room)
 
     narrow : (r : List (Option ℕ)) → Wide r → (p ≤ length (del_cells r p q)) × (length (del_cells r p q) + length s ≤ max_runes)
     narrow r w = let n = length-del_cells r p q w.0 w.1 in (omega (arith, n, w.0, w.1), omega (arith, n, w.2))
@@ -294,10 +279,6 @@ shown_goes h t up down f w o i r k tidy = record {
     held None x = x
     held (Some u) x = (x.0, subst (OpenAt Anything) (same u.file) x.1)
 
-or_parts : (a b : Bool) → (a || b) ≡ false → (a ≡ false) × (b ≡ false)
-or_parts true b e = absurd (true≢false e)
-or_parts false b e = (refl, e)
-
 -- ## Every event
 
 pub event_goes : (h : PlainHost) (t : PlainTerminal) (up : List Tmesg) (down : List Hmesg) (e : UserEvent) → InOrder h t up down → Passed t e → Goes h up down (made_by t e)
@@ -306,7 +287,7 @@ event_goes h t up down (Typed f s) o p = type_goes h t up down f s o p
 event_goes h t up down (Select f a b) o p =
     let z = or_parts (nat_lt b a) (nat_lt (length (window_at t f).rasp) b) p.place in
     nothing_goes h (set_dot_of t f (a, b)) up down
-    (shown_goes h t up down f (record (window_at t f) { dot = (a, b) }) o (opened_at t f (not_false (is_open t f) p.opened)) refl refl
+    (shown_goes h t up down f (record (window_at t f) { dot = (a, b) }) o (opened_at t f (not-false (is_open t f) p.opened)) refl refl
     (ltb-false b a z.0, ltb-false (length (window_at t f).rasp) b z.1, (o.tidy f).2))
 event_goes h t up down (Cut f) o p = cut_goes h t up down f o p
 event_goes h t up down (Paste f) o p = paste_goes h t up down f o p
@@ -326,7 +307,7 @@ event_goes h t up down (Send f) o p =
 event_goes h t up down (Dclick f a) o p =
     let l : a ≤ length (window_at t f).rasp = ltb-false (length (window_at t f).rasp) a p.place in
     sends_goes h t up down (Tdclick f a) o refl
-    (record { here = p.here; free = p.free; allowed = free_at t f p.free p.unlocked; can = open_free (Within a a) t f p.free (not_false (is_open t f) p.opened) p.unlocked (omega arith, l) })
+    (record { here = p.here; free = p.free; allowed = free_at t f p.free p.unlocked; can = open_free (Within a a) t f p.free (not-false (is_open t f) p.opened) p.unlocked (omega arith, l) })
 event_goes h t up down (Scroll f n) o p =
     let a = (window_at t f).view_start in
     sends_goes h t up down (Torigin f a n) o refl
@@ -334,21 +315,21 @@ event_goes h t up down (Scroll f n) o p =
       here = p.here;
       free = p.free;
       allowed = free_at t f p.free p.unlocked;
-      can = open_free (Within a a) t f p.free (not_false (is_open t f) p.opened) p.unlocked
+      can = open_free (Within a a) t f p.free (not-false (is_open t f) p.opened) p.unlocked
           (omega arith, (o.tidy f).2);
     })
 event_goes h t up down (View f a n) o p =
     let w : Window = record (window_at t f) { view_start = a; view_length = n } in
     requested_goes h (put_window t f w) up down f
-    (shown_goes h t up down f w o (opened_at t f (not_false (is_open t f) p.opened)) refl refl ((o.tidy f).0, (o.tidy f).1, ltb-false (length (window_at t f).rasp) a p.place))
+    (shown_goes h t up down f w o (opened_at t f (not-false (is_open t f) p.opened)) refl refl ((o.tidy f).0, (o.tidy f).1, ltb-false (length (window_at t f).rasp) a p.place))
 event_goes h t up down (Open f) o p =
     sends_goes h t up down (Tstartfile f) o refl (record { here = p.here; free = p.free; allowed = all_free t p.free p.all_unlocked; can = (known_at_view t f p.known, p.other) })
 event_goes h t up down (Close f) o p =
     sends_goes h t up down (Tclose f) o refl
-    (record { here = p.here; free = p.free; allowed = all_free t p.free p.all_unlocked; can = (open_free Anything t f p.free (not_false (is_open t f) p.opened) p.unlocked tt, p.other) })
+    (record { here = p.here; free = p.free; allowed = all_free t p.free p.all_unlocked; can = (open_free Anything t f p.free (not-false (is_open t f) p.opened) p.unlocked tt, p.other) })
 event_goes h t up down (Write f) o p =
     sends_goes h t up down (Twrite f) o refl
-    (record { here = p.here; free = p.free; allowed = free_at t f p.free p.unlocked; can = (open_free Anything t f p.free (not_false (is_open t f) p.opened) p.unlocked tt, p.other) })
+    (record { here = p.here; free = p.free; allowed = free_at t f p.free p.unlocked; can = (open_free Anything t f p.free (not-false (is_open t f) p.opened) p.unlocked tt, p.other) })
 event_goes h t up down (Work f) o p =
     let d = (window_at t f).dot in
     sends_goes h t up down (Tworkfile f d.0 d.1) o refl
@@ -357,7 +338,7 @@ event_goes h t up down OpenCmd o p = sends_goes h t up down Tstartcmdfile o refl
 event_goes h t up down New o p = sends_goes h t up down Tstartnewfile o refl (record { here = p.here; free = p.free; allowed = all_free t p.free p.all_unlocked; can = tt })
 event_goes h t up down Exit o p = sends_goes h t up down Texit o refl (record { here = p.here; free = p.free; allowed = all_free t p.free p.all_unlocked; can = tt })
 event_goes h t up down (Check f) o p =
-    sends_goes h t up down (Tcheck f) o refl (record { here = p.here; free = p.free; allowed = tt; can = open_free Anything t f p.free (not_false (is_open t f) p.opened) p.unlocked tt })
+    sends_goes h t up down (Tcheck f) o refl (record { here = p.here; free = p.free; allowed = tt; can = open_free Anything t f p.free (not-false (is_open t f) p.opened) p.unlocked tt })
 event_goes h t up down GetSnarf o p = sends_goes h t up down Tstartsnarf o refl (record { here = p.here; free = p.free; allowed = tt; can = tt })
 event_goes h t up down (SetSnarf s) o p = sends_goes h t up down (Tsetsnarf s) o refl (record { here = p.here; free = p.free; allowed = tt; can = tt })
 event_goes h t up down (Version v) o p = sends_goes h t up down (Tversion v) o refl (record { here = p.here; free = p.free; allowed = all_free t p.free p.all_unlocked; can = positive v p.version })

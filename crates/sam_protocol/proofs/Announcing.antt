@@ -1,6 +1,7 @@
 -- The answer to Tversion: from settled to settled.
 use Rattle.std.proofs.Common.{◌≡◌, ℕ, zero, suc, ◌+◌, ◌<◌, min, Bool, true, false, not, ◌==◌, if◌then◌else◌, List, [], ◌∷◌, ◌++◌, length, drop, Option, Some, None, ◌⊎◌, inl, inr, refl, sym, ap, ◌∙◌, subst, true≢false, arith, eqb-true, eq-eqb, nat_lt}
 use Rattle.std.specs.Prelude.{option_map, unwrap_or}
+use Rattle.std.proofs.lemmas.Bool.{cases_Bool}
 use Rattle.sam_runes.specs.Texts.{common_version}
 use Rattle.sam_runes.specs.Slots.{Slots, slot}
 use Rattle.sam_runes.proofs.SlotLaws.{slot-map, length-map_slots}
@@ -17,7 +18,7 @@ use Rattle.sam_protocol.specs.View.{file_of, file_of_slot, file_in}
 use Rattle.sam_protocol.specs.Steady.{OpenAnnounced, AllOpenAnnounced, HasFiles}
 use Rattle.sam_protocol.proofs.Accepting.{Synced}
 use Rattle.sam_protocol.proofs.Runs.{run-append_some}
-use Rattle.sam_protocol.proofs.HostFiles.{bool_cases, Lasts, still_has}
+use Rattle.sam_protocol.proofs.HostFiles.{Lasts, still_has}
 use Rattle.sam_protocol.proofs.Tests.{last_test}
 use Rattle.sam_protocol.proofs.Guards.{guarded_by, guarded_before, no_close_behind, kept_by, at_file-append, skips-append}
 use Rattle.sam_protocol.proofs.Commands.{Moves, stays_put, and_moves, commands}
@@ -36,7 +37,7 @@ one_skips g k x true e = (ap (λ (b : Bool). only b Join) e, (ap (λ (b : Bool).
 one_skips g k x false e = tt
 
 not_same : (g k : ℕ) → (g ≡ k → ⊥) → (g == k) ≡ false
-not_same g k h = go (bool_cases (g == k))
+not_same g k h = go (cases_Bool (g == k))
   where
     go : ((g == k) ≡ true) ⊎ ((g == k) ≡ false) → (g == k) ≡ false
     go (inl e) = absurd (h (eqb-true g k e))

@@ -1,6 +1,7 @@
 -- The messages that take the command lock: from settled to settled.
 use Rattle.std.proofs.Common.{◌≡◌, ℕ, ◌+◌, ◌<◌, ◌≤◌, Bool, true, false, not, ◌||◌, ◌&&◌, ◌==◌, if◌then◌else◌, List, [], ◌∷◌, ◌++◌, length, map, Option, Some, None, is_some, ◌⊎◌, inl, inr, refl, sym, ap, ◌∙◌, subst, true≢false, arith, append-nil, eqb-true, eq-eqb, nat_le, leb-true}
 use Rattle.std.proofs.lemmas.List.{take_all, drop_all}
+use Rattle.std.proofs.lemmas.Bool.{cases_Bool}
 use Rattle.sam_runes.specs.Texts.{ins, is_empty, max_runes, all_tags}
 use Rattle.sam_runes.specs.Slots.{slot, free_slot}
 use Rattle.sam_runes.proofs.EditLaws.{length-ins}
@@ -21,7 +22,7 @@ use Rattle.sam_protocol.specs.Steady.{HasFiles}
 use Rattle.sam_protocol.proofs.Accepting.{Synced}
 use Rattle.sam_protocol.proofs.Runs.{run-append_some}
 use Rattle.sam_protocol.proofs.Kept.{settled_slot}
-use Rattle.sam_protocol.proofs.HostFiles.{bool_cases, put, put_other, put_same, put_again, file_in-put, file_in-free, file_in-push, not_given, in_slots, shown_at, file_opened, file_hidden, file_named, put_opened, Opens, Lasts, lasts_same, lasts_then, lasts_put, lasts_opened, still_has, works_on}
+use Rattle.sam_protocol.proofs.HostFiles.{put, put_other, put_same, put_again, file_in-put, file_in-free, file_in-push, not_given, in_slots, shown_at, file_opened, file_hidden, file_named, put_opened, Opens, Lasts, lasts_same, lasts_then, lasts_put, lasts_opened, still_has, works_on}
 use Rattle.sam_protocol.proofs.Tests.{test, last_test, window_tests}
 use Rattle.sam_protocol.proofs.Guards.{guarded_by, guarded_before, no_close_behind, no_close_skips, kept_by, at_file-append, skips_run}
 use Rattle.sam_protocol.proofs.Telling.{Told, Rewrites, tells_there, tells_elsewhere, told-append, told_when, told_grown, told_dot, told_check, told_opened}
@@ -71,7 +72,7 @@ carries-append d n a b c u w x y = record {
 pub carries_at : (d : Bool) (n : ℕ) (a b : ℕ → HFile) (f : ℕ) (frames : List Hmesg) (acts : List Action) (x : HFile) → ((g : ℕ) → at_file g frames ≡ map (only (g == f)) acts)
     → ((g : ℕ) → b g ≡ put a f x g)
     → ((s : Slot) → Fits_slot s (a f) → Moves acts d n s x) → Lasts a b → Carries d n a frames b
-carries_at d n a b f frames acts x tells is there lasts = record { moves = λ g s y. subst (Moves (at_file g frames) d n s) (sym (is g)) (go g s y (bool_cases (g == f))); lasts = lasts }
+carries_at d n a b f frames acts x tells is there lasts = record { moves = λ g s y. subst (Moves (at_file g frames) d n s) (sym (is g)) (go g s y (cases_Bool (g == f))); lasts = lasts }
   where
     go : (g : ℕ) (s : Slot) → Fits_slot s (a g) → ((g == f) ≡ true) ⊎ ((g == f) ≡ false) → Moves (at_file g frames) d n s (put a f x g)
     go g s y (inl e) =
@@ -171,9 +172,9 @@ close_there d n (Open r k) t f =
 pub sync_close : (h : PlainHost) (f : ℕ) → HasFiles h.files → Opens h.files f → (f == 0) ≡ false → Synced h (Tclose f)
 unfolding reply_close
 sync_close h f sound o z = commands h (Tclose f) refl (window_tests h f o z [] refl)
-    (λ g s x. subst (IsKept (only (g == f) Close ∷ only (g == f) Leave ∷ Free_command ∷ []) (lens true h.is_done h.version s) h.is_done h.version) (sym (files g)) (each g s x (bool_cases (g == f))))
+    (λ g s x. subst (IsKept (only (g == f) Close ∷ only (g == f) Leave ∷ Free_command ∷ []) (lens true h.is_done h.version s) h.is_done h.version) (sym (files g)) (each g s x (cases_Bool (g == f))))
     (λ g e. files g ∙ gone g e (g == f))
-    (record { works = λ g e. works g h.files.work (cleared_is h.files.work g e); commands = subst IsCommandFile (sym (files 0)) (command (bool_cases (0 == f))) })
+    (record { works = λ g e. works g h.files.work (cleared_is h.files.work g e); commands = subst IsCommandFile (sym (files 0)) (command (cases_Bool (0 == f))) })
   where
     a : ℕ → HFile
     a = file_in h.files.slots
@@ -194,7 +195,7 @@ sync_close h f sound o z = commands h (Tclose f) refl (window_tests h f o z [] r
 
     cleared_is : (w : Option ℕ) (g : ℕ) → work_without f w ≡ Some g → (w ≡ Some g) × ((g == f) ≡ false)
     cleared_is None g e = cc
-    cleared_is (Some x) g e = go (bool_cases (x == f)) e
+    cleared_is (Some x) g e = go (cases_Bool (x == f)) e
       where
         go : ((x == f) ≡ true) ⊎ ((x == f) ≡ false) → (if x == f then None else Some x) ≡ Some g → (Some x ≡ Some g) × ((g == f) ≡ false)
         go (inl q) e = let y : None ≡ Some g = sym (ap (λ (b : Bool). if b then None else Some x) q) ∙ e in cc
@@ -440,7 +441,7 @@ sync_new h x sound e =
     some = in_slots h.files 0 x e
 
     not_zero : (f == 0) ≡ false
-    not_zero = go (bool_cases (f == 0))
+    not_zero = go (cases_Bool (f == 0))
       where
         go : ((f == 0) ≡ true) ⊎ ((f == 0) ≡ false) → (f == 0) ≡ false
         go (inl q) = let y : f ≡ 0 = eqb-true f 0 q in absurd (omega (arith, y, some))

@@ -1,11 +1,13 @@
 -- What the terminal may compose, the host will accept, and its answer is carried behind what is under way.
 use Rattle.std.proofs.Common.{◌≡◌, ℕ, ◌+◌, ◌≤◌, Bool, false, ◌||◌, List, [], ◌∷◌, ◌++◌, length, Option, ◌⊎◌, inl, inr, refl, sym, ap, ◌∙◌, subst, arith}
+use Rattle.sam_rasp.specs.Rasp.{Agrees}
+use Rattle.sam_rasp.proofs.RaspLaws.{length_agrees}
 use Rattle.sam_runes.specs.Texts.{max_runes}
 use Rattle.sam_mesg.specs.declared.tmesg.Tmesg.{Tmesg}
 use Rattle.sam_mesg.specs.declared.tmesg.Tmesg.TheVariants.{Tversion, Tcheck, Trequest, Torigin, Tstartfile, Tworkfile, Ttype, Tcut, Tpaste, Tsnarf, Twrite, Tclose, Tlook, Tsearch, Tsend, Tdclick}
 use Rattle.sam_mesg.specs.declared.hmesg.Hmesg.{Hmesg}
 use Rattle.sam_host.specs.Host.{PlainHost}
-use Rattle.sam_protocol.specs.Lens.{Lens, lens, Unknown, Known, Open, Action, HFile, Absent, Hidden, Named, Opened, Gone, Agrees, IsSettled, IsKept, OpenAt, Anything}
+use Rattle.sam_protocol.specs.Lens.{Lens, lens, Unknown, Known, Open, Action, HFile, Absent, Hidden, Named, Opened, Gone, IsSettled, IsKept, OpenAt, Anything}
 use Rattle.sam_protocol.proofs.Lenses.{IsFree, exited_of, command_of}
 use Rattle.sam_protocol.proofs.Changes.{change_by, changed, KnownAt, Within, IsAllowed, CanCompose}
 use Rattle.sam_protocol.specs.View.{file_in}
@@ -14,7 +16,6 @@ use Rattle.sam_protocol.specs.Frames.{at_file}
 use Rattle.sam_protocol.specs.Fold.{Kept}
 use Rattle.sam_protocol.proofs.Runs.{no_exit, exited_after}
 use Rattle.sam_protocol.proofs.Kept.{kept_free, exited_settled}
-use Rattle.sam_protocol.proofs.Texts.{agrees_length}
 use Rattle.sam_protocol.proofs.Handling.{handled}
 use Rattle.sam_protocol.proofs.Steady.{steady_reply}
 use Rattle.sam_protocol.proofs.Folds.{acts}
@@ -69,7 +70,7 @@ known_case s v d n file k free o = go v file (kept_free s v d n file k free) o
     go (lens c e m (Open r k)) Gone x o = absurd x.3
 
 within : (r : List (Option ℕ)) (t : List ℕ) (q : ℕ) → Agrees r t → q ≤ length r → q ≤ length t
-within r t q a l = omega (arith, agrees_length r t a)
+within r t q a l = omega (arith, length_agrees r t a)
 
 -- what the terminal may compose is accepted by the host that will have handled all
 accepted : (h : PlainHost) (views : ℕ → Lens) (line : List Tmesg) (down : List Hmesg) (k : Kept h views line down) (m : Tmesg) → IsAllowed (change_by m) views → CanCompose m views → Accepted k.ahead m
@@ -87,7 +88,7 @@ accepted h views line down k m allowed can = go m allowed can
     go (Tworkfile f p q) a x = let o = at (Within p q) f x.0 in (x.1, (o.text, o.opened, (o.has.0, within o.rasp o.text q o.agrees o.has.1)))
     go (Ttype f p s) a x =
         let o = at (λ r. (p ≤ length r) × (length r + length s ≤ max_runes)) f x in
-        (o.text, o.opened, (within o.rasp o.text p o.agrees o.has.0, subst (λ (y : ℕ). y + length s ≤ max_runes) (agrees_length o.rasp o.text o.agrees) o.has.1))
+        (o.text, o.opened, (within o.rasp o.text p o.agrees o.has.0, subst (λ (y : ℕ). y + length s ≤ max_runes) (length_agrees o.rasp o.text o.agrees) o.has.1))
     go (Tcut f p q) a x = let o = at (Within p q) f x in (o.text, o.opened, (o.has.0, within o.rasp o.text q o.agrees o.has.1))
     go (Tpaste f p) a x = let o = at (Within p p) f x in (o.text, o.opened, within o.rasp o.text p o.agrees o.has.1)
     go (Tsnarf f p q) a x = let o = at (Within p q) f x in (o.text, o.opened, (o.has.0, within o.rasp o.text q o.agrees o.has.1))

@@ -1,5 +1,8 @@
 -- The messages that lock nothing: from settled to settled.
 use Rattle.std.proofs.Common.{◌≡◌, ℕ, ◌+◌, ◌-◌, ◌≤◌, Bool, true, false, ◌||◌, ◌==◌, if◌then◌else◌, List, [], ◌∷◌, length, Option, Some, None, ◌⊎◌, inl, inr, refl, sym, ap, ◌∙◌, subst, true≢false, eqb-true}
+use Rattle.std.proofs.lemmas.Bool.{cases_Bool}
+use Rattle.sam_rasp.specs.Rasp.{Agrees}
+use Rattle.sam_rasp.proofs.RaspLaws.{agrees_typed, agrees_removed}
 use Rattle.sam_runes.specs.Texts.{ins, del, max_runes, part, line_start}
 use Rattle.sam_runes.specs.Slots.{Slots, put_slot}
 use Rattle.sam_runes.specs.Checks.{first_of_checks}
@@ -8,15 +11,14 @@ use Rattle.sam_mesg.specs.declared.tmesg.Tmesg.TheVariants.{Tcheck, Tworkfile, T
 use Rattle.sam_term.specs.declared.lock.Lock.TheVariants.{CommandLock, NoLock}
 use Rattle.sam_term.specs.Locks.{is_command_line}
 use Rattle.sam_host.specs.Host.{PlainHost, Reply, host_checks, with_file, past_end, no_range, no_room, reply_check, reply_workfile, reply_cut, reply_snarf, reply_line, reply_type, reply_startsnarf, reply_setsnarf}
-use Rattle.sam_protocol.specs.Lens.{Open, Lens, lens, Action, Skip, Needs_known, Needs_open, move, run, and_then, is_crossing, is_close, HFile, Opened, Agrees, IsSettled, IsKept, IsOpened}
+use Rattle.sam_protocol.specs.Lens.{Open, Lens, lens, Action, Skip, Needs_known, Needs_open, move, run, and_then, is_crossing, is_close, HFile, Opened, IsSettled, IsKept, IsOpened}
 use Rattle.sam_protocol.specs.Frames.{at_file, only}
 use Rattle.sam_protocol.proofs.Changes.{type_change, typed_in, cut_out, changed}
 use Rattle.sam_protocol.specs.View.{file_in}
 use Rattle.sam_protocol.specs.Steady.{HasFiles}
 use Rattle.sam_protocol.proofs.Accepting.{Synced}
 use Rattle.sam_protocol.proofs.Kept.{kept_skips, settled_opened}
-use Rattle.sam_protocol.proofs.Texts.{agrees_typed, agrees_cut}
-use Rattle.sam_protocol.proofs.HostFiles.{bool_cases, put, put_again, put_opened, Opens, Lasts, lasts_opened, lasts_same, still_has, works_on}
+use Rattle.sam_protocol.proofs.HostFiles.{put, put_again, put_opened, Opens, Lasts, lasts_opened, lasts_same, still_has, works_on}
 use Rattle.sam_protocol.proofs.Tests.{open_tests, window_tests, place_test, range_test, room_test}
 use Rattle.sam_protocol.proofs.Guards.{kept_by}
 
@@ -31,7 +33,7 @@ edit_case : (h k : PlainHost) (f : ℕ) (text : List ℕ) (e : Lens → Lens) �
 edit_case h k f text e o files done version keeps g w s =
     subst (λ (x : Bool). IsKept [] (if g == f then e w else w) x k.version (file_in k.files.slots g)) (sym done)
     (subst (λ (x : ℕ). IsKept [] (if g == f then e w else w) h.is_done x (file_in k.files.slots g)) (sym version)
-    (subst (λ (x : HFile). IsKept [] (if g == f then e w else w) h.is_done h.version x) (sym (files g)) (go (bool_cases (g == f)))))
+    (subst (λ (x : HFile). IsKept [] (if g == f then e w else w) h.is_done h.version x) (sym (files g)) (go (cases_Bool (g == f)))))
   where
     here : g ≡ f → IsKept [] (e w) h.is_done h.version (Opened text)
     here q =
@@ -47,7 +49,7 @@ unfolding reply_cut
 sync_cut h f p q sound o l l2 = record {
   passes = open_tests h f o (no_range h f p q ∷ []) (range_test h f p q l l2);
   each = edit_case h k f (del t p q) (cut_out p q) o files refl refl
-      (λ r a. (refl, refl, refl, (refl, agrees_cut p q r t a)));
+      (λ r a. (refl, refl, refl, (refl, agrees_removed r t p q a)));
   gone = lasts.gone;
   sound = still_has h.files k.files sound refl lasts;
 }
@@ -78,7 +80,7 @@ sync_type h f p s sound o l room ends = record {
   each = λ g w x. subst
       (λ (b : Bool). IsKept (at_file g (if b then line else (typed, [])).1) (changed (type_change (if b then CommandLock else NoLock) f p s) g w) (if b then line else (typed, [])).0.is_done
       (if b then line else (typed, [])).0.version (file_in (if b then line else (typed, [])).0.files.slots g)) (sym ends)
-      (edit_case h typed f (ins t p s) (typed_in p s) o files refl refl (λ r a. (refl, refl, refl, (refl, agrees_typed p s r t a))) g w x);
+      (edit_case h typed f (ins t p s) (typed_in p s) o files refl refl (λ r a. (refl, refl, refl, (refl, agrees_typed r t s p a))) g w x);
   gone = λ g e. ap (λ (b : Bool). file_in (if b then line else (typed, [])).0.files.slots g) ends ∙ lasts.gone g e;
   sound = subst (λ (b : Bool). HasFiles (if b then line else (typed, [])).0.files) (sym ends) (still_has h.files typed.files sound refl lasts);
 }
@@ -101,7 +103,7 @@ sync_type h f p s sound o l room ends = record {
 -- frames that need the file to be there, and change nothing
 checks : (f : ℕ) (t : List ℕ) (a : Action) (g : ℕ) (w : Lens) (d : Bool) (n : ℕ) (file : HFile) → (g ≡ f → file ≡ Opened t) → IsSettled w d n file → is_close a ≡ false → is_crossing a ≡ false
     → ((r : List (Option ℕ)) → move a (lens false d n (Open r 0)) ≡ Some (lens false d n (Open r 0))) → IsKept (only (g == f) a ∷ []) w d n file
-checks f t a g w d n file was s close crossing m = go (bool_cases (g == f))
+checks f t a g w d n file was s close crossing m = go (cases_Bool (g == f))
   where
     go : ((g == f) ≡ true) ⊎ ((g == f) ≡ false) → IsKept (only (g == f) a ∷ []) w d n file
     go (inl q) =

@@ -1,8 +1,9 @@
 -- The messages that lock their file: from settled to settled.
-use Rattle.std.proofs.Common.{◌≡◌, ℕ, ◌+◌, ◌-◌, ◌<◌, ◌≤◌, min, Bool, true, false, not, ◌||◌, ◌&&◌, ◌==◌, if◌then◌else◌, List, [], ◌∷◌, ◌++◌, length, map, take, drop, Option, Some, None, is_some, ◌⊎◌, inl, inr, refl, sym, ap, ◌∙◌, subst, true≢false, arith, append_assoc, eqb-true, eq-eqb, nat_lt, nat_le}
+use Rattle.std.proofs.Common.{◌≡◌, ℕ, ◌+◌, ◌-◌, ◌<◌, ◌≤◌, min, Bool, true, false, not, ◌||◌, ◌&&◌, ◌==◌, if◌then◌else◌, List, [], ◌∷◌, ◌++◌, length, map, take, drop, Option, Some, None, is_some, ◌⊎◌, inl, inr, refl, sym, ap, ◌∙◌, subst, arith, append_assoc, eqb-true, eq-eqb, nat_lt, nat_le}
 use Rattle.std.specs.Prelude.{IfSome}
 use Rattle.std.proofs.lemmas.List.{length-drop, drop_min, take_min}
-use Rattle.std.proofs.lemmas.Bool.{ltb-false, lt-leb}
+use Rattle.std.proofs.lemmas.Bool.{ltb-false, lt-leb, cases_Bool, or_parts}
+use Rattle.sam_rasp.specs.Rasp.{Agrees}
 use Rattle.sam_runes.specs.Texts.{Range, ins, is_empty, part, max_runes, most_in_message, most_in_pattern, lines_before, word_at, searched}
 use Rattle.sam_runes.specs.Slots.{slot}
 use Rattle.sam_runes.specs.Checks.{first_of_checks}
@@ -15,7 +16,7 @@ use Rattle.sam_mesg.specs.declared.hmesg.Hmesg.{Hmesg}
 use Rattle.sam_mesg.specs.declared.hmesg.Hmesg.TheVariants.{Horigin, Hdata, Hunlockfile, Hsetdot, Hmoveto, Hcheck, Hsetpat, Hclean, Hdirty}
 use Rattle.sam_host.specs.Host.{PlainHost, Reply, host_checks, reply_to, with_file, with_files, when, grown, past_end, no_range, reply_found, reply_request, reply_origin, reply_paste, reply_write, reply_look, reply_search, reply_dclick}
 use Rattle.sam_host.specs.declared.fault.HostFault.TheVariants.{NoFile, NotOpen}
-use Rattle.sam_protocol.specs.Lens.{Open, Lens, lens, Action, Fill, Free_file, HFile, Opened, Agrees, IsSettled, IsKept}
+use Rattle.sam_protocol.specs.Lens.{Open, Lens, lens, Action, Fill, Free_file, HFile, Opened, IsSettled, IsKept}
 use Rattle.sam_protocol.proofs.Lenses.{locked_more, AreSkips, request_actions}
 use Rattle.sam_protocol.specs.Frames.{at_file, only}
 use Rattle.sam_protocol.proofs.Changes.{Change, Lock, changed, change_by}
@@ -24,7 +25,7 @@ use Rattle.sam_protocol.specs.Steady.{HasFiles}
 use Rattle.sam_protocol.proofs.Accepting.{Synced}
 use Rattle.sam_protocol.proofs.Runs.{run-append_some}
 use Rattle.sam_protocol.proofs.Kept.{kept_skips, kept_data, settled_opened}
-use Rattle.sam_protocol.proofs.HostFiles.{bool_cases, put, put_again, put_opened, Opens, Lasts, lasts_opened, still_has}
+use Rattle.sam_protocol.proofs.HostFiles.{put, put_again, put_opened, Opens, Lasts, lasts_opened, still_has}
 use Rattle.sam_protocol.proofs.Tests.{open_tests, window_tests, place_test, range_test, test, last_test}
 use Rattle.sam_protocol.proofs.Guards.{guarded_by, guarded_before, no_close_behind, kept_by, at_file-append, skips-append}
 use Rattle.sam_protocol.proofs.Telling.{Told, tells_there, tells_elsewhere, told_nothing, told-append, told_if, told_grown, told_origin, told_move, told_dot, told_check, told_clean, told_dirty, told_pattern}
@@ -67,7 +68,7 @@ locks h m f c sound o passes k = record { passes = passes; each = each; gone = l
         (subst (λ (y : Bool). IsKept (at_file g r.1) v y h.version (put (file_in h.files.slots) f (Opened k.text) g)) (sym k.has.done) x))
 
     each : (g : ℕ) (w : Lens) → IsSettled w h.is_done h.version (file_in h.files.slots g) → IsKept (at_file g r.1) (changed (change_by m) g w) r.0.is_done r.0.version (file_in r.0.files.slots g)
-    each g w s = subst (λ (x : Change). IsKept (at_file g r.1) (changed x g w) r.0.is_done r.0.version (file_in r.0.files.slots g)) (sym c) (after g _ (go (bool_cases (g == f))))
+    each g w s = subst (λ (x : Change). IsKept (at_file g r.1) (changed x g w) r.0.is_done r.0.version (file_in r.0.files.slots g)) (sym c) (after g _ (go (cases_Bool (g == f))))
       where
         here : g ≡ f → IsKept (at_file g r.1) (locked_more w) h.is_done h.version (Opened k.text)
         here e =
@@ -205,7 +206,7 @@ unfolding reply_paste
 sync_paste h f p sound o l =
     locks h (Tpaste f p) f refl sound o (open_tests h f o (past_end h f p ∷ []) (place_test h f p [] l refl))
     (freed_if h f (is_empty s || nat_lt max_runes (length t + length s)) (h, Hunlockfile f ∷ []) (with_file h f pasted, (grown h.files f p s ++ dirty) ++ (last ++ Hunlockfile f ∷ []))
-    (λ e. freed_only h f o) (λ e. fits (ltb-false _ _ (right (is_empty s) (nat_lt max_runes (length t + length s)) e))))
+    (λ e. freed_only h f o) (λ e. fits (ltb-false _ _ (or_parts (is_empty s) (nat_lt max_runes (length t + length s)) e).1)))
   where
     file : PlainFile
     file = file_at h.files f
@@ -224,10 +225,6 @@ sync_paste h f p sound o l =
 
     last : List Hmesg
     last = Hsetdot f p (p + length s) ∷ Hcheck f ∷ []
-
-    right : (a b : Bool) → (a || b) ≡ false → b ≡ false
-    right true b e = absurd (true≢false e)
-    right false b e = e
 
     fits : length t + length s ≤ max_runes → Freed h f (with_file h f pasted, (grown h.files f p s ++ dirty) ++ (last ++ Hunlockfile f ∷ []))
     fits room =

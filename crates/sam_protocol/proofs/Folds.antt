@@ -1,5 +1,7 @@
 -- The fold of what is under way, one message or frame more or less.
 use Rattle.std.proofs.Common.{◌≡◌, ℕ, Bool, true, false, if◌then◌else◌, ◌==◌, List, [], ◌∷◌, ◌++◌, map, Option, Some, None, ◌⊎◌, inl, inr, refl, sym, ap, ◌∙◌, subst, append-nil, append_assoc, eqb-true, eq-eqb}
+use Rattle.std.proofs.lemmas.Bool.{cases_Bool}
+use Rattle.std.proofs.lemmas.Option.{same_Some}
 use Rattle.sam_runes.specs.Checks.{first_of_checks}
 use Rattle.sam_mesg.specs.declared.tmesg.Tmesg.{Tmesg}
 use Rattle.sam_mesg.specs.declared.tmesg.Tmesg.TheVariants.{Trequest, Tack}
@@ -16,13 +18,10 @@ use Rattle.sam_protocol.specs.Steady.{IsSteady}
 use Rattle.sam_protocol.specs.Fold.{replied, reply_of, behind, replied_then, answers, Kept}
 use Rattle.sam_protocol.proofs.Versions.{versions-append, guarded_reply}
 use Rattle.sam_protocol.proofs.Kept.{kept_take, kept_append, kept_act, kept_more, kept_request, kept_skips, alike_same}
-use Rattle.sam_protocol.proofs.HostFiles.{bool_cases, opens_at, gone_at}
+use Rattle.sam_protocol.proofs.HostFiles.{opens_at, gone_at}
 use Rattle.sam_protocol.proofs.Guards.{at_file-append}
 use Rattle.sam_protocol.proofs.Telling.{tells_there, tells_elsewhere}
 use Rattle.sam_protocol.proofs.FileLocks.{request_tells, request_passes, open_passes, none_passes, none_tells}
-
-the_reply : {p q : Reply} → Some p ≡ Some q → p ≡ q
-the_reply e = cc
 
 -- a list of messages, answered in turn
 pub record Answered (h : PlainHost) (m : Tmesg) (ms : List Tmesg) (x : Reply) : Type 0 where
@@ -34,7 +33,7 @@ pub record Answered (h : PlainHost) (m : Tmesg) (ms : List Tmesg) (x : Reply) : 
 
 some_behind : (fs : List Hmesg) (o : Option Reply) (x : Reply) → behind fs o ≡ Some x → (b : Reply) × (o ≡ Some b) × (x ≡ (b.0, fs ++ b.1))
 some_behind fs None x e = cc
-some_behind fs (Some b) x e = (b, refl, sym (the_reply e))
+some_behind fs (Some b) x e = (b, refl, sym (same_Some _ _ e))
 
 pub answered : (h : PlainHost) (m : Tmesg) (ms : List Tmesg) (x : Reply) → answers h (m ∷ ms) ≡ Some x → Answered h m ms x
 answered h m ms x e = go (reply_of h m) refl e
@@ -45,7 +44,7 @@ answered h m ms x e = go (reply_of h m) refl e
 
 pub answers-append : (h : PlainHost) (ms ns : List Tmesg) (a b : Reply) → answers h ms ≡ Some a → answers a.0 ns ≡ Some b → answers h (ms ++ ns) ≡ Some (b.0, a.1 ++ b.1)
 answers-append h [] ns a b e f =
-    let same : (h, []) ≡ a = the_reply e in
+    let same : (h, []) ≡ a = same_Some _ _ e in
     ap (λ (x : Reply). answers x.0 ns) same ∙ f ∙ ap (λ (x : Reply). Some (b.0, x.1 ++ b.1)) same
 answers-append h (m ∷ ms) ns a b e f =
     let t = answered h m ms a e in
@@ -100,13 +99,10 @@ term_takes h views views2 line m down k moves = record {
   folds = k.folds;
   each = λ g.
       let t = kept_take (action g m) (at_file g (down ++ k.frames)) (views g) k.ahead.is_done k.ahead.version (file_in k.ahead.files.slots g) (k.each g) in
-      subst (λ (v : Lens). IsKept (at_file g (down ++ k.frames)) v k.ahead.is_done k.ahead.version (file_in k.ahead.files.slots g)) (the_lens (sym t.moves ∙ moves g)) t.kept;
+      subst (λ (v : Lens). IsKept (at_file g (down ++ k.frames)) v k.ahead.is_done k.ahead.version (file_in k.ahead.files.slots g)) (same_Some _ _ (sym t.moves ∙ moves g)) t.kept;
   steady = k.steady;
   versions = k.versions.1;
 }
-  where
-    the_lens : {p q : Lens} → Some p ≡ Some q → p ≡ q
-    the_lens e = cc
 
 -- ## A message more
 
@@ -178,18 +174,18 @@ alike_changed (Line p s) g v = go (g == 0) v
 -- a file that the act changes is free
 free_or_same : (c : Change) (views : ℕ → Lens) (g : ℕ) → IsAllowed c views → IsFree (views g) ⊎ ((v : Lens) → changed c g v ≡ v)
 free_or_same Same views g a = inr (λ v. refl)
-free_or_same (Lock f) views g a = go (bool_cases (g == f))
+free_or_same (Lock f) views g a = go (cases_Bool (g == f))
   where
     go : ((g == f) ≡ true) ⊎ ((g == f) ≡ false) → IsFree (views g) ⊎ ((v : Lens) → (if g == f then locked_more v else v) ≡ v)
     go (inl e) = inl (subst (λ (x : ℕ). IsFree (views x)) (sym (eqb-true _ _ e)) a)
     go (inr e) = inr (λ v. ap (λ (b : Bool). (if b then locked_more v else v)) e)
 free_or_same Command views g a = inl (a g)
-free_or_same (Types f p s) views g a = go (bool_cases (g == f))
+free_or_same (Types f p s) views g a = go (cases_Bool (g == f))
   where
     go : ((g == f) ≡ true) ⊎ ((g == f) ≡ false) → IsFree (views g) ⊎ ((v : Lens) → (if g == f then typed_in p s v else v) ≡ v)
     go (inl e) = inl (subst (λ (x : ℕ). IsFree (views x)) (sym (eqb-true _ _ e)) a)
     go (inr e) = inr (λ v. ap (λ (b : Bool). (if b then typed_in p s v else v)) e)
-free_or_same (Cuts f p q) views g a = go (bool_cases (g == f))
+free_or_same (Cuts f p q) views g a = go (cases_Bool (g == f))
   where
     go : ((g == f) ≡ true) ⊎ ((g == f) ≡ false) → IsFree (views g) ⊎ ((v : Lens) → (if g == f then cut_out p q v else v) ≡ v)
     go (inl e) = inl (subst (λ (x : ℕ). IsFree (views x)) (sym (eqb-true _ _ e)) a)
@@ -312,7 +308,7 @@ requests h views line down f p n k is_open here =
     told g = at_file g r.frames
 
     each : (g : ℕ) → IsKept (s g ++ told g) (changed (Lock f) g (views g)) d v (file g)
-    each g = go (bool_cases (g == f))
+    each g = go (cases_Bool (g == f))
       where
         go : ((g == f) ≡ true) ⊎ ((g == f) ≡ false) → IsKept (s g ++ told g) (if g == f then locked_more (views g) else views g) d v (file g)
         go (inl e) =

@@ -1,7 +1,8 @@
 -- Where no lens refuses a frame the terminal doesn't, and each lens moves as the frame's action says.
-use Rattle.std.proofs.Common.{◌≡◌, ℕ, zero, suc, arith, ◌+◌, ◌-◌, ◌≢◌, Bool, true, false, not, ◌&&◌, if◌then◌else◌, ◌==◌, List, [], ◌∷◌, length, map, replicate, Option, Some, None, is_some, ◌⊎◌, inl, inr, refl, sym, ap, ◌∙◌, true≢false, eqb-true, eq-eqb, nat_le, nat_lt}
+use Rattle.std.proofs.Common.{◌≡◌, ℕ, zero, suc, arith, ◌+◌, ◌-◌, ◌≢◌, Bool, true, false, not, if◌then◌else◌, ◌==◌, List, [], ◌∷◌, length, map, replicate, Option, Some, None, is_some, ◌⊎◌, inl, inr, refl, sym, ap, ◌∙◌, true≢false, eqb-true, eq-eqb, nat_le, nat_lt}
 use Rattle.std.specs.Prelude.{unwrap_or, option_map}
-use Rattle.std.proofs.lemmas.Bool.{leb-true, le-ltb}
+use Rattle.std.proofs.lemmas.Bool.{leb-true, le-ltb, cases_Bool, and_parts}
+use Rattle.std.proofs.lemmas.Option.{same_Some}
 use Rattle.sam_runes.specs.Texts.{common_version, max_runes}
 use Rattle.sam_runes.specs.Slots.{Slots, slot, put_slot, free_slot}
 use Rattle.sam_runes.specs.Checks.{Checks, first_of_checks}
@@ -20,17 +21,6 @@ use Rattle.sam_protocol.specs.Frames.{only}
 use Rattle.sam_protocol.proofs.Runs.{if_some}
 use Rattle.sam_protocol.specs.View.{slot_of_window, slot_of, view, effect, NoneRefuses, Moves}
 
-the : {x y : Lens} → Some x ≡ Some y → x ≡ y
-the e = cc
-
-bool_cases : (b : Bool) → (b ≡ true) ⊎ (b ≡ false)
-bool_cases true = inl refl
-bool_cases false = inr refl
-
-and_parts : (a b : Bool) → (a && b) ≡ true → (a ≡ true) × (b ≡ true)
-and_parts true b e = (refl, e)
-and_parts false b e = absurd (true≢false (sym e))
-
 same_tag : (f : ℕ) → (f == f) ≡ true
 same_tag f = eq-eqb f f refl
 
@@ -48,7 +38,7 @@ two_tests b b2 x x2 e e2 = rw e (rw e2 refl)
 
 tagged : (f : ℕ) (a : Action) (t t2 : PlainTerminal) → t2.command_lock ≡ t.command_lock → t2.has_exited ≡ t.has_exited → t2.version ≡ t.version
     → ((g : ℕ) → f ≢ g → slot t2.files g ≡ slot t.files g) → move a (view f t) ≡ Some (view f t2) → (g : ℕ) → move (only (g == f) a) (view g t) ≡ Some (view g t2)
-tagged f a t t2 ec ee ev others here g = go (bool_cases (g == f))
+tagged f a t t2 ec ee ev others here g = go (cases_Bool (g == f))
   where
     go : ((g == f) ≡ true) ⊎ ((g == f) ≡ false) → move (only (g == f) a) (view g t) ≡ Some (view g t2)
     go (inl e) =
@@ -134,13 +124,13 @@ on_place p c e n w v z =
     (one_test (nat_lt (length w.rasp) p) fault.BadPosition (within p (length w.rasp) y.1), sym x.1)
 
 on_check : OnOpen Needs_open (λ w. []) (λ w. Open w.rasp w.locks)
-on_check c e n w v z = (refl, sym (the z))
+on_check c e n w v z = (refl, sym (same_Some _ _ z))
 
 one_less : (k : ℕ) → k ≡ suc k - 1
 one_less k = omega arith
 
 not_zero : (k : ℕ) → (suc k == 0) ≡ false
-not_zero k = go (bool_cases (suc k == 0))
+not_zero k = go (cases_Bool (suc k == 0))
   where
     go : ((suc k == 0) ≡ true) ⊎ ((suc k == 0) ≡ false) → (suc k == 0) ≡ false
     go (inl e) = let z : suc k ≡ 0 = eqb-true _ _ e in absurd (omega arith)
@@ -151,10 +141,10 @@ on_unlockfile c e n w v z = go w.locks z
   where
     go : (k : ℕ) → move Free_file (lens c e n (Open w.rasp k)) ≡ Some v → (first_of_checks ((k == 0, fault.LockNotHeld) ∷ []) ≡ None) × (v ≡ lens c e n (Open w.rasp (k - 1)))
     go zero z = cc
-    go (suc k) z = (one_test (suc k == 0) fault.LockNotHeld (not_zero k), sym (the z) ∙ ap (λ (j : ℕ). lens c e n (Open w.rasp j)) (one_less k))
+    go (suc k) z = (one_test (suc k == 0) fault.LockNotHeld (not_zero k), sym (same_Some _ _ z) ∙ ap (λ (j : ℕ). lens c e n (Open w.rasp j)) (one_less k))
 
 on_close : OnOpen Close (λ w. []) (λ w. Known)
-on_close c e n w v z = (refl, sym (the z))
+on_close c e n w v z = (refl, sym (same_Some _ _ z))
 
 -- ## Frames that need a known file
 
@@ -163,8 +153,8 @@ on_known : (a : Action) (c e : Bool) (n : ℕ) (s : Option KnownFile) (v : Lens)
 on_known a c e n s v same q = go s (ap (λ (b : Action). move b (lens c e n (slot_of s))) (sym same) ∙ q)
   where
     at_window : (w : Option Window) → move Needs_known (lens c e n (slot_of_window w)) ≡ Some v → v ≡ lens c e n (slot_of_window w)
-    at_window None q = sym (the q)
-    at_window (Some w) q = sym (the q)
+    at_window None q = sym (same_Some _ _ q)
+    at_window (Some w) q = sym (same_Some _ _ q)
 
     go : (s : Option KnownFile) → move Needs_known (lens c e n (slot_of s)) ≡ Some v
         → (first_of_checks ((not (is_some s), fault.NoFile) ∷ []) ≡ None) × (v ≡ lens c e n (slot_of_window (known_of s).window))
@@ -179,7 +169,7 @@ on_shut : (a : Action) (next : Slot) → ((c e : Bool) (n : ℕ) → move a (len
 on_shut a next unknown known opened c e n s v q = go s q
   where
     at_window : (w : Option Window) → move a (lens c e n (slot_of_window w)) ≡ Some v → (first_of_checks ((is_some w, fault.AlreadyBound) ∷ []) ≡ None) × (v ≡ lens c e n next)
-    at_window None q = (refl, sym (the (sym (known c e n) ∙ q)))
+    at_window None q = (refl, sym (same_Some _ _ (sym (known c e n) ∙ q)))
     at_window (Some w) q = let x : None ≡ Some v = sym (opened c e n w) ∙ q in cc
 
     go : (s : Option KnownFile) → move a (lens c e n (slot_of s)) ≡ Some v
@@ -189,7 +179,7 @@ on_shut a next unknown known opened c e n s v q = go s q
 
 on_newname : (c e : Bool) (n : ℕ) (s : Option KnownFile) (v : Lens) → move Join (lens c e n (slot_of s)) ≡ Some v
     → (first_of_checks ((is_some s, fault.AlreadyBound) ∷ []) ≡ None) × (v ≡ lens c e n Known)
-on_newname c e n None v q = (refl, sym (the q))
+on_newname c e n None v q = (refl, sym (same_Some _ _ q))
 on_newname c e n (Some k) v q = at_window k.window q
   where
     at_window : (w : Option Window) → move Join (lens c e n (slot_of_window w)) ≡ Some v → (first_of_checks ((true, fault.AlreadyBound) ∷ []) ≡ None) × (v ≡ lens c e n Known)

@@ -1,6 +1,7 @@
 -- Aids to show that actions keep the invariant at one file: what guards a list of actions, and what leaves a lens as it is.
-use Rattle.std.proofs.Common.{◌≡◌, ℕ, Bool, true, false, not, ◌||◌, ◌&&◌, List, [], ◌∷◌, ◌++◌, Some, None, refl, sym, ap, ◌∙◌, true≢false, if◌then◌else◌}
+use Rattle.std.proofs.Common.{◌≡◌, ℕ, Bool, true, false, not, ◌||◌, List, [], ◌∷◌, ◌++◌, Some, refl, sym, ap, ◌∙◌, true≢false}
 use Rattle.std.proofs.lemmas.List.{map-append}
+use Rattle.std.proofs.lemmas.Bool.{and_parts, or_right}
 use Rattle.sam_mesg.specs.declared.hmesg.Hmesg.{Hmesg}
 use Rattle.sam_protocol.specs.Lens.{Lens, Action, move, run, and_then, frees, closes, is_close, IsGuarded, HFile, IsSettled, IsKept}
 use Rattle.sam_protocol.proofs.Lenses.{guard_holds, AreSkips}
@@ -10,24 +11,13 @@ not_true : (a b : Bool) → (not a || b) ≡ true → a ≡ true → b ≡ true
 not_true true b e q = e
 not_true false b e q = absurd (true≢false (sym q))
 
-and_parts : (a b : Bool) → (a && b) ≡ true → (a ≡ true) × (b ≡ true)
-and_parts true b e = (refl, e)
-and_parts false b e = absurd (true≢false (sym e))
-
-pub both : (a b : Bool) → a ≡ true → b ≡ true → (a && b) ≡ true
-both a b p q = ap (λ x. x && b) p ∙ q
-
 pub guarded_by : (s : List Action) → guard_holds s ≡ true → IsGuarded s
 guarded_by [] e = tt
 guarded_by (a ∷ s) e = let p = and_parts _ _ e in (not_true _ _ p.0, guarded_by s p.1)
 
 frees_behind : (u rest : List Action) → frees rest ≡ true → frees (u ++ rest) ≡ true
 frees_behind [] rest e = e
-frees_behind (a ∷ u) rest e = go _ _ (frees_behind u rest e)
-  where
-    go : (p q : Bool) → q ≡ true → (p || q) ≡ true
-    go true q e = refl
-    go false q e = e
+frees_behind (a ∷ u) rest e = or_right _ _ (frees_behind u rest e)
 
 -- whatever stands before something that is guarded and frees a lock is guarded
 pub guarded_before : (u rest : List Action) → frees rest ≡ true → IsGuarded rest → IsGuarded (u ++ rest)
@@ -59,8 +49,3 @@ skips-append (a ∷ u) w p q = (p.0, skips-append u w p.1 q)
 pub skips_run : (u : List Action) (v : Lens) → AreSkips u → run u v ≡ Some v
 skips_run [] v p = refl
 skips_run (a ∷ u) v p = ap (λ (b : Action). and_then (move b v) (run u)) p.0 ∙ skips_run u v p.1
-
--- a test that holds
-pub if_holds : (b : Bool) (x : Lens) → b ≡ true → (if b then Some x else None) ≡ Some x
-if_holds true x e = refl
-if_holds false x e = absurd (true≢false (sym e))

@@ -1,5 +1,6 @@
 -- Every message that the crossing lets come to the host leads from settled to settled, by the host's own answer.
 use Rattle.std.proofs.Common.{◌≡◌, ℕ, ◌+◌, ◌≤◌, Bool, true, false, ◌&&◌, ◌==◌, if◌then◌else◌, List, length, Some, ◌⊎◌, inl, inr, refl, sym, ap, ◌∙◌, subst, eqb-true}
+use Rattle.std.proofs.lemmas.Bool.{cases_Bool}
 use Rattle.sam_runes.specs.Texts.{max_runes, ends_line}
 use Rattle.sam_runes.specs.Slots.{slot}
 use Rattle.sam_text.specs.Files.{PlainFile, file_at}
@@ -10,7 +11,7 @@ use Rattle.sam_host.specs.Host.{PlainHost}
 use Rattle.sam_protocol.specs.Lens.{HFile, Absent, Hidden, Named, Opened, Gone, IsCommandFile}
 use Rattle.sam_protocol.specs.View.{file_in}
 use Rattle.sam_protocol.proofs.Accepting.{Synced, Open, Accepted, Ready}
-use Rattle.sam_protocol.proofs.HostFiles.{bool_cases, some_at, at_there, shown_there, closed_file, Opens, opens_at}
+use Rattle.sam_protocol.proofs.HostFiles.{some_at, at_there, shown_there, closed_file, Opens, opens_at}
 use Rattle.sam_protocol.proofs.FileLocks as locks
 use Rattle.sam_protocol.proofs.Edits as edits
 use Rattle.sam_protocol.proofs.Commands as commands
@@ -95,7 +96,7 @@ handled h r (Trequest f p n) a = locks.sync_request h f p n r.running r.steady.s
 handled h r (Torigin f p n) a = let o = opened h f _ a in locks.sync_origin h f p n r.steady.sound o.0 o.1
 handled h r (Tstartfile f) a = let x = known_there h f a.1 in commands.sync_start h f x.file r.steady.sound r.steady.fit x.there a.0 x.kind
 handled h r (Tworkfile f p q) a = let o = opened h f _ a.1 in edits.sync_work h f p q r.steady.sound o.0 a.0 o.1.0 o.1.1
-handled h r (Ttype f p s) a = handled_type h r f p s (opened h f _ a) (bool_cases (is_command_line f s))
+handled h r (Ttype f p s) a = handled_type h r f p s (opened h f _ a) (cases_Bool (is_command_line f s))
 handled h r (Tcut f p q) a = let o = opened h f _ a in edits.sync_cut h f p q r.steady.sound o.0 o.1.0 o.1.1
 handled h r (Tpaste f p) a = let o = opened h f _ a in locks.sync_paste h f p r.steady.sound o.0 o.1
 handled h r (Tsnarf f p q) a = let o = opened h f _ a in edits.sync_snarf h f p q r.steady.sound o.0 o.1.0 o.1.1

@@ -1,7 +1,7 @@
 -- The files of the host by slot, as the crossing sees them: what is there, and what becomes of all where one is put or dropped.
 use Rattle.std.proofs.Common.{◌≡◌, ℕ, ◌+◌, ◌<◌, ◌≤◌, ◌≢◌, Bool, true, false, if◌then◌else◌, ◌==◌, List, [], ◌∷◌, length, Option, Some, None, is_some, ◌⊎◌, inl, inr, refl, sym, ap, ◌∙◌, subst, true≢false, arith, eqb-true, eq-eqb, nat_le, nat_lt}
 use Rattle.std.specs.Prelude.{unwrap_or}
-use Rattle.std.proofs.lemmas.Bool.{leb-true, le-ltb, lt-ltb, ltb-true, ltb-false, leb-false}
+use Rattle.std.proofs.lemmas.Bool.{leb-true, le-ltb, lt-ltb, ltb-true, ltb-false, leb-false, cases_Bool}
 use Rattle.std.proofs.lemmas.List.{length-append}
 use Rattle.sam_runes.specs.Slots.{Slots, slot, put_slot, free_slot}
 use Rattle.sam_runes.proofs.SlotLaws.{put_slot-push, slot-put_same, slot-put_other, slot-free_same, slot-free_other, slot_given, slot_past, length-put_slot, length-free_slot}
@@ -9,10 +9,6 @@ use Rattle.sam_text.specs.Files.{PlainFile, PlainFiles, file_at, has_file, blank
 use Rattle.sam_protocol.specs.Lens.{HFile, Absent, Hidden, Named, Opened, Gone, IsOpened, IsCommandFile}
 use Rattle.sam_protocol.specs.View.{file_of, file_of_slot, file_in}
 use Rattle.sam_protocol.specs.Steady.{HasFiles}
-
-pub bool_cases : (b : Bool) → (b ≡ true) ⊎ (b ≡ false)
-bool_cases true = inl refl
-bool_cases false = inr refl
 
 -- the files with another one at f
 abbrev pub put : (ℕ → HFile) → ℕ → HFile → ℕ → HFile
@@ -25,7 +21,7 @@ pub put_same : (m : ℕ → HFile) (f : ℕ) (x : HFile) → put m f x f ≡ x
 put_same m f x = ap (λ (b : Bool). if b then x else m f) (eq-eqb f f refl)
 
 pub put_again : (m : ℕ → HFile) (f : ℕ) (y : HFile) (g : ℕ) → m f ≡ y → m g ≡ put m f y g
-put_again m f y g e = go (bool_cases (g == f))
+put_again m f y g e = go (cases_Bool (g == f))
   where
     go : ((g == f) ≡ true) ⊎ ((g == f) ≡ false) → m g ≡ (if g == f then y else m g)
     go (inl z) = ap m (eqb-true g f z) ∙ e ∙ ap (λ (b : Bool). if b then y else m g) (sym z)
@@ -34,7 +30,7 @@ put_again m f y g e = go (bool_cases (g == f))
 -- ## One slot put, dropped or added
 
 pub file_in-put : (ss : Slots PlainFile) (f : ℕ) (x : PlainFile) → f < length ss → (g : ℕ) → file_in (put_slot ss f x) g ≡ put (file_in ss) f (file_of x) g
-file_in-put ss f x l g = go (bool_cases (g == f))
+file_in-put ss f x l g = go (cases_Bool (g == f))
   where
     go : ((g == f) ≡ true) ⊎ ((g == f) ≡ false) → file_in (put_slot ss f x) g ≡ (if g == f then file_of x else file_in ss g)
     go (inl e) =
@@ -48,7 +44,7 @@ file_in-put ss f x l g = go (bool_cases (g == f))
         ∙ ap (λ (b : Bool). (if b then file_of x else file_in ss g)) (sym e)
 
 pub file_in-free : (ss : Slots PlainFile) (f : ℕ) → f < length ss → (g : ℕ) → file_in (free_slot ss f) g ≡ put (file_in ss) f Gone g
-file_in-free ss f l g = ap (λ (n : ℕ). file_of_slot (nat_lt g n) (slot (free_slot ss f) g)) (length-free_slot ss f) ∙ go (bool_cases (g == f))
+file_in-free ss f l g = ap (λ (n : ℕ). file_of_slot (nat_lt g n) (slot (free_slot ss f) g)) (length-free_slot ss f) ∙ go (cases_Bool (g == f))
   where
     go : ((g == f) ≡ true) ⊎ ((g == f) ≡ false) → file_of_slot (nat_lt g (length ss)) (slot (free_slot ss f) g) ≡ (if g == f then Gone else file_in ss g)
     go (inl e) =
@@ -62,7 +58,7 @@ file_in-free ss f l g = ap (λ (n : ℕ). file_of_slot (nat_lt g n) (slot (free_
         ∙ ap (λ (b : Bool). (if b then Gone else file_in ss g)) (sym e)
 
 pub file_in-push : (ss : Slots PlainFile) (x : PlainFile) (g : ℕ) → file_in (put_slot ss (length ss) x) g ≡ put (file_in ss) (length ss) (file_of x) g
-file_in-push ss x g = go (bool_cases (g == length ss))
+file_in-push ss x g = go (cases_Bool (g == length ss))
   where
     longer : length (put_slot ss (length ss) x) ≡ length ss + 1
     longer = ap length (put_slot-push ss x) ∙ length-append ss (Some x ∷ [])
@@ -76,7 +72,7 @@ file_in-push ss x g = go (bool_cases (g == length ss))
         let other : length ss ≢ g = λ q. true≢false (sym (eq-eqb g (length ss) (sym q)) ∙ e) in
         ap (λ (n : ℕ). file_of_slot (nat_lt g n) (slot (put_slot ss (length ss) x) g)) longer
         ∙ ap (file_of_slot (nat_lt g (length ss + 1))) (slot-put_other ss (length ss) g x other)
-        ∙ ap (λ (b : Bool). file_of_slot b (slot ss g)) (same_below other (bool_cases (nat_lt g (length ss))))
+        ∙ ap (λ (b : Bool). file_of_slot b (slot ss g)) (same_below other (cases_Bool (nat_lt g (length ss))))
         ∙ ap (λ (b : Bool). (if b then file_of x else file_in ss g)) (sym e)
       where
         same_below : (length ss ≢ g) → ((nat_lt g (length ss)) ≡ true) ⊎ ((nat_lt g (length ss)) ≡ false) → nat_lt g (length ss + 1) ≡ nat_lt g (length ss)
@@ -87,7 +83,7 @@ file_in-push ss x g = go (bool_cases (g == length ss))
             apart y = above (le_cases (length ss) g y)
               where
                 le_cases : (a b : ℕ) → a ≤ b → (a ≡ b) ⊎ (a + 1 ≤ b)
-                le_cases a b y = pick (bool_cases (nat_le (a + 1) b))
+                le_cases a b y = pick (cases_Bool (nat_le (a + 1) b))
                   where
                     pick : ((nat_le (a + 1) b) ≡ true) ⊎ ((nat_le (a + 1) b) ≡ false) → (a ≡ b) ⊎ (a + 1 ≤ b)
                     pick (inl w) = inr (leb-true (a + 1) b w)
@@ -223,10 +219,10 @@ lasts_then a b c x y = record { gone = λ g e. y.gone g (x.gone g e); opened = �
 pub lasts_put : (a b : ℕ → HFile) (f : ℕ) (x : HFile) → (a f ≡ Gone → ⊥) → (IsOpened (a f) → IsOpened x) → (f ≡ 0 → IsCommandFile (a 0) → IsCommandFile x) → ((g : ℕ) → b g ≡ put a f x g) → Lasts a b
 lasts_put a b f x there opened commands is =
     record {
-      gone = λ g e. is g ∙ gone g e (bool_cases (g == f));
-      opened = λ g o. subst IsOpened (sym (is g)) (open_one g o (bool_cases (g == f)));
+      gone = λ g e. is g ∙ gone g e (cases_Bool (g == f));
+      opened = λ g o. subst IsOpened (sym (is g)) (open_one g o (cases_Bool (g == f)));
       commands = λ c. subst IsCommandFile
-          (sym (is 0)) (command c (bool_cases (0 == f)));
+          (sym (is 0)) (command c (cases_Bool (0 == f)));
     }
   where
     gone : (g : ℕ) → a g ≡ Gone → ((g == f) ≡ true) ⊎ ((g == f) ≡ false) → put a f x g ≡ Gone

@@ -1,7 +1,8 @@
 -- Runes typed in two messages do what they do in one.
 use Rattle.std.proofs.Common.{◌≡◌, ℕ, ◌+◌, ◌-◌, ◌≤◌, Bool, true, false, ◌&&◌, ◌==◌, if◌then◌else◌, List, [], ◌∷◌, ◌++◌, length, Option, Some, None, nat_lt, refl, sym, ap, ◌∙◌, subst, arith, append_assoc, append-nil, length-append, ◌⊎◌, inl, inr}
 use Rattle.std.specs.Prelude.{unwrap_or}
-use Rattle.std.proofs.lemmas.Bool.{ltb-false, le-ltb}
+use Rattle.std.proofs.lemmas.Bool.{ltb-false, le-ltb, cases_Bool}
+use Rattle.std.proofs.lemmas.Option.{same_Some}
 use Rattle.sam_runes.specs.Texts.{max_runes, ins, ends_line, part, line_start}
 use Rattle.sam_runes.specs.Checks.{first_of_checks}
 use Rattle.sam_runes.proofs.CheckLaws.{none_holds}
@@ -22,11 +23,7 @@ use Rattle.sam_protocol.specs.View.{file_in}
 use Rattle.sam_protocol.specs.Steady.{IsSteady}
 use Rattle.sam_protocol.specs.Fold.{replied, reply_of, behind, replied_then, answers, Kept}
 use Rattle.sam_protocol.proofs.Tests.{test, last_test}
-use Rattle.sam_protocol.proofs.HostFiles.{bool_cases}
 use Rattle.sam_protocol.proofs.Folds.{Answered, plain_reply, answered, answers-append}
-
-the_reply : {p q : Reply} → Some p ≡ Some q → p ≡ q
-the_reply e = cc
 
 -- the two are alike but for their counts
 pub record AreAlike (a b : PlainHost) : Type 0 where
@@ -111,7 +108,7 @@ was_typed h f p s r d e =
     (ap (λ (b : Bool). if b then Some (counted h, []) else replied (first_of_checks (host_checks h (Ttype f p s))) (reply_to h (Ttype f p s))) (sym d) ∙ e)
   where
     go : (o : Option HostFault) → first_of_checks (host_checks h (Ttype f p s)) ≡ o → replied o (reply_to h (Ttype f p s)) ≡ Some r → WasTyped h f p s r
-    go None q e = record { can = can_type h f p s q; is = sym (the_reply e) }
+    go None q e = record { can = can_type h f p s q; is = sym (same_Some _ _ e) }
     go (Some w) q e = cc
 
 -- ## Two typings, and the same at once
@@ -126,9 +123,9 @@ record Joined (h : PlainHost) (f p : ℕ) (s w : List ℕ) (r1 r2 : Reply) : Typ
 joined_done : (h : PlainHost) (f p : ℕ) (s w : List ℕ) (r1 r2 : Reply) → h.is_done ≡ true → reply_of h (Ttype f p s) ≡ Some r1 → reply_of r1.0 (Ttype f (p + length s) w) ≡ Some r2
     → Joined h f p s w r1 r2
 joined_done h f p s w r1 r2 d e1 e2 =
-    let first : (counted h, []) ≡ r1 = the_reply (sym (silent h (Ttype f p s) d) ∙ e1) in
+    let first : (counted h, []) ≡ r1 = same_Some _ _ (sym (silent h (Ttype f p s) d) ∙ e1) in
     let d1 : r1.0.is_done ≡ true = ap (λ (r : Reply). r.0.is_done) (sym first) ∙ d in
-    let second : (counted r1.0, []) ≡ r2 = the_reply (sym (silent r1.0 (Ttype f (p + length s) w) d1) ∙ e2) in
+    let second : (counted r1.0, []) ≡ r2 = same_Some _ _ (sym (silent r1.0 (Ttype f (p + length s) w) d1) ∙ e2) in
     record {
       reply = (counted h, []);
       now = silent h (Ttype f p (s ++ w)) d;
@@ -242,14 +239,14 @@ joins h views line down f p c s u plain k =
     z = answered y.first.0 C [] y.rest y.later
 
     j : Joined x.first.0 f p s (c ∷ u) y.first z.first
-    j = go (bool_cases x.first.0.is_done)
+    j = go (cases_Bool x.first.0.is_done)
       where
         go : (x.first.0.is_done ≡ true) ⊎ (x.first.0.is_done ≡ false) → Joined x.first.0 f p s (c ∷ u) y.first z.first
         go (inl d) = joined_done x.first.0 f p s (c ∷ u) y.first z.first d y.now z.now
         go (inr d) = joined_open x.first.0 f p c s u y.first z.first plain d y.now z.now
 
     last : z.rest ≡ (z.first.0, [])
-    last = sym (the_reply z.later)
+    last = sym (same_Some _ _ z.later)
 
     after : x.last ≡ (z.first.0, z.first.1)
     after = y.whole ∙ (λ i. ((z.whole i).0, j.silent i ++ (z.whole i).1)) ∙ (λ i. ((last i).0, z.first.1 ++ (last i).1)) ∙ ap (λ (fs : List Hmesg). (z.first.0, fs)) (append-nil z.first.1)

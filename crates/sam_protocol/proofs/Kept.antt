@@ -1,23 +1,13 @@
 -- How the invariant at one file is carried on.
 use Rattle.std.proofs.Common.{◌≡◌, ℕ, ◌+◌, ◌≤◌, min, Bool, true, false, ◌||◌, List, [], ◌∷◌, ◌++◌, length, take, drop, Option, Some, None, ◌⊎◌, inl, inr, refl, sym, ap, ◌∙◌, subst, true≢false, arith, append-nil, length-take, length-drop, nat_le, if◌then◌else◌, le-leb}
 use Rattle.std.proofs.lemmas.List.{drop_min, take_min}
+use Rattle.std.proofs.lemmas.Bool.{or_right, or_left, or_cases, or_parts}
 use Rattle.sam_runes.specs.Texts.{most_in_message}
-use Rattle.sam_rasp.specs.Rasp.{load_cells}
-use Rattle.sam_protocol.proofs.Texts.{agrees_length, agrees_filled}
-use Rattle.sam_protocol.specs.Lens.{Slot, Unknown, Known, Open, Lens, lens, Action, Free_file, move, run, and_then, is_freeing, frees, IsGuarded, is_close, closes, HFile, Absent, Hidden, Named, Opened, Gone, Agrees, Fits_slot, IsSettled, IsKept}
+use Rattle.sam_rasp.specs.Rasp.{load_cells, Agrees}
+use Rattle.sam_rasp.proofs.RaspLaws.{length_agrees, agrees_loaded}
+use Rattle.sam_protocol.specs.Lens.{Slot, Unknown, Known, Open, Lens, lens, Action, Free_file, move, run, and_then, is_freeing, frees, IsGuarded, is_close, closes, HFile, Absent, Hidden, Named, Opened, Gone, Fits_slot, IsSettled, IsKept}
 use Rattle.sam_protocol.proofs.Lenses.{IsFree, IsOpen, IsAlike, locked_more, exited_of, exits, AreSkips, CanRequest, request_actions}
 use Rattle.sam_protocol.proofs.Runs.{run-append_some, stepped, still, runs_more, exited_after}
-
-or_right_true : (a b : Bool) → b ≡ true → (a || b) ≡ true
-or_right_true true b e = refl
-or_right_true false b e = e
-
-or_left_true : (a b : Bool) → a ≡ true → (a || b) ≡ true
-or_left_true a b e = ap (λ x. x || b) e
-
-or_split : (a b : Bool) → (a || b) ≡ true → (a ≡ true) ⊎ (b ≡ true)
-or_split true b e = inl refl
-or_split false b e = inr e
 
 frees-append : (s u : List Action) → frees s ≡ true → frees (s ++ u) ≡ true
 frees-append [] u e = absurd (true≢false (sym e))
@@ -51,7 +41,7 @@ kept_take a s v d n file k =
     record {
       mid = t.mid;
       moves = t.moves;
-      kept = record { final = k.final; runs = t.on; settled = k.settled; guarded = k.guarded.1; closed = λ e. k.closed (or_right_true _ _ e) };
+      kept = record { final = k.final; runs = t.on; settled = k.settled; guarded = k.guarded.1; closed = λ e. k.closed (or_right _ _ e) };
     }
 
 -- frames are answered from the settled state
@@ -89,14 +79,15 @@ kept_act s u v x d d2 n n2 file file2 k free alike on gone =
     either (inl p) f g = f p
     either (inr p) f g = g p
 
+-- a lens is alike to itself
+pub alike_same : (v : Lens) → IsAlike v v
+alike_same (lens c e n Unknown) = tt
+alike_same (lens c e n Known) = tt
+alike_same (lens c e n (Open r k)) = tt
+
 -- the settled state of a free file is the present one
 pub kept_free : (s : List Action) (v : Lens) (d : Bool) (n : ℕ) (file : HFile) → IsKept s v d n file → IsFree v → IsSettled v d n file
-kept_free s v d n file k free = subst (λ (w : Lens). IsSettled w d n file) (still s v k.final v free k.guarded (alike v) k.runs).0 k.settled
-  where
-    alike : (v : Lens) → IsAlike v v
-    alike (lens c e n Unknown) = tt
-    alike (lens c e n Known) = tt
-    alike (lens c e n (Open r k)) = tt
+kept_free s v d n file k free = subst (λ (w : Lens). IsSettled w d n file) (still s v k.final v free k.guarded (alike_same v) k.runs).0 k.settled
 
 -- a settled lens, by what the host has
 pub record SettledOpen (w : Lens) (d : Bool) (n : ℕ) (file : HFile) : Type 0 where
@@ -138,12 +129,13 @@ kept_data true n r t p m e a = absurd (true≢false e)
 kept_data false n r t p m e a =
     let x = take (min m most_in_message) (drop p t) in
     let q = min p (length t) in
-    let long : q + length x ≤ length r = omega (arith, agrees_length r t a, length-take (min m most_in_message) (drop p t), length-drop p t) in
+    let long : q + length x ≤ length r = omega (arith, length_agrees r t a, length-take (min m most_in_message) (drop p t), length-drop p t) in
+    let fits : q + length x ≤ length t = omega (arith, length_agrees r t a, long) in
     let same : x ≡ take (length x) (drop q t) = sym (take_min (min m most_in_message) (drop p t)) ∙ (λ i. take (sym (length-take (min m most_in_message) (drop p t)) i) (sym (drop_min p t) i)) in
     record {
       final = lens false false n (Open (load_cells r q x) 0);
       runs = if_passes (nat_le (q + length x) (length r)) (lens false false n (Open (load_cells r q x) 1)) (run (Free_file ∷ [])) _ (le-leb _ _ long) refl;
-      settled = (refl, refl, refl, (refl, agrees_filled q x r t a same));
+      settled = (refl, refl, refl, (refl, subst (λ (s : List ℕ). Agrees (load_cells r q s) t) (sym same) (agrees_loaded r t q (length x) a fits)));
       guarded = (λ c. refl, (λ c. absurd (true≢false (sym c)), tt));
       closed = λ c. absurd (true≢false (sym c));
     }
@@ -155,10 +147,6 @@ no_actions false file p m (inr h) = subst (λ (f : HFile). CanRequest false f ×
 
 pub exited_settled : (w : Lens) (d : Bool) (n : ℕ) (file : HFile) → IsSettled w d n file → exited_of w ≡ d
 exited_settled (lens c e m s) d n file x = x.1
-
-or_false_right : (a b : Bool) → (a || b) ≡ false → b ≡ false
-or_false_right true b e = absurd (true≢false e)
-or_false_right false b e = e
 
 can_request_open : (d : Bool) (t : List ℕ) → CanRequest d (Opened t)
 can_request_open true t = tt
@@ -174,7 +162,7 @@ kept_request s v d n file p m k o e = go (runs_more s v k.final o k.runs)
 
     why : (closes s ≡ true) ⊎ (exits s ≡ true) → (d ≡ true) ⊎ (file ≡ Gone)
     why (inl c) = inr (k.closed c)
-    why (inr c) = inl (exited ∙ or_left_true (exits s) (exited_of v) c)
+    why (inr c) = inl (exited ∙ or_left (exits s) (exited_of v) c)
 
     ended : run s (locked_more v) ≡ Some k.final → (d ≡ true) ⊎ (file ≡ Gone) → CanRequest d file × IsKept (s ++ request_actions d file p m) (locked_more v) d n file
     ended r h =
@@ -204,10 +192,10 @@ kept_request s v d n file p m k o e = go (runs_more s v k.final o k.runs)
 
     go : ((((closes s || exits s) ≡ true) × (run s (locked_more v) ≡ Some k.final)) ⊎ (IsOpen k.final × (run s (locked_more v) ≡ Some (locked_more k.final)) × ((closes s || exits s) ≡ false)))
         → CanRequest d file × IsKept (s ++ request_actions d file p m) (locked_more v) d n file
-    go (inl h) = ended h.1 (why (or_split _ _ h.0))
+    go (inl h) = ended h.1 (why (or_cases _ _ h.0))
     go (inr h) =
         let so = settled_open k.final d n file h.0 k.settled in
-        let none : d ≡ false = exited ∙ ap (λ (b : Bool). b || exited_of v) (or_false_right (closes s) (exits s) h.2) ∙ e in
+        let none : d ≡ false = exited ∙ ap (λ (b : Bool). b || exited_of v) (or_parts (closes s) (exits s) h.2).1 ∙ e in
         running so.text so.opened k.closed (lens false d n (Open so.rasp 1)) (h.1 ∙ ap (λ (y : Lens). Some (locked_more y)) so.is) (kept_data d n so.rasp so.text p m none so.agrees)
 
 -- frames of other files change nothing
@@ -217,9 +205,3 @@ kept_skips (a ∷ u) w d n file q x =
     let k = kept_skips u w d n file q.1 x in
     subst (λ (b : Action). IsKept (b ∷ u) w d n file) (sym q.0)
     (record { final = k.final; runs = k.runs; settled = k.settled; guarded = (λ c. absurd (true≢false (sym c)), k.guarded); closed = k.closed })
-
--- the terminal changes the lens of a free file, or of none
-pub alike_same : (v : Lens) → IsAlike v v
-alike_same (lens c e n Unknown) = tt
-alike_same (lens c e n Known) = tt
-alike_same (lens c e n (Open r k)) = tt

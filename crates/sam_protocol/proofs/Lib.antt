@@ -3,7 +3,6 @@ pub mod Changes
 pub mod Accepting
 pub mod Runs
 pub mod Kept
-pub mod Texts
 pub mod HostFiles
 pub mod Tests
 pub mod Guards

@@ -1,11 +1,13 @@
 -- The two messages that run a command line, and what a line does: from settled to settled.
 use Rattle.std.proofs.Common.{◌≡◌, ℕ, ◌+◌, ◌-◌, ◌≤◌, Bool, true, false, not, ◌||◌, ◌&&◌, ◌==◌, if◌then◌else◌, List, [], ◌∷◌, ◌++◌, length, map, reverse, Option, Some, None, Result, Ok, Err, unwrap_or, ◌⊎◌, inl, inr, refl, sym, ap, ◌∙◌, subst, true≢false, eqb-true, eq-eqb}
 use Rattle.std.specs.Prelude.{option_map, option_and_then, flat_map}
+use Rattle.std.proofs.lemmas.Bool.{cases_Bool}
 use Rattle.sam_runes.specs.Texts.{Range, ins, is_empty, max_runes, part, line_start, ends_line, as_lines, last_line}
 use Rattle.sam_runes.specs.Slots.{slot, put_slot}
 use Rattle.sam_runes.proofs.EditLaws.{last_first_is_at_once, edits_fit}
 use Rattle.sam_runes.proofs.SlotLaws.{slot-put_same, slot-put_other}
 use Rattle.sam_rasp.specs.Rasp.{ins_cells}
+use Rattle.sam_rasp.proofs.RaspLaws.{agrees_typed}
 use Rattle.sam_text.specs.declared.word.Word.{Word}
 use Rattle.sam_text.specs.declared.command.Command.{Command}
 use Rattle.sam_text.specs.declared.command.Command.TheVariants as command
@@ -28,8 +30,7 @@ use Rattle.sam_protocol.specs.View.{file_in}
 use Rattle.sam_protocol.specs.Steady.{HasFiles, IsSteady}
 use Rattle.sam_protocol.proofs.Accepting.{Synced}
 use Rattle.sam_protocol.proofs.Kept.{settled_slot, settled_opened}
-use Rattle.sam_protocol.proofs.Texts.{agrees_typed}
-use Rattle.sam_protocol.proofs.HostFiles.{bool_cases, put, put_other, put_opened, Opens, work_opens, Lasts, lasts_same, lasts_then, lasts_opened, still_has, at_there}
+use Rattle.sam_protocol.proofs.HostFiles.{put, put_other, put_opened, Opens, work_opens, Lasts, lasts_same, lasts_then, lasts_opened, still_has, at_there}
 use Rattle.sam_protocol.proofs.Tests.{open_tests, range_test}
 use Rattle.sam_protocol.proofs.Guards.{at_file-append}
 use Rattle.sam_protocol.proofs.Telling.{Told, told-append, told_if, told_given, told_edits, told_dot, told_check, told_dirty, told_name, told_pattern}
@@ -144,7 +145,7 @@ abbrev pub Holds : PlainFiles → Type 0
 Holds fs = (x : PlainFile) × (slot fs.slots 0 ≡ Some x)
 
 holds_put : (fs : PlainFiles) (f : ℕ) (x : PlainFile) → Holds fs → Holds (put_file fs f x)
-holds_put fs f x h = go (bool_cases (f == 0))
+holds_put fs f x h = go (cases_Bool (f == 0))
   where
     go : ((f == 0) ≡ true) ⊎ ((f == 0) ≡ false) → (y : PlainFile) × (slot (put_slot fs.slots f x) 0 ≡ Some y)
     go (inl e) = (x, subst (λ (k : ℕ). slot (put_slot fs.slots f x) k ≡ Some x) (eqb-true f 0 e) (slot-put_same fs.slots f x))
@@ -278,7 +279,7 @@ sync_line h p s steady done o holds l room ends = record {
         let u = settled_opened w h.is_done h.version t (subst (IsSettled w h.is_done h.version) (ap (file_in h.files.slots) (eqb-true _ _ e) ∙ o.shown) x) in (
           Open (ins_cells u.0 p (map Some s)) 0,
           ap (λ (b : Bool). commanded (if b then typed_in p s w else w)) e ∙ ap (λ (y : Lens). commanded (typed_in p s y)) u.1,
-          subst (Fits_slot (Open (ins_cells u.0 p (map Some s)) 0)) (sym (files g ∙ ap (λ (b : Bool). if b then Opened (ins t p s) else file_in h.files.slots g) e)) (refl, agrees_typed p s u.0 t u.2),
+          subst (Fits_slot (Open (ins_cells u.0 p (map Some s)) 0)) (sym (files g ∙ ap (λ (b : Bool). if b then Opened (ins t p s) else file_in h.files.slots g) e)) (refl, agrees_typed u.0 t s p u.2),
         )
     slot_of g w x (inr e) =
         let u = settled_slot w h.is_done h.version (file_in h.files.slots g) x in (
@@ -291,7 +292,7 @@ sync_line h p s steady done o holds l room ends = record {
     each : (g : ℕ) (w : Lens) → IsSettled w h.is_done h.version (file_in h.files.slots g)
         → IsKept (at_file g run.1) (commanded (if g == 0 then typed_in p s w else w)) run.0.is_done run.0.version (file_in run.0.files.slots g)
     each g w x =
-        let u = slot_of g w x (bool_cases (g == 0)) in
+        let u = slot_of g w x (cases_Bool (g == 0)) in
         subst (λ (y : Lens). IsKept (at_file g run.1) y run.0.is_done run.0.version (file_in run.0.files.slots g)) (sym u.1)
         (line_each a typed_host [] text has fit holds2 (carries_nothing h.is_done h.version a a (λ k. refl)) done g u.0 u.2)
 

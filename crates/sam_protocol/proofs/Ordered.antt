@@ -1,6 +1,7 @@
 -- What follows for both sides where all is in order: no refusal, agreement where nothing is under way, and ahead of time.
 use Rattle.std.proofs.Common.{◌≡◌, ℕ, suc, Bool, true, false, ◌||◌, ◌==◌, if◌then◌else◌, nat_lt, List, [], ◌∷◌, ◌++◌, length, map, Option, Some, None, is_some, Ok, Err, refl, sym, ap, ◌∙◌, subst}
 use Rattle.std.specs.Prelude.{unwrap_or}
+use Rattle.std.proofs.lemmas.Option.{same_Some}
 use Rattle.sam_term.specs.declared.files.Unsent.{Unsent}
 use Rattle.sam_runes.specs.Texts.{most_count}
 use Rattle.sam_runes.specs.Slots.{Slots, slot}
@@ -16,7 +17,6 @@ use Rattle.sam_host.specs.declared.fault.HostFault.TheVariants as hostfault
 use Rattle.sam_term.specs.Term.{PlainTerminal, blank_known, blank_window, window_of, window_in, is_open, is_any_locked, unsent_message}
 use Rattle.sam_term.specs.declared.files.Window.{Window}
 use Rattle.sam_term.specs.declared.files.KnownFile.{KnownFile}
-use Rattle.sam_protocol.specs.Lens as lenses
 use Rattle.sam_protocol.specs.Lens.{Slot, Unknown, Known, Open, Lens, lens, Action, HFile, Absent, Hidden, Named, Opened, Gone, Fits_slot, IsSettled, IsKept}
 use Rattle.sam_protocol.proofs.Lenses.{IsFree}
 use Rattle.sam_protocol.specs.Frames.{at_file}
@@ -54,22 +54,19 @@ answer_is h m r e full = ap (λ (b : Bool). if b then Err hostfault.CountFull el
     plain : Answer
     plain = if h.is_done then Ok (counted h, []) else answer_unless (first_of_checks (host_checks h m)) (reply_to h m)
 
-    the_reply : {p q : Reply} → Some p ≡ Some q → p ≡ q
-    the_reply e = cc
-
     checked : (o : Option HostFault) → replied o (reply_to h m) ≡ Some r → answer_unless o (reply_to h m) ≡ Ok (r.0, stamped r.0.taken r.1)
-    checked None q = ap (λ (x : Reply). Ok (x.0, stamped x.0.taken x.1)) (the_reply q)
+    checked None q = ap (λ (x : Reply). Ok (x.0, stamped x.0.taken x.1)) (same_Some _ _ q)
     checked (Some why) q = cc
 
     go : (b : Bool) → (if b then (let x : Option Reply = Some (counted h, []) in x) else replied (first_of_checks (host_checks h m)) (reply_to h m)) ≡ Some r
         → (if b then (let x : Answer = Ok (counted h, []) in x) else answer_unless (first_of_checks (host_checks h m)) (reply_to h m)) ≡ Ok (r.0, stamped r.0.taken r.1)
-    go true q = ap (λ (x : Reply). Ok (x.0, stamped x.0.taken x.1)) (the_reply q)
+    go true q = ap (λ (x : Reply). Ok (x.0, stamped x.0.taken x.1)) (same_Some _ _ q)
     go false q = checked (first_of_checks (host_checks h m)) q
 
 -- ## Free files, ahead of time
 
 -- a lens that shows the file as the host has it
-agrees_slot : (s : Slot) (file : HFile) → Fits_slot s file → (r : PartialText) (k : ℕ) → s ≡ Open r k → (t : List ℕ) × (file ≡ Opened t) × (k ≡ 0) × lenses.Agrees r t
+agrees_slot : (s : Slot) (file : HFile) → Fits_slot s file → (r : PartialText) (k : ℕ) → s ≡ Open r k → (t : List ℕ) × (file ≡ Opened t) × (k ≡ 0) × Agrees r t
 agrees_slot Unknown file f r k e = absurd (let x : Unknown ≡ Open r k = e in cc)
 agrees_slot Known file f r k e = absurd (let x : Known ≡ Open r k = e in cc)
 agrees_slot (Open a b) Absent f r k e = absurd f
@@ -78,16 +75,8 @@ agrees_slot (Open a b) (Named t) f r k e = absurd f
 agrees_slot (Open a b) (Opened t) f r k e =
     let same_rasp : a ≡ r = cc in
     let same_locks : b ≡ k = cc in
-    (t, refl, sym same_locks ∙ f.0, subst (λ (x : PartialText). lenses.Agrees x t) same_rasp f.1)
+    (t, refl, sym same_locks ∙ f.0, subst (λ (x : PartialText). Agrees x t) same_rasp f.1)
 agrees_slot (Open a b) Gone f r k e = absurd f
-
-same_agrees : (r : PartialText) (t : List ℕ) → lenses.Agrees r t → Agrees r t
-same_agrees [] [] a = tt
-same_agrees [] (c ∷ t) a = absurd a
-same_agrees (None ∷ r) [] a = absurd a
-same_agrees (Some d ∷ r) [] a = absurd a
-same_agrees (None ∷ r) (c ∷ t) a = same_agrees r t a
-same_agrees (Some d ∷ r) (c ∷ t) a = (a.0, same_agrees r t a.1)
 
 -- the text of a file that is open there
 opened_text : (fs : PlainFiles) (f : ℕ) (t : List ℕ) → file_in fs.slots f ≡ Opened t → ((file_at fs f).text ≡ t) × ((file_at fs f).opened ≡ true)
@@ -130,7 +119,7 @@ settled_shows t fs f fits = record { opened = opens (slot t.files f) fits; agree
     open_window w fit =
         let x = agrees_slot (Open w.rasp w.locks) (file_in fs.slots f) fit w.rasp w.locks refl in
         let y = opened_text fs f x.0 x.1 in
-        (x.2, subst (Agrees w.rasp) (sym y.0) (same_agrees w.rasp x.0 x.3), y.1)
+        (x.2, subst (Agrees w.rasp) (sym y.0) x.3, y.1)
 
     shut : (s : Slot) → ((r : PartialText) (k : ℕ) → s ≡ Open r k → ⊥) → Fits_slot s (file_in fs.slots f) → (file_at fs f).opened ≡ false
     shut s apart fit = closed_there fs f (λ x e. never x s apart (subst (Fits_slot s) e fit))
@@ -169,19 +158,13 @@ free_shows h t up down o f free =
 
 -- the host is the one that will have handled all
 quiet_ahead : (h : PlainHost) (t : PlainTerminal) (o : InOrder h t [] []) → t.unsent ≡ None → ◌≡◌ {A = Reply} (h, []) (o.kept.ahead, o.kept.frames)
-quiet_ahead h t o e = the_reply (ap (λ (u : Option Unsent). answers h (unsent_message u)) (sym e) ∙ o.kept.folds)
-  where
-    the_reply : {p q : Reply} → Some p ≡ Some q → p ≡ q
-    the_reply e = cc
+quiet_ahead h t o e = same_Some _ _ (ap (λ (u : Option Unsent). answers h (unsent_message u)) (sym e) ∙ o.kept.folds)
 
 quiet_settled : (h : PlainHost) (t : PlainTerminal) (o : InOrder h t [] []) → t.unsent ≡ None → (g : ℕ) → IsSettled (view g t) h.is_done h.version (file_in h.files.slots g)
 quiet_settled h t o e g =
     let x : IsKept [] (view g t) h.is_done h.version (file_in h.files.slots g) =
     subst (λ (r : Reply). IsKept (at_file g r.1) (view g t) r.0.is_done r.0.version (file_in r.0.files.slots g)) (sym (quiet_ahead h t o e)) (o.kept.each g) in
-    subst (λ (v : Lens). IsSettled v h.is_done h.version (file_in h.files.slots g)) (the_lens (sym x.runs)) x.settled
-  where
-    the_lens : {p q : Lens} → Some p ≡ Some q → p ≡ q
-    the_lens e = cc
+    subst (λ (v : Lens). IsSettled v h.is_done h.version (file_in h.files.slots g)) (same_Some _ _ (sym x.runs)) x.settled
 
 none_any : (ss : Slots KnownFile) → ((g : ℕ) → (window_in ss g).locks ≡ 0) → is_any_locked ss ≡ false
 none_any [] h = refl

@@ -1,7 +1,7 @@
 -- What the tests of an event say of the views, where none of them stands against it.
 use Rattle.std.proofs.Common.{◌≡◌, ℕ, zero, suc, ◌≤◌, Bool, true, false, not, ◌&&◌, ◌||◌, nat_lt, List, [], ◌∷◌, Option, Some, None, is_some, refl, sym, subst, true≢false, arith}
 use Rattle.std.specs.Prelude.{unwrap_or}
-use Rattle.std.proofs.lemmas.Bool.{ltb-false}
+use Rattle.std.proofs.lemmas.Bool.{ltb-false, or_parts}
 use Rattle.sam_runes.specs.Slots.{Slots, slot}
 use Rattle.sam_runes.specs.Checks.{Checks, first_of_checks}
 use Rattle.sam_runes.proofs.CheckLaws.{none_holds}
@@ -32,10 +32,6 @@ pub record Passed (t : PlainTerminal) (e : UserEvent) : Type 0 where
   pub place : has_bad_place t e ≡ false
   pub room : makes_too_long t e ≡ false
 
-neither : (a b : Bool) → (a || b) ≡ false → (a ≡ false) × (b ≡ false)
-neither true b e = absurd (true≢false e)
-neither false b e = (refl, e)
-
 pub passed : (t : PlainTerminal) (e : UserEvent) → first_of_checks (event_checks t e) ≡ None → Passed t e
 passed t e h =
     let c10 : Checks Verdict = [] in
@@ -58,7 +54,7 @@ passed t e h =
     let r7 = none_holds (has_bad_place t e, Refuses refusal.BadPosition) c8 r6.1 in
     let r8 = none_holds (has_long_text t e, Refuses refusal.TextTooLong) c9 r7.1 in
     let r9 = none_holds (makes_too_long t e, Refuses refusal.TooLong) c10 r8.1 in
-    let locks = neither (is_file_locked t (file_of e)) (waits_for_all e && is_any_locked t.files) r6.0 in
+    let locks = or_parts (is_file_locked t (file_of e)) (waits_for_all e && is_any_locked t.files) r6.0 in
     record { here = r0.0; free = r1.0; version = r2.0; known = r3.0; other = r4.0; opened = r5.0; unlocked = locks.0; all_unlocked = locks.1; place = r7.0; room = r9.0 }
 
 no_locks : (k : ℕ) → nat_lt 0 k ≡ false → k ≡ 0
@@ -129,8 +125,8 @@ pub none_locked : (ss : Slots KnownFile) (g : ℕ) → is_any_locked ss ≡ fals
 none_locked [] g e = refl
 none_locked (None ∷ ss) zero e = refl
 none_locked (None ∷ ss) (suc g) e = none_locked ss g e
-none_locked (Some x ∷ ss) zero e = (neither (nat_lt 0 (unwrap_or x.window blank_window).locks) (is_any_locked ss) e).0
-none_locked (Some x ∷ ss) (suc g) e = none_locked ss g (neither (nat_lt 0 (unwrap_or x.window blank_window).locks) (is_any_locked ss) e).1
+none_locked (Some x ∷ ss) zero e = (or_parts (nat_lt 0 (unwrap_or x.window blank_window).locks) (is_any_locked ss) e).0
+none_locked (Some x ∷ ss) (suc g) e = none_locked ss g (or_parts (nat_lt 0 (unwrap_or x.window blank_window).locks) (is_any_locked ss) e).1
 
 pub all_free : (t : PlainTerminal) → t.command_lock ≡ false → is_any_locked t.files ≡ false → (g : ℕ) → IsFree (view g t)
 all_free t c e g = free_at t g c (none_locked t.files g e)

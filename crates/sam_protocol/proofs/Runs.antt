@@ -1,5 +1,6 @@
 -- Runs of actions at one file.
 use Rattle.std.proofs.Common.{◌≡◌, ℕ, zero, suc, Bool, true, false, ◌||◌, List, [], ◌∷◌, ◌++◌, Option, Some, None, ◌⊎◌, inl, inr, refl, sym, ap, ◌∙◌, subst, true≢false, if◌then◌else◌}
+use Rattle.std.proofs.lemmas.Bool.{or_from, or_parts, false_from_ne_true}
 use Rattle.sam_protocol.specs.Lens.{Slot, Unknown, Known, Open, Lens, lens, Action, Skip, Needs_known, Needs_open, Join, Bind, Close, Leave, Grow, Fill, Insert, Cut, Place, Change, Free_file, Free_command, Exit, move, run, and_then, is_crossing, is_freeing, frees, IsGuarded, is_close, closes}
 use Rattle.sam_protocol.proofs.Lenses.{IsFree, IsOpen, IsAlike, locked_more, exited_of, command_of, version_of, is_change, changes, is_free_command, frees_command, is_exit, exits}
 
@@ -117,16 +118,13 @@ free_or_refused Exit (lens false e n Known) w f m = cc
 free_or_refused Exit (lens false e n (Open r zero)) w f m = cc
 free_or_refused Exit (lens false e n (Open r (suc k))) w f m = absurd f
 
-or_false : (a b : Bool) → a ≡ false → b ≡ false → (a || b) ≡ false
-or_false a b p q = ap (λ x. x || b) p ∙ q
-
 -- what runs from a free lens frees nothing
 pub frees_nothing : (s : List Action) (v w : Lens) → IsFree v → run s v ≡ Some w → frees s ≡ false
 frees_nothing [] v w f r = refl
 frees_nothing (a ∷ s) v w f r =
     let t = stepped a s v w r in
     let u = free_or_refused a v t.mid f t.moves in
-    or_false _ _ u.0 (frees_nothing s t.mid w u.1 t.on)
+    or_from _ _ u.0 (frees_nothing s t.mid w u.1 t.on)
 
 -- an idle action from a free lens: it leaves that lens, and every lens that is alike
 pub idle : (a : Action) (v w x : Lens) → is_freeing a ≡ false → is_crossing a ≡ false → IsAlike v x → move a v ≡ Some w → (w ≡ v) × (move a x ≡ Some x)
@@ -163,10 +161,6 @@ idle Free_file v w x i j l m = absurd (true≢false i)
 idle Free_command v w x i j l m = absurd (true≢false i)
 idle Exit v w x i j l m = absurd (true≢false i)
 
-cases : (b : Bool) → (b ≡ true) ⊎ (b ≡ false)
-cases true = inl refl
-cases false = inr refl
-
 -- what is under way moves no free lens, and would move none that is alike
 pub still : (s : List Action) (v w x : Lens) → IsFree v → IsGuarded s → IsAlike v x → run s v ≡ Some w → (w ≡ v) × (run s x ≡ Some x)
 still [] v w x f g l r = (cc, refl)
@@ -174,15 +168,11 @@ still (a ∷ s) v w x f g l r =
     let t = stepped a s v w r in
     let u = free_or_refused a v t.mid f t.moves in
     let none = frees_nothing s t.mid w u.1 t.on in
-    let quiet : is_crossing a ≡ false = quiet_of (cases (is_crossing a)) g.0 none in
+    let quiet : is_crossing a ≡ false = false_from_ne_true _ (λ q. true≢false (sym (g.0 q) ∙ none)) in
     let i = idle a v t.mid x u.0 quiet l t.moves in
     let on : run s v ≡ Some w = subst (λ (m : Lens). run s m ≡ Some w) i.0 t.on in
     let h = still s v w x f g.1 l on in
     (h.0, ap (λ (m : Option Lens). and_then m (run s)) i.1 ∙ h.1)
-  where
-    quiet_of : (is_crossing a ≡ true) ⊎ (is_crossing a ≡ false) → (is_crossing a ≡ true → frees s ≡ true) → frees s ≡ false → is_crossing a ≡ false
-    quiet_of (inr q) h none = q
-    quiet_of (inl q) h none = absurd (true≢false (sym (h q) ∙ none))
 
 -- a step with one lock more: the lock stays, or the step ends it
 abbrev pub StepsMore : Action → Lens → Lens → Type 0
@@ -191,7 +181,8 @@ StepsMore a v m = (((is_close a || is_exit a) ≡ true) × (move a (locked_more 
 stays : (a : Action) (v x m : Lens) → move a (locked_more v) ≡ Some (locked_more x) → IsOpen x → x ≡ m → (is_close a || is_exit a) ≡ false → StepsMore a v m
 stays a v x m e o q i = inr (subst IsOpen q o, e ∙ ap (λ (y : Lens). Some (locked_more y)) q, i)
 
-if_true : (b : Bool) (x : Lens) → b ≡ true → (if b then Some x else None) ≡ Some x
+-- a test that holds
+pub if_true : (b : Bool) (x : Lens) → b ≡ true → (if b then Some x else None) ≡ Some x
 if_true true x e = refl
 if_true false x e = absurd (true≢false (sym e))
 
@@ -425,7 +416,7 @@ no_exit [] v w r x = refl
 no_exit (a ∷ s) v w r x =
     let t = stepped a s v w r in
     let h = no_exit_step a v t.mid t.moves x in
-    or_false _ _ h.0 (no_exit s t.mid w t.on h.1)
+    or_from _ _ h.0 (no_exit s t.mid w t.on h.1)
 
 -- without the command lock no Hunlock comes
 no_unlock_step : (a : Action) (v m : Lens) → move a v ≡ Some m → command_of v ≡ false → is_free_command a ≡ false
@@ -450,7 +441,7 @@ pub no_unlock : (s : List Action) (v w : Lens) → run s v ≡ Some w → comman
 no_unlock [] v w r x = refl
 no_unlock (a ∷ s) v w r x =
     let t = stepped a s v w r in
-    or_false _ _ (no_unlock_step a v t.mid t.moves x) (no_unlock s t.mid w t.on (no_exit_step a v t.mid t.moves x).1)
+    or_from _ _ (no_unlock_step a v t.mid t.moves x) (no_unlock s t.mid w t.on (no_exit_step a v t.mid t.moves x).1)
 
 -- where no Hversion comes the version stays
 same_version_step : (a : Action) (v m : Lens) → move a v ≡ Some m → is_change a ≡ false → version_of m ≡ version_of v
@@ -512,20 +503,12 @@ pub same_version : (s : List Action) (v w : Lens) → run s v ≡ Some w → cha
 same_version [] v w r x = sym (ap version_of (the r))
 same_version (a ∷ s) v w r x =
     let t = stepped a s v w r in
-    let p = neither_one (is_change a) (changes s) x in
+    let p = or_parts (is_change a) (changes s) x in
     same_version s t.mid w t.on p.1 ∙ same_version_step a v t.mid t.moves p.0
-  where
-    neither_one : (a b : Bool) → (a || b) ≡ false → (a ≡ false) × (b ≡ false)
-    neither_one true b e = absurd (true≢false e)
-    neither_one false b e = (refl, e)
 
 -- no action of a free file's first frame needs the user kept out
 pub first_is_quiet : (a : Action) (s : List Action) (v w : Lens) → IsFree v → IsGuarded (a ∷ s) → run (a ∷ s) v ≡ Some w → is_crossing a ≡ false
 first_is_quiet a s v w f g r =
     let t = stepped a s v w r in
     let u = free_or_refused a v t.mid f t.moves in
-    quiet_of (cases (is_crossing a)) g.0 (frees_nothing s t.mid w u.1 t.on)
-  where
-    quiet_of : (is_crossing a ≡ true) ⊎ (is_crossing a ≡ false) → (is_crossing a ≡ true → frees s ≡ true) → frees s ≡ false → is_crossing a ≡ false
-    quiet_of (inr q) h none = q
-    quiet_of (inl q) h none = absurd (true≢false (sym (h q) ∙ none))
+    false_from_ne_true _ (λ q. true≢false (sym (g.0 q) ∙ frees_nothing s t.mid w u.1 t.on))

@@ -109,7 +109,8 @@ known_announced h f all z (inr t) = go f z (opens_at h.files f t.0 t.1).0.opened
     go (suc k) z e = all k e
 
 announced-reply : (h : PlainHost) (m : Tmesg) → Accepted h m → AllOpenAnnounced h.files → AllOpenAnnounced (reply_to h m).0.files
-unfolding reply_version reply_startcmdfile reply_check reply_request reply_origin reply_startfile reply_workfile reply_cut reply_paste reply_snarf reply_startnewfile reply_write reply_close reply_look reply_search reply_dclick reply_startsnarf reply_setsnarf reply_exit reply_type reply_send
+unfolding reply_version reply_startcmdfile reply_check reply_request reply_origin reply_startfile reply_workfile reply_cut reply_paste
+    reply_snarf reply_startnewfile reply_write reply_close reply_look reply_search reply_dclick reply_startsnarf reply_setsnarf reply_exit reply_type reply_send
 announced-reply h (Tversion v) a all = announced-all h.files.slots
 announced-reply h Tstartcmdfile a all =
     announced-if (file_at h.files 0).opened (h, _) (with_file h 0 (record (file_at h.files 0) { opened = true }), _) all

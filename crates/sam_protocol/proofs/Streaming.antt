@@ -1,6 +1,8 @@
 -- Both sides have one version wherever the command lock is free, and it is that of the place of the next message.
 use Rattle.std.proofs.Common.{◌≡◌, ℕ, ◌+◌, Bool, true, false, not, ◌&&◌, ◌||◌, ◌==◌, if◌then◌else◌, nat_lt, List, [], ◌∷◌, ◌++◌, length, Option, Some, None, ◌⊎◌, inl, inr, refl, sym, ap, ◌∙◌, subst, true≢false}
 use Rattle.std.specs.Prelude.{drop, nat_le}
+use Rattle.std.proofs.lemmas.Bool.{or_parts, false_from_ne_true}
+use Rattle.std.proofs.lemmas.Option.{same_Some}
 use Rattle.sam_term.specs.declared.files.Unsent.{Unsent}
 use Rattle.sam_runes.specs.Texts.{Range, is_empty, max_runes, all_tags, most_in_pattern, as_lines, part, ends_line, common_version}
 use Rattle.sam_runes.specs.Checks.{first_of_checks}
@@ -39,7 +41,8 @@ version-found h f (Some d) ms = refl
 
 -- the version behind a message that nothing stands against
 version_next : (h : PlainHost) (m : Tmesg) → first_of_checks (host_checks h m) ≡ None → (reply_to h m).0.version ≡ after_t h.version m
-unfolding reply_version reply_startcmdfile reply_check reply_request reply_origin reply_startfile reply_workfile reply_cut reply_paste reply_snarf reply_startnewfile reply_write reply_close reply_look reply_search reply_dclick reply_startsnarf reply_setsnarf reply_exit reply_type reply_send
+unfolding reply_version reply_startcmdfile reply_check reply_request reply_origin reply_startfile reply_workfile reply_cut reply_paste
+    reply_snarf reply_startnewfile reply_write reply_close reply_look reply_search reply_dclick reply_startsnarf reply_setsnarf reply_exit reply_type reply_send
 version_next h (Tversion v) e = sym (ap (λ (b : Bool). if b then h.version else common_version v) (none_holds (v == 0, hostfault.BadVersion) [] e).0)
 version_next h Tstartcmdfile e = version-if h.version (file_at h.files 0).opened _ _ refl refl
 version_next h (Ttype f p s) e = version-if h.version ((f == 0) && ends_line s) _ _ refl refl
@@ -65,43 +68,29 @@ version_of_reply h m r e = go h.is_done e
     P2 : Reply → Type 0
     P2 x = (x.0.version ≡ h.version) ⊎ (unlocks_command x.1 ≡ true)
 
-    the_reply : {p q : Reply} → Some p ≡ Some q → p ≡ q
-    the_reply e = cc
-
     checked : (o : Option HostFault) → first_of_checks (host_checks h m) ≡ o → replied o (reply_to h m) ≡ Some r → P2 r
-    checked None c q = subst P2 (the_reply q) (version_reply h m c)
+    checked None c q = subst P2 (same_Some _ _ q) (version_reply h m c)
     checked (Some why) c q = absurd (let x : None ≡ Some r = q in cc)
 
     go : (b : Bool) → (if b then (let x : Option Reply = Some (counted h, []) in x) else replied (first_of_checks (host_checks h m)) (reply_to h m)) ≡ Some r → P2 r
-    go true q = subst P2 (the_reply q) (inl refl)
+    go true q = subst P2 (same_Some _ _ q) (inl refl)
     go false q = checked (first_of_checks (host_checks h m)) refl q
 
 behind_none : (a b : List Hmesg) → unlocks_command (a ++ b) ≡ false → unlocks_command b ≡ false
 behind_none [] b e = e
-behind_none (m ∷ a) b e = behind_none a b (right (is_unlock m) (unlocks_command (a ++ b)) e)
-  where
-    right : (p r : Bool) → (p || r) ≡ false → r ≡ false
-    right true r e = absurd (true≢false e)
-    right false r e = e
-
-neither : (p r : Bool) → (p || r) ≡ false → (p ≡ false) × (r ≡ false)
-neither true r e = absurd (true≢false e)
-neither false r e = (refl, e)
+behind_none (m ∷ a) b e = behind_none a b (or_parts (is_unlock m) (unlocks_command (a ++ b)) e).1
 
 first_none : (a b : List Hmesg) → unlocks_command (a ++ b) ≡ false → unlocks_command a ≡ false
 first_none [] b e = refl
 first_none (m ∷ a) b e =
-    let parts = neither (is_unlock m) (unlocks_command (a ++ b)) e in
+    let parts = or_parts (is_unlock m) (unlocks_command (a ++ b)) e in
     ap (λ (x : Bool). x || unlocks_command a) parts.0 ∙ first_none a b parts.1
 
 before_none : (a b : List Hmesg) → unlocks_command (a ++ b) ≡ false → unlocks_command a ≡ true → ⊥
 before_none a b e f = true≢false (sym f ∙ first_none a b e)
 
 answers_version : (ms : List Tmesg) (h : PlainHost) (a : Reply) → answers h ms ≡ Some a → unlocks_command a.1 ≡ false → a.0.version ≡ h.version
-answers_version [] h a e u = ap (λ (r : Reply). r.0.version) (sym (the_reply e))
-  where
-    the_reply : {p q : Reply} → Some p ≡ Some q → p ≡ q
-    the_reply e = cc
+answers_version [] h a e u = ap (λ (r : Reply). r.0.version) (sym (same_Some _ _ e))
 answers_version (m ∷ ms) h a e u =
     let t = answered h m ms a e in
     let both : unlocks_command (t.first.1 ++ t.rest.1) ≡ false = sym (ap (λ (r : Reply). unlocks_command r.1) t.whole) ∙ u in
@@ -139,42 +128,26 @@ one_version h t up down o c =
 -- ## The version at the place of the next message
 
 -- a host that is done stays so
-still_done : (ms : List Tmesg) (h : PlainHost) (r : Reply) → answers h ms ≡ Some r → h.is_done ≡ true → r.0.is_done ≡ true
-still_done [] h r e d = ap (λ (x : Reply). x.0.is_done) (sym (the_reply e)) ∙ d
-  where
-    the_reply : {p q : Reply} → Some p ≡ Some q → p ≡ q
-    the_reply e = cc
+pub still_done : (ms : List Tmesg) (h : PlainHost) (r : Reply) → answers h ms ≡ Some r → h.is_done ≡ true → r.0.is_done ≡ true
+still_done [] h r e d = ap (λ (x : Reply). x.0.is_done) (sym (same_Some _ _ e)) ∙ d
 still_done (m ∷ ms) h r e d =
     let t = answered h m ms r e in
     let silent : ◌≡◌ {A = Reply} (counted h, []) t.first =
-    the_reply (sym (ap (λ (b : Bool). if b then Some (counted h, []) else replied (first_of_checks (host_checks h m)) (reply_to h m)) d) ∙ t.now) in
+    same_Some _ _ (sym (ap (λ (b : Bool). if b then Some (counted h, []) else replied (first_of_checks (host_checks h m)) (reply_to h m)) d) ∙ t.now) in
     ap (λ (x : Reply). x.0.is_done) t.whole ∙ still_done ms t.first.0 t.rest t.later (ap (λ (x : Reply). x.0.is_done) (sym silent) ∙ d)
-  where
-    the_reply : {p q : Reply} → Some p ≡ Some q → p ≡ q
-    the_reply e = cc
 
 running : (ms : List Tmesg) (h : PlainHost) (r : Reply) → answers h ms ≡ Some r → r.0.is_done ≡ false → h.is_done ≡ false
-running ms h r e d = go h.is_done refl
-  where
-    go : (b : Bool) → h.is_done ≡ b → b ≡ false
-    go true q = absurd (true≢false (sym (still_done ms h r e q) ∙ d))
-    go false q = refl
+running ms h r e d = false_from_ne_true _ (λ q. true≢false (sym (still_done ms h r e q) ∙ d))
 
 one_past : (h : PlainHost) (m : Tmesg) (r : Reply) → h.is_done ≡ false → reply_of h m ≡ Some r → r.0.version ≡ after_t h.version m
 one_past h m r d e = go (first_of_checks (host_checks h m)) refl (sym (ap (λ (b : Bool). if b then Some (counted h, []) else replied (first_of_checks (host_checks h m)) (reply_to h m)) d) ∙ e)
   where
-    the_reply : {p q : Reply} → Some p ≡ Some q → p ≡ q
-    the_reply e = cc
-
     go : (o : Option HostFault) → first_of_checks (host_checks h m) ≡ o → replied o (reply_to h m) ≡ Some r → r.0.version ≡ after_t h.version m
-    go None c q = ap (λ (x : Reply). x.0.version) (sym (the_reply q)) ∙ version_next h m c
+    go None c q = ap (λ (x : Reply). x.0.version) (sym (same_Some _ _ q)) ∙ version_next h m c
     go (Some why) c q = absurd (let x : None ≡ Some r = q in cc)
 
 folded_version : (ms : List Tmesg) (h : PlainHost) (r : Reply) → answers h ms ≡ Some r → r.0.is_done ≡ false → r.0.version ≡ version_behind h.version ms
-folded_version [] h r e d = ap (λ (x : Reply). x.0.version) (sym (the_reply e))
-  where
-    the_reply : {p q : Reply} → Some p ≡ Some q → p ≡ q
-    the_reply e = cc
+folded_version [] h r e d = ap (λ (x : Reply). x.0.version) (sym (same_Some _ _ e))
 folded_version (m ∷ ms) h r e d =
     let t = answered h m ms r e in
     let later : t.rest.0.is_done ≡ false = ap (λ (x : Reply). x.0.is_done) (sym t.whole) ∙ d in

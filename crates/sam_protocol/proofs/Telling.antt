@@ -1,23 +1,23 @@
 -- What frames about one open file tell: they take a partial text that agrees with one text to one that agrees with another.
 use Rattle.std.proofs.Common.{◌≡◌, ℕ, ◌+◌, ◌-◌, ◌≤◌, Bool, true, false, not, ◌&&◌, ◌==◌, if◌then◌else◌, List, [], ◌∷◌, ◌++◌, length, map, replicate, take, drop, Option, Some, None, refl, sym, ap, ◌∙◌, subst, true≢false, arith, append-nil, take-append-drop, nat_le, nat_lt, le-leb}
 use Rattle.std.specs.Prelude.{flat_map}
-use Rattle.std.proofs.lemmas.Bool.{ltb-false}
+use Rattle.std.proofs.lemmas.Bool.{ltb-false, and_from}
 use Rattle.std.proofs.lemmas.List.{map-append}
 use Rattle.sam_runes.specs.Texts.{ins, del, is_empty, max_runes, most_in_message}
 use Rattle.sam_runes.specs.declared.edit.Edit.{Edit}
 use Rattle.sam_runes.specs.Edits.{edited, all_edited, EditsFit}
 use Rattle.sam_runes.proofs.EditLaws.{del-nothing, length-del}
-use Rattle.sam_rasp.specs.Rasp.{ins_cells, del_cells}
+use Rattle.sam_rasp.specs.Rasp.{ins_cells, del_cells, Agrees}
+use Rattle.sam_rasp.proofs.RaspLaws.{length_agrees, agrees_typed, agrees_grown, agrees_removed}
 use Rattle.sam_text.specs.Files.{PlainFile, PlainFiles, file_at}
 use Rattle.sam_mesg.specs.declared.hmesg.Hmesg.{Hmesg}
-use Rattle.sam_mesg.specs.declared.hmesg.Hmesg.TheVariants.{Hcurrent, Hmovname, Hgrow, Hcheck, Horigin, Hsetdot, Hgrowdata, Hmoveto, Hclean, Hdirty, Hcut, Hsetpat}
+use Rattle.sam_mesg.specs.declared.hmesg.Hmesg.TheVariants.{Hmovname, Hgrow, Hcheck, Horigin, Hsetdot, Hgrowdata, Hmoveto, Hclean, Hdirty, Hcut, Hsetpat}
 use Rattle.sam_host.specs.Host.{when, when_given, grown, told_length, told_edit}
-use Rattle.sam_protocol.specs.Lens.{Open, lens, Action, Skip, Needs_known, Needs_open, Grow, Insert, Cut, Place, move, run, and_then, Lens, closes, Agrees}
+use Rattle.sam_protocol.specs.Lens.{Open, lens, Action, Skip, Needs_known, Needs_open, Grow, Insert, Cut, Place, move, run, and_then, Lens, closes}
 use Rattle.sam_protocol.proofs.Lenses.{AreSkips}
 use Rattle.sam_protocol.specs.Frames.{action, at_file, only}
-use Rattle.sam_protocol.proofs.Runs.{run-append_some}
-use Rattle.sam_protocol.proofs.Texts.{agrees_length, agrees_grown, agrees_typed, agrees_cut}
-use Rattle.sam_protocol.proofs.Guards.{both, no_close_behind, if_holds}
+use Rattle.sam_protocol.proofs.Runs.{run-append_some, if_true}
+use Rattle.sam_protocol.proofs.Guards.{no_close_behind}
 
 -- ## Actions at an open file, whatever locks are held
 
@@ -63,26 +63,26 @@ rewrites_skip t = rewrites_one Skip t t (λ r. r) refl (λ c e n r k a. refl) (�
 
 rewrites_place : (p q : ℕ) (t : List ℕ) → p ≤ q → q ≤ length t → Rewrites (Place p q ∷ []) t t
 rewrites_place p q t l l2 = rewrites_one (Place p q) t t (λ r. r) refl
-    (λ c e n r k a. let l3 : q ≤ length r = omega (arith, agrees_length r t a) in if_holds _ _ (both _ _ (le-leb _ _ l) (le-leb _ _ l3))) (λ r a. a)
+    (λ c e n r k a. let l3 : q ≤ length r = omega (arith, length_agrees r t a) in if_true _ _ (and_from _ _ (le-leb _ _ l) (le-leb _ _ l3))) (λ r a. a)
 
 room_passes : (p m : ℕ) (r : List (Option ℕ)) (t : List ℕ) → Agrees r t → p ≤ length t → length t + m ≤ max_runes → (nat_le p (length r) && nat_le (length r + m) max_runes) ≡ true
 room_passes p m r t a l room =
-    let l2 : p ≤ length r = omega (arith, agrees_length r t a) in
-    let room2 : length r + m ≤ max_runes = subst (λ (k : ℕ). k + m ≤ max_runes) (sym (agrees_length r t a)) room in
-    both _ _ (le-leb _ _ l2) (le-leb _ _ room2)
+    let l2 : p ≤ length r = omega (arith, length_agrees r t a) in
+    let room2 : length r + m ≤ max_runes = subst (λ (k : ℕ). k + m ≤ max_runes) (sym (length_agrees r t a)) room in
+    and_from _ _ (le-leb _ _ l2) (le-leb _ _ room2)
 
 rewrites_insert : (p : ℕ) (s t : List ℕ) → p ≤ length t → length t + length s ≤ max_runes → Rewrites (Insert p s ∷ []) t (ins t p s)
 rewrites_insert p s t l room =
-    rewrites_one (Insert p s) t (ins t p s) (λ r. ins_cells r p (map Some s)) refl (λ c e n r k a. if_holds _ _ (room_passes p (length s) r t a l room)) (λ r a. agrees_typed p s r t a)
+    rewrites_one (Insert p s) t (ins t p s) (λ r. ins_cells r p (map Some s)) refl (λ c e n r k a. if_true _ _ (room_passes p (length s) r t a l room)) (λ r a. agrees_typed r t s p a)
 
 rewrites_grow : (p : ℕ) (s t : List ℕ) → p ≤ length t → length t + length s ≤ max_runes → Rewrites (Grow p (length s) ∷ []) t (ins t p s)
 rewrites_grow p s t l room =
-    rewrites_one (Grow p (length s)) t (ins t p s) (λ r. ins_cells r p (replicate (length s) None)) refl (λ c e n r k a. if_holds _ _ (room_passes p (length s) r t a l room))
-    (λ r a. agrees_grown p s r t a)
+    rewrites_one (Grow p (length s)) t (ins t p s) (λ r. ins_cells r p (replicate (length s) None)) refl (λ c e n r k a. if_true _ _ (room_passes p (length s) r t a l room))
+    (λ r a. agrees_grown r t s p a)
 
 rewrites_cut : (p m : ℕ) (t : List ℕ) → p + m ≤ length t → Rewrites (Cut p m ∷ []) t (del t p (p + m))
 rewrites_cut p m t l = rewrites_one (Cut p m) t (del t p (p + m)) (λ r. del_cells r p (p + m)) refl
-    (λ c e n r k a. let l2 : p + m ≤ length r = omega (arith, agrees_length r t a) in if_holds _ _ (le-leb _ _ l2)) (λ r a. agrees_cut p (p + m) r t a)
+    (λ c e n r k a. let l2 : p + m ≤ length r = omega (arith, length_agrees r t a) in if_true _ _ (le-leb _ _ l2)) (λ r a. agrees_removed r t p (p + m) a)
 
 -- ## Frames about the file f alone
 
@@ -144,9 +144,6 @@ told_dot f p q t l l2 = told_one f (Hsetdot f p q) (Place p q) t t (λ g. refl) 
 
 pub told_check : (f : ℕ) (t : List ℕ) → Told f (Hcheck f ∷ []) t t
 told_check f t = told_one f (Hcheck f) Needs_open t t (λ g. refl) (rewrites_open t)
-
-pub told_current : (f : ℕ) (t : List ℕ) → Told f (Hcurrent f ∷ []) t t
-told_current f t = told_one f (Hcurrent f) Needs_known t t (λ g. refl) (rewrites_known t)
 
 pub told_clean : (f : ℕ) (t : List ℕ) → Told f (Hclean f ∷ []) t t
 told_clean f t = told_one f (Hclean f) Needs_known t t (λ g. refl) (rewrites_known t)

@@ -1,6 +1,7 @@
 -- Typing keeps both sides in order, whether its runes are held back, joined to those held back, or sent at once.
 use Rattle.std.proofs.Common.{◌≡◌, ℕ, ◌+◌, ◌≤◌, Bool, true, false, ◌&&◌, ◌==◌, if◌then◌else◌, nat_le, List, [], ◌∷◌, ◌++◌, length, map, Option, Some, None, refl, sym, ap, ◌∙◌, subst, true≢false, eqb-true, eq-eqb, append-nil, arith}
 use Rattle.std.proofs.lemmas.List.{length-map}
+use Rattle.std.proofs.lemmas.Bool.{and_parts}
 use Rattle.sam_runes.specs.Texts.{ends_line, max_runes, most_in_message}
 use Rattle.sam_runes.proofs.PlaceLaws.{ends_line-append}
 use Rattle.sam_rasp.specs.Rasp.{place_after_ins}
@@ -25,10 +26,6 @@ use Rattle.sam_protocol.proofs.Composing.{composes}
 use Rattle.sam_protocol.proofs.Views.{view-made, view-kept, window-put, unsent-composed, tidy-composed, view-flushed, tidy-flushed, tidy-window}
 use Rattle.sam_protocol.proofs.Dots.{length-ins_cells, unmoved, tidy-ins}
 use Rattle.sam_protocol.proofs.Sending.{Goes, then_goes, MaySend, open_is, has_open}
-
-and_parts : (a b : Bool) → (a && b) ≡ true → (a ≡ true) × (b ≡ true)
-and_parts true b e = (refl, e)
-and_parts false b e = absurd (true≢false (sym e))
 
 -- the place and the length of what is typed
 Room : ℕ → List ℕ → List (Option ℕ) → Type 0

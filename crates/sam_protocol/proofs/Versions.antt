@@ -1,6 +1,7 @@
 -- The two sides have the same version wherever the command lock is free: behind each Hversion stands an Hunlock.
 use Rattle.std.proofs.Common.{◌≡◌, ℕ, ◌+◌, ◌-◌, Bool, true, false, not, ◌||◌, ◌&&◌, ◌==◌, if◌then◌else◌, List, [], ◌∷◌, ◌++◌, length, reverse, Option, Some, None, refl, sym, ap, ◌∙◌, true≢false, nat_le, nat_lt}
 use Rattle.std.specs.Prelude.{flat_map, drop}
+use Rattle.std.proofs.lemmas.Bool.{or_parts, or_right}
 use Rattle.sam_runes.specs.Texts.{common_version, Range, is_empty, max_runes, all_tags, most_in_message, most_in_pattern, as_lines, part, ends_line, line_start, last_line, searched}
 use Rattle.sam_runes.specs.Slots.{Slots}
 use Rattle.sam_runes.specs.declared.edit.Edit.{Edit}
@@ -38,11 +39,7 @@ unlocks-append (m ∷ a) b e = go (is_unlock m) (unlocks_command a) (unlocks_com
 
 pub unlocks_behind : (a b : List Hmesg) → unlocks_command b ≡ true → unlocks_command (a ++ b) ≡ true
 unlocks_behind [] b e = e
-unlocks_behind (m ∷ a) b e = go (is_unlock m) (unlocks_command (a ++ b)) (unlocks_behind a b e)
-  where
-    go : (p q : Bool) → q ≡ true → (p || q) ≡ true
-    go true q e = refl
-    go false q e = e
+unlocks_behind (m ∷ a) b e = or_right (is_unlock m) (unlocks_command (a ++ b)) (unlocks_behind a b e)
 
 pub versions-append : (a b : List Hmesg) → VersionsGuarded a → VersionsGuarded b → VersionsGuarded (a ++ b)
 versions-append [] b p q = q
@@ -133,7 +130,8 @@ plain_line h before line p =
     last false = (refl, tt)
 
 pub guarded_reply : (h : PlainHost) (m : Tmesg) → VersionsGuarded (reply_to h m).1
-unfolding reply_version reply_startcmdfile reply_check reply_request reply_origin reply_startfile reply_workfile reply_cut reply_paste reply_snarf reply_startnewfile reply_write reply_close reply_look reply_search reply_dclick reply_startsnarf reply_setsnarf reply_exit reply_type reply_send
+unfolding reply_version reply_startcmdfile reply_check reply_request reply_origin reply_startfile reply_workfile reply_cut reply_paste
+    reply_snarf reply_startnewfile reply_write reply_close reply_look reply_search reply_dclick reply_startsnarf reply_setsnarf reply_exit reply_type reply_send
 guarded_reply h (Tversion v) =
     let names = told_names 1 (drop 1 h.files.slots) in (
       (λ e. unlocks_behind names (Hack ∷ Hunlock ∷ []) refl),
@@ -264,10 +262,6 @@ unlock_frames g (m ∷ fs) = λ i. is_unlock_same g m i || unlock_frames g fs i
 has_version : List Hmesg → Bool
 has_version [] = false
 has_version (m ∷ fs) = is_version m || has_version fs
-
-or_parts : (a b : Bool) → (a || b) ≡ false → (a ≡ false) × (b ≡ false)
-or_parts true b e = absurd (true≢false e)
-or_parts false b e = (refl, e)
 
 no_version : (fs : List Hmesg) → VersionsGuarded fs → unlocks_command fs ≡ false → has_version fs ≡ false
 unfolding has_version

@@ -1,6 +1,7 @@
 -- What of the terminal concerns one file, after its steps of composing.
 use Rattle.std.proofs.Common.{◌≡◌, ◌≢◌, ℕ, suc, ◌+◌, Bool, true, false, ◌==◌, if◌then◌else◌, List, Option, Some, None, ◌⊎◌, inl, inr, refl, sym, ap, ◌∙◌, subst, true≢false, eqb-true, eq-eqb, arith}
 use Rattle.std.specs.Prelude.{unwrap_or}
+use Rattle.std.proofs.lemmas.Bool.{cases_Bool}
 use Rattle.sam_runes.specs.Slots.{slot, put_slot}
 use Rattle.sam_runes.proofs.SlotLaws.{slot-put_same, slot-put_other}
 use Rattle.sam_mesg.specs.declared.tmesg.Tmesg.{Tmesg}
@@ -18,12 +19,11 @@ use Rattle.sam_protocol.proofs.Lenses.{IsOpen, locked_more}
 use Rattle.sam_protocol.proofs.Changes.{changed, change_of_lock}
 use Rattle.sam_protocol.specs.View.{slot_of_window, slot_of, view}
 use Rattle.sam_protocol.specs.Order.{IsTidyWindow, AreTidy, IsHeldBack, views}
-use Rattle.sam_protocol.proofs.HostFiles.{bool_cases}
 
 -- ## A file that is put
 
 pub view-put : (t : PlainTerminal) (f : ℕ) (x : KnownFile) (g : ℕ) → view g (put_known t f x) ≡ (if g == f then lens t.command_lock t.has_exited t.version (slot_of_window x.window) else view g t)
-view-put t f x g = go (bool_cases (g == f))
+view-put t f x g = go (cases_Bool (g == f))
   where
     P : Option KnownFile → Lens
     P s = lens t.command_lock t.has_exited t.version (slot_of s)
@@ -54,12 +54,8 @@ view-open t f o = go (slot t.files f) o
     go None o = absurd o
     go (Some k) o = at_window k.window o
 
-if_same : (b : Bool) (v : Lens) → (if b then v else v) ≡ v
-if_same true v = refl
-if_same false v = refl
-
 pub if_here : (g f : ℕ) (x y : ℕ → Lens) → x f ≡ y f → (if g == f then x f else y g) ≡ y g
-if_here g f x y e = go (bool_cases (g == f))
+if_here g f x y e = go (cases_Bool (g == f))
   where
     go : ((g == f) ≡ true) ⊎ ((g == f) ≡ false) → (if g == f then x f else y g) ≡ y g
     go (inl q) = ap (λ (b : Bool). (if b then x f else y g)) q ∙ e ∙ ap y (sym (eqb-true g f q))
@@ -67,7 +63,7 @@ if_here g f x y e = go (bool_cases (g == f))
 
 -- a choice of what is made of the lens of f
 pub if_made : (g f : ℕ) (y : ℕ → Lens) (change : Lens → Lens) → (if g == f then change (y f) else y g) ≡ (if g == f then change (y g) else y g)
-if_made g f y change = go (bool_cases (g == f))
+if_made g f y change = go (cases_Bool (g == f))
   where
     go : ((g == f) ≡ true) ⊎ ((g == f) ≡ false) → (if g == f then change (y f) else y g) ≡ (if g == f then change (y g) else y g)
     go (inl q) = ap (λ (k : ℕ). (if g == f then change (y k) else y g)) (sym (eqb-true g f q))

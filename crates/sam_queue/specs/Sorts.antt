@@ -15,4 +15,5 @@ module _ {T : Type 0} where
 
   -- the same, with room for so many items in each list
   abbrev pub IsSortedInto : ℕ → List (Entry T) → List (Vec T Global) → Type 0
-  IsSortedInto n entries left = (k : ℕ) (v : Vec T Global) → slice_get left k ≡ Some v → (v.items ≡ items_of k entries) × (n ≤ vec_capacity v)
+  IsSortedInto n entries left =
+      (k : ℕ) (v : Vec T Global) → slice_get left k ≡ Some v → (v.items ≡ items_of k entries) × (n ≤ vec_capacity v)

@@ -33,7 +33,8 @@ nothing_agrees [] a = refl
 nothing_agrees (x ∷ t) a = absurd a
 
 -- a stretch of the text from the place at on, and what is behind it
-pub stretch : (c r whole : PartialText) (t part : List ℕ) (at len : ℕ) → whole ≡ c ++ r → length c ≡ len → part ≡ take len (drop at t) → Agrees whole (drop at t) ↔ (Agrees c part × Agrees r (drop (at + len) t))
+pub stretch : (c r whole : PartialText) (t part : List ℕ) (at len : ℕ)
+    → whole ≡ c ++ r → length c ≡ len → part ≡ take len (drop at t) → Agrees whole (drop at t) ↔ (Agrees c part × Agrees r (drop (at + len) t))
 stretch c r whole t part at len e l p =
     let front : take (length c) (drop at t) ≡ part = ap (λ k. take k (drop at t)) l ∙ sym p in
     let behind : drop (length c) (drop at t) ≡ drop (at + len) t = ap (λ k. drop k (drop at t)) l ∙ drop-drop len at t in (

@@ -10,11 +10,6 @@ use Rattle.sam_rasp.proofs.SectionLaws.{filled, length-cells}
 use Rattle.sam_rasp.proofs.Changes.{take-past, drop-past}
 use Rattle.sam_rasp.proofs.Runs.{three-parts}
 
-pub get-any : {X : Type 0} (xs : List X) (i : ℕ) (d e : X) → i < length xs → get_or xs i d ≡ get_or xs i e
-get-any [] i d e l = absurd (omega (arith, l))
-get-any (x ∷ xs) zero d e l = refl
-get-any (x ∷ xs) (suc i) d e l = get-any xs i d e (omega (arith, l))
-
 -- b stands for a, and has as many runes or more
 pub record Grows (a b : Section) : Type 0 where
   pub loaded : is_loaded a ≡ true
@@ -62,7 +57,8 @@ cells-set (y ∷ xs) (suc i) x' l =
     ∙ ap (λ k. cells_of (take (suc i) (y ∷ xs)) ++ (cells x' ++ cells_of (drop k (y ∷ xs)))) (sym next))
 
 -- runes put in at the place at of section number i, which is the place p of the whole
-pub inserted-inside : (xs : List Section) (i at p : ℕ) (x x' : Section) (m : PartialText) → i < length xs → x ≡ get_or xs i x → length (cells_of (take i xs)) + at ≡ p → at ≤ size x → cells x' ≡ ins (cells x) at m → cells_of (set xs i x') ≡ ins (cells_of xs) p m
+pub inserted-inside : (xs : List Section) (i at p : ℕ) (x x' : Section) (m : PartialText) → i < length xs
+    → x ≡ get_or xs i x → length (cells_of (take i xs)) + at ≡ p → at ≤ size x → cells x' ≡ ins (cells x) at m → cells_of (set xs i x') ≡ ins (cells_of xs) p m
 inserted-inside xs i at p x x' m l e place inside c =
     let a = cells_of (take i xs) in
     let s = cells x in

@@ -139,7 +139,8 @@ front-loaded n (Loaded [] ∷ xs) a h = absurd (omega (arith, h.0.0))
 front-loaded n (Loaded (c ∷ s) ∷ xs) a h = refl
 front-loaded n (Hole m ∷ xs) a h = absurd (cc)
 
-pub section-found : (x : Section) (xs : List Section) (at p q end : ℕ) → IsNormal (x ∷ xs) → at + size x ≡ end → is_loaded x ≡ false → max at p < min end q → hole_from (cells x ++ cells_of xs) at p q ≡ Some (max at p, min end q)
+pub section-found : (x : Section) (xs : List Section) (at p q end : ℕ) → IsNormal (x ∷ xs)
+    → at + size x ≡ end → is_loaded x ≡ false → max at p < min end q → hole_from (cells x ++ cells_of xs) at p q ≡ Some (max at p, min end q)
 section-found (Loaded s) xs at p q end h e never l = absurd (cc)
 section-found (Hole n) xs at p q end h e never l =
     hole-found n (cells_of xs) at p q (front-loaded n xs h.1 h.2) (omega (arith, l, e)) ∙ ap (λ k. Some (max at p, min k q)) e

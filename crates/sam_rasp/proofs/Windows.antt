@@ -1,5 +1,5 @@
 -- Sections taken out of a list and put back.
-use Rattle.std.proofs.Common.{◌≡◌, refl, sym, ap, ◌∙◌, subst, ℕ, zero, suc, ◌+◌, ◌-◌, ◌≤◌, ◌<◌, List, [], ◌∷◌, ◌++◌, take, drop, length, min, reverse, arith, ◌⊎◌, inl, inr}
+use Rattle.std.proofs.Common.{◌≡◌, refl, sym, ap, ◌∙◌, subst, ℕ, ◌+◌, ◌-◌, ◌≤◌, ◌<◌, List, [], ◌∷◌, ◌++◌, take, drop, length, min, reverse, arith, ◌⊎◌, inl, inr}
 use Rattle.std.proofs.lemmas.List.{append-nil, append_assoc, drop-take, nil_from_length, take_at, drop_at, drop_min, drop-drop, take-take, take-append-drop, drop-append-le, length-append, length-reverse, length-take, length-drop, take-append-le, drop-append-le}
 use Rattle.std.proofs.lemmas.List.Concat.{flat_map-append}
 use Rattle.sam_rasp.specs.Rasp.{PartialText}
@@ -7,7 +7,7 @@ use Rattle.sam_rasp.specs.Sections.{cells, cells_of, cells_back, IsApart, StaysA
 use Rattle.sam_rasp.specs.declared.section.Section.{Section}
 use Rattle.sam_rasp.proofs.SectionLaws.{normal-between}
 use Rattle.sam_rasp.proofs.Changes.{take-past, drop-past}
-use Rattle.sam_rasp.proofs.Runs.{normal-take}
+use Rattle.sam_rasp.proofs.Runs.{normal-take, normal-drop}
 use Rattle.std.proofs.lemmas.Bool.{cases_lt}
 
 pub take-below : {X : Type 0} (xs ys : List X) (n m : ℕ) → n ≤ m → take m xs ≡ take m ys → take n xs ≡ take n ys
@@ -19,7 +19,8 @@ pub behind-part : {X : Type 0} (v y old : List X) (front n end len : ℕ) → le
 behind-part v y old front n end len lv ly sum within =
     let rest = drop n (drop front v) in
     let m = take front v ++ (y ++ rest) in
-    let same : length m ≡ len = omega (arith, length-append (take front v) (y ++ rest), length-append y rest, length-take front v, length-drop n (drop front v), length-drop front v, lv, ly, sum, within) in
+    let same : length m ≡ len = omega (arith, length-append (take front v) (y ++ rest),
+      length-append y rest, length-take front v, length-drop n (drop front v), length-drop front v, lv, ly, sum, within) in
     let la : length (take front v) + n ≡ end = omega (arith, length-take front v, lv, sum, within) in
     ap (drop end) (take_at m (drop (length m) old) len same)
     ∙ (drop-past (take front v) (y ++ rest) n end la ∙ (drop_at y rest n ly ∙ (drop-drop n front v ∙ ap (λ j. drop j v) sum)))
@@ -78,7 +79,8 @@ pub record Opened (xs o w z : List Section) (front last : ℕ) (begin first : �
   pub count : length xs ≡ front + ((length o + length w) + (length z + length (drop (last + 1) xs)))
 
 pub opened : (xs o w z : List Section) (front number last begin first : ℕ) → o ++ reverse w ≡ take (last - front) (drop front xs) → z ++ drop (last + 1) xs ≡ drop last xs
-    → front ≤ number → length o ≡ number - front → number ≤ last → last ≤ length xs → length (cells_of (take front xs)) ≡ begin → length (cells_of (take number xs)) ≡ first → Opened xs o w z front last begin first
+    → front ≤ number → length o ≡ number - front → number ≤ last
+    → last ≤ length xs → length (cells_of (take front xs)) ≡ begin → length (cells_of (take number xs)) ≡ first → Opened xs o w z front last begin first
 opened xs o w z front number last begin first inner next le few ordered within b f =
     let d = drop (last + 1) xs in
     let m = last - front in
@@ -103,10 +105,13 @@ opened xs o w z front number last begin first inner next le few ordered within b
     record {
       list = list;
       whole = whole;
-      lengths = ap length whole ∙ omega (arith, b, length-append (cells_of a) ((cells_of o ++ cells_back w) ++ (cells_of z ++ cells_of d)), length-append (cells_of o ++ cells_back w) (cells_of z ++ cells_of d), length-append (cells_of o) (cells_back w), length-append (cells_of z) (cells_of d));
+      lengths = ap length whole ∙ omega (arith, b, length-append (cells_of a) ((cells_of o ++ cells_back w) ++ (cells_of z ++ cells_of d)), length-append
+        (cells_of o ++ cells_back w) (cells_of z ++ cells_of d), length-append (cells_of o) (cells_back w), length-append (cells_of z) (cells_of d));
       before = omega (arith, b, f, ap (λ y. length (cells_of y)) to-number, ap length (cells-append a o), length-append (cells_of a) (cells_of o));
-      ends = omega (arith, b, ap (λ y. length (cells_of y)) to-last, ap length (cells-append a (o ++ reverse w)), length-append (cells_of a) (cells_of (o ++ reverse w)), ap length inside, length-append (cells_of o) (cells_back w));
-      count = ap length list ∙ omega (arith, la, length-append a ((o ++ reverse w) ++ (z ++ d)), length-append (o ++ reverse w) (z ++ d), length-append o (reverse w), length-reverse w, length-append z d);
+      ends = omega (arith, b, ap (λ y. length (cells_of y)) to-last, ap length (cells-append a (o ++ reverse w)),
+        length-append (cells_of a) (cells_of (o ++ reverse w)), ap length inside, length-append (cells_of o) (cells_back w));
+      count = ap length list ∙ omega (arith, la, length-append a ((o ++ reverse w) ++ (z ++ d)),
+        length-append (o ++ reverse w) (z ++ d), length-append o (reverse w), length-reverse w, length-append z d);
     }
 
 -- a change inside t, with a before it and b behind it
@@ -149,11 +154,6 @@ pub nothing-behind : (xs z : List Section) (last : ℕ) → z ++ drop (last + 1)
 nothing-behind xs z last e none =
     let same = ap length (ap (λ y. y ++ drop (last + 1) xs) (sym none) ∙ e) in
     nil_from_length (drop (last + 1) xs) (omega (arith, same, length-drop (last + 1) xs, length-drop last xs))
-
-pub normal-drop : (xs : List Section) (i : ℕ) → IsNormal xs → IsNormal (drop i xs)
-normal-drop xs zero h = h
-normal-drop [] (suc i) h = tt
-normal-drop (y ∷ xs) (suc i) h = normal-drop xs i h.2
 
 pub normal-front : (xs o r : List Section) (i n : ℕ) → o ++ r ≡ take n (drop i xs) → IsNormal xs → IsNormal o
 normal-front xs o r i n e h =

@@ -23,6 +23,10 @@ ins_cells r p cells = ins r p cells
 abbrev pub del_cells : PartialText → ℕ → ℕ → PartialText
 del_cells r p q = del r p q
 
+-- the members given in the place of what stands from p to q
+abbrev pub put_cells : PartialText → ℕ → ℕ → PartialText → PartialText
+put_cells r p q cells = take p r ++ cells ++ drop q r
+
 -- the runes s stored in the existing places from p on
 abbrev pub load_cells : PartialText → ℕ → List ℕ → PartialText
 load_cells r p s = take p r ++ map Some s ++ drop (p + length s) r

@@ -2,10 +2,11 @@
 //! whole, and their runes are copied only where a section is cut in two or joined with another. `loaded_sections`, which makes the
 //! sections to be put in, alone asks for memory.
 
-ghost use Rattle.std.specs.Prelude.{◌≡◌, ◌<◌, ◌≤◌, ◌+◌, ◌++◌, [], map, length, take, drop, vec_len, vec_capacity, Some, IfOk, if◌then◌else◌, false, is_some, IfSome};
+ghost use Rattle.std.specs.Prelude.{◌≡◌, ◌<◌, ◌≤◌, ◌+◌, [], map, length, take, drop, vec_len, vec_capacity, Some, IfOk, if◌then◌else◌, false, is_some, IfSome};
 ghost use Rattle.sam_runes.specs.Texts.{del, ins, max_runes};
 ghost use Rattle.sam_rasp.specs.declared.section.Section.{Section};
-ghost use Rattle.sam_rasp.specs.Sections.{cells_of, cells_back, ends, IsApart, IsBegin, IsNormal};
+ghost use Rattle.sam_rasp.specs.Rasp.{put_cells};
+ghost use Rattle.sam_rasp.specs.Sections.{cells_of, cells_back, cells_both, ends, IsApart, IsBegin, IsNormal};
 
 use crate::joining::{drop_front, join_all, move_before, push_joined};
 use crate::piece::Piece;
@@ -21,7 +22,8 @@ fn cut_members(out: &mut Vec<Section>, rest: &mut Vec<Section>, p: u32, n: u32)
     requires limit { length (cells_of out.old.items) + length (cells_back rest.old.items) ≤ max_runes }
     requires within { p + n ≤ length (cells_back rest.old.items) }
     requires room { vec_len out.old + vec_len rest.old ≤ vec_capacity out.old }
-    ensures cells { let t = cells_of out.old.items ++ cells_back rest.old.items in let at = length (cells_of out.old.items) + p in cells_of out.new.items ≡ del t at (at + n) }
+    ensures cells { let at = length (cells_of out.old.items) + p in
+        cells_of out.new.items ≡ del (cells_both out.old.items rest.old.items) at (at + n) }
     ensures normal { IsNormal out.new.items }
     ensures front { (w : Section) → IsApart w out.old.items → IsApart w out.new.items }
     ensures len { vec_len out.new ≤ vec_len out.old + vec_len rest.old }
@@ -51,11 +53,13 @@ pub fn change_members(
 )
     requires normal { IsNormal out.old.items }
     requires limit { length (cells_of out.old.items) + length (cells_back rest.old.items) ≤ max_runes }
-    requires total { length (cells_of out.old.items) + length (cells_back rest.old.items) + length (cells_of more.old.items) ≤ max_runes + n }
+    requires total { length (cells_of out.old.items) + length (cells_back rest.old.items) + length (cells_of more.old.items)
+        ≤ max_runes + n }
     requires within { p + n ≤ length (cells_back rest.old.items) }
     requires unused { (is_some tail ≡ false → more.old.items ≡ []) × IfSome tail (λ t. t ≡ []) }
     requires room { vec_len out.old + vec_len rest.old + vec_len more.old + ends tail ≤ vec_capacity out.old }
-    ensures cells { let t = cells_of out.old.items ++ cells_back rest.old.items in let at = length (cells_of out.old.items) + p in cells_of out.new.items ≡ take at t ++ cells_of more.old.items ++ drop (at + n) t }
+    ensures cells { let at = length (cells_of out.old.items) + p in
+        cells_of out.new.items ≡ put_cells (cells_both out.old.items rest.old.items) at (at + n) (cells_of more.old.items) }
     ensures normal { IsNormal out.new.items }
     ensures front { (w : Section) → IsApart w out.old.items → IsApart w out.new.items }
     ensures len { vec_len out.new ≤ vec_len out.old + vec_len rest.old + vec_len more.old + ends tail }
@@ -81,11 +85,13 @@ fn replace_members(
 )
     requires normal { IsNormal out.old.items }
     requires limit { length (cells_of out.old.items) + length (cells_back rest.old.items) ≤ max_runes }
-    requires total { length (cells_of out.old.items) + length (cells_back rest.old.items) + length (cells_of more.old.items) ≤ max_runes + n }
+    requires total { length (cells_of out.old.items) + length (cells_back rest.old.items) + length (cells_of more.old.items)
+        ≤ max_runes + n }
     requires within { p + n ≤ length (cells_back rest.old.items) }
     requires unused { tail ≡ [] }
     requires room { vec_len out.old + vec_len rest.old + vec_len more.old + 2 ≤ vec_capacity out.old }
-    ensures cells { let t = cells_of out.old.items ++ cells_back rest.old.items in let at = length (cells_of out.old.items) + p in cells_of out.new.items ≡ take at t ++ cells_of more.old.items ++ drop (at + n) t }
+    ensures cells { let at = length (cells_of out.old.items) + p in
+        cells_of out.new.items ≡ put_cells (cells_both out.old.items rest.old.items) at (at + n) (cells_of more.old.items) }
     ensures normal { IsNormal out.new.items }
     ensures front { (w : Section) → IsApart w out.old.items → IsApart w out.new.items }
     ensures len { vec_len out.new ≤ vec_len out.old + vec_len rest.old + vec_len more.old + 2 }
@@ -118,7 +124,8 @@ pub fn insert_inside(
     requires normal { IsNormal sections.old.items }
     requires limit { length (cells_of sections.old.items) ≤ max_runes }
     requires count { length runes.now ≤ max_runes }
-    ensures cells { cells_of sections.new.items ≡ (if is_some result then ins (cells_of sections.old.items) p (map Some runes.now) else cells_of sections.old.items) }
+    ensures cells { cells_of sections.new.items
+        ≡ (if is_some result then ins (cells_of sections.old.items) p (map Some runes.now) else cells_of sections.old.items) }
     ensures normal { IsNormal sections.new.items }
     ensures begin { IfSome result (λ b. IsBegin sections.new.items b) }
     ensures kept { is_some result ≡ false → sections.new.items ≡ sections.old.items }

@@ -4,7 +4,7 @@
 ghost use Rattle.std.specs.Prelude.{◌≡◌, ◌<◌, ◌≤◌, ◌+◌, ◌++◌, [], ◌∷◌, List, true, false, length, drop, min, vec_len, vec_capacity};
 ghost use Rattle.sam_runes.specs.Texts.{del, max_runes};
 ghost use Rattle.sam_rasp.specs.declared.section.Section.{Section};
-ghost use Rattle.sam_rasp.specs.Sections.{cells, cells_of, cells_back, size, may_join, joined, IsApart, IsNormal};
+ghost use Rattle.sam_rasp.specs.Sections.{cells, cells_of, cells_back, cells_both, size, may_join, joined, IsApart, IsNormal};
 
 use crate::section::Section;
 
@@ -63,7 +63,7 @@ pub fn join_all(out: &mut Vec<Section>, rest: &mut Vec<Section>)
     requires normal { IsNormal out.old.items }
     requires room { vec_len out.old + vec_len rest.old ≤ vec_capacity out.old }
     requires within { length (cells_of out.old.items) + length (cells_back rest.old.items) ≤ max_runes }
-    ensures cells { cells_of out.new.items ≡ cells_of out.old.items ++ cells_back rest.old.items }
+    ensures cells { cells_of out.new.items ≡ cells_both out.old.items rest.old.items }
     ensures normal { IsNormal out.new.items }
     ensures front { (w : Section) → IsApart w out.old.items → IsApart w out.new.items }
     ensures len { vec_len out.new ≤ vec_len out.old + vec_len rest.old }
@@ -83,7 +83,8 @@ pub fn move_before(out: &mut Vec<Section>, rest: &mut Vec<Section>, p: u32) -> (
     requires room { vec_len out.old + vec_len rest.old ≤ vec_capacity out.old }
     requires within { length (cells_of out.old.items) + length (cells_back rest.old.items) ≤ max_runes }
     requires place { p ≤ length (cells_back rest.old.items) }
-    ensures whole { cells_of out.new.items ++ (cells result.0 ++ cells_back rest.new.items) ≡ cells_of out.old.items ++ cells_back rest.old.items }
+    ensures whole { cells_of out.new.items ++ (cells result.0 ++ cells_back rest.new.items)
+        ≡ cells_both out.old.items rest.old.items }
     ensures place { length (cells_of out.new.items) + result.1 ≡ length (cells_of out.old.items) + p }
     ensures inside { result.1 ≤ size result.0 }
     ensures normal { IsNormal out.new.items }

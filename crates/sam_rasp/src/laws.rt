@@ -3,12 +3,13 @@
 
 ghost use Rattle.std.specs.Prelude.{◌≡◌, ◌≤◌, ◌+◌, ◌++◌, ◌↔◌, ℕ, List, length, map, replicate, take, drop, slice_get, Some, None};
 ghost use Rattle.sam_runes.specs.Texts.{ins, del};
-ghost use Rattle.sam_rasp.specs.Rasp.{PartialText, Agrees, ins_cells, del_cells, load_cells};
+ghost use Rattle.sam_rasp.specs.Rasp.{PartialText, Agrees, ins_cells, del_cells, put_cells, load_cells};
 
 /// States that a rasp agrees with a text if and only if it has the text's length and each of its runes is the text's rune there.
 #[tactic(auto, using(crate::proofs::RaspLaws::agrees_by_place))]
 pub fn agrees_by_place()
-    ensures { (r : PartialText) (t : List ℕ) → Agrees r t ↔ ((length r ≡ length t) × ((k c : ℕ) → slice_get r k ≡ Some (Some c) → slice_get t k ≡ Some c)) }
+    ensures { (r : PartialText) (t : List ℕ) → Agrees r t
+        ↔ ((length r ≡ length t) × ((k c : ℕ) → slice_get r k ≡ Some (Some c) → slice_get t k ≡ Some c)) }
 {}
 
 /// States that a rasp and a text that agree still agree after the same runes are put in at the same place of both.
@@ -32,7 +33,8 @@ pub fn agrees_after_removal()
 /// States that they still agree after the same range of both is replaced by the same runes.
 #[tactic(auto, using(crate::proofs::RaspLaws::agrees_replaced))]
 pub fn agrees_after_edit()
-    ensures { (r : PartialText) (t s : List ℕ) (p q : ℕ) → Agrees r t → Agrees (take p r ++ map Some s ++ drop q r) (take p t ++ s ++ drop q t) }
+    ensures { (r : PartialText) (t s : List ℕ) (p q : ℕ) → Agrees r t
+        → Agrees (put_cells r p q (map Some s)) (take p t ++ s ++ drop q t) }
 {}
 
 /// States that they still agree after a range of the text is loaded into the rasp at the same places.

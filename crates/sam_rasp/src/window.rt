@@ -4,6 +4,7 @@ ghost use Rattle.std.specs.Prelude.{◌≡◌, ◌<◌, ◌≤◌, ◌+◌, ◌-
 ghost use Rattle.std.specs.Option.{option_to_list};
 ghost use Rattle.sam_runes.specs.Texts.{max_runes};
 ghost use Rattle.sam_rasp.specs.declared.section.Section.{Section};
+ghost use Rattle.sam_rasp.specs.Rasp.{put_cells};
 ghost use Rattle.sam_rasp.specs.Sections.{cells_of, ends, IsApart, IsBegin, IsReach, IsNormal};
 
 use crate::changing::change_members;
@@ -192,7 +193,8 @@ fn push_next(out: &mut Vec<Section>, next: Option<Section>)
     ensures cells { cells_of out.new.items ≡ cells_of out.old.items ++ cells_of (option_to_list next) }
     ensures normal { IsNormal out.new.items }
     ensures front { (w : Section) → IsApart w out.old.items → IsApart w out.new.items }
-    ensures behind { (xs : List Section) → IsNormal (option_to_list next ++ xs) → (option_to_list next ≡ [] → xs ≡ []) → IsNormal (out.new.items ++ xs) }
+    ensures behind { (xs : List Section) → IsNormal (option_to_list next ++ xs) → (option_to_list next ≡ [] → xs ≡ [])
+        → IsNormal (out.new.items ++ xs) }
     ensures len { vec_len out.new ≤ vec_len out.old + length (option_to_list next) }
     ensures capacity { vec_capacity out.old ≤ vec_capacity out.new }
 {
@@ -224,14 +226,15 @@ pub fn replace_sections(
     requires room { vec_len sections.old + vec_len more.old + ends tail ≤ vec_capacity out.old }
     requires list_room { vec_len sections.old + vec_len more.old + ends tail ≤ vec_capacity sections.old }
     requires window_room { vec_len sections.old ≤ vec_capacity window.old }
-    ensures cells { cells_of sections.new.items ≡ take p (cells_of sections.old.items) ++ cells_of more.old.items ++ drop q (cells_of sections.old.items) }
+    ensures cells { cells_of sections.new.items ≡ put_cells (cells_of sections.old.items) p q (cells_of more.old.items) }
     ensures normal { IsNormal sections.new.items }
     ensures len { vec_len sections.new ≤ vec_len sections.old + vec_len more.old + ends tail }
     ensures empty { (out.new.items ≡ []) × (window.new.items ≡ []) }
     ensures capacity { (vec_capacity out.old ≤ vec_capacity out.new) × (vec_capacity window.old ≤ vec_capacity window.new) }
     ensures begin { IsBegin sections.new.items reach.front }
     ensures before { take reach.front.index sections.new.items ≡ take reach.front.index sections.old.items }
-    ensures behind { drop (reach.last + 1 + vec_len sections.new - vec_len sections.old) sections.new.items ≡ drop (reach.last + 1) sections.old.items }
+    ensures behind { drop (reach.last + 1 + vec_len sections.new - vec_len sections.old) sections.new.items
+        ≡ drop (reach.last + 1) sections.old.items }
 {
     let front = reach.front.index;
     let next = take_out(sections, out, window, front, reach.first.index, reach.last);

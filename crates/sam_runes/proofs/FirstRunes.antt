@@ -129,7 +129,8 @@ front_4 (x ∷ bs) h = ap (λ l. x ∷ l) (front_3 bs (omega arith))
 abbrev IsTail : ℕ → ℕ → Type 0
 IsTail bits byte = (bits < 64) × (128 + bits ≡ byte)
 
-pub spelled_2 : (bs : List ℕ) (s code : ℕ) → 2 ≤ length bs → 192 ≤ get_or bs 0 0 → get_or bs 0 0 < 224 → IsTail s (get_or bs 1 0) → code ≡ (get_or bs 0 0 - 192) * 64 + s → 128 ≤ code → take 2 bs ≡ encode_utf8 code
+pub spelled_2 : (bs : List ℕ) (s code : ℕ) → 2 ≤ length bs
+    → 192 ≤ get_or bs 0 0 → get_or bs 0 0 < 224 → IsTail s (get_or bs 1 0) → code ≡ (get_or bs 0 0 - 192) * 64 + s → 128 ≤ code → take 2 bs ≡ encode_utf8 code
 spelled_2 bs s code within least most second is low =
     let a : 192 + code / 64 ≡ get_or bs 0 0 = omega arith in
     let b : 128 + code % 64 ≡ get_or bs 1 0 = omega arith in

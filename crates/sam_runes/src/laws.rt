@@ -16,7 +16,8 @@ pub fn last_first_is_at_once()
 /// is put in must not add up to more than that.
 #[tactic(auto, using(crate::proofs::EditLaws::edits_fit))]
 pub fn edits_fit_one_by_one()
-    ensures { (edits : List Edit) (text : List ℕ) → Ascend text edits → length text + inserted edits ≤ max_runes → EditsFit text (reverse edits) }
+    ensures { (edits : List Edit) (text : List ℕ) → Ascend text edits → length text + inserted edits ≤ max_runes
+        → EditsFit text (reverse edits) }
 {}
 
 /// States that the line 0 lines before the line of a place is that line itself.

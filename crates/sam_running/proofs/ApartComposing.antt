@@ -1,8 +1,8 @@
 -- What a terminal composes fits at its place: only a snarf text has a limit that the version changes, and it is composed where the
 -- terminal may act.
-use Rattle.std.proofs.Common.{◌≡◌, ℕ, ◌≤◌, Bool, true, false, not, ◌&&◌, nat_lt, List, [], ◌∷◌, ◌++◌, Option, Some, None, Result, Ok, Err, if◌then◌else◌, refl, sym, subst}
+use Rattle.std.proofs.Common.{◌≡◌, ℕ, ◌≤◌, Bool, true, false, not, ◌&&◌, nat_lt, List, [], ◌∷◌, ◌++◌, Option, Some, None, Ok, if◌then◌else◌, refl, sym, subst}
 use Rattle.std.proofs.lemmas.Bool.{ltb-false}
-use Rattle.sam_runes.specs.Texts.{is_empty, most_count, snarf_limit, utf8_length}
+use Rattle.sam_runes.specs.Texts.{is_empty, snarf_limit, utf8_length}
 use Rattle.sam_runes.specs.Checks.{first_of_checks}
 use Rattle.sam_rasp.specs.Rasp.{hole_within}
 use Rattle.sam_mesg.specs.declared.tmesg.Tmesg.{Tmesg}
@@ -12,7 +12,7 @@ use Rattle.sam_mesg.specs.declared.hmesg.Hmesg.TheVariants.{Hcheck, Hunlockfile,
 use Rattle.sam_mesg.specs.declared.hmesg.HFrame.{HFrame}
 use Rattle.sam_frame.specs.Direction.{terminal}
 use Rattle.sam_term.specs.Locks.{is_command_line}
-use Rattle.sam_term.specs.Term.{PlainTerminal, Made, window_at, put_window, del_rasp, flushed, unsent_message, and_then, sends, sends_if, unchanged, requested, request_for, view_end, is_open, joins, joined, kept_unsent, typed_rasp, types, cuts_dot, has_empty_dot, made_by, made_by_type, made_by_cut, made_by_paste, made_by_snarf, made_by_view, made_from, made_unless, frame_checks, event_checks, has_long_text, took_unlockfile, act_of, act_on, decided, flush_of, take_of, if_countable}
+use Rattle.sam_term.specs.Term.{PlainTerminal, Made, window_at, put_window, del_rasp, flushed, unsent_message, and_then, sends, sends_if, unchanged, requested, request_for, view_end, is_open, joins, joined, kept_unsent, typed_rasp, types, cuts_dot, has_empty_dot, made_by, made_by_type, made_by_cut, made_by_paste, made_by_snarf, made_by_view, made_from, made_unless, frame_checks, event_checks, has_long_text, took_unlockfile, act_of, act_on, decided, flush_of, take_of}
 use Rattle.sam_term.specs.declared.files.Unsent.{Unsent}
 use Rattle.sam_term.specs.declared.event.UserEvent.{UserEvent}
 use Rattle.sam_term.specs.declared.event.UserEvent.TheVariants.{Typed, Select, Cut, Paste, Snarf, Look, Search, Send, Dclick, Scroll, View, Open, Close, Write, Work, OpenCmd, New, Exit, Check, GetSnarf, SetSnarf, Version, Flush}
@@ -25,6 +25,7 @@ use Rattle.sam_term.specs.declared.fault.TermFault.TheVariants as fault
 use Rattle.sam_term.proofs.Acts.{none_holds, test_at}
 use Rattle.sam_world.specs.Sides.{Each}
 use Rattle.sam_world.specs.World.{composed_by}
+use Rattle.sam_world.proofs.RunLaws.{counted-result}
 use Rattle.sam_threads.proofs.ApartTurns.{InTurn, IsFree, free_turn, snarf_turn}
 
 abbrev AllFree : List Tmesg → Type 0
@@ -139,13 +140,6 @@ event_turn t Flush v h q = free_turn v _ (free-flushed t)
 
 -- ## Acts, flushes and frames
 
-counted : {A : Type 0} (n : ℕ) (x r : A) → if_countable n x ≡ Ok r → x ≡ r
-counted {A} n x r e = go (nat_lt most_count n) e
-  where
-    go : (b : Bool) → (if b then (let y : Result A TermFault = Err fault.CountFull in y) else Ok x) ≡ Ok r → x ≡ r
-    go true q = absurd (cc)
-    go false q = cc
-
 -- where the terminal may act, it has the version of the place
 pub act_turn : (t : PlainTerminal) (r : PlainTerminal × Acted) (v : ℕ) → (t.command_lock ≡ false → t.has_exited ≡ false → v ≡ t.version) → act_of t ≡ Ok r
     → InTurn terminal v (composed_by r.1)
@@ -163,7 +157,7 @@ act_turn t r v place e = go t.held e
         subst P same tt
     verdict None x es n q =
         let made : Made = made_by (record t { held = es }) x in
-        let same : (made.0, Done made.1) ≡ r = counted made.0.sent (made.0, Done made.1) r q in
+        let same : (made.0, Done made.1) ≡ r = counted-result made.0.sent (made.0, Done made.1) r q in
         let here : v ≡ t.version = place (none_holds (event_checks t x) 1 n) (none_holds (event_checks t x) 0 n) in
         subst P same (event_turn (record t { held = es }) x v (none_holds (event_checks t x) 8 n) here)
 
@@ -173,7 +167,7 @@ act_turn t r v place e = go t.held e
 
 pub flush_turn : (t : PlainTerminal) (r : Made) (v : ℕ) → flush_of t ≡ Ok r → InTurn terminal v r.1
 unfolding flush_of
-flush_turn t r v e = subst (λ (x : Made). InTurn terminal v x.1) (counted (flushed t).0.sent (flushed t) r e) (free_turn v (flushed t).1 (free-flushed t))
+flush_turn t r v e = subst (λ (x : Made). InTurn terminal v x.1) (counted-result (flushed t).0.sent (flushed t) r e) (free_turn v (flushed t).1 (free-flushed t))
 
 free-frame : (t : PlainTerminal) (m : Hmesg) → AllFree (made_from t m).1
 unfolding took_unlockfile
@@ -190,4 +184,4 @@ take_turn t frame r v e = go (first_of_checks ((nat_lt t.sent frame.seen, fault.
     go (Some why) q = absurd (cc)
     go None q =
         let made : Made = made_from t frame.msg in
-        subst (λ (x : Made). InTurn terminal v x.1) (counted made.0.sent made r q) (free_turn v made.1 (free-frame t frame.msg))
+        subst (λ (x : Made). InTurn terminal v x.1) (counted-result made.0.sent made r q) (free_turn v made.1 (free-frame t frame.msg))

@@ -1,6 +1,6 @@
 -- Two sides that worked apart are one run of the world; each read the other's stream, and neither refused the other.
-use Rattle.std.proofs.Common.{◌≡◌, ℕ, Bool, true, false, ◌||◌, List, [], ◌∷◌, ◌++◌, Some, None, Err, refl, sym, ap, ◌∙◌, subst, append_assoc}
-use Rattle.std.proofs.lemmas.Bool.{le-ltb}
+use Rattle.std.proofs.Common.{◌≡◌, ℕ, false, List, [], ◌∷◌, ◌++◌, Some, None, Err, refl, sym, ap, ◌∙◌, subst, append_assoc}
+use Rattle.std.proofs.lemmas.Bool.{le-ltb, or_from}
 use Rattle.std.proofs.lemmas.List.{append-nil, append_cancel_left}
 use Rattle.sam_mesg.specs.declared.fault.MesgFault.{MesgFault}
 use Rattle.sam_mesg.specs.declared.tmesg.Tmesg.{Tmesg}
@@ -22,14 +22,13 @@ use Rattle.sam_term.specs.declared.fault.TermFault.{TermFault}
 use Rattle.sam_term.specs.declared.fault.TermFault.TheVariants as fault
 use Rattle.sam_world.specs.declared.event.TermLog.{TermLog}
 use Rattle.sam_world.specs.declared.event.TermLog.TheVariants as log
-use Rattle.sam_world.specs.Logs.{FitsUnder, EntryFits}
 use Rattle.sam_world.specs.Merging.{is_bad_entry}
 use Rattle.sam_world.specs.World.{PlainWorld, new_world, run_of, merged, is_bad_log}
 use Rattle.sam_world.specs.Order.{IsInOrder}
 use Rattle.sam_world.specs.Sides.{Each, HostRuns, TermRuns, world}
 use Rattle.sam_world.specs.Streams.{Begins}
 use Rattle.sam_world.proofs.Carries.{begins_from_bytes}
-use Rattle.sam_world.proofs.Settles.{settles, fits, users_merged_from}
+use Rattle.sam_world.proofs.Settles.{settles, fits, users_merged_from, FitsUnder, EntryFits}
 use Rattle.sam_world.proofs.OrderLaws.{starts_in_order, reached_in_order, host_never_refuses, terminal_never_refuses}
 use Rattle.sam_threads.specs.RealSides.{sides}
 use Rattle.sam_running.specs.Apart.{Apart, Joined, Understood}
@@ -40,10 +39,6 @@ use Rattle.sam_running.proofs.ApartWalk.{composed_turn}
 
 -- ## Small facts
 
-both_false : (a b : Bool) → a ≡ false → b ≡ false → (a || b) ≡ false
-both_false true b p q = absurd (cc)
-both_false false b p q = q
-
 good_entry : (e : TermLog) (n : ℕ) → EntryFits e n → is_bad_entry e n ≡ false
 good_entry (log.Take k) n l = le-ltb n k l
 good_entry (log.User e) n l = refl
@@ -52,7 +47,7 @@ good_entry log.Flush n l = refl
 
 good_log : (es : List TermLog) (n : ℕ) → FitsUnder es n → is_bad_log es n ≡ false
 good_log [] n l = refl
-good_log (e ∷ es) n l = both_false (is_bad_entry e n) (is_bad_log es n) (good_entry e n l.0) (good_log es n l.1)
+good_log (e ∷ es) n l = or_from (is_bad_entry e n) (is_bad_log es n) (good_entry e n l.0) (good_log es n l.1)
 
 each_more : {X : Type 0} (P : X → Type 0) (xs : List X) (x : X) → Each P xs → P x → Each P (xs ++ x ∷ [])
 each_more P [] x a p = (p, tt)
@@ -115,7 +110,8 @@ module _ (given : List (List ℕ × List ℕ)) (entries : List TermLog) (h : Pla
   composed_in_turn : FitInTurn terminal 1 composed
   composed_in_turn =
       in_turn terminal 1 composed
-      (composed_turn entries (new_host given) h new_terminal t composed handled handled_begins.rest taken taken_begins.rest refl refl refl (starts_in_order given a.given_fit) host_runs a.term_runs handled_begins.is)
+      (composed_turn entries (new_host given) h new_terminal t composed
+        handled handled_begins.rest taken taken_begins.rest refl refl refl (starts_in_order given a.given_fit) host_runs a.term_runs handled_begins.is)
       a.composed_fit
 
   answered_in_turn : FitInTurn host 1 answered

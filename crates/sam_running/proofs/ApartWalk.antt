@@ -1,24 +1,23 @@
 -- The sides of a joined run with the messages that each has handled or composed so far: what was composed fits, each message at its place.
-use Rattle.std.proofs.Common.{◌≡◌, ℕ, Bool, true, false, List, [], ◌∷◌, ◌++◌, Option, Some, None, Result, Ok, Err, if◌then◌else◌, refl, sym, ap, ◌∙◌, subst, true≢false, append_assoc}
+use Rattle.std.proofs.Common.{◌≡◌, ℕ, false, List, [], ◌∷◌, ◌++◌, Option, Some, None, Result, Ok, Err, refl, sym, ap, ◌∙◌, subst, true≢false, append_assoc}
 use Rattle.std.proofs.lemmas.List.{append-nil}
 use Rattle.std.proofs.lemmas.Option.{same_Some}
-use Rattle.sam_runes.specs.Checks.{first_of_checks}
-use Rattle.sam_mesg.specs.TerminalKinds.{after_t}
+use Rattle.std.proofs.lemmas.Bool.{false_from_ne_true}
 use Rattle.sam_mesg.specs.declared.tmesg.Tmesg.{Tmesg}
 use Rattle.sam_mesg.specs.declared.hmesg.HFrame.{HFrame}
+use Rattle.sam_mesg.specs.TerminalKinds.{after_t}
 use Rattle.sam_frame.specs.Direction.{terminal}
 use Rattle.sam_frame.specs.Stream.{version_after}
 use Rattle.sam_frame.proofs.Fronts.{version_after-append}
-use Rattle.sam_host.specs.Host.{PlainHost, Reply, answer, counted, host_checks, reply_to}
+use Rattle.sam_host.specs.Host.{PlainHost, answer}
 use Rattle.sam_host.specs.declared.fault.HostFault.{HostFault}
 use Rattle.sam_term.specs.Term.{PlainTerminal, Made, act_of, flush_of, take_of, unsent_message}
 use Rattle.sam_term.specs.declared.event.Acted.{Acted}
 use Rattle.sam_term.specs.declared.fault.TermFault.{TermFault}
-use Rattle.sam_protocol.specs.Fold.{replied, answers}
 use Rattle.sam_protocol.specs.Order.{InOrder, views}
 use Rattle.sam_protocol.specs.Streams.{version_behind}
-use Rattle.sam_protocol.proofs.Folds.{answered as first_answered}
 use Rattle.sam_protocol.proofs.Composing.{not_done_ahead}
+use Rattle.sam_protocol.proofs.Streaming.{still_done}
 use Rattle.sam_world.specs.declared.event.Event.{Event}
 use Rattle.sam_world.specs.declared.event.Event.TheVariants.{User, Act, Flush, HostTake, TermTake}
 use Rattle.sam_world.specs.declared.event.TermLog.{TermLog}
@@ -119,28 +118,11 @@ term_lists (log.Take n ∷ es) t u l fs ms r =
 
 -- ## A host that is not done where the terminal may act
 
-still_done : (ms : List Tmesg) (h : PlainHost) (r : Reply) → answers h ms ≡ Some r → h.is_done ≡ true → r.0.is_done ≡ true
-still_done [] h r e d = ap (λ (x : Reply). x.0.is_done) (sym (the_reply e)) ∙ d
-  where
-    the_reply : {p q : Reply} → Some p ≡ Some q → p ≡ q
-    the_reply e = cc
-still_done (m ∷ ms) h r e d =
-    let t = first_answered h m ms r e in
-    let silent : ◌≡◌ {A = Reply} (counted h, []) t.first = the_reply (sym (ap (λ (b : Bool). if b then Some (counted h, []) else replied (first_of_checks (host_checks h m)) (reply_to h m)) d) ∙ t.now) in
-    ap (λ (x : Reply). x.0.is_done) t.whole ∙ still_done ms t.first.0 t.rest t.later (ap (λ (x : Reply). x.0.is_done) (sym silent) ∙ d)
-  where
-    the_reply : {p q : Reply} → Some p ≡ Some q → p ≡ q
-    the_reply e = cc
-
 running : (h : PlainHost) (t : PlainTerminal) (up : List Tmesg) (down : List HFrame) → InOrder h t up (mesgs down) → t.command_lock ≡ false → t.has_exited ≡ false → h.is_done ≡ false
-running h t up down o c e = go h.is_done refl
-  where
-    line : List Tmesg
-    line = up ++ unsent_message t.unsent
-
-    go : (b : Bool) → h.is_done ≡ b → b ≡ false
-    go true q = absurd (true≢false (sym (still_done line h (o.kept.ahead, o.kept.frames) o.kept.folds q) ∙ not_done_ahead h (views t) line (mesgs down) o.kept e c))
-    go false q = refl
+running h t up down o c e =
+    let line = up ++ unsent_message t.unsent in
+    let still = not_done_ahead h (views t) line (mesgs down) o.kept e c in
+    false_from_ne_true _ (λ q. true≢false (sym (still_done line h (o.kept.ahead, o.kept.frames) o.kept.folds q) ∙ still))
 
 same_behind : (ms : List Tmesg) (v : ℕ) → version_after terminal v ms ≡ version_behind v ms
 same_behind [] v = refl

@@ -1,6 +1,6 @@
 -- What a settled session of a script is.
 use Rattle.std.proofs.Common.{◌≡◌, ℕ, List, [], ◌∷◌, ◌++◌, length, map, take, drop, Some, None, refl, sym, ap, ◌∙◌, subst}
-use Rattle.std.proofs.lemmas.List.{take-append-drop}
+use Rattle.std.proofs.lemmas.List.{take-append-drop, map-append}
 use Rattle.sam_term.specs.declared.event.UserEvent.{UserEvent}
 use Rattle.sam_queue.specs.Views.{LineView}
 use Rattle.sam_script.specs.Script.{PlainScript, keys_of, mouse_of}
@@ -16,7 +16,6 @@ use Rattle.sam_threads.specs.declared.ends.Ends.{Ends}
 use Rattle.sam_threads.specs.declared.ends.UserEnd.{UserEnd}
 use Rattle.sam_threads.specs.declared.stop.Stop.TheVariants as stop
 use Rattle.sam_running.specs.declared.settled.Settled.{Settled}
-use Rattle.sam_running.proofs.SettlingLists.{map_joined}
 
 take_all : {A : Type 0} (xs : List A) → take (length xs) xs ≡ xs
 take_all [] = refl
@@ -25,7 +24,8 @@ take_all (x ∷ xs) = ap (λ l. x ∷ l) (take_all xs)
 puts_first : (number : ℕ) (events : List UserEvent) (line : LineView) (e : UserEnd) → UserTold number events line e → Begins e.post.put (map User events)
 puts_first number events line e told = record {
   rest = map User (drop told.many events);
-  is = ap (λ l. map User l) (sym (take-append-drop told.many events)) ∙ (map_joined User (take told.many events) (drop told.many events) ∙ ap (λ l. l ++ map User (drop told.many events)) (sym told.put));
+  is = ap (λ l. map User l) (sym (take-append-drop told.many events))
+    ∙ (map-append User (take told.many events) (drop told.many events) ∙ ap (λ l. l ++ map User (drop told.many events)) (sym told.put));
 }
 
 puts_all : (number : ℕ) (events : List UserEvent) (line : LineView) (e : UserEnd) → UserTold number events line e → e.stop ≡ None → e.post.put ≡ map User events

@@ -3,7 +3,7 @@ use Rattle.std.proofs.Common.{◌≡◌, ◌⊎◌, inl, inr, refl, sym, ap, ◌
 use Rattle.std.specs.Global.{Vec}
 use Rattle.std.proofs.lemmas.Grind.{flat_map-append}
 use Rattle.std.proofs.lemmas.Option.{same_Some}
-use Rattle.std.proofs.lemmas.List.{append_cancel_left}
+use Rattle.std.proofs.lemmas.List.{append_cancel_left, map-append}
 use Rattle.sam_mesg.specs.declared.tmesg.Tmesg.{Tmesg}
 use Rattle.sam_mesg.specs.declared.hmesg.HFrame.{HFrame}
 use Rattle.sam_mesg.specs.declared.fault.MesgFault.{MesgFault}
@@ -30,6 +30,7 @@ use Rattle.sam_world.specs.Sides.{Each, HostRuns, TermRuns}
 use Rattle.sam_world.specs.Streams.{Begins}
 use Rattle.sam_world.specs.World.{PlainWorld, new_world, run_of, merged, is_bad_log, is_quiet}
 use Rattle.sam_world.proofs.OrderLaws.{reached_in_order, quiet_means_agreement}
+use Rattle.sam_world.proofs.Settles.{each_append, each_front}
 use Rattle.sam_running.specs.Apart.{Apart, Joined}
 use Rattle.sam_threads.specs.RealSides.{sides}
 use Rattle.sam_threads.specs.Inputs.{bytes_of, frames_in, users_in, frame_of_load}
@@ -45,8 +46,8 @@ use Rattle.sam_threads.specs.declared.stop.Stop.{Stop}
 use Rattle.sam_threads.specs.declared.stop.Stop.TheVariants as stop
 use Rattle.sam_threads.specs.declared.ends.Ends.{Ends}
 use Rattle.sam_running.specs.declared.settled.Settled.{Settled}
-use Rattle.sam_threads.proofs.Cut.{each_append}
-use Rattle.sam_running.proofs.SettlingLists.{Parts, parts_of, senders_within, nothing_joined, split_map, map_joined, each_of_all, each_left, frames_taken, all_taken, all_before_mark, none_left_of_one, none_left_of_three, items_mine}
+use Rattle.sam_threads.proofs.RealLaws.{each_of_all}
+use Rattle.sam_running.proofs.SettlingLists.{Parts, parts_of, senders_within, nothing_joined, split_map, frames_taken, all_taken, all_before_mark, none_left_of_one, none_left_of_three, items_mine}
 
 -- what the law of the two sides gives
 pub record Laws (given : List (List ℕ × List ℕ)) (entries : List TermLog) (h : PlainHost) (t : PlainTerminal)
@@ -82,7 +83,7 @@ given_of_files (f ∷ fs) a = let first = a.0 in (first.1, first.2, given_of_fil
 quiet_of : (w : PlainWorld) → w.term.unsent ≡ None → w.up ≡ [] → w.down ≡ [] → is_quiet w ≡ true
 quiet_of w unsent up down = rw (unsent, up, down)
 
-stop_none : (o : Option Stop) → stop_of o ≡ [] → o ≡ None
+pub stop_none : (o : Option Stop) → stop_of o ≡ [] → o ≡ None
 stop_none None e = refl
 stop_none (Some why) e = absurd (cc)
 
@@ -158,11 +159,13 @@ module _ (keys clicks : List UserEvent) (lines : LinesView) (e : Ends) (told : T
 
   up_bytes : stream_of terminal composed ≡ stream_of terminal handled ++ (told.host.rest ++ (bytes_of up_parts.left ++ told.term.outbox))
   up_bytes =
-      bytes_joined (items_of 0 e.host.take.taken) up_parts.left e.term.post.put (stream_of terminal handled) told.host.rest told.term.outbox (stream_of terminal composed) up_parts.items told.host.got told.term.sent
+      bytes_joined (items_of 0 e.host.take.taken) up_parts.left e.term.post.put
+        (stream_of terminal handled) told.host.rest told.term.outbox (stream_of terminal composed) up_parts.items told.host.got told.term.sent
 
   down_bytes : stream_of host answered ≡ stream_of host passed ++ (told.reader.rest ++ (bytes_of down_parts.left ++ told.host.outbox))
   down_bytes =
-      bytes_joined (items_of 0 e.reader.take.taken) down_parts.left e.host.post.put (stream_of host passed) told.reader.rest told.host.outbox (stream_of host answered) down_parts.items told.reader.got told.host.sent
+      bytes_joined (items_of 0 e.reader.take.taken) down_parts.left
+        e.host.post.put (stream_of host passed) told.reader.rest told.host.outbox (stream_of host answered) down_parts.items told.reader.got told.host.sent
 
   -- ## What is left
 
@@ -282,13 +285,14 @@ module _ (keys clicks : List UserEvent) (lines : LinesView) (e : Ends) (told : T
             downwards = laws.joined.downwards ∙ ap (λ (w : PlainWorld). frames ++ w.down) (sym world_is);
             put_up = record { rest = told.term.outbox; is = sym told.term.sent };
             put_down = record { rest = told.host.outbox; is = sym told.host.sent };
-            passed = record { rest = map Host later; is = told.reader.put ∙ (ap (λ l. map Host l) passing.1 ∙ map_joined Host frames later) };
+            passed = record { rest = map Host later; is = told.reader.put ∙ (ap (λ l. map Host l) passing.1 ∙ map-append Host frames later) };
           }
 
       pub has_users : HasUsers e s
       has_users =
           let two = split_map Host (items_of 2 e.term.take.taken) frame_parts.left passed (frame_parts.items ∙ told.reader.put) in
-          let one = split_map Host (items_of 2 told.term.handled) (items_of 2 told.term.dropped) two.0 (sym (items_of-append 2 told.term.handled told.term.dropped) ∙ (sym (ap (items_of 2) told.term.took) ∙ two.2)) in
+          let one = split_map Host (items_of 2 told.term.handled) (items_of 2 told.term.dropped)
+            two.0 (sym (items_of-append 2 told.term.handled told.term.dropped) ∙ (sym (ap (items_of 2) told.term.took) ∙ two.2)) in
           record {
             handled = told.term.handled;
             dropped = told.term.dropped;
@@ -358,7 +362,8 @@ module _ (keys clicks : List UserEvent) (lines : LinesView) (e : Ends) (told : T
         cc
     no_foreign n (inr f) =
         let two = split_map Host (items_of 2 e.term.take.taken) frame_parts.left passed (frame_parts.items ∙ told.reader.put) in
-        let one = split_map Host (items_of 2 told.term.handled) (items_of 2 told.term.dropped) two.0 (sym (items_of-append 2 told.term.handled told.term.dropped) ∙ (sym (ap (items_of 2) told.term.took) ∙ two.2)) in
+        let one = split_map Host (items_of 2 told.term.handled)
+          (items_of 2 told.term.dropped) two.0 (sym (items_of-append 2 told.term.handled told.term.dropped) ∙ (sym (ap (items_of 2) told.term.took) ∙ two.2)) in
         no_user f.0 (items_of 2 f.1) one.1 (sym (ap (items_of 2) f.2 ∙ items_mine 2 (record { sender = 2; load = Some (User f.0) }) f.1 refl) ∙ one.3)
       where
         no_user : (event : UserEvent) (more : List Input) (fs : List HFrame) → User event ∷ more ≡ map Host fs → ⊥
@@ -410,7 +415,8 @@ module _ (keys clicks : List UserEvent) (lines : LinesView) (e : Ends) (told : T
         let all : count_gone s.stops.items ≡ count_gone fs = ap count_gone stops ∙ omega arith in
         record {
           full = subst (λ l. Each IsFull l) (sym stops)
-              (each_append IsFull (os ++ bs ++ cs ++ ds) fs (each_append IsFull (os ++ bs ++ cs) ds (each_append IsFull (os ++ bs) cs (each_append IsFull os bs a.full b.full) c.full) d.full) f.0.full);
+              (each_append IsFull (os ++ bs ++ cs ++ ds) fs
+                (each_append IsFull (os ++ bs ++ cs) ds (each_append IsFull (os ++ bs) cs (each_append IsFull os bs a.full b.full) c.full) d.full) f.0.full);
           gone = omega arith;
           early = λ l. ap (λ (t : PlainTerminal). t.has_exited) term ∙ f.1 (omega arith);
         }
@@ -438,7 +444,7 @@ module _ (keys clicks : List UserEvent) (lines : LinesView) (e : Ends) (told : T
         λ k. sym (items_of-append k told.term.handled told.term.dropped) ∙ sym (ap (items_of k) told.term.took) in
         let ks = split_map User (items_of 0 told.term.handled) (items_of 0 told.term.dropped) keys_taken.0 (handled_of 0 ∙ keys_taken.1) in
         let cs = split_map User (items_of 1 told.term.handled) (items_of 1 told.term.dropped) clicks_taken.0 (handled_of 1 ∙ clicks_taken.1) in
-        let few = each_left (λ (x : Entry Input). x.sender < 3) told.term.handled told.term.dropped (subst (λ l. Each (λ (x : Entry Input). x.sender < 3) l) told.term.took within) in
+        let few = each_front (λ (x : Entry Input). x.sender < 3) told.term.handled told.term.dropped (subst (λ l. Each (λ (x : Entry Input). x.sender < 3) l) told.term.took within) in
         frames_taken told.term.handled ks.0 cs.0 passed few ks.2 cs.2 (all ∙ told.reader.put)
 
     pub misses_host : (s : Settled) → s.schedule.items ≡ merged e.term.log.items e.host.host.taken
@@ -479,7 +485,8 @@ module _ (keys clicks : List UserEvent) (lines : LinesView) (e : Ends) (told : T
         let down_empty = none_under_way_down frames_all (all_passed o.2 o.3) in
         let same = same_Some s.world last (sym ran ∙ runs) in
         record {
-          events = (told.term.own, ap users schedule ∙ (laws.joined.users_are ∙ (told.term.users ∙ ap (λ l. users_in l ++ told.term.own) all_handled)), subst (λ l. IsOwnExit told.term.own l) all_handled told.term.exits);
+          events = (told.term.own, ap users schedule ∙ (laws.joined.users_are ∙ (told.term.users ∙ ap (λ l. users_in l ++ told.term.own) all_handled)),
+            subst (λ l. IsOwnExit told.term.own l) all_handled told.term.exits);
           exited = ap (λ (x : PlainTerminal). x.has_exited) term ∙ t.2;
           held = ap (λ (x : PlainTerminal). x.held) term ∙ t.3;
           quiet = ap is_quiet same ∙ quiet_of last (ap (λ (x : PlainTerminal). x.unsent) laws.joined.term_is ∙ t.4) up_empty down_empty;

@@ -1,5 +1,5 @@
 -- What an audited line says of its posts, and what the line of events carries.
-use Rattle.std.proofs.Common.{◌≡◌, ◌≢◌, ℕ, zero, suc, ◌+◌, ◌^◌, ◌<◌, ◌≤◌, true, false, eqb, List, [], ◌∷◌, ◌++◌, length, map, filter_map, Option, Some, None, slice_get, All, Vec, refl, sym, ap, ◌∙◌, subst, ⊎_elim, append-nil, append_assoc, arith, length-append}
+use Rattle.std.proofs.Common.{◌≡◌, ◌≢◌, ℕ, zero, suc, ◌+◌, ◌^◌, ◌<◌, ◌≤◌, true, false, eqb, List, [], ◌∷◌, ◌++◌, length, map, filter_map, Option, Some, None, slice_get, Vec, refl, sym, ap, ◌∙◌, subst, ⊎_elim, append-nil, append_assoc, arith, length-append}
 use Rattle.std.specs.Global.{Global}
 use Rattle.std.specs.List.{sum_by}
 use Rattle.std.proofs.lemmas.Bool.Decides.{eqb_tells}
@@ -14,11 +14,13 @@ use Rattle.sam_queue.specs.Audits.{AllAccounted, HasHistory, ArePostsOf}
 use Rattle.sam_queue.proofs.Histories.{loads_mine, loads_other, loads-append, none_after_mark, items_said}
 use Rattle.sam_queue.proofs.Lists.{found_at}
 use Rattle.sam_world.specs.Sides.{Each}
+use Rattle.sam_world.proofs.Settles.{each_front}
 use Rattle.sam_threads.specs.Inputs.{frames_in, frame_of_load}
 use Rattle.sam_running.specs.Headline.{Gives}
 use Rattle.sam_running.specs.Settled.{left_of, left_in}
 use Rattle.sam_threads.specs.declared.input.Input.{Input}
 use Rattle.sam_threads.specs.declared.input.Input.TheVariants.{User, Host}
+use Rattle.sam_threads.proofs.RealLaws.{each_of_all}
 
 -- ## Lists
 
@@ -36,18 +38,6 @@ split_map f (x ∷ xs) ys (z ∷ zs) e =
     let tail : xs ++ ys ≡ map f zs = cc in
     let r = split_map f xs ys zs tail in
     (z ∷ r.0, r.1, (λ i. head i ∷ r.2 i), r.3, ap (λ l. z ∷ l) r.4)
-
-pub map_joined : {A B : Type 0} (f : A → B) (xs ys : List A) → map f (xs ++ ys) ≡ map f xs ++ map f ys
-map_joined f [] ys = refl
-map_joined f (x ∷ xs) ys = ap (λ l. f x ∷ l) (map_joined f xs ys)
-
-pub each_of_all : {X : Type 0} (P : X → Type 0) (xs : List X) → All P xs → Each P xs
-each_of_all P [] a = tt
-each_of_all P (x ∷ xs) a = (a 0 x (omega arith), each_of_all P xs (λ k d l. a (suc k) d (omega (arith, l))))
-
-pub each_left : {X : Type 0} (P : X → Type 0) (xs ys : List X) → Each P (xs ++ ys) → Each P xs
-each_left P [] ys a = tt
-each_left P (x ∷ xs) ys a = (a.0, each_left P xs ys a.1)
 
 pub same_sums : {A B : Type 0} (f : A → ℕ) (g : B → ℕ) (xs : List A) (ys : List B) → length xs ≡ length ys
     → ((k : ℕ) (x : A) (y : B) → slice_get xs k ≡ Some x → slice_get ys k ≡ Some y → f x ≡ g y) → sum_by f xs ≡ sum_by g ys
@@ -109,11 +99,12 @@ module _ {T : Type 0} where
   pub none_left_of_three : (t : TakeView T) (a b c : PostView T) → (a.number ≡ 0) × (items_of 0 t.taken ≡ a.put) → (b.number ≡ 1) × (items_of 1 t.taken ≡ b.put)
       → (c.number ≡ 2) × (items_of 2 t.taken ≡ c.put) → left_in t (a ∷ b ∷ c ∷ []) ≡ 0
   none_left_of_three t a b c first second third =
-      omega (arith, sum_by-cons (left_of t) a (b ∷ c ∷ []), sum_by-cons (left_of t) b (c ∷ []), sum_by-cons (left_of t) c [], none_left 0 t a first.0 first.1, none_left 1 t b second.0 second.1, none_left 2 t c third.0 third.1)
+      omega (arith, sum_by-cons (left_of t) a (b ∷ c ∷ []), sum_by-cons (left_of t) b (c ∷ []),
+        sum_by-cons (left_of t) c [], none_left 0 t a first.0 first.1, none_left 1 t b second.0 second.1, none_left 2 t c third.0 third.1)
 
   pub senders_within : (t : TakeView T) (posts : List (PostView T)) → Gives t posts → Each (λ e. e.sender < t.line.senders) t.taken
   senders_within t posts g =
-      each_left (λ (e : Entry T). e.sender < t.line.senders) t.taken g.1.rest (each_of_all (λ (e : Entry T). e.sender < t.line.senders) (t.taken ++ g.1.rest) g.1.within)
+      each_front (λ (e : Entry T). e.sender < t.line.senders) t.taken g.1.rest (each_of_all (λ (e : Entry T). e.sender < t.line.senders) (t.taken ++ g.1.rest) g.1.within)
 
   -- ## How many are left
 

@@ -1,44 +1,19 @@
 -- Runs of the plain world that stop.
-use Rattle.std.proofs.Common.{◌≡◌, refl, sym, ap, ap₂, ◌∙◌, ℕ, zero, suc, true, List, [], ◌∷◌, take, slice_get, Option, Some, None, Result, Ok, Err, ⊎_elim, arith}
+use Rattle.std.proofs.Common.{◌≡◌, refl, sym, ap, ap₂, ◌∙◌, ℕ, zero, suc, true, List, [], ◌∷◌, take, slice_get, Option, Some, None, ⊎_elim, arith}
 use Rattle.std.specs.Prelude.{option_and_then, IfSome}
 use Rattle.std.proofs.lemmas.Option.{same_Some, slice_get_cases}
 use Rattle.sam_runes.specs.Texts.{is_empty}
-use Rattle.sam_host.specs.Host.{PlainHost, answer}
-use Rattle.sam_host.specs.declared.fault.HostFault.{HostFault}
-use Rattle.sam_term.specs.Term.{PlainTerminal, act_of, flush_of, take_of}
-use Rattle.sam_term.specs.declared.fault.TermFault.{TermFault}
-use Rattle.sam_term.specs.declared.event.Acted.{Acted}
 use Rattle.sam_mesg.specs.declared.tmesg.Tmesg.{Tmesg}
 use Rattle.sam_mesg.specs.declared.hmesg.HFrame.{HFrame}
 use Rattle.sam_world.specs.declared.event.TermLog.{TermLog}
-use Rattle.sam_world.specs.World.{PlainWorld, new_world, merged, step_of, run_of, after_act, after_compose, after_answer, host_takes, term_takes}
-use Rattle.sam_world.specs.Counts.{is_term_full, is_host_full, passes_at, composes_past}
+use Rattle.sam_world.specs.World.{PlainWorld, new_world, merged, step_of, run_of, host_takes, term_takes}
 use Rattle.sam_world.specs.Faults.{IsFaultOf, IsStoppedAt}
 use Rattle.sam_world.specs.declared.event.Event.{Event}
 use Rattle.sam_world.specs.declared.event.Event.TheVariants.{User, Act, Flush, HostTake, TermTake}
 use Rattle.sam_world.specs.declared.event.RunStop.{RunStop}
 use Rattle.sam_world.specs.declared.event.StepFault.{StepFault}
 use Rattle.sam_world.specs.declared.event.StepFault.TheVariants.{NothingThere, OutOfMemory, CountFull}
-
-act_full : (w : PlainWorld) (r : Result (PlainTerminal × Acted) TermFault) → is_term_full r ≡ true → after_act w r ≡ None
-act_full w (Ok p) e = absurd (cc)
-act_full w (Err why) e = refl
-
-compose_full : (w : PlainWorld) (r : Result (PlainTerminal × List Tmesg) TermFault) → is_term_full r ≡ true → after_compose w r ≡ None
-compose_full w (Ok p) e = absurd (cc)
-compose_full w (Err why) e = refl
-
-answer_full : (w : PlainWorld) (r : Result (PlainHost × List HFrame) HostFault) → is_host_full r ≡ true → after_answer w r ≡ None
-answer_full w (Ok p) e = absurd (cc)
-answer_full w (Err why) e = refl
-
-host_full : (w : PlainWorld) (up : List Tmesg) → passes_at w.host up ≡ true → host_takes w up ≡ None
-host_full w [] e = refl
-host_full w (m ∷ ms) e = answer_full (record w { up = ms }) (answer w.host m) e
-
-term_full : (w : PlainWorld) (down : List HFrame) → composes_past w.term down ≡ true → term_takes w down ≡ None
-term_full w [] e = refl
-term_full w (frame ∷ frames) e = compose_full (record w { down = frames }) (take_of w.term frame) e
+use Rattle.sam_world.proofs.Stopping.{passing_stops}
 
 host_empty : (w : PlainWorld) (up : List Tmesg) → is_empty up ≡ true → host_takes w up ≡ None
 host_empty w [] e = refl
@@ -56,11 +31,7 @@ no_step w Act NothingThere f ne = absurd (cc)
 no_step w Flush NothingThere f ne = absurd (cc)
 no_step w HostTake NothingThere f ne = host_empty w w.up f
 no_step w TermTake NothingThere f ne = term_empty w w.down f
-no_step w (User u) CountFull f ne = absurd (cc)
-no_step w Act CountFull f ne = act_full w (act_of w.term) f
-no_step w Flush CountFull f ne = compose_full w (flush_of w.term) f
-no_step w HostTake CountFull f ne = host_full w w.up f
-no_step w TermTake CountFull f ne = term_full w w.down f
+no_step w e CountFull f ne = passing_stops w e f
 
 no_run : (w v : PlainWorld) (es : List Event) (at : ℕ) (e : Event) → slice_get es at ≡ Some e → run_of w (take at es) ≡ Some v → step_of v e ≡ None → run_of w es ≡ None
 no_run w v [] at e is r s = absurd (cc)

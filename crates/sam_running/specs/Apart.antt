@@ -53,16 +53,21 @@ pub record Joined (given : List (List ℕ × List ℕ)) (entries : List TermLog)
   pub answered_in_turn : FitInTurn host 1 answered
 
 -- What can stop either side at a message of the other, and what a side has read that came to the end of its stream
-pub record Understood (h : PlainHost) (t : PlainTerminal) (composed handled : List Tmesg) (answered passed taken : List HFrame) : Type 0 where
+pub record Understood (h : PlainHost) (t : PlainTerminal)
+    (composed handled : List Tmesg) (answered passed taken : List HFrame) : Type 0 where
   -- the next message of the stream is refused only where the host's count is full
   pub host_stops_for_a_count : (m : Tmesg) (more : List ℕ) (why : HostFault) → FitsT 2 m
-      → stream_of terminal composed ≡ (stream_of terminal handled ++ frame_of terminal m) ++ more → answer h m ≡ Err why → why ≡ refusal.CountFull
+      → stream_of terminal composed ≡ (stream_of terminal handled ++ frame_of terminal m) ++ more
+      → answer h m ≡ Err why → why ≡ refusal.CountFull
   -- the next frame is refused only where the terminal's count would be passed
-  pub terminal_stops_for_a_count : (frame : HFrame) (why : TermFault) → Begins (taken ++ frame ∷ []) passed → take_of t frame ≡ Err why → why ≡ fault.CountFull
+  pub terminal_stops_for_a_count : (frame : HFrame) (why : TermFault) → Begins (taken ++ frame ∷ []) passed
+      → take_of t frame ≡ Err why → why ≡ fault.CountFull
   -- neither stream shows a fault
-  pub no_fault_upwards : (shown more : List ℕ) (fault : MesgFault) → stream_of terminal composed ≡ (stream_of terminal handled ++ shown) ++ more
+  pub no_fault_upwards : (shown more : List ℕ) (fault : MesgFault)
+      → stream_of terminal composed ≡ (stream_of terminal handled ++ shown) ++ more
       → Shows terminal (version_after terminal 1 handled) shown fault → ⊥
-  pub no_fault_downwards : (shown more : List ℕ) (fault : MesgFault) → stream_of host answered ≡ (stream_of host passed ++ shown) ++ more
+  pub no_fault_downwards : (shown more : List ℕ) (fault : MesgFault)
+      → stream_of host answered ≡ (stream_of host passed ++ shown) ++ more
       → Shows host (version_after host 1 passed) shown fault → ⊥
   -- who has all bytes of a stream, the last of which are no whole frame, has read every message
   pub all_upwards : (rest : List ℕ) → stream_of terminal composed ≡ stream_of terminal handled ++ rest
@@ -74,10 +79,12 @@ pub record Understood (h : PlainHost) (t : PlainTerminal) (composed handled : Li
 
 abbrev pub ApartSidesJoin : Type 0
 ApartSidesJoin =
-    (given : List (List ℕ × List ℕ)) (entries : List TermLog) (h : PlainHost) (t : PlainTerminal) (composed handled : List Tmesg) (answered passed taken : List HFrame)
+    (given : List (List ℕ × List ℕ)) (entries : List TermLog) (h : PlainHost) (t : PlainTerminal)
+    (composed handled : List Tmesg) (answered passed taken : List HFrame)
     → Apart given entries h t composed handled answered passed taken → Joined given entries h t composed handled answered taken
 
 abbrev pub ApartSidesUnderstand : Type 0
 ApartSidesUnderstand =
-    (given : List (List ℕ × List ℕ)) (entries : List TermLog) (h : PlainHost) (t : PlainTerminal) (composed handled : List Tmesg) (answered passed taken : List HFrame)
+    (given : List (List ℕ × List ℕ)) (entries : List TermLog) (h : PlainHost) (t : PlainTerminal)
+    (composed handled : List Tmesg) (answered passed taken : List HFrame)
     → Apart given entries h t composed handled answered passed taken → Understood h t composed handled answered passed taken

@@ -1,6 +1,6 @@
--- In any schedule of the five threads, each queue gives what its senders put in, per sender in order, each once, nothing put after close and
--- nothing missing once drained; and the two ends are where one run of the world leaves them, in which, whenever nothing is unsent or under way,
--- no lock is held and every loaded rune of a rasp is the host's rune there.
+-- In any schedule of the five threads, each queue gives what its senders put in, per sender in order, each once, nothing put after
+-- close and nothing missing once drained; and the two ends are where one run of the world leaves them, in which, whenever nothing is
+-- unsent or under way, no lock is held and every loaded rune of a rasp is the host's rune there.
 use Rattle.std.specs.Prelude.{◌≡◌, List, [], ◌∷◌, ◌++◌, Some, Vec}
 use Rattle.std.specs.Global.{Global}
 use Rattle.sam_queue.specs.Views.{PostView, TakeView}
@@ -22,4 +22,5 @@ pub record Headline (ends : Ends) (s : Settled) : Type 0 where
   pub run : run_of (new_world ends.host.files.items) s.schedule.items ≡ Some s.world
   pub host : s.world.host ≡ ends.host.host
   pub term : s.world.term ≡ ends.term.term
-  pub quiet : (done : List Event) (more : List Event) (w : PlainWorld) → s.schedule.items ≡ done ++ more → run_of (new_world ends.host.files.items) done ≡ Some w → IsSettledWhereQuiet w
+  pub quiet : (done : List Event) (more : List Event) (w : PlainWorld) → s.schedule.items ≡ done ++ more
+      → run_of (new_world ends.host.files.items) done ≡ Some w → IsSettledWhereQuiet w

@@ -11,6 +11,11 @@ use Rattle.sam_threads.specs.declared.ends.HostEnd.{HostEnd}
 use Rattle.sam_threads.specs.declared.ends.ReaderEnd.{ReaderEnd}
 use Rattle.sam_threads.specs.declared.ends.TermEnd.{TermEnd}
 use Rattle.sam_threads.specs.declared.ends.Ends.{Ends}
+use Rattle.sam_running.specs.declared.seats.Seats.{Seats}
+use Rattle.sam_running.specs.declared.spawning.UserPromise.{UserPromise}
+use Rattle.sam_running.specs.declared.spawning.HostPromise.{HostPromise}
+use Rattle.sam_running.specs.declared.spawning.ReaderPromise.{ReaderPromise}
+use Rattle.sam_running.specs.declared.spawning.TermPromise.{TermPromise}
 use Rattle.sam_running.specs.declared.spawning.Handles.{Handles}
 
 -- a worker was refused as it began, or stopped at its gate, only where the gate may refuse it
@@ -36,30 +41,73 @@ pub record TermKept (refuses : ℕ → Type 0) (events up : LineView) (e : TermE
   pub gate : GateMay refuses 4 e.passed e.stop
 
 -- what all five joins hand on, where one gate, one script and one set of lines were promised
-pub record AllKept (refuses : ℕ → Type 0) (keys clicks : List UserEvent) (given : List (List ℕ × List ℕ)) (lines : LinesView) (e : Ends) : Type 0 where
+pub record AllKept (refuses : ℕ → Type 0) (keys clicks : List UserEvent) (given : List (List ℕ × List ℕ))
+    (lines : LinesView) (e : Ends) : Type 0 where
   pub keyboard : UserKept refuses 0 keys lines.events e.keyboard
   pub mouse : UserKept refuses 1 clicks lines.events e.mouse
   pub host : HostKept refuses given lines.up lines.down e.host
   pub reader : ReaderKept refuses lines.down lines.events e.reader
   pub term : TermKept refuses lines.events lines.up e.term
 
--- each join hands on what its thread promised. `may gate worker`: the gate may refuse it
+-- the same, of a session that began in these seats
+abbrev pub SeatsKept : (ℕ → Type 0) → Seats → Ends → Type 0
+SeatsKept refuses s = AllKept refuses s.keyboard.events.items s.mouse.events.items s.host.files.items s.lines.now
+
+-- ## Promises
+
+-- what the end of a thread is by its promise. `may gate worker`: the gate may refuse it
+abbrev pub KeepsUser : {G : Type 0} → (G → ℕ → Type 0) → UserPromise G → UserEnd → Type 0
+KeepsUser may p = UserKept (may p.gate.now) p.worker p.todo.value.items p.events.now
+
+abbrev pub KeepsHost : {G : Type 0} → (G → ℕ → Type 0) → HostPromise G → HostEnd → Type 0
+KeepsHost may p = HostKept (may p.gate.now) p.files.value.items p.up.now p.down.now
+
+abbrev pub KeepsReader : {G : Type 0} → (G → ℕ → Type 0) → ReaderPromise G → ReaderEnd → Type 0
+KeepsReader may p = ReaderKept (may p.gate.now) p.down.now p.events.now
+
+abbrev pub KeepsTerm : {G : Type 0} → (G → ℕ → Type 0) → TermPromise G → TermEnd → Type 0
+KeepsTerm may p = TermKept (may p.gate.now) p.events.now p.up.now
+
+-- each join hands on what its thread promised
 pub record KeepPromises {G : Type 0} (may : G → ℕ → Type 0) (h : Handles G) (e : Ends) : Type 0 where
-  pub keyboard : UserKept (may h.keyboard.promise.gate.now) h.keyboard.promise.worker h.keyboard.promise.todo.value.items h.keyboard.promise.events.now e.keyboard
-  pub mouse : UserKept (may h.mouse.promise.gate.now) h.mouse.promise.worker h.mouse.promise.todo.value.items h.mouse.promise.events.now e.mouse
-  pub host : HostKept (may h.host.promise.gate.now) h.host.promise.files.value.items h.host.promise.up.now h.host.promise.down.now e.host
-  pub reader : ReaderKept (may h.reader.promise.gate.now) h.reader.promise.down.now h.reader.promise.events.now e.reader
-  pub term : TermKept (may h.term.promise.gate.now) h.term.promise.events.now h.term.promise.up.now e.term
+  pub keyboard : KeepsUser may h.keyboard.promise e.keyboard
+  pub mouse : KeepsUser may h.mouse.promise e.mouse
+  pub host : KeepsHost may h.host.promise e.host
+  pub reader : KeepsReader may h.reader.promise e.reader
+  pub term : KeepsTerm may h.term.promise e.term
+
+-- the promise is of this gate, this worker, these events and this line
+abbrev pub PromisesUser : {G : Type 0} → G → ℕ → List UserEvent → LineView → UserPromise G → Type 0
+PromisesUser gate worker todo events p =
+    (p.gate.now ≡ gate) × (p.worker ≡ worker) × (p.todo.value.items ≡ todo) × (p.events.now ≡ events)
+
+-- of this gate, these files and these lines
+abbrev pub PromisesHost : {G : Type 0} → G → List (List ℕ × List ℕ) → LineView → LineView → HostPromise G → Type 0
+PromisesHost gate given up down p =
+    (p.gate.now ≡ gate) × (p.files.value.items ≡ given) × (p.up.now ≡ up) × (p.down.now ≡ down)
+
+-- of this gate and these lines
+abbrev pub PromisesReader : {G : Type 0} → G → LineView → LineView → ReaderPromise G → Type 0
+PromisesReader gate down events p = (p.gate.now ≡ gate) × (p.down.now ≡ down) × (p.events.now ≡ events)
+
+abbrev pub PromisesTerm : {G : Type 0} → G → LineView → LineView → TermPromise G → Type 0
+PromisesTerm gate events up p = (p.gate.now ≡ gate) × (p.events.now ≡ events) × (p.up.now ≡ up)
 
 -- the promises of the five threads are those of one gate, one script and one set of lines
-pub record PromisesOf {G : Type 0} (gate : G) (keys clicks : List UserEvent) (given : List (List ℕ × List ℕ)) (lines : LinesView) (h : Handles G) : Type 0 where
-  pub keyboard : (h.keyboard.promise.gate.now ≡ gate) × (h.keyboard.promise.worker ≡ 0) × (h.keyboard.promise.todo.value.items ≡ keys) × (h.keyboard.promise.events.now ≡ lines.events)
-  pub mouse : (h.mouse.promise.gate.now ≡ gate) × (h.mouse.promise.worker ≡ 1) × (h.mouse.promise.todo.value.items ≡ clicks) × (h.mouse.promise.events.now ≡ lines.events)
-  pub host : (h.host.promise.gate.now ≡ gate) × (h.host.promise.files.value.items ≡ given) × (h.host.promise.up.now ≡ lines.up) × (h.host.promise.down.now ≡ lines.down)
-  pub reader : (h.reader.promise.gate.now ≡ gate) × (h.reader.promise.down.now ≡ lines.down) × (h.reader.promise.events.now ≡ lines.events)
-  pub term : (h.term.promise.gate.now ≡ gate) × (h.term.promise.events.now ≡ lines.events) × (h.term.promise.up.now ≡ lines.up)
+pub record PromisesOf {G : Type 0} (gate : G) (keys clicks : List UserEvent) (given : List (List ℕ × List ℕ))
+    (lines : LinesView) (h : Handles G) : Type 0 where
+  pub keyboard : PromisesUser gate 0 keys lines.events h.keyboard.promise
+  pub mouse : PromisesUser gate 1 clicks lines.events h.mouse.promise
+  pub host : PromisesHost gate given lines.up lines.down h.host.promise
+  pub reader : PromisesReader gate lines.down lines.events h.reader.promise
+  pub term : PromisesTerm gate lines.events lines.up h.term.promise
+
+-- the same, of a session that begins in these seats
+abbrev pub SeatsPromised : {G : Type 0} → G → Seats → Handles G → Type 0
+SeatsPromised gate s = PromisesOf gate s.keyboard.events.items s.mouse.events.items s.host.files.items s.lines.now
 
 -- some worker's gate did not let it begin
 abbrev pub SomeRefused : Ends → Type 0
 SomeRefused e =
-    (e.keyboard.passed ≡ false) ⊎ ((e.mouse.passed ≡ false) ⊎ ((e.host.passed ≡ false) ⊎ ((e.reader.passed ≡ false) ⊎ (e.term.passed ≡ false))))
+    (e.keyboard.passed ≡ false)
+    ⊎ ((e.mouse.passed ≡ false) ⊎ ((e.host.passed ≡ false) ⊎ ((e.reader.passed ≡ false) ⊎ (e.term.passed ≡ false))))

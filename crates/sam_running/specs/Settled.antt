@@ -57,7 +57,9 @@ stop_of (Some why) = why ∷ []
 
 -- of the keyboard, the mouse, the host, the host reader and the terminal, in this order
 abbrev pub stops_of : Ends → List Stop
-stops_of ends = stop_of ends.keyboard.stop ++ stop_of ends.mouse.stop ++ stop_of ends.host.stop ++ stop_of ends.reader.stop ++ stop_of ends.term.stop
+stops_of ends =
+    stop_of ends.keyboard.stop ++ stop_of ends.mouse.stop
+    ++ stop_of ends.host.stop ++ stop_of ends.reader.stop ++ stop_of ends.term.stop
 
 -- a side stopped for a fault or a refusal only where a count was full
 abbrev pub IsFull : Stop → Type 0

@@ -20,7 +20,8 @@ pub record IsRoomFor {T : Type 0} (line : LineView) (posts : ℕ) (room : LineRo
 
 -- the world where the merged schedule leads from these files; none where the schedule is no run
 abbrev pub IsReplay : List (List ℕ × List ℕ) → List TermLog → ℕ → Option Replay → Type 0
-IsReplay files entries taken (Some r) = (r.schedule.items ≡ merged entries taken) × (run_of (new_world files) (merged entries taken) ≡ Some r.world)
+IsReplay files entries taken (Some r) =
+    (r.schedule.items ≡ merged entries taken) × (run_of (new_world files) (merged entries taken) ≡ Some r.world)
 IsReplay files entries taken None = (is_bad_log entries taken ≡ true) ⊎ (run_of (new_world files) (merged entries taken) ≡ None)
 
 pub record IsPrepared (e : Ends) (p : Prepared) : Type 0 where

@@ -1,7 +1,7 @@
 //! Running the five workers: none begins before all are started.
 ghost use Rattle.std.specs.Prelude.{◌≡◌, ◌<◌, IfOk, IfSome, IsSomeAnd, IsTrue, IsFalse, Some, Err};
 ghost use Rattle.sam_script.specs.Script.{keys_of, mouse_of};
-ghost use Rattle.sam_running.specs.Promised.{AllKept, KeepPromises, SomeRefused};
+ghost use Rattle.sam_running.specs.Promised.{KeepPromises, SeatsKept, SomeRefused};
 ghost use Rattle.sam_running.specs.Seats.{AreReady};
 ghost use Rattle.sam_threads.specs.Told.{Told, AllPassed, GatesTold, RefusesSome};
 ghost use Rattle.sam_running.specs.declared.run.RunFault.TheVariants.{GateTimedOut};
@@ -66,7 +66,7 @@ pub fn run_ends<'q, R: Threads + Wait + Sync, G: Gate>(
         rt,
         move |scope| -> Result<Ends<'_>, RunFault>
             requires { (0 < piece) × AreReady seats.lines.now seats }
-            ensures ends { IfOk result (AllKept (G.may_refuse gate.entry.now) seats.entry.keyboard.events.items seats.entry.mouse.events.items seats.entry.host.files.items seats.entry.lines.now) }
+            ensures ends { IfOk result (SeatsKept (G.may_refuse gate.entry.now) seats.entry) }
             ensures begun { IfOk result AllPassed }
             ensures timed { result ≡ Err RunFault.GateTimedOut → RefusesSome (G.may_refuse gate.entry.now) }
         { run_all(scope, rt, alloc, start, gate, piece, seats) },
@@ -85,7 +85,7 @@ fn run_all<'s, 'e: 's, 'q: 's, R: Threads + Wait + Sync, G: Gate>(
 ) -> Result<Ends<'q>, RunFault>
     requires piece { 0 < piece }
     requires seats { AreReady seats.lines.now seats }
-    ensures ends { IfOk result (AllKept (G.may_refuse gate.now) seats.entry.keyboard.events.items seats.entry.mouse.events.items seats.entry.host.files.items seats.entry.lines.now) }
+    ensures ends { IfOk result (SeatsKept (G.may_refuse gate.now) seats.entry) }
     ensures begun { IfOk result AllPassed }
     ensures timed { result ≡ Err RunFault.GateTimedOut → RefusesSome (G.may_refuse gate.now) }
 {

@@ -1,6 +1,6 @@
 //! Starting the five threads, and joining them.
 ghost use Rattle.std.specs.Prelude.{◌≡◌, ◌<◌, IfSome, Some};
-ghost use Rattle.sam_running.specs.Promised.{UserKept, HostKept, ReaderKept, TermKept, KeepPromises, PromisesOf};
+ghost use Rattle.sam_running.specs.Promised.{UserKept, HostKept, ReaderKept, TermKept, KeepPromises, PromisesUser, PromisesHost, PromisesReader, PromisesTerm, SeatsPromised};
 ghost use Rattle.sam_running.specs.Seats.{IsUserSeat, IsHostSeat, IsReaderSeat, IsTermSeat, AreReady};
 
 use crate::seats::{HostSeat, ReaderSeat, Seats, TermSeat, UserSeat};
@@ -42,9 +42,9 @@ impl<'a, 'q, G> Drop for UserPromise<'a, 'q, G> {
 
 impl<'a, 'q, G: Gate> Promise<Option<UserEnd<'q>>> for UserPromise<'a, 'q, G> {
     ghost use Rattle.std.specs.Prelude.{IfSome};
-    ghost use Rattle.sam_running.specs.Promised.{UserKept};
+    ghost use Rattle.sam_running.specs.Promised.{KeepsUser};
 
-    ghost kept_by = { λ p r. IfSome r (UserKept (G.may_refuse p.gate.now) p.worker p.todo.value.items p.events.now) };
+    ghost kept_by = { λ p r. IfSome r (KeepsUser G.may_refuse p) };
 }
 
 /// What the host's thread promises, and its join hands on: an end of the host's worker, with these files, on these lines. It is kept
@@ -73,9 +73,9 @@ impl<'a, 'q, G> Drop for HostPromise<'a, 'q, G> {
 
 impl<'a, 'q, G: Gate> Promise<Option<HostEnd<'q>>> for HostPromise<'a, 'q, G> {
     ghost use Rattle.std.specs.Prelude.{IfSome};
-    ghost use Rattle.sam_running.specs.Promised.{HostKept};
+    ghost use Rattle.sam_running.specs.Promised.{KeepsHost};
 
-    ghost kept_by = { λ p r. IfSome r (HostKept (G.may_refuse p.gate.now) p.files.value.items p.up.now p.down.now) };
+    ghost kept_by = { λ p r. IfSome r (KeepsHost G.may_refuse p) };
 }
 
 /// What the host reader's thread promises, and its join hands on: an end of the host reader, on these lines. It is kept beside the
@@ -101,9 +101,9 @@ impl<'a, 'q, G> Drop for ReaderPromise<'a, 'q, G> {
 
 impl<'a, 'q, G: Gate> Promise<Option<ReaderEnd<'q>>> for ReaderPromise<'a, 'q, G> {
     ghost use Rattle.std.specs.Prelude.{IfSome};
-    ghost use Rattle.sam_running.specs.Promised.{ReaderKept};
+    ghost use Rattle.sam_running.specs.Promised.{KeepsReader};
 
-    ghost kept_by = { λ p r. IfSome r (ReaderKept (G.may_refuse p.gate.now) p.down.now p.events.now) };
+    ghost kept_by = { λ p r. IfSome r (KeepsReader G.may_refuse p) };
 }
 
 /// What the terminal's thread promises, and its join hands on: an end of the terminal's worker, on these lines. It is kept beside the
@@ -129,9 +129,9 @@ impl<'a, 'q, G> Drop for TermPromise<'a, 'q, G> {
 
 impl<'a, 'q, G: Gate> Promise<Option<TermEnd<'q>>> for TermPromise<'a, 'q, G> {
     ghost use Rattle.std.specs.Prelude.{IfSome};
-    ghost use Rattle.sam_running.specs.Promised.{TermKept};
+    ghost use Rattle.sam_running.specs.Promised.{KeepsTerm};
 
-    ghost kept_by = { λ p r. IfSome r (TermKept (G.may_refuse p.gate.now) p.events.now p.up.now) };
+    ghost kept_by = { λ p r. IfSome r (KeepsTerm G.may_refuse p) };
 }
 
 /// Waits for the start, and then runs the keyboard's or the mouse's worker. Returns `None` if the start was called off.
@@ -254,7 +254,7 @@ fn spawn_user<'s, 'e: 's, 'q: 's, R: Wait + Sync, G: Gate>(
 ) -> Option<UserHandle<'s, 'q, G>>
     requires worker { worker < 5 }
     requires seat { IsUserSeat worker events.now seat }
-    ensures { IfSome result (λ h. (h.promise.gate.now ≡ gate.now) × (h.promise.worker ≡ worker) × (h.promise.todo.value.items ≡ seat.entry.events.items) × (h.promise.events.now ≡ events.now)) }
+    ensures { IfSome result (λ h. PromisesUser gate.now worker seat.entry.events.items events.now h.promise) }
 {
     let promise = UserPromise {
         gate,
@@ -286,7 +286,7 @@ fn spawn_host<'s, 'e: 's, 'q: 's, R: Wait + Sync, G: Gate>(
 ) -> Option<HostHandle<'s, 'q, G>>
     requires piece { 0 < piece }
     requires seat { IsHostSeat up.now down.now seat }
-    ensures { IfSome result (λ h. (h.promise.gate.now ≡ gate.now) × (h.promise.files.value.items ≡ seat.entry.files.items) × (h.promise.up.now ≡ up.now) × (h.promise.down.now ≡ down.now)) }
+    ensures { IfSome result (λ h. PromisesHost gate.now seat.entry.files.items up.now down.now h.promise) }
 {
     let promise = HostPromise {
         gate,
@@ -298,7 +298,8 @@ fn spawn_host<'s, 'e: 's, 'q: 's, R: Wait + Sync, G: Gate>(
         promise,
         move || -> Option<HostEnd<'_>>
             requires { (0 < piece) × IsHostSeat seat.take.line seat.post.line seat }
-            ensures { IfSome result (HostKept (G.may_refuse gate.entry.now) seat.entry.files.items seat.entry.take.line seat.entry.post.line) }
+            ensures { IfSome result
+                (HostKept (G.may_refuse gate.entry.now) seat.entry.files.items seat.entry.take.line seat.entry.post.line) }
         { begin_host(rt, alloc, start, gate, piece, seat) },
     );
     child.ok()
@@ -316,7 +317,7 @@ fn spawn_reader<'s, 'e: 's, 'q: 's, R: Wait + Sync, G: Gate>(
     seat: ReaderSeat<'q>,
 ) -> Option<ReaderHandle<'s, 'q, G>>
     requires seat { IsReaderSeat down.now events.now seat }
-    ensures { IfSome result (λ h. (h.promise.gate.now ≡ gate.now) × (h.promise.down.now ≡ down.now) × (h.promise.events.now ≡ events.now)) }
+    ensures { IfSome result (λ h. PromisesReader gate.now down.now events.now h.promise) }
 {
     let promise = ReaderPromise { gate, down, events };
     let child = scope.spawn_with(
@@ -343,7 +344,7 @@ fn spawn_terminal<'s, 'e: 's, 'q: 's, R: Wait + Sync, G: Gate>(
 ) -> Option<TermHandle<'s, 'q, G>>
     requires piece { 0 < piece }
     requires seat { IsTermSeat events.now up.now seat }
-    ensures { IfSome result (λ h. (h.promise.gate.now ≡ gate.now) × (h.promise.events.now ≡ events.now) × (h.promise.up.now ≡ up.now)) }
+    ensures { IfSome result (λ h. PromisesTerm gate.now events.now up.now h.promise) }
 {
     let promise = TermPromise { gate, events, up };
     let child = scope.spawn_with(
@@ -383,7 +384,7 @@ pub fn spawn_all<'s, 'e: 's, 'q: 's, R: Wait + Sync, G: Gate>(
 ) -> Option<Handles<'s, 'q, G>>
     requires piece { 0 < piece }
     requires seats { AreReady seats.lines.now seats }
-    ensures { IfSome result (PromisesOf gate.now seats.entry.keyboard.events.items seats.entry.mouse.events.items seats.entry.host.files.items seats.entry.lines.now) }
+    ensures { IfSome result (SeatsPromised gate.now seats.entry) }
 {
     let Seats {
         lines,

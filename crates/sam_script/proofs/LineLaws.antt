@@ -3,9 +3,9 @@ use Rattle.std.proofs.Common.{◌≡◌, ◌<◌, ◌≤◌, ◌∙◌, inl, inr
 use Rattle.std.specs.Prelude.{nat_lt, nat_le, ◌&&◌, ◌||◌, ◌==◌, chars, encode_utf8_all}
 use Rattle.std.specs.List.{AllByRecursion}
 use Rattle.std.specs.Str.{IsUtf8}
-use Rattle.std.proofs.lemmas.Bool.{ltb-true, lt-ltb, leb-true, le-leb, eqb-true}
+use Rattle.std.proofs.lemmas.Bool.{ltb-true, lt-ltb, leb-true, le-leb, eqb-true, cases_Bool, and_parts}
 use Rattle.std.proofs.lemmas.Bool.Decides.{eqb_tells}
-use Rattle.std.proofs.lemmas.Option.{cond_some}
+use Rattle.std.proofs.lemmas.Option.{cond_some, same_Some}
 use Rattle.std.proofs.lemmas.Str.{chars_from_encodes, encodes-chars}
 use Rattle.sam_runes.specs.Texts.{max_runes, most_in_name}
 use Rattle.sam_script.specs.declared.line.Line.{Line}
@@ -18,7 +18,7 @@ use Rattle.sam_script.specs.Script.{IsFile}
 use Rattle.sam_script.specs.Spelling.{SpellsParts, IsWord, SpellsFile, SpellsLine, SaysNothing, SaysSo, Says}
 use Rattle.sam_script.specs.Spelling.Part.{Rest}
 use Rattle.sam_script.specs.Reading.{◌>>=◌, word_of, behind_word, word_at, text_at, event_at, fitting_name, fitting_text, file_text_at, file_at, bare, line_readers, is_silent, line_at, Gives, IsUnsaid}
-use Rattle.sam_script.proofs.SpellingLaws.{some_same, bind_some, tells, both_true, ended_says, IsEnd, word_ends, word_split, word_says, word_read, utf8_tail, utf8_rear, utf8_front, text_says, text_read, parts_end, ReadsAs, rows_say, event_says, event_read}
+use Rattle.sam_script.proofs.SpellingLaws.{bind_some, ended_says, IsEnd, word_ends, word_split, word_says, word_read, utf8_tail, utf8_rear, utf8_front, text_says, text_read, parts_end, ReadsAs, rows_say, event_says, event_read}
 
 -- ## A file
 
@@ -29,7 +29,7 @@ runes_encode (c ∷ runes) = ap (λ xs. encode_utf8 c ++ xs) (runes_encode runes
 name_says : (word name : List ℕ) → IsUtf8 word → fitting_name (chars word) ≡ Some name → (word ≡ flat_map encode_utf8 name) × (0 < length name) × (length name ≤ most_in_name)
 name_says word name u h =
     let fits = cond_some (nat_lt 0 (length (chars word)) && nat_le (length (chars word)) most_in_name) (chars word) name h in
-    let two = both_true (nat_lt 0 (length (chars word))) (nat_le (length (chars word)) most_in_name) fits.0 in
+    let two = and_parts (nat_lt 0 (length (chars word))) (nat_le (length (chars word)) most_in_name) fits.0 in
     subst (λ (n : List ℕ). (word ≡ flat_map encode_utf8 n) × (0 < length n) × (length n ≤ most_in_name)) fits.1
     (sym (runes_encode (chars word) ∙ encodes-chars word u), ltb-true 0 (length (chars word)) two.0, leb-true (length (chars word)) most_in_name two.1)
 
@@ -58,7 +58,7 @@ file_says bytes x u h =
     let w = word_says bytes a.0 a.1 in
     let n = name_says a.0.0 b.0 (utf8_part a.0.0 a.0.1 (subst IsUtf8 w.0 u) w.2) b.1 in
     let t = file_text_says a.0.1 d.0 (utf8_rear (codes " " ++ a.0.0) a.0.1 (subst IsUtf8 w.0 u) w.2) d.1 in
-    subst (λ (y : List ℕ × List ℕ). SpellsFile y.0 y.1 (codes "file" ++ bytes)) (some_same (b.0, d.0) x d.2)
+    subst (λ (y : List ℕ × List ℕ). SpellsFile y.0 y.1 (codes "file" ++ bytes)) (same_Some (b.0, d.0) x d.2)
     (a.0.1, ap (λ xs. codes "file" ++ xs) w.0 ∙ ap (λ xs. codes "file " ++ xs ++ a.0.1) n.0, subst IsWord n.0 w.1, (n.1, n.2, t.1), t.0)
   where
     utf8_part : (word rest : List ℕ) → IsUtf8 (codes " " ++ word ++ rest) → IsEnd rest → IsUtf8 word
@@ -83,19 +83,19 @@ IsSaidBy word it bytes = SaysSo it (word ++ bytes)
 file_row : ReadsAs IsSaidBy (codes "file", λ bytes. file_at bytes >>= λ x. Some (said.File x.0 x.1))
 file_row bytes it u h =
     let a = bind_some (file_at bytes) (λ x. Some (said.File x.0 x.1)) it h in
-    subst (λ i. IsSaidBy (codes "file") i bytes) (some_same (said.File a.0.0 a.0.1) it a.2) (file_says bytes a.0 u a.1)
+    subst (λ i. IsSaidBy (codes "file") i bytes) (same_Some (said.File a.0.0 a.0.1) it a.2) (file_says bytes a.0 u a.1)
 
 key_row : ReadsAs IsSaidBy (codes "k", λ bytes. event_at bytes >>= λ e. Some (said.Line (Key e)))
 key_row bytes it u h =
     let a = bind_some (event_at bytes) (λ e. Some (said.Line (Key e))) it h in
     let s = event_says bytes a.0 u a.1 in
-    subst (λ i. IsSaidBy (codes "k") i bytes) (some_same (said.Line (Key a.0)) it a.2) (s.0, ap (λ xs. codes "k" ++ xs) s.1, s.2)
+    subst (λ i. IsSaidBy (codes "k") i bytes) (same_Some (said.Line (Key a.0)) it a.2) (s.0, ap (λ xs. codes "k" ++ xs) s.1, s.2)
 
 mouse_row : ReadsAs IsSaidBy (codes "m", λ bytes. event_at bytes >>= λ e. Some (said.Line (Mouse e)))
 mouse_row bytes it u h =
     let a = bind_some (event_at bytes) (λ e. Some (said.Line (Mouse e))) it h in
     let s = event_says bytes a.0 u a.1 in
-    subst (λ i. IsSaidBy (codes "m") i bytes) (some_same (said.Line (Mouse a.0)) it a.2) (s.0, ap (λ xs. codes "m" ++ xs) s.1, s.2)
+    subst (λ i. IsSaidBy (codes "m") i bytes) (same_Some (said.Line (Mouse a.0)) it a.2) (s.0, ap (λ xs. codes "m" ++ xs) s.1, s.2)
 
 bare_row : (line : Line) (word : List ℕ) → ((bytes : List ℕ) → bytes ≡ [] → SpellsLine line (word ++ bytes)) → ReadsAs IsSaidBy (word, bare line)
 bare_row line word spells bytes it u h =
@@ -139,8 +139,8 @@ nothing_silent (b ∷ bytes) (inr is) = ap (λ c. c == 35 || c == 61) is
 
 pub line_says : (bytes : List ℕ) (it : Said) → IsUtf8 bytes → line_at bytes ≡ Some it → SaysSo it bytes
 unfolding line_at
-line_says bytes it u h = elim (tells (is_silent bytes)) [
-  | inl t ↦ let here = rw t at h in subst (λ i. SaysSo i bytes) (some_same said.Nothing it here) (silent_says bytes t)
+line_says bytes it u h = elim (cases_Bool (is_silent bytes)) [
+  | inl t ↦ let here = rw t at h in subst (λ i. SaysSo i bytes) (same_Some said.Nothing it here) (silent_says bytes t)
   | inr t ↦
       let here = rw t at h in
       let utf8 = utf8_rear (word_of bytes) (behind_word bytes) (subst IsUtf8 (sym (word_split bytes)) u) (word_ends bytes) in
@@ -169,7 +169,7 @@ line_read bytes (said.Line Show) (u, is) = ap line_at is
 
 -- a line says one thing
 pub says_one : (bytes : List ℕ) (x y : Said) → Says x bytes → Says y bytes → x ≡ y
-says_one bytes x y p q = some_same x y (sym (line_read bytes x p) ∙ line_read bytes y q)
+says_one bytes x y p q = same_Some x y (sym (line_read bytes x p) ∙ line_read bytes y q)
 
 pub said_ok : (r : Result Said LineFault) (text bytes : List ℕ) → (text ≡ bytes) × IsUtf8 bytes → Gives (λ it. it) r (line_at text) → IfOk r (λ it. Says it bytes)
 said_ok (Ok it) text bytes is gives = (is.1, line_says bytes it is.1 (ap line_at (sym is.0) ∙ gives))

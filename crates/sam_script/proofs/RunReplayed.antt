@@ -1,7 +1,7 @@
 -- A run that was printed, replayed, shows the world to which it leads.
 use Rattle.std.proofs.Common.{◌≡◌, ◌≤◌, ◌∙◌, ◌+◌, refl, ap, ℕ, List, [], ◌∷◌, ◌++◌, length, map, false, Some, Result, Ok, Err, append-nil}
 use Rattle.std.specs.List.{AllByRecursion}
-use Rattle.std.proofs.lemmas.Option.{option_and_then_some}
+use Rattle.std.proofs.lemmas.Option.{option_and_then_some, same_Some}
 use Rattle.sam_runes.specs.Texts.{is_empty, most_files}
 use Rattle.sam_mesg.specs.declared.tmesg.Tmesg.{Tmesg}
 use Rattle.sam_mesg.specs.declared.hmesg.HFrame.{HFrame}
@@ -15,7 +15,6 @@ use Rattle.sam_script.specs.Spelling.{Spells, lines_of}
 use Rattle.sam_script.specs.Replay.{or_full, after_line, printed_by, behind, and_on, replayed_from, replayed}
 use Rattle.sam_script.specs.RunLines.{run_lines_of, line_of, numbered_from, run_script, CanBeNamed, CanBeWritten}
 use Rattle.sam_script.specs.declared.fault.ScriptFault.{ScriptFault}
-use Rattle.sam_script.proofs.SpellingLaws.{some_same}
 use Rattle.sam_script.proofs.ScriptLaws.{spells_one}
 use Rattle.sam_script.proofs.RunSpelled.{run_is_spelled}
 
@@ -54,7 +53,7 @@ behind_nothing (Err why) = refl
 
 lines_replay : (n : ℕ) (w v : PlainWorld) (events : List Event) → run_of w events ≡ Some v
     → replayed_from w (numbered_from n (map line_of events ++ line.Show ∷ [])) ≡ Ok (show_lines v)
-lines_replay n w v [] h = ap (λ out. Ok out) (append-nil (show_lines w) ∙ ap show_lines (some_same w v h))
+lines_replay n w v [] h = ap (λ out. Ok out) (append-nil (show_lines w) ∙ ap show_lines (same_Some w v h))
 lines_replay n w v (e ∷ events) h =
     option_and_then_some (λ next. run_of next events) (step_of w e) v h
     (λ next is more.

@@ -9,7 +9,7 @@ use lib.Utf8.{scalar}
 use lib.Dec.{leb}
 use Rattle.std.specs.List.{AllByRecursion, AllZip, onto_first}
 use Rattle.std.specs.Str.{IsUtf8, all_ascii_digits, all_scalars}
-use Rattle.std.proofs.lemmas.Bool.{ne_eqb, ltb-true, lt-ltb, eqb-false, leb-true}
+use Rattle.std.proofs.lemmas.Bool.{ne_eqb, ltb-true, lt-ltb, eqb-false, leb-true, not-true, and_parts}
 use Rattle.std.proofs.lemmas.Bool.Decides.{eqb_tells}
 use Rattle.std.proofs.lemmas.Fmt.{decimal_is_IsNumeral, digits_decimal}
 use Rattle.std.proofs.lemmas.Str.Parse.{numerals_by_value, tells_all_ascii_digits}
@@ -27,7 +27,6 @@ use Rattle.sam_script.specs.Show.{text_shown, text_rune}
 use Rattle.sam_script.specs.Spelling.{Part, part_shown, spelling, form, IsNumber, SpellsParts, IsWord, SaysSo, Says, files_said, lines_said, AreFilesFirst, lines_of, Spells}
 use Rattle.sam_script.specs.Spelling.Part.{Number, Rest}
 use Rattle.sam_script.specs.RunLines.{event_line, file_line, run_lines_of, line_of, numbered_from, run_script, CanBeNamed, IsFitting, CanBeWritten}
-use Rattle.sam_script.proofs.SpellingLaws.{both_true}
 use Rattle.sam_script.proofs.ScriptLaws.{spells_one}
 
 pub one_script : (bytes : List ℕ) (a b : PlainScript) → Spells bytes a → Spells bytes b → a ≡ b
@@ -57,19 +56,15 @@ abbrev is_plain : List ℕ → Bool
 is_plain [] = true
 is_plain (b ∷ bytes) = (nat_lt b 128 && not (b == 10)) && is_plain bytes
 
-not_true : (b : Bool) → not b ≡ true → b ≡ false
-not_true true h = cc
-not_true false h = refl
-
 good_plain : (bytes : List ℕ) → is_plain bytes ≡ true → Good bytes
 good_plain [] h = good_nil
 good_plain (b ∷ bytes) h =
-    let two = both_true (nat_lt b 128 && not (b == 10)) (is_plain bytes) h in
-    let one = both_true (nat_lt b 128) (not (b == 10)) two.0 in
+    let two = and_parts (nat_lt b 128 && not (b == 10)) (is_plain bytes) h in
+    let one = and_parts (nat_lt b 128) (not (b == 10)) two.0 in
     let more = good_plain bytes two.1 in
     let small = ltb-true b 128 one.0 in
     record {
-      one = (not_true (b == 10) one.1, more.one);
+      one = (not-true (b == 10) one.1, more.one);
       utf8 = subst IsUtf8 (ap (λ xs. xs ++ bytes) (encode_ascii b small)) (IsUtf8-append (encode_utf8 b) bytes (IsUtf8-encode b (scalar_ascii b small)) more.utf8);
     }
   where
@@ -79,8 +74,8 @@ good_plain (b ∷ bytes) h =
 digits_plain : (word : List ℕ) → all_ascii_digits word ≡ true → is_plain word ≡ true
 digits_plain [] h = refl
 digits_plain (c ∷ word) h =
-    let two = both_true (is_ascii_digit c) (all_ascii_digits word) h in
-    let ends = both_true (leb 48 c) (leb c 57) two.0 in
+    let two = and_parts (is_ascii_digit c) (all_ascii_digits word) h in
+    let ends = and_parts (leb 48 c) (leb c 57) two.0 in
     let low = leb-true 48 c ends.0 in
     let high = leb-true c 57 ends.1 in
     rw (lt-ltb c 128 (omega (arith, high)), ne_eqb c 10 (λ e. omega (arith, low, e))) (digits_plain word two.1)
@@ -104,12 +99,12 @@ good_shown c scalar = elim (eqb_tells c 92) [
 good_text : (s : List ℕ) → AreRunes s → Good (text_shown s)
 good_text [] h = good_nil
 good_text (c ∷ s) h =
-    let two = both_true (scalar c) (all_scalars s) h in good_append (text_rune c) (text_shown s) (good_shown c two.0) (good_text s two.1)
+    let two = and_parts (scalar c) (all_scalars s) h in good_append (text_rune c) (text_shown s) (good_shown c two.0) (good_text s two.1)
 
 good_name : (name : List ℕ) → AreRunes name → AllByRecursion (λ c. ((c == 32) ≡ false) × ((c == 10) ≡ false)) name → Good (flat_map encode_utf8 name)
 good_name [] runes h = good_nil
 good_name (c ∷ name) runes h =
-    let two = both_true (scalar c) (all_scalars name) runes in
+    let two = and_parts (scalar c) (all_scalars name) runes in
     good_append (encode_utf8 c) (flat_map encode_utf8 name) (good_rune c two.0 h.0.1) (good_name name two.1 h.1)
 
 no_space : (bytes : List ℕ) → ((k : ℕ) → k < length bytes → get_or bytes k 0 ≢ 32) → IsWord bytes
@@ -156,7 +151,7 @@ decimal_number bits n small fits =
 parts_spelled : (parts : List Part) → is_sane parts ≡ true → AllByRecursion IsFitting parts → SpellsParts parts (flat_map part_shown parts)
 parts_spelled [] sane fit = refl
 parts_spelled (Number bits n ∷ parts) sane fit =
-    let two = both_true (nat_lt bits 64) (is_sane parts) sane in
+    let two = and_parts (nat_lt bits 64) (is_sane parts) sane in
     let d = decimal_number bits n (ltb-true bits 64 two.0) fit.0 in
     (decimal n, flat_map part_shown parts, refl, d.1, fit.0, parts_spelled parts two.1 fit.1)
 parts_spelled (Rest s ∷ []) sane fit = (inl (append-nil (codes " " ++ text_shown s)), refl)
@@ -165,7 +160,7 @@ parts_spelled (Rest s ∷ part ∷ parts) sane fit = cc
 parts_good : (parts : List Part) → is_sane parts ≡ true → AllByRecursion IsFitting parts → Good (flat_map part_shown parts)
 parts_good [] sane fit = good_nil
 parts_good (Number bits n ∷ parts) sane fit =
-    let two = both_true (nat_lt bits 64) (is_sane parts) sane in
+    let two = and_parts (nat_lt bits 64) (is_sane parts) sane in
     let d = decimal_number bits n (ltb-true bits 64 two.0) fit.0 in
     good_append (codes " " ++ decimal n) (flat_map part_shown parts)
     (good_append (codes " ") (decimal n) (good_plain (codes " ") refl) (good_plain (decimal n) (digits_plain (decimal n) d.1.1)))

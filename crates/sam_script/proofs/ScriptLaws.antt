@@ -47,23 +47,17 @@ files_push : (xs : List Said) (x : Said) → files_said (xs ++ x ∷ []) ≡ fil
 files_push [] x = append-nil (file_said x)
 files_push (y ∷ xs) x = ap (λ zs. file_said y ++ zs) (files_push xs x) ∙ sym (append_assoc (file_said y) (files_said xs) (file_said x))
 
+moved : (a b : ℕ) → a + (b + 1) ≡ suc a + b
+moved a b = omega arith
+
 lines_push : (n : ℕ) (xs : List Said) (x : Said) → lines_said n (xs ++ x ∷ []) ≡ lines_said n xs ++ lines_said (length xs + n) (x ∷ [])
 lines_push n [] x = ap (λ k. lines_said k (x ∷ [])) (plus_zero n)
   where
     plus_zero : (m : ℕ) → m ≡ zero + m
     plus_zero m = omega arith
 lines_push n (said.Line line ∷ xs) x = ap (λ zs. record { number = n; line = line } ∷ zs) (lines_push (n + 1) xs x ∙ ap (λ k. lines_said (n + 1) xs ++ lines_said k (x ∷ [])) (moved (length xs) n))
-  where
-    moved : (a b : ℕ) → a + (b + 1) ≡ suc a + b
-    moved a b = omega arith
 lines_push n (said.File name text ∷ xs) x = lines_push (n + 1) xs x ∙ ap (λ k. lines_said (n + 1) xs ++ lines_said k (x ∷ [])) (moved (length xs) n)
-  where
-    moved : (a b : ℕ) → a + (b + 1) ≡ suc a + b
-    moved a b = omega arith
 lines_push n (said.Nothing ∷ xs) x = lines_push (n + 1) xs x ∙ ap (λ k. lines_said (n + 1) xs ++ lines_said k (x ∷ [])) (moved (length xs) n)
-  where
-    moved : (a b : ℕ) → a + (b + 1) ≡ suc a + b
-    moved a b = omega arith
 
 -- what comes last says no file
 ordered_other : (xs : List Said) (x : Said) → AreFilesFirst xs → file_said x ≡ [] → AreFilesFirst (xs ++ x ∷ [])

@@ -1,5 +1,5 @@
 -- What is shown of one slot or section more.
-use Rattle.std.proofs.Common.{◌≡◌, refl, sym, ap, ◌∙◌, ◌<◌, ◌+◌, ℕ, zero, suc, List, [], ◌∷◌, ◌++◌, length, map, take, Option, Some, None, slice_index_or, arith}
+use Rattle.std.proofs.Common.{◌≡◌, refl, sym, ap, ◌∙◌, ◌<◌, ◌+◌, ℕ, zero, suc, List, [], ◌∷◌, ◌++◌, length, map, take, Option, Some, None, slice_index_or, arith, append-nil}
 use Rattle.std.proofs.lemmas.List.{append_assoc}
 use Rattle.sam_runes.specs.Slots.{Slots, slot}
 use Rattle.sam_script.specs.Show.{slot_lines, rasp_shown, text_shown, text_rune}
@@ -11,12 +11,8 @@ shown_loaded (x ∷ s) = ap (λ ys. text_rune x ++ ys) (shown_loaded s)
 pub slots_more : {X : Type 0} (line : ℕ → Option X → List ℕ) (tag : ℕ) (xs : Slots X) (i : ℕ) (d : Option X) → i < length xs
     → slot_lines line tag (take (suc i) xs) ≡ slot_lines line tag (take i xs) ++ line (tag + i) (slice_index_or xs i d)
 slots_more line tag [] i d within = absurd (omega (arith, within))
-slots_more line tag (x ∷ xs) zero d within = append_nil (line tag x) ∙ ap (λ t. line t x) (plus_zero tag)
+slots_more line tag (x ∷ xs) zero d within = append-nil (line tag x) ∙ ap (λ t. line t x) (plus_zero tag)
   where
-    append_nil : {M : Type 0} (ys : List M) → ys ++ [] ≡ ys
-    append_nil [] = refl
-    append_nil (y ∷ ys) = ap (λ zs. y ∷ zs) (append_nil ys)
-
     plus_zero : (n : ℕ) → n ≡ n + 0
     plus_zero n = omega (arith)
 slots_more line tag (x ∷ xs) (suc i) d within =

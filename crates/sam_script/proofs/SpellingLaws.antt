@@ -1,14 +1,13 @@
 -- What reading gives is what the grammar says, and what it says is read.
 use Rattle.std.proofs.Common.{◌≡◌, ◌<◌, ◌∙◌, ◌^◌, ◌⊎◌, inl, inr, refl, sym, ap, ap₂, subst, ℕ, List, [], ◌∷◌, ◌++◌, length, get_or, take, drop, Bool, true, false, cond, Option, Some, None, arith, codes, flat_map, append_assoc, append-nil, encode_utf8}
 use Rattle.std.specs.Prelude.{nat_lt, ◌&&◌, ◌==◌, bytes_eq, chars, encode_utf8_all}
-use Rattle.std.specs.Option.{unwrap_or}
 use Rattle.std.specs.List.{AllByRecursion}
 use Rattle.std.specs.Char.{is_ascii_digit}
 use Rattle.std.specs.Str.{IsUtf8, all_ascii_digits, IsCharBoundary}
 use Rattle.std.specs.Str.Parse.{digits_value}
-use Rattle.std.proofs.lemmas.Bool.{ltb-true}
+use Rattle.std.proofs.lemmas.Bool.{ltb-true, cases_Bool, and_parts}
 use Rattle.std.proofs.lemmas.Bool.Decides.{eqb_tells}
-use Rattle.std.proofs.lemmas.Option.{cond_some}
+use Rattle.std.proofs.lemmas.Option.{cond_some, same_Some}
 use Rattle.std.proofs.lemmas.Slice.Eq.{bytes_eq-Decides}
 use Rattle.std.proofs.lemmas.Str.{IsUtf8-drop, IsUtf8-take, IsUtf8-past_char, IsCharBoundary-before_ascii, IsCharBoundary-end, chars_from_encodes, encodes-chars, encodes-append, encode_ascii}
 use Rattle.sam_term.specs.declared.event.UserEvent.{UserEvent}
@@ -22,23 +21,12 @@ use Rattle.sam_script.proofs.WordLaws.{some_number}
 
 -- ## Options and tests
 
-pub some_same : {X : Type 0} (x y : X) → Some x ≡ Some y → x ≡ y
-some_same x y e = ap (λ o. unwrap_or o x) e
-
 pub bind_some : {A B : Type 0} (o : Option A) (f : A → Option B) (y : B) → (o >>= f) ≡ Some y → (x : A) × (o ≡ Some x) × (f x ≡ Some y)
 bind_some (Some x) f y h = (x, refl, h)
 bind_some None f y h = cc
 
-pub tells : (b : Bool) → (b ≡ true) ⊎ (b ≡ false)
-tells true = inl refl
-tells false = inr refl
-
-pub both_true : (a b : Bool) → (a && b) ≡ true → (a ≡ true) × (b ≡ true)
-both_true true b h = (refl, h)
-both_true false b h = cc
-
 pub ended_says : {X : Type 0} (x y : X) (bytes : List ℕ) → ended x bytes ≡ Some y → (bytes ≡ []) × (x ≡ y)
-ended_says x y [] h = (refl, some_same x y h)
+ended_says x y [] h = (refl, same_Some x y h)
 ended_says x y (b ∷ bytes) h = cc
 
 -- ## Words
@@ -75,7 +63,7 @@ word_says [] x h = cc
 word_says (b ∷ bytes) x h = elim (eqb_tells b 32) [
   | inl t ↦
       let here = rw t.0 at h in
-      subst (λ (y : List ℕ × List ℕ). (b ∷ bytes ≡ codes " " ++ y.0 ++ y.1) × IsWord y.0 × IsEnd y.1) (some_same (word_of bytes, behind_word bytes) x here)
+      subst (λ (y : List ℕ × List ℕ). (b ∷ bytes ≡ codes " " ++ y.0 ++ y.1) × IsWord y.0 × IsEnd y.1) (same_Some (word_of bytes, behind_word bytes) x here)
       (ap₂ (λ c xs. c ∷ xs) t.1 (sym (word_split bytes)), word_plain bytes, word_ends bytes)
   | inr t ↦ let here = rw t.0 at h in cc
 ]
@@ -129,14 +117,14 @@ utf8_tail bytes u = IsUtf8-past_char (32 ∷ bytes) bytes 32 u (ap (λ xs. xs ++
 digits_word : (word : List ℕ) → all_ascii_digits word ≡ true → IsWord word
 digits_word [] h = tt
 digits_word (c ∷ word) h =
-    let two = both_true (is_ascii_digit c) (all_ascii_digits word) h in
+    let two = and_parts (is_ascii_digit c) (all_ascii_digits word) h in
     elim (eqb_tells c 32) [ inl t ↦ let wrong : false ≡ true = sym (ap is_ascii_digit t.1) ∙ two.0 in cc | inr t ↦ (t.0, digits_word word two.1) ]
 
 number_of_says : (bits : ℕ) (word : List ℕ) (n : ℕ) → number_of bits word ≡ Some n → IsNumber word n × (n < 2 ^ bits)
 number_of_says bits word n h =
     let c = cond_some ((all_ascii_digits word && nat_lt 0 (length word)) && nat_lt (digits_value 10 word) (2 ^ bits)) (digits_value 10 word) n h in
-    let two = both_true (all_ascii_digits word && nat_lt 0 (length word)) (nat_lt (digits_value 10 word) (2 ^ bits)) c.0 in
-    let one = both_true (all_ascii_digits word) (nat_lt 0 (length word)) two.0 in
+    let two = and_parts (all_ascii_digits word && nat_lt 0 (length word)) (nat_lt (digits_value 10 word) (2 ^ bits)) c.0 in
+    let one = and_parts (all_ascii_digits word) (nat_lt 0 (length word)) two.0 in
     ((ltb-true 0 (length word) one.1, one.0, c.1), subst (λ m. m < 2 ^ bits) c.1 (ltb-true (digits_value 10 word) (2 ^ bits) two.1))
 
 pub number_says : (bits : ℕ) (bytes : List ℕ) (x : ℕ × List ℕ) → number_at bits bytes ≡ Some x
@@ -147,7 +135,7 @@ number_says bits bytes x h =
     let b = bind_some (number_of bits a.0.0) (λ n. Some (n, a.0.1)) x a.2 in
     let w = word_says bytes a.0 a.1 in
     let n = number_of_says bits a.0.0 b.0 b.1 in
-    subst (λ (y : ℕ × List ℕ). (word : List ℕ) × (bytes ≡ codes " " ++ word ++ y.1) × IsNumber word y.0 × (y.0 < 2 ^ bits) × IsEnd y.1) (some_same (b.0, a.0.1) x b.2)
+    subst (λ (y : ℕ × List ℕ). (word : List ℕ) × (bytes ≡ codes " " ++ word ++ y.1) × IsNumber word y.0 × (y.0 < 2 ^ bits) × IsEnd y.1) (same_Some (b.0, a.0.1) x b.2)
     (a.0.0, w.0, n.0, n.1, w.2)
 
 pub number_read : (bits : ℕ) (bytes word rest : List ℕ) (n : ℕ) → bytes ≡ codes " " ++ word ++ rest → IsNumber word n → n < 2 ^ bits → IsEnd rest
@@ -203,7 +191,7 @@ and_false false = refl
 unescaped_says : (cs front : List ℕ) (is_escaped : Bool) (s : List ℕ) → unescaped front is_escaped cs ≡ Some s
     → (rest : List ℕ) × (s ≡ front ++ rest) × (held is_escaped ++ encode_utf8_all cs ≡ text_shown rest)
 unescaped_says [] front true s h = cc
-unescaped_says [] front false s h = ([], sym (some_same front s h) ∙ sym (append-nil front), refl)
+unescaped_says [] front false s h = ([], sym (same_Some front s h) ∙ sym (append-nil front), refl)
 unescaped_says (c ∷ cs) front false s h = elim (eqb_tells c 92) [
   | inl t ↦
       let here = rw t.0 at h in
@@ -240,7 +228,7 @@ unescaped_says (c ∷ cs) front true s h =
     ]
 
 pub text_says : (bytes s : List ℕ) → IsUtf8 bytes → text_at bytes ≡ Some s → (bytes ≡ codes " " ++ text_shown s) ⊎ ((bytes ≡ []) × (s ≡ []))
-text_says [] s u h = inr (refl, sym (some_same [] s h))
+text_says [] s u h = inr (refl, sym (same_Some [] s h))
 text_says (b ∷ bytes) s u h = elim (eqb_tells b 32) [
   | inl t ↦
       let here = rw t.0 at h in
@@ -329,7 +317,7 @@ unfolding tag_and_text
 typed_says bytes x u h =
     let a = bind_some (number_at 16 bytes) (λ f. text_at f.1 >>= λ s. Some (f.0, s)) x h in
     let b = bind_some (text_at a.0.1) (λ s. Some (a.0.0, s)) x a.2 in
-    subst (λ (y : ℕ × List ℕ). SpellsParts (Tag y.0 ∷ Rest y.1 ∷ []) bytes) (some_same (a.0.0, b.0) x b.2)
+    subst (λ (y : ℕ × List ℕ). SpellsParts (Tag y.0 ∷ Rest y.1 ∷ []) bytes) (same_Some (a.0.0, b.0) x b.2)
     (number_parts 16 bytes a.0 (Rest b.0 ∷ []) a.1 (text_says a.0.1 b.0 (number_utf8 16 bytes a.0 u a.1) b.1, refl))
 
 pub typed_read : (bytes : List ℕ) (f : ℕ) (s : List ℕ) → IsUtf8 bytes → SpellsParts (Tag f ∷ Rest s ∷ []) bytes → tag_and_text bytes ≡ Some (f, s)
@@ -348,7 +336,7 @@ ReadsAs {X} P row = (bytes : List ℕ) (x : X) → IsUtf8 bytes → row.1 bytes 
 pub rows_say : {X : Type 0} (P : List ℕ → X → List ℕ → Type 0) (rows : List (List ℕ × Reader X)) → AllByRecursion (ReadsAs P) rows
     → (word bytes : List ℕ) (x : X) → IsUtf8 bytes → read_by rows word bytes ≡ Some x → P word x bytes
 rows_say P [] each word bytes x u h = cc
-rows_say P (row ∷ rows) each word bytes x u h = elim (tells (bytes_eq word row.0)) [
+rows_say P (row ∷ rows) each word bytes x u h = elim (cases_Bool (bytes_eq word row.0)) [
   | inl t ↦
       let here = rw t at h in
       subst (λ w. P w x bytes) (sym ((bytes_eq-Decides word row.0).0 t)) (each.0 bytes x u here)
@@ -360,7 +348,7 @@ IsEventOf word e bytes = ((form e).0 ≡ word) × SpellsParts (form e).1 bytes
 
 formed : (word bytes : List ℕ) (parts : List Part) (d e : UserEvent) → form d ≡ (word, parts) → SpellsParts parts bytes → Some d ≡ Some e → IsEventOf word e bytes
 formed word bytes parts d e is spells same =
-    subst (λ g. IsEventOf word g bytes) (some_same d e same) (subst (λ (p : List ℕ × List Part). (p.0 ≡ word) × SpellsParts p.1 bytes) (sym is) (refl, spells))
+    subst (λ g. IsEventOf word g bytes) (same_Some d e same) (subst (λ (p : List ℕ × List Part). (p.0 ≡ word) × SpellsParts p.1 bytes) (sym is) (refl, spells))
 
 tag_row : (make : ℕ → UserEvent) (word : List ℕ) → ((f : ℕ) → form (make f) ≡ (word, Tag f ∷ [])) → ReadsAs IsEventOf (word, by_tag make)
 tag_row make word is bytes e u h =

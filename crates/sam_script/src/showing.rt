@@ -83,7 +83,8 @@ fn push_host_files(out: &mut String, files: &Files) -> Result<(), AllocError>
 
 /// Appends the line of a file of the host, if the tag has one.
 fn push_host_slot(out: &mut String, tag: usize, file: Option<&File>) -> Result<(), AllocError>
-    ensures { OnOk result (string_bytes out.new ≡ string_bytes out.old ++ host_slot tag (option_map plain_file (option_copied file.entry))) }
+    ensures { OnOk result (string_bytes out.new
+        ≡ string_bytes out.old ++ host_slot tag (option_map plain_file (option_copied file.entry))) }
 {
     match file {
         None => Ok(()),

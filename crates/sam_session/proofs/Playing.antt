@@ -39,7 +39,8 @@ pub host_sound : (h0 : PlainHost) (first now before after : Option (List ℕ)) (
 host_sound h0 first now before after k h left p = serve-sound h0 h p.messages p.start p.state
 
 -- a piece can be counted
-pub has_room : (h0 : PlainHost) (piece : List ℕ) (first now before after : Option (List ℕ)) (k : Held) (h : PlainHost) (left : ℕ) → Progress h0 first now before after k h left → length piece ≤ 4096 → HasRoom k piece
+pub has_room : (h0 : PlainHost) (piece : List ℕ) (first now before after : Option (List ℕ)) (k : Held) (h : PlainHost) (left : ℕ)
+    → Progress h0 first now before after k h left → length piece ≤ 4096 → HasRoom k piece
 has_room h0 piece first now before after k h left p most =
     let whole : length p.got ≡ length (stream_of terminal p.messages) + length k.bytes = ap length p.came.splits.whole ∙ length-append (stream_of terminal p.messages) k.bytes in
     let place : k.offset ≡ 0 + length (stream_of terminal p.messages) = p.came.offset_is in
@@ -152,7 +153,8 @@ stop_half : (rest : List ℕ) → (rest ≡ [] → ⊥) → Some (Frame 4) ≡ s
 stop_half [] some = absurd (some refl)
 stop_half (byte ∷ rest) some = refl
 
-only_plays : (input before after : Option (List ℕ)) (h0 : PlainHost) (s : Option Stop) → Written input before after (λ i w. (length i ≤ 16777216) × Plays h0 i w s) → Written input before after (λ i w. Plays h0 i w s)
+only_plays : (input before after : Option (List ℕ)) (h0 : PlainHost) (s : Option Stop)
+    → Written input before after (λ i w. (length i ≤ 16777216) × Plays h0 i w s) → Written input before after (λ i w. Plays h0 i w s)
 only_plays None before after h0 s w = tt
 only_plays (Some i) before after h0 s w = (w.0, w.1, w.2.1)
 
@@ -160,7 +162,8 @@ only_plays (Some i) before after h0 s w = (w.0, w.1, w.2.1)
 pub ends_ok : (h0 : PlainHost) (first now later before after : Option (List ℕ)) (k : Held) (h : PlainHost) (left : ℕ) (nothing : List ℕ) (r : Result (Unit {0}) PlayFault)
     → Progress h0 first now before after k h left → Consumes now later nothing → nothing ≡ [] → IsAtEnd later → MayEnd k r
     → OnOk r (Written first before after (λ input written. (length input ≤ 16777216) × Plays h0 input written None))
-ends_ok h0 first now later before after k h left nothing (Ok done) p reads none at_end may = ends_with h0 first now later before after k h left nothing None p reads none at_end (stop_empty k.bytes may)
+ends_ok h0 first now later before after k h left nothing (Ok done) p reads none at_end may =
+    ends_with h0 first now later before after k h left nothing None p reads none at_end (stop_empty k.bytes may)
 ends_ok h0 first now later before after k h left nothing (Err e) p reads none at_end may = tt
 
 pub ends_side : (h0 : PlainHost) (first now later before after : Option (List ℕ)) (k : Held) (h : PlainHost) (left : ℕ) (nothing : List ℕ) (r : Result (Unit {0}) PlayFault)
@@ -197,7 +200,8 @@ refused contents h w x k e piece ms f all = on_side f (Refuses contents h w x ms
 ))
 
 -- messages were answered before a fault
-halts_behind : (end : Result PlainHost HostFault) (version : ℕ) (rest : List ℕ) (fault : MesgFault) (s : Stop) → Shows terminal version rest fault → HaltsBefore end (frame_number fault) s → Halts end version rest s
+halts_behind : (end : Result PlainHost HostFault) (version : ℕ) (rest : List ℕ) (fault : MesgFault) (s : Stop)
+    → Shows terminal version rest fault → HaltsBefore end (frame_number fault) s → Halts end version rest s
 halts_behind (Ok h) version rest fault s shows is = (fault, shows, is)
 halts_behind (Err why) version rest fault s shows is = is
 
@@ -212,7 +216,8 @@ given_up contents h w x k e piece ms place fault f up = on_side f (AnswersBefore
 ))
 
 -- behind messages that were all answered, and behind a refusal
-pub all_before : {W : Type 0} (contents : W → Option (List ℕ)) (h g : PlainHost) (w x : W) (ms : List Tmesg) (number : ℕ) → Answers contents h g w x ms → AnswersBefore contents h w x ms number (Frame number)
+pub all_before : {W : Type 0} (contents : W → Option (List ℕ)) (h g : PlainHost) (w x : W) (ms : List Tmesg) (number : ℕ)
+    → Answers contents h g w x ms → AnswersBefore contents h w x ms number (Frame number)
 all_before contents h g w x ms number (end, wrote) = (subst (λ r. HaltsBefore r number (Frame number)) (sym end) refl, wrote)
 
 pub refused_before : {W : Type 0} (contents : W → Option (List ℕ)) (h : PlainHost) (w x : W) (ms : List Tmesg) (number : ℕ) (f : PlayFault)

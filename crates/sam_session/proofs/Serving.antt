@@ -1,16 +1,13 @@
 -- What a host answers to messages in turn.
-use Rattle.std.proofs.Common.{◌≡◌, ◌∙◌, ℕ, List, [], ◌∷◌, ◌++◌, length, Bool, true, false, cond, leb, nat_eq, Option, Ok, Err, refl, sym, ap, subst, flat_map, append_assoc, arith}
-use Rattle.std.specs.Str.{encode_utf8_all}
+use Rattle.std.proofs.Common.{◌≡◌, ◌∙◌, ℕ, List, [], ◌∷◌, ◌++◌, true, Option, Ok, Err, refl, sym, ap, subst, flat_map, append_assoc}
 use Rattle.std.specs.Io.KnownBytes.{Appends}
 use Rattle.std.proofs.KnownBytes.{Appends-trans}
-use Rattle.std.proofs.lemmas.Bool.{leb-true, le-leb}
 use Rattle.std.proofs.lemmas.List.Elements.{All-nil, All-cons}
 use Rattle.sam_mesg.specs.declared.tmesg.Tmesg.{Tmesg}
-use Rattle.sam_mesg.specs.declared.tmesg.Tmesg.TheVariants.{Tsetsnarf}
 use Rattle.sam_mesg.specs.declared.hmesg.HFrame.{HFrame}
-use Rattle.sam_mesg.specs.TerminalKinds.{fits_t, FitsT}
+use Rattle.sam_mesg.specs.TerminalKinds.{FitsT}
 use Rattle.sam_mesg.specs.HostKinds.{fits_h, frame_h, after_h}
-use Rattle.sam_mesg.proofs.Versions.{fits_last_t}
+use Rattle.sam_mesg.proofs.Versions.{grows_t}
 use Rattle.sam_frame.specs.Direction.{terminal}
 use Rattle.sam_frame.specs.Stream.{FitInTurn}
 use Rattle.sam_host.specs.Host.{PlainHost, Answer, answer}
@@ -20,10 +17,12 @@ use Rattle.sam_host.specs.declared.fault.HostFault.{HostFault}
 use Rattle.sam_session.specs.Serving.{Served, served_on, serve, behind}
 use Rattle.sam_session.specs.Pieces.{AllFit, FramesFit}
 
+-- ---- what fits at its place fits in version 2
+
 pub all_fit : (version : ℕ) (ms : List Tmesg) → FitInTurn terminal version ms → AllFit ms
 all_fit version [] fit = All-nil (FitsT 2)
 all_fit version (m ∷ ms) fit =
-    All-cons (FitsT 2) m ms (record { is_message = fit.0.is_message; fits = fits_last_t version m fit.0.fits }) (all_fit (terminal.after version m) ms fit.1)
+    All-cons (FitsT 2) m ms (record { is_message = fit.0.is_message; fits = grows_t version m fit.0.fits }) (all_fit (terminal.after version m) ms fit.1)
 
 frames_in_place : (version : ℕ) (frames : List HFrame) → FitInPlace version frames → FramesFit frames
 frames_in_place version [] fit = All-nil (λ (f : HFrame). fits_h 2 f.msg ≡ true)
@@ -52,7 +51,8 @@ pub serve-refused : (h : PlainHost) (why : HostFault) (ms ns : List Tmesg) → (
 serve-refused h why [] ns is = absurd (cc)
 serve-refused h why (m ∷ ms) ns is = go (λ d e. serve-refused d why ms ns e) (answer h m) is
   where
-    go : ((d : PlainHost) → (serve d ms).end ≡ Err why → serve d (ms ++ ns) ≡ serve d ms) → (r : Answer) → (served_on r (λ d. serve d ms)).end ≡ Err why → served_on r (λ d. serve d (ms ++ ns)) ≡ served_on r (λ d. serve d ms)
+    go : ((d : PlainHost) → (serve d ms).end ≡ Err why → serve d (ms ++ ns) ≡ serve d ms)
+      → (r : Answer) → (served_on r (λ d. serve d ms)).end ≡ Err why → served_on r (λ d. serve d (ms ++ ns)) ≡ served_on r (λ d. serve d ms)
     go then (Err k) e = refl
     go then (Ok p) e = ap (behind (flat_map frame_h p.1)) (then p.0 e)
 

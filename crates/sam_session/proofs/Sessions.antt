@@ -17,7 +17,7 @@ use Rattle.sam_queue.specs.History.{items_of}
 use Rattle.sam_queue.specs.Views.{LineView, PostView}
 use Rattle.sam_threads.specs.Inputs.{users_in, user_of_load}
 use Rattle.sam_running.specs.Session.{IsSession}
-use Rattle.sam_running.specs.Settled.{stop_of, stops_of}
+use Rattle.sam_running.specs.Settled.{stops_of}
 use Rattle.sam_threads.specs.Told.{IsOwnExit}
 use Rattle.sam_threads.specs.declared.ends.Ends.{Ends}
 use Rattle.sam_threads.specs.declared.input.Input.{Input}
@@ -26,6 +26,7 @@ use Rattle.sam_running.specs.declared.settled.Settled.{Settled}
 use Rattle.sam_threads.specs.declared.stop.Stop.{Stop}
 use Rattle.sam_threads.specs.declared.stop.Stop.TheVariants as stop
 use Rattle.sam_running.proofs.SettlingLists.{loaded, items_mine, items_other, nothing_joined, split_map, parts_of, senders_within}
+use Rattle.sam_running.proofs.SettlingClauses.{stop_none}
 use Rattle.sam_session.specs.Threading.{first_cause, of_cause, of_stops, IsWoven, HasAllUsers, PrintsSession, IsThreaded, IsSessionFault, IsThreadsFault, IsUnread}
 use Rattle.sam_session.specs.declared.fault.PlayFault.{PlayFault}
 use Rattle.sam_session.specs.declared.fault.PlayFault.TheVariants.{Script, Read, Write, Side, Threads, OutOfMemory}
@@ -113,10 +114,6 @@ none_stopped (why ∷ stops) e = go (first_cause (why ∷ stops)) e
     go None q = absurd (cc)
     go (Some cause) q = absurd (cc)
 
-no_stop : (o : Option Stop) → stop_of o ≡ [] → o ≡ None
-no_stop None e = refl
-no_stop (Some why) e = absurd (cc)
-
 -- neither keyboard nor mouse was stopped
 users_unstopped : (e : Ends) → stops_of e ≡ [] → (e.keyboard.stop ≡ None) × (e.mouse.stop ≡ None)
 users_unstopped e none =
@@ -124,7 +121,7 @@ users_unstopped e none =
     let three = nothing_joined _ _ four.0 in
     let two = nothing_joined _ _ three.0 in
     let one = nothing_joined _ _ two.0 in
-    (no_stop e.keyboard.stop one.0, no_stop e.mouse.stop one.1)
+    (stop_none e.keyboard.stop one.0, stop_none e.mouse.stop one.1)
 
 own_exit : (own : List UserEvent) (entries : List (Entry Input)) → IsOwnExit own entries → (own ≡ []) ⊎ (own ≡ Exit ∷ [])
 own_exit own entries (inl none) = inl none

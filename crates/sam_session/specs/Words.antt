@@ -19,7 +19,8 @@ abbrev pub replay_app : App
 replay_app = new_app (codes "replay")
 
 abbrev pub threads_app : App
-threads_app = with_rule (with_rule (new_app (codes "threads")) (option_of (codes "piece") (codes "64"))) (option_of (codes "cap") (codes "16"))
+threads_app =
+    with_rule (with_rule (new_app (codes "threads")) (option_of (codes "piece") (codes "64"))) (option_of (codes "cap") (codes "16"))
 
 abbrev pub program : App
 program = with_subcommand (with_subcommand (with_subcommand (new_app (codes "sam_play")) bytes_app.top) replay_app.top) threads_app.top
@@ -41,7 +42,8 @@ attached (name ∷ words) = name ∷ attached_from false words
 
 -- the option's value is this number from 1 to most, in decimal digits alone
 abbrev pub HoldsNumber : Option Text → ℕ → ℕ → Type 0
-HoldsNumber value most n = (digits : Text) × (value ≡ Some digits) × IsNumeral 10 digits × (n ≡ digits_value 10 digits) × (0 < n) × (n ≤ most)
+HoldsNumber value most n =
+    (digits : Text) × (value ≡ Some digits) × IsNumeral 10 digits × (n ≡ digits_value 10 digits) × (0 < n) × (n ≤ most)
 
 -- the mode is what the subcommand's matches say
 abbrev pub HoldsMode : Option (Text × List Row) → Mode → Type 0
@@ -50,7 +52,8 @@ HoldsMode (Some p) (Bytes text) =
     (p.0 ≡ codes "bytes") × (first_of (codes "text") p.1 ≡ Some (encode_utf8_all text)) × (length text ≤ max_runes)
 HoldsMode (Some p) Replay = p.0 ≡ codes "replay"
 HoldsMode (Some p) (Threads piece capacity) =
-    (p.0 ≡ codes "threads") × HoldsNumber (first_of (codes "piece") p.1) 65536 piece × HoldsNumber (first_of (codes "cap") p.1) 1024 capacity
+    (p.0 ≡ codes "threads")
+    × HoldsNumber (first_of (codes "piece") p.1) 65536 piece × HoldsNumber (first_of (codes "cap") p.1) 1024 capacity
 
 -- the mode holds the values of clap's matches of the words
 abbrev pub IsModeOf : List Text → Mode → Type 0

@@ -204,7 +204,8 @@ fn rows_of_frames(rt: HostRuntime) -> Result<(), Fail> {
     let read = "490011 0000000000000002 0001 00000000 68656C 4B000A 0000000000000002 0001";
     let typed = "490014 0000000000000003 0001 00000000 68656C6C6F21 4B000A 0000000000000003 0001";
     let version =
-        "41000A 0000000000000001 0001 44000A 0000000000000001 0001 45000E 0000000000000001 0001 66696C65 570008 0000000000000001 480008 0000000000000001";
+        "41000A 0000000000000001 0001 44000A 0000000000000001 0001 45000E 0000000000000001 0001 66696C65 \
+         570008 0000000000000001 480008 0000000000000001";
     let wanted: [(&str, [&str; 2], Result<(), PlayFault>); 13] = [
         ("", ["", ""], Ok(())),
         (ROW, [opened, read], Ok(())),
@@ -340,18 +341,24 @@ fn scripts_and_what_they_print(rt: HostRuntime) {
             Ok(()),
         ),
         (
-            "file a abcdefghij\nk version 1\nk open 1\nk view 1 0 5\ndrain\nk select 1 0 2\nk cut 1\nk check 1\nk exit\nact\nact\nact\nact\ndrain\nshow\n",
+            "file a abcdefghij\nk version 1\nk open 1\nk view 1 0 5\ndrain\nk select 1 0 2\nk cut 1\nk check 1\nk exit\n\
+             act\nact\nact\nact\ndrain\nshow\n",
             "= h 0 - c ~~sam~~ ||\n= h 1 o d a |cdefghij|\n= t 1 0 0 0 |cde\\_\\_\\_\\_\\_|\n= s 0 9 9 0 0 0\n",
             Ok(()),
         ),
         (
             "file a ab\nk version 1\nk open 1\nact\nshow\ndrain\nshow\n",
-            "= h 0 - c ~~sam~~ ||\n= h 1 - c a |ab|\n= s 1 1 0 0 1 0\n= h 0 - c ~~sam~~ ||\n= h 1 o c a |ab|\n= t 1 0 0 0 |\\_\\_|\n= s 0 3 3 0 0 0\n",
+            "= h 0 - c ~~sam~~ ||\n= h 1 - c a |ab|\n= s 1 1 0 0 1 0\n\
+             = h 0 - c ~~sam~~ ||\n= h 1 o c a |ab|\n= t 1 0 0 0 |\\_\\_|\n= s 0 3 3 0 0 0\n",
             Ok(()),
         ),
         (
-            "file a abab\nfile b cd\nk version 1\nk open 1\nk open 2\ndrain\nk select 1 0 2\nk look 1\nk type 2 X\nact\nact\nact\nshow\ndrain\nshow\n",
-            "= h 0 - c ~~sam~~ ||\n= h 1 o c a |abab|\n= h 2 o c b |cd|\n= t 1 1 0 2 |\\_\\_\\_\\_|\n= t 2 0 1 1 |X\\_\\_|\n= s 0 5 4 1 1 0\n= h 0 - c ~~sam~~ ||\n= h 1 o c a |abab|\n= h 2 o d b |Xcd|\n= t 1 0 2 4 |\\_\\_\\_\\_|\n= t 2 0 1 1 |X\\_\\_|\n= s 0 6 6 0 0 0\n",
+            "file a abab\nfile b cd\nk version 1\nk open 1\nk open 2\ndrain\nk select 1 0 2\nk look 1\nk type 2 X\n\
+             act\nact\nact\nshow\ndrain\nshow\n",
+            "= h 0 - c ~~sam~~ ||\n= h 1 o c a |abab|\n= h 2 o c b |cd|\n\
+             = t 1 1 0 2 |\\_\\_\\_\\_|\n= t 2 0 1 1 |X\\_\\_|\n= s 0 5 4 1 1 0\n\
+             = h 0 - c ~~sam~~ ||\n= h 1 o c a |abab|\n= h 2 o d b |Xcd|\n\
+             = t 1 0 2 4 |\\_\\_\\_\\_|\n= t 2 0 1 1 |X\\_\\_|\n= s 0 6 6 0 0 0\n",
             Ok(()),
         ),
     ];

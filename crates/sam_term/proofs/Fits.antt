@@ -21,7 +21,7 @@ use Rattle.sam_mesg.specs.TerminalKinds.{fits_t}
 use Rattle.sam_mesg.specs.declared.tmesg.Tmesg.{Tmesg}
 use Rattle.sam_mesg.specs.declared.tmesg.Tmesg.TheVariants.{Ttype, Tsetsnarf}
 use Rattle.sam_mesg.specs.declared.hmesg.HFrame.{HFrame}
-use Rattle.sam_mesg.proofs.Versions.{fits_last_t}
+use Rattle.sam_mesg.proofs.Versions.{grows_t}
 
 both : (a b : Bool) → (a && b) ≡ true → (a ≡ true) × (b ≡ true)
 both true b e = (refl, e)
@@ -29,7 +29,7 @@ both false b e = absurd (cc)
 
 all-later : (v : ℕ) (ms : List Tmesg) → all_fit v ms ≡ true → AllFit ms
 all-later v [] e = All-nil FitsLast
-all-later v (m ∷ ms) e = let parts = both (fits_t v m) (all_fit v ms) e in All-cons FitsLast m ms (fits_last_t v m parts.0) (all-later v ms parts.1)
+all-later v (m ∷ ms) e = let parts = both (fits_t v m) (all_fit v ms) e in All-cons FitsLast m ms (grows_t v m parts.0) (all-later v ms parts.1)
 
 -- messages of a terminal that fit in its version
 fitting : (v : ℕ) (ms ns : List Tmesg) → ms ≡ ns → all_fit v ns ≡ true → AllFit ms

@@ -1,15 +1,15 @@
 -- Messages that fit at their place of a stream, where they fit at all.
-use Rattle.std.proofs.Common.{◌≡◌, ℕ, ◌≤◌, Bool, true, false, List, [], ◌∷◌, ◌++◌, if◌then◌else◌, ◌==◌, refl, arith}
-use Rattle.std.proofs.lemmas.Bool.{leb-true, le-leb}
+use Rattle.std.proofs.Common.{◌≡◌, ℕ, ◌≤◌, true, List, [], ◌∷◌, ◌++◌, refl}
+use Rattle.std.proofs.lemmas.Bool.{le-leb}
 use Rattle.sam_runes.specs.Texts.{snarf_limit, utf8_length}
 use Rattle.sam_mesg.specs.declared.tmesg.Tmesg.{Tmesg}
 use Rattle.sam_mesg.specs.declared.tmesg.Tmesg.TheVariants.{Tsetsnarf}
 use Rattle.sam_mesg.specs.declared.hmesg.Hmesg.{Hmesg}
-use Rattle.sam_mesg.specs.declared.hmesg.Hmesg.TheVariants.{Hversion, Hsetsnarf}
+use Rattle.sam_mesg.specs.declared.hmesg.Hmesg.TheVariants.{Hversion}
 use Rattle.sam_mesg.specs.declared.hmesg.HFrame.{HFrame}
 use Rattle.sam_mesg.specs.TerminalKinds.{fits_t, FitsT, after_t}
-use Rattle.sam_mesg.specs.HostKinds.{fits_h, FitsH, after_h}
-use Rattle.sam_mesg.proofs.Versions.{fits_last_t, fits_last_h}
+use Rattle.sam_mesg.specs.HostKinds.{FitsH, after_h}
+use Rattle.sam_mesg.proofs.Versions.{grows_t, grows_h}
 use Rattle.sam_frame.specs.Direction.{Direction, terminal, host}
 use Rattle.sam_frame.specs.Stream.{FitInTurn, version_after}
 use Rattle.sam_world.specs.Sides.{Each}
@@ -27,13 +27,15 @@ pub InTurn-append : {M : Type 0} (d : Direction M) (v : ℕ) (ms ns : List M) �
 InTurn-append d v [] ns p q = q
 InTurn-append d v (m ∷ ms) ns p q = (p.0, InTurn-append d (d.after v m) ms ns p.1 q)
 
+-- ## What fits in some version fits in version 2
+
 pub each_t : (v : ℕ) (ms : List Tmesg) → FitInTurn terminal v ms → Each (FitsT 2) ms
 each_t v [] p = tt
-each_t v (m ∷ ms) p = (record { is_message = p.0.is_message; fits = fits_last_t v m p.0.fits }, each_t (after_t v m) ms p.1)
+each_t v (m ∷ ms) p = (record { is_message = p.0.is_message; fits = grows_t v m p.0.fits }, each_t (after_t v m) ms p.1)
 
 pub each_h : (v : ℕ) (fs : List HFrame) → FitInTurn host v fs → Each (FitsH 2) fs
 each_h v [] p = tt
-each_h v (f ∷ fs) p = (record { is_message = p.0.is_message; fits = fits_last_h v f.msg p.0.fits }, each_h (after_h v f.msg) fs p.1)
+each_h v (f ∷ fs) p = (record { is_message = p.0.is_message; fits = grows_h v f.msg p.0.fits }, each_h (after_h v f.msg) fs p.1)
 
 -- ## Messages whose limits no version changes
 

@@ -4,13 +4,9 @@ use Rattle.std.specs.Global.{Vec}
 use Rattle.std.proofs.lemmas.List.{take-append-drop}
 use Rattle.std.proofs.lemmas.List.Concat.{flat_map-append}
 use Rattle.sam_queue.specs.Views.{PostView, with_item}
-use Rattle.sam_world.specs.Sides.{Each}
+use Rattle.sam_world.proofs.Settles.{each_append}
 use Rattle.sam_threads.specs.Inputs.{bytes_of}
 use Rattle.sam_threads.specs.Cutting.{IsPiece, PutSome}
-
-pub each_append : {X : Type 0} (P : X → Type 0) (xs ys : List X) → Each P xs → Each P ys → Each P (xs ++ ys)
-each_append P [] ys a b = b
-each_append P (x ∷ xs) ys a b = (a.0, each_append P xs ys a.1 b)
 
 pub bytes_append : (ps qs : List (Vec ℕ)) → bytes_of (ps ++ qs) ≡ bytes_of ps ++ bytes_of qs
 bytes_append ps qs = flat_map-append (λ (piece : Vec ℕ). piece.items) ps qs

@@ -10,6 +10,7 @@ use Rattle.sam_mesg.specs.declared.hmesg.Hmesg.TheVariants.{Hversion, Hbindname,
 use Rattle.sam_mesg.specs.declared.hmesg.HFrame.{HFrame}
 use Rattle.sam_mesg.specs.declared.fault.MesgFault.{MesgFault}
 use Rattle.sam_mesg.specs.HostKinds.{fits_h}
+use Rattle.sam_mesg.proofs.Versions.{grows_h}
 use Rattle.sam_frame.specs.Direction.{host}
 use Rattle.sam_frame.specs.Stream.{FitInTurn}
 use Rattle.sam_frame.specs.Framing.{Held}
@@ -17,7 +18,6 @@ use Rattle.sam_term.specs.Term.{PlainTerminal, Made, flushed, unsent_message, se
 use Rattle.sam_term.specs.declared.files.Unsent.{Unsent}
 use Rattle.sam_term.specs.declared.fault.TermFault.{TermFault}
 use Rattle.sam_term.specs.declared.fault.TermFault.TheVariants as fault
-use Rattle.sam_mesg.proofs.Versions.{fits_last_h}
 use Rattle.sam_threads.specs.Feeding.{TakesAll, Gives, FeedsTerminal, StopsAt, TakesOne, TakesUpTo}
 use Rattle.sam_threads.specs.Numbers.{frame_number}
 use Rattle.sam_threads.specs.declared.stop.Stop.{Stop}
@@ -28,7 +28,7 @@ use Rattle.sam_threads.specs.declared.stop.Stop.TheVariants as stop
 pub all_fit : (version : ℕ) (frames : List HFrame) → FitInTurn host version frames → All (λ (f : HFrame). IsTrue (fits_h 2 f.msg)) frames
 all_fit version [] fit = All-nil (λ (f : HFrame). IsTrue (fits_h 2 f.msg))
 all_fit version (f ∷ frames) fit =
-    All-cons (λ (g : HFrame). IsTrue (fits_h 2 g.msg)) f frames (fits_last_h version f.msg fit.0.fits) (all_fit (host.after version f) frames fit.1)
+    All-cons (λ (g : HFrame). IsTrue (fits_h 2 g.msg)) f frames (grows_h version f.msg fit.0.fits) (all_fit (host.after version f) frames fit.1)
 
 -- ---- a frame makes a terminal compose two messages at most
 

@@ -20,7 +20,7 @@ use Rattle.sam_host.specs.declared.fault.HostFault.{HostFault}
 use Rattle.sam_host.specs.declared.fault.HostFault.TheVariants as refusal
 use Rattle.sam_queue.specs.Views.{PostView}
 use Rattle.sam_world.specs.Sides.{Each, HostRuns}
-use Rattle.sam_world.proofs.Settles.{host_more}
+use Rattle.sam_world.proofs.Settles.{host_more, each_append}
 use Rattle.sam_threads.specs.RealSides.{sides, unless_refused}
 use Rattle.sam_threads.specs.Numbers.{refusal_number, frame_number}
 use Rattle.sam_threads.specs.Inputs.{bytes_of}
@@ -29,7 +29,7 @@ use Rattle.sam_threads.specs.Handling.{Handled, HandledSome, HandlesAll, Handled
 use Rattle.sam_threads.specs.declared.stop.Stop.{Stop}
 use Rattle.sam_threads.specs.declared.stop.Stop.TheVariants as stop
 use Rattle.sam_threads.proofs.ApartTurns.{each_t}
-use Rattle.sam_threads.proofs.Cut.{each_append, bytes_append}
+use Rattle.sam_threads.proofs.Cut.{bytes_append}
 use Rattle.sam_threads.proofs.RealLaws.{counts}
 
 -- ## Messages that fit

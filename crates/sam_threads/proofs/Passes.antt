@@ -38,7 +38,8 @@ sent_both p q r fs gs a b =
 -- ---- a stream in parts
 
 -- frames that are not sent on are part of the rest
-front_splits : {M : Type 0} (d : Direction M) (version : ℕ) (bytes : List ℕ) (ms ns : List M) (rest : List ℕ) → Splits d version bytes (ms ++ ns) rest → Splits d version bytes ms (stream_of d ns ++ rest)
+front_splits : {M : Type 0} (d : Direction M) (version : ℕ) (bytes : List ℕ) (ms ns : List M) (rest : List ℕ)
+    → Splits d version bytes (ms ++ ns) rest → Splits d version bytes ms (stream_of d ns ++ rest)
 front_splits d version bytes ms ns rest s = record {
   whole = s.whole ∙ ap (λ (b : List ℕ). b ++ rest) (stream_of-append d ms ns) ∙ append_assoc (stream_of d ms) (stream_of d ns) rest;
   fit = front_fits d version ms ns s.fit;
@@ -81,7 +82,8 @@ passed_before h piece k p q frames place fault n (Some s) up is (inr (sent, at))
     )
 
 -- the framer took nothing of the piece
-pub passed_none : (h : Held) (piece : List ℕ) (k : Held) (p q : PostView Input) (s : Stop) → q ≡ p → StopsBehind h.version (h.offset + length h.bytes + length piece) (h.bytes ++ piece) s → PassesPiece h piece k p q (Some s)
+pub passed_none : (h : Held) (piece : List ℕ) (k : Held) (p q : PostView Input) (s : Stop)
+    → q ≡ p → StopsBehind h.version (h.offset + length h.bytes + length piece) (h.bytes ++ piece) s → PassesPiece h piece k p q (Some s)
 passed_none h piece k p q s same stops = ([], h.bytes ++ piece, record { whole = refl; fit = tt }, same ∙ sent_none p, stops)
 
 -- ---- piece by piece

@@ -12,7 +12,7 @@ use Rattle.sam_mesg.proofs.TerminalLaws as upwards
 use Rattle.sam_mesg.proofs.HostLaws as downwards
 use Rattle.sam_frame.specs.Direction.{terminal, host, frame_of}
 use Rattle.sam_frame.specs.Reading.{IsSound}
-use Rattle.sam_host.specs.Host.{PlainHost, answer, new_host}
+use Rattle.sam_host.specs.Host.{PlainHost, answer}
 use Rattle.sam_host.specs.declared.fault.HostFault.{HostFault}
 use Rattle.sam_host.proofs.SoundLaws.{answers_are_counted}
 use Rattle.sam_term.specs.Term.{PlainTerminal, Made, act_of, flush_of, take_of, made_from, made_unless, frame_checks}
@@ -22,10 +22,9 @@ use Rattle.sam_term.specs.declared.event.Acted.{Acted}
 use Rattle.sam_world.specs.declared.event.Event.{Event}
 use Rattle.sam_world.specs.declared.event.Event.TheVariants.{User, Act, Flush, HostTake, TermTake}
 use Rattle.sam_world.specs.World.{PlainWorld, composed_by, after_act, after_compose, after_answer, host_takes, term_takes, step_of, run_of}
-use Rattle.sam_world.specs.Order.{IsCounted}
 use Rattle.sam_world.specs.Sides.{Each, Counts, World, world, and_then, composed, answered, host_take, term_take, step, run}
-use Rattle.sam_world.specs.Streams.{PrefixFree}
-use Rattle.sam_world.proofs.RunLaws.{counted_step}
+use Rattle.sam_world.proofs.Carries.{PrefixFree}
+use Rattle.sam_world.proofs.RunLaws.{act-counts, flush-counts, take-counts}
 use Rattle.sam_threads.specs.RealSides.{sides, unless_refused, acted}
 
 -- ## What a step of the sides was
@@ -33,28 +32,6 @@ use Rattle.sam_threads.specs.RealSides.{sides, unless_refused, acted}
 pub answered_as : {A E : Type 0} (r : Result A E) (x : A) → unless_refused r ≡ Some x → r ≡ Ok x
 answered_as (Ok a) x e = ap Ok (same_Some a x e)
 answered_as (Err why) x e = absurd (cc)
-
--- a host that is sure of its count, with a terminal
-counting : PlainTerminal → List HFrame → PlainWorld
-counting t down = record { host = record (new_host []) { taken = t.sent }; term = t; up = []; down = down }
-
-counted_act : (t : PlainTerminal) (r : PlainTerminal × Acted) → act_of t ≡ Ok r → r.0.sent ≡ t.sent + length (composed_by r.1)
-unfolding counting
-counted_act t r e =
-    let w = counting t [] in
-    let next : PlainWorld = record w { term = r.0; up = composed_by r.1 } in
-    let start : IsCounted w = record { all = omega arith; stamps = tt } in
-    let went : step_of w Act ≡ Some next = ap (after_act w) e in
-    sym (counted_step w Act next start went).all
-
-counted_flush : (t : PlainTerminal) (r : Made) → flush_of t ≡ Ok r → r.0.sent ≡ t.sent + length r.1
-unfolding counting
-counted_flush t r e =
-    let w = counting t [] in
-    let next : PlainWorld = record w { term = r.0; up = r.1 } in
-    let start : IsCounted w = record { all = omega arith; stamps = tt } in
-    let went : step_of w Flush ≡ Some next = ap (after_compose w) e in
-    sym (counted_step w Flush next start went).all
 
 taken_past : (t : PlainTerminal) (frame : HFrame) (r : Made) → take_of t frame ≡ Ok r → frame.seen ≤ t.sent
 unfolding take_of
@@ -64,18 +41,9 @@ taken_past t frame r e = go (nat_lt t.sent frame.seen) refl e
     go true q e = absurd (cc)
     go false q e = ltb-false t.sent frame.seen q
 
-counted_take : (t : PlainTerminal) (frame : HFrame) (r : Made) → take_of t frame ≡ Ok r → r.0.sent ≡ t.sent + length r.1
-unfolding counting
-counted_take t frame r e =
-    let w = counting t (frame ∷ []) in
-    let next : PlainWorld = record w { term = r.0; up = r.1; down = [] } in
-    let start : IsCounted w = record { all = omega arith; stamps = (taken_past t frame r e, tt) } in
-    let went : step_of w TermTake ≡ Some next = ap (after_compose (record w { down = [] })) e in
-    sym (counted_step w TermTake next start went).all
-
-to_each : {X : Type 0} (P : X → Type 0) (xs : List X) → All P xs → Each P xs
-to_each P [] a = tt
-to_each P (x ∷ xs) a = (a 0 x (omega arith), to_each P xs (λ k d l. a (suc k) d (omega (arith, l))))
+pub each_of_all : {X : Type 0} (P : X → Type 0) (xs : List X) → All P xs → Each P xs
+each_of_all P [] a = tt
+each_of_all P (x ∷ xs) a = (a 0 x (omega arith), each_of_all P xs (λ k d l. a (suc k) d (omega (arith, l))))
 
 acted_as : (r : Result (PlainTerminal × Acted) TermFault) (u : PlainTerminal) (ms : List Tmesg) → acted r ≡ Some (u, ms)
     → (p : PlainTerminal × Acted) × (r ≡ Ok p) × (p.0 ≡ u) × (composed_by p.1 ≡ ms)
@@ -91,13 +59,13 @@ acted_as (Err why) u ms e = absurd (cc)
 pub counts : Counts sides
 counts = record {
   taken = λ h m k fs e. (answers_are_counted h k m fs (answered_as (answer h m) (k, fs) e)).0;
-  stamped = λ h m k fs e. to_each (λ (frame : HFrame). frame.seen ≡ k.taken) fs (answers_are_counted h k m fs (answered_as (answer h m) (k, fs) e)).1;
+  stamped = λ h m k fs e. each_of_all (λ (frame : HFrame). frame.seen ≡ k.taken) fs (answers_are_counted h k m fs (answered_as (answer h m) (k, fs) e)).1;
   user = λ t e. refl;
   act = λ t u ms e.
       let x = acted_as (act_of t) u ms e in
-      sym (ap (λ (v : PlainTerminal). v.sent) x.2) ∙ (counted_act t x.0 x.1 ∙ ap (λ (l : List Tmesg). t.sent + length l) x.3);
-  flush = λ t u ms e. counted_flush t (u, ms) (answered_as (flush_of t) (u, ms) e);
-  receive = λ t u frame ms e. counted_take t frame (u, ms) (answered_as (take_of t frame) (u, ms) e);
+      sym (ap (λ (v : PlainTerminal). v.sent) x.2) ∙ (act-counts t x.0 x.1 ∙ ap (λ (l : List Tmesg). t.sent + length l) x.3);
+  flush = λ t u ms e. flush-counts t (u, ms) (answered_as (flush_of t) (u, ms) e);
+  receive = λ t u frame ms e. take-counts t frame (u, ms) (answered_as (take_of t frame) (u, ms) e);
   past = λ t u frame ms e. taken_past t frame (u, ms) (answered_as (take_of t frame) (u, ms) e);
 }
 
@@ -164,13 +132,3 @@ same_run w (e ∷ es) =
 -- a run of the two sides is a run of the plain world
 pub plain_run : (w last : World PlainHost PlainTerminal Tmesg HFrame) (es : List Event) → run sides w es ≡ Some last → run_of (plain w) es ≡ Some (plain last)
 plain_run w last es e = same_run w es ∙ ap (λ o. option_map plain o) e
-
--- and the other way round
-pub sides_run : (w last : World PlainHost PlainTerminal Tmesg HFrame) (es : List Event) → run_of (plain w) es ≡ Some (plain last) → run sides w es ≡ Some last
-sides_run w last es e = go (run sides w es) (sym (same_run w es) ∙ e)
-  where
-    go : (o : Option (World PlainHost PlainTerminal Tmesg HFrame)) → option_map plain o ≡ Some (plain last) → o ≡ Some last
-    go None q = absurd (cc)
-    go (Some v) q =
-        let same : plain v ≡ plain last = same_Some (plain v) (plain last) q in
-        ap (λ (x : PlainWorld). Some (world x.host x.term x.up x.down)) same

@@ -15,7 +15,7 @@ use Rattle.sam_world.specs.declared.event.TermLog.{TermLog}
 use Rattle.sam_world.specs.declared.event.TermLog.TheVariants as log
 use Rattle.sam_world.specs.Logs.{logged_users}
 use Rattle.sam_world.specs.Sides.{Each, TermRuns}
-use Rattle.sam_world.proofs.Settles.{term_more}
+use Rattle.sam_world.proofs.Settles.{term_more, each_append}
 use Rattle.sam_queue.specs.declared.port.Entry.{Entry}
 use Rattle.sam_queue.specs.History.{IsEnded, has_left}
 use Rattle.sam_queue.specs.Views.{LineView, TakeView, PostView, WasFull, closed_post, new_take, new_post}
@@ -25,7 +25,7 @@ use Rattle.sam_threads.specs.Outboxes.{Encodes}
 use Rattle.sam_threads.specs.Told.{IsForeign, RefusesFrame, IsFullUp}
 use Rattle.sam_threads.specs.TermMoments.{DeskView, Did, SideView, SoFar, Ran, Goes, IsDone, IsQuiet, IsFound}
 use Rattle.sam_threads.specs.Cutting.{PutSome}
-use Rattle.sam_threads.proofs.Cut.{each_append, bytes_append}
+use Rattle.sam_threads.proofs.Cut.{bytes_append}
 use Rattle.sam_threads.proofs.RealLaws.{counts}
 use Rattle.sam_threads.proofs.TermSteps.{did_nothing}
 use Rattle.sam_threads.specs.declared.input.Input.{Input}
@@ -119,17 +119,19 @@ pub kept_done : (v : SideView) (desk : DeskView) (outbox : List ℕ) (ms : List 
     → Did v.desk desk [] [] ms → Each (FitsT 2) ms → outbox ≡ v.outbox ++ stream_of terminal ms
     → Ran (record { take = v.take; post = v.post; desk = desk; outbox = outbox; keyboard_left = v.keyboard_left; mouse_left = v.mouse_left; exit_put = v.exit_put; stop = v.stop })
 kept_done v desk outbox ms r running d fit grown =
-    subst (λ (x : Option Stop). Ran (record { take = v.take; post = v.post; desk = desk; outbox = outbox; keyboard_left = v.keyboard_left; mouse_left = v.mouse_left; exit_put = v.exit_put; stop = x })) (sym (none_of v.stop running))
+    subst (λ (x : Option Stop). Ran (record { take = v.take; post = v.post; desk = desk;
+      outbox = outbox; keyboard_left = v.keyboard_left; mouse_left = v.mouse_left; exit_put = v.exit_put; stop = x })) (sym (none_of v.stop running))
     (kept_step v desk outbox None ms [] r (none_of v.stop running) d fit (append-nil outbox ∙ grown) (refl, refl) (λ is. absurd (cc)))
+
+-- what was encoded of some messages, and what was lost of them, is their frames
+pub half : (before after : List ℕ) (ns : List Tmesg) (q : Encodes before after ns) → after ++ q.lost ≡ before ++ stream_of terminal ns
+half before after ns q = ap (λ (x : List ℕ). x ++ q.lost) q.grown ∙ (append_assoc before q.added q.lost ∙ ap (λ (x : List ℕ). before ++ x) q.all)
 
 pub kept_half : (v : SideView) (desk : DeskView) (outbox : List ℕ) (ms : List Tmesg) → Ran v → is_some v.stop ≡ false
     → Did v.desk desk [] [] ms → Each (FitsT 2) ms → Encodes v.outbox outbox ms
     → Ran (record { take = v.take; post = v.post; desk = desk; outbox = outbox; keyboard_left = v.keyboard_left; mouse_left = v.mouse_left; exit_put = v.exit_put; stop = Some stop.Memory })
 kept_half v desk outbox ms r running d fit e =
     kept_step v desk outbox (Some stop.Memory) ms e.lost r (none_of v.stop running) d fit (half v.outbox outbox ms e) tt (λ is. absurd (let same : stop.Memory ≡ stop.PeerGone = cc in cc))
-  where
-    half : (before after : List ℕ) (ns : List Tmesg) (q : Encodes before after ns) → after ++ q.lost ≡ before ++ stream_of terminal ns
-    half before after ns q = ap (λ (x : List ℕ). x ++ q.lost) q.grown ∙ (append_assoc before q.added q.lost ∙ ap (λ (x : List ℕ). before ++ x) q.all)
 
 pub kept_silent : (v : SideView) (desk : DeskView) → Ran v → is_some v.stop ≡ false → Did v.desk desk [] [] []
     → Ran (record { take = v.take; post = v.post; desk = desk; outbox = v.outbox; keyboard_left = v.keyboard_left; mouse_left = v.mouse_left; exit_put = v.exit_put; stop = v.stop })

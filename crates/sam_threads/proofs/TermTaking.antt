@@ -13,6 +13,7 @@ use Rattle.sam_term.specs.declared.event.UserEvent.{UserEvent}
 use Rattle.sam_term.specs.declared.event.UserEvent.TheVariants.{Exit}
 use Rattle.sam_world.specs.Logs.{logged_users}
 use Rattle.sam_world.specs.Sides.{Each, TermRuns}
+use Rattle.sam_world.proofs.Settles.{each_append}
 use Rattle.sam_queue.specs.declared.port.Entry.{Entry}
 use Rattle.sam_queue.specs.History.{loads, has_mark, has_left}
 use Rattle.sam_queue.specs.Views.{LineView, TakeView, PostView, TakesNext, Answers, new_take, new_post}
@@ -29,8 +30,7 @@ use Rattle.sam_threads.specs.declared.input.Input.TheVariants.{User, Host}
 use Rattle.sam_threads.specs.declared.stop.Stop.{Stop}
 use Rattle.sam_threads.specs.declared.stop.Stop.TheVariants as stop
 use Rattle.sam_threads.proofs.TermSteps.{did_nothing}
-use Rattle.sam_threads.proofs.Cut.{each_append}
-use Rattle.sam_threads.proofs.TermKeeping.{runs_on, users_on, whole, all_handled, sent_on, none_of}
+use Rattle.sam_threads.proofs.TermKeeping.{runs_on, users_on, whole, all_handled, sent_on, none_of, half}
 
 -- ## Marks
 
@@ -153,9 +153,6 @@ kept_item v line sender input desk outbox ms r running next d of_user fit grown 
     (kept_entry v line (record { sender = sender; load = Some input }) desk outbox v.keyboard_left v.mouse_left None ms [] r (none_of v.stop running) next d of_user fit
     (append-nil outbox ∙ grown) (refl, refl) (λ is. is) (λ is. is) (λ is. inl is) (λ is. inl is) (λ is. absurd (cc)))
 
-half : (before after : List ℕ) (ns : List Tmesg) (q : Encodes before after ns) → after ++ q.lost ≡ before ++ stream_of terminal ns
-half before after ns q = ap (λ (x : List ℕ). x ++ q.lost) q.grown ∙ (append_assoc before q.added q.lost ∙ ap (λ (x : List ℕ). before ++ x) q.all)
-
 -- an item was handled, and not all of its messages could be encoded
 pub kept_half_item : (v : SideView) (line : TakeView Input) (sender : ℕ) (input : Input) (desk : DeskView) (outbox : List ℕ) (ms : List Tmesg)
     → Ran v → is_some v.stop ≡ false → TakesNext v.take (record { sender = sender; load = Some input }) line
@@ -186,7 +183,8 @@ kept_keyboard v line r running next =
     subst
     (λ (x : Option Stop). Ran (record { take = line; post = v.post; desk = v.desk; outbox = v.outbox; keyboard_left = true; mouse_left = v.mouse_left; exit_put = v.exit_put; stop = x }))
     (sym (none_of v.stop running))
-    (mark_handled v line (record { sender = 0; load = None }) true v.mouse_left None r (none_of v.stop running) next refl (refl, refl) (λ is. refl) (λ is. is) (λ is. inr refl) (λ is. inl is) (λ is. absurd (cc)))
+    (mark_handled v line (record { sender = 0; load = None }) true v.mouse_left None r (none_of v.stop running) next refl (refl, refl)
+      (λ is. refl) (λ is. is) (λ is. inr refl) (λ is. inl is) (λ is. absurd (cc)))
 
 pub kept_mouse : (v : SideView) (line : TakeView Input) → Ran v → is_some v.stop ≡ false → TakesNext v.take (record { sender = 1; load = None }) line
     → Ran (record { take = line; post = v.post; desk = v.desk; outbox = v.outbox; keyboard_left = v.keyboard_left; mouse_left = true; exit_put = v.exit_put; stop = v.stop })
@@ -194,7 +192,8 @@ kept_mouse v line r running next =
     subst
     (λ (x : Option Stop). Ran (record { take = line; post = v.post; desk = v.desk; outbox = v.outbox; keyboard_left = v.keyboard_left; mouse_left = true; exit_put = v.exit_put; stop = x }))
     (sym (none_of v.stop running))
-    (mark_handled v line (record { sender = 1; load = None }) v.keyboard_left true None r (none_of v.stop running) next refl (refl, refl) (λ is. is) (λ is. refl) (λ is. inl is) (λ is. inr refl) (λ is. absurd (cc)))
+    (mark_handled v line (record { sender = 1; load = None }) v.keyboard_left true None r (none_of v.stop running) next refl (refl, refl)
+      (λ is. is) (λ is. refl) (λ is. inl is) (λ is. inr refl) (λ is. absurd (cc)))
 
 pub kept_reader : (v : SideView) (line : TakeView Input) (sender : ℕ) → Ran v → is_some v.stop ≡ false → TakesNext v.take (record { sender = sender; load = None }) line
     → Ran (record { take = line; post = v.post; desk = v.desk; outbox = v.outbox; keyboard_left = v.keyboard_left; mouse_left = v.mouse_left; exit_put = v.exit_put; stop = v.stop })
@@ -202,7 +201,8 @@ kept_reader v line sender r running next =
     subst
     (λ (x : Option Stop). Ran (record { take = line; post = v.post; desk = v.desk; outbox = v.outbox; keyboard_left = v.keyboard_left; mouse_left = v.mouse_left; exit_put = v.exit_put; stop = x }))
     (sym (none_of v.stop running))
-    (mark_handled v line (record { sender = sender; load = None }) v.keyboard_left v.mouse_left None r (none_of v.stop running) next refl (refl, refl) (λ is. is) (λ is. is) (λ is. inl is) (λ is. inl is) (λ is. absurd (cc)))
+    (mark_handled v line (record { sender = sender; load = None }) v.keyboard_left v.mouse_left None r (none_of v.stop running) next refl (refl, refl)
+      (λ is. is) (λ is. is) (λ is. inl is) (λ is. inl is) (λ is. absurd (cc)))
 
 pub kept_gone : (v : SideView) (line : TakeView Input) (sender : ℕ) → Ran v → is_some v.stop ≡ false → TakesNext v.take (record { sender = sender; load = None }) line
     → sender ≢ 0 → sender ≢ 1 → v.desk.term.has_exited ≡ false
@@ -310,7 +310,8 @@ pub still : (v : SideView) (line : TakeView Input) → Ran v → line ≡ v.take
     → Ran (record { take = line; post = v.post; desk = v.desk; outbox = v.outbox; keyboard_left = v.keyboard_left; mouse_left = v.mouse_left; exit_put = v.exit_put; stop = v.stop })
 still v line r same =
     subst
-    (λ (x : TakeView Input). Ran (record { take = x; post = v.post; desk = v.desk; outbox = v.outbox; keyboard_left = v.keyboard_left; mouse_left = v.mouse_left; exit_put = v.exit_put; stop = v.stop }))
+    (λ (x : TakeView Input). Ran (record { take = x; post = v.post;
+      desk = v.desk; outbox = v.outbox; keyboard_left = v.keyboard_left; mouse_left = v.mouse_left; exit_put = v.exit_put; stop = v.stop }))
     (sym same) r
 
 -- whatever the line answers after a stop

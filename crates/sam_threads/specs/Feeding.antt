@@ -25,7 +25,8 @@ Gives h piece k frames (Some fault) = (place : ℕ) × GaveUp host h piece frame
 
 -- of the frames that the framer gave, the terminal took these first ones, and not the ones behind them
 abbrev pub TakesSome : Held → List ℕ → Held → PlainTerminal → PlainTerminal → List Tmesg → List HFrame → List HFrame → Type 0
-TakesSome h piece k t u composed frames behind = (fault : Option MesgFault) × Gives h piece k (frames ++ behind) fault × TakesAll t frames composed u
+TakesSome h piece k t u composed frames behind =
+    (fault : Option MesgFault) × Gives h piece k (frames ++ behind) fault × TakesAll t frames composed u
 
 -- the framer refused the piece, and nothing has changed
 abbrev pub Refused : Held → Held → PlainTerminal → PlainTerminal → List Tmesg → Type 0
@@ -34,7 +35,8 @@ Refused h k t u composed = (k ≡ h) × (u ≡ t) × (composed ≡ [])
 -- the stream shows a fault behind the frames, which were all taken; or the framer had failed before, or could not count the piece
 abbrev pub FrameStops : Held → List ℕ → Held → PlainTerminal → PlainTerminal → List Tmesg → ℕ → Type 0
 FrameStops h piece k t u composed n =
-    ((frames : List HFrame) × (fault : MesgFault) × Gives h piece k frames (Some fault) × (n ≡ frame_number fault) × TakesAll t frames composed u)
+    ((frames : List HFrame) × (fault : MesgFault)
+    × Gives h piece k frames (Some fault) × (n ≡ frame_number fault) × TakesAll t frames composed u)
     ⊎ (((n ≡ 5) × (h.failed ≡ true) × Refused h k t u composed)
     ⊎ ((n ≡ 7) × (h.failed ≡ false) × (2 ^ 64 ≤ h.offset + length h.bytes + length piece) × Refused h k t u composed))
 

@@ -1,12 +1,11 @@
 -- What the host's worker does between two moments.
-use Rattle.std.specs.Prelude.{◌≡◌, ℕ, ◌+◌, ◌^◌, ◌≤◌, ◌⊎◌, List, [], ◌∷◌, ◌++◌, length, Option, Some, None, Result, Ok, Err}
+use Rattle.std.specs.Prelude.{◌≡◌, ℕ, ◌+◌, ◌⊎◌, List, [], ◌∷◌, ◌++◌, length, Option, Some, None, Result, Ok, Err}
 use Rattle.std.specs.Global.{Vec}
 use Rattle.sam_mesg.specs.declared.tmesg.Tmesg.{Tmesg}
 use Rattle.sam_mesg.specs.declared.hmesg.HFrame.{HFrame}
-use Rattle.sam_mesg.specs.declared.fault.MesgFault.{MesgFault}
 use Rattle.sam_mesg.specs.HostKinds.{FitsH}
 use Rattle.sam_frame.specs.Direction.{terminal, host}
-use Rattle.sam_frame.specs.Stream.{FitInTurn, Splits, Shows, IsOpen, version_after, stream_of}
+use Rattle.sam_frame.specs.Stream.{FitInTurn, Splits, IsOpen, version_after, stream_of}
 use Rattle.sam_frame.specs.Framing.{Held, GaveAll}
 use Rattle.sam_host.specs.Host.{PlainHost, answer}
 use Rattle.sam_host.specs.declared.fault.HostFault.{HostFault}
@@ -16,14 +15,15 @@ use Rattle.sam_queue.specs.History.{items_of, IsEnded}
 use Rattle.sam_queue.specs.Views.{PostView}
 use Rattle.sam_world.specs.Sides.{Each, HostRuns}
 use Rattle.sam_threads.specs.RealSides.{sides}
-use Rattle.sam_threads.specs.Numbers.{refusal_number, frame_number}
+use Rattle.sam_threads.specs.Numbers.{refusal_number, StopsWith}
 use Rattle.sam_threads.specs.Inputs.{bytes_of}
 use Rattle.sam_threads.specs.Told.{RefusesNext}
 use Rattle.sam_threads.specs.declared.stop.Stop.{Stop}
 use Rattle.sam_threads.specs.declared.stop.Stop.TheVariants as stop
 
 -- the host handled these messages in order and answered the frames, whose bytes the post has put, all but the last of them
-pub record Handled (h k : PlainHost) (before after : PostView (Vec ℕ)) (handled : List Tmesg) (answered : List HFrame) (unput : List ℕ) : Type 0 where
+pub record Handled (h k : PlainHost) (before after : PostView (Vec ℕ))
+    (handled : List Tmesg) (answered : List HFrame) (unput : List ℕ) : Type 0 where
   pub runs : HostRuns sides h handled answered k
   pub answers_fit : Each (FitsH 2) answered
   pub put : bytes_of after.put ++ unput ≡ bytes_of before.put ++ stream_of host answered
@@ -35,7 +35,9 @@ pub record Handled (h k : PlainHost) (before after : PostView (Vec ℕ)) (handle
 
 -- the host refused the first of these
 abbrev pub RefusesFirst : PlainHost → List Tmesg → ℕ → Type 0
-RefusesFirst h left n = (m : Tmesg) × (more : List Tmesg) × (why : HostFault) × (left ≡ m ∷ more) × (answer h m ≡ Err why) × (n ≡ refusal_number why)
+RefusesFirst h left n =
+    (m : Tmesg) × (more : List Tmesg) × (why : HostFault)
+    × (left ≡ m ∷ more) × (answer h m ≡ Err why) × (n ≡ refusal_number why)
 
 -- what a refusal of the host is for its worker
 abbrev pub of_refusal : HostFault → Stop
@@ -50,7 +52,8 @@ Leaves refuses h left stop.Memory = Unit {0}
 Leaves refuses h left other = ⊥
 
 -- the messages were handled up to one of them
-pub record HandledSome (refuses : Type 0) (h k : PlainHost) (before after : PostView (Vec ℕ)) (messages : List Tmesg) (why : Stop) : Type 0 where
+pub record HandledSome (refuses : Type 0) (h k : PlainHost) (before after : PostView (Vec ℕ))
+    (messages : List Tmesg) (why : Stop) : Type 0 where
   pub handled : List Tmesg
   pub left : List Tmesg
   pub answered : List HFrame
@@ -73,14 +76,15 @@ StopsBefore refuses h k before after messages number why =
 
 -- why the host's worker stops before this rest of the stream, of which so many bytes came
 abbrev pub Halts : Type 0 → PlainHost → ℕ → ℕ → List ℕ → Stop → Type 0
-Halts refuses h version came rest (stop.Frame n) = ((n ≡ 7) × (2 ^ 64 ≤ came)) ⊎ ((fault : MesgFault) × Shows terminal version rest fault × (n ≡ frame_number fault))
+Halts refuses h version came rest (stop.Frame n) = StopsWith terminal version came rest n
 Halts refuses h version came rest (stop.Host n) = RefusesNext h rest n
 Halts refuses h version came rest stop.Gate = refuses
 Halts refuses h version came rest stop.Memory = Unit {0}
 Halts refuses h version came rest other = ⊥
 
 -- the messages at the front of the bytes, with which so many of the stream came, were handled, and the rest stops the worker
-pub record HandledFront (refuses : Type 0) (h k : PlainHost) (before after : PostView (Vec ℕ)) (version came : ℕ) (bytes : List ℕ) (why : Stop) : Type 0 where
+pub record HandledFront (refuses : Type 0) (h k : PlainHost) (before after : PostView (Vec ℕ))
+    (version came : ℕ) (bytes : List ℕ) (why : Stop) : Type 0 where
   pub handled : List Tmesg
   pub answered : List HFrame
   pub unput : List ℕ
@@ -89,9 +93,11 @@ pub record HandledFront (refuses : Type 0) (h k : PlainHost) (before after : Pos
   pub did : Handled h k before after handled answered unput
   pub halts : Halts refuses k (version_after terminal version handled) came rest why
 
-abbrev pub TakesPiece : Type 0 → PlainHost → PlainHost → PostView (Vec ℕ) → PostView (Vec ℕ) → Held → Held → List ℕ → Result (Unit {0}) Stop → Type 0
+abbrev pub TakesPiece : Type 0 → PlainHost → PlainHost → PostView (Vec ℕ) → PostView (Vec ℕ) → Held → Held → List ℕ
+    → Result (Unit {0}) Stop → Type 0
 TakesPiece refuses h k before after held next piece (Ok done) =
-    (messages : List Tmesg) × (answered : List HFrame) × GaveAll terminal held piece messages next × Handled h k before after messages answered []
+    (messages : List Tmesg) × (answered : List HFrame)
+    × GaveAll terminal held piece messages next × Handled h k before after messages answered []
 TakesPiece refuses h k before after held next piece (Err why) =
     HandledFront refuses h k before after held.version (held.offset + length held.bytes + length piece) (held.bytes ++ piece) why
 
@@ -100,10 +106,12 @@ TakesPiece refuses h k before after held next piece (Err why) =
 -- why it came to its end: all that was put was taken, or what stopped it
 abbrev pub Ends : Type 0 → PlainHost → List (Entry (Vec ℕ)) → List Tmesg → List ℕ → List ℕ → Option Stop → Type 0
 Ends refuses h taken handled unput rest None = IsEnded 1 taken × (unput ≡ []) × IsOpen terminal (version_after terminal 1 handled) rest
-Ends refuses h taken handled unput rest (Some why) = Halts refuses h (version_after terminal 1 handled) (length (bytes_of (items_of 0 taken))) rest why
+Ends refuses h taken handled unput rest (Some why) =
+    Halts refuses h (version_after terminal 1 handled) (length (bytes_of (items_of 0 taken))) rest why
 
 -- what it has taken are the frames of the messages that it handled, and a rest
-pub record Serves (refuses : Type 0) (h k : PlainHost) (before after : PostView (Vec ℕ)) (taken : List (Entry (Vec ℕ))) (why : Option Stop) : Type 0 where
+pub record Serves (refuses : Type 0) (h k : PlainHost) (before after : PostView (Vec ℕ))
+    (taken : List (Entry (Vec ℕ))) (why : Option Stop) : Type 0 where
   pub handled : List Tmesg
   pub answered : List HFrame
   pub unput : List ℕ

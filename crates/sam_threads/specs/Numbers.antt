@@ -1,7 +1,9 @@
 -- The numbers of faults, by which a stop names them.
-use Rattle.std.specs.Prelude.{ℕ}
+use Rattle.std.specs.Prelude.{◌≡◌, ℕ, ◌^◌, ◌≤◌, ◌⊎◌, List}
 use Rattle.sam_mesg.specs.declared.fault.MesgFault.{MesgFault}
 use Rattle.sam_mesg.specs.declared.fault.MesgFault.TheVariants as wrong
+use Rattle.sam_frame.specs.Direction.{Direction}
+use Rattle.sam_frame.specs.Stream.{Shows}
 use Rattle.sam_host.specs.declared.fault.HostFault.{HostFault}
 use Rattle.sam_host.specs.declared.fault.HostFault.TheVariants as refusal
 use Rattle.sam_term.specs.declared.fault.TermFault.{TermFault}
@@ -24,6 +26,11 @@ frame_number wrong.BadKind = 1
 frame_number wrong.BadLength = 2
 frame_number wrong.BadText = 3
 frame_number wrong.OutOfMemory = 6
+
+-- a reader of a stream stops with this number: more bytes came than can be counted, or what it has not read shows the fault
+abbrev pub StopsWith : {M : Type 0} → Direction M → ℕ → ℕ → List ℕ → ℕ → Type 0
+StopsWith d version came rest n =
+    ((n ≡ 7) × (2 ^ 64 ≤ came)) ⊎ ((fault : MesgFault) × Shows d version rest fault × (n ≡ frame_number fault))
 
 -- the number of a fault of the terminal
 abbrev pub fault_number : TermFault → ℕ

@@ -1,16 +1,15 @@
 -- What the host reader does with the pieces of the host's stream.
-use Rattle.std.specs.Prelude.{◌≡◌, ℕ, ◌+◌, ◌^◌, ◌≤◌, ◌⊎◌, List, ◌++◌, length, map, Option, Some, None}
+use Rattle.std.specs.Prelude.{◌≡◌, ℕ, ◌+◌, ◌⊎◌, List, ◌++◌, length, map, Option, Some, None}
 use Rattle.std.specs.Global.{Vec}
 use Rattle.sam_mesg.specs.declared.hmesg.HFrame.{HFrame}
-use Rattle.sam_mesg.specs.declared.fault.MesgFault.{MesgFault}
 use Rattle.sam_frame.specs.Direction.{host}
-use Rattle.sam_frame.specs.Stream.{FitInTurn, Splits, version_after, stream_of, IsOpen, Shows}
+use Rattle.sam_frame.specs.Stream.{FitInTurn, Splits, version_after, stream_of, IsOpen}
 use Rattle.sam_frame.specs.Framing.{Held, GaveAll}
 use Rattle.sam_queue.specs.declared.port.Entry.{Entry}
 use Rattle.sam_queue.specs.History.{items_of, IsEnded}
 use Rattle.sam_queue.specs.Views.{PostView, TakeView}
 use Rattle.sam_threads.specs.Inputs.{bytes_of}
-use Rattle.sam_threads.specs.Numbers.{frame_number}
+use Rattle.sam_threads.specs.Numbers.{StopsWith}
 use Rattle.sam_threads.specs.declared.input.Input.{Input}
 use Rattle.sam_threads.specs.declared.input.Input.TheVariants.{Host}
 use Rattle.sam_threads.specs.declared.stop.Stop.{Stop}
@@ -32,7 +31,7 @@ SendsBefore frames n p q (Some s) = Sends frames p q (Some s) ⊎ (Sends frames 
 
 -- what stands behind the frames that were sent on stops the reader so, once so many bytes of the stream came
 abbrev pub StopsBehind : ℕ → ℕ → List ℕ → Stop → Type 0
-StopsBehind version came rest (stop.Frame n) = ((n ≡ 7) × (2 ^ 64 ≤ came)) ⊎ ((fault : MesgFault) × Shows host version rest fault × (n ≡ frame_number fault))
+StopsBehind version came rest (stop.Frame n) = StopsWith host version came rest n
 StopsBehind version came rest (stop.Host n) = ⊥
 StopsBehind version came rest (stop.Term n) = ⊥
 StopsBehind version came rest stop.PeerGone = ⊥

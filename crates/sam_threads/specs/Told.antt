@@ -61,12 +61,14 @@ IsPastCount taken = 2 ^ 64 ≤ length (bytes_of (items_of 0 taken))
 -- the stream shows a fault of this number behind these messages; what came after it was dropped
 abbrev pub ShowsFault : {M : Type 0} → Direction M → List M → List ℕ → ℕ → Type 0
 ShowsFault d messages rest n =
-    (shown : List ℕ) × (dropped : List ℕ) × (fault : MesgFault) × (rest ≡ shown ++ dropped) × Shows d (version_after d 1 messages) shown fault × (n ≡ frame_number fault)
+    (shown : List ℕ) × (dropped : List ℕ) × (fault : MesgFault)
+    × (rest ≡ shown ++ dropped) × Shows d (version_after d 1 messages) shown fault × (n ≡ frame_number fault)
 
 -- the host refused the next message of the stream
 abbrev pub RefusesNext : PlainHost → List ℕ → ℕ → Type 0
 RefusesNext h rest n =
-    (m : Tmesg) × (more : List ℕ) × (why : HostFault) × FitsT 2 m × (rest ≡ frame_of terminal m ++ more) × (answer h m ≡ Err why) × (n ≡ refusal_number why)
+    (m : Tmesg) × (more : List ℕ) × (why : HostFault)
+    × FitsT 2 m × (rest ≡ frame_of terminal m ++ more) × (answer h m ≡ Err why) × (n ≡ refusal_number why)
 
 -- Where nothing stopped it, it handled all whole messages, and put all its answers
 abbrev pub HostStopped : HostEnd → List Tmesg → List ℕ → List ℕ → Option Stop → Type 0
@@ -156,9 +158,9 @@ TermStopped e handled dropped outbox (Some stop.Memory) = Unit {0}
 abbrev pub IsOwnExit : List UserEvent → List (Entry Input) → Type 0
 IsOwnExit own entries = (own ≡ []) ⊎ ((own ≡ Exit ∷ []) × (has_left 0 entries ≡ true) × (has_left 1 entries ≡ true))
 
--- What it took, up to the last end mark, is what it handled, in order, and what it dropped. Its log goes through the user's events and the frames that it
--- handled, with at most one Exit of its own behind the last event, and composes the messages. The pieces that it put, and what it could not
--- put any more, are the frames of the messages
+-- What it took, up to the last end mark, is what it handled, in order, and what it dropped. Its log goes through the user's events and
+-- the frames that it handled, with at most one Exit of its own behind the last event, and composes the messages. The pieces that it put,
+-- and what it could not put any more, are the frames of the messages
 pub record TermTold (events up : LineView) (e : TermEnd) : Type 0 where
   pub handled : List (Entry Input)
   pub dropped : List (Entry Input)
@@ -203,7 +205,9 @@ pub record GatesTold (refuses : ℕ → Type 0) (e : Ends) : Type 0 where
 
 -- each worker was let begin
 abbrev pub AllPassed : Ends → Type 0
-AllPassed e = (e.keyboard.passed ≡ true) × (e.mouse.passed ≡ true) × (e.host.passed ≡ true) × (e.reader.passed ≡ true) × (e.term.passed ≡ true)
+AllPassed e =
+    (e.keyboard.passed ≡ true) × (e.mouse.passed ≡ true) × (e.host.passed ≡ true)
+    × (e.reader.passed ≡ true) × (e.term.passed ≡ true)
 
 -- the gate may refuse some worker
 abbrev pub RefusesSome : (ℕ → Type 0) → Type 0

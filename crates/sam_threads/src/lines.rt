@@ -60,7 +60,8 @@ impl Lines {
     pub fn new(alloc: Global, capacity: usize) -> Result<(Lines, Starts), OutOfMemory>
         requires { 0 < capacity }
         ensures together { IfOk result (λ r. r.1 ≡ r.0) }
-        ensures capacity { IfOk result (λ r. (r.0.up.capacity ≡ capacity) × (r.0.down.capacity ≡ capacity) × (r.0.events.capacity ≡ capacity)) }
+        ensures capacity { IfOk result (λ r.
+            (r.0.up.capacity ≡ capacity) × (r.0.down.capacity ≡ capacity) × (r.0.events.capacity ≡ capacity)) }
     {
         let (up, up_start) = Line::new(alloc, capacity, 1)?;
         let (down, down_start) = Line::new(alloc, capacity, 1)?;

@@ -79,7 +79,11 @@ impl Uncut {
     }
 
     /// Adds the bytes of the messages behind the others. After an error, which is want of memory, some of the first of them stand there.
-    #[tactic(auto, using(crate::proofs::Outboxes::behind_start, crate::proofs::Outboxes::within_grown, crate::proofs::Outboxes::all_behind))]
+    #[tactic(auto, using(
+        crate::proofs::Outboxes::behind_start,
+        crate::proofs::Outboxes::within_grown,
+        crate::proofs::Outboxes::all_behind,
+    ))]
     fn push_all(&mut self, messages: &[Tmesg]) -> Result<(), MesgFault>
         requires { All (λ m. IsTrue (fits_t 2 m)) messages.now }
         ensures encoded { OnOk result (self.new ≡ self.old ++ stream_of terminal messages.now) }

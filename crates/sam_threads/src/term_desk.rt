@@ -124,7 +124,13 @@ impl Desk {
 
     /// Tries the oldest held event, and returns what became of it. The errors are `Term(8)` for a full count, and `Memory`, which may come
     /// before it; they leave the desk as it was.
-    #[tactic(auto, using(crate::proofs::TermSteps::did_done, crate::proofs::TermSteps::did_refused, crate::proofs::TermSteps::did_idle, crate::proofs::TermSteps::did_locked, crate::proofs::TermSteps::idle_holds_none))]
+    #[tactic(auto, using(
+        crate::proofs::TermSteps::did_done,
+        crate::proofs::TermSteps::did_refused,
+        crate::proofs::TermSteps::did_idle,
+        crate::proofs::TermSteps::did_locked,
+        crate::proofs::TermSteps::idle_holds_none,
+    ))]
     pub(crate) fn act(&mut self) -> Result<Acted, Stop>
         ensures acted { IfOk result (λ acted. Did self.old self.new [] [] (composed_by acted)) }
         ensures idle { result ≡ Ok Acted.Idle → self.new.term.held ≡ [] }
@@ -178,7 +184,8 @@ impl Desk {
     /// doesn't fit in version 2; else those of `user` or `receive`.
     pub(crate) fn handle(&mut self, sender: usize, input: Input) -> Result<Batch, Stop>
         requires { sender < 3 }
-        ensures handled { IfOk result (λ composed. Did self.old self.new (user_of_load (Some input)) (frame_of_load (Some input)) composed) }
+        ensures handled { IfOk result (λ composed.
+            Did self.old self.new (user_of_load (Some input)) (frame_of_load (Some input)) composed) }
         ensures sender { OnOk result (IsOfUser sender (user_of_load (Some input))) }
         ensures refused { IfErr result (λ why. WasNotHandled self.old.term sender input why) }
         ensures unchanged { OnErr result (self.new ≡ self.old) }

@@ -73,9 +73,27 @@ impl<'q> Model for Side<'q> {
 
     ghost Value = { SideView };
 
-    ghost view = { λ s. record { take = s.take; post = s.post; desk = s.desk; outbox = s.outbox.bytes; keyboard_left = s.keyboard_left; mouse_left = s.mouse_left; exit_put = s.exit_put; stop = s.stop } };
+    ghost view = { λ s. record {
+      take = s.take;
+      post = s.post;
+      desk = s.desk;
+      outbox = s.outbox.bytes;
+      keyboard_left = s.keyboard_left;
+      mouse_left = s.mouse_left;
+      exit_put = s.exit_put;
+      stop = s.stop;
+    } };
 
-    ghost invariant = { λ s. Ran (record { take = s.take; post = s.post; desk = s.desk; outbox = s.outbox.bytes; keyboard_left = s.keyboard_left; mouse_left = s.mouse_left; exit_put = s.exit_put; stop = s.stop }) };
+    ghost invariant = { λ s. Ran (record {
+      take = s.take;
+      post = s.post;
+      desk = s.desk;
+      outbox = s.outbox.bytes;
+      keyboard_left = s.keyboard_left;
+      mouse_left = s.mouse_left;
+      exit_put = s.exit_put;
+      stop = s.stop;
+    }) };
 }
 
 impl<'q> Side<'q> {
@@ -194,7 +212,11 @@ impl<'q> Side<'q> {
     }
 
     /// Puts the next piece if there is one and the line has room for it. Returns whether it put one.
-    #[tactic(auto, using(crate::proofs::TermKeeping::kept_pieces, crate::proofs::TermKeeping::kept_short, crate::proofs::TermKeeping::goes_put))]
+    #[tactic(auto, using(
+        crate::proofs::TermKeeping::kept_pieces,
+        crate::proofs::TermKeeping::kept_short,
+        crate::proofs::TermKeeping::goes_put,
+    ))]
     fn put_piece<R: Wait>(&mut self, rt: &R) -> bool
         ensures { Goes self.old self.new }
     {
@@ -234,7 +256,11 @@ impl<'q> Side<'q> {
 
     /// Takes the next entry, if there is one. It lets the terminal handle an item, and notes who has left. If the host reader has left
     /// before the session is over, it stops.
-    #[tactic(auto, using(crate::proofs::TermTaking::kept_gone, crate::proofs::TermTaking::kept_refused, crate::proofs::TermTaking::kept_gated))]
+    #[tactic(auto, using(
+        crate::proofs::TermTaking::kept_gone,
+        crate::proofs::TermTaking::kept_refused,
+        crate::proofs::TermTaking::kept_gated,
+    ))]
     fn take_next<R: Wait, G: Gate>(&mut self, rt: &R, gate: &G) -> Found
         requires running { is_some self.old.stop ≡ false }
         ensures take { self.new.take.line ≡ self.old.take.line }

@@ -7,7 +7,8 @@ use Rattle.sam_host.specs.Laws.{AreGiven}
 use Rattle.sam_world.specs.Given.{AreShort}
 
 -- one text more, from the end on
-pub short_step : (files : List (List ℕ × RoomyText)) (i : ℕ) (d : List ℕ × RoomyText) → i < length files → length (slice_index_or files i d).1.runes ≤ max_runes → AreShort (drop (i + 1) files) → AreShort (drop i files)
+pub short_step : (files : List (List ℕ × RoomyText)) (i : ℕ) (d : List ℕ × RoomyText)
+    → i < length files → length (slice_index_or files i d).1.runes ≤ max_runes → AreShort (drop (i + 1) files) → AreShort (drop i files)
 short_step [] i d l s rest = absurd (omega arith)
 short_step (file ∷ files) zero d l s rest = (s, rest)
 short_step (file ∷ files) (suc i) d l s rest =

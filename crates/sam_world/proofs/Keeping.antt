@@ -1,7 +1,7 @@
 -- What is kept of every world, step by step.
-use Rattle.std.proofs.Common.{◌≡◌, refl, sym, ap, ◌∙◌, subst, ℕ, suc, List, [], ◌∷◌, ◌++◌, drop, Some, Ok, arith}
+use Rattle.std.proofs.Common.{◌≡◌, refl, sym, ap, ◌∙◌, subst, ℕ, suc, List, [], ◌∷◌, ◌++◌, drop, Some, Ok, arith, append-nil}
 use Rattle.std.specs.Prelude.{All, IsTrue}
-use Rattle.std.proofs.lemmas.List.Elements.{All-append}
+use Rattle.std.proofs.lemmas.List.Elements.{All-append, All-nil}
 use Rattle.std.proofs.lemmas.Option.{same_Some}
 use Rattle.sam_host.specs.Host.{PlainHost, answer}
 use Rattle.sam_host.specs.Laws.{AreGiven}
@@ -24,12 +24,6 @@ use Rattle.sam_world.proofs.Within.{reached_start, reached_step, answered_fits}
 FitUp : List Tmesg → Type 0
 FitUp ms = All (λ m. IsTrue (fits_t 2 m)) ms
 
-FitDown : List HFrame → Type 0
-FitDown frames = All (λ frame. IsTrue (fits_h 2 frame.msg)) frames
-
-fit_none : {X : Type 0} (P : X → Type 0) → All P []
-fit_none P k d l = absurd (omega arith)
-
 fit_rest : {X : Type 0} (P : X → Type 0) (xs : List X) → All P xs → All P (drop 1 xs)
 fit_rest P [] a = a
 fit_rest P (x ∷ xs) a = λ k d l. a (suc k) d (omega (arith, l))
@@ -38,16 +32,18 @@ pub kept_start : (given : List (List ℕ × List ℕ)) → AreGiven given → Is
 kept_start given limits =
     record {
       reached = reached_start given limits;
-      up = fit_none (λ m. IsTrue (fits_t 2 m));
-      down = fit_none (λ frame. IsTrue (fits_h 2 frame.msg));
+      up = All-nil (λ m. IsTrue (fits_t 2 m));
+      down = All-nil (λ frame. IsTrue (fits_h 2 frame.msg));
     }
 
-pub kept_user : (w : PlainWorld) (e : UserEvent) (t : PlainTerminal) → IsKept w → t ≡ record w.term { held = w.term.held ++ e ∷ [] } → IsKept (record { host = w.host; term = t; up = w.up; down = w.down })
+pub kept_user : (w : PlainWorld) (e : UserEvent) (t : PlainTerminal)
+    → IsKept w → t ≡ record w.term { held = w.term.held ++ e ∷ [] } → IsKept (record { host = w.host; term = t; up = w.up; down = w.down })
 kept_user w e t k same =
     subst (λ x. IsKept (record { host = w.host; term = x; up = w.up; down = w.down })) (sym same)
     (record { reached = reached_step w _ (User e) k.reached refl; up = k.up; down = k.down })
 
-act_done : (w : PlainWorld) (t : PlainTerminal) (acted : Acted) → IsKept w → act_of w.term ≡ Ok (t, acted) → FitUp (composed_by acted) → IsKept (record { host = w.host; term = t; up = w.up ++ composed_by acted; down = w.down })
+act_done : (w : PlainWorld) (t : PlainTerminal) (acted : Acted) → IsKept w
+    → act_of w.term ≡ Ok (t, acted) → FitUp (composed_by acted) → IsKept (record { host = w.host; term = t; up = w.up ++ composed_by acted; down = w.down })
 unfolding FitUp
 act_done w t acted k a f =
     record {
@@ -56,25 +52,24 @@ act_done w t acted k a f =
       down = k.down;
     }
 
-pub kept_done : (w : PlainWorld) (t : PlainTerminal) (ms up : List Tmesg) → IsKept w → IsSound w.term → act_of w.term ≡ Ok (t, Done ms) → up ≡ w.up ++ ms → IsKept (record { host = w.host; term = t; up = up; down = w.down })
+pub kept_done : (w : PlainWorld) (t : PlainTerminal) (ms up : List Tmesg)
+    → IsKept w → IsSound w.term → act_of w.term ≡ Ok (t, Done ms) → up ≡ w.up ++ ms → IsKept (record { host = w.host; term = t; up = up; down = w.down })
 unfolding FitUp
 kept_done w t ms up k s a same =
     subst (λ x. IsKept (record { host = w.host; term = t; up = x; down = w.down })) (sym same)
     (act_done w t (Done ms) k a (act_fits w.term t ms s a))
 
-append_none : {X : Type 0} (xs : List X) → xs ++ [] ≡ xs
-append_none [] = refl
-append_none (x ∷ xs) = ap (λ ys. x ∷ ys) (append_none xs)
-
 -- an act that composed nothing
-pub kept_silent : (w : PlainWorld) (t : PlainTerminal) (acted : Acted) (up : List Tmesg) → IsKept w → act_of w.term ≡ Ok (t, acted) → composed_by acted ≡ [] → up ≡ w.up → IsKept (record { host = w.host; term = t; up = up; down = w.down })
+pub kept_silent : (w : PlainWorld) (t : PlainTerminal) (acted : Acted) (up : List Tmesg)
+    → IsKept w → act_of w.term ≡ Ok (t, acted) → composed_by acted ≡ [] → up ≡ w.up → IsKept (record { host = w.host; term = t; up = up; down = w.down })
 unfolding FitUp
 kept_silent w t acted up k a none same =
-    let silent : FitUp (composed_by acted) = subst FitUp (sym none) (fit_none (λ m. IsTrue (fits_t 2 m))) in
-    let joined : w.up ++ composed_by acted ≡ up = ap (λ ms. w.up ++ ms) none ∙ append_none w.up ∙ sym same in
+    let silent : FitUp (composed_by acted) = subst FitUp (sym none) (All-nil (λ m. IsTrue (fits_t 2 m))) in
+    let joined : w.up ++ composed_by acted ≡ up = ap (λ ms. w.up ++ ms) none ∙ append-nil w.up ∙ sym same in
     subst (λ x. IsKept (record { host = w.host; term = t; up = x; down = w.down })) joined (act_done w t acted k a silent)
 
-pub kept_flush : (w : PlainWorld) (t : PlainTerminal) (ms up : List Tmesg) → IsKept w → IsSound w.term → flush_of w.term ≡ Ok (t, ms) → up ≡ w.up ++ ms → IsKept (record { host = w.host; term = t; up = up; down = w.down })
+pub kept_flush : (w : PlainWorld) (t : PlainTerminal) (ms up : List Tmesg)
+    → IsKept w → IsSound w.term → flush_of w.term ≡ Ok (t, ms) → up ≡ w.up ++ ms → IsKept (record { host = w.host; term = t; up = up; down = w.down })
 kept_flush w t ms up k s a same =
     subst (λ x. IsKept (record { host = w.host; term = t; up = x; down = w.down })) (sym same)
     (record {
@@ -88,7 +83,8 @@ pub first_rest : {X : Type 0} (xs : List X) (x : X) → head xs ≡ Some x → x
 first_rest [] x e = absurd (cc)
 first_rest (y ∷ xs) x e = ap (λ z. z ∷ xs) (same_Some y x e)
 
-pub kept_answer : (w : PlainWorld) (h : PlainHost) (m : Tmesg) (up : List Tmesg) (frames down : List HFrame) → IsKept w → head w.up ≡ Some m → answer w.host m ≡ Ok (h, frames) → up ≡ drop 1 w.up → down ≡ w.down ++ frames → IsKept (record { host = h; term = w.term; up = up; down = down })
+pub kept_answer : (w : PlainWorld) (h : PlainHost) (m : Tmesg) (up : List Tmesg) (frames down : List HFrame) → IsKept w → head w.up ≡ Some m
+    → answer w.host m ≡ Ok (h, frames) → up ≡ drop 1 w.up → down ≡ w.down ++ frames → IsKept (record { host = h; term = w.term; up = up; down = down })
 kept_answer w h m up frames down k first a rest joined =
     let goes : step_of w HostTake ≡ Some (record { host = h; term = w.term; up = drop 1 w.up; down = w.down ++ frames }) =
     ap (λ ms. host_takes w ms) (first_rest w.up m first) ∙ ap (λ x. after_answer (record w { up = drop 1 w.up }) x) a in
@@ -100,7 +96,8 @@ kept_answer w h m up frames down k first a rest joined =
       down = All-append (λ frame. IsTrue (fits_h 2 frame.msg)) w.down frames k.down (answered_fits w h m frames k.reached a);
     }))
 
-pub kept_take : (w : PlainWorld) (t : PlainTerminal) (frame : HFrame) (ms up : List Tmesg) (down : List HFrame) → IsKept w → IsSound w.term → head w.down ≡ Some frame → take_of w.term frame ≡ Ok (t, ms) → up ≡ w.up ++ ms → down ≡ drop 1 w.down → IsKept (record { host = w.host; term = t; up = up; down = down })
+pub kept_take : (w : PlainWorld) (t : PlainTerminal) (frame : HFrame) (ms up : List Tmesg) (down : List HFrame) → IsKept w → IsSound w.term → head w.down ≡ Some
+    frame → take_of w.term frame ≡ Ok (t, ms) → up ≡ w.up ++ ms → down ≡ drop 1 w.down → IsKept (record { host = w.host; term = t; up = up; down = down })
 kept_take w t frame ms up down k s first a joined rest =
     let goes : step_of w TermTake ≡ Some (record { host = w.host; term = t; up = w.up ++ ms; down = drop 1 w.down }) =
     ap (λ frames. term_takes w frames) (first_rest w.down frame first) ∙ ap (λ x. after_compose (record w { down = drop 1 w.down }) x) a in

@@ -2,7 +2,7 @@
 use Rattle.std.proofs.Common.{◌≡◌, ◌≢◌, ◌⊎◌, inl, inr, ℕ, ◌+◌, ◌≤◌, Bool, true, false, not, ◌&&◌, ◌||◌, ◌==◌, if◌then◌else◌, nat_lt, List, [], ◌∷◌, ◌++◌, length, Option, Some, None, is_some, Result, Ok, Err, refl, sym, ap, ◌∙◌, subst, true≢false, eqb-true, arith}
 use Rattle.std.proofs.lemmas.List.{map-append, length-append}
 use Rattle.std.proofs.lemmas.Option.{same_Some}
-use Rattle.std.proofs.lemmas.Bool.{le-ltb}
+use Rattle.std.proofs.lemmas.Bool.{le-ltb, and_parts, or_parts}
 use Rattle.std.proofs.lemmas.Bool.Decides.{eqb_tells}
 use Rattle.sam_runes.specs.Texts.{is_empty, most_count}
 use Rattle.sam_runes.specs.Checks.{Checks, first_of_checks}
@@ -48,7 +48,7 @@ use Rattle.sam_world.specs.World.{new_world, is_locked, PlainWorld, agrees_where
 use Rattle.sam_world.specs.Order.{Stamped, mesgs, IsInOrder, StartsInOrder, StepsInOrder, RunsInOrder, HostNeverRefuses, TerminalNeverRefuses, OnlyCountsStop, QuietMeansAgreement, FreeMeansAhead, FreeMeansOneVersion, OthersGoOn, ReachedInOrder, FreeMeansVersionAtPlace, OthersStayFree}
 use Rattle.sam_world.specs.declared.event.Event.{Event}
 use Rattle.sam_world.specs.declared.event.Event.TheVariants.{User, Act, Flush, HostTake, TermTake}
-use Rattle.sam_world.proofs.RunLaws.{run_keeps, counted-start, counted_step, answer-counts}
+use Rattle.sam_world.proofs.RunLaws.{run_keeps, counted-start, counted_step, answer-counts, counted-result, the_result}
 
 -- ## The start
 
@@ -56,13 +56,6 @@ pub starts_in_order : StartsInOrder
 starts_in_order given fit = record { counted = counted-start given; ordered = starts given fit }
 
 -- ## An act
-
-counted-result : {A : Type 0} (n : ℕ) (x r : A) → if_countable n x ≡ Ok r → x ≡ r
-counted-result {A} n x r e = go (nat_lt most_count n) e
-  where
-    go : (b : Bool) → (if b then (let y : Result A TermFault = Err fault.CountFull in y) else Ok x) ≡ Ok r → x ≡ r
-    go true q = absurd (cc)
-    go false q = cc
 
 act_goes : (h : PlainHost) (t : PlainTerminal) (up : List Tmesg) (down : List Hmesg) (r : PlainTerminal × Acted) → InOrder h t up down → act_of t ≡ Ok r → InOrder h r.0 (up ++ composed_by r.1) down
 unfolding act_of
@@ -91,7 +84,8 @@ act_goes h t up down r o e = go t.held e
 
 -- ## A frame
 
-take_goes : (h : PlainHost) (t : PlainTerminal) (up : List Tmesg) (frame : HFrame) (down : List Hmesg) (r : Made) → InOrder h t up (frame.msg ∷ down) → take_of t frame ≡ Ok r → InOrder h r.0 (up ++ r.1) down
+take_goes : (h : PlainHost) (t : PlainTerminal) (up : List Tmesg) (frame : HFrame) (down : List Hmesg) (r : Made)
+    → InOrder h t up (frame.msg ∷ down) → take_of t frame ≡ Ok r → InOrder h r.0 (up ++ r.1) down
 unfolding take_of
 take_goes h t up frame down r o e = go (first_of_checks ((nat_lt t.sent frame.seen, fault.FromTheFuture) ∷ frame_checks t frame.msg)) e
   where
@@ -103,14 +97,12 @@ take_goes h t up frame down r o e = go (first_of_checks ((nat_lt t.sent frame.se
 
 -- ## A message
 
-the_result : (x y : PlainHost × List HFrame) → ◌≡◌ {A = Answer} (Ok x) (Ok y) → x ≡ y
-the_result x y e = cc
-
 full_stops : (h : PlainHost) (m : Tmesg) → (h.taken == most_count) ≡ true → answer h m ≡ Err hostfault.CountFull
 unfolding answer
 full_stops h m q = ap (λ (b : Bool). if b then Err hostfault.CountFull else (if h.is_done then Ok (counted h, []) else answer_unless (first_of_checks (host_checks h m)) (reply_to h m))) q
 
-answer_goes : (h : PlainHost) (t : PlainTerminal) (m : Tmesg) (up : List Tmesg) (down : List HFrame) (r : PlainHost × List HFrame) → InOrder h t (m ∷ up) (mesgs down) → answer h m ≡ Ok r → InOrder r.0 t up (mesgs (down ++ r.1))
+answer_goes : (h : PlainHost) (t : PlainTerminal) (m : Tmesg) (up : List Tmesg) (down : List HFrame) (r : PlainHost × List HFrame)
+    → InOrder h t (m ∷ up) (mesgs down) → answer h m ≡ Ok r → InOrder r.0 t up (mesgs (down ++ r.1))
 answer_goes h t m up down r o e = go (h.taken == most_count) refl
   where
     g : HostGoes h t m up (mesgs down)
@@ -120,7 +112,8 @@ answer_goes h t m up down r o e = go (h.taken == most_count) refl
     go true q = absurd (let x : Err hostfault.CountFull ≡ Ok r = sym (full_stops h m q) ∙ e in cc)
     go false q =
         let same : (g.reply.0, stamped g.reply.0.taken g.reply.1) ≡ r = the_result (g.reply.0, stamped g.reply.0.taken g.reply.1) r (sym (answer_is h m g.reply g.answers_it q) ∙ e) in
-        let list : mesgs down ++ g.reply.1 ≡ mesgs (down ++ stamped g.reply.0.taken g.reply.1) = ap (λ (l : List Hmesg). mesgs down ++ l) (sym (msgs_stamped g.reply.0.taken g.reply.1)) ∙ sym (map-append (λ (f : HFrame). f.msg) down (stamped g.reply.0.taken g.reply.1)) in
+        let list : mesgs down ++ g.reply.1 ≡ mesgs (down ++ stamped g.reply.0.taken g.reply.1) = ap (λ (l : List Hmesg). mesgs down ++ l)
+          (sym (msgs_stamped g.reply.0.taken g.reply.1)) ∙ sym (map-append (λ (f : HFrame). f.msg) down (stamped g.reply.0.taken g.reply.1)) in
         subst (λ (x : PlainHost × List HFrame). InOrder x.0 t up (mesgs (down ++ x.1))) same (subst (λ (l : List Hmesg). InOrder g.reply.0 t up l) list g.next)
 
 -- ## Every step
@@ -146,11 +139,13 @@ ordered_step w next Flush o e = go (flush_of w.term) refl e
     go (Err why) a q = absurd (cc)
     go (Ok r) a q =
         let after : PlainWorld = record w { term = r.0; up = w.up ++ r.1 } in
-        let gone : InOrder w.host r.0 (w.up ++ r.1) (mesgs w.down) = subst (λ (x : Made). InOrder w.host x.0 (w.up ++ x.1) (mesgs w.down)) (flushes w.term r a) (flushed_goes w.host w.term w.up (mesgs w.down) o) in
+        let gone : InOrder w.host r.0 (w.up ++ r.1) (mesgs w.down) =
+          subst (λ (x : Made). InOrder w.host x.0 (w.up ++ x.1) (mesgs w.down)) (flushes w.term r a) (flushed_goes w.host w.term w.up (mesgs w.down) o) in
         subst (λ (v : PlainWorld). InOrder v.host v.term v.up (mesgs v.down)) (same_Some after next q) gone
 ordered_step w next HostTake o e = go w.up o e
   where
-    taken : (m : Tmesg) (ms : List Tmesg) (r : Answer) → answer w.host m ≡ r → InOrder w.host w.term (m ∷ ms) (mesgs w.down) → after_answer (record w { up = ms }) r ≡ Some next → InOrder next.host next.term next.up (mesgs next.down)
+    taken : (m : Tmesg) (ms : List Tmesg) (r : Answer) → answer w.host m ≡ r → InOrder w.host w.term (m ∷ ms) (mesgs w.down)
+      → after_answer (record w { up = ms }) r ≡ Some next → InOrder next.host next.term next.up (mesgs next.down)
     taken m ms (Err why) a i q = absurd (cc)
     taken m ms (Ok r) a i q =
         let after : PlainWorld = record w { up = ms; host = r.0; down = w.down ++ r.1 } in
@@ -161,7 +156,8 @@ ordered_step w next HostTake o e = go w.up o e
     go (m ∷ ms) i q = taken m ms (answer w.host m) refl i q
 ordered_step w next TermTake o e = go w.down o e
   where
-    taken : (frame : HFrame) (frames : List HFrame) (r : Result Made TermFault) → take_of w.term frame ≡ r → InOrder w.host w.term w.up (mesgs (frame ∷ frames)) → after_compose (record w { down = frames }) r ≡ Some next → InOrder next.host next.term next.up (mesgs next.down)
+    taken : (frame : HFrame) (frames : List HFrame) (r : Result Made TermFault) → take_of w.term frame ≡ r → InOrder w.host w.term w.up (mesgs (frame ∷ frames))
+      → after_compose (record w { down = frames }) r ≡ Some next → InOrder next.host next.term next.up (mesgs next.down)
     taken frame frames (Err why) a i q = absurd (cc)
     taken frame frames (Ok r) a i q =
         let after : PlainWorld = record w { down = frames; term = r.0; up = w.up ++ r.1 } in
@@ -205,7 +201,8 @@ only_count {A} n x why e = go (nat_lt most_count n) e
 refused_take : (t : PlainTerminal) (frame : HFrame) (why : TermFault) → frame.seen ≤ t.sent → first_of_checks (frame_checks t frame.msg) ≡ None → take_of t frame ≡ Err why → why ≡ fault.CountFull
 unfolding take_of
 refused_take t frame why seen passes e =
-    let none : first_of_checks ((nat_lt t.sent frame.seen, fault.FromTheFuture) ∷ frame_checks t frame.msg) ≡ None = test (nat_lt t.sent frame.seen) fault.FromTheFuture (frame_checks t frame.msg) (le-ltb t.sent frame.seen seen) passes in
+    let none : first_of_checks ((nat_lt t.sent frame.seen, fault.FromTheFuture) ∷ frame_checks t frame.msg) ≡ None =
+      test (nat_lt t.sent frame.seen) fault.FromTheFuture (frame_checks t frame.msg) (le-ltb t.sent frame.seen seen) passes in
     only_count (made_from t frame.msg).0.sent (made_from t frame.msg) why (ap (λ (v : Option TermFault). made_unless v (made_from t frame.msg)) (sym none) ∙ e)
 
 pub terminal_never_refuses : TerminalNeverRefuses
@@ -241,10 +238,6 @@ shown_agrees : (o : Option Window) (t : List ℕ) → ((w : Window) → o ≡ So
 shown_agrees None t h = tt
 shown_agrees (Some w) t h = (h w refl).1
 
-and_parts : (a b : Bool) → (a && b) ≡ true → (a ≡ true) × (b ≡ true)
-and_parts true b e = (refl, e)
-and_parts false b e = absurd (true≢false (sym e))
-
 not_some : (o : Option Unsent) → not (is_some o) ≡ true → o ≡ None
 not_some None e = refl
 not_some (Some x) e = absurd (true≢false (sym e))
@@ -277,10 +270,6 @@ after_all (m ∷ ms) h r e l =
     below : (((h.taken == most_count) ≡ true) × (h.taken ≡ most_count)) ⊎ (((h.taken == most_count) ≡ false) × (h.taken ≢ most_count)) → (h.taken == most_count) ≡ false
     below (inl x) = absurd (omega (arith, l, x.1))
     below (inr x) = x.0
-
-or_parts : (a b : Bool) → (a || b) ≡ false → (a ≡ false) × (b ≡ false)
-or_parts true b e = absurd (true≢false e)
-or_parts false b e = (refl, e)
 
 pub free_means_ahead : FreeMeansAhead
 free_means_ahead w f i room unlocked =

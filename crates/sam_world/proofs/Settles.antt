@@ -1,16 +1,27 @@
 -- The merged schedule of two logs is a run that ends in the two sides' states.
-use Rattle.std.proofs.Common.{◌≡◌, ℕ, zero, suc, ◌+◌, ◌-◌, ◌<◌, ◌≤◌, max, List, [], ◌∷◌, ◌++◌, length, replicate, Some, None, ◌⊎◌, inl, inr, sym, ap, subst, ◌∙◌, refl, arith, append_assoc, append-nil, length-append}
+use Rattle.std.proofs.Common.{◌≡◌, ℕ, zero, suc, ◌+◌, ◌-◌, ◌<◌, ◌≤◌, max, List, [], ◌∷◌, ◌++◌, length, replicate, Some, ◌⊎◌, inl, inr, sym, ap, subst, ◌∙◌, refl, arith, append_assoc, append-nil, length-append}
+use Rattle.std.specs.Prelude.{⊤}
+use Rattle.std.proofs.lemmas.List.{nil_from_length}
 use Rattle.sam_world.specs.declared.event.TermLog.{TermLog}
 use Rattle.sam_world.specs.declared.event.TermLog.TheVariants as log
 use Rattle.sam_world.specs.declared.event.Event.{Event}
 use Rattle.sam_world.specs.declared.event.Event.TheVariants as event
 use Rattle.sam_term.specs.declared.event.UserEvent.{UserEvent}
 use Rattle.sam_world.specs.World.{merged_from, merged}
-use Rattle.sam_world.specs.Logs.{takes, FitsUnder, logged_users, users}
-use Rattle.sam_world.specs.Sides.{Each, Steps, Counts, HostRuns, TermRuns, World, world, and_then, composed, answered, step, run}
+use Rattle.sam_world.specs.Logs.{takes, logged_users, users}
+use Rattle.sam_world.specs.Sides.{Each, Steps, Counts, HostRuns, TermRuns, World, world, and_then, composed, answered, run}
+
+-- no Take is above n
+abbrev pub EntryFits : TermLog → ℕ → Type 0
+EntryFits (log.Take k) n = k ≤ n
+EntryFits _ n = ⊤
+
+abbrev pub FitsUnder : List TermLog → ℕ → Type 0
+FitsUnder [] n = ⊤
+FitsUnder (e ∷ es) n = EntryFits e n × FitsUnder es n
 
 module _ {X : Type 0} where
-  each_append : (P : X → Type 0) (xs ys : List X) → Each P xs → Each P ys → Each P (xs ++ ys)
+  pub each_append : (P : X → Type 0) (xs ys : List X) → Each P xs → Each P ys → Each P (xs ++ ys)
   each_append P [] ys a b = b
   each_append P (x ∷ xs) ys a b = (a.0, each_append P xs ys a.1 b)
 
@@ -18,13 +29,9 @@ module _ {X : Type 0} where
   each_weaker P Q [] f a = tt
   each_weaker P Q (x ∷ xs) f a = (f x a.0, each_weaker P Q xs f a.1)
 
-  each_front : (P : X → Type 0) (xs ys : List X) → Each P (xs ++ ys) → Each P xs
+  pub each_front : (P : X → Type 0) (xs ys : List X) → Each P (xs ++ ys) → Each P xs
   each_front P [] ys a = tt
   each_front P (x ∷ xs) ys a = (a.0, each_front P xs ys a.1)
-
-  no_members : (xs : List X) → length xs ≡ 0 → xs ≡ []
-  no_members [] e = refl
-  no_members (x ∷ xs) e = absurd (omega arith)
 
   -- the first member of a joined list is that of its front, or the front is empty
   front : (xs ys : List X) (z : X) (zs : List X) → xs ++ ys ≡ z ∷ zs
@@ -51,15 +58,6 @@ users_merged_from done (log.Take k ∷ es) n =
     ∙ (users_takes (k - done) (event.TermTake ∷ merged_from (max done k) es n) ∙ users_merged_from (max done k) es n)
 
 module _ {H T M F : Type 0} (s : Steps H T M F) where
-  -- a run of joined lists is a run of the one and then of the other
-  pub run_append : (w : World H T M F) (es fs : List Event) → run s w (es ++ fs) ≡ and_then (run s w es) (λ v. run s v fs)
-  run_append w [] fs = refl
-  run_append w (e ∷ es) fs =
-      elim (step s w e) as (λ o. and_then o (λ v. run s v (es ++ fs)) ≡ and_then (and_then o (λ v. run s v es)) (λ v. run s v fs)) [
-        | None ↦ refl
-        | Some v ↦ run_append v es fs
-      ]
-
   -- where no stamp is above n, no Take is
   fits_from : (n : ℕ) (es : List TermLog) (t u : T) (fs : List F) (ms : List M)
       → Each (λ f. s.seen f ≤ n) fs → TermRuns s t es fs ms u → FitsUnder es n
@@ -173,7 +171,7 @@ module _ {H T M F : Type 0} (s : Steps H T M F) (laws : Counts s) where
       let lengths = ap (λ (x : List M). length x) whole in
       let enough : length rest ≤ length up = omega (arith, lengths, length-append rest left) in
       let z = advance (length rest) h t up rest down later messages left k enough (omega arith) ups hr in
-      let done : z.2 ≡ [] = no_members z.2 (omega arith) in
+      let done : z.2 ≡ [] = nil_from_length z.2 (omega arith) in
       let end = subst (λ (x : List M). HostRuns s z.0 x z.4 k) done z.6 in
       let all_up : z.1 ≡ left =
       sym (append-nil z.1) ∙ (ap (λ (x : List M). z.1 ++ x) (sym tr.1) ∙ (z.8 ∙ ap (λ (x : List M). x ++ left) done)) in

@@ -126,7 +126,8 @@ term_differs : ◌≡◌ {A = TermFault} term.OutOfMemory term.CountFull → ⊥
 term_differs e = cc
 
 -- what a fault of the terminal says of a step whose call of the terminal gave r
-term_fault : {A : Type 0} (w : PlainWorld) (e : Event) (r : Result A TermFault) (why : TermFault) (s : StepFault) → is_empty_take w e ≡ false → passes_count w e ≡ is_term_full r → (why ≡ term.OutOfMemory) ⊎ (r ≡ Err why) → IsTermStop why s → IsFaultOf w e s
+term_fault : {A : Type 0} (w : PlainWorld) (e : Event) (r : Result A TermFault) (why : TermFault) (s : StepFault)
+    → is_empty_take w e ≡ false → passes_count w e ≡ is_term_full r → (why ≡ term.OutOfMemory) ⊎ (r ≡ Err why) → IsTermStop why s → IsFaultOf w e s
 term_fault w e r why s there counts refused (inl memory) = memory_fault w e s there memory.1
 term_fault w e r why s there counts (inl wants) (inr full) = absurd (term_differs (sym wants ∙ full.0))
 term_fault w e r why s there counts (inr a) (inr full) = count_fault w e s (counts ∙ ap is_term_full (a ∙ ap (λ x. Err x) full.0)) full.1
@@ -137,14 +138,16 @@ act_fault w why s refused stop = term_fault w Act (act_of w.term) why s refl ref
 pub flush_fault : (w : PlainWorld) (why : TermFault) (s : StepFault) → (why ≡ term.OutOfMemory) ⊎ (flush_of w.term ≡ Err why) → IsTermStop why s → IsFaultOf w Flush s
 flush_fault w why s refused stop = term_fault w Flush (flush_of w.term) why s refl refl refused stop
 
-pub take_fault : (w : PlainWorld) (frame : HFrame) (why : TermFault) (s : StepFault) → head w.down ≡ Some frame → (why ≡ term.OutOfMemory) ⊎ (take_of w.term frame ≡ Err why) → IsTermStop why s → IsFaultOf w TermTake s
+pub take_fault : (w : PlainWorld) (frame : HFrame) (why : TermFault) (s : StepFault)
+    → head w.down ≡ Some frame → (why ≡ term.OutOfMemory) ⊎ (take_of w.term frame ≡ Err why) → IsTermStop why s → IsFaultOf w TermTake s
 take_fault w frame why s first refused stop =
     term_fault w TermTake (take_of w.term frame) why s (some_there w.down frame first) (ap (composes_past w.term) (first_rest w.down frame first)) refused stop
 
 host_differs : ◌≡◌ {A = HostFault} host.OutOfMemory host.CountFull → ⊥
 host_differs e = cc
 
-pub host_fault : (w : PlainWorld) (m : Tmesg) (why : HostFault) (s : StepFault) → head w.up ≡ Some m → (why ≡ host.OutOfMemory) ⊎ (answer w.host m ≡ Err why) → IsHostStop why s → IsFaultOf w HostTake s
+pub host_fault : (w : PlainWorld) (m : Tmesg) (why : HostFault) (s : StepFault)
+    → head w.up ≡ Some m → (why ≡ host.OutOfMemory) ⊎ (answer w.host m ≡ Err why) → IsHostStop why s → IsFaultOf w HostTake s
 host_fault w m why s first refused (inl memory) = memory_fault w HostTake s (some_there w.up m first) memory.1
 host_fault w m why s first (inl wants) (inr full) = absurd (host_differs (sym wants ∙ full.0))
 host_fault w m why s first (inr a) (inr full) =

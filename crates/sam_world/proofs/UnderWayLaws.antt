@@ -1,14 +1,10 @@
 -- Batches one behind the other.
-use Rattle.std.proofs.Common.{◌≡◌, refl, sym, ap, ◌∙◌, ℕ, false, ◌==◌, List, [], ◌∷◌, ◌++◌, length, map}
+use Rattle.std.proofs.Common.{◌≡◌, sym, ap, ◌∙◌, ℕ, false, ◌==◌, List, [], ◌∷◌, ◌++◌, length, map, append-nil}
 use Rattle.std.proofs.lemmas.List.{append_assoc}
 use Rattle.sam_world.specs.UnderWay.{joined, AreFilled}
 
 pub joined-behind : {B M : Type 0} (items : B → List M) (batches : List B) (batch : B) → joined (map items (batches ++ batch ∷ [])) ≡ joined (map items batches) ++ items batch
-joined-behind items [] batch = append_nil (items batch)
-  where
-    append_nil : {M : Type 0} (xs : List M) → xs ++ [] ≡ xs
-    append_nil [] = refl
-    append_nil (x ∷ xs) = ap (λ ys. x ∷ ys) (append_nil xs)
+joined-behind items [] batch = append-nil (items batch)
 joined-behind items (b ∷ bs) batch =
     ap (λ xs. items b ++ xs) (joined-behind items bs batch) ∙ sym (append_assoc (items b) (joined (map items bs)) (items batch))
 

@@ -26,7 +26,8 @@ run-last w v u [] e r s =
     subst (λ x. option_and_then (λ next. Some next) (step_of x e) ≡ Some u) (sym (same_Some w v r)) (ap (λ o. option_and_then (λ next. Some next) o) s)
 run-last w v u (x ∷ es) e r s = go (step_of w x) (λ n q. run-last n v u es e q s) r
   where
-    go : (o : Option PlainWorld) → ((n : PlainWorld) → run_of n es ≡ Some v → run_of n (es ++ e ∷ []) ≡ Some u) → option_and_then (λ n. run_of n es) o ≡ Some v → option_and_then (λ n. run_of n (es ++ e ∷ [])) o ≡ Some u
+    go : (o : Option PlainWorld) → ((n : PlainWorld) → run_of n es ≡ Some v → run_of n (es ++ e ∷ []) ≡ Some u)
+      → option_and_then (λ n. run_of n es) o ≡ Some v → option_and_then (λ n. run_of n (es ++ e ∷ [])) o ≡ Some u
     go None more q = absurd (cc)
     go (Some n) more q = more n q
 
@@ -48,7 +49,8 @@ host_fits h g m frames s a = frames-each frames h.version (frames_fit h g m fram
 
 -- ## What each answer keeps of the host, each step keeps
 
-answer_keeps : (P : PlainHost → Type 0) → ((h g : PlainHost) (m : Tmesg) (frames : List HFrame) → answer h m ≡ Ok (g, frames) → P h → P g) → (w next : PlainWorld) (r : Result (PlainHost × List HFrame) HostFault) (m : Tmesg) → answer w.host m ≡ r → P w.host → after_answer w r ≡ Some next → P next.host
+answer_keeps : (P : PlainHost → Type 0) → ((h g : PlainHost) (m : Tmesg) (frames : List HFrame) → answer h m ≡ Ok (g, frames) → P h → P g) → (w next :
+    PlainWorld) (r : Result (PlainHost × List HFrame) HostFault) (m : Tmesg) → answer w.host m ≡ r → P w.host → after_answer w r ≡ Some next → P next.host
 answer_keeps P keeps w next (Err why) m a s e = absurd (cc)
 answer_keeps P keeps w next (Ok r) m a s e =
     subst (λ x. P x.host) (same_Some (record w { host = r.0; down = w.down ++ r.1 }) next e) (keeps w.host r.0 m r.1 a s)
@@ -57,7 +59,8 @@ compose_keeps : (P : PlainHost → Type 0) (w next : PlainWorld) (r : Result Mad
 compose_keeps P w next (Err why) s e = absurd (cc)
 compose_keeps P w next (Ok r) s e = subst (λ x. P x.host) (same_Some (record w { term = r.0; up = w.up ++ r.1 }) next e) s
 
-pub host_step : (P : PlainHost → Type 0) → ((h g : PlainHost) (m : Tmesg) (frames : List HFrame) → answer h m ≡ Ok (g, frames) → P h → P g) → (w : PlainWorld) (e : Event) (next : PlainWorld) → P w.host → step_of w e ≡ Some next → P next.host
+pub host_step : (P : PlainHost → Type 0) → ((h g : PlainHost) (m : Tmesg) (frames : List HFrame) → answer h m ≡ Ok (g, frames) → P h → P g)
+    → (w : PlainWorld) (e : Event) (next : PlainWorld) → P w.host → step_of w e ≡ Some next → P next.host
 host_step P keeps w (User x) next s e =
     subst (λ v. P v.host) (same_Some (record w { term = record w.term { held = w.term.held ++ x ∷ [] } }) next e) s
 host_step P keeps w Act next s e = go (act_of w.term) e

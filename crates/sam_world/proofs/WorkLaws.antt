@@ -2,6 +2,7 @@
 use Rattle.std.proofs.Common.{◌≡◌, ◌≢◌, ◌⊎◌, inl, inr, refl, sym, ap, ◌∙◌, subst, ◌+◌, ℕ, zero, suc, Bool, true, false, ◌&&◌, ◌||◌, not, ◌==◌, nat_eq, if◌then◌else◌, List, [], ◌∷◌, length, Option, Some, None, Ok, Err}
 use Rattle.std.specs.Prelude.{MatchOption, nat_le, nat_lt, unwrap_or, option_map}
 use Rattle.std.proofs.lemmas.Bool.Decides.{eqb_tells}
+use Rattle.std.proofs.lemmas.Bool.{not-false}
 use Rattle.sam_runes.specs.Texts.{Range, all_tags, as_lines, ends_line, is_empty, last_line, max_runes, most_count, most_in_pattern, part, searched}
 use Rattle.sam_runes.specs.Slots.{Slots, slot, free_slot}
 use Rattle.sam_runes.specs.Checks.{first_of_checks}
@@ -19,7 +20,7 @@ use Rattle.sam_mesg.specs.declared.hmesg.HFrame.{HFrame}
 use Rattle.sam_world.specs.World.{PlainWorld, new_world}
 use Rattle.sam_world.specs.Reached.{WasReached}
 use Rattle.sam_world.specs.Telling.{IsWorkOpen, StartsWithWorkOpen, AddedFilesKeepWorkOpen, AnswersKeepWorkOpen}
-use Rattle.sam_world.proofs.RunLaws.{run_keeps}
+use Rattle.sam_world.proofs.RunLaws.{run_keeps, the_result}
 use Rattle.sam_world.proofs.TextLaws.{file_at-put, not-new, work-put, work-print}
 use Rattle.sam_world.proofs.Within.{host_step}
 
@@ -97,11 +98,7 @@ work-workfile h f p q checked =
     let known = none_holds (unknown h f) (is_command f ∷ not_opened h f ∷ no_range h f p q ∷ []) checked in
     let text = none_holds (is_command f) (not_opened h f ∷ no_range h f p q ∷ []) known.1 in
     let shut = none_holds (not_opened h f) (no_range h f p q ∷ []) text.1 in
-    open-there h.files f (record (file_at h.files f) { dot = (p, q) }) (go (file_at h.files f).opened shut.0)
-  where
-    go : (b : Bool) → not b ≡ false → b ≡ true
-    go true e = refl
-    go false e = sym e
+    open-there h.files f (record (file_at h.files f) { dot = (p, q) }) (not-false (file_at h.files f).opened shut.0)
 
 work-type : (h : PlainHost) (f p : ℕ) (s : List ℕ) → IsWorkOpen h.files → IsWorkOpen (reply_type h f p s).0.files
 unfolding reply_type
@@ -190,9 +187,6 @@ added_files_keep_work_open h given w =
     (λ k o. ap (λ file. file.opened) (file_at-put fs (length fs.slots) x k)
     ∙ subst (λ b. (if b then x else file_at fs k).opened ≡ true) (sym (not-new fs k o)) o) w
 
-the_result : (x y : PlainHost × List HFrame) → ◌≡◌ {A = Answer} (Ok x) (Ok y) → x ≡ y
-the_result x y e = cc
-
 pub answers_keep_work_open : AnswersKeepWorkOpen
 unfolding answer
 answers_keep_work_open h g m frames e w = go (h.taken == most_count) h.is_done (first_of_checks (host_checks h m)) refl e
@@ -200,7 +194,8 @@ answers_keep_work_open h g m frames e w = go (h.taken == most_count) h.is_done (
     to : (x : PlainHost × List HFrame) → IsWorkOpen x.0.files → ◌≡◌ {A = Answer} (Ok x) (Ok (g, frames)) → IsWorkOpen g.files
     to x o same = subst (λ (y : PlainHost × List HFrame). IsWorkOpen y.0.files) (the_result x (g, frames) same) o
 
-    go : (full finished : Bool) (o : Option HostFault) → first_of_checks (host_checks h m) ≡ o → (if full then Err CountFull else if finished then Ok (counted h, []) else answer_unless o (reply_to h m)) ≡ Ok (g, frames) → IsWorkOpen g.files
+    go : (full finished : Bool) (o : Option HostFault) → first_of_checks (host_checks h m) ≡ o
+      → (if full then Err CountFull else if finished then Ok (counted h, []) else answer_unless o (reply_to h m)) ≡ Ok (g, frames) → IsWorkOpen g.files
     go true finished o is q = absurd (cc)
     go false true o is q = to (counted h, []) w q
     go false false None is q = to (counted (reply_to h m).0, stamped ((reply_to h m).0.taken + 1) (reply_to h m).1) (reply_work h m is w) q

@@ -1,5 +1,5 @@
 -- What a terminal's log says.
-use Rattle.std.specs.Prelude.{ℕ, ◌≤◌, List, [], ◌∷◌, ⊤, replicate}
+use Rattle.std.specs.Prelude.{ℕ, List, [], ◌∷◌, replicate}
 use Rattle.sam_term.specs.declared.event.UserEvent.{UserEvent}
 use Rattle.sam_world.specs.declared.event.TermLog.{TermLog}
 use Rattle.sam_world.specs.declared.event.TermLog.TheVariants as log
@@ -9,15 +9,6 @@ use Rattle.sam_world.specs.declared.event.Event.TheVariants as event
 -- so many takes of the host
 abbrev pub takes : ℕ → List Event
 takes n = replicate n event.HostTake
-
--- no Take is above n
-abbrev pub EntryFits : TermLog → ℕ → Type 0
-EntryFits (log.Take k) n = k ≤ n
-EntryFits _ n = ⊤
-
-abbrev pub FitsUnder : List TermLog → ℕ → Type 0
-FitsUnder [] n = ⊤
-FitsUnder (e ∷ es) n = EntryFits e n × FitsUnder es n
 
 -- the user events of a log, and of a schedule, in order
 abbrev pub logged_users : List TermLog → List UserEvent

@@ -68,7 +68,8 @@ HostNeverRefuses =
 -- the terminal refuses no frame of the host, unless its count would be passed
 abbrev pub TerminalNeverRefuses : Type 0
 TerminalNeverRefuses =
-    (w : PlainWorld) (frame : HFrame) (frames : List HFrame) (why : TermFault) → IsInOrder w → w.down ≡ frame ∷ frames → take_of w.term frame ≡ Err why
+    (w : PlainWorld) (frame : HFrame) (frames : List HFrame) (why : TermFault) → IsInOrder w → w.down ≡ frame ∷ frames
+    → take_of w.term frame ≡ Err why
     → why ≡ fault.CountFull
 
 -- nor does an event or a flush stop it otherwise
@@ -87,14 +88,19 @@ FreeMeansOneVersion = (w : PlainWorld) → IsInOrder w → HasOneVersion w
 
 -- where the terminal may act, its version is the one behind all messages that are under way, so what it composes next fits there
 abbrev pub FreeMeansVersionAtPlace : Type 0
-FreeMeansVersionAtPlace = (w : PlainWorld) → IsInOrder w → w.term.command_lock ≡ false → w.term.has_exited ≡ false → w.term.version ≡ version_behind w.host.version w.up
+FreeMeansVersionAtPlace =
+    (w : PlainWorld) → IsInOrder w → w.term.command_lock ≡ false → w.term.has_exited ≡ false
+    → w.term.version ≡ version_behind w.host.version w.up
 
 -- a message that locks its file locks no other
 abbrev pub OthersStayFree : Type 0
-OthersStayFree = (t : PlainTerminal) (m : Tmesg) (f g : ℕ) → lock_of m ≡ FileLock f → (f == g) ≡ false → is_locked (composed t m) g ≡ is_locked t g
+OthersStayFree =
+    (t : PlainTerminal) (m : Tmesg) (f g : ℕ) → lock_of m ≡ FileLock f → (f == g) ≡ false
+    → is_locked (composed t m) g ≡ is_locked t g
 
 -- an event that names a file without a lock, and waits for no other lock, is not held back while the command lock is free
 abbrev pub OthersGoOn : Type 0
 OthersGoOn =
-    (t u : PlainTerminal) (e : UserEvent) (es : List UserEvent) → t.held ≡ e ∷ es → t.command_lock ≡ false → is_file_locked t (file_of e) ≡ false → waits_for_all e ≡ false → act_of t ≡ Ok (u, Locked)
+    (t u : PlainTerminal) (e : UserEvent) (es : List UserEvent) → t.held ≡ e ∷ es
+    → t.command_lock ≡ false → is_file_locked t (file_of e) ≡ false → waits_for_all e ≡ false → act_of t ≡ Ok (u, Locked)
     → ⊥

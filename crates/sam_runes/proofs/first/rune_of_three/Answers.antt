@@ -9,7 +9,8 @@ pub returns-in_err-tail : goal.returns-in_err-tail
 returns-in_err-tail c = none_left c.from_residual.result _ _ c.from_residual.ensures (none_begins c.args.bytes.now (λ r is b. omega (arith, c.in_err-tail.ensures, b.second (omega arith))))
 
 pub returns-in_err-code : goal.returns-in_err-code
-returns-in_err-code c = none_left c.from_residual-in_err-code.result _ _ c.from_residual-in_err-code.ensures (none_begins c.args.bytes.now (λ r is b. omega (arith, c.in_err-code.ensures, b.third (omega arith))))
+returns-in_err-code c = none_left c.from_residual-in_err-code.result
+    _ _ c.from_residual-in_err-code.ensures (none_begins c.args.bytes.now (λ r is b. omega (arith, c.in_err-code.ensures, b.third (omega arith))))
 
 pub returns-then-code-lt2048 : goal.returns-then-code-lt2048
 returns-then-code-lt2048 c = none_begins c.args.bytes.now (λ r is b. omega (arith, c.in_ok-tail.ensures, c.in_ok-code.ensures, b.of_three (omega arith) (omega arith)))

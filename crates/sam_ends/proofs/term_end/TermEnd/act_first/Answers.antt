@@ -1,11 +1,10 @@
-use Rattle.std.proofs.Common.{◌≡◌, ◌∙◌, sym, ap, subst, ◌++◌, ◌∷◌, ◌-◌, [], Ok, arith}
+use Rattle.std.proofs.Common.{◌≡◌, ◌∙◌, sym, ap, subst, ◌++◌, ◌∷◌, ◌-◌, [], Ok, arith, append-nil}
 use Rattle.sam_ends.specs.Streams.{FitMessages}
 use Rattle.sam_term.specs.Fitting.{AllFit, composed_in}
 use Rattle.sam_term.specs.Term.{act_of}
 use Rattle.sam_term.specs.declared.event.Acted.TheVariants.{Idle, Locked, Done, Refused}
 use Rattle.sam_ends.specs.TermEnds.{PlainTermEnd, IsQuiet, oldest, shown}
 use Rattle.sam_ends.specs.TermSteps.{ActsFirst}
-use Rattle.sam_ends.proofs.TermEndMoves.{nil_right}
 use Rattle.sam_ends.proofs.TermEndSteps.{idle_counted, locked_counted, settled_counted, acted_stamped, idle_quiet, locked_quiet, acted_first, refused_number}
 use Rattle.sam_ends.proofs.term_end.TermEnd.act_first.Goals as goal
 
@@ -89,7 +88,7 @@ returns-in-Ok-Done c =
     subst (λ (x : PlainTermEnd). ActsFirst x g) c.self.view_is
     (acted_first e g u (Done c.in-Ok-Done.composed) c.self.invariant act tt
     (ap (λ ms. record e { term = u; unwritten = ms; refusals = c.reserve.new.self.items }) c.into_vec.ensures
-    ∙ ap (λ rs. record e { term = u; unwritten = c.in-Ok-Done.composed; refusals = rs }) (c.reserve.ensures.items ∙ sym (nil_right c.self.inside.refusals.items))))
+    ∙ ap (λ rs. record e { term = u; unwritten = c.in-Ok-Done.composed; refusals = rs }) (c.reserve.ensures.items ∙ sym (append-nil c.self.inside.refusals.items))))
 
 pub returns-in-Ok-Refused : goal.returns-in-Ok-Refused
 returns-in-Ok-Refused c =
