@@ -78,7 +78,7 @@ PLACES = {
     "sam_rasp": (520, 8, "texts with gaps"),
     "sam_runes": (350, 9, "texts as lists of runes"),
 }
-LEFT_OUT = {"sam_tests", "sam_base_tests", "sam_queue_tests", "sam_term_tests", "sam_session_tests", "sam_memory", "sam_bench", "sam_examples"}
+LEFT_OUT = {"sam_tests", "sam_base_tests", "sam_term_tests", "sam_session_tests", "sam_memory", "sam_bench", "sam_examples"}
 
 
 def crates():
