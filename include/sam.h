@@ -235,6 +235,11 @@ uint32_t sam_term_name(sam_term *term, uint16_t tag, uint8_t *into, size_t room,
 /* Whether a known file is dirty, as the host told last. SAM_NONE where the tag is not known. */
 uint32_t sam_term_is_dirty(sam_term *term, uint16_t tag, bool *dirty);
 
+/* Whether a file may differ from what was written last: the host told that it is dirty, or the user typed into it or cut from it here
+ * since. An event that is held has changed nothing yet. The command file, which is never written, stays changed. False where the tag is
+ * not known. */
+uint32_t sam_term_is_changed(sam_term *term, uint16_t tag, bool *changed);
+
 /* Whether a file is open. */
 uint32_t sam_term_is_open(sam_term *term, uint16_t tag, bool *open);
 

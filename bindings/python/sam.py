@@ -204,7 +204,8 @@ _SIGNATURES = {
     "term_setsnarf": _BYTES, "term_version": (c_uint16,), "term_flush": (), "term_exit": (), "term_feed": _BYTES, "term_idle": (),
     "term_out_len": (_SIZE,), "term_out": (*_BUFFER, _SIZE), "term_next_refusal": (_U64, _U32), "term_events": (_U64,),
     "term_tags": (_SIZE,), "term_is_known": (c_uint16, _BOOL), "term_name": (c_uint16, *_BUFFER, _SIZE),
-    "term_is_dirty": (c_uint16, _BOOL), "term_is_open": (c_uint16, _BOOL), "term_current": (_TAG,), "term_len": (c_uint16, _U32),
+    "term_is_dirty": (c_uint16, _BOOL), "term_is_changed": (c_uint16, _BOOL), "term_is_open": (c_uint16, _BOOL),
+    "term_current": (_TAG,), "term_len": (c_uint16, _U32),
     "term_read": (c_uint16, c_uint32, *_RUNES, _SIZE), "term_first_gap": (c_uint16, c_uint32, _U32),
     "term_dot": (c_uint16, _U32, _U32), "term_view_of": (c_uint16, _U32, _U32), "term_is_locked": (c_uint16, _BOOL),
     "term_is_command_locked": (_BOOL,), "term_held": (_SIZE,), "term_unsent": (_U32,), "term_sent": (_U64,),
@@ -578,6 +579,13 @@ class Terminal(_Side):
     def is_dirty(self, tag: int) -> bool:
         """Whether a known file is dirty, as the host told last. Raises Missing."""
         return self._read("is_dirty", c_bool, tag)
+
+    def is_changed(self, tag: int) -> bool:
+        """Whether a file may differ from what was written last: the host told that it is dirty, or the user changed it here since.
+
+        An event that is held has changed nothing yet. False for a file that is not known.
+        """
+        return self._read("is_changed", c_bool, tag)
 
     def is_open(self, tag: int) -> bool:
         """Whether a file is open."""

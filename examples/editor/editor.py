@@ -18,6 +18,8 @@ LEAST_ROWS = 4  # rows of the least window, with its title
 BY_PLACE = {
     "left", "right", "up", "down", "home", "end", "first", "last", "erase_left", "erase_right", "select_all", "word",
 }  # fmt: skip
+# Actions that ask first where a file was not written. What is held or not answered yet may still change one, so these wait for it.
+ASKING = {"close", "leave"}
 # Actions that change no file: these go on without a host.
 READING = {"help", "switch", "next_window", "menu", "split", "unsplit", "page_up", "page_down", "leave"}
 
@@ -33,38 +35,11 @@ WHY = {
 }
 
 
-class Marks:
-    """Which files were changed here since they were written. The host tells of its own changes alone."""
-
-    def __init__(self, terminal: Terminal):
-        self.terminal = terminal
-        self.changed: Dict[int, int] = {}  # the last event that changed a file, by tag
-        self.writing: Dict[int, int] = {}  # the event that writes a file and is not answered yet, by tag
-
-    def change(self, tag: int) -> None:
-        self.changed[tag] = self.terminal.events
-
-    def write(self, tag: int) -> None:
-        self.writing[tag] = self.terminal.events
-
-    def settle(self) -> None:
-        """Takes off the marks of files whose writing was answered."""
-        for tag, event in list(self.writing.items()):
-            if self.terminal.held == 0 and not self.terminal.is_locked(tag):
-                del self.writing[tag]
-                if self.changed.get(tag, 0) < event:
-                    self.changed.pop(tag, None)
-
-    def is_dirty(self, tag: int) -> bool:
-        return tag != COMMAND and self.terminal.is_known(tag) and (tag in self.changed or self.terminal.is_dirty(tag))
-
-
 class Editor:
     """The terminal with its windows. Keys come in by `take`, bytes of the host by `feed`."""
 
     def __init__(self, terminal: Terminal):
         self.terminal = terminal
-        self.marks = Marks(terminal)
         self.way = Way(terminal)
         self.feeds = 0  # pieces that came from the host
         self.all_windows: Dict[int, Window] = {}
@@ -90,6 +65,10 @@ class Editor:
     @property
     def windows(self) -> List[Window]:
         return [self.command, *self.files]
+
+    def is_changed(self, tag: int) -> bool:
+        """Whether a file was not written since it was changed. The command file is never written."""
+        return tag != COMMAND and self.terminal.is_changed(tag)
 
     def name(self, tag: int) -> str:
         return self.terminal.name(tag) or f"(file {tag}, no name)" if self.terminal.is_known(tag) else "(closed)"
@@ -146,8 +125,12 @@ class Editor:
 
     def pause(self) -> None:
         """The user pauses: sends what was typed, and asks the host by the command file, unless a lock says that an answer is due."""
-        is_answer_due = self.terminal.held > 0 or any(self.terminal.is_locked(tag) for tag in self.all_windows)
-        self.way.send(COMMAND if self.command.is_open and not is_answer_due else None)
+        self.way.send(COMMAND if self.command.is_open and not self._is_answer_due else None)
+
+    @property
+    def _is_answer_due(self) -> bool:
+        """Whether a lock is held, so that the host will answer, or an event waits for one."""
+        return self.terminal.held > 0 or any(self.terminal.is_locked(tag) for tag in self.all_windows)
 
     def lose(self, why: str) -> None:
         """The host is gone: what is loaded can still be read."""
@@ -182,7 +165,6 @@ class Editor:
                 self._tell_refusal(refusal)
             for window in self.windows:
                 window.update()
-            self.marks.settle()
         if self.terminal.has_exited:
             self.is_over = True
 
@@ -198,12 +180,12 @@ class Editor:
         elif self.is_lost:
             if isinstance(key, Key) and ACTIONS.get(key.name) in READING:
                 self._act(key)
-        elif key == Key("^Q") and (self.deferred or self.is_leaving) and self.asked == "leave":
+        elif key == Key("^Q") and (self.is_leaving or key in self.deferred):
             self.is_over = True
         elif self.deferred or self._must_wait(key):
             self.deferred.append(key)
             if key == Key("^Q"):
-                self.asked, self.message = "leave", "keys wait for the host; ^Q again leaves without them"
+                self.message = "keys wait for the host; ^Q again leaves without them"
         else:
             self._act(key)
 
@@ -217,6 +199,8 @@ class Editor:
             self.menu = None
 
     def _must_wait(self, key: Input) -> bool:
+        if isinstance(key, Key) and ACTIONS.get(key.name) in ASKING:
+            return self._is_answer_due
         if self.focus.is_settled or not self.focus.is_open:
             return False
         if isinstance(key, Text):
@@ -262,7 +246,6 @@ class Editor:
                 self.deferred.appendleft(Text(rest))
         for at in range(0, len(runes), MOST_IN_EVENT):
             self.terminal.type(window.tag, runes[at : at + MOST_IN_EVENT])
-            self.marks.change(window.tag)
         if window is self.command and newline:
             self._run_line()
         else:
@@ -291,7 +274,7 @@ class Editor:
         return "".join(rune or "" for rune in line).strip(" \t") == "q"
 
     def _unwritten(self) -> str:
-        return ", ".join(self.name(tag) for tag in self.terminal.files() if self.marks.is_dirty(tag))
+        return ", ".join(self.name(tag) for tag in self.terminal.files() if self.is_changed(tag))
 
     # ---- The mouse
 
@@ -347,7 +330,7 @@ class Editor:
 
     def do_menu(self) -> None:
         tags = [tag for tag in self.terminal.files() if tag != COMMAND]
-        entries = [("* " if self.marks.is_dirty(tag) else "  ") + self.name(tag) for tag in tags]
+        entries = [("* " if self.is_changed(tag) else "  ") + self.name(tag) for tag in tags]
         if tags:
             chosen = tags.index(self.active.tag) if self.active.tag in tags else 0
             self.menu = Menu("Files", entries, chosen, lambda at: self.show(tags[at]))
@@ -375,38 +358,37 @@ class Editor:
     def do_write(self) -> None:
         if self.active is not self.command:
             self.terminal.write(self.active.tag)
-            self.marks.write(self.active.tag)
 
     def do_close(self, is_sure: bool) -> None:
         tag = self.focus.tag
         if tag == COMMAND:
             self.message = "the command window stays"
-        elif self.marks.is_dirty(tag) and not is_sure:
+        elif self.is_changed(tag) and not is_sure:
             self.asked, self.message = "close", f"{self.name(tag)} was not written; ^K again closes it"
         else:
             self.terminal.close_file(tag)
 
     def do_leave(self, is_sure: bool) -> None:
-        if self.is_lost or self.is_leaving:
+        if self.is_lost:
             self.is_over = True
         elif self._unwritten() and not is_sure:
             self.asked, self.message = "leave", f"not written: {self._unwritten()}. ^Q again leaves without them"
         else:
             self.terminal.exit()
-            self.is_leaving, self.asked, self.message = True, "leave", "leaving; ^Q again doesn't wait for the host"
+            self.is_leaving, self.message = True, "leaving; ^Q again doesn't wait for the host"
 
     # ---- Actions: the selection
 
     def do_cut(self) -> None:
         self.terminal.cut(self.focus.tag)
-        self._changed()
+        self.focus.anchor = None
 
     def do_snarf(self) -> None:
         self.terminal.snarf(self.focus.tag)
 
     def do_paste(self) -> None:
         self.terminal.paste(self.focus.tag)
-        self._changed()
+        self.focus.anchor = None
 
     def do_look(self) -> None:
         self.terminal.look(self.focus.tag)
@@ -428,10 +410,6 @@ class Editor:
         self.focus.anchor = None
         self.terminal.select(self.focus.tag, 0, self.focus.length)
 
-    def _changed(self) -> None:
-        self.focus.anchor = None
-        self.marks.change(self.focus.tag)
-
     def _erase(self, step: int) -> None:
         window, (start, end) = self.focus, self.focus.dot
         if start == end:
@@ -440,7 +418,7 @@ class Editor:
                 return
             self.terminal.select(window.tag, *sorted((start, place)))
         self.terminal.type(window.tag, "")
-        self._changed()
+        window.anchor = None
 
     def do_erase_left(self, _extends: bool) -> None:
         self._erase(-1)

@@ -88,7 +88,7 @@ class Screen:
 def window_rows(editor: Editor, window: Window) -> Dict[int, List[Run]]:
     """The title of a window and its rows, by the row of the screen."""
     is_focus = window is editor.focus
-    mark = "*" if editor.marks.is_dirty(window.tag) else " "
+    mark = "*" if editor.is_changed(window.tag) else " "
     title = f"{'>' if is_focus else ' '}{mark} {editor.name(window.tag)}"
     attributes = curses.A_REVERSE | (curses.A_BOLD if is_focus else curses.A_NORMAL)
     frame: Dict[int, List[Run]] = {window.y: [(fitted(title, window.width), attributes)]}
@@ -133,10 +133,10 @@ def menu_rows(menu, rows: int, columns: int) -> Dict[int, List[Run]]:
 
 
 def status(editor: Editor, link: Link) -> str:
-    """Name, dirty mark, dot, locks, held events, runes not sent, messages on the way, and the bytes of the link."""
+    """Name, mark of a change, dot, locks, held events, runes not sent, messages on the way, and the bytes of the link."""
     terminal, window = editor.terminal, editor.active
     name = editor.name(window.tag)
-    parts = [("…" + name[-MOST_IN_STATUS:] if len(name) > MOST_IN_STATUS else name) + (" *" if editor.marks.is_dirty(window.tag) else "")]
+    parts = [("…" + name[-MOST_IN_STATUS:] if len(name) > MOST_IN_STATUS else name) + (" *" if editor.is_changed(window.tag) else "")]
     if window.is_open:
         start, end = window.dot
         parts.append(f"{start},{end} of {window.length}")

@@ -91,6 +91,7 @@ static void no_handles(sam_host *host, sam_term *term)
 	WANT(sam_term_is_known(term, 0, &is), SAM_NO_HANDLE);
 	WANT(sam_term_name(term, 0, buffer, sizeof buffer, &len), SAM_NO_HANDLE);
 	WANT(sam_term_is_dirty(term, 0, &is), SAM_NO_HANDLE);
+	WANT(sam_term_is_changed(term, 0, &is), SAM_NO_HANDLE);
 	WANT(sam_term_is_open(term, 0, &is), SAM_NO_HANDLE);
 	WANT(sam_term_current(term, &tag), SAM_NO_HANDLE);
 	WANT(sam_term_len(term, 0, &a), SAM_NO_HANDLE);
@@ -333,7 +334,15 @@ static void session(void)
 	carry(&term, &host);
 	WANT(sam_term_dot(&term, 1, &a, &b), SAM_OK);
 	WANT(a == 8 && b == 11, 1); /* the second 'one' */
+	WANT(sam_term_is_changed(&term, 1, &is), SAM_OK);
+	WANT(is, 0);
 	WANT(sam_term_cut(&term, 1), SAM_OK);
+	WANT(sam_term_is_changed(&term, 1, &is), SAM_OK);
+	WANT(is, 1);
+	WANT(sam_term_is_dirty(&term, 1, &is), SAM_OK);
+	WANT(is, 0); /* the host tells nothing of what is cut here */
+	WANT(sam_term_is_changed(&term, 9, &is), SAM_OK);
+	WANT(is, 0); /* there is no such file */
 	carry(&term, &host);
 	same_text(&host, 1, "one two \n");
 	WANT(sam_term_snarf_len(&term, &a), SAM_OK);
@@ -363,8 +372,14 @@ static void session(void)
 	WANT(is, 1);
 	WANT(sam_host_saved_len(&host, 1, &len), SAM_NONE);
 	WANT(sam_host_next_written(&host, &tag), SAM_NONE);
+	WANT(sam_term_is_changed(&term, 1, &is), SAM_OK);
+	WANT(is, 1);
 	WANT(sam_term_write(&term, 1), SAM_OK);
+	WANT(sam_term_is_changed(&term, 1, &is), SAM_OK);
+	WANT(is, 1); /* it is not written yet */
 	carry(&term, &host);
+	WANT(sam_term_is_changed(&term, 1, &is), SAM_OK);
+	WANT(is, 0);
 	WANT(sam_host_next_written(&host, &tag), SAM_OK);
 	WANT(tag, 1);
 	WANT(sam_host_next_written(&host, &tag), SAM_NONE);
@@ -394,6 +409,8 @@ static void session(void)
 	same_text(&host, 1, "\xC3\xA9" "0ne tw0 \n");
 	WANT(sam_term_is_dirty(&term, 1, &is), SAM_OK);
 	WANT(is, 1); /* the host told it: the file was clean before the command */
+	WANT(sam_term_is_changed(&term, 1, &is), SAM_OK);
+	WANT(is, 1);
 	WANT(sam_term_pattern(&term, bytes, sizeof bytes, &len), SAM_OK);
 	WANT(len == 1 && bytes[0] == 'o', 1);
 	WANT(sam_term_search(&term, 1), SAM_OK);

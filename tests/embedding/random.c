@@ -180,6 +180,16 @@ static unsigned long agree(uint16_t tag, uint32_t len)
 	return loaded;
 }
 
+/* A file is changed as the terminal has it if and only if it is dirty as the host has it. The command file is never dirty. */
+static void compare_marks(uint16_t tag)
+{
+	bool changed = false, dirty = true;
+	if (tag == 0) return;
+	want("a mark of the terminal", sam_term_is_changed(&term, tag, &changed));
+	want("a mark of the host", sam_host_is_dirty(&host, tag, &dirty));
+	if (changed != dirty) fail("a file is changed on one side alone", tag);
+}
+
 static void compare(void)
 {
 	unsigned long loaded = 0, open = 0, all = 0;
@@ -194,6 +204,7 @@ static void compare(void)
 		if (sam_term_len(&term, tag, &mine) != SAM_OK) continue;
 		want("the host has an open file", sam_host_len(&host, tag, &theirs));
 		if (mine != theirs) fail("the lengths of a file differ", tag);
+		compare_marks(tag);
 		loaded += agree(tag, mine);
 		all += mine;
 		open++;

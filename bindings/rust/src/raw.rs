@@ -67,6 +67,7 @@ unsafe extern "C" {
     pub fn sam_term_is_known(term: *mut Handle, tag: u16, known: *mut bool) -> u32;
     pub fn sam_term_name(term: *mut Handle, tag: u16, into: *mut u8, room: usize, len: *mut usize) -> u32;
     pub fn sam_term_is_dirty(term: *mut Handle, tag: u16, dirty: *mut bool) -> u32;
+    pub fn sam_term_is_changed(term: *mut Handle, tag: u16, changed: *mut bool) -> u32;
     pub fn sam_term_is_open(term: *mut Handle, tag: u16, open: *mut bool) -> u32;
     pub fn sam_term_current(term: *mut Handle, tag: *mut u16) -> u32;
     pub fn sam_term_len(term: *mut Handle, tag: u16, runes: *mut u32) -> u32;

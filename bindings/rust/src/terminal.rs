@@ -209,6 +209,12 @@ impl Terminal {
         tells(|value| unsafe { raw::sam_term_is_open(self.at(), tag, value) })
     }
 
+    /// Whether a file may differ from what was written last: the host told that it is dirty, or the user changed it here since. An event
+    /// that is held has changed nothing yet. False where the tag is not known.
+    pub fn is_changed(&self, tag: u16) -> bool {
+        tells(|value| unsafe { raw::sam_term_is_changed(self.at(), tag, value) })
+    }
+
     /// Whether the command lock or a lock of this file is held: an edit of the file would wait.
     pub fn is_locked(&self, tag: u16) -> bool {
         tells(|value| unsafe { raw::sam_term_is_locked(self.at(), tag, value) })
@@ -257,7 +263,7 @@ impl Terminal {
         tells(|value| unsafe { raw::sam_term_version_of(self.at(), value) })
     }
 
-    /// Whether a known file is dirty; `None` where the tag is not known.
+    /// Whether a known file is dirty, as the host told last; `None` where the tag is not known.
     pub fn is_dirty(&self, tag: u16) -> Option<bool> {
         told(|value| unsafe { raw::sam_term_is_dirty(self.at(), tag, value) })
     }

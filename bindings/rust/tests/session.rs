@@ -82,6 +82,21 @@ fn a_written_file_is_told_once() -> Result<(), Error> {
 }
 
 #[test]
+fn a_typed_file_is_changed_until_it_is_written() -> Result<(), Error> {
+    let (mut host, mut term, file) = opened("one\n")?;
+    assert!(!term.is_changed(file));
+    term.type_text(file, "é")?;
+    assert!(term.is_changed(file));
+    assert_eq!(term.is_dirty(file), Some(false)); // the host tells nothing of typing
+    term.write(file)?;
+    assert!(term.is_changed(file)); // it is not written yet
+    carry(&mut term, &mut host)?;
+    assert!(!term.is_changed(file));
+    assert!(!term.is_changed(99));
+    Ok(())
+}
+
+#[test]
 fn refusals_and_faults_have_names() -> Result<(), Error> {
     let (mut host, mut term, _) = opened("one\n")?;
     term.cut(9)?;

@@ -7,6 +7,7 @@ ghost use Rattle.sam_c.specs.Terms.{dot_of, gap_from, is_held_back, known_of, op
 ghost use Rattle.sam_ends.specs.TermEnds.{under_way};
 ghost use Rattle.sam_rasp.specs.Rasp.{hole_within};
 ghost use Rattle.sam_term.specs.Sound.{unsent_length};
+ghost use Rattle.sam_term.specs.Term.{is_changed};
 
 use crate::handle::SamTerm;
 use crate::status::{NO_HANDLE, NONE, OK};
@@ -259,6 +260,26 @@ pub extern "C" fn sam_term_is_dirty(
     };
     term.put(end);
     status
+}
+
+/// Hands out whether a file may differ from what was written last: the host told that it is dirty, or the user typed into it or cut from it
+/// here since. False if the tag is not known.
+#[unsafe(no_mangle)]
+pub extern "C" fn sam_term_is_changed(
+    term: &mut SamTerm,
+    tag: u16,
+    changed: &mut bool,
+    alloc: Global,
+) -> u32
+    ensures told { Tells term.old.held.end result changed.old changed.new (λ e. is_changed e.term tag) }
+    ensures kept { term.new.held.end ≡ term.old.held.end }
+{
+    let Some(end) = term.take(alloc) else {
+        return NO_HANDLE;
+    };
+    *changed = end.term().is_changed(tag);
+    term.put(end);
+    OK
 }
 
 /// Hands out the length of an open file in runes, gaps counted. `SAM_NONE` if it is not open.

@@ -8,7 +8,7 @@ use Rattle.sam_mesg.specs.declared.hmesg.Hmesg.{Hmesg}
 use Rattle.sam_mesg.specs.declared.hmesg.Hmesg.TheVariants.{Hversion, Hbindname, Hcurrent, Hnewname, Hmovname, Hgrow, Hcheck, Hunlock, Hdata, Horigin, Hunlockfile, Hsetdot, Hgrowdata, Hmoveto, Hclean, Hdirty, Hcut, Hsetpat, Hdelname, Hclose, Hsetsnarf, Hsnarflen, Hack, Hexit}
 use Rattle.sam_mesg.specs.declared.hmesg.HFrame.{HFrame}
 use Rattle.sam_term.specs.Locks.{is_command_line}
-use Rattle.sam_term.specs.Term.{PlainTerminal, Made, act_of, act_on, decided, if_countable, event_checks, frame_checks, flush_of, flushed, take_of, made_by, made_from, made_unless, and_then, all_composed, composed, sends, sends_if, requested, wanted, unchanged, cuts_dot, types, kept_unsent, joins, joined, put_window, has_empty_dot, typed_rasp, made_by_type, made_by_cut, made_by_paste, made_by_snarf, made_by_view, sends_dot, window_at, del_rasp, took_bindname, took_data, took_grow, took_growdata, took_cut, took_unlockfile, took_close, took_exit}
+use Rattle.sam_term.specs.Term.{PlainTerminal, Made, act_of, act_on, decided, if_countable, event_checks, frame_checks, flush_of, flushed, take_of, made_by, made_from, made_unless, and_then, all_composed, composed, sends, sends_if, requested, wanted, unchanged, cuts_dot, types, kept_unsent, joins, joined, put_window, has_empty_dot, typed_rasp, made_by_type, made_by_cut, made_by_paste, made_by_snarf, made_by_view, sends_dot, window_at, cut_rasp, took_bindname, took_data, took_grow, took_growdata, took_cut, took_unlockfile, took_close, took_exit}
 use Rattle.sam_term.specs.declared.event.Verdict.{Verdict}
 use Rattle.sam_term.specs.declared.event.Verdict.TheVariants.{Waits, Refuses}
 use Rattle.sam_term.specs.declared.event.UserEvent.{UserEvent}
@@ -48,8 +48,8 @@ requested-keeps t f = go (wanted t f)
     go (Some m) = sends-keeps t (λ u. u) (m ∷ []) (λ u. refl)
 
 -- the dot is cut, if it is not empty
-dot-cut : (t : PlainTerminal) (f p q : ℕ) (ms : List Tmesg) → held_in (if has_empty_dot t f then (t, []) else sends t (λ u. del_rasp u f p q) ms) ≡ t.held
-dot-cut t f p q ms = either-keeps (has_empty_dot t f) (t, []) (sends t (λ u. del_rasp u f p q) ms) t.held refl (sends-keeps t (λ u. del_rasp u f p q) ms (λ u. refl))
+dot-cut : (t : PlainTerminal) (f p q : ℕ) (ms : List Tmesg) → held_in (if has_empty_dot t f then (t, []) else sends t (λ u. cut_rasp u f p q) ms) ≡ t.held
+dot-cut t f p q ms = either-keeps (has_empty_dot t f) (t, []) (sends t (λ u. cut_rasp u f p q) ms) t.held refl (sends-keeps t (λ u. cut_rasp u f p q) ms (λ u. refl))
 
 cuts-keeps : (t : PlainTerminal) (f : ℕ) → held_in (cuts_dot t f) ≡ t.held
 cuts-keeps t f = let d = (window_at t f).dot in dot-cut t f d.0 d.1 (Tcut f d.0 d.1 ∷ [])

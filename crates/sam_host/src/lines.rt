@@ -161,7 +161,7 @@ impl Host {
         requires limit { inserted edits.now ≤ max_runes }
         ensures ok { OnOk result (Tells self.now frames.old.items frames.new.items
             (told_outcome (Some f) self.now.files
-                (record nothing { edits = edits.now; name = name.now; pattern = pattern.now; dot = dot }))) }
+            (record nothing { edits = edits.now; name = name.now; pattern = pattern.now; dot = dot }))) }
         ensures memory { OnErr result (result ≡ Err HostFault.OutOfMemory) }
     {
         self.tell_edits(frames, f, edits)?;
@@ -496,14 +496,7 @@ impl Host {
     /// runs the last line of it. If the range is empty, or the command file has no room, nothing changes, and `Hunlock` is the one frame.
     /// Errors, in this order: `NoFile`; `NotOpen`; `BadPosition` if the text has no such range; `OutOfMemory`. After an error the host is
     /// unchanged. The caller counts the message.
-    #[tactic(
-        auto,
-        using(
-            crate::proofs::TypingLaws::send_as_line,
-            crate::proofs::TypingLaws::send_nothing,
-            crate::proofs::TypingLaws::lines_filled
-        )
-    )]
+    #[tactic(auto, using(crate::proofs::TypingLaws::send_nothing, crate::proofs::TypingLaws::lines_filled))]
     pub(crate) fn send(&mut self, f: u16, p: u32, q: u32) -> Result<Vec<HFrame>, HostFault>
         requires { self.old.taken + 1 < 2 ^ 64 }
         ensures allowed { OnOk result (first_of_checks (host_checks self.old (Tmesg.Tsend f p q)) ≡ None) }

@@ -1,9 +1,11 @@
 //! The answers to the version, to what opens, chooses or closes a file, and to the end of the session. (`start_new_file` stands in `lines`,
 //! since it may have to print.) A method for a kind leaves the count of messages to its caller, and after an error the host is unchanged.
 
-ghost use Rattle.std.specs.Prelude.{◌≡◌, ◌<◌, ◌+◌, ◌∷◌, [], ◌^◌, IfOk, OnOk, OnErr, Err, None, true, drop};
-ghost use Rattle.sam_host.specs.Host.{host_checks, Refuses, Tells, stamped, told_names, reply_version, reply_startcmdfile, reply_startfile, reply_workfile, reply_close, reply_exit};
+ghost use Rattle.std.specs.Prelude.{◌≡◌, ◌<◌, ◌+◌, ◌∷◌, [], ◌^◌, IfOk, OnOk, OnErr, Err, None, Some, true, not, drop};
+ghost use Rattle.sam_host.specs.Host.{host_checks, Refuses, Tells, stamped, when, told_length, told_names, with_files, reply_version, reply_startcmdfile, reply_startfile, reply_workfile, reply_close, reply_exit};
 ghost use Rattle.sam_runes.specs.Checks.{first_of_checks};
+ghost use Rattle.sam_text.specs.Files.{file_at, has_file, change_file};
+ghost use Rattle.sam_text.specs.Views.{changed, FitsIn};
 
 use crate::fault::HostFault;
 use crate::host::Host;
@@ -90,20 +92,36 @@ impl Host {
         Ok(frames)
     }
 
+    /// Tells the window and the length of a file that is being opened; nothing if it is open already.
+    #[tactic(auto, unfolding(crate::specs::Host::when))]
+    fn tell_opening(&self, frames: &mut Vec<HFrame>, f: u16) -> Result<(), HostFault>
+        requires count { self.now.taken + 1 < 2 ^ 64 }
+        ensures ok { OnOk result (Tells self.now frames.old.items frames.new.items
+            (when (not (file_at self.now.files f).opened) (Hmesg.Hbindname f ∷ told_length f (file_at self.now.files f)))) }
+        ensures memory { OnErr result (result ≡ Err HostFault.OutOfMemory) }
+    {
+        if self.is_open(f) {
+            return Ok(());
+        }
+        self.say(frames, Hmesg::Hbindname(f))?;
+        self.tell_length(frames, f)
+    }
+
+    /// Makes a change of a file, and makes it the work file.
+    #[tactic(auto, using(crate::proofs::FileLaws::put_is_work))]
+    fn change_work(&mut self, f: u16, change: FileChange)
+        requires there { has_file self.old.files f ≡ true }
+        requires other { 0 < f }
+        requires fits { FitsIn change (file_at self.old.files f) }
+        ensures { self.new ≡ with_files self.old (record (change_file self.old.files f (changed change)) { work = Some f }) }
+    {
+        self.files.change(f, change);
+        self.files.put_work(f);
+    }
+
     /// Answers `Tstartfile`: opens a file and makes it the work file. Its window and its length are told only if it was not open before.
     /// Errors, in this order: `NoFile`; `CommandFile`; `OutOfMemory`.
-    #[tactic(
-        auto,
-        using(
-            crate::proofs::FrameLaws::stamped_append,
-            crate::proofs::FileLaws::put_is_work
-        ),
-        unfolding(
-            crate::specs::Host::reply_startfile,
-            crate::specs::Host::when,
-            crate::specs::Host::told_length
-        )
-    )]
+    #[tactic(auto, using(crate::proofs::FrameLaws::stamped_append), unfolding(crate::specs::Host::reply_startfile))]
     pub(crate) fn start_file(&mut self, f: u16) -> Result<Vec<HFrame>, HostFault>
         requires { self.old.taken + 1 < 2 ^ 64 }
         ensures allowed { OnOk result (first_of_checks (host_checks self.old (Tmesg.Tstartfile f)) ≡ None) }
@@ -115,19 +133,15 @@ impl Host {
     {
         self.wants_other(f)?;
         let mut frames = Vec::new(self.alloc);
-        if !self.is_open(f) {
-            self.say(&mut frames, Hmesg::Hbindname(f))?;
-            self.tell_length(&mut frames, f)?;
-        }
+        self.tell_opening(&mut frames, f)?;
         self.say(&mut frames, Hmesg::Hunlock)?;
-        self.files.change(f, FileChange::Open);
-        self.files.put_work(f);
+        self.change_work(f, FileChange::Open);
         Ok(frames)
     }
 
     /// Answers `Tworkfile`: makes an open file the work file, with the dot from `p` to `q`. Errors, in this order: `NoFile`; `CommandFile`;
     /// `NotOpen`; `BadPosition` if the text has no such range; `OutOfMemory`.
-    #[tactic(auto, using(crate::proofs::FileLaws::put_is_work), unfolding(crate::specs::Host::reply_workfile))]
+    #[tactic(auto, unfolding(crate::specs::Host::reply_workfile))]
     pub(crate) fn work_file(&mut self, f: u16, p: u32, q: u32) -> Result<Vec<HFrame>, HostFault>
         requires { self.old.taken + 1 < 2 ^ 64 }
         ensures allowed { OnOk result (first_of_checks (host_checks self.old (Tmesg.Tworkfile f p q)) ≡ None) }
@@ -141,8 +155,7 @@ impl Host {
         self.wants_range(f, p, q)?;
         let mut frames = Vec::new(self.alloc);
         self.say(&mut frames, Hmesg::Hcurrent(f))?;
-        self.files.change(f, FileChange::Dot(p, q));
-        self.files.put_work(f);
+        self.change_work(f, FileChange::Dot(p, q));
         Ok(frames)
     }
 

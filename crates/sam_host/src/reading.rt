@@ -109,6 +109,7 @@ impl Host {
         ensures limit { OnOk result (q ≤ max_runes) }
     {
         self.wants_open(f)?;
+        self.files.known_file(f);
         if self.files.lacks_range(f, p, q) {
             return Err(HostFault::BadPosition);
         }

@@ -23,6 +23,7 @@ fn is_same_window(terminal: &Terminal, other: &Terminal, tag: u16) -> bool {
         && terminal.view(tag) == other.view(tag)
         && terminal.locked(tag) == other.locked(tag)
         && terminal.locks(tag) == other.locks(tag)
+        && terminal.is_changed(tag) == other.is_changed(tag)
         && is_same_part(terminal.rasp(tag), other.rasp(tag))
 }
 

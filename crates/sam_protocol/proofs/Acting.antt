@@ -12,7 +12,7 @@ use Rattle.sam_mesg.specs.declared.hmesg.Hmesg.{Hmesg}
 use Rattle.sam_host.specs.Host.{PlainHost}
 use Rattle.sam_term.specs.declared.lock.Lock.TheVariants.{CommandLock, NoLock}
 use Rattle.sam_term.specs.Locks.{is_command_line}
-use Rattle.sam_term.specs.Term.{PlainTerminal, Made, window_at, put_window, set_dot_of, is_open, is_any_locked, has_empty_dot, del_rasp, composed, all_composed, flushed, sends, sends_if, unchanged, request_for, view_end, requested, cuts_dot, types, made_by, made_by_type, made_by_cut, made_by_paste, made_by_snarf, made_by_view}
+use Rattle.sam_term.specs.Term.{PlainTerminal, Made, window_at, put_window, set_dot_of, is_open, is_any_locked, has_empty_dot, cut_rasp, composed, all_composed, flushed, sends, sends_if, unchanged, request_for, view_end, requested, cuts_dot, types, made_by, made_by_type, made_by_cut, made_by_paste, made_by_snarf, made_by_view}
 use Rattle.sam_term.specs.declared.files.Window.{Window}
 use Rattle.sam_term.specs.declared.files.Unsent.{Unsent}
 use Rattle.sam_term.specs.declared.event.UserEvent.{UserEvent}
@@ -104,13 +104,13 @@ after_cut h t up down f o may = go (has_empty_dot t f) refl
     there : MaySend (views (flushed t).0) (Tcut f p q)
     there = subst (λ (v : ℕ → Lens). MaySend v (Tcut f p q)) same may
 
-    go : (b : Bool) → has_empty_dot t f ≡ b → AfterCut h t up down f p q (if b then (t, []) else sends t (λ u. del_rasp u f p q) (Tcut f p q ∷ []))
+    go : (b : Bool) → has_empty_dot t f ≡ b → AfterCut h t up down f p q (if b then (t, []) else sends t (λ u. cut_rasp u f p q) (Tcut f p q ∷ []))
     go true e = record {
       goes = nothing_goes h t up down o;
       shows = λ g. sym (ap (λ (v : Lens). (if g == f then v else view g t)) (cut_nothing p q (view g t) (eqb-true p q e)) ∙ if-same (g == f) (view g t));
     }
     go false e = record {
-      goes = then_goes h up down (flushed t) (λ u. (composed (del_rasp u f p q) (Tcut f p q), Tcut f p q ∷ []))
+      goes = then_goes h up down (flushed t) (λ u. (composed (cut_rasp u f p q) (Tcut f p q), Tcut f p q ∷ []))
           (cut_one h (flushed t).0 (up ++ (flushed t).1) down f p q (flushed_goes h t up down o) (unsent-flushed t) there);
       shows = λ g. cut_view (flushed t).0 f p q (open_is (Within p q) (view f (flushed t).0) there.can) g ∙ ap (λ (v : ℕ → Lens). (if g == f then cut_out p q (v g) else v g)) (sym same);
     }
@@ -229,20 +229,20 @@ cut_goes h t up down f o pass = go (has_empty_dot t f)
     same = flushed_views t o.unsent
 
     both : (u : PlainTerminal) (line : List Tmesg) → InOrder h u line down → u.unsent ≡ None → views t ≡ views u
-        → InOrder h (all_composed (del_rasp u f p q) (Tsnarf f p q ∷ Tcut f p q ∷ [])) (line ++ Tsnarf f p q ∷ Tcut f p q ∷ []) down
+        → InOrder h (all_composed (cut_rasp u f p q) (Tsnarf f p q ∷ Tcut f p q ∷ [])) (line ++ Tsnarf f p q ∷ Tcut f p q ∷ []) down
     both u line i e v =
         let snarf : MaySend (views u) (Tsnarf f p q) = subst (λ (x : ℕ → Lens). MaySend x (Tsnarf f p q)) v (record { here = pass.here; free = pass.free; allowed = tt; can = within }) in
         let cut : MaySend (views u) (Tcut f p q) =
         subst (λ (x : ℕ → Lens). MaySend x (Tcut f p q)) v (record { here = pass.here; free = pass.free; allowed = free_at t f pass.free pass.unlocked; can = within }) in
         let one : InOrder h (composed u (Tsnarf f p q)) (line ++ Tsnarf f p q ∷ []) down = send_one h u line down (Tsnarf f p q) i e refl snarf in
-        let two : InOrder h (composed (del_rasp (composed u (Tsnarf f p q)) f p q) (Tcut f p q)) ((line ++ Tsnarf f p q ∷ []) ++ Tcut f p q ∷ []) down =
+        let two : InOrder h (composed (cut_rasp (composed u (Tsnarf f p q)) f p q) (Tcut f p q)) ((line ++ Tsnarf f p q ∷ []) ++ Tcut f p q ∷ []) down =
         cut_one h (composed u (Tsnarf f p q)) (line ++ Tsnarf f p q ∷ []) down f p q one e cut in
-        subst (λ (l : List Tmesg). InOrder h (all_composed (del_rasp u f p q) (Tsnarf f p q ∷ Tcut f p q ∷ [])) l down) (append_assoc line (Tsnarf f p q ∷ []) (Tcut f p q ∷ [])) two
+        subst (λ (l : List Tmesg). InOrder h (all_composed (cut_rasp u f p q) (Tsnarf f p q ∷ Tcut f p q ∷ [])) l down) (append_assoc line (Tsnarf f p q ∷ []) (Tcut f p q ∷ [])) two
 
-    go : (b : Bool) → Goes h up down (if b then (t, []) else sends t (λ u. del_rasp u f p q) (Tsnarf f p q ∷ Tcut f p q ∷ []))
+    go : (b : Bool) → Goes h up down (if b then (t, []) else sends t (λ u. cut_rasp u f p q) (Tsnarf f p q ∷ Tcut f p q ∷ []))
     go true = nothing_goes h t up down o
     go false =
-        then_goes h up down (flushed t) (λ u. (all_composed (del_rasp u f p q) (Tsnarf f p q ∷ Tcut f p q ∷ []), Tsnarf f p q ∷ Tcut f p q ∷ []))
+        then_goes h up down (flushed t) (λ u. (all_composed (cut_rasp u f p q) (Tsnarf f p q ∷ Tcut f p q ∷ []), Tsnarf f p q ∷ Tcut f p q ∷ []))
         (both (flushed t).0 (up ++ (flushed t).1) (flushed_goes h t up down o) (unsent-flushed t) same)
 
 snarf_goes : (h : PlainHost) (t : PlainTerminal) (up : List Tmesg) (down : List Hmesg) (f : ℕ) → InOrder h t up down → Passed t (Snarf f) → Goes h up down (made_by t (Snarf f))

@@ -159,7 +159,7 @@ tidy_effect t (Hgrowdata f p s) e all =
 tidy_effect t (Hmoveto f p) e all =
     let l = place_of t f p [] (behind_open t f (past_end t f p ∷ []) e) in
     tidy-window t f (record (window_at t f) { view_start = p }) all ((all f).0, (all f).1, l)
-tidy_effect t (Hclean f) e all = tidy-put t f (record (known_at t f) { dirty = false }) all (all f)
+tidy_effect t (Hclean f) e all = tidy-put t f (record (known_at t f) { dirty = false; changed = false }) all (all f)
 tidy_effect t (Hdirty f) e all = tidy-put t f (record (known_at t f) { dirty = true }) all (all f)
 tidy_effect t (Hcut f p n) e all =
     let l = place_of t f (p + n) [] (behind_open t f (past_end t f (p + n) ∷ []) e) in

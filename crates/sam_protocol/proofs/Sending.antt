@@ -8,7 +8,7 @@ use Rattle.sam_mesg.specs.declared.hmesg.Hmesg.{Hmesg}
 use Rattle.sam_host.specs.Host.{PlainHost}
 use Rattle.sam_term.specs.declared.lock.Lock.TheVariants.{CommandLock, NoLock}
 use Rattle.sam_term.specs.Locks.{lock_of, is_command_line}
-use Rattle.sam_term.specs.Term.{PlainTerminal, Made, window_at, put_window, window_after_del, moved_unsent, del_rasp, composed, flushed, unsent_message, and_then, sends, unchanged}
+use Rattle.sam_term.specs.Term.{PlainTerminal, Made, window_at, window_after_del, moved_unsent, del_rasp, edited, cut_rasp, composed, flushed, unsent_message, and_then, sends, unchanged}
 use Rattle.sam_term.specs.declared.files.Unsent.{Unsent}
 use Rattle.sam_protocol.specs.Lens.{Unknown, Known, Open, Lens, lens, OpenAt, Anything}
 use Rattle.sam_protocol.proofs.Lenses.{IsFree, IsOpen, exited_of, command_of}
@@ -18,7 +18,7 @@ use Rattle.sam_protocol.specs.Fold.{Kept}
 use Rattle.sam_protocol.specs.Order.{AreTidy, IsHeldBack, views, InOrder}
 use Rattle.sam_protocol.proofs.Folds.{kept_views}
 use Rattle.sam_protocol.proofs.Composing.{composes}
-use Rattle.sam_protocol.proofs.Views.{view-made, view-open, LockOpens, view-composed, unsent-composed, view-flushed, unsent-flushed, tidy-composed, tidy-flushed, tidy-window}
+use Rattle.sam_protocol.proofs.Views.{view-made, view-edited, view-open, LockOpens, view-composed, unsent-composed, view-flushed, unsent-flushed, tidy-composed, tidy-flushed, tidy-window, tidy-edited}
 use Rattle.sam_protocol.proofs.Dots.{tidy-del}
 
 -- what was made follows a terminal that is in order
@@ -121,18 +121,39 @@ sends_goes h t up down m o plain may =
 pub has_open : (P : List (Option ℕ) → Type 0) (t : PlainTerminal) (f : ℕ) → OpenAt P (view f t) → P (window_at t f).rasp
 has_open P t f o = (subst (OpenAt P) (view-open t f (open_is P (view f t) o)) o).2
 
-pub cut_view : (t : PlainTerminal) (f p q : ℕ) → IsOpen (view f t) → (g : ℕ)
-    → view g (put_window t f (window_after_del (window_at t f) p q)) ≡ (if g == f then cut_out p q (view g t) else view g t)
-cut_view t f p q o g = view-made t f (window_after_del (window_at t f) p q) (cut_out p q) o refl g
+-- the user's mark is no message
+edited_views : (t : PlainTerminal) (f : ℕ) → IsOpen (view f t) → views t ≡ views (edited t f)
+edited_views t f i = fun_ext (λ g. sym (view-edited t f i g))
 
-pub cut_one : (h : PlainHost) (t : PlainTerminal) (up : List Tmesg) (down : List Hmesg) (f p q : ℕ) → InOrder h t up down → t.unsent ≡ None → MaySend (views t) (Tcut f p q)
+edited_order : (h : PlainHost) (t : PlainTerminal) (up : List Tmesg) (down : List Hmesg) (f : ℕ) → InOrder h t up down → IsOpen (view f t) → InOrder h (edited t f) up down
+edited_order h t up down f o i = record {
+  kept = kept_views h (views t) (views (edited t f)) (up ++ unsent_message t.unsent) down o.kept (λ g. sym (view-edited t f i g));
+  tidy = tidy-edited t f o.tidy;
+  unsent = subst (λ (v : ℕ → Lens). IsHeldBack v t.unsent) (edited_views t f i) o.unsent;
+}
+
+del_view : (t : PlainTerminal) (f p q : ℕ) → IsOpen (view f t) → (g : ℕ) → view g (del_rasp t f p q) ≡ (if g == f then cut_out p q (view g t) else view g t)
+del_view t f p q o g = view-made t f (window_after_del (window_at t f) p q) (cut_out p q) o refl g
+
+pub cut_view : (t : PlainTerminal) (f p q : ℕ) → IsOpen (view f t) → (g : ℕ) → view g (cut_rasp t f p q) ≡ (if g == f then cut_out p q (view g t) else view g t)
+cut_view t f p q o g =
+    del_view (edited t f) f p q (subst (λ (v : ℕ → Lens). IsOpen (v f)) (edited_views t f o) o) g
+    ∙ ap (λ (v : Lens). (if g == f then cut_out p q v else v)) (view-edited t f o g)
+
+del_one : (h : PlainHost) (t : PlainTerminal) (up : List Tmesg) (down : List Hmesg) (f p q : ℕ) → InOrder h t up down → t.unsent ≡ None → MaySend (views t) (Tcut f p q)
     → InOrder h (composed (del_rasp t f p q) (Tcut f p q)) (up ++ Tcut f p q ∷ []) down
-cut_one h t up down f p q o e may =
+del_one h t up down f p q o e may =
     let within = has_open (Within p q) t f may.can in
     carried h t (composed (del_rasp t f p q) (Tcut f p q)) up down (Tcut f p q) o e (ap (moved_unsent f (place_after_del p q)) e)
     (composes h (views t) (up ++ unsent_message t.unsent) down (Tcut f p q) o.kept may.here may.free may.allowed may.can)
-    (λ g. sym (cut_view t f p q (open_is (Within p q) (view f t) may.can) g))
+    (λ g. sym (del_view t f p q (open_is (Within p q) (view f t) may.can) g))
     (tidy-window t f (window_after_del (window_at t f) p q) o.tidy (tidy-del (window_at t f) p q (o.tidy f) within.0 within.1))
+
+pub cut_one : (h : PlainHost) (t : PlainTerminal) (up : List Tmesg) (down : List Hmesg) (f p q : ℕ) → InOrder h t up down → t.unsent ≡ None → MaySend (views t) (Tcut f p q)
+    → InOrder h (composed (cut_rasp t f p q) (Tcut f p q)) (up ++ Tcut f p q ∷ []) down
+cut_one h t up down f p q o e may =
+    let i = open_is (Within p q) (view f t) may.can in
+    del_one h (edited t f) up down f p q (edited_order h t up down f o i) e (subst (λ (v : ℕ → Lens). MaySend v (Tcut f p q)) (edited_views t f i) may)
 
 pub exited_cut : (b : Bool) (p q : ℕ) (v : Lens) → exited_of (if b then cut_out p q v else v) ≡ exited_of v
 exited_cut true p q (lens c e n Unknown) = refl

@@ -11,9 +11,10 @@ use Rattle.sam_mesg.specs.declared.hmesg.Hmesg.{Hmesg}
 use Rattle.sam_host.specs.Host.{PlainHost}
 use Rattle.sam_term.specs.declared.lock.Lock.TheVariants.{CommandLock, NoLock}
 use Rattle.sam_term.specs.Locks.{is_command_line}
-use Rattle.sam_term.specs.Term.{PlainTerminal, Made, lock_taken, window_at, window_after_ins, moved_unsent, ins_rasp, typed_rasp, joins, joined, types, composed, all_composed, flushed, unsent_message, and_then}
+use Rattle.sam_term.specs.Term.{PlainTerminal, Made, lock_taken, window_at, window_after_ins, moved_unsent, edited, ins_rasp, set_dot_of, typed_rasp, joins, joined, types, composed, all_composed, flushed, unsent_message, and_then}
 use Rattle.sam_term.specs.declared.files.Window.{Window}
 use Rattle.sam_term.specs.declared.files.Unsent.{Unsent}
+use Rattle.sam_term.proofs.Marks.{edited-window}
 use Rattle.sam_protocol.specs.Lens.{Unknown, Known, Open, Lens, lens, OpenAt, Anything}
 use Rattle.sam_protocol.proofs.Lenses.{IsOpen}
 use Rattle.sam_protocol.proofs.Changes.{change_by, type_change, typed_in, commanded, changed}
@@ -23,7 +24,7 @@ use Rattle.sam_protocol.specs.Order.{AreTidy, IsHeldBack, views, InOrder}
 use Rattle.sam_protocol.proofs.Folds.{kept_views}
 use Rattle.sam_protocol.proofs.Joins as fold
 use Rattle.sam_protocol.proofs.Composing.{composes}
-use Rattle.sam_protocol.proofs.Views.{view-made, view-kept, window-put, unsent-composed, tidy-composed, view-flushed, tidy-flushed, tidy-window}
+use Rattle.sam_protocol.proofs.Views.{view-made, view-edited, view-kept, window-put, unsent-composed, tidy-composed, view-flushed, tidy-flushed, tidy-window, tidy-edited}
 use Rattle.sam_protocol.proofs.Dots.{length-ins_cells, unmoved, tidy-ins}
 use Rattle.sam_protocol.proofs.Sending.{Goes, then_goes, MaySend, open_is, has_open}
 
@@ -44,19 +45,20 @@ open_typed false p s v o = o
 
 -- ## What typing shows
 
+-- without the user's mark
 module _ (x : PlainTerminal) (f p : ℕ) (s : List ℕ) where
   grown : PlainTerminal
   grown = ins_rasp x f p (map Some s)
 
-  pub typed_view : IsOpen (view f x) → (g : ℕ) → view g (typed_rasp x f p s) ≡ (if g == f then typed_in p s (view g x) else view g x)
+  placed_view : IsOpen (view f x) → (g : ℕ) → view g (set_dot_of (ins_rasp x f p (map Some s)) f (p + length s, p + length s)) ≡ (if g == f then typed_in p s (view g x) else view g x)
   unfolding grown
-  typed_view o g =
+  placed_view o g =
       let first : (g : ℕ) → view g grown ≡ (if g == f then typed_in p s (view g x) else view g x) = λ g. view-made x f (window_after_ins (window_at x f) p (map Some s)) (typed_in p s) o refl g in
       view-kept grown f (record (window_at grown f) { dot = (p + length s, p + length s) }) (subst IsOpen (sym (first f)) (open_typed (f == f) p s (view f x) o)) refl refl g ∙ first g
 
-  pub typed_tidy : AreTidy x → p ≤ length (window_at x f).rasp → AreTidy (typed_rasp x f p s)
+  placed_tidy : AreTidy x → p ≤ length (window_at x f).rasp → AreTidy (set_dot_of (ins_rasp x f p (map Some s)) f (p + length s, p + length s))
   unfolding grown
-  typed_tidy all l =
+  placed_tidy all l =
       let w : Window = window_after_ins (window_at x f) p (map Some s) in
       let here = tidy-ins (window_at x f) p (map Some s) (all f) l in
       let is : window_at grown f ≡ w = window-put x f w in
@@ -65,6 +67,14 @@ module _ (x : PlainTerminal) (f p : ℕ) (s : List ℕ) where
       let start : (window_at grown f).view_start ≤ length (window_at grown f).rasp = subst (λ (y : Window). y.view_start ≤ length y.rasp) (sym is) here.2 in
       tidy-window grown f (record (window_at grown f) { dot = (p + length s, p + length s) }) (tidy-window x f w all here)
       (omega arith, omega (arith, long, same, l), start)
+
+pub typed_view : (x : PlainTerminal) (f p : ℕ) (s : List ℕ) → IsOpen (view f x) → (g : ℕ) → view g (typed_rasp x f p s) ≡ (if g == f then typed_in p s (view g x) else view g x)
+typed_view x f p s o g =
+    placed_view (edited x f) f p s (subst IsOpen (sym (view-edited x f o f)) o) g ∙ ap (λ (v : Lens). (if g == f then typed_in p s v else v)) (view-edited x f o g)
+
+pub typed_tidy : (x : PlainTerminal) (f p : ℕ) (s : List ℕ) → AreTidy x → p ≤ length (window_at x f).rasp → AreTidy (typed_rasp x f p s)
+typed_tidy x f p s all l =
+    placed_tidy (edited x f) f p s (tidy-edited x f all) (subst (λ (w : Window). p ≤ length w.rasp) (sym (edited-window x f)) l)
 
 -- ## Runes that wait, and the text that has them
 

@@ -9,7 +9,7 @@ use Rattle.sam_mesg.specs.declared.tmesg.Tmesg.TheVariants.{Trequest, Ttype}
 use Rattle.sam_term.specs.declared.lock.Lock.{Lock}
 use Rattle.sam_term.specs.declared.lock.Lock.TheVariants.{NoLock, CommandLock, FileLock}
 use Rattle.sam_term.specs.Locks.{lock_of, is_command_line}
-use Rattle.sam_term.specs.Term.{PlainTerminal, blank_known, blank_window, known_at, window_at, put_known, put_window, lock_taken, asked, composed, all_composed, flushed, unsent_message}
+use Rattle.sam_term.specs.Term.{PlainTerminal, blank_known, blank_window, known_at, window_at, put_known, put_window, edited, lock_taken, asked, composed, all_composed, flushed, unsent_message}
 use Rattle.sam_term.specs.declared.files.Window.{Window}
 use Rattle.sam_term.specs.declared.files.KnownFile.{KnownFile}
 use Rattle.sam_term.specs.declared.files.Unsent.{Unsent}
@@ -75,6 +75,19 @@ view-kept t f w o r k g =
     view-window t f w g
     ∙ if_here g f (λ y. lens t.command_lock t.has_exited t.version (Open w.rasp w.locks)) (views t)
     ((λ i. lens t.command_lock t.has_exited t.version (Open (r i) (k i))) ∙ sym (view-open t f o))
+
+-- the user's mark on an open file shows in no lens
+pub view-edited : (t : PlainTerminal) (f : ℕ) → IsOpen (view f t) → (g : ℕ) → view g (edited t f) ≡ view g t
+view-edited t f o g =
+    view-put t f (record (known_at t f) { changed = true }) g
+    ∙ if_here g f (λ y. lens t.command_lock t.has_exited t.version (slot_of_window (known_at t f).window)) (views t) (go (slot t.files f) o)
+  where
+    L : Slot → Lens
+    L s = lens t.command_lock t.has_exited t.version s
+
+    go : (s : Option KnownFile) → IsOpen (L (slot_of s)) → L (slot_of_window (unwrap_or s blank_known).window) ≡ L (slot_of s)
+    go None i = absurd i
+    go (Some k) i = refl
 
 -- a window of an open file that is changed so
 pub view-made : (t : PlainTerminal) (f : ℕ) (w : Window) (change : Lens → Lens) → IsOpen (view f t)
@@ -163,6 +176,9 @@ tidy-put t f x all here g = subst IsTidyWindow (sym (known-put (λ (k : KnownFil
 
 pub tidy-window : (t : PlainTerminal) (f : ℕ) (w : Window) → AreTidy t → IsTidyWindow w → AreTidy (put_window t f w)
 tidy-window t f w all here = tidy-put t f (record (known_at t f) { window = Some w }) all here
+
+pub tidy-edited : (t : PlainTerminal) (f : ℕ) → AreTidy t → AreTidy (edited t f)
+tidy-edited t f all = tidy-put t f (record (known_at t f) { changed = true }) all (all f)
 
 -- the window that was put
 pub window-put : (t : PlainTerminal) (f : ℕ) (w : Window) → window_at (put_window t f w) f ≡ w

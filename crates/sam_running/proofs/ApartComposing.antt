@@ -12,7 +12,7 @@ use Rattle.sam_mesg.specs.declared.hmesg.Hmesg.TheVariants.{Hcheck, Hunlockfile,
 use Rattle.sam_mesg.specs.declared.hmesg.HFrame.{HFrame}
 use Rattle.sam_frame.specs.Direction.{terminal}
 use Rattle.sam_term.specs.Locks.{is_command_line}
-use Rattle.sam_term.specs.Term.{PlainTerminal, Made, window_at, put_window, del_rasp, flushed, unsent_message, and_then, sends, sends_if, unchanged, requested, request_for, view_end, is_open, joins, joined, kept_unsent, typed_rasp, types, cuts_dot, has_empty_dot, made_by, made_by_type, made_by_cut, made_by_paste, made_by_snarf, made_by_view, made_from, made_unless, frame_checks, event_checks, has_long_text, took_unlockfile, act_of, act_on, decided, flush_of, take_of}
+use Rattle.sam_term.specs.Term.{PlainTerminal, Made, window_at, put_window, cut_rasp, flushed, unsent_message, and_then, sends, sends_if, unchanged, requested, request_for, view_end, is_open, joins, joined, kept_unsent, typed_rasp, types, cuts_dot, has_empty_dot, made_by, made_by_type, made_by_cut, made_by_paste, made_by_snarf, made_by_view, made_from, made_unless, frame_checks, event_checks, has_long_text, took_unlockfile, act_of, act_on, decided, flush_of, take_of}
 use Rattle.sam_term.specs.declared.files.Unsent.{Unsent}
 use Rattle.sam_term.specs.declared.event.UserEvent.{UserEvent}
 use Rattle.sam_term.specs.declared.event.UserEvent.TheVariants.{Typed, Select, Cut, Paste, Snarf, Look, Search, Send, Dclick, Scroll, View, Open, Close, Write, Work, OpenCmd, New, Exit, Check, GetSnarf, SetSnarf, Version, Flush}
@@ -57,8 +57,8 @@ free-sends t change ms p = free-append (flushed t).1 ms (free-flushed t) p
 free-cuts : (t : PlainTerminal) (f : ℕ) → AllFree (cuts_dot t f).1
 free-cuts t f =
     let d = (window_at t f).dot in
-    free-if (has_empty_dot t f) (t, []) (sends t (λ u. del_rasp u f d.0 d.1) (Tcut f d.0 d.1 ∷ [])) tt
-    (free-sends t (λ u. del_rasp u f d.0 d.1) (Tcut f d.0 d.1 ∷ []) (tt, tt))
+    free-if (has_empty_dot t f) (t, []) (sends t (λ u. cut_rasp u f d.0 d.1) (Tcut f d.0 d.1 ∷ [])) tt
+    (free-sends t (λ u. cut_rasp u f d.0 d.1) (Tcut f d.0 d.1 ∷ []) (tt, tt))
 
 free-kept : (t : PlainTerminal) (f p : ℕ) (s : List ℕ) → AllFree (kept_unsent t f p s).1
 free-kept t f p s =
@@ -101,8 +101,8 @@ event_turn t (Select f x y) v h q = tt
 event_turn t (Cut f) v h q =
     let d = (window_at t f).dot in
     free_turn v (made_by_cut t f).1
-    (free-if (has_empty_dot t f) (t, []) (sends t (λ u. del_rasp u f d.0 d.1) (Tsnarf f d.0 d.1 ∷ Tcut f d.0 d.1 ∷ [])) tt
-    (free-sends t (λ u. del_rasp u f d.0 d.1) (Tsnarf f d.0 d.1 ∷ Tcut f d.0 d.1 ∷ []) (tt, (tt, tt))))
+    (free-if (has_empty_dot t f) (t, []) (sends t (λ u. cut_rasp u f d.0 d.1) (Tsnarf f d.0 d.1 ∷ Tcut f d.0 d.1 ∷ [])) tt
+    (free-sends t (λ u. cut_rasp u f d.0 d.1) (Tsnarf f d.0 d.1 ∷ Tcut f d.0 d.1 ∷ []) (tt, (tt, tt))))
 event_turn t (Paste f) v h q =
     let u = (cuts_dot t f).0 in
     free_turn v (made_by_paste t f).1

@@ -3,7 +3,7 @@ use Rattle.std.proofs.Common.{◌≡◌, refl, sym, ap, ◌∙◌, subst, ℕ, z
 use Rattle.std.specs.Prelude.{◌||◌, nat_lt, Result, IsOk}
 use Rattle.sam_runes.specs.Checks.{Checks, first_of_checks}
 use Rattle.sam_runes.specs.Texts.{most_count}
-use Rattle.sam_term.specs.Term.{PlainTerminal, Made, event_checks, made_by, window_at, is_open, composed, all_composed, lock_taken, asked, flushed, unsent_message, sends, unchanged, has_bad_place, made_by_snarf, made_by_cut, made_by_paste, made_by_view, wanted, request_for, cuts_dot, and_then, del_rasp, put_window, known_at, moved_unsent, blank_known}
+use Rattle.sam_term.specs.Term.{PlainTerminal, Made, event_checks, made_by, window_at, is_open, composed, all_composed, lock_taken, asked, flushed, unsent_message, sends, unchanged, has_bad_place, made_by_snarf, made_by_cut, made_by_paste, made_by_view, wanted, request_for, cuts_dot, and_then, cut_rasp, put_window, known_at, moved_unsent, blank_known}
 use Rattle.sam_term.specs.Locks.{lock_of}
 use Rattle.sam_term.specs.Taking.{done, countable, IsFailure}
 use Rattle.sam_term.specs.Acting.{first_event, free_first, made_first, is_snarfing}
@@ -188,25 +188,25 @@ pub made-cut_none : (t : PlainTerminal) (f : ℕ) (d : ℕ × ℕ) → d ≡ (wi
 unfolding made_by_cut
 made-cut_none t f d e h =
     sym
-    (sym (empty-or d.0 d.1 (t, []) (sends t (λ u. del_rasp u f d.0 d.1) (Tsnarf f d.0 d.1 ∷ Tcut f d.0 d.1 ∷ [])) h)
-    ∙ ap (λ x. if x.0 == x.1 then (t, []) else sends t (λ u. del_rasp u f x.0 x.1) (Tsnarf f x.0 x.1 ∷ Tcut f x.0 x.1 ∷ [])) e)
+    (sym (empty-or d.0 d.1 (t, []) (sends t (λ u. cut_rasp u f d.0 d.1) (Tsnarf f d.0 d.1 ∷ Tcut f d.0 d.1 ∷ [])) h)
+    ∙ ap (λ x. if x.0 == x.1 then (t, []) else sends t (λ u. cut_rasp u f x.0 x.1) (Tsnarf f x.0 x.1 ∷ Tcut f x.0 x.1 ∷ [])) e)
 
-pub made-cut : (t : PlainTerminal) (f : ℕ) (d : ℕ × ℕ) → d ≡ (window_at t f).dot → d.0 ≢ d.1 → made_by t (Cut f) ≡ sends t (λ u. del_rasp u f d.0 d.1) (Tsnarf f d.0 d.1 ∷ Tcut f d.0 d.1 ∷ [])
+pub made-cut : (t : PlainTerminal) (f : ℕ) (d : ℕ × ℕ) → d ≡ (window_at t f).dot → d.0 ≢ d.1 → made_by t (Cut f) ≡ sends t (λ u. cut_rasp u f d.0 d.1) (Tsnarf f d.0 d.1 ∷ Tcut f d.0 d.1 ∷ [])
 unfolding made_by_cut
 made-cut t f d e h =
     sym
-    (sym (filled-or d.0 d.1 (t, []) (sends t (λ u. del_rasp u f d.0 d.1) (Tsnarf f d.0 d.1 ∷ Tcut f d.0 d.1 ∷ [])) h)
-    ∙ ap (λ x. if x.0 == x.1 then (t, []) else sends t (λ u. del_rasp u f x.0 x.1) (Tsnarf f x.0 x.1 ∷ Tcut f x.0 x.1 ∷ [])) e)
+    (sym (filled-or d.0 d.1 (t, []) (sends t (λ u. cut_rasp u f d.0 d.1) (Tsnarf f d.0 d.1 ∷ Tcut f d.0 d.1 ∷ [])) h)
+    ∙ ap (λ x. if x.0 == x.1 then (t, []) else sends t (λ u. cut_rasp u f x.0 x.1) (Tsnarf f x.0 x.1 ∷ Tcut f x.0 x.1 ∷ [])) e)
 
 pub cuts_none : (t : PlainTerminal) (f : ℕ) (d : ℕ × ℕ) → d ≡ (window_at t f).dot → d.0 ≡ d.1 → cuts_dot t f ≡ (t, [])
 cuts_none t f d e h =
     sym
-    (sym (empty-or d.0 d.1 (t, []) (sends t (λ u. del_rasp u f d.0 d.1) (Tcut f d.0 d.1 ∷ [])) h)
-    ∙ ap (λ x. if x.0 == x.1 then (t, []) else sends t (λ u. del_rasp u f x.0 x.1) (Tcut f x.0 x.1 ∷ [])) e)
+    (sym (empty-or d.0 d.1 (t, []) (sends t (λ u. cut_rasp u f d.0 d.1) (Tcut f d.0 d.1 ∷ [])) h)
+    ∙ ap (λ x. if x.0 == x.1 then (t, []) else sends t (λ u. cut_rasp u f x.0 x.1) (Tcut f x.0 x.1 ∷ [])) e)
 
 -- a dot that is cut
 abbrev pub cut_made : PlainTerminal → ℕ → ℕ × ℕ → Made
-cut_made t f d = (composed (del_rasp (flushed t).0 f d.0 d.1) (Tcut f d.0 d.1), (flushed t).1 ++ Tcut f d.0 d.1 ∷ [])
+cut_made t f d = (composed (cut_rasp (flushed t).0 f d.0 d.1) (Tcut f d.0 d.1), (flushed t).1 ++ Tcut f d.0 d.1 ∷ [])
 
 pub cuts_some : (t : PlainTerminal) (f : ℕ) (d : ℕ × ℕ) → d ≡ (window_at t f).dot → d.0 ≢ d.1 → cuts_dot t f ≡ cut_made t f d
 cuts_some t f d e h =

@@ -10,7 +10,7 @@ use Rattle.sam_term.specs.declared.lock.Lock.TheVariants.{NoLock, CommandLock, F
 use Rattle.sam_term.specs.Locks.{lock_of, is_command_line}
 use Rattle.sam_term.specs.Fitting.{all_fit}
 use Rattle.sam_term.specs.Sound.{IsSound, IsShort}
-use Rattle.sam_term.specs.Term.{PlainTerminal, Made, window_at, put_window, del_rasp, lock_taken, asked, composed, all_composed, flushed, unsent_message, and_then, sends, sends_if, unchanged, requested, request_for, view_end, is_open, joins, joined, kept_unsent, typed_rasp, types, cuts_dot, made_by, made_by_type, made_by_cut, made_by_paste, made_by_snarf, made_by_view, made_from, moved_unsent, event_checks, has_long_text, file_of, is_file_locked, took_unlockfile}
+use Rattle.sam_term.specs.Term.{PlainTerminal, Made, window_at, put_window, cut_rasp, lock_taken, asked, composed, all_composed, flushed, unsent_message, and_then, sends, sends_if, unchanged, requested, request_for, view_end, is_open, joins, joined, kept_unsent, typed_rasp, types, cuts_dot, made_by, made_by_type, made_by_cut, made_by_paste, made_by_snarf, made_by_view, made_from, moved_unsent, event_checks, has_long_text, file_of, is_file_locked, took_unlockfile}
 use Rattle.sam_term.specs.declared.files.Unsent.{Unsent}
 use Rattle.sam_term.specs.declared.event.UserEvent.{UserEvent}
 use Rattle.sam_term.specs.declared.event.UserEvent.TheVariants.{Typed, Select, Cut, Paste, Snarf, Look, Search, Send, Dclick, Scroll, View, Open, Close, Write, Work, OpenCmd, New, Exit, Check, GetSnarf, SetSnarf, Version, Flush}
@@ -88,14 +88,14 @@ good-sends v t change ms k same f =
 good-plain : (v : ℕ) (t : PlainTerminal) (ms : List Tmesg) → IsShort t.unsent → all_fit v ms ≡ true → Good v (sends t unchanged ms)
 good-plain v t ms k f = good-sends v t unchanged ms k (λ u e. e) f
 
-del-none : (f p q : ℕ) (u : PlainTerminal) → u.unsent ≡ None → (del_rasp u f p q).unsent ≡ None
+del-none : (f p q : ℕ) (u : PlainTerminal) → u.unsent ≡ None → (cut_rasp u f p q).unsent ≡ None
 del-none f p q u e = ap (λ o. moved_unsent f (place_after_del p q) o) e
 
 good-cuts : (v : ℕ) (t : PlainTerminal) (f : ℕ) → IsShort t.unsent → Good v (cuts_dot t f)
 good-cuts v t f k =
     let d = (window_at t f).dot in
     good-if v (d.0 == d.1) (t, []) _ (λ e. record { fits = refl; short = k })
-    (λ e. good-sends v t (λ u. del_rasp u f d.0 d.1) (Tcut f d.0 d.1 ∷ []) k (del-none f d.0 d.1) refl)
+    (λ e. good-sends v t (λ u. cut_rasp u f d.0 d.1) (Tcut f d.0 d.1 ∷ []) k (del-none f d.0 d.1) refl)
 
 short-joined : (o : Option Unsent) (f p : ℕ) (s : List ℕ) → joins o f p s ≡ true → IsShort (Some (joined o f p s))
 unfolding IsShort
@@ -162,7 +162,7 @@ good-event t (Select f p q) k h = record { fits = refl; short = k }
 good-event t (Cut f) k h =
     let d = (window_at t f).dot in
     good-if t.version (d.0 == d.1) (t, []) _ (λ e. record { fits = refl; short = k })
-    (λ e. good-sends t.version t (λ u. del_rasp u f d.0 d.1) (Tsnarf f d.0 d.1 ∷ Tcut f d.0 d.1 ∷ []) k (del-none f d.0 d.1) refl)
+    (λ e. good-sends t.version t (λ u. cut_rasp u f d.0 d.1) (Tsnarf f d.0 d.1 ∷ Tcut f d.0 d.1 ∷ []) k (del-none f d.0 d.1) refl)
 good-event t (Paste f) k h =
     let cuts = good-cuts t.version t f k in
     good-then t.version (cuts_dot t f) (λ u. sends u unchanged (Tpaste f (window_at t f).dot.0 ∷ [])) cuts

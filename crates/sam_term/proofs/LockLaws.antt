@@ -10,7 +10,7 @@ use Rattle.sam_term.specs.declared.lock.Lock.{Lock}
 use Rattle.sam_term.specs.declared.lock.Lock.TheVariants.{NoLock, CommandLock, FileLock}
 use Rattle.sam_term.specs.Locks.{lock_of, is_command_line}
 use Rattle.sam_term.specs.LockCounts.{locks_on, is_command_lock, asks_for, locks_taken, takes_command, requests, locks_left, command_left, awaited_left}
-use Rattle.sam_term.specs.Term.{PlainTerminal, Made, blank_window, blank_known, known_at, window_at, put_known, put_window, del_rasp, lock_taken, asked, composed, all_composed, flushed, unsent_message, and_then, sends, sends_if, unchanged, requested, wanted, joins, joined, kept_unsent, typed_rasp, types, cuts_dot, ins_rasp, made_by, made_by_type, made_by_cut, made_by_paste, made_by_snarf, made_by_view, made_from, freed_known, took_bindname, took_data, took_grow, took_growdata, took_cut, took_unlockfile, took_close, took_exit}
+use Rattle.sam_term.specs.Term.{PlainTerminal, Made, blank_window, blank_known, known_at, window_at, put_known, put_window, edited, cut_rasp, lock_taken, asked, composed, all_composed, flushed, unsent_message, and_then, sends, sends_if, unchanged, requested, wanted, joins, joined, kept_unsent, typed_rasp, types, cuts_dot, ins_rasp, made_by, made_by_type, made_by_cut, made_by_paste, made_by_snarf, made_by_view, made_from, freed_known, took_bindname, took_data, took_grow, took_growdata, took_cut, took_unlockfile, took_close, took_exit}
 use Rattle.sam_term.specs.declared.files.Window.{Window}
 use Rattle.sam_term.specs.declared.files.KnownFile.{KnownFile}
 use Rattle.sam_term.specs.declared.event.UserEvent.{UserEvent}
@@ -142,14 +142,17 @@ holds-requested f h t g e = subst (λ x. Holds f x (requested t g)) e (holds-sen
 
 -- ## Events
 
-held-del : (f g p q : ℕ) (u : PlainTerminal) → held_of f (del_rasp u g p q) ≡ held_of f u
-held-del f g p q u = held-window u g _ f refl refl
+held-edited : (f : ℕ) (t : PlainTerminal) (g : ℕ) → held_of f (edited t g) ≡ held_of f t
+held-edited f t g = held-same t g (record (known_at t g) { changed = true }) f refl
+
+held-cut : (f g p q : ℕ) (u : PlainTerminal) → held_of f (cut_rasp u g p q) ≡ held_of f u
+held-cut f g p q u = held-window (edited u g) g _ f refl refl ∙ held-edited f u g
 
 holds-cuts : (f : ℕ) (t : PlainTerminal) (g : ℕ) → Holds f (held_of f t) (cuts_dot t g)
 holds-cuts f t g =
     let d = (window_at t g).dot in
     holds-if f (held_of f t) (d.0 == d.1) (t, []) _ (holds-none f (held_of f t) t refl)
-    (holds-sends f t (λ u. del_rasp u g d.0 d.1) (Tcut g d.0 d.1 ∷ []) (held-del f g d.0 d.1))
+    (holds-sends f t (λ u. cut_rasp u g d.0 d.1) (Tcut g d.0 d.1 ∷ []) (held-cut f g d.0 d.1))
 
 holds-kept : (f : ℕ) (t : PlainTerminal) (g p : ℕ) (s : List ℕ) → Holds f (held_of f t) (kept_unsent t g p s)
 holds-kept f t g p s =
@@ -160,8 +163,8 @@ holds-kept f t g p s =
 
 held-typed : (f : ℕ) (t : PlainTerminal) (g p : ℕ) (s : List ℕ) → held_of f (typed_rasp t g p s) ≡ held_of f t
 held-typed f t g p s =
-    let u = ins_rasp t g p (map Some s) in
-    held-window u g _ f refl refl ∙ held-window t g _ f refl refl
+    let u = ins_rasp (edited t g) g p (map Some s) in
+    held-window u g _ f refl refl ∙ (held-window (edited t g) g _ f refl refl ∙ held-edited f t g)
 
 holds-types : (f : ℕ) (t : PlainTerminal) (g p : ℕ) (s : List ℕ) → Holds f (held_of f t) (types t g p s)
 holds-types f t g p s =
@@ -184,7 +187,7 @@ holds-event f t (Select g p q) =
 holds-event f t (Cut g) =
     let d = (window_at t g).dot in
     holds-if f (held_of f t) (d.0 == d.1) (t, []) _ (holds-none f (held_of f t) t refl)
-    (holds-sends f t (λ u. del_rasp u g d.0 d.1) (Tsnarf g d.0 d.1 ∷ Tcut g d.0 d.1 ∷ []) (held-del f g d.0 d.1))
+    (holds-sends f t (λ u. cut_rasp u g d.0 d.1) (Tsnarf g d.0 d.1 ∷ Tcut g d.0 d.1 ∷ []) (held-cut f g d.0 d.1))
 holds-event f t (Paste g) =
     holds-then f (held_of f t) (cuts_dot t g) (λ u. sends u unchanged (Tpaste g (window_at t g).dot.0 ∷ [])) (holds-cuts f t g)
     (holds-plain f (cuts_dot t g).0 (Tpaste g (window_at t g).dot.0 ∷ []))
@@ -222,7 +225,7 @@ left_by f m h =
 held-exit : (f : ℕ) (t : PlainTerminal) → held_in false (unwrap_or (slot (map_slots freed_known t.files) f) blank_known) ≡ record { command = false; locks = 0; awaits = false }
 held-exit f t = ap (λ s. held_in false (unwrap_or s blank_known)) (slot-map freed_known t.files f) ∙ freed (slot t.files f)
   where
-    no_lock : (w : Option Window) → held_in false (freed_known (record { name = []; dirty = false; window = w })) ≡ record { command = false; locks = 0; awaits = false }
+    no_lock : (w : Option Window) → held_in false (freed_known (record { name = []; dirty = false; changed = false; window = w })) ≡ record { command = false; locks = 0; awaits = false }
     no_lock None = refl
     no_lock (Some w) = refl
 

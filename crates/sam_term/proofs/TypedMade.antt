@@ -6,7 +6,7 @@ use Rattle.std.proofs.lemmas.Bool.{le-ltb, ltb-false, leb-true, eqb-true}
 use Rattle.std.proofs.lemmas.Bool.Decides.{eqb_tells}
 use Rattle.sam_runes.specs.Texts.{is_empty, max_runes, most_count, most_in_message}
 use Rattle.sam_rasp.specs.Rasp.{PartialText, place_after_ins}
-use Rattle.sam_term.specs.Term.{PlainTerminal, Made, window_at, window_in, put_window, window_after_ins, window_after_del, moved_unsent, ins_rasp, set_dot_of, all_composed, flushed, unsent_message, and_then, joins, joined, kept_unsent, typed_rasp, types, cuts_dot, made_by, made_by_type, lock_taken}
+use Rattle.sam_term.specs.Term.{PlainTerminal, Made, window_at, window_in, put_window, window_after_ins, window_after_del, moved_unsent, edited, cut_rasp, ins_rasp, set_dot_of, all_composed, flushed, unsent_message, and_then, joins, joined, kept_unsent, typed_rasp, types, cuts_dot, made_by, made_by_type, lock_taken}
 use Rattle.sam_term.specs.Locks.{is_command_line}
 use Rattle.sam_term.specs.Editing.{typed_over, joined_at, lengthened, shortened, typed_file, typed_runes, cut_message, one_if, flushed_if}
 use Rattle.sam_term.specs.Sound.{IsSound, FitsUnsent, IsShort}
@@ -25,6 +25,7 @@ use Rattle.sam_term.proofs.Acts.{passes, test_at}
 use Rattle.sam_term.proofs.TypedLaws.{typed-cut, typed-in, sound-typed}
 use Rattle.std.proofs.Math.Seq.{take-append_seam}
 use Rattle.sam_term.proofs.Composes.{put-put, window-put_same, flushed-files}
+use Rattle.sam_term.proofs.Marks.{edited-window, edited-again}
 use Rattle.sam_term.proofs.CountLaws.{counts-event}
 use Rattle.sam_term.proofs.Edits.{later, overflows, fits_count, cut_made, cuts_none, cuts_some, cut-unsent, flushed-idle, flushed-messages, empty-or, filled-or}
 
@@ -52,9 +53,13 @@ moved-kept f p n j l = go (j.file == f)
     go true = ap (λ k. Some (record j { place = k })) stays
     go false = refl
 
--- runes typed at an empty dot
-typed-empty : (t : PlainTerminal) (f : ℕ) (s : List ℕ) (j : Unsent) → (window_at t f).dot.0 ≡ (window_at t f).dot.1 → j.place ≤ (window_at t f).dot.0 → typed_rasp (record t { unsent = Some j }) f (window_at t f).dot.0 s ≡ record (put_window t f (typed_over (window_at t f) s)) { unsent = Some j }
-typed-empty t f s j e l =
+-- runes that come in at p, with the dot after them
+abbrev placed : PlainTerminal → ℕ → ℕ → List ℕ → PlainTerminal
+placed t f p s = set_dot_of (ins_rasp t f p (map Some s)) f (p + length s, p + length s)
+
+-- at an empty dot
+placed-empty : (t : PlainTerminal) (f : ℕ) (s : List ℕ) (j : Unsent) → (window_at t f).dot.0 ≡ (window_at t f).dot.1 → j.place ≤ (window_at t f).dot.0 → placed (record t { unsent = Some j }) f (window_at t f).dot.0 s ≡ record (put_window t f (typed_over (window_at t f) s)) { unsent = Some j }
+placed-empty t f s j e l =
     let p = (window_at t f).dot.0 in
     let cells = map {A = ℕ} {B = Option ℕ} Some s in
     let w : Window = record (window_after_ins (window_at t f) p cells) { dot = (p + length s, p + length s) } in
@@ -62,9 +67,9 @@ typed-empty t f s j e l =
     ∙ (ap (λ o. record (put_window t f w) { unsent = o }) (moved-kept f p (length cells) j l)
     ∙ ap (λ v. record (put_window t f v) { unsent = Some j }) (typed-in (window_at t f) s e))
 
--- runes typed where a dot was cut
-typed-filled : (t : PlainTerminal) (f : ℕ) (s : List ℕ) (j : Unsent) (n : ℕ) → j.place ≤ (window_at t f).dot.0 → (window_at t f).dot.0 ≤ length (window_at t f).rasp → typed_rasp (record (put_window t f (window_after_del (window_at t f) (window_at t f).dot.0 (window_at t f).dot.1)) { unsent = Some j; sent = n }) f (window_at t f).dot.0 s ≡ record (put_window t f (typed_over (window_at t f) s)) { unsent = Some j; sent = n }
-typed-filled t f s j n l within =
+-- where a dot was cut
+placed-filled : (t : PlainTerminal) (f : ℕ) (s : List ℕ) (j : Unsent) (n : ℕ) → j.place ≤ (window_at t f).dot.0 → (window_at t f).dot.0 ≤ length (window_at t f).rasp → placed (record (put_window t f (window_after_del (window_at t f) (window_at t f).dot.0 (window_at t f).dot.1)) { unsent = Some j; sent = n }) f (window_at t f).dot.0 s ≡ record (put_window t f (typed_over (window_at t f) s)) { unsent = Some j; sent = n }
+placed-filled t f s j n l within =
     let p = (window_at t f).dot.0 in
     let cells = map {A = ℕ} {B = Option ℕ} Some s in
     let u : PlainTerminal = record t { unsent = Some j; sent = n } in
@@ -75,6 +80,24 @@ typed-filled t f s j n l within =
     ∙ (ap {A = PlainTerminal} (λ x. record x { unsent = moved_unsent f (place_after_ins p (length cells)) (Some j) }) (put-put u f cut w)
     ∙ (ap (λ o. record (put_window u f w) { unsent = o }) (moved-kept f p (length cells) j l)
     ∙ ap (λ v. record (put_window u f v) { unsent = Some j }) (typed-cut (window_at t f) s within))))
+
+-- the user types runes at an empty dot
+typed-empty : (t : PlainTerminal) (f : ℕ) (s : List ℕ) (j : Unsent) → (window_at t f).dot.0 ≡ (window_at t f).dot.1 → j.place ≤ (window_at t f).dot.0 → typed_rasp (record t { unsent = Some j }) f (window_at t f).dot.0 s ≡ record (put_window (edited t f) f (typed_over (window_at t f) s)) { unsent = Some j }
+typed-empty t f s j e l =
+    subst {A = Window} (λ w. w.dot.0 ≡ w.dot.1 → j.place ≤ w.dot.0 → typed_rasp (record t { unsent = Some j }) f w.dot.0 s ≡ record (put_window (edited t f) f (typed_over w s)) { unsent = Some j }) (edited-window t f)
+    (λ a b. placed-empty (edited t f) f s j a b) e l
+
+-- the user types runes where a dot was cut, so the file is marked twice
+typed-filled : (t : PlainTerminal) (f : ℕ) (s : List ℕ) (j : Unsent) (n : ℕ) → j.place ≤ (window_at t f).dot.0 → (window_at t f).dot.0 ≤ length (window_at t f).rasp → typed_rasp (record (cut_rasp t f (window_at t f).dot.0 (window_at t f).dot.1) { unsent = Some j; sent = n }) f (window_at t f).dot.0 s ≡ record (put_window (edited t f) f (typed_over (window_at t f) s)) { unsent = Some j; sent = n }
+typed-filled t f s j n l within =
+    subst {A = Window} (λ w. j.place ≤ w.dot.0 → w.dot.0 ≤ length w.rasp → typed_rasp (record (cut_rasp t f w.dot.0 w.dot.1) { unsent = Some j; sent = n }) f w.dot.0 s ≡ record (put_window (edited t f) f (typed_over w s)) { unsent = Some j; sent = n }) (edited-window t f)
+    (λ a b. marked-once ∙ placed-filled (edited t f) f s j n a b) l within
+  where
+    w : Window
+    w = window_at (edited t f) f
+
+    marked-once : typed_rasp (record (cut_rasp t f w.dot.0 w.dot.1) { unsent = Some j; sent = n }) f w.dot.0 s ≡ placed (record (cut_rasp t f w.dot.0 w.dot.1) { unsent = Some j; sent = n }) f w.dot.0 s
+    marked-once = ap {A = PlainTerminal} (λ u. placed (record u { unsent = Some j; sent = n }) f w.dot.0 s) (edited-again t f (window_after_del w w.dot.0 w.dot.1))
 
 -- ## What becomes unsent
 
@@ -107,7 +130,7 @@ by-steps t f s e =
 
 -- behind unsent runes
 abbrev behind : (t : PlainTerminal) (f : ℕ) (s : List ℕ) (d : ℕ × ℕ) → PlainTerminal
-behind t f s d = record (put_window t f (typed_over (window_at t f) s)) { unsent = Some (joined t.unsent f d.0 s) }
+behind t f s d = record (put_window (edited t f) f (typed_over (window_at t f) s)) { unsent = Some (joined t.unsent f d.0 s) }
 
 joins-place : (o : Option Unsent) (f p : ℕ) (s : List ℕ) → joins o f p s ≡ true → (joined o f p s).place ≤ p
 joins-place None f p s e = absurd (cc)
@@ -129,7 +152,7 @@ made-behind_dot t f s some e j =
     ∙ (ap (λ made. and_then made (then-typed f p s)) (kept-behind t f p s j)
     ∙ ap (λ u. flushed_if (is_command_line f s) u) (typed-empty t f s (joined t.unsent f p s) e (joins-place t.unsent f p s j))))
 
-pub made-behind : (t : PlainTerminal) (f : ℕ) (s : List ℕ) (d : ℕ × ℕ) → d ≡ (window_at t f).dot → is_empty s ≡ false → d.0 ≡ d.1 → joins t.unsent f d.0 s ≡ true → made_by t (Typed f s) ≡ flushed_if (is_command_line f s) (record (put_window t f (typed_over (window_at t f) s)) { unsent = Some (joined t.unsent f d.0 s) })
+pub made-behind : (t : PlainTerminal) (f : ℕ) (s : List ℕ) (d : ℕ × ℕ) → d ≡ (window_at t f).dot → is_empty s ≡ false → d.0 ≡ d.1 → joins t.unsent f d.0 s ≡ true → made_by t (Typed f s) ≡ flushed_if (is_command_line f s) (record (put_window (edited t f) f (typed_over (window_at t f) s)) { unsent = Some (joined t.unsent f d.0 s) })
 made-behind t f s d same some e j =
     subst {A = ℕ × ℕ} (λ x. x.0 ≡ x.1 → joins t.unsent f x.0 s ≡ true → made_by t (Typed f s) ≡ flushed_if (is_command_line f s) (behind t f s x)) (sym same)
     (λ h k. made-behind_dot t f s some h k) e j
@@ -137,7 +160,7 @@ made-behind t f s d same some e j =
 -- apart from them
 abbrev pub apart : PlainTerminal → ℕ → List ℕ → ℕ × ℕ → PlainTerminal
 apart t f s d =
-    record (all_composed (put_window (flushed t).0 f (typed_over (window_at t f) s)) (cut_message f d)) { unsent = Some (joined None f d.0 s) }
+    record (all_composed (put_window (edited (flushed t).0 f) f (typed_over (window_at t f) s)) (cut_message f d)) { unsent = Some (joined None f d.0 s) }
 
 abbrev pub made_apart : PlainTerminal → ℕ → List ℕ → ℕ × ℕ → Made
 made_apart t f s d =
@@ -145,7 +168,7 @@ made_apart t f s d =
 
 abbrev apart_with : PlainTerminal → ℕ → List ℕ → ℕ → Window → List Tmesg → PlainTerminal
 apart_with t f s p w ms =
-    record (all_composed (put_window (flushed t).0 f (typed_over w s)) ms) { unsent = Some (joined None f p s) }
+    record (all_composed (put_window (edited (flushed t).0 f) f (typed_over w s)) ms) { unsent = Some (joined None f p s) }
 
 same-window : (t : PlainTerminal) (f : ℕ) → window_at (flushed t).0 f ≡ window_at t f
 same-window t f = ap (λ ss. window_in ss f) (flushed-files t)
@@ -214,16 +237,16 @@ made-nothing t f d e h =
 
 -- ## Composing behind the change of the window
 
-typed-lock : (t : PlainTerminal) (f : ℕ) (w : Window) (b : Bool) → lock_taken (if b then CommandLock else NoLock) (put_window t f w) ≡ put_window (lock_taken (if b then CommandLock else NoLock) t) f w
+typed-lock : (t : PlainTerminal) (f : ℕ) (w : Window) (b : Bool) → lock_taken (if b then CommandLock else NoLock) (put_window (edited t f) f w) ≡ put_window (edited (lock_taken (if b then CommandLock else NoLock) t) f) f w
 typed-lock t f w true = refl
 typed-lock t f w false = refl
 
--- the unsent runes are composed after a window was put, as if it were before
-pub put-flushed : (t : PlainTerminal) (f : ℕ) (w : Window) → all_composed (record (put_window t f w) { unsent = None }) (unsent_message t.unsent) ≡ put_window (flushed t).0 f w
+-- the unsent runes are composed after the user changed a window, as if it were before
+pub put-flushed : (t : PlainTerminal) (f : ℕ) (w : Window) → all_composed (record (put_window (edited t f) f w) { unsent = None }) (unsent_message t.unsent) ≡ put_window (edited (flushed t).0 f) f w
 unfolding flushed
 put-flushed t f w = go t.unsent
   where
-    go : (o : Option Unsent) → all_composed (record (put_window t f w) { unsent = None }) (unsent_message o) ≡ put_window (all_composed (record t { unsent = None }) (unsent_message o)) f w
+    go : (o : Option Unsent) → all_composed (record (put_window (edited t f) f w) { unsent = None }) (unsent_message o) ≡ put_window (edited (all_composed (record t { unsent = None }) (unsent_message o)) f) f w
     go None = refl
     go (Some u) = typed-lock (record t { unsent = None; sent = t.sent + 1 }) f w (is_command_line u.file u.runes)
 

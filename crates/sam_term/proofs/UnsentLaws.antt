@@ -12,7 +12,7 @@ use Rattle.sam_term.specs.Locks.{is_command_line}
 use Rattle.sam_term.specs.declared.event.UserEvent.{UserEvent}
 use Rattle.sam_term.specs.declared.event.UserEvent.TheVariants.{Typed, Select, Cut, Paste, Snarf, Look, Search, Send, Dclick, Scroll, View, Open, Close, Write, Work, OpenCmd, New, Exit, Check, GetSnarf, SetSnarf, Version, Flush}
 use Rattle.sam_term.specs.declared.files.Unsent.{Unsent}
-use Rattle.sam_term.specs.Term.{PlainTerminal, Made, and_then, unsent_message, flushed, sends, sends_if, unchanged, wanted, requested, joins, joined, moved_unsent, kept_unsent, typed_rasp, types, cuts_dot, has_empty_dot, window_at, put_window, del_rasp, made_by_type, made_by_cut, made_by_paste, made_by_snarf, made_by_view, made_by, took_unlockfile}
+use Rattle.sam_term.specs.Term.{PlainTerminal, Made, and_then, unsent_message, flushed, sends, sends_if, unchanged, wanted, requested, joins, joined, moved_unsent, kept_unsent, typed_rasp, types, cuts_dot, has_empty_dot, window_at, put_window, cut_rasp, made_by_type, made_by_cut, made_by_paste, made_by_snarf, made_by_view, made_by, took_unlockfile}
 use Rattle.sam_term.specs.Unsent.{SendsFirst, EventsSendFirst, FramesSendFirst}
 use Rattle.sam_term.proofs.Grows.{ins_cases}
 
@@ -144,7 +144,7 @@ type t f p s =
 cuts : (t : PlainTerminal) (f : ℕ) → GoesMade t (cuts_dot t f)
 cuts t f =
     let d = (window_at t f).dot in
-    let change = λ (u : PlainTerminal). del_rasp u f d.0 d.1 in
+    let change = λ (u : PlainTerminal). cut_rasp u f d.0 d.1 in
     chosen t (has_empty_dot t f) (t, []) (sends t change (Tcut f d.0 d.1 ∷ [])) (same t.unsent) (sending t change (Tcut f d.0 d.1 ∷ []))
 
 typed : (t : PlainTerminal) (f : ℕ) (s : List ℕ) → GoesMade t (made_by_type t f s)
@@ -159,7 +159,7 @@ cut : (t : PlainTerminal) (f : ℕ) → GoesMade t (made_by_cut t f)
 unfolding made_by_cut
 cut t f =
     let d = (window_at t f).dot in
-    let change = λ (u : PlainTerminal). del_rasp u f d.0 d.1 in
+    let change = λ (u : PlainTerminal). cut_rasp u f d.0 d.1 in
     let messages = Tsnarf f d.0 d.1 ∷ Tcut f d.0 d.1 ∷ [] in
     chosen t (has_empty_dot t f) (t, []) (sends t change messages) (same t.unsent) (sending t change messages)
 

@@ -43,7 +43,7 @@ abbrev pub blank_window : Window
 blank_window = record { rasp = []; dot = (0, 0); view_start = 0; view_length = 0; locks = 0; awaits = false }
 
 abbrev pub blank_known : KnownFile
-blank_known = record { name = []; dirty = false; window = None }
+blank_known = record { name = []; dirty = false; changed = false; window = None }
 
 abbrev pub new_terminal : PlainTerminal
 new_terminal =
@@ -92,6 +92,10 @@ put_known t f known = record t { files = put_slot t.files f known }
 abbrev pub put_window : PlainTerminal → ℕ → Window → PlainTerminal
 put_window t f w = put_known t f (record (known_at t f) { window = Some w })
 
+-- the file may differ from what was written last: the host's mark says so, or the user changed it here since
+abbrev pub is_changed : PlainTerminal → ℕ → Bool
+is_changed t f = (known_at t f).dirty || (known_at t f).changed
+
 -- ## Partial texts, and the places that move with them
 
 -- the window after these members are put in at p
@@ -128,6 +132,14 @@ set_dot_of t f d = put_window t f (record (window_at t f) { dot = d })
 
 abbrev pub set_view_start : PlainTerminal → ℕ → ℕ → PlainTerminal
 set_view_start t f p = put_window t f (record (window_at t f) { view_start = p })
+
+-- the user changed the text of f here
+abbrev pub edited : PlainTerminal → ℕ → PlainTerminal
+edited t f = put_known t f (record (known_at t f) { changed = true })
+
+-- the user cuts what stands from p to q
+abbrev pub cut_rasp : PlainTerminal → ℕ → ℕ → ℕ → PlainTerminal
+cut_rasp t f p q = del_rasp (edited t f) f p q
 
 abbrev pub has_empty_dot : PlainTerminal → ℕ → Bool
 has_empty_dot t f = let d = (window_at t f).dot in d.0 == d.1
@@ -230,9 +242,9 @@ kept_unsent t f p s =
     then (record t { unsent = Some (joined t.unsent f p s) }, [])
     else and_then (flushed t) (λ u. (record u { unsent = Some (joined None f p s) }, []))
 
--- s typed in at p, with the dot after it
+-- the user types s at p, with the dot after it
 abbrev pub typed_rasp : PlainTerminal → ℕ → ℕ → List ℕ → PlainTerminal
-typed_rasp t f p s = set_dot_of (ins_rasp t f p (map Some s)) f (p + length s, p + length s)
+typed_rasp t f p s = set_dot_of (ins_rasp (edited t f) f p (map Some s)) f (p + length s, p + length s)
 
 -- s typed at p, where the cut dot began
 abbrev pub types : PlainTerminal → ℕ → ℕ → List ℕ → Made
@@ -244,7 +256,7 @@ types t f p s =
 abbrev pub cuts_dot : PlainTerminal → ℕ → Made
 cuts_dot t f =
     let d = (window_at t f).dot in
-    if has_empty_dot t f then (t, []) else sends t (λ u. del_rasp u f d.0 d.1) (Tcut f d.0 d.1 ∷ [])
+    if has_empty_dot t f then (t, []) else sends t (λ u. cut_rasp u f d.0 d.1) (Tcut f d.0 d.1 ∷ [])
 
 unfoldable pub made_by_type : PlainTerminal → ℕ → List ℕ → Made
 made_by_type t f s =
@@ -255,7 +267,7 @@ made_by_cut t f =
     let d = (window_at t f).dot in
     if has_empty_dot t f
     then (t, [])
-    else sends t (λ u. del_rasp u f d.0 d.1) (Tsnarf f d.0 d.1 ∷ Tcut f d.0 d.1 ∷ [])
+    else sends t (λ u. cut_rasp u f d.0 d.1) (Tsnarf f d.0 d.1 ∷ Tcut f d.0 d.1 ∷ [])
 
 unfoldable pub made_by_paste : PlainTerminal → ℕ → Made
 made_by_paste t f =
@@ -525,7 +537,7 @@ made_from t (Hunlockfile f) = requested (took_unlockfile t f) f
 made_from t (Hsetdot f p q) = (set_dot_of t f (p, q), [])
 made_from t (Hgrowdata f p s) = (took_growdata t f p s, [])
 made_from t (Hmoveto f p) = (set_view_start t f p, [])
-made_from t (Hclean f) = (put_known t f (record (known_at t f) { dirty = false }), [])
+made_from t (Hclean f) = (put_known t f (record (known_at t f) { dirty = false; changed = false }), [])
 made_from t (Hdirty f) = (put_known t f (record (known_at t f) { dirty = true }), [])
 made_from t (Hcut f p n) = (took_cut t f p n, [])
 made_from t (Hsetpat s) = (record t { pattern = s }, [])

@@ -7,7 +7,7 @@ ghost use Rattle.sam_runes.specs.Texts.{most_count};
 ghost use Rattle.sam_term.specs.Acting.{made_first, free_first, first_event, is_snarfing};
 ghost use Rattle.sam_term.specs.Editing.{shown_from};
 ghost use Rattle.sam_term.specs.Taking.{IsAnswer, done};
-ghost use Rattle.sam_term.specs.Term.{is_open, window_at, del_rasp, flushed, unsent_message};
+ghost use Rattle.sam_term.specs.Term.{is_open, is_known, window_at, cut_rasp, edited, flushed, unsent_message};
 
 use crate::event::{Acted, UserEvent};
 use crate::fault::TermFault;
@@ -145,18 +145,28 @@ impl Terminal {
         }
     }
 
-    /// Composes the unsent runes, and then takes the dot of a file out of its rasp. The caller composes the cut.
+    /// Marks a file that is known as changed by the user. It takes no memory.
+    pub(crate) fn mark_changed(&mut self, tag: u16)
+        requires { IsTrue (is_known self.old tag) }
+        ensures { self.new ≡ edited self.old tag }
+    {
+        self.files.file_mut(tag).changed = true;
+    }
+
+    /// Composes the unsent runes, and then takes the dot of a file out of its rasp, which marks the file as changed. The caller composes
+    /// the cut.
     pub(crate) fn cut_selected(&mut self, tag: u16, dot: (u32, u32), out: &mut Outbox)
         requires opened { IsTrue (is_open self.old tag) }
         requires dot { dot ≡ (window_at self.old tag).dot }
         requires counts { self.old.sent + length (unsent_message self.old.unsent) ≤ most_count }
         requires room { length (unsent_message self.old.unsent) ≤ out.old.room }
-        ensures cut { self.new ≡ del_rasp (flushed self.old).0 tag dot.0 dot.1 }
+        ensures cut { self.new ≡ cut_rasp (flushed self.old).0 tag dot.0 dot.1 }
         ensures messages { out.new.messages ≡ out.old.messages ++ (flushed self.old).1 }
         ensures room { out.old.room ≤ out.new.room + length (unsent_message self.old.unsent) }
     {
         self.known_window(tag);
         self.compose_unsent(out);
+        self.mark_changed(tag);
         self.cut_file(tag, dot.0, dot.1 - dot.0);
     }
 

@@ -1,6 +1,6 @@
 //! What each frame of the host does to the terminal, once nothing stands against it. `refusing` has the tests.
 
-ghost use Rattle.std.specs.Prelude.{◌≡◌, ◌+◌, ◌<◌, ◌≤◌, ◌==◌, if◌then◌else◌, [], length, IsTrue, None, false};
+ghost use Rattle.std.specs.Prelude.{◌≡◌, ◌+◌, ◌<◌, ◌≤◌, ◌==◌, if◌then◌else◌, [], length, IsTrue, None, false, true};
 ghost use Rattle.sam_runes.specs.Slots.{free_slot};
 ghost use Rattle.sam_runes.specs.Texts.{agreed, most_count, max_runes};
 ghost use Rattle.sam_term.specs.Taking.{IsAnswer, countable, frame_fault};
@@ -85,11 +85,11 @@ impl Terminal {
             Hmesg::Hdata(tag, p, text) => self.take_data(tag, p, text),
             Hmesg::Hgrowdata(tag, p, text) => self.take_growdata(tag, p, text),
             Hmesg::Hclean(tag) => {
-                self.mark_file(tag, false);
+                self.mark_clean(tag);
                 Ok(self.nothing())
             }
             Hmesg::Hdirty(tag) => {
-                self.mark_file(tag, true);
+                self.mark_dirty(tag);
                 Ok(self.nothing())
             }
             Hmesg::Hcut(tag, p, n) => {
@@ -205,6 +205,7 @@ impl Terminal {
         let file = KnownFile {
             name: Runes::from_vec(Vec::new(self.alloc)),
             dirty: false,
+            changed: false,
             window: None,
         };
         if let Err(_) = self.files.put_new(tag, file) {
@@ -221,12 +222,22 @@ impl Terminal {
         self.files.file_mut(tag).name = name;
     }
 
-    /// Takes `Hdirty` or `Hclean`: marks a file that is known as dirty or clean.
-    fn mark_file(&mut self, tag: u16, dirty: bool)
+    /// Takes `Hdirty`: marks a file that is known as dirty. Whether the user changed it here stays as it is.
+    fn mark_dirty(&mut self, tag: u16)
         requires { IsTrue (is_known self.old tag) }
-        ensures { self.new ≡ put_known self.old tag (record (known_at self.old tag) { dirty = dirty }) }
+        ensures { self.new ≡ put_known self.old tag (record (known_at self.old tag) { dirty = true }) }
     {
-        self.files.file_mut(tag).dirty = dirty;
+        self.files.file_mut(tag).dirty = true;
+    }
+
+    /// Takes `Hclean`: a file that is known was written, so it is neither dirty nor changed here any more.
+    fn mark_clean(&mut self, tag: u16)
+        requires { IsTrue (is_known self.old tag) }
+        ensures { self.new ≡ put_known self.old tag (record (known_at self.old tag) { dirty = false; changed = false }) }
+    {
+        let file = self.files.file_mut(tag);
+        file.dirty = false;
+        file.changed = false;
     }
 
     /// Takes `Hdelname`: drops a file that is not open, whose tag is not known afterwards.

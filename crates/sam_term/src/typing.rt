@@ -234,6 +234,7 @@ impl Terminal {
                 let Ok(_) = self.join_first(tag) else {
                     return Err(TermFault::OutOfMemory);
                 };
+                self.mark_changed(tag);
                 self.drop_first();
                 self.compose_line(line, &mut out);
                 Ok(self.done_with(out))
@@ -260,6 +261,7 @@ impl Terminal {
                 let Ok(before) = self.type_first(tag) else {
                     return Err(TermFault::OutOfMemory);
                 };
+                self.mark_changed(tag);
                 let runes = self.take_typed();
                 self.compose_runes(before, &mut out);
                 self.compose_cut(tag, dot, &mut out);
@@ -276,7 +278,7 @@ impl Terminal {
     }
 
     /// Puts the runes of the oldest event in the place of the dot of their file, which is empty, and behind the unsent ones, which they
-    /// join. The only error is want of memory, and the terminal is then unchanged.
+    /// join. The caller marks the file as changed. The only error is want of memory, and the terminal is then unchanged.
     fn join_first(&mut self, tag: u16) -> Result<(), AllocError>
         requires opened { IsTrue (is_open self.old tag) }
         requires first { IsTrue (is_typing (first_event self.old.held)) }
@@ -364,8 +366,9 @@ impl Terminal {
         }
     }
 
-    /// Puts the runes of the oldest event in the place of the dot of their file. The unsent runes are handed over, since the place where
-    /// they begin may go with the dot. The only error is want of memory, and the terminal is then unchanged.
+    /// Puts the runes of the oldest event in the place of the dot of their file, which the caller marks as changed. The unsent runes are
+    /// handed over, since the place where they begin may go with the dot. The only error is want of memory, and the terminal is then
+    /// unchanged.
     pub(crate) fn type_first(&mut self, tag: u16) -> Result<Option<Unsent>, AllocError>
         requires opened { IsTrue (is_open self.old tag) }
         requires first { IsTrue (is_typing (first_event self.old.held)) }

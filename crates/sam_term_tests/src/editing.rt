@@ -91,6 +91,57 @@ fn cut_of_two_runes(rt: HostRuntime) {
 }
 
 #[test]
+fn a_typed_file_is_changed_until_it_is_written(rt: HostRuntime) {
+    let alloc = rt.alloc();
+    let told = lent(Terminal::new(alloc), |terminal| {
+        (
+            opens_five_gaps(terminal),
+            terminal.is_changed(1),
+            types(alloc, terminal, 1, "X"),
+            terminal.is_changed(1),
+            takes(terminal, Hmesg::Hclean(1)),
+            terminal.is_changed(1),
+        )
+    });
+    assert_eq!(rt; told, (true, false, Some(0), true, true, false));
+}
+
+#[test]
+fn a_cut_file_is_changed_until_it_is_written(rt: HostRuntime) {
+    let told = lent(Terminal::new(rt.alloc()), |terminal| {
+        (
+            opens_five_gaps(terminal),
+            composed(
+                terminal,
+                UserEvent::Select(1, 0, 2),
+                |messages| messages.len(),
+            ),
+            composed(terminal, UserEvent::Cut(1), |messages| messages.len()),
+            terminal.is_changed(1),
+            takes(terminal, Hmesg::Hdirty(1)) && takes(terminal, Hmesg::Hclean(1)),
+            terminal.is_changed(1),
+        )
+    });
+    assert_eq!(rt; told, (true, Some(0), Some(2), true, true, false));
+}
+
+#[test]
+fn the_host_tells_of_a_changed_file(rt: HostRuntime) {
+    let alloc = rt.alloc();
+    let told = lent(Terminal::new(alloc), |terminal| {
+        (
+            opens_five_gaps(terminal),
+            types(alloc, terminal, 1, ""),
+            terminal.is_changed(1),
+            takes(terminal, Hmesg::Hdirty(1)),
+            terminal.is_changed(1),
+            terminal.is_changed(2),
+        )
+    });
+    assert_eq!(rt; told, (true, Some(0), false, true, true, false));
+}
+
+#[test]
 fn paste_locks_its_file(rt: HostRuntime) {
     let told = lent(Terminal::new(rt.alloc()), |terminal| {
         (

@@ -10,6 +10,8 @@ write_edit-requires-clause-within c =
 
 pub loop-edit-preserved : goal.loop-edit-preserved
 loop-edit-preserved c =
-    let left = left_over c.args.runes.now c.args.edits.now c.edit-item.result c.loop-edit.edit-index c.loop-edit.at (omega arith) c.edit-item.is c.loop-edit.invariant.0 in
-    (left.rest, written_more c.args.runes.now c.loop-edit.new.items c.write_edit.new.new.items (replace c.args.runes.now c.args.edits.now)
-      c.args.edits.now c.edit-item.result c.loop-edit.edit-index c.loop-edit.at left c.loop-edit.invariant.1 c.in_ok-write_edit.ensures)
+    let left = left_over c.args.runes.now c.args.edits.now c.edit-item.result c.loop-edit.edit-index c.loop-edit.at (omega arith) c.edit-item.is c.loop-edit.invariant.0 in (
+      left.rest,
+      written_more c.args.runes.now c.loop-edit.new.items c.write_edit.new.new.items (replace c.args.runes.now c.args.edits.now)
+          c.args.edits.now c.edit-item.result c.loop-edit.edit-index c.loop-edit.at left c.loop-edit.invariant.1 c.in_ok-write_edit.ensures,
+    )

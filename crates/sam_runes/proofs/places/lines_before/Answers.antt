@@ -17,8 +17,8 @@ loop-at-preserved c =
       omega arith,
       elim c.if-runes-at-eq10.branch [
         | then-runes-at-eq10+else-left-eq0 w ↦ rw w.left-is (sym (newline_passed t c.loop-at.at c.loop-at.left c.index-runes-at.result (omega arith)
-          (omega arith) (omega arith) c.index-runes-at.is w.if-runes-at-eq10.true) ∙ c.loop-at.invariant.1)
+            (omega arith) (omega arith) c.index-runes-at.is w.if-runes-at-eq10.true) ∙ c.loop-at.invariant.1)
         | else-runes-at-eq10 w ↦ rw w.left-is (sym (rune_passed t c.loop-at.at c.loop-at.left c.index-runes-at.result (omega arith)
-          (omega arith) c.index-runes-at.is w.if-runes-at-eq10.false) ∙ c.loop-at.invariant.1)
+            (omega arith) c.index-runes-at.is w.if-runes-at-eq10.false) ∙ c.loop-at.invariant.1)
       ],
     )

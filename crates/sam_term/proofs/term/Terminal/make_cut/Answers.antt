@@ -1,5 +1,5 @@
 use Rattle.std.proofs.Common.{ap, ◌∙◌, refl, arith, [], ◌∷◌, ◌++◌, ◌+◌, length}
-use Rattle.sam_term.specs.Term.{del_rasp, flushed, composed, unsent_message}
+use Rattle.sam_term.specs.Term.{cut_rasp, flushed, composed, unsent_message}
 use Rattle.sam_mesg.specs.declared.tmesg.Tmesg.TheVariants.{Tsnarf, Tcut}
 use Rattle.sam_term.specs.declared.event.UserEvent.TheVariants.{Cut}
 use Rattle.sam_term.proofs.Composes.{flushed-sent}
@@ -47,7 +47,7 @@ returns-in-Ok c =
     loud_answer t _ (Cut f) _ _ _ c.requires.first (made-cut (later t) f d c.dot_of-dot.ensures c.if-dot.false)
     (c.compose-in-Ok.ensures.composed
     ∙ ap (λ u. composed u (Tcut f d.0 d.1)) (c.compose.ensures.composed
-    ∙ ap (λ u. composed u (Tsnarf f d.0 d.1)) (c.cut_selected.ensures.cut ∙ ap (λ u. del_rasp (flushed u).0 f d.0 d.1) c.drop_first-in-Ok.ensures)))
+    ∙ ap (λ u. composed u (Tsnarf f d.0 d.1)) (c.cut_selected.ensures.cut ∙ ap (λ u. cut_rasp (flushed u).0 f d.0 d.1) c.drop_first-in-Ok.ensures)))
     c.done_with.ensures.done
     (two_more _ _ _ _ _ _ _ (ap (λ o. o.messages) c.in-Ok.ensures.ok) (c.cut_selected.ensures.messages ∙ ap (λ u. c.in-Ok.out.messages ++ (flushed u).1) c.drop_first-in-Ok.ensures) c.compose.ensures.messages c.compose-in-Ok.ensures.messages)
     c.done_with.ensures.countable

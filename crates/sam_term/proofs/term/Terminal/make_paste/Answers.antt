@@ -1,5 +1,5 @@
 use Rattle.std.proofs.Common.{sym, ap, ◌∙◌, refl, subst, arith, [], ◌∷◌, ◌++◌, ◌+◌, length}
-use Rattle.sam_term.specs.Term.{is_open, del_rasp, flushed, composed, unsent_message}
+use Rattle.sam_term.specs.Term.{is_open, edited, cut_rasp, flushed, composed, unsent_message}
 use Rattle.sam_term.specs.Taking.{IsAnswer, done}
 use Rattle.sam_mesg.specs.declared.tmesg.Tmesg.TheVariants.{Tpaste, Tcut}
 use Rattle.sam_term.specs.declared.event.UserEvent.TheVariants.{Paste}
@@ -48,7 +48,7 @@ pub compose-requires-in-Ok-clause-opened : goal.compose-requires-in-Ok-clause-op
 compose-requires-in-Ok-clause-opened c =
     let d = c.dot_of-selected.result in
     ap (λ t. is_open t c.args.tag) (c.compose.ensures.composed ∙ ap (λ u. composed u (Tcut c.args.tag d.0 d.1)) c.cut_selected.ensures.cut)
-    ∙ opened-put (flushed c.drop_first.new.self).0 c.args.tag _
+    ∙ opened-put (edited (flushed c.drop_first.new.self).0 c.args.tag) c.args.tag _
 
 pub returns-in-Ok : goal.returns-in-Ok
 returns-in-Ok c =
@@ -58,7 +58,7 @@ returns-in-Ok c =
     loud_answer t _ (Paste f) _ _ _ c.requires.first (made-paste (later t) f d c.dot_of-selected.ensures c.if-selected.false)
     (c.compose-in-Ok.ensures.composed
     ∙ ap (λ u. composed u (Tpaste f d.0)) (c.compose.ensures.composed
-    ∙ ap (λ u. composed u (Tcut f d.0 d.1)) (c.cut_selected.ensures.cut ∙ ap (λ u. del_rasp (flushed u).0 f d.0 d.1) c.drop_first.ensures)))
+    ∙ ap (λ u. composed u (Tcut f d.0 d.1)) (c.cut_selected.ensures.cut ∙ ap (λ u. cut_rasp (flushed u).0 f d.0 d.1) c.drop_first.ensures)))
     c.done_with.ensures.done
     (two_more _ _ _ _ _ _ _ (ap (λ o. o.messages) c.in-Ok.ensures.ok) (c.cut_selected.ensures.messages ∙ ap (λ u. c.in-Ok.out.messages ++ (flushed u).1) c.drop_first.ensures) c.compose.ensures.messages c.compose-in-Ok.ensures.messages)
     c.done_with.ensures.countable

@@ -1,5 +1,5 @@
 use Rattle.std.proofs.Common.{ap, ◌∙◌, refl, arith, [], ◌∷◌, ◌++◌, ◌+◌, length}
-use Rattle.sam_term.specs.Term.{del_rasp, flushed, composed, unsent_message}
+use Rattle.sam_term.specs.Term.{cut_rasp, flushed, composed, unsent_message}
 use Rattle.sam_mesg.specs.declared.tmesg.Tmesg.TheVariants.{Tcut}
 use Rattle.sam_term.specs.declared.event.UserEvent.TheVariants.{Typed}
 use Rattle.sam_term.proofs.Composes.{flushed-sent}
@@ -37,7 +37,7 @@ returns-in-Ok c =
     let f = c.args.tag in
     loud_answer t _ (Typed f []) _ _ _ c.requires.first (made-nothing (later t) f d c.requires.dot c.if-dot.false)
     (c.compose.ensures.composed
-    ∙ ap (λ u. composed u (Tcut f d.0 d.1)) (c.cut_selected.ensures.cut ∙ ap (λ u. del_rasp (flushed u).0 f d.0 d.1) c.drop_first-in-Ok.ensures))
+    ∙ ap (λ u. composed u (Tcut f d.0 d.1)) (c.cut_selected.ensures.cut ∙ ap (λ u. cut_rasp (flushed u).0 f d.0 d.1) c.drop_first-in-Ok.ensures))
     c.done_with.ensures.done
     (one_more _ _ _ _ _ (ap (λ o. o.messages) c.in-Ok.ensures.ok) (c.cut_selected.ensures.messages ∙ ap (λ u. c.in-Ok.out.messages ++ (flushed u).1) c.drop_first-in-Ok.ensures) c.compose.ensures.messages)
     c.done_with.ensures.countable

@@ -1,0 +1,11 @@
+use Rattle.std.proofs.Common.{ap, true}
+use Rattle.std.specs.Prelude.{unwrap_or}
+use Rattle.sam_term.specs.Term.{blank_window}
+use Rattle.sam_term.specs.Sound.{seen}
+use Rattle.sam_term.proofs.FileSteps.{sound-put_known}
+use Rattle.sam_term.proofs.term.Terminal.mark_dirty.Goals as goal
+
+pub invariant_of-self : goal.invariant_of-self
+invariant_of-self c =
+    sound-put_known (seen c.self.inside) c.args.tag (record c.file_mut.result.now { dirty = true }) c.self.invariant
+    (ap (λ k. unwrap_or k.window blank_window) c.file_mut.ensures.value)
