@@ -262,8 +262,8 @@ pub extern "C" fn sam_term_is_dirty(
     status
 }
 
-/// Hands out whether a file may differ from what was written last: the host told that it is dirty, or the user typed into it or cut from it
-/// here since. False if the tag is not known.
+/// Hands out whether a file may differ from what was written last: the host told that it is dirty, or the user typed into it or cut from
+/// it here since. False if the tag is not known.
 #[unsafe(no_mangle)]
 pub extern "C" fn sam_term_is_changed(
     term: &mut SamTerm,

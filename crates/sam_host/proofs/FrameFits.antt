@@ -185,7 +185,11 @@ fit-request h f p n =
     let t = (file_at h.files f).text in
     let a = min p (length t) in
     let b = min (p + min n most_in_message) (length t) in
-    fit-when (has_file h.files f) (Hdata f a (part t a b) ∷ Hunlockfile f ∷ []) (λ e. (λ v. le-leb (length (part t a b)) most_in_message (part-short t a b most_in_message (omega arith)), (λ v. refl, tt)))
+    fit-when (has_file h.files f) (Hdata f a (part t a b) ∷ Hunlockfile f ∷ []) (λ e. (
+      λ v. le-leb (length (part t a b)) most_in_message
+          (part-short t a b most_in_message (omega arith)),
+      (λ v. refl, tt),
+    ))
 
 fit-type : (h : PlainHost) (f p : ℕ) (s : List ℕ) → AllFit (reply_type h f p s).1
 unfolding reply_type

@@ -358,8 +358,8 @@ impl Host {
         Ok(frames)
     }
 
-    /// Types runes that end in a newline into the command file at `p`, and runs the line that this newline ends. If the line meets want of
-    /// memory, what was typed is taken out again.
+    /// Types runes that end in a newline into the command file at `p`, and runs the line that this newline ends. If the line meets want
+    /// of memory, what was typed is taken out again.
     fn type_line(&mut self, p: u32, runes: &[char]) -> Result<Vec<HFrame>, HostFault>
         requires count { self.old.taken + 1 < 2 ^ 64 }
         requires filled { 0 < length runes.now }
@@ -414,10 +414,10 @@ impl Host {
         }
     }
 
-    /// Answers `Ttype`: puts the runes in at `p`, as the terminal has done already, and so with no frame. If they go into the command file
-    /// and end in a newline, the line that this newline ends is run, and its frames are the answer. Errors, in this order: `NoFile`;
-    /// `NotOpen`; `BadPosition` if `p` is past the end; `TooLong` if the text would have more than `MAX_RUNES` runes; `OutOfMemory`. After an
-    /// error the host is unchanged. The caller counts the message.
+    /// Answers `Ttype`: puts the runes in at `p`, as the terminal has done already, and so with no frame. If they go into the command
+    /// file and end in a newline, the line that this newline ends is run, and its frames are the answer. Errors, in this order: `NoFile`;
+    /// `NotOpen`; `BadPosition` if `p` is past the end; `TooLong` if the text would have more than `MAX_RUNES` runes; `OutOfMemory`.
+    /// After an error the host is unchanged. The caller counts the message.
     #[tactic(auto, using(crate::proofs::TypingLaws::type_as_line, crate::proofs::TypingLaws::type_alone))]
     pub(crate) fn type_in(
         &mut self,

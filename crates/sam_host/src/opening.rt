@@ -1,5 +1,6 @@
-//! The answers to the version, to what opens, chooses or closes a file, and to the end of the session. (`start_new_file` stands in `lines`,
-//! since it may have to print.) A method for a kind leaves the count of messages to its caller, and after an error the host is unchanged.
+//! The answers to the version, to what opens, chooses or closes a file, and to the end of the session. (`start_new_file` stands in
+//! `lines`, since it may have to print.) A method for a kind leaves the count of messages to its caller, and after an error the host is
+//! unchanged.
 
 ghost use Rattle.std.specs.Prelude.{◌≡◌, ◌<◌, ◌+◌, ◌∷◌, [], ◌^◌, IfOk, OnOk, OnErr, Err, None, Some, true, not, drop};
 ghost use Rattle.sam_host.specs.Host.{host_checks, Refuses, Tells, stamped, when, told_length, told_names, with_files, reply_version, reply_startcmdfile, reply_startfile, reply_workfile, reply_close, reply_exit};
@@ -24,8 +25,8 @@ impl Host {
         self.say(frames, Hmesg::Hunlock)
     }
 
-    /// Tells the tag and the name of each file that was not announced, tags ascending. The command file is left out: `Tstartcmdfile` tells
-    /// its name.
+    /// Tells the tag and the name of each file that was not announced, tags ascending. The command file is left out: `Tstartcmdfile`
+    /// tells its name.
     fn tell_names(&self, frames: &mut Vec<HFrame>) -> Result<(), HostFault>
         requires count { self.now.taken + 1 < 2 ^ 64 }
         ensures ok { OnOk result (Tells self.now frames.old.items frames.new.items (told_names 1 (drop 1 self.now.files.slots))) }
@@ -139,8 +140,8 @@ impl Host {
         Ok(frames)
     }
 
-    /// Answers `Tworkfile`: makes an open file the work file, with the dot from `p` to `q`. Errors, in this order: `NoFile`; `CommandFile`;
-    /// `NotOpen`; `BadPosition` if the text has no such range; `OutOfMemory`.
+    /// Answers `Tworkfile`: makes an open file the work file, with the dot from `p` to `q`. Errors, in this order: `NoFile`;
+    /// `CommandFile`; `NotOpen`; `BadPosition` if the text has no such range; `OutOfMemory`.
     #[tactic(auto, unfolding(crate::specs::Host::reply_workfile))]
     pub(crate) fn work_file(&mut self, f: u16, p: u32, q: u32) -> Result<Vec<HFrame>, HostFault>
         requires { self.old.taken + 1 < 2 ^ 64 }
@@ -159,8 +160,8 @@ impl Host {
         Ok(frames)
     }
 
-    /// Answers `Tclose`: the file goes, with its text and its saved copy, and its tag is not given again. If it was the work file, there is
-    /// none afterwards. Errors, in this order: `NoFile`; `CommandFile`; `NotOpen`; `OutOfMemory`.
+    /// Answers `Tclose`: the file goes, with its text and its saved copy, and its tag is not given again. If it was the work file, there
+    /// is none afterwards. Errors, in this order: `NoFile`; `CommandFile`; `NotOpen`; `OutOfMemory`.
     #[tactic(auto, unfolding(crate::specs::Host::reply_close))]
     pub(crate) fn close(&mut self, f: u16) -> Result<Vec<HFrame>, HostFault>
         requires { self.old.taken + 1 < 2 ^ 64 }

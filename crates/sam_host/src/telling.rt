@@ -25,8 +25,8 @@ impl Host {
         Ok(())
     }
 
-    /// Tells that `runes` were put into the file at `p`: by `Hgrowdata` with the runes if there are at most `MOST_IN_MESSAGE`, else by `Hgrow` with their
-    /// number alone. Nothing is told if the file is not open or there are no runes.
+    /// Tells that `runes` were put into the file at `p`: by `Hgrowdata` with the runes if there are at most `MOST_IN_MESSAGE`, else by
+    /// `Hgrow` with their number alone. Nothing is told if the file is not open or there are no runes.
     #[tactic(auto, unfolding(crate::specs::Host::grown, crate::specs::Host::when))]
     pub(crate) fn grown(
         &self,
@@ -87,8 +87,8 @@ impl Host {
         self.say(frames, Hmesg::Hcheck(0))
     }
 
-    /// Tells what is about to be printed at the end of the command file. Nothing is told if there are no runes, if the command file has no
-    /// room for them, or if it is not open.
+    /// Tells what is about to be printed at the end of the command file. Nothing is told if there are no runes, if the command file has
+    /// no room for them, or if it is not open.
     #[tactic(auto, using(crate::proofs::FrameLaws::told_both), unfolding(crate::specs::Host::printed, crate::specs::Host::when))]
     pub(crate) fn tell_print(
         &self,

@@ -346,7 +346,12 @@ take_law t (Hmoveto f p) h =
     record { passes = x.passes; moves = put_moves f (Place p p) t (effect t (Hmoveto f p)) _ refl refl refl refl x.moves; composes = refl }
 take_law t (Hclean f) h =
     let x = known_here f t h in
-    record { passes = x.passes; moves = put_moves f Needs_known t (effect t (Hclean f)) (record (known_of (slot t.files f)) { dirty = false; changed = false }) refl refl refl refl x.moves; composes = refl }
+    record {
+      passes = x.passes;
+      moves = put_moves f Needs_known t (effect t (Hclean f)) (record (known_of (slot t.files f)) { dirty = false; changed = false })
+          refl refl refl refl x.moves;
+      composes = refl;
+    }
 take_law t (Hdirty f) h =
     let x = known_here f t h in
     record { passes = x.passes; moves = put_moves f Needs_known t (effect t (Hdirty f)) (record (known_of (slot t.files f)) { dirty = true }) refl refl refl refl x.moves; composes = refl }

@@ -23,12 +23,12 @@ module _ {T : Type 0} where
   at_sent (x ∷ xs) (suc k) p e = at_sent xs k p e
 
   account : (k : ℕ) (taken entries : List (Entry T)) (p : PostView T) (left : List T)
-    → p.number ≡ k → loads k (taken ++ entries) ≡ all_of p.put p.closed → left ≡ items_of k entries → Accounted taken p left
+      → p.number ≡ k → loads k (taken ++ entries) ≡ all_of p.put p.closed → left ≡ items_of k entries → Accounted taken p left
   account k taken entries p left number told is =
       let parts : loads k taken ++ loads k entries ≡ all_of p.put p.closed = sym (loads-append k taken entries) ∙ told in
       record {
         items = ap (λ n. items_of n taken ++ left) number ∙ ap (λ l. items_of k taken ++ l) is
-          ∙ sym (items_of-append k taken entries) ∙ ap (λ l. filter_map (λ x. x) l) told ∙ items_said p.put p.closed;
+            ∙ sym (items_of-append k taken entries) ∙ ap (λ l. filter_map (λ x. x) l) told ∙ items_said p.put p.closed;
         marked = λ mark.
             let marked : has_mark (loads k taken) ≡ true = ap (λ n. has_left n taken) (sym number) ∙ mark in
             let none = none_after_mark (loads k taken) (loads k entries) p.put p.closed parts marked in
@@ -54,7 +54,7 @@ module _ {T : Type 0} where
 
   -- where each sender was seen to leave, nothing is left
   pub nothing_left : (t : TakeView T) (posts : List (PostView T)) (left : List (Vec T Global))
-    → ArePostsOf t.line posts → AllAccounted t.taken posts left → IsEnded t.line.senders t.taken → All (λ v. v.items ≡ []) left
+      → ArePostsOf t.line posts → AllAccounted t.taken posts left → IsEnded t.line.senders t.taken → All (λ v. v.items ≡ []) left
   nothing_left t posts left of all ended = all_by_place (λ (v : Vec T Global). v.items ≡ []) left (λ k v list.
       let below : k < length left = slice_get_within left k v list in
       let post = found_at posts k (omega (arith, all.many)) in

@@ -107,3 +107,6 @@ module _ {T : Type 0} where
       let has = All-head P (part_of p) [] (all_right P t.told (part_of p ∷ []) none.1) in
       let long : length (loads p.number t.taken) ≡ length (all_of p.put p.closed) + length has.0 = ap length has.1 ∙ length-append (all_of p.put p.closed) has.0 in
       omega arith
+
+-- what lets the first item of a line with one sender through
+pub ruleset first_goes_through = (alone_by_itself, first_not_filled, known_not_empty)

@@ -15,7 +15,7 @@ module _ {T : Type 0} where
 
   pub room_more : (n : ℕ) (left : List (Vec T Global)) (v : Vec T Global) → IsRoom n left → v.items ≡ [] → n ≤ vec_capacity v → IsRoom n (left ++ v ∷ [])
   room_more n left v room none long k u e = ⊎_elim (λ (h : slice_get left k ≡ Some u). room k u h)
-    (λ (h : v ≡ u). subst (λ (w : Vec T Global). (w.items ≡ []) × (n ≤ vec_capacity w)) h (none, long)) (get_snoc left v u k e)
+      (λ (h : v ≡ u). subst (λ (w : Vec T Global). (w.items ≡ []) × (n ≤ vec_capacity w)) h (none, long)) (get_snoc left v u k e)
 
   pub items_of-append : (k : ℕ) (xs ys : List (Entry T)) → items_of k (xs ++ ys) ≡ items_of k xs ++ items_of k ys
   items_of-append k xs ys = ap (λ l. filter_map (λ x. x) l) (loads-append k xs ys) ∙ filter_map-append (λ x. x) (loads k xs) (loads k ys)
@@ -34,7 +34,7 @@ module _ {T : Type 0} where
 
   -- there is room for one more
   pub room_left : (n k : ℕ) (entries after all : List (Entry T)) (e : Entry T) (left : List (Vec T Global)) (v : Vec T Global)
-    → IsSortedInto n entries left → slice_get left k ≡ Some v → entries ++ e ∷ after ≡ all → n ≡ length all
+      → IsSortedInto n entries left → slice_get left k ≡ Some v → entries ++ e ∷ after ≡ all → n ≡ length all
       → length v.items < vec_capacity v
   room_left n k entries after all e left v sorted is split many =
       let s = sorted k v is in
@@ -48,7 +48,7 @@ module _ {T : Type 0} where
   pub sender_within : (n : ℕ) (before after all : List (Entry T)) (e : Entry T) → All (λ x. x.sender < n) all → before ++ e ∷ after ≡ all → e.sender < n
   sender_within n before after all e within split =
       All-contains (λ (x : Entry T). x.sender < n) (before ++ e ∷ after) e (subst (All (λ (x : Entry T). x.sender < n)) (sym split) within)
-        (Contains-append_right before (e ∷ after) e (0, omega arith, refl))
+      (Contains-append_right before (e ∷ after) e (0, omega arith, refl))
 
   pub one_item : (k : ℕ) (e : Entry T) (m : T) → e.load ≡ Some m → e.sender ≡ k → items_of k (e ∷ []) ≡ m ∷ []
   one_item k e m load is = ap (λ l. filter_map (λ x. x) l) (loads_mine k e [] is) ∙ ap (λ l. filter_map (λ x. x) (l ∷ [])) load
@@ -70,7 +70,7 @@ module _ {T : Type 0} where
 
   -- an item is added to the list of its sender
   pub sorted_item : (n : ℕ) (entries : List (Entry T)) (left : List (Vec T Global)) (e : Entry T) (m : T) (old new : Vec T Global)
-    → IsSortedInto n entries left → e.load ≡ Some m → slice_get left e.sender ≡ Some old
+      → IsSortedInto n entries left → e.load ≡ Some m → slice_get left e.sender ≡ Some old
       → new.items ≡ old.items ++ m ∷ [] → vec_capacity new ≡ vec_capacity old → IsSortedInto n (entries ++ e ∷ []) (set left e.sender new)
   sorted_item n entries left e m old new sorted load was pushed room k v is = ⊎_elim
       (λ (t : (k ≡ e.sender) × (new ≡ v)).

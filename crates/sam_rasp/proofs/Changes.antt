@@ -35,7 +35,7 @@ cut-cells t a s s' r l r' o₁ o₂ o₃ p n at end whole place inside ends cut 
     let beyond : at + n - end ≡ (at + n) - length s = omega (arith, ends) in
     let past : length a + (at + n) ≡ p + n = omega (arith, place) in
     let back : drop (p + n) t ≡ drop (at + n) s ++ drop (at + n - end) r =
-      ap (drop (p + n)) (sym whole) ∙ (drop-past a (s ++ r) (at + n) (p + n) past ∙ drop-joined s r (at + n) (at + n - end) beyond) in
+    ap (drop (p + n)) (sym whole) ∙ (drop-past a (s ++ r) (at + n) (p + n) past ∙ drop-joined s r (at + n) (at + n - end) beyond) in
     let kept : drop end s ≡ drop (at + n) s = ap (λ j. drop j s) ends ∙ drop_min (at + n) s in
     let first : o₁ ≡ (a ++ take at s) ++ drop (at + n) s = e₁ ∙ (ap (λ x. a ++ x) (cut ∙ ap (λ x. take at s ++ x) kept) ∙ sym (append_assoc a (take at s) (drop (at + n) s))) in
     e₃ ∙ (ap (λ x. x ++ r') e₂ ∙ (append_assoc o₁ l r' ∙ (ap (λ x. o₁ ++ x) left ∙ (ap (λ x. x ++ drop (at + n - end) r) first
@@ -66,8 +66,18 @@ pub replace-fits : (t a s s₁ s₂ b r m l r' o₁ o₂ o₃ : PartialText) (p 
     → length o₃ + (length l + length r') ≤ most
 replace-fits t a s s₁ s₂ b r m l r' o₁ o₂ o₃ p n at end most whole place inside size ends c₁ c₂ cut left e₁ e₂ e₃ total within =
     let all = ap length (replace-cells t a s s₁ s₂ b r m l r' o₁ o₂ o₃ (o₃ ++ l) ((o₃ ++ l) ++ r') p n at end whole place inside size ends c₁ c₂ cut left e₁ e₂ e₃ refl refl) in
-    omega (arith, all, length-append (o₃ ++ l) r', length-append o₃ l,
-      length-append (take p t ++ m) (drop (p + n) t), length-append (take p t) m, length-take p t, length-drop (p + n) t, total, within)
+    omega (
+      arith,
+      all,
+      length-append (o₃ ++ l) r',
+      length-append o₃ l,
+      length-append (take p t ++ m) (drop (p + n) t),
+      length-append (take p t) m,
+      length-take p t,
+      length-drop (p + n) t,
+      total,
+      within,
+    )
 
 -- one more stretch of a text
 pub one-more : (old new : PartialText) (t : List ℕ) (at end : ℕ) → old ≡ map Some (take at t) → new ≡ old ++ map Some (take (end - at) (drop at t)) → at ≤ end → new ≡ map Some (take end t)

@@ -19,8 +19,18 @@ pub behind-part : {X : Type 0} (v y old : List X) (front n end len : ℕ) → le
 behind-part v y old front n end len lv ly sum within =
     let rest = drop n (drop front v) in
     let m = take front v ++ (y ++ rest) in
-    let same : length m ≡ len = omega (arith, length-append (take front v) (y ++ rest),
-      length-append y rest, length-take front v, length-drop n (drop front v), length-drop front v, lv, ly, sum, within) in
+    let same : length m ≡ len = omega (
+      arith,
+      length-append (take front v) (y ++ rest),
+      length-append y rest,
+      length-take front v,
+      length-drop n (drop front v),
+      length-drop front v,
+      lv,
+      ly,
+      sum,
+      within,
+    ) in
     let la : length (take front v) + n ≡ end = omega (arith, length-take front v, lv, sum, within) in
     ap (drop end) (take_at m (drop (length m) old) len same)
     ∙ (drop-past (take front v) (y ++ rest) n end la ∙ (drop_at y rest n ly ∙ (drop-drop n front v ∙ ap (λ j. drop j v) sum)))
@@ -105,13 +115,34 @@ opened xs o w z front number last begin first inner next le few ordered within b
     record {
       list = list;
       whole = whole;
-      lengths = ap length whole ∙ omega (arith, b, length-append (cells_of a) ((cells_of o ++ cells_back w) ++ (cells_of z ++ cells_of d)), length-append
-        (cells_of o ++ cells_back w) (cells_of z ++ cells_of d), length-append (cells_of o) (cells_back w), length-append (cells_of z) (cells_of d));
+      lengths = ap length whole ∙ omega (
+        arith,
+        b,
+        length-append (cells_of a) ((cells_of o ++ cells_back w) ++ (cells_of z ++ cells_of d)),
+        length-append
+            (cells_of o ++ cells_back w) (cells_of z ++ cells_of d),
+        length-append (cells_of o) (cells_back w),
+        length-append (cells_of z) (cells_of d),
+      );
       before = omega (arith, b, f, ap (λ y. length (cells_of y)) to-number, ap length (cells-append a o), length-append (cells_of a) (cells_of o));
-      ends = omega (arith, b, ap (λ y. length (cells_of y)) to-last, ap length (cells-append a (o ++ reverse w)),
-        length-append (cells_of a) (cells_of (o ++ reverse w)), ap length inside, length-append (cells_of o) (cells_back w));
-      count = ap length list ∙ omega (arith, la, length-append a ((o ++ reverse w) ++ (z ++ d)),
-        length-append (o ++ reverse w) (z ++ d), length-append o (reverse w), length-reverse w, length-append z d);
+      ends = omega (
+        arith,
+        b,
+        ap (λ y. length (cells_of y)) to-last,
+        ap length (cells-append a (o ++ reverse w)),
+        length-append (cells_of a) (cells_of (o ++ reverse w)),
+        ap length inside,
+        length-append (cells_of o) (cells_back w),
+      );
+      count = ap length list ∙ omega (
+        arith,
+        la,
+        length-append a ((o ++ reverse w) ++ (z ++ d)),
+        length-append (o ++ reverse w) (z ++ d),
+        length-append o (reverse w),
+        length-reverse w,
+        length-append z d,
+      );
     }
 
 -- a change inside t, with a before it and b behind it

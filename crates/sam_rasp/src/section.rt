@@ -128,11 +128,7 @@ impl Section {
     }
 
     /// Takes out the runes or gaps from place `p` to place `q`, which may leave the section empty.
-    #[tactic(auto, using(
-        crate::proofs::SectionLaws::cut_loaded,
-        crate::proofs::SectionLaws::cut_hole,
-        crate::proofs::SectionLaws::length_cut,
-    ))]
+    #[tactic(auto, using(crate::proofs::SectionLaws::cuts))]
     pub fn cut(&mut self, p: u32, q: u32)
         requires ascending { p ≤ q }
         requires within { q ≤ size self.old }
@@ -147,12 +143,7 @@ impl Section {
 
     /// Cuts the section in two at place `p`: it keeps what stands before `p`, and what stands from `p` on is returned. The returned
     /// section is made in `tail`, an empty piece, so that no memory is asked for.
-    #[tactic(auto, using(
-        crate::proofs::SectionLaws::front_loaded,
-        crate::proofs::SectionLaws::back_loaded,
-        crate::proofs::SectionLaws::front_hole,
-        crate::proofs::SectionLaws::back_hole,
-    ))]
+    #[tactic(auto, using(crate::proofs::SectionLaws::halves))]
     pub fn split(&mut self, p: u32, tail: Piece) -> Section
         requires within { p ≤ size self.old }
         requires empty { tail ≡ [] }

@@ -204,8 +204,8 @@ fn push_next(out: &mut Vec<Section>, next: Option<Section>)
 }
 
 /// Puts the sections `more` in the place of what stands from place `p` to place `q`. The caller provides all memory: room in the first
-/// three lists, and `tail` for the end of a section that is cut in two. Without a `tail` nothing is put in. The sections behind those that
-/// are reached move only if the number of sections changes.
+/// three lists, and `tail` for the end of a section that is cut in two. Without a `tail` nothing is put in. The sections behind those
+/// that are reached move only if the number of sections changes.
 pub fn replace_sections(
     sections: &mut Vec<Section>,
     out: &mut Vec<Section>,

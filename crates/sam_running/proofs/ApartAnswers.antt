@@ -142,8 +142,8 @@ unfolding reply_startcmdfile
 keeps-startcmdfile h =
     keeps-if h (file_at h.files 0).opened _ _ (record { plain = (tt, tt); version = refl })
     (record {
-      plain = plain-both (Hnewname 0 ∷ Hmovname 0 command_name ∷ Hbindname 0 ∷ told_length 0 (file_at h.files 0)) (Hunlock ∷ []) (plain-both (Hnewname 0
-        ∷ Hmovname 0 command_name ∷ Hbindname 0 ∷ []) (told_length 0 (file_at h.files 0)) (tt, (tt, (tt, tt))) (plain-length 0 (file_at h.files 0))) (tt, tt);
+      plain = plain-both (Hnewname 0 ∷ Hmovname 0 command_name ∷ Hbindname 0 ∷ told_length 0 (file_at h.files 0)) (Hunlock ∷ [])
+          (plain-both (Hnewname 0 ∷ Hmovname 0 command_name ∷ Hbindname 0 ∷ []) (told_length 0 (file_at h.files 0)) (tt, (tt, (tt, tt))) (plain-length 0 (file_at h.files 0))) (tt, tt);
       version = refl;
     })
 

@@ -111,7 +111,7 @@ module _ (given : List (List ℕ × List ℕ)) (entries : List TermLog) (h : Pla
   composed_in_turn =
       in_turn terminal 1 composed
       (composed_turn entries (new_host given) h new_terminal t composed
-        handled handled_begins.rest taken taken_begins.rest refl refl refl (starts_in_order given a.given_fit) host_runs a.term_runs handled_begins.is)
+      handled handled_begins.rest taken taken_begins.rest refl refl refl (starts_in_order given a.given_fit) host_runs a.term_runs handled_begins.is)
       a.composed_fit
 
   answered_in_turn : FitInTurn host 1 answered

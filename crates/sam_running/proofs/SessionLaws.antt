@@ -25,7 +25,7 @@ puts_first : (number : ℕ) (events : List UserEvent) (line : LineView) (e : Use
 puts_first number events line e told = record {
   rest = map User (drop told.many events);
   is = ap (λ l. map User l) (sym (take-append-drop told.many events))
-    ∙ (map-append User (take told.many events) (drop told.many events) ∙ ap (λ l. l ++ map User (drop told.many events)) (sym told.put));
+      ∙ (map-append User (take told.many events) (drop told.many events) ∙ ap (λ l. l ++ map User (drop told.many events)) (sym told.put));
 }
 
 puts_all : (number : ℕ) (events : List UserEvent) (line : LineView) (e : UserEnd) → UserTold number events line e → e.stop ≡ None → e.post.put ≡ map User events

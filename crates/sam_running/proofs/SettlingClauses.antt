@@ -160,12 +160,12 @@ module _ (keys clicks : List UserEvent) (lines : LinesView) (e : Ends) (told : T
   up_bytes : stream_of terminal composed ≡ stream_of terminal handled ++ (told.host.rest ++ (bytes_of up_parts.left ++ told.term.outbox))
   up_bytes =
       bytes_joined (items_of 0 e.host.take.taken) up_parts.left e.term.post.put
-        (stream_of terminal handled) told.host.rest told.term.outbox (stream_of terminal composed) up_parts.items told.host.got told.term.sent
+      (stream_of terminal handled) told.host.rest told.term.outbox (stream_of terminal composed) up_parts.items told.host.got told.term.sent
 
   down_bytes : stream_of host answered ≡ stream_of host passed ++ (told.reader.rest ++ (bytes_of down_parts.left ++ told.host.outbox))
   down_bytes =
       bytes_joined (items_of 0 e.reader.take.taken) down_parts.left
-        e.host.post.put (stream_of host passed) told.reader.rest told.host.outbox (stream_of host answered) down_parts.items told.reader.got told.host.sent
+      e.host.post.put (stream_of host passed) told.reader.rest told.host.outbox (stream_of host answered) down_parts.items told.reader.got told.host.sent
 
   -- ## What is left
 
@@ -292,7 +292,7 @@ module _ (keys clicks : List UserEvent) (lines : LinesView) (e : Ends) (told : T
       has_users =
           let two = split_map Host (items_of 2 e.term.take.taken) frame_parts.left passed (frame_parts.items ∙ told.reader.put) in
           let one = split_map Host (items_of 2 told.term.handled) (items_of 2 told.term.dropped)
-            two.0 (sym (items_of-append 2 told.term.handled told.term.dropped) ∙ (sym (ap (items_of 2) told.term.took) ∙ two.2)) in
+          two.0 (sym (items_of-append 2 told.term.handled told.term.dropped) ∙ (sym (ap (items_of 2) told.term.took) ∙ two.2)) in
           record {
             handled = told.term.handled;
             dropped = told.term.dropped;
@@ -363,7 +363,7 @@ module _ (keys clicks : List UserEvent) (lines : LinesView) (e : Ends) (told : T
     no_foreign n (inr f) =
         let two = split_map Host (items_of 2 e.term.take.taken) frame_parts.left passed (frame_parts.items ∙ told.reader.put) in
         let one = split_map Host (items_of 2 told.term.handled)
-          (items_of 2 told.term.dropped) two.0 (sym (items_of-append 2 told.term.handled told.term.dropped) ∙ (sym (ap (items_of 2) told.term.took) ∙ two.2)) in
+        (items_of 2 told.term.dropped) two.0 (sym (items_of-append 2 told.term.handled told.term.dropped) ∙ (sym (ap (items_of 2) told.term.took) ∙ two.2)) in
         no_user f.0 (items_of 2 f.1) one.1 (sym (ap (items_of 2) f.2 ∙ items_mine 2 (record { sender = 2; load = Some (User f.0) }) f.1 refl) ∙ one.3)
       where
         no_user : (event : UserEvent) (more : List Input) (fs : List HFrame) → User event ∷ more ≡ map Host fs → ⊥
@@ -416,7 +416,7 @@ module _ (keys clicks : List UserEvent) (lines : LinesView) (e : Ends) (told : T
         record {
           full = subst (λ l. Each IsFull l) (sym stops)
               (each_append IsFull (os ++ bs ++ cs ++ ds) fs
-                (each_append IsFull (os ++ bs ++ cs) ds (each_append IsFull (os ++ bs) cs (each_append IsFull os bs a.full b.full) c.full) d.full) f.0.full);
+              (each_append IsFull (os ++ bs ++ cs) ds (each_append IsFull (os ++ bs) cs (each_append IsFull os bs a.full b.full) c.full) d.full) f.0.full);
           gone = omega arith;
           early = λ l. ap (λ (t : PlainTerminal). t.has_exited) term ∙ f.1 (omega arith);
         }
@@ -485,8 +485,11 @@ module _ (keys clicks : List UserEvent) (lines : LinesView) (e : Ends) (told : T
         let down_empty = none_under_way_down frames_all (all_passed o.2 o.3) in
         let same = same_Some s.world last (sym ran ∙ runs) in
         record {
-          events = (told.term.own, ap users schedule ∙ (laws.joined.users_are ∙ (told.term.users ∙ ap (λ l. users_in l ++ told.term.own) all_handled)),
-            subst (λ l. IsOwnExit told.term.own l) all_handled told.term.exits);
+          events = (
+            told.term.own,
+            ap users schedule ∙ (laws.joined.users_are ∙ (told.term.users ∙ ap (λ l. users_in l ++ told.term.own) all_handled)),
+            subst (λ l. IsOwnExit told.term.own l) all_handled told.term.exits,
+          );
           exited = ap (λ (x : PlainTerminal). x.has_exited) term ∙ t.2;
           held = ap (λ (x : PlainTerminal). x.held) term ∙ t.3;
           quiet = ap is_quiet same ∙ quiet_of last (ap (λ (x : PlainTerminal). x.unsent) laws.joined.term_is ∙ t.4) up_empty down_empty;

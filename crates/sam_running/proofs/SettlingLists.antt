@@ -99,8 +99,15 @@ module _ {T : Type 0} where
   pub none_left_of_three : (t : TakeView T) (a b c : PostView T) → (a.number ≡ 0) × (items_of 0 t.taken ≡ a.put) → (b.number ≡ 1) × (items_of 1 t.taken ≡ b.put)
       → (c.number ≡ 2) × (items_of 2 t.taken ≡ c.put) → left_in t (a ∷ b ∷ c ∷ []) ≡ 0
   none_left_of_three t a b c first second third =
-      omega (arith, sum_by-cons (left_of t) a (b ∷ c ∷ []), sum_by-cons (left_of t) b (c ∷ []),
-        sum_by-cons (left_of t) c [], none_left 0 t a first.0 first.1, none_left 1 t b second.0 second.1, none_left 2 t c third.0 third.1)
+      omega (
+        arith,
+        sum_by-cons (left_of t) a (b ∷ c ∷ []),
+        sum_by-cons (left_of t) b (c ∷ []),
+        sum_by-cons (left_of t) c [],
+        none_left 0 t a first.0 first.1,
+        none_left 1 t b second.0 second.1,
+        none_left 2 t c third.0 third.1,
+      )
 
   pub senders_within : (t : TakeView T) (posts : List (PostView T)) → Gives t posts → Each (λ e. e.sender < t.line.senders) t.taken
   senders_within t posts g =

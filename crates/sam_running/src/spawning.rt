@@ -371,8 +371,8 @@ pub struct Handles<'s, 'q, G: Gate> {
     pub term: TermHandle<'s, 'q, G>,
 }
 
-/// Starts the five threads, whose workers wait for `start`. Returns `None` if one of them could not be started, and then the caller has to
-/// call the start off.
+/// Starts the five threads, whose workers wait for `start`. Returns `None` if one of them could not be started, and then the caller has
+/// to call the start off.
 pub fn spawn_all<'s, 'e: 's, 'q: 's, R: Wait + Sync, G: Gate>(
     scope: &'s Scope<'s, &'e ()>,
     rt: &'s R,

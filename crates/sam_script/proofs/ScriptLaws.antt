@@ -107,7 +107,8 @@ spells_push lines line old new p (it, says, may, is) = record {
     ordered xs (said.File name text) q follows = ordered_file 1 xs name text q follows.0
     ordered xs said.Nothing q follows = ordered_other xs said.Nothing q refl
 
-    room : (xs : List Said) (x : Said) → length (files_said xs) ≤ most_files → MayFollow (record { files = files_said xs; lines = lines_said 1 xs }) x → length (files_said xs ++ file_said x) ≤ most_files
+    room : (xs : List Said) (x : Said) → length (files_said xs) ≤ most_files → MayFollow (record { files = files_said xs; lines = lines_said 1 xs }) x
+        → length (files_said xs ++ file_said x) ≤ most_files
     room xs (said.Line l) q follows = subst (λ fs. length fs ≤ most_files) (sym (append-nil (files_said xs))) q
     room xs (said.File name text) q follows = omega (arith, length-append (files_said xs) ((name, text) ∷ []), follows.1)
     room xs said.Nothing q follows = subst (λ fs. length fs ≤ most_files) (sym (append-nil (files_said xs))) q

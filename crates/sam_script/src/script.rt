@@ -29,6 +29,7 @@ pub struct Script {
 }
 
 impl Model for Script {
+    ghost use Rattle.sam_runes.specs.Texts.{most_files};
     ghost use Rattle.std.specs.Prelude.{◌≤◌, All, length};
     ghost use Rattle.sam_script.specs.Script.{PlainScript, IsFile};
 

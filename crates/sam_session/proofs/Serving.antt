@@ -52,7 +52,7 @@ serve-refused h why [] ns is = absurd (cc)
 serve-refused h why (m ∷ ms) ns is = go (λ d e. serve-refused d why ms ns e) (answer h m) is
   where
     go : ((d : PlainHost) → (serve d ms).end ≡ Err why → serve d (ms ++ ns) ≡ serve d ms)
-      → (r : Answer) → (served_on r (λ d. serve d ms)).end ≡ Err why → served_on r (λ d. serve d (ms ++ ns)) ≡ served_on r (λ d. serve d ms)
+        → (r : Answer) → (served_on r (λ d. serve d ms)).end ≡ Err why → served_on r (λ d. serve d (ms ++ ns)) ≡ served_on r (λ d. serve d ms)
     go then (Err k) e = refl
     go then (Ok p) e = ap (behind (flat_map frame_h p.1)) (then p.0 e)
 

@@ -25,7 +25,8 @@ first_is [] e s = absurd (cc)
 first_is (x ∷ es) e s = (cc)
 
 -- acting, by what stands against the oldest event
-pub act_first : (t : PlainTerminal) (e : UserEvent) → slice_get t.held 0 ≡ Some e → act_of t ≡ decided (first_of_checks (event_checks t e)) t (drop 1 t.held) (made_by (record t { held = drop 1 t.held }) e)
+pub act_first : (t : PlainTerminal) (e : UserEvent) → slice_get t.held 0 ≡ Some e → act_of t ≡ decided (first_of_checks (event_checks t e)) t (drop 1 t.held)
+    (made_by (record t { held = drop 1 t.held }) e)
 unfolding act_of
 act_first t e s = ap (λ es. act_on t es) (first-read t.held e s)
 

@@ -36,7 +36,8 @@ use Rattle.std.proofs.lemmas.Bool.{ltb-false, ne_eqb, eq-eqb}
 abbrev pub later : PlainTerminal → PlainTerminal
 later t = record t { held = drop 1 t.held }
 
-pub answers : (t u : PlainTerminal) (e : UserEvent) (made : Made) (ms : List Tmesg) → first_event t.held ≡ e → made_by (later t) e ≡ made → u ≡ made.0 → ms ≡ made.1 → u.sent ≤ most_count → done (made_first t) ≡ Ok (u, Done ms)
+pub answers : (t u : PlainTerminal) (e : UserEvent) (made : Made) (ms : List Tmesg) → first_event t.held ≡ e → made_by (later t) e ≡ made → u ≡ made.0
+    → ms ≡ made.1 → u.sent ≤ most_count → done (made_first t) ≡ Ok (u, Done ms)
 answers t u e made ms first by a b l =
     ap done (made_of t e first ∙ by) ∙ loud_done made u ms a b (subst (λ x. x.sent ≤ most_count) a l)
 
@@ -106,7 +107,8 @@ pub held-flushed : (t : PlainTerminal) (es : List UserEvent) → flushed (record
 unfolding flushed
 held-flushed t es = ap (λ u. (u, unsent_message t.unsent)) (held-all (record t { unsent = None }) (unsent_message t.unsent) es)
 
-pub held-sends : (t : PlainTerminal) (m : Tmesg) (es : List UserEvent) → sends (record t { held = es }) unchanged (m ∷ []) ≡ (record (sends t unchanged (m ∷ [])).0 { held = es }, (sends t unchanged (m ∷ [])).1)
+pub held-sends : (t : PlainTerminal) (m : Tmesg) (es : List UserEvent) → sends (record t { held = es }) unchanged (m ∷ []) ≡
+    (record (sends t unchanged (m ∷ [])).0 { held = es }, (sends t unchanged (m ∷ [])).1)
 held-sends t m es =
     ap (λ (made : Made). (composed made.0 m, made.1 ++ m ∷ [])) (held-flushed t es)
     ∙ ap (λ u. (u, (flushed t).1 ++ m ∷ [])) (held-composed (flushed t).0 m es)
@@ -124,7 +126,8 @@ pub sends-held : (t : PlainTerminal) (m : Tmesg) → (sends t unchanged (m ∷ [
 sends-held t m = ap (λ (made : Made). made.0.held) (held-sends t m t.held)
 
 -- what was made and could be counted, of an event that is dropped afterwards
-counted : (b : Bool) (t : PlainTerminal) (made : Made) (u v : PlainTerminal) (ms : List Tmesg) → made.0.held ≡ t.held → the_countable b made ≡ Ok (u, ms) → v ≡ record u { held = drop 1 u.held } → the_done b (record made.0 { held = drop 1 t.held }, made.1) ≡ Ok (v, Done ms)
+counted : (b : Bool) (t : PlainTerminal) (made : Made) (u v : PlainTerminal) (ms : List Tmesg) → made.0.held ≡ t.held → the_countable b made ≡ Ok (u, ms)
+    → v ≡ record u { held = drop 1 u.held } → the_done b (record made.0 { held = drop 1 t.held }, made.1) ≡ Ok (v, Done ms)
 counted true t made u v ms h e d = absurd (cc)
 counted false t made u v ms h e d =
     let same : made ≡ (u, ms) = (cc) in
@@ -138,7 +141,8 @@ uncounted : (b : Bool) (made : Made) (why : TermFault) (es : List UserEvent) →
 uncounted true made why es e = (cc)
 uncounted false made why es e = absurd (cc)
 
-pub done_later : (t : PlainTerminal) (made : Made) (u v : PlainTerminal) (ms : List Tmesg) → made.0.held ≡ t.held → countable made ≡ Ok (u, ms) → v ≡ record u { held = drop 1 u.held } → done (record made.0 { held = drop 1 t.held }, made.1) ≡ Ok (v, Done ms)
+pub done_later : (t : PlainTerminal) (made : Made) (u v : PlainTerminal) (ms : List Tmesg) → made.0.held ≡ t.held → countable made ≡ Ok (u, ms)
+    → v ≡ record u { held = drop 1 u.held } → done (record made.0 { held = drop 1 t.held }, made.1) ≡ Ok (v, Done ms)
 unfolding countable done
 done_later t made u v ms h e d = counted (nat_lt most_count made.0.sent) t made u v ms h e d
 
@@ -146,7 +150,8 @@ pub refused_later : (made : Made) (why : TermFault) (es : List UserEvent) → co
 unfolding countable done
 refused_later made why es e = uncounted (nat_lt most_count made.0.sent) made why es e
 
-pub quiet_answer : (t x u : PlainTerminal) (e : UserEvent) (a : Acted) → first_event t.held ≡ e → made_by (later t) e ≡ (x, []) → u ≡ x → a ≡ Done [] → u.sent ≤ most_count → done (made_first t) ≡ Ok (u, a)
+pub quiet_answer : (t x u : PlainTerminal) (e : UserEvent) (a : Acted) → first_event t.held ≡ e → made_by (later t) e ≡ (x, []) → u ≡ x → a ≡ Done []
+    → u.sent ≤ most_count → done (made_first t) ≡ Ok (u, a)
 quiet_answer t x u e a first by b d l =
     answers t u e (x, []) [] first by b refl l ∙ ap {B = Result (PlainTerminal × Acted) TermFault} (λ y. Ok (u, y)) (sym d)
 
@@ -254,7 +259,8 @@ made-paste_none t f d e h =
     ap (λ made. and_then made (λ u. sends u unchanged (Tpaste f (window_at t f).dot.0 ∷ []))) (cuts_none t f d e h)
     ∙ ap (λ x. sends t unchanged (Tpaste f x.0 ∷ [])) (sym e)
 
-pub made-paste : (t : PlainTerminal) (f : ℕ) (d : ℕ × ℕ) → d ≡ (window_at t f).dot → d.0 ≢ d.1 → made_by t (Paste f) ≡ (composed (cut_made t f d).0 (Tpaste f d.0), (flushed t).1 ++ Tcut f d.0 d.1 ∷ Tpaste f d.0 ∷ [])
+pub made-paste : (t : PlainTerminal) (f : ℕ) (d : ℕ × ℕ) → d ≡ (window_at t f).dot → d.0 ≢ d.1
+    → made_by t (Paste f) ≡ (composed (cut_made t f d).0 (Tpaste f d.0), (flushed t).1 ++ Tcut f d.0 d.1 ∷ Tpaste f d.0 ∷ [])
 unfolding made_by_paste
 made-paste t f d e h =
     let cut = cut_made t f d in
@@ -272,19 +278,23 @@ opened-put t f w =
 
 -- ## Messages that can't be counted
 
-made-sent : (t : PlainTerminal) (e : UserEvent) (made : Made) (ms : List Tmesg) → made_by t e ≡ made → made.1 ≡ (flushed t).1 ++ ms → made.0.sent ≡ t.sent + length (unsent_message t.unsent) + length ms
+made-sent : (t : PlainTerminal) (e : UserEvent) (made : Made) (ms : List Tmesg) → made_by t e ≡ made → made.1 ≡ (flushed t).1 ++ ms
+    → made.0.sent ≡ t.sent + length (unsent_message t.unsent) + length ms
 made-sent t e made ms by m =
     let count = subst (λ (x : Made). x.0.sent ≡ t.sent + length x.1) by (counts-event t e).sent in
     let many = ap length m ∙ (length-append (flushed t).1 ms ∙ ap (λ ns. length ns + length ms) (flushed-messages t)) in
     omega arith
 
-pub refused_by : (t : PlainTerminal) (e : UserEvent) (made : Made) (ms : List Tmesg) (why : TermFault) (count : ℕ) → first_event t.held ≡ e → made_by (later t) e ≡ made → made.1 ≡ (flushed (later t)).1 ++ ms → count ≡ length ms + length (unsent_message t.unsent) → ((why ≡ fault.OutOfMemory) × (t.sent + count ≤ most_count)) ⊎ ((why ≡ fault.CountFull) × (most_count < t.sent + count)) → IsFailure (done (made_first t)) why
+pub refused_by : (t : PlainTerminal) (e : UserEvent) (made : Made) (ms : List Tmesg) (why : TermFault) (count : ℕ) → first_event t.held ≡ e
+    → made_by (later t) e ≡ made → made.1 ≡ (flushed (later t)).1 ++ ms → count ≡ length ms + length (unsent_message t.unsent)
+    → ((why ≡ fault.OutOfMemory) × (t.sent + count ≤ most_count)) ⊎ ((why ≡ fault.CountFull) × (most_count < t.sent + count)) → IsFailure (done (made_first t)) why
 refused_by t e made ms why count first by m n h = elim h [
   | inl o ↦ let s = made-sent (later t) e made ms by m in inl (o.0, fits_count t e made first by (omega (arith, o.1)))
   | inr k ↦ let s = made-sent (later t) e made ms by m in inr (overflows t e made first by (omega (arith, k.1)) ∙ ap Err (sym k.0))
 ]
 
-pub loud_answer : (t u : PlainTerminal) (e : UserEvent) (made : Made) (a : Acted) (ms : List Tmesg) → first_event t.held ≡ e → made_by (later t) e ≡ made → u ≡ made.0 → a ≡ Done ms → ms ≡ made.1 → u.sent ≤ most_count → done (made_first t) ≡ Ok (u, a)
+pub loud_answer : (t u : PlainTerminal) (e : UserEvent) (made : Made) (a : Acted) (ms : List Tmesg) → first_event t.held ≡ e → made_by (later t) e ≡ made
+    → u ≡ made.0 → a ≡ Done ms → ms ≡ made.1 → u.sent ≤ most_count → done (made_first t) ≡ Ok (u, a)
 loud_answer t u e made a ms first by b d m l =
     answers t u e made ms first by b m l ∙ ap {B = Result (PlainTerminal × Acted) TermFault} (λ y. Ok (u, y)) (sym d)
 
@@ -302,7 +312,8 @@ pub views_within : (t : PlainTerminal) (f p n : ℕ) → free_first t ≡ None �
 views_within t f p n e s = ltb-false (length (window_at t f).rasp) p (good_place t (View f p n) e s)
 
 -- what a file wants that is shown from p on
-pub wanted-shown : (t : PlainTerminal) (f p n : ℕ) (w : Window) → window_at t f ≡ w → t.has_exited ≡ false → w.awaits ≡ false → wanted (shown_from t f p n) f ≡ request_for f (hole_within w.rasp p (min (p + n) (length w.rasp)))
+pub wanted-shown : (t : PlainTerminal) (f p n : ℕ) (w : Window) → window_at t f ≡ w → t.has_exited ≡ false → w.awaits ≡ false
+    → wanted (shown_from t f p n) f ≡ request_for f (hole_within w.rasp p (min (p + n) (length w.rasp)))
 wanted-shown t f p n w e x a =
     wanted-put t f (record (window_at t f) { view_start = p; view_length = n })
     ∙ (ap (λ v. asking t.has_exited v.awaits (request_for f (hole_within v.rasp p (min (p + n) (length v.rasp))))) e
@@ -336,7 +347,8 @@ made-view_none t f p n e = requested_none (shown_from t f p n) f e
 
 -- ## Runes for the snarf buffer
 
-pub refused_snarf : (t : PlainTerminal) (why : TermFault) (count : ℕ) → is_snarfing (first_event t.held) ≡ true → count ≡ 1 + length (unsent_message t.unsent) → ((why ≡ fault.OutOfMemory) × (t.sent + count ≤ most_count)) ⊎ ((why ≡ fault.CountFull) × (most_count < t.sent + count)) → IsFailure (done (made_first t)) why
+pub refused_snarf : (t : PlainTerminal) (why : TermFault) (count : ℕ) → is_snarfing (first_event t.held) ≡ true → count ≡ 1 + length (unsent_message t.unsent)
+    → ((why ≡ fault.OutOfMemory) × (t.sent + count ≤ most_count)) ⊎ ((why ≡ fault.CountFull) × (most_count < t.sent + count)) → IsFailure (done (made_first t)) why
 refused_snarf t why count i n h = go (first_event t.held) refl i
   where
     go : (e : UserEvent) → first_event t.held ≡ e → is_snarfing e ≡ true → IsFailure (done (made_first t)) why

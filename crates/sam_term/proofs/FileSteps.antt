@@ -39,10 +39,12 @@ sound-same t later s same = record { countable = s.countable; windows = windows;
     go (Some u) k = subst (λ w. u.place ≤ length w.rasp) (sym (same u.file)) k
 
 -- the windows after a file is put
-pub windows-put : (ss : Slots KnownFile) (f : ℕ) (k : KnownFile) (g : ℕ) → ((f ≡ g) × (window_in (put_slot ss f k) g ≡ unwrap_or k.window blank_window)) ⊎ ((f ≢ g) × (window_in (put_slot ss f k) g ≡ window_in ss g))
+pub windows-put : (ss : Slots KnownFile) (f : ℕ) (k : KnownFile) (g : ℕ) → ((f ≡ g) × (window_in (put_slot ss f k) g ≡ unwrap_or k.window blank_window))
+    ⊎ ((f ≢ g) × (window_in (put_slot ss f k) g ≡ window_in ss g))
 windows-put ss f k g = go (eqb_tells f g)
   where
-    go : ((nat_eq f g ≡ true) × (f ≡ g)) ⊎ ((nat_eq f g ≡ false) × (f ≢ g)) → ((f ≡ g) × (window_in (put_slot ss f k) g ≡ unwrap_or k.window blank_window)) ⊎ ((f ≢ g) × (window_in (put_slot ss f k) g ≡ window_in ss g))
+    go : ((nat_eq f g ≡ true) × (f ≡ g)) ⊎ ((nat_eq f g ≡ false) × (f ≢ g)) → ((f ≡ g) × (window_in (put_slot ss f k) g ≡ unwrap_or k.window blank_window))
+        ⊎ ((f ≢ g) × (window_in (put_slot ss f k) g ≡ window_in ss g))
     go (inl (e, here)) =
         inl (here, subst (λ i. window_in (put_slot ss f k) i ≡ unwrap_or k.window blank_window) here (ap (λ s. unwrap_or (unwrap_or s blank_known).window blank_window) (slot-put_same ss f k)))
     go (inr (e, other)) = inr (other, ap (λ s. unwrap_or (unwrap_or s blank_known).window blank_window) (slot-put_other ss f g k other))
@@ -90,7 +92,8 @@ sound-close t f s = record { countable = s.countable; windows = windows; unsent 
       | inr h ↦ subst (λ w. u.place ≤ length w.rasp) (sym h.1) k
     ]
 
-    by : (u : Unsent) → ((nat_eq u.file f ≡ true) × (u.file ≡ f)) ⊎ ((nat_eq u.file f ≡ false) × (u.file ≢ f)) → u.place ≤ length (window_in t.files u.file).rasp → FitsUnsent (put_slot t.files f shut) (if u.file == f then None else Some u)
+    by : (u : Unsent) → ((nat_eq u.file f ≡ true) × (u.file ≡ f)) ⊎ ((nat_eq u.file f ≡ false) × (u.file ≢ f)) → u.place ≤ length (window_in t.files u.file).rasp
+        → FitsUnsent (put_slot t.files f shut) (if u.file == f then None else Some u)
     by u (inl (e, same)) k = rw e tt
     by u (inr (e, other)) k = rw e (kept u other k)
 

@@ -80,7 +80,8 @@ good-if v false x y here there = there refl
 good-all : (v : ℕ) (t : PlainTerminal) (ms : List Tmesg) → t.unsent ≡ None → all_fit v ms ≡ true → Good v (all_composed t ms, ms)
 good-all v t ms e f = record { fits = f; short = short-none _ (unsent-all t ms ∙ e) }
 
-good-sends : (v : ℕ) (t : PlainTerminal) (change : PlainTerminal → PlainTerminal) (ms : List Tmesg) → IsShort t.unsent → ((u : PlainTerminal) → u.unsent ≡ None → (change u).unsent ≡ None) → all_fit v ms ≡ true → Good v (sends t change ms)
+good-sends : (v : ℕ) (t : PlainTerminal) (change : PlainTerminal → PlainTerminal) (ms : List Tmesg) → IsShort t.unsent
+    → ((u : PlainTerminal) → u.unsent ≡ None → (change u).unsent ≡ None) → all_fit v ms ≡ true → Good v (sends t change ms)
 good-sends v t change ms k same f =
     good-then v (flushed t) (λ u. (all_composed (change u) ms, ms)) (good-flushed v t k)
     (good-all v (change (flushed t).0) ms (same (flushed t).0 (unsent-flushed t)) f)

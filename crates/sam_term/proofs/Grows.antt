@@ -64,7 +64,8 @@ length-del_cells r p q o l =
 -- ## Sound terminals
 
 -- a window that is put, with places that fit it, and unsent runes that fit the files then
-pub sound-change : (t : PlainTerminal) (g : ℕ) (w : Window) (o : Option Unsent) → IsSound t → FitsWindow t.sent w → FitsUnsent (put_window t g w).files o → IsShort o → IsSound (record (put_window t g w) { unsent = o })
+pub sound-change : (t : PlainTerminal) (g : ℕ) (w : Window) (o : Option Unsent) → IsSound t → FitsWindow t.sent w → FitsUnsent (put_window t g w).files o
+    → IsShort o → IsSound (record (put_window t g w) { unsent = o })
 sound-change t g w o s fits k m = record { countable = s.countable; windows = windows; unsent = k; short = m }
   where
     windows : (f : ℕ) → FitsWindow t.sent (window_at (put_window t g w) f)
@@ -84,7 +85,8 @@ moved_short f moved (Some u) k = go (u.file == f)
     go false = k
 
 -- unsent runes that move with the text of their file
-pub moved_fits : (t : PlainTerminal) (f : ℕ) (w : Window) (moved : ℕ → ℕ) → ((k : ℕ) → k ≤ length (window_at t f).rasp → moved k ≤ length w.rasp) → FitsUnsent t.files t.unsent → FitsUnsent (put_window t f w).files (moved_unsent f moved t.unsent)
+pub moved_fits : (t : PlainTerminal) (f : ℕ) (w : Window) (moved : ℕ → ℕ) → ((k : ℕ) → k ≤ length (window_at t f).rasp → moved k ≤ length w.rasp)
+    → FitsUnsent t.files t.unsent → FitsUnsent (put_window t f w).files (moved_unsent f moved t.unsent)
 unfolding FitsUnsent
 moved_fits t f w moved m fits = go t.unsent fits
   where
@@ -100,7 +102,8 @@ moved_fits t f w moved m fits = go t.unsent fits
       | inr h ↦ subst (λ x. u.place ≤ length x.rasp) (sym h.1) k
     ]
 
-    by : (u : Unsent) → ((nat_eq u.file f ≡ true) × (u.file ≡ f)) ⊎ ((nat_eq u.file f ≡ false) × (u.file ≢ f)) → u.place ≤ length (window_at t u.file).rasp → FitsUnsent (put_window t f w).files (if u.file == f then Some (record u { place = moved u.place }) else Some u)
+    by : (u : Unsent) → ((nat_eq u.file f ≡ true) × (u.file ≡ f)) ⊎ ((nat_eq u.file f ≡ false) × (u.file ≢ f)) → u.place ≤ length (window_at t u.file).rasp
+        → FitsUnsent (put_window t f w).files (if u.file == f then Some (record u { place = moved u.place }) else Some u)
     by u (inl (e, same)) k = rw e (there u same k)
     by u (inr (e, other)) k = rw e (elsewhere u other k)
 
@@ -132,7 +135,8 @@ fits-del n w p q h o l =
     }
 
 -- something is put into a partial text
-pub sound-ins : (t : PlainTerminal) (f p : ℕ) (cells : PartialText) → IsSound t → p ≤ length (window_at t f).rasp → length (window_at t f).rasp + length cells ≤ max_runes → IsSound (ins_rasp t f p cells)
+pub sound-ins : (t : PlainTerminal) (f p : ℕ) (cells : PartialText) → IsSound t → p ≤ length (window_at t f).rasp → length (window_at t f).rasp + length cells ≤ max_runes
+    → IsSound (ins_rasp t f p cells)
 sound-ins t f p cells s l m =
     let w = window_at t f in
     let after = window_after_ins w p cells in
@@ -157,7 +161,8 @@ pub lent_same : (t : PlainTerminal) (f : ℕ) (w v : Window) → is_open t f ≡
 lent_same t f w v o e same = ap (λ ss. record t { files = ss }) (ap (λ x. put_slot t.files f (record (known_in t.files f) { window = Some x })) (same ∙ e) ∙ put_again t.files f o)
 
 module _ (t : PlainTerminal) (f : ℕ) (w v : Window) (o : Option Unsent) (same : w ≡ window_at t f) where
-  pub lent_ins : (p : ℕ) (cells : PartialText) → v ≡ window_after_ins w p cells → o ≡ moved_unsent f (place_after_ins p (length cells)) t.unsent → record (put_window t f v) { unsent = o } ≡ ins_rasp t f p cells
+  pub lent_ins : (p : ℕ) (cells : PartialText) → v ≡ window_after_ins w p cells → o ≡ moved_unsent f (place_after_ins p (length cells)) t.unsent
+      → record (put_window t f v) { unsent = o } ≡ ins_rasp t f p cells
   lent_ins p cells e m =
       ap (λ x. record (put_window t f x) { unsent = o }) (e ∙ ap (λ x. window_after_ins x p cells) same)
       ∙ ap (λ u. record (put_window t f (window_after_ins (window_at t f) p cells)) { unsent = u }) m
@@ -201,7 +206,8 @@ length-load_cells r p s l =
     simp (length-append, length-take, length-drop, length-map) (omega arith)
 
 -- runes are loaded into places that are there
-pub sound-load : (t : PlainTerminal) (f p : ℕ) (s : List ℕ) → IsSound t → p + length s ≤ length (window_at t f).rasp → IsSound (put_window t f (record (window_at t f) { rasp = load_cells (window_at t f).rasp p s; awaits = false }))
+pub sound-load : (t : PlainTerminal) (f p : ℕ) (s : List ℕ) → IsSound t → p + length s ≤ length (window_at t f).rasp
+    → IsSound (put_window t f (record (window_at t f) { rasp = load_cells (window_at t f).rasp p s; awaits = false }))
 sound-load t f p s sound l =
     let w = window_at t f in
     let h = sound.windows f in

@@ -42,7 +42,9 @@ abbrev changed_at : ℕ → (ℕ → ℕ) → (Bool → Bool) → ℕ → Held �
 changed_at g locks awaits f h =
     record { command = h.command; locks = if g == f then locks h.locks else h.locks; awaits = if g == f then awaits h.awaits else h.awaits }
 
-held-known : (locks : ℕ → ℕ) (awaits : Bool → Bool) (t : PlainTerminal) (g : ℕ) (x : KnownFile) (f : ℕ) → held_in t.command_lock x ≡ record { command = t.command_lock; locks = locks (window_at t g).locks; awaits = awaits (window_at t g).awaits } → held_of f (put_known t g x) ≡ changed_at g locks awaits f (held_of f t)
+held-known : (locks : ℕ → ℕ) (awaits : Bool → Bool) (t : PlainTerminal) (g : ℕ) (x : KnownFile) (f : ℕ)
+    → held_in t.command_lock x ≡ record { command = t.command_lock; locks = locks (window_at t g).locks; awaits = awaits (window_at t g).awaits }
+    → held_of f (put_known t g x) ≡ changed_at g locks awaits f (held_of f t)
 held-known locks awaits t g x f is = known-put (held_in t.command_lock) t g x f ∙ go (eqb_tells g f)
   where
     go : ((nat_eq g f ≡ true) × (g ≡ f)) ⊎ ((nat_eq g f ≡ false) × (g ≢ f)) → (if g == f then held_in t.command_lock x else held_of f t) ≡ changed_at g locks awaits f (held_of f t)
@@ -124,7 +126,8 @@ holds-flushed : (f : ℕ) (t : PlainTerminal) → Holds f (held_of f t) (flushed
 unfolding flushed
 holds-flushed f t = holds-all f (held_of f t) (record t { unsent = None }) (unsent_message t.unsent) refl
 
-holds-sends : (f : ℕ) (t : PlainTerminal) (change : PlainTerminal → PlainTerminal) (ms : List Tmesg) → ((u : PlainTerminal) → held_of f (change u) ≡ held_of f u) → Holds f (held_of f t) (sends t change ms)
+holds-sends : (f : ℕ) (t : PlainTerminal) (change : PlainTerminal → PlainTerminal) (ms : List Tmesg) → ((u : PlainTerminal) → held_of f (change u) ≡ held_of f u)
+    → Holds f (held_of f t) (sends t change ms)
 holds-sends f t change ms same =
     holds-then f (held_of f t) (flushed t) (λ u. (all_composed (change u) ms, ms)) (holds-flushed f t)
     (holds-all f (held_of f (flushed t).0) (change (flushed t).0) ms (same (flushed t).0))

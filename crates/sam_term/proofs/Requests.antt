@@ -29,7 +29,8 @@ lockable_wanted t f m e = go (is_open t f) refl e
         let same : Trequest f r.0 (min (r.1 - r.0) most_in_message) ≡ m = (cc) in
         subst (λ n. is_lockable t (lock_of n) ≡ true) same h
 
-    under : (b : Bool) → is_open t f ≡ true → (if b then request_for f (hole_within (window_at t f).rasp (window_at t f).view_start (view_end (window_at t f))) else None) ≡ Some m → is_lockable t (lock_of m) ≡ true
+    under : (b : Bool) → is_open t f ≡ true → (if b then request_for f (hole_within (window_at t f).rasp (window_at t f).view_start (view_end (window_at t f))) else None) ≡ Some m
+        → is_lockable t (lock_of m) ≡ true
     under true h e = by (hole_within (window_at t f).rasp (window_at t f).view_start (view_end (window_at t f))) h e
     under false h e = absurd (cc)
 

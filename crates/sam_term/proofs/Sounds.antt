@@ -65,7 +65,8 @@ quiet x u ms e none l =
     sent_fits a b = le-ltb most_count x.sent (omega arith)
 
 -- a window that is lent and changed, so that its places fit and it is as long
-pub sound_lent : (t : PlainTerminal) (f : ℕ) (w : Window) (change : Window → Window) → w ≡ window_at t f → IsSound t → FitsWindow t.sent (change (window_at t f)) → length (change (window_at t f)).rasp ≡ length (window_at t f).rasp → IsSound (put_window t f (change w))
+pub sound_lent : (t : PlainTerminal) (f : ℕ) (w : Window) (change : Window → Window) → w ≡ window_at t f → IsSound t → FitsWindow t.sent (change (window_at t f))
+    → length (change (window_at t f)).rasp ≡ length (window_at t f).rasp → IsSound (put_window t f (change w))
 sound_lent t f w change e s fits same =
     subst (λ v. IsSound (put_window t f (change v))) (sym e) (sound-put t f (change (window_at t f)) s fits same)
 
@@ -150,7 +151,8 @@ pub answered : {A : Type 0} (t u : PlainTerminal) (r : Result A TermFault) (answ
 answered t u (Ok x) answer h = h
 answered t u (Err why) answer h = tt
 
-pub answer_refused : {A : Type 0} (t u : PlainTerminal) (r : Result A TermFault) (answer : Result (PlainTerminal × A) TermFault) → IsAnswer t u r answer → IfErr r (λ why. (why ≡ fault.OutOfMemory) ⊎ (answer ≡ Err why))
+pub answer_refused : {A : Type 0} (t u : PlainTerminal) (r : Result A TermFault) (answer : Result (PlainTerminal × A) TermFault) → IsAnswer t u r answer
+    → IfErr r (λ why. (why ≡ fault.OutOfMemory) ⊎ (answer ≡ Err why))
 answer_refused t u (Ok x) answer h = tt
 answer_refused t u (Err why) answer h = elim h.0 [ inl e ↦ inl e.0 | inr e ↦ inr e ]
 

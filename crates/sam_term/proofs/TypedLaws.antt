@@ -26,7 +26,8 @@ over r p q cells l =
     ∙ ap (λ rest. take p r ++ cells ++ rest) (drop-front (take p r) (drop q r) p e)
 
 -- a dot that is cut, and runes that come in its place
-pub typed-cut : (w : Window) (s : List ℕ) → w.dot.0 ≤ length w.rasp → record (window_after_ins (window_after_del w w.dot.0 w.dot.1) w.dot.0 (map Some s)) { dot = (w.dot.0 + length s, w.dot.0 + length s) } ≡ typed_over w s
+pub typed-cut : (w : Window) (s : List ℕ) → w.dot.0 ≤ length w.rasp → record (window_after_ins (window_after_del w w.dot.0 w.dot.1) w.dot.0 (map Some s))
+    { dot = (w.dot.0 + length s, w.dot.0 + length s) } ≡ typed_over w s
 typed-cut w s l =
     ap (λ n. changed (ins_cells (del_cells w.rasp w.dot.0 w.dot.1) w.dot.0 (map Some s)) n) (length-map s Some)
     ∙ ap (λ r. changed r (length s)) (over w.rasp w.dot.0 w.dot.1 (map Some s) l)
@@ -67,7 +68,8 @@ fits-typed n w s h m =
     subst (λ x. FitsWindow n x) (typed-cut w s (omega arith))
     (record { locks = fits.locks; dot_start = omega arith; dot_end = omega (arith, left, many, long); view = fits.view; size = fits.size })
 
-pub sound-typed : (t : PlainTerminal) (f : ℕ) (s : List ℕ) → IsSound t → length (window_at t f).rasp + length s ≤ max_runes + ((window_at t f).dot.1 - (window_at t f).dot.0) → IsSound (record (put_window t f (typed_over (window_at t f) s)) { unsent = None })
+pub sound-typed : (t : PlainTerminal) (f : ℕ) (s : List ℕ) → IsSound t → length (window_at t f).rasp + length s ≤ max_runes + ((window_at t f).dot.1 - (window_at t f).dot.0)
+    → IsSound (record (put_window t f (typed_over (window_at t f) s)) { unsent = None })
 unfolding FitsUnsent IsShort
 sound-typed t f s sound m =
     sound-change t f (typed_over (window_at t f) s) None sound (fits-typed t.sent (window_at t f) s (sound.windows f) m) tt tt

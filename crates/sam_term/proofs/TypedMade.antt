@@ -32,7 +32,8 @@ use Rattle.sam_term.proofs.Edits.{later, overflows, fits_count, cut_made, cuts_n
 -- ## The window
 
 -- something is put in, and the dot is set
-set-after-ins : (t : PlainTerminal) (f p : ℕ) (cells : PartialText) (d : ℕ × ℕ) → set_dot_of (ins_rasp t f p cells) f d ≡ record (put_window t f (record (window_after_ins (window_at t f) p cells) { dot = d })) { unsent = moved_unsent f (place_after_ins p (length cells)) t.unsent }
+set-after-ins : (t : PlainTerminal) (f p : ℕ) (cells : PartialText) (d : ℕ × ℕ) → set_dot_of (ins_rasp t f p cells) f d ≡ record
+    (put_window t f (record (window_after_ins (window_at t f) p cells) { dot = d })) { unsent = moved_unsent f (place_after_ins p (length cells)) t.unsent }
 set-after-ins t f p cells d =
     let u : PlainTerminal = record t { unsent = moved_unsent f (place_after_ins p (length cells)) t.unsent } in
     let w : Window = window_after_ins (window_at t f) p cells in
@@ -58,7 +59,8 @@ abbrev placed : PlainTerminal → ℕ → ℕ → List ℕ → PlainTerminal
 placed t f p s = set_dot_of (ins_rasp t f p (map Some s)) f (p + length s, p + length s)
 
 -- at an empty dot
-placed-empty : (t : PlainTerminal) (f : ℕ) (s : List ℕ) (j : Unsent) → (window_at t f).dot.0 ≡ (window_at t f).dot.1 → j.place ≤ (window_at t f).dot.0 → placed (record t { unsent = Some j }) f (window_at t f).dot.0 s ≡ record (put_window t f (typed_over (window_at t f) s)) { unsent = Some j }
+placed-empty : (t : PlainTerminal) (f : ℕ) (s : List ℕ) (j : Unsent) → (window_at t f).dot.0 ≡ (window_at t f).dot.1 → j.place ≤ (window_at t f).dot.0
+    → placed (record t { unsent = Some j }) f (window_at t f).dot.0 s ≡ record (put_window t f (typed_over (window_at t f) s)) { unsent = Some j }
 placed-empty t f s j e l =
     let p = (window_at t f).dot.0 in
     let cells = map {A = ℕ} {B = Option ℕ} Some s in
@@ -68,7 +70,9 @@ placed-empty t f s j e l =
     ∙ ap (λ v. record (put_window t f v) { unsent = Some j }) (typed-in (window_at t f) s e))
 
 -- where a dot was cut
-placed-filled : (t : PlainTerminal) (f : ℕ) (s : List ℕ) (j : Unsent) (n : ℕ) → j.place ≤ (window_at t f).dot.0 → (window_at t f).dot.0 ≤ length (window_at t f).rasp → placed (record (put_window t f (window_after_del (window_at t f) (window_at t f).dot.0 (window_at t f).dot.1)) { unsent = Some j; sent = n }) f (window_at t f).dot.0 s ≡ record (put_window t f (typed_over (window_at t f) s)) { unsent = Some j; sent = n }
+placed-filled : (t : PlainTerminal) (f : ℕ) (s : List ℕ) (j : Unsent) (n : ℕ) → j.place ≤ (window_at t f).dot.0 → (window_at t f).dot.0 ≤ length (window_at t f).rasp
+    → placed (record (put_window t f (window_after_del (window_at t f) (window_at t f).dot.0 (window_at t f).dot.1)) { unsent = Some j; sent = n }) f
+    (window_at t f).dot.0 s ≡ record (put_window t f (typed_over (window_at t f) s)) { unsent = Some j; sent = n }
 placed-filled t f s j n l within =
     let p = (window_at t f).dot.0 in
     let cells = map {A = ℕ} {B = Option ℕ} Some s in
@@ -76,27 +80,34 @@ placed-filled t f s j n l within =
     let cut : Window = window_after_del (window_at t f) p (window_at t f).dot.1 in
     let w : Window = record (window_after_ins cut p cells) { dot = (p + length s, p + length s) } in
     set-after-ins (put_window u f cut) f p cells (p + length s, p + length s)
-    ∙ (ap (λ v. record (put_window (put_window u f cut) f (record (window_after_ins v p cells) { dot = (p + length s, p + length s) })) { unsent = moved_unsent f (place_after_ins p (length cells)) (Some j) }) (window-put_same u f cut)
+    ∙ (ap (λ v. record (put_window (put_window u f cut) f (record (window_after_ins v p cells) { dot = (p + length s, p + length s) }))
+    { unsent = moved_unsent f (place_after_ins p (length cells)) (Some j) }) (window-put_same u f cut)
     ∙ (ap {A = PlainTerminal} (λ x. record x { unsent = moved_unsent f (place_after_ins p (length cells)) (Some j) }) (put-put u f cut w)
     ∙ (ap (λ o. record (put_window u f w) { unsent = o }) (moved-kept f p (length cells) j l)
     ∙ ap (λ v. record (put_window u f v) { unsent = Some j }) (typed-cut (window_at t f) s within))))
 
 -- the user types runes at an empty dot
-typed-empty : (t : PlainTerminal) (f : ℕ) (s : List ℕ) (j : Unsent) → (window_at t f).dot.0 ≡ (window_at t f).dot.1 → j.place ≤ (window_at t f).dot.0 → typed_rasp (record t { unsent = Some j }) f (window_at t f).dot.0 s ≡ record (put_window (edited t f) f (typed_over (window_at t f) s)) { unsent = Some j }
+typed-empty : (t : PlainTerminal) (f : ℕ) (s : List ℕ) (j : Unsent) → (window_at t f).dot.0 ≡ (window_at t f).dot.1 → j.place ≤ (window_at t f).dot.0
+    → typed_rasp (record t { unsent = Some j }) f (window_at t f).dot.0 s ≡ record (put_window (edited t f) f (typed_over (window_at t f) s)) { unsent = Some j }
 typed-empty t f s j e l =
-    subst {A = Window} (λ w. w.dot.0 ≡ w.dot.1 → j.place ≤ w.dot.0 → typed_rasp (record t { unsent = Some j }) f w.dot.0 s ≡ record (put_window (edited t f) f (typed_over w s)) { unsent = Some j }) (edited-window t f)
+    subst {A = Window} (λ w. w.dot.0 ≡ w.dot.1 → j.place ≤ w.dot.0 → typed_rasp (record t { unsent = Some j }) f w.dot.0 s ≡ record
+    (put_window (edited t f) f (typed_over w s)) { unsent = Some j }) (edited-window t f)
     (λ a b. placed-empty (edited t f) f s j a b) e l
 
 -- the user types runes where a dot was cut, so the file is marked twice
-typed-filled : (t : PlainTerminal) (f : ℕ) (s : List ℕ) (j : Unsent) (n : ℕ) → j.place ≤ (window_at t f).dot.0 → (window_at t f).dot.0 ≤ length (window_at t f).rasp → typed_rasp (record (cut_rasp t f (window_at t f).dot.0 (window_at t f).dot.1) { unsent = Some j; sent = n }) f (window_at t f).dot.0 s ≡ record (put_window (edited t f) f (typed_over (window_at t f) s)) { unsent = Some j; sent = n }
+typed-filled : (t : PlainTerminal) (f : ℕ) (s : List ℕ) (j : Unsent) (n : ℕ) → j.place ≤ (window_at t f).dot.0 → (window_at t f).dot.0 ≤ length (window_at t f).rasp
+    → typed_rasp (record (cut_rasp t f (window_at t f).dot.0 (window_at t f).dot.1) { unsent = Some j; sent = n }) f (window_at t f).dot.0 s ≡ record
+    (put_window (edited t f) f (typed_over (window_at t f) s)) { unsent = Some j; sent = n }
 typed-filled t f s j n l within =
-    subst {A = Window} (λ w. j.place ≤ w.dot.0 → w.dot.0 ≤ length w.rasp → typed_rasp (record (cut_rasp t f w.dot.0 w.dot.1) { unsent = Some j; sent = n }) f w.dot.0 s ≡ record (put_window (edited t f) f (typed_over w s)) { unsent = Some j; sent = n }) (edited-window t f)
+    subst {A = Window} (λ w. j.place ≤ w.dot.0 → w.dot.0 ≤ length w.rasp → typed_rasp (record (cut_rasp t f w.dot.0 w.dot.1) { unsent = Some j; sent = n })
+    f w.dot.0 s ≡ record (put_window (edited t f) f (typed_over w s)) { unsent = Some j; sent = n }) (edited-window t f)
     (λ a b. marked-once ∙ placed-filled (edited t f) f s j n a b) l within
   where
     w : Window
     w = window_at (edited t f) f
 
-    marked-once : typed_rasp (record (cut_rasp t f w.dot.0 w.dot.1) { unsent = Some j; sent = n }) f w.dot.0 s ≡ placed (record (cut_rasp t f w.dot.0 w.dot.1) { unsent = Some j; sent = n }) f w.dot.0 s
+    marked-once : typed_rasp (record (cut_rasp t f w.dot.0 w.dot.1) { unsent = Some j; sent = n }) f w.dot.0 s ≡ placed
+        (record (cut_rasp t f w.dot.0 w.dot.1) { unsent = Some j; sent = n }) f w.dot.0 s
     marked-once = ap {A = PlainTerminal} (λ u. placed (record u { unsent = Some j; sent = n }) f w.dot.0 s) (edited-again t f (window_after_del w w.dot.0 w.dot.1))
 
 -- ## What becomes unsent
@@ -144,7 +155,8 @@ joins-place (Some u) f p s e = elim (eqb_tells (u.place + length u.runes) p) [
     none true false z h k = cc
     none false y z h k = cc
 
-made-behind_dot : (t : PlainTerminal) (f : ℕ) (s : List ℕ) → is_empty s ≡ false → (window_at t f).dot.0 ≡ (window_at t f).dot.1 → joins t.unsent f (window_at t f).dot.0 s ≡ true → made_by t (Typed f s) ≡ flushed_if (is_command_line f s) (behind t f s (window_at t f).dot)
+made-behind_dot : (t : PlainTerminal) (f : ℕ) (s : List ℕ) → is_empty s ≡ false → (window_at t f).dot.0 ≡ (window_at t f).dot.1
+    → joins t.unsent f (window_at t f).dot.0 s ≡ true → made_by t (Typed f s) ≡ flushed_if (is_command_line f s) (behind t f s (window_at t f).dot)
 made-behind_dot t f s some e j =
     let p = (window_at t f).dot.0 in
     by-steps t f s some
@@ -152,7 +164,8 @@ made-behind_dot t f s some e j =
     ∙ (ap (λ made. and_then made (then-typed f p s)) (kept-behind t f p s j)
     ∙ ap (λ u. flushed_if (is_command_line f s) u) (typed-empty t f s (joined t.unsent f p s) e (joins-place t.unsent f p s j))))
 
-pub made-behind : (t : PlainTerminal) (f : ℕ) (s : List ℕ) (d : ℕ × ℕ) → d ≡ (window_at t f).dot → is_empty s ≡ false → d.0 ≡ d.1 → joins t.unsent f d.0 s ≡ true → made_by t (Typed f s) ≡ flushed_if (is_command_line f s) (record (put_window (edited t f) f (typed_over (window_at t f) s)) { unsent = Some (joined t.unsent f d.0 s) })
+pub made-behind : (t : PlainTerminal) (f : ℕ) (s : List ℕ) (d : ℕ × ℕ) → d ≡ (window_at t f).dot → is_empty s ≡ false → d.0 ≡ d.1 → joins t.unsent f d.0 s ≡ true
+    → made_by t (Typed f s) ≡ flushed_if (is_command_line f s) (record (put_window (edited t f) f (typed_over (window_at t f) s)) { unsent = Some (joined t.unsent f d.0 s) })
 made-behind t f s d same some e j =
     subst {A = ℕ × ℕ} (λ x. x.0 ≡ x.1 → joins t.unsent f x.0 s ≡ true → made_by t (Typed f s) ≡ flushed_if (is_command_line f s) (behind t f s x)) (sym same)
     (λ h k. made-behind_dot t f s some h k) e j
@@ -176,17 +189,22 @@ same-window t f = ap (λ ss. window_in ss f) (flushed-files t)
 abbrev finish : Bool → List Tmesg → PlainTerminal → Made
 finish b ms u = ((flushed_if b u).0, ms ++ (flushed_if b u).1)
 
-apart-empty : (t : PlainTerminal) (f : ℕ) (s : List ℕ) → (window_at t f).dot.0 ≡ (window_at t f).dot.1 → typed_rasp (record (flushed t).0 { unsent = Some (joined None f (window_at t f).dot.0 s) }) f (window_at t f).dot.0 s ≡ apart_with t f s (window_at t f).dot.0 (window_at t f) []
+apart-empty : (t : PlainTerminal) (f : ℕ) (s : List ℕ) → (window_at t f).dot.0 ≡ (window_at t f).dot.1
+    → typed_rasp (record (flushed t).0 { unsent = Some (joined None f (window_at t f).dot.0 s) }) f (window_at t f).dot.0 s ≡ apart_with t f s (window_at t f).dot.0 (window_at t f) []
 apart-empty t f s e =
     subst {A = Window} (λ w. w.dot.0 ≡ w.dot.1 → typed_rasp (record (flushed t).0 { unsent = Some (joined None f w.dot.0 s) }) f w.dot.0 s ≡ apart_with t f s w.dot.0 w []) (same-window t f)
     (λ h. typed-empty (flushed t).0 f s (joined None f (window_at (flushed t).0 f).dot.0 s) h (omega arith)) e
 
-apart-filled : (t : PlainTerminal) (f : ℕ) (s : List ℕ) → (window_at t f).dot.0 ≤ length (window_at t f).rasp → typed_rasp (record (cut_made t f (window_at t f).dot).0 { unsent = Some (joined None f (window_at t f).dot.0 s) }) f (window_at t f).dot.0 s ≡ apart_with t f s (window_at t f).dot.0 (window_at t f) (Tcut f (window_at t f).dot.0 (window_at t f).dot.1 ∷ [])
+apart-filled : (t : PlainTerminal) (f : ℕ) (s : List ℕ) → (window_at t f).dot.0 ≤ length (window_at t f).rasp
+    → typed_rasp (record (cut_made t f (window_at t f).dot).0 { unsent = Some (joined None f (window_at t f).dot.0 s) }) f (window_at t f).dot.0 s ≡
+    apart_with t f s (window_at t f).dot.0 (window_at t f) (Tcut f (window_at t f).dot.0 (window_at t f).dot.1 ∷ [])
 apart-filled t f s l =
-    subst {A = Window} (λ w. w.dot.0 ≤ length w.rasp → typed_rasp (record (cut_made t f w.dot).0 { unsent = Some (joined None f w.dot.0 s) }) f w.dot.0 s ≡ apart_with t f s w.dot.0 w (Tcut f w.dot.0 w.dot.1 ∷ [])) (same-window t f)
+    subst {A = Window} (λ w. w.dot.0 ≤ length w.rasp → typed_rasp (record (cut_made t f w.dot).0 { unsent = Some (joined None f w.dot.0 s) }) f w.dot.0
+    s ≡ apart_with t f s w.dot.0 w (Tcut f w.dot.0 w.dot.1 ∷ [])) (same-window t f)
     (λ h. typed-filled (flushed t).0 f s (joined None f (window_at (flushed t).0 f).dot.0 s) ((flushed t).0.sent + 1) (omega arith) h) l
 
-made-apart_none : (t : PlainTerminal) (f : ℕ) (s : List ℕ) → is_empty s ≡ false → (window_at t f).dot.0 ≡ (window_at t f).dot.1 → joins t.unsent f (window_at t f).dot.0 s ≡ false → made_by t (Typed f s) ≡ made_apart t f s (window_at t f).dot
+made-apart_none : (t : PlainTerminal) (f : ℕ) (s : List ℕ) → is_empty s ≡ false → (window_at t f).dot.0 ≡ (window_at t f).dot.1
+    → joins t.unsent f (window_at t f).dot.0 s ≡ false → made_by t (Typed f s) ≡ made_apart t f s (window_at t f).dot
 made-apart_none t f s some e j =
     let d = (window_at t f).dot in
     let line = is_command_line f s in
@@ -197,7 +215,8 @@ made-apart_none t f s some e j =
     ∙ (ap (finish line ((flushed t).1 ++ [])) (apart-empty t f s e)
     ∙ ap (λ ms. finish line ((flushed t).1 ++ ms) (apart_with t f s d.0 (window_at t f) ms)) (sym none))))
 
-made-apart_some : (t : PlainTerminal) (f : ℕ) (s : List ℕ) → is_empty s ≡ false → (window_at t f).dot.0 ≢ (window_at t f).dot.1 → (window_at t f).dot.0 ≤ length (window_at t f).rasp → made_by t (Typed f s) ≡ made_apart t f s (window_at t f).dot
+made-apart_some : (t : PlainTerminal) (f : ℕ) (s : List ℕ) → is_empty s ≡ false → (window_at t f).dot.0 ≢ (window_at t f).dot.1
+    → (window_at t f).dot.0 ≤ length (window_at t f).rasp → made_by t (Typed f s) ≡ made_apart t f s (window_at t f).dot
 made-apart_some t f s some e l =
     let d = (window_at t f).dot in
     let line = is_command_line f s in
@@ -209,7 +228,8 @@ made-apart_some t f s some e l =
     ∙ (ap (finish line cut.1) (apart-filled t f s l)
     ∙ ap (λ ms. finish line ((flushed t).1 ++ ms) (apart_with t f s d.0 (window_at t f) ms)) (sym one))))
 
-made-apart_dot : (t : PlainTerminal) (f : ℕ) (s : List ℕ) → is_empty s ≡ false → (window_at t f).dot.0 ≤ length (window_at t f).rasp → ((window_at t f).dot.0 == (window_at t f).dot.1 && joins t.unsent f (window_at t f).dot.0 s) ≡ false → made_by t (Typed f s) ≡ made_apart t f s (window_at t f).dot
+made-apart_dot : (t : PlainTerminal) (f : ℕ) (s : List ℕ) → is_empty s ≡ false → (window_at t f).dot.0 ≤ length (window_at t f).rasp
+    → ((window_at t f).dot.0 == (window_at t f).dot.1 && joins t.unsent f (window_at t f).dot.0 s) ≡ false → made_by t (Typed f s) ≡ made_apart t f s (window_at t f).dot
 made-apart_dot t f s some l h = go (eqb_tells d.0 d.1)
   where
     d : ℕ × ℕ
@@ -219,7 +239,8 @@ made-apart_dot t f s some l h = go (eqb_tells d.0 d.1)
     go (inl (e, same)) = made-apart_none t f s some same (subst (λ b. (b && joins t.unsent f d.0 s) ≡ false) e h)
     go (inr (e, other)) = made-apart_some t f s some other l
 
-pub made-apart : (t : PlainTerminal) (f : ℕ) (s : List ℕ) (d : ℕ × ℕ) → d ≡ (window_at t f).dot → is_empty s ≡ false → d.0 ≤ length (window_at t f).rasp → (d.0 == d.1 && joins t.unsent f d.0 s) ≡ false → made_by t (Typed f s) ≡ made_apart t f s d
+pub made-apart : (t : PlainTerminal) (f : ℕ) (s : List ℕ) (d : ℕ × ℕ) → d ≡ (window_at t f).dot → is_empty s ≡ false → d.0 ≤ length (window_at t f).rasp
+    → (d.0 == d.1 && joins t.unsent f d.0 s) ≡ false → made_by t (Typed f s) ≡ made_apart t f s d
 made-apart t f s d same some l h =
     subst {A = ℕ × ℕ} (λ x. x.0 ≤ length (window_at t f).rasp → (x.0 == x.1 && joins t.unsent f x.0 s) ≡ false → made_by t (Typed f s) ≡ made_apart t f s x) (sym same)
     (λ a b. made-apart_dot t f s some a b) l h
@@ -237,7 +258,8 @@ made-nothing t f d e h =
 
 -- ## Composing behind the change of the window
 
-typed-lock : (t : PlainTerminal) (f : ℕ) (w : Window) (b : Bool) → lock_taken (if b then CommandLock else NoLock) (put_window (edited t f) f w) ≡ put_window (edited (lock_taken (if b then CommandLock else NoLock) t) f) f w
+typed-lock : (t : PlainTerminal) (f : ℕ) (w : Window) (b : Bool) → lock_taken (if b then CommandLock else NoLock) (put_window (edited t f) f w) ≡
+    put_window (edited (lock_taken (if b then CommandLock else NoLock) t) f) f w
 typed-lock t f w true = refl
 typed-lock t f w false = refl
 
@@ -246,7 +268,8 @@ pub put-flushed : (t : PlainTerminal) (f : ℕ) (w : Window) → all_composed (r
 unfolding flushed
 put-flushed t f w = go t.unsent
   where
-    go : (o : Option Unsent) → all_composed (record (put_window (edited t f) f w) { unsent = None }) (unsent_message o) ≡ put_window (edited (all_composed (record t { unsent = None }) (unsent_message o)) f) f w
+    go : (o : Option Unsent) → all_composed (record (put_window (edited t f) f w) { unsent = None }) (unsent_message o) ≡ put_window
+        (edited (all_composed (record t { unsent = None }) (unsent_message o)) f) f w
     go None = refl
     go (Some u) = typed-lock (record t { unsent = None; sent = t.sent + 1 }) f w (is_command_line u.file u.runes)
 
@@ -271,7 +294,8 @@ pub flush-count : (b : Bool) (t : PlainTerminal) (j : Unsent) → t.unsent ≡ S
 flush-count true t j e = ap length (flushed-messages t) ∙ ap (λ o. length (unsent_message o)) e
 flush-count false t j e = refl
 
-pub refused_full : (t : PlainTerminal) (e : UserEvent) (made : Made) (why : TermFault) (count : ℕ) → first_event t.held ≡ e → made_by (later t) e ≡ made → count ≡ length made.1 → ((why ≡ fault.OutOfMemory) × (t.sent + count ≤ most_count)) ⊎ ((why ≡ fault.CountFull) × (most_count < t.sent + count)) → IsFailure (done (made_first t)) why
+pub refused_full : (t : PlainTerminal) (e : UserEvent) (made : Made) (why : TermFault) (count : ℕ) → first_event t.held ≡ e → made_by (later t) e ≡ made
+    → count ≡ length made.1 → ((why ≡ fault.OutOfMemory) × (t.sent + count ≤ most_count)) ⊎ ((why ≡ fault.CountFull) × (most_count < t.sent + count)) → IsFailure (done (made_first t)) why
 refused_full t e made why count first by n h = elim h [
   | inl o ↦
       let s = subst (λ (x : Made). x.0.sent ≡ t.sent + length x.1) by (counts-event (later t) e).sent in
@@ -306,7 +330,8 @@ pub few-typed : (t : PlainTerminal) (f : ℕ) (s : List ℕ) → free_first t �
 unfolding test_at
 few-typed t f s n h = ltb-false most_in_message (length s) (passes t (Typed f s) 8 n h)
 
-pub typed-fits : (t : PlainTerminal) (f : ℕ) (s : List ℕ) → free_first t ≡ None → first_event t.held ≡ Typed f s → length (window_at t f).rasp + length s ≤ max_runes + ((window_at t f).dot.1 - (window_at t f).dot.0)
+pub typed-fits : (t : PlainTerminal) (f : ℕ) (s : List ℕ) → free_first t ≡ None → first_event t.held ≡ Typed f s
+    → length (window_at t f).rasp + length s ≤ max_runes + ((window_at t f).dot.1 - (window_at t f).dot.0)
 unfolding test_at
 typed-fits t f s n h =
     let d = (window_at t f).dot in
@@ -347,7 +372,8 @@ joined-file (Some u) f p s e = eqb-true u.file f (head (u.file == f) (u.place + 
     head false y z h = absurd (cc)
 
 -- they begin before the dot that then stands behind them
-pub joined-within : (u : PlainTerminal) (o : Option Unsent) (f p : ℕ) (s : List ℕ) (w : Window) → joins o f p s ≡ true → window_at u f ≡ w → p ≤ w.dot.1 → (joined o f p s).place ≤ (window_at u (joined o f p s).file).dot.1
+pub joined-within : (u : PlainTerminal) (o : Option Unsent) (f p : ℕ) (s : List ℕ) (w : Window) → joins o f p s ≡ true → window_at u f ≡ w → p ≤ w.dot.1
+    → (joined o f p s).place ≤ (window_at u (joined o f p s).file).dot.1
 joined-within u o f p s w e same l =
     let place = joins-place o f p s e in
     let end = ap (λ g. (window_at u g).dot.1) (joined-file o f p s e) in
@@ -368,7 +394,8 @@ shortened-again (Some u) s =
     ap (λ r. Some (record u { runes = r })) (ap (λ n. take n (u.runes ++ s)) many ∙ take-append_seam u.runes s)
 
 -- a terminal stays sound as runes are typed behind the unsent ones
-pub sound-joined : (t : PlainTerminal) (f : ℕ) (s : List ℕ) → IsSound t → (window_at t f).dot.0 ≡ (window_at t f).dot.1 → length (window_at t f).rasp + length s ≤ max_runes → joins t.unsent f (window_at t f).dot.0 s ≡ true → IsSound (joined_at t f s)
+pub sound-joined : (t : PlainTerminal) (f : ℕ) (s : List ℕ) → IsSound t → (window_at t f).dot.0 ≡ (window_at t f).dot.1 → length (window_at t f).rasp + length s ≤ max_runes
+    → joins t.unsent f (window_at t f).dot.0 s ≡ true → IsSound (joined_at t f s)
 sound-joined t f s sound same fits e =
     let p = (window_at t f).dot.0 in
     let w = typed_over (window_at t f) s in

@@ -129,7 +129,8 @@ begins t f p s = go (joins t.unsent f p s) refl
 typing : (u : PlainTerminal) (f p : ℕ) (s : List ℕ) → Begins p u.unsent → GoesMade u (if is_command_line f s then flushed (typed_rasp u f p s) else (typed_rasp u f p s, []))
 typing u f p s b =
     let typed = typed_rasp u f p s in
-    let is : typed.unsent ≡ u.unsent = ap (moved_unsent f (place_after_ins p (length (map {A = ℕ} {B = Option ℕ} Some s)))) b.is ∙ (moved f p (length (map {A = ℕ} {B = Option ℕ} Some s)) b.unsent b.within ∙ sym b.is) in
+    let is : typed.unsent ≡ u.unsent = ap (moved_unsent f (place_after_ins p (length (map {A = ℕ} {B = Option ℕ} Some s)))) b.is
+    ∙ (moved f p (length (map {A = ℕ} {B = Option ℕ} Some s)) b.unsent b.within ∙ sym b.is) in
     chosen u (is_command_line f s) (flushed typed) (typed, [])
     (subst (λ (o : Option Unsent). Goes o (flushed typed).0.unsent (flushed typed).1) is (flush typed (flushed typed).0.unsent))
     (subst (λ (o : Option Unsent). Goes u.unsent o []) (sym is) (same u.unsent))

@@ -43,7 +43,8 @@ requests f (m ∷ ms) = asks_for f m || requests f ms
 
 -- ## What a frame leaves
 
--- of n locks of f: none where f is opened, closed, made known or dropped, or where the session ends; one less, if there is one, where one is freed
+-- of n locks of f: none where f is opened, closed, made known or dropped, or where the session ends; one less, if there is one,
+-- where one is freed
 abbrev pub locks_left : Hmesg → ℕ → ℕ → ℕ
 locks_left (Hbindname g) f n = if g == f then 0 else n
 locks_left (Hnewname g) f n = if g == f then 0 else n

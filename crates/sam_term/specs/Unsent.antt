@@ -7,7 +7,8 @@ use Rattle.sam_term.specs.declared.event.UserEvent.{UserEvent}
 use Rattle.sam_term.specs.declared.files.Unsent.{Unsent}
 use Rattle.sam_term.specs.Term.{PlainTerminal, made_by, made_from}
 
--- where anything is composed, the unsent runes are composed first, in their place of their file, perhaps with runes that were typed behind them
+-- where anything is composed, the unsent runes are composed first, in their place of their file, perhaps with runes that were typed
+-- behind them
 abbrev pub SendsFirst : Option Unsent → List Tmesg → Type 0
 SendsFirst None messages = Unit {0}
 SendsFirst (Some u) [] = Unit {0}

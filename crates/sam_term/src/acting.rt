@@ -219,7 +219,8 @@ impl Terminal {
     /// `OutOfMemory`. The terminal is then unchanged.
     pub(crate) fn send_for_event(&mut self, message: Tmesg) -> Result<Acted, TermFault>
         requires opened { IsTrue (is_lockable self.old (lock_of message)) }
-        ensures { IsAnswer self.old self.new result (done (sends (record self.old { held = drop 1 self.old.held }) unchanged (message ∷ []))) }
+        ensures { IsAnswer self.old self.new result
+            (done (sends (record self.old { held = drop 1 self.old.held }) unchanged (message ∷ []))) }
     {
         match self.send(message) {
             Ok(batch) => {

@@ -52,8 +52,8 @@ impl Terminal {
         }
     }
 
-    /// Does a `Paste`: composes `Tcut` of the dot, which goes out of the rasp, unless it is empty, and then `Tpaste` in its place. What is
-    /// pasted comes with the host's answer, and a lock of the file is held until then.
+    /// Does a `Paste`: composes `Tcut` of the dot, which goes out of the rasp, unless it is empty, and then `Tpaste` in its place. What
+    /// is pasted comes with the host's answer, and a lock of the file is held until then.
     pub(crate) fn make_paste(&mut self, tag: u16) -> Result<Acted, TermFault>
         requires free { free_first self.old ≡ None }
         requires first { first_event self.old.held ≡ UserEvent.Paste tag }

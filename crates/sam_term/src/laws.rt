@@ -12,14 +12,15 @@ ghost use Rattle.sam_term.specs.Unsent.{EventsSendFirst, FramesSendFirst};
 ghost use Rattle.sam_term.specs.Term.{is_open, window_at, event_checks, flushed, made_from, made_by, file_of, rasp_at, PlainTerminal};
 ghost use Rattle.sam_term.specs.declared.event.UserEvent.{UserEvent};
 
-/// Says what an event does to the rasp of a file: `Typed`, `Cut` and `Paste` take the dot out, `Typed` puts its runes in that place, and no
-/// other event changes it.
+/// Says what an event does to the rasp of a file: `Typed`, `Cut` and `Paste` take the dot out, `Typed` puts its runes in that place, and
+/// no other event changes it.
 #[tactic(auto, using(crate::proofs::TermLaws::event_changes))]
 pub fn event_changes_text()
     ensures { (t : PlainTerminal) (e : UserEvent) (f : ℕ) → rasp_at (made_by t e).0 f ≡ changed_by t e f (rasp_at t f) }
 {}
 
-/// Says what a frame does to the rasp of a file that is open after it: gaps or runes come in, some are loaded, some go, or it begins empty.
+/// Says what a frame does to the rasp of a file that is open after it: gaps or runes come in, some are loaded, some go, or it begins
+/// empty.
 #[tactic(auto, using(crate::proofs::TermLaws::frame_shows))]
 pub fn frame_changes_text()
     ensures { (t : PlainTerminal) (m : Hmesg) (f : ℕ) → is_open (made_from t m).0 f ≡ true
@@ -70,11 +71,12 @@ pub fn unsent_goes_first()
     ensures frames { FramesSendFirst }
 {}
 
-/// Says what an event does to the locks: those that were held are held still, and the messages that it composes take theirs. A file awaits
-/// data if it did before, or if one of the messages asks for its data.
+/// Says what an event does to the locks: those that were held are held still, and the messages that it composes take theirs. A file
+/// awaits data if it did before, or if one of the messages asks for its data.
 #[tactic(auto, using(crate::proofs::LockLaws::event_command, crate::proofs::LockLaws::event_locks, crate::proofs::LockLaws::event_awaits))]
 pub fn event_takes_locks()
-    ensures command { (t : PlainTerminal) (e : UserEvent) → (made_by t e).0.command_lock ≡ (t.command_lock || takes_command (made_by t e).1) }
+    ensures command { (t : PlainTerminal) (e : UserEvent)
+        → (made_by t e).0.command_lock ≡ (t.command_lock || takes_command (made_by t e).1) }
     ensures files { (t : PlainTerminal) (e : UserEvent) (f : ℕ)
         → (window_at (made_by t e).0 f).locks ≡ (window_at t f).locks + locks_taken f (made_by t e).1 }
     ensures awaited { (t : PlainTerminal) (e : UserEvent) (f : ℕ)

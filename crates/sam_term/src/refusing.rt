@@ -11,8 +11,8 @@ use sam_mesg::Hmesg;
 use sam_runes::MAX_RUNES;
 
 impl Terminal {
-    /// Returns what stands against a message of the host: the first of its kind's tests that holds, in the order of `TermFault`, or `None`.
-    /// The stamp of the frame is not tested here.
+    /// Returns what stands against a message of the host: the first of its kind's tests that holds, in the order of `TermFault`, or
+    /// `None`. The stamp of the frame is not tested here.
     pub(crate) fn refusal(&self, message: &Hmesg) -> Option<TermFault>
         ensures { result ≡ frame_fault self.now message.now }
     {
@@ -127,9 +127,11 @@ impl Terminal {
         None
     }
 
-    /// Tests that the file is known and open, and has the range from `p` to `q`. Faults, in this order: `NoFile`; `NotOpen`; `BadPosition`.
+    /// Tests that the file is known and open, and has the range from `p` to `q`. Faults, in this order: `NoFile`; `NotOpen`;
+    /// `BadPosition`.
     fn refusal_of_range(&self, tag: u16, p: u32, q: u32) -> Option<TermFault>
-        ensures { result ≡ first_of_checks (unknown_file self.now tag ∷ not_opened self.now tag ∷ (nat_lt q p, TermFault.BadPosition) ∷ past_end self.now tag q ∷ []) }
+        ensures { result ≡ first_of_checks
+            (unknown_file self.now tag ∷ not_opened self.now tag ∷ (nat_lt q p, TermFault.BadPosition) ∷ past_end self.now tag q ∷ []) }
     {
         if !self.knows(tag) {
             return Some(TermFault::NoFile);
@@ -149,7 +151,8 @@ impl Terminal {
     /// Tests that the file is known and open, and that `n` more runes or gaps may come in at `p`. Faults, in this order: `NoFile`;
     /// `NotOpen`; `BadPosition` if `p` is past the end; `TooLong` if there would be more than `MAX_RUNES`.
     fn refusal_of_growth(&self, tag: u16, p: u32, n: usize) -> Option<TermFault>
-        ensures { result ≡ first_of_checks (unknown_file self.now tag ∷ not_opened self.now tag ∷ past_end self.now tag p ∷ no_room self.now tag n ∷ []) }
+        ensures { result ≡ first_of_checks
+            (unknown_file self.now tag ∷ not_opened self.now tag ∷ past_end self.now tag p ∷ no_room self.now tag n ∷ []) }
     {
         if !self.knows(tag) {
             return Some(TermFault::NoFile);
@@ -170,7 +173,8 @@ impl Terminal {
 
     /// Tests that the file is known and open, and has a lock. Faults, in this order: `NoFile`; `NotOpen`; `LockNotHeld`.
     fn refusal_of_free(&self, tag: u16) -> Option<TermFault>
-        ensures { result ≡ first_of_checks (unknown_file self.now tag ∷ not_opened self.now tag ∷ ((window_at self.now tag).locks == 0, TermFault.LockNotHeld) ∷ []) }
+        ensures { result ≡ first_of_checks
+            (unknown_file self.now tag ∷ not_opened self.now tag ∷ ((window_at self.now tag).locks == 0, TermFault.LockNotHeld) ∷ []) }
     {
         if !self.knows(tag) {
             return Some(TermFault::NoFile);

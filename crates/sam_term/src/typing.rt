@@ -104,7 +104,8 @@ fn text_of(event: UserEvent) -> Runes
 fn follows(unsent: &Unsent, tag: u16, p: u32, n: usize) -> bool
     requires before { length unsent.now.runes ≤ most_in_message }
     requires few { n ≤ most_in_message }
-    ensures { result ≡ (unsent.now.file == tag && unsent.now.place + length unsent.now.runes == p && nat_le (length unsent.now.runes + n) most_in_message) }
+    ensures { result ≡ (unsent.now.file == tag && unsent.now.place + length unsent.now.runes == p
+        && nat_le (length unsent.now.runes + n) most_in_message) }
 {
     let count = unsent.runes.len();
     unsent.file == tag
@@ -372,9 +373,11 @@ impl Terminal {
     pub(crate) fn type_first(&mut self, tag: u16) -> Result<Option<Unsent>, AllocError>
         requires opened { IsTrue (is_open self.old tag) }
         requires first { IsTrue (is_typing (first_event self.old.held)) }
-        requires size { length (window_at self.old tag).rasp + length (typed_runes (first_event self.old.held)) ≤ max_runes + ((window_at self.old tag).dot.1 - (window_at self.old tag).dot.0) }
+        requires size { length (window_at self.old tag).rasp + length (typed_runes (first_event self.old.held))
+            ≤ max_runes + ((window_at self.old tag).dot.1 - (window_at self.old tag).dot.0) }
         ensures unsent { IfOk result (λ before. before ≡ self.old.unsent) }
-        ensures ok { OnOk result (self.new ≡ record (put_window self.old tag (typed_over (window_at self.old tag) (typed_runes (first_event self.old.held)))) { unsent = None }) }
+        ensures ok { OnOk result (self.new ≡ record
+            (put_window self.old tag (typed_over (window_at self.old tag) (typed_runes (first_event self.old.held)))) { unsent = None }) }
         ensures err { OnErr result (self.new ≡ self.old) }
     {
         let Some(event) = self.held.first() else {

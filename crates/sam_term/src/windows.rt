@@ -77,7 +77,8 @@ impl Terminal {
 
     /// Returns the most runes that may be typed in the place of a file's dot. The file then has `MAX_RUNES`.
     pub(crate) fn room_beside_dot(&self, tag: u16) -> usize
-        ensures room { result + length (window_at self.now tag).rasp ≡ max_runes + ((window_at self.now tag).dot.1 - (window_at self.now tag).dot.0) }
+        ensures room { result + length (window_at self.now tag).rasp
+            ≡ max_runes + ((window_at self.now tag).dot.1 - (window_at self.now tag).dot.0) }
         ensures within { (window_at self.now tag).dot.1 - (window_at self.now tag).dot.0 ≤ length (window_at self.now tag).rasp }
     {
         self.known_window(tag);
@@ -104,8 +105,8 @@ impl Terminal {
         self.files.window_mut(tag).dot = (p, q);
     }
 
-    /// Puts `n` gaps into the rasp of an open file at `p`; dot, view and unsent runes move along. The only error is want of memory, and the
-    /// terminal is then unchanged.
+    /// Puts `n` gaps into the rasp of an open file at `p`; dot, view and unsent runes move along. The only error is want of memory, and
+    /// the terminal is then unchanged.
     pub(crate) fn grow_file(&mut self, tag: u16, p: u32, n: u32) -> Result<(), AllocError>
         requires opened { IsTrue (is_open self.old tag) }
         requires place { p ≤ length (window_at self.old tag).rasp }
@@ -132,8 +133,8 @@ impl Terminal {
         Ok(())
     }
 
-    /// Loads runes into the places of an open file from `p` on, whatever stood there. The file awaits nothing more, and no place moves. The
-    /// only error is want of memory, and the terminal is then unchanged.
+    /// Loads runes into the places of an open file from `p` on, whatever stood there. The file awaits nothing more, and no place moves.
+    /// The only error is want of memory, and the terminal is then unchanged.
     pub(crate) fn load_file(&mut self, tag: u16, p: u32, runes: &[char]) -> Result<(), AllocError>
         requires opened { IsTrue (is_open self.old tag) }
         requires place { p + length runes.now ≤ length (window_at self.old tag).rasp }
@@ -144,7 +145,8 @@ impl Terminal {
         Ok(())
     }
 
-    /// Takes the `n` runes and gaps from `p` on out of the rasp of an open file; dot, view and unsent runes move along. It takes no memory.
+    /// Takes the `n` runes and gaps from `p` on out of the rasp of an open file; dot, view and unsent runes move along. It takes no
+    /// memory.
     pub(crate) fn cut_file(&mut self, tag: u16, p: u32, n: u32)
         requires opened { IsTrue (is_open self.old tag) }
         requires place { p + n ≤ length (window_at self.old tag).rasp }

@@ -32,7 +32,8 @@ ok_if P false x y h k = k
 
 -- ## Patterns
 
-pattern_end : (n : ℕ) (p : List ℕ × List ℕ) → n ≡ length p.0 → (a b : Bool) → (n == 0) ≡ a → nat_lt most_in_pattern n ≡ b → IfOk (cond (a || b) (Err word.Pattern) (Ok p)) (λ (p : List ℕ × List ℕ). IsPattern p.0)
+pattern_end : (n : ℕ) (p : List ℕ × List ℕ) → n ≡ length p.0 → (a b : Bool) → (n == 0) ≡ a → nat_lt most_in_pattern n ≡ b
+    → IfOk (cond (a || b) (Err word.Pattern) (Ok p)) (λ (p : List ℕ × List ℕ). IsPattern p.0)
 pattern_end n p same true b e f = tt
 pattern_end n p same false true e f = tt
 pattern_end zero p same false false e f = absurd (cc)

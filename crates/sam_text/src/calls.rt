@@ -83,8 +83,8 @@ impl Files {
 
     /// Makes a file the work file, and sets its dot to the range from place `p` to place `q`. The caller makes sure that the tag isn't 0.
     ///
-    /// Errors, in this order: `NoFile` if the tag has no file; `BadPosition` if `q` is less than `p` or past the end of the text. After an
-    /// error the files are unchanged.
+    /// Errors, in this order: `NoFile` if the tag has no file; `BadPosition` if `q` is less than `p` or past the end of the text. After
+    /// an error the files are unchanged.
     pub fn set_work(&mut self, tag: u16, p: u32, q: u32) -> Result<(), FilesFault>
         requires { 0 < tag }
         ensures answer { result ≡ unless (first_of_checks (range_checks self.old.plain tag p q)) tt }
@@ -126,8 +126,8 @@ impl Files {
 
     /// Sets the dot of a file to the range from place `p` to place `q`.
     ///
-    /// Errors, in this order: `NoFile` if the tag has no file; `BadPosition` if `q` is less than `p` or past the end of the text. After an
-    /// error the files are unchanged.
+    /// Errors, in this order: `NoFile` if the tag has no file; `BadPosition` if `q` is less than `p` or past the end of the text. After
+    /// an error the files are unchanged.
     pub fn set_dot(&mut self, tag: u16, p: u32, q: u32) -> Result<(), FilesFault>
         ensures answer { result ≡ unless (first_of_checks (range_checks self.old.plain tag p q)) tt }
         ensures done { OnOk result (self.new.plain ≡ with_dot self.old.plain tag p q) }
@@ -142,8 +142,8 @@ impl Files {
     /// Deletes the runes of a file from place `p` to place `q`. Dot is then the empty range at `p`, and the file becomes dirty, unless it
     /// is the command file. No memory is asked for.
     ///
-    /// Errors, in this order: `NoFile` if the tag has no file; `BadPosition` if `q` is less than `p` or past the end of the text. After an
-    /// error the files are unchanged.
+    /// Errors, in this order: `NoFile` if the tag has no file; `BadPosition` if `q` is less than `p` or past the end of the text. After
+    /// an error the files are unchanged.
     pub fn delete(&mut self, tag: u16, p: u32, q: u32) -> Result<(), FilesFault>
         ensures answer { result ≡ unless (first_of_checks (range_checks self.old.plain tag p q)) tt }
         ensures done { OnOk result (self.new.plain ≡ change_file self.old.plain tag (λ file. cut_file tag file p q)) }
@@ -156,8 +156,8 @@ impl Files {
     }
 
     /// Puts `runes` in a file at place `p`. Dot is then the empty range after them, and the file becomes dirty, unless it is the command
-    /// file. Within the room of the file no memory is asked for, only what stands after `p` is moved, and the room shrinks by no more than
-    /// what is put in.
+    /// file. Within the room of the file no memory is asked for, only what stands after `p` is moved, and the room shrinks by no more
+    /// than what is put in.
     ///
     /// Errors, in this order: `NoFile` if the tag has no file; `BadPosition` if `p` is past the end of the text; `TooLong` if the text
     /// would have more than `MAX_RUNES` runes; `OutOfMemory`. After an error the files and their rooms are unchanged.
@@ -256,8 +256,8 @@ impl Files {
         Ok((start, end))
     }
 
-    /// Adds a file with copies of this name and text under the next tag, and returns the tag. The file is clean, closed and not announced.
-    /// The caller makes sure that the name has at most `MOST_IN_NAME` runes.
+    /// Adds a file with copies of this name and text under the next tag, and returns the tag. The file is clean, closed and not
+    /// announced. The caller makes sure that the name has at most `MOST_IN_NAME` runes.
     ///
     /// Errors, in this order: `TooLong` if the text has more than `MAX_RUNES` runes; `NoTag` if all tags were given; `OutOfMemory`.
     /// After an error the files are unchanged.
@@ -288,8 +288,8 @@ impl Files {
         self.add_file(name, text)
     }
 
-    /// Adds a file of this name and text, which are not copied, under the next tag, and returns the tag. The file is clean, closed and not
-    /// announced. The caller makes sure that the name has at most `MOST_IN_NAME` runes.
+    /// Adds a file of this name and text, which are not copied, under the next tag, and returns the tag. The file is clean, closed and
+    /// not announced. The caller makes sure that the name has at most `MOST_IN_NAME` runes.
     ///
     /// Errors, in this order: `NoTag` if all tags were given; `OutOfMemory`. After an error the files are unchanged.
     pub fn add_file(&mut self, name: Runes, text: Text) -> Result<u16, FilesFault>
@@ -308,8 +308,8 @@ impl Files {
         Ok(tag as u16)
     }
 
-    /// Adds a file for the terminal under the next tag, and returns the tag. The file has an empty text and no name, and it is clean, open
-    /// and announced.
+    /// Adds a file for the terminal under the next tag, and returns the tag. The file has an empty text and no name, and it is clean,
+    /// open and announced.
     ///
     /// Errors, in this order: `NoTag` if all tags were given; `OutOfMemory`. After an error the files are unchanged.
     pub fn start_file(&mut self, alloc: Global) -> Result<u16, FilesFault>
@@ -328,8 +328,8 @@ impl Files {
     }
 
     /// Searches a file for what stands in it from place `p` to place `q`: that becomes the pattern, and its first occurrence from `q` on,
-    /// or else the first of the text, becomes dot. Returns the new dot. There is always one, since the range itself is an occurrence;
-    /// but if the range is empty or longer than `MOST_IN_PATTERN` runes, the call returns `None`, changes nothing, and asks for no memory.
+    /// or else the first of the text, becomes dot. Returns the new dot. There is always one, since the range itself is an occurrence; but
+    /// if the range is empty or longer than `MOST_IN_PATTERN` runes, the call returns `None`, changes nothing, and asks for no memory.
     ///
     /// Errors, in this order: `NoFile` if the tag has no file; `BadPosition` if `q` is less than `p` or past the end of the text;
     /// `OutOfMemory`. After an error files and pattern are unchanged.
@@ -367,8 +367,8 @@ impl Files {
     /// becomes dot. Returns the new dot. If there is no pattern or it stands nowhere, returns `None` and changes nothing. Place `p` is
     /// only checked.
     ///
-    /// Errors, in this order: `NoFile` if the tag has no file; `BadPosition` if `q` is less than `p` or past the end of the text. After an
-    /// error the files are unchanged.
+    /// Errors, in this order: `NoFile` if the tag has no file; `BadPosition` if `q` is less than `p` or past the end of the text. After
+    /// an error the files are unchanged.
     pub fn search(&mut self, tag: u16, p: u32, q: u32) -> Result<Option<(u32, u32)>, FilesFault>
         ensures answer { result ≡ unless (first_of_checks (range_checks self.old.plain tag p q)) (search_of self.old.plain tag q) }
         ensures done { OnOk result (self.new.plain ≡ with_found self.old.plain tag (search_of self.old.plain tag q)) }

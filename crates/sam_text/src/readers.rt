@@ -25,8 +25,8 @@ impl Files {
         (tag as usize) < self.tags()
     }
 
-    /// Tells a proof what is always true of a file: its dot is a range of its text, its text has at most `MAX_RUNES` runes, and its name at
-    /// most `MOST_IN_NAME`. It does nothing.
+    /// Tells a proof what is always true of a file: its dot is a range of its text, its text has at most `MAX_RUNES` runes, and its name
+    /// at most `MOST_IN_NAME`. It does nothing.
     pub fn known_file(&self, tag: u16)
         ensures fit { IsFit (file_at self.now.plain tag) }
         ensures name { HasShortName (file_at self.now.plain tag) }
@@ -210,8 +210,8 @@ impl Files {
         }
     }
 
-    /// Returns the word of a file that has place `p` inside it or at an edge, or the empty range at `p` if there is none. The caller makes
-    /// sure that `p` is not past the end. A word is made of ASCII letters, digits and underscores, and of runes above U+007F.
+    /// Returns the word of a file that has place `p` inside it or at an edge, or the empty range at `p` if there is none. The caller
+    /// makes sure that `p` is not past the end. A word is made of ASCII letters, digits and underscores, and of runes above U+007F.
     pub fn word(&self, tag: u16, p: u32) -> (u32, u32)
         requires { p ≤ length (file_at self.now.plain tag).text }
         ensures value { result ≡ word_at (file_at self.now.plain tag).text p }

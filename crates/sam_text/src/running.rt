@@ -41,8 +41,8 @@ impl Files {
     }
 
     /// Puts the outcome of a line in: the text, dot and name of its file, and the pattern. Returns what the line prints, which is not
-    /// printed yet. The file becomes dirty if there were edits. The caller makes sure that the outcome fits the files, as it does while its
-    /// file is as `run_line` found it. If `quit` is true, it is also the caller who ends the session.
+    /// printed yet. The file becomes dirty if there were edits. The caller makes sure that the outcome fits the files, as it does while
+    /// its file is as `run_line` found it. If `quit` is true, it is also the caller who ends the session.
     ///
     /// No memory is asked for. A new text brings its own room; every other text keeps its room.
     pub fn commit(&mut self, outcome: Outcome) -> Runes

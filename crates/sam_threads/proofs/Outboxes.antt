@@ -99,3 +99,6 @@ one_put most a b bytes rest piece put front fit = record {
   sizes = (fit, tt);
   whole = ap (λ (x : List ℕ). x ++ rest) (append-nil piece.items) ∙ sym front;
 }
+
+-- what an outbox rests on that takes in messages
+pub ruleset encodings = (behind_start, within_grown, all_behind)

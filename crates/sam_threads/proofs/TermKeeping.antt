@@ -119,8 +119,16 @@ pub kept_done : (v : SideView) (desk : DeskView) (outbox : List ℕ) (ms : List 
     → Did v.desk desk [] [] ms → Each (FitsT 2) ms → outbox ≡ v.outbox ++ stream_of terminal ms
     → Ran (record { take = v.take; post = v.post; desk = desk; outbox = outbox; keyboard_left = v.keyboard_left; mouse_left = v.mouse_left; exit_put = v.exit_put; stop = v.stop })
 kept_done v desk outbox ms r running d fit grown =
-    subst (λ (x : Option Stop). Ran (record { take = v.take; post = v.post; desk = desk;
-      outbox = outbox; keyboard_left = v.keyboard_left; mouse_left = v.mouse_left; exit_put = v.exit_put; stop = x })) (sym (none_of v.stop running))
+    subst (λ (x : Option Stop). Ran (record {
+      take = v.take;
+      post = v.post;
+      desk = desk;
+      outbox = outbox;
+      keyboard_left = v.keyboard_left;
+      mouse_left = v.mouse_left;
+      exit_put = v.exit_put;
+      stop = x;
+    })) (sym (none_of v.stop running))
     (kept_step v desk outbox None ms [] r (none_of v.stop running) d fit (append-nil outbox ∙ grown) (refl, refl) (λ is. absurd (cc)))
 
 -- what was encoded of some messages, and what was lost of them, is their frames
@@ -321,3 +329,6 @@ kept_new line post t desk outbox why fresh three first new laid empty is =
     so_far : (o : Option Stop) → (o ≡ None) ⊎ (o ≡ Some stop.Gate) → SoFar desk.term [] [] o
     so_far o (inl e) = subst (λ (x : Option Stop). SoFar desk.term [] [] x) (sym e) (refl, refl)
     so_far o (inr e) = subst (λ (x : Option Stop). SoFar desk.term [] [] x) (sym e) tt
+
+-- what a side rests on that puts a piece
+pub ruleset pieces_kept = (kept_pieces, kept_short, goes_put)

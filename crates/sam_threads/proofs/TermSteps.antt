@@ -120,3 +120,6 @@ stops_flush t why s is (inl memory) = inl (is ∙ ap of_fault memory)
 stops_flush t why s is (inr refused) =
     let full = (only_counts_stop t why).1 refused in
     inr (is ∙ ap of_fault full, inr (refused ∙ ap (λ (x : TermFault). Err x) full))
+
+-- what a desk rests on that tries an event
+pub ruleset acts_kept = (did_done, did_refused, did_idle, did_locked, idle_holds_none)

@@ -184,7 +184,7 @@ kept_keyboard v line r running next =
     (λ (x : Option Stop). Ran (record { take = line; post = v.post; desk = v.desk; outbox = v.outbox; keyboard_left = true; mouse_left = v.mouse_left; exit_put = v.exit_put; stop = x }))
     (sym (none_of v.stop running))
     (mark_handled v line (record { sender = 0; load = None }) true v.mouse_left None r (none_of v.stop running) next refl (refl, refl)
-      (λ is. refl) (λ is. is) (λ is. inr refl) (λ is. inl is) (λ is. absurd (cc)))
+    (λ is. refl) (λ is. is) (λ is. inr refl) (λ is. inl is) (λ is. absurd (cc)))
 
 pub kept_mouse : (v : SideView) (line : TakeView Input) → Ran v → is_some v.stop ≡ false → TakesNext v.take (record { sender = 1; load = None }) line
     → Ran (record { take = line; post = v.post; desk = v.desk; outbox = v.outbox; keyboard_left = v.keyboard_left; mouse_left = true; exit_put = v.exit_put; stop = v.stop })
@@ -193,7 +193,7 @@ kept_mouse v line r running next =
     (λ (x : Option Stop). Ran (record { take = line; post = v.post; desk = v.desk; outbox = v.outbox; keyboard_left = v.keyboard_left; mouse_left = true; exit_put = v.exit_put; stop = x }))
     (sym (none_of v.stop running))
     (mark_handled v line (record { sender = 1; load = None }) v.keyboard_left true None r (none_of v.stop running) next refl (refl, refl)
-      (λ is. is) (λ is. refl) (λ is. inl is) (λ is. inr refl) (λ is. absurd (cc)))
+    (λ is. is) (λ is. refl) (λ is. inl is) (λ is. inr refl) (λ is. absurd (cc)))
 
 pub kept_reader : (v : SideView) (line : TakeView Input) (sender : ℕ) → Ran v → is_some v.stop ≡ false → TakesNext v.take (record { sender = sender; load = None }) line
     → Ran (record { take = line; post = v.post; desk = v.desk; outbox = v.outbox; keyboard_left = v.keyboard_left; mouse_left = v.mouse_left; exit_put = v.exit_put; stop = v.stop })
@@ -202,7 +202,7 @@ kept_reader v line sender r running next =
     (λ (x : Option Stop). Ran (record { take = line; post = v.post; desk = v.desk; outbox = v.outbox; keyboard_left = v.keyboard_left; mouse_left = v.mouse_left; exit_put = v.exit_put; stop = x }))
     (sym (none_of v.stop running))
     (mark_handled v line (record { sender = sender; load = None }) v.keyboard_left v.mouse_left None r (none_of v.stop running) next refl (refl, refl)
-      (λ is. is) (λ is. is) (λ is. inl is) (λ is. inl is) (λ is. absurd (cc)))
+    (λ is. is) (λ is. is) (λ is. inl is) (λ is. inl is) (λ is. absurd (cc)))
 
 pub kept_gone : (v : SideView) (line : TakeView Input) (sender : ℕ) → Ran v → is_some v.stop ≡ false → TakesNext v.take (record { sender = sender; load = None }) line
     → sender ≢ 0 → sender ≢ 1 → v.desk.term.has_exited ≡ false
@@ -310,8 +310,16 @@ pub still : (v : SideView) (line : TakeView Input) → Ran v → line ≡ v.take
     → Ran (record { take = line; post = v.post; desk = v.desk; outbox = v.outbox; keyboard_left = v.keyboard_left; mouse_left = v.mouse_left; exit_put = v.exit_put; stop = v.stop })
 still v line r same =
     subst
-    (λ (x : TakeView Input). Ran (record { take = x; post = v.post;
-      desk = v.desk; outbox = v.outbox; keyboard_left = v.keyboard_left; mouse_left = v.mouse_left; exit_put = v.exit_put; stop = v.stop }))
+    (λ (x : TakeView Input). Ran (record {
+      take = x;
+      post = v.post;
+      desk = v.desk;
+      outbox = v.outbox;
+      keyboard_left = v.keyboard_left;
+      mouse_left = v.mouse_left;
+      exit_put = v.exit_put;
+      stop = v.stop;
+    }))
     (sym same) r
 
 -- whatever the line answers after a stop
@@ -321,3 +329,6 @@ kept_answer v line (got.Item i m) r stopped a = kept_dropping v line (record { s
 kept_answer v line (got.Left i) r stopped a = kept_dropping v line (record { sender = i; load = None }) r stopped a
 kept_answer v line got.Ended r stopped a = still v line r a.0
 kept_answer v line got.Empty r stopped a = still v line r a.0
+
+-- what a side rests on that takes an entry
+pub ruleset takes_kept = (kept_gone, kept_refused, kept_gated)

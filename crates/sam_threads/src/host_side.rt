@@ -134,9 +134,8 @@ impl HostSide<'_> {
         requires fit { Each (FitsT 2) messages.items }
         ensures piece { self.new.piece ≡ self.old.piece }
         ensures framer { self.new.framer ≡ self.old.framer }
-        ensures handles {
-            HandlesAll (G.may_refuse gate.now 2) self.old.host self.new.host self.old.post self.new.post messages.items result
-        }
+        ensures handles { HandlesAll (G.may_refuse gate.now 2) self.old.host self.new.host self.old.post self.new.post
+            messages.items result }
     {
         for message in messages {
             if !gate.go_on(2, self.handled) {
@@ -164,9 +163,8 @@ impl HostSide<'_> {
         requires fit { Each (FitsT 2) messages.items }
         ensures piece { self.new.piece ≡ self.old.piece }
         ensures framer { self.new.framer ≡ self.old.framer }
-        ensures stops {
-            StopsBefore (G.may_refuse gate.now 2) self.old.host self.new.host self.old.post self.new.post messages.items number result
-        }
+        ensures stops { StopsBefore (G.may_refuse gate.now 2) self.old.host self.new.host self.old.post self.new.post
+            messages.items number result }
     {
         match self.answer_all(rt, gate, messages) {
             Ok(()) => Stop::Frame(number),
@@ -180,10 +178,8 @@ impl HostSide<'_> {
         requires open { self.old.post.closed ≡ false }
         requires sound { self.old.framer.failed ≡ false }
         ensures piece { self.new.piece ≡ self.old.piece }
-        ensures takes {
-            TakesPiece (G.may_refuse gate.now 2) self.old.host self.new.host self.old.post self.new.post
-                self.old.framer self.new.framer piece.now result
-        }
+        ensures takes { TakesPiece (G.may_refuse gate.now 2) self.old.host self.new.host self.old.post self.new.post
+            self.old.framer self.new.framer piece.now result }
     {
         match self.framer.feed(piece) {
             Ok(messages) => self.answer_all(rt, gate, messages),

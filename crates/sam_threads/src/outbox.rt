@@ -15,8 +15,8 @@ use std::alloc::{AllocError, Global};
 use std::marker::Model;
 use std::sync::Wait;
 
-/// Adds the bytes of the messages at the end of `out`, in order. After an error, which is want of memory, some of the first of these bytes
-/// stand there.
+/// Adds the bytes of the messages at the end of `out`, in order. After an error, which is want of memory, some of the first of these
+/// bytes stand there.
 #[tactic(auto, using(crate::proofs::Outboxes::all_encoded, crate::proofs::Outboxes::rest_lost))]
 fn encode_all(messages: &[Tmesg], out: &mut Vec<u8>) -> Result<(), MesgFault>
     requires { All (λ m. IsTrue (fits_t 2 m)) messages.now }
@@ -79,11 +79,7 @@ impl Uncut {
     }
 
     /// Adds the bytes of the messages behind the others. After an error, which is want of memory, some of the first of them stand there.
-    #[tactic(auto, using(
-        crate::proofs::Outboxes::behind_start,
-        crate::proofs::Outboxes::within_grown,
-        crate::proofs::Outboxes::all_behind,
-    ))]
+    #[tactic(auto, using(crate::proofs::Outboxes::encodings))]
     fn push_all(&mut self, messages: &[Tmesg]) -> Result<(), MesgFault>
         requires { All (λ m. IsTrue (fits_t 2 m)) messages.now }
         ensures encoded { OnOk result (self.new ≡ self.old ++ stream_of terminal messages.now) }

@@ -122,15 +122,9 @@ impl Desk {
         }
     }
 
-    /// Tries the oldest held event, and returns what became of it. The errors are `Term(8)` for a full count, and `Memory`, which may come
-    /// before it; they leave the desk as it was.
-    #[tactic(auto, using(
-        crate::proofs::TermSteps::did_done,
-        crate::proofs::TermSteps::did_refused,
-        crate::proofs::TermSteps::did_idle,
-        crate::proofs::TermSteps::did_locked,
-        crate::proofs::TermSteps::idle_holds_none,
-    ))]
+    /// Tries the oldest held event, and returns what became of it. The errors are `Term(8)` for a full count, and `Memory`, which may
+    /// come before it; they leave the desk as it was.
+    #[tactic(auto, using(crate::proofs::TermSteps::acts_kept))]
     pub(crate) fn act(&mut self) -> Result<Acted, Stop>
         ensures acted { IfOk result (λ acted. Did self.old self.new [] [] (composed_by acted)) }
         ensures idle { result ≡ Ok Acted.Idle → self.new.term.held ≡ [] }

@@ -44,8 +44,8 @@ enum Tried {
     Stopped,
 }
 
-/// The terminal with its ends of the lines. Once `stop` tells why, it handles nothing more: it only takes and drops what comes, and closes
-/// its post.
+/// The terminal with its ends of the lines. Once `stop` tells why, it handles nothing more: it only takes and drops what comes, and
+/// closes its post.
 #[derive(Drop)]
 struct Side<'q> {
     /// The worker's take of the line of events, which has three senders.
@@ -212,11 +212,7 @@ impl<'q> Side<'q> {
     }
 
     /// Puts the next piece if there is one and the line has room for it. Returns whether it put one.
-    #[tactic(auto, using(
-        crate::proofs::TermKeeping::kept_pieces,
-        crate::proofs::TermKeeping::kept_short,
-        crate::proofs::TermKeeping::goes_put,
-    ))]
+    #[tactic(auto, using(crate::proofs::TermKeeping::pieces_kept))]
     fn put_piece<R: Wait>(&mut self, rt: &R) -> bool
         ensures { Goes self.old self.new }
     {
@@ -256,11 +252,7 @@ impl<'q> Side<'q> {
 
     /// Takes the next entry, if there is one. It lets the terminal handle an item, and notes who has left. If the host reader has left
     /// before the session is over, it stops.
-    #[tactic(auto, using(
-        crate::proofs::TermTaking::kept_gone,
-        crate::proofs::TermTaking::kept_refused,
-        crate::proofs::TermTaking::kept_gated,
-    ))]
+    #[tactic(auto, using(crate::proofs::TermTaking::takes_kept))]
     fn take_next<R: Wait, G: Gate>(&mut self, rt: &R, gate: &G) -> Found
         requires running { is_some self.old.stop ≡ false }
         ensures take { self.new.take.line ≡ self.old.take.line }
@@ -376,8 +368,8 @@ impl<'q> Side<'q> {
         }
     }
 
-    /// Makes one turn where nothing has stopped the worker: it takes, acts, puts, and tries to finish. If it took and put nothing, it waits
-    /// a little for an entry. Returns whether all is done.
+    /// Makes one turn where nothing has stopped the worker: it takes, acts, puts, and tries to finish. If it took and put nothing, it
+    /// waits a little for an entry. Returns whether all is done.
     #[tactic(auto, using(crate::proofs::TermKeeping::goes_on, crate::proofs::TermKeeping::found_still))]
     fn turn<R: Wait, G: Gate>(&mut self, rt: &R, gate: &G, backoff: &mut Backoff) -> bool
         requires running { is_some self.old.stop ≡ false }
@@ -480,9 +472,9 @@ impl<'q> Side<'q> {
 /// Runs the terminal on what comes over the line of events, puts the bytes of its messages into the line up in pieces of at most `piece`
 /// bytes, and returns the worker's end. It is worker 4, the terminal. It begins with `term`, a new terminal.
 ///
-/// It never waits in a send: bytes for which the line has no room stand in an outbox. Once an entry is taken, held events act. Typed runes
-/// go up when the line of events is empty and nothing else is to be put. Once keyboard and mouse have left it puts an Exit of its own
-/// behind the held events, unless the session is over.
+/// It never waits in a send: bytes for which the line has no room stand in an outbox. Once an entry is taken, held events act. Typed
+/// runes go up when the line of events is empty and nothing else is to be put. Once keyboard and mouse have left it puts an Exit of its
+/// own behind the held events, unless the session is over.
 ///
 /// The end's `stop` is `None` if the host ended the session, everybody left, and nothing is held, unsent or not put. Else it is `Gate` if
 /// the gate refused the worker; `Frame(1)` or `Frame(2)` for an item that no worker of a session sends; `Term` if the terminal refused a

@@ -113,7 +113,7 @@ answer_goes h t m up down r o e = go (h.taken == most_count) refl
     go false q =
         let same : (g.reply.0, stamped g.reply.0.taken g.reply.1) ≡ r = the_result (g.reply.0, stamped g.reply.0.taken g.reply.1) r (sym (answer_is h m g.reply g.answers_it q) ∙ e) in
         let list : mesgs down ++ g.reply.1 ≡ mesgs (down ++ stamped g.reply.0.taken g.reply.1) = ap (λ (l : List Hmesg). mesgs down ++ l)
-          (sym (msgs_stamped g.reply.0.taken g.reply.1)) ∙ sym (map-append (λ (f : HFrame). f.msg) down (stamped g.reply.0.taken g.reply.1)) in
+        (sym (msgs_stamped g.reply.0.taken g.reply.1)) ∙ sym (map-append (λ (f : HFrame). f.msg) down (stamped g.reply.0.taken g.reply.1)) in
         subst (λ (x : PlainHost × List HFrame). InOrder x.0 t up (mesgs (down ++ x.1))) same (subst (λ (l : List Hmesg). InOrder g.reply.0 t up l) list g.next)
 
 -- ## Every step
@@ -140,12 +140,12 @@ ordered_step w next Flush o e = go (flush_of w.term) refl e
     go (Ok r) a q =
         let after : PlainWorld = record w { term = r.0; up = w.up ++ r.1 } in
         let gone : InOrder w.host r.0 (w.up ++ r.1) (mesgs w.down) =
-          subst (λ (x : Made). InOrder w.host x.0 (w.up ++ x.1) (mesgs w.down)) (flushes w.term r a) (flushed_goes w.host w.term w.up (mesgs w.down) o) in
+        subst (λ (x : Made). InOrder w.host x.0 (w.up ++ x.1) (mesgs w.down)) (flushes w.term r a) (flushed_goes w.host w.term w.up (mesgs w.down) o) in
         subst (λ (v : PlainWorld). InOrder v.host v.term v.up (mesgs v.down)) (same_Some after next q) gone
 ordered_step w next HostTake o e = go w.up o e
   where
     taken : (m : Tmesg) (ms : List Tmesg) (r : Answer) → answer w.host m ≡ r → InOrder w.host w.term (m ∷ ms) (mesgs w.down)
-      → after_answer (record w { up = ms }) r ≡ Some next → InOrder next.host next.term next.up (mesgs next.down)
+        → after_answer (record w { up = ms }) r ≡ Some next → InOrder next.host next.term next.up (mesgs next.down)
     taken m ms (Err why) a i q = absurd (cc)
     taken m ms (Ok r) a i q =
         let after : PlainWorld = record w { up = ms; host = r.0; down = w.down ++ r.1 } in
@@ -157,7 +157,7 @@ ordered_step w next HostTake o e = go w.up o e
 ordered_step w next TermTake o e = go w.down o e
   where
     taken : (frame : HFrame) (frames : List HFrame) (r : Result Made TermFault) → take_of w.term frame ≡ r → InOrder w.host w.term w.up (mesgs (frame ∷ frames))
-      → after_compose (record w { down = frames }) r ≡ Some next → InOrder next.host next.term next.up (mesgs next.down)
+        → after_compose (record w { down = frames }) r ≡ Some next → InOrder next.host next.term next.up (mesgs next.down)
     taken frame frames (Err why) a i q = absurd (cc)
     taken frame frames (Ok r) a i q =
         let after : PlainWorld = record w { down = frames; term = r.0; up = w.up ++ r.1 } in
@@ -202,7 +202,7 @@ refused_take : (t : PlainTerminal) (frame : HFrame) (why : TermFault) → frame.
 unfolding take_of
 refused_take t frame why seen passes e =
     let none : first_of_checks ((nat_lt t.sent frame.seen, fault.FromTheFuture) ∷ frame_checks t frame.msg) ≡ None =
-      test (nat_lt t.sent frame.seen) fault.FromTheFuture (frame_checks t frame.msg) (le-ltb t.sent frame.seen seen) passes in
+    test (nat_lt t.sent frame.seen) fault.FromTheFuture (frame_checks t frame.msg) (le-ltb t.sent frame.seen seen) passes in
     only_count (made_from t frame.msg).0.sent (made_from t frame.msg) why (ap (λ (v : Option TermFault). made_unless v (made_from t frame.msg)) (sym none) ∙ e)
 
 pub terminal_never_refuses : TerminalNeverRefuses

@@ -23,7 +23,7 @@ run_more w v u (e ∷ es) (suc i) d l r s =
     subst (λ k. run_of w (take k (e ∷ es)) ≡ Some u) one (go (step_of w e) (λ n q. run_more n v u es i d (omega (arith, l)) q s) r)
   where
     go : (o : Option PlainWorld) → ((n : PlainWorld) → run_of n (take i es) ≡ Some v → run_of n (take (i + 1) es) ≡ Some u)
-      → option_and_then (λ n. run_of n (take i es)) o ≡ Some v → option_and_then (λ n. run_of n (take (i + 1) es)) o ≡ Some u
+        → option_and_then (λ n. run_of n (take i es)) o ≡ Some v → option_and_then (λ n. run_of n (take (i + 1) es)) o ≡ Some u
     go None more q = absurd (cc)
     go (Some n) more q = more n q
 
@@ -74,12 +74,15 @@ drained_then (suc i) k w v d =
     subst (λ n. drained n w ≡ drained k v) one (go (next_event w) (λ n r. drained_then i k n v r) refl d)
   where
     past : (o : Option PlainWorld) → ((n : PlainWorld) → drained i n ≡ Some v → drained (i + k) n ≡ drained k v)
-      → option_and_then (drained i) o ≡ Some v → option_and_then (drained (i + k)) o ≡ drained k v
+        → option_and_then (drained i) o ≡ Some v → option_and_then (drained (i + k)) o ≡ drained k v
     past None more q = absurd (cc)
     past (Some n) more q = more n q
 
-    go : (o : Option Event) → ((n : PlainWorld) → drained i n ≡ Some v → drained (i + k) n ≡ drained k v) → next_event w ≡ o → elim o [ None ↦ Some w | Some x ↦
-      option_and_then (drained i) (step_of w x) ] ≡ Some v → elim o [ None ↦ Some w | Some x ↦ option_and_then (drained (i + k)) (step_of w x) ] ≡ drained k v
+    go : (o : Option Event) → ((n : PlainWorld) → drained i n ≡ Some v → drained (i + k) n ≡ drained k v) → next_event w ≡ o → elim o [
+      | None ↦ Some w
+      | Some x ↦
+          option_and_then (drained i) (step_of w x)
+    ] ≡ Some v → elim o [ None ↦ Some w | Some x ↦ option_and_then (drained (i + k)) (step_of w x) ] ≡ drained k v
     go None more none q = sym (drained_still k w none) ∙ ap (λ x. drained k x) (same_Some w v q)
     go (Some x) more next q = past (step_of w x) more q
 
@@ -104,12 +107,12 @@ drained_stops (suc n) w v d = go (next_event w) (λ u r. drained_stops n u v r) 
         inr (record { events = x ∷ made.events; many = ap suc made.many; leads = ap (λ o. option_and_then (λ next. run_of next made.events) o) stepped ∙ made.leads })
 
     past : (x : Event) (o : Option PlainWorld) → step_of w x ≡ o → ((u : PlainWorld) → drained n u ≡ Some v → (next_event v ≡ None) ⊎ HasMade n u v)
-      → option_and_then (drained n) o ≡ Some v → (next_event v ≡ None) ⊎ HasMade (suc n) w v
+        → option_and_then (drained n) o ≡ Some v → (next_event v ≡ None) ⊎ HasMade (suc n) w v
     past x None stepped more q = absurd (cc)
     past x (Some u) stepped more q = first x u stepped (more u q)
 
     go : (o : Option Event) → ((u : PlainWorld) → drained n u ≡ Some v → (next_event v ≡ None) ⊎ HasMade n u v)
-      → next_event w ≡ o → elim o [ None ↦ Some w | Some x ↦ option_and_then (drained n) (step_of w x) ] ≡ Some v → (next_event v ≡ None) ⊎ HasMade (suc n) w v
+        → next_event w ≡ o → elim o [ None ↦ Some w | Some x ↦ option_and_then (drained n) (step_of w x) ] ≡ Some v → (next_event v ≡ None) ⊎ HasMade (suc n) w v
     go None more none q = inl (subst (λ x. next_event x ≡ None) (same_Some w v q) none)
     go (Some x) more next q = past x (step_of w x) refl more q
 

@@ -27,7 +27,7 @@ run-last w v u [] e r s =
 run-last w v u (x ∷ es) e r s = go (step_of w x) (λ n q. run-last n v u es e q s) r
   where
     go : (o : Option PlainWorld) → ((n : PlainWorld) → run_of n es ≡ Some v → run_of n (es ++ e ∷ []) ≡ Some u)
-      → option_and_then (λ n. run_of n es) o ≡ Some v → option_and_then (λ n. run_of n (es ++ e ∷ [])) o ≡ Some u
+        → option_and_then (λ n. run_of n es) o ≡ Some v → option_and_then (λ n. run_of n (es ++ e ∷ [])) o ≡ Some u
     go None more q = absurd (cc)
     go (Some n) more q = more n q
 

@@ -195,7 +195,7 @@ answers_keep_work_open h g m frames e w = go (h.taken == most_count) h.is_done (
     to x o same = subst (λ (y : PlainHost × List HFrame). IsWorkOpen y.0.files) (the_result x (g, frames) same) o
 
     go : (full finished : Bool) (o : Option HostFault) → first_of_checks (host_checks h m) ≡ o
-      → (if full then Err CountFull else if finished then Ok (counted h, []) else answer_unless o (reply_to h m)) ≡ Ok (g, frames) → IsWorkOpen g.files
+        → (if full then Err CountFull else if finished then Ok (counted h, []) else answer_unless o (reply_to h m)) ≡ Ok (g, frames) → IsWorkOpen g.files
     go true finished o is q = absurd (cc)
     go false true o is q = to (counted h, []) w q
     go false false None is q = to (counted (reply_to h m).0, stamped ((reply_to h m).0.taken + 1) (reply_to h m).1) (reply_work h m is w) q

@@ -10,7 +10,7 @@ returns-clause-cells c =
     let first = c.move_before-first.result.0 in
     let at = c.move_before-first.result.1 in
     cut-cells (cells_of c.args.out.now.items ++ cells_back c.args.rest.now.items)
-      (cells_of c.move_before-first.new.out.items) (cells first) (cells c.cut.new.self) (cells_back c.move_before-first.new.rest.items)
+    (cells_of c.move_before-first.new.out.items) (cells first) (cells c.cut.new.self) (cells_back c.move_before-first.new.rest.items)
     (cells c.drop_front-last.result) (cells_back c.drop_front-last.new.rest.items) (cells_of c.push_joined.new.out.items) (cells_of c.push_joined-2.new.out.items) (cells_of c.join_all.new.out.items)
     (length (cells_of c.args.out.now.items) + c.args.p) c.args.n at c.min-end.result
     c.move_before-first.ensures.whole
@@ -25,9 +25,21 @@ push_joined-requires-clause-within c =
     let a = cells_of c.move_before-first.new.out.items in
     let rest = cells_back c.move_before-first.new.rest.items in
     let whole = ap length c.move_before-first.ensures.whole in
-    omega (arith, whole, length-append a (cells first ++ rest), length-append (cells first) rest,
-      length-append (cells_of c.args.out.now.items) (cells_back c.args.rest.now.items), length-cells first, c.move_before-first.ensures.place,
-      c.move_before-first.ensures.inside, c.len.ensures.len, c.min-end.ensures, c.requires.within, c.requires.limit, c.cut.ensures.size)
+    omega (
+      arith,
+      whole,
+      length-append a (cells first ++ rest),
+      length-append (cells first) rest,
+      length-append (cells_of c.args.out.now.items) (cells_back c.args.rest.now.items),
+      length-cells first,
+      c.move_before-first.ensures.place,
+      c.move_before-first.ensures.inside,
+      c.len.ensures.len,
+      c.min-end.ensures,
+      c.requires.within,
+      c.requires.limit,
+      c.cut.ensures.size,
+    )
 
 pub drop_front-last-requires : goal.drop_front-last-requires
 drop_front-last-requires c =
@@ -35,9 +47,21 @@ drop_front-last-requires c =
     let a = cells_of c.move_before-first.new.out.items in
     let rest = cells_back c.move_before-first.new.rest.items in
     let whole = ap length c.move_before-first.ensures.whole in
-    omega (arith, whole, length-append a (cells first ++ rest), length-append (cells first) rest,
-      length-append (cells_of c.args.out.now.items) (cells_back c.args.rest.now.items), length-cells first, c.move_before-first.ensures.place,
-      c.move_before-first.ensures.inside, c.len.ensures.len, c.min-end.ensures, c.requires.within, c.requires.limit, c.cut.ensures.size)
+    omega (
+      arith,
+      whole,
+      length-append a (cells first ++ rest),
+      length-append (cells first) rest,
+      length-append (cells_of c.args.out.now.items) (cells_back c.args.rest.now.items),
+      length-cells first,
+      c.move_before-first.ensures.place,
+      c.move_before-first.ensures.inside,
+      c.len.ensures.len,
+      c.min-end.ensures,
+      c.requires.within,
+      c.requires.limit,
+      c.cut.ensures.size,
+    )
 
 pub push_joined-requires-2-clause-within : goal.push_joined-requires-2-clause-within
 push_joined-requires-2-clause-within c =
@@ -46,10 +70,25 @@ push_joined-requires-2-clause-within c =
     let rest = cells_back c.move_before-first.new.rest.items in
     let whole = ap length c.move_before-first.ensures.whole in
     let pushed = ap length c.push_joined.ensures.cells in
-    omega (arith, whole, length-append a (cells first ++ rest),
-      length-append (cells first) rest, length-append (cells_of c.args.out.now.items) (cells_back c.args.rest.now.items),
-      length-cells first, c.move_before-first.ensures.place, c.move_before-first.ensures.inside, c.len.ensures.len, c.min-end.ensures, c.requires.within,
-      c.requires.limit, c.cut.ensures.size, pushed, length-append a (cells c.cut.new.self), length-cells c.cut.new.self, c.drop_front-last.ensures.limit)
+    omega (
+      arith,
+      whole,
+      length-append a (cells first ++ rest),
+      length-append (cells first) rest,
+      length-append (cells_of c.args.out.now.items) (cells_back c.args.rest.now.items),
+      length-cells first,
+      c.move_before-first.ensures.place,
+      c.move_before-first.ensures.inside,
+      c.len.ensures.len,
+      c.min-end.ensures,
+      c.requires.within,
+      c.requires.limit,
+      c.cut.ensures.size,
+      pushed,
+      length-append a (cells c.cut.new.self),
+      length-cells c.cut.new.self,
+      c.drop_front-last.ensures.limit,
+    )
 
 pub join_all-requires-clause-within : goal.join_all-requires-clause-within
 join_all-requires-clause-within c =
@@ -59,11 +98,28 @@ join_all-requires-clause-within c =
     let whole = ap length c.move_before-first.ensures.whole in
     let pushed = ap length c.push_joined.ensures.cells in
     let more = ap length c.push_joined-2.ensures.cells in
-    omega (arith, whole, length-append a (cells first ++ rest),
-      length-append (cells first) rest, length-append (cells_of c.args.out.now.items) (cells_back c.args.rest.now.items),
-      length-cells first, c.move_before-first.ensures.place, c.move_before-first.ensures.inside, c.len.ensures.len, c.min-end.ensures, c.requires.within,
-      c.requires.limit, c.cut.ensures.size, pushed, length-append a (cells c.cut.new.self), length-cells c.cut.new.self, c.drop_front-last.ensures.limit,
-      more, length-append (cells_of c.push_joined.new.out.items) (cells c.drop_front-last.result), length-cells c.drop_front-last.result)
+    omega (
+      arith,
+      whole,
+      length-append a (cells first ++ rest),
+      length-append (cells first) rest,
+      length-append (cells_of c.args.out.now.items) (cells_back c.args.rest.now.items),
+      length-cells first,
+      c.move_before-first.ensures.place,
+      c.move_before-first.ensures.inside,
+      c.len.ensures.len,
+      c.min-end.ensures,
+      c.requires.within,
+      c.requires.limit,
+      c.cut.ensures.size,
+      pushed,
+      length-append a (cells c.cut.new.self),
+      length-cells c.cut.new.self,
+      c.drop_front-last.ensures.limit,
+      more,
+      length-append (cells_of c.push_joined.new.out.items) (cells c.drop_front-last.result),
+      length-cells c.drop_front-last.result,
+    )
 
 pub returns-clause-front : goal.returns-clause-front
 returns-clause-front c w f = c.join_all.ensures.front w (c.push_joined-2.ensures.front w (c.push_joined.ensures.front w (c.move_before-first.ensures.front w f)))

@@ -14,7 +14,7 @@ returns-clause-cells c =
     let sum = length-append (cells_of c.args.out.now.items) (cells_back c.args.rest.now.items) in
     let parted = ap length c.split-back.ensures.back in
     replace-cells t (cells_of c.move_before-first.new.out.items)
-      (cells first) (cells c.split-back.new.self) (cells c.split-back.result) (cells c.cut.new.self) (cells_back c.move_before-first.new.rest.items)
+    (cells first) (cells c.split-back.new.self) (cells c.split-back.result) (cells c.cut.new.self) (cells_back c.move_before-first.new.rest.items)
     (cells_of c.args.more.now.items) (cells c.drop_front-last.result) (cells_back c.drop_front-last.new.rest.items)
     (cells_of c.push_joined.new.out.items) (cells_of c.join_all.new.out.items) (cells_of c.push_joined-2.new.out.items) (cells_of c.push_joined-3.new.out.items) (cells_of c.join_all-2.new.out.items)
     (length (cells_of c.args.out.now.items) + c.args.p) c.args.n at c.min-end.result
@@ -36,7 +36,7 @@ push_joined-requires-3-clause-within c =
     let sum = length-append (cells_of c.args.out.now.items) (cells_back c.args.rest.now.items) in
     let parted = ap length c.split-back.ensures.back in
     let fits = replace-fits t (cells_of c.move_before-first.new.out.items)
-      (cells first) (cells c.split-back.new.self) (cells c.split-back.result) (cells c.cut.new.self) (cells_back c.move_before-first.new.rest.items)
+    (cells first) (cells c.split-back.new.self) (cells c.split-back.result) (cells c.cut.new.self) (cells_back c.move_before-first.new.rest.items)
     (cells_of c.args.more.now.items) (cells c.drop_front-last.result) (cells_back c.drop_front-last.new.rest.items)
     (cells_of c.push_joined.new.out.items) (cells_of c.join_all.new.out.items) (cells_of c.push_joined-2.new.out.items)
     (length (cells_of c.args.out.now.items) + c.args.p) c.args.n at c.min-end.result max_runes
@@ -59,7 +59,7 @@ join_all-requires-2-clause-within c =
     let sum = length-append (cells_of c.args.out.now.items) (cells_back c.args.rest.now.items) in
     let parted = ap length c.split-back.ensures.back in
     let fits = replace-fits t (cells_of c.move_before-first.new.out.items)
-      (cells first) (cells c.split-back.new.self) (cells c.split-back.result) (cells c.cut.new.self) (cells_back c.move_before-first.new.rest.items)
+    (cells first) (cells c.split-back.new.self) (cells c.split-back.result) (cells c.cut.new.self) (cells_back c.move_before-first.new.rest.items)
     (cells_of c.args.more.now.items) (cells c.drop_front-last.result) (cells_back c.drop_front-last.new.rest.items)
     (cells_of c.push_joined.new.out.items) (cells_of c.join_all.new.out.items) (cells_of c.push_joined-2.new.out.items)
     (length (cells_of c.args.out.now.items) + c.args.p) c.args.n at c.min-end.result max_runes
@@ -78,7 +78,7 @@ join_all-requires-2-clause-within c =
 pub returns-clause-front : goal.returns-clause-front
 returns-clause-front c w f =
     c.join_all-2.ensures.front w (c.push_joined-3.ensures.front
-      w (c.push_joined-2.ensures.front w (c.join_all.ensures.front w (c.push_joined.ensures.front w (c.move_before-first.ensures.front w f)))))
+    w (c.push_joined-2.ensures.front w (c.join_all.ensures.front w (c.push_joined.ensures.front w (c.move_before-first.ensures.front w f)))))
 
 pub drop_front-last-requires : goal.drop_front-last-requires
 drop_front-last-requires c =

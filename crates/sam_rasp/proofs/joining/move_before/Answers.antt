@@ -8,7 +8,7 @@ pub loop-section-preserved : goal.loop-section-preserved
 loop-section-preserved c =
     let longer = ap length c.push_joined.ensures.cells ∙ length-append (cells_of c.loop-section.out.items) (cells c.in-Some.section) in (
       moved c.loop-section.out.items c.push_joined.new.out.items
-        c.loop-section.rest.items c.pop.new.self.items c.in-Some.section c.in-Some.ensures.items c.push_joined.ensures.cells ∙ c.loop-section.invariant.0,
+          c.loop-section.rest.items c.pop.new.self.items c.in-Some.section c.in-Some.ensures.items c.push_joined.ensures.cells ∙ c.loop-section.invariant.0,
       omega (arith, longer, length-cells c.in-Some.section, c.len-len.ensures.len, c.if-left-len.false, c.loop-section.invariant.1),
       c.push_joined.ensures.normal,
       omega (arith, c.loop-section.invariant.3, c.push_joined.ensures.len, c.in-Some.ensures.len),

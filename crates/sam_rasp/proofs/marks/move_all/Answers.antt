@@ -15,9 +15,9 @@ loop-i-preserved c =
       λ xs ys change begins.
           let kept = c.loop-i.invariant.1 xs ys change begins in
           written (IsBegin ys) (IsBegin xs) ms i (length c.args.marks.now.items)
-            c.moved.result (omega (arith, c.loop-i.invariant.0, c.loop-i-test.true, c.len-i-end.ensures, c.args.marks.now.ok)) kept.0 kept.1
+          c.moved.result (omega (arith, c.loop-i.invariant.0, c.loop-i-test.true, c.len-i-end.ensures, c.args.marks.now.ok)) kept.0 kept.1
           (c.moved.ensures xs ys change (subst (IsBegin xs) (sym c.index.ensures)
-            (kept.1 i c.index.result.now (omega arith) (omega (arith, c.loop-i-test.true, c.len-i-end.ensures, c.args.marks.now.ok))))),
+          (kept.1 i c.index.result.now (omega arith) (omega (arith, c.loop-i-test.true, c.len-i-end.ensures, c.args.marks.now.ok))))),
     )
 
 pub returns : goal.returns

@@ -15,7 +15,7 @@ returns-then-len-text c =
     let here = cells-next c.args.sections.now c.loop-section.section-index x (omega arith) c.section-item.is in (
       λ q. absurd (true≢false (sym q)),
       λ a. absurd (too_long (cells x) rest whole c.args.text.now c.loop-section.at c.len-len.result here (length-cells x ∙ sym c.len-len.ensures.len)
-        (omega (arith, c.if-len-text.true)) (c.loop-section.invariant.1.1 a)),
+          (omega (arith, c.if-len-text.true)) (c.loop-section.invariant.1.1 a)),
     )
 
 pub returns-then-not-agrees : goal.returns-then-not-agrees
@@ -49,7 +49,7 @@ loop-section-preserved c =
 pub returns : goal.returns
 returns c =
     let none : cells_of (drop c.loop-section.section-index c.args.sections.now) ≡ [] =
-      ap (λ (xs : List Section). cells_of xs) (drop_all c.loop-section.section-index c.args.sections.now (omega (arith, c.loop-section-test.false))) in
+    ap (λ (xs : List Section). cells_of xs) (drop_all c.loop-section.section-index c.args.sections.now (omega (arith, c.loop-section-test.false))) in
     let e = ended (cells_of (drop c.loop-section.section-index c.args.sections.now)) c.args.text.now c.loop-section.at none c.loop-section.invariant.0 in (
       λ q. c.loop-section.invariant.1.0 (e.0 q),
       λ a. e.1 (c.loop-section.invariant.1.1 a),

@@ -9,7 +9,7 @@ use Rattle.sam_rasp.proofs.Runs.{normal-drop}
 pub change_members-requires-clause-normal : goal.change_members-requires-clause-normal
 change_members-requires-clause-normal c =
     normal-front c.args.sections.now.items c.take_out-next.new.out.items (reverse c.take_out-next.new.window.items)
-      c.args.reach.front.index (c.args.reach.last - c.args.reach.front.index) c.take_out-next.ensures.window c.requires.normal
+    c.args.reach.front.index (c.args.reach.last - c.args.reach.front.index) c.take_out-next.ensures.window c.requires.normal
 
 pub change_members-requires-clause-limit : goal.change_members-requires-clause-limit
 change_members-requires-clause-limit c =
@@ -64,8 +64,17 @@ push_next-requires-clause-room c =
     let r = c.requires.reach in
     let k = opened xs o w z c.args.reach.front.index c.args.reach.first.index c.args.reach.last c.args.reach.front.place c.args.reach.first.place
     c.take_out-next.ensures.window c.take_out-next.ensures.next r.3 (omega (arith, c.take_out-next.ensures.out, c.take_out-next.new.out.ok)) r.6 r.7 r.0.1 r.1.1 in
-    omega (arith, k.count, c.take_out-next.new.out.ok, c.take_out-next.new.window.ok,
-      c.args.sections.now.ok, c.requires.room, c.take_out-next.ensures.kept, c.change_members.ensures.len, c.change_members.ensures.capacity)
+    omega (
+      arith,
+      k.count,
+      c.take_out-next.new.out.ok,
+      c.take_out-next.new.window.ok,
+      c.args.sections.now.ok,
+      c.requires.room,
+      c.take_out-next.ensures.kept,
+      c.change_members.ensures.len,
+      c.change_members.ensures.capacity,
+    )
 
 pub push_next-requires-clause-within : goal.push_next-requires-clause-within
 push_next-requires-clause-within c =
@@ -94,9 +103,22 @@ put_back-requires-clause-room c =
     let k = opened xs o w z c.args.reach.front.index c.args.reach.first.index c.args.reach.last c.args.reach.front.place c.args.reach.first.place
     c.take_out-next.ensures.window c.take_out-next.ensures.next r.3 (omega (arith, c.take_out-next.ensures.out, c.take_out-next.new.out.ok)) r.6 r.7 r.0.1 r.1.1 in
     let behind = length-drop (c.args.reach.last + 1) xs in
-    omega (arith, k.count, c.take_out-next.new.out.ok, c.take_out-next.new.window.ok,
-      c.args.sections.now.ok, c.requires.room, c.take_out-next.ensures.kept, behind, c.take_out-next.ensures.len,
-      c.take_out-next.new.sections.ok, c.change_members.ensures.len, c.push_next.ensures.len, c.take_out-next.ensures.capacity, c.requires.list_room)
+    omega (
+      arith,
+      k.count,
+      c.take_out-next.new.out.ok,
+      c.take_out-next.new.window.ok,
+      c.args.sections.now.ok,
+      c.requires.room,
+      c.take_out-next.ensures.kept,
+      behind,
+      c.take_out-next.ensures.len,
+      c.take_out-next.new.sections.ok,
+      c.change_members.ensures.len,
+      c.push_next.ensures.len,
+      c.take_out-next.ensures.capacity,
+      c.requires.list_room,
+    )
 
 pub returns-clause-len : goal.returns-clause-len
 returns-clause-len c =
@@ -108,8 +130,21 @@ returns-clause-len c =
     let k = opened xs o w z c.args.reach.front.index c.args.reach.first.index c.args.reach.last c.args.reach.front.place c.args.reach.first.place
     c.take_out-next.ensures.window c.take_out-next.ensures.next r.3 (omega (arith, c.take_out-next.ensures.out, c.take_out-next.new.out.ok)) r.6 r.7 r.0.1 r.1.1 in
     let behind = length-drop (c.args.reach.last + 1) xs in
-    omega (arith, k.count, c.take_out-next.new.out.ok, c.take_out-next.new.window.ok, c.args.sections.now.ok, c.requires.room, c.take_out-next.ensures.kept,
-      behind, c.take_out-next.ensures.len, c.take_out-next.new.sections.ok, c.change_members.ensures.len, c.push_next.ensures.len, c.put_back.ensures.len)
+    omega (
+      arith,
+      k.count,
+      c.take_out-next.new.out.ok,
+      c.take_out-next.new.window.ok,
+      c.args.sections.now.ok,
+      c.requires.room,
+      c.take_out-next.ensures.kept,
+      behind,
+      c.take_out-next.ensures.len,
+      c.take_out-next.new.sections.ok,
+      c.change_members.ensures.len,
+      c.push_next.ensures.len,
+      c.put_back.ensures.len,
+    )
 
 pub returns-clause-cells : goal.returns-clause-cells
 returns-clause-cells c =
@@ -130,7 +165,7 @@ returns-clause-cells c =
     let o' = c.push_next.new.out.items in
     let a = take c.args.reach.front.index xs in
     let list = closed xs c.take_out-next.new.sections.items c.put_back.new.sections.items
-      o' c.args.reach.front.index c.args.reach.last c.take_out-next.ensures.before c.take_out-next.ensures.behind c.put_back.ensures.items in
+    o' c.args.reach.front.index c.args.reach.last c.take_out-next.ensures.before c.take_out-next.ensures.behind c.put_back.ensures.items in
     let b = cells_of z ++ cells_of d in
     let changed = (take at t ++ m) ++ drop (at + n) t in
     let stretch : cells_of (o' ++ d) ≡ changed ++ b =
@@ -153,10 +188,10 @@ returns-clause-normal c =
     let o' = c.push_next.new.out.items in
     let a = take c.args.reach.front.index xs in
     let list = closed xs c.take_out-next.new.sections.items c.put_back.new.sections.items
-      o' c.args.reach.front.index c.args.reach.last c.take_out-next.ensures.before c.take_out-next.ensures.behind c.put_back.ensures.items in
+    o' c.args.reach.front.index c.args.reach.last c.take_out-next.ensures.before c.take_out-next.ensures.behind c.put_back.ensures.items in
     subst IsNormal (sym list)
     (closed-normal xs o w z o' c.args.reach.front.index c.args.reach.last c.args.reach.front.place c.args.reach.first.place k c.requires.normal
     (has-front c.args.reach.front.index c.args.reach.first.index (length o) (omega (arith, c.take_out-next.ensures.out, c.take_out-next.new.out.ok)) r.3 r.5)
     (λ v f. c.push_next.ensures.front v (c.change_members.ensures.front v f))
     (c.push_next.ensures.behind d (subst IsNormal (sym c.take_out-next.ensures.next) (normal-drop xs c.args.reach.last c.requires.normal))
-      (nothing-behind xs z c.args.reach.last c.take_out-next.ensures.next)))
+    (nothing-behind xs z c.args.reach.last c.take_out-next.ensures.next)))

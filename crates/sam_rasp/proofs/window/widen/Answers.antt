@@ -18,4 +18,4 @@ returns-clause-behind c =
     (ap (take (length c.args.sections.now.items)) same ∙ (ap (λ j. take j c.push_holes.new.sections.items) (omega (arith, old)) ∙ c.push_holes.ensures.front))
     (omega (arith, old, c.requires.within))
     (omega (arith, lengths, ok)) (omega (arith, length-drop c.args.at v))
-      (subst (λ d. c.rotate_right.new.self ≡ drop (length d - c.args.more) d ++ take (length d - c.args.more) d) tail c.rotate_right.ensures.after)
+    (subst (λ d. c.rotate_right.new.self ≡ drop (length d - c.args.more) d ++ take (length d - c.args.more) d) tail c.rotate_right.ensures.after)

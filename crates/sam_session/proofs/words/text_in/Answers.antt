@@ -8,4 +8,4 @@ use Rattle.sam_session.proofs.words.text_in.Goals as goal
 pub returns-clause-value : goal.returns-clause-value
 returns-clause-value c =
     sym (first_value-rows (found_of c.args.matches.now) (codes "text"))
-      ∙ sym c.in-Some.ensures ∙ sym (ap Some c.in_ok-runes.ensures) ∙ ap (λ (t : List ℕ). Some (encode_utf8_all t)) (sym c.from_vec.ensures)
+    ∙ sym c.in-Some.ensures ∙ sym (ap Some c.in_ok-runes.ensures) ∙ ap (λ (t : List ℕ). Some (encode_utf8_all t)) (sym c.from_vec.ensures)

@@ -23,6 +23,13 @@ invariant_of-self c =
       omega (arith, c.len.ensures, new.ok),
       sym inv.1,
       sym len,
-    ) inv.7 in
-    (r.ensures.normal, len, omega (arith, inv.2), r.ensures.empty.0, omega (arith, inv.4, r.ensures.len, r.ensures.capacity.0, c.new-none.ensures.len),
-      r.ensures.empty.1, omega (arith, inv.6, r.ensures.len, r.ensures.capacity.1, c.new-none.ensures.len), marks)
+    ) inv.7 in (
+      r.ensures.normal,
+      len,
+      omega (arith, inv.2),
+      r.ensures.empty.0,
+      omega (arith, inv.4, r.ensures.len, r.ensures.capacity.0, c.new-none.ensures.len),
+      r.ensures.empty.1,
+      omega (arith, inv.6, r.ensures.len, r.ensures.capacity.1, c.new-none.ensures.len),
+      marks,
+    )

@@ -19,8 +19,20 @@ invariant_of-self-2 c =
     let view = ap length c.self.view_is in
     let sizes = ap length r.ensures.cells in
     let len : c.self.inside.len - (q - p) + c.args.added ≡ length (cells_of new.items) =
-    omega (arith, inv.1, whole, view, sizes, length-append (take p t ++ m) (drop q t),
-      length-append (take p t) m, length-take p t, length-drop q t, c.requires.ascending, c.requires.within, c.requires.added) in
+    omega (
+      arith,
+      inv.1,
+      whole,
+      view,
+      sizes,
+      length-append (take p t ++ m) (drop q t),
+      length-append (take p t) m,
+      length-take p t,
+      length-drop q t,
+      c.requires.ascending,
+      c.requires.within,
+      c.requires.added,
+    ) in
     let marks = c.follow.ensures old.items new.items (
       r.ensures.begin,
       r.ensures.before,
@@ -29,6 +41,13 @@ invariant_of-self-2 c =
       omega (arith, c.len-4.ensures, new.ok),
       sym whole,
       sym len,
-    ) (subst (λ xs. All (IsBegin xs) c.add_mark.new.marks.items) (sym same) (c.add_mark.ensures c.self.inside.sections.items inv.7)) in
-    (r.ensures.normal, len, omega (arith, len, inv.1, view, c.requires.limit, c.requires.added, c.requires.ascending, c.requires.within),
-      r.ensures.empty.0, search rules, r.ensures.empty.1, search rules, marks)
+    ) (subst (λ xs. All (IsBegin xs) c.add_mark.new.marks.items) (sym same) (c.add_mark.ensures c.self.inside.sections.items inv.7)) in (
+      r.ensures.normal,
+      len,
+      omega (arith, len, inv.1, view, c.requires.limit, c.requires.added, c.requires.ascending, c.requires.within),
+      r.ensures.empty.0,
+      search rules,
+      r.ensures.empty.1,
+      search rules,
+      marks,
+    )

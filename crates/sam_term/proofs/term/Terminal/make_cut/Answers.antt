@@ -49,5 +49,6 @@ returns-in-Ok c =
     ∙ ap (λ u. composed u (Tcut f d.0 d.1)) (c.compose.ensures.composed
     ∙ ap (λ u. composed u (Tsnarf f d.0 d.1)) (c.cut_selected.ensures.cut ∙ ap (λ u. cut_rasp (flushed u).0 f d.0 d.1) c.drop_first-in-Ok.ensures)))
     c.done_with.ensures.done
-    (two_more _ _ _ _ _ _ _ (ap (λ o. o.messages) c.in-Ok.ensures.ok) (c.cut_selected.ensures.messages ∙ ap (λ u. c.in-Ok.out.messages ++ (flushed u).1) c.drop_first-in-Ok.ensures) c.compose.ensures.messages c.compose-in-Ok.ensures.messages)
+    (two_more _ _ _ _ _ _ _ (ap (λ o. o.messages) c.in-Ok.ensures.ok) (c.cut_selected.ensures.messages ∙ ap (λ u. c.in-Ok.out.messages ++ (flushed u).1) c.drop_first-in-Ok.ensures)
+    c.compose.ensures.messages c.compose-in-Ok.ensures.messages)
     c.done_with.ensures.countable

@@ -30,7 +30,8 @@ invariant_of-self-2 c =
     let same = c.typed_runes.ensures ∙ ap typed_runes (sym (first_is t.held c.in-Some.event.now (sym c.first.ensures ∙ ap option_copied c.in-Some.is))) in
     subst (λ u. IsSound u)
     (sym
-    (ap (λ w. record (put_window t f w) { unsent = c.take.new.self }) (c.in_ok-type_over.ensures.ok ∙ (ap (λ r. typed_over c.window_mut.result.now r) same ∙ ap (λ w. typed_over w s) c.window_mut.ensures.value))
+    (ap (λ w. record (put_window t f w) { unsent = c.take.new.self }) (c.in_ok-type_over.ensures.ok
+    ∙ (ap (λ r. typed_over c.window_mut.result.now r) same ∙ ap (λ w. typed_over w s) c.window_mut.ensures.value))
     ∙ ap (λ o. record (put_window t f (typed_over (window_at t f) s)) { unsent = o }) c.take.ensures.after))
     (sound-typed t f s c.self.invariant
     (subst (λ u. length (window_at u f).rasp + length (typed_runes (first_event u.held)) ≤ max_runes + ((window_at u f).dot.1 - (window_at u f).dot.0)) (sym c.self.view_is) c.requires.size))

@@ -18,7 +18,8 @@ returns-then-self c =
       | then-self-via-then-self k ↦
           sym (wanted-quiet t c.args.tag c.args.p c.args.n w there (ap (λ b. b || w.awaits) k.if-self.true)) ∙ ap (λ u. wanted (shown_from u c.args.tag c.args.p c.args.n) c.args.tag) c.self.view_is
       | then-self-via-else-self+then-window k ↦
-          sym (wanted-quiet t c.args.tag c.args.p c.args.n w there (or_right t.has_exited w.awaits k.if-window.true)) ∙ ap (λ u. wanted (shown_from u c.args.tag c.args.p c.args.n) c.args.tag) c.self.view_is
+          sym (wanted-quiet t c.args.tag c.args.p c.args.n w there (or_right t.has_exited w.awaits k.if-window.true))
+          ∙ ap (λ u. wanted (shown_from u c.args.tag c.args.p c.args.n) c.args.tag) c.self.view_is
     ]
 
 pub returns : goal.returns

@@ -7,7 +7,7 @@ pub returns-in-Err-clause-serves : goal.returns-in-Err-clause-serves
 returns-in-Err-clause-serves g c =
     let one = ap (λ (x : LineView). x.senders) c.loop.invariant.line ∙ c.requires.one in
     going_stops (g.G.Gate.may_refuse c.args.gate.now 2) _ _ _ _
-      _ _ _ _ _ _ c.in-Item.piece _ c.in-Err.stop one c.in-Item.ensures.answer c.as_slice.ensures.value c.loop.invariant.going c.in-Err.ensures.takes
+    _ _ _ _ _ _ c.in-Item.piece _ c.in-Err.stop one c.in-Item.ensures.answer c.as_slice.ensures.value c.loop.invariant.going c.in-Err.ensures.takes
 
 pub loop-preserved-in-Item : goal.loop-preserved-in-Item
 loop-preserved-in-Item g c =
@@ -17,7 +17,7 @@ loop-preserved-in-Item g c =
       piece = c.in-Ok.ensures.piece ∙ c.loop.invariant.piece;
       line = c.in-Item.ensures.line ∙ c.loop.invariant.line;
       going = going_item (g.G.Gate.may_refuse c.args.gate.now 2)
-        _ _ _ _ _ _ _ _ _ _ _ c.in-Item.piece _ one c.in-Item.ensures.answer c.as_slice.ensures.value c.loop.invariant.going c.in-Ok.ensures.takes;
+          _ _ _ _ _ _ _ _ _ _ _ c.in-Item.piece _ one c.in-Item.ensures.answer c.as_slice.ensures.value c.loop.invariant.going c.in-Ok.ensures.takes;
     }
 
 pub loop-preserved : goal.loop-preserved

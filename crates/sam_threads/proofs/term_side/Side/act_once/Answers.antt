@@ -22,7 +22,7 @@ invariant_of-self c =
     } in
     let running : is_some i.stop ≡ false = cc in
     let did : Did i.desk c.act.new.self [] [] c.as_slice.result.now = subst (λ (x : List Tmesg). Did i.desk c.act.new.self [] [] x)
-      (sym c.as_slice.ensures) (subst (λ (x : Acted). Did i.desk c.act.new.self [] [] (composed_by x)) c.in-Ok-Done.field-0-is c.in-Ok-Done.ensures.acted) in
+    (sym c.as_slice.ensures) (subst (λ (x : Acted). Did i.desk c.act.new.self [] [] (composed_by x)) c.in-Ok-Done.field-0-is c.in-Ok-Done.ensures.acted) in
     kept_done v c.act.new.self c.push_all.new.self.bytes c.as_slice.result.now c.self.invariant running did c.push_all.ensures.fit c.in-Ok.ensures.encoded
 
 pub invariant_of-self-in-Err-push_all : goal.invariant_of-self-in-Err-push_all
@@ -41,7 +41,7 @@ invariant_of-self-in-Err-push_all c =
     } in
     let running : is_some i.stop ≡ false = cc in
     let did : Did i.desk c.act.new.self [] [] c.as_slice.result.now = subst (λ (x : List Tmesg). Did i.desk c.act.new.self [] [] x)
-      (sym c.as_slice.ensures) (subst (λ (x : Acted). Did i.desk c.act.new.self [] [] (composed_by x)) c.in-Ok-Done.field-0-is c.in-Ok-Done.ensures.acted) in
+    (sym c.as_slice.ensures) (subst (λ (x : Acted). Did i.desk c.act.new.self [] [] (composed_by x)) c.in-Ok-Done.field-0-is c.in-Ok-Done.ensures.acted) in
     kept_half v c.act.new.self c.push_all.new.self.bytes c.as_slice.result.now c.self.invariant running did c.push_all.ensures.fit c.push_all.ensures.begun
 
 pub invariant_of-self-in-Ok-Refused : goal.invariant_of-self-in-Ok-Refused

@@ -23,7 +23,7 @@ invariant_of-self-in-0 g c =
     } in
     let running : is_some i.stop ≡ false = subst (λ (w : SideView). is_some w.stop ≡ false) (sym c.self.view_is) c.requires.running in
     let next : TakesNext i.take (record { sender = 0; load = None }) c.try_recv.new.self =
-      subst (λ (x : ℕ). TakesNext i.take (record { sender = x; load = None }) c.try_recv.new.self) c.in-0.is c.in-Left.ensures.answer in
+    subst (λ (x : ℕ). TakesNext i.take (record { sender = x; load = None }) c.try_recv.new.self) c.in-0.is c.in-Left.ensures.answer in
     kept_keyboard v c.try_recv.new.self c.self.invariant running next
 
 pub invariant_of-self-in-1 : goal.invariant_of-self-in-1
@@ -42,7 +42,7 @@ invariant_of-self-in-1 g c =
     } in
     let running : is_some i.stop ≡ false = subst (λ (w : SideView). is_some w.stop ≡ false) (sym c.self.view_is) c.requires.running in
     let next : TakesNext i.take (record { sender = 1; load = None }) c.try_recv.new.self =
-      subst (λ (x : ℕ). TakesNext i.take (record { sender = x; load = None }) c.try_recv.new.self) c.in-1.is c.in-Left.ensures.answer in
+    subst (λ (x : ℕ). TakesNext i.take (record { sender = x; load = None }) c.try_recv.new.self) c.in-1.is c.in-Left.ensures.answer in
     kept_mouse v c.try_recv.new.self c.self.invariant running next
 
 pub invariant_of-self-else-not-exited : goal.invariant_of-self-else-not-exited
@@ -80,7 +80,7 @@ invariant_of-self-in-Ok-push_all g c =
     let did : Did i.desk c.handle.new.self (user_of_load (Some c.in-Item.input)) (frame_of_load (Some c.in-Item.input)) c.as_slice.result.now =
     subst (λ (x : List Tmesg). Did i.desk c.handle.new.self (user_of_load (Some c.in-Item.input)) (frame_of_load (Some c.in-Item.input)) x) (sym c.as_slice.ensures) c.in-Ok.ensures.handled in
     kept_item v c.try_recv.new.self c.in-Item.sender c.in-Item.input c.handle.new.self c.push_all.new.self.bytes
-      c.as_slice.result.now c.self.invariant running c.in-Item.ensures.answer did c.in-Ok.ensures.sender c.push_all.ensures.fit c.in-Ok-push_all.ensures.encoded
+    c.as_slice.result.now c.self.invariant running c.in-Item.ensures.answer did c.in-Ok.ensures.sender c.push_all.ensures.fit c.in-Ok-push_all.ensures.encoded
 
 pub invariant_of-self-in-Err-push_all : goal.invariant_of-self-in-Err-push_all
 invariant_of-self-in-Err-push_all g c =
@@ -100,7 +100,7 @@ invariant_of-self-in-Err-push_all g c =
     let did : Did i.desk c.handle.new.self (user_of_load (Some c.in-Item.input)) (frame_of_load (Some c.in-Item.input)) c.as_slice.result.now =
     subst (λ (x : List Tmesg). Did i.desk c.handle.new.self (user_of_load (Some c.in-Item.input)) (frame_of_load (Some c.in-Item.input)) x) (sym c.as_slice.ensures) c.in-Ok.ensures.handled in
     kept_half_item v c.try_recv.new.self c.in-Item.sender c.in-Item.input c.handle.new.self c.push_all.new.self.bytes
-      c.as_slice.result.now c.self.invariant running c.in-Item.ensures.answer did c.in-Ok.ensures.sender c.push_all.ensures.fit c.push_all.ensures.begun
+    c.as_slice.result.now c.self.invariant running c.in-Item.ensures.answer did c.in-Ok.ensures.sender c.push_all.ensures.fit c.push_all.ensures.begun
 
 pub invariant_of-self-then-not-exited : goal.invariant_of-self-then-not-exited
 invariant_of-self-then-not-exited g c =

@@ -9,7 +9,7 @@ pub returns-then-not-branch-clause-done : goal.returns-then-not-branch-clause-do
 returns-then-not-branch-clause-done c =
     let still : (next_event c.loop-event.self ≡ None) × (c.advance.new.self ≡ c.loop-event.self) =
     subst (λ b. MatchBool b (Advances c.loop-event.self c.advance.new.self) ((next_event c.loop-event.self ≡ None) × (c.advance.new.self ≡ c.loop-event.self)))
-      c.if-not-branch.true c.in_ok-advance.ensures.advanced in
+    c.if-not-branch.true c.in_ok-advance.ensures.advanced in
     subst (λ v. drained drain_limit c.args.self.now ≡ Some v) (sym still.1)
     (drained_rest c.loop-event._event drain_limit c.args.self.now c.loop-event.self (omega (arith, c.loop-event-test.true)) c.loop-event.invariant still.0)
 
@@ -17,7 +17,7 @@ pub loop-event-preserved : goal.loop-event-preserved
 loop-event-preserved c =
     drained_more c.loop-event._event c.args.self.now c.loop-event.self c.advance.new.self c.loop-event.invariant
     (subst (λ b. MatchBool b (Advances c.loop-event.self c.advance.new.self) ((next_event c.loop-event.self ≡ None) × (c.advance.new.self ≡ c.loop-event.self)))
-      c.if-not-branch.false c.in_ok-advance.ensures.advanced)
+    c.if-not-branch.false c.in_ok-advance.ensures.advanced)
 
 pub returns-clause-done : goal.returns-clause-done
 returns-clause-done c =

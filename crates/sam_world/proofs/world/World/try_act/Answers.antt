@@ -24,19 +24,19 @@ pub invariant_of-self-in-Ok-Refused : goal.invariant_of-self-in-Ok-Refused
 invariant_of-self-in-Ok-Refused c =
     let before : PlainWorld = record { host = c.self.inside.host; term = c.self.inside.term; up = c.self.inside.up.messages; down = c.self.inside.down.messages } in
     kept_silent before c.act.new.self c.in-Ok-Refused.field-0 c.reserve.new.self.messages
-      c.self.invariant c.in-Ok-Refused.ensures.acted (ap (λ a. composed_by a) c.in-Ok-Refused.field-0-is) c.in_ok-reserve.ensures.messages
+    c.self.invariant c.in-Ok-Refused.ensures.acted (ap (λ a. composed_by a) c.in-Ok-Refused.field-0-is) c.in_ok-reserve.ensures.messages
 
 pub invariant_of-self-in-Ok-Idle : goal.invariant_of-self-in-Ok-Idle
 invariant_of-self-in-Ok-Idle c =
     let before : PlainWorld = record { host = c.self.inside.host; term = c.self.inside.term; up = c.self.inside.up.messages; down = c.self.inside.down.messages } in
     kept_silent before c.act.new.self c.in-Ok-Idle.field-0 c.reserve.new.self.messages
-      c.self.invariant c.in-Ok-Idle.ensures.acted (ap (λ a. composed_by a) c.in-Ok-Idle.field-0-is) c.in_ok-reserve.ensures.messages
+    c.self.invariant c.in-Ok-Idle.ensures.acted (ap (λ a. composed_by a) c.in-Ok-Idle.field-0-is) c.in_ok-reserve.ensures.messages
 
 pub invariant_of-self-in-Ok-Locked : goal.invariant_of-self-in-Ok-Locked
 invariant_of-self-in-Ok-Locked c =
     let before : PlainWorld = record { host = c.self.inside.host; term = c.self.inside.term; up = c.self.inside.up.messages; down = c.self.inside.down.messages } in
     kept_silent before c.act.new.self c.in-Ok-Locked.field-0 c.reserve.new.self.messages
-      c.self.invariant c.in-Ok-Locked.ensures.acted (ap (λ a. composed_by a) c.in-Ok-Locked.field-0-is) c.in_ok-reserve.ensures.messages
+    c.self.invariant c.in-Ok-Locked.ensures.acted (ap (λ a. composed_by a) c.in-Ok-Locked.field-0-is) c.in_ok-reserve.ensures.messages
 
 pub fault_of_term-requires : goal.fault_of_term-requires
 fault_of_term-requires c = act_stops c.self.inside.term c.in-Err.fault c.in-Err.ensures.refused
