@@ -40,7 +40,7 @@ impl Host {
         self.files.text_len(f) as u32
     }
 
-    /// Returns whether the text of the file and `n` more runes together are more than 1,000,000.
+    /// Returns whether the text of the file and `n` more runes together are more than `MAX_RUNES`.
     pub(crate) fn passes_limit(&self, f: u16, n: usize) -> bool
         ensures { result ≡ nat_lt max_runes (length (file_at self.now.files f).text + n) }
     {

@@ -46,8 +46,8 @@ impl Script {
     ///
     /// The lines are read in their order, up to the first that is wrong or wants memory that is refused. `Line(n)` says that line n,
     /// counted from 1, is wrong: the n-1 lines before it spell a script, and with it they spell none. A line is wrong if it is not in the
-    /// grammar, if it is a `file` line behind a line that asks for something, or if it is the 65,536th `file` line. `OutOfMemory` may
-    /// come at any line.
+    /// grammar, if it is a `file` line behind a line that asks for something, or if it is a `file` line behind `MOST_FILES` others.
+    /// `OutOfMemory` may come at any line.
     pub fn read(alloc: Global, bytes: &[u8]) -> Result<Script, ScriptFault>
         ensures ok { IfOk result (λ script. Spells bytes.now script) }
         ensures fault { IfErr result (IsReadFault bytes.now) }
