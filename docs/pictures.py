@@ -62,21 +62,22 @@ SPREAD = 0.16  # how far from the middle of a box its arrows meet it
 PLACES = {
     "sam_play": (520, 0, "the program"),
     "sam_session": (520, 1, "modes of the program"),
-    "sam_running": (520, 2, "five threads, one run"),
-    "sam_threads": (520, 3, "five workers"),
-    "sam_script": (350, 4, "scripts, read and shown"),
-    "sam_queue": (170, 4, "lines between threads"),
-    "sam_world": (350, 5, "both sides as one state"),
-    "sam_protocol": (350, 6, "crossing messages agree"),
-    "sam_c": (740, 3, "the library for C"),
-    "sam_ends": (740, 6, "the ends of two streams"),
-    "sam_host": (170, 7, "the host"),
-    "sam_term": (520, 7, "the terminal"),
-    "sam_frame": (700, 7, "streams of messages"),
-    "sam_text": (170, 8, "files, command lines"),
-    "sam_mesg": (350, 8, "messages and their bytes"),
-    "sam_rasp": (520, 8, "texts with gaps"),
-    "sam_runes": (350, 9, "texts as lists of runes"),
+    "sam_running": (520, 2, "five threads at work"),
+    "sam_settling": (520, 3, "their ends, one run"),
+    "sam_threads": (520, 4, "five workers"),
+    "sam_script": (350, 5, "scripts, read and shown"),
+    "sam_queue": (170, 5, "lines between threads"),
+    "sam_world": (350, 6, "both sides as one state"),
+    "sam_protocol": (350, 7, "crossing messages agree"),
+    "sam_c": (740, 4, "the library for C"),
+    "sam_ends": (740, 7, "the ends of two streams"),
+    "sam_host": (170, 8, "the host"),
+    "sam_term": (520, 8, "the terminal"),
+    "sam_frame": (700, 8, "streams of messages"),
+    "sam_text": (170, 9, "files, command lines"),
+    "sam_mesg": (350, 9, "messages and their bytes"),
+    "sam_rasp": (520, 9, "texts with gaps"),
+    "sam_runes": (350, 10, "texts as lists of runes"),
 }
 LEFT_OUT = {"sam_tests", "sam_base_tests", "sam_term_tests", "sam_session_tests", "sam_memory", "sam_bench", "sam_examples"}
 
@@ -122,7 +123,7 @@ def crates_picture():
         kind = "side" if name in ("sam_host", "sam_term") else "box"
         parts += [box(x - BOX_WIDTH / 2, y - BOX_HEIGHT / 2, BOX_WIDTH, BOX_HEIGHT, kind)]
         parts += [text(x, y - 3, name, "name"), text(x, y + 13, words, "grey")]
-    return picture("The crates and what each stands on", 840, FIRST_ROW + ROW_HEIGHT * 9 + 44, parts)
+    return picture("The crates and what each stands on", 840, FIRST_ROW + ROW_HEIGHT * 10 + 44, parts)
 
 
 # ---- The threads

@@ -10,8 +10,9 @@ use crate::events::is_same_terminal;
 use crate::setup::{SetUp, Tried, prepared, told_of};
 use crate::worlds::is_same_world;
 use sam_runes::Runes;
-use sam_running::{RunFault, SettleFault, Settled, run_ends, run_threads, settle};
+use sam_running::{RunFault, run_ends, run_threads};
 use sam_script::{Script, first_world, run_lines, show};
+use sam_settling::{SettleFault, Settled, settle};
 use sam_threads::{Ends, Lines, OpenGate, Starts, Stop};
 use sam_world::{Event, World, merge};
 use std::alloc::Global;
@@ -149,8 +150,8 @@ fn settled<R: Wait>(
 fn replays(alloc: Global, script: &Script, settled: &Settled) -> Tried {
     let world = led(alloc, script, settled.schedule.as_slice())?;
     Ok(told_of(world, |world| {
-        is_same_host(&settled.host, world.host())
-            && is_same_terminal(&settled.term, world.term())
+        is_same_host(settled.world.host(), world.host())
+            && is_same_terminal(settled.world.term(), world.term())
             && is_same_world(&settled.world, world)
     }))
 }

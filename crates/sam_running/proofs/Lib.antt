@@ -1,10 +1,2 @@
-pub mod ApartAnswers
-pub mod ApartComposing
-pub mod ApartWalk
-pub mod ApartLaws
-pub mod SettlingLists
-pub mod SettlingRuns
-pub mod SettlingClauses
-pub mod SettlingLaws
 pub mod SessionLaws
 pub mod Kept

@@ -8,14 +8,14 @@ use Rattle.sam_world.specs.Streams.{Begins}
 use Rattle.sam_world.specs.World.{new_world, run_of, merged}
 use Rattle.sam_threads.specs.Lines.{LinesView}
 use Rattle.sam_threads.specs.Told.{Told, UserTold, UserStopped, AllPassed, GatesTold}
-use Rattle.sam_running.specs.Headline.{Headline}
-use Rattle.sam_running.specs.Settled.{counts_left, stops_of, AreFull, HasStreams, HasUsers, IsDrained, IsWhole, MissesHost}
+use Rattle.sam_settling.specs.Headline.{Headline}
+use Rattle.sam_settling.specs.Settled.{counts_left, stops_of, AreFull, HasStreams, HasUsers, IsDrained, IsWhole, MissesHost}
 use Rattle.sam_running.specs.Session.{IsSession}
 use Rattle.sam_threads.specs.declared.input.Input.TheVariants.{User}
 use Rattle.sam_threads.specs.declared.ends.Ends.{Ends}
 use Rattle.sam_threads.specs.declared.ends.UserEnd.{UserEnd}
 use Rattle.sam_threads.specs.declared.stop.Stop.TheVariants as stop
-use Rattle.sam_running.specs.declared.settled.Settled.{Settled}
+use Rattle.sam_settling.specs.declared.settled.Settled.{Settled}
 
 take_all : {A : Type 0} (xs : List A) → take (length xs) xs ≡ xs
 take_all [] = refl
@@ -35,17 +35,16 @@ puts_all number events line e told none =
 
 pub session_of : (script : PlainScript) (refuses : ℕ → Type 0) (lines : LinesView) (e : Ends) (s : Settled)
     → Told (keys_of script.lines) (mouse_of script.lines) lines e → e.host.files.items ≡ script.files → AllPassed e → GatesTold refuses e
-    → Headline e s → (s.host ≡ e.host.host) × (s.term ≡ e.term.term) → s.schedule.items ≡ merged e.term.log.items e.host.host.taken → HasStreams e s → HasUsers e s
+    → Headline e s → s.schedule.items ≡ merged e.term.log.items e.host.host.taken → HasStreams e s → HasUsers e s
     → s.stops.items ≡ stops_of e → s.left.items ≡ counts_left e → IsDrained e s → AreFull s → (e.term.stop ≡ Some stop.PeerGone → MissesHost e s) → (s.stops.items ≡ [] → IsWhole e s)
     → IsSession script refuses s
-session_of script refuses lines e s told files begun gates headline states schedule streams users stops left drained full misses whole = record {
+session_of script refuses lines e s told files begun gates headline schedule streams users stops left drained full misses whole = record {
   ends = e;
   lines = lines;
   told = told;
   begun = begun;
   headline = headline;
   run = ap (λ f. run_of (new_world f) s.schedule.items) (sym files) ∙ headline.run;
-  states = (states.0 ∙ sym headline.host, states.1 ∙ sym headline.term);
   schedule = schedule;
   streams = streams;
   users = users;

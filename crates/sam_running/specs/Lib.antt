@@ -1,7 +1,3 @@
-pub mod Apart
-pub mod Headline
-pub mod Settled
-pub mod Settling
 pub mod Session
 pub mod Seats
 pub mod Promised

@@ -5,12 +5,12 @@ use Rattle.sam_world.specs.Streams.{Begins}
 use Rattle.sam_world.specs.World.{new_world, run_of, merged}
 use Rattle.sam_threads.specs.Lines.{LinesView}
 use Rattle.sam_threads.specs.Told.{Told, AllPassed, GatesTold}
-use Rattle.sam_running.specs.Headline.{Headline}
-use Rattle.sam_running.specs.Settled.{counts_left, stops_of, AreFull, HasStreams, HasUsers, IsDrained, IsWhole, MissesHost}
+use Rattle.sam_settling.specs.Headline.{Headline}
+use Rattle.sam_settling.specs.Settled.{counts_left, stops_of, AreFull, HasStreams, HasUsers, IsDrained, IsWhole, MissesHost}
 use Rattle.sam_threads.specs.declared.input.Input.TheVariants.{User}
 use Rattle.sam_threads.specs.declared.stop.Stop.TheVariants as stop
 use Rattle.sam_threads.specs.declared.ends.Ends.{Ends}
-use Rattle.sam_running.specs.declared.settled.Settled.{Settled}
+use Rattle.sam_settling.specs.declared.settled.Settled.{Settled}
 
 -- It was settled from the ends of a session in which each worker began and told this, the host began with the script's files, and keyboard
 -- and mouse put the first events that the script has of each: all of them where nothing stopped that worker
@@ -21,7 +21,6 @@ pub record IsSession (script : PlainScript) (refuses : ℕ → Type 0) (s : Sett
   pub begun : AllPassed ends
   pub headline : Headline ends s
   pub run : run_of (new_world script.files) s.schedule.items ≡ Some s.world
-  pub states : (s.host ≡ s.world.host) × (s.term ≡ s.world.term)
   pub schedule : s.schedule.items ≡ merged ends.term.log.items ends.host.host.taken
   pub streams : HasStreams ends s
   pub users : HasUsers ends s

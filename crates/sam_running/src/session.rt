@@ -6,9 +6,8 @@ ghost use Rattle.sam_threads.specs.Told.{AllPassed, GatesTold, RefusesSome, Told
 ghost use Rattle.sam_running.specs.declared.run.RunFault.TheVariants.{GateTimedOut, OutOfMemory};
 
 use crate::run::{RunFault, run_ends};
-use crate::settled::Settled;
-use crate::settling::settle;
 use sam_script::Script;
+use sam_settling::{Settled, settle};
 use sam_threads::{Ends, Gate, Lines, Starts};
 use std::alloc::Global;
 use std::sync::Wait;

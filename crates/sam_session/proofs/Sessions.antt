@@ -4,7 +4,6 @@ use Rattle.std.proofs.lemmas.Bool.Decides.{eqb_tells}
 use Rattle.std.proofs.lemmas.List.{append-nil}
 use Rattle.std.proofs.lemmas.List.Concat.{flat_map-cons}
 use Rattle.sam_mesg.specs.declared.hmesg.HFrame.{HFrame}
-use Rattle.sam_term.specs.Term.{PlainTerminal}
 use Rattle.sam_term.specs.declared.event.UserEvent.{UserEvent}
 use Rattle.sam_term.specs.declared.event.UserEvent.TheVariants.{Exit}
 use Rattle.sam_world.specs.Sides.{Each}
@@ -17,16 +16,16 @@ use Rattle.sam_queue.specs.History.{items_of}
 use Rattle.sam_queue.specs.Views.{LineView, PostView}
 use Rattle.sam_threads.specs.Inputs.{users_in, user_of_load}
 use Rattle.sam_running.specs.Session.{IsSession}
-use Rattle.sam_running.specs.Settled.{stops_of}
+use Rattle.sam_settling.specs.Settled.{stops_of}
 use Rattle.sam_threads.specs.Told.{IsOwnExit}
 use Rattle.sam_threads.specs.declared.ends.Ends.{Ends}
 use Rattle.sam_threads.specs.declared.input.Input.{Input}
 use Rattle.sam_threads.specs.declared.input.Input.TheVariants.{User, Host}
-use Rattle.sam_running.specs.declared.settled.Settled.{Settled}
+use Rattle.sam_settling.specs.declared.settled.Settled.{Settled}
 use Rattle.sam_threads.specs.declared.stop.Stop.{Stop}
 use Rattle.sam_threads.specs.declared.stop.Stop.TheVariants as stop
-use Rattle.sam_running.proofs.SettlingLists.{loaded, items_mine, items_other, nothing_joined, split_map, parts_of, senders_within}
-use Rattle.sam_running.proofs.SettlingClauses.{stop_none}
+use Rattle.sam_settling.proofs.SettlingLists.{loaded, items_mine, items_other, nothing_joined, split_map, parts_of, senders_within}
+use Rattle.sam_settling.proofs.SettlingClauses.{stop_none}
 use Rattle.sam_session.specs.Threading.{first_cause, of_cause, of_stops, IsWoven, HasAllUsers, PrintsSession, IsThreaded, IsSessionFault, IsThreadsFault, IsUnread}
 use Rattle.sam_session.specs.declared.fault.PlayFault.{PlayFault}
 use Rattle.sam_session.specs.declared.fault.PlayFault.TheVariants.{Script, Read, Write, Side, Threads, OutOfMemory}
@@ -160,7 +159,7 @@ printed script refuses s lines session unstopped is =
       record {
         run = session.run;
         users = all_users script refuses s session none;
-        exited = sym (ap (λ (t : PlainTerminal). t.has_exited) session.states.1) ∙ whole.exited;
+        exited = whole.exited;
         settled = session.headline.quiet s.schedule.items [] s.world (sym (append-nil s.schedule.items)) session.headline.run whole.quiet;
       },
     )

@@ -11,7 +11,7 @@ use Rattle.sam_world.specs.Logs.{users}
 use Rattle.sam_world.specs.World.{PlainWorld, new_world, run_of, IsSettled}
 use Rattle.sam_world.specs.declared.event.Event.{Event}
 use Rattle.sam_running.specs.Session.{IsSession}
-use Rattle.sam_running.specs.declared.settled.Settled.{Settled}
+use Rattle.sam_settling.specs.declared.settled.Settled.{Settled}
 use Rattle.sam_threads.specs.declared.stop.Stop.{Stop}
 use Rattle.sam_threads.specs.declared.stop.Stop.TheVariants as stop
 use Rattle.sam_session.specs.Replaying.{IsShort}

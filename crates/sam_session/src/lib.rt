@@ -18,7 +18,8 @@ pub use fault::{PlayFault, status_of};
 pub use law::one_outcome;
 pub use reading::{MOST_INPUT, PIECE};
 pub use run::play;
-pub use sam_running::{RunFault, SettleFault, Settled, run_ends, run_threads, settle};
+pub use sam_running::{RunFault, run_ends, run_threads};
+pub use sam_settling::{SettleFault, Settled, settle};
 pub use sam_threads::{
     Ends, Fed, FlagGate, Gate, HostEnd, Input, Lines, OpenGate, ReaderEnd, Starts, Stop, TermEnd,
     UserEnd, feed_terminal,

@@ -11,8 +11,9 @@ ghost use Rattle.sam_session.specs.Threading.{of_stops, IsThreaded, IsThreadsFau
 use crate::fault::PlayFault;
 use crate::replaying::of_script;
 use crate::whole::{read_all, write_or_tell};
-use sam_running::{RunFault, Settled, run_threads};
+use sam_running::{RunFault, run_threads};
 use sam_script::{Script, run_lines, show};
+use sam_settling::Settled;
 use sam_threads::{OpenGate, Stop};
 use std::alloc::Global;
 use std::io::{Read, Write};

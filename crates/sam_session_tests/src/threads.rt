@@ -175,8 +175,8 @@ fn stops_replay<T: Threads + Wait + Sync>(rt: &T, alloc: Global, worker: usize) 
 fn has_stopped_at_once(settled: &Settled) -> bool {
     matches!(settled.stops.as_slice(), [Stop::Gate, Stop::PeerGone])
         && matches!(settled.left.as_slice(), [0, 0, 0])
-        && settled.host.taken() == 0
-        && settled.term.sent() == 1
+        && settled.world.host().taken() == 0
+        && settled.world.term().sent() == 1
         && settled.world.up() == 1
 }
 

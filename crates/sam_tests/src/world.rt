@@ -1,4 +1,7 @@
-//! Runs of a world.
+//! Runs of a world, and a world of two sides.
+
+ghost use Rattle.std.specs.Prelude.{◌≡◌, true};
+ghost use Rattle.sam_world.specs.World.{is_quiet};
 
 use sam_runes::{Runes, Text};
 use sam_term::UserEvent;
@@ -70,6 +73,44 @@ fn has_text(world: &World, wanted: &[char]) -> bool {
     }
 }
 
+/// A world in which the session has drained.
+fn drained(alloc: Global) -> Result<World, Fail> {
+    let events = session(alloc)?;
+    let mut world = world_of(alloc, "hello\n")?;
+    play(&mut world, events).ok().ok_or("a fault")?;
+    Ok(world)
+}
+
+/// The world of its two sides, once it is quiet.
+#[tactic(auto, using(sam_world::proofs::Keeping::kept_sides))]
+fn made_again(alloc: Global, world: World) -> World
+    requires { is_quiet world ≡ true }
+{
+    world.known();
+    let (host, term) = world.into_sides();
+    World::of_sides(alloc, host, term)
+}
+
+/// What a look at the world tells, which is then let go.
+fn told_of<T: Drop, A, F: FnOnce(&T) -> A>(value: T, look: F) -> A
+    requires { F.IsAlwaysCallable look }
+{
+    look(&value)
+}
+
+/// What the readers tell of a world that was taken apart and made again, or nothing if it is not quiet.
+fn is_over_again(alloc: Global, world: World) -> bool {
+    if !world.quiet() {
+        drop(world);
+        return false;
+    }
+    told_of(made_again(alloc, world), |world| {
+        is_over(world)
+            && has_text(world, &['X', 'h', 'e', 'o', '\n'])
+            && (world.host().taken(), world.term().sent()) == (7, 7)
+    })
+}
+
 #[test]
 fn a_session_drains(rt: HostRuntime) -> Result<(), Fail> {
     let alloc = rt.alloc();
@@ -79,6 +120,13 @@ fn a_session_drains(rt: HostRuntime) -> Result<(), Fail> {
     assert!(rt; is_over(&world));
     assert_eq!(rt; (world.host().taken(), world.term().sent()), (7, 7));
     assert!(rt; has_text(&world, &['X', 'h', 'e', 'o', '\n']));
+    Ok(())
+}
+
+#[test]
+fn a_quiet_world_is_its_two_sides(rt: HostRuntime) -> Result<(), Fail> {
+    let world = drained(rt.alloc())?;
+    assert!(rt; is_over_again(rt.alloc(), world));
     Ok(())
 }
 

@@ -72,7 +72,8 @@ pub struct TermEnd<'q> {
     pub stop: Option<Stop>,
 }
 
-/// The five ends of a session, all of one set of lines. `run_ends` of sam_running makes them, and its `settle` puts them together.
+/// The five ends of a session, all of one set of lines. `run_ends` of sam_running makes them, and `settle` of sam_settling puts
+/// them together.
 #[derive(Drop)]
 pub struct Ends<'q> {
     /// The end of the host's worker.

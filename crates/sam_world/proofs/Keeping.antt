@@ -1,8 +1,10 @@
 -- What is kept of every world, step by step.
-use Rattle.std.proofs.Common.{◌≡◌, refl, sym, ap, ◌∙◌, subst, ℕ, suc, List, [], ◌∷◌, ◌++◌, drop, Some, Ok, arith, append-nil}
+use Rattle.std.proofs.Common.{◌≡◌, refl, sym, ap, ◌∙◌, subst, ℕ, suc, true, not, ◌&&◌, is_some, List, [], ◌∷◌, ◌++◌, drop, Some, Ok, arith, append-nil}
 use Rattle.std.specs.Prelude.{All, IsTrue}
+use Rattle.std.proofs.lemmas.Bool.{and_parts}
 use Rattle.std.proofs.lemmas.List.Elements.{All-append, All-nil}
 use Rattle.std.proofs.lemmas.Option.{same_Some}
+use Rattle.sam_runes.specs.Texts.{is_empty}
 use Rattle.sam_host.specs.Host.{PlainHost, answer}
 use Rattle.sam_host.specs.Laws.{AreGiven}
 use Rattle.sam_term.specs.Sound.{IsSound}
@@ -14,12 +16,13 @@ use Rattle.sam_mesg.specs.TerminalKinds.{fits_t}
 use Rattle.sam_mesg.specs.HostKinds.{fits_h}
 use Rattle.sam_mesg.specs.declared.tmesg.Tmesg.{Tmesg}
 use Rattle.sam_mesg.specs.declared.hmesg.HFrame.{HFrame}
-use Rattle.sam_world.specs.World.{PlainWorld, new_world, step_of, composed_by, after_act, after_compose, after_answer, host_takes, term_takes}
+use Rattle.sam_world.specs.World.{PlainWorld, new_world, step_of, composed_by, after_act, after_compose, after_answer, host_takes, term_takes, is_quiet}
 use Rattle.sam_world.specs.UnderWay.{head}
 use Rattle.sam_world.specs.Reached.{IsKept}
 use Rattle.sam_world.specs.declared.event.Event.TheVariants.{User, Act, Flush, HostTake, TermTake}
 use Rattle.sam_term.proofs.Fits.{act_fits, flushed_fits, taken_fits}
 use Rattle.sam_world.proofs.Within.{reached_start, reached_step, answered_fits}
+use Rattle.sam_world.proofs.OrderLaws.{nothing_in}
 
 FitUp : List Tmesg → Type 0
 FitUp ms = All (λ m. IsTrue (fits_t 2 m)) ms
@@ -108,3 +111,15 @@ kept_take w t frame ms up down k s first a joined rest =
       up = All-append (λ m. IsTrue (fits_t 2 m)) w.up ms k.up (taken_fits w.term t frame ms s a);
       down = fit_rest (λ frame. IsTrue (fits_h 2 frame.msg)) w.down k.down;
     }))
+
+-- a quiet world is its two sides
+pub kept_sides : (w : PlainWorld) (sides : PlainHost × PlainTerminal) → IsKept w → is_quiet w ≡ true → sides ≡ (w.host, w.term)
+    → IsKept (record { host = sides.0; term = sides.1; up = []; down = [] })
+kept_sides w sides k quiet are =
+    let a = and_parts (not (is_some w.term.unsent) && is_empty w.up) (is_empty w.down) quiet in
+    let b = and_parts (not (is_some w.term.unsent)) (is_empty w.up) a.0 in
+    let up = nothing_in w.up b.1 in
+    let down = nothing_in w.down a.1 in
+    let same : w ≡ record { host = sides.0; term = sides.1; up = []; down = [] } =
+    λ i. record { host = (sym are i).0; term = (sym are i).1; up = up i; down = down i } in
+    subst IsKept same k

@@ -242,7 +242,7 @@ not_some : (o : Option Unsent) → not (is_some o) ≡ true → o ≡ None
 not_some None e = refl
 not_some (Some x) e = absurd (true≢false (sym e))
 
-nothing_in : {X : Type 0} (l : List X) → is_empty l ≡ true → l ≡ []
+pub nothing_in : {X : Type 0} (l : List X) → is_empty l ≡ true → l ≡ []
 nothing_in [] e = refl
 nothing_in (x ∷ l) e = absurd (true≢false (sym e))
 

@@ -1,0 +1,4 @@
+pub mod Apart
+pub mod Headline
+pub mod Settled
+pub mod Settling
