@@ -34,6 +34,12 @@ impl Backoff {
     pub fn new() -> Backoff {
         Backoff { tries: 0 }
     }
+
+    /// Returns whether the wait has given way to other threads often enough, so that it sleeps next. What is worth doing only
+    /// while nothing else comes is done then.
+    pub fn sleeps_next(&self) -> bool {
+        self.tries >= YIELDS
+    }
 }
 
 /// What the waiting ends of one side of a line sleep on. The other side rings it after each step that can let them go on.

@@ -213,6 +213,8 @@ fn split_lines<'q>(
     let (up_post, up_take) = split_in_one(alloc, up, lines.up())?;
     let (down_post, down_take) = split_in_one(alloc, down, lines.down())?;
     let (keyboard, mouse, reader, events_take) = split_in_three(alloc, events, lines.events())?;
+    // The terminal waits for events alone, also while the line up has no room for its bytes.
+    let up_take = up_take.waking(lines.events());
     Ok(LineSides {
         up_post,
         up_take,

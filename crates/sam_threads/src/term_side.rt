@@ -369,7 +369,7 @@ impl<'q> Side<'q> {
     }
 
     /// Makes one turn where nothing has stopped the worker: it takes, acts, puts, and tries to finish. If it took and put nothing, it
-    /// waits a little for an entry. Returns whether all is done.
+    /// waits a little for an entry, and composes the unsent runes before it would sleep. Returns whether all is done.
     #[tactic(auto, using(crate::proofs::TermKeeping::goes_on, crate::proofs::TermKeeping::found_still))]
     fn turn<R: Wait, G: Gate>(&mut self, rt: &R, gate: &G, backoff: &mut Backoff) -> bool
         requires running { is_some self.old.stop ≡ false }
@@ -382,7 +382,7 @@ impl<'q> Side<'q> {
         let waits = found != Found::Entry;
         self.put_exit();
         self.act_all(rt);
-        if waits && self.has_empty_outbox() {
+        if waits && backoff.sleeps_next() && self.has_empty_outbox() {
             self.flush();
         }
         let put = self.put_pieces(rt);
@@ -473,7 +473,8 @@ impl<'q> Side<'q> {
 /// bytes, and returns the worker's end. It is worker 4, the terminal. It begins with `term`, a new terminal.
 ///
 /// It never waits in a send: bytes for which the line has no room stand in an outbox. Once an entry is taken, held events act. Typed
-/// runes go up when the line of events is empty and nothing else is to be put. Once keyboard and mouse have left it puts an Exit of its
+/// runes go up when the line of events has stayed empty for a while and nothing else is to be put, so that runes typed one after another
+/// go up together. Once keyboard and mouse have left it puts an Exit of its
 /// own behind the held events, unless the session is over.
 ///
 /// The end's `stop` is `None` if the host ended the session, everybody left, and nothing is held, unsent or not put. Else it is `Gate` if

@@ -10,7 +10,7 @@ returns c =
     record {
       senders = (c.up.ensures.senders, c.down-2.ensures.senders, c.events-2.ensures.senders);
       up_post = c.in_ok-up_post.ensures.post ∙ ap (λ l. new_post l 0) up;
-      up_take = c.in_ok-up_post.ensures.take ∙ ap new_take up;
+      up_take = c.waking-up_take.ensures ∙ (c.in_ok-up_post.ensures.take ∙ ap new_take up);
       down_post = c.in_ok-down_post.ensures.post ∙ ap (λ l. new_post l 0) down;
       down_take = c.in_ok-down_post.ensures.take ∙ ap new_take down;
       keyboard = c.in_ok-keyboard.ensures.first ∙ ap (λ l. new_post l 0) events;
