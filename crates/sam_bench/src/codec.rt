@@ -3,10 +3,8 @@
 use crate::fault::Fault;
 use crate::report::Report;
 use crate::sample::{mix, mixed};
-use sam_mesg::{
-    HFrame, Header, Hmesg, Tmesg, decode_h, decode_t, encode_h, encode_t, fits_h, fits_t, header_h,
-    header_t,
-};
+use sam_frame::{Wire, can_encode, encode_all};
+use sam_mesg::{HFrame, Header, Hmesg, Tmesg, decode_h, decode_t, header_h, header_t};
 use sam_runes::Runes;
 use std::alloc::{AllocError, Global};
 use std::time::{Clock, Instant};
@@ -102,31 +100,26 @@ fn messages_h(alloc: Global) -> Result<Vec<HFrame>, AllocError> {
     Ok(frames)
 }
 
-/// Puts the frames of all messages of the terminal at the end.
-fn encode_all_t(out: &mut Vec<u8>, messages: &[Tmesg]) -> Result<(), Fault> {
-    for message in messages {
-        if !fits_t(2, message) || encode_t(message, out).is_err() {
-            return Err(Fault::Refused);
-        }
+/// Puts the frames of all messages at the end.
+fn put_all<M: Wire>(out: &mut Vec<u8>, messages: &[M]) -> Result<(), Fault> {
+    if !can_encode(messages) || encode_all(messages, out).is_err() {
+        return Err(Fault::Refused);
     }
     Ok(())
 }
 
-/// Puts all frames of the host at the end.
-pub fn encode_all_h(out: &mut Vec<u8>, frames: &[HFrame]) -> Result<(), Fault> {
-    for frame in frames {
-        if !fits_h(2, &frame.msg) || encode_h(frame, out).is_err() {
-            return Err(Fault::Refused);
-        }
-    }
-    Ok(())
+/// The frames of the messages.
+pub fn bytes_of<M: Wire>(alloc: Global, messages: &[M]) -> Result<Vec<u8>, Fault> {
+    let mut bytes = Vec::new(alloc);
+    put_all(&mut bytes, messages)?;
+    Ok(bytes)
 }
 
 /// Puts in place of what the bytes hold the frames of all messages, first the terminal's.
 fn encode_round(out: &mut Vec<u8>, messages: &[Tmesg], frames: &[HFrame]) -> Result<(), Fault> {
     out.clear();
-    encode_all_t(out, messages)?;
-    encode_all_h(out, frames)
+    put_all(out, messages)?;
+    put_all(out, frames)
 }
 
 /// Times how long it takes to encode the messages, over and over, up to `size` bytes.
@@ -261,17 +254,13 @@ fn decode_all_h(alloc: Global, bytes: &[u8]) -> Result<u64, Fault> {
 /// The frames of all messages of the terminal.
 fn bytes_t(alloc: Global) -> Result<Vec<u8>, Fault> {
     let messages = messages_t(alloc)?;
-    let mut bytes = Vec::new(alloc);
-    encode_all_t(&mut bytes, messages.as_slice())?;
-    Ok(bytes)
+    bytes_of(alloc, messages.as_slice())
 }
 
 /// The frames of all messages of the host.
 fn bytes_h(alloc: Global) -> Result<Vec<u8>, Fault> {
     let frames = messages_h(alloc)?;
-    let mut bytes = Vec::new(alloc);
-    encode_all_h(&mut bytes, frames.as_slice())?;
-    Ok(bytes)
+    bytes_of(alloc, frames.as_slice())
 }
 
 /// Times how long it takes to decode the frames, over and over, up to `size` bytes.

@@ -1,6 +1,6 @@
 //! Host frames through a framer into a terminal.
 
-use crate::codec::encode_all_h;
+use crate::codec::bytes_of;
 use crate::fault::Fault;
 use crate::report::Report;
 use crate::sample::{mix, mixed};
@@ -61,13 +61,6 @@ fn opening(alloc: Global) -> Result<Vec<u8>, Fault> {
         push_opening(alloc, &mut frames, tag)?;
     }
     bytes_of(alloc, frames.as_slice())
-}
-
-/// The bytes of frames.
-fn bytes_of(alloc: Global, frames: &[HFrame]) -> Result<Vec<u8>, Fault> {
-    let mut bytes = Vec::new(alloc);
-    encode_all_h(&mut bytes, frames)?;
-    Ok(bytes)
 }
 
 /// Frames that take something out of a file and put as much in: the terminal asks for a part of it, and is told.

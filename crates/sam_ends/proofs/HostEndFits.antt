@@ -1,15 +1,14 @@
 -- What waits in a host end fits: messages that a framer gave, and the frames of an answer.
 use Rattle.std.proofs.Common.{◌≡◌, sym, ap, subst, ◌∙◌, ℕ, false, List, [], ◌∷◌, Option, Some, None}
-use Rattle.std.specs.Prelude.{IsTrue}
 use Rattle.std.proofs.lemmas.List.Elements.{All-nil, All-cons, All-tail}
 use Rattle.sam_mesg.specs.declared.tmesg.Tmesg.{Tmesg}
 use Rattle.sam_mesg.specs.declared.hmesg.HFrame.{HFrame}
-use Rattle.sam_mesg.specs.HostKinds.{fits_h, after_h}
 use Rattle.sam_mesg.proofs.Versions.{grows_t}
 use Rattle.sam_frame.specs.Direction.{terminal}
 use Rattle.sam_frame.specs.Stream.{FitInTurn}
 use Rattle.sam_frame.specs.Framing.{Held}
 use Rattle.sam_host.specs.Laws.{FitInPlace}
+use Rattle.sam_host.proofs.LastVersion.{fit_in_last}
 use Rattle.sam_term.specs.Fitting.{FitsLast}
 use Rattle.sam_ends.specs.declared.fault.StreamFault.{StreamFault}
 use Rattle.sam_ends.specs.Streams.{FitFrames, FitMessages, Gives}
@@ -19,10 +18,6 @@ use Rattle.sam_ends.specs.HostSteps.{IsSound}
 fit_in_turn : (version : ℕ) (ms : List Tmesg) → FitInTurn terminal version ms → FitMessages ms
 fit_in_turn version [] fit = All-nil FitsLast
 fit_in_turn version (m ∷ ms) fit = All-cons FitsLast m ms (grows_t version m fit.0.fits) (fit_in_turn (terminal.after version m) ms fit.1)
-
-fit_in_place : (version : ℕ) (frames : List HFrame) → FitInPlace version frames → FitFrames frames
-fit_in_place version [] fit = All-nil (λ (x : HFrame). IsTrue (fits_h 2 x.msg))
-fit_in_place version (frame ∷ frames) fit = All-cons (λ (x : HFrame). IsTrue (fits_h 2 x.msg)) frame frames fit.1 (fit_in_place (after_h version frame.msg) frames fit.2)
 
 given_fit : (h k : Held) (piece : List ℕ) (ms : List Tmesg) (behind : Option StreamFault) → Gives terminal h piece ms behind k → FitMessages ms
 given_fit h k piece ms None all = fit_in_turn h.version ms all.gave.splits.fit
@@ -37,7 +32,7 @@ pub answered_sound : (e g : PlainHostEnd) (version : ℕ) (m : Tmesg) → IsSoun
     → g.behind ≡ e.behind → g.framer ≡ e.framer → IsSound g
 answered_sound e g version m sound waited fit behind framer = record {
   waiting = All-tail FitsLast m g.waiting (subst FitMessages waited sound.waiting);
-  unwritten = fit_in_place version g.unwritten fit;
+  unwritten = fit_in_last version g.unwritten fit;
   reads = λ none. ap (λ (h : Held). h.failed) framer ∙ sound.reads (sym behind ∙ none);
 }
 

@@ -1,4 +1,3 @@
-pub mod Outboxes
 pub mod HostEndFits
 pub mod HostEndGoing
 pub mod HostEndFiles

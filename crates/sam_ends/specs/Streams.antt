@@ -1,13 +1,12 @@
 -- What both ends share: what can be written, and a stream that shows a fault.
-use Rattle.std.specs.Prelude.{◌≡◌, ℕ, ◌+◌, ◌^◌, ◌≤◌, List, length, Option, Some, None, Result, Ok, Err, All, IsTrue}
+use Rattle.std.specs.Prelude.{◌≡◌, ℕ, ◌+◌, ◌^◌, ◌≤◌, List, length, Option, Some, None, Result, Ok, Err}
 use Rattle.sam_mesg.specs.declared.hmesg.HFrame.{HFrame}
 use Rattle.sam_mesg.specs.declared.tmesg.Tmesg.{Tmesg}
 use Rattle.sam_mesg.specs.declared.fault.MesgFault.{MesgFault}
 use Rattle.sam_mesg.specs.declared.fault.MesgFault.TheVariants as wrong
-use Rattle.sam_mesg.specs.HostKinds.{fits_h}
-use Rattle.sam_frame.specs.Direction.{Direction}
+use Rattle.sam_frame.specs.Direction.{Direction, terminal, host}
+use Rattle.sam_frame.specs.Stream.{CanEncode}
 use Rattle.sam_frame.specs.Framing.{Held, GaveAll, GaveUp}
-use Rattle.sam_term.specs.Fitting.{AllFit}
 use Rattle.sam_ends.specs.declared.fault.EndFault.{EndFault}
 use Rattle.sam_ends.specs.declared.fault.EndFault.TheVariants as fault
 use Rattle.sam_ends.specs.declared.fault.StreamFault.{StreamFault}
@@ -16,11 +15,11 @@ use Rattle.sam_ends.specs.declared.incoming.Given.{Given}
 
 -- each frame fits in version 2, and so can be written
 abbrev pub FitFrames : List HFrame → Type 0
-FitFrames frames = All (λ frame. IsTrue (fits_h 2 frame.msg)) frames
+FitFrames frames = CanEncode host frames
 
 -- each message fits in version 2, and so can be written
 abbrev pub FitMessages : List Tmesg → Type 0
-FitMessages messages = AllFit messages
+FitMessages messages = CanEncode terminal messages
 
 abbrev pub mesg_fault : StreamFault → MesgFault
 mesg_fault BadKind = wrong.BadKind

@@ -5,7 +5,8 @@ ghost use Rattle.sam_ends.specs.Streams.{FitFrames, FitMessages};
 ghost use Rattle.sam_frame.specs.Direction.{host, terminal};
 ghost use Rattle.sam_frame.specs.Stream.{stream_of};
 
-use sam_mesg::{HFrame, MesgFault, Tmesg, encode_h, encode_t};
+use sam_frame::encode_all;
+use sam_mesg::{HFrame, Tmesg};
 use std::alloc::{AllocError, Global};
 use std::marker::Model;
 
@@ -85,12 +86,10 @@ impl Outbox {
         ensures unchanged { OnErr result (self.new ≡ self.old) }
     {
         self.compact();
-        let len = self.bytes.len();
-        if write_frames(&mut self.bytes, frames).is_err() {
-            self.bytes.truncate(len);
-            return Err(AllocError);
+        match encode_all(frames, &mut self.bytes) {
+            Ok(()) => Ok(()),
+            Err(_) => Err(AllocError),
         }
-        Ok(())
     }
 
     /// Puts the bytes of the messages behind the others, all or none. Its only error is want of memory, and leaves the bytes as they were.
@@ -100,35 +99,9 @@ impl Outbox {
         ensures unchanged { OnErr result (self.new ≡ self.old) }
     {
         self.compact();
-        let len = self.bytes.len();
-        if write_messages(&mut self.bytes, messages).is_err() {
-            self.bytes.truncate(len);
-            return Err(AllocError);
+        match encode_all(messages, &mut self.bytes) {
+            Ok(()) => Ok(()),
+            Err(_) => Err(AllocError),
         }
-        Ok(())
     }
-}
-
-/// Adds the bytes of the frames at the end of `out`. After an error, which is want of memory, some of the first of them stand there.
-fn write_frames(out: &mut Vec<u8>, frames: &[HFrame]) -> Result<(), MesgFault>
-    requires { FitFrames frames.now }
-    ensures done { OnOk result (out.new.items ≡ out.old.items ++ stream_of host frames.now) }
-    ensures begins { take (length out.old.items) out.new.items ≡ out.old.items }
-{
-    for frame in frames {
-        encode_h(frame, out)?;
-    }
-    Ok(())
-}
-
-/// Adds the bytes of the messages at the end of `out`. After an error, which is want of memory, some of the first of them stand there.
-fn write_messages(out: &mut Vec<u8>, messages: &[Tmesg]) -> Result<(), MesgFault>
-    requires { FitMessages messages.now }
-    ensures done { OnOk result (out.new.items ≡ out.old.items ++ stream_of terminal messages.now) }
-    ensures begins { take (length out.old.items) out.new.items ≡ out.old.items }
-{
-    for message in messages {
-        encode_t(message, out)?;
-    }
-    Ok(())
 }

@@ -1,8 +1,8 @@
 //! A host that answers bytes.
 
-use crate::link::{hex, runes, write_frames};
+use crate::link::{hex, runes};
 use anyhow::{Result, bail, ensure};
-use sam_frame::FramerT;
+use sam_frame::{FramerT, encode_all};
 use sam_host::Host;
 use sam_mesg::fits_t;
 use sam_runes::Text;
@@ -44,7 +44,8 @@ impl ByteHost {
             // What a framer gives always fits, as `handle` requires. The prover knows it by a lemma; a test is shorter here.
             ensure!(fits_t(2, &message), "a message that is too long");
             let frames = self.host.handle(message)?;
-            write_frames(&frames, &mut self.out)?;
+            // What a host answers always fits, as `encode_all` requires. That is a clause of `handle`.
+            encode_all(frames.as_slice(), &mut self.out)?;
         }
         Ok(())
     }

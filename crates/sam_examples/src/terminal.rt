@@ -1,8 +1,8 @@
 //! A terminal that types into a file of which it has only a part, and sends.
 
-use crate::link::{hex, runes, write_messages};
+use crate::link::{hex, runes};
 use anyhow::{Result, bail, ensure};
-use sam_frame::FramerH;
+use sam_frame::{FramerH, encode_all};
 use sam_mesg::fits_h;
 use sam_term::{Acted, Terminal, UserEvent};
 use std::alloc::Global;
@@ -50,7 +50,8 @@ impl ByteTerminal {
             // What a framer gives always fits, as `receive` requires. The prover knows it by a lemma; a test is shorter here.
             ensure!(fits_h(2, &frame.msg), "a frame that is too long");
             let messages = self.terminal.receive(frame)?;
-            write_messages(&messages, &mut self.out)?;
+            // What a terminal composes always fits, as `encode_all` requires. That is a clause of `receive`, and of `act`.
+            encode_all(messages.as_slice(), &mut self.out)?;
         }
         self.act()
     }
@@ -59,7 +60,7 @@ impl ByteTerminal {
     fn act(&mut self) -> Result<()> {
         for _ in 0..u64::MAX {
             match self.terminal.act()? {
-                Acted::Done(messages) => write_messages(&messages, &mut self.out)?,
+                Acted::Done(messages) => encode_all(messages.as_slice(), &mut self.out)?,
                 Acted::Refused(why) => bail!("the terminal refuses an event: {why}"),
                 Acted::Idle | Acted::Locked => break,
             }

@@ -6,7 +6,7 @@ use Rattle.sam_runes.specs.declared.edit.Edit.{Edit}
 use Rattle.sam_runes.specs.Texts.{Range, common_version, part, is_empty, max_runes, most_in_message, most_in_pattern, snarf_limit, utf8_length, prefix_in_bytes, searched, all_tags, ends_line, as_lines, last_line, most_in_name}
 use Rattle.sam_runes.specs.Slots.{Slots, slot}
 use Rattle.sam_runes.proofs.PlaceLaws.{prefix_within}
-use Rattle.sam_text.specs.Files.{PlainFile, PlainFiles, PlainOutcome, blank_file, file_at, has_file, is_printed, has_room, after_print, committed, typed_file, IsPattern}
+use Rattle.sam_text.specs.Files.{PlainFile, PlainFiles, PlainOutcome, blank_file, file_at, has_file, is_printed, has_room, after_print, committed, typed_file, IsPattern, may_look}
 use Rattle.sam_text.specs.Meaning.{meaning, work_file}
 use Rattle.sam_text.proofs.OutcomeLaws.{HasShortParts, line_short}
 use Rattle.sam_mesg.specs.HostKinds.{after_h, fits_h}
@@ -139,9 +139,14 @@ fit-line h before line k =
     let fs = committed h.files o in
     fit-both _ _ (fit-both _ _ (fit-both before _ k (fit-outcome o.file h.files o (line_short (work_file h.files) line))) (fit-printed fs o.printed)) (end-fits o.quit, tt)
 
-second-false : (a b : Bool) → (a || b) ≡ false → b ≡ false
-second-false true b e = absurd (cc)
-second-false false b e = e
+-- what may be looked for is no longer than a pattern
+look-fits : (lit : List ℕ) → may_look lit ≡ true → length lit ≤ most_in_pattern
+look-fits lit e = ltb-false most_in_pattern (length lit) (second (is_empty lit) (nat_lt most_in_pattern (length lit)) e)
+  where
+    second : (a b : Bool) → not (a || b) ≡ true → b ≡ false
+    second true b e = absurd (cc)
+    second false true e = absurd (cc)
+    second false false e = refl
 
 fit-look : (h : PlainHost) (f p q : ℕ) → AllFit (reply_look h f p q).1
 unfolding reply_look
@@ -149,9 +154,9 @@ fit-look h f p q =
     let t = (file_at h.files f).text in
     let lit = part t p q in
     let h2 = with_files h (record h.files { pattern = Some lit }) in
-    reply-if (is_empty lit || nat_lt most_in_pattern (length lit)) (h, Hunlockfile f ∷ []) (reply_found h2 f (searched t lit q) (Hsetpat lit ∷ []))
+    reply-if (may_look lit) (reply_found h2 f (searched t lit q) (Hsetpat lit ∷ [])) (h, Hunlockfile f ∷ [])
+    (λ e. fit-found h2 f (searched t lit q) (Hsetpat lit ∷ []) (pattern-fits lit (look-fits lit e), tt))
     (λ e. (λ v. refl, tt))
-    (λ e. fit-found h2 f (searched t lit q) (Hsetpat lit ∷ []) (pattern-fits lit (ltb-false most_in_pattern (length lit) (second-false (is_empty lit) _ e)), tt))
 
 fit-paste : (h : PlainHost) (f p : ℕ) → AllFit (reply_paste h f p).1
 unfolding reply_paste

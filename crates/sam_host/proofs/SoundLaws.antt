@@ -2,10 +2,10 @@
 use Rattle.std.proofs.Common.{◌≡◌, ◌≢◌, ◌⊎◌, ℕ, zero, suc, ◌+◌, ◌≤◌, List, [], ◌∷◌, length, Bool, true, false, cond, Option, Some, None, Ok, Err, nat_eq, inl, inr, refl, sym, ap, subst, arith}
 use Rattle.std.specs.Prelude.{unwrap_or, option_map, IfSome, All, ◌==◌, nat_lt, nat_le, ◌||◌, ◌&&◌, not, min}
 use Rattle.std.proofs.lemmas.List.Elements.{All-nil, All-cons}
-use Rattle.sam_runes.specs.Texts.{Range, common_version, most_count, max_runes, most_in_pattern, all_tags, is_empty, part, searched, ends_line, as_lines, last_line, most_in_name}
+use Rattle.sam_runes.specs.Texts.{Range, common_version, most_count, max_runes, all_tags, is_empty, part, searched, ends_line, as_lines, last_line, most_in_name}
 use Rattle.sam_runes.specs.Slots.{Slots, slot, put_slot, free_slot}
 use Rattle.sam_runes.specs.Checks.{first_of_checks}
-use Rattle.sam_text.specs.Files.{PlainFile, PlainFiles, PlainOutcome, blank_file, file_at, put_file, typed_file, cut_file, pasted_file, printed_file, is_printed, has_room, after_print, file_after, put_outcome, committed, HasShortName, IsFit, AreFit, AreKept}
+use Rattle.sam_text.specs.Files.{PlainFile, PlainFiles, PlainOutcome, blank_file, file_at, put_file, typed_file, cut_file, pasted_file, printed_file, is_printed, has_room, after_print, file_after, put_outcome, committed, HasShortName, IsFit, AreFit, AreKept, may_look}
 use Rattle.sam_text.specs.Meaning.{meaning, work_file}
 use Rattle.sam_text.proofs.FitLaws.{all-put}
 use Rattle.sam_text.proofs.KeptLaws.{all-free, all-announce}
@@ -59,8 +59,8 @@ unfolding reply_look
 names-look h f p q all =
     let lit = part (file_at h.files f).text p q in
     let h2 = with_files h (record h.files { pattern = Some lit }) in
-    names-if (is_empty lit || nat_lt most_in_pattern (length lit)) (h, _) (reply_found h2 f (searched (file_at h.files f).text lit q) _) all
-    (names-found h2 f (searched (file_at h.files f).text lit q) _ all)
+    names-if (may_look lit) (reply_found h2 f (searched (file_at h.files f).text lit q) _) (h, _)
+    (names-found h2 f (searched (file_at h.files f).text lit q) _ all) all
 
 names-type : (h : PlainHost) (f p : ℕ) (s : List ℕ) → AreNamesShort h.files → AreNamesShort (reply_type h f p s).0.files
 unfolding reply_type
@@ -132,8 +132,8 @@ stands-look : (h : PlainHost) (f p q : ℕ) → Stands h (reply_look h f p q)
 unfolding reply_look
 stands-look h f p q =
     let lit = part (file_at h.files f).text p q in
-    stands-if h (is_empty lit || nat_lt most_in_pattern (length lit)) _ _ (refl, refl)
-    (stands-found (with_files h (record h.files { pattern = Some lit })) f (searched (file_at h.files f).text lit q) _)
+    stands-if h (may_look lit) _ _ (stands-found (with_files h (record h.files { pattern = Some lit })) f (searched (file_at h.files f).text lit q) _)
+    (refl, refl)
 
 -- the version behind a message, where it was this one before
 abbrev version_by : ℕ → Tmesg → ℕ

@@ -10,8 +10,8 @@ ghost use Rattle.sam_text.specs.Files.{file_at};
 use crate::fault::HostFault;
 use crate::host::Host;
 use sam_mesg::{HFrame, Hmesg, Tmesg};
-use sam_runes::{MOST_IN_MESSAGE, MOST_IN_PATTERN};
-use sam_text::FileChange;
+use sam_runes::MOST_IN_MESSAGE;
+use sam_text::{FileChange, may_be_pattern};
 
 impl Host {
     /// Answers `Tcheck` with `Hcheck`, which reaches the terminal after all that the host has said of the file. Errors, in this order:
@@ -146,7 +146,7 @@ impl Host {
         self.wants_range(f, p, q)?;
         let lit = self.part(f, p, q)?;
         let mut frames = Vec::new(self.alloc);
-        if lit.len() == 0 || lit.len() > MOST_IN_PATTERN {
+        if !may_be_pattern(lit.as_slice()) {
             self.say(&mut frames, Hmesg::Hunlockfile(f))?;
             return Ok(frames);
         }

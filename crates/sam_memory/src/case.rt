@@ -11,6 +11,7 @@ use std::thread::Threads;
 pub enum Case {
     EncodeT,
     EncodeH,
+    EncodeAll,
     DecodeT,
     DecodeH,
     DecodeBadT,
@@ -46,9 +47,10 @@ pub enum Case {
 
 impl Case {
     /// All cases, in the order in which they run.
-    pub const ALL: [Case; 33] = [
+    pub const ALL: [Case; 34] = [
         Case::EncodeT,
         Case::EncodeH,
+        Case::EncodeAll,
         Case::DecodeT,
         Case::DecodeH,
         Case::DecodeBadT,
@@ -87,6 +89,7 @@ impl Case {
         match self {
             Case::EncodeT => "encode_t",
             Case::EncodeH => "encode_h",
+            Case::EncodeAll => "encode_all",
             Case::DecodeT => "decode_t",
             Case::DecodeH => "decode_h",
             Case::DecodeBadT => "decode_bad_t",
@@ -126,6 +129,7 @@ impl Case {
         match self {
             Case::EncodeT => codec::encode_terminal(alloc),
             Case::EncodeH => codec::encode_host(alloc),
+            Case::EncodeAll => codec::encode_both(alloc),
             Case::DecodeT => codec::decode_terminal(alloc),
             Case::DecodeH => codec::decode_host(alloc),
             Case::DecodeBadT => codec::decode_bad_terminal(alloc),

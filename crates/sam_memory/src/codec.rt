@@ -1,6 +1,7 @@
 //! Messages written, read and copied.
 
 use crate::setup::{SetUp, Tried, runes, spells, told_of};
+use sam_frame::{can_encode, encode_all};
 use sam_mesg::{
     HFrame, Hmesg, MesgFault, Tmesg, decode_h, decode_t, encode_h, encode_t, fits_h, fits_t,
 };
@@ -13,6 +14,11 @@ const TYPED: [u8; 12] = [7, 8, 0, 8, 0, 1, 0, 0, 0, 0, 0x68, 0x69];
 /// two messages.
 const GIVEN: [u8; 20] = [
     7, 0x49, 0, 0x10, 0, 0, 0, 0, 0, 0, 0, 2, 0, 1, 0, 0, 0, 0, 0x61, 0x62,
+];
+
+/// A byte that stands in the buffer before the frames, and after it those of `hi`, typed at the start of file 1, and of its being cut.
+const BOTH: [u8; 25] = [
+    7, 8, 0, 8, 0, 1, 0, 0, 0, 0, 0x68, 0x69, 9, 0, 10, 0, 1, 0, 0, 0, 0, 0, 0, 0, 2,
 ];
 
 fn typed(alloc: Global) -> Result<Tmesg, SetUp> {
@@ -80,6 +86,27 @@ pub fn encode_host(alloc: Global) -> Tried {
     let frame = given(alloc)?;
     let mut out = Vec::from_slice(alloc, &GIVEN[..1])?;
     Ok(encodes_given(&frame, &mut out))
+}
+
+fn encodes_both(messages: &[Tmesg], out: &mut Vec<u8>) -> bool {
+    if !can_encode(messages) {
+        return false;
+    }
+    let mut put = encode_all(messages, out);
+    if put == Err(MesgFault::OutOfMemory) {
+        if out.as_slice() != &BOTH[..1] {
+            return false;
+        }
+        put = encode_all(messages, out);
+    }
+    put == Ok(()) && out.as_slice() == BOTH.as_slice()
+}
+
+/// The frames of both messages are appended, or none is.
+pub fn encode_both(alloc: Global) -> Tried {
+    let mut out = Vec::from_slice(alloc, &BOTH[..1])?;
+    let messages = vec![in alloc; typed(alloc)?, Tmesg::Tcut(1, 0, 2)]?;
+    Ok(encodes_both(messages.as_slice(), &mut out))
 }
 
 /// The body is read as the message.

@@ -4,12 +4,12 @@ use Rattle.std.specs.Prelude.{IfSome}
 use Rattle.std.proofs.lemmas.List.{length-drop, drop_min, take_min}
 use Rattle.std.proofs.lemmas.Bool.{ltb-false, lt-leb, cases_Bool, or_parts}
 use Rattle.sam_rasp.specs.Rasp.{Agrees}
-use Rattle.sam_runes.specs.Texts.{Range, ins, is_empty, part, max_runes, most_in_message, most_in_pattern, lines_before, word_at, searched}
+use Rattle.sam_runes.specs.Texts.{Range, ins, is_empty, part, max_runes, most_in_message, lines_before, word_at, searched}
 use Rattle.sam_runes.specs.Slots.{slot}
 use Rattle.sam_runes.specs.Checks.{first_of_checks}
 use Rattle.sam_runes.proofs.EditLaws.{length-ins}
 use Rattle.sam_runes.proofs.PlaceLaws.{InRange, searched_within, word_at_within, lines_before_within}
-use Rattle.sam_text.specs.Files.{PlainFile, file_at, has_file, pasted_file, searched_for}
+use Rattle.sam_text.specs.Files.{PlainFile, file_at, has_file, pasted_file, searched_for, may_look}
 use Rattle.sam_mesg.specs.declared.tmesg.Tmesg.{Tmesg}
 use Rattle.sam_mesg.specs.declared.tmesg.Tmesg.TheVariants.{Trequest, Torigin, Tpaste, Twrite, Tlook, Tsearch, Tdclick}
 use Rattle.sam_mesg.specs.declared.hmesg.Hmesg.{Hmesg}
@@ -185,8 +185,9 @@ sync_look h f p q sound o l l2 =
     let k : PlainHost = with_files h (record h.files { pattern = Some lit }) in
     let x = freed_found k f (searched t lit q) (Hsetpat lit ∷ []) (record { given = o.given; there = o.there; opened = o.opened; shown = o.shown }) (searched_in t lit q l2) (told_pattern f lit t) in
     locks h (Tlook f p q) f refl sound o (open_tests h f o (no_range h f p q ∷ []) (range_test h f p q l l2))
-    (freed_if h f (is_empty lit || nat_lt most_in_pattern (length lit)) (h, Hunlockfile f ∷ []) (reply_found k f (searched t lit q) (Hsetpat lit ∷ [])) (λ e. freed_only h f o)
-    (λ e. record { text = x.text; has = record { files = x.has.files; work = x.has.work; done = x.has.done; version = x.has.version }; here = x.here; elsewhere = x.elsewhere }))
+    (freed_if h f (may_look lit) (reply_found k f (searched t lit q) (Hsetpat lit ∷ [])) (h, Hunlockfile f ∷ [])
+    (λ e. record { text = x.text; has = record { files = x.has.files; work = x.has.work; done = x.has.done; version = x.has.version }; here = x.here; elsewhere = x.elsewhere })
+    (λ e. freed_only h f o))
 
 pub sync_search : (h : PlainHost) (f p q : ℕ) → HasFiles h.files → Opens h.files f → p ≤ q → q ≤ length (file_at h.files f).text → Synced h (Tsearch f p q)
 unfolding reply_search

@@ -2,10 +2,10 @@
 use Rattle.std.proofs.Common.{◌≡◌, ◌≢◌, ◌⊎◌, ℕ, zero, suc, ◌+◌, List, [], ◌∷◌, length, Bool, true, false, not, ◌&&◌, ◌||◌, ◌==◌, if◌then◌else◌, Option, Some, None, nat_eq, nat_le, nat_lt, inl, inr, refl, sym, ap, ◌∙◌, subst, true≢false, arith}
 use Rattle.std.specs.Prelude.{unwrap_or, option_map, ◌-◌}
 use Rattle.std.proofs.lemmas.Bool.Decides.{eqb_tells}
-use Rattle.sam_runes.specs.Texts.{Range, max_runes, most_in_pattern, all_tags, line_start, last_line, is_empty, searched, word_at, as_lines, part, ends_line}
+use Rattle.sam_runes.specs.Texts.{Range, max_runes, all_tags, line_start, last_line, is_empty, searched, word_at, as_lines, part, ends_line}
 use Rattle.sam_runes.specs.Slots.{Slots, slot, put_slot, free_slot}
 use Rattle.sam_runes.proofs.SlotLaws.{slot-map, slot-put_same, slot-put_other, slot-free_same, slot-free_other}
-use Rattle.sam_text.specs.Files.{PlainFile, PlainFiles, PlainOutcome, blank_file, file_at, put_file, typed_file, cut_file, pasted_file, has_room, is_printed, after_print, printed_file, file_after, put_outcome, committed}
+use Rattle.sam_text.specs.Files.{PlainFile, PlainFiles, PlainOutcome, blank_file, file_at, put_file, typed_file, cut_file, pasted_file, has_room, is_printed, after_print, printed_file, file_after, put_outcome, committed, may_look}
 use Rattle.sam_text.specs.Meaning.{meaning}
 use Rattle.sam_host.proofs.HostFits.{reply_fits}
 use Rattle.sam_host.specs.Host.{PlainHost, Reply, printed, announced_file, announce_all, new_file, with_file, with_files, reply_version, reply_startcmdfile, reply_check, reply_request, reply_origin, reply_startfile, reply_workfile, reply_cut, reply_paste, reply_snarf, reply_startnewfile, reply_write, reply_close, reply_found, reply_look, reply_search, searched_for, reply_dclick, reply_startsnarf, reply_setsnarf, reply_exit, reply_line, reply_type, reply_send, reply_to, no_tag_left}
@@ -136,9 +136,9 @@ announced-reply h (Twrite f) a all = announced-same h.files f (record (file_at h
 announced-reply h (Tclose f) a all = announced-free h.files f all
 announced-reply h (Tlook f p q) a all =
     let lit = part (file_at h.files f).text p q in
-    announced-if (is_empty lit || nat_lt most_in_pattern (length lit)) (h, _)
-    (reply_found (with_files h (record h.files { pattern = Some lit })) f (searched (file_at h.files f).text lit q) (Hsetpat lit ∷ [])) all
-    (announced-found (with_files h (record h.files { pattern = Some lit })) f (searched (file_at h.files f).text lit q) (Hsetpat lit ∷ []) all)
+    announced-if (may_look lit)
+    (reply_found (with_files h (record h.files { pattern = Some lit })) f (searched (file_at h.files f).text lit q) (Hsetpat lit ∷ [])) (h, _)
+    (announced-found (with_files h (record h.files { pattern = Some lit })) f (searched (file_at h.files f).text lit q) (Hsetpat lit ∷ []) all) all
 announced-reply h (Tsearch f p q) a all = announced-found h f (searched_for h.files.pattern (file_at h.files f).text q) [] all
 announced-reply h (Tsend f p q) a all =
     let s = as_lines (part (file_at h.files f).text p q) in

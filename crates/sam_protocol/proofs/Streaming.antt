@@ -4,9 +4,9 @@ use Rattle.std.specs.Prelude.{drop, nat_le}
 use Rattle.std.proofs.lemmas.Bool.{or_parts, false_from_ne_true}
 use Rattle.std.proofs.lemmas.Option.{same_Some}
 use Rattle.sam_term.specs.declared.files.Unsent.{Unsent}
-use Rattle.sam_runes.specs.Texts.{Range, is_empty, max_runes, all_tags, most_in_pattern, as_lines, part, ends_line, common_version}
+use Rattle.sam_runes.specs.Texts.{Range, is_empty, max_runes, all_tags, as_lines, part, ends_line, common_version}
 use Rattle.sam_runes.specs.Checks.{first_of_checks}
-use Rattle.sam_text.specs.Files.{file_at, has_room}
+use Rattle.sam_text.specs.Files.{file_at, has_room, may_look}
 use Rattle.sam_mesg.specs.declared.tmesg.Tmesg.{Tmesg}
 use Rattle.sam_mesg.specs.declared.tmesg.Tmesg.TheVariants.{Tversion, Tstartcmdfile, Ttype, Tpaste, Tstartnewfile, Tlook, Tsearch, Tsend}
 use Rattle.sam_mesg.specs.declared.hmesg.Hmesg.{Hmesg}
@@ -50,7 +50,7 @@ version_next h (Tpaste f p) e = version-if h.version (is_empty h.files.snarf || 
 version_next h Tstartnewfile e = version-if h.version (nat_le all_tags (length h.files.slots)) _ _ refl refl
 version_next h (Tlook f p q) e =
     let lit = part (file_at h.files f).text p q in
-    version-if h.version (is_empty lit || nat_lt most_in_pattern (length lit)) _ _ refl (version-found (with_files h (record h.files { pattern = Some lit })) f _ _)
+    version-if h.version (may_look lit) _ _ (version-found (with_files h (record h.files { pattern = Some lit })) f _ _) refl
 version_next h (Tsearch f p q) e = version-found h f _ []
 version_next h (Tsend f p q) e = version-if h.version ((p == q) || not (has_room h.files (as_lines (part (file_at h.files f).text p q)))) _ _ refl refl
 version_next h _ e = refl

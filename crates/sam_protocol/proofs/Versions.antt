@@ -2,10 +2,10 @@
 use Rattle.std.proofs.Common.{◌≡◌, ℕ, ◌+◌, ◌-◌, Bool, true, false, not, ◌||◌, ◌&&◌, ◌==◌, if◌then◌else◌, List, [], ◌∷◌, ◌++◌, length, reverse, Option, Some, None, refl, sym, ap, ◌∙◌, true≢false, nat_le, nat_lt}
 use Rattle.std.specs.Prelude.{flat_map, drop}
 use Rattle.std.proofs.lemmas.Bool.{or_parts, or_right}
-use Rattle.sam_runes.specs.Texts.{common_version, Range, is_empty, max_runes, all_tags, most_in_message, most_in_pattern, as_lines, part, ends_line, line_start, last_line, searched}
+use Rattle.sam_runes.specs.Texts.{common_version, Range, is_empty, max_runes, all_tags, most_in_message, as_lines, part, ends_line, line_start, last_line, searched}
 use Rattle.sam_runes.specs.Slots.{Slots}
 use Rattle.sam_runes.specs.declared.edit.Edit.{Edit}
-use Rattle.sam_text.specs.Files.{PlainFile, PlainFiles, PlainOutcome, file_at, has_file, has_room, is_printed, after_print, typed_file, searched_for}
+use Rattle.sam_text.specs.Files.{PlainFile, PlainFiles, PlainOutcome, file_at, has_file, has_room, is_printed, after_print, typed_file, searched_for, may_look}
 use Rattle.sam_text.specs.Meaning.{meaning}
 use Rattle.sam_mesg.specs.declared.tmesg.Tmesg.{Tmesg}
 use Rattle.sam_mesg.specs.declared.tmesg.Tmesg.TheVariants.{Tversion, Tstartcmdfile, Tcheck, Trequest, Torigin, Tstartfile, Tworkfile, Ttype, Tcut, Tpaste, Tsnarf, Tstartnewfile, Twrite, Tclose, Tlook, Tsearch, Tsend, Tdclick, Tstartsnarf, Tsetsnarf, Tack, Texit}
@@ -175,8 +175,8 @@ guarded_reply h (Tclose f) = (no_v, (no_v, (no_v, tt)))
 guarded_reply h (Tlook f p q) =
     let t = (file_at h.files f).text in
     let lit = part t p q in
-    plain_guarded _ (plain_if (is_empty lit || nat_lt most_in_pattern (length lit)) (h, Hunlockfile f ∷ []) _ (refl, tt)
-    (plain_found (with_files h (record h.files { pattern = Some lit })) f (searched t lit q) (Hsetpat lit ∷ []) (refl, tt)))
+    plain_guarded _ (plain_if (may_look lit) _ (h, Hunlockfile f ∷ [])
+    (plain_found (with_files h (record h.files { pattern = Some lit })) f (searched t lit q) (Hsetpat lit ∷ []) (refl, tt)) (refl, tt))
 guarded_reply h (Tsearch f p q) = plain_guarded _ (plain_found h f (searched_for h.files.pattern (file_at h.files f).text q) [] tt)
 guarded_reply h (Tsend f p q) =
     let s = as_lines (part (file_at h.files f).text p q) in

@@ -1,17 +1,18 @@
 -- What a host answers to messages in turn.
-use Rattle.std.proofs.Common.{◌≡◌, ◌∙◌, ℕ, List, [], ◌∷◌, ◌++◌, true, Option, Ok, Err, refl, sym, ap, subst, flat_map, append_assoc}
+use Rattle.std.proofs.Common.{◌≡◌, ◌∙◌, ℕ, List, [], ◌∷◌, ◌++◌, Option, Ok, Err, refl, sym, ap, subst, flat_map, append_assoc}
 use Rattle.std.specs.Io.KnownBytes.{Appends}
 use Rattle.std.proofs.KnownBytes.{Appends-trans}
 use Rattle.std.proofs.lemmas.List.Elements.{All-nil, All-cons}
 use Rattle.sam_mesg.specs.declared.tmesg.Tmesg.{Tmesg}
 use Rattle.sam_mesg.specs.declared.hmesg.HFrame.{HFrame}
 use Rattle.sam_mesg.specs.TerminalKinds.{FitsT}
-use Rattle.sam_mesg.specs.HostKinds.{fits_h, frame_h, after_h}
+use Rattle.sam_mesg.specs.HostKinds.{frame_h}
 use Rattle.sam_mesg.proofs.Versions.{grows_t}
 use Rattle.sam_frame.specs.Direction.{terminal}
 use Rattle.sam_frame.specs.Stream.{FitInTurn}
 use Rattle.sam_host.specs.Host.{PlainHost, Answer, answer}
-use Rattle.sam_host.specs.Laws.{IsSound, FitInPlace}
+use Rattle.sam_host.specs.Laws.{IsSound}
+use Rattle.sam_host.proofs.LastVersion.{fit_in_last}
 use Rattle.sam_host.proofs.SoundLaws.{stays_sound, frames_fit}
 use Rattle.sam_host.specs.declared.fault.HostFault.{HostFault}
 use Rattle.sam_session.specs.Serving.{Served, served_on, serve, behind}
@@ -24,12 +25,8 @@ all_fit version [] fit = All-nil (FitsT 2)
 all_fit version (m ∷ ms) fit =
     All-cons (FitsT 2) m ms (record { is_message = fit.0.is_message; fits = grows_t version m fit.0.fits }) (all_fit (terminal.after version m) ms fit.1)
 
-frames_in_place : (version : ℕ) (frames : List HFrame) → FitInPlace version frames → FramesFit frames
-frames_in_place version [] fit = All-nil (λ (f : HFrame). fits_h 2 f.msg ≡ true)
-frames_in_place version (f ∷ frames) fit = All-cons (λ (g : HFrame). fits_h 2 g.msg ≡ true) f frames fit.1 (frames_in_place (after_h version f.msg) frames fit.2)
-
 pub answered_fit : (h g : PlainHost) (m : Tmesg) (frames : List HFrame) → answer h m ≡ Ok (g, frames) → IsSound h → FramesFit frames
-answered_fit h g m frames is sound = frames_in_place h.version frames (frames_fit h g m frames is sound)
+answered_fit h g m frames is sound = fit_in_last h.version frames (frames_fit h g m frames is sound)
 
 -- ---- one message after another
 

@@ -1,17 +1,16 @@
 -- What is done with one piece of the input.
-use Rattle.std.specs.Prelude.{◌≡◌, ℕ, List, [], ◌++◌, Option, Result, Ok, Err, true}
+use Rattle.std.specs.Prelude.{◌≡◌, ℕ, List, [], ◌++◌, Option, Result, Ok, Err}
 use Rattle.std.specs.List.{All}
 use Rattle.std.specs.Io.KnownBytes.{Appends}
 use Rattle.sam_mesg.specs.declared.tmesg.Tmesg.{Tmesg}
 use Rattle.sam_mesg.specs.declared.hmesg.HFrame.{HFrame}
 use Rattle.sam_mesg.specs.declared.fault.MesgFault.{MesgFault}
 use Rattle.sam_mesg.specs.TerminalKinds.{FitsT}
-use Rattle.sam_mesg.specs.HostKinds.{fits_h}
 use Rattle.sam_host.specs.Host.{PlainHost}
 use Rattle.sam_host.specs.declared.fault.HostFault.{HostFault}
 use Rattle.sam_host.specs.declared.fault.HostFault.TheVariants as refusal
-use Rattle.sam_frame.specs.Direction.{terminal}
-use Rattle.sam_frame.specs.Stream.{Splits, Shows, version_after}
+use Rattle.sam_frame.specs.Direction.{terminal, host}
+use Rattle.sam_frame.specs.Stream.{CanEncode, Splits, Shows, version_after}
 use Rattle.sam_frame.specs.Framing.{Held, GaveAll}
 use Rattle.sam_session.specs.Serving.{serve}
 use Rattle.sam_session.specs.Outcome.{refusal_number, frame_number}
@@ -24,9 +23,9 @@ use Rattle.sam_session.specs.declared.fault.PlayFault.TheVariants.{Side, OutOfMe
 abbrev pub AllFit : List Tmesg → Type 0
 AllFit messages = All (FitsT 2) messages
 
--- each frame fits in version 2
+-- each frame fits in version 2, and so can be written
 abbrev pub FramesFit : List HFrame → Type 0
-FramesFit frames = All (λ f. fits_h 2 f.msg ≡ true) frames
+FramesFit frames = CanEncode host frames
 
 -- all the messages were answered, and the frames of the answers written
 abbrev pub Answers : {W : Type 0} → (W → Option (List ℕ)) → PlainHost → PlainHost → W → W → List Tmesg → Type 0

@@ -1,6 +1,6 @@
 //! Messages answered by the host, and the answers written.
 
-ghost use Rattle.std.specs.Prelude.{◌≡◌, ◌++◌, IfOk, IfErr, OnOk, flat_map};
+ghost use Rattle.std.specs.Prelude.{◌≡◌, ◌++◌, IfErr, OnOk, flat_map};
 ghost use Rattle.std.specs.Io.KnownBytes.{Appends};
 ghost use Rattle.sam_mesg.specs.HostKinds.{frame_h};
 ghost use Rattle.sam_host.specs.Laws.{IsSound};
@@ -8,9 +8,10 @@ ghost use Rattle.sam_session.specs.Outcome.{OnSide, IsOfBytes};
 ghost use Rattle.sam_session.specs.Pieces.{AllFit, FramesFit, Answers, Refuses, of_refusal};
 
 use crate::fault::PlayFault;
+use sam_frame::encode_all;
 use sam_host::fault::HostFault;
 use sam_host::host::Host;
-use sam_mesg::{HFrame, MesgFault, Tmesg, encode_h};
+use sam_mesg::{HFrame, Tmesg};
 use sam_threads::Stop;
 use std::alloc::Global;
 use std::io::Write;
@@ -51,25 +52,14 @@ fn write_frames<W: Write>(alloc: Global, writer: &mut W, frames: &[HFrame]) -> R
     ensures side { IfErr result (λ e. OnSide e (λ _. ⊥)) }
     ensures fault { IfErr result IsOfBytes }
 {
-    let Ok(bytes) = bytes_of(alloc, frames) else {
+    let mut bytes = Vec::new(alloc);
+    let Ok(()) = encode_all(frames, &mut bytes) else {
         return Err(PlayFault::OutOfMemory);
     };
     match writer.write_all(bytes.as_slice()) {
         Ok(()) => Ok(()),
         Err(_) => Err(PlayFault::Write),
     }
-}
-
-/// Returns the bytes of the frames, one frame after another. The error is want of memory.
-fn bytes_of(alloc: Global, frames: &[HFrame]) -> Result<Vec<u8>, MesgFault>
-    requires { FramesFit frames.now }
-    ensures { IfOk result (λ bytes. bytes.items ≡ flat_map frame_h frames.now) }
-{
-    let mut bytes = Vec::new(alloc);
-    for frame in frames {
-        encode_h(frame, &mut bytes)?;
-    }
-    Ok(bytes)
 }
 
 /// Returns what a refusal of the host is for the program.

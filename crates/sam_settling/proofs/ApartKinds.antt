@@ -4,7 +4,7 @@ use Rattle.std.specs.Prelude.{◌&&◌, ◌||◌, min, nat_lt, nat_le, flat_map,
 use Rattle.std.proofs.lemmas.Bool.{ltb-false}
 use Rattle.sam_runes.specs.declared.edit.Edit.{Edit}
 use Rattle.sam_runes.specs.Checks.{first_of_checks}
-use Rattle.sam_runes.specs.Texts.{Range, common_version, part, is_empty, max_runes, most_count, most_in_message, most_in_pattern, searched, all_tags, ends_line, as_lines, last_line, snarf_limit, utf8_length}
+use Rattle.sam_runes.specs.Texts.{Range, common_version, part, is_empty, max_runes, most_count, most_in_message, searched, all_tags, ends_line, as_lines, last_line, snarf_limit, utf8_length}
 use Rattle.sam_runes.specs.Slots.{Slots}
 use Rattle.sam_runes.proofs.CheckLaws.{none_holds}
 use Rattle.sam_rasp.specs.Rasp.{hole_within}
@@ -17,7 +17,7 @@ use Rattle.sam_mesg.specs.declared.hmesg.Hmesg.TheVariants.{Hversion, Hbindname,
 use Rattle.sam_mesg.specs.declared.hmesg.HFrame.{HFrame}
 use Rattle.sam_frame.specs.Direction.{host, terminal}
 use Rattle.sam_frame.specs.Stream.{version_after}
-use Rattle.sam_text.specs.Files.{PlainFile, PlainFiles, PlainOutcome, file_at, has_file, is_printed, has_room, after_print, committed, typed_file}
+use Rattle.sam_text.specs.Files.{PlainFile, PlainFiles, PlainOutcome, file_at, has_file, is_printed, has_room, after_print, committed, typed_file, may_look}
 use Rattle.sam_text.specs.Meaning.{meaning}
 use Rattle.sam_host.specs.Host.{PlainHost, Reply, Answer, answer, answer_unless, counted, host_checks, when, when_given, grown, told_length, printed, told_edit, told_outcome, told_names, command_name, no_tag_left, with_file, with_files, stamped, reply_version, reply_startcmdfile, reply_check, reply_request, reply_origin, reply_startfile, reply_workfile, reply_cut, reply_paste, reply_snarf, reply_startnewfile, reply_write, reply_close, reply_found, reply_look, reply_search, searched_for, reply_dclick, reply_startsnarf, reply_setsnarf, reply_exit, reply_line, reply_type, reply_send, reply_to}
 use Rattle.sam_host.specs.Laws.{IsSound, FitInPlace}
@@ -142,8 +142,8 @@ keeps-look h f p q =
     let lit = part t p q in
     let h2 = with_files h (record h.files { pattern = Some lit }) in
     let found = keeps-found h2 f (searched t lit q) (Hsetpat lit ∷ []) (tt, tt) in
-    keeps-if h (is_empty lit || nat_lt most_in_pattern (length lit)) (h, Hunlockfile f ∷ []) (reply_found h2 f (searched t lit q) (Hsetpat lit ∷ []))
-    (record { plain = (tt, tt); version = refl }) (record { plain = found.plain; version = found.version })
+    keeps-if h (may_look lit) (reply_found h2 f (searched t lit q) (Hsetpat lit ∷ [])) (h, Hunlockfile f ∷ [])
+    (record { plain = found.plain; version = found.version }) (record { plain = (tt, tt); version = refl })
 
 keeps-paste : (h : PlainHost) (f p : ℕ) → Keeps h (reply_paste h f p)
 unfolding reply_paste

@@ -10,7 +10,8 @@ ghost use Rattle.sam_text.specs.Views.{room_at, StaysInRoom, KeepRooms, KeepRoom
 use crate::fault::FilesFault;
 use crate::file::{File, FileChange};
 use crate::files::Files;
-use sam_runes::{ALL_TAGS, MAX_RUNES, MOST_IN_PATTERN, Runes, Text};
+use crate::pattern::may_be_pattern;
+use sam_runes::{ALL_TAGS, MAX_RUNES, Runes, Text};
 use std::alloc::Global;
 
 impl Files {
@@ -351,7 +352,7 @@ impl Files {
     {
         self.wants_range(tag, p, q)?;
         let lit = self.part(tag, p, q);
-        if lit.is_empty() || lit.len() > MOST_IN_PATTERN {
+        if !may_be_pattern(lit) {
             return Ok(None);
         }
         let pattern = Runes::from_slice(alloc, lit)?;

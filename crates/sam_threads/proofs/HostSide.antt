@@ -1,17 +1,18 @@
 -- The host's worker from one moment to the next.
-use Rattle.std.proofs.Common.{◌≡◌, ◌∙◌, ◌⊎◌, inl, inr, ℕ, ◌+◌, ◌<◌, get_or, drop, List, [], ◌∷◌, ◌++◌, Bool, true, false, cond, nat_eq, leb, length, Result, Ok, Err, refl, sym, ap, subst, append_assoc, append-nil, arith}
+use Rattle.std.proofs.Common.{◌≡◌, ◌∙◌, ◌⊎◌, inl, inr, ℕ, ◌+◌, List, [], ◌∷◌, ◌++◌, Bool, true, false, cond, nat_eq, leb, length, Result, Ok, Err, refl, sym, ap, subst, append_assoc, append-nil, arith}
 use Rattle.std.specs.Global.{Vec}
+use Rattle.std.specs.Prelude.{IsTrue}
 use Rattle.std.specs.Str.{encode_utf8_all}
 use Rattle.std.proofs.lemmas.Bool.{leb-true, le-leb}
-use Rattle.std.proofs.lemmas.List.{drop_more}
+use Rattle.std.proofs.lemmas.List.Elements.{All-nil, All-cons}
 use Rattle.sam_mesg.specs.declared.tmesg.Tmesg.{Tmesg}
 use Rattle.sam_mesg.specs.declared.tmesg.Tmesg.TheVariants.{Tsetsnarf}
 use Rattle.sam_mesg.specs.declared.hmesg.HFrame.{HFrame}
 use Rattle.sam_mesg.specs.declared.fault.MesgFault.{MesgFault}
 use Rattle.sam_mesg.specs.TerminalKinds.{fits_t, FitsT}
-use Rattle.sam_mesg.specs.HostKinds.{FitsH, IsHFrame, frame_h, after_h}
+use Rattle.sam_mesg.specs.HostKinds.{FitsH, IsHFrame, after_h}
 use Rattle.sam_frame.specs.Direction.{terminal, host, frame_of}
-use Rattle.sam_frame.specs.Stream.{FitInTurn, Splits, Shows, version_after, stream_of}
+use Rattle.sam_frame.specs.Stream.{CanEncode, FitInTurn, Splits, Shows, version_after, stream_of}
 use Rattle.sam_frame.specs.Framing.{Held, GaveAll, GaveUp}
 use Rattle.sam_frame.proofs.Fronts.{stream_of-append}
 use Rattle.sam_host.specs.Host.{PlainHost, answer}
@@ -296,14 +297,9 @@ piece_unfed refuses h p version came bytes why halts = record {
   halts = halts;
 }
 
--- ## Frames in turn
+-- ## Frames that are sent
 
-pub encoded_more : (bytes more : List ℕ) (frames : List HFrame) (i : ℕ) (f : HFrame) → i < length frames → f ≡ get_or frames i f → more ≡ bytes ++ frame_h f
-    → bytes ++ stream_of host (drop i frames) ≡ stream_of host frames → more ++ stream_of host (drop (i + 1) frames) ≡ stream_of host frames
-encoded_more bytes more frames i f lt is grown so_far =
-    let next : drop i frames ≡ f ∷ drop (i + 1) frames = drop_more frames i f lt ∙ ap (λ (x : HFrame). x ∷ drop (i + 1) frames) (sym is) in
-    ap (λ (x : List ℕ). x ++ stream_of host (drop (i + 1) frames)) grown
-    ∙ (append_assoc bytes (frame_h f) (stream_of host (drop (i + 1) frames)) ∙ (ap (λ (x : List HFrame). bytes ++ stream_of host x) (sym next) ∙ so_far))
-
-pub encoded_fits : (frames : List HFrame) (i : ℕ) (f : HFrame) → i < length frames → Each (FitsH 2) (drop i frames) → Each (FitsH 2) (drop (i + 1) frames)
-encoded_fits frames i f lt fit = (subst (λ (x : List HFrame). Each (FitsH 2) x) (drop_more frames i f lt) fit).1
+-- frames that fit can be encoded
+pub can_encode : (frames : List HFrame) → Each (FitsH 2) frames → CanEncode host frames
+can_encode [] fit = All-nil (λ (x : HFrame). IsTrue (host.fits 2 x))
+can_encode (f ∷ frames) fit = All-cons (λ (x : HFrame). IsTrue (host.fits 2 x)) f frames fit.0.fits (can_encode frames fit.1)

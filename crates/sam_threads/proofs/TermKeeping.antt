@@ -21,7 +21,6 @@ use Rattle.sam_queue.specs.History.{IsEnded, has_left}
 use Rattle.sam_queue.specs.Views.{LineView, TakeView, PostView, WasFull, closed_post, new_take, new_post}
 use Rattle.sam_threads.specs.RealSides.{sides}
 use Rattle.sam_threads.specs.Inputs.{bytes_of, frames_in, users_in, frame_of_load, user_of_load}
-use Rattle.sam_threads.specs.Outboxes.{Encodes}
 use Rattle.sam_threads.specs.Told.{IsForeign, RefusesFrame, IsFullUp}
 use Rattle.sam_threads.specs.TermMoments.{DeskView, Did, SideView, SoFar, Ran, Goes, IsDone, IsQuiet, IsFound}
 use Rattle.sam_threads.specs.Cutting.{PutSome}
@@ -131,15 +130,13 @@ kept_done v desk outbox ms r running d fit grown =
     })) (sym (none_of v.stop running))
     (kept_step v desk outbox None ms [] r (none_of v.stop running) d fit (append-nil outbox ∙ grown) (refl, refl) (λ is. absurd (cc)))
 
--- what was encoded of some messages, and what was lost of them, is their frames
-pub half : (before after : List ℕ) (ns : List Tmesg) (q : Encodes before after ns) → after ++ q.lost ≡ before ++ stream_of terminal ns
-half before after ns q = ap (λ (x : List ℕ). x ++ q.lost) q.grown ∙ (append_assoc before q.added q.lost ∙ ap (λ (x : List ℕ). before ++ x) q.all)
-
-pub kept_half : (v : SideView) (desk : DeskView) (outbox : List ℕ) (ms : List Tmesg) → Ran v → is_some v.stop ≡ false
-    → Did v.desk desk [] [] ms → Each (FitsT 2) ms → Encodes v.outbox outbox ms
+-- what was composed could not be encoded, and is lost
+pub kept_lost_messages : (v : SideView) (desk : DeskView) (outbox : List ℕ) (ms : List Tmesg) → Ran v → is_some v.stop ≡ false
+    → Did v.desk desk [] [] ms → Each (FitsT 2) ms → outbox ≡ v.outbox
     → Ran (record { take = v.take; post = v.post; desk = desk; outbox = outbox; keyboard_left = v.keyboard_left; mouse_left = v.mouse_left; exit_put = v.exit_put; stop = Some stop.Memory })
-kept_half v desk outbox ms r running d fit e =
-    kept_step v desk outbox (Some stop.Memory) ms e.lost r (none_of v.stop running) d fit (half v.outbox outbox ms e) tt (λ is. absurd (let same : stop.Memory ≡ stop.PeerGone = cc in cc))
+kept_lost_messages v desk outbox ms r running d fit same =
+    kept_step v desk outbox (Some stop.Memory) ms (stream_of terminal ms) r (none_of v.stop running) d fit (ap (λ (x : List ℕ). x ++ stream_of terminal ms) same) tt
+    (λ is. absurd (let gone : stop.Memory ≡ stop.PeerGone = cc in cc))
 
 pub kept_silent : (v : SideView) (desk : DeskView) → Ran v → is_some v.stop ≡ false → Did v.desk desk [] [] []
     → Ran (record { take = v.take; post = v.post; desk = desk; outbox = v.outbox; keyboard_left = v.keyboard_left; mouse_left = v.mouse_left; exit_put = v.exit_put; stop = v.stop })

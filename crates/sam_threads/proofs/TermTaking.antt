@@ -22,7 +22,6 @@ use Rattle.sam_queue.specs.declared.take.Got.TheVariants as got
 use Rattle.sam_queue.proofs.Histories.{loads-append}
 use Rattle.sam_threads.specs.RealSides.{sides}
 use Rattle.sam_threads.specs.Inputs.{bytes_of, frames_in, users_in, frame_of_load, user_of_load}
-use Rattle.sam_threads.specs.Outboxes.{Encodes}
 use Rattle.sam_threads.specs.Told.{IsForeign, RefusesFrame}
 use Rattle.sam_threads.specs.TermMoments.{DeskView, Did, SideView, SoFar, Ran, IsOfUser, WasNotHandled}
 use Rattle.sam_threads.specs.declared.input.Input.{Input}
@@ -30,7 +29,7 @@ use Rattle.sam_threads.specs.declared.input.Input.TheVariants.{User, Host}
 use Rattle.sam_threads.specs.declared.stop.Stop.{Stop}
 use Rattle.sam_threads.specs.declared.stop.Stop.TheVariants as stop
 use Rattle.sam_threads.proofs.TermSteps.{did_nothing}
-use Rattle.sam_threads.proofs.TermKeeping.{runs_on, users_on, whole, all_handled, sent_on, none_of, half}
+use Rattle.sam_threads.proofs.TermKeeping.{runs_on, users_on, whole, all_handled, sent_on, none_of}
 
 -- ## Marks
 
@@ -153,15 +152,15 @@ kept_item v line sender input desk outbox ms r running next d of_user fit grown 
     (kept_entry v line (record { sender = sender; load = Some input }) desk outbox v.keyboard_left v.mouse_left None ms [] r (none_of v.stop running) next d of_user fit
     (append-nil outbox ∙ grown) (refl, refl) (λ is. is) (λ is. is) (λ is. inl is) (λ is. inl is) (λ is. absurd (cc)))
 
--- an item was handled, and not all of its messages could be encoded
-pub kept_half_item : (v : SideView) (line : TakeView Input) (sender : ℕ) (input : Input) (desk : DeskView) (outbox : List ℕ) (ms : List Tmesg)
+-- an item was handled, and its messages could not be encoded
+pub kept_lost_item : (v : SideView) (line : TakeView Input) (sender : ℕ) (input : Input) (desk : DeskView) (outbox : List ℕ) (ms : List Tmesg)
     → Ran v → is_some v.stop ≡ false → TakesNext v.take (record { sender = sender; load = Some input }) line
     → Did v.desk desk (user_of_load (Some input)) (frame_of_load (Some input)) ms → IsOfUser sender (user_of_load (Some input)) → Each (FitsT 2) ms
-    → Encodes v.outbox outbox ms
+    → outbox ≡ v.outbox
     → Ran (record { take = line; post = v.post; desk = desk; outbox = outbox; keyboard_left = v.keyboard_left; mouse_left = v.mouse_left; exit_put = v.exit_put; stop = Some stop.Memory })
-kept_half_item v line sender input desk outbox ms r running next d of_user fit e =
-    kept_entry v line (record { sender = sender; load = Some input }) desk outbox v.keyboard_left v.mouse_left (Some stop.Memory) ms e.lost r (none_of v.stop running) next d of_user fit
-    (half v.outbox outbox ms e) tt (λ is. is) (λ is. is) (λ is. inl is) (λ is. inl is) (λ is. absurd (let same : stop.Memory ≡ stop.PeerGone = cc in cc))
+kept_lost_item v line sender input desk outbox ms r running next d of_user fit same =
+    kept_entry v line (record { sender = sender; load = Some input }) desk outbox v.keyboard_left v.mouse_left (Some stop.Memory) ms (stream_of terminal ms) r (none_of v.stop running) next d of_user
+    fit (ap (λ (x : List ℕ). x ++ stream_of terminal ms) same) tt (λ is. is) (λ is. is) (λ is. inl is) (λ is. inl is) (λ is. absurd (let gone : stop.Memory ≡ stop.PeerGone = cc in cc))
 
 mark_handled : (v : SideView) (line : TakeView Input) (e : Entry Input) (k m : Bool) (why : Option Stop) → Ran v → v.stop ≡ None → TakesNext v.take e line → e.load ≡ None
     → SoFar v.desk.term [] [] why

@@ -1,6 +1,6 @@
 //! The worker of the host.
 
-ghost use Rattle.std.specs.Prelude.{◌≡◌, ◌<◌, ◌≤◌, ◌++◌, ◌∷◌, [], List, ℕ, All, IfOk, Some, None, false, length};
+ghost use Rattle.std.specs.Prelude.{◌≡◌, ◌<◌, ◌≤◌, ◌++◌, ◌∷◌, [], List, ℕ, All, Some, None, false, length};
 ghost use Rattle.std.specs.Global.{Vec};
 ghost use Rattle.sam_runes.specs.Texts.{most_files};
 ghost use Rattle.sam_mesg.specs.HostKinds.{IsHFrame, FitsH};
@@ -24,10 +24,10 @@ use crate::ends::HostEnd;
 use crate::gate::Gate;
 use crate::pieces::send_pieces;
 use crate::stop::Stop;
-use sam_frame::{FeedFault, FramerT};
+use sam_frame::{FeedFault, FramerT, encode_all};
 use sam_host::fault::HostFault;
 use sam_host::host::Host;
-use sam_mesg::{HFrame, MesgFault, Tmesg, encode_h};
+use sam_mesg::{HFrame, Tmesg};
 use sam_queue::{Got, Post, Take};
 use sam_runes::Runes;
 use std::alloc::{AllocError, Global};
@@ -40,18 +40,6 @@ fn frames_are_known(frames: &[HFrame])
     for frame in frames {
         frame.known();
     }
-}
-
-/// Returns the bytes of the frames, one frame after another. The error is want of memory.
-fn bytes_of(alloc: Global, frames: &[HFrame]) -> Result<Vec<u8>, MesgFault>
-    requires { Each (FitsH 2) frames.now }
-    ensures { IfOk result (λ bytes. bytes.items ≡ stream_of host frames.now) }
-{
-    let mut bytes = Vec::new(alloc);
-    for frame in frames {
-        encode_h(frame, &mut bytes)?;
-    }
-    Ok(bytes)
 }
 
 /// Returns what a refusal of the host is for its worker.
@@ -94,7 +82,8 @@ impl HostSide<'_> {
         ensures host { self.new.host ≡ self.old.host }
         ensures puts { Puts self.old.piece self.old.post self.new.post (stream_of host frames.now) result }
     {
-        let Ok(bytes) = bytes_of(self.alloc, frames) else {
+        let mut bytes = Vec::new(self.alloc);
+        let Ok(()) = encode_all(frames, &mut bytes) else {
             return Err(AllocError);
         };
         send_pieces(rt, self.alloc, &mut self.post, bytes.as_slice(), self.piece)

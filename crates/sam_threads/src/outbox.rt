@@ -1,37 +1,24 @@
 //! The bytes that the terminal has composed and not yet put into its line.
 
-ghost use Rattle.std.specs.Prelude.{◌≡◌, ◌<◌, ◌≤◌, ◌++◌, [], ℕ, List, All, IsTrue, IfOk, OnOk, OnErr, None, Ok, length, drop};
+ghost use Rattle.std.specs.Prelude.{◌≡◌, ◌<◌, ◌≤◌, ◌++◌, [], ℕ, List, IsTrue, IfOk, OnOk, OnErr, None, Ok, length, drop};
 ghost use Rattle.std.specs.Bool.{OnFalse};
-ghost use Rattle.sam_mesg.specs.TerminalKinds.{fits_t, FitsT};
+ghost use Rattle.sam_mesg.specs.TerminalKinds.{FitsT};
 ghost use Rattle.sam_frame.specs.Direction.{terminal};
-ghost use Rattle.sam_frame.specs.Stream.{stream_of};
+ghost use Rattle.sam_frame.specs.Stream.{CanEncode, stream_of};
 ghost use Rattle.sam_world.specs.Sides.{Each};
 ghost use Rattle.sam_threads.specs.Cutting.{PutSome};
-ghost use Rattle.sam_threads.specs.Outboxes.{piece_bytes, IsCut, Encodes};
+ghost use Rattle.sam_threads.specs.Outboxes.{piece_bytes, IsCut};
 
-use sam_mesg::{MesgFault, Tmesg, encode_t};
+use sam_frame::encode_all;
+use sam_mesg::Tmesg;
 use sam_queue::{Post, Refused};
 use std::alloc::{AllocError, Global};
 use std::marker::Model;
 use std::sync::Wait;
 
-/// Adds the bytes of the messages at the end of `out`, in order. After an error, which is want of memory, some of the first of these
-/// bytes stand there.
-#[tactic(auto, using(crate::proofs::Outboxes::all_encoded, crate::proofs::Outboxes::rest_lost))]
-fn encode_all(messages: &[Tmesg], out: &mut Vec<u8>) -> Result<(), MesgFault>
-    requires { All (λ m. IsTrue (fits_t 2 m)) messages.now }
-    ensures encoded { OnOk result (out.new.items ≡ out.old.items ++ stream_of terminal messages.now) }
-    ensures begun { Encodes out.old.items out.new.items messages.now }
-{
-    for message in messages {
-        encode_t(message, out)?;
-    }
-    Ok(())
-}
-
 /// Reads off each message what is known of it: that it fits in version 2. It does nothing else.
 fn know_all(messages: &[Tmesg])
-    requires { All (λ m. IsTrue (fits_t 2 m)) messages.now }
+    requires { CanEncode terminal messages.now }
     ensures { Each (FitsT 2) messages.now }
 {
     for message in messages {
@@ -78,14 +65,17 @@ impl Uncut {
         self.start == self.bytes.len()
     }
 
-    /// Adds the bytes of the messages behind the others. After an error, which is want of memory, some of the first of them stand there.
-    #[tactic(auto, using(crate::proofs::Outboxes::encodings))]
-    fn push_all(&mut self, messages: &[Tmesg]) -> Result<(), MesgFault>
-        requires { All (λ m. IsTrue (fits_t 2 m)) messages.now }
+    /// Adds the bytes of the messages behind the others, all or none. The only error is want of memory, after which all is as it was.
+    #[tactic(auto, using(crate::proofs::Outboxes::all_behind))]
+    fn push_all(&mut self, messages: &[Tmesg]) -> Result<(), AllocError>
+        requires { CanEncode terminal messages.now }
         ensures encoded { OnOk result (self.new ≡ self.old ++ stream_of terminal messages.now) }
-        ensures begun { Encodes self.old self.new messages.now }
+        ensures unchanged { OnErr result (self.new ≡ self.old) }
     {
-        encode_all(messages, &mut self.bytes)
+        match encode_all(messages, &mut self.bytes) {
+            Ok(()) => Ok(()),
+            Err(_) => Err(AllocError),
+        }
     }
 
     /// Lets go of the bytes that are taken, if they are more than half of all.
@@ -167,13 +157,12 @@ impl Outbox {
         self.ready.is_none() && self.rest.is_empty()
     }
 
-    /// Adds the bytes of the messages behind the others. After an error, which is want of memory, some of the first of them stand there.
-    #[tactic(auto, using(crate::proofs::Outboxes::behind_front))]
-    pub(crate) fn push_all(&mut self, messages: &[Tmesg]) -> Result<(), MesgFault>
-        requires { All (λ m. IsTrue (fits_t 2 m)) messages.now }
+    /// Adds the bytes of the messages behind the others, all or none. The only error is want of memory, after which all is as it was.
+    pub(crate) fn push_all(&mut self, messages: &[Tmesg]) -> Result<(), AllocError>
+        requires { CanEncode terminal messages.now }
         ensures fit { Each (FitsT 2) messages.now }
         ensures encoded { OnOk result (self.new.bytes ≡ self.old.bytes ++ stream_of terminal messages.now) }
-        ensures begun { Encodes self.old.bytes self.new.bytes messages.now }
+        ensures unchanged { OnErr result (self.new.bytes ≡ self.old.bytes) }
         ensures most { self.new.most ≡ self.old.most }
     {
         know_all(messages);

@@ -94,7 +94,7 @@ ends-close h f = cons CommandLock _ _ (cons CommandLock _ _ unlocks)
 
 ends-look : (h : PlainHost) (f p q : ℕ) → Ends (FileLock f) (reply_look h f p q).1
 unfolding reply_look
-ends-look h f p q = either _ _ _ (FileLock f) (unlocks-file f) (ends-found _ f _ _)
+ends-look h f p q = either _ _ _ (FileLock f) (ends-found _ f _ _) (unlocks-file f)
 
 ends-search : (h : PlainHost) (f p q : ℕ) → Ends (FileLock f) (reply_search h f p q).1
 unfolding reply_search

@@ -4,7 +4,8 @@ use Rattle.std.specs.Prelude.{option_and_then, All, IsTrue}
 use Rattle.std.proofs.lemmas.List.Elements.{All-nil, All-cons}
 use Rattle.std.proofs.lemmas.Option.{same_Some}
 use Rattle.sam_host.specs.Host.{PlainHost, answer}
-use Rattle.sam_host.specs.Laws.{AreGiven, IsSound, FitInPlace}
+use Rattle.sam_host.specs.Laws.{AreGiven, IsSound}
+use Rattle.sam_host.proofs.LastVersion.{fit_in_last}
 use Rattle.sam_host.proofs.SoundLaws.{starts_sound, stays_sound, frames_fit}
 use Rattle.sam_term.specs.Term.{PlainTerminal, Made, act_of, flush_of, take_of}
 use Rattle.sam_term.specs.declared.event.Acted.{Acted}
@@ -40,12 +41,8 @@ reached_start given limits = record { given = given; limits = limits; reached = 
 
 -- ## What is composed and answered is within the limits
 
-frames-each : (frames : List HFrame) (v : ℕ) → FitInPlace v frames → All (λ frame. IsTrue (fits_h 2 frame.msg)) frames
-frames-each [] v f = All-nil (λ (frame : HFrame). IsTrue (fits_h 2 frame.msg))
-frames-each (frame ∷ frames) v f = All-cons (λ (x : HFrame). IsTrue (fits_h 2 x.msg)) frame frames f.1 (frames-each frames _ f.2)
-
 pub host_fits : (h g : PlainHost) (m : Tmesg) (frames : List HFrame) → IsSound h → answer h m ≡ Ok (g, frames) → All (λ frame. IsTrue (fits_h 2 frame.msg)) frames
-host_fits h g m frames s a = frames-each frames h.version (frames_fit h g m frames a s)
+host_fits h g m frames s a = fit_in_last h.version frames (frames_fit h g m frames a s)
 
 -- ## What each answer keeps of the host, each step keeps
 

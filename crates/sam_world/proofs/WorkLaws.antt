@@ -3,12 +3,12 @@ use Rattle.std.proofs.Common.{◌≡◌, ◌≢◌, ◌⊎◌, inl, inr, refl, s
 use Rattle.std.specs.Prelude.{MatchOption, nat_le, nat_lt, unwrap_or, option_map}
 use Rattle.std.proofs.lemmas.Bool.Decides.{eqb_tells}
 use Rattle.std.proofs.lemmas.Bool.{not-false}
-use Rattle.sam_runes.specs.Texts.{Range, all_tags, as_lines, ends_line, is_empty, last_line, max_runes, most_count, most_in_pattern, part, searched}
+use Rattle.sam_runes.specs.Texts.{Range, all_tags, as_lines, ends_line, is_empty, last_line, max_runes, most_count, part, searched}
 use Rattle.sam_runes.specs.Slots.{Slots, slot, free_slot}
 use Rattle.sam_runes.specs.Checks.{first_of_checks}
 use Rattle.sam_runes.proofs.CheckLaws.{none_holds}
 use Rattle.sam_runes.proofs.SlotLaws.{slot-put_same, slot-map, slot-free_other}
-use Rattle.sam_text.specs.Files.{PlainFile, PlainFiles, PlainOutcome, blank_file, file_at, put_file, typed_file, cut_file, pasted_file, has_room, after_print, put_outcome, committed, file_after, announced_file, announce_all, new_file, work_without, searched_for}
+use Rattle.sam_text.specs.Files.{PlainFile, PlainFiles, PlainOutcome, blank_file, file_at, put_file, typed_file, cut_file, pasted_file, has_room, after_print, put_outcome, committed, file_after, announced_file, announce_all, new_file, work_without, searched_for, may_look}
 use Rattle.sam_text.specs.Meaning.{meaning}
 use Rattle.sam_host.specs.Host.{PlainHost, Reply, Answer, given_file, answer, answer_unless, counted, stamped, host_checks, unknown, is_command, not_opened, no_range, no_tag_left, printed, with_file, with_files, reply_line, reply_found, reply_to, reply_version, reply_startcmdfile, reply_check, reply_request, reply_origin, reply_startfile, reply_workfile, reply_cut, reply_paste, reply_snarf, reply_startnewfile, reply_write, reply_close, reply_look, reply_search, reply_dclick, reply_startsnarf, reply_setsnarf, reply_exit, reply_type, reply_send}
 use Rattle.sam_host.specs.declared.fault.HostFault.{HostFault}
@@ -144,8 +144,8 @@ unfolding reply_look
 work-look h f p q w =
     let lit = part (file_at h.files f).text p q in
     let h2 = with_files h (record h.files { pattern = Some lit }) in
-    work-if (is_empty lit || nat_lt most_in_pattern (length lit)) (h, _) (reply_found h2 f (searched (file_at h.files f).text lit q) _) w
-    (work-found h2 f (searched (file_at h.files f).text lit q) _ w)
+    work-if (may_look lit) (reply_found h2 f (searched (file_at h.files f).text lit q) _) (h, _)
+    (work-found h2 f (searched (file_at h.files f).text lit q) _ w) w
 
 work-send : (h : PlainHost) (f p q : ℕ) → IsWorkOpen h.files → IsWorkOpen (reply_send h f p q).0.files
 unfolding reply_send

@@ -3,7 +3,7 @@ use Rattle.sam_mesg.specs.declared.tmesg.Tmesg.{Tmesg}
 use Rattle.sam_term.specs.declared.event.Acted.{Acted}
 use Rattle.sam_world.specs.World.{composed_by}
 use Rattle.sam_threads.specs.TermMoments.{SideView, Did}
-use Rattle.sam_threads.proofs.TermKeeping.{kept_done, kept_half, kept_silent}
+use Rattle.sam_threads.proofs.TermKeeping.{kept_done, kept_lost_messages, kept_silent}
 use Rattle.sam_threads.proofs.term_side.Side.act_once.Goals as goal
 
 pub invariant_of-self : goal.invariant_of-self
@@ -42,7 +42,7 @@ invariant_of-self-in-Err-push_all c =
     let running : is_some i.stop ≡ false = cc in
     let did : Did i.desk c.act.new.self [] [] c.as_slice.result.now = subst (λ (x : List Tmesg). Did i.desk c.act.new.self [] [] x)
     (sym c.as_slice.ensures) (subst (λ (x : Acted). Did i.desk c.act.new.self [] [] (composed_by x)) c.in-Ok-Done.field-0-is c.in-Ok-Done.ensures.acted) in
-    kept_half v c.act.new.self c.push_all.new.self.bytes c.as_slice.result.now c.self.invariant running did c.push_all.ensures.fit c.push_all.ensures.begun
+    kept_lost_messages v c.act.new.self c.push_all.new.self.bytes c.as_slice.result.now c.self.invariant running did c.push_all.ensures.fit c.in-Err-push_all.ensures.unchanged
 
 pub invariant_of-self-in-Ok-Refused : goal.invariant_of-self-in-Ok-Refused
 invariant_of-self-in-Ok-Refused c =

@@ -4,7 +4,7 @@ use Rattle.sam_mesg.specs.declared.tmesg.Tmesg.{Tmesg}
 use Rattle.sam_queue.specs.Views.{TakesNext}
 use Rattle.sam_threads.specs.Inputs.{user_of_load, frame_of_load}
 use Rattle.sam_threads.specs.TermMoments.{SideView, Did}
-use Rattle.sam_threads.proofs.TermTaking.{kept_item, kept_half_item, kept_keyboard, kept_mouse, kept_reader, kept_gone}
+use Rattle.sam_threads.proofs.TermTaking.{kept_item, kept_lost_item, kept_keyboard, kept_mouse, kept_reader, kept_gone}
 use Rattle.sam_threads.proofs.term_side.Side.take_next.Goals as goal
 
 pub invariant_of-self-in-0 : goal.invariant_of-self-in-0
@@ -99,8 +99,8 @@ invariant_of-self-in-Err-push_all g c =
     let running : is_some i.stop ≡ false = subst (λ (w : SideView). is_some w.stop ≡ false) (sym c.self.view_is) c.requires.running in
     let did : Did i.desk c.handle.new.self (user_of_load (Some c.in-Item.input)) (frame_of_load (Some c.in-Item.input)) c.as_slice.result.now =
     subst (λ (x : List Tmesg). Did i.desk c.handle.new.self (user_of_load (Some c.in-Item.input)) (frame_of_load (Some c.in-Item.input)) x) (sym c.as_slice.ensures) c.in-Ok.ensures.handled in
-    kept_half_item v c.try_recv.new.self c.in-Item.sender c.in-Item.input c.handle.new.self c.push_all.new.self.bytes
-    c.as_slice.result.now c.self.invariant running c.in-Item.ensures.answer did c.in-Ok.ensures.sender c.push_all.ensures.fit c.push_all.ensures.begun
+    kept_lost_item v c.try_recv.new.self c.in-Item.sender c.in-Item.input c.handle.new.self c.push_all.new.self.bytes
+    c.as_slice.result.now c.self.invariant running c.in-Item.ensures.answer did c.in-Ok.ensures.sender c.push_all.ensures.fit c.in-Err-push_all.ensures.unchanged
 
 pub invariant_of-self-then-not-exited : goal.invariant_of-self-then-not-exited
 invariant_of-self-then-not-exited g c =
