@@ -8,3 +8,10 @@ pub(crate) fn lent<T: Drop, A, F: FnOnce(&mut T) -> A>(value: T, body: F) -> A
     let mut value = value;
     body(&mut value)
 }
+
+/// What a look at the value tells. The value is then let go by one call, as at [`lent`].
+pub(crate) fn told_of<T: Drop, A, F: FnOnce(&T) -> A>(value: T, look: F) -> A
+    requires { F.IsAlwaysCallable look }
+{
+    look(&value)
+}

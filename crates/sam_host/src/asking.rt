@@ -49,10 +49,10 @@ impl Host {
             return Err(HostFault::NoFile);
         }
         let mut frames = Vec::new(self.alloc);
-        if !self.has(f) {
+        if !self.files.has(f) {
             return Ok(frames);
         }
-        if !self.is_open(f) {
+        if !self.files.is_open(f) {
             return Err(HostFault::NotOpen);
         }
         let len = self.text_len(f);

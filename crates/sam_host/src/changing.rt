@@ -94,7 +94,7 @@ impl Host {
     {
         self.wants_place(f, p)?;
         let len = self.files.snarf_text().len();
-        if len == 0 || self.passes_limit(f, len) {
+        if len == 0 || self.files.passes_limit(f, len) {
             let mut frames = Vec::new(self.alloc);
             self.say(&mut frames, Hmesg::Hunlockfile(f))?;
             return Ok(frames);

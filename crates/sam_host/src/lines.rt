@@ -127,7 +127,7 @@ impl Host {
             (when (not (is_empty edits.now) && not (file_at self.now.files f).dirty) (Hmesg.Hdirty f ∷ []))) }
         ensures memory { OnErr result (result ≡ Err HostFault.OutOfMemory) }
     {
-        if edits.is_empty() || self.is_dirty(f) {
+        if edits.is_empty() || self.files.is_dirty(f) {
             return Ok(());
         }
         self.say(frames, Hmesg::Hdirty(f))
@@ -434,7 +434,7 @@ impl Host {
         ensures unchanged { OnErr result (self.new ≡ self.old) }
     {
         self.wants_place(f, p)?;
-        if self.passes_limit(f, runes.len()) {
+        if self.files.passes_limit(f, runes.len()) {
             return Err(HostFault::TooLong);
         }
         if f == 0 && ends_line(runes.as_slice()) {
@@ -512,7 +512,7 @@ impl Host {
             return Ok(frames);
         }
         let lines = self.lines_of(f, p, q)?;
-        if self.passes_limit(0, lines.len()) {
+        if self.files.passes_limit(0, lines.len()) {
             let frames = self.nothing_sent()?;
             return Ok(frames);
         }

@@ -79,7 +79,7 @@ impl Host {
     {
         self.files.known();
         let mut frames = Vec::new(self.alloc);
-        if self.is_open(0) {
+        if self.files.is_open(0) {
             self.say(&mut frames, Hmesg::Hunlock)?;
             return Ok(frames);
         }
@@ -101,7 +101,7 @@ impl Host {
             (when (not (file_at self.now.files f).opened) (Hmesg.Hbindname f ∷ told_length f (file_at self.now.files f)))) }
         ensures memory { OnErr result (result ≡ Err HostFault.OutOfMemory) }
     {
-        if self.is_open(f) {
+        if self.files.is_open(f) {
             return Ok(());
         }
         self.say(frames, Hmesg::Hbindname(f))?;

@@ -1,6 +1,6 @@
 //! What the host reads of its files, and the tests of a message's tag and places that several kinds share.
 
-ghost use Rattle.std.specs.Prelude.{◌≡◌, ◌≤◌, ◌+◌, ◌∷◌, [], ◌==◌, IfOk, OnOk, OnErr, Err, true, false, length, nat_lt};
+ghost use Rattle.std.specs.Prelude.{◌≡◌, ◌≤◌, ◌∷◌, [], ◌==◌, IfOk, OnOk, OnErr, Err, true, false, length};
 ghost use Rattle.sam_host.specs.Host.{unknown, is_command, not_opened, past_end, no_range};
 ghost use Rattle.sam_runes.specs.Texts.{max_runes, part};
 ghost use Rattle.sam_runes.specs.Checks.{first_of_checks, unless};
@@ -11,40 +11,12 @@ use crate::host::Host;
 use sam_runes::Runes;
 
 impl Host {
-    /// Returns whether the tag has a file.
-    pub(crate) fn has(&self, f: u16) -> bool
-        ensures { result ≡ has_file self.now.files f }
-    {
-        self.files.has(f)
-    }
-
-    /// Returns whether the terminal has a window on the file; false if there is no file.
-    pub(crate) fn is_open(&self, f: u16) -> bool
-        ensures { result ≡ (file_at self.now.files f).opened }
-    {
-        self.files.is_open(f)
-    }
-
-    /// Returns whether the file was changed since it was written or made; false if there is no file.
-    pub(crate) fn is_dirty(&self, f: u16) -> bool
-        ensures { result ≡ (file_at self.now.files f).dirty }
-    {
-        self.files.is_dirty(f)
-    }
-
     /// Returns how many runes the text of the file has: at most `MAX_RUNES`, and 0 if there is no file.
     pub(crate) fn text_len(&self, f: u16) -> u32
         ensures len { result ≡ length (file_at self.now.files f).text }
         ensures limit { length (file_at self.now.files f).text ≤ max_runes }
     {
         self.files.text_len(f) as u32
-    }
-
-    /// Returns whether the text of the file and `n` more runes together are more than `MAX_RUNES`.
-    pub(crate) fn passes_limit(&self, f: u16, n: usize) -> bool
-        ensures { result ≡ nat_lt max_runes (length (file_at self.now.files f).text + n) }
-    {
-        self.files.passes_limit(f, n)
     }
 
     /// Copies what stands in the file from place `p` to place `q`. The only error is `OutOfMemory`.
@@ -63,7 +35,7 @@ impl Host {
         ensures there { OnOk result (has_file self.now.files f ≡ true) }
         ensures other { OnOk result ((f == 0) ≡ false) }
     {
-        if !self.has(f) {
+        if !self.files.has(f) {
             return Err(HostFault::NoFile);
         }
         if f == 0 {
@@ -77,10 +49,10 @@ impl Host {
         ensures answer { result ≡ unless (first_of_checks (unknown self.now f ∷ not_opened self.now f ∷ [])) tt }
         ensures there { OnOk result (has_file self.now.files f ≡ true) }
     {
-        if !self.has(f) {
+        if !self.files.has(f) {
             return Err(HostFault::NoFile);
         }
-        if !self.is_open(f) {
+        if !self.files.is_open(f) {
             return Err(HostFault::NotOpen);
         }
         Ok(())

@@ -40,7 +40,7 @@ impl Host {
         ensures ok { OnOk result (Tells self.now frames.old.items frames.new.items (grown self.now.files f p runes.now)) }
         ensures memory { OnErr result (result ≡ Err HostFault.OutOfMemory) }
     {
-        if !self.is_open(f) || runes.is_empty() {
+        if !self.files.is_open(f) || runes.is_empty() {
             return Ok(());
         }
         if runes.len() > MOST_IN_MESSAGE {
@@ -57,7 +57,7 @@ impl Host {
         ensures ok { OnOk result (Tells self.now frames.old.items frames.new.items (told_dirty self.now.files f)) }
         ensures memory { OnErr result (result ≡ Err HostFault.OutOfMemory) }
     {
-        if self.is_dirty(f) || f == 0 {
+        if self.files.is_dirty(f) || f == 0 {
             return Ok(());
         }
         self.say(frames, Hmesg::Hdirty(f))
@@ -100,10 +100,10 @@ impl Host {
         ensures memory { OnErr result (result ≡ Err HostFault.OutOfMemory) }
     {
         let len = self.text_len(0);
-        if runes.len() == 0 || self.passes_limit(0, runes.len()) {
+        if runes.len() == 0 || self.files.passes_limit(0, runes.len()) {
             return Ok(());
         }
-        if !self.is_open(0) {
+        if !self.files.is_open(0) {
             return Ok(());
         }
         self.grown(frames, 0, len, runes)?;

@@ -3,6 +3,8 @@
 #![tactic(auto)]
 
 #[cfg(test)]
+mod lending;
+#[cfg(test)]
 mod modes;
 #[cfg(test)]
 mod threads;

@@ -1,11 +1,11 @@
 //! The program's words, and rows of input with their output, over readers and writers that give little, or fail.
+use crate::lending::told_of;
 use sam_runes::Runes;
 use sam_session::{ArgFault, Mode, PlayFault, Stop, mode_of, play, play_bytes, status_of};
 use std::alloc::{AllocError, Global};
 use std::io;
 use std::io::{ErrorKind, Read, Write};
 use std::sync::Wait;
-use std::test::Fail;
 use std::thread::Threads;
 
 /// The words of a line, parted by `|`.
@@ -17,10 +17,36 @@ fn words_of(alloc: Global, line: &str) -> Result<Vec<String>, AllocError> {
     Ok(words)
 }
 
+/// The mode that the words of the line name.
+fn mode_of_line(alloc: Global, line: &str) -> Result<Mode, ArgFault> {
+    mode_of(alloc, words_of(alloc, line)?)
+}
+
+/// Whether the words name the mode of bytes with this text, or with none are wrong.
+fn is_bytes(mode: &Result<Mode, ArgFault>, text: Option<&str>) -> bool {
+    match (mode, text) {
+        (Ok(Mode::Bytes(runes)), Some(text)) => {
+            runes.as_slice().iter().copied().eq(text.chars())
+        }
+        (Err(fault), None) => *fault == ArgFault::Wrong,
+        _ => false,
+    }
+}
+
+/// The first of the lines, each with the text of its mode, whose words name another.
+fn wrong_bytes<'a>(alloc: Global, rows: &[(&'a str, Option<&str>)]) -> Option<&'a str> {
+    for row in rows {
+        let (line, text) = *row;
+        if !told_of(mode_of_line(alloc, line), |mode| is_bytes(mode, text)) {
+            return Some(line);
+        }
+    }
+    None
+}
+
 #[test]
-fn words_name_a_mode(rt: HostRuntime) -> Result<(), Fail> {
-    let alloc = rt.alloc();
-    let wanted = [
+fn words_name_a_mode(rt: HostRuntime) {
+    const ROWS: &[(&str, Option<&str>)] = &[
         ("sam_play|bytes", Some("")),
         ("sam_play|bytes|--text|hello", Some("hello")),
         ("sam_play|bytes|--text=-x", Some("-x")),
@@ -35,23 +61,32 @@ fn words_name_a_mode(rt: HostRuntime) -> Result<(), Fail> {
         ("sam_play|bytes|--text|a|--text|b", None),
         ("sam_play", None),
     ];
-    for (line, text) in wanted {
-        match (mode_of(alloc, words_of(alloc, line)?), text) {
-            (Ok(Mode::Bytes(runes)), Some(text)) => {
-                let expected: Vec<char> = text.chars().collect(alloc)?;
-                assert_eq!(rt; runes.as_slice(), expected.as_slice(), "{line}");
-            }
-            (Err(fault), None) => assert_eq!(rt; fault, ArgFault::Wrong, "{line}"),
-            _ => return Err(Fail::from(line)),
+    assert_eq!(rt; wrong_bytes(rt.alloc(), ROWS), None);
+}
+
+/// Whether the words name the mode of threads with these numbers, or with none are wrong.
+fn is_threads(mode: &Result<Mode, ArgFault>, numbers: Option<(usize, usize)>) -> bool {
+    match (mode, numbers) {
+        (Ok(Mode::Threads(piece, capacity)), Some(numbers)) => (*piece, *capacity) == numbers,
+        (Err(fault), None) => *fault == ArgFault::Wrong,
+        _ => false,
+    }
+}
+
+/// The first of the lines, each with the numbers of its mode, whose words name another.
+fn wrong_threads<'a>(alloc: Global, rows: &[(&'a str, Option<(usize, usize)>)]) -> Option<&'a str> {
+    for row in rows {
+        let (line, numbers) = *row;
+        if !told_of(mode_of_line(alloc, line), |mode| is_threads(mode, numbers)) {
+            return Some(line);
         }
     }
-    Ok(())
+    None
 }
 
 #[test]
-fn the_words_of_threads(rt: HostRuntime) -> Result<(), Fail> {
-    let alloc = rt.alloc();
-    let wanted = [
+fn the_words_of_threads(rt: HostRuntime) {
+    const ROWS: &[(&str, Option<(usize, usize)>)] = &[
         ("sam_play|threads", Some((64, 16))),
         ("sam_play|threads|--piece|1|--cap|1", Some((1, 1))),
         (
@@ -67,21 +102,22 @@ fn the_words_of_threads(rt: HostRuntime) -> Result<(), Fail> {
         ("sam_play|threads|--cap|99999999999999999999", None),
         ("sam_play|threads|64", None),
     ];
-    for (line, numbers) in wanted {
-        match (mode_of(alloc, words_of(alloc, line)?), numbers) {
-            (Ok(Mode::Threads(piece, capacity)), Some(numbers)) => {
-                assert_eq!(rt; (piece, capacity), numbers, "{line}");
-            }
-            (Err(fault), None) => assert_eq!(rt; fault, ArgFault::Wrong, "{line}"),
-            _ => return Err(Fail::from(line)),
+    assert_eq!(rt; wrong_threads(rt.alloc(), ROWS), None);
+}
+
+/// The number of the first end, counted from 0, that has another status.
+fn wrong_status(rows: &[(Result<(), PlayFault>, u8)]) -> Option<usize> {
+    for (at, row) in rows.iter().enumerate() {
+        if status_of(&row.0) != row.1 {
+            return Some(at);
         }
     }
-    Ok(())
+    None
 }
 
 #[test]
 fn each_end_has_its_status(rt: HostRuntime) {
-    let wanted = [
+    const ROWS: &[(Result<(), PlayFault>, u8)] = &[
         (Ok(()), 0),
         (Err(PlayFault::Script(7)), 1),
         (Err(PlayFault::Side(Stop::PeerGone)), 3),
@@ -90,9 +126,7 @@ fn each_end_has_its_status(rt: HostRuntime) {
         (Err(PlayFault::Read), 5),
         (Err(PlayFault::Write), 5),
     ];
-    for (end, status) in wanted {
-        assert_eq!(rt; status_of(&end), status);
-    }
+    assert_eq!(rt; wrong_status(ROWS), None);
 }
 
 /// Gives one byte a read, and fails at its nth read, counted from 0.
@@ -175,9 +209,8 @@ impl Read for Full {
     }
 }
 
-/// The bytes of a row, written as hexadecimal digits and blanks.
-fn bytes_of(alloc: Global, row: &str) -> Result<Vec<u8>, Fail> {
-    let mut bytes = Vec::new(alloc);
+/// Puts the bytes of a row, written as hexadecimal digits and blanks, behind the others.
+fn push_row(bytes: &mut Vec<u8>, row: &str) -> Result<(), AllocError> {
     let mut high: Option<u8> = None;
     for c in row.chars() {
         let Some(digit) = c.to_digit(16) else {
@@ -191,24 +224,98 @@ fn bytes_of(alloc: Global, row: &str) -> Result<Vec<u8>, Fail> {
             }
         }
     }
+    Ok(())
+}
+
+/// The bytes of both rows.
+fn bytes_of(alloc: Global, row: &str, more: &str) -> Result<Vec<u8>, AllocError> {
+    let mut bytes = Vec::new(alloc);
+    push_row(&mut bytes, row)?;
+    push_row(&mut bytes, more)?;
     Ok(bytes)
+}
+
+/// What the program writes, with its end.
+type Played = (Vec<u8>, Result<(), PlayFault>);
+
+/// The text of the host's file.
+const TEXT: [char; 5] = ['h', 'e', 'l', 'l', 'o'];
+
+/// Plays the bytes, which are all there at the first read.
+fn played_at_once(alloc: Global, bytes: &[u8]) -> Played {
+    let mut reader = bytes;
+    let mut writer = Vec::new(alloc);
+    let end = play_bytes(alloc, &mut reader, &mut writer, &TEXT);
+    (writer, end)
+}
+
+/// Plays the bytes by their mode, where each read gives one.
+fn played_by_bytes<T: Threads + Wait + Sync>(
+    rt: &T,
+    alloc: Global,
+    bytes: &[u8],
+) -> Result<Played, AllocError> {
+    let mode = Mode::Bytes(Runes::from_slice(alloc, &TEXT)?);
+    let mut drip = Drip {
+        bytes,
+        fails_at: 100,
+    };
+    let mut writer = Vec::new(alloc);
+    let end = play(rt, alloc, &mut drip, &mut writer, mode);
+    Ok((writer, end))
+}
+
+/// Whether the bytes are what was written.
+fn is_written(played: Played, bytes: &[u8]) -> (bool, Result<(), PlayFault>) {
+    let (written, end) = played;
+    (written.as_slice() == bytes, end)
+}
+
+/// For both ways of playing whether the rows of output come of the row of input, and the end.
+fn answers<T: Threads + Wait + Sync>(
+    rt: &T,
+    alloc: Global,
+    input: &str,
+    output: [&str; 2],
+) -> Result<[(bool, Result<(), PlayFault>); 2], AllocError> {
+    let input = bytes_of(alloc, input, "")?;
+    let output = bytes_of(alloc, output[0], output[1])?;
+    let by_bytes = played_by_bytes(rt, alloc, input.as_slice())?;
+    Ok([
+        is_written(played_at_once(alloc, input.as_slice()), output.as_slice()),
+        is_written(by_bytes, output.as_slice()),
+    ])
 }
 
 const ROW: &str = "0600020001 0400080001000000000003";
 
+/// The input, the output, and the end.
+type Row<'a> = (&'a str, [&'a str; 2], Result<(), PlayFault>);
+
+/// The number of the first row, counted from 0, that is answered otherwise.
+fn wrong_row<T: Threads + Wait + Sync>(rt: &T, alloc: Global, rows: &[Row<'_>]) -> Option<usize> {
+    for (at, row) in rows.iter().enumerate() {
+        let (input, output, end) = *row;
+        if answers(rt, alloc, input, output) != Ok([(true, end), (true, end)]) {
+            return Some(at);
+        }
+    }
+    None
+}
+
 #[test]
-fn rows_of_frames(rt: HostRuntime) -> Result<(), Fail> {
-    let alloc = rt.alloc();
-    let opened =
+fn rows_of_frames(rt: HostRuntime) {
+    const OPENED: &str =
         "42000A 0000000000000001 0001 460012 0000000000000001 0001 00000000 00000005 480008 0000000000000001";
-    let read = "490011 0000000000000002 0001 00000000 68656C 4B000A 0000000000000002 0001";
-    let typed = "490014 0000000000000003 0001 00000000 68656C6C6F21 4B000A 0000000000000003 0001";
-    let version =
+    const READ: &str = "490011 0000000000000002 0001 00000000 68656C 4B000A 0000000000000002 0001";
+    const TYPED: &str =
+        "490014 0000000000000003 0001 00000000 68656C6C6F21 4B000A 0000000000000003 0001";
+    const VERSION: &str =
         "41000A 0000000000000001 0001 44000A 0000000000000001 0001 45000E 0000000000000001 0001 66696C65 \
          570008 0000000000000001 480008 0000000000000001";
-    let wanted: [(&str, [&str; 2], Result<(), PlayFault>); 13] = [
+    const ROWS: &[Row<'static>] = &[
         ("", ["", ""], Ok(())),
-        (ROW, [opened, read], Ok(())),
+        (ROW, [OPENED, READ], Ok(())),
         ("0600020005", ["", ""], Err(PlayFault::Side(Stop::Host(1)))),
         ("0600020000", ["", ""], Err(PlayFault::Side(Stop::Host(8)))),
         (
@@ -218,116 +325,111 @@ fn rows_of_frames(rt: HostRuntime) -> Result<(), Fail> {
         ),
         (
             "0600020001 080007 0001 00000005 21 0400080001000000000009",
-            [opened, typed],
+            [OPENED, TYPED],
             Ok(()),
         ),
         (
             "0600020001 080007 0001 00000006 21 0400080001000000000009",
-            [opened, ""],
+            [OPENED, ""],
             Err(PlayFault::Side(Stop::Host(3))),
         ),
-        ("0100020001", [version, ""], Ok(())),
+        ("0100020001", [VERSION, ""], Ok(())),
         ("0100020000", ["", ""], Err(PlayFault::Side(Stop::Host(5)))),
         ("160000 0600020009", ["580008 0000000000000001", ""], Ok(())),
         ("06000200", ["", ""], Err(PlayFault::Side(Stop::Frame(4)))),
         (
             "0600020001 17",
-            [opened, ""],
+            [OPENED, ""],
             Err(PlayFault::Side(Stop::Frame(1))),
         ),
         (
             "0600020001 0600020005 17",
-            [opened, ""],
+            [OPENED, ""],
             Err(PlayFault::Side(Stop::Host(1))),
         ),
     ];
-    let hello: Vec<char> = "hello".chars().collect(alloc)?;
-    for (input, output, end) in wanted {
-        let input = bytes_of(alloc, input)?;
-        let mut expected = bytes_of(alloc, output[0])?;
-        expected.extend_from_slice(&bytes_of(alloc, output[1])?)?;
-        let mut reader = input.as_slice();
-        let mut writer = Vec::new(alloc);
-        assert_eq!(rt;
-            play_bytes(alloc, &mut reader, &mut writer, hello.as_slice()),
-            end
-        );
-        assert_eq!(rt; writer.as_slice(), expected.as_slice());
-        let mut drip = Drip {
-            bytes: input.as_slice(),
-            fails_at: 100,
-        };
-        let mut writer = Vec::new(alloc);
-        let mode = Mode::Bytes(Runes::from_slice(alloc, hello.as_slice())?);
-        assert_eq!(rt; play(&rt, alloc, &mut drip, &mut writer, mode), end);
-        assert_eq!(rt; writer.as_slice(), expected.as_slice());
+    assert_eq!(rt; wrong_row(&rt, rt.alloc(), ROWS), None);
+}
+
+/// The end where the nth read fails, counted from 0.
+fn end_of_read(alloc: Global, bytes: &[u8], fails_at: usize) -> Result<(), PlayFault> {
+    let mut drip = Drip { bytes, fails_at };
+    let mut writer = Vec::new(alloc);
+    play_bytes(alloc, &mut drip, &mut writer, &[])
+}
+
+/// The end where the nth write fails, counted from 0.
+fn end_of_write(alloc: Global, bytes: &[u8], fails_at: usize) -> Result<(), PlayFault> {
+    let mut reader = bytes;
+    play_bytes(alloc, &mut reader, &mut Cut { fails_at }, &[])
+}
+
+/// Whether each read that fails, and each write, is the end.
+fn ends_at_failures(alloc: Global) -> Result<bool, AllocError> {
+    let input = bytes_of(alloc, ROW, "")?;
+    let bytes = input.as_slice();
+    for fails_at in 0..17 {
+        if end_of_read(alloc, bytes, fails_at) != Err(PlayFault::Read) {
+            return Ok(false);
+        }
     }
-    Ok(())
+    for fails_at in 0..2 {
+        if end_of_write(alloc, bytes, fails_at) != Err(PlayFault::Write) {
+            return Ok(false);
+        }
+    }
+    Ok(true)
 }
 
 #[test]
-fn a_failed_read_and_a_failed_write(rt: HostRuntime) -> Result<(), Fail> {
-    let alloc = rt.alloc();
-    let input = bytes_of(alloc, ROW)?;
-    for fails_at in 0..17 {
-        let mut drip = Drip {
-            bytes: input.as_slice(),
-            fails_at,
-        };
-        let mut writer = Vec::new(alloc);
-        assert_eq!(rt;
-            play_bytes(alloc, &mut drip, &mut writer, &[]),
-            Err(PlayFault::Read),
-            "at {fails_at}"
-        );
-    }
-    for fails_at in 0..2 {
-        let mut reader = input.as_slice();
-        assert_eq!(rt;
-            play_bytes(alloc, &mut reader, &mut Cut { fails_at }, &[]),
-            Err(PlayFault::Write),
-            "at {fails_at}"
-        );
-    }
-    Ok(())
+fn a_failed_read_and_a_failed_write(rt: HostRuntime) {
+    assert_eq!(rt; ends_at_failures(rt.alloc()), Ok(true));
+}
+
+/// The end of an input of so many bytes.
+fn end_of_full(alloc: Global, len: usize) -> Result<(), PlayFault> {
+    let mut sink = Cut {
+        fails_at: usize::MAX,
+    };
+    let mut input = Full { given: 0, len };
+    play_bytes(alloc, &mut input, &mut sink, &[])
 }
 
 #[test]
 fn one_byte_too_many(rt: HostRuntime) {
-    let alloc = rt.alloc();
-    let mut sink = Cut {
-        fails_at: usize::MAX,
-    };
-    let mut most = Full {
-        given: 0,
-        len: 16_777_216,
-    };
-    assert_eq!(rt; play_bytes(alloc, &mut most, &mut sink, &[]), Ok(()));
-    let mut more = Full {
-        given: 0,
-        len: 16_777_217,
-    };
-    assert_eq!(rt;
-        play_bytes(alloc, &mut more, &mut sink, &[]),
-        Err(PlayFault::Read)
-    );
+    assert_eq!(rt; end_of_full(rt.alloc(), 16_777_216), Ok(()));
+    assert_eq!(rt; end_of_full(rt.alloc(), 16_777_217), Err(PlayFault::Read));
 }
 
 /// What the program prints of a script, with its end.
-fn replayed<T: Threads + Wait + Sync>(
-    rt: &T,
-    alloc: Global,
-    script: &str,
-) -> (Vec<u8>, Result<(), PlayFault>) {
+fn replayed<T: Threads + Wait + Sync>(rt: &T, alloc: Global, script: &str) -> Played {
     let mut reader = script.as_bytes();
     let mut writer = Vec::new(alloc);
     let end = play(rt, alloc, &mut reader, &mut writer, Mode::Replay);
     (writer, end)
 }
 
+/// A script, what is printed of it, and its end.
+type Replayed<'a> = (&'a str, &'a str, Result<(), PlayFault>);
+
+/// The first script of which something else is printed, or whose end is another.
+fn wrong_script<'a, T: Threads + Wait + Sync>(
+    rt: &T,
+    alloc: Global,
+    rows: &[Replayed<'a>],
+) -> Option<&'a str> {
+    for row in rows {
+        let (script, printed, end) = *row;
+        if is_written(replayed(rt, alloc, script), printed.as_bytes()) != (true, end) {
+            return Some(script);
+        }
+    }
+    None
+}
+
 #[test]
 fn scripts_and_what_they_print(rt: HostRuntime) {
-    let wanted = [
+    const ROWS: &[Replayed<'static>] = &[
         ("", "", Ok(())),
         ("host\n", "= fault script 1\n", Err(PlayFault::Script(1))),
         (
@@ -362,16 +464,12 @@ fn scripts_and_what_they_print(rt: HostRuntime) {
             Ok(()),
         ),
     ];
-    for (script, printed, end) in wanted {
-        let (written, ended) = replayed(&rt, rt.alloc(), script);
-        assert_eq!(rt; ended, end, "{script}");
-        assert_eq!(rt; written.as_slice(), printed.as_bytes(), "{script}");
-    }
+    assert_eq!(rt; wrong_script(&rt, rt.alloc(), ROWS), None);
 }
 
 #[test]
-fn the_word_of_a_replay(rt: HostRuntime) -> Result<(), Fail> {
-    let mode = mode_of(rt.alloc(), words_of(rt.alloc(), "sam_play|replay")?);
-    assert!(rt; matches!(mode, Ok(Mode::Replay)));
-    Ok(())
+fn the_word_of_a_replay(rt: HostRuntime) {
+    let mode = mode_of_line(rt.alloc(), "sam_play|replay");
+    let is_replay = told_of(mode, |mode| matches!(mode, Ok(Mode::Replay)));
+    assert!(rt; is_replay);
 }

@@ -1,6 +1,7 @@
 //! Sessions of five threads: what they print, what their gates stop, and that their schedules replay.
 ghost use Rattle.std.specs.Prelude.{◌<◌};
 
+use crate::lending::{lent, told_of};
 use sam_script::{Script, first_world, show};
 use sam_session::{
     FlagGate, Gate, Mode, OpenGate, PlayFault, RunFault, Settled, Stop, play, run_threads,
@@ -142,10 +143,10 @@ fn leads(alloc: Global, world: &mut World, settled: &Settled) -> bool {
 
 /// Whether the schedule, run from the files of the script, shows what the settled world shows.
 fn replays(alloc: Global, script: &Script, settled: &Settled) -> bool {
-    match first_world(alloc, script.files()) {
-        Ok(mut world) => leads(alloc, &mut world, settled),
+    lent(first_world(alloc, script.files()), |first| match first {
+        Ok(world) => leads(alloc, world, settled),
         Err(_) => false,
-    }
+    })
 }
 
 /// Whether a session of this script, so stopped, replays.
@@ -155,10 +156,11 @@ fn stopped_replays<T: Threads + Wait + Sync, G: Gate>(
     script: &Script,
     gate: &G,
 ) -> bool {
-    match run_threads(rt, alloc, script, 1, 1, gate) {
-        Ok(settled) => replays(alloc, script, &settled),
+    let came_to = run_threads(rt, alloc, script, 1, 1, gate);
+    told_of(came_to, |came_to| match came_to {
+        Ok(settled) => replays(alloc, script, settled),
         Err(_) => false,
-    }
+    })
 }
 
 /// Whether a session of this text, stopped at the worker's nth item for each of three n, replays.
@@ -166,9 +168,12 @@ fn stops_replay<T: Threads + Wait + Sync>(rt: &T, alloc: Global, worker: usize) 
     let Ok(script) = Script::read(alloc, HELLO.as_bytes()) else {
         return false;
     };
-    stopped_replays(rt, alloc, &script, &StopsAt { worker, handled: 0 })
-        && stopped_replays(rt, alloc, &script, &StopsAt { worker, handled: 1 })
-        && stopped_replays(rt, alloc, &script, &StopsAt { worker, handled: 2 })
+    for handled in 0..3 {
+        if !stopped_replays(rt, alloc, &script, &StopsAt { worker, handled }) {
+            return false;
+        }
+    }
+    true
 }
 
 /// Whether the host was stopped before its first message, which is under way.
@@ -193,14 +198,19 @@ fn takes_nothing(schedule: &[Event]) -> bool {
 #[test]
 fn five_workers_are_up_together(rt: HostRuntime) {
     let came_to = settled(&rt, rt.alloc(), HELLO, &FlagGate::new(100_000_000));
-    assert!(rt; matches!(came_to, Some(Ok(_))));
+    let is_settled = told_of(came_to, |came_to| matches!(came_to, Some(Ok(_))));
+    assert!(rt; is_settled);
 }
 
 #[test]
 fn a_worker_that_may_not_begin_times_out(rt: HostRuntime) {
     for worker in 0..5 {
         let came_to = settled(&rt, rt.alloc(), HELLO, &Bars { worker });
-        assert!(rt; matches!(came_to, Some(Err(RunFault::GateTimedOut))));
+        let has_timed_out = told_of(
+            came_to,
+            |came_to| matches!(came_to, Some(Err(RunFault::GateTimedOut))),
+        );
+        assert!(rt; has_timed_out, "worker {worker}");
     }
 }
 
@@ -219,20 +229,22 @@ fn a_host_stopped_at_once_leaves_its_message_under_way(rt: HostRuntime) {
         handled: 0,
     };
     let script = "file a x\nk version 1\nk exit\n";
-    let has_stopped = match settled(&rt, rt.alloc(), script, &gate) {
-        Some(Ok(came_to)) => {
-            has_stopped_at_once(&came_to) && takes_nothing(came_to.schedule.as_slice())
+    let came_to = settled(&rt, rt.alloc(), script, &gate);
+    let has_stopped = told_of(came_to, |came_to| match came_to {
+        Some(Ok(settled)) => {
+            has_stopped_at_once(settled) && takes_nothing(settled.schedule.as_slice())
         }
         _ => false,
-    };
+    });
     assert!(rt; has_stopped);
 }
 
 #[test]
 fn an_open_gate_stops_nobody(rt: HostRuntime) {
-    let is_quiet = match settled(&rt, rt.alloc(), HELLO, &OpenGate) {
-        Some(Ok(came_to)) => came_to.stops.is_empty() && came_to.world.quiet(),
+    let came_to = settled(&rt, rt.alloc(), HELLO, &OpenGate);
+    let is_quiet = told_of(came_to, |came_to| match came_to {
+        Some(Ok(settled)) => settled.stops.is_empty() && settled.world.quiet(),
         _ => false,
-    };
+    });
     assert!(rt; is_quiet);
 }

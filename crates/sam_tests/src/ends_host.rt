@@ -1,8 +1,9 @@
 //! A host behind a stream of bytes: its answers are those of the table at the end of docs/PROTOCOL.md.
 
+use crate::lending::lent;
 use sam_ends::{EndFault, HostEnd, HostStop, OpenFault, StreamFault};
 use sam_host::HostFault;
-use std::alloc::Global;
+use std::alloc::{AllocError, Global};
 use std::test::Fail;
 
 /// Tversion(2), Tack, Tstartfile(1), Trequest(1, 0, 3).
@@ -27,16 +28,19 @@ const WRITTEN: [u8; 20] = [
     0x06, 0, 2, 0, 1, 0x08, 0, 7, 0, 1, 0, 0, 0, 5, 0x21, 0x0d, 0, 2, 0, 1,
 ];
 
-/// A host end with the files `file`, of the text `hello`, and `b`, of the text `x`.
-fn two_files(alloc: Global) -> Result<HostEnd, Fail> {
-    let mut end = HostEnd::new(alloc)?;
-    let first = end.add_file(b"file", b"hello").ok().ok_or("file")?;
-    let second = end.add_file(b"b", b"x").ok().ok_or("b")?;
-    if first == 1 && second == 2 {
-        Ok(end)
-    } else {
-        Err(Fail::from("other tags"))
-    }
+/// Adds a file.
+fn adds(end: &mut HostEnd, name: &[u8], text: &[u8]) -> Result<u16, OpenFault> {
+    end.add_file(name, text)
+}
+
+/// Feeds a piece.
+fn feeds(end: &mut HostEnd, piece: &[u8]) -> Result<(), EndFault<HostStop>> {
+    end.feed(piece)
+}
+
+/// Adds the files `file`, of the text `hello`, and `b`, of the text `x`. Whether they get the tags 1 and 2.
+fn adds_two(end: &mut HostEnd) -> bool {
+    adds(end, b"file", b"hello") == Ok(1) && adds(end, b"b", b"x") == Ok(2)
 }
 
 /// Feeds the bytes one at a time.
@@ -48,7 +52,7 @@ fn feed_bytes(end: &mut HostEnd, bytes: &[u8]) -> Result<(), EndFault<HostStop>>
 }
 
 /// What waits for the terminal, taken in pieces of seven bytes.
-fn take_all(alloc: Global, end: &mut HostEnd) -> Result<Vec<u8>, Fail> {
+fn take_all(alloc: Global, end: &mut HostEnd) -> Result<Vec<u8>, AllocError> {
     let mut taken = Vec::new(alloc);
     for _ in 0..end.pending() {
         let mut piece = [0; 7];
@@ -56,6 +60,11 @@ fn take_all(alloc: Global, end: &mut HostEnd) -> Result<Vec<u8>, Fail> {
         taken.extend_from_slice(&piece[..count])?;
     }
     Ok(taken)
+}
+
+/// Whether just these bytes wait for the terminal; they are taken.
+fn gives(alloc: Global, end: &mut HostEnd, bytes: &[u8]) -> Result<bool, AllocError> {
+    Ok(take_all(alloc, end)?.as_slice() == bytes)
 }
 
 /// Adds files with no name and no text until one is refused.
@@ -70,65 +79,84 @@ fn fill(end: &mut HostEnd) -> Result<u16, OpenFault> {
 #[test]
 fn a_stream_is_answered(rt: HostRuntime) -> Result<(), Fail> {
     let alloc = rt.alloc();
-    let mut end = two_files(alloc)?;
-    assert_eq!(rt; feed_bytes(&mut end, &ASKED), Ok(()));
-    assert_eq!(rt; end.is_idle(), true);
-    assert_eq!(rt; take_all(alloc, &mut end)?.as_slice(), ANSWERED.as_slice());
-    assert_eq!(rt; end.host().taken(), 4);
+    let told = lent(HostEnd::new(alloc)?, |end| {
+        (
+            adds_two(end),
+            feed_bytes(end, &ASKED),
+            end.is_idle(),
+            gives(alloc, end, &ANSWERED),
+            end.host().taken(),
+        )
+    });
+    assert_eq!(rt; told, (true, Ok(()), true, Ok(true), 4));
     Ok(())
 }
 
 #[test]
 fn a_write_is_told_once(rt: HostRuntime) -> Result<(), Fail> {
-    let alloc = rt.alloc();
-    let mut end = two_files(alloc)?;
-    assert_eq!(rt; end.feed(&WRITTEN), Ok(()));
-    assert_eq!(rt; end.next_write(), Some(1));
-    assert_eq!(rt; end.next_write(), None);
+    let told = lent(HostEnd::new(rt.alloc())?, |end| {
+        (
+            adds_two(end),
+            feeds(end, &WRITTEN),
+            (end.next_write(), end.next_write()),
+        )
+    });
+    assert_eq!(rt; told, (true, Ok(()), (Some(1), None)));
     Ok(())
 }
 
 #[test]
 fn a_wrong_stream_stops_the_end(rt: HostRuntime) -> Result<(), Fail> {
-    let alloc = rt.alloc();
-    let mut end = two_files(alloc)?;
-    // Tversion(2), and a kind that there is none of
-    let why = HostStop::Stream(StreamFault::BadKind);
-    assert_eq!(rt;
-        end.feed(&[0x01, 0, 2, 0, 2, 0xFF]),
-        Err(EndFault::Stopped(why))
-    );
-    assert_eq!(rt; end.pending(), 92);
-    assert_eq!(rt; end.feed(&[]), Err(EndFault::Stopped(why)));
+    let told = lent(HostEnd::new(rt.alloc())?, |end| {
+        (
+            adds_two(end),
+            // Tversion(2), and a kind that there is none of
+            feeds(end, &[0x01, 0, 2, 0, 2, 0xFF]),
+            end.pending(),
+            feeds(end, &[]),
+        )
+    });
+    let stopped = Err(EndFault::Stopped(HostStop::Stream(StreamFault::BadKind)));
+    assert_eq!(rt; told, (true, stopped, 92, stopped));
     Ok(())
 }
 
 #[test]
 fn a_refusal_stops_the_end(rt: HostRuntime) -> Result<(), Fail> {
-    let alloc = rt.alloc();
-    let mut end = two_files(alloc)?;
-    // Tstartfile(9)
+    let told = lent(HostEnd::new(rt.alloc())?, |end| {
+        (
+            adds_two(end),
+            // Tstartfile(9)
+            feeds(end, &[0x06, 0, 2, 0, 9]),
+            end.stopped(),
+        )
+    });
     let why = HostStop::Refused(HostFault::NoFile);
-    assert_eq!(rt; end.feed(&[0x06, 0, 2, 0, 9]), Err(EndFault::Stopped(why)));
-    assert_eq!(rt; end.stopped(), Some(why));
+    assert_eq!(rt; told, (true, Err(EndFault::Stopped(why)), Some(why)));
     Ok(())
 }
 
 #[test]
 fn files_are_refused_in_order(rt: HostRuntime) -> Result<(), Fail> {
-    let alloc = rt.alloc();
-    let mut end = two_files(alloc)?;
     let long = [0x61; 65];
-    assert_eq!(rt; end.add_file(&long, &[0xFF]), Err(OpenFault::NotText));
-    assert_eq!(rt; end.add_file(&long, b"x"), Err(OpenFault::TooLong));
-    assert_eq!(rt; end.feed(&[]), Ok(()));
-    assert_eq!(rt; end.add_file(&[0xFF], b"x"), Err(OpenFault::Begun));
+    let told = lent(HostEnd::new(rt.alloc())?, |end| {
+        (
+            adds_two(end),
+            adds(end, &long, &[0xFF]),
+            adds(end, &long, b"x"),
+            feeds(end, &[]),
+            adds(end, &[0xFF], b"x"),
+        )
+    });
+    let (not_text, too_long) = (Err(OpenFault::NotText), Err(OpenFault::TooLong));
+    let begun = Err(OpenFault::Begun);
+    assert_eq!(rt; told, (true, not_text, too_long, Ok(()), begun));
     Ok(())
 }
 
 #[test]
 fn tags_run_out(rt: HostRuntime) -> Result<(), Fail> {
-    let mut end = HostEnd::new(rt.alloc())?;
-    assert_eq!(rt; fill(&mut end), Err(OpenFault::NoTag));
+    let told = lent(HostEnd::new(rt.alloc())?, |end| fill(end));
+    assert_eq!(rt; told, Err(OpenFault::NoTag));
     Ok(())
 }

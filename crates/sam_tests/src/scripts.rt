@@ -1,12 +1,33 @@
 //! Scripts, read and written.
 
+use crate::lending::told_of;
 use sam_script::{Line, Script, ScriptFault, run_lines};
 use sam_world::Event;
 use std::alloc::{AllocError, Global};
 
+/// The wrong line that a script is refused for, and 0 for want of memory.
+fn fault_of(alloc: Global, text: &[u8]) -> Option<usize> {
+    told_of(Script::read(alloc, text), |read| match read {
+        Ok(_) => None,
+        Err(ScriptFault::Line(line)) => Some(*line),
+        Err(_) => Some(0),
+    })
+}
+
+/// The first script that has another wrong line, or none where this one is wrong.
+fn wrong_fault<'a>(alloc: Global, rows: &[(&'a str, Option<usize>)]) -> Option<&'a str> {
+    for row in rows {
+        let (text, wanted) = *row;
+        if fault_of(alloc, text.as_bytes()) != wanted {
+            return Some(text);
+        }
+    }
+    None
+}
+
 #[test]
 fn the_first_wrong_line_is_the_fault(rt: HostRuntime) {
-    for (text, wanted) in [
+    const ROWS: &[(&str, Option<usize>)] = &[
         ("", None),
         ("\n\n# a\n= b\n", None),
         ("host", None),
@@ -35,16 +56,9 @@ fn the_first_wrong_line_is_the_fault(rt: HostRuntime) {
         ("file  a", Some(1)),
         ("fly", Some(1)),
         ("host\r", Some(1)),
-    ] {
-        let fault = match Script::read(rt.alloc(), text.as_bytes()) {
-            Ok(_) => None,
-            Err(ScriptFault::Line(line)) => Some(line),
-            Err(_) => Some(0),
-        };
-        assert_eq!(rt; fault, wanted, "at {text:?}");
-    }
-    let cut = Script::read(rt.alloc(), b"show\n# \xC3");
-    assert!(rt; matches!(cut, Err(ScriptFault::Line(2))));
+    ];
+    assert_eq!(rt; wrong_fault(rt.alloc(), ROWS), None);
+    assert_eq!(rt; fault_of(rt.alloc(), b"show\n# \xC3"), Some(2));
 }
 
 /// A line of each kind, as a run is written down.
@@ -103,14 +117,21 @@ fn written_again(alloc: Global, text: &str) -> Result<Vec<u8>, ScriptFault> {
     run_lines(alloc, &script, events.as_slice())
 }
 
+/// Whether the script is the same once it was read and written down again.
+fn is_kept(alloc: Global, text: &str) -> bool {
+    match written_again(alloc, text) {
+        Ok(bytes) => bytes.as_slice() == text.as_bytes(),
+        Err(_) => false,
+    }
+}
+
 #[test]
 fn lines_of_a_run_are_read_as_its_events(rt: HostRuntime) {
     let exit = "k exit\nact\nhost\nterm\nshow\n";
-    for text in ["show\n", exit, EACH_KIND] {
-        let written = written_again(rt.alloc(), text);
-        assert!(rt;
-            matches!(&written, Ok(bytes) if bytes.as_slice() == text.as_bytes()),
-            "at {text:?}"
-        );
-    }
+    let kept = [
+        is_kept(rt.alloc(), "show\n"),
+        is_kept(rt.alloc(), exit),
+        is_kept(rt.alloc(), EACH_KIND),
+    ];
+    assert_eq!(rt; kept, [true; 3]);
 }

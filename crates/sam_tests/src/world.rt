@@ -3,13 +3,14 @@
 ghost use Rattle.std.specs.Prelude.{◌≡◌, true};
 ghost use Rattle.sam_world.specs.World.{is_quiet};
 
+use crate::lending::{lent, told_of};
 use sam_runes::{Runes, Text};
 use sam_term::UserEvent;
 use sam_world::{Event, MergeFault, RunStop, StepFault, TermLog, World, merge};
-use std::alloc::Global;
+use std::alloc::{AllocError, Global};
 use std::test::Fail;
 
-fn runes(alloc: Global, text: &str) -> Result<Runes, Fail> {
+fn runes(alloc: Global, text: &str) -> Result<Runes, AllocError> {
     Ok(Runes::from_vec(text.chars().collect(alloc)?))
 }
 
@@ -34,7 +35,7 @@ fn letter(event: &Event) -> char {
 }
 
 /// The events of a user who opens the command file and a file, types in both, and leaves.
-fn session(alloc: Global) -> Result<[UserEvent; 7], Fail> {
+fn session(alloc: Global) -> Result<[UserEvent; 7], AllocError> {
     let line = runes(alloc, ",x/l/d\n")?;
     Ok([
         UserEvent::Version(1),
@@ -53,6 +54,11 @@ fn play(world: &mut World, events: [UserEvent; 7]) -> Result<(), StepFault> {
         world.step(Event::User(event))?;
     }
     world.drain()
+}
+
+/// Plays the session.
+fn play_session(alloc: Global, world: &mut World) -> Result<Result<(), StepFault>, AllocError> {
+    Ok(play(world, session(alloc)?))
 }
 
 /// Whether the session is over, with nothing under way, and both sides agree.
@@ -91,13 +97,6 @@ fn made_again(alloc: Global, world: World) -> World
     World::of_sides(alloc, host, term)
 }
 
-/// What a look at the world tells, which is then let go.
-fn told_of<T: Drop, A, F: FnOnce(&T) -> A>(value: T, look: F) -> A
-    requires { F.IsAlwaysCallable look }
-{
-    look(&value)
-}
-
 /// What the readers tell of a world that was taken apart and made again, or nothing if it is not quiet.
 fn is_over_again(alloc: Global, world: World) -> bool {
     if !world.quiet() {
@@ -114,12 +113,15 @@ fn is_over_again(alloc: Global, world: World) -> bool {
 #[test]
 fn a_session_drains(rt: HostRuntime) -> Result<(), Fail> {
     let alloc = rt.alloc();
-    let events = session(alloc)?;
-    let mut world = world_of(alloc, "hello\n")?;
-    assert_eq!(rt; play(&mut world, events), Ok(()));
-    assert!(rt; is_over(&world));
-    assert_eq!(rt; (world.host().taken(), world.term().sent()), (7, 7));
-    assert!(rt; has_text(&world, &['X', 'h', 'e', 'o', '\n']));
+    let told = lent(world_of(alloc, "hello\n")?, |world| {
+        (
+            play_session(alloc, world),
+            is_over(world),
+            (world.host().taken(), world.term().sent()),
+            has_text(world, &['X', 'h', 'e', 'o', '\n']),
+        )
+    });
+    assert_eq!(rt; told, (Ok(Ok(())), true, (7, 7), true));
     Ok(())
 }
 
@@ -130,27 +132,50 @@ fn a_quiet_world_is_its_two_sides(rt: HostRuntime) -> Result<(), Fail> {
     Ok(())
 }
 
-#[test]
-fn a_run_stops_where_nothing_is_there(rt: HostRuntime) -> Result<(), Fail> {
-    let alloc = rt.alloc();
-    let mut world = world_of(alloc, "ab")?;
+/// Runs a version, and two takes of the host.
+fn run_two_takes(world: &mut World) -> Result<(), RunStop> {
     let events = [
         Event::User(UserEvent::Version(1)),
         Event::Act,
         Event::HostTake,
         Event::HostTake,
     ];
+    world.run(&events)
+}
+
+#[test]
+fn a_run_stops_where_nothing_is_there(rt: HostRuntime) -> Result<(), Fail> {
+    let told = lent(
+        world_of(rt.alloc(), "ab")?,
+        |world| (run_two_takes(world), (world.up(), world.down())),
+    );
     let stop = RunStop {
         at: 3,
         fault: StepFault::NothingThere,
     };
-    assert_eq!(rt; world.run(&events), Err(stop));
-    assert_eq!(rt; (world.up(), world.down()), (0, 5));
+    assert_eq!(rt; told, (Err(stop), (0, 5)));
     Ok(())
 }
 
+/// The letters of the events.
+fn letters(alloc: Global, events: &[Event]) -> Result<Vec<char>, AllocError> {
+    events.iter().map(letter).collect(alloc)
+}
+
+/// Whether the events have these letters.
+fn has_letters(
+    alloc: Global,
+    merged: &Result<Vec<Event>, MergeFault>,
+    wanted: &[char],
+) -> Result<bool, AllocError> {
+    match merged {
+        Ok(events) => Ok(letters(alloc, events.as_slice())?.as_slice() == wanted),
+        Err(_) => Ok(false),
+    }
+}
+
 #[test]
-fn takes_of_the_host_are_merged_in(rt: HostRuntime) -> Result<(), Fail> {
+fn takes_of_the_host_are_merged_in(rt: HostRuntime) {
     let alloc = rt.alloc();
     let log = [
         TermLog::User(UserEvent::Flush),
@@ -158,14 +183,16 @@ fn takes_of_the_host_are_merged_in(rt: HostRuntime) -> Result<(), Fail> {
         TermLog::Take(1),
         TermLog::Take(1),
     ];
-    let merged = merge(alloc, &log, 2).ok().ok_or("memory")?;
-    let letters: Vec<char> = merged.iter().map(letter).collect(alloc)?;
-    assert!(rt; letters.as_slice() == &['u', 'a', 'h', 't', 't', 'h'][..]);
-    assert!(rt;
-        matches!(
+    let wanted = ['u', 'a', 'h', 't', 't', 'h'];
+    let told = (
+        told_of(
+            merge(alloc, &log, 2),
+            |merged| has_letters(alloc, merged, &wanted),
+        ),
+        told_of(
             merge(alloc, &[TermLog::Take(3)], 2),
-            Err(MergeFault::BadLog)
-        )
+            |merged| matches!(merged, Err(MergeFault::BadLog)),
+        ),
     );
-    Ok(())
+    assert_eq!(rt; told, (Ok(true), true));
 }
