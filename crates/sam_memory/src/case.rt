@@ -1,7 +1,8 @@
 //! The cases by their names.
 
-use crate::setup::Tried;
-use crate::{answers, codec, events, framing, gaps, lines, queue, refusals, sessions, worlds};
+use crate::{queue, sessions, worlds};
+use sam_memory_cases::setup::Tried;
+use sam_memory_cases::{answers, codec, events, framing, gaps, lines, refusals};
 use std::alloc::Global;
 use std::sync::Wait;
 use std::thread::Threads;
@@ -160,7 +161,7 @@ impl Case {
             Case::ActRefuses => refusals::act_refuses(alloc),
             Case::ReceivePast => refusals::receive_past(alloc),
             Case::ReceiveFuture => refusals::receive_future(alloc),
-            Case::MergeRefuses => refusals::merge_refuses(alloc),
+            Case::MergeRefuses => worlds::merge_refuses(alloc),
         }
     }
 }

@@ -5,22 +5,13 @@
 //! first, the second and so on in turn, loaded before the program, shows what each call does then.
 #![tactic(auto)]
 
-mod answers;
 mod case;
-mod codec;
-mod events;
-mod files;
-mod framing;
-mod gaps;
-mod lines;
 mod queue;
-mod refusals;
 mod sessions;
-mod setup;
 mod worlds;
 
 use case::Case;
-use setup::SetUp;
+use sam_memory_cases::setup::SetUp;
 use std::alloc::Global;
 use std::env;
 use std::env::Env;

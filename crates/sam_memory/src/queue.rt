@@ -1,6 +1,6 @@
 //! The ends of a line between threads.
 
-use crate::setup::{SetUp, Tried};
+use sam_memory_cases::setup::{SetUp, Tried};
 use sam_queue::{Audit, Line, audit};
 use std::alloc::Global;
 use std::sync::Wait;

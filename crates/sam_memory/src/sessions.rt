@@ -5,10 +5,11 @@
 ghost use Rattle.std.specs.Prelude.{◌≡◌};
 ghost use Rattle.sam_threads.specs.Told.{AreEnds};
 
-use crate::answers::is_same_host;
-use crate::events::is_same_terminal;
-use crate::setup::{SetUp, Tried, prepared, told_of};
 use crate::worlds::is_same_world;
+use sam_lending::told_of;
+use sam_memory_cases::answers::is_same_host;
+use sam_memory_cases::events::is_same_terminal;
+use sam_memory_cases::setup::{SetUp, Tried, prepared};
 use sam_runes::Runes;
 use sam_running::{RunFault, run_ends, run_threads};
 use sam_script::{Script, first_world, run_lines, show};

@@ -2,9 +2,9 @@
 
 ghost use Rattle.std.specs.Prelude.{◌≤◌, IfOk, length};
 
-use crate::answers::is_same_host;
-use crate::events::{is_same_terminal, part_shows};
-use crate::setup::{SetUp, Tried, beside_twin, prepared, runes, spells};
+use sam_memory_cases::answers::is_same_host;
+use sam_memory_cases::events::{is_same_terminal, part_shows};
+use sam_memory_cases::setup::{SetUp, Tried, beside_twin, prepared, runes, spells};
 use sam_runes::{Runes, Text};
 use sam_term::UserEvent;
 use sam_world::{Event, MergeFault, StepFault, TermLog, World, merge};
@@ -233,4 +233,11 @@ pub fn merge_takes(alloc: Global) -> Tried {
         Some(events) => Ok(is_schedule(events.as_slice()) && is_log(&log)),
         None => Ok(false),
     }
+}
+
+/// A log that takes a frame of a message that the host did not take has no schedule.
+pub fn merge_refuses(alloc: Global) -> Tried {
+    let typed = UserEvent::Typed(1, runes(alloc, "hi")?);
+    let log = [TermLog::User(typed), TermLog::Act, TermLog::Take(1)];
+    Ok(matches!(merge(alloc, &log, 0), Err(MergeFault::BadLog)))
 }

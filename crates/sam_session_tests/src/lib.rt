@@ -3,8 +3,6 @@
 #![tactic(auto)]
 
 #[cfg(test)]
-mod lending;
-#[cfg(test)]
 mod modes;
 #[cfg(test)]
 mod threads;

@@ -1,5 +1,5 @@
 //! The program's words, and rows of input with their output, over readers and writers that give little, or fail.
-use crate::lending::told_of;
+use sam_lending::told_of;
 use sam_runes::Runes;
 use sam_session::{ArgFault, Mode, PlayFault, Stop, mode_of, play, play_bytes, status_of};
 use std::alloc::{AllocError, Global};

@@ -1,7 +1,7 @@
 //! Sessions of five threads: what they print, what their gates stop, and that their schedules replay.
 ghost use Rattle.std.specs.Prelude.{◌<◌};
 
-use crate::lending::{lent, told_of};
+use sam_lending::{lent, told_of};
 use sam_script::{Script, first_world, show};
 use sam_session::{
     FlagGate, Gate, Mode, OpenGate, PlayFault, RunFault, Settled, Stop, play, run_threads,

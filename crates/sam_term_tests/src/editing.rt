@@ -1,9 +1,7 @@
 //! Events that change a text, a dot or a view, and what they compose.
 
-use crate::trying::{
-    composed, goes_on, is_held, lent, loaded, opens_five_gaps, rasp_len, refusal, runes, takes,
-    takes_runes, typed, typing_is_held, waits,
-};
+use crate::trying::{composed, goes_on, is_held, loaded, opens_five_gaps, rasp_len, refusal, runes, takes, takes_runes, typed, typing_is_held, waits};
+use sam_lending::lent;
 use sam_mesg::{Hmesg, Tmesg};
 use sam_runes::Runes;
 use sam_term::event::UserEvent;

@@ -1,6 +1,7 @@
 //! A terminal behind two streams of bytes: each public call on its way to the right end. The bytes are those of docs/PROTOCOL.md.
-use crate::trying::{lent, runes};
+use crate::trying::runes;
 use sam_ends::TermEnd;
+use sam_lending::lent;
 use sam_term::event::UserEvent;
 use sam_term::fault::Refusal;
 use std::alloc::Global;

@@ -1,9 +1,7 @@
 //! A terminal: what it refuses, what locks it takes, and what the host does to its texts.
 
-use crate::trying::{
-    composed, goes_on, is_held, lent, loaded, opens_five_gaps, rasp_len, refusal, refused, runes,
-    take, takes, takes_runes, typing_is_held,
-};
+use crate::trying::{composed, goes_on, is_held, loaded, opens_five_gaps, rasp_len, refusal, refused, runes, take, takes, takes_runes, typing_is_held};
+use sam_lending::lent;
 use sam_mesg::{Hmesg, Tmesg};
 use sam_runes::Runes;
 use sam_term::event::UserEvent;

@@ -1,4 +1,4 @@
-//! How the tests try a terminal: each call in a word, and the terminal lent.
+//! How the tests try a terminal: each call in a word.
 
 use sam_mesg::{Batch, HFrame, Hmesg, Tmesg, fits_h};
 use sam_runes::Runes;
@@ -6,15 +6,6 @@ use sam_term::event::{Acted, UserEvent};
 use sam_term::fault::{Refusal, TermFault};
 use sam_term::term::Terminal;
 use std::alloc::{AllocError, Global};
-
-/// Lends the value to the body, and lets it go behind it. A generic function lets go of a value by one call, where a test would
-/// take a terminal apart at each of its exits, which is slow to prove.
-pub(crate) fn lent<T: Drop, A, F: FnOnce(&mut T) -> A>(value: T, body: F) -> A
-    requires { F.IsAlwaysCallable body }
-{
-    let mut value = value;
-    body(&mut value)
-}
 
 pub(crate) fn runes(alloc: Global, text: &str) -> Result<Runes, AllocError> {
     Ok(Runes::from_vec(text.chars().collect(alloc)?))

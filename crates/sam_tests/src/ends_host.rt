@@ -1,6 +1,6 @@
 //! A host behind a stream of bytes: its answers are those of the table at the end of docs/PROTOCOL.md.
 
-use crate::lending::lent;
+use sam_lending::lent;
 use sam_ends::{EndFault, HostEnd, HostStop, OpenFault, StreamFault};
 use sam_host::HostFault;
 use std::alloc::{AllocError, Global};

@@ -1,5 +1,5 @@
 //! Rows of the host's stream, and what a terminal makes of them.
-use crate::lending::{lent, told_of};
+use sam_lending::{lent, told_of};
 use sam_frame::{FeedFault, FramerH};
 use sam_mesg::Tmesg;
 use sam_term::term::Terminal;

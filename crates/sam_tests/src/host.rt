@@ -1,6 +1,6 @@
 //! Each kind of message to a host.
 
-use crate::lending::lent;
+use sam_lending::lent;
 use sam_host::{Host, HostFault};
 use sam_mesg::{Frames, Tmesg, fits_t};
 use sam_runes::{Runes, Text};

@@ -9,8 +9,6 @@ mod feeding;
 #[cfg(test)]
 mod host;
 #[cfg(test)]
-mod lending;
-#[cfg(test)]
 mod scripts;
 #[cfg(test)]
 mod world;

@@ -1,6 +1,6 @@
 //! Scripts, read and written.
 
-use crate::lending::told_of;
+use sam_lending::told_of;
 use sam_script::{Line, Script, ScriptFault, run_lines};
 use sam_world::Event;
 use std::alloc::{AllocError, Global};

@@ -3,7 +3,7 @@
 ghost use Rattle.std.specs.Prelude.{◌≡◌, true};
 ghost use Rattle.sam_world.specs.World.{is_quiet};
 
-use crate::lending::{lent, told_of};
+use sam_lending::{lent, told_of};
 use sam_runes::{Runes, Text};
 use sam_term::UserEvent;
 use sam_world::{Event, MergeFault, RunStop, StepFault, TermLog, World, merge};

@@ -1,7 +1,8 @@
 //! Messages written, read and copied.
 
-use crate::setup::{SetUp, Tried, runes, spells, told_of};
+use crate::setup::{SetUp, Tried, runes, spells};
 use sam_frame::{can_encode, encode_all};
+use sam_lending::told_of;
 use sam_mesg::{
     HFrame, Hmesg, MesgFault, Tmesg, decode_h, decode_t, encode_h, encode_t, fits_h, fits_t,
 };

@@ -1,7 +1,7 @@
 //! Texts of runes, and their bytes.
 ghost use Rattle.std.specs.Prelude.{◌≡◌};
 
-use crate::lending::lent;
+use sam_lending::lent;
 use sam_runes::places::prefix_in_bytes;
 use sam_runes::{Edit, MAX_RUNES, Runes, Text, TextFault, read_utf8, utf8_len, write_utf8};
 use std::alloc::{AllocError, Global};

@@ -10,7 +10,6 @@ use sam_rasp::{Rasp, RaspFault};
 use sam_runes::{Text, TextFault};
 use sam_term::{Acted, Refusal, TermFault, Terminal, UserEvent};
 use sam_text::{Files, FilesFault};
-use sam_world::{MergeFault, TermLog, merge};
 use std::alloc::Global;
 
 fn takes_no_more(text: &mut Text) -> bool {
@@ -104,11 +103,4 @@ pub fn receive_future(alloc: Global) -> Tried {
     beside_twin(alloc, to_refuse, |terminal, twin| {
         Ok(refuses(terminal, twin, 1, Hmesg::Hack, TermFault::FromTheFuture))
     })
-}
-
-/// A log that takes a frame of a message that the host did not take has no schedule.
-pub fn merge_refuses(alloc: Global) -> Tried {
-    let typed = UserEvent::Typed(1, runes(alloc, "hi")?);
-    let log = [TermLog::User(typed), TermLog::Act, TermLog::Take(1)];
-    Ok(matches!(merge(alloc, &log, 0), Err(MergeFault::BadLog)))
 }
