@@ -79,7 +79,10 @@ PLACES = {
     "sam_rasp": (520, 9, "texts with gaps"),
     "sam_runes": (350, 10, "texts as lists of runes"),
 }
-LEFT_OUT = {"sam_tests", "sam_base_tests", "sam_term_tests", "sam_session_tests", "sam_memory", "sam_bench", "sam_examples"}
+LEFT_OUT = {
+    *("sam_tests", "sam_codec_tests", "sam_base_tests", "sam_term_tests", "sam_session_tests", "sam_lending"),
+    *("sam_memory", "sam_memory_cases", "sam_bench", "sam_bench_jobs", "sam_examples"),
+}
 
 
 def crates():

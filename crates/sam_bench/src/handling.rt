@@ -1,9 +1,9 @@
 //! Messages of mixed kinds to a host of sixteen files.
 
-use crate::codec::weight_h;
-use crate::fault::Fault;
-use crate::report::Report;
-use crate::sample::{check_of, mix, mixed};
+use sam_bench_jobs::codec::weight_h;
+use sam_bench_jobs::fault::Fault;
+use sam_bench_jobs::report::Report;
+use sam_bench_jobs::sample::{check_of, mix, mixed};
 use sam_host::host::Host;
 use sam_mesg::{Frames, HFrame, Tmesg, fits_t};
 use sam_runes::{Runes, Text};

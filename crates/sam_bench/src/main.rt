@@ -2,22 +2,14 @@
 //! nanoseconds that its work took, and a check value of what it made. Without words the program prints nothing.
 #![tactic(auto)]
 
-mod codec;
-mod editing;
 mod embedded;
-mod fault;
 mod handling;
-mod loading;
 mod queueing;
-mod receiving;
-mod report;
-mod sample;
 mod schedule;
-mod searching;
-mod typing;
 
-use fault::Fault;
-use report::Report;
+use sam_bench_jobs::fault::Fault;
+use sam_bench_jobs::report::Report;
+use sam_bench_jobs::{codec, editing, loading, receiving, searching, typing};
 use std::env;
 use std::env::Env;
 use std::process::ExitCode;

@@ -2,8 +2,8 @@
 
 ghost use Rattle.std.specs.Prelude.{◌≡◌, ◌<◌, ◌≤◌};
 
-use crate::fault::Fault;
-use crate::report::Report;
+use sam_bench_jobs::fault::Fault;
+use sam_bench_jobs::report::Report;
 use crossbeam_queue::ArrayQueue;
 use sam_queue::{Got, Line, Post, Take};
 use std::sync::Wait;

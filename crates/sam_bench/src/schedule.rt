@@ -1,8 +1,8 @@
 //! A schedule of both sides, as a session of threads leaves one, done again from the first world.
 
-use crate::fault::Fault;
-use crate::report::Report;
-use crate::sample::{check_of, letters, mix};
+use sam_bench_jobs::fault::Fault;
+use sam_bench_jobs::report::Report;
+use sam_bench_jobs::sample::{check_of, letters, mix};
 use sam_runes::Runes;
 use sam_term::event::UserEvent;
 use sam_world::{Event, World};

@@ -14,7 +14,7 @@ use crate::status::{NO_HANDLE, NONE, OK};
 use crate::utf8::{runes_from, tell_name, tell_text};
 use sam_ends::{TermEnd, read_rasp};
 use sam_rasp::Rasp;
-use sam_term::files::KnownFile;
+use sam_term::records::KnownFile;
 use std::alloc::Global;
 
 /// Returns what the terminal knows of a tag; `None` if it knows no file of it.

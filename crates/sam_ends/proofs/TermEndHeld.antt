@@ -8,7 +8,7 @@ use Rattle.sam_mesg.specs.declared.hmesg.Hmesg.{Hmesg}
 use Rattle.sam_mesg.specs.declared.hmesg.Hmesg.TheVariants.{Hversion, Hbindname, Hcurrent, Hnewname, Hmovname, Hgrow, Hcheck, Hunlock, Hdata, Horigin, Hunlockfile, Hsetdot, Hgrowdata, Hmoveto, Hclean, Hdirty, Hcut, Hsetpat, Hdelname, Hclose, Hsetsnarf, Hsnarflen, Hack, Hexit}
 use Rattle.sam_mesg.specs.declared.hmesg.HFrame.{HFrame}
 use Rattle.sam_term.specs.Locks.{is_command_line}
-use Rattle.sam_term.specs.Term.{PlainTerminal, Made, act_of, act_on, decided, if_countable, event_checks, frame_checks, flush_of, flushed, take_of, made_by, made_from, made_unless, and_then, all_composed, composed, sends, sends_if, requested, wanted, unchanged, cuts_dot, types, kept_unsent, joins, joined, put_window, has_empty_dot, typed_rasp, made_by_type, made_by_cut, made_by_paste, made_by_snarf, made_by_view, sends_dot, window_at, cut_rasp, took_bindname, took_data, took_grow, took_growdata, took_cut, took_unlockfile, took_close, took_exit}
+use Rattle.sam_term.specs.Term.{PlainTerminal, Made, act_of, act_on, decided, if_countable, event_checks, frame_checks, flush_of, flushed, take_of, event_outcome, frame_outcome, made_unless, and_then, all_composed, composed, sends, sends_if, requested, wanted, unchanged, cuts_dot, types, kept_unsent, joins, joined, put_window, has_empty_dot, typed_rasp, made_by_type, made_by_cut, made_by_paste, made_by_snarf, made_by_view, sends_dot, window_at, cut_rasp, took_bindname, took_data, took_grow, took_growdata, took_cut, took_unlockfile, took_close, took_exit}
 use Rattle.sam_term.specs.declared.event.Verdict.{Verdict}
 use Rattle.sam_term.specs.declared.event.Verdict.TheVariants.{Waits, Refuses}
 use Rattle.sam_term.specs.declared.event.UserEvent.{UserEvent}
@@ -73,7 +73,7 @@ type-keeps t f s =
     let u = (cuts_dot t f).0 in
     either-keeps (is_empty s) (u, []) (types u f (window_at t f).dot.0 s) t.held (cuts-keeps t f) (types-keeps u f (window_at t f).dot.0 s ∙ cuts-keeps t f)
 
-pub event_keeps : (t : PlainTerminal) (e : UserEvent) → held_in (made_by t e) ≡ t.held
+pub event_keeps : (t : PlainTerminal) (e : UserEvent) → held_in (event_outcome t e) ≡ t.held
 unfolding made_by_cut made_by_paste made_by_snarf made_by_view
 event_keeps t (Typed f s) = type-keeps t f s
 event_keeps t (Select f p q) = refl
@@ -101,7 +101,7 @@ event_keeps t (SetSnarf s) = sends-plain t (Tsetsnarf s ∷ [])
 event_keeps t (Version v) = sends-plain t (Tversion v ∷ [])
 event_keeps t Flush = flushed-held t
 
-pub frame_keeps : (t : PlainTerminal) (m : Hmesg) → held_in (made_from t m) ≡ t.held
+pub frame_keeps : (t : PlainTerminal) (m : Hmesg) → held_in (frame_outcome t m) ≡ t.held
 unfolding took_bindname took_data took_grow took_growdata took_cut took_unlockfile took_close took_exit
 frame_keeps t (Hversion v) = refl
 frame_keeps t (Hbindname f) = refl
@@ -148,9 +148,9 @@ pub take_held : (t u : PlainTerminal) (frame : HFrame) (ms : List Tmesg) → tak
 unfolding take_of
 take_held t u frame ms e = go (first_of_checks ((nat_lt t.sent frame.seen, fault.FromTheFuture) ∷ frame_checks t frame.msg)) e
   where
-    go : (o : Option TermFault) → made_unless o (made_from t frame.msg) ≡ Ok (u, ms) → u.held ≡ t.held
+    go : (o : Option TermFault) → made_unless o (frame_outcome t frame.msg) ≡ Ok (u, ms) → u.held ≡ t.held
     go (Some why) q = absurd (cc)
-    go None q = ap (λ v. v.held) (counted (made_from t frame.msg).0.sent (made_from t frame.msg) u ms q) ∙ frame_keeps t frame.msg
+    go None q = ap (λ v. v.held) (counted (frame_outcome t frame.msg).0.sent (frame_outcome t frame.msg) u ms q) ∙ frame_keeps t frame.msg
 
 -- the terminal of an act that could be counted
 pub done-term : (n : ℕ) (t u : PlainTerminal) (ms : List Tmesg) (acted : Acted) → if_countable {A = PlainTerminal × Acted} n (t, Done ms) ≡ Ok (u, acted) → u ≡ t
@@ -178,11 +178,11 @@ pub act_held : (t u : PlainTerminal) (acted : Acted) → act_of t ≡ Ok (u, act
 unfolding act_of acted_in term_in
 act_held t u acted e s = go t.held e
   where
-    decides : (x : UserEvent) (es : List UserEvent) (o : Option Verdict) → decided o t es (made_by (record t { held = es }) x) ≡ Ok (u, acted) → u.held ≡ es
+    decides : (x : UserEvent) (es : List UserEvent) (o : Option Verdict) → decided o t es (event_outcome (record t { held = es }) x) ≡ Ok (u, acted) → u.held ≡ es
     decides x es (Some Waits) q = absurd (locked-not acted (ap (λ r. acted_in r Idle) q) s)
     decides x es (Some (Refuses r)) q = sym (ap (λ y. (term_in y t).held) q)
     decides x es None q =
-        let made : Made = made_by (record t { held = es }) x in
+        let made : Made = event_outcome (record t { held = es }) x in
         ap (λ v. v.held) (done-term made.0.sent made.0 u made.1 acted q) ∙ event_keeps (record t { held = es }) x
 
     go : (es : List UserEvent) → act_on t es ≡ Ok (u, acted) → length u.held + 1 ≡ length es

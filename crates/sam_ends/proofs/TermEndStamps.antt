@@ -4,7 +4,7 @@ use Rattle.std.proofs.lemmas.Bool.{ltb-false}
 use Rattle.sam_runes.specs.Checks.{first_of_checks}
 use Rattle.sam_mesg.specs.declared.tmesg.Tmesg.{Tmesg}
 use Rattle.sam_mesg.specs.declared.hmesg.HFrame.{HFrame}
-use Rattle.sam_term.specs.Term.{PlainTerminal, Made, act_of, act_on, decided, event_checks, frame_checks, flush_of, flushed, take_of, made_by, made_from, made_unless}
+use Rattle.sam_term.specs.Term.{PlainTerminal, Made, act_of, act_on, decided, event_checks, frame_checks, flush_of, flushed, take_of, event_outcome, frame_outcome, made_unless}
 use Rattle.sam_term.specs.declared.event.Verdict.{Verdict}
 use Rattle.sam_term.specs.declared.event.Verdict.TheVariants.{Waits, Refuses}
 use Rattle.sam_term.specs.declared.event.UserEvent.{UserEvent}
@@ -29,10 +29,10 @@ pub take_counts : (t u : PlainTerminal) (frame : HFrame) (ms : List Tmesg) → t
 unfolding take_of
 take_counts t u frame ms e = go (first_of_checks ((nat_lt t.sent frame.seen, fault.FromTheFuture) ∷ frame_checks t frame.msg)) e
   where
-    go : (o : Option TermFault) → made_unless o (made_from t frame.msg) ≡ Ok (u, ms) → t.sent ≤ u.sent
+    go : (o : Option TermFault) → made_unless o (frame_outcome t frame.msg) ≡ Ok (u, ms) → t.sent ≤ u.sent
     go (Some why) q = absurd (cc)
     go None q =
-        let made : Made = made_from t frame.msg in
+        let made : Made = frame_outcome t frame.msg in
         subst (λ (v : PlainTerminal). t.sent ≤ v.sent) (sym (counted made.0.sent made u ms q)) (no_fewer t.sent made.0.sent made.1 (counts-frame t frame.msg).sent)
 
 -- the stamp of a frame that is received
@@ -43,7 +43,7 @@ taken_stamp t u frame ms e = go (nat_lt t.sent frame.seen) refl e
     checked : Bool → Option TermFault
     checked b = if b then Some fault.FromTheFuture else first_of_checks (frame_checks t frame.msg)
 
-    go : (b : Bool) → nat_lt t.sent frame.seen ≡ b → made_unless (checked b) (made_from t frame.msg) ≡ Ok (u, ms) → frame.seen ≤ t.sent
+    go : (b : Bool) → nat_lt t.sent frame.seen ≡ b → made_unless (checked b) (frame_outcome t frame.msg) ≡ Ok (u, ms) → frame.seen ≤ t.sent
     go true late q = absurd (cc)
     go false late q = ltb-false t.sent frame.seen late
 
@@ -57,11 +57,11 @@ act_counts t u acted e = go t.held e
     same : PlainTerminal → Type 0
     same v = t.sent ≤ v.sent
 
-    decides : (x : UserEvent) (es : List UserEvent) (o : Option Verdict) → decided o t es (made_by (record t { held = es }) x) ≡ Ok (u, acted) → t.sent ≤ u.sent
+    decides : (x : UserEvent) (es : List UserEvent) (o : Option Verdict) → decided o t es (event_outcome (record t { held = es }) x) ≡ Ok (u, acted) → t.sent ≤ u.sent
     decides x es (Some Waits) q = subst same (ap (λ r. term_in r t) q) (omega arith)
     decides x es (Some (Refuses r)) q = subst same (ap (λ r. term_in r t) q) (omega arith)
     decides x es None q =
-        let made : Made = made_by (record t { held = es }) x in
+        let made : Made = event_outcome (record t { held = es }) x in
         subst same (sym (done-term made.0.sent made.0 u made.1 acted q)) (no_fewer t.sent made.0.sent made.1 (counts-event (record t { held = es }) x).sent)
 
     go : (es : List UserEvent) → act_on t es ≡ Ok (u, acted) → t.sent ≤ u.sent

@@ -5,7 +5,7 @@ use Rattle.std.proofs.lemmas.List.Elements.{All-nil, All-cons}
 use Rattle.sam_runes.specs.Texts.{Range, common_version, most_count, max_runes, all_tags, is_empty, part, searched, ends_line, as_lines, last_line, most_in_name}
 use Rattle.sam_runes.specs.Slots.{Slots, slot, put_slot, free_slot}
 use Rattle.sam_runes.specs.Checks.{first_of_checks}
-use Rattle.sam_text.specs.Files.{PlainFile, PlainFiles, PlainOutcome, blank_file, file_at, put_file, typed_file, cut_file, pasted_file, printed_file, is_printed, has_room, after_print, file_after, put_outcome, committed, HasShortName, IsFit, AreFit, AreKept, may_look}
+use Rattle.sam_text.specs.Files.{PlainFile, PlainFiles, PlainOutcome, blank_file, file_at, put_file, typed_file, cut_file, pasted_file, printed_file, is_printed, has_room, after_print, file_after, put_outcome, committed, HasShortName, IsFit, AreFit, AreSoundFiles, may_look}
 use Rattle.sam_text.specs.Meaning.{meaning, work_file}
 use Rattle.sam_text.proofs.FitLaws.{all-put}
 use Rattle.sam_text.proofs.KeptLaws.{all-free, all-announce}
@@ -195,7 +195,7 @@ all-seen seen (m ∷ ms) = All-cons (λ (frame : HFrame). frame.seen ≡ seen) (
 
 -- ## The laws
 
-pub known_sound : (h : PlainHost) → AreKept h.files → IsVersion h.version → IsSound h
+pub known_sound : (h : PlainHost) → AreSoundFiles h.files → IsVersion h.version → IsSound h
 known_sound h (tags, command, work, snarf, pattern, fit, short) version = record { names = short; files = fit; version = version }
 
 pub stays_sound : StaysSound

@@ -20,60 +20,60 @@ impl Host {
     /// `p`, and any file but the command file is dirty. It takes no memory. Errors, in this order: `NoFile`; `NotOpen`; `BadPosition` if
     /// the text has no such range.
     #[tactic(auto, unfolding(crate::specs::Host::reply_cut))]
-    pub(crate) fn cut(&mut self, f: u16, p: u32, q: u32) -> Result<Vec<HFrame>, HostFault>
+    pub(crate) fn cut(&mut self, tag: u16, p: u32, q: u32) -> Result<Vec<HFrame>, HostFault>
         requires { self.old.taken + 1 < 2 ^ 64 }
-        ensures allowed { OnOk result (first_of_checks (host_checks self.old (Tmesg.Tcut f p q)) ≡ None) }
-        ensures host { OnOk result (self.new ≡ (reply_cut self.old f p q).0) }
-        ensures frames { IfOk result (λ frames. frames.items ≡ stamped (self.old.taken + 1) (reply_cut self.old f p q).1) }
-        ensures refused { Refuses self.old (Tmesg.Tcut f p q) result }
+        ensures allowed { OnOk result (first_of_checks (host_checks self.old (Tmesg.Tcut tag p q)) ≡ None) }
+        ensures host { OnOk result (self.new ≡ (reply_cut self.old tag p q).0) }
+        ensures frames { IfOk result (λ frames. frames.items ≡ stamped (self.old.taken + 1) (reply_cut self.old tag p q).1) }
+        ensures refused { Refuses self.old (Tmesg.Tcut tag p q) result }
         ensures count { self.new.taken ≡ self.old.taken }
         ensures unchanged { OnErr result (self.new ≡ self.old) }
     {
-        self.wants_range(f, p, q)?;
-        self.files.change(f, FileChange::Cut(p, q, f == 0));
+        self.wants_range(tag, p, q)?;
+        self.files.change(tag, FileChange::Cut(p, q, tag == 0));
         Ok(Vec::new(self.alloc))
     }
 
     /// Tells how a paste ends: the dot is what was pasted, from `p` to `q`, the terminal is to look for gaps, and the file is free.
-    fn end_paste(&self, frames: &mut Vec<HFrame>, f: u16, p: u32, q: u32) -> Result<(), HostFault>
+    fn end_paste(&self, frames: &mut Vec<HFrame>, tag: u16, p: u32, q: u32) -> Result<(), HostFault>
         requires count { self.now.taken + 1 < 2 ^ 64 }
         ensures ok { OnOk result (Tells self.now frames.old.items frames.new.items
-            (Hmesg.Hsetdot f p q ∷ Hmesg.Hcheck f ∷ Hmesg.Hunlockfile f ∷ [])) }
+            (Hmesg.Hsetdot tag p q ∷ Hmesg.Hcheck tag ∷ Hmesg.Hunlockfile tag ∷ [])) }
         ensures memory { OnErr result (result ≡ Err HostFault.OutOfMemory) }
     {
-        self.say(frames, Hmesg::Hsetdot(f, p, q))?;
-        self.say(frames, Hmesg::Hcheck(f))?;
-        self.say(frames, Hmesg::Hunlockfile(f))
+        self.say(frames, Hmesg::Hsetdot(tag, p, q))?;
+        self.say(frames, Hmesg::Hcheck(tag))?;
+        self.say(frames, Hmesg::Hunlockfile(tag))
     }
 
     /// Returns the frames that tell of a paste of these runes at `p`. They are made before the paste, which changes the dirty mark that
     /// they go by.
     #[tactic(auto, using(crate::proofs::FrameLaws::stamped_append))]
-    fn paste_frames(&self, f: u16, p: u32, runes: &[char]) -> Result<Vec<HFrame>, HostFault>
+    fn paste_frames(&self, tag: u16, p: u32, runes: &[char]) -> Result<Vec<HFrame>, HostFault>
         requires count { self.now.taken + 1 < 2 ^ 64 }
         requires place { p ≤ max_runes }
         requires limit { length runes.now ≤ max_runes }
-        ensures ok { IfOk result (λ frames. frames.items ≡ stamped (self.now.taken + 1) (told_paste self.now.files f p runes.now)) }
+        ensures ok { IfOk result (λ frames. frames.items ≡ stamped (self.now.taken + 1) (told_paste self.now.files tag p runes.now)) }
         ensures memory { OnErr result (result ≡ Err HostFault.OutOfMemory) }
     {
         let mut frames = Vec::new(self.alloc);
-        self.grown(&mut frames, f, p, runes)?;
-        self.tell_dirty(&mut frames, f)?;
-        self.end_paste(&mut frames, f, p, p + runes.len() as u32)?;
+        self.grown(&mut frames, tag, p, runes)?;
+        self.tell_dirty(&mut frames, tag)?;
+        self.end_paste(&mut frames, tag, p, p + runes.len() as u32)?;
         Ok(frames)
     }
 
     /// Puts pasted runes in at `p` and selects them. The only error is `OutOfMemory`, and the host is then unchanged.
-    fn put_pasted(&mut self, f: u16, p: u32, runes: &[char]) -> Result<(), HostFault>
-        requires there { has_file self.old.files f ≡ true }
-        requires place { p ≤ length (file_at self.old.files f).text }
-        requires fits { length (file_at self.old.files f).text + length runes.now ≤ max_runes }
-        ensures ok { OnOk result (self.new ≡ with_file self.old f (pasted_file f (file_at self.old.files f) p runes.now)) }
+    fn put_pasted(&mut self, tag: u16, p: u32, runes: &[char]) -> Result<(), HostFault>
+        requires there { has_file self.old.files tag ≡ true }
+        requires place { p ≤ length (file_at self.old.files tag).text }
+        requires fits { length (file_at self.old.files tag).text + length runes.now ≤ max_runes }
+        ensures ok { OnOk result (self.new ≡ with_file self.old tag (pasted_file tag (file_at self.old.files tag) p runes.now)) }
         ensures memory { OnErr result (result ≡ Err HostFault.OutOfMemory) }
         ensures unchanged { OnErr result (self.new ≡ self.old) }
     {
         let end = p + runes.len() as u32;
-        match self.files.put_in(f, p, runes, (p, end), f == 0) {
+        match self.files.put_in(tag, p, runes, (p, end), tag == 0) {
             Ok(()) => Ok(()),
             Err(_) => Err(HostFault::OutOfMemory),
         }
@@ -83,42 +83,42 @@ impl Host {
     /// is then dirty. If the buffer is empty, or the text would have more than `MAX_RUNES` runes, nothing changes, and `Hunlockfile` is
     /// the one frame. Errors, in this order: `NoFile`; `NotOpen`; `BadPosition` if `p` is past the end; `OutOfMemory`.
     #[tactic(auto, unfolding(crate::specs::Host::reply_paste))]
-    pub(crate) fn paste(&mut self, f: u16, p: u32) -> Result<Vec<HFrame>, HostFault>
+    pub(crate) fn paste(&mut self, tag: u16, p: u32) -> Result<Vec<HFrame>, HostFault>
         requires { self.old.taken + 1 < 2 ^ 64 }
-        ensures allowed { OnOk result (first_of_checks (host_checks self.old (Tmesg.Tpaste f p)) ≡ None) }
-        ensures host { OnOk result (self.new ≡ (reply_paste self.old f p).0) }
-        ensures frames { IfOk result (λ frames. frames.items ≡ stamped (self.old.taken + 1) (reply_paste self.old f p).1) }
-        ensures refused { Refuses self.old (Tmesg.Tpaste f p) result }
+        ensures allowed { OnOk result (first_of_checks (host_checks self.old (Tmesg.Tpaste tag p)) ≡ None) }
+        ensures host { OnOk result (self.new ≡ (reply_paste self.old tag p).0) }
+        ensures frames { IfOk result (λ frames. frames.items ≡ stamped (self.old.taken + 1) (reply_paste self.old tag p).1) }
+        ensures refused { Refuses self.old (Tmesg.Tpaste tag p) result }
         ensures count { self.new.taken ≡ self.old.taken }
         ensures unchanged { OnErr result (self.new ≡ self.old) }
     {
-        self.wants_place(f, p)?;
+        self.wants_place(tag, p)?;
         let len = self.files.snarf_text().len();
-        if len == 0 || self.files.passes_limit(f, len) {
+        if len == 0 || self.files.passes_limit(tag, len) {
             let mut frames = Vec::new(self.alloc);
-            self.say(&mut frames, Hmesg::Hunlockfile(f))?;
+            self.say(&mut frames, Hmesg::Hunlockfile(tag))?;
             return Ok(frames);
         }
         let runes = self.files.snarf_text().copy(self.alloc)?;
-        let frames = self.paste_frames(f, p, runes.as_slice())?;
-        self.put_pasted(f, p, runes.as_slice())?;
+        let frames = self.paste_frames(tag, p, runes.as_slice())?;
+        self.put_pasted(tag, p, runes.as_slice())?;
         Ok(frames)
     }
 
     /// Answers `Tsnarf`: copies what stands from `p` to `q` into the snarf buffer, and tells its length in runes. Errors, in this order:
     /// `NoFile`; `NotOpen`; `BadPosition` if the text has no such range; `OutOfMemory`.
     #[tactic(auto, using(crate::proofs::FileLaws::part_length), unfolding(crate::specs::Host::reply_snarf))]
-    pub(crate) fn snarf(&mut self, f: u16, p: u32, q: u32) -> Result<Vec<HFrame>, HostFault>
+    pub(crate) fn snarf(&mut self, tag: u16, p: u32, q: u32) -> Result<Vec<HFrame>, HostFault>
         requires { self.old.taken + 1 < 2 ^ 64 }
-        ensures allowed { OnOk result (first_of_checks (host_checks self.old (Tmesg.Tsnarf f p q)) ≡ None) }
-        ensures host { OnOk result (self.new ≡ (reply_snarf self.old f p q).0) }
-        ensures frames { IfOk result (λ frames. frames.items ≡ stamped (self.old.taken + 1) (reply_snarf self.old f p q).1) }
-        ensures refused { Refuses self.old (Tmesg.Tsnarf f p q) result }
+        ensures allowed { OnOk result (first_of_checks (host_checks self.old (Tmesg.Tsnarf tag p q)) ≡ None) }
+        ensures host { OnOk result (self.new ≡ (reply_snarf self.old tag p q).0) }
+        ensures frames { IfOk result (λ frames. frames.items ≡ stamped (self.old.taken + 1) (reply_snarf self.old tag p q).1) }
+        ensures refused { Refuses self.old (Tmesg.Tsnarf tag p q) result }
         ensures count { self.new.taken ≡ self.old.taken }
         ensures unchanged { OnErr result (self.new ≡ self.old) }
     {
-        self.wants_range(f, p, q)?;
-        let runes = self.part(f, p, q)?;
+        self.wants_range(tag, p, q)?;
+        let runes = self.part(tag, p, q)?;
         let mut frames = Vec::new(self.alloc);
         self.say(&mut frames, Hmesg::Hsnarflen(q - p))?;
         self.files.put_snarf(runes);
@@ -166,37 +166,37 @@ impl Host {
     /// Answers `Twrite`: a copy of the text becomes the saved copy, and the file is clean. The host touches no disk. Errors, in this
     /// order: `NoFile`; `CommandFile`; `NotOpen`; `OutOfMemory`.
     #[tactic(auto, unfolding(crate::specs::Host::reply_write))]
-    pub(crate) fn write(&mut self, f: u16) -> Result<Vec<HFrame>, HostFault>
+    pub(crate) fn write(&mut self, tag: u16) -> Result<Vec<HFrame>, HostFault>
         requires { self.old.taken + 1 < 2 ^ 64 }
-        ensures allowed { OnOk result (first_of_checks (host_checks self.old (Tmesg.Twrite f)) ≡ None) }
-        ensures host { OnOk result (self.new ≡ (reply_write self.old f).0) }
-        ensures frames { IfOk result (λ frames. frames.items ≡ stamped (self.old.taken + 1) (reply_write self.old f).1) }
-        ensures refused { Refuses self.old (Tmesg.Twrite f) result }
+        ensures allowed { OnOk result (first_of_checks (host_checks self.old (Tmesg.Twrite tag)) ≡ None) }
+        ensures host { OnOk result (self.new ≡ (reply_write self.old tag).0) }
+        ensures frames { IfOk result (λ frames. frames.items ≡ stamped (self.old.taken + 1) (reply_write self.old tag).1) }
+        ensures refused { Refuses self.old (Tmesg.Twrite tag) result }
         ensures count { self.new.taken ≡ self.old.taken }
         ensures unchanged { OnErr result (self.new ≡ self.old) }
     {
-        self.wants_other(f)?;
-        self.wants_open(f)?;
-        let runes = self.files.copy_text(self.alloc, f)?;
+        self.wants_other(tag)?;
+        self.wants_open(tag)?;
+        let runes = self.files.copy_text(self.alloc, tag)?;
         let mut frames = Vec::new(self.alloc);
-        self.say(&mut frames, Hmesg::Hclean(f))?;
-        self.say(&mut frames, Hmesg::Hunlockfile(f))?;
-        self.files.change(f, FileChange::Saved(runes));
+        self.say(&mut frames, Hmesg::Hclean(tag))?;
+        self.say(&mut frames, Hmesg::Hunlockfile(tag))?;
+        self.files.change(tag, FileChange::Saved(runes));
         Ok(frames)
     }
 
     /// Puts typed runes in at `p`. The dot is then empty, behind them, and any file but the command file is dirty. The only error is
     /// `OutOfMemory`, and the host is then unchanged.
-    pub(crate) fn put_typed(&mut self, f: u16, p: u32, runes: &[char]) -> Result<(), HostFault>
-        requires there { has_file self.old.files f ≡ true }
-        requires place { p ≤ length (file_at self.old.files f).text }
-        requires fits { length (file_at self.old.files f).text + length runes.now ≤ max_runes }
-        ensures ok { OnOk result (self.new ≡ with_file self.old f (typed_file f (file_at self.old.files f) p runes.now)) }
+    pub(crate) fn put_typed(&mut self, tag: u16, p: u32, runes: &[char]) -> Result<(), HostFault>
+        requires there { has_file self.old.files tag ≡ true }
+        requires place { p ≤ length (file_at self.old.files tag).text }
+        requires fits { length (file_at self.old.files tag).text + length runes.now ≤ max_runes }
+        ensures ok { OnOk result (self.new ≡ with_file self.old tag (typed_file tag (file_at self.old.files tag) p runes.now)) }
         ensures memory { OnErr result (result ≡ Err HostFault.OutOfMemory) }
         ensures unchanged { OnErr result (self.new ≡ self.old) }
     {
         let end = p + runes.len() as u32;
-        match self.files.put_in(f, p, runes, (end, end), f == 0) {
+        match self.files.put_in(tag, p, runes, (end, end), tag == 0) {
             Ok(()) => Ok(()),
             Err(_) => Err(HostFault::OutOfMemory),
         }

@@ -22,40 +22,45 @@ use sam_text::{FileChange, Outcome};
 impl Host {
     /// Tells what an edit takes out: nothing if the range is empty.
     #[tactic(auto, unfolding(crate::specs::Host::when))]
-    fn tell_cut(&self, frames: &mut Vec<HFrame>, f: u16, p: u32, q: u32) -> Result<(), HostFault>
+    fn tell_cut(&self, frames: &mut Vec<HFrame>, tag: u16, p: u32, q: u32) -> Result<(), HostFault>
         requires count { self.now.taken + 1 < 2 ^ 64 }
-        ensures ok { OnOk result (Tells self.now frames.old.items frames.new.items (when (nat_lt p q) (Hmesg.Hcut f p (q - p) ∷ []))) }
+        ensures ok { OnOk result (Tells self.now frames.old.items frames.new.items (when (nat_lt p q) (Hmesg.Hcut tag p (q - p) ∷ []))) }
         ensures memory { OnErr result (result ≡ Err HostFault.OutOfMemory) }
     {
         if p < q {
-            return self.say(frames, Hmesg::Hcut(f, p, q - p));
+            return self.say(frames, Hmesg::Hcut(tag, p, q - p));
         }
         Ok(())
     }
 
     /// Tells one edit of a file: what goes, and then what comes.
     #[tactic(auto, using(crate::proofs::FrameLaws::told_both), unfolding(crate::specs::Host::told_edit))]
-    fn tell_edit(&self, frames: &mut Vec<HFrame>, f: u16, edit: &Edit) -> Result<(), HostFault>
+    fn tell_edit(&self, frames: &mut Vec<HFrame>, tag: u16, edit: &Edit) -> Result<(), HostFault>
         requires count { self.now.taken + 1 < 2 ^ 64 }
         requires limit { length edit.now.text ≤ max_runes }
-        ensures ok { OnOk result (Tells self.now frames.old.items frames.new.items (told_edit self.now.files f edit.now)) }
+        ensures ok { OnOk result (Tells self.now frames.old.items frames.new.items (told_edit self.now.files tag edit.now)) }
         ensures memory { OnErr result (result ≡ Err HostFault.OutOfMemory) }
     {
-        self.tell_cut(frames, f, edit.p, edit.q)?;
-        self.grown(frames, f, edit.p, edit.text.as_slice())
+        self.tell_cut(frames, tag, edit.p, edit.q)?;
+        self.grown(frames, tag, edit.p, edit.text.as_slice())
     }
 
     /// Tells the edits of a file from the last to the first, so that each place is still true.
-    fn tell_edits(&self, frames: &mut Vec<HFrame>, f: u16, edits: &[Edit]) -> Result<(), HostFault>
+    fn tell_edits(
+        &self,
+        frames: &mut Vec<HFrame>,
+        tag: u16,
+        edits: &[Edit],
+    ) -> Result<(), HostFault>
         requires count { self.now.taken + 1 < 2 ^ 64 }
         requires limit { inserted edits.now ≤ max_runes }
-        ensures ok { OnOk result (Tells self.now frames.old.items frames.new.items (told_edits self.now.files f edits.now)) }
+        ensures ok { OnOk result (Tells self.now frames.old.items frames.new.items (told_edits self.now.files tag edits.now)) }
         ensures memory { OnErr result (result ≡ Err HostFault.OutOfMemory) }
     {
         let mut left = edits.len();
         while left > 0 {
             left -= 1;
-            self.tell_edit(frames, f, &edits[left])?;
+            self.tell_edit(frames, tag, &edits[left])?;
         }
         Ok(())
     }
@@ -65,17 +70,17 @@ impl Host {
     fn tell_new_name(
         &self,
         frames: &mut Vec<HFrame>,
-        f: u16,
+        tag: u16,
         name: &Option<Runes>,
     ) -> Result<(), HostFault>
         requires count { self.now.taken + 1 < 2 ^ 64 }
-        ensures ok { OnOk result (Tells self.now frames.old.items frames.new.items (when_given name.now (Hmesg.Hmovname f))) }
+        ensures ok { OnOk result (Tells self.now frames.old.items frames.new.items (when_given name.now (Hmesg.Hmovname tag))) }
         ensures memory { OnErr result (result ≡ Err HostFault.OutOfMemory) }
     {
         match name {
             Some(name) => {
                 let copy = name.copy(self.alloc)?;
-                self.say(frames, Hmesg::Hmovname(f, copy))
+                self.say(frames, Hmesg::Hmovname(tag, copy))
             }
             None => Ok(()),
         }
@@ -106,52 +111,62 @@ impl Host {
     fn tell_dot(
         &self,
         frames: &mut Vec<HFrame>,
-        f: u16,
+        tag: u16,
         dot: Option<(u32, u32)>,
     ) -> Result<(), HostFault>
         requires count { self.now.taken + 1 < 2 ^ 64 }
-        ensures ok { OnOk result (Tells self.now frames.old.items frames.new.items (when_given dot (λ d. Hmesg.Hsetdot f d.0 d.1))) }
+        ensures ok { OnOk result (Tells self.now frames.old.items frames.new.items (when_given dot (λ d. Hmesg.Hsetdot tag d.0 d.1))) }
         ensures memory { OnErr result (result ≡ Err HostFault.OutOfMemory) }
     {
         match dot {
-            Some((p, q)) => self.say(frames, Hmesg::Hsetdot(f, p, q)),
+            Some((p, q)) => self.say(frames, Hmesg::Hsetdot(tag, p, q)),
             None => Ok(()),
         }
     }
 
     /// Tells that a clean file becomes dirty, if there is an edit.
     #[tactic(auto, unfolding(crate::specs::Host::when))]
-    fn tell_edited(&self, frames: &mut Vec<HFrame>, f: u16, edits: &[Edit]) -> Result<(), HostFault>
+    fn tell_edited(
+        &self,
+        frames: &mut Vec<HFrame>,
+        tag: u16,
+        edits: &[Edit],
+    ) -> Result<(), HostFault>
         requires count { self.now.taken + 1 < 2 ^ 64 }
         ensures ok { OnOk result (Tells self.now frames.old.items frames.new.items
-            (when (not (is_empty edits.now) && not (file_at self.now.files f).dirty) (Hmesg.Hdirty f ∷ []))) }
+            (when (not (is_empty edits.now) && not (file_at self.now.files tag).dirty) (Hmesg.Hdirty tag ∷ []))) }
         ensures memory { OnErr result (result ≡ Err HostFault.OutOfMemory) }
     {
-        if edits.is_empty() || self.files.is_dirty(f) {
+        if edits.is_empty() || self.files.is_dirty(tag) {
             return Ok(());
         }
-        self.say(frames, Hmesg::Hdirty(f))
+        self.say(frames, Hmesg::Hdirty(tag))
     }
 
     /// Tells the terminal to look for gaps in a file, if there is an edit.
     #[tactic(auto, unfolding(crate::specs::Host::when))]
-    fn tell_check(&self, frames: &mut Vec<HFrame>, f: u16, edits: &[Edit]) -> Result<(), HostFault>
+    fn tell_check(
+        &self,
+        frames: &mut Vec<HFrame>,
+        tag: u16,
+        edits: &[Edit],
+    ) -> Result<(), HostFault>
         requires count { self.now.taken + 1 < 2 ^ 64 }
         ensures ok { OnOk result (Tells self.now frames.old.items frames.new.items
-            (when (not (is_empty edits.now)) (Hmesg.Hcheck f ∷ []))) }
+            (when (not (is_empty edits.now)) (Hmesg.Hcheck tag ∷ []))) }
         ensures memory { OnErr result (result ≡ Err HostFault.OutOfMemory) }
     {
         if edits.is_empty() {
             return Ok(());
         }
-        self.say(frames, Hmesg::Hcheck(f))
+        self.say(frames, Hmesg::Hcheck(tag))
     }
 
     /// Tells what a line did to a file: its edits, the mark, the name, the pattern and the dot, in this order, and `Hcheck` last.
     fn tell_parts(
         &self,
         frames: &mut Vec<HFrame>,
-        f: u16,
+        tag: u16,
         edits: &[Edit],
         name: &Option<Runes>,
         pattern: &Option<Runes>,
@@ -160,16 +175,16 @@ impl Host {
         requires count { self.now.taken + 1 < 2 ^ 64 }
         requires limit { inserted edits.now ≤ max_runes }
         ensures ok { OnOk result (Tells self.now frames.old.items frames.new.items
-            (told_outcome (Some f) self.now.files
+            (told_outcome (Some tag) self.now.files
             (record nothing { edits = edits.now; name = name.now; pattern = pattern.now; dot = dot }))) }
         ensures memory { OnErr result (result ≡ Err HostFault.OutOfMemory) }
     {
-        self.tell_edits(frames, f, edits)?;
-        self.tell_edited(frames, f, edits)?;
-        self.tell_new_name(frames, f, name)?;
+        self.tell_edits(frames, tag, edits)?;
+        self.tell_edited(frames, tag, edits)?;
+        self.tell_new_name(frames, tag, name)?;
         self.tell_pattern(frames, pattern)?;
-        self.tell_dot(frames, f, dot)?;
-        self.tell_check(frames, f, edits)?;
+        self.tell_dot(frames, tag, dot)?;
+        self.tell_check(frames, tag, edits)?;
         Ok(())
     }
 
@@ -178,19 +193,19 @@ impl Host {
     fn tell_changed(
         &self,
         frames: &mut Vec<HFrame>,
-        f: u16,
+        tag: u16,
         outcome: &Outcome,
     ) -> Result<(), HostFault>
         requires count { self.now.taken + 1 < 2 ^ 64 }
         requires limit { inserted (effect outcome.now).edits ≤ max_runes }
         ensures ok { OnOk result (Tells self.now frames.old.items frames.new.items
-            (told_outcome (Some f) self.now.files (effect outcome.now))) }
+            (told_outcome (Some tag) self.now.files (effect outcome.now))) }
         ensures memory { OnErr result (result ≡ Err HostFault.OutOfMemory) }
     {
         let edits = outcome.edits.items.as_slice();
         self.tell_parts(
             frames,
-            f,
+            tag,
             edits,
             &outcome.name,
             &outcome.pattern,
@@ -208,7 +223,7 @@ impl Host {
         ensures memory { OnErr result (result ≡ Err HostFault.OutOfMemory) }
     {
         match outcome.file {
-            Some(f) => self.tell_changed(frames, f, outcome),
+            Some(tag) => self.tell_changed(frames, tag, outcome),
             None => self.tell_pattern(frames, &outcome.pattern),
         }
     }
@@ -421,38 +436,38 @@ impl Host {
     #[tactic(auto, using(crate::proofs::TypingLaws::type_as_line, crate::proofs::TypingLaws::type_alone))]
     pub(crate) fn type_in(
         &mut self,
-        f: u16,
+        tag: u16,
         p: u32,
         runes: &Runes,
     ) -> Result<Vec<HFrame>, HostFault>
         requires { self.old.taken + 1 < 2 ^ 64 }
-        ensures allowed { OnOk result (first_of_checks (host_checks self.old (Tmesg.Ttype f p runes.now)) ≡ None) }
-        ensures host { OnOk result (self.new ≡ (reply_type self.old f p runes.now).0) }
-        ensures frames { IfOk result (λ frames. frames.items ≡ stamped (self.old.taken + 1) (reply_type self.old f p runes.now).1) }
-        ensures refused { Refuses self.old (Tmesg.Ttype f p runes.now) result }
+        ensures allowed { OnOk result (first_of_checks (host_checks self.old (Tmesg.Ttype tag p runes.now)) ≡ None) }
+        ensures host { OnOk result (self.new ≡ (reply_type self.old tag p runes.now).0) }
+        ensures frames { IfOk result (λ frames. frames.items ≡ stamped (self.old.taken + 1) (reply_type self.old tag p runes.now).1) }
+        ensures refused { Refuses self.old (Tmesg.Ttype tag p runes.now) result }
         ensures count { self.new.taken ≡ self.old.taken }
         ensures unchanged { OnErr result (self.new ≡ self.old) }
     {
-        self.wants_place(f, p)?;
-        if self.files.passes_limit(f, runes.len()) {
+        self.wants_place(tag, p)?;
+        if self.files.passes_limit(tag, runes.len()) {
             return Err(HostFault::TooLong);
         }
-        if f == 0 && ends_line(runes.as_slice()) {
+        if tag == 0 && ends_line(runes.as_slice()) {
             let frames = self.type_line(p, runes.as_slice())?;
             return Ok(frames);
         }
-        self.put_typed(f, p, runes.as_slice())?;
+        self.put_typed(tag, p, runes.as_slice())?;
         Ok(Vec::new(self.alloc))
     }
 
     /// Copies what stands in a file from `p` to `q`, with a newline added if it ends in none.
-    fn lines_of(&self, f: u16, p: u32, q: u32) -> Result<Runes, HostFault>
+    fn lines_of(&self, tag: u16, p: u32, q: u32) -> Result<Runes, HostFault>
         requires ascending { p ≤ q }
-        requires within { q ≤ length (file_at self.now.files f).text }
-        ensures ok { IfOk result (λ r. r ≡ as_lines (part (file_at self.now.files f).text p q)) }
+        requires within { q ≤ length (file_at self.now.files tag).text }
+        ensures ok { IfOk result (λ r. r ≡ as_lines (part (file_at self.now.files tag).text p q)) }
         ensures memory { OnErr result (result ≡ Err HostFault.OutOfMemory) }
     {
-        let runes = self.part(f, p, q)?;
+        let runes = self.part(tag, p, q)?;
         if ends_line(runes.as_slice()) {
             return Ok(runes);
         }
@@ -497,21 +512,21 @@ impl Host {
     /// Errors, in this order: `NoFile`; `NotOpen`; `BadPosition` if the text has no such range; `OutOfMemory`. After an error the host is
     /// unchanged. The caller counts the message.
     #[tactic(auto, using(crate::proofs::TypingLaws::send_nothing, crate::proofs::TypingLaws::lines_filled))]
-    pub(crate) fn send(&mut self, f: u16, p: u32, q: u32) -> Result<Vec<HFrame>, HostFault>
+    pub(crate) fn send(&mut self, tag: u16, p: u32, q: u32) -> Result<Vec<HFrame>, HostFault>
         requires { self.old.taken + 1 < 2 ^ 64 }
-        ensures allowed { OnOk result (first_of_checks (host_checks self.old (Tmesg.Tsend f p q)) ≡ None) }
-        ensures host { OnOk result (self.new ≡ (reply_send self.old f p q).0) }
-        ensures frames { IfOk result (λ frames. frames.items ≡ stamped (self.old.taken + 1) (reply_send self.old f p q).1) }
-        ensures refused { Refuses self.old (Tmesg.Tsend f p q) result }
+        ensures allowed { OnOk result (first_of_checks (host_checks self.old (Tmesg.Tsend tag p q)) ≡ None) }
+        ensures host { OnOk result (self.new ≡ (reply_send self.old tag p q).0) }
+        ensures frames { IfOk result (λ frames. frames.items ≡ stamped (self.old.taken + 1) (reply_send self.old tag p q).1) }
+        ensures refused { Refuses self.old (Tmesg.Tsend tag p q) result }
         ensures count { self.new.taken ≡ self.old.taken }
         ensures unchanged { OnErr result (self.new ≡ self.old) }
     {
-        self.wants_range(f, p, q)?;
+        self.wants_range(tag, p, q)?;
         if p == q {
             let frames = self.nothing_sent()?;
             return Ok(frames);
         }
-        let lines = self.lines_of(f, p, q)?;
+        let lines = self.lines_of(tag, p, q)?;
         if self.files.passes_limit(0, lines.len()) {
             let frames = self.nothing_sent()?;
             return Ok(frames);
@@ -558,17 +573,17 @@ impl Host {
             let frames = self.no_tag_left()?;
             return Ok(frames);
         }
-        let f = tags as u16;
+        let tag = tags as u16;
         let mut frames = Vec::new(self.alloc);
-        self.say(&mut frames, Hmesg::Hnewname(f))?;
-        self.say(&mut frames, Hmesg::Hbindname(f))?;
-        self.say(&mut frames, Hmesg::Hcurrent(f))?;
+        self.say(&mut frames, Hmesg::Hnewname(tag))?;
+        self.say(&mut frames, Hmesg::Hbindname(tag))?;
+        self.say(&mut frames, Hmesg::Hcurrent(tag))?;
         self.say(&mut frames, Hmesg::Hunlock)?;
         match self.files.start_file(self.alloc) {
             Ok(_) => {}
             Err(_) => return Err(HostFault::OutOfMemory),
         }
-        self.files.put_work(f);
+        self.files.put_work(tag);
         Ok(frames)
     }
 }

@@ -33,10 +33,10 @@ impl Host {
         ensures memory { OnErr result (result ≡ Err HostFault.OutOfMemory) }
     {
         let tags = self.files.tags();
-        let mut f = 1;
-        while f < tags {
-            self.tell_name(frames, f as u16)?;
-            f += 1;
+        let mut tag = 1;
+        while tag < tags {
+            self.tell_name(frames, tag as u16)?;
+            tag += 1;
         }
         Ok(())
     }
@@ -95,90 +95,90 @@ impl Host {
 
     /// Tells the window and the length of a file that is being opened; nothing if it is open already.
     #[tactic(auto, unfolding(crate::specs::Host::when))]
-    fn tell_opening(&self, frames: &mut Vec<HFrame>, f: u16) -> Result<(), HostFault>
+    fn tell_opening(&self, frames: &mut Vec<HFrame>, tag: u16) -> Result<(), HostFault>
         requires count { self.now.taken + 1 < 2 ^ 64 }
         ensures ok { OnOk result (Tells self.now frames.old.items frames.new.items
-            (when (not (file_at self.now.files f).opened) (Hmesg.Hbindname f ∷ told_length f (file_at self.now.files f)))) }
+            (when (not (file_at self.now.files tag).opened) (Hmesg.Hbindname tag ∷ told_length tag (file_at self.now.files tag)))) }
         ensures memory { OnErr result (result ≡ Err HostFault.OutOfMemory) }
     {
-        if self.files.is_open(f) {
+        if self.files.is_open(tag) {
             return Ok(());
         }
-        self.say(frames, Hmesg::Hbindname(f))?;
-        self.tell_length(frames, f)
+        self.say(frames, Hmesg::Hbindname(tag))?;
+        self.tell_length(frames, tag)
     }
 
     /// Makes a change of a file, and makes it the work file.
     #[tactic(auto, using(crate::proofs::FileLaws::put_is_work))]
-    fn change_work(&mut self, f: u16, change: FileChange)
-        requires there { has_file self.old.files f ≡ true }
-        requires other { 0 < f }
-        requires fits { FitsIn change (file_at self.old.files f) }
-        ensures { self.new ≡ with_files self.old (record (change_file self.old.files f (changed change)) { work = Some f }) }
+    fn change_work(&mut self, tag: u16, change: FileChange)
+        requires there { has_file self.old.files tag ≡ true }
+        requires other { 0 < tag }
+        requires fits { FitsIn change (file_at self.old.files tag) }
+        ensures { self.new ≡ with_files self.old (record (change_file self.old.files tag (changed change)) { work = Some tag }) }
     {
-        self.files.change(f, change);
-        self.files.put_work(f);
+        self.files.change(tag, change);
+        self.files.put_work(tag);
     }
 
     /// Answers `Tstartfile`: opens a file and makes it the work file. Its window and its length are told only if it was not open before.
     /// Errors, in this order: `NoFile`; `CommandFile`; `OutOfMemory`.
     #[tactic(auto, using(crate::proofs::FrameLaws::stamped_append), unfolding(crate::specs::Host::reply_startfile))]
-    pub(crate) fn start_file(&mut self, f: u16) -> Result<Vec<HFrame>, HostFault>
+    pub(crate) fn start_file(&mut self, tag: u16) -> Result<Vec<HFrame>, HostFault>
         requires { self.old.taken + 1 < 2 ^ 64 }
-        ensures allowed { OnOk result (first_of_checks (host_checks self.old (Tmesg.Tstartfile f)) ≡ None) }
-        ensures host { OnOk result (self.new ≡ (reply_startfile self.old f).0) }
-        ensures frames { IfOk result (λ frames. frames.items ≡ stamped (self.old.taken + 1) (reply_startfile self.old f).1) }
-        ensures refused { Refuses self.old (Tmesg.Tstartfile f) result }
+        ensures allowed { OnOk result (first_of_checks (host_checks self.old (Tmesg.Tstartfile tag)) ≡ None) }
+        ensures host { OnOk result (self.new ≡ (reply_startfile self.old tag).0) }
+        ensures frames { IfOk result (λ frames. frames.items ≡ stamped (self.old.taken + 1) (reply_startfile self.old tag).1) }
+        ensures refused { Refuses self.old (Tmesg.Tstartfile tag) result }
         ensures count { self.new.taken ≡ self.old.taken }
         ensures unchanged { OnErr result (self.new ≡ self.old) }
     {
-        self.wants_other(f)?;
+        self.wants_other(tag)?;
         let mut frames = Vec::new(self.alloc);
-        self.tell_opening(&mut frames, f)?;
+        self.tell_opening(&mut frames, tag)?;
         self.say(&mut frames, Hmesg::Hunlock)?;
-        self.change_work(f, FileChange::Open);
+        self.change_work(tag, FileChange::Open);
         Ok(frames)
     }
 
     /// Answers `Tworkfile`: makes an open file the work file, with the dot from `p` to `q`. Errors, in this order: `NoFile`;
     /// `CommandFile`; `NotOpen`; `BadPosition` if the text has no such range; `OutOfMemory`.
     #[tactic(auto, unfolding(crate::specs::Host::reply_workfile))]
-    pub(crate) fn work_file(&mut self, f: u16, p: u32, q: u32) -> Result<Vec<HFrame>, HostFault>
+    pub(crate) fn work_file(&mut self, tag: u16, p: u32, q: u32) -> Result<Vec<HFrame>, HostFault>
         requires { self.old.taken + 1 < 2 ^ 64 }
-        ensures allowed { OnOk result (first_of_checks (host_checks self.old (Tmesg.Tworkfile f p q)) ≡ None) }
-        ensures host { OnOk result (self.new ≡ (reply_workfile self.old f p q).0) }
-        ensures frames { IfOk result (λ frames. frames.items ≡ stamped (self.old.taken + 1) (reply_workfile self.old f p q).1) }
-        ensures refused { Refuses self.old (Tmesg.Tworkfile f p q) result }
+        ensures allowed { OnOk result (first_of_checks (host_checks self.old (Tmesg.Tworkfile tag p q)) ≡ None) }
+        ensures host { OnOk result (self.new ≡ (reply_workfile self.old tag p q).0) }
+        ensures frames { IfOk result (λ frames. frames.items ≡ stamped (self.old.taken + 1) (reply_workfile self.old tag p q).1) }
+        ensures refused { Refuses self.old (Tmesg.Tworkfile tag p q) result }
         ensures count { self.new.taken ≡ self.old.taken }
         ensures unchanged { OnErr result (self.new ≡ self.old) }
     {
-        self.wants_other(f)?;
-        self.wants_range(f, p, q)?;
+        self.wants_other(tag)?;
+        self.wants_range(tag, p, q)?;
         let mut frames = Vec::new(self.alloc);
-        self.say(&mut frames, Hmesg::Hcurrent(f))?;
-        self.change_work(f, FileChange::Dot(p, q));
+        self.say(&mut frames, Hmesg::Hcurrent(tag))?;
+        self.change_work(tag, FileChange::Dot(p, q));
         Ok(frames)
     }
 
     /// Answers `Tclose`: the file goes, with its text and its saved copy, and its tag is not given again. If it was the work file, there
     /// is none afterwards. Errors, in this order: `NoFile`; `CommandFile`; `NotOpen`; `OutOfMemory`.
     #[tactic(auto, unfolding(crate::specs::Host::reply_close))]
-    pub(crate) fn close(&mut self, f: u16) -> Result<Vec<HFrame>, HostFault>
+    pub(crate) fn close(&mut self, tag: u16) -> Result<Vec<HFrame>, HostFault>
         requires { self.old.taken + 1 < 2 ^ 64 }
-        ensures allowed { OnOk result (first_of_checks (host_checks self.old (Tmesg.Tclose f)) ≡ None) }
-        ensures host { OnOk result (self.new ≡ (reply_close self.old f).0) }
-        ensures frames { IfOk result (λ frames. frames.items ≡ stamped (self.old.taken + 1) (reply_close self.old f).1) }
-        ensures refused { Refuses self.old (Tmesg.Tclose f) result }
+        ensures allowed { OnOk result (first_of_checks (host_checks self.old (Tmesg.Tclose tag)) ≡ None) }
+        ensures host { OnOk result (self.new ≡ (reply_close self.old tag).0) }
+        ensures frames { IfOk result (λ frames. frames.items ≡ stamped (self.old.taken + 1) (reply_close self.old tag).1) }
+        ensures refused { Refuses self.old (Tmesg.Tclose tag) result }
         ensures count { self.new.taken ≡ self.old.taken }
         ensures unchanged { OnErr result (self.new ≡ self.old) }
     {
-        self.wants_other(f)?;
-        self.wants_open(f)?;
+        self.wants_other(tag)?;
+        self.wants_open(tag)?;
         let mut frames = Vec::new(self.alloc);
-        self.say(&mut frames, Hmesg::Hclose(f))?;
-        self.say(&mut frames, Hmesg::Hdelname(f))?;
+        self.say(&mut frames, Hmesg::Hclose(tag))?;
+        self.say(&mut frames, Hmesg::Hdelname(tag))?;
         self.say(&mut frames, Hmesg::Hunlock)?;
-        self.files.remove(f);
+        self.files.remove(tag);
         Ok(frames)
     }
 

@@ -12,47 +12,47 @@ use sam_runes::Runes;
 
 impl Host {
     /// Returns how many runes the text of the file has: at most `MAX_RUNES`, and 0 if there is no file.
-    pub(crate) fn text_len(&self, f: u16) -> u32
-        ensures len { result ≡ length (file_at self.now.files f).text }
-        ensures limit { length (file_at self.now.files f).text ≤ max_runes }
+    pub(crate) fn text_len(&self, tag: u16) -> u32
+        ensures len { result ≡ length (file_at self.now.files tag).text }
+        ensures limit { length (file_at self.now.files tag).text ≤ max_runes }
     {
-        self.files.text_len(f) as u32
+        self.files.text_len(tag) as u32
     }
 
     /// Copies what stands in the file from place `p` to place `q`. The only error is `OutOfMemory`.
-    pub(crate) fn part(&self, f: u16, p: u32, q: u32) -> Result<Runes, HostFault>
+    pub(crate) fn part(&self, tag: u16, p: u32, q: u32) -> Result<Runes, HostFault>
         requires ascending { p ≤ q }
-        requires within { q ≤ length (file_at self.now.files f).text }
-        ensures ok { IfOk result (λ r. r ≡ part (file_at self.now.files f).text p q) }
+        requires within { q ≤ length (file_at self.now.files tag).text }
+        ensures ok { IfOk result (λ r. r ≡ part (file_at self.now.files tag).text p q) }
         ensures memory { OnErr result (result ≡ Err HostFault.OutOfMemory) }
     {
-        Ok(self.files.copy_part(self.alloc, f, p, q)?)
+        Ok(self.files.copy_part(self.alloc, tag, p, q)?)
     }
 
     /// Tests that the file is there, and is not the command file. Errors, in this order: `NoFile`; `CommandFile`.
-    pub(crate) fn wants_other(&self, f: u16) -> Result<(), HostFault>
-        ensures answer { result ≡ unless (first_of_checks (unknown self.now f ∷ is_command f ∷ [])) tt }
-        ensures there { OnOk result (has_file self.now.files f ≡ true) }
-        ensures other { OnOk result ((f == 0) ≡ false) }
+    pub(crate) fn wants_other(&self, tag: u16) -> Result<(), HostFault>
+        ensures answer { result ≡ unless (first_of_checks (unknown self.now tag ∷ is_command tag ∷ [])) tt }
+        ensures there { OnOk result (has_file self.now.files tag ≡ true) }
+        ensures other { OnOk result ((tag == 0) ≡ false) }
     {
-        if !self.files.has(f) {
+        if !self.files.has(tag) {
             return Err(HostFault::NoFile);
         }
-        if f == 0 {
+        if tag == 0 {
             return Err(HostFault::CommandFile);
         }
         Ok(())
     }
 
     /// Tests that the file is there and open. Errors, in this order: `NoFile`; `NotOpen`.
-    pub(crate) fn wants_open(&self, f: u16) -> Result<(), HostFault>
-        ensures answer { result ≡ unless (first_of_checks (unknown self.now f ∷ not_opened self.now f ∷ [])) tt }
-        ensures there { OnOk result (has_file self.now.files f ≡ true) }
+    pub(crate) fn wants_open(&self, tag: u16) -> Result<(), HostFault>
+        ensures answer { result ≡ unless (first_of_checks (unknown self.now tag ∷ not_opened self.now tag ∷ [])) tt }
+        ensures there { OnOk result (has_file self.now.files tag ≡ true) }
     {
-        if !self.files.has(f) {
+        if !self.files.has(tag) {
             return Err(HostFault::NoFile);
         }
-        if !self.files.is_open(f) {
+        if !self.files.is_open(tag) {
             return Err(HostFault::NotOpen);
         }
         Ok(())
@@ -60,13 +60,14 @@ impl Host {
 
     /// Tests that the file is there and open, and has the place `p`. Errors, in this order: `NoFile`; `NotOpen`; `BadPosition` if `p` is
     /// past the end.
-    pub(crate) fn wants_place(&self, f: u16, p: u32) -> Result<(), HostFault>
-        ensures answer { result ≡ unless (first_of_checks (unknown self.now f ∷ not_opened self.now f ∷ past_end self.now f p ∷ [])) tt }
-        ensures there { OnOk result (has_file self.now.files f ≡ true) }
-        ensures within { OnOk result (p ≤ length (file_at self.now.files f).text) }
+    pub(crate) fn wants_place(&self, tag: u16, p: u32) -> Result<(), HostFault>
+        ensures answer { result
+            ≡ unless (first_of_checks (unknown self.now tag ∷ not_opened self.now tag ∷ past_end self.now tag p ∷ [])) tt }
+        ensures there { OnOk result (has_file self.now.files tag ≡ true) }
+        ensures within { OnOk result (p ≤ length (file_at self.now.files tag).text) }
     {
-        self.wants_open(f)?;
-        if self.files.is_past_end(f, p) {
+        self.wants_open(tag)?;
+        if self.files.is_past_end(tag, p) {
             return Err(HostFault::BadPosition);
         }
         Ok(())
@@ -74,15 +75,16 @@ impl Host {
 
     /// Tests that the file is there and open, and has the range from `p` to `q`. Errors, in this order: `NoFile`; `NotOpen`;
     /// `BadPosition` if `q` is below `p` or past the end.
-    pub(crate) fn wants_range(&self, f: u16, p: u32, q: u32) -> Result<(), HostFault>
-        ensures answer { result ≡ unless (first_of_checks (unknown self.now f ∷ not_opened self.now f ∷ no_range self.now f p q ∷ [])) tt }
-        ensures there { OnOk result (has_file self.now.files f ≡ true) }
-        ensures within { OnOk result ((p ≤ q) × (q ≤ length (file_at self.now.files f).text)) }
+    pub(crate) fn wants_range(&self, tag: u16, p: u32, q: u32) -> Result<(), HostFault>
+        ensures answer { result
+            ≡ unless (first_of_checks (unknown self.now tag ∷ not_opened self.now tag ∷ no_range self.now tag p q ∷ [])) tt }
+        ensures there { OnOk result (has_file self.now.files tag ≡ true) }
+        ensures within { OnOk result ((p ≤ q) × (q ≤ length (file_at self.now.files tag).text)) }
         ensures limit { OnOk result (q ≤ max_runes) }
     {
-        self.wants_open(f)?;
-        self.files.known_file(f);
-        if self.files.lacks_range(f, p, q) {
+        self.wants_open(tag)?;
+        self.files.known_file(tag);
+        if self.files.lacks_range(tag, p, q) {
             return Err(HostFault::BadPosition);
         }
         Ok(())

@@ -31,50 +31,50 @@ impl Host {
     pub(crate) fn grown(
         &self,
         frames: &mut Vec<HFrame>,
-        f: u16,
+        tag: u16,
         p: u32,
         runes: &[char],
     ) -> Result<(), HostFault>
         requires count { self.now.taken + 1 < 2 ^ 64 }
         requires limit { length runes.now ≤ max_runes }
-        ensures ok { OnOk result (Tells self.now frames.old.items frames.new.items (grown self.now.files f p runes.now)) }
+        ensures ok { OnOk result (Tells self.now frames.old.items frames.new.items (grown self.now.files tag p runes.now)) }
         ensures memory { OnErr result (result ≡ Err HostFault.OutOfMemory) }
     {
-        if !self.files.is_open(f) || runes.is_empty() {
+        if !self.files.is_open(tag) || runes.is_empty() {
             return Ok(());
         }
         if runes.len() > MOST_IN_MESSAGE {
-            return self.say(frames, Hmesg::Hgrow(f, p, runes.len() as u32));
+            return self.say(frames, Hmesg::Hgrow(tag, p, runes.len() as u32));
         }
         let copy = Runes::from_slice(self.alloc, runes)?;
-        self.say(frames, Hmesg::Hgrowdata(f, p, copy))
+        self.say(frames, Hmesg::Hgrowdata(tag, p, copy))
     }
 
     /// Tells that a file becomes dirty, if it was clean and is not the command file.
     #[tactic(auto, unfolding(crate::specs::Host::when))]
-    pub(crate) fn tell_dirty(&self, frames: &mut Vec<HFrame>, f: u16) -> Result<(), HostFault>
+    pub(crate) fn tell_dirty(&self, frames: &mut Vec<HFrame>, tag: u16) -> Result<(), HostFault>
         requires count { self.now.taken + 1 < 2 ^ 64 }
-        ensures ok { OnOk result (Tells self.now frames.old.items frames.new.items (told_dirty self.now.files f)) }
+        ensures ok { OnOk result (Tells self.now frames.old.items frames.new.items (told_dirty self.now.files tag)) }
         ensures memory { OnErr result (result ≡ Err HostFault.OutOfMemory) }
     {
-        if self.files.is_dirty(f) || f == 0 {
+        if self.files.is_dirty(tag) || tag == 0 {
             return Ok(());
         }
-        self.say(frames, Hmesg::Hdirty(f))
+        self.say(frames, Hmesg::Hdirty(tag))
     }
 
     /// Tells how long the text of a file that is being opened is; nothing if it is empty.
     #[tactic(auto, unfolding(crate::specs::Host::told_length, crate::specs::Host::when))]
-    pub(crate) fn tell_length(&self, frames: &mut Vec<HFrame>, f: u16) -> Result<(), HostFault>
+    pub(crate) fn tell_length(&self, frames: &mut Vec<HFrame>, tag: u16) -> Result<(), HostFault>
         requires count { self.now.taken + 1 < 2 ^ 64 }
-        ensures ok { OnOk result (Tells self.now frames.old.items frames.new.items (told_length f (file_at self.now.files f))) }
+        ensures ok { OnOk result (Tells self.now frames.old.items frames.new.items (told_length tag (file_at self.now.files tag))) }
         ensures memory { OnErr result (result ≡ Err HostFault.OutOfMemory) }
     {
-        let len = self.text_len(f);
+        let len = self.text_len(tag);
         if len == 0 {
             return Ok(());
         }
-        self.say(frames, Hmesg::Hgrow(f, 0, len))
+        self.say(frames, Hmesg::Hgrow(tag, 0, len))
     }
 
     /// Tells how a print ends: the command file's dot is empty at its new end, and the terminal is to look for gaps.
@@ -112,19 +112,19 @@ impl Host {
 
     /// Tells the tag and the name of a file, if there is a file and it was not announced.
     #[tactic(auto, unfolding(crate::specs::Host::when))]
-    pub(crate) fn tell_name(&self, frames: &mut Vec<HFrame>, f: u16) -> Result<(), HostFault>
+    pub(crate) fn tell_name(&self, frames: &mut Vec<HFrame>, tag: u16) -> Result<(), HostFault>
         requires count { self.now.taken + 1 < 2 ^ 64 }
-        ensures ok { OnOk result (Tells self.now frames.old.items frames.new.items (told_at f (slot self.now.files.slots f))) }
+        ensures ok { OnOk result (Tells self.now frames.old.items frames.new.items (told_at tag (slot self.now.files.slots tag))) }
         ensures memory { OnErr result (result ≡ Err HostFault.OutOfMemory) }
     {
-        let Some(file) = self.files.file(f) else {
+        let Some(file) = self.files.file(tag) else {
             return Ok(());
         };
         if file.is_announced() {
             return Ok(());
         }
         let name = file.name().copy(self.alloc)?;
-        self.say(frames, Hmesg::Hnewname(f))?;
-        self.say(frames, Hmesg::Hmovname(f, name))
+        self.say(frames, Hmesg::Hnewname(tag))?;
+        self.say(frames, Hmesg::Hmovname(tag, name))
     }
 }

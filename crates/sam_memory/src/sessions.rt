@@ -3,7 +3,7 @@
 //! In what order the threads go differs from run to run. So a session is compared with the world where its own events lead.
 
 ghost use Rattle.std.specs.Prelude.{◌≡◌};
-ghost use Rattle.sam_threads.specs.Told.{AreEnds};
+ghost use Rattle.sam_threads.specs.WorkerEnds.{AreEnds};
 
 use crate::worlds::is_same_world;
 use sam_lending::told_of;

@@ -12,9 +12,9 @@ use Rattle.sam_mesg.specs.declared.hmesg.Hmesg.{Hmesg}
 use Rattle.sam_host.specs.Host.{PlainHost}
 use Rattle.sam_term.specs.declared.lock.Lock.TheVariants.{CommandLock, NoLock}
 use Rattle.sam_term.specs.Locks.{is_command_line}
-use Rattle.sam_term.specs.Term.{PlainTerminal, Made, window_at, put_window, set_dot_of, is_open, is_any_locked, has_empty_dot, cut_rasp, composed, all_composed, flushed, sends, sends_if, unchanged, request_for, view_end, requested, cuts_dot, types, made_by, made_by_type, made_by_cut, made_by_paste, made_by_snarf, made_by_view}
-use Rattle.sam_term.specs.declared.files.Window.{Window}
-use Rattle.sam_term.specs.declared.files.Unsent.{Unsent}
+use Rattle.sam_term.specs.Term.{PlainTerminal, Made, window_at, put_window, set_dot_of, is_open, is_any_locked, has_empty_dot, cut_rasp, composed, all_composed, flushed, sends, sends_if, unchanged, request_for, view_end, requested, cuts_dot, types, event_outcome, made_by_type, made_by_cut, made_by_paste, made_by_snarf, made_by_view}
+use Rattle.sam_term.specs.declared.records.Window.{Window}
+use Rattle.sam_term.specs.declared.records.Unsent.{Unsent}
 use Rattle.sam_term.specs.declared.event.UserEvent.{UserEvent}
 use Rattle.sam_term.specs.declared.event.UserEvent.TheVariants.{Typed, Select, Cut, Paste, Snarf, Look, Search, Send, Dclick, Scroll, View, Open, Close, Write, Work, OpenCmd, New, Exit, Check, GetSnarf, SetSnarf, Version, Flush}
 use Rattle.sam_protocol.specs.Lens as lenses
@@ -139,7 +139,7 @@ module _ (t u : PlainTerminal) (f p q : ℕ) (shows : (g : ℕ) → view g u ≡
 
 -- ## Typing and pasting over the dot
 
-type_goes : (h : PlainHost) (t : PlainTerminal) (up : List Tmesg) (down : List Hmesg) (f : ℕ) (s : List ℕ) → InOrder h t up down → Passed t (Typed f s) → Goes h up down (made_by t (Typed f s))
+type_goes : (h : PlainHost) (t : PlainTerminal) (up : List Tmesg) (down : List Hmesg) (f : ℕ) (s : List ℕ) → InOrder h t up down → Passed t (Typed f s) → Goes h up down (event_outcome t (Typed f s))
 unfolding made_by_type
 type_goes h t up down f s o pass = then_goes h up down (cuts_dot t f) (λ u. if is_empty s then (u, []) else types u f p s) (go s refl)
   where
@@ -183,7 +183,7 @@ type_goes h t up down f s o pass = then_goes h up down (cuts_dot t f) (λ u. if 
           can = still_open t u f p q cut.shows Wide (λ r. (p ≤ length r) × (length r + length s ≤ max_runes)) wide narrow;
         }))
 
-paste_goes : (h : PlainHost) (t : PlainTerminal) (up : List Tmesg) (down : List Hmesg) (f : ℕ) → InOrder h t up down → Passed t (Paste f) → Goes h up down (made_by t (Paste f))
+paste_goes : (h : PlainHost) (t : PlainTerminal) (up : List Tmesg) (down : List Hmesg) (f : ℕ) → InOrder h t up down → Passed t (Paste f) → Goes h up down (event_outcome t (Paste f))
 unfolding made_by_paste
 paste_goes h t up down f o pass = then_goes h up down (cuts_dot t f) (λ u. sends u unchanged (Tpaste f p ∷ [])) (sends_goes h u (up ++ (cuts_dot t f).1) down (Tpaste f p) cut.goes refl may_paste)
   where
@@ -212,7 +212,7 @@ paste_goes h t up down f o pass = then_goes h up down (cuts_dot t f) (λ u. send
 
 -- ## Cut: what goes is kept by the host first
 
-cut_goes : (h : PlainHost) (t : PlainTerminal) (up : List Tmesg) (down : List Hmesg) (f : ℕ) → InOrder h t up down → Passed t (Cut f) → Goes h up down (made_by t (Cut f))
+cut_goes : (h : PlainHost) (t : PlainTerminal) (up : List Tmesg) (down : List Hmesg) (f : ℕ) → InOrder h t up down → Passed t (Cut f) → Goes h up down (event_outcome t (Cut f))
 unfolding made_by_cut
 cut_goes h t up down f o pass = go (has_empty_dot t f)
   where
@@ -245,7 +245,7 @@ cut_goes h t up down f o pass = go (has_empty_dot t f)
         then_goes h up down (flushed t) (λ u. (all_composed (cut_rasp u f p q) (Tsnarf f p q ∷ Tcut f p q ∷ []), Tsnarf f p q ∷ Tcut f p q ∷ []))
         (both (flushed t).0 (up ++ (flushed t).1) (flushed_goes h t up down o) (unsent-flushed t) same)
 
-snarf_goes : (h : PlainHost) (t : PlainTerminal) (up : List Tmesg) (down : List Hmesg) (f : ℕ) → InOrder h t up down → Passed t (Snarf f) → Goes h up down (made_by t (Snarf f))
+snarf_goes : (h : PlainHost) (t : PlainTerminal) (up : List Tmesg) (down : List Hmesg) (f : ℕ) → InOrder h t up down → Passed t (Snarf f) → Goes h up down (event_outcome t (Snarf f))
 unfolding made_by_snarf
 snarf_goes h t up down f o pass = go (has_empty_dot t f)
   where
@@ -281,7 +281,7 @@ shown_goes h t up down f w o i r k tidy = record {
 
 -- ## Every event
 
-pub event_goes : (h : PlainHost) (t : PlainTerminal) (up : List Tmesg) (down : List Hmesg) (e : UserEvent) → InOrder h t up down → Passed t e → Goes h up down (made_by t e)
+pub event_goes : (h : PlainHost) (t : PlainTerminal) (up : List Tmesg) (down : List Hmesg) (e : UserEvent) → InOrder h t up down → Passed t e → Goes h up down (event_outcome t e)
 unfolding made_by_view
 event_goes h t up down (Typed f s) o p = type_goes h t up down f s o p
 event_goes h t up down (Select f a b) o p =

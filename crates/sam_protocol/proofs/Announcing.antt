@@ -11,7 +11,7 @@ use Rattle.sam_mesg.specs.declared.hmesg.Hmesg.{Hmesg}
 use Rattle.sam_mesg.specs.declared.hmesg.Hmesg.TheVariants.{Hversion, Hnewname, Hmovname, Hack, Hunlock}
 use Rattle.sam_host.specs.declared.fault.HostFault.TheVariants.{BadVersion}
 use Rattle.sam_host.specs.Host.{PlainHost, when, told_names, reply_version}
-use Rattle.sam_protocol.specs.Lens.{Slot, Unknown, Known, Open, lens, Action, Skip, Needs_known, Join, Change, Free_command, HFile, Absent, Hidden, Named, Opened, Gone, IsOpened, IsCommandFile, Fits_slot, IsKept}
+use Rattle.sam_protocol.specs.Lens.{Slot, Unknown, Known, Open, lens, Action, Skip, Needs_known, Join, Change, Free_command, HFile, Absent, Hidden, Named, Opened, Gone, IsOpened, IsCommandFile, Fits_slot, Settles}
 use Rattle.sam_protocol.proofs.Lenses.{AreSkips}
 use Rattle.sam_protocol.specs.Frames.{at_file, only}
 use Rattle.sam_protocol.specs.View.{file_of, file_of_slot, file_in}
@@ -93,7 +93,7 @@ names_move d n k (suc i) g (Some x ∷ ss) given s e a y =
     (stays_put _ d n s (file_of_slot given (slot ss i)) (one_skips g k x (not x.announced) (not_same g k differs)) y)
     (λ s2 z. names_move d n (1 + k) i g ss given s2 (omega (arith, e)) (λ j. a (suc j)) z))
 
-version_kept : (u : List Action) (d : Bool) (n v : ℕ) (s : Slot) (file : HFile) → Moves u d v s file → IsKept (Change v ∷ (u ++ Skip ∷ Free_command ∷ [])) (lens true d n s) d v file
+version_kept : (u : List Action) (d : Bool) (n v : ℕ) (s : Slot) (file : HFile) → Moves u d v s file → Settles (Change v ∷ (u ++ Skip ∷ Free_command ∷ [])) (lens true d n s) d v file
 version_kept u d n v s file m = kept_by (Change v ∷ (u ++ Skip ∷ Free_command ∷ [])) (lens true d n s) (lens false d v m.slot) d v file
     (run-append_some u (Skip ∷ Free_command ∷ []) (lens true d v s) (lens true d v m.slot) m.runs)
     (refl, refl, refl, m.fits)
@@ -143,12 +143,12 @@ sync_version h v sound all l =
         (λ f. subst (λ (x : Option PlainFile). OpenAnnounced (unwrap_or x blank_file)) (sym (behind ss f)) (all f))
         (subst (λ (x : Option PlainFile). Fits_slot s (file_of_slot (nat_lt (suc g) (length ss)) x)) (sym (behind ss g)) y))
 
-    each : (g : ℕ) (s : Slot) → Fits_slot s (file_in ss g) → IsKept (at_file g (Hversion (common_version v) ∷ (names ++ Hack ∷ Hunlock ∷ []))) (lens true h.is_done h.version s) h.is_done
+    each : (g : ℕ) (s : Slot) → Fits_slot s (file_in ss g) → Settles (at_file g (Hversion (common_version v) ∷ (names ++ Hack ∷ Hunlock ∷ []))) (lens true h.is_done h.version s) h.is_done
         (common_version v) (file_in out.slots g)
     each g s y =
         let same : at_file g (Hversion (common_version v) ∷ (names ++ Hack ∷ Hunlock ∷ [])) ≡ Change (common_version v) ∷ (at_file g names ++ Skip ∷ Free_command ∷ []) =
         (λ i. version_action v l i ∷ at_file-append g names (Hack ∷ Hunlock ∷ []) i) in
-        subst (λ (u : List Action). IsKept u (lens true h.is_done h.version s) h.is_done (common_version v) (file_in out.slots g)) (sym same)
+        subst (λ (u : List Action). Settles u (lens true h.is_done h.version s) h.is_done (common_version v) (file_in out.slots g)) (sym same)
         (version_kept (at_file g names) h.is_done h.version (common_version v) s (file_in out.slots g) (moves g s y))
 
     slot_lasts : (b : Bool) (x : Option PlainFile) → (file_of_slot b x ≡ Gone → announced_slot b x ≡ Gone) × (IsOpened (file_of_slot b x) → IsOpened (announced_slot b x))

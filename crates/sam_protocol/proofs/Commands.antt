@@ -13,7 +13,7 @@ use Rattle.sam_mesg.specs.declared.hmesg.Hmesg.{Hmesg}
 use Rattle.sam_mesg.specs.declared.hmesg.Hmesg.TheVariants.{Hcurrent, Hunlock, Hbindname, Hnewname, Hmovname, Hsetdot, Hcheck}
 use Rattle.sam_host.specs.Host.{PlainHost, Reply, host_checks, reply_to, with_files, when, grown, told_length, printed, no_tag_left, is_command, reply_startcmdfile, reply_startfile, reply_startnewfile, reply_close, reply_exit}
 use Rattle.sam_host.specs.declared.fault.HostFault.TheVariants.{NoFile, CommandFile}
-use Rattle.sam_protocol.specs.Lens.{Slot, Unknown, Known, Open, Lens, lens, Action, Skip, Needs_known, Join, Bind, Close, Leave, Free_command, Exit, move, run, and_then, closes, is_close, HFile, Absent, Hidden, Named, Opened, Gone, IsOpened, IsCommandFile, Fits_slot, IsSettled, IsKept}
+use Rattle.sam_protocol.specs.Lens.{Slot, Unknown, Known, Open, Lens, lens, Action, Skip, Needs_known, Join, Bind, Close, Leave, Free_command, Exit, move, run, and_then, closes, is_close, HFile, Absent, Hidden, Named, Opened, Gone, IsOpened, IsCommandFile, Fits_slot, IsSettled, Settles}
 use Rattle.sam_protocol.proofs.Lenses.{AreSkips}
 use Rattle.sam_protocol.specs.Frames.{at_file, only}
 use Rattle.sam_protocol.proofs.Changes.{Change, Command, commanded, changed, change_by}
@@ -21,7 +21,7 @@ use Rattle.sam_protocol.specs.View.{file_of, file_in}
 use Rattle.sam_protocol.specs.Steady.{HasFiles}
 use Rattle.sam_protocol.proofs.Accepting.{Synced}
 use Rattle.sam_protocol.proofs.Runs.{run-append_some}
-use Rattle.sam_protocol.proofs.Kept.{settled_slot}
+use Rattle.sam_protocol.proofs.AllSettle.{settled_slot}
 use Rattle.sam_protocol.proofs.HostFiles.{put, put_other, put_same, put_again, file_in-put, file_in-free, file_in-push, not_given, in_slots, shown_at, file_opened, file_hidden, file_named, put_opened, Opens, Lasts, lasts_same, lasts_then, lasts_put, lasts_opened, still_has, works_on}
 use Rattle.sam_protocol.proofs.Tests.{test, last_test, window_tests}
 use Rattle.sam_protocol.proofs.Guards.{guarded_by, guarded_before, no_close_behind, no_close_skips, kept_by, at_file-append, skips_run}
@@ -87,7 +87,7 @@ carries_told d n a b f frames t t2 e is told =
     carries_at d n a b f frames told.acts (Opened t2) told.tells is (λ s x. moves_rewrite told.acts t t2 d n s told.rewrites (subst (Fits_slot s) e x)) (lasts_opened a b f t t2 e is)
 
 -- Hunlock ends it
-pub unlocks : (u : List Action) (d : Bool) (n : ℕ) (s : Slot) (file : HFile) → Moves u d n s file → IsKept (u ++ Free_command ∷ []) (lens true d n s) d n file
+pub unlocks : (u : List Action) (d : Bool) (n : ℕ) (s : Slot) (file : HFile) → Moves u d n s file → Settles (u ++ Free_command ∷ []) (lens true d n s) d n file
 unlocks u d n s file m = kept_by (u ++ Free_command ∷ []) (lens true d n s) (lens false d n m.slot) d n file
     (run-append_some u (Free_command ∷ []) (lens true d n s) (lens true d n m.slot) m.runs) (refl, refl, refl, m.fits)
     (guarded_before u (Free_command ∷ []) refl (guarded_by (Free_command ∷ []) refl)) (no_close_behind u (Free_command ∷ []) m.no_close refl)
@@ -100,10 +100,10 @@ exit_fits r k (Opened t) f = (refl, f.1)
 exit_fits r k Gone f = f
 
 -- so does Hexit
-pub exits_kept : (u : List Action) (d : Bool) (n : ℕ) (s : Slot) (file : HFile) → Moves u d n s file → IsKept (u ++ Exit ∷ []) (lens true d n s) true n file
+pub exits_kept : (u : List Action) (d : Bool) (n : ℕ) (s : Slot) (file : HFile) → Moves u d n s file → Settles (u ++ Exit ∷ []) (lens true d n s) true n file
 exits_kept u d n s file m = go m.slot m.runs m.fits
   where
-    go : (s2 : Slot) → run u (lens true d n s) ≡ Some (lens true d n s2) → Fits_slot s2 file → IsKept (u ++ Exit ∷ []) (lens true d n s) true n file
+    go : (s2 : Slot) → run u (lens true d n s) ≡ Some (lens true d n s2) → Fits_slot s2 file → Settles (u ++ Exit ∷ []) (lens true d n s) true n file
     go Unknown r f = kept_by (u ++ Exit ∷ []) (lens true d n s) (lens false true n Unknown) true n file (run-append_some u (Exit ∷ []) (lens true d n s) _ r) (refl, refl, refl, f)
         (guarded_before u (Exit ∷ []) refl (guarded_by (Exit ∷ []) refl)) (no_close_behind u (Exit ∷ []) m.no_close refl)
     go Known r f = kept_by (u ++ Exit ∷ []) (lens true d n s) (lens false true n Known) true n file (run-append_some u (Exit ∷ []) (lens true d n s) _ r) (refl, refl, refl, f)
@@ -115,7 +115,7 @@ exits_kept u d n s file m = go m.slot m.runs m.fits
 -- ## A message that takes the command lock
 
 pub commands : (h : PlainHost) (m : Tmesg) → change_by m ≡ Command → first_of_checks (host_checks h m) ≡ None
-    → ((g : ℕ) (s : Slot) → Fits_slot s (file_in h.files.slots g) → IsKept (at_file g (reply_to h m).1) (lens true h.is_done h.version s) (reply_to h m).0.is_done (reply_to h m).0.version
+    → ((g : ℕ) (s : Slot) → Fits_slot s (file_in h.files.slots g) → Settles (at_file g (reply_to h m).1) (lens true h.is_done h.version s) (reply_to h m).0.is_done (reply_to h m).0.version
     (file_in (reply_to h m).0.files.slots g))
     → ((g : ℕ) → file_in h.files.slots g ≡ Gone → file_in (reply_to h m).0.files.slots g ≡ Gone) → HasFiles (reply_to h m).0.files → Synced h m
 commands h m c passes each gone sound = record { passes = passes; each = kept; gone = gone; sound = sound }
@@ -123,21 +123,21 @@ commands h m c passes each gone sound = record { passes = passes; each = kept; g
     r : Reply
     r = reply_to h m
 
-    kept : (g : ℕ) (w : Lens) → IsSettled w h.is_done h.version (file_in h.files.slots g) → IsKept (at_file g r.1) (changed (change_by m) g w) r.0.is_done r.0.version (file_in r.0.files.slots g)
+    kept : (g : ℕ) (w : Lens) → IsSettled w h.is_done h.version (file_in h.files.slots g) → Settles (at_file g r.1) (changed (change_by m) g w) r.0.is_done r.0.version (file_in r.0.files.slots g)
     kept g w x =
         let s = settled_slot w h.is_done h.version (file_in h.files.slots g) x in
-        subst (λ (y : Lens). IsKept (at_file g r.1) y r.0.is_done r.0.version (file_in r.0.files.slots g)) (ap commanded (sym s.1) ∙ sym (ap (λ (k : Change). changed k g w) c)) (each g s.0 s.2)
+        subst (λ (y : Lens). Settles (at_file g r.1) y r.0.is_done r.0.version (file_in r.0.files.slots g)) (ap commanded (sym s.1) ∙ sym (ap (λ (k : Change). changed k g w) c)) (each g s.0 s.2)
 
 -- what a reply owes that ends the command lock: where the host is the same but for its files
 pub record Unlocked (h : PlainHost) (r : Reply) : Type 0 where
-  pub each : (g : ℕ) (s : Slot) → Fits_slot s (file_in h.files.slots g) → IsKept (at_file g r.1) (lens true h.is_done h.version s) r.0.is_done r.0.version (file_in r.0.files.slots g)
+  pub each : (g : ℕ) (s : Slot) → Fits_slot s (file_in h.files.slots g) → Settles (at_file g r.1) (lens true h.is_done h.version s) r.0.is_done r.0.version (file_in r.0.files.slots g)
   pub gone : (g : ℕ) → file_in h.files.slots g ≡ Gone → file_in r.0.files.slots g ≡ Gone
   pub sound : HasFiles r.0.files
 
 pub unlocked : (h : PlainHost) (fs : PlainFiles) (front : List Hmesg) → Carries h.is_done h.version (file_in h.files.slots) front (file_in fs.slots) → HasFiles fs
     → Unlocked h (with_files h fs, front ++ Hunlock ∷ [])
 unlocked h fs front c sound = record {
-  each = λ g s x. subst (λ (u : List Action). IsKept u (lens true h.is_done h.version s) h.is_done h.version (file_in fs.slots g)) (sym (at_file-append g front (Hunlock ∷ [])))
+  each = λ g s x. subst (λ (u : List Action). Settles u (lens true h.is_done h.version s) h.is_done h.version (file_in fs.slots g)) (sym (at_file-append g front (Hunlock ∷ [])))
       (unlocks (at_file g front) h.is_done h.version s (file_in fs.slots g) (c.moves g s x));
   gone = c.lasts.gone;
   sound = sound;
@@ -163,7 +163,7 @@ sync_exit h sound =
     commands h Texit refl refl (λ g s f. exits_kept [] h.is_done h.version s (file_in h.files.slots g) (stays_put [] h.is_done h.version s (file_in h.files.slots g) tt f)) (λ g e. e) sound
 
 -- a file is closed for good
-close_there : (d : Bool) (n : ℕ) (s : Slot) (t : List ℕ) → Fits_slot s (Opened t) → IsKept (Close ∷ Leave ∷ Free_command ∷ []) (lens true d n s) d n Gone
+close_there : (d : Bool) (n : ℕ) (s : Slot) (t : List ℕ) → Fits_slot s (Opened t) → Settles (Close ∷ Leave ∷ Free_command ∷ []) (lens true d n s) d n Gone
 close_there d n Unknown t f = absurd f
 close_there d n Known t f = absurd f
 close_there d n (Open r k) t f =
@@ -172,7 +172,7 @@ close_there d n (Open r k) t f =
 pub sync_close : (h : PlainHost) (f : ℕ) → HasFiles h.files → Opens h.files f → (f == 0) ≡ false → Synced h (Tclose f)
 unfolding reply_close
 sync_close h f sound o z = commands h (Tclose f) refl (window_tests h f o z [] refl)
-    (λ g s x. subst (IsKept (only (g == f) Close ∷ only (g == f) Leave ∷ Free_command ∷ []) (lens true h.is_done h.version s) h.is_done h.version) (sym (files g)) (each g s x (cases_Bool (g == f))))
+    (λ g s x. subst (Settles (only (g == f) Close ∷ only (g == f) Leave ∷ Free_command ∷ []) (lens true h.is_done h.version s) h.is_done h.version) (sym (files g)) (each g s x (cases_Bool (g == f))))
     (λ g e. files g ∙ gone g e (g == f))
     (record { works = λ g e. works g h.files.work (cleared_is h.files.work g e); commands = subst IsCommandFile (sym (files 0)) (command (cases_Bool (0 == f))) })
   where
@@ -183,10 +183,10 @@ sync_close h f sound o z = commands h (Tclose f) refl (window_tests h f o z [] r
     files = file_in-free h.files.slots f o.given
 
     each : (g : ℕ) (s : Slot) → Fits_slot s (a g) → ((g == f) ≡ true) ⊎ ((g == f) ≡ false)
-        → IsKept (only (g == f) Close ∷ only (g == f) Leave ∷ Free_command ∷ []) (lens true h.is_done h.version s) h.is_done h.version (put a f Gone g)
-    each g s x (inl e) = subst (λ (b : Bool). IsKept (only b Close ∷ only b Leave ∷ Free_command ∷ []) (lens true h.is_done h.version s) h.is_done h.version (if b then Gone else a g)) (sym e)
+        → Settles (only (g == f) Close ∷ only (g == f) Leave ∷ Free_command ∷ []) (lens true h.is_done h.version s) h.is_done h.version (put a f Gone g)
+    each g s x (inl e) = subst (λ (b : Bool). Settles (only b Close ∷ only b Leave ∷ Free_command ∷ []) (lens true h.is_done h.version s) h.is_done h.version (if b then Gone else a g)) (sym e)
         (close_there h.is_done h.version s (file_at h.files f).text (subst (Fits_slot s) (ap a (eqb-true _ _ e) ∙ o.shown) x))
-    each g s x (inr e) = subst (λ (b : Bool). IsKept (only b Close ∷ only b Leave ∷ Free_command ∷ []) (lens true h.is_done h.version s) h.is_done h.version (if b then Gone else a g)) (sym e)
+    each g s x (inr e) = subst (λ (b : Bool). Settles (only b Close ∷ only b Leave ∷ Free_command ∷ []) (lens true h.is_done h.version s) h.is_done h.version (if b then Gone else a g)) (sym e)
         (unlocks (Skip ∷ Skip ∷ []) h.is_done h.version s (a g) (stays_put (Skip ∷ Skip ∷ []) h.is_done h.version s (a g) (refl, (refl, tt)) x))
 
     gone : (g : ℕ) → a g ≡ Gone → (b : Bool) → (if b then Gone else a g) ≡ Gone

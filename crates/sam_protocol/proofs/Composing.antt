@@ -7,21 +7,21 @@ use Rattle.sam_mesg.specs.declared.tmesg.Tmesg.{Tmesg}
 use Rattle.sam_mesg.specs.declared.tmesg.Tmesg.TheVariants.{Tversion, Tcheck, Trequest, Torigin, Tstartfile, Tworkfile, Ttype, Tcut, Tpaste, Tsnarf, Twrite, Tclose, Tlook, Tsearch, Tsend, Tdclick}
 use Rattle.sam_mesg.specs.declared.hmesg.Hmesg.{Hmesg}
 use Rattle.sam_host.specs.Host.{PlainHost}
-use Rattle.sam_protocol.specs.Lens.{Lens, lens, Unknown, Known, Open, Action, HFile, Absent, Hidden, Named, Opened, Gone, IsSettled, IsKept, OpenAt, Anything}
+use Rattle.sam_protocol.specs.Lens.{Lens, lens, Unknown, Known, Open, Action, HFile, Absent, Hidden, Named, Opened, Gone, IsSettled, Settles, OpenAt, Anything}
 use Rattle.sam_protocol.proofs.Lenses.{IsFree, exited_of, command_of}
 use Rattle.sam_protocol.proofs.Changes.{change_by, changed, KnownAt, Within, IsAllowed, CanCompose}
 use Rattle.sam_protocol.specs.View.{file_in}
 use Rattle.sam_protocol.proofs.Accepting.{Ready, Accepted}
 use Rattle.sam_protocol.specs.Frames.{at_file}
-use Rattle.sam_protocol.specs.Fold.{Kept}
+use Rattle.sam_protocol.specs.Fold.{AllSettle}
 use Rattle.sam_protocol.proofs.Runs.{no_exit, exited_after}
-use Rattle.sam_protocol.proofs.Kept.{kept_free, exited_settled}
+use Rattle.sam_protocol.proofs.AllSettle.{kept_free, exited_settled}
 use Rattle.sam_protocol.proofs.Handling.{handled}
 use Rattle.sam_protocol.proofs.Steady.{steady_reply}
 use Rattle.sam_protocol.proofs.Folds.{acts}
 
 -- the host that will have handled all is not done where the terminal acts
-pub not_done_ahead : (h : PlainHost) (views : ℕ → Lens) (line : List Tmesg) (down : List Hmesg) (k : Kept h views line down) → exited_of (views 0) ≡ false → command_of (views 0) ≡ false
+pub not_done_ahead : (h : PlainHost) (views : ℕ → Lens) (line : List Tmesg) (down : List Hmesg) (k : AllSettle h views line down) → exited_of (views 0) ≡ false → command_of (views 0) ≡ false
     → k.ahead.is_done ≡ false
 not_done_ahead h views line down k e c =
     let s : List Action = at_file 0 (down ++ k.frames) in
@@ -38,7 +38,7 @@ pub record OpenBoth (P : List (Option ℕ) → Type 0) (file : HFile) : Type 0 w
   pub agrees : Agrees rasp text
   pub has : P rasp
 
-open_case : (P : List (Option ℕ) → Type 0) (s : List Action) (v : Lens) (d : Bool) (n : ℕ) (file : HFile) → IsKept s v d n file → OpenAt P v → OpenBoth P file
+open_case : (P : List (Option ℕ) → Type 0) (s : List Action) (v : Lens) (d : Bool) (n : ℕ) (file : HFile) → Settles s v d n file → OpenAt P v → OpenBoth P file
 open_case P s (lens c e n2 Unknown) d n file k o = absurd o
 open_case P s (lens c e n2 Known) d n file k o = absurd o
 open_case P s (lens c e n2 (Open r m)) d n file k o = go file (kept_free s (lens c e n2 (Open r m)) d n file k free)
@@ -53,7 +53,7 @@ open_case P s (lens c e n2 (Open r m)) d n file k o = go file (kept_free s (lens
     go (Opened t) x = record { rasp = r; text = t; opened = refl; agrees = x.3.1; has = o.2 }
     go Gone x = absurd x.3
 
-known_case : (s : List Action) (v : Lens) (d : Bool) (n : ℕ) (file : HFile) → IsKept s v d n file → IsFree v → KnownAt v → ((t : List ℕ) × (file ≡ Named t)) ⊎ ((t : List ℕ) × (file ≡ Opened t))
+known_case : (s : List Action) (v : Lens) (d : Bool) (n : ℕ) (file : HFile) → Settles s v d n file → IsFree v → KnownAt v → ((t : List ℕ) × (file ≡ Named t)) ⊎ ((t : List ℕ) × (file ≡ Opened t))
 known_case s v d n file k free o = go v file (kept_free s v d n file k free) o
   where
     go : (v : Lens) (file : HFile) → IsSettled v d n file → KnownAt v → ((t : List ℕ) × (file ≡ Named t)) ⊎ ((t : List ℕ) × (file ≡ Opened t))
@@ -73,7 +73,8 @@ within : (r : List (Option ℕ)) (t : List ℕ) (q : ℕ) → Agrees r t → q �
 within r t q a l = omega (arith, length_agrees r t a)
 
 -- what the terminal may compose is accepted by the host that will have handled all
-accepted : (h : PlainHost) (views : ℕ → Lens) (line : List Tmesg) (down : List Hmesg) (k : Kept h views line down) (m : Tmesg) → IsAllowed (change_by m) views → CanCompose m views → Accepted k.ahead m
+accepted : (h : PlainHost) (views : ℕ → Lens) (line : List Tmesg) (down : List Hmesg) (k : AllSettle h views line down) (m : Tmesg) → IsAllowed (change_by m) views → CanCompose m views
+    → Accepted k.ahead m
 accepted h views line down k m allowed can = go m allowed can
   where
     at : (P : List (Option ℕ) → Type 0) (f : ℕ) → OpenAt P (views f) → OpenBoth P (file_in k.ahead.files.slots f)
@@ -101,9 +102,9 @@ accepted h views line down k m allowed can = go m allowed can
     go _ a x = tt
 
 -- a message that the terminal composes of its own joins what is up
-pub composes : (h : PlainHost) (views : ℕ → Lens) (line : List Tmesg) (down : List Hmesg) (m : Tmesg) → Kept h views line down → exited_of (views 0) ≡ false → command_of (views 0) ≡ false
+pub composes : (h : PlainHost) (views : ℕ → Lens) (line : List Tmesg) (down : List Hmesg) (m : Tmesg) → AllSettle h views line down → exited_of (views 0) ≡ false → command_of (views 0) ≡ false
     → IsAllowed (change_by m) views → CanCompose m views
-    → Kept h (λ g. changed (change_by m) g (views g)) (line ++ m ∷ []) down
+    → AllSettle h (λ g. changed (change_by m) g (views g)) (line ++ m ∷ []) down
 composes h views line down m k here free allowed can =
     let d = not_done_ahead h views line down k here free in
     let ready : Ready k.ahead = record { steady = k.steady; running = d } in

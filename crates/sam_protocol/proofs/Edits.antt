@@ -11,38 +11,38 @@ use Rattle.sam_mesg.specs.declared.tmesg.Tmesg.TheVariants.{Tcheck, Tworkfile, T
 use Rattle.sam_term.specs.declared.lock.Lock.TheVariants.{CommandLock, NoLock}
 use Rattle.sam_term.specs.Locks.{is_command_line}
 use Rattle.sam_host.specs.Host.{PlainHost, Reply, host_checks, with_file, past_end, no_range, no_room, reply_check, reply_workfile, reply_cut, reply_snarf, reply_line, reply_type, reply_startsnarf, reply_setsnarf}
-use Rattle.sam_protocol.specs.Lens.{Open, Lens, lens, Action, Skip, Needs_known, Needs_open, move, run, and_then, is_crossing, is_close, HFile, Opened, IsSettled, IsKept, IsOpened}
+use Rattle.sam_protocol.specs.Lens.{Open, Lens, lens, Action, Skip, Needs_known, Needs_open, move, run, and_then, is_crossing, is_close, HFile, Opened, IsSettled, Settles, IsOpened}
 use Rattle.sam_protocol.specs.Frames.{at_file, only}
 use Rattle.sam_protocol.proofs.Changes.{type_change, typed_in, cut_out, changed}
 use Rattle.sam_protocol.specs.View.{file_in}
 use Rattle.sam_protocol.specs.Steady.{HasFiles}
 use Rattle.sam_protocol.proofs.Accepting.{Synced}
-use Rattle.sam_protocol.proofs.Kept.{kept_skips, settled_opened}
+use Rattle.sam_protocol.proofs.AllSettle.{kept_skips, settled_opened}
 use Rattle.sam_protocol.proofs.HostFiles.{put, put_again, put_opened, Opens, Lasts, lasts_opened, lasts_same, still_has, works_on}
 use Rattle.sam_protocol.proofs.Tests.{open_tests, window_tests, place_test, range_test, room_test}
 use Rattle.sam_protocol.proofs.Guards.{kept_by}
 
-nothing : (v : Lens) (d : Bool) (n : ℕ) (file : HFile) → IsSettled v d n file → IsKept [] v d n file
+nothing : (v : Lens) (d : Bool) (n : ℕ) (file : HFile) → IsSettled v d n file → Settles [] v d n file
 nothing v d n file s = kept_by [] v v d n file refl s tt refl
 
 -- an edit of f's rasp, made in the host's text too, and no frame
 edit_case : (h k : PlainHost) (f : ℕ) (text : List ℕ) (e : Lens → Lens) → Opens h.files f → ((g : ℕ) → file_in k.files.slots g ≡ put (file_in h.files.slots) f (Opened text) g)
     → k.is_done ≡ h.is_done → k.version ≡ h.version
     → ((r : List (Option ℕ)) → Agrees r (file_at h.files f).text → IsSettled (e (lens false h.is_done h.version (Open r 0))) h.is_done h.version (Opened text))
-    → (g : ℕ) (w : Lens) → IsSettled w h.is_done h.version (file_in h.files.slots g) → IsKept [] (if g == f then e w else w) k.is_done k.version (file_in k.files.slots g)
+    → (g : ℕ) (w : Lens) → IsSettled w h.is_done h.version (file_in h.files.slots g) → Settles [] (if g == f then e w else w) k.is_done k.version (file_in k.files.slots g)
 edit_case h k f text e o files done version keeps g w s =
-    subst (λ (x : Bool). IsKept [] (if g == f then e w else w) x k.version (file_in k.files.slots g)) (sym done)
-    (subst (λ (x : ℕ). IsKept [] (if g == f then e w else w) h.is_done x (file_in k.files.slots g)) (sym version)
-    (subst (λ (x : HFile). IsKept [] (if g == f then e w else w) h.is_done h.version x) (sym (files g)) (go (cases_Bool (g == f)))))
+    subst (λ (x : Bool). Settles [] (if g == f then e w else w) x k.version (file_in k.files.slots g)) (sym done)
+    (subst (λ (x : ℕ). Settles [] (if g == f then e w else w) h.is_done x (file_in k.files.slots g)) (sym version)
+    (subst (λ (x : HFile). Settles [] (if g == f then e w else w) h.is_done h.version x) (sym (files g)) (go (cases_Bool (g == f)))))
   where
-    here : g ≡ f → IsKept [] (e w) h.is_done h.version (Opened text)
+    here : g ≡ f → Settles [] (e w) h.is_done h.version (Opened text)
     here q =
         let u = settled_opened w h.is_done h.version (file_at h.files f).text (subst (IsSettled w h.is_done h.version) (ap (file_in h.files.slots) q ∙ o.shown) s) in
-        subst (λ (x : Lens). IsKept [] (e x) h.is_done h.version (Opened text)) (sym u.1) (nothing _ _ _ _ (keeps u.0 u.2))
+        subst (λ (x : Lens). Settles [] (e x) h.is_done h.version (Opened text)) (sym u.1) (nothing _ _ _ _ (keeps u.0 u.2))
 
-    go : ((g == f) ≡ true) ⊎ ((g == f) ≡ false) → IsKept [] (if g == f then e w else w) h.is_done h.version (put (file_in h.files.slots) f (Opened text) g)
-    go (inl q) = subst (λ (b : Bool). IsKept [] (if b then e w else w) h.is_done h.version (if b then Opened text else file_in h.files.slots g)) (sym q) (here (eqb-true _ _ q))
-    go (inr q) = subst (λ (b : Bool). IsKept [] (if b then e w else w) h.is_done h.version (if b then Opened text else file_in h.files.slots g)) (sym q) (nothing _ _ _ _ s)
+    go : ((g == f) ≡ true) ⊎ ((g == f) ≡ false) → Settles [] (if g == f then e w else w) h.is_done h.version (put (file_in h.files.slots) f (Opened text) g)
+    go (inl q) = subst (λ (b : Bool). Settles [] (if b then e w else w) h.is_done h.version (if b then Opened text else file_in h.files.slots g)) (sym q) (here (eqb-true _ _ q))
+    go (inr q) = subst (λ (b : Bool). Settles [] (if b then e w else w) h.is_done h.version (if b then Opened text else file_in h.files.slots g)) (sym q) (nothing _ _ _ _ s)
 
 pub sync_cut : (h : PlainHost) (f p q : ℕ) → HasFiles h.files → Opens h.files f → p ≤ q → q ≤ length (file_at h.files f).text → Synced h (Tcut f p q)
 unfolding reply_cut
@@ -78,7 +78,7 @@ unfolding reply_type
 sync_type h f p s sound o l room ends = record {
   passes = type_passes h f p s o l room;
   each = λ g w x. subst
-      (λ (b : Bool). IsKept (at_file g (if b then line else (typed, [])).1) (changed (type_change (if b then CommandLock else NoLock) f p s) g w) (if b then line else (typed, [])).0.is_done
+      (λ (b : Bool). Settles (at_file g (if b then line else (typed, [])).1) (changed (type_change (if b then CommandLock else NoLock) f p s) g w) (if b then line else (typed, [])).0.is_done
       (if b then line else (typed, [])).0.version (file_in (if b then line else (typed, [])).0.files.slots g)) (sym ends)
       (edit_case h typed f (ins t p s) (typed_in p s) o files refl refl (λ r a. (refl, refl, refl, (refl, agrees_typed r t s p a))) g w x);
   gone = λ g e. ap (λ (b : Bool). file_in (if b then line else (typed, [])).0.files.slots g) ends ∙ lasts.gone g e;
@@ -102,17 +102,17 @@ sync_type h f p s sound o l room ends = record {
 
 -- frames that need the file to be there, and change nothing
 checks : (f : ℕ) (t : List ℕ) (a : Action) (g : ℕ) (w : Lens) (d : Bool) (n : ℕ) (file : HFile) → (g ≡ f → file ≡ Opened t) → IsSettled w d n file → is_close a ≡ false → is_crossing a ≡ false
-    → ((r : List (Option ℕ)) → move a (lens false d n (Open r 0)) ≡ Some (lens false d n (Open r 0))) → IsKept (only (g == f) a ∷ []) w d n file
+    → ((r : List (Option ℕ)) → move a (lens false d n (Open r 0)) ≡ Some (lens false d n (Open r 0))) → Settles (only (g == f) a ∷ []) w d n file
 checks f t a g w d n file was s close crossing m = go (cases_Bool (g == f))
   where
-    go : ((g == f) ≡ true) ⊎ ((g == f) ≡ false) → IsKept (only (g == f) a ∷ []) w d n file
+    go : ((g == f) ≡ true) ⊎ ((g == f) ≡ false) → Settles (only (g == f) a ∷ []) w d n file
     go (inl q) =
         let e = was (eqb-true _ _ q) in
         let o = settled_opened w d n t (subst (IsSettled w d n) e s) in
-        subst (λ (b : Bool). IsKept (only b a ∷ []) w d n file) (sym q)
+        subst (λ (b : Bool). Settles (only b a ∷ []) w d n file) (sym q)
         (kept_by (a ∷ []) w w d n file (subst (λ (x : Lens). and_then (move a x) (run []) ≡ Some x) (sym o.1) (ap (λ (y : Option Lens). and_then y (run [])) (m o.0))) s
         ((λ c. absurd (true≢false (sym c ∙ crossing))), tt) (ap (λ (b : Bool). b || false) close))
-    go (inr q) = subst (λ (b : Bool). IsKept (only b a ∷ []) w d n file) (sym q) (kept_by (Skip ∷ []) w w d n file refl s ((λ c. absurd (true≢false (sym c))), tt) refl)
+    go (inr q) = subst (λ (b : Bool). Settles (only b a ∷ []) w d n file) (sym q) (kept_by (Skip ∷ []) w w d n file refl s ((λ c. absurd (true≢false (sym c))), tt) refl)
 
 -- the host keeps its files
 kept_files : (h : PlainHost) (fs : PlainFiles) → fs.slots ≡ h.files.slots → fs.work ≡ h.files.work → HasFiles h.files → HasFiles fs
@@ -131,7 +131,7 @@ pub sync_work : (h : PlainHost) (f p q : ℕ) → HasFiles h.files → Opens h.f
 unfolding reply_workfile
 sync_work h f p q sound o z l l2 = record {
   passes = window_tests h f o z (no_range h f p q ∷ []) (range_test h f p q l l2);
-  each = λ g w s. subst (λ (x : HFile). IsKept (only (g == f) Needs_known ∷ []) w h.is_done h.version x) (sym (same g))
+  each = λ g w s. subst (λ (x : HFile). Settles (only (g == f) Needs_known ∷ []) w h.is_done h.version x) (sym (same g))
       (checks f (file_at h.files f).text Needs_known g w h.is_done h.version (file_in h.files.slots g) (λ e. ap (file_in h.files.slots) e ∙ o.shown) s refl refl (λ r. refl));
   gone = λ g e. same g ∙ e;
   sound = works_on h.files k f sound refl z (subst IsOpened (sym (same f ∙ o.shown)) tt) (lasts_same (file_in h.files.slots) (file_in k.slots) same);

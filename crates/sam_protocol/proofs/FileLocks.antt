@@ -16,7 +16,7 @@ use Rattle.sam_mesg.specs.declared.hmesg.Hmesg.{Hmesg}
 use Rattle.sam_mesg.specs.declared.hmesg.Hmesg.TheVariants.{Horigin, Hdata, Hunlockfile, Hsetdot, Hmoveto, Hcheck, Hsetpat, Hclean, Hdirty}
 use Rattle.sam_host.specs.Host.{PlainHost, Reply, host_checks, reply_to, with_file, with_files, when, grown, past_end, no_range, reply_found, reply_request, reply_origin, reply_paste, reply_write, reply_look, reply_search, reply_dclick}
 use Rattle.sam_host.specs.declared.fault.HostFault.TheVariants.{NoFile, NotOpen}
-use Rattle.sam_protocol.specs.Lens.{Open, Lens, lens, Action, Fill, Free_file, HFile, Opened, IsSettled, IsKept}
+use Rattle.sam_protocol.specs.Lens.{Open, Lens, lens, Action, Fill, Free_file, HFile, Opened, IsSettled, Settles}
 use Rattle.sam_protocol.proofs.Lenses.{locked_more, AreSkips, request_actions}
 use Rattle.sam_protocol.specs.Frames.{at_file, only}
 use Rattle.sam_protocol.proofs.Changes.{Change, Lock, changed, change_by}
@@ -24,7 +24,7 @@ use Rattle.sam_protocol.specs.View.{file_in}
 use Rattle.sam_protocol.specs.Steady.{HasFiles}
 use Rattle.sam_protocol.proofs.Accepting.{Synced}
 use Rattle.sam_protocol.proofs.Runs.{run-append_some}
-use Rattle.sam_protocol.proofs.Kept.{kept_skips, kept_data, settled_opened}
+use Rattle.sam_protocol.proofs.AllSettle.{kept_skips, kept_data, settled_opened}
 use Rattle.sam_protocol.proofs.HostFiles.{put, put_again, put_opened, Opens, Lasts, lasts_opened, still_has}
 use Rattle.sam_protocol.proofs.Tests.{open_tests, window_tests, place_test, range_test, test, last_test}
 use Rattle.sam_protocol.proofs.Guards.{guarded_by, guarded_before, no_close_behind, kept_by, at_file-append, skips-append}
@@ -43,7 +43,7 @@ record HasText (h k : PlainHost) (f : ℕ) (text : List ℕ) : Type 0 where
 record Freed (h : PlainHost) (f : ℕ) (r : Reply) : Type 0 where
   text : List ℕ
   has : HasText h r.0 f text
-  here : (rasp : List (Option ℕ)) → Agrees rasp (file_at h.files f).text → IsKept (at_file f r.1) (lens false h.is_done h.version (Open rasp 1)) h.is_done h.version (Opened text)
+  here : (rasp : List (Option ℕ)) → Agrees rasp (file_at h.files f).text → Settles (at_file f r.1) (lens false h.is_done h.version (Open rasp 1)) h.is_done h.version (Opened text)
   elsewhere : (g : ℕ) → (g == f) ≡ false → AreSkips (at_file g r.1)
 
 -- a message that locks f, with such an answer
@@ -60,26 +60,26 @@ locks h m f c sound o passes k = record { passes = passes; each = each; gone = l
     lasts = lasts_opened (file_in h.files.slots) (file_in r.0.files.slots) f t k.text o.shown k.has.files
 
     -- what is kept, in the words of the host before
-    after : (g : ℕ) (v : Lens) → IsKept (at_file g r.1) v h.is_done h.version (put (file_in h.files.slots) f (Opened k.text) g)
-        → IsKept (at_file g r.1) v r.0.is_done r.0.version (file_in r.0.files.slots g)
+    after : (g : ℕ) (v : Lens) → Settles (at_file g r.1) v h.is_done h.version (put (file_in h.files.slots) f (Opened k.text) g)
+        → Settles (at_file g r.1) v r.0.is_done r.0.version (file_in r.0.files.slots g)
     after g v x =
-        subst (λ (y : HFile). IsKept (at_file g r.1) v r.0.is_done r.0.version y) (sym (k.has.files g))
-        (subst (λ (y : ℕ). IsKept (at_file g r.1) v r.0.is_done y (put (file_in h.files.slots) f (Opened k.text) g)) (sym k.has.version)
-        (subst (λ (y : Bool). IsKept (at_file g r.1) v y h.version (put (file_in h.files.slots) f (Opened k.text) g)) (sym k.has.done) x))
+        subst (λ (y : HFile). Settles (at_file g r.1) v r.0.is_done r.0.version y) (sym (k.has.files g))
+        (subst (λ (y : ℕ). Settles (at_file g r.1) v r.0.is_done y (put (file_in h.files.slots) f (Opened k.text) g)) (sym k.has.version)
+        (subst (λ (y : Bool). Settles (at_file g r.1) v y h.version (put (file_in h.files.slots) f (Opened k.text) g)) (sym k.has.done) x))
 
-    each : (g : ℕ) (w : Lens) → IsSettled w h.is_done h.version (file_in h.files.slots g) → IsKept (at_file g r.1) (changed (change_by m) g w) r.0.is_done r.0.version (file_in r.0.files.slots g)
-    each g w s = subst (λ (x : Change). IsKept (at_file g r.1) (changed x g w) r.0.is_done r.0.version (file_in r.0.files.slots g)) (sym c) (after g _ (go (cases_Bool (g == f))))
+    each : (g : ℕ) (w : Lens) → IsSettled w h.is_done h.version (file_in h.files.slots g) → Settles (at_file g r.1) (changed (change_by m) g w) r.0.is_done r.0.version (file_in r.0.files.slots g)
+    each g w s = subst (λ (x : Change). Settles (at_file g r.1) (changed x g w) r.0.is_done r.0.version (file_in r.0.files.slots g)) (sym c) (after g _ (go (cases_Bool (g == f))))
       where
-        here : g ≡ f → IsKept (at_file g r.1) (locked_more w) h.is_done h.version (Opened k.text)
+        here : g ≡ f → Settles (at_file g r.1) (locked_more w) h.is_done h.version (Opened k.text)
         here e =
             let u = settled_opened w h.is_done h.version t (subst (IsSettled w h.is_done h.version) (ap (file_in h.files.slots) e ∙ o.shown) s) in
-            subst (λ (y : Lens). IsKept (at_file g r.1) (locked_more y) h.is_done h.version (Opened k.text)) (sym u.1)
-            (subst (λ (y : ℕ). IsKept (at_file y r.1) (lens false h.is_done h.version (Open u.0 1)) h.is_done h.version (Opened k.text)) (sym e) (k.here u.0 u.2))
+            subst (λ (y : Lens). Settles (at_file g r.1) (locked_more y) h.is_done h.version (Opened k.text)) (sym u.1)
+            (subst (λ (y : ℕ). Settles (at_file y r.1) (lens false h.is_done h.version (Open u.0 1)) h.is_done h.version (Opened k.text)) (sym e) (k.here u.0 u.2))
 
-        go : ((g == f) ≡ true) ⊎ ((g == f) ≡ false) → IsKept (at_file g r.1) (if g == f then locked_more w else w) h.is_done h.version (if g == f then Opened k.text else file_in h.files.slots g)
+        go : ((g == f) ≡ true) ⊎ ((g == f) ≡ false) → Settles (at_file g r.1) (if g == f then locked_more w else w) h.is_done h.version (if g == f then Opened k.text else file_in h.files.slots g)
         go (inl e) =
-            subst (λ (b : Bool). IsKept (at_file g r.1) (if b then locked_more w else w) h.is_done h.version (if b then Opened k.text else file_in h.files.slots g)) (sym e) (here (eqb-true _ _ e))
-        go (inr e) = subst (λ (b : Bool). IsKept (at_file g r.1) (if b then locked_more w else w) h.is_done h.version (if b then Opened k.text else file_in h.files.slots g)) (sym e)
+            subst (λ (b : Bool). Settles (at_file g r.1) (if b then locked_more w else w) h.is_done h.version (if b then Opened k.text else file_in h.files.slots g)) (sym e) (here (eqb-true _ _ e))
+        go (inr e) = subst (λ (b : Bool). Settles (at_file g r.1) (if b then locked_more w else w) h.is_done h.version (if b then Opened k.text else file_in h.files.slots g)) (sym e)
             (kept_skips (at_file g r.1) w h.is_done h.version (file_in h.files.slots g) (k.elsewhere g e) s)
 
 -- the host as it was
@@ -100,12 +100,12 @@ freed h k f front text has told = record { text = text; has = has; here = here; 
     n : ℕ
     n = h.version
 
-    here : (rasp : List (Option ℕ)) → Agrees rasp (file_at h.files f).text → IsKept (at_file f (front ++ Hunlockfile f ∷ [])) (lens false d n (Open rasp 1)) d n (Opened text)
+    here : (rasp : List (Option ℕ)) → Agrees rasp (file_at h.files f).text → Settles (at_file f (front ++ Hunlockfile f ∷ [])) (lens false d n (Open rasp 1)) d n (Opened text)
     here rasp a =
         let x = told.rewrites.runs false d n rasp 1 a in
         let same : told.acts ++ Free_file ∷ [] ≡ at_file f (front ++ Hunlockfile f ∷ []) =
         (λ i. sym (tells_there f f front told.acts (told.tells f) (eq-eqb f f refl)) i ++ only (sym (eq-eqb f f refl) i) Free_file ∷ []) ∙ sym (at_file-append f front (Hunlockfile f ∷ [])) in
-        subst (λ (u : List Action). IsKept u (lens false d n (Open rasp 1)) d n (Opened text)) same
+        subst (λ (u : List Action). Settles u (lens false d n (Open rasp 1)) d n (Opened text)) same
         (kept_by (told.acts ++ Free_file ∷ []) (lens false d n (Open rasp 1)) (lens false d n (Open x.rasp 0)) d n (Opened text)
         (run-append_some told.acts (Free_file ∷ []) (lens false d n (Open rasp 1)) (lens false d n (Open x.rasp 1)) x.is)
         (refl, refl, refl, (refl, x.agrees))
@@ -285,8 +285,9 @@ sync_request h f p n d sound o =
     t : List ℕ
     t = (file_at h.files f).text
 
-    here : (rasp : List (Option ℕ)) → Agrees rasp t → IsKept (at_file f (reply_request h f p n).1) (lens false h.is_done h.version (Open rasp 1)) h.is_done h.version (Opened t)
+    here : (rasp : List (Option ℕ)) → Agrees rasp t → Settles (at_file f (reply_request h f p n).1) (lens false h.is_done h.version (Open rasp 1)) h.is_done h.version (Opened t)
     here rasp a =
-        subst (λ (u : List Action). IsKept u (lens false h.is_done h.version (Open rasp 1)) h.is_done h.version (Opened t))
+        subst (λ (u : List Action). Settles u (lens false h.is_done h.version (Open rasp 1)) h.is_done h.version (Opened t))
         (sym (tells_there f f (reply_request h f p n).1 (request_actions false (Opened t) p n) (request_tells h f p n o f) (eq-eqb f f refl)))
-        (subst (λ (b : Bool). IsKept (request_actions b (Opened t) p n) (lens false h.is_done h.version (Open rasp 1)) h.is_done h.version (Opened t)) d (kept_data h.is_done h.version rasp t p n d a))
+        (subst (λ (b : Bool). Settles (request_actions b (Opened t) p n) (lens false h.is_done h.version (Open rasp 1)) h.is_done h.version (Opened t)) d
+        (kept_data h.is_done h.version rasp t p n d a))

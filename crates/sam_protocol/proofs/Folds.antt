@@ -9,15 +9,15 @@ use Rattle.sam_mesg.specs.declared.hmesg.Hmesg.{Hmesg}
 use Rattle.sam_host.specs.Host.{PlainHost, Reply, counted, host_checks, reply_to, reply_request}
 use Rattle.sam_host.specs.declared.fault.HostFault.{HostFault}
 use Rattle.sam_protocol.proofs.Lenses.{locked_more, IsFree, IsAlike, IsOpen, exited_of, CanRequest, request_actions}
-use Rattle.sam_protocol.specs.Lens.{Lens, lens, Unknown, Known, Open, Action, move, HFile, Absent, Hidden, Named, Opened, Gone, IsKept}
+use Rattle.sam_protocol.specs.Lens.{Lens, lens, Unknown, Known, Open, Action, move, HFile, Absent, Hidden, Named, Opened, Gone, Settles}
 use Rattle.sam_protocol.specs.Frames.{at_file, action, only, VersionsGuarded}
 use Rattle.sam_protocol.proofs.Changes.{change_by, Change, Same, Lock, Command, Types, Cuts, Line, changed, commanded, typed_in, cut_out, IsAllowed}
 use Rattle.sam_protocol.specs.View.{file_in}
 use Rattle.sam_protocol.proofs.Accepting.{Synced}
 use Rattle.sam_protocol.specs.Steady.{IsSteady}
-use Rattle.sam_protocol.specs.Fold.{replied, reply_of, behind, replied_then, answers, Kept}
+use Rattle.sam_protocol.specs.Fold.{replied, reply_of, behind, replied_then, answers, AllSettle}
 use Rattle.sam_protocol.proofs.Versions.{versions-append, guarded_reply}
-use Rattle.sam_protocol.proofs.Kept.{kept_take, kept_append, kept_act, kept_more, kept_request, kept_skips, alike_same}
+use Rattle.sam_protocol.proofs.AllSettle.{kept_take, kept_append, kept_act, kept_more, kept_request, kept_skips, alike_same}
 use Rattle.sam_protocol.proofs.HostFiles.{opens_at, gone_at}
 use Rattle.sam_protocol.proofs.Guards.{at_file-append}
 use Rattle.sam_protocol.proofs.Telling.{tells_there, tells_elsewhere}
@@ -61,9 +61,9 @@ answers-append h (m ∷ ms) ns a b e f =
 pub record HostTaken (h : PlainHost) (views : ℕ → Lens) (m : Tmesg) (line : List Tmesg) (down : List Hmesg) : Type 0 where
   pub reply : Reply
   pub answers_it : reply_of h m ≡ Some reply
-  pub kept : Kept reply.0 views line (down ++ reply.1)
+  pub kept : AllSettle reply.0 views line (down ++ reply.1)
 
-pub host_takes : (h : PlainHost) (views : ℕ → Lens) (m : Tmesg) (line : List Tmesg) (down : List Hmesg) → Kept h views (m ∷ line) down → HostTaken h views m line down
+pub host_takes : (h : PlainHost) (views : ℕ → Lens) (m : Tmesg) (line : List Tmesg) (down : List Hmesg) → AllSettle h views (m ∷ line) down → HostTaken h views m line down
 host_takes h views m line down k =
     let t = answered h m line (k.ahead, k.frames) k.folds in
     let ahead : k.ahead ≡ t.rest.0 = ap (λ (x : Reply). x.0) t.whole in
@@ -77,7 +77,7 @@ host_takes h views m line down k =
             ahead = k.ahead;
             frames = t.rest.1;
             folds = t.later ∙ ap (λ (x : PlainHost). Some (x, t.rest.1)) (sym ahead);
-            each = λ g. subst (λ (u : List Hmesg). IsKept (at_file g u) (views g) k.ahead.is_done k.ahead.version (file_in k.ahead.files.slots g)) same (k.each g);
+            each = λ g. subst (λ (u : List Hmesg). Settles (at_file g u) (views g) k.ahead.is_done k.ahead.version (file_in k.ahead.files.slots g)) same (k.each g);
             steady = k.steady;
             versions = subst (λ (u : List Hmesg). VersionsGuarded u) same k.versions;
           };
@@ -86,20 +86,21 @@ host_takes h views m line down k =
 -- ## The terminal takes the first frame
 
 -- no lens refuses it
-pub frame_moves : (h : PlainHost) (views : ℕ → Lens) (line : List Tmesg) (m : Hmesg) (down : List Hmesg) → Kept h views line (m ∷ down) → (g : ℕ) → (v : Lens) × (move (action g m) (views g) ≡ Some v)
+pub frame_moves : (h : PlainHost) (views : ℕ → Lens) (line : List Tmesg) (m : Hmesg) (down : List Hmesg) → AllSettle h views line (m ∷ down) → (g : ℕ)
+    → (v : Lens) × (move (action g m) (views g) ≡ Some v)
 frame_moves h views line m down k g =
     let t = kept_take (action g m) (at_file g (down ++ k.frames)) (views g) k.ahead.is_done k.ahead.version (file_in k.ahead.files.slots g) (k.each g) in
     (t.mid, t.moves)
 
-pub term_takes : (h : PlainHost) (views views2 : ℕ → Lens) (line : List Tmesg) (m : Hmesg) (down : List Hmesg) → Kept h views line (m ∷ down)
-    → ((g : ℕ) → move (action g m) (views g) ≡ Some (views2 g)) → Kept h views2 line down
+pub term_takes : (h : PlainHost) (views views2 : ℕ → Lens) (line : List Tmesg) (m : Hmesg) (down : List Hmesg) → AllSettle h views line (m ∷ down)
+    → ((g : ℕ) → move (action g m) (views g) ≡ Some (views2 g)) → AllSettle h views2 line down
 term_takes h views views2 line m down k moves = record {
   ahead = k.ahead;
   frames = k.frames;
   folds = k.folds;
   each = λ g.
       let t = kept_take (action g m) (at_file g (down ++ k.frames)) (views g) k.ahead.is_done k.ahead.version (file_in k.ahead.files.slots g) (k.each g) in
-      subst (λ (v : Lens). IsKept (at_file g (down ++ k.frames)) v k.ahead.is_done k.ahead.version (file_in k.ahead.files.slots g)) (same_Some _ _ (sym t.moves ∙ moves g)) t.kept;
+      subst (λ (v : Lens). Settles (at_file g (down ++ k.frames)) v k.ahead.is_done k.ahead.version (file_in k.ahead.files.slots g)) (same_Some _ _ (sym t.moves ∙ moves g)) t.kept;
   steady = k.steady;
   versions = k.versions.1;
 }
@@ -107,22 +108,22 @@ term_takes h views views2 line m down k moves = record {
 -- ## A message more
 
 -- views that are alike at each file
-pub kept_views : (h : PlainHost) (views views2 : ℕ → Lens) (line : List Tmesg) (down : List Hmesg) → Kept h views line down → ((g : ℕ) → views g ≡ views2 g) → Kept h views2 line down
+pub kept_views : (h : PlainHost) (views views2 : ℕ → Lens) (line : List Tmesg) (down : List Hmesg) → AllSettle h views line down → ((g : ℕ) → views g ≡ views2 g) → AllSettle h views2 line down
 kept_views h views views2 line down k same =
     record {
       ahead = k.ahead;
       frames = k.frames;
       folds = k.folds;
-      each = λ g. subst (λ (v : Lens). IsKept (at_file g (down ++ k.frames)) v k.ahead.is_done k.ahead.version
+      each = λ g. subst (λ (v : Lens). Settles (at_file g (down ++ k.frames)) v k.ahead.is_done k.ahead.version
           (file_in k.ahead.files.slots g)) (same g) (k.each g);
       steady = k.steady;
       versions = k.versions;
     }
 
 -- another list of messages that folds to the same, counts aside
-pub kept_with : (h : PlainHost) (views views2 : ℕ → Lens) (line : List Tmesg) (down : List Hmesg) (m : Tmesg) (r : Reply) (k : Kept h views line down) → reply_of k.ahead m ≡ Some r
-    → ((g : ℕ) → IsKept (at_file g (down ++ k.frames) ++ at_file g r.1) (views2 g) r.0.is_done r.0.version (file_in r.0.files.slots g)) → IsSteady r.0 → VersionsGuarded r.1
-    → Kept h views2 (line ++ m ∷ []) down
+pub kept_with : (h : PlainHost) (views views2 : ℕ → Lens) (line : List Tmesg) (down : List Hmesg) (m : Tmesg) (r : Reply) (k : AllSettle h views line down) → reply_of k.ahead m ≡ Some r
+    → ((g : ℕ) → Settles (at_file g (down ++ k.frames) ++ at_file g r.1) (views2 g) r.0.is_done r.0.version (file_in r.0.files.slots g)) → IsSteady r.0 → VersionsGuarded r.1
+    → AllSettle h views2 (line ++ m ∷ []) down
 kept_with h views views2 line down m r k replies each steady versions =
     let one : answers k.ahead (m ∷ []) ≡ Some r = ap (λ (o : Option Reply). replied_then o (λ x. answers x [])) replies ∙ ap (λ (fs : List Hmesg). Some (r.0, fs)) (append-nil r.1) in
     let same : (down ++ k.frames) ++ r.1 ≡ down ++ (k.frames ++ r.1) = append_assoc down k.frames r.1 in
@@ -130,7 +131,7 @@ kept_with h views views2 line down m r k replies each steady versions =
       ahead = r.0;
       frames = k.frames ++ r.1;
       folds = answers-append h line (m ∷ []) (k.ahead, k.frames) r k.folds one;
-      each = λ g. subst (λ (u : List Action). IsKept u (views2 g) r.0.is_done r.0.version (file_in r.0.files.slots g)) (sym (at_file-append g (down ++ k.frames) r.1) ∙ ap (at_file g) same) (each g);
+      each = λ g. subst (λ (u : List Action). Settles u (views2 g) r.0.is_done r.0.version (file_in r.0.files.slots g)) (sym (at_file-append g (down ++ k.frames) r.1) ∙ ap (at_file g) same) (each g);
       steady = steady;
       versions = subst VersionsGuarded same (versions-append (down ++ k.frames) r.1 k.versions versions);
     }
@@ -197,9 +198,9 @@ pub plain_reply : (h : PlainHost) (m : Tmesg) → h.is_done ≡ false → first_
 plain_reply h m d e = ap (λ (b : Bool). if b then Some (counted h, []) else replied (first_of_checks (host_checks h m)) (reply_to h m)) d ∙ ap (λ (o : Option HostFault). replied o (reply_to h m)) e
 
 -- an act whose message and answer lead from settled to settled
-pub acts : (h : PlainHost) (views : ℕ → Lens) (line : List Tmesg) (down : List Hmesg) (m : Tmesg) (k : Kept h views line down) → k.ahead.is_done ≡ false → IsAllowed (change_by m) views
+pub acts : (h : PlainHost) (views : ℕ → Lens) (line : List Tmesg) (down : List Hmesg) (m : Tmesg) (k : AllSettle h views line down) → k.ahead.is_done ≡ false → IsAllowed (change_by m) views
     → Synced k.ahead m → IsSteady (reply_to k.ahead m).0
-    → Kept h (λ g. changed (change_by m) g (views g)) (line ++ m ∷ []) down
+    → AllSettle h (λ g. changed (change_by m) g (views g)) (line ++ m ∷ []) down
 acts h views line down m k d allowed y steady =
     kept_with h views (λ g. changed c g (views g)) line down m (counted r.0, r.1) k (plain_reply k.ahead m d y.passes) each
     (record { sound = steady.sound; announced = steady.announced; fit = steady.fit }) (guarded_reply k.ahead m)
@@ -216,19 +217,19 @@ acts h views line down m k d allowed y steady =
     u : ℕ → List Action
     u g = at_file g r.1
 
-    each : (g : ℕ) → IsKept (s g ++ u g) (changed c g (views g)) r.0.is_done r.0.version (file_in r.0.files.slots g)
+    each : (g : ℕ) → Settles (s g ++ u g) (changed c g (views g)) r.0.is_done r.0.version (file_in r.0.files.slots g)
     each g = go (free_or_same c views g allowed)
       where
-        go : IsFree (views g) ⊎ ((v : Lens) → changed c g v ≡ v) → IsKept (s g ++ u g) (changed c g (views g)) r.0.is_done r.0.version (file_in r.0.files.slots g)
+        go : IsFree (views g) ⊎ ((v : Lens) → changed c g v ≡ v) → Settles (s g ++ u g) (changed c g (views g)) r.0.is_done r.0.version (file_in r.0.files.slots g)
         go (inl free) =
             kept_act (s g) (u g) (views g) (changed c g (views g)) k.ahead.is_done r.0.is_done k.ahead.version r.0.version (file_in k.ahead.files.slots g) (file_in r.0.files.slots g)
             (k.each g) free (alike_changed c g (views g)) (y.each g (views g)) (y.gone g)
-        go (inr same) = subst (λ (v : Lens). IsKept (s g ++ u g) v r.0.is_done r.0.version (file_in r.0.files.slots g)) (sym (same (views g)))
+        go (inr same) = subst (λ (v : Lens). Settles (s g ++ u g) v r.0.is_done r.0.version (file_in r.0.files.slots g)) (sym (same (views g)))
             (kept_append (s g) (u g) (views g) k.ahead.is_done r.0.is_done k.ahead.version r.0.version (file_in k.ahead.files.slots g) (file_in r.0.files.slots g) (k.each g)
-            (λ x z. subst (λ (v : Lens). IsKept (u g) v r.0.is_done r.0.version (file_in r.0.files.slots g)) (same x) (y.each g x z)) (y.gone g))
+            (λ x z. subst (λ (v : Lens). Settles (u g) v r.0.is_done r.0.version (file_in r.0.files.slots g)) (same x) (y.each g x z)) (y.gone g))
 
 -- an acknowledgement is answered by nothing
-pub acknowledges : (h : PlainHost) (views : ℕ → Lens) (line : List Tmesg) (down : List Hmesg) → Kept h views line down → Kept h views (line ++ Tack ∷ []) down
+pub acknowledges : (h : PlainHost) (views : ℕ → Lens) (line : List Tmesg) (down : List Hmesg) → AllSettle h views line down → AllSettle h views (line ++ Tack ∷ []) down
 acknowledges h views line down k =
     kept_with h views views line down Tack (counted k.ahead, []) k (either_way k.ahead.is_done) (λ g. kept_more _ _ _ _ _ (k.each g))
     (record { sound = k.steady.sound; announced = k.steady.announced; fit = k.steady.fit }) tt
@@ -278,8 +279,8 @@ requested h f p n c = go h.is_done refl (file_in h.files.slots f) refl c
         let x = gone_at h.files.slots f e in
         told z Gone e (request_passes h f p n x.0 (none_passes h f x.1)) (none_tells h f p n x.1)
 
-pub requests : (h : PlainHost) (views : ℕ → Lens) (line : List Tmesg) (down : List Hmesg) (f p n : ℕ) → Kept h views line down → IsOpen (views f) → exited_of (views f) ≡ false
-    → Kept h (λ g. changed (Lock f) g (views g)) (line ++ Trequest f p n ∷ []) down
+pub requests : (h : PlainHost) (views : ℕ → Lens) (line : List Tmesg) (down : List Hmesg) (f p n : ℕ) → AllSettle h views line down → IsOpen (views f) → exited_of (views f) ≡ false
+    → AllSettle h (λ g. changed (Lock f) g (views g)) (line ++ Trequest f p n ∷ []) down
 requests h views line down f p n k is_open here =
     kept_with h views (λ g. changed (Lock f) g (views g)) line down (Trequest f p n) (counted k.ahead, r.frames) k r.now each
     (record { sound = k.steady.sound; announced = k.steady.announced; fit = k.steady.fit }) r.versions
@@ -296,7 +297,7 @@ requests h views line down f p n k is_open here =
     s : ℕ → List Action
     s g = at_file g (down ++ k.frames)
 
-    there : (g : ℕ) → (g == f) ≡ true → CanRequest d (file g) × IsKept (s g ++ request_actions d (file g) p n) (locked_more (views g)) d v (file g)
+    there : (g : ℕ) → (g == f) ≡ true → CanRequest d (file g) × Settles (s g ++ request_actions d (file g) p n) (locked_more (views g)) d v (file g)
     there g e =
         let same : f ≡ g = sym (eqb-true _ _ e) in
         kept_request (s g) (views g) d v (file g) p n (k.each g) (subst (λ (x : ℕ). IsOpen (views x)) same is_open) (subst (λ (x : ℕ). exited_of (views x) ≡ false) same here)
@@ -307,16 +308,16 @@ requests h views line down f p n k is_open here =
     told : ℕ → List Action
     told g = at_file g r.frames
 
-    each : (g : ℕ) → IsKept (s g ++ told g) (changed (Lock f) g (views g)) d v (file g)
+    each : (g : ℕ) → Settles (s g ++ told g) (changed (Lock f) g (views g)) d v (file g)
     each g = go (cases_Bool (g == f))
       where
-        go : ((g == f) ≡ true) ⊎ ((g == f) ≡ false) → IsKept (s g ++ told g) (if g == f then locked_more (views g) else views g) d v (file g)
+        go : ((g == f) ≡ true) ⊎ ((g == f) ≡ false) → Settles (s g ++ told g) (if g == f then locked_more (views g) else views g) d v (file g)
         go (inl e) =
             let q : request_actions d (file g) p n ≡ told g =
             ap (λ (x : ℕ). request_actions d (file x) p n) (eqb-true _ _ e) ∙ sym (tells_there f g r.frames (request_actions d (file f) p n) (r.tells g) e) in
-            subst (λ (b : Bool). IsKept (s g ++ told g) (if b then locked_more (views g) else views g) d v (file g)) (sym e)
-            (subst (λ (u : List Action). IsKept (s g ++ u) (locked_more (views g)) d v (file g)) q (there g e).1)
+            subst (λ (b : Bool). Settles (s g ++ told g) (if b then locked_more (views g) else views g) d v (file g)) (sym e)
+            (subst (λ (u : List Action). Settles (s g ++ u) (locked_more (views g)) d v (file g)) q (there g e).1)
         go (inr e) =
-            subst (λ (b : Bool). IsKept (s g ++ told g) (if b then locked_more (views g) else views g) d v (file g)) (sym e)
+            subst (λ (b : Bool). Settles (s g ++ told g) (if b then locked_more (views g) else views g) d v (file g)) (sym e)
             (kept_append (s g) (told g) (views g) d d v v (file g) (file g) (k.each g) (λ x y. kept_skips (told g) x d v (file g)
             (tells_elsewhere f g r.frames (request_actions d (file f) p n) (r.tells g) e) y) (λ q. q))

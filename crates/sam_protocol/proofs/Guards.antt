@@ -3,7 +3,7 @@ use Rattle.std.proofs.Common.{◌≡◌, ℕ, Bool, true, false, not, ◌||◌, 
 use Rattle.std.proofs.lemmas.List.{map-append}
 use Rattle.std.proofs.lemmas.Bool.{and_parts, or_right}
 use Rattle.sam_mesg.specs.declared.hmesg.Hmesg.{Hmesg}
-use Rattle.sam_protocol.specs.Lens.{Lens, Action, move, run, and_then, frees, closes, is_close, IsGuarded, HFile, IsSettled, IsKept}
+use Rattle.sam_protocol.specs.Lens.{Lens, Action, move, run, and_then, frees, closes, is_close, IsGuarded, HFile, IsSettled, Settles}
 use Rattle.sam_protocol.proofs.Lenses.{guard_holds, AreSkips}
 use Rattle.sam_protocol.specs.Frames.{action, at_file}
 
@@ -36,7 +36,7 @@ pub no_close_skips : (u : List Action) → AreSkips u → closes u ≡ false
 no_close_skips [] a = refl
 no_close_skips (a ∷ u) q = ap (λ (b : Action). is_close b || closes u) q.0 ∙ no_close_skips u q.1
 
-pub kept_by : (u : List Action) (v final : Lens) (d : Bool) (n : ℕ) (file : HFile) → run u v ≡ Some final → IsSettled final d n file → IsGuarded u → closes u ≡ false → IsKept u v d n file
+pub kept_by : (u : List Action) (v final : Lens) (d : Bool) (n : ℕ) (file : HFile) → run u v ≡ Some final → IsSettled final d n file → IsGuarded u → closes u ≡ false → Settles u v d n file
 kept_by u v final d n file r s g c = record { final = final; runs = r; settled = s; guarded = g; closed = λ e. absurd (true≢false (sym e ∙ c)) }
 
 pub at_file-append : (g : ℕ) (a b : List Hmesg) → at_file g (a ++ b) ≡ at_file g a ++ at_file g b

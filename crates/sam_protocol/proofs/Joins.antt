@@ -17,11 +17,11 @@ use Rattle.sam_mesg.specs.declared.hmesg.Hmesg.{Hmesg}
 use Rattle.sam_host.specs.Host.{PlainHost, Reply, counted, with_file, unknown, not_opened, past_end, no_room, host_checks, reply_to, reply_line, reply_type}
 use Rattle.sam_host.specs.declared.fault.HostFault.{HostFault}
 use Rattle.sam_host.specs.declared.fault.HostFault.TheVariants.{NoFile, NotOpen, BadPosition, TooLong}
-use Rattle.sam_protocol.specs.Lens.{Lens, IsKept}
+use Rattle.sam_protocol.specs.Lens.{Lens, Settles}
 use Rattle.sam_protocol.specs.Frames.{at_file, VersionsGuarded}
 use Rattle.sam_protocol.specs.View.{file_in}
 use Rattle.sam_protocol.specs.Steady.{IsSteady}
-use Rattle.sam_protocol.specs.Fold.{replied, reply_of, behind, replied_then, answers, Kept}
+use Rattle.sam_protocol.specs.Fold.{replied, reply_of, behind, replied_then, answers, AllSettle}
 use Rattle.sam_protocol.proofs.Tests.{test, last_test}
 use Rattle.sam_protocol.proofs.Folds.{Answered, plain_reply, answered, answers-append}
 
@@ -205,17 +205,17 @@ answers_split h (m ∷ ms) ns x e =
 
 -- the fold of one message in place of two
 pub joins : (h : PlainHost) (views : ℕ → Lens) (line : List Tmesg) (down : List Hmesg) (f p c : ℕ) (s u : List ℕ) → ((f == 0) && ends_line s) ≡ false
-    → Kept h views ((line ++ Ttype f p s ∷ []) ++ Ttype f (p + length s) (c ∷ u) ∷ []) down → Kept h views (line ++ Ttype f p (s ++ c ∷ u) ∷ []) down
+    → AllSettle h views ((line ++ Ttype f p s ∷ []) ++ Ttype f (p + length s) (c ∷ u) ∷ []) down → AllSettle h views (line ++ Ttype f p (s ++ c ∷ u) ∷ []) down
 joins h views line down f p c s u plain k =
     record {
       ahead = j.reply.0;
       frames = x.first.1 ++ j.reply.1;
       folds = answers-append h line (Ttype f p (s ++ c ∷ u) ∷ []) x.first j.reply x.now (one (Ttype f p (s ++ c ∷ u)) x.first.0 j.reply j.now);
       each = λ g.
-          subst (λ (fs : List Hmesg). IsKept (at_file g (down ++ fs)) (views g) j.reply.0.is_done j.reply.0.version (file_in j.reply.0.files.slots g)) frames
-          (subst (λ (n : ℕ). IsKept (at_file g (down ++ k.frames)) (views g) j.reply.0.is_done n (file_in j.reply.0.files.slots g)) alike.version
-          (subst (λ (b : Bool). IsKept (at_file g (down ++ k.frames)) (views g) b k.ahead.version (file_in j.reply.0.files.slots g)) alike.done
-          (subst (λ (fs : PlainFiles). IsKept (at_file g (down ++ k.frames)) (views g) k.ahead.is_done k.ahead.version (file_in fs.slots g)) alike.files (k.each g))));
+          subst (λ (fs : List Hmesg). Settles (at_file g (down ++ fs)) (views g) j.reply.0.is_done j.reply.0.version (file_in j.reply.0.files.slots g)) frames
+          (subst (λ (n : ℕ). Settles (at_file g (down ++ k.frames)) (views g) j.reply.0.is_done n (file_in j.reply.0.files.slots g)) alike.version
+          (subst (λ (b : Bool). Settles (at_file g (down ++ k.frames)) (views g) b k.ahead.version (file_in j.reply.0.files.slots g)) alike.done
+          (subst (λ (fs : PlainFiles). Settles (at_file g (down ++ k.frames)) (views g) k.ahead.is_done k.ahead.version (file_in fs.slots g)) alike.files (k.each g))));
       steady = subst Good alike.files (record { sound = k.steady.sound; announced = k.steady.announced; fit = k.steady.fit });
       versions = subst (λ (fs : List Hmesg). VersionsGuarded (down ++ fs)) frames k.versions;
     }

@@ -2,7 +2,7 @@ pub mod Lenses
 pub mod Changes
 pub mod Accepting
 pub mod Runs
-pub mod Kept
+pub mod AllSettle
 pub mod HostFiles
 pub mod Tests
 pub mod Guards

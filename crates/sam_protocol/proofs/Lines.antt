@@ -22,14 +22,14 @@ use Rattle.sam_mesg.specs.declared.hmesg.Hmesg.{Hmesg}
 use Rattle.sam_mesg.specs.declared.hmesg.Hmesg.TheVariants.{Hmovname, Hdirty, Hsetpat, Hsetdot, Hcheck, Hexit, Hunlock}
 use Rattle.sam_term.specs.declared.lock.Lock.TheVariants.{CommandLock, NoLock}
 use Rattle.sam_host.specs.Host.{PlainHost, Reply, with_file, with_files, when, when_given, printed, told_edit, told_outcome, no_range, reply_line, reply_type, reply_send}
-use Rattle.sam_protocol.specs.Lens.{Slot, Open, Lens, lens, Action, Free_command, HFile, Opened, Fits_slot, IsSettled, IsKept}
+use Rattle.sam_protocol.specs.Lens.{Slot, Open, Lens, lens, Action, Free_command, HFile, Opened, Fits_slot, IsSettled, Settles}
 use Rattle.sam_protocol.proofs.Lenses.{AreSkips}
 use Rattle.sam_protocol.specs.Frames.{at_file}
 use Rattle.sam_protocol.proofs.Changes.{type_change, typed_in, commanded, changed}
 use Rattle.sam_protocol.specs.View.{file_in}
 use Rattle.sam_protocol.specs.Steady.{HasFiles, IsSteady}
 use Rattle.sam_protocol.proofs.Accepting.{Synced}
-use Rattle.sam_protocol.proofs.Kept.{settled_slot, settled_opened}
+use Rattle.sam_protocol.proofs.AllSettle.{settled_slot, settled_opened}
 use Rattle.sam_protocol.proofs.HostFiles.{put, put_other, put_opened, Opens, work_opens, Lasts, lasts_same, lasts_then, lasts_opened, still_has, at_there}
 use Rattle.sam_protocol.proofs.Tests.{open_tests, range_test}
 use Rattle.sam_protocol.proofs.Guards.{at_file-append}
@@ -168,9 +168,9 @@ holds_printed fs s h = go (is_printed fs s)
 -- behind frames that lead from the files a to those of k, the line leads on
 line_each : (a : ℕ → HFile) (k : PlainHost) (before : List Hmesg) (line : List ℕ) → HasFiles k.files → AreFit k.files → Holds k.files → Carries k.is_done k.version a before (file_in k.files.slots)
     → k.is_done ≡ false → (g : ℕ) (s : Slot) → Fits_slot s (a g)
-    → IsKept (at_file g (reply_line k before line).1) (lens true k.is_done k.version s) (reply_line k before line).0.is_done k.version (file_in (reply_line k before line).0.files.slots g)
+    → Settles (at_file g (reply_line k before line).1) (lens true k.is_done k.version s) (reply_line k before line).0.is_done k.version (file_in (reply_line k before line).0.files.slots g)
 line_each a k before line sound fit holds first done g s x =
-    subst (λ (u : List Action). IsKept u (lens true k.is_done k.version s) o.quit k.version (file_in out.slots g)) (sym (at_file-append g front ((if o.quit then Hexit else Hunlock) ∷ [])))
+    subst (λ (u : List Action). Settles u (lens true k.is_done k.version s) o.quit k.version (file_in out.slots g)) (sym (at_file-append g front ((if o.quit then Hexit else Hunlock) ∷ [])))
     (last o.quit)
   where
     o : PlainOutcome
@@ -194,10 +194,10 @@ line_each a k before line sound fit holds first done g s x =
         (carries-append k.is_done k.version a (file_in k.files.slots) (file_in fs.slots) before (told_outcome o.file k.files o) first (outcome_carries k.is_done k.version k.files line sound fit))
         (printed_carries k.is_done k.version fs o.printed there.0 there.1)
 
-    last : (q : Bool) → IsKept (at_file g front ++ at_file g ((if q then Hexit else Hunlock) ∷ [])) (lens true k.is_done k.version s) q k.version (file_in out.slots g)
+    last : (q : Bool) → Settles (at_file g front ++ at_file g ((if q then Hexit else Hunlock) ∷ [])) (lens true k.is_done k.version s) q k.version (file_in out.slots g)
     last true = exits_kept (at_file g front) k.is_done k.version s (file_in out.slots g) (all.moves g s x)
     last false =
-        subst (λ (d : Bool). IsKept (at_file g front ++ Free_command ∷ []) (lens true k.is_done k.version s) d k.version (file_in out.slots g)) done
+        subst (λ (d : Bool). Settles (at_file g front ++ Free_command ∷ []) (lens true k.is_done k.version s) d k.version (file_in out.slots g)) done
         (unlocks (at_file g front) k.is_done k.version s (file_in out.slots g) (all.moves g s x))
 
 -- what it keeps of the files
@@ -231,7 +231,7 @@ unfolding reply_type
 sync_line h p s steady done o holds l room ends = record {
   passes = type_passes h 0 p s o l room;
   each = λ g w x. subst
-      (λ (b : Bool). IsKept (at_file g (if b then run else (typed_host, [])).1) (changed (type_change (if b then CommandLock else NoLock) 0 p s) g w)
+      (λ (b : Bool). Settles (at_file g (if b then run else (typed_host, [])).1) (changed (type_change (if b then CommandLock else NoLock) 0 p s) g w)
       (if b then run else (typed_host, [])).0.is_done (if b then run else (typed_host, [])).0.version (file_in (if b then run else (typed_host, [])).0.files.slots g)) (sym ends) (each g w x);
   gone = λ g e. ap (λ (b : Bool). file_in (if b then run else (typed_host, [])).0.files.slots g) ends ∙ line.gone g (lasts.gone g e);
   sound = subst (λ (b : Bool). HasFiles (if b then run else (typed_host, [])).0.files) (sym ends) (line_sound typed_host [] text has fit holds2);
@@ -290,10 +290,10 @@ sync_line h p s steady done o holds l room ends = record {
         )
 
     each : (g : ℕ) (w : Lens) → IsSettled w h.is_done h.version (file_in h.files.slots g)
-        → IsKept (at_file g run.1) (commanded (if g == 0 then typed_in p s w else w)) run.0.is_done run.0.version (file_in run.0.files.slots g)
+        → Settles (at_file g run.1) (commanded (if g == 0 then typed_in p s w else w)) run.0.is_done run.0.version (file_in run.0.files.slots g)
     each g w x =
         let u = slot_of g w x (cases_Bool (g == 0)) in
-        subst (λ (y : Lens). IsKept (at_file g run.1) y run.0.is_done run.0.version (file_in run.0.files.slots g)) (sym u.1)
+        subst (λ (y : Lens). Settles (at_file g run.1) y run.0.is_done run.0.version (file_in run.0.files.slots g)) (sym u.1)
         (line_each a typed_host [] text has fit holds2 (carries_nothing h.is_done h.version a a (λ k. refl)) done g u.0 u.2)
 
 -- what is sent is printed as lines, and its last line is run

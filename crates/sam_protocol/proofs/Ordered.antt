@@ -2,7 +2,7 @@
 use Rattle.std.proofs.Common.{◌≡◌, ℕ, suc, Bool, true, false, ◌||◌, ◌==◌, if◌then◌else◌, nat_lt, List, [], ◌∷◌, ◌++◌, length, map, Option, Some, None, is_some, Ok, Err, refl, sym, ap, ◌∙◌, subst}
 use Rattle.std.specs.Prelude.{unwrap_or}
 use Rattle.std.proofs.lemmas.Option.{same_Some}
-use Rattle.sam_term.specs.declared.files.Unsent.{Unsent}
+use Rattle.sam_term.specs.declared.records.Unsent.{Unsent}
 use Rattle.sam_runes.specs.Texts.{most_count}
 use Rattle.sam_runes.specs.Slots.{Slots, slot}
 use Rattle.sam_runes.specs.Checks.{first_of_checks}
@@ -15,15 +15,15 @@ use Rattle.sam_host.specs.Host.{PlainHost, Reply, Answer, answer, answer_unless,
 use Rattle.sam_host.specs.declared.fault.HostFault.{HostFault}
 use Rattle.sam_host.specs.declared.fault.HostFault.TheVariants as hostfault
 use Rattle.sam_term.specs.Term.{PlainTerminal, blank_known, blank_window, window_of, window_in, is_open, is_any_locked, unsent_message}
-use Rattle.sam_term.specs.declared.files.Window.{Window}
-use Rattle.sam_term.specs.declared.files.KnownFile.{KnownFile}
-use Rattle.sam_protocol.specs.Lens.{Slot, Unknown, Known, Open, Lens, lens, Action, HFile, Absent, Hidden, Named, Opened, Gone, Fits_slot, IsSettled, IsKept}
+use Rattle.sam_term.specs.declared.records.Window.{Window}
+use Rattle.sam_term.specs.declared.records.KnownFile.{KnownFile}
+use Rattle.sam_protocol.specs.Lens.{Slot, Unknown, Known, Open, Lens, lens, Action, HFile, Absent, Hidden, Named, Opened, Gone, Fits_slot, IsSettled, Settles}
 use Rattle.sam_protocol.proofs.Lenses.{IsFree}
 use Rattle.sam_protocol.specs.Frames.{at_file}
 use Rattle.sam_protocol.specs.View.{slot_of_window, slot_of, view, file_of_slot, file_in}
 use Rattle.sam_protocol.specs.Fold.{replied, reply_of, answers}
 use Rattle.sam_protocol.specs.Order.{views, InOrder}
-use Rattle.sam_protocol.proofs.Kept.{kept_free}
+use Rattle.sam_protocol.proofs.AllSettle.{kept_free}
 use Rattle.sam_protocol.proofs.Folds.{host_takes}
 
 -- ## The host goes on
@@ -162,8 +162,8 @@ quiet_ahead h t o e = same_Some _ _ (ap (λ (u : Option Unsent). answers h (unse
 
 quiet_settled : (h : PlainHost) (t : PlainTerminal) (o : InOrder h t [] []) → t.unsent ≡ None → (g : ℕ) → IsSettled (view g t) h.is_done h.version (file_in h.files.slots g)
 quiet_settled h t o e g =
-    let x : IsKept [] (view g t) h.is_done h.version (file_in h.files.slots g) =
-    subst (λ (r : Reply). IsKept (at_file g r.1) (view g t) r.0.is_done r.0.version (file_in r.0.files.slots g)) (sym (quiet_ahead h t o e)) (o.kept.each g) in
+    let x : Settles [] (view g t) h.is_done h.version (file_in h.files.slots g) =
+    subst (λ (r : Reply). Settles (at_file g r.1) (view g t) r.0.is_done r.0.version (file_in r.0.files.slots g)) (sym (quiet_ahead h t o e)) (o.kept.each g) in
     subst (λ (v : Lens). IsSettled v h.is_done h.version (file_in h.files.slots g)) (same_Some _ _ (sym x.runs)) x.settled
 
 none_any : (ss : Slots KnownFile) → ((g : ℕ) → (window_in ss g).locks ≡ 0) → is_any_locked ss ≡ false

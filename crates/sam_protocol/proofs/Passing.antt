@@ -8,8 +8,8 @@ use Rattle.sam_runes.proofs.CheckLaws.{none_holds}
 use Rattle.sam_term.specs.Term.{PlainTerminal, blank_known, blank_window, window_in, window_at, is_open, is_known, is_any_locked, event_checks, file_of, waits_for_all, is_bad_version, is_unknown, is_for_command_file, is_closed, needs_open, is_file_locked, has_bad_place, has_long_text, makes_too_long}
 use Rattle.sam_term.specs.declared.event.Verdict.{Verdict}
 use Rattle.sam_term.specs.declared.event.Verdict.TheVariants.{Waits, Refuses}
-use Rattle.sam_term.specs.declared.files.Window.{Window}
-use Rattle.sam_term.specs.declared.files.KnownFile.{KnownFile}
+use Rattle.sam_term.specs.declared.records.Window.{Window}
+use Rattle.sam_term.specs.declared.records.KnownFile.{KnownFile}
 use Rattle.sam_term.specs.declared.event.UserEvent.{UserEvent}
 use Rattle.sam_term.specs.declared.fault.Refusal.TheVariants as refusal
 use Rattle.sam_rasp.specs.Rasp.{PartialText}

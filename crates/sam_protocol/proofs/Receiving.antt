@@ -14,21 +14,21 @@ use Rattle.sam_mesg.specs.declared.tmesg.Tmesg.TheVariants.{Tack}
 use Rattle.sam_mesg.specs.declared.hmesg.Hmesg.{Hmesg}
 use Rattle.sam_mesg.specs.declared.hmesg.Hmesg.TheVariants.{Hversion, Hbindname, Hcurrent, Hnewname, Hmovname, Hgrow, Hcheck, Hunlock, Hdata, Horigin, Hunlockfile, Hsetdot, Hgrowdata, Hmoveto, Hclean, Hdirty, Hcut, Hsetpat, Hdelname, Hclose, Hsetsnarf, Hsnarflen, Hack, Hexit}
 use Rattle.sam_host.specs.Host.{PlainHost}
-use Rattle.sam_term.specs.Term.{PlainTerminal, blank_known, blank_window, known_at, window_at, unsent_message, moved_unsent, unsent_without, window_after_ins, window_after_del, free_window, freed_known, unchanged, sends, unknown_file, not_opened, past_end, no_room, frame_checks, made_from, took_bindname, took_data, took_grow, took_growdata, took_cut, took_unlockfile, took_close, took_exit}
-use Rattle.sam_term.specs.declared.files.Window.{Window}
-use Rattle.sam_term.specs.declared.files.KnownFile.{KnownFile}
-use Rattle.sam_term.specs.declared.files.Unsent.{Unsent}
+use Rattle.sam_term.specs.Term.{PlainTerminal, blank_known, blank_window, known_at, window_at, unsent_message, moved_unsent, unsent_without, window_after_ins, window_after_del, free_window, freed_known, unchanged, sends, unknown_file, not_opened, past_end, no_room, frame_checks, frame_outcome, took_bindname, took_data, took_grow, took_growdata, took_cut, took_unlockfile, took_close, took_exit}
+use Rattle.sam_term.specs.declared.records.Window.{Window}
+use Rattle.sam_term.specs.declared.records.KnownFile.{KnownFile}
+use Rattle.sam_term.specs.declared.records.Unsent.{Unsent}
 use Rattle.sam_term.specs.declared.fault.TermFault.{TermFault}
 use Rattle.sam_term.specs.declared.fault.TermFault.TheVariants as fault
 use Rattle.sam_protocol.specs.Lens as lenses
-use Rattle.sam_protocol.specs.Lens.{Lens, lens, Action, move, is_crossing, IsKept, HFile, OpenAt, Anything}
+use Rattle.sam_protocol.specs.Lens.{Lens, lens, Action, move, is_crossing, Settles, HFile, OpenAt, Anything}
 use Rattle.sam_protocol.proofs.Lenses.{IsFree}
 use Rattle.sam_protocol.specs.Frames.{action, only, at_file}
 use Rattle.sam_protocol.specs.View.{view, effect, Moves, file_in}
-use Rattle.sam_protocol.specs.Fold.{Kept}
+use Rattle.sam_protocol.specs.Fold.{AllSettle}
 use Rattle.sam_protocol.specs.Order.{IsTidyWindow, AreTidy, IsHeldBack, views, InOrder}
 use Rattle.sam_protocol.proofs.Runs.{free_or_refused, first_is_quiet, idle}
-use Rattle.sam_protocol.proofs.Kept.{alike_same}
+use Rattle.sam_protocol.proofs.AllSettle.{alike_same}
 use Rattle.sam_protocol.proofs.Folds.{frame_moves, term_takes}
 use Rattle.sam_protocol.proofs.FrameMoves.{take_law}
 use Rattle.sam_protocol.proofs.Views.{tidy-put, tidy-window}
@@ -44,11 +44,11 @@ free_of (lens c e n lenses.Known) o = absurd o
 free_of (lens c e n (lenses.Open r k)) o = subst (λ (x : Bool). IsFree (lens x e n (lenses.Open r k))) (sym o.0) (subst (λ (x : ℕ). IsFree (lens false e n (lenses.Open r x))) (sym o.1) tt)
 
 -- a frame that comes doesn't touch a free file
-quiet_frame : (a : Action) (s : List Action) (v : Lens) (d : Bool) (n : ℕ) (file : HFile) → IsKept (a ∷ s) v d n file → OpenAt Anything v → is_crossing a ≡ false
+quiet_frame : (a : Action) (s : List Action) (v : Lens) (d : Bool) (n : ℕ) (file : HFile) → Settles (a ∷ s) v d n file → OpenAt Anything v → is_crossing a ≡ false
 quiet_frame a s v d n file k o = first_is_quiet a s v k.final (free_of v o) k.guarded k.runs
 
 -- and leaves it
-left_open : (a : Action) (s : List Action) (v v2 : Lens) (d : Bool) (n : ℕ) (file : HFile) → IsKept (a ∷ s) v d n file → OpenAt Anything v → move a v ≡ Some v2 → OpenAt Anything v2
+left_open : (a : Action) (s : List Action) (v v2 : Lens) (d : Bool) (n : ℕ) (file : HFile) → Settles (a ∷ s) v d n file → OpenAt Anything v → move a v ≡ Some v2 → OpenAt Anything v2
 left_open a s v v2 d n file k o m =
     let f = free_or_refused a v v2 (free_of v o) m in
     let i = idle a v v2 v f.0 (quiet_frame a s v d n file k o) (alike_same v) m in
@@ -175,21 +175,21 @@ tidy_effect t _ e all = all
 effect_order : (h : PlainHost) (t : PlainTerminal) (up : List Tmesg) (m : Hmesg) (down : List Hmesg) → InOrder h t up (m ∷ down) → Moves t m → InOrder h (effect t m) up down
 effect_order h t up m down o v = by_unsent t.unsent refl
   where
-    k : Kept h (views t) (up ++ unsent_message t.unsent) (m ∷ down)
+    k : AllSettle h (views t) (up ++ unsent_message t.unsent) (m ∷ down)
     k = o.kept
 
     s : ℕ → List Action
     s g = at_file g (down ++ k.frames)
 
-    at : (g : ℕ) → IsKept (action g m ∷ s g) (view g t) k.ahead.is_done k.ahead.version (file_in k.ahead.files.slots g)
+    at : (g : ℕ) → Settles (action g m ∷ s g) (view g t) k.ahead.is_done k.ahead.version (file_in k.ahead.files.slots g)
     at g = k.each g
 
-    taken : Kept h (views (effect t m)) (up ++ unsent_message t.unsent) down
+    taken : AllSettle h (views (effect t m)) (up ++ unsent_message t.unsent) down
     taken = term_takes h (views t) (views (effect t m)) (up ++ unsent_message t.unsent) m down k v.moves
 
     made : (u : Option Unsent) → t.unsent ≡ u → (effect t m).unsent ≡ u → IsHeldBack (views (effect t m)) u → InOrder h (effect t m) up down
     made u e e2 held = record {
-      kept = subst (λ (x : Option Unsent). Kept h (views (effect t m)) (up ++ unsent_message x) down) (e ∙ sym e2) taken;
+      kept = subst (λ (x : Option Unsent). AllSettle h (views (effect t m)) (up ++ unsent_message x) down) (e ∙ sym e2) taken;
       tidy = tidy_effect t m v.passes o.tidy;
       unsent = subst (IsHeldBack (views (effect t m))) (sym e2) held;
     }
@@ -205,9 +205,9 @@ effect_order h t up m down o v = by_unsent t.unsent refl
 -- nothing stands against the frame, and what it makes follows
 pub record Received (h : PlainHost) (t : PlainTerminal) (up : List Tmesg) (m : Hmesg) (down : List Hmesg) : Type 0 where
   pub passes : first_of_checks (frame_checks t m) ≡ None
-  pub goes : Goes h up down (made_from t m)
+  pub goes : Goes h up down (frame_outcome t m)
 
-made_goes : (h : PlainHost) (t : PlainTerminal) (up : List Tmesg) (m : Hmesg) (down : List Hmesg) → InOrder h (effect t m) up down → Goes h up down (made_from t m)
+made_goes : (h : PlainHost) (t : PlainTerminal) (up : List Tmesg) (m : Hmesg) (down : List Hmesg) → InOrder h (effect t m) up down → Goes h up down (frame_outcome t m)
 made_goes h t up (Hversion v) down o = nothing_goes h (effect t (Hversion v)) up down o
 made_goes h t up (Hbindname f) down o = nothing_goes h (effect t (Hbindname f)) up down o
 made_goes h t up (Hcurrent f) down o = nothing_goes h (effect t (Hcurrent f)) up down o

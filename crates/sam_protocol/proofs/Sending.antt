@@ -9,12 +9,12 @@ use Rattle.sam_host.specs.Host.{PlainHost}
 use Rattle.sam_term.specs.declared.lock.Lock.TheVariants.{CommandLock, NoLock}
 use Rattle.sam_term.specs.Locks.{lock_of, is_command_line}
 use Rattle.sam_term.specs.Term.{PlainTerminal, Made, window_at, window_after_del, moved_unsent, del_rasp, edited, cut_rasp, composed, flushed, unsent_message, and_then, sends, unchanged}
-use Rattle.sam_term.specs.declared.files.Unsent.{Unsent}
+use Rattle.sam_term.specs.declared.records.Unsent.{Unsent}
 use Rattle.sam_protocol.specs.Lens.{Unknown, Known, Open, Lens, lens, OpenAt, Anything}
 use Rattle.sam_protocol.proofs.Lenses.{IsFree, IsOpen, exited_of, command_of}
 use Rattle.sam_protocol.proofs.Changes.{change_of_lock, change_by, cut_out, changed, Within, IsAllowed, CanCompose}
 use Rattle.sam_protocol.specs.View.{view}
-use Rattle.sam_protocol.specs.Fold.{Kept}
+use Rattle.sam_protocol.specs.Fold.{AllSettle}
 use Rattle.sam_protocol.specs.Order.{AreTidy, IsHeldBack, views, InOrder}
 use Rattle.sam_protocol.proofs.Folds.{kept_views}
 use Rattle.sam_protocol.proofs.Composing.{composes}
@@ -38,7 +38,7 @@ unfolding flushed
 flushed_goes h t up down o =
     let line : List Tmesg = up ++ unsent_message t.unsent in
     record {
-      kept = subst (λ (l : List Tmesg). Kept h (views (flushed t).0) l down) (sym (append-nil line) ∙ ap (λ (u : Option Unsent). line ++ unsent_message u) (sym (unsent-flushed t)))
+      kept = subst (λ (l : List Tmesg). AllSettle h (views (flushed t).0) l down) (sym (append-nil line) ∙ ap (λ (u : Option Unsent). line ++ unsent_message u) (sym (unsent-flushed t)))
           (kept_views h (views t) (views (flushed t).0) line down o.kept (λ g. sym (view-flushed t o.unsent g)));
       tidy = tidy-flushed t o.tidy;
       unsent = subst (IsHeldBack (views (flushed t).0)) (sym (unsent-flushed t)) tt;
@@ -94,10 +94,10 @@ line_path up m o o2 e e2 =
 
 -- a message that the fold carries, and what the terminal shows then
 pub carried : (h : PlainHost) (t t2 : PlainTerminal) (up : List Tmesg) (down : List Hmesg) (m : Tmesg) → InOrder h t up down → t.unsent ≡ None → t2.unsent ≡ None
-    → Kept h (λ g. changed (change_by m) g (view g t)) ((up ++ unsent_message t.unsent) ++ m ∷ []) down → ((g : ℕ) → changed (change_by m) g (view g t) ≡ view g t2) → AreTidy t2
+    → AllSettle h (λ g. changed (change_by m) g (view g t)) ((up ++ unsent_message t.unsent) ++ m ∷ []) down → ((g : ℕ) → changed (change_by m) g (view g t) ≡ view g t2) → AreTidy t2
     → InOrder h t2 (up ++ m ∷ []) down
 carried h t t2 up down m o e e2 k same tidy = record {
-  kept = subst (λ (l : List Tmesg). Kept h (views t2) l down) (line_path up m t.unsent t2.unsent e e2) (kept_views h (λ g. changed (change_by m) g (view g t)) (views t2) _ down k same);
+  kept = subst (λ (l : List Tmesg). AllSettle h (views t2) l down) (line_path up m t.unsent t2.unsent e e2) (kept_views h (λ g. changed (change_by m) g (view g t)) (views t2) _ down k same);
   tidy = tidy;
   unsent = subst (IsHeldBack (views t2)) (sym e2) tt;
 }

@@ -10,7 +10,7 @@ use Rattle.sam_term.specs.Term.{new_terminal}
 use Rattle.sam_protocol.specs.Lens.{Hidden, Named, Opened, Unknown, Fits_slot}
 use Rattle.sam_protocol.specs.View.{view, file_of_slot}
 use Rattle.sam_protocol.specs.Steady.{IsSteady}
-use Rattle.sam_protocol.specs.Fold.{Kept}
+use Rattle.sam_protocol.specs.Fold.{AllSettle}
 use Rattle.sam_protocol.specs.Order.{views, InOrder}
 
 -- neither open nor announced
@@ -62,7 +62,7 @@ starts given fit = record { kept = kept; tidy = λ f. (omega arith, omega arith,
           fit = sound.files;
         }
 
-    kept : Kept h (views new_terminal) [] []
+    kept : AllSettle h (views new_terminal) [] []
     kept = record {
       ahead = h;
       frames = [];

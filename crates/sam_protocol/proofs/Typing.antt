@@ -12,14 +12,14 @@ use Rattle.sam_host.specs.Host.{PlainHost}
 use Rattle.sam_term.specs.declared.lock.Lock.TheVariants.{CommandLock, NoLock}
 use Rattle.sam_term.specs.Locks.{is_command_line}
 use Rattle.sam_term.specs.Term.{PlainTerminal, Made, lock_taken, window_at, window_after_ins, moved_unsent, edited, ins_rasp, set_dot_of, typed_rasp, joins, joined, types, composed, all_composed, flushed, unsent_message, and_then}
-use Rattle.sam_term.specs.declared.files.Window.{Window}
-use Rattle.sam_term.specs.declared.files.Unsent.{Unsent}
+use Rattle.sam_term.specs.declared.records.Window.{Window}
+use Rattle.sam_term.specs.declared.records.Unsent.{Unsent}
 use Rattle.sam_term.proofs.Marks.{edited-window}
 use Rattle.sam_protocol.specs.Lens.{Unknown, Known, Open, Lens, lens, OpenAt, Anything}
 use Rattle.sam_protocol.proofs.Lenses.{IsOpen}
 use Rattle.sam_protocol.proofs.Changes.{change_by, type_change, typed_in, commanded, changed}
 use Rattle.sam_protocol.specs.View.{view}
-use Rattle.sam_protocol.specs.Fold.{Kept}
+use Rattle.sam_protocol.specs.Fold.{AllSettle}
 use Rattle.sam_protocol.specs.Order.{AreTidy, IsHeldBack, views, InOrder}
 use Rattle.sam_protocol.proofs.Folds.{kept_views}
 use Rattle.sam_protocol.proofs.Joins as fold
@@ -91,7 +91,7 @@ module _ (h : PlainHost) (down : List Hmesg) (u : PlainTerminal) (f p : ℕ) (s 
     waits : x.unsent ≡ Some z
     same : (g : ℕ) → view g x ≡ view g u
     tidy : AreTidy x
-    fold : Kept h shown (up ++ Ttype z.file z.place z.runes ∷ []) down
+    fold : AllSettle h shown (up ++ Ttype z.file z.place z.runes ∷ []) down
 
   unsent_typed : (x : PlainTerminal) (z : Unsent) (up : List Tmesg) → Waiting x z up → (typed_rasp x f p s).unsent ≡ Some z
   unsent_typed x z up a = ap (moved_unsent f (place_after_ins p (length (map Some s)))) a.waits ∙ go (z.file == f) refl
@@ -132,12 +132,12 @@ module _ (h : PlainHost) (down : List Hmesg) (u : PlainTerminal) (f p : ℕ) (s 
 
       go : (b : Bool) → line ≡ b → Goes h up down (if b then flushed t else (t, []))
       go false e =
-          let k : Kept h (views t) (up ++ Ttype z.file z.place z.runes ∷ []) down =
+          let k : AllSettle h (views t) (up ++ Ttype z.file z.place z.runes ∷ []) down =
           kept_views h shown (views t) (up ++ Ttype z.file z.place z.runes ∷ []) down a.fold
           (λ g. ap (λ (b : Bool). changed (type_change (if b then CommandLock else NoLock) f p s) g (view g u)) e ∙ sym (shows g)) in
           let here : view z.file t ≡ typed_in p s (view f u) = ap (λ (y : ℕ). view y t) a.file ∙ shows f ∙ ap (λ (b : Bool). (if b then typed_in p s (view f u) else view f u)) (eq-eqb f f refl) in
           record {
-            kept = subst (λ (l : List Tmesg). Kept h (views t) l down)
+            kept = subst (λ (l : List Tmesg). AllSettle h (views t) l down)
                 (ap (λ (l : List Tmesg). l ++ Ttype z.file z.place z.runes ∷ []) (sym (append-nil up)) ∙ ap (λ (y : Option Unsent). (up ++ []) ++ unsent_message y) (sym waits)) k;
             tidy = tidy;
             unsent = subst (IsHeldBack (views t)) (sym waits) (a.ends ∙ e, subst (OpenAt Anything) (sym here) (typed_open p s (Room p s) (view f u) o));
@@ -154,7 +154,7 @@ module _ (h : PlainHost) (down : List Hmesg) (u : PlainTerminal) (f p : ℕ) (s 
           ∙ ap commanded (sym (shows g)) ∙ sym (locked g) in
           let none : (composed base m).unsent ≡ None = unsent-composed base m in
           let sent : InOrder h (composed base m) (up ++ m ∷ []) down = record {
-            kept = subst (λ (l : List Tmesg). Kept h (views (composed base m)) l down)
+            kept = subst (λ (l : List Tmesg). AllSettle h (views (composed base m)) l down)
                 (sym (append-nil (up ++ m ∷ [])) ∙ ap (λ (y : Option Unsent). (up ++ m ∷ []) ++ unsent_message y) (sym none))
                 (kept_views h shown (views (composed base m)) (up ++ m ∷ []) down a.fold same);
             tidy = tidy-composed base m tidy;
@@ -178,7 +178,7 @@ types_goes h u up down f p c s o may = go u.unsent refl (joins u.unsent f p w) r
     next : PlainTerminal → Made
     next x = let typed = typed_rasp x f p w in if is_command_line f w then flushed typed else (typed, [])
 
-    k : Kept h (λ g. changed (change_by (Ttype f p w)) g (view g u)) ((up ++ unsent_message u.unsent) ++ Ttype f p w ∷ []) down
+    k : AllSettle h (λ g. changed (change_by (Ttype f p w)) g (view g u)) ((up ++ unsent_message u.unsent) ++ Ttype f p w ∷ []) down
     k = composes h (views u) (up ++ unsent_message u.unsent) down (Ttype f p w) o.kept may.here may.free may.allowed may.can
 
     alone : Made
@@ -200,7 +200,7 @@ types_goes h u up down f p c s o may = go u.unsent refl (joins u.unsent f p w) r
           same = λ g. view-flushed u o.unsent g;
           tidy = tidy-flushed u o.tidy;
           fold = subst
-              (λ (l : List Tmesg). Kept h (λ g. changed (change_by (Ttype f p w)) g (view g u)) l down) path k;
+              (λ (l : List Tmesg). AllSettle h (λ g. changed (change_by (Ttype f p w)) g (view g u)) l down) path k;
         }) may.can)
 
     both_go : (y : Unsent) → u.unsent ≡ Some y → joins (Some y) f p w ≡ true → Goes h up down (and_then (record u { unsent = Some (joined (Some y) f p w) }, []) next)
@@ -214,7 +214,7 @@ types_goes h u up down f p c s o may = go u.unsent refl (joins u.unsent f p w) r
         λ i. (up ++ unsent_message (e i)) ++ Ttype (sym file i) (sym place i) w ∷ [] in
         let one =
         fold.joins h (λ g. changed (change_by (Ttype f p w)) g (view g u)) up down y.file y.place c y.runes s held.0
-        (subst (λ (l : List Tmesg). Kept h (λ g. changed (change_by (Ttype f p w)) g (view g u)) l down) list k) in
+        (subst (λ (l : List Tmesg). AllSettle h (λ g. changed (change_by (Ttype f p w)) g (view g u)) l down) list k) in
         let ends : is_command_line y.file (y.runes ++ w) ≡ line = λ i. (file i == 0) && ends_line-append y.runes s c i in
         let x : PlainTerminal = record u { unsent = Some (joined (Some y) f p w) } in
         then_goes h up down (x, []) next
@@ -227,7 +227,7 @@ types_goes h u up down f p c s o may = go u.unsent refl (joins u.unsent f p w) r
           same = λ g. refl;
           tidy = o.tidy;
           fold = subst
-              (λ (l : List Tmesg). Kept h (λ g. changed (change_by (Ttype f p w)) g (view g u)) (l ++ Ttype y.file y.place (y.runes ++ w) ∷ []) down) (sym (append-nil up)) one;
+              (λ (l : List Tmesg). AllSettle h (λ g. changed (change_by (Ttype f p w)) g (view g u)) (l ++ Ttype y.file y.place (y.runes ++ w) ∷ []) down) (sym (append-nil up)) one;
         }) may.can)
 
     go : (y : Option Unsent) → u.unsent ≡ y → (b : Bool) → joins y f p w ≡ b → Goes h up down (and_then (if b then (record u { unsent = Some (joined y f p w) }, []) else alone) next)

@@ -10,9 +10,9 @@ use Rattle.sam_term.specs.declared.lock.Lock.{Lock}
 use Rattle.sam_term.specs.declared.lock.Lock.TheVariants.{NoLock, CommandLock, FileLock}
 use Rattle.sam_term.specs.Locks.{lock_of, is_command_line}
 use Rattle.sam_term.specs.Term.{PlainTerminal, blank_known, blank_window, known_at, window_at, put_known, put_window, edited, lock_taken, asked, composed, all_composed, flushed, unsent_message}
-use Rattle.sam_term.specs.declared.files.Window.{Window}
-use Rattle.sam_term.specs.declared.files.KnownFile.{KnownFile}
-use Rattle.sam_term.specs.declared.files.Unsent.{Unsent}
+use Rattle.sam_term.specs.declared.records.Window.{Window}
+use Rattle.sam_term.specs.declared.records.KnownFile.{KnownFile}
+use Rattle.sam_term.specs.declared.records.Unsent.{Unsent}
 use Rattle.sam_term.proofs.TermLaws.{known-put}
 use Rattle.sam_protocol.specs.Lens.{Slot, Unknown, Known, Open, Lens, lens}
 use Rattle.sam_protocol.proofs.Lenses.{IsOpen, locked_more}

@@ -5,7 +5,7 @@ use Rattle.sam_mesg.specs.declared.tmesg.Tmesg.{Tmesg}
 use Rattle.sam_mesg.specs.declared.hmesg.Hmesg.{Hmesg}
 use Rattle.sam_host.specs.Host.{PlainHost, Reply, counted, host_checks, reply_to}
 use Rattle.sam_host.specs.declared.fault.HostFault.{HostFault}
-use Rattle.sam_protocol.specs.Lens.{Lens, IsKept}
+use Rattle.sam_protocol.specs.Lens.{Lens, Settles}
 use Rattle.sam_protocol.specs.Frames.{at_file, VersionsGuarded}
 use Rattle.sam_protocol.specs.View.{file_in}
 use Rattle.sam_protocol.specs.Steady.{IsSteady}
@@ -34,10 +34,10 @@ answers h (m ∷ ms) = replied_then (reply_of h m) (λ k. answers k ms)
 -- Once all that is under way was handled and nothing new was begun, no lock is held and the two sides agree. `views` is what
 -- the terminal shows of each file, `line` what is under way to the host with the unsent runes behind it, `down` what is under way
 -- to the terminal
-pub record Kept (h : PlainHost) (views : ℕ → Lens) (line : List Tmesg) (down : List Hmesg) : Type 0 where
+pub record AllSettle (h : PlainHost) (views : ℕ → Lens) (line : List Tmesg) (down : List Hmesg) : Type 0 where
   pub ahead : PlainHost  -- the host once it has handled all
   pub frames : List Hmesg  -- what it will have answered
   pub folds : answers h line ≡ Some (ahead, frames)
-  pub each : (g : ℕ) → IsKept (at_file g (down ++ frames)) (views g) ahead.is_done ahead.version (file_in ahead.files.slots g)
+  pub each : (g : ℕ) → Settles (at_file g (down ++ frames)) (views g) ahead.is_done ahead.version (file_in ahead.files.slots g)
   pub steady : IsSteady ahead
   pub versions : VersionsGuarded (down ++ frames)

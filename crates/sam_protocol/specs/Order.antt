@@ -5,11 +5,11 @@ use Rattle.sam_mesg.specs.declared.hmesg.Hmesg.{Hmesg}
 use Rattle.sam_host.specs.Host.{PlainHost}
 use Rattle.sam_term.specs.Locks.{is_command_line}
 use Rattle.sam_term.specs.Term.{PlainTerminal, window_at, unsent_message}
-use Rattle.sam_term.specs.declared.files.Window.{Window}
-use Rattle.sam_term.specs.declared.files.Unsent.{Unsent}
+use Rattle.sam_term.specs.declared.records.Window.{Window}
+use Rattle.sam_term.specs.declared.records.Unsent.{Unsent}
 use Rattle.sam_protocol.specs.Lens.{Lens, OpenAt, Anything}
 use Rattle.sam_protocol.specs.View.{view}
-use Rattle.sam_protocol.specs.Fold.{Kept}
+use Rattle.sam_protocol.specs.Fold.{AllSettle}
 
 -- dot is a range of the partial text, and the view begins in it
 abbrev pub IsTidyWindow : Window → Type 0
@@ -28,6 +28,6 @@ views t g = view g t
 
 -- `up` and `down` are what is under way to the host and to the terminal
 pub record InOrder (h : PlainHost) (t : PlainTerminal) (up : List Tmesg) (down : List Hmesg) : Type 0 where
-  pub kept : Kept h (views t) (up ++ unsent_message t.unsent) down
+  pub kept : AllSettle h (views t) (up ++ unsent_message t.unsent) down
   pub tidy : AreTidy t
   pub unsent : IsHeldBack (views t) t.unsent

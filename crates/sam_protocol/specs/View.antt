@@ -7,9 +7,9 @@ use Rattle.sam_mesg.specs.declared.tmesg.Tmesg.TheVariants.{Tack}
 use Rattle.sam_mesg.specs.declared.hmesg.Hmesg.{Hmesg}
 use Rattle.sam_mesg.specs.declared.hmesg.Hmesg.TheVariants.{Hcheck, Hunlockfile, Hack}
 use Rattle.sam_text.specs.Files.{PlainFile}
-use Rattle.sam_term.specs.declared.files.Window.{Window}
-use Rattle.sam_term.specs.declared.files.KnownFile.{KnownFile}
-use Rattle.sam_term.specs.Term.{PlainTerminal, made_from, frame_checks, took_unlockfile, wanted, sends_if}
+use Rattle.sam_term.specs.declared.records.Window.{Window}
+use Rattle.sam_term.specs.declared.records.KnownFile.{KnownFile}
+use Rattle.sam_term.specs.Term.{PlainTerminal, frame_outcome, frame_checks, took_unlockfile, wanted, sends_if}
 use Rattle.sam_protocol.specs.Lens.{Slot, Unknown, Known, Open, Lens, lens, move, HFile, Absent, Hidden, Named, Opened, Gone}
 use Rattle.sam_protocol.specs.Frames.{action}
 
@@ -44,7 +44,7 @@ abbrev pub effect : PlainTerminal → Hmesg → PlainTerminal
 effect t (Hcheck f) = t
 effect t (Hunlockfile f) = took_unlockfile t f
 effect t Hack = t
-effect t m = (made_from t m).0
+effect t m = (frame_outcome t m).0
 
 -- what is composed for it
 abbrev pub composed_for : PlainTerminal → Hmesg → Option Tmesg
@@ -61,7 +61,7 @@ NoneRefuses t m = (g : ℕ) → (v : Lens) × (move (action g m) (view g t) ≡ 
 pub record Moves (t : PlainTerminal) (m : Hmesg) : Type 0 where
   pub passes : first_of_checks (frame_checks t m) ≡ None
   pub moves : (g : ℕ) → move (action g m) (view g t) ≡ Some (view g (effect t m))
-  pub composes : made_from t m ≡ sends_if (composed_for t m) (effect t m)
+  pub composes : frame_outcome t m ≡ sends_if (composed_for t m) (effect t m)
 
 abbrev pub TakeLaw : Type 0
 TakeLaw = (t : PlainTerminal) (m : Hmesg) → NoneRefuses t m → Moves t m

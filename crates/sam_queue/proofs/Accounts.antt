@@ -4,9 +4,9 @@ use mathlib.Core.Option.{some}
 use lib.ListN.{get_elem?}
 use Rattle.std.specs.Global.{Global}
 use Rattle.std.proofs.lemmas.Option.{slice_get_within}
-use Rattle.sam_queue.specs.declared.port.Entry.{Entry}
-use Rattle.sam_queue.specs.declared.port.Port.{Port}
-use Rattle.sam_queue.specs.declared.port.Port.TheVariants.{Receives}
+use Rattle.sam_queue.specs.declared.rule.Entry.{Entry}
+use Rattle.sam_queue.specs.declared.rule.Port.{Port}
+use Rattle.sam_queue.specs.declared.rule.Port.TheVariants.{Receives}
 use Rattle.sam_queue.specs.History.{loads, items_of, has_mark, has_left, IsEnded, all_of}
 use Rattle.sam_queue.specs.Views.{PostView, TakeView}
 use Rattle.sam_queue.specs.Audits.{ArePostsOf, Accounted, AllAccounted, HasHistory}

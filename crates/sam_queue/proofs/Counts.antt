@@ -4,8 +4,8 @@ use mathlib.Core.Option.{some}
 use lib.ListN.{get_elem?}
 use Rattle.std.proofs.lemmas.Bool.Decides.{eqb_tells}
 use Rattle.std.proofs.lemmas.List.Elements.{All-head, All-tail}
-use Rattle.sam_queue.specs.declared.port.Entry.{Entry}
-use Rattle.sam_queue.specs.declared.port.Sent.{Sent}
+use Rattle.sam_queue.specs.declared.rule.Entry.{Entry}
+use Rattle.sam_queue.specs.declared.rule.Sent.{Sent}
 use Rattle.sam_queue.specs.History.{loads, all_of}
 use Rattle.sam_queue.proofs.Histories.{loads_mine, loads_other}
 use Rattle.sam_queue.proofs.Lists.{there}

@@ -2,13 +2,13 @@
 use Rattle.std.specs.Prelude.{◌≡◌, ℕ, ◌<◌, Bool, List, [], ◌++◌, length, Option, Some, None, All}
 use mathlib.Core.Option.{some}
 use lib.ListN.{get_elem?}
-use Rattle.sam_queue.specs.declared.port.Entry.{Entry}
-use Rattle.sam_queue.specs.declared.port.Sent.{Sent}
-use Rattle.sam_queue.specs.declared.port.Received.{Received}
-use Rattle.sam_queue.specs.declared.port.Part.{Part}
-use Rattle.sam_queue.specs.declared.port.Known.{Known}
-use Rattle.sam_queue.specs.declared.port.Port.{Port}
-use Rattle.sam_queue.specs.declared.port.Port.TheVariants.{Sends, Receives, Word, Spent}
+use Rattle.sam_queue.specs.declared.rule.Entry.{Entry}
+use Rattle.sam_queue.specs.declared.rule.Sent.{Sent}
+use Rattle.sam_queue.specs.declared.rule.Received.{Received}
+use Rattle.sam_queue.specs.declared.rule.Part.{Part}
+use Rattle.sam_queue.specs.declared.rule.Known.{Known}
+use Rattle.sam_queue.specs.declared.rule.Port.{Port}
+use Rattle.sam_queue.specs.declared.rule.Port.TheVariants.{Sends, Receives, Word, Spent}
 use Rattle.sam_queue.specs.History.{loads, all_of, StartsWith}
 use Rattle.sam_queue.specs.Rule.{nothing_known, known_in}
 use Rattle.sam_queue.specs.Views.{LineView, PostView, TakeView, with_item, closed_post}

@@ -1,7 +1,7 @@
 -- How the private functions of an audit sort what is left by its senders.
 use Rattle.std.specs.Prelude.{◌≡◌, ℕ, ◌≤◌, List, [], Some, slice_get, Vec, vec_capacity}
 use Rattle.std.specs.Global.{Global}
-use Rattle.sam_queue.specs.declared.port.Entry.{Entry}
+use Rattle.sam_queue.specs.declared.rule.Entry.{Entry}
 use Rattle.sam_queue.specs.History.{items_of}
 
 module _ {T : Type 0} where

@@ -2,8 +2,8 @@
 ghost use Rattle.std.specs.Prelude.{◌≡◌};
 ghost use Rattle.sam_queue.specs.Views.{take_told, post_told};
 
-use crate::port::{Learn, Tell};
 use crate::post::Post;
+use crate::rule::{Learn, Tell};
 use crate::take::Take;
 
 impl<T> Take<'_, T> {

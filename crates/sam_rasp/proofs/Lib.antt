@@ -5,5 +5,5 @@ pub mod Runs
 pub mod RaspLaws
 pub mod Agreeing
 pub mod Typing
-pub mod Windows
+pub mod Splices
 pub mod Marking

@@ -4,7 +4,7 @@ use Rattle.std.specs.Prelude.{IfSome, IsSomeAnd, IfOk}
 use Rattle.sam_term.specs.declared.event.UserEvent.{UserEvent}
 use Rattle.sam_queue.specs.Views.{LineView}
 use Rattle.sam_threads.specs.Lines.{LinesView}
-use Rattle.sam_threads.specs.Told.{RefusesSome}
+use Rattle.sam_threads.specs.WorkerEnds.{RefusesSome}
 use Rattle.sam_running.specs.Promised.{UserKept, HostKept, ReaderKept, TermKept, AllKept, KeepPromises, PromisesOf, SomeRefused}
 use Rattle.sam_threads.specs.declared.ends.UserEnd.{UserEnd}
 use Rattle.sam_threads.specs.declared.ends.HostEnd.{HostEnd}

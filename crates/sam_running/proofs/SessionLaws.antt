@@ -7,7 +7,7 @@ use Rattle.sam_script.specs.Script.{PlainScript, keys_of, mouse_of}
 use Rattle.sam_world.specs.Streams.{Begins}
 use Rattle.sam_world.specs.World.{new_world, run_of, merged}
 use Rattle.sam_threads.specs.Lines.{LinesView}
-use Rattle.sam_threads.specs.Told.{Told, UserTold, UserStopped, AllPassed, GatesTold}
+use Rattle.sam_threads.specs.WorkerEnds.{Told, UserTold, UserStopped, AllPassed, GatesTold}
 use Rattle.sam_settling.specs.Headline.{Headline}
 use Rattle.sam_settling.specs.Settled.{counts_left, stops_of, AreFull, HasStreams, HasUsers, IsDrained, IsWhole, MissesHost}
 use Rattle.sam_running.specs.Session.{IsSession}

@@ -1,3 +1,3 @@
 pub mod Session
-pub mod Seats
+pub mod Tasks
 pub mod Promised

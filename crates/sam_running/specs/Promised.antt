@@ -3,7 +3,7 @@ use Rattle.std.specs.Prelude.{◌≡◌, ℕ, List, Bool, false, Option, Some, �
 use Rattle.sam_term.specs.declared.event.UserEvent.{UserEvent}
 use Rattle.sam_queue.specs.Views.{LineView}
 use Rattle.sam_threads.specs.Lines.{LinesView}
-use Rattle.sam_threads.specs.Told.{UserTold, HostTold, ReaderTold, TermTold}
+use Rattle.sam_threads.specs.WorkerEnds.{UserTold, HostTold, ReaderTold, TermTold}
 use Rattle.sam_threads.specs.declared.stop.Stop.{Stop}
 use Rattle.sam_threads.specs.declared.stop.Stop.TheVariants as stop
 use Rattle.sam_threads.specs.declared.ends.UserEnd.{UserEnd}
@@ -11,7 +11,7 @@ use Rattle.sam_threads.specs.declared.ends.HostEnd.{HostEnd}
 use Rattle.sam_threads.specs.declared.ends.ReaderEnd.{ReaderEnd}
 use Rattle.sam_threads.specs.declared.ends.TermEnd.{TermEnd}
 use Rattle.sam_threads.specs.declared.ends.Ends.{Ends}
-use Rattle.sam_running.specs.declared.seats.Seats.{Seats}
+use Rattle.sam_running.specs.declared.tasks.Tasks.{Tasks}
 use Rattle.sam_running.specs.declared.spawning.UserPromise.{UserPromise}
 use Rattle.sam_running.specs.declared.spawning.HostPromise.{HostPromise}
 use Rattle.sam_running.specs.declared.spawning.ReaderPromise.{ReaderPromise}
@@ -49,9 +49,9 @@ pub record AllKept (refuses : ℕ → Type 0) (keys clicks : List UserEvent) (gi
   pub reader : ReaderKept refuses lines.down lines.events e.reader
   pub term : TermKept refuses lines.events lines.up e.term
 
--- the same, of a session that began in these seats
-abbrev pub SeatsKept : (ℕ → Type 0) → Seats → Ends → Type 0
-SeatsKept refuses s = AllKept refuses s.keyboard.events.items s.mouse.events.items s.host.files.items s.lines.now
+-- the same, of a session that began in these tasks
+abbrev pub TasksKept : (ℕ → Type 0) → Tasks → Ends → Type 0
+TasksKept refuses s = AllKept refuses s.keyboard.events.items s.mouse.events.items s.host.files.items s.lines.now
 
 -- ## Promises
 
@@ -102,9 +102,9 @@ pub record PromisesOf {G : Type 0} (gate : G) (keys clicks : List UserEvent) (gi
   pub reader : PromisesReader gate lines.down lines.events h.reader.promise
   pub term : PromisesTerm gate lines.events lines.up h.term.promise
 
--- the same, of a session that begins in these seats
-abbrev pub SeatsPromised : {G : Type 0} → G → Seats → Handles G → Type 0
-SeatsPromised gate s = PromisesOf gate s.keyboard.events.items s.mouse.events.items s.host.files.items s.lines.now
+-- the same, of a session that begins in these tasks
+abbrev pub TasksPromised : {G : Type 0} → G → Tasks → Handles G → Type 0
+TasksPromised gate s = PromisesOf gate s.keyboard.events.items s.mouse.events.items s.host.files.items s.lines.now
 
 -- some worker's gate did not let it begin
 abbrev pub SomeRefused : Ends → Type 0

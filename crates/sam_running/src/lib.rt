@@ -2,9 +2,9 @@
 #![tactic(auto)]
 
 mod run;
-mod seats;
 mod session;
 mod spawning;
+mod tasks;
 
 pub use run::{RunFault, run_ends};
 pub use session::run_threads;

@@ -1,13 +1,13 @@
 //! Running the five workers: none begins before all are started.
 ghost use Rattle.std.specs.Prelude.{◌≡◌, ◌<◌, IfOk, IfSome, IsSomeAnd, IsTrue, IsFalse, Some, Err};
 ghost use Rattle.sam_script.specs.Script.{keys_of, mouse_of};
-ghost use Rattle.sam_running.specs.Promised.{KeepPromises, SeatsKept, SomeRefused};
-ghost use Rattle.sam_running.specs.Seats.{AreReady};
-ghost use Rattle.sam_threads.specs.Told.{Told, AllPassed, GatesTold, RefusesSome};
+ghost use Rattle.sam_running.specs.Promised.{KeepPromises, TasksKept, SomeRefused};
+ghost use Rattle.sam_running.specs.Tasks.{AreReady};
+ghost use Rattle.sam_threads.specs.WorkerEnds.{Told, AllPassed, GatesTold, RefusesSome};
 ghost use Rattle.sam_running.specs.declared.run.RunFault.TheVariants.{GateTimedOut};
 
-use crate::seats::{Seats, ready_seats};
 use crate::spawning::{Handles, join_all, spawn_all};
+use crate::tasks::{Tasks, ready_tasks};
 use sam_script::Script;
 use sam_threads::{Ends, Gate, Lines, Starts};
 use std::alloc::Global;
@@ -56,7 +56,7 @@ pub fn run_ends<'q, R: Threads + Wait + Sync, G: Gate>(
     ensures gates { IfOk result (GatesTold (G.may_refuse gate.now)) }
     ensures timed { result ≡ Err RunFault.GateTimedOut → RefusesSome (G.may_refuse gate.now) }
 {
-    let Ok(seats) = ready_seats(alloc, lines, starts, script) else {
+    let Ok(tasks) = ready_tasks(alloc, lines, starts, script) else {
         return Err(RunFault::OutOfMemory);
     };
     let cell = OnceLock::new();
@@ -65,11 +65,11 @@ pub fn run_ends<'q, R: Threads + Wait + Sync, G: Gate>(
         thread::scope_env(),
         rt,
         move |scope| -> Result<Ends<'_>, RunFault>
-            requires { (0 < piece) × AreReady seats.lines.now seats }
-            ensures ends { IfOk result (SeatsKept (G.may_refuse gate.entry.now) seats.entry) }
+            requires { (0 < piece) × AreReady tasks.lines.now tasks }
+            ensures ends { IfOk result (TasksKept (G.may_refuse gate.entry.now) tasks.entry) }
             ensures begun { IfOk result AllPassed }
             ensures timed { result ≡ Err RunFault.GateTimedOut → RefusesSome (G.may_refuse gate.entry.now) }
-        { run_all(scope, rt, alloc, start, gate, piece, seats) },
+        { run_all(scope, rt, alloc, start, gate, piece, tasks) },
     )
 }
 
@@ -81,15 +81,15 @@ fn run_all<'s, 'e: 's, 'q: 's, R: Threads + Wait + Sync, G: Gate>(
     start: &'s OnceLock<bool>,
     gate: &'s G,
     piece: usize,
-    seats: Seats<'q>,
+    tasks: Tasks<'q>,
 ) -> Result<Ends<'q>, RunFault>
     requires piece { 0 < piece }
-    requires seats { AreReady seats.lines.now seats }
-    ensures ends { IfOk result (SeatsKept (G.may_refuse gate.now) seats.entry) }
+    requires tasks { AreReady tasks.lines.now tasks }
+    ensures ends { IfOk result (TasksKept (G.may_refuse gate.now) tasks.entry) }
     ensures begun { IfOk result AllPassed }
     ensures timed { result ≡ Err RunFault.GateTimedOut → RefusesSome (G.may_refuse gate.now) }
 {
-    let handles = spawn_all(scope, rt, alloc, start, gate, piece, seats);
+    let handles = spawn_all(scope, rt, alloc, start, gate, piece, tasks);
     let _ = start.set(rt, handles.is_some());
     begun(joined(rt, handles))
 }

@@ -2,7 +2,7 @@
 ghost use Rattle.std.specs.Prelude.{◌≡◌, ◌<◌, IfOk, IfErr, Err};
 ghost use Rattle.sam_script.specs.Script.{keys_of, mouse_of};
 ghost use Rattle.sam_running.specs.Session.{IsSession};
-ghost use Rattle.sam_threads.specs.Told.{AllPassed, GatesTold, RefusesSome, Told};
+ghost use Rattle.sam_threads.specs.WorkerEnds.{AllPassed, GatesTold, RefusesSome, Told};
 ghost use Rattle.sam_running.specs.declared.run.RunFault.TheVariants.{GateTimedOut, OutOfMemory};
 
 use crate::run::{RunFault, run_ends};

@@ -1,9 +1,9 @@
 //! Starting the five threads, and joining them.
 ghost use Rattle.std.specs.Prelude.{◌≡◌, ◌<◌, IfSome, Some};
-ghost use Rattle.sam_running.specs.Promised.{UserKept, HostKept, ReaderKept, TermKept, KeepPromises, PromisesUser, PromisesHost, PromisesReader, PromisesTerm, SeatsPromised};
-ghost use Rattle.sam_running.specs.Seats.{IsUserSeat, IsHostSeat, IsReaderSeat, IsTermSeat, AreReady};
+ghost use Rattle.sam_running.specs.Promised.{UserKept, HostKept, ReaderKept, TermKept, KeepPromises, PromisesUser, PromisesHost, PromisesReader, PromisesTerm, TasksPromised};
+ghost use Rattle.sam_running.specs.Tasks.{IsUserTask, IsHostTask, IsReaderTask, IsTermTask, AreReady};
 
-use crate::seats::{HostSeat, ReaderSeat, Seats, TermSeat, UserSeat};
+use crate::tasks::{HostTask, ReaderTask, Tasks, TermTask, UserTask};
 use sam_queue::Line;
 use sam_runes::Runes;
 use sam_term::event::UserEvent;
@@ -140,20 +140,20 @@ fn begin_user<'q, R: Wait, G: Gate>(
     start: &OnceLock<bool>,
     gate: &G,
     worker: usize,
-    seat: UserSeat<'q>,
+    task: UserTask<'q>,
 ) -> Option<UserEnd<'q>>
     requires worker { worker < 5 }
-    requires seat { IsUserSeat worker seat.post.line seat }
-    ensures { IfSome result (UserKept (G.may_refuse gate.now) worker seat.entry.events.items seat.entry.post.line) }
+    requires task { IsUserTask worker task.post.line task }
+    ensures { IfSome result (UserKept (G.may_refuse gate.now) worker task.entry.events.items task.entry.post.line) }
 {
     if !*start.wait(rt) {
         return None;
     }
-    let UserSeat {
+    let UserTask {
         post,
         events,
         held: _,
-    } = seat;
+    } = task;
     Some(send_events(rt, gate, worker, events, post))
 }
 
@@ -164,22 +164,22 @@ fn begin_host<'q, R: Wait, G: Gate>(
     start: &OnceLock<bool>,
     gate: &G,
     piece: usize,
-    seat: HostSeat<'q>,
+    task: HostTask<'q>,
 ) -> Option<HostEnd<'q>>
     requires piece { 0 < piece }
-    requires seat { IsHostSeat seat.take.line seat.post.line seat }
-    ensures { IfSome result (HostKept (G.may_refuse gate.now) seat.entry.files.items seat.entry.take.line seat.entry.post.line) }
+    requires task { IsHostTask task.take.line task.post.line task }
+    ensures { IfSome result (HostKept (G.may_refuse gate.now) task.entry.files.items task.entry.take.line task.entry.post.line) }
 {
     if !*start.wait(rt) {
         return None;
     }
-    let HostSeat {
+    let HostTask {
         take,
         post,
         files,
         host,
         held: _,
-    } = seat;
+    } = task;
     Some(serve_host(rt, alloc, gate, piece, take, post, files, host))
 }
 
@@ -189,19 +189,19 @@ fn begin_reader<'q, R: Wait, G: Gate>(
     alloc: Global,
     start: &OnceLock<bool>,
     gate: &G,
-    seat: ReaderSeat<'q>,
+    task: ReaderTask<'q>,
 ) -> Option<ReaderEnd<'q>>
-    requires seat { IsReaderSeat seat.take.line seat.post.line seat }
-    ensures { IfSome result (ReaderKept (G.may_refuse gate.now) seat.entry.take.line seat.entry.post.line) }
+    requires task { IsReaderTask task.take.line task.post.line task }
+    ensures { IfSome result (ReaderKept (G.may_refuse gate.now) task.entry.take.line task.entry.post.line) }
 {
     if !*start.wait(rt) {
         return None;
     }
-    let ReaderSeat {
+    let ReaderTask {
         take,
         post,
         held: _,
-    } = seat;
+    } = task;
     Some(pass_frames(rt, alloc, gate, take, post))
 }
 
@@ -212,21 +212,21 @@ fn begin_terminal<'q, R: Wait, G: Gate>(
     start: &OnceLock<bool>,
     gate: &G,
     piece: usize,
-    seat: TermSeat<'q>,
+    task: TermTask<'q>,
 ) -> Option<TermEnd<'q>>
     requires piece { 0 < piece }
-    requires seat { IsTermSeat seat.take.line seat.post.line seat }
-    ensures { IfSome result (TermKept (G.may_refuse gate.now) seat.entry.take.line seat.entry.post.line) }
+    requires task { IsTermTask task.take.line task.post.line task }
+    ensures { IfSome result (TermKept (G.may_refuse gate.now) task.entry.take.line task.entry.post.line) }
 {
     if !*start.wait(rt) {
         return None;
     }
-    let TermSeat {
+    let TermTask {
         take,
         post,
         term,
         held: _,
-    } = seat;
+    } = task;
     Some(run_terminal(rt, alloc, gate, piece, take, post, term))
 }
 
@@ -250,24 +250,24 @@ fn spawn_user<'s, 'e: 's, 'q: 's, R: Wait + Sync, G: Gate>(
     gate: &'s G,
     worker: usize,
     events: &'q Line<Input>,
-    seat: UserSeat<'q>,
+    task: UserTask<'q>,
 ) -> Option<UserHandle<'s, 'q, G>>
     requires worker { worker < 5 }
-    requires seat { IsUserSeat worker events.now seat }
-    ensures { IfSome result (λ h. PromisesUser gate.now worker seat.entry.events.items events.now h.promise) }
+    requires task { IsUserTask worker events.now task }
+    ensures { IfSome result (λ h. PromisesUser gate.now worker task.entry.events.items events.now h.promise) }
 {
     let promise = UserPromise {
         gate,
         worker,
-        todo: Snapshot::of(&seat.events),
+        todo: Snapshot::of(&task.events),
         events,
     };
     let child = scope.spawn_with(
         promise,
         move || -> Option<UserEnd<'_>>
-            requires { (worker < 5) × IsUserSeat worker seat.post.line seat }
-            ensures { IfSome result (UserKept (G.may_refuse gate.entry.now) worker seat.entry.events.items seat.entry.post.line) }
-        { begin_user(rt, start, gate, worker, seat) },
+            requires { (worker < 5) × IsUserTask worker task.post.line task }
+            ensures { IfSome result (UserKept (G.may_refuse gate.entry.now) worker task.entry.events.items task.entry.post.line) }
+        { begin_user(rt, start, gate, worker, task) },
     );
     child.ok()
 }
@@ -282,25 +282,25 @@ fn spawn_host<'s, 'e: 's, 'q: 's, R: Wait + Sync, G: Gate>(
     piece: usize,
     up: &'q Line<Vec<u8>>,
     down: &'q Line<Vec<u8>>,
-    seat: HostSeat<'q>,
+    task: HostTask<'q>,
 ) -> Option<HostHandle<'s, 'q, G>>
     requires piece { 0 < piece }
-    requires seat { IsHostSeat up.now down.now seat }
-    ensures { IfSome result (λ h. PromisesHost gate.now seat.entry.files.items up.now down.now h.promise) }
+    requires task { IsHostTask up.now down.now task }
+    ensures { IfSome result (λ h. PromisesHost gate.now task.entry.files.items up.now down.now h.promise) }
 {
     let promise = HostPromise {
         gate,
-        files: Snapshot::of(&seat.files),
+        files: Snapshot::of(&task.files),
         up,
         down,
     };
     let child = scope.spawn_with(
         promise,
         move || -> Option<HostEnd<'_>>
-            requires { (0 < piece) × IsHostSeat seat.take.line seat.post.line seat }
+            requires { (0 < piece) × IsHostTask task.take.line task.post.line task }
             ensures { IfSome result
-                (HostKept (G.may_refuse gate.entry.now) seat.entry.files.items seat.entry.take.line seat.entry.post.line) }
-        { begin_host(rt, alloc, start, gate, piece, seat) },
+                (HostKept (G.may_refuse gate.entry.now) task.entry.files.items task.entry.take.line task.entry.post.line) }
+        { begin_host(rt, alloc, start, gate, piece, task) },
     );
     child.ok()
 }
@@ -314,18 +314,18 @@ fn spawn_reader<'s, 'e: 's, 'q: 's, R: Wait + Sync, G: Gate>(
     gate: &'s G,
     down: &'q Line<Vec<u8>>,
     events: &'q Line<Input>,
-    seat: ReaderSeat<'q>,
+    task: ReaderTask<'q>,
 ) -> Option<ReaderHandle<'s, 'q, G>>
-    requires seat { IsReaderSeat down.now events.now seat }
+    requires task { IsReaderTask down.now events.now task }
     ensures { IfSome result (λ h. PromisesReader gate.now down.now events.now h.promise) }
 {
     let promise = ReaderPromise { gate, down, events };
     let child = scope.spawn_with(
         promise,
         move || -> Option<ReaderEnd<'_>>
-            requires { IsReaderSeat seat.take.line seat.post.line seat }
-            ensures { IfSome result (ReaderKept (G.may_refuse gate.entry.now) seat.entry.take.line seat.entry.post.line) }
-        { begin_reader(rt, alloc, start, gate, seat) },
+            requires { IsReaderTask task.take.line task.post.line task }
+            ensures { IfSome result (ReaderKept (G.may_refuse gate.entry.now) task.entry.take.line task.entry.post.line) }
+        { begin_reader(rt, alloc, start, gate, task) },
     );
     child.ok()
 }
@@ -340,19 +340,19 @@ fn spawn_terminal<'s, 'e: 's, 'q: 's, R: Wait + Sync, G: Gate>(
     piece: usize,
     events: &'q Line<Input>,
     up: &'q Line<Vec<u8>>,
-    seat: TermSeat<'q>,
+    task: TermTask<'q>,
 ) -> Option<TermHandle<'s, 'q, G>>
     requires piece { 0 < piece }
-    requires seat { IsTermSeat events.now up.now seat }
+    requires task { IsTermTask events.now up.now task }
     ensures { IfSome result (λ h. PromisesTerm gate.now events.now up.now h.promise) }
 {
     let promise = TermPromise { gate, events, up };
     let child = scope.spawn_with(
         promise,
         move || -> Option<TermEnd<'_>>
-            requires { (0 < piece) × IsTermSeat seat.take.line seat.post.line seat }
-            ensures { IfSome result (TermKept (G.may_refuse gate.entry.now) seat.entry.take.line seat.entry.post.line) }
-        { begin_terminal(rt, alloc, start, gate, piece, seat) },
+            requires { (0 < piece) × IsTermTask task.take.line task.post.line task }
+            ensures { IfSome result (TermKept (G.may_refuse gate.entry.now) task.entry.take.line task.entry.post.line) }
+        { begin_terminal(rt, alloc, start, gate, piece, task) },
     );
     child.ok()
 }
@@ -380,20 +380,20 @@ pub fn spawn_all<'s, 'e: 's, 'q: 's, R: Wait + Sync, G: Gate>(
     start: &'s OnceLock<bool>,
     gate: &'s G,
     piece: usize,
-    seats: Seats<'q>,
+    tasks: Tasks<'q>,
 ) -> Option<Handles<'s, 'q, G>>
     requires piece { 0 < piece }
-    requires seats { AreReady seats.lines.now seats }
-    ensures { IfSome result (SeatsPromised gate.now seats.entry) }
+    requires tasks { AreReady tasks.lines.now tasks }
+    ensures { IfSome result (TasksPromised gate.now tasks.entry) }
 {
-    let Seats {
+    let Tasks {
         lines,
         keyboard,
         mouse,
         host,
         reader,
         term,
-    } = seats;
+    } = tasks;
     let (up, down, events) = (lines.up(), lines.down(), lines.events());
     let users = both(
         spawn_user(scope, rt, start, gate, 0, events, keyboard),

@@ -8,7 +8,7 @@ ghost use Rattle.sam_script.specs.Show.{host_line, term_line, host_slot, term_sl
 
 use crate::fault::ScriptFault;
 use sam_rasp::{Rasp, Section};
-use sam_term::files::{KnownFile, Window};
+use sam_term::records::{KnownFile, Window};
 use sam_text::{File, Files};
 use sam_world::world::World;
 use std::alloc::{AllocError, Global};

@@ -11,13 +11,13 @@ use Rattle.sam_script.specs.RunLines.{run_lines_of}
 use Rattle.sam_script.specs.Script.{PlainScript, keys_of, mouse_of}
 use Rattle.sam_script.specs.Show.{show_lines}
 use Rattle.sam_script.specs.Spelling.{Spells}
-use Rattle.sam_queue.specs.declared.port.Entry.{Entry}
+use Rattle.sam_queue.specs.declared.rule.Entry.{Entry}
 use Rattle.sam_queue.specs.History.{items_of}
 use Rattle.sam_queue.specs.Views.{LineView, PostView}
 use Rattle.sam_threads.specs.Inputs.{users_in, user_of_load}
 use Rattle.sam_running.specs.Session.{IsSession}
 use Rattle.sam_settling.specs.Settled.{stops_of}
-use Rattle.sam_threads.specs.Told.{IsOwnExit}
+use Rattle.sam_threads.specs.WorkerEnds.{IsOwnExit}
 use Rattle.sam_threads.specs.declared.ends.Ends.{Ends}
 use Rattle.sam_threads.specs.declared.input.Input.{Input}
 use Rattle.sam_threads.specs.declared.input.Input.TheVariants.{User, Host}

@@ -4,13 +4,13 @@
 mod answering;
 mod bytes;
 mod fault;
+mod input;
 mod law;
 mod reading;
 mod replaying;
 mod run;
 mod start;
 mod threading;
-mod whole;
 mod words;
 
 pub use bytes::play_bytes;

@@ -6,7 +6,7 @@ ghost use Rattle.sam_session.specs.Replaying.{IsReplay, IsReplayFault, of_script
 ghost use Rattle.sam_session.specs.Status.{IsTold};
 
 use crate::fault::PlayFault;
-use crate::whole::{read_all, write_or_tell};
+use crate::input::{read_all, write_or_tell};
 use sam_script::{ScriptFault, replay_bytes};
 use sam_threads::Stop;
 use std::alloc::Global;

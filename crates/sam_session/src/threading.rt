@@ -9,8 +9,8 @@ ghost use Rattle.sam_session.specs.Status.{IsTold};
 ghost use Rattle.sam_session.specs.Threading.{of_stops, IsThreaded, IsThreadsFault, IsSessionFault, IsUnread, PrintsSession};
 
 use crate::fault::PlayFault;
+use crate::input::{read_all, write_or_tell};
 use crate::replaying::of_script;
-use crate::whole::{read_all, write_or_tell};
 use sam_running::{RunFault, run_threads};
 use sam_script::{Script, run_lines, show};
 use sam_settling::Settled;

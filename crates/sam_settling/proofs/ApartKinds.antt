@@ -25,8 +25,8 @@ use Rattle.sam_host.specs.declared.fault.HostFault.{HostFault}
 use Rattle.sam_host.specs.declared.fault.HostFault.TheVariants.{BadVersion, CountFull}
 use Rattle.sam_host.proofs.SoundLaws.{frames_fit, stays_sound}
 use Rattle.sam_term.specs.Locks.{is_command_line}
-use Rattle.sam_term.specs.Term.{PlainTerminal, Made, window_at, put_window, cut_rasp, flushed, unsent_message, and_then, sends, sends_if, unchanged, requested, request_for, view_end, is_open, joins, joined, kept_unsent, typed_rasp, types, cuts_dot, has_empty_dot, made_by, made_by_type, made_by_cut, made_by_paste, made_by_snarf, made_by_view, made_from, made_unless, frame_checks, event_checks, has_long_text, took_unlockfile, act_of, act_on, decided, flush_of, take_of}
-use Rattle.sam_term.specs.declared.files.Unsent.{Unsent}
+use Rattle.sam_term.specs.Term.{PlainTerminal, Made, window_at, put_window, cut_rasp, flushed, unsent_message, and_then, sends, sends_if, unchanged, requested, request_for, view_end, is_open, joins, joined, kept_unsent, typed_rasp, types, cuts_dot, has_empty_dot, event_outcome, made_by_type, made_by_cut, made_by_paste, made_by_snarf, made_by_view, frame_outcome, made_unless, frame_checks, event_checks, has_long_text, took_unlockfile, act_of, act_on, decided, flush_of, take_of}
+use Rattle.sam_term.specs.declared.records.Unsent.{Unsent}
 use Rattle.sam_term.specs.declared.event.UserEvent.{UserEvent}
 use Rattle.sam_term.specs.declared.event.UserEvent.TheVariants.{Typed, Select, Cut, Paste, Snarf, Look, Search, Send, Dclick, Scroll, View, Open, Close, Write, Work, OpenCmd, New, Exit, Check, GetSnarf, SetSnarf, Version, Flush}
 use Rattle.sam_term.specs.declared.event.Verdict.{Verdict}
@@ -358,7 +358,7 @@ free-plain : (t : PlainTerminal) (ms : List Tmesg) → AllFree ms → AllFree (s
 free-plain t ms p = free-sends t unchanged ms p
 
 -- what an event composes at a place with the terminal's version
-event_turn : (t : PlainTerminal) (e : UserEvent) (v : ℕ) → has_long_text t e ≡ false → v ≡ t.version → InTurn terminal v (made_by t e).1
+event_turn : (t : PlainTerminal) (e : UserEvent) (v : ℕ) → has_long_text t e ≡ false → v ≡ t.version → InTurn terminal v (event_outcome t e).1
 unfolding made_by_type made_by_cut made_by_paste made_by_snarf made_by_view
 event_turn t (Typed f s) v h q =
     let u = (cuts_dot t f).0 in
@@ -417,14 +417,14 @@ act_turn t r v place e = go t.held e
     P : PlainTerminal × Acted → Type 0
     P x = InTurn terminal v (composed_by x.1)
 
-    verdict : (o : Option Verdict) (x : UserEvent) (es : List UserEvent) → first_of_checks (event_checks t x) ≡ o → decided o t es (made_by (record t { held = es }) x) ≡ Ok r → P r
+    verdict : (o : Option Verdict) (x : UserEvent) (es : List UserEvent) → first_of_checks (event_checks t x) ≡ o → decided o t es (event_outcome (record t { held = es }) x) ≡ Ok r → P r
     verdict (Some Waits) x es n q = let same : (t, Locked) ≡ r = cc in subst P same tt
     verdict (Some (Refuses why)) x es n q =
         let dropped : PlainTerminal × Acted = (record t { held = es }, Refused why) in
         let same : dropped ≡ r = cc in
         subst P same tt
     verdict None x es n q =
-        let made : Made = made_by (record t { held = es }) x in
+        let made : Made = event_outcome (record t { held = es }) x in
         let same : (made.0, Done made.1) ≡ r = counted-result made.0.sent (made.0, Done made.1) r q in
         let here : v ≡ t.version = place (none_at (event_checks t x) 1 n) (none_at (event_checks t x) 0 n) in
         subst P same (event_turn (record t { held = es }) x v (none_at (event_checks t x) 8 n) here)
@@ -437,7 +437,7 @@ pub flush_turn : (t : PlainTerminal) (r : Made) (v : ℕ) → flush_of t ≡ Ok 
 unfolding flush_of
 flush_turn t r v e = subst (λ (x : Made). InTurn terminal v x.1) (counted-result (flushed t).0.sent (flushed t) r e) (free_turn v (flushed t).1 (free-flushed t))
 
-free-frame : (t : PlainTerminal) (m : Hmesg) → AllFree (made_from t m).1
+free-frame : (t : PlainTerminal) (m : Hmesg) → AllFree (frame_outcome t m).1
 unfolding took_unlockfile
 free-frame t (Hcheck f) = free-requested t f
 free-frame t (Hunlockfile f) = free-requested (took_unlockfile t f) f
@@ -448,8 +448,8 @@ pub take_turn : (t : PlainTerminal) (frame : HFrame) (r : Made) (v : ℕ) → ta
 unfolding take_of
 take_turn t frame r v e = go (first_of_checks ((nat_lt t.sent frame.seen, fault.FromTheFuture) ∷ frame_checks t frame.msg)) e
   where
-    go : (o : Option TermFault) → made_unless o (made_from t frame.msg) ≡ Ok r → InTurn terminal v r.1
+    go : (o : Option TermFault) → made_unless o (frame_outcome t frame.msg) ≡ Ok r → InTurn terminal v r.1
     go (Some why) q = absurd (cc)
     go None q =
-        let made : Made = made_from t frame.msg in
+        let made : Made = frame_outcome t frame.msg in
         subst (λ (x : Made). InTurn terminal v x.1) (counted-result made.0.sent made r q) (free_turn v made.1 (free-frame t frame.msg))

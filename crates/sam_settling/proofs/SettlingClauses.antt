@@ -22,13 +22,13 @@ use Rattle.sam_term.specs.declared.event.UserEvent.{UserEvent}
 use Rattle.sam_term.specs.declared.fault.TermFault.{TermFault}
 use Rattle.sam_term.specs.declared.fault.TermFault.TheVariants as fault
 use Rattle.sam_script.specs.Script.{IsFile}
-use Rattle.sam_queue.specs.declared.port.Entry.{Entry}
+use Rattle.sam_queue.specs.declared.rule.Entry.{Entry}
 use Rattle.sam_queue.specs.History.{items_of}
 use Rattle.sam_queue.specs.Views.{PostView, LineView}
 use Rattle.sam_queue.proofs.Sorts.{items_of-append}
 use Rattle.sam_world.specs.declared.event.TermLog.{TermLog}
 use Rattle.sam_world.specs.Logs.{users}
-use Rattle.sam_world.specs.Reached.{IsKept}
+use Rattle.sam_world.specs.Reached.{IsSoundWorld}
 use Rattle.sam_world.specs.Sides.{Each, HostRuns, TermRuns}
 use Rattle.sam_world.specs.Streams.{Begins}
 use Rattle.sam_world.specs.World.{PlainWorld, new_world, run_of, merged, is_bad_log, is_quiet}
@@ -39,7 +39,7 @@ use Rattle.sam_threads.specs.RealSides.{sides}
 use Rattle.sam_threads.specs.Inputs.{bytes_of, frames_in, users_in, frame_of_load}
 use Rattle.sam_threads.specs.Lines.{LinesView}
 use Rattle.sam_threads.specs.Numbers.{refusal_number, fault_number}
-use Rattle.sam_threads.specs.Told.{Told, UserStopped, HostStopped, ReaderStopped, TermStopped, ShowsFault, RefusesFrame, IsForeign, IsFullUp, IsPastCount, IsOwnExit}
+use Rattle.sam_threads.specs.WorkerEnds.{Told, UserStopped, HostStopped, ReaderStopped, TermStopped, ShowsFault, RefusesFrame, IsForeign, IsFullUp, IsPastCount, IsOwnExit}
 use Rattle.sam_settling.specs.Headline.{Headline}
 use Rattle.sam_settling.specs.Settling.{LinesGive}
 use Rattle.sam_settling.specs.Settled.{counts_left, stop_of, stops_of, IsFull, count_gone, AreFull, HasStreams, HasUsers, IsDrained, IsWhole, MissesHost}
@@ -69,15 +69,15 @@ pub record Laws (given : List (List ℕ × List ℕ)) (entries : List TermLog) (
 
 -- ## Plain facts
 
-bytes_joined : (taken left put : List (Vec ℕ)) (got rest outbox sent : List ℕ) → taken ++ left ≡ put → bytes_of taken ≡ got ++ rest → bytes_of put ++ outbox ≡ sent
-    → sent ≡ got ++ (rest ++ (bytes_of left ++ outbox))
-bytes_joined taken left put got rest outbox sent items have say =
+bytes_joined : (taken left put : List (Vec ℕ)) (got rest to_send sent : List ℕ) → taken ++ left ≡ put → bytes_of taken ≡ got ++ rest → bytes_of put ++ to_send ≡ sent
+    → sent ≡ got ++ (rest ++ (bytes_of left ++ to_send))
+bytes_joined taken left put got rest to_send sent items have say =
     sym say
-    ∙ (ap (λ (l : List (Vec ℕ)). bytes_of l ++ outbox) (sym items)
-    ∙ (ap (λ l. l ++ outbox) (flat_map-append (λ (p : Vec ℕ). p.items) taken left)
-    ∙ (ap (λ l. (l ++ bytes_of left) ++ outbox) have
-    ∙ (append_assoc (got ++ rest) (bytes_of left) outbox
-    ∙ append_assoc got rest (bytes_of left ++ outbox)))))
+    ∙ (ap (λ (l : List (Vec ℕ)). bytes_of l ++ to_send) (sym items)
+    ∙ (ap (λ l. l ++ to_send) (flat_map-append (λ (p : Vec ℕ). p.items) taken left)
+    ∙ (ap (λ l. (l ++ bytes_of left) ++ to_send) have
+    ∙ (append_assoc (got ++ rest) (bytes_of left) to_send
+    ∙ append_assoc got rest (bytes_of left ++ to_send)))))
 
 given_of_files : (files : List (List ℕ × List ℕ)) → Each IsFile files → AreGiven files
 given_of_files [] a = tt
@@ -160,15 +160,15 @@ module _ (keys clicks : List UserEvent) (lines : LinesView) (e : Ends) (told : T
 
   -- ## The lines of bytes
 
-  up_bytes : stream_of terminal composed ≡ stream_of terminal handled ++ (told.host.rest ++ (bytes_of up_parts.left ++ told.term.outbox))
+  up_bytes : stream_of terminal composed ≡ stream_of terminal handled ++ (told.host.rest ++ (bytes_of up_parts.left ++ told.term.to_send))
   up_bytes =
       bytes_joined (items_of 0 e.host.take.taken) up_parts.left e.term.post.put
-      (stream_of terminal handled) told.host.rest told.term.outbox (stream_of terminal composed) up_parts.items told.host.got told.term.sent
+      (stream_of terminal handled) told.host.rest told.term.to_send (stream_of terminal composed) up_parts.items told.host.got told.term.sent
 
-  down_bytes : stream_of host answered ≡ stream_of host passed ++ (told.reader.rest ++ (bytes_of down_parts.left ++ told.host.outbox))
+  down_bytes : stream_of host answered ≡ stream_of host passed ++ (told.reader.rest ++ (bytes_of down_parts.left ++ told.host.to_send))
   down_bytes =
       bytes_joined (items_of 0 e.reader.take.taken) down_parts.left
-      e.host.post.put (stream_of host passed) told.reader.rest told.host.outbox (stream_of host answered) down_parts.items told.reader.got told.host.sent
+      e.host.post.put (stream_of host passed) told.reader.rest told.host.to_send (stream_of host answered) down_parts.items told.reader.got told.host.sent
 
   -- ## What is left
 
@@ -236,8 +236,8 @@ module _ (keys clicks : List UserEvent) (lines : LinesView) (e : Ends) (told : T
     answers_fit = told.host.answers_fit;
     handled_fit = told.host.fit;
     passed_fit = told.reader.fit;
-    up = (told.host.rest ++ (bytes_of up_parts.left ++ told.term.outbox), up_bytes);
-    down = (told.reader.rest ++ (bytes_of down_parts.left ++ told.host.outbox), down_bytes);
+    up = (told.host.rest ++ (bytes_of up_parts.left ++ told.term.to_send), up_bytes);
+    down = (told.reader.rest ++ (bytes_of down_parts.left ++ told.host.to_send), down_bytes);
     passing = record { rest = frames_in told.term.dropped ++ passing.0; is = passing.1 };
   }
 
@@ -286,8 +286,8 @@ module _ (keys clicks : List UserEvent) (lines : LinesView) (e : Ends) (told : T
             terminal_ran = subst (λ t. TermRuns sides new_terminal e.term.log.items frames composed t) (sym term_is) told.term.runs;
             upwards = laws.joined.upwards ∙ ap (λ (w : PlainWorld). handled ++ w.up) (sym world_is);
             downwards = laws.joined.downwards ∙ ap (λ (w : PlainWorld). frames ++ w.down) (sym world_is);
-            put_up = record { rest = told.term.outbox; is = sym told.term.sent };
-            put_down = record { rest = told.host.outbox; is = sym told.host.sent };
+            put_up = record { rest = told.term.to_send; is = sym told.term.sent };
+            put_down = record { rest = told.host.to_send; is = sym told.host.sent };
             passed = record { rest = map Host later; is = told.reader.put ∙ (ap (λ l. map Host l) passing.1 ∙ map-append Host frames later) };
           }
 
@@ -310,25 +310,25 @@ module _ (keys clicks : List UserEvent) (lines : LinesView) (e : Ends) (told : T
 
     -- ## The stops
 
-    host_fine : (o : Option Stop) → HostStopped e.host handled told.host.outbox told.host.rest o → IsFine 0 o
+    host_fine : (o : Option Stop) → HostStopped e.host handled told.host.to_send told.host.rest o → IsFine 0 o
     host_fine None s = record { full = tt; gone = omega arith }
     host_fine (Some (stop.Frame n)) s = record { full = (seven s, tt); gone = omega arith }
       where
         seven : ((n ≡ 7) × IsPastCount e.host.take.taken) ⊎ ShowsFault terminal handled told.host.rest n → n ≡ 7
         seven (inl is) = is.0
         seven (inr f) =
-            absurd (laws.no_fault_upwards f.0 (f.1 ++ (bytes_of up_parts.left ++ told.term.outbox)) f.2
+            absurd (laws.no_fault_upwards f.0 (f.1 ++ (bytes_of up_parts.left ++ told.term.to_send)) f.2
             (up_bytes
-            ∙ (ap (λ l. stream_of terminal handled ++ (l ++ (bytes_of up_parts.left ++ told.term.outbox))) f.3
-            ∙ (ap (λ l. stream_of terminal handled ++ l) (append_assoc f.0 f.1 (bytes_of up_parts.left ++ told.term.outbox))
-            ∙ sym (append_assoc (stream_of terminal handled) f.0 (f.1 ++ (bytes_of up_parts.left ++ told.term.outbox)))))) f.4)
+            ∙ (ap (λ l. stream_of terminal handled ++ (l ++ (bytes_of up_parts.left ++ told.term.to_send))) f.3
+            ∙ (ap (λ l. stream_of terminal handled ++ l) (append_assoc f.0 f.1 (bytes_of up_parts.left ++ told.term.to_send))
+            ∙ sym (append_assoc (stream_of terminal handled) f.0 (f.1 ++ (bytes_of up_parts.left ++ told.term.to_send)))))) f.4)
     host_fine (Some (stop.Host n)) s =
-        let more = s.1 ++ (bytes_of up_parts.left ++ told.term.outbox) in
+        let more = s.1 ++ (bytes_of up_parts.left ++ told.term.to_send) in
         let why = laws.host_stops_for_a_count s.0 more s.2 s.3
         (up_bytes
-        ∙ (ap (λ l. stream_of terminal handled ++ (l ++ (bytes_of up_parts.left ++ told.term.outbox))) s.4
-        ∙ (ap (λ l. stream_of terminal handled ++ l) (append_assoc (frame_of terminal s.0) s.1 (bytes_of up_parts.left ++ told.term.outbox))
-        ∙ sym (append_assoc (stream_of terminal handled) (frame_of terminal s.0) (s.1 ++ (bytes_of up_parts.left ++ told.term.outbox)))))) s.5 in
+        ∙ (ap (λ l. stream_of terminal handled ++ (l ++ (bytes_of up_parts.left ++ told.term.to_send))) s.4
+        ∙ (ap (λ l. stream_of terminal handled ++ l) (append_assoc (frame_of terminal s.0) s.1 (bytes_of up_parts.left ++ told.term.to_send))
+        ∙ sym (append_assoc (stream_of terminal handled) (frame_of terminal s.0) (s.1 ++ (bytes_of up_parts.left ++ told.term.to_send)))))) s.5 in
         record { full = (s.6 ∙ ap refusal_number why, tt); gone = omega arith }
     host_fine (Some (stop.Term n)) s = absurd s
     host_fine (Some stop.PeerGone) s = absurd s
@@ -342,11 +342,11 @@ module _ (keys clicks : List UserEvent) (lines : LinesView) (e : Ends) (told : T
         seven : ((n ≡ 7) × IsPastCount e.reader.take.taken) ⊎ ShowsFault host passed told.reader.rest n → n ≡ 7
         seven (inl is) = is.0
         seven (inr f) =
-            absurd (laws.no_fault_downwards f.0 (f.1 ++ (bytes_of down_parts.left ++ told.host.outbox)) f.2
+            absurd (laws.no_fault_downwards f.0 (f.1 ++ (bytes_of down_parts.left ++ told.host.to_send)) f.2
             (down_bytes
-            ∙ (ap (λ l. stream_of host passed ++ (l ++ (bytes_of down_parts.left ++ told.host.outbox))) f.3
-            ∙ (ap (λ l. stream_of host passed ++ l) (append_assoc f.0 f.1 (bytes_of down_parts.left ++ told.host.outbox))
-            ∙ sym (append_assoc (stream_of host passed) f.0 (f.1 ++ (bytes_of down_parts.left ++ told.host.outbox)))))) f.4)
+            ∙ (ap (λ l. stream_of host passed ++ (l ++ (bytes_of down_parts.left ++ told.host.to_send))) f.3
+            ∙ (ap (λ l. stream_of host passed ++ l) (append_assoc f.0 f.1 (bytes_of down_parts.left ++ told.host.to_send))
+            ∙ sym (append_assoc (stream_of host passed) f.0 (f.1 ++ (bytes_of down_parts.left ++ told.host.to_send)))))) f.4)
     reader_fine (Some (stop.Host n)) s = absurd s
     reader_fine (Some (stop.Term n)) s = absurd s
     reader_fine (Some stop.PeerGone) s = absurd s
@@ -373,7 +373,7 @@ module _ (keys clicks : List UserEvent) (lines : LinesView) (e : Ends) (told : T
         no_user event more [] q = cc
         no_user event more (a ∷ fs) q = let h : User event ≡ Host a = cc in cc
 
-    term_fine : (o : Option Stop) → TermStopped e.term told.term.handled told.term.dropped told.term.outbox o → IsFine 1 o × (0 < count_gone (stop_of o) → e.term.term.has_exited ≡ false)
+    term_fine : (o : Option Stop) → TermStopped e.term told.term.handled told.term.dropped told.term.to_send o → IsFine 1 o × (0 < count_gone (stop_of o) → e.term.term.has_exited ≡ false)
     term_fine None s = (record { full = tt; gone = omega arith }, λ l. absurd (omega arith))
     term_fine (Some (stop.Frame n)) s = absurd (no_foreign n s)
     term_fine (Some (stop.Host n)) s = absurd s
@@ -429,11 +429,11 @@ module _ (keys clicks : List UserEvent) (lines : LinesView) (e : Ends) (told : T
     -- all that the host answered came through, where neither it nor its reader was stopped
     all_passed : e.host.stop ≡ None → e.reader.stop ≡ None → passed ≡ answered
     all_passed host_went reader_went =
-        let h = subst (λ x. HostStopped e.host handled told.host.outbox told.host.rest x) host_went told.host.stopped in
+        let h = subst (λ x. HostStopped e.host handled told.host.to_send told.host.rest x) host_went told.host.stopped in
         let r = subst (λ x. ReaderStopped e.reader passed told.reader.rest x) reader_went told.reader.stopped in
         laws.all_downwards told.reader.rest
         (down_bytes
-        ∙ (ap (λ l. stream_of host passed ++ (told.reader.rest ++ (bytes_of l ++ told.host.outbox))) down_none
+        ∙ (ap (λ l. stream_of host passed ++ (told.reader.rest ++ (bytes_of l ++ told.host.to_send))) down_none
         ∙ (ap (λ l. stream_of host passed ++ (told.reader.rest ++ l)) h.0
         ∙ ap (λ l. stream_of host passed ++ l) (append-nil told.reader.rest)))) r
 
@@ -454,7 +454,7 @@ module _ (keys clicks : List UserEvent) (lines : LinesView) (e : Ends) (told : T
         → run_of (new_world e.host.files.items) (merged e.term.log.items e.host.host.taken) ≡ Some s.world → s.world.term ≡ e.term.term
         → e.term.stop ≡ Some stop.PeerGone → MissesHost e s
     misses_host s schedule ran term gone =
-        let t = subst (λ x. TermStopped e.term told.term.handled told.term.dropped told.term.outbox x) gone told.term.stopped in
+        let t = subst (λ x. TermStopped e.term told.term.handled told.term.dropped told.term.to_send x) gone told.term.stopped in
         let all = all_before_mark e.term.take senders given.events 2 e.reader.post refl told.term.handled told.term.dropped told.term.took t.1 in
         record {
           handled = told.term.handled;
@@ -468,10 +468,10 @@ module _ (keys clicks : List UserEvent) (lines : LinesView) (e : Ends) (told : T
 
     -- ## A session that nothing stopped
 
-    term_went : stops_of e ≡ [] → TermStopped e.term told.term.handled told.term.dropped told.term.outbox None
+    term_went : stops_of e ≡ [] → TermStopped e.term told.term.handled told.term.dropped told.term.to_send None
     term_went none =
         let o = nothing_stopped e.keyboard.stop e.mouse.stop e.host.stop e.reader.stop e.term.stop none in
-        subst (λ x. TermStopped e.term told.term.handled told.term.dropped told.term.outbox x) o.4 told.term.stopped
+        subst (λ x. TermStopped e.term told.term.handled told.term.dropped told.term.to_send x) o.4 told.term.stopped
 
     -- the terminal handled all that it took
     handled_all : stops_of e ≡ [] → told.term.handled ≡ e.term.take.taken
@@ -480,12 +480,12 @@ module _ (keys clicks : List UserEvent) (lines : LinesView) (e : Ends) (told : T
     none_under_way : stops_of e ≡ [] → (last.up ≡ []) × (last.down ≡ [])
     none_under_way none =
         let o = nothing_stopped e.keyboard.stop e.mouse.stop e.host.stop e.reader.stop e.term.stop none in
-        let h = subst (λ x. HostStopped e.host handled told.host.outbox told.host.rest x) o.2 told.host.stopped in
+        let h = subst (λ x. HostStopped e.host handled told.host.to_send told.host.rest x) o.2 told.host.stopped in
         let t = term_went none in
         let up_all : handled ≡ composed =
         laws.all_upwards told.host.rest
         (up_bytes
-        ∙ (ap (λ l. stream_of terminal handled ++ (told.host.rest ++ (bytes_of l ++ told.term.outbox))) up_none
+        ∙ (ap (λ l. stream_of terminal handled ++ (told.host.rest ++ (bytes_of l ++ told.term.to_send))) up_none
         ∙ (ap (λ l. stream_of terminal handled ++ (told.host.rest ++ l)) t.1
         ∙ ap (λ l. stream_of terminal handled ++ l) (append-nil told.host.rest)))) h.1 in
         let frame_none = frame_parts.ended (told.term.drained 2 (omega arith)) in
@@ -501,7 +501,7 @@ module _ (keys clicks : List UserEvent) (lines : LinesView) (e : Ends) (told : T
         λ i. record { host = laws.joined.host_is i; term = laws.joined.term_is i; up = empty.0 i; down = empty.1 i } in
         runs ∙ ap (λ (w : PlainWorld). Some w) same
 
-    pub sides_kept : stops_of e ≡ [] → IsKept (record { host = e.host.host; term = e.term.term; up = []; down = [] })
+    pub sides_kept : stops_of e ≡ [] → IsSoundWorld (record { host = e.host.host; term = e.term.term; up = []; down = [] })
     sides_kept none = record {
       reached = record { given = e.host.files.items; limits = apart.given_fit; reached = (merged e.term.log.items e.host.host.taken, sides_lead none) };
       up = All-nil (λ m. IsTrue (fits_t 2 m));

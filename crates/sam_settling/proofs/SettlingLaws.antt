@@ -5,12 +5,12 @@ use Rattle.sam_mesg.specs.declared.hmesg.HFrame.{HFrame}
 use Rattle.sam_host.specs.Host.{PlainHost}
 use Rattle.sam_term.specs.Term.{PlainTerminal}
 use Rattle.sam_world.specs.declared.event.TermLog.{TermLog}
-use Rattle.sam_world.specs.Reached.{IsKept}
+use Rattle.sam_world.specs.Reached.{IsSoundWorld}
 use Rattle.sam_world.specs.World.{PlainWorld, new_world, run_of, merged}
 use Rattle.sam_settling.specs.Apart.{Apart}
 use Rattle.sam_threads.specs.Inputs.{frames_in}
 use Rattle.sam_settling.specs.Headline.{Headline}
-use Rattle.sam_threads.specs.Told.{AreEnds}
+use Rattle.sam_threads.specs.WorkerEnds.{AreEnds}
 use Rattle.sam_threads.specs.declared.stop.Stop.TheVariants as stop
 use Rattle.sam_settling.specs.Settled.{stops_of, AreFull, HasStreams, HasUsers, IsDrained, IsWhole, MissesHost}
 use Rattle.sam_settling.specs.Settling.{LinesGive, IsSource, IsReplay, ComesTo, world_from}
@@ -52,7 +52,7 @@ module _ (e : Ends) (ends : AreEnds e) (give : LinesGive e) where
   source_leads (Run last) world ran is = ran ∙ ap (λ (w : PlainWorld). Some w) (sym is)
 
   pub source_kept : (source : Source) → IsSource e.host.files.items e.term.log.items e.host.host.taken (stops_of e) source
-      → source ≡ Sides → IsKept (record { host = e.host.host; term = e.term.term; up = []; down = [] })
+      → source ≡ Sides → IsSoundWorld (record { host = e.host.host; term = e.term.term; up = []; down = [] })
   source_kept source is sides =
       sides_kept ends.0 ends.1 ends.2 e ends.3 give laws
       (subst (λ (x : Source). IsSource e.host.files.items e.term.log.items e.host.host.taken (stops_of e) x) sides is)

@@ -8,7 +8,7 @@ use Rattle.std.proofs.lemmas.List.Sums.{sum_by-cons}
 use Rattle.std.proofs.lemmas.List.Concat.{flat_map-cons}
 use Rattle.sam_mesg.specs.declared.hmesg.HFrame.{HFrame}
 use Rattle.sam_term.specs.declared.event.UserEvent.{UserEvent}
-use Rattle.sam_queue.specs.declared.port.Entry.{Entry}
+use Rattle.sam_queue.specs.declared.rule.Entry.{Entry}
 use Rattle.sam_queue.specs.History.{loads, items_of, has_left, all_of}
 use Rattle.sam_queue.specs.Views.{LineView, PostView, TakeView}
 use Rattle.sam_queue.specs.Audits.{AllAccounted, HasHistory, ArePostsOf}

@@ -7,7 +7,7 @@ use Rattle.sam_frame.specs.Stream.{stream_of}
 use Rattle.sam_host.specs.Host.{new_host}
 use Rattle.sam_term.specs.Term.{new_terminal}
 use Rattle.sam_term.specs.declared.event.UserEvent.{UserEvent}
-use Rattle.sam_queue.specs.declared.port.Entry.{Entry}
+use Rattle.sam_queue.specs.declared.rule.Entry.{Entry}
 use Rattle.sam_queue.specs.History.{items_of, has_left}
 use Rattle.sam_queue.specs.Views.{PostView, TakeView}
 use Rattle.sam_world.specs.Logs.{users}
@@ -16,7 +16,7 @@ use Rattle.sam_world.specs.Streams.{Begins}
 use Rattle.sam_world.specs.World.{is_quiet}
 use Rattle.sam_threads.specs.RealSides.{sides}
 use Rattle.sam_threads.specs.Inputs.{bytes_of, users_in}
-use Rattle.sam_threads.specs.Told.{IsOwnExit}
+use Rattle.sam_threads.specs.WorkerEnds.{IsOwnExit}
 use Rattle.sam_threads.specs.declared.input.Input.{Input}
 use Rattle.sam_threads.specs.declared.input.Input.TheVariants.{Host}
 use Rattle.sam_threads.specs.declared.stop.Stop.{Stop}

@@ -2,9 +2,9 @@
 ghost use Rattle.std.specs.Prelude.{◌≡◌, ◌+◌, ◌^◌, ◌<◌, ◌≤◌, [], ◌∷◌, ◌++◌, length, All, IfOk, IfErr, Some, vec_capacity, sum_by};
 ghost use Rattle.sam_runes.specs.Texts.{most_files};
 ghost use Rattle.sam_script.specs.Script.{IsFile};
-ghost use Rattle.sam_world.specs.Reached.{IsKept};
+ghost use Rattle.sam_world.specs.Reached.{IsSoundWorld};
 ghost use Rattle.sam_world.specs.World.{new_world, run_of, merged};
-ghost use Rattle.sam_threads.specs.Told.{AreEnds};
+ghost use Rattle.sam_threads.specs.WorkerEnds.{AreEnds};
 ghost use Rattle.sam_settling.specs.Headline.{Gives, Headline};
 ghost use Rattle.sam_settling.specs.Settled.{left_in, counts_left, stop_of, stops_of};
 ghost use Rattle.sam_settling.specs.Settled.{AreFull, HasStreams, HasUsers, IsDrained, IsWhole, MissesHost};
@@ -243,7 +243,7 @@ fn finish<'q, R: Wait>(rt: &R, alloc: Global, prepared: Prepared<'q>, ends: Ends
 
 /// Returns the world of a session with these sides: the sides themselves, or the world that was run.
 fn world_of(alloc: Global, source: Source, host: Host, term: Terminal) -> World
-    requires { source ≡ Source.Sides → IsKept (record { host = host; term = term; up = []; down = [] }) }
+    requires { source ≡ Source.Sides → IsSoundWorld (record { host = host; term = term; up = []; down = [] }) }
     ensures { result ≡ world_from source host term }
 {
     match source {

@@ -2,7 +2,7 @@
 use Rattle.std.proofs.Common.{◌≡◌, sym, ap, ℕ, Bool, true, false, List, [], ◌∷◌, Option, Some, None, Result, Ok, Err, if◌then◌else◌, nat_lt}
 use Rattle.sam_runes.specs.Checks.{first_of_checks}
 use Rattle.sam_runes.specs.Texts.{most_count}
-use Rattle.sam_term.specs.Term.{PlainTerminal, Made, act_of, act_on, decided, if_countable, event_checks, made_by}
+use Rattle.sam_term.specs.Term.{PlainTerminal, Made, act_of, act_on, decided, if_countable, event_checks, event_outcome}
 use Rattle.sam_mesg.specs.declared.tmesg.Tmesg.{Tmesg}
 use Rattle.sam_term.specs.declared.event.Verdict.{Verdict}
 use Rattle.sam_term.specs.declared.event.Verdict.TheVariants.{Waits, Refuses}
@@ -49,7 +49,7 @@ idle_still t u e = go t.held e
   where
     go : (es : List UserEvent) → act_on t es ≡ Ok (u, Idle) → u ≡ t
     go [] q = sym (ap (λ r. term_in r t) q)
-    go (x ∷ es) q = absurd (decided_never_idle (first_of_checks (event_checks t x)) t u es (made_by (record t { held = es }) x) q)
+    go (x ∷ es) q = absurd (decided_never_idle (first_of_checks (event_checks t x)) t u es (event_outcome (record t { held = es }) x) q)
 
 -- where a lock holds the event back the terminal stays as it is
 pub locked_still : (t u : PlainTerminal) → act_of t ≡ Ok (u, Locked) → u ≡ t
@@ -58,4 +58,4 @@ locked_still t u e = go t.held e
   where
     go : (es : List UserEvent) → act_on t es ≡ Ok (u, Locked) → u ≡ t
     go [] q = let other : Idle ≡ Locked = ap (λ x. acted_in x Locked) q in absurd (cc)
-    go (x ∷ es) q = decided_still (first_of_checks (event_checks t x)) t u es (made_by (record t { held = es }) x) q
+    go (x ∷ es) q = decided_still (first_of_checks (event_checks t x)) t u es (event_outcome (record t { held = es }) x) q

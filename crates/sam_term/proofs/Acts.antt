@@ -2,7 +2,7 @@
 use Rattle.std.proofs.Common.{◌≡◌, refl, sym, ap, ◌∙◌, subst, ℕ, zero, suc, Bool, true, false, List, [], ◌∷◌, drop, Some, None, Ok}
 use Rattle.std.specs.Prelude.{slice_get, not, ◌&&◌}
 use Rattle.sam_runes.specs.Checks.{Checks, first_of_checks}
-use Rattle.sam_term.specs.Term.{PlainTerminal, Made, act_of, act_on, decided, event_checks, made_by, needs_open, is_closed, file_of, is_open, sends, unchanged}
+use Rattle.sam_term.specs.Term.{PlainTerminal, Made, act_of, act_on, decided, event_checks, event_outcome, needs_open, is_closed, file_of, is_open, sends, unchanged}
 use Rattle.sam_term.specs.Taking.{done, not_done}
 use Rattle.sam_term.specs.Acting.{deed_of, first_event, free_first, made_first, is_typing, is_snarfing}
 use Rattle.sam_term.specs.declared.event.Deed.TheVariants.{Sends, Types, Selects, Cuts, Pastes, Snarfs, Views, SetsSnarf, Flushes}
@@ -26,7 +26,7 @@ first_is (x ∷ es) e s = (cc)
 
 -- acting, by what stands against the oldest event
 pub act_first : (t : PlainTerminal) (e : UserEvent) → slice_get t.held 0 ≡ Some e → act_of t ≡ decided (first_of_checks (event_checks t e)) t (drop 1 t.held)
-    (made_by (record t { held = drop 1 t.held }) e)
+    (event_outcome (record t { held = drop 1 t.held }) e)
 unfolding act_of
 act_first t e s = ap (λ es. act_on t es) (first-read t.held e s)
 
@@ -61,8 +61,8 @@ decided_not (Refuses r) t made = refl
 pub act_refused : (t : PlainTerminal) (e : UserEvent) (v : Verdict) → slice_get t.held 0 ≡ Some e → first_of_checks (event_checks t e) ≡ Some v → act_of t ≡ Ok (not_done v t)
 act_refused t e v s n =
     act_first t e s
-    ∙ (ap (λ o. decided o t (drop 1 t.held) (made_by (record t { held = drop 1 t.held }) e)) n
-    ∙ decided_not v t (made_by (record t { held = drop 1 t.held }) e))
+    ∙ (ap (λ o. decided o t (drop 1 t.held) (event_outcome (record t { held = drop 1 t.held }) e)) n
+    ∙ decided_not v t (event_outcome (record t { held = drop 1 t.held }) e))
 
 -- nothing stands against the oldest event
 pub free : (t : PlainTerminal) (e : UserEvent) → slice_get t.held 0 ≡ Some e → first_of_checks (event_checks t e) ≡ None → free_first t ≡ None
@@ -75,13 +75,13 @@ unfolding done made_first
 act_done t e s n =
     sym
     (act_first t e s
-    ∙ (ap (λ v. decided v t (drop 1 t.held) (made_by (record t { held = drop 1 t.held }) e)) n
-    ∙ ap (λ x. decided None t (drop 1 t.held) (made_by (record t { held = drop 1 t.held }) x)) (sym (first_is t.held e s))))
+    ∙ (ap (λ v. decided v t (drop 1 t.held) (event_outcome (record t { held = drop 1 t.held }) e)) n
+    ∙ ap (λ x. decided None t (drop 1 t.held) (event_outcome (record t { held = drop 1 t.held }) x)) (sym (first_is t.held e s))))
 
 -- what the oldest event does, where it is known
-pub made_of : (t : PlainTerminal) (e : UserEvent) → first_event t.held ≡ e → made_first t ≡ made_by (record t { held = drop 1 t.held }) e
+pub made_of : (t : PlainTerminal) (e : UserEvent) → first_event t.held ≡ e → made_first t ≡ event_outcome (record t { held = drop 1 t.held }) e
 unfolding made_first
-made_of t e s = ap (λ x. made_by (record t { held = drop 1 t.held }) x) s
+made_of t e s = ap (λ x. event_outcome (record t { held = drop 1 t.held }) x) s
 
 -- a check of the oldest event that does not stand against it, by its number
 pub passes : (t : PlainTerminal) (e : UserEvent) (k : ℕ) → free_first t ≡ None → first_event t.held ≡ e → test_at (event_checks t e) k ≡ false
@@ -127,7 +127,7 @@ lockable_first t m n s = lockable t (first_event t.held) m n refl (sym s)
 sends_same : (u : PlainTerminal) (m n : Tmesg) → Sends m ≡ Sends n → sends u unchanged (m ∷ []) ≡ sends u unchanged (n ∷ [])
 sends_same u m n e = let same : m ≡ n = (cc) in ap (λ x. sends u unchanged (x ∷ [])) same
 
-makes : (t : PlainTerminal) (es : List UserEvent) (e : UserEvent) (m : Tmesg) → deed_of t e ≡ Sends m → made_by (record t { held = es }) e ≡ sends (record t { held = es }) unchanged (m ∷ [])
+makes : (t : PlainTerminal) (es : List UserEvent) (e : UserEvent) (m : Tmesg) → deed_of t e ≡ Sends m → event_outcome (record t { held = es }) e ≡ sends (record t { held = es }) unchanged (m ∷ [])
 makes t es (Look f) m s = sends_same (record t { held = es }) _ m s
 makes t es (Search f) m s = sends_same (record t { held = es }) _ m s
 makes t es (Dclick f p) m s = sends_same (record t { held = es }) _ m s

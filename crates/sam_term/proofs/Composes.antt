@@ -9,10 +9,10 @@ use Rattle.sam_term.specs.Term.{PlainTerminal, window_at, put_window, known_at, 
 use Rattle.sam_runes.specs.Slots.{put_slot}
 use Rattle.sam_term.proofs.CountLaws.{counts-flushed, sent-composed}
 use Rattle.sam_term.specs.Term.{flushed, unsent_message, sends, unchanged}
-use Rattle.sam_term.specs.declared.files.Unsent.{Unsent}
+use Rattle.sam_term.specs.declared.records.Unsent.{Unsent}
 use Rattle.sam_runes.proofs.SlotLaws.{slot-put_same, put_slot-put_slot}
-use Rattle.sam_term.specs.declared.files.Window.{Window}
-use Rattle.sam_term.specs.declared.files.KnownFile.{KnownFile}
+use Rattle.sam_term.specs.declared.records.Window.{Window}
+use Rattle.sam_term.specs.declared.records.KnownFile.{KnownFile}
 use Rattle.sam_mesg.specs.declared.tmesg.Tmesg.{Tmesg}
 use Rattle.sam_mesg.specs.declared.tmesg.Tmesg.TheVariants.{Trequest, Torigin, Tpaste, Ttype, Twrite, Tlook, Tsearch, Tdclick}
 

@@ -3,7 +3,7 @@ use Rattle.std.proofs.Common.{◌≡◌, refl, sym, ap, ◌∙◌, subst, ℕ, z
 use Rattle.std.specs.Prelude.{◌||◌, nat_lt, Result, IsOk}
 use Rattle.sam_runes.specs.Checks.{Checks, first_of_checks}
 use Rattle.sam_runes.specs.Texts.{most_count}
-use Rattle.sam_term.specs.Term.{PlainTerminal, Made, event_checks, made_by, window_at, is_open, composed, all_composed, lock_taken, asked, flushed, unsent_message, sends, unchanged, has_bad_place, made_by_snarf, made_by_cut, made_by_paste, made_by_view, wanted, request_for, cuts_dot, and_then, cut_rasp, put_window, known_at, moved_unsent, blank_known}
+use Rattle.sam_term.specs.Term.{PlainTerminal, Made, event_checks, event_outcome, window_at, is_open, composed, all_composed, lock_taken, asked, flushed, unsent_message, sends, unchanged, has_bad_place, made_by_snarf, made_by_cut, made_by_paste, made_by_view, wanted, request_for, cuts_dot, and_then, cut_rasp, put_window, known_at, moved_unsent, blank_known}
 use Rattle.sam_term.specs.Locks.{lock_of}
 use Rattle.sam_term.specs.Taking.{done, countable, IsFailure}
 use Rattle.sam_term.specs.Acting.{first_event, free_first, made_first, is_snarfing}
@@ -22,7 +22,7 @@ use Rattle.sam_term.proofs.Sounds.{loud_done, full_done, is_done}
 use Rattle.sam_term.proofs.Composes.{flushed-none}
 use Rattle.sam_term.proofs.CountLaws.{counts-event}
 use Rattle.sam_rasp.specs.Rasp.{place_after_del, hole_within}
-use Rattle.sam_term.specs.declared.files.Window.{Window}
+use Rattle.sam_term.specs.declared.records.Window.{Window}
 use Rattle.std.proofs.Common.{length-append, append_assoc, is_some, ◌⊎◌}
 use Rattle.std.specs.Prelude.{unwrap_or, not, ◌&&◌, min}
 use Rattle.sam_term.specs.Editing.{shown_from}
@@ -36,15 +36,15 @@ use Rattle.std.proofs.lemmas.Bool.{ltb-false, ne_eqb, eq-eqb}
 abbrev pub later : PlainTerminal → PlainTerminal
 later t = record t { held = drop 1 t.held }
 
-pub answers : (t u : PlainTerminal) (e : UserEvent) (made : Made) (ms : List Tmesg) → first_event t.held ≡ e → made_by (later t) e ≡ made → u ≡ made.0
+pub answers : (t u : PlainTerminal) (e : UserEvent) (made : Made) (ms : List Tmesg) → first_event t.held ≡ e → event_outcome (later t) e ≡ made → u ≡ made.0
     → ms ≡ made.1 → u.sent ≤ most_count → done (made_first t) ≡ Ok (u, Done ms)
 answers t u e made ms first by a b l =
     ap done (made_of t e first ∙ by) ∙ loud_done made u ms a b (subst (λ x. x.sent ≤ most_count) a l)
 
-pub overflows : (t : PlainTerminal) (e : UserEvent) (made : Made) → first_event t.held ≡ e → made_by (later t) e ≡ made → most_count < made.0.sent → done (made_first t) ≡ Err fault.CountFull
+pub overflows : (t : PlainTerminal) (e : UserEvent) (made : Made) → first_event t.held ≡ e → event_outcome (later t) e ≡ made → most_count < made.0.sent → done (made_first t) ≡ Err fault.CountFull
 overflows t e made first by l = ap done (made_of t e first ∙ by) ∙ full_done made l
 
-pub fits_count : (t : PlainTerminal) (e : UserEvent) (made : Made) → first_event t.held ≡ e → made_by (later t) e ≡ made → made.0.sent ≤ most_count → IsOk (done (made_first t))
+pub fits_count : (t : PlainTerminal) (e : UserEvent) (made : Made) → first_event t.held ≡ e → event_outcome (later t) e ≡ made → made.0.sent ≤ most_count → IsOk (done (made_first t))
 fits_count t e made first by l = subst IsOk (sym (ap done (made_of t e first ∙ by))) (is_done made l)
 
 -- ## What stands against the oldest event
@@ -150,7 +150,7 @@ pub refused_later : (made : Made) (why : TermFault) (es : List UserEvent) → co
 unfolding countable done
 refused_later made why es e = uncounted (nat_lt most_count made.0.sent) made why es e
 
-pub quiet_answer : (t x u : PlainTerminal) (e : UserEvent) (a : Acted) → first_event t.held ≡ e → made_by (later t) e ≡ (x, []) → u ≡ x → a ≡ Done []
+pub quiet_answer : (t x u : PlainTerminal) (e : UserEvent) (a : Acted) → first_event t.held ≡ e → event_outcome (later t) e ≡ (x, []) → u ≡ x → a ≡ Done []
     → u.sent ≤ most_count → done (made_first t) ≡ Ok (u, a)
 quiet_answer t x u e a first by b d l =
     answers t u e (x, []) [] first by b refl l ∙ ap {B = Result (PlainTerminal × Acted) TermFault} (λ y. Ok (u, y)) (sym d)
@@ -175,28 +175,28 @@ empty-or a b x y e = let same : nat_eq a b ≡ true = eq-eqb a b e in rw same re
 pub filled-or : {X : Type 0} (a b : ℕ) (x y : X) → a ≢ b → (if a == b then x else y) ≡ y
 filled-or a b x y e = let other : nat_eq a b ≡ false = ne_eqb a b e in rw other refl
 
-pub made-snarf_none : (t : PlainTerminal) (f : ℕ) (d : ℕ × ℕ) → d ≡ (window_at t f).dot → d.0 ≡ d.1 → made_by t (Snarf f) ≡ (t, [])
+pub made-snarf_none : (t : PlainTerminal) (f : ℕ) (d : ℕ × ℕ) → d ≡ (window_at t f).dot → d.0 ≡ d.1 → event_outcome t (Snarf f) ≡ (t, [])
 unfolding made_by_snarf
 made-snarf_none t f d e h =
     sym
     (sym (empty-or d.0 d.1 (t, []) (sends t unchanged (Tsnarf f d.0 d.1 ∷ [])) h)
     ∙ ap (λ x. if x.0 == x.1 then (t, []) else sends t unchanged (Tsnarf f x.0 x.1 ∷ [])) e)
 
-pub made-snarf : (t : PlainTerminal) (f : ℕ) (d : ℕ × ℕ) → d ≡ (window_at t f).dot → d.0 ≢ d.1 → made_by t (Snarf f) ≡ sends t unchanged (Tsnarf f d.0 d.1 ∷ [])
+pub made-snarf : (t : PlainTerminal) (f : ℕ) (d : ℕ × ℕ) → d ≡ (window_at t f).dot → d.0 ≢ d.1 → event_outcome t (Snarf f) ≡ sends t unchanged (Tsnarf f d.0 d.1 ∷ [])
 unfolding made_by_snarf
 made-snarf t f d e h =
     sym
     (sym (filled-or d.0 d.1 (t, []) (sends t unchanged (Tsnarf f d.0 d.1 ∷ [])) h)
     ∙ ap (λ x. if x.0 == x.1 then (t, []) else sends t unchanged (Tsnarf f x.0 x.1 ∷ [])) e)
 
-pub made-cut_none : (t : PlainTerminal) (f : ℕ) (d : ℕ × ℕ) → d ≡ (window_at t f).dot → d.0 ≡ d.1 → made_by t (Cut f) ≡ (t, [])
+pub made-cut_none : (t : PlainTerminal) (f : ℕ) (d : ℕ × ℕ) → d ≡ (window_at t f).dot → d.0 ≡ d.1 → event_outcome t (Cut f) ≡ (t, [])
 unfolding made_by_cut
 made-cut_none t f d e h =
     sym
     (sym (empty-or d.0 d.1 (t, []) (sends t (λ u. cut_rasp u f d.0 d.1) (Tsnarf f d.0 d.1 ∷ Tcut f d.0 d.1 ∷ [])) h)
     ∙ ap (λ x. if x.0 == x.1 then (t, []) else sends t (λ u. cut_rasp u f x.0 x.1) (Tsnarf f x.0 x.1 ∷ Tcut f x.0 x.1 ∷ [])) e)
 
-pub made-cut : (t : PlainTerminal) (f : ℕ) (d : ℕ × ℕ) → d ≡ (window_at t f).dot → d.0 ≢ d.1 → made_by t (Cut f) ≡ sends t (λ u. cut_rasp u f d.0 d.1) (Tsnarf f d.0 d.1 ∷ Tcut f d.0 d.1 ∷ [])
+pub made-cut : (t : PlainTerminal) (f : ℕ) (d : ℕ × ℕ) → d ≡ (window_at t f).dot → d.0 ≢ d.1 → event_outcome t (Cut f) ≡ sends t (λ u. cut_rasp u f d.0 d.1) (Tsnarf f d.0 d.1 ∷ Tcut f d.0 d.1 ∷ [])
 unfolding made_by_cut
 made-cut t f d e h =
     sym
@@ -253,14 +253,14 @@ flushed-messages t = refl
 pub cut-unsent : (t : PlainTerminal) (f : ℕ) (d : ℕ × ℕ) → (cut_made t f d).0.unsent ≡ None
 cut-unsent t f d = ap (λ o. moved_unsent f (place_after_del d.0 d.1) o) (unsent-flushed t)
 
-pub made-paste_none : (t : PlainTerminal) (f : ℕ) (d : ℕ × ℕ) → d ≡ (window_at t f).dot → d.0 ≡ d.1 → made_by t (Paste f) ≡ sends t unchanged (Tpaste f d.0 ∷ [])
+pub made-paste_none : (t : PlainTerminal) (f : ℕ) (d : ℕ × ℕ) → d ≡ (window_at t f).dot → d.0 ≡ d.1 → event_outcome t (Paste f) ≡ sends t unchanged (Tpaste f d.0 ∷ [])
 unfolding made_by_paste
 made-paste_none t f d e h =
     ap (λ made. and_then made (λ u. sends u unchanged (Tpaste f (window_at t f).dot.0 ∷ []))) (cuts_none t f d e h)
     ∙ ap (λ x. sends t unchanged (Tpaste f x.0 ∷ [])) (sym e)
 
 pub made-paste : (t : PlainTerminal) (f : ℕ) (d : ℕ × ℕ) → d ≡ (window_at t f).dot → d.0 ≢ d.1
-    → made_by t (Paste f) ≡ (composed (cut_made t f d).0 (Tpaste f d.0), (flushed t).1 ++ Tcut f d.0 d.1 ∷ Tpaste f d.0 ∷ [])
+    → event_outcome t (Paste f) ≡ (composed (cut_made t f d).0 (Tpaste f d.0), (flushed t).1 ++ Tcut f d.0 d.1 ∷ Tpaste f d.0 ∷ [])
 unfolding made_by_paste
 made-paste t f d e h =
     let cut = cut_made t f d in
@@ -278,7 +278,7 @@ opened-put t f w =
 
 -- ## Messages that can't be counted
 
-made-sent : (t : PlainTerminal) (e : UserEvent) (made : Made) (ms : List Tmesg) → made_by t e ≡ made → made.1 ≡ (flushed t).1 ++ ms
+made-sent : (t : PlainTerminal) (e : UserEvent) (made : Made) (ms : List Tmesg) → event_outcome t e ≡ made → made.1 ≡ (flushed t).1 ++ ms
     → made.0.sent ≡ t.sent + length (unsent_message t.unsent) + length ms
 made-sent t e made ms by m =
     let count = subst (λ (x : Made). x.0.sent ≡ t.sent + length x.1) by (counts-event t e).sent in
@@ -286,14 +286,14 @@ made-sent t e made ms by m =
     omega arith
 
 pub refused_by : (t : PlainTerminal) (e : UserEvent) (made : Made) (ms : List Tmesg) (why : TermFault) (count : ℕ) → first_event t.held ≡ e
-    → made_by (later t) e ≡ made → made.1 ≡ (flushed (later t)).1 ++ ms → count ≡ length ms + length (unsent_message t.unsent)
+    → event_outcome (later t) e ≡ made → made.1 ≡ (flushed (later t)).1 ++ ms → count ≡ length ms + length (unsent_message t.unsent)
     → ((why ≡ fault.OutOfMemory) × (t.sent + count ≤ most_count)) ⊎ ((why ≡ fault.CountFull) × (most_count < t.sent + count)) → IsFailure (done (made_first t)) why
 refused_by t e made ms why count first by m n h = elim h [
   | inl o ↦ let s = made-sent (later t) e made ms by m in inl (o.0, fits_count t e made first by (omega (arith, o.1)))
   | inr k ↦ let s = made-sent (later t) e made ms by m in inr (overflows t e made first by (omega (arith, k.1)) ∙ ap Err (sym k.0))
 ]
 
-pub loud_answer : (t u : PlainTerminal) (e : UserEvent) (made : Made) (a : Acted) (ms : List Tmesg) → first_event t.held ≡ e → made_by (later t) e ≡ made
+pub loud_answer : (t u : PlainTerminal) (e : UserEvent) (made : Made) (a : Acted) (ms : List Tmesg) → first_event t.held ≡ e → event_outcome (later t) e ≡ made
     → u ≡ made.0 → a ≡ Done ms → ms ≡ made.1 → u.sent ≤ most_count → done (made_first t) ≡ Ok (u, a)
 loud_answer t u e made a ms first by b d m l =
     answers t u e made ms first by b m l ∙ ap {B = Result (PlainTerminal × Acted) TermFault} (λ y. Ok (u, y)) (sym d)
@@ -337,11 +337,11 @@ wanted-quiet t f p n w e h =
     go false true o h = refl
     go false false o h = absurd (cc)
 
-pub made-view : (t : PlainTerminal) (f p n : ℕ) (m : Tmesg) → wanted (shown_from t f p n) f ≡ Some m → made_by t (View f p n) ≡ sends (shown_from t f p n) unchanged (m ∷ [])
+pub made-view : (t : PlainTerminal) (f p n : ℕ) (m : Tmesg) → wanted (shown_from t f p n) f ≡ Some m → event_outcome t (View f p n) ≡ sends (shown_from t f p n) unchanged (m ∷ [])
 unfolding made_by_view
 made-view t f p n m e = requested_some (shown_from t f p n) f m e
 
-pub made-view_none : (t : PlainTerminal) (f p n : ℕ) → wanted (shown_from t f p n) f ≡ None → made_by t (View f p n) ≡ (shown_from t f p n, [])
+pub made-view_none : (t : PlainTerminal) (f p n : ℕ) → wanted (shown_from t f p n) f ≡ None → event_outcome t (View f p n) ≡ (shown_from t f p n, [])
 unfolding made_by_view
 made-view_none t f p n e = requested_none (shown_from t f p n) f e
 

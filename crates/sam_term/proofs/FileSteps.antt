@@ -7,9 +7,9 @@ use Rattle.sam_runes.specs.Slots.{Slots, slot, put_slot, free_slot, map_slots}
 use Rattle.sam_runes.proofs.SlotLaws.{slot-put_same, slot-put_other, slot-free_same, slot-free_other}
 use Rattle.sam_term.specs.Term.{PlainTerminal, window_at, window_in, known_in, known_at, put_known, is_open, blank_window, blank_known, freed_known, unsent_without}
 use Rattle.sam_term.specs.Sound.{IsSound, FitsWindow, FitsUnsent, IsShort}
-use Rattle.sam_term.specs.declared.files.Window.{Window}
-use Rattle.sam_term.specs.declared.files.KnownFile.{KnownFile}
-use Rattle.sam_term.specs.declared.files.Unsent.{Unsent}
+use Rattle.sam_term.specs.declared.records.Window.{Window}
+use Rattle.sam_term.specs.declared.records.KnownFile.{KnownFile}
+use Rattle.sam_term.specs.declared.records.Unsent.{Unsent}
 
 -- a file that is not open shows a blank window
 pub blank_where_shut : (ss : Slots KnownFile) (f : ℕ) → is_some (known_in ss f).window ≡ false → window_in ss f ≡ blank_window

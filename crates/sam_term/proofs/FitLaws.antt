@@ -10,8 +10,8 @@ use Rattle.sam_term.specs.declared.lock.Lock.TheVariants.{NoLock, CommandLock, F
 use Rattle.sam_term.specs.Locks.{lock_of, is_command_line}
 use Rattle.sam_term.specs.Fitting.{all_fit}
 use Rattle.sam_term.specs.Sound.{IsSound, IsShort}
-use Rattle.sam_term.specs.Term.{PlainTerminal, Made, window_at, put_window, cut_rasp, lock_taken, asked, composed, all_composed, flushed, unsent_message, and_then, sends, sends_if, unchanged, requested, request_for, view_end, is_open, joins, joined, kept_unsent, typed_rasp, types, cuts_dot, made_by, made_by_type, made_by_cut, made_by_paste, made_by_snarf, made_by_view, made_from, moved_unsent, event_checks, has_long_text, file_of, is_file_locked, took_unlockfile}
-use Rattle.sam_term.specs.declared.files.Unsent.{Unsent}
+use Rattle.sam_term.specs.Term.{PlainTerminal, Made, window_at, put_window, cut_rasp, lock_taken, asked, composed, all_composed, flushed, unsent_message, and_then, sends, sends_if, unchanged, requested, request_for, view_end, is_open, joins, joined, kept_unsent, typed_rasp, types, cuts_dot, event_outcome, made_by_type, made_by_cut, made_by_paste, made_by_snarf, made_by_view, frame_outcome, moved_unsent, event_checks, has_long_text, file_of, is_file_locked, took_unlockfile}
+use Rattle.sam_term.specs.declared.records.Unsent.{Unsent}
 use Rattle.sam_term.specs.declared.event.UserEvent.{UserEvent}
 use Rattle.sam_term.specs.declared.event.UserEvent.TheVariants.{Typed, Select, Cut, Paste, Snarf, Look, Search, Send, Dclick, Scroll, View, Open, Close, Write, Work, OpenCmd, New, Exit, Check, GetSnarf, SetSnarf, Version, Flush}
 use Rattle.sam_mesg.specs.declared.tmesg.Tmesg.{Tmesg}
@@ -150,7 +150,7 @@ good-requested v t f k = go (is_open t f && not_exited && not_awaits)
 few_typed : (t : PlainTerminal) (f : ℕ) (s : List ℕ) → has_long_text t (Typed f s) ≡ false → length s ≤ most_in_message
 few_typed t f s e = ltb-false most_in_message (length s) e
 
-good-event : (t : PlainTerminal) (e : UserEvent) → IsShort t.unsent → has_long_text t e ≡ false → Good t.version (made_by t e)
+good-event : (t : PlainTerminal) (e : UserEvent) → IsShort t.unsent → has_long_text t e ≡ false → Good t.version (event_outcome t e)
 unfolding made_by_type made_by_cut made_by_paste made_by_snarf made_by_view
 good-event t (Typed f s) k h =
     let v = t.version in
@@ -199,14 +199,14 @@ unfolding test_at
 long_text t e n = none_holds (event_checks t e) 8 n
 
 -- what an event composes fits in the version
-pub event_fits : (t : PlainTerminal) (e : UserEvent) → IsSound t → first_of_checks (event_checks t e) ≡ None → all_fit t.version (made_by t e).1 ≡ true
+pub event_fits : (t : PlainTerminal) (e : UserEvent) → IsSound t → first_of_checks (event_checks t e) ≡ None → all_fit t.version (event_outcome t e).1 ≡ true
 event_fits t e s n = (good-event t e s.short (long_text t e n)).fits
 
 pub flush_fits : (t : PlainTerminal) → IsSound t → all_fit t.version (flushed t).1 ≡ true
 flush_fits t s = (good-flushed t.version t s.short).fits
 
 -- what the answer to a frame composes fits in the version
-pub frame_fits : (t : PlainTerminal) (m : Hmesg) → IsSound t → all_fit t.version (made_from t m).1 ≡ true
+pub frame_fits : (t : PlainTerminal) (m : Hmesg) → IsSound t → all_fit t.version (frame_outcome t m).1 ≡ true
 unfolding took_unlockfile
 frame_fits t (Hcheck f) s = (good-requested t.version t f s.short).fits
 frame_fits t (Hunlockfile f) s = (good-requested t.version (took_unlockfile t f) f s.short).fits

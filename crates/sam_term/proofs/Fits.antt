@@ -9,7 +9,7 @@ use Rattle.sam_term.specs.Sound.{IsSound}
 use Rattle.sam_term.specs.Fitting.{all_fit, FitsLast, AllFit, composed_in}
 use Rattle.sam_term.proofs.ActLaws.{acted_in, not_done}
 use Rattle.sam_term.proofs.FitLaws.{event_fits, flush_fits, frame_fits}
-use Rattle.sam_term.specs.Term.{PlainTerminal, Made, act_of, act_on, decided, if_countable, event_checks, flush_of, flushed, take_of, made_by, made_from, made_unless, frame_checks}
+use Rattle.sam_term.specs.Term.{PlainTerminal, Made, act_of, act_on, decided, if_countable, event_checks, flush_of, flushed, take_of, event_outcome, frame_outcome, made_unless, frame_checks}
 use Rattle.sam_term.specs.declared.event.Verdict.{Verdict}
 use Rattle.sam_term.specs.declared.event.Verdict.TheVariants.{Waits, Refuses}
 use Rattle.sam_term.specs.declared.event.UserEvent.{UserEvent}
@@ -39,11 +39,12 @@ pub act_fits : (t u : PlainTerminal) (ms : List Tmesg) → IsSound t → act_of 
 unfolding act_of acted_in
 act_fits t u ms s a = go t.held a
   where
-    decides : (x : UserEvent) (es : List UserEvent) (o : Option Verdict) → first_of_checks (event_checks t x) ≡ o → decided o t es (made_by (record t { held = es }) x) ≡ Ok (u, Done ms) → AllFit ms
+    decides : (x : UserEvent) (es : List UserEvent) (o : Option Verdict) → first_of_checks (event_checks t x) ≡ o → decided o t es (event_outcome (record t { held = es }) x) ≡ Ok (u, Done ms)
+        → AllFit ms
     decides x es (Some Waits) n q = let other : Locked ≡ Done ms = ap (λ y. acted_in y Idle) q in absurd (cc)
     decides x es (Some (Refuses r)) n q = let other : Refused r ≡ Done ms = ap (λ y. acted_in y Idle) q in absurd (cc)
     decides x es None n q =
-        let made : Made = made_by (record t { held = es }) x in
+        let made : Made = event_outcome (record t { held = es }) x in
         let same : Done ms ≡ Done made.1 = not_done made.0.sent made.0 u made.1 (Done ms) q in
         let sound : IsSound (record t { held = es }) = record { countable = s.countable; windows = s.windows; unsent = s.unsent; short = s.short } in
         fitting t.version ms made.1 (ap composed_in same) (event_fits (record t { held = es }) x sound n)
@@ -72,9 +73,9 @@ pub taken_fits : (t u : PlainTerminal) (frame : HFrame) (ms : List Tmesg) → Is
 unfolding take_of
 taken_fits t u frame ms s a = go (first_of_checks ((nat_lt t.sent frame.seen, fault.FromTheFuture) ∷ frame_checks t frame.msg)) a
   where
-    go : (o : Option TermFault) → made_unless o (made_from t frame.msg) ≡ Ok (u, ms) → AllFit ms
+    go : (o : Option TermFault) → made_unless o (frame_outcome t frame.msg) ≡ Ok (u, ms) → AllFit ms
     go (Some why) q = absurd (cc)
-    go None q = fitting t.version ms (made_from t frame.msg).1 (counted_in (made_from t frame.msg).0.sent (made_from t frame.msg) u ms q) (frame_fits t frame.msg s)
+    go None q = fitting t.version ms (frame_outcome t frame.msg).1 (counted_in (frame_outcome t frame.msg).0.sent (frame_outcome t frame.msg) u ms q) (frame_fits t frame.msg s)
 
 -- what an act answers fits, whatever became of the event
 pub acted_fit : (t u : PlainTerminal) (acted : Acted) → IsSound t → act_of t ≡ Ok (u, acted) → AllFit (composed_in acted)

@@ -9,9 +9,9 @@ use Rattle.sam_runes.specs.Slots.{put_slot}
 use Rattle.sam_rasp.specs.Rasp.{PartialText, ins_cells, del_cells, load_cells, place_after_ins, place_after_del}
 use Rattle.sam_term.specs.Term.{PlainTerminal, window_at, is_open, put_window, known_in, window_after_ins, window_after_del, moved_unsent, ins_rasp, del_rasp}
 use Rattle.sam_term.specs.Sound.{IsSound, FitsWindow, FitsUnsent, IsShort, AreWithin}
-use Rattle.sam_term.specs.declared.files.Window.{Window}
-use Rattle.sam_term.specs.declared.files.KnownFile.{KnownFile}
-use Rattle.sam_term.specs.declared.files.Unsent.{Unsent}
+use Rattle.sam_term.specs.declared.records.Window.{Window}
+use Rattle.sam_term.specs.declared.records.KnownFile.{KnownFile}
+use Rattle.sam_term.specs.declared.records.Unsent.{Unsent}
 use Rattle.sam_term.proofs.Sounds.{window-put, sound-put}
 use Rattle.sam_term.proofs.SlotSteps.{put_again}
 

@@ -10,9 +10,9 @@ use Rattle.sam_term.specs.declared.lock.Lock.{Lock}
 use Rattle.sam_term.specs.declared.lock.Lock.TheVariants.{NoLock, CommandLock, FileLock}
 use Rattle.sam_term.specs.Locks.{lock_of, is_command_line}
 use Rattle.sam_term.specs.LockCounts.{locks_on, is_command_lock, asks_for, locks_taken, takes_command, requests, locks_left, command_left, awaited_left}
-use Rattle.sam_term.specs.Term.{PlainTerminal, Made, blank_window, blank_known, known_at, window_at, put_known, put_window, edited, cut_rasp, lock_taken, asked, composed, all_composed, flushed, unsent_message, and_then, sends, sends_if, unchanged, requested, wanted, joins, joined, kept_unsent, typed_rasp, types, cuts_dot, ins_rasp, made_by, made_by_type, made_by_cut, made_by_paste, made_by_snarf, made_by_view, made_from, freed_known, took_bindname, took_data, took_grow, took_growdata, took_cut, took_unlockfile, took_close, took_exit}
-use Rattle.sam_term.specs.declared.files.Window.{Window}
-use Rattle.sam_term.specs.declared.files.KnownFile.{KnownFile}
+use Rattle.sam_term.specs.Term.{PlainTerminal, Made, blank_window, blank_known, known_at, window_at, put_known, put_window, edited, cut_rasp, lock_taken, asked, composed, all_composed, flushed, unsent_message, and_then, sends, sends_if, unchanged, requested, wanted, joins, joined, kept_unsent, typed_rasp, types, cuts_dot, ins_rasp, event_outcome, made_by_type, made_by_cut, made_by_paste, made_by_snarf, made_by_view, frame_outcome, freed_known, took_bindname, took_data, took_grow, took_growdata, took_cut, took_unlockfile, took_close, took_exit}
+use Rattle.sam_term.specs.declared.records.Window.{Window}
+use Rattle.sam_term.specs.declared.records.KnownFile.{KnownFile}
 use Rattle.sam_term.specs.declared.event.UserEvent.{UserEvent}
 use Rattle.sam_term.specs.declared.event.UserEvent.TheVariants.{Typed, Select, Cut, Paste, Snarf, Look, Search, Send, Dclick, Scroll, View, Open, Close, Write, Work, OpenCmd, New, Exit, Check, GetSnarf, SetSnarf, Version, Flush}
 use Rattle.sam_mesg.specs.declared.tmesg.Tmesg.{Tmesg}
@@ -178,7 +178,7 @@ holds-types f t g p s =
     (subst (λ h. Holds f h (flushed typed)) (held-typed f u g p s) (holds-flushed f typed))
     (holds-none f (held_of f u) typed (held-typed f u g p s)))
 
-holds-event : (f : ℕ) (t : PlainTerminal) (e : UserEvent) → Holds f (held_of f t) (made_by t e)
+holds-event : (f : ℕ) (t : PlainTerminal) (e : UserEvent) → Holds f (held_of f t) (event_outcome t e)
 unfolding made_by_type made_by_cut made_by_paste made_by_snarf made_by_view
 holds-event f t (Typed g s) =
     let u = (cuts_dot t g).0 in
@@ -186,7 +186,7 @@ holds-event f t (Typed g s) =
     (holds-if f (held_of f u) (is_empty s) (u, []) (types u g (window_at t g).dot.0 s) (holds-none f (held_of f u) u refl)
     (holds-types f u g (window_at t g).dot.0 s))
 holds-event f t (Select g p q) =
-    holds-none f (held_of f t) (made_by t (Select g p q)).0 (held-window t g _ f refl refl)
+    holds-none f (held_of f t) (event_outcome t (Select g p q)).0 (held-window t g _ f refl refl)
 holds-event f t (Cut g) =
     let d = (window_at t g).dot in
     holds-if f (held_of f t) (d.0 == d.1) (t, []) _ (holds-none f (held_of f t) t refl)
@@ -247,39 +247,39 @@ held-free f t g = go (eqb_tells g f)
     go (inl (e, here)) = rw e (subst (λ (k : ℕ). at (slot (free_slot t.files g) k) ≡ at None) here (ap at (slot-free_same t.files g)))
     go (inr (e, other)) = rw e (ap at (slot-free_other t.files g f other))
 
-holds-frame : (f : ℕ) (t : PlainTerminal) (m : Hmesg) → Holds f (left_by f m (held_of f t)) (made_from t m)
+holds-frame : (f : ℕ) (t : PlainTerminal) (m : Hmesg) → Holds f (left_by f m (held_of f t)) (frame_outcome t m)
 unfolding took_bindname took_data took_grow took_growdata took_cut took_unlockfile took_close took_exit
-holds-frame f t (Hversion v) = holds-none f _ (made_from t (Hversion v)).0 refl
-holds-frame f t (Hbindname g) = holds-none f _ (made_from t (Hbindname g)).0 (held-known (λ n. 0) (λ b. false) t g _ f refl)
-holds-frame f t (Hcurrent g) = holds-none f _ (made_from t (Hcurrent g)).0 refl
-holds-frame f t (Hnewname g) = holds-none f _ (made_from t (Hnewname g)).0 (held-known (λ n. 0) (λ b. false) t g blank_known f refl)
-holds-frame f t (Hmovname g s) = holds-none f _ (made_from t (Hmovname g s)).0 (held-same t g _ f refl)
-holds-frame f t (Hgrow g p n) = holds-none f _ (made_from t (Hgrow g p n)).0 (held-window t g _ f refl refl)
+holds-frame f t (Hversion v) = holds-none f _ (frame_outcome t (Hversion v)).0 refl
+holds-frame f t (Hbindname g) = holds-none f _ (frame_outcome t (Hbindname g)).0 (held-known (λ n. 0) (λ b. false) t g _ f refl)
+holds-frame f t (Hcurrent g) = holds-none f _ (frame_outcome t (Hcurrent g)).0 refl
+holds-frame f t (Hnewname g) = holds-none f _ (frame_outcome t (Hnewname g)).0 (held-known (λ n. 0) (λ b. false) t g blank_known f refl)
+holds-frame f t (Hmovname g s) = holds-none f _ (frame_outcome t (Hmovname g s)).0 (held-same t g _ f refl)
+holds-frame f t (Hgrow g p n) = holds-none f _ (frame_outcome t (Hgrow g p n)).0 (held-window t g _ f refl refl)
 holds-frame f t (Hcheck g) = holds-requested f (held_of f t) t g refl
-holds-frame f t Hunlock = holds-none f _ (made_from t Hunlock).0 refl
+holds-frame f t Hunlock = holds-none f _ (frame_outcome t Hunlock).0 refl
 holds-frame f t (Hdata g p s) =
-    holds-none f _ (made_from t (Hdata g p s)).0
+    holds-none f _ (frame_outcome t (Hdata g p s)).0
     (held-known (λ n. n) (λ b. false) t g _ f refl
     ∙ ap (λ (n : ℕ). record { command = t.command_lock; locks = n; awaits = if g == f then false else (window_at t f).awaits }) (if-same (g == f) (window_at t f).locks))
-holds-frame f t (Horigin g p) = holds-none f _ (made_from t (Horigin g p)).0 (held-window t g _ f refl refl)
+holds-frame f t (Horigin g p) = holds-none f _ (frame_outcome t (Horigin g p)).0 (held-window t g _ f refl refl)
 holds-frame f t (Hunlockfile g) =
     holds-requested f _ (took_unlockfile t g) g
     (held-known (λ n. n - 1) (λ b. b) t g _ f refl
     ∙ ap (λ (b : Bool). record { command = t.command_lock; locks = if g == f then (window_at t f).locks - 1 else (window_at t f).locks; awaits = b }) (if-same (g == f) (window_at t f).awaits))
-holds-frame f t (Hsetdot g p q) = holds-none f _ (made_from t (Hsetdot g p q)).0 (held-window t g _ f refl refl)
-holds-frame f t (Hgrowdata g p s) = holds-none f _ (made_from t (Hgrowdata g p s)).0 (held-window t g _ f refl refl)
-holds-frame f t (Hmoveto g p) = holds-none f _ (made_from t (Hmoveto g p)).0 (held-window t g _ f refl refl)
-holds-frame f t (Hclean g) = holds-none f _ (made_from t (Hclean g)).0 (held-same t g _ f refl)
-holds-frame f t (Hdirty g) = holds-none f _ (made_from t (Hdirty g)).0 (held-same t g _ f refl)
-holds-frame f t (Hcut g p n) = holds-none f _ (made_from t (Hcut g p n)).0 (held-window t g _ f refl refl)
-holds-frame f t (Hsetpat s) = holds-none f _ (made_from t (Hsetpat s)).0 refl
-holds-frame f t (Hdelname g) = holds-none f _ (made_from t (Hdelname g)).0 (held-free f t g)
-holds-frame f t (Hclose g) = holds-none f _ (made_from t (Hclose g)).0 (held-known (λ n. 0) (λ b. false) t g _ f refl)
-holds-frame f t (Hsetsnarf s) = holds-none f _ (made_from t (Hsetsnarf s)).0 refl
-holds-frame f t (Hsnarflen n) = holds-none f _ (made_from t (Hsnarflen n)).0 refl
+holds-frame f t (Hsetdot g p q) = holds-none f _ (frame_outcome t (Hsetdot g p q)).0 (held-window t g _ f refl refl)
+holds-frame f t (Hgrowdata g p s) = holds-none f _ (frame_outcome t (Hgrowdata g p s)).0 (held-window t g _ f refl refl)
+holds-frame f t (Hmoveto g p) = holds-none f _ (frame_outcome t (Hmoveto g p)).0 (held-window t g _ f refl refl)
+holds-frame f t (Hclean g) = holds-none f _ (frame_outcome t (Hclean g)).0 (held-same t g _ f refl)
+holds-frame f t (Hdirty g) = holds-none f _ (frame_outcome t (Hdirty g)).0 (held-same t g _ f refl)
+holds-frame f t (Hcut g p n) = holds-none f _ (frame_outcome t (Hcut g p n)).0 (held-window t g _ f refl refl)
+holds-frame f t (Hsetpat s) = holds-none f _ (frame_outcome t (Hsetpat s)).0 refl
+holds-frame f t (Hdelname g) = holds-none f _ (frame_outcome t (Hdelname g)).0 (held-free f t g)
+holds-frame f t (Hclose g) = holds-none f _ (frame_outcome t (Hclose g)).0 (held-known (λ n. 0) (λ b. false) t g _ f refl)
+holds-frame f t (Hsetsnarf s) = holds-none f _ (frame_outcome t (Hsetsnarf s)).0 refl
+holds-frame f t (Hsnarflen n) = holds-none f _ (frame_outcome t (Hsnarflen n)).0 refl
 holds-frame f t Hack =
     holds-if f (held_of f t) t.has_exited (t, []) _ (holds-none f (held_of f t) t refl) (holds-plain f t (Tack ∷ []))
-holds-frame f t Hexit = holds-none f _ (made_from t Hexit).0 (held-exit f t)
+holds-frame f t Hexit = holds-none f _ (frame_outcome t Hexit).0 (held-exit f t)
 
 -- ## What is held then, in numbers
 
@@ -365,14 +365,14 @@ locks-made f h made k = ap (λ (x : Held). x.locks) k.held ∙ locks-all f made.
 awaits-made : (f : ℕ) (h : Held) (made : Made) → Holds f h made → (window_at made.0 f).awaits ≡ (h.awaits || requests f made.1)
 awaits-made f h made k = ap (λ (x : Held). x.awaits) k.held ∙ awaits-all f made.1 h
 
-pub event_command : (t : PlainTerminal) (e : UserEvent) → (made_by t e).0.command_lock ≡ (t.command_lock || takes_command (made_by t e).1)
-event_command t e = command-made 0 (held_of 0 t) (made_by t e) (holds-event 0 t e)
+pub event_command : (t : PlainTerminal) (e : UserEvent) → (event_outcome t e).0.command_lock ≡ (t.command_lock || takes_command (event_outcome t e).1)
+event_command t e = command-made 0 (held_of 0 t) (event_outcome t e) (holds-event 0 t e)
 
-pub event_locks : (t : PlainTerminal) (e : UserEvent) (f : ℕ) → (window_at (made_by t e).0 f).locks ≡ (window_at t f).locks + locks_taken f (made_by t e).1
-event_locks t e f = locks-made f (held_of f t) (made_by t e) (holds-event f t e)
+pub event_locks : (t : PlainTerminal) (e : UserEvent) (f : ℕ) → (window_at (event_outcome t e).0 f).locks ≡ (window_at t f).locks + locks_taken f (event_outcome t e).1
+event_locks t e f = locks-made f (held_of f t) (event_outcome t e) (holds-event f t e)
 
-pub event_awaits : (t : PlainTerminal) (e : UserEvent) (f : ℕ) → (window_at (made_by t e).0 f).awaits ≡ ((window_at t f).awaits || requests f (made_by t e).1)
-event_awaits t e f = awaits-made f (held_of f t) (made_by t e) (holds-event f t e)
+pub event_awaits : (t : PlainTerminal) (e : UserEvent) (f : ℕ) → (window_at (event_outcome t e).0 f).awaits ≡ ((window_at t f).awaits || requests f (event_outcome t e).1)
+event_awaits t e f = awaits-made f (held_of f t) (event_outcome t e) (holds-event f t e)
 
 pub flush_command : (t : PlainTerminal) → (flushed t).0.command_lock ≡ (t.command_lock || takes_command (flushed t).1)
 flush_command t = command-made 0 (held_of 0 t) (flushed t) (holds-flushed 0 t)
@@ -383,11 +383,11 @@ flush_locks t f = locks-made f (held_of f t) (flushed t) (holds-flushed f t)
 pub flush_awaits : (t : PlainTerminal) (f : ℕ) → (window_at (flushed t).0 f).awaits ≡ ((window_at t f).awaits || requests f (flushed t).1)
 flush_awaits t f = awaits-made f (held_of f t) (flushed t) (holds-flushed f t)
 
-pub frame_command : (t : PlainTerminal) (m : Hmesg) → (made_from t m).0.command_lock ≡ (command_left m t.command_lock || takes_command (made_from t m).1)
-frame_command t m = command-made 0 (left_by 0 m (held_of 0 t)) (made_from t m) (holds-frame 0 t m)
+pub frame_command : (t : PlainTerminal) (m : Hmesg) → (frame_outcome t m).0.command_lock ≡ (command_left m t.command_lock || takes_command (frame_outcome t m).1)
+frame_command t m = command-made 0 (left_by 0 m (held_of 0 t)) (frame_outcome t m) (holds-frame 0 t m)
 
-pub frame_locks : (t : PlainTerminal) (m : Hmesg) (f : ℕ) → (window_at (made_from t m).0 f).locks ≡ locks_left m f (window_at t f).locks + locks_taken f (made_from t m).1
-frame_locks t m f = locks-made f (left_by f m (held_of f t)) (made_from t m) (holds-frame f t m)
+pub frame_locks : (t : PlainTerminal) (m : Hmesg) (f : ℕ) → (window_at (frame_outcome t m).0 f).locks ≡ locks_left m f (window_at t f).locks + locks_taken f (frame_outcome t m).1
+frame_locks t m f = locks-made f (left_by f m (held_of f t)) (frame_outcome t m) (holds-frame f t m)
 
-pub frame_awaits : (t : PlainTerminal) (m : Hmesg) (f : ℕ) → (window_at (made_from t m).0 f).awaits ≡ (awaited_left m f (window_at t f).awaits || requests f (made_from t m).1)
-frame_awaits t m f = awaits-made f (left_by f m (held_of f t)) (made_from t m) (holds-frame f t m)
+pub frame_awaits : (t : PlainTerminal) (m : Hmesg) (f : ℕ) → (window_at (frame_outcome t m).0 f).awaits ≡ (awaited_left m f (window_at t f).awaits || requests f (frame_outcome t m).1)
+frame_awaits t m f = awaits-made f (left_by f m (held_of f t)) (frame_outcome t m) (holds-frame f t m)

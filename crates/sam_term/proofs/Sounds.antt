@@ -10,15 +10,15 @@ use Rattle.std.specs.Prelude.{Result, IfOk, IfErr, OnErr, IsOk}
 use Rattle.sam_mesg.specs.declared.hmesg.HFrame.{HFrame}
 use Rattle.sam_term.specs.declared.fault.TermFault.{TermFault}
 use Rattle.sam_term.specs.declared.fault.TermFault.TheVariants as fault
-use Rattle.sam_term.specs.Term.{Made, take_of, made_unless, made_from}
+use Rattle.sam_term.specs.Term.{Made, take_of, made_unless, frame_outcome}
 use Rattle.sam_runes.specs.Texts.{most_count}
 use Rattle.sam_mesg.specs.declared.tmesg.Tmesg.{Tmesg}
 use Rattle.std.specs.Prelude.{nat_lt, Ok, Err, [], ◌<◌, ◌+◌}
 use Rattle.std.proofs.lemmas.Bool.{le-ltb, lt-ltb}
 use Rattle.sam_term.specs.Sound.{IsSound, FitsWindow, FitsUnsent, IsShort}
-use Rattle.sam_term.specs.declared.files.Window.{Window}
-use Rattle.sam_term.specs.declared.files.KnownFile.{KnownFile}
-use Rattle.sam_term.specs.declared.files.Unsent.{Unsent}
+use Rattle.sam_term.specs.declared.records.Window.{Window}
+use Rattle.sam_term.specs.declared.records.KnownFile.{KnownFile}
+use Rattle.sam_term.specs.declared.records.Unsent.{Unsent}
 use Rattle.sam_runes.proofs.SlotLaws.{slot-put_same, slot-put_other}
 
 -- the window of f after the window of g is put
@@ -82,18 +82,18 @@ pub refused : (t : PlainTerminal) (frame : HFrame) (why : TermFault) → frame.s
 unfolding take_of
 refused t frame why l e =
     let in_time : nat_lt t.sent frame.seen ≡ false = le-ltb t.sent frame.seen l in
-    rw in_time (ap (λ x. made_unless x (made_from t frame.msg)) e)
+    rw in_time (ap (λ x. made_unless x (frame_outcome t frame.msg)) e)
 
-pub taken : (t : PlainTerminal) (frame : HFrame) → frame.seen ≤ t.sent → frame_fault t frame.msg ≡ None → countable (made_from t frame.msg) ≡ take_of t frame
+pub taken : (t : PlainTerminal) (frame : HFrame) → frame.seen ≤ t.sent → frame_fault t frame.msg ≡ None → countable (frame_outcome t frame.msg) ≡ take_of t frame
 unfolding take_of countable
 taken t frame l e =
     let in_time : nat_lt t.sent frame.seen ≡ false = le-ltb t.sent frame.seen l in
-    rw in_time (ap (λ x. made_unless x (made_from t frame.msg)) (sym e))
+    rw in_time (ap (λ x. made_unless x (frame_outcome t frame.msg)) (sym e))
 
 -- a frame that composes nothing
-pub quiet_frame : (t x u : PlainTerminal) (m n : Hmesg) (ms : List Tmesg) → m ≡ n → made_from t n ≡ (x, []) → u ≡ x → ms ≡ [] → u.sent ≤ most_count → countable (made_from t m) ≡ Ok (u, ms)
+pub quiet_frame : (t x u : PlainTerminal) (m n : Hmesg) (ms : List Tmesg) → m ≡ n → frame_outcome t n ≡ (x, []) → u ≡ x → ms ≡ [] → u.sent ≤ most_count → countable (frame_outcome t m) ≡ Ok (u, ms)
 quiet_frame t x u m n ms same made changed none fits =
-    ap (λ k. countable (made_from t k)) same ∙ (ap countable made ∙ quiet x u ms changed none fits)
+    ap (λ k. countable (frame_outcome t k)) same ∙ (ap countable made ∙ quiet x u ms changed none fits)
 
 -- what was made, where it can be counted, and where it can't
 pub loud : (made : Made) (u : PlainTerminal) (ms : List Tmesg) → u ≡ made.0 → ms ≡ made.1 → made.0.sent ≤ most_count → countable made ≡ Ok (u, ms)

@@ -6,14 +6,14 @@ use Rattle.std.proofs.lemmas.Bool.{le-ltb, ltb-false, leb-true, eqb-true}
 use Rattle.std.proofs.lemmas.Bool.Decides.{eqb_tells}
 use Rattle.sam_runes.specs.Texts.{is_empty, max_runes, most_count, most_in_message}
 use Rattle.sam_rasp.specs.Rasp.{PartialText, place_after_ins}
-use Rattle.sam_term.specs.Term.{PlainTerminal, Made, window_at, window_in, put_window, window_after_ins, window_after_del, moved_unsent, edited, cut_rasp, ins_rasp, set_dot_of, all_composed, flushed, unsent_message, and_then, joins, joined, kept_unsent, typed_rasp, types, cuts_dot, made_by, made_by_type, lock_taken}
+use Rattle.sam_term.specs.Term.{PlainTerminal, Made, window_at, window_in, put_window, window_after_ins, window_after_del, moved_unsent, edited, cut_rasp, ins_rasp, set_dot_of, all_composed, flushed, unsent_message, and_then, joins, joined, kept_unsent, typed_rasp, types, cuts_dot, event_outcome, made_by_type, lock_taken}
 use Rattle.sam_term.specs.Locks.{is_command_line}
 use Rattle.sam_term.specs.Editing.{typed_over, joined_at, lengthened, shortened, typed_file, typed_runes, cut_message, one_if, flushed_if}
 use Rattle.sam_term.specs.Sound.{IsSound, FitsUnsent, IsShort}
 use Rattle.sam_term.specs.Acting.{first_event, free_first, made_first, is_typing}
 use Rattle.sam_term.specs.Taking.{done, IsFailure}
-use Rattle.sam_term.specs.declared.files.Window.{Window}
-use Rattle.sam_term.specs.declared.files.Unsent.{Unsent}
+use Rattle.sam_term.specs.declared.records.Window.{Window}
+use Rattle.sam_term.specs.declared.records.Unsent.{Unsent}
 use Rattle.sam_term.specs.declared.lock.Lock.TheVariants.{NoLock, CommandLock}
 use Rattle.sam_term.specs.declared.event.UserEvent.{UserEvent}
 use Rattle.sam_term.specs.declared.event.UserEvent.TheVariants.{Typed}
@@ -134,7 +134,7 @@ kept-idle t f p s e =
 abbrev then-typed : ℕ → ℕ → List ℕ → PlainTerminal → Made
 then-typed f p s u = flushed_if (is_command_line f s) (typed_rasp u f p s)
 
-by-steps : (t : PlainTerminal) (f : ℕ) (s : List ℕ) → is_empty s ≡ false → made_by t (Typed f s) ≡ and_then (cuts_dot t f) (λ u. types u f (window_at t f).dot.0 s)
+by-steps : (t : PlainTerminal) (f : ℕ) (s : List ℕ) → is_empty s ≡ false → event_outcome t (Typed f s) ≡ and_then (cuts_dot t f) (λ u. types u f (window_at t f).dot.0 s)
 unfolding made_by_type
 by-steps t f s e =
     ap (λ b. and_then (cuts_dot t f) (λ u. if b then (u, []) else types u f (window_at t f).dot.0 s)) e
@@ -156,7 +156,7 @@ joins-place (Some u) f p s e = elim (eqb_tells (u.place + length u.runes) p) [
     none false y z h k = cc
 
 made-behind_dot : (t : PlainTerminal) (f : ℕ) (s : List ℕ) → is_empty s ≡ false → (window_at t f).dot.0 ≡ (window_at t f).dot.1
-    → joins t.unsent f (window_at t f).dot.0 s ≡ true → made_by t (Typed f s) ≡ flushed_if (is_command_line f s) (behind t f s (window_at t f).dot)
+    → joins t.unsent f (window_at t f).dot.0 s ≡ true → event_outcome t (Typed f s) ≡ flushed_if (is_command_line f s) (behind t f s (window_at t f).dot)
 made-behind_dot t f s some e j =
     let p = (window_at t f).dot.0 in
     by-steps t f s some
@@ -165,9 +165,9 @@ made-behind_dot t f s some e j =
     ∙ ap (λ u. flushed_if (is_command_line f s) u) (typed-empty t f s (joined t.unsent f p s) e (joins-place t.unsent f p s j))))
 
 pub made-behind : (t : PlainTerminal) (f : ℕ) (s : List ℕ) (d : ℕ × ℕ) → d ≡ (window_at t f).dot → is_empty s ≡ false → d.0 ≡ d.1 → joins t.unsent f d.0 s ≡ true
-    → made_by t (Typed f s) ≡ flushed_if (is_command_line f s) (record (put_window (edited t f) f (typed_over (window_at t f) s)) { unsent = Some (joined t.unsent f d.0 s) })
+    → event_outcome t (Typed f s) ≡ flushed_if (is_command_line f s) (record (put_window (edited t f) f (typed_over (window_at t f) s)) { unsent = Some (joined t.unsent f d.0 s) })
 made-behind t f s d same some e j =
-    subst {A = ℕ × ℕ} (λ x. x.0 ≡ x.1 → joins t.unsent f x.0 s ≡ true → made_by t (Typed f s) ≡ flushed_if (is_command_line f s) (behind t f s x)) (sym same)
+    subst {A = ℕ × ℕ} (λ x. x.0 ≡ x.1 → joins t.unsent f x.0 s ≡ true → event_outcome t (Typed f s) ≡ flushed_if (is_command_line f s) (behind t f s x)) (sym same)
     (λ h k. made-behind_dot t f s some h k) e j
 
 -- apart from them
@@ -204,7 +204,7 @@ apart-filled t f s l =
     (λ h. typed-filled (flushed t).0 f s (joined None f (window_at (flushed t).0 f).dot.0 s) ((flushed t).0.sent + 1) (omega arith) h) l
 
 made-apart_none : (t : PlainTerminal) (f : ℕ) (s : List ℕ) → is_empty s ≡ false → (window_at t f).dot.0 ≡ (window_at t f).dot.1
-    → joins t.unsent f (window_at t f).dot.0 s ≡ false → made_by t (Typed f s) ≡ made_apart t f s (window_at t f).dot
+    → joins t.unsent f (window_at t f).dot.0 s ≡ false → event_outcome t (Typed f s) ≡ made_apart t f s (window_at t f).dot
 made-apart_none t f s some e j =
     let d = (window_at t f).dot in
     let line = is_command_line f s in
@@ -216,7 +216,7 @@ made-apart_none t f s some e j =
     ∙ ap (λ ms. finish line ((flushed t).1 ++ ms) (apart_with t f s d.0 (window_at t f) ms)) (sym none))))
 
 made-apart_some : (t : PlainTerminal) (f : ℕ) (s : List ℕ) → is_empty s ≡ false → (window_at t f).dot.0 ≢ (window_at t f).dot.1
-    → (window_at t f).dot.0 ≤ length (window_at t f).rasp → made_by t (Typed f s) ≡ made_apart t f s (window_at t f).dot
+    → (window_at t f).dot.0 ≤ length (window_at t f).rasp → event_outcome t (Typed f s) ≡ made_apart t f s (window_at t f).dot
 made-apart_some t f s some e l =
     let d = (window_at t f).dot in
     let line = is_command_line f s in
@@ -229,28 +229,28 @@ made-apart_some t f s some e l =
     ∙ ap (λ ms. finish line ((flushed t).1 ++ ms) (apart_with t f s d.0 (window_at t f) ms)) (sym one))))
 
 made-apart_dot : (t : PlainTerminal) (f : ℕ) (s : List ℕ) → is_empty s ≡ false → (window_at t f).dot.0 ≤ length (window_at t f).rasp
-    → ((window_at t f).dot.0 == (window_at t f).dot.1 && joins t.unsent f (window_at t f).dot.0 s) ≡ false → made_by t (Typed f s) ≡ made_apart t f s (window_at t f).dot
+    → ((window_at t f).dot.0 == (window_at t f).dot.1 && joins t.unsent f (window_at t f).dot.0 s) ≡ false → event_outcome t (Typed f s) ≡ made_apart t f s (window_at t f).dot
 made-apart_dot t f s some l h = go (eqb_tells d.0 d.1)
   where
     d : ℕ × ℕ
     d = (window_at t f).dot
 
-    go : ((nat_eq d.0 d.1 ≡ true) × (d.0 ≡ d.1)) ⊎ ((nat_eq d.0 d.1 ≡ false) × (d.0 ≢ d.1)) → made_by t (Typed f s) ≡ made_apart t f s d
+    go : ((nat_eq d.0 d.1 ≡ true) × (d.0 ≡ d.1)) ⊎ ((nat_eq d.0 d.1 ≡ false) × (d.0 ≢ d.1)) → event_outcome t (Typed f s) ≡ made_apart t f s d
     go (inl (e, same)) = made-apart_none t f s some same (subst (λ b. (b && joins t.unsent f d.0 s) ≡ false) e h)
     go (inr (e, other)) = made-apart_some t f s some other l
 
 pub made-apart : (t : PlainTerminal) (f : ℕ) (s : List ℕ) (d : ℕ × ℕ) → d ≡ (window_at t f).dot → is_empty s ≡ false → d.0 ≤ length (window_at t f).rasp
-    → (d.0 == d.1 && joins t.unsent f d.0 s) ≡ false → made_by t (Typed f s) ≡ made_apart t f s d
+    → (d.0 == d.1 && joins t.unsent f d.0 s) ≡ false → event_outcome t (Typed f s) ≡ made_apart t f s d
 made-apart t f s d same some l h =
-    subst {A = ℕ × ℕ} (λ x. x.0 ≤ length (window_at t f).rasp → (x.0 == x.1 && joins t.unsent f x.0 s) ≡ false → made_by t (Typed f s) ≡ made_apart t f s x) (sym same)
+    subst {A = ℕ × ℕ} (λ x. x.0 ≤ length (window_at t f).rasp → (x.0 == x.1 && joins t.unsent f x.0 s) ≡ false → event_outcome t (Typed f s) ≡ made_apart t f s x) (sym same)
     (λ a b. made-apart_dot t f s some a b) l h
 
 -- without runes
-pub made-nothing_none : (t : PlainTerminal) (f : ℕ) (d : ℕ × ℕ) → d ≡ (window_at t f).dot → d.0 ≡ d.1 → made_by t (Typed f []) ≡ (t, [])
+pub made-nothing_none : (t : PlainTerminal) (f : ℕ) (d : ℕ × ℕ) → d ≡ (window_at t f).dot → d.0 ≡ d.1 → event_outcome t (Typed f []) ≡ (t, [])
 unfolding made_by_type
 made-nothing_none t f d e h = ap (λ made. and_then made (λ u. (u, []))) (cuts_none t f d e h)
 
-pub made-nothing : (t : PlainTerminal) (f : ℕ) (d : ℕ × ℕ) → d ≡ (window_at t f).dot → d.0 ≢ d.1 → made_by t (Typed f []) ≡ cut_made t f d
+pub made-nothing : (t : PlainTerminal) (f : ℕ) (d : ℕ × ℕ) → d ≡ (window_at t f).dot → d.0 ≢ d.1 → event_outcome t (Typed f []) ≡ cut_made t f d
 unfolding made_by_type
 made-nothing t f d e h =
     ap (λ made. and_then made (λ u. (u, []))) (cuts_some t f d e h)
@@ -294,7 +294,7 @@ pub flush-count : (b : Bool) (t : PlainTerminal) (j : Unsent) → t.unsent ≡ S
 flush-count true t j e = ap length (flushed-messages t) ∙ ap (λ o. length (unsent_message o)) e
 flush-count false t j e = refl
 
-pub refused_full : (t : PlainTerminal) (e : UserEvent) (made : Made) (why : TermFault) (count : ℕ) → first_event t.held ≡ e → made_by (later t) e ≡ made
+pub refused_full : (t : PlainTerminal) (e : UserEvent) (made : Made) (why : TermFault) (count : ℕ) → first_event t.held ≡ e → event_outcome (later t) e ≡ made
     → count ≡ length made.1 → ((why ≡ fault.OutOfMemory) × (t.sent + count ≤ most_count)) ⊎ ((why ≡ fault.CountFull) × (most_count < t.sent + count)) → IsFailure (done (made_first t)) why
 refused_full t e made why count first by n h = elim h [
   | inl o ↦

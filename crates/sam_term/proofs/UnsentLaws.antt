@@ -11,8 +11,8 @@ use Rattle.sam_mesg.specs.declared.hmesg.Hmesg.TheVariants.{Hversion, Hbindname,
 use Rattle.sam_term.specs.Locks.{is_command_line}
 use Rattle.sam_term.specs.declared.event.UserEvent.{UserEvent}
 use Rattle.sam_term.specs.declared.event.UserEvent.TheVariants.{Typed, Select, Cut, Paste, Snarf, Look, Search, Send, Dclick, Scroll, View, Open, Close, Write, Work, OpenCmd, New, Exit, Check, GetSnarf, SetSnarf, Version, Flush}
-use Rattle.sam_term.specs.declared.files.Unsent.{Unsent}
-use Rattle.sam_term.specs.Term.{PlainTerminal, Made, and_then, unsent_message, flushed, sends, sends_if, unchanged, wanted, requested, joins, joined, moved_unsent, kept_unsent, typed_rasp, types, cuts_dot, has_empty_dot, window_at, put_window, cut_rasp, made_by_type, made_by_cut, made_by_paste, made_by_snarf, made_by_view, made_by, took_unlockfile}
+use Rattle.sam_term.specs.declared.records.Unsent.{Unsent}
+use Rattle.sam_term.specs.Term.{PlainTerminal, Made, and_then, unsent_message, flushed, sends, sends_if, unchanged, wanted, requested, joins, joined, moved_unsent, kept_unsent, typed_rasp, types, cuts_dot, has_empty_dot, window_at, put_window, cut_rasp, made_by_type, made_by_cut, made_by_paste, made_by_snarf, made_by_view, event_outcome, took_unlockfile}
 use Rattle.sam_term.specs.Unsent.{SendsFirst, EventsSendFirst, FramesSendFirst}
 use Rattle.sam_term.proofs.Grows.{ins_cases}
 
@@ -188,7 +188,7 @@ viewed : (t : PlainTerminal) (f p n : ℕ) → GoesMade t (made_by_view t f p n)
 unfolding made_by_view
 viewed t f p n = request (put_window t f (record (window_at t f) { view_start = p; view_length = n })) f
 
-event : (t : PlainTerminal) (e : UserEvent) → GoesMade t (made_by t e)
+event : (t : PlainTerminal) (e : UserEvent) → GoesMade t (event_outcome t e)
 event t (Typed f s) = typed t f s
 event t (Select f p q) = same t.unsent
 event t (Cut f) = cut t f
@@ -214,7 +214,7 @@ event t (Version v) = sending t unchanged _
 event t Flush = flush t _
 
 pub events_send_first : EventsSendFirst
-events_send_first t e = first t.unsent (made_by t e).0.unsent (made_by t e).1 (event t e)
+events_send_first t e = first t.unsent (event_outcome t e).0.unsent (event_outcome t e).1 (event t e)
 
 -- ## Frames
 

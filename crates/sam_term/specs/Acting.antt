@@ -1,7 +1,7 @@
 -- What the oldest held event does, and which events change nothing but by the one message that they compose.
 use Rattle.std.specs.Prelude.{List, [], ◌∷◌, drop, Option, Bool, true, false}
 use Rattle.sam_runes.specs.Checks.{first_of_checks}
-use Rattle.sam_term.specs.Term.{PlainTerminal, Made, window_at, made_by, event_checks}
+use Rattle.sam_term.specs.Term.{PlainTerminal, Made, window_at, event_outcome, event_checks}
 use Rattle.sam_term.specs.declared.event.Verdict.{Verdict}
 use Rattle.sam_term.specs.declared.event.UserEvent.{UserEvent}
 use Rattle.sam_term.specs.declared.event.UserEvent.TheVariants.{Typed, Select, Cut, Paste, Snarf, Look, Search, Send, Dclick, Scroll, View, Open, Close, Write, Work, OpenCmd, New, Exit, Check, GetSnarf, SetSnarf, Version, Flush}
@@ -20,7 +20,7 @@ free_first t = first_of_checks (event_checks t (first_event t.held))
 
 -- what the oldest event does, which is held no longer
 unfoldable pub made_first : PlainTerminal → Made
-made_first t = made_by (record t { held = drop 1 t.held }) (first_event t.held)
+made_first t = event_outcome (record t { held = drop 1 t.held }) (first_event t.held)
 
 abbrev pub is_typing : UserEvent → Bool
 is_typing (Typed f s) = true

@@ -4,11 +4,11 @@ use Rattle.std.specs.Borrow.{Lends, MutBor, Fml}
 use Rattle.std.specs.contracts.option.Option.{the_row as option_row}
 use Rattle.sam_runes.specs.Slots.{Slots, put_slot}
 use Rattle.sam_term.specs.Term.{blank_known, known_in}
-use Rattle.sam_term.specs.declared.files.Window.{Window}
-use Rattle.sam_term.specs.declared.files.KnownFile.{KnownFile}
-use Rattle.sam_term.specs.contracts.slots.KnownFiles.{the_row}
-use Rattle.sam_term.specs.contracts.files.KnownFile.{the_row as file_row}
-use Rattle.sam_term.specs.contracts.files.Window.{the_row as window_row}
+use Rattle.sam_term.specs.declared.records.Window.{Window}
+use Rattle.sam_term.specs.declared.records.KnownFile.{KnownFile}
+use Rattle.sam_term.specs.contracts.known_files.KnownFiles.{the_row}
+use Rattle.sam_term.specs.contracts.records.KnownFile.{the_row as file_row}
+use Rattle.sam_term.specs.contracts.records.Window.{the_row as window_row}
 
 -- the file of f ends as it is left behind r
 abbrev pub LendsFile : MutBor (Slots KnownFile) → ℕ → MutBor KnownFile → Fml

@@ -4,9 +4,9 @@ use Rattle.sam_runes.specs.Texts.{max_runes, most_count, most_in_message}
 use Rattle.sam_runes.specs.Slots.{Slots}
 use Rattle.sam_rasp.specs.Rasp.{place_after_ins}
 use Rattle.sam_term.specs.Term.{PlainTerminal, window_in, window_at}
-use Rattle.sam_term.specs.declared.files.Window.{Window}
-use Rattle.sam_term.specs.declared.files.KnownFile.{KnownFile}
-use Rattle.sam_term.specs.declared.files.Unsent.{Unsent}
+use Rattle.sam_term.specs.declared.records.Window.{Window}
+use Rattle.sam_term.specs.declared.records.KnownFile.{KnownFile}
+use Rattle.sam_term.specs.declared.records.Unsent.{Unsent}
 use Rattle.sam_term.specs.declared.term.Terminal.TheInside.{Inside}
 
 -- places of a window stand in its partial text, which is no longer than a text may be, and each lock was counted

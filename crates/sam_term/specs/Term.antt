@@ -12,9 +12,9 @@ use Rattle.sam_mesg.specs.declared.tmesg.Tmesg.TheVariants.{Tversion, Tstartcmdf
 use Rattle.sam_mesg.specs.declared.hmesg.Hmesg.{Hmesg}
 use Rattle.sam_mesg.specs.declared.hmesg.Hmesg.TheVariants.{Hversion, Hbindname, Hcurrent, Hnewname, Hmovname, Hgrow, Hcheck, Hunlock, Hdata, Horigin, Hunlockfile, Hsetdot, Hgrowdata, Hmoveto, Hclean, Hdirty, Hcut, Hsetpat, Hdelname, Hclose, Hsetsnarf, Hsnarflen, Hack, Hexit}
 use Rattle.sam_mesg.specs.declared.hmesg.HFrame.{HFrame}
-use Rattle.sam_term.specs.declared.files.Window.{Window}
-use Rattle.sam_term.specs.declared.files.KnownFile.{KnownFile}
-use Rattle.sam_term.specs.declared.files.Unsent.{Unsent}
+use Rattle.sam_term.specs.declared.records.Window.{Window}
+use Rattle.sam_term.specs.declared.records.KnownFile.{KnownFile}
+use Rattle.sam_term.specs.declared.records.Unsent.{Unsent}
 use Rattle.sam_term.specs.declared.event.UserEvent.{UserEvent}
 use Rattle.sam_term.specs.declared.event.UserEvent.TheVariants.{Typed, Select, Cut, Paste, Snarf, Look, Search, Send, Dclick, Scroll, View, Open, Close, Write, Work, OpenCmd, New, Exit, Check, GetSnarf, SetSnarf, Version, Flush}
 use Rattle.sam_term.specs.declared.event.Acted.{Acted}
@@ -286,30 +286,30 @@ unfoldable pub made_by_view : PlainTerminal → ℕ → ℕ → ℕ → Made
 made_by_view t f p n = requested (put_window t f (record (window_at t f) { view_start = p; view_length = n })) f
 
 -- what an event does that nothing stands against
-abbrev pub made_by : PlainTerminal → UserEvent → Made
-made_by t (Typed f s) = made_by_type t f s
-made_by t (Select f p q) = (set_dot_of t f (p, q), [])
-made_by t (Cut f) = made_by_cut t f
-made_by t (Paste f) = made_by_paste t f
-made_by t (Snarf f) = made_by_snarf t f
-made_by t (Look f) = sends_dot t f Tlook
-made_by t (Search f) = sends_dot t f Tsearch
-made_by t (Send f) = sends_dot t f Tsend
-made_by t (Dclick f p) = sends t unchanged (Tdclick f p ∷ [])
-made_by t (Scroll f n) = sends t unchanged (Torigin f (window_at t f).view_start n ∷ [])
-made_by t (View f p n) = made_by_view t f p n
-made_by t (Open f) = sends t unchanged (Tstartfile f ∷ [])
-made_by t (Close f) = sends t unchanged (Tclose f ∷ [])
-made_by t (Write f) = sends t unchanged (Twrite f ∷ [])
-made_by t (Work f) = sends_dot t f Tworkfile
-made_by t OpenCmd = sends t unchanged (Tstartcmdfile ∷ [])
-made_by t New = sends t unchanged (Tstartnewfile ∷ [])
-made_by t Exit = sends t unchanged (Texit ∷ [])
-made_by t (Check f) = sends t unchanged (Tcheck f ∷ [])
-made_by t GetSnarf = sends t unchanged (Tstartsnarf ∷ [])
-made_by t (SetSnarf s) = sends t unchanged (Tsetsnarf s ∷ [])
-made_by t (Version v) = sends t unchanged (Tversion v ∷ [])
-made_by t Flush = flushed t
+abbrev pub event_outcome : PlainTerminal → UserEvent → Made
+event_outcome t (Typed f s) = made_by_type t f s
+event_outcome t (Select f p q) = (set_dot_of t f (p, q), [])
+event_outcome t (Cut f) = made_by_cut t f
+event_outcome t (Paste f) = made_by_paste t f
+event_outcome t (Snarf f) = made_by_snarf t f
+event_outcome t (Look f) = sends_dot t f Tlook
+event_outcome t (Search f) = sends_dot t f Tsearch
+event_outcome t (Send f) = sends_dot t f Tsend
+event_outcome t (Dclick f p) = sends t unchanged (Tdclick f p ∷ [])
+event_outcome t (Scroll f n) = sends t unchanged (Torigin f (window_at t f).view_start n ∷ [])
+event_outcome t (View f p n) = made_by_view t f p n
+event_outcome t (Open f) = sends t unchanged (Tstartfile f ∷ [])
+event_outcome t (Close f) = sends t unchanged (Tclose f ∷ [])
+event_outcome t (Write f) = sends t unchanged (Twrite f ∷ [])
+event_outcome t (Work f) = sends_dot t f Tworkfile
+event_outcome t OpenCmd = sends t unchanged (Tstartcmdfile ∷ [])
+event_outcome t New = sends t unchanged (Tstartnewfile ∷ [])
+event_outcome t Exit = sends t unchanged (Texit ∷ [])
+event_outcome t (Check f) = sends t unchanged (Tcheck f ∷ [])
+event_outcome t GetSnarf = sends t unchanged (Tstartsnarf ∷ [])
+event_outcome t (SetSnarf s) = sends t unchanged (Tsetsnarf s ∷ [])
+event_outcome t (Version v) = sends t unchanged (Tversion v ∷ [])
+event_outcome t Flush = flushed t
 
 -- ## What holds an event back
 
@@ -425,7 +425,7 @@ decided None t es made = if_countable made.0.sent (made.0, Done made.1)
 
 abbrev pub act_on : PlainTerminal → List UserEvent → Result (PlainTerminal × Acted) TermFault
 act_on t [] = Ok (t, Idle)
-act_on t (e ∷ es) = decided (first_of_checks (event_checks t e)) t es (made_by (record t { held = es }) e)
+act_on t (e ∷ es) = decided (first_of_checks (event_checks t e)) t es (event_outcome (record t { held = es }) e)
 
 -- the terminal tries the oldest held event
 unfoldable pub act_of : PlainTerminal → Result (PlainTerminal × Acted) TermFault
@@ -522,31 +522,31 @@ took_exit t =
     }
 
 -- what a frame does that nothing stands against
-abbrev pub made_from : PlainTerminal → Hmesg → Made
-made_from t (Hversion v) = (record t { version = agreed t.version v }, [])
-made_from t (Hbindname f) = (took_bindname t f, [])
-made_from t (Hcurrent f) = (record t { current = Some f }, [])
-made_from t (Hnewname f) = (put_known t f blank_known, [])
-made_from t (Hmovname f s) = (put_known t f (record (known_at t f) { name = s }), [])
-made_from t (Hgrow f p n) = (took_grow t f p n, [])
-made_from t (Hcheck f) = requested t f
-made_from t Hunlock = (record t { command_lock = false }, [])
-made_from t (Hdata f p s) = (took_data t f p s, [])
-made_from t (Horigin f p) = (set_view_start t f p, [])
-made_from t (Hunlockfile f) = requested (took_unlockfile t f) f
-made_from t (Hsetdot f p q) = (set_dot_of t f (p, q), [])
-made_from t (Hgrowdata f p s) = (took_growdata t f p s, [])
-made_from t (Hmoveto f p) = (set_view_start t f p, [])
-made_from t (Hclean f) = (put_known t f (record (known_at t f) { dirty = false; changed = false }), [])
-made_from t (Hdirty f) = (put_known t f (record (known_at t f) { dirty = true }), [])
-made_from t (Hcut f p n) = (took_cut t f p n, [])
-made_from t (Hsetpat s) = (record t { pattern = s }, [])
-made_from t (Hdelname f) = (record t { files = free_slot t.files f }, [])
-made_from t (Hclose f) = (took_close t f, [])
-made_from t (Hsetsnarf s) = (record t { snarf = s }, [])
-made_from t (Hsnarflen n) = (record t { snarf_length = n }, [])
-made_from t Hack = if t.has_exited then (t, []) else sends t unchanged (Tack ∷ [])
-made_from t Hexit = (took_exit t, [])
+abbrev pub frame_outcome : PlainTerminal → Hmesg → Made
+frame_outcome t (Hversion v) = (record t { version = agreed t.version v }, [])
+frame_outcome t (Hbindname f) = (took_bindname t f, [])
+frame_outcome t (Hcurrent f) = (record t { current = Some f }, [])
+frame_outcome t (Hnewname f) = (put_known t f blank_known, [])
+frame_outcome t (Hmovname f s) = (put_known t f (record (known_at t f) { name = s }), [])
+frame_outcome t (Hgrow f p n) = (took_grow t f p n, [])
+frame_outcome t (Hcheck f) = requested t f
+frame_outcome t Hunlock = (record t { command_lock = false }, [])
+frame_outcome t (Hdata f p s) = (took_data t f p s, [])
+frame_outcome t (Horigin f p) = (set_view_start t f p, [])
+frame_outcome t (Hunlockfile f) = requested (took_unlockfile t f) f
+frame_outcome t (Hsetdot f p q) = (set_dot_of t f (p, q), [])
+frame_outcome t (Hgrowdata f p s) = (took_growdata t f p s, [])
+frame_outcome t (Hmoveto f p) = (set_view_start t f p, [])
+frame_outcome t (Hclean f) = (put_known t f (record (known_at t f) { dirty = false; changed = false }), [])
+frame_outcome t (Hdirty f) = (put_known t f (record (known_at t f) { dirty = true }), [])
+frame_outcome t (Hcut f p n) = (took_cut t f p n, [])
+frame_outcome t (Hsetpat s) = (record t { pattern = s }, [])
+frame_outcome t (Hdelname f) = (record t { files = free_slot t.files f }, [])
+frame_outcome t (Hclose f) = (took_close t f, [])
+frame_outcome t (Hsetsnarf s) = (record t { snarf = s }, [])
+frame_outcome t (Hsnarflen n) = (record t { snarf_length = n }, [])
+frame_outcome t Hack = if t.has_exited then (t, []) else sends t unchanged (Tack ∷ [])
+frame_outcome t Hexit = (took_exit t, [])
 
 abbrev pub made_unless : Option TermFault → Made → Result (PlainTerminal × List Tmesg) TermFault
 made_unless (Some why) made = Err why
@@ -556,7 +556,7 @@ made_unless None made = if_countable made.0.sent made
 unfoldable pub take_of : PlainTerminal → HFrame → Result (PlainTerminal × List Tmesg) TermFault
 take_of t frame =
     made_unless (first_of_checks ((nat_lt t.sent frame.seen, fault.FromTheFuture) ∷ frame_checks t frame.msg))
-    (made_from t frame.msg)
+    (frame_outcome t frame.msg)
 
 -- the partial text of a file, empty where it is not open
 abbrev pub rasp_at : PlainTerminal → ℕ → PartialText

@@ -4,8 +4,8 @@ use Rattle.sam_mesg.specs.declared.tmesg.Tmesg.{Tmesg}
 use Rattle.sam_mesg.specs.declared.tmesg.Tmesg.TheVariants.{Ttype}
 use Rattle.sam_mesg.specs.declared.hmesg.Hmesg.{Hmesg}
 use Rattle.sam_term.specs.declared.event.UserEvent.{UserEvent}
-use Rattle.sam_term.specs.declared.files.Unsent.{Unsent}
-use Rattle.sam_term.specs.Term.{PlainTerminal, made_by, made_from}
+use Rattle.sam_term.specs.declared.records.Unsent.{Unsent}
+use Rattle.sam_term.specs.Term.{PlainTerminal, event_outcome, frame_outcome}
 
 -- where anything is composed, the unsent runes are composed first, in their place of their file, perhaps with runes that were typed
 -- behind them
@@ -15,7 +15,7 @@ SendsFirst (Some u) [] = Unit {0}
 SendsFirst (Some u) (m ∷ messages) = (typed : List ℕ) × (m ≡ Ttype u.file u.place (u.runes ++ typed))
 
 abbrev pub EventsSendFirst : Type 0
-EventsSendFirst = (t : PlainTerminal) (e : UserEvent) → SendsFirst t.unsent (made_by t e).1
+EventsSendFirst = (t : PlainTerminal) (e : UserEvent) → SendsFirst t.unsent (event_outcome t e).1
 
 abbrev pub FramesSendFirst : Type 0
-FramesSendFirst = (t : PlainTerminal) (m : Hmesg) → SendsFirst t.unsent (made_from t m).1
+FramesSendFirst = (t : PlainTerminal) (m : Hmesg) → SendsFirst t.unsent (frame_outcome t m).1

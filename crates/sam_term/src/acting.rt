@@ -9,7 +9,7 @@ ghost use Rattle.sam_term.specs.Taking.{IsAnswer, done, not_done};
 ghost use Rattle.sam_term.specs.Term.{act_of, event_checks, is_unknown, is_closed, is_file_locked, has_bad_place, has_long_text, makes_too_long, sends, unchanged};
 
 use crate::event::{Acted, Deed, UserEvent, Verdict};
-use crate::event_tests::{file_of, is_bad_version, is_for_command_file, needs_open, waits_for_all};
+use crate::event_rules::{file_of, is_bad_version, is_for_command_file, needs_open, waits_for_all};
 use crate::fault::{Refusal, TermFault};
 use crate::term::Terminal;
 use sam_mesg::Tmesg;

@@ -10,9 +10,9 @@ ghost use Rattle.sam_term.specs.Taking.{IsAnswer, countable};
 ghost use Rattle.sam_term.specs.Term.{flush_of, is_open, window_at, composed, unsent_message, flushed, sends, unchanged, wanted, view_end, request_for};
 
 use crate::fault::TermFault;
-use crate::files::Window;
 use crate::lock::{Lock, is_request, lock_of};
 use crate::outbox::Outbox;
+use crate::records::Window;
 use crate::term::Terminal;
 use sam_mesg::{Batch, Tmesg};
 use sam_runes::MOST_IN_MESSAGE;

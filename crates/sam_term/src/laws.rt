@@ -9,32 +9,32 @@ ghost use Rattle.sam_term.specs.Fitting.{all_fit};
 ghost use Rattle.sam_term.specs.LockCounts.{locks_taken, takes_command, requests, locks_left, command_left, awaited_left};
 ghost use Rattle.sam_term.specs.Sound.{IsSound};
 ghost use Rattle.sam_term.specs.Unsent.{EventsSendFirst, FramesSendFirst};
-ghost use Rattle.sam_term.specs.Term.{is_open, window_at, event_checks, flushed, made_from, made_by, file_of, rasp_at, PlainTerminal};
+ghost use Rattle.sam_term.specs.Term.{is_open, window_at, event_checks, flushed, frame_outcome, event_outcome, file_of, rasp_at, PlainTerminal};
 ghost use Rattle.sam_term.specs.declared.event.UserEvent.{UserEvent};
 
 /// Says what an event does to the rasp of a file: `Typed`, `Cut` and `Paste` take the dot out, `Typed` puts its runes in that place, and
 /// no other event changes it.
 #[tactic(auto, using(crate::proofs::TermLaws::event_changes))]
 pub fn event_changes_text()
-    ensures { (t : PlainTerminal) (e : UserEvent) (f : ℕ) → rasp_at (made_by t e).0 f ≡ changed_by t e f (rasp_at t f) }
+    ensures { (t : PlainTerminal) (e : UserEvent) (f : ℕ) → rasp_at (event_outcome t e).0 f ≡ changed_by t e f (rasp_at t f) }
 {}
 
 /// Says what a frame does to the rasp of a file that is open after it: gaps or runes come in, some are loaded, some go, or it begins
 /// empty.
 #[tactic(auto, using(crate::proofs::TermLaws::frame_shows))]
 pub fn frame_changes_text()
-    ensures { (t : PlainTerminal) (m : Hmesg) (f : ℕ) → is_open (made_from t m).0 f ≡ true
-        → rasp_at (made_from t m).0 f ≡ shown f m (rasp_at t f) }
+    ensures { (t : PlainTerminal) (m : Hmesg) (f : ℕ) → is_open (frame_outcome t m).0 f ≡ true
+        → rasp_at (frame_outcome t m).0 f ≡ shown f m (rasp_at t f) }
 {}
 
 /// Says that each message which an event composes is counted.
 pub fn event_counts()
-    ensures { (t : PlainTerminal) (e : UserEvent) → (made_by t e).0.sent ≡ t.sent + length (made_by t e).1 }
+    ensures { (t : PlainTerminal) (e : UserEvent) → (event_outcome t e).0.sent ≡ t.sent + length (event_outcome t e).1 }
 {}
 
 /// Says that each message which is composed in answer to a frame is counted.
 pub fn frame_counts()
-    ensures { (t : PlainTerminal) (m : Hmesg) → (made_from t m).0.sent ≡ t.sent + length (made_from t m).1 }
+    ensures { (t : PlainTerminal) (m : Hmesg) → (frame_outcome t m).0.sent ≡ t.sent + length (frame_outcome t m).1 }
 {}
 
 /// Says that an event on a file acts only while neither the command lock nor a lock of that file is held.
@@ -48,7 +48,7 @@ pub fn event_finds_no_lock()
 #[tactic(auto, using(crate::proofs::FitLaws::event_fits))]
 pub fn event_fits()
     ensures { (t : PlainTerminal) (e : UserEvent) → IsSound t → first_of_checks (event_checks t e) ≡ None
-        → all_fit t.version (made_by t e).1 ≡ true }
+        → all_fit t.version (event_outcome t e).1 ≡ true }
 {}
 
 /// Says that what a flush composes fits in the terminal's version.
@@ -60,7 +60,7 @@ pub fn flush_fits()
 /// Says that the messages which are composed in answer to a frame fit in the terminal's version.
 #[tactic(auto, using(crate::proofs::FitLaws::frame_fits))]
 pub fn frame_fits()
-    ensures { (t : PlainTerminal) (m : Hmesg) → IsSound t → all_fit t.version (made_from t m).1 ≡ true }
+    ensures { (t : PlainTerminal) (m : Hmesg) → IsSound t → all_fit t.version (frame_outcome t m).1 ≡ true }
 {}
 
 /// Says that the messages of an event, or in answer to a frame, begin with the unsent runes if there are any, perhaps with runes behind
@@ -76,11 +76,11 @@ pub fn unsent_goes_first()
 #[tactic(auto, using(crate::proofs::LockLaws::event_command, crate::proofs::LockLaws::event_locks, crate::proofs::LockLaws::event_awaits))]
 pub fn event_takes_locks()
     ensures command { (t : PlainTerminal) (e : UserEvent)
-        → (made_by t e).0.command_lock ≡ (t.command_lock || takes_command (made_by t e).1) }
+        → (event_outcome t e).0.command_lock ≡ (t.command_lock || takes_command (event_outcome t e).1) }
     ensures files { (t : PlainTerminal) (e : UserEvent) (f : ℕ)
-        → (window_at (made_by t e).0 f).locks ≡ (window_at t f).locks + locks_taken f (made_by t e).1 }
+        → (window_at (event_outcome t e).0 f).locks ≡ (window_at t f).locks + locks_taken f (event_outcome t e).1 }
     ensures awaited { (t : PlainTerminal) (e : UserEvent) (f : ℕ)
-        → (window_at (made_by t e).0 f).awaits ≡ ((window_at t f).awaits || requests f (made_by t e).1) }
+        → (window_at (event_outcome t e).0 f).awaits ≡ ((window_at t f).awaits || requests f (event_outcome t e).1) }
 {}
 
 /// Says what a flush does to the locks: those that were held are held still, and the message that it composes, if any, takes its lock. A
@@ -99,9 +99,9 @@ pub fn flush_takes_locks()
 #[tactic(auto, using(crate::proofs::LockLaws::frame_command, crate::proofs::LockLaws::frame_locks, crate::proofs::LockLaws::frame_awaits))]
 pub fn frame_changes_locks()
     ensures command { (t : PlainTerminal) (m : Hmesg)
-        → (made_from t m).0.command_lock ≡ (command_left m t.command_lock || takes_command (made_from t m).1) }
+        → (frame_outcome t m).0.command_lock ≡ (command_left m t.command_lock || takes_command (frame_outcome t m).1) }
     ensures files { (t : PlainTerminal) (m : Hmesg) (f : ℕ)
-        → (window_at (made_from t m).0 f).locks ≡ locks_left m f (window_at t f).locks + locks_taken f (made_from t m).1 }
+        → (window_at (frame_outcome t m).0 f).locks ≡ locks_left m f (window_at t f).locks + locks_taken f (frame_outcome t m).1 }
     ensures awaited { (t : PlainTerminal) (m : Hmesg) (f : ℕ)
-        → (window_at (made_from t m).0 f).awaits ≡ (awaited_left m f (window_at t f).awaits || requests f (made_from t m).1) }
+        → (window_at (frame_outcome t m).0 f).awaits ≡ (awaited_left m f (window_at t f).awaits || requests f (frame_outcome t m).1) }
 {}

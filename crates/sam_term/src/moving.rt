@@ -7,7 +7,7 @@ ghost use Rattle.sam_runes.specs.Texts.{max_runes};
 ghost use Rattle.sam_term.specs.Sound.{AreWithin, shifted};
 ghost use Rattle.sam_term.specs.Term.{unsent_without, moved_unsent, window_after_ins, window_after_del};
 
-use crate::files::{Unsent, Window};
+use crate::records::{Unsent, Window};
 use std::alloc::AllocError;
 
 /// Returns where a place goes as `n` runes or gaps come in at `p`: one above `p` moves by `n`, the others stay.

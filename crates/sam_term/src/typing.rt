@@ -12,9 +12,9 @@ ghost use Rattle.sam_term.specs.Term.{is_open, window_at, put_window, all_compos
 
 use crate::event::{Acted, UserEvent};
 use crate::fault::TermFault;
-use crate::files::{Unsent, Window};
 use crate::lock::ends_line;
 use crate::outbox::Outbox;
+use crate::records::{Unsent, Window};
 use crate::term::Terminal;
 use sam_mesg::Tmesg;
 use sam_runes::{MOST_IN_MESSAGE, Runes};

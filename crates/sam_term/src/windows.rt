@@ -1,6 +1,6 @@
-//! The methods of `Terminal` that read or change the window of one file. The list in `slots` lends the window, and
-//! `moving` changes it; as runes or gaps come or go, the place of the unsent runes moves along. `files` has the records, and
-//! `slots` knows only the list.
+//! The methods of `Terminal` that read or change the window of one file. The list in `known_files` lends the window, and
+//! `moving` changes it; as runes or gaps come or go, the place of the unsent runes moves along. `records` has the records, and
+//! `known_files` knows only the list.
 
 ghost use Rattle.std.specs.Prelude.{◌≡◌, ◌+◌, ◌-◌, ◌≤◌, length, OnErr, OnOk, IsTrue, Some, None, map, replicate};
 ghost use Rattle.sam_runes.specs.Texts.{max_runes};

@@ -6,7 +6,7 @@ use Rattle.std.proofs.lemmas.List.{length-drop, length-take-le}
 use Rattle.sam_runes.specs.Texts.{all_tags, part}
 use Rattle.sam_runes.specs.Slots.{Slots, slot, put_slot, free_slot}
 use Rattle.sam_runes.proofs.SlotLaws.{slot-put_same, slot-put_other, slot-free_same, slot-free_other, slot-map, slot_given, length-put_slot, length-free_slot, length-map_slots, put_slot-push}
-use Rattle.sam_text.specs.Files.{PlainFile, PlainFiles, blank_file, file_at, has_file, put_file, with_new, without_file, work_without, announced_file, announce_all, IsFit, HasShortName, IsWork, AreKept}
+use Rattle.sam_text.specs.Files.{PlainFile, PlainFiles, blank_file, file_at, has_file, put_file, with_new, without_file, work_without, announced_file, announce_all, IsFit, HasShortName, IsWork, AreSoundFiles}
 use Rattle.sam_text.proofs.FitLaws.{all-put, fit-put}
 use Rattle.sam_text.proofs.ViewLaws.{is_some-map}
 
@@ -23,7 +23,7 @@ work-put fs g x None h = tt
 work-put fs g x (Some f) h = (h.0, given-put fs.slots g f x h.1)
 
 -- a file is put where one was
-pub kept_put : (fs : PlainFiles) (g : ℕ) (x : PlainFile) → AreKept fs → has_file fs g ≡ true → IsFit x → HasShortName x → AreKept (put_file fs g x)
+pub kept_put : (fs : PlainFiles) (g : ℕ) (x : PlainFile) → AreSoundFiles fs → has_file fs g ≡ true → IsFit x → HasShortName x → AreSoundFiles (put_file fs g x)
 kept_put fs g x all there fit short =
     let l = length-put_slot fs.slots g x (slot_given fs.slots g there) in
     let n = all.0 in (
@@ -57,7 +57,7 @@ work-free fs g (Some f) h = go (eqb_tells f g)
         (h.0, ap is_some (slot-free_other fs.slots g f (λ e. other (sym e))) ∙ h.1)
 
 -- a file that is not the command file is taken away
-pub kept_free : (fs : PlainFiles) (g : ℕ) → AreKept fs → 0 < g → AreKept (without_file fs g)
+pub kept_free : (fs : PlainFiles) (g : ℕ) → AreSoundFiles fs → 0 < g → AreSoundFiles (without_file fs g)
 kept_free fs g all positive =
     let l = length-free_slot fs.slots g in
     let n = all.0 in
@@ -72,7 +72,7 @@ kept_free fs g all positive =
     )
 
 -- a file is added
-pub kept_new : (fs : PlainFiles) (x : PlainFile) → AreKept fs → length fs.slots < all_tags → IsFit x → HasShortName x → AreKept (with_new fs x)
+pub kept_new : (fs : PlainFiles) (x : PlainFile) → AreSoundFiles fs → length fs.slots < all_tags → IsFit x → HasShortName x → AreSoundFiles (with_new fs x)
 kept_new fs x all free fit short =
     let l = ap length (put_slot-push fs.slots x) in
     let m = length-append fs.slots (Some x ∷ []) in (
@@ -111,7 +111,7 @@ work-announce fs None h = tt
 work-announce fs (Some f) h = (h.0, given-announce fs.slots f ∙ h.1)
 
 -- all files but the command file are announced
-pub kept_announce : (fs : PlainFiles) → AreKept fs → AreKept (record fs { slots = announce_all fs.slots })
+pub kept_announce : (fs : PlainFiles) → AreSoundFiles fs → AreSoundFiles (record fs { slots = announce_all fs.slots })
 kept_announce fs all =
     let l = length-announce fs.slots in
     let n = all.0 in (
@@ -125,17 +125,17 @@ kept_announce fs all =
     )
 
 -- a file is put where one was, or nothing is changed
-pub kept_put_or : {E : Type 0} (fs : PlainFiles) (g : ℕ) (x : PlainFile) → AreKept fs → has_file fs g ≡ true → (r : Result ⊤ E) (after : Slots PlainFile)
-    → OnOk r (after ≡ put_slot fs.slots g x) → OnOk r ((IsFit x) × (HasShortName x)) → OnErr r (after ≡ fs.slots) → AreKept (record fs { slots = after })
-kept_put_or fs g x all there (Ok u) after same kept err = subst (λ ss. AreKept (record fs { slots = ss })) (sym same) (kept_put fs g x all there kept.0 kept.1)
-kept_put_or fs g x all there (Err e) after same kept err = subst (λ ss. AreKept (record fs { slots = ss })) (sym err) all
+pub kept_put_or : {E : Type 0} (fs : PlainFiles) (g : ℕ) (x : PlainFile) → AreSoundFiles fs → has_file fs g ≡ true → (r : Result ⊤ E) (after : Slots PlainFile)
+    → OnOk r (after ≡ put_slot fs.slots g x) → OnOk r ((IsFit x) × (HasShortName x)) → OnErr r (after ≡ fs.slots) → AreSoundFiles (record fs { slots = after })
+kept_put_or fs g x all there (Ok u) after same kept err = subst (λ ss. AreSoundFiles (record fs { slots = ss })) (sym same) (kept_put fs g x all there kept.0 kept.1)
+kept_put_or fs g x all there (Err e) after same kept err = subst (λ ss. AreSoundFiles (record fs { slots = ss })) (sym err) all
 
 -- a file is added, or nothing is changed
-pub kept_new_or : {E : Type 0} (fs : PlainFiles) (x : PlainFile) → AreKept fs → length fs.slots < all_tags → IsFit x → HasShortName x
+pub kept_new_or : {E : Type 0} (fs : PlainFiles) (x : PlainFile) → AreSoundFiles fs → length fs.slots < all_tags → IsFit x → HasShortName x
     → (r : Result ⊤ E) (after : Slots PlainFile) → OnOk r (after ≡ put_slot fs.slots (length fs.slots) x) → OnErr r (after ≡ fs.slots)
-    → AreKept (record fs { slots = after })
-kept_new_or fs x all free fit short (Ok u) after same err = subst (λ ss. AreKept (record fs { slots = ss })) (sym same) (kept_new fs x all free fit short)
-kept_new_or fs x all free fit short (Err e) after same err = subst (λ ss. AreKept (record fs { slots = ss })) (sym err) all
+    → AreSoundFiles (record fs { slots = after })
+kept_new_or fs x all free fit short (Ok u) after same err = subst (λ ss. AreSoundFiles (record fs { slots = ss })) (sym same) (kept_new fs x all free fit short)
+kept_new_or fs x all free fit short (Err e) after same err = subst (λ ss. AreSoundFiles (record fs { slots = ss })) (sym err) all
 
 -- how long a part of a text is
 pub length_part : {X : Type 0} (t : List X) (p q : ℕ) → p ≤ q → q ≤ length t → length (part t p q) ≡ q - p

@@ -8,7 +8,7 @@ use Rattle.sam_text.specs.declared.command.Command.{Command}
 use Rattle.sam_text.specs.declared.command.Command.TheVariants as command
 use Rattle.sam_text.specs.Reading.{◌>>=◌, command_of}
 use Rattle.sam_text.specs.Ranges.{address_range}
-use Rattle.sam_text.specs.Files.{PlainFile, PlainFiles, PlainOutcome, blank_file, file_at, file_after, IsFit, IsPattern, IsWork, IsOutcomeFor, IsOutcomeOf, AreKept}
+use Rattle.sam_text.specs.Files.{PlainFile, PlainFiles, PlainOutcome, blank_file, file_at, file_after, IsFit, IsPattern, IsWork, IsOutcomeFor, IsOutcomeOf, AreSoundFiles}
 use Rattle.sam_text.specs.Meaning.{WorkFile, meaning, work_on, work_file, line_outcome, effect_of, effect_on, effect_of_line, or_wrong, address_or_dot, address_pattern, steps_pattern, later}
 use Rattle.sam_text.proofs.ReadLaws.{CommandOk, command-read}
 use Rattle.sam_text.proofs.MeaningLaws.{line_fits, without_work}
@@ -67,7 +67,7 @@ puts-some fs o None h = tt
 puts-some fs o (Some g) h = h g refl
 
 -- what a line does can be put in
-pub meaning_puts : (fs : PlainFiles) (line : List ℕ) → AreKept fs → IsOutcomeOf fs (meaning fs line)
+pub meaning_puts : (fs : PlainFiles) (line : List ℕ) → AreSoundFiles fs → IsOutcomeOf fs (meaning fs line)
 meaning_puts fs line all = (go fs.work all.2, short.0, short.1)
   where
     short : HasShortParts (meaning fs line)
@@ -93,7 +93,7 @@ named-within None old h k = k
 named-within (Some n) old h k = h
 
 -- an outcome that can be put in leaves its file fit, and its name short
-pub puts_there : (fs : PlainFiles) (o : PlainOutcome) (f : ℕ) → AreKept fs → IsOutcomeOf fs o → o.file ≡ Some f
+pub puts_there : (fs : PlainFiles) (o : PlainOutcome) (f : ℕ) → AreSoundFiles fs → IsOutcomeOf fs o → o.file ≡ Some f
     → (IsFit (file_after (file_at fs f) o)) × (length (unwrap_or o.name (file_at fs f).name) ≤ most_in_name)
 puts_there fs o f all puts e =
     let there : IsOutcomeFor fs o f = subst (λ y. IfSome y (IsOutcomeFor fs o)) e puts.0 in

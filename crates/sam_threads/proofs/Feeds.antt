@@ -14,8 +14,8 @@ use Rattle.sam_mesg.proofs.Versions.{grows_h}
 use Rattle.sam_frame.specs.Direction.{host}
 use Rattle.sam_frame.specs.Stream.{FitInTurn}
 use Rattle.sam_frame.specs.Framing.{Held}
-use Rattle.sam_term.specs.Term.{PlainTerminal, Made, flushed, unsent_message, sends, sends_if, unchanged, requested, wanted, made_from, made_unless, take_of, took_unlockfile}
-use Rattle.sam_term.specs.declared.files.Unsent.{Unsent}
+use Rattle.sam_term.specs.Term.{PlainTerminal, Made, flushed, unsent_message, sends, sends_if, unchanged, requested, wanted, frame_outcome, made_unless, take_of, took_unlockfile}
+use Rattle.sam_term.specs.declared.records.Unsent.{Unsent}
 use Rattle.sam_term.specs.declared.fault.TermFault.{TermFault}
 use Rattle.sam_term.specs.declared.fault.TermFault.TheVariants as fault
 use Rattle.sam_threads.specs.Feeding.{TakesAll, Gives, FeedsTerminal, StopsAt, TakesOne, TakesUpTo}
@@ -58,7 +58,7 @@ few_ack : (t : PlainTerminal) (b : Bool) → Few 2 (if b then (t, []) else sends
 few_ack t true = record { few = omega arith }
 few_ack t false = few_sends t unchanged Tack
 
-few_from : (t : PlainTerminal) (m : Hmesg) → Few 2 (made_from t m)
+few_from : (t : PlainTerminal) (m : Hmesg) → Few 2 (frame_outcome t m)
 few_from t (Hcheck f) = few_requested t f
 few_from t (Hunlockfile f) = few_requested (took_unlockfile t f) f
 few_from t Hack = few_ack t t.has_exited
@@ -96,7 +96,7 @@ few_unless None made u ms few is = few_counted _ made u ms few is
 
 pub takes_few : (t u : PlainTerminal) (frame : HFrame) (ms : List Tmesg) → take_of t frame ≡ Ok (u, ms) → length ms ≤ 2
 unfolding take_of
-takes_few t u frame ms is = few_unless _ (made_from t frame.msg) u ms (few_from t frame.msg) is
+takes_few t u frame ms is = few_unless _ (frame_outcome t frame.msg) u ms (few_from t frame.msg) is
 
 -- ---- one frame after another
 

@@ -10,7 +10,7 @@ use Rattle.sam_frame.specs.Framing.{Held, GaveAll, fresh}
 use Rattle.sam_frame.proofs.Fronts.{version_after-append}
 use Rattle.sam_frame.proofs.Cuttings.{Came, comes_more, splits_more}
 use Rattle.sam_host.specs.Host.{PlainHost, new_host}
-use Rattle.sam_queue.specs.declared.port.Entry.{Entry}
+use Rattle.sam_queue.specs.declared.rule.Entry.{Entry}
 use Rattle.sam_queue.specs.History.{items_of, IsEnded}
 use Rattle.sam_queue.specs.Views.{LineView, PostView, TakeView, TakesNext, Answers, new_post, closed_post}
 use Rattle.sam_queue.specs.declared.take.Got.{Got}
@@ -21,7 +21,7 @@ use Rattle.sam_script.specs.Script.{IsFile}
 use Rattle.sam_world.specs.Sides.{HostRuns}
 use Rattle.sam_threads.specs.RealSides.{sides}
 use Rattle.sam_threads.specs.Inputs.{bytes_of}
-use Rattle.sam_threads.specs.Told.{IsPastCount, HostStopped, HostTold}
+use Rattle.sam_threads.specs.WorkerEnds.{IsPastCount, HostStopped, HostTold}
 use Rattle.sam_threads.specs.Handling.{Handled, HandledFront, TakesPiece, Serves, Ends, Halts}
 use Rattle.sam_threads.specs.declared.stop.Stop.{Stop}
 use Rattle.sam_threads.specs.declared.stop.Stop.TheVariants as stop
@@ -196,7 +196,7 @@ pub told_of : (refuses : Type 0) (up down : LineView) (h : PlainHost) (p q : Pos
 told_of refuses up down h p q taken more e first begins files serves closed line all none ended = record {
   handled = serves.handled;
   answered = serves.answered;
-  outbox = serves.unput;
+  to_send = serves.unput;
   rest = serves.rest ++ bytes_of (items_of 0 more);
   take_is = line;
   post_is = ap (λ (x : PostView (Vec ℕ)). x.line) closed ∙ (serves.did.line ∙ ap (λ (x : PostView (Vec ℕ)). x.line) first);

@@ -1,5 +1,5 @@
 pub mod TermSteps
-pub mod Outboxes
+pub mod PiecesUp
 pub mod TermKeeping
 pub mod TermTaking
 pub mod TermTelling

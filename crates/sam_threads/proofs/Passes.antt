@@ -10,14 +10,14 @@ use Rattle.sam_frame.specs.Stream.{FitInTurn, Splits, version_after, stream_of, 
 use Rattle.sam_frame.specs.Framing.{Held, GaveAll, GaveUp, fresh}
 use Rattle.sam_frame.proofs.Fronts.{version_after-append, stream_of-append}
 use Rattle.sam_frame.proofs.Cuttings.{Came, splits_more, comes_more}
-use Rattle.sam_queue.specs.declared.port.Entry.{Entry}
+use Rattle.sam_queue.specs.declared.rule.Entry.{Entry}
 use Rattle.sam_queue.specs.History.{items_of, IsEnded, StartsWith}
 use Rattle.sam_queue.specs.Views.{LineView, PostView, TakeView, TakesNext, new_post, new_take, closed_post}
 use Rattle.sam_queue.proofs.Sorts.{items_of-append, one_item, mark_item}
 use Rattle.sam_threads.specs.Inputs.{bytes_of}
 use Rattle.sam_threads.specs.Numbers.{frame_number}
 use Rattle.sam_threads.specs.Passing.{sent_on, Sends, SendsBefore, StopsBehind, PassesPiece, Passes}
-use Rattle.sam_threads.specs.Told.{IsPastCount, ReaderTold, ReaderStopped}
+use Rattle.sam_threads.specs.WorkerEnds.{IsPastCount, ReaderTold, ReaderStopped}
 use Rattle.sam_threads.specs.declared.ends.ReaderEnd.{ReaderEnd}
 use Rattle.sam_threads.specs.declared.input.Input.{Input}
 use Rattle.sam_threads.specs.declared.input.Input.TheVariants.{Host}

@@ -15,7 +15,7 @@ use Rattle.sam_frame.specs.Reading.{IsSound}
 use Rattle.sam_host.specs.Host.{PlainHost, answer}
 use Rattle.sam_host.specs.declared.fault.HostFault.{HostFault}
 use Rattle.sam_host.proofs.SoundLaws.{answers_are_counted}
-use Rattle.sam_term.specs.Term.{PlainTerminal, Made, act_of, flush_of, take_of, made_from, made_unless, frame_checks}
+use Rattle.sam_term.specs.Term.{PlainTerminal, Made, act_of, flush_of, take_of, frame_outcome, made_unless, frame_checks}
 use Rattle.sam_term.specs.declared.fault.TermFault.{TermFault}
 use Rattle.sam_term.specs.declared.fault.TermFault.TheVariants as fault
 use Rattle.sam_term.specs.declared.event.Acted.{Acted}
@@ -37,7 +37,7 @@ taken_past : (t : PlainTerminal) (frame : HFrame) (r : Made) → take_of t frame
 unfolding take_of
 taken_past t frame r e = go (nat_lt t.sent frame.seen) refl e
   where
-    go : (b : Bool) → nat_lt t.sent frame.seen ≡ b → made_unless (first_of_checks ((b, fault.FromTheFuture) ∷ frame_checks t frame.msg)) (made_from t frame.msg) ≡ Ok r → frame.seen ≤ t.sent
+    go : (b : Bool) → nat_lt t.sent frame.seen ≡ b → made_unless (first_of_checks ((b, fault.FromTheFuture) ∷ frame_checks t frame.msg)) (frame_outcome t frame.msg) ≡ Ok r → frame.seen ≤ t.sent
     go true q e = absurd (cc)
     go false q e = ltb-false t.sent frame.seen q
 

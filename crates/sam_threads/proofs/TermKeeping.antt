@@ -16,13 +16,13 @@ use Rattle.sam_world.specs.declared.event.TermLog.TheVariants as log
 use Rattle.sam_world.specs.Logs.{logged_users}
 use Rattle.sam_world.specs.Sides.{Each, TermRuns}
 use Rattle.sam_world.proofs.Settles.{term_more, each_append}
-use Rattle.sam_queue.specs.declared.port.Entry.{Entry}
+use Rattle.sam_queue.specs.declared.rule.Entry.{Entry}
 use Rattle.sam_queue.specs.History.{IsEnded, has_left}
 use Rattle.sam_queue.specs.Views.{LineView, TakeView, PostView, WasFull, closed_post, new_take, new_post}
 use Rattle.sam_threads.specs.RealSides.{sides}
 use Rattle.sam_threads.specs.Inputs.{bytes_of, frames_in, users_in, frame_of_load, user_of_load}
-use Rattle.sam_threads.specs.Told.{IsForeign, RefusesFrame, IsFullUp}
-use Rattle.sam_threads.specs.TermMoments.{DeskView, Did, SideView, SoFar, Ran, Goes, IsDone, IsQuiet, IsFound}
+use Rattle.sam_threads.specs.WorkerEnds.{IsForeign, RefusesFrame, IsFullUp}
+use Rattle.sam_threads.specs.TermMoments.{LoggedView, Did, SideView, SoFar, Ran, Goes, IsDone, IsQuiet, IsFound}
 use Rattle.sam_threads.specs.Cutting.{PutSome}
 use Rattle.sam_threads.proofs.Cut.{bytes_append}
 use Rattle.sam_threads.proofs.RealLaws.{counts}
@@ -42,18 +42,18 @@ users_append (log.Act ∷ es) fs = users_append es fs
 users_append (log.Flush ∷ es) fs = users_append es fs
 users_append (log.Take k ∷ es) fs = users_append es fs
 
--- the run with what the desk did behind it
-pub runs_on : (v : SideView) (desk : DeskView) (events : List UserEvent) (frames : List HFrame) (ms : List Tmesg) (r : Ran v) → Did v.desk desk events frames ms
-    → TermRuns sides new_terminal desk.log (frames_in r.handled ++ frames) (r.composed ++ ms) desk.term
-runs_on v desk events frames ms r d =
-    subst (λ (x : List TermLog). TermRuns sides new_terminal x (frames_in r.handled ++ frames) (r.composed ++ ms) desk.term) (sym d.log)
-    (term_more sides counts v.desk.log new_terminal v.desk.term desk.term (frames_in r.handled) r.composed d.entries frames ms r.runs d.runs)
+-- the run with what the logged did behind it
+pub runs_on : (v : SideView) (logged : LoggedView) (events : List UserEvent) (frames : List HFrame) (ms : List Tmesg) (r : Ran v) → Did v.logged logged events frames ms
+    → TermRuns sides new_terminal logged.log (frames_in r.handled ++ frames) (r.composed ++ ms) logged.term
+runs_on v logged events frames ms r d =
+    subst (λ (x : List TermLog). TermRuns sides new_terminal x (frames_in r.handled ++ frames) (r.composed ++ ms) logged.term) (sym d.log)
+    (term_more sides counts v.logged.log new_terminal v.logged.term logged.term (frames_in r.handled) r.composed d.entries frames ms r.runs d.runs)
 
-pub users_on : (v : SideView) (desk : DeskView) (events : List UserEvent) (frames : List HFrame) (ms : List Tmesg) (r : Ran v) → Did v.desk desk events frames ms
-    → logged_users desk.log ≡ (users_in r.handled ++ r.own) ++ events
-users_on v desk events frames ms r d =
+pub users_on : (v : SideView) (logged : LoggedView) (events : List UserEvent) (frames : List HFrame) (ms : List Tmesg) (r : Ran v) → Did v.logged logged events frames ms
+    → logged_users logged.log ≡ (users_in r.handled ++ r.own) ++ events
+users_on v logged events frames ms r d =
     ap (λ (x : List TermLog). logged_users x) d.log
-    ∙ (users_append v.desk.log d.entries
+    ∙ (users_append v.logged.log d.entries
     ∙ (ap (λ (x : List UserEvent). x ++ logged_users d.entries) r.users ∙ ap (λ (x : List UserEvent). (users_in r.handled ++ r.own) ++ x) d.users))
 
 pub none_of : (o : Option Stop) → is_some o ≡ false → o ≡ None
@@ -68,7 +68,7 @@ so_far_of t dropped lost (Some x) e s = absurd (cc)
 
 -- nothing is dropped or lost where nothing has stopped it
 pub whole : (v : SideView) (r : Ran v) → v.stop ≡ None → (r.dropped ≡ []) × (r.lost ≡ [])
-whole v r e = so_far_of v.desk.term r.dropped r.lost v.stop e r.so_far
+whole v r e = so_far_of v.logged.term r.dropped r.lost v.stop e r.so_far
 
 pub all_handled : (v : SideView) (r : Ran v) → v.stop ≡ None → v.take.taken ≡ r.handled
 all_handled v r e = r.took ∙ (ap (λ (x : List (Entry Input)). r.handled ++ x) (whole v r e).0 ∙ append-nil r.handled)
@@ -86,12 +86,12 @@ sent_on put before lost after lost' composed ms sent none grown =
 
 -- ## Acting, flushing
 
--- what the desk did without an event or a frame
-kept_step : (v : SideView) (desk : DeskView) (outbox : List ℕ) (why : Option Stop) (ms : List Tmesg) (lost : List ℕ) → Ran v → v.stop ≡ None
-    → Did v.desk desk [] [] ms → Each (FitsT 2) ms → outbox ++ lost ≡ v.outbox ++ stream_of terminal ms → SoFar desk.term [] lost why
+-- what the logged did without an event or a frame
+kept_step : (v : SideView) (logged : LoggedView) (to_send : List ℕ) (why : Option Stop) (ms : List Tmesg) (lost : List ℕ) → Ran v → v.stop ≡ None
+    → Did v.logged logged [] [] ms → Each (FitsT 2) ms → to_send ++ lost ≡ v.to_send ++ stream_of terminal ms → SoFar logged.term [] lost why
     → (why ≡ Some stop.PeerGone → has_left 2 v.take.taken ≡ true)
-    → Ran (record { take = v.take; post = v.post; desk = desk; outbox = outbox; keyboard_left = v.keyboard_left; mouse_left = v.mouse_left; exit_put = v.exit_put; stop = why })
-kept_step v desk outbox why ms lost r running d fit grown so_far gone =
+    → Ran (record { take = v.take; post = v.post; logged = logged; to_send = to_send; keyboard_left = v.keyboard_left; mouse_left = v.mouse_left; exit_put = v.exit_put; stop = why })
+kept_step v logged to_send why ms lost r running d fit grown so_far gone =
     let none = whole v r running in
     record {
       handled = r.handled;
@@ -102,74 +102,83 @@ kept_step v desk outbox why ms lost r running d fit grown so_far gone =
       number = r.number;
       senders = r.senders;
       took = r.took ∙ ap (λ (x : List (Entry Input)). r.handled ++ x) none.0;
-      runs = subst (λ (x : List HFrame). TermRuns sides new_terminal desk.log x (r.composed ++ ms) desk.term) (append-nil (frames_in r.handled)) (runs_on v desk [] [] ms r d);
-      users = users_on v desk [] [] ms r d ∙ append-nil (users_in r.handled ++ r.own);
+      runs = subst (λ (x : List HFrame). TermRuns sides new_terminal logged.log x (r.composed ++ ms) logged.term) (append-nil (frames_in r.handled)) (runs_on v logged [] [] ms r d);
+      users = users_on v logged [] [] ms r d ∙ append-nil (users_in r.handled ++ r.own);
       own_is = r.own_is;
       all_left = r.all_left;
       keyboard = r.keyboard;
       mouse = r.mouse;
       fit = each_append (FitsT 2) r.composed ms r.fit fit;
-      sent = sent_on (bytes_of v.post.put) v.outbox r.lost outbox lost r.composed ms r.sent none.1 grown;
+      sent = sent_on (bytes_of v.post.put) v.to_send r.lost to_send lost r.composed ms r.sent none.1 grown;
       so_far = so_far;
       gone = λ is. subst (λ (x : List (Entry Input)). has_left 2 x ≡ true) (all_handled v r running) (gone is);
     }
 
-pub kept_done : (v : SideView) (desk : DeskView) (outbox : List ℕ) (ms : List Tmesg) → Ran v → is_some v.stop ≡ false
-    → Did v.desk desk [] [] ms → Each (FitsT 2) ms → outbox ≡ v.outbox ++ stream_of terminal ms
-    → Ran (record { take = v.take; post = v.post; desk = desk; outbox = outbox; keyboard_left = v.keyboard_left; mouse_left = v.mouse_left; exit_put = v.exit_put; stop = v.stop })
-kept_done v desk outbox ms r running d fit grown =
+pub kept_done : (v : SideView) (logged : LoggedView) (to_send : List ℕ) (ms : List Tmesg) → Ran v → is_some v.stop ≡ false
+    → Did v.logged logged [] [] ms → Each (FitsT 2) ms → to_send ≡ v.to_send ++ stream_of terminal ms
+    → Ran (record { take = v.take; post = v.post; logged = logged; to_send = to_send; keyboard_left = v.keyboard_left; mouse_left = v.mouse_left; exit_put = v.exit_put; stop = v.stop })
+kept_done v logged to_send ms r running d fit grown =
     subst (λ (x : Option Stop). Ran (record {
       take = v.take;
       post = v.post;
-      desk = desk;
-      outbox = outbox;
+      logged = logged;
+      to_send = to_send;
       keyboard_left = v.keyboard_left;
       mouse_left = v.mouse_left;
       exit_put = v.exit_put;
       stop = x;
     })) (sym (none_of v.stop running))
-    (kept_step v desk outbox None ms [] r (none_of v.stop running) d fit (append-nil outbox ∙ grown) (refl, refl) (λ is. absurd (cc)))
+    (kept_step v logged to_send None ms [] r (none_of v.stop running) d fit (append-nil to_send ∙ grown) (refl, refl) (λ is. absurd (cc)))
 
 -- what was composed could not be encoded, and is lost
-pub kept_lost_messages : (v : SideView) (desk : DeskView) (outbox : List ℕ) (ms : List Tmesg) → Ran v → is_some v.stop ≡ false
-    → Did v.desk desk [] [] ms → Each (FitsT 2) ms → outbox ≡ v.outbox
-    → Ran (record { take = v.take; post = v.post; desk = desk; outbox = outbox; keyboard_left = v.keyboard_left; mouse_left = v.mouse_left; exit_put = v.exit_put; stop = Some stop.Memory })
-kept_lost_messages v desk outbox ms r running d fit same =
-    kept_step v desk outbox (Some stop.Memory) ms (stream_of terminal ms) r (none_of v.stop running) d fit (ap (λ (x : List ℕ). x ++ stream_of terminal ms) same) tt
+pub kept_lost_messages : (v : SideView) (logged : LoggedView) (to_send : List ℕ) (ms : List Tmesg) → Ran v → is_some v.stop ≡ false
+    → Did v.logged logged [] [] ms → Each (FitsT 2) ms → to_send ≡ v.to_send
+    → Ran (record { take = v.take; post = v.post; logged = logged; to_send = to_send; keyboard_left = v.keyboard_left; mouse_left = v.mouse_left; exit_put = v.exit_put; stop = Some stop.Memory })
+kept_lost_messages v logged to_send ms r running d fit same =
+    kept_step v logged to_send (Some stop.Memory) ms (stream_of terminal ms) r (none_of v.stop running) d fit (ap (λ (x : List ℕ). x ++ stream_of terminal ms) same) tt
     (λ is. absurd (let gone : stop.Memory ≡ stop.PeerGone = cc in cc))
 
-pub kept_silent : (v : SideView) (desk : DeskView) → Ran v → is_some v.stop ≡ false → Did v.desk desk [] [] []
-    → Ran (record { take = v.take; post = v.post; desk = desk; outbox = v.outbox; keyboard_left = v.keyboard_left; mouse_left = v.mouse_left; exit_put = v.exit_put; stop = v.stop })
-kept_silent v desk r running d = kept_done v desk v.outbox [] r running d tt (sym (append-nil v.outbox))
+pub kept_silent : (v : SideView) (logged : LoggedView) → Ran v → is_some v.stop ≡ false → Did v.logged logged [] [] []
+    → Ran (record { take = v.take; post = v.post; logged = logged; to_send = v.to_send; keyboard_left = v.keyboard_left; mouse_left = v.mouse_left; exit_put = v.exit_put; stop = v.stop })
+kept_silent v logged r running d = kept_done v logged v.to_send [] r running d tt (sym (append-nil v.to_send))
 
--- a fault of the desk stops it
-pub kept_stop : (v : SideView) (desk : DeskView) (why : Stop) → Ran v → is_some v.stop ≡ false → desk ≡ v.desk → (why ≡ stop.Memory) ⊎ ((why ≡ stop.Term 8) × IsFullUp v.desk.term)
-    → Ran (record { take = v.take; post = v.post; desk = desk; outbox = v.outbox; keyboard_left = v.keyboard_left; mouse_left = v.mouse_left; exit_put = v.exit_put; stop = Some why })
-kept_stop v desk why r running same is =
-    kept_step v desk v.outbox (Some why) [] [] r (none_of v.stop running) (did_nothing v.desk desk same) tt refl (so_far why is) (λ gone. absurd (not_gone why is gone))
+-- a fault of the logged stops it
+pub kept_stop : (v : SideView) (logged : LoggedView) (why : Stop) → Ran v → is_some v.stop ≡ false → logged ≡ v.logged → (why ≡ stop.Memory) ⊎ ((why ≡ stop.Term 8) × IsFullUp v.logged.term)
+    → Ran (record { take = v.take; post = v.post; logged = logged; to_send = v.to_send; keyboard_left = v.keyboard_left; mouse_left = v.mouse_left; exit_put = v.exit_put; stop = Some why })
+kept_stop v logged why r running same is =
+    kept_step v logged v.to_send (Some why) [] [] r (none_of v.stop running) (did_nothing v.logged logged same) tt refl (so_far why is) (λ gone. absurd (not_gone why is gone))
   where
-    so_far : (s : Stop) → (s ≡ stop.Memory) ⊎ ((s ≡ stop.Term 8) × IsFullUp v.desk.term) → SoFar desk.term [] [] (Some s)
-    so_far s (inl e) = subst (λ (x : Stop). SoFar desk.term [] [] (Some x)) (sym e) tt
+    so_far : (s : Stop) → (s ≡ stop.Memory) ⊎ ((s ≡ stop.Term 8) × IsFullUp v.logged.term) → SoFar logged.term [] [] (Some s)
+    so_far s (inl e) = subst (λ (x : Stop). SoFar logged.term [] [] (Some x)) (sym e) tt
     so_far s (inr e) =
-        subst (λ (x : Stop). SoFar desk.term [] [] (Some x)) (sym e.0)
-        (inl (refl, subst (λ (x : DeskView). IsFullUp x.term) (sym same) e.1))
+        subst (λ (x : Stop). SoFar logged.term [] [] (Some x)) (sym e.0)
+        (inl (refl, subst (λ (x : LoggedView). IsFullUp x.term) (sym same) e.1))
 
-    not_gone : (s : Stop) → (s ≡ stop.Memory) ⊎ ((s ≡ stop.Term 8) × IsFullUp v.desk.term) → Some s ≡ Some stop.PeerGone → ⊥
+    not_gone : (s : Stop) → (s ≡ stop.Memory) ⊎ ((s ≡ stop.Term 8) × IsFullUp v.logged.term) → Some s ≡ Some stop.PeerGone → ⊥
     not_gone s (inl e) gone = let other : stop.Memory ≡ stop.PeerGone = cc in cc
     not_gone s (inr e) gone = let first = e.0 in let other : stop.Term 8 ≡ stop.PeerGone = cc in cc
 
 -- the host reader is gone, and the session not over
-pub kept_lost : (v : SideView) → Ran v → is_some v.stop ≡ false → IsEnded 3 v.take.taken → v.desk.term.has_exited ≡ false
-    → Ran (record { take = v.take; post = v.post; desk = v.desk; outbox = v.outbox; keyboard_left = v.keyboard_left; mouse_left = v.mouse_left; exit_put = v.exit_put; stop = Some stop.PeerGone })
+pub kept_lost : (v : SideView) → Ran v → is_some v.stop ≡ false → IsEnded 3 v.take.taken → v.logged.term.has_exited ≡ false
+    → Ran (record {
+      take = v.take;
+      post = v.post;
+      logged = v.logged;
+      to_send = v.to_send;
+      keyboard_left = v.keyboard_left;
+      mouse_left = v.mouse_left;
+      exit_put = v.exit_put;
+      stop = Some stop.PeerGone;
+    })
 kept_lost v r running ended e =
-    kept_step v v.desk v.outbox (Some stop.PeerGone) [] [] r (none_of v.stop running) (did_nothing v.desk v.desk refl) tt refl e (λ _. ended 2 (omega arith))
+    kept_step v v.logged v.to_send (Some stop.PeerGone) [] [] r (none_of v.stop running) (did_nothing v.logged v.logged refl) tt refl e (λ _. ended 2 (omega arith))
 
 -- ## Its own Exit
 
-pub kept_exit : (v : SideView) (desk : DeskView) → Ran v → is_some v.stop ≡ false → Did v.desk desk (Exit ∷ []) [] [] → v.exit_put ≡ false
+pub kept_exit : (v : SideView) (logged : LoggedView) → Ran v → is_some v.stop ≡ false → Did v.logged logged (Exit ∷ []) [] [] → v.exit_put ≡ false
     → v.keyboard_left ≡ true → v.mouse_left ≡ true
-    → Ran (record { take = v.take; post = v.post; desk = desk; outbox = v.outbox; keyboard_left = v.keyboard_left; mouse_left = v.mouse_left; exit_put = true; stop = v.stop })
-kept_exit v desk r running d none k m =
+    → Ran (record { take = v.take; post = v.post; logged = logged; to_send = v.to_send; keyboard_left = v.keyboard_left; mouse_left = v.mouse_left; exit_put = true; stop = v.stop })
+kept_exit v logged r running d none k m =
     let halted = whole v r (none_of v.stop running) in
     let own_none : r.own ≡ [] = r.own_is ∙ ap (λ (x : Bool). if x then Exit ∷ [] else []) none in
     record {
@@ -181,9 +190,9 @@ kept_exit v desk r running d none k m =
       number = r.number;
       senders = r.senders;
       took = r.took;
-      runs = subst (λ (x : List Tmesg). TermRuns sides new_terminal desk.log (frames_in r.handled) x desk.term) (append-nil r.composed)
-          (subst (λ (x : List HFrame). TermRuns sides new_terminal desk.log x (r.composed ++ []) desk.term) (append-nil (frames_in r.handled)) (runs_on v desk (Exit ∷ []) [] [] r d));
-      users = users_on v desk (Exit ∷ []) [] [] r d
+      runs = subst (λ (x : List Tmesg). TermRuns sides new_terminal logged.log (frames_in r.handled) x logged.term) (append-nil r.composed)
+          (subst (λ (x : List HFrame). TermRuns sides new_terminal logged.log x (r.composed ++ []) logged.term) (append-nil (frames_in r.handled)) (runs_on v logged (Exit ∷ []) [] [] r d));
+      users = users_on v logged (Exit ∷ []) [] [] r d
           ∙ ap (λ (x : List UserEvent). x ++ Exit ∷ []) (ap (λ (x : List UserEvent). users_in r.handled ++ x) own_none ∙ append-nil (users_in r.handled));
       own_is = refl;
       all_left = λ _. (k, m);
@@ -191,7 +200,7 @@ kept_exit v desk r running d none k m =
       mouse = r.mouse;
       fit = r.fit;
       sent = r.sent;
-      so_far = still_so_far desk.term v.desk.term r.dropped r.lost v.stop (none_of v.stop running) r.so_far;
+      so_far = still_so_far logged.term v.logged.term r.dropped r.lost v.stop (none_of v.stop running) r.so_far;
       gone = r.gone;
     }
   where
@@ -205,10 +214,10 @@ moved : (put before put' after lost : List ℕ) → put' ++ after ≡ put ++ bef
 moved put before put' after lost e =
     sym (append_assoc put' after lost) ∙ (ap (λ (x : List ℕ). x ++ lost) e ∙ append_assoc put before lost)
 
-pub kept_put : (v : SideView) (post : PostView (Vec ℕ)) (outbox : List ℕ) → Ran v → post.number ≡ v.post.number
-    → bytes_of post.put ++ outbox ≡ bytes_of v.post.put ++ v.outbox
-    → Ran (record { take = v.take; post = post; desk = v.desk; outbox = outbox; keyboard_left = v.keyboard_left; mouse_left = v.mouse_left; exit_put = v.exit_put; stop = v.stop })
-kept_put v post outbox r number e =
+pub kept_put : (v : SideView) (post : PostView (Vec ℕ)) (to_send : List ℕ) → Ran v → post.number ≡ v.post.number
+    → bytes_of post.put ++ to_send ≡ bytes_of v.post.put ++ v.to_send
+    → Ran (record { take = v.take; post = post; logged = v.logged; to_send = to_send; keyboard_left = v.keyboard_left; mouse_left = v.mouse_left; exit_put = v.exit_put; stop = v.stop })
+kept_put v post to_send r number e =
     record {
       handled = r.handled;
       dropped = r.dropped;
@@ -225,37 +234,37 @@ kept_put v post outbox r number e =
       keyboard = r.keyboard;
       mouse = r.mouse;
       fit = r.fit;
-      sent = moved (bytes_of v.post.put) v.outbox (bytes_of post.put) outbox r.lost e ∙ r.sent;
+      sent = moved (bytes_of v.post.put) v.to_send (bytes_of post.put) to_send r.lost e ∙ r.sent;
       so_far = r.so_far;
       gone = r.gone;
     }
 
 -- pieces were put
-pub kept_pieces : (v : SideView) (post : PostView (Vec ℕ)) (outbox : List ℕ) (most : ℕ) → Ran v → PutSome most v.post post v.outbox outbox
-    → Ran (record { take = v.take; post = post; desk = v.desk; outbox = outbox; keyboard_left = v.keyboard_left; mouse_left = v.mouse_left; exit_put = v.exit_put; stop = v.stop })
-kept_pieces v post outbox most r p =
-    kept_put v post outbox r (ap (λ (x : PostView (Vec ℕ)). x.number) p.after_is)
-    (ap (λ (x : PostView (Vec ℕ)). bytes_of x.put ++ outbox) p.after_is
-    ∙ (ap (λ (x : List ℕ). x ++ outbox) (bytes_append v.post.put p.pieces)
-    ∙ (append_assoc (bytes_of v.post.put) (bytes_of p.pieces) outbox
+pub kept_pieces : (v : SideView) (post : PostView (Vec ℕ)) (to_send : List ℕ) (most : ℕ) → Ran v → PutSome most v.post post v.to_send to_send
+    → Ran (record { take = v.take; post = post; logged = v.logged; to_send = to_send; keyboard_left = v.keyboard_left; mouse_left = v.mouse_left; exit_put = v.exit_put; stop = v.stop })
+kept_pieces v post to_send most r p =
+    kept_put v post to_send r (ap (λ (x : PostView (Vec ℕ)). x.number) p.after_is)
+    (ap (λ (x : PostView (Vec ℕ)). bytes_of x.put ++ to_send) p.after_is
+    ∙ (ap (λ (x : List ℕ). x ++ to_send) (bytes_append v.post.put p.pieces)
+    ∙ (append_assoc (bytes_of v.post.put) (bytes_of p.pieces) to_send
     ∙ ap (λ (x : List ℕ). bytes_of v.post.put ++ x) p.whole)))
 
 pub goes_put : (most : ℕ) (a b : PostView (Vec ℕ)) (bytes rest : List ℕ) → PutSome most a b bytes rest → b.line ≡ a.line
 goes_put most a b bytes rest p = ap (λ (x : PostView (Vec ℕ)). x.line) p.after_is
 
 -- no memory for the next piece
-pub kept_short : (v : SideView) (post : PostView (Vec ℕ)) (outbox : List ℕ) (most : ℕ) → Ran v → is_some v.stop ≡ false → PutSome most v.post post v.outbox outbox
-    → Ran (record { take = v.take; post = post; desk = v.desk; outbox = outbox; keyboard_left = v.keyboard_left; mouse_left = v.mouse_left; exit_put = v.exit_put; stop = Some stop.Memory })
-kept_short v post outbox most r running p =
-    let w : SideView = record { take = v.take; post = post; desk = v.desk; outbox = outbox; keyboard_left = v.keyboard_left; mouse_left = v.mouse_left; exit_put = v.exit_put; stop = v.stop } in
-    kept_stop w v.desk stop.Memory (kept_pieces v post outbox most r p) running refl (inl refl)
+pub kept_short : (v : SideView) (post : PostView (Vec ℕ)) (to_send : List ℕ) (most : ℕ) → Ran v → is_some v.stop ≡ false → PutSome most v.post post v.to_send to_send
+    → Ran (record { take = v.take; post = post; logged = v.logged; to_send = to_send; keyboard_left = v.keyboard_left; mouse_left = v.mouse_left; exit_put = v.exit_put; stop = Some stop.Memory })
+kept_short v post to_send most r running p =
+    let w : SideView = record { take = v.take; post = post; logged = v.logged; to_send = to_send; keyboard_left = v.keyboard_left; mouse_left = v.mouse_left; exit_put = v.exit_put; stop = v.stop } in
+    kept_stop w v.logged stop.Memory (kept_pieces v post to_send most r p) running refl (inl refl)
 
 pub kept_closed : (v : SideView) (post : PostView (Vec ℕ)) (b : Bool) → Ran v → MatchBool b (post ≡ closed_post v.post) ((post ≡ v.post) × (v.post.closed ≡ false) × WasFull v.post)
-    → Ran (record { take = v.take; post = post; desk = v.desk; outbox = v.outbox; keyboard_left = v.keyboard_left; mouse_left = v.mouse_left; exit_put = v.exit_put; stop = v.stop })
+    → Ran (record { take = v.take; post = post; logged = v.logged; to_send = v.to_send; keyboard_left = v.keyboard_left; mouse_left = v.mouse_left; exit_put = v.exit_put; stop = v.stop })
 kept_closed v post true r e =
-    kept_put v post v.outbox r (ap (λ (x : PostView (Vec ℕ)). x.number) e) (ap (λ (x : PostView (Vec ℕ)). bytes_of x.put ++ v.outbox) e)
+    kept_put v post v.to_send r (ap (λ (x : PostView (Vec ℕ)). x.number) e) (ap (λ (x : PostView (Vec ℕ)). bytes_of x.put ++ v.to_send) e)
 kept_closed v post false r e =
-    kept_put v post v.outbox r (ap (λ (x : PostView (Vec ℕ)). x.number) e.0) (ap (λ (x : PostView (Vec ℕ)). bytes_of x.put ++ v.outbox) e.0)
+    kept_put v post v.to_send r (ap (λ (x : PostView (Vec ℕ)). x.number) e.0) (ap (λ (x : PostView (Vec ℕ)). bytes_of x.put ++ v.to_send) e.0)
 
 -- ## From one moment to another
 
@@ -290,14 +299,14 @@ done_quiet v q ended =
       sent = λ _. q.sent;
       exited = λ _. q.exited;
       none_held = λ _. q.none_held;
-      none_unsent = λ _. none_in v.desk.term.unsent q.none_unsent;
+      none_unsent = λ _. none_in v.logged.term.unsent q.none_unsent;
     }
 
-pub kept_new : (line : TakeView Input) (post : PostView (Vec ℕ)) (t : PlainTerminal) (desk : DeskView) (outbox : List ℕ) (why : Option Stop)
+pub kept_new : (line : TakeView Input) (post : PostView (Vec ℕ)) (t : PlainTerminal) (logged : LoggedView) (to_send : List ℕ) (why : Option Stop)
     → line ≡ new_take line.line → line.line.senders ≡ 3 → post ≡ new_post post.line 0 → t ≡ new_terminal
-    → desk ≡ record { term = t; log = [] } → outbox ≡ [] → (why ≡ None) ⊎ (why ≡ Some stop.Gate)
-    → Ran (record { take = line; post = post; desk = desk; outbox = outbox; keyboard_left = false; mouse_left = false; exit_put = false; stop = why })
-kept_new line post t desk outbox why fresh three first new laid empty is =
+    → logged ≡ record { term = t; log = [] } → to_send ≡ [] → (why ≡ None) ⊎ (why ≡ Some stop.Gate)
+    → Ran (record { take = line; post = post; logged = logged; to_send = to_send; keyboard_left = false; mouse_left = false; exit_put = false; stop = why })
+kept_new line post t logged to_send why fresh three first new laid empty is =
     record {
       handled = [];
       dropped = [];
@@ -307,14 +316,14 @@ kept_new line post t desk outbox why fresh three first new laid empty is =
       number = ap (λ (x : PostView (Vec ℕ)). x.number) first;
       senders = three;
       took = ap (λ (x : TakeView Input). x.taken) fresh;
-      runs = subst (λ (x : DeskView). TermRuns sides new_terminal x.log [] [] x.term) (sym laid) (refl, refl, new);
-      users = ap (λ (x : DeskView). logged_users x.log) laid;
+      runs = subst (λ (x : LoggedView). TermRuns sides new_terminal x.log [] [] x.term) (sym laid) (refl, refl, new);
+      users = ap (λ (x : LoggedView). logged_users x.log) laid;
       own_is = refl;
       all_left = λ is. absurd (cc);
       keyboard = λ is. absurd (cc);
       mouse = λ is. absurd (cc);
       fit = tt;
-      sent = ap (λ (x : PostView (Vec ℕ)). bytes_of x.put ++ (outbox ++ [])) first ∙ ap (λ (x : List ℕ). x ++ []) empty;
+      sent = ap (λ (x : PostView (Vec ℕ)). bytes_of x.put ++ (to_send ++ [])) first ∙ ap (λ (x : List ℕ). x ++ []) empty;
       so_far = so_far why is;
       gone = λ gone. absurd (not_gone why is gone);
     }
@@ -323,9 +332,9 @@ kept_new line post t desk outbox why fresh three first new laid empty is =
     not_gone o (inl e) gone = cc
     not_gone o (inr e) gone = let other : stop.Gate ≡ stop.PeerGone = cc in cc
 
-    so_far : (o : Option Stop) → (o ≡ None) ⊎ (o ≡ Some stop.Gate) → SoFar desk.term [] [] o
-    so_far o (inl e) = subst (λ (x : Option Stop). SoFar desk.term [] [] x) (sym e) (refl, refl)
-    so_far o (inr e) = subst (λ (x : Option Stop). SoFar desk.term [] [] x) (sym e) tt
+    so_far : (o : Option Stop) → (o ≡ None) ⊎ (o ≡ Some stop.Gate) → SoFar logged.term [] [] o
+    so_far o (inl e) = subst (λ (x : Option Stop). SoFar logged.term [] [] x) (sym e) (refl, refl)
+    so_far o (inr e) = subst (λ (x : Option Stop). SoFar logged.term [] [] x) (sym e) tt
 
 -- what a side rests on that puts a piece
 pub ruleset pieces_kept = (kept_pieces, kept_short, goes_put)

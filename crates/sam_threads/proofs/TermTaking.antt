@@ -14,7 +14,7 @@ use Rattle.sam_term.specs.declared.event.UserEvent.TheVariants.{Exit}
 use Rattle.sam_world.specs.Logs.{logged_users}
 use Rattle.sam_world.specs.Sides.{Each, TermRuns}
 use Rattle.sam_world.proofs.Settles.{each_append}
-use Rattle.sam_queue.specs.declared.port.Entry.{Entry}
+use Rattle.sam_queue.specs.declared.rule.Entry.{Entry}
 use Rattle.sam_queue.specs.History.{loads, has_mark, has_left}
 use Rattle.sam_queue.specs.Views.{LineView, TakeView, PostView, TakesNext, Answers, new_take, new_post}
 use Rattle.sam_queue.specs.declared.take.Got.{Got}
@@ -22,8 +22,8 @@ use Rattle.sam_queue.specs.declared.take.Got.TheVariants as got
 use Rattle.sam_queue.proofs.Histories.{loads-append}
 use Rattle.sam_threads.specs.RealSides.{sides}
 use Rattle.sam_threads.specs.Inputs.{bytes_of, frames_in, users_in, frame_of_load, user_of_load}
-use Rattle.sam_threads.specs.Told.{IsForeign, RefusesFrame}
-use Rattle.sam_threads.specs.TermMoments.{DeskView, Did, SideView, SoFar, Ran, IsOfUser, WasNotHandled}
+use Rattle.sam_threads.specs.WorkerEnds.{IsForeign, RefusesFrame}
+use Rattle.sam_threads.specs.TermMoments.{LoggedView, Did, SideView, SoFar, Ran, IsOfUser, WasNotHandled}
 use Rattle.sam_threads.specs.declared.input.Input.{Input}
 use Rattle.sam_threads.specs.declared.input.Input.TheVariants.{User, Host}
 use Rattle.sam_threads.specs.declared.stop.Stop.{Stop}
@@ -94,16 +94,16 @@ own_behind v r e unmarked all (inr low) = go v.exit_put refl
         ∙ (sym (append-nil (users_in r.handled ++ user_of_load e.load))
         ∙ ap (λ (x : List UserEvent). (users_in r.handled ++ user_of_load e.load) ++ x) (sym none)))
 
-kept_entry : (v : SideView) (line : TakeView Input) (e : Entry Input) (desk : DeskView) (outbox : List ℕ) (k m : Bool) (why : Option Stop) (ms : List Tmesg) (lost : List ℕ)
+kept_entry : (v : SideView) (line : TakeView Input) (e : Entry Input) (logged : LoggedView) (to_send : List ℕ) (k m : Bool) (why : Option Stop) (ms : List Tmesg) (lost : List ℕ)
     → Ran v → v.stop ≡ None → TakesNext v.take e line
-    → Did v.desk desk (user_of_load e.load) (frame_of_load e.load) ms → IsOfUser e.sender (user_of_load e.load) → Each (FitsT 2) ms
-    → outbox ++ lost ≡ v.outbox ++ stream_of terminal ms → SoFar desk.term [] lost why
+    → Did v.logged logged (user_of_load e.load) (frame_of_load e.load) ms → IsOfUser e.sender (user_of_load e.load) → Each (FitsT 2) ms
+    → to_send ++ lost ≡ v.to_send ++ stream_of terminal ms → SoFar logged.term [] lost why
     → (v.keyboard_left ≡ true → k ≡ true) → (v.mouse_left ≡ true → m ≡ true)
     → (k ≡ true → (v.keyboard_left ≡ true) ⊎ (e ≡ record { sender = 0; load = None }))
     → (m ≡ true → (v.mouse_left ≡ true) ⊎ (e ≡ record { sender = 1; load = None }))
     → (why ≡ Some stop.PeerGone → e ≡ record { sender = 2; load = None })
-    → Ran (record { take = line; post = v.post; desk = desk; outbox = outbox; keyboard_left = k; mouse_left = m; exit_put = v.exit_put; stop = why })
-kept_entry v line e desk outbox k m why ms lost r running next d of_user fit grown so_far keeps_k keeps_m new_k new_m gone =
+    → Ran (record { take = line; post = v.post; logged = logged; to_send = to_send; keyboard_left = k; mouse_left = m; exit_put = v.exit_put; stop = why })
+kept_entry v line e logged to_send k m why ms lost r running next d of_user fit grown so_far keeps_k keeps_m new_k new_m gone =
     let none = whole v r running in
     let all = all_handled v r running in
     let frames : frames_in r.handled ++ frame_of_load e.load ≡ frames_in (r.handled ++ e ∷ []) =
@@ -119,9 +119,9 @@ kept_entry v line e desk outbox k m why ms lost r running next d of_user fit gro
       number = r.number;
       senders = ap (λ (x : LineView). x.senders) next.line ∙ r.senders;
       took = next.taken ∙ (ap (λ (x : List (Entry Input)). x ++ e ∷ []) all ∙ sym (append-nil (r.handled ++ e ∷ [])));
-      runs = subst (λ (x : List HFrame). TermRuns sides new_terminal desk.log x (r.composed ++ ms) desk.term) frames
-          (runs_on v desk (user_of_load e.load) (frame_of_load e.load) ms r d);
-      users = users_on v desk (user_of_load e.load) (frame_of_load e.load) ms r d
+      runs = subst (λ (x : List HFrame). TermRuns sides new_terminal logged.log x (r.composed ++ ms) logged.term) frames
+          (runs_on v logged (user_of_load e.load) (frame_of_load e.load) ms r d);
+      users = users_on v logged (user_of_load e.load) (frame_of_load e.load) ms r d
           ∙ (own_behind v r e next.unmarked all of_user ∙ ap (λ (x : List UserEvent). x ++ r.own) users);
       own_is = r.own_is;
       all_left = λ put. (keeps_k ((r.all_left put).0), keeps_m ((r.all_left put).1));
@@ -134,78 +134,88 @@ kept_entry v line e desk outbox k m why ms lost r running next d of_user fit gro
         | inr now ↦ subst (λ (x : Entry Input). has_left 1 (r.handled ++ x ∷ []) ≡ true) (sym now) (left_now_1 r.handled)
       ];
       fit = each_append (FitsT 2) r.composed ms r.fit fit;
-      sent = sent_on (bytes_of v.post.put) v.outbox r.lost outbox lost r.composed ms r.sent none.1 grown;
+      sent = sent_on (bytes_of v.post.put) v.to_send r.lost to_send lost r.composed ms r.sent none.1 grown;
       so_far = so_far;
       gone = λ is. subst (λ (x : Entry Input). has_left 2 (r.handled ++ x ∷ []) ≡ true) (sym (gone is)) (left_now_2 r.handled);
     }
 
 -- an item was handled, and its messages were encoded
-pub kept_item : (v : SideView) (line : TakeView Input) (sender : ℕ) (input : Input) (desk : DeskView) (outbox : List ℕ) (ms : List Tmesg)
+pub kept_item : (v : SideView) (line : TakeView Input) (sender : ℕ) (input : Input) (logged : LoggedView) (to_send : List ℕ) (ms : List Tmesg)
     → Ran v → is_some v.stop ≡ false → TakesNext v.take (record { sender = sender; load = Some input }) line
-    → Did v.desk desk (user_of_load (Some input)) (frame_of_load (Some input)) ms → IsOfUser sender (user_of_load (Some input)) → Each (FitsT 2) ms
-    → outbox ≡ v.outbox ++ stream_of terminal ms
-    → Ran (record { take = line; post = v.post; desk = desk; outbox = outbox; keyboard_left = v.keyboard_left; mouse_left = v.mouse_left; exit_put = v.exit_put; stop = v.stop })
-kept_item v line sender input desk outbox ms r running next d of_user fit grown =
+    → Did v.logged logged (user_of_load (Some input)) (frame_of_load (Some input)) ms → IsOfUser sender (user_of_load (Some input)) → Each (FitsT 2) ms
+    → to_send ≡ v.to_send ++ stream_of terminal ms
+    → Ran (record { take = line; post = v.post; logged = logged; to_send = to_send; keyboard_left = v.keyboard_left; mouse_left = v.mouse_left; exit_put = v.exit_put; stop = v.stop })
+kept_item v line sender input logged to_send ms r running next d of_user fit grown =
     subst
-    (λ (x : Option Stop). Ran (record { take = line; post = v.post; desk = desk; outbox = outbox; keyboard_left = v.keyboard_left; mouse_left = v.mouse_left; exit_put = v.exit_put; stop = x }))
+    (λ (x : Option Stop). Ran (record { take = line; post = v.post; logged = logged; to_send = to_send; keyboard_left = v.keyboard_left; mouse_left = v.mouse_left; exit_put = v.exit_put; stop = x }))
     (sym (none_of v.stop running))
-    (kept_entry v line (record { sender = sender; load = Some input }) desk outbox v.keyboard_left v.mouse_left None ms [] r (none_of v.stop running) next d of_user fit
-    (append-nil outbox ∙ grown) (refl, refl) (λ is. is) (λ is. is) (λ is. inl is) (λ is. inl is) (λ is. absurd (cc)))
+    (kept_entry v line (record { sender = sender; load = Some input }) logged to_send v.keyboard_left v.mouse_left None ms [] r (none_of v.stop running) next d of_user fit
+    (append-nil to_send ∙ grown) (refl, refl) (λ is. is) (λ is. is) (λ is. inl is) (λ is. inl is) (λ is. absurd (cc)))
 
 -- an item was handled, and its messages could not be encoded
-pub kept_lost_item : (v : SideView) (line : TakeView Input) (sender : ℕ) (input : Input) (desk : DeskView) (outbox : List ℕ) (ms : List Tmesg)
+pub kept_lost_item : (v : SideView) (line : TakeView Input) (sender : ℕ) (input : Input) (logged : LoggedView) (to_send : List ℕ) (ms : List Tmesg)
     → Ran v → is_some v.stop ≡ false → TakesNext v.take (record { sender = sender; load = Some input }) line
-    → Did v.desk desk (user_of_load (Some input)) (frame_of_load (Some input)) ms → IsOfUser sender (user_of_load (Some input)) → Each (FitsT 2) ms
-    → outbox ≡ v.outbox
-    → Ran (record { take = line; post = v.post; desk = desk; outbox = outbox; keyboard_left = v.keyboard_left; mouse_left = v.mouse_left; exit_put = v.exit_put; stop = Some stop.Memory })
-kept_lost_item v line sender input desk outbox ms r running next d of_user fit same =
-    kept_entry v line (record { sender = sender; load = Some input }) desk outbox v.keyboard_left v.mouse_left (Some stop.Memory) ms (stream_of terminal ms) r (none_of v.stop running) next d of_user
+    → Did v.logged logged (user_of_load (Some input)) (frame_of_load (Some input)) ms → IsOfUser sender (user_of_load (Some input)) → Each (FitsT 2) ms
+    → to_send ≡ v.to_send
+    → Ran (record { take = line; post = v.post; logged = logged; to_send = to_send; keyboard_left = v.keyboard_left; mouse_left = v.mouse_left; exit_put = v.exit_put; stop = Some stop.Memory })
+kept_lost_item v line sender input logged to_send ms r running next d of_user fit same =
+    kept_entry v line (record { sender = sender; load = Some input }) logged to_send v.keyboard_left v.mouse_left (Some stop.Memory) ms (stream_of terminal ms) r
+    (none_of v.stop running) next d of_user
     fit (ap (λ (x : List ℕ). x ++ stream_of terminal ms) same) tt (λ is. is) (λ is. is) (λ is. inl is) (λ is. inl is) (λ is. absurd (let gone : stop.Memory ≡ stop.PeerGone = cc in cc))
 
 mark_handled : (v : SideView) (line : TakeView Input) (e : Entry Input) (k m : Bool) (why : Option Stop) → Ran v → v.stop ≡ None → TakesNext v.take e line → e.load ≡ None
-    → SoFar v.desk.term [] [] why
+    → SoFar v.logged.term [] [] why
     → (v.keyboard_left ≡ true → k ≡ true) → (v.mouse_left ≡ true → m ≡ true)
     → (k ≡ true → (v.keyboard_left ≡ true) ⊎ (e ≡ record { sender = 0; load = None }))
     → (m ≡ true → (v.mouse_left ≡ true) ⊎ (e ≡ record { sender = 1; load = None }))
     → (why ≡ Some stop.PeerGone → e ≡ record { sender = 2; load = None })
-    → Ran (record { take = line; post = v.post; desk = v.desk; outbox = v.outbox; keyboard_left = k; mouse_left = m; exit_put = v.exit_put; stop = why })
+    → Ran (record { take = line; post = v.post; logged = v.logged; to_send = v.to_send; keyboard_left = k; mouse_left = m; exit_put = v.exit_put; stop = why })
 mark_handled v line e k m why r running next mark so_far keeps_k keeps_m new_k new_m gone =
-    let nothing : Did v.desk v.desk [] [] [] = did_nothing v.desk v.desk refl in
-    let d : Did v.desk v.desk (user_of_load e.load) (frame_of_load e.load) [] =
-    subst (λ (x : Option Input). Did v.desk v.desk (user_of_load x) (frame_of_load x) []) (sym mark) nothing in
-    kept_entry v line e v.desk v.outbox k m why [] [] r running next d (inl (ap (λ (x : Option Input). user_of_load x) mark)) tt refl so_far keeps_k keeps_m new_k new_m gone
+    let nothing : Did v.logged v.logged [] [] [] = did_nothing v.logged v.logged refl in
+    let d : Did v.logged v.logged (user_of_load e.load) (frame_of_load e.load) [] =
+    subst (λ (x : Option Input). Did v.logged v.logged (user_of_load x) (frame_of_load x) []) (sym mark) nothing in
+    kept_entry v line e v.logged v.to_send k m why [] [] r running next d (inl (ap (λ (x : Option Input). user_of_load x) mark)) tt refl so_far keeps_k keeps_m new_k new_m gone
 
 -- the keyboard, the mouse or the host reader has left
 pub kept_keyboard : (v : SideView) (line : TakeView Input) → Ran v → is_some v.stop ≡ false → TakesNext v.take (record { sender = 0; load = None }) line
-    → Ran (record { take = line; post = v.post; desk = v.desk; outbox = v.outbox; keyboard_left = true; mouse_left = v.mouse_left; exit_put = v.exit_put; stop = v.stop })
+    → Ran (record { take = line; post = v.post; logged = v.logged; to_send = v.to_send; keyboard_left = true; mouse_left = v.mouse_left; exit_put = v.exit_put; stop = v.stop })
 kept_keyboard v line r running next =
     subst
-    (λ (x : Option Stop). Ran (record { take = line; post = v.post; desk = v.desk; outbox = v.outbox; keyboard_left = true; mouse_left = v.mouse_left; exit_put = v.exit_put; stop = x }))
+    (λ (x : Option Stop). Ran (record { take = line; post = v.post; logged = v.logged; to_send = v.to_send; keyboard_left = true; mouse_left = v.mouse_left; exit_put = v.exit_put; stop = x }))
     (sym (none_of v.stop running))
     (mark_handled v line (record { sender = 0; load = None }) true v.mouse_left None r (none_of v.stop running) next refl (refl, refl)
     (λ is. refl) (λ is. is) (λ is. inr refl) (λ is. inl is) (λ is. absurd (cc)))
 
 pub kept_mouse : (v : SideView) (line : TakeView Input) → Ran v → is_some v.stop ≡ false → TakesNext v.take (record { sender = 1; load = None }) line
-    → Ran (record { take = line; post = v.post; desk = v.desk; outbox = v.outbox; keyboard_left = v.keyboard_left; mouse_left = true; exit_put = v.exit_put; stop = v.stop })
+    → Ran (record { take = line; post = v.post; logged = v.logged; to_send = v.to_send; keyboard_left = v.keyboard_left; mouse_left = true; exit_put = v.exit_put; stop = v.stop })
 kept_mouse v line r running next =
     subst
-    (λ (x : Option Stop). Ran (record { take = line; post = v.post; desk = v.desk; outbox = v.outbox; keyboard_left = v.keyboard_left; mouse_left = true; exit_put = v.exit_put; stop = x }))
+    (λ (x : Option Stop). Ran (record { take = line; post = v.post; logged = v.logged; to_send = v.to_send; keyboard_left = v.keyboard_left; mouse_left = true; exit_put = v.exit_put; stop = x }))
     (sym (none_of v.stop running))
     (mark_handled v line (record { sender = 1; load = None }) v.keyboard_left true None r (none_of v.stop running) next refl (refl, refl)
     (λ is. is) (λ is. refl) (λ is. inl is) (λ is. inr refl) (λ is. absurd (cc)))
 
 pub kept_reader : (v : SideView) (line : TakeView Input) (sender : ℕ) → Ran v → is_some v.stop ≡ false → TakesNext v.take (record { sender = sender; load = None }) line
-    → Ran (record { take = line; post = v.post; desk = v.desk; outbox = v.outbox; keyboard_left = v.keyboard_left; mouse_left = v.mouse_left; exit_put = v.exit_put; stop = v.stop })
+    → Ran (record { take = line; post = v.post; logged = v.logged; to_send = v.to_send; keyboard_left = v.keyboard_left; mouse_left = v.mouse_left; exit_put = v.exit_put; stop = v.stop })
 kept_reader v line sender r running next =
     subst
-    (λ (x : Option Stop). Ran (record { take = line; post = v.post; desk = v.desk; outbox = v.outbox; keyboard_left = v.keyboard_left; mouse_left = v.mouse_left; exit_put = v.exit_put; stop = x }))
+    (λ (x : Option Stop). Ran (record {
+      take = line;
+      post = v.post;
+      logged = v.logged;
+      to_send = v.to_send;
+      keyboard_left = v.keyboard_left;
+      mouse_left = v.mouse_left;
+      exit_put = v.exit_put;
+      stop = x;
+    }))
     (sym (none_of v.stop running))
     (mark_handled v line (record { sender = sender; load = None }) v.keyboard_left v.mouse_left None r (none_of v.stop running) next refl (refl, refl)
     (λ is. is) (λ is. is) (λ is. inl is) (λ is. inl is) (λ is. absurd (cc)))
 
 pub kept_gone : (v : SideView) (line : TakeView Input) (sender : ℕ) → Ran v → is_some v.stop ≡ false → TakesNext v.take (record { sender = sender; load = None }) line
-    → sender ≢ 0 → sender ≢ 1 → v.desk.term.has_exited ≡ false
-    → Ran (record { take = line; post = v.post; desk = v.desk; outbox = v.outbox; keyboard_left = v.keyboard_left; mouse_left = v.mouse_left; exit_put = v.exit_put; stop = Some stop.PeerGone })
+    → sender ≢ 0 → sender ≢ 1 → v.logged.term.has_exited ≡ false
+    → Ran (record { take = line; post = v.post; logged = v.logged; to_send = v.to_send; keyboard_left = v.keyboard_left; mouse_left = v.mouse_left; exit_put = v.exit_put; stop = Some stop.PeerGone })
 kept_gone v line sender r running next not_zero not_one open_still =
     let few = next.sender in
     let three = r.senders in
@@ -216,8 +226,8 @@ kept_gone v line sender r running next not_zero not_one open_still =
 -- ## An entry that is dropped
 
 pub kept_dropped : (v : SideView) (line : TakeView Input) (e : Entry Input) (why : Stop) → Ran v → is_some v.stop ≡ false → TakesNext v.take e line
-    → SoFar v.desk.term (e ∷ []) [] (Some why) → (why ≡ stop.PeerGone → ⊥)
-    → Ran (record { take = line; post = v.post; desk = v.desk; outbox = v.outbox; keyboard_left = v.keyboard_left; mouse_left = v.mouse_left; exit_put = v.exit_put; stop = Some why })
+    → SoFar v.logged.term (e ∷ []) [] (Some why) → (why ≡ stop.PeerGone → ⊥)
+    → Ran (record { take = line; post = v.post; logged = v.logged; to_send = v.to_send; keyboard_left = v.keyboard_left; mouse_left = v.mouse_left; exit_put = v.exit_put; stop = Some why })
 kept_dropped v line e why r running next so_far here =
     let none = whole v r (none_of v.stop running) in
     record {
@@ -236,7 +246,7 @@ kept_dropped v line e why r running next so_far here =
       keyboard = r.keyboard;
       mouse = r.mouse;
       fit = r.fit;
-      sent = ap (λ (x : List ℕ). bytes_of v.post.put ++ (v.outbox ++ x)) (sym none.1) ∙ r.sent;
+      sent = ap (λ (x : List ℕ). bytes_of v.post.put ++ (v.to_send ++ x)) (sym none.1) ∙ r.sent;
       so_far = so_far;
       gone = λ is. absurd (here (same_Some why stop.PeerGone is));
     }
@@ -253,14 +263,14 @@ still_there : (t : PlainTerminal) (sender : ℕ) (input : Input) (why : Stop) �
 still_there t sender input why w is = subst (λ (x : Stop). WasNotHandled t sender input x) is w
 
 pub kept_refused : (v : SideView) (line : TakeView Input) (sender : ℕ) (input : Input) (why : Stop) → Ran v → is_some v.stop ≡ false
-    → TakesNext v.take (record { sender = sender; load = Some input }) line → WasNotHandled v.desk.term sender input why
-    → Ran (record { take = line; post = v.post; desk = v.desk; outbox = v.outbox; keyboard_left = v.keyboard_left; mouse_left = v.mouse_left; exit_put = v.exit_put; stop = Some why })
+    → TakesNext v.take (record { sender = sender; load = Some input }) line → WasNotHandled v.logged.term sender input why
+    → Ran (record { take = line; post = v.post; logged = v.logged; to_send = v.to_send; keyboard_left = v.keyboard_left; mouse_left = v.mouse_left; exit_put = v.exit_put; stop = Some why })
 kept_refused v line sender input why r running next w =
-    kept_dropped v line (record { sender = sender; load = Some input }) why r running next (not_handled v.desk.term sender input why w) (still_there v.desk.term sender input why w)
+    kept_dropped v line (record { sender = sender; load = Some input }) why r running next (not_handled v.logged.term sender input why w) (still_there v.logged.term sender input why w)
 
 pub kept_gated : (v : SideView) (line : TakeView Input) (sender : ℕ) (input : Input) → Ran v → is_some v.stop ≡ false
     → TakesNext v.take (record { sender = sender; load = Some input }) line
-    → Ran (record { take = line; post = v.post; desk = v.desk; outbox = v.outbox; keyboard_left = v.keyboard_left; mouse_left = v.mouse_left; exit_put = v.exit_put; stop = Some stop.Gate })
+    → Ran (record { take = line; post = v.post; logged = v.logged; to_send = v.to_send; keyboard_left = v.keyboard_left; mouse_left = v.mouse_left; exit_put = v.exit_put; stop = Some stop.Gate })
 kept_gated v line sender input r running next = kept_dropped v line (record { sender = sender; load = Some input }) stop.Gate r running next tt (λ is. cc)
 
 more_dropped : (dropped one : List (Entry Input)) (x : Entry Input) (more : List (Entry Input)) → dropped ≡ x ∷ more → dropped ++ one ≡ x ∷ (more ++ one)
@@ -282,7 +292,7 @@ any_stop t dropped one lost (Some why) stopped s = so_far_on t dropped one lost 
 
 -- what comes after a stop is dropped
 pub kept_dropping : (v : SideView) (line : TakeView Input) (e : Entry Input) → Ran v → is_some v.stop ≡ true → TakesNext v.take e line
-    → Ran (record { take = line; post = v.post; desk = v.desk; outbox = v.outbox; keyboard_left = v.keyboard_left; mouse_left = v.mouse_left; exit_put = v.exit_put; stop = v.stop })
+    → Ran (record { take = line; post = v.post; logged = v.logged; to_send = v.to_send; keyboard_left = v.keyboard_left; mouse_left = v.mouse_left; exit_put = v.exit_put; stop = v.stop })
 kept_dropping v line e r stopped next =
     record {
       handled = r.handled;
@@ -301,19 +311,19 @@ kept_dropping v line e r stopped next =
       mouse = r.mouse;
       fit = r.fit;
       sent = r.sent;
-      so_far = any_stop v.desk.term r.dropped (e ∷ []) r.lost v.stop stopped r.so_far;
+      so_far = any_stop v.logged.term r.dropped (e ∷ []) r.lost v.stop stopped r.so_far;
       gone = r.gone;
     }
 
 pub still : (v : SideView) (line : TakeView Input) → Ran v → line ≡ v.take
-    → Ran (record { take = line; post = v.post; desk = v.desk; outbox = v.outbox; keyboard_left = v.keyboard_left; mouse_left = v.mouse_left; exit_put = v.exit_put; stop = v.stop })
+    → Ran (record { take = line; post = v.post; logged = v.logged; to_send = v.to_send; keyboard_left = v.keyboard_left; mouse_left = v.mouse_left; exit_put = v.exit_put; stop = v.stop })
 still v line r same =
     subst
     (λ (x : TakeView Input). Ran (record {
       take = x;
       post = v.post;
-      desk = v.desk;
-      outbox = v.outbox;
+      logged = v.logged;
+      to_send = v.to_send;
       keyboard_left = v.keyboard_left;
       mouse_left = v.mouse_left;
       exit_put = v.exit_put;
@@ -323,7 +333,7 @@ still v line r same =
 
 -- whatever the line answers after a stop
 pub kept_answer : (v : SideView) (line : TakeView Input) (g : Got Input) → Ran v → is_some v.stop ≡ true → Answers v.take g line
-    → Ran (record { take = line; post = v.post; desk = v.desk; outbox = v.outbox; keyboard_left = v.keyboard_left; mouse_left = v.mouse_left; exit_put = v.exit_put; stop = v.stop })
+    → Ran (record { take = line; post = v.post; logged = v.logged; to_send = v.to_send; keyboard_left = v.keyboard_left; mouse_left = v.mouse_left; exit_put = v.exit_put; stop = v.stop })
 kept_answer v line (got.Item i m) r stopped a = kept_dropping v line (record { sender = i; load = Some m }) r stopped a
 kept_answer v line (got.Left i) r stopped a = kept_dropping v line (record { sender = i; load = None }) r stopped a
 kept_answer v line got.Ended r stopped a = still v line r a.0

@@ -7,13 +7,13 @@ use Rattle.sam_term.specs.declared.event.UserEvent.TheVariants.{Exit}
 use Rattle.sam_world.specs.declared.event.TermLog.{TermLog}
 use Rattle.sam_world.specs.Logs.{logged_users}
 use Rattle.sam_world.specs.Sides.{TermRuns}
-use Rattle.sam_queue.specs.declared.port.Entry.{Entry}
+use Rattle.sam_queue.specs.declared.rule.Entry.{Entry}
 use Rattle.sam_queue.specs.History.{IsEnded, has_left}
 use Rattle.sam_queue.specs.Views.{TakeView}
 use Rattle.sam_threads.specs.RealSides.{sides}
 use Rattle.sam_threads.specs.Inputs.{frames_in, users_in}
-use Rattle.sam_threads.specs.Told.{TermTold, TermStopped, IsOwnExit}
-use Rattle.sam_threads.specs.TermMoments.{DeskView, SideView, SoFar, Ran, IsDone}
+use Rattle.sam_threads.specs.WorkerEnds.{TermTold, TermStopped, IsOwnExit}
+use Rattle.sam_threads.specs.TermMoments.{LoggedView, SideView, SoFar, Ran, IsDone}
 use Rattle.sam_threads.specs.declared.ends.TermEnd.{TermEnd}
 use Rattle.sam_threads.specs.declared.input.Input.{Input}
 use Rattle.sam_threads.specs.declared.stop.Stop.{Stop}
@@ -28,11 +28,11 @@ exits v r false is = inl (r.own_is ∙ ap (λ (x : Bool). if x then Exit ∷ [] 
 empty_both : (xs ys : List ℕ) → xs ≡ [] → ys ≡ [] → xs ++ ys ≡ []
 empty_both xs ys e f = ap (λ (x : List ℕ). x ++ ys) e ∙ f
 
-stopped : (v : SideView) (e : TermEnd) (handled dropped : List (Entry Input)) (lost : List ℕ) (o : Option Stop) → e.take ≡ v.take → e.term ≡ v.desk.term → IsDone v → v.stop ≡ o
-    → SoFar v.desk.term dropped lost o → (v.stop ≡ Some stop.PeerGone → has_left 2 handled ≡ true) → TermStopped e handled dropped (v.outbox ++ lost) o
+stopped : (v : SideView) (e : TermEnd) (handled dropped : List (Entry Input)) (lost : List ℕ) (o : Option Stop) → e.take ≡ v.take → e.term ≡ v.logged.term → IsDone v → v.stop ≡ o
+    → SoFar v.logged.term dropped lost o → (v.stop ≡ Some stop.PeerGone → has_left 2 handled ≡ true) → TermStopped e handled dropped (v.to_send ++ lost) o
 stopped v e handled dropped lost None take term d is s gone = (
   s.0,
-  empty_both v.outbox lost (d.sent is) s.1,
+  empty_both v.to_send lost (d.sent is) s.1,
   subst (λ (x : PlainTerminal). x.has_exited ≡ true) (sym term) (d.exited is),
   subst (λ (x : PlainTerminal). x.held ≡ []) (sym term) (d.none_held is),
   subst (λ (x : PlainTerminal). x.unsent ≡ None) (sym term) (d.none_unsent is),
@@ -45,7 +45,7 @@ stopped v e handled dropped lost (Some stop.PeerGone) take term d is s gone = (s
 stopped v e handled dropped lost (Some stop.Gate) take term d is s gone = tt
 stopped v e handled dropped lost (Some stop.Memory) take term d is s gone = tt
 
-pub told : (v : SideView) (term : PlainTerminal) (log : Vec TermLog) (passed : Bool) → Ran v → IsDone v → record { term = term; log = log.items } ≡ v.desk
+pub told : (v : SideView) (term : PlainTerminal) (log : Vec TermLog) (passed : Bool) → Ran v → IsDone v → record { term = term; log = log.items } ≡ v.logged
     → TermTold v.take.line v.post.line (record { take = v.take; post = v.post; term = term; log = log; passed = passed; stop = v.stop })
 told v term log passed r d same =
     let e : TermEnd = record { take = v.take; post = v.post; term = term; log = log; passed = passed; stop = v.stop } in
@@ -53,18 +53,18 @@ told v term log passed r d same =
       handled = r.handled;
       dropped = r.dropped;
       composed = r.composed;
-      outbox = v.outbox ++ r.lost;
+      to_send = v.to_send ++ r.lost;
       own = r.own;
       take_is = refl;
       post_is = refl;
       number_is = r.number;
       drained = d.ended;
       took = r.took;
-      runs = subst (λ (x : DeskView). TermRuns sides new_terminal x.log (frames_in r.handled) r.composed x.term) (sym same) r.runs;
-      users = ap (λ (x : DeskView). logged_users x.log) same ∙ r.users;
+      runs = subst (λ (x : LoggedView). TermRuns sides new_terminal x.log (frames_in r.handled) r.composed x.term) (sym same) r.runs;
+      users = ap (λ (x : LoggedView). logged_users x.log) same ∙ r.users;
       exits = exits v r v.exit_put refl;
       fit = r.fit;
       sent = r.sent;
       closed = d.closed;
-      stopped = stopped v e r.handled r.dropped r.lost v.stop refl (ap (λ (x : DeskView). x.term) same) d refl r.so_far r.gone;
+      stopped = stopped v e r.handled r.dropped r.lost v.stop refl (ap (λ (x : LoggedView). x.term) same) d refl r.so_far r.gone;
     }

@@ -10,14 +10,14 @@ use Rattle.sam_frame.specs.Framing.{Held, GaveAll}
 use Rattle.sam_host.specs.Host.{PlainHost, answer}
 use Rattle.sam_host.specs.declared.fault.HostFault.{HostFault}
 use Rattle.sam_host.specs.declared.fault.HostFault.TheVariants as refusal
-use Rattle.sam_queue.specs.declared.port.Entry.{Entry}
+use Rattle.sam_queue.specs.declared.rule.Entry.{Entry}
 use Rattle.sam_queue.specs.History.{items_of, IsEnded}
 use Rattle.sam_queue.specs.Views.{PostView}
 use Rattle.sam_world.specs.Sides.{Each, HostRuns}
 use Rattle.sam_threads.specs.RealSides.{sides}
 use Rattle.sam_threads.specs.Numbers.{refusal_number, StopsWith}
 use Rattle.sam_threads.specs.Inputs.{bytes_of}
-use Rattle.sam_threads.specs.Told.{RefusesNext}
+use Rattle.sam_threads.specs.WorkerEnds.{RefusesNext}
 use Rattle.sam_threads.specs.declared.stop.Stop.{Stop}
 use Rattle.sam_threads.specs.declared.stop.Stop.TheVariants as stop
 

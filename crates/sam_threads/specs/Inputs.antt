@@ -3,7 +3,7 @@ use Rattle.std.specs.Prelude.{ℕ, List, [], ◌∷◌, map, flat_map, Option, S
 use Rattle.std.specs.Global.{Vec}
 use Rattle.sam_mesg.specs.declared.hmesg.HFrame.{HFrame}
 use Rattle.sam_term.specs.declared.event.UserEvent.{UserEvent}
-use Rattle.sam_queue.specs.declared.port.Entry.{Entry}
+use Rattle.sam_queue.specs.declared.rule.Entry.{Entry}
 use Rattle.sam_threads.specs.declared.input.Input.{Input}
 use Rattle.sam_threads.specs.declared.input.Input.TheVariants.{User, Host}
 

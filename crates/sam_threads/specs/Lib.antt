@@ -2,8 +2,8 @@ pub mod RealSides
 pub mod Lines
 pub mod Numbers
 pub mod Inputs
-pub mod Told
-pub mod Outboxes
+pub mod WorkerEnds
+pub mod PiecesUp
 pub mod TermMoments
 pub mod Cutting
 pub mod Feeding

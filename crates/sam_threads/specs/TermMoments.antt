@@ -15,13 +15,13 @@ use Rattle.sam_term.specs.declared.fault.TermFault.TheVariants as fault
 use Rattle.sam_world.specs.declared.event.TermLog.{TermLog}
 use Rattle.sam_world.specs.Logs.{logged_users}
 use Rattle.sam_world.specs.Sides.{Each, TermRuns}
-use Rattle.sam_queue.specs.declared.port.Entry.{Entry}
+use Rattle.sam_queue.specs.declared.rule.Entry.{Entry}
 use Rattle.sam_queue.specs.History.{has_left, IsEnded}
 use Rattle.sam_queue.specs.Views.{LineView, TakeView, PostView}
 use Rattle.sam_threads.specs.RealSides.{sides}
 use Rattle.sam_threads.specs.Numbers.{fault_number}
 use Rattle.sam_threads.specs.Inputs.{bytes_of, frames_in, users_in, frame_of_load, user_of_load}
-use Rattle.sam_threads.specs.Told.{RefusesFrame, IsForeign, IsFullUp}
+use Rattle.sam_threads.specs.WorkerEnds.{RefusesFrame, IsForeign, IsFullUp}
 use Rattle.sam_threads.specs.declared.input.Input.{Input}
 use Rattle.sam_threads.specs.declared.input.Input.TheVariants.{User, Host}
 use Rattle.sam_threads.specs.declared.term_side.Found.{Found}
@@ -32,12 +32,12 @@ use Rattle.sam_threads.specs.declared.stop.Stop.{Stop}
 use Rattle.sam_threads.specs.declared.stop.Stop.TheVariants as stop
 
 -- the terminal and its log
-pub record DeskView : Type 0 where
+pub record LoggedView : Type 0 where
   pub term : PlainTerminal
   pub log : List TermLog
 
 -- from a to b the terminal went through more of its log, took these events and frames, and composed these messages
-pub record Did (a b : DeskView) (events : List UserEvent) (frames : List HFrame) (composed : List Tmesg) : Type 0 where
+pub record Did (a b : LoggedView) (events : List UserEvent) (frames : List HFrame) (composed : List Tmesg) : Type 0 where
   pub entries : List TermLog
   pub log : b.log ≡ a.log ++ entries
   pub users : logged_users entries ≡ events
@@ -71,8 +71,8 @@ WasNotHandled t sender input stop.Memory = Unit {0}
 pub record SideView : Type 0 where
   pub take : TakeView Input
   pub post : PostView (Vec ℕ)
-  pub desk : DeskView
-  pub outbox : List ℕ
+  pub logged : LoggedView
+  pub to_send : List ℕ
   pub keyboard_left : Bool
   pub mouse_left : Bool
   pub exit_put : Bool
@@ -99,15 +99,15 @@ pub record Ran (v : SideView) : Type 0 where
   pub number : v.post.number ≡ 0
   pub senders : v.take.line.senders ≡ 3
   pub took : v.take.taken ≡ handled ++ dropped
-  pub runs : TermRuns sides new_terminal v.desk.log (frames_in handled) composed v.desk.term
-  pub users : logged_users v.desk.log ≡ users_in handled ++ own
+  pub runs : TermRuns sides new_terminal v.logged.log (frames_in handled) composed v.logged.term
+  pub users : logged_users v.logged.log ≡ users_in handled ++ own
   pub own_is : own ≡ (if v.exit_put then Exit ∷ [] else [])
   pub all_left : v.exit_put ≡ true → (v.keyboard_left ≡ true) × (v.mouse_left ≡ true)
   pub keyboard : v.keyboard_left ≡ true → has_left 0 handled ≡ true
   pub mouse : v.mouse_left ≡ true → has_left 1 handled ≡ true
   pub fit : Each (FitsT 2) composed
-  pub sent : bytes_of v.post.put ++ (v.outbox ++ lost) ≡ stream_of terminal composed
-  pub so_far : SoFar v.desk.term dropped lost v.stop
+  pub sent : bytes_of v.post.put ++ (v.to_send ++ lost) ≡ stream_of terminal composed
+  pub so_far : SoFar v.logged.term dropped lost v.stop
   pub gone : v.stop ≡ Some stop.PeerGone → has_left 2 handled ≡ true
 
 -- it stays at its lines, has taken nothing more, and was not stopped by its gate
@@ -120,18 +120,18 @@ pub record Goes (a b : SideView) : Type 0 where
 pub record IsDone (v : SideView) : Type 0 where
   pub closed : v.post.closed ≡ true
   pub ended : IsEnded 3 v.take.taken
-  pub sent : v.stop ≡ None → v.outbox ≡ []
-  pub exited : v.stop ≡ None → v.desk.term.has_exited ≡ true
-  pub none_held : v.stop ≡ None → v.desk.term.held ≡ []
-  pub none_unsent : v.stop ≡ None → v.desk.term.unsent ≡ None
+  pub sent : v.stop ≡ None → v.to_send ≡ []
+  pub exited : v.stop ≡ None → v.logged.term.has_exited ≡ true
+  pub none_held : v.stop ≡ None → v.logged.term.held ≡ []
+  pub none_unsent : v.stop ≡ None → v.logged.term.unsent ≡ None
 
 abbrev pub new_side : TakeView Input → PostView (Vec ℕ) → PlainTerminal → Option Stop → SideView
 new_side line post t why =
     record {
       take = line;
       post = post;
-      desk = record { term = t; log = [] };
-      outbox = [];
+      logged = record { term = t; log = [] };
+      to_send = [];
       keyboard_left = false;
       mouse_left = false;
       exit_put = false;
@@ -145,16 +145,16 @@ IsFound v found.Ended = IsEnded 3 v.take.taken
 
 abbrev pub IsTried : SideView → Tried → Type 0
 IsTried v tried.Went = Unit {0}
-IsTried v tried.Idle = v.desk.term.held ≡ []
+IsTried v tried.Idle = v.logged.term.held ≡ []
 IsTried v tried.Locked = Unit {0}
 IsTried v tried.Stopped = Unit {0}
 
 -- the session is over, and nothing is held, unsent or not put
 pub record IsQuiet (v : SideView) : Type 0 where
-  pub exited : v.desk.term.has_exited ≡ true
-  pub none_held : v.desk.term.held ≡ []
-  pub none_unsent : is_some v.desk.term.unsent ≡ false
-  pub sent : v.outbox ≡ []
+  pub exited : v.logged.term.has_exited ≡ true
+  pub none_held : v.logged.term.held ≡ []
+  pub none_unsent : is_some v.logged.term.unsent ≡ false
+  pub sent : v.to_send ≡ []
 
 -- it is to put an Exit of its own
 pub record MayExit (v : SideView) : Type 0 where

@@ -9,14 +9,14 @@ ghost use Rattle.sam_frame.specs.Direction.{host};
 ghost use Rattle.sam_frame.specs.Stream.{stream_of};
 ghost use Rattle.sam_frame.specs.Framing.{fresh};
 ghost use Rattle.sam_host.specs.Host.{new_host};
-ghost use Rattle.sam_queue.specs.declared.port.Entry.{Entry};
+ghost use Rattle.sam_queue.specs.declared.rule.Entry.{Entry};
 ghost use Rattle.sam_queue.specs.History.{IsEnded};
 ghost use Rattle.sam_queue.specs.Views.{new_take, new_post};
 ghost use Rattle.sam_script.specs.Script.{IsFile};
 ghost use Rattle.sam_world.specs.Sides.{Each};
 ghost use Rattle.sam_threads.specs.Cutting.{Puts};
 ghost use Rattle.sam_threads.specs.Handling.{HandlesAll, StopsBefore, TakesPiece, Serves, of_refusal};
-ghost use Rattle.sam_threads.specs.Told.{HostTold};
+ghost use Rattle.sam_threads.specs.WorkerEnds.{HostTold};
 ghost use Rattle.sam_threads.specs.declared.stop.Stop.TheVariants.{Gate as GateStop};
 
 use crate::drain::drop_rest;

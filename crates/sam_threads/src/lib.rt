@@ -9,12 +9,12 @@ mod gate;
 mod host_side;
 mod input;
 mod lines;
-mod outbox;
+mod logged_terminal;
 mod pieces;
 mod reader;
 mod stop;
-mod term_desk;
 mod term_side;
+mod unsent_bytes;
 mod users;
 
 pub use ends::{Ends, HostEnd, ReaderEnd, TermEnd, UserEnd};

@@ -3,7 +3,7 @@
 ghost use Rattle.std.specs.Prelude.{◌≡◌, false, Some};
 ghost use Rattle.sam_queue.specs.Views.{new_post, new_take};
 ghost use Rattle.sam_threads.specs.Passing.{Sends, SendsBefore, PassesPiece, Passes};
-ghost use Rattle.sam_threads.specs.Told.{ReaderTold};
+ghost use Rattle.sam_threads.specs.WorkerEnds.{ReaderTold};
 
 use crate::drain::drop_rest;
 use crate::ends::ReaderEnd;

@@ -4,15 +4,15 @@ ghost use Rattle.std.specs.Prelude.{◌≡◌, ◌⊎◌, ◌<◌, [], IsTrue, S
 ghost use Rattle.sam_term.specs.Term.{new_terminal};
 ghost use Rattle.sam_queue.specs.Views.{new_take, new_post, closed_post};
 ghost use Rattle.sam_queue.specs.History.{IsEnded};
-ghost use Rattle.sam_threads.specs.Told.{TermTold};
+ghost use Rattle.sam_threads.specs.WorkerEnds.{TermTold};
 ghost use Rattle.sam_threads.specs.TermMoments.{Goes, IsDone, IsFound, IsTried, IsQuiet, MayExit, new_side};
 
 use crate::ends::TermEnd;
 use crate::gate::Gate;
 use crate::input::Input;
-use crate::outbox::Outbox;
+use crate::logged_terminal::LoggedTerminal;
 use crate::stop::Stop;
-use crate::term_desk::Desk;
+use crate::unsent_bytes::UnsentBytes;
 use sam_queue::{Backoff, Got, Post, Take};
 use sam_term::event::{Acted, UserEvent};
 use sam_term::term::Terminal;
@@ -53,9 +53,9 @@ struct Side<'q> {
     /// The worker's post to the line up.
     post: Post<'q, Vec<u8>>,
     /// The terminal, and its log from a new terminal on.
-    desk: Desk,
+    logged: LoggedTerminal,
     /// The bytes of composed messages that are not put yet.
-    outbox: Outbox,
+    to_send: UnsentBytes,
     /// How many items were handled; once at 2^64-1 it stays there.
     handled: u64,
     /// Whether the end mark of the keyboard was taken.
@@ -76,8 +76,8 @@ impl<'q> Model for Side<'q> {
     ghost view = { λ s. record {
       take = s.take;
       post = s.post;
-      desk = s.desk;
-      outbox = s.outbox.bytes;
+      logged = s.logged;
+      to_send = s.to_send.bytes;
       keyboard_left = s.keyboard_left;
       mouse_left = s.mouse_left;
       exit_put = s.exit_put;
@@ -87,8 +87,8 @@ impl<'q> Model for Side<'q> {
     ghost invariant = { λ s. Ran (record {
       take = s.take;
       post = s.post;
-      desk = s.desk;
-      outbox = s.outbox.bytes;
+      logged = s.logged;
+      to_send = s.to_send.bytes;
       keyboard_left = s.keyboard_left;
       mouse_left = s.mouse_left;
       exit_put = s.exit_put;
@@ -118,8 +118,8 @@ impl<'q> Side<'q> {
         Side {
             take,
             post,
-            desk: Desk::new(alloc, term),
-            outbox: Outbox::new(alloc, piece),
+            logged: LoggedTerminal::new(alloc, term),
+            to_send: UnsentBytes::new(alloc, piece),
             handled: 0,
             keyboard_left: false,
             mouse_left: false,
@@ -128,7 +128,7 @@ impl<'q> Side<'q> {
         }
     }
 
-    /// Tries the oldest held event, and puts what it composes into the outbox.
+    /// Tries the oldest held event, and puts what it composes behind the bytes that are to be sent.
     fn act_once(&mut self) -> Tried
         ensures goes { Goes self.old self.new }
         ensures tried { IsTried self.new result }
@@ -136,9 +136,9 @@ impl<'q> Side<'q> {
         if self.stop.is_some() {
             return Tried::Stopped;
         }
-        match self.desk.act() {
+        match self.logged.act() {
             Ok(Acted::Done(batch)) => {
-                match self.outbox.push_all(batch.as_slice()) {
+                match self.to_send.push_all(batch.as_slice()) {
                     Ok(()) => Tried::Went,
                     Err(_) => {
                         self.stop = Some(Stop::Memory);
@@ -174,11 +174,11 @@ impl<'q> Side<'q> {
     fn flush(&mut self)
         ensures { Goes self.old self.new }
     {
-        if self.stop.is_some() || !self.desk.has_unsent() {
+        if self.stop.is_some() || !self.logged.has_unsent() {
             return;
         }
-        match self.desk.flush() {
-            Ok(batch) => match self.outbox.push_all(batch.as_slice()) {
+        match self.logged.flush() {
+            Ok(batch) => match self.to_send.push_all(batch.as_slice()) {
                 Ok(()) => {}
                 Err(_) => self.stop = Some(Stop::Memory),
             },
@@ -195,7 +195,7 @@ impl<'q> Side<'q> {
             && !self.exit_put
             && self.keyboard_left
             && self.mouse_left
-            && !self.desk.exited()
+            && !self.logged.exited()
     }
 
     /// Puts an Exit of its own behind the held events, if one is to be put.
@@ -205,7 +205,7 @@ impl<'q> Side<'q> {
         if !self.may_exit() {
             return;
         }
-        match self.desk.user(UserEvent::Exit) {
+        match self.logged.user(UserEvent::Exit) {
             Ok(()) => self.exit_put = true,
             Err(stop) => self.stop = Some(stop),
         }
@@ -219,7 +219,7 @@ impl<'q> Side<'q> {
         if self.stop.is_some() {
             return false;
         }
-        let Ok(put) = self.outbox.put(rt, &mut self.post) else {
+        let Ok(put) = self.to_send.put(rt, &mut self.post) else {
             self.stop = Some(Stop::Memory);
             return false;
         };
@@ -268,7 +268,7 @@ impl<'q> Side<'q> {
                     0 => self.keyboard_left = true,
                     1 => self.mouse_left = true,
                     _ => {
-                        if !self.desk.exited() {
+                        if !self.logged.exited() {
                             self.stop = Some(Stop::PeerGone);
                         }
                     }
@@ -281,8 +281,8 @@ impl<'q> Side<'q> {
                     return Found::Entry;
                 }
                 self.handled = self.handled.saturating_add(1);
-                match self.desk.handle(sender, input) {
-                    Ok(batch) => match self.outbox.push_all(batch.as_slice()) {
+                match self.logged.handle(sender, input) {
+                    Ok(batch) => match self.to_send.push_all(batch.as_slice()) {
                         Ok(()) => {}
                         Err(_) => self.stop = Some(Stop::Memory),
                     },
@@ -320,8 +320,8 @@ impl<'q> Side<'q> {
     }
 
     /// Returns whether all that was composed is put.
-    fn has_empty_outbox(&self) -> bool {
-        self.outbox.is_empty()
+    fn has_no_unsent_bytes(&self) -> bool {
+        self.to_send.is_empty()
     }
 
     /// Stops the worker if the session is not over: everybody has left, and without the host nothing ends it any more.
@@ -330,7 +330,7 @@ impl<'q> Side<'q> {
         requires { IsEnded 3 self.old.take.taken }
         ensures { Goes self.old self.new }
     {
-        if self.stop.is_some() || self.desk.exited() {
+        if self.stop.is_some() || self.logged.exited() {
             return;
         }
         self.stop = Some(Stop::PeerGone);
@@ -342,7 +342,9 @@ impl<'q> Side<'q> {
         ensures quiet { IsTrue result → IsQuiet self.new }
     {
         match self.act_once() {
-            Tried::Idle => self.desk.exited() && !self.desk.has_unsent() && self.outbox.is_empty(),
+            Tried::Idle => self.logged.exited()
+                && !self.logged.has_unsent()
+                && self.to_send.is_empty(),
             _ => false,
         }
     }
@@ -382,7 +384,7 @@ impl<'q> Side<'q> {
         let waits = found != Found::Entry;
         self.put_exit();
         self.act_all(rt);
-        if waits && backoff.sleeps_next() && self.has_empty_outbox() {
+        if waits && backoff.sleeps_next() && self.has_no_unsent_bytes() {
             self.flush();
         }
         let put = self.put_pieces(rt);
@@ -445,19 +447,19 @@ impl<'q> Side<'q> {
         let Side {
             take,
             post,
-            desk,
-            outbox: _,
+            logged,
+            to_send: _,
             handled: _,
             keyboard_left: _,
             mouse_left: _,
             exit_put: _,
             stop,
         } = self;
-        let Desk {
+        let LoggedTerminal {
             alloc: _,
             term,
             log,
-        } = desk;
+        } = logged;
         TermEnd {
             take,
             post,
@@ -472,7 +474,7 @@ impl<'q> Side<'q> {
 /// Runs the terminal on what comes over the line of events, puts the bytes of its messages into the line up in pieces of at most `piece`
 /// bytes, and returns the worker's end. It is worker 4, the terminal. It begins with `term`, a new terminal.
 ///
-/// It never waits in a send: bytes for which the line has no room stand in an outbox. Once an entry is taken, held events act. Typed
+/// It never waits in a send: bytes for which the line has no room wait outside it. Once an entry is taken, held events act. Typed
 /// runes go up when the line of events has stayed empty for a while and nothing else is to be put, so that runes typed one after another
 /// go up together. Once keyboard and mouse have left it puts an Exit of its
 /// own behind the held events, unless the session is over.

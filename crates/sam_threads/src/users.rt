@@ -2,7 +2,7 @@
 
 ghost use Rattle.std.specs.Prelude.{◌≡◌, ℕ, ◌<◌, false, length, map, take, MatchBool, Some};
 ghost use Rattle.sam_queue.specs.Views.{new_post};
-ghost use Rattle.sam_threads.specs.Told.{UserTold};
+ghost use Rattle.sam_threads.specs.WorkerEnds.{UserTold};
 ghost use Rattle.sam_threads.specs.declared.input.Input.TheVariants.{User};
 
 use crate::ends::UserEnd;

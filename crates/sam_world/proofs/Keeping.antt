@@ -18,7 +18,7 @@ use Rattle.sam_mesg.specs.declared.tmesg.Tmesg.{Tmesg}
 use Rattle.sam_mesg.specs.declared.hmesg.HFrame.{HFrame}
 use Rattle.sam_world.specs.World.{PlainWorld, new_world, step_of, composed_by, after_act, after_compose, after_answer, host_takes, term_takes, is_quiet}
 use Rattle.sam_world.specs.UnderWay.{head}
-use Rattle.sam_world.specs.Reached.{IsKept}
+use Rattle.sam_world.specs.Reached.{IsSoundWorld}
 use Rattle.sam_world.specs.declared.event.Event.TheVariants.{User, Act, Flush, HostTake, TermTake}
 use Rattle.sam_term.proofs.Fits.{act_fits, flushed_fits, taken_fits}
 use Rattle.sam_world.proofs.Within.{reached_start, reached_step, answered_fits}
@@ -31,7 +31,7 @@ fit_rest : {X : Type 0} (P : X → Type 0) (xs : List X) → All P xs → All P 
 fit_rest P [] a = a
 fit_rest P (x ∷ xs) a = λ k d l. a (suc k) d (omega (arith, l))
 
-pub kept_start : (given : List (List ℕ × List ℕ)) → AreGiven given → IsKept (new_world given)
+pub kept_start : (given : List (List ℕ × List ℕ)) → AreGiven given → IsSoundWorld (new_world given)
 kept_start given limits =
     record {
       reached = reached_start given limits;
@@ -40,13 +40,13 @@ kept_start given limits =
     }
 
 pub kept_user : (w : PlainWorld) (e : UserEvent) (t : PlainTerminal)
-    → IsKept w → t ≡ record w.term { held = w.term.held ++ e ∷ [] } → IsKept (record { host = w.host; term = t; up = w.up; down = w.down })
+    → IsSoundWorld w → t ≡ record w.term { held = w.term.held ++ e ∷ [] } → IsSoundWorld (record { host = w.host; term = t; up = w.up; down = w.down })
 kept_user w e t k same =
-    subst (λ x. IsKept (record { host = w.host; term = x; up = w.up; down = w.down })) (sym same)
+    subst (λ x. IsSoundWorld (record { host = w.host; term = x; up = w.up; down = w.down })) (sym same)
     (record { reached = reached_step w _ (User e) k.reached refl; up = k.up; down = k.down })
 
-act_done : (w : PlainWorld) (t : PlainTerminal) (acted : Acted) → IsKept w
-    → act_of w.term ≡ Ok (t, acted) → FitUp (composed_by acted) → IsKept (record { host = w.host; term = t; up = w.up ++ composed_by acted; down = w.down })
+act_done : (w : PlainWorld) (t : PlainTerminal) (acted : Acted) → IsSoundWorld w
+    → act_of w.term ≡ Ok (t, acted) → FitUp (composed_by acted) → IsSoundWorld (record { host = w.host; term = t; up = w.up ++ composed_by acted; down = w.down })
 unfolding FitUp
 act_done w t acted k a f =
     record {
@@ -56,25 +56,25 @@ act_done w t acted k a f =
     }
 
 pub kept_done : (w : PlainWorld) (t : PlainTerminal) (ms up : List Tmesg)
-    → IsKept w → IsSound w.term → act_of w.term ≡ Ok (t, Done ms) → up ≡ w.up ++ ms → IsKept (record { host = w.host; term = t; up = up; down = w.down })
+    → IsSoundWorld w → IsSound w.term → act_of w.term ≡ Ok (t, Done ms) → up ≡ w.up ++ ms → IsSoundWorld (record { host = w.host; term = t; up = up; down = w.down })
 unfolding FitUp
 kept_done w t ms up k s a same =
-    subst (λ x. IsKept (record { host = w.host; term = t; up = x; down = w.down })) (sym same)
+    subst (λ x. IsSoundWorld (record { host = w.host; term = t; up = x; down = w.down })) (sym same)
     (act_done w t (Done ms) k a (act_fits w.term t ms s a))
 
 -- an act that composed nothing
 pub kept_silent : (w : PlainWorld) (t : PlainTerminal) (acted : Acted) (up : List Tmesg)
-    → IsKept w → act_of w.term ≡ Ok (t, acted) → composed_by acted ≡ [] → up ≡ w.up → IsKept (record { host = w.host; term = t; up = up; down = w.down })
+    → IsSoundWorld w → act_of w.term ≡ Ok (t, acted) → composed_by acted ≡ [] → up ≡ w.up → IsSoundWorld (record { host = w.host; term = t; up = up; down = w.down })
 unfolding FitUp
 kept_silent w t acted up k a none same =
     let silent : FitUp (composed_by acted) = subst FitUp (sym none) (All-nil (λ m. IsTrue (fits_t 2 m))) in
     let joined : w.up ++ composed_by acted ≡ up = ap (λ ms. w.up ++ ms) none ∙ append-nil w.up ∙ sym same in
-    subst (λ x. IsKept (record { host = w.host; term = t; up = x; down = w.down })) joined (act_done w t acted k a silent)
+    subst (λ x. IsSoundWorld (record { host = w.host; term = t; up = x; down = w.down })) joined (act_done w t acted k a silent)
 
 pub kept_flush : (w : PlainWorld) (t : PlainTerminal) (ms up : List Tmesg)
-    → IsKept w → IsSound w.term → flush_of w.term ≡ Ok (t, ms) → up ≡ w.up ++ ms → IsKept (record { host = w.host; term = t; up = up; down = w.down })
+    → IsSoundWorld w → IsSound w.term → flush_of w.term ≡ Ok (t, ms) → up ≡ w.up ++ ms → IsSoundWorld (record { host = w.host; term = t; up = up; down = w.down })
 kept_flush w t ms up k s a same =
-    subst (λ x. IsKept (record { host = w.host; term = t; up = x; down = w.down })) (sym same)
+    subst (λ x. IsSoundWorld (record { host = w.host; term = t; up = x; down = w.down })) (sym same)
     (record {
       reached = reached_step w (record { host = w.host; term = t; up = w.up ++ ms; down = w.down }) Flush k.reached (ap (λ x. after_compose w x) a);
       up = All-append (λ m. IsTrue (fits_t 2 m)) w.up ms k.up (flushed_fits w.term t ms s a);
@@ -86,26 +86,26 @@ pub first_rest : {X : Type 0} (xs : List X) (x : X) → head xs ≡ Some x → x
 first_rest [] x e = absurd (cc)
 first_rest (y ∷ xs) x e = ap (λ z. z ∷ xs) (same_Some y x e)
 
-pub kept_answer : (w : PlainWorld) (h : PlainHost) (m : Tmesg) (up : List Tmesg) (frames down : List HFrame) → IsKept w → head w.up ≡ Some m
-    → answer w.host m ≡ Ok (h, frames) → up ≡ drop 1 w.up → down ≡ w.down ++ frames → IsKept (record { host = h; term = w.term; up = up; down = down })
+pub kept_answer : (w : PlainWorld) (h : PlainHost) (m : Tmesg) (up : List Tmesg) (frames down : List HFrame) → IsSoundWorld w → head w.up ≡ Some m
+    → answer w.host m ≡ Ok (h, frames) → up ≡ drop 1 w.up → down ≡ w.down ++ frames → IsSoundWorld (record { host = h; term = w.term; up = up; down = down })
 kept_answer w h m up frames down k first a rest joined =
     let goes : step_of w HostTake ≡ Some (record { host = h; term = w.term; up = drop 1 w.up; down = w.down ++ frames }) =
     ap (λ ms. host_takes w ms) (first_rest w.up m first) ∙ ap (λ x. after_answer (record w { up = drop 1 w.up }) x) a in
-    subst (λ x. IsKept (record { host = h; term = w.term; up = x; down = down })) (sym rest)
-    (subst (λ x. IsKept (record { host = h; term = w.term; up = drop 1 w.up; down = x })) (sym joined)
+    subst (λ x. IsSoundWorld (record { host = h; term = w.term; up = x; down = down })) (sym rest)
+    (subst (λ x. IsSoundWorld (record { host = h; term = w.term; up = drop 1 w.up; down = x })) (sym joined)
     (record {
       reached = reached_step w (record { host = h; term = w.term; up = drop 1 w.up; down = w.down ++ frames }) HostTake k.reached goes;
       up = fit_rest (λ m. IsTrue (fits_t 2 m)) w.up k.up;
       down = All-append (λ frame. IsTrue (fits_h 2 frame.msg)) w.down frames k.down (answered_fits w h m frames k.reached a);
     }))
 
-pub kept_take : (w : PlainWorld) (t : PlainTerminal) (frame : HFrame) (ms up : List Tmesg) (down : List HFrame) → IsKept w → IsSound w.term → head w.down ≡ Some
-    frame → take_of w.term frame ≡ Ok (t, ms) → up ≡ w.up ++ ms → down ≡ drop 1 w.down → IsKept (record { host = w.host; term = t; up = up; down = down })
+pub kept_take : (w : PlainWorld) (t : PlainTerminal) (frame : HFrame) (ms up : List Tmesg) (down : List HFrame) → IsSoundWorld w → IsSound w.term → head w.down ≡ Some
+    frame → take_of w.term frame ≡ Ok (t, ms) → up ≡ w.up ++ ms → down ≡ drop 1 w.down → IsSoundWorld (record { host = w.host; term = t; up = up; down = down })
 kept_take w t frame ms up down k s first a joined rest =
     let goes : step_of w TermTake ≡ Some (record { host = w.host; term = t; up = w.up ++ ms; down = drop 1 w.down }) =
     ap (λ frames. term_takes w frames) (first_rest w.down frame first) ∙ ap (λ x. after_compose (record w { down = drop 1 w.down }) x) a in
-    subst (λ x. IsKept (record { host = w.host; term = t; up = x; down = down })) (sym joined)
-    (subst (λ x. IsKept (record { host = w.host; term = t; up = w.up ++ ms; down = x })) (sym rest)
+    subst (λ x. IsSoundWorld (record { host = w.host; term = t; up = x; down = down })) (sym joined)
+    (subst (λ x. IsSoundWorld (record { host = w.host; term = t; up = w.up ++ ms; down = x })) (sym rest)
     (record {
       reached = reached_step w (record { host = w.host; term = t; up = w.up ++ ms; down = drop 1 w.down }) TermTake k.reached goes;
       up = All-append (λ m. IsTrue (fits_t 2 m)) w.up ms k.up (taken_fits w.term t frame ms s a);
@@ -113,8 +113,8 @@ kept_take w t frame ms up down k s first a joined rest =
     }))
 
 -- a quiet world is its two sides
-pub kept_sides : (w : PlainWorld) (sides : PlainHost × PlainTerminal) → IsKept w → is_quiet w ≡ true → sides ≡ (w.host, w.term)
-    → IsKept (record { host = sides.0; term = sides.1; up = []; down = [] })
+pub kept_sides : (w : PlainWorld) (sides : PlainHost × PlainTerminal) → IsSoundWorld w → is_quiet w ≡ true → sides ≡ (w.host, w.term)
+    → IsSoundWorld (record { host = sides.0; term = sides.1; up = []; down = [] })
 kept_sides w sides k quiet are =
     let a = and_parts (not (is_some w.term.unsent) && is_empty w.up) (is_empty w.down) quiet in
     let b = and_parts (not (is_some w.term.unsent)) (is_empty w.up) a.0 in
@@ -122,4 +122,4 @@ kept_sides w sides k quiet are =
     let down = nothing_in w.down a.1 in
     let same : w ≡ record { host = sides.0; term = sides.1; up = []; down = [] } =
     λ i. record { host = (sym are i).0; term = (sym are i).1; up = up i; down = down i } in
-    subst IsKept same k
+    subst IsSoundWorld same k

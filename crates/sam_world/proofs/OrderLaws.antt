@@ -11,9 +11,9 @@ use Rattle.sam_text.specs.Files.{file_at}
 use Rattle.sam_host.specs.Host.{PlainHost, Reply, Answer, answer, answer_unless, counted, host_checks, reply_to, stamped}
 use Rattle.sam_host.specs.declared.fault.HostFault.{HostFault}
 use Rattle.sam_host.specs.declared.fault.HostFault.TheVariants as hostfault
-use Rattle.sam_term.specs.Term.{blank_window, window_at, PlainTerminal, Made, window_of, is_any_locked, is_file_locked, waits_for_all, is_bad_version, is_unknown, is_for_command_file, needs_open, is_closed, has_bad_place, has_long_text, makes_too_long, unsent_message, if_countable, event_checks, file_of, act_of, act_on, decided, flush_of, flushed, take_of, made_by, made_from, made_unless, frame_checks, known_at, put_window, lock_taken, composed}
-use Rattle.sam_term.specs.declared.files.Window.{Window}
-use Rattle.sam_term.specs.declared.files.Unsent.{Unsent}
+use Rattle.sam_term.specs.Term.{blank_window, window_at, PlainTerminal, Made, window_of, is_any_locked, is_file_locked, waits_for_all, is_bad_version, is_unknown, is_for_command_file, needs_open, is_closed, has_bad_place, has_long_text, makes_too_long, unsent_message, if_countable, event_checks, file_of, act_of, act_on, decided, flush_of, flushed, take_of, event_outcome, frame_outcome, made_unless, frame_checks, known_at, put_window, lock_taken, composed}
+use Rattle.sam_term.specs.declared.records.Window.{Window}
+use Rattle.sam_term.specs.declared.records.Unsent.{Unsent}
 use Rattle.sam_term.specs.declared.event.Verdict.{Verdict}
 use Rattle.sam_term.specs.declared.event.Verdict.TheVariants.{Waits, Refuses}
 use Rattle.sam_term.specs.declared.event.UserEvent.{UserEvent}
@@ -40,7 +40,7 @@ use Rattle.sam_protocol.proofs.Streaming.{one_version, version_at_place}
 use Rattle.sam_term.specs.declared.lock.Lock.{Lock}
 use Rattle.sam_term.specs.declared.lock.Lock.TheVariants.{NoLock, CommandLock, FileLock}
 use Rattle.sam_term.specs.Locks.{lock_of}
-use Rattle.sam_term.specs.declared.files.KnownFile.{KnownFile}
+use Rattle.sam_term.specs.declared.records.KnownFile.{KnownFile}
 use Rattle.sam_term.proofs.TermLaws.{known-put}
 use Rattle.std.specs.Prelude.{unwrap_or}
 use Rattle.sam_mesg.specs.declared.tmesg.Tmesg.TheVariants.{Trequest}
@@ -67,14 +67,14 @@ act_goes h t up down r o e = go t.held e
     held : (es : List UserEvent) → InOrder h (record t { held = es }) up down
     held es = record { kept = o.kept; tidy = o.tidy; unsent = o.unsent }
 
-    verdict : (v : Option Verdict) (e : UserEvent) (es : List UserEvent) → first_of_checks (event_checks t e) ≡ v → decided v t es (made_by (record t { held = es }) e) ≡ Ok r → P r
+    verdict : (v : Option Verdict) (e : UserEvent) (es : List UserEvent) → first_of_checks (event_checks t e) ≡ v → decided v t es (event_outcome (record t { held = es }) e) ≡ Ok r → P r
     verdict (Some Waits) e es c q = let same : (t, Locked) ≡ r = cc in subst P same (nothing_goes h t up down o)
     verdict (Some (Refuses why)) e es c q =
         let dropped : PlainTerminal × Acted = (record t { held = es }, Refused why) in
         let same : dropped ≡ r = cc in
         subst P same (nothing_goes h (record t { held = es }) up down (held es))
     verdict None e es c q =
-        let made : Made = made_by (record t { held = es }) e in
+        let made : Made = event_outcome (record t { held = es }) e in
         let same : (made.0, Done made.1) ≡ r = counted-result made.0.sent (made.0, Done made.1) r q in
         subst P same (event_goes h (record t { held = es }) up down e (held es) (held_passed t es e (passed t e c)))
 
@@ -89,10 +89,10 @@ take_goes : (h : PlainHost) (t : PlainTerminal) (up : List Tmesg) (frame : HFram
 unfolding take_of
 take_goes h t up frame down r o e = go (first_of_checks ((nat_lt t.sent frame.seen, fault.FromTheFuture) ∷ frame_checks t frame.msg)) e
   where
-    go : (v : Option TermFault) → made_unless v (made_from t frame.msg) ≡ Ok r → InOrder h r.0 (up ++ r.1) down
+    go : (v : Option TermFault) → made_unless v (frame_outcome t frame.msg) ≡ Ok r → InOrder h r.0 (up ++ r.1) down
     go (Some why) q = absurd (cc)
     go None q =
-        let same : made_from t frame.msg ≡ r = counted-result (made_from t frame.msg).0.sent (made_from t frame.msg) r q in
+        let same : frame_outcome t frame.msg ≡ r = counted-result (frame_outcome t frame.msg).0.sent (frame_outcome t frame.msg) r q in
         subst (λ (x : Made). InOrder h x.0 (up ++ x.1) down) same (received h t up frame.msg down o).goes
 
 -- ## A message
@@ -203,7 +203,7 @@ unfolding take_of
 refused_take t frame why seen passes e =
     let none : first_of_checks ((nat_lt t.sent frame.seen, fault.FromTheFuture) ∷ frame_checks t frame.msg) ≡ None =
     test (nat_lt t.sent frame.seen) fault.FromTheFuture (frame_checks t frame.msg) (le-ltb t.sent frame.seen seen) passes in
-    only_count (made_from t frame.msg).0.sent (made_from t frame.msg) why (ap (λ (v : Option TermFault). made_unless v (made_from t frame.msg)) (sym none) ∙ e)
+    only_count (frame_outcome t frame.msg).0.sent (frame_outcome t frame.msg) why (ap (λ (v : Option TermFault). made_unless v (frame_outcome t frame.msg)) (sym none) ∙ e)
 
 pub terminal_never_refuses : TerminalNeverRefuses
 terminal_never_refuses w frame frames why i e a =
@@ -223,7 +223,7 @@ refused_act t why e = go t.held e
 
     go : (es : List UserEvent) → act_on t es ≡ Err why → why ≡ fault.CountFull
     go [] q = absurd (cc)
-    go (x ∷ es) q = verdict (first_of_checks (event_checks t x)) es (made_by (record t { held = es }) x) q
+    go (x ∷ es) q = verdict (first_of_checks (event_checks t x)) es (event_outcome (record t { held = es }) x) q
 
 refused_flush : (t : PlainTerminal) (why : TermFault) → flush_of t ≡ Err why → why ≡ fault.CountFull
 unfolding flush_of
@@ -369,10 +369,10 @@ pub others_go_on : OthersGoOn
 unfolding act_of some_waits
 others_go_on t u e es held c l a r = go (first_of_checks (event_checks t e)) (never_waits t e c l a) (ap (act_on t) (sym held) ∙ r)
   where
-    go : (v : Option Verdict) → (v ≡ Some Waits → ⊥) → decided v t es (made_by (record t { held = es }) e) ≡ Ok (u, Locked) → ⊥
+    go : (v : Option Verdict) → (v ≡ Some Waits → ⊥) → decided v t es (event_outcome (record t { held = es }) e) ≡ Ok (u, Locked) → ⊥
     go (Some Waits) n q = n refl
     go (Some (Refuses why)) n q = refused_not_locked why (ap (λ (y : PlainTerminal × Acted). y.1) (the_act (record t { held = es }, Refused why) (u, Locked) q))
     go None n q =
-        let made : Made = made_by (record t { held = es }) e in
+        let made : Made = event_outcome (record t { held = es }) e in
         let same : ◌≡◌ {A = PlainTerminal × Acted} (made.0, Done made.1) (u, Locked) = counted-result made.0.sent (made.0, Done made.1) (u, Locked) q in
         done_not_locked made.1 (ap (λ (y : PlainTerminal × Acted). y.1) same)

@@ -12,7 +12,7 @@ pub record WasReached (w : PlainWorld) : Type 0 where
   pub reached : IsReached given w
 
 -- What is kept of every world: a run led to it, and all that is under way is within the limits of messages.
-pub record IsKept (w : PlainWorld) : Type 0 where
+pub record IsSoundWorld (w : PlainWorld) : Type 0 where
   pub reached : WasReached w
   pub up : All (λ m. IsTrue (fits_t 2 m)) w.up
   pub down : All (λ frame. IsTrue (fits_h 2 frame.msg)) w.down

@@ -1,5 +1,5 @@
 use Rattle.std.proofs.Common.{arith, sym, ◌∙◌}
-use Rattle.sam_text.specs.Files.{blank_file, IsKept}
+use Rattle.sam_text.specs.Files.{blank_file, IsSoundFile}
 use Rattle.sam_text.specs.Views.{plain_file, changed, given_text, FitsIn}
 use Rattle.sam_text.proofs.ViewLaws.{given-view, view-change, view-none, seen_there, seen_kept, keep_set, keep_changed}
 use Rattle.sam_text.proofs.files.change_in.Goals as goal
@@ -21,7 +21,7 @@ returns-in-Some-clause-plain c =
 
 pub returns-in-Some-clause-kept : goal.returns-in-Some-clause-kept
 returns-in-Some-clause-kept c =
-    seen_kept IsKept (changed c.args.change) plain_file blank_file _ c.args.index _ c.in-Some.file c.change.new.self (omega arith)
+    seen_kept IsSoundFile (changed c.args.change) plain_file blank_file _ c.args.index _ c.in-Some.file c.change.new.self (omega arith)
     (sym c.index_mut.ensures.value ∙ c.in-Some.is) c.change.ensures.plain (c.known.ensures.fit, c.known.ensures.name)
 
 pub returns-in-Some-clause-rooms : goal.returns-in-Some-clause-rooms

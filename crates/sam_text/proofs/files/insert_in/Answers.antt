@@ -1,7 +1,7 @@
 use Rattle.std.proofs.Common.{None, ap, arith, sym, ◌∙◌, length, ◌≤◌, ◌+◌}
 use Rattle.std.proofs.lemmas.Result.{on_ok_weaker, on_err_weaker}
 use Rattle.sam_runes.specs.Texts.{max_runes}
-use Rattle.sam_text.specs.Files.{PlainFile, blank_file, IsKept}
+use Rattle.sam_text.specs.Files.{PlainFile, blank_file, IsSoundFile}
 use Rattle.sam_text.specs.Views.{plain_file, file_room, inserted_file}
 use Rattle.sam_text.proofs.ViewLaws.{given-view, view-change, view-same, view-none, seen_there, seen_kept, keep_set, keep_inserted, room_read, room_set}
 use Rattle.sam_text.proofs.files.insert_in.Goals as goal
@@ -34,7 +34,7 @@ returns-in-Some-clause-ok c =
 pub returns-in-Some-clause-kept : goal.returns-in-Some-clause-kept
 returns-in-Some-clause-kept c =
     on_ok_weaker c.insert-put.result
-    (λ same. seen_kept IsKept (λ file. inserted_file file c.args.p c.args.runes.now c.args.dot c.args.keeps) plain_file blank_file _ c.args.index _
+    (λ same. seen_kept IsSoundFile (λ file. inserted_file file c.args.p c.args.runes.now c.args.dot c.args.keeps) plain_file blank_file _ c.args.index _
     c.in-Some.file c.insert-put.new.self (omega arith) (sym c.index_mut.ensures.value ∙ c.in-Some.is) same (c.known.ensures.fit, c.known.ensures.name))
     c.insert-put.ensures.ok
 

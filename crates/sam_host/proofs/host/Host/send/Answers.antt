@@ -15,7 +15,7 @@ returns-clause-host c =
     let seen_as = ap (λ (h : PlainHost). length (file_at h.files 0).text) c.self.view_is in
     let within = ltb-false max_runes (length (file_at c.self.inside.files.plain 0).text + c.len.result) (sym c.passes_limit.ensures ∙ c.if-passes_limit.false) in
     let fits : length (file_at c.args.self.now.files 0).text + length s ≤ max_runes = omega (arith, n, c.len.ensures, within, seen_as) in
-    let runs = send_runs c.args.self.now c.args.f c.args.p c.args.q s c.if-p-q.false (c.as_slice.ensures ∙ c.in_ok-lines.ensures.ok) fits in
+    let runs = send_runs c.args.self.now c.args.tag c.args.p c.args.q s c.if-p-q.false (c.as_slice.ensures ∙ c.in_ok-lines.ensures.ok) fits in
     c.in_ok-frames-3.ensures.host ∙ ap (λ (r : Reply). r.0) (sym runs)
 
 pub returns-clause-frames : goal.returns-clause-frames
@@ -26,7 +26,7 @@ returns-clause-frames c =
     let seen_as = ap (λ (h : PlainHost). length (file_at h.files 0).text) c.self.view_is in
     let within = ltb-false max_runes (length (file_at c.self.inside.files.plain 0).text + c.len.result) (sym c.passes_limit.ensures ∙ c.if-passes_limit.false) in
     let fits : length (file_at c.args.self.now.files 0).text + length s ≤ max_runes = omega (arith, n, c.len.ensures, within, seen_as) in
-    let runs = send_runs c.args.self.now c.args.f c.args.p c.args.q s c.if-p-q.false (c.as_slice.ensures ∙ c.in_ok-lines.ensures.ok) fits in
+    let runs = send_runs c.args.self.now c.args.tag c.args.p c.args.q s c.if-p-q.false (c.as_slice.ensures ∙ c.in_ok-lines.ensures.ok) fits in
     c.in_ok-frames-3.ensures.frames
     ∙ (sym (stamped_append seen (printed c.args.self.now.files s) (reply_line (sent c.args.self.now s) [] (last_line s)).1)
     ∙ ap (λ (r : Reply). stamped seen r.1) (sym runs))

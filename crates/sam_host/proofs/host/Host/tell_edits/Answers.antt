@@ -14,7 +14,7 @@ tell_edit-requires-clause-limit c =
 
 pub loop-left-preserved : goal.loop-left-preserved
 loop-left-preserved c =
-    let tell = told_edit c.args.self.now.files c.args.f in
+    let tell = told_edit c.args.self.now.files c.args.tag in
     let seen = c.args.self.now.taken + 1 in
     let again : suc (c.loop-left.left - 1) ≡ c.loop-left.left = omega arith in (
       ap (λ (before : List HFrame). before ++ stamped seen (flat_map tell (reverse (take (c.loop-left.left - 1) c.args.edits.now)))) c.in_ok-tell_edit.ensures.ok

@@ -11,7 +11,7 @@ pub returns-clause-ok : goal.returns-clause-ok
 unfolding told_outcome
 returns-clause-ok c =
     let fs = c.args.self.now.files in
-    let f = c.args.f in
+    let f = c.args.tag in
     let es = c.args.edits.now in
     six_told c.args.frames.now.items _ _ _ _ _ _ (c.args.self.now.taken + 1)
     (told_edits fs f es)

@@ -1,7 +1,7 @@
 use Rattle.std.proofs.Common.{◌≡◌, sym, ap, ◌∙◌, ◌+◌, ◌-◌, ◌≤◌, length, drop, List, arith}
 use Rattle.sam_rasp.specs.Sections.{cells_of}
 use Rattle.sam_rasp.specs.declared.section.Section.{Section}
-use Rattle.sam_rasp.proofs.Windows.{change-length}
+use Rattle.sam_rasp.proofs.Splices.{change-length}
 use Rattle.sam_rasp.proofs.rasp.Rasp.cut.Goals as goal
 
 pub invariant_of-self : goal.invariant_of-self

@@ -1,7 +1,7 @@
 use Rattle.std.proofs.Common.{sym, ap, ◌∙◌, subst, None}
 use Rattle.sam_term.specs.Term.{PlainTerminal, put_known, took_close, unsent_without}
 use Rattle.sam_term.specs.Sound.{IsSound, seen}
-use Rattle.sam_term.specs.declared.files.KnownFile.{KnownFile}
+use Rattle.sam_term.specs.declared.records.KnownFile.{KnownFile}
 use Rattle.sam_term.proofs.FileSteps.{sound-close}
 use Rattle.sam_term.proofs.term.Terminal.close_file.Goals as goal
 

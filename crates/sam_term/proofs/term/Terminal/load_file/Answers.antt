@@ -3,7 +3,7 @@ use Rattle.std.specs.Prelude.{◌+◌}
 use Rattle.sam_rasp.specs.Rasp.{load_cells}
 use Rattle.sam_term.specs.Term.{window_at, is_open, put_window, took_data}
 use Rattle.sam_term.specs.Sound.{IsSound, seen}
-use Rattle.sam_term.specs.declared.files.Window.{Window}
+use Rattle.sam_term.specs.declared.records.Window.{Window}
 use Rattle.sam_term.proofs.Grows.{lent_same, on_err, sound-load}
 use Rattle.sam_term.proofs.term.Terminal.load_file.Goals as goal
 

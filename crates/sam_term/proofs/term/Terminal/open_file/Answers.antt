@@ -1,7 +1,7 @@
 use Rattle.std.proofs.Common.{sym, ap, ◌∙◌, subst, Some}
 use Rattle.sam_term.specs.Term.{PlainTerminal, put_known, is_open, blank_window, took_bindname}
 use Rattle.sam_term.specs.Sound.{IsSound, seen}
-use Rattle.sam_term.specs.declared.files.KnownFile.{KnownFile}
+use Rattle.sam_term.specs.declared.records.KnownFile.{KnownFile}
 use Rattle.sam_term.proofs.FileSteps.{sound-put_known, blank_where_shut}
 use Rattle.sam_term.proofs.term.Terminal.open_file.Goals as goal
 

@@ -1,6 +1,6 @@
 use Rattle.std.proofs.Common.{sym, subst}
 use Rattle.sam_runes.specs.Slots.{Slots}
-use Rattle.sam_text.specs.Files.{PlainFile, PlainFiles, AreKept}
+use Rattle.sam_text.specs.Files.{PlainFile, PlainFiles, AreSoundFiles}
 use Rattle.sam_text.specs.Views.{plain_slots}
 use Rattle.sam_text.proofs.KeptLaws.{kept_announce}
 use Rattle.sam_text.proofs.files.Files.announce_all.Goals as goal
@@ -8,4 +8,4 @@ use Rattle.sam_text.proofs.files.Files.announce_all.Goals as goal
 pub invariant_of-self : goal.invariant_of-self
 invariant_of-self c =
     let fs : PlainFiles = record { slots = plain_slots c.self.inside.slots.items; snarf = c.self.inside.snarf; pattern = c.self.inside.pattern; work = c.self.inside.work } in
-    subst (λ (ss : Slots PlainFile). AreKept (record fs { slots = ss })) (sym c.announce_in.ensures.plain) (kept_announce fs c.self.invariant)
+    subst (λ (ss : Slots PlainFile). AreSoundFiles (record fs { slots = ss })) (sym c.announce_in.ensures.plain) (kept_announce fs c.self.invariant)

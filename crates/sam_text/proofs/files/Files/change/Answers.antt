@@ -1,6 +1,6 @@
 use Rattle.std.proofs.Common.{◌≡◌, sym, subst, true}
 use Rattle.sam_runes.specs.Slots.{Slots}
-use Rattle.sam_text.specs.Files.{PlainFile, PlainFiles, RoomyFiles, has_file, file_at, AreKept}
+use Rattle.sam_text.specs.Files.{PlainFile, PlainFiles, RoomyFiles, has_file, file_at, AreSoundFiles}
 use Rattle.sam_text.specs.Views.{changed, plain_slots}
 use Rattle.sam_text.proofs.KeptLaws.{kept_put}
 use Rattle.sam_text.proofs.files.Files.change.Goals as goal
@@ -9,5 +9,5 @@ pub invariant_of-self : goal.invariant_of-self
 invariant_of-self c =
     let fs : PlainFiles = record { slots = plain_slots c.self.inside.slots.items; snarf = c.self.inside.snarf; pattern = c.self.inside.pattern; work = c.self.inside.work } in
     let there = subst (λ (v : RoomyFiles). has_file v.plain c.args.tag ≡ true) (sym c.self.view_is) c.requires.there in
-    subst (λ (ss : Slots PlainFile). AreKept (record fs { slots = ss })) (sym c.change_in.ensures.plain)
+    subst (λ (ss : Slots PlainFile). AreSoundFiles (record fs { slots = ss })) (sym c.change_in.ensures.plain)
     (kept_put fs c.args.tag (changed c.args.change (file_at fs c.args.tag)) c.self.invariant there c.change_in.ensures.kept.0 c.change_in.ensures.kept.1)

@@ -13,16 +13,16 @@ invariant_of-self c =
     record {
       take = i.take;
       post = i.post;
-      desk = i.desk;
-      outbox = i.outbox.bytes;
+      logged = i.logged;
+      to_send = i.to_send.bytes;
       keyboard_left = i.keyboard_left;
       mouse_left = i.mouse_left;
       exit_put = i.exit_put;
       stop = i.stop;
     } in
     let running : is_some i.stop ≡ false = cc in
-    let did : Did i.desk c.act.new.self [] [] c.as_slice.result.now = subst (λ (x : List Tmesg). Did i.desk c.act.new.self [] [] x)
-    (sym c.as_slice.ensures) (subst (λ (x : Acted). Did i.desk c.act.new.self [] [] (composed_by x)) c.in-Ok-Done.field-0-is c.in-Ok-Done.ensures.acted) in
+    let did : Did i.logged c.act.new.self [] [] c.as_slice.result.now = subst (λ (x : List Tmesg). Did i.logged c.act.new.self [] [] x)
+    (sym c.as_slice.ensures) (subst (λ (x : Acted). Did i.logged c.act.new.self [] [] (composed_by x)) c.in-Ok-Done.field-0-is c.in-Ok-Done.ensures.acted) in
     kept_done v c.act.new.self c.push_all.new.self.bytes c.as_slice.result.now c.self.invariant running did c.push_all.ensures.fit c.in-Ok.ensures.encoded
 
 pub invariant_of-self-in-Err-push_all : goal.invariant_of-self-in-Err-push_all
@@ -32,16 +32,16 @@ invariant_of-self-in-Err-push_all c =
     record {
       take = i.take;
       post = i.post;
-      desk = i.desk;
-      outbox = i.outbox.bytes;
+      logged = i.logged;
+      to_send = i.to_send.bytes;
       keyboard_left = i.keyboard_left;
       mouse_left = i.mouse_left;
       exit_put = i.exit_put;
       stop = i.stop;
     } in
     let running : is_some i.stop ≡ false = cc in
-    let did : Did i.desk c.act.new.self [] [] c.as_slice.result.now = subst (λ (x : List Tmesg). Did i.desk c.act.new.self [] [] x)
-    (sym c.as_slice.ensures) (subst (λ (x : Acted). Did i.desk c.act.new.self [] [] (composed_by x)) c.in-Ok-Done.field-0-is c.in-Ok-Done.ensures.acted) in
+    let did : Did i.logged c.act.new.self [] [] c.as_slice.result.now = subst (λ (x : List Tmesg). Did i.logged c.act.new.self [] [] x)
+    (sym c.as_slice.ensures) (subst (λ (x : Acted). Did i.logged c.act.new.self [] [] (composed_by x)) c.in-Ok-Done.field-0-is c.in-Ok-Done.ensures.acted) in
     kept_lost_messages v c.act.new.self c.push_all.new.self.bytes c.as_slice.result.now c.self.invariant running did c.push_all.ensures.fit c.in-Err-push_all.ensures.unchanged
 
 pub invariant_of-self-in-Ok-Refused : goal.invariant_of-self-in-Ok-Refused
@@ -51,15 +51,15 @@ invariant_of-self-in-Ok-Refused c =
     record {
       take = i.take;
       post = i.post;
-      desk = i.desk;
-      outbox = i.outbox.bytes;
+      logged = i.logged;
+      to_send = i.to_send.bytes;
       keyboard_left = i.keyboard_left;
       mouse_left = i.mouse_left;
       exit_put = i.exit_put;
       stop = i.stop;
     } in
     let running : is_some i.stop ≡ false = cc in
-    kept_silent v c.act.new.self c.self.invariant running (subst (λ (x : Acted). Did i.desk c.act.new.self [] [] (composed_by x)) c.in-Ok-Refused.field-0-is c.in-Ok-Refused.ensures.acted)
+    kept_silent v c.act.new.self c.self.invariant running (subst (λ (x : Acted). Did i.logged c.act.new.self [] [] (composed_by x)) c.in-Ok-Refused.field-0-is c.in-Ok-Refused.ensures.acted)
 
 pub invariant_of-self-in-Ok-Idle : goal.invariant_of-self-in-Ok-Idle
 invariant_of-self-in-Ok-Idle c =
@@ -68,15 +68,15 @@ invariant_of-self-in-Ok-Idle c =
     record {
       take = i.take;
       post = i.post;
-      desk = i.desk;
-      outbox = i.outbox.bytes;
+      logged = i.logged;
+      to_send = i.to_send.bytes;
       keyboard_left = i.keyboard_left;
       mouse_left = i.mouse_left;
       exit_put = i.exit_put;
       stop = i.stop;
     } in
     let running : is_some i.stop ≡ false = cc in
-    kept_silent v c.act.new.self c.self.invariant running (subst (λ (x : Acted). Did i.desk c.act.new.self [] [] (composed_by x)) c.in-Ok-Idle.field-0-is c.in-Ok-Idle.ensures.acted)
+    kept_silent v c.act.new.self c.self.invariant running (subst (λ (x : Acted). Did i.logged c.act.new.self [] [] (composed_by x)) c.in-Ok-Idle.field-0-is c.in-Ok-Idle.ensures.acted)
 
 pub invariant_of-self-in-Ok-Locked : goal.invariant_of-self-in-Ok-Locked
 invariant_of-self-in-Ok-Locked c =
@@ -85,12 +85,12 @@ invariant_of-self-in-Ok-Locked c =
     record {
       take = i.take;
       post = i.post;
-      desk = i.desk;
-      outbox = i.outbox.bytes;
+      logged = i.logged;
+      to_send = i.to_send.bytes;
       keyboard_left = i.keyboard_left;
       mouse_left = i.mouse_left;
       exit_put = i.exit_put;
       stop = i.stop;
     } in
     let running : is_some i.stop ≡ false = cc in
-    kept_silent v c.act.new.self c.self.invariant running (subst (λ (x : Acted). Did i.desk c.act.new.self [] [] (composed_by x)) c.in-Ok-Locked.field-0-is c.in-Ok-Locked.ensures.acted)
+    kept_silent v c.act.new.self c.self.invariant running (subst (λ (x : Acted). Did i.logged c.act.new.self [] [] (composed_by x)) c.in-Ok-Locked.field-0-is c.in-Ok-Locked.ensures.acted)

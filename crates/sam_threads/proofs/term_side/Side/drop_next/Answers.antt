@@ -10,8 +10,8 @@ invariant_of-self g c =
     record {
       take = i.take;
       post = i.post;
-      desk = i.desk;
-      outbox = i.outbox.bytes;
+      logged = i.logged;
+      to_send = i.to_send.bytes;
       keyboard_left = i.keyboard_left;
       mouse_left = i.mouse_left;
       exit_put = i.exit_put;

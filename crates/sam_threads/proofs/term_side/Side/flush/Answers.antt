@@ -11,15 +11,15 @@ invariant_of-self c =
     record {
       take = i.take;
       post = i.post;
-      desk = i.desk;
-      outbox = i.outbox.bytes;
+      logged = i.logged;
+      to_send = i.to_send.bytes;
       keyboard_left = i.keyboard_left;
       mouse_left = i.mouse_left;
       exit_put = i.exit_put;
       stop = i.stop;
     } in
     let running : is_some i.stop ≡ false = cc in
-    let did : Did i.desk c.flush.new.self [] [] c.as_slice.result.now = subst (λ (x : List Tmesg). Did i.desk c.flush.new.self [] [] x) (sym c.as_slice.ensures) c.in-Ok.ensures.flushed in
+    let did : Did i.logged c.flush.new.self [] [] c.as_slice.result.now = subst (λ (x : List Tmesg). Did i.logged c.flush.new.self [] [] x) (sym c.as_slice.ensures) c.in-Ok.ensures.flushed in
     kept_done v c.flush.new.self c.push_all.new.self.bytes c.as_slice.result.now c.self.invariant running did c.push_all.ensures.fit c.in-Ok-push_all.ensures.encoded
 
 pub invariant_of-self-in-Err-push_all : goal.invariant_of-self-in-Err-push_all
@@ -29,13 +29,13 @@ invariant_of-self-in-Err-push_all c =
     record {
       take = i.take;
       post = i.post;
-      desk = i.desk;
-      outbox = i.outbox.bytes;
+      logged = i.logged;
+      to_send = i.to_send.bytes;
       keyboard_left = i.keyboard_left;
       mouse_left = i.mouse_left;
       exit_put = i.exit_put;
       stop = i.stop;
     } in
     let running : is_some i.stop ≡ false = cc in
-    let did : Did i.desk c.flush.new.self [] [] c.as_slice.result.now = subst (λ (x : List Tmesg). Did i.desk c.flush.new.self [] [] x) (sym c.as_slice.ensures) c.in-Ok.ensures.flushed in
+    let did : Did i.logged c.flush.new.self [] [] c.as_slice.result.now = subst (λ (x : List Tmesg). Did i.logged c.flush.new.self [] [] x) (sym c.as_slice.ensures) c.in-Ok.ensures.flushed in
     kept_lost_messages v c.flush.new.self c.push_all.new.self.bytes c.as_slice.result.now c.self.invariant running did c.push_all.ensures.fit c.in-Err-push_all.ensures.unchanged

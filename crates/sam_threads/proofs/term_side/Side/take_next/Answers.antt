@@ -14,8 +14,8 @@ invariant_of-self-in-0 g c =
     record {
       take = i.take;
       post = i.post;
-      desk = i.desk;
-      outbox = i.outbox.bytes;
+      logged = i.logged;
+      to_send = i.to_send.bytes;
       keyboard_left = i.keyboard_left;
       mouse_left = i.mouse_left;
       exit_put = i.exit_put;
@@ -33,8 +33,8 @@ invariant_of-self-in-1 g c =
     record {
       take = i.take;
       post = i.post;
-      desk = i.desk;
-      outbox = i.outbox.bytes;
+      logged = i.logged;
+      to_send = i.to_send.bytes;
       keyboard_left = i.keyboard_left;
       mouse_left = i.mouse_left;
       exit_put = i.exit_put;
@@ -52,8 +52,8 @@ invariant_of-self-else-not-exited g c =
     record {
       take = i.take;
       post = i.post;
-      desk = i.desk;
-      outbox = i.outbox.bytes;
+      logged = i.logged;
+      to_send = i.to_send.bytes;
       keyboard_left = i.keyboard_left;
       mouse_left = i.mouse_left;
       exit_put = i.exit_put;
@@ -69,16 +69,16 @@ invariant_of-self-in-Ok-push_all g c =
     record {
       take = i.take;
       post = i.post;
-      desk = i.desk;
-      outbox = i.outbox.bytes;
+      logged = i.logged;
+      to_send = i.to_send.bytes;
       keyboard_left = i.keyboard_left;
       mouse_left = i.mouse_left;
       exit_put = i.exit_put;
       stop = i.stop;
     } in
     let running : is_some i.stop ≡ false = subst (λ (w : SideView). is_some w.stop ≡ false) (sym c.self.view_is) c.requires.running in
-    let did : Did i.desk c.handle.new.self (user_of_load (Some c.in-Item.input)) (frame_of_load (Some c.in-Item.input)) c.as_slice.result.now =
-    subst (λ (x : List Tmesg). Did i.desk c.handle.new.self (user_of_load (Some c.in-Item.input)) (frame_of_load (Some c.in-Item.input)) x) (sym c.as_slice.ensures) c.in-Ok.ensures.handled in
+    let did : Did i.logged c.handle.new.self (user_of_load (Some c.in-Item.input)) (frame_of_load (Some c.in-Item.input)) c.as_slice.result.now =
+    subst (λ (x : List Tmesg). Did i.logged c.handle.new.self (user_of_load (Some c.in-Item.input)) (frame_of_load (Some c.in-Item.input)) x) (sym c.as_slice.ensures) c.in-Ok.ensures.handled in
     kept_item v c.try_recv.new.self c.in-Item.sender c.in-Item.input c.handle.new.self c.push_all.new.self.bytes
     c.as_slice.result.now c.self.invariant running c.in-Item.ensures.answer did c.in-Ok.ensures.sender c.push_all.ensures.fit c.in-Ok-push_all.ensures.encoded
 
@@ -89,16 +89,16 @@ invariant_of-self-in-Err-push_all g c =
     record {
       take = i.take;
       post = i.post;
-      desk = i.desk;
-      outbox = i.outbox.bytes;
+      logged = i.logged;
+      to_send = i.to_send.bytes;
       keyboard_left = i.keyboard_left;
       mouse_left = i.mouse_left;
       exit_put = i.exit_put;
       stop = i.stop;
     } in
     let running : is_some i.stop ≡ false = subst (λ (w : SideView). is_some w.stop ≡ false) (sym c.self.view_is) c.requires.running in
-    let did : Did i.desk c.handle.new.self (user_of_load (Some c.in-Item.input)) (frame_of_load (Some c.in-Item.input)) c.as_slice.result.now =
-    subst (λ (x : List Tmesg). Did i.desk c.handle.new.self (user_of_load (Some c.in-Item.input)) (frame_of_load (Some c.in-Item.input)) x) (sym c.as_slice.ensures) c.in-Ok.ensures.handled in
+    let did : Did i.logged c.handle.new.self (user_of_load (Some c.in-Item.input)) (frame_of_load (Some c.in-Item.input)) c.as_slice.result.now =
+    subst (λ (x : List Tmesg). Did i.logged c.handle.new.self (user_of_load (Some c.in-Item.input)) (frame_of_load (Some c.in-Item.input)) x) (sym c.as_slice.ensures) c.in-Ok.ensures.handled in
     kept_lost_item v c.try_recv.new.self c.in-Item.sender c.in-Item.input c.handle.new.self c.push_all.new.self.bytes
     c.as_slice.result.now c.self.invariant running c.in-Item.ensures.answer did c.in-Ok.ensures.sender c.push_all.ensures.fit c.in-Err-push_all.ensures.unchanged
 
@@ -109,14 +109,14 @@ invariant_of-self-then-not-exited g c =
     record {
       take = i.take;
       post = i.post;
-      desk = i.desk;
-      outbox = i.outbox.bytes;
+      logged = i.logged;
+      to_send = i.to_send.bytes;
       keyboard_left = i.keyboard_left;
       mouse_left = i.mouse_left;
       exit_put = i.exit_put;
       stop = i.stop;
     } in
     let running : is_some i.stop ≡ false = subst (λ (w : SideView). is_some w.stop ≡ false) (sym c.self.view_is) c.requires.running in
-    let open_still : i.desk.term.has_exited ≡ false = search rules in
+    let open_still : i.logged.term.has_exited ≡ false = search rules in
     let others : 2 ≤ c.in-Left.sender = first_of (grind (arith, common_steps, c.in_default), omega (arith, c.in_default), search rules) in
     kept_gone v c.try_recv.new.self c.in-Left.sender c.self.invariant running c.in-Left.ensures.answer (λ e. omega (arith, others)) (λ e. omega (arith, others)) open_still

@@ -1,0 +1,207 @@
+-- How the invariant at one file is carried on.
+use Rattle.std.proofs.Common.{◌≡◌, ℕ, ◌+◌, ◌≤◌, min, Bool, true, false, ◌||◌, List, [], ◌∷◌, ◌++◌, length, take, drop, Option, Some, None, ◌⊎◌, inl, inr, refl, sym, ap, ◌∙◌, subst, true≢false, arith, append-nil, length-take, length-drop, nat_le, if◌then◌else◌, le-leb}
+use Rattle.std.proofs.lemmas.List.{drop_min, take_min}
+use Rattle.std.proofs.lemmas.Bool.{or_right, or_left, or_cases, or_parts}
+use Rattle.sam_runes.specs.Texts.{most_in_message}
+use Rattle.sam_rasp.specs.Rasp.{load_cells, Agrees}
+use Rattle.sam_rasp.proofs.RaspLaws.{length_agrees, agrees_loaded}
+use Rattle.sam_protocol.specs.Lens.{Slot, Unknown, Known, Open, Lens, lens, Action, Free_file, move, run, and_then, is_freeing, frees, IsGuarded, is_close, closes, HFile, Absent, Hidden, Named, Opened, Gone, Fits_slot, IsSettled, Settles}
+use Rattle.sam_protocol.proofs.Lenses.{IsFree, IsOpen, IsAlike, locked_more, exited_of, exits, AreSkips, CanRequest, request_actions}
+use Rattle.sam_protocol.proofs.Runs.{run-append_some, stepped, still, runs_more, exited_after}
+
+frees-append : (s u : List Action) → frees s ≡ true → frees (s ++ u) ≡ true
+frees-append [] u e = absurd (true≢false (sym e))
+frees-append (a ∷ s) u e = go (is_freeing a) (frees s) (frees (s ++ u)) (frees-append s u) e
+  where
+    go : (p q r : Bool) → (q ≡ true → r ≡ true) → (p || q) ≡ true → (p || r) ≡ true
+    go true q r h e = refl
+    go false q r h e = h e
+
+pub guarded-append : (s u : List Action) → IsGuarded s → IsGuarded u → IsGuarded (s ++ u)
+guarded-append [] u g h = h
+guarded-append (a ∷ s) u g h = (λ c. frees-append s u (g.0 c), guarded-append s u g.1 h)
+
+pub closes-append : (s u : List Action) → closes (s ++ u) ≡ true → (closes s ≡ true) ⊎ (closes u ≡ true)
+closes-append [] u e = inr e
+closes-append (a ∷ s) u e = go (is_close a) (closes s) (closes (s ++ u)) (closes-append s u) e
+  where
+    go : (p q r : Bool) → (r ≡ true → (q ≡ true) ⊎ (closes u ≡ true)) → (p || r) ≡ true → ((p || q) ≡ true) ⊎ (closes u ≡ true)
+    go true q r h e = inl refl
+    go false q r h e = h e
+
+-- a frame is taken
+pub record IsTaken (a : Action) (rest : List Action) (v : Lens) (done : Bool) (version : ℕ) (file : HFile) : Type 0 where
+  pub mid : Lens
+  pub moves : move a v ≡ Some mid
+  pub kept : Settles rest mid done version file
+
+pub kept_take : (a : Action) (s : List Action) (v : Lens) (d : Bool) (n : ℕ) (file : HFile) → Settles (a ∷ s) v d n file → IsTaken a s v d n file
+kept_take a s v d n file k =
+    let t = stepped a s v k.final k.runs in
+    record {
+      mid = t.mid;
+      moves = t.moves;
+      kept = record { final = k.final; runs = t.on; settled = k.settled; guarded = k.guarded.1; closed = λ e. k.closed (or_right _ _ e) };
+    }
+
+-- frames are answered from the settled state
+pub kept_append : (s u : List Action) (v : Lens) (d d2 : Bool) (n n2 : ℕ) (file file2 : HFile) → Settles s v d n file → ((w : Lens) → IsSettled w d n file → Settles u w d2 n2 file2)
+    → (file ≡ Gone → file2 ≡ Gone) → Settles (s ++ u) v d2 n2 file2
+kept_append s u v d d2 n n2 file file2 k on gone =
+    let next = on k.final k.settled in
+    record {
+      final = next.final;
+      runs = run-append_some s u v k.final k.runs ∙ next.runs;
+      settled = next.settled;
+      guarded = guarded-append s u k.guarded next.guarded;
+      closed = λ e. either (closes-append s u e) (λ p. gone (k.closed p)) next.closed;
+    }
+  where
+    either : (closes s ≡ true) ⊎ (closes u ≡ true) → (closes s ≡ true → file2 ≡ Gone) → (closes u ≡ true → file2 ≡ Gone) → file2 ≡ Gone
+    either (inl p) f g = f p
+    either (inr p) f g = g p
+
+-- the user acts on a free file: what is under way doesn't notice
+pub kept_act : (s u : List Action) (v x : Lens) (d d2 : Bool) (n n2 : ℕ) (file file2 : HFile) → Settles s v d n file → IsFree v → IsAlike v x → (IsSettled v d n file → Settles u x d2 n2 file2)
+    → (file ≡ Gone → file2 ≡ Gone) → Settles (s ++ u) x d2 n2 file2
+kept_act s u v x d d2 n n2 file file2 k free alike on gone =
+    let h = still s v k.final x free k.guarded alike k.runs in
+    let next = on (subst (λ (w : Lens). IsSettled w d n file) h.0 k.settled) in
+    record {
+      final = next.final;
+      runs = run-append_some s u x x h.1 ∙ next.runs;
+      settled = next.settled;
+      guarded = guarded-append s u k.guarded next.guarded;
+      closed = λ e. either (closes-append s u e) (λ p. gone (k.closed p)) next.closed;
+    }
+  where
+    either : (closes s ≡ true) ⊎ (closes u ≡ true) → (closes s ≡ true → file2 ≡ Gone) → (closes u ≡ true → file2 ≡ Gone) → file2 ≡ Gone
+    either (inl p) f g = f p
+    either (inr p) f g = g p
+
+-- a lens is alike to itself
+pub alike_same : (v : Lens) → IsAlike v v
+alike_same (lens c e n Unknown) = tt
+alike_same (lens c e n Known) = tt
+alike_same (lens c e n (Open r k)) = tt
+
+-- the settled state of a free file is the present one
+pub kept_free : (s : List Action) (v : Lens) (d : Bool) (n : ℕ) (file : HFile) → Settles s v d n file → IsFree v → IsSettled v d n file
+kept_free s v d n file k free = subst (λ (w : Lens). IsSettled w d n file) (still s v k.final v free k.guarded (alike_same v) k.runs).0 k.settled
+
+-- a settled lens, by what the host has
+pub record SettledOpen (w : Lens) (d : Bool) (n : ℕ) (file : HFile) : Type 0 where
+  pub rasp : List (Option ℕ)
+  pub text : List ℕ
+  pub is : w ≡ lens false d n (Open rasp 0)
+  pub opened : file ≡ Opened text
+  pub agrees : Agrees rasp text
+
+pub settled_open : (w : Lens) (d : Bool) (n : ℕ) (file : HFile) → IsOpen w → IsSettled w d n file → SettledOpen w d n file
+settled_open (lens c e m Unknown) d n file o x = absurd o
+settled_open (lens c e m Known) d n file o x = absurd o
+settled_open (lens c e m (Open r k)) d n Absent o x = absurd x.3
+settled_open (lens c e m (Open r k)) d n (Hidden t) o x = absurd x.3
+settled_open (lens c e m (Open r k)) d n (Named t) o x = absurd x.3
+settled_open (lens c e m (Open r k)) d n (Opened t) o x = record { rasp = r; text = t; is = λ i. lens (x.0 i) (x.1 i) (x.2 i) (Open r (x.3.0 i)); opened = refl; agrees = x.3.1 }
+settled_open (lens c e m (Open r k)) d n Gone o x = absurd x.3
+
+pub settled_opened : (w : Lens) (d : Bool) (n : ℕ) (t : List ℕ) → IsSettled w d n (Opened t) → (r : List (Option ℕ)) × (w ≡ lens false d n (Open r 0)) × Agrees r t
+settled_opened (lens c e m Unknown) d n t x = absurd x.3
+settled_opened (lens c e m Known) d n t x = absurd x.3
+settled_opened (lens c e m (Open r k)) d n t x = (r, λ i. lens (x.0 i) (x.1 i) (x.2 i) (Open r (x.3.0 i)), x.3.1)
+
+-- the settled lens without its slot
+pub settled_slot : (w : Lens) (d : Bool) (n : ℕ) (file : HFile) → IsSettled w d n file → (s : Slot) × (w ≡ lens false d n s) × Fits_slot s file
+settled_slot (lens c e m s) d n file x = (s, λ i. lens (x.0 i) (x.1 i) (x.2 i) s, x.3)
+
+pub kept_more : (s : List Action) (v : Lens) (d : Bool) (n : ℕ) (file : HFile) → Settles s v d n file → Settles (s ++ []) v d n file
+kept_more s v d n file k = subst (λ (u : List Action). Settles u v d n file) (sym (append-nil s)) k
+
+-- with a test that passes
+pub if_passes : (b : Bool) (x : Lens) (f : Lens → Option Lens) (w : Option Lens) → b ≡ true → f x ≡ w → and_then (if b then Some x else None) f ≡ w
+if_passes true x f w e h = h
+if_passes false x f w e h = absurd (true≢false (sym e))
+
+-- the answer to a Trequest frees its lock, and loads what agrees
+pub kept_data : (d : Bool) (n : ℕ) (r : List (Option ℕ)) (t : List ℕ) (p m : ℕ) → d ≡ false → Agrees r t → Settles (request_actions d (Opened t) p m) (lens false d n (Open r 1)) d n (Opened t)
+kept_data true n r t p m e a = absurd (true≢false e)
+kept_data false n r t p m e a =
+    let x = take (min m most_in_message) (drop p t) in
+    let q = min p (length t) in
+    let long : q + length x ≤ length r = omega (arith, length_agrees r t a, length-take (min m most_in_message) (drop p t), length-drop p t) in
+    let fits : q + length x ≤ length t = omega (arith, length_agrees r t a, long) in
+    let same : x ≡ take (length x) (drop q t) = sym (take_min (min m most_in_message) (drop p t)) ∙ (λ i. take (sym (length-take (min m most_in_message) (drop p t)) i) (sym (drop_min p t) i)) in
+    record {
+      final = lens false false n (Open (load_cells r q x) 0);
+      runs = if_passes (nat_le (q + length x) (length r)) (lens false false n (Open (load_cells r q x) 1)) (run (Free_file ∷ [])) _ (le-leb _ _ long) refl;
+      settled = (refl, refl, refl, (refl, subst (λ (s : List ℕ). Agrees (load_cells r q s) t) (sym same) (agrees_loaded r t q (length x) a fits)));
+      guarded = (λ c. refl, (λ c. absurd (true≢false (sym c)), tt));
+      closed = λ c. absurd (true≢false (sym c));
+    }
+
+no_actions : (d : Bool) (file : HFile) (p m : ℕ) → (d ≡ true) ⊎ (file ≡ Gone) → CanRequest d file × (request_actions d file p m ≡ [])
+no_actions true file p m h = (tt, refl)
+no_actions false file p m (inl h) = absurd (true≢false (sym h))
+no_actions false file p m (inr h) = subst (λ (f : HFile). CanRequest false f × (request_actions false f p m ≡ [])) (sym h) (tt, refl)
+
+pub exited_settled : (w : Lens) (d : Bool) (n : ℕ) (file : HFile) → IsSettled w d n file → exited_of w ≡ d
+exited_settled (lens c e m s) d n file x = x.1
+
+can_request_open : (d : Bool) (t : List ℕ) → CanRequest d (Opened t)
+can_request_open true t = tt
+can_request_open false t = tt
+
+-- a Trequest that the terminal composes while it takes a frame, and its answer
+pub kept_request : (s : List Action) (v : Lens) (d : Bool) (n : ℕ) (file : HFile) (p m : ℕ) → Settles s v d n file → IsOpen v → exited_of v ≡ false
+    → CanRequest d file × Settles (s ++ request_actions d file p m) (locked_more v) d n file
+kept_request s v d n file p m k o e = go (runs_more s v k.final o k.runs)
+  where
+    exited : d ≡ (exits s || exited_of v)
+    exited = sym (exited_settled k.final d n file k.settled) ∙ exited_after s v k.final k.runs
+
+    why : (closes s ≡ true) ⊎ (exits s ≡ true) → (d ≡ true) ⊎ (file ≡ Gone)
+    why (inl c) = inr (k.closed c)
+    why (inr c) = inl (exited ∙ or_left (exits s) (exited_of v) c)
+
+    ended : run s (locked_more v) ≡ Some k.final → (d ≡ true) ⊎ (file ≡ Gone) → CanRequest d file × Settles (s ++ request_actions d file p m) (locked_more v) d n file
+    ended r h =
+        let q = no_actions d file p m h in (
+          q.0,
+          subst (λ (u : List Action). Settles (s ++ u) (locked_more v) d n file) (sym q.1)
+              (kept_more s (locked_more v) d n file (record { final = k.final; runs = r; settled = k.settled; guarded = k.guarded; closed = k.closed })),
+        )
+
+    running : (t : List ℕ) → file ≡ Opened t → (closes s ≡ true → file ≡ Gone) → (x : Lens) → run s (locked_more v) ≡ Some x → Settles (request_actions d (Opened t) p m) x d n (Opened t)
+        → CanRequest d file × Settles (s ++ request_actions d file p m) (locked_more v) d n file
+    running t q gone x r loads = subst (λ (f : HFile). CanRequest d f × Settles (s ++ request_actions d f p m) (locked_more v) d n f) (sym q) (
+      can_request_open d t,
+      record {
+        final = loads.final;
+        runs = run-append_some s (request_actions d (Opened t) p m) (locked_more v) x r ∙ loads.runs;
+        settled = loads.settled;
+        guarded = guarded-append s (request_actions d (Opened t) p m) k.guarded loads.guarded;
+        closed = λ c. either (closes-append s (request_actions d (Opened t) p m) c) (λ w. sym q ∙ gone w) loads.closed;
+      },
+    )
+      where
+        either : (closes s ≡ true) ⊎ (closes (request_actions d (Opened t) p m) ≡ true) → (closes s ≡ true → Opened t ≡ Gone)
+            → (closes (request_actions d (Opened t) p m) ≡ true → Opened t ≡ Gone) → Opened t ≡ Gone
+        either (inl c) f g = f c
+        either (inr c) f g = g c
+
+    go : ((((closes s || exits s) ≡ true) × (run s (locked_more v) ≡ Some k.final)) ⊎ (IsOpen k.final × (run s (locked_more v) ≡ Some (locked_more k.final)) × ((closes s || exits s) ≡ false)))
+        → CanRequest d file × Settles (s ++ request_actions d file p m) (locked_more v) d n file
+    go (inl h) = ended h.1 (why (or_cases _ _ h.0))
+    go (inr h) =
+        let so = settled_open k.final d n file h.0 k.settled in
+        let none : d ≡ false = exited ∙ ap (λ (b : Bool). b || exited_of v) (or_parts (closes s) (exits s) h.2).1 ∙ e in
+        running so.text so.opened k.closed (lens false d n (Open so.rasp 1)) (h.1 ∙ ap (λ (y : Lens). Some (locked_more y)) so.is) (kept_data d n so.rasp so.text p m none so.agrees)
+
+-- frames of other files change nothing
+pub kept_skips : (u : List Action) (w : Lens) (d : Bool) (n : ℕ) (file : HFile) → AreSkips u → IsSettled w d n file → Settles u w d n file
+kept_skips [] w d n file a x = record { final = w; runs = refl; settled = x; guarded = tt; closed = λ c. absurd (true≢false (sym c)) }
+kept_skips (a ∷ u) w d n file q x =
+    let k = kept_skips u w d n file q.1 x in
+    subst (λ (b : Action). Settles (b ∷ u) w d n file) (sym q.0)
+    (record { final = k.final; runs = k.runs; settled = k.settled; guarded = (λ c. absurd (true≢false (sym c)), k.guarded); closed = k.closed })

@@ -1,0 +1,54 @@
+use Rattle.std.proofs.Common.{[], ◌∷◌, length, ap, ◌∙◌, subst, arith, length-append}
+use Rattle.crossbeam_queue.specs.Passes.{view}
+use Rattle.crossbeam_queue.specs.Fifo.{Held}
+use Rattle.sam_queue.specs.declared.rule.Port.{Port}
+use Rattle.sam_queue.specs.Rule.{Takes, Whole}
+use Rattle.sam_queue.specs.Ports.{seen_in}
+use Rattle.sam_queue.proofs.Drains.{full_wholes, full_takes, full_still, full_more, full_begins_still, full_until, full_drained}
+use Rattle.sam_queue.proofs.auditing.drain.Goals as goal
+
+pub len_as-held-requires-clause-rule : goal.len_as-held-requires-clause-rule
+len_as-held-requires-clause-rule g c = full_wholes _ _ c.requires.knows
+
+pub pop_as-requires-clause-rule : goal.pop_as-requires-clause-rule
+pop_as-requires-clause-rule g c =
+    let full = full_still (view c.args.pass.now) c.loop.entries.items (seen_in (view c.loop.pass)) c.requires.knows in
+    rw c.loop.invariant.knows (full_takes _ _ full, full_wholes _ _ full)
+
+pub unreachable-requires : goal.unreachable-requires
+unreachable-requires g c =
+    let T : Type 0 = g.row.T.Denot in
+    let none = subst (λ (v : Port T). Held 0 (Whole v)) c.loop.invariant.knows c.in-None.ensures.rule.1 in
+    let n = full_until (view c.args.pass.now) c.loop.entries.items (seen_in (view c.loop.pass)) c.len_as-held.result c.requires.knows c.len_as-held.ensures.rule.1 none in
+    omega (arith, n, c.loop.invariant.many, c.loop-test.true)
+
+pub loop-preserved : goal.loop-preserved
+loop-preserved g c =
+    let T : Type 0 = g.row.T.Denot in
+    let inv = c.loop.invariant in
+    let e = c.in-Some.entry in
+    let w = view c.pop_as.new.pass in
+    let v = view c.args.pass.now in
+    let took = subst (λ (u : Port T). Takes u e w) inv.knows c.in-Some.ensures.rule in
+    let pushed = c.push_reserved.ensures.items in
+    record {
+      pass_of = c.in-Some.ensures.queue.0 ∙ inv.pass_of;
+      nothing_out = c.in-Some.ensures.queue.2 ∙ inv.nothing_out;
+      knows = full_more v c.loop.entries.items (seen_in (view c.loop.pass)) _ e w c.requires.knows took pushed;
+      begins = full_begins_still v c.loop.entries.items (seen_in (view c.loop.pass)) (seen_in v) e w c.requires.knows took inv.begins;
+      room = omega (arith, c.push_reserved.ensures.capacity, inv.room);
+      many = omega (arith, ap length pushed, length-append c.loop.entries.items (e ∷ []), inv.many);
+    }
+
+pub learn_as-requires-clause-rule : goal.learn_as-requires-clause-rule
+learn_as-requires-clause-rule g c =
+    let full = full_still (view c.args.pass.now) c.loop.entries.items (seen_in (view c.loop.pass)) c.requires.knows in
+    rw c.loop.invariant.knows (full_wholes _ _ full)
+
+pub returns-clause-all : goal.returns-clause-all
+returns-clause-all g c =
+    let T : Type 0 = g.row.T.Denot in
+    let inv = c.loop.invariant in
+    let rule = c.learn_as.ensures.rule in
+    full_drained (view c.args.pass.now) c.loop.entries.items (seen_in (view c.loop.pass)) c.len_as-held.result c.requires.knows inv.begins c.len_as-held.ensures.rule.1
+    (omega (arith, inv.many, c.loop-test.false, c.loop.auto.counter-end)) (rule.0, subst (λ (u : Port T). Whole u rule.0) inv.knows rule.1)

@@ -1,0 +1,221 @@
+-- Sections taken out of a list and put back.
+use Rattle.std.proofs.Common.{◌≡◌, refl, sym, ap, ◌∙◌, subst, ℕ, suc, ◌+◌, ◌-◌, ◌≤◌, ◌<◌, List, [], ◌∷◌, ◌++◌, take, drop, length, min, reverse, arith, ◌⊎◌, inl, inr}
+use Rattle.std.proofs.lemmas.List.{append-nil, append_assoc, drop-take, nil_from_length, take_at, drop_at, drop_min, drop-drop, take-take, take-append-drop, drop-append-le, length-append, length-reverse, length-take, length-drop, take-append-le, drop-append-le}
+use Rattle.std.proofs.lemmas.List.Concat.{flat_map-append}
+use Rattle.sam_rasp.specs.Rasp.{PartialText}
+use Rattle.sam_rasp.specs.Sections.{cells, cells_of, cells_back, IsApart, StaysApart, IsNormal}
+use Rattle.sam_rasp.specs.declared.section.Section.{Section}
+use Rattle.sam_rasp.proofs.SectionLaws.{normal-between}
+use Rattle.sam_rasp.proofs.Changes.{take-past, drop-past}
+use Rattle.sam_rasp.proofs.Runs.{normal-take, normal-drop}
+use Rattle.std.proofs.lemmas.Bool.{cases_lt}
+use Rattle.std.specs.List.{insert}
+
+pub take-below : {X : Type 0} (xs ys : List X) (n m : ℕ) → n ≤ m → take m xs ≡ take m ys → take n xs ≡ take n ys
+take-below xs ys n m le e = sym (take-take n m xs le) ∙ (ap (take n) e ∙ take-take n m ys le)
+
+-- y in the place of what stood in v from number front to number end, as a write to a part of a vector leaves it
+pub behind-part : {X : Type 0} (v y old : List X) (front n end len : ℕ) → length v ≡ len → length y ≡ n → front + n ≡ end → end ≤ len
+    → drop end (take len ((take front v ++ (y ++ drop n (drop front v))) ++ drop (length (take front v ++ (y ++ drop n (drop front v)))) old)) ≡ drop end v
+behind-part v y old front n end len lv ly sum within =
+    let rest = drop n (drop front v) in
+    let m = take front v ++ (y ++ rest) in
+    let same : length m ≡ len = omega (
+      arith,
+      length-append (take front v) (y ++ rest),
+      length-append y rest,
+      length-take front v,
+      length-drop n (drop front v),
+      length-drop front v,
+      lv,
+      ly,
+      sum,
+      within,
+    ) in
+    let la : length (take front v) + n ≡ end = omega (arith, length-take front v, lv, sum, within) in
+    ap (drop end) (take_at m (drop (length m) old) len same)
+    ∙ (drop-past (take front v) (y ++ rest) n end la ∙ (drop_at y rest n ly ∙ (drop-drop n front v ∙ ap (λ j. drop j v) sum)))
+
+-- y is v from number at on, turned round so that its last sections, so many as more, come first
+pub behind-turned : {X : Type 0} (v y old xs : List X) (at n more k len : ℕ) → length v ≡ len → length xs + more ≡ len → take (length xs) v ≡ xs → at ≤ length xs → n ≡ len - at → k ≡ n - more
+    → y ≡ drop k (drop at v) ++ take k (drop at v)
+    → drop (at + more) (take len ((take at v ++ (y ++ drop n (drop at v))) ++ drop (length (take at v ++ (y ++ drop n (drop at v)))) old)) ≡ drop at xs
+behind-turned v y old xs at n more k len lv lx e within en ek ey =
+    let d = drop at v in
+    let rest = drop n d in
+    let m = take at v ++ (y ++ rest) in
+    let ly = ap length ey in
+    let sides : length y ≡ n = omega (arith, ly, length-append (drop k d) (take k d), length-drop k d, length-take k d, length-drop at v, lv, en, ek, lx, within) in
+    let same : length m ≡ len = omega (arith, length-append (take at v) (y ++ rest), length-append y rest, length-take at v, length-drop n d, length-drop at v, lv, sides, en, lx, within) in
+    let la : length (take at v) + more ≡ at + more = omega (arith, length-take at v, lv, lx, within) in
+    let none : rest ≡ [] = nil_from_length rest (omega (arith, length-drop n d, length-drop at v, lv, en)) in
+    let lk : length (drop k d) ≡ more = omega (arith, length-drop k d, length-drop at v, lv, en, ek, lx, within) in
+    let sum : at + k ≡ length xs = omega (arith, en, ek, lx, within) in
+    ap (drop (at + more)) (take_at m (drop (length m) old) len same)
+    ∙ (drop-past (take at v) (y ++ rest) more (at + more) la
+    ∙ (ap (λ z. drop more (y ++ z)) none ∙ (ap (drop more) (append-nil y ∙ ey) ∙ (drop_at (drop k d) (take k d) more lk
+    ∙ (sym (drop-take at k v) ∙ ap (drop at) (ap (λ j. take j v) sum ∙ e))))))
+
+-- w and the section z behind it stood from number front to number end; z is there if last is below end
+pub record Parted {X : Type 0} (xs w z : List X) (front last : ℕ) : Type 0 where
+  pub inner : w ≡ take (last - front) (drop front xs)
+  pub next : z ++ drop (last + 1) xs ≡ drop last xs
+
+pub parted : {X : Type 0} (xs w z : List X) (front last end : ℕ) → w ++ z ≡ take (end - front) (drop front xs)
+    → length w ≡ last - front → end ≡ min (length xs) (last + 1) → front ≤ last → last ≤ length xs → Parted xs w z front last
+parted xs w z front last end e lw le ordered within =
+    let d = drop front xs in
+    let m = last - front in
+    let k = end - front in
+    let inner : w ≡ take m d = sym (take_at w z m lw) ∙ (ap (take m) e ∙ take-take m k d (omega (arith, le, ordered, within))) in
+    let after : z ≡ drop m (take k d) = sym (drop_at w z m lw) ∙ ap (drop m) e in
+    let to : front + k ≡ min (last + 1) (length xs) = omega (arith, le, ordered, within) in
+    let tail : drop k d ≡ drop (last + 1) xs = drop-drop k front xs ∙ (ap (λ j. drop j xs) to ∙ drop_min (last + 1) xs) in
+    let sum : front + m ≡ last = omega (arith, ordered) in
+    let enough : m ≤ length (take k d) = omega (arith, length-take k d, length-drop front xs, le, ordered, within) in
+    let behind : drop m (take k d) ++ drop k d ≡ drop last xs =
+    sym (drop-append-le m (take k d) (drop k d) enough) ∙ (ap (drop m) (take-append-drop k d) ∙ (drop-drop m front xs ∙ ap (λ j. drop j xs) sum)) in
+    record { inner = inner; next = ap (λ y. y ++ drop (last + 1) xs) after ∙ (ap (λ y. drop m (take k d) ++ y) (sym tail) ∙ behind) }
+
+pub cells-append : (xs ys : List Section) → cells_of (xs ++ ys) ≡ cells_of xs ++ cells_of ys
+cells-append xs ys = flat_map-append cells xs ys
+
+-- what a change reaches of xs: o and w from section number front to number last, and z behind them
+pub record Opened (xs o w z : List Section) (front last : ℕ) (begin first : ℕ) : Type 0 where
+  pub list : xs ≡ take front xs ++ ((o ++ reverse w) ++ (z ++ drop (last + 1) xs))
+  pub whole : cells_of xs ≡ cells_of (take front xs) ++ ((cells_of o ++ cells_back w) ++ (cells_of z ++ cells_of (drop (last + 1) xs)))
+  pub lengths : length (cells_of xs) ≡ begin + ((length (cells_of o) + length (cells_back w)) + (length (cells_of z) + length (cells_of (drop (last + 1) xs))))
+  pub before : begin + length (cells_of o) ≡ first
+  pub ends : length (cells_of (take last xs)) ≡ begin + (length (cells_of o) + length (cells_back w))
+  pub count : length xs ≡ front + ((length o + length w) + (length z + length (drop (last + 1) xs)))
+
+pub opened : (xs o w z : List Section) (front number last begin first : ℕ) → o ++ reverse w ≡ take (last - front) (drop front xs) → z ++ drop (last + 1) xs ≡ drop last xs
+    → front ≤ number → length o ≡ number - front → number ≤ last
+    → last ≤ length xs → length (cells_of (take front xs)) ≡ begin → length (cells_of (take number xs)) ≡ first → Opened xs o w z front last begin first
+opened xs o w z front number last begin first inner next le few ordered within b f =
+    let d = drop (last + 1) xs in
+    let m = last - front in
+    let a = take front xs in
+    let sum : front + m ≡ last = omega (arith, le, ordered) in
+    let behind : drop m (drop front xs) ≡ z ++ d = drop-drop m front xs ∙ (ap (λ j. drop j xs) sum ∙ sym next) in
+    let tail : drop front xs ≡ (o ++ reverse w) ++ (z ++ d) =
+    sym (take-append-drop m (drop front xs)) ∙ (ap (λ y. y ++ drop m (drop front xs)) (sym inner) ∙ ap (λ y. (o ++ reverse w) ++ y) behind) in
+    let list : xs ≡ a ++ ((o ++ reverse w) ++ (z ++ d)) = sym (take-append-drop front xs) ∙ ap (λ y. a ++ y) tail in
+    let la : length a ≡ front = omega (arith, length-take front xs, le, ordered, within) in
+    let lo : front + length o ≡ number = omega (arith, few, le) in
+    let lw : length (o ++ reverse w) ≡ m = ap length inner ∙ omega (arith, length-take m (drop front xs), length-drop front xs, le, ordered, within) in
+    let to-number : take number xs ≡ a ++ o =
+    ap (take number) list ∙ (take-past a ((o ++ reverse w) ++ (z ++ d)) (length o) number (omega (arith, la, lo))
+    ∙ ap (λ y. a ++ y) (ap (take (length o)) (append_assoc o (reverse w) (z ++ d)) ∙ take_at o (reverse w ++ (z ++ d)) (length o) refl)) in
+    let to-last : take last xs ≡ a ++ (o ++ reverse w) =
+    ap (take last) list ∙ (take-past a ((o ++ reverse w) ++ (z ++ d)) m last (omega (arith, la, sum)) ∙ ap (λ y. a ++ y) (take_at (o ++ reverse w) (z ++ d) m lw)) in
+    let inside : cells_of (o ++ reverse w) ≡ cells_of o ++ cells_back w = cells-append o (reverse w) in
+    let whole : cells_of xs ≡ cells_of a ++ ((cells_of o ++ cells_back w) ++ (cells_of z ++ cells_of d)) =
+    ap cells_of list ∙ (cells-append a ((o ++ reverse w) ++ (z ++ d)) ∙ ap (λ y. cells_of a ++ y) (cells-append (o ++ reverse w) (z ++ d)
+    ∙ (ap (λ y. y ++ cells_of (z ++ d)) inside ∙ ap (λ y. (cells_of o ++ cells_back w) ++ y) (cells-append z d)))) in
+    record {
+      list = list;
+      whole = whole;
+      lengths = ap length whole ∙ omega (
+        arith,
+        b,
+        length-append (cells_of a) ((cells_of o ++ cells_back w) ++ (cells_of z ++ cells_of d)),
+        length-append
+            (cells_of o ++ cells_back w) (cells_of z ++ cells_of d),
+        length-append (cells_of o) (cells_back w),
+        length-append (cells_of z) (cells_of d),
+      );
+      before = omega (arith, b, f, ap (λ y. length (cells_of y)) to-number, ap length (cells-append a o), length-append (cells_of a) (cells_of o));
+      ends = omega (
+        arith,
+        b,
+        ap (λ y. length (cells_of y)) to-last,
+        ap length (cells-append a (o ++ reverse w)),
+        length-append (cells_of a) (cells_of (o ++ reverse w)),
+        ap length inside,
+        length-append (cells_of o) (cells_back w),
+      );
+      count = ap length list ∙ omega (
+        arith,
+        la,
+        length-append a ((o ++ reverse w) ++ (z ++ d)),
+        length-append (o ++ reverse w) (z ++ d),
+        length-append o (reverse w),
+        length-reverse w,
+        length-append z d,
+      );
+    }
+
+-- a change inside t, with a before it and b behind it
+pub change-inside : (a t b m : PartialText) (p at n : ℕ) → length a + at ≡ p → at + n ≤ length t
+    → a ++ (((take at t ++ m) ++ drop (at + n) t) ++ b) ≡ (take p (a ++ (t ++ b)) ++ m) ++ drop (p + n) (a ++ (t ++ b))
+change-inside a t b m p at n place within =
+    let front : take p (a ++ (t ++ b)) ≡ a ++ take at t = take-past a (t ++ b) at p place ∙ ap (λ y. a ++ y) (take-append-le at t b (omega (arith, within))) in
+    let back : drop (p + n) (a ++ (t ++ b)) ≡ drop (at + n) t ++ b = drop-past a (t ++ b) (at + n) (p + n) (omega (arith, place)) ∙ drop-append-le (at + n) t b within in
+    ap (λ y. a ++ y) (append_assoc (take at t ++ m) (drop (at + n) t) b ∙ append_assoc (take at t) m (drop (at + n) t ++ b))
+    ∙ (sym (append_assoc a (take at t) (m ++ (drop (at + n) t ++ b)))
+    ∙ (ap (λ y. y ++ (m ++ (drop (at + n) t ++ b))) (sym front)
+    ∙ (sym (append_assoc (take p (a ++ (t ++ b))) m (drop (at + n) t ++ b))
+    ∙ ap (λ y. (take p (a ++ (t ++ b)) ++ m) ++ y) (sym back))))
+
+-- s is xs but for the places of the window; o stands there now
+pub closed : {X : Type 0} (xs s new o : List X) (front last : ℕ) → take front s ≡ take front xs → drop (last + 1) s ≡ drop (last + 1) xs
+    → new ≡ (take front s ++ o) ++ drop (last + 1) s → new ≡ take front xs ++ (o ++ drop (last + 1) xs)
+closed xs s new o front last before behind e =
+    e ∙ (ap (λ y. (y ++ o) ++ drop (last + 1) s) before ∙ (ap (λ y. (take front xs ++ o) ++ y) behind ∙ append_assoc (take front xs) o (drop (last + 1) xs)))
+
+pub head-apart : (w : Section) (o r : List Section) → 0 < length o → StaysApart w (o ++ r) → IsApart w o
+head-apart w [] r l s = absurd (omega (arith, l))
+head-apart w (a ∷ o) r l s = s
+
+pub apart-head : (w : Section) (o r : List Section) → IsApart w o → StaysApart w (o ++ r)
+apart-head w [] r s = absurd s
+apart-head w (a ∷ o) r s = s
+
+pub closed-normal : (xs o w z o' : List Section) (front last begin first : ℕ) → Opened xs o w z front last begin first → IsNormal xs → (front ≡ 0) ⊎ (0 < length o)
+    → ((v : Section) → IsApart v o → IsApart v o') → IsNormal (o' ++ drop (last + 1) xs) → IsNormal (take front xs ++ (o' ++ drop (last + 1) xs))
+closed-normal xs o w z o' front last begin first p h (inl none) k g = subst (λ j. IsNormal (take j xs ++ (o' ++ drop (last + 1) xs))) (sym none) g
+closed-normal xs o w z o' front last begin first p h (inr some) k g =
+    let behind = reverse w ++ (z ++ drop (last + 1) xs) in
+    let same : (o ++ reverse w) ++ (z ++ drop (last + 1) xs) ≡ o ++ behind = append_assoc o (reverse w) (z ++ drop (last + 1) xs) in
+    normal-between (take front xs) (o ++ behind) (o' ++ drop (last + 1) xs) (subst IsNormal (p.list ∙ ap (λ y. take front xs ++ y) same) h)
+    (λ v s. apart-head v o' (drop (last + 1) xs) (k v (head-apart v o behind some s))) g
+
+-- where no section is behind the window the list ends
+pub nothing-behind : (xs z : List Section) (last : ℕ) → z ++ drop (last + 1) xs ≡ drop last xs → z ≡ [] → drop (last + 1) xs ≡ []
+nothing-behind xs z last e none =
+    let same = ap length (ap (λ y. y ++ drop (last + 1) xs) (sym none) ∙ e) in
+    nil_from_length (drop (last + 1) xs) (omega (arith, same, length-drop (last + 1) xs, length-drop last xs))
+
+pub normal-front : (xs o r : List Section) (i n : ℕ) → o ++ r ≡ take n (drop i xs) → IsNormal xs → IsNormal o
+normal-front xs o r i n e h =
+    subst IsNormal (take_at o r (length o) refl) (normal-take (o ++ r) (length o) (subst IsNormal (sym e) (normal-take (drop i xs) n (normal-drop xs i h))))
+
+pub has-front : (front number n : ℕ) → n ≡ number - front → front ≤ number → (front ≡ number → front ≡ 0) → (front ≡ 0) ⊎ (0 < n)
+has-front front number n e le none = go (cases_lt front number)
+  where
+    go : (front < number) ⊎ (number ≤ front) → (front ≡ 0) ⊎ (0 < n)
+    go (inl l) = inr (omega (arith, l, e))
+    go (inr l) = inl (none (omega (arith, l, le)))
+
+pub change-length : (t m : PartialText) (at n : ℕ) → at + n ≤ length t → length ((take at t ++ m) ++ drop (at + n) t) + n ≡ length t + length m
+change-length t m at n le =
+    omega (arith, le, length-append (take at t ++ m) (drop (at + n) t), length-append (take at t) m, length-take at t, length-drop (at + n) t)
+
+-- ## A section put in
+
+pub before-inserted : {X : Type 0} (new old first : List X) (x : X) (at : ℕ) → at ≤ length old → new ≡ insert old at x → take at old ≡ take at first
+    → take at new ≡ take at first
+before-inserted new old first x at within is same =
+    ap (take at) is ∙ (take_at (take at old) (x ∷ drop at old) at (omega (arith, length-take at old, within)) ∙ same)
+
+pub behind-inserted : {X : Type 0} (new old first : List X) (x : X) (at n : ℕ) → at ≤ length old → new ≡ insert old at x → drop (at + n) old ≡ drop at first
+    → drop (at + (n + 1)) new ≡ drop at first
+behind-inserted new old first x at n within is same =
+    let length_is : length (take at old) + (n + 1) ≡ at + (n + 1) = omega (arith, length-take at old, within) in
+    ap (drop (at + (n + 1))) is
+    ∙ (drop-past (take at old) (x ∷ drop at old) (n + 1) (at + (n + 1)) length_is
+    ∙ (ap (λ j. drop j (x ∷ drop at old)) (next n) ∙ (drop-drop n at old ∙ same)))
+  where
+    next : (n : ℕ) → n + 1 ≡ suc n
+    next n = omega (arith)

@@ -1,0 +1,310 @@
+//! What each frame of the host does to the terminal, once nothing stands against it. `frame_refusals` has the tests.
+
+ghost use Rattle.std.specs.Prelude.{◌≡◌, ◌+◌, ◌<◌, ◌≤◌, ◌==◌, if◌then◌else◌, [], length, IsTrue, None, false, true};
+ghost use Rattle.sam_runes.specs.Slots.{free_slot};
+ghost use Rattle.sam_runes.specs.Texts.{agreed, most_count, max_runes};
+ghost use Rattle.sam_term.specs.Taking.{IsAnswer, countable, frame_fault};
+ghost use Rattle.sam_term.specs.Term.{take_of, is_open, is_known, window_at, known_at, frame_outcome, took_bindname, took_unlockfile, took_close, took_exit, put_known};
+
+use crate::fault::TermFault;
+use crate::moving::drop_unsent;
+use crate::records::{KnownFile, Window};
+use crate::term::Terminal;
+use sam_mesg::{Batch, HFrame, Hmesg, Tmesg};
+use sam_rasp::Rasp;
+use sam_runes::{Runes, agreed};
+
+impl Terminal {
+    /// Takes a frame, as `Terminal::receive` says: its stamp is tested first, then what stands against its message. The terminal is
+    /// unchanged after an error.
+    pub(crate) fn take_frame(&mut self, frame: HFrame) -> Result<Batch, TermFault>
+        ensures { IsAnswer self.old self.new result (take_of self.old frame) }
+    {
+        if self.sent < frame.seen {
+            return Err(TermFault::FromTheFuture);
+        }
+        match self.refusal(&frame.msg) {
+            Some(why) => Err(why),
+            None => self.take(frame.msg),
+        }
+    }
+
+    /// Takes a message that nothing stands against. Errors, in this order: `CountFull`; `OutOfMemory`. The terminal is then unchanged.
+    fn take(&mut self, message: Hmesg) -> Result<Batch, TermFault>
+        requires { frame_fault self.old message ≡ None }
+        ensures { IsAnswer self.old self.new result (countable (frame_outcome self.old message)) }
+    {
+        match message {
+            Hmesg::Hversion(version) => {
+                self.set_version(version);
+                Ok(self.nothing())
+            }
+            Hmesg::Hcurrent(tag) => {
+                self.current = Some(tag);
+                Ok(self.nothing())
+            }
+            Hmesg::Hunlock => {
+                self.command_lock = false;
+                Ok(self.nothing())
+            }
+            Hmesg::Horigin(tag, p) => {
+                self.set_view_start(tag, p);
+                Ok(self.nothing())
+            }
+            Hmesg::Hsetdot(tag, p, q) => {
+                self.set_dot(tag, p, q);
+                Ok(self.nothing())
+            }
+            Hmesg::Hmoveto(tag, p) => {
+                self.set_view_start(tag, p);
+                Ok(self.nothing())
+            }
+            Hmesg::Hsetpat(pattern) => {
+                self.pattern = pattern;
+                Ok(self.nothing())
+            }
+            Hmesg::Hsetsnarf(text) => {
+                self.snarf = text;
+                Ok(self.nothing())
+            }
+            Hmesg::Hack => self.take_ack(),
+            Hmesg::Hsnarflen(length) => {
+                self.snarf_length = length;
+                Ok(self.nothing())
+            }
+            Hmesg::Hbindname(tag) => {
+                self.open_file(tag);
+                Ok(self.nothing())
+            }
+            Hmesg::Hnewname(tag) => self.take_newname(tag),
+            Hmesg::Hmovname(tag, name) => {
+                self.rename_file(tag, name);
+                Ok(self.nothing())
+            }
+            Hmesg::Hgrow(tag, p, n) => self.take_grow(tag, p, n),
+            Hmesg::Hdata(tag, p, text) => self.take_data(tag, p, text),
+            Hmesg::Hgrowdata(tag, p, text) => self.take_growdata(tag, p, text),
+            Hmesg::Hclean(tag) => {
+                self.mark_clean(tag);
+                Ok(self.nothing())
+            }
+            Hmesg::Hdirty(tag) => {
+                self.mark_dirty(tag);
+                Ok(self.nothing())
+            }
+            Hmesg::Hcut(tag, p, n) => {
+                self.cut_file(tag, p, n);
+                Ok(self.nothing())
+            }
+            Hmesg::Hdelname(tag) => {
+                self.drop_file(tag);
+                Ok(self.nothing())
+            }
+            Hmesg::Hclose(tag) => {
+                self.close_file(tag);
+                Ok(self.nothing())
+            }
+            Hmesg::Hexit => {
+                self.take_exit();
+                Ok(self.nothing())
+            }
+            Hmesg::Hcheck(tag) => self.take_check(tag),
+            Hmesg::Hunlockfile(tag) => self.take_unlockfile(tag),
+        }
+    }
+
+    /// Returns no messages. No memory is asked for.
+    fn nothing(&self) -> Batch
+        ensures nothing { result ≡ [] }
+        ensures countable { self.now.sent ≤ most_count }
+    {
+        Batch::from_vec(Vec::new(self.alloc))
+    }
+
+    /// Takes the version that both sides speak. Version 0 changes nothing.
+    fn set_version(&mut self, version: u16)
+        ensures { self.new ≡ record self.old { version = agreed self.old.version version } }
+    {
+        self.version = agreed(self.version, version);
+    }
+
+    /// Takes `Hack`: composes the unsent runes and a `Tack`, unless the session is over.
+    fn take_ack(&mut self) -> Result<Batch, TermFault>
+        ensures { IsAnswer self.old self.new result (countable (frame_outcome self.old Hmesg.Hack)) }
+    {
+        if self.exited {
+            return Ok(self.nothing());
+        }
+        self.send(Tmesg::Tack)
+    }
+
+    /// Takes `Hcheck`: composes the request that the file wants, if any, with the unsent runes before it.
+    fn take_check(&mut self, tag: u16) -> Result<Batch, TermFault>
+        ensures { IsAnswer self.old self.new result (countable (frame_outcome self.old (Hmesg.Hcheck tag))) }
+    {
+        match self.wanted(tag) {
+            Some(message) => self.send(message),
+            None => Ok(self.nothing()),
+        }
+    }
+
+    /// Takes `Hunlockfile`: frees one lock of the file, and composes the request that it wants, if any, with the unsent runes before it.
+    /// Count and memory are tested before the lock is freed.
+    fn take_unlockfile(&mut self, tag: u16) -> Result<Batch, TermFault>
+        requires opened { IsTrue (is_open self.old tag) }
+        requires locked { 0 < (window_at self.old tag).locks }
+        ensures { IsAnswer self.old self.new result (countable (frame_outcome self.old (Hmesg.Hunlockfile tag))) }
+    {
+        let Some(message) = self.wanted(tag) else {
+            self.free_lock(tag);
+            return Ok(self.nothing());
+        };
+        let count = 1 + self.unsent_count();
+        match self.prepare(count) {
+            Err(why) => Err(why),
+            Ok(mut out) => {
+                self.free_lock(tag);
+                self.send_prepared(message, &mut out);
+                Ok(out.into_batch())
+            }
+        }
+    }
+
+    /// Frees one lock of a file, which is open and has one.
+    fn free_lock(&mut self, tag: u16)
+        requires opened { IsTrue (is_open self.old tag) }
+        requires locked { 0 < (window_at self.old tag).locks }
+        ensures { self.new ≡ took_unlockfile self.old tag }
+    {
+        let window = self.files.window_mut(tag);
+        window.locks -= 1;
+    }
+
+    /// Takes `Hbindname`: opens a file that is known, with an empty rasp.
+    fn open_file(&mut self, tag: u16)
+        requires known { IsTrue (is_known self.old tag) }
+        requires shut { is_open self.old tag ≡ false }
+        ensures { self.new ≡ took_bindname self.old tag }
+    {
+        let window = Window {
+            rasp: Rasp::new(self.alloc),
+            dot: (0, 0),
+            view_start: 0,
+            view_length: 0,
+            locks: 0,
+            awaits: false,
+        };
+        self.files.file_mut(tag).window = Some(window);
+    }
+
+    /// Takes `Hnewname`: makes the tag known, as a file that has no name yet and is not open.
+    fn take_newname(&mut self, tag: u16) -> Result<Batch, TermFault>
+        requires { is_known self.old tag ≡ false }
+        ensures { IsAnswer self.old self.new result (countable (frame_outcome self.old (Hmesg.Hnewname tag))) }
+    {
+        let file = KnownFile {
+            name: Runes::from_vec(Vec::new(self.alloc)),
+            dirty: false,
+            changed: false,
+            window: None,
+        };
+        if let Err(_) = self.files.put_new(tag, file) {
+            return Err(TermFault::OutOfMemory);
+        }
+        Ok(self.nothing())
+    }
+
+    /// Takes `Hmovname`: gives a file that is known another name.
+    fn rename_file(&mut self, tag: u16, name: Runes)
+        requires { IsTrue (is_known self.old tag) }
+        ensures { self.new ≡ put_known self.old tag (record (known_at self.old tag) { name = name }) }
+    {
+        self.files.file_mut(tag).name = name;
+    }
+
+    /// Takes `Hdirty`: marks a file that is known as dirty. Whether the user changed it here stays as it is.
+    fn mark_dirty(&mut self, tag: u16)
+        requires { IsTrue (is_known self.old tag) }
+        ensures { self.new ≡ put_known self.old tag (record (known_at self.old tag) { dirty = true }) }
+    {
+        self.files.file_mut(tag).dirty = true;
+    }
+
+    /// Takes `Hclean`: a file that is known was written, so it is neither dirty nor changed here any more.
+    fn mark_clean(&mut self, tag: u16)
+        requires { IsTrue (is_known self.old tag) }
+        ensures { self.new ≡ put_known self.old tag (record (known_at self.old tag) { dirty = false; changed = false }) }
+    {
+        let file = self.files.file_mut(tag);
+        file.dirty = false;
+        file.changed = false;
+    }
+
+    /// Takes `Hdelname`: drops a file that is not open, whose tag is not known afterwards.
+    fn drop_file(&mut self, tag: u16)
+        requires known { IsTrue (is_known self.old tag) }
+        requires shut { is_open self.old tag ≡ false }
+        ensures { self.new ≡ record self.old { files = free_slot self.old.files tag } }
+    {
+        let _ = self.files.take_known(tag);
+    }
+
+    /// Takes `Hgrow`: puts `n` gaps into the rasp at `p`.
+    fn take_grow(&mut self, tag: u16, p: u32, n: u32) -> Result<Batch, TermFault>
+        requires opened { IsTrue (is_open self.old tag) }
+        requires place { p ≤ length (window_at self.old tag).rasp }
+        requires size { length (window_at self.old tag).rasp + n ≤ max_runes }
+        ensures { IsAnswer self.old self.new result (countable (frame_outcome self.old (Hmesg.Hgrow tag p n))) }
+    {
+        self.known();
+        if let Err(_) = self.grow_file(tag, p, n) {
+            return Err(TermFault::OutOfMemory);
+        }
+        Ok(self.nothing())
+    }
+
+    /// Takes `Hdata`: loads runes into places that are there.
+    fn take_data(&mut self, tag: u16, p: u32, text: Runes) -> Result<Batch, TermFault>
+        requires opened { IsTrue (is_open self.old tag) }
+        requires place { p + length text ≤ length (window_at self.old tag).rasp }
+        ensures { IsAnswer self.old self.new result (countable (frame_outcome self.old (Hmesg.Hdata tag p text))) }
+    {
+        self.known();
+        if let Err(_) = self.load_file(tag, p, text.as_slice()) {
+            return Err(TermFault::OutOfMemory);
+        }
+        Ok(self.nothing())
+    }
+
+    /// Takes `Hgrowdata`: puts runes into the rasp at `p`.
+    fn take_growdata(&mut self, tag: u16, p: u32, text: Runes) -> Result<Batch, TermFault>
+        requires opened { IsTrue (is_open self.old tag) }
+        requires place { p ≤ length (window_at self.old tag).rasp }
+        requires size { length (window_at self.old tag).rasp + length text ≤ max_runes }
+        ensures { IsAnswer self.old self.new result (countable (frame_outcome self.old (Hmesg.Hgrowdata tag p text))) }
+    {
+        self.known();
+        if let Err(_) = self.fill_file(tag, p, text.as_slice()) {
+            return Err(TermFault::OutOfMemory);
+        }
+        Ok(self.nothing())
+    }
+
+    /// Takes `Hclose`: drops the window of a file with its locks, and what was typed into it and is unsent.
+    fn close_file(&mut self, tag: u16)
+        requires { IsTrue (is_known self.old tag) }
+        ensures { self.new ≡ took_close self.old tag }
+    {
+        self.files.file_mut(tag).window = None;
+        drop_unsent(&mut self.unsent, tag);
+    }
+
+    /// Takes `Hexit`: the session is over, every lock is free and nothing is awaited.
+    fn take_exit(&mut self)
+        ensures { self.new ≡ took_exit self.old }
+    {
+        self.exited = true;
+        self.command_lock = false;
+        self.files.free_all();
+    }
+}

@@ -1,0 +1,37 @@
+-- What the terminal is still to send.
+use Rattle.std.proofs.Common.{◌≡◌, refl, sym, ap, subst, ◌∙◌, ℕ, zero, suc, ◌≤◌, List, [], ◌∷◌, ◌++◌, length, drop, append-nil, arith}
+use Rattle.std.specs.Global.{Vec}
+use Rattle.std.proofs.lemmas.List.{drop-append-le}
+use Rattle.sam_mesg.specs.declared.tmesg.Tmesg.{Tmesg}
+use Rattle.sam_frame.specs.Direction.{terminal}
+use Rattle.sam_frame.specs.Stream.{stream_of}
+use Rattle.sam_queue.specs.Views.{PostView, with_item}
+use Rattle.sam_threads.specs.Cutting.{IsPiece, PutSome}
+use Rattle.sam_threads.proofs.Cut.{put_none}
+
+-- nothing stands behind the last byte
+pub nothing_behind : (xs : List ℕ) (n : ℕ) → n ≡ length xs → drop n xs ≡ []
+nothing_behind [] zero e = refl
+nothing_behind [] (suc n) e = absurd (omega arith)
+nothing_behind (x ∷ xs) zero e = absurd (omega arith)
+nothing_behind (x ∷ xs) (suc n) e = nothing_behind xs n (omega arith)
+
+-- what is put behind all of the bytes is put behind those that are not taken yet
+pub all_behind : (before after : List ℕ) (ms : List Tmesg) (n : ℕ) → after ≡ before ++ stream_of terminal ms → n ≤ length before
+    → drop n after ≡ drop n before ++ stream_of terminal ms
+all_behind before after ms n e l = ap (λ (x : List ℕ). drop n x) e ∙ drop-append-le n before (stream_of terminal ms) l
+
+-- ## Pieces
+
+pub none_put : (most : ℕ) (a b : PostView (Vec ℕ)) (bytes rest : List ℕ) → b ≡ a → rest ≡ bytes → PutSome most a b bytes rest
+none_put most a b bytes rest same unchanged =
+    subst (λ (x : PostView (Vec ℕ)). PutSome most a x bytes rest) (sym same) (subst (λ (x : List ℕ). PutSome most a a bytes x) (sym unchanged) (put_none most a bytes))
+
+pub one_put : (most : ℕ) (a b : PostView (Vec ℕ)) (bytes rest : List ℕ) (piece : Vec ℕ) → b ≡ with_item a piece → bytes ≡ piece.items ++ rest → IsPiece most piece
+    → PutSome most a b bytes rest
+one_put most a b bytes rest piece put front fit = record {
+  pieces = piece ∷ [];
+  after_is = put;
+  sizes = (fit, tt);
+  whole = ap (λ (x : List ℕ). x ++ rest) (append-nil piece.items) ∙ sym front;
+}

@@ -1,7 +1,0 @@
-use Rattle.std.proofs.Common.{take}
-use Rattle.sam_mesg.specs.TerminalKinds.{FitsT}
-use Rattle.sam_world.specs.Sides.{Each}
-use Rattle.sam_threads.proofs.outbox.know_all.Given as goal
-
-abbrev pub invariant-loop-message : goal.invariant-loop-message
-invariant-loop-message l = Each (FitsT 2) (take l.message-index l.messages)
