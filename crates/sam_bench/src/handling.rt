@@ -31,7 +31,7 @@ fn text(alloc: Global, count: usize) -> Result<Runes, AllocError> {
 fn line(alloc: Global, p: u32) -> Result<Runes, Fault> {
     let end = p.saturating_add(9);
     let line = format!(in alloc; "#{p},#{end}c/lazy dogs/\n")?;
-    Ok(Runes::from_vec(line.as_str().chars().collect(alloc)?))
+    Ok(Runes::from_str(alloc, line.as_str())?)
 }
 
 /// Messages that change a file and ask for parts of it.

@@ -2,14 +2,13 @@
 //! nanoseconds that its work took, and a check value of what it made. Without words the program prints nothing.
 #![tactic(auto)]
 
-mod embedded;
 mod handling;
 mod queueing;
 mod schedule;
 
 use sam_bench_jobs::fault::Fault;
 use sam_bench_jobs::report::Report;
-use sam_bench_jobs::{codec, editing, loading, receiving, searching, typing};
+use sam_bench_jobs::{codec, editing, embedded, loading, receiving, searching, typing};
 use std::env;
 use std::env::Env;
 use std::process::ExitCode;

@@ -2,9 +2,9 @@
 
 ghost use Rattle.std.specs.Prelude.{◌≡◌, ◌<◌, ◌≤◌};
 
+use crossbeam_queue::ArrayQueue;
 use sam_bench_jobs::fault::Fault;
 use sam_bench_jobs::report::Report;
-use crossbeam_queue::ArrayQueue;
 use sam_queue::{Got, Line, Post, Take};
 use std::sync::Wait;
 use std::thread;

@@ -107,7 +107,7 @@ fn open(alloc: Global, world: &mut World, events: &mut Vec<Event>) -> Result<(),
 fn line(alloc: Global, p: u32) -> Result<Runes, Fault> {
     let end = p.saturating_add(STRETCH + 1);
     let line = format!(in alloc; "#{p},#{end}c/y/\n")?;
-    Ok(Runes::from_vec(line.as_str().chars().collect(alloc)?))
+    Ok(Runes::from_str(alloc, line.as_str())?)
 }
 
 /// Types ten runes at a place of a file.

@@ -1,11 +1,11 @@
 //! A host that answers bytes.
 
-use crate::link::{hex, runes};
+use crate::link::hex;
 use anyhow::{Result, bail, ensure};
 use sam_frame::{FramerT, encode_all};
 use sam_host::Host;
 use sam_mesg::fits_t;
-use sam_runes::Text;
+use sam_runes::{Runes, Text};
 use std::alloc::{AllocError, Global};
 use std::mem;
 
@@ -21,9 +21,9 @@ pub struct ByteHost {
 impl ByteHost {
     /// A host with one file, whose tag is 1.
     pub fn new(alloc: Global, name: &str, text: &str) -> Result<ByteHost> {
-        let name = runes(alloc, name)?;
+        let name = Runes::from_str(alloc, name)?;
         ensure!(name.len() <= 64, "a name that is too long");
-        let text = Text::from_runes(alloc, runes(alloc, text)?.as_slice())?;
+        let text = Text::from_runes(alloc, Runes::from_str(alloc, text)?.as_slice())?;
         let mut files = Vec::new(alloc);
         files.push((name, text)).map_err(AllocError::from)?;
         Ok(ByteHost {

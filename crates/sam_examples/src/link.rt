@@ -1,12 +1,6 @@
 //! What the examples share: texts as runes, and bytes in hex.
 
-use sam_runes::Runes;
 use std::alloc::{AllocError, Global};
-
-/// The runes of a text.
-pub fn runes(alloc: Global, text: &str) -> Result<Runes, AllocError> {
-    Ok(Runes::from_vec(text.chars().collect(alloc)?))
-}
 
 /// Bytes in hex, each with a blank before it.
 pub fn hex(alloc: Global, bytes: &[u8]) -> Result<String, AllocError> {

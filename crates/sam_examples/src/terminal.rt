@@ -1,9 +1,10 @@
 //! A terminal that types into a file of which it has only a part, and sends.
 
-use crate::link::{hex, runes};
+use crate::link::hex;
 use anyhow::{Result, bail, ensure};
 use sam_frame::{FramerH, encode_all};
 use sam_mesg::fits_h;
+use sam_runes::Runes;
 use sam_term::{Acted, Terminal, UserEvent};
 use std::alloc::Global;
 use std::mem;
@@ -36,7 +37,7 @@ impl ByteTerminal {
 
     /// The user types a text in the place of what is selected.
     pub fn type_text(&mut self, tag: u16, text: &str) -> Result<()> {
-        let runes = runes(self.alloc, text)?;
+        let runes = Runes::from_str(self.alloc, text)?;
         self.user(UserEvent::Typed(tag, runes))
     }
 

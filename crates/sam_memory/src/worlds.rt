@@ -4,7 +4,7 @@ ghost use Rattle.std.specs.Prelude.{◌≤◌, IfOk, length};
 
 use sam_memory_cases::answers::is_same_host;
 use sam_memory_cases::events::{is_same_terminal, part_shows};
-use sam_memory_cases::setup::{SetUp, Tried, beside_twin, prepared, runes, spells};
+use sam_memory_cases::setup::{SetUp, Tried, beside_twin, prepared, spells};
 use sam_runes::{Runes, Text};
 use sam_term::UserEvent;
 use sam_world::{Event, MergeFault, StepFault, TermLog, World, merge};
@@ -72,7 +72,7 @@ fn does(world: &mut World, event: UserEvent) -> Result<(), SetUp> {
 fn file(alloc: Global, text: &str) -> Result<(Runes, Text), SetUp>
     ensures { IfOk result (λ given. length given.0 ≤ 64) }
 {
-    let text = runes(alloc, text)?;
+    let text = Runes::from_str(alloc, text)?;
     Ok((
         Runes::from_slice(alloc, &['a'])?,
         Text::from_runes(alloc, text.as_slice())?,
@@ -102,7 +102,7 @@ fn type_line(alloc: Global, world: &mut World) -> Result<(), SetUp> {
     does(world, UserEvent::Select(1, 0, 2))?;
     does(world, UserEvent::Cut(1))?;
     does(world, UserEvent::Check(1))?;
-    does(world, UserEvent::Typed(0, runes(alloc, ",d\n")?))
+    does(world, UserEvent::Typed(0, Runes::from_str(alloc, ",d\n")?))
 }
 
 /// A world where three runes and five gaps of a file are shown, of which two are in view, and a check and a line that deletes the
@@ -208,7 +208,7 @@ fn is_schedule(events: &[Event]) -> bool {
 }
 
 fn log(alloc: Global) -> Result<[TermLog; 4], SetUp> {
-    let typed = UserEvent::Typed(1, runes(alloc, "hi")?);
+    let typed = UserEvent::Typed(1, Runes::from_str(alloc, "hi")?);
     Ok([
         TermLog::User(typed),
         TermLog::Act,
@@ -237,7 +237,7 @@ pub fn merge_takes(alloc: Global) -> Tried {
 
 /// A log that takes a frame of a message that the host did not take has no schedule.
 pub fn merge_refuses(alloc: Global) -> Tried {
-    let typed = UserEvent::Typed(1, runes(alloc, "hi")?);
+    let typed = UserEvent::Typed(1, Runes::from_str(alloc, "hi")?);
     let log = [TermLog::User(typed), TermLog::Act, TermLog::Take(1)];
     Ok(matches!(merge(alloc, &log, 0), Err(MergeFault::BadLog)))
 }

@@ -1,7 +1,7 @@
 //! Answers of the host.
 
 use crate::files::is_same_files;
-use crate::setup::{SetUp, Tried, beside_twin, prepared, runes, spells};
+use crate::setup::{SetUp, Tried, beside_twin, prepared, spells};
 use sam_host::fault::HostFault;
 use sam_host::host::Host;
 use sam_mesg::{Frames, HFrame, Hmesg, Tmesg, fits_t};
@@ -50,7 +50,7 @@ fn start_work(host: &mut Host) -> Result<(), SetUp> {
 
 /// A host whose work file is file 1 with the text, and which shows it and the command file.
 fn at_work(alloc: Global, text: &str) -> Result<Host, SetUp> {
-    let text = runes(alloc, text)?;
+    let text = Runes::from_str(alloc, text)?;
     let host = with_text(alloc, Text::from_runes(alloc, text.as_slice())?)?;
     prepared(host, start_work)
 }
@@ -58,9 +58,9 @@ fn at_work(alloc: Global, text: &str) -> Result<Host, SetUp> {
 /// Shows file 1, asks for a paste of two runes, and then has one to paste.
 fn snarf(alloc: Global, host: &mut Host) -> Result<(), SetUp> {
     ask(host, Tmesg::Tstartfile(1))?;
-    ask(host, Tmesg::Tsetsnarf(runes(alloc, "ab")?))?;
+    ask(host, Tmesg::Tsetsnarf(Runes::from_str(alloc, "ab")?))?;
     ask(host, Tmesg::Tpaste(1, 0))?;
-    ask(host, Tmesg::Tsetsnarf(runes(alloc, "a")?))?;
+    ask(host, Tmesg::Tsetsnarf(Runes::from_str(alloc, "a")?))?;
     Ok(())
 }
 
@@ -107,7 +107,7 @@ fn finds(frame: &HFrame, pattern: &str) -> bool {
 
 /// A typed line that changes each `a` of the work file.
 fn line(alloc: Global) -> Result<Tmesg, SetUp> {
-    Ok(Tmesg::Ttype(0, 0, runes(alloc, ",x/a/c/X/\n")?))
+    Ok(Tmesg::Ttype(0, 0, Runes::from_str(alloc, ",x/a/c/X/\n")?))
 }
 
 fn changes(alloc: Global, host: &mut Host, twin: &Host) -> Tried {

@@ -1,11 +1,12 @@
 //! Messages written, read and copied.
 
-use crate::setup::{SetUp, Tried, runes, spells};
+use crate::setup::{SetUp, Tried, spells};
 use sam_frame::{can_encode, encode_all};
 use sam_lending::told_of;
 use sam_mesg::{
     HFrame, Hmesg, MesgFault, Tmesg, decode_h, decode_t, encode_h, encode_t, fits_h, fits_t,
 };
+use sam_runes::Runes;
 use std::alloc::Global;
 
 /// A byte that stands in the buffer before the frame, and after it the frame of `hi`, typed at the start of file 1.
@@ -23,13 +24,13 @@ const BOTH: [u8; 25] = [
 ];
 
 fn typed(alloc: Global) -> Result<Tmesg, SetUp> {
-    Ok(Tmesg::Ttype(1, 0, runes(alloc, "hi")?))
+    Ok(Tmesg::Ttype(1, 0, Runes::from_str(alloc, "hi")?))
 }
 
 fn given(alloc: Global) -> Result<HFrame, SetUp> {
     Ok(HFrame {
         seen: 2,
-        msg: Hmesg::Hdata(1, 0, runes(alloc, "ab")?),
+        msg: Hmesg::Hdata(1, 0, Runes::from_str(alloc, "ab")?),
     })
 }
 

@@ -1,9 +1,10 @@
 //! Events and frames at the terminal.
 
 use crate::gaps::{is_same_rasp, shows};
-use crate::setup::{SetUp, Tried, beside_twin, prepared, runes};
+use crate::setup::{SetUp, Tried, beside_twin, prepared};
 use sam_mesg::{Batch, HFrame, Hmesg, Tmesg, fits_h};
 use sam_rasp::Rasp;
+use sam_runes::Runes;
 use sam_term::{Acted, TermFault, Terminal, UserEvent};
 use std::alloc::Global;
 
@@ -91,7 +92,11 @@ pub fn open(terminal: &mut Terminal, tag: u16, runes: u32) -> Result<(), SetUp> 
 /// Has the first five runes of file 1 shown and given.
 fn show(alloc: Global, terminal: &mut Terminal, text: &str) -> Result<(), SetUp> {
     does(terminal, UserEvent::View(1, 0, 5))?;
-    take(terminal, 1, Hmesg::Hdata(1, 0, runes(alloc, text)?))?;
+    take(
+        terminal,
+        1,
+        Hmesg::Hdata(1, 0, Runes::from_str(alloc, text)?),
+    )?;
     take(terminal, 1, Hmesg::Hunlockfile(1))?;
     Ok(())
 }
@@ -113,11 +118,11 @@ fn to_paste(alloc: Global) -> Result<Terminal, SetUp> {
 fn hold_type(alloc: Global, terminal: &mut Terminal) -> Result<(), SetUp> {
     open(terminal, 1, 5)?;
     show(alloc, terminal, "ab cd")?;
-    does(terminal, UserEvent::Typed(1, runes(alloc, "X")?))?;
-    does(terminal, UserEvent::Typed(1, runes(alloc, "Y")?))?;
+    does(terminal, UserEvent::Typed(1, Runes::from_str(alloc, "X")?))?;
+    does(terminal, UserEvent::Typed(1, Runes::from_str(alloc, "Y")?))?;
     terminal.flush()?;
     does(terminal, UserEvent::Select(1, 0, 2))?;
-    terminal.user(UserEvent::Typed(1, runes(alloc, "Z")?))?;
+    terminal.user(UserEvent::Typed(1, Runes::from_str(alloc, "Z")?))?;
     Ok(())
 }
 
@@ -134,7 +139,10 @@ fn type_line(alloc: Global, terminal: &mut Terminal) -> Result<(), SetUp> {
     does(terminal, UserEvent::Select(1, 0, 2))?;
     does(terminal, UserEvent::Cut(1))?;
     does(terminal, UserEvent::Check(1))?;
-    does(terminal, UserEvent::Typed(0, runes(alloc, ",d\n")?))?;
+    does(
+        terminal,
+        UserEvent::Typed(0, Runes::from_str(alloc, ",d\n")?),
+    )?;
     take(terminal, 3, Hmesg::Hsnarflen(2))?;
     Ok(())
 }

@@ -1,13 +1,14 @@
 //! A command line.
 
 use crate::files::is_same_files;
-use crate::setup::{SetUp, Tried, beside_twin, prepared, runes, spells};
+use crate::setup::{SetUp, Tried, beside_twin, prepared, spells};
+use sam_runes::Runes;
 use sam_text::{Files, FilesFault};
 use std::alloc::Global;
 
 /// Makes a file with this text the work file.
 fn start_work(alloc: Global, files: &mut Files, text: &str) -> Result<(), SetUp> {
-    files.new_file(alloc, &['a'], runes(alloc, text)?.as_slice())?;
+    files.new_file(alloc, &['a'], Runes::from_str(alloc, text)?.as_slice())?;
     files.set_work(1, 0, 0)?;
     Ok(())
 }
@@ -44,7 +45,7 @@ pub fn run_line(alloc: Global) -> Tried {
         alloc,
         |alloc| with_work(alloc, "a,b,,c"),
         |files, twin| {
-            let line = runes(alloc, ",y/,/d")?;
+            let line = Runes::from_str(alloc, ",y/,/d")?;
             Ok(leaves_commas(alloc, files, twin, line.as_slice()))
         },
     )

@@ -4,10 +4,10 @@ use crate::events::{is_same_terminal, open, take};
 use crate::files::is_same_files;
 use crate::gaps::{five_gaps, is_same_rasp};
 use crate::lines::with_work;
-use crate::setup::{SetUp, Tried, beside_twin, prepared, runes};
+use crate::setup::{SetUp, Tried, beside_twin, prepared};
 use sam_mesg::Hmesg;
 use sam_rasp::{Rasp, RaspFault};
-use sam_runes::{Text, TextFault};
+use sam_runes::{Runes, Text, TextFault};
 use sam_term::{Acted, Refusal, TermFault, Terminal, UserEvent};
 use sam_text::{Files, FilesFault};
 use std::alloc::Global;
@@ -55,7 +55,7 @@ pub fn rasp_refuses(alloc: Global) -> Tried {
 /// Opens a window of eight gaps, and holds a rune for a file that is not known.
 fn hold_unknown(alloc: Global, terminal: &mut Terminal) -> Result<(), SetUp> {
     open(terminal, 1, 8)?;
-    terminal.user(UserEvent::Typed(3, runes(alloc, "Z")?))?;
+    terminal.user(UserEvent::Typed(3, Runes::from_str(alloc, "Z")?))?;
     Ok(())
 }
 
@@ -93,7 +93,7 @@ fn refuses(
 /// Runes past the end of a file are refused.
 pub fn receive_past(alloc: Global) -> Tried {
     beside_twin(alloc, to_refuse, |terminal, twin| {
-        let past = Hmesg::Hdata(1, 7, runes(alloc, "xy")?);
+        let past = Hmesg::Hdata(1, 7, Runes::from_str(alloc, "xy")?);
         Ok(refuses(terminal, twin, 0, past, TermFault::BadPosition))
     })
 }

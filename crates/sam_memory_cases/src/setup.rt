@@ -1,7 +1,6 @@
 //! Want of memory, or whatever else, in what a case needs before its call.
 
-use sam_runes::Runes;
-use std::alloc::{AllocError, Global};
+use std::alloc::Global;
 use std::error::Error;
 
 /// The start of a case was refused, so that nothing is known of its call: the case is to be tried again.
@@ -41,11 +40,6 @@ pub fn beside_twin<
     let mut value = make(alloc)?;
     let mut twin = make(alloc)?;
     call(&mut value, &mut twin)
-}
-
-/// The runes of a text.
-pub fn runes(alloc: Global, text: &str) -> Result<Runes, SetUp> {
-    Ok(Runes::from_vec(text.chars().collect(alloc)?))
 }
 
 /// Whether the runes are those of the text. It takes no memory.

@@ -198,11 +198,11 @@ fn text_in(alloc: Global, matches: &ArgMatches<'_>) -> Result<Runes, ArgFault>
     let Some(text) = matches.get_str("text") else {
         return Err(ArgFault::Wrong);
     };
-    let runes = runes_of(alloc, text)?;
+    let runes = Runes::from_str(alloc, text)?;
     if runes.len() > MAX_RUNES as usize {
         return Err(ArgFault::Wrong);
     }
-    Ok(Runes::from_vec(runes))
+    Ok(runes)
 }
 
 /// Returns the number that an option's value writes in decimal digits alone. It is `Wrong` if it is not from 1 to `most`.
@@ -220,11 +220,4 @@ fn number_in(matches: &ArgMatches<'_>, name: &str, most: usize) -> Result<usize,
         Ok(number) if 0 < number && number <= most => Ok(number),
         _ => Err(ArgFault::Wrong),
     }
-}
-
-/// Returns the runes that the text spells.
-fn runes_of(alloc: Global, text: &str) -> Result<Vec<char>, AllocError>
-    ensures { IfOk result (λ runes. encode_utf8_all runes.items ≡ text.now) }
-{
-    text.chars().collect(alloc)
 }

@@ -1,6 +1,9 @@
 //! Events that change a text, a dot or a view, and what they compose.
 
-use crate::trying::{composed, goes_on, is_held, loaded, opens_five_gaps, rasp_len, refusal, runes, takes, takes_runes, typed, typing_is_held, waits};
+use crate::trying::{
+    composed, goes_on, is_held, loaded, opens_five_gaps, rasp_len, refusal, takes, takes_runes,
+    typed, typing_is_held, waits,
+};
 use sam_lending::lent;
 use sam_mesg::{Hmesg, Tmesg};
 use sam_runes::Runes;
@@ -174,7 +177,7 @@ fn paste_over_a_dot(rt: HostRuntime) {
 #[test]
 fn runes_for_the_snarf_buffer(rt: HostRuntime) -> Result<(), Fail> {
     let alloc = rt.alloc();
-    let text = runes(alloc, "ab")?;
+    let text = Runes::from_str(alloc, "ab")?;
     let long = Runes::from_vec(vec![in alloc; 'a'; 4_097]?);
     let told = lent(Terminal::new(alloc), |terminal| {
         (

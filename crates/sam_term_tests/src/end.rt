@@ -1,7 +1,7 @@
 //! A terminal behind two streams of bytes: each public call on its way to the right end. The bytes are those of docs/PROTOCOL.md.
-use crate::trying::runes;
 use sam_ends::TermEnd;
 use sam_lending::lent;
+use sam_runes::Runes;
 use sam_term::event::UserEvent;
 use sam_term::fault::Refusal;
 use std::alloc::Global;
@@ -33,7 +33,7 @@ fn refuses(end: &mut TermEnd, number: u64, why: Refusal) -> bool {
 
 /// Puts a typed text.
 fn types(alloc: Global, end: &mut TermEnd, tag: u16, text: &str) -> bool {
-    match runes(alloc, text) {
+    match Runes::from_str(alloc, text) {
         Ok(text) => puts(end, UserEvent::Typed(tag, text)),
         Err(_) => false,
     }

@@ -1,6 +1,9 @@
 //! A terminal: what it refuses, what locks it takes, and what the host does to its texts.
 
-use crate::trying::{composed, goes_on, is_held, loaded, opens_five_gaps, rasp_len, refusal, refused, runes, take, takes, takes_runes, typing_is_held};
+use crate::trying::{
+    composed, goes_on, is_held, loaded, opens_five_gaps, rasp_len, refusal, refused, take, takes,
+    takes_runes, typing_is_held,
+};
 use sam_lending::lent;
 use sam_mesg::{Hmesg, Tmesg};
 use sam_runes::Runes;
@@ -89,7 +92,7 @@ fn events_that_are_refused(rt: HostRuntime) {
 fn typing_that_is_refused(rt: HostRuntime) -> Result<(), Fail> {
     let alloc = rt.alloc();
     let long = Runes::from_vec(vec![in alloc; 'a'; 513]?);
-    let short = runes(alloc, "a")?;
+    let short = Runes::from_str(alloc, "a")?;
     let told = lent(Terminal::new(alloc), |terminal| {
         (
             opens_five_gaps(terminal),
@@ -216,7 +219,7 @@ fn a_closed_file_has_no_dot(rt: HostRuntime) {
 #[test]
 fn copies_of_events(rt: HostRuntime) -> Result<(), Fail> {
     let alloc = rt.alloc();
-    match UserEvent::Typed(1, runes(alloc, "ab")?).copy(alloc)? {
+    match UserEvent::Typed(1, Runes::from_str(alloc, "ab")?).copy(alloc)? {
         UserEvent::Typed(tag, text) => {
             assert_eq!(rt; tag, 1);
             assert_eq!(rt; text.as_slice(), ['a', 'b'].as_slice());

@@ -5,11 +5,7 @@ use sam_runes::Runes;
 use sam_term::event::{Acted, UserEvent};
 use sam_term::fault::{Refusal, TermFault};
 use sam_term::term::Terminal;
-use std::alloc::{AllocError, Global};
-
-pub(crate) fn runes(alloc: Global, text: &str) -> Result<Runes, AllocError> {
-    Ok(Runes::from_vec(text.chars().collect(alloc)?))
-}
+use std::alloc::Global;
 
 /// Hands a message of the host in.
 pub(crate) fn take(terminal: &mut Terminal, seen: u64, msg: Hmesg) -> Result<Batch, TermFault> {
@@ -36,7 +32,7 @@ pub(crate) fn takes_runes<F: FnOnce(Runes) -> Hmesg>(
 ) -> bool
     requires { F.IsAlwaysCallable message }
 {
-    match runes(alloc, text) {
+    match Runes::from_str(alloc, text) {
         Ok(text) => takes(terminal, message(text)),
         Err(_) => false,
     }
@@ -77,7 +73,7 @@ pub(crate) fn typed<A, F: FnOnce(&[Tmesg]) -> A>(
 ) -> Option<A>
     requires { F.IsAlwaysCallable look }
 {
-    match runes(alloc, text) {
+    match Runes::from_str(alloc, text) {
         Ok(text) => composed(terminal, UserEvent::Typed(tag, text), look),
         Err(_) => None,
     }
@@ -100,7 +96,7 @@ pub(crate) fn is_held(terminal: &mut Terminal, event: UserEvent) -> bool {
 
 /// Whether typing these runes waits for a lock.
 pub(crate) fn typing_is_held(alloc: Global, terminal: &mut Terminal, tag: u16, text: &str) -> bool {
-    match runes(alloc, text) {
+    match Runes::from_str(alloc, text) {
         Ok(text) => is_held(terminal, UserEvent::Typed(tag, text)),
         Err(_) => false,
     }

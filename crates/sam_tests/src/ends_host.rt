@@ -1,8 +1,8 @@
 //! A host behind a stream of bytes: its answers are those of the table at the end of docs/PROTOCOL.md.
 
-use sam_lending::lent;
 use sam_ends::{EndFault, HostEnd, HostStop, OpenFault, StreamFault};
 use sam_host::HostFault;
+use sam_lending::lent;
 use std::alloc::{AllocError, Global};
 use std::test::Fail;
 

@@ -1,6 +1,6 @@
 //! Rows of the host's stream, and what a terminal makes of them.
-use sam_lending::{lent, told_of};
 use sam_frame::{FeedFault, FramerH};
+use sam_lending::{lent, told_of};
 use sam_mesg::Tmesg;
 use sam_term::term::Terminal;
 use sam_threads::{Fed, Stop, feed_terminal};

@@ -1,19 +1,15 @@
 //! Each kind of message to a host.
 
-use sam_lending::lent;
 use sam_host::{Host, HostFault};
+use sam_lending::lent;
 use sam_mesg::{Frames, Tmesg, fits_t};
 use sam_runes::{Runes, Text};
 use std::alloc::{AllocError, Global};
 use std::test::Fail;
 
-fn runes(alloc: Global, text: &str) -> Result<Runes, AllocError> {
-    Ok(Runes::from_vec(text.chars().collect(alloc)?))
-}
-
 /// A host with one file of this text, under tag 1.
 fn host_of(alloc: Global, text: &str) -> Result<Host, Fail> {
-    let text = Text::from_runes(alloc, runes(alloc, text)?.as_slice())?;
+    let text = Text::from_runes(alloc, Runes::from_str(alloc, text)?.as_slice())?;
     let mut given = Vec::new(alloc);
     given.push((Runes::from_vec(Vec::new(alloc)), text))?;
     Ok(Host::new(alloc, given).ok().ok_or("memory")?)
@@ -34,9 +30,9 @@ fn count(host: &mut Host, message: Tmesg) -> Result<usize, HostFault> {
 
 /// Messages, each with the number of frames that it is answered with.
 fn asked(alloc: Global) -> Result<[(Tmesg, usize); 24], AllocError> {
-    let typed = runes(alloc, "x")?;
-    let snarfed = runes(alloc, "q")?;
-    let line = runes(alloc, ",d\n")?;
+    let typed = Runes::from_str(alloc, "x")?;
+    let snarfed = Runes::from_str(alloc, "q")?;
+    let line = Runes::from_str(alloc, ",d\n")?;
     Ok([
         (Tmesg::Tversion(1), 5),
         (Tmesg::Tstartcmdfile, 4),

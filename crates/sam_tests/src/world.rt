@@ -10,14 +10,10 @@ use sam_world::{Event, MergeFault, RunStop, StepFault, TermLog, World, merge};
 use std::alloc::{AllocError, Global};
 use std::test::Fail;
 
-fn runes(alloc: Global, text: &str) -> Result<Runes, AllocError> {
-    Ok(Runes::from_vec(text.chars().collect(alloc)?))
-}
-
 /// A world whose file 1 is named `a` and holds the text.
 fn world_of(alloc: Global, text: &str) -> Result<World, Fail> {
     let name = Runes::from_slice(alloc, &['a'])?;
-    let text = Text::from_runes(alloc, runes(alloc, text)?.as_slice())?;
+    let text = Text::from_runes(alloc, Runes::from_str(alloc, text)?.as_slice())?;
     let mut given = Vec::new(alloc);
     given.push((name, text))?;
     Ok(World::new(alloc, given).ok().ok_or("memory")?)
@@ -36,12 +32,12 @@ fn letter(event: &Event) -> char {
 
 /// The events of a user who opens the command file and a file, types in both, and leaves.
 fn session(alloc: Global) -> Result<[UserEvent; 7], AllocError> {
-    let line = runes(alloc, ",x/l/d\n")?;
+    let line = Runes::from_str(alloc, ",x/l/d\n")?;
     Ok([
         UserEvent::Version(1),
         UserEvent::OpenCmd,
         UserEvent::Open(1),
-        UserEvent::Typed(1, runes(alloc, "X")?),
+        UserEvent::Typed(1, Runes::from_str(alloc, "X")?),
         UserEvent::Typed(0, line),
         UserEvent::Flush,
         UserEvent::Exit,

@@ -1,5 +1,4 @@
-use Rattle.std.proofs.Common.{◌∙◌, ℕ, List, sym, ap, codes}
-use Rattle.std.specs.Str.{encode_utf8_all}
+use Rattle.std.proofs.Common.{◌∙◌, sym, ap, codes}
 use Rattle.std.specs.Prelude.{Some}
 use Rattle.clap.specs.Words.{found_of}
 use Rattle.clap.proofs.WalkLemmas.{first_value-rows}
@@ -7,5 +6,4 @@ use Rattle.sam_session.proofs.words.text_in.Goals as goal
 
 pub returns-clause-value : goal.returns-clause-value
 returns-clause-value c =
-    sym (first_value-rows (found_of c.args.matches.now) (codes "text"))
-    ∙ sym c.in-Some.ensures ∙ sym (ap Some c.in_ok-runes.ensures) ∙ ap (λ (t : List ℕ). Some (encode_utf8_all t)) (sym c.from_vec.ensures)
+    sym (first_value-rows (found_of c.args.matches.now) (codes "text")) ∙ sym c.in-Some.ensures ∙ sym (ap Some c.in_ok-runes.ensures)

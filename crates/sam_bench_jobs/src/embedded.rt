@@ -1,9 +1,9 @@
 //! Typing at a terminal behind bytes, whose host stands at the other end of them: what a program that embeds both does. `bench/embedded.c`
 //! makes the same calls through the C library.
 
-use sam_bench_jobs::fault::Fault;
-use sam_bench_jobs::report::Report;
-use sam_bench_jobs::sample::mix;
+use crate::fault::Fault;
+use crate::report::Report;
+use crate::sample::mix;
 use sam_ends::{HostEnd, TermEnd};
 use sam_runes::Runes;
 use sam_term::event::UserEvent;
