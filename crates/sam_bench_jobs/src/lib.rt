@@ -1,6 +1,6 @@
-//! Jobs that show what the calls of the codec, of texts, of rasps, of a terminal and of its end cost. Each makes ready what it needs, times its
-//! work, and returns a [`report::Report`]. The program sam_bench runs them by name, and has those of a host, of a world and of lines
-//! beside them.
+//! Jobs that show what the calls of the codec, of texts, of rasps, of a terminal and of its end cost. Each makes ready what it needs,
+//! times its work, and returns a [`report::Report`]. The program sam_bench runs them by name, and has those of a host, of a world and of
+//! lines beside them.
 #![tactic(auto)]
 
 pub mod codec;
