@@ -3,16 +3,16 @@ use Rattle.std.proofs.Common.{◌≡◌, refl, sym, ap, ◌∙◌, ℕ, ◌+◌,
 use Rattle.sam_runes.specs.Checks.{first_of_checks}
 use Rattle.sam_runes.specs.Texts.{is_empty, most_count}
 use Rattle.sam_mesg.specs.declared.tmesg.Tmesg.{Tmesg}
-use Rattle.sam_mesg.specs.declared.tmesg.Tmesg.TheVariants.{Tversion, Tstartcmdfile, Tcheck, Torigin, Tstartfile, Tworkfile, Tcut, Tpaste, Tsnarf, Tstartnewfile, Twrite, Tclose, Tlook, Tsearch, Tsend, Tdclick, Tstartsnarf, Tsetsnarf, Tack, Texit}
+use Rattle.sam_mesg.specs.declared.tmesg.Tmesg.TheVariants.{Tcut, Tpaste, Tsnarf, Tack}
 use Rattle.sam_mesg.specs.declared.hmesg.Hmesg.{Hmesg}
-use Rattle.sam_mesg.specs.declared.hmesg.Hmesg.TheVariants.{Hversion, Hbindname, Hcurrent, Hnewname, Hmovname, Hgrow, Hcheck, Hunlock, Hdata, Horigin, Hunlockfile, Hsetdot, Hgrowdata, Hmoveto, Hclean, Hdirty, Hcut, Hsetpat, Hdelname, Hclose, Hsetsnarf, Hsnarflen, Hack, Hexit}
+use Rattle.sam_mesg.specs.declared.hmesg.Hmesg.TheVariants.{Hcheck, Hunlockfile, Hack}
 use Rattle.sam_mesg.specs.declared.hmesg.HFrame.{HFrame}
 use Rattle.sam_term.specs.Locks.{is_command_line}
-use Rattle.sam_term.specs.Term.{PlainTerminal, Made, act_of, act_on, decided, if_countable, event_checks, frame_checks, flush_of, flushed, take_of, event_outcome, frame_outcome, made_unless, and_then, all_composed, composed, sends, sends_if, requested, wanted, unchanged, cuts_dot, types, kept_unsent, joins, joined, put_window, has_empty_dot, typed_rasp, made_by_type, made_by_cut, made_by_paste, made_by_snarf, made_by_view, sends_dot, window_at, cut_rasp, took_bindname, took_data, took_grow, took_growdata, took_cut, took_unlockfile, took_close, took_exit}
+use Rattle.sam_term.specs.Term.{PlainTerminal, Made, act_of, act_on, decided, if_countable, event_checks, frame_checks, flush_of, flushed, take_of, event_outcome, frame_outcome, made_unless, and_then, all_composed, composed, sends, sends_if, requested, wanted, unchanged, cuts_dot, types, kept_unsent, joins, joined, put_window, has_empty_dot, typed_rasp, made_by_type, made_by_cut, made_by_paste, made_by_snarf, made_by_view, window_at, cut_rasp, took_bindname, took_data, took_grow, took_growdata, took_cut, took_unlockfile, took_close, took_exit}
 use Rattle.sam_term.specs.declared.event.Verdict.{Verdict}
 use Rattle.sam_term.specs.declared.event.Verdict.TheVariants.{Waits, Refuses}
 use Rattle.sam_term.specs.declared.event.UserEvent.{UserEvent}
-use Rattle.sam_term.specs.declared.event.UserEvent.TheVariants.{Typed, Select, Cut, Paste, Snarf, Look, Search, Send, Dclick, Scroll, View, Open, Close, Write, Work, OpenCmd, New, Exit, Check, GetSnarf, SetSnarf, Version, Flush}
+use Rattle.sam_term.specs.declared.event.UserEvent.TheVariants.{Typed, Select, Cut, Paste, Snarf, View, Flush}
 use Rattle.sam_term.specs.declared.event.Acted.{Acted}
 use Rattle.sam_term.specs.declared.event.Acted.TheVariants.{Idle, Locked, Done, Refused}
 use Rattle.sam_term.specs.declared.fault.TermFault.{TermFault}
@@ -54,9 +54,6 @@ dot-cut t f p q ms = either-keeps (has_empty_dot t f) (t, []) (sends t (λ u. cu
 cuts-keeps : (t : PlainTerminal) (f : ℕ) → held_in (cuts_dot t f) ≡ t.held
 cuts-keeps t f = let d = (window_at t f).dot in dot-cut t f d.0 d.1 (Tcut f d.0 d.1 ∷ [])
 
-dot-sent : (t : PlainTerminal) (f : ℕ) (message : ℕ → ℕ → ℕ → Tmesg) → held_in (sends_dot t f message) ≡ t.held
-dot-sent t f message = let d = (window_at t f).dot in sends-plain t (message f d.0 d.1 ∷ [])
-
 kept-keeps : (t : PlainTerminal) (f p : ℕ) (s : List ℕ) → held_in (kept_unsent t f p s) ≡ t.held
 kept-keeps t f p s =
     either-keeps (joins t.unsent f p s) (record t { unsent = Some (joined t.unsent f p s) }, [])
@@ -73,6 +70,13 @@ type-keeps t f s =
     let u = (cuts_dot t f).0 in
     either-keeps (is_empty s) (u, []) (types u f (window_at t f).dot.0 s) t.held (cuts-keeps t f) (types-keeps u f (window_at t f).dot.0 s ∙ cuts-keeps t f)
 
+-- what leaves the held events
+record Leaves (t : PlainTerminal) (made : Made) : Type 0 where
+  held : held_in made ≡ t.held
+
+leaves-plain : (t : PlainTerminal) (ms : List Tmesg) → Leaves t (sends t unchanged ms)
+leaves-plain t ms = record { held = sends-plain t ms }
+
 pub event_keeps : (t : PlainTerminal) (e : UserEvent) → held_in (event_outcome t e) ≡ t.held
 unfolding made_by_cut made_by_paste made_by_snarf made_by_view
 event_keeps t (Typed f s) = type-keeps t f s
@@ -82,51 +86,16 @@ event_keeps t (Paste f) = sends-plain (cuts_dot t f).0 (Tpaste f (window_at t f)
 event_keeps t (Snarf f) =
     let d = (window_at t f).dot in
     either-keeps (has_empty_dot t f) (t, []) (sends t unchanged (Tsnarf f d.0 d.1 ∷ [])) t.held refl (sends-plain t (Tsnarf f d.0 d.1 ∷ []))
-event_keeps t (Look f) = dot-sent t f Tlook
-event_keeps t (Search f) = dot-sent t f Tsearch
-event_keeps t (Send f) = dot-sent t f Tsend
-event_keeps t (Dclick f p) = sends-plain t (Tdclick f p ∷ [])
-event_keeps t (Scroll f n) = sends-plain t (Torigin f (window_at t f).view_start n ∷ [])
 event_keeps t (View f p n) = requested-keeps (put_window t f (record (window_at t f) { view_start = p; view_length = n })) f
-event_keeps t (Open f) = sends-plain t (Tstartfile f ∷ [])
-event_keeps t (Close f) = sends-plain t (Tclose f ∷ [])
-event_keeps t (Write f) = sends-plain t (Twrite f ∷ [])
-event_keeps t (Work f) = dot-sent t f Tworkfile
-event_keeps t OpenCmd = sends-plain t (Tstartcmdfile ∷ [])
-event_keeps t New = sends-plain t (Tstartnewfile ∷ [])
-event_keeps t Exit = sends-plain t (Texit ∷ [])
-event_keeps t (Check f) = sends-plain t (Tcheck f ∷ [])
-event_keeps t GetSnarf = sends-plain t (Tstartsnarf ∷ [])
-event_keeps t (SetSnarf s) = sends-plain t (Tsetsnarf s ∷ [])
-event_keeps t (Version v) = sends-plain t (Tversion v ∷ [])
 event_keeps t Flush = flushed-held t
+event_keeps t e = let leaves : Leaves t (event_outcome t e) = leaves-plain t _ in leaves.held
 
 pub frame_keeps : (t : PlainTerminal) (m : Hmesg) → held_in (frame_outcome t m) ≡ t.held
 unfolding took_bindname took_data took_grow took_growdata took_cut took_unlockfile took_close took_exit
-frame_keeps t (Hversion v) = refl
-frame_keeps t (Hbindname f) = refl
-frame_keeps t (Hcurrent f) = refl
-frame_keeps t (Hnewname f) = refl
-frame_keeps t (Hmovname f s) = refl
-frame_keeps t (Hgrow f p n) = refl
 frame_keeps t (Hcheck f) = requested-keeps t f
-frame_keeps t Hunlock = refl
-frame_keeps t (Hdata f p s) = refl
-frame_keeps t (Horigin f p) = refl
 frame_keeps t (Hunlockfile f) = requested-keeps (took_unlockfile t f) f
-frame_keeps t (Hsetdot f p q) = refl
-frame_keeps t (Hgrowdata f p s) = refl
-frame_keeps t (Hmoveto f p) = refl
-frame_keeps t (Hclean f) = refl
-frame_keeps t (Hdirty f) = refl
-frame_keeps t (Hcut f p n) = refl
-frame_keeps t (Hsetpat s) = refl
-frame_keeps t (Hdelname f) = refl
-frame_keeps t (Hclose f) = refl
-frame_keeps t (Hsetsnarf s) = refl
-frame_keeps t (Hsnarflen n) = refl
 frame_keeps t Hack = either-keeps t.has_exited (t, []) (sends t unchanged (Tack ∷ [])) t.held refl (sends-plain t (Tack ∷ []))
-frame_keeps t Hexit = refl
+frame_keeps t _ = refl
 
 -- what was made, where it was
 abbrev made_in : Result Made TermFault → PlainTerminal → PlainTerminal

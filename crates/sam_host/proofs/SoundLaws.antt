@@ -1,25 +1,27 @@
 -- The host stays sound, and its answers are counted.
-use Rattle.std.proofs.Common.{◌≡◌, ◌≢◌, ◌⊎◌, ℕ, zero, suc, ◌+◌, ◌≤◌, List, [], ◌∷◌, length, Bool, true, false, cond, Option, Some, None, Ok, Err, nat_eq, inl, inr, refl, sym, ap, subst, arith}
-use Rattle.std.specs.Prelude.{unwrap_or, option_map, IfSome, All, ◌==◌, nat_lt, nat_le, ◌||◌, ◌&&◌, not, min}
+use Rattle.std.proofs.Common.{◌≡◌, ℕ, zero, suc, ◌+◌, ◌≤◌, List, [], ◌∷◌, length, Bool, true, false, if◌then◌else◌, cond, Option, Some, None, Ok, Err, inl, inr, refl, sym, ap, subst, arith}
+use Rattle.std.specs.Prelude.{unwrap_or, All, ◌==◌, nat_lt, nat_le, ◌||◌, ◌&&◌, not, min}
 use Rattle.std.proofs.lemmas.List.Elements.{All-nil, All-cons}
-use Rattle.sam_runes.specs.Texts.{Range, common_version, most_count, max_runes, all_tags, is_empty, part, searched, ends_line, as_lines, last_line, most_in_name}
-use Rattle.sam_runes.specs.Slots.{Slots, slot, put_slot, free_slot}
+use Rattle.sam_runes.specs.Texts.{Range, common_version, most_count, max_runes, all_tags, is_empty, part, searched, ends_line, as_lines, most_in_name}
+use Rattle.sam_runes.specs.Slots.{slot}
 use Rattle.sam_runes.specs.Checks.{first_of_checks}
-use Rattle.sam_text.specs.Files.{PlainFile, PlainFiles, PlainOutcome, blank_file, file_at, put_file, typed_file, cut_file, pasted_file, printed_file, is_printed, has_room, after_print, file_after, put_outcome, committed, HasShortName, IsFit, AreFit, AreSoundFiles, may_look}
+use Rattle.sam_runes.proofs.CheckLaws.{none_holds}
+use Rattle.sam_text.specs.Files.{opened_file, written_file, PlainFile, PlainFiles, PlainOutcome, blank_file, file_at, put_file, typed_file, cut_file, pasted_file, printed_file, is_printed, has_room, after_print, file_after, put_outcome, HasShortName, IsFit, AreFit, AreSoundFiles, may_look}
 use Rattle.sam_text.specs.Meaning.{meaning, work_file}
-use Rattle.sam_text.proofs.FitLaws.{all-put}
+use Rattle.sam_text.proofs.FitLaws.{all-put, fit-put, fit-typed, fit-cut, fit-pasted, fit-print, fit-committed}
 use Rattle.sam_text.proofs.KeptLaws.{all-free, all-announce}
 use Rattle.sam_text.proofs.OutcomeLaws.{HasShortParts, line_short, named-within}
+use Rattle.sam_mesg.specs.TerminalKinds.{after_t}
 use Rattle.sam_mesg.specs.declared.tmesg.Tmesg.{Tmesg}
-use Rattle.sam_mesg.specs.declared.tmesg.Tmesg.TheVariants.{Tversion, Tstartcmdfile, Tcheck, Trequest, Torigin, Tstartfile, Tworkfile, Ttype, Tcut, Tpaste, Tsnarf, Tstartnewfile, Twrite, Tclose, Tlook, Tsearch, Tsend, Tdclick, Tstartsnarf, Tsetsnarf, Tack, Texit}
+use Rattle.sam_mesg.specs.declared.tmesg.Tmesg.TheVariants.{Tversion, Tstartcmdfile, Ttype, Tpaste, Tstartnewfile, Tlook, Tsearch, Tsend}
 use Rattle.sam_mesg.specs.declared.hmesg.Hmesg.{Hmesg}
 use Rattle.sam_mesg.specs.declared.hmesg.HFrame.{HFrame}
 use Rattle.sam_host.specs.declared.fault.HostFault.{HostFault}
 use Rattle.sam_host.specs.declared.fault.HostFault.TheVariants.{BadVersion, CountFull}
-use Rattle.sam_host.specs.Host.{PlainHost, IsVersion, Reply, Answer, answer, answer_unless, counted, stamped, host_checks, no_tag_left, announced_file, announce_all, new_file, with_file, with_files, given_slots, new_host, printed, reply_version, reply_startcmdfile, reply_check, reply_request, reply_origin, reply_startfile, reply_workfile, reply_cut, reply_paste, reply_snarf, reply_startnewfile, reply_write, reply_close, reply_found, reply_look, reply_search, searched_for, reply_dclick, reply_startsnarf, reply_setsnarf, reply_exit, reply_line, reply_type, reply_send, reply_to}
+use Rattle.sam_host.specs.Host.{PlainHost, IsVersion, Reply, Answer, answer, answer_unless, counted, stamped, host_checks, new_file, with_files, given_slots, new_host, reply_found, searched_for, reply_to}
 use Rattle.sam_host.specs.Laws.{AreNamesShort, IsSound, AreGiven, StartsSound, StaysSound, FramesFit, AnswersAreCounted, IsSilentWhereDone, FitInPlace}
 use Rattle.sam_host.proofs.FrameLaws.{replies_opened}
-use Rattle.sam_host.proofs.HostFits.{reply_fits}
+use Rattle.sam_host.proofs.Keeping.{IsKept, reply_keeps}
 use Rattle.sam_host.proofs.FrameFits.{reply_frames_fit}
 
 -- ## Names
@@ -41,79 +43,50 @@ names-outcome : (x : Option ℕ) (fs : PlainFiles) (o : PlainOutcome) → AreNam
 names-outcome None fs o all h = all
 names-outcome (Some f) fs o all h = names-put fs f (file_after (file_at fs f) o) all (named-within o.name (file_at fs f).name h.0 (all f))
 
-names-if : (b : Bool) (x y : Reply) → AreNamesShort x.0.files → AreNamesShort y.0.files → AreNamesShort (cond b x y).0.files
-names-if true x y h k = h
-names-if false x y h k = k
+names_kept : IsKept AreNamesShort
+names_kept = record {
+  announced = λ fs all. all-announce HasShortName (λ x k. k) fs.slots all;
+  shown = λ fs all. names-put fs 0 (opened_file (file_at fs 0)) all (all 0);
+  selected = λ fs f p q shown within all. names-put fs f (record (file_at fs f) { dot = (p, q) }) all (all f);
+  typed = λ fs f p s place room all. names-put fs f (typed_file f (file_at fs f) p s) all (all f);
+  cut = λ fs f p q within all. names-put fs f (cut_file f (file_at fs f) p q) all (all f);
+  pasted = λ fs f p s place room all. names-put fs f (pasted_file f (file_at fs f) p s) all (all f);
+  snarfed = λ fs s all. all;
+  created = λ fs all. names-put fs (length fs.slots) new_file all (omega arith);
+  written = λ fs f all. names-put fs f (written_file (file_at fs f)) all (all f);
+  closed = λ fs f all. all-free HasShortName fs f (omega arith) all;
+  marked = λ fs f d within all. names-put fs f (record (file_at fs f) { dot = d }) all (all f);
+  sought = λ fs lit all. all;
+  printed = names-print;
+  run = λ fs line all. names-outcome (meaning fs line).file fs (meaning fs line) all (line_short (work_file fs) line);
+}
 
-names-line : (h : PlainHost) (before : List Hmesg) (line : List ℕ) → AreNamesShort h.files → AreNamesShort (reply_line h before line).0.files
-names-line h before line all =
-    let o = meaning h.files line in
-    names-print (committed h.files o) o.printed (names-outcome o.file h.files o all (line_short (work_file h.files) line))
+reply_names : (h : PlainHost) (m : Tmesg) → first_of_checks (host_checks h m) ≡ None → AreNamesShort h.files → AreNamesShort (reply_to h m).0.files
+reply_names h m e all = reply_keeps AreNamesShort names_kept h m e (λ f is. names-put h.files f (opened_file (file_at h.files f)) all (all f)) all
 
-names-found : (h : PlainHost) (f : ℕ) (d : Option Range) (frames : List Hmesg) → AreNamesShort h.files → AreNamesShort (reply_found h f d frames).0.files
-names-found h f None frames all = all
-names-found h f (Some d) frames all = names-put h.files f (record (file_at h.files f) { dot = d }) all (all f)
+-- ## Dots and lengths
 
-names-look : (h : PlainHost) (f p q : ℕ) → AreNamesShort h.files → AreNamesShort (reply_look h f p q).0.files
-unfolding reply_look
-names-look h f p q all =
-    let lit = part (file_at h.files f).text p q in
-    let h2 = with_files h (record h.files { pattern = Some lit }) in
-    names-if (may_look lit) (reply_found h2 f (searched (file_at h.files f).text lit q) _) (h, _)
-    (names-found h2 f (searched (file_at h.files f).text lit q) _ all) all
+fits_kept : IsKept AreFit
+fits_kept = record {
+  announced = λ fs all. all-announce IsFit (λ x k. k) fs.slots all;
+  shown = λ fs all. fit-put fs 0 (opened_file (file_at fs 0)) all (all 0);
+  selected = λ fs f p q shown within all. fit-put fs f (record (file_at fs f) { dot = (p, q) }) all (within.0, within.1, (all f).2);
+  typed = λ fs f p s place room all. fit-put fs f (typed_file f (file_at fs f) p s) all (fit-typed f (file_at fs f) p s place room);
+  cut = λ fs f p q within all. fit-put fs f (cut_file f (file_at fs f) p q) all (fit-cut f (file_at fs f) p q within.0 within.1 (all f).2);
+  pasted = λ fs f p s place room all. fit-put fs f (pasted_file f (file_at fs f) p s) all (fit-pasted f (file_at fs f) p s place room);
+  snarfed = λ fs s all. all;
+  created = λ fs all. fit-put fs (length fs.slots) new_file all (omega arith, omega arith, omega arith);
+  written = λ fs f all. fit-put fs f (written_file (file_at fs f)) all (all f);
+  closed = λ fs f all. all-free IsFit fs f (omega arith, omega arith, omega arith) all;
+  marked = λ fs f d within all. fit-put fs f (record (file_at fs f) { dot = d }) all (within.0, within.1, (all f).2);
+  sought = λ fs lit all. all;
+  printed = fit-print;
+  run = fit-committed;
+}
 
-names-type : (h : PlainHost) (f p : ℕ) (s : List ℕ) → AreNamesShort h.files → AreNamesShort (reply_type h f p s).0.files
-unfolding reply_type
-names-type h f p s all =
-    let x = typed_file f (file_at h.files f) p s in
-    let typed : AreNamesShort (put_file h.files f x) = names-put h.files f x all (all f) in
-    names-if ((f == 0) && ends_line s) (reply_line (with_file h f x) [] _) (with_file h f x, []) (names-line (with_file h f x) [] _ typed) typed
-
-names-send : (h : PlainHost) (f p q : ℕ) → AreNamesShort h.files → AreNamesShort (reply_send h f p q).0.files
-unfolding reply_send
-names-send h f p q all =
-    let s = as_lines (part (file_at h.files f).text p q) in
-    let h2 = with_files h (after_print h.files s) in
-    names-if ((p == q) || not (has_room h.files s)) (h, _) (reply_line h2 (printed h.files s) (last_line s)) all
-    (names-line h2 (printed h.files s) (last_line s) (names-print h.files s all))
-
-names-paste : (h : PlainHost) (f p : ℕ) → AreNamesShort h.files → AreNamesShort (reply_paste h f p).0.files
-unfolding reply_paste
-names-paste h f p all =
-    let file = file_at h.files f in
-    names-if (is_empty h.files.snarf || nat_lt max_runes (length file.text + length h.files.snarf)) (h, _) (with_file h f (pasted_file f file p h.files.snarf), _) all
-    (names-put h.files f (pasted_file f file p h.files.snarf) all (all f))
-
-names-startcmdfile : (h : PlainHost) → AreNamesShort h.files → AreNamesShort (reply_startcmdfile h).0.files
-unfolding reply_startcmdfile
-names-startcmdfile h all =
-    let file = file_at h.files 0 in
-    names-if file.opened (h, _) (with_file h 0 (record file { opened = true }), _) all (names-put h.files 0 (record file { opened = true }) all (all 0))
-
-names-startnewfile : (h : PlainHost) → AreNamesShort h.files → AreNamesShort (reply_startnewfile h).0.files
-unfolding reply_startnewfile
-names-startnewfile h all =
-    let f = length h.files.slots in
-    names-if (nat_le all_tags f) (with_files h (after_print h.files no_tag_left), _) (with_files h (record (put_file h.files f new_file) { work = Some f }), _)
-    (names-print h.files no_tag_left all) (names-put h.files f new_file all (omega arith))
-
-reply_names : (h : PlainHost) (m : Tmesg) → AreNamesShort h.files → AreNamesShort (reply_to h m).0.files
-unfolding replies_opened
-reply_names h (Tversion v) all = all-announce HasShortName (λ x k. k) h.files.slots all
-reply_names h Tstartcmdfile all = names-startcmdfile h all
-reply_names h (Tstartfile f) all = names-put h.files f (record (file_at h.files f) { opened = true }) all (all f)
-reply_names h (Tworkfile f p q) all = names-put h.files f (record (file_at h.files f) { dot = (p, q) }) all (all f)
-reply_names h (Ttype f p s) all = names-type h f p s all
-reply_names h (Tcut f p q) all = names-put h.files f (cut_file f (file_at h.files f) p q) all (all f)
-reply_names h (Tpaste f p) all = names-paste h f p all
-reply_names h Tstartnewfile all = names-startnewfile h all
-reply_names h (Twrite f) all = names-put h.files f (record (file_at h.files f) { saved = Some (file_at h.files f).text; dirty = false }) all (all f)
-reply_names h (Tclose f) all = all-free HasShortName h.files f (omega arith) all
-reply_names h (Tlook f p q) all = names-look h f p q all
-reply_names h (Tsearch f p q) all = names-found h f (searched_for h.files.pattern (file_at h.files f).text q) [] all
-reply_names h (Tsend f p q) all = names-send h f p q all
-reply_names h (Tdclick f p) all = names-put h.files f (record (file_at h.files f) { dot = _ }) all (all f)
-reply_names h _ all = all
+-- files stay fit under each message that is not refused
+pub reply_fits : (h : PlainHost) (m : Tmesg) → first_of_checks (host_checks h m) ≡ None → AreFit h.files → AreFit (reply_to h m).0.files
+reply_fits h m e all = reply_keeps AreFit fits_kept h m e (λ f is. fit-put h.files f (opened_file (file_at h.files f)) all (all f)) all
 
 -- ## The count and the version
 
@@ -128,52 +101,43 @@ stands-found : (h : PlainHost) (f : ℕ) (d : Option Range) (frames : List Hmesg
 stands-found h f None frames = (refl, refl)
 stands-found h f (Some d) frames = (refl, refl)
 
-stands-look : (h : PlainHost) (f p q : ℕ) → Stands h (reply_look h f p q)
-unfolding reply_look
-stands-look h f p q =
+-- no reply changes the count, and only that to Tversion the version
+pub reply_stands : (h : PlainHost) (m : Tmesg) → first_of_checks (host_checks h m) ≡ None
+    → ((reply_to h m).0.taken ≡ h.taken) × ((reply_to h m).0.version ≡ after_t h.version m)
+unfolding replies_opened
+reply_stands h (Tversion v) e = (refl, sym (ap (λ (b : Bool). if b then h.version else common_version v) (none_holds (v == 0, BadVersion) [] e).0))
+reply_stands h Tstartcmdfile e = stands-if h (file_at h.files 0).opened _ _ (refl, refl) (refl, refl)
+reply_stands h (Ttype f p s) e = stands-if h ((f == 0) && ends_line s) _ _ (refl, refl) (refl, refl)
+reply_stands h (Tpaste f p) e =
+    stands-if h (is_empty h.files.snarf || nat_lt max_runes (length (file_at h.files f).text + length h.files.snarf)) _ _ (refl, refl) (refl, refl)
+reply_stands h Tstartnewfile e = stands-if h (nat_le all_tags (length h.files.slots)) _ _ (refl, refl) (refl, refl)
+reply_stands h (Tlook f p q) e =
     let lit = part (file_at h.files f).text p q in
     stands-if h (may_look lit) _ _ (stands-found (with_files h (record h.files { pattern = Some lit })) f (searched (file_at h.files f).text lit q) _)
     (refl, refl)
-
--- the version behind a message, where it was this one before
-abbrev version_by : ℕ → Tmesg → ℕ
-version_by version (Tversion v) = common_version v
-version_by version _ = version
-
--- no reply changes the count, and only that to Tversion the version
-reply_stands : (h : PlainHost) (m : Tmesg) → ((reply_to h m).0.taken ≡ h.taken) × ((reply_to h m).0.version ≡ version_by h.version m)
-unfolding replies_opened
-reply_stands h Tstartcmdfile = stands-if h (file_at h.files 0).opened _ _ (refl, refl) (refl, refl)
-reply_stands h (Ttype f p s) = stands-if h ((f == 0) && ends_line s) _ _ (refl, refl) (refl, refl)
-reply_stands h (Tpaste f p) =
-    stands-if h (is_empty h.files.snarf || nat_lt max_runes (length (file_at h.files f).text + length h.files.snarf)) _ _ (refl, refl) (refl, refl)
-reply_stands h Tstartnewfile = stands-if h (nat_le all_tags (length h.files.slots)) _ _ (refl, refl) (refl, refl)
-reply_stands h (Tlook f p q) = stands-look h f p q
-reply_stands h (Tsearch f p q) = stands-found h f (searched_for h.files.pattern (file_at h.files f).text q) []
-reply_stands h (Tsend f p q) =
+reply_stands h (Tsearch f p q) e = stands-found h f (searched_for h.files.pattern (file_at h.files f).text q) []
+reply_stands h (Tsend f p q) e =
     let s = as_lines (part (file_at h.files f).text p q) in
     stands-if h ((p == q) || not (has_room h.files s)) _ _ (refl, refl) (refl, refl)
-reply_stands h _ = (refl, refl)
+reply_stands h _ e = (refl, refl)
 
 agreed_version : (v : ℕ) → first_of_checks {E = HostFault} ((v == 0, BadVersion) ∷ []) ≡ None → IsVersion (common_version v)
 agreed_version zero e = absurd (cc)
 agreed_version (suc zero) e = inl refl
 agreed_version (suc (suc v)) e = let n : min (suc (suc v)) 2 ≡ 2 = omega arith in inr n
 
-version_by-is : (h : PlainHost) (m : Tmesg) → first_of_checks (host_checks h m) ≡ None → IsVersion h.version → IsVersion (version_by h.version m)
-version_by-is h (Tversion v) e is = agreed_version v e
-version_by-is h _ e is = is
-
 reply_version-is : (h : PlainHost) (m : Tmesg) → first_of_checks (host_checks h m) ≡ None → IsVersion h.version → IsVersion (reply_to h m).0.version
-reply_version-is h m e is = subst IsVersion (sym (reply_stands h m).1) (version_by-is h m e is)
+unfolding replies_opened
+reply_version-is h (Tversion v) e is = agreed_version v e
+reply_version-is h m e is = subst IsVersion (sym (reply_stands h m e).1) is
 
 -- ## What stands of every answer
 
-abbrev IfAnswer : (PlainHost → List HFrame → Type 0) → Answer → Type 0
+abbrev pub IfAnswer : (PlainHost → List HFrame → Type 0) → Answer → Type 0
 IfAnswer P (Ok x) = P x.0 x.1
 IfAnswer P (Err why) = Unit {0}
 
-answer_is : (P : PlainHost → List HFrame → Type 0) (h : PlainHost) (m : Tmesg) → P (counted h) []
+pub answer_is : (P : PlainHost → List HFrame → Type 0) (h : PlainHost) (m : Tmesg) → P (counted h) []
     → (first_of_checks (host_checks h m) ≡ None → P (counted (reply_to h m).0) (stamped ((reply_to h m).0.taken + 1) (reply_to h m).1))
     → IfAnswer P (answer h m)
 unfolding answer
@@ -186,7 +150,7 @@ answer_is P h m silent reply = go (h.taken == most_count) h.is_done (first_of_ch
     go false false None e = reply e
     go false false (Some why) e = tt
 
-of_answer : (P : PlainHost → List HFrame → Type 0) (h g : PlainHost) (m : Tmesg) (frames : List HFrame) → answer h m ≡ Ok (g, frames) → IfAnswer P (answer h m) → P g frames
+pub of_answer : (P : PlainHost → List HFrame → Type 0) (h g : PlainHost) (m : Tmesg) (frames : List HFrame) → answer h m ≡ Ok (g, frames) → IfAnswer P (answer h m) → P g frames
 of_answer P h g m frames e holds = subst (IfAnswer P) e holds
 
 all-seen : (seen : ℕ) (ms : List Hmesg) → All (λ (frame : HFrame). frame.seen ≡ seen) (stamped seen ms)
@@ -204,7 +168,7 @@ stays_sound h g m frames e sound =
     of_answer P h g m frames e
     (answer_is P h m (record { names = sound.names; files = sound.files; version = sound.version })
     (λ allowed. record {
-      names = reply_names h m sound.names;
+      names = reply_names h m allowed sound.names;
       files = reply_fits h m allowed sound.files;
       version = reply_version-is h m allowed sound.version;
     }))
@@ -219,7 +183,7 @@ answers_are_counted h g m frames e =
     let P : PlainHost → List HFrame → Type 0 = λ g frames. (g.taken ≡ h.taken + 1) × All (λ (frame : HFrame). frame.seen ≡ g.taken) frames in
     of_answer P h g m frames e
     (answer_is P h m (refl, All-nil (λ (frame : HFrame). frame.seen ≡ h.taken + 1))
-    (λ allowed. (ap (λ n. n + 1) (reply_stands h m).0, all-seen ((reply_to h m).0.taken + 1) (reply_to h m).1)))
+    (λ allowed. (ap (λ n. n + 1) (reply_stands h m allowed).0, all-seen ((reply_to h m).0.taken + 1) (reply_to h m).1)))
 
 pub is_silent_where_done : IsSilentWhereDone
 unfolding answer

@@ -4,13 +4,12 @@ use Rattle.std.specs.Prelude.{◌≡◌, ℕ, ◌+◌, ◌<◌, ◌≤◌, false
 use Rattle.sam_runes.specs.Texts.{max_runes}
 use Rattle.sam_runes.specs.Checks.{first_of_checks}
 use Rattle.sam_mesg.specs.declared.tmesg.Tmesg.{Tmesg}
-use Rattle.sam_mesg.specs.declared.tmesg.Tmesg.TheVariants.{Tversion, Tstartcmdfile, Tcheck, Trequest, Torigin, Tstartfile, Tworkfile, Ttype, Tcut, Tpaste, Tsnarf, Tstartnewfile, Twrite, Tclose, Tlook, Tsearch, Tsend, Tdclick, Tstartsnarf, Tsetsnarf, Tack, Texit}
 use Rattle.sam_host.specs.Host.{PlainHost, host_checks, reply_to}
 use Rattle.sam_protocol.specs.Lens.{Lens, Named, Opened, Gone, IsSettled, Settles}
 use Rattle.sam_protocol.specs.Frames.{at_file}
 use Rattle.sam_protocol.specs.View.{file_in}
 use Rattle.sam_protocol.specs.Steady.{HasFiles, IsSteady}
-use Rattle.sam_protocol.proofs.Changes.{changed, change_by}
+use Rattle.sam_protocol.proofs.Changes.{Need, Nothing, Positive, InOpen, AtPlace, InRange, HasRoom, Startable, NamedOpen, NamedRange, need_of, changed, change_by}
 
 -- the file is open at the host, with such a text
 abbrev pub Open : PlainHost → ℕ → (List ℕ → Type 0) → Type 0
@@ -19,29 +18,20 @@ Open h f P = (t : List ℕ) × (file_in h.files.slots f ≡ Opened t) × P t
 abbrev pub Range : ℕ → ℕ → List ℕ → Type 0
 Range p q t = (p ≤ q) × (q ≤ length t)
 
+abbrev pub IsMet : PlainHost → Need → Type 0
+IsMet h Nothing = Unit
+IsMet h (Positive n) = 0 < n
+IsMet h (InOpen f) = Open h f (λ t. Unit)
+IsMet h (AtPlace f p) = Open h f (λ t. p ≤ length t)
+IsMet h (InRange f p q) = Open h f (Range p q)
+IsMet h (HasRoom f p s) = Open h f (λ t. (p ≤ length t) × (length t + length s ≤ max_runes))
+IsMet h (Startable f) = ((f == 0) ≡ false) × (((t : List ℕ) × (file_in h.files.slots f ≡ Named t)) ⊎ ((t : List ℕ) × (file_in h.files.slots f ≡ Opened t)))
+IsMet h (NamedOpen f) = ((f == 0) ≡ false) × Open h f (λ t. Unit)
+IsMet h (NamedRange f p q) = ((f == 0) ≡ false) × Open h f (Range p q)
+
+-- what the host may rest on
 abbrev pub Accepted : PlainHost → Tmesg → Type 0
-Accepted h (Tversion v) = 0 < v
-Accepted h Tstartcmdfile = Unit
-Accepted h (Tcheck f) = Open h f (λ t. Unit)
-Accepted h (Trequest f p n) = Open h f (λ t. Unit)
-Accepted h (Torigin f p n) = Open h f (λ t. p ≤ length t)
-Accepted h (Tstartfile f) = ((f == 0) ≡ false) × (((t : List ℕ) × (file_in h.files.slots f ≡ Named t)) ⊎ ((t : List ℕ) × (file_in h.files.slots f ≡ Opened t)))
-Accepted h (Tworkfile f p q) = ((f == 0) ≡ false) × Open h f (Range p q)
-Accepted h (Ttype f p s) = Open h f (λ t. (p ≤ length t) × (length t + length s ≤ max_runes))
-Accepted h (Tcut f p q) = Open h f (Range p q)
-Accepted h (Tpaste f p) = Open h f (λ t. p ≤ length t)
-Accepted h (Tsnarf f p q) = Open h f (Range p q)
-Accepted h Tstartnewfile = Unit
-Accepted h (Twrite f) = ((f == 0) ≡ false) × Open h f (λ t. Unit)
-Accepted h (Tclose f) = ((f == 0) ≡ false) × Open h f (λ t. Unit)
-Accepted h (Tlook f p q) = Open h f (Range p q)
-Accepted h (Tsearch f p q) = Open h f (Range p q)
-Accepted h (Tsend f p q) = Open h f (Range p q)
-Accepted h (Tdclick f p) = Open h f (λ t. p ≤ length t)
-Accepted h Tstartsnarf = Unit
-Accepted h (Tsetsnarf s) = Unit
-Accepted h Tack = Unit
-Accepted h Texit = Unit
+Accepted h m = IsMet h (need_of m)
 
 -- a host that goes on answering
 pub record Ready (h : PlainHost) : Type 0 where

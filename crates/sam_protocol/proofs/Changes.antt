@@ -75,27 +75,53 @@ IsAllowed (Types f p s) views = IsFree (views f)
 IsAllowed (Cuts f p q) views = IsFree (views f)
 IsAllowed (Line p s) views = (g : ℕ) → IsFree (views g)
 
+-- what a message rests on at its file: the terminal has tested it, and the host may rest on it
+pub data Need : Type 0 where
+  Nothing : Need
+  Positive : (n : ℕ) → Need
+  InOpen : (tag : ℕ) → Need
+  AtPlace : (tag p : ℕ) → Need
+  InRange : (tag p q : ℕ) → Need
+  HasRoom : (tag p : ℕ) → (runes : List ℕ) → Need
+  Startable : (tag : ℕ) → Need
+  NamedOpen : (tag : ℕ) → Need
+  NamedRange : (tag p q : ℕ) → Need
+
+abbrev pub need_of : Tmesg → Need
+need_of (Tversion v) = Positive v
+need_of Tstartcmdfile = Nothing
+need_of (Tcheck f) = InOpen f
+need_of (Trequest f p n) = InOpen f
+need_of (Torigin f p n) = AtPlace f p
+need_of (Tstartfile f) = Startable f
+need_of (Tworkfile f p q) = NamedRange f p q
+need_of (Ttype f p s) = HasRoom f p s
+need_of (Tcut f p q) = InRange f p q
+need_of (Tpaste f p) = AtPlace f p
+need_of (Tsnarf f p q) = InRange f p q
+need_of Tstartnewfile = Nothing
+need_of (Twrite f) = NamedOpen f
+need_of (Tclose f) = NamedOpen f
+need_of (Tlook f p q) = InRange f p q
+need_of (Tsearch f p q) = InRange f p q
+need_of (Tsend f p q) = InRange f p q
+need_of (Tdclick f p) = AtPlace f p
+need_of Tstartsnarf = Nothing
+need_of (Tsetsnarf s) = Nothing
+need_of Tack = Nothing
+need_of Texit = Nothing
+
+abbrev pub CanMeet : Need → (ℕ → Lens) → Type 0
+CanMeet Nothing views = Unit
+CanMeet (Positive n) views = 0 < n
+CanMeet (InOpen f) views = OpenAt Anything (views f)
+CanMeet (AtPlace f p) views = OpenAt (Within p p) (views f)
+CanMeet (InRange f p q) views = OpenAt (Within p q) (views f)
+CanMeet (HasRoom f p s) views = OpenAt (λ r. (p ≤ length r) × (length r + length s ≤ max_runes)) (views f)
+CanMeet (Startable f) views = KnownAt (views f) × ((f == 0) ≡ false)
+CanMeet (NamedOpen f) views = OpenAt Anything (views f) × ((f == 0) ≡ false)
+CanMeet (NamedRange f p q) views = OpenAt (Within p q) (views f) × ((f == 0) ≡ false)
+
 -- what the terminal has tested before it composes the message
 abbrev pub CanCompose : Tmesg → (ℕ → Lens) → Type 0
-CanCompose (Tversion v) views = 0 < v
-CanCompose Tstartcmdfile views = Unit
-CanCompose (Tcheck f) views = OpenAt Anything (views f)
-CanCompose (Trequest f p n) views = OpenAt Anything (views f)
-CanCompose (Torigin f p n) views = OpenAt (Within p p) (views f)
-CanCompose (Tstartfile f) views = KnownAt (views f) × ((f == 0) ≡ false)
-CanCompose (Tworkfile f p q) views = OpenAt (Within p q) (views f) × ((f == 0) ≡ false)
-CanCompose (Ttype f p s) views = OpenAt (λ r. (p ≤ length r) × (length r + length s ≤ max_runes)) (views f)
-CanCompose (Tcut f p q) views = OpenAt (Within p q) (views f)
-CanCompose (Tpaste f p) views = OpenAt (Within p p) (views f)
-CanCompose (Tsnarf f p q) views = OpenAt (Within p q) (views f)
-CanCompose Tstartnewfile views = Unit
-CanCompose (Twrite f) views = OpenAt Anything (views f) × ((f == 0) ≡ false)
-CanCompose (Tclose f) views = OpenAt Anything (views f) × ((f == 0) ≡ false)
-CanCompose (Tlook f p q) views = OpenAt (Within p q) (views f)
-CanCompose (Tsearch f p q) views = OpenAt (Within p q) (views f)
-CanCompose (Tsend f p q) views = OpenAt (Within p q) (views f)
-CanCompose (Tdclick f p) views = OpenAt (Within p p) (views f)
-CanCompose Tstartsnarf views = Unit
-CanCompose (Tsetsnarf s) views = Unit
-CanCompose Tack views = Unit
-CanCompose Texit views = Unit
+CanCompose m views = CanMeet (need_of m) views

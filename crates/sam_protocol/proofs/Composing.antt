@@ -4,14 +4,14 @@ use Rattle.sam_rasp.specs.Rasp.{Agrees}
 use Rattle.sam_rasp.proofs.RaspLaws.{length_agrees}
 use Rattle.sam_runes.specs.Texts.{max_runes}
 use Rattle.sam_mesg.specs.declared.tmesg.Tmesg.{Tmesg}
-use Rattle.sam_mesg.specs.declared.tmesg.Tmesg.TheVariants.{Tversion, Tcheck, Trequest, Torigin, Tstartfile, Tworkfile, Ttype, Tcut, Tpaste, Tsnarf, Twrite, Tclose, Tlook, Tsearch, Tsend, Tdclick}
+use Rattle.sam_mesg.specs.declared.tmesg.Tmesg.TheVariants.{Tstartfile}
 use Rattle.sam_mesg.specs.declared.hmesg.Hmesg.{Hmesg}
 use Rattle.sam_host.specs.Host.{PlainHost}
 use Rattle.sam_protocol.specs.Lens.{Lens, lens, Unknown, Known, Open, Action, HFile, Absent, Hidden, Named, Opened, Gone, IsSettled, Settles, OpenAt, Anything}
 use Rattle.sam_protocol.proofs.Lenses.{IsFree, exited_of, command_of}
-use Rattle.sam_protocol.proofs.Changes.{change_by, changed, KnownAt, Within, IsAllowed, CanCompose}
+use Rattle.sam_protocol.proofs.Changes.{Need, Nothing, Positive, InOpen, AtPlace, InRange, HasRoom, Startable, NamedOpen, NamedRange, need_of, CanMeet, change_by, changed, KnownAt, Within, IsAllowed, CanCompose}
 use Rattle.sam_protocol.specs.View.{file_in}
-use Rattle.sam_protocol.proofs.Accepting.{Ready, Accepted}
+use Rattle.sam_protocol.proofs.Accepting.{Ready, IsMet, Accepted}
 use Rattle.sam_protocol.specs.Frames.{at_file}
 use Rattle.sam_protocol.specs.Fold.{AllSettle}
 use Rattle.sam_protocol.proofs.Runs.{no_exit, exited_after}
@@ -80,26 +80,23 @@ accepted h views line down k m allowed can = go m allowed can
     at : (P : List (Option ℕ) → Type 0) (f : ℕ) → OpenAt P (views f) → OpenBoth P (file_in k.ahead.files.slots f)
     at P f o = open_case P (at_file f (down ++ k.frames)) (views f) k.ahead.is_done k.ahead.version (file_in k.ahead.files.slots f) (k.each f) o
 
-    go : (m : Tmesg) → IsAllowed (change_by m) views → CanCompose m views → Accepted k.ahead m
-    go (Tversion v) a x = x
-    go (Tcheck f) a x = let o = at Anything f x in (o.text, o.opened, tt)
-    go (Trequest f p n) a x = let o = at Anything f x in (o.text, o.opened, tt)
-    go (Torigin f p n) a x = let o = at (Within p p) f x in (o.text, o.opened, within o.rasp o.text p o.agrees o.has.1)
-    go (Tstartfile f) a x = (x.1, known_case (at_file f (down ++ k.frames)) (views f) k.ahead.is_done k.ahead.version (file_in k.ahead.files.slots f) (k.each f) (a f) x.0)
-    go (Tworkfile f p q) a x = let o = at (Within p q) f x.0 in (x.1, (o.text, o.opened, (o.has.0, within o.rasp o.text q o.agrees o.has.1)))
-    go (Ttype f p s) a x =
+    met : (n : Need) → ((f : ℕ) → n ≡ Startable f → IsFree (views f)) → CanMeet n views → IsMet k.ahead n
+    met Nothing free x = tt
+    met (Positive n) free x = x
+    met (InOpen f) free x = let o = at Anything f x in (o.text, o.opened, tt)
+    met (AtPlace f p) free x = let o = at (Within p p) f x in (o.text, o.opened, within o.rasp o.text p o.agrees o.has.1)
+    met (InRange f p q) free x = let o = at (Within p q) f x in (o.text, o.opened, (o.has.0, within o.rasp o.text q o.agrees o.has.1))
+    met (HasRoom f p s) free x =
         let o = at (λ r. (p ≤ length r) × (length r + length s ≤ max_runes)) f x in
         (o.text, o.opened, (within o.rasp o.text p o.agrees o.has.0, subst (λ (y : ℕ). y + length s ≤ max_runes) (length_agrees o.rasp o.text o.agrees) o.has.1))
-    go (Tcut f p q) a x = let o = at (Within p q) f x in (o.text, o.opened, (o.has.0, within o.rasp o.text q o.agrees o.has.1))
-    go (Tpaste f p) a x = let o = at (Within p p) f x in (o.text, o.opened, within o.rasp o.text p o.agrees o.has.1)
-    go (Tsnarf f p q) a x = let o = at (Within p q) f x in (o.text, o.opened, (o.has.0, within o.rasp o.text q o.agrees o.has.1))
-    go (Twrite f) a x = let o = at Anything f x.0 in (x.1, (o.text, o.opened, tt))
-    go (Tclose f) a x = let o = at Anything f x.0 in (x.1, (o.text, o.opened, tt))
-    go (Tlook f p q) a x = let o = at (Within p q) f x in (o.text, o.opened, (o.has.0, within o.rasp o.text q o.agrees o.has.1))
-    go (Tsearch f p q) a x = let o = at (Within p q) f x in (o.text, o.opened, (o.has.0, within o.rasp o.text q o.agrees o.has.1))
-    go (Tsend f p q) a x = let o = at (Within p q) f x in (o.text, o.opened, (o.has.0, within o.rasp o.text q o.agrees o.has.1))
-    go (Tdclick f p) a x = let o = at (Within p p) f x in (o.text, o.opened, within o.rasp o.text p o.agrees o.has.1)
-    go _ a x = tt
+    met (Startable f) free x =
+        (x.1, known_case (at_file f (down ++ k.frames)) (views f) k.ahead.is_done k.ahead.version (file_in k.ahead.files.slots f) (k.each f) (free f refl) x.0)
+    met (NamedOpen f) free x = let o = at Anything f x.0 in (x.1, (o.text, o.opened, tt))
+    met (NamedRange f p q) free x = let o = at (Within p q) f x.0 in (x.1, (o.text, o.opened, (o.has.0, within o.rasp o.text q o.agrees o.has.1)))
+
+    go : (m : Tmesg) → IsAllowed (change_by m) views → CanCompose m views → Accepted k.ahead m
+    go (Tstartfile f) a x = met (Startable f) (λ g e. a g) x
+    go m a x = met (need_of m) (λ g e. absurd (cc)) x
 
 -- a message that the terminal composes of its own joins what is up
 pub composes : (h : PlainHost) (views : ℕ → Lens) (line : List Tmesg) (down : List Hmesg) (m : Tmesg) → AllSettle h views line down → exited_of (views 0) ≡ false → command_of (views 0) ≡ false

@@ -1,17 +1,16 @@
 -- Both sides have one version wherever the command lock is free, and it is that of the place of the next message.
-use Rattle.std.proofs.Common.{◌≡◌, ℕ, ◌+◌, Bool, true, false, not, ◌&&◌, ◌||◌, ◌==◌, if◌then◌else◌, nat_lt, List, [], ◌∷◌, ◌++◌, length, Option, Some, None, ◌⊎◌, inl, inr, refl, sym, ap, ◌∙◌, subst, true≢false}
-use Rattle.std.specs.Prelude.{drop, nat_le}
+use Rattle.std.proofs.Common.{◌≡◌, ℕ, ◌+◌, Bool, true, false, ◌||◌, if◌then◌else◌, List, [], ◌∷◌, ◌++◌, Option, Some, None, ◌⊎◌, inl, inr, refl, sym, ap, ◌∙◌, subst, true≢false}
+use Rattle.std.specs.Prelude.{drop}
 use Rattle.std.proofs.lemmas.Bool.{or_parts, false_from_ne_true}
 use Rattle.std.proofs.lemmas.Option.{same_Some}
 use Rattle.sam_term.specs.declared.records.Unsent.{Unsent}
-use Rattle.sam_runes.specs.Texts.{Range, is_empty, max_runes, all_tags, as_lines, part, ends_line, common_version}
+use Rattle.sam_runes.specs.Texts.{common_version}
 use Rattle.sam_runes.specs.Checks.{first_of_checks}
-use Rattle.sam_text.specs.Files.{file_at, has_room, may_look}
 use Rattle.sam_mesg.specs.declared.tmesg.Tmesg.{Tmesg}
-use Rattle.sam_mesg.specs.declared.tmesg.Tmesg.TheVariants.{Tversion, Tstartcmdfile, Ttype, Tpaste, Tstartnewfile, Tlook, Tsearch, Tsend}
+use Rattle.sam_mesg.specs.declared.tmesg.Tmesg.TheVariants.{Tversion}
 use Rattle.sam_mesg.specs.declared.hmesg.Hmesg.{Hmesg}
 use Rattle.sam_mesg.specs.declared.hmesg.Hmesg.TheVariants.{Hversion, Hack, Hunlock}
-use Rattle.sam_host.specs.Host.{PlainHost, Reply, counted, host_checks, reply_to, reply_found, told_names, reply_version, reply_startcmdfile, reply_check, reply_request, reply_origin, reply_startfile, reply_workfile, reply_cut, reply_paste, reply_snarf, reply_startnewfile, reply_write, reply_close, reply_look, reply_search, reply_dclick, reply_startsnarf, reply_setsnarf, reply_exit, reply_type, reply_send, with_files}
+use Rattle.sam_host.specs.Host.{PlainHost, Reply, counted, host_checks, reply_to, told_names, reply_version}
 use Rattle.sam_host.specs.declared.fault.HostFault.{HostFault}
 use Rattle.sam_host.specs.declared.fault.HostFault.TheVariants as hostfault
 use Rattle.sam_term.specs.Term.{PlainTerminal, unsent_message}
@@ -24,43 +23,19 @@ use Rattle.sam_protocol.specs.Order.{views, InOrder}
 use Rattle.sam_protocol.proofs.Runs.{no_unlock, same_version}
 use Rattle.sam_protocol.proofs.Versions.{unlocks_behind, unlock_frames, no_changes}
 use Rattle.sam_protocol.proofs.Folds.{answered}
-use Rattle.sam_runes.proofs.CheckLaws.{none_holds}
 use Rattle.sam_mesg.specs.TerminalKinds.{after_t}
 use Rattle.sam_protocol.specs.Streams.{version_behind}
 use Rattle.sam_protocol.proofs.Composing.{not_done_ahead}
+use Rattle.sam_host.proofs.SoundLaws.{reply_stands}
 
 -- ## Versions
-
-version-if : (n : ℕ) (b : Bool) (x y : Reply) → x.0.version ≡ n → y.0.version ≡ n → (if b then x else y).0.version ≡ n
-version-if n true x y here there = here
-version-if n false x y here there = there
-
-version-found : (h : PlainHost) (f : ℕ) (d : Option Range) (ms : List Hmesg) → (reply_found h f d ms).0.version ≡ h.version
-version-found h f None ms = refl
-version-found h f (Some d) ms = refl
-
--- the version behind a message that nothing stands against
-version_next : (h : PlainHost) (m : Tmesg) → first_of_checks (host_checks h m) ≡ None → (reply_to h m).0.version ≡ after_t h.version m
-unfolding reply_version reply_startcmdfile reply_check reply_request reply_origin reply_startfile reply_workfile reply_cut reply_paste
-    reply_snarf reply_startnewfile reply_write reply_close reply_look reply_search reply_dclick reply_startsnarf reply_setsnarf reply_exit reply_type reply_send
-version_next h (Tversion v) e = sym (ap (λ (b : Bool). if b then h.version else common_version v) (none_holds (v == 0, hostfault.BadVersion) [] e).0)
-version_next h Tstartcmdfile e = version-if h.version (file_at h.files 0).opened _ _ refl refl
-version_next h (Ttype f p s) e = version-if h.version ((f == 0) && ends_line s) _ _ refl refl
-version_next h (Tpaste f p) e = version-if h.version (is_empty h.files.snarf || nat_lt max_runes (length (file_at h.files f).text + length h.files.snarf)) _ _ refl refl
-version_next h Tstartnewfile e = version-if h.version (nat_le all_tags (length h.files.slots)) _ _ refl refl
-version_next h (Tlook f p q) e =
-    let lit = part (file_at h.files f).text p q in
-    version-if h.version (may_look lit) _ _ (version-found (with_files h (record h.files { pattern = Some lit })) f _ _) refl
-version_next h (Tsearch f p q) e = version-found h f _ []
-version_next h (Tsend f p q) e = version-if h.version ((p == q) || not (has_room h.files (as_lines (part (file_at h.files f).text p q)))) _ _ refl refl
-version_next h _ e = refl
 
 -- the version changes only with an answer that frees the command lock
 version_reply : (h : PlainHost) (m : Tmesg) → first_of_checks (host_checks h m) ≡ None → ((reply_to h m).0.version ≡ h.version) ⊎ (unlocks_command (reply_to h m).1 ≡ true)
 unfolding reply_version
 version_reply h (Tversion v) e =
     inr (unlocks_behind (Hversion (common_version v) ∷ told_names 1 (drop 1 h.files.slots)) (Hack ∷ Hunlock ∷ []) refl)
-version_reply h m e = inl (version_next h m e)
+version_reply h m e = inl (reply_stands h m e).1
 
 version_of_reply : (h : PlainHost) (m : Tmesg) (r : Reply) → reply_of h m ≡ Some r → (r.0.version ≡ h.version) ⊎ (unlocks_command r.1 ≡ true)
 version_of_reply h m r e = go h.is_done e
@@ -143,7 +118,7 @@ one_past : (h : PlainHost) (m : Tmesg) (r : Reply) → h.is_done ≡ false → r
 one_past h m r d e = go (first_of_checks (host_checks h m)) refl (sym (ap (λ (b : Bool). if b then Some (counted h, []) else replied (first_of_checks (host_checks h m)) (reply_to h m)) d) ∙ e)
   where
     go : (o : Option HostFault) → first_of_checks (host_checks h m) ≡ o → replied o (reply_to h m) ≡ Some r → r.0.version ≡ after_t h.version m
-    go None c q = ap (λ (x : Reply). x.0.version) (sym (same_Some _ _ q)) ∙ version_next h m c
+    go None c q = ap (λ (x : Reply). x.0.version) (sym (same_Some _ _ q)) ∙ (reply_stands h m c).1
     go (Some why) c q = absurd (let x : None ≡ Some r = q in cc)
 
 folded_version : (ms : List Tmesg) (h : PlainHost) (r : Reply) → answers h ms ≡ Some r → r.0.is_done ≡ false → r.0.version ≡ version_behind h.version ms

@@ -19,8 +19,9 @@
 //! 1. specs/Lens, Frames: a file as the terminal knows it (`Lens`), what a frame does to it (`action`, `move`), and that all that is under
 //!    way leads to what the host has (`Settles`).
 //! 2. proofs/Runs: `still`. proofs/Lenses, Texts, AllSettle: each step at one file keeps `Settles`; `kept_act` is the user's edit.
-//! 3. proofs/Changes, Accepting: what the terminal changes as it composes a message, by sam_term's `lock_of` (`change_by`), which messages
-//!    come to the host (`Accepted`), and what a message with its answer must do then (`Synced`).
+//! 3. proofs/Changes, Accepting: what the terminal changes as it composes a message, by sam_term's `lock_of` (`change_by`), what a message
+//!    rests on at its file (`need_of`), at the terminal and then at the host (`Accepted`), and what a message with its answer must do
+//!    then (`Synced`).
 //! 4. proofs/HostFiles, Tests, Guards: aids. proofs/Telling: what frames about one open file do (`Told`), one lemma for each ending that
 //!    answers share. proofs/FileLocks, Edits, Commands, Announcing, Lines: one lemma for each kind of message; Handling sums them up.
 //! 5. specs/View, proofs/FrameMoves: the terminal itself, seen as lenses, does what they do. [`frames_move`] sums it up.

@@ -14,7 +14,7 @@ use Rattle.sam_runes.proofs.SlotLaws.{slot-put_same, put_slot-put_slot}
 use Rattle.sam_term.specs.declared.records.Window.{Window}
 use Rattle.sam_term.specs.declared.records.KnownFile.{KnownFile}
 use Rattle.sam_mesg.specs.declared.tmesg.Tmesg.{Tmesg}
-use Rattle.sam_mesg.specs.declared.tmesg.Tmesg.TheVariants.{Trequest, Torigin, Tpaste, Ttype, Twrite, Tlook, Tsearch, Tdclick}
+use Rattle.sam_mesg.specs.declared.tmesg.Tmesg.TheVariants.{Trequest, Ttype}
 
 or-false : (b : Bool) → b ≡ (b || false)
 or-false true = refl
@@ -44,18 +44,14 @@ composed_by t (Trequest f p n) =
     ap (λ v. put_window (put_window u f w) f (record v { awaits = true })) (window-put_same u f w)
     ∙ (put-put u f w (record w { awaits = true })
     ∙ ap (λ b. record (put_window t f (record w { awaits = b })) { sent = t.sent + 1 }) (or-true (window_at t f).awaits))
-composed_by t (Torigin f p n) = ap (λ b. record (put_window t f (record (window_at t f) { locks = (window_at t f).locks + 1; awaits = b })) { sent = t.sent + 1 }) (or-false (window_at t f).awaits)
-composed_by t (Tpaste f p) = ap (λ b. record (put_window t f (record (window_at t f) { locks = (window_at t f).locks + 1; awaits = b })) { sent = t.sent + 1 }) (or-false (window_at t f).awaits)
-composed_by t (Twrite f) = ap (λ b. record (put_window t f (record (window_at t f) { locks = (window_at t f).locks + 1; awaits = b })) { sent = t.sent + 1 }) (or-false (window_at t f).awaits)
-composed_by t (Tlook f p q) = ap (λ b. record (put_window t f (record (window_at t f) { locks = (window_at t f).locks + 1; awaits = b })) { sent = t.sent + 1 }) (or-false (window_at t f).awaits)
-composed_by t (Tsearch f p q) = ap (λ b. record (put_window t f (record (window_at t f) { locks = (window_at t f).locks + 1; awaits = b })) { sent = t.sent + 1 }) (or-false (window_at t f).awaits)
-composed_by t (Tdclick f p) = ap (λ b. record (put_window t f (record (window_at t f) { locks = (window_at t f).locks + 1; awaits = b })) { sent = t.sent + 1 }) (or-false (window_at t f).awaits)
-composed_by t (Ttype f p s) = go (is_command_line f s)
+composed_by t m = by_lock (lock_of m)
   where
-    go : (b : Bool) → lock_taken (if b then CommandLock else NoLock) (record t { sent = t.sent + 1 }) ≡ lock_added (if b then CommandLock else NoLock) false t
-    go true = refl
-    go false = refl
-composed_by t m = refl
+    by_lock : (l : Lock) → lock_taken l (record t { sent = t.sent + 1 }) ≡ lock_added l false t
+    by_lock NoLock = refl
+    by_lock CommandLock = refl
+    by_lock (FileLock f) =
+        ap (λ b. record (put_window t f (record (window_at t f) { locks = (window_at t f).locks + 1; awaits = b })) { sent = t.sent + 1 })
+        (or-false (window_at t f).awaits)
 
 -- ## Flushing
 

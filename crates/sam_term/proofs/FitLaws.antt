@@ -13,7 +13,7 @@ use Rattle.sam_term.specs.Sound.{IsSound, IsShort}
 use Rattle.sam_term.specs.Term.{PlainTerminal, Made, window_at, put_window, cut_rasp, lock_taken, asked, composed, all_composed, flushed, unsent_message, and_then, sends, sends_if, unchanged, requested, request_for, view_end, is_open, joins, joined, kept_unsent, typed_rasp, types, cuts_dot, event_outcome, made_by_type, made_by_cut, made_by_paste, made_by_snarf, made_by_view, frame_outcome, moved_unsent, event_checks, has_long_text, file_of, is_file_locked, took_unlockfile}
 use Rattle.sam_term.specs.declared.records.Unsent.{Unsent}
 use Rattle.sam_term.specs.declared.event.UserEvent.{UserEvent}
-use Rattle.sam_term.specs.declared.event.UserEvent.TheVariants.{Typed, Select, Cut, Paste, Snarf, Look, Search, Send, Dclick, Scroll, View, Open, Close, Write, Work, OpenCmd, New, Exit, Check, GetSnarf, SetSnarf, Version, Flush}
+use Rattle.sam_term.specs.declared.event.UserEvent.TheVariants.{Typed, Select, Cut, Paste, Snarf, View, SetSnarf, Flush}
 use Rattle.sam_mesg.specs.declared.tmesg.Tmesg.{Tmesg}
 use Rattle.sam_mesg.specs.declared.tmesg.Tmesg.TheVariants.{Trequest, Tcut, Tpaste, Tsnarf, Tack, Tsetsnarf}
 use Rattle.sam_mesg.specs.declared.hmesg.Hmesg.{Hmesg}
@@ -171,28 +171,14 @@ good-event t (Paste f) k h =
 good-event t (Snarf f) k h =
     let d = (window_at t f).dot in
     good-if t.version (d.0 == d.1) (t, []) _ (λ e. record { fits = refl; short = k }) (λ e. good-plain t.version t (Tsnarf f d.0 d.1 ∷ []) k refl)
-good-event t (Look f) k h = good-plain t.version t _ k refl
-good-event t (Search f) k h = good-plain t.version t _ k refl
-good-event t (Send f) k h = good-plain t.version t _ k refl
-good-event t (Dclick f p) k h = good-plain t.version t _ k refl
-good-event t (Scroll f n) k h = good-plain t.version t _ k refl
 good-event t (View f p n) k h =
     good-requested t.version (put_window t f (record (window_at t f) { view_start = p; view_length = n })) f k
-good-event t (Open f) k h = good-plain t.version t _ k refl
-good-event t (Close f) k h = good-plain t.version t _ k refl
-good-event t (Write f) k h = good-plain t.version t _ k refl
-good-event t (Work f) k h = good-plain t.version t _ k refl
-good-event t OpenCmd k h = good-plain t.version t _ k refl
-good-event t New k h = good-plain t.version t _ k refl
-good-event t Exit k h = good-plain t.version t _ k refl
-good-event t (Check f) k h = good-plain t.version t _ k refl
-good-event t GetSnarf k h = good-plain t.version t _ k refl
 good-event t (SetSnarf s) k h =
     let within = ltb-false (snarf_limit t.version) (utf8_length s) h in
     let fits : nat_le (utf8_length s) (snarf_limit t.version) ≡ true = le-leb (utf8_length s) (snarf_limit t.version) within in
     good-plain t.version t (Tsetsnarf s ∷ []) k (rw fits refl)
-good-event t (Version v) k h = good-plain t.version t _ k refl
 good-event t Flush k h = good-flushed t.version t k
+good-event t _ k h = good-plain t.version t _ k refl
 
 long_text : (t : PlainTerminal) (e : UserEvent) → first_of_checks (event_checks t e) ≡ None → has_long_text t e ≡ false
 unfolding test_at

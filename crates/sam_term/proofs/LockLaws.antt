@@ -14,11 +14,11 @@ use Rattle.sam_term.specs.Term.{PlainTerminal, Made, blank_window, blank_known, 
 use Rattle.sam_term.specs.declared.records.Window.{Window}
 use Rattle.sam_term.specs.declared.records.KnownFile.{KnownFile}
 use Rattle.sam_term.specs.declared.event.UserEvent.{UserEvent}
-use Rattle.sam_term.specs.declared.event.UserEvent.TheVariants.{Typed, Select, Cut, Paste, Snarf, Look, Search, Send, Dclick, Scroll, View, Open, Close, Write, Work, OpenCmd, New, Exit, Check, GetSnarf, SetSnarf, Version, Flush}
+use Rattle.sam_term.specs.declared.event.UserEvent.TheVariants.{Typed, Select, Cut, Paste, Snarf, View, Flush}
 use Rattle.sam_mesg.specs.declared.tmesg.Tmesg.{Tmesg}
 use Rattle.sam_mesg.specs.declared.tmesg.Tmesg.TheVariants.{Trequest, Tcut, Tpaste, Tsnarf, Tack}
 use Rattle.sam_mesg.specs.declared.hmesg.Hmesg.{Hmesg}
-use Rattle.sam_mesg.specs.declared.hmesg.Hmesg.TheVariants.{Hversion, Hbindname, Hcurrent, Hnewname, Hmovname, Hgrow, Hcheck, Hunlock, Hdata, Horigin, Hunlockfile, Hsetdot, Hgrowdata, Hmoveto, Hclean, Hdirty, Hcut, Hsetpat, Hdelname, Hclose, Hsetsnarf, Hsnarflen, Hack, Hexit}
+use Rattle.sam_mesg.specs.declared.hmesg.Hmesg.TheVariants.{Hbindname, Hnewname, Hmovname, Hgrow, Hcheck, Hdata, Horigin, Hunlockfile, Hsetdot, Hgrowdata, Hmoveto, Hclean, Hdirty, Hcut, Hdelname, Hclose, Hack, Hexit}
 use Rattle.sam_term.proofs.TermLaws.{known-put}
 
 -- the command lock, and of one file the locks and whether a request is awaited
@@ -197,26 +197,11 @@ holds-event f t (Paste g) =
 holds-event f t (Snarf g) =
     let d = (window_at t g).dot in
     holds-if f (held_of f t) (d.0 == d.1) (t, []) _ (holds-none f (held_of f t) t refl) (holds-plain f t (Tsnarf g d.0 d.1 ∷ []))
-holds-event f t (Look g) = holds-plain f t _
-holds-event f t (Search g) = holds-plain f t _
-holds-event f t (Send g) = holds-plain f t _
-holds-event f t (Dclick g p) = holds-plain f t _
-holds-event f t (Scroll g n) = holds-plain f t _
 holds-event f t (View g p n) =
     let w = record (window_at t g) { view_start = p; view_length = n } in
     holds-requested f (held_of f t) (put_window t g w) g (held-window t g w f refl refl)
-holds-event f t (Open g) = holds-plain f t _
-holds-event f t (Close g) = holds-plain f t _
-holds-event f t (Write g) = holds-plain f t _
-holds-event f t (Work g) = holds-plain f t _
-holds-event f t OpenCmd = holds-plain f t _
-holds-event f t New = holds-plain f t _
-holds-event f t Exit = holds-plain f t _
-holds-event f t (Check g) = holds-plain f t _
-holds-event f t GetSnarf = holds-plain f t _
-holds-event f t (SetSnarf s) = holds-plain f t _
-holds-event f t (Version v) = holds-plain f t _
 holds-event f t Flush = holds-flushed f t
+holds-event f t _ = holds-plain f t _
 
 -- ## Frames
 
@@ -249,14 +234,11 @@ held-free f t g = go (eqb_tells g f)
 
 holds-frame : (f : ℕ) (t : PlainTerminal) (m : Hmesg) → Holds f (left_by f m (held_of f t)) (frame_outcome t m)
 unfolding took_bindname took_data took_grow took_growdata took_cut took_unlockfile took_close took_exit
-holds-frame f t (Hversion v) = holds-none f _ (frame_outcome t (Hversion v)).0 refl
 holds-frame f t (Hbindname g) = holds-none f _ (frame_outcome t (Hbindname g)).0 (held-known (λ n. 0) (λ b. false) t g _ f refl)
-holds-frame f t (Hcurrent g) = holds-none f _ (frame_outcome t (Hcurrent g)).0 refl
 holds-frame f t (Hnewname g) = holds-none f _ (frame_outcome t (Hnewname g)).0 (held-known (λ n. 0) (λ b. false) t g blank_known f refl)
 holds-frame f t (Hmovname g s) = holds-none f _ (frame_outcome t (Hmovname g s)).0 (held-same t g _ f refl)
 holds-frame f t (Hgrow g p n) = holds-none f _ (frame_outcome t (Hgrow g p n)).0 (held-window t g _ f refl refl)
 holds-frame f t (Hcheck g) = holds-requested f (held_of f t) t g refl
-holds-frame f t Hunlock = holds-none f _ (frame_outcome t Hunlock).0 refl
 holds-frame f t (Hdata g p s) =
     holds-none f _ (frame_outcome t (Hdata g p s)).0
     (held-known (λ n. n) (λ b. false) t g _ f refl
@@ -272,14 +254,12 @@ holds-frame f t (Hmoveto g p) = holds-none f _ (frame_outcome t (Hmoveto g p)).0
 holds-frame f t (Hclean g) = holds-none f _ (frame_outcome t (Hclean g)).0 (held-same t g _ f refl)
 holds-frame f t (Hdirty g) = holds-none f _ (frame_outcome t (Hdirty g)).0 (held-same t g _ f refl)
 holds-frame f t (Hcut g p n) = holds-none f _ (frame_outcome t (Hcut g p n)).0 (held-window t g _ f refl refl)
-holds-frame f t (Hsetpat s) = holds-none f _ (frame_outcome t (Hsetpat s)).0 refl
 holds-frame f t (Hdelname g) = holds-none f _ (frame_outcome t (Hdelname g)).0 (held-free f t g)
 holds-frame f t (Hclose g) = holds-none f _ (frame_outcome t (Hclose g)).0 (held-known (λ n. 0) (λ b. false) t g _ f refl)
-holds-frame f t (Hsetsnarf s) = holds-none f _ (frame_outcome t (Hsetsnarf s)).0 refl
-holds-frame f t (Hsnarflen n) = holds-none f _ (frame_outcome t (Hsnarflen n)).0 refl
 holds-frame f t Hack =
     holds-if f (held_of f t) t.has_exited (t, []) _ (holds-none f (held_of f t) t refl) (holds-plain f t (Tack ∷ []))
 holds-frame f t Hexit = holds-none f _ (frame_outcome t Hexit).0 (held-exit f t)
+holds-frame f t _ = holds-none f _ _ refl
 
 -- ## What is held then, in numbers
 

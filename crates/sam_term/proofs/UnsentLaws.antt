@@ -7,10 +7,10 @@ use Rattle.sam_runes.specs.Texts.{is_empty, most_in_message}
 use Rattle.sam_rasp.specs.Rasp.{place_after_ins}
 use Rattle.sam_mesg.specs.declared.tmesg.Tmesg.{Tmesg}
 use Rattle.sam_mesg.specs.declared.tmesg.Tmesg.TheVariants.{Ttype, Tsnarf, Tcut, Tpaste, Tack}
-use Rattle.sam_mesg.specs.declared.hmesg.Hmesg.TheVariants.{Hversion, Hbindname, Hcurrent, Hnewname, Hmovname, Hgrow, Hcheck, Hunlock, Hdata, Horigin, Hunlockfile, Hsetdot, Hgrowdata, Hmoveto, Hclean, Hdirty, Hcut, Hsetpat, Hdelname, Hclose, Hsetsnarf, Hsnarflen, Hack, Hexit}
+use Rattle.sam_mesg.specs.declared.hmesg.Hmesg.TheVariants.{Hcheck, Hunlockfile, Hack}
 use Rattle.sam_term.specs.Locks.{is_command_line}
 use Rattle.sam_term.specs.declared.event.UserEvent.{UserEvent}
-use Rattle.sam_term.specs.declared.event.UserEvent.TheVariants.{Typed, Select, Cut, Paste, Snarf, Look, Search, Send, Dclick, Scroll, View, Open, Close, Write, Work, OpenCmd, New, Exit, Check, GetSnarf, SetSnarf, Version, Flush}
+use Rattle.sam_term.specs.declared.event.UserEvent.TheVariants.{Typed, Select, Cut, Paste, Snarf, View, Flush}
 use Rattle.sam_term.specs.declared.records.Unsent.{Unsent}
 use Rattle.sam_term.specs.Term.{PlainTerminal, Made, and_then, unsent_message, flushed, sends, sends_if, unchanged, wanted, requested, joins, joined, moved_unsent, kept_unsent, typed_rasp, types, cuts_dot, has_empty_dot, window_at, put_window, cut_rasp, made_by_type, made_by_cut, made_by_paste, made_by_snarf, made_by_view, event_outcome, took_unlockfile}
 use Rattle.sam_term.specs.Unsent.{SendsFirst, EventsSendFirst, FramesSendFirst}
@@ -194,24 +194,9 @@ event t (Select f p q) = same t.unsent
 event t (Cut f) = cut t f
 event t (Paste f) = paste t f
 event t (Snarf f) = snarf t f
-event t (Look f) = sending t unchanged _
-event t (Search f) = sending t unchanged _
-event t (Send f) = sending t unchanged _
-event t (Dclick f p) = sending t unchanged _
-event t (Scroll f n) = sending t unchanged _
 event t (View f p n) = viewed t f p n
-event t (Open f) = sending t unchanged _
-event t (Close f) = sending t unchanged _
-event t (Write f) = sending t unchanged _
-event t (Work f) = sending t unchanged _
-event t OpenCmd = sending t unchanged _
-event t New = sending t unchanged _
-event t Exit = sending t unchanged _
-event t (Check f) = sending t unchanged _
-event t GetSnarf = sending t unchanged _
-event t (SetSnarf s) = sending t unchanged _
-event t (Version v) = sending t unchanged _
 event t Flush = flush t _
+event t _ = sending t unchanged _
 
 pub events_send_first : EventsSendFirst
 events_send_first t e = first t.unsent (event_outcome t e).0.unsent (event_outcome t e).1 (event t e)
@@ -234,27 +219,7 @@ acked t true ms = none t.unsent
 acked t false ms = first t.unsent (sends t unchanged ms).0.unsent (sends t unchanged ms).1 (send t (sends t unchanged ms).0.unsent ms)
 
 pub frames_send_first : FramesSendFirst
-frames_send_first t (Hversion v) = none t.unsent
-frames_send_first t (Hbindname f) = none t.unsent
-frames_send_first t (Hcurrent f) = none t.unsent
-frames_send_first t (Hnewname f) = none t.unsent
-frames_send_first t (Hmovname f s) = none t.unsent
-frames_send_first t (Hgrow f p n) = none t.unsent
 frames_send_first t (Hcheck f) = requests t f
-frames_send_first t Hunlock = none t.unsent
-frames_send_first t (Hdata f p s) = none t.unsent
-frames_send_first t (Horigin f p) = none t.unsent
 frames_send_first t (Hunlockfile f) = unlocked t f
-frames_send_first t (Hsetdot f p q) = none t.unsent
-frames_send_first t (Hgrowdata f p s) = none t.unsent
-frames_send_first t (Hmoveto f p) = none t.unsent
-frames_send_first t (Hclean f) = none t.unsent
-frames_send_first t (Hdirty f) = none t.unsent
-frames_send_first t (Hcut f p n) = none t.unsent
-frames_send_first t (Hsetpat s) = none t.unsent
-frames_send_first t (Hdelname f) = none t.unsent
-frames_send_first t (Hclose f) = none t.unsent
-frames_send_first t (Hsetsnarf s) = none t.unsent
-frames_send_first t (Hsnarflen n) = none t.unsent
 frames_send_first t Hack = acked t t.has_exited (Tack ∷ [])
-frames_send_first t Hexit = none t.unsent
+frames_send_first t _ = none t.unsent

@@ -1,11 +1,9 @@
 -- Messages that fit at their place of a stream, where they fit at all.
-use Rattle.std.proofs.Common.{◌≡◌, ℕ, ◌≤◌, true, List, [], ◌∷◌, ◌++◌, refl}
+use Rattle.std.proofs.Common.{◌≡◌, ℕ, ◌≤◌, true, List, [], ◌∷◌, ◌++◌}
 use Rattle.std.proofs.lemmas.Bool.{le-leb}
 use Rattle.sam_runes.specs.Texts.{snarf_limit, utf8_length}
 use Rattle.sam_mesg.specs.declared.tmesg.Tmesg.{Tmesg}
 use Rattle.sam_mesg.specs.declared.tmesg.Tmesg.TheVariants.{Tsetsnarf}
-use Rattle.sam_mesg.specs.declared.hmesg.Hmesg.{Hmesg}
-use Rattle.sam_mesg.specs.declared.hmesg.Hmesg.TheVariants.{Hversion}
 use Rattle.sam_mesg.specs.declared.hmesg.HFrame.{HFrame}
 use Rattle.sam_mesg.specs.TerminalKinds.{fits_t, FitsT, after_t}
 use Rattle.sam_mesg.specs.HostKinds.{FitsH, after_h}
@@ -54,12 +52,3 @@ free_turn v (m ∷ ms) p = ((λ g. record { is_message = g.is_message; fits = sa
 
 pub snarf_turn : (v : ℕ) (s : List ℕ) → utf8_length s ≤ snarf_limit v → InTurn terminal v (Tsetsnarf s ∷ [])
 snarf_turn v s l = ((λ g. record { is_message = g.is_message; fits = le-leb (utf8_length s) (snarf_limit v) l }), tt)
-
--- the frame says nothing of the version
-abbrev pub IsPlain : Hmesg → Type 0
-IsPlain (Hversion v) = ⊥
-IsPlain m = Unit {0}
-
-pub plain_past : (v : ℕ) (m : Hmesg) → IsPlain m → after_h v m ≡ v
-plain_past v (Hversion n) p = absurd p
-plain_past v m p = refl

@@ -1,12 +1,10 @@
 -- What a terminal composes for frames, and what stops it.
-use Rattle.std.proofs.Common.{◌≡◌, ◌∙◌, ℕ, ◌≤◌, inl, inr, List, [], ◌∷◌, ◌++◌, length, Option, None, Some, Ok, Err, Bool, true, false, cond, leb, nat_eq, if◌then◌else◌, refl, sym, ap, subst, append-nil, append_assoc, length-append, arith, All, IsTrue}
-use Rattle.std.specs.Str.{encode_utf8_all}
-use Rattle.std.proofs.lemmas.Bool.{leb-true, le-leb}
+use Rattle.std.proofs.Common.{◌≡◌, ◌∙◌, ℕ, ◌≤◌, inl, inr, List, [], ◌∷◌, ◌++◌, length, Option, None, Some, Ok, Err, Bool, true, false, if◌then◌else◌, refl, sym, ap, subst, append-nil, append_assoc, length-append, arith, All, IsTrue}
 use Rattle.std.proofs.lemmas.List.Elements.{All-nil, All-cons}
 use Rattle.sam_mesg.specs.declared.tmesg.Tmesg.{Tmesg}
 use Rattle.sam_mesg.specs.declared.tmesg.Tmesg.TheVariants.{Tack}
 use Rattle.sam_mesg.specs.declared.hmesg.Hmesg.{Hmesg}
-use Rattle.sam_mesg.specs.declared.hmesg.Hmesg.TheVariants.{Hversion, Hbindname, Hcurrent, Hnewname, Hmovname, Hgrow, Hcheck, Hunlock, Hdata, Horigin, Hunlockfile, Hsetdot, Hgrowdata, Hmoveto, Hclean, Hdirty, Hcut, Hsetpat, Hdelname, Hclose, Hsetsnarf, Hsnarflen, Hack, Hexit}
+use Rattle.sam_mesg.specs.declared.hmesg.Hmesg.TheVariants.{Hcheck, Hunlockfile, Hack}
 use Rattle.sam_mesg.specs.declared.hmesg.HFrame.{HFrame}
 use Rattle.sam_mesg.specs.declared.fault.MesgFault.{MesgFault}
 use Rattle.sam_mesg.specs.HostKinds.{fits_h}
@@ -62,27 +60,7 @@ few_from : (t : PlainTerminal) (m : Hmesg) → Few 2 (frame_outcome t m)
 few_from t (Hcheck f) = few_requested t f
 few_from t (Hunlockfile f) = few_requested (took_unlockfile t f) f
 few_from t Hack = few_ack t t.has_exited
-few_from t (Hversion v) = record { few = omega arith }
-few_from t (Hbindname f) = record { few = omega arith }
-few_from t (Hcurrent f) = record { few = omega arith }
-few_from t (Hnewname f) = record { few = omega arith }
-few_from t (Hmovname f s) = record { few = omega arith }
-few_from t (Hgrow f p n) = record { few = omega arith }
-few_from t Hunlock = record { few = omega arith }
-few_from t (Hdata f p s) = record { few = omega arith }
-few_from t (Horigin f p) = record { few = omega arith }
-few_from t (Hsetdot f p q) = record { few = omega arith }
-few_from t (Hgrowdata f p s) = record { few = omega arith }
-few_from t (Hmoveto f p) = record { few = omega arith }
-few_from t (Hclean f) = record { few = omega arith }
-few_from t (Hdirty f) = record { few = omega arith }
-few_from t (Hcut f p n) = record { few = omega arith }
-few_from t (Hsetpat s) = record { few = omega arith }
-few_from t (Hdelname f) = record { few = omega arith }
-few_from t (Hclose f) = record { few = omega arith }
-few_from t (Hsetsnarf s) = record { few = omega arith }
-few_from t (Hsnarflen n) = record { few = omega arith }
-few_from t Hexit = record { few = omega arith }
+few_from t _ = record { few = omega arith }
 
 few_counted : (b : Bool) (made : Made) (u : PlainTerminal) (ms : List Tmesg) → Few 2 made → (if b then Err fault.CountFull else Ok made) ≡ Ok (u, ms) → length ms ≤ 2
 few_counted true made u ms few is = absurd (cc)

@@ -6,16 +6,5 @@ use Rattle.sam_threads.proofs.term_side.Side.drop_next.Goals as goal
 pub invariant_of-self : goal.invariant_of-self
 invariant_of-self g c =
     let i = c.self.inside in
-    let v : SideView =
-    record {
-      take = i.take;
-      post = i.post;
-      logged = i.logged;
-      to_send = i.to_send.bytes;
-      keyboard_left = i.keyboard_left;
-      mouse_left = i.mouse_left;
-      exit_put = i.exit_put;
-      stop = i.stop;
-    } in
     let stopped : is_some i.stop ≡ true = subst (λ (w : SideView). is_some w.stop ≡ true) (sym c.self.view_is) c.requires.stopped in
-    kept_answer v c.try_recv.new.self c.try_recv.result c.self.invariant stopped c.try_recv.ensures.answer
+    kept_answer _ c.try_recv.new.self c.try_recv.result c.self.invariant stopped c.try_recv.ensures.answer
