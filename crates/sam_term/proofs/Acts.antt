@@ -1,10 +1,10 @@
 -- The oldest event that is held, and what nothing stands against.
-use Rattle.std.proofs.Common.{◌≡◌, refl, sym, ap, ◌∙◌, subst, ℕ, zero, suc, Bool, true, false, List, [], ◌∷◌, drop, Some, None, Ok}
+use Rattle.std.proofs.Common.{◌≡◌, refl, sym, ap, ◌∙◌, subst, ℕ, zero, suc, Bool, true, false, List, [], ◌∷◌, drop, Option, Some, None, Ok}
 use Rattle.std.specs.Prelude.{slice_get, not, ◌&&◌}
 use Rattle.sam_runes.specs.Checks.{Checks, first_of_checks}
-use Rattle.sam_term.specs.Term.{PlainTerminal, Made, act_of, act_on, decided, event_checks, event_outcome, needs_open, is_closed, file_of, is_open, sends, unchanged}
+use Rattle.sam_term.specs.Term.{PlainTerminal, Made, act_of, act_on, decided, event_checks, event_outcome, message_of, outcome_by, needs_open, is_closed, file_of, is_open, sends, unchanged}
 use Rattle.sam_term.specs.Taking.{done, not_done}
-use Rattle.sam_term.specs.Acting.{deed_of, first_event, free_first, made_first, is_typing, is_snarfing}
+use Rattle.sam_term.specs.Acting.{deed_by, deed_of, first_event, free_first, made_first, is_typing, is_snarfing}
 use Rattle.sam_term.specs.declared.event.Deed.TheVariants.{Sends, Types, Selects, Cuts, Pastes, Snarfs, Views, SetsSnarf, Flushes}
 use Rattle.sam_term.specs.Locks.{lock_of}
 use Rattle.sam_term.specs.Locking.{is_lockable}
@@ -99,56 +99,37 @@ opened_by t e f n s needs names =
     opened (is_open t f)
     (subst (λ o. is_closed t o ≡ false) names (subst (λ b. (b && is_closed t (file_of e)) ≡ false) needs (passes t e 5 n s)))
 
-same_message : (x y : Tmesg) (t : PlainTerminal) → Sends x ≡ Sends y → is_lockable t (lock_of x) ≡ true → is_lockable t (lock_of y) ≡ true
-same_message x y t e l = let same : x ≡ y = (cc) in subst (λ m. is_lockable t (lock_of m) ≡ true) same l
+-- the lock of a message, where there is one, is there to be taken
+abbrev can_lock : PlainTerminal → Option Tmesg → Bool
+can_lock t None = true
+can_lock t (Some m) = is_lockable t (lock_of m)
 
-lockable : (t : PlainTerminal) (e : UserEvent) (m : Tmesg) → free_first t ≡ None → first_event t.held ≡ e → deed_of t e ≡ Sends m → is_lockable t (lock_of m) ≡ true
-lockable t (Look f) m n h s = same_message _ m t s (opened_by t (Look f) f n h refl refl)
-lockable t (Search f) m n h s = same_message _ m t s (opened_by t (Search f) f n h refl refl)
-lockable t (Dclick f p) m n h s = same_message _ m t s (opened_by t (Dclick f p) f n h refl refl)
-lockable t (Scroll f k) m n h s = same_message _ m t s (opened_by t (Scroll f k) f n h refl refl)
-lockable t (Write f) m n h s = same_message _ m t s (opened_by t (Write f) f n h refl refl)
-lockable t (Send f) m n h s = same_message _ m t s refl
-lockable t (Open f) m n h s = same_message _ m t s refl
-lockable t (Close f) m n h s = same_message _ m t s refl
-lockable t (Work f) m n h s = same_message _ m t s refl
-lockable t OpenCmd m n h s = same_message _ m t s refl
-lockable t New m n h s = same_message _ m t s refl
-lockable t Exit m n h s = same_message _ m t s refl
-lockable t (Check f) m n h s = same_message _ m t s refl
-lockable t GetSnarf m n h s = same_message _ m t s refl
-lockable t (Version v) m n h s = same_message _ m t s refl
-lockable t _ m n h s = absurd (cc)
+lockable : (t : PlainTerminal) (e : UserEvent) → free_first t ≡ None → first_event t.held ≡ e → can_lock t (message_of t.files e) ≡ true
+lockable t (Look f) n h = opened_by t (Look f) f n h refl refl
+lockable t (Search f) n h = opened_by t (Search f) f n h refl refl
+lockable t (Dclick f p) n h = opened_by t (Dclick f p) f n h refl refl
+lockable t (Scroll f k) n h = opened_by t (Scroll f k) f n h refl refl
+lockable t (Write f) n h = opened_by t (Write f) f n h refl refl
+lockable t _ n h = refl
+
+-- what only sends a message has that message
+sent_by : (o : Option Tmesg) (e : UserEvent) (m : Tmesg) → Sends m ≡ deed_by o e → o ≡ Some m
+sent_by (Some n) e m s = (cc)
+sent_by None (Typed f s) m h = absurd (cc)
+sent_by None _ m h = absurd (cc)
 
 -- the message of the oldest event may take its lock
 pub lockable_first : (t : PlainTerminal) (m : Tmesg) → free_first t ≡ None → Sends m ≡ deed_of t (first_event t.held) → is_lockable t (lock_of m) ≡ true
-lockable_first t m n s = lockable t (first_event t.held) m n refl (sym s)
-
-sends_same : (u : PlainTerminal) (m n : Tmesg) → Sends m ≡ Sends n → sends u unchanged (m ∷ []) ≡ sends u unchanged (n ∷ [])
-sends_same u m n e = let same : m ≡ n = (cc) in ap (λ x. sends u unchanged (x ∷ [])) same
-
-makes : (t : PlainTerminal) (es : List UserEvent) (e : UserEvent) (m : Tmesg) → deed_of t e ≡ Sends m → event_outcome (record t { held = es }) e ≡ sends (record t { held = es }) unchanged (m ∷ [])
-makes t es (Look f) m s = sends_same (record t { held = es }) _ m s
-makes t es (Search f) m s = sends_same (record t { held = es }) _ m s
-makes t es (Dclick f p) m s = sends_same (record t { held = es }) _ m s
-makes t es (Scroll f k) m s = sends_same (record t { held = es }) _ m s
-makes t es (Write f) m s = sends_same (record t { held = es }) _ m s
-makes t es (Send f) m s = sends_same (record t { held = es }) _ m s
-makes t es (Open f) m s = sends_same (record t { held = es }) _ m s
-makes t es (Close f) m s = sends_same (record t { held = es }) _ m s
-makes t es (Work f) m s = sends_same (record t { held = es }) _ m s
-makes t es OpenCmd m s = sends_same (record t { held = es }) _ m s
-makes t es New m s = sends_same (record t { held = es }) _ m s
-makes t es Exit m s = sends_same (record t { held = es }) _ m s
-makes t es (Check f) m s = sends_same (record t { held = es }) _ m s
-makes t es GetSnarf m s = sends_same (record t { held = es }) _ m s
-makes t es (Version v) m s = sends_same (record t { held = es }) _ m s
-makes t es _ m s = absurd (cc)
+lockable_first t m n s =
+    let e = first_event t.held in
+    subst (λ o. can_lock t o ≡ true) (sent_by (message_of t.files e) e m s) (lockable t e n refl)
 
 -- an event that only sends a message
 pub made_sends : (t : PlainTerminal) (m : Tmesg) → Sends m ≡ deed_of t (first_event t.held) → made_first t ≡ sends (record t { held = drop 1 t.held }) unchanged (m ∷ [])
 unfolding made_first
-made_sends t m s = makes t (drop 1 t.held) (first_event t.held) m (sym s)
+made_sends t m s =
+    let e = first_event t.held in
+    ap (λ o. outcome_by o (record t { held = drop 1 t.held }) e) (sent_by (message_of t.files e) e m s)
 
 -- ## The event by what it does
 

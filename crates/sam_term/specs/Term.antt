@@ -278,38 +278,47 @@ made_by_snarf t f =
     let d = (window_at t f).dot in
     if has_empty_dot t f then (t, []) else sends t unchanged (Tsnarf f d.0 d.1 ∷ [])
 
--- a message about the dot of f
-abbrev pub sends_dot : PlainTerminal → ℕ → (ℕ → ℕ → ℕ → Tmesg) → Made
-sends_dot t f message = let d = (window_at t f).dot in sends t unchanged (message f d.0 d.1 ∷ [])
-
 unfoldable pub made_by_view : PlainTerminal → ℕ → ℕ → ℕ → Made
 made_by_view t f p n = requested (put_window t f (record (window_at t f) { view_start = p; view_length = n })) f
 
+-- a message about the dot of f
+abbrev pub about_dot : Slots KnownFile → ℕ → (ℕ → ℕ → ℕ → Tmesg) → Tmesg
+about_dot files f message = let d = (window_in files f).dot in message f d.0 d.1
+
+-- the message of an event that does nothing but compose it
+abbrev pub message_of : Slots KnownFile → UserEvent → Option Tmesg
+message_of files (Look f) = Some (about_dot files f Tlook)
+message_of files (Search f) = Some (about_dot files f Tsearch)
+message_of files (Send f) = Some (about_dot files f Tsend)
+message_of files (Dclick f p) = Some (Tdclick f p)
+message_of files (Scroll f n) = Some (Torigin f (window_in files f).view_start n)
+message_of files (Open f) = Some (Tstartfile f)
+message_of files (Close f) = Some (Tclose f)
+message_of files (Write f) = Some (Twrite f)
+message_of files (Work f) = Some (about_dot files f Tworkfile)
+message_of files OpenCmd = Some Tstartcmdfile
+message_of files New = Some Tstartnewfile
+message_of files Exit = Some Texit
+message_of files (Check f) = Some (Tcheck f)
+message_of files GetSnarf = Some Tstartsnarf
+message_of files (Version v) = Some (Tversion v)
+message_of files _ = None
+
+-- what the event does, by that message
+abbrev pub outcome_by : Option Tmesg → PlainTerminal → UserEvent → Made
+outcome_by (Some m) t e = sends t unchanged (m ∷ [])
+outcome_by None t (Typed f s) = made_by_type t f s
+outcome_by None t (Select f p q) = (set_dot_of t f (p, q), [])
+outcome_by None t (Cut f) = made_by_cut t f
+outcome_by None t (Paste f) = made_by_paste t f
+outcome_by None t (Snarf f) = made_by_snarf t f
+outcome_by None t (View f p n) = made_by_view t f p n
+outcome_by None t (SetSnarf s) = sends t unchanged (Tsetsnarf s ∷ [])
+outcome_by None t _ = flushed t
+
 -- what an event does that nothing stands against
 abbrev pub event_outcome : PlainTerminal → UserEvent → Made
-event_outcome t (Typed f s) = made_by_type t f s
-event_outcome t (Select f p q) = (set_dot_of t f (p, q), [])
-event_outcome t (Cut f) = made_by_cut t f
-event_outcome t (Paste f) = made_by_paste t f
-event_outcome t (Snarf f) = made_by_snarf t f
-event_outcome t (Look f) = sends_dot t f Tlook
-event_outcome t (Search f) = sends_dot t f Tsearch
-event_outcome t (Send f) = sends_dot t f Tsend
-event_outcome t (Dclick f p) = sends t unchanged (Tdclick f p ∷ [])
-event_outcome t (Scroll f n) = sends t unchanged (Torigin f (window_at t f).view_start n ∷ [])
-event_outcome t (View f p n) = made_by_view t f p n
-event_outcome t (Open f) = sends t unchanged (Tstartfile f ∷ [])
-event_outcome t (Close f) = sends t unchanged (Tclose f ∷ [])
-event_outcome t (Write f) = sends t unchanged (Twrite f ∷ [])
-event_outcome t (Work f) = sends_dot t f Tworkfile
-event_outcome t OpenCmd = sends t unchanged (Tstartcmdfile ∷ [])
-event_outcome t New = sends t unchanged (Tstartnewfile ∷ [])
-event_outcome t Exit = sends t unchanged (Texit ∷ [])
-event_outcome t (Check f) = sends t unchanged (Tcheck f ∷ [])
-event_outcome t GetSnarf = sends t unchanged (Tstartsnarf ∷ [])
-event_outcome t (SetSnarf s) = sends t unchanged (Tsetsnarf s ∷ [])
-event_outcome t (Version v) = sends t unchanged (Tversion v ∷ [])
-event_outcome t Flush = flushed t
+event_outcome t e = outcome_by (message_of t.files e) t e
 
 -- ## What holds an event back
 
