@@ -57,7 +57,8 @@ def picture(title, width, height, parts):
 # ---- The crates
 
 BOX_WIDTH, BOX_HEIGHT, ROW_HEIGHT, FIRST_ROW = 152, 40, 70, 46
-SPREAD = 0.16  # how far from the middle of a box its arrows meet it
+SPREAD = 0.16  # how far from the middle of a box its arrows meet it, by how far the boxes are apart
+FURTHEST = BOX_WIDTH / 2 - 12
 # Where each crate stands (its middle, its row from the top), and what it has in a few words.
 PLACES = {
     "sam_play": (520, 0, "the program"),
@@ -65,11 +66,11 @@ PLACES = {
     "sam_running": (520, 2, "five threads at work"),
     "sam_settling": (520, 3, "their ends, one run"),
     "sam_threads": (520, 4, "five workers"),
-    "sam_script": (350, 5, "scripts, read and shown"),
+    "sam_script": (300, 4, "scripts, read and shown"),
     "sam_queue": (170, 5, "lines between threads"),
     "sam_world": (350, 6, "both sides as one state"),
     "sam_protocol": (350, 7, "crossing messages agree"),
-    "sam_c": (740, 4, "the library for C"),
+    "sam_c": (740, 3, "the library for C"),
     "sam_ends": (740, 7, "the ends of two streams"),
     "sam_host": (170, 8, "the host"),
     "sam_term": (520, 8, "the terminal"),
@@ -118,7 +119,7 @@ def crates_picture():
     ]
     for name, other in direct(crates()):
         (x, row, _), (other_x, other_row, _) = PLACES[name], PLACES[other]
-        aside = SPREAD * (other_x - x)
+        aside = max(-FURTHEST, min(FURTHEST, SPREAD * (other_x - x)))
         start = (x + aside, FIRST_ROW + ROW_HEIGHT * row + BOX_HEIGHT / 2)
         parts.append(edge(start, (other_x - aside, FIRST_ROW + ROW_HEIGHT * other_row - BOX_HEIGHT / 2)))
     for name, (x, row, words) in PLACES.items():

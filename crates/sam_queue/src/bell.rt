@@ -8,7 +8,7 @@ use std::time::Duration;
 
 /// How often a wait gives way before it sleeps. That takes about as long as to wake a thread, so that ends of a busy line
 /// seldom sleep.
-const YIELDS: u32 = 50;
+const YIELDS: u32 = 200;
 
 /// The first sleep of a wait, in microseconds. Each further one may take twice as long.
 const FIRST_SLEEP: u64 = 100;

@@ -3,7 +3,7 @@ use Rattle.std.specs.Prelude.{◌≡◌, ℕ, ◌≤◌, length, All}
 use Rattle.sam_runes.specs.Texts.{most_files}
 use Rattle.sam_host.specs.Host.{new_host}
 use Rattle.sam_term.specs.Term.{new_terminal}
-use Rattle.sam_script.specs.Script.{IsFile}
+use Rattle.sam_world.specs.Given.{IsFile}
 use Rattle.sam_queue.specs.Views.{LineView, new_post, new_take}
 use Rattle.sam_threads.specs.Lines.{LinesView}
 use Rattle.sam_running.specs.declared.tasks.LineSides.{LineSides}

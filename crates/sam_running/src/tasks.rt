@@ -3,16 +3,18 @@ ghost use Rattle.std.specs.Prelude.{◌≡◌, ◌≤◌, length, All, IfOk};
 ghost use Rattle.sam_runes.specs.Texts.{most_files};
 ghost use Rattle.sam_host.specs.Host.{new_host};
 ghost use Rattle.sam_queue.specs.Views.{new_post, new_take};
-ghost use Rattle.sam_script.specs.Script.{IsFile, keys_of, mouse_of};
+ghost use Rattle.sam_world.specs.Given.{IsFile};
+ghost use Rattle.sam_script.specs.Script.{keys_of, mouse_of};
 ghost use Rattle.sam_running.specs.Tasks.{AreNewSides, AreReady, IsHostRole};
 
 use sam_host::host::Host;
 use sam_queue::{Line, Post, Start, Take};
 use sam_runes::Runes;
-use sam_script::{Script, given_files};
+use sam_script::Script;
 use sam_term::event::UserEvent;
 use sam_term::term::Terminal;
 use sam_threads::{Input, Lines, Starts};
+use sam_world::given_files;
 use std::alloc::{AllocError, Global};
 use std::marker::PhantomData;
 

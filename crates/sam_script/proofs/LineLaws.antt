@@ -14,7 +14,7 @@ use Rattle.sam_script.specs.declared.line.Said.{Said}
 use Rattle.sam_script.specs.declared.line.Said.TheVariants as said
 use Rattle.sam_script.specs.declared.fault.LineFault.{LineFault}
 use Rattle.sam_script.specs.declared.fault.LineFault.TheVariants.{Wrong, OutOfMemory}
-use Rattle.sam_script.specs.Script.{IsFile}
+use Rattle.sam_world.specs.Given.{IsFile}
 use Rattle.sam_script.specs.Spelling.{SpellsParts, IsWord, SpellsFile, SpellsLine, SaysNothing, SaysSo, Says}
 use Rattle.sam_script.specs.Spelling.Part.{Rest}
 use Rattle.sam_script.specs.Reading.{◌>>=◌, word_of, behind_word, word_at, text_at, event_at, fitting_name, fitting_text, file_text_at, file_at, bare, line_readers, is_silent, line_at, Gives, IsUnsaid}

@@ -1,14 +1,11 @@
 -- What a replay has printed, line by line.
-use Rattle.std.proofs.Common.{◌≡◌, inl, inr, refl, sym, ap, ◌∙◌, subst, ◌<◌, ◌≤◌, ◌+◌, ℕ, zero, suc, true, List, [], ◌∷◌, ◌++◌, length, take, drop, All, Result, Ok, Err, slice_index_or, append_assoc, append-nil, arith}
+use Rattle.std.proofs.Common.{◌≡◌, inl, inr, refl, sym, ap, ◌∙◌, subst, ◌<◌, ◌≤◌, ◌+◌, ℕ, zero, suc, true, List, [], ◌∷◌, ◌++◌, length, drop, Result, Ok, Err, slice_index_or, append_assoc, append-nil, arith}
 use Rattle.std.specs.Prelude.{if◌then◌else◌}
-use Rattle.std.proofs.lemmas.List.Elements.{All-head, All-tail}
-use Rattle.sam_runes.specs.Texts.{RoomyText, most_in_name}
-use Rattle.sam_host.specs.Given.{AreNames, given_of}
 use Rattle.sam_world.specs.World.{PlainWorld, step_of}
 use Rattle.sam_world.specs.Counts.{passes_count}
 use Rattle.sam_world.specs.declared.event.Event.{Event}
 use Rattle.sam_world.proofs.Stopping.{passing_is_there, passing_stops}
-use Rattle.sam_script.specs.Script.{IsFile, PlainScript}
+use Rattle.sam_script.specs.Script.{PlainScript}
 use Rattle.sam_script.specs.Spelling.{Spells, IsReadFault}
 use Rattle.sam_script.specs.Replay.{after_line, or_full, printed_by, stepped, behind, and_on, replayed_from, replayed, IsReplayFault, IsStopOf}
 use Rattle.sam_script.specs.declared.line.Numbered.{Numbered}
@@ -20,32 +17,6 @@ use Rattle.sam_script.specs.declared.fault.ScriptFault.TheVariants as fault
 pub step_is_full : (number : ℕ) (w : PlainWorld) (e : Event) → passes_count w e ≡ true → stepped number w e ≡ Err fault.CountFull
 step_is_full number w e full =
     ap (λ b. if b then Err (fault.Line number) else or_full (step_of w e)) (passing_is_there w e full) ∙ ap or_full (passing_stops w e full)
-
--- ---- files
-
-pub given_more : (gs : List (List ℕ × RoomyText)) (g : List ℕ × RoomyText) → given_of (gs ++ g ∷ []) ≡ given_of gs ++ (g.0, g.1.runes) ∷ []
-given_more [] g = refl
-given_more (h ∷ gs) g = ap (λ xs. (h.0, h.1.runes) ∷ xs) (given_more gs g)
-
-pub given_many : (gs : List (List ℕ × RoomyText)) → length gs ≡ length (given_of gs)
-given_many [] = refl
-given_many (g ∷ gs) = ap suc (given_many gs)
-
-pub names_more : (gs : List (List ℕ × RoomyText)) (g : List ℕ × RoomyText) → AreNames gs → length g.0 ≤ most_in_name → AreNames (gs ++ g ∷ [])
-names_more [] g names short = (short, tt)
-names_more (h ∷ gs) g names short = (names.0, names_more gs g names.1 short)
-
-pub file_there : (fs : List (List ℕ × List ℕ)) (i : ℕ) (d : List ℕ × List ℕ) → i < length fs → All IsFile fs → IsFile (slice_index_or fs i d)
-file_there [] i d within all = absurd (omega (arith, within))
-file_there (f ∷ fs) zero d within all = All-head IsFile f fs all
-file_there (f ∷ fs) (suc i) d within all = file_there fs i d (omega (arith, within)) (All-tail IsFile f fs all)
-
-pub take_more : {X : Type 0} (xs : List X) (i : ℕ) (d : X) → i < length xs → take (i + 1) xs ≡ take i xs ++ slice_index_or xs i d ∷ []
-take_more [] i d within = absurd (omega (arith, within))
-take_more (x ∷ xs) zero d within = refl
-take_more (x ∷ xs) (suc i) d within =
-    let one : suc (i + 1) ≡ suc i + 1 = omega arith in
-    subst (λ k. take k (x ∷ xs) ≡ x ∷ (take i xs ++ slice_index_or xs i d ∷ [])) one (ap (λ ys. x ∷ ys) (take_more xs i d (omega (arith, within))))
 
 -- ---- lines
 

@@ -2,10 +2,11 @@
 use Rattle.std.specs.Prelude.{◌≡◌, ◌<◌, ◌^◌, ◌+◌, ◌==◌, ℕ, false, List, [], ◌∷◌, ◌++◌, codes, flat_map, map, length, encode_utf8}
 use Rattle.std.specs.List.{AllByRecursion}
 use Rattle.sam_runes.specs.Reading.{AreRunes}
+use Rattle.sam_world.specs.Given.{IsFile}
 use Rattle.sam_world.specs.declared.event.Event.{Event}
 use Rattle.sam_world.specs.declared.event.Event.TheVariants.{User, Act, Flush, HostTake, TermTake}
 use Rattle.sam_script.specs.Show.{text_shown}
-use Rattle.sam_script.specs.Script.{PlainScript, IsFile}
+use Rattle.sam_script.specs.Script.{PlainScript}
 use Rattle.sam_script.specs.Spelling.{Part, form, spelling}
 use Rattle.sam_script.specs.Spelling.Part.{Number, Rest}
 use Rattle.sam_script.specs.declared.line.Line.{Line}

@@ -1,6 +1,5 @@
 -- Scripts: files, and the lines that follow them.
-use Rattle.std.specs.Prelude.{◌≤◌, ◌<◌, ℕ, List, [], ◌∷◌, length, flat_map}
-use Rattle.sam_runes.specs.Texts.{max_runes, most_in_name}
+use Rattle.std.specs.Prelude.{ℕ, List, [], ◌∷◌, flat_map}
 use Rattle.sam_term.specs.declared.event.UserEvent.{UserEvent}
 use Rattle.sam_script.specs.declared.line.Line.TheVariants.{Key, Mouse}
 use Rattle.sam_script.specs.declared.line.Numbered.{Numbered}
@@ -9,10 +8,6 @@ use Rattle.sam_script.specs.declared.line.Numbered.{Numbered}
 pub record PlainScript : Type 0 where
   pub files : List (List ℕ × List ℕ)
   pub lines : List Numbered
-
--- a name of 1 to most_in_name runes, and a text that is not too long
-abbrev pub IsFile : List ℕ × List ℕ → Type 0
-IsFile file = (0 < length file.0) × (length file.0 ≤ most_in_name) × (length file.1 ≤ max_runes)
 
 -- what the user does at the keyboard by a line
 abbrev pub key_of : Numbered → List UserEvent

@@ -1,20 +1,17 @@
 //! Replays a script: its lines are done one after another, on one thread, over a world of its files.
 
-ghost use Rattle.std.specs.Prelude.{◌≡◌, ◌≤◌, ◌++◌, Ok, Err, IfOk, IfErr, OnOk, All, length, string_bytes};
-ghost use Rattle.sam_runes.specs.Texts.{most_files};
-ghost use Rattle.sam_host.specs.Given.{AreNames, given_of};
-ghost use Rattle.sam_world.specs.World.{new_world, drained, drain_limit};
-ghost use Rattle.sam_script.specs.Script.{IsFile};
+ghost use Rattle.std.specs.Prelude.{◌≡◌, ◌++◌, Ok, Err, IfOk, IfErr, OnOk, string_bytes};
+ghost use Rattle.sam_world.specs.World.{drained, drain_limit};
 ghost use Rattle.sam_script.specs.Replay.{after_line, or_full, printed_by, stepped, replayed, IsReplay, IsReplayFault, IsStopOf};
 
 use crate::fault::ScriptFault;
 use crate::line::{Line, Numbered};
 use crate::script::Script;
 use crate::showing::push_world;
-use sam_runes::{Runes, Text, TextFault};
 use sam_world::event::{Event, StepFault};
+use sam_world::first_world;
 use sam_world::world::World;
-use std::alloc::{AllocError, Global};
+use std::alloc::Global;
 
 /// Reads the script that the bytes spell, as [`Script::read`] does, and returns what its `show` lines print, as [`replay`] does. All
 /// lines are read before the first is done.
@@ -54,46 +51,6 @@ pub fn replay(alloc: Global, script: &Script) -> Result<Vec<u8>, ScriptFault>
         }
     }
     Ok(out.into_bytes())
-}
-
-/// Returns copies of files, names and texts, as `Host::new` and `World::new` take them. Each name has 1 to `MOST_IN_NAME` runes and each
-/// text at most `MAX_RUNES`, as in a [`Script`]. The only error is want of memory.
-pub fn given_files(
-    alloc: Global,
-    files: &[(Runes, Runes)],
-) -> Result<Vec<(Runes, Text)>, AllocError>
-    requires each { All IsFile files.now }
-    ensures given { IfOk result (λ given. given_of given.items ≡ files.now) }
-    ensures names { IfOk result (λ given. AreNames given.items) }
-{
-    let mut given = Vec::new(alloc);
-    for file in files {
-        let name = file.0.copy(alloc)?;
-        let text = match Text::from_runes(alloc, file.1.as_slice()) {
-            Ok(text) => text,
-            Err(TextFault::TooLong) => unreachable!(),
-            Err(TextFault::OutOfMemory) => return Err(AllocError),
-        };
-        given.push((name, text))?;
-    }
-    Ok(given)
-}
-
-/// Makes the first world of files of these names and texts, as `World::new` does. There are at most `MOST_FILES` of them, each as in a
-/// [`Script`]. The only error is `OutOfMemory`.
-pub fn first_world(alloc: Global, files: &[(Runes, Runes)]) -> Result<World, ScriptFault>
-    requires count { length files.now ≤ most_files }
-    requires each { All IsFile files.now }
-    ensures ok { IfOk result (λ world. world ≡ new_world files.now) }
-    ensures memory { IfErr result (λ why. why ≡ ScriptFault.OutOfMemory) }
-{
-    let Ok(given) = given_files(alloc, files) else {
-        return Err(ScriptFault::OutOfMemory);
-    };
-    match World::new(alloc, given) {
-        Ok(world) => Ok(world),
-        Err(_) => Err(ScriptFault::OutOfMemory),
-    }
 }
 
 /// Does what a line asks for. What it prints stands behind what was printed before; at an error a part of that may stand there too.

@@ -3,7 +3,8 @@
 ghost use Rattle.std.specs.Prelude.{◌≡◌, ◌≤◌, IfErr, IfOk, OnOk, length, All};
 ghost use Rattle.sam_runes.specs.Texts.{most_files};
 ghost use Rattle.sam_script.specs.Reading.{Adds, AddsNone};
-ghost use Rattle.sam_script.specs.Script.{PlainScript, IsFile, keys_of, mouse_of};
+ghost use Rattle.sam_world.specs.Given.{IsFile};
+ghost use Rattle.sam_script.specs.Script.{PlainScript, keys_of, mouse_of};
 ghost use Rattle.sam_script.specs.Spelling.{Spells, IsReadFault};
 
 use crate::fault::{LineFault, ScriptFault};
@@ -31,7 +32,8 @@ pub struct Script {
 impl Model for Script {
     ghost use Rattle.sam_runes.specs.Texts.{most_files};
     ghost use Rattle.std.specs.Prelude.{◌≤◌, All, length};
-    ghost use Rattle.sam_script.specs.Script.{PlainScript, IsFile};
+    ghost use Rattle.sam_world.specs.Given.{IsFile};
+    ghost use Rattle.sam_script.specs.Script.{PlainScript};
 
     ghost Value = { PlainScript };
 

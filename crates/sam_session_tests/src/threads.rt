@@ -2,11 +2,11 @@
 ghost use Rattle.std.specs.Prelude.{◌<◌};
 
 use sam_lending::{lent, told_of};
-use sam_script::{Script, first_world, show};
+use sam_script::{Script, show};
 use sam_session::{
     FlagGate, Gate, Mode, OpenGate, PlayFault, RunFault, Settled, Stop, play, run_threads,
 };
-use sam_world::{Event, World};
+use sam_world::{Event, World, first_world};
 use std::alloc::Global;
 use std::sync::Wait;
 use std::thread::Threads;

@@ -21,7 +21,7 @@ use Rattle.sam_term.specs.Term.{PlainTerminal, new_terminal, take_of}
 use Rattle.sam_term.specs.declared.event.UserEvent.{UserEvent}
 use Rattle.sam_term.specs.declared.fault.TermFault.{TermFault}
 use Rattle.sam_term.specs.declared.fault.TermFault.TheVariants as fault
-use Rattle.sam_script.specs.Script.{IsFile}
+use Rattle.sam_world.specs.Given.{IsFile}
 use Rattle.sam_queue.specs.declared.rule.Entry.{Entry}
 use Rattle.sam_queue.specs.History.{items_of}
 use Rattle.sam_queue.specs.Views.{PostView, LineView}

@@ -1,7 +1,7 @@
 //! Settling a session: its lines are audited, and its two sides are a world, to which one schedule of all events leads.
 ghost use Rattle.std.specs.Prelude.{◌≡◌, ◌+◌, ◌^◌, ◌<◌, ◌≤◌, [], ◌∷◌, ◌++◌, length, All, IfOk, IfErr, Some, vec_capacity, sum_by};
 ghost use Rattle.sam_runes.specs.Texts.{most_files};
-ghost use Rattle.sam_script.specs.Script.{IsFile};
+ghost use Rattle.sam_world.specs.Given.{IsFile};
 ghost use Rattle.sam_world.specs.Reached.{IsSoundWorld};
 ghost use Rattle.sam_world.specs.World.{new_world, run_of, merged};
 ghost use Rattle.sam_threads.specs.WorkerEnds.{AreEnds};
@@ -14,12 +14,11 @@ use crate::settled::{SettleFault, Settled};
 use sam_host::host::Host;
 use sam_queue::{AuditRoom, Post, Take, audit_within};
 use sam_runes::Runes;
-use sam_script::first_world;
 use sam_term::term::Terminal;
 use sam_threads::{Ends, Input, Stop};
 use sam_world::event::{Event, StepFault, TermLog};
 use sam_world::world::World;
-use sam_world::{MergeFault, merge};
+use sam_world::{MergeFault, first_world, merge};
 use std::alloc::{AllocError, Global};
 use std::sync::Wait;
 
@@ -183,9 +182,7 @@ fn world_after(
     requires files { All IsFile files.now }
     ensures { IfOk result (λ world. world ≡ run_of (new_world files.now) events.now) }
 {
-    let Ok(mut world) = first_world(alloc, files) else {
-        return Err(AllocError);
-    };
+    let mut world = first_world(alloc, files)?;
     match world.run(events) {
         Ok(()) => Ok(Some(world)),
         Err(stop) => {

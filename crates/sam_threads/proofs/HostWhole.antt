@@ -17,7 +17,7 @@ use Rattle.sam_queue.specs.declared.take.Got.{Got}
 use Rattle.sam_queue.specs.declared.take.Got.TheVariants.{Left}
 use Rattle.sam_queue.proofs.Laws.{items_of_item, items_of_mark}
 use Rattle.sam_queue.proofs.Sorts.{items_of-append}
-use Rattle.sam_script.specs.Script.{IsFile}
+use Rattle.sam_world.specs.Given.{IsFile}
 use Rattle.sam_world.specs.Sides.{HostRuns}
 use Rattle.sam_threads.specs.RealSides.{sides}
 use Rattle.sam_threads.specs.Inputs.{bytes_of}

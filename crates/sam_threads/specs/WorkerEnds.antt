@@ -16,7 +16,7 @@ use Rattle.sam_term.specs.declared.fault.TermFault.{TermFault}
 use Rattle.sam_term.specs.declared.fault.TermFault.TheVariants.{CountFull}
 use Rattle.sam_term.specs.declared.event.UserEvent.{UserEvent}
 use Rattle.sam_term.specs.declared.event.UserEvent.TheVariants.{Exit}
-use Rattle.sam_script.specs.Script.{IsFile}
+use Rattle.sam_world.specs.Given.{IsFile}
 use Rattle.sam_world.specs.Logs.{logged_users}
 use Rattle.sam_world.specs.Sides.{Each, HostRuns, TermRuns}
 use Rattle.sam_threads.specs.RealSides.{sides}

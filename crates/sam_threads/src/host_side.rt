@@ -12,7 +12,7 @@ ghost use Rattle.sam_host.specs.Host.{new_host};
 ghost use Rattle.sam_queue.specs.declared.rule.Entry.{Entry};
 ghost use Rattle.sam_queue.specs.History.{IsEnded};
 ghost use Rattle.sam_queue.specs.Views.{new_take, new_post};
-ghost use Rattle.sam_script.specs.Script.{IsFile};
+ghost use Rattle.sam_world.specs.Given.{IsFile};
 ghost use Rattle.sam_world.specs.Sides.{Each};
 ghost use Rattle.sam_threads.specs.Cutting.{Puts};
 ghost use Rattle.sam_threads.specs.Handling.{HandlesAll, StopsBefore, TakesPiece, Serves, of_refusal};

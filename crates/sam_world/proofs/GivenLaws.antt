@@ -1,10 +1,11 @@
 -- The files that a world is made with.
-use Rattle.std.proofs.Common.{◌≡◌, subst, ℕ, zero, suc, ◌+◌, ◌≤◌, ◌<◌, List, [], ◌∷◌, length, drop, arith}
+use Rattle.std.proofs.Common.{◌≡◌, refl, ap, subst, ℕ, zero, suc, ◌+◌, ◌≤◌, ◌<◌, List, [], ◌∷◌, ◌++◌, length, take, drop, All, arith}
 use Rattle.std.specs.Prelude.{slice_index_or}
-use Rattle.sam_runes.specs.Texts.{RoomyText, max_runes}
+use Rattle.std.proofs.lemmas.List.Elements.{All-head, All-tail}
+use Rattle.sam_runes.specs.Texts.{RoomyText, max_runes, most_in_name}
 use Rattle.sam_host.specs.Given.{AreNames, given_of}
 use Rattle.sam_host.specs.Laws.{AreGiven}
-use Rattle.sam_world.specs.Given.{AreShort}
+use Rattle.sam_world.specs.Given.{AreShort, IsFile}
 
 -- one text more, from the end on
 pub short_step : (files : List (List ℕ × RoomyText)) (i : ℕ) (d : List ℕ × RoomyText)
@@ -24,3 +25,29 @@ none_left (file ∷ files) (suc i) l = none_left files i (omega (arith, l))
 pub given_fits : (files : List (List ℕ × RoomyText)) → AreNames files → AreShort files → AreGiven (given_of files)
 given_fits [] names short = tt
 given_fits (file ∷ files) names short = (names.0, short.0, given_fits files names.1 short.1)
+
+-- ---- files that are copied
+
+pub given_more : (gs : List (List ℕ × RoomyText)) (g : List ℕ × RoomyText) → given_of (gs ++ g ∷ []) ≡ given_of gs ++ (g.0, g.1.runes) ∷ []
+given_more [] g = refl
+given_more (h ∷ gs) g = ap (λ xs. (h.0, h.1.runes) ∷ xs) (given_more gs g)
+
+pub given_many : (gs : List (List ℕ × RoomyText)) → length gs ≡ length (given_of gs)
+given_many [] = refl
+given_many (g ∷ gs) = ap suc (given_many gs)
+
+pub names_more : (gs : List (List ℕ × RoomyText)) (g : List ℕ × RoomyText) → AreNames gs → length g.0 ≤ most_in_name → AreNames (gs ++ g ∷ [])
+names_more [] g names short = (short, tt)
+names_more (h ∷ gs) g names short = (names.0, names_more gs g names.1 short)
+
+pub file_there : (fs : List (List ℕ × List ℕ)) (i : ℕ) (d : List ℕ × List ℕ) → i < length fs → All IsFile fs → IsFile (slice_index_or fs i d)
+file_there [] i d within all = absurd (omega (arith, within))
+file_there (f ∷ fs) zero d within all = All-head IsFile f fs all
+file_there (f ∷ fs) (suc i) d within all = file_there fs i d (omega (arith, within)) (All-tail IsFile f fs all)
+
+pub take_more : {X : Type 0} (xs : List X) (i : ℕ) (d : X) → i < length xs → take (i + 1) xs ≡ take i xs ++ slice_index_or xs i d ∷ []
+take_more [] i d within = absurd (omega (arith, within))
+take_more (x ∷ xs) zero d within = refl
+take_more (x ∷ xs) (suc i) d within =
+    let one : suc (i + 1) ≡ suc i + 1 = omega arith in
+    subst (λ k. take k (x ∷ xs) ≡ x ∷ (take i xs ++ slice_index_or xs i d ∷ [])) one (ap (λ ys. x ∷ ys) (take_more xs i d (omega (arith, within))))

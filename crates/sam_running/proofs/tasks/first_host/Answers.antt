@@ -1,6 +1,6 @@
 use Rattle.std.proofs.Common.{◌∙◌, ◌≤◌, ap, sym, subst, length}
 use Rattle.sam_runes.specs.Texts.{most_files}
-use Rattle.sam_script.proofs.Replays.{given_many}
+use Rattle.sam_world.proofs.GivenLaws.{given_many}
 use Rattle.sam_running.proofs.tasks.first_host.Goals as goal
 
 pub new-requires-clause-count : goal.new-requires-clause-count

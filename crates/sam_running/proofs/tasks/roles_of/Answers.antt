@@ -1,7 +1,7 @@
 use Rattle.std.proofs.Common.{◌∙◌, ◌≤◌, ap, sym, subst, length, All}
 use Rattle.sam_runes.specs.Texts.{most_files}
 use Rattle.sam_host.specs.Host.{new_host}
-use Rattle.sam_script.specs.Script.{IsFile}
+use Rattle.sam_world.specs.Given.{IsFile}
 use Rattle.sam_running.proofs.tasks.roles_of.Goals as goal
 
 pub returns-clause-host : goal.returns-clause-host

@@ -1,8 +1,8 @@
 use Rattle.std.proofs.Common.{◌≡◌, ◌≤◌, ◌∙◌, ◌+◌, ◌++◌, ◌∷◌, ℕ, List, [], ap, ap₂, sym, subst, length, length-append, slice_index_or}
 use Rattle.sam_runes.specs.Texts.{most_in_name}
 use Rattle.sam_host.specs.Given.{AreNames, given_of}
-use Rattle.sam_script.proofs.Replays.{given_more, names_more, file_there, take_more}
-use Rattle.sam_script.proofs.replaying.given_files.Goals as goal
+use Rattle.sam_world.proofs.GivenLaws.{given_more, names_more, file_there, take_more}
+use Rattle.sam_world.proofs.given.given_files.Goals as goal
 
 pub loop-file-preserved : goal.loop-file-preserved
 loop-file-preserved c =

@@ -1,6 +1,6 @@
 use Rattle.std.proofs.Common.{◌≡◌, take, length}
 use Rattle.sam_host.specs.Given.{AreNames, given_of}
-use Rattle.sam_script.proofs.replaying.given_files.Given as goal
+use Rattle.sam_world.proofs.given.given_files.Given as goal
 
 abbrev pub invariant-loop-file : goal.invariant-loop-file
 invariant-loop-file l = record {
