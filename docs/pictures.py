@@ -65,6 +65,7 @@ PLACES = {
     "sam_session": (520, 1, "modes of the program"),
     "sam_running": (520, 2, "five threads at work"),
     "sam_settling": (520, 3, "their ends, one run"),
+    "sam_tasks": (300, 3, "what workers begin with"),
     "sam_threads": (520, 4, "five workers"),
     "sam_script": (300, 4, "scripts, read and shown"),
     "sam_queue": (170, 5, "lines between threads"),

@@ -11,7 +11,7 @@ use Rattle.sam_threads.specs.declared.ends.HostEnd.{HostEnd}
 use Rattle.sam_threads.specs.declared.ends.ReaderEnd.{ReaderEnd}
 use Rattle.sam_threads.specs.declared.ends.TermEnd.{TermEnd}
 use Rattle.sam_threads.specs.declared.ends.Ends.{Ends}
-use Rattle.sam_running.specs.declared.tasks.Tasks.{Tasks}
+use Rattle.sam_tasks.specs.declared.tasks.Tasks.{Tasks}
 use Rattle.sam_running.specs.declared.spawning.UserPromise.{UserPromise}
 use Rattle.sam_running.specs.declared.spawning.HostPromise.{HostPromise}
 use Rattle.sam_running.specs.declared.spawning.ReaderPromise.{ReaderPromise}

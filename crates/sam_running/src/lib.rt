@@ -4,7 +4,6 @@
 mod run;
 mod session;
 mod spawning;
-mod tasks;
 
 pub use run::{RunFault, run_ends};
 pub use session::run_threads;

@@ -2,13 +2,13 @@
 ghost use Rattle.std.specs.Prelude.{◌≡◌, ◌<◌, IfOk, IfSome, IsSomeAnd, IsTrue, IsFalse, Some, Err};
 ghost use Rattle.sam_script.specs.Script.{keys_of, mouse_of};
 ghost use Rattle.sam_running.specs.Promised.{KeepPromises, TasksKept, SomeRefused};
-ghost use Rattle.sam_running.specs.Tasks.{AreReady};
+ghost use Rattle.sam_tasks.specs.Tasks.{AreReady};
 ghost use Rattle.sam_threads.specs.WorkerEnds.{Told, AllPassed, GatesTold, RefusesSome};
 ghost use Rattle.sam_running.specs.declared.run.RunFault.TheVariants.{GateTimedOut};
 
 use crate::spawning::{Handles, join_all, spawn_all};
-use crate::tasks::{Tasks, ready_tasks};
 use sam_script::Script;
+use sam_tasks::{Tasks, ready_tasks};
 use sam_threads::{Ends, Gate, Lines, Starts};
 use std::alloc::Global;
 use std::sync::{OnceLock, Wait};

@@ -1,11 +1,11 @@
 //! Starting the five threads, and joining them.
 ghost use Rattle.std.specs.Prelude.{◌≡◌, ◌<◌, IfSome, Some};
 ghost use Rattle.sam_running.specs.Promised.{UserKept, HostKept, ReaderKept, TermKept, KeepPromises, PromisesUser, PromisesHost, PromisesReader, PromisesTerm, TasksPromised};
-ghost use Rattle.sam_running.specs.Tasks.{IsUserTask, IsHostTask, IsReaderTask, IsTermTask, AreReady};
+ghost use Rattle.sam_tasks.specs.Tasks.{IsUserTask, IsHostTask, IsReaderTask, IsTermTask, AreReady};
 
-use crate::tasks::{HostTask, ReaderTask, Tasks, TermTask, UserTask};
 use sam_queue::Line;
 use sam_runes::Runes;
+use sam_tasks::{HostTask, ReaderTask, Tasks, TermTask, UserTask};
 use sam_term::event::UserEvent;
 use sam_threads::{
     Ends, Gate, HostEnd, Input, ReaderEnd, TermEnd, UserEnd, pass_frames, run_terminal,

@@ -5,7 +5,7 @@ ghost use Rattle.sam_host.specs.Host.{new_host};
 ghost use Rattle.sam_queue.specs.Views.{new_post, new_take};
 ghost use Rattle.sam_world.specs.Given.{IsFile};
 ghost use Rattle.sam_script.specs.Script.{keys_of, mouse_of};
-ghost use Rattle.sam_running.specs.Tasks.{AreNewSides, AreReady, IsHostRole};
+ghost use Rattle.sam_tasks.specs.Tasks.{AreNewSides, AreReady, IsHostRole};
 
 use sam_host::host::Host;
 use sam_queue::{Line, Post, Start, Take};

@@ -1,6 +1,6 @@
 use Rattle.std.proofs.Common.{◌∙◌, ap}
 use Rattle.sam_queue.specs.Views.{new_post, new_take}
-use Rattle.sam_running.proofs.tasks.split_lines.Goals as goal
+use Rattle.sam_tasks.proofs.tasks.split_lines.Goals as goal
 
 pub returns : goal.returns
 returns c =

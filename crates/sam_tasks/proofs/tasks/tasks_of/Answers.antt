@@ -1,4 +1,4 @@
-use Rattle.sam_running.proofs.tasks.tasks_of.Goals as goal
+use Rattle.sam_tasks.proofs.tasks.tasks_of.Goals as goal
 
 pub returns-clause-ready : goal.returns-clause-ready
 returns-clause-ready c =

@@ -2,7 +2,7 @@ use Rattle.std.proofs.Common.{◌∙◌, ◌≤◌, ap, sym, subst, length, All}
 use Rattle.sam_runes.specs.Texts.{most_files}
 use Rattle.sam_host.specs.Host.{new_host}
 use Rattle.sam_world.specs.Given.{IsFile}
-use Rattle.sam_running.proofs.tasks.roles_of.Goals as goal
+use Rattle.sam_tasks.proofs.tasks.roles_of.Goals as goal
 
 pub returns-clause-host : goal.returns-clause-host
 returns-clause-host c =

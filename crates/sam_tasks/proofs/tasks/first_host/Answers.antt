@@ -1,7 +1,7 @@
 use Rattle.std.proofs.Common.{◌∙◌, ◌≤◌, ap, sym, subst, length}
 use Rattle.sam_runes.specs.Texts.{most_files}
 use Rattle.sam_world.proofs.GivenLaws.{given_many}
-use Rattle.sam_running.proofs.tasks.first_host.Goals as goal
+use Rattle.sam_tasks.proofs.tasks.first_host.Goals as goal
 
 pub new-requires-clause-count : goal.new-requires-clause-count
 new-requires-clause-count c =

@@ -6,13 +6,13 @@ use Rattle.sam_term.specs.Term.{new_terminal}
 use Rattle.sam_world.specs.Given.{IsFile}
 use Rattle.sam_queue.specs.Views.{LineView, new_post, new_take}
 use Rattle.sam_threads.specs.Lines.{LinesView}
-use Rattle.sam_running.specs.declared.tasks.LineSides.{LineSides}
-use Rattle.sam_running.specs.declared.tasks.Roles.{Roles}
-use Rattle.sam_running.specs.declared.tasks.UserTask.{UserTask}
-use Rattle.sam_running.specs.declared.tasks.HostTask.{HostTask}
-use Rattle.sam_running.specs.declared.tasks.ReaderTask.{ReaderTask}
-use Rattle.sam_running.specs.declared.tasks.TermTask.{TermTask}
-use Rattle.sam_running.specs.declared.tasks.Tasks.{Tasks}
+use Rattle.sam_tasks.specs.declared.tasks.LineSides.{LineSides}
+use Rattle.sam_tasks.specs.declared.tasks.Roles.{Roles}
+use Rattle.sam_tasks.specs.declared.tasks.UserTask.{UserTask}
+use Rattle.sam_tasks.specs.declared.tasks.HostTask.{HostTask}
+use Rattle.sam_tasks.specs.declared.tasks.ReaderTask.{ReaderTask}
+use Rattle.sam_tasks.specs.declared.tasks.TermTask.{TermTask}
+use Rattle.sam_tasks.specs.declared.tasks.Tasks.{Tasks}
 
 -- nothing was put, taken or handled
 
