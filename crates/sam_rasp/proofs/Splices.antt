@@ -198,9 +198,9 @@ has-front front number n e le none = go (cases_lt front number)
     go (inl l) = inr (omega (arith, l, e))
     go (inr l) = inl (none (omega (arith, l, le)))
 
-pub change-length : (t m : PartialText) (at n : ℕ) → at + n ≤ length t → length ((take at t ++ m) ++ drop (at + n) t) + n ≡ length t + length m
-change-length t m at n le =
-    omega (arith, le, length-append (take at t ++ m) (drop (at + n) t), length-append (take at t) m, length-take at t, length-drop (at + n) t)
+pub change-length : (t m : PartialText) (from to : ℕ) → from ≤ to → to ≤ length t → length ((take from t ++ m) ++ drop to t) + (to - from) ≡ length t + length m
+change-length t m from to ascending within =
+    omega (arith, length-append (take from t ++ m) (drop to t), length-append (take from t) m, length-take from t, length-drop to t)
 
 -- ## A section put in
 

@@ -1,8 +1,8 @@
 //! Changes of a list of sections: runes and gaps are cut out or replaced, or runes are put into a loaded section. Sections move as a
-//! whole, and their runes are copied only where a section is cut in two or joined with another. `loaded_sections`, which makes the
-//! sections to be put in, alone asks for memory.
+//! whole, and their runes are copied only where a section is cut in two or joined with another. `loaded_sections` and `one_hole`, which
+//! make the sections to be put in, alone ask for memory.
 
-ghost use Rattle.std.specs.Prelude.{◌≡◌, ◌<◌, ◌≤◌, ◌+◌, [], map, length, take, drop, vec_len, vec_capacity, Some, IfOk, if◌then◌else◌, false, is_some, IfSome};
+ghost use Rattle.std.specs.Prelude.{◌≡◌, ◌<◌, ◌≤◌, ◌+◌, [], map, length, replicate, take, drop, vec_len, vec_capacity, None, Some, IfOk, if◌then◌else◌, false, is_some, IfSome};
 ghost use Rattle.sam_runes.specs.Texts.{del, ins, max_runes};
 ghost use Rattle.sam_rasp.specs.declared.section.Section.{Section};
 ghost use Rattle.sam_rasp.specs.Rasp.{put_cells};
@@ -157,4 +157,14 @@ pub fn loaded_sections(alloc: Global, runes: &[char]) -> Result<Vec<Section>, Al
         at = end;
     }
     Ok(sections)
+}
+
+/// Returns `n` gaps as one section, which is empty if `n` is 0. The only error is want of memory.
+pub fn one_hole(alloc: Global, n: u32) -> Result<Vec<Section>, AllocError>
+    ensures cells { IfOk result (λ v. cells_of v.items ≡ replicate n None) }
+    ensures len { IfOk result (λ v. vec_len v ≡ 1) }
+{
+    let mut hole = Vec::with_capacity(alloc, 1)?;
+    hole.push(Section::Hole(n))?;
+    Ok(hole)
 }

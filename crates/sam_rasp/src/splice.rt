@@ -1,7 +1,7 @@
 //! A change of some sections of a list: those that it reaches are taken out, changed, and put back. The others move in bulk.
 
-ghost use Rattle.std.specs.Prelude.{◌≡◌, ◌<◌, ◌≤◌, ◌+◌, ◌-◌, ◌++◌, [], ◌∷◌, List, length, take, drop, reverse, min, vec_len, vec_capacity, is_some, IfSome, false};
-ghost use Rattle.std.specs.List.{insert};
+ghost use Rattle.std.specs.Prelude.{◌≡◌, ◌<◌, ◌≤◌, ◌+◌, ◌-◌, ◌++◌, [], ◌∷◌, List, length, take, drop, reverse, min, vec_len, vec_capacity, is_some, IfSome, IfOk, OnOk, false};
+ghost use Rattle.std.specs.List.{All, insert};
 ghost use Rattle.std.specs.Option.{option_to_list};
 ghost use Rattle.sam_runes.specs.Texts.{max_runes};
 ghost use Rattle.sam_rasp.specs.declared.section.Section.{Section};
@@ -10,9 +10,11 @@ ghost use Rattle.sam_rasp.specs.Sections.{cells_of, ends, IsApart, IsBegin, IsRe
 
 use crate::changing::change_members;
 use crate::joining::{push, push_joined};
+use crate::marks::{Change, follow, nearest};
 use crate::piece::Piece;
 use crate::section::Section;
 use crate::walking::{Begin, begin_at, end_at};
+use std::alloc::AllocError;
 
 /// What a change reaches: the sections from `first` up to, but not including, number `last`. There may be none, where the change only
 /// puts something in between two sections or at the end.
@@ -42,6 +44,28 @@ pub fn reach_of(sections: &[Section], near: Begin, p: u32, q: u32) -> Reach
         front.place -= sections[front.index].len();
     }
     Reach { front, first, last }
+}
+
+/// Asks for all memory that `more` sections want beside those of the list, in it and in the two other lists. Returns an empty piece for
+/// the end of a section that is cut in two. No section changes. The only error is want of memory.
+pub fn make_room(
+    sections: &mut Vec<Section>,
+    out: &mut Vec<Section>,
+    window: &mut Vec<Section>,
+    more: usize,
+) -> Result<Piece, AllocError>
+    requires { more ≤ max_runes + 2 }
+    ensures items { (sections.new.items ≡ sections.old.items) × (out.new.items ≡ out.old.items) × (window.new.items ≡ window.old.items) }
+    ensures kept { (vec_capacity out.old ≤ vec_capacity out.new) × (vec_capacity window.old ≤ vec_capacity window.new) }
+    ensures room { OnOk result (let count = vec_len sections.old + more in
+        (count ≤ vec_capacity sections.new) × (count ≤ vec_capacity out.new) × (count ≤ vec_capacity window.new)) }
+    ensures tail { IfOk result (λ t. t ≡ []) }
+{
+    let count = sections.len() + more;
+    out.reserve(count)?;
+    window.reserve(count)?;
+    sections.reserve(more)?;
+    Piece::new(*sections.allocator())
 }
 
 /// Puts so many empty holes at the end. The caller makes sure that there is room for them.
@@ -277,4 +301,61 @@ pub fn replace_sections(
     change_members(out, window, p - reach.first.place, q - p, more, tail);
     push_next(out, next);
     put_back(sections, out, front, reach.last);
+}
+
+/// A change from place `from` to place `to`, and how many runes and gaps there are before and after it.
+#[derive(Clone, Copy)]
+pub struct Edit {
+    /// The place of the first that is replaced.
+    pub from: u32,
+    /// The place behind the last that is replaced.
+    pub to: u32,
+    /// How many runes and gaps there were.
+    pub old_len: u32,
+    /// How many runes and gaps there are now.
+    pub new_len: u32,
+}
+
+/// Does what `replace_sections` does, from the nearest mark on, and moves the marks with their sections.
+pub fn replace_marked(
+    sections: &mut Vec<Section>,
+    out: &mut Vec<Section>,
+    window: &mut Vec<Section>,
+    marks: &mut Vec<Begin>,
+    edit: Edit,
+    more: &mut Vec<Section>,
+    tail: Option<Piece>,
+)
+    requires normal { IsNormal sections.old.items }
+    requires marks { All (IsBegin sections.old.items) marks.old.items }
+    requires ascending { (edit.from ≤ edit.to) × (edit.to ≤ edit.old_len) }
+    requires old_len { edit.old_len ≡ length (cells_of sections.old.items) }
+    requires new_len { edit.new_len + (edit.to - edit.from) ≡ edit.old_len + length (cells_of more.old.items) }
+    requires limit { (edit.old_len ≤ max_runes) × (edit.new_len ≤ max_runes) }
+    requires empty { (out.old.items ≡ []) × (window.old.items ≡ []) }
+    requires unused { (is_some tail ≡ false → more.old.items ≡ []) × IfSome tail (λ t. t ≡ []) }
+    requires room { vec_len sections.old + vec_len more.old + ends tail ≤ vec_capacity out.old }
+    requires list_room { vec_len sections.old + vec_len more.old + ends tail ≤ vec_capacity sections.old }
+    requires window_room { vec_len sections.old ≤ vec_capacity window.old }
+    ensures cells { cells_of sections.new.items ≡ put_cells (cells_of sections.old.items) edit.from edit.to (cells_of more.old.items) }
+    ensures normal { IsNormal sections.new.items }
+    ensures marks { All (IsBegin sections.new.items) marks.new.items }
+    ensures new_len { edit.new_len ≡ length (cells_of sections.new.items) }
+    ensures len { vec_len sections.new ≤ vec_len sections.old + vec_len more.old + ends tail }
+    ensures empty { (out.new.items ≡ []) × (window.new.items ≡ []) }
+    ensures capacity { (vec_capacity out.old ≤ vec_capacity out.new) × (vec_capacity window.old ≤ vec_capacity window.new) }
+{
+    let near = nearest(sections.as_slice(), marks.as_slice(), edit.from);
+    let reach = reach_of(sections.as_slice(), near, edit.from, edit.to);
+    let old_count = sections.len();
+    replace_sections(sections, out, window, reach, edit.from, edit.to, more, tail);
+    let change = Change {
+        front: reach.front,
+        last: reach.last,
+        old_count,
+        new_count: sections.len(),
+        old_len: edit.old_len,
+        new_len: edit.new_len,
+    };
+    follow(marks, change);
 }

@@ -91,7 +91,7 @@ push_next-requires-clause-within c =
     let n = c.args.q - c.args.p in
     let sum = length-append (cells_of o) (cells_back w) in
     let inside : at + n ≤ length t = omega (arith, sum, k.before, k.ends, r.2, r.8, c.requires.ascending) in
-    omega (arith, sum, ap length c.change_members.ensures.cells, change-length t m at n inside, k.lengths, c.requires.total)
+    omega (arith, sum, ap length c.change_members.ensures.cells, change-length t m at (at + n) (omega arith) inside, k.lengths, c.requires.total)
 
 pub put_back-requires-clause-room : goal.put_back-requires-clause-room
 put_back-requires-clause-room c =
