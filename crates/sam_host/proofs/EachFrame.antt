@@ -1,5 +1,5 @@
 -- Which frames the answers have, kind by kind. So what holds of each of these frames holds of each frame of an answer.
-use Rattle.std.proofs.Common.{◌≡◌, ℕ, suc, ◌+◌, ◌-◌, ◌≤◌, List, [], ◌∷◌, ◌++◌, length, Bool, true, false, not, cond, Option, Some, None, refl, arith}
+use Rattle.std.proofs.Common.{◌≡◌, ℕ, suc, ◌+◌, ◌-◌, ◌≤◌, List, [], ◌∷◌, ◌++◌, length, Bool, true, false, not, cond, Option, Some, None, refl, sym, ap, ◌∙◌, subst, append_assoc, if◌then◌else◌, arith}
 use Rattle.std.specs.Prelude.{◌&&◌, ◌||◌, ◌==◌, min, nat_lt, nat_le, IfSome, flat_map, reverse, drop, unwrap_or}
 use Rattle.std.proofs.lemmas.Bool.{leb-true, ltb-false}
 use Rattle.sam_runes.specs.declared.edit.Edit.{Edit}
@@ -13,8 +13,18 @@ use Rattle.sam_mesg.specs.declared.tmesg.Tmesg.TheVariants.{Tversion, Tstartcmdf
 use Rattle.sam_mesg.specs.declared.hmesg.Hmesg.{Hmesg}
 use Rattle.sam_mesg.specs.declared.hmesg.Hmesg.TheVariants.{Hbindname, Hcurrent, Hnewname, Hmovname, Hgrow, Hcheck, Hunlock, Hdata, Horigin, Hunlockfile, Hsetdot, Hgrowdata, Hmoveto, Hclean, Hdirty, Hcut, Hsetpat, Hdelname, Hclose, Hsnarflen, Hack, Hexit}
 use Rattle.sam_host.specs.Host.{PlainHost, Reply, when, when_given, grown, told_dirty, told_length, printed, told_edit, told_outcome, told_names, command_name, no_tag_left, with_file, with_files, reply_found, searched_for, reply_line, reply_to}
-use Rattle.sam_host.proofs.FrameLaws.{replies_opened}
+use Rattle.sam_host.specs.Host.{reply_version, reply_startcmdfile, reply_check, reply_request, reply_origin, reply_startfile, reply_workfile, reply_type, reply_cut, reply_paste, reply_snarf, reply_startnewfile, reply_write, reply_close, reply_look, reply_search, reply_send, reply_dclick, reply_startsnarf, reply_setsnarf, reply_exit}
 use Rattle.sam_host.proofs.FileLaws.{part_length}
+
+-- opens the answers to messages about a text
+unfoldable pub text_replies_opened : ℕ
+unfolding reply_check reply_request reply_origin reply_type reply_cut reply_paste reply_snarf reply_look reply_search reply_dclick reply_send
+text_replies_opened = 0
+
+-- opens the answer to each kind of message
+unfoldable pub replies_opened : ℕ
+unfolding text_replies_opened reply_version reply_startcmdfile reply_startfile reply_workfile reply_startnewfile reply_write reply_close reply_startsnarf reply_setsnarf reply_exit
+replies_opened = 0
 
 abbrev pub EachFrame : (Hmesg → Type 0) → List Hmesg → Type 0
 EachFrame P [] = Unit {0}
@@ -33,11 +43,17 @@ pub record AreParts (P : Hmesg → Type 0) (Q : List ℕ → Type 0) : Type 0 wh
   pub dirty : (f : ℕ) → P (Hdirty f)
   pub setpat : (s : List ℕ) → length s ≤ most_in_pattern → P (Hsetpat s)
 
--- P holds of every frame of an answer, but for Hversion and Hsetsnarf
-pub record AreFrames (P : Hmesg → Type 0) (Q : List ℕ → Type 0) : Type 0 where
+-- which lock the last frame of an answer frees
+pub data Freed : Type 0 where
+  Nothing : Freed
+  Command : Freed
+  File : (tag : ℕ) → Freed
+
+-- P holds of every frame of an answer, but for Hversion and Hsetsnarf, and E of the one that frees a lock
+pub record AreFrames (P : Hmesg → Type 0) (E : Freed → Hmesg → Type 0) (Q : List ℕ → Type 0) : Type 0 where
   pub parts : AreParts P Q
-  pub unlock : P Hunlock
-  pub unlockfile : (f : ℕ) → P (Hunlockfile f)
+  pub unlock : E Command Hunlock
+  pub unlockfile : (f : ℕ) → E (File f) (Hunlockfile f)
   pub bindname : (f : ℕ) → P (Hbindname f)
   pub current : (f : ℕ) → P (Hcurrent f)
   pub loaded : (f p : ℕ) (s : List ℕ) → length s ≤ most_in_message → P (Hdata f p s)
@@ -48,7 +64,20 @@ pub record AreFrames (P : Hmesg → Type 0) (Q : List ℕ → Type 0) : Type 0 w
   pub close : (f : ℕ) → P (Hclose f)
   pub snarflen : (n : ℕ) → P (Hsnarflen n)
   pub ack : P Hack
-  pub exit : P Hexit
+  pub exit : E Command Hexit
+
+-- E holds of the last frame, and P of those before it
+pub record EndsWith (P E : Hmesg → Type 0) (frames : List Hmesg) : Type 0 where
+  pub front : List Hmesg
+  pub last : Hmesg
+  pub is : frames ≡ front ++ last ∷ []
+  pub each : EachFrame P front
+  pub end : E last
+
+abbrev pub Ends : (Hmesg → Type 0) → (Freed → Hmesg → Type 0) → Freed → List Hmesg → Type 0
+Ends P E Nothing frames = EachFrame P frames
+Ends P E Command frames = EndsWith P (E Command) frames
+Ends P E (File f) frames = EndsWith P (E (File f)) frames
 
 pub each-both : (P : Hmesg → Type 0) (ms ns : List Hmesg) → EachFrame P ms → EachFrame P ns → EachFrame P (ms ++ ns)
 each-both P [] ns h k = k
@@ -69,9 +98,42 @@ each-choice : (P : Hmesg → Type 0) (b : Bool) (m n : Hmesg) → (b ≡ true �
 each-choice P true m n h k = h refl
 each-choice P false m n h k = k
 
-each-if : (P : Hmesg → Type 0) (b : Bool) (x y : Reply) → (b ≡ true → EachFrame P x.1) → EachFrame P y.1 → EachFrame P (cond b x y).1
-each-if P true x y h k = h refl
-each-if P false x y h k = k
+-- ## How answers end
+
+behind : (P E : Hmesg → Type 0) (xs ys : List Hmesg) → EachFrame P xs → EndsWith P E ys → EndsWith P E (xs ++ ys)
+behind P E xs ys h k = record {
+  front = xs ++ k.front;
+  last = k.last;
+  is = ap (λ (ms : List Hmesg). xs ++ ms) k.is ∙ sym (append_assoc xs k.front (k.last ∷ []));
+  each = each-both P xs k.front h k.each;
+  end = k.end;
+}
+
+unlocks : {P : Hmesg → Type 0} {E : Freed → Hmesg → Type 0} {Q : List ℕ → Type 0} → AreFrames P E Q → (front : List Hmesg) → EachFrame P front → EndsWith P (E Command) (front ++ Hunlock ∷ [])
+unlocks k front h = record { front = front; last = Hunlock; is = refl; each = h; end = k.unlock }
+
+unlocks_file : {P : Hmesg → Type 0} {E : Freed → Hmesg → Type 0} {Q : List ℕ → Type 0} → AreFrames P E Q → (f : ℕ) (front : List Hmesg) → EachFrame P front
+    → EndsWith P (E (File f)) (front ++ Hunlockfile f ∷ [])
+unlocks_file k f front h = record { front = front; last = Hunlockfile f; is = refl; each = h; end = k.unlockfile f }
+
+ends-if : (P : Hmesg → Type 0) (E : Freed → Hmesg → Type 0) (l : Bool → Freed) (b : Bool) (x y : Reply) → (b ≡ true → Ends P E (l true) x.1) → Ends P E (l false) y.1
+    → Ends P E (l b) (cond b x y).1
+ends-if P E l true x y h k = h refl
+ends-if P E l false x y h k = k
+
+ends-when : (P : Hmesg → Type 0) (E : Freed → Hmesg → Type 0) (l : Freed) (b : Bool) (ms : List Hmesg) → Ends P E l ms → Ends P E (cond b l Nothing) (when b ms)
+unfolding when
+ends-when P E l true ms h = h
+ends-when P E l false ms h = tt
+
+-- all frames are alike
+all-of : (P : Hmesg → Type 0) (ms : List Hmesg) → EndsWith P P ms → EachFrame P ms
+all-of P ms k = subst (EachFrame P) (sym k.is) (each-both P k.front (k.last ∷ []) k.each (k.end, tt))
+
+ends-each : (P : Hmesg → Type 0) (l : Freed) (ms : List Hmesg) → Ends P (λ l. P) l ms → EachFrame P ms
+ends-each P Nothing ms k = k
+ends-each P Command ms k = all-of P ms k
+ends-each P (File f) ms k = all-of P ms k
 
 -- ## Shared parts
 
@@ -137,19 +199,25 @@ behind-first Q (s ∷ ss) h g = h (suc g)
 
 -- ## The kinds
 
-each_found : {P : Hmesg → Type 0} {Q : List ℕ → Type 0} → AreFrames P Q → (h : PlainHost) (f : ℕ) (d : Option Range) (frames : List Hmesg) → EachFrame P frames
-    → EachFrame P (reply_found h f d frames).1
-each_found k h f None frames before = (k.unlockfile f, tt)
-each_found {P} {Q} k h f (Some d) frames before =
-    each-both P frames _ before (k.parts.setdot f d.0 d.1, (k.moveto f d.0, (k.parts.check f, (k.unlockfile f, tt))))
+each_found : {P : Hmesg → Type 0} {E : Freed → Hmesg → Type 0} {Q : List ℕ → Type 0} → AreFrames P E Q → (h : PlainHost) (f : ℕ) (d : Option Range) (frames : List Hmesg) → EachFrame P frames
+    → EndsWith P (E (File f)) (reply_found h f d frames).1
+each_found k h f None frames before = unlocks_file k f [] tt
+each_found {P} {E} k h f (Some d) frames before =
+    behind P (E (File f)) frames _ before (unlocks_file k f (Hsetdot f d.0 d.1 ∷ Hmoveto f d.0 ∷ Hcheck f ∷ []) (k.parts.setdot f d.0 d.1, (k.moveto f d.0, (k.parts.check f, tt))))
 
-each_line : {P : Hmesg → Type 0} {Q : List ℕ → Type 0} → AreFrames P Q → (h : PlainHost) (before : List Hmesg) (line : List ℕ) → EachFrame P before
-    → EachFrame P (reply_line h before line).1
-each_line {P} {Q} k h before line front =
+each_line : {P : Hmesg → Type 0} {E : Freed → Hmesg → Type 0} {Q : List ℕ → Type 0} → AreFrames P E Q → (h : PlainHost) (before : List Hmesg) (line : List ℕ) → EachFrame P before
+    → EndsWith P (E Command) (reply_line h before line).1
+each_line {P} {E} k h before line front =
     let o = meaning h.files line in
     let fs = committed h.files o in
     let told = each_outcome k.parts o.file h.files o (line_short (work_file h.files) line) in
-    each-both P _ _ (each-both P _ _ (each-both P before _ front told) (each_printed k.parts fs o.printed)) (each-choice P o.quit Hexit Hunlock (λ e. k.exit) k.unlock, tt)
+    record {
+      front = (before ++ told_outcome o.file h.files o) ++ printed fs o.printed;
+      last = if o.quit then Hexit else Hunlock;
+      is = refl;
+      each = each-both P _ _ (each-both P before _ front told) (each_printed k.parts fs o.printed);
+      end = each-choice (E Command) o.quit Hexit Hunlock (λ e. k.exit) k.unlock;
+    }
 
 -- what may be looked for is no longer than a pattern
 look-short : (lit : List ℕ) → may_look lit ≡ true → length lit ≤ most_in_pattern
@@ -163,62 +231,94 @@ look-short lit e = ltb-false most_in_pattern (length lit) (second (is_empty lit)
 part-short : (t : List ℕ) (a b n : ℕ) → b ≤ a + n → length (part t a b) ≤ n
 part-short t a b n h = omega (arith, part_length t a b)
 
+-- which lock the answer to each kind frees
+abbrev pub lock_freed : PlainHost → Tmesg → Freed
+lock_freed h (Tversion v) = Command
+lock_freed h Tstartcmdfile = Command
+lock_freed h (Trequest f p n) = if has_file h.files f then File f else Nothing
+lock_freed h (Torigin f p n) = File f
+lock_freed h (Tstartfile f) = Command
+lock_freed h (Ttype f p s) = if (f == 0) && ends_line s then Command else Nothing
+lock_freed h (Tpaste f p) = File f
+lock_freed h Tstartnewfile = Command
+lock_freed h (Twrite f) = File f
+lock_freed h (Tclose f) = Command
+lock_freed h (Tlook f p q) = File f
+lock_freed h (Tsearch f p q) = File f
+lock_freed h (Tsend f p q) = Command
+lock_freed h (Tdclick f p) = File f
+lock_freed h Texit = Command
+lock_freed h _ = Nothing
+
 -- what is told of each kind: of Tversion behind the version, and nothing of Tstartsnarf
+abbrev pub EndsOf : (Hmesg → Type 0) → (Freed → Hmesg → Type 0) → PlainHost → Tmesg → Type 0
+EndsOf P E h (Tversion v) = EndsWith P (E Command) (told_names 1 (drop 1 h.files.slots) ++ Hack ∷ Hunlock ∷ [])
+EndsOf P E h Tstartsnarf = Unit {0}
+EndsOf P E h m = Ends P E (lock_freed h m) (reply_to h m).1
+
+pub reply_ends : {P : Hmesg → Type 0} {E : Freed → Hmesg → Type 0} {Q : List ℕ → Type 0} → AreFrames P E Q → (h : PlainHost) (m : Tmesg) → ((f : ℕ) → Q (file_at h.files f).name) → EndsOf P E h m
+unfolding replies_opened
+reply_ends {P} {E} {Q} k h (Tversion v) names =
+    let told = told_names 1 (drop 1 h.files.slots) in
+    behind P (E Command) told _ (each_names k.parts 1 (drop 1 h.files.slots) (behind-first Q h.files.slots names)) (unlocks k (Hack ∷ []) (k.ack, tt))
+reply_ends {P} {E} k h Tstartcmdfile names =
+    let file = file_at h.files 0 in
+    let named = Hnewname 0 ∷ Hmovname 0 command_name ∷ Hbindname 0 ∷ [] in
+    let short = k.parts.movname 0 command_name (k.parts.name command_name (omega arith)) in
+    ends-if P E (λ b. Command) file.opened (h, _) (with_file h 0 _, (named ++ told_length 0 file) ++ Hunlock ∷ []) (λ e. unlocks k [] tt)
+    (unlocks k (named ++ told_length 0 file) (each-both P named (told_length 0 file) (k.parts.newname 0, (short, (k.bindname 0, tt))) (each_length k.parts 0 file)))
+reply_ends k h (Tcheck f) names = (k.parts.check f, tt)
+reply_ends {P} {E} k h (Trequest f p n) names =
+    let t = (file_at h.files f).text in
+    let a = min p (length t) in
+    let b = min (p + min n most_in_message) (length t) in
+    ends-when P E (File f) (has_file h.files f) _ (unlocks_file k f (Hdata f a (part t a b) ∷ []) (k.loaded f a (part t a b) (part-short t a b most_in_message (omega arith)), tt))
+reply_ends k h (Torigin f p n) names = unlocks_file k f (Horigin f _ ∷ []) (k.origin f _, tt)
+reply_ends {P} k h (Tstartfile f) names =
+    let file = file_at h.files f in
+    let opening = Hbindname f ∷ told_length f file in
+    unlocks k (when (not file.opened) opening) (each-when P (not file.opened) opening (k.bindname f, each_length k.parts f file))
+reply_ends k h (Tworkfile f p q) names = (k.current f, tt)
+reply_ends {P} {E} k h (Ttype f p s) names =
+    ends-if P E (λ b. if b then Command else Nothing) ((f == 0) && ends_line s) _ _ (λ e. each_line k (with_file h f (typed_file f (file_at h.files f) p s)) [] _ tt) tt
+reply_ends k h (Tcut f p q) names = tt
+reply_ends {P} {E} k h (Tpaste f p) names =
+    let s = h.files.snarf in
+    ends-if P E (λ b. File f) (is_empty s || nat_lt max_runes (length (file_at h.files f).text + length s)) _ _ (λ e. unlocks_file k f [] tt)
+    (behind P (E (File f)) _ _ (each-both P _ _ (each_grown k.parts h.files f p s) (each_dirty k.parts h.files f))
+    (unlocks_file k f (Hsetdot f p (p + length s) ∷ Hcheck f ∷ []) (k.parts.setdot f p (p + length s), (k.parts.check f, tt))))
+reply_ends k h (Tsnarf f p q) names = (k.snarflen (q - p), tt)
+reply_ends {P} {E} k h Tstartnewfile names =
+    let f = length h.files.slots in
+    ends-if P E (λ b. Command) (nat_le all_tags f) _ _ (λ e. unlocks k (printed h.files no_tag_left) (each_printed k.parts h.files no_tag_left))
+    (unlocks k (Hnewname f ∷ Hbindname f ∷ Hcurrent f ∷ []) (k.parts.newname f, (k.bindname f, (k.current f, tt))))
+reply_ends k h (Twrite f) names = unlocks_file k f (Hclean f ∷ []) (k.clean f, tt)
+reply_ends k h (Tclose f) names = unlocks k (Hclose f ∷ Hdelname f ∷ []) (k.close f, (k.delname f, tt))
+reply_ends {P} {E} k h (Tlook f p q) names =
+    let t = (file_at h.files f).text in
+    let lit = part t p q in
+    let sought = with_files h (record h.files { pattern = Some lit }) in
+    ends-if P E (λ b. File f) (may_look lit) (reply_found sought f (searched t lit q) (Hsetpat lit ∷ [])) (h, Hunlockfile f ∷ [])
+    (λ e. each_found k sought f (searched t lit q) (Hsetpat lit ∷ []) (k.parts.setpat lit (look-short lit e), tt)) (unlocks_file k f [] tt)
+reply_ends k h (Tsearch f p q) names = each_found k h f (searched_for h.files.pattern (file_at h.files f).text q) [] tt
+reply_ends {P} {E} k h (Tsend f p q) names =
+    let s = as_lines (part (file_at h.files f).text p q) in
+    ends-if P E (λ b. Command) ((p == q) || not (has_room h.files s)) _ _ (λ e. unlocks k [] tt)
+    (each_line k (with_files h (after_print h.files s)) (printed h.files s) (last_line s) (each_printed k.parts h.files s))
+reply_ends k h (Tdclick f p) names = unlocks_file k f (Hsetdot f _ _ ∷ []) (k.parts.setdot f _ _, tt)
+reply_ends k h Tstartsnarf names = tt
+reply_ends k h (Tsetsnarf s) names = (k.snarflen (length s), tt)
+reply_ends k h Tack names = tt
+reply_ends k h Texit names = record { front = []; last = Hexit; is = refl; each = tt; end = k.exit }
+
+-- ## What holds of all frames alike
+
 abbrev pub EachOf : (Hmesg → Type 0) → PlainHost → Tmesg → Type 0
 EachOf P h (Tversion v) = EachFrame P (told_names 1 (drop 1 h.files.slots) ++ Hack ∷ Hunlock ∷ [])
 EachOf P h Tstartsnarf = Unit {0}
 EachOf P h m = EachFrame P (reply_to h m).1
 
-pub reply_each : {P : Hmesg → Type 0} {Q : List ℕ → Type 0} → AreFrames P Q → (h : PlainHost) (m : Tmesg) → ((f : ℕ) → Q (file_at h.files f).name) → EachOf P h m
-unfolding replies_opened
-reply_each {P} {Q} k h (Tversion v) names =
-    let told = told_names 1 (drop 1 h.files.slots) in
-    each-both P told (Hack ∷ Hunlock ∷ []) (each_names k.parts 1 (drop 1 h.files.slots) (behind-first Q h.files.slots names)) (k.ack, (k.unlock, tt))
-reply_each {P} {Q} k h Tstartcmdfile names =
-    let file = file_at h.files 0 in
-    let named = Hnewname 0 ∷ Hmovname 0 command_name ∷ Hbindname 0 ∷ [] in
-    let short = k.parts.movname 0 command_name (k.parts.name command_name (omega arith)) in
-    each-if P file.opened (h, _) (with_file h 0 _, (named ++ told_length 0 file) ++ Hunlock ∷ []) (λ e. (k.unlock, tt))
-    (each-both P (named ++ told_length 0 file) (Hunlock ∷ []) (each-both P named (told_length 0 file) (k.parts.newname 0, (short, (k.bindname 0, tt))) (each_length k.parts 0 file)) (k.unlock, tt))
-reply_each k h (Tcheck f) names = (k.parts.check f, tt)
-reply_each {P} {Q} k h (Trequest f p n) names =
-    let t = (file_at h.files f).text in
-    let a = min p (length t) in
-    let b = min (p + min n most_in_message) (length t) in
-    each-when P (has_file h.files f) (Hdata f a (part t a b) ∷ Hunlockfile f ∷ []) (k.loaded f a (part t a b) (part-short t a b most_in_message (omega arith)), (k.unlockfile f, tt))
-reply_each k h (Torigin f p n) names = (k.origin f _, (k.unlockfile f, tt))
-reply_each {P} {Q} k h (Tstartfile f) names =
-    let file = file_at h.files f in
-    let opening = Hbindname f ∷ told_length f file in
-    each-both P (when (not file.opened) opening) (Hunlock ∷ []) (each-when P (not file.opened) opening (k.bindname f, each_length k.parts f file)) (k.unlock, tt)
-reply_each k h (Tworkfile f p q) names = (k.current f, tt)
-reply_each {P} {Q} k h (Ttype f p s) names =
-    each-if P ((f == 0) && ends_line s) _ _ (λ e. each_line k (with_file h f (typed_file f (file_at h.files f) p s)) [] _ tt) tt
-reply_each k h (Tcut f p q) names = tt
-reply_each {P} {Q} k h (Tpaste f p) names =
-    let s = h.files.snarf in
-    each-if P (is_empty s || nat_lt max_runes (length (file_at h.files f).text + length s)) _ _ (λ e. (k.unlockfile f, tt))
-    (each-both P _ _ (each-both P _ _ (each_grown k.parts h.files f p s) (each_dirty k.parts h.files f)) (k.parts.setdot f p (p + length s), (k.parts.check f, (k.unlockfile f, tt))))
-reply_each k h (Tsnarf f p q) names = (k.snarflen (q - p), tt)
-reply_each {P} {Q} k h Tstartnewfile names =
-    let f = length h.files.slots in
-    each-if P (nat_le all_tags f) _ _ (λ e. each-both P (printed h.files no_tag_left) (Hunlock ∷ []) (each_printed k.parts h.files no_tag_left) (k.unlock, tt))
-    (k.parts.newname f, (k.bindname f, (k.current f, (k.unlock, tt))))
-reply_each k h (Twrite f) names = (k.clean f, (k.unlockfile f, tt))
-reply_each k h (Tclose f) names = (k.close f, (k.delname f, (k.unlock, tt)))
-reply_each {P} {Q} k h (Tlook f p q) names =
-    let t = (file_at h.files f).text in
-    let lit = part t p q in
-    let sought = with_files h (record h.files { pattern = Some lit }) in
-    each-if P (may_look lit) (reply_found sought f (searched t lit q) (Hsetpat lit ∷ [])) (h, Hunlockfile f ∷ [])
-    (λ e. each_found k sought f (searched t lit q) (Hsetpat lit ∷ []) (k.parts.setpat lit (look-short lit e), tt)) (k.unlockfile f, tt)
-reply_each k h (Tsearch f p q) names = each_found k h f (searched_for h.files.pattern (file_at h.files f).text q) [] tt
-reply_each {P} {Q} k h (Tsend f p q) names =
-    let s = as_lines (part (file_at h.files f).text p q) in
-    each-if P ((p == q) || not (has_room h.files s)) _ _ (λ e. (k.unlock, tt))
-    (each_line k (with_files h (after_print h.files s)) (printed h.files s) (last_line s) (each_printed k.parts h.files s))
-reply_each k h (Tdclick f p) names = (k.parts.setdot f _ _, (k.unlockfile f, tt))
+pub reply_each : {P : Hmesg → Type 0} {Q : List ℕ → Type 0} → AreFrames P (λ l. P) Q → (h : PlainHost) (m : Tmesg) → ((f : ℕ) → Q (file_at h.files f).name) → EachOf P h m
+reply_each {P} k h (Tversion v) names = all-of P _ (reply_ends k h (Tversion v) names)
 reply_each k h Tstartsnarf names = tt
-reply_each k h (Tsetsnarf s) names = (k.snarflen (length s), tt)
-reply_each k h Tack names = tt
-reply_each k h Texit names = (k.exit, tt)
+reply_each {P} k h m names = ends-each P (lock_freed h m) (reply_to h m).1 (reply_ends k h m names)

@@ -21,7 +21,7 @@ pub all-stamped : (v seen : ℕ) (ms : List Hmesg) → EachFrame Always ms → F
 all-stamped v seen [] h = tt
 all-stamped v seen (m ∷ ms) h = (h.0 v, h.0 2, all-stamped (after_h v m) seen ms h.1)
 
-always : AreFrames Always (λ s. length s ≤ most_in_name)
+always : AreFrames Always (λ l. Always) (λ s. length s ≤ most_in_name)
 always = record {
   parts = record {
     name = λ s short. short;

@@ -6,17 +6,7 @@ use Rattle.sam_mesg.specs.declared.tmesg.Tmesg.{Tmesg}
 use Rattle.sam_mesg.specs.declared.hmesg.Hmesg.{Hmesg}
 use Rattle.sam_mesg.specs.declared.hmesg.HFrame.{HFrame}
 use Rattle.sam_host.specs.declared.fault.HostFault.{HostFault}
-use Rattle.sam_host.specs.Host.{PlainHost, stamped, answer, host_checks, reply_to, counted, Answer, Reply, answer_unless, reply_version, reply_startcmdfile, reply_check, reply_request, reply_origin, reply_startfile, reply_workfile, reply_type, reply_cut, reply_paste, reply_snarf, reply_startnewfile, reply_write, reply_close, reply_look, reply_search, reply_send, reply_dclick, reply_startsnarf, reply_setsnarf, reply_exit}
-
--- opens the answers to messages about a text
-unfoldable pub text_replies_opened : ℕ
-unfolding reply_check reply_request reply_origin reply_type reply_cut reply_paste reply_snarf reply_look reply_search reply_dclick reply_send
-text_replies_opened = 0
-
--- opens the answer to each kind of message
-unfoldable pub replies_opened : ℕ
-unfolding text_replies_opened reply_version reply_startcmdfile reply_startfile reply_workfile reply_startnewfile reply_write reply_close reply_startsnarf reply_setsnarf reply_exit
-replies_opened = 0
+use Rattle.sam_host.specs.Host.{PlainHost, stamped, answer, host_checks, reply_to, counted, Answer, Reply, answer_unless}
 
 -- frames that are stamped one after another are stamped at once
 pub stamped_append : (seen : ℕ) (ms ns : List Hmesg) → stamped seen (ms ++ ns) ≡ stamped seen ms ++ stamped seen ns

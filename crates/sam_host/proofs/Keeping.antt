@@ -12,7 +12,7 @@ use Rattle.sam_mesg.specs.declared.tmesg.Tmesg.{Tmesg}
 use Rattle.sam_mesg.specs.declared.hmesg.Hmesg.{Hmesg}
 use Rattle.sam_mesg.specs.declared.tmesg.Tmesg.TheVariants.{Tversion, Tstartcmdfile, Tstartfile, Tworkfile, Ttype, Tcut, Tpaste, Tsnarf, Tstartnewfile, Twrite, Tclose, Tlook, Tsearch, Tsend, Tdclick, Tsetsnarf}
 use Rattle.sam_host.specs.Host.{PlainHost, Reply, printed, host_checks, unknown, is_command, not_opened, past_end, no_range, no_room, with_file, with_files, reply_found, searched_for, reply_line, line_to, reply_to, no_tag_left}
-use Rattle.sam_host.proofs.FrameLaws.{replies_opened}
+use Rattle.sam_host.proofs.EachFrame.{replies_opened}
 
 -- each change that an answer makes to the files keeps P, where places and ranges are in their text and there is room
 pub record IsKept (P : PlainFiles → Type 0) : Type 0 where

@@ -20,7 +20,7 @@ use Rattle.sam_host.specs.declared.fault.HostFault.{HostFault}
 use Rattle.sam_host.specs.declared.fault.HostFault.TheVariants.{BadVersion, CountFull}
 use Rattle.sam_host.specs.Host.{PlainHost, IsVersion, Reply, Answer, answer, answer_unless, counted, stamped, host_checks, new_file, with_files, given_slots, new_host, reply_found, searched_for, reply_to}
 use Rattle.sam_host.specs.Laws.{AreNamesShort, IsSound, AreGiven, StartsSound, StaysSound, FramesFit, AnswersAreCounted, IsSilentWhereDone, FitInPlace}
-use Rattle.sam_host.proofs.FrameLaws.{replies_opened}
+use Rattle.sam_host.proofs.EachFrame.{replies_opened}
 use Rattle.sam_host.proofs.Keeping.{IsKept, reply_keeps}
 use Rattle.sam_host.proofs.FrameFits.{reply_frames_fit}
 

@@ -39,7 +39,7 @@ versions-append (m ∷ a) b p q = ((λ e. unlocks-append a b (p.0 e)), versions-
 
 -- ## No answer but that to Tversion has an Hversion
 
-pub plain_frames : AreFrames (λ m. is_version m ≡ false) (λ s. Unit {0})
+pub plain_frames : AreFrames (λ m. is_version m ≡ false) (λ l m. is_version m ≡ false) (λ s. Unit {0})
 plain_frames = record {
   parts = record {
     name = λ s short. tt;
