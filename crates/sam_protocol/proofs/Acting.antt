@@ -11,7 +11,7 @@ use Rattle.sam_mesg.specs.declared.tmesg.Tmesg.TheVariants.{Tversion, Tstartcmdf
 use Rattle.sam_mesg.specs.declared.hmesg.Hmesg.{Hmesg}
 use Rattle.sam_host.specs.Host.{PlainHost}
 use Rattle.sam_term.specs.declared.lock.Lock.TheVariants.{CommandLock, NoLock}
-use Rattle.sam_term.specs.Locks.{is_command_line}
+use Rattle.sam_term.specs.Events.{is_command_line}
 use Rattle.sam_term.specs.Term.{PlainTerminal, Made, window_at, put_window, set_dot_of, is_open, is_any_locked, has_empty_dot, cut_rasp, composed, all_composed, flushed, sends, sends_if, unchanged, request_for, view_end, requested, cuts_dot, types, event_outcome, made_by_type, made_by_cut, made_by_paste, made_by_snarf, made_by_view}
 use Rattle.sam_term.specs.declared.records.Window.{Window}
 use Rattle.sam_term.specs.declared.records.Unsent.{Unsent}

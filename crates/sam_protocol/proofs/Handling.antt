@@ -6,7 +6,7 @@ use Rattle.sam_runes.specs.Slots.{slot}
 use Rattle.sam_text.specs.Files.{PlainFile, file_at}
 use Rattle.sam_mesg.specs.declared.tmesg.Tmesg.{Tmesg}
 use Rattle.sam_mesg.specs.declared.tmesg.Tmesg.TheVariants.{Tversion, Tstartcmdfile, Tcheck, Trequest, Torigin, Tstartfile, Tworkfile, Ttype, Tcut, Tpaste, Tsnarf, Tstartnewfile, Twrite, Tclose, Tlook, Tsearch, Tsend, Tdclick, Tstartsnarf, Tsetsnarf, Tack, Texit}
-use Rattle.sam_term.specs.Locks.{is_command_line}
+use Rattle.sam_term.specs.Events.{is_command_line}
 use Rattle.sam_host.specs.Host.{PlainHost}
 use Rattle.sam_protocol.specs.Lens.{HFile, Absent, Hidden, Named, Opened, Gone, IsCommandFile}
 use Rattle.sam_protocol.specs.View.{file_in}

@@ -14,7 +14,8 @@ use Rattle.sam_mesg.specs.declared.hmesg.HFrame.{HFrame}
 use Rattle.sam_host.specs.Host.{PlainHost, Reply, Answer, answer, answer_unless, counted, stamped, host_checks, reply_to}
 use Rattle.sam_host.specs.declared.fault.HostFault.{HostFault}
 use Rattle.sam_host.specs.declared.fault.HostFault.TheVariants as hostfault
-use Rattle.sam_term.specs.Term.{PlainTerminal, blank_known, blank_window, window_of, window_in, is_open, is_any_locked, unsent_message}
+use Rattle.sam_term.specs.Term.{PlainTerminal, window_of, is_open, is_any_locked, unsent_message}
+use Rattle.sam_term.specs.Windows.{blank_known, blank_window, window_in}
 use Rattle.sam_term.specs.declared.records.Window.{Window}
 use Rattle.sam_term.specs.declared.records.KnownFile.{KnownFile}
 use Rattle.sam_protocol.specs.Lens.{Slot, Unknown, Known, Open, Lens, lens, Action, HFile, Absent, Hidden, Named, Opened, Gone, Fits_slot, IsSettled, Settles}

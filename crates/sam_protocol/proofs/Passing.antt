@@ -5,7 +5,9 @@ use Rattle.std.proofs.lemmas.Bool.{ltb-false, or_parts}
 use Rattle.sam_runes.specs.Slots.{Slots, slot}
 use Rattle.sam_runes.specs.Checks.{Checks, first_of_checks}
 use Rattle.sam_runes.proofs.CheckLaws.{none_holds}
-use Rattle.sam_term.specs.Term.{PlainTerminal, blank_known, blank_window, window_in, window_at, is_open, is_known, is_any_locked, event_checks, file_of, waits_for_all, is_bad_version, is_unknown, is_for_command_file, is_closed, needs_open, is_file_locked, has_bad_place, has_long_text, makes_too_long}
+use Rattle.sam_term.specs.Term.{PlainTerminal, window_at, is_open, is_known, is_any_locked, event_checks, is_unknown, is_closed, is_file_locked, has_bad_place, has_long_text, makes_too_long}
+use Rattle.sam_term.specs.Events.{file_of, waits_for_all, is_bad_version, is_for_command_file, needs_open}
+use Rattle.sam_term.specs.Windows.{blank_known, blank_window, window_in}
 use Rattle.sam_term.specs.declared.event.Verdict.{Verdict}
 use Rattle.sam_term.specs.declared.event.Verdict.TheVariants.{Waits, Refuses}
 use Rattle.sam_term.specs.declared.records.Window.{Window}

@@ -7,7 +7,7 @@ use Rattle.sam_mesg.specs.declared.tmesg.Tmesg.TheVariants.{Trequest, Torigin, T
 use Rattle.sam_mesg.specs.declared.hmesg.Hmesg.{Hmesg}
 use Rattle.sam_host.specs.Host.{PlainHost}
 use Rattle.sam_term.specs.declared.lock.Lock.TheVariants.{CommandLock, NoLock}
-use Rattle.sam_term.specs.Locks.{lock_of, is_command_line}
+use Rattle.sam_term.specs.Events.{lock_of, is_command_line}
 use Rattle.sam_term.specs.Term.{PlainTerminal, Made, window_at, window_after_del, moved_unsent, del_rasp, edited, cut_rasp, composed, flushed, unsent_message, and_then, sends, unchanged}
 use Rattle.sam_term.specs.declared.records.Unsent.{Unsent}
 use Rattle.sam_protocol.specs.Lens.{Unknown, Known, Open, Lens, lens, OpenAt, Anything}

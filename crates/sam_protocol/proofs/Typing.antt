@@ -10,7 +10,7 @@ use Rattle.sam_mesg.specs.declared.tmesg.Tmesg.TheVariants.{Ttype}
 use Rattle.sam_mesg.specs.declared.hmesg.Hmesg.{Hmesg}
 use Rattle.sam_host.specs.Host.{PlainHost}
 use Rattle.sam_term.specs.declared.lock.Lock.TheVariants.{CommandLock, NoLock}
-use Rattle.sam_term.specs.Locks.{is_command_line}
+use Rattle.sam_term.specs.Events.{is_command_line}
 use Rattle.sam_term.specs.Term.{PlainTerminal, Made, lock_taken, window_at, window_after_ins, moved_unsent, edited, ins_rasp, set_dot_of, typed_rasp, joins, joined, types, composed, all_composed, flushed, unsent_message, and_then}
 use Rattle.sam_term.specs.declared.records.Window.{Window}
 use Rattle.sam_term.specs.declared.records.Unsent.{Unsent}

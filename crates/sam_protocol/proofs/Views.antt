@@ -8,8 +8,9 @@ use Rattle.sam_mesg.specs.declared.tmesg.Tmesg.{Tmesg}
 use Rattle.sam_mesg.specs.declared.tmesg.Tmesg.TheVariants.{Trequest, Ttype}
 use Rattle.sam_term.specs.declared.lock.Lock.{Lock}
 use Rattle.sam_term.specs.declared.lock.Lock.TheVariants.{NoLock, CommandLock, FileLock}
-use Rattle.sam_term.specs.Locks.{lock_of, is_command_line}
-use Rattle.sam_term.specs.Term.{PlainTerminal, blank_known, blank_window, known_at, window_at, put_known, put_window, edited, lock_taken, asked, composed, all_composed, flushed, unsent_message}
+use Rattle.sam_term.specs.Events.{lock_of, is_command_line}
+use Rattle.sam_term.specs.Term.{PlainTerminal, known_at, window_at, put_known, put_window, edited, lock_taken, asked, composed, all_composed, flushed, unsent_message}
+use Rattle.sam_term.specs.Windows.{blank_known, blank_window}
 use Rattle.sam_term.specs.declared.records.Window.{Window}
 use Rattle.sam_term.specs.declared.records.KnownFile.{KnownFile}
 use Rattle.sam_term.specs.declared.records.Unsent.{Unsent}

@@ -1,7 +1,9 @@
 //! Reads what the user does from the words of a `k` or `m` line.
 
 ghost use Rattle.std.specs.Prelude.{◌≡◌};
-ghost use Rattle.sam_script.specs.Reading.{Gives, event_at, read_by, readers, file_readers};
+ghost use Rattle.sam_script.specs.Reading.{event_at, read_by};
+ghost use Rattle.sam_script.specs.Events.{readers, file_readers};
+ghost use Rattle.sam_script.specs.Words.{Gives};
 
 use crate::fault::LineFault;
 use crate::words::{

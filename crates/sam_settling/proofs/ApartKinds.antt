@@ -23,7 +23,7 @@ use Rattle.sam_host.proofs.SoundLaws.{frames_fit, reply_stands, stays_sound}
 use Rattle.sam_protocol.specs.Frames.{is_version}
 use Rattle.sam_protocol.proofs.Versions.{IsPlain, plain_frames, reply_plain}
 use Rattle.sam_host.proofs.EachFrame.{reply_each}
-use Rattle.sam_term.specs.Locks.{is_command_line}
+use Rattle.sam_term.specs.Events.{is_command_line}
 use Rattle.sam_term.specs.Term.{PlainTerminal, Made, window_at, put_window, cut_rasp, flushed, unsent_message, and_then, sends, sends_if, unchanged, requested, request_for, view_end, is_open, joins, joined, kept_unsent, typed_rasp, types, cuts_dot, has_empty_dot, event_outcome, made_by_type, made_by_cut, made_by_paste, made_by_snarf, made_by_view, frame_outcome, made_unless, frame_checks, event_checks, has_long_text, took_unlockfile, act_of, act_on, decided, flush_of, take_of}
 use Rattle.sam_term.specs.declared.records.Unsent.{Unsent}
 use Rattle.sam_term.specs.declared.event.UserEvent.{UserEvent}

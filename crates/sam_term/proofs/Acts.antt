@@ -2,11 +2,11 @@
 use Rattle.std.proofs.Common.{◌≡◌, refl, sym, ap, ◌∙◌, subst, ℕ, zero, suc, Bool, true, false, List, [], ◌∷◌, drop, Option, Some, None, Ok}
 use Rattle.std.specs.Prelude.{slice_get, not, ◌&&◌}
 use Rattle.sam_runes.specs.Checks.{Checks, first_of_checks}
-use Rattle.sam_term.specs.Term.{PlainTerminal, Made, act_of, act_on, decided, event_checks, event_outcome, message_of, outcome_by, needs_open, is_closed, file_of, is_open, sends, unchanged}
+use Rattle.sam_term.specs.Term.{PlainTerminal, Made, act_of, act_on, decided, event_checks, event_outcome, outcome_by, is_closed, is_open, sends, unchanged}
+use Rattle.sam_term.specs.Events.{message_of, needs_open, file_of, lock_of}
 use Rattle.sam_term.specs.Taking.{done, not_done}
 use Rattle.sam_term.specs.Acting.{deed_by, deed_of, first_event, free_first, made_first, is_typing, is_snarfing}
 use Rattle.sam_term.specs.declared.event.Deed.TheVariants.{Sends, Types, Selects, Cuts, Pastes, Snarfs, Views, SetsSnarf, Flushes}
-use Rattle.sam_term.specs.Locks.{lock_of}
 use Rattle.sam_term.specs.Locking.{is_lockable}
 use Rattle.sam_term.specs.declared.event.Acted.TheVariants.{Idle}
 use Rattle.sam_term.specs.declared.event.Verdict.{Verdict}

@@ -1,14 +1,14 @@
 -- Composing by the lock that a message takes, and what its steps leave.
 use Rattle.std.proofs.Common.{◌≡◌, refl, ap, ◌∙◌, ℕ, ◌+◌, Bool, true, false, List, [], ◌∷◌, length, Option, Some, None, if◌then◌else◌}
 use Rattle.std.specs.Prelude.{unwrap_or, ◌||◌}
-use Rattle.sam_term.specs.Locks.{lock_of, is_command_line}
+use Rattle.sam_term.specs.Events.{lock_of, is_command_line}
 use Rattle.sam_term.specs.declared.lock.Lock.{Lock}
 use Rattle.sam_term.specs.declared.lock.Lock.TheVariants.{NoLock, CommandLock, FileLock}
 use Rattle.sam_term.specs.Locking.{lock_added, is_request, is_lockable}
-use Rattle.sam_term.specs.Term.{PlainTerminal, window_at, put_window, known_at, composed, all_composed, lock_taken, blank_known, blank_window}
+use Rattle.sam_term.specs.Term.{PlainTerminal, window_at, put_window, known_at, composed, all_composed, lock_taken, flushed, unsent_message, sends, unchanged}
+use Rattle.sam_term.specs.Windows.{blank_known, blank_window}
 use Rattle.sam_runes.specs.Slots.{put_slot}
 use Rattle.sam_term.proofs.CountLaws.{counts-flushed, sent-composed}
-use Rattle.sam_term.specs.Term.{flushed, unsent_message, sends, unchanged}
 use Rattle.sam_term.specs.declared.records.Unsent.{Unsent}
 use Rattle.sam_runes.proofs.SlotLaws.{slot-put_same, put_slot-put_slot}
 use Rattle.sam_term.specs.declared.records.Window.{Window}

@@ -3,8 +3,9 @@ use Rattle.std.proofs.Common.{◌≡◌, refl, sym, ap, ◌∙◌, subst, ℕ, z
 use Rattle.std.specs.Prelude.{◌||◌, nat_lt, Result, IsOk}
 use Rattle.sam_runes.specs.Checks.{Checks, first_of_checks}
 use Rattle.sam_runes.specs.Texts.{most_count}
-use Rattle.sam_term.specs.Term.{PlainTerminal, Made, event_checks, event_outcome, window_at, is_open, composed, all_composed, lock_taken, asked, flushed, unsent_message, sends, unchanged, has_bad_place, made_by_snarf, made_by_cut, made_by_paste, made_by_view, wanted, request_for, cuts_dot, and_then, cut_rasp, put_window, known_at, moved_unsent, blank_known}
-use Rattle.sam_term.specs.Locks.{lock_of}
+use Rattle.sam_term.specs.Term.{PlainTerminal, Made, event_checks, event_outcome, window_at, is_open, composed, all_composed, lock_taken, asked, flushed, unsent_message, sends, unchanged, has_bad_place, made_by_snarf, made_by_cut, made_by_paste, made_by_view, wanted, request_for, cuts_dot, and_then, cut_rasp, put_window, known_at, moved_unsent}
+use Rattle.sam_term.specs.Windows.{blank_known}
+use Rattle.sam_term.specs.Events.{lock_of}
 use Rattle.sam_term.specs.Taking.{done, countable, IsFailure}
 use Rattle.sam_term.specs.Acting.{first_event, free_first, made_first, is_snarfing}
 use Rattle.sam_term.specs.declared.lock.Lock.{Lock}

@@ -5,7 +5,8 @@ use Rattle.std.proofs.lemmas.Bool.Decides.{eqb_tells}
 use Rattle.sam_runes.specs.Texts.{most_in_message}
 use Rattle.sam_runes.specs.Slots.{Slots, slot, put_slot, free_slot, map_slots}
 use Rattle.sam_runes.proofs.SlotLaws.{slot-put_same, slot-put_other, slot-free_same, slot-free_other}
-use Rattle.sam_term.specs.Term.{PlainTerminal, window_at, window_in, known_in, known_at, put_known, is_open, blank_window, blank_known, freed_known, unsent_without}
+use Rattle.sam_term.specs.Term.{PlainTerminal, window_at, known_at, put_known, is_open, freed_known, unsent_without}
+use Rattle.sam_term.specs.Windows.{window_in, known_in, blank_window, blank_known}
 use Rattle.sam_term.specs.Sound.{IsSound, FitsWindow, FitsUnsent, IsShort}
 use Rattle.sam_term.specs.declared.records.Window.{Window}
 use Rattle.sam_term.specs.declared.records.KnownFile.{KnownFile}

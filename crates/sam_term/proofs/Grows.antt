@@ -7,7 +7,8 @@ use Rattle.std.proofs.lemmas.List.{length-take, length-drop, length-map}
 use Rattle.sam_runes.specs.Texts.{max_runes}
 use Rattle.sam_runes.specs.Slots.{put_slot}
 use Rattle.sam_rasp.specs.Rasp.{PartialText, ins_cells, del_cells, load_cells, place_after_ins, place_after_del}
-use Rattle.sam_term.specs.Term.{PlainTerminal, window_at, is_open, put_window, known_in, window_after_ins, window_after_del, moved_unsent, ins_rasp, del_rasp}
+use Rattle.sam_term.specs.Term.{PlainTerminal, window_at, is_open, put_window, window_after_ins, window_after_del, moved_unsent, ins_rasp, del_rasp}
+use Rattle.sam_term.specs.Windows.{known_in}
 use Rattle.sam_term.specs.Sound.{IsSound, FitsWindow, FitsUnsent, IsShort, AreWithin}
 use Rattle.sam_term.specs.declared.records.Window.{Window}
 use Rattle.sam_term.specs.declared.records.KnownFile.{KnownFile}

@@ -8,9 +8,10 @@ use Rattle.sam_runes.proofs.SlotLaws.{slot-free_same, slot-free_other, slot-map}
 use Rattle.sam_runes.proofs.Choices.{if-same}
 use Rattle.sam_term.specs.declared.lock.Lock.{Lock}
 use Rattle.sam_term.specs.declared.lock.Lock.TheVariants.{NoLock, CommandLock, FileLock}
-use Rattle.sam_term.specs.Locks.{lock_of, is_command_line}
+use Rattle.sam_term.specs.Events.{lock_of, is_command_line}
 use Rattle.sam_term.specs.LockCounts.{locks_on, is_command_lock, asks_for, locks_taken, takes_command, requests, locks_left, command_left, awaited_left}
-use Rattle.sam_term.specs.Term.{PlainTerminal, Made, blank_window, blank_known, known_at, window_at, put_known, put_window, edited, cut_rasp, lock_taken, asked, composed, all_composed, flushed, unsent_message, and_then, sends, sends_if, unchanged, requested, wanted, joins, joined, kept_unsent, typed_rasp, types, cuts_dot, ins_rasp, event_outcome, made_by_type, made_by_cut, made_by_paste, made_by_snarf, made_by_view, frame_outcome, freed_known, took_bindname, took_data, took_grow, took_growdata, took_cut, took_unlockfile, took_close, took_exit}
+use Rattle.sam_term.specs.Term.{PlainTerminal, Made, known_at, window_at, put_known, put_window, edited, cut_rasp, lock_taken, asked, composed, all_composed, flushed, unsent_message, and_then, sends, sends_if, unchanged, requested, wanted, joins, joined, kept_unsent, typed_rasp, types, cuts_dot, ins_rasp, event_outcome, made_by_type, made_by_cut, made_by_paste, made_by_snarf, made_by_view, frame_outcome, freed_known, took_bindname, took_data, took_grow, took_growdata, took_cut, took_unlockfile, took_close, took_exit}
+use Rattle.sam_term.specs.Windows.{blank_window, blank_known}
 use Rattle.sam_term.specs.declared.records.Window.{Window}
 use Rattle.sam_term.specs.declared.records.KnownFile.{KnownFile}
 use Rattle.sam_term.specs.declared.event.UserEvent.{UserEvent}

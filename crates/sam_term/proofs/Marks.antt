@@ -3,7 +3,8 @@ use Rattle.std.proofs.Common.{◌≡◌, sym, ap, ◌∙◌, ℕ, true, Some, is
 use Rattle.std.specs.Prelude.{unwrap_or}
 use Rattle.sam_runes.specs.Slots.{put_slot}
 use Rattle.sam_runes.proofs.SlotLaws.{slot-put_same, put_slot-put_slot}
-use Rattle.sam_term.specs.Term.{PlainTerminal, known_at, window_at, is_open, put_known, put_window, edited, blank_known, blank_window}
+use Rattle.sam_term.specs.Term.{PlainTerminal, known_at, window_at, is_open, put_known, put_window, edited}
+use Rattle.sam_term.specs.Windows.{blank_known, blank_window}
 use Rattle.sam_term.specs.declared.records.Window.{Window}
 use Rattle.sam_term.specs.declared.records.KnownFile.{KnownFile}
 

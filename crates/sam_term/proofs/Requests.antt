@@ -3,9 +3,10 @@ use Rattle.std.proofs.Common.{◌≡◌, refl, sym, ap, ◌∙◌, subst, ℕ, B
 use Rattle.std.specs.Prelude.{not, ◌&&◌, ◌-◌, min, is_some, unwrap_or}
 use Rattle.sam_rasp.specs.Rasp.{hole_within}
 use Rattle.sam_runes.proofs.SlotLaws.{slot-put_same}
-use Rattle.sam_term.specs.Locks.{lock_of}
+use Rattle.sam_term.specs.Events.{lock_of}
 use Rattle.sam_term.specs.Locking.{is_lockable}
-use Rattle.sam_term.specs.Term.{PlainTerminal, window_at, put_window, known_at, is_open, wanted, request_for, view_end, took_unlockfile, sends_if, sends, requested, unchanged, window_of, blank_known, blank_window}
+use Rattle.sam_term.specs.Term.{PlainTerminal, window_at, put_window, known_at, is_open, wanted, request_for, view_end, took_unlockfile, sends_if, sends, requested, unchanged, window_of}
+use Rattle.sam_term.specs.Windows.{blank_known, blank_window}
 use Rattle.sam_term.specs.declared.records.Window.{Window}
 use Rattle.sam_mesg.specs.declared.tmesg.Tmesg.{Tmesg}
 use Rattle.sam_mesg.specs.declared.tmesg.Tmesg.TheVariants.{Trequest}

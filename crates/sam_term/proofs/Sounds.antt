@@ -2,7 +2,8 @@
 use Rattle.std.proofs.Common.{◌≡◌, refl, sym, ap, ◌∙◌, subst, ℕ, ◌≤◌, true, false, List, length, Option, Some, None, nat_eq, ◌⊎◌, ◌≢◌, inl, inr, arith}
 use Rattle.std.specs.Prelude.{unwrap_or}
 use Rattle.std.proofs.lemmas.Bool.Decides.{eqb_tells}
-use Rattle.sam_term.specs.Term.{PlainTerminal, window_at, put_window, known_at, blank_window, blank_known}
+use Rattle.sam_term.specs.Term.{PlainTerminal, window_at, put_window, known_at, Made, take_of, made_unless, frame_outcome}
+use Rattle.sam_term.specs.Windows.{blank_window, blank_known}
 use Rattle.sam_term.specs.declared.event.Acted.TheVariants.{Done}
 use Rattle.sam_term.specs.Taking.{done, countable, frame_fault, IsAnswer, IsFailure}
 use Rattle.sam_mesg.specs.declared.hmesg.Hmesg.{Hmesg}
@@ -10,7 +11,6 @@ use Rattle.std.specs.Prelude.{Result, IfOk, IfErr, OnErr, IsOk}
 use Rattle.sam_mesg.specs.declared.hmesg.HFrame.{HFrame}
 use Rattle.sam_term.specs.declared.fault.TermFault.{TermFault}
 use Rattle.sam_term.specs.declared.fault.TermFault.TheVariants as fault
-use Rattle.sam_term.specs.Term.{Made, take_of, made_unless, frame_outcome}
 use Rattle.sam_runes.specs.Texts.{most_count}
 use Rattle.sam_mesg.specs.declared.tmesg.Tmesg.{Tmesg}
 use Rattle.std.specs.Prelude.{nat_lt, Ok, Err, [], ◌<◌, ◌+◌}

@@ -6,8 +6,9 @@ use Rattle.std.proofs.lemmas.Bool.{le-ltb, ltb-false, leb-true, eqb-true}
 use Rattle.std.proofs.lemmas.Bool.Decides.{eqb_tells}
 use Rattle.sam_runes.specs.Texts.{is_empty, max_runes, most_count, most_in_message}
 use Rattle.sam_rasp.specs.Rasp.{PartialText, place_after_ins}
-use Rattle.sam_term.specs.Term.{PlainTerminal, Made, window_at, window_in, put_window, window_after_ins, window_after_del, moved_unsent, edited, cut_rasp, ins_rasp, set_dot_of, all_composed, flushed, unsent_message, and_then, joins, joined, kept_unsent, typed_rasp, types, cuts_dot, event_outcome, made_by_type, lock_taken}
-use Rattle.sam_term.specs.Locks.{is_command_line}
+use Rattle.sam_term.specs.Term.{PlainTerminal, Made, window_at, put_window, window_after_ins, window_after_del, moved_unsent, edited, cut_rasp, ins_rasp, set_dot_of, all_composed, flushed, unsent_message, and_then, joins, joined, kept_unsent, typed_rasp, types, cuts_dot, event_outcome, made_by_type, lock_taken}
+use Rattle.sam_term.specs.Windows.{window_in}
+use Rattle.sam_term.specs.Events.{is_command_line}
 use Rattle.sam_term.specs.Editing.{typed_over, joined_at, lengthened, shortened, typed_file, typed_runes, cut_message, one_if, flushed_if}
 use Rattle.sam_term.specs.Sound.{IsSound, FitsUnsent, IsShort}
 use Rattle.sam_term.specs.Acting.{first_event, free_first, made_first, is_typing}

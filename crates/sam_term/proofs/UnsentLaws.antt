@@ -8,7 +8,7 @@ use Rattle.sam_rasp.specs.Rasp.{place_after_ins}
 use Rattle.sam_mesg.specs.declared.tmesg.Tmesg.{Tmesg}
 use Rattle.sam_mesg.specs.declared.tmesg.Tmesg.TheVariants.{Ttype, Tsnarf, Tcut, Tpaste, Tack}
 use Rattle.sam_mesg.specs.declared.hmesg.Hmesg.TheVariants.{Hcheck, Hunlockfile, Hack}
-use Rattle.sam_term.specs.Locks.{is_command_line}
+use Rattle.sam_term.specs.Events.{is_command_line}
 use Rattle.sam_term.specs.declared.event.UserEvent.{UserEvent}
 use Rattle.sam_term.specs.declared.event.UserEvent.TheVariants.{Typed, Select, Cut, Paste, Snarf, View, Flush}
 use Rattle.sam_term.specs.declared.records.Unsent.{Unsent}

@@ -1,7 +1,8 @@
 -- What the oldest held event does, and which events change nothing but by the one message that they compose.
 use Rattle.std.specs.Prelude.{List, [], ◌∷◌, drop, Option, Some, None, Bool, true, false}
 use Rattle.sam_runes.specs.Checks.{first_of_checks}
-use Rattle.sam_term.specs.Term.{PlainTerminal, Made, message_of, event_outcome, event_checks}
+use Rattle.sam_term.specs.Term.{PlainTerminal, Made, event_outcome, event_checks}
+use Rattle.sam_term.specs.Events.{message_of}
 use Rattle.sam_term.specs.declared.event.Verdict.{Verdict}
 use Rattle.sam_term.specs.declared.event.UserEvent.{UserEvent}
 use Rattle.sam_term.specs.declared.event.UserEvent.TheVariants.{Typed, Select, Cut, Paste, Snarf, View, SetSnarf, Flush}

@@ -3,7 +3,7 @@ use Rattle.std.specs.Prelude.{ℕ, Option, Some, unwrap_or}
 use Rattle.std.specs.Borrow.{Lends, MutBor, Fml}
 use Rattle.std.specs.contracts.option.Option.{the_row as option_row}
 use Rattle.sam_runes.specs.Slots.{Slots, put_slot}
-use Rattle.sam_term.specs.Term.{blank_known, known_in}
+use Rattle.sam_term.specs.Windows.{blank_known, known_in}
 use Rattle.sam_term.specs.declared.records.Window.{Window}
 use Rattle.sam_term.specs.declared.records.KnownFile.{KnownFile}
 use Rattle.sam_term.specs.contracts.known_files.KnownFiles.{the_row}

@@ -3,7 +3,8 @@ use Rattle.std.specs.Prelude.{ℕ, ◌≤◌, length, Option, Some, None, ⊤}
 use Rattle.sam_runes.specs.Texts.{max_runes, most_count, most_in_message}
 use Rattle.sam_runes.specs.Slots.{Slots}
 use Rattle.sam_rasp.specs.Rasp.{place_after_ins}
-use Rattle.sam_term.specs.Term.{PlainTerminal, window_in, window_at}
+use Rattle.sam_term.specs.Term.{PlainTerminal, window_at}
+use Rattle.sam_term.specs.Windows.{window_in}
 use Rattle.sam_term.specs.declared.records.Window.{Window}
 use Rattle.sam_term.specs.declared.records.KnownFile.{KnownFile}
 use Rattle.sam_term.specs.declared.records.Unsent.{Unsent}

@@ -6,9 +6,10 @@ use Rattle.sam_runes.specs.Checks.{Checks, first_of_checks}
 use Rattle.sam_rasp.specs.Rasp.{PartialText, ins_cells, del_cells, load_cells, hole_within, place_after_ins, place_after_del}
 use Rattle.sam_term.specs.declared.lock.Lock.{Lock}
 use Rattle.sam_term.specs.declared.lock.Lock.TheVariants.{NoLock, CommandLock, FileLock}
-use Rattle.sam_term.specs.Locks.{lock_of, is_command_line}
+use Rattle.sam_term.specs.Windows.{blank_window, blank_known, known_in}
+use Rattle.sam_term.specs.Events.{file_of, is_command_line, waits_for_all, is_bad_version, is_for_command_file, needs_open, message_of, lock_of}
 use Rattle.sam_mesg.specs.declared.tmesg.Tmesg.{Tmesg}
-use Rattle.sam_mesg.specs.declared.tmesg.Tmesg.TheVariants.{Tversion, Tstartcmdfile, Tcheck, Trequest, Torigin, Tstartfile, Tworkfile, Ttype, Tcut, Tpaste, Tsnarf, Tstartnewfile, Twrite, Tclose, Tlook, Tsearch, Tsend, Tdclick, Tstartsnarf, Tsetsnarf, Tack, Texit}
+use Rattle.sam_mesg.specs.declared.tmesg.Tmesg.TheVariants.{Trequest, Ttype, Tcut, Tpaste, Tsnarf, Tsetsnarf, Tack}
 use Rattle.sam_mesg.specs.declared.hmesg.Hmesg.{Hmesg}
 use Rattle.sam_mesg.specs.declared.hmesg.Hmesg.TheVariants.{Hversion, Hbindname, Hcurrent, Hnewname, Hmovname, Hgrow, Hcheck, Hunlock, Hdata, Horigin, Hunlockfile, Hsetdot, Hgrowdata, Hmoveto, Hclean, Hdirty, Hcut, Hsetpat, Hdelname, Hclose, Hsetsnarf, Hsnarflen, Hack, Hexit}
 use Rattle.sam_mesg.specs.declared.hmesg.HFrame.{HFrame}
@@ -16,7 +17,7 @@ use Rattle.sam_term.specs.declared.records.Window.{Window}
 use Rattle.sam_term.specs.declared.records.KnownFile.{KnownFile}
 use Rattle.sam_term.specs.declared.records.Unsent.{Unsent}
 use Rattle.sam_term.specs.declared.event.UserEvent.{UserEvent}
-use Rattle.sam_term.specs.declared.event.UserEvent.TheVariants.{Typed, Select, Cut, Paste, Snarf, Look, Search, Send, Dclick, Scroll, View, Open, Close, Write, Work, OpenCmd, New, Exit, Check, GetSnarf, SetSnarf, Version, Flush}
+use Rattle.sam_term.specs.declared.event.UserEvent.TheVariants.{Typed, Select, Cut, Paste, Snarf, Dclick, View, SetSnarf}
 use Rattle.sam_term.specs.declared.event.Acted.{Acted}
 use Rattle.sam_term.specs.declared.event.Acted.TheVariants.{Idle, Locked, Done, Refused}
 use Rattle.sam_term.specs.declared.event.Verdict.{Verdict}
@@ -39,12 +40,6 @@ pub record PlainTerminal : Type 0 where
   pub snarf : List ℕ
   pub snarf_length : ℕ
 
-abbrev pub blank_window : Window
-blank_window = record { rasp = []; dot = (0, 0); view_start = 0; view_length = 0; locks = 0; awaits = false }
-
-abbrev pub blank_known : KnownFile
-blank_known = record { name = []; dirty = false; changed = false; window = None }
-
 abbrev pub new_terminal : PlainTerminal
 new_terminal =
     record {
@@ -66,15 +61,8 @@ new_terminal =
 abbrev pub is_known : PlainTerminal → ℕ → Bool
 is_known t f = is_some (slot t.files f)
 
-abbrev pub known_in : Slots KnownFile → ℕ → KnownFile
-known_in files f = unwrap_or (slot files f) blank_known
-
 abbrev pub known_at : PlainTerminal → ℕ → KnownFile
 known_at t f = known_in t.files f
-
--- the window of a slot, a blank one where it has none
-abbrev pub window_in : Slots KnownFile → ℕ → Window
-window_in files f = unwrap_or (known_in files f).window blank_window
 
 abbrev pub window_of : PlainTerminal → ℕ → Option Window
 window_of t f = (known_at t f).window
@@ -281,29 +269,6 @@ made_by_snarf t f =
 unfoldable pub made_by_view : PlainTerminal → ℕ → ℕ → ℕ → Made
 made_by_view t f p n = requested (put_window t f (record (window_at t f) { view_start = p; view_length = n })) f
 
--- a message about the dot of f
-abbrev pub about_dot : Slots KnownFile → ℕ → (ℕ → ℕ → ℕ → Tmesg) → Tmesg
-about_dot files f message = let d = (window_in files f).dot in message f d.0 d.1
-
--- the message of an event that does nothing but compose it
-abbrev pub message_of : Slots KnownFile → UserEvent → Option Tmesg
-message_of files (Look f) = Some (about_dot files f Tlook)
-message_of files (Search f) = Some (about_dot files f Tsearch)
-message_of files (Send f) = Some (about_dot files f Tsend)
-message_of files (Dclick f p) = Some (Tdclick f p)
-message_of files (Scroll f n) = Some (Torigin f (window_in files f).view_start n)
-message_of files (Open f) = Some (Tstartfile f)
-message_of files (Close f) = Some (Tclose f)
-message_of files (Write f) = Some (Twrite f)
-message_of files (Work f) = Some (about_dot files f Tworkfile)
-message_of files OpenCmd = Some Tstartcmdfile
-message_of files New = Some Tstartnewfile
-message_of files Exit = Some Texit
-message_of files (Check f) = Some (Tcheck f)
-message_of files GetSnarf = Some Tstartsnarf
-message_of files (Version v) = Some (Tversion v)
-message_of files _ = None
-
 -- what the event does, by that message
 abbrev pub outcome_by : Option Tmesg → PlainTerminal → UserEvent → Made
 outcome_by (Some m) t e = sends t unchanged (m ∷ [])
@@ -322,67 +287,13 @@ event_outcome t e = outcome_by (message_of t.files e) t e
 
 -- ## What holds an event back
 
--- the file that an event names
-abbrev pub file_of : UserEvent → Option ℕ
-file_of (Typed f s) = Some f
-file_of (Select f p q) = Some f
-file_of (Cut f) = Some f
-file_of (Paste f) = Some f
-file_of (Snarf f) = Some f
-file_of (Look f) = Some f
-file_of (Search f) = Some f
-file_of (Send f) = Some f
-file_of (Dclick f p) = Some f
-file_of (Scroll f n) = Some f
-file_of (View f p n) = Some f
-file_of (Open f) = Some f
-file_of (Close f) = Some f
-file_of (Write f) = Some f
-file_of (Work f) = Some f
-file_of OpenCmd = None
-file_of New = None
-file_of Exit = None
-file_of (Check f) = Some f
-file_of GetSnarf = None
-file_of (SetSnarf s) = None
-file_of (Version v) = None
-file_of Flush = None
-
--- the event takes the command lock, so it waits until no lock at all is held
-abbrev pub waits_for_all : UserEvent → Bool
-waits_for_all (Typed f s) = is_command_line f s
-waits_for_all (Send f) = true
-waits_for_all (Open f) = true
-waits_for_all (Close f) = true
-waits_for_all OpenCmd = true
-waits_for_all New = true
-waits_for_all Exit = true
-waits_for_all (Version v) = true
-waits_for_all _ = false
-
-abbrev pub is_bad_version : UserEvent → Bool
-is_bad_version (Version v) = v == 0
-is_bad_version _ = false
-
 abbrev pub is_unknown : PlainTerminal → Option ℕ → Bool
 is_unknown t None = false
 is_unknown t (Some f) = not (is_known t f)
 
--- the event is not for the command file
-abbrev pub is_for_command_file : UserEvent → Bool
-is_for_command_file (Open f) = f == 0
-is_for_command_file (Close f) = f == 0
-is_for_command_file (Write f) = f == 0
-is_for_command_file (Work f) = f == 0
-is_for_command_file _ = false
-
 abbrev pub is_closed : PlainTerminal → Option ℕ → Bool
 is_closed t None = false
 is_closed t (Some f) = not (is_open t f)
-
-abbrev pub needs_open : UserEvent → Bool
-needs_open (Open f) = false
-needs_open _ = true
 
 abbrev pub is_file_locked : PlainTerminal → Option ℕ → Bool
 is_file_locked t None = false

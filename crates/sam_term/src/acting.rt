@@ -4,12 +4,14 @@ ghost use Rattle.std.specs.Prelude.{◌≡◌, ◌∷◌, [], IsTrue, None, drop
 ghost use Rattle.sam_runes.specs.Checks.{first_of_checks};
 ghost use Rattle.sam_term.specs.Acting.{deed_of, made_first, free_first, first_event};
 ghost use Rattle.sam_term.specs.Locking.{is_lockable};
-ghost use Rattle.sam_term.specs.Locks.{lock_of};
+ghost use Rattle.sam_term.specs.Events.{lock_of};
 ghost use Rattle.sam_term.specs.Taking.{IsAnswer, done, not_done};
 ghost use Rattle.sam_term.specs.Term.{act_of, event_checks, is_unknown, is_closed, is_file_locked, has_bad_place, has_long_text, makes_too_long, sends, unchanged};
 
-use crate::event::{Acted, Deed, UserEvent, Verdict};
-use crate::event_rules::{file_of, is_bad_version, is_for_command_file, needs_open, waits_for_all};
+use crate::event::{
+    Acted, Deed, UserEvent, Verdict, file_of, is_bad_version, is_for_command_file, needs_open,
+    waits_for_all,
+};
 use crate::fault::{Refusal, TermFault};
 use crate::term::Terminal;
 use sam_mesg::Tmesg;

@@ -5,7 +5,7 @@ ghost use Rattle.sam_rasp.specs.Rasp.{hole_within};
 ghost use Rattle.sam_runes.specs.Texts.{most_count};
 ghost use Rattle.sam_term.specs.Editing.{shown_from};
 ghost use Rattle.sam_term.specs.Locking.{is_lockable, lock_added};
-ghost use Rattle.sam_term.specs.Locks.{lock_of};
+ghost use Rattle.sam_term.specs.Events.{lock_of};
 ghost use Rattle.sam_term.specs.Taking.{IsAnswer, countable};
 ghost use Rattle.sam_term.specs.Term.{flush_of, is_open, window_at, composed, unsent_message, flushed, sends, unchanged, wanted, view_end, request_for};
 

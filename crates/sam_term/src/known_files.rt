@@ -6,7 +6,8 @@ ghost use Rattle.std.specs.Prelude.{◌≡◌, ◌++◌, ◌∷◌, ◌+◌, ◌
 ghost use Rattle.sam_runes.specs.Slots.{slot, put_slot, free_slot, map_slots};
 ghost use Rattle.std.specs.Borrow.{sem};
 ghost use Rattle.sam_term.specs.Lending.{LendsFile, LendsKnown, LendsOpen, LendsWindow};
-ghost use Rattle.sam_term.specs.Term.{blank_known, freed_known, is_any_locked, known_in, window_in};
+ghost use Rattle.sam_term.specs.Term.{freed_known, is_any_locked};
+ghost use Rattle.sam_term.specs.Windows.{blank_known, known_in, window_in};
 
 use crate::records::{KnownFile, Window};
 use sam_runes::Runes;

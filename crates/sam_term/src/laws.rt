@@ -9,7 +9,8 @@ ghost use Rattle.sam_term.specs.Fitting.{all_fit};
 ghost use Rattle.sam_term.specs.LockCounts.{locks_taken, takes_command, requests, locks_left, command_left, awaited_left};
 ghost use Rattle.sam_term.specs.Sound.{IsSound};
 ghost use Rattle.sam_term.specs.Unsent.{EventsSendFirst, FramesSendFirst};
-ghost use Rattle.sam_term.specs.Term.{is_open, window_at, event_checks, flushed, frame_outcome, event_outcome, file_of, rasp_at, PlainTerminal};
+ghost use Rattle.sam_term.specs.Term.{is_open, window_at, event_checks, flushed, frame_outcome, event_outcome, rasp_at, PlainTerminal};
+ghost use Rattle.sam_term.specs.Events.{file_of};
 ghost use Rattle.sam_term.specs.declared.event.UserEvent.{UserEvent};
 
 /// Says what an event does to the rasp of a file: `Typed`, `Cut` and `Paste` take the dot out, `Typed` puts its runes in that place, and

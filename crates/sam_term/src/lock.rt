@@ -3,7 +3,7 @@
 ghost use Rattle.std.specs.Prelude.{◌≡◌};
 ghost use Rattle.sam_runes.specs.Texts.{ends_line};
 ghost use Rattle.sam_term.specs.Locking.{is_request};
-ghost use Rattle.sam_term.specs.Locks.{lock_of};
+ghost use Rattle.sam_term.specs.Events.{lock_of};
 
 use sam_mesg::Tmesg;
 use sam_runes::Runes;

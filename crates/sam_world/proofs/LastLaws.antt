@@ -6,7 +6,7 @@ use Rattle.sam_host.specs.Host.{PlainHost, reply_to, reply_version, reply_starts
 use Rattle.sam_host.proofs.EachFrame.{EachFrame, Freed, Nothing, Command, File, AreFrames, EndsWith, Ends, lock_freed, reply_ends}
 use Rattle.sam_term.specs.declared.lock.Lock.{Lock}
 use Rattle.sam_term.specs.declared.lock.Lock.TheVariants.{NoLock, CommandLock, FileLock}
-use Rattle.sam_term.specs.Locks.{lock_of, is_command_line, freed_by, one_lock, all_freed}
+use Rattle.sam_term.specs.Events.{lock_of, is_command_line, freed_by, one_lock, all_freed}
 use Rattle.sam_mesg.specs.declared.tmesg.Tmesg.{Tmesg}
 use Rattle.sam_mesg.specs.declared.tmesg.Tmesg.TheVariants.{Tversion, Trequest, Ttype, Tstartsnarf}
 use Rattle.sam_mesg.specs.declared.hmesg.Hmesg.{Hmesg}

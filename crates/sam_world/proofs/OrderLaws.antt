@@ -11,7 +11,9 @@ use Rattle.sam_text.specs.Files.{file_at}
 use Rattle.sam_host.specs.Host.{PlainHost, Reply, Answer, answer, answer_unless, counted, host_checks, reply_to, stamped}
 use Rattle.sam_host.specs.declared.fault.HostFault.{HostFault}
 use Rattle.sam_host.specs.declared.fault.HostFault.TheVariants as hostfault
-use Rattle.sam_term.specs.Term.{blank_window, window_at, PlainTerminal, Made, window_of, is_any_locked, is_file_locked, waits_for_all, is_bad_version, is_unknown, is_for_command_file, needs_open, is_closed, has_bad_place, has_long_text, makes_too_long, unsent_message, if_countable, event_checks, file_of, act_of, act_on, decided, flush_of, flushed, take_of, event_outcome, frame_outcome, made_unless, frame_checks, known_at, put_window, lock_taken, composed}
+use Rattle.sam_term.specs.Term.{window_at, PlainTerminal, Made, window_of, is_any_locked, is_file_locked, is_unknown, is_closed, has_bad_place, has_long_text, makes_too_long, unsent_message, if_countable, event_checks, act_of, act_on, decided, flush_of, flushed, take_of, event_outcome, frame_outcome, made_unless, frame_checks, known_at, put_window, lock_taken, composed}
+use Rattle.sam_term.specs.Events.{waits_for_all, is_bad_version, is_for_command_file, needs_open, file_of, lock_of}
+use Rattle.sam_term.specs.Windows.{blank_window}
 use Rattle.sam_term.specs.declared.records.Window.{Window}
 use Rattle.sam_term.specs.declared.records.Unsent.{Unsent}
 use Rattle.sam_term.specs.declared.event.Verdict.{Verdict}
@@ -39,7 +41,6 @@ use Rattle.sam_protocol.proofs.Starting.{starts}
 use Rattle.sam_protocol.proofs.Streaming.{one_version, version_at_place}
 use Rattle.sam_term.specs.declared.lock.Lock.{Lock}
 use Rattle.sam_term.specs.declared.lock.Lock.TheVariants.{NoLock, CommandLock, FileLock}
-use Rattle.sam_term.specs.Locks.{lock_of}
 use Rattle.sam_term.specs.declared.records.KnownFile.{KnownFile}
 use Rattle.sam_term.proofs.TermLaws.{known-put}
 use Rattle.std.specs.Prelude.{unwrap_or}

@@ -6,7 +6,7 @@ use Rattle.sam_text.specs.Files.{PlainFiles, AreFit, file_at, has_file}
 use Rattle.sam_host.specs.Host.{PlainHost, Reply, answer, host_checks, new_host, reply_to, with_given}
 use Rattle.sam_term.specs.declared.lock.Lock.{Lock}
 use Rattle.sam_term.specs.declared.lock.Lock.TheVariants.{NoLock}
-use Rattle.sam_term.specs.Locks.{lock_of, freed_by, one_lock, all_freed}
+use Rattle.sam_term.specs.Events.{lock_of, freed_by, one_lock, all_freed}
 use Rattle.sam_term.specs.Effect.{Tells}
 use Rattle.sam_mesg.specs.declared.hmesg.Hmesg.{Hmesg}
 use Rattle.sam_mesg.specs.declared.hmesg.HFrame.{HFrame}

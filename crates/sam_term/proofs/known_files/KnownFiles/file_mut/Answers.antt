@@ -2,7 +2,7 @@ use Rattle.std.proofs.Common.{refl, sym, ap, ◌∙◌, arith, length, is_some}
 use Rattle.std.specs.Prelude.{unwrap_or}
 use Rattle.sam_runes.specs.Slots.{slot, put_slot}
 use Rattle.sam_runes.proofs.SlotLaws.{slot-read, slot_given, put_slot-set}
-use Rattle.sam_term.specs.Term.{blank_known}
+use Rattle.sam_term.specs.Windows.{blank_known}
 use Rattle.sam_term.proofs.known_files.KnownFiles.file_mut.Goals as goal
 
 pub index_mut-requires : goal.index_mut-requires

@@ -2,7 +2,7 @@ use Rattle.std.proofs.Common.{refl, sym, ap, ◌∙◌, arith, length, is_some, 
 use Rattle.std.specs.Prelude.{unwrap_or}
 use Rattle.sam_runes.specs.Slots.{slot, put_slot}
 use Rattle.sam_runes.proofs.SlotLaws.{slot-read, put_slot-set}
-use Rattle.sam_term.specs.Term.{blank_known, blank_window, known_in}
+use Rattle.sam_term.specs.Windows.{blank_known, blank_window, known_in}
 use Rattle.sam_term.proofs.SlotSteps.{open_given}
 use Rattle.sam_term.proofs.known_files.KnownFiles.window_mut.Goals as goal
 

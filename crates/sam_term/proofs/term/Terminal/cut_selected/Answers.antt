@@ -1,6 +1,7 @@
 use Rattle.std.proofs.Common.{◌≡◌, ap, ◌∙◌, length, arith, ℕ, is_some}
 use Rattle.std.specs.Prelude.{◌+◌, ◌-◌}
-use Rattle.sam_term.specs.Term.{known_in, window_in, window_at, is_open, edited, del_rasp, flushed}
+use Rattle.sam_term.specs.Term.{window_at, is_open, edited, del_rasp, flushed}
+use Rattle.sam_term.specs.Windows.{known_in, window_in}
 use Rattle.sam_term.specs.declared.records.Window.{Window}
 use Rattle.sam_term.proofs.Composes.{flushed-files}
 use Rattle.sam_term.proofs.Marks.{edited-open, edited-window}

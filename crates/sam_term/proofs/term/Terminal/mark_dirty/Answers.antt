@@ -1,6 +1,6 @@
 use Rattle.std.proofs.Common.{ap, true}
 use Rattle.std.specs.Prelude.{unwrap_or}
-use Rattle.sam_term.specs.Term.{blank_window}
+use Rattle.sam_term.specs.Windows.{blank_window}
 use Rattle.sam_term.specs.Sound.{seen}
 use Rattle.sam_term.proofs.FileSteps.{sound-put_known}
 use Rattle.sam_term.proofs.term.Terminal.mark_dirty.Goals as goal

@@ -1,5 +1,6 @@
 use Rattle.std.proofs.Common.{sym, ap, ◌∙◌, subst, Some}
-use Rattle.sam_term.specs.Term.{PlainTerminal, put_known, is_open, blank_window, took_bindname}
+use Rattle.sam_term.specs.Term.{PlainTerminal, put_known, is_open, took_bindname}
+use Rattle.sam_term.specs.Windows.{blank_window}
 use Rattle.sam_term.specs.Sound.{IsSound, seen}
 use Rattle.sam_term.specs.declared.records.KnownFile.{KnownFile}
 use Rattle.sam_term.proofs.FileSteps.{sound-put_known, blank_where_shut}

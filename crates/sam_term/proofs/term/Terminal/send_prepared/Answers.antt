@@ -1,6 +1,6 @@
 use Rattle.std.proofs.Common.{ap, ◌∙◌, arith, [], ◌++◌, ◌∷◌, append_assoc}
 use Rattle.sam_term.specs.Term.{flushed, composed}
-use Rattle.sam_term.specs.Locks.{lock_of}
+use Rattle.sam_term.specs.Events.{lock_of}
 use Rattle.sam_term.proofs.Composes.{flushed-sent, flushed-files, lockable-files}
 use Rattle.sam_term.proofs.term.Terminal.send_prepared.Goals as goal
 

@@ -1,6 +1,7 @@
 use Rattle.std.proofs.Common.{sym, ap, ◌∙◌, subst, inl, refl, [], arith}
 use Rattle.sam_runes.specs.Slots.{put_slot}
-use Rattle.sam_term.specs.Term.{PlainTerminal, put_known, is_known, blank_known}
+use Rattle.sam_term.specs.Term.{PlainTerminal, put_known, is_known}
+use Rattle.sam_term.specs.Windows.{blank_known}
 use Rattle.sam_term.specs.Sound.{IsSound, seen}
 use Rattle.sam_term.proofs.FileSteps.{sound-put_known, blank_where_unknown}
 use Rattle.sam_term.proofs.Sounds.{quiet, is_countable}

@@ -1,7 +1,7 @@
 use Rattle.std.specs.Prelude.{IsOk}
 use Rattle.std.proofs.Common.{subst, sym, ap, ◌∙◌, refl, inl, inr, Err, [], ◌∷◌, ◌++◌, length, arith}
 use Rattle.sam_term.specs.Taking.{countable}
-use Rattle.sam_term.specs.Locks.{lock_of}
+use Rattle.sam_term.specs.Events.{lock_of}
 use Rattle.sam_term.specs.Locking.{is_lockable}
 use Rattle.sam_term.specs.Term.{sends, unchanged, took_unlockfile, unsent_message}
 use Rattle.sam_term.proofs.Sounds.{quiet, loud, full, is_countable}

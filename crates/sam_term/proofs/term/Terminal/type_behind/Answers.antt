@@ -1,7 +1,7 @@
 use Rattle.std.proofs.Common.{◌≡◌, ◌++◌, sym, ap, ◌∙◌, refl, subst, arith, drop, ℕ, true, Some, inl}
 use Rattle.sam_term.specs.Acting.{first_event}
 use Rattle.sam_term.specs.Editing.{typed_over, typed_runes, one_if, flushed_if}
-use Rattle.sam_term.specs.Locks.{is_command_line}
+use Rattle.sam_term.specs.Events.{is_command_line}
 use Rattle.sam_term.specs.Term.{PlainTerminal, Made, window_at, is_open, put_window, edited, joins, joined}
 use Rattle.sam_term.specs.declared.event.UserEvent.TheVariants.{Typed}
 use Rattle.sam_term.proofs.Acts.{opened_by}

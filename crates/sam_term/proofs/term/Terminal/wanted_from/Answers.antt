@@ -4,7 +4,7 @@ use Rattle.sam_term.specs.Term.{wanted}
 use Rattle.sam_term.specs.Editing.{shown_from}
 use Rattle.sam_term.specs.Sound.{seen}
 use Rattle.std.specs.Prelude.{unwrap_or}
-use Rattle.sam_term.specs.Term.{blank_window}
+use Rattle.sam_term.specs.Windows.{blank_window}
 use Rattle.sam_term.proofs.Edits.{wanted-shown, wanted-quiet, or_right}
 use Rattle.sam_term.proofs.term.Terminal.wanted_from.Goals as goal
 use Rattle.sam_term.proofs.term.Terminal.wanted_from.Goals.{then-self-via-then-self, then-self-via-else-self+then-window}

@@ -1,0 +1,143 @@
+-- What each kind of event, message and frame says by itself: the file that an event names, what it waits for and which message it
+-- composes; the lock that a message takes; and the lock that a frame frees.
+use Rattle.std.specs.Prelude.{[], ◌∷◌, ◌++◌, ℕ, Bool, true, false, ◌&&◌, if◌then◌else◌, ◌==◌, List, Option, Some, None}
+use Rattle.sam_runes.specs.Texts.{ends_line}
+use Rattle.sam_runes.specs.Slots.{Slots}
+use Rattle.sam_mesg.specs.declared.tmesg.Tmesg.{Tmesg}
+use Rattle.sam_mesg.specs.declared.tmesg.Tmesg.TheVariants.{Tversion, Tstartcmdfile, Tcheck, Trequest, Torigin, Tstartfile, Tworkfile, Ttype, Tcut, Tpaste, Tsnarf, Tstartnewfile, Twrite, Tclose, Tlook, Tsearch, Tsend, Tdclick, Tstartsnarf, Tsetsnarf, Tack, Texit}
+use Rattle.sam_mesg.specs.declared.hmesg.Hmesg.{Hmesg}
+use Rattle.sam_mesg.specs.declared.hmesg.Hmesg.TheVariants.{Hunlock, Hunlockfile, Hexit}
+use Rattle.sam_term.specs.declared.event.UserEvent.{UserEvent}
+use Rattle.sam_term.specs.declared.event.UserEvent.TheVariants.{Typed, Select, Cut, Paste, Snarf, Look, Search, Send, Dclick, Scroll, View, Open, Close, Write, Work, OpenCmd, New, Exit, Check, GetSnarf, SetSnarf, Version, Flush}
+use Rattle.sam_term.specs.declared.lock.Lock.{Lock}
+use Rattle.sam_term.specs.declared.lock.Lock.TheVariants.{NoLock, CommandLock, FileLock}
+use Rattle.sam_term.specs.declared.records.KnownFile.{KnownFile}
+use Rattle.sam_term.specs.Windows.{window_in}
+
+-- ## Events
+
+-- the file that an event names
+abbrev pub file_of : UserEvent → Option ℕ
+file_of (Typed f s) = Some f
+file_of (Select f p q) = Some f
+file_of (Cut f) = Some f
+file_of (Paste f) = Some f
+file_of (Snarf f) = Some f
+file_of (Look f) = Some f
+file_of (Search f) = Some f
+file_of (Send f) = Some f
+file_of (Dclick f p) = Some f
+file_of (Scroll f n) = Some f
+file_of (View f p n) = Some f
+file_of (Open f) = Some f
+file_of (Close f) = Some f
+file_of (Write f) = Some f
+file_of (Work f) = Some f
+file_of OpenCmd = None
+file_of New = None
+file_of Exit = None
+file_of (Check f) = Some f
+file_of GetSnarf = None
+file_of (SetSnarf s) = None
+file_of (Version v) = None
+file_of Flush = None
+
+-- the text ends a line of the command file
+abbrev pub is_command_line : ℕ → List ℕ → Bool
+is_command_line f s = f == 0 && ends_line s
+
+-- the event takes the command lock, so it waits until no lock at all is held
+abbrev pub waits_for_all : UserEvent → Bool
+waits_for_all (Typed f s) = is_command_line f s
+waits_for_all (Send f) = true
+waits_for_all (Open f) = true
+waits_for_all (Close f) = true
+waits_for_all OpenCmd = true
+waits_for_all New = true
+waits_for_all Exit = true
+waits_for_all (Version v) = true
+waits_for_all _ = false
+
+abbrev pub is_bad_version : UserEvent → Bool
+is_bad_version (Version v) = v == 0
+is_bad_version _ = false
+
+-- the event is not for the command file
+abbrev pub is_for_command_file : UserEvent → Bool
+is_for_command_file (Open f) = f == 0
+is_for_command_file (Close f) = f == 0
+is_for_command_file (Write f) = f == 0
+is_for_command_file (Work f) = f == 0
+is_for_command_file _ = false
+
+abbrev pub needs_open : UserEvent → Bool
+needs_open (Open f) = false
+needs_open _ = true
+
+-- a message about the dot of f
+abbrev pub about_dot : Slots KnownFile → ℕ → (ℕ → ℕ → ℕ → Tmesg) → Tmesg
+about_dot files f message = let d = (window_in files f).dot in message f d.0 d.1
+
+-- the message of an event that does nothing but compose it
+abbrev pub message_of : Slots KnownFile → UserEvent → Option Tmesg
+message_of files (Look f) = Some (about_dot files f Tlook)
+message_of files (Search f) = Some (about_dot files f Tsearch)
+message_of files (Send f) = Some (about_dot files f Tsend)
+message_of files (Dclick f p) = Some (Tdclick f p)
+message_of files (Scroll f n) = Some (Torigin f (window_in files f).view_start n)
+message_of files (Open f) = Some (Tstartfile f)
+message_of files (Close f) = Some (Tclose f)
+message_of files (Write f) = Some (Twrite f)
+message_of files (Work f) = Some (about_dot files f Tworkfile)
+message_of files OpenCmd = Some Tstartcmdfile
+message_of files New = Some Tstartnewfile
+message_of files Exit = Some Texit
+message_of files (Check f) = Some (Tcheck f)
+message_of files GetSnarf = Some Tstartsnarf
+message_of files (Version v) = Some (Tversion v)
+message_of files _ = None
+
+-- ## Locks
+
+-- the lock that composing the message takes
+abbrev pub lock_of : Tmesg → Lock
+lock_of (Tversion v) = CommandLock
+lock_of Tstartcmdfile = CommandLock
+lock_of (Tcheck f) = NoLock
+lock_of (Trequest f p n) = FileLock f
+lock_of (Torigin f p n) = FileLock f
+lock_of (Tstartfile f) = CommandLock
+lock_of (Tworkfile f p q) = NoLock
+lock_of (Ttype f p s) = if is_command_line f s then CommandLock else NoLock
+lock_of (Tcut f p q) = NoLock
+lock_of (Tpaste f p) = FileLock f
+lock_of (Tsnarf f p q) = NoLock
+lock_of Tstartnewfile = CommandLock
+lock_of (Twrite f) = FileLock f
+lock_of (Tclose f) = CommandLock
+lock_of (Tlook f p q) = FileLock f
+lock_of (Tsearch f p q) = FileLock f
+lock_of (Tsend f p q) = CommandLock
+lock_of (Tdclick f p) = FileLock f
+lock_of Tstartsnarf = NoLock
+lock_of (Tsetsnarf s) = NoLock
+lock_of Tack = NoLock
+lock_of Texit = CommandLock
+
+-- the lock that a frame frees: one of a file, or the command lock; the end of the session frees that too
+abbrev pub freed_by : Hmesg → Lock
+freed_by Hunlock = CommandLock
+freed_by (Hunlockfile f) = FileLock f
+freed_by Hexit = CommandLock
+freed_by _ = NoLock
+
+-- the lock, if it is one
+abbrev pub one_lock : Lock → List Lock
+one_lock NoLock = []
+one_lock CommandLock = CommandLock ∷ []
+one_lock (FileLock f) = FileLock f ∷ []
+
+-- the locks that frames free, in order
+unfoldable pub all_freed : List Hmesg → List Lock
+all_freed [] = []
+all_freed (m ∷ ms) = one_lock (freed_by m) ++ all_freed ms
