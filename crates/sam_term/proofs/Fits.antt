@@ -1,10 +1,8 @@
 -- What a terminal composes fits in its version, and so in version 2.
-use Rattle.std.proofs.Common.{◌≡◌, refl, sym, ap, subst, ◌≤◌, ℕ, Bool, true, false, ◌&&◌, List, [], ◌∷◌, Option, Some, None, Result, Ok, Err, if◌then◌else◌, ◌==◌, nat_lt, arith}
-use Rattle.std.specs.Prelude.{All}
-use Rattle.std.proofs.lemmas.Bool.{leb-true, le-leb}
+use Rattle.std.proofs.Common.{◌≡◌, refl, sym, ap, subst, ℕ, Bool, true, false, ◌&&◌, List, [], ◌∷◌, Option, Some, None, Result, Ok, Err, if◌then◌else◌, nat_lt}
 use Rattle.std.proofs.lemmas.List.Elements.{All-nil, All-cons}
 use Rattle.sam_runes.specs.Checks.{first_of_checks}
-use Rattle.sam_runes.specs.Texts.{most_count, snarf_limit, utf8_length}
+use Rattle.sam_runes.specs.Texts.{most_count}
 use Rattle.sam_term.specs.Sound.{IsSound}
 use Rattle.sam_term.specs.Fitting.{all_fit, FitsLast, AllFit, composed_in}
 use Rattle.sam_term.proofs.ActLaws.{acted_in, not_done}
@@ -19,7 +17,6 @@ use Rattle.sam_term.specs.declared.fault.TermFault.{TermFault}
 use Rattle.sam_term.specs.declared.fault.TermFault.TheVariants as fault
 use Rattle.sam_mesg.specs.TerminalKinds.{fits_t}
 use Rattle.sam_mesg.specs.declared.tmesg.Tmesg.{Tmesg}
-use Rattle.sam_mesg.specs.declared.tmesg.Tmesg.TheVariants.{Ttype, Tsetsnarf}
 use Rattle.sam_mesg.specs.declared.hmesg.HFrame.{HFrame}
 use Rattle.sam_mesg.proofs.Versions.{grows_t}
 

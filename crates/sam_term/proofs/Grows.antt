@@ -11,7 +11,6 @@ use Rattle.sam_term.specs.Term.{PlainTerminal, window_at, is_open, put_window, w
 use Rattle.sam_term.specs.Windows.{known_in}
 use Rattle.sam_term.specs.Sound.{IsSound, FitsWindow, FitsUnsent, IsShort, AreWithin}
 use Rattle.sam_term.specs.declared.records.Window.{Window}
-use Rattle.sam_term.specs.declared.records.KnownFile.{KnownFile}
 use Rattle.sam_term.specs.declared.records.Unsent.{Unsent}
 use Rattle.sam_term.proofs.Sounds.{window-put, sound-put}
 use Rattle.sam_term.proofs.SlotSteps.{put_again}
