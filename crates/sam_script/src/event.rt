@@ -1,9 +1,7 @@
 //! Reads what the user does from the words of a `k` or `m` line.
 
 ghost use Rattle.std.specs.Prelude.{◌≡◌};
-ghost use Rattle.sam_script.specs.Reading.{event_at, read_by};
-ghost use Rattle.sam_script.specs.Events.{readers, file_readers};
-ghost use Rattle.sam_script.specs.Words.{Gives};
+ghost use Rattle.sam_script.specs.Reading.{Gives, event_at, read_by, readers, file_readers};
 
 use crate::fault::LineFault;
 use crate::words::{

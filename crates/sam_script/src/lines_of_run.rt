@@ -2,9 +2,8 @@
 
 ghost use Rattle.std.specs.Prelude.{◌≡◌, ◌++◌, ◌∷◌, [], IfOk, OnOk, IfErr, string_bytes, flat_map, encode_utf8};
 ghost use Rattle.sam_script.specs.RunLines.{event_line, file_line, run_lines_of};
-ghost use Rattle.sam_script.specs.Spelling.{spelling};
-ghost use Rattle.sam_script.specs.Events.{Tag, Place, form};
-ghost use Rattle.sam_script.specs.Events.Part.{Rest};
+ghost use Rattle.sam_script.specs.Spelling.{Tag, Place, form, spelling};
+ghost use Rattle.sam_script.specs.Spelling.Part.{Rest};
 
 use crate::fault::ScriptFault;
 use crate::script::Script;
