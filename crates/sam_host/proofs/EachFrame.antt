@@ -11,7 +11,7 @@ use Rattle.sam_text.proofs.OutcomeLaws.{HasShortParts, line_short}
 use Rattle.sam_mesg.specs.declared.tmesg.Tmesg.{Tmesg}
 use Rattle.sam_mesg.specs.declared.tmesg.Tmesg.TheVariants.{Tversion, Tstartcmdfile, Tcheck, Trequest, Torigin, Tstartfile, Tworkfile, Ttype, Tcut, Tpaste, Tsnarf, Tstartnewfile, Twrite, Tclose, Tlook, Tsearch, Tsend, Tdclick, Tstartsnarf, Tsetsnarf, Tack, Texit}
 use Rattle.sam_mesg.specs.declared.hmesg.Hmesg.{Hmesg}
-use Rattle.sam_mesg.specs.declared.hmesg.Hmesg.TheVariants.{Hbindname, Hcurrent, Hnewname, Hmovname, Hgrow, Hcheck, Hunlock, Hdata, Horigin, Hunlockfile, Hsetdot, Hgrowdata, Hmoveto, Hclean, Hdirty, Hcut, Hsetpat, Hdelname, Hclose, Hsnarflen, Hack, Hexit}
+use Rattle.sam_mesg.specs.declared.hmesg.Hmesg.TheVariants.{Hversion, Hsetsnarf, Hbindname, Hcurrent, Hnewname, Hmovname, Hgrow, Hcheck, Hunlock, Hdata, Horigin, Hunlockfile, Hsetdot, Hgrowdata, Hmoveto, Hclean, Hdirty, Hcut, Hsetpat, Hdelname, Hclose, Hsnarflen, Hack, Hexit}
 use Rattle.sam_host.specs.Host.{PlainHost, Reply, when, when_given, grown, told_dirty, told_length, printed, told_edit, told_outcome, told_names, command_name, no_tag_left, with_file, with_files, reply_found, searched_for, reply_line, reply_to}
 use Rattle.sam_host.specs.Host.{reply_version, reply_startcmdfile, reply_check, reply_request, reply_origin, reply_startfile, reply_workfile, reply_type, reply_cut, reply_paste, reply_snarf, reply_startnewfile, reply_write, reply_close, reply_look, reply_search, reply_send, reply_dclick, reply_startsnarf, reply_setsnarf, reply_exit}
 use Rattle.sam_host.proofs.FileLaws.{part_length}
@@ -30,18 +30,18 @@ abbrev pub EachFrame : (Hmesg → Type 0) → List Hmesg → Type 0
 EachFrame P [] = Unit {0}
 EachFrame P (m ∷ ms) = P m × EachFrame P ms
 
--- P holds of the frames that several answers have in common, where Q holds of the names in them
-pub record AreParts (P : Hmesg → Type 0) (Q : List ℕ → Type 0) : Type 0 where
-  pub name : (s : List ℕ) → length s ≤ most_in_name → Q s
-  pub newname : (f : ℕ) → P (Hnewname f)
-  pub movname : (f : ℕ) (s : List ℕ) → Q s → P (Hmovname f s)
-  pub grow : (f p n : ℕ) → P (Hgrow f p n)
-  pub growdata : (f p : ℕ) (s : List ℕ) → length s ≤ most_in_message → P (Hgrowdata f p s)
-  pub cut : (f p n : ℕ) → P (Hcut f p n)
-  pub setdot : (f p q : ℕ) → P (Hsetdot f p q)
-  pub check : (f : ℕ) → P (Hcheck f)
-  pub dirty : (f : ℕ) → P (Hdirty f)
-  pub setpat : (s : List ℕ) → length s ≤ most_in_pattern → P (Hsetpat s)
+-- a frame that answers tell before a last one frees a lock: texts are short, and Q holds of names. Hversion and Hsetsnarf stand by themselves
+abbrev pub IsTold : (List ℕ → Type 0) → Hmesg → Type 0
+IsTold Q (Hversion v) = ⊥
+IsTold Q (Hsetsnarf s) = ⊥
+IsTold Q Hunlock = ⊥
+IsTold Q (Hunlockfile f) = ⊥
+IsTold Q Hexit = ⊥
+IsTold Q (Hmovname f s) = Q s
+IsTold Q (Hgrowdata f p s) = length s ≤ most_in_message
+IsTold Q (Hdata f p s) = length s ≤ most_in_message
+IsTold Q (Hsetpat s) = length s ≤ most_in_pattern
+IsTold Q _ = Unit {0}
 
 -- which lock the last frame of an answer frees
 pub data Freed : Type 0 where
@@ -49,35 +49,18 @@ pub data Freed : Type 0 where
   Command : Freed
   File : (tag : ℕ) → Freed
 
--- P holds of every frame of an answer, but for Hversion and Hsetsnarf, and E of the one that frees a lock
-pub record AreFrames (P : Hmesg → Type 0) (E : Freed → Hmesg → Type 0) (Q : List ℕ → Type 0) : Type 0 where
-  pub parts : AreParts P Q
-  pub unlock : E Command Hunlock
-  pub unlockfile : (f : ℕ) → E (File f) (Hunlockfile f)
-  pub bindname : (f : ℕ) → P (Hbindname f)
-  pub current : (f : ℕ) → P (Hcurrent f)
-  pub loaded : (f p : ℕ) (s : List ℕ) → length s ≤ most_in_message → P (Hdata f p s)
-  pub origin : (f p : ℕ) → P (Horigin f p)
-  pub moveto : (f p : ℕ) → P (Hmoveto f p)
-  pub clean : (f : ℕ) → P (Hclean f)
-  pub delname : (f : ℕ) → P (Hdelname f)
-  pub close : (f : ℕ) → P (Hclose f)
-  pub snarflen : (n : ℕ) → P (Hsnarflen n)
-  pub ack : P Hack
-  pub exit : E Command Hexit
+abbrev pub end_frames : Freed → Bool → List Hmesg
+end_frames Nothing quits = []
+end_frames Command quits = (if quits then Hexit else Hunlock) ∷ []
+end_frames (File f) quits = Hunlockfile f ∷ []
 
--- E holds of the last frame, and P of those before it
-pub record EndsWith (P E : Hmesg → Type 0) (frames : List Hmesg) : Type 0 where
+pub record Ends (Q : List ℕ → Type 0) (l : Freed) (frames : List Hmesg) : Type 0 where
   pub front : List Hmesg
-  pub last : Hmesg
-  pub is : frames ≡ front ++ last ∷ []
-  pub each : EachFrame P front
-  pub end : E last
+  pub quits : Bool
+  pub is : frames ≡ front ++ end_frames l quits
+  pub told : EachFrame (IsTold Q) front
 
-abbrev pub Ends : (Hmesg → Type 0) → (Freed → Hmesg → Type 0) → Freed → List Hmesg → Type 0
-Ends P E Nothing frames = EachFrame P frames
-Ends P E Command frames = EndsWith P (E Command) frames
-Ends P E (File f) frames = EndsWith P (E (File f)) frames
+-- ## Parts of answers
 
 pub each-both : (P : Hmesg → Type 0) (ms ns : List Hmesg) → EachFrame P ms → EachFrame P ns → EachFrame P (ms ++ ns)
 each-both P [] ns h k = k
@@ -94,130 +77,104 @@ unfolding when_given
 each-given P R None frame h k = tt
 each-given P R (Some x) frame h k = (h x k, tt)
 
-each-choice : (P : Hmesg → Type 0) (b : Bool) (m n : Hmesg) → (b ≡ true → P m) → P n → P (cond b m n)
-each-choice P true m n h k = h refl
-each-choice P false m n h k = k
-
--- ## How answers end
-
-behind : (P E : Hmesg → Type 0) (xs ys : List Hmesg) → EachFrame P xs → EndsWith P E ys → EndsWith P E (xs ++ ys)
-behind P E xs ys h k = record {
-  front = xs ++ k.front;
-  last = k.last;
-  is = ap (λ (ms : List Hmesg). xs ++ ms) k.is ∙ sym (append_assoc xs k.front (k.last ∷ []));
-  each = each-both P xs k.front h k.each;
-  end = k.end;
-}
-
-unlocks : {P : Hmesg → Type 0} {E : Freed → Hmesg → Type 0} {Q : List ℕ → Type 0} → AreFrames P E Q → (front : List Hmesg) → EachFrame P front → EndsWith P (E Command) (front ++ Hunlock ∷ [])
-unlocks k front h = record { front = front; last = Hunlock; is = refl; each = h; end = k.unlock }
-
-unlocks_file : {P : Hmesg → Type 0} {E : Freed → Hmesg → Type 0} {Q : List ℕ → Type 0} → AreFrames P E Q → (f : ℕ) (front : List Hmesg) → EachFrame P front
-    → EndsWith P (E (File f)) (front ++ Hunlockfile f ∷ [])
-unlocks_file k f front h = record { front = front; last = Hunlockfile f; is = refl; each = h; end = k.unlockfile f }
-
-ends-if : (P : Hmesg → Type 0) (E : Freed → Hmesg → Type 0) (l : Bool → Freed) (b : Bool) (x y : Reply) → (b ≡ true → Ends P E (l true) x.1) → Ends P E (l false) y.1
-    → Ends P E (l b) (cond b x y).1
-ends-if P E l true x y h k = h refl
-ends-if P E l false x y h k = k
-
-ends-when : (P : Hmesg → Type 0) (E : Freed → Hmesg → Type 0) (l : Freed) (b : Bool) (ms : List Hmesg) → Ends P E l ms → Ends P E (cond b l Nothing) (when b ms)
-unfolding when
-ends-when P E l true ms h = h
-ends-when P E l false ms h = tt
-
--- all frames are alike
-all-of : (P : Hmesg → Type 0) (ms : List Hmesg) → EndsWith P P ms → EachFrame P ms
-all-of P ms k = subst (EachFrame P) (sym k.is) (each-both P k.front (k.last ∷ []) k.each (k.end, tt))
-
-ends-each : (P : Hmesg → Type 0) (l : Freed) (ms : List Hmesg) → Ends P (λ l. P) l ms → EachFrame P ms
-ends-each P Nothing ms k = k
-ends-each P Command ms k = all-of P ms k
-ends-each P (File f) ms k = all-of P ms k
-
--- ## Shared parts
-
-pub each_grown : {P : Hmesg → Type 0} {Q : List ℕ → Type 0} → AreParts P Q → (fs : PlainFiles) (f p : ℕ) (s : List ℕ) → EachFrame P (grown fs f p s)
+each_grown : (Q : List ℕ → Type 0) (fs : PlainFiles) (f p : ℕ) (s : List ℕ) → EachFrame (IsTold Q) (grown fs f p s)
 unfolding grown
-each_grown {P} {Q} k fs f p s =
-    each-when P ((file_at fs f).opened && not (is_empty s)) _
-    (each-choice P (nat_le (length s) most_in_message) (Hgrowdata f p s) (Hgrow f p (length s)) (λ e. k.growdata f p s (leb-true (length s) most_in_message e)) (k.grow f p (length s)), tt)
+each_grown Q fs f p s = each-when (IsTold Q) ((file_at fs f).opened && not (is_empty s)) _ (go (nat_le (length s) most_in_message) refl, tt)
+  where
+    go : (b : Bool) → nat_le (length s) most_in_message ≡ b → IsTold Q (cond b (Hgrowdata f p s) (Hgrow f p (length s)))
+    go true e = leb-true (length s) most_in_message e
+    go false e = tt
 
-each_dirty : {P : Hmesg → Type 0} {Q : List ℕ → Type 0} → AreParts P Q → (fs : PlainFiles) (f : ℕ) → EachFrame P (told_dirty fs f)
-each_dirty {P} {Q} k fs f = each-when P (not (file_at fs f).dirty && not (f == 0)) (Hdirty f ∷ []) (k.dirty f, tt)
+each_dirty : (Q : List ℕ → Type 0) (fs : PlainFiles) (f : ℕ) → EachFrame (IsTold Q) (told_dirty fs f)
+each_dirty Q fs f = each-when (IsTold Q) (not (file_at fs f).dirty && not (f == 0)) (Hdirty f ∷ []) (tt, tt)
 
-pub each_length : {P : Hmesg → Type 0} {Q : List ℕ → Type 0} → AreParts P Q → (f : ℕ) (file : PlainFile) → EachFrame P (told_length f file)
+each_length : (Q : List ℕ → Type 0) (f : ℕ) (file : PlainFile) → EachFrame (IsTold Q) (told_length f file)
 unfolding told_length
-each_length {P} {Q} k f file = each-when P (not (is_empty file.text)) _ (k.grow f 0 (length file.text), tt)
+each_length Q f file = each-when (IsTold Q) (not (is_empty file.text)) _ (tt, tt)
 
-pub each_printed : {P : Hmesg → Type 0} {Q : List ℕ → Type 0} → AreParts P Q → (fs : PlainFiles) (s : List ℕ) → EachFrame P (printed fs s)
+each_printed : (Q : List ℕ → Type 0) (fs : PlainFiles) (s : List ℕ) → EachFrame (IsTold Q) (printed fs s)
 unfolding printed
-each_printed {P} {Q} k fs s =
+each_printed Q fs s =
     let end = length (file_at fs 0).text + length s in
-    each-when P (is_printed fs s && (file_at fs 0).opened) _
-    (each-both P (grown fs 0 (length (file_at fs 0).text) s) (Hsetdot 0 end end ∷ Hcheck 0 ∷ []) (each_grown k fs 0 _ s) (k.setdot 0 end end, (k.check 0, tt)))
+    each-when (IsTold Q) (is_printed fs s && (file_at fs 0).opened) _
+    (each-both (IsTold Q) (grown fs 0 (length (file_at fs 0).text) s) (Hsetdot 0 end end ∷ Hcheck 0 ∷ []) (each_grown Q fs 0 _ s) (tt, (tt, tt)))
 
-each_edits : {P : Hmesg → Type 0} {Q : List ℕ → Type 0} → AreParts P Q → (fs : PlainFiles) (f : ℕ) (es : List Edit) → EachFrame P (flat_map (told_edit fs f) es)
+each_edits : (Q : List ℕ → Type 0) (fs : PlainFiles) (f : ℕ) (es : List Edit) → EachFrame (IsTold Q) (flat_map (told_edit fs f) es)
 unfolding told_edit
-each_edits k fs f [] = tt
-each_edits {P} {Q} k fs f (e ∷ es) =
-    each-both P (told_edit fs f e) (flat_map (told_edit fs f) es)
-    (each-both P _ (grown fs f e.p e.text) (each-when P (nat_lt e.p e.q) (Hcut f e.p (e.q - e.p) ∷ []) (k.cut f e.p (e.q - e.p), tt)) (each_grown k fs f e.p e.text))
-    (each_edits k fs f es)
+each_edits Q fs f [] = tt
+each_edits Q fs f (e ∷ es) =
+    each-both (IsTold Q) (told_edit fs f e) (flat_map (told_edit fs f) es)
+    (each-both (IsTold Q) _ (grown fs f e.p e.text) (each-when (IsTold Q) (nat_lt e.p e.q) (Hcut f e.p (e.q - e.p) ∷ []) (tt, tt)) (each_grown Q fs f e.p e.text))
+    (each_edits Q fs f es)
 
-each-dot : {P : Hmesg → Type 0} {Q : List ℕ → Type 0} → AreParts P Q → (f : ℕ) (o : Option Range) → EachFrame P (when_given o (λ d. Hsetdot f d.0 d.1))
-unfolding when_given
-each-dot k f None = tt
-each-dot k f (Some d) = (k.setdot f d.0 d.1, tt)
+each_outcome : (Q : List ℕ → Type 0) → ((s : List ℕ) → length s ≤ most_in_name → Q s) → (x : Option ℕ) (fs : PlainFiles) (o : PlainOutcome) → HasShortParts o
+    → EachFrame (IsTold Q) (told_outcome x fs o)
+unfolding told_outcome when_given
+each_outcome Q name None fs o h = each-given (IsTold Q) IsPattern o.pattern Hsetpat (λ s short. short.1) h.1
+each_outcome Q name (Some f) fs o h =
+    let P = IsTold Q in
+    let edits = each_edits Q fs f (reverse o.edits) in
+    let dirty = each-when P (not (is_empty o.edits) && not (file_at fs f).dirty) (Hdirty f ∷ []) (tt, tt) in
+    let named = each-given P (λ (s : List ℕ). length s ≤ most_in_name) o.name (Hmovname f) (λ s short. name s short) h.0 in
+    let pattern = each-given P IsPattern o.pattern Hsetpat (λ s short. short.1) h.1 in
+    let check = each-when P (not (is_empty o.edits)) (Hcheck f ∷ []) (tt, tt) in
+    each-both P _ _ (each-both P _ _ (each-both P _ _ (each-both P _ _ (each-both P _ _ edits dirty) named) pattern) (dot o.dot)) check
+  where
+    dot : (d : Option Range) → EachFrame (IsTold Q) (when_given d (λ d. Hsetdot f d.0 d.1))
+    dot None = tt
+    dot (Some d) = (tt, tt)
 
-pub each_outcome : {P : Hmesg → Type 0} {Q : List ℕ → Type 0} → AreParts P Q → (x : Option ℕ) (fs : PlainFiles) (o : PlainOutcome) → HasShortParts o
-    → EachFrame P (told_outcome x fs o)
-unfolding told_outcome
-each_outcome {P} {Q} k None fs o h = each-given P IsPattern o.pattern Hsetpat (λ s short. k.setpat s short.1) h.1
-each_outcome {P} {Q} k (Some f) fs o h =
-    let edits = each_edits k fs f (reverse o.edits) in
-    let dirty = each-when P (not (is_empty o.edits) && not (file_at fs f).dirty) (Hdirty f ∷ []) (k.dirty f, tt) in
-    let name = each-given P (λ (name : List ℕ). length name ≤ most_in_name) o.name (Hmovname f) (λ s short. k.movname f s (k.name s short)) h.0 in
-    let pattern = each-given P IsPattern o.pattern Hsetpat (λ s short. k.setpat s short.1) h.1 in
-    let dot = each-dot k f o.dot in
-    let check = each-when P (not (is_empty o.edits)) (Hcheck f ∷ []) (k.check f, tt) in
-    each-both P _ _ (each-both P _ _ (each-both P _ _ (each-both P _ _ (each-both P _ _ edits dirty) name) pattern) dot) check
-
-pub each_names : {P : Hmesg → Type 0} {Q : List ℕ → Type 0} → AreParts P Q → (f : ℕ) (ss : Slots PlainFile) → ((g : ℕ) → Q (unwrap_or (slot ss g) blank_file).name)
-    → EachFrame P (told_names f ss)
+each_names : (Q : List ℕ → Type 0) (f : ℕ) (ss : Slots PlainFile) → ((g : ℕ) → Q (unwrap_or (slot ss g) blank_file).name) → EachFrame (IsTold Q) (told_names f ss)
 unfolding told_names
-each_names k f [] h = tt
-each_names k f (None ∷ ss) h = each_names k (1 + f) ss (λ g. h (suc g))
-each_names {P} {Q} k f (Some file ∷ ss) h =
-    each-both P _ (told_names (1 + f) ss)
-    (each-when P (not file.announced) (Hnewname f ∷ Hmovname f file.name ∷ []) (k.newname f, (k.movname f file.name (h 0), tt)))
-    (each_names k (1 + f) ss (λ g. h (suc g)))
+each_names Q f [] h = tt
+each_names Q f (None ∷ ss) h = each_names Q (1 + f) ss (λ g. h (suc g))
+each_names Q f (Some file ∷ ss) h =
+    each-both (IsTold Q) _ (told_names (1 + f) ss) (each-when (IsTold Q) (not file.announced) (Hnewname f ∷ Hmovname f file.name ∷ []) (tt, (h 0, tt))) (each_names Q (1 + f) ss (λ g. h (suc g)))
 
 behind-first : (Q : List ℕ → Type 0) (ss : Slots PlainFile) → ((g : ℕ) → Q (unwrap_or (slot ss g) blank_file).name) → (g : ℕ) → Q (unwrap_or (slot (drop 1 ss) g) blank_file).name
 behind-first Q [] h g = h g
 behind-first Q (s ∷ ss) h g = h (suc g)
 
--- ## The kinds
+-- ## How answers end
 
-each_found : {P : Hmesg → Type 0} {E : Freed → Hmesg → Type 0} {Q : List ℕ → Type 0} → AreFrames P E Q → (h : PlainHost) (f : ℕ) (d : Option Range) (frames : List Hmesg) → EachFrame P frames
-    → EndsWith P (E (File f)) (reply_found h f d frames).1
-each_found k h f None frames before = unlocks_file k f [] tt
-each_found {P} {E} k h f (Some d) frames before =
-    behind P (E (File f)) frames _ before (unlocks_file k f (Hsetdot f d.0 d.1 ∷ Hmoveto f d.0 ∷ Hcheck f ∷ []) (k.parts.setdot f d.0 d.1, (k.moveto f d.0, (k.parts.check f, tt))))
+ends : (Q : List ℕ → Type 0) (l : Freed) (front : List Hmesg) → EachFrame (IsTold Q) front → Ends Q l (front ++ end_frames l false)
+ends Q l front told = record { front = front; quits = false; is = refl; told = told }
 
-each_line : {P : Hmesg → Type 0} {E : Freed → Hmesg → Type 0} {Q : List ℕ → Type 0} → AreFrames P E Q → (h : PlainHost) (before : List Hmesg) (line : List ℕ) → EachFrame P before
-    → EndsWith P (E Command) (reply_line h before line).1
-each_line {P} {E} k h before line front =
+behind : (Q : List ℕ → Type 0) (l : Freed) (xs ys : List Hmesg) → EachFrame (IsTold Q) xs → Ends Q l ys → Ends Q l (xs ++ ys)
+behind Q l xs ys told k = record {
+  front = xs ++ k.front;
+  quits = k.quits;
+  is = ap (λ (ms : List Hmesg). xs ++ ms) k.is ∙ sym (append_assoc xs k.front (end_frames l k.quits));
+  told = each-both (IsTold Q) xs k.front told k.told;
+}
+
+ends-if : (Q : List ℕ → Type 0) (l : Bool → Freed) (b : Bool) (x y : Reply) → (b ≡ true → Ends Q (l true) x.1) → Ends Q (l false) y.1 → Ends Q (l b) (cond b x y).1
+ends-if Q l true x y h k = h refl
+ends-if Q l false x y h k = k
+
+ends-when : (Q : List ℕ → Type 0) (l : Freed) (b : Bool) (ms : List Hmesg) → Ends Q l ms → Ends Q (cond b l Nothing) (when b ms)
+unfolding when
+ends-when Q l true ms h = h
+ends-when Q l false ms h = ends Q Nothing [] tt
+
+ends-found : (Q : List ℕ → Type 0) (h : PlainHost) (f : ℕ) (d : Option Range) (frames : List Hmesg) → EachFrame (IsTold Q) frames → Ends Q (File f) (reply_found h f d frames).1
+ends-found Q h f None frames before = ends Q (File f) [] tt
+ends-found Q h f (Some d) frames before = behind Q (File f) frames _ before (ends Q (File f) (Hsetdot f d.0 d.1 ∷ Hmoveto f d.0 ∷ Hcheck f ∷ []) (tt, (tt, (tt, tt))))
+
+ends-line : (Q : List ℕ → Type 0) → ((s : List ℕ) → length s ≤ most_in_name → Q s) → (h : PlainHost) (before : List Hmesg) (line : List ℕ) → EachFrame (IsTold Q) before
+    → Ends Q Command (reply_line h before line).1
+ends-line Q name h before line front =
     let o = meaning h.files line in
     let fs = committed h.files o in
-    let told = each_outcome k.parts o.file h.files o (line_short (work_file h.files) line) in
+    let told = each_outcome Q name o.file h.files o (line_short (work_file h.files) line) in
     record {
       front = (before ++ told_outcome o.file h.files o) ++ printed fs o.printed;
-      last = if o.quit then Hexit else Hunlock;
+      quits = o.quit;
       is = refl;
-      each = each-both P _ _ (each-both P before _ front told) (each_printed k.parts fs o.printed);
-      end = each-choice (E Command) o.quit Hexit Hunlock (λ e. k.exit) k.unlock;
+      told = each-both (IsTold Q) _ _ (each-both (IsTold Q) before _ front told) (each_printed Q fs o.printed);
     }
+
+-- ## The kinds
 
 -- what may be looked for is no longer than a pattern
 look-short : (lit : List ℕ) → may_look lit ≡ true → length lit ≤ most_in_pattern
@@ -251,74 +208,93 @@ lock_freed h Texit = Command
 lock_freed h _ = Nothing
 
 -- what is told of each kind: of Tversion behind the version, and nothing of Tstartsnarf
-abbrev pub EndsOf : (Hmesg → Type 0) → (Freed → Hmesg → Type 0) → PlainHost → Tmesg → Type 0
-EndsOf P E h (Tversion v) = EndsWith P (E Command) (told_names 1 (drop 1 h.files.slots) ++ Hack ∷ Hunlock ∷ [])
-EndsOf P E h Tstartsnarf = Unit {0}
-EndsOf P E h m = Ends P E (lock_freed h m) (reply_to h m).1
+abbrev pub EndsOf : (List ℕ → Type 0) → PlainHost → Tmesg → Type 0
+EndsOf Q h (Tversion v) = Ends Q Command (told_names 1 (drop 1 h.files.slots) ++ Hack ∷ Hunlock ∷ [])
+EndsOf Q h Tstartsnarf = Unit {0}
+EndsOf Q h m = Ends Q (lock_freed h m) (reply_to h m).1
 
-pub reply_ends : {P : Hmesg → Type 0} {E : Freed → Hmesg → Type 0} {Q : List ℕ → Type 0} → AreFrames P E Q → (h : PlainHost) (m : Tmesg) → ((f : ℕ) → Q (file_at h.files f).name) → EndsOf P E h m
+pub reply_ends : (Q : List ℕ → Type 0) → ((s : List ℕ) → length s ≤ most_in_name → Q s) → (h : PlainHost) (m : Tmesg) → ((f : ℕ) → Q (file_at h.files f).name) → EndsOf Q h m
 unfolding replies_opened
-reply_ends {P} {E} {Q} k h (Tversion v) names =
-    let told = told_names 1 (drop 1 h.files.slots) in
-    behind P (E Command) told _ (each_names k.parts 1 (drop 1 h.files.slots) (behind-first Q h.files.slots names)) (unlocks k (Hack ∷ []) (k.ack, tt))
-reply_ends {P} {E} k h Tstartcmdfile names =
+reply_ends Q name h (Tversion v) names =
+    behind Q Command (told_names 1 (drop 1 h.files.slots)) _ (each_names Q 1 (drop 1 h.files.slots) (behind-first Q h.files.slots names)) (ends Q Command (Hack ∷ []) (tt, tt))
+reply_ends Q name h Tstartcmdfile names =
     let file = file_at h.files 0 in
     let named = Hnewname 0 ∷ Hmovname 0 command_name ∷ Hbindname 0 ∷ [] in
-    let short = k.parts.movname 0 command_name (k.parts.name command_name (omega arith)) in
-    ends-if P E (λ b. Command) file.opened (h, _) (with_file h 0 _, (named ++ told_length 0 file) ++ Hunlock ∷ []) (λ e. unlocks k [] tt)
-    (unlocks k (named ++ told_length 0 file) (each-both P named (told_length 0 file) (k.parts.newname 0, (short, (k.bindname 0, tt))) (each_length k.parts 0 file)))
-reply_ends k h (Tcheck f) names = (k.parts.check f, tt)
-reply_ends {P} {E} k h (Trequest f p n) names =
+    ends-if Q (λ b. Command) file.opened (h, _) (with_file h 0 _, (named ++ told_length 0 file) ++ Hunlock ∷ []) (λ e. ends Q Command [] tt)
+    (ends Q Command (named ++ told_length 0 file) (each-both (IsTold Q) named (told_length 0 file) (tt, (name command_name (omega arith), (tt, tt))) (each_length Q 0 file)))
+reply_ends Q name h (Tcheck f) names = ends Q Nothing (Hcheck f ∷ []) (tt, tt)
+reply_ends Q name h (Trequest f p n) names =
     let t = (file_at h.files f).text in
     let a = min p (length t) in
     let b = min (p + min n most_in_message) (length t) in
-    ends-when P E (File f) (has_file h.files f) _ (unlocks_file k f (Hdata f a (part t a b) ∷ []) (k.loaded f a (part t a b) (part-short t a b most_in_message (omega arith)), tt))
-reply_ends k h (Torigin f p n) names = unlocks_file k f (Horigin f _ ∷ []) (k.origin f _, tt)
-reply_ends {P} k h (Tstartfile f) names =
+    ends-when Q (File f) (has_file h.files f) _ (ends Q (File f) (Hdata f a (part t a b) ∷ []) (part-short t a b most_in_message (omega arith), tt))
+reply_ends Q name h (Torigin f p n) names = ends Q (File f) (Horigin f _ ∷ []) (tt, tt)
+reply_ends Q name h (Tstartfile f) names =
     let file = file_at h.files f in
     let opening = Hbindname f ∷ told_length f file in
-    unlocks k (when (not file.opened) opening) (each-when P (not file.opened) opening (k.bindname f, each_length k.parts f file))
-reply_ends k h (Tworkfile f p q) names = (k.current f, tt)
-reply_ends {P} {E} k h (Ttype f p s) names =
-    ends-if P E (λ b. if b then Command else Nothing) ((f == 0) && ends_line s) _ _ (λ e. each_line k (with_file h f (typed_file f (file_at h.files f) p s)) [] _ tt) tt
-reply_ends k h (Tcut f p q) names = tt
-reply_ends {P} {E} k h (Tpaste f p) names =
+    ends Q Command (when (not file.opened) opening) (each-when (IsTold Q) (not file.opened) opening (tt, each_length Q f file))
+reply_ends Q name h (Tworkfile f p q) names = ends Q Nothing (Hcurrent f ∷ []) (tt, tt)
+reply_ends Q name h (Ttype f p s) names =
+    ends-if Q (λ b. if b then Command else Nothing) ((f == 0) && ends_line s) _ _
+    (λ e. ends-line Q name (with_file h f (typed_file f (file_at h.files f) p s)) [] _ tt) (ends Q Nothing [] tt)
+reply_ends Q name h (Tcut f p q) names = ends Q Nothing [] tt
+reply_ends Q name h (Tpaste f p) names =
     let s = h.files.snarf in
-    ends-if P E (λ b. File f) (is_empty s || nat_lt max_runes (length (file_at h.files f).text + length s)) _ _ (λ e. unlocks_file k f [] tt)
-    (behind P (E (File f)) _ _ (each-both P _ _ (each_grown k.parts h.files f p s) (each_dirty k.parts h.files f))
-    (unlocks_file k f (Hsetdot f p (p + length s) ∷ Hcheck f ∷ []) (k.parts.setdot f p (p + length s), (k.parts.check f, tt))))
-reply_ends k h (Tsnarf f p q) names = (k.snarflen (q - p), tt)
-reply_ends {P} {E} k h Tstartnewfile names =
+    ends-if Q (λ b. File f) (is_empty s || nat_lt max_runes (length (file_at h.files f).text + length s)) _ _ (λ e. ends Q (File f) [] tt)
+    (behind Q (File f) _ _ (each-both (IsTold Q) _ _ (each_grown Q h.files f p s) (each_dirty Q h.files f)) (ends Q (File f) (Hsetdot f p (p + length s) ∷ Hcheck f ∷ []) (tt, (tt, tt))))
+reply_ends Q name h (Tsnarf f p q) names = ends Q Nothing (Hsnarflen (q - p) ∷ []) (tt, tt)
+reply_ends Q name h Tstartnewfile names =
     let f = length h.files.slots in
-    ends-if P E (λ b. Command) (nat_le all_tags f) _ _ (λ e. unlocks k (printed h.files no_tag_left) (each_printed k.parts h.files no_tag_left))
-    (unlocks k (Hnewname f ∷ Hbindname f ∷ Hcurrent f ∷ []) (k.parts.newname f, (k.bindname f, (k.current f, tt))))
-reply_ends k h (Twrite f) names = unlocks_file k f (Hclean f ∷ []) (k.clean f, tt)
-reply_ends k h (Tclose f) names = unlocks k (Hclose f ∷ Hdelname f ∷ []) (k.close f, (k.delname f, tt))
-reply_ends {P} {E} k h (Tlook f p q) names =
+    ends-if Q (λ b. Command) (nat_le all_tags f) _ _ (λ e. ends Q Command (printed h.files no_tag_left) (each_printed Q h.files no_tag_left))
+    (ends Q Command (Hnewname f ∷ Hbindname f ∷ Hcurrent f ∷ []) (tt, (tt, (tt, tt))))
+reply_ends Q name h (Twrite f) names = ends Q (File f) (Hclean f ∷ []) (tt, tt)
+reply_ends Q name h (Tclose f) names = ends Q Command (Hclose f ∷ Hdelname f ∷ []) (tt, (tt, tt))
+reply_ends Q name h (Tlook f p q) names =
     let t = (file_at h.files f).text in
     let lit = part t p q in
     let sought = with_files h (record h.files { pattern = Some lit }) in
-    ends-if P E (λ b. File f) (may_look lit) (reply_found sought f (searched t lit q) (Hsetpat lit ∷ [])) (h, Hunlockfile f ∷ [])
-    (λ e. each_found k sought f (searched t lit q) (Hsetpat lit ∷ []) (k.parts.setpat lit (look-short lit e), tt)) (unlocks_file k f [] tt)
-reply_ends k h (Tsearch f p q) names = each_found k h f (searched_for h.files.pattern (file_at h.files f).text q) [] tt
-reply_ends {P} {E} k h (Tsend f p q) names =
+    ends-if Q (λ b. File f) (may_look lit) (reply_found sought f (searched t lit q) (Hsetpat lit ∷ [])) (h, Hunlockfile f ∷ [])
+    (λ e. ends-found Q sought f (searched t lit q) (Hsetpat lit ∷ []) (look-short lit e, tt)) (ends Q (File f) [] tt)
+reply_ends Q name h (Tsearch f p q) names = ends-found Q h f (searched_for h.files.pattern (file_at h.files f).text q) [] tt
+reply_ends Q name h (Tsend f p q) names =
     let s = as_lines (part (file_at h.files f).text p q) in
-    ends-if P E (λ b. Command) ((p == q) || not (has_room h.files s)) _ _ (λ e. unlocks k [] tt)
-    (each_line k (with_files h (after_print h.files s)) (printed h.files s) (last_line s) (each_printed k.parts h.files s))
-reply_ends k h (Tdclick f p) names = unlocks_file k f (Hsetdot f _ _ ∷ []) (k.parts.setdot f _ _, tt)
-reply_ends k h Tstartsnarf names = tt
-reply_ends k h (Tsetsnarf s) names = (k.snarflen (length s), tt)
-reply_ends k h Tack names = tt
-reply_ends k h Texit names = record { front = []; last = Hexit; is = refl; each = tt; end = k.exit }
+    ends-if Q (λ b. Command) ((p == q) || not (has_room h.files s)) _ _ (λ e. ends Q Command [] tt)
+    (ends-line Q name (with_files h (after_print h.files s)) (printed h.files s) (last_line s) (each_printed Q h.files s))
+reply_ends Q name h (Tdclick f p) names = ends Q (File f) (Hsetdot f _ _ ∷ []) (tt, tt)
+reply_ends Q name h Tstartsnarf names = tt
+reply_ends Q name h (Tsetsnarf s) names = ends Q Nothing (Hsnarflen (length s) ∷ []) (tt, tt)
+reply_ends Q name h Tack names = ends Q Nothing [] tt
+reply_ends Q name h Texit names = record { front = []; quits = true; is = refl; told = tt }
 
 -- ## What holds of all frames alike
+
+-- P holds of every frame of an answer, but for Hversion and Hsetsnarf
+pub record AreFrames (P : Hmesg → Type 0) (Q : List ℕ → Type 0) : Type 0 where
+  pub name : (s : List ℕ) → length s ≤ most_in_name → Q s
+  pub told : (m : Hmesg) → IsTold Q m → P m
+  pub unlock : P Hunlock
+  pub unlockfile : (f : ℕ) → P (Hunlockfile f)
+  pub exit : P Hexit
+
+each-ended : {P : Hmesg → Type 0} {Q : List ℕ → Type 0} → AreFrames P Q → (l : Freed) (ms : List Hmesg) → Ends Q l ms → EachFrame P ms
+each-ended {P} {Q} k l ms e = subst (EachFrame P) (sym e.is) (each-both P e.front (end_frames l e.quits) (each e.front e.told) (end l e.quits))
+  where
+    each : (ms : List Hmesg) → EachFrame (IsTold Q) ms → EachFrame P ms
+    each [] told = tt
+    each (m ∷ ms) told = (k.told m told.0, each ms told.1)
+
+    end : (l : Freed) (quits : Bool) → EachFrame P (end_frames l quits)
+    end Nothing quits = tt
+    end Command true = (k.exit, tt)
+    end Command false = (k.unlock, tt)
+    end (File f) quits = (k.unlockfile f, tt)
 
 abbrev pub EachOf : (Hmesg → Type 0) → PlainHost → Tmesg → Type 0
 EachOf P h (Tversion v) = EachFrame P (told_names 1 (drop 1 h.files.slots) ++ Hack ∷ Hunlock ∷ [])
 EachOf P h Tstartsnarf = Unit {0}
 EachOf P h m = EachFrame P (reply_to h m).1
 
-pub reply_each : {P : Hmesg → Type 0} {Q : List ℕ → Type 0} → AreFrames P (λ l. P) Q → (h : PlainHost) (m : Tmesg) → ((f : ℕ) → Q (file_at h.files f).name) → EachOf P h m
-reply_each {P} k h (Tversion v) names = all-of P _ (reply_ends k h (Tversion v) names)
+pub reply_each : {P : Hmesg → Type 0} {Q : List ℕ → Type 0} → AreFrames P Q → (h : PlainHost) (m : Tmesg) → ((f : ℕ) → Q (file_at h.files f).name) → EachOf P h m
+reply_each {P} {Q} k h (Tversion v) names = each-ended k Command _ (reply_ends Q k.name h (Tversion v) names)
 reply_each k h Tstartsnarf names = tt
-reply_each {P} k h m names = ends-each P (lock_freed h m) (reply_to h m).1 (reply_ends k h m names)
+reply_each {P} {Q} k h m names = each-ended k (lock_freed h m) (reply_to h m).1 (reply_ends Q k.name h m names)

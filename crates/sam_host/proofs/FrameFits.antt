@@ -8,10 +8,10 @@ use Rattle.sam_mesg.proofs.Versions.{grows_h}
 use Rattle.sam_mesg.specs.declared.tmesg.Tmesg.{Tmesg}
 use Rattle.sam_mesg.specs.declared.tmesg.Tmesg.TheVariants.{Tversion, Tstartsnarf}
 use Rattle.sam_mesg.specs.declared.hmesg.Hmesg.{Hmesg}
-use Rattle.sam_mesg.specs.declared.hmesg.Hmesg.TheVariants.{Hsetsnarf}
+use Rattle.sam_mesg.specs.declared.hmesg.Hmesg.TheVariants.{Hversion, Hdata, Hmovname, Hgrowdata, Hsetpat, Hsetsnarf}
 use Rattle.sam_host.specs.Host.{PlainHost, stamped, reply_version, reply_startsnarf, reply_to}
 use Rattle.sam_host.specs.Laws.{AreNamesShort, FitInPlace}
-use Rattle.sam_host.proofs.EachFrame.{EachFrame, AreFrames, reply_each}
+use Rattle.sam_host.proofs.EachFrame.{EachFrame, IsTold, AreFrames, reply_each}
 
 -- a message that fits in every version
 abbrev pub Always : Hmesg → Type 0
@@ -21,34 +21,17 @@ pub all-stamped : (v seen : ℕ) (ms : List Hmesg) → EachFrame Always ms → F
 all-stamped v seen [] h = tt
 all-stamped v seen (m ∷ ms) h = (h.0 v, h.0 2, all-stamped (after_h v m) seen ms h.1)
 
-always : AreFrames Always (λ l. Always) (λ s. length s ≤ most_in_name)
-always = record {
-  parts = record {
-    name = λ s short. short;
-    newname = λ f v. refl;
-    movname = λ f s short v. le-leb (length s) most_in_name short;
-    grow = λ f p n v. refl;
-    growdata = λ f p s short v. le-leb (length s) most_in_message short;
-    cut = λ f p n v. refl;
-    setdot = λ f p q v. refl;
-    check = λ f v. refl;
-    dirty = λ f v. refl;
-    setpat = λ s short v. le-leb (length s) most_in_pattern short;
-  };
-  unlock = λ v. refl;
-  unlockfile = λ f v. refl;
-  bindname = λ f v. refl;
-  current = λ f v. refl;
-  loaded = λ f p s short v. le-leb (length s) most_in_message short;
-  origin = λ f p v. refl;
-  moveto = λ f p v. refl;
-  clean = λ f v. refl;
-  delname = λ f v. refl;
-  close = λ f v. refl;
-  snarflen = λ n v. refl;
-  ack = λ v. refl;
-  exit = λ v. refl;
-}
+always : AreFrames Always (λ s. length s ≤ most_in_name)
+always = record { name = λ s short. short; told = told; unlock = λ v. refl; unlockfile = λ f v. refl; exit = λ v. refl }
+  where
+    told : (m : Hmesg) → IsTold (λ s. length s ≤ most_in_name) m → Always m
+    told (Hversion v) i = absurd i
+    told (Hsetsnarf s) i = absurd i
+    told (Hmovname f s) i = λ v. le-leb (length s) most_in_name i
+    told (Hgrowdata f p s) i = λ v. le-leb (length s) most_in_message i
+    told (Hdata f p s) i = λ v. le-leb (length s) most_in_message i
+    told (Hsetpat s) i = λ v. le-leb (length s) most_in_pattern i
+    told _ i = λ v. refl
 
 snarf-fits : (v : ℕ) (s : List ℕ) → fits_h v (Hsetsnarf (prefix_in_bytes s (snarf_limit v))) ≡ true
 snarf-fits v s = le-leb (utf8_length (prefix_in_bytes s (snarf_limit v))) (snarf_limit v) (prefix_within s (snarf_limit v))

@@ -7,7 +7,7 @@ use Rattle.sam_mesg.specs.declared.tmesg.Tmesg.{Tmesg}
 use Rattle.sam_mesg.specs.declared.tmesg.Tmesg.TheVariants.{Tversion, Tstartsnarf}
 use Rattle.sam_mesg.specs.declared.hmesg.Hmesg.{Hmesg}
 use Rattle.sam_mesg.specs.declared.hmesg.Hmesg.TheVariants.{Hversion, Hbindname, Hcurrent, Hnewname, Hmovname, Hgrow, Hcheck, Hunlock, Hdata, Horigin, Hunlockfile, Hsetdot, Hgrowdata, Hmoveto, Hclean, Hdirty, Hcut, Hdelname, Hclose, Hack}
-use Rattle.sam_host.proofs.EachFrame.{EachFrame, AreFrames, reply_each}
+use Rattle.sam_host.proofs.EachFrame.{EachFrame, IsTold, AreFrames, reply_each}
 use Rattle.sam_host.specs.Host.{reply_version, reply_startsnarf, PlainHost, told_names, reply_to}
 use Rattle.sam_protocol.specs.Lens.{Action, Skip, Needs_known, Needs_open, Join, Bind, Close, Leave, Grow, Fill, Insert, Cut, Place, Change, Free_file}
 use Rattle.sam_protocol.proofs.Lenses.{is_change, changes, is_free_command, frees_command}
@@ -39,34 +39,12 @@ versions-append (m ∷ a) b p q = ((λ e. unlocks-append a b (p.0 e)), versions-
 
 -- ## No answer but that to Tversion has an Hversion
 
-pub plain_frames : AreFrames (λ m. is_version m ≡ false) (λ l m. is_version m ≡ false) (λ s. Unit {0})
-plain_frames = record {
-  parts = record {
-    name = λ s short. tt;
-    newname = λ f. refl;
-    movname = λ f s short. refl;
-    grow = λ f p n. refl;
-    growdata = λ f p s short. refl;
-    cut = λ f p n. refl;
-    setdot = λ f p q. refl;
-    check = λ f. refl;
-    dirty = λ f. refl;
-    setpat = λ s short. refl;
-  };
-  unlock = refl;
-  unlockfile = λ f. refl;
-  bindname = λ f. refl;
-  current = λ f. refl;
-  loaded = λ f p s short. refl;
-  origin = λ f p. refl;
-  moveto = λ f p. refl;
-  clean = λ f. refl;
-  delname = λ f. refl;
-  close = λ f. refl;
-  snarflen = λ n. refl;
-  ack = refl;
-  exit = refl;
-}
+pub plain_frames : AreFrames (λ m. is_version m ≡ false) (λ s. Unit {0})
+plain_frames = record { name = λ s short. tt; told = told; unlock = refl; unlockfile = λ f. refl; exit = refl }
+  where
+    told : (m : Hmesg) → IsTold (λ s. Unit {0}) m → is_version m ≡ false
+    told (Hversion v) i = absurd i
+    told _ i = refl
 
 -- no Hversion, where the message is not Tversion
 abbrev pub HasNoVersion : PlainHost → Tmesg → Type 0
