@@ -16,8 +16,9 @@ use Rattle.sam_script.specs.declared.fault.LineFault.{LineFault}
 use Rattle.sam_script.specs.declared.fault.LineFault.TheVariants.{Wrong, OutOfMemory}
 use Rattle.sam_world.specs.Given.{IsFile}
 use Rattle.sam_script.specs.Spelling.{SpellsParts, IsWord, SpellsFile, SpellsLine, SaysNothing, SaysSo, Says}
-use Rattle.sam_script.specs.Spelling.Part.{Rest}
-use Rattle.sam_script.specs.Reading.{◌>>=◌, word_of, behind_word, word_at, text_at, event_at, fitting_name, fitting_text, file_text_at, file_at, bare, line_readers, is_silent, line_at, Gives, IsUnsaid}
+use Rattle.sam_script.specs.Events.Part.{Rest}
+use Rattle.sam_script.specs.Reading.{event_at, fitting_name, fitting_text, file_text_at, file_at, bare, line_readers, is_silent, line_at, IsUnsaid}
+use Rattle.sam_script.specs.Words.{◌>>=◌, word_of, behind_word, word_at, text_at, Gives}
 use Rattle.sam_script.proofs.SpellingLaws.{bind_some, ended_says, IsEnd, word_ends, word_split, word_says, word_read, utf8_tail, utf8_rear, utf8_front, text_says, text_read, parts_end, ReadsAs, rows_say, event_says, event_read}
 
 -- ## A file

@@ -24,8 +24,9 @@ use Rattle.sam_script.specs.declared.line.Said.{Said}
 use Rattle.sam_script.specs.declared.line.Said.TheVariants as said
 use Rattle.sam_script.specs.Script.{PlainScript}
 use Rattle.sam_script.specs.Show.{text_shown, text_rune}
-use Rattle.sam_script.specs.Spelling.{Part, part_shown, spelling, form, IsNumber, SpellsParts, IsWord, SaysSo, Says, files_said, lines_said, AreFilesFirst, lines_of, Spells}
-use Rattle.sam_script.specs.Spelling.Part.{Number, Rest}
+use Rattle.sam_script.specs.Spelling.{part_shown, spelling, IsNumber, SpellsParts, IsWord, SaysSo, Says, files_said, lines_said, AreFilesFirst, lines_of, Spells}
+use Rattle.sam_script.specs.Events.{Part, form}
+use Rattle.sam_script.specs.Events.Part.{Number, Rest}
 use Rattle.sam_script.specs.RunLines.{event_line, file_line, run_lines_of, line_of, numbered_from, run_script, CanBeNamed, IsFitting, CanBeWritten}
 use Rattle.sam_script.proofs.ScriptLaws.{spells_one}
 

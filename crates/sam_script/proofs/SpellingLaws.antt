@@ -14,9 +14,11 @@ use Rattle.sam_term.specs.declared.event.UserEvent.{UserEvent}
 use Rattle.sam_term.specs.declared.event.UserEvent.TheVariants.{Typed, Select, Cut, Paste, Snarf, Look, Search, Send, Dclick, Scroll, View, Open, Close, Write, Work, OpenCmd, New, Exit, Check, GetSnarf, SetSnarf, Version}
 use Rattle.sam_term.specs.declared.event.UserEvent.TheVariants as user
 use Rattle.sam_script.specs.Show.{text_shown, text_rune}
-use Rattle.sam_script.specs.Spelling.{Part, Tag, Place, form, IsNumber, SpellsParts, SpellsEvent, IsWord}
-use Rattle.sam_script.specs.Spelling.Part.{Number, Rest}
-use Rattle.sam_script.specs.Reading.{◌>>=◌, word_of, behind_word, word_at, number_of, number_at, unescaped, text_at, ended, tag_alone, tag_and_place, tag_and_range, tag_and_text, Reader, by_tag, by_place, by_range, readers, read_by, event_at}
+use Rattle.sam_script.specs.Spelling.{IsNumber, SpellsParts, SpellsEvent, IsWord}
+use Rattle.sam_script.specs.Events.{Part, Tag, Place, form, Reader, by_tag, by_place, by_range, readers}
+use Rattle.sam_script.specs.Events.Part.{Number, Rest}
+use Rattle.sam_script.specs.Reading.{read_by, event_at}
+use Rattle.sam_script.specs.Words.{◌>>=◌, word_of, behind_word, word_at, number_of, number_at, unescaped, text_at, ended, tag_alone, tag_and_place, tag_and_range, tag_and_text}
 use Rattle.sam_script.proofs.WordLaws.{some_number}
 
 -- ## Options and tests

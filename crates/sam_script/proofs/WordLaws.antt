@@ -6,7 +6,7 @@ use Rattle.std.specs.Str.Parse.{ParsesUnsigned, digits_value}
 use Rattle.std.proofs.lemmas.Str.Parse.{parse_plain, numerals_by_value, tells_all_ascii_digits}
 use Rattle.std.proofs.lemmas.Bool.{ne_eqb, lt-ltb, ltb-true}
 use Rattle.std.proofs.lemmas.Bool.Decides.{nat_tests}
-use Rattle.sam_script.specs.Reading.{word_of, behind_word, word_at, number_of, unescaped, meant, text_at, ended, ◌>>=◌}
+use Rattle.sam_script.specs.Words.{word_of, behind_word, word_at, number_of, unescaped, meant, text_at, ended, ◌>>=◌}
 use Rattle.std.proofs.lemmas.List.{at_drop_more, at_drop_all}
 
 pub cons_word : (b : ℕ) (bytes : List ℕ) → b ≢ 32 → word_of (b ∷ bytes) ≡ b ∷ word_of bytes

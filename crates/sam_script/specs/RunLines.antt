@@ -7,8 +7,9 @@ use Rattle.sam_world.specs.declared.event.Event.{Event}
 use Rattle.sam_world.specs.declared.event.Event.TheVariants.{User, Act, Flush, HostTake, TermTake}
 use Rattle.sam_script.specs.Show.{text_shown}
 use Rattle.sam_script.specs.Script.{PlainScript}
-use Rattle.sam_script.specs.Spelling.{Part, form, spelling}
-use Rattle.sam_script.specs.Spelling.Part.{Number, Rest}
+use Rattle.sam_script.specs.Spelling.{spelling}
+use Rattle.sam_script.specs.Events.{Part, form}
+use Rattle.sam_script.specs.Events.Part.{Number, Rest}
 use Rattle.sam_script.specs.declared.line.Line.{Line}
 use Rattle.sam_script.specs.declared.line.Line.TheVariants as line
 use Rattle.sam_script.specs.declared.line.Numbered.{Numbered}

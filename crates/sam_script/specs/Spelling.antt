@@ -6,11 +6,11 @@ use Rattle.std.specs.Str.{IsUtf8, all_ascii_digits}
 use Rattle.std.specs.Str.Parse.{digits_value}
 use Rattle.sam_runes.specs.Texts.{most_files}
 use Rattle.sam_term.specs.declared.event.UserEvent.{UserEvent}
-use Rattle.sam_term.specs.declared.event.UserEvent.TheVariants.{Typed, Select, Cut, Paste, Snarf, Look, Search, Send, Dclick, Scroll, View, Open, Close, Write, Work, OpenCmd, New, Exit, Check, GetSnarf, SetSnarf, Version}
-use Rattle.sam_term.specs.declared.event.UserEvent.TheVariants as user
 use Rattle.sam_world.specs.Given.{IsFile}
 use Rattle.sam_script.specs.Script.{PlainScript}
 use Rattle.sam_script.specs.Show.{text_shown}
+use Rattle.sam_script.specs.Events.{Part, form}
+use Rattle.sam_script.specs.Events.Part.{Number, Rest}
 use Rattle.sam_script.specs.declared.line.Line.{Line}
 use Rattle.sam_script.specs.declared.line.Line.TheVariants.{Key, Mouse, Act, Flush, Host, Term, Drain, Show}
 use Rattle.sam_script.specs.declared.line.Said.{Said}
@@ -20,44 +20,6 @@ use Rattle.sam_script.specs.declared.fault.ScriptFault.{ScriptFault}
 use Rattle.sam_script.specs.declared.fault.ScriptFault.TheVariants as fault
 
 -- ## The spelling of an event
-
--- what stands behind a word: a number of so many bits, or a text that takes the rest of the line
-pub data Part : Type 0 where
-  Number : ℕ → ℕ → Part
-  Rest : List ℕ → Part
-
--- a tag or a version; a place, a length or a count of lines
-abbrev pub Tag : ℕ → Part
-Tag f = Number 16 f
-
-abbrev pub Place : ℕ → Part
-Place p = Number 32 p
-
--- the word and the parts of each event
-abbrev pub form : UserEvent → List ℕ × List Part
-form (Typed f s) = (codes "type", Tag f ∷ Rest s ∷ [])
-form (Select f p q) = (codes "select", Tag f ∷ Place p ∷ Place q ∷ [])
-form (Cut f) = (codes "cut", Tag f ∷ [])
-form (Paste f) = (codes "paste", Tag f ∷ [])
-form (Snarf f) = (codes "snarf", Tag f ∷ [])
-form (Look f) = (codes "look", Tag f ∷ [])
-form (Search f) = (codes "search", Tag f ∷ [])
-form (Send f) = (codes "send", Tag f ∷ [])
-form (Dclick f p) = (codes "dclick", Tag f ∷ Place p ∷ [])
-form (Scroll f n) = (codes "scroll", Tag f ∷ Place n ∷ [])
-form (View f p n) = (codes "view", Tag f ∷ Place p ∷ Place n ∷ [])
-form (Open f) = (codes "open", Tag f ∷ [])
-form (Close f) = (codes "close", Tag f ∷ [])
-form (Write f) = (codes "write", Tag f ∷ [])
-form (Work f) = (codes "work", Tag f ∷ [])
-form OpenCmd = (codes "opencmd", [])
-form New = (codes "new", [])
-form Exit = (codes "exit", [])
-form (Check f) = (codes "check", Tag f ∷ [])
-form GetSnarf = (codes "getsnarf", [])
-form (SetSnarf s) = (codes "setsnarf", Rest s ∷ [])
-form (Version v) = (codes "version", Tag v ∷ [])
-form user.Flush = (codes "flush", [])
 
 -- a part as it is printed, and a word with its parts
 abbrev pub part_shown : Part → List ℕ

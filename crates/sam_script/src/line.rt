@@ -1,7 +1,8 @@
 //! Reads one line of a script.
 
 ghost use Rattle.std.specs.Prelude.{◌≡◌, IfOk, IfErr, chars};
-ghost use Rattle.sam_script.specs.Reading.{Gives, IsUnsaid, line_at, file_at, file_text_at, fitting_name, read_by, bare_readers};
+ghost use Rattle.sam_script.specs.Reading.{IsUnsaid, line_at, file_at, file_text_at, fitting_name, read_by, bare_readers};
+ghost use Rattle.sam_script.specs.Words.{Gives};
 ghost use Rattle.sam_script.specs.Spelling.{Says};
 
 use crate::event::event_at;

@@ -1,7 +1,7 @@
 //! Reads the parts of a line: words, each behind one space, numbers, and a text up to the end of the line.
 
 ghost use Rattle.std.specs.Prelude.{◌≡◌, [], false, chars};
-ghost use Rattle.sam_script.specs.Reading.{Gives, word_of, behind_word, word_at, number_of, number_at, unescaped, meant, text_at, ended, tag_alone, tag_and_place, tag_and_range, tag_and_text};
+ghost use Rattle.sam_script.specs.Words.{Gives, word_of, behind_word, word_at, number_of, number_at, unescaped, meant, text_at, ended, tag_alone, tag_and_place, tag_and_range, tag_and_text};
 
 use crate::fault::LineFault;
 use sam_runes::Runes;
@@ -29,7 +29,7 @@ pub fn word_at(text: &str) -> Result<(&str, &str), LineFault>
 }
 
 /// Reads the next word as a tag or a version, and returns it with the rest of the line.
-#[tactic(auto, unfolding(crate::specs::Reading::number_at))]
+#[tactic(auto, unfolding(crate::specs::Words::number_at))]
 pub fn tag_at(text: &str) -> Result<(u16, &str), LineFault>
     ensures { Gives (λ x. (x.0, x.1.now)) result (number_at 16 text.now) }
 {
@@ -39,7 +39,7 @@ pub fn tag_at(text: &str) -> Result<(u16, &str), LineFault>
 }
 
 /// Reads the next word as a place, a length or a count of lines, and returns it with the rest of the line.
-#[tactic(auto, unfolding(crate::specs::Reading::number_at))]
+#[tactic(auto, unfolding(crate::specs::Words::number_at))]
 pub fn place_at(text: &str) -> Result<(u32, &str), LineFault>
     ensures { Gives (λ x. (x.0, x.1.now)) result (number_at 32 text.now) }
 {
@@ -132,7 +132,7 @@ pub fn ended<X: Drop>(value: X, text: &str) -> Result<X, LineFault>
 }
 
 /// Reads a tag and nothing more.
-#[tactic(auto, unfolding(crate::specs::Reading::tag_alone))]
+#[tactic(auto, unfolding(crate::specs::Words::tag_alone))]
 pub fn tag_alone(text: &str) -> Result<u16, LineFault>
     ensures { Gives (λ tag. tag) result (tag_alone text.now) }
 {
@@ -141,7 +141,7 @@ pub fn tag_alone(text: &str) -> Result<u16, LineFault>
 }
 
 /// Reads a tag, a number of 32 bits and nothing more.
-#[tactic(auto, unfolding(crate::specs::Reading::tag_and_place))]
+#[tactic(auto, unfolding(crate::specs::Words::tag_and_place))]
 pub fn tag_and_place(text: &str) -> Result<(u16, u32), LineFault>
     ensures { Gives (λ x. (x.0, x.1)) result (tag_and_place text.now) }
 {
@@ -151,7 +151,7 @@ pub fn tag_and_place(text: &str) -> Result<(u16, u32), LineFault>
 }
 
 /// Reads a tag, two numbers of 32 bits and nothing more. The second may be less than the first.
-#[tactic(auto, unfolding(crate::specs::Reading::tag_and_range))]
+#[tactic(auto, unfolding(crate::specs::Words::tag_and_range))]
 pub fn tag_and_range(text: &str) -> Result<(u16, u32, u32), LineFault>
     ensures { Gives (λ x. (x.0, x.1, x.2)) result (tag_and_range text.now) }
 {
@@ -162,7 +162,7 @@ pub fn tag_and_range(text: &str) -> Result<(u16, u32, u32), LineFault>
 }
 
 /// Reads a tag and a text that takes the rest of the line.
-#[tactic(auto, unfolding(crate::specs::Reading::tag_and_text))]
+#[tactic(auto, unfolding(crate::specs::Words::tag_and_text))]
 pub fn tag_and_text(alloc: Global, text: &str) -> Result<(u16, Runes), LineFault>
     ensures { Gives (λ x. (x.0, x.1)) result (tag_and_text text.now) }
 {

@@ -1,6 +1,6 @@
 use Rattle.std.proofs.Common.{◌≡◌, ◌∙◌, List, ℕ, [], sym, ap, subst, lit<, None, Option}
 use Rattle.std.proofs.lemmas.Str.Pattern.{strip_prefix_char}
-use Rattle.sam_script.specs.Reading.{Gives, ended}
+use Rattle.sam_script.specs.Words.{Gives, ended}
 use Rattle.sam_script.proofs.WordLaws.{no_text}
 use Rattle.sam_script.proofs.words.text_at.Goals as goal
 

@@ -3,7 +3,7 @@ use Rattle.std.proofs.lemmas.Iterator.{YieldsList-from_chars}
 use Rattle.std.proofs.lemmas.Iterator.Consumers.{YieldsList-turn, YieldsList-end}
 use Rattle.std.proofs.lemmas.List.{length_push}
 use Rattle.std.specs.Str.{chars}
-use Rattle.sam_script.specs.Reading.{unescaped}
+use Rattle.sam_script.specs.Words.{unescaped}
 use Rattle.sam_script.proofs.WordLaws.{turn_escape, turn_rune, turn_fails, turns_end}
 use Rattle.sam_script.proofs.words.unescape.Goals as goal
 use Rattle.sam_script.proofs.words.unescape.Goals.{else-rune-eq92-via-then-rune-eq92+else-not-is_escaped, else-rune-eq92-via-else-rune-eq92}

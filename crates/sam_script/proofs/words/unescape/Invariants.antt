@@ -1,6 +1,6 @@
 use Rattle.std.proofs.Common.{◌≡◌, length, drop, [], false}
 use Rattle.std.specs.Str.{chars}
-use Rattle.sam_script.specs.Reading.{unescaped}
+use Rattle.sam_script.specs.Words.{unescaped}
 use Rattle.sam_script.proofs.words.unescape.Given as goal
 
 -- what the runes that are left come to
