@@ -5,4 +5,4 @@ use Rattle.sam_mesg.proofs.writing.put_frame.Goals as goal
 pub returns-in-Ok-clause-ok : goal.returns-in-Ok-clause-ok
 returns-in-Ok-clause-ok g c =
     framed c.args.out.now.items c.put_parts.new.out.items c.set_length.new.out.items
-    (g.F.Put.spelling c.args.fields.now) c.args.kind c.len-before.result c.in-Ok.ensures.ok (omega arith) c.set_length.ensures
+    (g.M.Framed.body c.args.message.now) (g.M.Framed.kind c.args.message.now) c.len-before.result c.in-Ok.ensures.ok (omega arith) c.set_length.ensures
