@@ -1,33 +1,29 @@
 -- A message that the crossing lets come to the host, and what the host then owes: from settled lenses, the message and the host's own
 -- answer to it lead to settled lenses.
-use Rattle.std.specs.Prelude.{◌≡◌, ℕ, ◌+◌, ◌<◌, ◌≤◌, false, ◌==◌, List, length, None, ◌⊎◌}
+use Rattle.std.specs.Prelude.{◌≡◌, ℕ, ◌+◌, ◌<◌, ◌≤◌, true, false, ◌==◌, List, length, None}
 use Rattle.sam_runes.specs.Texts.{max_runes}
 use Rattle.sam_runes.specs.Checks.{first_of_checks}
+use Rattle.sam_text.specs.Files.{file_at}
 use Rattle.sam_mesg.specs.declared.tmesg.Tmesg.{Tmesg}
 use Rattle.sam_host.specs.Host.{PlainHost, host_checks, reply_to}
-use Rattle.sam_protocol.specs.Lens.{Lens, Named, Opened, Gone, IsSettled, Settles}
+use Rattle.sam_protocol.specs.Lens.{Lens, Gone, IsCommandFile, IsSettled, Settles}
 use Rattle.sam_protocol.specs.Frames.{at_file}
 use Rattle.sam_protocol.specs.View.{file_in}
 use Rattle.sam_protocol.specs.Steady.{HasFiles, IsSteady}
+use Rattle.sam_protocol.proofs.HostFiles.{Opens, IsThere, is_there}
 use Rattle.sam_protocol.proofs.Changes.{Need, Nothing, Positive, InOpen, AtPlace, InRange, HasRoom, Startable, NamedOpen, NamedRange, need_of, changed, change_by}
 
--- the file is open at the host, with such a text
-abbrev pub Open : PlainHost → ℕ → (List ℕ → Type 0) → Type 0
-Open h f P = (t : List ℕ) × (file_in h.files.slots f ≡ Opened t) × P t
-
-abbrev pub Range : ℕ → ℕ → List ℕ → Type 0
-Range p q t = (p ≤ q) × (q ≤ length t)
-
+-- the file is there and open, and the places lie in its text
 abbrev pub IsMet : PlainHost → Need → Type 0
 IsMet h Nothing = Unit
 IsMet h (Positive n) = 0 < n
-IsMet h (InOpen f) = Open h f (λ t. Unit)
-IsMet h (AtPlace f p) = Open h f (λ t. p ≤ length t)
-IsMet h (InRange f p q) = Open h f (Range p q)
-IsMet h (HasRoom f p s) = Open h f (λ t. (p ≤ length t) × (length t + length s ≤ max_runes))
-IsMet h (Startable f) = ((f == 0) ≡ false) × (((t : List ℕ) × (file_in h.files.slots f ≡ Named t)) ⊎ ((t : List ℕ) × (file_in h.files.slots f ≡ Opened t)))
-IsMet h (NamedOpen f) = ((f == 0) ≡ false) × Open h f (λ t. Unit)
-IsMet h (NamedRange f p q) = ((f == 0) ≡ false) × Open h f (Range p q)
+IsMet h (InOpen f) = Opens h.files f
+IsMet h (AtPlace f p) = Opens h.files f × (p ≤ length (file_at h.files f).text)
+IsMet h (InRange f p q) = Opens h.files f × (p ≤ q) × (q ≤ length (file_at h.files f).text)
+IsMet h (HasRoom f p s) = Opens h.files f × (p ≤ length (file_at h.files f).text) × (length (file_at h.files f).text + length s ≤ max_runes)
+IsMet h (Startable f) = IsThere h.files f true × ((f == 0) ≡ false)
+IsMet h (NamedOpen f) = Opens h.files f × ((f == 0) ≡ false)
+IsMet h (NamedRange f p q) = Opens h.files f × (p ≤ q) × (q ≤ length (file_at h.files f).text) × ((f == 0) ≡ false)
 
 -- what the host may rest on
 abbrev pub Accepted : PlainHost → Tmesg → Type 0
@@ -46,3 +42,7 @@ pub record Synced (h : PlainHost) (m : Tmesg) : Type 0 where
       → Settles (at_file g (reply_to h m).1) (changed (change_by m) g w) (reply_to h m).0.is_done (reply_to h m).0.version (file_in (reply_to h m).0.files.slots g)
   pub gone : (g : ℕ) → file_in h.files.slots g ≡ Gone → file_in (reply_to h m).0.files.slots g ≡ Gone
   pub sound : HasFiles (reply_to h m).0.files
+
+-- tag 0 is there, open or not announced
+pub first_there : (h : PlainHost) → Ready h → IsThere h.files 0 false
+first_there h r = is_there h.files 0 false IsCommandFile (λ c. c) (λ c. c) (λ t c. c) r.steady.sound.commands

@@ -16,7 +16,7 @@ use Rattle.sam_protocol.proofs.Lenses.{AreSkips}
 use Rattle.sam_protocol.specs.Frames.{at_file, only}
 use Rattle.sam_protocol.specs.View.{file_of, file_of_slot, file_in}
 use Rattle.sam_protocol.specs.Steady.{OpenAnnounced, AllOpenAnnounced, HasFiles}
-use Rattle.sam_protocol.proofs.Accepting.{Synced}
+use Rattle.sam_protocol.proofs.Accepting.{Synced, Accepted, Ready}
 use Rattle.sam_protocol.proofs.Runs.{run-append_some}
 use Rattle.sam_protocol.proofs.HostFiles.{Lasts, still_has}
 use Rattle.sam_protocol.proofs.Tests.{last_test}
@@ -107,10 +107,10 @@ version_action v l = go (min v 2 == 0) refl
     go true e = let z : min v 2 ≡ 0 = eqb-true _ _ e in absurd (omega (arith, z, l))
     go false e = let q : min (min v 2) 2 ≡ min v 2 = omega arith in ap (λ (b : Bool). if b then Skip else Change (min (min v 2) 2)) e ∙ ap Change q
 
-pub sync_version : (h : PlainHost) (v : ℕ) → HasFiles h.files → AllOpenAnnounced h.files → 0 < v → Synced h (Tversion v)
+pub sync_version : (h : PlainHost) → Ready h → (v : ℕ) → Accepted h (Tversion v) → Synced h (Tversion v)
 unfolding reply_version announced_slot
-sync_version h v sound all l =
-    commands h (Tversion v) refl (last_test (v == 0) BadVersion (not_same v 0 (λ e. omega (arith, l, e)))) each lasts.gone (still_has h.files out sound refl lasts)
+sync_version h r v l =
+    commands h (Tversion v) refl (last_test (v == 0) BadVersion (not_same v 0 (λ e. omega (arith, l, e)))) each lasts.gone (still_has h.files out r.steady.sound refl lasts)
   where
     ss : Slots PlainFile
     ss = h.files.slots
@@ -140,7 +140,7 @@ sync_version h v sound all l =
     moves (suc g) s y =
         subst (Moves (at_file (suc g) names) h.is_done (common_version v) s) (ap (announced_slot (nat_lt (suc g) (length ss))) (behind ss g) ∙ sym (later ss g))
         (names_move h.is_done (common_version v) 1 g (suc g) (drop 1 ss) (nat_lt (suc g) (length ss)) s (omega arith)
-        (λ f. subst (λ (x : Option PlainFile). OpenAnnounced (unwrap_or x blank_file)) (sym (behind ss f)) (all f))
+        (λ f. subst (λ (x : Option PlainFile). OpenAnnounced (unwrap_or x blank_file)) (sym (behind ss f)) (r.steady.announced f))
         (subst (λ (x : Option PlainFile). Fits_slot s (file_of_slot (nat_lt (suc g) (length ss)) x)) (sym (behind ss g)) y))
 
     each : (g : ℕ) (s : Slot) → Fits_slot s (file_in ss g) → Settles (at_file g (Hversion (common_version v) ∷ (names ++ Hack ∷ Hunlock ∷ []))) (lens true h.is_done h.version s) h.is_done

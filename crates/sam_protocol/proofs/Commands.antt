@@ -19,10 +19,10 @@ use Rattle.sam_protocol.specs.Frames.{at_file, only}
 use Rattle.sam_protocol.proofs.Changes.{Change, Command, commanded, changed, change_by}
 use Rattle.sam_protocol.specs.View.{file_of, file_in}
 use Rattle.sam_protocol.specs.Steady.{HasFiles}
-use Rattle.sam_protocol.proofs.Accepting.{Synced}
+use Rattle.sam_protocol.proofs.Accepting.{Synced, Accepted, Ready, first_there}
 use Rattle.sam_protocol.proofs.Runs.{run-append_some}
 use Rattle.sam_protocol.proofs.AllSettle.{settled_slot}
-use Rattle.sam_protocol.proofs.HostFiles.{put, put_other, put_same, put_again, file_in-put, file_in-free, file_in-push, not_given, in_slots, shown_at, file_opened, file_hidden, file_named, put_opened, Opens, Lasts, lasts_same, lasts_then, lasts_put, lasts_opened, still_has, works_on}
+use Rattle.sam_protocol.proofs.HostFiles.{IsThere, put, put_other, put_same, put_again, file_in-put, file_in-free, file_in-push, not_given, in_slots, shown_at, file_opened, file_hidden, file_named, put_opened, Opens, Lasts, lasts_same, lasts_then, lasts_put, lasts_opened, still_has, works_on}
 use Rattle.sam_protocol.proofs.Tests.{test, last_test, window_tests}
 use Rattle.sam_protocol.proofs.Guards.{guarded_by, guarded_before, no_close_behind, no_close_skips, kept_by, at_file-append, skips_run}
 use Rattle.sam_protocol.proofs.Telling.{Told, Rewrites, tells_there, tells_elsewhere, told-append, told_when, told_grown, told_dot, told_check, told_opened}
@@ -157,10 +157,10 @@ sync_by h m c passes x = commands h m c passes x.each x.gone x.sound
 
 -- ## The messages
 
-pub sync_exit : (h : PlainHost) → HasFiles h.files → Synced h Texit
+pub sync_exit : (h : PlainHost) → Ready h → Accepted h Texit → Synced h Texit
 unfolding reply_exit
-sync_exit h sound =
-    commands h Texit refl refl (λ g s f. exits_kept [] h.is_done h.version s (file_in h.files.slots g) (stays_put [] h.is_done h.version s (file_in h.files.slots g) tt f)) (λ g e. e) sound
+sync_exit h r met =
+    commands h Texit refl refl (λ g s f. exits_kept [] h.is_done h.version s (file_in h.files.slots g) (stays_put [] h.is_done h.version s (file_in h.files.slots g) tt f)) (λ g e. e) r.steady.sound
 
 -- a file is closed for good
 close_there : (d : Bool) (n : ℕ) (s : Slot) (t : List ℕ) → Fits_slot s (Opened t) → Settles (Close ∷ Leave ∷ Free_command ∷ []) (lens true d n s) d n Gone
@@ -169,9 +169,9 @@ close_there d n Known t f = absurd f
 close_there d n (Open r k) t f =
     record { final = lens false d n Unknown; runs = refl; settled = (refl, refl, refl, tt); guarded = guarded_by (Close ∷ Leave ∷ Free_command ∷ []) refl; closed = λ e. refl }
 
-pub sync_close : (h : PlainHost) (f : ℕ) → HasFiles h.files → Opens h.files f → (f == 0) ≡ false → Synced h (Tclose f)
+pub sync_close : (h : PlainHost) → Ready h → (f : ℕ) → Accepted h (Tclose f) → Synced h (Tclose f)
 unfolding reply_close
-sync_close h f sound o z = commands h (Tclose f) refl (window_tests h f o z [] refl)
+sync_close h r f met = commands h (Tclose f) refl (window_tests h f met.0 met.1 [] refl)
     (λ g s x. subst (Settles (only (g == f) Close ∷ only (g == f) Leave ∷ Free_command ∷ []) (lens true h.is_done h.version s) h.is_done h.version) (sym (files g)) (each g s x (cases_Bool (g == f))))
     (λ g e. files g ∙ gone g e (g == f))
     (record { works = λ g e. works g h.files.work (cleared_is h.files.work g e); commands = subst IsCommandFile (sym (files 0)) (command (cases_Bool (0 == f))) })
@@ -180,12 +180,12 @@ sync_close h f sound o z = commands h (Tclose f) refl (window_tests h f o z [] r
     a = file_in h.files.slots
 
     files : (g : ℕ) → file_in (free_slot h.files.slots f) g ≡ put a f Gone g
-    files = file_in-free h.files.slots f o.given
+    files = file_in-free h.files.slots f met.0.given
 
     each : (g : ℕ) (s : Slot) → Fits_slot s (a g) → ((g == f) ≡ true) ⊎ ((g == f) ≡ false)
         → Settles (only (g == f) Close ∷ only (g == f) Leave ∷ Free_command ∷ []) (lens true h.is_done h.version s) h.is_done h.version (put a f Gone g)
     each g s x (inl e) = subst (λ (b : Bool). Settles (only b Close ∷ only b Leave ∷ Free_command ∷ []) (lens true h.is_done h.version s) h.is_done h.version (if b then Gone else a g)) (sym e)
-        (close_there h.is_done h.version s (file_at h.files f).text (subst (Fits_slot s) (ap a (eqb-true _ _ e) ∙ o.shown) x))
+        (close_there h.is_done h.version s (file_at h.files f).text (subst (Fits_slot s) (ap a (eqb-true _ _ e) ∙ met.0.shown) x))
     each g s x (inr e) = subst (λ (b : Bool). Settles (only b Close ∷ only b Leave ∷ Free_command ∷ []) (lens true h.is_done h.version s) h.is_done h.version (if b then Gone else a g)) (sym e)
         (unlocks (Skip ∷ Skip ∷ []) h.is_done h.version s (a g) (stays_put (Skip ∷ Skip ∷ []) h.is_done h.version s (a g) (refl, (refl, tt)) x))
 
@@ -202,11 +202,11 @@ sync_close h f sound o z = commands h (Tclose f) refl (window_tests h f o z [] r
         go (inr q) e = let y : Some x ≡ Some g = sym (ap (λ (b : Bool). if b then None else Some x) q) ∙ e in let z2 : x ≡ g = cc in (y, subst (λ (v : ℕ). (v == f) ≡ false) z2 q)
 
     works : (g : ℕ) (w : Option ℕ) → (h.files.work ≡ Some g) × ((g == f) ≡ false) → IsOpened (file_in (free_slot h.files.slots f) g) × ((g == 0) ≡ false)
-    works g w q = (subst IsOpened (sym (files g ∙ put_other a f Gone g q.1)) (sound.works g q.0).0, (sound.works g q.0).1)
+    works g w q = (subst IsOpened (sym (files g ∙ put_other a f Gone g q.1)) (r.steady.sound.works g q.0).0, (r.steady.sound.works g q.0).1)
 
     command : ((0 == f) ≡ true) ⊎ ((0 == f) ≡ false) → IsCommandFile (put a f Gone 0)
-    command (inl q) = let x : f ≡ 0 = sym (eqb-true _ _ q) in absurd (true≢false (sym (eq-eqb f 0 x) ∙ z))
-    command (inr q) = subst IsCommandFile (sym (put_other a f Gone 0 q)) sound.commands
+    command (inl q) = let x : f ≡ 0 = sym (eqb-true _ _ q) in absurd (true≢false (sym (eq-eqb f 0 x) ∙ met.1))
+    command (inr q) = subst IsCommandFile (sym (put_other a f Gone 0 q)) r.steady.sound.commands
 
 -- a window of a file that the terminal knows: bound, and as long as the text
 bind_moves : (f : ℕ) (x : PlainFile) (d : Bool) (n : ℕ) (s : Slot) (told : Told f (told_length f x) [] x.text) → Fits_slot s (Named x.text) → Moves (Bind ∷ told.acts) d n s (Opened x.text)
@@ -214,12 +214,11 @@ bind_moves f x d n Unknown told y = absurd y
 bind_moves f x d n Known told y = and_first Bind told.acts d n Known (Open [] 0) (Opened x.text) refl refl (moves_rewrite told.acts [] x.text d n (Open [] 0) told.rewrites (refl, tt))
 bind_moves f x d n (Open r k) told y = absurd y
 
-pub sync_start : (h : PlainHost) (f : ℕ) (x : PlainFile) → HasFiles h.files → AreFit h.files → slot h.files.slots f ≡ Some x → (f == 0) ≡ false
-    → ((file_at h.files f).opened ≡ true) ⊎ (((file_at h.files f).opened ≡ false) × ((file_at h.files f).announced ≡ true)) → Synced h (Tstartfile f)
+pub sync_start : (h : PlainHost) → Ready h → (f : ℕ) → Accepted h (Tstartfile f) → Synced h (Tstartfile f)
 unfolding reply_startfile when
-sync_start h f x sound fit e z c =
-    sync_by h (Tstartfile f) refl (test (not (has_file h.files f)) NoFile (is_command f ∷ []) (ap (λ (b : Bool). not b) (ap is_some e)) (last_test (f == 0) CommandFile z))
-    (unlocked h fs (when (not file.opened) (Hbindname f ∷ told_length f file)) carries (works_on h.files fs f sound refl z
+sync_start h r f met =
+    sync_by h (Tstartfile f) refl (test (not (has_file h.files f)) NoFile (is_command f ∷ []) (ap (λ (b : Bool). not b) (ap is_some met.0.there)) (last_test (f == 0) CommandFile met.1))
+    (unlocked h fs (when (not file.opened) (Hbindname f ∷ told_length f file)) carries (works_on h.files fs f r.steady.sound refl met.1
     (subst IsOpened (sym (files f ∙ put_same a f (Opened file.text))) tt) carries.lasts))
   where
     file : PlainFile
@@ -232,13 +231,13 @@ sync_start h f x sound fit e z c =
     a = file_in h.files.slots
 
     files : (g : ℕ) → file_in fs.slots g ≡ put a f (Opened file.text) g
-    files = put_opened h.files f (in_slots h.files f x e) (record file { opened = true }) refl
+    files = put_opened h.files f (in_slots h.files f met.0.file met.0.there) (record file { opened = true }) refl
 
     shown : a f ≡ file_of file
-    shown = shown_at h.files f x e
+    shown = shown_at h.files f met.0.file met.0.there
 
     told : Told f (told_length f file) [] file.text
-    told = told_opened f file (fit f).2
+    told = told_opened f file (r.steady.fit f).2
 
     binds : file.opened ≡ false → file.announced ≡ true → Carries h.is_done h.version a (Hbindname f ∷ told_length f file) (file_in fs.slots)
     binds w n =
@@ -255,7 +254,7 @@ sync_start h f x sound fit e z c =
     when_true w = ap (λ (b : Bool). when (not b) (Hbindname f ∷ told_length f file)) w
 
     carries : Carries h.is_done h.version a (when (not file.opened) (Hbindname f ∷ told_length f file)) (file_in fs.slots)
-    carries = go c
+    carries = go met.0.kind
       where
         go : (file.opened ≡ true) ⊎ ((file.opened ≡ false) × (file.announced ≡ true)) → Carries h.is_done h.version a (when (not file.opened) (Hbindname f ∷ told_length f file)) (file_in fs.slots)
         go (inl w) =
@@ -272,14 +271,16 @@ first_moves x d n Unknown told y =
 first_moves x d n Known told y = absurd y
 first_moves x d n (Open r k) told y = absurd y
 
-pub sync_first : (h : PlainHost) (x : PlainFile) → HasFiles h.files → AreFit h.files → slot h.files.slots 0 ≡ Some x
-    → ((file_at h.files 0).opened ≡ true) ⊎ (((file_at h.files 0).opened ≡ false) × ((file_at h.files 0).announced ≡ false)) → Synced h Tstartcmdfile
+pub sync_first : (h : PlainHost) → Ready h → Accepted h Tstartcmdfile → Synced h Tstartcmdfile
 unfolding reply_startcmdfile
-sync_first h x sound fit e c =
+sync_first h r met =
     sync_by h Tstartcmdfile refl refl
-    (unlocked_if h file.opened (h, Hunlock ∷ []) (with_files h fs, (Hnewname 0 ∷ Hmovname 0 command_name ∷ Hbindname 0 ∷ told_length 0 file) ++ Hunlock ∷ []) (λ w. unlocked_only h sound)
-    (λ w. opening w (hidden w c)))
+    (unlocked_if h file.opened (h, Hunlock ∷ []) (with_files h fs, (Hnewname 0 ∷ Hmovname 0 command_name ∷ Hbindname 0 ∷ told_length 0 file) ++ Hunlock ∷ []) (λ w. unlocked_only h r.steady.sound)
+    (λ w. opening w (hidden w there.kind)))
   where
+    there : IsThere h.files 0 false
+    there = first_there h r
+
     file : PlainFile
     file = file_at h.files 0
 
@@ -290,7 +291,7 @@ sync_first h x sound fit e c =
     a = file_in h.files.slots
 
     told : Told 0 (told_length 0 file) [] file.text
-    told = told_opened 0 file (fit 0).2
+    told = told_opened 0 file (r.steady.fit 0).2
 
     hidden : file.opened ≡ false → (file.opened ≡ true) ⊎ ((file.opened ≡ false) × (file.announced ≡ false)) → file.announced ≡ false
     hidden w (inl q) = absurd (true≢false (sym q ∙ w))
@@ -298,14 +299,14 @@ sync_first h x sound fit e c =
 
     opening : file.opened ≡ false → file.announced ≡ false → Unlocked h (with_files h fs, (Hnewname 0 ∷ Hmovname 0 command_name ∷ Hbindname 0 ∷ told_length 0 file) ++ Hunlock ∷ [])
     opening w n =
-        let shown : a 0 ≡ Hidden file.text = shown_at h.files 0 x e ∙ file_hidden file w n in
-        let files : (g : ℕ) → file_in fs.slots g ≡ put a 0 (Opened file.text) g = put_opened h.files 0 (in_slots h.files 0 x e) (record file { opened = true }) refl in
+        let shown : a 0 ≡ Hidden file.text = shown_at h.files 0 there.file there.there ∙ file_hidden file w n in
+        let files : (g : ℕ) → file_in fs.slots g ≡ put a 0 (Opened file.text) g = put_opened h.files 0 (in_slots h.files 0 there.file there.there) (record file { opened = true }) refl in
         let lasts : Lasts a (file_in fs.slots) = lasts_put a (file_in fs.slots) 0 (Opened file.text) (λ q. let y : Hidden file.text ≡ Gone = sym shown ∙ q in cc) (λ y. tt) (λ q y. tt) files in
         unlocked h fs (Hnewname 0 ∷ Hmovname 0 command_name ∷ Hbindname 0 ∷ told_length 0 file)
         (carries_at h.is_done h.version a (file_in fs.slots) 0 (Hnewname 0 ∷ Hmovname 0 command_name ∷ Hbindname 0 ∷ told_length 0 file) (Join ∷ Needs_known ∷ Bind ∷ told.acts) (Opened file.text)
         (λ g. ap (λ (u : List Action). only (g == 0) Join ∷ only (g == 0) Needs_known ∷ only (g == 0) Bind ∷ u) (told.tells g)) files
         (λ s y. first_moves file h.is_done h.version s told (subst (Fits_slot s) shown y)) lasts)
-        (still_has h.files fs sound refl lasts)
+        (still_has h.files fs r.steady.sound refl lasts)
 
 -- ## What is printed at the end of tag 0
 
@@ -415,13 +416,16 @@ new_there d n Unknown x = record { slot = Open [] 0; runs = refl; fits = (refl, 
 new_there d n Known x = absurd x
 new_there d n (Open r k) x = absurd x
 
-pub sync_new : (h : PlainHost) (x : PlainFile) → HasFiles h.files → slot h.files.slots 0 ≡ Some x → Synced h Tstartnewfile
+pub sync_new : (h : PlainHost) → Ready h → Accepted h Tstartnewfile → Synced h Tstartnewfile
 unfolding reply_startnewfile
-sync_new h x sound e =
+sync_new h r met =
     sync_by h Tstartnewfile refl refl
     (unlocked_if h (nat_le all_tags f) (with_files h (after_print h.files no_tag_left), printed h.files no_tag_left ++ Hunlock ∷ [])
     (with_files h fs, (Hnewname f ∷ Hbindname f ∷ Hcurrent f ∷ []) ++ Hunlock ∷ []) (λ w. full) (λ w. fresh))
   where
+    there : IsThere h.files 0 false
+    there = first_there h r
+
     f : ℕ
     f = length h.files.slots
 
@@ -438,7 +442,7 @@ sync_new h x sound e =
     absent = not_given h.files.slots f (omega arith)
 
     some : 0 < f
-    some = in_slots h.files 0 x e
+    some = in_slots h.files 0 there.file there.there
 
     not_zero : (f == 0) ≡ false
     not_zero = go (cases_Bool (f == 0))
@@ -456,8 +460,8 @@ sync_new h x sound e =
 
     full : Unlocked h (with_files h (after_print h.files no_tag_left), printed h.files no_tag_left ++ Hunlock ∷ [])
     full =
-        let c = printed_carries h.is_done h.version h.files no_tag_left x e in
-        unlocked h (after_print h.files no_tag_left) (printed h.files no_tag_left) c (still_has h.files (after_print h.files no_tag_left) sound printed_work c.lasts)
+        let c = printed_carries h.is_done h.version h.files no_tag_left there.file there.there in
+        unlocked h (after_print h.files no_tag_left) (printed h.files no_tag_left) c (still_has h.files (after_print h.files no_tag_left) r.steady.sound printed_work c.lasts)
 
     fresh : Unlocked h (with_files h fs, (Hnewname f ∷ Hbindname f ∷ Hcurrent f ∷ []) ++ Hunlock ∷ [])
     fresh =
@@ -465,4 +469,6 @@ sync_new h x sound e =
         unlocked h fs (Hnewname f ∷ Hbindname f ∷ Hcurrent f ∷ [])
         (carries_at h.is_done h.version a (file_in fs.slots) f (Hnewname f ∷ Hbindname f ∷ Hcurrent f ∷ []) (Join ∷ Bind ∷ Needs_known ∷ []) (Opened []) (λ g. refl) files
         (λ s y. new_there h.is_done h.version s (subst (Fits_slot s) absent y)) lasts)
-        (works_on h.files fs f sound refl not_zero (subst IsOpened (sym (files f ∙ put_same a f (Opened []))) tt) lasts)
+        (works_on h.files fs f r.steady.sound refl not_zero (subst IsOpened (sym (files f ∙ put_same a f (Opened []))) tt) lasts)
+
+pub ruleset command_locks = (sync_first, sync_start, sync_new, sync_close, sync_exit)

@@ -1,22 +1,28 @@
 -- What the terminal may compose, the host will accept, and its answer is carried behind what is under way.
-use Rattle.std.proofs.Common.{◌≡◌, ℕ, ◌+◌, ◌≤◌, Bool, false, ◌||◌, List, [], ◌∷◌, ◌++◌, length, Option, ◌⊎◌, inl, inr, refl, sym, ap, ◌∙◌, subst, arith}
+use Rattle.std.proofs.Common.{◌≡◌, ℕ, ◌+◌, ◌≤◌, Bool, true, false, ◌||◌, List, [], ◌∷◌, ◌++◌, length, Option, ◌⊎◌, inl, inr, refl, sym, ap, ◌∙◌, subst, arith}
 use Rattle.sam_rasp.specs.Rasp.{Agrees}
 use Rattle.sam_rasp.proofs.RaspLaws.{length_agrees}
 use Rattle.sam_runes.specs.Texts.{max_runes}
+use Rattle.sam_text.specs.Files.{PlainFiles, file_at}
 use Rattle.sam_mesg.specs.declared.tmesg.Tmesg.{Tmesg}
-use Rattle.sam_mesg.specs.declared.tmesg.Tmesg.TheVariants.{Tstartfile}
+use Rattle.sam_mesg.specs.declared.tmesg.Tmesg.TheVariants.{Tversion, Tstartfile}
 use Rattle.sam_mesg.specs.declared.hmesg.Hmesg.{Hmesg}
 use Rattle.sam_host.specs.Host.{PlainHost}
 use Rattle.sam_protocol.specs.Lens.{Lens, lens, Unknown, Known, Open, Action, HFile, Absent, Hidden, Named, Opened, Gone, IsSettled, Settles, OpenAt, Anything}
 use Rattle.sam_protocol.proofs.Lenses.{IsFree, exited_of, command_of}
 use Rattle.sam_protocol.proofs.Changes.{Need, Nothing, Positive, InOpen, AtPlace, InRange, HasRoom, Startable, NamedOpen, NamedRange, need_of, CanMeet, change_by, changed, KnownAt, Within, IsAllowed, CanCompose}
 use Rattle.sam_protocol.specs.View.{file_in}
-use Rattle.sam_protocol.proofs.Accepting.{Ready, IsMet, Accepted}
+use Rattle.sam_protocol.proofs.HostFiles.{Opens, opens_at, is_there}
+use Rattle.sam_protocol.proofs.Accepting.{Ready, IsMet, Accepted, Synced}
 use Rattle.sam_protocol.specs.Frames.{at_file}
 use Rattle.sam_protocol.specs.Fold.{AllSettle}
 use Rattle.sam_protocol.proofs.Runs.{no_exit, exited_after}
 use Rattle.sam_protocol.proofs.AllSettle.{kept_free, exited_settled}
-use Rattle.sam_protocol.proofs.Handling.{handled}
+use Rattle.sam_protocol.proofs.FileLocks.{file_locks}
+use Rattle.sam_protocol.proofs.Edits.{edits}
+use Rattle.sam_protocol.proofs.Commands.{command_locks}
+use Rattle.sam_protocol.proofs.Announcing.{sync_version}
+use Rattle.sam_protocol.proofs.Lines.{lines}
 use Rattle.sam_protocol.proofs.Steady.{steady_reply}
 use Rattle.sam_protocol.proofs.Folds.{acts}
 
@@ -31,43 +37,41 @@ not_done_ahead h views line down k e c =
     (λ (b : Bool). b || exited_of (views 0)) none ∙ e
 
 -- an open file that is free is open at the host, and agrees
-pub record OpenBoth (P : List (Option ℕ) → Type 0) (file : HFile) : Type 0 where
-  pub rasp : List (Option ℕ)
-  pub text : List ℕ
-  pub opened : file ≡ Opened text
-  pub agrees : Agrees rasp text
-  pub has : P rasp
+record OpenBoth (P : List (Option ℕ) → Type 0) (fs : PlainFiles) (f : ℕ) : Type 0 where
+  rasp : List (Option ℕ)
+  opens : Opens fs f
+  agrees : Agrees rasp (file_at fs f).text
+  has : P rasp
 
-open_case : (P : List (Option ℕ) → Type 0) (s : List Action) (v : Lens) (d : Bool) (n : ℕ) (file : HFile) → Settles s v d n file → OpenAt P v → OpenBoth P file
-open_case P s (lens c e n2 Unknown) d n file k o = absurd o
-open_case P s (lens c e n2 Known) d n file k o = absurd o
-open_case P s (lens c e n2 (Open r m)) d n file k o = go file (kept_free s (lens c e n2 (Open r m)) d n file k free)
+open_case : (P : List (Option ℕ) → Type 0) (fs : PlainFiles) (f : ℕ) (s : List Action) (v : Lens) (d : Bool) (n : ℕ) → Settles s v d n (file_in fs.slots f) → OpenAt P v → OpenBoth P fs f
+open_case P fs f s (lens c e n2 Unknown) d n k o = absurd o
+open_case P fs f s (lens c e n2 Known) d n k o = absurd o
+open_case P fs f s (lens c e n2 (Open r m)) d n k o = go (file_in fs.slots f) refl (kept_free s (lens c e n2 (Open r m)) d n (file_in fs.slots f) k free)
   where
     free : IsFree (lens c e n2 (Open r m))
     free = subst (λ (x : Bool). IsFree (lens x e n2 (Open r m))) (sym o.0) (subst (λ (x : ℕ). IsFree (lens false e n2 (Open r x))) (sym o.1) tt)
 
-    go : (file : HFile) → IsSettled (lens c e n2 (Open r m)) d n file → OpenBoth P file
-    go Absent x = absurd x.3
-    go (Hidden t) x = absurd x.3
-    go (Named t) x = absurd x.3
-    go (Opened t) x = record { rasp = r; text = t; opened = refl; agrees = x.3.1; has = o.2 }
-    go Gone x = absurd x.3
+    go : (file : HFile) → file_in fs.slots f ≡ file → IsSettled (lens c e n2 (Open r m)) d n file → OpenBoth P fs f
+    go (Opened t) q x = let y = opens_at fs f t q in record { rasp = r; opens = y.0; agrees = subst (Agrees r) (sym y.1) x.3.1; has = o.2 }
+    go Absent q x = absurd x.3
+    go (Hidden t) q x = absurd x.3
+    go (Named t) q x = absurd x.3
+    go Gone q x = absurd x.3
 
-known_case : (s : List Action) (v : Lens) (d : Bool) (n : ℕ) (file : HFile) → Settles s v d n file → IsFree v → KnownAt v → ((t : List ℕ) × (file ≡ Named t)) ⊎ ((t : List ℕ) × (file ≡ Opened t))
+abbrev IsKnown : HFile → Type 0
+IsKnown (Named t) = Unit
+IsKnown (Opened t) = Unit
+IsKnown _ = ⊥
+
+known_case : (s : List Action) (v : Lens) (d : Bool) (n : ℕ) (file : HFile) → Settles s v d n file → IsFree v → KnownAt v → IsKnown file
 known_case s v d n file k free o = go v file (kept_free s v d n file k free) o
   where
-    go : (v : Lens) (file : HFile) → IsSettled v d n file → KnownAt v → ((t : List ℕ) × (file ≡ Named t)) ⊎ ((t : List ℕ) × (file ≡ Opened t))
+    go : (v : Lens) (file : HFile) → IsSettled v d n file → KnownAt v → IsKnown file
     go (lens c e m Unknown) file x o = absurd o
-    go (lens c e m Known) Absent x o = absurd x.3
-    go (lens c e m Known) (Hidden t) x o = absurd x.3
-    go (lens c e m Known) (Named t) x o = inl (t, refl)
-    go (lens c e m Known) (Opened t) x o = absurd x.3
-    go (lens c e m Known) Gone x o = absurd x.3
-    go (lens c e m (Open r k)) Absent x o = absurd x.3
-    go (lens c e m (Open r k)) (Hidden t) x o = absurd x.3
-    go (lens c e m (Open r k)) (Named t) x o = absurd x.3
-    go (lens c e m (Open r k)) (Opened t) x o = inr (t, refl)
-    go (lens c e m (Open r k)) Gone x o = absurd x.3
+    go (lens c e m s) (Named t) x o = tt
+    go (lens c e m s) (Opened t) x o = tt
+    go (lens c e m Known) _ x o = absurd x.3
+    go (lens c e m (Open r k)) _ x o = absurd x.3
 
 within : (r : List (Option ℕ)) (t : List ℕ) (q : ℕ) → Agrees r t → q ≤ length r → q ≤ length t
 within r t q a l = omega (arith, length_agrees r t a)
@@ -77,26 +81,33 @@ accepted : (h : PlainHost) (views : ℕ → Lens) (line : List Tmesg) (down : Li
     → Accepted k.ahead m
 accepted h views line down k m allowed can = go m allowed can
   where
-    at : (P : List (Option ℕ) → Type 0) (f : ℕ) → OpenAt P (views f) → OpenBoth P (file_in k.ahead.files.slots f)
-    at P f o = open_case P (at_file f (down ++ k.frames)) (views f) k.ahead.is_done k.ahead.version (file_in k.ahead.files.slots f) (k.each f) o
+    at : (P : List (Option ℕ) → Type 0) (f : ℕ) → OpenAt P (views f) → OpenBoth P k.ahead.files f
+    at P f o = open_case P k.ahead.files f (at_file f (down ++ k.frames)) (views f) k.ahead.is_done k.ahead.version (k.each f) o
 
     met : (n : Need) → ((f : ℕ) → n ≡ Startable f → IsFree (views f)) → CanMeet n views → IsMet k.ahead n
     met Nothing free x = tt
     met (Positive n) free x = x
-    met (InOpen f) free x = let o = at Anything f x in (o.text, o.opened, tt)
-    met (AtPlace f p) free x = let o = at (Within p p) f x in (o.text, o.opened, within o.rasp o.text p o.agrees o.has.1)
-    met (InRange f p q) free x = let o = at (Within p q) f x in (o.text, o.opened, (o.has.0, within o.rasp o.text q o.agrees o.has.1))
+    met (InOpen f) free x = (at Anything f x).opens
+    met (AtPlace f p) free x = let o = at (Within p p) f x in (o.opens, within o.rasp _ p o.agrees o.has.1)
+    met (InRange f p q) free x = let o = at (Within p q) f x in (o.opens, o.has.0, within o.rasp _ q o.agrees o.has.1)
     met (HasRoom f p s) free x =
         let o = at (λ r. (p ≤ length r) × (length r + length s ≤ max_runes)) f x in
-        (o.text, o.opened, (within o.rasp o.text p o.agrees o.has.0, subst (λ (y : ℕ). y + length s ≤ max_runes) (length_agrees o.rasp o.text o.agrees) o.has.1))
+        (o.opens, within o.rasp _ p o.agrees o.has.0, subst (λ (y : ℕ). y + length s ≤ max_runes) (length_agrees o.rasp _ o.agrees) o.has.1)
     met (Startable f) free x =
-        (x.1, known_case (at_file f (down ++ k.frames)) (views f) k.ahead.is_done k.ahead.version (file_in k.ahead.files.slots f) (k.each f) (free f refl) x.0)
-    met (NamedOpen f) free x = let o = at Anything f x.0 in (x.1, (o.text, o.opened, tt))
-    met (NamedRange f p q) free x = let o = at (Within p q) f x.0 in (x.1, (o.text, o.opened, (o.has.0, within o.rasp o.text q o.agrees o.has.1)))
+        let known = known_case (at_file f (down ++ k.frames)) (views f) k.ahead.is_done k.ahead.version (file_in k.ahead.files.slots f) (k.each f) (free f refl) x.0 in
+        (is_there k.ahead.files f true IsKnown (λ y. y) (λ y. y) (λ t y. y) known, x.1)
+    met (NamedOpen f) free x = ((at Anything f x.0).opens, x.1)
+    met (NamedRange f p q) free x = let o = at (Within p q) f x.0 in (o.opens, o.has.0, within o.rasp _ q o.agrees o.has.1, x.1)
 
     go : (m : Tmesg) → IsAllowed (change_by m) views → CanCompose m views → Accepted k.ahead m
     go (Tstartfile f) a x = met (Startable f) (λ g e. a g) x
     go m a x = met (need_of m) (λ g e. absurd (cc)) x
+
+-- every message that the crossing lets come to the host leads from settled to settled, by the host's own answer: each of these lists has
+-- the lemmas of several kinds
+handled : (h : PlainHost) → Ready h → (m : Tmesg) → Accepted h m → Synced h m
+handled h r (Tversion v) a = sync_version h r v a
+handled h r _ a = search (file_locks, edits, command_locks, lines)
 
 -- a message that the terminal composes of its own joins what is up
 pub composes : (h : PlainHost) (views : ℕ → Lens) (line : List Tmesg) (down : List Hmesg) (m : Tmesg) → AllSettle h views line down → exited_of (views 0) ≡ false → command_of (views 0) ≡ false

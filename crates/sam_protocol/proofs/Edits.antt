@@ -16,7 +16,7 @@ use Rattle.sam_protocol.specs.Frames.{at_file, only}
 use Rattle.sam_protocol.proofs.Changes.{type_change, typed_in, cut_out, changed}
 use Rattle.sam_protocol.specs.View.{file_in}
 use Rattle.sam_protocol.specs.Steady.{HasFiles}
-use Rattle.sam_protocol.proofs.Accepting.{Synced}
+use Rattle.sam_protocol.proofs.Accepting.{Synced, Accepted, Ready}
 use Rattle.sam_protocol.proofs.AllSettle.{kept_skips, settled_opened}
 use Rattle.sam_protocol.proofs.HostFiles.{put, put_again, put_opened, Opens, Lasts, lasts_opened, lasts_same, still_has, works_on}
 use Rattle.sam_protocol.proofs.Tests.{open_tests, window_tests, place_test, range_test, room_test}
@@ -44,14 +44,14 @@ edit_case h k f text e o files done version keeps g w s =
     go (inl q) = subst (λ (b : Bool). Settles [] (if b then e w else w) h.is_done h.version (if b then Opened text else file_in h.files.slots g)) (sym q) (here (eqb-true _ _ q))
     go (inr q) = subst (λ (b : Bool). Settles [] (if b then e w else w) h.is_done h.version (if b then Opened text else file_in h.files.slots g)) (sym q) (nothing _ _ _ _ s)
 
-pub sync_cut : (h : PlainHost) (f p q : ℕ) → HasFiles h.files → Opens h.files f → p ≤ q → q ≤ length (file_at h.files f).text → Synced h (Tcut f p q)
+pub sync_cut : (h : PlainHost) → Ready h → (f p q : ℕ) → Accepted h (Tcut f p q) → Synced h (Tcut f p q)
 unfolding reply_cut
-sync_cut h f p q sound o l l2 = record {
-  passes = open_tests h f o (no_range h f p q ∷ []) (range_test h f p q l l2);
-  each = edit_case h k f (del t p q) (cut_out p q) o files refl refl
-      (λ r a. (refl, refl, refl, (refl, agrees_removed r t p q a)));
+sync_cut h r f p q a = record {
+  passes = open_tests h f a.0 (no_range h f p q ∷ []) (range_test h f p q a.1 a.2);
+  each = edit_case h k f (del t p q) (cut_out p q) a.0 files refl refl
+      (λ rasp x. (refl, refl, refl, (refl, agrees_removed rasp t p q x)));
   gone = lasts.gone;
-  sound = still_has h.files k.files sound refl lasts;
+  sound = still_has h.files k.files r.steady.sound refl lasts;
 }
   where
     t : List ℕ
@@ -61,10 +61,10 @@ sync_cut h f p q sound o l l2 = record {
     k = with_file h f (cut_file f (file_at h.files f) p q)
 
     files : (g : ℕ) → file_in k.files.slots g ≡ put (file_in h.files.slots) f (Opened (del t p q)) g
-    files = put_opened h.files f o.given (cut_file f (file_at h.files f) p q) o.opened
+    files = put_opened h.files f a.0.given (cut_file f (file_at h.files f) p q) a.0.opened
 
     lasts : Lasts (file_in h.files.slots) (file_in k.files.slots)
-    lasts = lasts_opened (file_in h.files.slots) (file_in k.files.slots) f t (del t p q) o.shown files
+    lasts = lasts_opened (file_in h.files.slots) (file_in k.files.slots) f t (del t p q) a.0.shown files
 
 -- the tests of typing
 pub type_passes : (h : PlainHost) (f p : ℕ) (s : List ℕ) → Opens h.files f → p ≤ length (file_at h.files f).text → length (file_at h.files f).text + length s ≤ max_runes
@@ -72,10 +72,10 @@ pub type_passes : (h : PlainHost) (f p : ℕ) (s : List ℕ) → Opens h.files f
 type_passes h f p s o l room = open_tests h f o (past_end h f p ∷ no_room h f s ∷ []) (place_test h f p (no_room h f s ∷ []) l (room_test h f s room))
 
 -- typing that ends no line of tag 0
-pub sync_type : (h : PlainHost) (f p : ℕ) (s : List ℕ) → HasFiles h.files → Opens h.files f → p ≤ length (file_at h.files f).text → length (file_at h.files f).text + length s ≤ max_runes
+pub sync_short : (h : PlainHost) (f p : ℕ) (s : List ℕ) → HasFiles h.files → Opens h.files f → p ≤ length (file_at h.files f).text → length (file_at h.files f).text + length s ≤ max_runes
     → is_command_line f s ≡ false → Synced h (Ttype f p s)
 unfolding reply_type
-sync_type h f p s sound o l room ends = record {
+sync_short h f p s sound o l room ends = record {
   passes = type_passes h f p s o l room;
   each = λ g w x. subst
       (λ (b : Bool). Settles (at_file g (if b then line else (typed, [])).1) (changed (type_change (if b then CommandLock else NoLock) f p s) g w) (if b then line else (typed, [])).0.is_done
@@ -118,23 +118,23 @@ checks f t a g w d n file was s close crossing m = go (cases_Bool (g == f))
 kept_files : (h : PlainHost) (fs : PlainFiles) → fs.slots ≡ h.files.slots → fs.work ≡ h.files.work → HasFiles h.files → HasFiles fs
 kept_files h fs slots work sound = still_has h.files fs sound work (lasts_same (file_in h.files.slots) (file_in fs.slots) (λ g. ap (λ (ss : Slots PlainFile). file_in ss g) slots))
 
-pub sync_check : (h : PlainHost) (f : ℕ) → HasFiles h.files → Opens h.files f → Synced h (Tcheck f)
+pub sync_check : (h : PlainHost) → Ready h → (f : ℕ) → Accepted h (Tcheck f) → Synced h (Tcheck f)
 unfolding reply_check
-sync_check h f sound o = record {
-  passes = open_tests h f o [] refl;
-  each = λ g w s. checks f (file_at h.files f).text Needs_open g w h.is_done h.version (file_in h.files.slots g) (λ e. ap (file_in h.files.slots) e ∙ o.shown) s refl refl (λ r. refl);
+sync_check h r f a = record {
+  passes = open_tests h f a [] refl;
+  each = λ g w s. checks f (file_at h.files f).text Needs_open g w h.is_done h.version (file_in h.files.slots g) (λ e. ap (file_in h.files.slots) e ∙ a.shown) s refl refl (λ rasp. refl);
   gone = λ g q. q;
-  sound = sound;
+  sound = r.steady.sound;
 }
 
-pub sync_work : (h : PlainHost) (f p q : ℕ) → HasFiles h.files → Opens h.files f → (f == 0) ≡ false → p ≤ q → q ≤ length (file_at h.files f).text → Synced h (Tworkfile f p q)
+pub sync_work : (h : PlainHost) → Ready h → (f p q : ℕ) → Accepted h (Tworkfile f p q) → Synced h (Tworkfile f p q)
 unfolding reply_workfile
-sync_work h f p q sound o z l l2 = record {
-  passes = window_tests h f o z (no_range h f p q ∷ []) (range_test h f p q l l2);
+sync_work h r f p q a = record {
+  passes = window_tests h f a.0 a.3 (no_range h f p q ∷ []) (range_test h f p q a.1 a.2);
   each = λ g w s. subst (λ (x : HFile). Settles (only (g == f) Needs_known ∷ []) w h.is_done h.version x) (sym (same g))
-      (checks f (file_at h.files f).text Needs_known g w h.is_done h.version (file_in h.files.slots g) (λ e. ap (file_in h.files.slots) e ∙ o.shown) s refl refl (λ r. refl));
+      (checks f (file_at h.files f).text Needs_known g w h.is_done h.version (file_in h.files.slots g) (λ e. ap (file_in h.files.slots) e ∙ a.0.shown) s refl refl (λ rasp. refl));
   gone = λ g e. same g ∙ e;
-  sound = works_on h.files k f sound refl z (subst IsOpened (sym (same f ∙ o.shown)) tt) (lasts_same (file_in h.files.slots) (file_in k.slots) same);
+  sound = works_on h.files k f r.steady.sound refl a.3 (subst IsOpened (sym (same f ∙ a.0.shown)) tt) (lasts_same (file_in h.files.slots) (file_in k.slots) same);
 }
   where
     x : PlainFile
@@ -144,25 +144,27 @@ sync_work h f p q sound o z l l2 = record {
     k = record h.files { slots = put_slot h.files.slots f x; work = Some f }
 
     same : (g : ℕ) → file_in k.slots g ≡ file_in h.files.slots g
-    same g = put_opened h.files f o.given x o.opened g ∙ sym (put_again (file_in h.files.slots) f (Opened (file_at h.files f).text) g o.shown)
+    same g = put_opened h.files f a.0.given x a.0.opened g ∙ sym (put_again (file_in h.files.slots) f (Opened (file_at h.files f).text) g a.0.shown)
 
-pub sync_snarf : (h : PlainHost) (f p q : ℕ) → HasFiles h.files → Opens h.files f → p ≤ q → q ≤ length (file_at h.files f).text → Synced h (Tsnarf f p q)
+pub sync_snarf : (h : PlainHost) → Ready h → (f p q : ℕ) → Accepted h (Tsnarf f p q) → Synced h (Tsnarf f p q)
 unfolding reply_snarf
-sync_snarf h f p q sound o l l2 = record {
-  passes = open_tests h f o (no_range h f p q ∷ []) (range_test h f p q l l2);
+sync_snarf h r f p q a = record {
+  passes = open_tests h f a.0 (no_range h f p q ∷ []) (range_test h f p q a.1 a.2);
   each = λ g w s. kept_skips (Skip ∷ []) w h.is_done h.version (file_in h.files.slots g) (refl, tt) s;
   gone = λ g q. q;
-  sound = kept_files h _ refl refl sound;
+  sound = kept_files h _ refl refl r.steady.sound;
 }
 
-pub sync_get_snarf : (h : PlainHost) → HasFiles h.files → Synced h Tstartsnarf
+pub sync_get_snarf : (h : PlainHost) → Ready h → Accepted h Tstartsnarf → Synced h Tstartsnarf
 unfolding reply_startsnarf
-sync_get_snarf h sound = record { passes = refl; each = λ g w s. kept_skips (Skip ∷ []) w h.is_done h.version (file_in h.files.slots g) (refl, tt) s; gone = λ g q. q; sound = sound }
+sync_get_snarf h r a = record { passes = refl; each = λ g w s. kept_skips (Skip ∷ []) w h.is_done h.version (file_in h.files.slots g) (refl, tt) s; gone = λ g q. q; sound = r.steady.sound }
 
-pub sync_set_snarf : (h : PlainHost) (s : List ℕ) → HasFiles h.files → Synced h (Tsetsnarf s)
+pub sync_set_snarf : (h : PlainHost) → Ready h → (s : List ℕ) → Accepted h (Tsetsnarf s) → Synced h (Tsetsnarf s)
 unfolding reply_setsnarf
-sync_set_snarf h s sound =
-    record { passes = refl; each = λ g w x. kept_skips (Skip ∷ []) w h.is_done h.version (file_in h.files.slots g) (refl, tt) x; gone = λ g q. q; sound = kept_files h _ refl refl sound }
+sync_set_snarf h r s a =
+    record { passes = refl; each = λ g w x. kept_skips (Skip ∷ []) w h.is_done h.version (file_in h.files.slots g) (refl, tt) x; gone = λ g q. q; sound = kept_files h _ refl refl r.steady.sound }
 
-pub sync_ack : (h : PlainHost) → HasFiles h.files → Synced h Tack
-sync_ack h sound = record { passes = refl; each = λ g w x. nothing w h.is_done h.version (file_in h.files.slots g) x; gone = λ g q. q; sound = sound }
+pub sync_ack : (h : PlainHost) → Ready h → Accepted h Tack → Synced h Tack
+sync_ack h r a = record { passes = refl; each = λ g w x. nothing w h.is_done h.version (file_in h.files.slots g) x; gone = λ g q. q; sound = r.steady.sound }
+
+pub ruleset edits = (sync_check, sync_work, sync_cut, sync_snarf, sync_get_snarf, sync_set_snarf, sync_ack)

@@ -21,8 +21,7 @@ use Rattle.sam_protocol.proofs.Lenses.{locked_more, AreSkips, request_actions}
 use Rattle.sam_protocol.specs.Frames.{at_file, only}
 use Rattle.sam_protocol.proofs.Changes.{Change, Lock, changed, change_by}
 use Rattle.sam_protocol.specs.View.{file_in}
-use Rattle.sam_protocol.specs.Steady.{HasFiles}
-use Rattle.sam_protocol.proofs.Accepting.{Synced}
+use Rattle.sam_protocol.proofs.Accepting.{Synced, Accepted, Ready}
 use Rattle.sam_protocol.proofs.Runs.{run-append_some}
 use Rattle.sam_protocol.proofs.AllSettle.{kept_skips, kept_data, settled_opened}
 use Rattle.sam_protocol.proofs.HostFiles.{put, put_again, put_opened, Opens, Lasts, lasts_opened, still_has}
@@ -47,8 +46,8 @@ record Freed (h : PlainHost) (f : ℕ) (r : Reply) : Type 0 where
   elsewhere : (g : ℕ) → (g == f) ≡ false → AreSkips (at_file g r.1)
 
 -- a message that locks f, with such an answer
-locks : (h : PlainHost) (m : Tmesg) (f : ℕ) → change_by m ≡ Lock f → HasFiles h.files → Opens h.files f → first_of_checks (host_checks h m) ≡ None → Freed h f (reply_to h m) → Synced h m
-locks h m f c sound o passes k = record { passes = passes; each = each; gone = lasts.gone; sound = still_has h.files r.0.files sound k.has.work lasts }
+locks : (h : PlainHost) → Ready h → (m : Tmesg) (f : ℕ) → change_by m ≡ Lock f → Opens h.files f → first_of_checks (host_checks h m) ≡ None → Freed h f (reply_to h m) → Synced h m
+locks h y m f c o passes k = record { passes = passes; each = each; gone = lasts.gone; sound = still_has h.files r.0.files y.steady.sound k.has.work lasts }
   where
     r : Reply
     r = reply_to h m
@@ -152,62 +151,62 @@ searched_in t lit q l = searched_within t lit q l
 
 -- ## The messages
 
-pub sync_origin : (h : PlainHost) (f p n : ℕ) → HasFiles h.files → Opens h.files f → p ≤ length (file_at h.files f).text → Synced h (Torigin f p n)
+pub sync_origin : (h : PlainHost) → Ready h → (f p n : ℕ) → Accepted h (Torigin f p n) → Synced h (Torigin f p n)
 unfolding reply_origin
-sync_origin h f p n sound o l =
+sync_origin h r f p n a =
     let t : List ℕ = (file_at h.files f).text in
     let at : ℕ = lines_before t p n in
-    locks h (Torigin f p n) f refl sound o (open_tests h f o (past_end h f p ∷ []) (place_test h f p [] l refl))
-    (freed h h f (Horigin f at ∷ []) t (has_same h f o) (told_origin f at t (lines_before_within t p n)))
+    locks h r (Torigin f p n) f refl a.0 (open_tests h f a.0 (past_end h f p ∷ []) (place_test h f p [] a.1 refl))
+    (freed h h f (Horigin f at ∷ []) t (has_same h f a.0) (told_origin f at t (lines_before_within t p n)))
 
-pub sync_write : (h : PlainHost) (f : ℕ) → HasFiles h.files → Opens h.files f → (f == 0) ≡ false → Synced h (Twrite f)
+pub sync_write : (h : PlainHost) → Ready h → (f : ℕ) → Accepted h (Twrite f) → Synced h (Twrite f)
 unfolding reply_write
-sync_write h f sound o z =
+sync_write h r f a =
     let file : PlainFile = file_at h.files f in
     let written : PlainFile = record file { saved = Some file.text; dirty = false } in
-    locks h (Twrite f) f refl sound o (window_tests h f o z [] refl)
-    (freed h (with_file h f written) f (Hclean f ∷ []) file.text (has_put h f written o o.opened) (told_clean f file.text))
+    locks h r (Twrite f) f refl a.0 (window_tests h f a.0 a.1 [] refl)
+    (freed h (with_file h f written) f (Hclean f ∷ []) file.text (has_put h f written a.0 a.0.opened) (told_clean f file.text))
 
-pub sync_dclick : (h : PlainHost) (f p : ℕ) → HasFiles h.files → Opens h.files f → p ≤ length (file_at h.files f).text → Synced h (Tdclick f p)
+pub sync_dclick : (h : PlainHost) → Ready h → (f p : ℕ) → Accepted h (Tdclick f p) → Synced h (Tdclick f p)
 unfolding reply_dclick
-sync_dclick h f p sound o l =
+sync_dclick h r f p a =
     let file : PlainFile = file_at h.files f in
     let d : Range = word_at file.text p in
-    let in_text = word_at_within file.text p l in
-    locks h (Tdclick f p) f refl sound o (open_tests h f o (past_end h f p ∷ []) (place_test h f p [] l refl))
-    (freed h (with_file h f (record file { dot = d })) f (Hsetdot f d.0 d.1 ∷ []) file.text (has_put h f (record file { dot = d }) o o.opened) (told_dot f d.0 d.1 file.text in_text.0 in_text.1))
+    let in_text = word_at_within file.text p a.1 in
+    locks h r (Tdclick f p) f refl a.0 (open_tests h f a.0 (past_end h f p ∷ []) (place_test h f p [] a.1 refl))
+    (freed h (with_file h f (record file { dot = d })) f (Hsetdot f d.0 d.1 ∷ []) file.text (has_put h f (record file { dot = d }) a.0 a.0.opened) (told_dot f d.0 d.1 file.text in_text.0 in_text.1))
 
-pub sync_look : (h : PlainHost) (f p q : ℕ) → HasFiles h.files → Opens h.files f → p ≤ q → q ≤ length (file_at h.files f).text → Synced h (Tlook f p q)
+pub sync_look : (h : PlainHost) → Ready h → (f p q : ℕ) → Accepted h (Tlook f p q) → Synced h (Tlook f p q)
 unfolding reply_look
-sync_look h f p q sound o l l2 =
+sync_look h r f p q a =
     let t : List ℕ = (file_at h.files f).text in
     let lit : List ℕ = part t p q in
     let k : PlainHost = with_files h (record h.files { pattern = Some lit }) in
-    let x = freed_found k f (searched t lit q) (Hsetpat lit ∷ []) (record { given = o.given; there = o.there; opened = o.opened; shown = o.shown }) (searched_in t lit q l2) (told_pattern f lit t) in
-    locks h (Tlook f p q) f refl sound o (open_tests h f o (no_range h f p q ∷ []) (range_test h f p q l l2))
+    let x = freed_found k f (searched t lit q) (Hsetpat lit ∷ []) (record { given = a.0.given; there = a.0.there; opened = a.0.opened; shown = a.0.shown }) (searched_in t lit q a.2) (told_pattern f lit t) in
+    locks h r (Tlook f p q) f refl a.0 (open_tests h f a.0 (no_range h f p q ∷ []) (range_test h f p q a.1 a.2))
     (freed_if h f (may_look lit) (reply_found k f (searched t lit q) (Hsetpat lit ∷ [])) (h, Hunlockfile f ∷ [])
     (λ e. record { text = x.text; has = record { files = x.has.files; work = x.has.work; done = x.has.done; version = x.has.version }; here = x.here; elsewhere = x.elsewhere })
-    (λ e. freed_only h f o))
+    (λ e. freed_only h f a.0))
 
-pub sync_search : (h : PlainHost) (f p q : ℕ) → HasFiles h.files → Opens h.files f → p ≤ q → q ≤ length (file_at h.files f).text → Synced h (Tsearch f p q)
+pub sync_search : (h : PlainHost) → Ready h → (f p q : ℕ) → Accepted h (Tsearch f p q) → Synced h (Tsearch f p q)
 unfolding reply_search
-sync_search h f p q sound o l l2 =
-    locks h (Tsearch f p q) f refl sound o (open_tests h f o (no_range h f p q ∷ []) (range_test h f p q l l2))
-    (freed_found h f (searched_for h.files.pattern t q) [] o (found h.files.pattern) (told_nothing f t))
+sync_search h r f p q a =
+    locks h r (Tsearch f p q) f refl a.0 (open_tests h f a.0 (no_range h f p q ∷ []) (range_test h f p q a.1 a.2))
+    (freed_found h f (searched_for h.files.pattern t q) [] a.0 (found h.files.pattern) (told_nothing f t))
   where
     t : List ℕ
     t = (file_at h.files f).text
 
     found : (lit : Option (List ℕ)) → InText t (searched_for lit t q)
     found None = tt
-    found (Some lit) = searched_within t lit q l2
+    found (Some lit) = searched_within t lit q a.2
 
-pub sync_paste : (h : PlainHost) (f p : ℕ) → HasFiles h.files → Opens h.files f → p ≤ length (file_at h.files f).text → Synced h (Tpaste f p)
+pub sync_paste : (h : PlainHost) → Ready h → (f p : ℕ) → Accepted h (Tpaste f p) → Synced h (Tpaste f p)
 unfolding reply_paste
-sync_paste h f p sound o l =
-    locks h (Tpaste f p) f refl sound o (open_tests h f o (past_end h f p ∷ []) (place_test h f p [] l refl))
+sync_paste h r f p a =
+    locks h r (Tpaste f p) f refl a.0 (open_tests h f a.0 (past_end h f p ∷ []) (place_test h f p [] a.1 refl))
     (freed_if h f (is_empty s || nat_lt max_runes (length t + length s)) (h, Hunlockfile f ∷ []) (with_file h f pasted, (grown h.files f p s ++ dirty) ++ (last ++ Hunlockfile f ∷ []))
-    (λ e. freed_only h f o) (λ e. fits (ltb-false _ _ (or_parts (is_empty s) (nat_lt max_runes (length t + length s)) e).1)))
+    (λ e. freed_only h f a.0) (λ e. fits (ltb-false _ _ (or_parts (is_empty s) (nat_lt max_runes (length t + length s)) e).1)))
   where
     file : PlainFile
     file = file_at h.files f
@@ -229,14 +228,14 @@ sync_paste h f p sound o l =
 
     fits : length t + length s ≤ max_runes → Freed h f (with_file h f pasted, (grown h.files f p s ++ dirty) ++ (last ++ Hunlockfile f ∷ []))
     fits room =
-        let longer : length (ins t p s) ≡ length t + length s = length-ins t s p l in
+        let longer : length (ins t p s) ≡ length t + length s = length-ins t s p a.1 in
         let first : p ≤ p + length s = omega arith in
-        let end : p + length s ≤ length (ins t p s) = omega (arith, longer, l) in
+        let end : p + length s ≤ length (ins t p s) = omega (arith, longer, a.1) in
         freed_by h f (with_file h f pasted) ((grown h.files f p s ++ dirty) ++ (last ++ Hunlockfile f ∷ [])) (((grown h.files f p s ++ dirty) ++ last) ++ Hunlockfile f ∷ [])
         (append_assoc (grown h.files f p s ++ dirty) last (Hunlockfile f ∷ []))
-        (freed h (with_file h f pasted) f ((grown h.files f p s ++ dirty) ++ last) (ins t p s) (has_put h f pasted o o.opened)
+        (freed h (with_file h f pasted) f ((grown h.files f p s ++ dirty) ++ last) (ins t p s) (has_put h f pasted a.0 a.0.opened)
         (told-append f (grown h.files f p s ++ dirty) last t (ins t p s) (ins t p s)
-        (told-append f (grown h.files f p s) dirty t (ins t p s) (ins t p s) (told_grown h.files f p s t o.opened l room) (told_if _ f (Hdirty f ∷ []) (ins t p s) (told_dirty f (ins t p s))))
+        (told-append f (grown h.files f p s) dirty t (ins t p s) (ins t p s) (told_grown h.files f p s t a.0.opened a.1 room) (told_if _ f (Hdirty f ∷ []) (ins t p s) (told_dirty f (ins t p s))))
         (told-append f (Hsetdot f p (p + length s) ∷ []) (Hcheck f ∷ []) (ins t p s) (ins t p s) (ins t p s) (told_dot f p (p + length s) (ins t p s) first end) (told_check f (ins t p s)))))
 
 -- ## A request
@@ -276,18 +275,20 @@ none_tells h f p n e g =
     ap (λ (x : Option PlainFile). at_file g (if is_some x then Hdata f (min p (length t)) (part t (min p (length t)) (min (p + min n most_in_message) (length t))) ∷ Hunlockfile f ∷ [] else [])) e
 
 -- one that an event composes
-pub sync_request : (h : PlainHost) (f p n : ℕ) → h.is_done ≡ false → HasFiles h.files → Opens h.files f → Synced h (Trequest f p n)
+pub sync_request : (h : PlainHost) → Ready h → (f p n : ℕ) → Accepted h (Trequest f p n) → Synced h (Trequest f p n)
 unfolding reply_request
-sync_request h f p n d sound o =
-    locks h (Trequest f p n) f refl sound o (request_passes h f p n o.given (open_passes h f o))
-    (record { text = t; has = has_same h f o; here = here; elsewhere = λ g e. tells_elsewhere f g (reply_request h f p n).1 (request_actions false (Opened t) p n) (request_tells h f p n o g) e })
+sync_request h r f p n a =
+    locks h r (Trequest f p n) f refl a (request_passes h f p n a.given (open_passes h f a))
+    (record { text = t; has = has_same h f a; here = here; elsewhere = λ g e. tells_elsewhere f g (reply_request h f p n).1 (request_actions false (Opened t) p n) (request_tells h f p n a g) e })
   where
     t : List ℕ
     t = (file_at h.files f).text
 
     here : (rasp : List (Option ℕ)) → Agrees rasp t → Settles (at_file f (reply_request h f p n).1) (lens false h.is_done h.version (Open rasp 1)) h.is_done h.version (Opened t)
-    here rasp a =
+    here rasp agrees =
         subst (λ (u : List Action). Settles u (lens false h.is_done h.version (Open rasp 1)) h.is_done h.version (Opened t))
-        (sym (tells_there f f (reply_request h f p n).1 (request_actions false (Opened t) p n) (request_tells h f p n o f) (eq-eqb f f refl)))
-        (subst (λ (b : Bool). Settles (request_actions b (Opened t) p n) (lens false h.is_done h.version (Open rasp 1)) h.is_done h.version (Opened t)) d
-        (kept_data h.is_done h.version rasp t p n d a))
+        (sym (tells_there f f (reply_request h f p n).1 (request_actions false (Opened t) p n) (request_tells h f p n a f) (eq-eqb f f refl)))
+        (subst (λ (b : Bool). Settles (request_actions b (Opened t) p n) (lens false h.is_done h.version (Open rasp 1)) h.is_done h.version (Opened t)) r.running
+        (kept_data h.is_done h.version rasp t p n r.running agrees))
+
+pub ruleset file_locks = (sync_request, sync_origin, sync_paste, sync_write, sync_look, sync_search, sync_dclick)

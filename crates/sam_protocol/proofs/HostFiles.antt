@@ -99,23 +99,38 @@ not_given ss g l = λ i. file_of_slot (le-ltb g (length ss) l i) (slot_past ss g
 
 -- ## A file that is there
 
-pub record IsThere (fs : PlainFiles) (f : ℕ) : Type 0 where
-  pub file : PlainFile
-  pub there : slot fs.slots f ≡ Some file
-
-pub some_at : (fs : PlainFiles) (f : ℕ) (y : HFile) → file_in fs.slots f ≡ y → (y ≡ Absent → ⊥) → (y ≡ Gone → ⊥) → IsThere fs f
-some_at fs f y e na ng = go (slot fs.slots f) refl (nat_lt f (length fs.slots)) e
-  where
-    go : (s : Option PlainFile) → slot fs.slots f ≡ s → (b : Bool) → file_of_slot b s ≡ y → IsThere fs f
-    go None q true e = absurd (ng (sym e))
-    go None q false e = absurd (na (sym e))
-    go (Some x) q b e = record { file = x; there = q }
-
 pub in_slots : (fs : PlainFiles) (f : ℕ) (x : PlainFile) → slot fs.slots f ≡ Some x → f < length fs.slots
 in_slots fs f x e = slot_given fs.slots f (ap is_some e)
 
 pub at_there : (fs : PlainFiles) (f : ℕ) (x : PlainFile) → slot fs.slots f ≡ Some x → file_at fs f ≡ x
 at_there fs f x e = ap (λ (s : Option PlainFile). unwrap_or s blank_file) e
+
+-- a file that is open, or closed with this mark
+pub record IsThere (fs : PlainFiles) (f : ℕ) (announced : Bool) : Type 0 where
+  pub file : PlainFile
+  pub there : slot fs.slots f ≡ Some file
+  pub kind : ((file_at fs f).opened ≡ true) ⊎ (((file_at fs f).opened ≡ false) × ((file_at fs f).announced ≡ announced))
+
+pub is_there : (fs : PlainFiles) (f : ℕ) (a : Bool) (P : HFile → Type 0) → (P Absent → ⊥) → (P Gone → ⊥) → ((t : List ℕ) → P (if a then Hidden t else Named t) → ⊥) → P (file_in fs.slots f)
+    → IsThere fs f a
+is_there fs f a P none gone other p = go (slot fs.slots f) refl (nat_lt f (length fs.slots)) p
+  where
+    kind : (x : PlainFile) (o n a : Bool) → ((t : List ℕ) → P (if a then Hidden t else Named t) → ⊥) → x.opened ≡ o → x.announced ≡ n
+        → P (if o then Opened x.text else if n then Named x.text else Hidden x.text) → (x.opened ≡ true) ⊎ ((x.opened ≡ false) × (x.announced ≡ a))
+    kind x true n a other e q p = inl e
+    kind x false true true other e q p = inr (e, q)
+    kind x false false false other e q p = inr (e, q)
+    kind x false true false other e q p = absurd (other x.text p)
+    kind x false false true other e q p = absurd (other x.text p)
+
+    go : (s : Option PlainFile) → slot fs.slots f ≡ s → (b : Bool) → P (file_of_slot b s) → IsThere fs f a
+    go None q true p = absurd (gone p)
+    go None q false p = absurd (none p)
+    go (Some x) q b p = record {
+      file = x;
+      there = q;
+      kind = subst (λ (y : PlainFile). (y.opened ≡ true) ⊎ ((y.opened ≡ false) × (y.announced ≡ a))) (sym (at_there fs f x q)) (kind x x.opened x.announced a other refl refl p);
+    }
 
 pub shown_there : (fs : PlainFiles) (f : ℕ) (x : PlainFile) → slot fs.slots f ≡ Some x → file_in fs.slots f ≡ file_of x
 shown_there fs f x e = ap (file_of_slot (nat_lt f (length fs.slots))) e
@@ -123,17 +138,6 @@ shown_there fs f x e = ap (file_of_slot (nat_lt f (length fs.slots))) e
 -- the file there, as it is read by its tag
 pub shown_at : (fs : PlainFiles) (f : ℕ) (x : PlainFile) → slot fs.slots f ≡ Some x → file_in fs.slots f ≡ file_of (file_at fs f)
 shown_at fs f x e = shown_there fs f x e ∙ ap file_of (sym (at_there fs f x e))
-
-pub closed_file : (x : PlainFile) (a : Bool) (t : List ℕ) → file_of x ≡ (if a then Named t else Hidden t) → (x.opened ≡ false) × (x.announced ≡ a) × (x.text ≡ t)
-closed_file x a t e = go x.opened x.announced a e
-  where
-    go : (o n a : Bool) → (if o then Opened x.text else if n then Named x.text else Hidden x.text) ≡ (if a then Named t else Hidden t) → (o ≡ false) × (n ≡ a) × (x.text ≡ t)
-    go true n true e = cc
-    go true n false e = cc
-    go false true true e = (refl, refl, cc)
-    go false false true e = cc
-    go false true false e = cc
-    go false false false e = (refl, refl, cc)
 
 pub file_opened : (x : PlainFile) → x.opened ≡ true → file_of x ≡ Opened x.text
 file_opened x e = ap (λ (b : Bool). if b then Opened x.text else if x.announced then Named x.text else Hidden x.text) e

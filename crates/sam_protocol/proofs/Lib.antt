@@ -16,7 +16,6 @@ pub mod Edits
 pub mod Commands
 pub mod Announcing
 pub mod Lines
-pub mod Handling
 pub mod Steady
 pub mod Folds
 pub mod Composing

@@ -1,7 +1,7 @@
 -- The two messages that run a command line, and what a line does: from settled to settled.
 use Rattle.std.proofs.Common.{◌≡◌, ℕ, ◌+◌, ◌-◌, ◌≤◌, Bool, true, false, not, ◌||◌, ◌&&◌, ◌==◌, if◌then◌else◌, List, [], ◌∷◌, ◌++◌, length, map, reverse, Option, Some, None, Result, Ok, Err, unwrap_or, ◌⊎◌, inl, inr, refl, sym, ap, ◌∙◌, subst, true≢false, eqb-true, eq-eqb}
 use Rattle.std.specs.Prelude.{option_map, option_and_then, flat_map}
-use Rattle.std.proofs.lemmas.Bool.{cases_Bool}
+use Rattle.std.proofs.lemmas.Bool.{cases_Bool, and_parts}
 use Rattle.sam_runes.specs.Texts.{Range, ins, is_empty, max_runes, part, line_start, ends_line, as_lines, last_line}
 use Rattle.sam_runes.specs.Slots.{slot, put_slot}
 use Rattle.sam_runes.proofs.EditLaws.{last_first_is_at_once, edits_fit}
@@ -21,20 +21,21 @@ use Rattle.sam_mesg.specs.declared.tmesg.Tmesg.TheVariants.{Ttype, Tsend}
 use Rattle.sam_mesg.specs.declared.hmesg.Hmesg.{Hmesg}
 use Rattle.sam_mesg.specs.declared.hmesg.Hmesg.TheVariants.{Hmovname, Hdirty, Hsetpat, Hsetdot, Hcheck, Hexit, Hunlock}
 use Rattle.sam_term.specs.declared.lock.Lock.TheVariants.{CommandLock, NoLock}
+use Rattle.sam_term.specs.Events.{is_command_line}
 use Rattle.sam_host.specs.Host.{PlainHost, Reply, with_file, with_files, when, when_given, printed, told_edit, told_outcome, no_range, reply_line, reply_type, reply_send}
 use Rattle.sam_protocol.specs.Lens.{Slot, Open, Lens, lens, Action, Free_command, HFile, Opened, Fits_slot, IsSettled, Settles}
 use Rattle.sam_protocol.proofs.Lenses.{AreSkips}
 use Rattle.sam_protocol.specs.Frames.{at_file}
 use Rattle.sam_protocol.proofs.Changes.{type_change, typed_in, commanded, changed}
 use Rattle.sam_protocol.specs.View.{file_in}
-use Rattle.sam_protocol.specs.Steady.{HasFiles, IsSteady}
-use Rattle.sam_protocol.proofs.Accepting.{Synced}
+use Rattle.sam_protocol.specs.Steady.{HasFiles}
+use Rattle.sam_protocol.proofs.Accepting.{Synced, Accepted, Ready, first_there}
 use Rattle.sam_protocol.proofs.AllSettle.{settled_slot, settled_opened}
-use Rattle.sam_protocol.proofs.HostFiles.{put, put_other, put_opened, Opens, work_opens, Lasts, lasts_same, lasts_then, lasts_opened, still_has, at_there}
+use Rattle.sam_protocol.proofs.HostFiles.{IsThere, put, put_other, put_opened, Opens, work_opens, Lasts, lasts_same, lasts_then, lasts_opened, still_has, at_there}
 use Rattle.sam_protocol.proofs.Tests.{open_tests, range_test}
 use Rattle.sam_protocol.proofs.Guards.{at_file-append}
 use Rattle.sam_protocol.proofs.Telling.{Told, told-append, told_if, told_given, told_edits, told_dot, told_check, told_dirty, told_name, told_pattern}
-use Rattle.sam_protocol.proofs.Edits.{type_passes}
+use Rattle.sam_protocol.proofs.Edits.{type_passes, sync_short}
 use Rattle.sam_protocol.proofs.Commands.{stays_put, Carries, carries_nothing, carries-append, carries_told, unlocks, exits_kept, unlocked_only, unlocked_if, sync_by, printed_carries}
 
 -- ## What a line does to the work file
@@ -224,12 +225,10 @@ line_sound k before line sound fit holds =
 -- ## The messages
 
 -- typing that ends a line of tag 0
-pub sync_line : (h : PlainHost) (p : ℕ) (s : List ℕ) → IsSteady h → h.is_done ≡ false → Opens h.files 0 → Holds h.files → p ≤ length (file_at h.files 0).text
-    → length (file_at h.files 0).text + length s ≤ max_runes
-    → ((0 == 0) && ends_line s) ≡ true → Synced h (Ttype 0 p s)
+sync_line : (h : PlainHost) → Ready h → (p : ℕ) (s : List ℕ) → Accepted h (Ttype 0 p s) → is_command_line 0 s ≡ true → Synced h (Ttype 0 p s)
 unfolding reply_type
-sync_line h p s steady done o holds l room ends = record {
-  passes = type_passes h 0 p s o l room;
+sync_line h r p s o ends = record {
+  passes = type_passes h 0 p s o.0 o.1 o.2;
   each = λ g w x. subst
       (λ (b : Bool). Settles (at_file g (if b then run else (typed_host, [])).1) (changed (type_change (if b then CommandLock else NoLock) 0 p s) g w)
       (if b then run else (typed_host, [])).0.is_done (if b then run else (typed_host, [])).0.version (file_in (if b then run else (typed_host, [])).0.files.slots g)) (sym ends) (each g w x);
@@ -237,6 +236,9 @@ sync_line h p s steady done o holds l room ends = record {
   sound = subst (λ (b : Bool). HasFiles (if b then run else (typed_host, [])).0.files) (sym ends) (line_sound typed_host [] text has fit holds2);
 }
   where
+    there : IsThere h.files 0 false
+    there = first_there h r
+
     t : List ℕ
     t = (file_at h.files 0).text
 
@@ -256,19 +258,19 @@ sync_line h p s steady done o holds l room ends = record {
     a = file_in typed_host.files.slots
 
     files : (g : ℕ) → a g ≡ put (file_in h.files.slots) 0 (Opened (ins t p s)) g
-    files = put_opened h.files 0 o.given file o.opened
+    files = put_opened h.files 0 o.0.given file o.0.opened
 
     lasts : Lasts (file_in h.files.slots) a
-    lasts = lasts_opened (file_in h.files.slots) a 0 t (ins t p s) o.shown files
+    lasts = lasts_opened (file_in h.files.slots) a 0 t (ins t p s) o.0.shown files
 
     has : HasFiles typed_host.files
-    has = still_has h.files typed_host.files steady.sound refl lasts
+    has = still_has h.files typed_host.files r.steady.sound refl lasts
 
     fit : AreFit typed_host.files
-    fit = fit-put h.files 0 file steady.fit (fit-typed 0 (file_at h.files 0) p s l room)
+    fit = fit-put h.files 0 file r.steady.fit (fit-typed 0 (file_at h.files 0) p s o.1 o.2)
 
     holds2 : Holds typed_host.files
-    holds2 = holds_put h.files 0 file holds
+    holds2 = holds_put h.files 0 file (there.file, there.there)
 
     line : Lasts a (file_in run.0.files.slots)
     line = line_lasts typed_host [] text has fit holds2
@@ -276,7 +278,7 @@ sync_line h p s steady done o holds l room ends = record {
     slot_of : (g : ℕ) (w : Lens) → IsSettled w h.is_done h.version (file_in h.files.slots g) → ((g == 0) ≡ true) ⊎ ((g == 0) ≡ false)
         → (x : Slot) × (commanded (if g == 0 then typed_in p s w else w) ≡ lens true h.is_done h.version x) × Fits_slot x (a g)
     slot_of g w x (inl e) =
-        let u = settled_opened w h.is_done h.version t (subst (IsSettled w h.is_done h.version) (ap (file_in h.files.slots) (eqb-true _ _ e) ∙ o.shown) x) in (
+        let u = settled_opened w h.is_done h.version t (subst (IsSettled w h.is_done h.version) (ap (file_in h.files.slots) (eqb-true _ _ e) ∙ o.0.shown) x) in (
           Open (ins_cells u.0 p (map Some s)) 0,
           ap (λ (b : Bool). commanded (if b then typed_in p s w else w)) e ∙ ap (λ (y : Lens). commanded (typed_in p s y)) u.1,
           subst (Fits_slot (Open (ins_cells u.0 p (map Some s)) 0)) (sym (files g ∙ ap (λ (b : Bool). if b then Opened (ins t p s) else file_in h.files.slots g) e)) (refl, agrees_typed u.0 t s p u.2),
@@ -294,20 +296,33 @@ sync_line h p s steady done o holds l room ends = record {
     each g w x =
         let u = slot_of g w x (cases_Bool (g == 0)) in
         subst (λ (y : Lens). Settles (at_file g run.1) y run.0.is_done run.0.version (file_in run.0.files.slots g)) (sym u.1)
-        (line_each a typed_host [] text has fit holds2 (carries_nothing h.is_done h.version a a (λ k. refl)) done g u.0 u.2)
+        (line_each a typed_host [] text has fit holds2 (carries_nothing h.is_done h.version a a (λ k. refl)) r.running g u.0 u.2)
+
+pub sync_type : (h : PlainHost) → Ready h → (f p : ℕ) (s : List ℕ) → Accepted h (Ttype f p s) → Synced h (Ttype f p s)
+sync_type h r f p s a = go (cases_Bool (is_command_line f s))
+  where
+    Line : ℕ → Type 0
+    Line g = Accepted h (Ttype g p s) → is_command_line g s ≡ true → Synced h (Ttype g p s)
+
+    go : (is_command_line f s ≡ true) ⊎ (is_command_line f s ≡ false) → Synced h (Ttype f p s)
+    go (inl e) = subst Line (sym (eqb-true f 0 (and_parts (f == 0) (ends_line s) e).0)) (sync_line h r p s) a e
+    go (inr e) = sync_short h f p s r.steady.sound a.0 a.1 a.2 e
 
 -- what is sent is printed as lines, and its last line is run
-pub sync_send : (h : PlainHost) (f p q : ℕ) → IsSteady h → h.is_done ≡ false → Opens h.files f → Holds h.files → p ≤ q → q ≤ length (file_at h.files f).text → Synced h (Tsend f p q)
+pub sync_send : (h : PlainHost) → Ready h → (f p q : ℕ) → Accepted h (Tsend f p q) → Synced h (Tsend f p q)
 unfolding reply_send
-sync_send h f p q steady done o holds l l2 =
-    sync_by h (Tsend f p q) refl (open_tests h f o (no_range h f p q ∷ []) (range_test h f p q l l2))
-    (unlocked_if h ((p == q) || not (has_room h.files s)) (h, Hunlock ∷ []) (reply_line k (printed h.files s) (last_line s)) (λ e. unlocked_only h steady.sound)
+sync_send h r f p q a =
+    sync_by h (Tsend f p q) refl (open_tests h f a.0 (no_range h f p q ∷ []) (range_test h f p q a.1 a.2))
+    (unlocked_if h ((p == q) || not (has_room h.files s)) (h, Hunlock ∷ []) (reply_line k (printed h.files s) (last_line s)) (λ e. unlocked_only h r.steady.sound)
     (λ e. record {
-      each = line_each (file_in h.files.slots) k (printed h.files s) (last_line s) has fit holds2 first done;
+      each = line_each (file_in h.files.slots) k (printed h.files s) (last_line s) has fit holds2 first r.running;
       gone = λ g q. (line_lasts k (printed h.files s) (last_line s) has fit holds2).gone g (first.lasts.gone g q);
       sound = line_sound k (printed h.files s) (last_line s) has fit holds2;
     }))
   where
+    there : IsThere h.files 0 false
+    there = first_there h r
+
     s : List ℕ
     s = as_lines (part (file_at h.files f).text p q)
 
@@ -315,13 +330,15 @@ sync_send h f p q steady done o holds l l2 =
     k = with_files h (after_print h.files s)
 
     first : Carries h.is_done h.version (file_in h.files.slots) (printed h.files s) (file_in k.files.slots)
-    first = printed_carries h.is_done h.version h.files s holds.0 holds.1
+    first = printed_carries h.is_done h.version h.files s there.file there.there
 
     has : HasFiles k.files
-    has = still_has h.files k.files steady.sound (printed_work h.files s) first.lasts
+    has = still_has h.files k.files r.steady.sound (printed_work h.files s) first.lasts
 
     fit : AreFit k.files
-    fit = fit-print h.files s steady.fit
+    fit = fit-print h.files s r.steady.fit
 
     holds2 : Holds k.files
-    holds2 = holds_printed h.files s holds
+    holds2 = holds_printed h.files s (there.file, there.there)
+
+pub ruleset lines = (sync_type, sync_send)

@@ -11,11 +11,9 @@ use Rattle.sam_host.proofs.Keeping.{IsKept, reply_keeps}
 use Rattle.sam_host.specs.Host.{PlainHost, printed, announced_file, announce_all, new_file, reply_to}
 use Rattle.sam_mesg.specs.declared.tmesg.Tmesg.{Tmesg}
 use Rattle.sam_mesg.specs.declared.tmesg.Tmesg.TheVariants.{Tstartfile}
-use Rattle.sam_protocol.specs.Lens.{Named, Opened}
-use Rattle.sam_protocol.specs.View.{file_in}
 use Rattle.sam_protocol.proofs.Accepting.{Synced, Accepted, Ready}
 use Rattle.sam_protocol.specs.Steady.{OpenAnnounced, AllOpenAnnounced, IsSteady}
-use Rattle.sam_protocol.proofs.HostFiles.{opens_at, some_at, closed_file, shown_there, at_there}
+use Rattle.sam_protocol.proofs.HostFiles.{IsThere}
 
 -- ## Open files were announced
 
@@ -83,17 +81,13 @@ announced-committed fs o all = go o.file
     go (Some f) = announced-same fs f (file_after (file_at fs f) o) all refl refl
 
 -- a file that the terminal knows was announced, but tag 0
-known_announced : (h : PlainHost) (f : ℕ) → AllOpenAnnounced h.files → (f == 0) ≡ false
-    → ((t : List ℕ) × (file_in h.files.slots f ≡ Named t)) ⊎ ((t : List ℕ) × (file_in h.files.slots f ≡ Opened t)) → (file_at h.files f).announced ≡ true
-known_announced h f all z (inl t) =
-    let x = some_at h.files f (Named t.0) t.1 (λ e. cc) (λ e. cc) in
-    let c = closed_file x.file true t.0 (sym (shown_there h.files f x.file x.there) ∙ t.1) in
-    ap (λ (y : PlainFile). y.announced) (at_there h.files f x.file x.there) ∙ c.1
-known_announced h f all z (inr t) = go f z (opens_at h.files f t.0 t.1).0.opened
+known_announced : (h : PlainHost) (f : ℕ) → AllOpenAnnounced h.files → (f == 0) ≡ false → IsThere h.files f true → (file_at h.files f).announced ≡ true
+known_announced h f all z x = go f z x.kind
   where
-    go : (k : ℕ) → (k == 0) ≡ false → (file_at h.files k).opened ≡ true → (file_at h.files k).announced ≡ true
+    go : (k : ℕ) → (k == 0) ≡ false → ((file_at h.files k).opened ≡ true) ⊎ (((file_at h.files k).opened ≡ false) × ((file_at h.files k).announced ≡ true)) → (file_at h.files k).announced ≡ true
     go zero z e = absurd (true≢false z)
-    go (suc k) z e = all k e
+    go (suc k) z (inl e) = all k e
+    go (suc k) z (inr e) = e.1
 
 announced_kept : IsKept AllOpenAnnounced
 announced_kept = record {
@@ -118,5 +112,5 @@ pub steady_reply : (h : PlainHost) (m : Tmesg) → Ready h → Accepted h m → 
 steady_reply h m r a s =
     let all = r.steady.announced in
     let started : (f : ℕ) → m ≡ Tstartfile f → AllOpenAnnounced (put_file h.files f (opened_file (file_at h.files f))) =
-    λ f is. announced-put h.files f (opened_file (file_at h.files f)) all (λ z e. known_announced h f all z (subst (Accepted h) is a).1) in
+    λ f is. announced-put h.files f (opened_file (file_at h.files f)) all (λ z e. known_announced h f all z (subst (Accepted h) is a).0) in
     record { sound = s.sound; announced = reply_keeps AllOpenAnnounced announced_kept h m s.passes started all; fit = reply_fits h m s.passes r.steady.fit }
