@@ -71,20 +71,16 @@ open_is P (lens c e n Unknown) o = o
 open_is P (lens c e n Known) o = o
 open_is P (lens c e n (Open r k)) o = tt
 
+ruleset opening = (open_is)
+
+-- the file that a message locks is open, since it rests on that
 opens_for : (m : Tmesg) (v : ℕ → Lens) → CanCompose m v → LockOpens (lock_of m) v
-opens_for (Trequest f p n) v c = open_is Anything (v f) c
-opens_for (Torigin f p n) v c = open_is (Within p p) (v f) c
 opens_for (Ttype f p s) v c = go (is_command_line f s)
   where
     go : (b : Bool) → LockOpens (if b then CommandLock else NoLock) v
     go true = tt
     go false = tt
-opens_for (Tpaste f p) v c = open_is (Within p p) (v f) c
-opens_for (Twrite f) v c = open_is Anything (v f) c.0
-opens_for (Tlook f p q) v c = open_is (Within p q) (v f) c
-opens_for (Tsearch f p q) v c = open_is (Within p q) (v f) c
-opens_for (Tdclick f p) v c = open_is (Within p p) (v f) c
-opens_for _ v c = tt
+opens_for _ v c = search opening
 
 -- where nothing is unsent before and after it
 line_path : (up : List Tmesg) (m : Tmesg) (o o2 : Option Unsent) → o ≡ None → o2 ≡ None → (up ++ unsent_message o) ++ m ∷ [] ≡ (up ++ m ∷ []) ++ unsent_message o2
