@@ -1,4 +1,4 @@
-use Rattle.std.proofs.Common.{◌≡◌, sym, ap, ◌∙◌, ◌-◌, ◌≤◌, length, drop, arith}
+use Rattle.std.proofs.Common.{sym, ap, ◌∙◌, ◌≤◌, length, drop, arith}
 use Rattle.sam_rasp.specs.Sections.{cells_of}
 use Rattle.sam_rasp.proofs.Splices.{change-length}
 use Rattle.sam_rasp.proofs.splice.replace_marked.Goals as goal
