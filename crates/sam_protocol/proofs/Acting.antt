@@ -20,14 +20,14 @@ use Rattle.sam_term.specs.declared.event.UserEvent.TheVariants.{Typed, Select, C
 use Rattle.sam_protocol.specs.Lens as lenses
 use Rattle.sam_protocol.specs.Lens.{Lens, lens, OpenAt, Anything}
 use Rattle.sam_protocol.proofs.Lenses.{IsFree, IsOpen, exited_of, command_of}
-use Rattle.sam_protocol.proofs.Changes.{type_change, cut_out, Within, IsAllowed}
+use Rattle.sam_protocol.proofs.Changes.{type_change, change_by, cut_out, Within, IsAllowed, CanCompose}
 use Rattle.sam_protocol.specs.View.{view}
 use Rattle.sam_protocol.specs.Order.{AreTidy, IsTidyWindow, IsHeldBack, views, InOrder}
 use Rattle.sam_protocol.proofs.Folds.{requests, acknowledges, kept_views}
 use Rattle.sam_protocol.proofs.Views.{view-composed, view-kept, unsent-composed, unsent-flushed, tidy-composed, tidy-window}
 use Rattle.sam_protocol.proofs.Dots.{length-del_cells}
 use Rattle.sam_protocol.proofs.Passing.{Passed, free_at, open_free, opened_at, known_at_view, all_free}
-use Rattle.sam_protocol.proofs.Sending.{Goes, then_goes, nothing_goes, flushed_goes, flushed_views, MaySend, carried, send_one, sends_goes, cut_view, cut_one, open_is, exited_cut, command_cut, free_cut, open_cut}
+use Rattle.sam_protocol.proofs.Sending.{Goes, then_goes, nothing_goes, flushed_goes, flushed_views, MaySend, is_edit, carried, send_one, sends_goes, cut_view, cut_one, open_is, exited_cut, command_cut, free_cut, open_cut}
 use Rattle.sam_protocol.proofs.Typing.{types_goes}
 
 -- ## Requests, and acknowledgements
@@ -117,11 +117,9 @@ after_cut h t up down f o may = go (has_empty_dot t f) refl
 
 -- ## What the tests of an event allow
 
-may_dot : (t : PlainTerminal) (f p q : ℕ) (e : UserEvent) → AreTidy t → t.has_exited ≡ false → t.command_lock ≡ false → not (is_open t f) ≡ false → nat_lt 0 (window_at t f).locks ≡ false
-    → p ≡ (window_at t f).dot.0 → q ≡ (window_at t f).dot.1 → OpenAt (Within p q) (view f t)
-may_dot t f p q e tidy here free opened unlocked ep eq =
-    open_free (Within p q) t f free (not-false (is_open t f) opened) unlocked
-    (let z = tidy f in (omega (arith, z.0, ep, eq), omega (arith, z.1, eq)))
+dot_open : (t : PlainTerminal) (f : ℕ) → AreTidy t → t.command_lock ≡ false → not (is_open t f) ≡ false → nat_lt 0 (window_at t f).locks ≡ false
+    → OpenAt (Within (window_at t f).dot.0 (window_at t f).dot.1) (view f t)
+dot_open t f tidy free opened unlocked = open_free (Within (window_at t f).dot.0 (window_at t f).dot.1) t f free opened unlocked ((tidy f).0, (tidy f).1)
 
 -- the state after the dot was cut: the file is as free as before
 module _ (t u : PlainTerminal) (f p q : ℕ) (shows : (g : ℕ) → view g u ≡ (if g == f then cut_out p q (view g t) else view g t)) where
@@ -150,7 +148,7 @@ type_goes h t up down f s o pass = then_goes h up down (cuts_dot t f) (λ u. if 
     q = (window_at t f).dot.1
 
     may : MaySend (views t) (Tcut f p q)
-    may = record { here = pass.here; free = pass.free; allowed = free_at t f pass.free pass.unlocked; can = may_dot t f p q (Typed f s) o.tidy pass.here pass.free pass.opened pass.unlocked refl refl }
+    may = record { here = pass.here; free = pass.free; allowed = free_at t f pass.free pass.unlocked; can = dot_open t f o.tidy pass.free pass.opened pass.unlocked }
 
     cut : AfterCut h t up down f p q (cuts_dot t f)
     cut = after_cut h t up down f o may
@@ -162,7 +160,7 @@ type_goes h t up down f s o pass = then_goes h up down (cuts_dot t f) (λ u. if 
     Wide r = (p ≤ q) × (q ≤ length r) × (length r - (q - p) + length s ≤ max_runes)
 
     wide : OpenAt Wide (view f t)
-    wide = open_free Wide t f pass.free (not-false (is_open t f) pass.opened) pass.unlocked ((o.tidy f).0, (o.tidy f).1, ltb-false max_runes _ pass.room)
+    wide = open_free Wide t f pass.free pass.opened pass.unlocked ((o.tidy f).0, (o.tidy f).1, ltb-false max_runes _ pass.room)
 
     narrow : (r : List (Option ℕ)) → Wide r → (p ≤ length (del_cells r p q)) × (length (del_cells r p q) + length s ≤ max_runes)
     narrow r w = let n = length-del_cells r p q w.0 w.1 in (omega (arith, n, w.0, w.1), omega (arith, n, w.2))
@@ -194,7 +192,7 @@ paste_goes h t up down f o pass = then_goes h up down (cuts_dot t f) (λ u. send
     q = (window_at t f).dot.1
 
     within : OpenAt (Within p q) (view f t)
-    within = may_dot t f p q (Paste f) o.tidy pass.here pass.free pass.opened pass.unlocked refl refl
+    within = dot_open t f o.tidy pass.free pass.opened pass.unlocked
 
     cut : AfterCut h t up down f p q (cuts_dot t f)
     cut = after_cut h t up down f o (record { here = pass.here; free = pass.free; allowed = free_at t f pass.free pass.unlocked; can = within })
@@ -223,7 +221,7 @@ cut_goes h t up down f o pass = go (has_empty_dot t f)
     q = (window_at t f).dot.1
 
     within : OpenAt (Within p q) (view f t)
-    within = may_dot t f p q (Cut f) o.tidy pass.here pass.free pass.opened pass.unlocked refl refl
+    within = dot_open t f o.tidy pass.free pass.opened pass.unlocked
 
     same : views t ≡ views (flushed t).0
     same = flushed_views t o.unsent
@@ -259,7 +257,7 @@ snarf_goes h t up down f o pass = go (has_empty_dot t f)
     go true = nothing_goes h t up down o
     go false =
         sends_goes h t up down (Tsnarf f p q) o refl
-        (record { here = pass.here; free = pass.free; allowed = tt; can = may_dot t f p q (Snarf f) o.tidy pass.here pass.free pass.opened pass.unlocked refl refl })
+        (record { here = pass.here; free = pass.free; allowed = tt; can = dot_open t f o.tidy pass.free pass.opened pass.unlocked })
 
 -- ## Windows that are shown otherwise
 
@@ -281,6 +279,11 @@ shown_goes h t up down f w o i r k tidy = record {
 
 -- ## Every event
 
+-- one that composes this message and nothing else
+sent : {e : UserEvent} (h : PlainHost) (t : PlainTerminal) (up : List Tmesg) (down : List Hmesg) (m : Tmesg) → InOrder h t up down → Passed t e → is_edit m ≡ false → IsAllowed (change_by m) (views t)
+    → CanCompose m (views t) → Goes h up down (sends t unchanged (m ∷ []))
+sent h t up down m o p plain allowed can = sends_goes h t up down m o plain (record { here = p.here; free = p.free; allowed = allowed; can = can })
+
 pub event_goes : (h : PlainHost) (t : PlainTerminal) (up : List Tmesg) (down : List Hmesg) (e : UserEvent) → InOrder h t up down → Passed t e → Goes h up down (event_outcome t e)
 unfolding made_by_view
 event_goes h t up down (Typed f s) o p = type_goes h t up down f s o p
@@ -294,59 +297,40 @@ event_goes h t up down (Paste f) o p = paste_goes h t up down f o p
 event_goes h t up down (Snarf f) o p = snarf_goes h t up down f o p
 event_goes h t up down (Look f) o p =
     let d = (window_at t f).dot in
-    sends_goes h t up down (Tlook f d.0 d.1) o refl
-    (record { here = p.here; free = p.free; allowed = free_at t f p.free p.unlocked; can = may_dot t f d.0 d.1 (Look f) o.tidy p.here p.free p.opened p.unlocked refl refl })
+    sent h t up down (Tlook f d.0 d.1) o p refl (free_at t f p.free p.unlocked) (dot_open t f o.tidy p.free p.opened p.unlocked)
 event_goes h t up down (Search f) o p =
     let d = (window_at t f).dot in
-    sends_goes h t up down (Tsearch f d.0 d.1) o refl
-    (record { here = p.here; free = p.free; allowed = free_at t f p.free p.unlocked; can = may_dot t f d.0 d.1 (Search f) o.tidy p.here p.free p.opened p.unlocked refl refl })
+    sent h t up down (Tsearch f d.0 d.1) o p refl (free_at t f p.free p.unlocked) (dot_open t f o.tidy p.free p.opened p.unlocked)
 event_goes h t up down (Send f) o p =
     let d = (window_at t f).dot in
-    sends_goes h t up down (Tsend f d.0 d.1) o refl
-    (record { here = p.here; free = p.free; allowed = all_free t p.free p.all_unlocked; can = may_dot t f d.0 d.1 (Send f) o.tidy p.here p.free p.opened p.unlocked refl refl })
+    sent h t up down (Tsend f d.0 d.1) o p refl (all_free t p.free p.all_unlocked) (dot_open t f o.tidy p.free p.opened p.unlocked)
 event_goes h t up down (Dclick f a) o p =
-    let l : a ≤ length (window_at t f).rasp = ltb-false (length (window_at t f).rasp) a p.place in
-    sends_goes h t up down (Tdclick f a) o refl
-    (record { here = p.here; free = p.free; allowed = free_at t f p.free p.unlocked; can = open_free (Within a a) t f p.free (not-false (is_open t f) p.opened) p.unlocked (omega arith, l) })
+    let within : Within a a (window_at t f).rasp = (omega arith, ltb-false (length (window_at t f).rasp) a p.place) in
+    sent h t up down (Tdclick f a) o p refl (free_at t f p.free p.unlocked) (open_free (Within a a) t f p.free p.opened p.unlocked within)
 event_goes h t up down (Scroll f n) o p =
     let a = (window_at t f).view_start in
-    sends_goes h t up down (Torigin f a n) o refl
-    (record {
-      here = p.here;
-      free = p.free;
-      allowed = free_at t f p.free p.unlocked;
-      can = open_free (Within a a) t f p.free (not-false (is_open t f) p.opened) p.unlocked
-          (omega arith, (o.tidy f).2);
-    })
+    sent h t up down (Torigin f a n) o p refl (free_at t f p.free p.unlocked) (open_free (Within a a) t f p.free p.opened p.unlocked (omega arith, (o.tidy f).2))
 event_goes h t up down (View f a n) o p =
     let w : Window = record (window_at t f) { view_start = a; view_length = n } in
     requested_goes h (put_window t f w) up down f
     (shown_goes h t up down f w o (opened_at t f (not-false (is_open t f) p.opened)) refl refl ((o.tidy f).0, (o.tidy f).1, ltb-false (length (window_at t f).rasp) a p.place))
-event_goes h t up down (Open f) o p =
-    sends_goes h t up down (Tstartfile f) o refl (record { here = p.here; free = p.free; allowed = all_free t p.free p.all_unlocked; can = (known_at_view t f p.known, p.other) })
+event_goes h t up down (Open f) o p = sent h t up down (Tstartfile f) o p refl (all_free t p.free p.all_unlocked) (known_at_view t f p.known, p.other)
 event_goes h t up down (Close f) o p =
-    sends_goes h t up down (Tclose f) o refl
-    (record { here = p.here; free = p.free; allowed = all_free t p.free p.all_unlocked; can = (open_free Anything t f p.free (not-false (is_open t f) p.opened) p.unlocked tt, p.other) })
+    sent h t up down (Tclose f) o p refl (all_free t p.free p.all_unlocked) (open_free Anything t f p.free p.opened p.unlocked tt, p.other)
 event_goes h t up down (Write f) o p =
-    sends_goes h t up down (Twrite f) o refl
-    (record { here = p.here; free = p.free; allowed = free_at t f p.free p.unlocked; can = (open_free Anything t f p.free (not-false (is_open t f) p.opened) p.unlocked tt, p.other) })
+    sent h t up down (Twrite f) o p refl (free_at t f p.free p.unlocked) (open_free Anything t f p.free p.opened p.unlocked tt, p.other)
 event_goes h t up down (Work f) o p =
     let d = (window_at t f).dot in
-    sends_goes h t up down (Tworkfile f d.0 d.1) o refl
-    (record { here = p.here; free = p.free; allowed = tt; can = (may_dot t f d.0 d.1 (Work f) o.tidy p.here p.free p.opened p.unlocked refl refl, p.other) })
-event_goes h t up down OpenCmd o p = sends_goes h t up down Tstartcmdfile o refl (record { here = p.here; free = p.free; allowed = all_free t p.free p.all_unlocked; can = tt })
-event_goes h t up down New o p = sends_goes h t up down Tstartnewfile o refl (record { here = p.here; free = p.free; allowed = all_free t p.free p.all_unlocked; can = tt })
-event_goes h t up down Exit o p = sends_goes h t up down Texit o refl (record { here = p.here; free = p.free; allowed = all_free t p.free p.all_unlocked; can = tt })
-event_goes h t up down (Check f) o p =
-    sends_goes h t up down (Tcheck f) o refl (record { here = p.here; free = p.free; allowed = tt; can = open_free Anything t f p.free (not-false (is_open t f) p.opened) p.unlocked tt })
-event_goes h t up down GetSnarf o p = sends_goes h t up down Tstartsnarf o refl (record { here = p.here; free = p.free; allowed = tt; can = tt })
-event_goes h t up down (SetSnarf s) o p = sends_goes h t up down (Tsetsnarf s) o refl (record { here = p.here; free = p.free; allowed = tt; can = tt })
-event_goes h t up down (Version v) o p = sends_goes h t up down (Tversion v) o refl (record { here = p.here; free = p.free; allowed = all_free t p.free p.all_unlocked; can = positive v p.version })
+    sent h t up down (Tworkfile f d.0 d.1) o p refl tt (dot_open t f o.tidy p.free p.opened p.unlocked, p.other)
+event_goes h t up down OpenCmd o p = sent h t up down Tstartcmdfile o p refl (all_free t p.free p.all_unlocked) tt
+event_goes h t up down New o p = sent h t up down Tstartnewfile o p refl (all_free t p.free p.all_unlocked) tt
+event_goes h t up down Exit o p = sent h t up down Texit o p refl (all_free t p.free p.all_unlocked) tt
+event_goes h t up down (Check f) o p = sent h t up down (Tcheck f) o p refl tt (open_free Anything t f p.free p.opened p.unlocked tt)
+event_goes h t up down GetSnarf o p = sent h t up down Tstartsnarf o p refl tt tt
+event_goes h t up down (SetSnarf s) o p = sent h t up down (Tsetsnarf s) o p refl tt tt
+event_goes h t up down (Version v) o p = sent h t up down (Tversion v) o p refl (all_free t p.free p.all_unlocked) (positive (eqb_tells v 0))
   where
-    positive : (v : ℕ) → (v == 0) ≡ false → 0 < v
-    positive v e = above (eqb_tells v 0)
-      where
-        above : (((v == 0) ≡ true) × (v ≡ 0)) ⊎ (((v == 0) ≡ false) × (v ≢ 0)) → 0 < v
-        above (inl x) = absurd (true≢false (sym x.0 ∙ e))
-        above (inr x) = omega (arith, x.1)
+    positive : (((v == 0) ≡ true) × (v ≡ 0)) ⊎ (((v == 0) ≡ false) × (v ≢ 0)) → 0 < v
+    positive (inl x) = absurd (true≢false (sym x.0 ∙ p.version))
+    positive (inr x) = omega (arith, x.1)
 event_goes h t up down Flush o p = flushed_goes h t up down o

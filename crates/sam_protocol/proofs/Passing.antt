@@ -1,7 +1,7 @@
 -- What the tests of an event say of the views, where none of them stands against it.
 use Rattle.std.proofs.Common.{◌≡◌, ℕ, zero, suc, ◌≤◌, Bool, true, false, not, ◌&&◌, ◌||◌, nat_lt, List, [], ◌∷◌, Option, Some, None, is_some, refl, sym, subst, true≢false, arith}
 use Rattle.std.specs.Prelude.{unwrap_or}
-use Rattle.std.proofs.lemmas.Bool.{ltb-false, or_parts}
+use Rattle.std.proofs.lemmas.Bool.{ltb-false, not-false, or_parts}
 use Rattle.sam_runes.specs.Slots.{Slots, slot}
 use Rattle.sam_runes.specs.Checks.{Checks, first_of_checks}
 use Rattle.sam_runes.proofs.CheckLaws.{none_holds}
@@ -78,9 +78,9 @@ free_at t f c k = subst (λ (b : Bool). IsFree (lens b t.has_exited t.version (s
     go (Some x) k = at_window x.window k
 
 -- one that is open and has no locks
-pub open_free : (P : PartialText → Type 0) (t : PlainTerminal) (f : ℕ) → t.command_lock ≡ false → is_open t f ≡ true → nat_lt 0 (window_at t f).locks ≡ false → P (window_at t f).rasp
+pub open_free : (P : PartialText → Type 0) (t : PlainTerminal) (f : ℕ) → t.command_lock ≡ false → not (is_open t f) ≡ false → nat_lt 0 (window_at t f).locks ≡ false → P (window_at t f).rasp
     → OpenAt P (view f t)
-open_free P t f c o k p = go (slot t.files f) o k p
+open_free P t f c o k p = go (slot t.files f) (not-false (is_open t f) o) k p
   where
     L : Slot → Lens
     L s = lens t.command_lock t.has_exited t.version s

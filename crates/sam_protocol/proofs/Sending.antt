@@ -56,7 +56,7 @@ pub record MaySend (v : ℕ → Lens) (m : Tmesg) : Type 0 where
   pub allowed : IsAllowed (change_by m) v
   pub can : CanCompose m v
 
-abbrev is_edit : Tmesg → Bool
+abbrev pub is_edit : Tmesg → Bool
 is_edit (Ttype f p s) = true
 is_edit (Tcut f p q) = true
 is_edit _ = false
