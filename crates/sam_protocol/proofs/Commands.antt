@@ -409,6 +409,13 @@ printed_carries d n fs s x e = go (is_printed fs s) refl
     go true q = opened file.opened refl (room q)
     go false q = carries_nothing d n a a (λ g. refl)
 
+pub printed_work : (fs : PlainFiles) (s : List ℕ) → (after_print fs s).work ≡ fs.work
+printed_work fs s = go (is_printed fs s)
+  where
+    go : (b : Bool) → (if b then put_file fs 0 (printed_file (file_at fs 0) s) else fs).work ≡ fs.work
+    go true = refl
+    go false = refl
+
 -- ## A new file
 
 new_there : (d : Bool) (n : ℕ) (s : Slot) → Fits_slot s Absent → Moves (Join ∷ Bind ∷ Needs_known ∷ []) d n s (Opened [])
@@ -451,17 +458,10 @@ sync_new h r met =
         go (inl q) = let y : f ≡ 0 = eqb-true f 0 q in absurd (omega (arith, y, some))
         go (inr q) = q
 
-    printed_work : (after_print h.files no_tag_left).work ≡ h.files.work
-    printed_work = go (is_printed h.files no_tag_left)
-      where
-        go : (b : Bool) → (if b then put_file h.files 0 (printed_file (file_at h.files 0) no_tag_left) else h.files).work ≡ h.files.work
-        go true = refl
-        go false = refl
-
     full : Unlocked h (with_files h (after_print h.files no_tag_left), printed h.files no_tag_left ++ Hunlock ∷ [])
     full =
         let c = printed_carries h.is_done h.version h.files no_tag_left there.file there.there in
-        unlocked h (after_print h.files no_tag_left) (printed h.files no_tag_left) c (still_has h.files (after_print h.files no_tag_left) r.steady.sound printed_work c.lasts)
+        unlocked h (after_print h.files no_tag_left) (printed h.files no_tag_left) c (still_has h.files (after_print h.files no_tag_left) r.steady.sound (printed_work h.files no_tag_left) c.lasts)
 
     fresh : Unlocked h (with_files h fs, (Hnewname f ∷ Hbindname f ∷ Hcurrent f ∷ []) ++ Hunlock ∷ [])
     fresh =

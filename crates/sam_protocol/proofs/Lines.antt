@@ -36,7 +36,7 @@ use Rattle.sam_protocol.proofs.Tests.{open_tests, range_test}
 use Rattle.sam_protocol.proofs.Guards.{at_file-append}
 use Rattle.sam_protocol.proofs.Telling.{Told, told-append, told_if, told_given, told_edits, told_dot, told_check, told_dirty, told_name, told_pattern}
 use Rattle.sam_protocol.proofs.Edits.{type_passes, sync_short}
-use Rattle.sam_protocol.proofs.Commands.{stays_put, Carries, carries_nothing, carries-append, carries_told, unlocks, exits_kept, unlocked_only, unlocked_if, sync_by, printed_carries}
+use Rattle.sam_protocol.proofs.Commands.{stays_put, Carries, carries_nothing, carries-append, carries_told, unlocks, exits_kept, unlocked_only, unlocked_if, sync_by, printed_carries, printed_work}
 
 -- ## What a line does to the work file
 
@@ -133,13 +133,6 @@ outcome_carries d n fs line sound fit = go (meaning fs line).file refl
         (put_opened fs f opens.given (file_after (file_at fs f) o) opens.opened) (outcome_told fs o f opens l.fits)
 
 -- ## The ending of a line: its outcome, what it prints, and Hunlock or Hexit
-
-printed_work : (fs : PlainFiles) (s : List ℕ) → (after_print fs s).work ≡ fs.work
-printed_work fs s = go (is_printed fs s)
-  where
-    go : (b : Bool) → (if b then put_file fs 0 (printed_file (file_at fs 0) s) else fs).work ≡ fs.work
-    go true = refl
-    go false = refl
 
 -- tag 0 holds a file still
 abbrev pub Holds : PlainFiles → Type 0
