@@ -1,4 +1,5 @@
--- Which frames the answers have, kind by kind. So what holds of each of these frames holds of each frame of an answer.
+-- Which frames the answers have, kind by kind, and which lock the last one frees. So what holds of each of these frames holds of each frame
+-- of an answer.
 use Rattle.std.proofs.Common.{◌≡◌, ℕ, suc, ◌+◌, ◌-◌, ◌≤◌, List, [], ◌∷◌, ◌++◌, length, Bool, true, false, not, cond, Option, Some, None, refl, sym, ap, ◌∙◌, subst, append_assoc, if◌then◌else◌, arith}
 use Rattle.std.specs.Prelude.{◌&&◌, ◌||◌, ◌==◌, min, nat_lt, nat_le, IfSome, flat_map, reverse, drop, unwrap_or}
 use Rattle.std.proofs.lemmas.Bool.{leb-true, ltb-false}
@@ -12,8 +13,7 @@ use Rattle.sam_mesg.specs.declared.tmesg.Tmesg.{Tmesg}
 use Rattle.sam_mesg.specs.declared.tmesg.Tmesg.TheVariants.{Tversion, Tstartcmdfile, Tcheck, Trequest, Torigin, Tstartfile, Tworkfile, Ttype, Tcut, Tpaste, Tsnarf, Tstartnewfile, Twrite, Tclose, Tlook, Tsearch, Tsend, Tdclick, Tstartsnarf, Tsetsnarf, Tack, Texit}
 use Rattle.sam_mesg.specs.declared.hmesg.Hmesg.{Hmesg}
 use Rattle.sam_mesg.specs.declared.hmesg.Hmesg.TheVariants.{Hversion, Hsetsnarf, Hbindname, Hcurrent, Hnewname, Hmovname, Hgrow, Hcheck, Hunlock, Hdata, Horigin, Hunlockfile, Hsetdot, Hgrowdata, Hmoveto, Hclean, Hdirty, Hcut, Hsetpat, Hdelname, Hclose, Hsnarflen, Hack, Hexit}
-use Rattle.sam_host.specs.Host.{PlainHost, Reply, when, when_given, grown, told_dirty, told_length, printed, told_edit, told_outcome, told_names, command_name, no_tag_left, with_file, with_files, reply_found, searched_for, reply_line, reply_to}
-use Rattle.sam_host.specs.Host.{reply_version, reply_startcmdfile, reply_check, reply_request, reply_origin, reply_startfile, reply_workfile, reply_type, reply_cut, reply_paste, reply_snarf, reply_startnewfile, reply_write, reply_close, reply_look, reply_search, reply_send, reply_dclick, reply_startsnarf, reply_setsnarf, reply_exit}
+use Rattle.sam_host.specs.Host.{PlainHost, Reply, when, when_given, grown, told_dirty, told_length, printed, told_edit, told_outcome, told_names, command_name, no_tag_left, with_file, with_files, reply_found, searched_for, reply_line, reply_to, reply_version, reply_startcmdfile, reply_check, reply_request, reply_origin, reply_startfile, reply_workfile, reply_type, reply_cut, reply_paste, reply_snarf, reply_startnewfile, reply_write, reply_close, reply_look, reply_search, reply_send, reply_dclick, reply_startsnarf, reply_setsnarf, reply_exit}
 use Rattle.sam_host.proofs.FileLaws.{part_length}
 
 -- opens the answers to messages about a text
@@ -30,7 +30,7 @@ abbrev pub EachFrame : (Hmesg → Type 0) → List Hmesg → Type 0
 EachFrame P [] = Unit {0}
 EachFrame P (m ∷ ms) = P m × EachFrame P ms
 
--- a frame that answers tell before a last one frees a lock: texts are short, and Q holds of names. Hversion and Hsetsnarf stand by themselves
+-- a frame that stands before the one that frees a lock: texts are short, and Q holds of names. Hversion and Hsetsnarf are told of apart
 abbrev pub IsTold : (List ℕ → Type 0) → Hmesg → Type 0
 IsTold Q (Hversion v) = ⊥
 IsTold Q (Hsetsnarf s) = ⊥
@@ -43,17 +43,19 @@ IsTold Q (Hdata f p s) = length s ≤ most_in_message
 IsTold Q (Hsetpat s) = length s ≤ most_in_pattern
 IsTold Q _ = Unit {0}
 
--- which lock the last frame of an answer frees
+-- the lock that an answer frees
 pub data Freed : Type 0 where
   Nothing : Freed
   Command : Freed
   File : (tag : ℕ) → Freed
 
+-- the frame that frees it. A line that quits ends the session, which frees the command lock too
 abbrev pub end_frames : Freed → Bool → List Hmesg
 end_frames Nothing quits = []
 end_frames Command quits = (if quits then Hexit else Hunlock) ∷ []
 end_frames (File f) quits = Hunlockfile f ∷ []
 
+-- this frame is the last one, if there is one, and all others stand before it
 pub record Ends (Q : List ℕ → Type 0) (l : Freed) (frames : List Hmesg) : Type 0 where
   pub front : List Hmesg
   pub quits : Bool

@@ -1,6 +1,6 @@
 -- What holds of the host in every state, and of the frames of every answer.
-use Rattle.std.specs.Prelude.{◌≡◌, ℕ, ◌+◌, ◌≤◌, ◌==◌, if◌then◌else◌, List, [], ◌∷◌, ◌++◌, length, true, false, All, Ok}
-use Rattle.sam_runes.specs.Texts.{common_version, most_count, max_runes, most_in_name}
+use Rattle.std.specs.Prelude.{◌≡◌, ℕ, ◌+◌, ◌≤◌, ◌==◌, List, [], ◌∷◌, ◌++◌, length, true, false, All, Ok}
+use Rattle.sam_runes.specs.Texts.{most_count, max_runes, most_in_name}
 use Rattle.sam_text.specs.Files.{PlainFiles, file_at, AreFit}
 use Rattle.sam_mesg.specs.HostKinds.{after_h, fits_h}
 use Rattle.sam_mesg.specs.declared.tmesg.Tmesg.{Tmesg}

@@ -1,6 +1,6 @@
 -- A message that the crossing lets come to the host, and what the host then owes: from settled lenses, the message and the host's own
 -- answer to it lead to settled lenses.
-use Rattle.std.specs.Prelude.{◌≡◌, ℕ, ◌+◌, ◌<◌, ◌≤◌, true, false, ◌==◌, List, length, None}
+use Rattle.std.specs.Prelude.{◌≡◌, ℕ, ◌+◌, ◌<◌, ◌≤◌, true, false, ◌==◌, length, None}
 use Rattle.sam_runes.specs.Texts.{max_runes}
 use Rattle.sam_runes.specs.Checks.{first_of_checks}
 use Rattle.sam_text.specs.Files.{file_at}

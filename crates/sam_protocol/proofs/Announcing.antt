@@ -15,7 +15,7 @@ use Rattle.sam_protocol.specs.Lens.{Slot, Unknown, Known, Open, lens, Action, Sk
 use Rattle.sam_protocol.proofs.Lenses.{AreSkips}
 use Rattle.sam_protocol.specs.Frames.{at_file, only}
 use Rattle.sam_protocol.specs.View.{file_of, file_of_slot, file_in}
-use Rattle.sam_protocol.specs.Steady.{OpenAnnounced, AllOpenAnnounced, HasFiles}
+use Rattle.sam_protocol.specs.Steady.{OpenAnnounced}
 use Rattle.sam_protocol.proofs.Accepting.{Synced, Accepted, Ready}
 use Rattle.sam_protocol.proofs.Runs.{run-append_some}
 use Rattle.sam_protocol.proofs.HostFiles.{Lasts, still_has}

@@ -6,7 +6,7 @@ use Rattle.sam_runes.specs.Texts.{ins, is_empty, max_runes, all_tags}
 use Rattle.sam_runes.specs.Slots.{slot, free_slot}
 use Rattle.sam_runes.proofs.EditLaws.{length-ins}
 use Rattle.sam_runes.specs.Checks.{first_of_checks}
-use Rattle.sam_text.specs.Files.{PlainFile, PlainFiles, file_at, has_file, put_file, has_room, is_printed, after_print, printed_file, new_file, command_name, work_without, AreFit}
+use Rattle.sam_text.specs.Files.{PlainFile, PlainFiles, file_at, has_file, put_file, has_room, is_printed, after_print, printed_file, new_file, command_name, work_without}
 use Rattle.sam_mesg.specs.declared.tmesg.Tmesg.{Tmesg}
 use Rattle.sam_mesg.specs.declared.tmesg.Tmesg.TheVariants.{Tstartcmdfile, Tstartfile, Tstartnewfile, Tclose, Texit}
 use Rattle.sam_mesg.specs.declared.hmesg.Hmesg.{Hmesg}
@@ -22,7 +22,7 @@ use Rattle.sam_protocol.specs.Steady.{HasFiles}
 use Rattle.sam_protocol.proofs.Accepting.{Synced, Accepted, Ready, first_there}
 use Rattle.sam_protocol.proofs.Runs.{run-append_some}
 use Rattle.sam_protocol.proofs.AllSettle.{settled_slot}
-use Rattle.sam_protocol.proofs.HostFiles.{IsThere, put, put_other, put_same, put_again, file_in-put, file_in-free, file_in-push, not_given, in_slots, shown_at, file_opened, file_hidden, file_named, put_opened, Opens, Lasts, lasts_same, lasts_then, lasts_put, lasts_opened, still_has, works_on}
+use Rattle.sam_protocol.proofs.HostFiles.{IsThere, put, put_other, put_same, put_again, file_in-put, file_in-free, file_in-push, not_given, in_slots, shown_at, file_opened, file_hidden, file_named, put_opened, Lasts, lasts_same, lasts_then, lasts_put, lasts_opened, still_has, works_on}
 use Rattle.sam_protocol.proofs.Tests.{test, last_test, window_tests}
 use Rattle.sam_protocol.proofs.Guards.{guarded_by, guarded_before, no_close_behind, no_close_skips, kept_by, at_file-append, skips_run}
 use Rattle.sam_protocol.proofs.Telling.{Told, Rewrites, tells_there, tells_elsewhere, told-append, told_when, told_grown, told_dot, told_check, told_opened}

@@ -1,8 +1,8 @@
 -- The two messages that run a command line, and what a line does: from settled to settled.
-use Rattle.std.proofs.Common.{◌≡◌, ℕ, ◌+◌, ◌-◌, ◌≤◌, Bool, true, false, not, ◌||◌, ◌&&◌, ◌==◌, if◌then◌else◌, List, [], ◌∷◌, ◌++◌, length, map, reverse, Option, Some, None, Result, Ok, Err, unwrap_or, ◌⊎◌, inl, inr, refl, sym, ap, ◌∙◌, subst, true≢false, eqb-true, eq-eqb}
+use Rattle.std.proofs.Common.{◌≡◌, ℕ, ◌+◌, ◌-◌, Bool, true, false, not, ◌||◌, ◌&&◌, ◌==◌, if◌then◌else◌, List, [], ◌∷◌, ◌++◌, length, map, reverse, Option, Some, None, Result, Ok, Err, unwrap_or, ◌⊎◌, inl, inr, refl, sym, ap, ◌∙◌, subst, true≢false, eqb-true, eq-eqb}
 use Rattle.std.specs.Prelude.{option_map, option_and_then, flat_map}
 use Rattle.std.proofs.lemmas.Bool.{cases_Bool, and_parts}
-use Rattle.sam_runes.specs.Texts.{Range, ins, is_empty, max_runes, part, line_start, ends_line, as_lines, last_line}
+use Rattle.sam_runes.specs.Texts.{Range, ins, is_empty, part, line_start, ends_line, as_lines, last_line}
 use Rattle.sam_runes.specs.Slots.{slot, put_slot}
 use Rattle.sam_runes.proofs.EditLaws.{last_first_is_at_once, edits_fit}
 use Rattle.sam_runes.proofs.SlotLaws.{slot-put_same, slot-put_other}

@@ -18,7 +18,7 @@ use Rattle.sam_term.specs.Term.{PlainTerminal, window_of, is_open, is_any_locked
 use Rattle.sam_term.specs.Windows.{blank_known, blank_window, window_in}
 use Rattle.sam_term.specs.declared.records.Window.{Window}
 use Rattle.sam_term.specs.declared.records.KnownFile.{KnownFile}
-use Rattle.sam_protocol.specs.Lens.{Slot, Unknown, Known, Open, Lens, lens, Action, HFile, Absent, Hidden, Named, Opened, Gone, Fits_slot, IsSettled, Settles}
+use Rattle.sam_protocol.specs.Lens.{Slot, Unknown, Known, Open, Lens, HFile, Absent, Hidden, Named, Opened, Gone, Fits_slot, IsSettled, Settles}
 use Rattle.sam_protocol.proofs.Lenses.{IsFree}
 use Rattle.sam_protocol.specs.Frames.{at_file}
 use Rattle.sam_protocol.specs.View.{slot_of_window, slot_of, view, file_of_slot, file_in}

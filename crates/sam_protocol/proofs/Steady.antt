@@ -1,6 +1,6 @@
 -- What holds of every host lasts under each message that is not refused.
-use Rattle.std.proofs.Common.{◌≡◌, ◌≢◌, ◌⊎◌, ℕ, zero, suc, List, [], ◌∷◌, length, Bool, true, false, ◌==◌, if◌then◌else◌, Option, Some, None, nat_eq, inl, inr, refl, sym, ap, ◌∙◌, subst, true≢false, arith}
-use Rattle.std.specs.Prelude.{unwrap_or, option_map, ◌-◌}
+use Rattle.std.proofs.Common.{◌≡◌, ◌≢◌, ◌⊎◌, ℕ, zero, suc, List, [], ◌∷◌, length, Bool, true, false, ◌==◌, if◌then◌else◌, Option, Some, None, nat_eq, inl, inr, refl, sym, ◌∙◌, subst, true≢false, arith}
+use Rattle.std.specs.Prelude.{unwrap_or, option_map}
 use Rattle.std.proofs.lemmas.Bool.Decides.{eqb_tells}
 use Rattle.sam_runes.specs.Slots.{Slots, slot, put_slot, free_slot}
 use Rattle.sam_runes.proofs.SlotLaws.{slot-map, slot-put_same, slot-put_other, slot-free_same, slot-free_other}
@@ -8,7 +8,7 @@ use Rattle.sam_text.specs.Files.{opened_file, written_file, PlainFile, PlainFile
 use Rattle.sam_text.specs.Meaning.{meaning}
 use Rattle.sam_host.proofs.SoundLaws.{reply_fits}
 use Rattle.sam_host.proofs.Keeping.{IsKept, reply_keeps}
-use Rattle.sam_host.specs.Host.{PlainHost, printed, announced_file, announce_all, new_file, reply_to}
+use Rattle.sam_host.specs.Host.{PlainHost, announced_file, announce_all, new_file, reply_to}
 use Rattle.sam_mesg.specs.declared.tmesg.Tmesg.{Tmesg}
 use Rattle.sam_mesg.specs.declared.tmesg.Tmesg.TheVariants.{Tstartfile}
 use Rattle.sam_protocol.proofs.Accepting.{Synced, Accepted, Ready}

@@ -23,7 +23,7 @@
 //!    rests on at its file (`need_of`), at the terminal and then at the host (`Accepted`), and what a message with its answer must do
 //!    then (`Synced`).
 //! 4. proofs/HostFiles, Tests, Guards: aids. proofs/Telling: what frames about one open file do (`Told`), one lemma for each ending that
-//!    answers share. proofs/FileLocks, Edits, Commands, Announcing, Lines: one lemma for each kind of message; Handling sums them up.
+//!    answers share. proofs/FileLocks, Edits, Commands, Announcing, Lines: one lemma for each kind of message; Composing finds them.
 //! 5. specs/View, proofs/FrameMoves: the terminal itself, seen as lenses, does what they do. [`frames_move`] sums it up.
 //! 6. specs/Steady, Fold, Order: all files and all that is under way at once (`AllSettle`, `InOrder`). proofs/Versions, Folds, Steady,
 //!    Composing: these, with one message or frame more or less.
