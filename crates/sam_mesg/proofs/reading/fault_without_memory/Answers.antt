@@ -1,4 +1,4 @@
-use Rattle.std.proofs.Common.{◌≡◌, true, length, sym, rules}
+use Rattle.std.proofs.Common.{◌≡◌, true, length, rules}
 use Rattle.std.specs.Str.{chars}
 use Rattle.sam_mesg.specs.Limits.{allows_counts}
 use Rattle.sam_mesg.proofs.Texts.{text_none, text_within, text_beyond}
