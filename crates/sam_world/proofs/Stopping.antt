@@ -1,5 +1,5 @@
 -- Why a step of the world stops: it wants memory, or a count is full. Neither side refuses the other.
-use Rattle.std.proofs.Common.{◌≡◌, ◌⊎◌, inl, inr, refl, sym, ap, ◌∙◌, subst, ℕ, true, false, List, [], ◌∷◌, drop, Some, None, Result, Ok, Err}
+use Rattle.std.proofs.Common.{◌≡◌, ◌⊎◌, inl, inr, refl, sym, subst, ℕ, true, false, List, [], ◌∷◌, drop, Some, None, Result, Ok, Err}
 use Rattle.sam_runes.specs.Texts.{is_empty}
 use Rattle.sam_host.specs.Host.{PlainHost, answer}
 use Rattle.sam_host.specs.declared.fault.HostFault.{HostFault}
@@ -15,11 +15,11 @@ use Rattle.sam_world.specs.UnderWay.{head}
 use Rattle.sam_world.specs.Reached.{WasReached}
 use Rattle.sam_world.specs.Order.{IsInOrder, IsCountable}
 use Rattle.sam_world.specs.Counts.{FullCountsStop, passes_count, passes_at, composes_past, is_host_full, is_term_full}
-use Rattle.sam_world.specs.Faults.{IsFaultOf, IsTermStop, IsHostStop}
+use Rattle.sam_world.specs.Faults.{IsFaultOf}
 use Rattle.sam_world.specs.declared.event.Event.{Event}
 use Rattle.sam_world.specs.declared.event.Event.TheVariants.{User, Act, Flush, HostTake, TermTake}
 use Rattle.sam_world.specs.declared.event.StepFault.{StepFault}
-use Rattle.sam_world.specs.declared.event.StepFault.TheVariants.{OutOfMemory, CountFull}
+use Rattle.sam_world.specs.declared.event.StepFault.TheVariants.{OutOfMemory}
 use Rattle.sam_world.proofs.Keeping.{first_rest}
 use Rattle.sam_world.proofs.OrderLaws.{starts_in_order, runs_in_order, host_never_refuses, terminal_never_refuses, only_counts_stop, quiet_means_agreement, free_means_one_version, free_means_ahead}
 

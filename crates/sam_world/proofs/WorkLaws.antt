@@ -9,7 +9,7 @@ use Rattle.sam_text.specs.Files.{opened_file, written_file, without_file, PlainF
 use Rattle.sam_text.specs.Meaning.{meaning}
 use Rattle.sam_host.proofs.Keeping.{IsKept, reply_keeps}
 use Rattle.sam_host.proofs.SoundLaws.{answer_is, of_answer}
-use Rattle.sam_host.specs.Host.{PlainHost, given_file, host_checks, printed, reply_to}
+use Rattle.sam_host.specs.Host.{PlainHost, given_file, host_checks, reply_to}
 use Rattle.sam_mesg.specs.declared.tmesg.Tmesg.{Tmesg}
 use Rattle.sam_mesg.specs.declared.hmesg.HFrame.{HFrame}
 use Rattle.sam_world.specs.World.{PlainWorld, new_world}
