@@ -182,7 +182,8 @@ sync_look h r f p q a =
     let t : List ℕ = (file_at h.files f).text in
     let lit : List ℕ = part t p q in
     let k : PlainHost = with_files h (record h.files { pattern = Some lit }) in
-    let x = freed_found k f (searched t lit q) (Hsetpat lit ∷ []) (record { given = a.0.given; there = a.0.there; opened = a.0.opened; shown = a.0.shown }) (searched_in t lit q a.2) (told_pattern f lit t) in
+    let has : Opens k.files f = record { given = a.0.given; there = a.0.there; opened = a.0.opened; shown = a.0.shown } in
+    let x = freed_found k f (searched t lit q) (Hsetpat lit ∷ []) has (searched_in t lit q a.2) (told_pattern f lit t) in
     locks h r (Tlook f p q) f refl a.0 (open_tests h f a.0 (no_range h f p q ∷ []) (range_test h f p q a.1 a.2))
     (freed_if h f (may_look lit) (reply_found k f (searched t lit q) (Hsetpat lit ∷ [])) (h, Hunlockfile f ∷ [])
     (λ e. record { text = x.text; has = record { files = x.has.files; work = x.has.work; done = x.has.done; version = x.has.version }; here = x.here; elsewhere = x.elsewhere })
