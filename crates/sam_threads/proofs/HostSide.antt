@@ -1,15 +1,12 @@
 -- The host's worker from one moment to the next.
-use Rattle.std.proofs.Common.{◌≡◌, ◌∙◌, ◌⊎◌, inl, inr, ℕ, ◌+◌, List, [], ◌∷◌, ◌++◌, Bool, true, false, cond, nat_eq, leb, length, Result, Ok, Err, refl, sym, ap, subst, append_assoc, append-nil, arith}
+use Rattle.std.proofs.Common.{◌≡◌, ◌∙◌, ◌⊎◌, inl, inr, ℕ, ◌+◌, List, [], ◌∷◌, ◌++◌, length, Result, Ok, Err, refl, sym, ap, subst, append_assoc, append-nil}
 use Rattle.std.specs.Global.{Vec}
 use Rattle.std.specs.Prelude.{IsTrue}
-use Rattle.std.specs.Str.{encode_utf8_all}
-use Rattle.std.proofs.lemmas.Bool.{leb-true, le-leb}
 use Rattle.std.proofs.lemmas.List.Elements.{All-nil, All-cons}
 use Rattle.sam_mesg.specs.declared.tmesg.Tmesg.{Tmesg}
-use Rattle.sam_mesg.specs.declared.tmesg.Tmesg.TheVariants.{Tsetsnarf}
 use Rattle.sam_mesg.specs.declared.hmesg.HFrame.{HFrame}
 use Rattle.sam_mesg.specs.declared.fault.MesgFault.{MesgFault}
-use Rattle.sam_mesg.specs.TerminalKinds.{fits_t, FitsT}
+use Rattle.sam_mesg.specs.TerminalKinds.{FitsT}
 use Rattle.sam_mesg.specs.HostKinds.{FitsH, IsHFrame, after_h}
 use Rattle.sam_frame.specs.Direction.{terminal, host, frame_of}
 use Rattle.sam_frame.specs.Stream.{CanEncode, FitInTurn, Splits, Shows, version_after, stream_of}
@@ -20,7 +17,7 @@ use Rattle.sam_host.specs.Laws.{FitInPlace}
 use Rattle.sam_host.specs.declared.fault.HostFault.{HostFault}
 use Rattle.sam_host.specs.declared.fault.HostFault.TheVariants as refusal
 use Rattle.sam_queue.specs.Views.{PostView}
-use Rattle.sam_world.specs.Sides.{Each, HostRuns}
+use Rattle.sam_world.specs.Sides.{Each}
 use Rattle.sam_world.proofs.Settles.{host_more, each_append}
 use Rattle.sam_threads.specs.RealSides.{sides, unless_refused}
 use Rattle.sam_threads.specs.Numbers.{refusal_number, frame_number}

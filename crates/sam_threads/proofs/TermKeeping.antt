@@ -1,5 +1,5 @@
 -- What is kept of the terminal's worker, step by step.
-use Rattle.std.proofs.Common.{◌≡◌, ◌⊎◌, inl, inr, refl, sym, ap, subst, ◌∙◌, ℕ, zero, suc, ◌+◌, ◌<◌, ◌≤◌, Bool, true, false, if◌then◌else◌, List, [], ◌∷◌, ◌++◌, Option, Some, None, is_some, append_assoc, append-nil, arith}
+use Rattle.std.proofs.Common.{◌≡◌, ◌⊎◌, inl, inr, refl, sym, ap, subst, ◌∙◌, ℕ, Bool, true, false, if◌then◌else◌, List, [], ◌∷◌, ◌++◌, Option, Some, None, is_some, append_assoc, append-nil, arith}
 use Rattle.std.specs.Global.{Vec}
 use Rattle.std.specs.Prelude.{MatchBool}
 use Rattle.sam_mesg.specs.declared.tmesg.Tmesg.{Tmesg}
@@ -18,10 +18,10 @@ use Rattle.sam_world.specs.Sides.{Each, TermRuns}
 use Rattle.sam_world.proofs.Settles.{term_more, each_append}
 use Rattle.sam_queue.specs.declared.rule.Entry.{Entry}
 use Rattle.sam_queue.specs.History.{IsEnded, has_left}
-use Rattle.sam_queue.specs.Views.{LineView, TakeView, PostView, WasFull, closed_post, new_take, new_post}
+use Rattle.sam_queue.specs.Views.{TakeView, PostView, WasFull, closed_post, new_take, new_post}
 use Rattle.sam_threads.specs.RealSides.{sides}
-use Rattle.sam_threads.specs.Inputs.{bytes_of, frames_in, users_in, frame_of_load, user_of_load}
-use Rattle.sam_threads.specs.WorkerEnds.{IsForeign, RefusesFrame, IsFullUp}
+use Rattle.sam_threads.specs.Inputs.{bytes_of, frames_in, users_in}
+use Rattle.sam_threads.specs.WorkerEnds.{IsFullUp}
 use Rattle.sam_threads.specs.TermMoments.{LoggedView, Did, SideView, SoFar, Ran, Goes, IsDone, IsQuiet, IsFound}
 use Rattle.sam_threads.specs.Cutting.{PutSome}
 use Rattle.sam_threads.proofs.Cut.{bytes_append}

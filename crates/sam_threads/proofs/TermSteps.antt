@@ -1,5 +1,5 @@
 -- Single steps of the terminal, as parts of its run.
-use Rattle.std.proofs.Common.{◌≡◌, ◌⊎◌, inl, inr, refl, sym, ap, subst, ◌∙◌, ℕ, List, [], ◌∷◌, ◌++◌, Option, Some, None, Result, Ok, Err, append-nil, append_assoc, arith}
+use Rattle.std.proofs.Common.{◌≡◌, ◌⊎◌, inl, inr, refl, sym, ap, subst, ◌∙◌, List, [], ◌∷◌, ◌++◌, Option, Some, None, Ok, Err, append-nil}
 use Rattle.std.specs.Prelude.{All, IsTrue}
 use Rattle.std.proofs.lemmas.List.Elements.{All-nil}
 use Rattle.sam_runes.specs.Checks.{first_of_checks}
@@ -11,7 +11,6 @@ use Rattle.sam_term.specs.Term.{PlainTerminal, Made, act_of, act_on, decided, ev
 use Rattle.sam_term.specs.declared.event.Verdict.{Verdict}
 use Rattle.sam_term.specs.declared.event.Verdict.TheVariants.{Waits, Refuses}
 use Rattle.sam_term.specs.declared.event.UserEvent.{UserEvent}
-use Rattle.sam_term.specs.declared.event.Acted.{Acted}
 use Rattle.sam_term.specs.declared.event.Acted.TheVariants.{Idle, Locked, Done, Refused}
 use Rattle.sam_term.specs.declared.fault.Refusal.{Refusal}
 use Rattle.sam_term.specs.declared.fault.TermFault.{TermFault}
@@ -21,7 +20,7 @@ use Rattle.sam_world.specs.declared.event.TermLog.TheVariants as log
 use Rattle.sam_term.proofs.ActLaws.{acted_in, not_done, idle_still, locked_still}
 use Rattle.sam_world.proofs.OrderLaws.{only_counts_stop}
 use Rattle.sam_term.proofs.Fits.{act_fits, flushed_fits, taken_fits}
-use Rattle.sam_threads.specs.RealSides.{sides, acted, unless_refused}
+use Rattle.sam_threads.specs.RealSides.{acted, unless_refused}
 use Rattle.sam_threads.specs.WorkerEnds.{IsFullUp}
 use Rattle.sam_threads.specs.TermMoments.{LoggedView, Did, of_fault}
 use Rattle.sam_threads.specs.declared.stop.Stop.{Stop}

@@ -1,17 +1,15 @@
 -- What the terminal's worker tells of its end.
-use Rattle.std.proofs.Common.{◌≡◌, ◌⊎◌, inl, inr, refl, sym, ap, subst, ◌∙◌, ℕ, Bool, true, false, if◌then◌else◌, List, [], ◌∷◌, ◌++◌, Option, Some, None, append-nil}
+use Rattle.std.proofs.Common.{◌≡◌, inl, inr, refl, sym, ap, subst, ◌∙◌, ℕ, Bool, true, false, if◌then◌else◌, List, [], ◌∷◌, ◌++◌, Option, Some, None}
 use Rattle.std.specs.Global.{Vec}
 use Rattle.sam_term.specs.Term.{PlainTerminal, new_terminal}
-use Rattle.sam_term.specs.declared.event.UserEvent.{UserEvent}
 use Rattle.sam_term.specs.declared.event.UserEvent.TheVariants.{Exit}
 use Rattle.sam_world.specs.declared.event.TermLog.{TermLog}
 use Rattle.sam_world.specs.Logs.{logged_users}
 use Rattle.sam_world.specs.Sides.{TermRuns}
 use Rattle.sam_queue.specs.declared.rule.Entry.{Entry}
-use Rattle.sam_queue.specs.History.{IsEnded, has_left}
-use Rattle.sam_queue.specs.Views.{TakeView}
+use Rattle.sam_queue.specs.History.{has_left}
 use Rattle.sam_threads.specs.RealSides.{sides}
-use Rattle.sam_threads.specs.Inputs.{frames_in, users_in}
+use Rattle.sam_threads.specs.Inputs.{frames_in}
 use Rattle.sam_threads.specs.WorkerEnds.{TermTold, TermStopped, IsOwnExit}
 use Rattle.sam_threads.specs.TermMoments.{LoggedView, SideView, SoFar, Ran, IsDone}
 use Rattle.sam_threads.specs.declared.ends.TermEnd.{TermEnd}

@@ -4,7 +4,6 @@ use Rattle.std.specs.Global.{Vec}
 use Rattle.sam_mesg.specs.declared.tmesg.Tmesg.{Tmesg}
 use Rattle.sam_mesg.specs.declared.hmesg.HFrame.{HFrame}
 use Rattle.sam_mesg.specs.TerminalKinds.{fits_t, FitsT}
-use Rattle.sam_mesg.specs.HostKinds.{fits_h}
 use Rattle.sam_frame.specs.Direction.{terminal}
 use Rattle.sam_frame.specs.Stream.{stream_of}
 use Rattle.sam_term.specs.Term.{PlainTerminal, new_terminal, take_of}
@@ -17,13 +16,12 @@ use Rattle.sam_world.specs.Logs.{logged_users}
 use Rattle.sam_world.specs.Sides.{Each, TermRuns}
 use Rattle.sam_queue.specs.declared.rule.Entry.{Entry}
 use Rattle.sam_queue.specs.History.{has_left, IsEnded}
-use Rattle.sam_queue.specs.Views.{LineView, TakeView, PostView}
+use Rattle.sam_queue.specs.Views.{TakeView, PostView}
 use Rattle.sam_threads.specs.RealSides.{sides}
 use Rattle.sam_threads.specs.Numbers.{fault_number}
-use Rattle.sam_threads.specs.Inputs.{bytes_of, frames_in, users_in, frame_of_load, user_of_load}
+use Rattle.sam_threads.specs.Inputs.{bytes_of, frames_in, users_in}
 use Rattle.sam_threads.specs.WorkerEnds.{RefusesFrame, IsForeign, IsFullUp}
 use Rattle.sam_threads.specs.declared.input.Input.{Input}
-use Rattle.sam_threads.specs.declared.input.Input.TheVariants.{User, Host}
 use Rattle.sam_threads.specs.declared.term_side.Found.{Found}
 use Rattle.sam_threads.specs.declared.term_side.Found.TheVariants as found
 use Rattle.sam_threads.specs.declared.term_side.Tried.{Tried}

@@ -1,5 +1,5 @@
 -- What each thread tells of its end. A list that a record names is there, whatever the thread's schedule was.
-use Rattle.std.specs.Prelude.{◌≡◌, ℕ, ◌^◌, ◌<◌, ◌≤◌, ◌⊎◌, Bool, true, false, List, [], ◌∷◌, ◌++◌, length, map, take, All, Option, Some, None, Err}
+use Rattle.std.specs.Prelude.{◌≡◌, ℕ, ◌^◌, ◌<◌, ◌≤◌, ◌⊎◌, true, false, List, [], ◌∷◌, ◌++◌, length, map, take, All, Option, Some, None, Err}
 use Rattle.std.specs.Global.{Vec}
 use Rattle.sam_runes.specs.Texts.{most_files}
 use Rattle.sam_mesg.specs.declared.tmesg.Tmesg.{Tmesg}
