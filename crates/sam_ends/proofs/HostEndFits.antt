@@ -1,5 +1,5 @@
 -- What waits in a host end fits: messages that a framer gave, and the frames of an answer.
-use Rattle.std.proofs.Common.{◌≡◌, sym, ap, subst, ◌∙◌, ℕ, false, List, [], ◌∷◌, Option, Some, None}
+use Rattle.std.proofs.Common.{◌≡◌, subst, ℕ, false, List, [], ◌∷◌, Option, Some, None, arith}
 use Rattle.std.proofs.lemmas.List.Elements.{All-nil, All-cons, All-tail}
 use Rattle.sam_mesg.specs.declared.tmesg.Tmesg.{Tmesg}
 use Rattle.sam_mesg.proofs.Versions.{grows_t}
@@ -10,7 +10,7 @@ use Rattle.sam_host.specs.Laws.{FitInPlace}
 use Rattle.sam_host.proofs.LastVersion.{fit_in_last}
 use Rattle.sam_term.specs.Fitting.{FitsLast}
 use Rattle.sam_ends.specs.declared.fault.StreamFault.{StreamFault}
-use Rattle.sam_ends.specs.Streams.{FitFrames, FitMessages, Gives}
+use Rattle.sam_ends.specs.Streams.{FitMessages, Gives}
 use Rattle.sam_ends.specs.HostEnds.{PlainHostEnd}
 use Rattle.sam_ends.specs.HostSteps.{IsSound}
 
@@ -29,17 +29,9 @@ given_reads h k piece ms (Some why) up none = absurd (cc)
 -- the oldest message was answered
 pub answered_sound : (e g : PlainHostEnd) (version : ℕ) (m : Tmesg) → IsSound e → e.waiting ≡ m ∷ g.waiting → FitInPlace version g.unwritten
     → g.behind ≡ e.behind → g.framer ≡ e.framer → IsSound g
-answered_sound e g version m sound waited fit behind framer = record {
-  waiting = All-tail FitsLast m g.waiting (subst FitMessages waited sound.waiting);
-  unwritten = fit_in_last version g.unwritten fit;
-  reads = λ none. ap (λ (h : Held). h.failed) framer ∙ sound.reads (sym behind ∙ none);
-}
+answered_sound e g version m sound waited fit behind framer = grind (arith, (All-tail FitsLast m g.waiting (subst FitMessages waited sound.waiting)), (fit_in_last version g.unwritten fit))
 
 -- a piece was taken in
 pub taken_sound : (e g : PlainHostEnd) (piece : List ℕ) → IsSound e → Gives terminal e.framer piece g.waiting g.behind g.framer
     → g.unwritten ≡ e.unwritten → IsSound g
-taken_sound e g piece sound gave same = record {
-  waiting = given_fit e.framer g.framer piece g.waiting g.behind gave;
-  unwritten = subst FitFrames (sym same) sound.unwritten;
-  reads = given_reads e.framer g.framer piece g.waiting g.behind gave;
-}
+taken_sound e g piece sound gave same = grind (arith, given_fit)

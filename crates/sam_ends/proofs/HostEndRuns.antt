@@ -1,5 +1,5 @@
 -- What every run of a host end comes to.
-use Rattle.std.proofs.Common.{◌≡◌, refl, sym, ap, subst, ◌∙◌, inl, inr, ℕ, List, [], ◌∷◌, ◌++◌, flat_map, Option, Some, None, Result, Ok, Err, append_assoc, append-nil}
+use Rattle.std.proofs.Common.{◌≡◌, refl, sym, ap, subst, ◌∙◌, inl, inr, ℕ, List, [], ◌∷◌, ◌++◌, flat_map, Option, Some, None, Result, Ok, Err, append_assoc, append-nil, arith}
 use Rattle.std.specs.Prelude.{option_map}
 use Rattle.sam_mesg.specs.declared.fault.MesgFault.{MesgFault}
 use Rattle.sam_mesg.specs.declared.fault.MesgFault.TheVariants as wrong
@@ -7,8 +7,7 @@ use Rattle.sam_mesg.specs.declared.tmesg.Tmesg.{Tmesg}
 use Rattle.sam_mesg.specs.declared.hmesg.HFrame.{HFrame}
 use Rattle.sam_frame.specs.Direction.{host, terminal}
 use Rattle.sam_frame.specs.Stream.{Splits, stream_of, version_after}
-use Rattle.sam_frame.specs.Splitting.{Ends}
-use Rattle.sam_frame.specs.Framing.{Gave, Held}
+use Rattle.sam_frame.specs.Framing.{Held}
 use Rattle.sam_frame.specs.Reading.{IsStream}
 use Rattle.sam_frame.proofs.Fronts.{stream_of-append, version_after-append, Splits-then}
 use Rattle.sam_frame.proofs.Cuttings.{Splits-longer}
@@ -64,32 +63,16 @@ kept_answers h stream out e g ms a kept =
         ∙ ap (λ (x : List ℕ). x ++ stream_of host more) (sym (append_assoc out e.outbox (stream_of host e.unwritten)) ∙ p)
         ∙ sym (stream_of-append host frames more)
 
-gave_of : (h k : Held) (piece : List ℕ) (ms : List Tmesg) (behind : Option StreamFault) → Gives terminal h piece ms behind k → Gave terminal h piece ms k
-gave_of h k piece ms None all = all.gave
-gave_of h k piece ms (Some why) (place, up) = up.gave
-
-ends_of : (h k : Held) (piece : List ℕ) (ms : List Tmesg) (behind : Option StreamFault) → Gives terminal h piece ms behind k
-    → Ends terminal k.version k.bytes (option_map mesg_fault behind)
-ends_of h k piece ms None all = all.waits
-ends_of h k piece ms (Some why) (place, up) = up.shows
-
 -- a piece behind a stream
 reads_more : (h k : Held) (stream piece : List ℕ) (before ms : List Tmesg) (behind : Option StreamFault) → Splits terminal 1 stream before h.bytes
     → h.version ≡ version_after terminal 1 before → Gives terminal h piece ms behind k
     → IsStream terminal 1 (stream ++ piece) (before ++ ms) k.bytes (option_map mesg_fault behind) × (k.version ≡ version_after terminal 1 (before ++ ms))
-reads_more h k stream piece before ms behind splits version gives =
-    let gave = gave_of h k piece ms behind gives in
-    let first = Splits-longer terminal 1 stream before h.bytes piece splits in
-    let second : Splits terminal (version_after terminal 1 before) (h.bytes ++ piece) ms k.bytes =
-    subst (λ (v : ℕ). Splits terminal v (h.bytes ++ piece) ms k.bytes) version gave.splits in
-    let after : k.version ≡ version_after terminal 1 (before ++ ms) =
-    gave.version_is ∙ ap (λ (v : ℕ). version_after terminal v ms) version ∙ sym (version_after-append terminal 1 before ms) in (
-      record {
-        splits = Splits-then terminal 1 (stream ++ piece) before (h.bytes ++ piece) ms k.bytes first second;
-        ends = subst (λ (v : ℕ). Ends terminal v k.bytes (option_map mesg_fault behind)) after (ends_of h k piece ms behind gives);
-      },
-      after,
-    )
+reads_more h k stream piece before ms behind splits version gives = grind (
+  arith,
+  (Splits-longer terminal 1 stream before h.bytes piece splits),
+  (version_after-append terminal 1 before ms),
+  (Splits-then terminal 1 (stream ++ piece) before (h.bytes ++ piece) ms k.bytes),
+)
 
 kept_piece : (h : PlainHost) (stream out piece : List ℕ) (e k : PlainHostEnd) → e.waiting ≡ [] → TakesIn e piece k → Kept h stream out e → Kept h (stream ++ piece) out k
 kept_piece h stream out piece e k none (messages, behind, rest, gives, is) kept =
@@ -119,8 +102,7 @@ kept_goes_on h stream out e g (Err fault.CountFull) goes on kept = absurd on
 kept_goes_on h stream out e g (Err (fault.Stopped why)) goes on kept = absurd goes
 
 kept_same : (h : PlainHost) (stream out : List ℕ) (e g : PlainHostEnd) → g ≡ e → Kept h stream out e → Kept h (stream ++ []) out g
-kept_same h stream out e g is kept =
-    subst (λ (x : List ℕ). Kept h x out g) (sym (append-nil stream)) (subst (λ (x : PlainHostEnd). Kept h stream out x) (sym is) kept)
+kept_same h stream out e g is kept = grind (arith, append-nil)
 
 kept_idle : (h : PlainHost) (stream out piece : List ℕ) (e g : PlainHostEnd) (result : Answer) → GoesOnAfter result → e.waiting ≡ [] → FeedsIdle e piece result g
     → Kept h stream out e → Kept h (stream ++ came_in (piece, Some result)) out g
@@ -143,8 +125,7 @@ kept_idle h stream out piece e g (Err fault.CountFull) goes none (inr (inl (is, 
 -- the fault with which a piece was not taken
 untaken : (h : PlainHost) (stream out piece : List ℕ) (e g : PlainHostEnd) (result : Answer) → result ≡ Err fault.OutOfMemory → g ≡ e → Kept h stream out e
     → Kept h (stream ++ came_in (piece, Some result)) out g
-untaken h stream out piece e g result is same kept =
-    subst (λ (x : Answer). Kept h (stream ++ came_in (piece, Some x)) out g) (sym is) (kept_same h stream out e g same kept)
+untaken h stream out piece e g result is same kept = grind (arith, (kept_same h stream out e g same kept))
 
 stopped_not : (result : Answer) (why : HostStop) → result ≡ Err (fault.Stopped why) → GoesOnAfter result → ⊥
 stopped_not result why is goes = subst GoesOnAfter is goes
@@ -184,9 +165,7 @@ kept_out h stream out bytes rest e is kept =
 
 kept_run : (h : PlainHost) (stream out : List ℕ) (calls : List Call) (e g : PlainHostEnd) → Runs e calls g → Kept h stream out e
     → Kept h (stream ++ flat_map came_in calls) (out ++ flat_map went_out calls) g
-kept_run h stream out [] e g is kept =
-    subst (λ (x : PlainHostEnd). Kept h (stream ++ []) (out ++ []) x) (sym is)
-    (subst (λ (x : List ℕ). Kept h x (out ++ []) e) (sym (append-nil stream)) (subst (λ (x : List ℕ). Kept h stream x e) (sym (append-nil out)) kept))
+kept_run h stream out [] e g is kept = grind (arith, append-nil)
 kept_run h stream out ((piece, Some answer) ∷ calls) e g (k, feeds, goes, runs) kept =
     subst (λ (x : List ℕ). Kept h x (out ++ flat_map went_out calls) g) (append_assoc stream (came_in (piece, Some answer)) (flat_map came_in calls))
     (kept_run h (stream ++ came_in (piece, Some answer)) out calls k g runs (kept_feed h stream out piece e k answer goes feeds kept))
@@ -225,12 +204,7 @@ answered_frames (Err why) = []
 
 one_service : (h : PlainHost) (ms : List Tmesg) (a b : List HFrame) (v w : List ℕ) (g k : PlainHost) → Serves h ms a v g → Serves h ms b w k → (g ≡ k) × (a ≡ b)
 one_service h [] a b v w g k p q = (p.2 ∙ sym q.2, p.0 ∙ sym q.0)
-one_service h (m ∷ ms) a b v w g k (h1, a1, a2, v2, ans1, af, vf, p) (k1, b1, b2, w2, ans2, bf, wf, q) =
-    let same : Ok (h1, a1) ≡ Ok (k1, b1) = sym ans1 ∙ ans2 in
-    let hosts : h1 ≡ k1 = ap (λ (r : Result (PlainHost × List HFrame) HostFault). answered_host h r) same in
-    let frames : a1 ≡ b1 = ap (λ (r : Result (PlainHost × List HFrame) HostFault). answered_frames r) same in
-    let rest = one_service k1 ms a2 b2 v2 w2 g k (subst (λ (x : PlainHost). Serves x ms a2 v2 g) hosts p) q in
-    (rest.0, af ∙ ap (λ (x : List HFrame). x ++ a2) frames ∙ ap (λ (x : List HFrame). b1 ++ x) rest.1 ∙ sym bf)
+one_service h (m ∷ ms) a b v w g k (h1, a1, a2, v2, ans1, af, vf, p) (k1, b1, b2, w2, ans2, bf, wf, q) = grind (arith, (one_service k1 ms a2 b2 v2 w2 g k))
 
 abbrev told_fault : Option MesgFault → Option StreamFault
 told_fault None = None
@@ -247,13 +221,10 @@ told_back (Some BadText) = refl
 
 idle_reads : (h : PlainHost) (stream out : List ℕ) (e : PlainHostEnd) (s : HasServed h stream out e) → e.waiting ≡ []
     → IsStream terminal 1 stream s.answered e.framer.bytes (option_map mesg_fault e.behind)
-idle_reads h stream out e s none =
-    subst (λ (x : List Tmesg). IsStream terminal 1 stream x e.framer.bytes (option_map mesg_fault e.behind))
-    (ap (λ (x : List Tmesg). s.answered ++ x) none ∙ append-nil s.answered) s.reads
+idle_reads h stream out e s none = grind (arith, append-nil)
 
 idle_bytes : (h : PlainHost) (stream out : List ℕ) (e : PlainHostEnd) (s : HasServed h stream out e) → e.unwritten ≡ [] → out ++ e.outbox ≡ stream_of host s.frames
-idle_bytes h stream out e s none =
-    sym (append-nil (out ++ e.outbox)) ∙ ap (λ (x : List HFrame). (out ++ e.outbox) ++ stream_of host x) (sym none) ∙ s.bytes
+idle_bytes h stream out e s none = grind (arith, append-nil)
 
 pub one_outcome : Reads → (h : PlainHost) (stream a b : List ℕ) (e g : PlainHostEnd) → HasServed h stream a e → HasServed h stream b g → IsIdle e → IsIdle g
     → (e.host ≡ g.host) × (a ++ e.outbox ≡ b ++ g.outbox) × (e.behind ≡ g.behind)

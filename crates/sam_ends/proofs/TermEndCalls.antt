@@ -1,16 +1,15 @@
 -- The calls of a terminal end, of its steps.
-use Rattle.std.proofs.Common.{◌≡◌, refl, sym, ap, subst, ◌∙◌, ℕ, ◌+◌, ◌-◌, inl, inr, List, [], ◌∷◌, ◌++◌, length, Some, None, Ok, Err, arith, append-nil}
+use Rattle.std.proofs.lemmas.Grind.{common_steps}
+use Rattle.std.proofs.Common.{◌≡◌, refl, sym, subst, ℕ, ◌+◌, inl, inr, List, [], ◌∷◌, ◌++◌, length, None, Ok, Err, arith, append-nil, rules}
 use Rattle.sam_mesg.specs.declared.hmesg.HFrame.{HFrame}
 use Rattle.sam_term.specs.declared.event.Acted.{Acted}
 use Rattle.sam_term.specs.declared.event.UserEvent.{UserEvent}
-use Rattle.sam_ends.specs.declared.fault.StreamFault.{StreamFault}
 use Rattle.sam_ends.specs.declared.fault.TermStop.{TermStop}
 use Rattle.sam_ends.specs.declared.fault.TermStop.TheVariants as stop
 use Rattle.sam_ends.specs.declared.fault.EndFault.{EndFault}
 use Rattle.sam_ends.specs.declared.fault.EndFault.TheVariants as fault
-use Rattle.sam_ends.specs.Streams.{not_taken}
-use Rattle.sam_ends.specs.TermEnds.{PlainTermEnd, Calls, FeedsIdle, FlushesIdle, GoesOn, InOrder, IsIdle, IsQuiet, Moves, PutsIdle, oldest}
-use Rattle.sam_ends.specs.TermSteps.{Acts, ActsAll, ActsFirst, Answer, Composes, Gains, Holds, Receives, ReceivesAll, ReceivesFirst, Resumes, Writes, stopped, written}
+use Rattle.sam_ends.specs.TermEnds.{PlainTermEnd, Calls, FeedsIdle, FlushesIdle, GoesOn, IsIdle, IsQuiet, Moves, PutsIdle, oldest}
+use Rattle.sam_ends.specs.TermSteps.{Acts, ActsAll, ActsFirst, Answer, Composes, Gains, Holds, Receives, ReceivesAll, ReceivesFirst, Resumes, Writes, written}
 use Rattle.sam_ends.proofs.TermEndHeld.{take_held}
 use Rattle.sam_ends.proofs.TermEndMoves.{moves_acted, moves_both, moves_none, moves_received, moves_stopped, moves_written}
 
@@ -30,17 +29,10 @@ pub receiving_written : (e g : PlainTermEnd) → Receiving e g → Receiving e (
 receiving_written e g r = record { frames = r.frames; moves = moves_written e g r.frames [] r.moves; number = r.number; runs = r.runs }
 
 pub receiving_more : (e g k : PlainTermEnd) → Receiving e g → g.unwritten ≡ [] → ReceivesFirst g k → Receiving e k
-receiving_more e g k r none f = record {
-  frames = r.frames ++ f.frame ∷ [];
-  moves = moves_received e g k r.frames r.moves none f;
-  number = ap oldest f.after ∙ ap (λ hs. (g.events + 1) - length hs) (take_held g.term f.term f.frame f.composed f.taken) ∙ r.number;
-  runs = ap (λ (x : PlainTermEnd). x.stop) f.after ∙ r.runs;
-}
+receiving_more e g k r none f = grind (arith, (moves_received e g k r.frames r.moves none f), (take_held g.term f.term f.frame f.composed f.taken))
 
 pub received_all : (e g : PlainTermEnd) → Receiving e g → g.waiting ≡ [] → g.unwritten ≡ [] → ReceivesAll e (Ok tt) g
-received_all e g r none idle =
-    let all : e.waiting ≡ r.frames = r.moves.waiting ∙ ap (λ l. r.frames ++ l) none ∙ append-nil r.frames in
-    (subst (λ frames. Moves e frames [] g) (sym all) r.moves, record { waiting = none; unwritten = idle }, r.number, r.runs)
+received_all e g r none idle = grind (arith, append-nil)
 
 -- a step of it failed
 pub receiving_failed : (e g k : PlainTermEnd) (why : EndFault TermStop) → Receiving e g → g.unwritten ≡ [] → Receives g (Err why) k → ReceivesAll e (Err why) k
@@ -83,17 +75,10 @@ pub record HasActed (e : PlainTermEnd) (g : PlainTermEnd) : Type 0 where
   pub runs : g.stop ≡ None
 
 pub acting_more : (e g k : PlainTermEnd) → Acting e g → ActsFirst g k → HasActed e k
-acting_more e g k a f = record {
-  acts = a.acts ++ f.acted ∷ [];
-  moves = moves_acted e g k [] a.acts a.moves a.idle.unwritten a.number f;
-  number = let more = longer a.acts f.acted in omega (arith, f.next, a.number, more);
-  waiting = ap (λ (x : PlainTermEnd). x.waiting) f.after ∙ a.idle.waiting;
-  runs = ap (λ (x : PlainTermEnd). x.stop) f.after ∙ a.runs;
-}
+acting_more e g k a f = grind (arith, (moves_acted e g k), (longer a.acts f.acted))
 
 pub acting_written : (e g : PlainTermEnd) → HasActed e g → Acting e (written g)
-acting_written e g a =
-    record { acts = a.acts; moves = moves_written e g [] a.acts a.moves; number = a.number; idle = record { waiting = a.waiting; unwritten = refl }; runs = a.runs }
+acting_written e g a = grind (arith, moves_written)
 
 pub acting_unwritten : (e g k : PlainTermEnd) (why : EndFault TermStop) → HasActed e g → Writes g (Err why) k → ActsAll e (Err why) k
 acting_unwritten e g k fault.Unfinished a same = subst (λ x. ActsAll e (Err fault.Unfinished) x) (sym same) (a.acts, a.moves, a.runs)
@@ -103,9 +88,7 @@ acting_unwritten e g k fault.CountFull a f = absurd f
 
 pub acting_failed : (e g k : PlainTermEnd) (why : EndFault TermStop) → Acting e g → Acts g (Err why) k → ActsAll e (Err why) k
 acting_failed e g k fault.Unfinished a same = subst (λ x. ActsAll e (Err fault.Unfinished) x) (sym same) (a.acts, a.moves, a.runs)
-acting_failed e g k (fault.Stopped (stop.Refused why)) a (refused, after) =
-    subst (λ x. ActsAll e (Err (fault.Stopped (stop.Refused why))) x) (sym after)
-    (a.acts, moves_stopped e g [] a.acts (stop.Refused why) a.moves, record { waiting = a.idle.waiting; unwritten = a.idle.unwritten }, refused, refl)
+acting_failed e g k (fault.Stopped (stop.Refused why)) a (refused, after) = grind arith
 acting_failed e g k (fault.Stopped (stop.Stream why)) a f = absurd f
 acting_failed e g k fault.OutOfMemory a f = absurd f
 acting_failed e g k fault.CountFull a f = absurd f
@@ -115,49 +98,16 @@ acted_all e g k a (quiet, same) = subst (λ x. ActsAll e (Ok tt) x) (sym same) (
 
 -- ## Going on
 
--- no frame could be received, or written
-pub going_unreceived : (e g : PlainTermEnd) (why : EndFault TermStop) → ReceivesAll e (Err why) g → GoesOn e (Err why) g
-going_unreceived e g fault.Unfinished (frames, moves, runs) = (frames, [], moves, tt, runs)
-going_unreceived e g (fault.Stopped (stop.Refused why)) r = inl r
-going_unreceived e g (fault.Stopped (stop.Stream why)) f = absurd f
-going_unreceived e g fault.OutOfMemory f = absurd f
-going_unreceived e g fault.CountFull f = absurd f
-
--- the stream's fault shows behind the frames
-pub going_broken : (e g k : PlainTermEnd) (why : StreamFault) → ReceivesAll e (Ok tt) g → g.behind ≡ Some why → k ≡ stopped g (stop.Stream why)
-    → GoesOn e (Err (fault.Stopped (stop.Stream why))) k
-going_broken e g k why (moves, idle, number, runs) behind same = subst (λ x. GoesOn e (Err (fault.Stopped (stop.Stream why))) x) (sym same)
-    (moves_stopped e g e.waiting [] (stop.Stream why) moves, record { waiting = idle.waiting; unwritten = idle.unwritten }, sym moves.behind ∙ behind, refl)
-
 -- all frames were received, and then events act
 pub going_acts : (e m g : PlainTermEnd) (result : Answer) → ReceivesAll e (Ok tt) m → m.behind ≡ None → ActsAll m result g → GoesOn e result g
-going_acts e m g (Ok done) (received, idle, number, runs) sound (acts, moves, still, quiet, on) =
-    (acts, moves_both e m g e.waiting acts received idle.unwritten number moves, still, quiet, sym received.behind ∙ sound, on)
-going_acts e m g (Err fault.Unfinished) (received, idle, number, runs) sound (acts, moves, on) =
-    (e.waiting, acts, moves_both e m g e.waiting acts received idle.unwritten number moves, in_order acts (sym moves.waiting ∙ idle.waiting), on)
-  where
-    in_order : (acts : List Acted) → g.waiting ≡ [] → InOrder acts g
-    in_order [] none = tt
-    in_order (a ∷ acts) none = none
-going_acts e m g (Err (fault.Stopped (stop.Refused why))) (received, idle, number, runs) sound (acts, moves, still, refused, on) =
-    inr (acts, moves_both e m g e.waiting acts received idle.unwritten number moves, still, sym received.behind ∙ sound, refused, on)
+going_acts e m g (Ok done) (received, idle, number, runs) sound (acts, moves, still, quiet, on) = grind (arith, moves_both)
+going_acts e m g (Err fault.Unfinished) (received, idle, number, runs) sound (acts, moves, on) = grind (arith, moves_both)
+going_acts e m g (Err (fault.Stopped (stop.Refused why))) (received, idle, number, runs) sound (acts, moves, still, refused, on) = search (rules, common_steps)
 going_acts e m g (Err (fault.Stopped (stop.Stream why))) r sound f = absurd f
 going_acts e m g (Err fault.OutOfMemory) r sound f = absurd f
 going_acts e m g (Err fault.CountFull) r sound f = absurd f
 
 -- ## Calls
-
-pub resumes_stopped : (e : PlainTermEnd) (why : TermStop) → e.stop ≡ Some why → Resumes e (Err (fault.Stopped why)) e
-resumes_stopped e why was = inl (was, refl)
-
-pub resumes_done : (e g : PlainTermEnd) → e.stop ≡ None → GoesOn e (Ok tt) g → Resumes e (Ok tt) g
-resumes_done e g runs goes = (runs, goes)
-
-pub resumes_failed : (e g : PlainTermEnd) (why : EndFault TermStop) → e.stop ≡ None → GoesOn e (Err why) g → Resumes e (Err (not_taken why)) g
-resumes_failed e g fault.Unfinished runs goes = (runs, goes)
-resumes_failed e g (fault.Stopped why) runs goes = inr (runs, goes)
-resumes_failed e g fault.OutOfMemory runs f = absurd f
-resumes_failed e g fault.CountFull runs f = absurd f
 
 -- the call could not begin with what it brought
 pub call_failed : (e g : PlainTermEnd) (why : EndFault TermStop) (Brings : PlainTermEnd → Type 0) → Resumes e (Err why) g → Calls e (Err why) g Brings

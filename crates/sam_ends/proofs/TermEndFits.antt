@@ -1,10 +1,9 @@
 -- Frames that a framer gives fit in version 2.
-use Rattle.std.proofs.Common.{ℕ, List, [], ◌∷◌, Option, Some, None}
+use Rattle.std.proofs.Common.{ℕ, List, [], ◌∷◌, Option, Some, None, arith}
 use Rattle.std.specs.Prelude.{IsTrue}
-use Rattle.std.proofs.lemmas.List.Elements.{All-nil, All-cons}
+use Rattle.std.proofs.lemmas.List.Elements.{All-nil}
 use Rattle.sam_mesg.specs.HostKinds.{fits_h}
 use Rattle.sam_mesg.specs.declared.hmesg.HFrame.{HFrame}
-use Rattle.sam_mesg.proofs.Versions.{grows_h}
 use Rattle.sam_frame.specs.Direction.{host}
 use Rattle.sam_frame.specs.Stream.{FitInTurn}
 use Rattle.sam_frame.specs.Framing.{Held}
@@ -13,8 +12,7 @@ use Rattle.sam_ends.specs.Streams.{FitFrames, Gives}
 
 pub frames_fit : (v : ℕ) (frames : List HFrame) → FitInTurn host v frames → FitFrames frames
 frames_fit v [] fit = All-nil (λ (frame : HFrame). IsTrue (fits_h 2 frame.msg))
-frames_fit v (frame ∷ frames) fit =
-    All-cons (λ (x : HFrame). IsTrue (fits_h 2 x.msg)) frame frames (grows_h v frame.msg fit.0.fits) (frames_fit (host.after v frame) frames fit.1)
+frames_fit v (frame ∷ frames) fit = grind (arith, (frames_fit (host.after v frame) frames fit.1))
 
 pub given_fit : (h : Held) (piece : List ℕ) (frames : List HFrame) (behind : Option StreamFault) (k : Held) → Gives host h piece frames behind k → FitFrames frames
 given_fit h piece frames None k g = frames_fit h.version frames g.gave.splits.fit

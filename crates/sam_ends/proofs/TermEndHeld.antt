@@ -1,14 +1,12 @@
 -- Events leave the held ones only as they are done or refused, one at a time; frames and flushes leave them all.
-use Rattle.std.proofs.Common.{◌≡◌, refl, sym, ap, ◌∙◌, ℕ, ◌+◌, Bool, true, false, List, [], ◌∷◌, length, Option, Some, None, Result, Ok, Err, if◌then◌else◌, nat_lt, arith}
+use Rattle.std.proofs.Common.{◌≡◌, refl, sym, ap, ◌∙◌, ℕ, ◌+◌, Bool, true, false, List, [], ◌∷◌, length, Option, Some, None, Result, Ok, Err, if◌then◌else◌, arith}
 use Rattle.sam_runes.specs.Checks.{first_of_checks}
-use Rattle.sam_runes.specs.Texts.{is_empty, most_count}
 use Rattle.sam_mesg.specs.declared.tmesg.Tmesg.{Tmesg}
 use Rattle.sam_mesg.specs.declared.tmesg.Tmesg.TheVariants.{Tcut, Tpaste, Tsnarf, Tack}
 use Rattle.sam_mesg.specs.declared.hmesg.Hmesg.{Hmesg}
 use Rattle.sam_mesg.specs.declared.hmesg.Hmesg.TheVariants.{Hcheck, Hunlockfile, Hack}
 use Rattle.sam_mesg.specs.declared.hmesg.HFrame.{HFrame}
-use Rattle.sam_term.specs.Events.{is_command_line}
-use Rattle.sam_term.specs.Term.{PlainTerminal, Made, act_of, act_on, decided, if_countable, event_checks, frame_checks, flush_of, flushed, take_of, event_outcome, frame_outcome, made_unless, and_then, all_composed, composed, sends, sends_if, requested, wanted, unchanged, cuts_dot, types, kept_unsent, joins, joined, put_window, has_empty_dot, typed_rasp, made_by_type, made_by_cut, made_by_paste, made_by_snarf, made_by_view, window_at, cut_rasp, took_bindname, took_data, took_grow, took_growdata, took_cut, took_unlockfile, took_close, took_exit}
+use Rattle.sam_term.specs.Term.{PlainTerminal, Made, act_of, act_on, decided, if_countable, event_checks, flush_of, flushed, take_of, event_outcome, frame_outcome, all_composed, composed, sends, sends_if, requested, wanted, unchanged, cuts_dot, types, put_window, has_empty_dot, made_by_type, made_by_cut, made_by_paste, made_by_snarf, made_by_view, window_at, cut_rasp, took_bindname, took_data, took_grow, took_growdata, took_cut, took_unlockfile, took_close, took_exit}
 use Rattle.sam_term.specs.declared.event.Verdict.{Verdict}
 use Rattle.sam_term.specs.declared.event.Verdict.TheVariants.{Waits, Refuses}
 use Rattle.sam_term.specs.declared.event.UserEvent.{UserEvent}
@@ -54,21 +52,12 @@ dot-cut t f p q ms = either-keeps (has_empty_dot t f) (t, []) (sends t (λ u. cu
 cuts-keeps : (t : PlainTerminal) (f : ℕ) → held_in (cuts_dot t f) ≡ t.held
 cuts-keeps t f = let d = (window_at t f).dot in dot-cut t f d.0 d.1 (Tcut f d.0 d.1 ∷ [])
 
-kept-keeps : (t : PlainTerminal) (f p : ℕ) (s : List ℕ) → held_in (kept_unsent t f p s) ≡ t.held
-kept-keeps t f p s =
-    either-keeps (joins t.unsent f p s) (record t { unsent = Some (joined t.unsent f p s) }, [])
-    (and_then (flushed t) (λ u. (record u { unsent = Some (joined None f p s) }, []))) t.held refl (flushed-held t)
-
 types-keeps : (t : PlainTerminal) (f p : ℕ) (s : List ℕ) → held_in (types t f p s) ≡ t.held
-types-keeps t f p s =
-    let u = (kept_unsent t f p s).0 in
-    either-keeps (is_command_line f s) (flushed (typed_rasp u f p s)) (typed_rasp u f p s, []) t.held (flushed-held (typed_rasp u f p s) ∙ kept-keeps t f p s) (kept-keeps t f p s)
+types-keeps t f p s = grind (arith, flushed-held)
 
 type-keeps : (t : PlainTerminal) (f : ℕ) (s : List ℕ) → held_in (made_by_type t f s) ≡ t.held
 unfolding made_by_type
-type-keeps t f s =
-    let u = (cuts_dot t f).0 in
-    either-keeps (is_empty s) (u, []) (types u f (window_at t f).dot.0 s) t.held (cuts-keeps t f) (types-keeps u f (window_at t f).dot.0 s ∙ cuts-keeps t f)
+type-keeps t f s = grind (arith, cuts-keeps, types-keeps)
 
 -- what leaves the held events
 record Leaves (t : PlainTerminal) (made : Made) : Type 0 where
@@ -83,9 +72,7 @@ event_keeps t (Typed f s) = type-keeps t f s
 event_keeps t (Select f p q) = refl
 event_keeps t (Cut f) = let d = (window_at t f).dot in dot-cut t f d.0 d.1 (Tsnarf f d.0 d.1 ∷ Tcut f d.0 d.1 ∷ [])
 event_keeps t (Paste f) = sends-plain (cuts_dot t f).0 (Tpaste f (window_at t f).dot.0 ∷ []) ∙ cuts-keeps t f
-event_keeps t (Snarf f) =
-    let d = (window_at t f).dot in
-    either-keeps (has_empty_dot t f) (t, []) (sends t unchanged (Tsnarf f d.0 d.1 ∷ [])) t.held refl (sends-plain t (Tsnarf f d.0 d.1 ∷ []))
+event_keeps t (Snarf f) = search (arith, either-keeps, sends-plain)
 event_keeps t (View f p n) = requested-keeps (put_window t f (record (window_at t f) { view_start = p; view_length = n })) f
 event_keeps t Flush = flushed-held t
 event_keeps t e = let leaves : Leaves t (event_outcome t e) = leaves-plain t _ in leaves.held
@@ -103,11 +90,7 @@ made_in (Ok made) t = made.0
 made_in (Err why) t = t
 
 pub counted : (n : ℕ) (made : Made) (u : PlainTerminal) (ms : List Tmesg) → if_countable n made ≡ Ok (u, ms) → u ≡ made.0
-counted n made u ms e = go (nat_lt most_count n) e
-  where
-    go : (b : Bool) → (if b then (let x : Result Made TermFault = Err fault.CountFull in x) else Ok made) ≡ Ok (u, ms) → u ≡ made.0
-    go true q = absurd (cc)
-    go false q = sym (ap (λ r. made_in r u) q)
+counted n made u ms e = grind arith
 
 pub flush_held : (t u : PlainTerminal) (ms : List Tmesg) → flush_of t ≡ Ok (u, ms) → u.held ≡ t.held
 unfolding flush_of
@@ -115,20 +98,12 @@ flush_held t u ms e = ap (λ v. v.held) (counted (flushed t).0.sent (flushed t) 
 
 pub take_held : (t u : PlainTerminal) (frame : HFrame) (ms : List Tmesg) → take_of t frame ≡ Ok (u, ms) → u.held ≡ t.held
 unfolding take_of
-take_held t u frame ms e = go (first_of_checks ((nat_lt t.sent frame.seen, fault.FromTheFuture) ∷ frame_checks t frame.msg)) e
-  where
-    go : (o : Option TermFault) → made_unless o (frame_outcome t frame.msg) ≡ Ok (u, ms) → u.held ≡ t.held
-    go (Some why) q = absurd (cc)
-    go None q = ap (λ v. v.held) (counted (frame_outcome t frame.msg).0.sent (frame_outcome t frame.msg) u ms q) ∙ frame_keeps t frame.msg
+take_held t u frame ms e = grind (arith, frame_keeps)
 
 -- the terminal of an act that could be counted
 pub done-term : (n : ℕ) (t u : PlainTerminal) (ms : List Tmesg) (acted : Acted) → if_countable {A = PlainTerminal × Acted} n (t, Done ms) ≡ Ok (u, acted) → u ≡ t
 unfolding term_in
-done-term n t u ms acted e = go (nat_lt most_count n) e
-  where
-    go : (b : Bool) → (if b then (let x : Result (PlainTerminal × Acted) TermFault = Err fault.CountFull in x) else Ok (t, Done ms)) ≡ Ok (u, acted) → u ≡ t
-    go true q = absurd (cc)
-    go false q = sym (ap (λ r. term_in r t) q)
+done-term n t u ms acted e = grind arith
 
 locked-not : (acted : Acted) → Locked ≡ acted → IsSettled acted → ⊥
 locked-not Idle e s = s

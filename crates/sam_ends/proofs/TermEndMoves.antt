@@ -1,24 +1,21 @@
 -- What an end has received, done and written so far grows by its steps.
-use Rattle.std.proofs.Common.{◌≡◌, refl, sym, ap, subst, ◌∙◌, ℕ, ◌+◌, List, [], ◌∷◌, ◌++◌, length, Ok, append_assoc, arith, append-nil}
-use Rattle.std.proofs.lemmas.Grind.{flat_map-append}
+use Rattle.std.proofs.Common.{◌≡◌, refl, sym, ap, subst, ◌∙◌, ℕ, ◌+◌, List, [], ◌∷◌, ◌++◌, length, Ok, append_assoc, arith, append-nil, rules}
+use Rattle.std.proofs.lemmas.Grind.{flat_map-append, common_steps}
 use Rattle.sam_mesg.specs.declared.tmesg.Tmesg.{Tmesg}
 use Rattle.sam_mesg.specs.declared.hmesg.HFrame.{HFrame}
-use Rattle.sam_frame.specs.Direction.{terminal, frame_of}
+use Rattle.sam_frame.specs.Direction.{terminal}
 use Rattle.sam_frame.specs.Stream.{stream_of}
-use Rattle.sam_term.specs.Fitting.{composed_in}
 use Rattle.sam_term.specs.Term.{PlainTerminal, act_of, take_of}
 use Rattle.sam_term.specs.declared.event.Acted.{Acted}
 use Rattle.sam_term.specs.declared.event.Acted.TheVariants.{Idle, Locked, Done, Refused}
-use Rattle.sam_ends.specs.TermEnds.{PlainTermEnd, Acts, IsSettled, Moves, Receives, composed_by, last_stamp, oldest, refusals_from}
+use Rattle.sam_ends.specs.TermEnds.{PlainTermEnd, Acts, IsSettled, Moves, Receives, last_stamp, oldest, refusals_from}
 use Rattle.sam_ends.specs.TermSteps.{ActsFirst, ReceivesFirst, stopped, written}
 use Rattle.sam_ends.specs.declared.fault.TermStop.{TermStop}
 
 receives-more : (t u v : PlainTerminal) (frames : List HFrame) (frame : HFrame) (ms ns : List Tmesg) → Receives t frames ms u
     → take_of u frame ≡ Ok (v, ns) → Receives t (frames ++ frame ∷ []) (ms ++ ns) v
-receives-more t u v [] frame ms ns (none, same) taken =
-    (v, ns, [], subst (λ w. take_of w frame ≡ Ok (v, ns)) same taken, ap (λ l. l ++ ns) none ∙ sym (append-nil ns), (refl, refl))
-receives-more t u v (f ∷ frames) frame ms ns (w, first, rest, one, all, more) taken =
-    (w, first, rest ++ ns, one, ap (λ l. l ++ ns) all ∙ append_assoc first rest ns, receives-more w u v frames frame rest ns more taken)
+receives-more t u v [] frame ms ns (none, same) taken = grind (arith, (append-nil ns))
+receives-more t u v (f ∷ frames) frame ms ns (w, first, rest, one, all, more) taken = grind (arith, append_assoc, (receives-more w u v frames frame rest ns more taken))
 
 acts-more : (t u v : PlainTerminal) (acts : List Acted) (acted : Acted) → Acts t acts u → act_of u ≡ Ok (v, acted) → IsSettled acted → Acts t (acts ++ acted ∷ []) v
 acts-more t u v [] acted same act settled = (v, subst (λ w. act_of w ≡ Ok (v, acted)) same act, settled, refl)
@@ -30,11 +27,7 @@ refusals-more n [] acted = ap (λ k. refusals_from k (acted ∷ [])) (omega arit
 refusals-more n (Idle ∷ acts) acted = refusals-more (n + 1) acts acted ∙ ap (λ k. refusals_from (n + 1) acts ++ refusals_from k (acted ∷ [])) (omega arith)
 refusals-more n (Locked ∷ acts) acted = refusals-more (n + 1) acts acted ∙ ap (λ k. refusals_from (n + 1) acts ++ refusals_from k (acted ∷ [])) (omega arith)
 refusals-more n (Done ms ∷ acts) acted = refusals-more (n + 1) acts acted ∙ ap (λ k. refusals_from (n + 1) acts ++ refusals_from k (acted ∷ [])) (omega arith)
-refusals-more n (Refused why ∷ acts) acted =
-    ap (λ l. (n, why) ∷ l) (refusals-more (n + 1) acts acted ∙ ap (λ k. refusals_from (n + 1) acts ++ refusals_from k (acted ∷ [])) (omega arith))
-
-composed-more : (acts : List Acted) (acted : Acted) → composed_by (acts ++ acted ∷ []) ≡ composed_by acts ++ composed_in acted
-composed-more acts acted = flat_map-append composed_in acts (acted ∷ []) ∙ ap (λ l. composed_by acts ++ l) (append-nil (composed_in acted))
+refusals-more n (Refused why ∷ acts) acted = grind (arith, (refusals-more (n + 1) acts acted))
 
 -- the last of the frames is the one that came last
 last-stamp-more : (before : ℕ) (frames : List HFrame) (frame : HFrame) → last_stamp before (frames ++ frame ∷ []) ≡ frame.seen
@@ -44,56 +37,16 @@ last-stamp-more before (f ∷ frames) frame = last-stamp-more f.seen frames fram
 -- where nothing is unwritten, what is composed next comes behind
 behind : (out base : List ℕ) (left before more : List Tmesg) → left ≡ [] → out ++ stream_of terminal left ≡ base ++ stream_of terminal before
     → out ++ stream_of terminal more ≡ base ++ stream_of terminal (before ++ more)
-behind out base left before more none so_far =
-    let all : out ≡ base ++ stream_of terminal before = sym (append-nil out) ∙ ap (λ ms. out ++ stream_of terminal ms) (sym none) ∙ so_far in
-    ap (λ bytes. bytes ++ stream_of terminal more) all
-    ∙ append_assoc base (stream_of terminal before) (stream_of terminal more)
-    ∙ ap (λ bytes. base ++ bytes) (sym (flat_map-append (frame_of terminal) before more))
+behind out base left before more none so_far = grind (arith, append_assoc, flat_map-append)
 
 pub moves_none : (e : PlainTermEnd) → Moves e [] [] e
-moves_none e = record {
-  composed = [];
-  middle = e.term;
-  receives = (refl, refl);
-  acted = refl;
-  waiting = refl;
-  bytes = ap (λ ms. e.outbox ++ stream_of terminal ms) (sym (append-nil (e.unwritten ++ []) ∙ append-nil e.unwritten));
-  refusals = sym (append-nil e.refusals);
-  seen = refl;
-  framer = refl;
-  events = refl;
-  behind = refl;
-}
+moves_none e = grind (arith, append-nil)
 
 pub moves_written : (e g : PlainTermEnd) (frames : List HFrame) (acts : List Acted) → Moves e frames acts g → Moves e frames acts (written g)
-moves_written e g frames acts m = record {
-  composed = m.composed;
-  middle = m.middle;
-  receives = m.receives;
-  acted = m.acted;
-  waiting = m.waiting;
-  bytes = append-nil (g.outbox ++ stream_of terminal g.unwritten) ∙ m.bytes;
-  refusals = m.refusals;
-  seen = m.seen;
-  framer = m.framer;
-  events = m.events;
-  behind = m.behind;
-}
+moves_written e g frames acts m = grind (arith, append-nil)
 
 pub moves_stopped : (e g : PlainTermEnd) (frames : List HFrame) (acts : List Acted) (why : TermStop) → Moves e frames acts g → Moves e frames acts (stopped g why)
-moves_stopped e g frames acts why m = record {
-  composed = m.composed;
-  middle = m.middle;
-  receives = m.receives;
-  acted = m.acted;
-  waiting = m.waiting;
-  bytes = m.bytes;
-  refusals = m.refusals;
-  seen = m.seen;
-  framer = m.framer;
-  events = m.events;
-  behind = m.behind;
-}
+moves_stopped e g frames acts why m = grind arith
 
 pub moves_received : (e g k : PlainTermEnd) (frames : List HFrame) → Moves e frames [] g → g.unwritten ≡ [] → (r : ReceivesFirst g k) → Moves e (frames ++ r.frame ∷ []) [] k
 moves_received e g k frames m none r = subst (λ x. Moves e (frames ++ r.frame ∷ []) [] x) (sym r.after) (record {
@@ -113,43 +66,8 @@ moves_received e g k frames m none r = subst (λ x. Moves e (frames ++ r.frame �
 
 pub moves_acted : (e g k : PlainTermEnd) (frames : List HFrame) (acts : List Acted) → Moves e frames acts g → g.unwritten ≡ [] → oldest g ≡ oldest e + length acts
     → (a : ActsFirst g k) → Moves e frames (acts ++ a.acted ∷ []) k
-moves_acted e g k frames acts m none number a = subst (λ x. Moves e frames (acts ++ a.acted ∷ []) x) (sym a.after) (record {
-  composed = m.composed;
-  middle = m.middle;
-  receives = m.receives;
-  acted = acts-more m.middle g.term a.term acts a.acted m.acted a.acts a.settled;
-  waiting = m.waiting;
-  bytes = behind g.outbox e.outbox g.unwritten ((e.unwritten ++ m.composed) ++ composed_by acts) (composed_in a.acted) none m.bytes
-      ∙ ap (λ ms. e.outbox ++ stream_of terminal ms) (append_assoc (e.unwritten ++ m.composed) (composed_by acts) (composed_in a.acted)
-      ∙ ap (λ ms. (e.unwritten ++ m.composed) ++ ms) (sym (composed-more acts a.acted)));
-  refusals = ap (λ l. l ++ refusals_from (oldest g) (a.acted ∷ [])) m.refusals
-      ∙ append_assoc e.refusals (refusals_from (oldest e) acts) (refusals_from (oldest g) (a.acted ∷ []))
-      ∙ ap (λ n. e.refusals ++ (refusals_from (oldest e) acts ++ refusals_from n (a.acted ∷ []))) number
-      ∙ ap (λ l. e.refusals ++ l) (sym (refusals-more (oldest e) acts a.acted));
-  seen = m.seen;
-  framer = m.framer;
-  events = m.events;
-  behind = m.behind;
-})
+moves_acted e g k frames acts m none number a = search (rules, common_steps, acts-more, refusals-more)
 
 -- frames are received, and then events act
 pub moves_both : (e m g : PlainTermEnd) (frames : List HFrame) (acts : List Acted) → Moves e frames [] m → m.unwritten ≡ [] → oldest m ≡ oldest e → Moves m [] acts g → Moves e frames acts g
-moves_both e m g frames acts a none number b =
-    let quiet : b.composed ≡ [] = b.receives.0 in
-    let still : b.middle ≡ m.term = b.receives.1 in
-    record {
-      composed = a.composed;
-      middle = a.middle;
-      receives = a.receives;
-      acted = subst (λ t. Acts t acts g.term) (still ∙ a.acted) b.acted;
-      waiting = a.waiting ∙ ap (λ l. frames ++ l) b.waiting;
-      bytes = b.bytes
-          ∙ ap (λ ms. m.outbox ++ stream_of terminal (ms ++ composed_by acts)) (ap (λ l. m.unwritten ++ l) quiet ∙ append-nil m.unwritten ∙ none)
-          ∙ behind m.outbox e.outbox m.unwritten ((e.unwritten ++ a.composed) ++ []) (composed_by acts) none a.bytes
-          ∙ ap (λ ms. e.outbox ++ stream_of terminal (ms ++ composed_by acts)) (append-nil (e.unwritten ++ a.composed));
-      refusals = b.refusals ∙ ap (λ l. l ++ refusals_from (oldest m) acts) (a.refusals ∙ append-nil e.refusals) ∙ ap (λ n. e.refusals ++ refusals_from n acts) number;
-      seen = b.seen ∙ a.seen;
-      framer = b.framer ∙ a.framer;
-      events = b.events ∙ a.events;
-      behind = b.behind ∙ a.behind;
-    }
+moves_both e m g frames acts a none number b = search (rules, common_steps)

@@ -1,5 +1,5 @@
 -- One step of a terminal end: what holds of the end after it.
-use Rattle.std.proofs.Common.{◌≡◌, refl, sym, ap, subst, ◌∙◌, ℕ, ◌+◌, ◌-◌, ◌≤◌, inl, inr, false, List, [], ◌∷◌, ◌++◌, length, drop, Option, Some, None, Ok, Err, arith}
+use Rattle.std.proofs.Common.{◌≡◌, sym, ap, subst, ◌∙◌, ℕ, ◌-◌, ◌≤◌, false, List, [], ◌∷◌, ◌++◌, length, drop, Option, Some, None, Ok, Err, arith}
 use Rattle.std.specs.Prelude.{slice_get, IsTrue}
 use Rattle.std.proofs.lemmas.List.Elements.{All-tail}
 use Rattle.sam_mesg.specs.HostKinds.{fits_h}
@@ -15,7 +15,7 @@ use Rattle.sam_term.proofs.ActLaws.{idle_still, locked_still}
 use Rattle.sam_ends.specs.declared.fault.StreamFault.{StreamFault}
 use Rattle.sam_ends.specs.Streams.{FitFrames, Gives}
 use Rattle.sam_ends.specs.TermEnds.{PlainTermEnd, IsQuiet, IsSettled, oldest, refusals_from}
-use Rattle.sam_ends.specs.TermSteps.{ActsFirst, IsSound, Receives, Tries, stopped, stopped_by}
+use Rattle.sam_ends.specs.TermSteps.{ActsFirst, IsSound, Receives, Tries, stopped_by}
 use Rattle.sam_ends.specs.declared.fault.TermStop.{TermStop}
 use Rattle.sam_ends.specs.declared.fault.TermStop.TheVariants as stop
 use Rattle.sam_ends.specs.declared.fault.EndFault.{EndFault}
@@ -26,10 +26,6 @@ use Rattle.sam_ends.proofs.TermEndStamps.{act_counts, flush_counts}
 pub first_read : (frames : List HFrame) (frame : HFrame) → slice_get frames 0 ≡ Some frame → frames ≡ frame ∷ drop 1 frames
 first_read [] frame s = absurd (cc)
 first_read (x ∷ frames) frame s = let same : x ≡ frame = (cc) in ap (λ y. y ∷ frames) same
-
-pub none_read : (frames : List HFrame) → slice_get frames 0 ≡ None → frames ≡ []
-none_read [] s = refl
-none_read (x ∷ frames) s = absurd (cc)
 
 -- ## Frames
 
@@ -55,28 +51,14 @@ pub settled_counted : (e : PlainTermEnd) (u : PlainTerminal) (acted : Acted) →
 settled_counted e u acted s act settled = omega (arith, act_held e.term u acted act settled, s.counted)
 
 pub idle_quiet : (e g : PlainTermEnd) (u : PlainTerminal) → act_of e.term ≡ Ok (u, Idle) → g ≡ record e { term = u } → IsQuiet e.term × (g ≡ e)
-idle_quiet e g u act same =
-    let still : u ≡ e.term = idle_still e.term u act in
-    (inl (subst (λ t. act_of e.term ≡ Ok (t, Idle)) still act), same ∙ ap (λ t. record e { term = t }) still)
+idle_quiet e g u act same = grind (arith, (idle_still e.term u act))
 
 pub locked_quiet : (e g : PlainTermEnd) (u : PlainTerminal) → act_of e.term ≡ Ok (u, Locked) → g ≡ record e { term = u } → IsQuiet e.term × (g ≡ e)
-locked_quiet e g u act same =
-    let still : u ≡ e.term = locked_still e.term u act in
-    (inr (subst (λ t. act_of e.term ≡ Ok (t, Locked)) still act), same ∙ ap (λ t. record e { term = t }) still)
+locked_quiet e g u act same = grind (arith, (locked_still e.term u act))
 
 pub acted_first : (e g : PlainTermEnd) (u : PlainTerminal) (acted : Acted) → IsSound e → act_of e.term ≡ Ok (u, acted) → IsSettled acted
     → g ≡ record e { term = u; unwritten = composed_in acted; refusals = e.refusals ++ refusals_from (oldest e) (acted ∷ []) } → ActsFirst e g
-acted_first e g u acted s act settled same =
-    let fewer : length u.held + 1 ≡ length e.term.held = act_held e.term u acted act settled in
-    record {
-      term = u;
-      acted = acted;
-      acts = act;
-      settled = settled;
-      after = same;
-      next = ap oldest same ∙ omega (arith, fewer, s.counted);
-      fewer = ap (λ (k : PlainTermEnd). length k.term.held + 1) same ∙ fewer;
-    }
+acted_first e g u acted s act settled same = grind (arith, act_held)
 
 -- the number of an event that is refused, as it is counted
 pub refused_number : (e : PlainTermEnd) (u : PlainTerminal) (acted : Acted) → act_of e.term ≡ Ok (u, acted) → IsSettled acted → e.events - length u.held ≡ oldest e
@@ -96,8 +78,7 @@ flushed_stamped e u ms s flushed = omega (arith, flush_counts e.term u ms flushe
 pub receive_failed : (e h g : PlainTermEnd) (frame : HFrame) (rest : List HFrame) (u : PlainTerminal) (why : EndFault TermStop) → e.waiting ≡ frame ∷ rest
     → Tries {A = List Tmesg} e.term (take_of e.term frame) (Err why) u → h ≡ record e { term = u } → g ≡ stopped_by h why → Receives e (Err why) g
 receive_failed e h g frame rest u fault.Unfinished waited still same after = after ∙ same ∙ ap (λ t. record e { term = t }) still
-receive_failed e h g frame rest u (fault.Stopped (stop.Refused why)) waited (refused, still) same after =
-    (frame, rest, waited, refused, after ∙ ap (λ k. stopped k (stop.Refused why)) (same ∙ ap (λ t. record e { term = t }) still))
+receive_failed e h g frame rest u (fault.Stopped (stop.Refused why)) waited (refused, still) same after = grind arith
 receive_failed e h g frame rest u (fault.Stopped (stop.Stream why)) waited none same after = absurd none
 receive_failed e h g frame rest u fault.OutOfMemory waited none same after = absurd none
 receive_failed e h g frame rest u fault.CountFull waited none same after = absurd none

@@ -1,18 +1,17 @@
 -- Which frames the answers have, kind by kind, and which lock the last one frees. So what holds of each of these frames holds of each frame
 -- of an answer.
-use Rattle.std.proofs.Common.{◌≡◌, ℕ, suc, ◌+◌, ◌-◌, ◌≤◌, List, [], ◌∷◌, ◌++◌, length, Bool, true, false, not, cond, Option, Some, None, refl, sym, ap, ◌∙◌, subst, append_assoc, if◌then◌else◌, arith}
+use Rattle.std.proofs.Common.{◌≡◌, ℕ, suc, ◌+◌, ◌-◌, ◌≤◌, List, [], ◌∷◌, ◌++◌, length, Bool, true, false, not, cond, Option, Some, None, refl, sym, subst, append_assoc, if◌then◌else◌, arith}
 use Rattle.std.specs.Prelude.{◌&&◌, ◌||◌, ◌==◌, min, nat_lt, nat_le, IfSome, flat_map, reverse, drop, unwrap_or}
-use Rattle.std.proofs.lemmas.Bool.{leb-true, ltb-false}
 use Rattle.sam_runes.specs.declared.edit.Edit.{Edit}
 use Rattle.sam_runes.specs.Texts.{Range, part, is_empty, max_runes, most_in_message, most_in_pattern, searched, all_tags, ends_line, as_lines, last_line, most_in_name}
 use Rattle.sam_runes.specs.Slots.{Slots, slot}
-use Rattle.sam_text.specs.Files.{PlainFile, PlainFiles, PlainOutcome, blank_file, file_at, has_file, is_printed, has_room, after_print, committed, typed_file, IsPattern, may_look}
-use Rattle.sam_text.specs.Meaning.{meaning, work_file}
+use Rattle.sam_text.specs.Files.{PlainFile, PlainFiles, PlainOutcome, blank_file, file_at, has_file, has_room, after_print, typed_file, IsPattern, may_look}
+use Rattle.sam_text.specs.Meaning.{work_file}
 use Rattle.sam_text.proofs.OutcomeLaws.{HasShortParts, line_short}
 use Rattle.sam_mesg.specs.declared.tmesg.Tmesg.{Tmesg}
 use Rattle.sam_mesg.specs.declared.tmesg.Tmesg.TheVariants.{Tversion, Tstartcmdfile, Tcheck, Trequest, Torigin, Tstartfile, Tworkfile, Ttype, Tcut, Tpaste, Tsnarf, Tstartnewfile, Twrite, Tclose, Tlook, Tsearch, Tsend, Tdclick, Tstartsnarf, Tsetsnarf, Tack, Texit}
 use Rattle.sam_mesg.specs.declared.hmesg.Hmesg.{Hmesg}
-use Rattle.sam_mesg.specs.declared.hmesg.Hmesg.TheVariants.{Hversion, Hsetsnarf, Hbindname, Hcurrent, Hnewname, Hmovname, Hgrow, Hcheck, Hunlock, Hdata, Horigin, Hunlockfile, Hsetdot, Hgrowdata, Hmoveto, Hclean, Hdirty, Hcut, Hsetpat, Hdelname, Hclose, Hsnarflen, Hack, Hexit}
+use Rattle.sam_mesg.specs.declared.hmesg.Hmesg.TheVariants.{Hversion, Hsetsnarf, Hbindname, Hcurrent, Hnewname, Hmovname, Hcheck, Hunlock, Hdata, Horigin, Hunlockfile, Hsetdot, Hgrowdata, Hmoveto, Hclean, Hdirty, Hsetpat, Hdelname, Hclose, Hsnarflen, Hack, Hexit}
 use Rattle.sam_host.specs.Host.{PlainHost, Reply, when, when_given, grown, told_dirty, told_length, printed, told_edit, told_outcome, told_names, command_name, no_tag_left, with_file, with_files, reply_found, searched_for, reply_line, reply_to, reply_version, reply_startcmdfile, reply_check, reply_request, reply_origin, reply_startfile, reply_workfile, reply_type, reply_cut, reply_paste, reply_snarf, reply_startnewfile, reply_write, reply_close, reply_look, reply_search, reply_send, reply_dclick, reply_startsnarf, reply_setsnarf, reply_exit}
 use Rattle.sam_host.proofs.FileLaws.{part_length}
 
@@ -81,11 +80,7 @@ each-given P R (Some x) frame h k = (h x k, tt)
 
 each_grown : (Q : List ℕ → Type 0) (fs : PlainFiles) (f p : ℕ) (s : List ℕ) → EachFrame (IsTold Q) (grown fs f p s)
 unfolding grown
-each_grown Q fs f p s = each-when (IsTold Q) ((file_at fs f).opened && not (is_empty s)) _ (go (nat_le (length s) most_in_message) refl, tt)
-  where
-    go : (b : Bool) → nat_le (length s) most_in_message ≡ b → IsTold Q (cond b (Hgrowdata f p s) (Hgrow f p (length s)))
-    go true e = leb-true (length s) most_in_message e
-    go false e = tt
+each_grown Q fs f p s = grind (arith, each-when)
 
 each_dirty : (Q : List ℕ → Type 0) (fs : PlainFiles) (f : ℕ) → EachFrame (IsTold Q) (told_dirty fs f)
 each_dirty Q fs f = each-when (IsTold Q) (not (file_at fs f).dirty && not (f == 0)) (Hdirty f ∷ []) (tt, tt)
@@ -96,18 +91,12 @@ each_length Q f file = each-when (IsTold Q) (not (is_empty file.text)) _ (tt, tt
 
 each_printed : (Q : List ℕ → Type 0) (fs : PlainFiles) (s : List ℕ) → EachFrame (IsTold Q) (printed fs s)
 unfolding printed
-each_printed Q fs s =
-    let end = length (file_at fs 0).text + length s in
-    each-when (IsTold Q) (is_printed fs s && (file_at fs 0).opened) _
-    (each-both (IsTold Q) (grown fs 0 (length (file_at fs 0).text) s) (Hsetdot 0 end end ∷ Hcheck 0 ∷ []) (each_grown Q fs 0 _ s) (tt, (tt, tt)))
+each_printed Q fs s = search (arith, each-when, each-both, each_grown)
 
 each_edits : (Q : List ℕ → Type 0) (fs : PlainFiles) (f : ℕ) (es : List Edit) → EachFrame (IsTold Q) (flat_map (told_edit fs f) es)
 unfolding told_edit
 each_edits Q fs f [] = tt
-each_edits Q fs f (e ∷ es) =
-    each-both (IsTold Q) (told_edit fs f e) (flat_map (told_edit fs f) es)
-    (each-both (IsTold Q) _ (grown fs f e.p e.text) (each-when (IsTold Q) (nat_lt e.p e.q) (Hcut f e.p (e.q - e.p) ∷ []) (tt, tt)) (each_grown Q fs f e.p e.text))
-    (each_edits Q fs f es)
+each_edits Q fs f (e ∷ es) = search (arith, each-both, each-when, each_grown, (each_edits Q fs f es))
 
 each_outcome : (Q : List ℕ → Type 0) → ((s : List ℕ) → length s ≤ most_in_name → Q s) → (x : Option ℕ) (fs : PlainFiles) (o : PlainOutcome) → HasShortParts o
     → EachFrame (IsTold Q) (told_outcome x fs o)
@@ -143,12 +132,7 @@ ends : (Q : List ℕ → Type 0) (l : Freed) (front : List Hmesg) → EachFrame 
 ends Q l front told = record { front = front; quits = false; is = refl; told = told }
 
 behind : (Q : List ℕ → Type 0) (l : Freed) (xs ys : List Hmesg) → EachFrame (IsTold Q) xs → Ends Q l ys → Ends Q l (xs ++ ys)
-behind Q l xs ys told k = record {
-  front = xs ++ k.front;
-  quits = k.quits;
-  is = ap (λ (ms : List Hmesg). xs ++ ms) k.is ∙ sym (append_assoc xs k.front (end_frames l k.quits));
-  told = each-both (IsTold Q) xs k.front told k.told;
-}
+behind Q l xs ys told k = grind (arith, append_assoc, each-both)
 
 ends-if : (Q : List ℕ → Type 0) (l : Bool → Freed) (b : Bool) (x y : Reply) → (b ≡ true → Ends Q (l true) x.1) → Ends Q (l false) y.1 → Ends Q (l b) (cond b x y).1
 ends-if Q l true x y h k = h refl
@@ -165,27 +149,13 @@ ends-found Q h f (Some d) frames before = behind Q (File f) frames _ before (end
 
 ends-line : (Q : List ℕ → Type 0) → ((s : List ℕ) → length s ≤ most_in_name → Q s) → (h : PlainHost) (before : List Hmesg) (line : List ℕ) → EachFrame (IsTold Q) before
     → Ends Q Command (reply_line h before line).1
-ends-line Q name h before line front =
-    let o = meaning h.files line in
-    let fs = committed h.files o in
-    let told = each_outcome Q name o.file h.files o (line_short (work_file h.files) line) in
-    record {
-      front = (before ++ told_outcome o.file h.files o) ++ printed fs o.printed;
-      quits = o.quit;
-      is = refl;
-      told = each-both (IsTold Q) _ _ (each-both (IsTold Q) before _ front told) (each_printed Q fs o.printed);
-    }
+ends-line Q name h before line front = grind (arith, (each_outcome Q name), (line_short (work_file h.files) line), (each-both (IsTold Q)), (each_printed Q))
 
 -- ## The kinds
 
 -- what may be looked for is no longer than a pattern
 look-short : (lit : List ℕ) → may_look lit ≡ true → length lit ≤ most_in_pattern
-look-short lit e = ltb-false most_in_pattern (length lit) (second (is_empty lit) (nat_lt most_in_pattern (length lit)) e)
-  where
-    second : (a b : Bool) → not (a || b) ≡ true → b ≡ false
-    second true b e = absurd (cc)
-    second false true e = absurd (cc)
-    second false false e = refl
+look-short lit e = grind arith
 
 part-short : (t : List ℕ) (a b n : ℕ) → b ≤ a + n → length (part t a b) ≤ n
 part-short t a b n h = omega (arith, part_length t a b)

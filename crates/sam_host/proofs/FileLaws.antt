@@ -1,10 +1,10 @@
 -- Small laws of files: the one that was put, a part of a text, and a snarf buffer that a message holds.
 use Rattle.std.proofs.Common.{◌≡◌, ℕ, ◌-◌, ◌≤◌, List, [], ◌∷◌, length, drop, true, ap, arith, length-append}
-use Rattle.std.specs.Prelude.{IsTrue, is_some, encode_utf8}
+use Rattle.std.specs.Prelude.{IsTrue, is_some}
 use Rattle.std.specs.Str.{encode_utf8_all}
 use Rattle.std.proofs.lemmas.List.{length-take}
 use Rattle.std.proofs.lemmas.Bool.{leb-true}
-use Rattle.std.proofs.lemmas.Str.{length-encode, len_utf8_bounds}
+use Rattle.std.proofs.lemmas.Str.{length-encode}
 use Rattle.sam_runes.specs.Texts.{max_runes, part, last_snarf_limit}
 use Rattle.sam_runes.proofs.SlotLaws.{slot-put_same}
 use Rattle.sam_text.specs.Files.{PlainFile, PlainFiles, put_file, has_file}
@@ -20,12 +20,7 @@ part_length t a b = omega (arith, length-take (b - a) (drop a t))
 
 runes_below_bytes : (runes : List ℕ) → length runes ≤ length (encode_utf8_all runes)
 runes_below_bytes [] = omega arith
-runes_below_bytes (c ∷ runes) =
-    let h = runes_below_bytes runes in
-    let one = length-append (encode_utf8 c) (encode_utf8_all runes) in
-    let two = length-encode c in
-    let three = len_utf8_bounds c in
-    omega arith
+runes_below_bytes (c ∷ runes) = grind (arith, length-append, length-encode, (runes_below_bytes runes))
 
 -- a text that a message holds is no longer than a snarf buffer may be
 pub snarf_short : (runes : List ℕ) → IsTrue (fits_t 2 (Tsetsnarf runes)) → length runes ≤ max_runes

@@ -1,17 +1,17 @@
 -- The frames of every answer fit.
-use Rattle.std.proofs.Common.{◌≡◌, ℕ, ◌≤◌, List, [], ◌∷◌, length, true, refl}
+use Rattle.std.proofs.Common.{◌≡◌, ℕ, ◌≤◌, List, [], ◌∷◌, length, true, refl, arith}
 use Rattle.std.proofs.lemmas.Bool.{le-leb}
-use Rattle.sam_runes.specs.Texts.{most_in_message, most_in_pattern, snarf_limit, utf8_length, prefix_in_bytes, most_in_name}
+use Rattle.sam_runes.specs.Texts.{snarf_limit, utf8_length, prefix_in_bytes, most_in_name}
 use Rattle.sam_runes.proofs.PlaceLaws.{prefix_within}
 use Rattle.sam_mesg.specs.HostKinds.{after_h, fits_h}
 use Rattle.sam_mesg.proofs.Versions.{grows_h}
 use Rattle.sam_mesg.specs.declared.tmesg.Tmesg.{Tmesg}
 use Rattle.sam_mesg.specs.declared.tmesg.Tmesg.TheVariants.{Tversion, Tstartsnarf}
 use Rattle.sam_mesg.specs.declared.hmesg.Hmesg.{Hmesg}
-use Rattle.sam_mesg.specs.declared.hmesg.Hmesg.TheVariants.{Hversion, Hdata, Hmovname, Hgrowdata, Hsetpat, Hsetsnarf}
+use Rattle.sam_mesg.specs.declared.hmesg.Hmesg.TheVariants.{Hsetsnarf}
 use Rattle.sam_host.specs.Host.{PlainHost, stamped, reply_version, reply_startsnarf, reply_to}
 use Rattle.sam_host.specs.Laws.{AreNamesShort, FitInPlace}
-use Rattle.sam_host.proofs.EachFrame.{EachFrame, IsTold, AreFrames, reply_each}
+use Rattle.sam_host.proofs.EachFrame.{EachFrame, AreFrames, reply_each}
 
 -- a message that fits in every version
 abbrev pub Always : Hmesg → Type 0
@@ -22,16 +22,7 @@ all-stamped v seen [] h = tt
 all-stamped v seen (m ∷ ms) h = (h.0 v, h.0 2, all-stamped (after_h v m) seen ms h.1)
 
 always : AreFrames Always (λ s. length s ≤ most_in_name)
-always = record { name = λ s short. short; told = told; unlock = λ v. refl; unlockfile = λ f v. refl; exit = λ v. refl }
-  where
-    told : (m : Hmesg) → IsTold (λ s. length s ≤ most_in_name) m → Always m
-    told (Hversion v) i = absurd i
-    told (Hsetsnarf s) i = absurd i
-    told (Hmovname f s) i = λ v. le-leb (length s) most_in_name i
-    told (Hgrowdata f p s) i = λ v. le-leb (length s) most_in_message i
-    told (Hdata f p s) i = λ v. le-leb (length s) most_in_message i
-    told (Hsetpat s) i = λ v. le-leb (length s) most_in_pattern i
-    told _ i = λ v. refl
+always = grind arith
 
 snarf-fits : (v : ℕ) (s : List ℕ) → fits_h v (Hsetsnarf (prefix_in_bytes s (snarf_limit v))) ≡ true
 snarf-fits v s = le-leb (utf8_length (prefix_in_bytes s (snarf_limit v))) (snarf_limit v) (prefix_within s (snarf_limit v))

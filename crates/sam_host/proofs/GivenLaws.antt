@@ -1,5 +1,6 @@
 -- A host that is made from names and texts, a file further.
-use Rattle.std.proofs.Common.{◌≡◌, ℕ, ◌≤◌, List, [], ◌∷◌, ◌++◌, length, Option, Some, refl, sym, ap, ◌∙◌, subst, append_assoc}
+use Rattle.std.proofs.lemmas.Grind.{common_steps}
+use Rattle.std.proofs.Common.{◌≡◌, ℕ, ◌≤◌, List, [], ◌∷◌, ◌++◌, length, Option, Some, refl, sym, ap, ◌∙◌, subst, rules}
 use Rattle.std.specs.Prelude.{reverse}
 use Rattle.std.proofs.lemmas.List.{reverse-append, reverse-reverse}
 use Rattle.sam_runes.specs.Texts.{RoomyText, most_in_name}
@@ -19,11 +20,7 @@ turned all rest g e = ap reverse e ∙ reverse-append rest (g ∷ [])
 -- the file that is popped last stands behind those that were added, in front of those that are left
 pub given_step : (ss : Slots PlainFile) (all rest : List Given) (g : Given) → all ≡ rest ++ g ∷ []
     → put_slot ss (length ss) (given_file (g.0, g.1.runes)) ++ given_slots (given_of (reverse rest)) ≡ ss ++ given_slots (given_of (reverse all))
-given_step ss all rest g e =
-    let x = given_file (g.0, g.1.runes) in
-    ap (λ ss. ss ++ given_slots (given_of (reverse rest))) (put_slot-push ss x)
-    ∙ (append_assoc ss (Some x ∷ []) (given_slots (given_of (reverse rest)))
-    ∙ ap (λ (gs : List Given). ss ++ given_slots (given_of gs)) (sym (turned all rest g e)))
+given_step ss all rest g e = search (rules, common_steps, put_slot-push)
 
 pub names_step : (all rest : List Given) (g : Given) → all ≡ rest ++ g ∷ [] → AreNames (reverse all) → (length g.0 ≤ most_in_name) × AreNames (reverse rest)
 names_step all rest g e h = subst AreNames (turned all rest g e) h

@@ -1,5 +1,5 @@
 -- What the answers do to the files, kind by kind. So what each of these changes keeps, each answer keeps.
-use Rattle.std.proofs.Common.{◌≡◌, ℕ, ◌+◌, ◌≤◌, List, [], ◌∷◌, length, Bool, true, false, not, ◌&&◌, ◌||◌, ◌==◌, cond, Option, Some, None, refl}
+use Rattle.std.proofs.Common.{◌≡◌, ℕ, ◌+◌, ◌≤◌, List, [], ◌∷◌, length, Bool, true, false, not, ◌&&◌, ◌||◌, ◌==◌, cond, Option, Some, None, refl, arith}
 use Rattle.std.specs.Prelude.{nat_lt, nat_le, IfSome, ◌-◌}
 use Rattle.std.proofs.lemmas.Bool.{ltb-false, not-false}
 use Rattle.sam_runes.specs.Texts.{Range, max_runes, all_tags, last_line, is_empty, searched, word_at, as_lines, part, ends_line}
@@ -41,23 +41,13 @@ neither true b e = absurd (cc)
 neither false b e = (refl, e)
 
 range_checked : (h : PlainHost) (f p q : ℕ) → (no_range h f p q).0 ≡ false → InRange (length (file_at h.files f).text) (p, q)
-range_checked h f p q e =
-    let parts = neither (nat_lt q p) (nat_lt (length (file_at h.files f).text) q) e in
-    (ltb-false q p parts.0, ltb-false (length (file_at h.files f).text) q parts.1)
+range_checked h f p q e = grind arith
 
 range_allowed : (h : PlainHost) (f p q : ℕ) → first_of_checks (unknown h f ∷ not_opened h f ∷ no_range h f p q ∷ []) ≡ None → InRange (length (file_at h.files f).text) (p, q)
-range_allowed h f p q e =
-    let a = none_holds (unknown h f) (not_opened h f ∷ no_range h f p q ∷ []) e in
-    let b = none_holds (not_opened h f) (no_range h f p q ∷ []) a.1 in
-    let c = none_holds (no_range h f p q) [] b.1 in
-    range_checked h f p q c.0
+range_allowed h f p q e = grind arith
 
 place_allowed : (h : PlainHost) (f p : ℕ) → first_of_checks (unknown h f ∷ not_opened h f ∷ past_end h f p ∷ []) ≡ None → p ≤ length (file_at h.files f).text
-place_allowed h f p e =
-    let a = none_holds (unknown h f) (not_opened h f ∷ past_end h f p ∷ []) e in
-    let b = none_holds (not_opened h f) (past_end h f p ∷ []) a.1 in
-    let c = none_holds (past_end h f p) [] b.1 in
-    ltb-false (length (file_at h.files f).text) p c.0
+place_allowed h f p e = grind arith
 
 searched_for_within : (pattern : Option (List ℕ)) (t : List ℕ) (q : ℕ) → q ≤ length t → IfSome (searched_for pattern t q) (InRange (length t))
 searched_for_within None t q h = tt

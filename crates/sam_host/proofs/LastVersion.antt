@@ -1,12 +1,11 @@
 -- Frames that fit at their places fit in the last version.
-use Rattle.std.proofs.Common.{ℕ, List, [], ◌∷◌}
+use Rattle.std.proofs.Common.{ℕ, List, [], ◌∷◌, arith}
 use Rattle.std.specs.Prelude.{All, IsTrue}
-use Rattle.std.proofs.lemmas.List.Elements.{All-nil, All-cons}
+use Rattle.std.proofs.lemmas.List.Elements.{All-nil}
 use Rattle.sam_mesg.specs.declared.hmesg.HFrame.{HFrame}
 use Rattle.sam_mesg.specs.HostKinds.{after_h, fits_h}
 use Rattle.sam_host.specs.Laws.{FitInPlace}
 
 pub fit_in_last : (version : ℕ) (frames : List HFrame) → FitInPlace version frames → All (λ frame. IsTrue (fits_h 2 frame.msg)) frames
 fit_in_last version [] fit = All-nil (λ (x : HFrame). IsTrue (fits_h 2 x.msg))
-fit_in_last version (frame ∷ frames) fit =
-    All-cons (λ (x : HFrame). IsTrue (fits_h 2 x.msg)) frame frames fit.1 (fit_in_last (after_h version frame.msg) frames fit.2)
+fit_in_last version (frame ∷ frames) fit = grind (arith, (fit_in_last (after_h version frame.msg) frames fit.2))

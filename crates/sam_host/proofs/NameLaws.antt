@@ -1,5 +1,5 @@
 -- The names that are told, a tag further.
-use Rattle.std.proofs.Common.{◌≡◌, refl, sym, ap, ◌∙◌, append_assoc, append-nil, ℕ, zero, suc, ◌+◌, ◌<◌, ◌≤◌, List, [], ◌∷◌, ◌++◌, length, drop, arith}
+use Rattle.std.proofs.Common.{◌≡◌, refl, append_assoc, append-nil, ℕ, zero, suc, ◌+◌, ◌<◌, ◌≤◌, List, [], ◌∷◌, ◌++◌, length, drop, arith}
 use Rattle.std.proofs.Math.ListN.{drop_of_length-le}
 use Rattle.sam_runes.specs.Slots.{Slots, slot}
 use Rattle.sam_text.specs.Files.{PlainFile}
@@ -15,20 +15,12 @@ names_at g zero (s ∷ ss) l = refl
 names_at g (suc f) (s ∷ ss) l = names_at g f ss (omega arith)
 
 later : (f : ℕ) (ss : Slots PlainFile) (ms : List Hmesg) → ms ++ told_names (1 + f) (drop (suc f) ss) ≡ ms ++ told_names (f + 1) (drop (f + 1) ss)
-later f ss ms =
-    let next : 1 + f ≡ f + 1 = omega arith in
-    let behind : suc f ≡ f + 1 = omega arith in
-    λ i. ms ++ told_names (next i) (drop (behind i) ss)
+later f ss ms = grind arith
 
 -- a name that is told
 pub name_told : (seen f : ℕ) (ss : Slots PlainFile) (before : List HFrame) → f < length ss
     → (before ++ stamped seen (told_at f (slot ss f))) ++ stamped seen (told_names (f + 1) (drop (f + 1) ss)) ≡ before ++ stamped seen (told_names f (drop f ss))
-name_told seen f ss before l =
-    let step : told_names f (drop f ss) ≡ told_at f (slot ss f) ++ told_names (f + 1) (drop (f + 1) ss) = names_at f f ss l ∙ later f ss (told_at f (slot ss f)) in
-    append_assoc before (stamped seen (told_at f (slot ss f))) (stamped seen (told_names (f + 1) (drop (f + 1) ss)))
-    ∙ ap (λ rest. before ++ rest)
-    (sym (stamped_append seen (told_at f (slot ss f)) (told_names (f + 1) (drop (f + 1) ss)))
-    ∙ sym (ap (stamped seen) step))
+name_told seen f ss before l = grind (arith, names_at, append_assoc, stamped_append)
 
 -- all names were told
 pub names_done : (seen f : ℕ) (ss : Slots PlainFile) (before : List HFrame) → length ss ≤ f → before ++ stamped seen (told_names f (drop f ss)) ≡ before

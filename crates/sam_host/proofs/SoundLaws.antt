@@ -1,13 +1,12 @@
 -- The host stays sound, and its answers are counted.
 use Rattle.std.proofs.Common.{◌≡◌, ℕ, zero, suc, ◌+◌, ◌≤◌, List, [], ◌∷◌, length, Bool, true, false, if◌then◌else◌, cond, Option, Some, None, Ok, Err, inl, inr, refl, sym, ap, subst, arith}
-use Rattle.std.specs.Prelude.{unwrap_or, All, ◌==◌, nat_lt, nat_le, ◌||◌, ◌&&◌, not, min}
+use Rattle.std.specs.Prelude.{unwrap_or, All, ◌==◌, nat_le, ◌&&◌, min}
 use Rattle.std.proofs.lemmas.List.Elements.{All-nil, All-cons}
-use Rattle.sam_runes.specs.Texts.{Range, common_version, most_count, max_runes, all_tags, is_empty, part, searched, ends_line, as_lines, most_in_name}
+use Rattle.sam_runes.specs.Texts.{Range, common_version, all_tags, ends_line, most_in_name}
 use Rattle.sam_runes.specs.Slots.{slot}
 use Rattle.sam_runes.specs.Checks.{first_of_checks}
 use Rattle.sam_runes.proofs.CheckLaws.{none_holds}
-use Rattle.sam_text.specs.Files.{opened_file, written_file, PlainFile, PlainFiles, PlainOutcome, blank_file, file_at, put_file, typed_file, cut_file, pasted_file, printed_file, is_printed, has_room, after_print, file_after, put_outcome, HasShortName, IsFit, AreFit, AreSoundFiles, may_look}
-use Rattle.sam_text.specs.Meaning.{meaning, work_file}
+use Rattle.sam_text.specs.Files.{opened_file, written_file, PlainFile, PlainFiles, PlainOutcome, blank_file, file_at, put_file, typed_file, cut_file, pasted_file, file_after, put_outcome, HasShortName, IsFit, AreFit, AreSoundFiles}
 use Rattle.sam_text.proofs.FitLaws.{all-put, fit-put, fit-typed, fit-cut, fit-pasted, fit-print, fit-committed}
 use Rattle.sam_text.proofs.KeptLaws.{all-free, all-announce}
 use Rattle.sam_text.proofs.OutcomeLaws.{HasShortParts, line_short, named-within}
@@ -17,8 +16,8 @@ use Rattle.sam_mesg.specs.declared.tmesg.Tmesg.TheVariants.{Tversion, Tstartcmdf
 use Rattle.sam_mesg.specs.declared.hmesg.Hmesg.{Hmesg}
 use Rattle.sam_mesg.specs.declared.hmesg.HFrame.{HFrame}
 use Rattle.sam_host.specs.declared.fault.HostFault.{HostFault}
-use Rattle.sam_host.specs.declared.fault.HostFault.TheVariants.{BadVersion, CountFull}
-use Rattle.sam_host.specs.Host.{PlainHost, IsVersion, Reply, Answer, answer, answer_unless, counted, stamped, host_checks, new_file, with_files, given_slots, new_host, reply_found, searched_for, reply_to}
+use Rattle.sam_host.specs.declared.fault.HostFault.TheVariants.{BadVersion}
+use Rattle.sam_host.specs.Host.{PlainHost, IsVersion, Reply, Answer, answer, counted, stamped, host_checks, new_file, given_slots, reply_found, searched_for, reply_to}
 use Rattle.sam_host.specs.Laws.{AreNamesShort, IsSound, AreGiven, StartsSound, StaysSound, FramesFit, AnswersAreCounted, IsSilentWhereDone, FitInPlace}
 use Rattle.sam_host.proofs.EachFrame.{replies_opened}
 use Rattle.sam_host.proofs.Keeping.{IsKept, reply_keeps}
@@ -32,34 +31,12 @@ IsShort o = length (unwrap_or o blank_file).name ≤ most_in_name
 names-put : (fs : PlainFiles) (g : ℕ) (x : PlainFile) → AreNamesShort fs → length x.name ≤ most_in_name → AreNamesShort (put_file fs g x)
 names-put fs g x all short = all-put HasShortName fs g x all short
 
-names-print : (fs : PlainFiles) (s : List ℕ) → AreNamesShort fs → AreNamesShort (after_print fs s)
-names-print fs s all = go (is_printed fs s)
-  where
-    go : (b : Bool) → AreNamesShort (cond b (put_file fs 0 (printed_file (file_at fs 0) s)) fs)
-    go true = names-put fs 0 (printed_file (file_at fs 0) s) all (all 0)
-    go false = all
-
 names-outcome : (x : Option ℕ) (fs : PlainFiles) (o : PlainOutcome) → AreNamesShort fs → HasShortParts o → AreNamesShort (put_outcome x fs o)
 names-outcome None fs o all h = all
 names-outcome (Some f) fs o all h = names-put fs f (file_after (file_at fs f) o) all (named-within o.name (file_at fs f).name h.0 (all f))
 
 names_kept : IsKept AreNamesShort
-names_kept = record {
-  announced = λ fs all. all-announce HasShortName (λ x k. k) fs.slots all;
-  shown = λ fs all. names-put fs 0 (opened_file (file_at fs 0)) all (all 0);
-  selected = λ fs f p q shown within all. names-put fs f (record (file_at fs f) { dot = (p, q) }) all (all f);
-  typed = λ fs f p s place room all. names-put fs f (typed_file f (file_at fs f) p s) all (all f);
-  cut = λ fs f p q within all. names-put fs f (cut_file f (file_at fs f) p q) all (all f);
-  pasted = λ fs f p s place room all. names-put fs f (pasted_file f (file_at fs f) p s) all (all f);
-  snarfed = λ fs s all. all;
-  created = λ fs all. names-put fs (length fs.slots) new_file all (omega arith);
-  written = λ fs f all. names-put fs f (written_file (file_at fs f)) all (all f);
-  closed = λ fs f all. all-free HasShortName fs f (omega arith) all;
-  marked = λ fs f d within all. names-put fs f (record (file_at fs f) { dot = d }) all (all f);
-  sought = λ fs lit all. all;
-  printed = names-print;
-  run = λ fs line all. names-outcome (meaning fs line).file fs (meaning fs line) all (line_short (work_file fs) line);
-}
+names_kept = grind (arith, (all-announce HasShortName), names-put, (all-free HasShortName), names-outcome, line_short)
 
 reply_names : (h : PlainHost) (m : Tmesg) → first_of_checks (host_checks h m) ≡ None → AreNamesShort h.files → AreNamesShort (reply_to h m).0.files
 reply_names h m e all = reply_keeps AreNamesShort names_kept h m e (λ f is. names-put h.files f (opened_file (file_at h.files f)) all (all f)) all
@@ -108,17 +85,11 @@ unfolding replies_opened
 reply_stands h (Tversion v) e = (refl, sym (ap (λ (b : Bool). if b then h.version else common_version v) (none_holds (v == 0, BadVersion) [] e).0))
 reply_stands h Tstartcmdfile e = stands-if h (file_at h.files 0).opened _ _ (refl, refl) (refl, refl)
 reply_stands h (Ttype f p s) e = stands-if h ((f == 0) && ends_line s) _ _ (refl, refl) (refl, refl)
-reply_stands h (Tpaste f p) e =
-    stands-if h (is_empty h.files.snarf || nat_lt max_runes (length (file_at h.files f).text + length h.files.snarf)) _ _ (refl, refl) (refl, refl)
+reply_stands h (Tpaste f p) e = grind arith
 reply_stands h Tstartnewfile e = stands-if h (nat_le all_tags (length h.files.slots)) _ _ (refl, refl) (refl, refl)
-reply_stands h (Tlook f p q) e =
-    let lit = part (file_at h.files f).text p q in
-    stands-if h (may_look lit) _ _ (stands-found (with_files h (record h.files { pattern = Some lit })) f (searched (file_at h.files f).text lit q) _)
-    (refl, refl)
+reply_stands h (Tlook f p q) e = grind arith
 reply_stands h (Tsearch f p q) e = stands-found h f (searched_for h.files.pattern (file_at h.files f).text q) []
-reply_stands h (Tsend f p q) e =
-    let s = as_lines (part (file_at h.files f).text p q) in
-    stands-if h ((p == q) || not (has_room h.files s)) _ _ (refl, refl) (refl, refl)
+reply_stands h (Tsend f p q) e = grind arith
 reply_stands h _ e = (refl, refl)
 
 agreed_version : (v : ℕ) → first_of_checks {E = HostFault} ((v == 0, BadVersion) ∷ []) ≡ None → IsVersion (common_version v)
@@ -141,14 +112,7 @@ pub answer_is : (P : PlainHost → List HFrame → Type 0) (h : PlainHost) (m : 
     → (first_of_checks (host_checks h m) ≡ None → P (counted (reply_to h m).0) (stamped ((reply_to h m).0.taken + 1) (reply_to h m).1))
     → IfAnswer P (answer h m)
 unfolding answer
-answer_is P h m silent reply = go (h.taken == most_count) h.is_done (first_of_checks (host_checks h m)) refl
-  where
-    go : (full finished : Bool) (o : Option HostFault) → first_of_checks (host_checks h m) ≡ o
-        → IfAnswer P (cond full (Err CountFull) (cond finished (Ok (counted h, [])) (answer_unless o (reply_to h m))))
-    go true finished o e = tt
-    go false true o e = silent
-    go false false None e = reply e
-    go false false (Some why) e = tt
+answer_is P h m silent reply = grind arith
 
 pub of_answer : (P : PlainHost → List HFrame → Type 0) (h g : PlainHost) (m : Tmesg) (frames : List HFrame) → answer h m ≡ Ok (g, frames) → IfAnswer P (answer h m) → P g frames
 of_answer P h g m frames e holds = subst (IfAnswer P) e holds
@@ -187,13 +151,7 @@ answers_are_counted h g m frames e =
 
 pub is_silent_where_done : IsSilentWhereDone
 unfolding answer
-is_silent_where_done h m done less = go (h.taken == most_count) h.is_done less done
-  where
-    go : (full finished : Bool) → full ≡ false → finished ≡ true
-        → cond full (Err CountFull) (cond finished (Ok (counted h, [])) (answer_unless (first_of_checks (host_checks h m)) (reply_to h m))) ≡ Ok (counted h, [])
-    go true finished l d = absurd (cc)
-    go false false l d = absurd (cc)
-    go false true l d = refl
+is_silent_where_done h m done less = grind arith
 
 start-names : (given : List (List ℕ × List ℕ)) → AreGiven given → (f : ℕ) → IsShort (slot (given_slots given) f)
 start-names [] h f = omega arith
@@ -206,12 +164,4 @@ start-fits (x ∷ xs) h zero = (omega arith, omega arith, h.1)
 start-fits (x ∷ xs) h (suc f) = start-fits xs h.2 f
 
 pub starts_sound : StartsSound
-starts_sound given h = record { names = names; files = fits; version = inl refl }
-  where
-    names : AreNamesShort (new_host given).files
-    names zero = omega arith
-    names (suc f) = start-names given h f
-
-    fits : AreFit (new_host given).files
-    fits zero = (omega arith, omega arith, omega arith)
-    fits (suc f) = start-fits given h f
+starts_sound given h = grind (arith, start-names, start-fits)

@@ -19,12 +19,15 @@ set_both xs i j k a b next after lt =
 -- a frame whose length bytes were left free
 pub framed : (old now new body : List ℕ) (kind n : ℕ) → now ≡ old ++ kind ∷ 0 ∷ 0 ∷ body → n ≡ length old
     → new ≡ take (n + 1) now ++ to_be_bytes w16 (length now - (n + 3)) ++ drop (n + 3) now → new ≡ old ++ frame kind body
-framed old now new body kind n is at e =
-    let three : now ≡ (old ++ kind ∷ 0 ∷ 0 ∷ []) ++ body = is ∙ sym (append_assoc old (kind ∷ 0 ∷ 0 ∷ []) body) in
-    let one : now ≡ (old ++ kind ∷ []) ++ 0 ∷ 0 ∷ body = is ∙ sym (append_assoc old (kind ∷ []) (0 ∷ 0 ∷ body)) in
-    let front : take (n + 1) now ≡ old ++ kind ∷ [] = ap (take (n + 1)) one ∙ take_at (old ++ kind ∷ []) (0 ∷ 0 ∷ body) (n + 1) (omega (arith, length-append old (kind ∷ []))) in
-    let behind : drop (n + 3) now ≡ body = ap (drop (n + 3)) three ∙ drop_at (old ++ kind ∷ 0 ∷ 0 ∷ []) body (n + 3) (omega (arith, length-append old (kind ∷ 0 ∷ 0 ∷ []))) in
-    let len : length now - (n + 3) ≡ length body = omega (arith, ap length is, length-append old (kind ∷ 0 ∷ 0 ∷ body)) in
-    e ∙ ap (λ p. p ++ to_be_bytes w16 (length now - (n + 3)) ++ drop (n + 3) now) front ∙ ap (λ m. (old ++ kind ∷ []) ++ to_be_bytes w16 m ++ drop (n + 3) now) len
-    ∙ ap (λ r. (old ++ kind ∷ []) ++ to_be_bytes w16 (length body) ++ r) behind
-    ∙ append_assoc (old ++ kind ∷ []) (to_be_bytes w16 (length body)) body ∙ append_assoc old (kind ∷ []) (to_be_bytes w16 (length body) ++ body)
+framed old now new body kind n is at e = grind (
+  arith,
+  (append_assoc old (kind ∷ 0 ∷ 0 ∷ []) body),
+  (append_assoc old (kind ∷ []) (0 ∷ 0 ∷ body)),
+  (take_at (old ++ kind ∷ []) (0 ∷ 0 ∷ body) (n + 1)),
+  (length-append old (kind ∷ [])),
+  (drop_at (old ++ kind ∷ 0 ∷ 0 ∷ []) body (n + 3)),
+  (length-append old (kind ∷ 0 ∷ 0 ∷ [])),
+  (length-append old (kind ∷ 0 ∷ 0 ∷ body)),
+  (append_assoc (old ++ kind ∷ []) (to_be_bytes w16 (length body)) body),
+  (append_assoc old (kind ∷ []) (to_be_bytes w16 (length body) ++ body)),
+)

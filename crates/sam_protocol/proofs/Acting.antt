@@ -1,29 +1,28 @@
 -- An event that nothing stands against keeps both sides in order.
-use Rattle.std.proofs.Common.{◌≡◌, ◌≢◌, ℕ, ◌+◌, ◌-◌, ◌<◌, ◌≤◌, min, Bool, true, false, not, ◌&&◌, ◌==◌, if◌then◌else◌, nat_lt, List, [], ◌∷◌, ◌++◌, length, Option, Some, None, ◌⊎◌, inl, inr, refl, sym, ap, ◌∙◌, subst, true≢false, eqb-true, eq-eqb, append_assoc, arith}
-use Rattle.std.proofs.lemmas.Bool.{ltb-false, and_parts, not-true, not-false, or_parts}
+use Rattle.std.proofs.Common.{◌≡◌, ◌≢◌, ℕ, ◌+◌, ◌-◌, ◌<◌, ◌≤◌, Bool, true, false, not, ◌&&◌, ◌==◌, if◌then◌else◌, nat_lt, List, [], ◌∷◌, ◌++◌, length, Option, None, ◌⊎◌, inl, inr, refl, sym, ap, ◌∙◌, subst, true≢false, eqb-true, eq-eqb, append_assoc, arith}
+use Rattle.std.proofs.lemmas.Bool.{ltb-false, not-false, or_parts}
 use Rattle.std.proofs.lemmas.Bool.Decides.{eqb_tells}
-use Rattle.sam_runes.specs.Texts.{max_runes, is_empty, most_in_message}
+use Rattle.sam_runes.specs.Texts.{max_runes, is_empty}
 use Rattle.sam_runes.proofs.EditLaws.{del-nothing}
 use Rattle.sam_runes.proofs.Choices.{if-same}
-use Rattle.sam_rasp.specs.Rasp.{PartialText, del_cells, hole_within}
+use Rattle.sam_rasp.specs.Rasp.{PartialText, del_cells}
 use Rattle.sam_mesg.specs.declared.tmesg.Tmesg.{Tmesg}
-use Rattle.sam_mesg.specs.declared.tmesg.Tmesg.TheVariants.{Tversion, Tstartcmdfile, Tcheck, Trequest, Torigin, Tstartfile, Tworkfile, Ttype, Tcut, Tpaste, Tsnarf, Tstartnewfile, Twrite, Tclose, Tlook, Tsearch, Tsend, Tdclick, Tstartsnarf, Tsetsnarf, Tack, Texit}
+use Rattle.sam_mesg.specs.declared.tmesg.Tmesg.TheVariants.{Tversion, Trequest, Torigin, Ttype, Tcut, Tpaste, Tsnarf, Tdclick, Tack}
 use Rattle.sam_mesg.specs.declared.hmesg.Hmesg.{Hmesg}
 use Rattle.sam_host.specs.Host.{PlainHost}
 use Rattle.sam_term.specs.declared.lock.Lock.TheVariants.{CommandLock, NoLock}
 use Rattle.sam_term.specs.Events.{is_command_line}
-use Rattle.sam_term.specs.Term.{PlainTerminal, Made, window_at, put_window, set_dot_of, is_open, is_any_locked, has_empty_dot, cut_rasp, composed, all_composed, flushed, sends, sends_if, unchanged, request_for, view_end, requested, cuts_dot, types, event_outcome, made_by_type, made_by_cut, made_by_paste, made_by_snarf, made_by_view}
+use Rattle.sam_term.specs.Term.{PlainTerminal, Made, window_at, put_window, set_dot_of, is_open, is_any_locked, has_empty_dot, cut_rasp, composed, all_composed, flushed, sends, unchanged, requested, cuts_dot, types, event_outcome, made_by_type, made_by_cut, made_by_paste, made_by_snarf, made_by_view}
 use Rattle.sam_term.specs.declared.records.Window.{Window}
-use Rattle.sam_term.specs.declared.records.Unsent.{Unsent}
 use Rattle.sam_term.specs.declared.event.UserEvent.{UserEvent}
-use Rattle.sam_term.specs.declared.event.UserEvent.TheVariants.{Typed, Select, Cut, Paste, Snarf, Look, Search, Send, Dclick, Scroll, View, Open, Close, Write, Work, OpenCmd, New, Exit, Check, GetSnarf, SetSnarf, Version, Flush}
+use Rattle.sam_term.specs.declared.event.UserEvent.TheVariants.{Typed, Select, Cut, Paste, Snarf, Dclick, Scroll, View, Open, Version, Flush}
 use Rattle.sam_protocol.specs.Lens as lenses
 use Rattle.sam_protocol.specs.Lens.{Lens, lens, OpenAt, Anything}
 use Rattle.sam_protocol.proofs.Lenses.{IsFree, IsOpen, exited_of, command_of}
 use Rattle.sam_protocol.proofs.Changes.{type_change, change_by, cut_out, Within, IsAllowed, CanCompose}
 use Rattle.sam_protocol.specs.View.{view}
-use Rattle.sam_protocol.specs.Order.{AreTidy, IsTidyWindow, IsHeldBack, views, InOrder}
-use Rattle.sam_protocol.proofs.Folds.{requests, acknowledges, kept_views}
+use Rattle.sam_protocol.specs.Order.{AreTidy, IsTidyWindow, views, InOrder}
+use Rattle.sam_protocol.proofs.Folds.{requests, acknowledges}
 use Rattle.sam_protocol.proofs.Views.{view-composed, view-kept, unsent-composed, unsent-flushed, tidy-composed, tidy-window}
 use Rattle.sam_protocol.proofs.Dots.{length-del_cells}
 use Rattle.sam_protocol.proofs.Passing.{Passed, free_at, open_free, opened_at, known_at_view, all_free}
@@ -52,21 +51,7 @@ sent_request h t up down f p n o is_open here =
 -- the request rule, whatever locks are held
 pub requested_goes : (h : PlainHost) (t : PlainTerminal) (up : List Tmesg) (down : List Hmesg) (f : ℕ) → InOrder h t up down → Goes h up down (requested t f)
 unfolding requested
-requested_goes h t up down f o = go (is_open t f && not t.has_exited && not (window_at t f).awaits) refl
-  where
-    hole : Option (ℕ × ℕ)
-    hole = hole_within (window_at t f).rasp (window_at t f).view_start (view_end (window_at t f))
-
-    asks : (x : Option (ℕ × ℕ)) → IsOpen (view f t) → t.has_exited ≡ false → Goes h up down (sends_if (request_for f x) t)
-    asks None i e = nothing_goes h t up down o
-    asks (Some x) i e = sent_request h t up down f x.0 (min (x.1 - x.0) most_in_message) o i e
-
-    go : (b : Bool) → (is_open t f && not t.has_exited && not (window_at t f).awaits) ≡ b → Goes h up down (sends_if (if b then request_for f hole else None) t)
-    go false e = nothing_goes h t up down o
-    go true e =
-        let x = and_parts (is_open t f && not t.has_exited) (not (window_at t f).awaits) e in
-        let y = and_parts (is_open t f) (not t.has_exited) x.0 in
-        asks hole (opened_at t f y.0) (not-true t.has_exited y.1)
+requested_goes h t up down f o = grind (arith, (nothing_goes h t up down o), (sent_request h t up down f))
 
 pub acknowledged_goes : (h : PlainHost) (t : PlainTerminal) (up : List Tmesg) (down : List Hmesg) → InOrder h t up down → Goes h up down (sends t unchanged (Tack ∷ []))
 acknowledged_goes h t up down o =
@@ -245,37 +230,14 @@ cut_goes h t up down f o pass = go (has_empty_dot t f)
 
 snarf_goes : (h : PlainHost) (t : PlainTerminal) (up : List Tmesg) (down : List Hmesg) (f : ℕ) → InOrder h t up down → Passed t (Snarf f) → Goes h up down (event_outcome t (Snarf f))
 unfolding made_by_snarf
-snarf_goes h t up down f o pass = go (has_empty_dot t f)
-  where
-    p : ℕ
-    p = (window_at t f).dot.0
-
-    q : ℕ
-    q = (window_at t f).dot.1
-
-    go : (b : Bool) → Goes h up down (if b then (t, []) else sends t unchanged (Tsnarf f p q ∷ []))
-    go true = nothing_goes h t up down o
-    go false =
-        sends_goes h t up down (Tsnarf f p q) o refl
-        (record { here = pass.here; free = pass.free; allowed = tt; can = dot_open t f o.tidy pass.free pass.opened pass.unlocked })
+snarf_goes h t up down f o pass = grind (arith, (nothing_goes h t up down o), (sends_goes h t up down))
 
 -- ## Windows that are shown otherwise
 
 -- a window of an open file, with its partial text and locks, and another dot or view
 shown_goes : (h : PlainHost) (t : PlainTerminal) (up : List Tmesg) (down : List Hmesg) (f : ℕ) (w : Window) → InOrder h t up down → IsOpen (view f t) → w.rasp ≡ (window_at t f).rasp
     → w.locks ≡ (window_at t f).locks → IsTidyWindow w → InOrder h (put_window t f w) up down
-shown_goes h t up down f w o i r k tidy = record {
-  kept = kept_views h (views t) (views (put_window t f w)) _ down o.kept same;
-  tidy = tidy-window t f w o.tidy tidy;
-  unsent = held t.unsent o.unsent;
-}
-  where
-    same : (g : ℕ) → view g t ≡ view g (put_window t f w)
-    same g = sym (view-kept t f w i r k g)
-
-    held : (u : Option Unsent) → IsHeldBack (views t) u → IsHeldBack (views (put_window t f w)) u
-    held None x = x
-    held (Some u) x = (x.0, subst (OpenAt Anything) (same u.file) x.1)
+shown_goes h t up down f w o i r k tidy = grind (arith, tidy-window, view-kept)
 
 -- ## Every event
 
@@ -284,6 +246,7 @@ sent : {e : UserEvent} (h : PlainHost) (t : PlainTerminal) (up : List Tmesg) (do
     → CanCompose m (views t) → Goes h up down (sends t unchanged (m ∷ []))
 sent h t up down m o p plain allowed can = sends_goes h t up down m o plain (record { here = p.here; free = p.free; allowed = allowed; can = can })
 
+-- an event that only sends its message needs no row
 pub event_goes : (h : PlainHost) (t : PlainTerminal) (up : List Tmesg) (down : List Hmesg) (e : UserEvent) → InOrder h t up down → Passed t e → Goes h up down (event_outcome t e)
 unfolding made_by_view
 event_goes h t up down (Typed f s) o p = type_goes h t up down f s o p
@@ -295,15 +258,6 @@ event_goes h t up down (Select f a b) o p =
 event_goes h t up down (Cut f) o p = cut_goes h t up down f o p
 event_goes h t up down (Paste f) o p = paste_goes h t up down f o p
 event_goes h t up down (Snarf f) o p = snarf_goes h t up down f o p
-event_goes h t up down (Look f) o p =
-    let d = (window_at t f).dot in
-    sent h t up down (Tlook f d.0 d.1) o p refl (free_at t f p.free p.unlocked) (dot_open t f o.tidy p.free p.opened p.unlocked)
-event_goes h t up down (Search f) o p =
-    let d = (window_at t f).dot in
-    sent h t up down (Tsearch f d.0 d.1) o p refl (free_at t f p.free p.unlocked) (dot_open t f o.tidy p.free p.opened p.unlocked)
-event_goes h t up down (Send f) o p =
-    let d = (window_at t f).dot in
-    sent h t up down (Tsend f d.0 d.1) o p refl (all_free t p.free p.all_unlocked) (dot_open t f o.tidy p.free p.opened p.unlocked)
 event_goes h t up down (Dclick f a) o p =
     let within : Within a a (window_at t f).rasp = (omega arith, ltb-false (length (window_at t f).rasp) a p.place) in
     sent h t up down (Tdclick f a) o p refl (free_at t f p.free p.unlocked) (open_free (Within a a) t f p.free p.opened p.unlocked within)
@@ -314,23 +268,10 @@ event_goes h t up down (View f a n) o p =
     let w : Window = record (window_at t f) { view_start = a; view_length = n } in
     requested_goes h (put_window t f w) up down f
     (shown_goes h t up down f w o (opened_at t f (not-false (is_open t f) p.opened)) refl refl ((o.tidy f).0, (o.tidy f).1, ltb-false (length (window_at t f).rasp) a p.place))
-event_goes h t up down (Open f) o p = sent h t up down (Tstartfile f) o p refl (all_free t p.free p.all_unlocked) (known_at_view t f p.known, p.other)
-event_goes h t up down (Close f) o p =
-    sent h t up down (Tclose f) o p refl (all_free t p.free p.all_unlocked) (open_free Anything t f p.free p.opened p.unlocked tt, p.other)
-event_goes h t up down (Write f) o p =
-    sent h t up down (Twrite f) o p refl (free_at t f p.free p.unlocked) (open_free Anything t f p.free p.opened p.unlocked tt, p.other)
-event_goes h t up down (Work f) o p =
-    let d = (window_at t f).dot in
-    sent h t up down (Tworkfile f d.0 d.1) o p refl tt (dot_open t f o.tidy p.free p.opened p.unlocked, p.other)
-event_goes h t up down OpenCmd o p = sent h t up down Tstartcmdfile o p refl (all_free t p.free p.all_unlocked) tt
-event_goes h t up down New o p = sent h t up down Tstartnewfile o p refl (all_free t p.free p.all_unlocked) tt
-event_goes h t up down Exit o p = sent h t up down Texit o p refl (all_free t p.free p.all_unlocked) tt
-event_goes h t up down (Check f) o p = sent h t up down (Tcheck f) o p refl tt (open_free Anything t f p.free p.opened p.unlocked tt)
-event_goes h t up down GetSnarf o p = sent h t up down Tstartsnarf o p refl tt tt
-event_goes h t up down (SetSnarf s) o p = sent h t up down (Tsetsnarf s) o p refl tt tt
 event_goes h t up down (Version v) o p = sent h t up down (Tversion v) o p refl (all_free t p.free p.all_unlocked) (positive (eqb_tells v 0))
   where
     positive : (((v == 0) ≡ true) × (v ≡ 0)) ⊎ (((v == 0) ≡ false) × (v ≢ 0)) → 0 < v
     positive (inl x) = absurd (true≢false (sym x.0 ∙ p.version))
     positive (inr x) = omega (arith, x.1)
 event_goes h t up down Flush o p = flushed_goes h t up down o
+event_goes h t up down _ o p = search (sent, free_at, all_free, open_free Anything, dot_open, known_at_view)

@@ -1,21 +1,17 @@
 -- How the invariant at one file is carried on.
 use Rattle.std.proofs.Common.{◌≡◌, ℕ, ◌+◌, ◌≤◌, min, Bool, true, false, ◌||◌, List, [], ◌∷◌, ◌++◌, length, take, drop, Option, Some, None, ◌⊎◌, inl, inr, refl, sym, ap, ◌∙◌, subst, true≢false, arith, append-nil, length-take, length-drop, nat_le, if◌then◌else◌, le-leb}
 use Rattle.std.proofs.lemmas.List.{drop_min, take_min}
-use Rattle.std.proofs.lemmas.Bool.{or_right, or_left, or_cases, or_parts}
+use Rattle.std.proofs.lemmas.Bool.{or_left, or_cases, or_parts}
 use Rattle.sam_runes.specs.Texts.{most_in_message}
 use Rattle.sam_rasp.specs.Rasp.{load_cells, Agrees}
 use Rattle.sam_rasp.proofs.RaspLaws.{length_agrees, agrees_loaded}
-use Rattle.sam_protocol.specs.Lens.{Slot, Unknown, Known, Open, Lens, lens, Action, Free_file, move, run, and_then, is_freeing, frees, IsGuarded, is_close, closes, HFile, Absent, Hidden, Named, Opened, Gone, Fits_slot, IsSettled, Settles}
+use Rattle.sam_protocol.specs.Lens.{Slot, Unknown, Known, Open, Lens, lens, Action, Free_file, move, run, and_then, frees, IsGuarded, closes, HFile, Absent, Hidden, Named, Opened, Gone, Fits_slot, IsSettled, Settles}
 use Rattle.sam_protocol.proofs.Lenses.{IsFree, IsOpen, IsAlike, locked_more, exited_of, exits, AreSkips, CanRequest, request_actions}
-use Rattle.sam_protocol.proofs.Runs.{run-append_some, stepped, still, runs_more, exited_after}
+use Rattle.sam_protocol.proofs.Runs.{run-append_some, still, runs_more, exited_after}
 
 frees-append : (s u : List Action) → frees s ≡ true → frees (s ++ u) ≡ true
 frees-append [] u e = absurd (true≢false (sym e))
-frees-append (a ∷ s) u e = go (is_freeing a) (frees s) (frees (s ++ u)) (frees-append s u) e
-  where
-    go : (p q r : Bool) → (q ≡ true → r ≡ true) → (p || q) ≡ true → (p || r) ≡ true
-    go true q r h e = refl
-    go false q r h e = h e
+frees-append (a ∷ s) u e = grind (arith, (frees-append s u))
 
 pub guarded-append : (s u : List Action) → IsGuarded s → IsGuarded u → IsGuarded (s ++ u)
 guarded-append [] u g h = h
@@ -23,11 +19,7 @@ guarded-append (a ∷ s) u g h = (λ c. frees-append s u (g.0 c), guarded-append
 
 pub closes-append : (s u : List Action) → closes (s ++ u) ≡ true → (closes s ≡ true) ⊎ (closes u ≡ true)
 closes-append [] u e = inr e
-closes-append (a ∷ s) u e = go (is_close a) (closes s) (closes (s ++ u)) (closes-append s u) e
-  where
-    go : (p q r : Bool) → (r ≡ true → (q ≡ true) ⊎ (closes u ≡ true)) → (p || r) ≡ true → ((p || q) ≡ true) ⊎ (closes u ≡ true)
-    go true q r h e = inl refl
-    go false q r h e = h e
+closes-append (a ∷ s) u e = grind (arith, (closes-append s u))
 
 -- a frame is taken
 pub record IsTaken (a : Action) (rest : List Action) (v : Lens) (done : Bool) (version : ℕ) (file : HFile) : Type 0 where
@@ -36,48 +28,23 @@ pub record IsTaken (a : Action) (rest : List Action) (v : Lens) (done : Bool) (v
   pub kept : Settles rest mid done version file
 
 pub kept_take : (a : Action) (s : List Action) (v : Lens) (d : Bool) (n : ℕ) (file : HFile) → Settles (a ∷ s) v d n file → IsTaken a s v d n file
-kept_take a s v d n file k =
-    let t = stepped a s v k.final k.runs in
-    record {
-      mid = t.mid;
-      moves = t.moves;
-      kept = record { final = k.final; runs = t.on; settled = k.settled; guarded = k.guarded.1; closed = λ e. k.closed (or_right _ _ e) };
-    }
+kept_take a s v d n file k = grind arith
 
 -- frames are answered from the settled state
 pub kept_append : (s u : List Action) (v : Lens) (d d2 : Bool) (n n2 : ℕ) (file file2 : HFile) → Settles s v d n file → ((w : Lens) → IsSettled w d n file → Settles u w d2 n2 file2)
     → (file ≡ Gone → file2 ≡ Gone) → Settles (s ++ u) v d2 n2 file2
-kept_append s u v d d2 n n2 file file2 k on gone =
-    let next = on k.final k.settled in
-    record {
-      final = next.final;
-      runs = run-append_some s u v k.final k.runs ∙ next.runs;
-      settled = next.settled;
-      guarded = guarded-append s u k.guarded next.guarded;
-      closed = λ e. either (closes-append s u e) (λ p. gone (k.closed p)) next.closed;
-    }
-  where
-    either : (closes s ≡ true) ⊎ (closes u ≡ true) → (closes s ≡ true → file2 ≡ Gone) → (closes u ≡ true → file2 ≡ Gone) → file2 ≡ Gone
-    either (inl p) f g = f p
-    either (inr p) f g = g p
+kept_append s u v d d2 n n2 file file2 k on gone = grind (arith, run-append_some, guarded-append, closes-append)
 
 -- the user acts on a free file: what is under way doesn't notice
 pub kept_act : (s u : List Action) (v x : Lens) (d d2 : Bool) (n n2 : ℕ) (file file2 : HFile) → Settles s v d n file → IsFree v → IsAlike v x → (IsSettled v d n file → Settles u x d2 n2 file2)
     → (file ≡ Gone → file2 ≡ Gone) → Settles (s ++ u) x d2 n2 file2
-kept_act s u v x d d2 n n2 file file2 k free alike on gone =
-    let h = still s v k.final x free k.guarded alike k.runs in
-    let next = on (subst (λ (w : Lens). IsSettled w d n file) h.0 k.settled) in
-    record {
-      final = next.final;
-      runs = run-append_some s u x x h.1 ∙ next.runs;
-      settled = next.settled;
-      guarded = guarded-append s u k.guarded next.guarded;
-      closed = λ e. either (closes-append s u e) (λ p. gone (k.closed p)) next.closed;
-    }
-  where
-    either : (closes s ≡ true) ⊎ (closes u ≡ true) → (closes s ≡ true → file2 ≡ Gone) → (closes u ≡ true → file2 ≡ Gone) → file2 ≡ Gone
-    either (inl p) f g = f p
-    either (inr p) f g = g p
+kept_act s u v x d d2 n n2 file file2 k free alike on gone = grind (
+  arith,
+  (still s v k.final x free k.guarded alike k.runs),
+  (run-append_some s u x x),
+  (guarded-append s u k.guarded),
+  (closes-append s u),
+)
 
 -- a lens is alike to itself
 pub alike_same : (v : Lens) → IsAlike v v
@@ -201,7 +168,4 @@ kept_request s v d n file p m k o e = go (runs_more s v k.final o k.runs)
 -- frames of other files change nothing
 pub kept_skips : (u : List Action) (w : Lens) (d : Bool) (n : ℕ) (file : HFile) → AreSkips u → IsSettled w d n file → Settles u w d n file
 kept_skips [] w d n file a x = record { final = w; runs = refl; settled = x; guarded = tt; closed = λ c. absurd (true≢false (sym c)) }
-kept_skips (a ∷ u) w d n file q x =
-    let k = kept_skips u w d n file q.1 x in
-    subst (λ (b : Action). Settles (b ∷ u) w d n file) (sym q.0)
-    (record { final = k.final; runs = k.runs; settled = k.settled; guarded = (λ c. absurd (true≢false (sym c)), k.guarded); closed = k.closed })
+kept_skips (a ∷ u) w d n file q x = grind (arith, (kept_skips u w d n file q.1 x))

@@ -1,7 +1,6 @@
 -- The answer to Tversion: from settled to settled.
-use Rattle.std.proofs.Common.{◌≡◌, ℕ, zero, suc, ◌+◌, ◌<◌, min, Bool, true, false, not, ◌==◌, if◌then◌else◌, List, [], ◌∷◌, ◌++◌, length, drop, Option, Some, None, ◌⊎◌, inl, inr, refl, sym, ap, ◌∙◌, subst, true≢false, arith, eqb-true, eq-eqb, nat_lt}
+use Rattle.std.proofs.Common.{◌≡◌, ℕ, zero, suc, ◌+◌, ◌<◌, Bool, true, false, not, ◌==◌, if◌then◌else◌, List, [], ◌∷◌, ◌++◌, length, drop, Option, Some, None, refl, sym, ap, ◌∙◌, subst, arith, eq-eqb, nat_lt}
 use Rattle.std.specs.Prelude.{option_map, unwrap_or}
-use Rattle.std.proofs.lemmas.Bool.{cases_Bool}
 use Rattle.sam_runes.specs.Texts.{common_version}
 use Rattle.sam_runes.specs.Slots.{Slots, slot}
 use Rattle.sam_runes.proofs.SlotLaws.{slot-map, length-map_slots}
@@ -11,7 +10,7 @@ use Rattle.sam_mesg.specs.declared.hmesg.Hmesg.{Hmesg}
 use Rattle.sam_mesg.specs.declared.hmesg.Hmesg.TheVariants.{Hversion, Hnewname, Hmovname, Hack, Hunlock}
 use Rattle.sam_host.specs.declared.fault.HostFault.TheVariants.{BadVersion}
 use Rattle.sam_host.specs.Host.{PlainHost, when, told_names, reply_version}
-use Rattle.sam_protocol.specs.Lens.{Slot, Unknown, Known, Open, lens, Action, Skip, Needs_known, Join, Change, Free_command, HFile, Absent, Hidden, Named, Opened, Gone, IsOpened, IsCommandFile, Fits_slot, Settles}
+use Rattle.sam_protocol.specs.Lens.{Slot, lens, Action, Skip, Needs_known, Join, Change, Free_command, HFile, Absent, Hidden, Named, Opened, Gone, IsOpened, IsCommandFile, Fits_slot, Settles}
 use Rattle.sam_protocol.proofs.Lenses.{AreSkips}
 use Rattle.sam_protocol.specs.Frames.{at_file, only}
 use Rattle.sam_protocol.specs.View.{file_of, file_of_slot, file_in}
@@ -37,37 +36,26 @@ one_skips g k x true e = (ap (λ (b : Bool). only b Join) e, (ap (λ (b : Bool).
 one_skips g k x false e = tt
 
 not_same : (g k : ℕ) → (g ≡ k → ⊥) → (g == k) ≡ false
-not_same g k h = go (cases_Bool (g == k))
-  where
-    go : ((g == k) ≡ true) ⊎ ((g == k) ≡ false) → (g == k) ≡ false
-    go (inl e) = absurd (h (eqb-true g k e))
-    go (inr e) = e
+not_same g k h = grind arith
 
 -- of a tag before the first nothing is told
 names_skip : (g k : ℕ) (ss : Slots PlainFile) → g < k → AreSkips (at_file g (told_names k ss))
 unfolding told_names names_of
 names_skip g k [] l = tt
 names_skip g k (None ∷ ss) l = names_skip g (1 + k) ss (omega (arith, l))
-names_skip g k (Some x ∷ ss) l =
-    let differs : g ≡ k → ⊥ = λ e. omega (arith, l, e) in
-    subst AreSkips (sym (at_file-append g (when (not x.announced) (names_of k x)) (told_names (1 + k) ss)))
-    (skips-append _ _ (one_skips g k x (not x.announced) (not_same g k differs)) (names_skip g (1 + k) ss (omega (arith, l))))
+names_skip g k (Some x ∷ ss) l = grind (
+  arith,
+  (at_file-append g (when (not x.announced) (names_of k x)) (told_names (1 + k) ss)),
+  skips-append,
+  (one_skips g k x (not x.announced)),
+  (names_skip g (1 + k) ss),
+)
 
 -- a file that was not announced is now
 one_moves : (d : Bool) (n g k : ℕ) (x : PlainFile) (s : Slot) → (g == k) ≡ true → OpenAnnounced x → Fits_slot s (file_of x)
     → Moves (at_file g (when (not x.announced) (names_of k x))) d n s (file_of (announced_file x))
 unfolding when names_of
-one_moves d n g k x s e a y = go x.opened x.announced a s y
-  where
-    go : (o w : Bool) → (o ≡ true → w ≡ true) → (s : Slot) → Fits_slot s (if o then Opened x.text else if w then Named x.text else Hidden x.text)
-        → Moves (at_file g (when (not w) (names_of k x))) d n s (if o then Opened x.text else Named x.text)
-    go true true a s y = stays_put [] d n s (Opened x.text) tt y
-    go true false a s y = absurd (true≢false (sym (a refl)))
-    go false true a s y = stays_put [] d n s (Named x.text) tt y
-    go false false a Unknown y =
-        subst (λ (b : Bool). Moves (only b Join ∷ only b Needs_known ∷ []) d n Unknown (Named x.text)) (sym e) (record { slot = Known; runs = refl; fits = tt; no_close = refl })
-    go false false a Known y = absurd y
-    go false false a (Open r m) y = absurd y
+one_moves d n g k x s e a y = grind arith
 
 announced_slot : (given : Bool) (s : Option PlainFile) → HFile
 announced_slot given s = file_of_slot given (option_map announced_file s)
@@ -94,18 +82,16 @@ names_move d n k (suc i) g (Some x ∷ ss) given s e a y =
     (λ s2 z. names_move d n (1 + k) i g ss given s2 (omega (arith, e)) (λ j. a (suc j)) z))
 
 version_kept : (u : List Action) (d : Bool) (n v : ℕ) (s : Slot) (file : HFile) → Moves u d v s file → Settles (Change v ∷ (u ++ Skip ∷ Free_command ∷ [])) (lens true d n s) d v file
-version_kept u d n v s file m = kept_by (Change v ∷ (u ++ Skip ∷ Free_command ∷ [])) (lens true d n s) (lens false d v m.slot) d v file
-    (run-append_some u (Skip ∷ Free_command ∷ []) (lens true d v s) (lens true d v m.slot) m.runs)
-    (refl, refl, refl, m.fits)
-    (guarded_before (Change v ∷ u) (Skip ∷ Free_command ∷ []) refl (guarded_by (Skip ∷ Free_command ∷ []) refl))
-    (no_close_behind u (Skip ∷ Free_command ∷ []) m.no_close refl)
+version_kept u d n v s file m = grind (
+  arith,
+  (kept_by (Change v ∷ (u ++ Skip ∷ Free_command ∷ [])) (lens true d n s) (lens false d v m.slot) d v file
+      (run-append_some u (Skip ∷ Free_command ∷ []) (lens true d v s) (lens true d v m.slot) m.runs) (refl, refl, refl, m.fits)
+      (guarded_before (Change v ∷ u) (Skip ∷ Free_command ∷ []) refl (guarded_by (Skip ∷ Free_command ∷ []) refl))
+      (no_close_behind u (Skip ∷ Free_command ∷ []) m.no_close refl)),
+)
 
 version_action : (v : ℕ) → 0 < v → (if common_version v == 0 then Skip else Change (common_version (common_version v))) ≡ Change (common_version v)
-version_action v l = go (min v 2 == 0) refl
-  where
-    go : (b : Bool) → (min v 2 == 0) ≡ b → (if min v 2 == 0 then Skip else Change (min (min v 2) 2)) ≡ Change (min v 2)
-    go true e = let z : min v 2 ≡ 0 = eqb-true _ _ e in absurd (omega (arith, z, l))
-    go false e = let q : min (min v 2) 2 ≡ min v 2 = omega arith in ap (λ (b : Bool). if b then Skip else Change (min (min v 2) 2)) e ∙ ap Change q
+version_action v l = grind arith
 
 pub sync_version : (h : PlainHost) → Ready h → (v : ℕ) → Accepted h (Tversion v) → Synced h (Tversion v)
 unfolding reply_version announced_slot

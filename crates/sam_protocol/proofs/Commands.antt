@@ -1,30 +1,30 @@
 -- The messages that take the command lock: from settled to settled.
-use Rattle.std.proofs.Common.{◌≡◌, ℕ, ◌+◌, ◌<◌, ◌≤◌, Bool, true, false, not, ◌||◌, ◌&&◌, ◌==◌, if◌then◌else◌, List, [], ◌∷◌, ◌++◌, length, map, Option, Some, None, is_some, ◌⊎◌, inl, inr, refl, sym, ap, ◌∙◌, subst, true≢false, arith, append-nil, eqb-true, eq-eqb, nat_le, leb-true}
+use Rattle.std.proofs.lemmas.Grind.{common_steps}
+use Rattle.std.proofs.Common.{◌≡◌, ℕ, ◌+◌, ◌<◌, ◌≤◌, Bool, true, false, not, ◌||◌, ◌&&◌, ◌==◌, if◌then◌else◌, List, [], ◌∷◌, ◌++◌, length, map, Option, Some, None, is_some, ◌⊎◌, inl, inr, refl, sym, ap, ◌∙◌, subst, true≢false, arith, append-nil, eqb-true, nat_le, leb-true, rules}
 use Rattle.std.proofs.lemmas.List.{take_all, drop_all}
 use Rattle.std.proofs.lemmas.Bool.{cases_Bool}
 use Rattle.sam_runes.specs.Texts.{ins, is_empty, max_runes, all_tags}
-use Rattle.sam_runes.specs.Slots.{slot, free_slot}
+use Rattle.sam_runes.specs.Slots.{slot}
 use Rattle.sam_runes.proofs.EditLaws.{length-ins}
 use Rattle.sam_runes.specs.Checks.{first_of_checks}
-use Rattle.sam_text.specs.Files.{PlainFile, PlainFiles, file_at, has_file, put_file, has_room, is_printed, after_print, printed_file, new_file, command_name, work_without}
+use Rattle.sam_text.specs.Files.{PlainFile, PlainFiles, file_at, has_file, put_file, has_room, is_printed, after_print, printed_file, new_file, command_name}
 use Rattle.sam_mesg.specs.declared.tmesg.Tmesg.{Tmesg}
 use Rattle.sam_mesg.specs.declared.tmesg.Tmesg.TheVariants.{Tstartcmdfile, Tstartfile, Tstartnewfile, Tclose, Texit}
 use Rattle.sam_mesg.specs.declared.hmesg.Hmesg.{Hmesg}
 use Rattle.sam_mesg.specs.declared.hmesg.Hmesg.TheVariants.{Hcurrent, Hunlock, Hbindname, Hnewname, Hmovname, Hsetdot, Hcheck}
 use Rattle.sam_host.specs.Host.{PlainHost, Reply, host_checks, reply_to, with_files, when, grown, told_length, printed, no_tag_left, is_command, reply_startcmdfile, reply_startfile, reply_startnewfile, reply_close, reply_exit}
 use Rattle.sam_host.specs.declared.fault.HostFault.TheVariants.{NoFile, CommandFile}
-use Rattle.sam_protocol.specs.Lens.{Slot, Unknown, Known, Open, Lens, lens, Action, Skip, Needs_known, Join, Bind, Close, Leave, Free_command, Exit, move, run, and_then, closes, is_close, HFile, Absent, Hidden, Named, Opened, Gone, IsOpened, IsCommandFile, Fits_slot, IsSettled, Settles}
+use Rattle.sam_protocol.specs.Lens.{Slot, Unknown, Known, Open, Lens, lens, Action, Needs_known, Join, Bind, Close, Leave, Free_command, Exit, move, run, and_then, closes, is_close, HFile, Absent, Hidden, Named, Opened, Gone, IsOpened, IsCommandFile, Fits_slot, Settles}
 use Rattle.sam_protocol.proofs.Lenses.{AreSkips}
 use Rattle.sam_protocol.specs.Frames.{at_file, only}
-use Rattle.sam_protocol.proofs.Changes.{Change, Command, commanded, changed, change_by}
+use Rattle.sam_protocol.proofs.Changes.{Command, change_by}
 use Rattle.sam_protocol.specs.View.{file_of, file_in}
 use Rattle.sam_protocol.specs.Steady.{HasFiles}
 use Rattle.sam_protocol.proofs.Accepting.{Synced, Accepted, Ready, first_there}
 use Rattle.sam_protocol.proofs.Runs.{run-append_some}
-use Rattle.sam_protocol.proofs.AllSettle.{settled_slot}
-use Rattle.sam_protocol.proofs.HostFiles.{IsThere, put, put_other, put_same, put_again, file_in-put, file_in-free, file_in-push, not_given, in_slots, shown_at, file_opened, file_hidden, file_named, put_opened, Lasts, lasts_same, lasts_then, lasts_put, lasts_opened, still_has, works_on}
-use Rattle.sam_protocol.proofs.Tests.{test, last_test, window_tests}
-use Rattle.sam_protocol.proofs.Guards.{guarded_by, guarded_before, no_close_behind, no_close_skips, kept_by, at_file-append, skips_run}
+use Rattle.sam_protocol.proofs.HostFiles.{IsThere, put, put_same, put_again, file_in-put, file_in-free, file_in-push, not_given, in_slots, shown_at, file_opened, file_hidden, file_named, put_opened, Lasts, lasts_same, lasts_put, lasts_opened, still_has, works_on}
+use Rattle.sam_protocol.proofs.Tests.{test, last_test}
+use Rattle.sam_protocol.proofs.Guards.{guarded_by, guarded_before, no_close_behind, no_close_skips, kept_by, skips_run}
 use Rattle.sam_protocol.proofs.Telling.{Told, Rewrites, tells_there, tells_elsewhere, told-append, told_when, told_grown, told_dot, told_check, told_opened}
 
 -- ## Frames while the command lock is held and no other
@@ -40,9 +40,7 @@ pub stays_put : (u : List Action) (d : Bool) (n : ℕ) (s : Slot) (file : HFile)
 stays_put u d n s file a f = record { slot = s; runs = skips_run u (lens true d n s) a; fits = f; no_close = no_close_skips u a }
 
 pub and_moves : (u w : List Action) (d : Bool) (n : ℕ) (s : Slot) (file file2 : HFile) → Moves u d n s file → ((s2 : Slot) → Fits_slot s2 file → Moves w d n s2 file2) → Moves (u ++ w) d n s file2
-and_moves u w d n s file file2 m k =
-    let m2 = k m.slot m.fits in
-    record { slot = m2.slot; runs = run-append_some u w (lens true d n s) (lens true d n m.slot) m.runs ∙ m2.runs; fits = m2.fits; no_close = no_close_behind u w m.no_close m2.no_close }
+and_moves u w d n s file file2 m k = grind (arith, run-append_some, no_close_behind)
 
 -- one action first
 pub and_first : (a : Action) (u : List Action) (d : Bool) (n : ℕ) (s s2 : Slot) (file : HFile) → move a (lens true d n s) ≡ Some (lens true d n s2) → is_close a ≡ false → Moves u d n s2 file
@@ -63,10 +61,7 @@ pub carries_nothing : (d : Bool) (n : ℕ) (a b : ℕ → HFile) → ((g : ℕ) 
 carries_nothing d n a b same = record { moves = λ g s x. stays_put [] d n s (b g) tt (subst (Fits_slot s) (sym (same g)) x); lasts = lasts_same a b same }
 
 pub carries-append : (d : Bool) (n : ℕ) (a b c : ℕ → HFile) (u w : List Hmesg) → Carries d n a u b → Carries d n b w c → Carries d n a (u ++ w) c
-carries-append d n a b c u w x y = record {
-  moves = λ g s f. subst (λ (v : List Action). Moves v d n s (c g)) (sym (at_file-append g u w)) (and_moves (at_file g u) (at_file g w) d n s (b g) (c g) (x.moves g s f) (λ s2 f2. y.moves g s2 f2));
-  lasts = lasts_then a b c x.lasts y.lasts;
-}
+carries-append d n a b c u w x y = search (rules, common_steps, and_moves)
 
 -- frames about the file f alone
 pub carries_at : (d : Bool) (n : ℕ) (a b : ℕ → HFile) (f : ℕ) (frames : List Hmesg) (acts : List Action) (x : HFile) → ((g : ℕ) → at_file g frames ≡ map (only (g == f)) acts)
@@ -118,15 +113,7 @@ pub commands : (h : PlainHost) (m : Tmesg) → change_by m ≡ Command → first
     → ((g : ℕ) (s : Slot) → Fits_slot s (file_in h.files.slots g) → Settles (at_file g (reply_to h m).1) (lens true h.is_done h.version s) (reply_to h m).0.is_done (reply_to h m).0.version
     (file_in (reply_to h m).0.files.slots g))
     → ((g : ℕ) → file_in h.files.slots g ≡ Gone → file_in (reply_to h m).0.files.slots g ≡ Gone) → HasFiles (reply_to h m).0.files → Synced h m
-commands h m c passes each gone sound = record { passes = passes; each = kept; gone = gone; sound = sound }
-  where
-    r : Reply
-    r = reply_to h m
-
-    kept : (g : ℕ) (w : Lens) → IsSettled w h.is_done h.version (file_in h.files.slots g) → Settles (at_file g r.1) (changed (change_by m) g w) r.0.is_done r.0.version (file_in r.0.files.slots g)
-    kept g w x =
-        let s = settled_slot w h.is_done h.version (file_in h.files.slots g) x in
-        subst (λ (y : Lens). Settles (at_file g r.1) y r.0.is_done r.0.version (file_in r.0.files.slots g)) (ap commanded (sym s.1) ∙ sym (ap (λ (k : Change). changed k g w) c)) (each g s.0 s.2)
+commands h m c passes each gone sound = grind arith
 
 -- what a reply owes that ends the command lock: where the host is the same but for its files
 pub record Unlocked (h : PlainHost) (r : Reply) : Type 0 where
@@ -136,12 +123,7 @@ pub record Unlocked (h : PlainHost) (r : Reply) : Type 0 where
 
 pub unlocked : (h : PlainHost) (fs : PlainFiles) (front : List Hmesg) → Carries h.is_done h.version (file_in h.files.slots) front (file_in fs.slots) → HasFiles fs
     → Unlocked h (with_files h fs, front ++ Hunlock ∷ [])
-unlocked h fs front c sound = record {
-  each = λ g s x. subst (λ (u : List Action). Settles u (lens true h.is_done h.version s) h.is_done h.version (file_in fs.slots g)) (sym (at_file-append g front (Hunlock ∷ [])))
-      (unlocks (at_file g front) h.is_done h.version s (file_in fs.slots g) (c.moves g s x));
-  gone = c.lasts.gone;
-  sound = sound;
-}
+unlocked h fs front c sound = search (rules, common_steps, unlocks)
 
 pub unlocked_if : (h : PlainHost) (b : Bool) (x y : Reply) → (b ≡ true → Unlocked h x) → (b ≡ false → Unlocked h y) → Unlocked h (if b then x else y)
 unlocked_if h true x y p q = p refl
@@ -171,42 +153,7 @@ close_there d n (Open r k) t f =
 
 pub sync_close : (h : PlainHost) → Ready h → (f : ℕ) → Accepted h (Tclose f) → Synced h (Tclose f)
 unfolding reply_close
-sync_close h r f met = commands h (Tclose f) refl (window_tests h f met.0 met.1 [] refl)
-    (λ g s x. subst (Settles (only (g == f) Close ∷ only (g == f) Leave ∷ Free_command ∷ []) (lens true h.is_done h.version s) h.is_done h.version) (sym (files g)) (each g s x (cases_Bool (g == f))))
-    (λ g e. files g ∙ gone g e (g == f))
-    (record { works = λ g e. works g h.files.work (cleared_is h.files.work g e); commands = subst IsCommandFile (sym (files 0)) (command (cases_Bool (0 == f))) })
-  where
-    a : ℕ → HFile
-    a = file_in h.files.slots
-
-    files : (g : ℕ) → file_in (free_slot h.files.slots f) g ≡ put a f Gone g
-    files = file_in-free h.files.slots f met.0.given
-
-    each : (g : ℕ) (s : Slot) → Fits_slot s (a g) → ((g == f) ≡ true) ⊎ ((g == f) ≡ false)
-        → Settles (only (g == f) Close ∷ only (g == f) Leave ∷ Free_command ∷ []) (lens true h.is_done h.version s) h.is_done h.version (put a f Gone g)
-    each g s x (inl e) = subst (λ (b : Bool). Settles (only b Close ∷ only b Leave ∷ Free_command ∷ []) (lens true h.is_done h.version s) h.is_done h.version (if b then Gone else a g)) (sym e)
-        (close_there h.is_done h.version s (file_at h.files f).text (subst (Fits_slot s) (ap a (eqb-true _ _ e) ∙ met.0.shown) x))
-    each g s x (inr e) = subst (λ (b : Bool). Settles (only b Close ∷ only b Leave ∷ Free_command ∷ []) (lens true h.is_done h.version s) h.is_done h.version (if b then Gone else a g)) (sym e)
-        (unlocks (Skip ∷ Skip ∷ []) h.is_done h.version s (a g) (stays_put (Skip ∷ Skip ∷ []) h.is_done h.version s (a g) (refl, (refl, tt)) x))
-
-    gone : (g : ℕ) → a g ≡ Gone → (b : Bool) → (if b then Gone else a g) ≡ Gone
-    gone g q true = refl
-    gone g q false = q
-
-    cleared_is : (w : Option ℕ) (g : ℕ) → work_without f w ≡ Some g → (w ≡ Some g) × ((g == f) ≡ false)
-    cleared_is None g e = cc
-    cleared_is (Some x) g e = go (cases_Bool (x == f)) e
-      where
-        go : ((x == f) ≡ true) ⊎ ((x == f) ≡ false) → (if x == f then None else Some x) ≡ Some g → (Some x ≡ Some g) × ((g == f) ≡ false)
-        go (inl q) e = let y : None ≡ Some g = sym (ap (λ (b : Bool). if b then None else Some x) q) ∙ e in cc
-        go (inr q) e = let y : Some x ≡ Some g = sym (ap (λ (b : Bool). if b then None else Some x) q) ∙ e in let z2 : x ≡ g = cc in (y, subst (λ (v : ℕ). (v == f) ≡ false) z2 q)
-
-    works : (g : ℕ) (w : Option ℕ) → (h.files.work ≡ Some g) × ((g == f) ≡ false) → IsOpened (file_in (free_slot h.files.slots f) g) × ((g == 0) ≡ false)
-    works g w q = (subst IsOpened (sym (files g ∙ put_other a f Gone g q.1)) (r.steady.sound.works g q.0).0, (r.steady.sound.works g q.0).1)
-
-    command : ((0 == f) ≡ true) ⊎ ((0 == f) ≡ false) → IsCommandFile (put a f Gone 0)
-    command (inl q) = let x : f ≡ 0 = sym (eqb-true _ _ q) in absurd (true≢false (sym (eq-eqb f 0 x) ∙ met.1))
-    command (inr q) = subst IsCommandFile (sym (put_other a f Gone 0 q)) r.steady.sound.commands
+sync_close h r f met = grind (arith, file_in-free, close_there)
 
 -- a window of a file that the terminal knows: bound, and as long as the text
 bind_moves : (f : ℕ) (x : PlainFile) (d : Bool) (n : ℕ) (s : Slot) (told : Told f (told_length f x) [] x.text) → Fits_slot s (Named x.text) → Moves (Bind ∷ told.acts) d n s (Opened x.text)
@@ -265,9 +212,7 @@ sync_start h r f met =
 -- the command file is announced and opened at once
 first_moves : (x : PlainFile) (d : Bool) (n : ℕ) (s : Slot) (told : Told 0 (told_length 0 x) [] x.text) → Fits_slot s (Hidden x.text)
     → Moves (Join ∷ Needs_known ∷ Bind ∷ told.acts) d n s (Opened x.text)
-first_moves x d n Unknown told y =
-    and_first Join (Needs_known ∷ Bind ∷ told.acts) d n Unknown Known (Opened x.text) refl refl
-    (and_first Needs_known (Bind ∷ told.acts) d n Known Known (Opened x.text) refl refl (bind_moves 0 x d n Known told tt))
+first_moves x d n Unknown told y = grind (arith, (bind_moves 0 x d n Known told tt))
 first_moves x d n Known told y = absurd y
 first_moves x d n (Open r k) told y = absurd y
 
@@ -311,23 +256,11 @@ sync_first h r met =
 -- ## What is printed at the end of tag 0
 
 end_is : (t s : List ℕ) → ins t (length t) s ≡ t ++ s
-end_is t s =
-    let l : length t ≤ length t = omega arith in
-    (λ i. take_all (length t) t l i ++ s ++ drop_all (length t) t l i) ∙ append-nil (t ++ s)
+end_is t s = grind (arith, take_all, drop_all, append-nil)
 
 -- of a file that is not open nothing is told, whatever its text
 shut_fits : (x : PlainFile) (u : List ℕ) (s : Slot) → x.opened ≡ false → Fits_slot s (file_of x) → Fits_slot s (file_of (record x { text = u }))
-shut_fits x u s e y =
-    subst (λ (b : Bool). Fits_slot s (if b then Opened u else if x.announced then Named u else Hidden u)) (sym e)
-    (go x.announced s (subst (λ (b : Bool). Fits_slot s (if b then Opened x.text else if x.announced then Named x.text else Hidden x.text)) e y))
-  where
-    go : (n : Bool) (s : Slot) → Fits_slot s (if n then Named x.text else Hidden x.text) → Fits_slot s (if n then Named u else Hidden u)
-    go true Unknown y = y
-    go true Known y = y
-    go true (Open r k) y = y
-    go false Unknown y = y
-    go false Known y = y
-    go false (Open r k) y = y
+shut_fits x u s e y = grind arith
 
 pub printed_carries : (d : Bool) (n : ℕ) (fs : PlainFiles) (s : List ℕ) (x : PlainFile) → slot fs.slots 0 ≡ Some x → Carries d n (file_in fs.slots) (printed fs s) (file_in (after_print fs s).slots)
 unfolding printed when
@@ -410,11 +343,7 @@ printed_carries d n fs s x e = go (is_printed fs s) refl
     go false q = carries_nothing d n a a (λ g. refl)
 
 pub printed_work : (fs : PlainFiles) (s : List ℕ) → (after_print fs s).work ≡ fs.work
-printed_work fs s = go (is_printed fs s)
-  where
-    go : (b : Bool) → (if b then put_file fs 0 (printed_file (file_at fs 0) s) else fs).work ≡ fs.work
-    go true = refl
-    go false = refl
+printed_work fs s = grind arith
 
 -- ## A new file
 

@@ -8,7 +8,7 @@ use Rattle.sam_mesg.specs.declared.tmesg.Tmesg.{Tmesg}
 use Rattle.sam_mesg.specs.declared.tmesg.Tmesg.TheVariants.{Tversion, Tstartfile}
 use Rattle.sam_mesg.specs.declared.hmesg.Hmesg.{Hmesg}
 use Rattle.sam_host.specs.Host.{PlainHost}
-use Rattle.sam_protocol.specs.Lens.{Lens, lens, Unknown, Known, Open, Action, HFile, Absent, Hidden, Named, Opened, Gone, IsSettled, Settles, OpenAt, Anything}
+use Rattle.sam_protocol.specs.Lens.{Lens, lens, Unknown, Known, Open, Action, HFile, Named, Opened, Settles, OpenAt, Anything}
 use Rattle.sam_protocol.proofs.Lenses.{IsFree, exited_of, command_of}
 use Rattle.sam_protocol.proofs.Changes.{Need, Nothing, Positive, InOpen, AtPlace, InRange, HasRoom, Startable, NamedOpen, NamedRange, need_of, CanMeet, change_by, changed, KnownAt, Within, IsAllowed, CanCompose}
 use Rattle.sam_protocol.specs.View.{file_in}
@@ -46,17 +46,7 @@ record OpenBoth (P : List (Option ℕ) → Type 0) (fs : PlainFiles) (f : ℕ) :
 open_case : (P : List (Option ℕ) → Type 0) (fs : PlainFiles) (f : ℕ) (s : List Action) (v : Lens) (d : Bool) (n : ℕ) → Settles s v d n (file_in fs.slots f) → OpenAt P v → OpenBoth P fs f
 open_case P fs f s (lens c e n2 Unknown) d n k o = absurd o
 open_case P fs f s (lens c e n2 Known) d n k o = absurd o
-open_case P fs f s (lens c e n2 (Open r m)) d n k o = go (file_in fs.slots f) refl (kept_free s (lens c e n2 (Open r m)) d n (file_in fs.slots f) k free)
-  where
-    free : IsFree (lens c e n2 (Open r m))
-    free = subst (λ (x : Bool). IsFree (lens x e n2 (Open r m))) (sym o.0) (subst (λ (x : ℕ). IsFree (lens false e n2 (Open r x))) (sym o.1) tt)
-
-    go : (file : HFile) → file_in fs.slots f ≡ file → IsSettled (lens c e n2 (Open r m)) d n file → OpenBoth P fs f
-    go (Opened t) q x = let y = opens_at fs f t q in record { rasp = r; opens = y.0; agrees = subst (Agrees r) (sym y.1) x.3.1; has = o.2 }
-    go Absent q x = absurd x.3
-    go (Hidden t) q x = absurd x.3
-    go (Named t) q x = absurd x.3
-    go Gone q x = absurd x.3
+open_case P fs f s (lens c e n2 (Open r m)) d n k o = grind (arith, (kept_free s (lens c e n2 (Open r m)) d n (file_in fs.slots f) k), (opens_at fs f))
 
 abbrev IsKnown : HFile → Type 0
 IsKnown (Named t) = Unit
@@ -64,14 +54,7 @@ IsKnown (Opened t) = Unit
 IsKnown _ = ⊥
 
 known_case : (s : List Action) (v : Lens) (d : Bool) (n : ℕ) (file : HFile) → Settles s v d n file → IsFree v → KnownAt v → IsKnown file
-known_case s v d n file k free o = go v file (kept_free s v d n file k free) o
-  where
-    go : (v : Lens) (file : HFile) → IsSettled v d n file → KnownAt v → IsKnown file
-    go (lens c e m Unknown) file x o = absurd o
-    go (lens c e m s) (Named t) x o = tt
-    go (lens c e m s) (Opened t) x o = tt
-    go (lens c e m Known) _ x o = absurd x.3
-    go (lens c e m (Open r k)) _ x o = absurd x.3
+known_case s v d n file k free o = grind (arith, (kept_free s v d n file k free))
 
 within : (r : List (Option ℕ)) (t : List ℕ) (q : ℕ) → Agrees r t → q ≤ length r → q ≤ length t
 within r t q a l = omega (arith, length_agrees r t a)

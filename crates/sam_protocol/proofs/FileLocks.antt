@@ -1,10 +1,11 @@
 -- The messages that lock their file: from settled to settled.
-use Rattle.std.proofs.Common.{◌≡◌, ℕ, ◌+◌, ◌-◌, ◌<◌, ◌≤◌, min, Bool, true, false, not, ◌||◌, ◌&&◌, ◌==◌, if◌then◌else◌, List, [], ◌∷◌, ◌++◌, length, map, take, drop, Option, Some, None, is_some, ◌⊎◌, inl, inr, refl, sym, ap, ◌∙◌, subst, arith, append_assoc, eqb-true, eq-eqb, nat_lt, nat_le}
+use Rattle.std.proofs.lemmas.Grind.{common_steps}
+use Rattle.std.proofs.Common.{◌≡◌, ℕ, ◌+◌, ◌<◌, ◌≤◌, min, Bool, true, false, not, ◌||◌, ◌&&◌, ◌==◌, if◌then◌else◌, List, [], ◌∷◌, ◌++◌, length, map, take, drop, Option, Some, None, is_some, refl, sym, ap, ◌∙◌, subst, arith, append_assoc, eq-eqb, nat_lt, rules}
 use Rattle.std.specs.Prelude.{IfSome}
-use Rattle.std.proofs.lemmas.List.{length-drop, drop_min, take_min}
-use Rattle.std.proofs.lemmas.Bool.{ltb-false, lt-leb, cases_Bool, or_parts}
+use Rattle.std.proofs.lemmas.List.{length-drop, take_min}
+use Rattle.std.proofs.lemmas.Bool.{ltb-false, or_parts}
 use Rattle.sam_rasp.specs.Rasp.{Agrees}
-use Rattle.sam_runes.specs.Texts.{Range, ins, is_empty, part, max_runes, most_in_message, lines_before, word_at, searched}
+use Rattle.sam_runes.specs.Texts.{Range, ins, is_empty, part, max_runes, lines_before, word_at, searched}
 use Rattle.sam_runes.specs.Slots.{slot}
 use Rattle.sam_runes.specs.Checks.{first_of_checks}
 use Rattle.sam_runes.proofs.EditLaws.{length-ins}
@@ -13,19 +14,18 @@ use Rattle.sam_text.specs.Files.{PlainFile, file_at, has_file, pasted_file, sear
 use Rattle.sam_mesg.specs.declared.tmesg.Tmesg.{Tmesg}
 use Rattle.sam_mesg.specs.declared.tmesg.Tmesg.TheVariants.{Trequest, Torigin, Tpaste, Twrite, Tlook, Tsearch, Tdclick}
 use Rattle.sam_mesg.specs.declared.hmesg.Hmesg.{Hmesg}
-use Rattle.sam_mesg.specs.declared.hmesg.Hmesg.TheVariants.{Horigin, Hdata, Hunlockfile, Hsetdot, Hmoveto, Hcheck, Hsetpat, Hclean, Hdirty}
+use Rattle.sam_mesg.specs.declared.hmesg.Hmesg.TheVariants.{Horigin, Hunlockfile, Hsetdot, Hmoveto, Hcheck, Hsetpat, Hclean, Hdirty}
 use Rattle.sam_host.specs.Host.{PlainHost, Reply, host_checks, reply_to, with_file, with_files, when, grown, past_end, no_range, reply_found, reply_request, reply_origin, reply_paste, reply_write, reply_look, reply_search, reply_dclick}
-use Rattle.sam_host.specs.declared.fault.HostFault.TheVariants.{NoFile, NotOpen}
-use Rattle.sam_protocol.specs.Lens.{Open, Lens, lens, Action, Fill, Free_file, HFile, Opened, IsSettled, Settles}
-use Rattle.sam_protocol.proofs.Lenses.{locked_more, AreSkips, request_actions}
+use Rattle.sam_protocol.specs.Lens.{Open, lens, Action, Free_file, Opened, Settles}
+use Rattle.sam_protocol.proofs.Lenses.{AreSkips, request_actions}
 use Rattle.sam_protocol.specs.Frames.{at_file, only}
-use Rattle.sam_protocol.proofs.Changes.{Change, Lock, changed, change_by}
+use Rattle.sam_protocol.proofs.Changes.{Lock, change_by}
 use Rattle.sam_protocol.specs.View.{file_in}
 use Rattle.sam_protocol.proofs.Accepting.{Synced, Accepted, Ready}
 use Rattle.sam_protocol.proofs.Runs.{run-append_some}
-use Rattle.sam_protocol.proofs.AllSettle.{kept_skips, kept_data, settled_opened}
-use Rattle.sam_protocol.proofs.HostFiles.{put, put_again, put_opened, Opens, Lasts, lasts_opened, still_has}
-use Rattle.sam_protocol.proofs.Tests.{open_tests, window_tests, place_test, range_test, test, last_test}
+use Rattle.sam_protocol.proofs.AllSettle.{kept_skips, kept_data}
+use Rattle.sam_protocol.proofs.HostFiles.{put, put_again, put_opened, Opens}
+use Rattle.sam_protocol.proofs.Tests.{open_tests, window_tests, place_test, range_test}
 use Rattle.sam_protocol.proofs.Guards.{guarded_by, guarded_before, no_close_behind, kept_by, at_file-append, skips-append}
 use Rattle.sam_protocol.proofs.Telling.{Told, tells_there, tells_elsewhere, told_nothing, told-append, told_if, told_grown, told_origin, told_move, told_dot, told_check, told_clean, told_dirty, told_pattern}
 
@@ -47,39 +47,7 @@ record Freed (h : PlainHost) (f : ℕ) (r : Reply) : Type 0 where
 
 -- a message that locks f, with such an answer
 locks : (h : PlainHost) → Ready h → (m : Tmesg) (f : ℕ) → change_by m ≡ Lock f → Opens h.files f → first_of_checks (host_checks h m) ≡ None → Freed h f (reply_to h m) → Synced h m
-locks h y m f c o passes k = record { passes = passes; each = each; gone = lasts.gone; sound = still_has h.files r.0.files y.steady.sound k.has.work lasts }
-  where
-    r : Reply
-    r = reply_to h m
-
-    t : List ℕ
-    t = (file_at h.files f).text
-
-    lasts : Lasts (file_in h.files.slots) (file_in r.0.files.slots)
-    lasts = lasts_opened (file_in h.files.slots) (file_in r.0.files.slots) f t k.text o.shown k.has.files
-
-    -- what is kept, in the words of the host before
-    after : (g : ℕ) (v : Lens) → Settles (at_file g r.1) v h.is_done h.version (put (file_in h.files.slots) f (Opened k.text) g)
-        → Settles (at_file g r.1) v r.0.is_done r.0.version (file_in r.0.files.slots g)
-    after g v x =
-        subst (λ (y : HFile). Settles (at_file g r.1) v r.0.is_done r.0.version y) (sym (k.has.files g))
-        (subst (λ (y : ℕ). Settles (at_file g r.1) v r.0.is_done y (put (file_in h.files.slots) f (Opened k.text) g)) (sym k.has.version)
-        (subst (λ (y : Bool). Settles (at_file g r.1) v y h.version (put (file_in h.files.slots) f (Opened k.text) g)) (sym k.has.done) x))
-
-    each : (g : ℕ) (w : Lens) → IsSettled w h.is_done h.version (file_in h.files.slots g) → Settles (at_file g r.1) (changed (change_by m) g w) r.0.is_done r.0.version (file_in r.0.files.slots g)
-    each g w s = subst (λ (x : Change). Settles (at_file g r.1) (changed x g w) r.0.is_done r.0.version (file_in r.0.files.slots g)) (sym c) (after g _ (go (cases_Bool (g == f))))
-      where
-        here : g ≡ f → Settles (at_file g r.1) (locked_more w) h.is_done h.version (Opened k.text)
-        here e =
-            let u = settled_opened w h.is_done h.version t (subst (IsSettled w h.is_done h.version) (ap (file_in h.files.slots) e ∙ o.shown) s) in
-            subst (λ (y : Lens). Settles (at_file g r.1) (locked_more y) h.is_done h.version (Opened k.text)) (sym u.1)
-            (subst (λ (y : ℕ). Settles (at_file y r.1) (lens false h.is_done h.version (Open u.0 1)) h.is_done h.version (Opened k.text)) (sym e) (k.here u.0 u.2))
-
-        go : ((g == f) ≡ true) ⊎ ((g == f) ≡ false) → Settles (at_file g r.1) (if g == f then locked_more w else w) h.is_done h.version (if g == f then Opened k.text else file_in h.files.slots g)
-        go (inl e) =
-            subst (λ (b : Bool). Settles (at_file g r.1) (if b then locked_more w else w) h.is_done h.version (if b then Opened k.text else file_in h.files.slots g)) (sym e) (here (eqb-true _ _ e))
-        go (inr e) = subst (λ (b : Bool). Settles (at_file g r.1) (if b then locked_more w else w) h.is_done h.version (if b then Opened k.text else file_in h.files.slots g)) (sym e)
-            (kept_skips (at_file g r.1) w h.is_done h.version (file_in h.files.slots g) (k.elsewhere g e) s)
+locks h y m f c o passes k = search (rules, common_steps, kept_skips)
 
 -- the host as it was
 has_same : (h : PlainHost) (f : ℕ) → Opens h.files f → HasText h h f (file_at h.files f).text
@@ -243,24 +211,15 @@ sync_paste h r f p a =
 
 -- what is asked for
 asked : (t : List ℕ) (p k : ℕ) → part t (min p (length t)) (min (p + k) (length t)) ≡ take k (drop p t)
-asked t p k =
-    let n : min (p + k) (length t) - min p (length t) ≡ min k (length (drop p t)) = omega (arith, length-drop p t) in
-    ap (λ (u : List ℕ). take (min (p + k) (length t) - min p (length t)) u) (drop_min p t)
-    ∙ ap (λ (j : ℕ). take j (drop p t)) n
-    ∙ take_min k (drop p t)
+asked t p k = grind (arith, (length-drop p t), (take_min k (drop p t)))
 
 -- how the frames that answer it act at the file and elsewhere
 pub request_tells : (h : PlainHost) (f p n : ℕ) → Opens h.files f → (g : ℕ) → at_file g (reply_request h f p n).1 ≡ map (only (g == f)) (request_actions false (Opened (file_at h.files f).text) p n)
 unfolding reply_request when
-request_tells h f p n o g =
-    let t : List ℕ = (file_at h.files f).text in
-    ap (λ (b : Bool). at_file g (if b then Hdata f (min p (length t)) (part t (min p (length t)) (min (p + min n most_in_message) (length t))) ∷ Hunlockfile f ∷ [] else [])) o.there
-    ∙ ap (λ (x : List ℕ). only (g == f) (Fill (min p (length t)) x) ∷ only (g == f) Free_file ∷ []) (asked t p (min n most_in_message))
+request_tells h f p n o g = search (rules, common_steps)
 
 pub request_passes : (h : PlainHost) (f p n : ℕ) → f < length h.files.slots → (has_file h.files f && not (file_at h.files f).opened) ≡ false → first_of_checks (host_checks h (Trequest f p n)) ≡ None
-request_passes h f p n l e =
-    test (nat_le (length h.files.slots) f) NoFile ((has_file h.files f && not (file_at h.files f).opened, NotOpen) ∷ []) (lt-leb (length h.files.slots) f l)
-    (last_test (has_file h.files f && not (file_at h.files f).opened) NotOpen e)
+request_passes h f p n l e = grind arith
 
 pub open_passes : (h : PlainHost) (f : ℕ) → Opens h.files f → (has_file h.files f && not (file_at h.files f).opened) ≡ false
 open_passes h f o = λ i. o.there i && not (o.opened i)
@@ -271,9 +230,7 @@ none_passes h f e = ap (λ (b : Bool). b && not (file_at h.files f).opened) (ap 
 
 pub none_tells : (h : PlainHost) (f p n : ℕ) → slot h.files.slots f ≡ None → (g : ℕ) → at_file g (reply_request h f p n).1 ≡ []
 unfolding reply_request when
-none_tells h f p n e g =
-    let t : List ℕ = (file_at h.files f).text in
-    ap (λ (x : Option PlainFile). at_file g (if is_some x then Hdata f (min p (length t)) (part t (min p (length t)) (min (p + min n most_in_message) (length t))) ∷ Hunlockfile f ∷ [] else [])) e
+none_tells h f p n e g = grind arith
 
 -- one that an event composes
 pub sync_request : (h : PlainHost) → Ready h → (f p n : ℕ) → Accepted h (Trequest f p n) → Synced h (Trequest f p n)

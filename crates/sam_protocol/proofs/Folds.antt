@@ -1,7 +1,6 @@
 -- The fold of what is under way, one message or frame more or less.
-use Rattle.std.proofs.Common.{◌≡◌, ℕ, Bool, true, false, if◌then◌else◌, ◌==◌, List, [], ◌∷◌, ◌++◌, map, Option, Some, None, ◌⊎◌, inl, inr, refl, sym, ap, ◌∙◌, subst, append-nil, append_assoc, eqb-true, eq-eqb}
+use Rattle.std.proofs.Common.{◌≡◌, ℕ, Bool, true, false, if◌then◌else◌, ◌==◌, List, [], ◌∷◌, ◌++◌, map, Option, Some, None, ◌⊎◌, inl, inr, refl, sym, ap, ◌∙◌, subst, append-nil, append_assoc, eqb-true, eq-eqb, arith}
 use Rattle.std.proofs.lemmas.Bool.{cases_Bool}
-use Rattle.std.proofs.lemmas.Option.{same_Some}
 use Rattle.sam_runes.specs.Checks.{first_of_checks}
 use Rattle.sam_mesg.specs.declared.tmesg.Tmesg.{Tmesg}
 use Rattle.sam_mesg.specs.declared.tmesg.Tmesg.TheVariants.{Trequest, Tack}
@@ -11,7 +10,7 @@ use Rattle.sam_host.specs.declared.fault.HostFault.{HostFault}
 use Rattle.sam_protocol.proofs.Lenses.{locked_more, IsFree, IsAlike, IsOpen, exited_of, CanRequest, request_actions}
 use Rattle.sam_protocol.specs.Lens.{Lens, lens, Unknown, Known, Open, Action, move, HFile, Absent, Hidden, Named, Opened, Gone, Settles}
 use Rattle.sam_protocol.specs.Frames.{at_file, action, only, VersionsGuarded}
-use Rattle.sam_protocol.proofs.Changes.{change_by, Change, Same, Lock, Command, Types, Cuts, Line, changed, commanded, typed_in, cut_out, IsAllowed}
+use Rattle.sam_protocol.proofs.Changes.{change_by, Change, Same, Lock, Command, Types, Cuts, Line, changed, IsAllowed}
 use Rattle.sam_protocol.specs.View.{file_in}
 use Rattle.sam_protocol.proofs.Accepting.{Synced}
 use Rattle.sam_protocol.specs.Steady.{IsSteady}
@@ -31,21 +30,11 @@ pub record Answered (h : PlainHost) (m : Tmesg) (ms : List Tmesg) (x : Reply) : 
   pub later : answers first.0 ms ≡ Some rest
   pub whole : x ≡ (rest.0, first.1 ++ rest.1)
 
-some_behind : (fs : List Hmesg) (o : Option Reply) (x : Reply) → behind fs o ≡ Some x → (b : Reply) × (o ≡ Some b) × (x ≡ (b.0, fs ++ b.1))
-some_behind fs None x e = cc
-some_behind fs (Some b) x e = (b, refl, sym (same_Some _ _ e))
-
 pub answered : (h : PlainHost) (m : Tmesg) (ms : List Tmesg) (x : Reply) → answers h (m ∷ ms) ≡ Some x → Answered h m ms x
-answered h m ms x e = go (reply_of h m) refl e
-  where
-    go : (o : Option Reply) → reply_of h m ≡ o → replied_then o (λ k. answers k ms) ≡ Some x → Answered h m ms x
-    go None q e = cc
-    go (Some a) q e = let b = some_behind a.1 (answers a.0 ms) x e in record { first = a; rest = b.0; now = q; later = b.1; whole = b.2 }
+answered h m ms x e = grind arith
 
 pub answers-append : (h : PlainHost) (ms ns : List Tmesg) (a b : Reply) → answers h ms ≡ Some a → answers a.0 ns ≡ Some b → answers h (ms ++ ns) ≡ Some (b.0, a.1 ++ b.1)
-answers-append h [] ns a b e f =
-    let same : (h, []) ≡ a = same_Some _ _ e in
-    ap (λ (x : Reply). answers x.0 ns) same ∙ f ∙ ap (λ (x : Reply). Some (b.0, x.1 ++ b.1)) same
+answers-append h [] ns a b e f = grind arith
 answers-append h (m ∷ ms) ns a b e f =
     let t = answered h m ms a e in
     let f2 : answers t.rest.0 ns ≡ Some b = ap (λ (x : Reply). answers x.0 ns) (sym t.whole) ∙ f in
@@ -64,61 +53,27 @@ pub record HostTaken (h : PlainHost) (views : ℕ → Lens) (m : Tmesg) (line : 
   pub kept : AllSettle reply.0 views line (down ++ reply.1)
 
 pub host_takes : (h : PlainHost) (views : ℕ → Lens) (m : Tmesg) (line : List Tmesg) (down : List Hmesg) → AllSettle h views (m ∷ line) down → HostTaken h views m line down
-host_takes h views m line down k =
-    let t = answered h m line (k.ahead, k.frames) k.folds in
-    let ahead : k.ahead ≡ t.rest.0 = ap (λ (x : Reply). x.0) t.whole in
-    let frames : k.frames ≡ t.first.1 ++ t.rest.1 = ap (λ (x : Reply). x.1) t.whole in
-    let same : down ++ k.frames ≡ (down ++ t.first.1) ++ t.rest.1 = ap (λ (u : List Hmesg). down ++ u) frames ∙ sym (append_assoc down t.first.1 t.rest.1) in
-    record {
-      reply = t.first;
-      answers_it = t.now;
-      kept =
-          record {
-            ahead = k.ahead;
-            frames = t.rest.1;
-            folds = t.later ∙ ap (λ (x : PlainHost). Some (x, t.rest.1)) (sym ahead);
-            each = λ g. subst (λ (u : List Hmesg). Settles (at_file g u) (views g) k.ahead.is_done k.ahead.version (file_in k.ahead.files.slots g)) same (k.each g);
-            steady = k.steady;
-            versions = subst (λ (u : List Hmesg). VersionsGuarded u) same k.versions;
-          };
-    }
+host_takes h views m line down k = grind (arith, append_assoc)
 
 -- ## The terminal takes the first frame
 
 -- no lens refuses it
 pub frame_moves : (h : PlainHost) (views : ℕ → Lens) (line : List Tmesg) (m : Hmesg) (down : List Hmesg) → AllSettle h views line (m ∷ down) → (g : ℕ)
     → (v : Lens) × (move (action g m) (views g) ≡ Some v)
-frame_moves h views line m down k g =
-    let t = kept_take (action g m) (at_file g (down ++ k.frames)) (views g) k.ahead.is_done k.ahead.version (file_in k.ahead.files.slots g) (k.each g) in
-    (t.mid, t.moves)
+frame_moves h views line m down k g = grind (
+  arith,
+  (kept_take (action g m) (at_file g (down ++ k.frames)) (views g) k.ahead.is_done k.ahead.version (file_in k.ahead.files.slots g) (k.each g)),
+)
 
 pub term_takes : (h : PlainHost) (views views2 : ℕ → Lens) (line : List Tmesg) (m : Hmesg) (down : List Hmesg) → AllSettle h views line (m ∷ down)
     → ((g : ℕ) → move (action g m) (views g) ≡ Some (views2 g)) → AllSettle h views2 line down
-term_takes h views views2 line m down k moves = record {
-  ahead = k.ahead;
-  frames = k.frames;
-  folds = k.folds;
-  each = λ g.
-      let t = kept_take (action g m) (at_file g (down ++ k.frames)) (views g) k.ahead.is_done k.ahead.version (file_in k.ahead.files.slots g) (k.each g) in
-      subst (λ (v : Lens). Settles (at_file g (down ++ k.frames)) v k.ahead.is_done k.ahead.version (file_in k.ahead.files.slots g)) (same_Some _ _ (sym t.moves ∙ moves g)) t.kept;
-  steady = k.steady;
-  versions = k.versions.1;
-}
+term_takes h views views2 line m down k moves = grind arith
 
 -- ## A message more
 
 -- views that are alike at each file
 pub kept_views : (h : PlainHost) (views views2 : ℕ → Lens) (line : List Tmesg) (down : List Hmesg) → AllSettle h views line down → ((g : ℕ) → views g ≡ views2 g) → AllSettle h views2 line down
-kept_views h views views2 line down k same =
-    record {
-      ahead = k.ahead;
-      frames = k.frames;
-      folds = k.folds;
-      each = λ g. subst (λ (v : Lens). Settles (at_file g (down ++ k.frames)) v k.ahead.is_done k.ahead.version
-          (file_in k.ahead.files.slots g)) (same g) (k.each g);
-      steady = k.steady;
-      versions = k.versions;
-    }
+kept_views h views views2 line down k same = grind arith
 
 -- another list of messages that folds to the same, counts aside
 pub kept_with : (h : PlainHost) (views views2 : ℕ → Lens) (line : List Tmesg) (down : List Hmesg) (m : Tmesg) (r : Reply) (k : AllSettle h views line down) → reply_of k.ahead m ≡ Some r
@@ -138,59 +93,21 @@ kept_with h views views2 line down m r k replies each steady versions =
 
 alike_changed : (c : Change) (g : ℕ) (v : Lens) → IsAlike v (changed c g v)
 alike_changed Same g v = alike_same v
-alike_changed (Lock f) g v = go (g == f) v
-  where
-    go : (b : Bool) (v : Lens) → IsAlike v (if b then locked_more v else v)
-    go true (lens c e n Unknown) = tt
-    go true (lens c e n Known) = tt
-    go true (lens c e n (Open r k)) = tt
-    go false v = alike_same v
+alike_changed (Lock f) g v = grind arith
 alike_changed Command g (lens c e n Unknown) = tt
 alike_changed Command g (lens c e n Known) = tt
 alike_changed Command g (lens c e n (Open r k)) = tt
-alike_changed (Types f p s) g v = go (g == f) v
-  where
-    go : (b : Bool) (v : Lens) → IsAlike v (if b then typed_in p s v else v)
-    go true (lens c e n Unknown) = tt
-    go true (lens c e n Known) = tt
-    go true (lens c e n (Open r k)) = tt
-    go false v = alike_same v
-alike_changed (Cuts f p q) g v = go (g == f) v
-  where
-    go : (b : Bool) (v : Lens) → IsAlike v (if b then cut_out p q v else v)
-    go true (lens c e n Unknown) = tt
-    go true (lens c e n Known) = tt
-    go true (lens c e n (Open r k)) = tt
-    go false v = alike_same v
-alike_changed (Line p s) g v = go (g == 0) v
-  where
-    go : (b : Bool) (v : Lens) → IsAlike v (commanded (if b then typed_in p s v else v))
-    go true (lens c e n Unknown) = tt
-    go true (lens c e n Known) = tt
-    go true (lens c e n (Open r k)) = tt
-    go false (lens c e n Unknown) = tt
-    go false (lens c e n Known) = tt
-    go false (lens c e n (Open r k)) = tt
+alike_changed (Types f p s) g v = grind arith
+alike_changed (Cuts f p q) g v = grind arith
+alike_changed (Line p s) g v = grind arith
 
 -- a file that the act changes is free
 free_or_same : (c : Change) (views : ℕ → Lens) (g : ℕ) → IsAllowed c views → IsFree (views g) ⊎ ((v : Lens) → changed c g v ≡ v)
 free_or_same Same views g a = inr (λ v. refl)
-free_or_same (Lock f) views g a = go (cases_Bool (g == f))
-  where
-    go : ((g == f) ≡ true) ⊎ ((g == f) ≡ false) → IsFree (views g) ⊎ ((v : Lens) → (if g == f then locked_more v else v) ≡ v)
-    go (inl e) = inl (subst (λ (x : ℕ). IsFree (views x)) (sym (eqb-true _ _ e)) a)
-    go (inr e) = inr (λ v. ap (λ (b : Bool). (if b then locked_more v else v)) e)
+free_or_same (Lock f) views g a = grind arith
 free_or_same Command views g a = inl (a g)
-free_or_same (Types f p s) views g a = go (cases_Bool (g == f))
-  where
-    go : ((g == f) ≡ true) ⊎ ((g == f) ≡ false) → IsFree (views g) ⊎ ((v : Lens) → (if g == f then typed_in p s v else v) ≡ v)
-    go (inl e) = inl (subst (λ (x : ℕ). IsFree (views x)) (sym (eqb-true _ _ e)) a)
-    go (inr e) = inr (λ v. ap (λ (b : Bool). (if b then typed_in p s v else v)) e)
-free_or_same (Cuts f p q) views g a = go (cases_Bool (g == f))
-  where
-    go : ((g == f) ≡ true) ⊎ ((g == f) ≡ false) → IsFree (views g) ⊎ ((v : Lens) → (if g == f then cut_out p q v else v) ≡ v)
-    go (inl e) = inl (subst (λ (x : ℕ). IsFree (views x)) (sym (eqb-true _ _ e)) a)
-    go (inr e) = inr (λ v. ap (λ (b : Bool). (if b then cut_out p q v else v)) e)
+free_or_same (Types f p s) views g a = grind arith
+free_or_same (Cuts f p q) views g a = grind arith
 free_or_same (Line p s) views g a = inl (a g)
 
 -- the host's reply to a message that nothing stands against

@@ -1,10 +1,10 @@
 -- Where no lens refuses a frame the terminal doesn't, and each lens moves as the frame's action says.
-use Rattle.std.proofs.Common.{◌≡◌, ℕ, zero, suc, arith, ◌+◌, ◌-◌, ◌≢◌, Bool, true, false, not, if◌then◌else◌, ◌==◌, List, [], ◌∷◌, length, map, replicate, Option, Some, None, is_some, ◌⊎◌, inl, inr, refl, sym, ap, ◌∙◌, true≢false, eqb-true, eq-eqb, nat_le, nat_lt}
-use Rattle.std.specs.Prelude.{unwrap_or, option_map}
-use Rattle.std.proofs.lemmas.Bool.{leb-true, le-ltb, cases_Bool, and_parts}
+use Rattle.std.proofs.Common.{◌≡◌, ℕ, suc, arith, ◌+◌, ◌-◌, ◌≢◌, Bool, true, false, not, if◌then◌else◌, ◌==◌, List, [], ◌∷◌, length, map, replicate, Option, Some, None, is_some, refl, sym, ap, ◌∙◌, eqb-true, eq-eqb, nat_le, nat_lt}
+use Rattle.std.specs.Prelude.{unwrap_or}
+use Rattle.std.proofs.lemmas.Bool.{leb-true, le-ltb}
 use Rattle.std.proofs.lemmas.Option.{same_Some}
 use Rattle.sam_runes.specs.Texts.{common_version, max_runes}
-use Rattle.sam_runes.specs.Slots.{Slots, slot, put_slot, free_slot}
+use Rattle.sam_runes.specs.Slots.{slot, put_slot, free_slot}
 use Rattle.sam_runes.specs.Checks.{Checks, first_of_checks}
 use Rattle.sam_runes.proofs.SlotLaws.{slot-put_same, slot-put_other, slot-free_same, slot-free_other, slot-map}
 use Rattle.sam_rasp.specs.Rasp.{ins_cells, del_cells, load_cells}
@@ -15,11 +15,10 @@ use Rattle.sam_term.specs.declared.records.KnownFile.{KnownFile}
 use Rattle.sam_term.specs.declared.fault.TermFault.{TermFault}
 use Rattle.sam_term.specs.declared.fault.TermFault.TheVariants as fault
 use Rattle.sam_mesg.specs.declared.tmesg.Tmesg.TheVariants.{Tack}
-use Rattle.sam_term.specs.Term.{PlainTerminal, free_window, freed_known, sends_if, sends, unchanged, requested, took_bindname, took_data, took_grow, took_growdata, took_cut, took_unlockfile, took_close, took_exit}
+use Rattle.sam_term.specs.Term.{PlainTerminal, sends_if, sends, unchanged, requested, took_bindname, took_data, took_grow, took_growdata, took_cut, took_unlockfile, took_close, took_exit}
 use Rattle.sam_term.specs.Windows.{blank_known, blank_window}
 use Rattle.sam_protocol.specs.Lens.{Slot, Unknown, Known, Open, Lens, lens, Action, Skip, Change, Needs_known, Needs_open, Join, Bind, Close, Leave, Grow, Fill, Insert, Cut, Place, Free_file, Free_command, Exit, move}
 use Rattle.sam_protocol.specs.Frames.{only}
-use Rattle.sam_protocol.proofs.Runs.{if_some}
 use Rattle.sam_protocol.specs.View.{slot_of_window, slot_of, view, effect, NoneRefuses, Moves}
 
 same_tag : (f : ℕ) → (f == f) ≡ true
@@ -29,29 +28,11 @@ same_tag f = eq-eqb f f refl
 within : (a b : ℕ) → nat_le a b ≡ true → nat_lt b a ≡ false
 within a b e = le-ltb b a (leb-true a b e)
 
-one_test : {E : Type 0} (b : Bool) (x : E) → b ≡ false → first_of_checks {E = E} ((b, x) ∷ []) ≡ None
-one_test b x e = rw e refl
-
-two_tests : {E : Type 0} (b b2 : Bool) (x x2 : E) → b ≡ false → b2 ≡ false → first_of_checks {E = E} ((b, x) ∷ (b2, x2) ∷ []) ≡ None
-two_tests b b2 x x2 e e2 = rw e (rw e2 refl)
-
 -- ## A frame of the file f moves the lens of f, and no other
 
 tagged : (f : ℕ) (a : Action) (t t2 : PlainTerminal) → t2.command_lock ≡ t.command_lock → t2.has_exited ≡ t.has_exited → t2.version ≡ t.version
     → ((g : ℕ) → f ≢ g → slot t2.files g ≡ slot t.files g) → move a (view f t) ≡ Some (view f t2) → (g : ℕ) → move (only (g == f) a) (view g t) ≡ Some (view g t2)
-tagged f a t t2 ec ee ev others here g = go (cases_Bool (g == f))
-  where
-    go : ((g == f) ≡ true) ⊎ ((g == f) ≡ false) → move (only (g == f) a) (view g t) ≡ Some (view g t2)
-    go (inl e) =
-        let z : g ≡ f = eqb-true _ _ e in
-        ap (λ (b : Bool). move (only b a) (view g t)) e ∙ ap (λ (y : ℕ). move a (view y t)) z ∙ here ∙ ap (λ (y : ℕ). Some (view y t2)) (sym z)
-    go (inr e) =
-        let other : f ≢ g = λ q. true≢false (sym (eq-eqb g f (sym q)) ∙ e) in
-        ap (λ (b : Bool). move (only b a) (view g t)) e
-        ∙ ap (λ (s : Option KnownFile). Some (lens t.command_lock t.has_exited t.version (slot_of s))) (sym (others g other))
-        ∙ ap (λ (b : Bool). Some (lens b t.has_exited t.version (slot_of (slot t2.files g)))) (sym ec)
-        ∙ ap (λ (b : Bool). Some (lens t2.command_lock b t.version (slot_of (slot t2.files g)))) (sym ee)
-        ∙ ap (λ (b : ℕ). Some (lens t2.command_lock t2.has_exited b (slot_of (slot t2.files g)))) (sym ev)
+tagged f a t t2 ec ee ev others here g = grind (arith, eqb-true)
 
 -- what the lens of f says, where its action doesn't refuse
 here_moves : (f : ℕ) (a : Action) (t : PlainTerminal) → ((g : ℕ) → (v : Lens) × (move (only (g == f) a) (view g t) ≡ Some v)) → (v : Lens) × (move a (view f t) ≡ Some v)
@@ -71,58 +52,25 @@ OnOpen a tests next = (c e : Bool) (n : ℕ) (w : Window) (v : Lens) → move a 
 abbrev open_checks : Option KnownFile → (Window → Checks TermFault) → Checks TermFault
 open_checks s tests = (not (is_some s), fault.NoFile) ∷ (not (is_some (known_of s).window), fault.NotOpen) ∷ tests (window_of s)
 
-on_window : (a : Action) (tests : Window → Checks TermFault) (next : Window → Slot) → OnOpen a tests next
-    → ((c e : Bool) (n : ℕ) → move a (lens c e n Known) ≡ None)
-    → (c e : Bool) (n : ℕ) (w : Option Window) (v : Lens) → move a (lens c e n (slot_of_window w)) ≡ Some v
-    → (first_of_checks ((not (is_some w), fault.NotOpen) ∷ tests (unwrap_or w blank_window)) ≡ None) × (v ≡ lens c e n (next (unwrap_or w blank_window)))
-on_window a tests next on closed c e n None v q = let x : None ≡ Some v = sym (closed c e n) ∙ q in cc
-on_window a tests next on closed c e n (Some w) v q = on c e n w v q
-
-on_slot : (a : Action) (tests : Window → Checks TermFault) (next : Window → Slot) → OnOpen a tests next
-    → ((c e : Bool) (n : ℕ) → move a (lens c e n Unknown) ≡ None) → ((c e : Bool) (n : ℕ) → move a (lens c e n Known) ≡ None)
-    → (c e : Bool) (n : ℕ) (s : Option KnownFile) (v : Lens) → move a (lens c e n (slot_of s)) ≡ Some v
-    → (first_of_checks (open_checks s tests) ≡ None) × (v ≡ lens c e n (next (window_of s)))
-on_slot a tests next on unknown closed c e n None v q = let x : None ≡ Some v = sym (unknown c e n) ∙ q in cc
-on_slot a tests next on unknown closed c e n (Some known) v q = on_window a tests next on closed c e n known.window v q
-
 on_grow : (p m : ℕ) → OnOpen (Grow p m) (λ w. (nat_lt (length w.rasp) p, fault.BadPosition) ∷ (nat_lt max_runes (length w.rasp + m), fault.TooLong) ∷ [])
     (λ w. Open (ins_cells w.rasp p (replicate m None)) w.locks)
-on_grow p m c e n w v q =
-    let x = if_some _ _ _ q in
-    let y = and_parts (nat_le p (length w.rasp)) (nat_le (length w.rasp + m) max_runes) x.0 in
-    (two_tests (nat_lt (length w.rasp) p) (nat_lt max_runes (length w.rasp + m)) fault.BadPosition fault.TooLong (within p (length w.rasp) y.0) (within (length w.rasp + m) max_runes y.1), sym x.1)
+on_grow p m c e n w v q = grind arith
 
 on_growdata : (p : ℕ) (s : List ℕ) → OnOpen (Insert p s) (λ w. (nat_lt (length w.rasp) p, fault.BadPosition) ∷ (nat_lt max_runes (length w.rasp + length s), fault.TooLong) ∷ [])
     (λ w. Open (ins_cells w.rasp p (map Some s)) w.locks)
-on_growdata p s c e n w v q =
-    let x = if_some _ _ _ q in
-    let y = and_parts (nat_le p (length w.rasp)) (nat_le (length w.rasp + length s) max_runes) x.0 in (
-      two_tests (nat_lt (length w.rasp) p) (nat_lt max_runes (length w.rasp + length s)) fault.BadPosition fault.TooLong (within p (length w.rasp) y.0)
-          (within (length w.rasp + length s) max_runes y.1),
-      sym x.1,
-    )
+on_growdata p s c e n w v q = grind arith
 
 on_data : (p : ℕ) (s : List ℕ) → OnOpen (Fill p s) (λ w. (nat_lt (length w.rasp) (p + length s), fault.BadPosition) ∷ []) (λ w. Open (load_cells w.rasp p s) w.locks)
-on_data p s c e n w v q =
-    let x = if_some _ _ _ q in
-    (one_test (nat_lt (length w.rasp) (p + length s)) fault.BadPosition (within (p + length s) (length w.rasp) x.0), sym x.1)
+on_data p s c e n w v q = grind arith
 
 on_cut : (p m : ℕ) → OnOpen (Cut p m) (λ w. (nat_lt (length w.rasp) (p + m), fault.BadPosition) ∷ []) (λ w. Open (del_cells w.rasp p (p + m)) w.locks)
-on_cut p m c e n w v q =
-    let x = if_some _ _ _ q in
-    (one_test (nat_lt (length w.rasp) (p + m)) fault.BadPosition (within (p + m) (length w.rasp) x.0), sym x.1)
+on_cut p m c e n w v q = grind arith
 
 on_setdot : (p q : ℕ) → OnOpen (Place p q) (λ w. (nat_lt q p, fault.BadPosition) ∷ (nat_lt (length w.rasp) q, fault.BadPosition) ∷ []) (λ w. Open w.rasp w.locks)
-on_setdot p q c e n w v z =
-    let x = if_some _ _ _ z in
-    let y = and_parts (nat_le p q) (nat_le q (length w.rasp)) x.0 in
-    (two_tests (nat_lt q p) (nat_lt (length w.rasp) q) fault.BadPosition fault.BadPosition (within p q y.0) (within q (length w.rasp) y.1), sym x.1)
+on_setdot p q c e n w v z = grind arith
 
 on_place : (p : ℕ) → OnOpen (Place p p) (λ w. (nat_lt (length w.rasp) p, fault.BadPosition) ∷ []) (λ w. Open w.rasp w.locks)
-on_place p c e n w v z =
-    let x = if_some _ _ _ z in
-    let y = and_parts (nat_le p p) (nat_le p (length w.rasp)) x.0 in
-    (one_test (nat_lt (length w.rasp) p) fault.BadPosition (within p (length w.rasp) y.1), sym x.1)
+on_place p c e n w v z = grind arith
 
 on_check : OnOpen Needs_open (λ w. []) (λ w. Open w.rasp w.locks)
 on_check c e n w v z = (refl, sym (same_Some _ _ z))
@@ -131,61 +79,27 @@ one_less : (k : ℕ) → k ≡ suc k - 1
 one_less k = omega arith
 
 not_zero : (k : ℕ) → (suc k == 0) ≡ false
-not_zero k = go (cases_Bool (suc k == 0))
-  where
-    go : ((suc k == 0) ≡ true) ⊎ ((suc k == 0) ≡ false) → (suc k == 0) ≡ false
-    go (inl e) = let z : suc k ≡ 0 = eqb-true _ _ e in absurd (omega arith)
-    go (inr e) = e
+not_zero k = grind arith
 
 on_unlockfile : OnOpen Free_file (λ w. (w.locks == 0, fault.LockNotHeld) ∷ []) (λ w. Open w.rasp (w.locks - 1))
-on_unlockfile c e n w v z = go w.locks z
-  where
-    go : (k : ℕ) → move Free_file (lens c e n (Open w.rasp k)) ≡ Some v → (first_of_checks ((k == 0, fault.LockNotHeld) ∷ []) ≡ None) × (v ≡ lens c e n (Open w.rasp (k - 1)))
-    go zero z = cc
-    go (suc k) z = (one_test (suc k == 0) fault.LockNotHeld (not_zero k), sym (same_Some _ _ z) ∙ ap (λ (j : ℕ). lens c e n (Open w.rasp j)) (one_less k))
+on_unlockfile c e n w v z = grind arith
 
 on_close : OnOpen Close (λ w. []) (λ w. Known)
 on_close c e n w v z = (refl, sym (same_Some _ _ z))
 
 -- ## Frames that need a known file
 
-on_known : (a : Action) (c e : Bool) (n : ℕ) (s : Option KnownFile) (v : Lens) → a ≡ Needs_known → move a (lens c e n (slot_of s)) ≡ Some v
-    → (first_of_checks ((not (is_some s), fault.NoFile) ∷ []) ≡ None) × (v ≡ lens c e n (slot_of_window (known_of s).window))
-on_known a c e n s v same q = go s (ap (λ (b : Action). move b (lens c e n (slot_of s))) (sym same) ∙ q)
-  where
-    at_window : (w : Option Window) → move Needs_known (lens c e n (slot_of_window w)) ≡ Some v → v ≡ lens c e n (slot_of_window w)
-    at_window None q = sym (same_Some _ _ q)
-    at_window (Some w) q = sym (same_Some _ _ q)
-
-    go : (s : Option KnownFile) → move Needs_known (lens c e n (slot_of s)) ≡ Some v
-        → (first_of_checks ((not (is_some s), fault.NoFile) ∷ []) ≡ None) × (v ≡ lens c e n (slot_of_window (known_of s).window))
-    go None q = cc
-    go (Some known) q = (refl, at_window known.window q)
-
 -- in the list and not open: Hbindname and Hdelname
 on_shut : (a : Action) (next : Slot) → ((c e : Bool) (n : ℕ) → move a (lens c e n Unknown) ≡ None) → ((c e : Bool) (n : ℕ) → move a (lens c e n Known) ≡ Some (lens c e n next))
     → ((c e : Bool) (n : ℕ) (w : Window) → move a (lens c e n (Open w.rasp w.locks)) ≡ None)
     → (c e : Bool) (n : ℕ) (s : Option KnownFile) (v : Lens) → move a (lens c e n (slot_of s)) ≡ Some v
     → (first_of_checks ((not (is_some s), fault.NoFile) ∷ (is_some (known_of s).window, fault.AlreadyBound) ∷ []) ≡ None) × (v ≡ lens c e n next)
-on_shut a next unknown known opened c e n s v q = go s q
-  where
-    at_window : (w : Option Window) → move a (lens c e n (slot_of_window w)) ≡ Some v → (first_of_checks ((is_some w, fault.AlreadyBound) ∷ []) ≡ None) × (v ≡ lens c e n next)
-    at_window None q = (refl, sym (same_Some _ _ (sym (known c e n) ∙ q)))
-    at_window (Some w) q = let x : None ≡ Some v = sym (opened c e n w) ∙ q in cc
-
-    go : (s : Option KnownFile) → move a (lens c e n (slot_of s)) ≡ Some v
-        → (first_of_checks ((not (is_some s), fault.NoFile) ∷ (is_some (known_of s).window, fault.AlreadyBound) ∷ []) ≡ None) × (v ≡ lens c e n next)
-    go None q = let x : None ≡ Some v = sym (unknown c e n) ∙ q in cc
-    go (Some k) q = at_window k.window q
+on_shut a next unknown known opened c e n s v q = grind arith
 
 on_newname : (c e : Bool) (n : ℕ) (s : Option KnownFile) (v : Lens) → move Join (lens c e n (slot_of s)) ≡ Some v
     → (first_of_checks ((is_some s, fault.AlreadyBound) ∷ []) ≡ None) × (v ≡ lens c e n Known)
 on_newname c e n None v q = (refl, sym (same_Some _ _ q))
-on_newname c e n (Some k) v q = at_window k.window q
-  where
-    at_window : (w : Option Window) → move Join (lens c e n (slot_of_window w)) ≡ Some v → (first_of_checks ((true, fault.AlreadyBound) ∷ []) ≡ None) × (v ≡ lens c e n Known)
-    at_window None q = cc
-    at_window (Some w) q = cc
+on_newname c e n (Some k) v q = grind arith
 
 -- ## The whole frame, from what its file's slot says
 
@@ -195,20 +109,7 @@ Refuses f a t = (g : ℕ) → (v : Lens) × (move (only (g == f) a) (view g t) �
 -- a file that is put
 put_moves : (f : ℕ) (a : Action) (t t2 : PlainTerminal) (x : KnownFile) → t2.command_lock ≡ t.command_lock → t2.has_exited ≡ t.has_exited → t2.version ≡ t.version → t2.files ≡ put_slot t.files f x
     → move a (view f t) ≡ Some (lens t.command_lock t.has_exited t.version (slot_of_window x.window)) → (g : ℕ) → move (only (g == f) a) (view g t) ≡ Some (view g t2)
-put_moves f a t t2 x ec ee ev es here = tagged f a t t2 ec ee ev others (here ∙ same)
-  where
-    others : (g : ℕ) → f ≢ g → slot t2.files g ≡ slot t.files g
-    others g n = ap (λ (ss : Slots KnownFile). slot ss g) es ∙ slot-put_other t.files f g x n
-
-    there : slot t2.files f ≡ Some x
-    there = ap (λ (ss : Slots KnownFile). slot ss f) es ∙ slot-put_same t.files f x
-
-    same : Some (lens t.command_lock t.has_exited t.version (slot_of_window x.window)) ≡ Some (view f t2)
-    same =
-        ap (λ (s : Option KnownFile). Some (lens t.command_lock t.has_exited t.version (slot_of s))) (sym there)
-        ∙ ap (λ (b : Bool). Some (lens b t.has_exited t.version (slot_of (slot t2.files f)))) (sym ec)
-        ∙ ap (λ (b : Bool). Some (lens t2.command_lock b t.version (slot_of (slot t2.files f)))) (sym ee)
-        ∙ ap (λ (b : ℕ). Some (lens t2.command_lock t2.has_exited b (slot_of (slot t2.files f)))) (sym ev)
+put_moves f a t t2 x ec ee ev es here = grind (arith, tagged, slot-put_other, slot-put_same)
 
 -- what the slot of f says, as both halves: the tests pass, and its lens is this
 record Here (f : ℕ) (a : Action) (t : PlainTerminal) (tests : Checks TermFault) (next : Slot) : Type 0 where
@@ -218,38 +119,19 @@ record Here (f : ℕ) (a : Action) (t : PlainTerminal) (tests : Checks TermFault
 opened_here : (f : ℕ) (a : Action) (t : PlainTerminal) (tests : Window → Checks TermFault) (next : Window → Slot) → OnOpen a tests next
     → ((c e : Bool) (n : ℕ) → move a (lens c e n Unknown) ≡ None) → ((c e : Bool) (n : ℕ) → move a (lens c e n Known) ≡ None)
     → Refuses f a t → Here f a t (open_checks (slot t.files f) tests) (next (window_of (slot t.files f)))
-opened_here f a t tests next on unknown closed h =
-    let q = here_moves f a t h in
-    let x = on_slot a tests next on unknown closed t.command_lock t.has_exited t.version (slot t.files f) q.0 q.1 in
-    record { passes = x.0; moves = q.1 ∙ ap Some x.1 }
+opened_here f a t tests next on unknown closed h = grind (arith, here_moves)
 
 known_here : (f : ℕ) (t : PlainTerminal) → Refuses f Needs_known t → Here f Needs_known t ((not (is_some (slot t.files f)), fault.NoFile) ∷ []) (slot_of_window (known_of (slot t.files f)).window)
-known_here f t h =
-    let q = here_moves f Needs_known t h in
-    let x = on_known Needs_known t.command_lock t.has_exited t.version (slot t.files f) q.0 refl q.1 in
-    record { passes = x.0; moves = q.1 ∙ ap Some x.1 }
+known_here f t h = grind (arith, here_moves)
 
 removed_moves : (f : ℕ) (t : PlainTerminal) → move Leave (view f t) ≡ Some (lens t.command_lock t.has_exited t.version Unknown) → (g : ℕ)
     → move (only (g == f) Leave) (view g t) ≡ Some (view g (record t { files = free_slot t.files f }))
-removed_moves f t here = tagged f Leave t (record t { files = free_slot t.files f }) refl refl refl (λ g n. slot-free_other t.files f g n)
-    (here ∙ ap (λ (s : Option KnownFile). Some (lens t.command_lock t.has_exited t.version (slot_of s))) (sym (slot-free_same t.files f)))
+removed_moves f t here = grind (arith, slot-free_other, slot-free_same)
 
 -- Hexit
 exit_moves : (t : PlainTerminal) (g : ℕ) (v : Lens) → move Exit (view g t) ≡ Some v → move Exit (view g t) ≡ Some (view g (took_exit t))
 unfolding took_exit
-exit_moves t g v q = go t.command_lock t.has_exited t.version (slot t.files g) q ∙ ap (λ (s : Option KnownFile). Some (lens false true t.version (slot_of s))) (sym (slot-map freed_known t.files g))
-  where
-    at_window : (c e : Bool) (n : ℕ) (w : Option Window) → move Exit (lens c e n (slot_of_window w)) ≡ Some v
-        → move Exit (lens c e n (slot_of_window w)) ≡ Some (lens false true n (slot_of_window (free_window w)))
-    at_window true e n None q = refl
-    at_window true e n (Some w) q = refl
-    at_window false e n None q = cc
-    at_window false e n (Some w) q = cc
-
-    go : (c e : Bool) (n : ℕ) (s : Option KnownFile) → move Exit (lens c e n (slot_of s)) ≡ Some v → move Exit (lens c e n (slot_of s)) ≡ Some (lens false true n (slot_of (option_map freed_known s)))
-    go true e n None q = refl
-    go false e n None q = cc
-    go c e n (Some k) q = at_window c e n k.window q
+exit_moves t g v q = grind (arith, slot-map)
 
 version_moves : (v : ℕ) (t : PlainTerminal) (g : ℕ) (b : Bool)
     → move (if b then Skip else Change (common_version v)) (view g t) ≡ Some (lens t.command_lock t.has_exited (if b then t.version else common_version v) (slot_of (slot t.files g)))
@@ -257,11 +139,7 @@ version_moves v t g true = refl
 version_moves v t g false = refl
 
 unlock_moves : (t : PlainTerminal) (w : Lens) → move Free_command (view 0 t) ≡ Some w → t.command_lock ≡ true
-unlock_moves t w q = go t.command_lock q
-  where
-    go : (c : Bool) → move Free_command (lens c t.has_exited t.version (slot_of (slot t.files 0))) ≡ Some w → c ≡ true
-    go true q = refl
-    go false q = cc
+unlock_moves t w q = grind arith
 
 ack_composes : (t : PlainTerminal) (b : Bool) → (if b then (t, []) else sends t unchanged (Tack ∷ [])) ≡ sends_if (if b then None else Some Tack) t
 ack_composes t true = refl

@@ -1,5 +1,5 @@
 -- Aids to show that actions keep the invariant at one file: what guards a list of actions, and what leaves a lens as it is.
-use Rattle.std.proofs.Common.{◌≡◌, ℕ, Bool, true, false, not, ◌||◌, List, [], ◌∷◌, ◌++◌, Some, refl, sym, ap, ◌∙◌, true≢false}
+use Rattle.std.proofs.Common.{◌≡◌, ℕ, Bool, true, false, not, ◌||◌, List, [], ◌∷◌, ◌++◌, Some, refl, sym, ap, ◌∙◌, true≢false, arith}
 use Rattle.std.proofs.lemmas.List.{map-append}
 use Rattle.std.proofs.lemmas.Bool.{and_parts, or_right}
 use Rattle.sam_mesg.specs.declared.hmesg.Hmesg.{Hmesg}
@@ -26,11 +26,7 @@ guarded_before (a ∷ u) rest e g = (λ c. frees_behind u rest e, guarded_before
 
 pub no_close_behind : (u rest : List Action) → closes u ≡ false → closes rest ≡ false → closes (u ++ rest) ≡ false
 no_close_behind [] rest e f = f
-no_close_behind (a ∷ u) rest e f = go (is_close a) (closes u) (closes (u ++ rest)) e (λ q. no_close_behind u rest q f)
-  where
-    go : (p q r : Bool) → (p || q) ≡ false → (q ≡ false → r ≡ false) → (p || r) ≡ false
-    go true q r e h = absurd (true≢false e)
-    go false q r e h = h e
+no_close_behind (a ∷ u) rest e f = grind (arith, (no_close_behind u rest))
 
 pub no_close_skips : (u : List Action) → AreSkips u → closes u ≡ false
 no_close_skips [] a = refl

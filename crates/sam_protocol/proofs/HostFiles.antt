@@ -1,7 +1,7 @@
 -- The files of the host by slot, as the crossing sees them: what is there, and what becomes of all where one is put or dropped.
-use Rattle.std.proofs.Common.{◌≡◌, ℕ, ◌+◌, ◌<◌, ◌≤◌, ◌≢◌, Bool, true, false, if◌then◌else◌, ◌==◌, List, [], ◌∷◌, length, Option, Some, None, is_some, ◌⊎◌, inl, inr, refl, sym, ap, ◌∙◌, subst, true≢false, arith, eqb-true, eq-eqb, nat_le, nat_lt}
+use Rattle.std.proofs.Common.{◌≡◌, ℕ, ◌<◌, ◌≤◌, Bool, true, false, if◌then◌else◌, ◌==◌, List, [], length, Option, Some, None, is_some, ◌⊎◌, inl, inr, refl, sym, ap, ◌∙◌, subst, arith, eq-eqb, nat_lt}
 use Rattle.std.specs.Prelude.{unwrap_or}
-use Rattle.std.proofs.lemmas.Bool.{leb-true, le-ltb, lt-ltb, ltb-true, ltb-false, leb-false, cases_Bool}
+use Rattle.std.proofs.lemmas.Bool.{le-ltb}
 use Rattle.std.proofs.lemmas.List.{length-append}
 use Rattle.sam_runes.specs.Slots.{Slots, slot, put_slot, free_slot}
 use Rattle.sam_runes.proofs.SlotLaws.{put_slot-push, slot-put_same, slot-put_other, slot-free_same, slot-free_other, slot_given, slot_past, length-put_slot, length-free_slot}
@@ -21,77 +21,18 @@ pub put_same : (m : ℕ → HFile) (f : ℕ) (x : HFile) → put m f x f ≡ x
 put_same m f x = ap (λ (b : Bool). if b then x else m f) (eq-eqb f f refl)
 
 pub put_again : (m : ℕ → HFile) (f : ℕ) (y : HFile) (g : ℕ) → m f ≡ y → m g ≡ put m f y g
-put_again m f y g e = go (cases_Bool (g == f))
-  where
-    go : ((g == f) ≡ true) ⊎ ((g == f) ≡ false) → m g ≡ (if g == f then y else m g)
-    go (inl z) = ap m (eqb-true g f z) ∙ e ∙ ap (λ (b : Bool). if b then y else m g) (sym z)
-    go (inr z) = ap (λ (b : Bool). if b then y else m g) (sym z)
+put_again m f y g e = grind arith
 
 -- ## One slot put, dropped or added
 
 pub file_in-put : (ss : Slots PlainFile) (f : ℕ) (x : PlainFile) → f < length ss → (g : ℕ) → file_in (put_slot ss f x) g ≡ put (file_in ss) f (file_of x) g
-file_in-put ss f x l g = go (cases_Bool (g == f))
-  where
-    go : ((g == f) ≡ true) ⊎ ((g == f) ≡ false) → file_in (put_slot ss f x) g ≡ (if g == f then file_of x else file_in ss g)
-    go (inl e) =
-        ap (λ (k : ℕ). file_in (put_slot ss f x) k) (eqb-true _ _ e)
-        ∙ ap (file_of_slot (nat_lt f (length (put_slot ss f x)))) (slot-put_same ss f x)
-        ∙ ap (λ (b : Bool). (if b then file_of x else file_in ss g)) (sym e)
-    go (inr e) =
-        let other : f ≢ g = λ q. true≢false (sym (eq-eqb g f (sym q)) ∙ e) in
-        ap (λ (n : ℕ). file_of_slot (nat_lt g n) (slot (put_slot ss f x) g)) (length-put_slot ss f x l)
-        ∙ ap (file_of_slot (nat_lt g (length ss))) (slot-put_other ss f g x other)
-        ∙ ap (λ (b : Bool). (if b then file_of x else file_in ss g)) (sym e)
+file_in-put ss f x l g = grind (arith, slot-put_same, length-put_slot, slot-put_other)
 
 pub file_in-free : (ss : Slots PlainFile) (f : ℕ) → f < length ss → (g : ℕ) → file_in (free_slot ss f) g ≡ put (file_in ss) f Gone g
-file_in-free ss f l g = ap (λ (n : ℕ). file_of_slot (nat_lt g n) (slot (free_slot ss f) g)) (length-free_slot ss f) ∙ go (cases_Bool (g == f))
-  where
-    go : ((g == f) ≡ true) ⊎ ((g == f) ≡ false) → file_of_slot (nat_lt g (length ss)) (slot (free_slot ss f) g) ≡ (if g == f then Gone else file_in ss g)
-    go (inl e) =
-        ap (λ (k : ℕ). file_of_slot (nat_lt k (length ss)) (slot (free_slot ss f) k)) (eqb-true _ _ e)
-        ∙ ap (λ (b : Bool). file_of_slot b (slot (free_slot ss f) f)) (lt-ltb f (length ss) l)
-        ∙ ap (file_of_slot true) (slot-free_same ss f)
-        ∙ ap (λ (b : Bool). (if b then Gone else file_in ss g)) (sym e)
-    go (inr e) =
-        let other : f ≢ g = λ q. true≢false (sym (eq-eqb g f (sym q)) ∙ e) in
-        ap (file_of_slot (nat_lt g (length ss))) (slot-free_other ss f g other)
-        ∙ ap (λ (b : Bool). (if b then Gone else file_in ss g)) (sym e)
+file_in-free ss f l g = grind (arith, length-free_slot, slot-free_same, slot-free_other)
 
 pub file_in-push : (ss : Slots PlainFile) (x : PlainFile) (g : ℕ) → file_in (put_slot ss (length ss) x) g ≡ put (file_in ss) (length ss) (file_of x) g
-file_in-push ss x g = go (cases_Bool (g == length ss))
-  where
-    longer : length (put_slot ss (length ss) x) ≡ length ss + 1
-    longer = ap length (put_slot-push ss x) ∙ length-append ss (Some x ∷ [])
-
-    go : ((g == length ss) ≡ true) ⊎ ((g == length ss) ≡ false) → file_in (put_slot ss (length ss) x) g ≡ (if g == length ss then file_of x else file_in ss g)
-    go (inl e) =
-        ap (λ (k : ℕ). file_in (put_slot ss (length ss) x) k) (eqb-true _ _ e)
-        ∙ ap (file_of_slot (nat_lt (length ss) (length (put_slot ss (length ss) x)))) (slot-put_same ss (length ss) x)
-        ∙ ap (λ (b : Bool). (if b then file_of x else file_in ss g)) (sym e)
-    go (inr e) =
-        let other : length ss ≢ g = λ q. true≢false (sym (eq-eqb g (length ss) (sym q)) ∙ e) in
-        ap (λ (n : ℕ). file_of_slot (nat_lt g n) (slot (put_slot ss (length ss) x) g)) longer
-        ∙ ap (file_of_slot (nat_lt g (length ss + 1))) (slot-put_other ss (length ss) g x other)
-        ∙ ap (λ (b : Bool). file_of_slot b (slot ss g)) (same_below other (cases_Bool (nat_lt g (length ss))))
-        ∙ ap (λ (b : Bool). (if b then file_of x else file_in ss g)) (sym e)
-      where
-        same_below : (length ss ≢ g) → ((nat_lt g (length ss)) ≡ true) ⊎ ((nat_lt g (length ss)) ≡ false) → nat_lt g (length ss + 1) ≡ nat_lt g (length ss)
-        same_below other (inl q) = let y : g < length ss = ltb-true g (length ss) q in let y2 : g < length ss + 1 = omega arith in lt-ltb g (length ss + 1) y2 ∙ sym q
-        same_below other (inr q) = let y : length ss ≤ g = ltb-false g (length ss) q in let y2 : length ss + 1 ≤ g = apart y in le-ltb g (length ss + 1) y2 ∙ sym q
-          where
-            apart : length ss ≤ g → length ss + 1 ≤ g
-            apart y = above (le_cases (length ss) g y)
-              where
-                le_cases : (a b : ℕ) → a ≤ b → (a ≡ b) ⊎ (a + 1 ≤ b)
-                le_cases a b y = pick (cases_Bool (nat_le (a + 1) b))
-                  where
-                    pick : ((nat_le (a + 1) b) ≡ true) ⊎ ((nat_le (a + 1) b) ≡ false) → (a ≡ b) ⊎ (a + 1 ≤ b)
-                    pick (inl w) = inr (leb-true (a + 1) b w)
-                    pick (inr w) = let v : b < a + 1 = leb-false (a + 1) b w in let u : a ≡ b = omega arith in inl u
-
-                above : (length ss ≡ g) ⊎ (length ss + 1 ≤ g) → length ss + 1 ≤ g
-                above (inl w) = absurd (other w)
-                above (inr w) = w
+file_in-push ss x g = grind (arith, put_slot-push, length-append, slot-put_same, slot-put_other)
 
 -- a slot past the last is a file that was not given yet
 pub not_given : (ss : Slots PlainFile) (g : ℕ) → length ss ≤ g → file_in ss g ≡ Absent
@@ -156,50 +97,19 @@ pub record Opens (fs : PlainFiles) (f : ℕ) : Type 0 where
   pub shown : file_in fs.slots f ≡ Opened (file_at fs f).text
 
 pub opens_there : (fs : PlainFiles) (f : ℕ) (x : PlainFile) → slot fs.slots f ≡ Some x → x.opened ≡ true → Opens fs f
-opens_there fs f x e o =
-    let opened : (file_at fs f).opened ≡ true = ap (λ (y : PlainFile). y.opened) (at_there fs f x e) ∙ o in
-    record { given = in_slots fs f x e; there = ap is_some e; opened = opened; shown = shown_at fs f x e ∙ file_opened (file_at fs f) opened }
+opens_there fs f x e o = grind (arith, in_slots)
 
 -- and this is its text
 pub opens_at : (fs : PlainFiles) (f : ℕ) (t : List ℕ) → file_in fs.slots f ≡ Opened t → Opens fs f × ((file_at fs f).text ≡ t)
-opens_at fs f t e = go (slot fs.slots f) refl (nat_lt f (length fs.slots)) e
-  where
-    is_open : (x : PlainFile) (o a : Bool) → x.opened ≡ o → (if o then Opened x.text else if a then Named x.text else Hidden x.text) ≡ Opened t → (x.opened ≡ true) × (x.text ≡ t)
-    is_open x true a q e = (q, cc)
-    is_open x false true q e = cc
-    is_open x false false q e = cc
-
-    go : (s : Option PlainFile) → slot fs.slots f ≡ s → (b : Bool) → file_of_slot b s ≡ Opened t → Opens fs f × ((file_at fs f).text ≡ t)
-    go None q true e = cc
-    go None q false e = cc
-    go (Some x) q b e =
-        let y = is_open x x.opened x.announced refl e in
-        (opens_there fs f x q y.0, ap (λ (z : PlainFile). z.text) (at_there fs f x q) ∙ y.1)
+opens_at fs f t e = grind (arith, opens_there)
 
 -- a file that was closed: its tag was given and holds nothing
 pub gone_at : (ss : Slots PlainFile) (f : ℕ) → file_in ss f ≡ Gone → (f < length ss) × (slot ss f ≡ None)
-gone_at ss f e = go (slot ss f) refl (nat_lt f (length ss)) refl e
-  where
-    there : (o a : Bool) (t : List ℕ) → (if o then Opened t else if a then Named t else Hidden t) ≡ Gone → ⊥
-    there true a t e = cc
-    there false true t e = cc
-    there false false t e = cc
-
-    go : (s : Option PlainFile) → slot ss f ≡ s → (b : Bool) → nat_lt f (length ss) ≡ b → file_of_slot b s ≡ Gone → (f < length ss) × (slot ss f ≡ None)
-    go None q true w e = (ltb-true f (length ss) w, q)
-    go None q false w e = cc
-    go (Some x) q b w e = absurd (there x.opened x.announced x.text e)
+gone_at ss f e = grind arith
 
 -- the work file is open
 pub work_opens : (fs : PlainFiles) (f : ℕ) → IsOpened (file_in fs.slots f) → Opens fs f
-work_opens fs f o = go (file_in fs.slots f) refl o
-  where
-    go : (y : HFile) → file_in fs.slots f ≡ y → IsOpened y → Opens fs f
-    go Absent e o = absurd o
-    go (Hidden t) e o = absurd o
-    go (Named t) e o = absurd o
-    go (Opened t) e o = (opens_at fs f t e).0
-    go Gone e o = absurd o
+work_opens fs f o = grind (arith, opens_at)
 
 -- an open file is put in its place
 pub put_opened : (fs : PlainFiles) (f : ℕ) → f < length fs.slots → (x : PlainFile) → x.opened ≡ true → (g : ℕ) → file_in (put_slot fs.slots f x) g ≡ put (file_in fs.slots) f (Opened x.text) g
@@ -221,25 +131,7 @@ lasts_then a b c x y = record { gone = λ g e. y.gone g (x.gone g e); opened = �
 
 -- one file is another, which is open or what it was before
 pub lasts_put : (a b : ℕ → HFile) (f : ℕ) (x : HFile) → (a f ≡ Gone → ⊥) → (IsOpened (a f) → IsOpened x) → (f ≡ 0 → IsCommandFile (a 0) → IsCommandFile x) → ((g : ℕ) → b g ≡ put a f x g) → Lasts a b
-lasts_put a b f x there opened commands is =
-    record {
-      gone = λ g e. is g ∙ gone g e (cases_Bool (g == f));
-      opened = λ g o. subst IsOpened (sym (is g)) (open_one g o (cases_Bool (g == f)));
-      commands = λ c. subst IsCommandFile
-          (sym (is 0)) (command c (cases_Bool (0 == f)));
-    }
-  where
-    gone : (g : ℕ) → a g ≡ Gone → ((g == f) ≡ true) ⊎ ((g == f) ≡ false) → put a f x g ≡ Gone
-    gone g e (inl q) = absurd (there (sym (ap a (eqb-true g f q)) ∙ e))
-    gone g e (inr q) = put_other a f x g q ∙ e
-
-    open_one : (g : ℕ) → IsOpened (a g) → ((g == f) ≡ true) ⊎ ((g == f) ≡ false) → IsOpened (put a f x g)
-    open_one g o (inl q) = subst (λ (b : Bool). IsOpened (if b then x else a g)) (sym q) (opened (subst (λ (k : ℕ). IsOpened (a k)) (eqb-true g f q) o))
-    open_one g o (inr q) = subst IsOpened (sym (put_other a f x g q)) o
-
-    command : IsCommandFile (a 0) → ((0 == f) ≡ true) ⊎ ((0 == f) ≡ false) → IsCommandFile (put a f x 0)
-    command c (inl q) = subst (λ (b : Bool). IsCommandFile (if b then x else a 0)) (sym q) (commands (sym (eqb-true 0 f q)) c)
-    command c (inr q) = subst IsCommandFile (sym (put_other a f x 0 q)) c
+lasts_put a b f x there opened commands is = grind arith
 
 -- an open file has another text
 pub lasts_opened : (a b : ℕ → HFile) (f : ℕ) (t t2 : List ℕ) → a f ≡ Opened t → ((g : ℕ) → b g ≡ put a f (Opened t2) g) → Lasts a b
@@ -251,8 +143,4 @@ still_has fs gs k w l = record { works = λ f e. (l.opened f (k.works f (sym w �
 
 -- and a work file that is open
 pub works_on : (fs gs : PlainFiles) (f : ℕ) → HasFiles fs → gs.work ≡ Some f → (f == 0) ≡ false → IsOpened (file_in gs.slots f) → Lasts (file_in fs.slots) (file_in gs.slots) → HasFiles gs
-works_on fs gs f k w z o l =
-    record { works = λ g e. (λ (q : f ≡ g). subst (λ (x : ℕ). IsOpened (file_in gs.slots x) × ((x == 0) ≡ false)) q (o, z)) (the (sym w ∙ e)); commands = l.commands k.commands }
-  where
-    the : {x y : ℕ} → Some x ≡ Some y → x ≡ y
-    the e = cc
+works_on fs gs f k w z o l = grind arith

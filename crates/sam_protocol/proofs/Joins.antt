@@ -1,11 +1,10 @@
 -- Runes typed in two messages do what they do in one.
-use Rattle.std.proofs.Common.{◌≡◌, ℕ, ◌+◌, ◌-◌, ◌≤◌, Bool, true, false, ◌&&◌, ◌==◌, if◌then◌else◌, List, [], ◌∷◌, ◌++◌, length, Option, Some, None, nat_lt, refl, sym, ap, ◌∙◌, subst, arith, append_assoc, append-nil, length-append, ◌⊎◌, inl, inr}
+use Rattle.std.proofs.Common.{◌≡◌, ℕ, ◌+◌, ◌-◌, ◌≤◌, Bool, true, false, ◌&&◌, ◌==◌, if◌then◌else◌, List, [], ◌∷◌, ◌++◌, length, Option, Some, None, refl, sym, ap, ◌∙◌, subst, arith, append_assoc, append-nil, length-append, ◌⊎◌, inl, inr}
 use Rattle.std.specs.Prelude.{unwrap_or}
-use Rattle.std.proofs.lemmas.Bool.{ltb-false, le-ltb, cases_Bool}
+use Rattle.std.proofs.lemmas.Bool.{cases_Bool}
 use Rattle.std.proofs.lemmas.Option.{same_Some}
 use Rattle.sam_runes.specs.Texts.{max_runes, ins, ends_line, part, line_start}
 use Rattle.sam_runes.specs.Checks.{first_of_checks}
-use Rattle.sam_runes.proofs.CheckLaws.{none_holds}
 use Rattle.sam_runes.proofs.SlotLaws.{slot-put_same, put_slot-put_slot}
 use Rattle.sam_runes.proofs.EditLaws.{length-ins}
 use Rattle.sam_runes.proofs.PlaceLaws.{ends_line-append}
@@ -14,15 +13,12 @@ use Rattle.sam_text.proofs.TypeLaws.{typed_joined}
 use Rattle.sam_mesg.specs.declared.tmesg.Tmesg.{Tmesg}
 use Rattle.sam_mesg.specs.declared.tmesg.Tmesg.TheVariants.{Ttype}
 use Rattle.sam_mesg.specs.declared.hmesg.Hmesg.{Hmesg}
-use Rattle.sam_host.specs.Host.{PlainHost, Reply, counted, with_file, unknown, not_opened, past_end, no_room, host_checks, reply_to, reply_line, reply_type}
-use Rattle.sam_host.specs.declared.fault.HostFault.{HostFault}
-use Rattle.sam_host.specs.declared.fault.HostFault.TheVariants.{NoFile, NotOpen, BadPosition, TooLong}
+use Rattle.sam_host.specs.Host.{PlainHost, Reply, counted, with_file, unknown, not_opened, host_checks, reply_to, reply_line, reply_type}
 use Rattle.sam_protocol.specs.Lens.{Lens, Settles}
 use Rattle.sam_protocol.specs.Frames.{at_file, VersionsGuarded}
 use Rattle.sam_protocol.specs.View.{file_in}
 use Rattle.sam_protocol.specs.Steady.{IsSteady}
 use Rattle.sam_protocol.specs.Fold.{replied, reply_of, behind, replied_then, answers, AllSettle}
-use Rattle.sam_protocol.proofs.Tests.{test, last_test}
 use Rattle.sam_protocol.proofs.Folds.{Answered, plain_reply, answered, answers-append}
 
 -- the two are alike but for their counts
@@ -48,30 +44,14 @@ alike_after : (ends : Bool) (k j : PlainHost) (f end : ℕ) → AreAlike k j
     → AreAlike (after_typing ends k f end).0 (after_typing ends j f end).0 × ((after_typing ends k f end).1 ≡ (after_typing ends j f end).1)
 unfolding after_typing
 alike_after false k j f end a = (a, refl)
-alike_after true k j f end a = (
-  record { files = ap (λ (fs : PlainFiles). (line fs).0.files) a.files; done = ap (λ (fs : PlainFiles). (line fs).0.is_done) a.files; version = a.version },
-  ap
-      (λ (fs : PlainFiles). (line fs).1) a.files,
-)
-  where
-    line : PlainFiles → Reply
-    line fs = let t = (file_at fs f).text in reply_line (record k { files = fs }) [] (part t (line_start t end) end)
+alike_after true k j f end a = grind arith
 
 at_put : (fs : PlainFiles) (f : ℕ) (x : PlainFile) → file_at (put_file fs f x) f ≡ x
 at_put fs f x = ap (λ (o : Option PlainFile). unwrap_or o blank_file) (slot-put_same fs.slots f x)
 
 typed_twice : (h : PlainHost) (f p : ℕ) (s w : List ℕ) → p ≤ length (file_at h.files f).text → AreAlike (typed_host (counted (typed_host h f p s)) f (p + length s) w) (typed_host h f p (s ++ w))
 unfolding typed_host
-typed_twice h f p s w l =
-    let x = typed_file f (file_at h.files f) p s in
-    let fs = put_file h.files f x in
-    let same : typed_file f (file_at fs f) (p + length s) w ≡ typed_file f (file_at h.files f) p (s ++ w) =
-    ap (λ (y : PlainFile). typed_file f y (p + length s) w) (at_put h.files f x) ∙ typed_joined f (file_at h.files f) p s w l in
-    record {
-      files = ap (λ (y : PlainFile). put_file fs f y) same ∙ ap (λ ss. record h.files { slots = ss }) (put_slot-put_slot h.files.slots f x (typed_file f (file_at h.files f) p (s ++ w)));
-      done = refl;
-      version = refl;
-    }
+typed_twice h f p s w l = grind (arith, at_put, typed_joined, put_slot-put_slot)
 
 -- ## What stands against a typing
 
@@ -81,21 +61,8 @@ record CanType (h : PlainHost) (f p : ℕ) (s : List ℕ) : Type 0 where
   place : p ≤ length (file_at h.files f).text
   room : length (file_at h.files f).text + length s ≤ max_runes
 
-can_type : (h : PlainHost) (f p : ℕ) (s : List ℕ) → first_of_checks (host_checks h (Ttype f p s)) ≡ None → CanType h f p s
-can_type h f p s e =
-    let a = none_holds (unknown h f) (not_opened h f ∷ past_end h f p ∷ no_room h f s ∷ []) e in
-    let b = none_holds (not_opened h f) (past_end h f p ∷ no_room h f s ∷ []) a.1 in
-    let c = none_holds (past_end h f p) (no_room h f s ∷ []) b.1 in
-    let d = none_holds (no_room h f s) [] c.1 in
-    record { there = a.0; opened = b.0; place = ltb-false _ p c.0; room = ltb-false max_runes _ d.0 }
-
 may_type : (h : PlainHost) (f p : ℕ) (s : List ℕ) → CanType h f p s → first_of_checks (host_checks h (Ttype f p s)) ≡ None
-may_type h f p s c =
-    let t = (file_at h.files f).text in
-    test (unknown h f).0 NoFile (not_opened h f ∷ past_end h f p ∷ no_room h f s ∷ []) c.there
-    (test (not_opened h f).0 NotOpen (past_end h f p ∷ no_room h f s ∷ []) c.opened
-    (test (nat_lt (length t) p) BadPosition (no_room h f s ∷ []) (le-ltb (length t) p c.place)
-    (last_test (nat_lt max_runes (length t + length s)) TooLong (le-ltb max_runes (length t + length s) c.room))))
+may_type h f p s c = grind arith
 
 -- the reply that was given, by a host that is not done
 record WasTyped (h : PlainHost) (f p : ℕ) (s : List ℕ) (r : Reply) : Type 0 where
@@ -103,13 +70,7 @@ record WasTyped (h : PlainHost) (f p : ℕ) (s : List ℕ) (r : Reply) : Type 0 
   is : r ≡ (counted (reply_to h (Ttype f p s)).0, (reply_to h (Ttype f p s)).1)
 
 was_typed : (h : PlainHost) (f p : ℕ) (s : List ℕ) (r : Reply) → h.is_done ≡ false → reply_of h (Ttype f p s) ≡ Some r → WasTyped h f p s r
-was_typed h f p s r d e =
-    go (first_of_checks (host_checks h (Ttype f p s))) refl
-    (ap (λ (b : Bool). if b then Some (counted h, []) else replied (first_of_checks (host_checks h (Ttype f p s))) (reply_to h (Ttype f p s))) (sym d) ∙ e)
-  where
-    go : (o : Option HostFault) → first_of_checks (host_checks h (Ttype f p s)) ≡ o → replied o (reply_to h (Ttype f p s)) ≡ Some r → WasTyped h f p s r
-    go None q e = record { can = can_type h f p s q; is = sym (same_Some _ _ e) }
-    go (Some w) q e = cc
+was_typed h f p s r d e = grind arith
 
 -- ## Two typings, and the same at once
 

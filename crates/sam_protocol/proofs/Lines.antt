@@ -1,9 +1,9 @@
 -- The two messages that run a command line, and what a line does: from settled to settled.
-use Rattle.std.proofs.Common.{◌≡◌, ℕ, ◌+◌, ◌-◌, Bool, true, false, not, ◌||◌, ◌&&◌, ◌==◌, if◌then◌else◌, List, [], ◌∷◌, ◌++◌, length, map, reverse, Option, Some, None, Result, Ok, Err, unwrap_or, ◌⊎◌, inl, inr, refl, sym, ap, ◌∙◌, subst, true≢false, eqb-true, eq-eqb}
+use Rattle.std.proofs.Common.{◌≡◌, ℕ, ◌+◌, ◌-◌, Bool, true, false, not, ◌||◌, ◌&&◌, ◌==◌, if◌then◌else◌, List, [], ◌∷◌, ◌++◌, length, map, reverse, Option, Some, None, Result, Ok, Err, unwrap_or, ◌⊎◌, inl, inr, refl, sym, ap, ◌∙◌, subst, eqb-true, arith}
 use Rattle.std.specs.Prelude.{option_map, option_and_then, flat_map}
-use Rattle.std.proofs.lemmas.Bool.{cases_Bool, and_parts}
-use Rattle.sam_runes.specs.Texts.{Range, ins, is_empty, part, line_start, ends_line, as_lines, last_line}
-use Rattle.sam_runes.specs.Slots.{slot, put_slot}
+use Rattle.std.proofs.lemmas.Bool.{cases_Bool}
+use Rattle.sam_runes.specs.Texts.{Range, ins, is_empty, part, line_start, as_lines, last_line}
+use Rattle.sam_runes.specs.Slots.{slot}
 use Rattle.sam_runes.proofs.EditLaws.{last_first_is_at_once, edits_fit}
 use Rattle.sam_runes.proofs.SlotLaws.{slot-put_same, slot-put_other}
 use Rattle.sam_rasp.specs.Rasp.{ins_cells}
@@ -139,11 +139,7 @@ abbrev pub Holds : PlainFiles → Type 0
 Holds fs = (x : PlainFile) × (slot fs.slots 0 ≡ Some x)
 
 holds_put : (fs : PlainFiles) (f : ℕ) (x : PlainFile) → Holds fs → Holds (put_file fs f x)
-holds_put fs f x h = go (cases_Bool (f == 0))
-  where
-    go : ((f == 0) ≡ true) ⊎ ((f == 0) ≡ false) → (y : PlainFile) × (slot (put_slot fs.slots f x) 0 ≡ Some y)
-    go (inl e) = (x, subst (λ (k : ℕ). slot (put_slot fs.slots f x) k ≡ Some x) (eqb-true f 0 e) (slot-put_same fs.slots f x))
-    go (inr e) = (h.0, slot-put_other fs.slots f 0 x (λ q. true≢false (sym (eq-eqb f 0 q) ∙ e)) ∙ h.1)
+holds_put fs f x h = grind (arith, (slot-put_same fs.slots f x), (slot-put_other fs.slots f 0 x))
 
 holds_committed : (fs : PlainFiles) (o : PlainOutcome) → Holds fs → Holds (committed fs o)
 holds_committed fs o h = go o.file
@@ -205,15 +201,7 @@ line_lasts k before line sound fit holds =
     (printed_carries false 1 fs o.printed there.0 there.1).lasts
 
 line_sound : (k : PlainHost) (before : List Hmesg) (line : List ℕ) → HasFiles k.files → AreFit k.files → Holds k.files → HasFiles (reply_line k before line).0.files
-line_sound k before line sound fit holds =
-    still_has k.files (reply_line k before line).0.files sound (printed_work (committed k.files o) o.printed ∙ work o.file) (line_lasts k before line sound fit holds)
-  where
-    o : PlainOutcome
-    o = meaning k.files line
-
-    work : (w : Option ℕ) → (put_outcome w k.files o).work ≡ k.files.work
-    work None = refl
-    work (Some f) = refl
+line_sound k before line sound fit holds = grind (arith, (line_lasts k before line sound fit holds))
 
 -- ## The messages
 
@@ -292,14 +280,7 @@ sync_line h r p s o ends = record {
         (line_each a typed_host [] text has fit holds2 (carries_nothing h.is_done h.version a a (λ k. refl)) r.running g u.0 u.2)
 
 pub sync_type : (h : PlainHost) → Ready h → (f p : ℕ) (s : List ℕ) → Accepted h (Ttype f p s) → Synced h (Ttype f p s)
-sync_type h r f p s a = go (cases_Bool (is_command_line f s))
-  where
-    Line : ℕ → Type 0
-    Line g = Accepted h (Ttype g p s) → is_command_line g s ≡ true → Synced h (Ttype g p s)
-
-    go : (is_command_line f s ≡ true) ⊎ (is_command_line f s ≡ false) → Synced h (Ttype f p s)
-    go (inl e) = subst Line (sym (eqb-true f 0 (and_parts (f == 0) (ends_line s) e).0)) (sync_line h r p s) a e
-    go (inr e) = sync_short h f p s r.steady.sound a.0 a.1 a.2 e
+sync_type h r f p s a = grind (arith, (eqb-true f 0), (sync_line h r p s), (sync_short h f p s r.steady.sound a.0 a.1 a.2))
 
 -- what is sent is printed as lines, and its last line is run
 pub sync_send : (h : PlainHost) → Ready h → (f p q : ℕ) → Accepted h (Tsend f p q) → Synced h (Tsend f p q)

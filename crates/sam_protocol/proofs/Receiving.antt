@@ -1,23 +1,19 @@
 -- The terminal takes each frame that comes, and both sides stay in order.
-use Rattle.std.proofs.Common.{◌≡◌, ◌≢◌, ℕ, ◌+◌, ◌-◌, ◌≤◌, Bool, true, false, ◌==◌, if◌then◌else◌, nat_lt, nat_eq, List, [], ◌∷◌, ◌++◌, length, map, take, drop, replicate, Option, Some, None, ◌⊎◌, inl, inr, refl, sym, ap, ◌∙◌, subst, true≢false, arith, length-append, length-drop, length-take-le}
-use Rattle.std.specs.Prelude.{unwrap_or, option_map}
+use Rattle.std.proofs.Common.{◌≡◌, ℕ, ◌+◌, ◌-◌, ◌≤◌, Bool, true, false, ◌==◌, if◌then◌else◌, List, [], ◌∷◌, ◌++◌, length, map, replicate, Option, Some, None, refl, sym, ap, ◌∙◌, subst, true≢false, arith, length-append, length-drop, length-take-le, rules}
+use Rattle.std.specs.Prelude.{unwrap_or}
 use Rattle.std.proofs.lemmas.List.{length-map}
 use Rattle.std.proofs.lemmas.Bool.{ltb-false}
-use Rattle.std.proofs.lemmas.Bool.Decides.{eqb_tells}
 use Rattle.sam_runes.specs.Slots.{slot, free_slot, map_slots}
 use Rattle.sam_runes.specs.Checks.{Checks, first_of_checks}
 use Rattle.sam_runes.proofs.SlotLaws.{slot-free_same, slot-free_other, slot-map}
 use Rattle.sam_runes.proofs.CheckLaws.{none_holds}
 use Rattle.sam_rasp.specs.Rasp.{PartialText, load_cells, place_after_ins, place_after_del}
 use Rattle.sam_mesg.specs.declared.tmesg.Tmesg.{Tmesg}
-use Rattle.sam_mesg.specs.declared.tmesg.Tmesg.TheVariants.{Tack}
 use Rattle.sam_mesg.specs.declared.hmesg.Hmesg.{Hmesg}
 use Rattle.sam_mesg.specs.declared.hmesg.Hmesg.TheVariants.{Hversion, Hbindname, Hcurrent, Hnewname, Hmovname, Hgrow, Hcheck, Hunlock, Hdata, Horigin, Hunlockfile, Hsetdot, Hgrowdata, Hmoveto, Hclean, Hdirty, Hcut, Hsetpat, Hdelname, Hclose, Hsetsnarf, Hsnarflen, Hack, Hexit}
 use Rattle.sam_host.specs.Host.{PlainHost}
-use Rattle.sam_term.specs.Term.{PlainTerminal, known_at, window_at, unsent_message, moved_unsent, unsent_without, window_after_ins, window_after_del, free_window, freed_known, unchanged, sends, unknown_file, not_opened, past_end, no_room, frame_checks, frame_outcome, took_bindname, took_data, took_grow, took_growdata, took_cut, took_unlockfile, took_close, took_exit}
+use Rattle.sam_term.specs.Term.{PlainTerminal, known_at, window_at, unsent_message, moved_unsent, unsent_without, freed_known, unknown_file, not_opened, past_end, frame_checks, frame_outcome, took_bindname, took_data, took_grow, took_growdata, took_cut, took_unlockfile, took_close, took_exit}
 use Rattle.sam_term.specs.Windows.{blank_known, blank_window}
-use Rattle.sam_term.specs.declared.records.Window.{Window}
-use Rattle.sam_term.specs.declared.records.KnownFile.{KnownFile}
 use Rattle.sam_term.specs.declared.records.Unsent.{Unsent}
 use Rattle.sam_term.specs.declared.fault.TermFault.{TermFault}
 use Rattle.sam_term.specs.declared.fault.TermFault.TheVariants as fault
@@ -28,8 +24,7 @@ use Rattle.sam_protocol.specs.Frames.{action, only, at_file}
 use Rattle.sam_protocol.specs.View.{view, effect, Moves, file_in}
 use Rattle.sam_protocol.specs.Fold.{AllSettle}
 use Rattle.sam_protocol.specs.Order.{IsTidyWindow, AreTidy, IsHeldBack, views, InOrder}
-use Rattle.sam_protocol.proofs.Runs.{free_or_refused, first_is_quiet, idle}
-use Rattle.sam_protocol.proofs.AllSettle.{alike_same}
+use Rattle.sam_protocol.proofs.Runs.{first_is_quiet}
 use Rattle.sam_protocol.proofs.Folds.{frame_moves, term_takes}
 use Rattle.sam_protocol.proofs.FrameMoves.{take_law}
 use Rattle.sam_protocol.proofs.Views.{tidy-put, tidy-window}
@@ -50,10 +45,7 @@ quiet_frame a s v d n file k o = first_is_quiet a s v k.final (free_of v o) k.gu
 
 -- and leaves it
 left_open : (a : Action) (s : List Action) (v v2 : Lens) (d : Bool) (n : ℕ) (file : HFile) → Settles (a ∷ s) v d n file → OpenAt Anything v → move a v ≡ Some v2 → OpenAt Anything v2
-left_open a s v v2 d n file k o m =
-    let f = free_or_refused a v v2 (free_of v o) m in
-    let i = idle a v v2 v f.0 (quiet_frame a s v d n file k o) (alike_same v) m in
-    subst (OpenAt Anything) (sym i.0) o
+left_open a s v v2 d n file k o m = grind (arith, (quiet_frame a s v d n file k o))
 
 elsewhere : (b : Bool) (a : Action) → is_crossing a ≡ true → is_crossing (only b a) ≡ false → b ≡ false
 elsewhere true a c e = absurd (true≢false (sym c ∙ e))
@@ -68,10 +60,8 @@ kept_other f u e = ap (λ (b : Bool). if b then None else Some u) e
 
 unsent_stays : (t : PlainTerminal) (m : Hmesg) (u : Unsent) → t.unsent ≡ Some u → is_crossing (action u.file m) ≡ false → (effect t m).unsent ≡ Some u
 unfolding took_bindname took_data took_grow took_growdata took_cut took_unlockfile took_close took_exit
-unsent_stays t (Hgrow f p n) u e q =
-    ap (moved_unsent f (place_after_ins p (length (replicate n None)))) e ∙ moved_other f (place_after_ins p (length (replicate n None))) u (elsewhere (u.file == f) (lenses.Grow p n) refl q)
-unsent_stays t (Hgrowdata f p s) u e q =
-    ap (moved_unsent f (place_after_ins p (length (map Some s)))) e ∙ moved_other f (place_after_ins p (length (map Some s))) u (elsewhere (u.file == f) (lenses.Insert p s) refl q)
+unsent_stays t (Hgrow f p n) u e q = grind arith
+unsent_stays t (Hgrowdata f p s) u e q = grind arith
 unsent_stays t (Hcut f p n) u e q = ap (moved_unsent f (place_after_del p (p + n))) e ∙ moved_other f (place_after_del p (p + n)) u (elsewhere (u.file == f) (lenses.Cut p n) refl q)
 unsent_stays t (Hclose f) u e q = ap (unsent_without f) e ∙ kept_other f u (elsewhere (u.file == f) lenses.Close refl q)
 unsent_stays t _ u e q = e
@@ -97,74 +87,29 @@ place_of : (t : PlainTerminal) (f p : ℕ) (rest : Checks TermFault) → first_o
 place_of t f p rest e = ltb-false _ p (none_holds (past_end t f p) rest e).0
 
 length-load : (r : PartialText) (p : ℕ) (s : List ℕ) → p + length s ≤ length r → length (load_cells r p s) ≡ length r
-length-load r p s l =
-    let lp : p ≤ length r = omega arith in
-    let n : length (map (λ (c : ℕ). Some c) s) ≡ length s = length-map s (λ (c : ℕ). Some c) in
-    omega (
-      arith,
-      n,
-      l,
-      length-append (take p r ++ map (λ (c : ℕ). Some c) s) (drop (p + length s) r),
-      length-append (take p r) (map (λ (c : ℕ). Some c) s),
-      length-take-le p r lp,
-      length-drop
-          (p + length s) r,
-    )
+length-load r p s l = grind (arith, length-map, length-append, length-take-le, length-drop)
 
 tidy-free : (t : PlainTerminal) (f : ℕ) → AreTidy t → AreTidy (record t { files = free_slot t.files f })
-tidy-free t f all g = go (eqb_tells f g)
-  where
-    P : Option KnownFile → Type 0
-    P s = IsTidyWindow (unwrap_or (unwrap_or s blank_known).window blank_window)
-
-    go : ((nat_eq f g ≡ true) × (f ≡ g)) ⊎ ((nat_eq f g ≡ false) × (f ≢ g)) → P (slot (free_slot t.files f) g)
-    go (inl (e, same)) = subst (λ (k : ℕ). P (slot (free_slot t.files f) k)) same (subst P (sym (slot-free_same t.files f)) blank_tidy)
-    go (inr (e, other)) = subst P (sym (slot-free_other t.files f g other)) (all g)
+tidy-free t f all g = grind (arith, slot-free_same, slot-free_other)
 
 tidy-freed : (t : PlainTerminal) → AreTidy t → (g : ℕ) → IsTidyWindow (unwrap_or (unwrap_or (slot (map_slots freed_known t.files) g) blank_known).window blank_window)
-tidy-freed t all g = subst P (sym (slot-map freed_known t.files g)) (go (slot t.files g) (all g))
-  where
-    P : Option KnownFile → Type 0
-    P s = IsTidyWindow (unwrap_or (unwrap_or s blank_known).window blank_window)
-
-    at_window : (w : Option Window) → IsTidyWindow (unwrap_or w blank_window) → IsTidyWindow (unwrap_or (free_window w) blank_window)
-    at_window None i = i
-    at_window (Some w) i = i
-
-    go : (s : Option KnownFile) → P s → P (option_map freed_known s)
-    go None i = i
-    go (Some k) i = at_window k.window i
+tidy-freed t all g = grind (arith, slot-map)
 
 tidy_effect : (t : PlainTerminal) (m : Hmesg) → first_of_checks (frame_checks t m) ≡ None → AreTidy t → AreTidy (effect t m)
 unfolding took_bindname took_data took_grow took_growdata took_cut took_unlockfile took_close took_exit
 tidy_effect t (Hbindname f) e all = tidy-window t f blank_window all blank_tidy
 tidy_effect t (Hnewname f) e all = tidy-put t f blank_known all blank_tidy
 tidy_effect t (Hmovname f s) e all = tidy-put t f (record (known_at t f) { name = s }) all (all f)
-tidy_effect t (Hgrow f p n) e all =
-    tidy-window t f (window_after_ins (window_at t f) p (replicate n None)) all
-    (tidy-ins (window_at t f) p (replicate n None) (all f) (place_of t f p (no_room t f n ∷ []) (behind_open t f (past_end t f p ∷ no_room t f n ∷ []) e)))
-tidy_effect t (Hdata f p s) e all =
-    let w : Window = window_at t f in
-    let long : length (load_cells w.rasp p s) ≡ length w.rasp = length-load w.rasp p s (place_of t f (p + length s) [] (behind_open t f (past_end t f (p + length s) ∷ []) e)) in
-    tidy-window t f (record w { rasp = load_cells w.rasp p s; awaits = false }) all ((all f).0, omega (arith, (all f).1, long), omega (arith, (all f).2, long))
-tidy_effect t (Horigin f p) e all =
-    let l = place_of t f p [] (behind_open t f (past_end t f p ∷ []) e) in
-    tidy-window t f (record (window_at t f) { view_start = p }) all ((all f).0, (all f).1, l)
+tidy_effect t (Hgrow f p n) e all = search (arith, tidy-window, tidy-ins, place_of, behind_open)
+tidy_effect t (Hdata f p s) e all = grind (arith, length-load, tidy-window)
+tidy_effect t (Horigin f p) e all = grind (arith, tidy-window)
 tidy_effect t (Hunlockfile f) e all = tidy-window t f (record (window_at t f) { locks = (window_at t f).locks - 1 }) all (all f)
-tidy_effect t (Hsetdot f p q) e all =
-    let a = none_holds (nat_lt q p, fault.BadPosition) (past_end t f q ∷ []) (behind_open t f ((nat_lt q p, fault.BadPosition) ∷ past_end t f q ∷ []) e) in
-    tidy-window t f (record (window_at t f) { dot = (p, q) }) all (ltb-false q p a.0, place_of t f q [] a.1, (all f).2)
-tidy_effect t (Hgrowdata f p s) e all =
-    tidy-window t f (window_after_ins (window_at t f) p (map Some s)) all
-    (tidy-ins (window_at t f) p (map Some s) (all f) (place_of t f p (no_room t f (length s) ∷ []) (behind_open t f (past_end t f p ∷ no_room t f (length s) ∷ []) e)))
-tidy_effect t (Hmoveto f p) e all =
-    let l = place_of t f p [] (behind_open t f (past_end t f p ∷ []) e) in
-    tidy-window t f (record (window_at t f) { view_start = p }) all ((all f).0, (all f).1, l)
+tidy_effect t (Hsetdot f p q) e all = grind (arith, tidy-window)
+tidy_effect t (Hgrowdata f p s) e all = search (arith, tidy-window, tidy-ins, place_of, behind_open)
+tidy_effect t (Hmoveto f p) e all = grind (arith, tidy-window)
 tidy_effect t (Hclean f) e all = tidy-put t f (record (known_at t f) { dirty = false; changed = false }) all (all f)
 tidy_effect t (Hdirty f) e all = tidy-put t f (record (known_at t f) { dirty = true }) all (all f)
-tidy_effect t (Hcut f p n) e all =
-    let l = place_of t f (p + n) [] (behind_open t f (past_end t f (p + n) ∷ []) e) in
-    tidy-window t f (window_after_del (window_at t f) p (p + n)) all (tidy-del (window_at t f) p (p + n) (all f) (omega arith) l)
+tidy_effect t (Hcut f p n) e all = search (rules, tidy-window, tidy-del)
 tidy_effect t (Hdelname f) e all = tidy-free t f all
 tidy_effect t (Hclose f) e all = tidy-put t f (record (known_at t f) { window = None }) all blank_tidy
 tidy_effect t Hexit e all = tidy-freed t all
@@ -231,14 +176,8 @@ made_goes h t up (Hdelname f) down o = nothing_goes h (effect t (Hdelname f)) up
 made_goes h t up (Hclose f) down o = nothing_goes h (effect t (Hclose f)) up down o
 made_goes h t up (Hsetsnarf s) down o = nothing_goes h (effect t (Hsetsnarf s)) up down o
 made_goes h t up (Hsnarflen n) down o = nothing_goes h (effect t (Hsnarflen n)) up down o
-made_goes h t up Hack down o = go t.has_exited
-  where
-    go : (b : Bool) → Goes h up down (if b then (t, []) else sends t unchanged (Tack ∷ []))
-    go true = nothing_goes h t up down o
-    go false = acknowledged_goes h t up down o
+made_goes h t up Hack down o = grind (arith, (nothing_goes h t up down o), (acknowledged_goes h t up down o))
 made_goes h t up Hexit down o = nothing_goes h (effect t Hexit) up down o
 
 pub received : (h : PlainHost) (t : PlainTerminal) (up : List Tmesg) (m : Hmesg) (down : List Hmesg) → InOrder h t up (m ∷ down) → Received h t up m down
-received h t up m down o =
-    let v : Moves t m = take_law t m (frame_moves h (views t) (up ++ unsent_message t.unsent) m down o.kept) in
-    record { passes = v.passes; goes = made_goes h t up m down (effect_order h t up m down o v) }
+received h t up m down o = grind (arith, (take_law t m (frame_moves h (views t) (up ++ unsent_message t.unsent) m down o.kept)), (made_goes h t up m down), (effect_order h t up m down o))

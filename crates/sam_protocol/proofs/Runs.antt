@@ -1,8 +1,8 @@
 -- Runs of actions at one file.
-use Rattle.std.proofs.Common.{◌≡◌, ℕ, zero, suc, Bool, true, false, ◌||◌, List, [], ◌∷◌, ◌++◌, Option, Some, None, ◌⊎◌, inl, inr, refl, sym, ap, ◌∙◌, subst, true≢false, if◌then◌else◌}
-use Rattle.std.proofs.lemmas.Bool.{or_from, or_parts, false_from_ne_true}
-use Rattle.sam_protocol.specs.Lens.{Slot, Unknown, Known, Open, Lens, lens, Action, Skip, Needs_known, Needs_open, Join, Bind, Close, Leave, Grow, Fill, Insert, Cut, Place, Change, Free_file, Free_command, Exit, move, run, and_then, is_crossing, is_freeing, frees, IsGuarded, is_close, closes}
-use Rattle.sam_protocol.proofs.Lenses.{IsFree, IsOpen, IsAlike, locked_more, exited_of, command_of, version_of, is_change, changes, is_free_command, frees_command, is_exit, exits}
+use Rattle.std.proofs.Common.{◌≡◌, zero, suc, Bool, true, false, ◌||◌, List, [], ◌∷◌, ◌++◌, Option, Some, None, ◌⊎◌, inl, inr, refl, sym, ap, ◌∙◌, subst, true≢false, if◌then◌else◌, arith}
+use Rattle.std.proofs.lemmas.Bool.{or_parts}
+use Rattle.sam_protocol.specs.Lens.{Unknown, Known, Open, Lens, lens, Action, Skip, Needs_known, Needs_open, Join, Bind, Close, Leave, Grow, Fill, Insert, Cut, Place, Change, Free_file, Free_command, Exit, move, run, and_then, is_crossing, is_freeing, frees, IsGuarded, is_close, closes}
+use Rattle.sam_protocol.proofs.Lenses.{IsFree, IsOpen, IsAlike, locked_more, exited_of, command_of, version_of, is_change, changes, frees_command, is_exit, exits}
 
 and_then-and_then : (m : Option Lens) (f g h : Lens → Option Lens) → ((w : Lens) → h w ≡ and_then (f w) g) → and_then m h ≡ and_then (and_then m f) g
 and_then-and_then None f g h e = refl
@@ -22,52 +22,16 @@ pub record Stepped (a : Action) (rest : List Action) (v w : Lens) : Type 0 where
   pub on : run rest mid ≡ Some w
 
 pub stepped : (a : Action) (rest : List Action) (v w : Lens) → run (a ∷ rest) v ≡ Some w → Stepped a rest v w
-stepped a rest v w r = go (move a v) refl r
-  where
-    go : (m : Option Lens) → move a v ≡ m → and_then m (run rest) ≡ Some w → Stepped a rest v w
-    go None e q = cc
-    go (Some x) e q = record { mid = x; moves = e; on = q }
+stepped a rest v w r = grind arith
 
 pub if_some : (b : Bool) (x w : Lens) → (if b then Some x else None) ≡ Some w → (b ≡ true) × (x ≡ w)
 if_some true x w e = (refl, cc)
 if_some false x w e = cc
 
-free_moved : (x w : Lens) → Some x ≡ Some w → IsFree x → IsFree w
-free_moved x w e f = let q : x ≡ w = cc in subst IsFree q f
-
--- from a free lens nothing is freed, and what frees nothing leaves it free
-pub free_or_refused : (a : Action) (v w : Lens) → IsFree v → move a v ≡ Some w → (is_freeing a ≡ false) × IsFree w
-free_or_refused Skip (lens false e n Unknown) w f m = (refl, free_moved _ _ m tt)
-free_or_refused Skip (lens false e n Known) w f m = (refl, free_moved _ _ m tt)
-free_or_refused Skip (lens false e n (Open r zero)) w f m = (refl, free_moved _ _ m tt)
-free_or_refused Needs_known (lens false e n Known) w f m = (refl, free_moved _ _ m tt)
-free_or_refused Needs_known (lens false e n (Open r zero)) w f m = (refl, free_moved _ _ m tt)
-free_or_refused Needs_open (lens false e n (Open r zero)) w f m = (refl, free_moved _ _ m tt)
-free_or_refused Join (lens false e n Unknown) w f m = (refl, free_moved _ _ m tt)
-free_or_refused Bind (lens false e n Known) w f m = (refl, free_moved _ _ m tt)
-free_or_refused Close (lens false e n (Open r zero)) w f m = (refl, free_moved _ _ m tt)
-free_or_refused Leave (lens false e n Known) w f m = (refl, free_moved _ _ m tt)
-free_or_refused (Grow p z) (lens false e n (Open r zero)) w f m = (refl, subst IsFree (if_some _ _ _ m).1 tt)
-free_or_refused (Fill p z) (lens false e n (Open r zero)) w f m = (refl, subst IsFree (if_some _ _ _ m).1 tt)
-free_or_refused (Insert p z) (lens false e n (Open r zero)) w f m = (refl, subst IsFree (if_some _ _ _ m).1 tt)
-free_or_refused (Cut p z) (lens false e n (Open r zero)) w f m = (refl, subst IsFree (if_some _ _ _ m).1 tt)
-free_or_refused (Place p z) (lens false e n (Open r zero)) w f m = (refl, subst IsFree (if_some _ _ _ m).1 tt)
-free_or_refused (Change z) (lens false e n Unknown) w f m = (refl, free_moved _ _ m tt)
-free_or_refused (Change z) (lens false e n Known) w f m = (refl, free_moved _ _ m tt)
-free_or_refused (Change z) (lens false e n (Open r zero)) w f m = (refl, free_moved _ _ m tt)
-free_or_refused _ (lens true e n s) w f m = absurd f
-free_or_refused _ (lens false e n Unknown) w f m = cc
-free_or_refused _ (lens false e n Known) w f m = cc
-free_or_refused _ (lens false e n (Open r zero)) w f m = cc
-free_or_refused _ (lens false e n (Open r (suc k))) w f m = absurd f
-
 -- what runs from a free lens frees nothing
 pub frees_nothing : (s : List Action) (v w : Lens) → IsFree v → run s v ≡ Some w → frees s ≡ false
 frees_nothing [] v w f r = refl
-frees_nothing (a ∷ s) v w f r =
-    let t = stepped a s v w r in
-    let u = free_or_refused a v t.mid f t.moves in
-    or_from _ _ u.0 (frees_nothing s t.mid w u.1 t.on)
+frees_nothing (a ∷ s) v w f r = grind (arith, (frees_nothing s))
 
 -- an idle action from a free lens: it leaves that lens, and every lens that is alike
 pub idle : (a : Action) (v w x : Lens) → is_freeing a ≡ false → is_crossing a ≡ false → IsAlike v x → move a v ≡ Some w → (w ≡ v) × (move a x ≡ Some x)
@@ -98,15 +62,7 @@ idle _ v w x i j l m = absurd (true≢false j)
 -- what is under way moves no free lens, and would move none that is alike
 pub still : (s : List Action) (v w x : Lens) → IsFree v → IsGuarded s → IsAlike v x → run s v ≡ Some w → (w ≡ v) × (run s x ≡ Some x)
 still [] v w x f g l r = (cc, refl)
-still (a ∷ s) v w x f g l r =
-    let t = stepped a s v w r in
-    let u = free_or_refused a v t.mid f t.moves in
-    let none = frees_nothing s t.mid w u.1 t.on in
-    let quiet : is_crossing a ≡ false = false_from_ne_true _ (λ q. true≢false (sym (g.0 q) ∙ none)) in
-    let i = idle a v t.mid x u.0 quiet l t.moves in
-    let on : run s v ≡ Some w = subst (λ (m : Lens). run s m ≡ Some w) i.0 t.on in
-    let h = still s v w x f g.1 l on in
-    (h.0, ap (λ (m : Option Lens). and_then m (run s)) i.1 ∙ h.1)
+still (a ∷ s) v w x f g l r = grind (arith, (frees_nothing s), (still s v w x f g.1 l))
 
 -- a step with one lock more: the lock stays, or the step ends it
 abbrev pub StepsMore : Action → Lens → Lens → Type 0
@@ -229,63 +185,13 @@ exited_after (a ∷ s) v w r =
     let t = stepped a s v w r in
     exited_after s t.mid w t.on ∙ ap (λ (x : Bool). exits s || x) (exits_exactly a v t.mid t.moves) ∙ or_shift (is_exit a) (exits s) (exited_of v)
 
-refused_free : (c e : Bool) (n : ℕ) (s : Slot) (m : Lens) → move Free_command (lens c e n s) ≡ Some m → c ≡ false → ⊥
-refused_free true e n s m q x = true≢false x
-refused_free false e n s m q x = cc
-
-refused_exit : (c e : Bool) (n : ℕ) (s : Slot) (m : Lens) → move Exit (lens c e n s) ≡ Some m → c ≡ false → ⊥
-refused_exit true e n s m q x = true≢false x
-refused_exit false e n Unknown m q x = cc
-refused_exit false e n Known m q x = cc
-refused_exit false e n (Open r k) m q x = cc
-
--- without the command lock no Hexit comes
-no_exit_step : (a : Action) (v m : Lens) → move a v ≡ Some m → command_of v ≡ false → (is_exit a ≡ false) × (command_of m ≡ false)
-no_exit_step Skip (lens c e n Unknown) m q x = (refl, sym (ap command_of (the q)) ∙ x)
-no_exit_step Skip (lens c e n Known) m q x = (refl, sym (ap command_of (the q)) ∙ x)
-no_exit_step Needs_known (lens c e n Known) m q x = (refl, sym (ap command_of (the q)) ∙ x)
-no_exit_step Join (lens c e n Unknown) m q x = (refl, sym (ap command_of (the q)) ∙ x)
-no_exit_step Join (lens c e n (Open r k)) m q x = cc
-no_exit_step Bind (lens c e n Known) m q x = (refl, sym (ap command_of (the q)) ∙ x)
-no_exit_step Bind (lens c e n (Open r k)) m q x = cc
-no_exit_step Leave (lens c e n Known) m q x = (refl, sym (ap command_of (the q)) ∙ x)
-no_exit_step Leave (lens c e n (Open r k)) m q x = cc
-no_exit_step (Grow p z) (lens c e n (Open r k)) m q x = (refl, sym (ap command_of (if_some _ _ _ q).1) ∙ x)
-no_exit_step (Fill p z) (lens c e n (Open r k)) m q x = (refl, sym (ap command_of (if_some _ _ _ q).1) ∙ x)
-no_exit_step (Insert p z) (lens c e n (Open r k)) m q x = (refl, sym (ap command_of (if_some _ _ _ q).1) ∙ x)
-no_exit_step (Cut p z) (lens c e n (Open r k)) m q x = (refl, sym (ap command_of (if_some _ _ _ q).1) ∙ x)
-no_exit_step (Place p z) (lens c e n (Open r k)) m q x = (refl, sym (ap command_of (if_some _ _ _ q).1) ∙ x)
-no_exit_step (Change z) (lens c e n Unknown) m q x = (refl, sym (ap command_of (the q)) ∙ x)
-no_exit_step (Change z) (lens c e n Known) m q x = (refl, sym (ap command_of (the q)) ∙ x)
-no_exit_step Free_file (lens c e n (Open r zero)) m q x = cc
-no_exit_step Free_file (lens c e n (Open r (suc k))) m q x = (refl, sym (ap command_of (the q)) ∙ x)
-no_exit_step Free_command (lens c e n Unknown) m q x = absurd (refused_free c e n Unknown m q x)
-no_exit_step Free_command (lens c e n Known) m q x = absurd (refused_free c e n Known m q x)
-no_exit_step Free_command (lens c e n (Open r k)) m q x = absurd (refused_free c e n (Open r k) m q x)
-no_exit_step Exit (lens c e n Unknown) m q x = absurd (refused_exit c e n Unknown m q x)
-no_exit_step Exit (lens c e n Known) m q x = absurd (refused_exit c e n Known m q x)
-no_exit_step Exit (lens c e n (Open r k)) m q x = absurd (refused_exit c e n (Open r k) m q x)
-no_exit_step _ (lens c e n Unknown) m q x = cc
-no_exit_step _ (lens c e n Known) m q x = cc
-no_exit_step _ (lens c e n (Open r k)) m q x = (refl, sym (ap command_of (the q)) ∙ x)
-
 pub no_exit : (s : List Action) (v w : Lens) → run s v ≡ Some w → command_of v ≡ false → exits s ≡ false
 no_exit [] v w r x = refl
-no_exit (a ∷ s) v w r x =
-    let t = stepped a s v w r in
-    let h = no_exit_step a v t.mid t.moves x in
-    or_from _ _ h.0 (no_exit s t.mid w t.on h.1)
-
--- without the command lock no Hunlock comes
-no_unlock_step : (a : Action) (v m : Lens) → move a v ≡ Some m → command_of v ≡ false → is_free_command a ≡ false
-no_unlock_step Free_command (lens c e n s) m q x = absurd (refused_free c e n s m q x)
-no_unlock_step _ v m q x = refl
+no_exit (a ∷ s) v w r x = grind (arith, (no_exit s))
 
 pub no_unlock : (s : List Action) (v w : Lens) → run s v ≡ Some w → command_of v ≡ false → frees_command s ≡ false
 no_unlock [] v w r x = refl
-no_unlock (a ∷ s) v w r x =
-    let t = stepped a s v w r in
-    or_from _ _ (no_unlock_step a v t.mid t.moves x) (no_unlock s t.mid w t.on (no_exit_step a v t.mid t.moves x).1)
+no_unlock (a ∷ s) v w r x = grind (arith, (no_unlock s))
 
 -- where no Hversion comes the version stays
 same_version_step : (a : Action) (v m : Lens) → move a v ≡ Some m → is_change a ≡ false → version_of m ≡ version_of v
@@ -330,7 +236,4 @@ same_version (a ∷ s) v w r x =
 
 -- no action of a free file's first frame needs the user kept out
 pub first_is_quiet : (a : Action) (s : List Action) (v w : Lens) → IsFree v → IsGuarded (a ∷ s) → run (a ∷ s) v ≡ Some w → is_crossing a ≡ false
-first_is_quiet a s v w f g r =
-    let t = stepped a s v w r in
-    let u = free_or_refused a v t.mid f t.moves in
-    false_from_ne_true _ (λ q. true≢false (sym (g.0 q) ∙ frees_nothing s t.mid w u.1 t.on))
+first_is_quiet a s v w f g r = grind (arith, frees_nothing)

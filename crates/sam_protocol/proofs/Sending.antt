@@ -1,13 +1,12 @@
 -- Messages that the terminal composes keep both sides in order.
-use Rattle.std.proofs.Common.{◌≡◌, ℕ, zero, suc, Bool, true, false, ◌==◌, if◌then◌else◌, List, [], ◌∷◌, ◌++◌, Option, None, refl, sym, ap, ◌∙◌, subst, true≢false, append-nil, append_assoc}
+use Rattle.std.proofs.Common.{◌≡◌, ℕ, zero, suc, Bool, true, false, ◌==◌, if◌then◌else◌, List, [], ◌∷◌, ◌++◌, Option, None, refl, sym, ap, ◌∙◌, subst, true≢false, append-nil, append_assoc, arith}
 use mathlib.Core.Path.{fun_ext}
 use Rattle.sam_rasp.specs.Rasp.{del_cells, place_after_del}
 use Rattle.sam_mesg.specs.declared.tmesg.Tmesg.{Tmesg}
 use Rattle.sam_mesg.specs.declared.tmesg.Tmesg.TheVariants.{Ttype, Tcut}
 use Rattle.sam_mesg.specs.declared.hmesg.Hmesg.{Hmesg}
 use Rattle.sam_host.specs.Host.{PlainHost}
-use Rattle.sam_term.specs.declared.lock.Lock.TheVariants.{CommandLock, NoLock}
-use Rattle.sam_term.specs.Events.{lock_of, is_command_line}
+use Rattle.sam_term.specs.Events.{lock_of}
 use Rattle.sam_term.specs.Term.{PlainTerminal, Made, window_at, window_after_del, moved_unsent, del_rasp, edited, cut_rasp, composed, flushed, unsent_message, and_then, sends, unchanged}
 use Rattle.sam_term.specs.declared.records.Unsent.{Unsent}
 use Rattle.sam_protocol.specs.Lens.{Unknown, Known, Open, Lens, lens, OpenAt}
@@ -16,9 +15,8 @@ use Rattle.sam_protocol.proofs.Changes.{change_of_lock, change_by, cut_out, chan
 use Rattle.sam_protocol.specs.View.{view}
 use Rattle.sam_protocol.specs.Fold.{AllSettle}
 use Rattle.sam_protocol.specs.Order.{AreTidy, IsHeldBack, views, InOrder}
-use Rattle.sam_protocol.proofs.Folds.{kept_views}
 use Rattle.sam_protocol.proofs.Composing.{composes}
-use Rattle.sam_protocol.proofs.Views.{view-made, view-edited, view-open, LockOpens, view-composed, unsent-composed, view-flushed, unsent-flushed, tidy-composed, tidy-flushed, tidy-window, tidy-edited}
+use Rattle.sam_protocol.proofs.Views.{view-made, view-edited, view-open, LockOpens, view-composed, unsent-composed, view-flushed, unsent-flushed, tidy-composed, tidy-window, tidy-edited}
 use Rattle.sam_protocol.proofs.Dots.{tidy-del}
 
 -- what was made follows a terminal that is in order
@@ -35,14 +33,7 @@ nothing_goes h t up down o = subst (λ (l : List Tmesg). InOrder h t l down) (sy
 
 pub flushed_goes : (h : PlainHost) (t : PlainTerminal) (up : List Tmesg) (down : List Hmesg) → InOrder h t up down → Goes h up down (flushed t)
 unfolding flushed
-flushed_goes h t up down o =
-    let line : List Tmesg = up ++ unsent_message t.unsent in
-    record {
-      kept = subst (λ (l : List Tmesg). AllSettle h (views (flushed t).0) l down) (sym (append-nil line) ∙ ap (λ (u : Option Unsent). line ++ unsent_message u) (sym (unsent-flushed t)))
-          (kept_views h (views t) (views (flushed t).0) line down o.kept (λ g. sym (view-flushed t o.unsent g)));
-      tidy = tidy-flushed t o.tidy;
-      unsent = subst (IsHeldBack (views (flushed t).0)) (sym (unsent-flushed t)) tt;
-    }
+flushed_goes h t up down o = grind (arith, append-nil)
 
 pub flushed_views : (t : PlainTerminal) → IsHeldBack (views t) t.unsent → views t ≡ views (flushed t).0
 flushed_views t h = fun_ext (λ g. sym (view-flushed t h g))
@@ -75,28 +66,18 @@ ruleset opening = (open_is)
 
 -- the file that a message locks is open, since it rests on that
 opens_for : (m : Tmesg) (v : ℕ → Lens) → CanCompose m v → LockOpens (lock_of m) v
-opens_for (Ttype f p s) v c = go (is_command_line f s)
-  where
-    go : (b : Bool) → LockOpens (if b then CommandLock else NoLock) v
-    go true = tt
-    go false = tt
+opens_for (Ttype f p s) v c = grind arith
 opens_for _ v c = search opening
 
 -- where nothing is unsent before and after it
 line_path : (up : List Tmesg) (m : Tmesg) (o o2 : Option Unsent) → o ≡ None → o2 ≡ None → (up ++ unsent_message o) ++ m ∷ [] ≡ (up ++ m ∷ []) ++ unsent_message o2
-line_path up m o o2 e e2 =
-    ap (λ (x : Option Unsent). (up ++ unsent_message x) ++ m ∷ []) e ∙ ap (λ (l : List Tmesg). l ++ m ∷ []) (append-nil up) ∙ sym (append-nil (up ++ m ∷ [])) ∙ ap
-    (λ (x : Option Unsent). (up ++ m ∷ []) ++ unsent_message x) (sym e2)
+line_path up m o o2 e e2 = grind (arith, append-nil)
 
 -- a message that the fold carries, and what the terminal shows then
 pub carried : (h : PlainHost) (t t2 : PlainTerminal) (up : List Tmesg) (down : List Hmesg) (m : Tmesg) → InOrder h t up down → t.unsent ≡ None → t2.unsent ≡ None
     → AllSettle h (λ g. changed (change_by m) g (view g t)) ((up ++ unsent_message t.unsent) ++ m ∷ []) down → ((g : ℕ) → changed (change_by m) g (view g t) ≡ view g t2) → AreTidy t2
     → InOrder h t2 (up ++ m ∷ []) down
-carried h t t2 up down m o e e2 k same tidy = record {
-  kept = subst (λ (l : List Tmesg). AllSettle h (views t2) l down) (line_path up m t.unsent t2.unsent e e2) (kept_views h (λ g. changed (change_by m) g (view g t)) (views t2) _ down k same);
-  tidy = tidy;
-  unsent = subst (IsHeldBack (views t2)) (sym e2) tt;
-}
+carried h t t2 up down m o e e2 k same tidy = grind (arith, line_path)
 
 pub send_one : (h : PlainHost) (t : PlainTerminal) (up : List Tmesg) (down : List Hmesg) (m : Tmesg) → InOrder h t up down → t.unsent ≡ None → is_edit m ≡ false → MaySend (views t) m
     → InOrder h (composed t m) (up ++ m ∷ []) down
@@ -122,19 +103,13 @@ edited_views : (t : PlainTerminal) (f : ℕ) → IsOpen (view f t) → views t �
 edited_views t f i = fun_ext (λ g. sym (view-edited t f i g))
 
 edited_order : (h : PlainHost) (t : PlainTerminal) (up : List Tmesg) (down : List Hmesg) (f : ℕ) → InOrder h t up down → IsOpen (view f t) → InOrder h (edited t f) up down
-edited_order h t up down f o i = record {
-  kept = kept_views h (views t) (views (edited t f)) (up ++ unsent_message t.unsent) down o.kept (λ g. sym (view-edited t f i g));
-  tidy = tidy-edited t f o.tidy;
-  unsent = subst (λ (v : ℕ → Lens). IsHeldBack v t.unsent) (edited_views t f i) o.unsent;
-}
+edited_order h t up down f o i = grind (arith, tidy-edited, edited_views)
 
 del_view : (t : PlainTerminal) (f p q : ℕ) → IsOpen (view f t) → (g : ℕ) → view g (del_rasp t f p q) ≡ (if g == f then cut_out p q (view g t) else view g t)
 del_view t f p q o g = view-made t f (window_after_del (window_at t f) p q) (cut_out p q) o refl g
 
 pub cut_view : (t : PlainTerminal) (f p q : ℕ) → IsOpen (view f t) → (g : ℕ) → view g (cut_rasp t f p q) ≡ (if g == f then cut_out p q (view g t) else view g t)
-cut_view t f p q o g =
-    del_view (edited t f) f p q (subst (λ (v : ℕ → Lens). IsOpen (v f)) (edited_views t f o) o) g
-    ∙ ap (λ (v : Lens). (if g == f then cut_out p q v else v)) (view-edited t f o g)
+cut_view t f p q o g = search (arith, del_view, view-edited)
 
 del_one : (h : PlainHost) (t : PlainTerminal) (up : List Tmesg) (down : List Hmesg) (f p q : ℕ) → InOrder h t up down → t.unsent ≡ None → MaySend (views t) (Tcut f p q)
     → InOrder h (composed (del_rasp t f p q) (Tcut f p q)) (up ++ Tcut f p q ∷ []) down

@@ -1,5 +1,5 @@
 -- The first host, a new terminal and nothing under way are in order.
-use Rattle.std.proofs.Common.{◌≡◌, ℕ, zero, suc, Bool, true, false, if◌then◌else◌, nat_lt, List, [], ◌∷◌, length, Option, Some, None, refl, sym, ◌∙◌, true≢false, arith}
+use Rattle.std.proofs.Common.{◌≡◌, ℕ, zero, suc, Bool, true, false, nat_lt, List, [], ◌∷◌, length, Option, Some, None, refl, sym, ◌∙◌, true≢false, arith}
 use Rattle.std.specs.Prelude.{unwrap_or}
 use Rattle.sam_runes.specs.Slots.{Slots, slot}
 use Rattle.sam_text.specs.Files.{PlainFile, blank_file}
@@ -7,7 +7,7 @@ use Rattle.sam_host.specs.Host.{PlainHost, new_host, given_slots}
 use Rattle.sam_host.specs.Laws.{AreGiven}
 use Rattle.sam_host.proofs.SoundLaws.{starts_sound}
 use Rattle.sam_term.specs.Term.{new_terminal}
-use Rattle.sam_protocol.specs.Lens.{Hidden, Named, Opened, Unknown, Fits_slot}
+use Rattle.sam_protocol.specs.Lens.{Unknown, Fits_slot}
 use Rattle.sam_protocol.specs.View.{view, file_of_slot}
 use Rattle.sam_protocol.specs.Steady.{IsSteady}
 use Rattle.sam_protocol.specs.Fold.{AllSettle}
@@ -30,12 +30,7 @@ all_shut given (suc g) = given_shut given g
 shut_fits : (b : Bool) (s : Option PlainFile) → IsShut s → Fits_slot Unknown (file_of_slot b s)
 shut_fits true None i = tt
 shut_fits false None i = tt
-shut_fits b (Some x) i = go x.opened x.announced i.0 i.1
-  where
-    go : (o a : Bool) → o ≡ false → a ≡ false → Fits_slot Unknown (if o then Opened x.text else if a then Named x.text else Hidden x.text)
-    go true a e q = absurd (true≢false e)
-    go false true e q = absurd (true≢false q)
-    go false false e q = tt
+shut_fits b (Some x) i = grind arith
 
 shut_announced : (s : Option PlainFile) → IsShut s → (unwrap_or s blank_file).opened ≡ true → (unwrap_or s blank_file).announced ≡ true
 shut_announced None i e = absurd (true≢false (sym e))

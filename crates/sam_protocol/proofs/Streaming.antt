@@ -1,23 +1,19 @@
 -- Both sides have one version wherever the command lock is free, and it is that of the place of the next message.
-use Rattle.std.proofs.Common.{◌≡◌, ℕ, Bool, true, false, ◌||◌, if◌then◌else◌, List, [], ◌∷◌, ◌++◌, Option, Some, None, ◌⊎◌, inl, inr, refl, sym, ap, ◌∙◌, subst, true≢false}
-use Rattle.std.specs.Prelude.{drop}
+use Rattle.std.proofs.Common.{◌≡◌, ℕ, Bool, true, false, List, [], ◌∷◌, ◌++◌, Option, Some, None, ◌⊎◌, inl, inr, refl, sym, ap, ◌∙◌, true≢false, arith}
 use Rattle.std.proofs.lemmas.Bool.{or_parts, false_from_ne_true}
 use Rattle.std.proofs.lemmas.Option.{same_Some}
 use Rattle.sam_term.specs.declared.records.Unsent.{Unsent}
-use Rattle.sam_runes.specs.Texts.{common_version}
 use Rattle.sam_runes.specs.Checks.{first_of_checks}
 use Rattle.sam_mesg.specs.declared.tmesg.Tmesg.{Tmesg}
 use Rattle.sam_mesg.specs.declared.tmesg.Tmesg.TheVariants.{Tversion}
 use Rattle.sam_mesg.specs.declared.hmesg.Hmesg.{Hmesg}
-use Rattle.sam_mesg.specs.declared.hmesg.Hmesg.TheVariants.{Hversion, Hack, Hunlock}
-use Rattle.sam_host.specs.Host.{PlainHost, Reply, counted, host_checks, reply_to, told_names, reply_version}
-use Rattle.sam_host.specs.declared.fault.HostFault.{HostFault}
+use Rattle.sam_host.specs.Host.{PlainHost, Reply, host_checks, reply_to, reply_version}
 use Rattle.sam_term.specs.Term.{PlainTerminal, unsent_message}
 use Rattle.sam_protocol.specs.Lens.{Lens, lens, HFile, IsSettled}
 use Rattle.sam_protocol.proofs.Lenses.{version_of}
 use Rattle.sam_protocol.specs.Frames.{at_file, is_unlock, unlocks_command}
 use Rattle.sam_protocol.specs.View.{view, file_in}
-use Rattle.sam_protocol.specs.Fold.{replied, reply_of, answers}
+use Rattle.sam_protocol.specs.Fold.{reply_of, answers}
 use Rattle.sam_protocol.specs.Order.{views, InOrder}
 use Rattle.sam_protocol.proofs.Runs.{no_unlock, same_version}
 use Rattle.sam_protocol.proofs.Versions.{unlocks_behind, unlock_frames, no_changes}
@@ -32,23 +28,11 @@ use Rattle.sam_host.proofs.SoundLaws.{reply_stands}
 -- the version changes only with an answer that frees the command lock
 version_reply : (h : PlainHost) (m : Tmesg) → first_of_checks (host_checks h m) ≡ None → ((reply_to h m).0.version ≡ h.version) ⊎ (unlocks_command (reply_to h m).1 ≡ true)
 unfolding reply_version
-version_reply h (Tversion v) e =
-    inr (unlocks_behind (Hversion (common_version v) ∷ told_names 1 (drop 1 h.files.slots)) (Hack ∷ Hunlock ∷ []) refl)
+version_reply h (Tversion v) e = grind (arith, unlocks_behind)
 version_reply h m e = inl (reply_stands h m e).1
 
 version_of_reply : (h : PlainHost) (m : Tmesg) (r : Reply) → reply_of h m ≡ Some r → (r.0.version ≡ h.version) ⊎ (unlocks_command r.1 ≡ true)
-version_of_reply h m r e = go h.is_done e
-  where
-    P2 : Reply → Type 0
-    P2 x = (x.0.version ≡ h.version) ⊎ (unlocks_command x.1 ≡ true)
-
-    checked : (o : Option HostFault) → first_of_checks (host_checks h m) ≡ o → replied o (reply_to h m) ≡ Some r → P2 r
-    checked None c q = subst P2 (same_Some _ _ q) (version_reply h m c)
-    checked (Some why) c q = absurd (let x : None ≡ Some r = q in cc)
-
-    go : (b : Bool) → (if b then (let x : Option Reply = Some (counted h, []) in x) else replied (first_of_checks (host_checks h m)) (reply_to h m)) ≡ Some r → P2 r
-    go true q = subst P2 (same_Some _ _ q) (inl refl)
-    go false q = checked (first_of_checks (host_checks h m)) refl q
+version_of_reply h m r e = grind (arith, version_reply)
 
 behind_none : (a b : List Hmesg) → unlocks_command (a ++ b) ≡ false → unlocks_command b ≡ false
 behind_none [] b e = e
@@ -56,9 +40,7 @@ behind_none (m ∷ a) b e = behind_none a b (or_parts (is_unlock m) (unlocks_com
 
 first_none : (a b : List Hmesg) → unlocks_command (a ++ b) ≡ false → unlocks_command a ≡ false
 first_none [] b e = refl
-first_none (m ∷ a) b e =
-    let parts = or_parts (is_unlock m) (unlocks_command (a ++ b)) e in
-    ap (λ (x : Bool). x || unlocks_command a) parts.0 ∙ first_none a b parts.1
+first_none (m ∷ a) b e = grind (arith, (first_none a b))
 
 before_none : (a b : List Hmesg) → unlocks_command (a ++ b) ≡ false → unlocks_command a ≡ true → ⊥
 before_none a b e f = true≢false (sym f ∙ first_none a b e)
@@ -104,29 +86,17 @@ one_version h t up down o c =
 -- a host that is done stays so
 pub still_done : (ms : List Tmesg) (h : PlainHost) (r : Reply) → answers h ms ≡ Some r → h.is_done ≡ true → r.0.is_done ≡ true
 still_done [] h r e d = ap (λ (x : Reply). x.0.is_done) (sym (same_Some _ _ e)) ∙ d
-still_done (m ∷ ms) h r e d =
-    let t = answered h m ms r e in
-    let silent : ◌≡◌ {A = Reply} (counted h, []) t.first =
-    same_Some _ _ (sym (ap (λ (b : Bool). if b then Some (counted h, []) else replied (first_of_checks (host_checks h m)) (reply_to h m)) d) ∙ t.now) in
-    ap (λ (x : Reply). x.0.is_done) t.whole ∙ still_done ms t.first.0 t.rest t.later (ap (λ (x : Reply). x.0.is_done) (sym silent) ∙ d)
+still_done (m ∷ ms) h r e d = grind (arith, (still_done ms))
 
 running : (ms : List Tmesg) (h : PlainHost) (r : Reply) → answers h ms ≡ Some r → r.0.is_done ≡ false → h.is_done ≡ false
 running ms h r e d = false_from_ne_true _ (λ q. true≢false (sym (still_done ms h r e q) ∙ d))
 
 one_past : (h : PlainHost) (m : Tmesg) (r : Reply) → h.is_done ≡ false → reply_of h m ≡ Some r → r.0.version ≡ after_t h.version m
-one_past h m r d e = go (first_of_checks (host_checks h m)) refl (sym (ap (λ (b : Bool). if b then Some (counted h, []) else replied (first_of_checks (host_checks h m)) (reply_to h m)) d) ∙ e)
-  where
-    go : (o : Option HostFault) → first_of_checks (host_checks h m) ≡ o → replied o (reply_to h m) ≡ Some r → r.0.version ≡ after_t h.version m
-    go None c q = ap (λ (x : Reply). x.0.version) (sym (same_Some _ _ q)) ∙ (reply_stands h m c).1
-    go (Some why) c q = absurd (let x : None ≡ Some r = q in cc)
+one_past h m r d e = grind (arith, reply_stands)
 
 folded_version : (ms : List Tmesg) (h : PlainHost) (r : Reply) → answers h ms ≡ Some r → r.0.is_done ≡ false → r.0.version ≡ version_behind h.version ms
 folded_version [] h r e d = ap (λ (x : Reply). x.0.version) (sym (same_Some _ _ e))
-folded_version (m ∷ ms) h r e d =
-    let t = answered h m ms r e in
-    let later : t.rest.0.is_done ≡ false = ap (λ (x : Reply). x.0.is_done) (sym t.whole) ∙ d in
-    let first = one_past h m t.first (running (m ∷ ms) h r e d) t.now in
-    ap (λ (x : Reply). x.0.version) t.whole ∙ folded_version ms t.first.0 t.rest t.later later ∙ ap (λ (v : ℕ). version_behind v ms) first
+folded_version (m ∷ ms) h r e d = grind (arith, one_past, running, (folded_version ms))
 
 unsent_past : (up : List Tmesg) (u : Option Unsent) (v : ℕ) → version_behind v (up ++ unsent_message u) ≡ version_behind v up
 unsent_past [] None v = refl

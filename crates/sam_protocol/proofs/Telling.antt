@@ -1,9 +1,9 @@
 -- What frames about one open file tell: they take a partial text that agrees with one text to one that agrees with another.
-use Rattle.std.proofs.Common.{◌≡◌, ℕ, ◌+◌, ◌-◌, ◌≤◌, Bool, true, false, not, ◌&&◌, ◌==◌, if◌then◌else◌, List, [], ◌∷◌, ◌++◌, length, map, replicate, take, drop, Option, Some, None, refl, sym, ap, ◌∙◌, subst, true≢false, arith, append-nil, take-append-drop, nat_le, nat_lt, le-leb}
+use Rattle.std.proofs.lemmas.Grind.{common_steps}
+use Rattle.std.proofs.Common.{◌≡◌, ℕ, ◌+◌, ◌-◌, ◌≤◌, Bool, true, false, ◌&&◌, ◌==◌, List, [], ◌∷◌, ◌++◌, length, map, replicate, take, drop, Option, Some, None, refl, sym, ap, ◌∙◌, subst, arith, append-nil, take-append-drop, nat_le, nat_lt, le-leb, rules}
 use Rattle.std.specs.Prelude.{flat_map}
-use Rattle.std.proofs.lemmas.Bool.{ltb-false, and_from}
 use Rattle.std.proofs.lemmas.List.{map-append}
-use Rattle.sam_runes.specs.Texts.{ins, del, is_empty, max_runes, most_in_message}
+use Rattle.sam_runes.specs.Texts.{ins, del, max_runes}
 use Rattle.sam_runes.specs.declared.edit.Edit.{Edit}
 use Rattle.sam_runes.specs.Edits.{edited, all_edited, EditsFit}
 use Rattle.sam_runes.proofs.EditLaws.{del-nothing, length-del}
@@ -11,9 +11,9 @@ use Rattle.sam_rasp.specs.Rasp.{ins_cells, del_cells, Agrees}
 use Rattle.sam_rasp.proofs.RaspLaws.{length_agrees, agrees_typed, agrees_grown, agrees_removed}
 use Rattle.sam_text.specs.Files.{PlainFile, PlainFiles, file_at}
 use Rattle.sam_mesg.specs.declared.hmesg.Hmesg.{Hmesg}
-use Rattle.sam_mesg.specs.declared.hmesg.Hmesg.TheVariants.{Hmovname, Hgrow, Hcheck, Horigin, Hsetdot, Hgrowdata, Hmoveto, Hclean, Hdirty, Hcut, Hsetpat}
+use Rattle.sam_mesg.specs.declared.hmesg.Hmesg.TheVariants.{Hmovname, Hcheck, Horigin, Hsetdot, Hmoveto, Hclean, Hdirty, Hcut, Hsetpat}
 use Rattle.sam_host.specs.Host.{when, when_given, grown, told_length, told_edit}
-use Rattle.sam_protocol.specs.Lens.{Open, lens, Action, Skip, Needs_known, Needs_open, Grow, Insert, Cut, Place, move, run, and_then, Lens, closes}
+use Rattle.sam_protocol.specs.Lens.{Open, lens, Action, Skip, Needs_known, Needs_open, Grow, Insert, Cut, Place, move, run, closes}
 use Rattle.sam_protocol.proofs.Lenses.{AreSkips}
 use Rattle.sam_protocol.specs.Frames.{action, at_file, only}
 use Rattle.sam_protocol.proofs.Runs.{run-append_some, if_true}
@@ -47,10 +47,7 @@ rewrites-append u w t t2 t3 x y = record {
 pub rewrites_one : (a : Action) (t t2 : List ℕ) (to : List (Option ℕ) → List (Option ℕ)) → (closes (a ∷ []) ≡ false)
     → ((c e : Bool) (n : ℕ) (r : List (Option ℕ)) (k : ℕ) → Agrees r t → move a (lens c e n (Open r k)) ≡ Some (lens c e n (Open (to r) k)))
     → ((r : List (Option ℕ)) → Agrees r t → Agrees (to r) t2) → Rewrites (a ∷ []) t t2
-rewrites_one a t t2 to close moves agrees = record {
-  runs = λ c e n r k x. record { rasp = to r; is = ap (λ (o : Option Lens). and_then o (run [])) (moves c e n r k x); agrees = agrees r x };
-  no_close = close;
-}
+rewrites_one a t t2 to close moves agrees = grind arith
 
 pub rewrites_known : (t : List ℕ) → Rewrites (Needs_known ∷ []) t t
 rewrites_known t = rewrites_one Needs_known t t (λ r. r) refl (λ c e n r k a. refl) (λ r a. a)
@@ -62,14 +59,10 @@ rewrites_skip : (t : List ℕ) → Rewrites (Skip ∷ []) t t
 rewrites_skip t = rewrites_one Skip t t (λ r. r) refl (λ c e n r k a. refl) (λ r a. a)
 
 rewrites_place : (p q : ℕ) (t : List ℕ) → p ≤ q → q ≤ length t → Rewrites (Place p q ∷ []) t t
-rewrites_place p q t l l2 = rewrites_one (Place p q) t t (λ r. r) refl
-    (λ c e n r k a. let l3 : q ≤ length r = omega (arith, length_agrees r t a) in if_true _ _ (and_from _ _ (le-leb _ _ l) (le-leb _ _ l3))) (λ r a. a)
+rewrites_place p q t l l2 = grind (arith, length_agrees)
 
 room_passes : (p m : ℕ) (r : List (Option ℕ)) (t : List ℕ) → Agrees r t → p ≤ length t → length t + m ≤ max_runes → (nat_le p (length r) && nat_le (length r + m) max_runes) ≡ true
-room_passes p m r t a l room =
-    let l2 : p ≤ length r = omega (arith, length_agrees r t a) in
-    let room2 : length r + m ≤ max_runes = subst (λ (k : ℕ). k + m ≤ max_runes) (sym (length_agrees r t a)) room in
-    and_from _ _ (le-leb _ _ l2) (le-leb _ _ room2)
+room_passes p m r t a l room = grind (arith, length_agrees)
 
 rewrites_insert : (p : ℕ) (s t : List ℕ) → p ≤ length t → length t + length s ≤ max_runes → Rewrites (Insert p s ∷ []) t (ins t p s)
 rewrites_insert p s t l room =
@@ -110,11 +103,7 @@ pub told_nothing : (f : ℕ) (t : List ℕ) → Told f [] t t
 told_nothing f t = record { acts = []; tells = λ g. refl; rewrites = rewrites_nothing t }
 
 pub told-append : (f : ℕ) (a b : List Hmesg) (t t2 t3 : List ℕ) → Told f a t t2 → Told f b t2 t3 → Told f (a ++ b) t t3
-told-append f a b t t2 t3 x y = record {
-  acts = x.acts ++ y.acts;
-  tells = λ g. map-append (action g) a b ∙ (λ i. x.tells g i ++ y.tells g i) ∙ sym (map-append (only (g == f)) x.acts y.acts);
-  rewrites = rewrites-append x.acts y.acts t t2 t3 x.rewrites y.rewrites;
-}
+told-append f a b t t2 t3 x y = grind (arith, map-append, (rewrites-append x.acts y.acts t t2 t3 x.rewrites y.rewrites))
 
 pub told_one : (f : ℕ) (m : Hmesg) (a : Action) (t t2 : List ℕ) → ((g : ℕ) → action g m ≡ only (g == f) a) → Rewrites (a ∷ []) t t2 → Told f (m ∷ []) t t2
 told_one f m a t t2 e r = record { acts = a ∷ []; tells = λ g. ap (λ (x : Action). x ∷ []) (e g); rewrites = r }
@@ -155,11 +144,7 @@ pub told_name : (f : ℕ) (s t : List ℕ) → Told f (Hmovname f s ∷ []) t t
 told_name f s t = told_one f (Hmovname f s) Needs_known t t (λ g. refl) (rewrites_known t)
 
 pub told_pattern : (f : ℕ) (s t : List ℕ) → Told f (Hsetpat s ∷ []) t t
-told_pattern f s t = told_one f (Hsetpat s) Skip t t (λ g. skip (g == f)) (rewrites_skip t)
-  where
-    skip : (b : Bool) → Skip ≡ only b Skip
-    skip true = refl
-    skip false = refl
+told_pattern f s t = grind (arith, (rewrites_skip t))
 
 -- ## Runes that come and go
 
@@ -169,39 +154,21 @@ ins-nothing t p = sym (ap (λ (x : List ℕ). x ++ drop p t) (append-nil (take p
 -- what is put in, in full or by its length
 pub told_grown : (fs : PlainFiles) (f p : ℕ) (s t : List ℕ) → (file_at fs f).opened ≡ true → p ≤ length t → length t + length s ≤ max_runes → Told f (grown fs f p s) t (ins t p s)
 unfolding grown
-told_grown fs f p s t o l room = subst (λ (b : Bool). Told f (when (b && not (is_empty s)) (inserting s)) t (ins t p s)) (sym o) (go s l room)
-  where
-    inserting : List ℕ → List Hmesg
-    inserting s = (if nat_le (length s) most_in_message then Hgrowdata f p s else Hgrow f p (length s)) ∷ []
-
-    one : (b : Bool) (s : List ℕ) → length t + length s ≤ max_runes → Told f ((if b then Hgrowdata f p s else Hgrow f p (length s)) ∷ []) t (ins t p s)
-    one true s room = told_one f (Hgrowdata f p s) (Insert p s) t (ins t p s) (λ g. refl) (rewrites_insert p s t l room)
-    one false s room = told_one f (Hgrow f p (length s)) (Grow p (length s)) t (ins t p s) (λ g. refl) (rewrites_grow p s t l room)
-
-    go : (s : List ℕ) → p ≤ length t → length t + length s ≤ max_runes → Told f (when (true && not (is_empty s)) (inserting s)) t (ins t p s)
-    go [] l room = told_when false f (inserting []) t (ins t p []) (λ e. absurd (true≢false (sym e))) (λ e. ins-nothing t p)
-    go (x ∷ s) l room = told_when true f (inserting (x ∷ s)) t (ins t p (x ∷ s)) (λ e. one (nat_le (length (x ∷ s)) most_in_message) (x ∷ s) room) (λ e. absurd (true≢false e))
+told_grown fs f p s t o l room = grind (arith, (rewrites_insert p s t l room), (rewrites_grow p s t l room), told_when, (ins-nothing t p))
 
 told_cut : (f p q : ℕ) (t : List ℕ) → p ≤ q → q ≤ length t → Told f (when (nat_lt p q) (Hcut f p (q - p) ∷ [])) t (del t p q)
-told_cut f p q t l l2 = told_when (nat_lt p q) f (Hcut f p (q - p) ∷ []) t (del t p q)
-    (λ e. subst (λ (k : ℕ). Told f (Hcut f p (q - p) ∷ []) t (del t p k)) to (told_one f (Hcut f p (q - p)) (Cut p (q - p)) t (del t p (p + (q - p))) (λ g. refl) (rewrites_cut p (q - p) t inside)))
-    (λ e. let y : q ≤ p = ltb-false p q e in let same : p ≡ q = omega arith in sym (del-nothing t p q same))
-  where
-    to : p + (q - p) ≡ q
-    to = omega arith
-
-    inside : p + (q - p) ≤ length t
-    inside = omega arith
+told_cut f p q t l l2 = grind (arith, (told_when (nat_lt p q) f (Hcut f p (q - p) ∷ []) t (del t p q)), (rewrites_cut p (q - p) t), (del-nothing t p q))
 
 told_one_edit : (fs : PlainFiles) (f : ℕ) (e : Edit) (t : List ℕ) → (file_at fs f).opened ≡ true → e.p ≤ e.q → e.q ≤ length t → length t + length e.text ≤ max_runes + (e.q - e.p)
     → Told f (told_edit fs f e) t (edited t e)
 unfolding told_edit
-told_one_edit fs f e t o l l2 room =
-    let rest : List ℕ = del t e.p e.q in
-    let shorter : length rest ≡ length t - (e.q - e.p) = length-del t e.p e.q l l2 in
-    let l3 : e.p ≤ length rest = omega (arith, shorter, l, l2) in
-    let room2 : length rest + length e.text ≤ max_runes = omega (arith, shorter, room, l, l2) in
-    told-append f (when (nat_lt e.p e.q) (Hcut f e.p (e.q - e.p) ∷ [])) (grown fs f e.p e.text) t rest (edited t e) (told_cut f e.p e.q t l l2) (told_grown fs f e.p e.text rest o l3 room2)
+told_one_edit fs f e t o l l2 room = grind (
+  arith,
+  (length-del t e.p e.q l l2),
+  (told-append f (when (nat_lt e.p e.q) (Hcut f e.p (e.q - e.p) ∷ [])) (grown fs f e.p e.text) t),
+  (told_cut f e.p e.q t l l2),
+  (told_grown fs f e.p e.text),
+)
 
 -- edits one after another
 pub told_edits : (fs : PlainFiles) (f : ℕ) (es : List Edit) (t : List ℕ) → (file_at fs f).opened ≡ true → EditsFit t es → Told f (flat_map (told_edit fs f) es) t (all_edited t es)
@@ -212,11 +179,4 @@ told_edits fs f (e ∷ es) t o fit =
 -- the length of a text whose window is new
 pub told_opened : (f : ℕ) (x : PlainFile) → length x.text ≤ max_runes → Told f (told_length f x) [] x.text
 unfolding told_length
-told_opened f x room = go x.text room
-  where
-    go : (t : List ℕ) → length t ≤ max_runes → Told f (when (not (is_empty t)) (Hgrow f 0 (length t) ∷ [])) [] t
-    go [] room = told_when false f (Hgrow f 0 0 ∷ []) [] [] (λ e. absurd (true≢false (sym e))) (λ e. refl)
-    go (c ∷ t) room = let room2 : length {A = ℕ} [] + length (c ∷ t) ≤ max_runes = omega (arith, room) in told_when true f (Hgrow f 0 (length (c ∷ t)) ∷ []) [] (c ∷ t)
-        (λ e. subst (λ (u : List ℕ). Told f (Hgrow f 0 (length (c ∷ t)) ∷ []) [] u) (append-nil (c ∷ t))
-        (told_one f (Hgrow f 0 (length (c ∷ t))) (Grow 0 (length (c ∷ t))) [] (ins [] 0 (c ∷ t)) (λ g. refl) (rewrites_grow 0 (c ∷ t) [] (omega arith) room2)))
-        (λ e. absurd (true≢false e))
+told_opened f x room = search (rules, common_steps, told_when, rewrites_grow)

@@ -1,16 +1,15 @@
 -- The two sides have the same version wherever the command lock is free: behind each Hversion stands an Hunlock.
-use Rattle.std.proofs.Common.{◌≡◌, ℕ, Bool, true, false, ◌||◌, ◌==◌, if◌then◌else◌, List, [], ◌∷◌, ◌++◌, refl, sym, ap, ◌∙◌, true≢false}
+use Rattle.std.proofs.Common.{◌≡◌, ℕ, Bool, true, false, ◌||◌, ◌==◌, List, [], ◌∷◌, ◌++◌, refl, sym, ◌∙◌, true≢false, arith}
 use Rattle.std.specs.Prelude.{drop}
 use Rattle.std.proofs.lemmas.Bool.{or_parts, or_right}
-use Rattle.sam_runes.specs.Texts.{common_version}
 use Rattle.sam_mesg.specs.declared.tmesg.Tmesg.{Tmesg}
 use Rattle.sam_mesg.specs.declared.tmesg.Tmesg.TheVariants.{Tversion, Tstartsnarf}
 use Rattle.sam_mesg.specs.declared.hmesg.Hmesg.{Hmesg}
 use Rattle.sam_mesg.specs.declared.hmesg.Hmesg.TheVariants.{Hversion, Hbindname, Hcurrent, Hnewname, Hmovname, Hgrow, Hcheck, Hunlock, Hdata, Horigin, Hunlockfile, Hsetdot, Hgrowdata, Hmoveto, Hclean, Hdirty, Hcut, Hdelname, Hclose, Hack}
-use Rattle.sam_host.proofs.EachFrame.{EachFrame, IsTold, AreFrames, reply_each}
+use Rattle.sam_host.proofs.EachFrame.{EachFrame, AreFrames, reply_each}
 use Rattle.sam_host.specs.Host.{reply_version, reply_startsnarf, PlainHost, told_names, reply_to}
-use Rattle.sam_protocol.specs.Lens.{Action, Skip, Needs_known, Needs_open, Join, Bind, Close, Leave, Grow, Fill, Insert, Cut, Place, Change, Free_file}
-use Rattle.sam_protocol.proofs.Lenses.{is_change, changes, is_free_command, frees_command}
+use Rattle.sam_protocol.specs.Lens.{Action, Needs_known, Needs_open, Join, Bind, Close, Leave, Grow, Fill, Insert, Cut, Place, Free_file}
+use Rattle.sam_protocol.proofs.Lenses.{changes, is_free_command, frees_command}
 use Rattle.sam_protocol.specs.Frames.{action, at_file, only, is_unlock, unlocks_command, is_version, VersionsGuarded}
 
 -- no Hversion among them
@@ -23,11 +22,7 @@ plain_guarded (m ∷ a) p = ((λ e. absurd (true≢false (sym e ∙ p.0))), plai
 
 unlocks-append : (a b : List Hmesg) → unlocks_command a ≡ true → unlocks_command (a ++ b) ≡ true
 unlocks-append [] b e = absurd (true≢false (sym e))
-unlocks-append (m ∷ a) b e = go (is_unlock m) (unlocks_command a) (unlocks_command (a ++ b)) (unlocks-append a b) e
-  where
-    go : (p q r : Bool) → (q ≡ true → r ≡ true) → (p || q) ≡ true → (p || r) ≡ true
-    go true q r h e = refl
-    go false q r h e = h e
+unlocks-append (m ∷ a) b e = grind (arith, (unlocks-append a b))
 
 pub unlocks_behind : (a b : List Hmesg) → unlocks_command b ≡ true → unlocks_command (a ++ b) ≡ true
 unlocks_behind [] b e = e
@@ -40,11 +35,7 @@ versions-append (m ∷ a) b p q = ((λ e. unlocks-append a b (p.0 e)), versions-
 -- ## No answer but that to Tversion has an Hversion
 
 pub plain_frames : AreFrames (λ m. is_version m ≡ false) (λ s. Unit {0})
-plain_frames = record { name = λ s short. tt; told = told; unlock = refl; unlockfile = λ f. refl; exit = refl }
-  where
-    told : (m : Hmesg) → IsTold (λ s. Unit {0}) m → is_version m ≡ false
-    told (Hversion v) i = absurd i
-    told _ i = refl
+plain_frames = grind arith
 
 -- no Hversion, where the message is not Tversion
 abbrev pub HasNoVersion : PlainHost → Tmesg → Type 0
@@ -71,16 +62,8 @@ only_unlock_same : (b : Bool) (a : Action) → is_free_command a ≡ false → i
 only_unlock_same true a e = e
 only_unlock_same false a e = refl
 
-only_change_same : (b : Bool) (a : Action) → is_change a ≡ false → is_change (only b a) ≡ false
-only_change_same true a e = e
-only_change_same false a e = refl
-
 is_unlock_same : (g : ℕ) (m : Hmesg) → is_free_command (action g m) ≡ is_unlock m
-is_unlock_same g (Hversion v) = go (v == 0)
-  where
-    go : (b : Bool) → is_free_command (if b then Skip else Change (common_version v)) ≡ false
-    go true = refl
-    go false = refl
+is_unlock_same g (Hversion v) = grind arith
 is_unlock_same g (Hbindname f) = only_unlock_same (g == f) Bind refl
 is_unlock_same g (Hcurrent f) = only_unlock_same (g == f) Needs_known refl
 is_unlock_same g (Hnewname f) = only_unlock_same (g == f) Join refl
@@ -100,28 +83,6 @@ is_unlock_same g (Hdelname f) = only_unlock_same (g == f) Leave refl
 is_unlock_same g (Hclose f) = only_unlock_same (g == f) Close refl
 is_unlock_same g _ = refl
 
--- a frame that is no Hversion changes no version
-no_change : (g : ℕ) (m : Hmesg) → is_version m ≡ false → is_change (action g m) ≡ false
-no_change g (Hversion v) e = absurd (true≢false e)
-no_change g (Hbindname f) e = only_change_same (g == f) Bind refl
-no_change g (Hcurrent f) e = only_change_same (g == f) Needs_known refl
-no_change g (Hnewname f) e = only_change_same (g == f) Join refl
-no_change g (Hmovname f s) e = only_change_same (g == f) Needs_known refl
-no_change g (Hgrow f p n) e = only_change_same (g == f) (Grow p n) refl
-no_change g (Hcheck f) e = only_change_same (g == f) Needs_open refl
-no_change g (Hdata f p u) e = only_change_same (g == f) (Fill p u) refl
-no_change g (Horigin f p) e = only_change_same (g == f) (Place p p) refl
-no_change g (Hunlockfile f) e = only_change_same (g == f) Free_file refl
-no_change g (Hsetdot f p q) e = only_change_same (g == f) (Place p q) refl
-no_change g (Hgrowdata f p u) e = only_change_same (g == f) (Insert p u) refl
-no_change g (Hmoveto f p) e = only_change_same (g == f) (Place p p) refl
-no_change g (Hclean f) e = only_change_same (g == f) Needs_known refl
-no_change g (Hdirty f) e = only_change_same (g == f) Needs_known refl
-no_change g (Hcut f p n) e = only_change_same (g == f) (Cut p n) refl
-no_change g (Hdelname f) e = only_change_same (g == f) Leave refl
-no_change g (Hclose f) e = only_change_same (g == f) Close refl
-no_change g _ e = refl
-
 pub unlock_frames : (g : ℕ) (fs : List Hmesg) → frees_command (at_file g fs) ≡ unlocks_command fs
 unlock_frames g [] = refl
 unlock_frames g (m ∷ fs) = λ i. is_unlock_same g m i || unlock_frames g fs i
@@ -133,21 +94,12 @@ has_version (m ∷ fs) = is_version m || has_version fs
 no_version : (fs : List Hmesg) → VersionsGuarded fs → unlocks_command fs ≡ false → has_version fs ≡ false
 unfolding has_version
 no_version [] v e = refl
-no_version (m ∷ fs) v e = go (is_version m) refl (no_version fs v.1 (or_parts (is_unlock m) (unlocks_command fs) e).1)
-  where
-    rest : (unlocks_command fs ≡ false)
-    rest = (or_parts (is_unlock m) (unlocks_command fs) e).1
-
-    go : (b : Bool) → is_version m ≡ b → has_version fs ≡ false → (b || has_version fs) ≡ false
-    go true q h = absurd (true≢false (sym (v.0 q) ∙ rest))
-    go false q h = h
+no_version (m ∷ fs) v e = grind (arith, (no_version fs v.1 (or_parts (is_unlock m) (unlocks_command fs) e).1))
 
 changes_frames : (g : ℕ) (fs : List Hmesg) → has_version fs ≡ false → changes (at_file g fs) ≡ false
 unfolding has_version
 changes_frames g [] e = refl
-changes_frames g (m ∷ fs) e =
-    let parts = or_parts (is_version m) (has_version fs) e in
-    ap (λ (b : Bool). b || changes (at_file g fs)) (no_change g m parts.0) ∙ changes_frames g fs parts.1
+changes_frames g (m ∷ fs) e = grind (arith, (changes_frames g fs))
 
 -- without an Hunlock there is no Hversion
 pub no_changes : (g : ℕ) (fs : List Hmesg) → VersionsGuarded fs → unlocks_command fs ≡ false → changes (at_file g fs) ≡ false

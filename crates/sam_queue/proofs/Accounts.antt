@@ -1,5 +1,5 @@
 -- What an audit says.
-use Rattle.std.proofs.Common.{◌≡◌, ℕ, zero, suc, ◌<◌, ◌≤◌, true, List, [], ◌∷◌, ◌++◌, length, map, Some, slice_get, All, Vec, filter_map, sym, ap, ◌∙◌, subst, append-nil, arith}
+use Rattle.std.proofs.Common.{◌≡◌, ℕ, zero, suc, ◌<◌, ◌≤◌, List, [], ◌∷◌, ◌++◌, length, map, Some, slice_get, All, Vec, sym, ap, ◌∙◌, subst, append-nil, arith}
 use mathlib.Core.Option.{some}
 use lib.ListN.{get_elem?}
 use Rattle.std.specs.Global.{Global}
@@ -7,7 +7,7 @@ use Rattle.std.proofs.lemmas.Option.{slice_get_within}
 use Rattle.sam_queue.specs.declared.rule.Entry.{Entry}
 use Rattle.sam_queue.specs.declared.rule.Port.{Port}
 use Rattle.sam_queue.specs.declared.rule.Port.TheVariants.{Receives}
-use Rattle.sam_queue.specs.History.{loads, items_of, has_mark, has_left, IsEnded, all_of}
+use Rattle.sam_queue.specs.History.{loads, items_of, IsEnded, all_of}
 use Rattle.sam_queue.specs.Views.{PostView, TakeView}
 use Rattle.sam_queue.specs.Audits.{ArePostsOf, Accounted, AllAccounted, HasHistory}
 use Rattle.sam_queue.specs.Ports.{sent_of, received_of, with_posts, IsRest}
@@ -24,23 +24,20 @@ module _ {T : Type 0} where
 
   account : (k : ℕ) (taken entries : List (Entry T)) (p : PostView T) (left : List T)
       → p.number ≡ k → loads k (taken ++ entries) ≡ all_of p.put p.closed → left ≡ items_of k entries → Accounted taken p left
-  account k taken entries p left number told is =
-      let parts : loads k taken ++ loads k entries ≡ all_of p.put p.closed = sym (loads-append k taken entries) ∙ told in
-      record {
-        items = ap (λ n. items_of n taken ++ left) number ∙ ap (λ l. items_of k taken ++ l) is
-            ∙ sym (items_of-append k taken entries) ∙ ap (λ l. filter_map (λ x. x) l) told ∙ items_said p.put p.closed;
-        marked = λ mark.
-            let marked : has_mark (loads k taken) ≡ true = ap (λ n. has_left n taken) (sym number) ∙ mark in
-            let none = none_after_mark (loads k taken) (loads k entries) p.put p.closed parts marked in
-            let all : loads k taken ≡ all_of p.put p.closed = sym (append-nil (loads k taken)) ∙ ap (λ l. loads k taken ++ l) (sym none) ∙ parts in
-            (sym (has_mark_said p.put p.closed) ∙ ap has_mark (sym all) ∙ marked, is ∙ ap (λ l. filter_map (λ x. x) l) none);
-      }
+  account k taken entries p left number told is = grind (
+    arith,
+    (loads-append k taken entries),
+    (items_of-append k taken entries),
+    (items_said p.put p.closed),
+    (none_after_mark (loads k taken) (loads k entries) p.put p.closed),
+    (append-nil (loads k taken)),
+    (has_mark_said p.put p.closed),
+  )
 
   -- what the pass knows of the entries that were drained, once all posts are gathered
   pub drained_of : (old t : TakeView T) (posts : List (PostView T)) (entries : List (Entry T)) (v w : Port T)
       → v ≡ Receives (received_of old) → old ≡ t → w ≡ with_posts v (map sent_of posts) → IsRest w entries → IsRest (with_posts (Receives (received_of t)) (map sent_of posts)) entries
-  drained_of old t posts entries v w knows same gathered drained =
-      subst (λ (u : Port T). IsRest u entries) (gathered ∙ ap (λ (u : Port T). with_posts u (map sent_of posts)) (knows ∙ (λ i. Receives (received_of (same i))))) drained
+  drained_of old t posts entries v w knows same gathered drained = grind arith
 
   pub within_left : {m n : ℕ} (taken entries : List (Entry T)) → m ≡ n → All (λ e. e.sender < n) (taken ++ entries) → All (λ e. e.sender < m) entries
   within_left {m} {n} taken entries many within = subst (λ k. All (λ (e : Entry T). e.sender < k) entries) (sym many) (all_right (λ (e : Entry T). e.sender < n) taken entries within)

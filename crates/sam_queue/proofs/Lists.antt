@@ -1,5 +1,5 @@
 -- Lists by place.
-use Rattle.std.proofs.Common.{◌≡◌, ◌≢◌, ℕ, zero, suc, ◌<◌, List, [], ◌∷◌, ◌++◌, length, set, Some, slice_get, All, ◌⊎◌, inl, inr, refl, ap, ⊎_elim, arith}
+use Rattle.std.proofs.Common.{◌≡◌, ◌≢◌, ℕ, zero, suc, ◌<◌, List, [], ◌∷◌, ◌++◌, length, set, Some, slice_get, All, ◌⊎◌, inl, inr, refl, arith}
 use mathlib.Core.Option.{some}
 use lib.ListN.{get_elem?}
 use Rattle.std.proofs.lemmas.List.Elements.{All-nil, All-cons, All-tail}
@@ -25,8 +25,7 @@ module _ {A : Type 0} where
   get_set (x ∷ xs) zero a b zero e = inl (refl, let h : a ≡ b = cc in h)
   get_set (x ∷ xs) zero a b (suc k) e = inr ((λ h. omega arith), e)
   get_set (x ∷ xs) (suc i) a b zero e = inr ((λ h. omega arith), e)
-  get_set (x ∷ xs) (suc i) a b (suc k) e = ⊎_elim (λ (t : (k ≡ i) × (a ≡ b)). inl (ap suc t.0, t.1))
-      (λ (t : (k ≢ i) × (slice_get xs k ≡ Some b)). let n = t.0 in inr ((λ h. n (omega arith)), t.1)) (get_set xs i a b k e)
+  get_set (x ∷ xs) (suc i) a b (suc k) e = grind (arith, (get_set xs i a b k e))
 
   pub found_at : (l : List A) (k : ℕ) → k < length l → (a : A) × (slice_get l k ≡ Some a)
   found_at [] k less = absurd (omega arith)

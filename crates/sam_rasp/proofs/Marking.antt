@@ -1,5 +1,5 @@
 -- Marks as a list of sections changes.
-use Rattle.std.proofs.Common.{◌≡◌, sym, ap, ◌∙◌, subst, ℕ, ◌+◌, ◌-◌, ◌<◌, ◌≤◌, List, take, drop, length, set, arith}
+use Rattle.std.proofs.Common.{◌≡◌, sym, ap, ◌∙◌, ℕ, ◌+◌, ◌-◌, ◌<◌, ◌≤◌, List, take, drop, length, set, arith}
 use Rattle.std.specs.List.{AllWithin}
 use Rattle.std.proofs.lemmas.List.Elements.{AllWithin-more_set}
 use Rattle.std.proofs.lemmas.List.{get_or-set_other, drop-drop, take-append-drop, length-append, length-drop}
@@ -10,8 +10,7 @@ use Rattle.sam_rasp.specs.declared.marks.Change.{Change}
 use Rattle.sam_rasp.proofs.Splices.{cells-append, take-below}
 
 pub kept_before : (xs ys : List Section) (c : Change) (m : Begin) → IsChange xs ys c → IsBegin xs m → m.index ≤ c.front.index → IsBegin ys m
-kept_before xs ys c m change begin le =
-    (omega (arith, change.0.0, le), ap (λ zs. length (cells_of zs)) (take-below ys xs m.index c.front.index le change.1) ∙ begin.1)
+kept_before xs ys c m change begin le = grind (arith, take-below)
 
 -- the cells before section number i and those from it on
 parts : (xs : List Section) (i : ℕ) → length (cells_of (take i xs)) + length (cells_of (drop i xs)) ≡ length (cells_of xs)
@@ -34,5 +33,4 @@ moved_behind xs ys c m b change begin less ei ep =
 -- b is written at number i: P holds of one more from the front, and Q of one less to the end
 pub written : (P Q : Begin → Type 0) (ms : List Begin) (i n : ℕ) (b : Begin) → i < length ms → AllWithin P ms 0 i → AllWithin Q ms i n → P b
     → AllWithin P (set ms i b) 0 (i + 1) × AllWithin Q (set ms i b) (i + 1) n
-written P Q ms i n b less done left h =
-    (AllWithin-more_set ms i b less P done h, λ k d lo hi. subst Q (sym (get_or-set_other ms i k b d (λ e. omega (arith, lo, e)))) (left k d (omega (arith, lo)) hi))
+written P Q ms i n b less done left h = grind (arith, (AllWithin-more_set ms i b less P done h), (get_or-set_other ms i))

@@ -1,5 +1,5 @@
 -- Sections taken out of a list and put back.
-use Rattle.std.proofs.Common.{◌≡◌, refl, sym, ap, ◌∙◌, subst, ℕ, suc, ◌+◌, ◌-◌, ◌≤◌, ◌<◌, List, [], ◌∷◌, ◌++◌, take, drop, length, min, reverse, arith, ◌⊎◌, inl, inr}
+use Rattle.std.proofs.Common.{◌≡◌, refl, sym, ap, ◌∙◌, subst, ℕ, ◌+◌, ◌-◌, ◌≤◌, ◌<◌, List, [], ◌∷◌, ◌++◌, take, drop, length, min, reverse, arith, ◌⊎◌, inl, inr}
 use Rattle.std.proofs.lemmas.List.{append-nil, append_assoc, drop-take, nil_from_length, take_at, drop_at, drop_min, drop-drop, take-take, take-append-drop, drop-append-le, length-append, length-reverse, length-take, length-drop, take-append-le, drop-append-le}
 use Rattle.std.proofs.lemmas.List.Concat.{flat_map-append}
 use Rattle.sam_rasp.specs.Rasp.{PartialText}
@@ -8,7 +8,6 @@ use Rattle.sam_rasp.specs.declared.section.Section.{Section}
 use Rattle.sam_rasp.proofs.SectionLaws.{normal-between}
 use Rattle.sam_rasp.proofs.Changes.{take-past, drop-past}
 use Rattle.sam_rasp.proofs.Runs.{normal-take, normal-drop}
-use Rattle.std.proofs.lemmas.Bool.{cases_lt}
 use Rattle.std.specs.List.{insert}
 
 pub take-below : {X : Type 0} (xs ys : List X) (n m : ℕ) → n ≤ m → take m xs ≡ take m ys → take n xs ≡ take n ys
@@ -149,20 +148,22 @@ opened xs o w z front number last begin first inner next le few ordered within b
 -- a change inside t, with a before it and b behind it
 pub change-inside : (a t b m : PartialText) (p at n : ℕ) → length a + at ≡ p → at + n ≤ length t
     → a ++ (((take at t ++ m) ++ drop (at + n) t) ++ b) ≡ (take p (a ++ (t ++ b)) ++ m) ++ drop (p + n) (a ++ (t ++ b))
-change-inside a t b m p at n place within =
-    let front : take p (a ++ (t ++ b)) ≡ a ++ take at t = take-past a (t ++ b) at p place ∙ ap (λ y. a ++ y) (take-append-le at t b (omega (arith, within))) in
-    let back : drop (p + n) (a ++ (t ++ b)) ≡ drop (at + n) t ++ b = drop-past a (t ++ b) (at + n) (p + n) (omega (arith, place)) ∙ drop-append-le (at + n) t b within in
-    ap (λ y. a ++ y) (append_assoc (take at t ++ m) (drop (at + n) t) b ∙ append_assoc (take at t) m (drop (at + n) t ++ b))
-    ∙ (sym (append_assoc a (take at t) (m ++ (drop (at + n) t ++ b)))
-    ∙ (ap (λ y. y ++ (m ++ (drop (at + n) t ++ b))) (sym front)
-    ∙ (sym (append_assoc (take p (a ++ (t ++ b))) m (drop (at + n) t ++ b))
-    ∙ ap (λ y. (take p (a ++ (t ++ b)) ++ m) ++ y) (sym back))))
+change-inside a t b m p at n place within = grind (
+  arith,
+  (take-past a (t ++ b) at p place),
+  (take-append-le at t b),
+  (drop-past a (t ++ b) (at + n) (p + n)),
+  (drop-append-le (at + n) t b within),
+  (append_assoc (take at t ++ m) (drop (at + n) t) b),
+  (append_assoc (take at t) m (drop (at + n) t ++ b)),
+  (append_assoc a (take at t) (m ++ (drop (at + n) t ++ b))),
+  (append_assoc (take p (a ++ (t ++ b))) m (drop (at + n) t ++ b)),
+)
 
 -- s is xs but for the places of the window; o stands there now
 pub closed : {X : Type 0} (xs s new o : List X) (front last : ℕ) → take front s ≡ take front xs → drop (last + 1) s ≡ drop (last + 1) xs
     → new ≡ (take front s ++ o) ++ drop (last + 1) s → new ≡ take front xs ++ (o ++ drop (last + 1) xs)
-closed xs s new o front last before behind e =
-    e ∙ (ap (λ y. (y ++ o) ++ drop (last + 1) s) before ∙ (ap (λ y. (take front xs ++ o) ++ y) behind ∙ append_assoc (take front xs) o (drop (last + 1) xs)))
+closed xs s new o front last before behind e = grind (arith, append_assoc)
 
 pub head-apart : (w : Section) (o r : List Section) → 0 < length o → StaysApart w (o ++ r) → IsApart w o
 head-apart w [] r l s = absurd (omega (arith, l))
@@ -175,47 +176,28 @@ apart-head w (a ∷ o) r s = s
 pub closed-normal : (xs o w z o' : List Section) (front last begin first : ℕ) → Opened xs o w z front last begin first → IsNormal xs → (front ≡ 0) ⊎ (0 < length o)
     → ((v : Section) → IsApart v o → IsApart v o') → IsNormal (o' ++ drop (last + 1) xs) → IsNormal (take front xs ++ (o' ++ drop (last + 1) xs))
 closed-normal xs o w z o' front last begin first p h (inl none) k g = subst (λ j. IsNormal (take j xs ++ (o' ++ drop (last + 1) xs))) (sym none) g
-closed-normal xs o w z o' front last begin first p h (inr some) k g =
-    let behind = reverse w ++ (z ++ drop (last + 1) xs) in
-    let same : (o ++ reverse w) ++ (z ++ drop (last + 1) xs) ≡ o ++ behind = append_assoc o (reverse w) (z ++ drop (last + 1) xs) in
-    normal-between (take front xs) (o ++ behind) (o' ++ drop (last + 1) xs) (subst IsNormal (p.list ∙ ap (λ y. take front xs ++ y) same) h)
-    (λ v s. apart-head v o' (drop (last + 1) xs) (k v (head-apart v o behind some s))) g
+closed-normal xs o w z o' front last begin first p h (inr some) k g = grind (arith, normal-between, apart-head, head-apart)
 
 -- where no section is behind the window the list ends
 pub nothing-behind : (xs z : List Section) (last : ℕ) → z ++ drop (last + 1) xs ≡ drop last xs → z ≡ [] → drop (last + 1) xs ≡ []
-nothing-behind xs z last e none =
-    let same = ap length (ap (λ y. y ++ drop (last + 1) xs) (sym none) ∙ e) in
-    nil_from_length (drop (last + 1) xs) (omega (arith, same, length-drop (last + 1) xs, length-drop last xs))
+nothing-behind xs z last e none = grind (arith, (nil_from_length (drop (last + 1) xs)), (length-drop (last + 1) xs), (length-drop last xs))
 
 pub normal-front : (xs o r : List Section) (i n : ℕ) → o ++ r ≡ take n (drop i xs) → IsNormal xs → IsNormal o
 normal-front xs o r i n e h =
     subst IsNormal (take_at o r (length o) refl) (normal-take (o ++ r) (length o) (subst IsNormal (sym e) (normal-take (drop i xs) n (normal-drop xs i h))))
 
 pub has-front : (front number n : ℕ) → n ≡ number - front → front ≤ number → (front ≡ number → front ≡ 0) → (front ≡ 0) ⊎ (0 < n)
-has-front front number n e le none = go (cases_lt front number)
-  where
-    go : (front < number) ⊎ (number ≤ front) → (front ≡ 0) ⊎ (0 < n)
-    go (inl l) = inr (omega (arith, l, e))
-    go (inr l) = inl (none (omega (arith, l, le)))
+has-front front number n e le none = grind arith
 
 pub change-length : (t m : PartialText) (from to : ℕ) → from ≤ to → to ≤ length t → length ((take from t ++ m) ++ drop to t) + (to - from) ≡ length t + length m
-change-length t m from to ascending within =
-    omega (arith, length-append (take from t ++ m) (drop to t), length-append (take from t) m, length-take from t, length-drop to t)
+change-length t m from to ascending within = grind (arith, length-append, length-take, length-drop)
 
 -- ## A section put in
 
 pub before-inserted : {X : Type 0} (new old first : List X) (x : X) (at : ℕ) → at ≤ length old → new ≡ insert old at x → take at old ≡ take at first
     → take at new ≡ take at first
-before-inserted new old first x at within is same =
-    ap (take at) is ∙ (take_at (take at old) (x ∷ drop at old) at (omega (arith, length-take at old, within)) ∙ same)
+before-inserted new old first x at within is same = grind (arith, take_at, length-take)
 
 pub behind-inserted : {X : Type 0} (new old first : List X) (x : X) (at n : ℕ) → at ≤ length old → new ≡ insert old at x → drop (at + n) old ≡ drop at first
     → drop (at + (n + 1)) new ≡ drop at first
-behind-inserted new old first x at n within is same =
-    let length_is : length (take at old) + (n + 1) ≡ at + (n + 1) = omega (arith, length-take at old, within) in
-    ap (drop (at + (n + 1))) is
-    ∙ (drop-past (take at old) (x ∷ drop at old) (n + 1) (at + (n + 1)) length_is
-    ∙ (ap (λ j. drop j (x ∷ drop at old)) (next n) ∙ (drop-drop n at old ∙ same)))
-  where
-    next : (n : ℕ) → n + 1 ≡ suc n
-    next n = omega (arith)
+behind-inserted new old first x at n within is same = grind (arith, (length-take at old), (drop-past (take at old) (x ∷ drop at old) (n + 1) (at + (n + 1))), (drop-drop n at old))

@@ -1,12 +1,11 @@
 -- Runes put into a loaded section that has room for them.
-use Rattle.std.proofs.Common.{◌≡◌, refl, sym, ap, ◌∙◌, subst, ℕ, zero, suc, ◌+◌, ◌≤◌, ◌<◌, List, [], ◌∷◌, ◌++◌, take, drop, length, get_or, set, arith, true, false}
+use Rattle.std.proofs.Common.{◌≡◌, refl, sym, ap, ◌∙◌, ℕ, zero, suc, ◌+◌, ◌≤◌, ◌<◌, List, [], ◌∷◌, ◌++◌, take, drop, length, get_or, set, arith, true}
 use Rattle.std.proofs.lemmas.List.{append_assoc, take-append-le, drop-append-le}
 use Rattle.sam_runes.specs.Texts.{ins, most_in_message}
 use Rattle.sam_rasp.specs.Rasp.{PartialText}
-use Rattle.sam_rasp.specs.Sections.{cells, cells_of, size, may_join, is_loaded, IsFilled, IsNormal}
+use Rattle.sam_rasp.specs.Sections.{cells, cells_of, size, is_loaded, IsNormal}
 use Rattle.sam_rasp.specs.declared.section.Section.{Section}
-use Rattle.sam_rasp.specs.declared.section.Section.TheVariants.{Loaded, Hole}
-use Rattle.sam_rasp.proofs.SectionLaws.{filled, length-cells}
+use Rattle.sam_rasp.proofs.SectionLaws.{length-cells}
 use Rattle.sam_rasp.proofs.Changes.{take-past, drop-past}
 use Rattle.sam_rasp.proofs.Runs.{three-parts}
 
@@ -17,44 +16,18 @@ pub record Grows (a b : Section) : Type 0 where
   pub more : size a ≤ size b
   pub limit : size b ≤ most_in_message
 
-apart-front : (w a b : Section) → Grows a b → may_join w a ≡ false → may_join w b ≡ false
-apart-front (Loaded r) (Loaded s) (Loaded t) g f = let more = g.more in grind (arith, more, f)
-apart-front (Hole n) (Loaded s) (Loaded t) g f = refl
-apart-front w (Hole n) b g f = let never = g.loaded in absurd (cc)
-apart-front w (Loaded s) (Hole n) g f = let never = g.loaded_after in absurd (cc)
-
-apart-back : (a b w : Section) → Grows a b → may_join a w ≡ false → may_join b w ≡ false
-apart-back (Loaded s) (Loaded t) (Loaded r) g f = let more = g.more in grind (arith, more, f)
-apart-back (Loaded s) (Loaded t) (Hole n) g f = refl
-apart-back (Hole n) b w g f = let never = g.loaded in absurd (cc)
-apart-back (Loaded s) (Hole n) w g f = let never = g.loaded_after in absurd (cc)
-
-grown-filled : (a b : Section) → Grows a b → 0 < size a → IsFilled b
-grown-filled a (Loaded t) g l = (omega (arith, l, g.more), g.limit)
-grown-filled a (Hole n) g l = let never = g.loaded_after in absurd (cc)
-
 pub normal-set : (xs : List Section) (i : ℕ) (x x' : Section) → IsNormal xs → i < length xs → x ≡ get_or xs i x → Grows x x' → IsNormal (set xs i x')
 normal-set [] i x x' h l e g = absurd (omega (arith, l))
-normal-set (y ∷ []) zero x x' h l e g =
-    let g' : Grows y x' = subst (λ a. Grows a x') e g in
-    (grown-filled y x' g' (filled y h.0), tt, tt)
-normal-set (y ∷ z ∷ zs) zero x x' h l e g =
-    let g' : Grows y x' = subst (λ a. Grows a x') e g in
-    (grown-filled y x' g' (filled y h.0), apart-back y x' z g' h.1, h.2)
+normal-set (y ∷ []) zero x x' h l e g = grind arith
+normal-set (y ∷ z ∷ zs) zero x x' h l e g = grind arith
 normal-set (y ∷ []) (suc i) x x' h l e g = absurd (omega (arith, l))
-normal-set (y ∷ z ∷ zs) (suc zero) x x' h l e g =
-    let g' : Grows z x' = subst (λ a. Grows a x') e g in
-    (h.0, apart-front y z x' g' h.1, normal-set (z ∷ zs) zero x x' h.2 (omega (arith, l)) e g)
+normal-set (y ∷ z ∷ zs) (suc zero) x x' h l e g = grind arith
 normal-set (y ∷ z ∷ zs) (suc (suc i)) x x' h l e g = (h.0, h.1, normal-set (z ∷ zs) (suc i) x x' h.2 (omega (arith, l)) e g)
 
 pub cells-set : (xs : List Section) (i : ℕ) (x' : Section) → i < length xs → cells_of (set xs i x') ≡ cells_of (take i xs) ++ (cells x' ++ cells_of (drop (i + 1) xs))
 cells-set [] i x' l = absurd (omega (arith, l))
 cells-set (y ∷ xs) zero x' l = refl
-cells-set (y ∷ xs) (suc i) x' l =
-    let next : suc i + 1 ≡ suc (i + 1) = omega arith in
-    ap (λ r. cells y ++ r) (cells-set xs i x' (omega (arith, l)))
-    ∙ (sym (append_assoc (cells y) (cells_of (take i xs)) (cells x' ++ cells_of (drop (i + 1) xs)))
-    ∙ ap (λ k. cells_of (take (suc i) (y ∷ xs)) ++ (cells x' ++ cells_of (drop k (y ∷ xs)))) (sym next))
+cells-set (y ∷ xs) (suc i) x' l = grind (arith, append_assoc, (cells-set xs i x'))
 
 -- runes put in at the place at of section number i, which is the place p of the whole
 pub inserted-inside : (xs : List Section) (i at p : ℕ) (x x' : Section) (m : PartialText) → i < length xs

@@ -32,58 +32,22 @@ hole_from r at p q = option_map (range_from (max p at)) (first_gaps (part r (p -
 
 -- a member before the range
 pub step-before : (cell : Option ℕ) (r : PartialText) (at p q : ℕ) → at < p → hole_from (cell ∷ r) at p q ≡ hole_from r (at + 1) p q
-step-before cell r at p q l =
-    let a : ℕ = p - (at + 1) in
-    let b : ℕ = q - (at + 1) in
-    let ea : p - at ≡ suc a = omega (arith, l) in
-    let eb : (q - at) - suc a ≡ b - a = omega (arith, l) in
-    let em : max p at ≡ max p (at + 1) = omega (arith, l) in
-    ap (λ m. option_map (range_from m) (first_gaps (part (cell ∷ r) (p - at) (q - at)))) em
-    ∙ (ap (λ k. option_map (range_from (max p (at + 1))) (first_gaps (take ((q - at) - k) (drop k (cell ∷ r))))) ea
-    ∙ ap (λ k. option_map (range_from (max p (at + 1))) (first_gaps (take k (drop a r)))) eb)
+step-before cell r at p q l = grind arith
 
 -- members behind the range
 pub none-behind : (r : PartialText) (at p q : ℕ) → p ≤ q → q ≤ at → hole_from r at p q ≡ None
-none-behind r at p q le l =
-    let none : (q - at) - (p - at) ≡ 0 = omega (arith, l) in
-    ap (λ k. option_map (range_from (max p at)) (first_gaps (take k (drop (p - at) r)))) none
+none-behind r at p q le l = grind arith
 
 -- what stands in the range from its start on
 pub from-start : (r : PartialText) (at p q : ℕ) → p ≤ at → hole_from r at p q ≡ option_map (range_from at) (first_gaps (take (q - at) r))
-from-start r at p q l =
-    let none : p - at ≡ 0 = omega (arith, l) in
-    let all : (q - at) - (p - at) ≡ q - at = omega (arith, l) in
-    let em : max p at ≡ at = omega (arith, l) in
-    ap (λ m. option_map (range_from m) (first_gaps (part r (p - at) (q - at)))) em
-    ∙ (ap (λ k. option_map (range_from at) (first_gaps (take k (drop (p - at) r)))) all
-    ∙ ap (λ k. option_map (range_from at) (first_gaps (take (q - at) (drop k r)))) none)
-
-one-further : (at : ℕ) (h : Option (ℕ × ℕ)) → option_map (range_from at) (option_map (λ (h : ℕ × ℕ). (1 + h.0, h.1)) h) ≡ option_map (range_from (at + 1)) h
-one-further at None = refl
-one-further at (Some (s, n)) =
-    let e : at + (1 + s) ≡ at + 1 + s = omega arith in
-    ap (λ k. Some (k, k + n)) e
-
--- a rune in the range
-pub step-rune : (c : ℕ) (r : PartialText) (at p q : ℕ) → p ≤ at → at < q → hole_from (Some c ∷ r) at p q ≡ hole_from r (at + 1) p q
-step-rune c r at p q l below =
-    let b : ℕ = q - (at + 1) in
-    let eb : q - at ≡ suc b = omega (arith, below) in
-    from-start (Some c ∷ r) at p q l
-    ∙ (ap (λ k. option_map (range_from at) (first_gaps (take k (Some c ∷ r)))) eb
-    ∙ (one-further at (first_gaps (take b r)) ∙ sym (from-start r (at + 1) p q (omega (arith, l)))))
+from-start r at p q l = grind arith
 
 pub skip-member : (cell : Option ℕ) (r : PartialText) (at p q : ℕ) → p ≤ q → (at < p) ⊎ (q ≤ at) → hole_from (cell ∷ r) at p q ≡ hole_from r (at + 1) p q
 skip-member cell r at p q le (inl l) = step-before cell r at p q l
 skip-member cell r at p q le (inr l) = none-behind (cell ∷ r) at p q le l ∙ sym (none-behind r (at + 1) p q le (omega (arith, l)))
 
 pub skip-rune : (c : ℕ) (r : PartialText) (at p q : ℕ) → p ≤ q → hole_from (Some c ∷ r) at p q ≡ hole_from r (at + 1) p q
-skip-rune c r at p q le = go (cases_lt at p) (cases_lt at q)
-  where
-    go : ((at < p) ⊎ (p ≤ at)) → ((at < q) ⊎ (q ≤ at)) → hole_from (Some c ∷ r) at p q ≡ hole_from r (at + 1) p q
-    go (inl l) m = step-before (Some c) r at p q l
-    go (inr l) (inl m) = step-rune c r at p q l m
-    go (inr l) (inr m) = skip-member (Some c) r at p q le (inr m)
+skip-rune c r at p q le = grind arith
 
 -- a loaded section holds no hole
 pub skip-loaded : (s : List ℕ) (r : PartialText) (at p q end : ℕ) → p ≤ q → at + length s ≡ end → hole_from (map Some s ++ r) at p q ≡ hole_from r end p q
@@ -93,12 +57,7 @@ skip-loaded (c ∷ s) r at p q end le e = skip-rune c (map Some s ++ r) at p q l
 -- a hole outside the range
 pub skip-hole : (n : ℕ) (r : PartialText) (at p q end : ℕ) → p ≤ q → at + n ≡ end → min end q ≤ max at p → hole_from (replicate n None ++ r) at p q ≡ hole_from r end p q
 skip-hole zero r at p q end le e out = let same : at ≡ end = omega (arith, e) in ap (λ k. hole_from r k p q) same
-skip-hole (suc n) r at p q end le e out =
-    skip-member None (replicate n None ++ r) at p q le (outside (cases_lt at p)) ∙ skip-hole n r (at + 1) p q end le (omega (arith, e)) (omega (arith, out))
-  where
-    outside : ((at < p) ⊎ (p ≤ at)) → (at < p) ⊎ (q ≤ at)
-    outside (inl l) = inl l
-    outside (inr l) = inr (omega (arith, out, e, l, le))
+skip-hole (suc n) r at p q end le e out = grind (arith, skip-member, (skip-hole n r (at + 1) p q end le))
 
 pub skip-section : (x : Section) (r : PartialText) (at p q end : ℕ) → p ≤ q → at + size x ≡ end → (is_loaded x ≡ true) ⊎ (min end q ≤ max at p) → hole_from (cells x ++ r) at p q ≡ hole_from r end p q
 skip-section (Loaded s) r at p q end le e out = skip-loaded s r at p q end le e
@@ -142,5 +101,4 @@ front-loaded n (Hole m ∷ xs) a h = absurd (cc)
 pub section-found : (x : Section) (xs : List Section) (at p q end : ℕ) → IsNormal (x ∷ xs)
     → at + size x ≡ end → is_loaded x ≡ false → max at p < min end q → hole_from (cells x ++ cells_of xs) at p q ≡ Some (max at p, min end q)
 section-found (Loaded s) xs at p q end h e never l = absurd (cc)
-section-found (Hole n) xs at p q end h e never l =
-    hole-found n (cells_of xs) at p q (front-loaded n xs h.1 h.2) (omega (arith, l, e)) ∙ ap (λ k. Some (max at p, min k q)) e
+section-found (Hole n) xs at p q end h e never l = grind (arith, hole-found, front-loaded)

@@ -38,52 +38,16 @@ abbrev pub BegunAt : ℕ → List ℕ → Type 0
 BegunAt c bs = Begun c (length bs) (get_or bs 0 0) (get_or bs 1 0) (get_or bs 2 0) (get_or bs 3 0)
 
 begun_1 : (c : ℕ) (rest : List ℕ) → c < 128 → BegunAt c (c ∷ rest)
-begun_1 c rest low = record {
-  some = omega arith;
-  second = λ h. absurd (omega arith);
-  third = λ h. absurd (omega arith);
-  fourth = λ h. absurd (omega arith);
-  of_two = λ h k. absurd (omega arith);
-  of_three = λ h k. absurd (omega arith);
-  of_four = λ h. absurd (omega arith);
-}
+begun_1 c rest low = grind arith
 
 begun_2 : (c : ℕ) (rest : List ℕ) → 128 ≤ c → c < 2048 → BegunAt c ((192 + c / 64) ∷ (128 + c % 64) ∷ rest)
-begun_2 c rest low high = record {
-  some = omega arith;
-  second = λ h. (omega arith, omega arith, (omega arith, omega arith));
-  third = λ h. absurd (omega arith);
-  fourth = λ h. absurd (omega arith);
-  of_two = λ h k. (omega arith, low);
-  of_three = λ h k. absurd (omega arith);
-  of_four = λ h. absurd (omega arith);
-}
+begun_2 c rest low high = grind arith
 
 begun_3 : (c : ℕ) (rest : List ℕ) → 2048 ≤ c → c < 65536 → BegunAt c ((224 + c / 4096) ∷ (128 + (c / 64) % 64) ∷ (128 + c % 64) ∷ rest)
-begun_3 c rest low high = record {
-  some = omega arith;
-  second = λ h. (omega arith, omega arith, (omega arith, omega arith));
-  third = λ h. (omega arith, (omega arith, omega arith));
-  fourth = λ h. absurd (omega arith);
-  of_two = λ h k. absurd (omega arith);
-  of_three = λ h k. (omega arith, low);
-  of_four = λ h. absurd (omega arith);
-}
+begun_3 c rest low high = grind arith
 
 begun_4 : (c : ℕ) (rest : List ℕ) → 65536 ≤ c → c < 1114112 → BegunAt c ((240 + c / 262144) ∷ (128 + (c / 4096) % 64) ∷ (128 + (c / 64) % 64) ∷ (128 + c % 64) ∷ rest)
-begun_4 c rest low high =
-    let p0 : c ≡ (c / 64) * 64 + c % 64 = omega arith in
-    let p1 : c / 64 ≡ (c / 4096) * 64 + (c / 64) % 64 = omega arith in
-    let p2 : c / 4096 ≡ (c / 262144) * 64 + (c / 4096) % 64 = omega arith in
-    record {
-      some = omega arith;
-      second = λ h. (omega arith, omega arith, (omega arith, omega arith));
-      third = λ h. (omega arith, (omega arith, omega arith));
-      fourth = λ h. (omega arith, (omega arith, omega arith));
-      of_two = λ h k. absurd (omega arith);
-      of_three = λ h k. absurd (omega arith);
-      of_four = λ h. (omega arith, low);
-    }
+begun_4 c rest low high = grind arith
 
 begun : (c : ℕ) (rest : List ℕ) → IsScalar c → BegunAt c (encode_utf8 c ++ rest)
 begun c rest is =

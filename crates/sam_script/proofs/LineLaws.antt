@@ -1,11 +1,11 @@
 -- What is read of a line is what it says, and each line says one thing.
-use Rattle.std.proofs.Common.{◌≡◌, ◌<◌, ◌≤◌, ◌∙◌, inl, inr, refl, sym, ap, subst, ℕ, List, [], ◌∷◌, ◌++◌, length, true, Some, None, Result, Ok, Err, IfOk, IfErr, codes, flat_map, encode_utf8}
-use Rattle.std.specs.Prelude.{nat_lt, nat_le, ◌&&◌, ◌||◌, ◌==◌, chars, encode_utf8_all}
+use Rattle.std.proofs.Common.{◌≡◌, ◌<◌, ◌≤◌, ◌∙◌, inl, inr, refl, sym, ap, subst, ℕ, List, [], ◌∷◌, ◌++◌, length, true, Some, None, Result, Ok, Err, IfOk, IfErr, codes, flat_map, encode_utf8, arith}
+use Rattle.std.specs.Prelude.{◌||◌, ◌==◌, chars, encode_utf8_all}
 use Rattle.std.specs.List.{AllByRecursion}
 use Rattle.std.specs.Str.{IsUtf8}
-use Rattle.std.proofs.lemmas.Bool.{ltb-true, lt-ltb, leb-true, le-leb, eqb-true, cases_Bool, and_parts}
+use Rattle.std.proofs.lemmas.Bool.{le-leb, eqb-true, cases_Bool}
 use Rattle.std.proofs.lemmas.Bool.Decides.{eqb_tells}
-use Rattle.std.proofs.lemmas.Option.{cond_some, same_Some}
+use Rattle.std.proofs.lemmas.Option.{same_Some}
 use Rattle.std.proofs.lemmas.Str.{chars_from_encodes, encodes-chars}
 use Rattle.sam_runes.specs.Texts.{max_runes, most_in_name}
 use Rattle.sam_script.specs.declared.line.Line.{Line}
@@ -18,8 +18,8 @@ use Rattle.sam_world.specs.Given.{IsFile}
 use Rattle.sam_script.specs.Spelling.{SpellsParts, IsWord, SpellsFile, SpellsLine, SaysNothing, SaysSo, Says}
 use Rattle.sam_script.specs.Events.Part.{Rest}
 use Rattle.sam_script.specs.Reading.{event_at, fitting_name, fitting_text, file_text_at, file_at, bare, line_readers, is_silent, line_at, IsUnsaid}
-use Rattle.sam_script.specs.Words.{◌>>=◌, word_of, behind_word, word_at, text_at, Gives}
-use Rattle.sam_script.proofs.SpellingLaws.{bind_some, ended_says, IsEnd, word_ends, word_split, word_says, word_read, utf8_tail, utf8_rear, utf8_front, text_says, text_read, parts_end, ReadsAs, rows_say, event_says, event_read}
+use Rattle.sam_script.specs.Words.{◌>>=◌, word_of, behind_word, word_at, Gives}
+use Rattle.sam_script.proofs.SpellingLaws.{bind_some, IsEnd, word_ends, word_split, word_says, word_read, utf8_tail, utf8_rear, utf8_front, text_says, text_read, ReadsAs, rows_say, event_says, event_read}
 
 -- ## A file
 
@@ -28,23 +28,14 @@ runes_encode [] = refl
 runes_encode (c ∷ runes) = ap (λ xs. encode_utf8 c ++ xs) (runes_encode runes)
 
 name_says : (word name : List ℕ) → IsUtf8 word → fitting_name (chars word) ≡ Some name → (word ≡ flat_map encode_utf8 name) × (0 < length name) × (length name ≤ most_in_name)
-name_says word name u h =
-    let fits = cond_some (nat_lt 0 (length (chars word)) && nat_le (length (chars word)) most_in_name) (chars word) name h in
-    let two = and_parts (nat_lt 0 (length (chars word))) (nat_le (length (chars word)) most_in_name) fits.0 in
-    subst (λ (n : List ℕ). (word ≡ flat_map encode_utf8 n) × (0 < length n) × (length n ≤ most_in_name)) fits.1
-    (sym (runes_encode (chars word) ∙ encodes-chars word u), ltb-true 0 (length (chars word)) two.0, leb-true (length (chars word)) most_in_name two.1)
+name_says word name u h = grind (arith, runes_encode, encodes-chars)
 
 name_read : (name : List ℕ) → IsUtf8 (flat_map encode_utf8 name) → 0 < length name → length name ≤ most_in_name → fitting_name (chars (flat_map encode_utf8 name)) ≡ Some name
-name_read name u some short =
-    ap fitting_name (sym (chars_from_encodes name (flat_map encode_utf8 name) u (sym (runes_encode name))))
-    ∙ rw (lt-ltb 0 (length name) some, le-leb (length name) most_in_name short) refl
+name_read name u some short = grind (arith, chars_from_encodes, runes_encode)
 
 file_text_says : (bytes text : List ℕ) → IsUtf8 bytes → file_text_at bytes ≡ Some text → SpellsParts (Rest text ∷ []) bytes × (length text ≤ max_runes)
 unfolding file_text_at
-file_text_says bytes text u h =
-    let a = bind_some (text_at bytes) fitting_text text h in
-    let fits = cond_some (nat_le (length a.0) max_runes) a.0 text a.2 in
-    subst (λ (t : List ℕ). SpellsParts (Rest t ∷ []) bytes × (length t ≤ max_runes)) fits.1 ((text_says bytes a.0 u a.1, refl), leb-true (length a.0) max_runes fits.0)
+file_text_says bytes text u h = grind (arith, text_says)
 
 file_text_read : (bytes text : List ℕ) → IsUtf8 bytes → SpellsParts (Rest text ∷ []) bytes → length text ≤ max_runes → file_text_at bytes ≡ Some text
 unfolding file_text_at
@@ -68,12 +59,15 @@ file_says bytes x u h =
 file_read : (bytes name text rest : List ℕ) → IsUtf8 bytes → bytes ≡ codes " " ++ flat_map encode_utf8 name ++ rest → IsWord (flat_map encode_utf8 name) → IsFile (name, text)
     → SpellsParts (Rest text ∷ []) rest → file_at bytes ≡ Some (name, text)
 unfolding file_at
-file_read bytes name text rest u is plain fits parts =
-    let end = parts_end (Rest text ∷ []) rest parts in
-    let whole = subst IsUtf8 is u in
-    ap (λ o. o >>= λ w. fitting_name (chars w.0) >>= λ n. file_text_at w.1 >>= λ t. Some (n, t)) (word_read bytes (flat_map encode_utf8 name) rest is plain end)
-    ∙ ap (λ o. o >>= λ n. file_text_at rest >>= λ t. Some (n, t)) (name_read name (utf8_front (flat_map encode_utf8 name) rest (utf8_tail (flat_map encode_utf8 name ++ rest) whole) end) fits.0 fits.1)
-    ∙ ap (λ o. o >>= λ t. Some (name, t)) (file_text_read rest text (utf8_rear (codes " " ++ flat_map encode_utf8 name) rest whole end) parts fits.2)
+file_read bytes name text rest u is plain fits parts = grind (
+  arith,
+  (word_read bytes (flat_map encode_utf8 name) rest is plain),
+  (name_read name),
+  (utf8_front (flat_map encode_utf8 name) rest),
+  (utf8_tail (flat_map encode_utf8 name ++ rest)),
+  (file_text_read rest text),
+  (utf8_rear (codes " " ++ flat_map encode_utf8 name) rest),
+)
 
 -- ## A line
 
@@ -82,52 +76,19 @@ abbrev IsSaidBy : List ℕ → Said → List ℕ → Type 0
 IsSaidBy word it bytes = SaysSo it (word ++ bytes)
 
 file_row : ReadsAs IsSaidBy (codes "file", λ bytes. file_at bytes >>= λ x. Some (said.File x.0 x.1))
-file_row bytes it u h =
-    let a = bind_some (file_at bytes) (λ x. Some (said.File x.0 x.1)) it h in
-    subst (λ i. IsSaidBy (codes "file") i bytes) (same_Some (said.File a.0.0 a.0.1) it a.2) (file_says bytes a.0 u a.1)
+file_row bytes it u h = grind (arith, file_says)
 
 key_row : ReadsAs IsSaidBy (codes "k", λ bytes. event_at bytes >>= λ e. Some (said.Line (Key e)))
-key_row bytes it u h =
-    let a = bind_some (event_at bytes) (λ e. Some (said.Line (Key e))) it h in
-    let s = event_says bytes a.0 u a.1 in
-    subst (λ i. IsSaidBy (codes "k") i bytes) (same_Some (said.Line (Key a.0)) it a.2) (s.0, ap (λ xs. codes "k" ++ xs) s.1, s.2)
+key_row bytes it u h = grind (arith, event_says)
 
 mouse_row : ReadsAs IsSaidBy (codes "m", λ bytes. event_at bytes >>= λ e. Some (said.Line (Mouse e)))
-mouse_row bytes it u h =
-    let a = bind_some (event_at bytes) (λ e. Some (said.Line (Mouse e))) it h in
-    let s = event_says bytes a.0 u a.1 in
-    subst (λ i. IsSaidBy (codes "m") i bytes) (same_Some (said.Line (Mouse a.0)) it a.2) (s.0, ap (λ xs. codes "m" ++ xs) s.1, s.2)
+mouse_row bytes it u h = grind (arith, event_says)
 
 bare_row : (line : Line) (word : List ℕ) → ((bytes : List ℕ) → bytes ≡ [] → SpellsLine line (word ++ bytes)) → ReadsAs IsSaidBy (word, bare line)
-bare_row line word spells bytes it u h =
-    let n = ended_says (said.Line line) it bytes h in subst (λ i. IsSaidBy word i bytes) n.1 (spells bytes n.0)
+bare_row line word spells bytes it u h = grind arith
 
 line_readers_say : AllByRecursion (ReadsAs IsSaidBy) line_readers
-line_readers_say = (
-  file_row,
-  (
-    key_row,
-    (
-      mouse_row,
-      (
-        bare_row Act (codes "act") (λ bytes e. ap (λ xs. codes "act" ++ xs) e),
-        (
-          bare_row Flush (codes "flush") (λ bytes e. ap (λ xs. codes "flush" ++ xs) e),
-          (
-            bare_row Host (codes "host") (λ bytes e. ap (λ xs. codes "host" ++ xs) e),
-            (
-              bare_row Term (codes "term") (λ bytes e. ap (λ xs. codes "term" ++ xs) e),
-              (
-                bare_row Drain (codes "drain") (λ bytes e. ap (λ xs. codes "drain" ++ xs) e),
-                (bare_row Show (codes "show") (λ bytes e. ap (λ xs. codes "show" ++ xs) e), tt),
-              ),
-            ),
-          ),
-        ),
-      ),
-    ),
-  ),
-)
+line_readers_say = grind (arith, file_row, key_row, mouse_row)
 
 silent_says : (bytes : List ℕ) → is_silent bytes ≡ true → SaysNothing bytes
 silent_says [] h = tt
@@ -151,10 +112,11 @@ line_says bytes it u h = elim (cases_Bool (is_silent bytes)) [
 pub line_read : (bytes : List ℕ) (it : Said) → Says it bytes → line_at bytes ≡ Some it
 unfolding line_at
 line_read bytes said.Nothing (u, h) = rw (nothing_silent bytes h) refl
-line_read bytes (said.File name text) (u, (rest, is, plain, fits, parts)) =
-    ap line_at is ∙ ap (λ o. o >>= λ x. Some (said.File x.0 x.1))
-    (file_read (codes " " ++ flat_map encode_utf8 name ++ rest) name text rest
-    (utf8_rear (codes "file") (codes " " ++ flat_map encode_utf8 name ++ rest) (subst IsUtf8 is u) refl) refl plain fits parts)
+line_read bytes (said.File name text) (u, (rest, is, plain, fits, parts)) = grind (
+  arith,
+  (file_read (codes " " ++ flat_map encode_utf8 name ++ rest) name text rest
+      (utf8_rear (codes "file") (codes " " ++ flat_map encode_utf8 name ++ rest) (subst IsUtf8 is u) refl) refl plain fits parts),
+)
 line_read bytes (said.Line (Key e)) (u, (event, is, spells)) =
     ap line_at is ∙ ap (λ o. o >>= λ d. Some (said.Line (Key d)))
     (event_read (codes " " ++ event) event e (utf8_rear (codes "k") (codes " " ++ event) (subst IsUtf8 is u) refl) refl spells)

@@ -1,11 +1,9 @@
 -- A run that was printed, replayed, shows the world to which it leads.
-use Rattle.std.proofs.Common.{◌≡◌, ◌≤◌, ◌∙◌, ◌+◌, refl, ap, ℕ, List, [], ◌∷◌, ◌++◌, length, map, false, Some, Result, Ok, Err, append-nil}
+use Rattle.std.proofs.Common.{◌≡◌, ◌≤◌, ◌∙◌, ◌+◌, refl, ap, ℕ, List, [], ◌∷◌, ◌++◌, length, map, false, Some, Result, Ok, Err, append-nil, arith}
 use Rattle.std.specs.List.{AllByRecursion}
 use Rattle.std.proofs.lemmas.Option.{option_and_then_some, same_Some}
 use Rattle.sam_runes.specs.Texts.{is_empty, most_files}
-use Rattle.sam_mesg.specs.declared.tmesg.Tmesg.{Tmesg}
-use Rattle.sam_mesg.specs.declared.hmesg.HFrame.{HFrame}
-use Rattle.sam_world.specs.World.{PlainWorld, new_world, step_of, run_of, host_takes, term_takes}
+use Rattle.sam_world.specs.World.{PlainWorld, new_world, step_of, run_of}
 use Rattle.sam_world.specs.declared.event.Event.{Event}
 use Rattle.sam_world.specs.declared.event.Event.TheVariants.{User, Act, Flush, HostTake, TermTake}
 use Rattle.sam_script.specs.declared.line.Line.TheVariants as line
@@ -19,18 +17,10 @@ use Rattle.sam_script.proofs.ScriptLaws.{spells_one}
 use Rattle.sam_script.proofs.RunSpelled.{run_is_spelled}
 
 host_there : (w v : PlainWorld) → step_of w HostTake ≡ Some v → is_empty w.up ≡ false
-host_there w v h = there w.up h
-  where
-    there : (ms : List Tmesg) → host_takes w ms ≡ Some v → is_empty ms ≡ false
-    there [] k = cc
-    there (m ∷ ms) k = refl
+host_there w v h = grind arith
 
 term_there : (w v : PlainWorld) → step_of w TermTake ≡ Some v → is_empty w.down ≡ false
-term_there w v h = there w.down h
-  where
-    there : (fs : List HFrame) → term_takes w fs ≡ Some v → is_empty fs ≡ false
-    there [] k = cc
-    there (f ∷ fs) k = refl
+term_there w v h = grind arith
 
 -- a step is done by the line of its event
 line_steps : (n : ℕ) (w v : PlainWorld) (e : Event) → step_of w e ≡ Some v → after_line n w (line_of e) ≡ Ok v

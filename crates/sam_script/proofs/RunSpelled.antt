@@ -1,16 +1,14 @@
 -- What `run_lines` writes is read back.
-use Rattle.std.proofs.Common.{◌≡◌, ◌≢◌, ◌<◌, ◌≤◌, ◌∙◌, ◌^◌, ◌+◌, inl, inr, refl, sym, ap, subst, ℕ, suc, List, [], ◌∷◌, ◌++◌, length, get_or, map, Bool, true, false, not, arith, codes, flat_map, append_assoc, append-nil, encode_utf8}
+use Rattle.std.proofs.Common.{◌≡◌, ◌≢◌, ◌<◌, ◌≤◌, ◌∙◌, ◌^◌, ◌+◌, inl, refl, sym, ap, subst, ℕ, suc, List, [], ◌∷◌, ◌++◌, length, get_or, map, Bool, true, false, not, arith, codes, flat_map, append_assoc, append-nil, encode_utf8}
 use Rattle.std.specs.Prelude.{◌&&◌, ◌==◌, nat_lt}
 use Rattle.std.specs.Fmt.{decimal}
-use Rattle.std.specs.Char.{is_ascii_digit, IsScalar}
+use Rattle.std.specs.Char.{IsScalar}
 use Rattle.std.proofs.Math.Pow.{pow_mono}
 use Rattle.sam_runes.specs.Texts.{most_files}
 use lib.Utf8.{scalar}
-use lib.Dec.{leb}
 use Rattle.std.specs.List.{AllByRecursion, AllZip, onto_first}
-use Rattle.std.specs.Str.{IsUtf8, all_ascii_digits, all_scalars}
-use Rattle.std.proofs.lemmas.Bool.{ne_eqb, ltb-true, lt-ltb, eqb-false, leb-true, not-true, and_parts}
-use Rattle.std.proofs.lemmas.Bool.Decides.{eqb_tells}
+use Rattle.std.specs.Str.{IsUtf8, all_ascii_digits}
+use Rattle.std.proofs.lemmas.Bool.{ne_eqb, and_parts}
 use Rattle.std.proofs.lemmas.Fmt.{decimal_is_IsNumeral, digits_decimal}
 use Rattle.std.proofs.lemmas.Str.Parse.{numerals_by_value, tells_all_ascii_digits}
 use Rattle.std.proofs.lemmas.Str.{IsUtf8-nil, IsUtf8-append, IsUtf8-encode, inside_one, encode_ascii}
@@ -59,54 +57,36 @@ is_plain (b ∷ bytes) = (nat_lt b 128 && not (b == 10)) && is_plain bytes
 
 good_plain : (bytes : List ℕ) → is_plain bytes ≡ true → Good bytes
 good_plain [] h = good_nil
-good_plain (b ∷ bytes) h =
-    let two = and_parts (nat_lt b 128 && not (b == 10)) (is_plain bytes) h in
-    let one = and_parts (nat_lt b 128) (not (b == 10)) two.0 in
-    let more = good_plain bytes two.1 in
-    let small = ltb-true b 128 one.0 in
-    record {
-      one = (not-true (b == 10) one.1, more.one);
-      utf8 = subst IsUtf8 (ap (λ xs. xs ++ bytes) (encode_ascii b small)) (IsUtf8-append (encode_utf8 b) bytes (IsUtf8-encode b (scalar_ascii b small)) more.utf8);
-    }
-  where
-    scalar_ascii : (c : ℕ) → c < 128 → IsScalar c
-    scalar_ascii c small = rw (lt-ltb c 55296 (omega (arith, small))) refl
+good_plain (b ∷ bytes) h = grind (
+  arith,
+  (and_parts (nat_lt b 128 && not (b == 10)) (is_plain bytes) h),
+  (encode_ascii b),
+  (IsUtf8-append (encode_utf8 b) bytes),
+  (IsUtf8-encode b),
+  (good_plain bytes),
+)
 
 digits_plain : (word : List ℕ) → all_ascii_digits word ≡ true → is_plain word ≡ true
 digits_plain [] h = refl
-digits_plain (c ∷ word) h =
-    let two = and_parts (is_ascii_digit c) (all_ascii_digits word) h in
-    let ends = and_parts (leb 48 c) (leb c 57) two.0 in
-    let low = leb-true 48 c ends.0 in
-    let high = leb-true c 57 ends.1 in
-    rw (lt-ltb c 128 (omega (arith, high)), ne_eqb c 10 (λ e. omega (arith, low, e))) (digits_plain word two.1)
+digits_plain (c ∷ word) h = grind (arith, (digits_plain word))
 
 by_index : (bytes : List ℕ) → ((k : ℕ) → k < length bytes → get_or bytes k 0 ≢ 10) → IsOneLine bytes
 by_index [] h = tt
 by_index (b ∷ bytes) h = (ne_eqb b 10 (h 0 (omega arith)), by_index bytes (λ k less. h (suc k) (omega arith)))
 
 good_rune : (c : ℕ) → IsScalar c → (c == 10) ≡ false → Good (encode_utf8 c)
-good_rune c scalar other = record {
-  one = by_index (encode_utf8 c) (λ k less is. eqb-false c 10 other (inside_one c [] (encode_utf8 c) k (sym (append-nil (encode_utf8 c))) less (omega (arith, is)) ∙ is));
-  utf8 = IsUtf8-encode c scalar;
-}
+good_rune c scalar other = grind (arith, (by_index (encode_utf8 c)), (inside_one c), (append-nil (encode_utf8 c)), (IsUtf8-encode c scalar))
 
 good_shown : (c : ℕ) → IsScalar c → Good (text_rune c)
-good_shown c scalar = elim (eqb_tells c 92) [
-  | inl t ↦ rw t.0 (good_plain (codes "\\\\") refl)
-  | inr t ↦ elim (eqb_tells c 10) [ inl k ↦ rw (t.0, k.0) (good_plain (codes "\\n") refl) | inr k ↦ rw (t.0, k.0) (good_rune c scalar k.0) ]
-]
+good_shown c scalar = grind (arith, (good_plain (codes "\\\\") refl), (good_plain (codes "\\n") refl), (good_rune c scalar))
 
 good_text : (s : List ℕ) → AreRunes s → Good (text_shown s)
 good_text [] h = good_nil
-good_text (c ∷ s) h =
-    let two = and_parts (scalar c) (all_scalars s) h in good_append (text_rune c) (text_shown s) (good_shown c two.0) (good_text s two.1)
+good_text (c ∷ s) h = grind (arith, (good_append (text_rune c) (text_shown s)), (good_shown c), (good_text s))
 
 good_name : (name : List ℕ) → AreRunes name → AllByRecursion (λ c. ((c == 32) ≡ false) × ((c == 10) ≡ false)) name → Good (flat_map encode_utf8 name)
 good_name [] runes h = good_nil
-good_name (c ∷ name) runes h =
-    let two = and_parts (scalar c) (all_scalars name) runes in
-    good_append (encode_utf8 c) (flat_map encode_utf8 name) (good_rune c two.0 h.0.1) (good_name name two.1 h.1)
+good_name (c ∷ name) runes h = grind (arith, (good_append (encode_utf8 c) (flat_map encode_utf8 name)), (good_rune c), (good_name name))
 
 no_space : (bytes : List ℕ) → ((k : ℕ) → k < length bytes → get_or bytes k 0 ≢ 32) → IsWord bytes
 no_space [] h = tt
@@ -118,10 +98,14 @@ word_append (x ∷ xs) ys p q = (p.0, word_append xs ys p.1 q)
 
 name_word : (name : List ℕ) → AllByRecursion (λ c. ((c == 32) ≡ false) × ((c == 10) ≡ false)) name → IsWord (flat_map encode_utf8 name)
 name_word [] h = tt
-name_word (c ∷ name) h =
-    word_append (encode_utf8 c) (flat_map encode_utf8 name)
-    (no_space (encode_utf8 c) (λ k less is. eqb-false c 32 h.0.0 (inside_one c [] (encode_utf8 c) k (sym (append-nil (encode_utf8 c))) less (omega (arith, is)) ∙ is)))
-    (name_word name h.1)
+name_word (c ∷ name) h = grind (
+  arith,
+  (word_append (encode_utf8 c) (flat_map encode_utf8 name)),
+  (no_space (encode_utf8 c)),
+  (inside_one c),
+  (append-nil (encode_utf8 c)),
+  (name_word name h.1),
+)
 
 -- ## An event
 
@@ -151,21 +135,21 @@ decimal_number bits n small fits =
 
 parts_spelled : (parts : List Part) → is_sane parts ≡ true → AllByRecursion IsFitting parts → SpellsParts parts (flat_map part_shown parts)
 parts_spelled [] sane fit = refl
-parts_spelled (Number bits n ∷ parts) sane fit =
-    let two = and_parts (nat_lt bits 64) (is_sane parts) sane in
-    let d = decimal_number bits n (ltb-true bits 64 two.0) fit.0 in
-    (decimal n, flat_map part_shown parts, refl, d.1, fit.0, parts_spelled parts two.1 fit.1)
+parts_spelled (Number bits n ∷ parts) sane fit = grind (arith, (decimal_number bits n), (parts_spelled parts))
 parts_spelled (Rest s ∷ []) sane fit = (inl (append-nil (codes " " ++ text_shown s)), refl)
 parts_spelled (Rest s ∷ part ∷ parts) sane fit = cc
 
 parts_good : (parts : List Part) → is_sane parts ≡ true → AllByRecursion IsFitting parts → Good (flat_map part_shown parts)
 parts_good [] sane fit = good_nil
-parts_good (Number bits n ∷ parts) sane fit =
-    let two = and_parts (nat_lt bits 64) (is_sane parts) sane in
-    let d = decimal_number bits n (ltb-true bits 64 two.0) fit.0 in
-    good_append (codes " " ++ decimal n) (flat_map part_shown parts)
-    (good_append (codes " ") (decimal n) (good_plain (codes " ") refl) (good_plain (decimal n) (digits_plain (decimal n) d.1.1)))
-    (parts_good parts two.1 fit.1)
+parts_good (Number bits n ∷ parts) sane fit = grind (
+  arith,
+  (decimal_number bits n),
+  (good_append (codes " " ++ decimal n) (flat_map part_shown parts)),
+  (good_append (codes " ") (decimal n) (good_plain (codes " ") refl)),
+  (good_plain (decimal n)),
+  (digits_plain (decimal n)),
+  (parts_good parts),
+)
 parts_good (Rest s ∷ []) sane fit =
     good_append (codes " " ++ text_shown s) [] (good_append (codes " ") (text_shown s) (good_plain (codes " ") refl) (good_text s fit.0)) good_nil
 parts_good (Rest s ∷ part ∷ parts) sane fit = cc
@@ -189,9 +173,11 @@ abbrev said_file : List ℕ × List ℕ → Said
 said_file file = said.File file.0 file.1
 
 event_good : (e : Event) → CanBeWritten e → Good (event_bytes e)
-event_good (User e) fit =
-    good_append (codes "k ") (spelling (form e)) (good_plain (codes "k ") refl)
-    (good_append (form e).0 (flat_map part_shown (form e).1) (good_plain (form e).0 (form_plain e)) (parts_good (form e).1 (form_sane e) fit))
+event_good (User e) fit = grind (
+  arith,
+  (good_append (codes "k ") (spelling (form e)) (good_plain (codes "k ") refl)
+      (good_append (form e).0 (flat_map part_shown (form e).1) (good_plain (form e).0 (form_plain e)) (parts_good (form e).1 (form_sane e) fit))),
+)
 event_good Act fit = good_plain (codes "act") refl
 event_good Flush fit = good_plain (codes "flush") refl
 event_good HostTake fit = good_plain (codes "host") refl
@@ -212,15 +198,16 @@ event_ends HostTake = refl
 event_ends TermTake = refl
 
 file_good : (file : List ℕ × List ℕ) → CanBeNamed file → Good (file_bytes file)
-file_good file can =
-    good_append (codes "file " ++ flat_map encode_utf8 file.0 ++ codes " ") (text_shown file.1)
-    (good_append (codes "file " ++ flat_map encode_utf8 file.0) (codes " ")
-    (good_append (codes "file ") (flat_map encode_utf8 file.0) (good_plain (codes "file ") refl) (good_name file.0 can.1 can.3)) (good_plain (codes " ") refl))
-    (good_text file.1 can.2)
+file_good file can = grind (
+  arith,
+  (good_append (codes "file " ++ flat_map encode_utf8 file.0 ++ codes " ") (text_shown file.1)
+      (good_append (codes "file " ++ flat_map encode_utf8 file.0) (codes " ") (good_append (codes "file ") (flat_map encode_utf8 file.0)
+      (good_plain (codes "file ") refl) (good_name file.0 can.1 can.3)) (good_plain (codes " ") refl))
+      (good_text file.1 can.2)),
+)
 
 file_is_said : (file : List ℕ × List ℕ) → CanBeNamed file → SaysSo (said_file file) (file_bytes file)
-file_is_said file can =
-    (codes " " ++ text_shown file.1, append_assoc (codes "file " ++ flat_map encode_utf8 file.0) (codes " ") (text_shown file.1), name_word file.0 can.3, can.0, (inl refl, refl))
+file_is_said file can = grind (arith, (append_assoc (codes "file " ++ flat_map encode_utf8 file.0) (codes " ") (text_shown file.1)), (name_word file.0 can.3))
 
 -- ## All lines
 
@@ -231,9 +218,7 @@ line_first (x ∷ xs) ys h = rw h.0 (ap (onto_first x) (line_first xs ys h.1))
 lines_many : {X : Type 0} (line : X → List ℕ) (whole : X → List ℕ) (P : X → Type 0) → ((x : X) → whole x ≡ line x ++ 10 ∷ []) → ((x : X) → P x → IsOneLine (line x))
     → (xs : List X) (rest : List ℕ) → AllByRecursion P xs → lines_of (flat_map whole xs ++ rest) ≡ map line xs ++ lines_of rest
 lines_many line whole P ends one [] rest each = refl
-lines_many line whole P ends one (x ∷ xs) rest each =
-    ap lines_of (append_assoc (whole x) (flat_map whole xs) rest ∙ ap (λ ys. ys ++ (flat_map whole xs ++ rest)) (ends x) ∙ append_assoc (line x) (10 ∷ []) (flat_map whole xs ++ rest))
-    ∙ line_first (line x) (flat_map whole xs ++ rest) (one x each.0) ∙ ap (λ ls. line x ∷ ls) (lines_many line whole P ends one xs rest each.1)
+lines_many line whole P ends one (x ∷ xs) rest each = grind (arith, append_assoc, line_first, (lines_many line whole P ends one xs rest each.1))
 
 zip_many : {X : Type 0} (it : X → Said) (line : X → List ℕ) (P : X → Type 0) → ((x : X) → P x → Says (it x) (line x))
     → (xs : List X) (says : List Said) (lines : List (List ℕ)) → AllByRecursion P xs → AllZip Says says lines → AllZip Says (map it xs ++ says) (map line xs ++ lines)
@@ -264,14 +249,8 @@ event_lines n [] = refl
 event_lines n (e ∷ events) = ap (λ ls. record { number = n; line = line_of e } ∷ ls) (event_lines (n + 1) events)
 
 their_lines : (n : ℕ) (files : List (List ℕ × List ℕ)) (events : List Event) → lines_said n (all_said files events) ≡ numbered_from (n + length files) (map line_of events ++ line.Show ∷ [])
-their_lines n [] events = event_lines n events ∙ ap (λ k. numbered_from k (map line_of events ++ line.Show ∷ [])) (plus_zero n)
-  where
-    plus_zero : (m : ℕ) → m ≡ m + 0
-    plus_zero m = omega arith
-their_lines n (file ∷ files) events = their_lines (n + 1) files events ∙ ap (λ k. numbered_from k (map line_of events ++ line.Show ∷ [])) (moved n (length files))
-  where
-    moved : (a b : ℕ) → a + 1 + b ≡ a + suc b
-    moved a b = omega arith
+their_lines n [] events = grind (arith, event_lines)
+their_lines n (file ∷ files) events = grind (arith, (their_lines (n + 1) files events))
 
 pub run_is_spelled : (files : List (List ℕ × List ℕ)) (events : List Event) → length files ≤ most_files → AllByRecursion CanBeNamed files
     → AllByRecursion CanBeWritten events → Spells (run_lines_of files events) (run_script files events)

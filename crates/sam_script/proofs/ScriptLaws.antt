@@ -1,17 +1,16 @@
 -- A list of lines spells at most one script, and one line more spells it with what the line says.
-use Rattle.std.proofs.Common.{◌≡◌, ◌<◌, ◌≤◌, ◌∙◌, ◌+◌, refl, sym, ap, ap₂, subst, ℕ, zero, suc, List, [], ◌∷◌, ◌++◌, length, take, get_or, ◌-◌, arith, append_assoc, append-nil, length-append}
+use Rattle.std.proofs.Common.{◌≡◌, ◌<◌, ◌≤◌, ◌∙◌, ◌+◌, refl, sym, ap, ap₂, subst, ℕ, suc, List, [], ◌∷◌, ◌++◌, length, take, get_or, ◌-◌, arith, append_assoc, append-nil, length-append}
 use Rattle.std.specs.Prelude.{◌==◌}
 use Rattle.std.specs.List.{AllZip}
 use Rattle.std.proofs.lemmas.List.{take_more, take_all, length-take-le}
 use Rattle.std.proofs.lemmas.List.Splits.{length-slice_split}
 use Rattle.std.proofs.lemmas.List.Sums.{count_by-le-length}
-use Rattle.sam_runes.specs.Texts.{most_files}
 use Rattle.sam_script.specs.declared.line.Said.{Said}
 use Rattle.sam_script.specs.declared.line.Said.TheVariants as said
 use Rattle.sam_script.specs.declared.fault.LineFault.TheVariants.{Wrong}
 use Rattle.sam_script.specs.Script.{PlainScript}
 use Rattle.sam_script.specs.Spelling.{Says, file_said, files_said, lines_said, AreFilesFirst, SpellsLines, lines_of, IsWrongLine}
-use Rattle.sam_script.specs.Reading.{MayFollow, Adds, AddsNone}
+use Rattle.sam_script.specs.Reading.{Adds, AddsNone}
 use Rattle.sam_script.proofs.LineLaws.{says_one}
 
 zip_one : (xs ys : List Said) (lines : List (List ℕ)) → AllZip Says xs lines → AllZip Says ys lines → xs ≡ ys
@@ -51,10 +50,7 @@ moved : (a b : ℕ) → a + (b + 1) ≡ suc a + b
 moved a b = omega arith
 
 lines_push : (n : ℕ) (xs : List Said) (x : Said) → lines_said n (xs ++ x ∷ []) ≡ lines_said n xs ++ lines_said (length xs + n) (x ∷ [])
-lines_push n [] x = ap (λ k. lines_said k (x ∷ [])) (plus_zero n)
-  where
-    plus_zero : (m : ℕ) → m ≡ zero + m
-    plus_zero m = omega arith
+lines_push n [] x = grind arith
 lines_push n (said.Line line ∷ xs) x = ap (λ zs. record { number = n; line = line } ∷ zs) (lines_push (n + 1) xs x ∙ ap (λ k. lines_said (n + 1) xs ++ lines_said k (x ∷ [])) (moved (length xs) n))
 lines_push n (said.File name text ∷ xs) x = lines_push (n + 1) xs x ∙ ap (λ k. lines_said (n + 1) xs ++ lines_said k (x ∷ [])) (moved (length xs) n)
 lines_push n (said.Nothing ∷ xs) x = lines_push (n + 1) xs x ∙ ap (λ k. lines_said (n + 1) xs ++ lines_said k (x ∷ [])) (moved (length xs) n)
@@ -76,72 +72,37 @@ ordered_file n (said.Nothing ∷ xs) name text p none = ordered_file (n + 1) xs 
 
 ordered_last : (n : ℕ) (xs : List Said) (name text : List ℕ) → AreFilesFirst (xs ++ said.File name text ∷ []) → lines_said n xs ≡ []
 ordered_last n [] name text p = refl
-ordered_last n (said.Line line ∷ xs) name text p =
-    let none : length (files_said xs ++ (name, text) ∷ []) ≡ 0 = ap length (sym (files_push xs (said.File name text)) ∙ p) in
-    absurd (omega (arith, none, length-append (files_said xs) ((name, text) ∷ [])))
+ordered_last n (said.Line line ∷ xs) name text p = grind (arith, (files_push xs (said.File name text)), (length-append (files_said xs) ((name, text) ∷ [])))
 ordered_last n (said.File other words ∷ xs) name text p = ordered_last (n + 1) xs name text p
 ordered_last n (said.Nothing ∷ xs) name text p = ordered_last (n + 1) xs name text p
-
-pub spells_none : SpellsLines [] (record { files = []; lines = [] })
-spells_none = record { said = []; each = tt; ordered = tt; files = refl; others = refl; count = omega arith }
 
 -- one line more
 pub spells_push : (lines : List (List ℕ)) (line : List ℕ) (old new : PlainScript) → SpellsLines lines old → Adds (length lines + 1) line old new
     → SpellsLines (lines ++ line ∷ []) new
-spells_push lines line old new p (it, says, may, is) = record {
-  said = p.said ++ it ∷ [];
-  each = zip_push p.said lines it line p.each says;
-  ordered = ordered p.said it p.ordered (subst (λ s. MayFollow s it) (same_script old p.said p.files p.others) may);
-  files = ap (λ (s : PlainScript). s.files) is ∙ ap (λ fs. fs ++ file_said it) p.files ∙ sym (files_push p.said it);
-  others =
-      ap (λ (s : PlainScript). s.lines) is ∙ ap (λ ls. ls ++ lines_said (length lines + 1) (it ∷ [])) p.others
-      ∙ ap (λ k. lines_said 1 p.said ++ lines_said (k + 1) (it ∷ [])) (sym (zip_length p.said lines p.each)) ∙ sym (lines_push 1 p.said it);
-  count = subst (λ fs. length fs ≤ most_files) (sym (files_push p.said it)) (room p.said it p.count (subst (λ s. MayFollow s it) (same_script old p.said p.files p.others) may));
-}
-  where
-    same_script : (s : PlainScript) (xs : List Said) → s.files ≡ files_said xs → s.lines ≡ lines_said 1 xs → s ≡ record { files = files_said xs; lines = lines_said 1 xs }
-    same_script s xs e f = ap₂ (λ a b. record { files = a; lines = b }) e f
-
-    ordered : (xs : List Said) (x : Said) → AreFilesFirst xs → MayFollow (record { files = files_said xs; lines = lines_said 1 xs }) x → AreFilesFirst (xs ++ x ∷ [])
-    ordered xs (said.Line l) q follows = ordered_other xs (said.Line l) q refl
-    ordered xs (said.File name text) q follows = ordered_file 1 xs name text q follows.0
-    ordered xs said.Nothing q follows = ordered_other xs said.Nothing q refl
-
-    room : (xs : List Said) (x : Said) → length (files_said xs) ≤ most_files → MayFollow (record { files = files_said xs; lines = lines_said 1 xs }) x
-        → length (files_said xs ++ file_said x) ≤ most_files
-    room xs (said.Line l) q follows = subst (λ fs. length fs ≤ most_files) (sym (append-nil (files_said xs))) q
-    room xs (said.File name text) q follows = omega (arith, length-append (files_said xs) ((name, text) ∷ []), follows.1)
-    room xs said.Nothing q follows = subst (λ fs. length fs ≤ most_files) (sym (append-nil (files_said xs))) q
+spells_push lines line old new p (it, says, may, is) = grind (
+  arith,
+  (zip_push p.said lines it line p.each says),
+  (files_push p.said it),
+  (zip_length p.said lines p.each),
+  lines_push,
+  ordered_other,
+  ordered_file,
+  length-append,
+)
 
 -- a line that may not follow
 pub spells_no_more : (lines : List (List ℕ)) (line : List ℕ) (old : PlainScript) → SpellsLines lines old → AddsNone line old Wrong
     → (script : PlainScript) → SpellsLines (lines ++ line ∷ []) script → ⊥
-spells_no_more lines line old p none script q =
-    let last = zip_last q.said lines line q.each in
-    let same : last.0 ≡ p.said = zip_one last.0 p.said lines last.3 p.each in
-    let whole : q.said ≡ p.said ++ last.1 ∷ [] = last.2 ∙ ap (λ xs. xs ++ last.1 ∷ []) same in
-    none last.1 last.4 (follows old p.said last.1 p.files p.others (subst AreFilesFirst whole q.ordered) (subst (λ xs. length (files_said xs) ≤ most_files) whole q.count))
-  where
-    follows : (s : PlainScript) (xs : List Said) (x : Said) → s.files ≡ files_said xs → s.lines ≡ lines_said 1 xs → AreFilesFirst (xs ++ x ∷ [])
-        → length (files_said (xs ++ x ∷ [])) ≤ most_files → MayFollow s x
-    follows s xs (said.Line l) e f o c = tt
-    follows s xs said.Nothing e f o c = tt
-    follows s xs (said.File name text) e f o c =
-        let more : length (files_said xs ++ (name, text) ∷ []) ≤ most_files = subst (λ fs. length fs ≤ most_files) (files_push xs (said.File name text)) c in
-        (f ∙ ordered_last 1 xs name text o, subst (λ fs. length fs < most_files) (sym e) (omega (arith, more, length-append (files_said xs) ((name, text) ∷ []))))
+spells_no_more lines line old p none script q = grind (arith, zip_last, zip_one, files_push, ordered_last, length-append)
 
 -- lines spell at most one script
 pub spells_one : (lines : List (List ℕ)) (a b : PlainScript) → SpellsLines lines a → SpellsLines lines b → a ≡ b
-spells_one lines a b p q =
-    let same : p.said ≡ q.said = zip_one p.said q.said lines p.each q.each in
-    ap₂ (λ fs ls. record { files = fs; lines = ls }) (p.files ∙ ap files_said same ∙ sym q.files) (p.others ∙ ap (lines_said 1) same ∙ sym q.others)
+spells_one lines a b p q = grind (arith, zip_one)
 
 -- the next line is read
 pub read_more : (lines : List (List ℕ)) (n k number : ℕ) (line : List ℕ) (old new : PlainScript) → (n < length lines) × (line ≡ get_or lines n line) → number ≡ n + 1 → k ≡ n + 1
     → SpellsLines (take n lines) old → Adds number line old new → SpellsLines (take k lines) new
-read_more lines n k number line old new at is same p adds =
-    subst (λ (xs : List (List ℕ)). SpellsLines xs new) (sym (ap (λ j. take j lines) same ∙ take_more lines n line at.0 ∙ ap (λ l. take n lines ++ l ∷ []) (sym at.1)))
-    (spells_push (take n lines) line old new p (subst (λ j. Adds j line old new) (is ∙ ap (λ j. j + 1) (sym (length-take-le n lines (omega (arith, at.0))))) adds))
+read_more lines n k number line old new at is same p adds = grind (arith, (take_more lines n line at.0), (spells_push (take n lines) line old new p), (length-take-le n lines))
 
 -- the next line is wrong
 pub read_wrong : (bytes : List ℕ) (n number : ℕ) (line : List ℕ) (old : PlainScript) → (n < length (lines_of bytes)) × (line ≡ get_or (lines_of bytes) n line) → number ≡ n + 1

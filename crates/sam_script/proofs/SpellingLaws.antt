@@ -1,15 +1,12 @@
 -- What reading gives is what the grammar says, and what it says is read.
 use Rattle.std.proofs.Common.{◌≡◌, ◌<◌, ◌∙◌, ◌^◌, ◌⊎◌, inl, inr, refl, sym, ap, ap₂, subst, ℕ, List, [], ◌∷◌, ◌++◌, length, get_or, take, drop, Bool, true, false, cond, Option, Some, None, arith, codes, flat_map, append_assoc, append-nil, encode_utf8}
-use Rattle.std.specs.Prelude.{nat_lt, ◌&&◌, ◌==◌, bytes_eq, chars, encode_utf8_all}
+use Rattle.std.specs.Prelude.{◌==◌, encode_utf8_all}
 use Rattle.std.specs.List.{AllByRecursion}
-use Rattle.std.specs.Char.{is_ascii_digit}
 use Rattle.std.specs.Str.{IsUtf8, all_ascii_digits, IsCharBoundary}
-use Rattle.std.specs.Str.Parse.{digits_value}
-use Rattle.std.proofs.lemmas.Bool.{ltb-true, cases_Bool, and_parts}
 use Rattle.std.proofs.lemmas.Bool.Decides.{eqb_tells}
-use Rattle.std.proofs.lemmas.Option.{cond_some, same_Some}
+use Rattle.std.proofs.lemmas.Option.{same_Some}
 use Rattle.std.proofs.lemmas.Slice.Eq.{bytes_eq-Decides}
-use Rattle.std.proofs.lemmas.Str.{IsUtf8-drop, IsUtf8-take, IsUtf8-past_char, IsCharBoundary-before_ascii, IsCharBoundary-end, chars_from_encodes, encodes-chars, encodes-append, encode_ascii}
+use Rattle.std.proofs.lemmas.Str.{IsUtf8-drop, IsUtf8-take, IsUtf8-past_char, IsCharBoundary-end, chars_from_encodes, encodes-chars, encodes-append, encode_ascii}
 use Rattle.sam_term.specs.declared.event.UserEvent.{UserEvent}
 use Rattle.sam_term.specs.declared.event.UserEvent.TheVariants.{Typed, Select, Cut, Paste, Snarf, Look, Search, Send, Dclick, Scroll, View, Open, Close, Write, Work, OpenCmd, New, Exit, Check, GetSnarf, SetSnarf, Version}
 use Rattle.sam_term.specs.declared.event.UserEvent.TheVariants as user
@@ -19,7 +16,6 @@ use Rattle.sam_script.specs.Events.{Part, Tag, Place, form, Reader, by_tag, by_p
 use Rattle.sam_script.specs.Events.Part.{Number, Rest}
 use Rattle.sam_script.specs.Reading.{read_by, event_at}
 use Rattle.sam_script.specs.Words.{◌>>=◌, word_of, behind_word, word_at, number_of, number_at, unescaped, text_at, ended, tag_alone, tag_and_place, tag_and_range, tag_and_text}
-use Rattle.sam_script.proofs.WordLaws.{some_number}
 
 -- ## Options and tests
 
@@ -62,13 +58,7 @@ word_rear (b ∷ word) rest plain end = rw plain.0 (word_rear word rest plain.1 
 
 pub word_says : (bytes : List ℕ) (x : List ℕ × List ℕ) → word_at bytes ≡ Some x → (bytes ≡ codes " " ++ x.0 ++ x.1) × IsWord x.0 × IsEnd x.1
 word_says [] x h = cc
-word_says (b ∷ bytes) x h = elim (eqb_tells b 32) [
-  | inl t ↦
-      let here = rw t.0 at h in
-      subst (λ (y : List ℕ × List ℕ). (b ∷ bytes ≡ codes " " ++ y.0 ++ y.1) × IsWord y.0 × IsEnd y.1) (same_Some (word_of bytes, behind_word bytes) x here)
-      (ap₂ (λ c xs. c ∷ xs) t.1 (sym (word_split bytes)), word_plain bytes, word_ends bytes)
-  | inr t ↦ let here = rw t.0 at h in cc
-]
+word_says (b ∷ bytes) x h = grind (arith, word_split, word_plain, word_ends)
 
 pub word_read : (bytes word rest : List ℕ) → bytes ≡ codes " " ++ word ++ rest → IsWord word → IsEnd rest → word_at bytes ≡ Some (word, rest)
 word_read bytes word rest is plain end = ap word_at is ∙ ap₂ (λ w r. Some (w, r)) (word_front word rest plain end) (word_rear word rest plain end)
@@ -102,8 +92,7 @@ longer (x ∷ xs) y ys = let more = longer xs y ys in omega arith
 
 end_bounds : (word rest : List ℕ) → IsEnd rest → IsCharBoundary (word ++ rest) (length word)
 end_bounds word [] end = subst (λ xs. IsCharBoundary xs (length word)) (sym (append-nil word)) (IsCharBoundary-end word)
-end_bounds word (b ∷ rest) end =
-    let there = get_behind word b rest in IsCharBoundary-before_ascii (word ++ b ∷ rest) (length word) (longer word b rest) (omega (arith, there, end))
+end_bounds word (b ∷ rest) end = grind (arith, get_behind, longer)
 
 pub utf8_rear : (word rest : List ℕ) → IsUtf8 (word ++ rest) → IsEnd rest → IsUtf8 rest
 utf8_rear word rest u end = subst IsUtf8 (drop_behind word rest) (IsUtf8-drop (word ++ rest) (length word) u (end_bounds word rest end))
@@ -118,16 +107,10 @@ utf8_tail bytes u = IsUtf8-past_char (32 ∷ bytes) bytes 32 u (ap (λ xs. xs ++
 
 digits_word : (word : List ℕ) → all_ascii_digits word ≡ true → IsWord word
 digits_word [] h = tt
-digits_word (c ∷ word) h =
-    let two = and_parts (is_ascii_digit c) (all_ascii_digits word) h in
-    elim (eqb_tells c 32) [ inl t ↦ let wrong : false ≡ true = sym (ap is_ascii_digit t.1) ∙ two.0 in cc | inr t ↦ (t.0, digits_word word two.1) ]
+digits_word (c ∷ word) h = grind (arith, (digits_word word))
 
 number_of_says : (bits : ℕ) (word : List ℕ) (n : ℕ) → number_of bits word ≡ Some n → IsNumber word n × (n < 2 ^ bits)
-number_of_says bits word n h =
-    let c = cond_some ((all_ascii_digits word && nat_lt 0 (length word)) && nat_lt (digits_value 10 word) (2 ^ bits)) (digits_value 10 word) n h in
-    let two = and_parts (all_ascii_digits word && nat_lt 0 (length word)) (nat_lt (digits_value 10 word) (2 ^ bits)) c.0 in
-    let one = and_parts (all_ascii_digits word) (nat_lt 0 (length word)) two.0 in
-    ((ltb-true 0 (length word) one.1, one.0, c.1), subst (λ m. m < 2 ^ bits) c.1 (ltb-true (digits_value 10 word) (2 ^ bits) two.1))
+number_of_says bits word n h = grind arith
 
 pub number_says : (bits : ℕ) (bytes : List ℕ) (x : ℕ × List ℕ) → number_at bits bytes ≡ Some x
     → (word : List ℕ) × (bytes ≡ codes " " ++ word ++ x.1) × IsNumber word x.0 × (x.0 < 2 ^ bits) × IsEnd x.1
@@ -143,9 +126,7 @@ number_says bits bytes x h =
 pub number_read : (bits : ℕ) (bytes word rest : List ℕ) (n : ℕ) → bytes ≡ codes " " ++ word ++ rest → IsNumber word n → n < 2 ^ bits → IsEnd rest
     → number_at bits bytes ≡ Some (n, rest)
 unfolding number_at
-number_read bits bytes word rest n is number small end =
-    ap (λ o. o >>= λ w. number_of bits w.0 >>= λ m. Some (m, w.1)) (word_read bytes word rest is (digits_word word number.1) end)
-    ∙ ap (λ o. o >>= λ m. Some (m, rest)) (some_number bits word number.1 number.0 (subst (λ m. m < 2 ^ bits) (sym number.2) small) ∙ ap (λ m. Some m) number.2)
+number_read bits bytes word rest n is number small end = grind (arith, word_read, digits_word)
 
 -- ## Texts
 
@@ -157,10 +138,7 @@ abbrev escaped : List ℕ → List ℕ
 escaped = flat_map escape
 
 rune_encodes : (c : ℕ) → encode_utf8_all (escape c) ≡ text_rune c
-rune_encodes c = elim (eqb_tells c 92) [
-  | inl t ↦ rw (t.0, e92) refl
-  | inr t ↦ elim (eqb_tells c 10) [ inl k ↦ rw (t.0, k.0, e92, e110) refl | inr k ↦ rw (t.0, k.0) (append-nil (encode_utf8 c)) ]
-]
+rune_encodes c = grind (arith, e92, e110, append-nil)
 
 escaped_encodes : (s : List ℕ) → encode_utf8_all (escaped s) ≡ text_shown s
 escaped_encodes [] = refl
@@ -168,88 +146,33 @@ escaped_encodes (c ∷ s) = encodes-append (escape c) (escaped s) ∙ ap₂ (λ 
 
 escaped_read : (front s : List ℕ) → unescaped front false (escaped s) ≡ Some (front ++ s)
 escaped_read front [] = ap (λ xs. Some xs) (sym (append-nil front))
-escaped_read front (c ∷ s) = elim (eqb_tells c 92) [
-  | inl t ↦ rw t.0 (escaped_read (front ++ 92 ∷ []) s ∙ ap (λ xs. Some xs) (append_assoc front (92 ∷ []) s ∙ ap (λ d. front ++ d ∷ s) (sym t.1)))
-  | inr t ↦ elim (eqb_tells c 10) [
-    | inl k ↦ rw (t.0, k.0) (escaped_read (front ++ 10 ∷ []) s ∙ ap (λ xs. Some xs) (append_assoc front (10 ∷ []) s ∙ ap (λ d. front ++ d ∷ s) (sym k.1)))
-    | inr k ↦ simp (t.0, k.0) (escaped_read (front ++ c ∷ []) s ∙ ap (λ xs. Some xs) (append_assoc front (c ∷ []) s))
-  ]
-]
+escaped_read front (c ∷ s) = grind (arith, append_assoc, (escaped_read (front ++ c ∷ []) s))
 
 pub text_read : (bytes s : List ℕ) → IsUtf8 bytes → (bytes ≡ codes " " ++ text_shown s) ⊎ ((bytes ≡ []) × (s ≡ [])) → text_at bytes ≡ Some s
-text_read bytes s u (inl is) =
-    ap text_at is ∙ ap (λ cs. unescaped [] false cs) (sym (chars_from_encodes (escaped s) (text_shown s) (utf8_tail (text_shown s) (subst IsUtf8 is u)) (escaped_encodes s)))
-    ∙ escaped_read [] s
+text_read bytes s u (inl is) = grind (arith, (chars_from_encodes (escaped s) (text_shown s) (utf8_tail (text_shown s) (subst IsUtf8 is u)) (escaped_encodes s)), escaped_read)
 text_read bytes s u (inr is) = ap text_at is.0 ∙ ap (λ xs. Some xs) (sym is.1)
 
 abbrev held : Bool → List ℕ
 held true = 92 ∷ []
 held false = []
 
-and_false : (b : Bool) → (b && false) ≡ false
-and_false true = refl
-and_false false = refl
-
 unescaped_says : (cs front : List ℕ) (is_escaped : Bool) (s : List ℕ) → unescaped front is_escaped cs ≡ Some s
     → (rest : List ℕ) × (s ≡ front ++ rest) × (held is_escaped ++ encode_utf8_all cs ≡ text_shown rest)
 unescaped_says [] front true s h = cc
 unescaped_says [] front false s h = ([], sym (same_Some front s h) ∙ sym (append-nil front), refl)
-unescaped_says (c ∷ cs) front false s h = elim (eqb_tells c 92) [
-  | inl t ↦
-      let here = rw t.0 at h in
-      let more = unescaped_says cs front true s here in
-      (more.0, more.1, ap (λ d. encode_utf8 d ++ encode_utf8_all cs) t.1 ∙ ap (λ xs. xs ++ encode_utf8_all cs) e92 ∙ more.2)
-  | inr t ↦ elim (eqb_tells c 10) [
-    | inl k ↦ let here = rw (t.0, k.0) at h in cc
-    | inr k ↦
-        let here = simp (t.0, k.0) at h in
-        let more = unescaped_says cs (front ++ c ∷ []) false s here in
-        (c ∷ more.0, more.1 ∙ append_assoc front (c ∷ []) more.0, rw (t.0, k.0) (ap (λ xs. encode_utf8 c ++ xs) more.2))
-  ]
-]
-unescaped_says (c ∷ cs) front true s h =
-    let plain = rw (and_false (c == 92)) at h in
-    elim (eqb_tells c 110) [
-      | inl t ↦
-          let here = rw t.0 at plain in
-          let more = unescaped_says cs (front ++ 10 ∷ []) false s here in (
-            10 ∷ more.0,
-            more.1 ∙ append_assoc front (10 ∷ []) more.0,
-            ap (λ d. 92 ∷ (encode_utf8 d ++ encode_utf8_all cs)) t.1 ∙ ap (λ xs. 92 ∷ (xs ++ encode_utf8_all cs)) e110 ∙ ap (λ xs. 92 ∷ 110 ∷ xs) more.2,
-          )
-      | inr t ↦ elim (eqb_tells c 92) [
-        | inl k ↦
-            let here = rw (t.0, k.0) at plain in
-            let more = unescaped_says cs (front ++ 92 ∷ []) false s here in (
-              92 ∷ more.0,
-              more.1 ∙ append_assoc front (92 ∷ []) more.0,
-              ap (λ d. 92 ∷ (encode_utf8 d ++ encode_utf8_all cs)) k.1 ∙ ap (λ xs. 92 ∷ (xs ++ encode_utf8_all cs)) e92 ∙ ap (λ xs. 92 ∷ 92 ∷ xs) more.2,
-            )
-        | inr k ↦ let here = rw (t.0, k.0) at plain in cc
-      ]
-    ]
+unescaped_says (c ∷ cs) front false s h = grind (arith, e92, append_assoc, (unescaped_says cs front true s), (unescaped_says cs (front ++ c ∷ []) false s))
+unescaped_says (c ∷ cs) front true s h = grind (arith, append_assoc, e110, e92, (unescaped_says cs (front ++ 10 ∷ []) false s), (unescaped_says cs (front ++ 92 ∷ []) false s))
 
 pub text_says : (bytes s : List ℕ) → IsUtf8 bytes → text_at bytes ≡ Some s → (bytes ≡ codes " " ++ text_shown s) ⊎ ((bytes ≡ []) × (s ≡ []))
 text_says [] s u h = inr (refl, sym (same_Some [] s h))
-text_says (b ∷ bytes) s u h = elim (eqb_tells b 32) [
-  | inl t ↦
-      let here = rw t.0 at h in
-      let more = unescaped_says (chars bytes) [] false s here in
-      let utf8 = utf8_tail bytes (subst (λ c. IsUtf8 (c ∷ bytes)) t.1 u) in
-      inl (ap₂ (λ c xs. c ∷ xs) t.1 (sym (encodes-chars bytes utf8) ∙ more.2 ∙ ap text_shown (sym more.1)))
-  | inr t ↦ let here = rw t.0 at h in cc
-]
+text_says (b ∷ bytes) s u h = grind (arith, unescaped_says, utf8_tail, encodes-chars)
 
 -- ## What stands behind the word of an event
 
 pub parts_end : (parts : List Part) (bytes : List ℕ) → SpellsParts parts bytes → IsEnd bytes
 parts_end [] bytes h = subst IsEnd (sym h) tt
 parts_end (Number bits n ∷ parts) bytes h = subst IsEnd (sym h.2) refl
-parts_end (Rest s ∷ parts) bytes h = text_end bytes s h.0
-  where
-    text_end : (bytes s : List ℕ) → (bytes ≡ codes " " ++ text_shown s) ⊎ ((bytes ≡ []) × (s ≡ [])) → IsEnd bytes
-    text_end bytes s (inl is) = subst IsEnd (sym is) refl
-    text_end bytes s (inr is) = subst IsEnd (sym is.0) tt
+parts_end (Rest s ∷ parts) bytes h = grind arith
 
 -- a number stands first
 number_parts : (bits : ℕ) (bytes : List ℕ) (x : ℕ × List ℕ) (parts : List Part) → number_at bits bytes ≡ Some x → SpellsParts parts x.1
@@ -324,10 +247,7 @@ typed_says bytes x u h =
 
 pub typed_read : (bytes : List ℕ) (f : ℕ) (s : List ℕ) → IsUtf8 bytes → SpellsParts (Tag f ∷ Rest s ∷ []) bytes → tag_and_text bytes ≡ Some (f, s)
 unfolding tag_and_text
-typed_read bytes f s u h =
-    let a = parts_number 16 bytes f (Rest s ∷ []) h in
-    ap (λ o. o >>= λ x. text_at x.1 >>= λ t. Some (x.0, t)) a.1
-    ∙ ap (λ o. o >>= λ t. Some (f, t)) (text_read a.0 s (number_utf8 16 bytes (f, a.0) u a.1) a.2.0)
+typed_read bytes f s u h = grind (arith, (parts_number 16 bytes f (Rest s ∷ []) h), text_read, (number_utf8 16 bytes))
 
 -- ## The event of a word
 
@@ -338,48 +258,32 @@ ReadsAs {X} P row = (bytes : List ℕ) (x : X) → IsUtf8 bytes → row.1 bytes 
 pub rows_say : {X : Type 0} (P : List ℕ → X → List ℕ → Type 0) (rows : List (List ℕ × Reader X)) → AllByRecursion (ReadsAs P) rows
     → (word bytes : List ℕ) (x : X) → IsUtf8 bytes → read_by rows word bytes ≡ Some x → P word x bytes
 rows_say P [] each word bytes x u h = cc
-rows_say P (row ∷ rows) each word bytes x u h = elim (cases_Bool (bytes_eq word row.0)) [
-  | inl t ↦
-      let here = rw t at h in
-      subst (λ w. P w x bytes) (sym ((bytes_eq-Decides word row.0).0 t)) (each.0 bytes x u here)
-  | inr t ↦ let here = rw t at h in rows_say P rows each.1 word bytes x u here
-]
+rows_say P (row ∷ rows) each word bytes x u h = grind (arith, bytes_eq-Decides, (rows_say P rows each.1 word bytes x u))
 
 abbrev IsEventOf : List ℕ → UserEvent → List ℕ → Type 0
 IsEventOf word e bytes = ((form e).0 ≡ word) × SpellsParts (form e).1 bytes
 
 formed : (word bytes : List ℕ) (parts : List Part) (d e : UserEvent) → form d ≡ (word, parts) → SpellsParts parts bytes → Some d ≡ Some e → IsEventOf word e bytes
-formed word bytes parts d e is spells same =
-    subst (λ g. IsEventOf word g bytes) (same_Some d e same) (subst (λ (p : List ℕ × List Part). (p.0 ≡ word) × SpellsParts p.1 bytes) (sym is) (refl, spells))
+formed word bytes parts d e is spells same = grind arith
 
 tag_row : (make : ℕ → UserEvent) (word : List ℕ) → ((f : ℕ) → form (make f) ≡ (word, Tag f ∷ [])) → ReadsAs IsEventOf (word, by_tag make)
-tag_row make word is bytes e u h =
-    let a = bind_some (tag_alone bytes) (λ f. Some (make f)) e h in
-    formed word bytes (Tag a.0 ∷ []) (make a.0) e (is a.0) (tag_says bytes a.0 a.1) a.2
+tag_row make word is bytes e u h = grind (arith, tag_says)
 
 place_row : (make : ℕ → ℕ → UserEvent) (word : List ℕ) → ((f p : ℕ) → form (make f p) ≡ (word, Tag f ∷ Place p ∷ [])) → ReadsAs IsEventOf (word, by_place make)
-place_row make word is bytes e u h =
-    let a = bind_some (tag_and_place bytes) (λ x. Some (make x.0 x.1)) e h in
-    formed word bytes (Tag a.0.0 ∷ Place a.0.1 ∷ []) (make a.0.0 a.0.1) e (is a.0.0 a.0.1) (place_says bytes a.0 a.1) a.2
+place_row make word is bytes e u h = grind (arith, place_says)
 
 range_row : (make : ℕ → ℕ → ℕ → UserEvent) (word : List ℕ) → ((f p q : ℕ) → form (make f p q) ≡ (word, Tag f ∷ Place p ∷ Place q ∷ []))
     → ReadsAs IsEventOf (word, by_range make)
-range_row make word is bytes e u h =
-    let a = bind_some (tag_and_range bytes) (λ x. Some (make x.0 x.1 x.2)) e h in
-    formed word bytes (Tag a.0.0 ∷ Place a.0.1 ∷ Place a.0.2 ∷ []) (make a.0.0 a.0.1 a.0.2) e (is a.0.0 a.0.1 a.0.2) (range_says bytes a.0 a.1) a.2
+range_row make word is bytes e u h = grind (arith, range_says)
 
 bare_row : (d : UserEvent) (word : List ℕ) → form d ≡ (word, []) → ReadsAs IsEventOf (word, ended d)
 bare_row d word is bytes e u h = let n = ended_says d e bytes h in formed word bytes [] d e is n.0 (ap (λ g. Some g) n.1)
 
 type_row : ReadsAs IsEventOf (codes "type", λ bytes. tag_and_text bytes >>= λ x. Some (Typed x.0 x.1))
-type_row bytes e u h =
-    let a = bind_some (tag_and_text bytes) (λ x. Some (Typed x.0 x.1)) e h in
-    formed (codes "type") bytes (Tag a.0.0 ∷ Rest a.0.1 ∷ []) (Typed a.0.0 a.0.1) e refl (typed_says bytes a.0 u a.1) a.2
+type_row bytes e u h = grind (arith, typed_says)
 
 snarf_row : ReadsAs IsEventOf (codes "setsnarf", λ bytes. text_at bytes >>= λ s. Some (SetSnarf s))
-snarf_row bytes e u h =
-    let a = bind_some (text_at bytes) (λ s. Some (SetSnarf s)) e h in
-    formed (codes "setsnarf") bytes (Rest a.0 ∷ []) (SetSnarf a.0) e refl (text_says bytes a.0 u a.1, refl) a.2
+snarf_row bytes e u h = grind (arith, text_says)
 
 readers_say : AllByRecursion (ReadsAs IsEventOf) readers
 readers_say = (
@@ -473,31 +377,6 @@ parts_read (SetSnarf s) bytes u h = ap (λ o. o >>= λ x. Some (SetSnarf x)) (te
 parts_read (Version f) bytes u h = ap (λ o. o >>= λ x. Some (Version x)) (tag_read bytes f h)
 parts_read user.Flush bytes u h = ap (λ b. ended user.Flush b) h
 
-form_word : (e : UserEvent) → IsWord (form e).0
-form_word (Typed f s) = word_plain (codes "type")
-form_word (Select f p q) = word_plain (codes "select")
-form_word (Cut f) = word_plain (codes "cut")
-form_word (Paste f) = word_plain (codes "paste")
-form_word (Snarf f) = word_plain (codes "snarf")
-form_word (Look f) = word_plain (codes "look")
-form_word (Search f) = word_plain (codes "search")
-form_word (Send f) = word_plain (codes "send")
-form_word (Dclick f p) = word_plain (codes "dclick")
-form_word (Scroll f p) = word_plain (codes "scroll")
-form_word (View f p q) = word_plain (codes "view")
-form_word (Open f) = word_plain (codes "open")
-form_word (Close f) = word_plain (codes "close")
-form_word (Write f) = word_plain (codes "write")
-form_word (Work f) = word_plain (codes "work")
-form_word OpenCmd = word_plain (codes "opencmd")
-form_word New = word_plain (codes "new")
-form_word Exit = word_plain (codes "exit")
-form_word (Check f) = word_plain (codes "check")
-form_word GetSnarf = word_plain (codes "getsnarf")
-form_word (SetSnarf s) = word_plain (codes "setsnarf")
-form_word (Version f) = word_plain (codes "version")
-form_word user.Flush = word_plain (codes "flush")
-
 pub event_says : (bytes : List ℕ) (e : UserEvent) → IsUtf8 bytes → event_at bytes ≡ Some e → (event : List ℕ) × (bytes ≡ codes " " ++ event) × SpellsEvent e event
 unfolding event_at
 event_says bytes e u h =
@@ -508,8 +387,4 @@ event_says bytes e u h =
 
 pub event_read : (bytes event : List ℕ) (e : UserEvent) → IsUtf8 bytes → bytes ≡ codes " " ++ event → SpellsEvent e event → event_at bytes ≡ Some e
 unfolding event_at
-event_read bytes event e u is (rest, same, parts) =
-    let whole : bytes ≡ codes " " ++ (form e).0 ++ rest = is ∙ ap (λ x. 32 ∷ x) same in
-    let end = parts_end (form e).1 rest parts in
-    ap (λ o. o >>= λ x. read_by readers x.0 x.1) (word_read bytes (form e).0 rest whole (form_word e) end)
-    ∙ parts_read e rest (utf8_rear (codes " " ++ (form e).0) rest (subst IsUtf8 whole u) end) parts
+event_read bytes event e u is (rest, same, parts) = grind (arith, (parts_read e rest), (utf8_rear (codes " " ++ (form e).0) rest))

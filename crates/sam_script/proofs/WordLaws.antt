@@ -1,19 +1,19 @@
 -- The words and numbers of a line, as functions on lists.
-use Rattle.std.proofs.Common.{◌≡◌, ◌≢◌, ◌<◌, ◌≤◌, ◌∙◌, ◌^◌, ◌+◌, refl, sym, ap, ℕ, zero, suc, List, [], ◌∷◌, ◌++◌, length, get_or, take, drop, Bool, true, false, cond, Some, None, Result, Ok, Err, MatchResult, arith, inl, inr}
-use Rattle.std.specs.Prelude.{nat_lt, ◌&&◌, ◌==◌, ◌⊎◌}
+use Rattle.std.proofs.Common.{◌≡◌, ◌≢◌, ◌<◌, ◌≤◌, ◌∙◌, ◌^◌, ◌+◌, refl, sym, ap, ℕ, zero, suc, List, [], ◌∷◌, ◌++◌, length, get_or, take, drop, Bool, true, false, Some, None, Result, Ok, Err, MatchResult, arith}
+use Rattle.std.specs.Prelude.{◌⊎◌}
 use Rattle.std.specs.Str.{all_ascii_digits}
 use Rattle.std.specs.Str.Parse.{ParsesUnsigned, digits_value}
 use Rattle.std.proofs.lemmas.Str.Parse.{parse_plain, numerals_by_value, tells_all_ascii_digits}
-use Rattle.std.proofs.lemmas.Bool.{ne_eqb, lt-ltb, ltb-true}
+use Rattle.std.proofs.lemmas.Bool.{ne_eqb, lt-ltb}
 use Rattle.std.proofs.lemmas.Bool.Decides.{nat_tests}
-use Rattle.sam_script.specs.Words.{word_of, behind_word, word_at, number_of, unescaped, meant, text_at, ended, ◌>>=◌}
+use Rattle.sam_script.specs.Words.{word_of, behind_word, word_at, number_of, unescaped, meant, text_at, ended}
 use Rattle.std.proofs.lemmas.List.{at_drop_more, at_drop_all}
 
 pub cons_word : (b : ℕ) (bytes : List ℕ) → b ≢ 32 → word_of (b ∷ bytes) ≡ b ∷ word_of bytes
-cons_word b bytes other = grind (arith, nat_tests)
+cons_word b bytes other = grind arith
 
 pub cons_behind : (b : ℕ) (bytes : List ℕ) → b ≢ 32 → behind_word (b ∷ bytes) ≡ behind_word bytes
-cons_behind b bytes other = grind (arith, nat_tests)
+cons_behind b bytes other = grind arith
 
 -- the first space is at k
 pub word_to : (bytes : List ℕ) (k : ℕ) → k < length bytes → get_or bytes k 0 ≡ 32 → ((i : ℕ) → i < k → get_or bytes i 0 ≢ 32) → word_of bytes ≡ take k bytes
@@ -45,25 +45,12 @@ pub no_text : (bytes : List ℕ) → ((rest : List ℕ) → bytes ≢ 32 ∷ res
 no_text [] none = refl
 no_text (b ∷ bytes) none = let other : b ≢ 32 = λ e. none bytes (ap (λ c. c ∷ bytes) e) in rw (ne_eqb b 32 other) refl
 
--- a number
-pub plus_fails : (bits : ℕ) (word : List ℕ) → get_or word 0 0 ≡ 43 → number_of bits word ≡ None
-plus_fails bits [] plus = absurd (omega (arith, plus))
-plus_fails bits (b ∷ word) plus = ap (λ c. number_of bits (c ∷ word)) plus
-
 pub some_number : (bits : ℕ) (word : List ℕ) → all_ascii_digits word ≡ true → 0 < length word → digits_value 10 word < 2 ^ bits
     → number_of bits word ≡ Some (digits_value 10 word)
 some_number bits word digits some small = rw (digits, lt-ltb 0 (length word) some, lt-ltb (digits_value 10 word) (2 ^ bits) small) refl
 
 none_number : (bits : ℕ) (word : List ℕ) → ((all_ascii_digits word ≡ true) × (0 < length word) × (digits_value 10 word < 2 ^ bits) → ⊥) → number_of bits word ≡ None
-none_number bits word not_one =
-    by_tests (all_ascii_digits word) (nat_lt 0 (length word)) (nat_lt (digits_value 10 word) (2 ^ bits)) (digits_value 10 word)
-    (λ d l s. not_one (d, ltb-true 0 (length word) l, ltb-true (digits_value 10 word) (2 ^ bits) s))
-  where
-    by_tests : (x y z : Bool) (n : ℕ) → (x ≡ true → y ≡ true → z ≡ true → ⊥) → cond ((x && y) && z) (Some n) None ≡ None
-    by_tests true true true n wrong = absurd (wrong refl refl refl)
-    by_tests true true false n wrong = refl
-    by_tests true false z n wrong = refl
-    by_tests false y z n wrong = refl
+none_number bits word not_one = grind arith
 
 module _ {E : Type 0} where
   pub parsed : (bits : ℕ) (word : List ℕ) (r : Result ℕ E) → ParsesUnsigned bits 10 word r → get_or word 0 0 ≢ 43
@@ -80,39 +67,21 @@ module _ {E : Type 0} where
 -- one rune more of a text
 pub one_more : (front : List ℕ) (is_escaped : Bool) (cs : List ℕ) (n c : ℕ) → (n < length cs) × (c ≡ get_or cs n c)
     → unescaped front is_escaped (drop n cs) ≡ unescaped front is_escaped (c ∷ drop (n + 1) cs)
-one_more front is_escaped cs n c h =
-    at_drop_more (unescaped front is_escaped) cs n c h.0 ∙ ap (λ x. unescaped front is_escaped (x ∷ drop (n + 1) cs)) (sym h.1)
-
--- an escape begins, a rune is meant; and the end
-pub not_escape : (front rest : List ℕ) (is_escaped : Bool) (c : ℕ) → ((c ≡ 92) × (is_escaped ≡ true)) ⊎ (c ≢ 92)
-    → unescaped front is_escaped (c ∷ rest) ≡ (meant is_escaped c >>= λ rune. unescaped (front ++ rune ∷ []) false rest)
-not_escape front rest is_escaped c (inl both) = rw both.1 (and_false (c == 92))
-  where
-    and_false : (b : Bool)
-        → cond (b && false) (unescaped front true rest) (meant true c >>= λ rune. unescaped (front ++ rune ∷ []) false rest)
-        ≡ (meant true c >>= λ rune. unescaped (front ++ rune ∷ []) false rest)
-    and_false true = refl
-    and_false false = refl
-not_escape front rest is_escaped c (inr other) = rw (ne_eqb c 92 other) refl
+one_more front is_escaped cs n c h = grind (arith, (at_drop_more (unescaped front is_escaped) cs n c h.0))
 
 pub turn_escape : (front cs whole : List ℕ) (n c : ℕ) → unescaped front false (drop n cs) ≡ unescaped [] false whole → (n < length cs) × (c ≡ get_or cs n c) → c ≡ 92
     → unescaped front true (drop (n + 1) cs) ≡ unescaped [] false whole
-turn_escape front cs whole n c before at is =
-    ap (λ x. unescaped front false (x ∷ drop (n + 1) cs)) (sym is) ∙ sym (one_more front false cs n c at) ∙ before
+turn_escape front cs whole n c before at is = grind (arith, (one_more front false cs n c at))
 
 pub turn_rune : (front cs whole : List ℕ) (is_escaped : Bool) (n c rune : ℕ) → unescaped front is_escaped (drop n cs) ≡ unescaped [] false whole
     → (n < length cs) × (c ≡ get_or cs n c) → ((c ≡ 92) × (is_escaped ≡ true)) ⊎ (c ≢ 92) → meant is_escaped c ≡ Some rune
     → unescaped (front ++ rune ∷ []) false (drop (n + 1) cs) ≡ unescaped [] false whole
-turn_rune front cs whole is_escaped n c rune before at plain is =
-    ap (λ o. o >>= λ r. unescaped (front ++ r ∷ []) false (drop (n + 1) cs)) (sym is) ∙ sym (not_escape front (drop (n + 1) cs) is_escaped c plain)
-    ∙ sym (one_more front is_escaped cs n c at) ∙ before
+turn_rune front cs whole is_escaped n c rune before at plain is = grind (arith, (one_more front is_escaped cs n c at))
 
 pub turn_fails : (front cs whole : List ℕ) (is_escaped : Bool) (n c : ℕ) → unescaped front is_escaped (drop n cs) ≡ unescaped [] false whole
     → (n < length cs) × (c ≡ get_or cs n c) → ((c ≡ 92) × (is_escaped ≡ true)) ⊎ (c ≢ 92) → meant is_escaped c ≡ None
     → unescaped [] false whole ≡ None
-turn_fails front cs whole is_escaped n c before at plain is =
-    sym before ∙ one_more front is_escaped cs n c at ∙ not_escape front (drop (n + 1) cs) is_escaped c plain
-    ∙ ap (λ o. o >>= λ r. unescaped (front ++ r ∷ []) false (drop (n + 1) cs)) is
+turn_fails front cs whole is_escaped n c before at plain is = grind (arith, (one_more front is_escaped cs n c at))
 
 pub turns_end : (front cs whole : List ℕ) (is_escaped : Bool) (n : ℕ) → unescaped front is_escaped (drop n cs) ≡ unescaped [] false whole → length cs ≤ n
     → unescaped [] false whole ≡ unescaped front is_escaped []

@@ -1,30 +1,26 @@
 -- What a host answers and what a terminal composes fits at its place of the stream: a case for each message and for each event.
-use Rattle.std.proofs.Common.{◌≡◌, ℕ, ◌+◌, Bool, true, false, not, ◌==◌, List, [], ◌∷◌, ◌++◌, Option, Some, None, Ok, Err, refl, sym, ap, ◌∙◌, subst, true≢false, eqb-true, arith, ◌≤◌}
-use Rattle.std.specs.Prelude.{◌&&◌, min, nat_lt, drop, if◌then◌else◌}
-use Rattle.std.proofs.lemmas.Bool.{ltb-false}
+use Rattle.std.proofs.Common.{◌≡◌, ℕ, Bool, true, false, ◌==◌, List, [], ◌∷◌, ◌++◌, Option, Some, None, Ok, refl, sym, ap, ◌∙◌, subst, arith}
+use Rattle.std.specs.Prelude.{min, drop, if◌then◌else◌}
 use Rattle.sam_runes.specs.Checks.{first_of_checks}
-use Rattle.sam_runes.specs.Texts.{common_version, is_empty, most_count, snarf_limit, utf8_length}
+use Rattle.sam_runes.specs.Texts.{common_version}
 use Rattle.sam_runes.proofs.CheckLaws.{none_holds}
-use Rattle.sam_rasp.specs.Rasp.{hole_within}
 use Rattle.sam_mesg.specs.HostKinds.{after_h}
 use Rattle.sam_mesg.specs.TerminalKinds.{after_t}
 use Rattle.sam_mesg.specs.declared.tmesg.Tmesg.{Tmesg}
-use Rattle.sam_mesg.specs.declared.tmesg.Tmesg.TheVariants.{Tversion, Ttype, Tcut, Tpaste, Tsnarf, Tsetsnarf, Tack}
+use Rattle.sam_mesg.specs.declared.tmesg.Tmesg.TheVariants.{Tversion, Tcut, Tsnarf, Tack}
 use Rattle.sam_mesg.specs.declared.hmesg.Hmesg.{Hmesg}
 use Rattle.sam_mesg.specs.declared.hmesg.Hmesg.TheVariants.{Hversion, Hcheck, Hunlock, Hunlockfile, Hack}
 use Rattle.sam_mesg.specs.declared.hmesg.HFrame.{HFrame}
 use Rattle.sam_frame.specs.Direction.{host, terminal}
 use Rattle.sam_frame.specs.Stream.{version_after}
-use Rattle.sam_host.specs.Host.{PlainHost, Reply, Answer, answer, answer_unless, counted, host_checks, told_names, stamped, reply_version, reply_to}
+use Rattle.sam_host.specs.Host.{PlainHost, Reply, answer, host_checks, told_names, stamped, reply_version, reply_to}
 use Rattle.sam_host.specs.Laws.{IsSound, FitInPlace}
-use Rattle.sam_host.specs.declared.fault.HostFault.{HostFault}
-use Rattle.sam_host.specs.declared.fault.HostFault.TheVariants.{BadVersion, CountFull}
+use Rattle.sam_host.specs.declared.fault.HostFault.TheVariants.{BadVersion}
 use Rattle.sam_host.proofs.SoundLaws.{frames_fit, reply_stands, stays_sound}
 use Rattle.sam_protocol.specs.Frames.{is_version}
 use Rattle.sam_protocol.proofs.Versions.{IsPlain, plain_frames, reply_plain}
 use Rattle.sam_host.proofs.EachFrame.{reply_each}
-use Rattle.sam_term.specs.Events.{is_command_line}
-use Rattle.sam_term.specs.Term.{PlainTerminal, Made, window_at, put_window, cut_rasp, flushed, unsent_message, and_then, sends, sends_if, unchanged, requested, request_for, view_end, is_open, joins, joined, kept_unsent, typed_rasp, types, cuts_dot, has_empty_dot, event_outcome, made_by_type, made_by_cut, made_by_paste, made_by_snarf, made_by_view, frame_outcome, made_unless, frame_checks, event_checks, has_long_text, took_unlockfile, act_of, act_on, decided, flush_of, take_of}
+use Rattle.sam_term.specs.Term.{PlainTerminal, Made, window_at, cut_rasp, flushed, unsent_message, sends, sends_if, unchanged, requested, request_for, types, cuts_dot, has_empty_dot, event_outcome, made_by_type, made_by_cut, made_by_paste, made_by_snarf, made_by_view, frame_outcome, event_checks, has_long_text, took_unlockfile, act_of, act_on, decided, flush_of, take_of}
 use Rattle.sam_term.specs.declared.records.Unsent.{Unsent}
 use Rattle.sam_term.specs.declared.event.UserEvent.{UserEvent}
 use Rattle.sam_term.specs.declared.event.UserEvent.TheVariants.{Typed, Select, Cut, Paste, Snarf, View, SetSnarf, Flush}
@@ -32,7 +28,6 @@ use Rattle.sam_term.specs.declared.event.Verdict.{Verdict}
 use Rattle.sam_term.specs.declared.event.Verdict.TheVariants.{Waits, Refuses}
 use Rattle.sam_term.specs.declared.event.Acted.{Acted}
 use Rattle.sam_term.specs.declared.event.Acted.TheVariants.{Idle, Locked, Done, Refused}
-use Rattle.sam_term.specs.declared.fault.TermFault.{TermFault}
 use Rattle.sam_term.specs.declared.fault.TermFault.TheVariants as fault
 use Rattle.sam_term.proofs.Acts.{none_holds as none_at, test_at}
 use Rattle.sam_world.specs.Sides.{Each, HostRuns}
@@ -40,7 +35,7 @@ use Rattle.sam_world.specs.World.{composed_by}
 use Rattle.sam_world.proofs.RunLaws.{counted-result}
 use Rattle.sam_threads.specs.RealSides.{sides}
 use Rattle.sam_threads.proofs.RealLaws.{answered_as}
-use Rattle.sam_threads.proofs.ApartTurns.{InTurn, InTurn-append, IsFree, free_turn, snarf_turn}
+use Rattle.sam_threads.proofs.ApartTurns.{InTurn, InTurn-append, IsFree, free_turn}
 
 -- ## What the host answers: its version is that behind its answers
 
@@ -59,15 +54,10 @@ plain-stamped v seen (m ∷ ms) p = ap (λ (n : ℕ). version_after host n (stam
 
 -- a reply that says nothing of the version, and leaves it
 kept : (h : PlainHost) (m : Tmesg) (r : Reply) → after_t h.version m ≡ h.version → IsPlain r.1 → r.0.version ≡ after_t h.version m → Tells h m r
-kept h m r same plain version =
-    record { behind = λ seen. plain-stamped h.version seen r.1 plain ∙ sym (version ∙ same); past = sym version }
+kept h m r same plain version = grind (arith, plain-stamped)
 
 agrees : (version v : ℕ) → (v == 0) ≡ false → after_h version (Hversion (common_version v)) ≡ common_version v
-agrees version v e = go (common_version v == 0) refl
-  where
-    go : (b : Bool) → (common_version v == 0) ≡ b → (if b then version else min (common_version v) 2) ≡ common_version v
-    go true q = absurd (let zero : min v 2 ≡ 0 = eqb-true (common_version v) 0 q in let none : v ≡ 0 = omega arith in true≢false (sym (ap (λ (n : ℕ). n == 0) none) ∙ e))
-    go false q = omega arith
+agrees version v e = grind arith
 
 tells_version : (h : PlainHost) (v : ℕ) → first_of_checks (host_checks h (Tversion v)) ≡ None → Tells h (Tversion v) (reply_version h v)
 unfolding reply_version
@@ -93,28 +83,7 @@ pub record Answered (h : PlainHost) (m : Tmesg) (r : PlainHost × List HFrame) :
 
 pub answered : (h : PlainHost) (m : Tmesg) (r : PlainHost × List HFrame) → answer h m ≡ Ok r → Answered h m r
 unfolding answer
-answered h m r e = full (h.taken == most_count) e
-  where
-    silent : PlainHost × List HFrame
-    silent = (counted h, [])
-
-    checked : (o : Option HostFault) → first_of_checks (host_checks h m) ≡ o → h.is_done ≡ false → answer_unless o (reply_to h m) ≡ Ok r → Answered h m r
-    checked (Some why) c d q = absurd (cc)
-    checked None c d q =
-        let reply : Reply = reply_to h m in
-        let same : (counted reply.0, stamped (reply.0.taken + 1) reply.1) ≡ r = cc in
-        let t = tells h m c in
-        subst (Answered h m) same (record { behind = t.behind (reply.0.taken + 1); past = λ n. (d, t.past) })
-
-    done : (b : Bool) → h.is_done ≡ b → (if b then (let x : Answer = Ok silent in x) else answer_unless (first_of_checks (host_checks h m)) (reply_to h m)) ≡ Ok r → Answered h m r
-    done true d q =
-        let same : silent ≡ r = cc in
-        subst (Answered h m) same (record { behind = refl; past = λ n. absurd (true≢false (sym d ∙ n)) })
-    done false d q = checked (first_of_checks (host_checks h m)) refl d q
-
-    full : (b : Bool) → (if b then (let x : Answer = Err CountFull in x) else if h.is_done then Ok silent else answer_unless (first_of_checks (host_checks h m)) (reply_to h m)) ≡ Ok r → Answered h m r
-    full true q = absurd (cc)
-    full false q = done h.is_done refl q
+answered h m r e = grind (arith, (tells h m))
 
 place_turn : (v : ℕ) (fs : List HFrame) → FitInPlace v fs → InTurn host v fs
 place_turn v [] p = tt
@@ -164,16 +133,8 @@ free-cuts t f =
     free-if (has_empty_dot t f) (t, []) (sends t (λ u. cut_rasp u f d.0 d.1) (Tcut f d.0 d.1 ∷ [])) tt
     (free-sends t (λ u. cut_rasp u f d.0 d.1) (Tcut f d.0 d.1 ∷ []) (tt, tt))
 
-free-kept : (t : PlainTerminal) (f p : ℕ) (s : List ℕ) → AllFree (kept_unsent t f p s).1
-free-kept t f p s =
-    free-if (joins t.unsent f p s) (record t { unsent = Some (joined t.unsent f p s) }, []) (and_then (flushed t) (λ u. (record u { unsent = Some (joined None f p s) }, []))) tt
-    (free-append (flushed t).1 [] (free-flushed t) tt)
-
 free-types : (t : PlainTerminal) (f p : ℕ) (s : List ℕ) → AllFree (types t f p s).1
-free-types t f p s =
-    let typed = typed_rasp (kept_unsent t f p s).0 f p s in
-    free-append (kept_unsent t f p s).1 (if is_command_line f s then flushed typed else (typed, [])).1 (free-kept t f p s)
-    (free-if (is_command_line f s) (flushed typed) (typed, []) (free-flushed typed) tt)
+free-types t f p s = grind (arith, free-append, free-flushed)
 
 free-sends_if : (t : PlainTerminal) (o : Option (ℕ × ℕ)) (f : ℕ) → AllFree (sends_if (request_for f o) t).1
 free-sends_if t None f = tt
@@ -181,14 +142,7 @@ free-sends_if t (Some h) f = free-sends t (λ u. u) _ (tt, tt)
 
 free-requested : (t : PlainTerminal) (f : ℕ) → AllFree (requested t f).1
 unfolding requested
-free-requested t f = go (is_open t f && not t.has_exited && not (window_at t f).awaits)
-  where
-    hole : Option (ℕ × ℕ)
-    hole = hole_within (window_at t f).rasp (window_at t f).view_start (view_end (window_at t f))
-
-    go : (b : Bool) → AllFree (sends_if (if b then request_for f hole else None) t).1
-    go true = free-sends_if t hole f
-    go false = tt
+free-requested t f = grind (arith, free-sends_if)
 
 free-plain : (t : PlainTerminal) (ms : List Tmesg) → AllFree ms → AllFree (sends t unchanged ms).1
 free-plain t ms p = free-sends t unchanged ms p
@@ -196,35 +150,17 @@ free-plain t ms p = free-sends t unchanged ms p
 -- what an event composes at a place with the terminal's version
 event_turn : (t : PlainTerminal) (e : UserEvent) (v : ℕ) → has_long_text t e ≡ false → v ≡ t.version → InTurn terminal v (event_outcome t e).1
 unfolding made_by_type made_by_cut made_by_paste made_by_snarf made_by_view
-event_turn t (Typed f s) v h q =
-    let u = (cuts_dot t f).0 in
-    let p = (window_at t f).dot.0 in
-    free_turn v (made_by_type t f s).1
-    (free-append (cuts_dot t f).1 (if is_empty s then (u, []) else types u f p s).1 (free-cuts t f) (free-if (is_empty s) (u, []) (types u f p s) tt (free-types u f p s)))
+event_turn t (Typed f s) v h q = grind (arith, free_turn, free-append, free-cuts, free-types)
 event_turn t (Select f x y) v h q = tt
 event_turn t (Cut f) v h q =
     let d = (window_at t f).dot in
     free_turn v (made_by_cut t f).1
     (free-if (has_empty_dot t f) (t, []) (sends t (λ u. cut_rasp u f d.0 d.1) (Tsnarf f d.0 d.1 ∷ Tcut f d.0 d.1 ∷ [])) tt
     (free-sends t (λ u. cut_rasp u f d.0 d.1) (Tsnarf f d.0 d.1 ∷ Tcut f d.0 d.1 ∷ []) (tt, (tt, tt))))
-event_turn t (Paste f) v h q =
-    let u = (cuts_dot t f).0 in
-    free_turn v (made_by_paste t f).1
-    (free-append (cuts_dot t f).1 (sends u unchanged (Tpaste f (window_at t f).dot.0 ∷ [])).1 (free-cuts t f) (free-plain u (Tpaste f (window_at t f).dot.0 ∷ []) (tt, tt)))
-event_turn t (Snarf f) v h q =
-    let d = (window_at t f).dot in
-    free_turn v (made_by_snarf t f).1
-    (free-if (has_empty_dot t f) (t, []) (sends t unchanged (Tsnarf f d.0 d.1 ∷ [])) tt (free-plain t (Tsnarf f d.0 d.1 ∷ []) (tt, tt)))
-event_turn t (View f p n) v h q =
-    free_turn v (made_by_view t f p n).1 (free-requested (put_window t f (record (window_at t f) { view_start = p; view_length = n })) f)
-event_turn t (SetSnarf s) v h q = subst (λ (l : List Tmesg). InTurn terminal v (l ++ Tsetsnarf s ∷ [])) (sym (flushed_is t)) (go t.unsent)
-  where
-    small : utf8_length s ≤ snarf_limit v
-    small = subst (λ (n : ℕ). utf8_length s ≤ snarf_limit n) (sym q) (ltb-false (snarf_limit t.version) (utf8_length s) h)
-
-    go : (o : Option Unsent) → InTurn terminal v (unsent_message o ++ Tsetsnarf s ∷ [])
-    go None = snarf_turn v s small
-    go (Some u) = ((free_turn v (Ttype u.file u.place u.runes ∷ []) (tt, tt)).0, snarf_turn v s small)
+event_turn t (Paste f) v h q = grind (arith, free_turn, free-append, free-plain)
+event_turn t (Snarf f) v h q = grind (arith, free_turn, free-plain)
+event_turn t (View f p n) v h q = grind (arith, free_turn, free-requested)
+event_turn t (SetSnarf s) v h q = grind (arith, flushed_is)
 event_turn t Flush v h q = free_turn v _ (free-flushed t)
 event_turn t _ v h q = free_turn v _ (free-plain t _ (tt, tt))
 
@@ -268,10 +204,4 @@ free-frame t _ = tt
 
 pub take_turn : (t : PlainTerminal) (frame : HFrame) (r : Made) (v : ℕ) → take_of t frame ≡ Ok r → InTurn terminal v r.1
 unfolding take_of
-take_turn t frame r v e = go (first_of_checks ((nat_lt t.sent frame.seen, fault.FromTheFuture) ∷ frame_checks t frame.msg)) e
-  where
-    go : (o : Option TermFault) → made_unless o (frame_outcome t frame.msg) ≡ Ok r → InTurn terminal v r.1
-    go (Some why) q = absurd (cc)
-    go None q =
-        let made : Made = frame_outcome t frame.msg in
-        subst (λ (x : Made). InTurn terminal v x.1) (counted-result made.0.sent made r q) (free_turn v made.1 (free-frame t frame.msg))
+take_turn t frame r v e = grind (arith, free_turn, free-frame)

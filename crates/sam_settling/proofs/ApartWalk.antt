@@ -1,5 +1,5 @@
 -- The sides of a joined run with the messages that each has handled or composed so far: what was composed fits, each message at its place.
-use Rattle.std.proofs.Common.{◌≡◌, ℕ, false, List, [], ◌∷◌, ◌++◌, Option, Some, None, Result, Ok, Err, refl, sym, ap, ◌∙◌, subst, true≢false, append_assoc}
+use Rattle.std.proofs.Common.{◌≡◌, ℕ, false, List, [], ◌∷◌, ◌++◌, Option, Some, None, Result, Ok, Err, refl, sym, ap, ◌∙◌, subst, true≢false, append_assoc, arith}
 use Rattle.std.proofs.lemmas.List.{append-nil}
 use Rattle.std.proofs.lemmas.Option.{same_Some}
 use Rattle.std.proofs.lemmas.Bool.{false_from_ne_true}
@@ -62,17 +62,11 @@ listing = record {
 
 added_was : (l : List Tmesg) (o : Option (PlainTerminal × List Tmesg)) (u : TermSide) (ms : List Tmesg) → added l o ≡ Some (u, ms) → o ≡ Some (u.0, ms)
 added_was l None u ms e = absurd (cc)
-added_was l (Some p) u ms e =
-    let x : TermSide × List Tmesg = ((p.0, l ++ p.1), p.1) in
-    let y : TermSide × List Tmesg = (u, ms) in
-    ap (λ (z : TermSide × List Tmesg). Some ((z.0).0, z.1)) (same_Some x y e)
+added_was l (Some p) u ms e = grind arith
 
 took_was : (l : List Tmesg) (o : Option (PlainHost × List HFrame)) (k : HostSide) (fs : List HFrame) → took l o ≡ Some (k, fs) → o ≡ Some (k.0, fs)
 took_was l None k fs e = absurd (cc)
-took_was l (Some p) k fs e =
-    let x : HostSide × List HFrame = ((p.0, l), p.1) in
-    let y : HostSide × List HFrame = (k, fs) in
-    ap (λ (z : HostSide × List HFrame). Some ((z.0).0, z.1)) (same_Some x y e)
+took_was l (Some p) k fs e = grind arith
 
 listing_counts : Counts listing
 listing_counts = record {
@@ -86,34 +80,15 @@ listing_counts = record {
 }
 
 host_lists : (ms : List Tmesg) (h k : PlainHost) (l : List Tmesg) (fs : List HFrame) → HostRuns sides h ms fs k → HostRuns listing (h, l) ms fs (k, l ++ ms)
-host_lists [] h k l fs r =
-    (r.0, ap (λ (x : PlainHost). let z : HostSide = (x, l ++ []) in z) r.1 ∙ ap (λ (x : List Tmesg). let z : HostSide = (h, x) in z) (append-nil l))
-host_lists (m ∷ ms) h k l fs r =
-    let later = host_lists ms r.0 k (l ++ m ∷ []) r.2 r.5 in
-    let whole : (l ++ m ∷ []) ++ ms ≡ l ++ (m ∷ ms) = append_assoc l (m ∷ []) ms in
-    let j : HostSide = (r.0, l ++ m ∷ []) in
-    (j, r.1, r.2, ap (took (l ++ m ∷ [])) r.3, r.4, subst (λ (x : List Tmesg). HostRuns listing j ms r.2 (k, x)) whole later)
+host_lists [] h k l fs r = grind (arith, append-nil)
+host_lists (m ∷ ms) h k l fs r = grind (arith, append_assoc, (host_lists ms r.0 k (l ++ m ∷ []) r.2 r.5))
 
 term_lists : (es : List TermLog) (t u : PlainTerminal) (l : List Tmesg) (fs : List HFrame) (ms : List Tmesg) → TermRuns sides t es fs ms u → TermRuns listing (t, l) es fs ms (u, l ++ ms)
-term_lists [] t u l fs ms r =
-    let all : l ++ ms ≡ l = ap (λ (x : List Tmesg). l ++ x) r.1 ∙ append-nil l in
-    (r.0, r.1, ap (λ (x : PlainTerminal). let z : TermSide = (x, l ++ ms) in z) r.2 ∙ ap (λ (x : List Tmesg). let z : TermSide = (t, x) in z) all)
+term_lists [] t u l fs ms r = grind (arith, append-nil)
 term_lists (log.User e ∷ es) t u l fs ms r = term_lists es (sides.user t e) u l fs ms r
-term_lists (log.Act ∷ es) t u l fs ms r =
-    let v : TermSide = (r.0, l ++ r.1) in
-    let later = term_lists es r.0 u (l ++ r.1) fs r.2 r.5 in
-    let whole : (l ++ r.1) ++ r.2 ≡ l ++ ms = append_assoc l r.1 r.2 ∙ ap (λ (x : List Tmesg). l ++ x) (sym r.4) in
-    (v, r.1, r.2, ap (added l) r.3, r.4, subst (λ (x : List Tmesg). TermRuns listing v es fs r.2 (u, x)) whole later)
-term_lists (log.Flush ∷ es) t u l fs ms r =
-    let v : TermSide = (r.0, l ++ r.1) in
-    let later = term_lists es r.0 u (l ++ r.1) fs r.2 r.5 in
-    let whole : (l ++ r.1) ++ r.2 ≡ l ++ ms = append_assoc l r.1 r.2 ∙ ap (λ (x : List Tmesg). l ++ x) (sym r.4) in
-    (v, r.1, r.2, ap (added l) r.3, r.4, subst (λ (x : List Tmesg). TermRuns listing v es fs r.2 (u, x)) whole later)
-term_lists (log.Take n ∷ es) t u l fs ms r =
-    let v : TermSide = (r.2, l ++ r.3) in
-    let later = term_lists es r.2 u (l ++ r.3) r.1 r.4 r.9 in
-    let whole : (l ++ r.3) ++ r.4 ≡ l ++ ms = append_assoc l r.3 r.4 ∙ ap (λ (x : List Tmesg). l ++ x) (sym r.8) in
-    (r.0, r.1, v, r.3, r.4, r.5, r.6, ap (added l) r.7, r.8, subst (λ (x : List Tmesg). TermRuns listing v es r.1 r.4 (u, x)) whole later)
+term_lists (log.Act ∷ es) t u l fs ms r = grind (arith, append_assoc, (term_lists es r.0 u (l ++ r.1) fs r.2 r.5))
+term_lists (log.Flush ∷ es) t u l fs ms r = grind (arith, append_assoc, (term_lists es r.0 u (l ++ r.1) fs r.2 r.5))
+term_lists (log.Take n ∷ es) t u l fs ms r = grind (arith, append_assoc, (term_lists es r.2 u (l ++ r.3) r.1 r.4 r.9))
 
 -- ## A host that is not done where the terminal may act
 
@@ -145,28 +120,21 @@ pub record Walked (w : Listed) : Type 0 where
 
 -- where the terminal may act, it has the version behind all that was composed
 place : (w : Listed) → Walked w → w.term.0.command_lock ≡ false → w.term.0.has_exited ≡ false → version_after terminal 1 w.term.1 ≡ w.term.0.version
-place w j c e =
-    let d = running w.host.0 w.term.0 w.up w.down j.order.ordered c e in
-    ap (version_after terminal 1) j.whole
-    ∙ (version_after-append terminal 1 w.host.1 w.up
-    ∙ (ap (λ (v : ℕ). version_after terminal v w.up) (j.version d)
-    ∙ (same_behind w.up w.host.0.version ∙ sym (version_at_its_place (bare w) j.order c e))))
+place w j c e = grind (
+  arith,
+  (running w.host.0 w.term.0 w.up w.down j.order.ordered c e),
+  (version_after-append terminal 1 w.host.1 w.up),
+  (same_behind w.up w.host.0.version),
+  (version_at_its_place (bare w) j.order c e),
+)
 
 -- the terminal composed something more
 more_composed : (w : Listed) (down : List HFrame) (t : PlainTerminal) (ms : List Tmesg) → Walked w → IsInOrder (record { host = w.host.0; term = t; up = w.up ++ ms; down = down })
     → InTurn terminal (version_after terminal 1 w.term.1) ms → Walked (world w.host (t, w.term.1 ++ ms) (w.up ++ ms) down)
-more_composed w down t ms j order turn = record {
-  order = order;
-  whole = ap (λ (x : List Tmesg). x ++ ms) j.whole ∙ append_assoc w.host.1 w.up ms;
-  turn = InTurn-append terminal 1 w.term.1 ms j.turn turn;
-  version = j.version;
-}
+more_composed w down t ms j order turn = grind (arith, append_assoc, InTurn-append)
 
 walked_step : (w next : Listed) (e : Event) → Walked w → step listing w e ≡ Some next → Walked next
-walked_step w next (User x) j s =
-    let t : TermSide = (record w.term.0 { held = w.term.0.held ++ x ∷ [] }, w.term.1) in
-    let after : Listed = world w.host t w.up w.down in
-    subst Walked (same_Some after next s) (record { order = steps_in_order (bare w) (bare after) (User x) j.order refl; whole = j.whole; turn = j.turn; version = j.version })
+walked_step w next (User x) j s = grind arith
 walked_step w next Act j s = go (act_of w.term.0) refl s
   where
     go : (r : Result (PlainTerminal × Acted) TermFault) → act_of w.term.0 ≡ r → composed w (added w.term.1 (acted r)) ≡ Some next → Walked next

@@ -194,14 +194,10 @@ module _ (keys clicks : List UserEvent) (lines : LinesView) (e : Ends) (told : T
   -- ## The line of events
 
   keys_taken : (os : List UserEvent) × (items_of 0 e.term.take.taken ≡ map User os)
-  keys_taken =
-      let s = split_map User (items_of 0 e.term.take.taken) key_parts.left (take told.keyboard.many keys) (key_parts.items ∙ told.keyboard.put) in
-      (s.0, s.2)
+  keys_taken = grind (arith, (split_map User (items_of 0 e.term.take.taken) key_parts.left (take told.keyboard.many keys) (key_parts.items ∙ told.keyboard.put)))
 
   clicks_taken : (os : List UserEvent) × (items_of 1 e.term.take.taken ≡ map User os)
-  clicks_taken =
-      let s = split_map User (items_of 1 e.term.take.taken) mouse_parts.left (take told.mouse.many clicks) (mouse_parts.items ∙ told.mouse.put) in
-      (s.0, s.2)
+  clicks_taken = grind (arith, (split_map User (items_of 1 e.term.take.taken) mouse_parts.left (take told.mouse.many clicks) (mouse_parts.items ∙ told.mouse.put)))
 
   within : Each (λ (x : Entry Input). x.sender < 3) e.term.take.taken
   within =
@@ -216,16 +212,17 @@ module _ (keys clicks : List UserEvent) (lines : LinesView) (e : Ends) (told : T
 
   -- what was handled of a sender, and then what was dropped and left of it, is what it put
   first_put : (k : ℕ) (left put : List Input) → items_of k e.term.take.taken ++ left ≡ put → put ≡ items_of k told.term.handled ++ (items_of k told.term.dropped ++ left)
-  first_put k left put is =
-      sym is
-      ∙ (ap (λ l. l ++ left) (ap (items_of k) told.term.took ∙ items_of-append k told.term.handled told.term.dropped)
-      ∙ append_assoc (items_of k told.term.handled) (items_of k told.term.dropped) left)
+  first_put k left put is = grind (arith, items_of-append, append_assoc)
 
   -- what was handled and dropped of frames, and then more, is what was passed
   passing : (more : List HFrame) × (passed ≡ frames ++ (frames_in told.term.dropped ++ more))
-  passing =
-      let s = split_map Host (items_of 2 e.term.take.taken) frame_parts.left passed (frame_parts.items ∙ told.reader.put) in
-      (s.1, s.4 ∙ (ap (λ l. l ++ s.1) (sym (frames_there s.0 s.2) ∙ frames_split) ∙ append_assoc frames (frames_in told.term.dropped) s.1))
+  passing = grind (
+    arith,
+    (split_map Host (items_of 2 e.term.take.taken) frame_parts.left passed (frame_parts.items ∙ told.reader.put)),
+    frames_there,
+    frames_split,
+    (append_assoc frames (frames_in told.term.dropped)),
+  )
 
   pub apart : Apart e.host.files.items e.term.log.items e.host.host e.term.term composed handled answered passed frames
   apart = record {

@@ -5,7 +5,6 @@ use Rattle.std.specs.List.{sum_by}
 use Rattle.std.proofs.lemmas.Bool.Decides.{eqb_tells}
 use Rattle.std.proofs.lemmas.List.{nil_from_length}
 use Rattle.std.proofs.lemmas.List.Sums.{sum_by-cons}
-use Rattle.std.proofs.lemmas.List.Concat.{flat_map-cons}
 use Rattle.sam_mesg.specs.declared.hmesg.HFrame.{HFrame}
 use Rattle.sam_term.specs.declared.event.UserEvent.{UserEvent}
 use Rattle.sam_queue.specs.declared.rule.Entry.{Entry}
@@ -37,9 +36,7 @@ pushed_one {A} none one a start first = first ∙ ap (λ (l : List A). l ++ a �
 
 pub pushed_three : {A : Type 0} (none one two three : List A) (a b c : A)
     → none ≡ [] → one ≡ none ++ a ∷ [] → two ≡ one ++ b ∷ [] → three ≡ two ++ c ∷ [] → three ≡ a ∷ b ∷ c ∷ []
-pushed_three {A} none one two three a b c start first second third =
-    third
-    ∙ ap (λ (l : List A). l ++ c ∷ []) (second ∙ ap (λ (l : List A). l ++ b ∷ []) (pushed_one none one a start first))
+pushed_three {A} none one two three a b c start first second third = grind arith
 
 -- the parts of what was mapped were mapped
 pub split_map : {A B : Type 0} (f : A → B) (xs ys : List B) (zs : List A) → xs ++ ys ≡ map f zs
@@ -246,33 +243,15 @@ pub frames_taken : (entries : List (Entry Input)) (keys clicks : List UserEvent)
     → items_of 0 entries ≡ map User keys → items_of 1 entries ≡ map User clicks → items_of 2 entries ≡ map Host frames → frames_in entries ≡ frames
 frames_taken [] keys clicks [] within k c f = refl
 frames_taken [] keys clicks (x ∷ frames) within k c f = absurd (cc)
-frames_taken (e ∷ entries) keys clicks frames within k c f =
-    flat_map-cons (λ (x : Entry Input). frame_of_load x.load) e entries
-    ∙ ⊎_elim
-    (λ (t : (eqb e.sender 0 ≡ true) × (e.sender ≡ 0)).
-    let is = t.1 in
-    let s = split_map User (loaded e.load) (items_of 0 entries) keys (sym (items_mine 0 e entries is) ∙ k) in
-    let one = sym (items_other 1 e entries (λ h. omega arith)) ∙ c in
-    let two = sym (items_other 2 e entries (λ h. omega arith)) ∙ f in
-    ap (λ l. l ++ frames_in entries) (loaded_user e.load s.0 s.2) ∙ frames_taken entries s.1 clicks frames within.1 s.3 one two)
-    (λ (t : (eqb e.sender 0 ≡ false) × (e.sender ≢ 0)).
-    let none = sym (items_other 0 e entries t.1) ∙ k in
-    ⊎_elim
-    (λ (u : (eqb e.sender 1 ≡ true) × (e.sender ≡ 1)).
-    let is = u.1 in
-    let s = split_map User (loaded e.load) (items_of 1 entries) clicks (sym (items_mine 1 e entries is) ∙ c) in
-    let two = sym (items_other 2 e entries (λ h. omega arith)) ∙ f in
-    ap (λ l. l ++ frames_in entries) (loaded_user e.load s.0 s.2) ∙ frames_taken entries keys s.1 frames within.1 none s.3 two)
-    (λ (u : (eqb e.sender 1 ≡ false) × (e.sender ≢ 1)).
-    let less = within.0 in
-    let not_zero = t.1 in
-    let not_one = u.1 in
-    let is : e.sender ≡ 2 = omega arith in
-    let one = sym (items_other 1 e entries u.1) ∙ c in
-    let s = split_map Host (loaded e.load) (items_of 2 entries) frames (sym (items_mine 2 e entries is) ∙ f) in
-    ap (λ l. l ++ frames_in entries) (loaded_frame e.load s.0 s.2) ∙ ap (λ l. s.0 ++ l) (frames_taken entries keys clicks s.1 within.1 none one s.3) ∙ sym s.4)
-    (eqb_tells e.sender 1))
-    (eqb_tells e.sender 0)
+frames_taken (e ∷ entries) keys clicks frames within k c f = grind (
+  arith,
+  (split_map User (loaded e.load) (items_of 0 entries) keys),
+  (loaded_user e.load),
+  (split_map User (loaded e.load) (items_of 1 entries) clicks),
+  (split_map Host (loaded e.load) (items_of 2 entries) frames),
+  (loaded_frame e.load),
+  (frames_taken entries),
+)
 
 module _ {T : Type 0} where
   -- ## What an audit of these posts says

@@ -1,7 +1,7 @@
 -- Runs of the plain world that stop.
-use Rattle.std.proofs.Common.{◌≡◌, refl, sym, ap, ◌∙◌, ℕ, zero, suc, true, List, [], ◌∷◌, take, slice_get, Option, Some, None, ⊎_elim, arith}
-use Rattle.std.specs.Prelude.{option_and_then, IfSome}
-use Rattle.std.proofs.lemmas.Option.{same_Some, slice_get_cases}
+use Rattle.std.proofs.Common.{◌≡◌, refl, sym, ap, ◌∙◌, ℕ, zero, suc, true, List, [], ◌∷◌, take, slice_get, Option, Some, None, arith}
+use Rattle.std.specs.Prelude.{option_and_then}
+use Rattle.std.proofs.lemmas.Option.{slice_get_cases}
 use Rattle.sam_runes.specs.Texts.{is_empty}
 use Rattle.sam_mesg.specs.declared.tmesg.Tmesg.{Tmesg}
 use Rattle.sam_mesg.specs.declared.hmesg.HFrame.{HFrame}
@@ -34,10 +34,7 @@ no_step w e CountFull f ne = passing_stops w e f
 
 no_run : (w v : PlainWorld) (es : List Event) (at : ℕ) (e : Event) → slice_get es at ≡ Some e → run_of w (take at es) ≡ Some v → step_of v e ≡ None → run_of w es ≡ None
 no_run w v [] at e is r s = absurd (cc)
-no_run w v (d ∷ es) zero e is r s =
-    let same : w ≡ v = same_Some w v r in
-    let event : d ≡ e = same_Some d e is in
-    ap (λ o. option_and_then (λ (next : PlainWorld). run_of next es) o) (ap (λ x. step_of w x) event ∙ ap (λ (x : PlainWorld). step_of x e) same ∙ s)
+no_run w v (d ∷ es) zero e is r s = grind arith
 no_run w v (d ∷ es) (suc at) e is r s = go (step_of w d) (λ n q. no_run n v es at e is q s) r
   where
     go : (o : Option PlainWorld) → ((n : PlainWorld) → run_of n (take at es) ≡ Some v → run_of n es ≡ None) → option_and_then (λ next. run_of next (take at es)) o ≡ Some v
@@ -46,14 +43,7 @@ no_run w v (d ∷ es) (suc at) e is r s = go (step_of w d) (λ n q. no_run n v e
     go (Some n) more q = more n q
 
 stopped_run : (w v : PlainWorld) (es : List Event) (stop : RunStop) → IsStoppedAt w es stop v → (stop.fault ≡ OutOfMemory → ⊥) → run_of w es ≡ None
-stopped_run w v es stop s ne = go (slice_get es stop.at) refl s.fault
-  where
-    go : (o : Option Event) → slice_get es stop.at ≡ o → IfSome o (λ e. IsFaultOf v e stop.fault) → run_of w es ≡ None
-    go None is f = absurd (none_within is)
-      where
-        none_within : slice_get es stop.at ≡ None → ⊥
-        none_within n = ⊎_elim (λ t. let e = t.2 in cc) (λ t. let a = t.0 in let b = s.within in omega arith) (slice_get_cases es stop.at).1
-    go (Some e) is f = no_run w v es stop.at e is s.before (no_step v e stop.fault f ne)
+stopped_run w v es stop s ne = grind (arith, slice_get_cases, no_run, no_step)
 
 -- a run from the first world of these files that stopped for another reason than want of memory
 pub stopped_first : (files : List (List ℕ × List ℕ)) (w v : PlainWorld) (es : List Event) (stop : RunStop) → w ≡ new_world files → IsStoppedAt w es stop v

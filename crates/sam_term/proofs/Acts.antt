@@ -1,18 +1,17 @@
 -- The oldest event that is held, and what nothing stands against.
-use Rattle.std.proofs.Common.{◌≡◌, refl, sym, ap, ◌∙◌, subst, ℕ, zero, suc, Bool, true, false, List, [], ◌∷◌, drop, Option, Some, None, Ok}
-use Rattle.std.specs.Prelude.{slice_get, not, ◌&&◌}
+use Rattle.std.proofs.Common.{◌≡◌, refl, sym, ap, ◌∙◌, ℕ, zero, suc, Bool, true, false, List, [], ◌∷◌, drop, Option, Some, None, Ok, arith}
+use Rattle.std.specs.Prelude.{slice_get, not}
 use Rattle.sam_runes.specs.Checks.{Checks, first_of_checks}
-use Rattle.sam_term.specs.Term.{PlainTerminal, Made, act_of, act_on, decided, event_checks, event_outcome, outcome_by, is_closed, is_open, sends, unchanged}
+use Rattle.sam_term.specs.Term.{PlainTerminal, act_of, act_on, decided, event_checks, event_outcome, is_open, sends, unchanged}
 use Rattle.sam_term.specs.Events.{message_of, needs_open, file_of, lock_of}
 use Rattle.sam_term.specs.Taking.{done, not_done}
-use Rattle.sam_term.specs.Acting.{deed_by, deed_of, first_event, free_first, made_first, is_typing, is_snarfing}
+use Rattle.sam_term.specs.Acting.{deed_of, first_event, free_first, made_first, is_typing, is_snarfing}
 use Rattle.sam_term.specs.declared.event.Deed.TheVariants.{Sends, Types, Selects, Cuts, Pastes, Snarfs, Views, SetsSnarf, Flushes}
 use Rattle.sam_term.specs.Locking.{is_lockable}
 use Rattle.sam_term.specs.declared.event.Acted.TheVariants.{Idle}
 use Rattle.sam_term.specs.declared.event.Verdict.{Verdict}
-use Rattle.sam_term.specs.declared.event.Verdict.TheVariants.{Waits, Refuses}
 use Rattle.sam_term.specs.declared.event.UserEvent.{UserEvent}
-use Rattle.sam_term.specs.declared.event.UserEvent.TheVariants.{Typed, Select, Cut, Paste, Snarf, Look, Search, Dclick, Scroll, View, Write, SetSnarf, Flush}
+use Rattle.sam_term.specs.declared.event.UserEvent.TheVariants.{Typed, Select, Cut, Paste, Snarf, View, SetSnarf, Flush}
 use Rattle.sam_mesg.specs.declared.tmesg.Tmesg.{Tmesg}
 
 first-read : (es : List UserEvent) (e : UserEvent) → slice_get es 0 ≡ Some e → es ≡ e ∷ drop 1 es
@@ -32,11 +31,7 @@ act_first t e s = ap (λ es. act_on t es) (first-read t.held e s)
 
 pub act_none : (t : PlainTerminal) → slice_get t.held 0 ≡ None → act_of t ≡ Ok (t, Idle)
 unfolding act_of
-act_none t s = ap (λ es. act_on t es) (none t.held s)
-  where
-    none : (es : List UserEvent) → slice_get es 0 ≡ None → es ≡ []
-    none [] e = refl
-    none (x ∷ es) e = absurd (cc)
+act_none t s = grind arith
 
 rest : {E : Type 0} (b : Bool) (x : E) (cs : Checks E) → first_of_checks ((b, x) ∷ cs) ≡ None → (b ≡ false) × (first_of_checks cs ≡ None)
 rest true x cs e = absurd (cc)
@@ -54,15 +49,8 @@ none_holds [] k e = refl
 none_holds (c ∷ cs) zero e = (rest c.0 c.1 cs e).0
 none_holds (c ∷ cs) (suc k) e = none_holds cs k (rest c.0 c.1 cs e).1
 
-decided_not : (v : Verdict) (t : PlainTerminal) (made : Made) → decided (Some v) t (drop 1 t.held) made ≡ Ok (not_done v t)
-decided_not Waits t made = refl
-decided_not (Refuses r) t made = refl
-
 pub act_refused : (t : PlainTerminal) (e : UserEvent) (v : Verdict) → slice_get t.held 0 ≡ Some e → first_of_checks (event_checks t e) ≡ Some v → act_of t ≡ Ok (not_done v t)
-act_refused t e v s n =
-    act_first t e s
-    ∙ (ap (λ o. decided o t (drop 1 t.held) (event_outcome (record t { held = drop 1 t.held }) e)) n
-    ∙ decided_not v t (event_outcome (record t { held = drop 1 t.held }) e))
+act_refused t e v s n = grind (arith, (act_first t e s))
 
 -- nothing stands against the oldest event
 pub free : (t : PlainTerminal) (e : UserEvent) → slice_get t.held 0 ≡ Some e → first_of_checks (event_checks t e) ≡ None → free_first t ≡ None
@@ -72,11 +60,7 @@ free t e s n = ap (λ x. first_of_checks (event_checks t x)) (first_is t.held e 
 -- and it is done
 pub act_done : (t : PlainTerminal) (e : UserEvent) → slice_get t.held 0 ≡ Some e → first_of_checks (event_checks t e) ≡ None → done (made_first t) ≡ act_of t
 unfolding done made_first
-act_done t e s n =
-    sym
-    (act_first t e s
-    ∙ (ap (λ v. decided v t (drop 1 t.held) (event_outcome (record t { held = drop 1 t.held }) e)) n
-    ∙ ap (λ x. decided None t (drop 1 t.held) (event_outcome (record t { held = drop 1 t.held }) x)) (sym (first_is t.held e s))))
+act_done t e s n = grind (arith, (act_first t e s))
 
 -- what the oldest event does, where it is known
 pub made_of : (t : PlainTerminal) (e : UserEvent) → first_event t.held ≡ e → made_first t ≡ event_outcome (record t { held = drop 1 t.held }) e
@@ -95,9 +79,7 @@ opened false e = absurd (cc)
 -- an event that needs its file open has it open
 pub opened_by : (t : PlainTerminal) (e : UserEvent) (f : ℕ) → free_first t ≡ None → first_event t.held ≡ e → needs_open e ≡ true → file_of e ≡ Some f → is_open t f ≡ true
 unfolding test_at
-opened_by t e f n s needs names =
-    opened (is_open t f)
-    (subst (λ o. is_closed t o ≡ false) names (subst (λ b. (b && is_closed t (file_of e)) ≡ false) needs (passes t e 5 n s)))
+opened_by t e f n s needs names = grind (arith, (passes t e 5 n s))
 
 -- the lock of a message, where there is one, is there to be taken
 abbrev can_lock : PlainTerminal → Option Tmesg → Bool
@@ -105,31 +87,17 @@ can_lock t None = true
 can_lock t (Some m) = is_lockable t (lock_of m)
 
 lockable : (t : PlainTerminal) (e : UserEvent) → free_first t ≡ None → first_event t.held ≡ e → can_lock t (message_of t.files e) ≡ true
-lockable t (Look f) n h = opened_by t (Look f) f n h refl refl
-lockable t (Search f) n h = opened_by t (Search f) f n h refl refl
-lockable t (Dclick f p) n h = opened_by t (Dclick f p) f n h refl refl
-lockable t (Scroll f k) n h = opened_by t (Scroll f k) f n h refl refl
-lockable t (Write f) n h = opened_by t (Write f) f n h refl refl
-lockable t _ n h = refl
-
--- what only sends a message has that message
-sent_by : (o : Option Tmesg) (e : UserEvent) (m : Tmesg) → Sends m ≡ deed_by o e → o ≡ Some m
-sent_by (Some n) e m s = (cc)
-sent_by None (Typed f s) m h = absurd (cc)
-sent_by None _ m h = absurd (cc)
+lockable t (Typed f s) n h = refl
+lockable t _ n h = search opened_by
 
 -- the message of the oldest event may take its lock
 pub lockable_first : (t : PlainTerminal) (m : Tmesg) → free_first t ≡ None → Sends m ≡ deed_of t (first_event t.held) → is_lockable t (lock_of m) ≡ true
-lockable_first t m n s =
-    let e = first_event t.held in
-    subst (λ o. can_lock t o ≡ true) (sent_by (message_of t.files e) e m s) (lockable t e n refl)
+lockable_first t m n s = grind (arith, (lockable t))
 
 -- an event that only sends a message
 pub made_sends : (t : PlainTerminal) (m : Tmesg) → Sends m ≡ deed_of t (first_event t.held) → made_first t ≡ sends (record t { held = drop 1 t.held }) unchanged (m ∷ [])
 unfolding made_first
-made_sends t m s =
-    let e = first_event t.held in
-    ap (λ o. outcome_by o (record t { held = drop 1 t.held }) e) (sent_by (message_of t.files e) e m s)
+made_sends t m s = grind arith
 
 -- ## The event by what it does
 

@@ -1,11 +1,9 @@
 -- What the events do that change a rasp, a dot or a view, or send runes.
-use Rattle.std.proofs.Common.{◌≡◌, refl, sym, ap, ◌∙◌, subst, ℕ, zero, suc, ◌≤◌, ◌<◌, ◌+◌, Bool, true, false, List, [], ◌∷◌, ◌++◌, length, drop, Option, Some, None, Ok, Err, if◌then◌else◌, ◌==◌, ◌≢◌, nat_eq, arith, inl, inr}
+use Rattle.std.proofs.Common.{◌≡◌, refl, sym, ap, ◌∙◌, subst, ℕ, zero, suc, ◌≤◌, ◌<◌, ◌+◌, Bool, true, false, List, [], ◌∷◌, ◌++◌, length, drop, Some, None, Ok, Err, if◌then◌else◌, ◌==◌, ◌≢◌, nat_eq, arith}
 use Rattle.std.specs.Prelude.{◌||◌, nat_lt, Result, IsOk}
 use Rattle.sam_runes.specs.Checks.{Checks, first_of_checks}
 use Rattle.sam_runes.specs.Texts.{most_count}
-use Rattle.sam_term.specs.Term.{PlainTerminal, Made, event_checks, event_outcome, window_at, is_open, composed, all_composed, lock_taken, asked, flushed, unsent_message, sends, unchanged, has_bad_place, made_by_snarf, made_by_cut, made_by_paste, made_by_view, wanted, request_for, cuts_dot, and_then, cut_rasp, put_window, known_at, moved_unsent}
-use Rattle.sam_term.specs.Windows.{blank_known}
-use Rattle.sam_term.specs.Events.{lock_of}
+use Rattle.sam_term.specs.Term.{PlainTerminal, Made, event_checks, event_outcome, window_at, is_open, composed, all_composed, lock_taken, asked, flushed, unsent_message, sends, unchanged, has_bad_place, made_by_snarf, made_by_cut, made_by_paste, made_by_view, wanted, request_for, cuts_dot, cut_rasp, put_window, moved_unsent}
 use Rattle.sam_term.specs.Taking.{done, countable, IsFailure}
 use Rattle.sam_term.specs.Acting.{first_event, free_first, made_first, is_snarfing}
 use Rattle.sam_term.specs.declared.lock.Lock.{Lock}
@@ -24,8 +22,8 @@ use Rattle.sam_term.proofs.Composes.{flushed-none}
 use Rattle.sam_term.proofs.CountLaws.{counts-event}
 use Rattle.sam_rasp.specs.Rasp.{place_after_del, hole_within}
 use Rattle.sam_term.specs.declared.records.Window.{Window}
-use Rattle.std.proofs.Common.{length-append, append_assoc, is_some, ◌⊎◌}
-use Rattle.std.specs.Prelude.{unwrap_or, not, ◌&&◌, min}
+use Rattle.std.proofs.Common.{append_assoc, ◌⊎◌}
+use Rattle.std.specs.Prelude.{min}
 use Rattle.sam_term.specs.Editing.{shown_from}
 use Rattle.sam_term.proofs.Requests.{wanted-put, requested_some, requested_none}
 use Rattle.sam_runes.proofs.SlotLaws.{slot-put_same}
@@ -39,8 +37,7 @@ later t = record t { held = drop 1 t.held }
 
 pub answers : (t u : PlainTerminal) (e : UserEvent) (made : Made) (ms : List Tmesg) → first_event t.held ≡ e → event_outcome (later t) e ≡ made → u ≡ made.0
     → ms ≡ made.1 → u.sent ≤ most_count → done (made_first t) ≡ Ok (u, Done ms)
-answers t u e made ms first by a b l =
-    ap done (made_of t e first ∙ by) ∙ loud_done made u ms a b (subst (λ x. x.sent ≤ most_count) a l)
+answers t u e made ms first by a b l = grind (arith, made_of, loud_done)
 
 pub overflows : (t : PlainTerminal) (e : UserEvent) (made : Made) → first_event t.held ≡ e → event_outcome (later t) e ≡ made → most_count < made.0.sent → done (made_first t) ≡ Err fault.CountFull
 overflows t e made first by l = ap done (made_of t e first ∙ by) ∙ full_done made l
@@ -80,9 +77,7 @@ neither true b e = absurd (cc)
 neither false b e = (refl, e)
 
 pub selects_within : (t : PlainTerminal) (f p q : ℕ) → free_first t ≡ None → first_event t.held ≡ Select f p q → (p ≤ q) × (q ≤ length (window_at t f).rasp)
-selects_within t f p q n s =
-    let h = neither (nat_lt q p) (nat_lt (length (window_at t f).rasp) q) (good_place t (Select f p q) n s) in
-    (ltb-false q p h.0, ltb-false (length (window_at t f).rasp) q h.1)
+selects_within t f p q n s = grind (arith, (neither (nat_lt q p) (nat_lt (length (window_at t f).rasp) q) (good_place t (Select f p q) n s)))
 
 -- ## What is composed takes no note of the held events
 
@@ -96,9 +91,7 @@ held-asked (Trequest f p n) t es = refl
 held-asked _ t es = refl
 
 pub held-composed : (t : PlainTerminal) (m : Tmesg) (es : List UserEvent) → composed (record t { held = es }) m ≡ record (composed t m) { held = es }
-held-composed t m es =
-    ap (λ u. asked m u) (held-lock (lock_of m) (record t { sent = t.sent + 1 }) es)
-    ∙ held-asked m (lock_taken (lock_of m) (record t { sent = t.sent + 1 })) es
+held-composed t m es = grind arith
 
 held-all : (t : PlainTerminal) (ms : List Tmesg) (es : List UserEvent) → all_composed (record t { held = es }) ms ≡ record (all_composed t ms) { held = es }
 held-all t [] es = refl
@@ -110,9 +103,7 @@ held-flushed t es = ap (λ u. (u, unsent_message t.unsent)) (held-all (record t 
 
 pub held-sends : (t : PlainTerminal) (m : Tmesg) (es : List UserEvent) → sends (record t { held = es }) unchanged (m ∷ []) ≡
     (record (sends t unchanged (m ∷ [])).0 { held = es }, (sends t unchanged (m ∷ [])).1)
-held-sends t m es =
-    ap (λ (made : Made). (composed made.0 m, made.1 ++ m ∷ [])) (held-flushed t es)
-    ∙ ap (λ u. (u, (flushed t).1 ++ m ∷ [])) (held-composed (flushed t).0 m es)
+held-sends t m es = grind (arith, held-flushed)
 
 abbrev the_countable : Bool → Made → Result Made TermFault
 the_countable b made = if b then Err fault.CountFull else Ok made
@@ -130,43 +121,22 @@ sends-held t m = ap (λ (made : Made). made.0.held) (held-sends t m t.held)
 counted : (b : Bool) (t : PlainTerminal) (made : Made) (u v : PlainTerminal) (ms : List Tmesg) → made.0.held ≡ t.held → the_countable b made ≡ Ok (u, ms)
     → v ≡ record u { held = drop 1 u.held } → the_done b (record made.0 { held = drop 1 t.held }, made.1) ≡ Ok (v, Done ms)
 counted true t made u v ms h e d = absurd (cc)
-counted false t made u v ms h e d =
-    let same : made ≡ (u, ms) = (cc) in
-    ap (λ hs. answer (record made.0 { held = drop 1 hs }) made.1) (sym h)
-    ∙ (ap (λ (x : Made). answer (record x.0 { held = drop 1 x.0.held }) x.1) same ∙ ap (λ w. answer w ms) (sym d))
-  where
-    answer : PlainTerminal → List Tmesg → Result (PlainTerminal × Acted) TermFault
-    answer w ns = Ok (w, Done ns)
-
-uncounted : (b : Bool) (made : Made) (why : TermFault) (es : List UserEvent) → the_countable b made ≡ Err why → the_done b (record made.0 { held = es }, made.1) ≡ Err why
-uncounted true made why es e = (cc)
-uncounted false made why es e = absurd (cc)
+counted false t made u v ms h e d = grind arith
 
 pub done_later : (t : PlainTerminal) (made : Made) (u v : PlainTerminal) (ms : List Tmesg) → made.0.held ≡ t.held → countable made ≡ Ok (u, ms)
     → v ≡ record u { held = drop 1 u.held } → done (record made.0 { held = drop 1 t.held }, made.1) ≡ Ok (v, Done ms)
 unfolding countable done
 done_later t made u v ms h e d = counted (nat_lt most_count made.0.sent) t made u v ms h e d
 
-pub refused_later : (made : Made) (why : TermFault) (es : List UserEvent) → countable made ≡ Err why → done (record made.0 { held = es }, made.1) ≡ Err why
-unfolding countable done
-refused_later made why es e = uncounted (nat_lt most_count made.0.sent) made why es e
-
 pub quiet_answer : (t x u : PlainTerminal) (e : UserEvent) (a : Acted) → first_event t.held ≡ e → event_outcome (later t) e ≡ (x, []) → u ≡ x → a ≡ Done []
     → u.sent ≤ most_count → done (made_first t) ≡ Ok (u, a)
 quiet_answer t x u e a first by b d l =
     answers t u e (x, []) [] first by b refl l ∙ ap {B = Result (PlainTerminal × Acted) TermFault} (λ y. Ok (u, y)) (sym d)
 
-uncounted_ok : (b : Bool) (made : Made) (es : List UserEvent) → IsOk (the_countable b made) → IsOk (the_done b (record made.0 { held = es }, made.1))
-uncounted_ok true made es h = absurd (cc)
-uncounted_ok false made es h = refl
-
 -- a fault of a call that composes is a fault of its event
 pub failed_later : (made : Made) (why : TermFault) (es : List UserEvent) → IsFailure (countable made) why → IsFailure (done (record made.0 { held = es }, made.1)) why
 unfolding countable done
-failed_later made why es h = elim h [
-  | inl e ↦ inl (e.0, uncounted_ok (nat_lt most_count made.0.sent) made es e.1)
-  | inr e ↦ inr (refused_later made why es e)
-]
+failed_later made why es h = grind arith
 
 -- ## What an event makes
 
@@ -178,47 +148,26 @@ filled-or a b x y e = let other : nat_eq a b ≡ false = ne_eqb a b e in rw othe
 
 pub made-snarf_none : (t : PlainTerminal) (f : ℕ) (d : ℕ × ℕ) → d ≡ (window_at t f).dot → d.0 ≡ d.1 → event_outcome t (Snarf f) ≡ (t, [])
 unfolding made_by_snarf
-made-snarf_none t f d e h =
-    sym
-    (sym (empty-or d.0 d.1 (t, []) (sends t unchanged (Tsnarf f d.0 d.1 ∷ [])) h)
-    ∙ ap (λ x. if x.0 == x.1 then (t, []) else sends t unchanged (Tsnarf f x.0 x.1 ∷ [])) e)
+made-snarf_none t f d e h = grind arith
 
 pub made-snarf : (t : PlainTerminal) (f : ℕ) (d : ℕ × ℕ) → d ≡ (window_at t f).dot → d.0 ≢ d.1 → event_outcome t (Snarf f) ≡ sends t unchanged (Tsnarf f d.0 d.1 ∷ [])
 unfolding made_by_snarf
-made-snarf t f d e h =
-    sym
-    (sym (filled-or d.0 d.1 (t, []) (sends t unchanged (Tsnarf f d.0 d.1 ∷ [])) h)
-    ∙ ap (λ x. if x.0 == x.1 then (t, []) else sends t unchanged (Tsnarf f x.0 x.1 ∷ [])) e)
+made-snarf t f d e h = grind arith
 
 pub made-cut_none : (t : PlainTerminal) (f : ℕ) (d : ℕ × ℕ) → d ≡ (window_at t f).dot → d.0 ≡ d.1 → event_outcome t (Cut f) ≡ (t, [])
 unfolding made_by_cut
-made-cut_none t f d e h =
-    sym
-    (sym (empty-or d.0 d.1 (t, []) (sends t (λ u. cut_rasp u f d.0 d.1) (Tsnarf f d.0 d.1 ∷ Tcut f d.0 d.1 ∷ [])) h)
-    ∙ ap (λ x. if x.0 == x.1 then (t, []) else sends t (λ u. cut_rasp u f x.0 x.1) (Tsnarf f x.0 x.1 ∷ Tcut f x.0 x.1 ∷ [])) e)
+made-cut_none t f d e h = grind arith
 
 pub made-cut : (t : PlainTerminal) (f : ℕ) (d : ℕ × ℕ) → d ≡ (window_at t f).dot → d.0 ≢ d.1 → event_outcome t (Cut f) ≡ sends t (λ u. cut_rasp u f d.0 d.1) (Tsnarf f d.0 d.1 ∷ Tcut f d.0 d.1 ∷ [])
 unfolding made_by_cut
-made-cut t f d e h =
-    sym
-    (sym (filled-or d.0 d.1 (t, []) (sends t (λ u. cut_rasp u f d.0 d.1) (Tsnarf f d.0 d.1 ∷ Tcut f d.0 d.1 ∷ [])) h)
-    ∙ ap (λ x. if x.0 == x.1 then (t, []) else sends t (λ u. cut_rasp u f x.0 x.1) (Tsnarf f x.0 x.1 ∷ Tcut f x.0 x.1 ∷ [])) e)
+made-cut t f d e h = grind arith
 
 pub cuts_none : (t : PlainTerminal) (f : ℕ) (d : ℕ × ℕ) → d ≡ (window_at t f).dot → d.0 ≡ d.1 → cuts_dot t f ≡ (t, [])
-cuts_none t f d e h =
-    sym
-    (sym (empty-or d.0 d.1 (t, []) (sends t (λ u. cut_rasp u f d.0 d.1) (Tcut f d.0 d.1 ∷ [])) h)
-    ∙ ap (λ x. if x.0 == x.1 then (t, []) else sends t (λ u. cut_rasp u f x.0 x.1) (Tcut f x.0 x.1 ∷ [])) e)
+cuts_none t f d e h = grind arith
 
 -- a dot that is cut
 abbrev pub cut_made : PlainTerminal → ℕ → ℕ × ℕ → Made
 cut_made t f d = (composed (cut_rasp (flushed t).0 f d.0 d.1) (Tcut f d.0 d.1), (flushed t).1 ++ Tcut f d.0 d.1 ∷ [])
-
-pub cuts_some : (t : PlainTerminal) (f : ℕ) (d : ℕ × ℕ) → d ≡ (window_at t f).dot → d.0 ≢ d.1 → cuts_dot t f ≡ cut_made t f d
-cuts_some t f d e h =
-    sym
-    (sym (filled-or d.0 d.1 (t, []) (cut_made t f d) h)
-    ∙ ap (λ x. if x.0 == x.1 then (t, []) else cut_made t f x) e)
 
 -- ## No runes are unsent behind a flush
 
@@ -232,9 +181,7 @@ unsent-asked (Trequest f p n) t = refl
 unsent-asked _ t = refl
 
 unsent-composed : (t : PlainTerminal) (m : Tmesg) → (composed t m).unsent ≡ t.unsent
-unsent-composed t m =
-    unsent-asked m (lock_taken (lock_of m) (record t { sent = t.sent + 1 }))
-    ∙ unsent-lock (lock_of m) (record t { sent = t.sent + 1 })
+unsent-composed t m = grind arith
 
 unsent-all : (t : PlainTerminal) (ms : List Tmesg) → (all_composed t ms).unsent ≡ t.unsent
 unsent-all t [] = refl
@@ -256,43 +203,26 @@ cut-unsent t f d = ap (λ o. moved_unsent f (place_after_del d.0 d.1) o) (unsent
 
 pub made-paste_none : (t : PlainTerminal) (f : ℕ) (d : ℕ × ℕ) → d ≡ (window_at t f).dot → d.0 ≡ d.1 → event_outcome t (Paste f) ≡ sends t unchanged (Tpaste f d.0 ∷ [])
 unfolding made_by_paste
-made-paste_none t f d e h =
-    ap (λ made. and_then made (λ u. sends u unchanged (Tpaste f (window_at t f).dot.0 ∷ []))) (cuts_none t f d e h)
-    ∙ ap (λ x. sends t unchanged (Tpaste f x.0 ∷ [])) (sym e)
+made-paste_none t f d e h = grind arith
 
 pub made-paste : (t : PlainTerminal) (f : ℕ) (d : ℕ × ℕ) → d ≡ (window_at t f).dot → d.0 ≢ d.1
     → event_outcome t (Paste f) ≡ (composed (cut_made t f d).0 (Tpaste f d.0), (flushed t).1 ++ Tcut f d.0 d.1 ∷ Tpaste f d.0 ∷ [])
 unfolding made_by_paste
-made-paste t f d e h =
-    let cut = cut_made t f d in
-    ap (λ made. and_then made (λ u. sends u unchanged (Tpaste f (window_at t f).dot.0 ∷ []))) (cuts_some t f d e h)
-    ∙ (ap (λ x. and_then cut (λ u. sends u unchanged (Tpaste f x.0 ∷ []))) (sym e)
-    ∙ (ap (λ (made : Made). pasted t f d made) (flushed-idle cut.0 (cut-unsent t f d))
-    ∙ ap (λ ms. (composed cut.0 (Tpaste f d.0), ms)) (append_assoc (flushed t).1 (Tcut f d.0 d.1 ∷ []) (Tpaste f d.0 ∷ []))))
-  where
-    pasted : PlainTerminal → ℕ → ℕ × ℕ → Made → Made
-    pasted t f d made = (composed made.0 (Tpaste f d.0), (cut_made t f d).1 ++ (made.1 ++ Tpaste f d.0 ∷ []))
+made-paste t f d e h = grind (arith, flushed-idle, cut-unsent, append_assoc)
 
 pub opened-put : (t : PlainTerminal) (f : ℕ) (w : Window) → is_open (put_window t f w) f ≡ true
-opened-put t f w =
-    ap (λ s. is_some (unwrap_or s blank_known).window) (slot-put_same t.files f (record (known_at t f) { window = Some w }))
+opened-put t f w = grind (arith, slot-put_same)
 
 -- ## Messages that can't be counted
 
 made-sent : (t : PlainTerminal) (e : UserEvent) (made : Made) (ms : List Tmesg) → event_outcome t e ≡ made → made.1 ≡ (flushed t).1 ++ ms
     → made.0.sent ≡ t.sent + length (unsent_message t.unsent) + length ms
-made-sent t e made ms by m =
-    let count = subst (λ (x : Made). x.0.sent ≡ t.sent + length x.1) by (counts-event t e).sent in
-    let many = ap length m ∙ (length-append (flushed t).1 ms ∙ ap (λ ns. length ns + length ms) (flushed-messages t)) in
-    omega arith
+made-sent t e made ms by m = grind (arith, counts-event, flushed-messages)
 
 pub refused_by : (t : PlainTerminal) (e : UserEvent) (made : Made) (ms : List Tmesg) (why : TermFault) (count : ℕ) → first_event t.held ≡ e
     → event_outcome (later t) e ≡ made → made.1 ≡ (flushed (later t)).1 ++ ms → count ≡ length ms + length (unsent_message t.unsent)
     → ((why ≡ fault.OutOfMemory) × (t.sent + count ≤ most_count)) ⊎ ((why ≡ fault.CountFull) × (most_count < t.sent + count)) → IsFailure (done (made_first t)) why
-refused_by t e made ms why count first by m n h = elim h [
-  | inl o ↦ let s = made-sent (later t) e made ms by m in inl (o.0, fits_count t e made first by (omega (arith, o.1)))
-  | inr k ↦ let s = made-sent (later t) e made ms by m in inr (overflows t e made first by (omega (arith, k.1)) ∙ ap Err (sym k.0))
-]
+refused_by t e made ms why count first by m n h = grind (arith, (made-sent (later t) e made ms by m), (fits_count t e made first by), (overflows t e made first by))
 
 pub loud_answer : (t u : PlainTerminal) (e : UserEvent) (made : Made) (a : Acted) (ms : List Tmesg) → first_event t.held ≡ e → event_outcome (later t) e ≡ made
     → u ≡ made.0 → a ≡ Done ms → ms ≡ made.1 → u.sent ≤ most_count → done (made_first t) ≡ Ok (u, a)
@@ -304,8 +234,7 @@ pub one_more : (m0 m1 m2 fl : List Tmesg) (a : Tmesg) → m0 ≡ [] → m1 ≡ m
 one_more m0 m1 m2 fl a e0 e1 e2 = e2 ∙ ap (λ x. x ++ a ∷ []) (e1 ∙ ap (λ x. x ++ fl) e0)
 
 pub two_more : (m0 m1 m2 m3 fl : List Tmesg) (a b : Tmesg) → m0 ≡ [] → m1 ≡ m0 ++ fl → m2 ≡ m1 ++ a ∷ [] → m3 ≡ m2 ++ b ∷ [] → m3 ≡ fl ++ a ∷ b ∷ []
-two_more m0 m1 m2 m3 fl a b e0 e1 e2 e3 =
-    e3 ∙ (ap (λ x. x ++ b ∷ []) (one_more m0 m1 m2 fl a e0 e1 e2) ∙ append_assoc fl (a ∷ []) (b ∷ []))
+two_more m0 m1 m2 m3 fl a b e0 e1 e2 e3 = grind (arith, append_assoc)
 
 -- ## A view
 
@@ -315,28 +244,10 @@ views_within t f p n e s = ltb-false (length (window_at t f).rasp) p (good_place
 -- what a file wants that is shown from p on
 pub wanted-shown : (t : PlainTerminal) (f p n : ℕ) (w : Window) → window_at t f ≡ w → t.has_exited ≡ false → w.awaits ≡ false
     → wanted (shown_from t f p n) f ≡ request_for f (hole_within w.rasp p (min (p + n) (length w.rasp)))
-wanted-shown t f p n w e x a =
-    wanted-put t f (record (window_at t f) { view_start = p; view_length = n })
-    ∙ (ap (λ v. asking t.has_exited v.awaits (request_for f (hole_within v.rasp p (min (p + n) (length v.rasp))))) e
-    ∙ (ap (λ b. asking b w.awaits (request_for f (hole_within w.rasp p (min (p + n) (length w.rasp))))) x
-    ∙ ap (λ b. asking false b (request_for f (hole_within w.rasp p (min (p + n) (length w.rasp))))) a))
-  where
-    asking : Bool → Bool → Option Tmesg → Option Tmesg
-    asking x a o = if true && not x && not a then o else None
+wanted-shown t f p n w e x a = grind (arith, wanted-put)
 
 pub wanted-quiet : (t : PlainTerminal) (f p n : ℕ) (w : Window) → window_at t f ≡ w → (t.has_exited || w.awaits) ≡ true → wanted (shown_from t f p n) f ≡ None
-wanted-quiet t f p n w e h =
-    wanted-put t f (record (window_at t f) { view_start = p; view_length = n })
-    ∙ (ap (λ v. asking t.has_exited v.awaits (request_for f (hole_within v.rasp p (min (p + n) (length v.rasp))))) e
-    ∙ go t.has_exited w.awaits (request_for f (hole_within w.rasp p (min (p + n) (length w.rasp)))) h)
-  where
-    asking : Bool → Bool → Option Tmesg → Option Tmesg
-    asking x a o = if true && not x && not a then o else None
-
-    go : (x a : Bool) (o : Option Tmesg) → (x || a) ≡ true → asking x a o ≡ None
-    go true a o h = refl
-    go false true o h = refl
-    go false false o h = absurd (cc)
+wanted-quiet t f p n w e h = grind (arith, wanted-put)
 
 pub made-view : (t : PlainTerminal) (f p n : ℕ) (m : Tmesg) → wanted (shown_from t f p n) f ≡ Some m → event_outcome t (View f p n) ≡ sends (shown_from t f p n) unchanged (m ∷ [])
 unfolding made_by_view

@@ -1,21 +1,21 @@
 -- What is composed fits in the terminal's version.
-use Rattle.std.proofs.Common.{◌≡◌, ◌+◌, ◌≤◌, ◌++◌, refl, sym, ap, ◌∙◌, subst, ℕ, Bool, true, false, List, [], ◌∷◌, length, length-append, Option, Some, None, if◌then◌else◌, arith, ◌==◌}
-use Rattle.std.specs.Prelude.{nat_le, ◌&&◌, ◌||◌, map, not}
-use Rattle.std.proofs.lemmas.Bool.{ltb-false, leb-true, le-leb}
-use Rattle.sam_runes.specs.Texts.{is_empty, most_in_message, snarf_limit, utf8_length}
+use Rattle.std.proofs.Common.{◌≡◌, ◌≤◌, ◌++◌, refl, sym, ap, ◌∙◌, subst, ℕ, Bool, true, false, List, [], ◌∷◌, length, length-append, Option, Some, None, if◌then◌else◌, arith}
+use Rattle.std.specs.Prelude.{◌||◌, map}
+use Rattle.std.proofs.lemmas.Bool.{ltb-false, le-leb}
+use Rattle.sam_runes.specs.Texts.{is_empty, most_in_message}
 use Rattle.sam_runes.specs.Checks.{first_of_checks}
 use Rattle.sam_rasp.specs.Rasp.{place_after_ins, place_after_del, hole_within}
 use Rattle.sam_term.specs.declared.lock.Lock.{Lock}
 use Rattle.sam_term.specs.declared.lock.Lock.TheVariants.{NoLock, CommandLock, FileLock}
-use Rattle.sam_term.specs.Events.{lock_of, is_command_line, file_of}
+use Rattle.sam_term.specs.Events.{is_command_line, file_of}
 use Rattle.sam_term.specs.Fitting.{all_fit}
 use Rattle.sam_term.specs.Sound.{IsSound, IsShort}
-use Rattle.sam_term.specs.Term.{PlainTerminal, Made, window_at, put_window, cut_rasp, lock_taken, asked, composed, all_composed, flushed, unsent_message, and_then, sends, sends_if, unchanged, requested, request_for, view_end, is_open, joins, joined, kept_unsent, typed_rasp, types, cuts_dot, event_outcome, made_by_type, made_by_cut, made_by_paste, made_by_snarf, made_by_view, frame_outcome, moved_unsent, event_checks, has_long_text, is_file_locked, took_unlockfile}
+use Rattle.sam_term.specs.Term.{PlainTerminal, Made, window_at, cut_rasp, lock_taken, asked, composed, all_composed, flushed, unsent_message, and_then, sends, sends_if, unchanged, requested, request_for, view_end, joins, joined, kept_unsent, typed_rasp, types, cuts_dot, event_outcome, made_by_type, made_by_cut, made_by_paste, made_by_snarf, made_by_view, frame_outcome, moved_unsent, event_checks, has_long_text, took_unlockfile}
 use Rattle.sam_term.specs.declared.records.Unsent.{Unsent}
 use Rattle.sam_term.specs.declared.event.UserEvent.{UserEvent}
 use Rattle.sam_term.specs.declared.event.UserEvent.TheVariants.{Typed, Select, Cut, Paste, Snarf, View, SetSnarf, Flush}
 use Rattle.sam_mesg.specs.declared.tmesg.Tmesg.{Tmesg}
-use Rattle.sam_mesg.specs.declared.tmesg.Tmesg.TheVariants.{Trequest, Tcut, Tpaste, Tsnarf, Tack, Tsetsnarf}
+use Rattle.sam_mesg.specs.declared.tmesg.Tmesg.TheVariants.{Trequest, Tpaste, Tack}
 use Rattle.sam_mesg.specs.declared.hmesg.Hmesg.{Hmesg}
 use Rattle.sam_mesg.specs.declared.hmesg.Hmesg.TheVariants.{Hcheck, Hunlockfile, Hack}
 use Rattle.sam_term.proofs.Acts.{none_holds, test_at}
@@ -37,10 +37,7 @@ unsent-asked _ t = refl
 
 unsent-all : (t : PlainTerminal) (ms : List Tmesg) → (all_composed t ms).unsent ≡ t.unsent
 unsent-all t [] = refl
-unsent-all t (m ∷ ms) =
-    unsent-all (composed t m) ms
-    ∙ (unsent-asked m (lock_taken (lock_of m) (record t { sent = t.sent + 1 }))
-    ∙ unsent-lock (lock_of m) (record t { sent = t.sent + 1 }))
+unsent-all t (m ∷ ms) = grind (arith, (unsent-all (composed t m) ms))
 
 pub unsent-flushed : (t : PlainTerminal) → (flushed t).0.unsent ≡ None
 unfolding flushed
@@ -52,23 +49,16 @@ short-none o e = subst (λ x. IsShort x) (sym e) tt
 
 fit-append : (v : ℕ) (ms ns : List Tmesg) → all_fit v ms ≡ true → all_fit v ns ≡ true → all_fit v (ms ++ ns) ≡ true
 fit-append v [] ns a b = b
-fit-append v (m ∷ ms) ns a b = go _ _ _ a (λ (k : all_fit v ms ≡ true). fit-append v ms ns k b)
-  where
-    go : (x y z : Bool) → (x && y) ≡ true → (y ≡ true → z ≡ true) → (x && z) ≡ true
-    go true y z h k = k h
-    go false y z h k = absurd (cc)
+fit-append v (m ∷ ms) ns a b = grind (arith, (fit-append v ms ns))
 
 fit-unsent : (v : ℕ) (o : Option Unsent) → IsShort o → all_fit v (unsent_message o) ≡ true
 unfolding IsShort
 fit-unsent v None k = refl
-fit-unsent v (Some u) k =
-    let fits : nat_le (length u.runes) most_in_message ≡ true = le-leb (length u.runes) most_in_message k in
-    rw fits refl
+fit-unsent v (Some u) k = grind arith
 
 good-flushed : (v : ℕ) (t : PlainTerminal) → IsShort t.unsent → Good v (flushed t)
 unfolding flushed
-good-flushed v t k =
-    record { fits = fit-unsent v t.unsent k; short = short-none _ (unsent-flushed t) }
+good-flushed v t k = grind (arith, fit-unsent, short-none)
 
 good-then : (v : ℕ) (made : Made) (next : PlainTerminal → Made) → Good v made → Good v (next made.0) → Good v (and_then made next)
 good-then v made next a b = record { fits = fit-append v made.1 (next made.0).1 a.fits b.fits; short = b.short }
@@ -82,9 +72,7 @@ good-all v t ms e f = record { fits = f; short = short-none _ (unsent-all t ms �
 
 good-sends : (v : ℕ) (t : PlainTerminal) (change : PlainTerminal → PlainTerminal) (ms : List Tmesg) → IsShort t.unsent
     → ((u : PlainTerminal) → u.unsent ≡ None → (change u).unsent ≡ None) → all_fit v ms ≡ true → Good v (sends t change ms)
-good-sends v t change ms k same f =
-    good-then v (flushed t) (λ u. (all_composed (change u) ms, ms)) (good-flushed v t k)
-    (good-all v (change (flushed t).0) ms (same (flushed t).0 (unsent-flushed t)) f)
+good-sends v t change ms k same f = search (arith, good-then, good-flushed, good-all, unsent-flushed)
 
 good-plain : (v : ℕ) (t : PlainTerminal) (ms : List Tmesg) → IsShort t.unsent → all_fit v ms ≡ true → Good v (sends t unchanged ms)
 good-plain v t ms k f = good-sends v t unchanged ms k (λ u e. e) f
@@ -93,32 +81,16 @@ del-none : (f p q : ℕ) (u : PlainTerminal) → u.unsent ≡ None → (cut_rasp
 del-none f p q u e = ap (λ o. moved_unsent f (place_after_del p q) o) e
 
 good-cuts : (v : ℕ) (t : PlainTerminal) (f : ℕ) → IsShort t.unsent → Good v (cuts_dot t f)
-good-cuts v t f k =
-    let d = (window_at t f).dot in
-    good-if v (d.0 == d.1) (t, []) _ (λ e. record { fits = refl; short = k })
-    (λ e. good-sends v t (λ u. cut_rasp u f d.0 d.1) (Tcut f d.0 d.1 ∷ []) k (del-none f d.0 d.1) refl)
+good-cuts v t f k = search (arith, good-if, good-sends, del-none)
 
 short-joined : (o : Option Unsent) (f p : ℕ) (s : List ℕ) → joins o f p s ≡ true → IsShort (Some (joined o f p s))
 unfolding IsShort
 short-joined None f p s e = absurd (cc)
-short-joined (Some u) f p s e =
-    let fits = last (u.file == f) (u.place + length u.runes == p) (nat_le (length u.runes + length s) most_in_message) e in
-    let within = leb-true (length u.runes + length s) most_in_message fits in
-    let both = length-append u.runes s in
-    omega arith
-  where
-    last : (x y z : Bool) → (x && y && z) ≡ true → z ≡ true
-    last true true z h = h
-    last true false z h = absurd (cc)
-    last false y z h = absurd (cc)
+short-joined (Some u) f p s e = grind (arith, length-append)
 
 good-kept : (v : ℕ) (t : PlainTerminal) (f p : ℕ) (s : List ℕ) → IsShort t.unsent → length s ≤ most_in_message → Good v (kept_unsent t f p s)
 unfolding IsShort
-good-kept v t f p s k few =
-    good-if v (joins t.unsent f p s) (record t { unsent = Some (joined t.unsent f p s) }, []) _
-    (λ e. record { fits = refl; short = short-joined t.unsent f p s e })
-    (λ e. good-then v (flushed t) (λ u. (record u { unsent = Some (joined None f p s) }, [])) (good-flushed v t k)
-    (record { fits = refl; short = few }))
+good-kept v t f p s k few = search (arith, good-if, short-joined, good-then, good-flushed)
 
 good-types : (v : ℕ) (t : PlainTerminal) (f p : ℕ) (s : List ℕ) → IsShort t.unsent → length s ≤ most_in_message → Good v (types t f p s)
 good-types v t f p s k few =
@@ -135,17 +107,7 @@ good-sends_if v t (Some h) f k = good-sends v t (λ u. u) _ k (λ u e. e) refl
 
 good-requested : (v : ℕ) (t : PlainTerminal) (f : ℕ) → IsShort t.unsent → Good v (requested t f)
 unfolding requested
-good-requested v t f k = go (is_open t f && not_exited && not_awaits)
-  where
-    not_exited : Bool
-    not_exited = not t.has_exited
-
-    not_awaits : Bool
-    not_awaits = not (window_at t f).awaits
-
-    go : (b : Bool) → Good v (sends_if (if b then request_for f (hole_within (window_at t f).rasp (window_at t f).view_start (view_end (window_at t f))) else None) t)
-    go true = good-sends_if v t (hole_within (window_at t f).rasp (window_at t f).view_start (view_end (window_at t f))) f k
-    go false = record { fits = refl; short = k }
+good-requested v t f k = grind (arith, (good-sends_if v t (hole_within (window_at t f).rasp (window_at t f).view_start (view_end (window_at t f))) f k))
 
 few_typed : (t : PlainTerminal) (f : ℕ) (s : List ℕ) → has_long_text t (Typed f s) ≡ false → length s ≤ most_in_message
 few_typed t f s e = ltb-false most_in_message (length s) e
@@ -160,23 +122,14 @@ good-event t (Typed f s) k h =
     (good-if v (is_empty s) (u, []) (types u f (window_at t f).dot.0 s) (λ e. record { fits = refl; short = cuts.short })
     (λ e. good-types v u f (window_at t f).dot.0 s cuts.short (few_typed t f s h)))
 good-event t (Select f p q) k h = record { fits = refl; short = k }
-good-event t (Cut f) k h =
-    let d = (window_at t f).dot in
-    good-if t.version (d.0 == d.1) (t, []) _ (λ e. record { fits = refl; short = k })
-    (λ e. good-sends t.version t (λ u. cut_rasp u f d.0 d.1) (Tsnarf f d.0 d.1 ∷ Tcut f d.0 d.1 ∷ []) k (del-none f d.0 d.1) refl)
+good-event t (Cut f) k h = search (arith, good-if, good-sends, del-none)
 good-event t (Paste f) k h =
     let cuts = good-cuts t.version t f k in
     good-then t.version (cuts_dot t f) (λ u. sends u unchanged (Tpaste f (window_at t f).dot.0 ∷ [])) cuts
     (good-plain t.version (cuts_dot t f).0 (Tpaste f (window_at t f).dot.0 ∷ []) cuts.short refl)
-good-event t (Snarf f) k h =
-    let d = (window_at t f).dot in
-    good-if t.version (d.0 == d.1) (t, []) _ (λ e. record { fits = refl; short = k }) (λ e. good-plain t.version t (Tsnarf f d.0 d.1 ∷ []) k refl)
-good-event t (View f p n) k h =
-    good-requested t.version (put_window t f (record (window_at t f) { view_start = p; view_length = n })) f k
-good-event t (SetSnarf s) k h =
-    let within = ltb-false (snarf_limit t.version) (utf8_length s) h in
-    let fits : nat_le (utf8_length s) (snarf_limit t.version) ≡ true = le-leb (utf8_length s) (snarf_limit t.version) within in
-    good-plain t.version t (Tsetsnarf s ∷ []) k (rw fits refl)
+good-event t (Snarf f) k h = grind (arith, (good-plain t.version t))
+good-event t (View f p n) k h = grind (arith, (good-requested t.version))
+good-event t (SetSnarf s) k h = search (arith, ltb-false, le-leb, good-plain)
 good-event t Flush k h = good-flushed t.version t k
 good-event t _ k h = good-plain t.version t _ k refl
 
@@ -206,10 +159,4 @@ or_left false b e = refl
 -- an event on a file that is done found neither the command lock nor a lock of the file
 pub event_finds_no_lock : (t : PlainTerminal) (e : UserEvent) (f : ℕ) → file_of e ≡ Some f → first_of_checks (event_checks t e) ≡ None → (t.command_lock ≡ false) × ((window_at t f).locks ≡ 0)
 unfolding test_at
-event_finds_no_lock t e f names n = (
-  none_holds (event_checks t e) 1 n,
-  (
-      let free = or_left (is_file_locked t (file_of e)) _ (none_holds (event_checks t e) 6 n) in
-      let none = ltb-false 0 (window_at t f).locks (subst (λ o. is_file_locked t o ≡ false) names free) in
-      omega arith),
-)
+event_finds_no_lock t e f names n = grind arith

@@ -1,13 +1,12 @@
 -- What a terminal composes fits in its version, and so in version 2.
-use Rattle.std.proofs.Common.{◌≡◌, refl, sym, ap, subst, ℕ, Bool, true, false, ◌&&◌, List, [], ◌∷◌, Option, Some, None, Result, Ok, Err, if◌then◌else◌, nat_lt}
+use Rattle.std.proofs.Common.{◌≡◌, refl, sym, ap, subst, ℕ, Bool, true, false, ◌&&◌, List, [], ◌∷◌, Option, Some, None, Result, Ok, Err, arith}
 use Rattle.std.proofs.lemmas.List.Elements.{All-nil, All-cons}
 use Rattle.sam_runes.specs.Checks.{first_of_checks}
-use Rattle.sam_runes.specs.Texts.{most_count}
 use Rattle.sam_term.specs.Sound.{IsSound}
 use Rattle.sam_term.specs.Fitting.{all_fit, FitsLast, AllFit, composed_in}
 use Rattle.sam_term.proofs.ActLaws.{acted_in, not_done}
 use Rattle.sam_term.proofs.FitLaws.{event_fits, flush_fits, frame_fits}
-use Rattle.sam_term.specs.Term.{PlainTerminal, Made, act_of, act_on, decided, if_countable, event_checks, flush_of, flushed, take_of, event_outcome, frame_outcome, made_unless, frame_checks}
+use Rattle.sam_term.specs.Term.{PlainTerminal, Made, act_of, act_on, decided, if_countable, event_checks, flush_of, flushed, take_of, event_outcome, frame_outcome}
 use Rattle.sam_term.specs.declared.event.Verdict.{Verdict}
 use Rattle.sam_term.specs.declared.event.Verdict.TheVariants.{Waits, Refuses}
 use Rattle.sam_term.specs.declared.event.UserEvent.{UserEvent}
@@ -56,11 +55,7 @@ messages_in (Err why) = []
 
 counted_in : (n : ℕ) (made : Made) (u : PlainTerminal) (ms : List Tmesg) → if_countable n made ≡ Ok (u, ms) → ms ≡ made.1
 unfolding messages_in
-counted_in n made u ms e = go (nat_lt most_count n) e
-  where
-    go : (b : Bool) → (if b then (let x : Result Made TermFault = Err fault.CountFull in x) else Ok made) ≡ Ok (u, ms) → ms ≡ made.1
-    go true q = absurd (cc)
-    go false q = sym (ap messages_in q)
+counted_in n made u ms e = grind arith
 
 pub flushed_fits : (t u : PlainTerminal) (ms : List Tmesg) → IsSound t → flush_of t ≡ Ok (u, ms) → AllFit ms
 unfolding flush_of
@@ -68,11 +63,7 @@ flushed_fits t u ms s a = fitting t.version ms (flushed t).1 (counted_in (flushe
 
 pub taken_fits : (t u : PlainTerminal) (frame : HFrame) (ms : List Tmesg) → IsSound t → take_of t frame ≡ Ok (u, ms) → AllFit ms
 unfolding take_of
-taken_fits t u frame ms s a = go (first_of_checks ((nat_lt t.sent frame.seen, fault.FromTheFuture) ∷ frame_checks t frame.msg)) a
-  where
-    go : (o : Option TermFault) → made_unless o (frame_outcome t frame.msg) ≡ Ok (u, ms) → AllFit ms
-    go (Some why) q = absurd (cc)
-    go None q = fitting t.version ms (frame_outcome t frame.msg).1 (counted_in (frame_outcome t frame.msg).0.sent (frame_outcome t frame.msg) u ms q) (frame_fits t frame.msg s)
+taken_fits t u frame ms s a = grind (arith, (fitting t.version ms (frame_outcome t frame.msg).1), (frame_fits t frame.msg s))
 
 -- what an act answers fits, whatever became of the event
 pub acted_fit : (t u : PlainTerminal) (acted : Acted) → IsSound t → act_of t ≡ Ok (u, acted) → AllFit (composed_in acted)

@@ -1,7 +1,6 @@
 -- A file that the user changed here: its mark stands beside its window.
-use Rattle.std.proofs.Common.{◌≡◌, sym, ap, ◌∙◌, ℕ, true, Some, is_some}
+use Rattle.std.proofs.Common.{◌≡◌, sym, ap, ◌∙◌, ℕ, true, Some, is_some, arith}
 use Rattle.std.specs.Prelude.{unwrap_or}
-use Rattle.sam_runes.specs.Slots.{put_slot}
 use Rattle.sam_runes.proofs.SlotLaws.{slot-put_same, put_slot-put_slot}
 use Rattle.sam_term.specs.Term.{PlainTerminal, known_at, window_at, is_open, put_known, put_window, edited}
 use Rattle.sam_term.specs.Windows.{blank_known, blank_window}
@@ -22,25 +21,16 @@ abbrev put_both : PlainTerminal → ℕ → Window → PlainTerminal
 put_both t f w = put_known t f (record (known_at t f) { window = Some w; changed = true })
 
 window-behind : (t : PlainTerminal) (f : ℕ) (w : Window) → put_window (edited t f) f w ≡ put_both t f w
-window-behind t f w =
-    let k : KnownFile = record (known_at t f) { changed = true } in
-    ap (λ ss. record t { files = ss }) (put_slot-put_slot t.files f k (record (known_at (edited t f) f) { window = Some w }))
-    ∙ ap (λ (x : KnownFile). put_known t f (record x { window = Some w })) (edited-known t f)
+window-behind t f w = grind (arith, put_slot-put_slot, edited-known)
 
 mark-behind : (t : PlainTerminal) (f : ℕ) (w : Window) → edited (put_window t f w) f ≡ put_both t f w
-mark-behind t f w =
-    let k : KnownFile = record (known_at t f) { window = Some w } in
-    ap (λ ss. record t { files = ss }) (put_slot-put_slot t.files f k (record (known_at (put_window t f w) f) { changed = true }))
-    ∙ ap (λ s. record t { files = put_slot t.files f (record (unwrap_or s blank_known) { changed = true }) }) (slot-put_same t.files f k)
+mark-behind t f w = grind (arith, put_slot-put_slot, slot-put_same)
 
 pub edited-put : (t : PlainTerminal) (f : ℕ) (w : Window) → edited (put_window t f w) f ≡ put_window (edited t f) f w
 edited-put t f w = mark-behind t f w ∙ sym (window-behind t f w)
 
 edited-twice : (t : PlainTerminal) (f : ℕ) → edited (edited t f) f ≡ edited t f
-edited-twice t f =
-    let k : KnownFile = record (known_at t f) { changed = true } in
-    ap (λ ss. record t { files = ss }) (put_slot-put_slot t.files f k (record (known_at (edited t f) f) { changed = true }))
-    ∙ ap (λ (x : KnownFile). put_known t f (record x { changed = true })) (edited-known t f)
+edited-twice t f = grind (arith, put_slot-put_slot, edited-known)
 
 -- a file that is marked already, and its window put
 pub edited-again : (t : PlainTerminal) (f : ℕ) (w : Window) → edited (put_window (edited t f) f w) f ≡ put_window (edited t f) f w

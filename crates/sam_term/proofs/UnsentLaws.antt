@@ -1,20 +1,17 @@
 -- What is composed first is the unsent runes.
-use Rattle.std.proofs.Common.{◌≡◌, refl, sym, ap, ◌∙◌, subst, ℕ, ◌+◌, ◌≤◌, ◌<◌, Bool, true, false, ◌&&◌, ◌==◌, List, [], ◌∷◌, ◌++◌, length, map, Option, Some, None, if◌then◌else◌, inl, inr, ◌⊎◌, arith}
-use Rattle.std.specs.Prelude.{nat_le}
+use Rattle.std.proofs.lemmas.Grind.{common_steps}
+use Rattle.std.proofs.Common.{◌≡◌, refl, sym, ap, ◌∙◌, subst, ℕ, ◌≤◌, Bool, true, false, List, [], ◌∷◌, ◌++◌, length, map, Option, Some, None, if◌then◌else◌, arith, rules}
 use Rattle.std.proofs.lemmas.List.{append-nil, append_assoc}
-use Rattle.std.proofs.lemmas.Bool.{eqb-true}
-use Rattle.sam_runes.specs.Texts.{is_empty, most_in_message}
 use Rattle.sam_rasp.specs.Rasp.{place_after_ins}
 use Rattle.sam_mesg.specs.declared.tmesg.Tmesg.{Tmesg}
-use Rattle.sam_mesg.specs.declared.tmesg.Tmesg.TheVariants.{Ttype, Tsnarf, Tcut, Tpaste, Tack}
+use Rattle.sam_mesg.specs.declared.tmesg.Tmesg.TheVariants.{Ttype, Tsnarf, Tcut, Tack}
 use Rattle.sam_mesg.specs.declared.hmesg.Hmesg.TheVariants.{Hcheck, Hunlockfile, Hack}
 use Rattle.sam_term.specs.Events.{is_command_line}
 use Rattle.sam_term.specs.declared.event.UserEvent.{UserEvent}
 use Rattle.sam_term.specs.declared.event.UserEvent.TheVariants.{Typed, Select, Cut, Paste, Snarf, View, Flush}
 use Rattle.sam_term.specs.declared.records.Unsent.{Unsent}
-use Rattle.sam_term.specs.Term.{PlainTerminal, Made, and_then, unsent_message, flushed, sends, sends_if, unchanged, wanted, requested, joins, joined, moved_unsent, kept_unsent, typed_rasp, types, cuts_dot, has_empty_dot, window_at, put_window, cut_rasp, made_by_type, made_by_cut, made_by_paste, made_by_snarf, made_by_view, event_outcome, took_unlockfile}
+use Rattle.sam_term.specs.Term.{PlainTerminal, Made, and_then, unsent_message, flushed, sends, sends_if, unchanged, wanted, requested, joined, moved_unsent, kept_unsent, typed_rasp, types, cuts_dot, has_empty_dot, window_at, put_window, cut_rasp, made_by_type, made_by_cut, made_by_paste, made_by_snarf, made_by_view, event_outcome, took_unlockfile}
 use Rattle.sam_term.specs.Unsent.{SendsFirst, EventsSendFirst, FramesSendFirst}
-use Rattle.sam_term.proofs.Grows.{ins_cases}
 
 -- what is unsent goes on what was unsent before
 abbrev Longer : Option Unsent → Option Unsent → Type 0
@@ -39,12 +36,8 @@ first (Some u) after (m ∷ ms) g = g
 later : (before middle after : Option Unsent) (ms : List Tmesg) → Longer before middle → Goes middle after ms → Goes before after ms
 later None middle after [] l g = tt
 later None middle after (m ∷ ms) l g = tt
-later (Some u) middle after [] l g =
-    let more = subst (λ (o : Option Unsent). Longer o after) l.1 g in
-    (l.0 ++ more.0, more.1 ∙ ap (λ (s : List ℕ). Some (record u { runes = s })) (append_assoc u.runes l.0 more.0))
-later (Some u) middle after (m ∷ ms) l g =
-    let more = subst (λ (o : Option Unsent). SendsFirst o (m ∷ ms)) l.1 g in
-    (l.0 ++ more.0, more.1 ∙ ap (λ (s : List ℕ). Ttype u.file u.place s) (append_assoc u.runes l.0 more.0))
+later (Some u) middle after [] l g = grind (arith, append_assoc)
+later (Some u) middle after (m ∷ ms) l g = grind (arith, append_assoc)
 
 both : (before middle after : Option Unsent) (ms ns : List Tmesg) → Goes before middle ms → Goes middle after ns → Goes before after (ms ++ ns)
 both before middle after [] ns g h = later before middle after ns g h
@@ -82,31 +75,14 @@ sending t change ms = send t (sends t change ms).0.unsent ms
 
 -- runes typed behind the unsent ones leave their start where it is
 moved : (f p n : ℕ) (u : Unsent) → u.place ≤ p → moved_unsent f (place_after_ins p n) (Some u) ≡ Some u
-moved f p n u within = go (u.file == f) (ins_cases p n u.place)
-  where
-    go : (b : Bool) → (((p < u.place) × (place_after_ins p n u.place ≡ u.place + n)) ⊎ ((u.place ≤ p) × (place_after_ins p n u.place ≡ u.place)))
-        → (if b then Some (record u { place = place_after_ins p n u.place }) else Some u) ≡ Some u
-    go false c = refl
-    go true (inl c) = absurd (omega (arith, within, c.0))
-    go true (inr c) = ap (λ (x : ℕ). Some (record u { place = x })) c.1
-
-joins_at : (u : Unsent) (f p : ℕ) (s : List ℕ) → joins (Some u) f p s ≡ true → u.place ≤ p
-joins_at u f p s e = go (u.file == f) (u.place + length u.runes == p) (nat_le (length u.runes + length s) most_in_message) (eqb-true (u.place + length u.runes) p) e
-  where
-    go : (a b c : Bool) → (b ≡ true → u.place + length u.runes ≡ p) → (a && b && c) ≡ true → u.place ≤ p
-    go true true true is q = omega (arith, is refl)
-    go true true false is q = absurd (cc)
-    go true false c is q = absurd (cc)
-    go false b c is q = absurd (cc)
+moved f p n u within = grind arith
 
 grows : (o : Option Unsent) (f p : ℕ) (s : List ℕ) → Longer o (Some (joined o f p s))
 grows None f p s = tt
 grows (Some u) f p s = (s, refl)
 
 keeps : (t : PlainTerminal) (f p : ℕ) (s : List ℕ) → GoesMade t (kept_unsent t f p s)
-keeps t f p s =
-    chosen t (joins t.unsent f p s) (record t { unsent = Some (joined t.unsent f p s) }, []) (and_then (flushed t) (λ u. (record u { unsent = Some (joined None f p s) }, [])))
-    (grows t.unsent f p s) (send t (Some (joined None f p s)) [])
+keeps t f p s = grind (arith, (send t (Some (joined None f p s))))
 
 -- what is unsent then begins at or before the place
 record Begins (p : ℕ) (o : Option Unsent) : Type 0 where
@@ -115,16 +91,7 @@ record Begins (p : ℕ) (o : Option Unsent) : Type 0 where
   within : unsent.place ≤ p
 
 begins : (t : PlainTerminal) (f p : ℕ) (s : List ℕ) → Begins p (kept_unsent t f p s).0.unsent
-begins t f p s = go (joins t.unsent f p s) refl
-  where
-    joining : (o : Option Unsent) → joins o f p s ≡ true → Begins p (Some (joined o f p s))
-    joining None e = absurd (cc)
-    joining (Some u) e = record { unsent = record u { runes = u.runes ++ s }; is = refl; within = joins_at u f p s e }
-
-    go : (b : Bool) → joins t.unsent f p s ≡ b
-        → Begins p (if b then (record t { unsent = Some (joined t.unsent f p s) }, []) else and_then (flushed t) (λ u. (record u { unsent = Some (joined None f p s) }, []))).0.unsent
-    go true e = joining t.unsent e
-    go false e = record { unsent = joined None f p s; is = refl; within = omega arith }
+begins t f p s = grind arith
 
 typing : (u : PlainTerminal) (f p : ℕ) (s : List ℕ) → Begins p u.unsent → GoesMade u (if is_command_line f s then flushed (typed_rasp u f p s) else (typed_rasp u f p s, []))
 typing u f p s b =
@@ -150,11 +117,7 @@ cuts t f =
 
 typed : (t : PlainTerminal) (f : ℕ) (s : List ℕ) → GoesMade t (made_by_type t f s)
 unfolding made_by_type
-typed t f s =
-    let p = (window_at t f).dot.0 in
-    let u = (cuts_dot t f).0 in
-    followed t (cuts_dot t f) (λ u. if is_empty s then (u, []) else types u f p s) (cuts t f)
-    (chosen u (is_empty s) (u, []) (types u f p s) (same u.unsent) (type u f p s))
+typed t f s = search (rules, common_steps, cuts, type)
 
 cut : (t : PlainTerminal) (f : ℕ) → GoesMade t (made_by_cut t f)
 unfolding made_by_cut
@@ -166,9 +129,7 @@ cut t f =
 
 paste : (t : PlainTerminal) (f : ℕ) → GoesMade t (made_by_paste t f)
 unfolding made_by_paste
-paste t f =
-    followed t (cuts_dot t f) (λ u. sends u unchanged (Tpaste f (window_at t f).dot.0 ∷ [])) (cuts t f)
-    (sending (cuts_dot t f).0 unchanged (Tpaste f (window_at t f).dot.0 ∷ []))
+paste t f = search (arith, followed, cuts, sending)
 
 snarf : (t : PlainTerminal) (f : ℕ) → GoesMade t (made_by_snarf t f)
 unfolding made_by_snarf

@@ -9,8 +9,9 @@ ghost use Rattle.sam_term.specs.Events.{lock_of};
 ghost use Rattle.sam_term.specs.Taking.{IsAnswer, countable};
 ghost use Rattle.sam_term.specs.Term.{flush_of, is_open, window_at, composed, unsent_message, flushed, sends, unchanged, wanted, view_end, request_for};
 
+use crate::event::lock_of;
 use crate::fault::TermFault;
-use crate::lock::{Lock, is_request, lock_of};
+use crate::lock::{Lock, is_request};
 use crate::outbox::Outbox;
 use crate::records::Window;
 use crate::term::Terminal;

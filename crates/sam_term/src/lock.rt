@@ -1,9 +1,8 @@
-//! The lock that each kind of message takes as it is composed, as in samterm, and small tests of texts and messages.
+//! The locks that messages take as they are composed, as in samterm, and small tests of texts and messages.
 
 ghost use Rattle.std.specs.Prelude.{◌≡◌};
 ghost use Rattle.sam_runes.specs.Texts.{ends_line};
 ghost use Rattle.sam_term.specs.Locking.{is_request};
-ghost use Rattle.sam_term.specs.Events.{lock_of};
 
 use sam_mesg::Tmesg;
 use sam_runes::Runes;
@@ -37,41 +36,5 @@ pub fn is_request(message: &Tmesg) -> bool
     match message {
         Tmesg::Trequest(_, _, _) => true,
         _ => false,
-    }
-}
-
-/// Returns the lock that composing a message takes. A `Ttype` takes the command lock if it ends a line of the command file, else none.
-pub fn lock_of(message: &Tmesg) -> Lock
-    ensures { result ≡ lock_of message.now }
-{
-    match message {
-        Tmesg::Tversion(_) => Lock::CommandLock,
-        Tmesg::Tstartcmdfile => Lock::CommandLock,
-        Tmesg::Tcheck(_) => Lock::NoLock,
-        Tmesg::Trequest(tag, _, _) => Lock::FileLock(*tag),
-        Tmesg::Torigin(tag, _, _) => Lock::FileLock(*tag),
-        Tmesg::Tstartfile(_) => Lock::CommandLock,
-        Tmesg::Tworkfile(_, _, _) => Lock::NoLock,
-        Tmesg::Ttype(tag, _, text) => {
-            if *tag == 0 && ends_line(text) {
-                Lock::CommandLock
-            } else {
-                Lock::NoLock
-            }
-        }
-        Tmesg::Tcut(_, _, _) => Lock::NoLock,
-        Tmesg::Tpaste(tag, _) => Lock::FileLock(*tag),
-        Tmesg::Tsnarf(_, _, _) => Lock::NoLock,
-        Tmesg::Tstartnewfile => Lock::CommandLock,
-        Tmesg::Twrite(tag) => Lock::FileLock(*tag),
-        Tmesg::Tclose(_) => Lock::CommandLock,
-        Tmesg::Tlook(tag, _, _) => Lock::FileLock(*tag),
-        Tmesg::Tsearch(tag, _, _) => Lock::FileLock(*tag),
-        Tmesg::Tsend(_, _, _) => Lock::CommandLock,
-        Tmesg::Tdclick(tag, _) => Lock::FileLock(*tag),
-        Tmesg::Tstartsnarf => Lock::NoLock,
-        Tmesg::Tsetsnarf(_) => Lock::NoLock,
-        Tmesg::Tack => Lock::NoLock,
-        Tmesg::Texit => Lock::CommandLock,
     }
 }

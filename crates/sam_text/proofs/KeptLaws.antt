@@ -1,7 +1,6 @@
 -- What holds of all files stays so under each change.
-use Rattle.std.proofs.Common.{◌≡◌, ◌≢◌, ◌⊎◌, ℕ, zero, suc, ◌<◌, ◌≤◌, List, [], ◌∷◌, length, true, false, Option, Some, None, nat_eq, inl, inr, refl, sym, ap, ◌∙◌, subst, arith, length-append, drop, ◌-◌, if◌then◌else◌, ◌==◌}
+use Rattle.std.proofs.Common.{◌≡◌, ℕ, zero, suc, ◌<◌, ◌≤◌, List, [], ◌∷◌, length, true, Option, Some, None, refl, sym, ap, ◌∙◌, subst, arith, length-append, drop, ◌-◌}
 use Rattle.std.specs.Prelude.{unwrap_or, is_some, option_map, IfSome, Result, Ok, Err, OnOk, OnErr, ⊤}
-use Rattle.std.proofs.lemmas.Bool.Decides.{eqb_tells}
 use Rattle.std.proofs.lemmas.List.{length-drop, length-take-le}
 use Rattle.sam_runes.specs.Texts.{all_tags, part}
 use Rattle.sam_runes.specs.Slots.{Slots, slot, put_slot, free_slot}
@@ -12,11 +11,7 @@ use Rattle.sam_text.proofs.ViewLaws.{is_some-map}
 
 -- a tag that has a file keeps one where a file is put
 pub given-put : {X : Type 0} (ss : Slots X) (f g : ℕ) (x : X) → is_some (slot ss g) ≡ true → is_some (slot (put_slot ss f x) g) ≡ true
-given-put ss f g x e = go (eqb_tells f g)
-  where
-    go : ((nat_eq f g ≡ true) × (f ≡ g)) ⊎ ((nat_eq f g ≡ false) × (f ≢ g)) → is_some (slot (put_slot ss f x) g) ≡ true
-    go (inl (same, here)) = subst (λ k. is_some (slot (put_slot ss f x) k) ≡ true) here (ap is_some (slot-put_same ss f x))
-    go (inr (apart, other)) = ap is_some (slot-put_other ss f g x other) ∙ e
+given-put ss f g x e = grind (arith, slot-put_same, slot-put_other)
 
 work-put : (fs : PlainFiles) (g : ℕ) (x : PlainFile) (w : Option ℕ) → IfSome w (IsWork fs) → IfSome w (IsWork (put_file fs g x))
 work-put fs g x None h = tt
@@ -24,66 +19,45 @@ work-put fs g x (Some f) h = (h.0, given-put fs.slots g f x h.1)
 
 -- a file is put where one was
 pub kept_put : (fs : PlainFiles) (g : ℕ) (x : PlainFile) → AreSoundFiles fs → has_file fs g ≡ true → IsFit x → HasShortName x → AreSoundFiles (put_file fs g x)
-kept_put fs g x all there fit short =
-    let l = length-put_slot fs.slots g x (slot_given fs.slots g there) in
-    let n = all.0 in (
-      omega (arith, l, n),
-      given-put fs.slots g 0 x all.1,
-      work-put fs g x fs.work all.2,
-      all.3,
-      all.4,
-      fit-put fs g x all.5 fit,
-      all-put HasShortName fs g x all.6 short,
-    )
+kept_put fs g x all there fit short = grind (
+  arith,
+  (length-put_slot fs.slots g x (slot_given fs.slots g there)),
+  (given-put fs.slots g 0 x all.1),
+  (work-put fs g x fs.work all.2),
+  (fit-put fs g x all.5 fit),
+  (all-put HasShortName fs g x all.6 short),
+)
 
 -- what holds of every file, and of a blank one, holds of every file once one is gone
 pub all-free : (P : PlainFile → Type 0) (fs : PlainFiles) (g : ℕ) → P blank_file → ((f : ℕ) → P (file_at fs f)) → (f : ℕ) → P (unwrap_or (slot (free_slot fs.slots g) f) blank_file)
-all-free P fs g none all f = go (eqb_tells g f)
-  where
-    go : ((nat_eq g f ≡ true) × (g ≡ f)) ⊎ ((nat_eq g f ≡ false) × (g ≢ f)) → P (unwrap_or (slot (free_slot fs.slots g) f) blank_file)
-    go (inl (e, here)) =
-        subst (λ k. P (unwrap_or (slot (free_slot fs.slots g) k) blank_file)) here
-        (subst (λ o. P (unwrap_or o blank_file)) (sym (slot-free_same fs.slots g)) none)
-    go (inr (e, other)) = subst (λ o. P (unwrap_or o blank_file)) (sym (slot-free_other fs.slots g f other)) (all f)
+all-free P fs g none all f = grind (arith, slot-free_same, slot-free_other)
 
 work-free : (fs : PlainFiles) (g : ℕ) (w : Option ℕ) → IfSome w (IsWork fs) → IfSome (work_without g w) (IsWork (without_file fs g))
 work-free fs g None h = tt
-work-free fs g (Some f) h = go (eqb_tells f g)
-  where
-    go : ((nat_eq f g ≡ true) × (f ≡ g)) ⊎ ((nat_eq f g ≡ false) × (f ≢ g)) → IfSome (if f == g then None else Some f) (IsWork (without_file fs g))
-    go (inl (same, here)) = subst (λ b. IfSome (if b then None else Some f) (IsWork (without_file fs g))) (sym same) tt
-    go (inr (apart, other)) =
-        subst (λ b. IfSome (if b then None else Some f) (IsWork (without_file fs g))) (sym apart)
-        (h.0, ap is_some (slot-free_other fs.slots g f (λ e. other (sym e))) ∙ h.1)
+work-free fs g (Some f) h = grind (arith, slot-free_other)
 
 -- a file that is not the command file is taken away
 pub kept_free : (fs : PlainFiles) (g : ℕ) → AreSoundFiles fs → 0 < g → AreSoundFiles (without_file fs g)
-kept_free fs g all positive =
-    let l = length-free_slot fs.slots g in
-    let n = all.0 in
-    let other : g ≢ 0 = λ e. absurd (omega (arith, e, positive)) in (
-      omega (arith, l, n),
-      ap is_some (slot-free_other fs.slots g 0 other) ∙ all.1,
-      work-free fs g fs.work all.2,
-      all.3,
-      all.4,
-      all-free IsFit fs g (omega arith, omega arith, omega arith) all.5,
-      all-free HasShortName fs g (omega arith) all.6,
-    )
+kept_free fs g all positive = grind (
+  arith,
+  (length-free_slot fs.slots g),
+  (slot-free_other fs.slots g 0),
+  (work-free fs g fs.work all.2),
+  (all-free IsFit fs g),
+  (all-free HasShortName fs g),
+)
 
 -- a file is added
 pub kept_new : (fs : PlainFiles) (x : PlainFile) → AreSoundFiles fs → length fs.slots < all_tags → IsFit x → HasShortName x → AreSoundFiles (with_new fs x)
-kept_new fs x all free fit short =
-    let l = ap length (put_slot-push fs.slots x) in
-    let m = length-append fs.slots (Some x ∷ []) in (
-      omega (arith, l, m, free),
-      given-put fs.slots (length fs.slots) 0 x all.1,
-      work-put fs (length fs.slots) x fs.work all.2,
-      all.3,
-      all.4,
-      fit-put fs (length fs.slots) x all.5 fit,
-      all-put HasShortName fs (length fs.slots) x all.6 short,
-    )
+kept_new fs x all free fit short = grind (
+  arith,
+  (put_slot-push fs.slots x),
+  (length-append fs.slots (Some x ∷ [])),
+  (given-put fs.slots (length fs.slots) 0 x all.1),
+  (work-put fs (length fs.slots) x fs.work all.2),
+  (fit-put fs (length fs.slots) x all.5 fit),
+  (all-put HasShortName fs (length fs.slots) x all.6 short),
+)
 
 all-announced : (P : PlainFile → Type 0) → ((x : PlainFile) → P x → P (announced_file x)) → (o : Option PlainFile) → P (unwrap_or o blank_file) → P (unwrap_or (option_map announced_file o) blank_file)
 all-announced P step None h = h
@@ -94,8 +68,7 @@ pub all-announce : (P : PlainFile → Type 0) → ((x : PlainFile) → P x → P
     → ((f : ℕ) → P (unwrap_or (slot ss f) blank_file)) → (f : ℕ) → P (unwrap_or (slot (announce_all ss) f) blank_file)
 all-announce P step [] all f = all f
 all-announce P step (s ∷ ss) all zero = all 0
-all-announce P step (s ∷ ss) all (suc f) =
-    subst (λ o. P (unwrap_or o blank_file)) (sym (slot-map announced_file ss f)) (all-announced P step (slot ss f) (all (suc f)))
+all-announce P step (s ∷ ss) all (suc f) = grind (arith, (slot-map announced_file ss f), (all-announced P step (slot ss f) (all (suc f))))
 
 given-announce : (ss : Slots PlainFile) (f : ℕ) → is_some (slot (announce_all ss) f) ≡ is_some (slot ss f)
 given-announce [] f = refl
@@ -112,17 +85,7 @@ work-announce fs (Some f) h = (h.0, given-announce fs.slots f ∙ h.1)
 
 -- all files but the command file are announced
 pub kept_announce : (fs : PlainFiles) → AreSoundFiles fs → AreSoundFiles (record fs { slots = announce_all fs.slots })
-kept_announce fs all =
-    let l = length-announce fs.slots in
-    let n = all.0 in (
-      omega (arith, l, n),
-      given-announce fs.slots 0 ∙ all.1,
-      work-announce fs fs.work all.2,
-      all.3,
-      all.4,
-      all-announce IsFit (λ x h. h) fs.slots all.5,
-      all-announce HasShortName (λ x h. h) fs.slots all.6,
-    )
+kept_announce fs all = grind (arith, (length-announce fs.slots), (work-announce fs fs.work all.2), (all-announce IsFit), (all-announce HasShortName))
 
 -- a file is put where one was, or nothing is changed
 pub kept_put_or : {E : Type 0} (fs : PlainFiles) (g : ℕ) (x : PlainFile) → AreSoundFiles fs → has_file fs g ≡ true → (r : Result ⊤ E) (after : Slots PlainFile)

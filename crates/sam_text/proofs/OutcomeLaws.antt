@@ -1,7 +1,7 @@
 -- What each line does can be put in: its file can be the work file, dot is a range of its text, name and pattern are within their limits.
-use Rattle.std.proofs.Common.{◌≡◌, ℕ, ◌≤◌, List, [], ◌∷◌, length, Bool, true, false, cond, Option, Some, None, Result, Ok, Err, refl, sym, subst, ap}
-use Rattle.std.specs.Prelude.{IfOk, IfSome, unwrap_or, option_map, option_and_then, nat_lt}
-use Rattle.sam_runes.specs.Texts.{max_runes, most_in_name}
+use Rattle.std.proofs.Common.{◌≡◌, ℕ, ◌≤◌, List, [], ◌∷◌, length, Option, Some, None, Result, Ok, Err, refl, sym, subst, ap, arith}
+use Rattle.std.specs.Prelude.{IfOk, IfSome, unwrap_or, option_map, option_and_then}
+use Rattle.sam_runes.specs.Texts.{most_in_name}
 use Rattle.sam_runes.specs.Slots.{slot}
 use Rattle.sam_text.specs.declared.word.Word.{Word}
 use Rattle.sam_text.specs.declared.command.Command.{Command}
@@ -9,7 +9,7 @@ use Rattle.sam_text.specs.declared.command.Command.TheVariants as command
 use Rattle.sam_text.specs.Reading.{◌>>=◌, command_of}
 use Rattle.sam_text.specs.Ranges.{address_range}
 use Rattle.sam_text.specs.Files.{PlainFile, PlainFiles, PlainOutcome, blank_file, file_at, file_after, IsFit, IsPattern, IsWork, IsOutcomeFor, IsOutcomeOf, AreSoundFiles}
-use Rattle.sam_text.specs.Meaning.{WorkFile, meaning, work_on, work_file, line_outcome, effect_of, effect_on, effect_of_line, or_wrong, address_or_dot, address_pattern, steps_pattern, later}
+use Rattle.sam_text.specs.Meaning.{WorkFile, meaning, work_on, work_file, line_outcome, effect_of, effect_on, effect_of_line, or_wrong}
 use Rattle.sam_text.proofs.ReadLaws.{CommandOk, command-read}
 use Rattle.sam_text.proofs.MeaningLaws.{line_fits, without_work}
 use Rattle.sam_text.proofs.FitLaws.{fit-after}
@@ -27,18 +27,9 @@ short-then : {A : Type 0} (r : Result A Word) (f : A → Result PlainOutcome Wor
 short-then (Ok x) f step = step x
 short-then (Err e) f step = tt
 
-short-if : (b : Bool) (w : Word) (o : PlainOutcome) → HasShortParts o → IfOk (cond b (Err w) (Ok o)) HasShortParts
-short-if true w o h = tt
-short-if false w o h = h
-
-later-short : (a b : Option (List ℕ)) → IfSome a IsPattern → IfSome b IsPattern → IfSome (later a b) IsPattern
-later-short a None h k = h
-later-short a (Some p) h k = k
-
 short-on : (f : WorkFile) (c : Command) → CommandOk c → IfOk (effect_on f c) HasShortParts
 short-on f (command.Go a) h = short-then (address_range f.text f.dot a) _ (λ r. (tt, h))
-short-on f (command.Run a ss l) h =
-    short-then (address_or_dot f a) _ (λ r. short-if (nat_lt max_runes _) _ _ (tt, later-short (address_pattern a) (steps_pattern ss) h.0 h.1))
+short-on f (command.Run a ss l) h = grind (arith, short-then)
 short-on f (command.Name []) h = (tt, tt)
 short-on f (command.Name (c ∷ cs)) h = (h, tt)
 short-on f command.Quit h = (tt, tt)
@@ -95,6 +86,4 @@ named-within (Some n) old h k = h
 -- an outcome that can be put in leaves its file fit, and its name short
 pub puts_there : (fs : PlainFiles) (o : PlainOutcome) (f : ℕ) → AreSoundFiles fs → IsOutcomeOf fs o → o.file ≡ Some f
     → (IsFit (file_after (file_at fs f) o)) × (length (unwrap_or o.name (file_at fs f).name) ≤ most_in_name)
-puts_there fs o f all puts e =
-    let there : IsOutcomeFor fs o f = subst (λ y. IfSome y (IsOutcomeFor fs o)) e puts.0 in
-    (there.1, named-within o.name (file_at fs f).name puts.1 (all.6 f))
+puts_there fs o f all puts e = grind arith

@@ -14,7 +14,7 @@ use Rattle.sam_text.specs.declared.command.Command.{Command}
 use Rattle.sam_text.specs.declared.command.Command.TheVariants as command
 use Rattle.sam_text.specs.Files.{IsPattern}
 use Rattle.sam_text.specs.Meaning.{side_pattern, address_pattern, steps_pattern, later}
-use Rattle.sam_text.specs.Reading.{◌>>=◌, is_digit, is_blank, skip, quoted, pattern_at, behind_slash, rune_side, side_of, side_at, second_side, address_at, kind_of, last_of, at_head, at_option, chain_at, trimmed, name_of, ended, behind_address, command_of}
+use Rattle.sam_text.specs.Reading.{◌>>=◌, is_blank, skip, quoted, pattern_at, behind_slash, side_of, side_at, second_side, address_at, kind_of, last_of, at_head, at_option, chain_at, trimmed, name_of, ended, behind_address, command_of}
 
 -- ## Ways to read
 
@@ -56,18 +56,9 @@ SideOk s = IfSome (side_pattern s.0) IsPattern
 abbrev pub AddressOk : Option Address → Type 0
 AddressOk a = IfSome (address_pattern a) IsPattern
 
-rune-side : (line : List ℕ) → IfOk (rune_side line) SideOk
-rune-side [] = tt
-rune-side (c ∷ cs) = ok_if SideOk (is_digit c) _ (Err word.Command) tt tt
-
 side-read : (line : List ℕ) → IfOk (side_of line) SideOk
 side-read [] = tt
-side-read (c ∷ cs) =
-    ok_if SideOk (is_digit c) _ _ tt
-    (ok_if SideOk (c == 35) _ _ (rune-side (skip cs))
-    (ok_if SideOk (c == 47) _ _ (ok_then (λ (p : List ℕ × List ℕ). IsPattern p.0) SideOk (pattern_at cs) _ (pattern-read cs) (λ p h. h))
-    (ok_if SideOk (c == 36) _ _ tt
-    (ok_if SideOk (c == 46) _ _ tt tt))))
+side-read (c ∷ cs) = grind (arith, (pattern-read cs))
 
 later-ok : (a b : Option (List ℕ)) → IfSome a IsPattern → IfSome b IsPattern → IfSome (later a b) IsPattern
 later-ok a None h k = h

@@ -1,7 +1,5 @@
 -- Messages that fit at their place of a stream, where they fit at all.
-use Rattle.std.proofs.Common.{◌≡◌, ℕ, ◌≤◌, true, List, [], ◌∷◌, ◌++◌}
-use Rattle.std.proofs.lemmas.Bool.{le-leb}
-use Rattle.sam_runes.specs.Texts.{snarf_limit, utf8_length}
+use Rattle.std.proofs.Common.{◌≡◌, ℕ, true, List, [], ◌∷◌, ◌++◌}
 use Rattle.sam_mesg.specs.declared.tmesg.Tmesg.{Tmesg}
 use Rattle.sam_mesg.specs.declared.tmesg.Tmesg.TheVariants.{Tsetsnarf}
 use Rattle.sam_mesg.specs.declared.hmesg.HFrame.{HFrame}
@@ -49,6 +47,3 @@ same_fit v m p e = e
 pub free_turn : (v : ℕ) (ms : List Tmesg) → Each IsFree ms → InTurn terminal v ms
 free_turn v [] p = tt
 free_turn v (m ∷ ms) p = ((λ g. record { is_message = g.is_message; fits = same_fit v m p.0 g.fits }), free_turn (after_t v m) ms p.1)
-
-pub snarf_turn : (v : ℕ) (s : List ℕ) → utf8_length s ≤ snarf_limit v → InTurn terminal v (Tsetsnarf s ∷ [])
-snarf_turn v s l = ((λ g. record { is_message = g.is_message; fits = le-leb (utf8_length s) (snarf_limit v) l }), tt)

@@ -1,6 +1,6 @@
 -- What a terminal composes for frames, and what stops it.
-use Rattle.std.proofs.Common.{◌≡◌, ◌∙◌, ℕ, ◌≤◌, inl, inr, List, [], ◌∷◌, ◌++◌, length, Option, None, Some, Ok, Err, Bool, true, false, if◌then◌else◌, refl, sym, ap, subst, append-nil, append_assoc, length-append, arith, All, IsTrue}
-use Rattle.std.proofs.lemmas.List.Elements.{All-nil, All-cons}
+use Rattle.std.proofs.Common.{◌≡◌, ℕ, ◌≤◌, inl, inr, List, [], ◌∷◌, ◌++◌, length, Option, None, Some, Ok, Err, Bool, true, false, if◌then◌else◌, sym, subst, append-nil, append_assoc, length-append, arith, All, IsTrue}
+use Rattle.std.proofs.lemmas.List.Elements.{All-nil}
 use Rattle.sam_mesg.specs.declared.tmesg.Tmesg.{Tmesg}
 use Rattle.sam_mesg.specs.declared.tmesg.Tmesg.TheVariants.{Tack}
 use Rattle.sam_mesg.specs.declared.hmesg.Hmesg.{Hmesg}
@@ -8,7 +8,6 @@ use Rattle.sam_mesg.specs.declared.hmesg.Hmesg.TheVariants.{Hcheck, Hunlockfile,
 use Rattle.sam_mesg.specs.declared.hmesg.HFrame.{HFrame}
 use Rattle.sam_mesg.specs.declared.fault.MesgFault.{MesgFault}
 use Rattle.sam_mesg.specs.HostKinds.{fits_h}
-use Rattle.sam_mesg.proofs.Versions.{grows_h}
 use Rattle.sam_frame.specs.Direction.{host}
 use Rattle.sam_frame.specs.Stream.{FitInTurn}
 use Rattle.sam_frame.specs.Framing.{Held}
@@ -25,8 +24,7 @@ use Rattle.sam_threads.specs.declared.stop.Stop.TheVariants as stop
 
 pub all_fit : (version : ℕ) (frames : List HFrame) → FitInTurn host version frames → All (λ (f : HFrame). IsTrue (fits_h 2 f.msg)) frames
 all_fit version [] fit = All-nil (λ (f : HFrame). IsTrue (fits_h 2 f.msg))
-all_fit version (f ∷ frames) fit =
-    All-cons (λ (g : HFrame). IsTrue (fits_h 2 g.msg)) f frames (grows_h version f.msg fit.0.fits) (all_fit (host.after version f) frames fit.1)
+all_fit version (f ∷ frames) fit = grind (arith, (all_fit (host.after version f) frames fit.1))
 
 -- ---- a frame makes a terminal compose two messages at most
 
@@ -64,9 +62,7 @@ few_from t _ = record { few = omega arith }
 
 few_counted : (b : Bool) (made : Made) (u : PlainTerminal) (ms : List Tmesg) → Few 2 made → (if b then Err fault.CountFull else Ok made) ≡ Ok (u, ms) → length ms ≤ 2
 few_counted true made u ms few is = absurd (cc)
-few_counted false made u ms few is =
-    let same : made ≡ (u, ms) = cc in
-    subst (λ (m : Made). length m.1 ≤ 2) same few.few
+few_counted false made u ms few is = grind arith
 
 few_unless : (o : Option TermFault) (made : Made) (u : PlainTerminal) (ms : List Tmesg) → Few 2 made → made_unless o made ≡ Ok (u, ms) → length ms ≤ 2
 few_unless (Some why) made u ms few is = absurd (cc)
@@ -80,46 +76,20 @@ takes_few t u frame ms is = few_unless _ (frame_outcome t frame.msg) u ms (few_f
 
 pub takes_more : (t u v : PlainTerminal) (frames : List HFrame) (frame : HFrame) (ms some : List Tmesg)
     → TakesAll t frames ms u → take_of u frame ≡ Ok (v, some) → TakesAll t (frames ++ frame ∷ []) (ms ++ some) v
-takes_more t u v [] frame ms some (none, same) is = (
-  v,
-  some,
-  [],
-  subst (λ (x : PlainTerminal). take_of x frame ≡ Ok (v, some)) same is,
-  ap (λ (l : List Tmesg). l ++ some) none ∙ sym (append-nil some),
-  (refl, refl),
-)
-takes_more t u v (f ∷ frames) frame ms some (w, first, rest, step, parts, took) is = (
-  w,
-  first,
-  rest ++ some,
-  step,
-  ap (λ (l : List Tmesg). l ++ some) parts ∙ append_assoc first rest some,
-  takes_more w u v frames frame rest some took is,
-)
+takes_more t u v [] frame ms some (none, same) is = grind (arith, (append-nil some))
+takes_more t u v (f ∷ frames) frame ms some (w, first, rest, step, parts, took) is = grind (arith, append_assoc, (takes_more w u v frames frame rest some took is))
 
 pub one_more : (t u v : PlainTerminal) (frames : List HFrame) (frame : HFrame) (before after : List Tmesg)
     → TakesAll t frames before u → TakesOne frame u v before after None → TakesAll t (frames ++ frame ∷ []) after v
-one_more t u v frames frame before after took (some, is, grew) =
-    subst (λ (l : List Tmesg). TakesAll t (frames ++ frame ∷ []) l v) (sym grew) (takes_more t u v frames frame before some took is)
+one_more t u v frames frame before after took (some, is, grew) = grind (arith, takes_more)
 
 -- ---- what a piece came to
-
-stops_at : (h : Held) (piece : List ℕ) (k : Held) (t u : PlainTerminal) (ms : List Tmesg) (done : List HFrame) (frame : HFrame) (rest : List HFrame) (o : Option MesgFault) (s : Stop)
-    → Gives h piece k (done ++ frame ∷ rest) o → TakesAll t done ms u → StopsAt u frame s → FeedsTerminal h piece k t u ms (Some s)
-stops_at h piece k t u ms done frame rest o (stop.Frame n) gives took never = absurd never
-stops_at h piece k t u ms done frame rest o (stop.Host n) gives took never = absurd never
-stops_at h piece k t u ms done frame rest o (stop.Term n) gives took (why, refused, is) = (done, frame, rest, why, (o, gives, took), refused, is)
-stops_at h piece k t u ms done frame rest o stop.PeerGone gives took never = absurd never
-stops_at h piece k t u ms done frame rest o stop.Gate gives took never = absurd never
-stops_at h piece k t u ms done frame rest o stop.Memory gives took wanted = inr (done, frame, rest, (o, gives, took))
 
 stops_before : (h : Held) (piece : List ℕ) (k : Held) (t u : PlainTerminal) (ms : List Tmesg) (frames : List HFrame) (o : Option MesgFault) (stopped : Option Stop)
     → Gives h piece k frames o
     → (done : List HFrame) (frame : HFrame) (rest : List HFrame) (s : Stop) → frames ≡ done ++ frame ∷ rest → TakesAll t done ms u → stopped ≡ Some s → StopsAt u frame s
     → FeedsTerminal h piece k t u ms stopped
-stops_before h piece k t u ms frames o stopped gives done frame rest s parts took is at =
-    subst (λ (x : Option Stop). FeedsTerminal h piece k t u ms x) (sym is)
-    (stops_at h piece k t u ms done frame rest o s (subst (λ (fs : List HFrame). Gives h piece k fs o) parts gives) took at)
+stops_before h piece k t u ms frames o stopped gives done frame rest s parts took is at = grind arith
 
 pub fed_all : (h : Held) (piece : List ℕ) (k : Held) (t u : PlainTerminal) (ms : List Tmesg) (frames : List HFrame) (stopped : Option Stop)
     → Gives h piece k frames None → TakesUpTo frames None t u ms stopped → FeedsTerminal h piece k t u ms stopped
@@ -128,7 +98,6 @@ fed_all h piece k t u ms frames stopped gives (inr (done, frame, rest, s, parts,
 
 pub fed_before : (h : Held) (piece : List ℕ) (k : Held) (t u : PlainTerminal) (ms : List Tmesg) (frames : List HFrame) (fault : MesgFault) (n : ℕ) (stopped : Option Stop)
     → Gives h piece k frames (Some fault) → n ≡ frame_number fault → TakesUpTo frames (Some (stop.Frame n)) t u ms stopped → FeedsTerminal h piece k t u ms stopped
-fed_before h piece k t u ms frames fault n stopped gives number (inl (took, is)) =
-    subst (λ (x : Option Stop). FeedsTerminal h piece k t u ms x) (sym is) (inl (frames, fault, gives, number, took))
+fed_before h piece k t u ms frames fault n stopped gives number (inl (took, is)) = grind arith
 fed_before h piece k t u ms frames fault n stopped gives number (inr (done, frame, rest, s, parts, took, is, at)) =
     stops_before h piece k t u ms frames (Some fault) stopped gives done frame rest s parts took is at

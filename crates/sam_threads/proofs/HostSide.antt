@@ -1,5 +1,5 @@
 -- The host's worker from one moment to the next.
-use Rattle.std.proofs.Common.{◌≡◌, ◌∙◌, ◌⊎◌, inl, inr, ℕ, ◌+◌, List, [], ◌∷◌, ◌++◌, length, Result, Ok, Err, refl, sym, ap, subst, append_assoc, append-nil}
+use Rattle.std.proofs.Common.{◌≡◌, ◌∙◌, ◌⊎◌, inl, inr, ℕ, ◌+◌, List, [], ◌∷◌, ◌++◌, length, Result, Ok, Err, refl, sym, ap, subst, append_assoc, append-nil, arith}
 use Rattle.std.specs.Global.{Vec}
 use Rattle.std.specs.Prelude.{IsTrue}
 use Rattle.std.proofs.lemmas.List.Elements.{All-nil, All-cons}
@@ -9,7 +9,7 @@ use Rattle.sam_mesg.specs.declared.fault.MesgFault.{MesgFault}
 use Rattle.sam_mesg.specs.TerminalKinds.{FitsT}
 use Rattle.sam_mesg.specs.HostKinds.{FitsH, IsHFrame, after_h}
 use Rattle.sam_frame.specs.Direction.{terminal, host, frame_of}
-use Rattle.sam_frame.specs.Stream.{CanEncode, FitInTurn, Splits, Shows, version_after, stream_of}
+use Rattle.sam_frame.specs.Stream.{CanEncode, FitInTurn, Splits, stream_of}
 use Rattle.sam_frame.specs.Framing.{Held, GaveAll, GaveUp}
 use Rattle.sam_frame.proofs.Fronts.{stream_of-append}
 use Rattle.sam_host.specs.Host.{PlainHost, answer}
@@ -19,7 +19,7 @@ use Rattle.sam_host.specs.declared.fault.HostFault.TheVariants as refusal
 use Rattle.sam_queue.specs.Views.{PostView}
 use Rattle.sam_world.specs.Sides.{Each}
 use Rattle.sam_world.proofs.Settles.{host_more, each_append}
-use Rattle.sam_threads.specs.RealSides.{sides, unless_refused}
+use Rattle.sam_threads.specs.RealSides.{sides}
 use Rattle.sam_threads.specs.Numbers.{refusal_number, frame_number}
 use Rattle.sam_threads.specs.Inputs.{bytes_of}
 use Rattle.sam_threads.specs.Cutting.{PutSome}
@@ -43,8 +43,7 @@ each_behind P (x ∷ xs) ys a = each_behind P xs ys a.1
 -- frames that fit in place, whose values are known
 pub frames_fit : (version : ℕ) (frames : List HFrame) → FitInPlace version frames → Each IsHFrame frames → Each (FitsH 2) frames
 frames_fit version [] fit known = tt
-frames_fit version (f ∷ frames) fit known =
-    (record { is_message = known.0; fits = fit.1 }, frames_fit (after_h version f.msg) frames fit.2 known.1)
+frames_fit version (f ∷ frames) fit known = grind (arith, (frames_fit (after_h version f.msg) frames fit.2 known.1))
 
 -- ## One stretch after another
 
@@ -54,17 +53,7 @@ handled_nothing h p = record { runs = (refl, refl); answers_fit = tt; put = refl
 -- one message
 pub handled_one : (most : ℕ) (h k : PlainHost) (p q : PostView (Vec ℕ)) (m : Tmesg) (frames : List HFrame) (unput : List ℕ)
     → answer h m ≡ Ok (k, frames) → Each (FitsH 2) frames → PutSome most p q (stream_of host frames) unput → Handled h k p q (m ∷ []) frames unput
-handled_one most h k p q m frames unput answered fit puts = record {
-  runs = (k, frames, [], ap unless_refused answered, sym (append-nil frames), (refl, refl));
-  answers_fit = fit;
-  put =
-      ap (λ (x : PostView (Vec ℕ)). bytes_of x.put ++ unput) puts.after_is
-      ∙ (ap (λ (x : List ℕ). x ++ unput) (bytes_append p.put puts.pieces)
-      ∙ (append_assoc (bytes_of p.put) (bytes_of puts.pieces) unput ∙ ap (λ (x : List ℕ). bytes_of p.put ++ x) puts.whole));
-  line = ap (λ (x : PostView (Vec ℕ)). x.line) puts.after_is;
-  number = ap (λ (x : PostView (Vec ℕ)). x.number) puts.after_is;
-  closed = ap (λ (x : PostView (Vec ℕ)). x.closed) puts.after_is;
-}
+handled_one most h k p q m frames unput answered fit puts = grind (arith, (append-nil frames), (bytes_append p.put puts.pieces), (append_assoc (bytes_of p.put) (bytes_of puts.pieces) unput))
 
 pub handled_on : (h j k : PlainHost) (p q r : PostView (Vec ℕ)) (ms ns : List Tmesg) (fs gs : List HFrame) (unput : List ℕ)
     → Handled h j p q ms fs [] → Handled j k q r ns gs unput → Handled h k p r (ms ++ ns) (fs ++ gs) unput
@@ -91,75 +80,23 @@ pub record SoFar (h k : PlainHost) (p q : PostView (Vec ℕ)) (messages left : L
   pub did : Handled h k p q done answered []
   pub fits : Each (FitsT 2) left
 
-pub so_far_none : (h : PlainHost) (p : PostView (Vec ℕ)) (ms : List Tmesg) → Each (FitsT 2) ms → SoFar h h p p ms ms
-so_far_none h p ms fits = record { done = []; answered = []; whole = refl; did = handled_nothing h p; fits = fits }
-
 pub so_far_more : (h j k : PlainHost) (p q r : PostView (Vec ℕ)) (ms left rest : List Tmesg) (m : Tmesg) (fs : List HFrame)
     → left ≡ m ∷ rest → SoFar h j p q ms left → Handled j k q r (m ∷ []) fs [] → SoFar h k p r ms rest
-so_far_more h j k p q r ms left rest m fs is s one = record {
-  done = s.done ++ m ∷ [];
-  answered = s.answered ++ fs;
-  whole = s.whole ∙ (ap (λ (x : List Tmesg). s.done ++ x) is ∙ sym (append_assoc s.done (m ∷ []) rest));
-  did = handled_on h j k p q r s.done (m ∷ []) s.answered fs [] s.did one;
-  fits = (subst (λ (x : List Tmesg). Each (FitsT 2) x) is s.fits).1;
-}
-
-pub first_fits : (h k : PlainHost) (p q : PostView (Vec ℕ)) (ms left rest : List Tmesg) (m : Tmesg) → left ≡ m ∷ rest → SoFar h k p q ms left → FitsT 2 m
-first_fits h k p q ms left rest m is s = (subst (λ (x : List Tmesg). Each (FitsT 2) x) is s.fits).0
-
-leaves_more : (refuses : Type 0) (k : PlainHost) (left rest : List Tmesg) (why : Stop) → Leaves ⊥ k left why → Leaves refuses k (left ++ rest) why
-leaves_more refuses k left rest (stop.Frame n) l = l
-leaves_more refuses k left rest (stop.Host n) l = (l.0, l.1 ++ rest, l.2, ap (λ (x : List Tmesg). x ++ rest) l.3, l.4, l.5)
-leaves_more refuses k left rest (stop.Term n) l = l
-leaves_more refuses k left rest stop.PeerGone l = l
-leaves_more refuses k left rest stop.Gate l = absurd l
-leaves_more refuses k left rest stop.Memory l = tt
+so_far_more h j k p q r ms left rest m fs is s one = grind (arith, (append_assoc s.done (m ∷ []) rest), (handled_on h j k p q r s.done (m ∷ []) s.answered fs))
 
 pub so_far_stops : (refuses : Type 0) (h j k : PlainHost) (p q r : PostView (Vec ℕ)) (ms left rest : List Tmesg) (m : Tmesg) (why : Stop)
     → left ≡ m ∷ rest → SoFar h j p q ms left → HandledSome ⊥ j k q r (m ∷ []) why → HandledSome refuses h k p r ms why
-so_far_stops refuses h j k p q r ms left rest m why is s one = record {
-  handled = s.done ++ one.handled;
-  left = one.left ++ rest;
-  answered = s.answered ++ one.answered;
-  unput = one.unput;
-  whole =
-      s.whole
-      ∙ (ap (λ (x : List Tmesg). s.done ++ x) is
-      ∙ (ap (λ (x : List Tmesg). s.done ++ (x ++ rest)) one.whole
-      ∙ (ap (λ (x : List Tmesg). s.done ++ x) (append_assoc one.handled one.left rest)
-      ∙ sym (append_assoc s.done one.handled (one.left ++ rest)))));
-  did = handled_on h j k p q r s.done one.handled s.answered one.answered one.unput s.did one.did;
-  leaves = leaves_more refuses k one.left rest why one.leaves;
-}
-
-pub so_far_refused : (refuses : Type 0) (h k : PlainHost) (p q : PostView (Vec ℕ)) (ms left : List Tmesg) → SoFar h k p q ms left → refuses → HandledSome refuses h k p q ms stop.Gate
-so_far_refused refuses h k p q ms left s stops = record {
-  handled = s.done;
-  left = left;
-  answered = s.answered;
-  unput = [];
-  whole = s.whole;
-  did = s.did;
-  leaves = stops;
-}
-
-pub so_far_all : (refuses : Type 0) (h k : PlainHost) (p q : PostView (Vec ℕ)) (ms left : List Tmesg) → left ≡ [] → SoFar h k p q ms left → HandlesAll refuses h k p q ms (Ok tt)
-so_far_all refuses h k p q ms left none s =
-    let all : s.done ≡ ms = sym (append-nil s.done) ∙ (ap (λ (x : List Tmesg). s.done ++ x) (sym none) ∙ sym s.whole) in
-    (s.answered, subst (λ (x : List Tmesg). Handled h k p q x s.answered []) all s.did)
+so_far_stops refuses h j k p q r ms left rest m why is s one = grind (
+  arith,
+  (append_assoc one.handled one.left rest),
+  (append_assoc s.done one.handled (one.left ++ rest)),
+  (handled_on h j k p q r s.done one.handled s.answered one.answered one.unput s.did one.did),
+)
 
 -- ## One message
 
 one_refused : (h : PlainHost) (p : PostView (Vec ℕ)) (m : Tmesg) (why : HostFault) (n : ℕ) → answer h m ≡ Err why → n ≡ refusal_number why → HandledSome ⊥ h h p p (m ∷ []) (stop.Host n)
-one_refused h p m why n refused is = record {
-  handled = [];
-  left = m ∷ [];
-  answered = [];
-  unput = [];
-  whole = refl;
-  did = handled_nothing h p;
-  leaves = (m, [], why, refl, refused, is);
-}
+one_refused h p m why n refused is = grind (arith, (handled_nothing h p))
 
 one_without_memory : (h : PlainHost) (p : PostView (Vec ℕ)) (m : Tmesg) → HandledSome ⊥ h h p p (m ∷ []) stop.Memory
 one_without_memory h p m = record { handled = []; left = m ∷ []; answered = []; unput = []; whole = refl; did = handled_nothing h p; leaves = tt }
@@ -190,16 +127,13 @@ one_stops h k p m refusal.CommandFile same (inl memory) = absurd (cc)
 one_stops h k p m refusal.CommandFile same (inr refused) = here h k p m (of_refusal refusal.CommandFile) same (one_refused h p m refusal.CommandFile (refusal_number refusal.CommandFile) refused refl)
 
 pub known_fit : (version : ℕ) (frames slice : List HFrame) → slice ≡ frames → FitInPlace version frames → Each IsHFrame slice → Each (FitsH 2) slice
-known_fit version frames slice is fit known =
-    frames_fit version slice (subst (λ (x : List HFrame). FitInPlace version x) (sym is) fit) known
+known_fit version frames slice is fit known = grind (arith, frames_fit)
 
 -- the frames of the answer were put, all or not all
 one_did : (most : ℕ) (h j k : PlainHost) (p q : PostView (Vec ℕ)) (m : Tmesg) (frames slice : List HFrame) (unput : List ℕ)
     → answer h m ≡ Ok (j, frames) → k ≡ j → slice ≡ frames → FitInPlace h.version frames → Each IsHFrame slice
     → PutSome most p q (stream_of host slice) unput → Handled h k p q (m ∷ []) slice unput
-one_did most h j k p q m frames slice unput answered same is fit known puts =
-    let there : answer h m ≡ Ok (k, slice) = answered ∙ (ap (λ (x : PlainHost). Ok (x, frames)) (sym same) ∙ ap (λ (x : List HFrame). Ok (k, x)) (sym is)) in
-    handled_one most h k p q m slice unput there (known_fit h.version frames slice is fit known) puts
+one_did most h j k p q m frames slice unput answered same is fit known puts = grind (arith, (handled_one most h k p q m slice unput), (known_fit h.version frames slice is fit known))
 
 pub one_all : (most : ℕ) (h j k : PlainHost) (p q : PostView (Vec ℕ)) (m : Tmesg) (frames slice : List HFrame)
     → answer h m ≡ Ok (j, frames) → k ≡ j → slice ≡ frames → FitInPlace h.version frames → Each IsHFrame slice
@@ -217,15 +151,7 @@ one_cut most h j k p q m frames slice answered same is fit known puts =
 leaves_halts : (refuses : Type 0) (k : PlainHost) (version came : ℕ) (left : List Tmesg) (bytes : List ℕ) (why : Stop) → Each (FitsT 2) left → Leaves refuses k left why
     → Halts refuses k version came (stream_of terminal left ++ bytes) why
 leaves_halts refuses k version came left bytes (stop.Frame n) fits l = absurd l
-leaves_halts refuses k version came left bytes (stop.Host n) fits l = (
-  l.0,
-  stream_of terminal l.1 ++ bytes,
-  l.2,
-  (subst (λ (x : List Tmesg). Each (FitsT 2) x) l.3 fits).0,
-  ap (λ (x : List Tmesg). stream_of terminal x ++ bytes) l.3 ∙ append_assoc (frame_of terminal l.0) (stream_of terminal l.1) bytes,
-  l.4,
-  l.5,
-)
+leaves_halts refuses k version came left bytes (stop.Host n) fits l = grind (arith, (append_assoc (frame_of terminal l.0) (stream_of terminal l.1) bytes))
 leaves_halts refuses k version came left bytes (stop.Term n) fits l = l
 leaves_halts refuses k version came left bytes stop.PeerGone fits l = l
 leaves_halts refuses k version came left bytes stop.Gate fits l = l
@@ -234,65 +160,23 @@ leaves_halts refuses k version came left bytes stop.Memory fits l = tt
 -- some messages of those that stand at the front of the bytes were handled
 some_front : (refuses : Type 0) (h k : PlainHost) (p q : PostView (Vec ℕ)) (version came : ℕ) (bytes : List ℕ) (ms : List Tmesg) (rest : List ℕ) (why : Stop)
     → Splits terminal version bytes ms rest → HandledSome refuses h k p q ms why → HandledFront refuses h k p q version came bytes why
-some_front refuses h k p q version came bytes ms rest why splits s =
-    let fit : FitInTurn terminal version (s.handled ++ s.left) = subst (λ (x : List Tmesg). FitInTurn terminal version x) s.whole splits.fit in
-    record {
-      handled = s.handled;
-      answered = s.answered;
-      unput = s.unput;
-      rest = stream_of terminal s.left ++ rest;
-      splits = record {
-        whole =
-            splits.whole
-            ∙ (ap (λ (x : List Tmesg). stream_of terminal x ++ rest) s.whole
-            ∙ (ap (λ (x : List ℕ). x ++ rest) (stream_of-append terminal s.handled s.left)
-            ∙ append_assoc (stream_of terminal s.handled) (stream_of terminal s.left) rest));
-        fit = fit_front version s.handled s.left fit;
-      };
-      did = s.did;
-      halts =
-          leaves_halts refuses k (version_after terminal version s.handled) came s.left rest why
-          (each_behind (FitsT 2) s.handled s.left (each_t version (s.handled ++ s.left) fit)) s.leaves;
-    }
+some_front refuses h k p q version came bytes ms rest why splits s = grind (arith, stream_of-append, append_assoc, fit_front, leaves_halts, each_behind, each_t)
 
 pub piece_all : (refuses : Type 0) (h k : PlainHost) (p q : PostView (Vec ℕ)) (held fed next : Held) (piece : List ℕ) (ms : List Tmesg) (r : Result (Unit {0}) Stop)
     → next ≡ fed → GaveAll terminal held piece ms fed → HandlesAll refuses h k p q ms r → TakesPiece refuses h k p q held next piece r
-piece_all refuses h k p q held fed next piece ms (Ok done) same gave all =
-    (ms, all.0, subst (λ (x : Held). GaveAll terminal held piece ms x) (sym same) gave, all.1)
-piece_all refuses h k p q held fed next piece ms (Err why) same gave some =
-    some_front refuses h k p q held.version (held.offset + length held.bytes + length piece) (held.bytes ++ piece) ms fed.bytes why gave.gave.splits some
+piece_all refuses h k p q held fed next piece ms (Ok done) same gave all = grind arith
+piece_all refuses h k p q held fed next piece ms (Err why) same gave some = grind (arith, some_front)
 
 pub piece_before : (refuses : Type 0) (h k : PlainHost) (p q : PostView (Vec ℕ)) (held next : Held) (piece : List ℕ) (ms : List Tmesg) (place : ℕ) (fault : MesgFault) (why : Stop)
     → GaveUp terminal held piece ms place fault next → StopsBefore refuses h k p q ms (frame_number fault) why
     → HandledFront refuses h k p q held.version (held.offset + length held.bytes + length piece) (held.bytes ++ piece) why
-piece_before refuses h k p q held next piece ms place fault why up (inl some) =
-    some_front refuses h k p q held.version (held.offset + length held.bytes + length piece) (held.bytes ++ piece) ms next.bytes why up.gave.splits some
-piece_before refuses h k p q held next piece ms place fault why up (inr all) =
-    let shows : Shows terminal (version_after terminal held.version ms) next.bytes fault = subst (λ (v : ℕ). Shows terminal v next.bytes fault) up.gave.version_is up.shows in
-    let came = held.offset + length held.bytes + length piece in
-    let halts : Halts refuses k (version_after terminal held.version ms) came next.bytes (stop.Frame (frame_number fault)) = inr (fault, shows, refl) in
-    record {
-      handled = ms;
-      answered = all.1.0;
-      unput = [];
-      rest = next.bytes;
-      splits = up.gave.splits;
-      did = all.1.1;
-      halts = subst (λ (s : Stop). Halts refuses k (version_after terminal held.version ms) came next.bytes s) (sym all.0) halts;
-    }
+piece_before refuses h k p q held next piece ms place fault why up (inl some) = grind (arith, some_front)
+piece_before refuses h k p q held next piece ms place fault why up (inr all) = grind arith
 
 -- the piece was not fed
 pub piece_unfed : (refuses : Type 0) (h : PlainHost) (p : PostView (Vec ℕ)) (version came : ℕ) (bytes : List ℕ) (why : Stop) → Halts refuses h version came bytes why
     → HandledFront refuses h h p p version came bytes why
-piece_unfed refuses h p version came bytes why halts = record {
-  handled = [];
-  answered = [];
-  unput = [];
-  rest = bytes;
-  splits = record { whole = refl; fit = tt };
-  did = handled_nothing h p;
-  halts = halts;
-}
+piece_unfed refuses h p version came bytes why halts = grind (arith, (handled_nothing h p))
 
 -- ## Frames that are sent
 

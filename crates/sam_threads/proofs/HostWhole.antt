@@ -5,8 +5,8 @@ use Rattle.sam_runes.specs.Texts.{most_files}
 use Rattle.sam_mesg.specs.declared.tmesg.Tmesg.{Tmesg}
 use Rattle.sam_mesg.specs.declared.hmesg.HFrame.{HFrame}
 use Rattle.sam_frame.specs.Direction.{terminal, host, frame_of}
-use Rattle.sam_frame.specs.Stream.{Splits, IsOpen, version_after, stream_of}
-use Rattle.sam_frame.specs.Framing.{Held, GaveAll, fresh}
+use Rattle.sam_frame.specs.Stream.{Splits, version_after, stream_of}
+use Rattle.sam_frame.specs.Framing.{Held, fresh}
 use Rattle.sam_frame.proofs.Fronts.{version_after-append}
 use Rattle.sam_frame.proofs.Cuttings.{Came, comes_more, splits_more}
 use Rattle.sam_host.specs.Host.{PlainHost, new_host}
@@ -18,8 +18,6 @@ use Rattle.sam_queue.specs.declared.take.Got.TheVariants.{Left}
 use Rattle.sam_queue.proofs.Laws.{items_of_item, items_of_mark}
 use Rattle.sam_queue.proofs.Sorts.{items_of-append}
 use Rattle.sam_world.specs.Given.{IsFile}
-use Rattle.sam_world.specs.Sides.{HostRuns}
-use Rattle.sam_threads.specs.RealSides.{sides}
 use Rattle.sam_threads.specs.Inputs.{bytes_of}
 use Rattle.sam_threads.specs.WorkerEnds.{IsPastCount, HostStopped, HostTold}
 use Rattle.sam_threads.specs.Handling.{Handled, HandledFront, TakesPiece, Serves, Ends, Halts}
@@ -36,78 +34,33 @@ pub record Going (h k : PlainHost) (p q : PostView (Vec ℕ)) (held : Held) (tak
   pub did : Handled h k p q messages answered []
   pub came : Came terminal fresh (bytes_of (items_of 0 taken)) messages held
 
-pub going_begins : (h : PlainHost) (p : PostView (Vec ℕ)) (held : Held) (taken : List (Entry (Vec ℕ))) → held ≡ fresh → taken ≡ [] → Going h h p p held taken
-going_begins h p held taken new none =
-    let begins : Came terminal fresh [] [] fresh = record { splits = record { whole = refl; fit = tt }; opened = tt; version_is = refl; offset_is = refl; sound = refl } in
-    let there : Came terminal fresh (bytes_of (items_of 0 taken)) [] fresh =
-    subst (λ (x : List (Entry (Vec ℕ))). Came terminal fresh (bytes_of (items_of 0 x)) [] fresh) (sym none) begins in
-    record {
-      messages = [];
-      answered = [];
-      did = handled_nothing h p;
-      came = subst (λ (x : Held). Came terminal fresh (bytes_of (items_of 0 taken)) [] x) (sym new) there;
-    }
-
 -- an item of the one sender
 item_is : (senders : ℕ) (a b : TakeView (Vec ℕ)) (sender : ℕ) (piece : Vec ℕ) → senders ≡ 1 → a.line.senders ≡ senders
     → TakesNext a (record { sender = sender; load = Some piece }) b → bytes_of (items_of 0 b.taken) ≡ bytes_of (items_of 0 a.taken) ++ piece.items
-item_is senders a b sender piece one line next =
-    let few = next.sender in
-    let first : sender ≡ 0 = omega arith in
-    ap (λ (x : List (Entry (Vec ℕ))). bytes_of (items_of 0 x)) next.taken
-    ∙ (ap (λ (x : List (Vec ℕ)). bytes_of x) (items_of_item 0 a.taken (record { sender = sender; load = Some piece }) piece first refl)
-    ∙ bytes_snoc (items_of 0 a.taken) piece)
+item_is senders a b sender piece one line next = grind (arith, (items_of_item 0 a.taken), (bytes_snoc (items_of 0 a.taken) piece))
 
 pub going_item : (refuses : Type 0) (h j k : PlainHost) (p q r : PostView (Vec ℕ)) (held next : Held) (a b : TakeView (Vec ℕ)) (sender : ℕ) (piece : Vec ℕ) (fed : List ℕ)
     → a.line.senders ≡ 1 → TakesNext a (record { sender = sender; load = Some piece }) b → fed ≡ piece.items
     → Going h j p q held a.taken → TakesPiece refuses j k q r held next fed (Ok tt) → Going h k p r next b.taken
-going_item refuses h j k p q r held next a b sender piece fed one takes is going (ms, answered, gave, did) = record {
-  messages = going.messages ++ ms;
-  answered = going.answered ++ answered;
-  did = handled_on h j k p q r going.messages ms going.answered answered [] going.did did;
-  came =
-      subst (λ (x : List ℕ). Came terminal fresh x (going.messages ++ ms) next) (sym (item_is 1 a b sender piece refl one takes))
-      (comes_more terminal fresh (bytes_of (items_of 0 a.taken)) going.messages held piece.items ms next going.came (subst (λ (x : List ℕ). GaveAll terminal held x ms next) is gave));
-}
+going_item refuses h j k p q r held next a b sender piece fed one takes is going (ms, answered, gave, did) = grind (
+  arith,
+  (handled_on h j k p q r going.messages ms going.answered answered),
+  (item_is 1 a b sender piece refl one takes),
+  (comes_more terminal fresh (bytes_of (items_of 0 a.taken)) going.messages held piece.items ms next going.came),
+)
 
 going_mark : (h j : PlainHost) (p q : PostView (Vec ℕ)) (held : Held) (a b : TakeView (Vec ℕ)) (sender : ℕ)
     → TakesNext a (record { sender = sender; load = None }) b → Going h j p q held a.taken → Going h j p q held b.taken
-going_mark h j p q held a b sender takes going =
-    let same : items_of 0 b.taken ≡ items_of 0 a.taken =
-    ap (λ (x : List (Entry (Vec ℕ))). items_of 0 x) takes.taken ∙ items_of_mark 0 a.taken (record { sender = sender; load = None }) refl in
-    record {
-      messages = going.messages;
-      answered = going.answered;
-      did = going.did;
-      came = subst (λ (x : List (Vec ℕ)). Came terminal fresh (bytes_of x) going.messages held) (sym same) going.came;
-    }
+going_mark h j p q held a b sender takes going = grind (arith, items_of_mark)
 
 pub going_left : (h j : PlainHost) (p q : PostView (Vec ℕ)) (held : Held) (a b : TakeView (Vec ℕ)) (got : Got (Vec ℕ)) (sender : ℕ)
     → got ≡ Left sender → Answers a got b → Going h j p q held a.taken → Going h j p q held b.taken
-going_left h j p q held a b got sender is answers going =
-    going_mark h j p q held a b sender (subst (λ (x : Got (Vec ℕ)). Answers a x b) is answers) going
-
-pub going_ends : (refuses : Type 0) (h k : PlainHost) (p q : PostView (Vec ℕ)) (held : Held) (taken : List (Entry (Vec ℕ)))
-    → Going h k p q held taken → IsEnded 1 taken → Serves refuses h k p q taken None
-going_ends refuses h k p q held taken going ended = record {
-  handled = going.messages;
-  answered = going.answered;
-  unput = [];
-  rest = held.bytes;
-  did = going.did;
-  fit = going.came.splits.fit;
-  got = going.came.splits.whole;
-  ends = (ended, refl, subst (λ (v : ℕ). IsOpen terminal v held.bytes) going.came.version_is going.came.opened);
-}
+going_left h j p q held a b got sender is answers going = grind (arith, going_mark)
 
 -- how many bytes came with a piece
 came_is : (bytes : List ℕ) (ms : List Tmesg) (held : Held) (fed piece : List ℕ) → fed ≡ piece → Came terminal fresh bytes ms held
     → length (bytes ++ piece) ≡ held.offset + length held.bytes + length fed
-came_is bytes ms held fed piece is came =
-    let whole = ap length came.splits.whole in
-    let offset = came.offset_is in
-    let same = ap length is in
-    omega (arith, length-append bytes piece, length-append (stream_of terminal ms) held.bytes)
+came_is bytes ms held fed piece is came = grind (arith, length-append)
 
 pub going_stops : (refuses : Type 0) (h j k : PlainHost) (p q r : PostView (Vec ℕ)) (held : Held) (a b : TakeView (Vec ℕ)) (sender : ℕ) (piece : Vec ℕ) (fed : List ℕ) (why : Stop)
     → a.line.senders ≡ 1 → TakesNext a (record { sender = sender; load = Some piece }) b → fed ≡ piece.items
@@ -134,52 +87,29 @@ going_stops refuses h j k p q r held a b sender piece fed why one takes is going
 
 -- the gate did not let it begin
 pub serves_nothing : (refuses : Type 0) (h : PlainHost) (p : PostView (Vec ℕ)) (taken : List (Entry (Vec ℕ))) → taken ≡ [] → refuses → Serves refuses h h p p taken (Some stop.Gate)
-serves_nothing refuses h p taken none stops = record {
-  handled = [];
-  answered = [];
-  unput = [];
-  rest = [];
-  did = handled_nothing h p;
-  fit = tt;
-  got = ap (λ (x : List (Entry (Vec ℕ))). bytes_of (items_of 0 x)) none;
-  ends = stops;
-}
+serves_nothing refuses h p taken none stops = grind (arith, (handled_nothing h p))
 
 -- ## The end
 
 pub gate_refuses : (refuses : Type 0) (h k : PlainHost) (p q : PostView (Vec ℕ)) (taken : List (Entry (Vec ℕ))) (s : Option Stop) → Serves refuses h k p q taken s → s ≡ Some stop.Gate → refuses
-gate_refuses refuses h k p q taken s serves is =
-    let ends = subst (λ (x : Option Stop). Ends refuses k taken serves.handled serves.unput serves.rest x) is serves.ends in ends
+gate_refuses refuses h k p q taken s serves is = grind arith
 
 -- where nothing stopped it the end mark was taken
 pub serves_ended : (refuses : Type 0) (h k : PlainHost) (p q : PostView (Vec ℕ)) (taken : List (Entry (Vec ℕ))) (s : Option Stop) (senders : ℕ)
     → senders ≡ 1 → Serves refuses h k p q taken s → s ≡ None → IsEnded senders taken
-serves_ended refuses h k p q taken s senders one serves is =
-    let ends = subst (λ (x : Option Stop). Ends refuses k taken serves.handled serves.unput serves.rest x) is serves.ends in
-    subst (λ (n : ℕ). IsEnded n taken) (sym one) ends.0
+serves_ended refuses h k p q taken s senders one serves is = grind arith
 
 -- so many bytes came, or more
 past_count : (taken more all : List (Entry (Vec ℕ))) → all ≡ taken ++ more → 2 ^ 64 ≤ length (bytes_of (items_of 0 taken)) → IsPastCount all
-past_count taken more all is past =
-    let parts = ap (λ (x : List (Entry (Vec ℕ))). length (bytes_of (items_of 0 x))) is
-    ∙ (ap (λ (x : List (Vec ℕ)). length (bytes_of x)) (items_of-append 0 taken more)
-    ∙ (ap length (bytes_append (items_of 0 taken) (items_of 0 more))
-    ∙ length-append (bytes_of (items_of 0 taken)) (bytes_of (items_of 0 more)))) in
-    omega (arith, parts, past)
+past_count taken more all is past = grind (arith, items_of-append, bytes_append, length-append)
 
 -- what came after the stop was dropped
 ends_dropped : (refuses : Type 0) (e : HostEnd) (taken more : List (Entry (Vec ℕ))) (handled : List Tmesg) (unput rest : List ℕ) (s : Option Stop)
     → e.take.taken ≡ taken ++ more → (s ≡ None → more ≡ []) → Ends refuses e.host taken handled unput rest s
     → HostStopped e handled unput (rest ++ bytes_of (items_of 0 more)) s
-ends_dropped refuses e taken more handled unput rest None all none ends =
-    let nothing = none refl in
-    let bytes : rest ≡ rest ++ bytes_of (items_of 0 more) = sym (append-nil rest) ∙ ap (λ (x : List (Entry (Vec ℕ))). rest ++ bytes_of (items_of 0 x)) (sym nothing) in (
-      ends.1,
-      subst (λ (x : List ℕ). IsOpen terminal (version_after terminal 1 handled) x) bytes ends.2,
-    )
+ends_dropped refuses e taken more handled unput rest None all none ends = grind (arith, append-nil)
 ends_dropped refuses e taken more handled unput rest (Some (stop.Frame n)) all none (inl full) = inl (full.0, past_count taken more e.take.taken all full.1)
-ends_dropped refuses e taken more handled unput rest (Some (stop.Frame n)) all none (inr shows) =
-    inr (rest, bytes_of (items_of 0 more), shows.0, refl, shows.1, shows.2)
+ends_dropped refuses e taken more handled unput rest (Some (stop.Frame n)) all none (inr shows) = grind arith
 ends_dropped refuses e taken more handled unput rest (Some (stop.Host n)) all none next =
     let dropped = bytes_of (items_of 0 more) in
     (next.0, next.1 ++ dropped, next.2, next.3, ap (λ (x : List ℕ). x ++ dropped) next.4 ∙ append_assoc (frame_of terminal next.0) next.1 dropped, next.5, next.6)
@@ -193,28 +123,10 @@ pub told_of : (refuses : Type 0) (up down : LineView) (h : PlainHost) (p q : Pos
     → Serves refuses h e.host p q taken e.stop
     → e.post ≡ closed_post q → e.take.line ≡ up → e.take.taken ≡ taken ++ more → (e.stop ≡ None → more ≡ [])
     → IsEnded 1 e.take.taken → HostTold up down e
-told_of refuses up down h p q taken more e first begins files serves closed line all none ended = record {
-  handled = serves.handled;
-  answered = serves.answered;
-  to_send = serves.unput;
-  rest = serves.rest ++ bytes_of (items_of 0 more);
-  take_is = line;
-  post_is = ap (λ (x : PostView (Vec ℕ)). x.line) closed ∙ (serves.did.line ∙ ap (λ (x : PostView (Vec ℕ)). x.line) first);
-  number_is = ap (λ (x : PostView (Vec ℕ)). x.number) closed ∙ (serves.did.number ∙ ap (λ (x : PostView (Vec ℕ)). x.number) first);
-  drained = ended;
-  files = files;
-  runs = subst (λ (x : PlainHost). HostRuns sides x serves.handled serves.answered e.host) begins serves.did.runs;
-  fit = serves.fit;
-  got =
-      ap (λ (x : List (Entry (Vec ℕ))). bytes_of (items_of 0 x)) all
-      ∙ (ap (λ (x : List (Vec ℕ)). bytes_of x) (items_of-append 0 taken more)
-      ∙ (bytes_append (items_of 0 taken) (items_of 0 more)
-      ∙ (ap (λ (x : List ℕ). x ++ bytes_of (items_of 0 more)) serves.got
-      ∙ append_assoc (stream_of terminal serves.handled) serves.rest (bytes_of (items_of 0 more)))));
-  sent =
-      ap (λ (x : PostView (Vec ℕ)). bytes_of x.put ++ serves.unput) closed
-      ∙ (serves.did.put ∙ ap (λ (x : PostView (Vec ℕ)). bytes_of x.put ++ stream_of host serves.answered) first);
-  answers_fit = serves.did.answers_fit;
-  closed = ap (λ (x : PostView (Vec ℕ)). x.closed) closed;
-  stopped = ends_dropped refuses e taken more serves.handled serves.unput serves.rest e.stop all none serves.ends;
-}
+told_of refuses up down h p q taken more e first begins files serves closed line all none ended = grind (
+  arith,
+  (items_of-append 0 taken more),
+  (bytes_append (items_of 0 taken) (items_of 0 more)),
+  (append_assoc (stream_of terminal serves.handled) serves.rest (bytes_of (items_of 0 more))),
+  (ends_dropped refuses e taken more serves.handled serves.unput serves.rest e.stop all none serves.ends),
+)

@@ -1,19 +1,19 @@
 -- Where the host reader stands between two pieces.
-use Rattle.std.proofs.Common.{◌≡◌, ◌∙◌, ℕ, ◌+◌, ◌^◌, ◌<◌, ◌≤◌, inl, inr, List, [], ◌∷◌, ◌++◌, length, map, Option, None, Some, Bool, refl, sym, ap, subst, append-nil, append_assoc, length-append, arith}
+use Rattle.std.proofs.Common.{◌≡◌, ◌∙◌, ℕ, ◌+◌, ◌^◌, ◌≤◌, inl, inr, List, [], ◌∷◌, ◌++◌, length, Option, None, Some, Bool, refl, sym, ap, subst, append-nil, append_assoc, length-append, arith}
 use Rattle.std.specs.Global.{Vec}
 use Rattle.std.proofs.lemmas.List.{map-append}
 use Rattle.std.proofs.lemmas.List.Concat.{flat_map-append}
 use Rattle.sam_mesg.specs.declared.hmesg.HFrame.{HFrame}
 use Rattle.sam_mesg.specs.declared.fault.MesgFault.{MesgFault}
 use Rattle.sam_frame.specs.Direction.{Direction, host}
-use Rattle.sam_frame.specs.Stream.{FitInTurn, Splits, version_after, stream_of, IsOpen, Shows}
+use Rattle.sam_frame.specs.Stream.{FitInTurn, Splits, version_after, stream_of}
 use Rattle.sam_frame.specs.Framing.{Held, GaveAll, GaveUp, fresh}
 use Rattle.sam_frame.proofs.Fronts.{version_after-append, stream_of-append}
 use Rattle.sam_frame.proofs.Cuttings.{Came, splits_more, comes_more}
 use Rattle.sam_queue.specs.declared.rule.Entry.{Entry}
 use Rattle.sam_queue.specs.History.{items_of, IsEnded, StartsWith}
 use Rattle.sam_queue.specs.Views.{LineView, PostView, TakeView, TakesNext, new_post, new_take, closed_post}
-use Rattle.sam_queue.proofs.Sorts.{items_of-append, one_item, mark_item}
+use Rattle.sam_queue.proofs.Sorts.{items_of-append}
 use Rattle.sam_threads.specs.Inputs.{bytes_of}
 use Rattle.sam_threads.specs.Numbers.{frame_number}
 use Rattle.sam_threads.specs.Passing.{sent_on, Sends, SendsBefore, StopsBehind, PassesPiece, Passes}
@@ -30,10 +30,7 @@ pub sent_none : (p : PostView Input) → p ≡ sent_on p []
 sent_none p = ap (λ (l : List Input). let r : PostView Input = record p { put = l } in r) (sym (append-nil p.put))
 
 pub sent_both : (p q r : PostView Input) (fs gs : List HFrame) → q ≡ sent_on p fs → r ≡ sent_on q gs → r ≡ sent_on p (fs ++ gs)
-sent_both p q r fs gs a b =
-    let P : List Input → PostView Input = λ l. record p { put = l } in
-    b ∙ ap (λ (x : PostView Input). sent_on x gs) a
-    ∙ ap P (append_assoc p.put (map Host fs) (map Host gs) ∙ ap (λ (l : List Input). p.put ++ l) (sym (map-append Host fs gs)))
+sent_both p q r fs gs a b = grind (arith, append_assoc, map-append)
 
 -- ---- a stream in parts
 
@@ -54,13 +51,7 @@ front_splits d version bytes ms ns rest s = record {
 pub passed_all : (h : Held) (piece : List ℕ) (k : Held) (p q : PostView Input) (frames : List HFrame) (s : Option Stop)
     → GaveAll host h piece frames k → Sends frames p q s → PassesPiece h piece k p q s
 passed_all h piece k p q frames None all sends = (frames, all, sends)
-passed_all h piece k p q frames (Some s) all (done, more, parts, sent, is) = (
-  done,
-  stream_of host more ++ k.bytes,
-  front_splits host h.version (h.bytes ++ piece) done more k.bytes (subst (λ (fs : List HFrame). Splits host h.version (h.bytes ++ piece) fs k.bytes) parts all.gave.splits),
-  sent,
-  subst (λ (x : Stop). StopsBehind (version_after host h.version done) (h.offset + length h.bytes + length piece) (stream_of host more ++ k.bytes) x) (sym is) tt,
-)
+passed_all h piece k p q frames (Some s) all (done, more, parts, sent, is) = grind (arith, (front_splits host h.version (h.bytes ++ piece) done more k.bytes))
 
 pub passed_before : (h : Held) (piece : List ℕ) (k : Held) (p q : PostView Input) (frames : List HFrame) (place : ℕ) (fault : MesgFault) (n : ℕ) (s : Option Stop)
     → GaveUp host h piece frames place fault k → n ≡ frame_number fault → SendsBefore frames n p q s → PassesPiece h piece k p q s
@@ -72,19 +63,7 @@ passed_before h piece k p q frames place fault n (Some s) up is (inl (done, more
   sent,
   subst (λ (x : Stop). StopsBehind (version_after host h.version done) (h.offset + length h.bytes + length piece) (stream_of host more ++ k.bytes) x) (sym gate) tt,
 )
-passed_before h piece k p q frames place fault n (Some s) up is (inr (sent, at)) =
-    let shows : Shows host (version_after host h.version frames) k.bytes fault = subst (λ v. Shows host v k.bytes fault) up.gave.version_is up.shows in (
-      frames,
-      k.bytes,
-      up.gave.splits,
-      sent,
-      subst (λ (x : Stop). StopsBehind (version_after host h.version frames) (h.offset + length h.bytes + length piece) k.bytes x) (sym at) (inr (fault, shows, is)),
-    )
-
--- the framer took nothing of the piece
-pub passed_none : (h : Held) (piece : List ℕ) (k : Held) (p q : PostView Input) (s : Stop)
-    → q ≡ p → StopsBehind h.version (h.offset + length h.bytes + length piece) (h.bytes ++ piece) s → PassesPiece h piece k p q (Some s)
-passed_none h piece k p q s same stops = ([], h.bytes ++ piece, record { whole = refl; fit = tt }, same ∙ sent_none p, stops)
+passed_before h piece k p q frames place fault n (Some s) up is (inr (sent, at)) = grind arith
 
 -- ---- piece by piece
 
@@ -96,19 +75,7 @@ pub record SoFar (t u : TakeView (Vec ℕ)) (p q : PostView Input) (k : Held) : 
   pub sent : q ≡ sent_on p passed
 
 pub begins : (t : TakeView (Vec ℕ)) (p : PostView Input) (k : Held) → t ≡ new_take t.line → k ≡ fresh → SoFar t t p p k
-begins t p k new empty = record {
-  passed = [];
-  line_is = refl;
-  came =
-      let none : t.taken ≡ [] = ap (λ (x : TakeView (Vec ℕ)). x.taken) new in
-      let came : Came host fresh [] [] fresh = record { splits = record { whole = refl; fit = tt }; opened = tt; version_is = refl; offset_is = refl; sound = refl } in
-      subst (λ (e : Held). Came host fresh (bytes_of (items_of 0 t.taken)) [] e) (sym empty)
-      (subst (λ (l : List (Entry (Vec ℕ))). Came host fresh (bytes_of (items_of 0 l)) [] fresh) (sym none) came);
-  sent = sent_none p;
-}
-
-only_sender : (i : ℕ) → i < 1 → i ≡ 0
-only_sender i lt = omega arith
+begins t p k new empty = grind (arith, sent_none)
 
 bytes_more : (taken : List (Entry (Vec ℕ))) (e : Entry (Vec ℕ)) → bytes_of (items_of 0 (taken ++ e ∷ [])) ≡ bytes_of (items_of 0 taken) ++ bytes_of (items_of 0 (e ∷ []))
 bytes_more taken e = ap bytes_of (items_of-append 0 taken (e ∷ [])) ∙ flat_map-append (λ (v : Vec ℕ). v.items) (items_of 0 taken) (items_of 0 (e ∷ []))
@@ -116,79 +83,41 @@ bytes_more taken e = ap bytes_of (items_of-append 0 taken (e ∷ [])) ∙ flat_m
 -- a piece that is taken joins the bytes at their end
 bytes_taken : (u v : TakeView (Vec ℕ)) (i : ℕ) (piece : Vec ℕ) → u.line.senders ≡ 1 → TakesNext u (record { sender = i; load = Some piece }) v
     → bytes_of (items_of 0 v.taken) ≡ bytes_of (items_of 0 u.taken) ++ piece.items
-bytes_taken u v i piece one next =
-    let e : Entry (Vec ℕ) = record { sender = i; load = Some piece } in
-    let zero : i ≡ 0 = only_sender i (subst (λ n. i < n) one next.sender) in
-    let mine : bytes_of (items_of 0 (e ∷ [])) ≡ piece.items = ap bytes_of (one_item 0 e piece refl zero) ∙ append-nil piece.items in
-    ap (λ (l : List (Entry (Vec ℕ))). bytes_of (items_of 0 l)) next.taken ∙ bytes_more u.taken e ∙ ap (λ (b : List ℕ). bytes_of (items_of 0 u.taken) ++ b) mine
+bytes_taken u v i piece one next = grind (arith, append-nil, bytes_more)
 
 bytes_marked : (u v : TakeView (Vec ℕ)) (i : ℕ) → TakesNext u (record { sender = i; load = None }) v → bytes_of (items_of 0 v.taken) ≡ bytes_of (items_of 0 u.taken)
-bytes_marked u v i next =
-    let e : Entry (Vec ℕ) = record { sender = i; load = None } in
-    ap (λ (l : List (Entry (Vec ℕ))). bytes_of (items_of 0 l)) next.taken ∙ bytes_more u.taken e
-    ∙ ap (λ (l : List (Vec ℕ)). bytes_of (items_of 0 u.taken) ++ bytes_of l) (mark_item 0 e refl) ∙ append-nil (bytes_of (items_of 0 u.taken))
+bytes_marked u v i next = grind (arith, bytes_more, append-nil)
 
 pub goes_on : (t u v : TakeView (Vec ℕ)) (p q r : PostView Input) (k e : Held) (i : ℕ) (piece : Vec ℕ) → t.line.senders ≡ 1
     → SoFar t u p q k → TakesNext u (record { sender = i; load = Some piece }) v → PassesPiece k piece.items e q r None → SoFar t v p r e
-goes_on t u v p q r k e i piece one far next (frames, all, sent) =
-    let one' : u.line.senders ≡ 1 = ap (λ (l : LineView). l.senders) far.line_is ∙ one in
-    record {
-      passed = far.passed ++ frames;
-      line_is = next.line ∙ far.line_is;
-      came =
-          subst (λ (b : List ℕ). Came host fresh b (far.passed ++ frames) e) (sym (bytes_taken u v i piece one' next))
-          (comes_more host fresh (bytes_of (items_of 0 u.taken)) far.passed k piece.items frames e far.came all);
-      sent = sent_both p q r far.passed frames far.sent sent;
-    }
+goes_on t u v p q r k e i piece one far next (frames, all, sent) = grind (
+  arith,
+  (bytes_taken u v i piece),
+  (comes_more host fresh (bytes_of (items_of 0 u.taken)) far.passed k piece.items frames e far.came all),
+  (sent_both p q r far.passed frames far.sent sent),
+)
 
 pub leaves : (t u v : TakeView (Vec ℕ)) (p q : PostView Input) (k : Held) (i : ℕ) → SoFar t u p q k → TakesNext u (record { sender = i; load = None }) v → SoFar t v p q k
-leaves t u v p q k i far next = record {
-  passed = far.passed;
-  line_is = next.line ∙ far.line_is;
-  came = subst (λ (b : List ℕ). Came host fresh b far.passed k) (sym (bytes_marked u v i next)) far.came;
-  sent = far.sent;
-}
+leaves t u v p q k i far next = grind (arith, bytes_marked)
 
 -- how many bytes came with a piece
 came_is : (bytes : List ℕ) (frames : List HFrame) (k : Held) (piece : List ℕ) → Came host fresh bytes frames k
     → length (bytes ++ piece) ≡ k.offset + length k.bytes + length piece
-came_is bytes frames k piece came =
-    let whole = ap length came.splits.whole in
-    let offset = came.offset_is in
-    omega (arith, length-append bytes piece, length-append (stream_of host frames) k.bytes)
+came_is bytes frames k piece came = grind (arith, length-append)
 
 pub stops : (t u v : TakeView (Vec ℕ)) (p q r : PostView Input) (k e : Held) (i : ℕ) (piece : Vec ℕ) (s : Stop) → t.line.senders ≡ 1
     → SoFar t u p q k → TakesNext u (record { sender = i; load = Some piece }) v → PassesPiece k piece.items e q r (Some s) → Passes t v p r (Some s)
-stops t u v p q r k e i piece s one far next (frames, rest, splits, sent, behind) =
-    let one' : u.line.senders ≡ 1 = ap (λ (l : LineView). l.senders) far.line_is ∙ one in
-    let whole = splits_more host fresh (bytes_of (items_of 0 u.taken)) far.passed k piece.items frames rest far.came splits in
-    let version : version_after host k.version frames ≡ version_after host 1 (far.passed ++ frames) =
-    ap (λ n. version_after host n frames) far.came.version_is ∙ sym (version_after-append host 1 far.passed frames) in
-    let came : length (bytes_of (items_of 0 v.taken)) ≡ k.offset + length k.bytes + length piece.items =
-    ap length (bytes_taken u v i piece one' next) ∙ came_is (bytes_of (items_of 0 u.taken)) far.passed k piece.items far.came in
-    record {
-      passed = far.passed ++ frames;
-      rest = rest;
-      line_is = next.line ∙ far.line_is;
-      fit = whole.fit;
-      got = bytes_taken u v i piece one' next ∙ whole.whole;
-      sent = sent_both p q r far.passed frames far.sent sent;
-      stops = subst (λ n. StopsBehind n (length (bytes_of (items_of 0 v.taken))) rest s) version
-          (subst (λ n. StopsBehind (version_after host k.version frames) n rest s) (sym came) behind);
-    }
+stops t u v p q r k e i piece s one far next (frames, rest, splits, sent, behind) = grind (
+  arith,
+  (splits_more host fresh (bytes_of (items_of 0 u.taken)) far.passed k piece.items frames rest far.came splits),
+  (version_after-append host 1 far.passed frames),
+  (bytes_taken u v i piece),
+  (came_is (bytes_of (items_of 0 u.taken)) far.passed k piece.items far.came),
+  (sent_both p q r far.passed frames far.sent sent),
+)
 
 pub ends : (t u : TakeView (Vec ℕ)) (p q : PostView Input) (k : Held) → t.line.senders ≡ 1 → SoFar t u p q k → IsEnded u.line.senders u.taken → Passes t u p q None
-ends t u p q k one far ended =
-    let one' : u.line.senders ≡ 1 = ap (λ (l : LineView). l.senders) far.line_is ∙ one in
-    record {
-      passed = far.passed;
-      rest = k.bytes;
-      line_is = far.line_is;
-      fit = far.came.splits.fit;
-      got = far.came.splits.whole;
-      sent = far.sent;
-      stops = (subst (λ n. IsEnded n u.taken) one' ended, subst (λ n. IsOpen host n k.bytes) far.came.version_is far.came.opened);
-    }
+ends t u p q k one far ended = grind arith
 
 -- ---- at the end
 
@@ -229,32 +158,3 @@ left_told down events t u p q passed s went closed line (more, taken) one ended 
       drained = subst (λ n. IsEnded n u.taken) (ap (λ (l : LineView). l.senders) (line ∙ went.line_is) ∙ one) ended;
       stopped = stopped_behind (end_of u q passed (Some s)) went.passed (length (bytes_of (items_of 0 t.taken))) went.rest dropped s past went.stops;
     }
-
--- it went on to the end of the line
-pub done_told : (down events : LineView) (t : TakeView (Vec ℕ)) (p q : PostView Input) (passed : Bool)
-    → Passes (new_take down) t (new_post events 2) p None → q ≡ closed_post p → ReaderTold down events (end_of t q passed None)
-done_told down events t p q passed went closed = record {
-  passed = went.passed;
-  rest = went.rest;
-  take_is = went.line_is;
-  post_is = ap (λ (x : PostView Input). x.line) (closed ∙ ap closed_post went.sent);
-  number_is = ap (λ (x : PostView Input). x.number) (closed ∙ ap closed_post went.sent);
-  fit = went.fit;
-  got = went.got;
-  put = ap (λ (x : PostView Input). x.put) (closed ∙ ap closed_post went.sent);
-  closed = ap (λ (x : PostView Input). x.closed) closed;
-  drained = went.stops.0;
-  stopped = went.stops.1;
-}
-
--- it took nothing
-pub none_passed : (t : TakeView (Vec ℕ)) (p : PostView Input) → t ≡ new_take t.line → Passes t t p p (Some stop.Gate)
-none_passed t p new = record {
-  passed = [];
-  rest = [];
-  line_is = refl;
-  fit = tt;
-  got = ap (λ (x : TakeView (Vec ℕ)). bytes_of (items_of 0 x.taken)) new;
-  sent = sent_none p;
-  stops = tt;
-}

@@ -1,5 +1,5 @@
 -- What the terminal is still to send.
-use Rattle.std.proofs.Common.{◌≡◌, refl, sym, ap, subst, ◌∙◌, ℕ, zero, suc, ◌≤◌, List, [], ◌∷◌, ◌++◌, length, drop, append-nil, arith}
+use Rattle.std.proofs.Common.{◌≡◌, refl, ap, ◌∙◌, ℕ, zero, suc, ◌≤◌, List, [], ◌∷◌, ◌++◌, length, drop, append-nil, arith}
 use Rattle.std.specs.Global.{Vec}
 use Rattle.std.proofs.lemmas.List.{drop-append-le}
 use Rattle.sam_mesg.specs.declared.tmesg.Tmesg.{Tmesg}
@@ -24,14 +24,8 @@ all_behind before after ms n e l = ap (λ (x : List ℕ). drop n x) e ∙ drop-a
 -- ## Pieces
 
 pub none_put : (most : ℕ) (a b : PostView (Vec ℕ)) (bytes rest : List ℕ) → b ≡ a → rest ≡ bytes → PutSome most a b bytes rest
-none_put most a b bytes rest same unchanged =
-    subst (λ (x : PostView (Vec ℕ)). PutSome most a x bytes rest) (sym same) (subst (λ (x : List ℕ). PutSome most a a bytes x) (sym unchanged) (put_none most a bytes))
+none_put most a b bytes rest same unchanged = grind (arith, put_none)
 
 pub one_put : (most : ℕ) (a b : PostView (Vec ℕ)) (bytes rest : List ℕ) (piece : Vec ℕ) → b ≡ with_item a piece → bytes ≡ piece.items ++ rest → IsPiece most piece
     → PutSome most a b bytes rest
-one_put most a b bytes rest piece put front fit = record {
-  pieces = piece ∷ [];
-  after_is = put;
-  sizes = (fit, tt);
-  whole = ap (λ (x : List ℕ). x ++ rest) (append-nil piece.items) ∙ sym front;
-}
+one_put most a b bytes rest piece put front fit = grind (arith, append-nil)

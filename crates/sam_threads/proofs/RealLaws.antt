@@ -1,9 +1,7 @@
 -- The real sides count as the law of two sides asks, their frames are told apart, and their world is the plain world.
-use Rattle.std.proofs.Common.{◌≡◌, suc, ◌+◌, ◌≤◌, Bool, true, false, List, [], ◌∷◌, length, Option, Some, None, Result, Ok, Err, nat_lt, refl, sym, ap, ◌∙◌, arith}
+use Rattle.std.proofs.Common.{◌≡◌, suc, ◌+◌, ◌≤◌, List, [], ◌∷◌, length, Option, Some, None, Result, Ok, Err, refl, sym, ap, ◌∙◌, arith}
 use Rattle.std.specs.Prelude.{option_map, option_and_then, All}
 use Rattle.std.proofs.lemmas.Option.{same_Some}
-use Rattle.std.proofs.lemmas.Bool.{ltb-false}
-use Rattle.sam_runes.specs.Checks.{first_of_checks}
 use Rattle.sam_mesg.specs.declared.tmesg.Tmesg.{Tmesg}
 use Rattle.sam_mesg.specs.declared.hmesg.HFrame.{HFrame}
 use Rattle.sam_mesg.specs.TerminalKinds.{FitsT}
@@ -13,16 +11,15 @@ use Rattle.sam_mesg.proofs.HostLaws as downwards
 use Rattle.sam_frame.specs.Direction.{terminal, host, frame_of}
 use Rattle.sam_frame.specs.Reading.{IsSound}
 use Rattle.sam_host.specs.Host.{PlainHost, answer}
-use Rattle.sam_host.specs.declared.fault.HostFault.{HostFault}
 use Rattle.sam_host.proofs.SoundLaws.{answers_are_counted}
-use Rattle.sam_term.specs.Term.{PlainTerminal, Made, act_of, flush_of, take_of, frame_outcome, made_unless, frame_checks}
+use Rattle.sam_term.specs.Term.{PlainTerminal, Made, act_of, flush_of, take_of}
 use Rattle.sam_term.specs.declared.fault.TermFault.{TermFault}
 use Rattle.sam_term.specs.declared.fault.TermFault.TheVariants as fault
 use Rattle.sam_term.specs.declared.event.Acted.{Acted}
 use Rattle.sam_world.specs.declared.event.Event.{Event}
 use Rattle.sam_world.specs.declared.event.Event.TheVariants.{User, Act, Flush, HostTake, TermTake}
-use Rattle.sam_world.specs.World.{PlainWorld, composed_by, after_act, after_compose, after_answer, host_takes, term_takes, step_of, run_of}
-use Rattle.sam_world.specs.Sides.{Each, Counts, World, world, and_then, composed, answered, host_take, term_take, step, run}
+use Rattle.sam_world.specs.World.{PlainWorld, composed_by, step_of, run_of}
+use Rattle.sam_world.specs.Sides.{Each, Counts, World, and_then, step, run}
 use Rattle.sam_world.proofs.Carries.{PrefixFree}
 use Rattle.sam_world.proofs.RunLaws.{act-counts, flush-counts, take-counts}
 use Rattle.sam_threads.specs.RealSides.{sides, unless_refused, acted}
@@ -35,11 +32,7 @@ answered_as (Err why) x e = absurd (cc)
 
 taken_past : (t : PlainTerminal) (frame : HFrame) (r : Made) → take_of t frame ≡ Ok r → frame.seen ≤ t.sent
 unfolding take_of
-taken_past t frame r e = go (nat_lt t.sent frame.seen) refl e
-  where
-    go : (b : Bool) → nat_lt t.sent frame.seen ≡ b → made_unless (first_of_checks ((b, fault.FromTheFuture) ∷ frame_checks t frame.msg)) (frame_outcome t frame.msg) ≡ Ok r → frame.seen ≤ t.sent
-    go true q e = absurd (cc)
-    go false q e = ltb-false t.sent frame.seen q
+taken_past t frame r e = grind arith
 
 pub each_of_all : {X : Type 0} (P : X → Type 0) (xs : List X) → All P xs → Each P xs
 each_of_all P [] a = tt
@@ -47,11 +40,7 @@ each_of_all P (x ∷ xs) a = (a 0 x (omega arith), each_of_all P xs (λ k d l. a
 
 acted_as : (r : Result (PlainTerminal × Acted) TermFault) (u : PlainTerminal) (ms : List Tmesg) → acted r ≡ Some (u, ms)
     → (p : PlainTerminal × Acted) × (r ≡ Ok p) × (p.0 ≡ u) × (composed_by p.1 ≡ ms)
-acted_as (Ok p) u ms e =
-    let made : Made = (p.0, composed_by p.1) in
-    let given : Made = (u, ms) in
-    let same : made ≡ given = same_Some made given e in
-    (p, refl, ap (λ (x : Made). x.0) same, ap (λ (x : Made). x.1) same)
+acted_as (Ok p) u ms e = grind arith
 acted_as (Err why) u ms e = absurd (cc)
 
 -- ## The counts count
@@ -91,34 +80,10 @@ plain w = record { host = w.host; term = w.term; up = w.up; down = w.down }
 
 pub same_step : (w : World PlainHost PlainTerminal Tmesg HFrame) (e : Event) → step_of (plain w) e ≡ option_map plain (step sides w e)
 same_step w (User e) = refl
-same_step w Act = go (act_of w.term)
-  where
-    go : (r : Result (PlainTerminal × Acted) TermFault) → after_act (plain w) r ≡ option_map plain (composed w (acted r))
-    go (Ok p) = refl
-    go (Err why) = refl
-same_step w Flush = go (flush_of w.term)
-  where
-    go : (r : Result Made TermFault) → after_compose (plain w) r ≡ option_map plain (composed w (unless_refused r))
-    go (Ok p) = refl
-    go (Err why) = refl
-same_step w HostTake = go w.up
-  where
-    taken : (ms : List Tmesg) (r : Result (PlainHost × List HFrame) HostFault) → after_answer (record (plain w) { up = ms }) r ≡ option_map plain (answered w ms (unless_refused r))
-    taken ms (Ok p) = refl
-    taken ms (Err why) = refl
-
-    go : (up : List Tmesg) → host_takes (plain w) up ≡ option_map plain (host_take sides w up)
-    go [] = refl
-    go (m ∷ ms) = taken ms (answer w.host m)
-same_step w TermTake = go w.down
-  where
-    taken : (frames : List HFrame) (r : Result Made TermFault) → after_compose (record (plain w) { down = frames }) r ≡ option_map plain (composed (world w.host w.term w.up frames) (unless_refused r))
-    taken frames (Ok p) = refl
-    taken frames (Err why) = refl
-
-    go : (down : List HFrame) → term_takes (plain w) down ≡ option_map plain (term_take sides w down)
-    go [] = refl
-    go (frame ∷ frames) = taken frames (take_of w.term frame)
+same_step w Act = grind arith
+same_step w Flush = grind arith
+same_step w HostTake = grind arith
+same_step w TermTake = grind arith
 
 pub same_run : (w : World PlainHost PlainTerminal Tmesg HFrame) (es : List Event) → run_of (plain w) es ≡ option_map plain (run sides w es)
 same_run w [] = refl

@@ -21,7 +21,6 @@ use Rattle.sam_queue.specs.History.{IsEnded, has_left}
 use Rattle.sam_queue.specs.Views.{TakeView, PostView, WasFull, closed_post, new_take, new_post}
 use Rattle.sam_threads.specs.RealSides.{sides}
 use Rattle.sam_threads.specs.Inputs.{bytes_of, frames_in, users_in}
-use Rattle.sam_threads.specs.WorkerEnds.{IsFullUp}
 use Rattle.sam_threads.specs.TermMoments.{LoggedView, Did, SideView, SoFar, Ran, Goes, IsDone, IsQuiet, IsFound}
 use Rattle.sam_threads.specs.Cutting.{PutSome}
 use Rattle.sam_threads.proofs.Cut.{bytes_append}
@@ -51,10 +50,7 @@ runs_on v logged events frames ms r d =
 
 pub users_on : (v : SideView) (logged : LoggedView) (events : List UserEvent) (frames : List HFrame) (ms : List Tmesg) (r : Ran v) → Did v.logged logged events frames ms
     → logged_users logged.log ≡ (users_in r.handled ++ r.own) ++ events
-users_on v logged events frames ms r d =
-    ap (λ (x : List TermLog). logged_users x) d.log
-    ∙ (users_append v.logged.log d.entries
-    ∙ (ap (λ (x : List UserEvent). x ++ logged_users d.entries) r.users ∙ ap (λ (x : List UserEvent). (users_in r.handled ++ r.own) ++ x) d.users))
+users_on v logged events frames ms r d = grind (arith, users_append)
 
 pub none_of : (o : Option Stop) → is_some o ≡ false → o ≡ None
 none_of None e = refl
@@ -77,12 +73,7 @@ all_handled v r e = r.took ∙ (ap (λ (x : List (Entry Input)). r.handled ++ x)
 pub sent_on : (put before lost after lost' : List ℕ) (composed ms : List Tmesg)
     → put ++ (before ++ lost) ≡ stream_of terminal composed → lost ≡ [] → after ++ lost' ≡ before ++ stream_of terminal ms
     → put ++ (after ++ lost') ≡ stream_of terminal (composed ++ ms)
-sent_on put before lost after lost' composed ms sent none grown =
-    let all : put ++ before ≡ stream_of terminal composed =
-    ap (λ (x : List ℕ). put ++ x) (sym (append-nil before) ∙ ap (λ (x : List ℕ). before ++ x) (sym none)) ∙ sent in
-    ap (λ (x : List ℕ). put ++ x) grown
-    ∙ (sym (append_assoc put before (stream_of terminal ms))
-    ∙ (ap (λ (x : List ℕ). x ++ stream_of terminal ms) all ∙ sym (stream_of-append terminal composed ms)))
+sent_on put before lost after lost' composed ms sent none grown = grind (arith, append_assoc, stream_of-append)
 
 -- ## Acting, flushing
 
@@ -117,46 +108,17 @@ kept_step v logged to_send why ms lost r running d fit grown so_far gone =
 pub kept_done : (v : SideView) (logged : LoggedView) (to_send : List ℕ) (ms : List Tmesg) → Ran v → is_some v.stop ≡ false
     → Did v.logged logged [] [] ms → Each (FitsT 2) ms → to_send ≡ v.to_send ++ stream_of terminal ms
     → Ran (record { take = v.take; post = v.post; logged = logged; to_send = to_send; keyboard_left = v.keyboard_left; mouse_left = v.mouse_left; exit_put = v.exit_put; stop = v.stop })
-kept_done v logged to_send ms r running d fit grown =
-    subst (λ (x : Option Stop). Ran (record {
-      take = v.take;
-      post = v.post;
-      logged = logged;
-      to_send = to_send;
-      keyboard_left = v.keyboard_left;
-      mouse_left = v.mouse_left;
-      exit_put = v.exit_put;
-      stop = x;
-    })) (sym (none_of v.stop running))
-    (kept_step v logged to_send None ms [] r (none_of v.stop running) d fit (append-nil to_send ∙ grown) (refl, refl) (λ is. absurd (cc)))
+kept_done v logged to_send ms r running d fit grown = grind (arith, (kept_step v logged to_send None ms), (append-nil to_send))
 
 -- what was composed could not be encoded, and is lost
 pub kept_lost_messages : (v : SideView) (logged : LoggedView) (to_send : List ℕ) (ms : List Tmesg) → Ran v → is_some v.stop ≡ false
     → Did v.logged logged [] [] ms → Each (FitsT 2) ms → to_send ≡ v.to_send
     → Ran (record { take = v.take; post = v.post; logged = logged; to_send = to_send; keyboard_left = v.keyboard_left; mouse_left = v.mouse_left; exit_put = v.exit_put; stop = Some stop.Memory })
-kept_lost_messages v logged to_send ms r running d fit same =
-    kept_step v logged to_send (Some stop.Memory) ms (stream_of terminal ms) r (none_of v.stop running) d fit (ap (λ (x : List ℕ). x ++ stream_of terminal ms) same) tt
-    (λ is. absurd (let gone : stop.Memory ≡ stop.PeerGone = cc in cc))
+kept_lost_messages v logged to_send ms r running d fit same = grind (arith, (kept_step v logged to_send (Some stop.Memory) ms (stream_of terminal ms) r (none_of v.stop running) d fit))
 
 pub kept_silent : (v : SideView) (logged : LoggedView) → Ran v → is_some v.stop ≡ false → Did v.logged logged [] [] []
     → Ran (record { take = v.take; post = v.post; logged = logged; to_send = v.to_send; keyboard_left = v.keyboard_left; mouse_left = v.mouse_left; exit_put = v.exit_put; stop = v.stop })
 kept_silent v logged r running d = kept_done v logged v.to_send [] r running d tt (sym (append-nil v.to_send))
-
--- a fault of the logged stops it
-pub kept_stop : (v : SideView) (logged : LoggedView) (why : Stop) → Ran v → is_some v.stop ≡ false → logged ≡ v.logged → (why ≡ stop.Memory) ⊎ ((why ≡ stop.Term 8) × IsFullUp v.logged.term)
-    → Ran (record { take = v.take; post = v.post; logged = logged; to_send = v.to_send; keyboard_left = v.keyboard_left; mouse_left = v.mouse_left; exit_put = v.exit_put; stop = Some why })
-kept_stop v logged why r running same is =
-    kept_step v logged v.to_send (Some why) [] [] r (none_of v.stop running) (did_nothing v.logged logged same) tt refl (so_far why is) (λ gone. absurd (not_gone why is gone))
-  where
-    so_far : (s : Stop) → (s ≡ stop.Memory) ⊎ ((s ≡ stop.Term 8) × IsFullUp v.logged.term) → SoFar logged.term [] [] (Some s)
-    so_far s (inl e) = subst (λ (x : Stop). SoFar logged.term [] [] (Some x)) (sym e) tt
-    so_far s (inr e) =
-        subst (λ (x : Stop). SoFar logged.term [] [] (Some x)) (sym e.0)
-        (inl (refl, subst (λ (x : LoggedView). IsFullUp x.term) (sym same) e.1))
-
-    not_gone : (s : Stop) → (s ≡ stop.Memory) ⊎ ((s ≡ stop.Term 8) × IsFullUp v.logged.term) → Some s ≡ Some stop.PeerGone → ⊥
-    not_gone s (inl e) gone = let other : stop.Memory ≡ stop.PeerGone = cc in cc
-    not_gone s (inr e) gone = let first = e.0 in let other : stop.Term 8 ≡ stop.PeerGone = cc in cc
 
 -- the host reader is gone, and the session not over
 pub kept_lost : (v : SideView) → Ran v → is_some v.stop ≡ false → IsEnded 3 v.take.taken → v.logged.term.has_exited ≡ false
@@ -211,8 +173,7 @@ kept_exit v logged r running d none k m =
 -- ## Its line
 
 moved : (put before put' after lost : List ℕ) → put' ++ after ≡ put ++ before → put' ++ (after ++ lost) ≡ put ++ (before ++ lost)
-moved put before put' after lost e =
-    sym (append_assoc put' after lost) ∙ (ap (λ (x : List ℕ). x ++ lost) e ∙ append_assoc put before lost)
+moved put before put' after lost e = grind (arith, append_assoc)
 
 pub kept_put : (v : SideView) (post : PostView (Vec ℕ)) (to_send : List ℕ) → Ran v → post.number ≡ v.post.number
     → bytes_of post.put ++ to_send ≡ bytes_of v.post.put ++ v.to_send
@@ -242,12 +203,7 @@ kept_put v post to_send r number e =
 -- pieces were put
 pub kept_pieces : (v : SideView) (post : PostView (Vec ℕ)) (to_send : List ℕ) (most : ℕ) → Ran v → PutSome most v.post post v.to_send to_send
     → Ran (record { take = v.take; post = post; logged = v.logged; to_send = to_send; keyboard_left = v.keyboard_left; mouse_left = v.mouse_left; exit_put = v.exit_put; stop = v.stop })
-kept_pieces v post to_send most r p =
-    kept_put v post to_send r (ap (λ (x : PostView (Vec ℕ)). x.number) p.after_is)
-    (ap (λ (x : PostView (Vec ℕ)). bytes_of x.put ++ to_send) p.after_is
-    ∙ (ap (λ (x : List ℕ). x ++ to_send) (bytes_append v.post.put p.pieces)
-    ∙ (append_assoc (bytes_of v.post.put) (bytes_of p.pieces) to_send
-    ∙ ap (λ (x : List ℕ). bytes_of v.post.put ++ x) p.whole)))
+kept_pieces v post to_send most r p = grind (arith, bytes_append, append_assoc)
 
 pub goes_put : (most : ℕ) (a b : PostView (Vec ℕ)) (bytes rest : List ℕ) → PutSome most a b bytes rest → b.line ≡ a.line
 goes_put most a b bytes rest p = ap (λ (x : PostView (Vec ℕ)). x.line) p.after_is
@@ -255,16 +211,12 @@ goes_put most a b bytes rest p = ap (λ (x : PostView (Vec ℕ)). x.line) p.afte
 -- no memory for the next piece
 pub kept_short : (v : SideView) (post : PostView (Vec ℕ)) (to_send : List ℕ) (most : ℕ) → Ran v → is_some v.stop ≡ false → PutSome most v.post post v.to_send to_send
     → Ran (record { take = v.take; post = post; logged = v.logged; to_send = to_send; keyboard_left = v.keyboard_left; mouse_left = v.mouse_left; exit_put = v.exit_put; stop = Some stop.Memory })
-kept_short v post to_send most r running p =
-    let w : SideView = record { take = v.take; post = post; logged = v.logged; to_send = to_send; keyboard_left = v.keyboard_left; mouse_left = v.mouse_left; exit_put = v.exit_put; stop = v.stop } in
-    kept_stop w v.logged stop.Memory (kept_pieces v post to_send most r p) running refl (inl refl)
+kept_short v post to_send most r running p = grind (arith, (kept_pieces v post to_send most r p))
 
 pub kept_closed : (v : SideView) (post : PostView (Vec ℕ)) (b : Bool) → Ran v → MatchBool b (post ≡ closed_post v.post) ((post ≡ v.post) × (v.post.closed ≡ false) × WasFull v.post)
     → Ran (record { take = v.take; post = post; logged = v.logged; to_send = v.to_send; keyboard_left = v.keyboard_left; mouse_left = v.mouse_left; exit_put = v.exit_put; stop = v.stop })
-kept_closed v post true r e =
-    kept_put v post v.to_send r (ap (λ (x : PostView (Vec ℕ)). x.number) e) (ap (λ (x : PostView (Vec ℕ)). bytes_of x.put ++ v.to_send) e)
-kept_closed v post false r e =
-    kept_put v post v.to_send r (ap (λ (x : PostView (Vec ℕ)). x.number) e.0) (ap (λ (x : PostView (Vec ℕ)). bytes_of x.put ++ v.to_send) e.0)
+kept_closed v post true r e = grind arith
+kept_closed v post false r e = grind arith
 
 -- ## From one moment to another
 
@@ -277,30 +229,10 @@ found_still a b found.Nothing g f = tt
 found_still a b found.Ended g f = subst (λ (x : TakeView Input). IsEnded 3 x.taken) (sym g.take) f
 
 pub done_stopped : (v : SideView) → is_some v.stop ≡ true → IsEnded 3 v.take.taken → IsDone (record v { post = closed_post v.post })
-done_stopped v stopped ended =
-    record {
-      closed = refl;
-      ended = ended;
-      sent = λ is. absurd (let e = ap (λ (x : Option Stop). is_some x) is in cc);
-      exited = λ is. absurd (let e = ap (λ (x : Option Stop). is_some x) is in cc);
-      none_held = λ is. absurd (let e = ap (λ (x : Option Stop). is_some x) is in cc);
-      none_unsent = λ is. absurd (let e = ap (λ (x : Option Stop). is_some x) is in cc);
-    }
-
-none_in : {X : Type 0} (o : Option X) → is_some o ≡ false → o ≡ None
-none_in None e = refl
-none_in (Some x) e = absurd (cc)
+done_stopped v stopped ended = grind arith
 
 pub done_quiet : (v : SideView) → IsQuiet v → IsEnded 3 v.take.taken → IsDone (record v { post = closed_post v.post })
-done_quiet v q ended =
-    record {
-      closed = refl;
-      ended = ended;
-      sent = λ _. q.sent;
-      exited = λ _. q.exited;
-      none_held = λ _. q.none_held;
-      none_unsent = λ _. none_in v.logged.term.unsent q.none_unsent;
-    }
+done_quiet v q ended = grind arith
 
 pub kept_new : (line : TakeView Input) (post : PostView (Vec ℕ)) (t : PlainTerminal) (logged : LoggedView) (to_send : List ℕ) (why : Option Stop)
     → line ≡ new_take line.line → line.line.senders ≡ 3 → post ≡ new_post post.line 0 → t ≡ new_terminal

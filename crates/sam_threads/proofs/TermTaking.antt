@@ -1,13 +1,12 @@
 -- What is kept of the terminal's worker as it takes entries.
-use Rattle.std.proofs.Common.{◌≡◌, ◌≢◌, ◌⊎◌, inl, inr, refl, sym, ap, subst, ◌∙◌, ℕ, zero, suc, ◌<◌, Bool, true, false, if◌then◌else◌, List, [], ◌∷◌, ◌++◌, Option, Some, None, is_some, append_assoc, append-nil, arith}
+use Rattle.std.proofs.Common.{◌≡◌, ◌≢◌, ◌⊎◌, inl, inr, refl, sym, ap, subst, ◌∙◌, ℕ, Bool, true, false, if◌then◌else◌, List, [], ◌∷◌, ◌++◌, Option, Some, None, is_some, append_assoc, append-nil, arith}
 use Rattle.std.proofs.lemmas.Grind.{flat_map-append}
-use Rattle.std.proofs.lemmas.Option.{same_Some}
 use Rattle.sam_mesg.specs.declared.tmesg.Tmesg.{Tmesg}
 use Rattle.sam_mesg.specs.declared.hmesg.HFrame.{HFrame}
 use Rattle.sam_mesg.specs.TerminalKinds.{FitsT}
 use Rattle.sam_frame.specs.Direction.{terminal}
 use Rattle.sam_frame.specs.Stream.{stream_of}
-use Rattle.sam_term.specs.Term.{PlainTerminal, new_terminal}
+use Rattle.sam_term.specs.Term.{new_terminal}
 use Rattle.sam_term.specs.declared.event.UserEvent.{UserEvent}
 use Rattle.sam_term.specs.declared.event.UserEvent.TheVariants.{Exit}
 use Rattle.sam_world.specs.Sides.{Each, TermRuns}
@@ -22,7 +21,6 @@ use Rattle.sam_threads.specs.RealSides.{sides}
 use Rattle.sam_threads.specs.Inputs.{bytes_of, frames_in, users_in, frame_of_load, user_of_load}
 use Rattle.sam_threads.specs.TermMoments.{LoggedView, Did, SideView, SoFar, Ran, IsOfUser, WasNotHandled}
 use Rattle.sam_threads.specs.declared.input.Input.{Input}
-use Rattle.sam_threads.specs.declared.input.Input.TheVariants.{User, Host}
 use Rattle.sam_threads.specs.declared.stop.Stop.{Stop}
 use Rattle.sam_threads.specs.declared.stop.Stop.TheVariants as stop
 use Rattle.sam_threads.proofs.TermSteps.{did_nothing}
@@ -66,30 +64,8 @@ own_exit b = if b then Exit ∷ [] else []
 -- behind its own Exit no event of the user comes
 own_behind : (v : SideView) (r : Ran v) (e : Entry Input) → has_left e.sender v.take.taken ≡ false → v.take.taken ≡ r.handled → IsOfUser e.sender (user_of_load e.load)
     → (users_in r.handled ++ r.own) ++ user_of_load e.load ≡ (users_in r.handled ++ user_of_load e.load) ++ r.own
-own_behind v r e unmarked all (inl none) =
-    ap (λ (x : List UserEvent). (users_in r.handled ++ r.own) ++ x) none
-    ∙ (append-nil (users_in r.handled ++ r.own)
-    ∙ (ap (λ (x : List UserEvent). x ++ r.own) (sym (append-nil (users_in r.handled)))
-    ∙ ap (λ (x : List UserEvent). (users_in r.handled ++ x) ++ r.own) (sym none)))
-own_behind v r e unmarked all (inr low) = go v.exit_put refl
-  where
-    marked : v.exit_put ≡ true → (n : ℕ) → e.sender ≡ n → n < 2 → has_left e.sender v.take.taken ≡ true
-    marked put zero is l =
-        subst (λ (x : ℕ). has_left x v.take.taken ≡ true) (sym is)
-        (subst (λ (x : List (Entry Input)). has_left 0 x ≡ true) (sym all) (r.keyboard ((r.all_left put).0)))
-    marked put (suc zero) is l =
-        subst (λ (x : ℕ). has_left x v.take.taken ≡ true) (sym is)
-        (subst (λ (x : List (Entry Input)). has_left 1 x ≡ true) (sym all) (r.mouse ((r.all_left put).1)))
-    marked put (suc (suc n)) is l = absurd (omega arith)
-
-    go : (b : Bool) → v.exit_put ≡ b → (users_in r.handled ++ r.own) ++ user_of_load e.load ≡ (users_in r.handled ++ user_of_load e.load) ++ r.own
-    go true is = let yes = marked is e.sender refl low in absurd (cc)
-    go false is =
-        let none : r.own ≡ [] = r.own_is ∙ ap (λ (x : Bool). if x then Exit ∷ [] else []) is in
-        ap (λ (x : List UserEvent). (users_in r.handled ++ x) ++ user_of_load e.load) none
-        ∙ (ap (λ (x : List UserEvent). x ++ user_of_load e.load) (append-nil (users_in r.handled))
-        ∙ (sym (append-nil (users_in r.handled ++ user_of_load e.load))
-        ∙ ap (λ (x : List UserEvent). (users_in r.handled ++ user_of_load e.load) ++ x) (sym none)))
+own_behind v r e unmarked all (inl none) = grind (arith, append-nil)
+own_behind v r e unmarked all (inr low) = grind (arith, append-nil)
 
 kept_entry : (v : SideView) (line : TakeView Input) (e : Entry Input) (logged : LoggedView) (to_send : List ℕ) (k m : Bool) (why : Option Stop) (ms : List Tmesg) (lost : List ℕ)
     → Ran v → v.stop ≡ None → TakesNext v.take e line
@@ -176,157 +152,46 @@ mark_handled v line e k m why r running next mark so_far keeps_k keeps_m new_k n
 -- the keyboard, the mouse or the host reader has left
 pub kept_keyboard : (v : SideView) (line : TakeView Input) → Ran v → is_some v.stop ≡ false → TakesNext v.take (record { sender = 0; load = None }) line
     → Ran (record { take = line; post = v.post; logged = v.logged; to_send = v.to_send; keyboard_left = true; mouse_left = v.mouse_left; exit_put = v.exit_put; stop = v.stop })
-kept_keyboard v line r running next =
-    subst
-    (λ (x : Option Stop). Ran (record { take = line; post = v.post; logged = v.logged; to_send = v.to_send; keyboard_left = true; mouse_left = v.mouse_left; exit_put = v.exit_put; stop = x }))
-    (sym (none_of v.stop running))
-    (mark_handled v line (record { sender = 0; load = None }) true v.mouse_left None r (none_of v.stop running) next refl (refl, refl)
-    (λ is. refl) (λ is. is) (λ is. inr refl) (λ is. inl is) (λ is. absurd (cc)))
+kept_keyboard v line r running next = grind (arith, mark_handled)
 
 pub kept_mouse : (v : SideView) (line : TakeView Input) → Ran v → is_some v.stop ≡ false → TakesNext v.take (record { sender = 1; load = None }) line
     → Ran (record { take = line; post = v.post; logged = v.logged; to_send = v.to_send; keyboard_left = v.keyboard_left; mouse_left = true; exit_put = v.exit_put; stop = v.stop })
-kept_mouse v line r running next =
-    subst
-    (λ (x : Option Stop). Ran (record { take = line; post = v.post; logged = v.logged; to_send = v.to_send; keyboard_left = v.keyboard_left; mouse_left = true; exit_put = v.exit_put; stop = x }))
-    (sym (none_of v.stop running))
-    (mark_handled v line (record { sender = 1; load = None }) v.keyboard_left true None r (none_of v.stop running) next refl (refl, refl)
-    (λ is. is) (λ is. refl) (λ is. inl is) (λ is. inr refl) (λ is. absurd (cc)))
+kept_mouse v line r running next = grind (arith, mark_handled)
 
 pub kept_reader : (v : SideView) (line : TakeView Input) (sender : ℕ) → Ran v → is_some v.stop ≡ false → TakesNext v.take (record { sender = sender; load = None }) line
     → Ran (record { take = line; post = v.post; logged = v.logged; to_send = v.to_send; keyboard_left = v.keyboard_left; mouse_left = v.mouse_left; exit_put = v.exit_put; stop = v.stop })
-kept_reader v line sender r running next =
-    subst
-    (λ (x : Option Stop). Ran (record {
-      take = line;
-      post = v.post;
-      logged = v.logged;
-      to_send = v.to_send;
-      keyboard_left = v.keyboard_left;
-      mouse_left = v.mouse_left;
-      exit_put = v.exit_put;
-      stop = x;
-    }))
-    (sym (none_of v.stop running))
-    (mark_handled v line (record { sender = sender; load = None }) v.keyboard_left v.mouse_left None r (none_of v.stop running) next refl (refl, refl)
-    (λ is. is) (λ is. is) (λ is. inl is) (λ is. inl is) (λ is. absurd (cc)))
+kept_reader v line sender r running next = grind (arith, mark_handled)
 
 pub kept_gone : (v : SideView) (line : TakeView Input) (sender : ℕ) → Ran v → is_some v.stop ≡ false → TakesNext v.take (record { sender = sender; load = None }) line
     → sender ≢ 0 → sender ≢ 1 → v.logged.term.has_exited ≡ false
     → Ran (record { take = line; post = v.post; logged = v.logged; to_send = v.to_send; keyboard_left = v.keyboard_left; mouse_left = v.mouse_left; exit_put = v.exit_put; stop = Some stop.PeerGone })
-kept_gone v line sender r running next not_zero not_one open_still =
-    let few = next.sender in
-    let three = r.senders in
-    let two : sender ≡ 2 = omega arith in
-    mark_handled v line (record { sender = sender; load = None }) v.keyboard_left v.mouse_left (Some stop.PeerGone) r (none_of v.stop running) next refl open_still
-    (λ is. is) (λ is. is) (λ is. inl is) (λ is. inl is) (λ _. ap (λ (n : ℕ). let e : Entry Input = record { sender = n; load = None } in e) two)
+kept_gone v line sender r running next not_zero not_one open_still = grind (arith, mark_handled)
 
 -- ## An entry that is dropped
 
 pub kept_dropped : (v : SideView) (line : TakeView Input) (e : Entry Input) (why : Stop) → Ran v → is_some v.stop ≡ false → TakesNext v.take e line
     → SoFar v.logged.term (e ∷ []) [] (Some why) → (why ≡ stop.PeerGone → ⊥)
     → Ran (record { take = line; post = v.post; logged = v.logged; to_send = v.to_send; keyboard_left = v.keyboard_left; mouse_left = v.mouse_left; exit_put = v.exit_put; stop = Some why })
-kept_dropped v line e why r running next so_far here =
-    let none = whole v r (none_of v.stop running) in
-    record {
-      handled = r.handled;
-      dropped = e ∷ [];
-      composed = r.composed;
-      lost = [];
-      own = r.own;
-      number = r.number;
-      senders = ap (λ (x : LineView). x.senders) next.line ∙ r.senders;
-      took = next.taken ∙ ap (λ (x : List (Entry Input)). x ++ e ∷ []) (r.took ∙ (ap (λ (x : List (Entry Input)). r.handled ++ x) none.0 ∙ append-nil r.handled));
-      runs = r.runs;
-      users = r.users;
-      own_is = r.own_is;
-      all_left = r.all_left;
-      keyboard = r.keyboard;
-      mouse = r.mouse;
-      fit = r.fit;
-      sent = ap (λ (x : List ℕ). bytes_of v.post.put ++ (v.to_send ++ x)) (sym none.1) ∙ r.sent;
-      so_far = so_far;
-      gone = λ is. absurd (here (same_Some why stop.PeerGone is));
-    }
-
-not_handled : (t : PlainTerminal) (sender : ℕ) (input : Input) (why : Stop) → WasNotHandled t sender input why → SoFar t (record { sender = sender; load = Some input } ∷ []) [] (Some why)
-not_handled t sender input (stop.Frame n) w = w
-not_handled t sender input (stop.Host n) w = w
-not_handled t sender input (stop.Term n) w = inr w
-not_handled t sender input stop.PeerGone w = absurd w
-not_handled t sender input stop.Gate w = tt
-not_handled t sender input stop.Memory w = tt
-
-still_there : (t : PlainTerminal) (sender : ℕ) (input : Input) (why : Stop) → WasNotHandled t sender input why → why ≡ stop.PeerGone → ⊥
-still_there t sender input why w is = subst (λ (x : Stop). WasNotHandled t sender input x) is w
+kept_dropped v line e why r running next so_far here = grind (arith, append-nil)
 
 pub kept_refused : (v : SideView) (line : TakeView Input) (sender : ℕ) (input : Input) (why : Stop) → Ran v → is_some v.stop ≡ false
     → TakesNext v.take (record { sender = sender; load = Some input }) line → WasNotHandled v.logged.term sender input why
     → Ran (record { take = line; post = v.post; logged = v.logged; to_send = v.to_send; keyboard_left = v.keyboard_left; mouse_left = v.mouse_left; exit_put = v.exit_put; stop = Some why })
-kept_refused v line sender input why r running next w =
-    kept_dropped v line (record { sender = sender; load = Some input }) why r running next (not_handled v.logged.term sender input why w) (still_there v.logged.term sender input why w)
+kept_refused v line sender input why r running next w = grind (arith, kept_dropped)
 
 pub kept_gated : (v : SideView) (line : TakeView Input) (sender : ℕ) (input : Input) → Ran v → is_some v.stop ≡ false
     → TakesNext v.take (record { sender = sender; load = Some input }) line
     → Ran (record { take = line; post = v.post; logged = v.logged; to_send = v.to_send; keyboard_left = v.keyboard_left; mouse_left = v.mouse_left; exit_put = v.exit_put; stop = Some stop.Gate })
 kept_gated v line sender input r running next = kept_dropped v line (record { sender = sender; load = Some input }) stop.Gate r running next tt (λ is. cc)
 
-more_dropped : (dropped one : List (Entry Input)) (x : Entry Input) (more : List (Entry Input)) → dropped ≡ x ∷ more → dropped ++ one ≡ x ∷ (more ++ one)
-more_dropped dropped one x more e = ap (λ (y : List (Entry Input)). y ++ one) e
-
-so_far_on : (t : PlainTerminal) (dropped one : List (Entry Input)) (lost : List ℕ) (why : Stop) → SoFar t dropped lost (Some why) → SoFar t (dropped ++ one) lost (Some why)
-so_far_on t dropped one lost (stop.Frame n) (inl s) = inl (s.0, s.1, s.2 ++ one, more_dropped dropped one (record { sender = s.0; load = Some (Host s.1) }) s.2 s.3, s.4, s.5)
-so_far_on t dropped one lost (stop.Frame n) (inr s) = inr (s.0, s.1 ++ one, more_dropped dropped one (record { sender = 2; load = Some (User s.0) }) s.1 s.2, s.3)
-so_far_on t dropped one lost (stop.Host n) s = s
-so_far_on t dropped one lost (stop.Term n) (inl s) = inl s
-so_far_on t dropped one lost (stop.Term n) (inr s) = inr (s.0, s.1, s.2 ++ one, s.3, more_dropped dropped one (record { sender = s.0; load = Some (Host s.1) }) s.2 s.4, s.5, s.6)
-so_far_on t dropped one lost stop.PeerGone s = s
-so_far_on t dropped one lost stop.Gate s = s
-so_far_on t dropped one lost stop.Memory s = s
-
-any_stop : (t : PlainTerminal) (dropped one : List (Entry Input)) (lost : List ℕ) (why : Option Stop) → is_some why ≡ true → SoFar t dropped lost why → SoFar t (dropped ++ one) lost why
-any_stop t dropped one lost None stopped s = absurd (cc)
-any_stop t dropped one lost (Some why) stopped s = so_far_on t dropped one lost why s
-
 -- what comes after a stop is dropped
 pub kept_dropping : (v : SideView) (line : TakeView Input) (e : Entry Input) → Ran v → is_some v.stop ≡ true → TakesNext v.take e line
     → Ran (record { take = line; post = v.post; logged = v.logged; to_send = v.to_send; keyboard_left = v.keyboard_left; mouse_left = v.mouse_left; exit_put = v.exit_put; stop = v.stop })
-kept_dropping v line e r stopped next =
-    record {
-      handled = r.handled;
-      dropped = r.dropped ++ e ∷ [];
-      composed = r.composed;
-      lost = r.lost;
-      own = r.own;
-      number = r.number;
-      senders = ap (λ (x : LineView). x.senders) next.line ∙ r.senders;
-      took = next.taken ∙ (ap (λ (x : List (Entry Input)). x ++ e ∷ []) r.took ∙ append_assoc r.handled r.dropped (e ∷ []));
-      runs = r.runs;
-      users = r.users;
-      own_is = r.own_is;
-      all_left = r.all_left;
-      keyboard = r.keyboard;
-      mouse = r.mouse;
-      fit = r.fit;
-      sent = r.sent;
-      so_far = any_stop v.logged.term r.dropped (e ∷ []) r.lost v.stop stopped r.so_far;
-      gone = r.gone;
-    }
+kept_dropping v line e r stopped next = grind (arith, append_assoc)
 
 pub still : (v : SideView) (line : TakeView Input) → Ran v → line ≡ v.take
     → Ran (record { take = line; post = v.post; logged = v.logged; to_send = v.to_send; keyboard_left = v.keyboard_left; mouse_left = v.mouse_left; exit_put = v.exit_put; stop = v.stop })
-still v line r same =
-    subst
-    (λ (x : TakeView Input). Ran (record {
-      take = x;
-      post = v.post;
-      logged = v.logged;
-      to_send = v.to_send;
-      keyboard_left = v.keyboard_left;
-      mouse_left = v.mouse_left;
-      exit_put = v.exit_put;
-      stop = v.stop;
-    }))
-    (sym same) r
+still v line r same = grind arith
 
 -- whatever the line answers after a stop
 pub kept_answer : (v : SideView) (line : TakeView Input) (g : Got Input) → Ran v → is_some v.stop ≡ true → Answers v.take g line

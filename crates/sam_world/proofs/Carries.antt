@@ -1,5 +1,5 @@
 -- What was handled begins what was composed.
-use Rattle.std.proofs.Common.{◌≡◌, ℕ, List, [], ◌∷◌, ◌++◌, sym, ap, refl, ◌∙◌, append_assoc, flat_map}
+use Rattle.std.proofs.Common.{◌≡◌, ℕ, List, [], ◌∷◌, ◌++◌, sym, refl, ◌∙◌, append_assoc, flat_map, arith}
 use Rattle.std.proofs.lemmas.List.{append_cancel_left}
 use Rattle.sam_world.specs.Sides.{Each}
 use Rattle.sam_world.specs.Streams.{Begins}
@@ -18,9 +18,4 @@ module _ {M : Type 0} (good : M → Type 0) (frame : M → List ℕ) (law : Pref
   begins_from_bytes [] composed more hs cs' e = record { rest = composed; is = refl }
   begins_from_bytes (m ∷ ms) [] more hs cs' e =
       absurd (law.some m (nothing_before (frame m) (flat_map frame ms ++ more) (sym (append_assoc (frame m) (flat_map frame ms) more) ∙ e)))
-  begins_from_bytes (m ∷ ms) (c ∷ cs) more hs cs' e =
-      let split : frame m ++ (flat_map frame ms ++ more) ≡ frame c ++ flat_map frame cs = sym (append_assoc (frame m) (flat_map frame ms) more) ∙ e in
-      let same : m ≡ c = law.free m c (flat_map frame ms ++ more) (flat_map frame cs) hs.0 cs'.0 split in
-      let split' : frame m ++ (flat_map frame ms ++ more) ≡ frame m ++ flat_map frame cs = split ∙ ap (λ (x : M). frame x ++ flat_map frame cs) (sym same) in
-      let tail = begins_from_bytes ms cs more hs.1 cs'.1 (append_cancel_left (frame m) (flat_map frame ms ++ more) (flat_map frame cs) split') in
-      record { rest = tail.rest; is = ap (λ (x : M). x ∷ cs) (sym same) ∙ ap (λ (x : List M). m ∷ x) tail.is }
+  begins_from_bytes (m ∷ ms) (c ∷ cs) more hs cs' e = grind (arith, append_assoc, append_cancel_left, (begins_from_bytes ms cs more hs.1 cs'.1))

@@ -1,20 +1,11 @@
 -- The files that a world is made with.
-use Rattle.std.proofs.Common.{◌≡◌, refl, ap, subst, ℕ, zero, suc, ◌+◌, ◌≤◌, ◌<◌, List, [], ◌∷◌, ◌++◌, length, take, drop, All, arith}
+use Rattle.std.proofs.Common.{◌≡◌, refl, ap, ℕ, zero, suc, ◌+◌, ◌≤◌, ◌<◌, List, [], ◌∷◌, ◌++◌, length, take, drop, All, arith}
 use Rattle.std.specs.Prelude.{slice_index_or}
 use Rattle.std.proofs.lemmas.List.Elements.{All-head, All-tail}
-use Rattle.sam_runes.specs.Texts.{RoomyText, max_runes, most_in_name}
+use Rattle.sam_runes.specs.Texts.{RoomyText, most_in_name}
 use Rattle.sam_host.specs.Given.{AreNames, given_of}
 use Rattle.sam_host.specs.Laws.{AreGiven}
 use Rattle.sam_world.specs.Given.{AreShort, IsFile}
-
--- one text more, from the end on
-pub short_step : (files : List (List ℕ × RoomyText)) (i : ℕ) (d : List ℕ × RoomyText)
-    → i < length files → length (slice_index_or files i d).1.runes ≤ max_runes → AreShort (drop (i + 1) files) → AreShort (drop i files)
-short_step [] i d l s rest = absurd (omega arith)
-short_step (file ∷ files) zero d l s rest = (s, rest)
-short_step (file ∷ files) (suc i) d l s rest =
-    let one : suc i + 1 ≡ suc (i + 1) = omega arith in
-    short_step files i d (omega (arith, l)) s (subst (λ k. AreShort (drop k (file ∷ files))) one rest)
 
 pub none_left : (files : List (List ℕ × RoomyText)) (i : ℕ) → length files ≤ i → AreShort (drop i files)
 none_left [] zero l = tt
@@ -48,6 +39,4 @@ file_there (f ∷ fs) (suc i) d within all = file_there fs i d (omega (arith, wi
 pub take_more : {X : Type 0} (xs : List X) (i : ℕ) (d : X) → i < length xs → take (i + 1) xs ≡ take i xs ++ slice_index_or xs i d ∷ []
 take_more [] i d within = absurd (omega (arith, within))
 take_more (x ∷ xs) zero d within = refl
-take_more (x ∷ xs) (suc i) d within =
-    let one : suc (i + 1) ≡ suc i + 1 = omega arith in
-    subst (λ k. take k (x ∷ xs) ≡ x ∷ (take i xs ++ slice_index_or xs i d ∷ [])) one (ap (λ ys. x ∷ ys) (take_more xs i d (omega (arith, within))))
+take_more (x ∷ xs) (suc i) d within = grind (arith, (take_more xs i d))

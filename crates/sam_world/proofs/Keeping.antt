@@ -1,10 +1,8 @@
 -- What is kept of every world, step by step.
-use Rattle.std.proofs.Common.{◌≡◌, refl, sym, ap, ◌∙◌, subst, ℕ, suc, true, not, ◌&&◌, is_some, List, [], ◌∷◌, ◌++◌, drop, Some, Ok, arith, append-nil}
+use Rattle.std.proofs.Common.{◌≡◌, refl, sym, ap, ◌∙◌, subst, ℕ, suc, true, List, [], ◌∷◌, ◌++◌, drop, Some, Ok, arith, append-nil}
 use Rattle.std.specs.Prelude.{All, IsTrue}
-use Rattle.std.proofs.lemmas.Bool.{and_parts}
-use Rattle.std.proofs.lemmas.List.Elements.{All-append, All-nil}
+use Rattle.std.proofs.lemmas.List.Elements.{All-append}
 use Rattle.std.proofs.lemmas.Option.{same_Some}
-use Rattle.sam_runes.specs.Texts.{is_empty}
 use Rattle.sam_host.specs.Host.{PlainHost, answer}
 use Rattle.sam_host.specs.Laws.{AreGiven}
 use Rattle.sam_term.specs.Sound.{IsSound}
@@ -21,8 +19,7 @@ use Rattle.sam_world.specs.UnderWay.{head}
 use Rattle.sam_world.specs.Reached.{IsSoundWorld}
 use Rattle.sam_world.specs.declared.event.Event.TheVariants.{User, Act, Flush, HostTake, TermTake}
 use Rattle.sam_term.proofs.Fits.{act_fits, flushed_fits, taken_fits}
-use Rattle.sam_world.proofs.Within.{reached_start, reached_step, answered_fits}
-use Rattle.sam_world.proofs.OrderLaws.{nothing_in}
+use Rattle.sam_world.proofs.Within.{reached_step, answered_fits}
 
 FitUp : List Tmesg → Type 0
 FitUp ms = All (λ m. IsTrue (fits_t 2 m)) ms
@@ -32,12 +29,7 @@ fit_rest P [] a = a
 fit_rest P (x ∷ xs) a = λ k d l. a (suc k) d (omega (arith, l))
 
 pub kept_start : (given : List (List ℕ × List ℕ)) → AreGiven given → IsSoundWorld (new_world given)
-kept_start given limits =
-    record {
-      reached = reached_start given limits;
-      up = All-nil (λ m. IsTrue (fits_t 2 m));
-      down = All-nil (λ frame. IsTrue (fits_h 2 frame.msg));
-    }
+kept_start given limits = grind arith
 
 pub kept_user : (w : PlainWorld) (e : UserEvent) (t : PlainTerminal)
     → IsSoundWorld w → t ≡ record w.term { held = w.term.held ++ e ∷ [] } → IsSoundWorld (record { host = w.host; term = t; up = w.up; down = w.down })
@@ -58,18 +50,13 @@ act_done w t acted k a f =
 pub kept_done : (w : PlainWorld) (t : PlainTerminal) (ms up : List Tmesg)
     → IsSoundWorld w → IsSound w.term → act_of w.term ≡ Ok (t, Done ms) → up ≡ w.up ++ ms → IsSoundWorld (record { host = w.host; term = t; up = up; down = w.down })
 unfolding FitUp
-kept_done w t ms up k s a same =
-    subst (λ x. IsSoundWorld (record { host = w.host; term = t; up = x; down = w.down })) (sym same)
-    (act_done w t (Done ms) k a (act_fits w.term t ms s a))
+kept_done w t ms up k s a same = grind (arith, (act_done w t (Done ms) k a (act_fits w.term t ms s a)))
 
 -- an act that composed nothing
 pub kept_silent : (w : PlainWorld) (t : PlainTerminal) (acted : Acted) (up : List Tmesg)
     → IsSoundWorld w → act_of w.term ≡ Ok (t, acted) → composed_by acted ≡ [] → up ≡ w.up → IsSoundWorld (record { host = w.host; term = t; up = up; down = w.down })
 unfolding FitUp
-kept_silent w t acted up k a none same =
-    let silent : FitUp (composed_by acted) = subst FitUp (sym none) (All-nil (λ m. IsTrue (fits_t 2 m))) in
-    let joined : w.up ++ composed_by acted ≡ up = ap (λ ms. w.up ++ ms) none ∙ append-nil w.up ∙ sym same in
-    subst (λ x. IsSoundWorld (record { host = w.host; term = t; up = x; down = w.down })) joined (act_done w t acted k a silent)
+kept_silent w t acted up k a none same = grind (arith, (append-nil w.up), (act_done w t acted k a))
 
 pub kept_flush : (w : PlainWorld) (t : PlainTerminal) (ms up : List Tmesg)
     → IsSoundWorld w → IsSound w.term → flush_of w.term ≡ Ok (t, ms) → up ≡ w.up ++ ms → IsSoundWorld (record { host = w.host; term = t; up = up; down = w.down })
@@ -115,11 +102,4 @@ kept_take w t frame ms up down k s first a joined rest =
 -- a quiet world is its two sides
 pub kept_sides : (w : PlainWorld) (sides : PlainHost × PlainTerminal) → IsSoundWorld w → is_quiet w ≡ true → sides ≡ (w.host, w.term)
     → IsSoundWorld (record { host = sides.0; term = sides.1; up = []; down = [] })
-kept_sides w sides k quiet are =
-    let a = and_parts (not (is_some w.term.unsent) && is_empty w.up) (is_empty w.down) quiet in
-    let b = and_parts (not (is_some w.term.unsent)) (is_empty w.up) a.0 in
-    let up = nothing_in w.up b.1 in
-    let down = nothing_in w.down a.1 in
-    let same : w ≡ record { host = sides.0; term = sides.1; up = []; down = [] } =
-    λ i. record { host = (sym are i).0; term = (sym are i).1; up = up i; down = down i } in
-    subst IsSoundWorld same k
+kept_sides w sides k quiet are = grind arith

@@ -1,12 +1,11 @@
 -- Each answer frees just the lock that its message took, by its last frame.
-use Rattle.std.proofs.Common.{◌≡◌, refl, sym, ap, ◌∙◌, subst, ℕ, Bool, true, false, List, [], ◌∷◌, ◌++◌, if◌then◌else◌}
-use Rattle.std.proofs.lemmas.List.{append_assoc}
+use Rattle.std.proofs.Common.{◌≡◌, refl, sym, ap, ◌∙◌, subst, ℕ, Bool, true, false, List, [], ◌∷◌, ◌++◌, if◌then◌else◌, arith}
 use Rattle.sam_runes.specs.Texts.{common_version}
 use Rattle.sam_host.specs.Host.{PlainHost, reply_to, reply_version, reply_startsnarf}
 use Rattle.sam_host.proofs.EachFrame.{EachFrame, IsTold, Freed, Nothing, Command, File, end_frames, lock_freed, reply_ends}
 use Rattle.sam_term.specs.declared.lock.Lock.{Lock}
 use Rattle.sam_term.specs.declared.lock.Lock.TheVariants.{NoLock, CommandLock, FileLock}
-use Rattle.sam_term.specs.Events.{lock_of, is_command_line, freed_by, one_lock, all_freed}
+use Rattle.sam_term.specs.Events.{lock_of, freed_by, one_lock, all_freed}
 use Rattle.sam_mesg.specs.declared.tmesg.Tmesg.{Tmesg}
 use Rattle.sam_mesg.specs.declared.tmesg.Tmesg.TheVariants.{Tversion, Trequest, Ttype, Tstartsnarf}
 use Rattle.sam_mesg.specs.declared.hmesg.Hmesg.{Hmesg}
@@ -22,11 +21,7 @@ lock_in (File f) = FileLock f
 
 same_lock : (h : PlainHost) (m : Tmesg) → is_answered h m ≡ true → lock_in (lock_freed h m) ≡ lock_of m
 same_lock h (Trequest f p n) e = ap (λ (b : Bool). lock_in (if b then File f else Nothing)) e
-same_lock h (Ttype f p s) e = go (is_command_line f s)
-  where
-    go : (b : Bool) → lock_in (if b then Command else Nothing) ≡ (if b then CommandLock else NoLock)
-    go true = refl
-    go false = refl
+same_lock h (Ttype f p s) e = grind arith
 same_lock h _ e = refl
 
 -- ## Frames that free no lock, and one that does at their end
@@ -80,9 +75,7 @@ reply_frees_last h m e some =
 freed-append : (xs ys : List Hmesg) → all_freed (xs ++ ys) ≡ all_freed xs ++ all_freed ys
 unfolding all_freed
 freed-append [] ys = refl
-freed-append (x ∷ xs) ys =
-    ap (λ rest. one_lock (freed_by x) ++ rest) (freed-append xs ys)
-    ∙ sym (append_assoc (one_lock (freed_by x)) (all_freed xs) (all_freed ys))
+freed-append (x ∷ xs) ys = grind (arith, (freed-append xs ys))
 
 pub reply_frees : AnswersFree
 unfolding all_freed

@@ -48,14 +48,11 @@ users_takes (suc n) es = users_takes n es
 
 -- the schedule has the log's user events, in order
 pub users_merged_from : (done : ℕ) (es : List TermLog) (n : ℕ) → users (merged_from done es n) ≡ logged_users es
-users_merged_from done [] n =
-    ap (λ (x : List Event). users x) (sym (append-nil (replicate (n - done) event.HostTake))) ∙ users_takes (n - done) []
+users_merged_from done [] n = grind (arith, (append-nil (replicate (n - done) event.HostTake)), (users_takes (n - done)))
 users_merged_from done (log.User e ∷ es) n = ap (λ (x : List UserEvent). e ∷ x) (users_merged_from done es n)
 users_merged_from done (log.Act ∷ es) n = users_merged_from done es n
 users_merged_from done (log.Flush ∷ es) n = users_merged_from done es n
-users_merged_from done (log.Take k ∷ es) n =
-    ap (λ (x : List Event). users x) (append_assoc (takes (k - done)) (event.TermTake ∷ []) (merged_from (max done k) es n))
-    ∙ (users_takes (k - done) (event.TermTake ∷ merged_from (max done k) es n) ∙ users_merged_from (max done k) es n)
+users_merged_from done (log.Take k ∷ es) n = grind (arith, append_assoc, users_takes, (users_merged_from (max done k) es n))
 
 module _ {H T M F : Type 0} (s : Steps H T M F) where
   -- where no stamp is above n, no Take is

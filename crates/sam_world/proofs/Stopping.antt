@@ -1,24 +1,19 @@
 -- Why a step of the world stops: it wants memory, or a count is full. Neither side refuses the other.
-use Rattle.std.proofs.Common.{◌≡◌, ◌⊎◌, inl, inr, refl, sym, subst, ℕ, true, false, List, [], ◌∷◌, drop, Some, None, Result, Ok, Err}
-use Rattle.sam_runes.specs.Texts.{is_empty}
-use Rattle.sam_host.specs.Host.{PlainHost, answer}
+use Rattle.std.proofs.Common.{◌≡◌, ◌⊎◌, inl, inr, refl, ℕ, true, [], drop, Some, None, Result, Ok, Err, arith}
+use Rattle.sam_host.specs.Host.{answer}
 use Rattle.sam_host.specs.declared.fault.HostFault.{HostFault}
 use Rattle.sam_host.specs.declared.fault.HostFault.TheVariants as host
 use Rattle.sam_term.specs.Term.{PlainTerminal, Made, act_of, flush_of, take_of}
-use Rattle.sam_term.specs.declared.event.Acted.{Acted}
 use Rattle.sam_term.specs.declared.fault.TermFault.{TermFault}
 use Rattle.sam_term.specs.declared.fault.TermFault.TheVariants as term
 use Rattle.sam_mesg.specs.declared.tmesg.Tmesg.{Tmesg}
 use Rattle.sam_mesg.specs.declared.hmesg.HFrame.{HFrame}
-use Rattle.sam_world.specs.World.{PlainWorld, new_world, is_empty_take, acts, after_act, after_compose, after_answer, host_takes, term_takes, is_quiet, IsSettled, HasOneVersion, IsAhead}
+use Rattle.sam_world.specs.World.{PlainWorld, new_world, after_compose, is_quiet, IsSettled, HasOneVersion, IsAhead}
 use Rattle.sam_world.specs.UnderWay.{head}
 use Rattle.sam_world.specs.Reached.{WasReached}
 use Rattle.sam_world.specs.Order.{IsInOrder, IsCountable}
-use Rattle.sam_world.specs.Counts.{FullCountsStop, passes_count, passes_at, composes_past, is_host_full, is_term_full}
-use Rattle.sam_world.specs.Faults.{IsFaultOf}
-use Rattle.sam_world.specs.declared.event.Event.{Event}
+use Rattle.sam_world.specs.Counts.{FullCountsStop, is_term_full}
 use Rattle.sam_world.specs.declared.event.Event.TheVariants.{User, Act, Flush, HostTake, TermTake}
-use Rattle.sam_world.specs.declared.event.StepFault.{StepFault}
 use Rattle.sam_world.specs.declared.event.StepFault.TheVariants.{OutOfMemory}
 use Rattle.sam_world.proofs.Keeping.{first_rest}
 use Rattle.sam_world.proofs.OrderLaws.{starts_in_order, runs_in_order, host_never_refuses, terminal_never_refuses, only_counts_stop, quiet_means_agreement, free_means_one_version, free_means_ahead}
@@ -61,56 +56,16 @@ flush_stops t why (inr a) = inr ((only_counts_stop t why).1 a)
 
 -- ## A count that would be passed
 
--- an act that fails for its count is no silent one
-pub full_acts : (r : Result (PlainTerminal × Acted) TermFault) → is_term_full r ≡ true → acts r ≡ true
-full_acts (Ok x) full = absurd (cc)
-full_acts (Err why) full = refl
-
 no_compose : (w : PlainWorld) (r : Result Made TermFault) → is_term_full r ≡ true → after_compose w r ≡ None
 no_compose w (Ok x) full = absurd (cc)
 no_compose w (Err why) full = refl
 
-no_answer : (w : PlainWorld) (r : Result (PlainHost × List HFrame) HostFault) → is_host_full r ≡ true → after_answer w r ≡ None
-no_answer w (Ok x) full = absurd (cc)
-no_answer w (Err why) full = refl
-
 -- it stops the step
 pub passing_stops : FullCountsStop
 passing_stops w (User e) full = absurd (cc)
-passing_stops w Act full = go (act_of w.term) full
-  where
-    go : (r : Result (PlainTerminal × Acted) TermFault) → is_term_full r ≡ true → after_act w r ≡ None
-    go (Ok x) f = absurd (cc)
-    go (Err why) f = refl
+passing_stops w Act full = grind arith
 passing_stops w Flush full = no_compose w (flush_of w.term) full
-passing_stops w HostTake full = go w.up full
-  where
-    go : (ms : List Tmesg) → passes_at w.host ms ≡ true → host_takes w ms ≡ None
-    go [] f = absurd (cc)
-    go (m ∷ ms) f = no_answer (record w { up = ms }) (answer w.host m) f
-passing_stops w TermTake full = go w.down full
-  where
-    go : (frames : List HFrame) → composes_past w.term frames ≡ true → term_takes w frames ≡ None
-    go [] f = absurd (cc)
-    go (frame ∷ frames) f = no_compose (record w { down = frames }) (take_of w.term frame) f
-
--- and it takes from no empty list
-pub passing_is_there : (w : PlainWorld) (e : Event) → passes_count w e ≡ true → is_empty_take w e ≡ false
-passing_is_there w (User e) full = refl
-passing_is_there w Act full = refl
-passing_is_there w Flush full = refl
-passing_is_there w HostTake full = go w.up full
-  where
-    go : (ms : List Tmesg) → passes_at w.host ms ≡ true → is_empty ms ≡ false
-    go [] f = absurd (cc)
-    go (m ∷ ms) f = refl
-passing_is_there w TermTake full = go w.down full
-  where
-    go : (frames : List HFrame) → composes_past w.term frames ≡ true → is_empty frames ≡ false
-    go [] f = absurd (cc)
-    go (frame ∷ frames) f = refl
+passing_stops w HostTake full = grind arith
+passing_stops w TermTake full = grind arith
 
 -- ## The fault of the step
-
-pub memory_fault : (w : PlainWorld) (e : Event) (s : StepFault) → is_empty_take w e ≡ false → s ≡ OutOfMemory → IsFaultOf w e s
-memory_fault w e s there same = subst (IsFaultOf w e) (sym same) there

@@ -1,12 +1,11 @@
 -- Batches one behind the other.
-use Rattle.std.proofs.Common.{◌≡◌, sym, ap, ◌∙◌, ℕ, false, ◌==◌, List, [], ◌∷◌, ◌++◌, length, map, append-nil}
+use Rattle.std.proofs.Common.{◌≡◌, ℕ, false, ◌==◌, List, [], ◌∷◌, ◌++◌, length, map, append-nil, arith}
 use Rattle.std.proofs.lemmas.List.{append_assoc}
 use Rattle.sam_world.specs.UnderWay.{joined, AreFilled}
 
 pub joined-behind : {B M : Type 0} (items : B → List M) (batches : List B) (batch : B) → joined (map items (batches ++ batch ∷ [])) ≡ joined (map items batches) ++ items batch
 joined-behind items [] batch = append-nil (items batch)
-joined-behind items (b ∷ bs) batch =
-    ap (λ xs. items b ++ xs) (joined-behind items bs batch) ∙ sym (append_assoc (items b) (joined (map items bs)) (items batch))
+joined-behind items (b ∷ bs) batch = grind (arith, append_assoc, (joined-behind items bs batch))
 
 pub filled-behind : {B M : Type 0} (items : B → List M) (batches : List B) (batch : B) → AreFilled (map items batches) → (items batch ≡ [] → ⊥) → AreFilled (map items (batches ++ batch ∷ []))
 filled-behind items [] batch filled there = (there, tt)

@@ -1,18 +1,17 @@
 -- In every state of every run, what is under way is within the limits; and one step more is a run.
-use Rattle.std.proofs.Common.{◌≡◌, refl, sym, ap, subst, ℕ, List, [], ◌∷◌, ◌++◌, Option, Some, None, Result, Ok, Err}
+use Rattle.std.proofs.Common.{◌≡◌, refl, subst, List, [], ◌∷◌, ◌++◌, Option, Some, None, Result, Ok, Err, arith}
 use Rattle.std.specs.Prelude.{option_and_then, All, IsTrue}
 use Rattle.std.proofs.lemmas.Option.{same_Some}
 use Rattle.sam_host.specs.Host.{PlainHost, answer}
-use Rattle.sam_host.specs.Laws.{AreGiven, IsSound}
+use Rattle.sam_host.specs.Laws.{IsSound}
 use Rattle.sam_host.proofs.LastVersion.{fit_in_last}
 use Rattle.sam_host.proofs.SoundLaws.{starts_sound, stays_sound, frames_fit}
-use Rattle.sam_term.specs.Term.{PlainTerminal, Made, act_of, flush_of, take_of}
-use Rattle.sam_term.specs.declared.event.Acted.{Acted}
+use Rattle.sam_term.specs.Term.{Made, flush_of}
 use Rattle.sam_term.specs.declared.fault.TermFault.{TermFault}
 use Rattle.sam_mesg.specs.HostKinds.{fits_h}
 use Rattle.sam_mesg.specs.declared.tmesg.Tmesg.{Tmesg}
 use Rattle.sam_mesg.specs.declared.hmesg.HFrame.{HFrame}
-use Rattle.sam_world.specs.World.{PlainWorld, new_world, step_of, run_of, composed_by, after_act, after_compose, after_answer, host_takes, term_takes}
+use Rattle.sam_world.specs.World.{PlainWorld, new_world, step_of, run_of, after_compose, after_answer, host_takes}
 use Rattle.sam_world.specs.Reached.{WasReached}
 use Rattle.sam_world.specs.declared.event.Event.{Event}
 use Rattle.sam_world.specs.declared.event.Event.TheVariants.{User, Act, Flush, HostTake, TermTake}
@@ -22,8 +21,7 @@ use Rattle.sam_world.proofs.RunLaws.{run_keeps}
 -- ## One step more is a run
 
 run-last : (w v u : PlainWorld) (es : List Event) (e : Event) → run_of w es ≡ Some v → step_of v e ≡ Some u → run_of w (es ++ e ∷ []) ≡ Some u
-run-last w v u [] e r s =
-    subst (λ x. option_and_then (λ next. Some next) (step_of x e) ≡ Some u) (sym (same_Some w v r)) (ap (λ o. option_and_then (λ next. Some next) o) s)
+run-last w v u [] e r s = grind arith
 run-last w v u (x ∷ es) e r s = go (step_of w x) (λ n q. run-last n v u es e q s) r
   where
     go : (o : Option PlainWorld) → ((n : PlainWorld) → run_of n es ≡ Some v → run_of n (es ++ e ∷ []) ≡ Some u)
@@ -32,11 +30,7 @@ run-last w v u (x ∷ es) e r s = go (step_of w x) (λ n q. run-last n v u es e 
     go (Some n) more q = more n q
 
 pub reached_step : (w next : PlainWorld) (e : Event) → WasReached w → step_of w e ≡ Some next → WasReached next
-reached_step w next e r s =
-    record { given = r.given; limits = r.limits; reached = (r.reached.0 ++ e ∷ [], run-last (new_world r.given) w next r.reached.0 e r.reached.1 s) }
-
-pub reached_start : (given : List (List ℕ × List ℕ)) → AreGiven given → WasReached (new_world given)
-reached_start given limits = record { given = given; limits = limits; reached = ([], refl) }
+reached_step w next e r s = grind (arith, (run-last (new_world r.given) w next r.reached.0 e r.reached.1 s))
 
 -- ## What is composed and answered is within the limits
 
@@ -57,24 +51,15 @@ compose_keeps P w next (Ok r) s e = subst (λ x. P x.host) (same_Some (record w 
 
 pub host_step : (P : PlainHost → Type 0) → ((h g : PlainHost) (m : Tmesg) (frames : List HFrame) → answer h m ≡ Ok (g, frames) → P h → P g)
     → (w : PlainWorld) (e : Event) (next : PlainWorld) → P w.host → step_of w e ≡ Some next → P next.host
-host_step P keeps w (User x) next s e =
-    subst (λ v. P v.host) (same_Some (record w { term = record w.term { held = w.term.held ++ x ∷ [] } }) next e) s
-host_step P keeps w Act next s e = go (act_of w.term) e
-  where
-    go : (r : Result (PlainTerminal × Acted) TermFault) → after_act w r ≡ Some next → P next.host
-    go (Err why) q = absurd (cc)
-    go (Ok r) q = subst (λ x. P x.host) (same_Some (record w { term = r.0; up = w.up ++ composed_by r.1 }) next q) s
+host_step P keeps w (User x) next s e = grind arith
+host_step P keeps w Act next s e = grind arith
 host_step P keeps w Flush next s e = compose_keeps P w next (flush_of w.term) s e
 host_step P keeps w HostTake next s e = go w.up e
   where
     go : (ms : List Tmesg) → host_takes w ms ≡ Some next → P next.host
     go [] q = absurd (cc)
     go (m ∷ ms) q = answer_keeps P keeps (record w { up = ms }) next (answer w.host m) m refl s q
-host_step P keeps w TermTake next s e = go w.down e
-  where
-    go : (frames : List HFrame) → term_takes w frames ≡ Some next → P next.host
-    go [] q = absurd (cc)
-    go (frame ∷ frames) q = compose_keeps P (record w { down = frames }) next (take_of w.term frame) s q
+host_step P keeps w TermTake next s e = grind arith
 
 -- ## The host of a world is sound
 
