@@ -67,5 +67,3 @@ passing_stops w Act full = grind arith
 passing_stops w Flush full = no_compose w (flush_of w.term) full
 passing_stops w HostTake full = grind arith
 passing_stops w TermTake full = grind arith
-
--- ## The fault of the step
