@@ -336,15 +336,11 @@ impl<'q> Side<'q> {
         self.stop = Some(Stop::PeerGone);
     }
 
-    /// Returns true only if the session is over, and nothing is held, unsent or not put. If the session is over it tries the oldest held
-    /// event.
+    /// Tries the oldest held event. Returns true only if the session is over, and nothing is held, unsent or not put.
     fn is_quiet(&mut self) -> bool
         ensures goes { Goes self.old self.new }
         ensures quiet { IsTrue result → IsQuiet self.new }
     {
-        if !self.logged.exited() {
-            return false;
-        }
         match self.act_once() {
             Tried::Idle => self.logged.exited()
                 && !self.logged.has_unsent()
