@@ -23,3 +23,6 @@ name_fits e name text none = grind arith
 pub file_added : (e before g : PlainHostEnd) (h : PlainHost) (name text n t : List ℕ) → before ≡ e → g ≡ record before { host = h }
     → h ≡ with_given before.host (n, t) → n ≡ chars name → t ≡ chars text → g ≡ with_file e name text
 file_added e before g h name text n t same after is of_name of_text = grind arith
+
+-- what adding a file rests on
+pub ruleset adds_files = (read_runes, name_fits, file_added)

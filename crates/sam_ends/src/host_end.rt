@@ -176,6 +176,7 @@ impl HostEnd {
     /// Errors, in this order: `Begun` if a piece was taken before; `NotText` if the name or the text is not UTF-8; `TooLong` if the name
     /// has more than `MOST_IN_NAME` runes or the text more than `MAX_RUNES`; `NoTag` if all tags were given; `OutOfMemory`. After an
     /// error the end is as it was.
+    #[tactic(auto, using(crate::proofs::HostEndFiles::adds_files))]
     pub fn add_file(&mut self, name: &[u8], text: &[u8]) -> Result<u16, OpenFault>
         ensures tag { IfOk result (λ tag. tag ≡ length self.old.host.files.slots) }
         ensures added { OnOk result (self.new ≡ with_file self.old name.now text.now) }

@@ -180,6 +180,7 @@ impl TermEnd {
     }
 
     /// Goes on with what waits: it writes, receives, stops at a fault of the stream, and then has events act.
+    #[tactic(auto, using(crate::proofs::TermEndCalls::going_acts))]
     fn go_on(&mut self) -> Result<(), EndFault<TermStop>>
         requires { self.old.stop ≡ None }
         ensures { GoesOn self.old result self.new }

@@ -49,6 +49,7 @@ pub fn place_at(text: &str) -> Result<(u32, &str), LineFault>
 }
 
 /// Returns the number of 16 bits that the digits of a word write. `parse` alone would take a plus in front.
+#[tactic(auto, using(crate::proofs::WordLaws::parsed))]
 fn tag_of(word: &str) -> Result<u16, LineFault>
     ensures { Gives (λ n. n) result (number_of 16 word.now) }
 {
@@ -62,6 +63,7 @@ fn tag_of(word: &str) -> Result<u16, LineFault>
 }
 
 /// Returns the number of 32 bits that the digits of a word write. Here too a plus is wrong.
+#[tactic(auto, using(crate::proofs::WordLaws::parsed))]
 fn place_of(word: &str) -> Result<u32, LineFault>
     ensures { Gives (λ n. n) result (number_of 32 word.now) }
 {

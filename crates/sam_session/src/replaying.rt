@@ -14,6 +14,7 @@ use std::io::{Read, Write};
 
 /// Replays the script that the reader gives, and writes what it prints, or in place of all that the line of the fault. The faults and
 /// their order stand at [`play`](crate::play).
+#[tactic(auto, using(crate::proofs::Scripts::written, crate::proofs::Scripts::faulted))]
 pub(crate) fn play_replay<R: Read, W: Write>(
     alloc: Global,
     reader: &mut R,

@@ -22,6 +22,7 @@ use std::thread::Threads;
 
 /// Runs the session of the script that the reader gives on five threads, and writes what it came to, or in place of all that the line of
 /// the fault. The faults and their order stand at [`play`](crate::play).
+#[tactic(auto, using(crate::proofs::Scripts::written, crate::proofs::Scripts::faulted))]
 pub(crate) fn play_threads<T: Threads + Wait + Sync, R: Read, W: Write>(
     rt: &T,
     alloc: Global,

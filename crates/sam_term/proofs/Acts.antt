@@ -132,3 +132,6 @@ sets_snarf t _ h = absurd (cc)
 pub flushes : (t : PlainTerminal) (e : UserEvent) → Flushes ≡ deed_of t e → e ≡ Flush
 flushes t Flush s = (cc)
 flushes t _ s = absurd (cc)
+
+-- what is done with the oldest event
+pub ruleset acts_on_first = (free, first_is, act_none, act_refused, act_done)

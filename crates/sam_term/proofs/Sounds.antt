@@ -107,3 +107,6 @@ answer_failed t u (Err why) answer h = h.0
 pub answer_unchanged : {A : Type 0} (t u : PlainTerminal) (r : Result A TermFault) (answer : Result (PlainTerminal × A) TermFault) → IsAnswer t u r answer → OnErr r (u ≡ t)
 answer_unchanged t u (Ok x) answer h = tt
 answer_unchanged t u (Err why) answer h = h.1
+
+-- what an answer says in the clauses of a public call
+pub ruleset answers = (answered, answer_refused, answer_unchanged, answer_failed)

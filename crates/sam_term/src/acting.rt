@@ -20,6 +20,7 @@ use sam_runes::{MOST_IN_MESSAGE, snarf_limit, utf8_within};
 impl Terminal {
     /// Tries the oldest held event, as `Terminal::act` says. Errors, in this order: `CountFull`; `OutOfMemory`. The terminal is then
     /// unchanged.
+    #[tactic(auto, using(crate::proofs::Acts::acts_on_first))]
     pub(crate) fn try_oldest(&mut self) -> Result<Acted, TermFault>
         ensures { IsAnswer self.old self.new result (act_of self.old) }
     {

@@ -62,6 +62,7 @@ impl Terminal {
 
     /// Composes a message: it is counted, takes its lock, and goes behind the others of the outbox. The caller makes sure of all that
     /// could stand against it, so it cannot fail.
+    #[tactic(auto, using(crate::proofs::Composes::composed_by))]
     pub(crate) fn compose(&mut self, message: Tmesg, out: &mut Outbox)
         requires counts { self.old.sent < most_count }
         requires opened { IsTrue (is_lockable self.old (lock_of message)) }
@@ -141,6 +142,7 @@ impl Terminal {
     /// Returns the request that a file wants: for the first stretch of gaps in its view, at most `MOST_IN_MESSAGE` of them. `None` if
     /// there is no gap, the file is not open, the session is over, or a request is awaited already. The cost goes by the sections before
     /// the gap.
+    #[tactic(auto, using(crate::proofs::Requests::shown_same))]
     pub(crate) fn wanted(&self, tag: u16) -> Option<Tmesg>
         ensures { result ≡ wanted self.now tag }
     {

@@ -129,6 +129,7 @@ impl Terminal {
     }
 
     /// Takes `Hack`: composes the unsent runes and a `Tack`, unless the session is over.
+    #[tactic(auto, using(crate::proofs::Sounds::quiet))]
     fn take_ack(&mut self) -> Result<Batch, TermFault>
         ensures { IsAnswer self.old self.new result (countable (frame_outcome self.old Hmesg.Hack)) }
     {
@@ -139,6 +140,7 @@ impl Terminal {
     }
 
     /// Takes `Hcheck`: composes the request that the file wants, if any, with the unsent runes before it.
+    #[tactic(auto, using(crate::proofs::Requests::lockable_wanted, crate::proofs::Sounds::quiet), unfolding(crate::specs::Term::requested))]
     fn take_check(&mut self, tag: u16) -> Result<Batch, TermFault>
         ensures { IsAnswer self.old self.new result (countable (frame_outcome self.old (Hmesg.Hcheck tag))) }
     {

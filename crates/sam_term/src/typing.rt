@@ -186,6 +186,7 @@ impl Terminal {
     }
 
     /// Returns whether runes typed at `p` join the unsent ones, if there are any.
+    #[tactic(auto, unfolding(crate::specs::Sound::IsShort))]
     fn joins_unsent(&self, tag: u16, p: u32, runes: &[char]) -> bool
         requires few { length runes.now ≤ most_in_message }
         ensures { result ≡ joins self.now.unsent tag p runes.now }

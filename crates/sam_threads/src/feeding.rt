@@ -114,6 +114,7 @@ fn take_all(
 }
 
 /// Lets the terminal take a frame, and returns what stopped it. Room for the messages is made first, so that none is lost.
+#[tactic(auto, using(crate::proofs::Feeds::takes_few))]
 fn take_one(terminal: &mut Terminal, frame: HFrame, composed: &mut Vec<Tmesg>) -> Option<Stop>
     requires { IsTrue (fits_h 2 frame.msg) }
     ensures { TakesOne frame terminal.old terminal.new composed.old.items composed.new.items result }

@@ -12,6 +12,7 @@ use std::alloc::{AllocError, Global};
 
 /// Makes the first world of files of these names and texts, as `World::new` does. There are at most `MOST_FILES` of them. Each name has 1
 /// to `MOST_IN_NAME` runes and each text at most `MAX_RUNES`, as in a script. The only error is want of memory.
+#[tactic(auto, using(crate::proofs::GivenLaws::given_many))]
 pub fn first_world(alloc: Global, files: &[(Runes, Runes)]) -> Result<World, AllocError>
     requires count { length files.now ≤ most_files }
     requires each { All IsFile files.now }

@@ -1,4 +1,4 @@
-use Rattle.std.proofs.Common.{◌≡◌, [], length, take, ap, arith, length-take}
+use Rattle.std.proofs.Common.{◌≡◌, [], take, ap, arith, length-take}
 use Rattle.std.proofs.lemmas.Result.{err_from_is_err_and}
 use Rattle.sam_session.proofs.Playing.{goes_on, host_sound, ends_side, on_side, stops}
 use Rattle.sam_session.proofs.bytes.answer_input.Goals as goal
@@ -13,10 +13,7 @@ pub answer_piece-requires-clause-host : goal.answer_piece-requires-clause-host
 answer_piece-requires-clause-host g c = host_sound _ _ _ _ _ _ _ _ c.loop-left.invariant
 
 pub loop-left-preserved : goal.loop-left-preserved
-loop-left-preserved g c =
-    let long = c.read_piece.array_long in
-    let size : length (take c.in_ok-count.count c.read_piece.new.buffer) ≡ c.in_ok-count.count = simp length-take (omega (arith, long, c.in_ok-count.ensures.count.1)) in
-    goes_on g.W.Write.contents _ _ _ _ _ _ _ _ _ _ _ _ _ _ c.loop-left.invariant c.in_ok-count.ensures.bytes.0 size c.in_ok-count.ensures.count.0 c.in_ok-answer_piece.ensures.ok
+loop-left-preserved g c = grind (arith, length-take, goes_on)
 
 pub returns-in_err-answer_piece-clause-side : goal.returns-in_err-answer_piece-clause-side
 returns-in_err-answer_piece-clause-side g c =

@@ -1,21 +1,16 @@
-use Rattle.std.proofs.Common.{arith, sym, ◌∙◌}
+use Rattle.std.proofs.Common.{arith, sym}
 use Rattle.sam_runes.proofs.SlotLaws.{slot-read, free_slot-set, slot_given}
 use Rattle.sam_term.proofs.SlotSteps.{not_none}
 use Rattle.sam_term.proofs.known_files.take_known.Goals as goal
 
 pub unreachable-requires : goal.unreachable-requires
-unreachable-requires c =
-    not_none c.args.files.now c.args.index _ c.requires (sym c.take.ensures.value ∙ c.in_default.is)
+unreachable-requires c = grind (arith, not_none)
 
 pub returns-clause-known : goal.returns-clause-known
-returns-clause-known c =
-    slot-read c.args.files.now c.args.index _ _ (omega arith) (sym c.take.ensures.value ∙ c.in-Some.is)
+returns-clause-known c = grind (arith, slot-read)
 
 pub returns-clause-files : goal.returns-clause-files
 returns-clause-files c = rw c.take.ensures.after (sym (free_slot-set c.args.files.now c.args.index))
 
 pub prove-unreachable-requires : goal.prove-unreachable-requires
-prove-unreachable-requires c =
-    let l = slot_given c.args.files.now c.args.index c.requires in
-    let h = c.if-prove.true in
-    omega arith
+prove-unreachable-requires c = grind (arith, slot_given)

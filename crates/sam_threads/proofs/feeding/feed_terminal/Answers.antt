@@ -1,4 +1,4 @@
-use Rattle.std.proofs.Common.{refl}
+use Rattle.std.proofs.Common.{refl, arith}
 use Rattle.sam_mesg.specs.declared.fault.MesgFault.TheVariants.{BadKind, BadLength, BadText}
 use Rattle.sam_threads.proofs.Feeds.{all_fit, fed_all, fed_before}
 use Rattle.sam_threads.proofs.feeding.feed_terminal.Goals as goal
@@ -7,19 +7,13 @@ pub take_all-requires : goal.take_all-requires
 take_all-requires c = all_fit _ _ c.in-Ok.ensures.gave.splits.fit
 
 pub take_all-requires-in-Err-BadKind : goal.take_all-requires-in-Err-BadKind
-take_all-requires-in-Err-BadKind c =
-    let up = rw c.in-Err-BadKind.field-0-is at c.in-Err-BadKind.ensures in
-    all_fit _ _ up.gave.splits.fit
+take_all-requires-in-Err-BadKind c = grind (arith, all_fit)
 
 pub take_all-requires-in-Err-BadLength : goal.take_all-requires-in-Err-BadLength
-take_all-requires-in-Err-BadLength c =
-    let up = rw c.in-Err-BadLength.field-0-is at c.in-Err-BadLength.ensures in
-    all_fit _ _ up.gave.splits.fit
+take_all-requires-in-Err-BadLength c = grind (arith, all_fit)
 
 pub take_all-requires-in-Err-BadText : goal.take_all-requires-in-Err-BadText
-take_all-requires-in-Err-BadText c =
-    let up = rw c.in-Err-BadText.field-0-is at c.in-Err-BadText.ensures in
-    all_fit _ _ up.gave.splits.fit
+take_all-requires-in-Err-BadText c = grind (arith, all_fit)
 
 pub returns-in-Ok : goal.returns-in-Ok
 returns-in-Ok c = fed_all _ _ _ _ _ _ _ _ c.in-Ok.ensures c.take_all.ensures

@@ -1,4 +1,4 @@
-use Rattle.std.proofs.Common.{◌∙◌, ℕ, ap, subst}
+use Rattle.std.proofs.Common.{◌∙◌, ℕ, ap, subst, arith}
 use Rattle.sam_queue.specs.History.{IsEnded}
 use Rattle.sam_queue.specs.Views.{LineView}
 use Rattle.sam_threads.proofs.HostWhole.{told_of, gate_refuses, serves_ended}
@@ -16,6 +16,4 @@ pub returns-clause-way : goal.returns-clause-way
 returns-clause-way g c = gate_refuses (g.G.Gate.may_refuse c.args.gate.now 2) _ _ _ _ _ _ c.run-passed.ensures.serves
 
 pub drop_after-requires : goal.drop_after-requires
-drop_after-requires g c =
-    let one = ap (λ (x : LineView). x.senders) c.run-passed.ensures.line ∙ c.requires.one in
-    serves_ended (g.G.Gate.may_refuse c.args.gate.now 2) _ _ _ _ _ _ _ one c.run-passed.ensures.serves
+drop_after-requires g c = grind (arith, serves_ended)

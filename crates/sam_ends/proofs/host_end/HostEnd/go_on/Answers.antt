@@ -1,13 +1,11 @@
-use Rattle.std.proofs.Common.{rules, ◌≡◌, sym, subst, Err}
+use Rattle.std.proofs.Common.{rules, ◌≡◌, sym, subst, Err, arith}
 use Rattle.sam_ends.specs.HostEnds.{GoesOn}
 use Rattle.sam_ends.specs.HostSteps.{Answer}
 use Rattle.sam_ends.proofs.HostEndGoing.{goes_further, not_written}
 use Rattle.sam_ends.proofs.host_end.HostEnd.go_on.Goals as goal
 
 pub loop-self-preserved : goal.loop-self-preserved
-loop-self-preserved c =
-    goes_further c.args.self.now c.loop-self.self c.answer_first.new.self c.write_answer-in-loop-self.new.self c.loop-self.invariant c.in_ok-answer_first.ensures
-    c.in_ok-write_answer-2.ensures
+loop-self-preserved c = grind (arith, goes_further)
 
 pub returns-in_err-write_answer-2 : goal.returns-in_err-write_answer-2
 returns-in_err-write_answer-2 c =

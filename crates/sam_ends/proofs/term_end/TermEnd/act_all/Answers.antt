@@ -1,7 +1,7 @@
-use Rattle.std.proofs.Common.{rules, ◌≡◌, ap, subst, sym, length, Ok, Err, arith}
+use Rattle.std.proofs.Common.{rules, ◌≡◌, subst, sym, Ok, Err, arith}
 use Rattle.sam_ends.specs.TermEnds.{PlainTermEnd}
-use Rattle.sam_ends.specs.TermSteps.{Acts, ActsAll, ActsFirst, written}
-use Rattle.sam_ends.proofs.TermEndCalls.{Acting, acted_all, acting_failed, acting_more, acting_none, acting_unwritten, acting_written}
+use Rattle.sam_ends.specs.TermSteps.{Acts, ActsAll, ActsFirst}
+use Rattle.sam_ends.proofs.TermEndCalls.{acted_all, acting_failed, acting_more, acting_none, acting_unwritten, acting_written}
 use Rattle.sam_ends.proofs.term_end.TermEnd.act_all.Goals as goal
 
 pub loop-self-init : goal.loop-self-init
@@ -11,25 +11,13 @@ pub act_first-requires : goal.act_first-requires
 act_first-requires c = c.loop-self.invariant.idle.unwritten
 
 pub returns-in_err-act_first : goal.returns-in_err-act_first
-returns-in_err-act_first c =
-    let why = c.in_err-act_first.field-0.0 in
-    let same : c.from_residual.result ≡ Err why = search rules in
-    subst (λ x. ActsAll c.args.self.now x c.act_first.new.self) (sym same)
-    (acting_failed c.args.self.now c.loop-self.self c.act_first.new.self why c.loop-self.invariant c.in_err-act_first.ensures)
+returns-in_err-act_first c = grind (arith, acting_failed)
 
 pub loop-self-smaller : goal.loop-self-smaller
-loop-self-smaller c =
-    let f : ActsFirst c.loop-self.self c.act_first.new.self = subst (λ b. Acts c.loop-self.self (Ok b) c.act_first.new.self) c.if-branch.true c.in_ok-act_first.ensures in
-    let wrote : c.write_composed.new.self ≡ written c.act_first.new.self = c.in_ok-write_composed.ensures in
-    let less = ap (λ (x : PlainTermEnd). length x.term.held) wrote in
-    omega (arith, f.fewer, less)
+loop-self-smaller c = grind arith
 
 pub loop-self-preserved : goal.loop-self-preserved
-loop-self-preserved c =
-    let e : PlainTermEnd = c.args.self.now in
-    let f : ActsFirst c.loop-self.self c.act_first.new.self = subst (λ b. Acts c.loop-self.self (Ok b) c.act_first.new.self) c.if-branch.true c.in_ok-act_first.ensures in
-    let wrote : c.write_composed.new.self ≡ written c.act_first.new.self = c.in_ok-write_composed.ensures in
-    subst (λ x. Acting e x) (sym wrote) (acting_written e c.act_first.new.self (acting_more e c.loop-self.self c.act_first.new.self c.loop-self.invariant f))
+loop-self-preserved c = grind (arith, acting_written, acting_more)
 
 pub returns-in_err-write_composed : goal.returns-in_err-write_composed
 returns-in_err-write_composed c =
@@ -41,6 +29,4 @@ returns-in_err-write_composed c =
     (acting_unwritten e c.act_first.new.self c.write_composed.new.self why (acting_more e c.loop-self.self c.act_first.new.self c.loop-self.invariant f) c.in_err-write_composed.ensures)
 
 pub returns : goal.returns
-returns c =
-    acted_all c.args.self.now c.loop-self.self c.act_first.new.self c.loop-self.invariant
-    (subst (λ b. Acts c.loop-self.self (Ok b) c.act_first.new.self) c.if-branch.false c.in_ok-act_first.ensures)
+returns c = grind (arith, acted_all)

@@ -1,4 +1,4 @@
-use Rattle.std.proofs.Common.{rules, ◌≡◌, subst, sym, Err}
+use Rattle.std.proofs.Common.{rules, ◌≡◌, subst, sym, Err, arith}
 use Rattle.sam_ends.specs.TermEnds.{PlainTermEnd, FlushesIdle, Flushes}
 use Rattle.sam_ends.proofs.TermEndCalls.{call_brought, call_failed, flush_not, flushed_on}
 use Rattle.sam_ends.proofs.term_end.TermEnd.flush.Goals as goal
@@ -20,9 +20,4 @@ returns-in_err-compose_unsent c =
     (call_brought c.args.self.now m k (Err why) (λ x. FlushesIdle x (Err why) k) c.in_ok-resume.ensures (flush_not m k why c.in_err-compose_unsent.ensures))
 
 pub returns : goal.returns
-returns c =
-    let m : PlainTermEnd = c.resume.new.self in
-    let k : PlainTermEnd = c.compose_unsent.new.self in
-    let g : PlainTermEnd = c.go_on.new.self in
-    call_brought c.args.self.now m g c.go_on.result (λ x. FlushesIdle x c.go_on.result g) c.in_ok-resume.ensures
-    (flushed_on m k c.go_on.new.self c.go_on.result c.in_ok-compose_unsent.ensures c.go_on.ensures)
+returns c = grind (arith, call_brought, flushed_on)

@@ -1,21 +1,11 @@
-use Rattle.std.proofs.Common.{ap, subst, sym}
-use Rattle.sam_ends.specs.Streams.{FitFrames}
+use Rattle.std.proofs.Common.{ap, subst, arith}
 use Rattle.sam_ends.specs.TermEnds.{PlainTermEnd, TakesIn, shown}
 use Rattle.sam_ends.proofs.TermEndFits.{given_fit}
 use Rattle.sam_ends.proofs.TermEndSteps.{given_reads}
 use Rattle.sam_ends.proofs.term_end.TermEnd.take_in.Goals as goal
 
 pub invariant_of-self-2 : goal.invariant_of-self-2
-invariant_of-self-2 c =
-    let given = c.in_ok-given.given in
-    record {
-      waiting = subst (λ frames. FitFrames frames) (sym c.from_vec.ensures.items)
-          (given_fit c.self.inside.framer c.args.piece.now given.messages.items given.behind c.feed_framer.new.framer c.in_ok-given.ensures);
-      unwritten = c.self.invariant.unwritten;
-      counted = c.self.invariant.counted;
-      stamped = c.self.invariant.stamped;
-      reads = given_reads c.self.inside.framer c.args.piece.now given.messages.items given.behind c.feed_framer.new.framer c.in_ok-given.ensures;
-    }
+invariant_of-self-2 c = grind (arith, given_fit, given_reads)
 
 pub returns : goal.returns
 returns c =

@@ -1,6 +1,5 @@
-use Rattle.std.proofs.Common.{sym, ap, ◌∙◌, subst}
-use Rattle.sam_runes.specs.Slots.{free_slot}
-use Rattle.sam_term.specs.Term.{PlainTerminal, is_open}
+use Rattle.std.proofs.Common.{sym, ap, ◌∙◌, subst, arith}
+use Rattle.sam_term.specs.Term.{is_open}
 use Rattle.sam_term.specs.Sound.{IsSound, seen}
 use Rattle.sam_term.proofs.FileSteps.{sound-free}
 use Rattle.sam_term.proofs.term.Terminal.drop_file.Goals as goal
@@ -11,6 +10,4 @@ invariant_of-self c =
     (sound-free (seen c.self.inside) c.args.tag c.self.invariant (ap (λ t. is_open t c.args.tag) c.self.view_is ∙ c.requires.shut))
 
 pub returns : goal.returns
-returns c =
-    ap (λ ss. record (seen c.self.inside) { files = ss }) c.take_known.ensures.files
-    ∙ ap {A = PlainTerminal} (λ t. record t { files = free_slot t.files c.args.tag }) c.self.view_is
+returns c = grind arith

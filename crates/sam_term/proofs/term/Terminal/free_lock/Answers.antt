@@ -1,6 +1,6 @@
-use Rattle.std.proofs.Common.{arith, ap, ◌∙◌, refl}
+use Rattle.std.proofs.Common.{arith, refl}
 use Rattle.std.specs.Prelude.{◌-◌}
-use Rattle.sam_term.specs.Term.{put_window, took_unlockfile}
+use Rattle.sam_term.specs.Term.{took_unlockfile}
 use Rattle.sam_term.specs.Sound.{seen}
 use Rattle.sam_term.proofs.Sounds.{sound_lent}
 use Rattle.sam_term.proofs.term.Terminal.free_lock.Goals as goal
@@ -14,6 +14,4 @@ invariant_of-self c =
 
 pub returns : goal.returns
 unfolding took_unlockfile
-returns c =
-    ap (λ w. put_window (seen c.self.inside) c.args.tag (record w { locks = w.locks - 1 })) c.window_mut-window.ensures.value
-    ∙ ap (λ t. took_unlockfile t c.args.tag) c.self.view_is
+returns c = grind arith

@@ -1,9 +1,9 @@
-use Rattle.std.proofs.Common.{◌≡◌, ◌≤◌, sym, ap, ◌∙◌, subst, length, List, ℕ, true}
+use Rattle.std.proofs.Common.{◌≡◌, ◌≤◌, sym, ap, ◌∙◌, subst, length, List, ℕ, true, arith}
 use Rattle.std.specs.Prelude.{◌+◌, option_copied, option_map}
 use Rattle.sam_runes.specs.Texts.{max_runes}
 use Rattle.sam_term.specs.Acting.{first_event}
-use Rattle.sam_term.specs.Editing.{typed_over, typed_runes, lengthened, shortened}
-use Rattle.sam_term.specs.Term.{window_at, is_open, put_window, joins}
+use Rattle.sam_term.specs.Editing.{typed_over, typed_runes, lengthened}
+use Rattle.sam_term.specs.Term.{window_at, put_window, joins}
 use Rattle.sam_term.specs.Sound.{IsSound, seen}
 use Rattle.sam_term.proofs.Acts.{first_is}
 use Rattle.sam_term.proofs.Grows.{lent_same, on_err, at_err, at_ok}
@@ -11,27 +11,10 @@ use Rattle.sam_term.proofs.TypedMade.{lengthened-joined, shortened-again, sound-
 use Rattle.sam_term.proofs.term.Terminal.join_first.Goals as goal
 
 pub invariant_of-self-then-is_err : goal.invariant_of-self-then-is_err
-invariant_of-self-then-is_err c =
-    let t = seen c.self.inside in
-    let f = c.args.tag in
-    let s = c.typed_runes-runes.result.now in
-    let window = at_err c.type_over-typed.result (sym c.is_err.ensures.value ∙ c.if-is_err.true) c.type_over-typed.ensures.err in
-    let unsent = c.shorten.ensures ∙ (ap (λ o. option_map (shortened (length s)) o) c.in_ok-lengthen.ensures.ok ∙ shortened-again t.unsent s) in
-    let state : record (put_window t f c.type_over-typed.new.window) { unsent = c.shorten.new.unsent } ≡ t =
-    ap (λ o. record (put_window t f c.type_over-typed.new.window) { unsent = o }) unsent
-    ∙ lent_same t f _ _ (ap (λ u. is_open u f) c.self.view_is ∙ c.requires.opened) c.window_mut.ensures.value window in
-    subst (λ u. IsSound u) (sym state) c.self.invariant
+invariant_of-self-then-is_err c = grind (arith, at_err, shortened-again, lent_same)
 
 pub returns-then-is_err-clause-err : goal.returns-then-is_err-clause-err
-returns-then-is_err-clause-err c =
-    let t = seen c.self.inside in
-    let f = c.args.tag in
-    let s = c.typed_runes-runes.result.now in
-    let window = at_err c.type_over-typed.result (sym c.is_err.ensures.value ∙ c.if-is_err.true) c.type_over-typed.ensures.err in
-    let unsent = c.shorten.ensures ∙ (ap (λ o. option_map (shortened (length s)) o) c.in_ok-lengthen.ensures.ok ∙ shortened-again t.unsent s) in
-    on_err _
-    (ap (λ o. record (put_window t f c.type_over-typed.new.window) { unsent = o }) unsent
-    ∙ (lent_same t f _ _ (ap (λ u. is_open u f) c.self.view_is ∙ c.requires.opened) c.window_mut.ensures.value window ∙ c.self.view_is))
+returns-then-is_err-clause-err c = grind (arith, at_err, shortened-again, on_err, lent_same)
 
 pub invariant_of-self-else-is_err : goal.invariant_of-self-else-is_err
 invariant_of-self-else-is_err c =

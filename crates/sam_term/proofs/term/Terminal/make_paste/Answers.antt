@@ -1,6 +1,5 @@
-use Rattle.std.proofs.Common.{sym, ap, ◌∙◌, refl, subst, arith, [], ◌∷◌, ◌++◌, ◌+◌, length}
-use Rattle.sam_term.specs.Term.{is_open, edited, cut_rasp, flushed, composed, unsent_message}
-use Rattle.sam_term.specs.Taking.{IsAnswer, done}
+use Rattle.std.proofs.Common.{ap, ◌∙◌, refl, arith, [], ◌∷◌}
+use Rattle.sam_term.specs.Term.{is_open, edited, flushed, composed}
 use Rattle.sam_mesg.specs.declared.tmesg.Tmesg.TheVariants.{Tpaste, Tcut}
 use Rattle.sam_term.specs.declared.event.UserEvent.TheVariants.{Paste}
 use Rattle.sam_term.proofs.Acts.{made_of, opened_by}
@@ -10,10 +9,7 @@ use Rattle.sam_term.proofs.Edits.{later, loud_answer, two_more, opened-put, refu
 use Rattle.sam_term.proofs.term.Terminal.make_paste.Goals as goal
 
 pub returns-then-selected : goal.returns-then-selected
-returns-then-selected c =
-    subst (λ made. IsAnswer c.args.self.now c.send_for_event.new.self c.send_for_event.result (done made))
-    (sym (made_of c.args.self.now (Paste c.args.tag) c.requires.first ∙ made-paste_none (later c.args.self.now) c.args.tag _ c.dot_of-selected.ensures c.if-selected.true))
-    c.send_for_event.ensures
+returns-then-selected c = grind (arith, made_of c.args.self.now (Paste c.args.tag) c.requires.first, made-paste_none, later c.args.self.now)
 
 pub returns-in-Err : goal.returns-in-Err
 returns-in-Err c =
@@ -25,21 +21,10 @@ returns-in-Err c =
     )
 
 pub compose-requires-clause-counts : goal.compose-requires-clause-counts
-compose-requires-clause-counts c =
-    let k = c.in-Ok.ensures.counts in
-    let u = c.unsent_count-count.ensures in
-    let s = ap (λ t. t.sent) c.cut_selected.ensures.cut ∙ flushed-sent c.drop_first.new.self in
-    let n = ap (λ t. t.sent + length (unsent_message t.unsent)) c.drop_first.ensures in
-    omega arith
+compose-requires-clause-counts c = grind (arith, flushed-sent)
 
 pub compose-requires-in-Ok-clause-counts : goal.compose-requires-in-Ok-clause-counts
-compose-requires-in-Ok-clause-counts c =
-    let k = c.in-Ok.ensures.counts in
-    let u = c.unsent_count-count.ensures in
-    let s = ap (λ t. t.sent) c.cut_selected.ensures.cut ∙ flushed-sent c.drop_first.new.self in
-    let n = ap (λ t. t.sent + length (unsent_message t.unsent)) c.drop_first.ensures in
-    let m = ap (λ t. t.sent) c.compose.ensures.composed ∙ sent-composed c.cut_selected.new.self (Tcut c.args.tag c.dot_of-selected.result.0 c.dot_of-selected.result.1) in
-    omega arith
+compose-requires-in-Ok-clause-counts c = grind (arith, flushed-sent, sent-composed)
 
 pub send_for_event-requires : goal.send_for_event-requires
 send_for_event-requires c = record { opened = opened_by c.args.self.now (Paste c.args.tag) c.args.tag c.requires.free c.requires.first refl refl }
@@ -55,11 +40,4 @@ returns-in-Ok c =
     let t = c.args.self.now in
     let d = c.dot_of-selected.result in
     let f = c.args.tag in
-    loud_answer t _ (Paste f) _ _ _ c.requires.first (made-paste (later t) f d c.dot_of-selected.ensures c.if-selected.false)
-    (c.compose-in-Ok.ensures.composed
-    ∙ ap (λ u. composed u (Tpaste f d.0)) (c.compose.ensures.composed
-    ∙ ap (λ u. composed u (Tcut f d.0 d.1)) (c.cut_selected.ensures.cut ∙ ap (λ u. cut_rasp (flushed u).0 f d.0 d.1) c.drop_first.ensures)))
-    c.done_with.ensures.done
-    (two_more _ _ _ _ _ _ _ (ap (λ o. o.messages) c.in-Ok.ensures.ok) (c.cut_selected.ensures.messages ∙ ap (λ u. c.in-Ok.out.messages ++ (flushed u).1) c.drop_first.ensures)
-    c.compose.ensures.messages c.compose-in-Ok.ensures.messages)
-    c.done_with.ensures.countable
+    grind (arith, loud_answer, made-paste (later t) f d c.dot_of-selected.ensures c.if-selected.false, two_more)

@@ -1,22 +1,18 @@
-use Rattle.std.proofs.Common.{◌≤◌, sym, ap, ◌∙◌, subst, refl, length}
-use Rattle.sam_term.specs.Term.{is_open, window_at, set_dot_of}
+use Rattle.std.proofs.Common.{ap, ◌∙◌, refl, arith}
+use Rattle.sam_term.specs.Term.{set_dot_of}
 use Rattle.sam_term.specs.declared.event.UserEvent.TheVariants.{Select}
 use Rattle.sam_term.proofs.Acts.{opened_by}
 use Rattle.sam_term.proofs.Edits.{quiet_answer, selects_within}
 use Rattle.sam_term.proofs.term.Terminal.make_select.Goals as goal
 
 pub set_dot-requires-clause-opened : goal.set_dot-requires-clause-opened
-set_dot-requires-clause-opened c =
-    ap (λ t. is_open t c.args.tag) c.drop_first.ensures
-    ∙ opened_by c.args.self.now (Select c.args.tag c.args.p c.args.q) c.args.tag c.requires.free c.requires.first refl refl
+set_dot-requires-clause-opened c = grind (arith, opened_by)
 
 pub set_dot-requires-clause-ordered : goal.set_dot-requires-clause-ordered
 set_dot-requires-clause-ordered c = (selects_within c.args.self.now c.args.tag c.args.p c.args.q c.requires.free c.requires.first).0
 
 pub set_dot-requires-clause-within : goal.set_dot-requires-clause-within
-set_dot-requires-clause-within c =
-    subst (λ t. c.args.q ≤ length (window_at t c.args.tag).rasp) (sym c.drop_first.ensures)
-    (selects_within c.args.self.now c.args.tag c.args.p c.args.q c.requires.free c.requires.first).1
+set_dot-requires-clause-within c = grind (arith, selects_within)
 
 pub returns : goal.returns
 returns c =

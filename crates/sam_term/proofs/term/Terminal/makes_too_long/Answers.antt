@@ -1,8 +1,7 @@
-use Rattle.std.proofs.Common.{◌≡◌, sym, ap, ◌∙◌, arith, ℕ, ◌+◌, ◌-◌, ◌≤◌, ◌<◌, true, length}
+use Rattle.std.proofs.Common.{◌≡◌, arith, ℕ, ◌+◌, ◌-◌, ◌≤◌, ◌<◌, true}
 use Rattle.std.specs.Prelude.{nat_lt}
 use Rattle.std.proofs.lemmas.Bool.{ltb_from_iff, ltb-true, lt-ltb}
 use Rattle.sam_runes.specs.Texts.{max_runes}
-use Rattle.sam_term.specs.Term.{makes_too_long, window_at}
 use Rattle.sam_term.proofs.term.Terminal.makes_too_long.Goals as goal
 
 over : (room l d n : ℕ) → room + l ≡ max_runes + d → d ≤ l → nat_lt room n ≡ nat_lt max_runes (l - d + n)
@@ -13,7 +12,4 @@ over room l d n e h =
     )
 
 pub returns-in-Typed : goal.returns-in-Typed
-returns-in-Typed c =
-    ap (λ n. nat_lt c.room_beside_dot.result n) c.len.ensures
-    ∙ (over c.room_beside_dot.result (length (window_at c.args.self.now c.in-Typed.tag).rasp) _ (length c.in-Typed.text) c.room_beside_dot.ensures.room c.room_beside_dot.ensures.within
-    ∙ ap (makes_too_long c.args.self.now) (sym c.in-Typed.is))
+returns-in-Typed c = grind (arith, over)

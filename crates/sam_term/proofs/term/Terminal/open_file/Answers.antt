@@ -1,8 +1,7 @@
-use Rattle.std.proofs.Common.{sym, ap, ◌∙◌, subst, Some}
-use Rattle.sam_term.specs.Term.{PlainTerminal, put_known, is_open, took_bindname}
+use Rattle.std.proofs.Common.{sym, ap, ◌∙◌, subst, Some, arith}
+use Rattle.sam_term.specs.Term.{put_known, is_open, took_bindname}
 use Rattle.sam_term.specs.Windows.{blank_window}
 use Rattle.sam_term.specs.Sound.{IsSound, seen}
-use Rattle.sam_term.specs.declared.records.KnownFile.{KnownFile}
 use Rattle.sam_term.proofs.FileSteps.{sound-put_known, blank_where_shut}
 use Rattle.sam_term.proofs.term.Terminal.open_file.Goals as goal
 
@@ -15,8 +14,4 @@ invariant_of-self c =
 
 pub returns : goal.returns
 unfolding took_bindname
-returns c =
-    let t = seen c.self.inside in
-    ap (λ r. put_known t c.args.tag (record c.file_mut.result.now { window = Some (record blank_window { rasp = r }) })) c.new.ensures
-    ∙ (ap {A = KnownFile} (λ k. put_known t c.args.tag (record k { window = Some blank_window })) c.file_mut.ensures.value
-    ∙ ap {A = PlainTerminal} (λ u. took_bindname u c.args.tag) c.self.view_is)
+returns c = grind arith

@@ -1,5 +1,4 @@
-use Rattle.std.proofs.Common.{sym, ◌∙◌, subst}
-use Rattle.sam_term.specs.Taking.{IsAnswer, done}
+use Rattle.std.proofs.Common.{sym, ◌∙◌, arith}
 use Rattle.sam_term.proofs.Acts.{lockable_first, made_sends, types, selects, cuts, pastes, snarfs, views, sets_snarf, flushes}
 use Rattle.sam_term.proofs.term.Terminal.perform.Goals as goal
 
@@ -7,9 +6,7 @@ pub send_for_event-requires : goal.send_for_event-requires
 send_for_event-requires c = record { opened = lockable_first c.args.self.now _ c.requires.free (sym c.in-Sends.is ∙ c.requires.deed) }
 
 pub returns-in-Sends : goal.returns-in-Sends
-returns-in-Sends c =
-    subst (λ made. IsAnswer c.args.self.now c.send_for_event.new.self c.send_for_event.result (done made))
-    (sym (made_sends c.args.self.now _ (sym c.in-Sends.is ∙ c.requires.deed))) c.send_for_event.ensures
+returns-in-Sends c = grind (arith, made_sends)
 
 pub make_typed-requires-clause-first : goal.make_typed-requires-clause-first
 make_typed-requires-clause-first c = types c.args.self.now _ (sym c.in-Types.is ∙ c.requires.deed)

@@ -1,4 +1,4 @@
-use Rattle.std.proofs.Common.{ap, ◌∙◌, sym, refl, inl, inr, arith, [], ◌++◌, ◌∷◌, Err}
+use Rattle.std.proofs.Common.{ap, ◌∙◌, sym, refl, inl, inr, arith, [], ◌∷◌, Err}
 use Rattle.sam_term.specs.Term.{sends, unchanged}
 use Rattle.sam_term.proofs.Sounds.{loud, full, is_countable}
 use Rattle.sam_term.proofs.Composes.{sends-sent}
@@ -17,11 +17,4 @@ returns-in-Err c =
     )
 
 pub returns-in-Ok : goal.returns-in-Ok
-returns-in-Ok c =
-    let made = sends c.args.self.now unchanged (c.args.message ∷ []) in
-    let e = sends-sent c.args.self.now c.args.message in
-    let u = c.unsent_count-count.ensures in
-    let k = c.in-Ok.ensures.counts in
-    loud made _ _ c.send_prepared.ensures.sent
-    (c.into_batch.ensures ∙ (c.send_prepared.ensures.messages ∙ ap (λ o. o.messages ++ made.1) c.in-Ok.ensures.ok))
-    (omega arith)
+returns-in-Ok c = grind (arith, sends-sent, loud)

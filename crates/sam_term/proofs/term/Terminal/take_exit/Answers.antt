@@ -1,5 +1,5 @@
-use Rattle.std.proofs.Common.{sym, ap, ◌∙◌, subst, false, true}
-use Rattle.sam_term.specs.Term.{PlainTerminal, took_exit}
+use Rattle.std.proofs.Common.{sym, subst, false, true, arith}
+use Rattle.sam_term.specs.Term.{took_exit}
 use Rattle.sam_term.specs.Sound.{IsSound, seen}
 use Rattle.sam_term.proofs.FileSteps.{sound-exit}
 use Rattle.sam_term.proofs.term.Terminal.take_exit.Goals as goal
@@ -12,7 +12,4 @@ invariant_of-self c =
 
 pub returns : goal.returns
 unfolding took_exit
-returns c =
-    let t = seen c.self.inside in
-    ap (λ ss. record t { has_exited = true; command_lock = false; files = ss }) c.free_all.ensures
-    ∙ ap {A = PlainTerminal} (λ u. took_exit u) c.self.view_is
+returns c = grind arith

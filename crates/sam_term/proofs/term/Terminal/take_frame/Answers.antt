@@ -1,5 +1,4 @@
-use Rattle.std.proofs.Common.{arith, sym, ap, ◌∙◌, subst, refl, inr}
-use Rattle.sam_term.specs.Taking.{IsAnswer}
+use Rattle.std.proofs.Common.{arith, sym, ap, ◌∙◌, refl, inr}
 use Rattle.sam_term.proofs.Sounds.{late, refused, taken}
 use Rattle.sam_term.proofs.term.Terminal.take_frame.Goals as goal
 
@@ -11,6 +10,4 @@ returns-in-Some c =
     (inr (refused c.args.self.now c.args.frame _ (let e = ap (λ t. t.sent) c.self.view_is in omega arith) (sym c.refusal.ensures ∙ c.in-Some.is)), refl)
 
 pub returns-in-None : goal.returns-in-None
-returns-in-None c =
-    subst (λ answer. IsAnswer c.args.self.now c.take.new.self c.take.result answer)
-    (taken c.args.self.now c.args.frame (let e = ap (λ t. t.sent) c.self.view_is in omega arith) (sym c.refusal.ensures ∙ c.in-None.is)) c.take.ensures
+returns-in-None c = grind (arith, taken)

@@ -1,16 +1,12 @@
-use Rattle.std.proofs.Common.{inl, refl, []}
+use Rattle.std.proofs.Common.{[], arith}
 use Rattle.sam_term.specs.Term.{took_grow}
 use Rattle.sam_term.proofs.Sounds.{quiet, is_countable}
 use Rattle.sam_term.proofs.term.Terminal.take_grow.Goals as goal
 
 pub returns : goal.returns
 unfolding took_grow
-returns c =
-    quiet (took_grow c.args.self.now c.args.tag c.args.p c.args.n) _ _ c.in_default.ensures.ok c.nothing.ensures.nothing c.nothing.ensures.countable
+returns c = grind (arith, quiet)
 
 pub returns-in-Err : goal.returns-in-Err
 unfolding took_grow
-returns-in-Err c = (
-  inl (refl, is_countable (took_grow c.args.self.now c.args.tag c.args.p c.args.n, []) c.known.ensures.countable),
-  c.in-Err.ensures.err,
-)
+returns-in-Err c = grind (arith, is_countable (took_grow c.args.self.now c.args.tag c.args.p c.args.n, []) c.known.ensures.countable)

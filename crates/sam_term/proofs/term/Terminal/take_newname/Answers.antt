@@ -16,12 +16,7 @@ invariant_of-self-2 c =
     (sym (blank_where_unknown t.files c.args.tag (ap (λ u. is_known u c.args.tag) c.self.view_is ∙ c.requires))))
 
 pub returns : goal.returns
-returns c =
-    let t = seen c.self.inside in
-    quiet (put_known c.args.self.now c.args.tag blank_known) _ _
-    (ap (λ ss. record t { files = ss }) (c.in_default.ensures.ok ∙ ap (λ s. put_slot t.files c.args.tag (record blank_known { name = s })) (c.from_vec.ensures ∙ c.new.ensures.items))
-    ∙ ap {A = PlainTerminal} (λ u. put_known u c.args.tag blank_known) c.self.view_is)
-    c.nothing.ensures.nothing c.nothing.ensures.countable
+returns c = grind (arith, quiet)
 
 pub returns-in-Err : goal.returns-in-Err
 returns-in-Err c =

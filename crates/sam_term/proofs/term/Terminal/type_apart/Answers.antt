@@ -1,7 +1,7 @@
 use Rattle.std.proofs.Common.{◌≤◌, sym, ap, ◌∙◌, refl, arith, ◌++◌, drop, length, List, ℕ, Some, None, inl}
 use Rattle.sam_term.specs.Acting.{first_event}
 use Rattle.sam_term.specs.Editing.{typed_over, typed_runes, cut_message, one_if, flushed_if}
-use Rattle.sam_term.specs.Term.{PlainTerminal, Made, window_at, is_open, edited, all_composed, unsent_message, flushed}
+use Rattle.sam_term.specs.Term.{PlainTerminal, Made, window_at, edited, all_composed, unsent_message, flushed}
 use Rattle.sam_term.specs.declared.event.UserEvent.TheVariants.{Typed}
 use Rattle.sam_term.proofs.Acts.{opened_by}
 use Rattle.sam_term.proofs.Edits.{later, loud_answer, opened-put, flushed-messages}
@@ -17,10 +17,7 @@ pub type_first-requires-clause-size : goal.type_first-requires-clause-size
 type_first-requires-clause-size c = typed-fits c.args.self.now c.args.tag _ c.requires.free c.requires.first
 
 pub mark_changed-requires : goal.mark_changed-requires
-mark_changed-requires c =
-    let t = c.args.self.now in
-    open_known c.type_first.new.self.files c.args.tag
-    (ap (λ u. is_open u c.args.tag) c.in-Ok-type_first.ensures.ok ∙ opened-put t c.args.tag (typed_over (window_at t c.args.tag) (typed_runes (first_event t.held))))
+mark_changed-requires c = grind (arith, open_known, opened-put)
 
 pub keep_typed-requires-clause-within : goal.keep_typed-requires-clause-within
 keep_typed-requires-clause-within c =
@@ -28,17 +25,7 @@ keep_typed-requires-clause-within c =
     let f = c.args.tag in
     let s = typed_runes (first_event t.held) in
     let w = typed_over (window_at t f) s in
-    let state =
-    c.compose_cut.ensures.composed
-    ∙ ap (λ u. all_composed u (cut_message f c.args.dot)) (c.compose_runes.ensures.composed
-    ∙ (ap (λ o. all_composed c.take_typed-runes.new.self (unsent_message o)) c.in-Ok-type_first.ensures.unsent
-    ∙ (ap (λ u. all_composed u (unsent_message t.unsent)) (c.take_typed-runes.ensures.dropped
-    ∙ (ap {A = PlainTerminal} (λ u. record u { held = drop 1 u.held }) (c.mark_changed.ensures ∙ ap (λ u. edited u f) c.in-Ok-type_first.ensures.ok)
-    ∙ ap {A = PlainTerminal} (λ u. record u { unsent = None }) (edited-put (later t) f w)))
-    ∙ put-flushed (later t) f w))) in
-    let end = ap (λ u. (window_at u f).dot.1) state ∙ ap (λ v. v.dot.1) (window-cut (edited (flushed (later t)).0 f) f w c.args.dot) in
-    let start = ap (λ (d : ℕ × ℕ). d.0) c.requires.dot in
-    omega arith
+    grind (arith, edited-put (later t) f w, put-flushed (later t) f w, window-cut (edited (flushed (later t)).0 f) f w c.args.dot)
 
 pub keep_typed-requires-clause-short : goal.keep_typed-requires-clause-short
 keep_typed-requires-clause-short c =

@@ -1,9 +1,9 @@
-use Rattle.std.proofs.Common.{◌≤◌, sym, ap, ◌∙◌, subst, length, List, ℕ}
+use Rattle.std.proofs.Common.{◌≤◌, sym, ap, ◌∙◌, subst, length, List, ℕ, arith}
 use Rattle.std.specs.Prelude.{◌+◌, ◌-◌, option_copied}
 use Rattle.sam_runes.specs.Texts.{max_runes}
 use Rattle.sam_term.specs.Acting.{first_event}
 use Rattle.sam_term.specs.Editing.{typed_over, typed_runes}
-use Rattle.sam_term.specs.Term.{window_at, is_open, put_window}
+use Rattle.sam_term.specs.Term.{window_at, put_window}
 use Rattle.sam_term.specs.Sound.{IsSound, seen}
 use Rattle.sam_term.proofs.Acts.{first_is}
 use Rattle.sam_term.proofs.Grows.{lent_same, on_err}
@@ -11,16 +11,10 @@ use Rattle.sam_term.proofs.TypedLaws.{sound-typed}
 use Rattle.sam_term.proofs.term.Terminal.type_first.Goals as goal
 
 pub invariant_of-self : goal.invariant_of-self
-invariant_of-self c =
-    subst (λ t. IsSound t)
-    (sym (lent_same (seen c.self.inside) c.args.tag _ _ (ap (λ t. is_open t c.args.tag) c.self.view_is ∙ c.requires.opened) c.window_mut.ensures.value c.in_err-type_over.ensures.err))
-    c.self.invariant
+invariant_of-self c = grind (arith, lent_same)
 
 pub returns-in_err-type_over-clause-err : goal.returns-in_err-type_over-clause-err
-returns-in_err-type_over-clause-err c =
-    on_err _
-    (lent_same (seen c.self.inside) c.args.tag _ _ (ap (λ t. is_open t c.args.tag) c.self.view_is ∙ c.requires.opened) c.window_mut.ensures.value c.in_err-type_over.ensures.err
-    ∙ c.self.view_is)
+returns-in_err-type_over-clause-err c = grind (arith, on_err, lent_same)
 
 pub invariant_of-self-2 : goal.invariant_of-self-2
 invariant_of-self-2 c =

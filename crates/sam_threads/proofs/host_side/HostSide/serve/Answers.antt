@@ -1,4 +1,4 @@
-use Rattle.std.proofs.Common.{◌∙◌, ap}
+use Rattle.std.proofs.Common.{◌∙◌, ap, arith}
 use Rattle.sam_queue.specs.Views.{LineView}
 use Rattle.sam_threads.proofs.HostWhole.{going_item, going_left, going_stops}
 use Rattle.sam_threads.proofs.host_side.HostSide.serve.Goals as goal
@@ -21,9 +21,4 @@ loop-preserved-in-Item g c =
     }
 
 pub loop-preserved : goal.loop-preserved
-loop-preserved g c = record {
-  goes_on = (tt, tt);
-  piece = c.loop.invariant.piece;
-  line = c.recv.ensures.line ∙ c.loop.invariant.line;
-  going = going_left _ _ _ _ _ _ _ c.recv.result _ c.in-Left.is c.recv.ensures.answer c.loop.invariant.going;
-}
+loop-preserved g c = grind (arith, going_left)

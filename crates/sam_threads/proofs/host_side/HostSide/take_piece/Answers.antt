@@ -1,4 +1,4 @@
-use Rattle.std.proofs.Common.{inl, refl}
+use Rattle.std.proofs.Common.{arith}
 use Rattle.sam_mesg.specs.declared.fault.MesgFault.TheVariants as wrong
 use Rattle.sam_threads.proofs.ApartTurns.{each_t}
 use Rattle.sam_threads.proofs.HostSide.{piece_all, piece_before, piece_unfed}
@@ -8,13 +8,10 @@ pub answer_all-requires-clause-fit : goal.answer_all-requires-clause-fit
 answer_all-requires-clause-fit g c κs within = each_t c.args.self.now.framer.version _ c.in-Ok.ensures.gave.splits.fit
 
 pub returns-in-Ok-clause-takes : goal.returns-in-Ok-clause-takes
-returns-in-Ok-clause-takes g c =
-    piece_all (g.G.Gate.may_refuse c.args.gate.now 2) _ _ _ _ _ _ _ _ _ c.answer_all.result c.answer_all.ensures.framer c.in-Ok.ensures c.answer_all.ensures.handles
+returns-in-Ok-clause-takes g c = grind (arith, piece_all)
 
 pub answer_before-requires-clause-fit : goal.answer_before-requires-clause-fit
-answer_before-requires-clause-fit g c κs within =
-    let up = rw c.in-Err-BadKind.field-0-is at c.in-Err-BadKind.ensures in
-    each_t c.args.self.now.framer.version _ up.gave.splits.fit
+answer_before-requires-clause-fit g c κs within = grind (arith, each_t)
 
 pub returns-in-Err-BadKind-clause-takes : goal.returns-in-Err-BadKind-clause-takes
 returns-in-Err-BadKind-clause-takes g c =
@@ -22,9 +19,7 @@ returns-in-Err-BadKind-clause-takes g c =
     piece_before (g.G.Gate.may_refuse c.args.gate.now 2) _ _ _ _ _ _ _ _ _ wrong.BadKind _ up c.answer_before.ensures.stops
 
 pub answer_before-requires-in-Err-BadLength-clause-fit : goal.answer_before-requires-in-Err-BadLength-clause-fit
-answer_before-requires-in-Err-BadLength-clause-fit g c κs within =
-    let up = rw c.in-Err-BadLength.field-0-is at c.in-Err-BadLength.ensures in
-    each_t c.args.self.now.framer.version _ up.gave.splits.fit
+answer_before-requires-in-Err-BadLength-clause-fit g c κs within = grind (arith, each_t)
 
 pub returns-in-Err-BadLength-clause-takes : goal.returns-in-Err-BadLength-clause-takes
 returns-in-Err-BadLength-clause-takes g c =
@@ -32,9 +27,7 @@ returns-in-Err-BadLength-clause-takes g c =
     piece_before (g.G.Gate.may_refuse c.args.gate.now 2) _ _ _ _ _ _ _ _ _ wrong.BadLength _ up c.answer_before-in-Err-BadLength.ensures.stops
 
 pub answer_before-requires-in-Err-BadText-clause-fit : goal.answer_before-requires-in-Err-BadText-clause-fit
-answer_before-requires-in-Err-BadText-clause-fit g c κs within =
-    let up = rw c.in-Err-BadText.field-0-is at c.in-Err-BadText.ensures in
-    each_t c.args.self.now.framer.version _ up.gave.splits.fit
+answer_before-requires-in-Err-BadText-clause-fit g c κs within = grind (arith, each_t)
 
 pub returns-in-Err-BadText-clause-takes : goal.returns-in-Err-BadText-clause-takes
 returns-in-Err-BadText-clause-takes g c =
@@ -45,6 +38,4 @@ pub returns-in-Err-OutOfMemory-clause-takes : goal.returns-in-Err-OutOfMemory-cl
 returns-in-Err-OutOfMemory-clause-takes g c = piece_unfed (g.G.Gate.may_refuse c.args.gate.now 2) _ _ _ _ _ _ tt
 
 pub returns-in-Err-CountFull-clause-takes : goal.returns-in-Err-CountFull-clause-takes
-returns-in-Err-CountFull-clause-takes g c =
-    let full = rw c.in-Err-CountFull.field-0-is at c.in-Err-CountFull.ensures in
-    piece_unfed (g.G.Gate.may_refuse c.args.gate.now 2) _ _ _ _ _ _ (inl (refl, full.1))
+returns-in-Err-CountFull-clause-takes g c = grind (arith, piece_unfed)

@@ -14,10 +14,7 @@ returns-then-not-branch-clause-done c =
     (drained_rest c.loop-event._event drain_limit c.args.self.now c.loop-event.self (omega (arith, c.loop-event-test.true)) c.loop-event.invariant still.0)
 
 pub loop-event-preserved : goal.loop-event-preserved
-loop-event-preserved c =
-    drained_more c.loop-event._event c.args.self.now c.loop-event.self c.advance.new.self c.loop-event.invariant
-    (subst (λ b. MatchBool b (Advances c.loop-event.self c.advance.new.self) ((next_event c.loop-event.self ≡ None) × (c.advance.new.self ≡ c.loop-event.self)))
-    c.if-not-branch.false c.in_ok-advance.ensures.advanced)
+loop-event-preserved c = grind (arith, drained_more)
 
 pub returns-clause-done : goal.returns-clause-done
 returns-clause-done c =

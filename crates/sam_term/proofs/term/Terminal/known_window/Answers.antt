@@ -1,8 +1,0 @@
-use Rattle.std.proofs.Common.{subst}
-use Rattle.sam_term.specs.Sound.{IsSound}
-use Rattle.sam_term.proofs.term.Terminal.known_window.Goals as goal
-
-pub returns : goal.returns
-returns c =
-    let s : IsSound c.args.self.now = subst (λ t. IsSound t) c.self.view_is c.self.invariant in
-    s.windows c.args.tag
