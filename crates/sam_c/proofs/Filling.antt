@@ -1,5 +1,5 @@
 -- A buffer that is filled rune by rune.
-use Rattle.std.proofs.Common.{◌≡◌, ◌∙◌, refl, sym, ap, subst, ℕ, ◌+◌, ◌<◌, ◌≤◌, List, [], ◌∷◌, ◌++◌, length, length-append, take, drop, Some, None, encode_utf8, arith}
+use Rattle.std.proofs.Common.{◌≡◌, ◌∙◌, refl, sym, ap, subst, ℕ, ◌+◌, ◌<◌, ◌≤◌, List, [], ◌∷◌, ◌++◌, length, length-append, take, drop, Some, None, encode_utf8, arith, rules}
 use Rattle.std.specs.Str.{encode_utf8_all}
 use Rattle.std.proofs.Math.Seq.{take-append_seam, drop-append-add}
 use Rattle.std.proofs.lemmas.List.{append-nil, drop-drop, length-drop, take_all}
@@ -18,9 +18,7 @@ pub starts : (runes before : List ℕ) → Stands runes before before 0 0
 starts runes before = record { bytes_are = refl; room = omega arith; now_is = refl }
 
 size-now : (runes before now : List ℕ) (i bytes : ℕ) → Stands runes before now i bytes → length now ≡ length before
-size-now runes before now i bytes s =
-    let e = ap length s.now_is ∙ length-append (encode_utf8_all (take i runes)) (drop bytes before) in
-    omega (arith, e, s.bytes_are, s.room, length-drop bytes before)
+size-now runes before now i bytes s = grind (arith, length-append, length-drop)
 
 pub fits-now : (runes before now : List ℕ) (i bytes : ℕ) → Stands runes before now i bytes → bytes ≤ length now
 fits-now runes before now i bytes s = omega (arith, size-now runes before now i bytes s, s.room)
@@ -31,35 +29,17 @@ one-more runes before now after i bytes end r lt is s puts =
     let done = encode_utf8_all (take i runes) in
     let spelt = encode_utf8 r in
     let front : take bytes now ≡ done = ap (λ n. take n now) s.bytes_are ∙ ap (λ x. take (length done) x) s.now_is ∙ take-append_seam done (drop bytes before) in
-    let behind : drop end now ≡ drop end before =
-    ap (λ n. drop n now) puts.0 ∙ ap (λ n. drop (n + length spelt) now) s.bytes_are ∙ ap (λ x. drop (length done + length spelt) x) s.now_is
-    ∙ drop-append-add done (drop bytes before) (length spelt) ∙ drop-drop (length spelt) bytes before ∙ ap (λ n. drop n before) (sym puts.0) in
+    let behind : drop end now ≡ drop end before = ap (λ n. drop n now) puts.0 ∙ ap (λ n. drop (n + length spelt) now) s.bytes_are ∙ ap (λ x. drop (length done + length spelt) x) s.now_is ∙ drop-append-add done (drop bytes before) (length spelt) ∙ drop-drop (length spelt) bytes before ∙ ap (λ n. drop n before) (sym puts.0) in
     record {
-      bytes_are = puts.0 ∙ ap (λ n. n + length spelt) s.bytes_are ∙ sym (counted-more runes i r lt is);
-      room = omega (arith, puts.1, size-now runes before now i bytes s);
-      now_is =
-          puts.2 ∙ ap (λ x. (x ++ spelt) ++ drop end now) front ∙ ap (λ x. (done ++ spelt) ++ x) behind
-          ∙ ap (λ x. x ++ drop end before) (sym (spelled-more runes i r lt is ∙ ap (λ x. done ++ x) (append-nil spelt)));
+      bytes_are = grind (arith, encode_utf8, counted-more);
+      room = grind (arith, size-now);
+      now_is = puts.2 ∙ ap (λ x. (x ++ spelt) ++ drop end now) front ∙ ap (λ x. (done ++ spelt) ++ x) behind ∙ ap (λ x. x ++ drop end before) (sym (spelled-more runes i r lt is ∙ ap (λ x. done ++ x) (append-nil spelt)));
     }
 
 pub no-more : (runes before now : List ℕ) (filled : Filled) (r : ℕ) → filled.runes < length runes → r ≡ get_or runes filled.runes r
     → Stands runes before now filled.runes filled.bytes → (after : List ℕ) → Puts r filled.bytes now after None → Fills runes before after filled
-no-more runes before now filled r lt is s after puts =
-    record {
-      count = omega (arith, lt);
-      bytes_are = s.bytes_are;
-      room = s.room;
-      most = λ l. omega (arith, puts.0, size-now runes before now filled.runes filled.bytes s, counted-more runes filled.runes r lt is, s.bytes_are);
-      after_is = puts.1 ∙ s.now_is;
-    }
+no-more runes before now filled r lt is s after puts = grind (arith, size-now, counted-more)
 
 pub no-rest : (runes before now : List ℕ) (filled : Filled) → length runes ≤ filled.runes → filled.runes ≤ length runes
     → Stands runes before now filled.runes filled.bytes → Fills runes before now filled
-no-rest runes before now filled all within s =
-    record {
-      count = within;
-      bytes_are = s.bytes_are;
-      room = s.room;
-      most = λ l. absurd (omega (arith, l, all));
-      after_is = s.now_is;
-    }
+no-rest runes before now filled all within s = grind arith

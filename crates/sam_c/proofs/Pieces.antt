@@ -1,4 +1,5 @@
 -- The parts of a box in a proof by hand: what they own is taken out of their words, and put back.
+use Rattle.std.proofs.Common.{arith, rules}
 use seplogic.Ra.Ura.{Ura}
 use types.Logic.{Logic}
 use Rattle.sam_c.proofs.Walks.{◌≡◌, List, [], ◌∷◌, ◌++◌, None, Option, Some, is_some, true, true≢false, refl, sym, ap, ◌∙◌, T, lit<, Ty, tcons, tnil, ty_ptr, ty_struct, Val, WT, has_ty}
@@ -12,8 +13,7 @@ abbrev pub Good : Ty → Val → Type 0
 Good τ v = T (has_ty τ v) × WT v
 
 pub pointer_typed : (at : Ptr) → Good ty_ptr (ptr_val at)
-pointer_typed (block_ptr b o) = (tt, tt)
-pointer_typed null_ptr = (tt, record { fits = lit< tt })
+pointer_typed at = grind (arith, lit<)
 
 module _ (E : Bx) where
   abbrev pub Pieces : RattleType
@@ -33,8 +33,7 @@ module _ (E : Bx) where
       ∙ ap (λ (qs : List Val). vstruct (of_list (ptr_val at ∷ (qs ++ []))) ∷ []) two
 
   pub pair_typed : (at : Ptr) (hv : Val) → Fits E.al hv → Good (ty_struct (parts.the_type (R E) (P E) E.al.g).name (tcons ty_ptr (tcons (α E.al) tnil))) (pair at hv)
-  pair_typed (block_ptr b o) hv fits = (and_tt (has_ty (α E.al) hv) fits.0, (tt, (fits.1, tt)))
-  pair_typed null_ptr hv fits = (and_tt (has_ty (α E.al) hv) fits.0, (record { fits = lit< tt }, (fits.1, tt)))
+  pair_typed at hv e = grind (arith, and_tt, has_ty, lit<)
 
 module _ (E : Bx) {M : Type 1} {𝓤 : Ura M} {𝓛 : Logic 𝓤} {K : Type 0} {Γ : List (Item 𝓤)} {G : Goal 𝓤 𝓛.H} where
   pub pieces_out : K → (d : (Pieces E).Denot) (vs : List Val)
@@ -56,5 +55,4 @@ module _ (E : Bx) {M : Type 1} {𝓤 : Ura M} {𝓛 : Logic 𝓤} {K : Type 0} {
   pub as_box : K → (at : Ptr) (a : E.al.row.Denot) (held : Option (X E)) (vs : List Val) → is_some held ≡ true
       → ((x : X E) → held ≡ Some x → Seq K 𝓛 (‵ ((B E).own_val (record { ptr = at; alloc = a; value = x }) vs) ∷ Γ) G)
       → Seq K 𝓛 (‵ ((Pieces E).own_val (record { at = at; alloc = a; value = held }) vs) ∷ Γ) G
-  as_box t at a (Some x) vs there next = use1 𝓛 (‵ ((B E).own_val (record { ptr = at; alloc = a; value = x }) vs)) (id⊢ 𝓤 _) $ next x refl
-  as_box t at a None vs there next = absurd (true≢false (sym there))
+  as_box e at a held vs u w = grind (arith, use1, id⊢, true≢false)

@@ -1,5 +1,5 @@
 -- An event that brings a text, and what a slot holds.
-use Rattle.std.proofs.Common.{◌≡◌, refl, sym, ap, ℕ, zero, suc, true, List, [], ◌∷◌, Option, Some, None, inl, slice_get}
+use Rattle.std.proofs.Common.{◌≡◌, refl, sym, ap, ℕ, zero, suc, true, List, [], ◌∷◌, Option, Some, None, inl, slice_get, arith, rules}
 use Rattle.std.specs.Prelude.{is_some}
 use Rattle.std.specs.Str.{encode_utf8_all}
 use Rattle.sam_runes.specs.Reading.{AreRunes}
@@ -10,6 +10,4 @@ use Rattle.sam_c.specs.Terms.{TermPut, TermPutText}
 -- the text was read, and its event put
 pub text-put : (before after : Option PlainTermEnd) (text runes : List ℕ) (event : List ℕ → UserEvent) (status : ℕ) → is_some before ≡ true
     → AreRunes runes → encode_utf8_all runes ≡ text → TermPut before (event runes) status after → TermPutText before text event status after
-text-put None after text runes event status made are spelt put = absurd (cc)
-text-put (Some e) after text runes event status made are spelt put =
-    (put.0, put.1, inl (runes, put.2.0, are, spelt, put.2.1, put.2.2))
+text-put before after text runes event status e u w q = grind arith

@@ -1,5 +1,5 @@
 -- What waits in a host end fits: messages that a framer gave, and the frames of an answer.
-use Rattle.std.proofs.Common.{◌≡◌, subst, ℕ, false, List, [], ◌∷◌, Option, Some, None, arith}
+use Rattle.std.proofs.Common.{◌≡◌, subst, ℕ, false, List, [], ◌∷◌, Option, Some, None, arith, rules}
 use Rattle.std.proofs.lemmas.List.Elements.{All-nil, All-cons, All-tail}
 use Rattle.sam_mesg.specs.declared.tmesg.Tmesg.{Tmesg}
 use Rattle.sam_mesg.proofs.Versions.{grows_t}
@@ -19,12 +19,10 @@ fit_in_turn version [] fit = All-nil FitsLast
 fit_in_turn version (m ∷ ms) fit = All-cons FitsLast m ms (grows_t version m fit.0.fits) (fit_in_turn (terminal.after version m) ms fit.1)
 
 given_fit : (h k : Held) (piece : List ℕ) (ms : List Tmesg) (behind : Option StreamFault) → Gives terminal h piece ms behind k → FitMessages ms
-given_fit h k piece ms None all = fit_in_turn h.version ms all.gave.splits.fit
-given_fit h k piece ms (Some why) (place, up) = fit_in_turn h.version ms up.gave.splits.fit
+given_fit h k piece ms behind e = grind (arith, fit_in_turn)
 
 given_reads : (h k : Held) (piece : List ℕ) (ms : List Tmesg) (behind : Option StreamFault) → Gives terminal h piece ms behind k → behind ≡ None → k.failed ≡ false
-given_reads h k piece ms None all none = all.sound
-given_reads h k piece ms (Some why) up none = absurd (cc)
+given_reads h k piece ms behind e u = grind arith
 
 -- the oldest message was answered
 pub answered_sound : (e g : PlainHostEnd) (version : ℕ) (m : Tmesg) → IsSound e → e.waiting ≡ m ∷ g.waiting → FitInPlace version g.unwritten

@@ -1,5 +1,5 @@
 -- Going on with what waits, step by step.
-use Rattle.std.proofs.Common.{◌≡◌, refl, sym, ap, subst, ◌∙◌, ℕ, List, [], ◌∷◌, ◌++◌, drop, true, Option, None, Ok, Err, inl, inr, append_assoc, append-nil, arith}
+use Rattle.std.proofs.Common.{◌≡◌, refl, sym, ap, subst, ◌∙◌, ℕ, List, [], ◌∷◌, ◌++◌, drop, true, Option, None, Ok, Err, inl, inr, append_assoc, append-nil, arith, rules}
 use Rattle.sam_mesg.specs.declared.tmesg.Tmesg.{Tmesg}
 use Rattle.sam_mesg.specs.declared.hmesg.HFrame.{HFrame}
 use Rattle.sam_frame.specs.Direction.{host, terminal}
@@ -106,10 +106,7 @@ not_written e l k g why gone first writes = grind (arith, (first_gone e l k gone
 pub ends : (e l g : PlainHostEnd) (result : Answer) → HasGone e l → l.waiting ≡ [] → Ends l result g → GoesOn e result g
 ends e l g (Ok done) gone none (behind, is) = grind (arith, all_answered)
 ends e l g (Err (fault.Stopped (stop.Stream why))) gone none (behind, is) = grind (arith, (all_answered e l gone none))
-ends e l g (Err (fault.Stopped (stop.Refused why))) gone none bad = absurd bad
-ends e l g (Err fault.Unfinished) gone none bad = absurd bad
-ends e l g (Err fault.OutOfMemory) gone none bad = absurd bad
-ends e l g (Err fault.CountFull) gone none bad = absurd bad
+ends e l g result u w q = grind arith
 
 -- ## Feeding
 

@@ -1,5 +1,5 @@
 -- What every run of a host end comes to.
-use Rattle.std.proofs.Common.{◌≡◌, refl, sym, ap, subst, ◌∙◌, inl, inr, ℕ, List, [], ◌∷◌, ◌++◌, flat_map, Option, Some, None, Result, Ok, Err, append_assoc, append-nil, arith}
+use Rattle.std.proofs.Common.{◌≡◌, refl, sym, ap, subst, ◌∙◌, inl, inr, ℕ, List, [], ◌∷◌, ◌++◌, flat_map, Option, Some, None, Result, Ok, Err, append_assoc, append-nil, arith, rules}
 use Rattle.std.specs.Prelude.{option_map}
 use Rattle.sam_mesg.specs.declared.fault.MesgFault.{MesgFault}
 use Rattle.sam_mesg.specs.declared.fault.MesgFault.TheVariants as wrong
@@ -31,37 +31,12 @@ pub record Kept (h : PlainHost) (stream out : List ℕ) (e : PlainHostEnd) : Typ
 -- ## Steps
 
 kept_answers : (h : PlainHost) (stream out : List ℕ) (e g : PlainHostEnd) (ms : List Tmesg) → Answers e ms g → Kept h stream out e → Kept h stream out g
-kept_answers h stream out e g ms a kept =
-    let s = kept.served in
-    let all : s.answered ++ e.waiting ≡ (s.answered ++ ms) ++ g.waiting =
-    ap (λ (x : List Tmesg). s.answered ++ x) a.waiting ∙ sym (append_assoc s.answered ms g.waiting) in
-    let reads : IsStream terminal 1 stream ((s.answered ++ ms) ++ g.waiting) g.framer.bytes (option_map mesg_fault g.behind) =
-    subst (λ (x : Held). IsStream terminal 1 stream ((s.answered ++ ms) ++ g.waiting) x.bytes (option_map mesg_fault g.behind)) (sym a.framer)
-    (subst (λ (x : Option StreamFault). IsStream terminal 1 stream ((s.answered ++ ms) ++ g.waiting) e.framer.bytes (option_map mesg_fault x)) (sym a.behind)
-    (subst (λ (x : List Tmesg). IsStream terminal 1 stream x e.framer.bytes (option_map mesg_fault e.behind)) all s.reads)) in
-    record {
-      served = record {
-        answered = s.answered ++ ms;
-        frames = s.frames ++ a.frames;
-        writes = s.writes ++ a.more;
-        serves = serves_more h s.answered s.frames s.writes e.host ms a.frames a.more g.host s.serves a.serves;
-        reads = reads;
-        bytes = bytes_on out e g s.frames a.frames s.bytes a.bytes;
-      };
-      version = ap (λ (x : Held). x.version) a.framer ∙ kept.version ∙ ap (λ (x : List Tmesg). version_after terminal 1 x) all;
-    }
+kept_answers h stream out e g ms a kept = record { served = grind (arith, append_assoc, serves_more, bytes_on); version = grind (arith, append_assoc) }
   where
     bytes_on : (out : List ℕ) (e g : PlainHostEnd) (frames more : List HFrame) → (out ++ e.outbox) ++ stream_of host e.unwritten ≡ stream_of host frames
         → g.outbox ++ stream_of host g.unwritten ≡ e.outbox ++ stream_of host (e.unwritten ++ more)
         → (out ++ g.outbox) ++ stream_of host g.unwritten ≡ stream_of host (frames ++ more)
-    bytes_on out e g frames more p q =
-        append_assoc out g.outbox (stream_of host g.unwritten)
-        ∙ ap (λ (x : List ℕ). out ++ x) q
-        ∙ ap (λ (x : List ℕ). out ++ (e.outbox ++ x)) (stream_of-append host e.unwritten more)
-        ∙ ap (λ (x : List ℕ). out ++ x) (sym (append_assoc e.outbox (stream_of host e.unwritten) (stream_of host more)))
-        ∙ sym (append_assoc out (e.outbox ++ stream_of host e.unwritten) (stream_of host more))
-        ∙ ap (λ (x : List ℕ). x ++ stream_of host more) (sym (append_assoc out e.outbox (stream_of host e.unwritten)) ∙ p)
-        ∙ sym (stream_of-append host frames more)
+    bytes_on out e g frames more p q = grind (arith, append_assoc, stream_of-append)
 
 -- a piece behind a stream
 reads_more : (h k : Held) (stream piece : List ℕ) (before ms : List Tmesg) (behind : Option StreamFault) → Splits terminal 1 stream before h.bytes
@@ -97,9 +72,7 @@ kept_piece h stream out piece e k none (messages, behind, rest, gives, is) kept 
 kept_goes_on : (h : PlainHost) (stream out : List ℕ) (e g : PlainHostEnd) (result : Answer) → GoesOnAfter result → GoesOn e result g → Kept h stream out e → Kept h stream out g
 kept_goes_on h stream out e g (Ok done) goes on kept = kept_answers h stream out e g e.waiting on.0 kept
 kept_goes_on h stream out e g (Err fault.Unfinished) goes (ms, a, going) kept = kept_answers h stream out e g ms a kept
-kept_goes_on h stream out e g (Err fault.OutOfMemory) goes on kept = absurd on
-kept_goes_on h stream out e g (Err fault.CountFull) goes on kept = absurd on
-kept_goes_on h stream out e g (Err (fault.Stopped why)) goes on kept = absurd goes
+kept_goes_on h stream out e g result u w q = grind arith
 
 kept_same : (h : PlainHost) (stream out : List ℕ) (e g : PlainHostEnd) → g ≡ e → Kept h stream out e → Kept h (stream ++ []) out g
 kept_same h stream out e g is kept = grind (arith, append-nil)
@@ -136,9 +109,7 @@ kept_after h stream out piece e k g (Ok done) result goes on after kept =
     kept_idle h stream out piece k g result goes on.1.waiting after (kept_goes_on h stream out e k (Ok done) tt on kept)
 kept_after h stream out piece e k g (Err fault.Unfinished) result goes on (is, same) kept =
     untaken h stream out piece k g result is same (kept_goes_on h stream out e k (Err fault.Unfinished) tt on kept)
-kept_after h stream out piece e k g (Err (fault.Stopped why)) result goes on (is, same) kept = absurd (stopped_not result why is goes)
-kept_after h stream out piece e k g (Err fault.OutOfMemory) result goes on after kept = absurd on
-kept_after h stream out piece e k g (Err fault.CountFull) result goes on after kept = absurd on
+kept_after h stream out piece e k g first result u w q y = grind (arith, stopped_not)
 
 kept_feed : (h : PlainHost) (stream out piece : List ℕ) (e g : PlainHostEnd) (result : Answer) → GoesOnAfter result → Feeds e piece result g → Kept h stream out e
     → Kept h (stream ++ came_in (piece, Some result)) out g
@@ -214,10 +185,7 @@ told_fault (Some wrong.BadText) = Some BadText
 told_fault (Some wrong.OutOfMemory) = None
 
 told_back : (o : Option StreamFault) → told_fault (option_map mesg_fault o) ≡ o
-told_back None = refl
-told_back (Some BadKind) = refl
-told_back (Some BadLength) = refl
-told_back (Some BadText) = refl
+told_back o = grind arith
 
 idle_reads : (h : PlainHost) (stream out : List ℕ) (e : PlainHostEnd) (s : HasServed h stream out e) → e.waiting ≡ []
     → IsStream terminal 1 stream s.answered e.framer.bytes (option_map mesg_fault e.behind)
@@ -229,11 +197,6 @@ idle_bytes h stream out e s none = grind (arith, append-nil)
 pub one_outcome : Reads → (h : PlainHost) (stream a b : List ℕ) (e g : PlainHostEnd) → HasServed h stream a e → HasServed h stream b g → IsIdle e → IsIdle g
     → (e.host ≡ g.host) × (a ++ e.outbox ≡ b ++ g.outbox) × (e.behind ≡ g.behind)
 one_outcome reads h stream a b e g s t i j =
-    let one = reads 1 stream s.answered t.answered e.framer.bytes g.framer.bytes (option_map mesg_fault e.behind) (option_map mesg_fault g.behind)
-    (idle_reads h stream a e s i.waiting) (idle_reads h stream b g t j.waiting) in
-    let same = one_service h t.answered s.frames t.frames s.writes t.writes e.host g.host
-    (subst (λ (x : List Tmesg). Serves h x s.frames s.writes e.host) one.0 s.serves) t.serves in (
-      same.0,
-      idle_bytes h stream a e s i.unwritten ∙ ap (λ (x : List HFrame). stream_of host x) same.1 ∙ sym (idle_bytes h stream b g t j.unwritten),
-      sym (told_back e.behind) ∙ ap told_fault one.2 ∙ told_back g.behind,
-    )
+    let one = reads 1 stream s.answered t.answered e.framer.bytes g.framer.bytes (option_map mesg_fault e.behind) (option_map mesg_fault g.behind) (idle_reads h stream a e s i.waiting) (idle_reads h stream b g t j.waiting) in
+    let same = one_service h t.answered s.frames t.frames s.writes t.writes e.host g.host (subst (λ (x : List Tmesg). Serves h x s.frames s.writes e.host) one.0 s.serves) t.serves in
+    (same.0, idle_bytes h stream a e s i.unwritten ∙ ap (λ (x : List HFrame). stream_of host x) same.1 ∙ sym (idle_bytes h stream b g t j.unwritten), grind (arith, idle_reads, told_back))

@@ -36,18 +36,10 @@ received_all e g r none idle = grind (arith, append-nil)
 
 -- a step of it failed
 pub receiving_failed : (e g k : PlainTermEnd) (why : EndFault TermStop) → Receiving e g → g.unwritten ≡ [] → Receives g (Err why) k → ReceivesAll e (Err why) k
-receiving_failed e g k fault.Unfinished r none same = subst (λ x. ReceivesAll e (Err fault.Unfinished) x) (sym same) (r.frames, r.moves, r.runs)
-receiving_failed e g k (fault.Stopped (stop.Refused why)) r none (frame, rest, waited, refused, after) =
-    subst (λ x. ReceivesAll e (Err (fault.Stopped (stop.Refused why))) x) (sym after) (r.frames, frame, rest, moves_stopped e g r.frames [] (stop.Refused why) r.moves, waited, refused, none, refl)
-receiving_failed e g k (fault.Stopped (stop.Stream why)) r none f = absurd f
-receiving_failed e g k fault.OutOfMemory r none f = absurd f
-receiving_failed e g k fault.CountFull r none f = absurd f
+receiving_failed e g k why u w q = grind (arith, moves_stopped)
 
 pub writing_failed : (e g k : PlainTermEnd) (why : EndFault TermStop) → Receiving e g → Writes g (Err why) k → ReceivesAll e (Err why) k
-writing_failed e g k fault.Unfinished r same = subst (λ x. ReceivesAll e (Err fault.Unfinished) x) (sym same) (r.frames, r.moves, r.runs)
-writing_failed e g k (fault.Stopped why) r f = absurd f
-writing_failed e g k fault.OutOfMemory r f = absurd f
-writing_failed e g k fault.CountFull r f = absurd f
+writing_failed e g k why u w = grind arith
 
 -- ## The loop over events
 
@@ -81,17 +73,10 @@ pub acting_written : (e g : PlainTermEnd) → HasActed e g → Acting e (written
 acting_written e g a = grind (arith, moves_written)
 
 pub acting_unwritten : (e g k : PlainTermEnd) (why : EndFault TermStop) → HasActed e g → Writes g (Err why) k → ActsAll e (Err why) k
-acting_unwritten e g k fault.Unfinished a same = subst (λ x. ActsAll e (Err fault.Unfinished) x) (sym same) (a.acts, a.moves, a.runs)
-acting_unwritten e g k (fault.Stopped why) a f = absurd f
-acting_unwritten e g k fault.OutOfMemory a f = absurd f
-acting_unwritten e g k fault.CountFull a f = absurd f
+acting_unwritten e g k why u w = grind arith
 
 pub acting_failed : (e g k : PlainTermEnd) (why : EndFault TermStop) → Acting e g → Acts g (Err why) k → ActsAll e (Err why) k
-acting_failed e g k fault.Unfinished a same = subst (λ x. ActsAll e (Err fault.Unfinished) x) (sym same) (a.acts, a.moves, a.runs)
-acting_failed e g k (fault.Stopped (stop.Refused why)) a (refused, after) = grind arith
-acting_failed e g k (fault.Stopped (stop.Stream why)) a f = absurd f
-acting_failed e g k fault.OutOfMemory a f = absurd f
-acting_failed e g k fault.CountFull a f = absurd f
+acting_failed e g k why u w = grind arith
 
 pub acted_all : (e g k : PlainTermEnd) → Acting e g → IsQuiet g.term × (k ≡ g) → ActsAll e (Ok tt) k
 acted_all e g k a (quiet, same) = subst (λ x. ActsAll e (Ok tt) x) (sym same) (a.acts, a.moves, a.idle, quiet, a.runs)
@@ -103,9 +88,7 @@ pub going_acts : (e m g : PlainTermEnd) (result : Answer) → ReceivesAll e (Ok 
 going_acts e m g (Ok done) (received, idle, number, runs) sound (acts, moves, still, quiet, on) = grind (arith, moves_both)
 going_acts e m g (Err fault.Unfinished) (received, idle, number, runs) sound (acts, moves, on) = grind (arith, moves_both)
 going_acts e m g (Err (fault.Stopped (stop.Refused why))) (received, idle, number, runs) sound (acts, moves, still, refused, on) = search (rules, common_steps)
-going_acts e m g (Err (fault.Stopped (stop.Stream why))) r sound f = absurd f
-going_acts e m g (Err fault.OutOfMemory) r sound f = absurd f
-going_acts e m g (Err fault.CountFull) r sound f = absurd f
+going_acts e m g result u w q = grind arith
 
 -- ## Calls
 
@@ -114,8 +97,7 @@ pub call_failed : (e g : PlainTermEnd) (why : EndFault TermStop) (Brings : Plain
 call_failed e g fault.OutOfMemory Brings (runs, goes) = inr (runs, g, Err fault.Unfinished, goes, (refl, refl))
 call_failed e g (fault.Stopped why) Brings (inl (was, same)) = inl (why, was, refl, same)
 call_failed e g (fault.Stopped why) Brings (inr (runs, goes)) = inr (runs, g, Err (fault.Stopped why), goes, (refl, refl))
-call_failed e g fault.Unfinished Brings f = absurd f
-call_failed e g fault.CountFull Brings f = absurd f
+call_failed e g why Brings u = grind arith
 
 -- it did what it brought
 pub call_brought : (e m g : PlainTermEnd) (result : Answer) (Brings : PlainTermEnd → Type 0) → Resumes e (Ok tt) m → Brings m → Calls e result g Brings
@@ -124,29 +106,19 @@ call_brought e m g result Brings (runs, goes) brings = inr (runs, m, Ok tt, goes
 -- ## What a call brings
 
 pub fed_not : (e k : PlainTermEnd) (piece : List ℕ) (why : EndFault TermStop) → Gains e piece (Err why) k → FeedsIdle e piece (Err why) k
-fed_not e k piece fault.OutOfMemory same = inr (inl (refl, same))
-fed_not e k piece fault.CountFull (full, same) = inr (inr (refl, full, same))
-fed_not e k piece fault.Unfinished f = absurd f
-fed_not e k piece (fault.Stopped why) f = absurd f
+fed_not e k piece why u = grind arith
 
 pub fed : (e k g : PlainTermEnd) (piece : List ℕ) (result : Answer) → Gains e piece (Ok tt) k → GoesOn k result g → FeedsIdle e piece result g
 fed e k g piece result taken goes = inl (k, taken, goes)
 
 pub put_not : (e k : PlainTermEnd) (event : UserEvent) (why : EndFault TermStop) → Holds e event (Err why) k → PutsIdle e event (Err why) k
-put_not e k event fault.OutOfMemory same = inr (inl (refl, same))
-put_not e k event fault.CountFull (full, same) = inr (inr (refl, full, same))
-put_not e k event fault.Unfinished f = absurd f
-put_not e k event (fault.Stopped why) f = absurd f
+put_not e k event why u = grind arith
 
 pub put_held : (e k g : PlainTermEnd) (event : UserEvent) (result : Answer) → Holds e event (Ok tt) k → GoesOn k result g → PutsIdle e event result g
 put_held e k g event result held goes = inl (subst (λ x. GoesOn x result g) held goes)
 
 pub flush_not : (e k : PlainTermEnd) (why : EndFault TermStop) → Composes e (Err why) k → FlushesIdle e (Err why) k
-flush_not e k fault.OutOfMemory same = inr (inl (refl, same))
-flush_not e k (fault.Stopped (stop.Refused why)) (refused, same) = inr (inr (why, refused, refl, same))
-flush_not e k (fault.Stopped (stop.Stream why)) f = absurd f
-flush_not e k fault.Unfinished f = absurd f
-flush_not e k fault.CountFull f = absurd f
+flush_not e k why u = grind arith
 
 pub flushed_on : (e k g : PlainTermEnd) (result : Answer) → Composes e (Ok tt) k → GoesOn k result g → FlushesIdle e result g
 flushed_on e k g result (u, composed, flushes, same) goes = inl (u, composed, flushes, subst (λ x. GoesOn x result g) same goes)

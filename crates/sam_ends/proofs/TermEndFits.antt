@@ -1,5 +1,5 @@
 -- Frames that a framer gives fit in version 2.
-use Rattle.std.proofs.Common.{ℕ, List, [], ◌∷◌, Option, Some, None, arith}
+use Rattle.std.proofs.Common.{ℕ, List, [], ◌∷◌, Option, Some, None, arith, rules}
 use Rattle.std.specs.Prelude.{IsTrue}
 use Rattle.std.proofs.lemmas.List.Elements.{All-nil}
 use Rattle.sam_mesg.specs.HostKinds.{fits_h}
@@ -15,5 +15,4 @@ frames_fit v [] fit = All-nil (λ (frame : HFrame). IsTrue (fits_h 2 frame.msg))
 frames_fit v (frame ∷ frames) fit = grind (arith, (frames_fit (host.after v frame) frames fit.1))
 
 pub given_fit : (h : Held) (piece : List ℕ) (frames : List HFrame) (behind : Option StreamFault) (k : Held) → Gives host h piece frames behind k → FitFrames frames
-given_fit h piece frames None k g = frames_fit h.version frames g.gave.splits.fit
-given_fit h piece frames (Some why) k g = frames_fit h.version frames g.1.gave.splits.fit
+given_fit h piece frames behind k e = grind (arith, frames_fit)

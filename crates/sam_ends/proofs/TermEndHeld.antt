@@ -1,5 +1,5 @@
 -- Events leave the held ones only as they are done or refused, one at a time; frames and flushes leave them all.
-use Rattle.std.proofs.Common.{◌≡◌, refl, sym, ap, ◌∙◌, ℕ, ◌+◌, Bool, true, false, List, [], ◌∷◌, length, Option, Some, None, Result, Ok, Err, if◌then◌else◌, arith}
+use Rattle.std.proofs.Common.{◌≡◌, refl, sym, ap, ◌∙◌, ℕ, ◌+◌, Bool, true, false, List, [], ◌∷◌, length, Option, Some, None, Result, Ok, Err, if◌then◌else◌, arith, rules}
 use Rattle.sam_runes.specs.Checks.{first_of_checks}
 use Rattle.sam_mesg.specs.declared.tmesg.Tmesg.{Tmesg}
 use Rattle.sam_mesg.specs.declared.tmesg.Tmesg.TheVariants.{Tcut, Tpaste, Tsnarf, Tack}
@@ -34,8 +34,7 @@ sends-plain : (t : PlainTerminal) (ms : List Tmesg) → held_in (sends t unchang
 sends-plain t ms = sends-keeps t unchanged ms (λ u. refl)
 
 either-keeps : (b : Bool) (x y : Made) (h : List UserEvent) → held_in x ≡ h → held_in y ≡ h → held_in (if b then x else y) ≡ h
-either-keeps true x y h p q = p
-either-keeps false x y h p q = q
+either-keeps b x y h e u = grind arith
 
 requested-keeps : (t : PlainTerminal) (f : ℕ) → held_in (requested t f) ≡ t.held
 unfolding requested
@@ -68,14 +67,7 @@ leaves-plain t ms = record { held = sends-plain t ms }
 
 pub event_keeps : (t : PlainTerminal) (e : UserEvent) → held_in (event_outcome t e) ≡ t.held
 unfolding made_by_cut made_by_paste made_by_snarf made_by_view
-event_keeps t (Typed f s) = type-keeps t f s
-event_keeps t (Select f p q) = refl
-event_keeps t (Cut f) = let d = (window_at t f).dot in dot-cut t f d.0 d.1 (Tsnarf f d.0 d.1 ∷ Tcut f d.0 d.1 ∷ [])
-event_keeps t (Paste f) = sends-plain (cuts_dot t f).0 (Tpaste f (window_at t f).dot.0 ∷ []) ∙ cuts-keeps t f
-event_keeps t (Snarf f) = search (arith, either-keeps, sends-plain)
-event_keeps t (View f p n) = requested-keeps (put_window t f (record (window_at t f) { view_start = p; view_length = n })) f
-event_keeps t Flush = flushed-held t
-event_keeps t e = let leaves : Leaves t (event_outcome t e) = leaves-plain t _ in leaves.held
+event_keeps t e = grind (arith, type-keeps, dot-cut, sends-plain, cuts-keeps, either-keeps, requested-keeps, flushed-held, leaves-plain)
 
 pub frame_keeps : (t : PlainTerminal) (m : Hmesg) → held_in (frame_outcome t m) ≡ t.held
 unfolding took_bindname took_data took_grow took_growdata took_cut took_unlockfile took_close took_exit
@@ -106,16 +98,10 @@ unfolding term_in
 done-term n t u ms acted e = grind arith
 
 locked-not : (acted : Acted) → Locked ≡ acted → IsSettled acted → ⊥
-locked-not Idle e s = s
-locked-not Locked e s = s
-locked-not (Done ms) e s = absurd (cc)
-locked-not (Refused why) e s = absurd (cc)
+locked-not acted e u = grind arith
 
 idle-not : (acted : Acted) → Idle ≡ acted → IsSettled acted → ⊥
-idle-not Idle e s = s
-idle-not Locked e s = s
-idle-not (Done ms) e s = absurd (cc)
-idle-not (Refused why) e s = absurd (cc)
+idle-not acted e u = grind arith
 
 -- an event that is done or refused is held no longer
 pub act_held : (t u : PlainTerminal) (acted : Acted) → act_of t ≡ Ok (u, acted) → IsSettled acted → length u.held + 1 ≡ length t.held
@@ -123,14 +109,10 @@ unfolding act_of acted_in term_in
 act_held t u acted e s = go t.held e
   where
     decides : (x : UserEvent) (es : List UserEvent) (o : Option Verdict) → decided o t es (event_outcome (record t { held = es }) x) ≡ Ok (u, acted) → u.held ≡ es
-    decides x es (Some Waits) q = absurd (locked-not acted (ap (λ r. acted_in r Idle) q) s)
-    decides x es (Some (Refuses r)) q = sym (ap (λ y. (term_in y t).held) q)
     decides x es None q =
         let made : Made = event_outcome (record t { held = es }) x in
         ap (λ v. v.held) (done-term made.0.sent made.0 u made.1 acted q) ∙ event_keeps (record t { held = es }) x
+    decides x es o e = grind (arith, locked-not, acted_in, term_in)
 
     go : (es : List UserEvent) → act_on t es ≡ Ok (u, acted) → length u.held + 1 ≡ length es
-    go [] q = absurd (idle-not acted (ap (λ r. acted_in r Locked) q) s)
-    go (x ∷ es) q =
-        let same : length u.held ≡ length es = ap (λ hs. length hs) (decides x es (first_of_checks (event_checks t x)) q) in
-        omega (arith, same)
+    go es e = grind (arith, idle-not, acted_in, decides)

@@ -49,20 +49,17 @@ pub moves_stopped : (e g : PlainTermEnd) (frames : List HFrame) (acts : List Act
 moves_stopped e g frames acts why m = grind arith
 
 pub moves_received : (e g k : PlainTermEnd) (frames : List HFrame) → Moves e frames [] g → g.unwritten ≡ [] → (r : ReceivesFirst g k) → Moves e (frames ++ r.frame ∷ []) [] k
-moves_received e g k frames m none r = subst (λ x. Moves e (frames ++ r.frame ∷ []) [] x) (sym r.after) (record {
-  composed = m.composed ++ r.composed;
-  middle = r.term;
-  receives = receives-more e.term m.middle r.term frames r.frame m.composed r.composed m.receives (subst (λ t. take_of t r.frame ≡ Ok (r.term, r.composed)) m.acted r.taken);
-  acted = refl;
-  waiting = m.waiting ∙ ap (λ l. frames ++ l) r.waited ∙ sym (append_assoc frames (r.frame ∷ []) r.rest);
-  bytes = behind g.outbox e.outbox g.unwritten (e.unwritten ++ m.composed) r.composed none (m.bytes ∙ ap (λ ms. e.outbox ++ stream_of terminal ms) (append-nil (e.unwritten ++ m.composed)))
-      ∙ ap (λ ms. e.outbox ++ stream_of terminal ms) (append_assoc e.unwritten m.composed r.composed ∙ sym (append-nil (e.unwritten ++ (m.composed ++ r.composed))));
-  refusals = m.refusals;
-  seen = sym (last-stamp-more e.seen frames r.frame);
-  framer = m.framer;
-  events = m.events;
-  behind = m.behind;
-})
+moves_received e g k frames m none r = grind (
+    arith,
+    (receives-more e.term m.middle r.term frames r.frame m.composed r.composed m.receives (subst (λ t. take_of t r.frame ≡ Ok (r.term, r.composed)) m.acted r.taken)),
+    (append_assoc frames (r.frame ∷ []) r.rest),
+    (behind g.outbox e.outbox g.unwritten (e.unwritten ++ m.composed) r.composed none (m.bytes ∙ ap (λ ms. e.outbox ++ stream_of terminal ms) (append-nil (e.unwritten ++ m.composed)))),
+    (append-nil (e.unwritten ++ m.composed)),
+    (append_assoc e.unwritten m.composed r.composed),
+    (append-nil (e.unwritten ++ (m.composed ++ r.composed))),
+    (last-stamp-more e.seen frames r.frame),
+    behind,
+)
 
 pub moves_acted : (e g k : PlainTermEnd) (frames : List HFrame) (acts : List Acted) → Moves e frames acts g → g.unwritten ≡ [] → oldest g ≡ oldest e + length acts
     → (a : ActsFirst g k) → Moves e frames (acts ++ a.acted ∷ []) k

@@ -1,5 +1,5 @@
 -- The count of composed messages never goes down, and no frame that is received has a stamp above it.
-use Rattle.std.proofs.Common.{◌≡◌, sym, ap, subst, ℕ, ◌+◌, ◌≤◌, List, [], ◌∷◌, length, Option, Some, None, Ok, arith}
+use Rattle.std.proofs.Common.{◌≡◌, sym, ap, subst, ℕ, ◌+◌, ◌≤◌, List, [], ◌∷◌, length, Option, Some, None, Ok, arith, rules}
 use Rattle.sam_runes.specs.Checks.{first_of_checks}
 use Rattle.sam_mesg.specs.declared.tmesg.Tmesg.{Tmesg}
 use Rattle.sam_mesg.specs.declared.hmesg.HFrame.{HFrame}
@@ -41,12 +41,10 @@ act_counts t u acted e = go t.held e
     same v = t.sent ≤ v.sent
 
     decides : (x : UserEvent) (es : List UserEvent) (o : Option Verdict) → decided o t es (event_outcome (record t { held = es }) x) ≡ Ok (u, acted) → t.sent ≤ u.sent
-    decides x es (Some Waits) q = subst same (ap (λ r. term_in r t) q) (omega arith)
-    decides x es (Some (Refuses r)) q = subst same (ap (λ r. term_in r t) q) (omega arith)
     decides x es None q =
         let made : Made = event_outcome (record t { held = es }) x in
         subst same (sym (done-term made.0.sent made.0 u made.1 acted q)) (no_fewer t.sent made.0.sent made.1 (counts-event (record t { held = es }) x).sent)
+    decides x es o e = grind (arith, term_in)
 
     go : (es : List UserEvent) → act_on t es ≡ Ok (u, acted) → t.sent ≤ u.sent
-    go [] q = subst same (ap (λ r. term_in r t) q) (omega arith)
-    go (x ∷ es) q = decides x es (first_of_checks (event_checks t x)) q
+    go es e = grind (arith, same, term_in, decides)

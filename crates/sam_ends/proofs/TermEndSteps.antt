@@ -1,5 +1,5 @@
 -- One step of a terminal end: what holds of the end after it.
-use Rattle.std.proofs.Common.{◌≡◌, sym, ap, subst, ◌∙◌, ℕ, ◌-◌, ◌≤◌, false, List, [], ◌∷◌, ◌++◌, length, drop, Option, Some, None, Ok, Err, arith}
+use Rattle.std.proofs.Common.{◌≡◌, sym, ap, subst, ◌∙◌, ℕ, ◌-◌, ◌≤◌, false, List, [], ◌∷◌, ◌++◌, length, drop, Option, Some, None, Ok, Err, arith, rules}
 use Rattle.std.specs.Prelude.{slice_get, IsTrue}
 use Rattle.std.proofs.lemmas.List.Elements.{All-tail}
 use Rattle.sam_mesg.specs.HostKinds.{fits_h}
@@ -24,8 +24,7 @@ use Rattle.sam_ends.proofs.TermEndHeld.{act_held, flush_held, take_held}
 use Rattle.sam_ends.proofs.TermEndStamps.{act_counts, flush_counts}
 
 pub first_read : (frames : List HFrame) (frame : HFrame) → slice_get frames 0 ≡ Some frame → frames ≡ frame ∷ drop 1 frames
-first_read [] frame s = absurd (cc)
-first_read (x ∷ frames) frame s = let same : x ≡ frame = (cc) in ap (λ y. y ∷ frames) same
+first_read frames frame e = grind arith
 
 -- ## Frames
 
@@ -33,8 +32,7 @@ pub rest_fit : (frames : List HFrame) (frame : HFrame) → frames ≡ frame ∷ 
 rest_fit frames frame first fit = All-tail (λ (x : HFrame). IsTrue (fits_h 2 x.msg)) frame (drop 1 frames) (subst (λ xs. FitFrames xs) first fit)
 
 pub given_reads : (h : Held) (piece : List ℕ) (frames : List HFrame) (behind : Option StreamFault) (k : Held) → Gives host h piece frames behind k → behind ≡ None → k.failed ≡ false
-given_reads h piece frames None k g none = g.sound
-given_reads h piece frames (Some why) k g none = absurd (cc)
+given_reads h piece frames behind k e u = grind arith
 
 pub taken_counted : (e : PlainTermEnd) (u : PlainTerminal) (frame : HFrame) (ms : List Tmesg) → IsSound e → take_of e.term frame ≡ Ok (u, ms) → length u.held ≤ e.events
 taken_counted e u frame ms s taken = subst (λ hs. length hs ≤ e.events) (sym (take_held e.term u frame ms taken)) s.counted
@@ -77,11 +75,7 @@ flushed_stamped e u ms s flushed = omega (arith, flush_counts e.term u ms flushe
 -- the terminal did not receive the oldest frame
 pub receive_failed : (e h g : PlainTermEnd) (frame : HFrame) (rest : List HFrame) (u : PlainTerminal) (why : EndFault TermStop) → e.waiting ≡ frame ∷ rest
     → Tries {A = List Tmesg} e.term (take_of e.term frame) (Err why) u → h ≡ record e { term = u } → g ≡ stopped_by h why → Receives e (Err why) g
-receive_failed e h g frame rest u fault.Unfinished waited still same after = after ∙ same ∙ ap (λ t. record e { term = t }) still
-receive_failed e h g frame rest u (fault.Stopped (stop.Refused why)) waited (refused, still) same after = grind arith
-receive_failed e h g frame rest u (fault.Stopped (stop.Stream why)) waited none same after = absurd none
-receive_failed e h g frame rest u fault.OutOfMemory waited none same after = absurd none
-receive_failed e h g frame rest u fault.CountFull waited none same after = absurd none
+receive_failed e h g frame rest u why w q y z = grind arith
 
 pub flushed_counted : (e : PlainTermEnd) (u : PlainTerminal) (ms : List Tmesg) → IsSound e → flush_of e.term ≡ Ok (u, ms) → length u.held ≤ e.events
 flushed_counted e u ms s flushed = subst (λ hs. length hs ≤ e.events) (sym (flush_held e.term u ms flushed)) s.counted

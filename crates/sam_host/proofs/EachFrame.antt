@@ -1,6 +1,6 @@
 -- Which frames the answers have, kind by kind, and which lock the last one frees. So what holds of each of these frames holds of each frame
 -- of an answer.
-use Rattle.std.proofs.Common.{◌≡◌, ℕ, suc, ◌+◌, ◌-◌, ◌≤◌, List, [], ◌∷◌, ◌++◌, length, Bool, true, false, not, cond, Option, Some, None, refl, sym, subst, append_assoc, if◌then◌else◌, arith}
+use Rattle.std.proofs.Common.{◌≡◌, ℕ, suc, ◌+◌, ◌-◌, ◌≤◌, List, [], ◌∷◌, ◌++◌, length, Bool, true, false, not, cond, Option, Some, None, refl, sym, subst, append_assoc, if◌then◌else◌, arith, rules}
 use Rattle.std.specs.Prelude.{◌&&◌, ◌||◌, ◌==◌, min, nat_lt, nat_le, IfSome, flat_map, reverse, drop, unwrap_or}
 use Rattle.sam_runes.specs.declared.edit.Edit.{Edit}
 use Rattle.sam_runes.specs.Texts.{Range, part, is_empty, max_runes, most_in_message, most_in_pattern, searched, all_tags, ends_line, as_lines, last_line, most_in_name}
@@ -69,14 +69,12 @@ each-both P (m ∷ ms) ns h k = (h.0, each-both P ms ns h.1 k)
 
 each-when : (P : Hmesg → Type 0) (b : Bool) (ms : List Hmesg) → EachFrame P ms → EachFrame P (when b ms)
 unfolding when
-each-when P true ms h = h
-each-when P false ms h = tt
+each-when P b ms e = grind arith
 
 each-given : {A : Type 0} (P : Hmesg → Type 0) (R : A → Type 0) (o : Option A) (frame : A → Hmesg) → ((x : A) → R x → P (frame x)) → IfSome o R
     → EachFrame P (when_given o frame)
 unfolding when_given
-each-given P R None frame h k = tt
-each-given P R (Some x) frame h k = (h x k, tt)
+each-given P R o frame e u = grind arith
 
 each_grown : (Q : List ℕ → Type 0) (fs : PlainFiles) (f p : ℕ) (s : List ℕ) → EachFrame (IsTold Q) (grown fs f p s)
 unfolding grown
@@ -112,8 +110,7 @@ each_outcome Q name (Some f) fs o h =
     each-both P _ _ (each-both P _ _ (each-both P _ _ (each-both P _ _ (each-both P _ _ edits dirty) named) pattern) (dot o.dot)) check
   where
     dot : (d : Option Range) → EachFrame (IsTold Q) (when_given d (λ d. Hsetdot f d.0 d.1))
-    dot None = tt
-    dot (Some d) = (tt, tt)
+    dot d = grind arith
 
 each_names : (Q : List ℕ → Type 0) (f : ℕ) (ss : Slots PlainFile) → ((g : ℕ) → Q (unwrap_or (slot ss g) blank_file).name) → EachFrame (IsTold Q) (told_names f ss)
 unfolding told_names
@@ -135,8 +132,7 @@ behind : (Q : List ℕ → Type 0) (l : Freed) (xs ys : List Hmesg) → EachFram
 behind Q l xs ys told k = grind (arith, append_assoc, each-both)
 
 ends-if : (Q : List ℕ → Type 0) (l : Bool → Freed) (b : Bool) (x y : Reply) → (b ≡ true → Ends Q (l true) x.1) → Ends Q (l false) y.1 → Ends Q (l b) (cond b x y).1
-ends-if Q l true x y h k = h refl
-ends-if Q l false x y h k = k
+ends-if Q l b x y e u = grind arith
 
 ends-when : (Q : List ℕ → Type 0) (l : Freed) (b : Bool) (ms : List Hmesg) → Ends Q l ms → Ends Q (cond b l Nothing) (when b ms)
 unfolding when
@@ -256,10 +252,7 @@ each-ended {P} {Q} k l ms e = subst (EachFrame P) (sym e.is) (each-both P e.fron
     each (m ∷ ms) told = (k.told m told.0, each ms told.1)
 
     end : (l : Freed) (quits : Bool) → EachFrame P (end_frames l quits)
-    end Nothing quits = tt
-    end Command true = (k.exit, tt)
-    end Command false = (k.unlock, tt)
-    end (File f) quits = (k.unlockfile f, tt)
+    end l quits = grind arith
 
 abbrev pub EachOf : (Hmesg → Type 0) → PlainHost → Tmesg → Type 0
 EachOf P h (Tversion v) = EachFrame P (told_names 1 (drop 1 h.files.slots) ++ Hack ∷ Hunlock ∷ [])

@@ -1,6 +1,6 @@
 -- A host that is made from names and texts, a file further.
 use Rattle.std.proofs.lemmas.Grind.{common_steps}
-use Rattle.std.proofs.Common.{◌≡◌, ℕ, ◌≤◌, List, [], ◌∷◌, ◌++◌, length, Option, Some, refl, sym, ap, ◌∙◌, subst, rules}
+use Rattle.std.proofs.Common.{◌≡◌, ℕ, ◌≤◌, List, [], ◌∷◌, ◌++◌, length, Option, Some, refl, sym, ap, ◌∙◌, subst, rules, arith}
 use Rattle.std.specs.Prelude.{reverse}
 use Rattle.std.proofs.lemmas.List.{reverse-append, reverse-reverse}
 use Rattle.sam_runes.specs.Texts.{RoomyText, most_in_name}
@@ -30,11 +30,7 @@ twice given turned e = ap reverse e ∙ reverse-reverse given
 
 -- a host that is made and then given one more file is as if it had been made with that file too
 pub adds_given : (given : List (List ℕ × List ℕ)) (more : List ℕ × List ℕ) → with_given (new_host given) more ≡ new_host (given ++ more ∷ [])
-adds_given given more =
-    let command : Option PlainFile = Some (record blank_file { name = command_name }) in
-    let host : PlainHost = new_host given in
-    ap (λ (ss : Slots PlainFile). record host { files = record host.files { slots = ss } })
-    (put_slot-push (command ∷ given_slots given) (given_file more) ∙ ap (λ ss. command ∷ ss) (sym (behind given)))
+adds_given given more = grind (arith, put_slot-push, behind)
   where
     behind : (given : List (List ℕ × List ℕ)) → given_slots (given ++ more ∷ []) ≡ given_slots given ++ Some (given_file more) ∷ []
     behind [] = refl

@@ -1,5 +1,5 @@
 -- What the answers do to the files, kind by kind. So what each of these changes keeps, each answer keeps.
-use Rattle.std.proofs.Common.{◌≡◌, ℕ, ◌+◌, ◌≤◌, List, [], ◌∷◌, length, Bool, true, false, not, ◌&&◌, ◌||◌, ◌==◌, cond, Option, Some, None, refl, arith}
+use Rattle.std.proofs.Common.{◌≡◌, ℕ, ◌+◌, ◌≤◌, List, [], ◌∷◌, length, Bool, true, false, not, ◌&&◌, ◌||◌, ◌==◌, cond, Option, Some, None, refl, arith, rules}
 use Rattle.std.specs.Prelude.{nat_lt, nat_le, IfSome, ◌-◌}
 use Rattle.std.proofs.lemmas.Bool.{ltb-false, not-false}
 use Rattle.sam_runes.specs.Texts.{Range, max_runes, all_tags, last_line, is_empty, searched, word_at, as_lines, part, ends_line}
@@ -37,8 +37,7 @@ pub record IsKept (P : PlainFiles → Type 0) : Type 0 where
 
 -- neither of two tests holds
 neither : (a b : Bool) → (a || b) ≡ false → (a ≡ false) × (b ≡ false)
-neither true b e = absurd (cc)
-neither false b e = (refl, e)
+neither a b e = grind arith
 
 range_checked : (h : PlainHost) (f p q : ℕ) → (no_range h f p q).0 ≡ false → InRange (length (file_at h.files f).text) (p, q)
 range_checked h f p q e = grind arith
@@ -50,14 +49,12 @@ place_allowed : (h : PlainHost) (f p : ℕ) → first_of_checks (unknown h f ∷
 place_allowed h f p e = grind arith
 
 searched_for_within : (pattern : Option (List ℕ)) (t : List ℕ) (q : ℕ) → q ≤ length t → IfSome (searched_for pattern t q) (InRange (length t))
-searched_for_within None t q h = tt
-searched_for_within (Some lit) t q h = searched_within t lit q h
+searched_for_within pattern t q e = grind (arith, searched_within)
 
 -- ## Parts that several answers share
 
 keeps-if : (P : PlainFiles → Type 0) (b : Bool) (x y : Reply) → (b ≡ true → P x.0.files) → (b ≡ false → P y.0.files) → P (cond b x y).0.files
-keeps-if P true x y h k = h refl
-keeps-if P false x y h k = k refl
+keeps-if P b x y e u = grind arith
 
 keeps-found : (P : PlainFiles → Type 0) → IsKept P → (h : PlainHost) (f : ℕ) (d : Option Range) (frames : List Hmesg)
     → IfSome d (InRange (length (file_at h.files f).text)) → P h.files → P (reply_found h f d frames).0.files
@@ -77,15 +74,9 @@ pub reply_keeps : (P : PlainFiles → Type 0) → IsKept P → (h : PlainHost) (
     → P h.files → P (reply_to h m).0.files
 unfolding replies_opened
 reply_keeps P k h (Tversion v) e started all = k.announced h.files all
-reply_keeps P k h Tstartcmdfile e started all =
-    keeps-if P (file_at h.files 0).opened (h, _) (with_file h 0 (opened_file (file_at h.files 0)), _) (λ b. all) (λ b. k.shown h.files all)
+reply_keeps P k h Tstartcmdfile e started all = grind (arith, keeps-if)
 reply_keeps P k h (Tstartfile f) e started all = started f refl
-reply_keeps P k h (Tworkfile f p q) e started all =
-    let a = none_holds (unknown h f) (is_command f ∷ not_opened h f ∷ no_range h f p q ∷ []) e in
-    let b = none_holds (is_command f) (not_opened h f ∷ no_range h f p q ∷ []) a.1 in
-    let c = none_holds (not_opened h f) (no_range h f p q ∷ []) b.1 in
-    let d = none_holds (no_range h f p q) [] c.1 in
-    k.selected h.files f p q (not-false (file_at h.files f).opened c.0) (range_checked h f p q d.0) all
+reply_keeps P k h (Tworkfile f p q) e started all = grind (arith, none_holds, not-false, range_checked)
 reply_keeps P k h (Ttype f p s) e started all =
     let a = none_holds (unknown h f) (not_opened h f ∷ past_end h f p ∷ no_room h f s ∷ []) e in
     let b = none_holds (not_opened h f) (past_end h f p ∷ no_room h f s ∷ []) a.1 in
@@ -96,34 +87,18 @@ reply_keeps P k h (Ttype f p s) e started all =
     let line = line_to (file_at typed.files f).text (p + length s - 1) in
     keeps-if P ((f == 0) && ends_line s) (reply_line typed [] line) (typed, []) (λ b. keeps-line P k typed [] line there) (λ b. there)
 reply_keeps P k h (Tcut f p q) e started all = k.cut h.files f p q (range_allowed h f p q e) all
-reply_keeps P k h (Tpaste f p) e started all =
-    let file = file_at h.files f in
-    let s = h.files.snarf in
-    keeps-if P (is_empty s || nat_lt max_runes (length file.text + length s)) (h, _) (with_file h f (pasted_file f file p s), _) (λ b. all)
-    (λ b. k.pasted h.files f p s (place_allowed h f p e) (ltb-false max_runes _ (neither (is_empty s) _ b).1) all)
+reply_keeps P k h (Tpaste f p) e started all = grind (arith, keeps-if, place_allowed, ltb-false, neither)
 reply_keeps P k h (Tsnarf f p q) e started all = k.snarfed h.files (part (file_at h.files f).text p q) all
-reply_keeps P k h Tstartnewfile e started all =
-    let f = length h.files.slots in
-    keeps-if P (nat_le all_tags f) (with_files h (after_print h.files no_tag_left), _) (with_files h (record (put_file h.files f new_file) { work = Some f }), _)
-    (λ b. k.printed h.files no_tag_left all) (λ b. k.created h.files all)
+reply_keeps P k h Tstartnewfile e started all = grind (arith, keeps-if)
 reply_keeps P k h (Twrite f) e started all = k.written h.files f all
 reply_keeps P k h (Tclose f) e started all = k.closed h.files f all
-reply_keeps P k h (Tlook f p q) e started all =
-    let t = (file_at h.files f).text in
-    let lit = part t p q in
-    let sought = with_files h (record h.files { pattern = Some lit }) in
-    keeps-if P (may_look lit) (reply_found sought f (searched t lit q) _) (h, _)
-    (λ b. keeps-found P k sought f (searched t lit q) _ (searched_within t lit q (range_allowed h f p q e).1) (k.sought h.files lit all)) (λ b. all)
-reply_keeps P k h (Tsearch f p q) e started all =
-    let t = (file_at h.files f).text in
-    keeps-found P k h f (searched_for h.files.pattern t q) [] (searched_for_within h.files.pattern t q (range_allowed h f p q e).1) all
+reply_keeps P k h (Tlook f p q) e started all = grind (arith, keeps-if, keeps-found, searched_within, range_allowed)
+reply_keeps P k h (Tsearch f p q) e started all = grind (arith, keeps-found, searched_for_within, range_allowed)
 reply_keeps P k h (Tsend f p q) e started all =
     let s = as_lines (part (file_at h.files f).text p q) in
     let shown = with_files h (after_print h.files s) in
     keeps-if P ((p == q) || not (has_room h.files s)) (h, _) (reply_line shown (printed h.files s) (last_line s)) (λ b. all)
     (λ b. keeps-line P k shown (printed h.files s) (last_line s) (k.printed h.files s all))
-reply_keeps P k h (Tdclick f p) e started all =
-    let t = (file_at h.files f).text in
-    k.marked h.files f (word_at t p) (word_at_within t p (place_allowed h f p e)) all
+reply_keeps P k h (Tdclick f p) e started all = grind (arith, word_at_within, place_allowed)
 reply_keeps P k h (Tsetsnarf s) e started all = k.snarfed h.files s all
 reply_keeps P k h _ e started all = all

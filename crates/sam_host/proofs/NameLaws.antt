@@ -1,5 +1,5 @@
 -- The names that are told, a tag further.
-use Rattle.std.proofs.Common.{◌≡◌, refl, append_assoc, append-nil, ℕ, zero, suc, ◌+◌, ◌<◌, ◌≤◌, List, [], ◌∷◌, ◌++◌, length, drop, arith}
+use Rattle.std.proofs.Common.{◌≡◌, refl, append_assoc, append-nil, ℕ, zero, suc, ◌+◌, ◌<◌, ◌≤◌, List, [], ◌∷◌, ◌++◌, length, drop, arith, rules}
 use Rattle.std.proofs.Math.ListN.{drop_of_length-le}
 use Rattle.sam_runes.specs.Slots.{Slots, slot}
 use Rattle.sam_text.specs.Files.{PlainFile}
@@ -10,9 +10,8 @@ use Rattle.sam_host.proofs.FrameLaws.{stamped_append}
 
 names_at : (g f : ℕ) (ss : Slots PlainFile) → f < length ss → told_names g (drop f ss) ≡ told_at g (slot ss f) ++ told_names (1 + g) (drop (suc f) ss)
 unfolding told_names
-names_at g f [] l = absurd (omega arith)
-names_at g zero (s ∷ ss) l = refl
 names_at g (suc f) (s ∷ ss) l = names_at g f ss (omega arith)
+names_at g f ss e = grind arith
 
 later : (f : ℕ) (ss : Slots PlainFile) (ms : List Hmesg) → ms ++ told_names (1 + f) (drop (suc f) ss) ≡ ms ++ told_names (f + 1) (drop (f + 1) ss)
 later f ss ms = grind arith

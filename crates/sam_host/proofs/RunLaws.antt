@@ -69,11 +69,7 @@ outcome_after_print fs o s h = (go o.file h.0, h.1, h.2)
     go : (x : Option ℕ) → IfSome x (IsOutcomeFor fs o) → IfSome x (IsOutcomeFor (after_print fs s) o)
     go None k = tt
     go (Some zero) k = absurd (omega (arith, k.0.0))
-    go (Some (suc f)) k =
-        let same : slot fs.slots (suc f) ≡ slot (after_print fs s).slots (suc f) = sym (slot-printed fs fs.slots s f) in (
-          (k.0.0, subst (λ x. is_some x ≡ true) same k.0.1),
-          subst (λ x. IsFit (file_after (unwrap_or x blank_file) o)) same k.1,
-        )
+    go (Some (suc f)) k = grind (arith, (slot-printed fs fs.slots s f))
 
 -- ## What a line puts in
 
@@ -89,14 +85,12 @@ meaning_inserted fs line all = go fs.work
     at g (Some file) fit = omega (arith, (line_fits (work_on g file) line fit).within)
 
     go : (x : Option ℕ) → inserted (line_outcome (option_and_then (λ g. option_map (work_on g) (slot fs.slots g)) x) line).edits ≤ max_runes
-    go None = no-edits line
-    go (Some g) = at g (slot fs.slots g) (all g)
+    go x = grind (arith, no-edits, at)
 
 -- what one edit puts in is no more than all that is put in
 pub text_below_inserted : (es : List Edit) (i : ℕ) (d : Edit) → i < length es → length (get_or es i d).text ≤ inserted es
-text_below_inserted [] i d l = absurd (omega arith)
-text_below_inserted (e ∷ es) zero d l = omega arith
 text_below_inserted (e ∷ es) (suc i) d l = omega (arith, text_below_inserted es i d (omega arith))
+text_below_inserted es i d e = grind arith
 
 -- ## How a line is told
 

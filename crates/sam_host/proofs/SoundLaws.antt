@@ -1,5 +1,5 @@
 -- The host stays sound, and its answers are counted.
-use Rattle.std.proofs.Common.{◌≡◌, ℕ, zero, suc, ◌+◌, ◌≤◌, List, [], ◌∷◌, length, Bool, true, false, if◌then◌else◌, cond, Option, Some, None, Ok, Err, inl, inr, refl, sym, ap, subst, arith}
+use Rattle.std.proofs.Common.{◌≡◌, ℕ, zero, suc, ◌+◌, ◌≤◌, List, [], ◌∷◌, length, Bool, true, false, if◌then◌else◌, cond, Option, Some, None, Ok, Err, inl, inr, refl, sym, ap, subst, arith, rules}
 use Rattle.std.specs.Prelude.{unwrap_or, All, ◌==◌, nat_le, ◌&&◌, min}
 use Rattle.std.proofs.lemmas.List.Elements.{All-nil, All-cons}
 use Rattle.sam_runes.specs.Texts.{Range, common_version, all_tags, ends_line, most_in_name}
@@ -32,8 +32,7 @@ names-put : (fs : PlainFiles) (g : ℕ) (x : PlainFile) → AreNamesShort fs →
 names-put fs g x all short = all-put HasShortName fs g x all short
 
 names-outcome : (x : Option ℕ) (fs : PlainFiles) (o : PlainOutcome) → AreNamesShort fs → HasShortParts o → AreNamesShort (put_outcome x fs o)
-names-outcome None fs o all h = all
-names-outcome (Some f) fs o all h = names-put fs f (file_after (file_at fs f) o) all (named-within o.name (file_at fs f).name h.0 (all f))
+names-outcome x fs o e u = grind (arith, names-put, named-within)
 
 names_kept : IsKept AreNamesShort
 names_kept = grind (arith, (all-announce HasShortName), names-put, (all-free HasShortName), names-outcome, line_short)
@@ -71,36 +70,23 @@ abbrev Stands : PlainHost → Reply → Type 0
 Stands h r = (r.0.taken ≡ h.taken) × (r.0.version ≡ h.version)
 
 stands-if : (h : PlainHost) (b : Bool) (x y : Reply) → Stands h x → Stands h y → Stands h (cond b x y)
-stands-if h true x y j k = j
-stands-if h false x y j k = k
+stands-if h b x y e u = grind arith
 
 stands-found : (h : PlainHost) (f : ℕ) (d : Option Range) (frames : List Hmesg) → Stands h (reply_found h f d frames)
-stands-found h f None frames = (refl, refl)
-stands-found h f (Some d) frames = (refl, refl)
+stands-found h f d frames = grind arith
 
 -- no reply changes the count, and only that to Tversion the version
 pub reply_stands : (h : PlainHost) (m : Tmesg) → first_of_checks (host_checks h m) ≡ None
     → ((reply_to h m).0.taken ≡ h.taken) × ((reply_to h m).0.version ≡ after_t h.version m)
 unfolding replies_opened
-reply_stands h (Tversion v) e = (refl, sym (ap (λ (b : Bool). if b then h.version else common_version v) (none_holds (v == 0, BadVersion) [] e).0))
-reply_stands h Tstartcmdfile e = stands-if h (file_at h.files 0).opened _ _ (refl, refl) (refl, refl)
-reply_stands h (Ttype f p s) e = stands-if h ((f == 0) && ends_line s) _ _ (refl, refl) (refl, refl)
-reply_stands h (Tpaste f p) e = grind arith
-reply_stands h Tstartnewfile e = stands-if h (nat_le all_tags (length h.files.slots)) _ _ (refl, refl) (refl, refl)
-reply_stands h (Tlook f p q) e = grind arith
-reply_stands h (Tsearch f p q) e = stands-found h f (searched_for h.files.pattern (file_at h.files f).text q) []
-reply_stands h (Tsend f p q) e = grind arith
-reply_stands h _ e = (refl, refl)
+reply_stands h m e = grind (arith, none_holds, stands-if, stands-found)
 
 agreed_version : (v : ℕ) → first_of_checks {E = HostFault} ((v == 0, BadVersion) ∷ []) ≡ None → IsVersion (common_version v)
-agreed_version zero e = absurd (cc)
-agreed_version (suc zero) e = inl refl
-agreed_version (suc (suc v)) e = let n : min (suc (suc v)) 2 ≡ 2 = omega arith in inr n
+agreed_version v e = grind arith
 
 reply_version-is : (h : PlainHost) (m : Tmesg) → first_of_checks (host_checks h m) ≡ None → IsVersion h.version → IsVersion (reply_to h m).0.version
 unfolding replies_opened
-reply_version-is h (Tversion v) e is = agreed_version v e
-reply_version-is h m e is = subst IsVersion (sym (reply_stands h m e).1) is
+reply_version-is h m e u = grind (arith, agreed_version, reply_stands)
 
 -- ## What stands of every answer
 
@@ -154,14 +140,12 @@ unfolding answer
 is_silent_where_done h m done less = grind arith
 
 start-names : (given : List (List ℕ × List ℕ)) → AreGiven given → (f : ℕ) → IsShort (slot (given_slots given) f)
-start-names [] h f = omega arith
-start-names (x ∷ xs) h zero = h.0
 start-names (x ∷ xs) h (suc f) = start-names xs h.2 f
+start-names given e f = grind arith
 
 start-fits : (given : List (List ℕ × List ℕ)) → AreGiven given → (f : ℕ) → IsFit (unwrap_or (slot (given_slots given) f) blank_file)
-start-fits [] h f = (omega arith, omega arith, omega arith)
-start-fits (x ∷ xs) h zero = (omega arith, omega arith, h.1)
 start-fits (x ∷ xs) h (suc f) = start-fits xs h.2 f
+start-fits given e f = grind arith
 
 pub starts_sound : StartsSound
 starts_sound given h = grind (arith, start-names, start-fits)

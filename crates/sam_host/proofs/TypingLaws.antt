@@ -47,9 +47,8 @@ undone-slots : (h : PlainHost) (ss : Slots PlainFile) (p : ℕ) (s : List ℕ) �
     → (let g = typed (host_with h ss) p s in
     let dot = (unwrap_or (slot ss 0) blank_file).dot in
     with_file g 0 (record (file_at g.files 0) { text = del (file_at g.files 0).text p (p + length s); dot = dot }) ≡ host_with h ss)
-undone-slots h [] p s there place = absurd (cc)
-undone-slots h (None ∷ ss) p s there place = absurd (cc)
 undone-slots h (Some y ∷ ss) p s there place = λ i. host_with h (Some (record y { text = del_ins y.text s p place i }) ∷ ss)
+undone-slots h ss p s e u = grind arith
 
 -- a host whose typing was taken out again, and whose dot was set back, is as it was
 pub undone : (h g k : PlainHost) (p : ℕ) (s : List ℕ) (dot : Range) → has_file h.files 0 ≡ true → p ≤ length (file_at h.files 0).text → g ≡ typed h p s
@@ -60,11 +59,8 @@ undone h g k p s dot there place e f d = grind (arith, (undone-slots h h.files.s
 
 -- whether a text ends a line shows in its last rune
 pub last_ends : (t : List ℕ) (k d : ℕ) → suc k ≡ length t → ends_line t ≡ nat_eq (get_or t k d) 10
-last_ends [] k d e = absurd (omega arith)
-last_ends (c ∷ []) zero d e = refl
-last_ends (c ∷ []) (suc k) d e = absurd (omega arith)
-last_ends (c ∷ b ∷ t) zero d e = absurd (omega arith)
 last_ends (c ∷ b ∷ t) (suc k) d e = last_ends (b ∷ t) k d (omega arith)
+last_ends t k d e = grind arith
 
 typed-as-line : (h : PlainHost) (f p : ℕ) (s : List ℕ) → f ≡ 0 → (nat_eq f 0 && ends_line s) ≡ true → reply_type h f p s ≡ typed_line h p s
 unfolding reply_type
@@ -84,8 +80,7 @@ ins_end : (t s : List ℕ) → ins t (length t) s ≡ t ++ s
 ins_end t s = (λ i. take-length t i ++ s ++ drop-length t i) ∙ append-nil (t ++ s)
 
 not-empty : (s : List ℕ) → 0 < length s → is_empty s ≡ false
-not-empty [] h = absurd (omega arith)
-not-empty (c ∷ s) h = refl
+not-empty s e = grind arith
 
 -- what is printed is typed at the end
 pub print_as_typed : (h : PlainHost) (s : List ℕ) → 0 < length s → has_room h.files s ≡ true → with_files h (after_print h.files s) ≡ sent h s

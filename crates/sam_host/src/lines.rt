@@ -46,6 +46,7 @@ impl Host {
     }
 
     /// Tells the edits of a file from the last to the first, so that each place is still true.
+    #[tactic(auto, using(crate::proofs::RunLaws::edit_told, crate::proofs::RunLaws::text_below_inserted))]
     fn tell_edits(
         &self,
         frames: &mut Vec<HFrame>,

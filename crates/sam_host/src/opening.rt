@@ -27,6 +27,7 @@ impl Host {
 
     /// Tells the tag and the name of each file that was not announced, tags ascending. The command file is left out: `Tstartcmdfile`
     /// tells its name.
+    #[tactic(auto, using(crate::proofs::NameLaws::names_done, crate::proofs::NameLaws::name_told))]
     fn tell_names(&self, frames: &mut Vec<HFrame>) -> Result<(), HostFault>
         requires count { self.now.taken + 1 < 2 ^ 64 }
         ensures ok { OnOk result (Tells self.now frames.old.items frames.new.items (told_names 1 (drop 1 self.now.files.slots))) }

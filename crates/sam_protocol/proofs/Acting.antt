@@ -1,5 +1,5 @@
 -- An event that nothing stands against keeps both sides in order.
-use Rattle.std.proofs.Common.{◌≡◌, ◌≢◌, ℕ, ◌+◌, ◌-◌, ◌<◌, ◌≤◌, Bool, true, false, not, ◌&&◌, ◌==◌, if◌then◌else◌, nat_lt, List, [], ◌∷◌, ◌++◌, length, Option, None, ◌⊎◌, inl, inr, refl, sym, ap, ◌∙◌, subst, true≢false, eqb-true, eq-eqb, append_assoc, arith}
+use Rattle.std.proofs.Common.{◌≡◌, ◌≢◌, ℕ, ◌+◌, ◌-◌, ◌<◌, ◌≤◌, Bool, true, false, not, ◌&&◌, ◌==◌, if◌then◌else◌, nat_lt, List, [], ◌∷◌, ◌++◌, length, Option, None, ◌⊎◌, inl, inr, refl, sym, ap, ◌∙◌, subst, true≢false, eqb-true, eq-eqb, append_assoc, arith, rules}
 use Rattle.std.proofs.lemmas.Bool.{ltb-false, not-false, or_parts}
 use Rattle.std.proofs.lemmas.Bool.Decides.{eqb_tells}
 use Rattle.sam_runes.specs.Texts.{max_runes, is_empty}
@@ -69,9 +69,7 @@ record AfterCut (h : PlainHost) (t : PlainTerminal) (up : List Tmesg) (down : Li
   shows : (g : ℕ) → view g made.0 ≡ (if g == f then cut_out p q (view g t) else view g t)
 
 cut_nothing : (p q : ℕ) (v : Lens) → p ≡ q → cut_out p q v ≡ v
-cut_nothing p q (lens c e n lenses.Unknown) same = refl
-cut_nothing p q (lens c e n lenses.Known) same = refl
-cut_nothing p q (lens c e n (lenses.Open r k)) same = ap (λ (x : PartialText). lens c e n (lenses.Open x k)) (del-nothing r p q same)
+cut_nothing p q v e = grind (arith, del-nothing)
 
 after_cut : (h : PlainHost) (t : PlainTerminal) (up : List Tmesg) (down : List Hmesg) (f : ℕ) → InOrder h t up down → MaySend (views t) (Tcut f (window_at t f).dot.0 (window_at t f).dot.1)
     → AfterCut h t up down f (window_at t f).dot.0 (window_at t f).dot.1 (cuts_dot t f)
@@ -271,7 +269,6 @@ event_goes h t up down (View f a n) o p =
 event_goes h t up down (Version v) o p = sent h t up down (Tversion v) o p refl (all_free t p.free p.all_unlocked) (positive (eqb_tells v 0))
   where
     positive : (((v == 0) ≡ true) × (v ≡ 0)) ⊎ (((v == 0) ≡ false) × (v ≢ 0)) → 0 < v
-    positive (inl x) = absurd (true≢false (sym x.0 ∙ p.version))
-    positive (inr x) = omega (arith, x.1)
+    positive e = grind arith
 event_goes h t up down Flush o p = flushed_goes h t up down o
 event_goes h t up down _ o p = search (sent, free_at, all_free, open_free Anything, dot_open, known_at_view)

@@ -1,5 +1,5 @@
 -- How the invariant at one file is carried on.
-use Rattle.std.proofs.Common.{◌≡◌, ℕ, ◌+◌, ◌≤◌, min, Bool, true, false, ◌||◌, List, [], ◌∷◌, ◌++◌, length, take, drop, Option, Some, None, ◌⊎◌, inl, inr, refl, sym, ap, ◌∙◌, subst, true≢false, arith, append-nil, length-take, length-drop, nat_le, if◌then◌else◌, le-leb}
+use Rattle.std.proofs.Common.{◌≡◌, ℕ, ◌+◌, ◌≤◌, min, Bool, true, false, ◌||◌, List, [], ◌∷◌, ◌++◌, length, take, drop, Option, Some, None, ◌⊎◌, inl, inr, refl, sym, ap, ◌∙◌, subst, true≢false, arith, append-nil, length-take, length-drop, nat_le, if◌then◌else◌, le-leb, rules}
 use Rattle.std.proofs.lemmas.List.{drop_min, take_min}
 use Rattle.std.proofs.lemmas.Bool.{or_left, or_cases, or_parts}
 use Rattle.sam_runes.specs.Texts.{most_in_message}
@@ -48,9 +48,7 @@ kept_act s u v x d d2 n n2 file file2 k free alike on gone = grind (
 
 -- a lens is alike to itself
 pub alike_same : (v : Lens) → IsAlike v v
-alike_same (lens c e n Unknown) = tt
-alike_same (lens c e n Known) = tt
-alike_same (lens c e n (Open r k)) = tt
+alike_same v = grind arith
 
 -- the settled state of a free file is the present one
 pub kept_free : (s : List Action) (v : Lens) (d : Bool) (n : ℕ) (file : HFile) → Settles s v d n file → IsFree v → IsSettled v d n file
@@ -65,18 +63,10 @@ pub record SettledOpen (w : Lens) (d : Bool) (n : ℕ) (file : HFile) : Type 0 w
   pub agrees : Agrees rasp text
 
 pub settled_open : (w : Lens) (d : Bool) (n : ℕ) (file : HFile) → IsOpen w → IsSettled w d n file → SettledOpen w d n file
-settled_open (lens c e m Unknown) d n file o x = absurd o
-settled_open (lens c e m Known) d n file o x = absurd o
-settled_open (lens c e m (Open r k)) d n Absent o x = absurd x.3
-settled_open (lens c e m (Open r k)) d n (Hidden t) o x = absurd x.3
-settled_open (lens c e m (Open r k)) d n (Named t) o x = absurd x.3
-settled_open (lens c e m (Open r k)) d n (Opened t) o x = record { rasp = r; text = t; is = λ i. lens (x.0 i) (x.1 i) (x.2 i) (Open r (x.3.0 i)); opened = refl; agrees = x.3.1 }
-settled_open (lens c e m (Open r k)) d n Gone o x = absurd x.3
+settled_open w d n file e u = grind arith
 
 pub settled_opened : (w : Lens) (d : Bool) (n : ℕ) (t : List ℕ) → IsSettled w d n (Opened t) → (r : List (Option ℕ)) × (w ≡ lens false d n (Open r 0)) × Agrees r t
-settled_opened (lens c e m Unknown) d n t x = absurd x.3
-settled_opened (lens c e m Known) d n t x = absurd x.3
-settled_opened (lens c e m (Open r k)) d n t x = (r, λ i. lens (x.0 i) (x.1 i) (x.2 i) (Open r (x.3.0 i)), x.3.1)
+settled_opened w d n t e = grind arith
 
 -- the settled lens without its slot
 pub settled_slot : (w : Lens) (d : Bool) (n : ℕ) (file : HFile) → IsSettled w d n file → (s : Slot) × (w ≡ lens false d n s) × Fits_slot s file
@@ -87,8 +77,7 @@ kept_more s v d n file k = subst (λ (u : List Action). Settles u v d n file) (s
 
 -- with a test that passes
 pub if_passes : (b : Bool) (x : Lens) (f : Lens → Option Lens) (w : Option Lens) → b ≡ true → f x ≡ w → and_then (if b then Some x else None) f ≡ w
-if_passes true x f w e h = h
-if_passes false x f w e h = absurd (true≢false (sym e))
+if_passes b x f w e u = grind arith
 
 -- the answer to a Trequest frees its lock, and loads what agrees
 pub kept_data : (d : Bool) (n : ℕ) (r : List (Option ℕ)) (t : List ℕ) (p m : ℕ) → d ≡ false → Agrees r t → Settles (request_actions d (Opened t) p m) (lens false d n (Open r 1)) d n (Opened t)
@@ -96,28 +85,22 @@ kept_data true n r t p m e a = absurd (true≢false e)
 kept_data false n r t p m e a =
     let x = take (min m most_in_message) (drop p t) in
     let q = min p (length t) in
-    let long : q + length x ≤ length r = omega (arith, length_agrees r t a, length-take (min m most_in_message) (drop p t), length-drop p t) in
-    let fits : q + length x ≤ length t = omega (arith, length_agrees r t a, long) in
-    let same : x ≡ take (length x) (drop q t) = sym (take_min (min m most_in_message) (drop p t)) ∙ (λ i. take (sym (length-take (min m most_in_message) (drop p t)) i) (sym (drop_min p t) i)) in
     record {
       final = lens false false n (Open (load_cells r q x) 0);
-      runs = if_passes (nat_le (q + length x) (length r)) (lens false false n (Open (load_cells r q x) 1)) (run (Free_file ∷ [])) _ (le-leb _ _ long) refl;
-      settled = (refl, refl, refl, (refl, subst (λ (s : List ℕ). Agrees (load_cells r q s) t) (sym same) (agrees_loaded r t q (length x) a fits)));
-      guarded = (λ c. refl, (λ c. absurd (true≢false (sym c)), tt));
+      runs = grind (arith, length_agrees, length-take, length-drop, if_passes, nat_le, le-leb);
+      settled = grind (arith, length_agrees, length-take, length-drop, take_min, drop_min, agrees_loaded);
+      guarded = grind arith;
       closed = λ c. absurd (true≢false (sym c));
     }
 
 no_actions : (d : Bool) (file : HFile) (p m : ℕ) → (d ≡ true) ⊎ (file ≡ Gone) → CanRequest d file × (request_actions d file p m ≡ [])
-no_actions true file p m h = (tt, refl)
-no_actions false file p m (inl h) = absurd (true≢false (sym h))
-no_actions false file p m (inr h) = subst (λ (f : HFile). CanRequest false f × (request_actions false f p m ≡ [])) (sym h) (tt, refl)
+no_actions d file p m e = grind arith
 
 pub exited_settled : (w : Lens) (d : Bool) (n : ℕ) (file : HFile) → IsSettled w d n file → exited_of w ≡ d
 exited_settled (lens c e m s) d n file x = x.1
 
 can_request_open : (d : Bool) (t : List ℕ) → CanRequest d (Opened t)
-can_request_open true t = tt
-can_request_open false t = tt
+can_request_open d t = grind arith
 
 -- a Trequest that the terminal composes while it takes a frame, and its answer
 pub kept_request : (s : List Action) (v : Lens) (d : Bool) (n : ℕ) (file : HFile) (p m : ℕ) → Settles s v d n file → IsOpen v → exited_of v ≡ false
@@ -128,34 +111,18 @@ kept_request s v d n file p m k o e = go (runs_more s v k.final o k.runs)
     exited = sym (exited_settled k.final d n file k.settled) ∙ exited_after s v k.final k.runs
 
     why : (closes s ≡ true) ⊎ (exits s ≡ true) → (d ≡ true) ⊎ (file ≡ Gone)
-    why (inl c) = inr (k.closed c)
-    why (inr c) = inl (exited ∙ or_left (exits s) (exited_of v) c)
+    why e = grind (arith, exited, or_left)
 
     ended : run s (locked_more v) ≡ Some k.final → (d ≡ true) ⊎ (file ≡ Gone) → CanRequest d file × Settles (s ++ request_actions d file p m) (locked_more v) d n file
-    ended r h =
-        let q = no_actions d file p m h in (
-          q.0,
-          subst (λ (u : List Action). Settles (s ++ u) (locked_more v) d n file) (sym q.1)
-              (kept_more s (locked_more v) d n file (record { final = k.final; runs = r; settled = k.settled; guarded = k.guarded; closed = k.closed })),
-        )
+    ended r h = grind (arith, no_actions, kept_more)
 
     running : (t : List ℕ) → file ≡ Opened t → (closes s ≡ true → file ≡ Gone) → (x : Lens) → run s (locked_more v) ≡ Some x → Settles (request_actions d (Opened t) p m) x d n (Opened t)
         → CanRequest d file × Settles (s ++ request_actions d file p m) (locked_more v) d n file
-    running t q gone x r loads = subst (λ (f : HFile). CanRequest d f × Settles (s ++ request_actions d f p m) (locked_more v) d n f) (sym q) (
-      can_request_open d t,
-      record {
-        final = loads.final;
-        runs = run-append_some s (request_actions d (Opened t) p m) (locked_more v) x r ∙ loads.runs;
-        settled = loads.settled;
-        guarded = guarded-append s (request_actions d (Opened t) p m) k.guarded loads.guarded;
-        closed = λ c. either (closes-append s (request_actions d (Opened t) p m) c) (λ w. sym q ∙ gone w) loads.closed;
-      },
-    )
+    running t q gone x r loads = grind (arith, can_request_open, run-append_some, guarded-append, either, closes-append)
       where
         either : (closes s ≡ true) ⊎ (closes (request_actions d (Opened t) p m) ≡ true) → (closes s ≡ true → Opened t ≡ Gone)
             → (closes (request_actions d (Opened t) p m) ≡ true → Opened t ≡ Gone) → Opened t ≡ Gone
-        either (inl c) f g = f c
-        either (inr c) f g = g c
+        either e u w = grind arith
 
     go : ((((closes s || exits s) ≡ true) × (run s (locked_more v) ≡ Some k.final)) ⊎ (IsOpen k.final × (run s (locked_more v) ≡ Some (locked_more k.final)) × ((closes s || exits s) ≡ false)))
         → CanRequest d file × Settles (s ++ request_actions d file p m) (locked_more v) d n file

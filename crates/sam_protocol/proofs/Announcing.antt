@@ -1,5 +1,5 @@
 -- The answer to Tversion: from settled to settled.
-use Rattle.std.proofs.Common.{◌≡◌, ℕ, zero, suc, ◌+◌, ◌<◌, Bool, true, false, not, ◌==◌, if◌then◌else◌, List, [], ◌∷◌, ◌++◌, length, drop, Option, Some, None, refl, sym, ap, ◌∙◌, subst, arith, eq-eqb, nat_lt}
+use Rattle.std.proofs.Common.{◌≡◌, ℕ, zero, suc, ◌+◌, ◌<◌, Bool, true, false, not, ◌==◌, if◌then◌else◌, List, [], ◌∷◌, ◌++◌, length, drop, Option, Some, None, refl, sym, ap, ◌∙◌, subst, arith, eq-eqb, nat_lt, rules}
 use Rattle.std.specs.Prelude.{option_map, unwrap_or}
 use Rattle.sam_runes.specs.Texts.{common_version}
 use Rattle.sam_runes.specs.Slots.{Slots, slot}
@@ -32,8 +32,7 @@ names_of k x = Hnewname k ∷ Hmovname k x.name ∷ []
 
 one_skips : (g k : ℕ) (x : PlainFile) (b : Bool) → (g == k) ≡ false → AreSkips (at_file g (when b (names_of k x)))
 unfolding when names_of
-one_skips g k x true e = (ap (λ (b : Bool). only b Join) e, (ap (λ (b : Bool). only b Needs_known) e, tt))
-one_skips g k x false e = tt
+one_skips g k x b e = grind arith
 
 not_same : (g k : ℕ) → (g ≡ k → ⊥) → (g == k) ≡ false
 not_same g k h = grind arith
@@ -95,8 +94,7 @@ version_action v l = grind arith
 
 pub sync_version : (h : PlainHost) → Ready h → (v : ℕ) → Accepted h (Tversion v) → Synced h (Tversion v)
 unfolding reply_version announced_slot
-sync_version h r v l =
-    commands h (Tversion v) refl (last_test (v == 0) BadVersion (not_same v 0 (λ e. omega (arith, l, e)))) each lasts.gone (still_has h.files out r.steady.sound refl lasts)
+sync_version h r v l = grind (arith, commands, last_test, not_same, each, still_has, lasts)
   where
     ss : Slots PlainFile
     ss = h.files.slots
@@ -108,21 +106,17 @@ sync_version h r v l =
     names = told_names 1 (drop 1 ss)
 
     behind : (ss : Slots PlainFile) (f : ℕ) → slot (drop 1 ss) f ≡ slot ss (suc f)
-    behind [] f = refl
-    behind (s ∷ ss) f = refl
+    behind ss f = grind (arith, ss)
 
     -- the files after it
     first : (ss : Slots PlainFile) → file_in (announce_all ss) 0 ≡ file_in ss 0
-    first [] = refl
-    first (s ∷ ss) = ap (λ (n : ℕ). file_of_slot (nat_lt 0 n) s) (ap suc (length-map_slots announced_file ss))
+    first ss = grind (arith, ss, nat_lt, length-map_slots)
 
     later : (ss : Slots PlainFile) (g : ℕ) → file_in (announce_all ss) (suc g) ≡ announced_slot (nat_lt (suc g) (length ss)) (slot ss (suc g))
-    later [] g = refl
-    later (s ∷ ss) g = λ i. file_of_slot (nat_lt (suc g) (suc (length-map_slots announced_file ss i))) (slot-map announced_file ss g i)
+    later ss g = grind (arith, ss, nat_lt, length-map_slots, slot-map)
 
     moves : (g : ℕ) (s : Slot) → Fits_slot s (file_in ss g) → Moves (at_file g names) h.is_done (common_version v) s (file_in out.slots g)
-    moves zero s y =
-        subst (Moves (at_file 0 names) h.is_done (common_version v) s) (sym (first ss)) (stays_put _ h.is_done (common_version v) s (file_in ss 0) (names_skip 0 1 (drop 1 ss) (omega arith)) y)
+    moves zero s y = grind (arith, (first ss), (stays_put _ h.is_done (common_version v) s (file_in ss 0) (names_skip 0 1 (drop 1 ss) (omega arith)) y))
     moves (suc g) s y =
         subst (Moves (at_file (suc g) names) h.is_done (common_version v) s) (ap (announced_slot (nat_lt (suc g) (length ss))) (behind ss g) ∙ sym (later ss g))
         (names_move h.is_done (common_version v) 1 g (suc g) (drop 1 ss) (nat_lt (suc g) (length ss)) s (omega arith)
@@ -138,8 +132,6 @@ sync_version h r v l =
         (version_kept (at_file g names) h.is_done h.version (common_version v) s (file_in out.slots g) (moves g s y))
 
     slot_lasts : (b : Bool) (x : Option PlainFile) → (file_of_slot b x ≡ Gone → announced_slot b x ≡ Gone) × (IsOpened (file_of_slot b x) → IsOpened (announced_slot b x))
-    slot_lasts true None = ((λ e. e), (λ o. o))
-    slot_lasts false None = ((λ e. e), (λ o. o))
     slot_lasts b (Some x) = (gone x.opened x.announced, opened x.opened x.announced)
       where
         gone : (o n : Bool) → (if o then Opened x.text else if n then Named x.text else Hidden x.text) ≡ Gone → (if o then Opened x.text else Named x.text) ≡ Gone
@@ -151,6 +143,7 @@ sync_version h r v l =
         opened true n y = tt
         opened false true y = absurd y
         opened false false y = absurd y
+    slot_lasts b x = grind arith
 
     lasts : Lasts (file_in ss) (file_in out.slots)
     lasts = record { gone = gone; opened = opened; commands = λ c. subst IsCommandFile (sym (first ss)) c }

@@ -48,9 +48,8 @@ pub and_first : (a : Action) (u : List Action) (d : Bool) (n : ℕ) (s s2 : Slot
 and_first a u d n s s2 file e c m = record { slot = m.slot; runs = ap (λ (o : Option Lens). and_then o (run u)) e ∙ m.runs; fits = m.fits; no_close = ap (λ (b : Bool). b || closes u) c ∙ m.no_close }
 
 pub moves_rewrite : (u : List Action) (t t2 : List ℕ) (d : Bool) (n : ℕ) (s : Slot) → Rewrites u t t2 → Fits_slot s (Opened t) → Moves u d n s (Opened t2)
-moves_rewrite u t t2 d n Unknown x f = absurd f
-moves_rewrite u t t2 d n Known x f = absurd f
 moves_rewrite u t t2 d n (Open r k) x f = let e = x.runs true d n r k f.1 in record { slot = Open e.rasp k; runs = e.is; fits = (f.0, e.agrees); no_close = x.no_close }
+moves_rewrite u t t2 d n s e w = grind arith
 
 -- they take each slot that fits the files a to one that fits the files b, and b has what a has
 pub record Carries (d : Bool) (n : ℕ) (a : ℕ → HFile) (frames : List Hmesg) (b : ℕ → HFile) : Type 0 where
@@ -88,11 +87,7 @@ unlocks u d n s file m = kept_by (u ++ Free_command ∷ []) (lens true d n s) (l
     (guarded_before u (Free_command ∷ []) refl (guarded_by (Free_command ∷ []) refl)) (no_close_behind u (Free_command ∷ []) m.no_close refl)
 
 exit_fits : (r : List (Option ℕ)) (k : ℕ) (file : HFile) → Fits_slot (Open r k) file → Fits_slot (Open r 0) file
-exit_fits r k Absent f = f
-exit_fits r k (Hidden t) f = f
-exit_fits r k (Named t) f = f
-exit_fits r k (Opened t) f = (refl, f.1)
-exit_fits r k Gone f = f
+exit_fits r k file e = grind arith
 
 -- so does Hexit
 pub exits_kept : (u : List Action) (d : Bool) (n : ℕ) (s : Slot) (file : HFile) → Moves u d n s file → Settles (u ++ Exit ∷ []) (lens true d n s) true n file
@@ -126,8 +121,7 @@ pub unlocked : (h : PlainHost) (fs : PlainFiles) (front : List Hmesg) → Carrie
 unlocked h fs front c sound = search (rules, common_steps, unlocks)
 
 pub unlocked_if : (h : PlainHost) (b : Bool) (x y : Reply) → (b ≡ true → Unlocked h x) → (b ≡ false → Unlocked h y) → Unlocked h (if b then x else y)
-unlocked_if h true x y p q = p refl
-unlocked_if h false x y p q = q refl
+unlocked_if h b x y e u = grind arith
 
 -- nothing but the lock is freed
 pub unlocked_only : (h : PlainHost) → HasFiles h.files → Unlocked h (h, Hunlock ∷ [])
@@ -146,10 +140,8 @@ sync_exit h r met =
 
 -- a file is closed for good
 close_there : (d : Bool) (n : ℕ) (s : Slot) (t : List ℕ) → Fits_slot s (Opened t) → Settles (Close ∷ Leave ∷ Free_command ∷ []) (lens true d n s) d n Gone
-close_there d n Unknown t f = absurd f
-close_there d n Known t f = absurd f
-close_there d n (Open r k) t f =
-    record { final = lens false d n Unknown; runs = refl; settled = (refl, refl, refl, tt); guarded = guarded_by (Close ∷ Leave ∷ Free_command ∷ []) refl; closed = λ e. refl }
+close_there d n (Open r k) t f = record { final = lens false d n Unknown; runs = refl; settled = (refl, refl, refl, tt); guarded = grind (arith, guarded_by); closed = λ e. refl }
+close_there d n s t e = grind arith
 
 pub sync_close : (h : PlainHost) → Ready h → (f : ℕ) → Accepted h (Tclose f) → Synced h (Tclose f)
 unfolding reply_close
@@ -157,9 +149,8 @@ sync_close h r f met = grind (arith, file_in-free, close_there)
 
 -- a window of a file that the terminal knows: bound, and as long as the text
 bind_moves : (f : ℕ) (x : PlainFile) (d : Bool) (n : ℕ) (s : Slot) (told : Told f (told_length f x) [] x.text) → Fits_slot s (Named x.text) → Moves (Bind ∷ told.acts) d n s (Opened x.text)
-bind_moves f x d n Unknown told y = absurd y
 bind_moves f x d n Known told y = and_first Bind told.acts d n Known (Open [] 0) (Opened x.text) refl refl (moves_rewrite told.acts [] x.text d n (Open [] 0) told.rewrites (refl, tt))
-bind_moves f x d n (Open r k) told y = absurd y
+bind_moves f x d n s told e = grind arith
 
 pub sync_start : (h : PlainHost) → Ready h → (f : ℕ) → Accepted h (Tstartfile f) → Synced h (Tstartfile f)
 unfolding reply_startfile when
@@ -213,15 +204,11 @@ sync_start h r f met =
 first_moves : (x : PlainFile) (d : Bool) (n : ℕ) (s : Slot) (told : Told 0 (told_length 0 x) [] x.text) → Fits_slot s (Hidden x.text)
     → Moves (Join ∷ Needs_known ∷ Bind ∷ told.acts) d n s (Opened x.text)
 first_moves x d n Unknown told y = grind (arith, (bind_moves 0 x d n Known told tt))
-first_moves x d n Known told y = absurd y
-first_moves x d n (Open r k) told y = absurd y
+first_moves x d n s told e = grind arith
 
 pub sync_first : (h : PlainHost) → Ready h → Accepted h Tstartcmdfile → Synced h Tstartcmdfile
 unfolding reply_startcmdfile
-sync_first h r met =
-    sync_by h Tstartcmdfile refl refl
-    (unlocked_if h file.opened (h, Hunlock ∷ []) (with_files h fs, (Hnewname 0 ∷ Hmovname 0 command_name ∷ Hbindname 0 ∷ told_length 0 file) ++ Hunlock ∷ []) (λ w. unlocked_only h r.steady.sound)
-    (λ w. opening w (hidden w there.kind)))
+sync_first h r met = grind (arith, sync_by, unlocked_if, unlocked_only, opening, hidden)
   where
     there : IsThere h.files 0 false
     there = first_there h r
@@ -239,8 +226,7 @@ sync_first h r met =
     told = told_opened 0 file (r.steady.fit 0).2
 
     hidden : file.opened ≡ false → (file.opened ≡ true) ⊎ ((file.opened ≡ false) × (file.announced ≡ false)) → file.announced ≡ false
-    hidden w (inl q) = absurd (true≢false (sym q ∙ w))
-    hidden w (inr q) = q.1
+    hidden e u = grind arith
 
     opening : file.opened ≡ false → file.announced ≡ false → Unlocked h (with_files h fs, (Hnewname 0 ∷ Hmovname 0 command_name ∷ Hbindname 0 ∷ told_length 0 file) ++ Hunlock ∷ [])
     opening w n =
@@ -294,8 +280,7 @@ printed_carries d n fs s x e = go (is_printed fs s) refl
     room q = leb-true end max_runes (right (not (is_empty s)) (has_room fs s) q)
       where
         right : (a b : Bool) → (a && b) ≡ true → b ≡ true
-        right true b q = q
-        right false b q = absurd (true≢false (sym q))
+        right a b e = grind arith
 
     opened : (o : Bool) → file.opened ≡ o → end ≤ max_runes → Carries d n a (when (true && o) told) (file_in out.slots)
     opened true w l =
@@ -308,10 +293,7 @@ printed_carries d n fs s x e = go (is_printed fs s) refl
         (told-append 0 (Hsetdot 0 end end ∷ []) (Hcheck 0 ∷ []) (t ++ s) (t ++ s) (t ++ s) dot (told_check 0 (t ++ s))) in
         carries_told d n a (file_in out.slots) 0 (when true told) t (t ++ s) (shown ∙ file_opened file w) (λ g. files g ∙ ap (λ (y : HFile). put a 0 y g) (file_opened (printed_file file s) w))
         (told_when true 0 told t (t ++ s) (λ q. all) (λ q. absurd (true≢false q)))
-    opened false w l =
-        carries_at d n a (file_in out.slots) 0 (when false told) [] (file_of (printed_file file s)) (λ g. refl) files
-        (λ u y. stays_put [] d n u (file_of (printed_file file s)) tt (shut_fits file (t ++ s) u w (subst (Fits_slot u) shown y)))
-        (lasts_put a (file_in out.slots) 0 (file_of (printed_file file s)) there open_one command files)
+    opened false w l = grind (arith, carries_at, files, stays_put, shut_fits, shown, lasts_put, there, open_one, command)
       where
         there : a 0 ≡ Gone → ⊥
         there q = marks file.opened file.announced (sym shown ∙ q)
@@ -349,15 +331,11 @@ printed_work fs s = grind arith
 
 new_there : (d : Bool) (n : ℕ) (s : Slot) → Fits_slot s Absent → Moves (Join ∷ Bind ∷ Needs_known ∷ []) d n s (Opened [])
 new_there d n Unknown x = record { slot = Open [] 0; runs = refl; fits = (refl, tt); no_close = refl }
-new_there d n Known x = absurd x
-new_there d n (Open r k) x = absurd x
+new_there d n s e = grind arith
 
 pub sync_new : (h : PlainHost) → Ready h → Accepted h Tstartnewfile → Synced h Tstartnewfile
 unfolding reply_startnewfile
-sync_new h r met =
-    sync_by h Tstartnewfile refl refl
-    (unlocked_if h (nat_le all_tags f) (with_files h (after_print h.files no_tag_left), printed h.files no_tag_left ++ Hunlock ∷ [])
-    (with_files h fs, (Hnewname f ∷ Hbindname f ∷ Hcurrent f ∷ []) ++ Hunlock ∷ []) (λ w. full) (λ w. fresh))
+sync_new h r met = grind (arith, sync_by, unlocked_if, nat_le, full, fresh)
   where
     there : IsThere h.files 0 false
     there = first_there h r
@@ -384,8 +362,7 @@ sync_new h r met =
     not_zero = go (cases_Bool (f == 0))
       where
         go : ((f == 0) ≡ true) ⊎ ((f == 0) ≡ false) → (f == 0) ≡ false
-        go (inl q) = let y : f ≡ 0 = eqb-true f 0 q in absurd (omega (arith, y, some))
-        go (inr q) = q
+        go e = grind (arith, eqb-true, some)
 
     full : Unlocked h (with_files h (after_print h.files no_tag_left), printed h.files no_tag_left ++ Hunlock ∷ [])
     full =

@@ -1,5 +1,5 @@
 -- What the terminal may compose, the host will accept, and its answer is carried behind what is under way.
-use Rattle.std.proofs.Common.{◌≡◌, ℕ, ◌+◌, ◌≤◌, Bool, true, false, ◌||◌, List, [], ◌∷◌, ◌++◌, length, Option, refl, sym, ap, ◌∙◌, subst, arith}
+use Rattle.std.proofs.Common.{◌≡◌, ℕ, ◌+◌, ◌≤◌, Bool, true, false, ◌||◌, List, [], ◌∷◌, ◌++◌, length, Option, refl, sym, ap, ◌∙◌, subst, arith, rules}
 use Rattle.sam_rasp.specs.Rasp.{Agrees}
 use Rattle.sam_rasp.proofs.RaspLaws.{length_agrees}
 use Rattle.sam_runes.specs.Texts.{max_runes}
@@ -44,9 +44,8 @@ record OpenBoth (P : List (Option ℕ) → Type 0) (fs : PlainFiles) (f : ℕ) :
   has : P rasp
 
 open_case : (P : List (Option ℕ) → Type 0) (fs : PlainFiles) (f : ℕ) (s : List Action) (v : Lens) (d : Bool) (n : ℕ) → Settles s v d n (file_in fs.slots f) → OpenAt P v → OpenBoth P fs f
-open_case P fs f s (lens c e n2 Unknown) d n k o = absurd o
-open_case P fs f s (lens c e n2 Known) d n k o = absurd o
 open_case P fs f s (lens c e n2 (Open r m)) d n k o = grind (arith, (kept_free s (lens c e n2 (Open r m)) d n (file_in fs.slots f) k), (opens_at fs f))
+open_case P fs f s v d n e u = grind arith
 
 abbrev IsKnown : HFile → Type 0
 IsKnown (Named t) = Unit
@@ -76,15 +75,12 @@ accepted h views line down k m allowed can = go m allowed can
     met (HasRoom f p s) free x =
         let o = at (λ r. (p ≤ length r) × (length r + length s ≤ max_runes)) f x in
         (o.opens, within o.rasp _ p o.agrees o.has.0, subst (λ (y : ℕ). y + length s ≤ max_runes) (length_agrees o.rasp _ o.agrees) o.has.1)
-    met (Startable f) free x =
-        let known = known_case (at_file f (down ++ k.frames)) (views f) k.ahead.is_done k.ahead.version (file_in k.ahead.files.slots f) (k.each f) (free f refl) x.0 in
-        (is_there k.ahead.files f true IsKnown (λ y. y) (λ y. y) (λ t y. y) known, x.1)
+    met (Startable f) free x = grind (arith, known_case, is_there)
     met (NamedOpen f) free x = ((at Anything f x.0).opens, x.1)
     met (NamedRange f p q) free x = let o = at (Within p q) f x.0 in (o.opens, o.has.0, within o.rasp _ q o.agrees o.has.1, x.1)
 
     go : (m : Tmesg) → IsAllowed (change_by m) views → CanCompose m views → Accepted k.ahead m
-    go (Tstartfile f) a x = met (Startable f) (λ g e. a g) x
-    go m a x = met (need_of m) (λ g e. absurd (cc)) x
+    go m e u = grind (arith, met)
 
 -- every message that the crossing lets come to the host leads from settled to settled, by the host's own answer: each of these lists has
 -- the lemmas of several kinds

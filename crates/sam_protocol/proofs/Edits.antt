@@ -33,11 +33,10 @@ edit_case h k f text e o files done version keeps g w s = grind arith
 pub sync_cut : (h : PlainHost) → Ready h → (f p q : ℕ) → Accepted h (Tcut f p q) → Synced h (Tcut f p q)
 unfolding reply_cut
 sync_cut h r f p q a = record {
-  passes = open_tests h f a.0 (no_range h f p q ∷ []) (range_test h f p q a.1 a.2);
-  each = edit_case h k f (del t p q) (cut_out p q) a.0 files refl refl
-      (λ rasp x. (refl, refl, refl, (refl, agrees_removed rasp t p q x)));
-  gone = lasts.gone;
-  sound = still_has h.files k.files r.steady.sound refl lasts;
+    passes = grind (arith, open_tests, range_test);
+    each = edit_case h k f (del t p q) (cut_out p q) a.0 files refl refl (λ rasp x. (refl, refl, refl, (refl, agrees_removed rasp t p q x)));
+    gone = lasts.gone;
+    sound = grind (arith, still_has, lasts);
 }
   where
     t : List ℕ
@@ -62,13 +61,10 @@ pub sync_short : (h : PlainHost) (f p : ℕ) (s : List ℕ) → HasFiles h.files
     → is_command_line f s ≡ false → Synced h (Ttype f p s)
 unfolding reply_type
 sync_short h f p s sound o l room ends = record {
-  passes = type_passes h f p s o l room;
-  each = λ g w x. subst
-      (λ (b : Bool). Settles (at_file g (if b then line else (typed, [])).1) (changed (type_change (if b then CommandLock else NoLock) f p s) g w) (if b then line else (typed, [])).0.is_done
-      (if b then line else (typed, [])).0.version (file_in (if b then line else (typed, [])).0.files.slots g)) (sym ends)
-      (edit_case h typed f (ins t p s) (typed_in p s) o files refl refl (λ r a. (refl, refl, refl, (refl, agrees_typed r t s p a))) g w x);
-  gone = λ g e. ap (λ (b : Bool). file_in (if b then line else (typed, [])).0.files.slots g) ends ∙ lasts.gone g e;
-  sound = subst (λ (b : Bool). HasFiles (if b then line else (typed, [])).0.files) (sym ends) (still_has h.files typed.files sound refl lasts);
+    passes = type_passes h f p s o l room;
+    each = λ g w x. subst (λ (b : Bool). Settles (at_file g (if b then line else (typed, [])).1) (changed (type_change (if b then CommandLock else NoLock) f p s) g w) (if b then line else (typed, [])).0.is_done (if b then line else (typed, [])).0.version (file_in (if b then line else (typed, [])).0.files.slots g)) (sym ends) (edit_case h typed f (ins t p s) (typed_in p s) o files refl refl (λ r a. (refl, refl, refl, (refl, agrees_typed r t s p a))) g w x);
+    gone = grind (arith, lasts);
+    sound = grind (arith, still_has, lasts);
 }
   where
     t : List ℕ

@@ -91,8 +91,7 @@ freed_only : (h : PlainHost) (f : ℕ) → Opens h.files f → Freed h f (h, Hun
 freed_only h f o = freed h h f [] (file_at h.files f).text (has_same h f o) (told_nothing f (file_at h.files f).text)
 
 freed_if : (h : PlainHost) (f : ℕ) (b : Bool) (x y : Reply) → (b ≡ true → Freed h f x) → (b ≡ false → Freed h f y) → Freed h f (if b then x else y)
-freed_if h f true x y p q = p refl
-freed_if h f false x y p q = q refl
+freed_if h f b x y e u = grind arith
 
 -- ## The shared ending of a search, found or not
 
@@ -167,8 +166,7 @@ sync_search h r f p q a =
     t = (file_at h.files f).text
 
     found : (lit : Option (List ℕ)) → InText t (searched_for lit t q)
-    found None = tt
-    found (Some lit) = searched_within t lit q a.2
+    found lit = grind (arith, searched_within)
 
 pub sync_paste : (h : PlainHost) → Ready h → (f p : ℕ) → Accepted h (Tpaste f p) → Synced h (Tpaste f p)
 unfolding reply_paste
@@ -243,10 +241,6 @@ sync_request h r f p n a =
     t = (file_at h.files f).text
 
     here : (rasp : List (Option ℕ)) → Agrees rasp t → Settles (at_file f (reply_request h f p n).1) (lens false h.is_done h.version (Open rasp 1)) h.is_done h.version (Opened t)
-    here rasp agrees =
-        subst (λ (u : List Action). Settles u (lens false h.is_done h.version (Open rasp 1)) h.is_done h.version (Opened t))
-        (sym (tells_there f f (reply_request h f p n).1 (request_actions false (Opened t) p n) (request_tells h f p n a f) (eq-eqb f f refl)))
-        (subst (λ (b : Bool). Settles (request_actions b (Opened t) p n) (lens false h.is_done h.version (Open rasp 1)) h.is_done h.version (Opened t)) r.running
-        (kept_data h.is_done h.version rasp t p n r.running agrees))
+    here rasp agrees = grind (arith, (request_tells h f p n a f), (eq-eqb f f refl), (kept_data h.is_done h.version rasp t p n r.running agrees))
 
 pub ruleset file_locks = (sync_request, sync_origin, sync_paste, sync_write, sync_look, sync_search, sync_dclick)

@@ -1,5 +1,5 @@
 -- The fold of what is under way, one message or frame more or less.
-use Rattle.std.proofs.Common.{◌≡◌, ℕ, Bool, true, false, if◌then◌else◌, ◌==◌, List, [], ◌∷◌, ◌++◌, map, Option, Some, None, ◌⊎◌, inl, inr, refl, sym, ap, ◌∙◌, subst, append-nil, append_assoc, eqb-true, eq-eqb, arith}
+use Rattle.std.proofs.Common.{◌≡◌, ℕ, Bool, true, false, if◌then◌else◌, ◌==◌, List, [], ◌∷◌, ◌++◌, map, Option, Some, None, ◌⊎◌, inl, inr, refl, sym, ap, ◌∙◌, subst, append-nil, append_assoc, eqb-true, eq-eqb, arith, rules}
 use Rattle.std.proofs.lemmas.Bool.{cases_Bool}
 use Rattle.sam_runes.specs.Checks.{first_of_checks}
 use Rattle.sam_mesg.specs.declared.tmesg.Tmesg.{Tmesg}
@@ -38,11 +38,7 @@ answers-append h [] ns a b e f = grind arith
 answers-append h (m ∷ ms) ns a b e f =
     let t = answered h m ms a e in
     let f2 : answers t.rest.0 ns ≡ Some b = ap (λ (x : Reply). answers x.0 ns) (sym t.whole) ∙ f in
-    let on = answers-append t.first.0 ms ns t.rest b t.later f2 in
-    ap (λ (o : Option Reply). replied_then o (λ k. answers k (ms ++ ns))) t.now
-    ∙ ap (behind t.first.1) on
-    ∙ ap (λ (fs : List Hmesg). Some (b.0, fs)) (sym (append_assoc t.first.1 t.rest.1 b.1))
-    ∙ ap (λ (x : Reply). Some (b.0, x.1 ++ b.1)) (sym t.whole)
+    grind (arith, answered, append_assoc, (answers-append t.first.0 ms ns t.rest b t.later f2))
 
 -- ## The host takes the first message
 
@@ -92,23 +88,11 @@ kept_with h views views2 line down m r k replies each steady versions =
     }
 
 alike_changed : (c : Change) (g : ℕ) (v : Lens) → IsAlike v (changed c g v)
-alike_changed Same g v = alike_same v
-alike_changed (Lock f) g v = grind arith
-alike_changed Command g (lens c e n Unknown) = tt
-alike_changed Command g (lens c e n Known) = tt
-alike_changed Command g (lens c e n (Open r k)) = tt
-alike_changed (Types f p s) g v = grind arith
-alike_changed (Cuts f p q) g v = grind arith
-alike_changed (Line p s) g v = grind arith
+alike_changed c g v = grind (arith, alike_same)
 
 -- a file that the act changes is free
 free_or_same : (c : Change) (views : ℕ → Lens) (g : ℕ) → IsAllowed c views → IsFree (views g) ⊎ ((v : Lens) → changed c g v ≡ v)
-free_or_same Same views g a = inr (λ v. refl)
-free_or_same (Lock f) views g a = grind arith
-free_or_same Command views g a = inl (a g)
-free_or_same (Types f p s) views g a = grind arith
-free_or_same (Cuts f p q) views g a = grind arith
-free_or_same (Line p s) views g a = inl (a g)
+free_or_same c views g e = grind arith
 
 -- the host's reply to a message that nothing stands against
 pub plain_reply : (h : PlainHost) (m : Tmesg) → h.is_done ≡ false → first_of_checks (host_checks h m) ≡ None → reply_of h m ≡ Some (counted (reply_to h m).0, (reply_to h m).1)
@@ -152,8 +136,7 @@ acknowledges h views line down k =
     (record { sound = k.steady.sound; announced = k.steady.announced; fit = k.steady.fit }) tt
   where
     either_way : (b : Bool) → (if b then (let x : Option Reply = Some (counted k.ahead, []) in x) else Some (counted k.ahead, [])) ≡ Some (counted k.ahead, [])
-    either_way true = refl
-    either_way false = refl
+    either_way b = grind arith
 
 -- ## A request, under any lock
 
@@ -175,19 +158,10 @@ requested h f p n c = go h.is_done refl (file_in h.files.slots f) refl c
 
     told : h.is_done ≡ false → (file : HFile) → file_in h.files.slots f ≡ file → first_of_checks (host_checks h (Trequest f p n)) ≡ None
         → ((g : ℕ) → at_file g frames ≡ map (only (g == f)) (request_actions false file p n)) → Requested h f p n
-    told z file e passes tells =
-        record {
-          frames = frames;
-          now = plain_reply h (Trequest f p n) z passes;
-          tells = λ g. tells g ∙ (λ i. map (only (g == f)) (request_actions (sym z i) (sym e i) p n));
-          versions = guarded_reply h (Trequest f p n);
-        }
+    told z file e passes tells = record { frames = frames; now = plain_reply h (Trequest f p n) z passes; tells = grind arith; versions = guarded_reply h (Trequest f p n) }
 
     go : (d : Bool) → h.is_done ≡ d → (file : HFile) → file_in h.files.slots f ≡ file → CanRequest d file → Requested h f p n
     go true z file e c = record { frames = []; now = silent z; tells = λ g. ap (λ (b : Bool). map (only (g == f)) (request_actions b (file_in h.files.slots f) p n)) (sym z); versions = tt }
-    go false z Absent e c = absurd c
-    go false z (Hidden t) e c = absurd c
-    go false z (Named t) e c = absurd c
     go false z (Opened t) e c =
         let o = opens_at h.files f t e in
         told z (Opened t) e (request_passes h f p n o.0.given (open_passes h f o.0))
@@ -195,6 +169,7 @@ requested h f p n c = go h.is_done refl (file_in h.files.slots f) refl c
     go false z Gone e c =
         let x = gone_at h.files.slots f e in
         told z Gone e (request_passes h f p n x.0 (none_passes h f x.1)) (none_tells h f p n x.1)
+    go d e file u w = grind arith
 
 pub requests : (h : PlainHost) (views : ℕ → Lens) (line : List Tmesg) (down : List Hmesg) (f p n : ℕ) → AllSettle h views line down → IsOpen (views f) → exited_of (views f) ≡ false
     → AllSettle h (λ g. changed (Lock f) g (views g)) (line ++ Trequest f p n ∷ []) down

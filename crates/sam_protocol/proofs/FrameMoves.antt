@@ -1,5 +1,5 @@
 -- Where no lens refuses a frame the terminal doesn't, and each lens moves as the frame's action says.
-use Rattle.std.proofs.Common.{◌≡◌, ℕ, suc, arith, ◌+◌, ◌-◌, ◌≢◌, Bool, true, false, not, if◌then◌else◌, ◌==◌, List, [], ◌∷◌, length, map, replicate, Option, Some, None, is_some, refl, sym, ap, ◌∙◌, eqb-true, eq-eqb, nat_le, nat_lt}
+use Rattle.std.proofs.Common.{◌≡◌, ℕ, suc, arith, ◌+◌, ◌-◌, ◌≢◌, Bool, true, false, not, if◌then◌else◌, ◌==◌, List, [], ◌∷◌, length, map, replicate, Option, Some, None, is_some, refl, sym, ap, ◌∙◌, eqb-true, eq-eqb, nat_le, nat_lt, rules}
 use Rattle.std.specs.Prelude.{unwrap_or}
 use Rattle.std.proofs.lemmas.Bool.{leb-true, le-ltb}
 use Rattle.std.proofs.lemmas.Option.{same_Some}
@@ -98,8 +98,7 @@ on_shut a next unknown known opened c e n s v q = grind arith
 
 on_newname : (c e : Bool) (n : ℕ) (s : Option KnownFile) (v : Lens) → move Join (lens c e n (slot_of s)) ≡ Some v
     → (first_of_checks ((is_some s, fault.AlreadyBound) ∷ []) ≡ None) × (v ≡ lens c e n Known)
-on_newname c e n None v q = (refl, sym (same_Some _ _ q))
-on_newname c e n (Some k) v q = grind arith
+on_newname c e n s v u = grind (arith, same_Some)
 
 -- ## The whole frame, from what its file's slot says
 
@@ -135,15 +134,13 @@ exit_moves t g v q = grind (arith, slot-map)
 
 version_moves : (v : ℕ) (t : PlainTerminal) (g : ℕ) (b : Bool)
     → move (if b then Skip else Change (common_version v)) (view g t) ≡ Some (lens t.command_lock t.has_exited (if b then t.version else common_version v) (slot_of (slot t.files g)))
-version_moves v t g true = refl
-version_moves v t g false = refl
+version_moves v t g b = grind arith
 
 unlock_moves : (t : PlainTerminal) (w : Lens) → move Free_command (view 0 t) ≡ Some w → t.command_lock ≡ true
 unlock_moves t w q = grind arith
 
 ack_composes : (t : PlainTerminal) (b : Bool) → (if b then (t, []) else sends t unchanged (Tack ∷ [])) ≡ sends_if (if b then None else Some Tack) t
-ack_composes t true = refl
-ack_composes t false = refl
+ack_composes t b = grind arith
 
 pub take_law : (t : PlainTerminal) (m : Hmesg) → NoneRefuses t m → Moves t m
 unfolding requested took_bindname took_data took_grow took_growdata took_cut took_unlockfile took_close
@@ -156,9 +153,7 @@ take_law t (Hbindname f) h =
       moves = put_moves f Bind t (effect t (Hbindname f)) (record (known_of (slot t.files f)) { window = Some blank_window }) refl refl refl refl (q.1 ∙ ap Some x.1);
       composes = refl;
     }
-take_law t (Hcurrent f) h =
-    let x = known_here f t h in
-    record { passes = x.passes; moves = tagged f Needs_known t (record t { current = Some f }) refl refl refl (λ g n. refl) (x.moves ∙ known_same f t h); composes = refl }
+take_law t (Hcurrent f) h = grind (arith, known_here, tagged, known_same)
   where
     known_same : (f : ℕ) (t : PlainTerminal) → Refuses f Needs_known t → Some (lens t.command_lock t.has_exited t.version (slot_of_window (known_of (slot t.files f)).window)) ≡ Some (view f t)
     known_same f t h = let q = here_moves f Needs_known t h in go (slot t.files f) q.0 q.1
@@ -179,13 +174,7 @@ take_law t (Hgrow f p n) h =
     opened_here f (Grow p n) t (λ w. (nat_lt (length w.rasp) p, fault.BadPosition) ∷ (nat_lt max_runes (length w.rasp + n), fault.TooLong) ∷ [])
     (λ w. Open (ins_cells w.rasp p (replicate n None)) w.locks) (on_grow p n) (λ c e v. refl) (λ c e v. refl) h in
     record { passes = x.passes; moves = put_moves f (Grow p n) t (effect t (Hgrow f p n)) _ refl refl refl refl x.moves; composes = refl }
-take_law t (Hcheck f) h =
-    let x = opened_here f Needs_open t (λ w. []) (λ w. Open w.rasp w.locks) on_check (λ c e v. refl) (λ c e v. refl) h in
-    record {
-      passes = x.passes;
-      moves = tagged f Needs_open t t refl refl refl (λ g n. refl) (open_same (slot t.files f) (here_moves f Needs_open t h).0 (here_moves f Needs_open t h).1);
-      composes = refl;
-    }
+take_law t (Hcheck f) h = grind (arith, opened_here, on_check, tagged, open_same, here_moves)
   where
     open_same : (s : Option KnownFile) (v : Lens) → move Needs_open (lens t.command_lock t.has_exited t.version (slot_of s)) ≡ Some v
         → move Needs_open (lens t.command_lock t.has_exited t.version (slot_of s)) ≡ Some (lens t.command_lock t.has_exited t.version (slot_of s))
@@ -196,9 +185,7 @@ take_law t (Hcheck f) h =
             → move Needs_open (lens t.command_lock t.has_exited t.version (slot_of_window w)) ≡ Some (lens t.command_lock t.has_exited t.version (slot_of_window w))
         go None q = cc
         go (Some w) q = refl
-take_law t Hunlock h =
-    let e = unlock_moves t (h 0).0
-    (h 0).1 in record { passes = rw e refl; moves = λ g. ap (λ (b : Bool). move Free_command (lens b t.has_exited t.version (slot_of (slot t.files g)))) e; composes = refl }
+take_law t Hunlock h = grind (arith, (unlock_moves t (h 0).0 (h 0).1))
 take_law t (Hdata f p s) h =
     let x =
     opened_here f (Fill p s) t (λ w. (nat_lt (length w.rasp) (p + length s), fault.BadPosition) ∷ []) (λ w. Open (load_cells w.rasp p s) w.locks) (on_data p s) (λ c e v. refl)
@@ -238,10 +225,7 @@ take_law t (Hcut f p n) h =
     let x = opened_here f (Cut p n) t (λ w. (nat_lt (length w.rasp) (p + n), fault.BadPosition) ∷ []) (λ w. Open (del_cells w.rasp p (p + n)) w.locks) (on_cut p n) (λ c e v. refl) (λ c e v. refl) h in
     record { passes = x.passes; moves = put_moves f (Cut p n) t (effect t (Hcut f p n)) _ refl refl refl refl x.moves; composes = refl }
 take_law t (Hsetpat s) h = record { passes = refl; moves = λ g. refl; composes = refl }
-take_law t (Hdelname f) h =
-    let q = here_moves f Leave t h in
-    let x = on_shut Leave Unknown (λ c e n. refl) (λ c e n. refl) (λ c e n w. refl) t.command_lock t.has_exited t.version (slot t.files f) q.0 q.1 in
-    record { passes = x.0; moves = removed_moves f t (q.1 ∙ ap Some x.1); composes = refl }
+take_law t (Hdelname f) h = grind (arith, here_moves, on_shut, removed_moves)
 take_law t (Hclose f) h =
     let x = opened_here f Close t (λ w. []) (λ w. Known) on_close (λ c e v. refl) (λ c e v. refl) h in
     record { passes = x.passes; moves = put_moves f Close t (took_close t f) (record (known_of (slot t.files f)) { window = None }) refl refl refl refl x.moves; composes = refl }

@@ -1,5 +1,5 @@
 -- Aids to show that actions keep the invariant at one file: what guards a list of actions, and what leaves a lens as it is.
-use Rattle.std.proofs.Common.{◌≡◌, ℕ, Bool, true, false, not, ◌||◌, List, [], ◌∷◌, ◌++◌, Some, refl, sym, ap, ◌∙◌, true≢false, arith}
+use Rattle.std.proofs.Common.{◌≡◌, ℕ, Bool, true, false, not, ◌||◌, List, [], ◌∷◌, ◌++◌, Some, refl, sym, ap, ◌∙◌, true≢false, arith, rules}
 use Rattle.std.proofs.lemmas.List.{map-append}
 use Rattle.std.proofs.lemmas.Bool.{and_parts, or_right}
 use Rattle.sam_mesg.specs.declared.hmesg.Hmesg.{Hmesg}
@@ -8,8 +8,7 @@ use Rattle.sam_protocol.proofs.Lenses.{guard_holds, AreSkips}
 use Rattle.sam_protocol.specs.Frames.{action, at_file}
 
 not_true : (a b : Bool) → (not a || b) ≡ true → a ≡ true → b ≡ true
-not_true true b e q = e
-not_true false b e q = absurd (true≢false (sym q))
+not_true a b e u = grind arith
 
 pub guarded_by : (s : List Action) → guard_holds s ≡ true → IsGuarded s
 guarded_by [] e = tt

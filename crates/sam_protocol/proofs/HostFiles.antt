@@ -1,5 +1,5 @@
 -- The files of the host by slot, as the crossing sees them: what is there, and what becomes of all where one is put or dropped.
-use Rattle.std.proofs.Common.{◌≡◌, ℕ, ◌<◌, ◌≤◌, Bool, true, false, if◌then◌else◌, ◌==◌, List, [], length, Option, Some, None, is_some, ◌⊎◌, inl, inr, refl, sym, ap, ◌∙◌, subst, arith, eq-eqb, nat_lt}
+use Rattle.std.proofs.Common.{◌≡◌, ℕ, ◌<◌, ◌≤◌, Bool, true, false, if◌then◌else◌, ◌==◌, List, [], length, Option, Some, None, is_some, ◌⊎◌, inl, inr, refl, sym, ap, ◌∙◌, subst, arith, eq-eqb, nat_lt, rules}
 use Rattle.std.specs.Prelude.{unwrap_or}
 use Rattle.std.proofs.lemmas.Bool.{le-ltb}
 use Rattle.std.proofs.lemmas.List.{length-append}
@@ -67,11 +67,7 @@ is_there fs f a P none gone other p = go (slot fs.slots f) refl (nat_lt f (lengt
     go : (s : Option PlainFile) → slot fs.slots f ≡ s → (b : Bool) → P (file_of_slot b s) → IsThere fs f a
     go None q true p = absurd (gone p)
     go None q false p = absurd (none p)
-    go (Some x) q b p = record {
-      file = x;
-      there = q;
-      kind = subst (λ (y : PlainFile). (y.opened ≡ true) ⊎ ((y.opened ≡ false) × (y.announced ≡ a))) (sym (at_there fs f x q)) (kind x x.opened x.announced a other refl refl p);
-    }
+    go (Some x) q b p = grind (arith, kind, (at_there fs f x q), (kind x x.opened x.announced a other refl refl p))
 
 pub shown_there : (fs : PlainFiles) (f : ℕ) (x : PlainFile) → slot fs.slots f ≡ Some x → file_in fs.slots f ≡ file_of x
 shown_there fs f x e = ap (file_of_slot (nat_lt f (length fs.slots))) e

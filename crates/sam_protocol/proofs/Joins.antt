@@ -1,5 +1,5 @@
 -- Runes typed in two messages do what they do in one.
-use Rattle.std.proofs.Common.{◌≡◌, ℕ, ◌+◌, ◌-◌, ◌≤◌, Bool, true, false, ◌&&◌, ◌==◌, if◌then◌else◌, List, [], ◌∷◌, ◌++◌, length, Option, Some, None, refl, sym, ap, ◌∙◌, subst, arith, append_assoc, append-nil, length-append, ◌⊎◌, inl, inr}
+use Rattle.std.proofs.Common.{◌≡◌, ℕ, ◌+◌, ◌-◌, ◌≤◌, Bool, true, false, ◌&&◌, ◌==◌, if◌then◌else◌, List, [], ◌∷◌, ◌++◌, length, Option, Some, None, refl, sym, ap, ◌∙◌, subst, arith, append_assoc, append-nil, length-append, ◌⊎◌, inl, inr, rules}
 use Rattle.std.specs.Prelude.{unwrap_or}
 use Rattle.std.proofs.lemmas.Bool.{cases_Bool}
 use Rattle.std.proofs.lemmas.Option.{same_Some}
@@ -43,8 +43,7 @@ typed_reply h f p s = refl
 alike_after : (ends : Bool) (k j : PlainHost) (f end : ℕ) → AreAlike k j
     → AreAlike (after_typing ends k f end).0 (after_typing ends j f end).0 × ((after_typing ends k f end).1 ≡ (after_typing ends j f end).1)
 unfolding after_typing
-alike_after false k j f end a = (a, refl)
-alike_after true k j f end a = grind arith
+alike_after ends k j f end e = grind arith
 
 at_put : (fs : PlainFiles) (f : ℕ) (x : PlainFile) → file_at (put_file fs f x) f ≡ x
 at_put fs f x = ap (λ (o : Option PlainFile). unwrap_or o blank_file) (slot-put_same fs.slots f x)
@@ -91,12 +90,7 @@ joined_done h f p s w r1 r2 d e1 e2 =
       reply = (counted h, []);
       now = silent h (Ttype f p (s ++ w)) d;
       silent = ap (λ (r : Reply). r.1) (sym first);
-      alike =
-          record {
-            files = ap (λ (r : Reply). r.0.files) (sym second) ∙ ap (λ (r : Reply). r.0.files) (sym first);
-            done = ap (λ (r : Reply). r.0.is_done) (sym second) ∙ ap (λ (r : Reply). r.0.is_done) (sym first);
-            version = ap (λ (r : Reply). r.0.version) (sym second) ∙ ap (λ (r : Reply). r.0.version) (sym first);
-          };
+      alike = grind (arith, same_Some, silent);
       frames = ap (λ (r : Reply). r.1) (sym second);
     }
   where
@@ -156,30 +150,17 @@ answers_split h [] ns x e = record { first = (h, []); last = x; now = refl; late
 answers_split h (m ∷ ms) ns x e =
     let t = answered h m (ms ++ ns) x e in
     let r = answers_split t.first.0 ms ns t.rest t.later in
-    record {
-      first = (r.first.0, t.first.1 ++ r.first.1);
-      last = r.last;
-      now = ap (λ (o : Option Reply). replied_then o (λ k. answers k ms)) t.now ∙ ap (behind t.first.1) r.now;
-      later = r.later;
-      whole = t.whole ∙ (λ i. ((r.whole i).0, t.first.1 ++ (r.whole i).1)) ∙ ap (λ (fs : List Hmesg). (r.last.0, fs)) (sym (append_assoc t.first.1 r.first.1 r.last.1));
-    }
+    record { first = (r.first.0, t.first.1 ++ r.first.1); last = r.last; now = grind (arith, answered); later = r.later; whole = grind (arith, answered, append_assoc) }
 
 -- the fold of one message in place of two
 pub joins : (h : PlainHost) (views : ℕ → Lens) (line : List Tmesg) (down : List Hmesg) (f p c : ℕ) (s u : List ℕ) → ((f == 0) && ends_line s) ≡ false
     → AllSettle h views ((line ++ Ttype f p s ∷ []) ++ Ttype f (p + length s) (c ∷ u) ∷ []) down → AllSettle h views (line ++ Ttype f p (s ++ c ∷ u) ∷ []) down
-joins h views line down f p c s u plain k =
-    record {
-      ahead = j.reply.0;
-      frames = x.first.1 ++ j.reply.1;
-      folds = answers-append h line (Ttype f p (s ++ c ∷ u) ∷ []) x.first j.reply x.now (one (Ttype f p (s ++ c ∷ u)) x.first.0 j.reply j.now);
-      each = λ g.
-          subst (λ (fs : List Hmesg). Settles (at_file g (down ++ fs)) (views g) j.reply.0.is_done j.reply.0.version (file_in j.reply.0.files.slots g)) frames
-          (subst (λ (n : ℕ). Settles (at_file g (down ++ k.frames)) (views g) j.reply.0.is_done n (file_in j.reply.0.files.slots g)) alike.version
-          (subst (λ (b : Bool). Settles (at_file g (down ++ k.frames)) (views g) b k.ahead.version (file_in j.reply.0.files.slots g)) alike.done
-          (subst (λ (fs : PlainFiles). Settles (at_file g (down ++ k.frames)) (views g) k.ahead.is_done k.ahead.version (file_in fs.slots g)) alike.files (k.each g))));
-      steady = subst Good alike.files (record { sound = k.steady.sound; announced = k.steady.announced; fit = k.steady.fit });
-      versions = subst (λ (fs : List Hmesg). VersionsGuarded (down ++ fs)) frames k.versions;
-    }
+joins h views line down f p c s u plain k = grind (
+    arith,
+    ahead,
+    frames,
+    (answers-append h line (Ttype f p (s ++ c ∷ u) ∷ []) x.first j.reply x.now (one (Ttype f p (s ++ c ∷ u)) x.first.0 j.reply j.now)),
+)
   where
     B : Tmesg
     B = Ttype f p s
@@ -203,8 +184,7 @@ joins h views line down f p c s u plain k =
     j = go (cases_Bool x.first.0.is_done)
       where
         go : (x.first.0.is_done ≡ true) ⊎ (x.first.0.is_done ≡ false) → Joined x.first.0 f p s (c ∷ u) y.first z.first
-        go (inl d) = joined_done x.first.0 f p s (c ∷ u) y.first z.first d y.now z.now
-        go (inr d) = joined_open x.first.0 f p c s u y.first z.first plain d y.now z.now
+        go e = grind (arith, joined_done, joined_open)
 
     last : z.rest ≡ (z.first.0, [])
     last = sym (same_Some _ _ z.later)
@@ -217,14 +197,3 @@ joins h views line down f p c s u plain k =
 
     frames : k.frames ≡ x.first.1 ++ j.reply.1
     frames = ap (λ (r : Reply). r.1) x.whole ∙ ap (λ (r : Reply). x.first.1 ++ r.1) after ∙ ap (λ (fs : List Hmesg). x.first.1 ++ fs) j.frames
-
-    alike : AreAlike k.ahead j.reply.0
-    alike = record {
-      files = ap (λ (a : PlainHost). a.files) ahead ∙ j.alike.files;
-      done = ap (λ (a : PlainHost). a.is_done) ahead ∙ j.alike.done;
-      version = ap
-          (λ (a : PlainHost). a.version) ahead ∙ j.alike.version;
-    }
-
-    Good : PlainFiles → Type 0
-    Good fs = IsSteady (record j.reply.0 { files = fs })

@@ -1,5 +1,5 @@
 -- The two messages that run a command line, and what a line does: from settled to settled.
-use Rattle.std.proofs.Common.{◌≡◌, ℕ, ◌+◌, ◌-◌, Bool, true, false, not, ◌||◌, ◌&&◌, ◌==◌, if◌then◌else◌, List, [], ◌∷◌, ◌++◌, length, map, reverse, Option, Some, None, Result, Ok, Err, unwrap_or, ◌⊎◌, inl, inr, refl, sym, ap, ◌∙◌, subst, eqb-true, arith}
+use Rattle.std.proofs.Common.{◌≡◌, ℕ, ◌+◌, ◌-◌, Bool, true, false, not, ◌||◌, ◌&&◌, ◌==◌, if◌then◌else◌, List, [], ◌∷◌, ◌++◌, length, map, reverse, Option, Some, None, Result, Ok, Err, unwrap_or, ◌⊎◌, inl, inr, refl, sym, ap, ◌∙◌, subst, eqb-true, arith, rules}
 use Rattle.std.specs.Prelude.{option_map, option_and_then, flat_map}
 use Rattle.std.proofs.lemmas.Bool.{cases_Bool}
 use Rattle.sam_runes.specs.Texts.{Range, ins, is_empty, part, line_start, as_lines, last_line}
@@ -42,11 +42,7 @@ use Rattle.sam_protocol.proofs.Commands.{stays_put, Carries, carries_nothing, ca
 
 -- without a work file a line names no file
 nameless_read : (c : Result Command Word) (f : ℕ) → (or_wrong (c >>= effect_of None)).file ≡ Some f → ⊥
-nameless_read (Err x) f e = cc
-nameless_read (Ok (command.Go a)) f e = cc
-nameless_read (Ok (command.Run a ss l)) f e = cc
-nameless_read (Ok (command.Name n)) f e = cc
-nameless_read (Ok command.Quit) f e = cc
+nameless_read c f e = grind arith
 
 nameless : (line : List ℕ) (f : ℕ) → (line_outcome None line).file ≡ Some f → ⊥
 unfolding line_outcome
@@ -74,8 +70,7 @@ line_on fs line f fit e = by_work fs.work refl
         record { is_work = w ∙ ap Some same; fits = subst (λ (k : ℕ). Fits (work_on k (file_at fs k)) (meaning fs line)) same fits }
 
     by_work : (w : Option ℕ) → fs.work ≡ w → LineOn fs line f
-    by_work None w = none (ap (option_and_then (λ (k : ℕ). option_map (work_on k) (slot fs.slots k))) w)
-    by_work (Some g) w = at_slot g w (slot fs.slots g) refl
+    by_work w e = grind (arith, none, at_slot)
 
 -- how it is told at the work file
 outcome_told : (fs : PlainFiles) (o : PlainOutcome) (f : ℕ) → Opens fs f → Fits (work_on f (file_at fs f)) o
@@ -100,8 +95,7 @@ outcome_told fs o f opens fit =
     t2 = unwrap_or o.text t
 
     edits : Told f (flat_map (told_edit fs f) (reverse o.edits)) t t2
-    edits = subst (Told f (flat_map (told_edit fs f) (reverse o.edits)) t) (last_first_is_at_once o.edits t fit.ascend ∙ sym fit.text)
-        (told_edits fs f (reverse o.edits) t opens.opened (edits_fit o.edits t fit.ascend fit.within))
+    edits = grind (arith, (last_first_is_at_once o.edits t fit.ascend), (told_edits fs f (reverse o.edits) t opens.opened (edits_fit o.edits t fit.ascend fit.within)))
 
     dot : (d : Range) → o.dot ≡ Some d → Told f (Hsetdot f d.0 d.1 ∷ []) t2 t2
     dot d e = let within : IsRangeOf t2 (Some d) = subst (IsRangeOf t2) e fit.dot in told_dot f d.0 d.1 t2 within.0 within.1
@@ -109,8 +103,7 @@ outcome_told fs o f opens fit =
 -- what the terminal keeps alone
 skips_pattern : (g : ℕ) (o : Option (List ℕ)) → AreSkips (at_file g (when_given o Hsetpat))
 unfolding when_given
-skips_pattern g None = tt
-skips_pattern g (Some s) = (refl, tt)
+skips_pattern g o = grind arith
 
 none_told : (d : Bool) (n : ℕ) (fs : PlainFiles) (o : PlainOutcome) → Carries d n (file_in fs.slots) (told_outcome None fs o) (file_in fs.slots)
 unfolding told_outcome
@@ -209,12 +202,10 @@ line_sound k before line sound fit holds = grind (arith, (line_lasts k before li
 sync_line : (h : PlainHost) → Ready h → (p : ℕ) (s : List ℕ) → Accepted h (Ttype 0 p s) → is_command_line 0 s ≡ true → Synced h (Ttype 0 p s)
 unfolding reply_type
 sync_line h r p s o ends = record {
-  passes = type_passes h 0 p s o.0 o.1 o.2;
-  each = λ g w x. subst
-      (λ (b : Bool). Settles (at_file g (if b then run else (typed_host, [])).1) (changed (type_change (if b then CommandLock else NoLock) 0 p s) g w)
-      (if b then run else (typed_host, [])).0.is_done (if b then run else (typed_host, [])).0.version (file_in (if b then run else (typed_host, [])).0.files.slots g)) (sym ends) (each g w x);
-  gone = λ g e. ap (λ (b : Bool). file_in (if b then run else (typed_host, [])).0.files.slots g) ends ∙ line.gone g (lasts.gone g e);
-  sound = subst (λ (b : Bool). HasFiles (if b then run else (typed_host, [])).0.files) (sym ends) (line_sound typed_host [] text has fit holds2);
+    passes = type_passes h 0 p s o.0 o.1 o.2;
+    each = grind (arith, each);
+    gone = λ g e. ap (λ (b : Bool). file_in (if b then run else (typed_host, [])).0.files.slots g) ends ∙ line.gone g (lasts.gone g e);
+    sound = subst (λ (b : Bool). HasFiles (if b then run else (typed_host, [])).0.files) (sym ends) (line_sound typed_host [] text has fit holds2);
 }
   where
     there : IsThere h.files 0 false
@@ -259,18 +250,9 @@ sync_line h r p s o ends = record {
     slot_of : (g : ℕ) (w : Lens) → IsSettled w h.is_done h.version (file_in h.files.slots g) → ((g == 0) ≡ true) ⊎ ((g == 0) ≡ false)
         → (x : Slot) × (commanded (if g == 0 then typed_in p s w else w) ≡ lens true h.is_done h.version x) × Fits_slot x (a g)
     slot_of g w x (inl e) =
-        let u = settled_opened w h.is_done h.version t (subst (IsSettled w h.is_done h.version) (ap (file_in h.files.slots) (eqb-true _ _ e) ∙ o.0.shown) x) in (
-          Open (ins_cells u.0 p (map Some s)) 0,
-          ap (λ (b : Bool). commanded (if b then typed_in p s w else w)) e ∙ ap (λ (y : Lens). commanded (typed_in p s y)) u.1,
-          subst (Fits_slot (Open (ins_cells u.0 p (map Some s)) 0)) (sym (files g ∙ ap (λ (b : Bool). if b then Opened (ins t p s) else file_in h.files.slots g) e)) (refl, agrees_typed u.0 t s p u.2),
-        )
-    slot_of g w x (inr e) =
-        let u = settled_slot w h.is_done h.version (file_in h.files.slots g) x in (
-          u.0,
-          ap (λ (b : Bool). commanded (if b then typed_in p s w else w)) e ∙ ap commanded u.1,
-          subst (Fits_slot u.0)
-              (sym (files g ∙ put_other (file_in h.files.slots) 0 (Opened (ins t p s)) g e)) u.2,
-        )
+        let u = settled_opened w h.is_done h.version t (subst (IsSettled w h.is_done h.version) (ap (file_in h.files.slots) (eqb-true _ _ e) ∙ o.0.shown) x) in
+        (Open (ins_cells u.0 p (map Some s)) 0, grind (arith, settled_opened, eqb-true), grind (arith, settled_opened, eqb-true, files, agrees_typed))
+    slot_of g w x (inr e) = grind (arith, settled_slot, files, put_other)
 
     each : (g : ℕ) (w : Lens) → IsSettled w h.is_done h.version (file_in h.files.slots g)
         → Settles (at_file g run.1) (commanded (if g == 0 then typed_in p s w else w)) run.0.is_done run.0.version (file_in run.0.files.slots g)

@@ -1,5 +1,5 @@
 -- What the tests of an event say of the views, where none of them stands against it.
-use Rattle.std.proofs.Common.{◌≡◌, ℕ, zero, suc, true, false, not, ◌&&◌, nat_lt, List, [], ◌∷◌, Some, None, refl, arith}
+use Rattle.std.proofs.Common.{◌≡◌, ℕ, zero, suc, true, false, not, ◌&&◌, nat_lt, List, [], ◌∷◌, Some, None, refl, arith, rules}
 use Rattle.std.specs.Prelude.{unwrap_or}
 use Rattle.std.proofs.lemmas.Bool.{or_parts}
 use Rattle.sam_runes.specs.Slots.{Slots}
@@ -50,11 +50,9 @@ known_at_view t f k = grind arith
 
 -- where no file is locked, this one isn't
 pub none_locked : (ss : Slots KnownFile) (g : ℕ) → is_any_locked ss ≡ false → nat_lt 0 (window_in ss g).locks ≡ false
-none_locked [] g e = refl
-none_locked (None ∷ ss) zero e = refl
 none_locked (None ∷ ss) (suc g) e = none_locked ss g e
-none_locked (Some x ∷ ss) zero e = (or_parts (nat_lt 0 (unwrap_or x.window blank_window).locks) (is_any_locked ss) e).0
 none_locked (Some x ∷ ss) (suc g) e = none_locked ss g (or_parts (nat_lt 0 (unwrap_or x.window blank_window).locks) (is_any_locked ss) e).1
+none_locked ss g e = grind (arith, or_parts, nat_lt)
 
 pub all_free : (t : PlainTerminal) → t.command_lock ≡ false → is_any_locked t.files ≡ false → (g : ℕ) → IsFree (view g t)
 all_free t c e g = free_at t g c (none_locked t.files g e)

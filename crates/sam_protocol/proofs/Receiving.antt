@@ -35,9 +35,7 @@ use Rattle.sam_protocol.proofs.Acting.{requested_goes, acknowledged_goes}
 -- ## The unsent runes are left alone
 
 free_of : (v : Lens) → OpenAt Anything v → IsFree v
-free_of (lens c e n lenses.Unknown) o = absurd o
-free_of (lens c e n lenses.Known) o = absurd o
-free_of (lens c e n (lenses.Open r k)) o = subst (λ (x : Bool). IsFree (lens x e n (lenses.Open r k))) (sym o.0) (subst (λ (x : ℕ). IsFree (lens false e n (lenses.Open r x))) (sym o.1) tt)
+free_of v e = grind arith
 
 -- a frame that comes doesn't touch a free file
 quiet_frame : (a : Action) (s : List Action) (v : Lens) (d : Bool) (n : ℕ) (file : HFile) → Settles (a ∷ s) v d n file → OpenAt Anything v → is_crossing a ≡ false
@@ -48,8 +46,7 @@ left_open : (a : Action) (s : List Action) (v v2 : Lens) (d : Bool) (n : ℕ) (f
 left_open a s v v2 d n file k o m = grind (arith, (quiet_frame a s v d n file k o))
 
 elsewhere : (b : Bool) (a : Action) → is_crossing a ≡ true → is_crossing (only b a) ≡ false → b ≡ false
-elsewhere true a c e = absurd (true≢false (sym c ∙ e))
-elsewhere false a c e = refl
+elsewhere b a e u = grind arith
 
 -- unsent runes of another file stay
 moved_other : (f : ℕ) (moved : ℕ → ℕ) (u : Unsent) → (u.file == f) ≡ false → moved_unsent f moved (Some u) ≡ Some u
@@ -60,19 +57,11 @@ kept_other f u e = ap (λ (b : Bool). if b then None else Some u) e
 
 unsent_stays : (t : PlainTerminal) (m : Hmesg) (u : Unsent) → t.unsent ≡ Some u → is_crossing (action u.file m) ≡ false → (effect t m).unsent ≡ Some u
 unfolding took_bindname took_data took_grow took_growdata took_cut took_unlockfile took_close took_exit
-unsent_stays t (Hgrow f p n) u e q = grind arith
-unsent_stays t (Hgrowdata f p s) u e q = grind arith
-unsent_stays t (Hcut f p n) u e q = ap (moved_unsent f (place_after_del p (p + n))) e ∙ moved_other f (place_after_del p (p + n)) u (elsewhere (u.file == f) (lenses.Cut p n) refl q)
-unsent_stays t (Hclose f) u e q = ap (unsent_without f) e ∙ kept_other f u (elsewhere (u.file == f) lenses.Close refl q)
-unsent_stays t _ u e q = e
+unsent_stays t m u e w = grind (arith, moved_other, elsewhere, kept_other)
 
 unsent_none : (t : PlainTerminal) (m : Hmesg) → t.unsent ≡ None → (effect t m).unsent ≡ None
 unfolding took_bindname took_data took_grow took_growdata took_cut took_unlockfile took_close took_exit
-unsent_none t (Hgrow f p n) e = ap (moved_unsent f (place_after_ins p (length (replicate n None)))) e
-unsent_none t (Hgrowdata f p s) e = ap (moved_unsent f (place_after_ins p (length (map Some s)))) e
-unsent_none t (Hcut f p n) e = ap (moved_unsent f (place_after_del p (p + n))) e
-unsent_none t (Hclose f) e = ap (unsent_without f) e
-unsent_none t _ e = e
+unsent_none t m e = grind arith
 
 -- ## Dots stay in their texts
 
@@ -97,23 +86,7 @@ tidy-freed t all g = grind (arith, slot-map)
 
 tidy_effect : (t : PlainTerminal) (m : Hmesg) → first_of_checks (frame_checks t m) ≡ None → AreTidy t → AreTidy (effect t m)
 unfolding took_bindname took_data took_grow took_growdata took_cut took_unlockfile took_close took_exit
-tidy_effect t (Hbindname f) e all = tidy-window t f blank_window all blank_tidy
-tidy_effect t (Hnewname f) e all = tidy-put t f blank_known all blank_tidy
-tidy_effect t (Hmovname f s) e all = tidy-put t f (record (known_at t f) { name = s }) all (all f)
-tidy_effect t (Hgrow f p n) e all = search (arith, tidy-window, tidy-ins, place_of, behind_open)
-tidy_effect t (Hdata f p s) e all = grind (arith, length-load, tidy-window)
-tidy_effect t (Horigin f p) e all = grind (arith, tidy-window)
-tidy_effect t (Hunlockfile f) e all = tidy-window t f (record (window_at t f) { locks = (window_at t f).locks - 1 }) all (all f)
-tidy_effect t (Hsetdot f p q) e all = grind (arith, tidy-window)
-tidy_effect t (Hgrowdata f p s) e all = search (arith, tidy-window, tidy-ins, place_of, behind_open)
-tidy_effect t (Hmoveto f p) e all = grind (arith, tidy-window)
-tidy_effect t (Hclean f) e all = tidy-put t f (record (known_at t f) { dirty = false; changed = false }) all (all f)
-tidy_effect t (Hdirty f) e all = tidy-put t f (record (known_at t f) { dirty = true }) all (all f)
-tidy_effect t (Hcut f p n) e all = search (rules, tidy-window, tidy-del)
-tidy_effect t (Hdelname f) e all = tidy-free t f all
-tidy_effect t (Hclose f) e all = tidy-put t f (record (known_at t f) { window = None }) all blank_tidy
-tidy_effect t Hexit e all = tidy-freed t all
-tidy_effect t _ e all = all
+tidy_effect t m e u = grind (arith, tidy-window, blank_tidy, tidy-put, tidy-ins, place_of, behind_open, length-load, tidy-del, tidy-free, tidy-freed)
 
 -- ## A frame is taken
 
@@ -134,11 +107,7 @@ effect_order h t up m down o v = by_unsent t.unsent refl
     taken = term_takes h (views t) (views (effect t m)) (up ++ unsent_message t.unsent) m down k v.moves
 
     made : (u : Option Unsent) → t.unsent ≡ u → (effect t m).unsent ≡ u → IsHeldBack (views (effect t m)) u → InOrder h (effect t m) up down
-    made u e e2 held = record {
-      kept = subst (λ (x : Option Unsent). AllSettle h (views (effect t m)) (up ++ unsent_message x) down) (e ∙ sym e2) taken;
-      tidy = tidy_effect t m v.passes o.tidy;
-      unsent = subst (IsHeldBack (views (effect t m))) (sym e2) held;
-    }
+    made u e e2 held = grind (arith, taken, tidy_effect)
 
     by_unsent : (u : Option Unsent) → t.unsent ≡ u → InOrder h (effect t m) up down
     by_unsent None e = made None e (unsent_none t m e) tt

@@ -1,12 +1,11 @@
 -- Runs of actions at one file.
-use Rattle.std.proofs.Common.{◌≡◌, zero, suc, Bool, true, false, ◌||◌, List, [], ◌∷◌, ◌++◌, Option, Some, None, ◌⊎◌, inl, inr, refl, sym, ap, ◌∙◌, subst, true≢false, if◌then◌else◌, arith}
+use Rattle.std.proofs.Common.{◌≡◌, zero, suc, Bool, true, false, ◌||◌, List, [], ◌∷◌, ◌++◌, Option, Some, None, ◌⊎◌, inl, inr, refl, sym, ap, ◌∙◌, subst, true≢false, if◌then◌else◌, arith, rules}
 use Rattle.std.proofs.lemmas.Bool.{or_parts}
 use Rattle.sam_protocol.specs.Lens.{Unknown, Known, Open, Lens, lens, Action, Skip, Needs_known, Needs_open, Join, Bind, Close, Leave, Grow, Fill, Insert, Cut, Place, Change, Free_file, Free_command, Exit, move, run, and_then, is_crossing, is_freeing, frees, IsGuarded, is_close, closes}
 use Rattle.sam_protocol.proofs.Lenses.{IsFree, IsOpen, IsAlike, locked_more, exited_of, command_of, version_of, is_change, changes, frees_command, is_exit, exits}
 
 and_then-and_then : (m : Option Lens) (f g h : Lens → Option Lens) → ((w : Lens) → h w ≡ and_then (f w) g) → and_then m h ≡ and_then (and_then m f) g
-and_then-and_then None f g h e = refl
-and_then-and_then (Some w) f g h e = e w
+and_then-and_then m f g h e = grind arith
 
 pub run-append : (s u : List Action) (v : Lens) → run (s ++ u) v ≡ and_then (run s v) (run u)
 run-append [] u v = refl
@@ -25,8 +24,7 @@ pub stepped : (a : Action) (rest : List Action) (v w : Lens) → run (a ∷ rest
 stepped a rest v w r = grind arith
 
 pub if_some : (b : Bool) (x w : Lens) → (if b then Some x else None) ≡ Some w → (b ≡ true) × (x ≡ w)
-if_some true x w e = (refl, cc)
-if_some false x w e = cc
+if_some b x w e = grind arith
 
 -- what runs from a free lens frees nothing
 pub frees_nothing : (s : List Action) (v w : Lens) → IsFree v → run s v ≡ Some w → frees s ≡ false
@@ -35,29 +33,7 @@ frees_nothing (a ∷ s) v w f r = grind (arith, (frees_nothing s))
 
 -- an idle action from a free lens: it leaves that lens, and every lens that is alike
 pub idle : (a : Action) (v w x : Lens) → is_freeing a ≡ false → is_crossing a ≡ false → IsAlike v x → move a v ≡ Some w → (w ≡ v) × (move a x ≡ Some x)
-idle Skip v w x i j l m = (cc, refl)
-idle Needs_known (lens c e n Unknown) w (lens c2 e2 n2 Unknown) i j l m = cc
-idle Needs_known (lens c e n Unknown) w (lens c2 e2 n2 Known) i j l m = absurd l
-idle Needs_known (lens c e n Unknown) w (lens c2 e2 n2 (Open r2 k2)) i j l m = absurd l
-idle Needs_known (lens c e n Known) w (lens c2 e2 n2 Unknown) i j l m = absurd l
-idle Needs_known (lens c e n Known) w (lens c2 e2 n2 Known) i j l m = (cc, refl)
-idle Needs_known (lens c e n Known) w (lens c2 e2 n2 (Open r2 k2)) i j l m = absurd l
-idle Needs_known (lens c e n (Open r k)) w (lens c2 e2 n2 Unknown) i j l m = absurd l
-idle Needs_known (lens c e n (Open r k)) w (lens c2 e2 n2 Known) i j l m = absurd l
-idle Needs_known (lens c e n (Open r k)) w (lens c2 e2 n2 (Open r2 k2)) i j l m = (cc, refl)
-idle Needs_open (lens c e n Unknown) w (lens c2 e2 n2 Unknown) i j l m = cc
-idle Needs_open (lens c e n Unknown) w (lens c2 e2 n2 Known) i j l m = absurd l
-idle Needs_open (lens c e n Unknown) w (lens c2 e2 n2 (Open r2 k2)) i j l m = absurd l
-idle Needs_open (lens c e n Known) w (lens c2 e2 n2 Unknown) i j l m = absurd l
-idle Needs_open (lens c e n Known) w (lens c2 e2 n2 Known) i j l m = cc
-idle Needs_open (lens c e n Known) w (lens c2 e2 n2 (Open r2 k2)) i j l m = absurd l
-idle Needs_open (lens c e n (Open r k)) w (lens c2 e2 n2 Unknown) i j l m = absurd l
-idle Needs_open (lens c e n (Open r k)) w (lens c2 e2 n2 Known) i j l m = absurd l
-idle Needs_open (lens c e n (Open r k)) w (lens c2 e2 n2 (Open r2 k2)) i j l m = (cc, refl)
-idle Free_file v w x i j l m = absurd (true≢false i)
-idle Free_command v w x i j l m = absurd (true≢false i)
-idle Exit v w x i j l m = absurd (true≢false i)
-idle _ v w x i j l m = absurd (true≢false j)
+idle a v w x e u q y = grind arith
 
 -- what is under way moves no free lens, and would move none that is alike
 pub still : (s : List Action) (v w x : Lens) → IsFree v → IsGuarded s → IsAlike v x → run s v ≡ Some w → (w ≡ v) × (run s x ≡ Some x)
@@ -73,49 +49,22 @@ stays a v x m e o q i = inr (subst IsOpen q o, e ∙ ap (λ (y : Lens). Some (lo
 
 -- a test that holds
 pub if_true : (b : Bool) (x : Lens) → b ≡ true → (if b then Some x else None) ≡ Some x
-if_true true x e = refl
-if_true false x e = absurd (true≢false (sym e))
+if_true b x e = grind arith
 
 steps_more : (a : Action) (v m : Lens) → IsOpen v → move a v ≡ Some m → StepsMore a v m
-steps_more Skip (lens c e n (Open r k)) m o q = stays Skip (lens c e n (Open r k)) (lens c e n (Open r k)) m refl tt (cc) refl
-steps_more Needs_known (lens c e n (Open r k)) m o q = stays Needs_known (lens c e n (Open r k)) (lens c e n (Open r k)) m refl tt (cc) refl
-steps_more Needs_open (lens c e n (Open r k)) m o q = stays Needs_open (lens c e n (Open r k)) (lens c e n (Open r k)) m refl tt (cc) refl
-steps_more Close (lens c e n (Open r k)) m o q = inl (refl, q)
-steps_more (Grow p z) (lens c e n (Open r k)) m o q = let t = if_some _ _ _ q in stays (Grow p z) (lens c e n (Open r k)) _ m (if_true _ _ t.0) tt t.1 refl
-steps_more (Fill p z) (lens c e n (Open r k)) m o q = let t = if_some _ _ _ q in stays (Fill p z) (lens c e n (Open r k)) _ m (if_true _ _ t.0) tt t.1 refl
-steps_more (Insert p z) (lens c e n (Open r k)) m o q = let t = if_some _ _ _ q in stays (Insert p z) (lens c e n (Open r k)) _ m (if_true _ _ t.0) tt t.1 refl
-steps_more (Cut p z) (lens c e n (Open r k)) m o q = let t = if_some _ _ _ q in stays (Cut p z) (lens c e n (Open r k)) _ m (if_true _ _ t.0) tt t.1 refl
-steps_more (Place p z) (lens c e n (Open r k)) m o q = let t = if_some _ _ _ q in stays (Place p z) (lens c e n (Open r k)) _ m (if_true _ _ t.0) tt t.1 refl
-steps_more (Change z) (lens c e n (Open r k)) m o q = stays (Change z) (lens c e n (Open r k)) (lens c e z (Open r k)) m refl tt (cc) refl
-steps_more Free_file (lens c e n (Open r zero)) m o q = cc
-steps_more Free_file (lens c e n (Open r (suc k))) m o q = stays Free_file (lens c e n (Open r (suc k))) (lens c e n (Open r k)) m refl tt (cc) refl
-steps_more Free_command (lens false e n (Open r k)) m o q = cc
-steps_more Free_command (lens true e n (Open r k)) m o q = stays Free_command (lens true e n (Open r k)) (lens false e n (Open r k)) m refl tt (cc) refl
-steps_more Exit (lens false e n (Open r k)) m o q = cc
-steps_more Exit (lens true e n (Open r k)) m o q = inl (refl, q)
-steps_more _ (lens c e n Unknown) m o q = absurd o
-steps_more _ (lens c e n Known) m o q = absurd o
-steps_more _ (lens c e n (Open r k)) m o q = cc
+steps_more a v m e u = grind (arith, stays, if_some, if_true)
 
 abbrev pub RunsMore : List Action → Lens → Lens → Type 0
 RunsMore s v w = (((closes s || exits s) ≡ true) × (run s (locked_more v) ≡ Some w)) ⊎ (IsOpen w × (run s (locked_more v) ≡ Some (locked_more w)) × ((closes s || exits s) ≡ false))
 
 or_left : (a b c d : Bool) → (a || b) ≡ true → ((a || c) || (b || d)) ≡ true
-or_left true b c d e = refl
-or_left false true true d e = refl
-or_left false true false d e = refl
-or_left false false c d e = absurd (true≢false (sym e))
+or_left a b c d e = grind arith
 
 neither : (a b c d : Bool) → (a || b) ≡ false → (c || d) ≡ false → ((a || c) || (b || d)) ≡ false
-neither true b c d e f = e
-neither false true c d e f = absurd (true≢false e)
-neither false false c d e f = f
+neither a b c d e u = grind arith
 
 or_right : (a b c d : Bool) → (c || d) ≡ true → ((a || c) || (b || d)) ≡ true
-or_right true b c d e = refl
-or_right false true true d e = refl
-or_right false true false d e = refl
-or_right false false c d e = e
+or_right a b c d e = grind arith
 
 -- the same run with one lock more ends with one lock more, or the lock was ended on the way
 pub runs_more : (s : List Action) (v w : Lens) → IsOpen v → run s v ≡ Some w → RunsMore s v w
@@ -128,56 +77,20 @@ runs_more (a ∷ s) v w o r =
     goes x y z e q = ap (λ (m : Option Lens). and_then m (run s)) e ∙ q
 
     later : (m : Lens) → move a (locked_more v) ≡ Some (locked_more m) → (is_close a || is_exit a) ≡ false → RunsMore s m w → RunsMore (a ∷ s) v w
-    later m e i (inl h) = inl (or_right (is_close a) (is_exit a) (closes s) (exits s) h.0, goes _ _ _ e h.1)
-    later m e i (inr h) = inr (h.0, goes _ _ _ e h.1, neither (is_close a) (is_exit a) (closes s) (exits s) i h.2)
+    later m e u q = grind (arith, or_right, goes, neither)
 
     first_step : (m : Lens) → run s m ≡ Some w → (IsOpen m → RunsMore s m w) → StepsMore a v m → RunsMore (a ∷ s) v w
-    first_step m on more (inl h) = inl (or_left (is_close a) (is_exit a) (closes s) (exits s) h.0, goes _ _ _ h.1 on)
-    first_step m on more (inr h) = later m h.1 h.2 (more h.0)
+    first_step m e u q = grind (arith, or_left, goes, later)
 
 the : {x y : Lens} → Some x ≡ Some y → x ≡ y
 the e = cc
 
 -- the terminal has exited exactly where an Hexit came
 exits_exactly : (a : Action) (v m : Lens) → move a v ≡ Some m → exited_of m ≡ (is_exit a || exited_of v)
-exits_exactly Skip (lens c e n Unknown) m q = sym (ap exited_of (the q))
-exits_exactly Skip (lens c e n Known) m q = sym (ap exited_of (the q))
-exits_exactly Needs_known (lens c e n Known) m q = sym (ap exited_of (the q))
-exits_exactly Join (lens c e n Unknown) m q = sym (ap exited_of (the q))
-exits_exactly Join (lens c e n (Open r k)) m q = cc
-exits_exactly Bind (lens c e n Known) m q = sym (ap exited_of (the q))
-exits_exactly Bind (lens c e n (Open r k)) m q = cc
-exits_exactly Leave (lens c e n Known) m q = sym (ap exited_of (the q))
-exits_exactly Leave (lens c e n (Open r k)) m q = cc
-exits_exactly (Grow p z) (lens c e n (Open r k)) m q = sym (ap exited_of (if_some _ _ _ q).1)
-exits_exactly (Fill p z) (lens c e n (Open r k)) m q = sym (ap exited_of (if_some _ _ _ q).1)
-exits_exactly (Insert p z) (lens c e n (Open r k)) m q = sym (ap exited_of (if_some _ _ _ q).1)
-exits_exactly (Cut p z) (lens c e n (Open r k)) m q = sym (ap exited_of (if_some _ _ _ q).1)
-exits_exactly (Place p z) (lens c e n (Open r k)) m q = sym (ap exited_of (if_some _ _ _ q).1)
-exits_exactly (Change z) (lens c e n Unknown) m q = sym (ap exited_of (the q))
-exits_exactly (Change z) (lens c e n Known) m q = sym (ap exited_of (the q))
-exits_exactly Free_file (lens c e n (Open r zero)) m q = cc
-exits_exactly Free_file (lens c e n (Open r (suc k))) m q = sym (ap exited_of (the q))
-exits_exactly Free_command (lens false e n Unknown) m q = cc
-exits_exactly Free_command (lens true e n Unknown) m q = sym (ap exited_of (the q))
-exits_exactly Free_command (lens false e n Known) m q = cc
-exits_exactly Free_command (lens true e n Known) m q = sym (ap exited_of (the q))
-exits_exactly Free_command (lens false e n (Open r k)) m q = cc
-exits_exactly Free_command (lens true e n (Open r k)) m q = sym (ap exited_of (the q))
-exits_exactly Exit (lens false e n Unknown) m q = cc
-exits_exactly Exit (lens true e n Unknown) m q = sym (ap exited_of (the q))
-exits_exactly Exit (lens false e n Known) m q = cc
-exits_exactly Exit (lens true e n Known) m q = sym (ap exited_of (the q))
-exits_exactly Exit (lens false e n (Open r k)) m q = cc
-exits_exactly Exit (lens true e n (Open r k)) m q = sym (ap exited_of (the q))
-exits_exactly _ (lens c e n Unknown) m q = cc
-exits_exactly _ (lens c e n Known) m q = cc
-exits_exactly _ (lens c e n (Open r k)) m q = sym (ap exited_of (the q))
+exits_exactly a v m e = grind (arith, the, if_some)
 
 or_shift : (p q x : Bool) → (q || (p || x)) ≡ ((p || q) || x)
-or_shift true true x = refl
-or_shift true false x = refl
-or_shift false q x = refl
+or_shift p q x = grind arith
 
 pub exited_after : (s : List Action) (v w : Lens) → run s v ≡ Some w → exited_of w ≡ (exits s || exited_of v)
 exited_after [] v w r = sym (ap exited_of (the r))
@@ -195,37 +108,7 @@ no_unlock (a ∷ s) v w r x = grind (arith, (no_unlock s))
 
 -- where no Hversion comes the version stays
 same_version_step : (a : Action) (v m : Lens) → move a v ≡ Some m → is_change a ≡ false → version_of m ≡ version_of v
-same_version_step Skip (lens c e n Unknown) m q x = sym (ap version_of (the q))
-same_version_step Skip (lens c e n Known) m q x = sym (ap version_of (the q))
-same_version_step Skip (lens c e n (Open r k)) m q x = sym (ap version_of (the q))
-same_version_step Needs_known (lens c e n Known) m q x = sym (ap version_of (the q))
-same_version_step Needs_known (lens c e n (Open r k)) m q x = sym (ap version_of (the q))
-same_version_step Needs_open (lens c e n (Open r k)) m q x = sym (ap version_of (the q))
-same_version_step Join (lens c e n Unknown) m q x = sym (ap version_of (the q))
-same_version_step Join (lens c e n (Open r k)) m q x = cc
-same_version_step Bind (lens c e n Known) m q x = sym (ap version_of (the q))
-same_version_step Bind (lens c e n (Open r k)) m q x = cc
-same_version_step Close (lens c e n (Open r k)) m q x = sym (ap version_of (the q))
-same_version_step Leave (lens c e n Known) m q x = sym (ap version_of (the q))
-same_version_step Leave (lens c e n (Open r k)) m q x = cc
-same_version_step (Change z) v m q x = absurd (true≢false x)
-same_version_step Free_file (lens c e n (Open r zero)) m q x = cc
-same_version_step Free_file (lens c e n (Open r (suc k))) m q x = sym (ap version_of (the q))
-same_version_step Free_command (lens false e n Unknown) m q x = cc
-same_version_step Free_command (lens true e n Unknown) m q x = sym (ap version_of (the q))
-same_version_step Free_command (lens false e n Known) m q x = cc
-same_version_step Free_command (lens true e n Known) m q x = sym (ap version_of (the q))
-same_version_step Free_command (lens false e n (Open r k)) m q x = cc
-same_version_step Free_command (lens true e n (Open r k)) m q x = sym (ap version_of (the q))
-same_version_step Exit (lens false e n Unknown) m q x = cc
-same_version_step Exit (lens true e n Unknown) m q x = sym (ap version_of (the q))
-same_version_step Exit (lens false e n Known) m q x = cc
-same_version_step Exit (lens true e n Known) m q x = sym (ap version_of (the q))
-same_version_step Exit (lens false e n (Open r k)) m q x = cc
-same_version_step Exit (lens true e n (Open r k)) m q x = sym (ap version_of (the q))
-same_version_step _ (lens c e n Unknown) m q x = cc
-same_version_step _ (lens c e n Known) m q x = cc
-same_version_step _ (lens c e n (Open r k)) m q x = sym (ap version_of (if_some _ _ _ q).1)
+same_version_step a v m e u = grind (arith, the, if_some)
 
 pub same_version : (s : List Action) (v w : Lens) → run s v ≡ Some w → changes s ≡ false → version_of w ≡ version_of v
 same_version [] v w r x = sym (ap version_of (the r))

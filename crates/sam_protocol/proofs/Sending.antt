@@ -1,5 +1,5 @@
 -- Messages that the terminal composes keep both sides in order.
-use Rattle.std.proofs.Common.{◌≡◌, ℕ, zero, suc, Bool, true, false, ◌==◌, if◌then◌else◌, List, [], ◌∷◌, ◌++◌, Option, None, refl, sym, ap, ◌∙◌, subst, true≢false, append-nil, append_assoc, arith}
+use Rattle.std.proofs.Common.{◌≡◌, ℕ, zero, suc, Bool, true, false, ◌==◌, if◌then◌else◌, List, [], ◌∷◌, ◌++◌, Option, None, refl, sym, ap, ◌∙◌, subst, true≢false, append-nil, append_assoc, arith, rules}
 use mathlib.Core.Path.{fun_ext}
 use Rattle.sam_rasp.specs.Rasp.{del_cells, place_after_del}
 use Rattle.sam_mesg.specs.declared.tmesg.Tmesg.{Tmesg}
@@ -53,21 +53,16 @@ is_edit (Tcut f p q) = true
 is_edit _ = false
 
 same_change : (m : Tmesg) → is_edit m ≡ false → (g : ℕ) (v : Lens) → changed (change_of_lock (lock_of m)) g v ≡ changed (change_by m) g v
-same_change (Ttype f p s) e g v = absurd (true≢false e)
-same_change (Tcut f p q) e g v = absurd (true≢false e)
-same_change _ e g v = refl
+same_change m e g v = grind arith
 
 pub open_is : (P : List (Option ℕ) → Type 0) (v : Lens) → OpenAt P v → IsOpen v
-open_is P (lens c e n Unknown) o = o
-open_is P (lens c e n Known) o = o
-open_is P (lens c e n (Open r k)) o = tt
+open_is P v e = grind arith
 
 ruleset opening = (open_is)
 
 -- the file that a message locks is open, since it rests on that
 opens_for : (m : Tmesg) (v : ℕ → Lens) → CanCompose m v → LockOpens (lock_of m) v
-opens_for (Ttype f p s) v c = grind arith
-opens_for _ v c = search opening
+opens_for m v e = grind arith
 
 -- where nothing is unsent before and after it
 line_path : (up : List Tmesg) (m : Tmesg) (o o2 : Option Unsent) → o ≡ None → o2 ≡ None → (up ++ unsent_message o) ++ m ∷ [] ≡ (up ++ m ∷ []) ++ unsent_message o2
@@ -127,26 +122,13 @@ cut_one h t up down f p q o e may =
     del_one h (edited t f) up down f p q (edited_order h t up down f o i) e (subst (λ (v : ℕ → Lens). MaySend v (Tcut f p q)) (edited_views t f i) may)
 
 pub exited_cut : (b : Bool) (p q : ℕ) (v : Lens) → exited_of (if b then cut_out p q v else v) ≡ exited_of v
-exited_cut true p q (lens c e n Unknown) = refl
-exited_cut true p q (lens c e n Known) = refl
-exited_cut true p q (lens c e n (Open r k)) = refl
-exited_cut false p q v = refl
+exited_cut b p q v = grind arith
 
 pub command_cut : (b : Bool) (p q : ℕ) (v : Lens) → command_of (if b then cut_out p q v else v) ≡ command_of v
-command_cut true p q (lens c e n Unknown) = refl
-command_cut true p q (lens c e n Known) = refl
-command_cut true p q (lens c e n (Open r k)) = refl
-command_cut false p q v = refl
+command_cut b p q v = grind arith
 
 pub free_cut : (b : Bool) (p q : ℕ) (v : Lens) → IsFree v → IsFree (if b then cut_out p q v else v)
-free_cut true p q (lens c e n Unknown) f = f
-free_cut true p q (lens c e n Known) f = f
-free_cut true p q (lens true e n (Open r k)) f = f
-free_cut true p q (lens false e n (Open r zero)) f = f
-free_cut true p q (lens false e n (Open r (suc k))) f = f
-free_cut false p q v f = f
+free_cut b p q v e = grind arith
 
 pub open_cut : (P Q : List (Option ℕ) → Type 0) (p q : ℕ) (v : Lens) → OpenAt P v → ((r : List (Option ℕ)) → P r → Q (del_cells r p q)) → OpenAt Q (cut_out p q v)
-open_cut P Q p q (lens c e n Unknown) o h = o
-open_cut P Q p q (lens c e n Known) o h = o
-open_cut P Q p q (lens c e n (Open r k)) o h = (o.0, o.1, h r o.2)
+open_cut P Q p q v e u = grind arith

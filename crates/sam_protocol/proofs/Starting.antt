@@ -1,5 +1,5 @@
 -- The first host, a new terminal and nothing under way are in order.
-use Rattle.std.proofs.Common.{◌≡◌, ℕ, zero, suc, Bool, true, false, nat_lt, List, [], ◌∷◌, length, Option, Some, None, refl, sym, ◌∙◌, true≢false, arith}
+use Rattle.std.proofs.Common.{◌≡◌, ℕ, zero, suc, Bool, true, false, nat_lt, List, [], ◌∷◌, length, Option, Some, None, refl, sym, ◌∙◌, true≢false, arith, rules}
 use Rattle.std.specs.Prelude.{unwrap_or}
 use Rattle.sam_runes.specs.Slots.{Slots, slot}
 use Rattle.sam_text.specs.Files.{PlainFile, blank_file}
@@ -19,22 +19,17 @@ IsShut None = Unit
 IsShut (Some x) = (x.opened ≡ false) × (x.announced ≡ false)
 
 given_shut : (given : List (List ℕ × List ℕ)) (g : ℕ) → IsShut (slot (given_slots given) g)
-given_shut [] g = tt
-given_shut (x ∷ more) zero = (refl, refl)
 given_shut (x ∷ more) (suc g) = given_shut more g
+given_shut given g = grind arith
 
 all_shut : (given : List (List ℕ × List ℕ)) (g : ℕ) → IsShut (slot (new_host given).files.slots g)
-all_shut given zero = (refl, refl)
-all_shut given (suc g) = given_shut given g
+all_shut given g = grind (arith, given_shut)
 
 shut_fits : (b : Bool) (s : Option PlainFile) → IsShut s → Fits_slot Unknown (file_of_slot b s)
-shut_fits true None i = tt
-shut_fits false None i = tt
-shut_fits b (Some x) i = grind arith
+shut_fits b s e = grind arith
 
 shut_announced : (s : Option PlainFile) → IsShut s → (unwrap_or s blank_file).opened ≡ true → (unwrap_or s blank_file).announced ≡ true
-shut_announced None i e = absurd (true≢false (sym e))
-shut_announced (Some x) i e = absurd (true≢false (sym e ∙ i.0))
+shut_announced s e u = grind arith
 
 pub starts : (given : List (List ℕ × List ℕ)) → AreGiven given → InOrder (new_host given) new_terminal [] []
 starts given fit = record { kept = kept; tidy = λ f. (omega arith, omega arith, omega arith); unsent = tt }
@@ -51,11 +46,7 @@ starts given fit = record { kept = kept; tidy = λ f. (omega arith, omega arith,
     steady : IsSteady h
     steady =
         let sound = starts_sound given fit in
-        record {
-          sound = record { works = λ f e. absurd (none_works f e); commands = tt };
-          announced = λ f. shut_announced (slot ss (suc f)) (all_shut given (suc f));
-          fit = sound.files;
-        }
+        record { sound = grind (arith, none_works); announced = λ f. shut_announced (slot ss (suc f)) (all_shut given (suc f)); fit = sound.files }
 
     kept : AllSettle h (views new_terminal) [] []
     kept = record {

@@ -1,5 +1,5 @@
 -- What holds of every host lasts under each message that is not refused.
-use Rattle.std.proofs.Common.{◌≡◌, ℕ, zero, suc, [], ◌∷◌, false, ◌==◌, sym, ◌∙◌, true≢false, arith}
+use Rattle.std.proofs.Common.{◌≡◌, ℕ, zero, suc, [], ◌∷◌, false, ◌==◌, sym, ◌∙◌, true≢false, arith, rules}
 use Rattle.std.specs.Prelude.{unwrap_or}
 use Rattle.sam_runes.specs.Slots.{Slots, slot, free_slot}
 use Rattle.sam_runes.proofs.SlotLaws.{slot-map, slot-put_same, slot-put_other, slot-free_same, slot-free_other}
@@ -31,8 +31,7 @@ announced-free : (fs : PlainFiles) (g : ℕ) → AllOpenAnnounced fs → (f : �
 announced-free fs g all f = grind (arith, slot-free_same, slot-free_other)
 
 announced-all : (ss : Slots PlainFile) (f : ℕ) → OpenAnnounced (unwrap_or (slot (announce_all ss) (suc f)) blank_file)
-announced-all [] f = none_open
-announced-all (s ∷ ss) f = grind (arith, slot-map)
+announced-all ss f = grind (arith, none_open, slot-map)
 
 announced_kept : IsKept AllOpenAnnounced
 announced_kept = grind (arith, announced-all, announced-put, announced-same, announced-free)

@@ -1,5 +1,5 @@
 -- Both sides have one version wherever the command lock is free, and it is that of the place of the next message.
-use Rattle.std.proofs.Common.{◌≡◌, ℕ, Bool, true, false, List, [], ◌∷◌, ◌++◌, Option, Some, None, ◌⊎◌, inl, inr, refl, sym, ap, ◌∙◌, true≢false, arith}
+use Rattle.std.proofs.Common.{◌≡◌, ℕ, Bool, true, false, List, [], ◌∷◌, ◌++◌, Option, Some, None, ◌⊎◌, inl, inr, refl, sym, ap, ◌∙◌, true≢false, arith, rules}
 use Rattle.std.proofs.lemmas.Bool.{or_parts, false_from_ne_true}
 use Rattle.std.proofs.lemmas.Option.{same_Some}
 use Rattle.sam_term.specs.declared.records.Unsent.{Unsent}
@@ -28,8 +28,7 @@ use Rattle.sam_host.proofs.SoundLaws.{reply_stands}
 -- the version changes only with an answer that frees the command lock
 version_reply : (h : PlainHost) (m : Tmesg) → first_of_checks (host_checks h m) ≡ None → ((reply_to h m).0.version ≡ h.version) ⊎ (unlocks_command (reply_to h m).1 ≡ true)
 unfolding reply_version
-version_reply h (Tversion v) e = grind (arith, unlocks_behind)
-version_reply h m e = inl (reply_stands h m e).1
+version_reply h m e = grind (arith, unlocks_behind, reply_stands)
 
 version_of_reply : (h : PlainHost) (m : Tmesg) (r : Reply) → reply_of h m ≡ Some r → (r.0.version ≡ h.version) ⊎ (unlocks_command r.1 ≡ true)
 version_of_reply h m r e = grind (arith, version_reply)
@@ -50,13 +49,10 @@ answers_version [] h a e u = ap (λ (r : Reply). r.0.version) (sym (same_Some _ 
 answers_version (m ∷ ms) h a e u =
     let t = answered h m ms a e in
     let both : unlocks_command (t.first.1 ++ t.rest.1) ≡ false = sym (ap (λ (r : Reply). unlocks_command r.1) t.whole) ∙ u in
-    let later = answers_version ms t.first.0 t.rest t.later (behind_none t.first.1 t.rest.1 both) in
-    let first : t.first.0.version ≡ h.version = go t.first t.rest both (version_of_reply h m t.first t.now) in
-    ap (λ (r : Reply). r.0.version) t.whole ∙ later ∙ first
+    grind (arith, answered, behind_none, go, version_of_reply, (answers_version ms t.first.0 t.rest t.later (behind_none t.first.1 t.rest.1 both)))
   where
     go : (r s : Reply) → unlocks_command (r.1 ++ s.1) ≡ false → (r.0.version ≡ h.version) ⊎ (unlocks_command r.1 ≡ true) → r.0.version ≡ h.version
-    go r s b (inl x) = x
-    go r s b (inr x) = absurd (before_none r.1 s.1 b x)
+    go r s e u = grind (arith, before_none)
 
 -- where the command lock is free the terminal has the version of the host that will have handled all
 ahead_version : (h : PlainHost) (t : PlainTerminal) (up : List Tmesg) (down : List Hmesg) (o : InOrder h t up down) → t.command_lock ≡ false → t.version ≡ o.kept.ahead.version
@@ -99,9 +95,8 @@ folded_version [] h r e d = ap (λ (x : Reply). x.0.version) (sym (same_Some _ _
 folded_version (m ∷ ms) h r e d = grind (arith, one_past, running, (folded_version ms))
 
 unsent_past : (up : List Tmesg) (u : Option Unsent) (v : ℕ) → version_behind v (up ++ unsent_message u) ≡ version_behind v up
-unsent_past [] None v = refl
-unsent_past [] (Some u) v = refl
 unsent_past (m ∷ up) u v = unsent_past up u (after_t v m)
+unsent_past up u v = grind arith
 
 -- where the terminal may act, its version is that of the stream at the place of its next message
 pub version_at_place : (h : PlainHost) (t : PlainTerminal) (up : List Tmesg) (down : List Hmesg) → InOrder h t up down → t.command_lock ≡ false → t.has_exited ≡ false

@@ -36,11 +36,8 @@ rewrites_nothing t = record { runs = λ c e n r k a. record { rasp = r; is = ref
 
 pub rewrites-append : (u w : List Action) (t t2 t3 : List ℕ) → Rewrites u t t2 → Rewrites w t2 t3 → Rewrites (u ++ w) t t3
 rewrites-append u w t t2 t3 x y = record {
-  runs = λ c e n r k a.
-      let one = x.runs c e n r k a in
-      let two = y.runs c e n one.rasp k one.agrees in
-      record { rasp = two.rasp; is = run-append_some u w (lens c e n (Open r k)) (lens c e n (Open one.rasp k)) one.is ∙ two.is; agrees = two.agrees };
-  no_close = no_close_behind u w x.no_close y.no_close;
+    runs = λ c e n r k a. let one = x.runs c e n r k a in let two = y.runs c e n one.rasp k one.agrees in record { rasp = two.rasp; is = run-append_some u w (lens c e n (Open r k)) (lens c e n (Open one.rasp k)) one.is ∙ two.is; agrees = two.agrees };
+    no_close = grind (arith, no_close_behind);
 }
 
 -- one action, by its move
@@ -110,8 +107,7 @@ told_one f m a t t2 e r = record { acts = a ∷ []; tells = λ g. ap (λ (x : Ac
 
 pub told_when : (b : Bool) (f : ℕ) (frames : List Hmesg) (t t2 : List ℕ) → (b ≡ true → Told f frames t t2) → (b ≡ false → t ≡ t2) → Told f (when b frames) t t2
 unfolding when
-told_when true f frames t t2 x y = x refl
-told_when false f frames t t2 x y = subst (λ (u : List ℕ). Told f [] t u) (y refl) (told_nothing f t)
+told_when b f frames t t2 e u = grind (arith, told_nothing)
 
 -- frames that change no text
 pub told_if : (b : Bool) (f : ℕ) (frames : List Hmesg) (t : List ℕ) → Told f frames t t → Told f (when b frames) t t
@@ -119,8 +115,7 @@ told_if b f frames t x = told_when b f frames t t (λ e. x) (λ e. refl)
 
 pub told_given : {A : Type 0} (o : Option A) (f : ℕ) (frame : A → Hmesg) (t : List ℕ) → ((x : A) → o ≡ Some x → Told f (frame x ∷ []) t t) → Told f (when_given o frame) t t
 unfolding when_given
-told_given None f frame t h = told_nothing f t
-told_given (Some x) f frame t h = h x refl
+told_given o f frame t e = grind (arith, told_nothing)
 
 pub told_origin : (f p : ℕ) (t : List ℕ) → p ≤ length t → Told f (Horigin f p ∷ []) t t
 told_origin f p t l = told_one f (Horigin f p) (Place p p) t t (λ g. refl) (rewrites_place p p t (omega arith) l)

@@ -1,5 +1,5 @@
 -- Typing keeps both sides in order, whether its runes are held back, joined to those held back, or sent at once.
-use Rattle.std.proofs.Common.{◌≡◌, ℕ, ◌+◌, ◌≤◌, Bool, true, false, ◌&&◌, ◌==◌, if◌then◌else◌, nat_le, List, [], ◌∷◌, ◌++◌, length, map, Option, Some, None, refl, sym, ap, ◌∙◌, subst, true≢false, eqb-true, eq-eqb, append-nil, arith}
+use Rattle.std.proofs.Common.{◌≡◌, ℕ, ◌+◌, ◌≤◌, Bool, true, false, ◌&&◌, ◌==◌, if◌then◌else◌, nat_le, List, [], ◌∷◌, ◌++◌, length, map, Option, Some, None, refl, sym, ap, ◌∙◌, subst, true≢false, eqb-true, eq-eqb, append-nil, arith, rules}
 use Rattle.std.proofs.lemmas.List.{length-map}
 use Rattle.std.proofs.lemmas.Bool.{and_parts}
 use Rattle.sam_runes.specs.Texts.{ends_line, max_runes, most_in_message}
@@ -33,15 +33,10 @@ Room : ℕ → List ℕ → List (Option ℕ) → Type 0
 Room p s r = (p ≤ length r) × (length r + length s ≤ max_runes)
 
 typed_open : (p : ℕ) (s : List ℕ) (P : List (Option ℕ) → Type 0) (v : Lens) → OpenAt P v → OpenAt Anything (typed_in p s v)
-typed_open p s P (lens c e n Unknown) o = o
-typed_open p s P (lens c e n Known) o = o
-typed_open p s P (lens c e n (Open r k)) o = (o.0, o.1, tt)
+typed_open p s P v e = grind arith
 
 open_typed : (b : Bool) (p : ℕ) (s : List ℕ) (v : Lens) → IsOpen v → IsOpen (if b then typed_in p s v else v)
-open_typed true p s (lens c e n Unknown) o = o
-open_typed true p s (lens c e n Known) o = o
-open_typed true p s (lens c e n (Open r k)) o = tt
-open_typed false p s v o = o
+open_typed b p s v e = grind arith
 
 -- ## What typing shows
 
@@ -69,8 +64,7 @@ module _ (x : PlainTerminal) (f p : ℕ) (s : List ℕ) where
       (omega arith, omega (arith, long, same, l), start)
 
 pub typed_view : (x : PlainTerminal) (f p : ℕ) (s : List ℕ) → IsOpen (view f x) → (g : ℕ) → view g (typed_rasp x f p s) ≡ (if g == f then typed_in p s (view g x) else view g x)
-typed_view x f p s o g =
-    placed_view (edited x f) f p s (subst IsOpen (sym (view-edited x f o f)) o) g ∙ ap (λ (v : Lens). (if g == f then typed_in p s v else v)) (view-edited x f o g)
+typed_view x f p s o g = grind (arith, (placed_view (edited x f) f p s (subst IsOpen (sym (view-edited x f o f)) o) g), (view-edited x f o g))
 
 pub typed_tidy : (x : PlainTerminal) (f p : ℕ) (s : List ℕ) → AreTidy x → p ≤ length (window_at x f).rasp → AreTidy (typed_rasp x f p s)
 typed_tidy x f p s all l =
@@ -100,8 +94,7 @@ module _ (h : PlainHost) (down : List Hmesg) (u : PlainTerminal) (f p : ℕ) (s 
       still = record z { place = place_after_ins p (length (map (λ (c : ℕ). Some c) s)) z.place }
 
       go : (b : Bool) → (z.file == f) ≡ b → (if b then Some still else Some z) ≡ Some z
-      go true e = ap (λ (k : ℕ). Some (record z { place = k })) (unmoved p (length (map (λ (c : ℕ). Some c) s)) z.place a.place)
-      go false e = refl
+      go b e = grind (arith, unmoved)
 
   -- the command line is sent at once, other runes wait
   typed_goes : (x : PlainTerminal) (z : Unsent) (up : List Tmesg) → ((f == 0) && ends_line s) ≡ line → Waiting x z up → OpenAt (Room p s) (view f u)
@@ -131,36 +124,7 @@ module _ (h : PlainHost) (down : List Hmesg) (u : PlainTerminal) (f p : ℕ) (s 
       waits = unsent_typed x z up a
 
       go : (b : Bool) → line ≡ b → Goes h up down (if b then flushed t else (t, []))
-      go false e =
-          let k : AllSettle h (views t) (up ++ Ttype z.file z.place z.runes ∷ []) down =
-          kept_views h shown (views t) (up ++ Ttype z.file z.place z.runes ∷ []) down a.fold
-          (λ g. ap (λ (b : Bool). changed (type_change (if b then CommandLock else NoLock) f p s) g (view g u)) e ∙ sym (shows g)) in
-          let here : view z.file t ≡ typed_in p s (view f u) = ap (λ (y : ℕ). view y t) a.file ∙ shows f ∙ ap (λ (b : Bool). (if b then typed_in p s (view f u) else view f u)) (eq-eqb f f refl) in
-          record {
-            kept = subst (λ (l : List Tmesg). AllSettle h (views t) l down)
-                (ap (λ (l : List Tmesg). l ++ Ttype z.file z.place z.runes ∷ []) (sym (append-nil up)) ∙ ap (λ (y : Option Unsent). (up ++ []) ++ unsent_message y) (sym waits)) k;
-            tidy = tidy;
-            unsent = subst (IsHeldBack (views t)) (sym waits) (a.ends ∙ e, subst (OpenAt Anything) (sym here) (typed_open p s (Room p s) (view f u) o));
-          }
-      go true e =
-          let m : Tmesg = Ttype z.file z.place z.runes in
-          let base : PlainTerminal = record t { unsent = None } in
-          let zero : f ≡ 0 = eqb-true f 0 (and_parts (f == 0) (ends_line s) (is ∙ e)).0 in
-          let locked : (g : ℕ) → view g (composed base m) ≡ commanded (view g t) =
-          λ g. ap (λ (b : Bool). view g (lock_taken (if b then CommandLock else NoLock) (record base { sent = t.sent + 1 }))) (a.ends ∙ e) in
-          let same : (g : ℕ) → shown g ≡ view g (composed base m) = λ g.
-          ap (λ (b : Bool). changed (type_change (if b then CommandLock else NoLock) f p s) g (view g u)) e
-          ∙ ap (λ (y : ℕ). commanded (if g == y then typed_in p s (view g u) else view g u)) (sym zero)
-          ∙ ap commanded (sym (shows g)) ∙ sym (locked g) in
-          let none : (composed base m).unsent ≡ None = unsent-composed base m in
-          let sent : InOrder h (composed base m) (up ++ m ∷ []) down = record {
-            kept = subst (λ (l : List Tmesg). AllSettle h (views (composed base m)) l down)
-                (sym (append-nil (up ++ m ∷ [])) ∙ ap (λ (y : Option Unsent). (up ++ m ∷ []) ++ unsent_message y) (sym none))
-                (kept_views h shown (views (composed base m)) (up ++ m ∷ []) down a.fold same);
-            tidy = tidy-composed base m tidy;
-            unsent = subst (IsHeldBack (views (composed base m))) (sym none) tt;
-          } in
-          subst (λ (y : Option Unsent). InOrder h (all_composed base (unsent_message y)) (up ++ unsent_message y) down) (sym waits) sent
+      go b e = grind (arith, kept_views, shows, eq-eqb, append-nil, waits, tidy, typed_open, Room, eqb-true, and_parts, unsent-composed, tidy-composed)
 
 -- ## The whole
 

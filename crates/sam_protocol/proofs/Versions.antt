@@ -1,5 +1,5 @@
 -- The two sides have the same version wherever the command lock is free: behind each Hversion stands an Hunlock.
-use Rattle.std.proofs.Common.{◌≡◌, ℕ, Bool, true, false, ◌||◌, ◌==◌, List, [], ◌∷◌, ◌++◌, refl, sym, ◌∙◌, true≢false, arith}
+use Rattle.std.proofs.Common.{◌≡◌, ℕ, Bool, true, false, ◌||◌, ◌==◌, List, [], ◌∷◌, ◌++◌, refl, sym, ◌∙◌, true≢false, arith, rules}
 use Rattle.std.specs.Prelude.{drop}
 use Rattle.std.proofs.lemmas.Bool.{or_parts, or_right}
 use Rattle.sam_mesg.specs.declared.tmesg.Tmesg.{Tmesg}
@@ -59,29 +59,10 @@ guarded_reply h m = plain_guarded (reply_to h m).1 (reply_plain h m)
 
 -- the actions of frames, as far as versions go
 only_unlock_same : (b : Bool) (a : Action) → is_free_command a ≡ false → is_free_command (only b a) ≡ false
-only_unlock_same true a e = e
-only_unlock_same false a e = refl
+only_unlock_same b a e = grind arith
 
 is_unlock_same : (g : ℕ) (m : Hmesg) → is_free_command (action g m) ≡ is_unlock m
-is_unlock_same g (Hversion v) = grind arith
-is_unlock_same g (Hbindname f) = only_unlock_same (g == f) Bind refl
-is_unlock_same g (Hcurrent f) = only_unlock_same (g == f) Needs_known refl
-is_unlock_same g (Hnewname f) = only_unlock_same (g == f) Join refl
-is_unlock_same g (Hmovname f s) = only_unlock_same (g == f) Needs_known refl
-is_unlock_same g (Hgrow f p n) = only_unlock_same (g == f) (Grow p n) refl
-is_unlock_same g (Hcheck f) = only_unlock_same (g == f) Needs_open refl
-is_unlock_same g (Hdata f p u) = only_unlock_same (g == f) (Fill p u) refl
-is_unlock_same g (Horigin f p) = only_unlock_same (g == f) (Place p p) refl
-is_unlock_same g (Hunlockfile f) = only_unlock_same (g == f) Free_file refl
-is_unlock_same g (Hsetdot f p q) = only_unlock_same (g == f) (Place p q) refl
-is_unlock_same g (Hgrowdata f p u) = only_unlock_same (g == f) (Insert p u) refl
-is_unlock_same g (Hmoveto f p) = only_unlock_same (g == f) (Place p p) refl
-is_unlock_same g (Hclean f) = only_unlock_same (g == f) Needs_known refl
-is_unlock_same g (Hdirty f) = only_unlock_same (g == f) Needs_known refl
-is_unlock_same g (Hcut f p n) = only_unlock_same (g == f) (Cut p n) refl
-is_unlock_same g (Hdelname f) = only_unlock_same (g == f) Leave refl
-is_unlock_same g (Hclose f) = only_unlock_same (g == f) Close refl
-is_unlock_same g _ = refl
+is_unlock_same g m = grind (arith, only_unlock_same)
 
 pub unlock_frames : (g : ℕ) (fs : List Hmesg) → frees_command (at_file g fs) ≡ unlocks_command fs
 unlock_frames g [] = refl

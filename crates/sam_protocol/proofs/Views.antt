@@ -1,5 +1,5 @@
 -- What of the terminal concerns one file, after its steps of composing.
-use Rattle.std.proofs.Common.{◌≡◌, ℕ, suc, ◌+◌, Bool, true, false, ◌==◌, if◌then◌else◌, Option, Some, None, refl, sym, ap, subst, arith}
+use Rattle.std.proofs.Common.{◌≡◌, ℕ, suc, ◌+◌, Bool, true, false, ◌==◌, if◌then◌else◌, Option, Some, None, refl, sym, ap, subst, arith, rules}
 use Rattle.std.specs.Prelude.{unwrap_or}
 use Rattle.sam_runes.proofs.SlotLaws.{slot-put_same, slot-put_other}
 use Rattle.sam_mesg.specs.declared.tmesg.Tmesg.{Tmesg}
@@ -55,25 +55,20 @@ more : (k : ℕ) → k + 1 ≡ suc k
 more k = omega arith
 
 view-lock : (l : Lock) (t : PlainTerminal) → LockOpens l (views t) → (g : ℕ) → view g (lock_taken l t) ≡ changed (change_of_lock l) g (view g t)
-view-lock NoLock t o g = refl
-view-lock CommandLock t o g = refl
 view-lock (FileLock f) t o g =
     view-made t f (record (window_at t f) { locks = (window_at t f).locks + 1 }) locked_more o
     (ap (λ (k : ℕ). lens t.command_lock t.has_exited t.version (Open (window_at t f).rasp k)) (more (window_at t f).locks)) g
+view-lock l t e g = grind arith
 
 open_more : (v : Lens) → IsOpen v → IsOpen (locked_more v)
-open_more (lens c e n Unknown) o = o
-open_more (lens c e n Known) o = o
-open_more (lens c e n (Open r k)) o = o
+open_more v e = grind arith
 
 open_chosen : (b : Bool) (v : Lens) → IsOpen v → IsOpen (if b then locked_more v else v)
-open_chosen true v o = open_more v o
-open_chosen false v o = o
+open_chosen b v e = grind (arith, open_more)
 
 -- one message that is composed takes its lock, and changes nothing else that the views show
 pub view-composed : (t : PlainTerminal) (m : Tmesg) → LockOpens (lock_of m) (views t) → (g : ℕ) → view g (composed t m) ≡ changed (change_of_lock (lock_of m)) g (view g t)
-view-composed t (Trequest f p n) o g = search (arith, view-lock, open_chosen, view-kept)
-view-composed t m o g = view-lock (lock_of m) (record t { sent = t.sent + 1 }) o g
+view-composed t m e g = grind (arith, view-lock, open_chosen, view-kept)
 
 -- ## The unsent runes
 
@@ -95,8 +90,7 @@ pub tidy-put : (t : PlainTerminal) (f : ℕ) (x : KnownFile) → AreTidy t → I
 tidy-put t f x all here g = subst IsTidyWindow (sym (known-put (λ (k : KnownFile). unwrap_or k.window blank_window) t f x g)) (go (f == g))
   where
     go : (b : Bool) → IsTidyWindow (if b then unwrap_or x.window blank_window else window_at t g)
-    go true = here
-    go false = all g
+    go b = grind arith
 
 pub tidy-window : (t : PlainTerminal) (f : ℕ) (w : Window) → AreTidy t → IsTidyWindow w → AreTidy (put_window t f w)
 tidy-window t f w all here = tidy-put t f (record (known_at t f) { window = Some w }) all here

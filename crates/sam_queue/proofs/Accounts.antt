@@ -1,5 +1,5 @@
 -- What an audit says.
-use Rattle.std.proofs.Common.{◌≡◌, ℕ, zero, suc, ◌<◌, ◌≤◌, List, [], ◌∷◌, ◌++◌, length, map, Some, slice_get, All, Vec, sym, ap, ◌∙◌, subst, append-nil, arith}
+use Rattle.std.proofs.Common.{◌≡◌, ℕ, zero, suc, ◌<◌, ◌≤◌, List, [], ◌∷◌, ◌++◌, length, map, Some, slice_get, All, Vec, sym, ap, ◌∙◌, subst, append-nil, arith, rules}
 use mathlib.Core.Option.{some}
 use lib.ListN.{get_elem?}
 use Rattle.std.specs.Global.{Global}
@@ -18,9 +18,8 @@ use Rattle.sam_queue.proofs.Sorts.{items_of-append}
 
 module _ {T : Type 0} where
   at_sent : (posts : List (PostView T)) (k : ℕ) (p : PostView T) → slice_get posts k ≡ Some p → get_elem? (map sent_of posts) k ≡ some (sent_of p)
-  at_sent [] k p e = cc
-  at_sent (x ∷ xs) zero p e = let h : x ≡ p = cc in ap (λ (q : PostView T). some (sent_of q)) h
   at_sent (x ∷ xs) (suc k) p e = at_sent xs k p e
+  at_sent posts k p e = grind arith
 
   account : (k : ℕ) (taken entries : List (Entry T)) (p : PostView T) (left : List T)
       → p.number ≡ k → loads k (taken ++ entries) ≡ all_of p.put p.closed → left ≡ items_of k entries → Accounted taken p left

@@ -1,5 +1,5 @@
 -- Laws for callers.
-use Rattle.std.proofs.Common.{◌≡◌, ◌≢◌, ℕ, zero, suc, ◌+◌, ◌<◌, true, false, eqb, ◌||◌, Option, Some, None, sym, refl, ap, ◌∙◌, subst, ⊎_elim, arith}
+use Rattle.std.proofs.Common.{◌≡◌, ◌≢◌, ℕ, zero, suc, ◌+◌, ◌<◌, true, false, eqb, ◌||◌, Option, Some, None, sym, refl, ap, ◌∙◌, subst, ⊎_elim, arith, rules}
 use Rattle.std.proofs.Common.{List, [], ◌∷◌, ◌++◌, length, slice_get, All, append-nil, length-append}
 use Rattle.std.proofs.lemmas.Bool.Decides.{eqb_tells}
 use Rattle.std.proofs.lemmas.List.Elements.{All-head, All-tail}
@@ -20,17 +20,13 @@ module _ {T : Type 0} (line : LineView) where
   IsPost p k = (p.line ≡ line) × (p.number ≡ k)
 
   one_each : (a : PostView T) → IsPost a 0 → (k : ℕ) (p : PostView T) → slice_get (a ∷ []) k ≡ Some p → IsPost p k
-  one_each a is_a zero p e = let h : a ≡ p = cc in subst (λ (q : PostView T). IsPost q 0) h is_a
-  one_each a is_a (suc k) p e = cc
+  one_each a e k p u = grind arith
 
   pub one_of : (a : PostView T) → line.senders ≡ 1 → IsPost a 0 → ArePostsOf line (a ∷ [])
   one_of a many is_a = record { many = sym many; each = one_each a is_a }
 
   three_each : (a b c : PostView T) → IsPost a 0 → IsPost b 1 → IsPost c 2 → (k : ℕ) (p : PostView T) → slice_get (a ∷ b ∷ c ∷ []) k ≡ Some p → IsPost p k
-  three_each a b c is_a is_b is_c zero p e = let h : a ≡ p = cc in subst (λ (q : PostView T). IsPost q 0) h is_a
-  three_each a b c is_a is_b is_c (suc zero) p e = let h : b ≡ p = cc in subst (λ (q : PostView T). IsPost q 1) h is_b
-  three_each a b c is_a is_b is_c (suc (suc zero)) p e = let h : c ≡ p = cc in subst (λ (q : PostView T). IsPost q 2) h is_c
-  three_each a b c is_a is_b is_c (suc (suc (suc k))) p e = cc
+  three_each a b c e u w k p q = grind arith
 
   pub three_of : (a b c : PostView T) → line.senders ≡ 3 → IsPost a 0 → IsPost b 1 → IsPost c 2 → ArePostsOf line (a ∷ b ∷ c ∷ [])
   three_of a b c many is_a is_b is_c = record { many = sym many; each = three_each a b c is_a is_b is_c }

@@ -1,5 +1,5 @@
 -- Lists by place.
-use Rattle.std.proofs.Common.{◌≡◌, ◌≢◌, ℕ, zero, suc, ◌<◌, List, [], ◌∷◌, ◌++◌, length, set, Some, slice_get, All, ◌⊎◌, inl, inr, refl, arith}
+use Rattle.std.proofs.Common.{◌≡◌, ◌≢◌, ℕ, zero, suc, ◌<◌, List, [], ◌∷◌, ◌++◌, length, set, Some, slice_get, All, ◌⊎◌, inl, inr, refl, arith, rules}
 use mathlib.Core.Option.{some}
 use lib.ListN.{get_elem?}
 use Rattle.std.proofs.lemmas.List.Elements.{All-nil, All-cons, All-tail}
@@ -11,21 +11,16 @@ module _ {A : Type 0} where
   there (x ∷ xs) (suc i) less = there xs i (omega arith)
 
   pub get_snoc : (l : List A) (a b : A) (k : ℕ) → slice_get (l ++ a ∷ []) k ≡ Some b → (slice_get l k ≡ Some b) ⊎ (a ≡ b)
-  get_snoc [] a b zero e = inr (let h : a ≡ b = cc in h)
-  get_snoc [] a b (suc k) e = cc
-  get_snoc (x ∷ xs) a b zero e = inl e
   get_snoc (x ∷ xs) a b (suc k) e = get_snoc xs a b k e
+  get_snoc l a b k e = grind arith
 
   pub get_between : (xs : List A) (x : A) (ys : List A) → slice_get (xs ++ x ∷ ys) (length xs) ≡ Some x
   get_between [] x ys = refl
   get_between (z ∷ xs) x ys = get_between xs x ys
 
   pub get_set : (l : List A) (i : ℕ) (a b : A) (k : ℕ) → slice_get (set l i a) k ≡ Some b → ((k ≡ i) × (a ≡ b)) ⊎ ((k ≢ i) × (slice_get l k ≡ Some b))
-  get_set [] i a b k e = cc
-  get_set (x ∷ xs) zero a b zero e = inl (refl, let h : a ≡ b = cc in h)
-  get_set (x ∷ xs) zero a b (suc k) e = inr ((λ h. omega arith), e)
-  get_set (x ∷ xs) (suc i) a b zero e = inr ((λ h. omega arith), e)
   get_set (x ∷ xs) (suc i) a b (suc k) e = grind (arith, (get_set xs i a b k e))
+  get_set l i a b k e = grind arith
 
   pub found_at : (l : List A) (k : ℕ) → k < length l → (a : A) × (slice_get l k ≡ Some a)
   found_at [] k less = absurd (omega arith)

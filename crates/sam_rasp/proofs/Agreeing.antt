@@ -1,5 +1,5 @@
 -- Agreement, stretch by stretch.
-use Rattle.std.proofs.Common.{◌≡◌, true, ◌==◌, refl, ℕ, ◌+◌, ◌-◌, ◌≤◌, ◌<◌, List, [], ◌∷◌, ◌++◌, map, take, drop, length, Some, None, arith}
+use Rattle.std.proofs.Common.{◌≡◌, true, ◌==◌, refl, ℕ, ◌+◌, ◌-◌, ◌≤◌, ◌<◌, List, [], ◌∷◌, ◌++◌, map, take, drop, length, Some, None, arith, rules}
 use Rattle.std.specs.Prelude.{◌↔◌}
 use Rattle.std.proofs.lemmas.List.{drop-drop, length-append, length-drop}
 use Rattle.sam_rasp.specs.Rasp.{PartialText, Agrees}
@@ -7,24 +7,18 @@ use Rattle.sam_rasp.proofs.RaspLaws.{length_agrees}
 
 -- a front and the rest, against a text
 pub agrees_parted : (c r : PartialText) (t : List ℕ) → Agrees (c ++ r) t → Agrees c (take (length c) t) × Agrees r (drop (length c) t)
-agrees_parted [] r t a = (tt, a)
-agrees_parted (None ∷ c) r [] a = absurd a
-agrees_parted (Some d ∷ c) r [] a = absurd a
 agrees_parted (None ∷ c) r (x ∷ t) a = agrees_parted c r t a
 agrees_parted (Some d ∷ c) r (x ∷ t) a = grind (arith, (agrees_parted c r t a.1))
+agrees_parted c r t e = grind arith
 
 pub agrees_joined : (c r : PartialText) (t : List ℕ) → Agrees c (take (length c) t) → Agrees r (drop (length c) t) → Agrees (c ++ r) t
-agrees_joined [] r t a b = b
-agrees_joined (None ∷ c) r [] a b = absurd a
-agrees_joined (Some d ∷ c) r [] a b = absurd a
 agrees_joined (None ∷ c) r (x ∷ t) a b = agrees_joined c r t a b
 agrees_joined (Some d ∷ c) r (x ∷ t) a b = (a.0, agrees_joined c r t a.1 b)
+agrees_joined c r t e u = grind arith
 
 pub runes_same : (s t : List ℕ) → Agrees (map Some s) t → s ≡ t
-runes_same [] [] a = refl
-runes_same [] (x ∷ t) a = absurd a
-runes_same (c ∷ s) [] a = absurd a
 runes_same (c ∷ s) (x ∷ t) a = λ i. a.0 i ∷ runes_same s t a.1 i
+runes_same s t e = grind arith
 
 -- a stretch of the text from the place at on, and what is behind it
 pub stretch : (c r whole : PartialText) (t part : List ℕ) (at len : ℕ)

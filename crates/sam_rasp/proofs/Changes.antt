@@ -1,5 +1,5 @@
 -- Cutting and putting in, part by part.
-use Rattle.std.proofs.Common.{◌≡◌, refl, sym, ap, ◌∙◌, ℕ, zero, suc, ◌+◌, ◌-◌, ◌≤◌, List, [], ◌∷◌, ◌++◌, take, drop, length, arith, reverse, min, map, Some}
+use Rattle.std.proofs.Common.{◌≡◌, refl, sym, ap, ◌∙◌, ℕ, zero, suc, ◌+◌, ◌-◌, ◌≤◌, List, [], ◌∷◌, ◌++◌, take, drop, length, arith, reverse, min, map, Some, rules}
 use Rattle.std.proofs.lemmas.List.{append_assoc, reverse-reverse, take-append-le, drop-append-le, drop_min, take-append-drop, drop-take, take-take, map-append, drop-drop, length-append, length-take, length-drop}
 use Rattle.sam_rasp.specs.Rasp.{PartialText}
 use Rattle.sam_runes.specs.Texts.{del}
@@ -10,14 +10,12 @@ pub unreversed : (old new : List Section) → new ≡ reverse old → cells_back
 unreversed old new e = ap cells_back e ∙ ap cells_of (reverse-reverse old)
 
 pub take-past : {X : Type 0} (a y : List X) (k n : ℕ) → length a + k ≡ n → take n (a ++ y) ≡ a ++ take k y
-take-past [] y k n e = let same : n ≡ k = omega (arith, e) in ap (λ j. take j y) same
-take-past (x ∷ a) y k zero e = absurd (omega (arith, e))
 take-past (x ∷ a) y k (suc n) e = ap (λ z. x ∷ z) (take-past a y k n (omega (arith, e)))
+take-past a y k n e = grind arith
 
 pub drop-past : {X : Type 0} (a y : List X) (k n : ℕ) → length a + k ≡ n → drop n (a ++ y) ≡ drop k y
-drop-past [] y k n e = let same : n ≡ k = omega (arith, e) in ap (λ j. drop j y) same
-drop-past (x ∷ a) y k zero e = absurd (omega (arith, e))
 drop-past (x ∷ a) y k (suc n) e = drop-past a y k n (omega (arith, e))
+drop-past a y k n e = grind arith
 
 pub drop-joined : {X : Type 0} (s r : List X) (k n : ℕ) → n ≡ k - length s → drop k (s ++ r) ≡ drop k s ++ drop n r
 drop-joined [] r zero n e = let same : n ≡ 0 = omega (arith, e) in ap (λ j. drop j r) (sym same)

@@ -1,5 +1,5 @@
 -- Marks as a list of sections changes.
-use Rattle.std.proofs.Common.{◌≡◌, sym, ap, ◌∙◌, ℕ, ◌+◌, ◌-◌, ◌<◌, ◌≤◌, List, take, drop, length, set, arith}
+use Rattle.std.proofs.Common.{◌≡◌, sym, ap, ◌∙◌, ℕ, ◌+◌, ◌-◌, ◌<◌, ◌≤◌, List, take, drop, length, set, arith, rules}
 use Rattle.std.specs.List.{AllWithin}
 use Rattle.std.proofs.lemmas.List.Elements.{AllWithin-more_set}
 use Rattle.std.proofs.lemmas.List.{get_or-set_other, drop-drop, take-append-drop, length-append, length-drop}
@@ -22,13 +22,7 @@ moved_behind xs ys c m b change begin less ei ep =
     let k = c.last + 1 in
     let e = m.index - k in
     let j = k + length ys - length xs in
-    let lengths = ap length change.2 in
-    let sum : k + e ≡ m.index = omega (arith, less) in
-    let to : j + e ≡ b.index = omega (arith, less, ei, begin.0, change.3, change.4, lengths, length-drop j ys, length-drop k xs) in
-    let same : drop b.index ys ≡ drop m.index xs =
-    ap (λ i. drop i ys) (sym to) ∙ (sym (drop-drop e j ys) ∙ (ap (drop e) change.2 ∙ (drop-drop e k xs ∙ ap (λ i. drop i xs) sum))) in
-    let cells = ap (λ zs. length (cells_of zs)) same in
-    (omega (arith, ei, change.4), omega (arith, ep, cells, parts ys b.index, parts xs m.index, begin.1, change.5, change.6))
+    grind (arith, (length-drop j ys), (length-drop k xs), (drop-drop e j ys), (drop-drop e k xs), (parts ys b.index), (parts xs m.index))
 
 -- b is written at number i: P holds of one more from the front, and Q of one less to the end
 pub written : (P Q : Begin → Type 0) (ms : List Begin) (i n : ℕ) (b : Begin) → i < length ms → AllWithin P ms 0 i → AllWithin Q ms i n → P b

@@ -1,5 +1,5 @@
 -- Sections taken out of a list and put back.
-use Rattle.std.proofs.Common.{◌≡◌, refl, sym, ap, ◌∙◌, subst, ℕ, ◌+◌, ◌-◌, ◌≤◌, ◌<◌, List, [], ◌∷◌, ◌++◌, take, drop, length, min, reverse, arith, ◌⊎◌, inl, inr}
+use Rattle.std.proofs.Common.{◌≡◌, refl, sym, ap, ◌∙◌, subst, ℕ, ◌+◌, ◌-◌, ◌≤◌, ◌<◌, List, [], ◌∷◌, ◌++◌, take, drop, length, min, reverse, arith, ◌⊎◌, inl, inr, rules}
 use Rattle.std.proofs.lemmas.List.{append-nil, append_assoc, drop-take, nil_from_length, take_at, drop_at, drop_min, drop-drop, take-take, take-append-drop, drop-append-le, length-append, length-reverse, length-take, length-drop, take-append-le, drop-append-le}
 use Rattle.std.proofs.lemmas.List.Concat.{flat_map-append}
 use Rattle.sam_rasp.specs.Rasp.{PartialText}
@@ -96,54 +96,42 @@ opened xs o w z front number last begin first inner next le few ordered within b
     let m = last - front in
     let a = take front xs in
     let sum : front + m ≡ last = omega (arith, le, ordered) in
-    let behind : drop m (drop front xs) ≡ z ++ d = drop-drop m front xs ∙ (ap (λ j. drop j xs) sum ∙ sym next) in
-    let tail : drop front xs ≡ (o ++ reverse w) ++ (z ++ d) =
-    sym (take-append-drop m (drop front xs)) ∙ (ap (λ y. y ++ drop m (drop front xs)) (sym inner) ∙ ap (λ y. (o ++ reverse w) ++ y) behind) in
-    let list : xs ≡ a ++ ((o ++ reverse w) ++ (z ++ d)) = sym (take-append-drop front xs) ∙ ap (λ y. a ++ y) tail in
     let la : length a ≡ front = omega (arith, length-take front xs, le, ordered, within) in
     let lo : front + length o ≡ number = omega (arith, few, le) in
     let lw : length (o ++ reverse w) ≡ m = ap length inner ∙ omega (arith, length-take m (drop front xs), length-drop front xs, le, ordered, within) in
-    let to-number : take number xs ≡ a ++ o =
-    ap (take number) list ∙ (take-past a ((o ++ reverse w) ++ (z ++ d)) (length o) number (omega (arith, la, lo))
-    ∙ ap (λ y. a ++ y) (ap (take (length o)) (append_assoc o (reverse w) (z ++ d)) ∙ take_at o (reverse w ++ (z ++ d)) (length o) refl)) in
-    let to-last : take last xs ≡ a ++ (o ++ reverse w) =
-    ap (take last) list ∙ (take-past a ((o ++ reverse w) ++ (z ++ d)) m last (omega (arith, la, sum)) ∙ ap (λ y. a ++ y) (take_at (o ++ reverse w) (z ++ d) m lw)) in
-    let inside : cells_of (o ++ reverse w) ≡ cells_of o ++ cells_back w = cells-append o (reverse w) in
-    let whole : cells_of xs ≡ cells_of a ++ ((cells_of o ++ cells_back w) ++ (cells_of z ++ cells_of d)) =
-    ap cells_of list ∙ (cells-append a ((o ++ reverse w) ++ (z ++ d)) ∙ ap (λ y. cells_of a ++ y) (cells-append (o ++ reverse w) (z ++ d)
-    ∙ (ap (λ y. y ++ cells_of (z ++ d)) inside ∙ ap (λ y. (cells_of o ++ cells_back w) ++ y) (cells-append z d)))) in
-    record {
-      list = list;
-      whole = whole;
-      lengths = ap length whole ∙ omega (
-        arith,
-        b,
-        length-append (cells_of a) ((cells_of o ++ cells_back w) ++ (cells_of z ++ cells_of d)),
-        length-append
-            (cells_of o ++ cells_back w) (cells_of z ++ cells_of d),
-        length-append (cells_of o) (cells_back w),
-        length-append (cells_of z) (cells_of d),
-      );
-      before = omega (arith, b, f, ap (λ y. length (cells_of y)) to-number, ap length (cells-append a o), length-append (cells_of a) (cells_of o));
-      ends = omega (
-        arith,
-        b,
-        ap (λ y. length (cells_of y)) to-last,
-        ap length (cells-append a (o ++ reverse w)),
-        length-append (cells_of a) (cells_of (o ++ reverse w)),
-        ap length inside,
-        length-append (cells_of o) (cells_back w),
-      );
-      count = ap length list ∙ omega (
-        arith,
-        la,
-        length-append a ((o ++ reverse w) ++ (z ++ d)),
-        length-append (o ++ reverse w) (z ++ d),
-        length-append o (reverse w),
-        length-reverse w,
-        length-append z d,
-      );
-    }
+    grind (
+      arith,
+      la,
+      lw,
+      (drop-drop m front xs),
+      (take-append-drop m (drop front xs)),
+      (take-append-drop front xs),
+      (length-take front xs),
+      (length-take m (drop front xs)),
+      (length-drop front xs),
+      (take-past a ((o ++ reverse w) ++ (z ++ d)) (length o) number (omega (arith, la, lo))),
+      (append_assoc o (reverse w) (z ++ d)),
+      (take_at o (reverse w ++ (z ++ d)) (length o) refl),
+      (take-past a ((o ++ reverse w) ++ (z ++ d)) m last (omega (arith, la, sum))),
+      (take_at (o ++ reverse w) (z ++ d) m lw),
+      (cells-append o (reverse w)),
+      (cells-append a ((o ++ reverse w) ++ (z ++ d))),
+      (cells-append (o ++ reverse w) (z ++ d)),
+      (cells-append z d),
+      (length-append (cells_of a) ((cells_of o ++ cells_back w) ++ (cells_of z ++ cells_of d))),
+      (length-append (cells_of o ++ cells_back w) (cells_of z ++ cells_of d)),
+      (length-append (cells_of o) (cells_back w)),
+      (length-append (cells_of z) (cells_of d)),
+      (cells-append a o),
+      (length-append (cells_of a) (cells_of o)),
+      (cells-append a (o ++ reverse w)),
+      (length-append (cells_of a) (cells_of (o ++ reverse w))),
+      (length-append a ((o ++ reverse w) ++ (z ++ d))),
+      (length-append (o ++ reverse w) (z ++ d)),
+      (length-append o (reverse w)),
+      (length-reverse w),
+      (length-append z d),
+    )
 
 -- a change inside t, with a before it and b behind it
 pub change-inside : (a t b m : PartialText) (p at n : ℕ) → length a + at ≡ p → at + n ≤ length t
@@ -166,17 +154,14 @@ pub closed : {X : Type 0} (xs s new o : List X) (front last : ℕ) → take fron
 closed xs s new o front last before behind e = grind (arith, append_assoc)
 
 pub head-apart : (w : Section) (o r : List Section) → 0 < length o → StaysApart w (o ++ r) → IsApart w o
-head-apart w [] r l s = absurd (omega (arith, l))
-head-apart w (a ∷ o) r l s = s
+head-apart w o r e u = grind arith
 
 pub apart-head : (w : Section) (o r : List Section) → IsApart w o → StaysApart w (o ++ r)
-apart-head w [] r s = absurd s
-apart-head w (a ∷ o) r s = s
+apart-head w o r e = grind arith
 
 pub closed-normal : (xs o w z o' : List Section) (front last begin first : ℕ) → Opened xs o w z front last begin first → IsNormal xs → (front ≡ 0) ⊎ (0 < length o)
     → ((v : Section) → IsApart v o → IsApart v o') → IsNormal (o' ++ drop (last + 1) xs) → IsNormal (take front xs ++ (o' ++ drop (last + 1) xs))
-closed-normal xs o w z o' front last begin first p h (inl none) k g = subst (λ j. IsNormal (take j xs ++ (o' ++ drop (last + 1) xs))) (sym none) g
-closed-normal xs o w z o' front last begin first p h (inr some) k g = grind (arith, normal-between, apart-head, head-apart)
+closed-normal xs o w z o' front last begin first e u q y k = grind (arith, normal-between, apart-head, head-apart)
 
 -- where no section is behind the window the list ends
 pub nothing-behind : (xs z : List Section) (last : ℕ) → z ++ drop (last + 1) xs ≡ drop last xs → z ≡ [] → drop (last + 1) xs ≡ []
@@ -201,3 +186,15 @@ before-inserted new old first x at within is same = grind (arith, take_at, lengt
 pub behind-inserted : {X : Type 0} (new old first : List X) (x : X) (at n : ℕ) → at ≤ length old → new ≡ insert old at x → drop (at + n) old ≡ drop at first
     → drop (at + (n + 1)) new ≡ drop at first
 behind-inserted new old first x at n within is same = grind (arith, (length-take at old), (drop-past (take at old) (x ∷ drop at old) (n + 1) (at + (n + 1))), (drop-drop n at old))
+
+-- what `fit` rests on
+pub ruleset fit_facts = (take-below)
+
+-- what `lift` rests on
+pub ruleset lift_facts = (behind-part)
+
+-- what `turn_in` rests on
+pub ruleset turn_in_facts = (length-drop, behind-turned)
+
+-- what `widen` rests on
+pub ruleset widen_facts = (before-inserted, behind-inserted)

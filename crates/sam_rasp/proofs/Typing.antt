@@ -1,5 +1,5 @@
 -- Runes put into a loaded section that has room for them.
-use Rattle.std.proofs.Common.{◌≡◌, refl, sym, ap, ◌∙◌, ℕ, zero, suc, ◌+◌, ◌≤◌, ◌<◌, List, [], ◌∷◌, ◌++◌, take, drop, length, get_or, set, arith, true}
+use Rattle.std.proofs.Common.{◌≡◌, refl, sym, ap, ◌∙◌, ℕ, zero, suc, ◌+◌, ◌≤◌, ◌<◌, List, [], ◌∷◌, ◌++◌, take, drop, length, get_or, set, arith, true, rules}
 use Rattle.std.proofs.lemmas.List.{append_assoc, take-append-le, drop-append-le}
 use Rattle.sam_runes.specs.Texts.{ins, most_in_message}
 use Rattle.sam_rasp.specs.Rasp.{PartialText}
@@ -17,17 +17,12 @@ pub record Grows (a b : Section) : Type 0 where
   pub limit : size b ≤ most_in_message
 
 pub normal-set : (xs : List Section) (i : ℕ) (x x' : Section) → IsNormal xs → i < length xs → x ≡ get_or xs i x → Grows x x' → IsNormal (set xs i x')
-normal-set [] i x x' h l e g = absurd (omega (arith, l))
-normal-set (y ∷ []) zero x x' h l e g = grind arith
-normal-set (y ∷ z ∷ zs) zero x x' h l e g = grind arith
-normal-set (y ∷ []) (suc i) x x' h l e g = absurd (omega (arith, l))
-normal-set (y ∷ z ∷ zs) (suc zero) x x' h l e g = grind arith
 normal-set (y ∷ z ∷ zs) (suc (suc i)) x x' h l e g = (h.0, h.1, normal-set (z ∷ zs) (suc i) x x' h.2 (omega (arith, l)) e g)
+normal-set xs i x x' e u w q = grind arith
 
 pub cells-set : (xs : List Section) (i : ℕ) (x' : Section) → i < length xs → cells_of (set xs i x') ≡ cells_of (take i xs) ++ (cells x' ++ cells_of (drop (i + 1) xs))
-cells-set [] i x' l = absurd (omega (arith, l))
-cells-set (y ∷ xs) zero x' l = refl
 cells-set (y ∷ xs) (suc i) x' l = grind (arith, append_assoc, (cells-set xs i x'))
+cells-set xs i x' e = grind arith
 
 -- runes put in at the place at of section number i, which is the place p of the whole
 pub inserted-inside : (xs : List Section) (i at p : ℕ) (x x' : Section) (m : PartialText) → i < length xs
@@ -48,3 +43,6 @@ inserted-inside xs i at p x x' m l e place inside c =
     ∙ (sym (append_assoc a (take at s) (m ++ drop p (cells_of xs)))
     ∙ (ap (λ y. y ++ (m ++ drop p (cells_of xs))) (sym front)
     ∙ sym (append_assoc (take p (cells_of xs)) m (drop p (cells_of xs)))))))))
+
+-- what `insert_inside` rests on
+pub ruleset insert_inside_facts = (inserted-inside, normal-set)

@@ -1,5 +1,5 @@
 -- Places in lists of sections.
-use Rattle.std.proofs.Common.{◌≡◌, refl, sym, ap, ◌∙◌, subst, ℕ, zero, suc, ◌+◌, ◌-◌, ◌≤◌, ◌<◌, List, [], ◌∷◌, ◌++◌, map, replicate, take, drop, length, get_or, Some, None, arith, max, min, ◌⊎◌, inl, inr, true, false}
+use Rattle.std.proofs.Common.{◌≡◌, refl, sym, ap, ◌∙◌, subst, ℕ, zero, suc, ◌+◌, ◌-◌, ◌≤◌, ◌<◌, List, [], ◌∷◌, ◌++◌, map, replicate, take, drop, length, get_or, Some, None, arith, max, min, ◌⊎◌, inl, inr, true, false, rules}
 use Rattle.std.specs.Prelude.{Option, slice_get, option_map}
 use Rattle.std.proofs.lemmas.List.{drop_more}
 use Rattle.std.proofs.lemmas.Bool.{cases_lt}
@@ -10,14 +10,12 @@ use Rattle.sam_rasp.specs.declared.section.Section.{Section}
 use Rattle.sam_rasp.specs.declared.section.Section.TheVariants.{Loaded, Hole}
 
 pub get-left : {X : Type 0} (s r : List X) (k : ℕ) → k < length s → slice_get (s ++ r) k ≡ slice_get s k
-get-left [] r k l = absurd (omega (arith, l))
-get-left (x ∷ s) r zero l = refl
 get-left (x ∷ s) r (suc k) l = get-left s r k (omega (arith, l))
+get-left s r k e = grind arith
 
 pub get-past : {X : Type 0} (s r : List X) (k n : ℕ) → length s + n ≡ k → slice_get (s ++ r) k ≡ slice_get r n
-get-past [] r k n e = let same : k ≡ n = omega (arith, e) in ap (λ j. slice_get r j) same
-get-past (x ∷ s) r zero n e = absurd (omega (arith, e))
 get-past (x ∷ s) r (suc k) n e = get-past s r k n (omega (arith, e))
+get-past s r k n e = grind arith
 
 -- the cells from section number i on
 pub cells-next : (xs : List Section) (i : ℕ) (x : Section) → i < length xs → x ≡ get_or xs i x → cells_of (drop i xs) ≡ cells x ++ cells_of (drop (i + 1) xs)
@@ -43,8 +41,7 @@ pub from-start : (r : PartialText) (at p q : ℕ) → p ≤ at → hole_from r a
 from-start r at p q l = grind arith
 
 pub skip-member : (cell : Option ℕ) (r : PartialText) (at p q : ℕ) → p ≤ q → (at < p) ⊎ (q ≤ at) → hole_from (cell ∷ r) at p q ≡ hole_from r (at + 1) p q
-skip-member cell r at p q le (inl l) = step-before cell r at p q l
-skip-member cell r at p q le (inr l) = none-behind (cell ∷ r) at p q le l ∙ sym (none-behind r (at + 1) p q le (omega (arith, l)))
+skip-member cell r at p q e u = grind (arith, step-before, none-behind)
 
 pub skip-rune : (c : ℕ) (r : PartialText) (at p q : ℕ) → p ≤ q → hole_from (Some c ∷ r) at p q ≡ hole_from r (at + 1) p q
 skip-rune c r at p q le = grind arith
@@ -60,16 +57,11 @@ skip-hole zero r at p q end le e out = let same : at ≡ end = omega (arith, e) 
 skip-hole (suc n) r at p q end le e out = grind (arith, skip-member, (skip-hole n r (at + 1) p q end le))
 
 pub skip-section : (x : Section) (r : PartialText) (at p q end : ℕ) → p ≤ q → at + size x ≡ end → (is_loaded x ≡ true) ⊎ (min end q ≤ max at p) → hole_from (cells x ++ r) at p q ≡ hole_from r end p q
-skip-section (Loaded s) r at p q end le e out = skip-loaded s r at p q end le e
-skip-section (Hole n) r at p q end le e (inl never) = absurd (cc)
-skip-section (Hole n) r at p q end le e (inr out) = skip-hole n r at p q end le e out
+skip-section x r at p q end e u w = grind (arith, skip-loaded, skip-hole)
 
 in-front : (b n : ℕ) (r : PartialText) → gaps_in_front r ≡ 0 → gaps_in_front (take b (replicate n None ++ r)) ≡ min b n
-in-front zero n r e = omega arith
-in-front (suc b) zero [] e = omega arith
-in-front (suc b) zero (None ∷ r) e = absurd (omega (arith, e))
-in-front (suc b) zero (Some c ∷ r) e = omega arith
 in-front (suc b) (suc n) r e = omega (arith, in-front b n r e)
+in-front b n r e = grind arith
 
 -- a hole in the range, with no gap behind it
 pub hole-found : (n : ℕ) (r : PartialText) (at p q : ℕ) → gaps_in_front r ≡ 0 → max at p < min (at + n) q → hole_from (replicate n None ++ r) at p q ≡ Some (max at p, min (at + n) q)
@@ -93,12 +85,9 @@ hole-found (suc n) r at p q e l = go (hole-found n r (at + 1) p q e) (cases_lt a
         ∙ (ap (λ k. Some (k, at + 0 + (1 + gaps_in_front (take b (replicate n None ++ r))))) es ∙ ap (λ k. Some (max at p, k)) ee))
 
 front-loaded : (n : ℕ) (xs : List Section) → StaysApart (Hole n) xs → IsNormal xs → gaps_in_front (cells_of xs) ≡ 0
-front-loaded n [] a h = refl
 front-loaded n (Loaded [] ∷ xs) a h = absurd (omega (arith, h.0.0))
-front-loaded n (Loaded (c ∷ s) ∷ xs) a h = refl
-front-loaded n (Hole m ∷ xs) a h = absurd (cc)
+front-loaded n xs e u = grind arith
 
 pub section-found : (x : Section) (xs : List Section) (at p q end : ℕ) → IsNormal (x ∷ xs)
     → at + size x ≡ end → is_loaded x ≡ false → max at p < min end q → hole_from (cells x ++ cells_of xs) at p q ≡ Some (max at p, min end q)
-section-found (Loaded s) xs at p q end h e never l = absurd (cc)
-section-found (Hole n) xs at p q end h e never l = grind (arith, hole-found, front-loaded)
+section-found x xs at p q end e u w y = grind (arith, hole-found, front-loaded)

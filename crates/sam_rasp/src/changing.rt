@@ -114,6 +114,7 @@ fn replace_members(
 
 /// Puts `runes` in at place `p` if `room_at` finds a loaded section there with room for them, and returns that section; otherwise
 /// returns `None` and changes nothing. No other section moves. The walk begins at `near`.
+#[tactic(auto, using(std::proofs::lemmas::List::get_or_default, crate::proofs::Typing::insert_inside_facts))]
 pub fn insert_inside(
     sections: &mut Vec<Section>,
     near: Begin,

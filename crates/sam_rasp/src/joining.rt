@@ -107,6 +107,7 @@ pub fn move_before(out: &mut Vec<Section>, rest: &mut Vec<Section>, p: u32) -> (
 
 /// Takes the first `n` runes and gaps off `rest`, and also the section in which place `n` stands. Returns what that section has from
 /// place `n` on, or an empty hole if `n` is the end of `rest`.
+#[tactic(auto, using(crate::proofs::SectionLaws::drop_front_facts))]
 pub fn drop_front(rest: &mut Vec<Section>, n: u32) -> Section
     requires { n ≤ length (cells_back rest.old.items) }
     ensures cells { cells result ++ cells_back rest.new.items ≡ drop n (cells_back rest.old.items) }

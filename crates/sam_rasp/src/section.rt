@@ -55,6 +55,7 @@ impl Section {
 
     /// Returns whether each of its runes is the rune of `text` at the same place. The text has the length of the section; a hole
     /// agrees with every text of its length.
+    #[tactic(auto, using(crate::proofs::Agreeing::runes_same, crate::proofs::RaspLaws::agrees_facts))]
     pub fn agrees(&self, text: &[char]) -> bool
         requires { length text.now ≡ size self.now }
         ensures { IsTrue result ↔ Agrees (cells self.now) text.now }

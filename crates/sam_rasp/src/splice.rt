@@ -82,6 +82,7 @@ fn push_holes(sections: &mut Vec<Section>, count: usize)
 
 /// Moves the sections from number `front` up to, but not including, number `end` into `window`, in order. Empty holes keep their places.
 /// The caller makes sure that `window` is empty and has room for them.
+#[tactic(auto, using(crate::proofs::Splices::lift_facts))]
 fn lift(sections: &mut Vec<Section>, window: &mut Vec<Section>, front: usize, end: usize)
     requires ordered { (front ≤ end) × (end ≤ vec_len sections.old) }
     requires empty { window.old.items ≡ [] }
@@ -149,6 +150,7 @@ fn take_out(
 
 /// Makes the places from number `front` up to, but not including, number `end` so many as `count`. What stands in them is of no
 /// account afterwards. The sections behind move once, and only if the number changes.
+#[tactic(auto, using(crate::proofs::Splices::fit_facts))]
 fn fit(sections: &mut Vec<Section>, front: usize, end: usize, count: usize)
     requires ordered { (front ≤ end) × (end ≤ vec_len sections.old) }
     requires room { vec_len sections.old + count ≤ vec_capacity sections.old + (end - front) }
@@ -195,6 +197,7 @@ fn insert_hole(sections: &mut Vec<Section>, at: usize)
 }
 
 /// Puts `more` empty holes in before section number `at`. The caller makes sure that there is room for them.
+#[tactic(auto, using(crate::proofs::Splices::widen_facts))]
 fn widen(sections: &mut Vec<Section>, at: usize, more: usize)
     requires within { at ≤ vec_len sections.old }
     requires room { vec_len sections.old + more ≤ vec_capacity sections.old }
@@ -213,6 +216,7 @@ fn widen(sections: &mut Vec<Section>, at: usize, more: usize)
 }
 
 /// Does the work of [`widen`] by holes that are put at the end, and then turned into their place.
+#[tactic(auto, using(std::proofs::lemmas::List::take_all, crate::proofs::Splices::turn_in_facts))]
 fn turn_in(sections: &mut Vec<Section>, at: usize, more: usize)
     requires within { at ≤ vec_len sections.old }
     requires room { vec_len sections.old + more ≤ vec_capacity sections.old }

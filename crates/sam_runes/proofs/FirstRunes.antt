@@ -1,5 +1,5 @@
 -- Which bytes begin with a rune.
-use Rattle.std.proofs.Common.{◌≡◌, ℕ, ◌+◌, ◌-◌, ◌*◌, ◌/◌, ◌%◌, ◌<◌, ◌≤◌, List, [], ◌∷◌, ◌++◌, length, take, get_or, Option, Some, None, refl, sym, ap, subst, ◌∙◌, arith, le-ltb, lt-ltb, ⊎_elim}
+use Rattle.std.proofs.Common.{◌≡◌, ℕ, ◌+◌, ◌-◌, ◌*◌, ◌/◌, ◌%◌, ◌<◌, ◌≤◌, List, [], ◌∷◌, ◌++◌, length, take, get_or, Option, Some, None, refl, sym, ap, subst, ◌∙◌, arith, le-ltb, lt-ltb, ⊎_elim, rules}
 use Rattle.std.proofs.lemmas.Bool.{cases_lt}
 use Rattle.std.proofs.lemmas.Str.{encode_ascii}
 use Rattle.std.specs.Option.{MatchOption, SomeIff}
@@ -50,19 +50,7 @@ begun_4 : (c : ℕ) (rest : List ℕ) → 65536 ≤ c → c < 1114112 → BegunA
 begun_4 c rest low high = grind arith
 
 begun : (c : ℕ) (rest : List ℕ) → IsScalar c → BegunAt c (encode_utf8 c ++ rest)
-begun c rest is =
-    ⊎_elim
-    (λ one. subst (λ p. BegunAt c (p ++ rest)) (sym (encode_ascii c one)) (begun_1 c rest one))
-    (λ past_one. ⊎_elim
-    (λ under. subst (λ p. BegunAt c (p ++ rest)) (sym (two c past_one under)) (begun_2 c rest past_one under))
-    (λ past_two. ⊎_elim
-    (λ under. subst (λ p. BegunAt c (p ++ rest)) (sym (three c past_two under)) (begun_3 c rest past_two under))
-    (λ past_three.
-    let top : c < 1114112 = ⊎_elim (λ low. omega arith) (λ high. high.1) (scalar_cases c is) in
-    subst (λ p. BegunAt c (p ++ rest)) (sym (four c past_three)) (begun_4 c rest past_three top))
-    (cases_lt c 65536))
-    (cases_lt c 2048))
-    (cases_lt c 128)
+begun c rest is = grind (arith, encode_ascii, begun_1, two, begun_2, three, begun_3, four, begun_4, cases_lt)
 
 -- no rune begins bytes that are not so
 pub none_begins : (bs : List ℕ) → ((c : ℕ) → IsScalar c → BegunAt c bs → ⊥) → StartsWithNoChar bs
@@ -78,41 +66,25 @@ decoded bs n code None out within front only = none_begins bs (λ c is b. out (s
 decoded bs n code (Some x) out within front only = (within, front ∙ ap encode_utf8 (sym out.1))
 
 front_2 : (bs : List ℕ) → 2 ≤ length bs → take 2 bs ≡ get_or bs 0 0 ∷ get_or bs 1 0 ∷ []
-front_2 [] h = absurd (omega arith)
-front_2 (x ∷ []) h = absurd (omega arith)
-front_2 (x ∷ y ∷ bs) h = refl
+front_2 bs e = grind arith
 
 front_3 : (bs : List ℕ) → 3 ≤ length bs → take 3 bs ≡ get_or bs 0 0 ∷ get_or bs 1 0 ∷ get_or bs 2 0 ∷ []
-front_3 [] h = absurd (omega arith)
-front_3 (x ∷ bs) h = ap (λ l. x ∷ l) (front_2 bs (omega arith))
+front_3 bs e = grind (arith, front_2)
 
 front_4 : (bs : List ℕ) → 4 ≤ length bs → take 4 bs ≡ get_or bs 0 0 ∷ get_or bs 1 0 ∷ get_or bs 2 0 ∷ get_or bs 3 0 ∷ []
-front_4 [] h = absurd (omega arith)
-front_4 (x ∷ bs) h = ap (λ l. x ∷ l) (front_3 bs (omega arith))
+front_4 bs e = grind (arith, front_3)
 
 abbrev IsTail : ℕ → ℕ → Type 0
 IsTail bits byte = (bits < 64) × (128 + bits ≡ byte)
 
 pub spelled_2 : (bs : List ℕ) (s code : ℕ) → 2 ≤ length bs
     → 192 ≤ get_or bs 0 0 → get_or bs 0 0 < 224 → IsTail s (get_or bs 1 0) → code ≡ (get_or bs 0 0 - 192) * 64 + s → 128 ≤ code → take 2 bs ≡ encode_utf8 code
-spelled_2 bs s code within least most second is low =
-    let a : 192 + code / 64 ≡ get_or bs 0 0 = omega arith in
-    let b : 128 + code % 64 ≡ get_or bs 1 0 = omega arith in
-    front_2 bs within ∙ sym (two code low (omega arith) ∙ rw (a, b) refl)
+spelled_2 bs s code within least most second is low = grind (arith, get_or, front_2, two)
 
 pub spelled_3 : (bs : List ℕ) (s t code : ℕ) → 3 ≤ length bs → 224 ≤ get_or bs 0 0 → get_or bs 0 0 < 240 → IsTail s (get_or bs 1 0) → IsTail t (get_or bs 2 0)
     → code ≡ ((get_or bs 0 0 - 224) * 64 + s) * 64 + t → 2048 ≤ code → take 3 bs ≡ encode_utf8 code
-spelled_3 bs s t code within least most second third is low =
-    let a : 224 + code / 4096 ≡ get_or bs 0 0 = omega arith in
-    let b : 128 + (code / 64) % 64 ≡ get_or bs 1 0 = omega arith in
-    let d : 128 + code % 64 ≡ get_or bs 2 0 = omega arith in
-    front_3 bs within ∙ sym (three code low (omega arith) ∙ rw (a, b, d) refl)
+spelled_3 bs s t code within least most second third is low = grind (arith, get_or, front_3, three)
 
 pub spelled_4 : (bs : List ℕ) (s t u code : ℕ) → 4 ≤ length bs → 240 ≤ get_or bs 0 0 → IsTail s (get_or bs 1 0) → IsTail t (get_or bs 2 0) → IsTail u (get_or bs 3 0)
     → code ≡ (((get_or bs 0 0 - 240) * 64 + s) * 64 + t) * 64 + u → 65536 ≤ code → take 4 bs ≡ encode_utf8 code
-spelled_4 bs s t u code within least second third fourth is low =
-    let a : 240 + code / 262144 ≡ get_or bs 0 0 = omega arith in
-    let b : 128 + (code / 4096) % 64 ≡ get_or bs 1 0 = omega arith in
-    let d : 128 + (code / 64) % 64 ≡ get_or bs 2 0 = omega arith in
-    let e : 128 + code % 64 ≡ get_or bs 3 0 = omega arith in
-    front_4 bs within ∙ sym (four code low ∙ rw (a, b, d, e) refl)
+spelled_4 bs s t u code within least second third fourth is low = grind (arith, get_or, front_4, four)

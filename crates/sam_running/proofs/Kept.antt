@@ -1,5 +1,5 @@
 -- What the five joins hand on, of one gate, one script and one set of lines.
-use Rattle.std.proofs.Common.{◌≡◌, refl, subst, ℕ, List, Option, Some, None, Result, Ok, Err, inl, inr, arith}
+use Rattle.std.proofs.Common.{◌≡◌, refl, subst, ℕ, List, Option, Some, None, Result, Ok, Err, inl, inr, arith, rules}
 use Rattle.std.specs.Prelude.{IfSome, IsSomeAnd, IfOk}
 use Rattle.sam_term.specs.declared.event.UserEvent.{UserEvent}
 use Rattle.sam_queue.specs.Views.{LineView}
@@ -17,42 +17,26 @@ use Rattle.sam_running.specs.declared.spawning.Handles.{Handles}
 module _ {G : Type 0} (may : G → ℕ → Type 0) where
   user_kept : {g h : G} {v w : ℕ} {xs ys : List UserEvent} {k l : LineView} (e : UserEnd) → (g ≡ h) × (v ≡ w) × (xs ≡ ys) × (k ≡ l)
       → UserKept (may g) v xs k e → UserKept (may h) w ys l e
-  user_kept {g} {h} {v} {w} {xs} {ys} {k} {l} e (a, b, c, d) kept =
-      subst (λ x. UserKept (may x) w ys l e) a
-      (subst (λ x. UserKept (may g) x ys l e) b (subst (λ x. UserKept (may g) v x l e) c (subst (λ x. UserKept (may g) v xs x e) d kept)))
+  user_kept {g} {h} {v} {w} {xs} {ys} {k} {l} e (a, b, c, d) kept = grind arith
 
   host_kept : {g h : G} {xs ys : List (List ℕ × List ℕ)} {i j k l : LineView} (e : HostEnd) → (g ≡ h) × (xs ≡ ys) × (i ≡ j) × (k ≡ l)
       → HostKept (may g) xs i k e → HostKept (may h) ys j l e
-  host_kept {g} {h} {xs} {ys} {i} {j} {k} {l} e (a, b, c, d) kept =
-      subst (λ x. HostKept (may x) ys j l e) a
-      (subst (λ x. HostKept (may g) x j l e) b (subst (λ x. HostKept (may g) xs x l e) c (subst (λ x. HostKept (may g) xs i x e) d kept)))
+  host_kept {g} {h} {xs} {ys} {i} {j} {k} {l} e (a, b, c, d) kept = grind arith
 
   reader_kept : {g h : G} {i j k l : LineView} (e : ReaderEnd) → (g ≡ h) × (i ≡ j) × (k ≡ l) → ReaderKept (may g) i k e → ReaderKept (may h) j l e
-  reader_kept {g} {h} {i} {j} {k} {l} e (a, c, d) kept =
-      subst (λ x. ReaderKept (may x) j l e) a (subst (λ x. ReaderKept (may g) x l e) c (subst (λ x. ReaderKept (may g) i x e) d kept))
+  reader_kept {g} {h} {i} {j} {k} {l} e (a, c, d) kept = grind arith
 
   term_kept : {g h : G} {i j k l : LineView} (e : TermEnd) → (g ≡ h) × (i ≡ j) × (k ≡ l) → TermKept (may g) i k e → TermKept (may h) j l e
-  term_kept {g} {h} {i} {j} {k} {l} e (a, c, d) kept =
-      subst (λ x. TermKept (may x) j l e) a (subst (λ x. TermKept (may g) x l e) c (subst (λ x. TermKept (may g) i x e) d kept))
+  term_kept {g} {h} {i} {j} {k} {l} e (a, c, d) kept = grind arith
 
   pub all_kept : (gate : G) (keys clicks : List UserEvent) (given : List (List ℕ × List ℕ)) (lines : LinesView) (h : Handles G) (e : Ends)
       → PromisesOf gate keys clicks given lines h → KeepPromises may h e → AllKept (may gate) keys clicks given lines e
-  all_kept gate keys clicks given lines h e promised kept = record {
-    keyboard = user_kept e.keyboard promised.keyboard kept.keyboard;
-    mouse = user_kept e.mouse promised.mouse kept.mouse;
-    host = host_kept e.host promised.host kept.host;
-    reader = reader_kept e.reader promised.reader kept.reader;
-    term = term_kept e.term promised.term kept.term;
-  }
+  all_kept gate keys clicks given lines h e promised kept = grind (arith, user_kept, host_kept, reader_kept, term_kept)
 
 module _ (refuses : ℕ → Type 0) (keys clicks : List UserEvent) (given : List (List ℕ × List ℕ)) (lines : LinesView) (e : Ends) (kept : AllKept refuses keys clicks given lines e) where
   -- where some worker was not let begin, the gate may refuse some worker
   pub refuses_some : SomeRefused e → RefusesSome refuses
-  refuses_some (inl h) = (0, omega arith, kept.keyboard.gate.begins h)
-  refuses_some (inr (inl h)) = (1, omega arith, kept.mouse.gate.begins h)
-  refuses_some (inr (inr (inl h))) = (2, omega arith, kept.host.gate.begins h)
-  refuses_some (inr (inr (inr (inl h)))) = (3, omega arith, kept.reader.gate.begins h)
-  refuses_some (inr (inr (inr (inr h)))) = (4, omega arith, kept.term.gate.begins h)
+  refuses_some u = grind arith
 
 -- what the joins hand on, where all five were started
 module _ {G : Type 0} (may : G → ℕ → Type 0) (gate : G) (keys clicks : List UserEvent) (given : List (List ℕ × List ℕ)) (lines : LinesView) (handles : Option (Handles G)) (ends : Option Ends)
@@ -61,16 +45,13 @@ module _ {G : Type 0} (may : G → ℕ → Type 0) (gate : G) (keys clicks : Lis
   joined_kept e is = go handles promised (subst (λ o. IfSome o (λ x. IsSomeAnd handles (λ h. KeepPromises may h x))) is joined)
     where
       go : (o : Option (Handles G)) → IfSome o (PromisesOf gate keys clicks given lines) → IsSomeAnd o (λ h. KeepPromises may h e) → AllKept (may gate) keys clicks given lines e
-      go None p k = absurd k
-      go (Some h) p k = all_kept may gate keys clicks given lines h e p k
+      go o u w = grind (arith, all_kept)
 
   pub kept_ends : (r : Result Ends RunFault) → IfOk r (λ e. ends ≡ Some e) → IfOk r (AllKept (may gate) keys clicks given lines)
-  kept_ends (Ok e) is = joined_kept e is
-  kept_ends (Err why) is = tt
+  kept_ends r u = grind (arith, joined_kept)
 
   pub refused_some : IsSomeAnd ends SomeRefused → RefusesSome (may gate)
   refused_some refused = go ends refl refused
     where
       go : (o : Option Ends) → ends ≡ o → IsSomeAnd o SomeRefused → RefusesSome (may gate)
-      go None is r = absurd r
-      go (Some e) is r = refuses_some (may gate) keys clicks given lines e (joined_kept e is) r
+      go o e u = grind (arith, refuses_some, joined_kept)

@@ -1,5 +1,5 @@
 -- What a settled session of a script is.
-use Rattle.std.proofs.Common.{◌≡◌, ℕ, List, [], ◌∷◌, ◌++◌, length, map, take, drop, Some, None, refl, sym, ap, ◌∙◌, subst}
+use Rattle.std.proofs.Common.{◌≡◌, ℕ, List, [], ◌∷◌, ◌++◌, length, map, take, drop, Some, None, refl, sym, ap, ◌∙◌, subst, arith, rules}
 use Rattle.std.proofs.lemmas.List.{take-append-drop, map-append}
 use Rattle.sam_term.specs.declared.event.UserEvent.{UserEvent}
 use Rattle.sam_queue.specs.Views.{LineView}
@@ -22,16 +22,10 @@ take_all [] = refl
 take_all (x ∷ xs) = ap (λ l. x ∷ l) (take_all xs)
 
 puts_first : (number : ℕ) (events : List UserEvent) (line : LineView) (e : UserEnd) → UserTold number events line e → Begins e.post.put (map User events)
-puts_first number events line e told = record {
-  rest = map User (drop told.many events);
-  is = ap (λ l. map User l) (sym (take-append-drop told.many events))
-      ∙ (map-append User (take told.many events) (drop told.many events) ∙ ap (λ l. l ++ map User (drop told.many events)) (sym told.put));
-}
+puts_first number events line e told = grind (arith, (take-append-drop told.many events), (map-append User (take told.many events) (drop told.many events)))
 
 puts_all : (number : ℕ) (events : List UserEvent) (line : LineView) (e : UserEnd) → UserTold number events line e → e.stop ≡ None → e.post.put ≡ map User events
-puts_all number events line e told none =
-    let many : told.many ≡ length events = subst (λ o. UserStopped told.many (length events) o) none told.stopped in
-    told.put ∙ (ap (λ n. map User (take n events)) many ∙ ap (λ l. map User l) (take_all events))
+puts_all number events line e told none = grind (arith, take_all)
 
 pub session_of : (script : PlainScript) (refuses : ℕ → Type 0) (lines : LinesView) (e : Ends) (s : Settled)
     → Told (keys_of script.lines) (mouse_of script.lines) lines e → e.host.files.items ≡ script.files → AllPassed e → GatesTold refuses e

@@ -1,5 +1,5 @@
 -- What is read of a line is what it says, and each line says one thing.
-use Rattle.std.proofs.Common.{◌≡◌, ◌<◌, ◌≤◌, ◌∙◌, inl, inr, refl, sym, ap, subst, ℕ, List, [], ◌∷◌, ◌++◌, length, true, Some, None, Result, Ok, Err, IfOk, IfErr, codes, flat_map, encode_utf8, arith}
+use Rattle.std.proofs.Common.{◌≡◌, ◌<◌, ◌≤◌, ◌∙◌, inl, inr, refl, sym, ap, subst, ℕ, List, [], ◌∷◌, ◌++◌, length, true, Some, None, Result, Ok, Err, IfOk, IfErr, codes, flat_map, encode_utf8, arith, rules}
 use Rattle.std.specs.Prelude.{◌||◌, ◌==◌, chars, encode_utf8_all}
 use Rattle.std.specs.List.{AllByRecursion}
 use Rattle.std.specs.Str.{IsUtf8}
@@ -91,13 +91,10 @@ line_readers_say : AllByRecursion (ReadsAs IsSaidBy) line_readers
 line_readers_say = grind (arith, file_row, key_row, mouse_row)
 
 silent_says : (bytes : List ℕ) → is_silent bytes ≡ true → SaysNothing bytes
-silent_says [] h = tt
-silent_says (b ∷ bytes) h = elim (eqb_tells b 35) [ inl t ↦ inl t.1 | inr t ↦ let here = rw t.0 at h in inr (eqb-true b 61 here) ]
+silent_says bytes e = grind (arith, eqb_tells, eqb-true)
 
 nothing_silent : (bytes : List ℕ) → SaysNothing bytes → is_silent bytes ≡ true
-nothing_silent [] h = refl
-nothing_silent (b ∷ bytes) (inl is) = ap (λ c. c == 35 || c == 61) is
-nothing_silent (b ∷ bytes) (inr is) = ap (λ c. c == 35 || c == 61) is
+nothing_silent bytes e = grind arith
 
 pub line_says : (bytes : List ℕ) (it : Said) → IsUtf8 bytes → line_at bytes ≡ Some it → SaysSo it bytes
 unfolding line_at
@@ -111,7 +108,6 @@ line_says bytes it u h = elim (cases_Bool (is_silent bytes)) [
 
 pub line_read : (bytes : List ℕ) (it : Said) → Says it bytes → line_at bytes ≡ Some it
 unfolding line_at
-line_read bytes said.Nothing (u, h) = rw (nothing_silent bytes h) refl
 line_read bytes (said.File name text) (u, (rest, is, plain, fits, parts)) = grind (
   arith,
   (file_read (codes " " ++ flat_map encode_utf8 name ++ rest) name text rest
@@ -123,22 +119,14 @@ line_read bytes (said.Line (Key e)) (u, (event, is, spells)) =
 line_read bytes (said.Line (Mouse e)) (u, (event, is, spells)) =
     ap line_at is ∙ ap (λ o. o >>= λ d. Some (said.Line (Mouse d)))
     (event_read (codes " " ++ event) event e (utf8_rear (codes "m") (codes " " ++ event) (subst IsUtf8 is u) refl) refl spells)
-line_read bytes (said.Line Act) (u, is) = ap line_at is
-line_read bytes (said.Line Flush) (u, is) = ap line_at is
-line_read bytes (said.Line Host) (u, is) = ap line_at is
-line_read bytes (said.Line Term) (u, is) = ap line_at is
-line_read bytes (said.Line Drain) (u, is) = ap line_at is
-line_read bytes (said.Line Show) (u, is) = ap line_at is
+line_read bytes it e = grind (arith, nothing_silent)
 
 -- a line says one thing
 pub says_one : (bytes : List ℕ) (x y : Said) → Says x bytes → Says y bytes → x ≡ y
 says_one bytes x y p q = same_Some x y (sym (line_read bytes x p) ∙ line_read bytes y q)
 
 pub said_ok : (r : Result Said LineFault) (text bytes : List ℕ) → (text ≡ bytes) × IsUtf8 bytes → Gives (λ it. it) r (line_at text) → IfOk r (λ it. Says it bytes)
-said_ok (Ok it) text bytes is gives = (is.1, line_says bytes it is.1 (ap line_at (sym is.0) ∙ gives))
-said_ok (Err why) text bytes is gives = tt
+said_ok r text bytes e u = grind (arith, line_says)
 
 pub said_wrong : (r : Result Said LineFault) (text bytes : List ℕ) → (text ≡ bytes) × IsUtf8 bytes → Gives (λ it. it) r (line_at text) → IfErr r (IsUnsaid bytes)
-said_wrong (Ok it) text bytes is gives = tt
-said_wrong (Err Wrong) text bytes is gives = λ it says. let both : None ≡ Some it = sym gives ∙ ap line_at is.0 ∙ line_read bytes it says in cc
-said_wrong (Err OutOfMemory) text bytes is gives = tt
+said_wrong r text bytes e u = grind (arith, line_read)

@@ -1,5 +1,5 @@
 -- What a replay has printed, line by line.
-use Rattle.std.proofs.Common.{◌≡◌, inl, inr, refl, sym, ap, ◌<◌, ◌+◌, ℕ, zero, suc, true, List, [], ◌∷◌, ◌++◌, length, drop, Result, Ok, Err, slice_index_or, append_assoc, arith}
+use Rattle.std.proofs.Common.{◌≡◌, inl, inr, refl, sym, ap, ◌<◌, ◌+◌, ℕ, zero, suc, true, List, [], ◌∷◌, ◌++◌, length, drop, Result, Ok, Err, slice_index_or, append_assoc, arith, rules}
 use Rattle.sam_world.specs.World.{PlainWorld}
 use Rattle.sam_world.specs.Counts.{passes_count}
 use Rattle.sam_world.specs.declared.event.Event.{Event}
@@ -18,13 +18,11 @@ step_is_full number w e full = grind arith
 -- ---- lines
 
 drop_at : {X : Type 0} (xs : List X) (i : ℕ) (d : X) → i < length xs → drop i xs ≡ slice_index_or xs i d ∷ drop (i + 1) xs
-drop_at [] i d within = absurd (omega (arith, within))
-drop_at (x ∷ xs) zero d within = refl
 drop_at (x ∷ xs) (suc i) d within = grind (arith, (drop_at xs i d))
+drop_at xs i d e = grind arith
 
 behind_twice : (p q : List ℕ) (r : Result (List ℕ) ScriptFault) → behind p (behind q r) ≡ behind (p ++ q) r
-behind_twice p q (Ok out) = ap Ok (sym (append_assoc p q out))
-behind_twice p q (Err why) = refl
+behind_twice p q r = grind (arith, append_assoc)
 
 -- a line more
 pub line_more : (all : Result (List ℕ) ScriptFault) (w v : PlainWorld) (before after : List ℕ) (ls : List Numbered) (i : ℕ) (d : Numbered) → i < length ls
@@ -37,11 +35,7 @@ line_more all w v before after ls i d within so_far done printed = grind (arith,
 -- ---- the script that bytes spell
 
 pub unread : (bytes : List ℕ) (why : ScriptFault) → IsReadFault bytes why → IsReplayFault bytes why
-unread bytes (fault.Line number) wrong = inl wrong
-unread bytes fault.CountFull wrong = absurd wrong
-unread bytes fault.OutOfMemory wrong = tt
+unread bytes why e = grind arith
 
 pub stopped : (bytes : List ℕ) (script : PlainScript) (why : ScriptFault) → Spells bytes script → IsStopOf (replayed script) why → IsReplayFault bytes why
-stopped bytes script (fault.Line number) spelt stop = inr (script, spelt, stop)
-stopped bytes script fault.CountFull spelt stop = (script, spelt, stop)
-stopped bytes script fault.OutOfMemory spelt stop = tt
+stopped bytes script why e u = grind arith

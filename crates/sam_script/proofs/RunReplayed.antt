@@ -1,5 +1,5 @@
 -- A run that was printed, replayed, shows the world to which it leads.
-use Rattle.std.proofs.Common.{◌≡◌, ◌≤◌, ◌∙◌, ◌+◌, refl, ap, ℕ, List, [], ◌∷◌, ◌++◌, length, map, false, Some, Result, Ok, Err, append-nil, arith}
+use Rattle.std.proofs.Common.{◌≡◌, ◌≤◌, ◌∙◌, ◌+◌, refl, ap, ℕ, List, [], ◌∷◌, ◌++◌, length, map, false, Some, Result, Ok, Err, append-nil, arith, rules}
 use Rattle.std.specs.List.{AllByRecursion}
 use Rattle.std.proofs.lemmas.Option.{option_and_then_some, same_Some}
 use Rattle.sam_runes.specs.Texts.{is_empty, most_files}
@@ -24,22 +24,13 @@ term_there w v h = grind arith
 
 -- a step is done by the line of its event
 line_steps : (n : ℕ) (w v : PlainWorld) (e : Event) → step_of w e ≡ Some v → after_line n w (line_of e) ≡ Ok v
-line_steps n w v (User e) h = ap or_full h
-line_steps n w v Act h = ap or_full h
-line_steps n w v Flush h = ap or_full h
-line_steps n w v HostTake h = rw (host_there w v h) (ap or_full h)
-line_steps n w v TermTake h = rw (term_there w v h) (ap or_full h)
+line_steps n w v e u = grind (arith, host_there, term_there)
 
 prints_nothing : (w : PlainWorld) (e : Event) → printed_by w (line_of e) ≡ []
-prints_nothing w (User e) = refl
-prints_nothing w Act = refl
-prints_nothing w Flush = refl
-prints_nothing w HostTake = refl
-prints_nothing w TermTake = refl
+prints_nothing w e = grind arith
 
 behind_nothing : (r : Result (List ℕ) ScriptFault) → behind [] r ≡ r
-behind_nothing (Ok out) = refl
-behind_nothing (Err why) = refl
+behind_nothing r = grind arith
 
 lines_replay : (n : ℕ) (w v : PlainWorld) (events : List Event) → run_of w events ≡ Some v
     → replayed_from w (numbered_from n (map line_of events ++ line.Show ∷ [])) ≡ Ok (show_lines v)

@@ -1,5 +1,5 @@
 -- What `run_lines` writes is read back.
-use Rattle.std.proofs.Common.{◌≡◌, ◌≢◌, ◌<◌, ◌≤◌, ◌∙◌, ◌^◌, ◌+◌, inl, refl, sym, ap, subst, ℕ, suc, List, [], ◌∷◌, ◌++◌, length, get_or, map, Bool, true, false, not, arith, codes, flat_map, append_assoc, append-nil, encode_utf8}
+use Rattle.std.proofs.Common.{◌≡◌, ◌≢◌, ◌<◌, ◌≤◌, ◌∙◌, ◌^◌, ◌+◌, inl, refl, sym, ap, subst, ℕ, suc, List, [], ◌∷◌, ◌++◌, length, get_or, map, Bool, true, false, not, arith, codes, flat_map, append_assoc, append-nil, encode_utf8, rules}
 use Rattle.std.specs.Prelude.{◌&&◌, ◌==◌, nat_lt}
 use Rattle.std.specs.Fmt.{decimal}
 use Rattle.std.specs.Char.{IsScalar}
@@ -117,12 +117,10 @@ is_sane (Rest s ∷ []) = true
 is_sane (Rest s ∷ part ∷ parts) = false
 
 form_sane : (e : UserEvent) → is_sane (form e).1 ≡ true
-form_sane (Typed f s) = refl
-form_sane e = refl
+form_sane e = grind arith
 
 form_plain : (e : UserEvent) → is_plain (form e).0 ≡ true
-form_plain (Typed f s) = refl
-form_plain e = refl
+form_plain e = grind arith
 
 decimal_number : (bits n : ℕ) → bits < 64 → n < 2 ^ bits → (n < 2 ^ 64) × IsNumber (decimal n) n
 decimal_number bits n small fits =
@@ -134,13 +132,10 @@ decimal_number bits n small fits =
     below a b m h le = let more = pow_mono le in omega (arith, h, more)
 
 parts_spelled : (parts : List Part) → is_sane parts ≡ true → AllByRecursion IsFitting parts → SpellsParts parts (flat_map part_shown parts)
-parts_spelled [] sane fit = refl
 parts_spelled (Number bits n ∷ parts) sane fit = grind (arith, (decimal_number bits n), (parts_spelled parts))
-parts_spelled (Rest s ∷ []) sane fit = (inl (append-nil (codes " " ++ text_shown s)), refl)
-parts_spelled (Rest s ∷ part ∷ parts) sane fit = cc
+parts_spelled parts e u = grind (arith, append-nil)
 
 parts_good : (parts : List Part) → is_sane parts ≡ true → AllByRecursion IsFitting parts → Good (flat_map part_shown parts)
-parts_good [] sane fit = good_nil
 parts_good (Number bits n ∷ parts) sane fit = grind (
   arith,
   (decimal_number bits n),
@@ -152,7 +147,7 @@ parts_good (Number bits n ∷ parts) sane fit = grind (
 )
 parts_good (Rest s ∷ []) sane fit =
     good_append (codes " " ++ text_shown s) [] (good_append (codes " ") (text_shown s) (good_plain (codes " ") refl) (good_text s fit.0)) good_nil
-parts_good (Rest s ∷ part ∷ parts) sane fit = cc
+parts_good parts e u = grind (arith, good_nil)
 
 -- ## Lines
 
@@ -184,18 +179,10 @@ event_good HostTake fit = good_plain (codes "host") refl
 event_good TermTake fit = good_plain (codes "term") refl
 
 event_said : (e : Event) → CanBeWritten e → SaysSo (said_event e) (event_bytes e)
-event_said (User e) fit = (spelling (form e), refl, (flat_map part_shown (form e).1, refl, parts_spelled (form e).1 (form_sane e) fit))
-event_said Act fit = refl
-event_said Flush fit = refl
-event_said HostTake fit = refl
-event_said TermTake fit = refl
+event_said e u = grind (arith, flat_map, parts_spelled, form_sane)
 
 event_ends : (e : Event) → event_line e ≡ event_bytes e ++ 10 ∷ []
-event_ends (User e) = refl
-event_ends Act = refl
-event_ends Flush = refl
-event_ends HostTake = refl
-event_ends TermTake = refl
+event_ends e = grind arith
 
 file_good : (file : List ℕ × List ℕ) → CanBeNamed file → Good (file_bytes file)
 file_good file can = grind (
@@ -255,16 +242,12 @@ their_lines n (file ∷ files) events = grind (arith, (their_lines (n + 1) files
 pub run_is_spelled : (files : List (List ℕ × List ℕ)) (events : List Event) → length files ≤ most_files → AllByRecursion CanBeNamed files
     → AllByRecursion CanBeWritten events → Spells (run_lines_of files events) (run_script files events)
 run_is_spelled files events count named written = record {
-  said = all_said files events;
-  each = subst (λ ls. AllZip Says (all_said files events) ls) (sym (lines files events named written))
-      (zip_many said_file file_bytes CanBeNamed (λ f can. ((file_good f can).utf8, file_is_said f can)) files (map said_event events ++ tail_said)
-      (map event_bytes events ++ codes "show" ∷ [] ∷ []) named
-      (zip_many said_event event_bytes CanBeWritten (λ e can. ((event_good e can).utf8, event_said e can)) events tail_said (codes "show" ∷ [] ∷ []) written
-      (((good_plain (codes "show") refl).utf8, refl), ((IsUtf8-nil, tt), tt))));
-  ordered = files_first files events;
-  files = sym (their_files files events);
-  others = sym (their_lines 1 files events);
-  count = subst (λ fs. length fs ≤ most_files) (sym (their_files files events)) count;
+    said = all_said files events;
+    each = subst (λ ls. AllZip Says (all_said files events) ls) (sym (lines files events named written)) (zip_many said_file file_bytes CanBeNamed (λ f can. ((file_good f can).utf8, file_is_said f can)) files (map said_event events ++ tail_said) (map event_bytes events ++ codes "show" ∷ [] ∷ []) named (zip_many said_event event_bytes CanBeWritten (λ e can. ((event_good e can).utf8, event_said e can)) events tail_said (codes "show" ∷ [] ∷ []) written (((good_plain (codes "show") refl).utf8, refl), ((IsUtf8-nil, tt), tt))));
+    ordered = files_first files events;
+    files = sym (their_files files events);
+    others = sym (their_lines 1 files events);
+    count = grind (arith, their_files);
 }
   where
     lines : (fs : List (List ℕ × List ℕ)) (es : List Event) → AllByRecursion CanBeNamed fs → AllByRecursion CanBeWritten es

@@ -1,5 +1,5 @@
 -- A list of lines spells at most one script, and one line more spells it with what the line says.
-use Rattle.std.proofs.Common.{◌≡◌, ◌<◌, ◌≤◌, ◌∙◌, ◌+◌, refl, sym, ap, ap₂, subst, ℕ, suc, List, [], ◌∷◌, ◌++◌, length, take, get_or, ◌-◌, arith, append_assoc, append-nil, length-append}
+use Rattle.std.proofs.Common.{◌≡◌, ◌<◌, ◌≤◌, ◌∙◌, ◌+◌, refl, sym, ap, ap₂, subst, ℕ, suc, List, [], ◌∷◌, ◌++◌, length, take, get_or, ◌-◌, arith, append_assoc, append-nil, length-append, rules}
 use Rattle.std.specs.Prelude.{◌==◌}
 use Rattle.std.specs.List.{AllZip}
 use Rattle.std.proofs.lemmas.List.{take_more, take_all, length-take-le}
@@ -22,16 +22,12 @@ zip_one (x ∷ xs) [] (line ∷ lines) p q = absurd q
 zip_one (x ∷ xs) (y ∷ ys) (line ∷ lines) p q = ap₂ (λ z zs. z ∷ zs) (says_one line x y p.0 q.0) (zip_one xs ys lines p.1 q.1)
 
 zip_push : (xs : List Said) (lines : List (List ℕ)) (x : Said) (line : List ℕ) → AllZip Says xs lines → Says x line → AllZip Says (xs ++ x ∷ []) (lines ++ line ∷ [])
-zip_push [] [] x line p q = (q, tt)
-zip_push [] (l ∷ lines) x line p q = absurd p
-zip_push (y ∷ xs) [] x line p q = absurd p
 zip_push (y ∷ xs) (l ∷ lines) x line p q = (p.0, zip_push xs lines x line p.1 q)
+zip_push xs lines x line e u = grind arith
 
 zip_length : (xs : List Said) (lines : List (List ℕ)) → AllZip Says xs lines → length xs ≡ length lines
-zip_length [] [] p = refl
-zip_length [] (l ∷ lines) p = absurd p
-zip_length (y ∷ xs) [] p = absurd p
 zip_length (y ∷ xs) (l ∷ lines) p = ap suc (zip_length xs lines p.1)
+zip_length xs lines e = grind arith
 
 zip_last : (xs : List Said) (lines : List (List ℕ)) (line : List ℕ) → AllZip Says xs (lines ++ line ∷ [])
     → (front : List Said) × (x : Said) × (xs ≡ front ++ x ∷ []) × AllZip Says front lines × Says x line
@@ -57,18 +53,14 @@ lines_push n (said.Nothing ∷ xs) x = lines_push (n + 1) xs x ∙ ap (λ k. lin
 
 -- what comes last says no file
 ordered_other : (xs : List Said) (x : Said) → AreFilesFirst xs → file_said x ≡ [] → AreFilesFirst (xs ++ x ∷ [])
-ordered_other [] (said.Line line) p none = refl
-ordered_other [] (said.File name text) p none = tt
-ordered_other [] said.Nothing p none = tt
-ordered_other (said.Line line ∷ xs) x p none = files_push xs x ∙ ap₂ (λ a b. a ++ b) p none
 ordered_other (said.File name text ∷ xs) x p none = ordered_other xs x p none
 ordered_other (said.Nothing ∷ xs) x p none = ordered_other xs x p none
+ordered_other xs x e u = grind (arith, files_push)
 
 ordered_file : (n : ℕ) (xs : List Said) (name text : List ℕ) → AreFilesFirst xs → lines_said n xs ≡ [] → AreFilesFirst (xs ++ said.File name text ∷ [])
-ordered_file n [] name text p none = tt
-ordered_file n (said.Line line ∷ xs) name text p none = cc
 ordered_file n (said.File other words ∷ xs) name text p none = ordered_file (n + 1) xs name text p none
 ordered_file n (said.Nothing ∷ xs) name text p none = ordered_file (n + 1) xs name text p none
+ordered_file n xs name text e u = grind arith
 
 ordered_last : (n : ℕ) (xs : List Said) (name text : List ℕ) → AreFilesFirst (xs ++ said.File name text ∷ []) → lines_said n xs ≡ []
 ordered_last n [] name text p = refl

@@ -1,5 +1,5 @@
 -- What is shown of one slot or section more.
-use Rattle.std.proofs.Common.{◌≡◌, refl, ap, ◌<◌, ◌+◌, ℕ, zero, suc, List, [], ◌∷◌, ◌++◌, length, map, take, Option, Some, None, slice_index_or, arith, append-nil}
+use Rattle.std.proofs.Common.{◌≡◌, refl, ap, ◌<◌, ◌+◌, ℕ, zero, suc, List, [], ◌∷◌, ◌++◌, length, map, take, Option, Some, None, slice_index_or, arith, append-nil, rules}
 use Rattle.std.proofs.lemmas.List.{append_assoc}
 use Rattle.sam_runes.specs.Slots.{Slots, slot}
 use Rattle.sam_script.specs.Show.{slot_lines, rasp_shown, text_shown, text_rune}
@@ -10,14 +10,12 @@ shown_loaded (x ∷ s) = ap (λ ys. text_rune x ++ ys) (shown_loaded s)
 
 pub slots_more : {X : Type 0} (line : ℕ → Option X → List ℕ) (tag : ℕ) (xs : Slots X) (i : ℕ) (d : Option X) → i < length xs
     → slot_lines line tag (take (suc i) xs) ≡ slot_lines line tag (take i xs) ++ line (tag + i) (slice_index_or xs i d)
-slots_more line tag [] i d within = absurd (omega (arith, within))
-slots_more line tag (x ∷ xs) zero d within = grind (arith, append-nil)
 slots_more line tag (x ∷ xs) (suc i) d within = grind (arith, append_assoc, (slots_more line (1 + tag) xs i d))
+slots_more line tag xs i d e = grind (arith, append-nil)
 
 pub slot_there : {X : Type 0} (xs : Slots X) (i : ℕ) → i < length xs → slot xs i ≡ slice_index_or xs i None
-slot_there [] i within = absurd (omega (arith, within))
-slot_there (x ∷ xs) zero within = refl
 slot_there (x ∷ xs) (suc i) within = slot_there xs i (omega (arith, within))
+slot_there xs i e = grind arith
 
 pub slots_step : {X : Type 0} (line : ℕ → Option X → List ℕ) (old mid new : List ℕ) (xs : Slots X) (i : ℕ) (d : Option X) → i < length xs
     → mid ≡ old ++ slot_lines line 0 (take i xs) → new ≡ mid ++ line i (slice_index_or xs i d) → new ≡ old ++ slot_lines line 0 (take (i + 1) xs)

@@ -1,5 +1,5 @@
 -- What reading gives is what the grammar says, and what it says is read.
-use Rattle.std.proofs.Common.{◌≡◌, ◌<◌, ◌∙◌, ◌^◌, ◌⊎◌, inl, inr, refl, sym, ap, ap₂, subst, ℕ, List, [], ◌∷◌, ◌++◌, length, get_or, take, drop, Bool, true, false, cond, Option, Some, None, arith, codes, flat_map, append_assoc, append-nil, encode_utf8}
+use Rattle.std.proofs.Common.{◌≡◌, ◌<◌, ◌∙◌, ◌^◌, ◌⊎◌, inl, inr, refl, sym, ap, ap₂, subst, ℕ, List, [], ◌∷◌, ◌++◌, length, get_or, take, drop, Bool, true, false, cond, Option, Some, None, arith, codes, flat_map, append_assoc, append-nil, encode_utf8, rules}
 use Rattle.std.specs.Prelude.{◌==◌, encode_utf8_all}
 use Rattle.std.specs.List.{AllByRecursion}
 use Rattle.std.specs.Str.{IsUtf8, all_ascii_digits, IsCharBoundary}
@@ -20,12 +20,10 @@ use Rattle.sam_script.specs.Words.{◌>>=◌, word_of, behind_word, word_at, num
 -- ## Options and tests
 
 pub bind_some : {A B : Type 0} (o : Option A) (f : A → Option B) (y : B) → (o >>= f) ≡ Some y → (x : A) × (o ≡ Some x) × (f x ≡ Some y)
-bind_some (Some x) f y h = (x, refl, h)
-bind_some None f y h = cc
+bind_some o f y e = grind arith
 
 pub ended_says : {X : Type 0} (x y : X) (bytes : List ℕ) → ended x bytes ≡ Some y → (bytes ≡ []) × (x ≡ y)
-ended_says x y [] h = (refl, same_Some x y h)
-ended_says x y (b ∷ bytes) h = cc
+ended_says x y bytes e = grind (arith, same_Some)
 
 -- ## Words
 
@@ -47,18 +45,15 @@ word_plain [] = tt
 word_plain (b ∷ bytes) = elim (eqb_tells b 32) [ inl h ↦ rw h.0 tt | inr h ↦ rw h.0 (h.0, word_plain bytes) ]
 
 pub word_front : (word rest : List ℕ) → IsWord word → IsEnd rest → word_of (word ++ rest) ≡ word
-word_front [] [] plain end = refl
-word_front [] (b ∷ rest) plain end = ap (λ c. word_of (c ∷ rest)) end
 word_front (b ∷ word) rest plain end = rw plain.0 (ap (λ xs. b ∷ xs) (word_front word rest plain.1 end))
+word_front word rest e u = grind arith
 
 pub word_rear : (word rest : List ℕ) → IsWord word → IsEnd rest → behind_word (word ++ rest) ≡ rest
-word_rear [] [] plain end = refl
-word_rear [] (b ∷ rest) plain end = ap (λ c. behind_word (c ∷ rest)) end ∙ ap (λ c. c ∷ rest) (sym end)
 word_rear (b ∷ word) rest plain end = rw plain.0 (word_rear word rest plain.1 end)
+word_rear word rest e u = grind arith
 
 pub word_says : (bytes : List ℕ) (x : List ℕ × List ℕ) → word_at bytes ≡ Some x → (bytes ≡ codes " " ++ x.0 ++ x.1) × IsWord x.0 × IsEnd x.1
-word_says [] x h = cc
-word_says (b ∷ bytes) x h = grind (arith, word_split, word_plain, word_ends)
+word_says bytes x e = grind (arith, word_split, word_plain, word_ends)
 
 pub word_read : (bytes word rest : List ℕ) → bytes ≡ codes " " ++ word ++ rest → IsWord word → IsEnd rest → word_at bytes ≡ Some (word, rest)
 word_read bytes word rest is plain end = ap word_at is ∙ ap₂ (λ w r. Some (w, r)) (word_front word rest plain end) (word_rear word rest plain end)
@@ -91,8 +86,7 @@ longer [] y ys = omega arith
 longer (x ∷ xs) y ys = let more = longer xs y ys in omega arith
 
 end_bounds : (word rest : List ℕ) → IsEnd rest → IsCharBoundary (word ++ rest) (length word)
-end_bounds word [] end = subst (λ xs. IsCharBoundary xs (length word)) (sym (append-nil word)) (IsCharBoundary-end word)
-end_bounds word (b ∷ rest) end = grind (arith, get_behind, longer)
+end_bounds word rest e = grind (arith, append-nil, IsCharBoundary-end, get_behind, longer)
 
 pub utf8_rear : (word rest : List ℕ) → IsUtf8 (word ++ rest) → IsEnd rest → IsUtf8 rest
 utf8_rear word rest u end = subst IsUtf8 (drop_behind word rest) (IsUtf8-drop (word ++ rest) (length word) u (end_bounds word rest end))
@@ -158,14 +152,12 @@ held false = []
 
 unescaped_says : (cs front : List ℕ) (is_escaped : Bool) (s : List ℕ) → unescaped front is_escaped cs ≡ Some s
     → (rest : List ℕ) × (s ≡ front ++ rest) × (held is_escaped ++ encode_utf8_all cs ≡ text_shown rest)
-unescaped_says [] front true s h = cc
-unescaped_says [] front false s h = ([], sym (same_Some front s h) ∙ sym (append-nil front), refl)
 unescaped_says (c ∷ cs) front false s h = grind (arith, e92, append_assoc, (unescaped_says cs front true s), (unescaped_says cs (front ++ c ∷ []) false s))
 unescaped_says (c ∷ cs) front true s h = grind (arith, append_assoc, e110, e92, (unescaped_says cs (front ++ 10 ∷ []) false s), (unescaped_says cs (front ++ 92 ∷ []) false s))
+unescaped_says cs front is_escaped s e = grind (arith, same_Some, append-nil)
 
 pub text_says : (bytes s : List ℕ) → IsUtf8 bytes → text_at bytes ≡ Some s → (bytes ≡ codes " " ++ text_shown s) ⊎ ((bytes ≡ []) × (s ≡ []))
-text_says [] s u h = inr (refl, sym (same_Some [] s h))
-text_says (b ∷ bytes) s u h = grind (arith, unescaped_says, utf8_tail, encodes-chars)
+text_says bytes s e u = grind (arith, same_Some, unescaped_says, utf8_tail, encodes-chars)
 
 -- ## What stands behind the word of an event
 
@@ -196,9 +188,7 @@ tag_says bytes f h =
 
 pub tag_read : (bytes : List ℕ) (f : ℕ) → SpellsParts (Tag f ∷ []) bytes → tag_alone bytes ≡ Some f
 unfolding tag_alone
-tag_read bytes f h =
-    let a = parts_number 16 bytes f [] h in
-    ap (λ o. o >>= λ x. ended x.0 x.1) a.1 ∙ ap (λ r. ended f r) a.2
+tag_read bytes f h = grind (arith, (parts_number 16 bytes f [] h))
 
 pub place_says : (bytes : List ℕ) (x : ℕ × ℕ) → tag_and_place bytes ≡ Some x → SpellsParts (Tag x.0 ∷ Place x.1 ∷ []) bytes
 unfolding tag_and_place
@@ -213,8 +203,7 @@ pub place_read : (bytes : List ℕ) (f p : ℕ) → SpellsParts (Tag f ∷ Place
 unfolding tag_and_place
 place_read bytes f p h =
     let a = parts_number 16 bytes f (Place p ∷ []) h in
-    let b = parts_number 32 a.0 p [] a.2 in
-    ap (λ o. o >>= λ x. number_at 32 x.1 >>= λ y. ended (x.0, y.0) y.1) a.1 ∙ ap (λ o. o >>= λ y. ended (f, y.0) y.1) b.1 ∙ ap (λ r. ended (f, p) r) b.2
+    grind (arith, (parts_number 16 bytes f (Place p ∷ []) h), (parts_number 32 a.0 p [] a.2))
 
 pub range_says : (bytes : List ℕ) (x : ℕ × ℕ × ℕ) → tag_and_range bytes ≡ Some x → SpellsParts (Tag x.0 ∷ Place x.1 ∷ Place x.2 ∷ []) bytes
 unfolding tag_and_range
@@ -232,10 +221,7 @@ unfolding tag_and_range
 range_read bytes f p q h =
     let a = parts_number 16 bytes f (Place p ∷ Place q ∷ []) h in
     let b = parts_number 32 a.0 p (Place q ∷ []) a.2 in
-    let d = parts_number 32 b.0 q [] b.2 in
-    ap (λ o. o >>= λ x. number_at 32 x.1 >>= λ y. number_at 32 y.1 >>= λ z. ended (x.0, y.0, z.0) z.1) a.1
-    ∙ ap (λ o. o >>= λ y. number_at 32 y.1 >>= λ z. ended (f, y.0, z.0) z.1) b.1
-    ∙ ap (λ o. o >>= λ z. ended (f, p, z.0) z.1) d.1 ∙ ap (λ r. ended (f, p, q) r) d.2
+    grind (arith, (parts_number 16 bytes f (Place p ∷ Place q ∷ []) h), (parts_number 32 a.0 p (Place q ∷ []) a.2), (parts_number 32 b.0 q [] b.2))
 
 pub typed_says : (bytes : List ℕ) (x : ℕ × List ℕ) → IsUtf8 bytes → tag_and_text bytes ≡ Some x → SpellsParts (Tag x.0 ∷ Rest x.1 ∷ []) bytes
 unfolding tag_and_text
@@ -288,31 +274,30 @@ snarf_row bytes e u h = grind (arith, text_says)
 readers_say : AllByRecursion (ReadsAs IsEventOf) readers
 readers_say = search (type_row, snarf_row, range_row, place_row, tag_row, bare_row)
 
+-- the number that a form begins with, and what stands behind its first part
+abbrev first : List Part → ℕ
+first [] = 0
+first (Number bits n ∷ parts) = n
+first (Rest s ∷ parts) = 0
+
+abbrev behind : List Part → List Part
+behind [] = []
+behind (part ∷ parts) = parts
+
+abbrev one : UserEvent → ℕ
+one e = first (form e).1
+
+abbrev two : UserEvent → ℕ
+two e = first (behind (form e).1)
+
+abbrev three : UserEvent → ℕ
+three e = first (behind (behind (form e).1))
+
 -- each event is read by the reader of its word
 parts_read : (e : UserEvent) (bytes : List ℕ) → IsUtf8 bytes → SpellsParts (form e).1 bytes → read_by readers (form e).0 bytes ≡ Some e
 parts_read (Typed f s) bytes u h = ap (λ o. o >>= λ x. Some (Typed x.0 x.1)) (typed_read bytes f s u h)
-parts_read (Select f p q) bytes u h = ap (λ o. o >>= λ x. Some (Select x.0 x.1 x.2)) (range_read bytes f p q h)
-parts_read (Cut f) bytes u h = ap (λ o. o >>= λ x. Some (Cut x)) (tag_read bytes f h)
-parts_read (Paste f) bytes u h = ap (λ o. o >>= λ x. Some (Paste x)) (tag_read bytes f h)
-parts_read (Snarf f) bytes u h = ap (λ o. o >>= λ x. Some (Snarf x)) (tag_read bytes f h)
-parts_read (Look f) bytes u h = ap (λ o. o >>= λ x. Some (Look x)) (tag_read bytes f h)
-parts_read (Search f) bytes u h = ap (λ o. o >>= λ x. Some (Search x)) (tag_read bytes f h)
-parts_read (Send f) bytes u h = ap (λ o. o >>= λ x. Some (Send x)) (tag_read bytes f h)
-parts_read (Dclick f p) bytes u h = ap (λ o. o >>= λ x. Some (Dclick x.0 x.1)) (place_read bytes f p h)
-parts_read (Scroll f p) bytes u h = ap (λ o. o >>= λ x. Some (Scroll x.0 x.1)) (place_read bytes f p h)
-parts_read (View f p q) bytes u h = ap (λ o. o >>= λ x. Some (View x.0 x.1 x.2)) (range_read bytes f p q h)
-parts_read (Open f) bytes u h = ap (λ o. o >>= λ x. Some (Open x)) (tag_read bytes f h)
-parts_read (Close f) bytes u h = ap (λ o. o >>= λ x. Some (Close x)) (tag_read bytes f h)
-parts_read (Write f) bytes u h = ap (λ o. o >>= λ x. Some (Write x)) (tag_read bytes f h)
-parts_read (Work f) bytes u h = ap (λ o. o >>= λ x. Some (Work x)) (tag_read bytes f h)
-parts_read OpenCmd bytes u h = ap (λ b. ended OpenCmd b) h
-parts_read New bytes u h = ap (λ b. ended New b) h
-parts_read Exit bytes u h = ap (λ b. ended Exit b) h
-parts_read (Check f) bytes u h = ap (λ o. o >>= λ x. Some (Check x)) (tag_read bytes f h)
-parts_read GetSnarf bytes u h = ap (λ b. ended GetSnarf b) h
 parts_read (SetSnarf s) bytes u h = ap (λ o. o >>= λ x. Some (SetSnarf x)) (text_read bytes s u h.0)
-parts_read (Version f) bytes u h = ap (λ o. o >>= λ x. Some (Version x)) (tag_read bytes f h)
-parts_read user.Flush bytes u h = ap (λ b. ended user.Flush b) h
+parts_read e bytes u h = grind (arith, (tag_read bytes (one e)), (place_read bytes (one e) (two e)), (range_read bytes (one e) (two e) (three e)))
 
 pub event_says : (bytes : List ℕ) (e : UserEvent) → IsUtf8 bytes → event_at bytes ≡ Some e → (event : List ℕ) × (bytes ≡ codes " " ++ event) × SpellsEvent e event
 unfolding event_at

@@ -1,5 +1,5 @@
 -- The words and numbers of a line, as functions on lists.
-use Rattle.std.proofs.Common.{◌≡◌, ◌≢◌, ◌<◌, ◌≤◌, ◌∙◌, ◌^◌, ◌+◌, refl, sym, ap, ℕ, zero, suc, List, [], ◌∷◌, ◌++◌, length, get_or, take, drop, Bool, true, false, Some, None, Result, Ok, Err, MatchResult, arith}
+use Rattle.std.proofs.Common.{◌≡◌, ◌≢◌, ◌<◌, ◌≤◌, ◌∙◌, ◌^◌, ◌+◌, refl, sym, ap, ℕ, zero, suc, List, [], ◌∷◌, ◌++◌, length, get_or, take, drop, Bool, true, false, Some, None, Result, Ok, Err, MatchResult, arith, rules}
 use Rattle.std.specs.Prelude.{◌⊎◌}
 use Rattle.std.specs.Str.{all_ascii_digits}
 use Rattle.std.specs.Str.Parse.{ParsesUnsigned, digits_value}
@@ -17,16 +17,14 @@ cons_behind b bytes other = grind arith
 
 -- the first space is at k
 pub word_to : (bytes : List ℕ) (k : ℕ) → k < length bytes → get_or bytes k 0 ≡ 32 → ((i : ℕ) → i < k → get_or bytes i 0 ≢ 32) → word_of bytes ≡ take k bytes
-word_to [] k within space before = absurd (omega (arith, within))
-word_to (b ∷ bytes) zero within space before = ap (λ c. word_of (c ∷ bytes)) space
 word_to (b ∷ bytes) (suc k) within space before =
     cons_word b bytes (before 0 (omega arith)) ∙ ap (λ w. b ∷ w) (word_to bytes k (omega arith) space (λ i h. before (suc i) (omega arith)))
+word_to bytes k e u w = grind arith
 
 pub behind_to : (bytes : List ℕ) (k : ℕ) → k < length bytes → get_or bytes k 0 ≡ 32 → ((i : ℕ) → i < k → get_or bytes i 0 ≢ 32) → behind_word bytes ≡ drop k bytes
-behind_to [] k within space before = absurd (omega (arith, within))
-behind_to (b ∷ bytes) zero within space before = ap (λ c. behind_word (c ∷ bytes)) space ∙ ap (λ c. c ∷ bytes) (sym space)
 behind_to (b ∷ bytes) (suc k) within space before =
     cons_behind b bytes (before 0 (omega arith)) ∙ behind_to bytes k (omega arith) space (λ i h. before (suc i) (omega arith))
+behind_to bytes k e u w = grind arith
 
 -- there is no space
 pub word_all : (bytes : List ℕ) → ((i : ℕ) → i < length bytes → get_or bytes i 0 ≢ 32) → word_of bytes ≡ bytes
@@ -38,12 +36,10 @@ behind_all [] none = refl
 behind_all (b ∷ bytes) none = cons_behind b bytes (none 0 (omega arith)) ∙ behind_all bytes (λ i h. none (suc i) (omega arith))
 
 pub no_word : (bytes : List ℕ) → ((rest : List ℕ) → bytes ≢ 32 ∷ rest) → word_at bytes ≡ None
-no_word [] none = refl
-no_word (b ∷ bytes) none = let other : b ≢ 32 = λ e. none bytes (ap (λ c. c ∷ bytes) e) in grind (arith, nat_tests)
+no_word bytes e = grind (arith, nat_tests)
 
 pub no_text : (bytes : List ℕ) → ((rest : List ℕ) → bytes ≢ 32 ∷ rest) → text_at bytes ≡ ended [] bytes
-no_text [] none = refl
-no_text (b ∷ bytes) none = let other : b ≢ 32 = λ e. none bytes (ap (λ c. c ∷ bytes) e) in rw (ne_eqb b 32 other) refl
+no_text bytes e = grind (arith, ne_eqb)
 
 pub some_number : (bits : ℕ) (word : List ℕ) → all_ascii_digits word ≡ true → 0 < length word → digits_value 10 word < 2 ^ bits
     → number_of bits word ≡ Some (digits_value 10 word)

@@ -3,6 +3,7 @@ use Rattle.std.proofs.Common.{◌≡◌, refl, sym, subst, ℕ, List, Bool, true
 use Rattle.std.proofs.lemmas.Bool.{ne_eqb}
 use Rattle.std.specs.Prelude.{slice_index, drop, Result, Ok, Err}
 use Rattle.std.specs.Str.Parse.{IsNumeral, ParsesUnsigned, digits_value, without_leading_plus}
+use Rattle.clap.proofs.WalkLemmas.{first_value-rows}
 
 -- no plus sign stands in front
 pub plain : (bs : List ℕ) → (slice_index bs 0 ≡ 43 → ⊥) → without_leading_plus bs ≡ bs
@@ -12,3 +13,6 @@ pub parsed : {E : Type 0} (bs : List ℕ) (n : ℕ) (r : Result ℕ E) → witho
 parsed {E = E} bs n r e is p =
     let q = subst (λ (x : Result ℕ E). ParsesUnsigned 64 10 bs x) is p in
     (subst (λ (ds : List ℕ). IsNumeral 10 ds) e q.0.0, subst (λ (ds : List ℕ). n ≡ digits_value 10 ds) e q.1)
+
+-- what `number_in` rests on
+pub ruleset number_in_facts = (first_value-rows)

@@ -1,5 +1,5 @@
 -- Where the program stands between two pieces.
-use Rattle.std.proofs.Common.{◌≡◌, ◌∙◌, ℕ, ◌+◌, ◌-◌, ◌≤◌, List, [], ◌∷◌, ◌++◌, length, codes, Option, None, Some, IfSome, IfErr, OnOk, Result, Ok, Err, refl, sym, ap, subst, append-nil, length-append, arith}
+use Rattle.std.proofs.Common.{◌≡◌, ◌∙◌, ℕ, ◌+◌, ◌-◌, ◌≤◌, List, [], ◌∷◌, ◌++◌, length, codes, Option, None, Some, IfSome, IfErr, OnOk, Result, Ok, Err, refl, sym, ap, subst, append-nil, length-append, arith, rules}
 use Rattle.std.specs.Io.KnownBytes.{Appends, Consumes, IsAtEnd}
 use Rattle.std.proofs.KnownBytes.{Appends-nil, Appends-trans, Consumes-nil, Consumes-trans, Consumes-whole}
 use Rattle.sam_runes.specs.Texts.{max_runes, most_in_name}
@@ -41,10 +41,7 @@ host_sound h0 first now before after k h left p = serve-sound h0 h p.messages p.
 -- a piece can be counted
 pub has_room : (h0 : PlainHost) (piece : List ℕ) (first now before after : Option (List ℕ)) (k : Held) (h : PlainHost) (left : ℕ)
     → Progress h0 first now before after k h left → length piece ≤ 4096 → HasRoom k piece
-has_room h0 piece first now before after k h left p most =
-    let whole : length p.got ≡ length (stream_of terminal p.messages) + length k.bytes = ap length p.came.splits.whole ∙ length-append (stream_of terminal p.messages) k.bytes in
-    let place : k.offset ≡ 0 + length (stream_of terminal p.messages) = p.came.offset_is in
-    omega (arith, whole, place, p.count, most)
+has_room h0 piece first now before after k h left p most = grind (arith, length-append)
 
 -- the first host is sound
 pub first_sound : (text : List ℕ) → length text ≤ max_runes → IsSound (host_of text)
@@ -53,16 +50,7 @@ first_sound text most = let short : 4 ≤ most_in_name = omega arith in starts_s
 
 -- nothing was read
 pub begins : (h0 : PlainHost) (first before : Option (List ℕ)) (k : Held) → IsSound h0 → k ≡ fresh → Progress h0 first first before before k h0 16777216
-begins h0 first before k sound empty = record {
-  got = [];
-  messages = [];
-  read = Consumes-nil first;
-  count = refl;
-  came = subst (λ (e : Held). Came terminal fresh [] [] e) (sym empty) (record { splits = record { whole = refl; fit = tt }; opened = tt; version_is = refl; offset_is = refl; sound = refl });
-  start = sound;
-  state = refl;
-  wrote = Appends-nil before;
-}
+begins h0 first before k sound empty = grind (arith, (Consumes-nil first), (Appends-nil before))
 
 module _ {W : Type 0} (contents : W → Option (List ℕ)) where
   -- one more piece was read and answered
@@ -84,9 +72,7 @@ module _ {W : Type 0} (contents : W → Option (List ℕ)) where
 
 -- known bytes were consumed, and more may be left
 known : (first now : Option (List ℕ)) (got : List ℕ) (P : List ℕ → Type 0) → Consumes first now got → ((more : List ℕ) → P (got ++ more)) → IfSome first P
-known None now got P read all = tt
-known (Some input) None got P read all = absurd read
-known (Some input) (Some more) got P read all = subst P (sym read) (all more)
+known first now got P e u = grind arith
 
 -- what halts the program halts it whatever comes behind
 halted : (end : Result PlainHost HostFault) (version : ℕ) (rest unread : List ℕ) (s : Stop) → Halts end version rest s → Stops end version (rest ++ unread) (Some s)
@@ -124,39 +110,19 @@ module _ {W : Type 0} (contents : W → Option (List ℕ)) where
 pub ends_with : (h0 : PlainHost) (first now later before after : Option (List ℕ)) (k : Held) (h : PlainHost) (left : ℕ) (nothing : List ℕ) (s : Option Stop)
     → Progress h0 first now before after k h left → Consumes now later nothing → nothing ≡ [] → IsAtEnd later → s ≡ stop_at None k.bytes
     → Written first before after (λ input written. (length input ≤ 16777216) × Plays h0 input written s)
-ends_with h0 first now later before after k h left nothing s p reads none at_end stopped =
-    let all = Consumes-trans first now later p.got nothing p.read reads in
-    let bytes : p.got ++ nothing ≡ p.got = ap (λ b. p.got ++ b) none ∙ append-nil p.got in
-    let opened = subst (λ v. Stops (Ok h) v k.bytes s) p.came.version_is (None, p.came.opened, stopped) in
-    Consumes-whole first later (p.got ++ nothing) (λ input. (written : List ℕ) × Appends before after written × ((length input ≤ 16777216) × Plays h0 input written s)) all at_end (
-      (serve h0 p.messages).written,
-      p.wrote,
-      (
-        rw bytes (omega (arith, p.count)),
-        record {
-          messages = p.messages;
-          rest = k.bytes;
-          splits = rw bytes p.came.splits;
-          output = refl;
-          stops = subst (λ r. Stops r (version_after terminal 1 p.messages) k.bytes s) (sym p.state) opened;
-        },
-      ),
-    )
+ends_with h0 first now later before after k h left nothing s p reads none at_end stopped = grind (arith, Consumes-trans, append-nil, Consumes-whole, stops)
 
 -- ---- the end of the input
 
 stop_empty : (rest : List ℕ) → rest ≡ [] → None ≡ stop_at None rest
-stop_empty [] e = refl
-stop_empty (byte ∷ rest) e = absurd (cc)
+stop_empty rest e = grind arith
 
 stop_half : (rest : List ℕ) → (rest ≡ [] → ⊥) → Some (Frame 4) ≡ stop_at None rest
-stop_half [] some = absurd (some refl)
-stop_half (byte ∷ rest) some = refl
+stop_half rest e = grind arith
 
 only_plays : (input before after : Option (List ℕ)) (h0 : PlainHost) (s : Option Stop)
     → Written input before after (λ i w. (length i ≤ 16777216) × Plays h0 i w s) → Written input before after (λ i w. Plays h0 i w s)
-only_plays None before after h0 s w = tt
-only_plays (Some i) before after h0 s w = (w.0, w.1, w.2.1)
+only_plays input before after h0 s e = grind arith
 
 -- what the program answers there
 pub ends_ok : (h0 : PlainHost) (first now later before after : Option (List ℕ)) (k : Held) (h : PlainHost) (left : ℕ) (nothing : List ℕ) (r : Result (Unit {0}) PlayFault)
@@ -177,43 +143,24 @@ ends_side h0 first now later before after k h left nothing (Err e) p reads none 
 -- ---- the faults of a side
 
 pub on_side : (e : PlayFault) (P Q : Stop → Type 0) → ((s : Stop) → P s → Q s) → OnSide e P → OnSide e Q
-on_side (Side s) P Q f h = f s h
-on_side (Script line) P Q f h = tt
-on_side Read P Q f h = tt
-on_side Write P Q f h = tt
-on_side Threads P Q f h = tt
-on_side OutOfMemory P Q f h = tt
+on_side e P Q u w = grind arith
 
 -- messages that came whole were answered up to a refusal
 halts_at : (end : Result PlainHost HostFault) (why : HostFault) (version : ℕ) (rest : List ℕ) (s : Stop) → s ≡ Host (refusal_number why) → end ≡ Err why → Halts end version rest s
-halts_at (Ok h) why version rest s is e = absurd (cc)
-halts_at (Err who) why version rest s is e = let same : who ≡ why = cc in is ∙ ap (λ w. Host (refusal_number w)) (sym same)
+halts_at end why version rest s e u = grind arith
 
 pub refused : {W : Type 0} (contents : W → Option (List ℕ)) (h : PlainHost) (w x : W) (k e : Held) (piece : List ℕ) (ms : List Tmesg) (f : PlayFault)
     → GaveAll terminal k piece ms e → OnSide f (Refuses contents h w x ms) → OnSide f (PieceStops contents h w x k piece)
-refused contents h w x k e piece ms f all = on_side f (Refuses contents h w x ms) (PieceStops contents h w x k piece) (λ s (why, is, end, wrote). (
-  ms,
-  e.bytes,
-  all.gave.splits,
-  halts_at (serve h ms).end why (version_after terminal k.version ms) e.bytes s is end,
-  wrote,
-))
+refused contents h w x k e piece ms f all = grind (arith, on_side, halts_at)
 
 -- messages were answered before a fault
 halts_behind : (end : Result PlainHost HostFault) (version : ℕ) (rest : List ℕ) (fault : MesgFault) (s : Stop)
     → Shows terminal version rest fault → HaltsBefore end (frame_number fault) s → Halts end version rest s
-halts_behind (Ok h) version rest fault s shows is = (fault, shows, is)
-halts_behind (Err why) version rest fault s shows is = is
+halts_behind end version rest fault s e u = grind arith
 
 pub given_up : {W : Type 0} (contents : W → Option (List ℕ)) (h : PlainHost) (w x : W) (k e : Held) (piece : List ℕ) (ms : List Tmesg) (place : ℕ) (fault : MesgFault) (f : PlayFault)
     → GaveUp terminal k piece ms place fault e → OnSide f (AnswersBefore contents h w x ms (frame_number fault)) → OnSide f (PieceStops contents h w x k piece)
-given_up contents h w x k e piece ms place fault f up = on_side f (AnswersBefore contents h w x ms (frame_number fault)) (PieceStops contents h w x k piece) (λ s (halts, wrote). (
-  ms,
-  e.bytes,
-  up.gave.splits,
-  halts_behind (serve h ms).end (version_after terminal k.version ms) e.bytes fault s (subst (λ v. Shows terminal v e.bytes fault) up.gave.version_is up.shows) halts,
-  wrote,
-))
+given_up contents h w x k e piece ms place fault f up = grind (arith, on_side, halts_behind)
 
 -- behind messages that were all answered, and behind a refusal
 pub all_before : {W : Type 0} (contents : W → Option (List ℕ)) (h g : PlainHost) (w x : W) (ms : List Tmesg) (number : ℕ)
@@ -222,5 +169,4 @@ all_before contents h g w x ms number (end, wrote) = (subst (λ r. HaltsBefore r
 
 pub refused_before : {W : Type 0} (contents : W → Option (List ℕ)) (h : PlainHost) (w x : W) (ms : List Tmesg) (number : ℕ) (f : PlayFault)
     → OnSide f (Refuses contents h w x ms) → OnSide f (AnswersBefore contents h w x ms number)
-refused_before contents h w x ms number f = on_side f (Refuses contents h w x ms) (AnswersBefore contents h w x ms number)
-    (λ s (why, is, end, wrote). (subst (λ r. HaltsBefore r number s) (sym end) is, wrote))
+refused_before contents h w x ms number f = grind (arith, on_side)

@@ -1,5 +1,5 @@
 -- What comes of an input that is read as a script.
-use Rattle.std.proofs.Common.{◌≡◌, ◌⊎◌, inl, inr, refl, sym, subst, ℕ, ◌≤◌, List, length, Option, Some, None, IfSome, Result, Ok, Err, OnOk, IfOk, IfErr}
+use Rattle.std.proofs.Common.{◌≡◌, ◌⊎◌, inl, inr, refl, sym, subst, ℕ, ◌≤◌, List, length, Option, Some, None, IfSome, Result, Ok, Err, OnOk, IfOk, IfErr, arith, rules}
 use Rattle.std.specs.Global.{Vec}
 use Rattle.std.specs.Result.{IsOkAnd}
 use Rattle.std.specs.Io.KnownBytes.{Appends}
@@ -18,30 +18,24 @@ use Rattle.sam_session.specs.declared.fault.PlayFault.TheVariants.{Script, Read,
 -- ---- the input
 
 known : (input : Option (List ℕ)) (bytes : List ℕ) (P : List ℕ → Type 0) → IfSome input (λ i. bytes ≡ i) → P bytes → IfSome input P
-known None bytes P is p = tt
-known (Some i) bytes P is p = subst P is p
+known input bytes P e u = grind arith
 
 pub weaker : (input : Option (List ℕ)) (P Q : List ℕ → Type 0) → ((i : List ℕ) → P i → Q i) → IfSome input P → IfSome input Q
-weaker None P Q f p = tt
-weaker (Some i) P Q f p = f i p
+weaker input P Q e u = grind arith
 
 pub script_read : (input : Option (List ℕ)) (bytes : List ℕ) (script : PlainScript) → IfSome input (λ i. bytes ≡ i) → length bytes ≤ 16777216 → Spells bytes script
     → IfSome input (λ i. (length i ≤ 16777216) × Spells i script)
 script_read input bytes script is short spelled = known input bytes (λ i. (length i ≤ 16777216) × Spells i script) is (short, spelled)
 
 unread : (bytes : List ℕ) (why : ScriptFault) → length bytes ≤ 16777216 → IsReadFault bytes why → IsUnread bytes (of_script why)
-unread bytes (fault.Line line) short wrong = (short, wrong)
-unread bytes fault.CountFull short wrong = absurd wrong
-unread bytes fault.OutOfMemory short wrong = tt
+unread bytes why e u = grind arith
 
 pub script_wrong : (input : Option (List ℕ)) (bytes : List ℕ) (why : ScriptFault) → IfSome input (λ i. bytes ≡ i) → length bytes ≤ 16777216 → IsReadFault bytes why
     → IfSome input (λ i. IsUnread i (of_script why))
 script_wrong input bytes why is short wrong = known input bytes (λ i. IsUnread i (of_script why)) is (unread bytes why short wrong)
 
 pub input_failed : (input : Option (List ℕ)) (e : PlayFault) → (e ≡ Read) ⊎ (e ≡ OutOfMemory) → IfSome input (λ i. IsUnread i e)
-input_failed None e h = tt
-input_failed (Some i) e (inl h) = subst (λ (f : PlayFault). IsUnread i f) (sym h) tt
-input_failed (Some i) e (inr h) = subst (λ (f : PlayFault). IsUnread i f) (sym h) tt
+input_failed input e u = grind arith
 
 -- ---- a replay
 
@@ -49,41 +43,26 @@ pub replay_shown : (input : Option (List ℕ)) (bytes out : List ℕ) → IfSome
 replay_shown input bytes out is short ran = known input bytes (λ i. IsReplay i out) is (short, ran)
 
 faulty : (bytes : List ℕ) (why : ScriptFault) → length bytes ≤ 16777216 → replay.IsReplayFault bytes why → IsReplayFault bytes (of_script why)
-faulty bytes (fault.Line line) short stop = (short, stop)
-faulty bytes fault.CountFull short stop = (refl, short, stop)
-faulty bytes fault.OutOfMemory short stop = tt
+faulty bytes why e u = grind arith
 
 pub replay_stopped : (input : Option (List ℕ)) (bytes : List ℕ) (why : ScriptFault) → IfSome input (λ i. bytes ≡ i) → length bytes ≤ 16777216 → replay.IsReplayFault bytes why
     → IfSome input (λ i. IsReplayFault i (of_script why))
 replay_stopped input bytes why is short stop = known input bytes (λ i. IsReplayFault i (of_script why)) is (faulty bytes why short stop)
 
 pub replay_unread : (input : Option (List ℕ)) (e : PlayFault) → (e ≡ Read) ⊎ (e ≡ OutOfMemory) → IfSome input (λ i. IsReplayFault i e)
-replay_unread None e h = tt
-replay_unread (Some i) e (inl h) = subst (λ (f : PlayFault). IsReplayFault i f) (sym h) tt
-replay_unread (Some i) e (inr h) = subst (λ (f : PlayFault). IsReplayFault i f) (sym h) tt
+replay_unread input e u = grind arith
 
 -- ---- what is written
 
 pub told : (before after : Option (List ℕ)) (e : PlayFault) → Appends before after (fault_line e) → IsTold before after e
-told before after (Script line) wrote = wrote
-told before after (Side stop) wrote = wrote
-told before after Threads wrote = wrote
-told before after OutOfMemory wrote = wrote
-told before after Read wrote = wrote
-told before after Write wrote = tt
+told before after e u = grind arith
 
 -- the lines that came of an input were written
 pub written : {A : Type 0} (input before after : Option (List ℕ)) (P : List ℕ → List ℕ → Type 0) (lines : Result (Vec ℕ) PlayFault) (result : Result A PlayFault)
     → IfOk lines (λ l. IfSome input (λ i. P i l.items)) → OnOk result (IsOkAnd lines (λ l. Appends before after l.items)) → OnOk result (Written input before after P)
-written input before after P lines (Err e) came wrote = tt
-written None before after P lines (Ok done) came wrote = tt
-written (Some i) before after P (Ok lines) (Ok done) came wrote = (lines.items, wrote, came)
-written (Some i) before after P (Err why) (Ok done) came wrote = absurd wrote
+written input before after P lines result e u = grind arith
 
 -- a fault that came of an input is the answer, or a write failed
 pub faulted : {A : Type 0} (input : Option (List ℕ)) (Q : List ℕ → PlayFault → Type 0) (lines : Result (Vec ℕ) PlayFault) (result : Result A PlayFault) → ((i : List ℕ) → Q i Write)
     → IfErr lines (λ why. IfSome input (λ i. Q i why)) → IfErr result (λ e. (e ≡ Write) ⊎ (lines ≡ Err e)) → IfErr result (λ e. IfSome input (λ i. Q i e))
-faulted input Q lines (Ok done) unwritten came h = tt
-faulted None Q lines (Err e) unwritten came h = tt
-faulted (Some i) Q lines (Err e) unwritten came (inl h) = subst (λ (f : PlayFault). Q i f) (sym h) (unwritten i)
-faulted (Some i) Q lines (Err e) unwritten came (inr h) = subst (λ (r : Result (Vec ℕ) PlayFault). IfErr r (λ why. Q i why)) h came
+faulted input Q lines result u w q = grind arith

@@ -1,5 +1,5 @@
 -- What a host answers to messages in turn.
-use Rattle.std.proofs.Common.{◌≡◌, ◌∙◌, ℕ, List, [], ◌∷◌, ◌++◌, Option, Ok, Err, refl, sym, ap, subst, flat_map, append_assoc}
+use Rattle.std.proofs.Common.{◌≡◌, ◌∙◌, ℕ, List, [], ◌∷◌, ◌++◌, Option, Ok, Err, refl, sym, ap, subst, flat_map, append_assoc, arith, rules}
 use Rattle.std.specs.Io.KnownBytes.{Appends}
 use Rattle.std.proofs.KnownBytes.{Appends-trans}
 use Rattle.std.proofs.lemmas.List.Elements.{All-nil, All-cons}
@@ -22,8 +22,7 @@ use Rattle.sam_session.specs.Pieces.{AllFit, FramesFit}
 
 pub all_fit : (version : ℕ) (ms : List Tmesg) → FitInTurn terminal version ms → AllFit ms
 all_fit version [] fit = All-nil (FitsT 2)
-all_fit version (m ∷ ms) fit =
-    All-cons (FitsT 2) m ms (record { is_message = fit.0.is_message; fits = grows_t version m fit.0.fits }) (all_fit (terminal.after version m) ms fit.1)
+all_fit version (m ∷ ms) fit = grind (arith, All-cons, grows_t, (all_fit (terminal.after version m) ms fit.1))
 
 pub answered_fit : (h g : PlainHost) (m : Tmesg) (frames : List HFrame) → answer h m ≡ Ok (g, frames) → IsSound h → FramesFit frames
 answered_fit h g m frames is sound = fit_in_last h.version frames (frames_fit h g m frames is sound)
@@ -40,8 +39,7 @@ serve-append h g (m ∷ ms) ns is = go (λ d e. serve-append d g ms ns e) (answe
   where
     go : ((d : PlainHost) → (serve d ms).end ≡ Ok g → serve d (ms ++ ns) ≡ behind (serve d ms).written (serve g ns)) → (r : Answer) → (served_on r (λ d. serve d ms)).end ≡ Ok g
         → served_on r (λ d. serve d (ms ++ ns)) ≡ behind (served_on r (λ d. serve d ms)).written (serve g ns)
-    go then (Err why) e = absurd (cc)
-    go then (Ok p) e = ap (behind (flat_map frame_h p.1)) (then p.0 e) ∙ behind-twice (flat_map frame_h p.1) (serve p.0 ms).written (serve g ns)
+    go e r u = grind (arith, flat_map, behind-twice)
 
 -- behind a refusal nothing is answered
 pub serve-refused : (h : PlainHost) (why : HostFault) (ms ns : List Tmesg) → (serve h ms).end ≡ Err why → serve h (ms ++ ns) ≡ serve h ms
@@ -50,8 +48,7 @@ serve-refused h why (m ∷ ms) ns is = go (λ d e. serve-refused d why ms ns e) 
   where
     go : ((d : PlainHost) → (serve d ms).end ≡ Err why → serve d (ms ++ ns) ≡ serve d ms)
         → (r : Answer) → (served_on r (λ d. serve d ms)).end ≡ Err why → served_on r (λ d. serve d (ms ++ ns)) ≡ served_on r (λ d. serve d ms)
-    go then (Err k) e = refl
-    go then (Ok p) e = ap (behind (flat_map frame_h p.1)) (then p.0 e)
+    go e r u = grind (arith, flat_map)
 
 -- a host stays sound
 pub serve-sound : (h g : PlainHost) (ms : List Tmesg) → IsSound h → (serve h ms).end ≡ Ok g → IsSound g
@@ -66,9 +63,4 @@ serve-sound h g (m ∷ ms) sound is = go (λ d s e. serve-sound d g ms s e) (ans
 pub served_more : (before mid after : Option (List ℕ)) (w : List ℕ) (all : Served) (h g : PlainHost) (m : Tmesg) (rest left : List Tmesg) (out sent : List HFrame) → left ≡ m ∷ rest → sent ≡ out
     → Appends before mid w → all ≡ behind w (serve h left) → answer h m ≡ Ok (g, out) → Appends mid after (flat_map frame_h sent)
     → (x : List ℕ) × Appends before after x × (all ≡ behind x (serve g rest))
-served_more before mid after w all h g m rest left out sent is same wrote so_far answered writes = (
-  w ++ flat_map frame_h out,
-  Appends-trans before mid after w (flat_map frame_h out) wrote (subst (λ ms. Appends mid after (flat_map frame_h ms)) same writes),
-  so_far ∙ ap (λ ms. behind w (serve h ms)) is ∙ ap (λ r. behind w (served_on r (λ d. serve d rest))) answered
-      ∙ behind-twice w (flat_map frame_h out) (serve g rest),
-)
+served_more before mid after w all h g m rest left out sent is same wrote so_far answered writes = grind (arith, flat_map, Appends-trans, behind-twice)

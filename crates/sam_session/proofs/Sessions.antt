@@ -1,5 +1,5 @@
 -- What a session of five threads comes to.
-use Rattle.std.proofs.Common.{◌≡◌, ◌≢◌, ◌∙◌, ◌⊎◌, inl, inr, ⊎_elim, refl, sym, ap, subst, arith, ℕ, ◌<◌, ◌≤◌, true, false, eqb, List, [], ◌∷◌, ◌++◌, length, map, Option, Some, None, IfSome}
+use Rattle.std.proofs.Common.{◌≡◌, ◌≢◌, ◌∙◌, ◌⊎◌, inl, inr, ⊎_elim, refl, sym, ap, subst, arith, ℕ, ◌<◌, ◌≤◌, true, false, eqb, List, [], ◌∷◌, ◌++◌, length, map, Option, Some, None, IfSome, rules}
 use Rattle.std.proofs.lemmas.Bool.Decides.{eqb_tells}
 use Rattle.std.proofs.lemmas.List.{append-nil}
 use Rattle.std.proofs.lemmas.List.Concat.{flat_map-cons}
@@ -40,11 +40,7 @@ keyed None rest keys clicks events is then = then keys is
 keyed (Some (Host frame)) rest [] clicks events is then = absurd (cc)
 keyed (Some (Host frame)) rest (a ∷ keys) clicks events is then = let h : Host frame ≡ User a = cc in absurd (cc)
 keyed (Some (User event)) rest [] clicks events is then = absurd (cc)
-keyed (Some (User event)) rest (a ∷ keys) clicks events is then =
-    let h : User event ≡ User a = cc in
-    let same : a ≡ event = cc in
-    let tail : rest ≡ map User keys = cc in
-    inl (keys, ap (λ x. x ∷ keys) same, then keys tail)
+keyed (Some (User event)) rest (a ∷ keys) clicks events is then = grind arith
 
 clicked : (o : Option Input) (rest : List Input) (keys clicks events : List UserEvent) → loaded o ++ rest ≡ map User clicks
     → ((more : List UserEvent) → rest ≡ map User more → IsWoven keys more events) → IsWoven keys clicks (user_of_load o ++ events)
@@ -52,19 +48,14 @@ clicked None rest keys clicks events is then = then clicks is
 clicked (Some (Host frame)) rest keys [] events is then = absurd (cc)
 clicked (Some (Host frame)) rest keys (a ∷ clicks) events is then = let h : Host frame ≡ User a = cc in absurd (cc)
 clicked (Some (User event)) rest keys [] events is then = absurd (cc)
-clicked (Some (User event)) rest keys (a ∷ clicks) events is then =
-    let h : User event ≡ User a = cc in
-    let same : a ≡ event = cc in
-    let tail : rest ≡ map User clicks = cc in
-    inr (clicks, ap (λ x. x ∷ clicks) same, then clicks tail)
+clicked (Some (User event)) rest keys (a ∷ clicks) events is then = grind arith
 
 framed : (o : Option Input) (rest : List Input) (frames : List HFrame) (keys clicks events : List UserEvent) → loaded o ++ rest ≡ map Host frames
     → ((more : List HFrame) → rest ≡ map Host more → IsWoven keys clicks events) → IsWoven keys clicks (user_of_load o ++ events)
 framed None rest frames keys clicks events is then = then frames is
-framed (Some (User event)) rest [] keys clicks events is then = absurd (cc)
 framed (Some (User event)) rest (a ∷ frames) keys clicks events is then = let h : User event ≡ Host a = cc in absurd (cc)
-framed (Some (Host frame)) rest [] keys clicks events is then = absurd (cc)
 framed (Some (Host frame)) rest (a ∷ frames) keys clicks events is then = let tail : rest ≡ map Host frames = cc in then frames tail
+framed o rest frames keys clicks events e u = grind arith
 
 unmapped : {A B : Type 0} (f : A → B) (xs : List A) → [] ≡ map f xs → xs ≡ []
 unmapped f [] e = refl
@@ -110,21 +101,14 @@ none_stopped [] e = refl
 none_stopped (why ∷ stops) e = go (first_cause (why ∷ stops)) e
   where
     go : (o : Option Stop) → of_cause o (why ∷ stops) ≡ None → why ∷ stops ≡ []
-    go None q = absurd (cc)
-    go (Some cause) q = absurd (cc)
+    go o e = grind arith
 
 -- neither keyboard nor mouse was stopped
 users_unstopped : (e : Ends) → stops_of e ≡ [] → (e.keyboard.stop ≡ None) × (e.mouse.stop ≡ None)
-users_unstopped e none =
-    let four = nothing_joined _ _ none in
-    let three = nothing_joined _ _ four.0 in
-    let two = nothing_joined _ _ three.0 in
-    let one = nothing_joined _ _ two.0 in
-    (stop_none e.keyboard.stop one.0, stop_none e.mouse.stop one.1)
+users_unstopped e none = grind (arith, nothing_joined, stop_none)
 
 own_exit : (own : List UserEvent) (entries : List (Entry Input)) → IsOwnExit own entries → (own ≡ []) ⊎ (own ≡ Exit ∷ [])
-own_exit own entries (inl none) = inl none
-own_exit own entries (inr one) = inr one.0
+own_exit own entries e = grind arith
 
 all_users : (script : PlainScript) (refuses : ℕ → Type 0) (s : Settled) → IsSession script refuses s → s.stops.items ≡ [] → HasAllUsers script s.schedule.items
 all_users script refuses s session none =
@@ -166,18 +150,10 @@ printed script refuses s lines session unstopped is =
 
 -- stops are never the fault of a script or a device
 of_cause_is : (cause : Option Stop) (stops : List Stop) (e : PlayFault) → of_cause cause stops ≡ Some e → (P : PlayFault → Type 0) → ((why : Stop) → P (Side why)) → P Threads → P OutOfMemory → P e
-of_cause_is None [] e is P side threads memory = absurd (cc)
-of_cause_is None (why ∷ stops) e is P side threads memory = let same : Side stop.PeerGone ≡ e = cc in subst P same (side stop.PeerGone)
-of_cause_is (Some (stop.Frame n)) stops e is P side threads memory = let same : Side (stop.Frame n) ≡ e = cc in subst P same (side (stop.Frame n))
-of_cause_is (Some (stop.Host n)) stops e is P side threads memory = let same : Side (stop.Host n) ≡ e = cc in subst P same (side (stop.Host n))
-of_cause_is (Some (stop.Term n)) stops e is P side threads memory = let same : Side (stop.Term n) ≡ e = cc in subst P same (side (stop.Term n))
-of_cause_is (Some stop.PeerGone) stops e is P side threads memory = let same : Side stop.PeerGone ≡ e = cc in subst P same (side stop.PeerGone)
-of_cause_is (Some stop.Gate) stops e is P side threads memory = let same : Threads ≡ e = cc in subst P same threads
-of_cause_is (Some stop.Memory) stops e is P side threads memory = let same : OutOfMemory ≡ e = cc in subst P same memory
+of_cause_is cause stops e u P w q y = grind arith
 
 pub not_run : (script : PlainScript) (e : PlayFault) → (e ≡ Threads) ⊎ (e ≡ OutOfMemory) → IsSessionFault script e
-not_run script e (inl is) = subst (IsSessionFault script) (sym is) tt
-not_run script e (inr is) = subst (IsSessionFault script) (sym is) tt
+not_run script e u = grind arith
 
 stopped : (script : PlainScript) (s : Settled) (e : PlayFault) → IsSession script (λ _. ⊥) s → of_stops s.stops.items ≡ Some e → IsSessionFault script e
 stopped script s e session is =
@@ -192,29 +168,17 @@ not_printed script s e session (inr is) = stopped script s e session is
 
 pub session_shown : (input : Option (List ℕ)) (script : PlainScript) (lines : List ℕ) → IfSome input (λ i. (length i ≤ 16777216) × Spells i script) → PrintsSession lines script
     → IfSome input (λ i. IsThreaded i lines)
-session_shown input script lines read prints =
-    weaker input (λ i. (length i ≤ 16777216) × Spells i script) (λ i. IsThreaded i lines) (λ i r. (r.0, (script, r.1, prints))) read
+session_shown input script lines read prints = grind (arith, weaker)
 
 of_session : (script : PlainScript) (i : List ℕ) (e : PlayFault) → (length i ≤ 16777216) × Spells i script → IsSessionFault script e → IsThreadsFault i e
-of_session script i (Script line) r stop = absurd stop
-of_session script i (Side why) r stop = (r.0, (script, r.1, stop))
-of_session script i Threads r stop = (r.0, (script, r.1, tt))
-of_session script i Read r stop = absurd stop
-of_session script i Write r stop = absurd stop
-of_session script i OutOfMemory r stop = tt
+of_session script i e u w = grind arith
 
 pub session_stops : (input : Option (List ℕ)) (script : PlainScript) (e : PlayFault) → IfSome input (λ i. (length i ≤ 16777216) × Spells i script) → IsSessionFault script e
     → IfSome input (λ i. IsThreadsFault i e)
-session_stops input script e read stop =
-    weaker input (λ i. (length i ≤ 16777216) × Spells i script) (λ i. IsThreadsFault i e) (λ i r. of_session script i e r stop) read
+session_stops input script e read stop = grind (arith, weaker, of_session)
 
 unread_first : (i : List ℕ) (e : PlayFault) → IsUnread i e → IsThreadsFault i e
-unread_first i (Script line) wrong = wrong
-unread_first i (Side why) wrong = absurd wrong
-unread_first i Threads wrong = absurd wrong
-unread_first i Write wrong = absurd wrong
-unread_first i Read wrong = tt
-unread_first i OutOfMemory wrong = tt
+unread_first i e u = grind arith
 
 pub no_session : (input : Option (List ℕ)) (e : PlayFault) → IfSome input (λ i. IsUnread i e) → IfSome input (λ i. IsThreadsFault i e)
 no_session input e read = weaker input (λ i. IsUnread i e) (λ i. IsThreadsFault i e) (λ i. unread_first i e) read

@@ -206,6 +206,7 @@ fn text_in(alloc: Global, matches: &ArgMatches<'_>) -> Result<Runes, ArgFault>
 }
 
 /// Returns the number that an option's value writes in decimal digits alone. It is `Wrong` if it is not from 1 to `most`.
+#[tactic(auto, using(crate::proofs::Numbers::plain, crate::proofs::Numbers::parsed, crate::proofs::Numbers::number_in_facts))]
 fn number_in(matches: &ArgMatches<'_>, name: &str, most: usize) -> Result<usize, ArgFault>
     ensures { IfOk result (λ n. HoldsNumber (first_of name.now (rows_of (found_of matches.now))) most n) }
 {

@@ -1,5 +1,5 @@
 -- What a host answers and what a terminal composes fits at its place of the stream: a case for each message and for each event.
-use Rattle.std.proofs.Common.{◌≡◌, ℕ, Bool, true, false, ◌==◌, List, [], ◌∷◌, ◌++◌, Option, Some, None, Ok, refl, sym, ap, ◌∙◌, subst, arith}
+use Rattle.std.proofs.Common.{◌≡◌, ℕ, Bool, true, false, ◌==◌, List, [], ◌∷◌, ◌++◌, Option, Some, None, Ok, refl, sym, ap, ◌∙◌, subst, arith, rules}
 use Rattle.std.specs.Prelude.{min, drop, if◌then◌else◌}
 use Rattle.sam_runes.specs.Checks.{first_of_checks}
 use Rattle.sam_runes.specs.Texts.{common_version}
@@ -45,8 +45,7 @@ record Tells (h : PlainHost) (m : Tmesg) (r : Reply) : Type 0 where
   past : after_t h.version m ≡ r.0.version
 
 past_plain : (v : ℕ) (m : Hmesg) → is_version m ≡ false → after_h v m ≡ v
-past_plain v (Hversion n) e = absurd (cc)
-past_plain v m e = refl
+past_plain v m e = grind arith
 
 plain-stamped : (v seen : ℕ) (ms : List Hmesg) → IsPlain ms → version_after host v (stamped seen ms) ≡ v
 plain-stamped v seen [] p = refl
@@ -65,10 +64,7 @@ tells_version h v e =
     let sure : (v == 0) ≡ false = (none_holds (v == 0, BadVersion) [] e).0 in
     let rest : List Hmesg = told_names 1 (drop 1 h.files.slots) ++ Hack ∷ Hunlock ∷ [] in
     let plain : IsPlain rest = reply_each plain_frames h (Tversion v) (λ f. tt) in
-    record {
-      behind = λ seen. plain-stamped (after_h h.version (Hversion (common_version v))) seen rest plain ∙ agrees h.version v sure;
-      past = ap (λ (b : Bool). if b then h.version else min v 2) sure;
-    }
+    record { behind = λ seen. plain-stamped (after_h h.version (Hversion (common_version v))) seen rest plain ∙ agrees h.version v sure; past = grind (arith, none_holds) }
 
 tells : (h : PlainHost) (m : Tmesg) → first_of_checks (host_checks h m) ≡ None → Tells h m (reply_to h m)
 tells h (Tversion v) e = tells_version h v e
@@ -109,12 +105,10 @@ free-append [] ns a b = b
 free-append (m ∷ ms) ns a b = (a.0, free-append ms ns a.1 b)
 
 free-if : (b : Bool) (x y : Made) → AllFree x.1 → AllFree y.1 → AllFree (if b then x else y).1
-free-if true x y p q = p
-free-if false x y p q = q
+free-if b x y e u = grind arith
 
 free-unsent : (o : Option Unsent) → AllFree (unsent_message o)
-free-unsent None = tt
-free-unsent (Some u) = (tt, tt)
+free-unsent o = grind arith
 
 free-flushed : (t : PlainTerminal) → AllFree (flushed t).1
 unfolding flushed
@@ -150,19 +144,7 @@ free-plain t ms p = free-sends t unchanged ms p
 -- what an event composes at a place with the terminal's version
 event_turn : (t : PlainTerminal) (e : UserEvent) (v : ℕ) → has_long_text t e ≡ false → v ≡ t.version → InTurn terminal v (event_outcome t e).1
 unfolding made_by_type made_by_cut made_by_paste made_by_snarf made_by_view
-event_turn t (Typed f s) v h q = grind (arith, free_turn, free-append, free-cuts, free-types)
-event_turn t (Select f x y) v h q = tt
-event_turn t (Cut f) v h q =
-    let d = (window_at t f).dot in
-    free_turn v (made_by_cut t f).1
-    (free-if (has_empty_dot t f) (t, []) (sends t (λ u. cut_rasp u f d.0 d.1) (Tsnarf f d.0 d.1 ∷ Tcut f d.0 d.1 ∷ [])) tt
-    (free-sends t (λ u. cut_rasp u f d.0 d.1) (Tsnarf f d.0 d.1 ∷ Tcut f d.0 d.1 ∷ []) (tt, (tt, tt))))
-event_turn t (Paste f) v h q = grind (arith, free_turn, free-append, free-plain)
-event_turn t (Snarf f) v h q = grind (arith, free_turn, free-plain)
-event_turn t (View f p n) v h q = grind (arith, free_turn, free-requested)
-event_turn t (SetSnarf s) v h q = grind (arith, flushed_is)
-event_turn t Flush v h q = free_turn v _ (free-flushed t)
-event_turn t _ v h q = free_turn v _ (free-plain t _ (tt, tt))
+event_turn t e v u w = grind (arith, free_turn, free-append, free-cuts, free-types, free-if, free-sends, free-plain, free-requested, flushed_is, free-flushed)
 
 -- ## Acts, flushes and frames
 
@@ -176,20 +158,15 @@ act_turn t r v place e = go t.held e
     P x = InTurn terminal v (composed_by x.1)
 
     verdict : (o : Option Verdict) (x : UserEvent) (es : List UserEvent) → first_of_checks (event_checks t x) ≡ o → decided o t es (event_outcome (record t { held = es }) x) ≡ Ok r → P r
-    verdict (Some Waits) x es n q = let same : (t, Locked) ≡ r = cc in subst P same tt
-    verdict (Some (Refuses why)) x es n q =
-        let dropped : PlainTerminal × Acted = (record t { held = es }, Refused why) in
-        let same : dropped ≡ r = cc in
-        subst P same tt
     verdict None x es n q =
         let made : Made = event_outcome (record t { held = es }) x in
         let same : (made.0, Done made.1) ≡ r = counted-result made.0.sent (made.0, Done made.1) r q in
         let here : v ≡ t.version = place (none_at (event_checks t x) 1 n) (none_at (event_checks t x) 0 n) in
         subst P same (event_turn (record t { held = es }) x v (none_at (event_checks t x) 8 n) here)
+    verdict o x es e u = grind arith
 
     go : (es : List UserEvent) → act_on t es ≡ Ok r → P r
-    go [] q = let same : (t, Idle) ≡ r = cc in subst P same tt
-    go (x ∷ es) q = verdict (first_of_checks (event_checks t x)) x es refl q
+    go es e = grind (arith, verdict)
 
 pub flush_turn : (t : PlainTerminal) (r : Made) (v : ℕ) → flush_of t ≡ Ok r → InTurn terminal v r.1
 unfolding flush_of
@@ -197,10 +174,7 @@ flush_turn t r v e = subst (λ (x : Made). InTurn terminal v x.1) (counted-resul
 
 free-frame : (t : PlainTerminal) (m : Hmesg) → AllFree (frame_outcome t m).1
 unfolding took_unlockfile
-free-frame t (Hcheck f) = free-requested t f
-free-frame t (Hunlockfile f) = free-requested (took_unlockfile t f) f
-free-frame t Hack = free-if t.has_exited (t, []) (sends t unchanged (Tack ∷ [])) tt (free-plain t (Tack ∷ []) (tt, tt))
-free-frame t _ = tt
+free-frame t m = grind (arith, free-requested, free-if, free-plain)
 
 pub take_turn : (t : PlainTerminal) (frame : HFrame) (r : Made) (v : ℕ) → take_of t frame ≡ Ok r → InTurn terminal v r.1
 unfolding take_of

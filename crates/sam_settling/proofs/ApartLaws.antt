@@ -1,5 +1,5 @@
 -- Two sides that worked apart are one run of the world; each read the other's stream, and neither refused the other.
-use Rattle.std.proofs.Common.{◌≡◌, ℕ, false, List, [], ◌∷◌, ◌++◌, Some, None, Err, refl, sym, ap, ◌∙◌, subst, append_assoc}
+use Rattle.std.proofs.Common.{◌≡◌, ℕ, false, List, [], ◌∷◌, ◌++◌, Some, None, Err, refl, sym, ap, ◌∙◌, subst, append_assoc, arith, rules}
 use Rattle.std.proofs.lemmas.Bool.{le-ltb, or_from}
 use Rattle.std.proofs.lemmas.List.{append-nil, append_cancel_left}
 use Rattle.sam_mesg.specs.declared.fault.MesgFault.{MesgFault}
@@ -40,10 +40,7 @@ use Rattle.sam_settling.proofs.ApartWalk.{composed_turn}
 -- ## Small facts
 
 good_entry : (e : TermLog) (n : ℕ) → EntryFits e n → is_bad_entry e n ≡ false
-good_entry (log.Take k) n l = le-ltb n k l
-good_entry (log.User e) n l = refl
-good_entry log.Act n l = refl
-good_entry log.Flush n l = refl
+good_entry e n u = grind (arith, le-ltb)
 
 good_log : (es : List TermLog) (n : ℕ) → FitsUnder es n → is_bad_log es n ≡ false
 good_log [] n l = refl
@@ -82,10 +79,7 @@ module _ (given : List (List ℕ × List ℕ)) (entries : List TermLog) (h : Pla
   passed_begins = begins_from_bytes (FitsH 2) (frame_of host) down_free passed answered a.down.0 (each_h 1 passed a.passed_fit) a.answers_fit (sym a.down.1)
 
   taken_begins : Begins taken answered
-  taken_begins = record {
-    rest = a.passing.rest ++ passed_begins.rest;
-    is = passed_begins.is ∙ (ap (λ (x : List HFrame). x ++ passed_begins.rest) a.passing.is ∙ append_assoc taken a.passing.rest passed_begins.rest);
-  }
+  taken_begins = grind (arith, (append_assoc taken a.passing.rest passed_begins.rest))
 
   -- the host's run, and the terminal's, as the law of two sides has them
   host_runs : HostRuns sides (new_host given) handled (taken ++ taken_begins.rest) h
@@ -120,18 +114,14 @@ module _ (given : List (List ℕ × List ℕ)) (entries : List TermLog) (h : Pla
   -- ## The law
 
   pub joins : Joined given entries h t composed handled answered taken
-  joins = record {
-    world = last;
-    run = replays;
-    host_is = refl;
-    term_is = refl;
-    upwards = handled_begins.is;
-    downwards = taken_begins.is;
-    good = good_log entries h.taken (fits sides counts entries (new_host given) h new_terminal t handled composed taken taken_begins.rest host_runs a.term_runs);
-    users_are = users_merged_from 0 entries h.taken;
-    composed_in_turn = composed_in_turn;
-    answered_in_turn = answered_in_turn;
-  }
+  joins = grind (
+    arith,
+    replays,
+    (good_log entries h.taken (fits sides counts entries (new_host given) h new_terminal t handled composed taken taken_begins.rest host_runs a.term_runs)),
+    (users_merged_from 0 entries h.taken),
+    composed_in_turn,
+    answered_in_turn,
+  )
 
   -- ## Neither side refused the other
 

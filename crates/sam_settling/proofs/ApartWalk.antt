@@ -1,5 +1,5 @@
 -- The sides of a joined run with the messages that each has handled or composed so far: what was composed fits, each message at its place.
-use Rattle.std.proofs.Common.{◌≡◌, ℕ, false, List, [], ◌∷◌, ◌++◌, Option, Some, None, Result, Ok, Err, refl, sym, ap, ◌∙◌, subst, true≢false, append_assoc, arith}
+use Rattle.std.proofs.Common.{◌≡◌, ℕ, false, List, [], ◌∷◌, ◌++◌, Option, Some, None, Result, Ok, Err, refl, sym, ap, ◌∙◌, subst, true≢false, append_assoc, arith, rules}
 use Rattle.std.proofs.lemmas.List.{append-nil}
 use Rattle.std.proofs.lemmas.Option.{same_Some}
 use Rattle.std.proofs.lemmas.Bool.{false_from_ne_true}
@@ -61,12 +61,10 @@ listing = record {
 }
 
 added_was : (l : List Tmesg) (o : Option (PlainTerminal × List Tmesg)) (u : TermSide) (ms : List Tmesg) → added l o ≡ Some (u, ms) → o ≡ Some (u.0, ms)
-added_was l None u ms e = absurd (cc)
-added_was l (Some p) u ms e = grind arith
+added_was l o u ms e = grind arith
 
 took_was : (l : List Tmesg) (o : Option (PlainHost × List HFrame)) (k : HostSide) (fs : List HFrame) → took l o ≡ Some (k, fs) → o ≡ Some (k.0, fs)
-took_was l None k fs e = absurd (cc)
-took_was l (Some p) k fs e = grind arith
+took_was l o k fs e = grind arith
 
 listing_counts : Counts listing
 listing_counts = record {
@@ -195,8 +193,7 @@ walked_run w last (e ∷ es) j s = go (step listing w e) refl (λ next a q. walk
   where
     go : (o : Option Listed) → step listing w e ≡ o → ((next : Listed) → step listing w e ≡ Some next → run listing next es ≡ Some last → Walked last)
         → and_then o (λ v. run listing v es) ≡ Some last → Walked last
-    go None a more q = absurd (cc)
-    go (Some next) a more q = more next a q
+    go o u q y = grind arith
 
 -- what a terminal composed, that worked apart from its host
 pub composed_turn : (entries : List TermLog) (g h : PlainHost) (u t : PlainTerminal) (composed handled left : List Tmesg) (taken below : List HFrame)

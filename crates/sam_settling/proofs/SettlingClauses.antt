@@ -1,5 +1,5 @@
 -- What the five ends of a session and the audits of its lines come to.
-use Rattle.std.proofs.Common.{◌≡◌, ◌⊎◌, inl, inr, refl, sym, ap, ◌∙◌, subst, ℕ, ◌+◌, ◌<◌, ◌≤◌, true, false, List, [], ◌∷◌, ◌++◌, length, map, take, Option, Some, None, Err, append_assoc, append-nil, arith}
+use Rattle.std.proofs.Common.{◌≡◌, ◌⊎◌, inl, inr, refl, sym, ap, ◌∙◌, subst, ℕ, ◌+◌, ◌<◌, ◌≤◌, true, false, List, [], ◌∷◌, ◌++◌, length, map, take, Option, Some, None, Err, append_assoc, append-nil, arith, rules}
 use Rattle.std.specs.Global.{Vec}
 use Rattle.std.specs.Prelude.{IsTrue}
 use Rattle.std.proofs.lemmas.Grind.{flat_map-append}
@@ -71,13 +71,7 @@ pub record Laws (given : List (List ℕ × List ℕ)) (entries : List TermLog) (
 
 bytes_joined : (taken left put : List (Vec ℕ)) (got rest to_send sent : List ℕ) → taken ++ left ≡ put → bytes_of taken ≡ got ++ rest → bytes_of put ++ to_send ≡ sent
     → sent ≡ got ++ (rest ++ (bytes_of left ++ to_send))
-bytes_joined taken left put got rest to_send sent items have say =
-    sym say
-    ∙ (ap (λ (l : List (Vec ℕ)). bytes_of l ++ to_send) (sym items)
-    ∙ (ap (λ l. l ++ to_send) (flat_map-append (λ (p : Vec ℕ). p.items) taken left)
-    ∙ (ap (λ l. (l ++ bytes_of left) ++ to_send) have
-    ∙ (append_assoc (got ++ rest) (bytes_of left) to_send
-    ∙ append_assoc got rest (bytes_of left ++ to_send)))))
+bytes_joined taken left put got rest to_send sent items have say = grind (arith, flat_map-append, append_assoc)
 
 given_of_files : (files : List (List ℕ × List ℕ)) → Each IsFile files → AreGiven files
 given_of_files [] a = tt
@@ -87,16 +81,10 @@ quiet_of : (w : PlainWorld) → w.term.unsent ≡ None → w.up ≡ [] → w.dow
 quiet_of w unsent up down = rw (unsent, up, down)
 
 pub stop_none : (o : Option Stop) → stop_of o ≡ [] → o ≡ None
-stop_none None e = refl
-stop_none (Some why) e = absurd (cc)
+stop_none o e = grind arith
 
 nothing_stopped : (a b c d e : Option Stop) → stop_of a ++ stop_of b ++ stop_of c ++ stop_of d ++ stop_of e ≡ [] → (a ≡ None) × (b ≡ None) × (c ≡ None) × (d ≡ None) × (e ≡ None)
-nothing_stopped a b c d e is =
-    let four = nothing_joined (stop_of a ++ stop_of b ++ stop_of c ++ stop_of d) (stop_of e) is in
-    let three = nothing_joined (stop_of a ++ stop_of b ++ stop_of c) (stop_of d) four.0 in
-    let two = nothing_joined (stop_of a ++ stop_of b) (stop_of c) three.0 in
-    let one = nothing_joined (stop_of a) (stop_of b) two.0 in
-    (stop_none a one.0, stop_none b one.1, stop_none c two.1, stop_none d three.1, stop_none e four.1)
+nothing_stopped a b c d e is = grind (arith, nothing_joined, stop_none)
 
 -- ## The stops of one worker
 
@@ -105,13 +93,7 @@ record IsFine (most : ℕ) (o : Option Stop) : Type 0 where
   gone : count_gone (stop_of o) ≤ most
 
 user_fine : (n all : ℕ) (o : Option Stop) → UserStopped n all o → IsFine 0 o
-user_fine n all None s = record { full = tt; gone = omega arith }
-user_fine n all (Some stop.Gate) s = record { full = (tt, tt); gone = omega arith }
-user_fine n all (Some (stop.Frame k)) s = absurd s
-user_fine n all (Some (stop.Host k)) s = absurd s
-user_fine n all (Some (stop.Term k)) s = absurd s
-user_fine n all (Some stop.PeerGone) s = absurd s
-user_fine n all (Some stop.Memory) s = absurd s
+user_fine n all o e = grind arith
 
 count_joined : (xs ys : List Stop) → count_gone (xs ++ ys) ≡ count_gone xs + count_gone ys
 count_joined [] ys = omega arith
@@ -225,18 +207,7 @@ module _ (keys clicks : List UserEvent) (lines : LinesView) (e : Ends) (told : T
   )
 
   pub apart : Apart e.host.files.items e.term.log.items e.host.host e.term.term composed handled answered passed frames
-  apart = record {
-    given_fit = given_of_files e.host.files.items (each_of_all IsFile e.host.files.items told.host.files.1);
-    host_runs = told.host.runs;
-    term_runs = told.term.runs;
-    composed_fit = told.term.fit;
-    answers_fit = told.host.answers_fit;
-    handled_fit = told.host.fit;
-    passed_fit = told.reader.fit;
-    up = (told.host.rest ++ (bytes_of up_parts.left ++ told.term.to_send), up_bytes);
-    down = (told.reader.rest ++ (bytes_of down_parts.left ++ told.host.to_send), down_bytes);
-    passing = record { rest = frames_in told.term.dropped ++ passing.0; is = passing.1 };
-  }
+  apart = grind (arith, given_of_files, each_of_all, up_bytes, down_bytes, passing)
 
   module _ (laws : Laws e.host.files.items e.term.log.items e.host.host e.term.term composed handled answered passed frames) where
     -- ## The schedule is a run
@@ -274,19 +245,7 @@ module _ (keys clicks : List UserEvent) (lines : LinesView) (e : Ends) (told : T
       pub has_streams : s.world.host ≡ e.host.host → s.world.term ≡ e.term.term → HasStreams e s
       has_streams host_is term_is =
           let later = frames_in told.term.dropped ++ passing.0 in
-          record {
-            composed = composed;
-            handled = handled;
-            answered = answered;
-            taken = frames;
-            host_ran = subst (λ h. HostRuns sides (new_host e.host.files.items) handled answered h) (sym host_is) told.host.runs;
-            terminal_ran = subst (λ t. TermRuns sides new_terminal e.term.log.items frames composed t) (sym term_is) told.term.runs;
-            upwards = laws.joined.upwards ∙ ap (λ (w : PlainWorld). handled ++ w.up) (sym world_is);
-            downwards = laws.joined.downwards ∙ ap (λ (w : PlainWorld). frames ++ w.down) (sym world_is);
-            put_up = record { rest = told.term.to_send; is = sym told.term.sent };
-            put_down = record { rest = told.host.to_send; is = sym told.host.sent };
-            passed = record { rest = map Host later; is = told.reader.put ∙ (ap (λ l. map Host l) passing.1 ∙ map-append Host frames later) };
-          }
+          grind (arith, world_is, (map-append Host frames later))
 
       pub has_users : HasUsers e s
       has_users =
@@ -308,7 +267,6 @@ module _ (keys clicks : List UserEvent) (lines : LinesView) (e : Ends) (told : T
     -- ## The stops
 
     host_fine : (o : Option Stop) → HostStopped e.host handled told.host.to_send told.host.rest o → IsFine 0 o
-    host_fine None s = record { full = tt; gone = omega arith }
     host_fine (Some (stop.Frame n)) s = record { full = (seven s, tt); gone = omega arith }
       where
         seven : ((n ≡ 7) × IsPastCount e.host.take.taken) ⊎ ShowsFault terminal handled told.host.rest n → n ≡ 7
@@ -327,13 +285,9 @@ module _ (keys clicks : List UserEvent) (lines : LinesView) (e : Ends) (told : T
         ∙ (ap (λ l. stream_of terminal handled ++ l) (append_assoc (frame_of terminal s.0) s.1 (bytes_of up_parts.left ++ told.term.to_send))
         ∙ sym (append_assoc (stream_of terminal handled) (frame_of terminal s.0) (s.1 ++ (bytes_of up_parts.left ++ told.term.to_send)))))) s.5 in
         record { full = (s.6 ∙ ap refusal_number why, tt); gone = omega arith }
-    host_fine (Some (stop.Term n)) s = absurd s
-    host_fine (Some stop.PeerGone) s = absurd s
-    host_fine (Some stop.Gate) s = record { full = (tt, tt); gone = omega arith }
-    host_fine (Some stop.Memory) s = record { full = (tt, tt); gone = omega arith }
+    host_fine o u = grind arith
 
     reader_fine : (o : Option Stop) → ReaderStopped e.reader passed told.reader.rest o → IsFine 0 o
-    reader_fine None s = record { full = tt; gone = omega arith }
     reader_fine (Some (stop.Frame n)) s = record { full = (seven s, tt); gone = omega arith }
       where
         seven : ((n ≡ 7) × IsPastCount e.reader.take.taken) ⊎ ShowsFault host passed told.reader.rest n → n ≡ 7
@@ -344,11 +298,7 @@ module _ (keys clicks : List UserEvent) (lines : LinesView) (e : Ends) (told : T
             ∙ (ap (λ l. stream_of host passed ++ (l ++ (bytes_of down_parts.left ++ told.host.to_send))) f.3
             ∙ (ap (λ l. stream_of host passed ++ l) (append_assoc f.0 f.1 (bytes_of down_parts.left ++ told.host.to_send))
             ∙ sym (append_assoc (stream_of host passed) f.0 (f.1 ++ (bytes_of down_parts.left ++ told.host.to_send)))))) f.4)
-    reader_fine (Some (stop.Host n)) s = absurd s
-    reader_fine (Some (stop.Term n)) s = absurd s
-    reader_fine (Some stop.PeerGone) s = absurd s
-    reader_fine (Some stop.Gate) s = record { full = (tt, tt); gone = omega arith }
-    reader_fine (Some stop.Memory) s = record { full = (tt, tt); gone = omega arith }
+    reader_fine o u = grind arith
 
     fits_there : (xs ys : List HFrame) (x : HFrame) → Each (FitsH 2) (xs ++ x ∷ ys) → FitsH 2 x
     fits_there [] ys x a = a.0
@@ -392,47 +342,13 @@ module _ (keys clicks : List UserEvent) (lines : LinesView) (e : Ends) (told : T
     term_fine (Some stop.Memory) s = (record { full = (tt, tt); gone = omega arith }, λ l. absurd (omega arith))
 
     pub are_full : (s : Settled) → s.stops.items ≡ stops_of e → s.world.term ≡ e.term.term → AreFull s
-    are_full s stops term =
-        let a = user_fine told.keyboard.many (length keys) e.keyboard.stop told.keyboard.stopped in
-        let b = user_fine told.mouse.many (length clicks) e.mouse.stop told.mouse.stopped in
-        let c = host_fine e.host.stop told.host.stopped in
-        let d = reader_fine e.reader.stop told.reader.stopped in
-        let f = term_fine e.term.stop told.term.stopped in
-        let os = stop_of e.keyboard.stop in
-        let bs = stop_of e.mouse.stop in
-        let cs = stop_of e.host.stop in
-        let ds = stop_of e.reader.stop in
-        let fs = stop_of e.term.stop in
-        let four = count_joined (os ++ bs ++ cs ++ ds) fs in
-        let three = count_joined (os ++ bs ++ cs) ds in
-        let two = count_joined (os ++ bs) cs in
-        let one = count_joined os bs in
-        let goneA = a.gone in
-        let goneB = b.gone in
-        let goneC = c.gone in
-        let goneD = d.gone in
-        let goneF = f.0.gone in
-        let all : count_gone s.stops.items ≡ count_gone fs = ap count_gone stops ∙ omega arith in
-        record {
-          full = subst (λ l. Each IsFull l) (sym stops)
-              (each_append IsFull (os ++ bs ++ cs ++ ds) fs
-              (each_append IsFull (os ++ bs ++ cs) ds (each_append IsFull (os ++ bs) cs (each_append IsFull os bs a.full b.full) c.full) d.full) f.0.full);
-          gone = omega arith;
-          early = λ l. ap (λ (t : PlainTerminal). t.has_exited) term ∙ f.1 (omega arith);
-        }
+    are_full s stops term = grind (arith, user_fine, host_fine, reader_fine, term_fine, count_joined, each_append)
 
     -- ## Where the sides were not stopped
 
     -- all that the host answered came through, where neither it nor its reader was stopped
     all_passed : e.host.stop ≡ None → e.reader.stop ≡ None → passed ≡ answered
-    all_passed host_went reader_went =
-        let h = subst (λ x. HostStopped e.host handled told.host.to_send told.host.rest x) host_went told.host.stopped in
-        let r = subst (λ x. ReaderStopped e.reader passed told.reader.rest x) reader_went told.reader.stopped in
-        laws.all_downwards told.reader.rest
-        (down_bytes
-        ∙ (ap (λ l. stream_of host passed ++ (told.reader.rest ++ (bytes_of l ++ told.host.to_send))) down_none
-        ∙ (ap (λ l. stream_of host passed ++ (told.reader.rest ++ l)) h.0
-        ∙ ap (λ l. stream_of host passed ++ l) (append-nil told.reader.rest)))) r
+    all_passed host_went reader_went = grind (arith, down_bytes, down_none, append-nil)
 
     none_under_way_down : frames ≡ passed → passed ≡ answered → last.down ≡ []
     none_under_way_down handled_all passed_all = sym (append_cancel_left frames [] last.down (append-nil frames ∙ (handled_all ∙ (passed_all ∙ laws.joined.downwards))))
@@ -466,9 +382,7 @@ module _ (keys clicks : List UserEvent) (lines : LinesView) (e : Ends) (told : T
     -- ## A session that nothing stopped
 
     term_went : stops_of e ≡ [] → TermStopped e.term told.term.handled told.term.dropped told.term.to_send None
-    term_went none =
-        let o = nothing_stopped e.keyboard.stop e.mouse.stop e.host.stop e.reader.stop e.term.stop none in
-        subst (λ x. TermStopped e.term told.term.handled told.term.dropped told.term.to_send x) o.4 told.term.stopped
+    term_went none = grind (arith, nothing_stopped)
 
     -- the terminal handled all that it took
     handled_all : stops_of e ≡ [] → told.term.handled ≡ e.term.take.taken
@@ -492,11 +406,7 @@ module _ (keys clicks : List UserEvent) (lines : LinesView) (e : Ends) (told : T
     -- the two sides are the world where the merged schedule leads
     pub sides_lead : stops_of e ≡ []
         → run_of (new_world e.host.files.items) (merged e.term.log.items e.host.host.taken) ≡ Some (record { host = e.host.host; term = e.term.term; up = []; down = [] })
-    sides_lead none =
-        let empty = none_under_way none in
-        let same : last ≡ record { host = e.host.host; term = e.term.term; up = []; down = [] } =
-        λ i. record { host = laws.joined.host_is i; term = laws.joined.term_is i; up = empty.0 i; down = empty.1 i } in
-        runs ∙ ap (λ (w : PlainWorld). Some w) same
+    sides_lead none = grind (arith, none_under_way, runs)
 
     pub sides_kept : stops_of e ≡ [] → IsSoundWorld (record { host = e.host.host; term = e.term.term; up = []; down = [] })
     sides_kept none = record {
@@ -508,19 +418,4 @@ module _ (keys clicks : List UserEvent) (lines : LinesView) (e : Ends) (told : T
     pub is_whole : (s : Settled) → s.schedule.items ≡ merged e.term.log.items e.host.host.taken
         → run_of (new_world e.host.files.items) (merged e.term.log.items e.host.host.taken) ≡ Some s.world → s.world.term ≡ e.term.term
         → s.stops.items ≡ stops_of e → s.stops.items ≡ [] → IsWhole e s
-    is_whole s schedule ran term stops none =
-        let unstopped : stops_of e ≡ [] = sym stops ∙ none in
-        let t = term_went unstopped in
-        let all_handled = handled_all unstopped in
-        let empty = none_under_way unstopped in
-        let same = same_Some s.world last (sym ran ∙ runs) in
-        record {
-          events = (
-            told.term.own,
-            ap users schedule ∙ (laws.joined.users_are ∙ (told.term.users ∙ ap (λ l. users_in l ++ told.term.own) all_handled)),
-            subst (λ l. IsOwnExit told.term.own l) all_handled told.term.exits,
-          );
-          exited = ap (λ (x : PlainTerminal). x.has_exited) term ∙ t.2;
-          held = ap (λ (x : PlainTerminal). x.held) term ∙ t.3;
-          quiet = ap is_quiet same ∙ quiet_of last (ap (λ (x : PlainTerminal). x.unsent) laws.joined.term_is ∙ t.4) empty.0 empty.1;
-        }
+    is_whole s schedule ran term stops none = grind (arith, term_went, handled_all, none_under_way, same_Some, runs, quiet_of)

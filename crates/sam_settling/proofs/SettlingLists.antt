@@ -1,5 +1,5 @@
 -- What an audited line says of its posts, and what the line of events carries.
-use Rattle.std.proofs.Common.{◌≡◌, ◌≢◌, ℕ, zero, suc, ◌+◌, ◌^◌, ◌<◌, ◌≤◌, ◌==◌, true, false, eqb, eqb-true, List, [], ◌∷◌, ◌++◌, length, map, filter_map, Option, Some, None, slice_get, Vec, refl, sym, ap, ◌∙◌, subst, ⊎_elim, append-nil, append_assoc, arith, length-append}
+use Rattle.std.proofs.Common.{◌≡◌, ◌≢◌, ℕ, zero, suc, ◌+◌, ◌^◌, ◌<◌, ◌≤◌, ◌==◌, true, false, eqb, eqb-true, List, [], ◌∷◌, ◌++◌, length, map, filter_map, Option, Some, None, slice_get, Vec, refl, sym, ap, ◌∙◌, subst, ⊎_elim, append-nil, append_assoc, arith, length-append, rules}
 use Rattle.std.specs.Global.{Global}
 use Rattle.std.specs.List.{sum_by}
 use Rattle.std.proofs.lemmas.Bool.Decides.{eqb_tells}
@@ -41,13 +41,12 @@ pushed_three {A} none one two three a b c start first second third = grind arith
 -- the parts of what was mapped were mapped
 pub split_map : {A B : Type 0} (f : A → B) (xs ys : List B) (zs : List A) → xs ++ ys ≡ map f zs
     → (os : List A) × (bs : List A) × (xs ≡ map f os) × (ys ≡ map f bs) × (zs ≡ os ++ bs)
-split_map f [] ys zs e = ([], zs, refl, e, refl)
-split_map f (x ∷ xs) ys [] e = absurd (cc)
 split_map f (x ∷ xs) ys (z ∷ zs) e =
     let head : x ≡ f z = cc in
     let tail : xs ++ ys ≡ map f zs = cc in
     let r = split_map f xs ys zs tail in
     (z ∷ r.0, r.1, (λ i. head i ∷ r.2 i), r.3, ap (λ l. z ∷ l) r.4)
+split_map f xs ys zs e = grind arith
 
 pub same_sums : {A B : Type 0} (f : A → ℕ) (g : B → ℕ) (xs : List A) (ys : List B) → length xs ≡ length ys
     → ((k : ℕ) (x : A) (y : B) → slice_get xs k ≡ Some x → slice_get ys k ≡ Some y → f x ≡ g y) → sum_by f xs ≡ sum_by g ys
@@ -98,30 +97,17 @@ module _ {T : Type 0} where
       ap (λ l. filter_map (λ x. x) l) all ∙ items_said p.put p.closed
 
   none_left : (k : ℕ) (t : TakeView T) (p : PostView T) → p.number ≡ k → items_of k t.taken ≡ p.put → left_of t p ≡ 0
-  none_left k t p number all =
-      let long = ap length all in
-      let same = ap (λ n. length (items_of n t.taken)) number in
-      omega arith
+  none_left k t p number all = grind arith
 
   pub none_left_of_one : (t : TakeView T) (p : PostView T) → p.number ≡ 0 → items_of 0 t.taken ≡ p.put → left_in t (p ∷ []) ≡ 0
   none_left_of_one t p number all = omega (arith, sum_by-cons (left_of t) p [], none_left 0 t p number all)
 
   pub none_left_of_three : (t : TakeView T) (a b c : PostView T) → (a.number ≡ 0) × (items_of 0 t.taken ≡ a.put) → (b.number ≡ 1) × (items_of 1 t.taken ≡ b.put)
       → (c.number ≡ 2) × (items_of 2 t.taken ≡ c.put) → left_in t (a ∷ b ∷ c ∷ []) ≡ 0
-  none_left_of_three t a b c first second third =
-      omega (
-        arith,
-        sum_by-cons (left_of t) a (b ∷ c ∷ []),
-        sum_by-cons (left_of t) b (c ∷ []),
-        sum_by-cons (left_of t) c [],
-        none_left 0 t a first.0 first.1,
-        none_left 1 t b second.0 second.1,
-        none_left 2 t c third.0 third.1,
-      )
+  none_left_of_three t a b c first second third = grind (arith, sum_by-cons, none_left)
 
   pub senders_within : (t : TakeView T) (posts : List (PostView T)) → Gives t posts → Each (λ e. e.sender < t.line.senders) t.taken
-  senders_within t posts g =
-      each_front (λ (e : Entry T). e.sender < t.line.senders) t.taken g.1.rest (each_of_all (λ (e : Entry T). e.sender < t.line.senders) (t.taken ++ g.1.rest) g.1.within)
+  senders_within t posts g = grind (arith, each_front, each_of_all)
 
   -- ## How many are left
 
@@ -139,8 +125,7 @@ module _ {T : Type 0} where
   items_mine i e xs is = ap (λ l. filter_map (λ x. x) l) (loads_mine i e xs is) ∙ go e.load
     where
       go : (o : Option T) → filter_map (λ x. x) (o ∷ loads i xs) ≡ loaded o ++ items_of i xs
-      go None = refl
-      go (Some x) = refl
+      go o = grind arith
 
   pub items_other : (i : ℕ) (e : Entry T) (xs : List (Entry T)) → e.sender ≢ i → items_of i (e ∷ xs) ≡ items_of i xs
   items_other i e xs ne = ap (λ l. filter_map (λ x. x) l) (loads_other i e xs ne)
@@ -153,31 +138,15 @@ module _ {T : Type 0} where
   sum_before : (j n : ℕ) (e : Entry T) (r : List (Entry T)) → e.sender < j → sum_from j n (e ∷ r) ≡ sum_from j n r
   unfolding sum_from
   sum_before j zero e r less = refl
-  sum_before j (suc n) e r less =
-      let first = ap length (items_other j e r (λ h. omega arith)) in
-      let more = sum_before (suc j) n e r (omega arith) in
-      omega arith
+  sum_before j (suc n) e r less = grind (arith, items_other, (sum_before (suc j) n e r (omega arith)))
 
   loaded_few : (o : Option T) → length (loaded o) ≤ 1
-  loaded_few None = omega arith
-  loaded_few (Some x) = omega arith
+  loaded_few o = grind arith
 
   sum_one_more : (j n : ℕ) (e : Entry T) (r : List (Entry T)) → sum_from j n (e ∷ r) ≤ 1 + sum_from j n r
   unfolding sum_from
   sum_one_more j zero e r = omega arith
-  sum_one_more j (suc n) e r = ⊎_elim
-      (λ (t : (eqb e.sender j ≡ true) × (e.sender ≡ j)).
-      let is = t.1 in
-      let first = ap length (items_mine j e r is) in
-      let joined = length-append (loaded e.load) (items_of j r) in
-      let few = loaded_few e.load in
-      let more = sum_before (suc j) n e r (omega arith) in
-      omega arith)
-      (λ (t : (eqb e.sender j ≡ false) × (e.sender ≢ j)).
-      let first = ap length (items_other j e r t.1) in
-      let more = sum_one_more (suc j) n e r in
-      omega arith)
-      (eqb_tells e.sender j)
+  sum_one_more j (suc n) e r = grind (arith, items_mine, length-append, loaded_few, sum_before, items_other, eqb_tells, (sum_one_more (suc j) n e r))
 
   sum_few : (j n : ℕ) (r : List (Entry T)) → sum_from j n r ≤ length r
   unfolding sum_from
@@ -208,26 +177,20 @@ module _ {T : Type 0} where
   one_post line p many here first = record { many = sym many; each = go }
     where
       go : (k : ℕ) (q : PostView T) → slice_get (p ∷ []) k ≡ Some q → (q.line ≡ line) × (q.number ≡ k)
-      go zero q e = let same : p ≡ q = cc in subst (λ (x : PostView T). (x.line ≡ line) × (x.number ≡ 0)) same (here, first)
-      go (suc k) q e = absurd (cc)
+      go k q e = grind arith
 
   pub three_posts : (line : LineView) (a b c : PostView T) → line.senders ≡ 3 → (a.line ≡ line) × (a.number ≡ 0) → (b.line ≡ line) × (b.number ≡ 1) → (c.line ≡ line) × (c.number ≡ 2)
       → ArePostsOf line (a ∷ b ∷ c ∷ [])
   three_posts line a b c many first second third = record { many = sym many; each = go }
     where
       go : (k : ℕ) (q : PostView T) → slice_get (a ∷ b ∷ c ∷ []) k ≡ Some q → (q.line ≡ line) × (q.number ≡ k)
-      go zero q e = let same : a ≡ q = cc in subst (λ (x : PostView T). (x.line ≡ line) × (x.number ≡ 0)) same first
-      go (suc zero) q e = let same : b ≡ q = cc in subst (λ (x : PostView T). (x.line ≡ line) × (x.number ≡ 1)) same second
-      go (suc (suc zero)) q e = let same : c ≡ q = cc in subst (λ (x : PostView T). (x.line ≡ line) × (x.number ≡ 2)) same third
-      go (suc (suc (suc k))) q e = absurd (cc)
+      go k q e = grind arith
 
 -- ## The line of events
 
 loaded_user : (o : Option Input) (os : List UserEvent) → loaded o ≡ map User os → frame_of_load o ≡ []
-loaded_user None os e = refl
-loaded_user (Some (User event)) os e = refl
-loaded_user (Some (Host frame)) [] e = absurd (cc)
 loaded_user (Some (Host frame)) (a ∷ os) e = let h : Host frame ≡ User a = cc in absurd (cc)
+loaded_user o os e = grind arith
 
 loaded_frame : (o : Option Input) (os : List HFrame) → loaded o ≡ map Host os → frame_of_load o ≡ os
 loaded_frame None [] e = refl
@@ -257,17 +220,12 @@ module _ {T : Type 0} where
   -- ## What an audit of these posts says
 
   pub audited_line : (t : TakeView T) (posts real : List (PostView T)) (left : List (Vec T Global)) → real ≡ posts → AllAccounted t.taken real left → HasHistory t real left → Gives t posts
-  audited_line t posts real left same all history =
-      (left, subst (λ (l : List (PostView T)). HasHistory t l left) same history, subst (λ (l : List (PostView T)). AllAccounted t.taken l left) same all)
+  audited_line t posts real left same all history = grind arith
 
   pub audited_few : (t : TakeView T) (real : List (PostView T)) (left shown : List (Vec T Global)) → HasHistory t real left → shown ≡ left → t.line.capacity < 2 ^ 64
       → sum_by (λ v. length v.items) shown < 2 ^ 64
-  audited_few t real left shown history same bound =
-      let few = left_few t real left history in
-      let sums = ap (λ (l : List (Vec T Global)). sum_by (λ v. length v.items) l) same in
-      omega arith
+  audited_few t real left shown history same bound = grind (arith, (left_few t real left history))
 
   pub audited_count : (t : TakeView T) (posts real : List (PostView T)) (left shown : List (Vec T Global)) (n : ℕ) → real ≡ posts → AllAccounted t.taken real left → shown ≡ left
       → n ≡ sum_by (λ v. length v.items) shown → n ≡ left_in t posts
-  audited_count t posts real left shown n same all list counted =
-      counted ∙ (ap (λ (l : List (Vec T Global)). sum_by (λ v. length v.items) l) list ∙ (counted_left t real left all ∙ ap (λ (l : List (PostView T)). left_in t l) same))
+  audited_count t posts real left shown n same all list counted = grind (arith, counted_left)

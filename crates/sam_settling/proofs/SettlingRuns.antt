@@ -1,5 +1,5 @@
 -- Runs of the plain world that stop.
-use Rattle.std.proofs.Common.{◌≡◌, refl, sym, ap, ◌∙◌, ℕ, zero, suc, true, List, [], ◌∷◌, take, slice_get, Option, Some, None, arith}
+use Rattle.std.proofs.Common.{◌≡◌, refl, sym, ap, ◌∙◌, ℕ, zero, suc, true, List, [], ◌∷◌, take, slice_get, Option, Some, None, arith, rules}
 use Rattle.std.specs.Prelude.{option_and_then}
 use Rattle.std.proofs.lemmas.Option.{slice_get_cases}
 use Rattle.sam_runes.specs.Texts.{is_empty}
@@ -15,32 +15,22 @@ use Rattle.sam_world.specs.declared.event.StepFault.TheVariants.{NothingThere, O
 use Rattle.sam_world.proofs.Stopping.{passing_stops}
 
 host_empty : (w : PlainWorld) (up : List Tmesg) → is_empty up ≡ true → host_takes w up ≡ None
-host_empty w [] e = refl
-host_empty w (m ∷ ms) e = absurd (cc)
+host_empty w up e = grind arith
 
 term_empty : (w : PlainWorld) (down : List HFrame) → is_empty down ≡ true → term_takes w down ≡ None
-term_empty w [] e = refl
-term_empty w (frame ∷ frames) e = absurd (cc)
+term_empty w down e = grind arith
 
 -- a fault other than want of memory is of an event that is no step
 no_step : (w : PlainWorld) (e : Event) (why : StepFault) → IsFaultOf w e why → (why ≡ OutOfMemory → ⊥) → step_of w e ≡ None
-no_step w e OutOfMemory f ne = absurd (ne refl)
-no_step w (User u) NothingThere f ne = absurd (cc)
-no_step w Act NothingThere f ne = absurd (cc)
-no_step w Flush NothingThere f ne = absurd (cc)
-no_step w HostTake NothingThere f ne = host_empty w w.up f
-no_step w TermTake NothingThere f ne = term_empty w w.down f
-no_step w e CountFull f ne = passing_stops w e f
+no_step w e why u q = grind (arith, host_empty, term_empty, passing_stops)
 
 no_run : (w v : PlainWorld) (es : List Event) (at : ℕ) (e : Event) → slice_get es at ≡ Some e → run_of w (take at es) ≡ Some v → step_of v e ≡ None → run_of w es ≡ None
-no_run w v [] at e is r s = absurd (cc)
-no_run w v (d ∷ es) zero e is r s = grind arith
 no_run w v (d ∷ es) (suc at) e is r s = go (step_of w d) (λ n q. no_run n v es at e is q s) r
   where
     go : (o : Option PlainWorld) → ((n : PlainWorld) → run_of n (take at es) ≡ Some v → run_of n es ≡ None) → option_and_then (λ next. run_of next (take at es)) o ≡ Some v
         → option_and_then (λ next. run_of next es) o ≡ None
-    go None more q = refl
-    go (Some n) more q = more n q
+    go o e u = grind arith
+no_run w v es at e u q y = grind arith
 
 stopped_run : (w v : PlainWorld) (es : List Event) (stop : RunStop) → IsStoppedAt w es stop v → (stop.fault ≡ OutOfMemory → ⊥) → run_of w es ≡ None
 stopped_run w v es stop s ne = grind (arith, slice_get_cases, no_run, no_step)

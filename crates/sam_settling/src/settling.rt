@@ -173,6 +173,7 @@ fn replay_of(
 }
 
 /// Returns the world where the events lead from the first world of the files, or `None` if they are no run.
+#[tactic(auto, using(crate::proofs::SettlingRuns::stopped_first))]
 fn world_after(
     alloc: Global,
     files: &[(Runes, Runes)],

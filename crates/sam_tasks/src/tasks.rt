@@ -278,6 +278,7 @@ fn split_in_three<'q, T>(
 }
 
 /// Copies the names and texts of a script's files, and makes the host that begins with them.
+#[tactic(auto, using(sam_world::proofs::GivenLaws::given_many))]
 fn first_host(alloc: Global, script: &Script) -> Result<(Vec<(Runes, Runes)>, Host), AllocError>
     ensures files { IfOk result (λ r. r.0.items ≡ script.now.files) }
     ensures host { IfOk result (λ r. r.1 ≡ new_host script.now.files) }

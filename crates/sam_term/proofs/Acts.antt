@@ -1,5 +1,5 @@
 -- The oldest event that is held, and what nothing stands against.
-use Rattle.std.proofs.Common.{◌≡◌, refl, sym, ap, ◌∙◌, ℕ, zero, suc, Bool, true, false, List, [], ◌∷◌, drop, Option, Some, None, Ok, arith}
+use Rattle.std.proofs.Common.{◌≡◌, refl, sym, ap, ◌∙◌, ℕ, zero, suc, Bool, true, false, List, [], ◌∷◌, drop, Option, Some, None, Ok, arith, rules}
 use Rattle.std.specs.Prelude.{slice_get, not}
 use Rattle.sam_runes.specs.Checks.{Checks, first_of_checks}
 use Rattle.sam_term.specs.Term.{PlainTerminal, act_of, act_on, decided, event_checks, event_outcome, is_open, sends, unchanged}
@@ -15,13 +15,11 @@ use Rattle.sam_term.specs.declared.event.UserEvent.TheVariants.{Typed, Select, C
 use Rattle.sam_mesg.specs.declared.tmesg.Tmesg.{Tmesg}
 
 first-read : (es : List UserEvent) (e : UserEvent) → slice_get es 0 ≡ Some e → es ≡ e ∷ drop 1 es
-first-read [] e s = absurd (cc)
-first-read (x ∷ es) e s = let same : x ≡ e = (cc) in ap (λ y. y ∷ es) same
+first-read es e u = grind arith
 
 -- the oldest event, as it is read
 pub first_is : (es : List UserEvent) (e : UserEvent) → slice_get es 0 ≡ Some e → first_event es ≡ e
-first_is [] e s = absurd (cc)
-first_is (x ∷ es) e s = (cc)
+first_is es e u = grind arith
 
 -- acting, by what stands against the oldest event
 pub act_first : (t : PlainTerminal) (e : UserEvent) → slice_get t.held 0 ≡ Some e → act_of t ≡ decided (first_of_checks (event_checks t e)) t (drop 1 t.held)
@@ -34,8 +32,7 @@ unfolding act_of
 act_none t s = grind arith
 
 rest : {E : Type 0} (b : Bool) (x : E) (cs : Checks E) → first_of_checks ((b, x) ∷ cs) ≡ None → (b ≡ false) × (first_of_checks cs ≡ None)
-rest true x cs e = absurd (cc)
-rest false x cs e = (refl, e)
+rest b x cs e = grind arith
 
 -- the test at a place of the list
 unfoldable pub test_at : {E : Type 0} → Checks E → ℕ → Bool
@@ -45,9 +42,8 @@ test_at (c ∷ cs) (suc k) = test_at cs k
 
 pub none_holds : {E : Type 0} (cs : Checks E) (k : ℕ) → first_of_checks cs ≡ None → test_at cs k ≡ false
 unfolding test_at
-none_holds [] k e = refl
-none_holds (c ∷ cs) zero e = (rest c.0 c.1 cs e).0
 none_holds (c ∷ cs) (suc k) e = none_holds cs k (rest c.0 c.1 cs e).1
+none_holds cs k e = grind (arith, rest)
 
 pub act_refused : (t : PlainTerminal) (e : UserEvent) (v : Verdict) → slice_get t.held 0 ≡ Some e → first_of_checks (event_checks t e) ≡ Some v → act_of t ≡ Ok (not_done v t)
 act_refused t e v s n = grind (arith, (act_first t e s))
@@ -73,8 +69,7 @@ unfolding free_first
 passes t e k n s = none_holds (event_checks t e) k (ap (λ x. first_of_checks (event_checks t x)) (sym s) ∙ n)
 
 opened : (b : Bool) → (not b) ≡ false → b ≡ true
-opened true e = refl
-opened false e = absurd (cc)
+opened b e = grind arith
 
 -- an event that needs its file open has it open
 pub opened_by : (t : PlainTerminal) (e : UserEvent) (f : ℕ) → free_first t ≡ None → first_event t.held ≡ e → needs_open e ≡ true → file_of e ≡ Some f → is_open t f ≡ true
@@ -87,8 +82,7 @@ can_lock t None = true
 can_lock t (Some m) = is_lockable t (lock_of m)
 
 lockable : (t : PlainTerminal) (e : UserEvent) → free_first t ≡ None → first_event t.held ≡ e → can_lock t (message_of t.files e) ≡ true
-lockable t (Typed f s) n h = refl
-lockable t _ n h = search opened_by
+lockable t e u w = grind (arith, opened_by)
 
 -- the message of the oldest event may take its lock
 pub lockable_first : (t : PlainTerminal) (m : Tmesg) → free_first t ≡ None → Sends m ≡ deed_of t (first_event t.held) → is_lockable t (lock_of m) ≡ true
@@ -102,36 +96,28 @@ made_sends t m s = grind arith
 -- ## The event by what it does
 
 pub types : (t : PlainTerminal) (e : UserEvent) → Types ≡ deed_of t e → is_typing e ≡ true
-types t (Typed f s) h = refl
-types t _ h = absurd (cc)
+types t e u = grind arith
 
 pub selects : (t : PlainTerminal) (e : UserEvent) (f p q : ℕ) → Selects f p q ≡ deed_of t e → e ≡ Select f p q
-selects t (Select f' p' q') f p q s = (cc)
-selects t _ f p q s = absurd (cc)
+selects t e f p q u = grind arith
 
 pub cuts : (t : PlainTerminal) (e : UserEvent) (f : ℕ) → Cuts f ≡ deed_of t e → e ≡ Cut f
-cuts t (Cut f') f s = (cc)
-cuts t _ f s = absurd (cc)
+cuts t e f u = grind arith
 
 pub pastes : (t : PlainTerminal) (e : UserEvent) (f : ℕ) → Pastes f ≡ deed_of t e → e ≡ Paste f
-pastes t (Paste f') f s = (cc)
-pastes t _ f s = absurd (cc)
+pastes t e f u = grind arith
 
 pub snarfs : (t : PlainTerminal) (e : UserEvent) (f : ℕ) → Snarfs f ≡ deed_of t e → e ≡ Snarf f
-snarfs t (Snarf f') f s = (cc)
-snarfs t _ f s = absurd (cc)
+snarfs t e f u = grind arith
 
 pub views : (t : PlainTerminal) (e : UserEvent) (f p n : ℕ) → Views f p n ≡ deed_of t e → e ≡ View f p n
-views t (View f' p' n') f p n s = (cc)
-views t _ f p n s = absurd (cc)
+views t e f p n u = grind arith
 
 pub sets_snarf : (t : PlainTerminal) (e : UserEvent) → SetsSnarf ≡ deed_of t e → is_snarfing e ≡ true
-sets_snarf t (SetSnarf s) h = refl
-sets_snarf t _ h = absurd (cc)
+sets_snarf t e u = grind arith
 
 pub flushes : (t : PlainTerminal) (e : UserEvent) → Flushes ≡ deed_of t e → e ≡ Flush
-flushes t Flush s = (cc)
-flushes t _ s = absurd (cc)
+flushes t e u = grind arith
 
 -- what is done with the oldest event
 pub ruleset acts_on_first = (free, first_is, act_none, act_refused, act_done)

@@ -1,5 +1,5 @@
 -- Composing by the lock that a message takes, and what its steps leave.
-use Rattle.std.proofs.Common.{◌≡◌, refl, ap, ◌∙◌, ℕ, ◌+◌, Bool, true, false, [], ◌∷◌, length, Some, None, arith}
+use Rattle.std.proofs.Common.{◌≡◌, refl, ap, ◌∙◌, ℕ, ◌+◌, Bool, true, false, [], ◌∷◌, length, Some, None, arith, rules}
 use Rattle.std.specs.Prelude.{◌||◌}
 use Rattle.sam_term.specs.Events.{lock_of}
 use Rattle.sam_term.specs.declared.lock.Lock.{Lock}
@@ -14,8 +14,7 @@ use Rattle.sam_mesg.specs.declared.tmesg.Tmesg.{Tmesg}
 use Rattle.sam_mesg.specs.declared.tmesg.Tmesg.TheVariants.{Trequest, Ttype}
 
 or-false : (b : Bool) → b ≡ (b || false)
-or-false true = refl
-or-false false = refl
+or-false b = grind arith
 
 -- a window that is put twice
 pub put-put : (t : PlainTerminal) (f : ℕ) (w v : Window) → put_window (put_window t f w) f v ≡ put_window t f v
@@ -26,8 +25,7 @@ window-put_same t f w = grind (arith, slot-put_same)
 
 -- composing counts, and adds the lock
 pub composed_by : (t : PlainTerminal) (m : Tmesg) → composed t m ≡ lock_added (lock_of m) (is_request m) t
-composed_by t (Trequest f p n) = grind (arith, window-put_same, put-put)
-composed_by t m = grind arith
+composed_by t m = grind (arith, window-put_same, put-put)
 
 -- ## Flushing
 
@@ -45,9 +43,7 @@ unfolding flushed
 flushed-files t = grind arith
 
 pub lockable-files : (t u : PlainTerminal) (l : Lock) → u.files ≡ t.files → is_lockable u l ≡ is_lockable t l
-lockable-files t u NoLock e = refl
-lockable-files t u CommandLock e = refl
-lockable-files t u (FileLock f) e = ap (λ ss. is_lockable (record t { files = ss }) (FileLock f)) e
+lockable-files t u l e = grind arith
 
 pub flushed-sent : (t : PlainTerminal) → (flushed t).0.sent ≡ t.sent + length (unsent_message t.unsent)
 unfolding flushed

@@ -1,5 +1,5 @@
 -- What the events do that change a rasp, a dot or a view, or send runes.
-use Rattle.std.proofs.Common.{◌≡◌, refl, sym, ap, ◌∙◌, subst, ℕ, zero, suc, ◌≤◌, ◌<◌, ◌+◌, Bool, true, false, List, [], ◌∷◌, ◌++◌, length, drop, Some, None, Ok, Err, if◌then◌else◌, ◌==◌, ◌≢◌, nat_eq, arith}
+use Rattle.std.proofs.Common.{◌≡◌, refl, sym, ap, ◌∙◌, subst, ℕ, zero, suc, ◌≤◌, ◌<◌, ◌+◌, Bool, true, false, List, [], ◌∷◌, ◌++◌, length, drop, Some, None, Ok, Err, if◌then◌else◌, ◌==◌, ◌≢◌, nat_eq, arith, rules}
 use Rattle.std.specs.Prelude.{◌||◌, nat_lt, Result, IsOk}
 use Rattle.sam_runes.specs.Checks.{Checks, first_of_checks}
 use Rattle.sam_runes.specs.Texts.{most_count}
@@ -48,8 +48,7 @@ fits_count t e made first by l = subst IsOk (sym (ap done (made_of t e first ∙
 -- ## What stands against the oldest event
 
 first-stands : {E : Type 0} (b : Bool) (x : E) (cs : Checks E) → first_of_checks ((b, x) ∷ cs) ≡ None → (b ≡ false) × (first_of_checks cs ≡ None)
-first-stands true x cs e = absurd (cc)
-first-stands false x cs e = (refl, e)
+first-stands b x cs e = grind arith
 
 -- whether the k-th check stands against it
 unfoldable pub check_at : {E : Type 0} → Checks E → ℕ → Bool
@@ -59,9 +58,8 @@ check_at (c ∷ cs) (suc k) = check_at cs k
 
 none-stands : {E : Type 0} (cs : Checks E) (k : ℕ) → first_of_checks cs ≡ None → check_at cs k ≡ false
 unfolding check_at
-none-stands [] k e = refl
-none-stands (c ∷ cs) zero e = (first-stands c.0 c.1 cs e).0
 none-stands (c ∷ cs) (suc k) e = none-stands cs k (first-stands c.0 c.1 cs e).1
+none-stands cs k e = grind (arith, first-stands)
 
 passed : (t : PlainTerminal) (e : UserEvent) (k : ℕ) → free_first t ≡ None → first_event t.held ≡ e → check_at (event_checks t e) k ≡ false
 unfolding free_first
@@ -73,8 +71,7 @@ unfolding check_at
 good_place t e n s = passed t e 7 n s
 
 neither : (a b : Bool) → (a || b) ≡ false → (a ≡ false) × (b ≡ false)
-neither true b e = absurd (cc)
-neither false b e = (refl, e)
+neither a b e = grind arith
 
 pub selects_within : (t : PlainTerminal) (f p q : ℕ) → free_first t ≡ None → first_event t.held ≡ Select f p q → (p ≤ q) × (q ≤ length (window_at t f).rasp)
 selects_within t f p q n s = grind (arith, (neither (nat_lt q p) (nat_lt (length (window_at t f).rasp) q) (good_place t (Select f p q) n s)))
@@ -82,13 +79,10 @@ selects_within t f p q n s = grind (arith, (neither (nat_lt q p) (nat_lt (length
 -- ## What is composed takes no note of the held events
 
 held-lock : (l : Lock) (t : PlainTerminal) (es : List UserEvent) → lock_taken l (record t { held = es }) ≡ record (lock_taken l t) { held = es }
-held-lock NoLock t es = refl
-held-lock CommandLock t es = refl
-held-lock (FileLock f) t es = refl
+held-lock l t es = grind arith
 
 held-asked : (m : Tmesg) (t : PlainTerminal) (es : List UserEvent) → asked m (record t { held = es }) ≡ record (asked m t) { held = es }
-held-asked (Trequest f p n) t es = refl
-held-asked _ t es = refl
+held-asked m t es = grind arith
 
 pub held-composed : (t : PlainTerminal) (m : Tmesg) (es : List UserEvent) → composed (record t { held = es }) m ≡ record (composed t m) { held = es }
 held-composed t m es = grind arith
@@ -120,8 +114,7 @@ sends-held t m = ap (λ (made : Made). made.0.held) (held-sends t m t.held)
 -- what was made and could be counted, of an event that is dropped afterwards
 counted : (b : Bool) (t : PlainTerminal) (made : Made) (u v : PlainTerminal) (ms : List Tmesg) → made.0.held ≡ t.held → the_countable b made ≡ Ok (u, ms)
     → v ≡ record u { held = drop 1 u.held } → the_done b (record made.0 { held = drop 1 t.held }, made.1) ≡ Ok (v, Done ms)
-counted true t made u v ms h e d = absurd (cc)
-counted false t made u v ms h e d = grind arith
+counted b t made u v ms e w q = grind arith
 
 pub done_later : (t : PlainTerminal) (made : Made) (u v : PlainTerminal) (ms : List Tmesg) → made.0.held ≡ t.held → countable made ≡ Ok (u, ms)
     → v ≡ record u { held = drop 1 u.held } → done (record made.0 { held = drop 1 t.held }, made.1) ≡ Ok (v, Done ms)
@@ -130,8 +123,7 @@ done_later t made u v ms h e d = counted (nat_lt most_count made.0.sent) t made 
 
 pub quiet_answer : (t x u : PlainTerminal) (e : UserEvent) (a : Acted) → first_event t.held ≡ e → event_outcome (later t) e ≡ (x, []) → u ≡ x → a ≡ Done []
     → u.sent ≤ most_count → done (made_first t) ≡ Ok (u, a)
-quiet_answer t x u e a first by b d l =
-    answers t u e (x, []) [] first by b refl l ∙ ap {B = Result (PlainTerminal × Acted) TermFault} (λ y. Ok (u, y)) (sym d)
+quiet_answer t x u e a first by b d l = grind (arith, answers)
 
 -- a fault of a call that composes is a fault of its event
 pub failed_later : (made : Made) (why : TermFault) (es : List UserEvent) → IsFailure (countable made) why → IsFailure (done (record made.0 { held = es }, made.1)) why
@@ -172,13 +164,10 @@ cut_made t f d = (composed (cut_rasp (flushed t).0 f d.0 d.1) (Tcut f d.0 d.1), 
 -- ## No runes are unsent behind a flush
 
 unsent-lock : (l : Lock) (t : PlainTerminal) → (lock_taken l t).unsent ≡ t.unsent
-unsent-lock NoLock t = refl
-unsent-lock CommandLock t = refl
-unsent-lock (FileLock f) t = refl
+unsent-lock l t = grind arith
 
 unsent-asked : (m : Tmesg) (t : PlainTerminal) → (asked m t).unsent ≡ t.unsent
-unsent-asked (Trequest f p n) t = refl
-unsent-asked _ t = refl
+unsent-asked m t = grind arith
 
 unsent-composed : (t : PlainTerminal) (m : Tmesg) → (composed t m).unsent ≡ t.unsent
 unsent-composed t m = grind arith
@@ -226,8 +215,7 @@ refused_by t e made ms why count first by m n h = grind (arith, (made-sent (late
 
 pub loud_answer : (t u : PlainTerminal) (e : UserEvent) (made : Made) (a : Acted) (ms : List Tmesg) → first_event t.held ≡ e → event_outcome (later t) e ≡ made
     → u ≡ made.0 → a ≡ Done ms → ms ≡ made.1 → u.sent ≤ most_count → done (made_first t) ≡ Ok (u, a)
-loud_answer t u e made a ms first by b d m l =
-    answers t u e made ms first by b m l ∙ ap {B = Result (PlainTerminal × Acted) TermFault} (λ y. Ok (u, y)) (sym d)
+loud_answer t u e made a ms first by b d m l = grind (arith, (answers t u e made ms first by b m l))
 
 -- messages composed behind those of a flush
 pub one_more : (m0 m1 m2 fl : List Tmesg) (a : Tmesg) → m0 ≡ [] → m1 ≡ m0 ++ fl → m2 ≡ m1 ++ a ∷ [] → m2 ≡ fl ++ a ∷ []
@@ -268,5 +256,4 @@ refused_snarf t why count i n h = go (first_event t.held) refl i
     go _ f i = absurd (cc)
 
 pub or_right : (x a : Bool) → a ≡ true → (x || a) ≡ true
-or_right true a e = refl
-or_right false a e = e
+or_right x a e = grind arith

@@ -1,5 +1,5 @@
 -- A terminal stays sound as files are opened, closed, named and dropped.
-use Rattle.std.proofs.Common.{◌≡◌, refl, subst, ℕ, zero, suc, ◌≤◌, true, false, [], ◌∷◌, length, Some, None, is_some, ◌⊎◌, ◌≢◌, arith}
+use Rattle.std.proofs.Common.{◌≡◌, refl, subst, ℕ, zero, suc, ◌≤◌, true, false, [], ◌∷◌, length, Some, None, is_some, ◌⊎◌, ◌≢◌, arith, rules}
 use Rattle.std.specs.Prelude.{unwrap_or}
 use Rattle.sam_runes.specs.Texts.{most_in_message}
 use Rattle.sam_runes.specs.Slots.{Slots, slot, put_slot, free_slot, map_slots}
@@ -45,18 +45,14 @@ sound-close t f s = grind (arith, windows-put)
 
 -- the window of a file after all locks are freed
 freed_fits : (n : ℕ) (ss : Slots KnownFile) (g : ℕ) → FitsWindow n (window_in ss g) → FitsWindow n (window_in (map_slots freed_known ss) g)
-freed_fits n [] g h = h
-freed_fits n (None ∷ ss) zero h = h
-freed_fits n (Some k ∷ ss) zero h = grind arith
 freed_fits n (None ∷ ss) (suc g) h = freed_fits n ss g h
 freed_fits n (Some k ∷ ss) (suc g) h = freed_fits n ss g h
+freed_fits n ss g e = grind arith
 
 freed_rasp : (ss : Slots KnownFile) (g : ℕ) → (window_in (map_slots freed_known ss) g).rasp ≡ (window_in ss g).rasp
-freed_rasp [] g = refl
-freed_rasp (None ∷ ss) zero = refl
-freed_rasp (Some k ∷ ss) zero = grind arith
 freed_rasp (None ∷ ss) (suc g) = freed_rasp ss g
 freed_rasp (Some k ∷ ss) (suc g) = freed_rasp ss g
+freed_rasp ss g = grind arith
 
 -- all locks are freed
 pub sound-exit : (t : PlainTerminal) → IsSound t → IsSound (record t { has_exited = true; command_lock = false; files = map_slots freed_known t.files })

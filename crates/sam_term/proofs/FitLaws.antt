@@ -1,5 +1,5 @@
 -- What is composed fits in the terminal's version.
-use Rattle.std.proofs.Common.{◌≡◌, ◌≤◌, ◌++◌, refl, sym, ap, ◌∙◌, subst, ℕ, Bool, true, false, List, [], ◌∷◌, length, length-append, Option, Some, None, if◌then◌else◌, arith}
+use Rattle.std.proofs.Common.{◌≡◌, ◌≤◌, ◌++◌, refl, sym, ap, ◌∙◌, subst, ℕ, Bool, true, false, List, [], ◌∷◌, length, length-append, Option, Some, None, if◌then◌else◌, arith, rules}
 use Rattle.std.specs.Prelude.{◌||◌, map}
 use Rattle.std.proofs.lemmas.Bool.{ltb-false, le-leb}
 use Rattle.sam_runes.specs.Texts.{is_empty, most_in_message}
@@ -27,13 +27,10 @@ record Good (v : ℕ) (made : Made) : Type 0 where
   short : IsShort made.0.unsent
 
 unsent-lock : (l : Lock) (t : PlainTerminal) → (lock_taken l t).unsent ≡ t.unsent
-unsent-lock NoLock t = refl
-unsent-lock CommandLock t = refl
-unsent-lock (FileLock f) t = refl
+unsent-lock l t = grind arith
 
 unsent-asked : (m : Tmesg) (t : PlainTerminal) → (asked m t).unsent ≡ t.unsent
-unsent-asked (Trequest f p n) t = refl
-unsent-asked _ t = refl
+unsent-asked m t = grind arith
 
 unsent-all : (t : PlainTerminal) (ms : List Tmesg) → (all_composed t ms).unsent ≡ t.unsent
 unsent-all t [] = refl
@@ -53,8 +50,7 @@ fit-append v (m ∷ ms) ns a b = grind (arith, (fit-append v ms ns))
 
 fit-unsent : (v : ℕ) (o : Option Unsent) → IsShort o → all_fit v (unsent_message o) ≡ true
 unfolding IsShort
-fit-unsent v None k = refl
-fit-unsent v (Some u) k = grind arith
+fit-unsent v o e = grind arith
 
 good-flushed : (v : ℕ) (t : PlainTerminal) → IsShort t.unsent → Good v (flushed t)
 unfolding flushed
@@ -64,8 +60,7 @@ good-then : (v : ℕ) (made : Made) (next : PlainTerminal → Made) → Good v m
 good-then v made next a b = record { fits = fit-append v made.1 (next made.0).1 a.fits b.fits; short = b.short }
 
 good-if : (v : ℕ) (b : Bool) (x y : Made) → (b ≡ true → Good v x) → (b ≡ false → Good v y) → Good v (if b then x else y)
-good-if v true x y here there = here refl
-good-if v false x y here there = there refl
+good-if v b x y e u = grind arith
 
 good-all : (v : ℕ) (t : PlainTerminal) (ms : List Tmesg) → t.unsent ≡ None → all_fit v ms ≡ true → Good v (all_composed t ms, ms)
 good-all v t ms e f = record { fits = f; short = short-none _ (unsent-all t ms ∙ e) }
@@ -85,8 +80,7 @@ good-cuts v t f k = search (arith, good-if, good-sends, del-none)
 
 short-joined : (o : Option Unsent) (f p : ℕ) (s : List ℕ) → joins o f p s ≡ true → IsShort (Some (joined o f p s))
 unfolding IsShort
-short-joined None f p s e = absurd (cc)
-short-joined (Some u) f p s e = grind (arith, length-append)
+short-joined o f p s e = grind (arith, length-append)
 
 good-kept : (v : ℕ) (t : PlainTerminal) (f p : ℕ) (s : List ℕ) → IsShort t.unsent → length s ≤ most_in_message → Good v (kept_unsent t f p s)
 unfolding IsShort
@@ -147,14 +141,10 @@ flush_fits t s = (good-flushed t.version t s.short).fits
 -- what the answer to a frame composes fits in the version
 pub frame_fits : (t : PlainTerminal) (m : Hmesg) → IsSound t → all_fit t.version (frame_outcome t m).1 ≡ true
 unfolding took_unlockfile
-frame_fits t (Hcheck f) s = (good-requested t.version t f s.short).fits
-frame_fits t (Hunlockfile f) s = (good-requested t.version (took_unlockfile t f) f s.short).fits
-frame_fits t Hack s = (good-if t.version t.has_exited (t, []) _ (λ e. record { fits = refl; short = s.short }) (λ e. good-plain t.version t (Tack ∷ []) s.short refl)).fits
-frame_fits t _ s = refl
+frame_fits t m e = grind (arith, good-requested, good-if, good-plain)
 
 or_left : (a b : Bool) → (a || b) ≡ false → a ≡ false
-or_left true b e = e
-or_left false b e = refl
+or_left a b e = grind arith
 
 -- an event on a file that is done found neither the command lock nor a lock of the file
 pub event_finds_no_lock : (t : PlainTerminal) (e : UserEvent) (f : ℕ) → file_of e ≡ Some f → first_of_checks (event_checks t e) ≡ None → (t.command_lock ≡ false) × ((window_at t f).locks ≡ 0)

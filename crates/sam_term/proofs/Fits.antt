@@ -1,5 +1,5 @@
 -- What a terminal composes fits in its version, and so in version 2.
-use Rattle.std.proofs.Common.{◌≡◌, refl, sym, ap, subst, ℕ, Bool, true, false, ◌&&◌, List, [], ◌∷◌, Option, Some, None, Result, Ok, Err, arith}
+use Rattle.std.proofs.Common.{◌≡◌, refl, sym, ap, subst, ℕ, Bool, true, false, ◌&&◌, List, [], ◌∷◌, Option, Some, None, Result, Ok, Err, arith, rules}
 use Rattle.std.proofs.lemmas.List.Elements.{All-nil, All-cons}
 use Rattle.sam_runes.specs.Checks.{first_of_checks}
 use Rattle.sam_term.specs.Sound.{IsSound}
@@ -20,8 +20,7 @@ use Rattle.sam_mesg.specs.declared.hmesg.HFrame.{HFrame}
 use Rattle.sam_mesg.proofs.Versions.{grows_t}
 
 both : (a b : Bool) → (a && b) ≡ true → (a ≡ true) × (b ≡ true)
-both true b e = (refl, e)
-both false b e = absurd (cc)
+both a b e = grind arith
 
 all-later : (v : ℕ) (ms : List Tmesg) → all_fit v ms ≡ true → AllFit ms
 all-later v [] e = All-nil FitsLast
@@ -37,17 +36,15 @@ act_fits t u ms s a = go t.held a
   where
     decides : (x : UserEvent) (es : List UserEvent) (o : Option Verdict) → first_of_checks (event_checks t x) ≡ o → decided o t es (event_outcome (record t { held = es }) x) ≡ Ok (u, Done ms)
         → AllFit ms
-    decides x es (Some Waits) n q = let other : Locked ≡ Done ms = ap (λ y. acted_in y Idle) q in absurd (cc)
-    decides x es (Some (Refuses r)) n q = let other : Refused r ≡ Done ms = ap (λ y. acted_in y Idle) q in absurd (cc)
     decides x es None n q =
         let made : Made = event_outcome (record t { held = es }) x in
         let same : Done ms ≡ Done made.1 = not_done made.0.sent made.0 u made.1 (Done ms) q in
         let sound : IsSound (record t { held = es }) = record { countable = s.countable; windows = s.windows; unsent = s.unsent; short = s.short } in
         fitting t.version ms made.1 (ap composed_in same) (event_fits (record t { held = es }) x sound n)
+    decides x es o e w = grind (arith, acted_in)
 
     go : (es : List UserEvent) → act_on t es ≡ Ok (u, Done ms) → AllFit ms
-    go [] q = let other : Idle ≡ Done ms = ap (λ y. acted_in y Locked) q in absurd (cc)
-    go (x ∷ es) q = decides x es (first_of_checks (event_checks t x)) refl q
+    go es e = grind (arith, acted_in, decides)
 
 messages_in : Result Made TermFault → List Tmesg
 messages_in (Ok made) = made.1
@@ -67,7 +64,4 @@ taken_fits t u frame ms s a = grind (arith, (fitting t.version ms (frame_outcome
 
 -- what an act answers fits, whatever became of the event
 pub acted_fit : (t u : PlainTerminal) (acted : Acted) → IsSound t → act_of t ≡ Ok (u, acted) → AllFit (composed_in acted)
-acted_fit t u Idle s a = All-nil FitsLast
-acted_fit t u Locked s a = All-nil FitsLast
-acted_fit t u (Done ms) s a = act_fits t u ms s a
-acted_fit t u (Refused why) s a = All-nil FitsLast
+acted_fit t u acted e w = grind (arith, All-nil, act_fits)

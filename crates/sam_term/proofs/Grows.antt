@@ -1,5 +1,5 @@
 -- A terminal stays sound as partial texts grow and shrink.
-use Rattle.std.proofs.Common.{◌≡◌, sym, ap, ◌∙◌, subst, ℕ, ◌≤◌, ◌<◌, ◌+◌, ◌-◌, true, false, List, length, Option, Some, None, ◌⊎◌, inl, inr, arith, length-append}
+use Rattle.std.proofs.Common.{◌≡◌, sym, ap, ◌∙◌, subst, ℕ, ◌≤◌, ◌<◌, ◌+◌, ◌-◌, true, false, List, length, Option, Some, None, ◌⊎◌, inl, inr, arith, length-append, rules}
 use Rattle.std.specs.Prelude.{IfSome, OnErr, OnOk, is_err, Result, Ok, Err, min}
 use Rattle.std.proofs.lemmas.List.{length-take, length-drop, length-map}
 use Rattle.sam_runes.specs.Texts.{max_runes}
@@ -45,8 +45,7 @@ sound-change t g w o s fits k m = grind (arith, window-put)
 -- unsent runes that move stay as short
 pub moved_short : (f : ℕ) (moved : ℕ → ℕ) (o : Option Unsent) → IsShort o → IsShort (moved_unsent f moved o)
 unfolding IsShort
-moved_short f moved None k = k
-moved_short f moved (Some u) k = grind arith
+moved_short f moved o e = grind arith
 
 -- unsent runes that move with the text of their file
 pub moved_fits : (t : PlainTerminal) (f : ℕ) (w : Window) (moved : ℕ → ℕ) → ((k : ℕ) → k ≤ length (window_at t f).rasp → moved k ≤ length w.rasp)
@@ -89,28 +88,21 @@ lent_same t f w v o e same = ap (λ ss. record t { files = ss }) (ap (λ x. put_
 module _ (t : PlainTerminal) (f : ℕ) (w v : Window) (o : Option Unsent) (same : w ≡ window_at t f) where
   pub lent_ins : (p : ℕ) (cells : PartialText) → v ≡ window_after_ins w p cells → o ≡ moved_unsent f (place_after_ins p (length cells)) t.unsent
       → record (put_window t f v) { unsent = o } ≡ ins_rasp t f p cells
-  lent_ins p cells e m =
-      ap (λ x. record (put_window t f x) { unsent = o }) (e ∙ ap (λ x. window_after_ins x p cells) same)
-      ∙ ap (λ u. record (put_window t f (window_after_ins (window_at t f) p cells)) { unsent = u }) m
+  lent_ins p cells e m = grind arith
 
   pub lent_del : (p q : ℕ) → v ≡ window_after_del w p q → o ≡ moved_unsent f (place_after_del p q) t.unsent → record (put_window t f v) { unsent = o } ≡ del_rasp t f p q
-  lent_del p q e m =
-      ap (λ x. record (put_window t f x) { unsent = o }) (e ∙ ap (λ x. window_after_del x p q) same)
-      ∙ ap (λ u. record (put_window t f (window_after_del (window_at t f) p q)) { unsent = u }) m
+  lent_del p q e m = grind arith
 
 -- what is true after a call is true where that failed
 pub on_err : {A E X : Type 0} (r : Result A E) → X → OnErr r X
-on_err (Ok a) x = tt
-on_err (Err e) x = x
+on_err r e = grind arith
 
 -- what is true where a call fails, and where it does not
 pub at_err : {A E X : Type 0} (r : Result A E) → is_err r ≡ true → OnErr r X → X
-at_err (Ok a) e x = absurd (cc)
-at_err (Err e) same x = x
+at_err r e u = grind arith
 
 pub at_ok : {A E X : Type 0} (r : Result A E) → is_err r ≡ false → OnOk r X → X
-at_ok (Ok a) e x = x
-at_ok (Err e) same x = absurd (cc)
+at_ok r e u = grind arith
 
 -- unsent runes begin within a text
 pub unsent_within : (t : PlainTerminal) → IsSound t → IfSome t.unsent (λ u. u.place ≤ max_runes)

@@ -1,5 +1,5 @@
 -- What events, flushes and frames do to the locks, and to the request that is awaited.
-use Rattle.std.proofs.Common.{◌≡◌, refl, ap, ◌∙◌, subst, ℕ, ◌+◌, ◌-◌, Bool, true, false, List, [], ◌∷◌, ◌++◌, Option, Some, None, if◌then◌else◌, ◌==◌, arith}
+use Rattle.std.proofs.Common.{◌≡◌, refl, ap, ◌∙◌, subst, ℕ, ◌+◌, ◌-◌, Bool, true, false, List, [], ◌∷◌, ◌++◌, Option, Some, None, if◌then◌else◌, ◌==◌, arith, rules}
 use Rattle.std.specs.Prelude.{◌||◌, unwrap_or}
 use Rattle.sam_runes.specs.Slots.{slot, free_slot, map_slots}
 use Rattle.sam_runes.proofs.SlotLaws.{slot-free_same, slot-free_other, slot-map}
@@ -71,9 +71,8 @@ with_all f [] h = h
 with_all f (m ∷ ms) h = with_all f ms (with_one f m h)
 
 held-lock : (f : ℕ) (l : Lock) (t : PlainTerminal) → held_of f (lock_taken l t) ≡ with_lock f l (held_of f t)
-held-lock f NoLock t = refl
-held-lock f CommandLock t = refl
 held-lock f (FileLock g) t = held-known (λ n. n + 1) (λ b. b) t g _ f refl
+held-lock f l t = grind arith
 
 held-asked : (f : ℕ) (m : Tmesg) (t : PlainTerminal) → held_of f (asked m t) ≡ with_request f m (held_of f t)
 held-asked f (Trequest g p n) t = held-known (λ n. n) (λ b. true) t g _ f refl
@@ -104,8 +103,7 @@ holds-then : (f : ℕ) (h : Held) (made : Made) (next : PlainTerminal → Made) 
 holds-then f h made next a b = grind (arith, all-append)
 
 holds-if : (f : ℕ) (h : Held) (b : Bool) (x y : Made) → Holds f h x → Holds f h y → Holds f h (if b then x else y)
-holds-if f h true x y here there = here
-holds-if f h false x y here there = there
+holds-if f h b x y e u = grind arith
 
 holds-flushed : (f : ℕ) (t : PlainTerminal) → Holds f (held_of f t) (flushed t)
 unfolding flushed
@@ -208,8 +206,7 @@ holds-frame f t _ = holds-none f _ _ refl
 -- ## What is held then, in numbers
 
 or-none : (b : Bool) → b ≡ (b || false)
-or-none true = refl
-or-none false = refl
+or-none b = grind arith
 
 command-all : (f : ℕ) (ms : List Tmesg) (h : Held) → (with_all f ms h).command ≡ (h.command || takes_command ms)
 command-all f [] h = or-none h.command

@@ -1,5 +1,5 @@
 -- A terminal stays sound.
-use Rattle.std.proofs.Common.{◌≡◌, refl, ℕ, ◌≤◌, false, List, length, Some, None, ◌⊎◌, ◌≢◌, inl, inr, arith}
+use Rattle.std.proofs.Common.{◌≡◌, refl, ℕ, ◌≤◌, false, List, length, Some, None, ◌⊎◌, ◌≢◌, inl, inr, arith, rules}
 use Rattle.sam_term.specs.Term.{PlainTerminal, window_at, put_window, Made, take_of, frame_outcome}
 use Rattle.sam_term.specs.declared.event.Acted.TheVariants.{Done}
 use Rattle.sam_term.specs.Taking.{done, countable, frame_fault, IsAnswer, IsFailure}
@@ -92,21 +92,17 @@ full_done made l = grind arith
 -- ## A call's answer, in its three clauses
 
 pub answered : {A : Type 0} (t u : PlainTerminal) (r : Result A TermFault) (answer : Result (PlainTerminal × A) TermFault) → IsAnswer t u r answer → IfOk r (λ x. answer ≡ Ok (u, x))
-answered t u (Ok x) answer h = h
-answered t u (Err why) answer h = tt
+answered t u r answer e = grind arith
 
 pub answer_refused : {A : Type 0} (t u : PlainTerminal) (r : Result A TermFault) (answer : Result (PlainTerminal × A) TermFault) → IsAnswer t u r answer
     → IfErr r (λ why. (why ≡ fault.OutOfMemory) ⊎ (answer ≡ Err why))
-answer_refused t u (Ok x) answer h = tt
-answer_refused t u (Err why) answer h = elim h.0 [ inl e ↦ inl e.0 | inr e ↦ inr e ]
+answer_refused t u r answer e = grind arith
 
 pub answer_failed : {A : Type 0} (t u : PlainTerminal) (r : Result A TermFault) (answer : Result (PlainTerminal × A) TermFault) → IsAnswer t u r answer → IfErr r (IsFailure answer)
-answer_failed t u (Ok x) answer h = tt
-answer_failed t u (Err why) answer h = h.0
+answer_failed t u r answer e = grind arith
 
 pub answer_unchanged : {A : Type 0} (t u : PlainTerminal) (r : Result A TermFault) (answer : Result (PlainTerminal × A) TermFault) → IsAnswer t u r answer → OnErr r (u ≡ t)
-answer_unchanged t u (Ok x) answer h = tt
-answer_unchanged t u (Err why) answer h = h.1
+answer_unchanged t u r answer e = grind arith
 
 -- what an answer says in the clauses of a public call
 pub ruleset answers = (answered, answer_refused, answer_unchanged, answer_failed)

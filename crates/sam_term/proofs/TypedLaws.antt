@@ -1,5 +1,5 @@
 -- Typing runes in the place of a dot.
-use Rattle.std.proofs.Common.{◌≡◌, subst, ℕ, ◌≤◌, ◌+◌, ◌-◌, ◌++◌, List, length, map, take, drop, Some, arith}
+use Rattle.std.proofs.Common.{◌≡◌, subst, ℕ, ◌≤◌, ◌+◌, ◌-◌, ◌++◌, List, length, map, take, drop, Some, arith, rules}
 use Rattle.std.proofs.lemmas.List.{length-map, length-take-le}
 use Rattle.sam_rasp.specs.Rasp.{PartialText, ins_cells, del_cells}
 use Rattle.sam_term.specs.Term.{window_after_ins, window_after_del}

@@ -1,5 +1,5 @@
 -- What typing makes, in the order of the code: the window is changed first, and the messages are composed behind that.
-use Rattle.std.proofs.Common.{◌≡◌, refl, ap, ◌∙◌, ℕ, ◌≤◌, ◌<◌, ◌+◌, ◌-◌, ◌++◌, Bool, true, false, List, [], ◌∷◌, length, map, Option, Some, None, if◌then◌else◌, ◌==◌, ◌≢◌, ◌⊎◌, arith, length-append}
+use Rattle.std.proofs.Common.{◌≡◌, refl, ap, ◌∙◌, ℕ, ◌≤◌, ◌<◌, ◌+◌, ◌-◌, ◌++◌, Bool, true, false, List, [], ◌∷◌, length, map, Option, Some, None, if◌then◌else◌, ◌==◌, ◌≢◌, ◌⊎◌, arith, length-append, rules}
 use Rattle.std.specs.Prelude.{not, ◌&&◌, option_map}
 use Rattle.std.proofs.lemmas.List.{append-nil}
 use Rattle.std.proofs.lemmas.Bool.{ltb-false}
@@ -91,8 +91,7 @@ abbrev behind : (t : PlainTerminal) (f : ℕ) (s : List ℕ) (d : ℕ × ℕ) �
 behind t f s d = record (put_window (edited t f) f (typed_over (window_at t f) s)) { unsent = Some (joined t.unsent f d.0 s) }
 
 joins-place : (o : Option Unsent) (f p : ℕ) (s : List ℕ) → joins o f p s ≡ true → (joined o f p s).place ≤ p
-joins-place None f p s e = absurd (cc)
-joins-place (Some u) f p s e = grind arith
+joins-place o f p s e = grind arith
 
 made-behind_dot : (t : PlainTerminal) (f : ℕ) (s : List ℕ) → is_empty s ≡ false → (window_at t f).dot.0 ≡ (window_at t f).dot.1
     → joins t.unsent f (window_at t f).dot.0 s ≡ true → event_outcome t (Typed f s) ≡ flushed_if (is_command_line f s) (behind t f s (window_at t f).dot)
@@ -169,8 +168,7 @@ window-cut t f w d = grind (arith, window-put_same)
 -- ## Counting
 
 pub flush-count : (b : Bool) (t : PlainTerminal) (j : Unsent) → t.unsent ≡ Some j → length (flushed_if b t).1 ≡ one_if b
-flush-count true t j e = ap length (flushed-messages t) ∙ ap (λ o. length (unsent_message o)) e
-flush-count false t j e = refl
+flush-count b t j e = grind (arith, flushed-messages)
 
 pub refused_full : (t : PlainTerminal) (e : UserEvent) (made : Made) (why : TermFault) (count : ℕ) → first_event t.held ≡ e → event_outcome (later t) e ≡ made
     → count ≡ length made.1 → ((why ≡ fault.OutOfMemory) × (t.sent + count ≤ most_count)) ⊎ ((why ≡ fault.CountFull) × (most_count < t.sent + count)) → IsFailure (done (made_first t)) why
@@ -203,8 +201,7 @@ three-more m0 m1 m2 m3 fl cut last e0 e1 e2 e3 = grind arith
 
 -- runes that join unsent ones: all fit in a message, and they begin in the same file
 pub joined-short : (o : Option Unsent) (f p : ℕ) (s : List ℕ) → joins o f p s ≡ true → length (joined o f p s).runes ≤ most_in_message
-joined-short None f p s e = absurd (cc)
-joined-short (Some u) f p s e = grind (arith, length-append)
+joined-short o f p s e = grind (arith, length-append)
 
 -- they begin before the dot that then stands behind them
 pub joined-within : (u : PlainTerminal) (o : Option Unsent) (f p : ℕ) (s : List ℕ) (w : Window) → joins o f p s ≡ true → window_at u f ≡ w → p ≤ w.dot.1
@@ -213,8 +210,7 @@ joined-within u o f p s w e same l = grind arith
 
 -- unsent runes that get more behind them are those that they are joined to
 pub lengthened-joined : (o : Option Unsent) (f p : ℕ) (s : List ℕ) → joins o f p s ≡ true → option_map (lengthened s) o ≡ Some (joined o f p s)
-lengthened-joined None f p s e = absurd (cc)
-lengthened-joined (Some u) f p s e = refl
+lengthened-joined o f p s e = grind arith
 
 -- and cut back they are what they were
 pub shortened-again : (o : Option Unsent) (s : List ℕ) → option_map (shortened (length s)) (option_map (lengthened s) o) ≡ o
@@ -231,3 +227,6 @@ sound-joined t f s sound same fits e =
     let end : p ≤ w.dot.1 = omega arith in
     sound-kept u (joined t.unsent f p s) (sound-typed t f s sound (omega arith)) (joined-within u t.unsent f p s w e (window-put_same t f w) end)
     (joined-short t.unsent f p s e)
+
+-- what `make_typed` rests on
+pub ruleset make_typed_facts = (typed-as, few-typed)

@@ -24,31 +24,21 @@ Goes before after [] = Longer before after
 Goes before after (m ∷ ms) = SendsFirst before (m ∷ ms)
 
 same : (before : Option Unsent) → Goes before before []
-same None = tt
-same (Some u) = ([], ap (λ (s : List ℕ). Some (record u { runes = s })) (sym (append-nil u.runes)))
+same before = grind (arith, append-nil)
 
 first : (before after : Option Unsent) (ms : List Tmesg) → Goes before after ms → SendsFirst before ms
-first None after ms g = tt
-first (Some u) after [] g = tt
-first (Some u) after (m ∷ ms) g = g
+first before after ms e = grind arith
 
 -- one after another
 later : (before middle after : Option Unsent) (ms : List Tmesg) → Longer before middle → Goes middle after ms → Goes before after ms
-later None middle after [] l g = tt
-later None middle after (m ∷ ms) l g = tt
-later (Some u) middle after [] l g = grind (arith, append_assoc)
-later (Some u) middle after (m ∷ ms) l g = grind (arith, append_assoc)
+later before middle after ms e u = grind (arith, append_assoc)
 
 both : (before middle after : Option Unsent) (ms ns : List Tmesg) → Goes before middle ms → Goes middle after ns → Goes before after (ms ++ ns)
-both before middle after [] ns g h = later before middle after ns g h
-both None middle after (m ∷ ms) ns g h = tt
-both (Some u) middle after (m ∷ ms) ns g h = g
+both before middle after ms ns e u = grind (arith, later)
 
 -- the unsent runes are composed, and anything behind them
 sent : (before after : Option Unsent) (ms : List Tmesg) → Goes before after (unsent_message before ++ ms)
-sent None after [] = tt
-sent None after (m ∷ ms) = tt
-sent (Some u) after ms = ([], ap (λ (s : List ℕ). Ttype u.file u.place s) (sym (append-nil u.runes)))
+sent before after ms = grind (arith, append-nil)
 
 flush : (t : PlainTerminal) (after : Option Unsent) → Goes t.unsent after (flushed t).1
 unfolding flushed
@@ -62,8 +52,7 @@ abbrev GoesMade : PlainTerminal → Made → Type 0
 GoesMade t made = Goes t.unsent made.0.unsent made.1
 
 chosen : (t : PlainTerminal) (b : Bool) (x y : Made) → GoesMade t x → GoesMade t y → GoesMade t (if b then x else y)
-chosen t true x y g h = g
-chosen t false x y g h = h
+chosen t b x y e u = grind arith
 
 followed : (t : PlainTerminal) (made : Made) (next : PlainTerminal → Made) → GoesMade t made → GoesMade made.0 (next made.0) → GoesMade t (and_then made next)
 followed t made next g h = both t.unsent made.0.unsent (next made.0).0.unsent made.1 (next made.0).1 g h
@@ -78,8 +67,7 @@ moved : (f p n : ℕ) (u : Unsent) → u.place ≤ p → moved_unsent f (place_a
 moved f p n u within = grind arith
 
 grows : (o : Option Unsent) (f p : ℕ) (s : List ℕ) → Longer o (Some (joined o f p s))
-grows None f p s = tt
-grows (Some u) f p s = (s, refl)
+grows o f p s = grind arith
 
 keeps : (t : PlainTerminal) (f p : ℕ) (s : List ℕ) → GoesMade t (kept_unsent t f p s)
 keeps t f p s = grind (arith, (send t (Some (joined None f p s))))
@@ -165,8 +153,7 @@ events_send_first t e = first t.unsent (event_outcome t e).0.unsent (event_outco
 -- ## Frames
 
 none : (o : Option Unsent) → SendsFirst o []
-none None = tt
-none (Some u) = tt
+none o = grind arith
 
 requests : (t : PlainTerminal) (f : ℕ) → SendsFirst t.unsent (requested t f).1
 requests t f = first t.unsent (requested t f).0.unsent (requested t f).1 (request t f)

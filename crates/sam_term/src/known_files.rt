@@ -80,6 +80,7 @@ impl KnownFiles {
     }
 
     /// Lends the window of an open file, to be changed.
+    #[tactic(auto, using(crate::proofs::SlotSteps::open_given, std::proofs::Common::slice_set, crate::proofs::SlotSteps::window_mut_facts))]
     pub fn window_mut(&mut self, tag: u16) -> &mut Window
         requires { IsTrue (is_some (known_in self.old tag).window) }
         ensures* writes_back { sem 𝓛 (LendsWindow self.entry tag result) }
@@ -90,6 +91,7 @@ impl KnownFiles {
 
     /// Puts a file at a tag; what stood there is dropped. All memory is had before the first change: the only error is want of memory,
     /// and nothing has changed then.
+    #[tactic(auto, using(crate::proofs::SlotSteps::put_new_facts))]
     pub fn put_new(&mut self, tag: u16, file: KnownFile) -> Result<(), AllocError>
         ensures ok { OnOk result (self.new ≡ put_slot self.old tag file) }
         ensures err { OnErr result (self.new ≡ self.old) }
@@ -207,6 +209,7 @@ fn push_slots(files: &mut Vec<Option<KnownFile>>, more: usize)
 }
 
 /// Frees every lock of every file, after which no request is awaited either.
+#[tactic(auto, using(crate::proofs::SlotSteps::free_all_facts))]
 fn free_all(files: &mut [Option<KnownFile>])
     ensures { files.new ≡ map_slots freed_known files.old }
 {

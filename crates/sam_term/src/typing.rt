@@ -164,6 +164,7 @@ fn line_count(line: bool) -> usize
 impl Terminal {
     /// Does a `Typed`: puts its runes in the place of the dot, and keeps them unsent. Errors, in this order: `CountFull`; `OutOfMemory`.
     /// The terminal is then unchanged.
+    #[tactic(auto, using(crate::proofs::Acts::first_is, crate::proofs::Acts::opened_by, crate::proofs::TypedMade::make_typed_facts))]
     pub(crate) fn make_typed(&mut self) -> Result<Acted, TermFault>
         requires free { free_first self.old ≡ None }
         requires first { IsTrue (is_typing (first_event self.old.held)) }

@@ -1,5 +1,5 @@
 -- What holds of all files stays so under each change.
-use Rattle.std.proofs.Common.{◌≡◌, ℕ, zero, suc, ◌<◌, ◌≤◌, List, [], ◌∷◌, length, true, Option, Some, None, refl, sym, ap, ◌∙◌, subst, arith, length-append, drop, ◌-◌}
+use Rattle.std.proofs.Common.{◌≡◌, ℕ, zero, suc, ◌<◌, ◌≤◌, List, [], ◌∷◌, length, true, Option, Some, None, refl, sym, ap, ◌∙◌, subst, arith, length-append, drop, ◌-◌, rules}
 use Rattle.std.specs.Prelude.{unwrap_or, is_some, option_map, IfSome, Result, Ok, Err, OnOk, OnErr, ⊤}
 use Rattle.std.proofs.lemmas.List.{length-drop, length-take-le}
 use Rattle.sam_runes.specs.Texts.{all_tags, part}
@@ -14,8 +14,7 @@ pub given-put : {X : Type 0} (ss : Slots X) (f g : ℕ) (x : X) → is_some (slo
 given-put ss f g x e = grind (arith, slot-put_same, slot-put_other)
 
 work-put : (fs : PlainFiles) (g : ℕ) (x : PlainFile) (w : Option ℕ) → IfSome w (IsWork fs) → IfSome w (IsWork (put_file fs g x))
-work-put fs g x None h = tt
-work-put fs g x (Some f) h = (h.0, given-put fs.slots g f x h.1)
+work-put fs g x w e = grind (arith, given-put)
 
 -- a file is put where one was
 pub kept_put : (fs : PlainFiles) (g : ℕ) (x : PlainFile) → AreSoundFiles fs → has_file fs g ≡ true → IsFit x → HasShortName x → AreSoundFiles (put_file fs g x)
@@ -33,8 +32,7 @@ pub all-free : (P : PlainFile → Type 0) (fs : PlainFiles) (g : ℕ) → P blan
 all-free P fs g none all f = grind (arith, slot-free_same, slot-free_other)
 
 work-free : (fs : PlainFiles) (g : ℕ) (w : Option ℕ) → IfSome w (IsWork fs) → IfSome (work_without g w) (IsWork (without_file fs g))
-work-free fs g None h = tt
-work-free fs g (Some f) h = grind (arith, slot-free_other)
+work-free fs g w e = grind (arith, slot-free_other)
 
 -- a file that is not the command file is taken away
 pub kept_free : (fs : PlainFiles) (g : ℕ) → AreSoundFiles fs → 0 < g → AreSoundFiles (without_file fs g)
@@ -60,8 +58,7 @@ kept_new fs x all free fit short = grind (
 )
 
 all-announced : (P : PlainFile → Type 0) → ((x : PlainFile) → P x → P (announced_file x)) → (o : Option PlainFile) → P (unwrap_or o blank_file) → P (unwrap_or (option_map announced_file o) blank_file)
-all-announced P step None h = h
-all-announced P step (Some x) h = step x h
+all-announced P e o u = grind arith
 
 -- what holds of every file, also once it is announced, holds of every file once all are announced
 pub all-announce : (P : PlainFile → Type 0) → ((x : PlainFile) → P x → P (announced_file x)) → (ss : Slots PlainFile)
@@ -71,17 +68,13 @@ all-announce P step (s ∷ ss) all zero = all 0
 all-announce P step (s ∷ ss) all (suc f) = grind (arith, (slot-map announced_file ss f), (all-announced P step (slot ss f) (all (suc f))))
 
 given-announce : (ss : Slots PlainFile) (f : ℕ) → is_some (slot (announce_all ss) f) ≡ is_some (slot ss f)
-given-announce [] f = refl
-given-announce (s ∷ ss) zero = refl
-given-announce (s ∷ ss) (suc f) = ap is_some (slot-map announced_file ss f) ∙ is_some-map announced_file (slot ss f)
+given-announce ss f = grind (arith, slot-map, is_some-map)
 
 length-announce : (ss : Slots PlainFile) → length (announce_all ss) ≡ length ss
-length-announce [] = refl
-length-announce (s ∷ ss) = ap suc (length-map_slots announced_file ss)
+length-announce ss = grind (arith, length-map_slots)
 
 work-announce : (fs : PlainFiles) (w : Option ℕ) → IfSome w (IsWork fs) → IfSome w (IsWork (record fs { slots = announce_all fs.slots }))
-work-announce fs None h = tt
-work-announce fs (Some f) h = (h.0, given-announce fs.slots f ∙ h.1)
+work-announce fs w e = grind (arith, given-announce)
 
 -- all files but the command file are announced
 pub kept_announce : (fs : PlainFiles) → AreSoundFiles fs → AreSoundFiles (record fs { slots = announce_all fs.slots })

@@ -1,5 +1,5 @@
 -- What each line does can be put in: its file can be the work file, dot is a range of its text, name and pattern are within their limits.
-use Rattle.std.proofs.Common.{◌≡◌, ℕ, ◌≤◌, List, [], ◌∷◌, length, Option, Some, None, Result, Ok, Err, refl, sym, subst, ap, arith}
+use Rattle.std.proofs.Common.{◌≡◌, ℕ, ◌≤◌, List, [], ◌∷◌, length, Option, Some, None, Result, Ok, Err, refl, sym, subst, ap, arith, rules}
 use Rattle.std.specs.Prelude.{IfOk, IfSome, unwrap_or, option_map, option_and_then}
 use Rattle.sam_runes.specs.Texts.{most_in_name}
 use Rattle.sam_runes.specs.Slots.{slot}
@@ -20,30 +20,19 @@ abbrev pub HasShortParts : PlainOutcome → Type 0
 HasShortParts o = (IfSome o.name (λ (name : List ℕ). length name ≤ most_in_name)) × (IfSome o.pattern IsPattern)
 
 short-or : (r : Result PlainOutcome Word) → IfOk r HasShortParts → HasShortParts (or_wrong r)
-short-or (Ok o) h = h
-short-or (Err w) h = (tt, tt)
+short-or r e = grind arith
 
 short-then : {A : Type 0} (r : Result A Word) (f : A → Result PlainOutcome Word) → ((x : A) → IfOk (f x) HasShortParts) → IfOk (r >>= f) HasShortParts
-short-then (Ok x) f step = step x
-short-then (Err e) f step = tt
+short-then r f e = grind arith
 
 short-on : (f : WorkFile) (c : Command) → CommandOk c → IfOk (effect_on f c) HasShortParts
-short-on f (command.Go a) h = short-then (address_range f.text f.dot a) _ (λ r. (tt, h))
-short-on f (command.Run a ss l) h = grind (arith, short-then)
-short-on f (command.Name []) h = (tt, tt)
-short-on f (command.Name (c ∷ cs)) h = (h, tt)
-short-on f command.Quit h = (tt, tt)
+short-on f c e = grind (arith, short-then)
 
 short-of : (f : Option WorkFile) (c : Command) → CommandOk c → IfOk (effect_of f c) HasShortParts
-short-of (Some f) c h = short-on f c h
-short-of None (command.Go a) h = tt
-short-of None (command.Run a ss l) h = tt
-short-of None (command.Name n) h = tt
-short-of None command.Quit h = (tt, tt)
+short-of f c e = grind (arith, short-on)
 
 short-read : (f : Option WorkFile) (r : Result Command Word) → IfOk r CommandOk → IfOk (r >>= effect_of f) HasShortParts
-short-read f (Ok c) h = short-of f c h
-short-read f (Err e) h = tt
+short-read f r e = grind (arith, short-of)
 
 -- the name and the pattern of every line
 pub line_short : (f : Option WorkFile) (line : List ℕ) → HasShortParts (line_outcome f line)
@@ -54,8 +43,7 @@ puts-none : (fs : PlainFiles) (o : PlainOutcome) → o.file ≡ None → IfSome 
 puts-none fs o e = subst (λ x. IfSome x (IsOutcomeFor fs o)) (sym e) tt
 
 puts-some : (fs : PlainFiles) (o : PlainOutcome) (x : Option ℕ) → ((g : ℕ) → x ≡ Some g → IsOutcomeFor fs o g) → IfSome x (IsOutcomeFor fs o)
-puts-some fs o None h = tt
-puts-some fs o (Some g) h = h g refl
+puts-some fs o x e = grind arith
 
 -- what a line does can be put in
 pub meaning_puts : (fs : PlainFiles) (line : List ℕ) → AreSoundFiles fs → IsOutcomeOf fs (meaning fs line)
@@ -75,13 +63,11 @@ meaning_puts fs line all = (go fs.work all.2, short.0, short.1)
         (λ k i. subst (λ n. IsOutcomeFor fs o n) (sym (fits.own k i)) (w, subst (λ x. IsFit (file_after x o)) (sym here) (fit-after g file o fit fits)))
 
     go : (x : Option ℕ) → IfSome x (IsWork fs) → (let o = line_outcome (option_and_then (λ g. option_map (work_on g) (slot fs.slots g)) x) line in IfSome o.file (IsOutcomeFor fs o))
-    go None w = puts-none fs (line_outcome None line) (without_work line).0
-    go (Some g) w = at g (slot fs.slots g) refl w
+    go x e = grind (arith, puts-none, without_work, at)
 
 -- a name within the limit, or the old one, is within the limit
 pub named-within : (name : Option (List ℕ)) (old : List ℕ) → IfSome name (λ (name : List ℕ). length name ≤ most_in_name) → length old ≤ most_in_name → length (unwrap_or name old) ≤ most_in_name
-named-within None old h k = k
-named-within (Some n) old h k = h
+named-within name old e u = grind arith
 
 -- an outcome that can be put in leaves its file fit, and its name short
 pub puts_there : (fs : PlainFiles) (o : PlainOutcome) (f : ℕ) → AreSoundFiles fs → IsOutcomeOf fs o → o.file ≡ Some f

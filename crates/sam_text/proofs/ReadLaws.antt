@@ -1,5 +1,5 @@
 -- What is read of a line is within the limits: each pattern has 1 to most_in_pattern runes, and a name at most most_in_name.
-use Rattle.std.proofs.Common.{◌≡◌, ℕ, zero, suc, ◌+◌, ◌≤◌, List, [], ◌∷◌, length, Bool, true, false, cond, ◌||◌, ◌==◌, Option, Some, None, Result, Ok, Err, option_map, nat_lt, refl, arith}
+use Rattle.std.proofs.Common.{◌≡◌, ℕ, zero, suc, ◌+◌, ◌≤◌, List, [], ◌∷◌, length, Bool, true, false, cond, ◌||◌, ◌==◌, Option, Some, None, Result, Ok, Err, option_map, nat_lt, refl, arith, rules}
 use Rattle.std.specs.Prelude.{IfOk, IfSome, ⊤}
 use Rattle.std.proofs.lemmas.Bool.{ltb-false}
 use Rattle.sam_runes.specs.Texts.{most_in_name, most_in_pattern}
@@ -19,25 +19,19 @@ use Rattle.sam_text.specs.Reading.{◌>>=◌, is_blank, skip, quoted, pattern_at
 -- ## Ways to read
 
 ok_then : {A B : Type 0} (P : A → Type 0) (Q : B → Type 0) (r : Result A Word) (f : A → Result B Word) → IfOk r P → ((x : A) → P x → IfOk (f x) Q) → IfOk (r >>= f) Q
-ok_then P Q (Ok x) f h step = step x h
-ok_then P Q (Err e) f h step = tt
+ok_then P Q r f e u = grind arith
 
 ok_any : {A B : Type 0} (Q : B → Type 0) (r : Result A Word) (f : A → Result B Word) → ((x : A) → IfOk (f x) Q) → IfOk (r >>= f) Q
-ok_any Q (Ok x) f step = step x
-ok_any Q (Err e) f step = tt
+ok_any Q r f e = grind arith
 
 ok_if : {A : Type 0} (P : A → Type 0) (b : Bool) (x y : Result A Word) → IfOk x P → IfOk y P → IfOk (cond b x y) P
-ok_if P true x y h k = h
-ok_if P false x y h k = k
+ok_if P b x y e u = grind arith
 
 -- ## Patterns
 
 pattern_end : (n : ℕ) (p : List ℕ × List ℕ) → n ≡ length p.0 → (a b : Bool) → (n == 0) ≡ a → nat_lt most_in_pattern n ≡ b
     → IfOk (cond (a || b) (Err word.Pattern) (Ok p)) (λ (p : List ℕ × List ℕ). IsPattern p.0)
-pattern_end n p same true b e f = tt
-pattern_end n p same false true e f = tt
-pattern_end zero p same false false e f = absurd (cc)
-pattern_end (suc n) p same false false e f = let m = ltb-false most_in_pattern (suc n) f in (omega (arith, same), omega (arith, same, m))
+pattern_end n p e a b u w = grind (arith, ltb-false)
 
 -- a pattern that is read is within its limits
 pub pattern-read : (line : List ℕ) → IfOk (pattern_at line) (λ (p : List ℕ × List ℕ). IsPattern p.0)
@@ -61,12 +55,10 @@ side-read [] = tt
 side-read (c ∷ cs) = grind (arith, (pattern-read cs))
 
 later-ok : (a b : Option (List ℕ)) → IfSome a IsPattern → IfSome b IsPattern → IfSome (later a b) IsPattern
-later-ok a None h k = h
-later-ok a (Some p) h k = k
+later-ok a b e u = grind arith
 
 one-ok : (a : Option Side) → IfSome (side_pattern a) IsPattern → AddressOk (option_map address.One a)
-one-ok None h = tt
-one-ok (Some a) h = h
+one-ok a e = grind arith
 
 second-side : (a : Option Side) (line : List ℕ) → IfSome (side_pattern a) IsPattern → IfOk (second_side a line) (λ (x : Option Address × List ℕ). AddressOk x.0)
 unfolding side_at
@@ -87,12 +79,10 @@ ChainOk x = IfSome (steps_pattern x.0) IsPattern
 
 head-ok : {A : Type 0} (P : A → Type 0) (line : List ℕ) (none : Result A Word) (some : ℕ → List ℕ → Result A Word) → IfOk none P
     → ((c : ℕ) (cs : List ℕ) → IfOk (some c cs) P) → IfOk (at_head line none some) P
-head-ok P [] none some h step = h
-head-ok P (c ∷ cs) none some h step = step c cs
+head-ok P line none some e u = grind arith
 
 option-ok : {A B : Type 0} (P : B → Type 0) (o : Option A) (none : Result B Word) (some : A → Result B Word) → IfOk none P → ((x : A) → IfOk (some x) P) → IfOk (at_option o none some) P
-option-ok P None none some h step = h
-option-ok P (Some x) none some h step = step x
+option-ok P o none some e u = grind arith
 
 chain-read : (n : ℕ) (line : List ℕ) → IfOk (chain_at n line) ChainOk
 unfolding chain_at
@@ -114,12 +104,10 @@ CommandOk (command.Name n) = length n ≤ most_in_name
 CommandOk command.Quit = ⊤
 
 name_end : (n : List ℕ) (b : Bool) → nat_lt most_in_name (length n) ≡ b → IfOk (cond b (Err word.Name) (Ok (command.Name n))) CommandOk
-name_end n true e = tt
-name_end n false e = ltb-false most_in_name (length n) e
+name_end n b e = grind (arith, ltb-false)
 
 name-read : (line : List ℕ) → IfOk (name_of line) CommandOk
-name-read [] = omega arith
-name-read (c ∷ cs) = ok_if CommandOk (is_blank c) _ (Err word.Command) (name_end (trimmed cs) _ refl) tt
+name-read line = grind (arith, ok_if, name_end)
 
 behind-read : (a : Option Address) (rest : List ℕ) → AddressOk a → IfOk (behind_address a rest) CommandOk
 behind-read None rest h = ok_then ChainOk CommandOk (chain_at (length rest + 1) rest) _ (chain-read (length rest + 1) rest) (λ c k. (h, k))

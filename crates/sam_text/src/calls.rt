@@ -207,6 +207,7 @@ impl Files {
     ///
     /// Errors, in this order: `NoFile` if the tag has no file; `BadPosition` if `q` is less than `p` or past the end of the text;
     /// `OutOfMemory`. After an error the files and the snarf buffer are unchanged.
+    #[tactic(auto, using(crate::proofs::KeptLaws::part_within))]
     pub fn snarf(&mut self, alloc: Global, tag: u16, p: u32, q: u32) -> Result<u32, FilesFault>
         ensures checked { IsChecked (range_checks self.old.plain tag p q) result }
         ensures count { IfOk result (λ n. n ≡ q - p) }

@@ -45,6 +45,7 @@ impl Files {
     /// its file is as `run_line` found it. If `quit` is true, it is also the caller who ends the session.
     ///
     /// No memory is asked for. A new text brings its own room; every other text keeps its room.
+    #[tactic(auto, using(crate::proofs::OutcomeLaws::puts_there))]
     pub fn commit(&mut self, outcome: Outcome) -> Runes
         requires { IsOutcomeOf self.old.plain (effect outcome) }
         ensures done { self.new.plain ≡ committed self.old.plain (effect outcome) }

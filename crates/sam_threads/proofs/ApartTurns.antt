@@ -1,5 +1,5 @@
 -- Messages that fit at their place of a stream, where they fit at all.
-use Rattle.std.proofs.Common.{◌≡◌, ℕ, true, List, [], ◌∷◌, ◌++◌}
+use Rattle.std.proofs.Common.{◌≡◌, ℕ, true, List, [], ◌∷◌, ◌++◌, arith, rules}
 use Rattle.sam_mesg.specs.declared.tmesg.Tmesg.{Tmesg}
 use Rattle.sam_mesg.specs.declared.tmesg.Tmesg.TheVariants.{Tsetsnarf}
 use Rattle.sam_mesg.specs.declared.hmesg.HFrame.{HFrame}
@@ -41,8 +41,7 @@ IsFree (Tsetsnarf s) = ⊥
 IsFree m = Unit {0}
 
 same_fit : (v : ℕ) (m : Tmesg) → IsFree m → fits_t 2 m ≡ true → fits_t v m ≡ true
-same_fit v (Tsetsnarf s) p e = absurd p
-same_fit v m p e = e
+same_fit v m e u = grind arith
 
 pub free_turn : (v : ℕ) (ms : List Tmesg) → Each IsFree ms → InTurn terminal v ms
 free_turn v [] p = tt

@@ -1,5 +1,5 @@
 -- What a terminal composes for frames, and what stops it.
-use Rattle.std.proofs.Common.{◌≡◌, ℕ, ◌≤◌, inl, inr, List, [], ◌∷◌, ◌++◌, length, Option, None, Some, Ok, Err, Bool, true, false, if◌then◌else◌, sym, subst, append-nil, append_assoc, length-append, arith, All, IsTrue}
+use Rattle.std.proofs.Common.{◌≡◌, ℕ, ◌≤◌, inl, inr, List, [], ◌∷◌, ◌++◌, length, Option, None, Some, Ok, Err, Bool, true, false, if◌then◌else◌, sym, subst, append-nil, append_assoc, length-append, arith, All, IsTrue, rules}
 use Rattle.std.proofs.lemmas.List.Elements.{All-nil}
 use Rattle.sam_mesg.specs.declared.tmesg.Tmesg.{Tmesg}
 use Rattle.sam_mesg.specs.declared.tmesg.Tmesg.TheVariants.{Tack}
@@ -32,8 +32,7 @@ record Few (n : ℕ) (made : Made) : Type 0 where
   pub few : length made.1 ≤ n
 
 few_unsent : (unsent : Option Unsent) → length (unsent_message unsent) ≤ 1
-few_unsent None = omega arith
-few_unsent (Some u) = omega arith
+few_unsent unsent = grind arith
 
 few_flushed : (t : PlainTerminal) → Few 1 (flushed t)
 unfolding flushed
@@ -55,18 +54,13 @@ few_ack t true = record { few = omega arith }
 few_ack t false = few_sends t unchanged Tack
 
 few_from : (t : PlainTerminal) (m : Hmesg) → Few 2 (frame_outcome t m)
-few_from t (Hcheck f) = few_requested t f
-few_from t (Hunlockfile f) = few_requested (took_unlockfile t f) f
-few_from t Hack = few_ack t t.has_exited
-few_from t _ = record { few = omega arith }
+few_from t m = grind (arith, few_requested, few_ack)
 
 few_counted : (b : Bool) (made : Made) (u : PlainTerminal) (ms : List Tmesg) → Few 2 made → (if b then Err fault.CountFull else Ok made) ≡ Ok (u, ms) → length ms ≤ 2
-few_counted true made u ms few is = absurd (cc)
-few_counted false made u ms few is = grind arith
+few_counted b made u ms e w = grind arith
 
 few_unless : (o : Option TermFault) (made : Made) (u : PlainTerminal) (ms : List Tmesg) → Few 2 made → made_unless o made ≡ Ok (u, ms) → length ms ≤ 2
-few_unless (Some why) made u ms few is = absurd (cc)
-few_unless None made u ms few is = few_counted _ made u ms few is
+few_unless o made u ms e w = grind (arith, few_counted)
 
 pub takes_few : (t u : PlainTerminal) (frame : HFrame) (ms : List Tmesg) → take_of t frame ≡ Ok (u, ms) → length ms ≤ 2
 unfolding take_of
@@ -93,8 +87,7 @@ stops_before h piece k t u ms frames o stopped gives done frame rest s parts too
 
 pub fed_all : (h : Held) (piece : List ℕ) (k : Held) (t u : PlainTerminal) (ms : List Tmesg) (frames : List HFrame) (stopped : Option Stop)
     → Gives h piece k frames None → TakesUpTo frames None t u ms stopped → FeedsTerminal h piece k t u ms stopped
-fed_all h piece k t u ms frames stopped gives (inl (took, is)) = subst (λ (x : Option Stop). FeedsTerminal h piece k t u ms x) (sym is) (frames, gives, took)
-fed_all h piece k t u ms frames stopped gives (inr (done, frame, rest, s, parts, took, is, at)) = stops_before h piece k t u ms frames None stopped gives done frame rest s parts took is at
+fed_all h piece k t u ms frames stopped e w = grind (arith, stops_before)
 
 pub fed_before : (h : Held) (piece : List ℕ) (k : Held) (t u : PlainTerminal) (ms : List Tmesg) (frames : List HFrame) (fault : MesgFault) (n : ℕ) (stopped : Option Stop)
     → Gives h piece k frames (Some fault) → n ≡ frame_number fault → TakesUpTo frames (Some (stop.Frame n)) t u ms stopped → FeedsTerminal h piece k t u ms stopped

@@ -1,5 +1,5 @@
 -- The host's worker from one moment to the next.
-use Rattle.std.proofs.Common.{◌≡◌, ◌∙◌, ◌⊎◌, inl, inr, ℕ, ◌+◌, List, [], ◌∷◌, ◌++◌, length, Result, Ok, Err, refl, sym, ap, subst, append_assoc, append-nil, arith}
+use Rattle.std.proofs.Common.{◌≡◌, ◌∙◌, ◌⊎◌, inl, inr, ℕ, ◌+◌, List, [], ◌∷◌, ◌++◌, length, Result, Ok, Err, refl, sym, ap, subst, append_assoc, append-nil, arith, rules}
 use Rattle.std.specs.Global.{Vec}
 use Rattle.std.specs.Prelude.{IsTrue}
 use Rattle.std.proofs.lemmas.List.Elements.{All-nil, All-cons}
@@ -57,18 +57,7 @@ handled_one most h k p q m frames unput answered fit puts = grind (arith, (appen
 
 pub handled_on : (h j k : PlainHost) (p q r : PostView (Vec ℕ)) (ms ns : List Tmesg) (fs gs : List HFrame) (unput : List ℕ)
     → Handled h j p q ms fs [] → Handled j k q r ns gs unput → Handled h k p r (ms ++ ns) (fs ++ gs) unput
-handled_on h j k p q r ms ns fs gs unput a b = record {
-  runs = host_more sides counts h j k ms fs ns gs a.runs b.runs;
-  answers_fit = each_append (FitsH 2) fs gs a.answers_fit b.answers_fit;
-  put =
-      b.put
-      ∙ (ap (λ (x : List ℕ). x ++ stream_of host gs) (sym (append-nil (bytes_of q.put)) ∙ a.put)
-      ∙ (append_assoc (bytes_of p.put) (stream_of host fs) (stream_of host gs)
-      ∙ ap (λ (x : List ℕ). bytes_of p.put ++ x) (sym (stream_of-append host fs gs))));
-  line = b.line ∙ a.line;
-  number = b.number ∙ a.number;
-  closed = b.closed ∙ a.closed;
-}
+handled_on h j k p q r ms ns fs gs unput a b = grind (arith, (host_more sides counts h j k ms fs ns gs a.runs b.runs), each_append, append-nil, append_assoc, stream_of-append)
 
 -- ## Messages in turn
 
@@ -110,21 +99,7 @@ here h k p m why same s = subst (λ (x : PlainHost). HandledSome ⊥ h x p p (m 
 -- a refusal changes nothing
 pub one_stops : (h k : PlainHost) (p : PostView (Vec ℕ)) (m : Tmesg) (why : HostFault) → k ≡ h → (why ≡ refusal.OutOfMemory) ⊎ (answer h m ≡ Err why)
     → HandledSome ⊥ h k p p (m ∷ []) (of_refusal why)
-one_stops h k p m refusal.OutOfMemory same refused = here h k p m stop.Memory same (one_without_memory h p m)
-one_stops h k p m refusal.NoFile same (inl memory) = absurd (cc)
-one_stops h k p m refusal.NoFile same (inr refused) = here h k p m (of_refusal refusal.NoFile) same (one_refused h p m refusal.NoFile (refusal_number refusal.NoFile) refused refl)
-one_stops h k p m refusal.NotOpen same (inl memory) = absurd (cc)
-one_stops h k p m refusal.NotOpen same (inr refused) = here h k p m (of_refusal refusal.NotOpen) same (one_refused h p m refusal.NotOpen (refusal_number refusal.NotOpen) refused refl)
-one_stops h k p m refusal.BadPosition same (inl memory) = absurd (cc)
-one_stops h k p m refusal.BadPosition same (inr refused) = here h k p m (of_refusal refusal.BadPosition) same (one_refused h p m refusal.BadPosition (refusal_number refusal.BadPosition) refused refl)
-one_stops h k p m refusal.TooLong same (inl memory) = absurd (cc)
-one_stops h k p m refusal.TooLong same (inr refused) = here h k p m (of_refusal refusal.TooLong) same (one_refused h p m refusal.TooLong (refusal_number refusal.TooLong) refused refl)
-one_stops h k p m refusal.BadVersion same (inl memory) = absurd (cc)
-one_stops h k p m refusal.BadVersion same (inr refused) = here h k p m (of_refusal refusal.BadVersion) same (one_refused h p m refusal.BadVersion (refusal_number refusal.BadVersion) refused refl)
-one_stops h k p m refusal.CountFull same (inl memory) = absurd (cc)
-one_stops h k p m refusal.CountFull same (inr refused) = here h k p m (of_refusal refusal.CountFull) same (one_refused h p m refusal.CountFull (refusal_number refusal.CountFull) refused refl)
-one_stops h k p m refusal.CommandFile same (inl memory) = absurd (cc)
-one_stops h k p m refusal.CommandFile same (inr refused) = here h k p m (of_refusal refusal.CommandFile) same (one_refused h p m refusal.CommandFile (refusal_number refusal.CommandFile) refused refl)
+one_stops h k p m why e u = grind (arith, here, one_without_memory, one_refused)
 
 pub known_fit : (version : ℕ) (frames slice : List HFrame) → slice ≡ frames → FitInPlace version frames → Each IsHFrame slice → Each (FitsH 2) slice
 known_fit version frames slice is fit known = grind (arith, frames_fit)
@@ -150,12 +125,11 @@ one_cut most h j k p q m frames slice answered same is fit known puts =
 
 leaves_halts : (refuses : Type 0) (k : PlainHost) (version came : ℕ) (left : List Tmesg) (bytes : List ℕ) (why : Stop) → Each (FitsT 2) left → Leaves refuses k left why
     → Halts refuses k version came (stream_of terminal left ++ bytes) why
-leaves_halts refuses k version came left bytes (stop.Frame n) fits l = absurd l
 leaves_halts refuses k version came left bytes (stop.Host n) fits l = grind (arith, (append_assoc (frame_of terminal l.0) (stream_of terminal l.1) bytes))
 leaves_halts refuses k version came left bytes (stop.Term n) fits l = l
 leaves_halts refuses k version came left bytes stop.PeerGone fits l = l
 leaves_halts refuses k version came left bytes stop.Gate fits l = l
-leaves_halts refuses k version came left bytes stop.Memory fits l = tt
+leaves_halts refuses k version came left bytes why e u = grind arith
 
 -- some messages of those that stand at the front of the bytes were handled
 some_front : (refuses : Type 0) (h k : PlainHost) (p q : PostView (Vec ℕ)) (version came : ℕ) (bytes : List ℕ) (ms : List Tmesg) (rest : List ℕ) (why : Stop)
@@ -164,8 +138,7 @@ some_front refuses h k p q version came bytes ms rest why splits s = grind (arit
 
 pub piece_all : (refuses : Type 0) (h k : PlainHost) (p q : PostView (Vec ℕ)) (held fed next : Held) (piece : List ℕ) (ms : List Tmesg) (r : Result (Unit {0}) Stop)
     → next ≡ fed → GaveAll terminal held piece ms fed → HandlesAll refuses h k p q ms r → TakesPiece refuses h k p q held next piece r
-piece_all refuses h k p q held fed next piece ms (Ok done) same gave all = grind arith
-piece_all refuses h k p q held fed next piece ms (Err why) same gave some = grind (arith, some_front)
+piece_all refuses h k p q held fed next piece ms r e u w = grind (arith, some_front)
 
 pub piece_before : (refuses : Type 0) (h k : PlainHost) (p q : PostView (Vec ℕ)) (held next : Held) (piece : List ℕ) (ms : List Tmesg) (place : ℕ) (fault : MesgFault) (why : Stop)
     → GaveUp terminal held piece ms place fault next → StopsBefore refuses h k p q ms (frame_number fault) why

@@ -1,5 +1,5 @@
 -- All that the host's worker takes.
-use Rattle.std.proofs.Common.{◌≡◌, ◌∙◌, inl, inr, ℕ, ◌+◌, ◌^◌, ◌≤◌, List, [], ◌++◌, length, All, Option, Some, None, Ok, refl, sym, ap, subst, append_assoc, append-nil, length-append, arith}
+use Rattle.std.proofs.Common.{◌≡◌, ◌∙◌, inl, inr, ℕ, ◌+◌, ◌^◌, ◌≤◌, List, [], ◌++◌, length, All, Option, Some, None, Ok, refl, sym, ap, subst, append_assoc, append-nil, length-append, arith, rules}
 use Rattle.std.specs.Global.{Vec}
 use Rattle.sam_runes.specs.Texts.{most_files}
 use Rattle.sam_mesg.specs.declared.tmesg.Tmesg.{Tmesg}
@@ -69,10 +69,6 @@ going_stops refuses h j k p q r held a b sender piece fed why one takes is going
     let bytes = bytes_of (items_of 0 a.taken) in
     let splits = subst (λ (x : List ℕ). Splits terminal held.version (held.bytes ++ x) front.handled front.rest) is front.splits in
     let all = splits_more terminal fresh bytes going.messages held piece.items front.handled front.rest going.came splits in
-    let version : version_after terminal held.version front.handled ≡ version_after terminal 1 (going.messages ++ front.handled) =
-    ap (λ (v : ℕ). version_after terminal v front.handled) going.came.version_is ∙ sym (version_after-append terminal 1 going.messages front.handled) in
-    let all_came : length (bytes_of (items_of 0 b.taken)) ≡ held.offset + length held.bytes + length fed =
-    ap length (item_is 1 a b sender piece refl one takes) ∙ came_is bytes going.messages held fed piece.items is going.came in
     record {
       handled = going.messages ++ front.handled;
       answered = going.answered ++ front.answered;
@@ -80,9 +76,8 @@ going_stops refuses h j k p q r held a b sender piece fed why one takes is going
       rest = front.rest;
       did = handled_on h j k p q r going.messages front.handled going.answered front.answered front.unput going.did front.did;
       fit = all.fit;
-      got = item_is 1 a b sender piece refl one takes ∙ all.whole;
-      ends = subst (λ (v : ℕ). Halts refuses k v (length (bytes_of (items_of 0 b.taken))) front.rest why) version
-          (subst (λ (n : ℕ). Halts refuses k (version_after terminal held.version front.handled) n front.rest why) (sym all_came) front.halts);
+      got = grind (arith, splits_more, item_is);
+      ends = grind (arith, version_after-append, item_is, came_is);
     }
 
 -- the gate did not let it begin
@@ -107,16 +102,10 @@ past_count taken more all is past = grind (arith, items_of-append, bytes_append,
 ends_dropped : (refuses : Type 0) (e : HostEnd) (taken more : List (Entry (Vec ℕ))) (handled : List Tmesg) (unput rest : List ℕ) (s : Option Stop)
     → e.take.taken ≡ taken ++ more → (s ≡ None → more ≡ []) → Ends refuses e.host taken handled unput rest s
     → HostStopped e handled unput (rest ++ bytes_of (items_of 0 more)) s
-ends_dropped refuses e taken more handled unput rest None all none ends = grind (arith, append-nil)
-ends_dropped refuses e taken more handled unput rest (Some (stop.Frame n)) all none (inl full) = inl (full.0, past_count taken more e.take.taken all full.1)
-ends_dropped refuses e taken more handled unput rest (Some (stop.Frame n)) all none (inr shows) = grind arith
 ends_dropped refuses e taken more handled unput rest (Some (stop.Host n)) all none next =
     let dropped = bytes_of (items_of 0 more) in
     (next.0, next.1 ++ dropped, next.2, next.3, ap (λ (x : List ℕ). x ++ dropped) next.4 ∙ append_assoc (frame_of terminal next.0) next.1 dropped, next.5, next.6)
-ends_dropped refuses e taken more handled unput rest (Some (stop.Term n)) all none ends = ends
-ends_dropped refuses e taken more handled unput rest (Some stop.PeerGone) all none ends = ends
-ends_dropped refuses e taken more handled unput rest (Some stop.Gate) all none ends = tt
-ends_dropped refuses e taken more handled unput rest (Some stop.Memory) all none ends = tt
+ends_dropped refuses e taken more handled unput rest s u w q = grind (arith, append-nil, past_count)
 
 pub told_of : (refuses : Type 0) (up down : LineView) (h : PlainHost) (p q : PostView (Vec ℕ)) (taken more : List (Entry (Vec ℕ))) (e : HostEnd)
     → p ≡ new_post down 0 → h ≡ new_host e.files.items → (length e.files.items ≤ most_files) × All IsFile e.files.items

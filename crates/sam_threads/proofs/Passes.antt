@@ -1,5 +1,5 @@
 -- Where the host reader stands between two pieces.
-use Rattle.std.proofs.Common.{◌≡◌, ◌∙◌, ℕ, ◌+◌, ◌^◌, ◌≤◌, inl, inr, List, [], ◌∷◌, ◌++◌, length, Option, None, Some, Bool, refl, sym, ap, subst, append-nil, append_assoc, length-append, arith}
+use Rattle.std.proofs.Common.{◌≡◌, ◌∙◌, ℕ, ◌+◌, ◌^◌, ◌≤◌, inl, inr, List, [], ◌∷◌, ◌++◌, length, Option, None, Some, Bool, refl, sym, ap, subst, append-nil, append_assoc, length-append, arith, rules}
 use Rattle.std.specs.Global.{Vec}
 use Rattle.std.proofs.lemmas.List.{map-append}
 use Rattle.std.proofs.lemmas.List.Concat.{flat_map-append}
@@ -37,10 +37,7 @@ sent_both p q r fs gs a b = grind (arith, append_assoc, map-append)
 -- frames that are not sent on are part of the rest
 front_splits : {M : Type 0} (d : Direction M) (version : ℕ) (bytes : List ℕ) (ms ns : List M) (rest : List ℕ)
     → Splits d version bytes (ms ++ ns) rest → Splits d version bytes ms (stream_of d ns ++ rest)
-front_splits d version bytes ms ns rest s = record {
-  whole = s.whole ∙ ap (λ (b : List ℕ). b ++ rest) (stream_of-append d ms ns) ∙ append_assoc (stream_of d ms) (stream_of d ns) rest;
-  fit = front_fits d version ms ns s.fit;
-}
+front_splits d version bytes ms ns rest s = grind (arith, stream_of-append, append_assoc, front_fits)
   where
     front_fits : {M : Type 0} (d : Direction M) (version : ℕ) (ms ns : List M) → FitInTurn d version (ms ++ ns) → FitInTurn d version ms
     front_fits d version [] ns fit = tt
@@ -56,12 +53,9 @@ passed_all h piece k p q frames (Some s) all (done, more, parts, sent, is) = gri
 pub passed_before : (h : Held) (piece : List ℕ) (k : Held) (p q : PostView Input) (frames : List HFrame) (place : ℕ) (fault : MesgFault) (n : ℕ) (s : Option Stop)
     → GaveUp host h piece frames place fault k → n ≡ frame_number fault → SendsBefore frames n p q s → PassesPiece h piece k p q s
 passed_before h piece k p q frames place fault n None up is sends = absurd sends
-passed_before h piece k p q frames place fault n (Some s) up is (inl (done, more, parts, sent, gate)) = (
-  done,
-  stream_of host more ++ k.bytes,
-  front_splits host h.version (h.bytes ++ piece) done more k.bytes (subst (λ (fs : List HFrame). Splits host h.version (h.bytes ++ piece) fs k.bytes) parts up.gave.splits),
-  sent,
-  subst (λ (x : Stop). StopsBehind (version_after host h.version done) (h.offset + length h.bytes + length piece) (stream_of host more ++ k.bytes) x) (sym gate) tt,
+passed_before h piece k p q frames place fault n (
+    Some s) up is (inl (done, more, parts, sent, gate)) = grind (arith,
+    (front_splits host h.version (h.bytes ++ piece) done more k.bytes (subst (λ (fs : List HFrame). Splits host h.version (h.bytes ++ piece) fs k.bytes) parts up.gave.splits)),
 )
 passed_before h piece k p q frames place fault n (Some s) up is (inr (sent, at)) = grind arith
 
@@ -123,13 +117,7 @@ ends t u p q k one far ended = grind arith
 
 stopped_behind : (e : ReaderEnd) (passed : List HFrame) (came : ℕ) (rest dropped : List ℕ) (s : Stop)
     → (2 ^ 64 ≤ came → IsPastCount e.take.taken) → StopsBehind (version_after host 1 passed) came rest s → ReaderStopped e passed (rest ++ dropped) (Some s)
-stopped_behind e passed came rest dropped (stop.Frame n) past (inl full) = inl (full.0, past full.1)
-stopped_behind e passed came rest dropped (stop.Frame n) past (inr (fault, shows, is)) = inr (rest, dropped, fault, refl, shows, is)
-stopped_behind e passed came rest dropped (stop.Host n) past never = never
-stopped_behind e passed came rest dropped (stop.Term n) past never = never
-stopped_behind e passed came rest dropped stop.PeerGone past never = never
-stopped_behind e passed came rest dropped stop.Gate past stopped = tt
-stopped_behind e passed came rest dropped stop.Memory past stopped = tt
+stopped_behind e passed came rest dropped s u w = grind arith
 
 abbrev end_of : TakeView (Vec ℕ) → PostView Input → Bool → Option Stop → ReaderEnd
 end_of t p passed s = record { take = t; post = p; passed = passed; stop = s }
@@ -140,21 +128,16 @@ pub left_told : (down events : LineView) (t u : TakeView (Vec ℕ)) (p q : PostV
     → down.senders ≡ 1 → IsEnded u.line.senders u.taken → ReaderTold down events (end_of u q passed (Some s))
 left_told down events t u p q passed s went closed line (more, taken) one ended =
     let dropped = bytes_of (items_of 0 more) in
-    let joined : bytes_of (items_of 0 u.taken) ≡ bytes_of (items_of 0 t.taken) ++ dropped =
-    ap (λ (l : List (Entry (Vec ℕ))). bytes_of (items_of 0 l)) taken ∙ ap bytes_of (items_of-append 0 t.taken more)
-    ∙ flat_map-append (λ (v : Vec ℕ). v.items) (items_of 0 t.taken) (items_of 0 more) in
-    let past : 2 ^ 64 ≤ length (bytes_of (items_of 0 t.taken)) → IsPastCount u.taken =
-    λ l. let parts = ap length joined in omega (arith, l, length-append (bytes_of (items_of 0 t.taken)) dropped) in
     record {
       passed = went.passed;
       rest = went.rest ++ dropped;
       take_is = line ∙ went.line_is;
-      post_is = ap (λ (x : PostView Input). x.line) (closed ∙ ap closed_post went.sent);
-      number_is = ap (λ (x : PostView Input). x.number) (closed ∙ ap closed_post went.sent);
+      post_is = grind arith;
+      number_is = grind arith;
       fit = went.fit;
-      got = joined ∙ ap (λ (b : List ℕ). b ++ dropped) went.got ∙ append_assoc (stream_of host went.passed) went.rest dropped;
-      put = ap (λ (x : PostView Input). x.put) (closed ∙ ap closed_post went.sent);
-      closed = ap (λ (x : PostView Input). x.closed) closed;
-      drained = subst (λ n. IsEnded n u.taken) (ap (λ (l : LineView). l.senders) (line ∙ went.line_is) ∙ one) ended;
-      stopped = stopped_behind (end_of u q passed (Some s)) went.passed (length (bytes_of (items_of 0 t.taken))) went.rest dropped s past went.stops;
+      got = grind (arith, items_of-append, flat_map-append, append_assoc);
+      put = grind arith;
+      closed = grind arith;
+      drained = grind arith;
+      stopped = grind (arith, items_of-append, flat_map-append, length-append, stopped_behind);
     }

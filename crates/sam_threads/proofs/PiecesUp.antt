@@ -1,5 +1,5 @@
 -- What the terminal is still to send.
-use Rattle.std.proofs.Common.{◌≡◌, refl, ap, ◌∙◌, ℕ, zero, suc, ◌≤◌, List, [], ◌∷◌, ◌++◌, length, drop, append-nil, arith}
+use Rattle.std.proofs.Common.{◌≡◌, refl, ap, ◌∙◌, ℕ, zero, suc, ◌≤◌, List, [], ◌∷◌, ◌++◌, length, drop, append-nil, arith, rules}
 use Rattle.std.specs.Global.{Vec}
 use Rattle.std.proofs.lemmas.List.{drop-append-le}
 use Rattle.sam_mesg.specs.declared.tmesg.Tmesg.{Tmesg}
@@ -11,10 +11,8 @@ use Rattle.sam_threads.proofs.Cut.{put_none}
 
 -- nothing stands behind the last byte
 pub nothing_behind : (xs : List ℕ) (n : ℕ) → n ≡ length xs → drop n xs ≡ []
-nothing_behind [] zero e = refl
-nothing_behind [] (suc n) e = absurd (omega arith)
-nothing_behind (x ∷ xs) zero e = absurd (omega arith)
 nothing_behind (x ∷ xs) (suc n) e = nothing_behind xs n (omega arith)
+nothing_behind xs n e = grind arith
 
 -- what is put behind all of the bytes is put behind those that are not taken yet
 pub all_behind : (before after : List ℕ) (ms : List Tmesg) (n : ℕ) → after ≡ before ++ stream_of terminal ms → n ≤ length before

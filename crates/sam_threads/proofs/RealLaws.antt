@@ -1,5 +1,5 @@
 -- The real sides count as the law of two sides asks, their frames are told apart, and their world is the plain world.
-use Rattle.std.proofs.Common.{◌≡◌, suc, ◌+◌, ◌≤◌, List, [], ◌∷◌, length, Option, Some, None, Result, Ok, Err, refl, sym, ap, ◌∙◌, arith}
+use Rattle.std.proofs.Common.{◌≡◌, suc, ◌+◌, ◌≤◌, List, [], ◌∷◌, length, Option, Some, None, Result, Ok, Err, refl, sym, ap, ◌∙◌, arith, rules}
 use Rattle.std.specs.Prelude.{option_map, option_and_then, All}
 use Rattle.std.proofs.lemmas.Option.{same_Some}
 use Rattle.sam_mesg.specs.declared.tmesg.Tmesg.{Tmesg}
@@ -27,8 +27,7 @@ use Rattle.sam_threads.specs.RealSides.{sides, unless_refused, acted}
 -- ## What a step of the sides was
 
 pub answered_as : {A E : Type 0} (r : Result A E) (x : A) → unless_refused r ≡ Some x → r ≡ Ok x
-answered_as (Ok a) x e = ap Ok (same_Some a x e)
-answered_as (Err why) x e = absurd (cc)
+answered_as r x e = grind (arith, same_Some)
 
 taken_past : (t : PlainTerminal) (frame : HFrame) (r : Made) → take_of t frame ≡ Ok r → frame.seen ≤ t.sent
 unfolding take_of
@@ -40,22 +39,19 @@ each_of_all P (x ∷ xs) a = (a 0 x (omega arith), each_of_all P xs (λ k d l. a
 
 acted_as : (r : Result (PlainTerminal × Acted) TermFault) (u : PlainTerminal) (ms : List Tmesg) → acted r ≡ Some (u, ms)
     → (p : PlainTerminal × Acted) × (r ≡ Ok p) × (p.0 ≡ u) × (composed_by p.1 ≡ ms)
-acted_as (Ok p) u ms e = grind arith
-acted_as (Err why) u ms e = absurd (cc)
+acted_as r u ms e = grind arith
 
 -- ## The counts count
 
 pub counts : Counts sides
 counts = record {
-  taken = λ h m k fs e. (answers_are_counted h k m fs (answered_as (answer h m) (k, fs) e)).0;
-  stamped = λ h m k fs e. each_of_all (λ (frame : HFrame). frame.seen ≡ k.taken) fs (answers_are_counted h k m fs (answered_as (answer h m) (k, fs) e)).1;
-  user = λ t e. refl;
-  act = λ t u ms e.
-      let x = acted_as (act_of t) u ms e in
-      sym (ap (λ (v : PlainTerminal). v.sent) x.2) ∙ (act-counts t x.0 x.1 ∙ ap (λ (l : List Tmesg). t.sent + length l) x.3);
-  flush = λ t u ms e. flush-counts t (u, ms) (answered_as (flush_of t) (u, ms) e);
-  receive = λ t u frame ms e. take-counts t frame (u, ms) (answered_as (take_of t frame) (u, ms) e);
-  past = λ t u frame ms e. taken_past t frame (u, ms) (answered_as (take_of t frame) (u, ms) e);
+    taken = grind (arith, answers_are_counted, answered_as);
+    stamped = grind (arith, answers_are_counted, answered_as, each_of_all);
+    user = λ t e. refl;
+    act = grind (arith, acted_as, act-counts);
+    flush = λ t u ms e. flush-counts t (u, ms) (answered_as (flush_of t) (u, ms) e);
+    receive = λ t u frame ms e. take-counts t frame (u, ms) (answered_as (take_of t frame) (u, ms) e);
+    past = grind (arith, answered_as, taken_past);
 }
 
 -- ## The frames of both directions
@@ -79,11 +75,7 @@ abbrev pub plain : World PlainHost PlainTerminal Tmesg HFrame → PlainWorld
 plain w = record { host = w.host; term = w.term; up = w.up; down = w.down }
 
 pub same_step : (w : World PlainHost PlainTerminal Tmesg HFrame) (e : Event) → step_of (plain w) e ≡ option_map plain (step sides w e)
-same_step w (User e) = refl
-same_step w Act = grind arith
-same_step w Flush = grind arith
-same_step w HostTake = grind arith
-same_step w TermTake = grind arith
+same_step w e = grind arith
 
 pub same_run : (w : World PlainHost PlainTerminal Tmesg HFrame) (es : List Event) → run_of (plain w) es ≡ option_map plain (run sides w es)
 same_run w [] = refl

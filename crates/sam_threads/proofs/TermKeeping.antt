@@ -1,5 +1,5 @@
 -- What is kept of the terminal's worker, step by step.
-use Rattle.std.proofs.Common.{◌≡◌, ◌⊎◌, inl, inr, refl, sym, ap, subst, ◌∙◌, ℕ, Bool, true, false, if◌then◌else◌, List, [], ◌∷◌, ◌++◌, Option, Some, None, is_some, append_assoc, append-nil, arith}
+use Rattle.std.proofs.Common.{◌≡◌, ◌⊎◌, inl, inr, refl, sym, ap, subst, ◌∙◌, ℕ, Bool, true, false, if◌then◌else◌, List, [], ◌∷◌, ◌++◌, Option, Some, None, is_some, append_assoc, append-nil, arith, rules}
 use Rattle.std.specs.Global.{Vec}
 use Rattle.std.specs.Prelude.{MatchBool}
 use Rattle.sam_mesg.specs.declared.tmesg.Tmesg.{Tmesg}
@@ -53,14 +53,12 @@ pub users_on : (v : SideView) (logged : LoggedView) (events : List UserEvent) (f
 users_on v logged events frames ms r d = grind (arith, users_append)
 
 pub none_of : (o : Option Stop) → is_some o ≡ false → o ≡ None
-none_of None e = refl
-none_of (Some x) e = absurd (cc)
+none_of o e = grind arith
 
 -- ## What was put
 
 so_far_of : (t : PlainTerminal) (dropped : List (Entry Input)) (lost : List ℕ) (o : Option Stop) → o ≡ None → SoFar t dropped lost o → (dropped ≡ []) × (lost ≡ [])
-so_far_of t dropped lost None e s = s
-so_far_of t dropped lost (Some x) e s = absurd (cc)
+so_far_of t dropped lost o e u = grind arith
 
 -- nothing is dropped or lost where nothing has stopped it
 pub whole : (v : SideView) (r : Ran v) → v.stop ≡ None → (r.dropped ≡ []) × (r.lost ≡ [])
@@ -82,28 +80,26 @@ kept_step : (v : SideView) (logged : LoggedView) (to_send : List ℕ) (why : Opt
     → Did v.logged logged [] [] ms → Each (FitsT 2) ms → to_send ++ lost ≡ v.to_send ++ stream_of terminal ms → SoFar logged.term [] lost why
     → (why ≡ Some stop.PeerGone → has_left 2 v.take.taken ≡ true)
     → Ran (record { take = v.take; post = v.post; logged = logged; to_send = to_send; keyboard_left = v.keyboard_left; mouse_left = v.mouse_left; exit_put = v.exit_put; stop = why })
-kept_step v logged to_send why ms lost r running d fit grown so_far gone =
-    let none = whole v r running in
-    record {
-      handled = r.handled;
-      dropped = [];
-      composed = r.composed ++ ms;
-      lost = lost;
-      own = r.own;
-      number = r.number;
-      senders = r.senders;
-      took = r.took ∙ ap (λ (x : List (Entry Input)). r.handled ++ x) none.0;
-      runs = subst (λ (x : List HFrame). TermRuns sides new_terminal logged.log x (r.composed ++ ms) logged.term) (append-nil (frames_in r.handled)) (runs_on v logged [] [] ms r d);
-      users = users_on v logged [] [] ms r d ∙ append-nil (users_in r.handled ++ r.own);
-      own_is = r.own_is;
-      all_left = r.all_left;
-      keyboard = r.keyboard;
-      mouse = r.mouse;
-      fit = each_append (FitsT 2) r.composed ms r.fit fit;
-      sent = sent_on (bytes_of v.post.put) v.to_send r.lost to_send lost r.composed ms r.sent none.1 grown;
-      so_far = so_far;
-      gone = λ is. subst (λ (x : List (Entry Input)). has_left 2 x ≡ true) (all_handled v r running) (gone is);
-    }
+kept_step v logged to_send why ms lost r running d fit grown so_far gone = record {
+    handled = r.handled;
+    dropped = [];
+    composed = r.composed ++ ms;
+    lost = lost;
+    own = r.own;
+    number = r.number;
+    senders = r.senders;
+    took = grind (arith, whole);
+    runs = subst (λ (x : List HFrame). TermRuns sides new_terminal logged.log x (r.composed ++ ms) logged.term) (append-nil (frames_in r.handled)) (runs_on v logged [] [] ms r d);
+    users = users_on v logged [] [] ms r d ∙ append-nil (users_in r.handled ++ r.own);
+    own_is = r.own_is;
+    all_left = r.all_left;
+    keyboard = r.keyboard;
+    mouse = r.mouse;
+    fit = grind (arith, each_append);
+    sent = grind (arith, whole, sent_on);
+    so_far = so_far;
+    gone = λ is. subst (λ (x : List (Entry Input)). has_left 2 x ≡ true) (all_handled v r running) (gone is);
+}
 
 pub kept_done : (v : SideView) (logged : LoggedView) (to_send : List ℕ) (ms : List Tmesg) → Ran v → is_some v.stop ≡ false
     → Did v.logged logged [] [] ms → Each (FitsT 2) ms → to_send ≡ v.to_send ++ stream_of terminal ms
@@ -141,7 +137,6 @@ pub kept_exit : (v : SideView) (logged : LoggedView) → Ran v → is_some v.sto
     → v.keyboard_left ≡ true → v.mouse_left ≡ true
     → Ran (record { take = v.take; post = v.post; logged = logged; to_send = v.to_send; keyboard_left = v.keyboard_left; mouse_left = v.mouse_left; exit_put = true; stop = v.stop })
 kept_exit v logged r running d none k m =
-    let halted = whole v r (none_of v.stop running) in
     let own_none : r.own ≡ [] = r.own_is ∙ ap (λ (x : Bool). if x then Exit ∷ [] else []) none in
     record {
       handled = r.handled;
@@ -152,23 +147,20 @@ kept_exit v logged r running d none k m =
       number = r.number;
       senders = r.senders;
       took = r.took;
-      runs = subst (λ (x : List Tmesg). TermRuns sides new_terminal logged.log (frames_in r.handled) x logged.term) (append-nil r.composed)
-          (subst (λ (x : List HFrame). TermRuns sides new_terminal logged.log x (r.composed ++ []) logged.term) (append-nil (frames_in r.handled)) (runs_on v logged (Exit ∷ []) [] [] r d));
-      users = users_on v logged (Exit ∷ []) [] [] r d
-          ∙ ap (λ (x : List UserEvent). x ++ Exit ∷ []) (ap (λ (x : List UserEvent). users_in r.handled ++ x) own_none ∙ append-nil (users_in r.handled));
+      runs = subst (λ (x : List Tmesg). TermRuns sides new_terminal logged.log (frames_in r.handled) x logged.term) (append-nil r.composed) (subst (λ (x : List HFrame). TermRuns sides new_terminal logged.log x (r.composed ++ []) logged.term) (append-nil (frames_in r.handled)) (runs_on v logged (Exit ∷ []) [] [] r d));
+      users = users_on v logged (Exit ∷ []) [] [] r d ∙ ap (λ (x : List UserEvent). x ++ Exit ∷ []) (ap (λ (x : List UserEvent). users_in r.handled ++ x) own_none ∙ append-nil (users_in r.handled));
       own_is = refl;
       all_left = λ _. (k, m);
       keyboard = r.keyboard;
       mouse = r.mouse;
       fit = r.fit;
       sent = r.sent;
-      so_far = still_so_far logged.term v.logged.term r.dropped r.lost v.stop (none_of v.stop running) r.so_far;
+      so_far = grind (arith, none_of, still_so_far);
       gone = r.gone;
     }
   where
     still_so_far : (t u : PlainTerminal) (dropped : List (Entry Input)) (lost : List ℕ) (o : Option Stop) → o ≡ None → SoFar u dropped lost o → SoFar t dropped lost o
-    still_so_far t u dropped lost None e s = s
-    still_so_far t u dropped lost (Some x) e s = absurd (cc)
+    still_so_far t u dropped lost o e w = grind arith
 
 -- ## Its line
 
@@ -178,27 +170,7 @@ moved put before put' after lost e = grind (arith, append_assoc)
 pub kept_put : (v : SideView) (post : PostView (Vec ℕ)) (to_send : List ℕ) → Ran v → post.number ≡ v.post.number
     → bytes_of post.put ++ to_send ≡ bytes_of v.post.put ++ v.to_send
     → Ran (record { take = v.take; post = post; logged = v.logged; to_send = to_send; keyboard_left = v.keyboard_left; mouse_left = v.mouse_left; exit_put = v.exit_put; stop = v.stop })
-kept_put v post to_send r number e =
-    record {
-      handled = r.handled;
-      dropped = r.dropped;
-      composed = r.composed;
-      lost = r.lost;
-      own = r.own;
-      number = number ∙ r.number;
-      senders = r.senders;
-      took = r.took;
-      runs = r.runs;
-      users = r.users;
-      own_is = r.own_is;
-      all_left = r.all_left;
-      keyboard = r.keyboard;
-      mouse = r.mouse;
-      fit = r.fit;
-      sent = moved (bytes_of v.post.put) v.to_send (bytes_of post.put) to_send r.lost e ∙ r.sent;
-      so_far = r.so_far;
-      gone = r.gone;
-    }
+kept_put v post to_send r number e = grind (arith, moved)
 
 -- pieces were put
 pub kept_pieces : (v : SideView) (post : PostView (Vec ℕ)) (to_send : List ℕ) (most : ℕ) → Ran v → PutSome most v.post post v.to_send to_send
@@ -215,8 +187,7 @@ kept_short v post to_send most r running p = grind (arith, (kept_pieces v post t
 
 pub kept_closed : (v : SideView) (post : PostView (Vec ℕ)) (b : Bool) → Ran v → MatchBool b (post ≡ closed_post v.post) ((post ≡ v.post) × (v.post.closed ≡ false) × WasFull v.post)
     → Ran (record { take = v.take; post = post; logged = v.logged; to_send = v.to_send; keyboard_left = v.keyboard_left; mouse_left = v.mouse_left; exit_put = v.exit_put; stop = v.stop })
-kept_closed v post true r e = grind arith
-kept_closed v post false r e = grind arith
+kept_closed v post b e u = grind arith
 
 -- ## From one moment to another
 
@@ -224,9 +195,7 @@ pub goes_on : (a b c : SideView) → Goes a b → Goes b c → Goes a c
 goes_on a b c p q = record { take = q.take ∙ p.take; line = q.line ∙ p.line; gate = λ is. p.gate (q.gate is) }
 
 pub found_still : (a b : SideView) (f : Found) → Goes a b → IsFound a f → IsFound b f
-found_still a b found.Entry g f = tt
-found_still a b found.Nothing g f = tt
-found_still a b found.Ended g f = subst (λ (x : TakeView Input). IsEnded 3 x.taken) (sym g.take) f
+found_still a b f e u = grind arith
 
 pub done_stopped : (v : SideView) → is_some v.stop ≡ true → IsEnded 3 v.take.taken → IsDone (record v { post = closed_post v.post })
 done_stopped v stopped ended = grind arith
@@ -238,35 +207,32 @@ pub kept_new : (line : TakeView Input) (post : PostView (Vec ℕ)) (t : PlainTer
     → line ≡ new_take line.line → line.line.senders ≡ 3 → post ≡ new_post post.line 0 → t ≡ new_terminal
     → logged ≡ record { term = t; log = [] } → to_send ≡ [] → (why ≡ None) ⊎ (why ≡ Some stop.Gate)
     → Ran (record { take = line; post = post; logged = logged; to_send = to_send; keyboard_left = false; mouse_left = false; exit_put = false; stop = why })
-kept_new line post t logged to_send why fresh three first new laid empty is =
-    record {
-      handled = [];
-      dropped = [];
-      composed = [];
-      lost = [];
-      own = [];
-      number = ap (λ (x : PostView (Vec ℕ)). x.number) first;
-      senders = three;
-      took = ap (λ (x : TakeView Input). x.taken) fresh;
-      runs = subst (λ (x : LoggedView). TermRuns sides new_terminal x.log [] [] x.term) (sym laid) (refl, refl, new);
-      users = ap (λ (x : LoggedView). logged_users x.log) laid;
-      own_is = refl;
-      all_left = λ is. absurd (cc);
-      keyboard = λ is. absurd (cc);
-      mouse = λ is. absurd (cc);
-      fit = tt;
-      sent = ap (λ (x : PostView (Vec ℕ)). bytes_of x.put ++ (to_send ++ [])) first ∙ ap (λ (x : List ℕ). x ++ []) empty;
-      so_far = so_far why is;
-      gone = λ gone. absurd (not_gone why is gone);
-    }
+kept_new line post t logged to_send why fresh three first new laid empty is = record {
+    handled = [];
+    dropped = [];
+    composed = [];
+    lost = [];
+    own = [];
+    number = grind arith;
+    senders = three;
+    took = grind arith;
+    runs = grind arith;
+    users = grind arith;
+    own_is = refl;
+    all_left = λ is. absurd (cc);
+    keyboard = λ is. absurd (cc);
+    mouse = λ is. absurd (cc);
+    fit = tt;
+    sent = grind arith;
+    so_far = so_far why is;
+    gone = λ gone. absurd (not_gone why is gone);
+}
   where
     not_gone : (o : Option Stop) → (o ≡ None) ⊎ (o ≡ Some stop.Gate) → o ≡ Some stop.PeerGone → ⊥
-    not_gone o (inl e) gone = cc
-    not_gone o (inr e) gone = let other : stop.Gate ≡ stop.PeerGone = cc in cc
+    not_gone o e u = grind arith
 
     so_far : (o : Option Stop) → (o ≡ None) ⊎ (o ≡ Some stop.Gate) → SoFar logged.term [] [] o
-    so_far o (inl e) = subst (λ (x : Option Stop). SoFar logged.term [] [] x) (sym e) (refl, refl)
-    so_far o (inr e) = subst (λ (x : Option Stop). SoFar logged.term [] [] x) (sym e) tt
+    so_far o e = grind arith
 
 -- what a side rests on that puts a piece
 pub ruleset pieces_kept = (kept_pieces, kept_short, goes_put)

@@ -1,5 +1,5 @@
 -- What is kept of the terminal's worker as it takes entries.
-use Rattle.std.proofs.Common.{◌≡◌, ◌≢◌, ◌⊎◌, inl, inr, refl, sym, ap, subst, ◌∙◌, ℕ, Bool, true, false, if◌then◌else◌, List, [], ◌∷◌, ◌++◌, Option, Some, None, is_some, append_assoc, append-nil, arith}
+use Rattle.std.proofs.Common.{◌≡◌, ◌≢◌, ◌⊎◌, inl, inr, refl, sym, ap, subst, ◌∙◌, ℕ, Bool, true, false, if◌then◌else◌, List, [], ◌∷◌, ◌++◌, Option, Some, None, is_some, append_assoc, append-nil, arith, rules}
 use Rattle.std.proofs.lemmas.Grind.{flat_map-append}
 use Rattle.sam_mesg.specs.declared.tmesg.Tmesg.{Tmesg}
 use Rattle.sam_mesg.specs.declared.hmesg.HFrame.{HFrame}
@@ -29,14 +29,12 @@ use Rattle.sam_threads.proofs.TermKeeping.{runs_on, users_on, whole, all_handled
 -- ## Marks
 
 mark_stays : (xs ys : List (Option Input)) → has_mark xs ≡ true → has_mark (xs ++ ys) ≡ true
-mark_stays [] ys m = absurd (cc)
-mark_stays (None ∷ xs) ys m = refl
 mark_stays (Some x ∷ xs) ys m = mark_stays xs ys m
+mark_stays xs ys e = grind arith
 
 mark_comes : (xs : List (Option Input)) → has_mark (xs ++ None ∷ []) ≡ true
-mark_comes [] = refl
-mark_comes (None ∷ xs) = refl
 mark_comes (Some x ∷ xs) = mark_comes xs
+mark_comes xs = grind arith
 
 left_stays : (i : ℕ) (h more : List (Entry Input)) → has_left i h ≡ true → has_left i (h ++ more) ≡ true
 left_stays i h more m = ap (λ (x : List (Option Input)). has_mark x) (loads-append i h more) ∙ mark_stays (loads i h) (loads i more) m
@@ -64,8 +62,7 @@ own_exit b = if b then Exit ∷ [] else []
 -- behind its own Exit no event of the user comes
 own_behind : (v : SideView) (r : Ran v) (e : Entry Input) → has_left e.sender v.take.taken ≡ false → v.take.taken ≡ r.handled → IsOfUser e.sender (user_of_load e.load)
     → (users_in r.handled ++ r.own) ++ user_of_load e.load ≡ (users_in r.handled ++ user_of_load e.load) ++ r.own
-own_behind v r e unmarked all (inl none) = grind (arith, append-nil)
-own_behind v r e unmarked all (inr low) = grind (arith, append-nil)
+own_behind v r e u w q = grind (arith, append-nil)
 
 kept_entry : (v : SideView) (line : TakeView Input) (e : Entry Input) (logged : LoggedView) (to_send : List ℕ) (k m : Bool) (why : Option Stop) (ms : List Tmesg) (lost : List ℕ)
     → Ran v → v.stop ≡ None → TakesNext v.take e line
@@ -196,10 +193,7 @@ still v line r same = grind arith
 -- whatever the line answers after a stop
 pub kept_answer : (v : SideView) (line : TakeView Input) (g : Got Input) → Ran v → is_some v.stop ≡ true → Answers v.take g line
     → Ran (record { take = line; post = v.post; logged = v.logged; to_send = v.to_send; keyboard_left = v.keyboard_left; mouse_left = v.mouse_left; exit_put = v.exit_put; stop = v.stop })
-kept_answer v line (got.Item i m) r stopped a = kept_dropping v line (record { sender = i; load = Some m }) r stopped a
-kept_answer v line (got.Left i) r stopped a = kept_dropping v line (record { sender = i; load = None }) r stopped a
-kept_answer v line got.Ended r stopped a = still v line r a.0
-kept_answer v line got.Empty r stopped a = still v line r a.0
+kept_answer v line g e u w = grind (arith, kept_dropping, still)
 
 -- what a side rests on that takes an entry
 pub ruleset takes_kept = (kept_gone, kept_refused, kept_gated)

@@ -1,5 +1,5 @@
 -- What the terminal's worker tells of its end.
-use Rattle.std.proofs.Common.{◌≡◌, inl, sym, ap, subst, ◌∙◌, ℕ, Bool, true, false, if◌then◌else◌, List, [], ◌∷◌, ◌++◌, Option, Some, None, arith}
+use Rattle.std.proofs.Common.{◌≡◌, inl, sym, ap, subst, ◌∙◌, ℕ, Bool, true, false, if◌then◌else◌, List, [], ◌∷◌, ◌++◌, Option, Some, None, arith, rules}
 use Rattle.std.specs.Global.{Vec}
 use Rattle.sam_term.specs.Term.{PlainTerminal}
 use Rattle.sam_term.specs.declared.event.UserEvent.TheVariants.{Exit}
@@ -14,18 +14,11 @@ use Rattle.sam_threads.specs.declared.stop.Stop.{Stop}
 use Rattle.sam_threads.specs.declared.stop.Stop.TheVariants as stop
 
 exits : (v : SideView) (r : Ran v) (b : Bool) → v.exit_put ≡ b → IsOwnExit r.own r.handled
-exits v r true is = grind arith
-exits v r false is = inl (r.own_is ∙ ap (λ (x : Bool). if x then Exit ∷ [] else []) is)
+exits v r b e = grind arith
 
 stopped : (v : SideView) (e : TermEnd) (handled dropped : List (Entry Input)) (lost : List ℕ) (o : Option Stop) → e.take ≡ v.take → e.term ≡ v.logged.term → IsDone v → v.stop ≡ o
     → SoFar v.logged.term dropped lost o → (v.stop ≡ Some stop.PeerGone → has_left 2 handled ≡ true) → TermStopped e handled dropped (v.to_send ++ lost) o
-stopped v e handled dropped lost None take term d is s gone = grind arith
-stopped v e handled dropped lost (Some (stop.Frame n)) take term d is s gone = s
-stopped v e handled dropped lost (Some (stop.Host n)) take term d is s gone = s
-stopped v e handled dropped lost (Some (stop.Term n)) take term d is s gone = grind arith
-stopped v e handled dropped lost (Some stop.PeerGone) take term d is s gone = (subst (λ (x : PlainTerminal). x.has_exited ≡ false) (sym term) s, gone is)
-stopped v e handled dropped lost (Some stop.Gate) take term d is s gone = tt
-stopped v e handled dropped lost (Some stop.Memory) take term d is s gone = tt
+stopped v e handled dropped lost o u w q y z k = grind arith
 
 pub told : (v : SideView) (term : PlainTerminal) (log : Vec TermLog) (passed : Bool) → Ran v → IsDone v → record { term = term; log = log.items } ≡ v.logged
     → TermTold v.take.line v.post.line (record { take = v.take; post = v.post; term = term; log = log; passed = passed; stop = v.stop })

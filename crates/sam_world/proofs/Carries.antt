@@ -1,5 +1,5 @@
 -- What was handled begins what was composed.
-use Rattle.std.proofs.Common.{◌≡◌, ℕ, List, [], ◌∷◌, ◌++◌, sym, refl, ◌∙◌, append_assoc, flat_map, arith}
+use Rattle.std.proofs.Common.{◌≡◌, ℕ, List, [], ◌∷◌, ◌++◌, sym, refl, ◌∙◌, append_assoc, flat_map, arith, rules}
 use Rattle.std.proofs.lemmas.List.{append_cancel_left}
 use Rattle.sam_world.specs.Sides.{Each}
 use Rattle.sam_world.specs.Streams.{Begins}
@@ -15,7 +15,5 @@ nothing_before (x ∷ xs) ys e = cc
 
 module _ {M : Type 0} (good : M → Type 0) (frame : M → List ℕ) (law : PrefixFree good frame) where
   pub begins_from_bytes : (handled composed : List M) (more : List ℕ) → Each good handled → Each good composed → flat_map frame handled ++ more ≡ flat_map frame composed → Begins handled composed
-  begins_from_bytes [] composed more hs cs' e = record { rest = composed; is = refl }
-  begins_from_bytes (m ∷ ms) [] more hs cs' e =
-      absurd (law.some m (nothing_before (frame m) (flat_map frame ms ++ more) (sym (append_assoc (frame m) (flat_map frame ms) more) ∙ e)))
   begins_from_bytes (m ∷ ms) (c ∷ cs) more hs cs' e = grind (arith, append_assoc, append_cancel_left, (begins_from_bytes ms cs more hs.1 cs'.1))
+  begins_from_bytes handled composed more e u w = grind (arith, nothing_before, flat_map, append_assoc)

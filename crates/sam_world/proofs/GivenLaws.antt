@@ -1,5 +1,5 @@
 -- The files that a world is made with.
-use Rattle.std.proofs.Common.{◌≡◌, refl, ap, ℕ, zero, suc, ◌+◌, ◌≤◌, ◌<◌, List, [], ◌∷◌, ◌++◌, length, take, drop, All, arith}
+use Rattle.std.proofs.Common.{◌≡◌, refl, ap, ℕ, zero, suc, ◌+◌, ◌≤◌, ◌<◌, List, [], ◌∷◌, ◌++◌, length, take, drop, All, arith, rules}
 use Rattle.std.specs.Prelude.{slice_index_or}
 use Rattle.std.proofs.lemmas.List.Elements.{All-head, All-tail}
 use Rattle.sam_runes.specs.Texts.{RoomyText, most_in_name}
@@ -32,11 +32,9 @@ names_more [] g names short = (short, tt)
 names_more (h ∷ gs) g names short = (names.0, names_more gs g names.1 short)
 
 pub file_there : (fs : List (List ℕ × List ℕ)) (i : ℕ) (d : List ℕ × List ℕ) → i < length fs → All IsFile fs → IsFile (slice_index_or fs i d)
-file_there [] i d within all = absurd (omega (arith, within))
-file_there (f ∷ fs) zero d within all = All-head IsFile f fs all
 file_there (f ∷ fs) (suc i) d within all = file_there fs i d (omega (arith, within)) (All-tail IsFile f fs all)
+file_there fs i d e u = grind (arith, All-head)
 
 pub take_more : {X : Type 0} (xs : List X) (i : ℕ) (d : X) → i < length xs → take (i + 1) xs ≡ take i xs ++ slice_index_or xs i d ∷ []
-take_more [] i d within = absurd (omega (arith, within))
-take_more (x ∷ xs) zero d within = refl
 take_more (x ∷ xs) (suc i) d within = grind (arith, (take_more xs i d))
+take_more xs i d e = grind arith

@@ -1,5 +1,5 @@
 -- What is kept of every world, step by step.
-use Rattle.std.proofs.Common.{◌≡◌, refl, sym, ap, ◌∙◌, subst, ℕ, suc, true, List, [], ◌∷◌, ◌++◌, drop, Some, Ok, arith, append-nil}
+use Rattle.std.proofs.Common.{◌≡◌, refl, sym, ap, ◌∙◌, subst, ℕ, suc, true, List, [], ◌∷◌, ◌++◌, drop, Some, Ok, arith, append-nil, rules}
 use Rattle.std.specs.Prelude.{All, IsTrue}
 use Rattle.std.proofs.lemmas.List.Elements.{All-append}
 use Rattle.std.proofs.lemmas.Option.{same_Some}
@@ -33,9 +33,7 @@ kept_start given limits = grind arith
 
 pub kept_user : (w : PlainWorld) (e : UserEvent) (t : PlainTerminal)
     → IsSoundWorld w → t ≡ record w.term { held = w.term.held ++ e ∷ [] } → IsSoundWorld (record { host = w.host; term = t; up = w.up; down = w.down })
-kept_user w e t k same =
-    subst (λ x. IsSoundWorld (record { host = w.host; term = x; up = w.up; down = w.down })) (sym same)
-    (record { reached = reached_step w _ (User e) k.reached refl; up = k.up; down = k.down })
+kept_user w e t k same = grind (arith, (reached_step w _ (User e) k.reached refl))
 
 act_done : (w : PlainWorld) (t : PlainTerminal) (acted : Acted) → IsSoundWorld w
     → act_of w.term ≡ Ok (t, acted) → FitUp (composed_by acted) → IsSoundWorld (record { host = w.host; term = t; up = w.up ++ composed_by acted; down = w.down })
@@ -70,8 +68,7 @@ kept_flush w t ms up k s a same =
 
 -- the first member stands before the rest
 pub first_rest : {X : Type 0} (xs : List X) (x : X) → head xs ≡ Some x → xs ≡ x ∷ drop 1 xs
-first_rest [] x e = absurd (cc)
-first_rest (y ∷ xs) x e = ap (λ z. z ∷ xs) (same_Some y x e)
+first_rest xs x e = grind (arith, same_Some)
 
 pub kept_answer : (w : PlainWorld) (h : PlainHost) (m : Tmesg) (up : List Tmesg) (frames down : List HFrame) → IsSoundWorld w → head w.up ≡ Some m
     → answer w.host m ≡ Ok (h, frames) → up ≡ drop 1 w.up → down ≡ w.down ++ frames → IsSoundWorld (record { host = h; term = w.term; up = up; down = down })

@@ -1,5 +1,5 @@
 -- Each answer frees just the lock that its message took, by its last frame.
-use Rattle.std.proofs.Common.{◌≡◌, refl, sym, ap, ◌∙◌, subst, ℕ, Bool, true, false, List, [], ◌∷◌, ◌++◌, if◌then◌else◌, arith}
+use Rattle.std.proofs.Common.{◌≡◌, refl, sym, ap, ◌∙◌, subst, ℕ, Bool, true, false, List, [], ◌∷◌, ◌++◌, if◌then◌else◌, arith, rules}
 use Rattle.sam_runes.specs.Texts.{common_version}
 use Rattle.sam_host.specs.Host.{PlainHost, reply_to, reply_version, reply_startsnarf}
 use Rattle.sam_host.proofs.EachFrame.{EachFrame, IsTold, Freed, Nothing, Command, File, end_frames, lock_freed, reply_ends}
@@ -20,9 +20,7 @@ lock_in Command = CommandLock
 lock_in (File f) = FileLock f
 
 same_lock : (h : PlainHost) (m : Tmesg) → is_answered h m ≡ true → lock_in (lock_freed h m) ≡ lock_of m
-same_lock h (Trequest f p n) e = ap (λ (b : Bool). lock_in (if b then File f else Nothing)) e
-same_lock h (Ttype f p s) e = grind arith
-same_lock h _ e = refl
+same_lock h m e = grind arith
 
 -- ## Frames that free no lock, and one that does at their end
 
@@ -37,10 +35,7 @@ abbrev Any : List ℕ → Type 0
 Any s = Unit {0}
 
 told_frees : (m : Hmesg) → IsTold Any m → one_lock (freed_by m) ≡ []
-told_frees Hunlock i = absurd i
-told_frees (Hunlockfile f) i = absurd i
-told_frees Hexit i = absurd i
-told_frees _ i = refl
+told_frees m e = grind arith
 
 freed-none : (ms : List Hmesg) → EachFrame (IsTold Any) ms → all_freed ms ≡ []
 unfolding all_freed
@@ -59,18 +54,7 @@ frees h m = let k = reply_ends Any (λ s short. tt) h m (λ f. tt) in record { f
 -- ## The laws
 
 pub reply_frees_last : AnswersFreeLast
-reply_frees_last h m e some =
-    let same = same_lock h m e in
-    subst (λ (l : Lock). FreesLast l (reply_to h m).1) same (last (lock_freed h m) (frees h m) (λ none. some (sym same ∙ none)))
-  where
-    last : (l : Freed) → Frees l (reply_to h m).1 → (lock_in l ≡ NoLock → ⊥) → FreesLast (lock_in l) (reply_to h m).1
-    last Nothing k some = absurd (some refl)
-    last Command k some = record { front = k.front; last = if k.quits then Hexit else Hunlock; is = k.is; frees = go k.quits; none = k.none }
-      where
-        go : (b : Bool) → freed_by (if b then Hexit else Hunlock) ≡ CommandLock
-        go true = refl
-        go false = refl
-    last (File f) k some = record { front = k.front; last = Hunlockfile f; is = k.is; frees = refl; none = k.none }
+reply_frees_last h m e some = grind (arith, (same_lock h m e), (frees h m))
 
 freed-append : (xs ys : List Hmesg) → all_freed (xs ++ ys) ≡ all_freed xs ++ all_freed ys
 unfolding all_freed
@@ -82,12 +66,7 @@ unfolding all_freed
 reply_frees h m e =
     let k = frees h m in
     let l = lock_freed h m in
-    ap all_freed k.is
-    ∙ (freed-append k.front (end_frames l k.quits)
-    ∙ (ap (λ front. front ++ all_freed (end_frames l k.quits)) k.none ∙ (end l k.quits ∙ ap one_lock (same_lock h m e))))
+    grind (arith, (frees h m), (freed-append k.front (end_frames l k.quits)), (end l k.quits), (same_lock h m e))
   where
     end : (l : Freed) (b : Bool) → all_freed (end_frames l b) ≡ one_lock (lock_in l)
-    end Nothing b = refl
-    end Command true = refl
-    end Command false = refl
-    end (File f) b = refl
+    end l b = grind arith

@@ -1,5 +1,5 @@
 -- Every run keeps both sides in order; so neither refuses the other, and they agree wherever nothing is under way.
-use Rattle.std.proofs.Common.{◌≡◌, ◌≢◌, ◌⊎◌, inl, inr, ℕ, ◌+◌, ◌≤◌, Bool, true, false, ◌==◌, if◌then◌else◌, nat_lt, List, [], ◌∷◌, ◌++◌, length, Option, Some, None, Result, Ok, Err, refl, sym, ap, ◌∙◌, subst, eqb-true, arith}
+use Rattle.std.proofs.Common.{◌≡◌, ◌≢◌, ◌⊎◌, inl, inr, ℕ, ◌+◌, ◌≤◌, Bool, true, false, ◌==◌, if◌then◌else◌, nat_lt, List, [], ◌∷◌, ◌++◌, length, Option, Some, None, Result, Ok, Err, refl, sym, ap, ◌∙◌, subst, eqb-true, arith, rules}
 use Rattle.std.proofs.lemmas.List.{map-append, length-append}
 use Rattle.std.proofs.lemmas.Option.{same_Some}
 use Rattle.std.proofs.lemmas.Bool.Decides.{eqb_tells}
@@ -62,10 +62,7 @@ act_goes h t up down r o e = go t.held e
 
     verdict : (v : Option Verdict) (e : UserEvent) (es : List UserEvent) → first_of_checks (event_checks t e) ≡ v → decided v t es (event_outcome (record t { held = es }) e) ≡ Ok r → P r
     verdict (Some Waits) e es c q = let same : (t, Locked) ≡ r = cc in subst P same (nothing_goes h t up down o)
-    verdict (Some (Refuses why)) e es c q =
-        let dropped : PlainTerminal × Acted = (record t { held = es }, Refused why) in
-        let same : dropped ≡ r = cc in
-        subst P same (nothing_goes h (record t { held = es }) up down (held es))
+    verdict (Some (Refuses why)) e es c q = grind (arith, held, nothing_goes)
     verdict None e es c q =
         let made : Made = event_outcome (record t { held = es }) e in
         let same : (made.0, Done made.1) ≡ r = counted-result made.0.sent (made.0, Done made.1) r q in
@@ -84,9 +81,7 @@ take_goes h t up frame down r o e = go (first_of_checks ((nat_lt t.sent frame.se
   where
     go : (v : Option TermFault) → made_unless v (frame_outcome t frame.msg) ≡ Ok r → InOrder h r.0 (up ++ r.1) down
     go (Some why) q = absurd (cc)
-    go None q =
-        let same : frame_outcome t frame.msg ≡ r = counted-result (frame_outcome t frame.msg).0.sent (frame_outcome t frame.msg) r q in
-        subst (λ (x : Made). InOrder h x.0 (up ++ x.1) down) same (received h t up frame.msg down o).goes
+    go None q = grind (arith, (counted-result (frame_outcome t frame.msg).0.sent (frame_outcome t frame.msg) r q), (received h t up frame.msg down o))
 
 -- ## A message
 
@@ -180,13 +175,10 @@ unfolding act_of
 refused_act t why e = go t.held e
   where
     verdict : (v : Option Verdict) (es : List UserEvent) (made : Made) → decided v t es made ≡ Err why → why ≡ fault.CountFull
-    verdict (Some Waits) es made q = absurd (cc)
-    verdict (Some (Refuses r)) es made q = absurd (cc)
-    verdict None es made q = only_count made.0.sent (made.0, Done made.1) why q
+    verdict v es made e = grind (arith, only_count)
 
     go : (es : List UserEvent) → act_on t es ≡ Err why → why ≡ fault.CountFull
-    go [] q = absurd (cc)
-    go (x ∷ es) q = verdict (first_of_checks (event_checks t x)) es (event_outcome (record t { held = es }) x) q
+    go es e = grind (arith, verdict)
 
 refused_flush : (t : PlainTerminal) (why : TermFault) → flush_of t ≡ Err why → why ≡ fault.CountFull
 unfolding flush_of
@@ -208,12 +200,10 @@ after_all (m ∷ ms) h r e l =
     let room : (h.taken == most_count) ≡ false = below (eqb_tells h.taken most_count) in
     let now : answer h m ≡ Ok (t.first.0, stamped t.first.0.taken t.first.1) = answer_is h m t.first t.now room in
     let count : t.first.0.taken ≡ h.taken + 1 = (answer-counts h m (t.first.0, stamped t.first.0.taken t.first.1) now).0 in
-    let rest = after_all ms t.first.0 t.rest t.later (omega (arith, l, count)) in
-    ap (λ (a : Answer). host_after_all (host_after h a) ms) now ∙ rest ∙ ap (λ (x : Reply). x.0) (sym t.whole)
+    grind (arith, answered, below, eqb_tells, answer_is, answer-counts, (after_all ms t.first.0 t.rest t.later (omega (arith, l, count))))
   where
     below : (((h.taken == most_count) ≡ true) × (h.taken ≡ most_count)) ⊎ (((h.taken == most_count) ≡ false) × (h.taken ≢ most_count)) → (h.taken == most_count) ≡ false
-    below (inl x) = absurd (omega (arith, l, x.1))
-    below (inr x) = x.0
+    below e = grind arith
 
 pub free_means_ahead : FreeMeansAhead
 free_means_ahead w f i room unlocked = grind (

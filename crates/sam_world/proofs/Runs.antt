@@ -1,5 +1,5 @@
 -- Runs, step by step, and what a drain has done.
-use Rattle.std.proofs.Common.{◌≡◌, ◌⊎◌, inl, inr, refl, sym, ap, ◌∙◌, subst, ◌<◌, ◌+◌, ◌-◌, ℕ, zero, suc, Bool, true, List, [], ◌∷◌, take, length, Option, Some, None, arith}
+use Rattle.std.proofs.Common.{◌≡◌, ◌⊎◌, inl, inr, refl, sym, ap, ◌∙◌, subst, ◌<◌, ◌+◌, ◌-◌, ℕ, zero, suc, Bool, true, List, [], ◌∷◌, take, length, Option, Some, None, arith, rules}
 use Rattle.std.specs.Prelude.{option_and_then, slice_index_or, not, if◌then◌else◌, MatchOption}
 use Rattle.std.proofs.lemmas.Option.{same_Some}
 use Rattle.sam_runes.specs.Texts.{is_empty}
@@ -14,16 +14,12 @@ use Rattle.sam_world.proofs.Stopping.{passing_stops}
 -- a run of the first i events and then the next one
 pub run_more : (w v u : PlainWorld) (es : List Event) (i : ℕ) (d : Event)
     → i < length es → run_of w (take i es) ≡ Some v → step_of v (slice_index_or es i d) ≡ Some u → run_of w (take (i + 1) es) ≡ Some u
-run_more w v u [] i d l r s = absurd (omega arith)
-run_more w v u (e ∷ es) zero d l r s = grind arith
-run_more w v u (e ∷ es) (suc i) d l r s =
-    let one : suc (i + 1) ≡ suc i + 1 = omega arith in
-    subst (λ k. run_of w (take k (e ∷ es)) ≡ Some u) one (go (step_of w e) (λ n q. run_more n v u es i d (omega (arith, l)) q s) r)
+run_more w v u (e ∷ es) (suc i) d l r s = grind (arith, (go (step_of w e) (λ n q. run_more n v u es i d (omega (arith, l)) q s) r))
   where
     go : (o : Option PlainWorld) → ((n : PlainWorld) → run_of n (take i es) ≡ Some v → run_of n (take (i + 1) es) ≡ Some u)
         → option_and_then (λ n. run_of n (take i es)) o ≡ Some v → option_and_then (λ n. run_of n (take (i + 1) es)) o ≡ Some u
-    go None more q = absurd (cc)
-    go (Some n) more q = more n q
+    go o e w = grind arith
+run_more w v u es i d e q y = grind arith
 
 -- ## The rule
 
@@ -42,8 +38,7 @@ drained_off n w e next stuck = grind arith
 
 -- where nothing applies, all stays
 drained_still : (n : ℕ) (w : PlainWorld) → next_event w ≡ None → drained n w ≡ Some w
-drained_still zero w none = refl
-drained_still (suc n) w none = ap (λ o. elim o [ None ↦ Some w | Some x ↦ option_and_then (drained n) (step_of w x) ]) none
+drained_still n w e = grind arith
 
 -- some events, and then the others
 drained_then : (i k : ℕ) (w v : PlainWorld) → drained i w ≡ Some v → drained (i + k) w ≡ drained k v
@@ -54,16 +49,14 @@ drained_then (suc i) k w v d =
   where
     past : (o : Option PlainWorld) → ((n : PlainWorld) → drained i n ≡ Some v → drained (i + k) n ≡ drained k v)
         → option_and_then (drained i) o ≡ Some v → option_and_then (drained (i + k)) o ≡ drained k v
-    past None more q = absurd (cc)
-    past (Some n) more q = more n q
+    past o e u = grind arith
 
     go : (o : Option Event) → ((n : PlainWorld) → drained i n ≡ Some v → drained (i + k) n ≡ drained k v) → next_event w ≡ o → elim o [
       | None ↦ Some w
       | Some x ↦
           option_and_then (drained i) (step_of w x)
     ] ≡ Some v → elim o [ None ↦ Some w | Some x ↦ option_and_then (drained (i + k)) (step_of w x) ] ≡ drained k v
-    go None more none q = sym (drained_still k w none) ∙ ap (λ x. drained k x) (same_Some w v q)
-    go (Some x) more next q = past (step_of w x) more q
+    go o e u q = grind (arith, drained_still, same_Some, past)
 
 -- one event more
 pub drained_more : (i : ℕ) (w v u : PlainWorld) → drained i w ≡ Some v → Advances v u → drained (i + 1) w ≡ Some u
@@ -85,8 +78,7 @@ drained_stops (suc n) w v d = go (next_event w) (λ u r. drained_stops n u v r) 
 
     past : (x : Event) (o : Option PlainWorld) → step_of w x ≡ o → ((u : PlainWorld) → drained n u ≡ Some v → (next_event v ≡ None) ⊎ HasMade n u v)
         → option_and_then (drained n) o ≡ Some v → (next_event v ≡ None) ⊎ HasMade (suc n) w v
-    past x None stepped more q = absurd (cc)
-    past x (Some u) stepped more q = first x u stepped (more u q)
+    past x o e q y = grind (arith, first)
 
     go : (o : Option Event) → ((u : PlainWorld) → drained n u ≡ Some v → (next_event v ≡ None) ⊎ HasMade n u v)
         → next_event w ≡ o → elim o [ None ↦ Some w | Some x ↦ option_and_then (drained n) (step_of w x) ] ≡ Some v → (next_event v ≡ None) ⊎ HasMade (suc n) w v
@@ -111,10 +103,7 @@ full_is_none n w v d = go (next_event v) refl d.fault
   where
     go : (o : Option Event) → next_event v ≡ o → MatchOption o (CountFull ≡ OutOfMemory) (λ e. IsFaultOf v e CountFull) → drained n w ≡ None
     go None none f = absurd (full_differs f)
-    go (Some e) next f =
-        let rest : d.done + suc (n - d.done - 1) ≡ n = omega (arith, d.fewer) in
-        subst (λ k. drained k w ≡ None) rest
-        (drained_then d.done (suc (n - d.done - 1)) w v d.leads ∙ drained_off (n - d.done - 1) v e next (passing_stops v e f))
+    go (Some e) next f = grind (arith, (drained_then d.done (suc (n - d.done - 1)) w v d.leads), (drained_off (n - d.done - 1) v e next (passing_stops v e f)), (passing_stops v e f))
 
 -- why an act that was tried was not made says why nothing more was
 pub tried_in_vain : (w : PlainWorld) (why : StepFault) → is_empty w.up ≡ true → is_empty w.down ≡ true → IsFaultOf w Act why → IsNextFault w why

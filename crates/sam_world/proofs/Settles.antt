@@ -1,5 +1,5 @@
 -- The merged schedule of two logs is a run that ends in the two sides' states.
-use Rattle.std.proofs.Common.{◌≡◌, ℕ, zero, suc, ◌+◌, ◌-◌, ◌<◌, ◌≤◌, max, List, [], ◌∷◌, ◌++◌, length, replicate, Some, ◌⊎◌, inl, inr, sym, ap, subst, ◌∙◌, refl, arith, append_assoc, append-nil, length-append}
+use Rattle.std.proofs.Common.{◌≡◌, ℕ, zero, suc, ◌+◌, ◌-◌, ◌<◌, ◌≤◌, max, List, [], ◌∷◌, ◌++◌, length, replicate, Some, ◌⊎◌, inl, inr, sym, ap, subst, ◌∙◌, refl, arith, append_assoc, append-nil, length-append, rules}
 use Rattle.std.specs.Prelude.{⊤}
 use Rattle.std.proofs.lemmas.List.{nil_from_length}
 use Rattle.sam_world.specs.declared.event.TermLog.{TermLog}
@@ -37,10 +37,7 @@ module _ {X : Type 0} where
   front : (xs ys : List X) (z : X) (zs : List X) → xs ++ ys ≡ z ∷ zs
       → ((xs ≡ []) × (ys ≡ z ∷ zs)) ⊎ ((rest : List X) × (xs ≡ z ∷ rest) × (rest ++ ys ≡ zs))
   front [] ys z zs e = inl (refl, e)
-  front (x ∷ xs) ys z zs e =
-      let head : x ≡ z = cc in
-      let tail : xs ++ ys ≡ zs = cc in
-      inr (xs, ap (λ y. y ∷ xs) head, tail)
+  front (x ∷ xs) ys z zs e = grind arith
 
 users_takes : (n : ℕ) (es : List Event) → users (replicate n event.HostTake ++ es) ≡ users es
 users_takes zero es = refl
@@ -64,17 +61,12 @@ module _ {H T M F : Type 0} (s : Steps H T M F) where
   fits_from n (log.Flush ∷ es) t u fs ms low r = (tt, fits_from n es r.0 u fs r.2 low r.5)
   fits_from n (log.Take k ∷ es) t u fs ms low r =
       let here = subst (λ (x : List F). Each (λ f. s.seen f ≤ n) x) r.5 low in
-      let first : s.seen r.0 ≤ n = here.0 in
-      let stamp = r.6 in
-      (omega arith, fits_from n es r.2 u r.1 r.4 here.1 r.9)
+      grind (arith, (fits_from n es r.2 u r.1 r.4 here.1 r.9))
 
 module _ {H T M F : Type 0} (s : Steps H T M F) (laws : Counts s) where
   counted : (h : H) (ms : List M) (fs : List F) (k : H) → HostRuns s h ms fs k → s.taken k ≡ s.taken h + length ms
   counted h [] fs k r = let e = ap (λ (x : H). s.taken x) r.1 in omega arith
-  counted h (m ∷ ms) fs k r =
-      let more = counted r.0 ms r.2 k r.5 in
-      let one = laws.taken h m r.0 r.1 r.3 in
-      omega arith
+  counted h (m ∷ ms) fs k r = grind (arith, (counted r.0 ms r.2 k r.5))
 
   -- what is still to be answered bears later stamps
   late : (h : H) (ms : List M) (fs : List F) (k : H) → HostRuns s h ms fs k → Each (λ f. s.taken h < s.seen f) fs
@@ -109,23 +101,6 @@ module _ {H T M F : Type 0} (s : Steps H T M F) (laws : Counts s) where
       × (length up ≡ j + length up')
       × (length rest ≡ j + length rest')
       × Each (λ f. s.seen f ≤ s.taken g) now
-  advance zero h t up rest down later more left k a b e r = (
-    h,
-    up,
-    rest,
-    [],
-    later,
-    (λ es. ap (λ (d : List F). run s (world h t up d) es) (sym (append-nil down))),
-    r,
-    refl,
-    e,
-    omega arith,
-    omega arith,
-    omega arith,
-    tt,
-  )
-  advance (suc i) h t [] rest down later more left k a b e r = absurd (omega arith)
-  advance (suc i) h t (m ∷ up) [] down later more left k a b e r = absurd (omega arith)
   advance (suc i) h t (m ∷ up) (n ∷ rest) down later more left k a b e r =
       let head : m ≡ n = cc in
       let tail : up ++ more ≡ rest ++ left = cc in
@@ -151,6 +126,7 @@ module _ {H T M F : Type 0} (s : Steps H T M F) (laws : Counts s) where
         omega arith,
         each_append P r.1 z.3 (each_weaker (λ f. s.seen f ≡ s.taken r.0) P r.1 (λ f x. omega arith) stamps) z.12,
       )
+  advance j h t up rest down later more left k e u w q = grind (arith, append-nil)
 
   -- the rest of the log, from a world that the law's facts describe
   settles_from : (es : List TermLog) (h : H) (t : T) (up rest : List M) (down later : List F) (k : H)
@@ -241,9 +217,7 @@ module _ {H T M F : Type 0} (s : Steps H T M F) (laws : Counts s) where
       → HostRuns s h handled (frames ++ below) k
       → TermRuns s t es frames (handled ++ left) u
       → run s (world h t [] []) (merged es (s.taken k)) ≡ Some (world k u left below)
-  settles es h k t u handled left frames below taken sent hr tr =
-      ap (λ (n : ℕ). run s (world h t [] []) (merged_from n es (s.taken k))) (sym taken)
-      ∙ settles_from es h t [] handled [] (frames ++ below) k frames (handled ++ left) u left below hr tr refl refl (omega arith) tt
+  settles es h k t u handled left frames below taken sent hr tr = grind (arith, settles_from)
 
   -- so the merge meets no Take above the host's count
   pub fits : (es : List TermLog) (h k : H) (t u : T) (handled ms : List M) (frames below : List F)
@@ -254,39 +228,14 @@ module _ {H T M F : Type 0} (s : Steps H T M F) (laws : Counts s) where
   -- the host's log grows at its end
   pub host_more : (h j k : H) (ms : List M) (fs : List F) (ms' : List M) (fs' : List F)
       → HostRuns s h ms fs j → HostRuns s j ms' fs' k → HostRuns s h (ms ++ ms') (fs ++ fs') k
-  host_more h j k [] fs ms' fs' r q =
-      let there : HostRuns s h ms' fs' k = subst (λ (x : H). HostRuns s x ms' fs' k) r.1 q in
-      subst (λ (x : List F). HostRuns s h ms' (x ++ fs') k) (sym r.0) there
-  host_more h j k (m ∷ ms) fs ms' fs' r q = (
-    r.0,
-    r.1,
-    r.2 ++ fs',
-    r.3,
-    ap (λ (x : List F). x ++ fs') r.4 ∙ append_assoc r.1 r.2 fs',
-    host_more r.0 j k ms r.2 ms' fs' r.5 q,
-  )
+  host_more h j k [] fs ms' fs' r q = grind arith
+  host_more h j k (m ∷ ms) fs ms' fs' r q = grind (arith, append_assoc, (host_more r.0 j k ms r.2 ms' fs' r.5 q))
 
   -- the terminal's log grows at its end
   pub term_more : (es : List TermLog) (t u v : T) (fs : List F) (ms : List M) (es' : List TermLog) (fs' : List F) (ms' : List M)
       → TermRuns s t es fs ms u → TermRuns s u es' fs' ms' v → TermRuns s t (es ++ es') (fs ++ fs') (ms ++ ms') v
-  term_more [] t u v fs ms es' fs' ms' r q =
-      let there : TermRuns s t es' fs' ms' v = subst (λ (x : T). TermRuns s x es' fs' ms' v) r.2 q in
-      let frames = subst (λ (x : List F). TermRuns s t es' (x ++ fs') ms' v) (sym r.0) there in
-      subst (λ (x : List M). TermRuns s t es' (fs ++ fs') (x ++ ms') v) (sym r.1) frames
+  term_more [] t u v fs ms es' fs' ms' r q = grind arith
   term_more (log.User e ∷ es) t u v fs ms es' fs' ms' r q = term_more es (s.user t e) u v fs ms es' fs' ms' r q
-  term_more (log.Act ∷ es) t u v fs ms es' fs' ms' r q =
-      (r.0, r.1, r.2 ++ ms', r.3, ap (λ (x : List M). x ++ ms') r.4 ∙ append_assoc r.1 r.2 ms', term_more es r.0 u v fs r.2 es' fs' ms' r.5 q)
-  term_more (log.Flush ∷ es) t u v fs ms es' fs' ms' r q =
-      (r.0, r.1, r.2 ++ ms', r.3, ap (λ (x : List M). x ++ ms') r.4 ∙ append_assoc r.1 r.2 ms', term_more es r.0 u v fs r.2 es' fs' ms' r.5 q)
-  term_more (log.Take n ∷ es) t u v fs ms es' fs' ms' r q = (
-    r.0,
-    r.1 ++ fs',
-    r.2,
-    r.3,
-    r.4 ++ ms',
-    ap (λ (x : List F). x ++ fs') r.5,
-    r.6,
-    r.7,
-    ap (λ (x : List M). x ++ ms') r.8 ∙ append_assoc r.3 r.4 ms',
-    term_more es r.2 u v r.1 r.4 es' fs' ms' r.9 q,
-  )
+  term_more (log.Act ∷ es) t u v fs ms es' fs' ms' r q = grind (arith, append_assoc, (term_more es r.0 u v fs r.2 es' fs' ms' r.5 q))
+  term_more (log.Flush ∷ es) t u v fs ms es' fs' ms' r q = grind (arith, append_assoc, (term_more es r.0 u v fs r.2 es' fs' ms' r.5 q))
+  term_more (log.Take n ∷ es) t u v fs ms es' fs' ms' r q = grind (arith, append_assoc, (term_more es r.2 u v r.1 r.4 es' fs' ms' r.9 q))

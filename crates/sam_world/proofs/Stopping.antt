@@ -1,5 +1,5 @@
 -- Why a step of the world stops: it wants memory, or a count is full. Neither side refuses the other.
-use Rattle.std.proofs.Common.{◌≡◌, ◌⊎◌, inl, inr, refl, ℕ, true, [], drop, Some, None, Result, Ok, Err, arith}
+use Rattle.std.proofs.Common.{◌≡◌, ◌⊎◌, inl, inr, refl, ℕ, true, [], drop, Some, None, Result, Ok, Err, arith, rules}
 use Rattle.sam_host.specs.Host.{answer}
 use Rattle.sam_host.specs.declared.fault.HostFault.{HostFault}
 use Rattle.sam_host.specs.declared.fault.HostFault.TheVariants as host
@@ -57,13 +57,8 @@ flush_stops t why (inr a) = inr ((only_counts_stop t why).1 a)
 -- ## A count that would be passed
 
 no_compose : (w : PlainWorld) (r : Result Made TermFault) → is_term_full r ≡ true → after_compose w r ≡ None
-no_compose w (Ok x) full = absurd (cc)
-no_compose w (Err why) full = refl
+no_compose w r e = grind arith
 
 -- it stops the step
 pub passing_stops : FullCountsStop
-passing_stops w (User e) full = absurd (cc)
-passing_stops w Act full = grind arith
-passing_stops w Flush full = no_compose w (flush_of w.term) full
-passing_stops w HostTake full = grind arith
-passing_stops w TermTake full = grind arith
+passing_stops e u w = grind (arith, no_compose)

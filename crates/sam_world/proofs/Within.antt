@@ -1,5 +1,5 @@
 -- In every state of every run, what is under way is within the limits; and one step more is a run.
-use Rattle.std.proofs.Common.{◌≡◌, refl, subst, List, [], ◌∷◌, ◌++◌, Option, Some, None, Result, Ok, Err, arith}
+use Rattle.std.proofs.Common.{◌≡◌, refl, subst, List, [], ◌∷◌, ◌++◌, Option, Some, None, Result, Ok, Err, arith, rules}
 use Rattle.std.specs.Prelude.{option_and_then, All, IsTrue}
 use Rattle.std.proofs.lemmas.Option.{same_Some}
 use Rattle.sam_host.specs.Host.{PlainHost, answer}
@@ -26,8 +26,7 @@ run-last w v u (x ∷ es) e r s = go (step_of w x) (λ n q. run-last n v u es e 
   where
     go : (o : Option PlainWorld) → ((n : PlainWorld) → run_of n es ≡ Some v → run_of n (es ++ e ∷ []) ≡ Some u)
         → option_and_then (λ n. run_of n es) o ≡ Some v → option_and_then (λ n. run_of n (es ++ e ∷ [])) o ≡ Some u
-    go None more q = absurd (cc)
-    go (Some n) more q = more n q
+    go o w q = grind arith
 
 pub reached_step : (w next : PlainWorld) (e : Event) → WasReached w → step_of w e ≡ Some next → WasReached next
 reached_step w next e r s = grind (arith, (run-last (new_world r.given) w next r.reached.0 e r.reached.1 s))
@@ -46,20 +45,16 @@ answer_keeps P keeps w next (Ok r) m a s e =
     subst (λ x. P x.host) (same_Some (record w { host = r.0; down = w.down ++ r.1 }) next e) (keeps w.host r.0 m r.1 a s)
 
 compose_keeps : (P : PlainHost → Type 0) (w next : PlainWorld) (r : Result Made TermFault) → P w.host → after_compose w r ≡ Some next → P next.host
-compose_keeps P w next (Err why) s e = absurd (cc)
-compose_keeps P w next (Ok r) s e = subst (λ x. P x.host) (same_Some (record w { term = r.0; up = w.up ++ r.1 }) next e) s
+compose_keeps P w next r e u = grind (arith, same_Some)
 
 pub host_step : (P : PlainHost → Type 0) → ((h g : PlainHost) (m : Tmesg) (frames : List HFrame) → answer h m ≡ Ok (g, frames) → P h → P g)
     → (w : PlainWorld) (e : Event) (next : PlainWorld) → P w.host → step_of w e ≡ Some next → P next.host
-host_step P keeps w (User x) next s e = grind arith
-host_step P keeps w Act next s e = grind arith
-host_step P keeps w Flush next s e = compose_keeps P w next (flush_of w.term) s e
 host_step P keeps w HostTake next s e = go w.up e
   where
     go : (ms : List Tmesg) → host_takes w ms ≡ Some next → P next.host
     go [] q = absurd (cc)
     go (m ∷ ms) q = answer_keeps P keeps (record w { up = ms }) next (answer w.host m) m refl s q
-host_step P keeps w TermTake next s e = grind arith
+host_step P u w e next q y = grind (arith, compose_keeps)
 
 -- ## The host of a world is sound
 

@@ -1,5 +1,5 @@
 -- The host's work file is open at the start, and stays so with each file that is added and each answer.
-use Rattle.std.proofs.Common.{◌≡◌, refl, ap, ◌∙◌, ℕ, zero, suc, true, List, [], ◌∷◌, Option, Some, None, arith}
+use Rattle.std.proofs.Common.{◌≡◌, refl, ap, ◌∙◌, ℕ, zero, suc, true, List, [], ◌∷◌, Option, Some, None, arith, rules}
 use Rattle.std.specs.Prelude.{unwrap_or}
 use Rattle.sam_runes.specs.Slots.{Slots, slot}
 use Rattle.sam_runes.specs.Checks.{first_of_checks}
@@ -25,15 +25,12 @@ work-committed : (fs : PlainFiles) (o : PlainOutcome) → IsWorkOpen fs → IsWo
 work-committed fs o w = go o.file
   where
     go : (file : Option ℕ) → IsWorkOpen (put_outcome file fs o)
-    go None = w
-    go (Some g) = work-put fs g (file_after (file_at fs g) o) refl w
+    go file = grind (arith, work-put)
 
 -- ## Each change
 
 opened-all-announced : (ss : Slots PlainFile) (f : ℕ) → (unwrap_or (slot (announce_all ss) f) blank_file).opened ≡ (unwrap_or (slot ss f) blank_file).opened
-opened-all-announced [] f = refl
-opened-all-announced (s ∷ ss) zero = refl
-opened-all-announced (s ∷ ss) (suc f) = grind (arith, slot-map)
+opened-all-announced ss f = grind (arith, slot-map)
 
 work-announced : (fs : PlainFiles) → IsWorkOpen fs → IsWorkOpen (record fs { slots = announce_all fs.slots })
 work-announced fs w = grind (arith, opened-all-announced)

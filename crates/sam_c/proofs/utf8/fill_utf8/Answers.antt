@@ -1,12 +1,12 @@
-use Rattle.std.proofs.Common.{rules, arith, refl}
+use Rattle.std.proofs.Common.{rules, arith}
 use Rattle.sam_c.proofs.Filling.{starts, fits-now, one-more, no-more, no-rest}
 use Rattle.sam_c.proofs.utf8.fill_utf8.Goals as goal
 
 pub loop-rune-init : goal.loop-rune-init
-loop-rune-init c = record { count = refl; stands = starts c.args.runes.now c.args.into.now }
+loop-rune-init c = search (rules, arith, starts)
 
 pub put_rune-requires : goal.put_rune-requires
-put_rune-requires c = fits-now _ _ _ _ _ c.loop-rune.invariant.stands
+put_rune-requires c = search (rules, arith, fits-now)
 
 pub returns-in_default : goal.returns-in_default
 returns-in_default c =

@@ -1,4 +1,4 @@
-use Rattle.std.proofs.Common.{[], ◌∷◌, length, ap, ◌∙◌, subst, arith, length-append}
+use Rattle.std.proofs.Common.{[], ◌∷◌, subst, arith, length-append, rules}
 use Rattle.crossbeam_queue.specs.Passes.{view}
 use Rattle.crossbeam_queue.specs.Fifo.{Held}
 use Rattle.sam_queue.specs.declared.rule.Port.{Port}
@@ -8,7 +8,7 @@ use Rattle.sam_queue.proofs.Drains.{full_wholes, full_takes, full_still, full_mo
 use Rattle.sam_queue.proofs.auditing.drain.Goals as goal
 
 pub len_as-held-requires-clause-rule : goal.len_as-held-requires-clause-rule
-len_as-held-requires-clause-rule g c = full_wholes _ _ c.requires.knows
+len_as-held-requires-clause-rule g c = search (rules, arith, full_wholes)
 
 pub pop_as-requires-clause-rule : goal.pop_as-requires-clause-rule
 pop_as-requires-clause-rule g c =
@@ -23,7 +23,7 @@ unreachable-requires g c =
     omega (arith, n, c.loop.invariant.many, c.loop-test.true)
 
 pub loop-preserved : goal.loop-preserved
-loop-preserved g c =
+loop-preserved g c = 
     let T : Type 0 = g.row.T.Denot in
     let inv = c.loop.invariant in
     let e = c.in-Some.entry in
@@ -31,14 +31,12 @@ loop-preserved g c =
     let v = view c.args.pass.now in
     let took = subst (λ (u : Port T). Takes u e w) inv.knows c.in-Some.ensures.rule in
     let pushed = c.push_reserved.ensures.items in
-    record {
-      pass_of = c.in-Some.ensures.queue.0 ∙ inv.pass_of;
-      nothing_out = c.in-Some.ensures.queue.2 ∙ inv.nothing_out;
-      knows = full_more v c.loop.entries.items (seen_in (view c.loop.pass)) _ e w c.requires.knows took pushed;
-      begins = full_begins_still v c.loop.entries.items (seen_in (view c.loop.pass)) (seen_in v) e w c.requires.knows took inv.begins;
-      room = omega (arith, c.push_reserved.ensures.capacity, inv.room);
-      many = omega (arith, ap length pushed, length-append c.loop.entries.items (e ∷ []), inv.many);
-    }
+    grind (
+      arith,
+      (full_more v c.loop.entries.items (seen_in (view c.loop.pass)) _ e w c.requires.knows took pushed),
+      (full_begins_still v c.loop.entries.items (seen_in (view c.loop.pass)) (seen_in v) e w c.requires.knows took inv.begins),
+      (length-append c.loop.entries.items (e ∷ [])),
+    )
 
 pub learn_as-requires-clause-rule : goal.learn_as-requires-clause-rule
 learn_as-requires-clause-rule g c =

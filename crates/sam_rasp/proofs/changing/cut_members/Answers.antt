@@ -1,4 +1,4 @@
-use Rattle.std.proofs.Common.{ap, ◌+◌, ◌++◌, length, arith}
+use Rattle.std.proofs.Common.{◌+◌, ◌++◌, length, arith}
 use Rattle.std.proofs.lemmas.List.{length-append}
 use Rattle.sam_rasp.specs.Sections.{cells, cells_of, cells_back}
 use Rattle.sam_rasp.proofs.SectionLaws.{length-cells}
@@ -20,105 +20,61 @@ returns-clause-cells c =
     c.cut.ensures.cells c.push_joined.ensures.cells c.drop_front-last.ensures.cells c.push_joined-2.ensures.cells c.join_all.ensures.cells
 
 pub push_joined-requires-clause-within : goal.push_joined-requires-clause-within
-push_joined-requires-clause-within c =
+push_joined-requires-clause-within c = 
     let first = c.move_before-first.result.0 in
     let a = cells_of c.move_before-first.new.out.items in
     let rest = cells_back c.move_before-first.new.rest.items in
-    let whole = ap length c.move_before-first.ensures.whole in
-    omega (
+    grind (
       arith,
-      whole,
-      length-append a (cells first ++ rest),
-      length-append (cells first) rest,
-      length-append (cells_of c.args.out.now.items) (cells_back c.args.rest.now.items),
-      length-cells first,
-      c.move_before-first.ensures.place,
-      c.move_before-first.ensures.inside,
-      c.len.ensures.len,
-      c.min-end.ensures,
-      c.requires.within,
-      c.requires.limit,
-      c.cut.ensures.size,
+      (length-append a (cells first ++ rest)),
+      (length-append (cells first) rest),
+      (length-append (cells_of c.args.out.now.items) (cells_back c.args.rest.now.items)),
+      (length-cells first),
     )
 
 pub drop_front-last-requires : goal.drop_front-last-requires
-drop_front-last-requires c =
+drop_front-last-requires c = 
     let first = c.move_before-first.result.0 in
     let a = cells_of c.move_before-first.new.out.items in
     let rest = cells_back c.move_before-first.new.rest.items in
-    let whole = ap length c.move_before-first.ensures.whole in
-    omega (
+    grind (
       arith,
-      whole,
-      length-append a (cells first ++ rest),
-      length-append (cells first) rest,
-      length-append (cells_of c.args.out.now.items) (cells_back c.args.rest.now.items),
-      length-cells first,
-      c.move_before-first.ensures.place,
-      c.move_before-first.ensures.inside,
-      c.len.ensures.len,
-      c.min-end.ensures,
-      c.requires.within,
-      c.requires.limit,
-      c.cut.ensures.size,
+      (length-append a (cells first ++ rest)),
+      (length-append (cells first) rest),
+      (length-append (cells_of c.args.out.now.items) (cells_back c.args.rest.now.items)),
+      (length-cells first),
     )
 
 pub push_joined-requires-2-clause-within : goal.push_joined-requires-2-clause-within
-push_joined-requires-2-clause-within c =
+push_joined-requires-2-clause-within c = 
     let first = c.move_before-first.result.0 in
     let a = cells_of c.move_before-first.new.out.items in
     let rest = cells_back c.move_before-first.new.rest.items in
-    let whole = ap length c.move_before-first.ensures.whole in
-    let pushed = ap length c.push_joined.ensures.cells in
-    omega (
+    grind (
       arith,
-      whole,
-      length-append a (cells first ++ rest),
-      length-append (cells first) rest,
-      length-append (cells_of c.args.out.now.items) (cells_back c.args.rest.now.items),
-      length-cells first,
-      c.move_before-first.ensures.place,
-      c.move_before-first.ensures.inside,
-      c.len.ensures.len,
-      c.min-end.ensures,
-      c.requires.within,
-      c.requires.limit,
-      c.cut.ensures.size,
-      pushed,
-      length-append a (cells c.cut.new.self),
-      length-cells c.cut.new.self,
-      c.drop_front-last.ensures.limit,
+      (length-append a (cells first ++ rest)),
+      (length-append (cells first) rest),
+      (length-append (cells_of c.args.out.now.items) (cells_back c.args.rest.now.items)),
+      (length-cells first),
+      (length-append a (cells c.cut.new.self)),
+      (length-cells c.cut.new.self),
     )
 
 pub join_all-requires-clause-within : goal.join_all-requires-clause-within
-join_all-requires-clause-within c =
+join_all-requires-clause-within c = 
     let first = c.move_before-first.result.0 in
     let a = cells_of c.move_before-first.new.out.items in
     let rest = cells_back c.move_before-first.new.rest.items in
-    let whole = ap length c.move_before-first.ensures.whole in
-    let pushed = ap length c.push_joined.ensures.cells in
-    let more = ap length c.push_joined-2.ensures.cells in
-    omega (
+    grind (
       arith,
-      whole,
-      length-append a (cells first ++ rest),
-      length-append (cells first) rest,
-      length-append (cells_of c.args.out.now.items) (cells_back c.args.rest.now.items),
-      length-cells first,
-      c.move_before-first.ensures.place,
-      c.move_before-first.ensures.inside,
-      c.len.ensures.len,
-      c.min-end.ensures,
-      c.requires.within,
-      c.requires.limit,
-      c.cut.ensures.size,
-      pushed,
-      length-append a (cells c.cut.new.self),
-      length-cells c.cut.new.self,
-      c.drop_front-last.ensures.limit,
-      more,
-      length-append (cells_of c.push_joined.new.out.items) (cells c.drop_front-last.result),
-      length-cells c.drop_front-last.result,
+      (length-append a (cells first ++ rest)),
+      (length-append (cells first) rest),
+      (length-append (cells_of c.args.out.now.items) (cells_back c.args.rest.now.items)),
+      (length-cells first),
+      (length-append a (cells c.cut.new.self)),
+      (length-cells c.cut.new.self),
+      (length-append (cells_of c.push_joined.new.out.items) (cells c.drop_front-last.result)),
+      (length-cells c.drop_front-last.result),
     )
 
 pub returns-clause-front : goal.returns-clause-front

@@ -81,53 +81,31 @@ returns-clause-front c w f =
     w (c.push_joined-2.ensures.front w (c.join_all.ensures.front w (c.push_joined.ensures.front w (c.move_before-first.ensures.front w f)))))
 
 pub drop_front-last-requires : goal.drop_front-last-requires
-drop_front-last-requires c =
+drop_front-last-requires c = 
     let first = c.move_before-first.result.0 in
     let rest = cells_back c.move_before-first.new.rest.items in
     let a = cells_of c.move_before-first.new.out.items in
-    let whole = ap length c.move_before-first.ensures.whole in
-    omega (
+    grind (
       arith,
-      whole,
-      length-append a (cells first ++ rest),
-      length-append (cells first) rest,
-      length-append (cells_of c.args.out.now.items) (cells_back c.args.rest.now.items),
-      length-cells first,
-      c.move_before-first.ensures.place,
-      c.split-back.ensures.sizes.1,
-      c.len.ensures.len,
-      c.min-end.ensures,
-      c.requires.within,
+      (length-append a (cells first ++ rest)),
+      (length-append (cells first) rest),
+      (length-append (cells_of c.args.out.now.items) (cells_back c.args.rest.now.items)),
+      (length-cells first),
     )
 
 pub push_joined-requires-2-clause-within : goal.push_joined-requires-2-clause-within
-push_joined-requires-2-clause-within c =
+push_joined-requires-2-clause-within c = 
     let first = c.move_before-first.result.0 in
     let rest = cells_back c.move_before-first.new.rest.items in
     let a = cells_of c.move_before-first.new.out.items in
-    let whole = ap length c.move_before-first.ensures.whole in
-    let more = ap length (unreversed c.args.more.now.items c.reverse.new.self.items c.reverse.ensures.items) in
-    let pushed = ap length c.push_joined.ensures.cells in
-    let joined = ap length c.join_all.ensures.cells in
-    omega (
+    grind (
       arith,
-      whole,
-      length-append a (cells first ++ rest),
-      length-append (cells first) rest,
-      length-append (cells_of c.args.out.now.items) (cells_back c.args.rest.now.items),
-      length-cells first,
-      more,
-      pushed,
-      joined,
-      length-append (cells_of c.push_joined.new.out.items) (cells_back c.reverse.new.self.items),
-      length-append a (cells c.split-back.new.self),
-      length-cells c.split-back.new.self,
-      c.move_before-first.ensures.place,
-      c.split-back.ensures.sizes.0,
-      c.split-back.ensures.sizes.1,
-      c.cut.ensures.size,
-      c.len.ensures.len,
-      c.min-end.ensures,
-      c.requires.within,
-      c.requires.total,
+      (unreversed c.args.more.now.items c.reverse.new.self.items c.reverse.ensures.items),
+      (length-append a (cells first ++ rest)),
+      (length-append (cells first) rest),
+      (length-append (cells_of c.args.out.now.items) (cells_back c.args.rest.now.items)),
+      (length-cells first),
+      (length-append (cells_of c.push_joined.new.out.items) (cells_back c.reverse.new.self.items)),
+      (length-append a (cells c.split-back.new.self)),
+      (length-cells c.split-back.new.self),
     )

@@ -3,7 +3,7 @@ use Rattle.sam_rasp.proofs.Marking.{kept_before, moved_behind}
 use Rattle.sam_rasp.proofs.marks.moved.Goals as goal
 
 pub returns-then-mark-change : goal.returns-then-mark-change
-returns-then-mark-change c xs ys change begin = kept_before xs ys c.args.change c.args.mark change begin c.if-mark-change.true
+returns-then-mark-change c xs ys change begin = grind (arith, kept_before)
 
 pub returns : goal.returns
 returns c xs ys change begin =

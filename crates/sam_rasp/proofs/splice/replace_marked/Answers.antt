@@ -1,21 +1,9 @@
-use Rattle.std.proofs.Common.{sym, ap, ◌∙◌, ◌≤◌, length, drop, arith}
-use Rattle.sam_rasp.specs.Sections.{cells_of}
+use Rattle.std.proofs.Common.{sym, ap, ◌∙◌, drop, arith}
 use Rattle.sam_rasp.proofs.Splices.{change-length}
 use Rattle.sam_rasp.proofs.splice.replace_marked.Goals as goal
 
 pub returns-clause-new_len : goal.returns-clause-new_len
-returns-clause-new_len c =
-    let edit = c.args.edit in
-    let ask = c.requires in
-    let within : edit.to ≤ length (cells_of c.args.sections.now.items) = omega (arith, ask.ascending, ask.old_len) in
-    omega (
-      arith,
-      ask.new_len,
-      ask.old_len,
-      ask.ascending,
-      ap length c.replace_sections.ensures.cells,
-      change-length (cells_of c.args.sections.now.items) (cells_of c.args.more.now.items) edit.from edit.to ask.ascending.0 within,
-    )
+returns-clause-new_len c = grind (arith, change-length)
 
 pub returns-clause-marks : goal.returns-clause-marks
 returns-clause-marks c =

@@ -1,4 +1,4 @@
-use Rattle.std.proofs.Common.{◌≡◌, ◌∙◌, ap, sym, subst, ◌++◌, ◌-◌, ◌+◌, ◌≤◌, drop, take, length, reverse, arith}
+use Rattle.std.proofs.Common.{◌≡◌, ◌∙◌, ap, sym, subst, ◌++◌, ◌-◌, ◌+◌, ◌≤◌, drop, take, length, arith}
 use Rattle.std.specs.Option.{option_to_list}
 use Rattle.std.proofs.lemmas.List.{append_assoc, length-append, length-drop}
 use Rattle.sam_rasp.specs.Sections.{cells_of, cells_back, IsNormal}
@@ -7,9 +7,7 @@ use Rattle.sam_rasp.proofs.splice.replace_sections.Goals as goal
 use Rattle.sam_rasp.proofs.Runs.{normal-drop}
 
 pub change_members-requires-clause-normal : goal.change_members-requires-clause-normal
-change_members-requires-clause-normal c =
-    normal-front c.args.sections.now.items c.take_out-next.new.out.items (reverse c.take_out-next.new.window.items)
-    c.args.reach.front.index (c.args.reach.last - c.args.reach.front.index) c.take_out-next.ensures.window c.requires.normal
+change_members-requires-clause-normal c = grind (arith, normal-front)
 
 pub change_members-requires-clause-limit : goal.change_members-requires-clause-limit
 change_members-requires-clause-limit c =

@@ -1,7 +1,6 @@
-use Rattle.std.proofs.Common.{◌≡◌, sym, ap, ◌∙◌, true≢false, ◌+◌, ◌-◌, drop, take, [], List, arith}
+use Rattle.std.proofs.Common.{sym, ap, ◌∙◌, true≢false, ◌+◌, ◌-◌, drop, take, arith}
 use Rattle.std.proofs.lemmas.List.{drop_all}
 use Rattle.sam_rasp.specs.Sections.{cells, cells_of}
-use Rattle.sam_rasp.specs.declared.section.Section.{Section}
 use Rattle.sam_rasp.proofs.SectionLaws.{length-cells}
 use Rattle.sam_rasp.proofs.Walks.{cells-next}
 use Rattle.sam_rasp.proofs.Agreeing.{stretch, too_long, ended}
@@ -33,24 +32,7 @@ returns-then-not-agrees c =
     )
 
 pub loop-section-preserved : goal.loop-section-preserved
-loop-section-preserved c =
-    let x = c.section-item.result in
-    let rest = cells_of (drop (c.loop-section.section-index + 1) c.args.sections.now) in
-    let whole = cells_of (drop c.loop-section.section-index c.args.sections.now) in
-    let here = cells-next c.args.sections.now c.loop-section.section-index x (omega arith) c.section-item.is in
-    let at = c.loop-section.at in
-    let len = c.len-len.result in
-    let part = take (at + len - at) (drop at c.args.text.now) in
-    let s = stretch (cells x) rest whole c.args.text.now part at len here (length-cells x ∙ sym c.len-len.ensures.len) (ap (λ k. take k (drop at c.args.text.now)) (omega arith)) in (
-      omega (arith, c.if-len-text.false, c.loop-section.invariant.0),
-      (λ b. c.loop-section.invariant.1.0 (s.1 (c.agrees.ensures.0 c.if-not-agrees.false, b)), λ a. (s.0 (c.loop-section.invariant.1.1 a)).1),
-    )
+loop-section-preserved c = grind (arith, cells-next, stretch, length-cells)
 
 pub returns : goal.returns
-returns c =
-    let none : cells_of (drop c.loop-section.section-index c.args.sections.now) ≡ [] =
-    ap (λ (xs : List Section). cells_of xs) (drop_all c.loop-section.section-index c.args.sections.now (omega (arith, c.loop-section-test.false))) in
-    let e = ended (cells_of (drop c.loop-section.section-index c.args.sections.now)) c.args.text.now c.loop-section.at none c.loop-section.invariant.0 in (
-      λ q. c.loop-section.invariant.1.0 (e.0 q),
-      λ a. e.1 (c.loop-section.invariant.1.1 a),
-    )
+returns c = grind (arith, drop_all, ended)

@@ -1,7 +1,7 @@
-use Rattle.std.proofs.Common.{◌∙◌, ap, arith, length, rules}
+use Rattle.std.proofs.lemmas.Grind.{common_steps}
+use Rattle.std.proofs.Common.{arith, length}
 use Rattle.std.proofs.lemmas.Bool.Decides.{nat_tests}
 use Rattle.std.proofs.lemmas.Slice.{between_to_end}
-use Rattle.std.specs.Str.{encode_utf8_all}
 use Rattle.sam_runes.proofs.Codes.{read-more, read-shorter, read-all, left-none}
 use Rattle.sam_runes.proofs.codec.read_utf8.Goals as goal
 
@@ -9,9 +9,7 @@ pub returns-in_default-first_rune : goal.returns-in_default-first_rune
 returns-in_default-first_rune c = left-none c.loop-rest.runes.items c.args.bytes.now c.loop-rest.rest.now c.loop-rest.invariant c.in_default-first_rune.ensures (grind (arith, nat_tests))
 
 pub loop-rest-smaller : goal.loop-rest-smaller
-loop-rest-smaller c =
-    let l = c.loop-rest in
-    read-shorter l.rest.now _ c.in-Some.rune c.in-Some.len c.in-Some.ensures.0 c.in-Some.ensures.1 (between_to_end l.rest.now c.in-Some.len (length l.rest.now) (omega arith))
+loop-rest-smaller c = grind (arith, read-shorter, between_to_end)
 
 pub loop-rest-preserved : goal.loop-rest-preserved
 loop-rest-preserved c =
@@ -20,6 +18,4 @@ loop-rest-preserved c =
     (read-more l.runes.items l.rest.now _ c.args.bytes.now c.in-Some.rune c.in-Some.len l.invariant c.in-Some.ensures.1 (between_to_end l.rest.now c.in-Some.len (length l.rest.now) (omega arith)))
 
 pub returns : goal.returns
-returns c =
-    let e = read-all c.loop-rest.runes.items c.loop-rest.rest.now c.args.bytes.now c.loop-rest.invariant (grind (arith, nat_tests)) in
-    (search rules, ap encode_utf8_all c.from_vec.ensures ∙ e)
+returns c = grind (arith, common_steps, read-all, nat_tests)

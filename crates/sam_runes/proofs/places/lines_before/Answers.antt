@@ -1,15 +1,10 @@
-use Rattle.std.proofs.Common.{sym, ◌∙◌, ap, arith}
-use Rattle.sam_runes.specs.Texts.{lines_before}
+use Rattle.std.proofs.Common.{sym, ◌∙◌, arith}
 use Rattle.sam_runes.proofs.PlaceLaws.{line_behind_newline, newline_passed, rune_passed}
 use Rattle.sam_runes.proofs.places.lines_before.Goals as goal
 use Rattle.sam_runes.proofs.places.lines_before.Goals.{then-runes-at-eq10+else-left-eq0, else-runes-at-eq10}
 
 pub returns-then-left-eq0-clause-value : goal.returns-then-left-eq0-clause-value
-returns-then-left-eq0-clause-value c =
-    let t = c.args.runes.now in
-    sym (line_behind_newline t c.loop-at.at c.index-runes-at.result (omega arith) (omega arith) c.index-runes-at.is c.if-runes-at-eq10.true)
-    ∙ ap (lines_before t c.loop-at.at) (sym c.if-left-eq0.true)
-    ∙ c.loop-at.invariant.1
+returns-then-left-eq0-clause-value c = grind (arith, line_behind_newline)
 
 pub loop-at-preserved : goal.loop-at-preserved
 loop-at-preserved c =

@@ -1,4 +1,4 @@
-use Rattle.std.proofs.Common.{◌∙◌, [], ◌∷◌, Option, Some, subst}
+use Rattle.std.proofs.Common.{◌∙◌, [], ◌∷◌, Option, Some, subst, arith}
 use Rattle.sam_settling.specs.Settled.{stops_of}
 use Rattle.sam_settling.specs.Settling.{LinesGive, IsReplay}
 use Rattle.sam_settling.specs.declared.settling.Replay.{Replay}
@@ -7,9 +7,7 @@ use Rattle.sam_settling.proofs.SettlingLists.{pushed_three}
 use Rattle.sam_settling.proofs.settling.finish.Goals as goal
 
 pub unreachable-requires : goal.unreachable-requires
-unreachable-requires g c =
-    always_replays c.args.ends c.requires.ends (record { up = c.audit_one.ensures.gives; down = c.audit_one-2.ensures.gives; events = c.audit_three.ensures.gives })
-    (subst (λ (o : Option Replay). IsReplay c.args.ends.host.files.items c.args.ends.term.log.items c.args.ends.host.host.taken (stops_of c.args.ends) o) c.in_default.is c.requires.prepared.replay)
+unreachable-requires g c = grind (arith, always_replays)
 
 pub returns : goal.returns
 returns g c =

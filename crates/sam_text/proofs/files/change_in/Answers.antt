@@ -5,19 +5,16 @@ use Rattle.sam_text.proofs.ViewLaws.{given-view, view-change, view-none, seen_th
 use Rattle.sam_text.proofs.files.change_in.Goals as goal
 
 pub returns-then-index-len-clause-plain : goal.returns-then-index-len-clause-plain
-returns-then-index-len-clause-plain c =
-    let l = given-view plain_file _ c.args.index c.requires.there in absurd (omega arith)
+returns-then-index-len-clause-plain c = grind (arith, given-view)
 
 pub returns-then-index-len-clause-kept : goal.returns-then-index-len-clause-kept
-returns-then-index-len-clause-kept c =
-    let l = given-view plain_file _ c.args.index c.requires.there in absurd (omega arith)
+returns-then-index-len-clause-kept c = grind (arith, given-view)
 
 pub change-requires : goal.change-requires
 change-requires c = seen_there (FitsIn c.args.change) plain_file blank_file _ c.args.index _ _ (omega arith) (sym c.index_mut.ensures.value ∙ c.in-Some.is) c.requires.fits
 
 pub returns-in-Some-clause-plain : goal.returns-in-Some-clause-plain
-returns-in-Some-clause-plain c =
-    view-change plain_file (changed c.args.change) blank_file _ _ _ _ _ (omega arith) (sym c.index_mut.ensures.value ∙ c.in-Some.is) c.change.ensures.plain
+returns-in-Some-clause-plain c = grind (arith, view-change)
 
 pub returns-in-Some-clause-kept : goal.returns-in-Some-clause-kept
 returns-in-Some-clause-kept c =
@@ -32,7 +29,7 @@ returns-in-Some-clause-rooms c =
     (keep_changed c.args.change c.args.index c.in-Some.file c.change.new.self fits c.change.ensures.plain c.change.ensures.room)
 
 pub returns-in-None-clause-plain : goal.returns-in-None-clause-plain
-returns-in-None-clause-plain c = absurd (view-none plain_file _ c.args.index _ (omega arith) (sym c.index_mut.ensures.value ∙ c.in-None.is) c.requires.there)
+returns-in-None-clause-plain c = grind (arith, view-none)
 
 pub returns-in-None-clause-kept : goal.returns-in-None-clause-kept
-returns-in-None-clause-kept c = absurd (view-none plain_file _ c.args.index _ (omega arith) (sym c.index_mut.ensures.value ∙ c.in-None.is) c.requires.there)
+returns-in-None-clause-kept c = grind (arith, view-none)

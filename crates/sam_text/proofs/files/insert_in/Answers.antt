@@ -1,14 +1,13 @@
-use Rattle.std.proofs.Common.{None, ap, arith, sym, ◌∙◌, length, ◌≤◌, ◌+◌}
+use Rattle.std.proofs.Common.{None, arith, sym, ◌∙◌, length, ◌≤◌, ◌+◌}
 use Rattle.std.proofs.lemmas.Result.{on_ok_weaker, on_err_weaker}
 use Rattle.sam_runes.specs.Texts.{max_runes}
 use Rattle.sam_text.specs.Files.{PlainFile, blank_file, IsSoundFile}
-use Rattle.sam_text.specs.Views.{plain_file, file_room, inserted_file}
+use Rattle.sam_text.specs.Views.{plain_file, inserted_file}
 use Rattle.sam_text.proofs.ViewLaws.{given-view, view-change, view-same, view-none, seen_there, seen_kept, keep_set, keep_inserted, room_read, room_set}
 use Rattle.sam_text.proofs.files.insert_in.Goals as goal
 
 pub returns-then-index-len-clause-room : goal.returns-then-index-len-clause-room
-returns-then-index-len-clause-room c =
-    let l = given-view plain_file _ c.args.index c.requires.there in absurd (omega arith)
+returns-then-index-len-clause-room c = grind (arith, given-view)
 
 pub insert-put-requires-clause-place : goal.insert-put-requires-clause-place
 insert-put-requires-clause-place c =
@@ -39,23 +38,13 @@ returns-in-Some-clause-kept c =
     c.insert-put.ensures.ok
 
 pub returns-in-Some-clause-err : goal.returns-in-Some-clause-err
-returns-in-Some-clause-err c =
-    on_err_weaker c.insert-put.result
-    (λ same. view-same plain_file _ _ _ c.in-Some.file _ (omega arith) (sym c.index_mut.ensures.value ∙ c.in-Some.is) (ap plain_file same))
-    c.insert-put.ensures.err
+returns-in-Some-clause-err c = grind (arith, on_err_weaker, view-same)
 
 pub returns-in-Some-clause-err_rooms : goal.returns-in-Some-clause-err_rooms
-returns-in-Some-clause-err_rooms c =
-    on_err_weaker c.insert-put.result
-    (λ same. view-same file_room _ _ _ c.in-Some.file _ (omega arith) (sym c.index_mut.ensures.value ∙ c.in-Some.is) (ap file_room same))
-    c.insert-put.ensures.err
+returns-in-Some-clause-err_rooms c = grind (arith, on_err_weaker, view-same)
 
 pub returns-in-Some-clause-room : goal.returns-in-Some-clause-room
-returns-in-Some-clause-room c = λ h.
-    let before = room_read c.args.slots.now.items c.args.index c.index_mut.result.now c.in-Some.file (omega arith) (sym c.index_mut.ensures.value ∙ c.in-Some.is) in
-    let after = room_set c.args.slots.now.items c.args.index c.insert-put.new.self (omega arith) in
-    let both = c.insert-put.ensures.room (omega (arith, before, h)) in
-    (both.0, omega (arith, before, after, both.1))
+returns-in-Some-clause-room c = grind (arith, room_read, room_set)
 
 pub returns-in-Some-clause-keeps : goal.returns-in-Some-clause-keeps
 returns-in-Some-clause-keeps c =
@@ -66,4 +55,4 @@ returns-in-Some-clause-keeps c =
     c.insert-put.ensures.ok c.insert-put.ensures.err c.insert-put.ensures.nothing)
 
 pub returns-in-None-clause-room : goal.returns-in-None-clause-room
-returns-in-None-clause-room c = absurd (view-none plain_file _ c.args.index _ (omega arith) (sym c.index_mut.ensures.value ∙ c.in-None.is) c.requires.there)
+returns-in-None-clause-room c = grind (arith, view-none)

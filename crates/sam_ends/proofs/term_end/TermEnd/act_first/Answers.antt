@@ -9,15 +9,9 @@ use Rattle.sam_ends.proofs.TermEndSteps.{idle_counted, locked_counted, settled_c
 use Rattle.sam_ends.proofs.term_end.TermEnd.act_first.Goals as goal
 
 pub invariant_of-self-in-Ok-Idle : goal.invariant_of-self-in-Ok-Idle
-invariant_of-self-in-Ok-Idle c =
+invariant_of-self-in-Ok-Idle c = 
     let act : act_of c.self.inside.term ≡ Ok (c.act_now.new.term, Idle) = subst (λ a. act_of c.self.inside.term ≡ Ok (c.act_now.new.term, a)) c.in-Ok-Idle.field-0-is c.in-Ok-Idle.ensures.tries in
-    record {
-      waiting = c.self.invariant.waiting;
-      unwritten = c.self.invariant.unwritten;
-      counted = idle_counted (shown c.self.inside) c.act_now.new.term c.self.invariant act;
-      stamped = acted_stamped (shown c.self.inside) c.act_now.new.term Idle c.self.invariant act;
-      reads = c.self.invariant.reads;
-    }
+    grind (arith, (idle_counted (shown c.self.inside) c.act_now.new.term c.self.invariant act), (acted_stamped (shown c.self.inside) c.act_now.new.term Idle c.self.invariant act))
 
 pub invariant_of-self-in-Ok-Locked : goal.invariant_of-self-in-Ok-Locked
 invariant_of-self-in-Ok-Locked c =

@@ -1,18 +1,15 @@
-use Rattle.std.proofs.Common.{ap, subst, sym, Ok}
-use Rattle.sam_ends.specs.Streams.{FitMessages}
+use Rattle.std.proofs.Common.{ap, subst, Ok, arith}
 use Rattle.sam_ends.specs.TermEnds.{PlainTermEnd, shown}
 use Rattle.sam_ends.specs.TermSteps.{Composes}
 use Rattle.sam_ends.proofs.TermEndSteps.{flushed_counted, flushed_stamped}
 use Rattle.sam_ends.proofs.term_end.TermEnd.compose_unsent.Goals as goal
 
 pub invariant_of-self : goal.invariant_of-self
-invariant_of-self c = record {
-  waiting = c.self.invariant.waiting;
-  unwritten = subst (λ ms. FitMessages ms) (sym c.into_vec.ensures) c.in-Ok.ensures.fit;
-  counted = flushed_counted (shown c.self.inside) c.flush_now.new.term c.in-Ok.composed c.self.invariant c.in-Ok.ensures.tries;
-  stamped = flushed_stamped (shown c.self.inside) c.flush_now.new.term c.in-Ok.composed c.self.invariant c.in-Ok.ensures.tries;
-  reads = c.self.invariant.reads;
-}
+invariant_of-self c = grind (
+    arith,
+    (flushed_counted (shown c.self.inside) c.flush_now.new.term c.in-Ok.composed c.self.invariant c.in-Ok.ensures.tries),
+    (flushed_stamped (shown c.self.inside) c.flush_now.new.term c.in-Ok.composed c.self.invariant c.in-Ok.ensures.tries),
+)
 
 pub returns-in-Ok : goal.returns-in-Ok
 returns-in-Ok c =

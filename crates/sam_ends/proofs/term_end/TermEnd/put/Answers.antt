@@ -1,14 +1,13 @@
-use Rattle.std.proofs.Common.{rules, ◌≡◌, subst, sym, Err, arith}
-use Rattle.sam_ends.specs.TermEnds.{PlainTermEnd, PutsIdle, Puts}
+use Rattle.std.proofs.Common.{Err, arith}
+use Rattle.sam_ends.specs.TermEnds.{PlainTermEnd, PutsIdle}
 use Rattle.sam_ends.proofs.TermEndCalls.{call_brought, call_failed, put_not, put_held}
 use Rattle.sam_ends.proofs.term_end.TermEnd.put.Goals as goal
 
 pub returns-in_err-resume : goal.returns-in_err-resume
-returns-in_err-resume c =
+returns-in_err-resume c = 
     let g : PlainTermEnd = c.resume.new.self in
     let why = c.in_err-resume.field-0.0 in
-    let same : c.from_residual.result ≡ Err why = search rules in
-    subst (λ r. Puts c.args.self.now c.args.event r g) (sym same) (call_failed c.args.self.now g why (λ m. PutsIdle m c.args.event (Err why) g) c.in_err-resume.ensures)
+    grind (arith, (call_failed c.args.self.now g why (λ m. PutsIdle m c.args.event (Err why) g) c.in_err-resume.ensures))
 
 pub returns-in_err-hold : goal.returns-in_err-hold
 returns-in_err-hold c = grind (arith, call_brought, put_not)

@@ -1,4 +1,4 @@
-use Rattle.std.proofs.Common.{◌≡◌, true, ap, sym, ◌∙◌, length, arith}
+use Rattle.std.proofs.Common.{◌≡◌, true, ap, sym, ◌∙◌, arith}
 use Rattle.sam_text.specs.Files.{has_file}
 use Rattle.sam_host.specs.Host.{PlainHost}
 use Rattle.sam_host.proofs.TypingLaws.{typed_ready, undone}
@@ -19,10 +19,7 @@ undo-requires-clause-range c =
     (omega arith, ready.1)
 
 pub undo-requires-clause-dot : goal.undo-requires-clause-dot
-undo-requires-clause-dot c =
-    let ready = typed_ready c.args.self.now c.run_to.new.self c.args.p c.args.runes.now (c.in-Err.ensures.unchanged ∙ c.in_ok-put_typed.ensures.ok) c.requires.place in
-    let same = ap length ready.2 in
-    (c.command_dot-dot.ensures.range.0, omega (arith, same, c.command_dot-dot.ensures.range.1))
+undo-requires-clause-dot c = grind (arith, (typed_ready c.args.self.now c.run_to.new.self c.args.p c.args.runes.now (c.in-Err.ensures.unchanged ∙ c.in_ok-put_typed.ensures.ok) c.requires.place))
 
 pub returns-in-Err-clause-unchanged : goal.returns-in-Err-clause-unchanged
 returns-in-Err-clause-unchanged c =

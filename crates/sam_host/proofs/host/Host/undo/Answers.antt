@@ -1,17 +1,14 @@
-use Rattle.std.proofs.Common.{ap, ◌∙◌, length, arith}
+use Rattle.std.proofs.Common.{ap, ◌∙◌, arith}
 use Rattle.sam_text.specs.Files.{PlainFile, file_at, cut_file}
 use Rattle.sam_host.specs.Host.{with_file}
 use Rattle.sam_host.proofs.TypingLaws.{put_there, put_here, put_again}
 use Rattle.sam_host.proofs.host.Host.undo.Goals as goal
 
 pub set_command_dot-requires-clause-there : goal.set_command_dot-requires-clause-there
-set_command_dot-requires-clause-there c = put_there c.args.self.now c.cut_command.new.self (cut_file 0 (file_at c.args.self.now.files 0) c.args.p c.args.q) c.cut_command.ensures
+set_command_dot-requires-clause-there c = grind (arith, put_there)
 
 pub set_command_dot-requires-clause-range : goal.set_command_dot-requires-clause-range
-set_command_dot-requires-clause-range c =
-    let here = put_here c.args.self.now c.cut_command.new.self (cut_file 0 (file_at c.args.self.now.files 0) c.args.p c.args.q) c.cut_command.ensures in
-    let same = ap (λ (x : PlainFile). length x.text) here in
-    (c.requires.dot.0, omega (arith, same, c.requires.dot.1))
+set_command_dot-requires-clause-range c = grind (arith, put_here)
 
 pub returns : goal.returns
 returns c =

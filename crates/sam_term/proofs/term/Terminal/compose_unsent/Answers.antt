@@ -1,4 +1,4 @@
-use Rattle.std.proofs.Common.{sym, ap, ◌∙◌, ◌++◌, arith}
+use Rattle.std.proofs.Common.{sym, ap, ◌∙◌, arith}
 use Rattle.std.proofs.lemmas.List.{append-nil}
 use Rattle.sam_term.specs.Sound.{seen}
 use Rattle.sam_term.proofs.Sounds.{sound-unsent}
@@ -15,10 +15,9 @@ returns-in-Some-clause-flushed c =
     grind (arith, flushed-some c.args.self.now u e)
 
 pub returns-in-Some-clause-messages : goal.returns-in-Some-clause-messages
-returns-in-Some-clause-messages c =
+returns-in-Some-clause-messages c = 
     let e = ap (λ t. t.unsent) (sym c.self.view_is) ∙ (sym c.take.ensures.value ∙ c.in-Some.is) in
-    c.compose.ensures.messages
-    ∙ ap (λ x. c.args.out.now.messages ++ x.1) (sym (flushed-some c.args.self.now c.in-Some.unsent e))
+    grind (arith, (flushed-some c.args.self.now c.in-Some.unsent e))
 
 pub returns-in_default-clause-flushed : goal.returns-in_default-clause-flushed
 returns-in_default-clause-flushed c = grind (arith, flushed-none)

@@ -1,5 +1,4 @@
 use Rattle.std.proofs.Common.{arith}
-use Rattle.std.specs.Prelude.{◌-◌}
 use Rattle.sam_term.proofs.Composes.{flushed-files}
 use Rattle.sam_term.proofs.Marks.{edited-open, edited-window}
 use Rattle.sam_term.proofs.SlotSteps.{open_known}

@@ -1,18 +1,15 @@
-use Rattle.std.proofs.Common.{ap, ◌∙◌, sym, subst, [], ◌∷◌, drop}
+use Rattle.std.proofs.Common.{ap, ◌∙◌, [], ◌∷◌, drop, arith}
 use Rattle.sam_term.specs.Term.{sends, unchanged}
-use Rattle.sam_term.specs.Taking.{done, IsFailure}
+use Rattle.sam_term.specs.Taking.{done}
 use Rattle.sam_term.proofs.Edits.{held-sends, sends-held, done_later, failed_later}
 use Rattle.sam_term.proofs.term.Terminal.send_for_event.Goals as goal
 
 pub returns-in-Err : goal.returns-in-Err
-returns-in-Err c =
+returns-in-Err c = 
     let t = c.args.self.now in
     let m = c.args.message in
-    let es = drop 1 t.held in (
-      subst (λ made. IsFailure (done made) c.in-Err.why) (sym (held-sends t m es))
-          (failed_later (sends t unchanged (m ∷ [])) _ es c.in-Err.ensures.0),
-      c.in-Err.ensures.1,
-    )
+    let es = drop 1 t.held in
+    grind (arith, (held-sends t m es), (failed_later (sends t unchanged (m ∷ [])) _ es c.in-Err.ensures.0))
 
 pub returns-in-Ok : goal.returns-in-Ok
 returns-in-Ok c =

@@ -1,19 +1,15 @@
-use Rattle.std.proofs.Common.{sym, ap, ◌∙◌, subst, inl, refl, [], arith}
-use Rattle.sam_runes.specs.Slots.{put_slot}
+use Rattle.std.proofs.Common.{sym, ap, ◌∙◌, inl, refl, [], arith}
 use Rattle.sam_term.specs.Term.{PlainTerminal, put_known, is_known}
 use Rattle.sam_term.specs.Windows.{blank_known}
-use Rattle.sam_term.specs.Sound.{IsSound, seen}
+use Rattle.sam_term.specs.Sound.{seen}
 use Rattle.sam_term.proofs.FileSteps.{sound-put_known, blank_where_unknown}
 use Rattle.sam_term.proofs.Sounds.{quiet, is_countable}
 use Rattle.sam_term.proofs.term.Terminal.take_newname.Goals as goal
 
 pub invariant_of-self-2 : goal.invariant_of-self-2
-invariant_of-self-2 c =
+invariant_of-self-2 c = 
     let t = seen c.self.inside in
-    subst (λ ss. IsSound (record t { files = ss }))
-    (sym (c.in_default.ensures.ok ∙ ap (λ s. put_slot t.files c.args.tag (record blank_known { name = s })) (c.from_vec.ensures ∙ c.new.ensures.items)))
-    (sound-put_known t c.args.tag blank_known c.self.invariant
-    (sym (blank_where_unknown t.files c.args.tag (ap (λ u. is_known u c.args.tag) c.self.view_is ∙ c.requires))))
+    grind (arith, (sound-put_known t c.args.tag blank_known c.self.invariant (sym (blank_where_unknown t.files c.args.tag (ap (λ u. is_known u c.args.tag) c.self.view_is ∙ c.requires)))))
 
 pub returns : goal.returns
 returns c = grind (arith, quiet)

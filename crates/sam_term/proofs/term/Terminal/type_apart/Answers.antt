@@ -28,11 +28,7 @@ keep_typed-requires-clause-within c =
     grind (arith, edited-put (later t) f w, put-flushed (later t) f w, window-cut (edited (flushed (later t)).0 f) f w c.args.dot)
 
 pub keep_typed-requires-clause-short : goal.keep_typed-requires-clause-short
-keep_typed-requires-clause-short c =
-    let runes = c.take_typed-runes.ensures.runes ∙ ap (λ u. typed_runes (first_event u.held)) (c.mark_changed.ensures ∙ ap (λ u. edited u c.args.tag) c.in-Ok-type_first.ensures.ok) in
-    let few = few-typed c.args.self.now c.args.tag _ c.requires.free c.requires.first in
-    let many = ap length runes in
-    omega arith
+keep_typed-requires-clause-short c = grind (arith, (few-typed c.args.self.now c.args.tag _ c.requires.free c.requires.first))
 
 pub returns-in-Ok-type_first : goal.returns-in-Ok-type_first
 returns-in-Ok-type_first c =

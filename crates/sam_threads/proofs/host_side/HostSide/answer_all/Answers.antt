@@ -1,4 +1,4 @@
-use Rattle.std.proofs.Common.{rules, ◌≡◌, ◌∷◌, ◌∙◌}
+use Rattle.std.proofs.Common.{rules, ◌≡◌, ◌∷◌, arith}
 use Rattle.std.specs.Vec.Iter.{into_iter_items}
 use Rattle.sam_threads.proofs.HostSide.{so_far_more, so_far_stops}
 use Rattle.sam_threads.proofs.host_side.HostSide.answer_all.Goals as goal
@@ -9,11 +9,7 @@ returns-in-Err-clause-handles g c =
     so_far_stops (g.G.Gate.may_refuse c.args.gate.now 2) _ _ _ _ _ _ _ _ _ _ c.in-Err.stop left c.loop-message.invariant.so_far c.in-Err.ensures.handles
 
 pub loop-message-preserved : goal.loop-message-preserved
-loop-message-preserved g c =
+loop-message-preserved g c = 
     let left : into_iter_items c.loop-message.message-iterator ≡ c.in-Some.message ∷ into_iter_items c.next.new.self = search rules in
     let all = c.in-Ok.ensures.handles in
-    record {
-      piece = c.in-Ok.ensures.piece ∙ c.loop-message.invariant.piece;
-      framer = c.in-Ok.ensures.framer ∙ c.loop-message.invariant.framer;
-      so_far = so_far_more _ _ _ _ _ _ _ _ _ _ all.0 left c.loop-message.invariant.so_far all.1;
-    }
+    grind (arith, (so_far_more _ _ _ _ _ _ _ _ _ _ all.0 left c.loop-message.invariant.so_far all.1))

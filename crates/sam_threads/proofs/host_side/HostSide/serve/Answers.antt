@@ -10,15 +10,12 @@ returns-in-Err-clause-serves g c =
     _ _ _ _ _ _ c.in-Item.piece _ c.in-Err.stop one c.in-Item.ensures.answer c.as_slice.ensures.value c.loop.invariant.going c.in-Err.ensures.takes
 
 pub loop-preserved-in-Item : goal.loop-preserved-in-Item
-loop-preserved-in-Item g c =
+loop-preserved-in-Item g c = 
     let one = ap (λ (x : LineView). x.senders) c.loop.invariant.line ∙ c.requires.one in
-    record {
-      goes_on = (tt, tt);
-      piece = c.in-Ok.ensures.piece ∙ c.loop.invariant.piece;
-      line = c.in-Item.ensures.line ∙ c.loop.invariant.line;
-      going = going_item (g.G.Gate.may_refuse c.args.gate.now 2)
-          _ _ _ _ _ _ _ _ _ _ _ c.in-Item.piece _ one c.in-Item.ensures.answer c.as_slice.ensures.value c.loop.invariant.going c.in-Ok.ensures.takes;
-    }
+    grind (
+      arith,
+      (going_item (g.G.Gate.may_refuse c.args.gate.now 2) _ _ _ _ _ _ _ _ _ _ _ c.in-Item.piece _ one c.in-Item.ensures.answer c.as_slice.ensures.value c.loop.invariant.going c.in-Ok.ensures.takes),
+    )
 
 pub loop-preserved : goal.loop-preserved
 loop-preserved g c = grind (arith, going_left)
