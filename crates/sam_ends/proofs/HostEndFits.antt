@@ -1,5 +1,5 @@
 -- What waits in a host end fits: messages that a framer gave, and the frames of an answer.
-use Rattle.std.proofs.Common.{◌≡◌, subst, ℕ, false, List, [], ◌∷◌, Option, Some, None, arith, rules}
+use Rattle.std.proofs.Common.{◌≡◌, subst, ℕ, false, List, [], ◌∷◌, Option, None, arith}
 use Rattle.std.proofs.lemmas.List.Elements.{All-nil, All-cons, All-tail}
 use Rattle.sam_mesg.specs.declared.tmesg.Tmesg.{Tmesg}
 use Rattle.sam_mesg.proofs.Versions.{grows_t}

@@ -1,5 +1,5 @@
 -- Going on with what waits, step by step.
-use Rattle.std.proofs.Common.{◌≡◌, refl, sym, ap, subst, ◌∙◌, ℕ, List, [], ◌∷◌, ◌++◌, drop, true, Option, None, Ok, Err, inl, inr, append_assoc, append-nil, arith, rules}
+use Rattle.std.proofs.Common.{◌≡◌, refl, sym, subst, ◌∙◌, ℕ, List, [], ◌∷◌, ◌++◌, drop, true, Option, None, Ok, Err, inl, inr, append_assoc, append-nil, arith}
 use Rattle.sam_mesg.specs.declared.tmesg.Tmesg.{Tmesg}
 use Rattle.sam_mesg.specs.declared.hmesg.HFrame.{HFrame}
 use Rattle.sam_frame.specs.Direction.{host, terminal}
@@ -41,21 +41,6 @@ answers_more e k g ms ns p q = grind (arith, serves_more, append_assoc, bytes_mo
 written_answers : (e : PlainHostEnd) → Answers e [] (written e)
 written_answers e = grind (arith, append-nil)
 
-first_answers : (e : PlainHostEnd) (m : Tmesg) (rest : List Tmesg) (h : PlainHost) (frames : List HFrame) → e.unwritten ≡ [] → e.waiting ≡ m ∷ rest
-    → answer e.host m ≡ Ok (h, frames)
-    → Answers e (m ∷ []) (record e { host = h; waiting = rest; unwritten = frames; writes = e.writes ++ writes_of e.host m })
-first_answers e m rest h frames empty waited answered = record {
-  frames = frames;
-  more = writes_of e.host m;
-  serves = (h, frames, [], [], answered, sym (append-nil frames), sym (append-nil (writes_of e.host m)), (refl, refl, refl));
-  waiting = waited;
-  bytes = ap (λ (x : List HFrame). e.outbox ++ stream_of host (x ++ frames)) (sym empty);
-  writes = refl;
-  framer = refl;
-  begun = refl;
-  behind = refl;
-}
-
 -- the oldest message was dropped
 pub first_waits : (waiting same left : List Tmesg) (m : Tmesg) → waiting ≡ same → same ≡ m ∷ drop 1 same → left ≡ drop 1 waiting → waiting ≡ m ∷ left
 first_waits waiting same left m is first dropped = grind arith
@@ -83,7 +68,7 @@ then_written e k g ms p goes is = subst (λ (x : PlainHostEnd). HasGone e x) (sy
 })
 
 first_gone : (e l k : PlainHostEnd) (gone : HasGone e l) (first : AnswersFirst l k) → Answers e (gone.messages ++ first.message ∷ []) k × (k.stop ≡ None)
-first_gone e l k gone first = grind (arith, answers_more, first_answers)
+first_gone e l k gone first = grind (arith, answers_more, append-nil)
 
 pub starts : (e g : PlainHostEnd) → e.stop ≡ None → g ≡ written e → HasGone e g
 starts e g goes is = then_written e e g [] (answers_none e) goes is

@@ -1,17 +1,16 @@
 -- The calls of a terminal end, of its steps.
 use Rattle.std.proofs.lemmas.Grind.{common_steps}
-use Rattle.std.proofs.Common.{◌≡◌, refl, sym, subst, ℕ, ◌+◌, inl, inr, List, [], ◌∷◌, ◌++◌, length, None, Ok, Err, arith, append-nil, rules}
+use Rattle.std.proofs.Common.{◌≡◌, refl, ℕ, ◌+◌, inl, inr, List, [], ◌∷◌, ◌++◌, length, None, Ok, Err, arith, rules}
 use Rattle.sam_mesg.specs.declared.hmesg.HFrame.{HFrame}
 use Rattle.sam_term.specs.declared.event.Acted.{Acted}
-use Rattle.sam_term.specs.declared.event.UserEvent.{UserEvent}
 use Rattle.sam_ends.specs.declared.fault.TermStop.{TermStop}
 use Rattle.sam_ends.specs.declared.fault.TermStop.TheVariants as stop
 use Rattle.sam_ends.specs.declared.fault.EndFault.{EndFault}
 use Rattle.sam_ends.specs.declared.fault.EndFault.TheVariants as fault
-use Rattle.sam_ends.specs.TermEnds.{PlainTermEnd, Calls, FeedsIdle, FlushesIdle, GoesOn, IsIdle, IsQuiet, Moves, PutsIdle, oldest}
-use Rattle.sam_ends.specs.TermSteps.{Acts, ActsAll, ActsFirst, Answer, Composes, Gains, Holds, Receives, ReceivesAll, ReceivesFirst, Resumes, Writes, written}
+use Rattle.sam_ends.specs.TermEnds.{PlainTermEnd, Calls, FeedsIdle, FlushesIdle, GoesOn, IsIdle, Moves, oldest}
+use Rattle.sam_ends.specs.TermSteps.{ActsAll, ActsFirst, Answer, Composes, Gains, ReceivesAll, ReceivesFirst, Resumes, Writes, written}
 use Rattle.sam_ends.proofs.TermEndHeld.{take_held}
-use Rattle.sam_ends.proofs.TermEndMoves.{moves_acted, moves_both, moves_none, moves_received, moves_stopped, moves_written}
+use Rattle.sam_ends.proofs.TermEndMoves.{moves_acted, moves_both, moves_none, moves_received, moves_written}
 
 -- ## The loop over frames
 
@@ -30,13 +29,6 @@ receiving_written e g r = record { frames = r.frames; moves = moves_written e g 
 
 pub receiving_more : (e g k : PlainTermEnd) → Receiving e g → g.unwritten ≡ [] → ReceivesFirst g k → Receiving e k
 receiving_more e g k r none f = grind (arith, (moves_received e g k r.frames r.moves none f), (take_held g.term f.term f.frame f.composed f.taken))
-
-pub received_all : (e g : PlainTermEnd) → Receiving e g → g.waiting ≡ [] → g.unwritten ≡ [] → ReceivesAll e (Ok tt) g
-received_all e g r none idle = grind (arith, append-nil)
-
--- a step of it failed
-pub receiving_failed : (e g k : PlainTermEnd) (why : EndFault TermStop) → Receiving e g → g.unwritten ≡ [] → Receives g (Err why) k → ReceivesAll e (Err why) k
-receiving_failed e g k why u w q = grind (arith, moves_stopped)
 
 pub writing_failed : (e g k : PlainTermEnd) (why : EndFault TermStop) → Receiving e g → Writes g (Err why) k → ReceivesAll e (Err why) k
 writing_failed e g k why u w = grind arith
@@ -75,12 +67,6 @@ acting_written e g a = grind (arith, moves_written)
 pub acting_unwritten : (e g k : PlainTermEnd) (why : EndFault TermStop) → HasActed e g → Writes g (Err why) k → ActsAll e (Err why) k
 acting_unwritten e g k why u w = grind arith
 
-pub acting_failed : (e g k : PlainTermEnd) (why : EndFault TermStop) → Acting e g → Acts g (Err why) k → ActsAll e (Err why) k
-acting_failed e g k why u w = grind arith
-
-pub acted_all : (e g k : PlainTermEnd) → Acting e g → IsQuiet g.term × (k ≡ g) → ActsAll e (Ok tt) k
-acted_all e g k a (quiet, same) = subst (λ x. ActsAll e (Ok tt) x) (sym same) (a.acts, a.moves, a.idle, quiet, a.runs)
-
 -- ## Going on
 
 -- all frames were received, and then events act
@@ -105,20 +91,9 @@ call_brought e m g result Brings (runs, goes) brings = inr (runs, m, Ok tt, goes
 
 -- ## What a call brings
 
-pub fed_not : (e k : PlainTermEnd) (piece : List ℕ) (why : EndFault TermStop) → Gains e piece (Err why) k → FeedsIdle e piece (Err why) k
-fed_not e k piece why u = grind arith
-
 pub fed : (e k g : PlainTermEnd) (piece : List ℕ) (result : Answer) → Gains e piece (Ok tt) k → GoesOn k result g → FeedsIdle e piece result g
 fed e k g piece result taken goes = inl (k, taken, goes)
-
-pub put_not : (e k : PlainTermEnd) (event : UserEvent) (why : EndFault TermStop) → Holds e event (Err why) k → PutsIdle e event (Err why) k
-put_not e k event why u = grind arith
-
-pub put_held : (e k g : PlainTermEnd) (event : UserEvent) (result : Answer) → Holds e event (Ok tt) k → GoesOn k result g → PutsIdle e event result g
-put_held e k g event result held goes = inl (subst (λ x. GoesOn x result g) held goes)
 
 pub flush_not : (e k : PlainTermEnd) (why : EndFault TermStop) → Composes e (Err why) k → FlushesIdle e (Err why) k
 flush_not e k why u = grind arith
 
-pub flushed_on : (e k g : PlainTermEnd) (result : Answer) → Composes e (Ok tt) k → GoesOn k result g → FlushesIdle e result g
-flushed_on e k g result (u, composed, flushes, same) goes = inl (u, composed, flushes, subst (λ x. GoesOn x result g) same goes)

@@ -1,5 +1,5 @@
 -- Frames that a framer gives fit in version 2.
-use Rattle.std.proofs.Common.{ℕ, List, [], ◌∷◌, Option, Some, None, arith, rules}
+use Rattle.std.proofs.Common.{ℕ, List, [], ◌∷◌, Option, arith}
 use Rattle.std.specs.Prelude.{IsTrue}
 use Rattle.std.proofs.lemmas.List.Elements.{All-nil}
 use Rattle.sam_mesg.specs.HostKinds.{fits_h}

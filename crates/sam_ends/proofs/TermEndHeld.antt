@@ -1,18 +1,15 @@
 -- Events leave the held ones only as they are done or refused, one at a time; frames and flushes leave them all.
-use Rattle.std.proofs.Common.{◌≡◌, refl, sym, ap, ◌∙◌, ℕ, ◌+◌, Bool, true, false, List, [], ◌∷◌, length, Option, Some, None, Result, Ok, Err, if◌then◌else◌, arith, rules}
-use Rattle.sam_runes.specs.Checks.{first_of_checks}
+use Rattle.std.proofs.Common.{◌≡◌, refl, ap, ◌∙◌, ℕ, ◌+◌, Bool, List, [], ◌∷◌, length, Option, Some, None, Result, Ok, Err, if◌then◌else◌, arith}
 use Rattle.sam_mesg.specs.declared.tmesg.Tmesg.{Tmesg}
-use Rattle.sam_mesg.specs.declared.tmesg.Tmesg.TheVariants.{Tcut, Tpaste, Tsnarf, Tack}
+use Rattle.sam_mesg.specs.declared.tmesg.Tmesg.TheVariants.{Tcut, Tack}
 use Rattle.sam_mesg.specs.declared.hmesg.Hmesg.{Hmesg}
 use Rattle.sam_mesg.specs.declared.hmesg.Hmesg.TheVariants.{Hcheck, Hunlockfile, Hack}
 use Rattle.sam_mesg.specs.declared.hmesg.HFrame.{HFrame}
-use Rattle.sam_term.specs.Term.{PlainTerminal, Made, act_of, act_on, decided, if_countable, event_checks, flush_of, flushed, take_of, event_outcome, frame_outcome, all_composed, composed, sends, sends_if, requested, wanted, unchanged, cuts_dot, types, put_window, has_empty_dot, made_by_type, made_by_cut, made_by_paste, made_by_snarf, made_by_view, window_at, cut_rasp, took_bindname, took_data, took_grow, took_growdata, took_cut, took_unlockfile, took_close, took_exit}
+use Rattle.sam_term.specs.Term.{PlainTerminal, Made, act_of, act_on, decided, if_countable, flush_of, flushed, take_of, event_outcome, frame_outcome, all_composed, composed, sends, sends_if, requested, wanted, unchanged, cuts_dot, has_empty_dot, made_by_type, made_by_cut, made_by_paste, made_by_snarf, made_by_view, window_at, cut_rasp, took_bindname, took_data, took_grow, took_growdata, took_cut, took_unlockfile, took_close, took_exit}
 use Rattle.sam_term.specs.declared.event.Verdict.{Verdict}
-use Rattle.sam_term.specs.declared.event.Verdict.TheVariants.{Waits, Refuses}
 use Rattle.sam_term.specs.declared.event.UserEvent.{UserEvent}
-use Rattle.sam_term.specs.declared.event.UserEvent.TheVariants.{Typed, Select, Cut, Paste, Snarf, View, Flush}
 use Rattle.sam_term.specs.declared.event.Acted.{Acted}
-use Rattle.sam_term.specs.declared.event.Acted.TheVariants.{Idle, Locked, Done, Refused}
+use Rattle.sam_term.specs.declared.event.Acted.TheVariants.{Done}
 use Rattle.sam_term.specs.declared.fault.TermFault.{TermFault}
 use Rattle.sam_term.specs.declared.fault.TermFault.TheVariants as fault
 use Rattle.sam_term.proofs.ActLaws.{acted_in, term_in}
@@ -51,12 +48,9 @@ dot-cut t f p q ms = either-keeps (has_empty_dot t f) (t, []) (sends t (λ u. cu
 cuts-keeps : (t : PlainTerminal) (f : ℕ) → held_in (cuts_dot t f) ≡ t.held
 cuts-keeps t f = let d = (window_at t f).dot in dot-cut t f d.0 d.1 (Tcut f d.0 d.1 ∷ [])
 
-types-keeps : (t : PlainTerminal) (f p : ℕ) (s : List ℕ) → held_in (types t f p s) ≡ t.held
-types-keeps t f p s = grind (arith, flushed-held)
-
 type-keeps : (t : PlainTerminal) (f : ℕ) (s : List ℕ) → held_in (made_by_type t f s) ≡ t.held
 unfolding made_by_type
-type-keeps t f s = grind (arith, cuts-keeps, types-keeps)
+type-keeps t f s = grind (arith, cuts-keeps, flushed-held)
 
 -- what leaves the held events
 record Leaves (t : PlainTerminal) (made : Made) : Type 0 where
@@ -97,12 +91,6 @@ pub done-term : (n : ℕ) (t u : PlainTerminal) (ms : List Tmesg) (acted : Acted
 unfolding term_in
 done-term n t u ms acted e = grind arith
 
-locked-not : (acted : Acted) → Locked ≡ acted → IsSettled acted → ⊥
-locked-not acted e u = grind arith
-
-idle-not : (acted : Acted) → Idle ≡ acted → IsSettled acted → ⊥
-idle-not acted e u = grind arith
-
 -- an event that is done or refused is held no longer
 pub act_held : (t u : PlainTerminal) (acted : Acted) → act_of t ≡ Ok (u, acted) → IsSettled acted → length u.held + 1 ≡ length t.held
 unfolding act_of acted_in term_in
@@ -112,7 +100,7 @@ act_held t u acted e s = go t.held e
     decides x es None q =
         let made : Made = event_outcome (record t { held = es }) x in
         ap (λ v. v.held) (done-term made.0.sent made.0 u made.1 acted q) ∙ event_keeps (record t { held = es }) x
-    decides x es o e = grind (arith, locked-not, acted_in, term_in)
+    decides x es o e = grind (arith, acted_in, term_in)
 
     go : (es : List UserEvent) → act_on t es ≡ Ok (u, acted) → length u.held + 1 ≡ length es
-    go es e = grind (arith, idle-not, acted_in, decides)
+    go es e = grind (arith, acted_in, decides)

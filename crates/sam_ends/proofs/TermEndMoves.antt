@@ -1,5 +1,5 @@
 -- What an end has received, done and written so far grows by its steps.
-use Rattle.std.proofs.Common.{◌≡◌, refl, sym, ap, subst, ◌∙◌, ℕ, ◌+◌, List, [], ◌∷◌, ◌++◌, length, Ok, append_assoc, arith, append-nil, rules}
+use Rattle.std.proofs.Common.{◌≡◌, refl, ap, subst, ◌∙◌, ℕ, ◌+◌, List, [], ◌∷◌, ◌++◌, length, Ok, append_assoc, arith, append-nil, rules}
 use Rattle.std.proofs.lemmas.Grind.{flat_map-append, common_steps}
 use Rattle.sam_mesg.specs.declared.tmesg.Tmesg.{Tmesg}
 use Rattle.sam_mesg.specs.declared.hmesg.HFrame.{HFrame}
@@ -9,8 +9,7 @@ use Rattle.sam_term.specs.Term.{PlainTerminal, act_of, take_of}
 use Rattle.sam_term.specs.declared.event.Acted.{Acted}
 use Rattle.sam_term.specs.declared.event.Acted.TheVariants.{Idle, Locked, Done, Refused}
 use Rattle.sam_ends.specs.TermEnds.{PlainTermEnd, Acts, IsSettled, Moves, Receives, last_stamp, oldest, refusals_from}
-use Rattle.sam_ends.specs.TermSteps.{ActsFirst, ReceivesFirst, stopped, written}
-use Rattle.sam_ends.specs.declared.fault.TermStop.{TermStop}
+use Rattle.sam_ends.specs.TermSteps.{ActsFirst, ReceivesFirst, written}
 
 receives-more : (t u v : PlainTerminal) (frames : List HFrame) (frame : HFrame) (ms ns : List Tmesg) → Receives t frames ms u
     → take_of u frame ≡ Ok (v, ns) → Receives t (frames ++ frame ∷ []) (ms ++ ns) v
@@ -44,9 +43,6 @@ moves_none e = grind (arith, append-nil)
 
 pub moves_written : (e g : PlainTermEnd) (frames : List HFrame) (acts : List Acted) → Moves e frames acts g → Moves e frames acts (written g)
 moves_written e g frames acts m = grind (arith, append-nil)
-
-pub moves_stopped : (e g : PlainTermEnd) (frames : List HFrame) (acts : List Acted) (why : TermStop) → Moves e frames acts g → Moves e frames acts (stopped g why)
-moves_stopped e g frames acts why m = grind arith
 
 pub moves_received : (e g k : PlainTermEnd) (frames : List HFrame) → Moves e frames [] g → g.unwritten ≡ [] → (r : ReceivesFirst g k) → Moves e (frames ++ r.frame ∷ []) [] k
 moves_received e g k frames m none r = grind (

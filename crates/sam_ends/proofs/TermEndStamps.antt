@@ -1,11 +1,9 @@
 -- The count of composed messages never goes down, and no frame that is received has a stamp above it.
-use Rattle.std.proofs.Common.{◌≡◌, sym, ap, subst, ℕ, ◌+◌, ◌≤◌, List, [], ◌∷◌, length, Option, Some, None, Ok, arith, rules}
-use Rattle.sam_runes.specs.Checks.{first_of_checks}
+use Rattle.std.proofs.Common.{◌≡◌, sym, subst, ℕ, ◌+◌, ◌≤◌, List, length, Option, None, Ok, arith}
 use Rattle.sam_mesg.specs.declared.tmesg.Tmesg.{Tmesg}
 use Rattle.sam_mesg.specs.declared.hmesg.HFrame.{HFrame}
-use Rattle.sam_term.specs.Term.{PlainTerminal, Made, act_of, act_on, decided, event_checks, flush_of, take_of, event_outcome}
+use Rattle.sam_term.specs.Term.{PlainTerminal, Made, act_of, act_on, decided, flush_of, take_of, event_outcome}
 use Rattle.sam_term.specs.declared.event.Verdict.{Verdict}
-use Rattle.sam_term.specs.declared.event.Verdict.TheVariants.{Waits, Refuses}
 use Rattle.sam_term.specs.declared.event.UserEvent.{UserEvent}
 use Rattle.sam_term.specs.declared.event.Acted.{Acted}
 use Rattle.sam_term.specs.declared.fault.TermFault.TheVariants as fault

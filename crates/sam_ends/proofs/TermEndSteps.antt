@@ -1,5 +1,5 @@
 -- One step of a terminal end: what holds of the end after it.
-use Rattle.std.proofs.Common.{◌≡◌, sym, ap, subst, ◌∙◌, ℕ, ◌-◌, ◌≤◌, false, List, [], ◌∷◌, ◌++◌, length, drop, Option, Some, None, Ok, Err, arith, rules}
+use Rattle.std.proofs.Common.{◌≡◌, sym, subst, ℕ, ◌-◌, ◌≤◌, false, List, [], ◌∷◌, ◌++◌, length, drop, Option, Some, None, Ok, Err, arith}
 use Rattle.std.specs.Prelude.{slice_get, IsTrue}
 use Rattle.std.proofs.lemmas.List.Elements.{All-tail}
 use Rattle.sam_mesg.specs.HostKinds.{fits_h}
@@ -20,7 +20,7 @@ use Rattle.sam_ends.specs.declared.fault.TermStop.{TermStop}
 use Rattle.sam_ends.specs.declared.fault.TermStop.TheVariants as stop
 use Rattle.sam_ends.specs.declared.fault.EndFault.{EndFault}
 use Rattle.sam_ends.specs.declared.fault.EndFault.TheVariants as fault
-use Rattle.sam_ends.proofs.TermEndHeld.{act_held, flush_held, take_held}
+use Rattle.sam_ends.proofs.TermEndHeld.{act_held, take_held}
 use Rattle.sam_ends.proofs.TermEndStamps.{act_counts, flush_counts}
 
 pub first_read : (frames : List HFrame) (frame : HFrame) → slice_get frames 0 ≡ Some frame → frames ≡ frame ∷ drop 1 frames
@@ -77,5 +77,3 @@ pub receive_failed : (e h g : PlainTermEnd) (frame : HFrame) (rest : List HFrame
     → Tries {A = List Tmesg} e.term (take_of e.term frame) (Err why) u → h ≡ record e { term = u } → g ≡ stopped_by h why → Receives e (Err why) g
 receive_failed e h g frame rest u why w q y z = grind arith
 
-pub flushed_counted : (e : PlainTermEnd) (u : PlainTerminal) (ms : List Tmesg) → IsSound e → flush_of e.term ≡ Ok (u, ms) → length u.held ≤ e.events
-flushed_counted e u ms s flushed = subst (λ hs. length hs ≤ e.events) (sym (flush_held e.term u ms flushed)) s.counted

@@ -1,6 +1,6 @@
 -- Which frames the answers have, kind by kind, and which lock the last one frees. So what holds of each of these frames holds of each frame
 -- of an answer.
-use Rattle.std.proofs.Common.{◌≡◌, ℕ, suc, ◌+◌, ◌-◌, ◌≤◌, List, [], ◌∷◌, ◌++◌, length, Bool, true, false, not, cond, Option, Some, None, refl, sym, subst, append_assoc, if◌then◌else◌, arith, rules}
+use Rattle.std.proofs.Common.{◌≡◌, ℕ, suc, ◌+◌, ◌-◌, ◌≤◌, List, [], ◌∷◌, ◌++◌, length, Bool, true, false, not, cond, Option, Some, None, refl, sym, subst, append_assoc, if◌then◌else◌, arith}
 use Rattle.std.specs.Prelude.{◌&&◌, ◌||◌, ◌==◌, min, nat_lt, nat_le, IfSome, flat_map, reverse, drop, unwrap_or}
 use Rattle.sam_runes.specs.declared.edit.Edit.{Edit}
 use Rattle.sam_runes.specs.Texts.{Range, part, is_empty, max_runes, most_in_message, most_in_pattern, searched, all_tags, ends_line, as_lines, last_line, most_in_name}

@@ -1,5 +1,5 @@
 -- The frames of every answer fit.
-use Rattle.std.proofs.Common.{◌≡◌, ℕ, ◌≤◌, List, [], ◌∷◌, length, true, refl, arith, rules}
+use Rattle.std.proofs.Common.{◌≡◌, ℕ, ◌≤◌, List, [], ◌∷◌, length, true, refl, arith}
 use Rattle.std.proofs.lemmas.Bool.{le-leb}
 use Rattle.sam_runes.specs.Texts.{snarf_limit, utf8_length, prefix_in_bytes, most_in_name}
 use Rattle.sam_runes.proofs.PlaceLaws.{prefix_within}

@@ -1,17 +1,17 @@
 -- What the answers do to the files, kind by kind. So what each of these changes keeps, each answer keeps.
-use Rattle.std.proofs.Common.{◌≡◌, ℕ, ◌+◌, ◌≤◌, List, [], ◌∷◌, length, Bool, true, false, not, ◌&&◌, ◌||◌, ◌==◌, cond, Option, Some, None, refl, arith, rules}
-use Rattle.std.specs.Prelude.{nat_lt, nat_le, IfSome, ◌-◌}
+use Rattle.std.proofs.Common.{◌≡◌, ℕ, ◌+◌, ◌≤◌, List, [], ◌∷◌, length, Bool, true, false, not, ◌&&◌, ◌||◌, ◌==◌, cond, Option, Some, None, refl, arith}
+use Rattle.std.specs.Prelude.{IfSome, ◌-◌}
 use Rattle.std.proofs.lemmas.Bool.{ltb-false, not-false}
-use Rattle.sam_runes.specs.Texts.{Range, max_runes, all_tags, last_line, is_empty, searched, word_at, as_lines, part, ends_line}
+use Rattle.sam_runes.specs.Texts.{Range, max_runes, last_line, as_lines, part, ends_line}
 use Rattle.sam_runes.specs.Checks.{first_of_checks}
 use Rattle.sam_runes.proofs.CheckLaws.{none_holds}
 use Rattle.sam_runes.proofs.PlaceLaws.{InRange, searched_within, word_at_within}
-use Rattle.sam_text.specs.Files.{PlainFiles, file_at, put_file, typed_file, cut_file, pasted_file, opened_file, written_file, new_file, announce_all, with_work, without_file, has_room, after_print, committed, may_look}
+use Rattle.sam_text.specs.Files.{PlainFiles, file_at, put_file, typed_file, cut_file, pasted_file, opened_file, written_file, new_file, announce_all, with_work, without_file, has_room, after_print, committed}
 use Rattle.sam_text.specs.Meaning.{meaning}
 use Rattle.sam_mesg.specs.declared.tmesg.Tmesg.{Tmesg}
 use Rattle.sam_mesg.specs.declared.hmesg.Hmesg.{Hmesg}
 use Rattle.sam_mesg.specs.declared.tmesg.Tmesg.TheVariants.{Tversion, Tstartcmdfile, Tstartfile, Tworkfile, Ttype, Tcut, Tpaste, Tsnarf, Tstartnewfile, Twrite, Tclose, Tlook, Tsearch, Tsend, Tdclick, Tsetsnarf}
-use Rattle.sam_host.specs.Host.{PlainHost, Reply, printed, host_checks, unknown, is_command, not_opened, past_end, no_range, no_room, with_file, with_files, reply_found, searched_for, reply_line, line_to, reply_to, no_tag_left}
+use Rattle.sam_host.specs.Host.{PlainHost, Reply, printed, host_checks, unknown, not_opened, past_end, no_range, no_room, with_file, with_files, reply_found, searched_for, reply_line, line_to, reply_to}
 use Rattle.sam_host.proofs.EachFrame.{replies_opened}
 
 -- each change that an answer makes to the files keeps P, where places and ranges are in their text and there is room
@@ -38,9 +38,6 @@ pub record IsKept (P : PlainFiles → Type 0) : Type 0 where
 -- neither of two tests holds
 neither : (a b : Bool) → (a || b) ≡ false → (a ≡ false) × (b ≡ false)
 neither a b e = grind arith
-
-range_checked : (h : PlainHost) (f p q : ℕ) → (no_range h f p q).0 ≡ false → InRange (length (file_at h.files f).text) (p, q)
-range_checked h f p q e = grind arith
 
 range_allowed : (h : PlainHost) (f p q : ℕ) → first_of_checks (unknown h f ∷ not_opened h f ∷ no_range h f p q ∷ []) ≡ None → InRange (length (file_at h.files f).text) (p, q)
 range_allowed h f p q e = grind arith
@@ -76,7 +73,7 @@ unfolding replies_opened
 reply_keeps P k h (Tversion v) e started all = k.announced h.files all
 reply_keeps P k h Tstartcmdfile e started all = grind (arith, keeps-if)
 reply_keeps P k h (Tstartfile f) e started all = started f refl
-reply_keeps P k h (Tworkfile f p q) e started all = grind (arith, none_holds, not-false, range_checked)
+reply_keeps P k h (Tworkfile f p q) e started all = grind (arith, none_holds, not-false)
 reply_keeps P k h (Ttype f p s) e started all =
     let a = none_holds (unknown h f) (not_opened h f ∷ past_end h f p ∷ no_room h f s ∷ []) e in
     let b = none_holds (not_opened h f) (past_end h f p ∷ no_room h f s ∷ []) a.1 in

@@ -1,14 +1,14 @@
 -- What is printed and what a line leaves do not meet: a line never works on the command file.
 use Rattle.std.proofs.lemmas.Grind.{common_steps}
-use Rattle.std.proofs.Common.{◌≡◌, ℕ, zero, suc, ◌<◌, ◌≤◌, List, [], ◌∷◌, ◌++◌, length, take, get_or, true, Option, Some, None, refl, sym, subst, arith, rules}
-use Rattle.std.specs.Prelude.{unwrap_or, option_map, option_and_then, is_some, IfSome, flat_map, reverse}
+use Rattle.std.proofs.Common.{◌≡◌, ℕ, zero, suc, ◌<◌, ◌≤◌, List, [], ◌∷◌, ◌++◌, length, take, get_or, Option, Some, None, refl, sym, subst, arith, rules}
+use Rattle.std.specs.Prelude.{unwrap_or, option_map, option_and_then, IfSome, flat_map, reverse}
 use Rattle.sam_runes.specs.Texts.{max_runes, either}
 use Rattle.sam_runes.specs.Edits.{inserted}
 use Rattle.sam_runes.specs.declared.edit.Edit.{Edit}
 use Rattle.sam_runes.specs.Slots.{slot}
 use Rattle.sam_text.specs.Meaning.{meaning, work_on, line_outcome}
 use Rattle.sam_text.proofs.MeaningLaws.{line_fits, without_work}
-use Rattle.sam_text.specs.Files.{PlainFile, PlainFiles, PlainOutcome, IsOutcomeOf, IsOutcomeFor, blank_file, after_print, file_after, put_outcome, committed, AreFit, IsFit}
+use Rattle.sam_text.specs.Files.{PlainFile, PlainFiles, PlainOutcome, IsOutcomeOf, IsOutcomeFor, blank_file, after_print, put_outcome, committed, AreFit, IsFit}
 use Rattle.sam_mesg.specs.declared.hmesg.Hmesg.{Hmesg}
 use Rattle.sam_mesg.specs.declared.hmesg.HFrame.{HFrame}
 use Rattle.sam_host.specs.Host.{stamped, printed, grown}
@@ -35,10 +35,6 @@ put_print (Some (suc f)) fs o s h = print-put fs fs.slots o s f
 -- a print and an outcome that is put in leave the same files in either order
 pub commit_print : (fs : PlainFiles) (o : PlainOutcome) (s : List ℕ) → IsElsewhere o.file → committed (after_print fs s) o ≡ after_print (committed fs o) s
 commit_print fs o s h = grind (arith, put_print)
-
--- the file of an outcome is elsewhere
-pub is_elsewhere : (fs : PlainFiles) (o : PlainOutcome) → IsOutcomeOf fs o → IsElsewhere o.file
-is_elsewhere fs o h = grind arith
 
 -- what is printed stands in the command file, which no outcome changes
 printed-slots : (fs : PlainFiles) (ss : List (Option PlainFile)) (o : PlainOutcome) (p : Option (List ℕ)) (s : List ℕ) (f : ℕ)
@@ -99,11 +95,6 @@ pub edit_told : (tell : Edit → List Hmesg) (before : List HFrame) (seen : ℕ)
     → (before ++ stamped seen (tell e)) ++ stamped seen (flat_map tell (reverse (take i es))) ≡ before ++ stamped seen (flat_map tell (reverse (take (suc i) es)))
 edit_told tell before seen es i e l is = search (rules, common_steps, told_both)
 
--- six parts that are told one after another
-pub told_six : (before : List HFrame) (seen : ℕ) (a b c d e f : List Hmesg)
-    → before ++ stamped seen (a ++ b ++ c ++ d ++ e ++ f) ≡ (((((before ++ stamped seen a) ++ stamped seen b) ++ stamped seen c) ++ stamped seen d) ++ stamped seen e) ++ stamped seen f
-told_six before seen a b c d e f = grind (arith, told_both)
-
 -- what a line did, what it prints, and its end
 pub told_line : (before : List HFrame) (seen : ℕ) (fs : PlainFiles) (o : PlainOutcome) (s : List ℕ) (a c : List Hmesg) → IsOutcomeOf fs o
     → before ++ stamped seen (a ++ printed (committed fs o) s ++ c) ≡ ((before ++ stamped seen a) ++ stamped seen (printed fs s)) ++ stamped seen c
@@ -113,4 +104,4 @@ told_line before seen fs o s a c h = grind (arith, printed_committed, told_both)
 pub six_told : (before x1 x2 x3 x4 x5 x6 : List HFrame) (seen : ℕ) (a b c d e f : List Hmesg) → x1 ≡ before ++ stamped seen a → x2 ≡ x1 ++ stamped seen b
     → x3 ≡ x2 ++ stamped seen c → x4 ≡ x3 ++ stamped seen d → x5 ≡ x4 ++ stamped seen e → x6 ≡ x5 ++ stamped seen f
     → x6 ≡ before ++ stamped seen (a ++ b ++ c ++ d ++ e ++ f)
-six_told before x1 x2 x3 x4 x5 x6 seen a b c d e f e1 e2 e3 e4 e5 e6 = grind (arith, told_six)
+six_told before x1 x2 x3 x4 x5 x6 seen a b c d e f e1 e2 e3 e4 e5 e6 = grind (arith, told_both)

@@ -1,23 +1,20 @@
 -- The host stays sound, and its answers are counted.
-use Rattle.std.proofs.Common.{◌≡◌, ℕ, zero, suc, ◌+◌, ◌≤◌, List, [], ◌∷◌, length, Bool, true, false, if◌then◌else◌, cond, Option, Some, None, Ok, Err, inl, inr, refl, sym, ap, subst, arith, rules}
-use Rattle.std.specs.Prelude.{unwrap_or, All, ◌==◌, nat_le, ◌&&◌, min}
+use Rattle.std.proofs.Common.{◌≡◌, ℕ, suc, ◌+◌, ◌≤◌, List, [], ◌∷◌, length, Option, None, Ok, Err, refl, ap, subst, arith}
+use Rattle.std.specs.Prelude.{unwrap_or, All}
 use Rattle.std.proofs.lemmas.List.Elements.{All-nil, All-cons}
-use Rattle.sam_runes.specs.Texts.{Range, common_version, all_tags, ends_line, most_in_name}
+use Rattle.sam_runes.specs.Texts.{Range, most_in_name}
 use Rattle.sam_runes.specs.Slots.{slot}
 use Rattle.sam_runes.specs.Checks.{first_of_checks}
 use Rattle.sam_runes.proofs.CheckLaws.{none_holds}
-use Rattle.sam_text.specs.Files.{opened_file, written_file, PlainFile, PlainFiles, PlainOutcome, blank_file, file_at, put_file, typed_file, cut_file, pasted_file, file_after, put_outcome, HasShortName, IsFit, AreFit, AreSoundFiles}
+use Rattle.sam_text.specs.Files.{opened_file, written_file, PlainFile, PlainFiles, PlainOutcome, blank_file, file_at, put_file, typed_file, cut_file, pasted_file, put_outcome, HasShortName, IsFit, AreFit, AreSoundFiles}
 use Rattle.sam_text.proofs.FitLaws.{all-put, fit-put, fit-typed, fit-cut, fit-pasted, fit-print, fit-committed}
 use Rattle.sam_text.proofs.KeptLaws.{all-free, all-announce}
 use Rattle.sam_text.proofs.OutcomeLaws.{HasShortParts, line_short, named-within}
 use Rattle.sam_mesg.specs.TerminalKinds.{after_t}
 use Rattle.sam_mesg.specs.declared.tmesg.Tmesg.{Tmesg}
-use Rattle.sam_mesg.specs.declared.tmesg.Tmesg.TheVariants.{Tversion, Tstartcmdfile, Ttype, Tpaste, Tstartnewfile, Tlook, Tsearch, Tsend}
 use Rattle.sam_mesg.specs.declared.hmesg.Hmesg.{Hmesg}
 use Rattle.sam_mesg.specs.declared.hmesg.HFrame.{HFrame}
-use Rattle.sam_host.specs.declared.fault.HostFault.{HostFault}
-use Rattle.sam_host.specs.declared.fault.HostFault.TheVariants.{BadVersion}
-use Rattle.sam_host.specs.Host.{PlainHost, IsVersion, Reply, Answer, answer, counted, stamped, host_checks, new_file, given_slots, reply_found, searched_for, reply_to}
+use Rattle.sam_host.specs.Host.{PlainHost, IsVersion, Reply, Answer, answer, counted, stamped, host_checks, new_file, given_slots, reply_found, reply_to}
 use Rattle.sam_host.specs.Laws.{AreNamesShort, IsSound, AreGiven, StartsSound, StaysSound, FramesFit, AnswersAreCounted, IsSilentWhereDone, FitInPlace}
 use Rattle.sam_host.proofs.EachFrame.{replies_opened}
 use Rattle.sam_host.proofs.Keeping.{IsKept, reply_keeps}
@@ -69,9 +66,6 @@ reply_fits h m e all = reply_keeps AreFit fits_kept h m e (λ f is. fit-put h.fi
 abbrev Stands : PlainHost → Reply → Type 0
 Stands h r = (r.0.taken ≡ h.taken) × (r.0.version ≡ h.version)
 
-stands-if : (h : PlainHost) (b : Bool) (x y : Reply) → Stands h x → Stands h y → Stands h (cond b x y)
-stands-if h b x y e u = grind arith
-
 stands-found : (h : PlainHost) (f : ℕ) (d : Option Range) (frames : List Hmesg) → Stands h (reply_found h f d frames)
 stands-found h f d frames = grind arith
 
@@ -79,14 +73,11 @@ stands-found h f d frames = grind arith
 pub reply_stands : (h : PlainHost) (m : Tmesg) → first_of_checks (host_checks h m) ≡ None
     → ((reply_to h m).0.taken ≡ h.taken) × ((reply_to h m).0.version ≡ after_t h.version m)
 unfolding replies_opened
-reply_stands h m e = grind (arith, none_holds, stands-if, stands-found)
-
-agreed_version : (v : ℕ) → first_of_checks {E = HostFault} ((v == 0, BadVersion) ∷ []) ≡ None → IsVersion (common_version v)
-agreed_version v e = grind arith
+reply_stands h m e = grind (arith, none_holds, stands-found)
 
 reply_version-is : (h : PlainHost) (m : Tmesg) → first_of_checks (host_checks h m) ≡ None → IsVersion h.version → IsVersion (reply_to h m).0.version
 unfolding replies_opened
-reply_version-is h m e u = grind (arith, agreed_version, reply_stands)
+reply_version-is h m e u = grind (arith, reply_stands)
 
 -- ## What stands of every answer
 

@@ -1,6 +1,6 @@
 -- What is typed and taken out again leaves the host as it was, and typing and sending in terms of a line.
 use Rattle.std.proofs.lemmas.Grind.{common_steps}
-use Rattle.std.proofs.Common.{◌≡◌, ◌≢◌, ℕ, zero, suc, ◌+◌, ◌<◌, ◌≤◌, List, [], ◌∷◌, ◌++◌, length, get_or, Bool, true, false, not, cond, Some, None, nat_eq, refl, ap, ◌∙◌, arith, append_assoc, append-nil, length-append, rules}
+use Rattle.std.proofs.Common.{◌≡◌, ◌≢◌, ℕ, suc, ◌+◌, ◌<◌, ◌≤◌, List, [], ◌∷◌, ◌++◌, length, get_or, Bool, true, false, not, cond, Some, nat_eq, refl, ap, ◌∙◌, arith, append_assoc, append-nil, length-append, rules}
 use Rattle.std.specs.Prelude.{unwrap_or, is_some, ◌&&◌, ◌||◌, ◌==◌}
 use Rattle.std.proofs.lemmas.List.{take_at, drop_at, take-append-drop, length-take}
 use Rattle.std.proofs.Math.Seq.{take-length, drop-length}
@@ -76,15 +76,12 @@ type_alone h f p s test = grind arith
 
 -- ## Sending
 
-ins_end : (t s : List ℕ) → ins t (length t) s ≡ t ++ s
-ins_end t s = (λ i. take-length t i ++ s ++ drop-length t i) ∙ append-nil (t ++ s)
-
 not-empty : (s : List ℕ) → 0 < length s → is_empty s ≡ false
 not-empty s e = grind arith
 
 -- what is printed is typed at the end
 pub print_as_typed : (h : PlainHost) (s : List ℕ) → 0 < length s → has_room h.files s ≡ true → with_files h (after_print h.files s) ≡ sent h s
-print_as_typed h s filled room = grind (arith, ins_end)
+print_as_typed h s filled room = grind (arith, take-length, drop-length, append-nil)
 
 lines-or : (b : Bool) (s : List ℕ) → ends_line s ≡ b → 0 < length (cond b s (s ++ newline ∷ []))
 lines-or false s e = omega (arith, length-append s (newline ∷ []))

@@ -1,5 +1,5 @@
 -- The head of a frame, whose length is written once the body stands behind it.
-use Rattle.std.proofs.Common.{◌≡◌, ℕ, ◌+◌, ◌-◌, ◌<◌, List, [], ◌∷◌, ◌++◌, length, take, drop, set, sym, ap, ◌∙◌, append_assoc, arith, length-append, rules}
+use Rattle.std.proofs.Common.{◌≡◌, ℕ, ◌+◌, ◌-◌, ◌<◌, List, [], ◌∷◌, ◌++◌, length, take, drop, set, sym, ap, ◌∙◌, append_assoc, arith, length-append}
 use Rattle.std.proofs.lemmas.List.{length-set, set_split, take_more_set, drop-set-lt, take_at, drop_at}
 use Rattle.std.specs.Prelude.{suc}
 use Rattle.std.specs.Int.{w16, to_be_bytes}

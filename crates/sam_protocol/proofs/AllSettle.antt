@@ -1,11 +1,11 @@
 -- How the invariant at one file is carried on.
-use Rattle.std.proofs.Common.{◌≡◌, ℕ, ◌+◌, ◌≤◌, min, Bool, true, false, ◌||◌, List, [], ◌∷◌, ◌++◌, length, take, drop, Option, Some, None, ◌⊎◌, inl, inr, refl, sym, ap, ◌∙◌, subst, true≢false, arith, append-nil, length-take, length-drop, nat_le, if◌then◌else◌, le-leb, rules}
+use Rattle.std.proofs.Common.{◌≡◌, ℕ, ◌+◌, min, Bool, true, false, ◌||◌, List, [], ◌∷◌, ◌++◌, length, take, drop, Option, Some, None, ◌⊎◌, inl, inr, refl, sym, ap, ◌∙◌, subst, true≢false, arith, append-nil, length-take, length-drop, nat_le, if◌then◌else◌, le-leb}
 use Rattle.std.proofs.lemmas.List.{drop_min, take_min}
 use Rattle.std.proofs.lemmas.Bool.{or_left, or_cases, or_parts}
 use Rattle.sam_runes.specs.Texts.{most_in_message}
 use Rattle.sam_rasp.specs.Rasp.{load_cells, Agrees}
 use Rattle.sam_rasp.proofs.RaspLaws.{length_agrees, agrees_loaded}
-use Rattle.sam_protocol.specs.Lens.{Slot, Unknown, Known, Open, Lens, lens, Action, Free_file, move, run, and_then, frees, IsGuarded, closes, HFile, Absent, Hidden, Named, Opened, Gone, Fits_slot, IsSettled, Settles}
+use Rattle.sam_protocol.specs.Lens.{Open, Lens, lens, Action, move, run, and_then, frees, IsGuarded, closes, HFile, Opened, Gone, IsSettled, Settles}
 use Rattle.sam_protocol.proofs.Lenses.{IsFree, IsOpen, IsAlike, locked_more, exited_of, exits, AreSkips, CanRequest, request_actions}
 use Rattle.sam_protocol.proofs.Runs.{run-append_some, still, runs_more, exited_after}
 
@@ -68,10 +68,6 @@ settled_open w d n file e u = grind arith
 pub settled_opened : (w : Lens) (d : Bool) (n : ℕ) (t : List ℕ) → IsSettled w d n (Opened t) → (r : List (Option ℕ)) × (w ≡ lens false d n (Open r 0)) × Agrees r t
 settled_opened w d n t e = grind arith
 
--- the settled lens without its slot
-pub settled_slot : (w : Lens) (d : Bool) (n : ℕ) (file : HFile) → IsSettled w d n file → (s : Slot) × (w ≡ lens false d n s) × Fits_slot s file
-settled_slot (lens c e m s) d n file x = (s, λ i. lens (x.0 i) (x.1 i) (x.2 i) s, x.3)
-
 pub kept_more : (s : List Action) (v : Lens) (d : Bool) (n : ℕ) (file : HFile) → Settles s v d n file → Settles (s ++ []) v d n file
 kept_more s v d n file k = subst (λ (u : List Action). Settles u v d n file) (sym (append-nil s)) k
 
@@ -93,14 +89,8 @@ kept_data false n r t p m e a =
       closed = λ c. absurd (true≢false (sym c));
     }
 
-no_actions : (d : Bool) (file : HFile) (p m : ℕ) → (d ≡ true) ⊎ (file ≡ Gone) → CanRequest d file × (request_actions d file p m ≡ [])
-no_actions d file p m e = grind arith
-
 pub exited_settled : (w : Lens) (d : Bool) (n : ℕ) (file : HFile) → IsSettled w d n file → exited_of w ≡ d
 exited_settled (lens c e m s) d n file x = x.1
-
-can_request_open : (d : Bool) (t : List ℕ) → CanRequest d (Opened t)
-can_request_open d t = grind arith
 
 -- a Trequest that the terminal composes while it takes a frame, and its answer
 pub kept_request : (s : List Action) (v : Lens) (d : Bool) (n : ℕ) (file : HFile) (p m : ℕ) → Settles s v d n file → IsOpen v → exited_of v ≡ false
@@ -114,11 +104,11 @@ kept_request s v d n file p m k o e = go (runs_more s v k.final o k.runs)
     why e = grind (arith, exited, or_left)
 
     ended : run s (locked_more v) ≡ Some k.final → (d ≡ true) ⊎ (file ≡ Gone) → CanRequest d file × Settles (s ++ request_actions d file p m) (locked_more v) d n file
-    ended r h = grind (arith, no_actions, kept_more)
+    ended r h = grind (arith, kept_more)
 
     running : (t : List ℕ) → file ≡ Opened t → (closes s ≡ true → file ≡ Gone) → (x : Lens) → run s (locked_more v) ≡ Some x → Settles (request_actions d (Opened t) p m) x d n (Opened t)
         → CanRequest d file × Settles (s ++ request_actions d file p m) (locked_more v) d n file
-    running t q gone x r loads = grind (arith, can_request_open, run-append_some, guarded-append, either, closes-append)
+    running t q gone x r loads = grind (arith, run-append_some, guarded-append, either, closes-append)
       where
         either : (closes s ≡ true) ⊎ (closes (request_actions d (Opened t) p m) ≡ true) → (closes s ≡ true → Opened t ≡ Gone)
             → (closes (request_actions d (Opened t) p m) ≡ true → Opened t ≡ Gone) → Opened t ≡ Gone

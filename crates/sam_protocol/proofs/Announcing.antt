@@ -1,5 +1,5 @@
 -- The answer to Tversion: from settled to settled.
-use Rattle.std.proofs.Common.{◌≡◌, ℕ, zero, suc, ◌+◌, ◌<◌, Bool, true, false, not, ◌==◌, if◌then◌else◌, List, [], ◌∷◌, ◌++◌, length, drop, Option, Some, None, refl, sym, ap, ◌∙◌, subst, arith, eq-eqb, nat_lt, rules}
+use Rattle.std.proofs.Common.{◌≡◌, ℕ, zero, suc, ◌+◌, ◌<◌, Bool, true, false, not, ◌==◌, if◌then◌else◌, List, [], ◌∷◌, ◌++◌, length, drop, Option, Some, None, refl, sym, ap, ◌∙◌, subst, arith, eq-eqb, nat_lt}
 use Rattle.std.specs.Prelude.{option_map, unwrap_or}
 use Rattle.sam_runes.specs.Texts.{common_version}
 use Rattle.sam_runes.specs.Slots.{Slots, slot}
@@ -8,11 +8,10 @@ use Rattle.sam_text.specs.Files.{PlainFile, PlainFiles, blank_file, announced_fi
 use Rattle.sam_mesg.specs.declared.tmesg.Tmesg.TheVariants.{Tversion}
 use Rattle.sam_mesg.specs.declared.hmesg.Hmesg.{Hmesg}
 use Rattle.sam_mesg.specs.declared.hmesg.Hmesg.TheVariants.{Hversion, Hnewname, Hmovname, Hack, Hunlock}
-use Rattle.sam_host.specs.declared.fault.HostFault.TheVariants.{BadVersion}
 use Rattle.sam_host.specs.Host.{PlainHost, when, told_names, reply_version}
-use Rattle.sam_protocol.specs.Lens.{Slot, lens, Action, Skip, Needs_known, Join, Change, Free_command, HFile, Absent, Hidden, Named, Opened, Gone, IsOpened, IsCommandFile, Fits_slot, Settles}
+use Rattle.sam_protocol.specs.Lens.{Slot, lens, Action, Skip, Change, Free_command, HFile, Absent, Hidden, Named, Opened, Gone, IsOpened, IsCommandFile, Fits_slot, Settles}
 use Rattle.sam_protocol.proofs.Lenses.{AreSkips}
-use Rattle.sam_protocol.specs.Frames.{at_file, only}
+use Rattle.sam_protocol.specs.Frames.{at_file}
 use Rattle.sam_protocol.specs.View.{file_of, file_of_slot, file_in}
 use Rattle.sam_protocol.specs.Steady.{OpenAnnounced}
 use Rattle.sam_protocol.proofs.Accepting.{Synced, Accepted, Ready}

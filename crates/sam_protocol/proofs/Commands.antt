@@ -3,7 +3,7 @@ use Rattle.std.proofs.lemmas.Grind.{common_steps}
 use Rattle.std.proofs.Common.{◌≡◌, ℕ, ◌+◌, ◌<◌, ◌≤◌, Bool, true, false, not, ◌||◌, ◌&&◌, ◌==◌, if◌then◌else◌, List, [], ◌∷◌, ◌++◌, length, map, Option, Some, None, is_some, ◌⊎◌, inl, inr, refl, sym, ap, ◌∙◌, subst, true≢false, arith, append-nil, eqb-true, nat_le, leb-true, rules}
 use Rattle.std.proofs.lemmas.List.{take_all, drop_all}
 use Rattle.std.proofs.lemmas.Bool.{cases_Bool}
-use Rattle.sam_runes.specs.Texts.{ins, is_empty, max_runes, all_tags}
+use Rattle.sam_runes.specs.Texts.{ins, is_empty, max_runes}
 use Rattle.sam_runes.specs.Slots.{slot}
 use Rattle.sam_runes.proofs.EditLaws.{length-ins}
 use Rattle.sam_runes.specs.Checks.{first_of_checks}

@@ -1,16 +1,16 @@
 -- What the terminal may compose, the host will accept, and its answer is carried behind what is under way.
-use Rattle.std.proofs.Common.{◌≡◌, ℕ, ◌+◌, ◌≤◌, Bool, true, false, ◌||◌, List, [], ◌∷◌, ◌++◌, length, Option, refl, sym, ap, ◌∙◌, subst, arith, rules}
+use Rattle.std.proofs.Common.{◌≡◌, ℕ, ◌+◌, ◌≤◌, Bool, false, ◌||◌, List, [], ◌∷◌, ◌++◌, length, Option, sym, ap, ◌∙◌, subst, arith}
 use Rattle.sam_rasp.specs.Rasp.{Agrees}
 use Rattle.sam_rasp.proofs.RaspLaws.{length_agrees}
 use Rattle.sam_runes.specs.Texts.{max_runes}
 use Rattle.sam_text.specs.Files.{PlainFiles, file_at}
 use Rattle.sam_mesg.specs.declared.tmesg.Tmesg.{Tmesg}
-use Rattle.sam_mesg.specs.declared.tmesg.Tmesg.TheVariants.{Tversion, Tstartfile}
+use Rattle.sam_mesg.specs.declared.tmesg.Tmesg.TheVariants.{Tversion}
 use Rattle.sam_mesg.specs.declared.hmesg.Hmesg.{Hmesg}
 use Rattle.sam_host.specs.Host.{PlainHost}
-use Rattle.sam_protocol.specs.Lens.{Lens, lens, Unknown, Known, Open, Action, HFile, Named, Opened, Settles, OpenAt, Anything}
+use Rattle.sam_protocol.specs.Lens.{Lens, lens, Open, Action, HFile, Named, Opened, Settles, OpenAt, Anything}
 use Rattle.sam_protocol.proofs.Lenses.{IsFree, exited_of, command_of}
-use Rattle.sam_protocol.proofs.Changes.{Need, Nothing, Positive, InOpen, AtPlace, InRange, HasRoom, Startable, NamedOpen, NamedRange, need_of, CanMeet, change_by, changed, KnownAt, Within, IsAllowed, CanCompose}
+use Rattle.sam_protocol.proofs.Changes.{Need, Nothing, Positive, InOpen, AtPlace, InRange, HasRoom, Startable, NamedOpen, NamedRange, CanMeet, change_by, changed, Within, IsAllowed, CanCompose}
 use Rattle.sam_protocol.specs.View.{file_in}
 use Rattle.sam_protocol.proofs.HostFiles.{Opens, opens_at, is_there}
 use Rattle.sam_protocol.proofs.Accepting.{Ready, IsMet, Accepted, Synced}
@@ -52,9 +52,6 @@ IsKnown (Named t) = Unit
 IsKnown (Opened t) = Unit
 IsKnown _ = ⊥
 
-known_case : (s : List Action) (v : Lens) (d : Bool) (n : ℕ) (file : HFile) → Settles s v d n file → IsFree v → KnownAt v → IsKnown file
-known_case s v d n file k free o = grind (arith, (kept_free s v d n file k free))
-
 within : (r : List (Option ℕ)) (t : List ℕ) (q : ℕ) → Agrees r t → q ≤ length r → q ≤ length t
 within r t q a l = omega (arith, length_agrees r t a)
 
@@ -75,7 +72,7 @@ accepted h views line down k m allowed can = go m allowed can
     met (HasRoom f p s) free x =
         let o = at (λ r. (p ≤ length r) × (length r + length s ≤ max_runes)) f x in
         (o.opens, within o.rasp _ p o.agrees o.has.0, subst (λ (y : ℕ). y + length s ≤ max_runes) (length_agrees o.rasp _ o.agrees) o.has.1)
-    met (Startable f) free x = grind (arith, known_case, is_there)
+    met (Startable f) free x = grind (arith, is_there, kept_free)
     met (NamedOpen f) free x = ((at Anything f x.0).opens, x.1)
     met (NamedRange f p q) free x = let o = at (Within p q) f x.0 in (o.opens, o.has.0, within o.rasp _ q o.agrees o.has.1, x.1)
 

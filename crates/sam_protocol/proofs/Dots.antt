@@ -19,12 +19,6 @@ record InsPlace (p n k : ℕ) : Type 0 where
   still : k ≤ p → place_after_ins p n k ≡ k
   moves : p < k → place_after_ins p n k ≡ k + n
 
-ins_place : (p n k : ℕ) → InsPlace p n k
-ins_place p n k = grind arith
-
-pub unmoved : (p n k : ℕ) → k ≤ p → place_after_ins p n k ≡ k
-unmoved p n k l = (ins_place p n k).still l
-
 pub tidy-ins : (w : Window) (p : ℕ) (cells : PartialText) → IsTidyWindow w → p ≤ length w.rasp → IsTidyWindow (window_after_ins w p cells)
 tidy-ins w p cells t l = grind (arith, length-ins_cells)
 

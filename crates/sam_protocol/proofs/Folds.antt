@@ -1,5 +1,5 @@
 -- The fold of what is under way, one message or frame more or less.
-use Rattle.std.proofs.Common.{◌≡◌, ℕ, Bool, true, false, if◌then◌else◌, ◌==◌, List, [], ◌∷◌, ◌++◌, map, Option, Some, None, ◌⊎◌, inl, inr, refl, sym, ap, ◌∙◌, subst, append-nil, append_assoc, eqb-true, eq-eqb, arith, rules}
+use Rattle.std.proofs.Common.{◌≡◌, ℕ, Bool, true, false, if◌then◌else◌, ◌==◌, List, [], ◌∷◌, ◌++◌, map, Option, Some, None, ◌⊎◌, inl, inr, refl, sym, ap, ◌∙◌, subst, append-nil, append_assoc, eqb-true, eq-eqb, arith}
 use Rattle.std.proofs.lemmas.Bool.{cases_Bool}
 use Rattle.sam_runes.specs.Checks.{first_of_checks}
 use Rattle.sam_mesg.specs.declared.tmesg.Tmesg.{Tmesg}
@@ -8,13 +8,13 @@ use Rattle.sam_mesg.specs.declared.hmesg.Hmesg.{Hmesg}
 use Rattle.sam_host.specs.Host.{PlainHost, Reply, counted, host_checks, reply_to, reply_request}
 use Rattle.sam_host.specs.declared.fault.HostFault.{HostFault}
 use Rattle.sam_protocol.proofs.Lenses.{locked_more, IsFree, IsAlike, IsOpen, exited_of, CanRequest, request_actions}
-use Rattle.sam_protocol.specs.Lens.{Lens, lens, Unknown, Known, Open, Action, move, HFile, Absent, Hidden, Named, Opened, Gone, Settles}
+use Rattle.sam_protocol.specs.Lens.{Lens, Action, move, HFile, Opened, Gone, Settles}
 use Rattle.sam_protocol.specs.Frames.{at_file, action, only, VersionsGuarded}
-use Rattle.sam_protocol.proofs.Changes.{change_by, Change, Same, Lock, Command, Types, Cuts, Line, changed, IsAllowed}
+use Rattle.sam_protocol.proofs.Changes.{change_by, Change, Lock, changed, IsAllowed}
 use Rattle.sam_protocol.specs.View.{file_in}
 use Rattle.sam_protocol.proofs.Accepting.{Synced}
 use Rattle.sam_protocol.specs.Steady.{IsSteady}
-use Rattle.sam_protocol.specs.Fold.{replied, reply_of, behind, replied_then, answers, AllSettle}
+use Rattle.sam_protocol.specs.Fold.{replied, reply_of, replied_then, answers, AllSettle}
 use Rattle.sam_protocol.proofs.Versions.{versions-append, guarded_reply}
 use Rattle.sam_protocol.proofs.AllSettle.{kept_take, kept_append, kept_act, kept_more, kept_request, kept_skips, alike_same}
 use Rattle.sam_protocol.proofs.HostFiles.{opens_at, gone_at}
@@ -66,10 +66,6 @@ pub term_takes : (h : PlainHost) (views views2 : ℕ → Lens) (line : List Tmes
 term_takes h views views2 line m down k moves = grind arith
 
 -- ## A message more
-
--- views that are alike at each file
-pub kept_views : (h : PlainHost) (views views2 : ℕ → Lens) (line : List Tmesg) (down : List Hmesg) → AllSettle h views line down → ((g : ℕ) → views g ≡ views2 g) → AllSettle h views2 line down
-kept_views h views views2 line down k same = grind arith
 
 -- another list of messages that folds to the same, counts aside
 pub kept_with : (h : PlainHost) (views views2 : ℕ → Lens) (line : List Tmesg) (down : List Hmesg) (m : Tmesg) (r : Reply) (k : AllSettle h views line down) → reply_of k.ahead m ≡ Some r

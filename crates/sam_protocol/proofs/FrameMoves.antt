@@ -1,10 +1,10 @@
 -- Where no lens refuses a frame the terminal doesn't, and each lens moves as the frame's action says.
-use Rattle.std.proofs.Common.{◌≡◌, ℕ, suc, arith, ◌+◌, ◌-◌, ◌≢◌, Bool, true, false, not, if◌then◌else◌, ◌==◌, List, [], ◌∷◌, length, map, replicate, Option, Some, None, is_some, refl, sym, ap, ◌∙◌, eqb-true, eq-eqb, nat_le, nat_lt, rules}
+use Rattle.std.proofs.Common.{◌≡◌, ℕ, suc, arith, ◌+◌, ◌-◌, ◌≢◌, Bool, true, false, not, if◌then◌else◌, ◌==◌, List, [], ◌∷◌, length, map, replicate, Option, Some, None, is_some, refl, sym, ap, ◌∙◌, eqb-true, eq-eqb, nat_le, nat_lt}
 use Rattle.std.specs.Prelude.{unwrap_or}
 use Rattle.std.proofs.lemmas.Bool.{leb-true, le-ltb}
 use Rattle.std.proofs.lemmas.Option.{same_Some}
 use Rattle.sam_runes.specs.Texts.{common_version, max_runes}
-use Rattle.sam_runes.specs.Slots.{slot, put_slot, free_slot}
+use Rattle.sam_runes.specs.Slots.{slot, put_slot}
 use Rattle.sam_runes.specs.Checks.{Checks, first_of_checks}
 use Rattle.sam_runes.proofs.SlotLaws.{slot-put_same, slot-put_other, slot-free_same, slot-free_other, slot-map}
 use Rattle.sam_rasp.specs.Rasp.{ins_cells, del_cells, load_cells}
@@ -17,7 +17,7 @@ use Rattle.sam_term.specs.declared.fault.TermFault.TheVariants as fault
 use Rattle.sam_mesg.specs.declared.tmesg.Tmesg.TheVariants.{Tack}
 use Rattle.sam_term.specs.Term.{PlainTerminal, sends_if, sends, unchanged, requested, took_bindname, took_data, took_grow, took_growdata, took_cut, took_unlockfile, took_close, took_exit}
 use Rattle.sam_term.specs.Windows.{blank_known, blank_window}
-use Rattle.sam_protocol.specs.Lens.{Slot, Unknown, Known, Open, Lens, lens, Action, Skip, Change, Needs_known, Needs_open, Join, Bind, Close, Leave, Grow, Fill, Insert, Cut, Place, Free_file, Free_command, Exit, move}
+use Rattle.sam_protocol.specs.Lens.{Slot, Unknown, Known, Open, Lens, lens, Action, Skip, Change, Needs_known, Needs_open, Join, Bind, Close, Grow, Fill, Insert, Cut, Place, Free_file, Free_command, Exit, move}
 use Rattle.sam_protocol.specs.Frames.{only}
 use Rattle.sam_protocol.specs.View.{slot_of_window, slot_of, view, effect, NoneRefuses, Moves}
 
@@ -72,9 +72,6 @@ on_setdot p q c e n w v z = grind arith
 on_place : (p : ℕ) → OnOpen (Place p p) (λ w. (nat_lt (length w.rasp) p, fault.BadPosition) ∷ []) (λ w. Open w.rasp w.locks)
 on_place p c e n w v z = grind arith
 
-on_check : OnOpen Needs_open (λ w. []) (λ w. Open w.rasp w.locks)
-on_check c e n w v z = (refl, sym (same_Some _ _ z))
-
 one_less : (k : ℕ) → k ≡ suc k - 1
 one_less k = omega arith
 
@@ -123,10 +120,6 @@ opened_here f a t tests next on unknown closed h = grind (arith, here_moves)
 known_here : (f : ℕ) (t : PlainTerminal) → Refuses f Needs_known t → Here f Needs_known t ((not (is_some (slot t.files f)), fault.NoFile) ∷ []) (slot_of_window (known_of (slot t.files f)).window)
 known_here f t h = grind (arith, here_moves)
 
-removed_moves : (f : ℕ) (t : PlainTerminal) → move Leave (view f t) ≡ Some (lens t.command_lock t.has_exited t.version Unknown) → (g : ℕ)
-    → move (only (g == f) Leave) (view g t) ≡ Some (view g (record t { files = free_slot t.files f }))
-removed_moves f t here = grind (arith, slot-free_other, slot-free_same)
-
 -- Hexit
 exit_moves : (t : PlainTerminal) (g : ℕ) (v : Lens) → move Exit (view g t) ≡ Some v → move Exit (view g t) ≡ Some (view g (took_exit t))
 unfolding took_exit
@@ -174,7 +167,7 @@ take_law t (Hgrow f p n) h =
     opened_here f (Grow p n) t (λ w. (nat_lt (length w.rasp) p, fault.BadPosition) ∷ (nat_lt max_runes (length w.rasp + n), fault.TooLong) ∷ [])
     (λ w. Open (ins_cells w.rasp p (replicate n None)) w.locks) (on_grow p n) (λ c e v. refl) (λ c e v. refl) h in
     record { passes = x.passes; moves = put_moves f (Grow p n) t (effect t (Hgrow f p n)) _ refl refl refl refl x.moves; composes = refl }
-take_law t (Hcheck f) h = grind (arith, opened_here, on_check, tagged, open_same, here_moves)
+take_law t (Hcheck f) h = grind (arith, opened_here, tagged, open_same, here_moves)
   where
     open_same : (s : Option KnownFile) (v : Lens) → move Needs_open (lens t.command_lock t.has_exited t.version (slot_of s)) ≡ Some v
         → move Needs_open (lens t.command_lock t.has_exited t.version (slot_of s)) ≡ Some (lens t.command_lock t.has_exited t.version (slot_of s))
@@ -225,7 +218,7 @@ take_law t (Hcut f p n) h =
     let x = opened_here f (Cut p n) t (λ w. (nat_lt (length w.rasp) (p + n), fault.BadPosition) ∷ []) (λ w. Open (del_cells w.rasp p (p + n)) w.locks) (on_cut p n) (λ c e v. refl) (λ c e v. refl) h in
     record { passes = x.passes; moves = put_moves f (Cut p n) t (effect t (Hcut f p n)) _ refl refl refl refl x.moves; composes = refl }
 take_law t (Hsetpat s) h = record { passes = refl; moves = λ g. refl; composes = refl }
-take_law t (Hdelname f) h = grind (arith, here_moves, on_shut, removed_moves)
+take_law t (Hdelname f) h = grind (arith, here_moves, on_shut, slot-free_other, slot-free_same)
 take_law t (Hclose f) h =
     let x = opened_here f Close t (λ w. []) (λ w. Known) on_close (λ c e v. refl) (λ c e v. refl) h in
     record { passes = x.passes; moves = put_moves f Close t (took_close t f) (record (known_of (slot t.files f)) { window = None }) refl refl refl refl x.moves; composes = refl }

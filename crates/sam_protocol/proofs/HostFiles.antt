@@ -1,5 +1,5 @@
 -- The files of the host by slot, as the crossing sees them: what is there, and what becomes of all where one is put or dropped.
-use Rattle.std.proofs.Common.{◌≡◌, ℕ, ◌<◌, ◌≤◌, Bool, true, false, if◌then◌else◌, ◌==◌, List, [], length, Option, Some, None, is_some, ◌⊎◌, inl, inr, refl, sym, ap, ◌∙◌, subst, arith, eq-eqb, nat_lt, rules}
+use Rattle.std.proofs.Common.{◌≡◌, ℕ, ◌<◌, ◌≤◌, Bool, true, false, if◌then◌else◌, ◌==◌, List, length, Option, Some, None, is_some, ◌⊎◌, inl, inr, refl, sym, ap, ◌∙◌, subst, arith, eq-eqb, nat_lt}
 use Rattle.std.specs.Prelude.{unwrap_or}
 use Rattle.std.proofs.lemmas.Bool.{le-ltb}
 use Rattle.std.proofs.lemmas.List.{length-append}
@@ -92,12 +92,9 @@ pub record Opens (fs : PlainFiles) (f : ℕ) : Type 0 where
   pub opened : (file_at fs f).opened ≡ true
   pub shown : file_in fs.slots f ≡ Opened (file_at fs f).text
 
-pub opens_there : (fs : PlainFiles) (f : ℕ) (x : PlainFile) → slot fs.slots f ≡ Some x → x.opened ≡ true → Opens fs f
-opens_there fs f x e o = grind (arith, in_slots)
-
 -- and this is its text
 pub opens_at : (fs : PlainFiles) (f : ℕ) (t : List ℕ) → file_in fs.slots f ≡ Opened t → Opens fs f × ((file_at fs f).text ≡ t)
-opens_at fs f t e = grind (arith, opens_there)
+opens_at fs f t e = grind (arith, in_slots)
 
 -- a file that was closed: its tag was given and holds nothing
 pub gone_at : (ss : Slots PlainFile) (f : ℕ) → file_in ss f ≡ Gone → (f < length ss) × (slot ss f ≡ None)

@@ -1,5 +1,5 @@
 -- Runes typed in two messages do what they do in one.
-use Rattle.std.proofs.Common.{◌≡◌, ℕ, ◌+◌, ◌-◌, ◌≤◌, Bool, true, false, ◌&&◌, ◌==◌, if◌then◌else◌, List, [], ◌∷◌, ◌++◌, length, Option, Some, None, refl, sym, ap, ◌∙◌, subst, arith, append_assoc, append-nil, length-append, ◌⊎◌, inl, inr, rules}
+use Rattle.std.proofs.Common.{◌≡◌, ℕ, ◌+◌, ◌-◌, ◌≤◌, Bool, true, false, ◌&&◌, ◌==◌, if◌then◌else◌, List, [], ◌∷◌, ◌++◌, length, Option, Some, None, refl, sym, ap, ◌∙◌, arith, append_assoc, append-nil, length-append, ◌⊎◌}
 use Rattle.std.specs.Prelude.{unwrap_or}
 use Rattle.std.proofs.lemmas.Bool.{cases_Bool}
 use Rattle.std.proofs.lemmas.Option.{same_Some}
@@ -14,11 +14,8 @@ use Rattle.sam_mesg.specs.declared.tmesg.Tmesg.{Tmesg}
 use Rattle.sam_mesg.specs.declared.tmesg.Tmesg.TheVariants.{Ttype}
 use Rattle.sam_mesg.specs.declared.hmesg.Hmesg.{Hmesg}
 use Rattle.sam_host.specs.Host.{PlainHost, Reply, counted, with_file, unknown, not_opened, host_checks, reply_to, reply_line, reply_type}
-use Rattle.sam_protocol.specs.Lens.{Lens, Settles}
-use Rattle.sam_protocol.specs.Frames.{at_file, VersionsGuarded}
-use Rattle.sam_protocol.specs.View.{file_in}
-use Rattle.sam_protocol.specs.Steady.{IsSteady}
-use Rattle.sam_protocol.specs.Fold.{replied, reply_of, behind, replied_then, answers, AllSettle}
+use Rattle.sam_protocol.specs.Lens.{Lens}
+use Rattle.sam_protocol.specs.Fold.{replied, reply_of, replied_then, answers, AllSettle}
 use Rattle.sam_protocol.proofs.Folds.{Answered, plain_reply, answered, answers-append}
 
 -- the two are alike but for their counts

@@ -1,5 +1,5 @@
 -- The two messages that run a command line, and what a line does: from settled to settled.
-use Rattle.std.proofs.Common.{◌≡◌, ℕ, ◌+◌, ◌-◌, Bool, true, false, not, ◌||◌, ◌&&◌, ◌==◌, if◌then◌else◌, List, [], ◌∷◌, ◌++◌, length, map, reverse, Option, Some, None, Result, Ok, Err, unwrap_or, ◌⊎◌, inl, inr, refl, sym, ap, ◌∙◌, subst, eqb-true, arith, rules}
+use Rattle.std.proofs.Common.{◌≡◌, ℕ, ◌+◌, ◌-◌, Bool, true, false, not, ◌||◌, ◌&&◌, ◌==◌, if◌then◌else◌, List, [], ◌∷◌, ◌++◌, length, map, reverse, Option, Some, None, Result, unwrap_or, ◌⊎◌, inl, inr, refl, sym, ap, ◌∙◌, subst, eqb-true, arith}
 use Rattle.std.specs.Prelude.{option_map, option_and_then, flat_map}
 use Rattle.std.proofs.lemmas.Bool.{cases_Bool}
 use Rattle.sam_runes.specs.Texts.{Range, ins, is_empty, part, line_start, as_lines, last_line}
@@ -20,17 +20,16 @@ use Rattle.sam_text.proofs.FitLaws.{fit-put, fit-typed, fit-print}
 use Rattle.sam_mesg.specs.declared.tmesg.Tmesg.TheVariants.{Ttype, Tsend}
 use Rattle.sam_mesg.specs.declared.hmesg.Hmesg.{Hmesg}
 use Rattle.sam_mesg.specs.declared.hmesg.Hmesg.TheVariants.{Hmovname, Hdirty, Hsetpat, Hsetdot, Hcheck, Hexit, Hunlock}
-use Rattle.sam_term.specs.declared.lock.Lock.TheVariants.{CommandLock, NoLock}
 use Rattle.sam_term.specs.Events.{is_command_line}
 use Rattle.sam_host.specs.Host.{PlainHost, Reply, with_file, with_files, when, when_given, printed, told_edit, told_outcome, no_range, reply_line, reply_type, reply_send}
 use Rattle.sam_protocol.specs.Lens.{Slot, Open, Lens, lens, Action, Free_command, HFile, Opened, Fits_slot, IsSettled, Settles}
 use Rattle.sam_protocol.proofs.Lenses.{AreSkips}
 use Rattle.sam_protocol.specs.Frames.{at_file}
-use Rattle.sam_protocol.proofs.Changes.{type_change, typed_in, commanded, changed}
+use Rattle.sam_protocol.proofs.Changes.{typed_in, commanded}
 use Rattle.sam_protocol.specs.View.{file_in}
 use Rattle.sam_protocol.specs.Steady.{HasFiles}
 use Rattle.sam_protocol.proofs.Accepting.{Synced, Accepted, Ready, first_there}
-use Rattle.sam_protocol.proofs.AllSettle.{settled_slot, settled_opened}
+use Rattle.sam_protocol.proofs.AllSettle.{settled_opened}
 use Rattle.sam_protocol.proofs.HostFiles.{IsThere, put, put_other, put_opened, Opens, work_opens, Lasts, lasts_same, lasts_then, lasts_opened, still_has, at_there}
 use Rattle.sam_protocol.proofs.Tests.{open_tests, range_test}
 use Rattle.sam_protocol.proofs.Guards.{at_file-append}
@@ -252,7 +251,7 @@ sync_line h r p s o ends = record {
     slot_of g w x (inl e) =
         let u = settled_opened w h.is_done h.version t (subst (IsSettled w h.is_done h.version) (ap (file_in h.files.slots) (eqb-true _ _ e) ∙ o.0.shown) x) in
         (Open (ins_cells u.0 p (map Some s)) 0, grind (arith, settled_opened, eqb-true), grind (arith, settled_opened, eqb-true, files, agrees_typed))
-    slot_of g w x (inr e) = grind (arith, settled_slot, files, put_other)
+    slot_of g w x (inr e) = grind (arith, files, put_other)
 
     each : (g : ℕ) (w : Lens) → IsSettled w h.is_done h.version (file_in h.files.slots g)
         → Settles (at_file g run.1) (commanded (if g == 0 then typed_in p s w else w)) run.0.is_done run.0.version (file_in run.0.files.slots g)

@@ -1,5 +1,5 @@
 -- What the tests of an event say of the views, where none of them stands against it.
-use Rattle.std.proofs.Common.{◌≡◌, ℕ, zero, suc, true, false, not, ◌&&◌, nat_lt, List, [], ◌∷◌, Some, None, refl, arith, rules}
+use Rattle.std.proofs.Common.{◌≡◌, ℕ, suc, true, false, not, ◌&&◌, nat_lt, List, ◌∷◌, Some, None, arith}
 use Rattle.std.specs.Prelude.{unwrap_or}
 use Rattle.std.proofs.lemmas.Bool.{or_parts}
 use Rattle.sam_runes.specs.Slots.{Slots}

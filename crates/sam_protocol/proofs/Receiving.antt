@@ -1,5 +1,5 @@
 -- The terminal takes each frame that comes, and both sides stay in order.
-use Rattle.std.proofs.Common.{◌≡◌, ℕ, ◌+◌, ◌-◌, ◌≤◌, Bool, true, false, ◌==◌, if◌then◌else◌, List, [], ◌∷◌, ◌++◌, length, map, replicate, Option, Some, None, refl, sym, ap, ◌∙◌, subst, true≢false, arith, length-append, length-drop, length-take-le, rules}
+use Rattle.std.proofs.Common.{◌≡◌, ℕ, ◌+◌, ◌-◌, ◌≤◌, Bool, true, false, ◌==◌, if◌then◌else◌, List, ◌∷◌, ◌++◌, length, Option, Some, None, refl, ap, subst, arith, length-append, length-drop, length-take-le}
 use Rattle.std.specs.Prelude.{unwrap_or}
 use Rattle.std.proofs.lemmas.List.{length-map}
 use Rattle.std.proofs.lemmas.Bool.{ltb-false}
@@ -7,18 +7,18 @@ use Rattle.sam_runes.specs.Slots.{slot, free_slot, map_slots}
 use Rattle.sam_runes.specs.Checks.{Checks, first_of_checks}
 use Rattle.sam_runes.proofs.SlotLaws.{slot-free_same, slot-free_other, slot-map}
 use Rattle.sam_runes.proofs.CheckLaws.{none_holds}
-use Rattle.sam_rasp.specs.Rasp.{PartialText, load_cells, place_after_ins, place_after_del}
+use Rattle.sam_rasp.specs.Rasp.{PartialText, load_cells}
 use Rattle.sam_mesg.specs.declared.tmesg.Tmesg.{Tmesg}
 use Rattle.sam_mesg.specs.declared.hmesg.Hmesg.{Hmesg}
 use Rattle.sam_mesg.specs.declared.hmesg.Hmesg.TheVariants.{Hversion, Hbindname, Hcurrent, Hnewname, Hmovname, Hgrow, Hcheck, Hunlock, Hdata, Horigin, Hunlockfile, Hsetdot, Hgrowdata, Hmoveto, Hclean, Hdirty, Hcut, Hsetpat, Hdelname, Hclose, Hsetsnarf, Hsnarflen, Hack, Hexit}
 use Rattle.sam_host.specs.Host.{PlainHost}
-use Rattle.sam_term.specs.Term.{PlainTerminal, known_at, window_at, unsent_message, moved_unsent, unsent_without, freed_known, unknown_file, not_opened, past_end, frame_checks, frame_outcome, took_bindname, took_data, took_grow, took_growdata, took_cut, took_unlockfile, took_close, took_exit}
+use Rattle.sam_term.specs.Term.{PlainTerminal, window_at, unsent_message, unsent_without, freed_known, unknown_file, not_opened, past_end, frame_checks, frame_outcome, took_bindname, took_data, took_grow, took_growdata, took_cut, took_unlockfile, took_close, took_exit}
 use Rattle.sam_term.specs.Windows.{blank_known, blank_window}
 use Rattle.sam_term.specs.declared.records.Unsent.{Unsent}
 use Rattle.sam_term.specs.declared.fault.TermFault.{TermFault}
 use Rattle.sam_term.specs.declared.fault.TermFault.TheVariants as fault
 use Rattle.sam_protocol.specs.Lens as lenses
-use Rattle.sam_protocol.specs.Lens.{Lens, lens, Action, move, is_crossing, Settles, HFile, OpenAt, Anything}
+use Rattle.sam_protocol.specs.Lens.{Lens, Action, move, is_crossing, Settles, HFile, OpenAt, Anything}
 use Rattle.sam_protocol.proofs.Lenses.{IsFree}
 use Rattle.sam_protocol.specs.Frames.{action, only, at_file}
 use Rattle.sam_protocol.specs.View.{view, effect, Moves, file_in}
@@ -48,25 +48,18 @@ left_open a s v v2 d n file k o m = grind (arith, (quiet_frame a s v d n file k 
 elsewhere : (b : Bool) (a : Action) → is_crossing a ≡ true → is_crossing (only b a) ≡ false → b ≡ false
 elsewhere b a e u = grind arith
 
--- unsent runes of another file stay
-moved_other : (f : ℕ) (moved : ℕ → ℕ) (u : Unsent) → (u.file == f) ≡ false → moved_unsent f moved (Some u) ≡ Some u
-moved_other f moved u e = ap (λ (b : Bool). if b then Some (record u { place = moved u.place }) else Some u) e
-
 kept_other : (f : ℕ) (u : Unsent) → (u.file == f) ≡ false → unsent_without f (Some u) ≡ Some u
 kept_other f u e = ap (λ (b : Bool). if b then None else Some u) e
 
 unsent_stays : (t : PlainTerminal) (m : Hmesg) (u : Unsent) → t.unsent ≡ Some u → is_crossing (action u.file m) ≡ false → (effect t m).unsent ≡ Some u
 unfolding took_bindname took_data took_grow took_growdata took_cut took_unlockfile took_close took_exit
-unsent_stays t m u e w = grind (arith, moved_other, elsewhere, kept_other)
+unsent_stays t m u e w = grind (arith, elsewhere, kept_other)
 
 unsent_none : (t : PlainTerminal) (m : Hmesg) → t.unsent ≡ None → (effect t m).unsent ≡ None
 unfolding took_bindname took_data took_grow took_growdata took_cut took_unlockfile took_close took_exit
 unsent_none t m e = grind arith
 
 -- ## Dots stay in their texts
-
-blank_tidy : IsTidyWindow blank_window
-blank_tidy = (omega arith, omega arith, omega arith)
 
 -- what stands behind the two tests that the file is open
 behind_open : (t : PlainTerminal) (f : ℕ) (rest : Checks TermFault) → first_of_checks (unknown_file t f ∷ not_opened t f ∷ rest) ≡ None → first_of_checks rest ≡ None
@@ -86,7 +79,7 @@ tidy-freed t all g = grind (arith, slot-map)
 
 tidy_effect : (t : PlainTerminal) (m : Hmesg) → first_of_checks (frame_checks t m) ≡ None → AreTidy t → AreTidy (effect t m)
 unfolding took_bindname took_data took_grow took_growdata took_cut took_unlockfile took_close took_exit
-tidy_effect t m e u = grind (arith, tidy-window, blank_tidy, tidy-put, tidy-ins, place_of, behind_open, length-load, tidy-del, tidy-free, tidy-freed)
+tidy_effect t m e u = grind (arith, tidy-window, tidy-put, tidy-ins, place_of, behind_open, length-load, tidy-del, tidy-free, tidy-freed)
 
 -- ## A frame is taken
 

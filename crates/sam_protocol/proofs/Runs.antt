@@ -1,7 +1,7 @@
 -- Runs of actions at one file.
-use Rattle.std.proofs.Common.{◌≡◌, zero, suc, Bool, true, false, ◌||◌, List, [], ◌∷◌, ◌++◌, Option, Some, None, ◌⊎◌, inl, inr, refl, sym, ap, ◌∙◌, subst, true≢false, if◌then◌else◌, arith, rules}
+use Rattle.std.proofs.Common.{◌≡◌, Bool, true, false, ◌||◌, List, [], ◌∷◌, ◌++◌, Option, Some, None, ◌⊎◌, inr, refl, sym, ap, ◌∙◌, subst, if◌then◌else◌, arith}
 use Rattle.std.proofs.lemmas.Bool.{or_parts}
-use Rattle.sam_protocol.specs.Lens.{Unknown, Known, Open, Lens, lens, Action, Skip, Needs_known, Needs_open, Join, Bind, Close, Leave, Grow, Fill, Insert, Cut, Place, Change, Free_file, Free_command, Exit, move, run, and_then, is_crossing, is_freeing, frees, IsGuarded, is_close, closes}
+use Rattle.sam_protocol.specs.Lens.{Lens, Action, move, run, and_then, is_crossing, is_freeing, frees, IsGuarded, is_close, closes}
 use Rattle.sam_protocol.proofs.Lenses.{IsFree, IsOpen, IsAlike, locked_more, exited_of, command_of, version_of, is_change, changes, frees_command, is_exit, exits}
 
 and_then-and_then : (m : Option Lens) (f g h : Lens → Option Lens) → ((w : Lens) → h w ≡ and_then (f w) g) → and_then m h ≡ and_then (and_then m f) g

@@ -1,5 +1,5 @@
 -- Messages that the terminal composes keep both sides in order.
-use Rattle.std.proofs.Common.{◌≡◌, ℕ, zero, suc, Bool, true, false, ◌==◌, if◌then◌else◌, List, [], ◌∷◌, ◌++◌, Option, None, refl, sym, ap, ◌∙◌, subst, true≢false, append-nil, append_assoc, arith, rules}
+use Rattle.std.proofs.Common.{◌≡◌, ℕ, Bool, true, false, ◌==◌, if◌then◌else◌, List, [], ◌∷◌, ◌++◌, Option, None, refl, sym, ap, ◌∙◌, subst, append-nil, append_assoc, arith}
 use mathlib.Core.Path.{fun_ext}
 use Rattle.sam_rasp.specs.Rasp.{del_cells, place_after_del}
 use Rattle.sam_mesg.specs.declared.tmesg.Tmesg.{Tmesg}
@@ -8,8 +8,7 @@ use Rattle.sam_mesg.specs.declared.hmesg.Hmesg.{Hmesg}
 use Rattle.sam_host.specs.Host.{PlainHost}
 use Rattle.sam_term.specs.Events.{lock_of}
 use Rattle.sam_term.specs.Term.{PlainTerminal, Made, window_at, window_after_del, moved_unsent, del_rasp, edited, cut_rasp, composed, flushed, unsent_message, and_then, sends, unchanged}
-use Rattle.sam_term.specs.declared.records.Unsent.{Unsent}
-use Rattle.sam_protocol.specs.Lens.{Unknown, Known, Open, Lens, lens, OpenAt}
+use Rattle.sam_protocol.specs.Lens.{Lens, OpenAt}
 use Rattle.sam_protocol.proofs.Lenses.{IsFree, IsOpen, exited_of, command_of}
 use Rattle.sam_protocol.proofs.Changes.{change_of_lock, change_by, cut_out, changed, Within, IsAllowed, CanCompose}
 use Rattle.sam_protocol.specs.View.{view}
@@ -64,15 +63,11 @@ ruleset opening = (open_is)
 opens_for : (m : Tmesg) (v : ℕ → Lens) → CanCompose m v → LockOpens (lock_of m) v
 opens_for m v e = grind arith
 
--- where nothing is unsent before and after it
-line_path : (up : List Tmesg) (m : Tmesg) (o o2 : Option Unsent) → o ≡ None → o2 ≡ None → (up ++ unsent_message o) ++ m ∷ [] ≡ (up ++ m ∷ []) ++ unsent_message o2
-line_path up m o o2 e e2 = grind (arith, append-nil)
-
 -- a message that the fold carries, and what the terminal shows then
 pub carried : (h : PlainHost) (t t2 : PlainTerminal) (up : List Tmesg) (down : List Hmesg) (m : Tmesg) → InOrder h t up down → t.unsent ≡ None → t2.unsent ≡ None
     → AllSettle h (λ g. changed (change_by m) g (view g t)) ((up ++ unsent_message t.unsent) ++ m ∷ []) down → ((g : ℕ) → changed (change_by m) g (view g t) ≡ view g t2) → AreTidy t2
     → InOrder h t2 (up ++ m ∷ []) down
-carried h t t2 up down m o e e2 k same tidy = grind (arith, line_path)
+carried h t t2 up down m o e e2 k same tidy = grind (arith, append-nil)
 
 pub send_one : (h : PlainHost) (t : PlainTerminal) (up : List Tmesg) (down : List Hmesg) (m : Tmesg) → InOrder h t up down → t.unsent ≡ None → is_edit m ≡ false → MaySend (views t) m
     → InOrder h (composed t m) (up ++ m ∷ []) down

@@ -1,11 +1,10 @@
 -- Both sides have one version wherever the command lock is free, and it is that of the place of the next message.
-use Rattle.std.proofs.Common.{◌≡◌, ℕ, Bool, true, false, List, [], ◌∷◌, ◌++◌, Option, Some, None, ◌⊎◌, inl, inr, refl, sym, ap, ◌∙◌, true≢false, arith, rules}
+use Rattle.std.proofs.Common.{◌≡◌, ℕ, Bool, true, false, List, [], ◌∷◌, ◌++◌, Option, Some, None, ◌⊎◌, refl, sym, ap, ◌∙◌, true≢false, arith}
 use Rattle.std.proofs.lemmas.Bool.{or_parts, false_from_ne_true}
 use Rattle.std.proofs.lemmas.Option.{same_Some}
 use Rattle.sam_term.specs.declared.records.Unsent.{Unsent}
 use Rattle.sam_runes.specs.Checks.{first_of_checks}
 use Rattle.sam_mesg.specs.declared.tmesg.Tmesg.{Tmesg}
-use Rattle.sam_mesg.specs.declared.tmesg.Tmesg.TheVariants.{Tversion}
 use Rattle.sam_mesg.specs.declared.hmesg.Hmesg.{Hmesg}
 use Rattle.sam_host.specs.Host.{PlainHost, Reply, host_checks, reply_to, reply_version}
 use Rattle.sam_term.specs.Term.{PlainTerminal, unsent_message}
@@ -41,9 +40,6 @@ first_none : (a b : List Hmesg) → unlocks_command (a ++ b) ≡ false → unloc
 first_none [] b e = refl
 first_none (m ∷ a) b e = grind (arith, (first_none a b))
 
-before_none : (a b : List Hmesg) → unlocks_command (a ++ b) ≡ false → unlocks_command a ≡ true → ⊥
-before_none a b e f = true≢false (sym f ∙ first_none a b e)
-
 answers_version : (ms : List Tmesg) (h : PlainHost) (a : Reply) → answers h ms ≡ Some a → unlocks_command a.1 ≡ false → a.0.version ≡ h.version
 answers_version [] h a e u = ap (λ (r : Reply). r.0.version) (sym (same_Some _ _ e))
 answers_version (m ∷ ms) h a e u =
@@ -52,7 +48,7 @@ answers_version (m ∷ ms) h a e u =
     grind (arith, answered, behind_none, go, version_of_reply, (answers_version ms t.first.0 t.rest t.later (behind_none t.first.1 t.rest.1 both)))
   where
     go : (r s : Reply) → unlocks_command (r.1 ++ s.1) ≡ false → (r.0.version ≡ h.version) ⊎ (unlocks_command r.1 ≡ true) → r.0.version ≡ h.version
-    go r s e u = grind (arith, before_none)
+    go r s e u = grind (arith, first_none)
 
 -- where the command lock is free the terminal has the version of the host that will have handled all
 ahead_version : (h : PlainHost) (t : PlainTerminal) (up : List Tmesg) (down : List Hmesg) (o : InOrder h t up down) → t.command_lock ≡ false → t.version ≡ o.kept.ahead.version
@@ -87,12 +83,9 @@ still_done (m ∷ ms) h r e d = grind (arith, (still_done ms))
 running : (ms : List Tmesg) (h : PlainHost) (r : Reply) → answers h ms ≡ Some r → r.0.is_done ≡ false → h.is_done ≡ false
 running ms h r e d = false_from_ne_true _ (λ q. true≢false (sym (still_done ms h r e q) ∙ d))
 
-one_past : (h : PlainHost) (m : Tmesg) (r : Reply) → h.is_done ≡ false → reply_of h m ≡ Some r → r.0.version ≡ after_t h.version m
-one_past h m r d e = grind (arith, reply_stands)
-
 folded_version : (ms : List Tmesg) (h : PlainHost) (r : Reply) → answers h ms ≡ Some r → r.0.is_done ≡ false → r.0.version ≡ version_behind h.version ms
 folded_version [] h r e d = ap (λ (x : Reply). x.0.version) (sym (same_Some _ _ e))
-folded_version (m ∷ ms) h r e d = grind (arith, one_past, running, (folded_version ms))
+folded_version (m ∷ ms) h r e d = grind (arith, running, (folded_version ms), reply_stands)
 
 unsent_past : (up : List Tmesg) (u : Option Unsent) (v : ℕ) → version_behind v (up ++ unsent_message u) ≡ version_behind v up
 unsent_past (m ∷ up) u v = unsent_past up u (after_t v m)

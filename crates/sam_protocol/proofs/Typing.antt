@@ -1,5 +1,5 @@
 -- Typing keeps both sides in order, whether its runes are held back, joined to those held back, or sent at once.
-use Rattle.std.proofs.Common.{◌≡◌, ℕ, ◌+◌, ◌≤◌, Bool, true, false, ◌&&◌, ◌==◌, if◌then◌else◌, nat_le, List, [], ◌∷◌, ◌++◌, length, map, Option, Some, None, refl, sym, ap, ◌∙◌, subst, true≢false, eqb-true, eq-eqb, append-nil, arith, rules}
+use Rattle.std.proofs.Common.{◌≡◌, ℕ, ◌+◌, ◌≤◌, Bool, true, false, ◌&&◌, ◌==◌, if◌then◌else◌, nat_le, List, [], ◌∷◌, ◌++◌, length, map, Option, Some, None, refl, sym, ap, ◌∙◌, subst, true≢false, eqb-true, eq-eqb, append-nil, arith}
 use Rattle.std.proofs.lemmas.List.{length-map}
 use Rattle.std.proofs.lemmas.Bool.{and_parts}
 use Rattle.sam_runes.specs.Texts.{ends_line, max_runes, most_in_message}
@@ -11,21 +11,20 @@ use Rattle.sam_mesg.specs.declared.hmesg.Hmesg.{Hmesg}
 use Rattle.sam_host.specs.Host.{PlainHost}
 use Rattle.sam_term.specs.declared.lock.Lock.TheVariants.{CommandLock, NoLock}
 use Rattle.sam_term.specs.Events.{is_command_line}
-use Rattle.sam_term.specs.Term.{PlainTerminal, Made, lock_taken, window_at, window_after_ins, moved_unsent, edited, ins_rasp, set_dot_of, typed_rasp, joins, joined, types, composed, all_composed, flushed, unsent_message, and_then}
+use Rattle.sam_term.specs.Term.{PlainTerminal, Made, window_at, window_after_ins, moved_unsent, edited, ins_rasp, set_dot_of, typed_rasp, joins, joined, types, flushed, unsent_message, and_then}
 use Rattle.sam_term.specs.declared.records.Window.{Window}
 use Rattle.sam_term.specs.declared.records.Unsent.{Unsent}
 use Rattle.sam_term.proofs.Marks.{edited-window}
-use Rattle.sam_protocol.specs.Lens.{Unknown, Known, Open, Lens, lens, OpenAt, Anything}
+use Rattle.sam_protocol.specs.Lens.{Lens, OpenAt, Anything}
 use Rattle.sam_protocol.proofs.Lenses.{IsOpen}
-use Rattle.sam_protocol.proofs.Changes.{change_by, type_change, typed_in, commanded, changed}
+use Rattle.sam_protocol.proofs.Changes.{change_by, type_change, typed_in, changed}
 use Rattle.sam_protocol.specs.View.{view}
 use Rattle.sam_protocol.specs.Fold.{AllSettle}
 use Rattle.sam_protocol.specs.Order.{AreTidy, IsHeldBack, views, InOrder}
-use Rattle.sam_protocol.proofs.Folds.{kept_views}
 use Rattle.sam_protocol.proofs.Joins as fold
 use Rattle.sam_protocol.proofs.Composing.{composes}
 use Rattle.sam_protocol.proofs.Views.{view-made, view-edited, view-kept, window-put, unsent-composed, tidy-composed, view-flushed, tidy-flushed, tidy-window, tidy-edited}
-use Rattle.sam_protocol.proofs.Dots.{length-ins_cells, unmoved, tidy-ins}
+use Rattle.sam_protocol.proofs.Dots.{length-ins_cells, tidy-ins}
 use Rattle.sam_protocol.proofs.Sending.{Goes, then_goes, MaySend, open_is, has_open}
 
 -- the place and the length of what is typed
@@ -94,7 +93,7 @@ module _ (h : PlainHost) (down : List Hmesg) (u : PlainTerminal) (f p : ℕ) (s 
       still = record z { place = place_after_ins p (length (map (λ (c : ℕ). Some c) s)) z.place }
 
       go : (b : Bool) → (z.file == f) ≡ b → (if b then Some still else Some z) ≡ Some z
-      go b e = grind (arith, unmoved)
+      go b e = grind arith
 
   -- the command line is sent at once, other runes wait
   typed_goes : (x : PlainTerminal) (z : Unsent) (up : List Tmesg) → ((f == 0) && ends_line s) ≡ line → Waiting x z up → OpenAt (Room p s) (view f u)
@@ -124,7 +123,7 @@ module _ (h : PlainHost) (down : List Hmesg) (u : PlainTerminal) (f p : ℕ) (s 
       waits = unsent_typed x z up a
 
       go : (b : Bool) → line ≡ b → Goes h up down (if b then flushed t else (t, []))
-      go b e = grind (arith, kept_views, shows, eq-eqb, append-nil, waits, tidy, typed_open, Room, eqb-true, and_parts, unsent-composed, tidy-composed)
+      go b e = grind (arith, shows, eq-eqb, append-nil, waits, tidy, typed_open, Room, eqb-true, and_parts, unsent-composed, tidy-composed)
 
 -- ## The whole
 

@@ -1,16 +1,15 @@
 -- The two sides have the same version wherever the command lock is free: behind each Hversion stands an Hunlock.
-use Rattle.std.proofs.Common.{◌≡◌, ℕ, Bool, true, false, ◌||◌, ◌==◌, List, [], ◌∷◌, ◌++◌, refl, sym, ◌∙◌, true≢false, arith, rules}
+use Rattle.std.proofs.Common.{◌≡◌, ℕ, Bool, true, false, ◌||◌, List, [], ◌∷◌, ◌++◌, refl, sym, ◌∙◌, true≢false, arith}
 use Rattle.std.specs.Prelude.{drop}
 use Rattle.std.proofs.lemmas.Bool.{or_parts, or_right}
 use Rattle.sam_mesg.specs.declared.tmesg.Tmesg.{Tmesg}
 use Rattle.sam_mesg.specs.declared.tmesg.Tmesg.TheVariants.{Tversion, Tstartsnarf}
 use Rattle.sam_mesg.specs.declared.hmesg.Hmesg.{Hmesg}
-use Rattle.sam_mesg.specs.declared.hmesg.Hmesg.TheVariants.{Hversion, Hbindname, Hcurrent, Hnewname, Hmovname, Hgrow, Hcheck, Hunlock, Hdata, Horigin, Hunlockfile, Hsetdot, Hgrowdata, Hmoveto, Hclean, Hdirty, Hcut, Hdelname, Hclose, Hack}
+use Rattle.sam_mesg.specs.declared.hmesg.Hmesg.TheVariants.{Hunlock, Hack}
 use Rattle.sam_host.proofs.EachFrame.{EachFrame, AreFrames, reply_each}
 use Rattle.sam_host.specs.Host.{reply_version, reply_startsnarf, PlainHost, told_names, reply_to}
-use Rattle.sam_protocol.specs.Lens.{Action, Needs_known, Needs_open, Join, Bind, Close, Leave, Grow, Fill, Insert, Cut, Place, Free_file}
 use Rattle.sam_protocol.proofs.Lenses.{changes, is_free_command, frees_command}
-use Rattle.sam_protocol.specs.Frames.{action, at_file, only, is_unlock, unlocks_command, is_version, VersionsGuarded}
+use Rattle.sam_protocol.specs.Frames.{action, at_file, is_unlock, unlocks_command, is_version, VersionsGuarded}
 
 -- no Hversion among them
 abbrev pub IsPlain : List Hmesg → Type 0
@@ -57,12 +56,8 @@ guarded_reply h (Tversion v) =
     )
 guarded_reply h m = plain_guarded (reply_to h m).1 (reply_plain h m)
 
--- the actions of frames, as far as versions go
-only_unlock_same : (b : Bool) (a : Action) → is_free_command a ≡ false → is_free_command (only b a) ≡ false
-only_unlock_same b a e = grind arith
-
 is_unlock_same : (g : ℕ) (m : Hmesg) → is_free_command (action g m) ≡ is_unlock m
-is_unlock_same g m = grind (arith, only_unlock_same)
+is_unlock_same g m = grind arith
 
 pub unlock_frames : (g : ℕ) (fs : List Hmesg) → frees_command (at_file g fs) ≡ unlocks_command fs
 unlock_frames g [] = refl

@@ -1,9 +1,8 @@
 -- What of the terminal concerns one file, after its steps of composing.
-use Rattle.std.proofs.Common.{◌≡◌, ℕ, suc, ◌+◌, Bool, true, false, ◌==◌, if◌then◌else◌, Option, Some, None, refl, sym, ap, subst, arith, rules}
+use Rattle.std.proofs.Common.{◌≡◌, ℕ, suc, ◌+◌, Bool, true, ◌==◌, if◌then◌else◌, Option, Some, None, sym, ap, subst, arith}
 use Rattle.std.specs.Prelude.{unwrap_or}
 use Rattle.sam_runes.proofs.SlotLaws.{slot-put_same, slot-put_other}
 use Rattle.sam_mesg.specs.declared.tmesg.Tmesg.{Tmesg}
-use Rattle.sam_mesg.specs.declared.tmesg.Tmesg.TheVariants.{Trequest}
 use Rattle.sam_term.specs.declared.lock.Lock.{Lock}
 use Rattle.sam_term.specs.declared.lock.Lock.TheVariants.{NoLock, CommandLock, FileLock}
 use Rattle.sam_term.specs.Events.{lock_of}
@@ -12,7 +11,7 @@ use Rattle.sam_term.specs.Windows.{blank_known, blank_window}
 use Rattle.sam_term.specs.declared.records.Window.{Window}
 use Rattle.sam_term.specs.declared.records.KnownFile.{KnownFile}
 use Rattle.sam_term.proofs.TermLaws.{known-put}
-use Rattle.sam_protocol.specs.Lens.{Unknown, Known, Open, Lens, lens}
+use Rattle.sam_protocol.specs.Lens.{Open, Lens, lens}
 use Rattle.sam_protocol.proofs.Lenses.{IsOpen, locked_more}
 use Rattle.sam_protocol.proofs.Changes.{changed, change_of_lock}
 use Rattle.sam_protocol.specs.View.{slot_of_window, view}
@@ -60,15 +59,9 @@ view-lock (FileLock f) t o g =
     (ap (λ (k : ℕ). lens t.command_lock t.has_exited t.version (Open (window_at t f).rasp k)) (more (window_at t f).locks)) g
 view-lock l t e g = grind arith
 
-open_more : (v : Lens) → IsOpen v → IsOpen (locked_more v)
-open_more v e = grind arith
-
-open_chosen : (b : Bool) (v : Lens) → IsOpen v → IsOpen (if b then locked_more v else v)
-open_chosen b v e = grind (arith, open_more)
-
 -- one message that is composed takes its lock, and changes nothing else that the views show
 pub view-composed : (t : PlainTerminal) (m : Tmesg) → LockOpens (lock_of m) (views t) → (g : ℕ) → view g (composed t m) ≡ changed (change_of_lock (lock_of m)) g (view g t)
-view-composed t m e g = grind (arith, view-lock, open_chosen, view-kept)
+view-composed t m e g = grind (arith, view-lock, view-kept)
 
 -- ## The unsent runes
 

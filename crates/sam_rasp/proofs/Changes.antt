@@ -1,5 +1,5 @@
 -- Cutting and putting in, part by part.
-use Rattle.std.proofs.Common.{◌≡◌, refl, sym, ap, ◌∙◌, ℕ, zero, suc, ◌+◌, ◌-◌, ◌≤◌, List, [], ◌∷◌, ◌++◌, take, drop, length, arith, reverse, min, map, Some, rules}
+use Rattle.std.proofs.Common.{◌≡◌, refl, sym, ap, ◌∙◌, ℕ, zero, suc, ◌+◌, ◌-◌, ◌≤◌, List, [], ◌∷◌, ◌++◌, take, drop, length, arith, reverse, min, map, Some}
 use Rattle.std.proofs.lemmas.List.{append_assoc, reverse-reverse, take-append-le, drop-append-le, drop_min, take-append-drop, drop-take, take-take, map-append, drop-drop, length-append, length-take, length-drop}
 use Rattle.sam_rasp.specs.Rasp.{PartialText}
 use Rattle.sam_runes.specs.Texts.{del}

@@ -1,5 +1,5 @@
 -- Marks as a list of sections changes.
-use Rattle.std.proofs.Common.{◌≡◌, sym, ap, ◌∙◌, ℕ, ◌+◌, ◌-◌, ◌<◌, ◌≤◌, List, take, drop, length, set, arith, rules}
+use Rattle.std.proofs.Common.{◌≡◌, sym, ap, ◌∙◌, ℕ, ◌+◌, ◌-◌, ◌<◌, List, take, drop, length, set, arith}
 use Rattle.std.specs.List.{AllWithin}
 use Rattle.std.proofs.lemmas.List.Elements.{AllWithin-more_set}
 use Rattle.std.proofs.lemmas.List.{get_or-set_other, drop-drop, take-append-drop, length-append, length-drop}
@@ -7,10 +7,7 @@ use Rattle.sam_rasp.specs.Sections.{cells_of, IsBegin, IsChange}
 use Rattle.sam_rasp.specs.declared.section.Section.{Section}
 use Rattle.sam_rasp.specs.declared.walking.Begin.{Begin}
 use Rattle.sam_rasp.specs.declared.marks.Change.{Change}
-use Rattle.sam_rasp.proofs.Splices.{cells-append, take-below}
-
-pub kept_before : (xs ys : List Section) (c : Change) (m : Begin) → IsChange xs ys c → IsBegin xs m → m.index ≤ c.front.index → IsBegin ys m
-kept_before xs ys c m change begin le = grind (arith, take-below)
+use Rattle.sam_rasp.proofs.Splices.{cells-append}
 
 -- the cells before section number i and those from it on
 parts : (xs : List Section) (i : ℕ) → length (cells_of (take i xs)) + length (cells_of (drop i xs)) ≡ length (cells_of xs)

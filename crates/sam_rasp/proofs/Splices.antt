@@ -1,5 +1,5 @@
 -- Sections taken out of a list and put back.
-use Rattle.std.proofs.Common.{◌≡◌, refl, sym, ap, ◌∙◌, subst, ℕ, ◌+◌, ◌-◌, ◌≤◌, ◌<◌, List, [], ◌∷◌, ◌++◌, take, drop, length, min, reverse, arith, ◌⊎◌, inl, inr, rules}
+use Rattle.std.proofs.Common.{◌≡◌, refl, sym, ap, ◌∙◌, subst, ℕ, ◌+◌, ◌-◌, ◌≤◌, ◌<◌, List, [], ◌∷◌, ◌++◌, take, drop, length, min, reverse, arith, ◌⊎◌}
 use Rattle.std.proofs.lemmas.List.{append-nil, append_assoc, drop-take, nil_from_length, take_at, drop_at, drop_min, drop-drop, take-take, take-append-drop, drop-append-le, length-append, length-reverse, length-take, length-drop, take-append-le, drop-append-le}
 use Rattle.std.proofs.lemmas.List.Concat.{flat_map-append}
 use Rattle.sam_rasp.specs.Rasp.{PartialText}

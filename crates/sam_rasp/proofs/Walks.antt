@@ -1,5 +1,5 @@
 -- Places in lists of sections.
-use Rattle.std.proofs.Common.{◌≡◌, refl, sym, ap, ◌∙◌, subst, ℕ, zero, suc, ◌+◌, ◌-◌, ◌≤◌, ◌<◌, List, [], ◌∷◌, ◌++◌, map, replicate, take, drop, length, get_or, Some, None, arith, max, min, ◌⊎◌, inl, inr, true, false, rules}
+use Rattle.std.proofs.Common.{◌≡◌, sym, ap, ◌∙◌, subst, ℕ, zero, suc, ◌+◌, ◌-◌, ◌≤◌, ◌<◌, List, [], ◌∷◌, ◌++◌, map, replicate, take, drop, length, get_or, Some, None, arith, max, min, ◌⊎◌, inl, inr, false}
 use Rattle.std.specs.Prelude.{Option, slice_get, option_map}
 use Rattle.std.proofs.lemmas.List.{drop_more}
 use Rattle.std.proofs.lemmas.Bool.{cases_lt}
@@ -40,9 +40,6 @@ none-behind r at p q le l = grind arith
 pub from-start : (r : PartialText) (at p q : ℕ) → p ≤ at → hole_from r at p q ≡ option_map (range_from at) (first_gaps (take (q - at) r))
 from-start r at p q l = grind arith
 
-pub skip-member : (cell : Option ℕ) (r : PartialText) (at p q : ℕ) → p ≤ q → (at < p) ⊎ (q ≤ at) → hole_from (cell ∷ r) at p q ≡ hole_from r (at + 1) p q
-skip-member cell r at p q e u = grind (arith, step-before, none-behind)
-
 pub skip-rune : (c : ℕ) (r : PartialText) (at p q : ℕ) → p ≤ q → hole_from (Some c ∷ r) at p q ≡ hole_from r (at + 1) p q
 skip-rune c r at p q le = grind arith
 
@@ -54,10 +51,7 @@ skip-loaded (c ∷ s) r at p q end le e = skip-rune c (map Some s ++ r) at p q l
 -- a hole outside the range
 pub skip-hole : (n : ℕ) (r : PartialText) (at p q end : ℕ) → p ≤ q → at + n ≡ end → min end q ≤ max at p → hole_from (replicate n None ++ r) at p q ≡ hole_from r end p q
 skip-hole zero r at p q end le e out = let same : at ≡ end = omega (arith, e) in ap (λ k. hole_from r k p q) same
-skip-hole (suc n) r at p q end le e out = grind (arith, skip-member, (skip-hole n r (at + 1) p q end le))
-
-pub skip-section : (x : Section) (r : PartialText) (at p q end : ℕ) → p ≤ q → at + size x ≡ end → (is_loaded x ≡ true) ⊎ (min end q ≤ max at p) → hole_from (cells x ++ r) at p q ≡ hole_from r end p q
-skip-section x r at p q end e u w = grind (arith, skip-loaded, skip-hole)
+skip-hole (suc n) r at p q end le e out = grind (arith, (skip-hole n r (at + 1) p q end le), step-before, none-behind)
 
 in-front : (b n : ℕ) (r : PartialText) → gaps_in_front r ≡ 0 → gaps_in_front (take b (replicate n None ++ r)) ≡ min b n
 in-front (suc b) (suc n) r e = omega (arith, in-front b n r e)

@@ -1,11 +1,10 @@
 -- Which bytes begin with a rune.
-use Rattle.std.proofs.Common.{◌≡◌, ℕ, ◌+◌, ◌-◌, ◌*◌, ◌/◌, ◌%◌, ◌<◌, ◌≤◌, List, [], ◌∷◌, ◌++◌, length, take, get_or, Option, Some, None, refl, sym, ap, subst, ◌∙◌, arith, le-ltb, lt-ltb, ⊎_elim, rules}
+use Rattle.std.proofs.Common.{◌≡◌, ℕ, ◌+◌, ◌-◌, ◌*◌, ◌/◌, ◌%◌, ◌<◌, ◌≤◌, List, [], ◌∷◌, ◌++◌, length, take, get_or, Option, Some, None, refl, sym, ap, subst, ◌∙◌, arith, le-ltb, lt-ltb}
 use Rattle.std.proofs.lemmas.Bool.{cases_lt}
 use Rattle.std.proofs.lemmas.Str.{encode_ascii}
 use Rattle.std.specs.Option.{MatchOption, SomeIff}
 use Rattle.std.specs.Char.{encode_utf8, IsScalar}
 use Rattle.std.specs.Str.{StartsWithNoChar}
-use lib.Utf8.{scalar_cases}
 
 abbrev Follows : ℕ → Type 0
 Follows b = (128 ≤ b) × (b < 192)
@@ -37,9 +36,6 @@ pub record Begun (c n x y z w : ℕ) : Type 0 where
 abbrev pub BegunAt : ℕ → List ℕ → Type 0
 BegunAt c bs = Begun c (length bs) (get_or bs 0 0) (get_or bs 1 0) (get_or bs 2 0) (get_or bs 3 0)
 
-begun_1 : (c : ℕ) (rest : List ℕ) → c < 128 → BegunAt c (c ∷ rest)
-begun_1 c rest low = grind arith
-
 begun_2 : (c : ℕ) (rest : List ℕ) → 128 ≤ c → c < 2048 → BegunAt c ((192 + c / 64) ∷ (128 + c % 64) ∷ rest)
 begun_2 c rest low high = grind arith
 
@@ -50,7 +46,7 @@ begun_4 : (c : ℕ) (rest : List ℕ) → 65536 ≤ c → c < 1114112 → BegunA
 begun_4 c rest low high = grind arith
 
 begun : (c : ℕ) (rest : List ℕ) → IsScalar c → BegunAt c (encode_utf8 c ++ rest)
-begun c rest is = grind (arith, encode_ascii, begun_1, two, begun_2, three, begun_3, four, begun_4, cases_lt)
+begun c rest is = grind (arith, encode_ascii, two, begun_2, three, begun_3, four, begun_4, cases_lt)
 
 -- no rune begins bytes that are not so
 pub none_begins : (bs : List ℕ) → ((c : ℕ) → IsScalar c → BegunAt c bs → ⊥) → StartsWithNoChar bs
@@ -71,9 +67,6 @@ front_2 bs e = grind arith
 front_3 : (bs : List ℕ) → 3 ≤ length bs → take 3 bs ≡ get_or bs 0 0 ∷ get_or bs 1 0 ∷ get_or bs 2 0 ∷ []
 front_3 bs e = grind (arith, front_2)
 
-front_4 : (bs : List ℕ) → 4 ≤ length bs → take 4 bs ≡ get_or bs 0 0 ∷ get_or bs 1 0 ∷ get_or bs 2 0 ∷ get_or bs 3 0 ∷ []
-front_4 bs e = grind (arith, front_3)
-
 abbrev IsTail : ℕ → ℕ → Type 0
 IsTail bits byte = (bits < 64) × (128 + bits ≡ byte)
 
@@ -87,4 +80,4 @@ spelled_3 bs s t code within least most second third is low = grind (arith, get_
 
 pub spelled_4 : (bs : List ℕ) (s t u code : ℕ) → 4 ≤ length bs → 240 ≤ get_or bs 0 0 → IsTail s (get_or bs 1 0) → IsTail t (get_or bs 2 0) → IsTail u (get_or bs 3 0)
     → code ≡ (((get_or bs 0 0 - 240) * 64 + s) * 64 + t) * 64 + u → 65536 ≤ code → take 4 bs ≡ encode_utf8 code
-spelled_4 bs s t u code within least second third fourth is low = grind (arith, get_or, front_4, four)
+spelled_4 bs s t u code within least second third fourth is low = grind (arith, get_or, four)

@@ -1,6 +1,6 @@
 -- What is read of a line is what it says, and each line says one thing.
-use Rattle.std.proofs.Common.{◌≡◌, ◌<◌, ◌≤◌, ◌∙◌, inl, inr, refl, sym, ap, subst, ℕ, List, [], ◌∷◌, ◌++◌, length, true, Some, None, Result, Ok, Err, IfOk, IfErr, codes, flat_map, encode_utf8, arith, rules}
-use Rattle.std.specs.Prelude.{◌||◌, ◌==◌, chars, encode_utf8_all}
+use Rattle.std.proofs.Common.{◌≡◌, ◌<◌, ◌≤◌, ◌∙◌, inl, inr, refl, sym, ap, subst, ℕ, List, [], ◌∷◌, ◌++◌, length, true, Some, Result, IfOk, IfErr, codes, flat_map, encode_utf8, arith}
+use Rattle.std.specs.Prelude.{chars, encode_utf8_all}
 use Rattle.std.specs.List.{AllByRecursion}
 use Rattle.std.specs.Str.{IsUtf8}
 use Rattle.std.proofs.lemmas.Bool.{le-leb, eqb-true, cases_Bool}
@@ -9,11 +9,10 @@ use Rattle.std.proofs.lemmas.Option.{same_Some}
 use Rattle.std.proofs.lemmas.Str.{chars_from_encodes, encodes-chars}
 use Rattle.sam_runes.specs.Texts.{max_runes, most_in_name}
 use Rattle.sam_script.specs.declared.line.Line.{Line}
-use Rattle.sam_script.specs.declared.line.Line.TheVariants.{Key, Mouse, Act, Flush, Host, Term, Drain, Show}
+use Rattle.sam_script.specs.declared.line.Line.TheVariants.{Key, Mouse}
 use Rattle.sam_script.specs.declared.line.Said.{Said}
 use Rattle.sam_script.specs.declared.line.Said.TheVariants as said
 use Rattle.sam_script.specs.declared.fault.LineFault.{LineFault}
-use Rattle.sam_script.specs.declared.fault.LineFault.TheVariants.{Wrong, OutOfMemory}
 use Rattle.sam_world.specs.Given.{IsFile}
 use Rattle.sam_script.specs.Spelling.{SpellsParts, IsWord, SpellsFile, SpellsLine, SaysNothing, SaysSo, Says}
 use Rattle.sam_script.specs.Events.Part.{Rest}
@@ -81,20 +80,14 @@ file_row bytes it u h = grind (arith, file_says)
 key_row : ReadsAs IsSaidBy (codes "k", λ bytes. event_at bytes >>= λ e. Some (said.Line (Key e)))
 key_row bytes it u h = grind (arith, event_says)
 
-mouse_row : ReadsAs IsSaidBy (codes "m", λ bytes. event_at bytes >>= λ e. Some (said.Line (Mouse e)))
-mouse_row bytes it u h = grind (arith, event_says)
-
 bare_row : (line : Line) (word : List ℕ) → ((bytes : List ℕ) → bytes ≡ [] → SpellsLine line (word ++ bytes)) → ReadsAs IsSaidBy (word, bare line)
 bare_row line word spells bytes it u h = grind arith
 
 line_readers_say : AllByRecursion (ReadsAs IsSaidBy) line_readers
-line_readers_say = grind (arith, file_row, key_row, mouse_row)
+line_readers_say = grind (arith, file_row, key_row, event_says)
 
 silent_says : (bytes : List ℕ) → is_silent bytes ≡ true → SaysNothing bytes
 silent_says bytes e = grind (arith, eqb_tells, eqb-true)
-
-nothing_silent : (bytes : List ℕ) → SaysNothing bytes → is_silent bytes ≡ true
-nothing_silent bytes e = grind arith
 
 pub line_says : (bytes : List ℕ) (it : Said) → IsUtf8 bytes → line_at bytes ≡ Some it → SaysSo it bytes
 unfolding line_at
@@ -119,7 +112,7 @@ line_read bytes (said.Line (Key e)) (u, (event, is, spells)) =
 line_read bytes (said.Line (Mouse e)) (u, (event, is, spells)) =
     ap line_at is ∙ ap (λ o. o >>= λ d. Some (said.Line (Mouse d)))
     (event_read (codes " " ++ event) event e (utf8_rear (codes "m") (codes " " ++ event) (subst IsUtf8 is u) refl) refl spells)
-line_read bytes it e = grind (arith, nothing_silent)
+line_read bytes it e = grind arith
 
 -- a line says one thing
 pub says_one : (bytes : List ℕ) (x y : Said) → Says x bytes → Says y bytes → x ≡ y

@@ -1,5 +1,5 @@
 -- What a replay has printed, line by line.
-use Rattle.std.proofs.Common.{◌≡◌, inl, inr, refl, sym, ap, ◌<◌, ◌+◌, ℕ, zero, suc, true, List, [], ◌∷◌, ◌++◌, length, drop, Result, Ok, Err, slice_index_or, append_assoc, arith, rules}
+use Rattle.std.proofs.Common.{◌≡◌, ◌<◌, ◌+◌, ℕ, suc, true, List, ◌∷◌, ◌++◌, length, drop, Result, Ok, Err, slice_index_or, append_assoc, arith}
 use Rattle.sam_world.specs.World.{PlainWorld}
 use Rattle.sam_world.specs.Counts.{passes_count}
 use Rattle.sam_world.specs.declared.event.Event.{Event}
@@ -21,16 +21,13 @@ drop_at : {X : Type 0} (xs : List X) (i : ℕ) (d : X) → i < length xs → dro
 drop_at (x ∷ xs) (suc i) d within = grind (arith, (drop_at xs i d))
 drop_at xs i d e = grind arith
 
-behind_twice : (p q : List ℕ) (r : Result (List ℕ) ScriptFault) → behind p (behind q r) ≡ behind (p ++ q) r
-behind_twice p q r = grind (arith, append_assoc)
-
 -- a line more
 pub line_more : (all : Result (List ℕ) ScriptFault) (w v : PlainWorld) (before after : List ℕ) (ls : List Numbered) (i : ℕ) (d : Numbered) → i < length ls
     → all ≡ behind before (replayed_from w (drop i ls))
     → after_line (slice_index_or ls i d).number w (slice_index_or ls i d).line ≡ Ok v
     → after ≡ before ++ printed_by w (slice_index_or ls i d).line
     → all ≡ behind after (replayed_from v (drop (i + 1) ls))
-line_more all w v before after ls i d within so_far done printed = grind (arith, drop_at, behind_twice)
+line_more all w v before after ls i d within so_far done printed = grind (arith, drop_at, append_assoc)
 
 -- ---- the script that bytes spell
 

@@ -1,5 +1,5 @@
 -- What `run_lines` writes is read back.
-use Rattle.std.proofs.Common.{◌≡◌, ◌≢◌, ◌<◌, ◌≤◌, ◌∙◌, ◌^◌, ◌+◌, inl, refl, sym, ap, subst, ℕ, suc, List, [], ◌∷◌, ◌++◌, length, get_or, map, Bool, true, false, not, arith, codes, flat_map, append_assoc, append-nil, encode_utf8, rules}
+use Rattle.std.proofs.Common.{◌≡◌, ◌≢◌, ◌<◌, ◌≤◌, ◌∙◌, ◌^◌, ◌+◌, refl, sym, ap, subst, ℕ, suc, List, [], ◌∷◌, ◌++◌, length, get_or, map, Bool, true, false, not, arith, codes, flat_map, append_assoc, append-nil, encode_utf8}
 use Rattle.std.specs.Prelude.{◌&&◌, ◌==◌, nat_lt}
 use Rattle.std.specs.Fmt.{decimal}
 use Rattle.std.specs.Char.{IsScalar}
@@ -14,7 +14,6 @@ use Rattle.std.proofs.lemmas.Str.Parse.{numerals_by_value, tells_all_ascii_digit
 use Rattle.std.proofs.lemmas.Str.{IsUtf8-nil, IsUtf8-append, IsUtf8-encode, inside_one, encode_ascii}
 use Rattle.sam_runes.specs.Reading.{AreRunes}
 use Rattle.sam_term.specs.declared.event.UserEvent.{UserEvent}
-use Rattle.sam_term.specs.declared.event.UserEvent.TheVariants.{Typed}
 use Rattle.sam_world.specs.declared.event.Event.{Event}
 use Rattle.sam_world.specs.declared.event.Event.TheVariants.{User, Act, Flush, HostTake, TermTake}
 use Rattle.sam_script.specs.declared.line.Line.TheVariants as line
@@ -77,12 +76,9 @@ by_index (b ∷ bytes) h = (ne_eqb b 10 (h 0 (omega arith)), by_index bytes (λ 
 good_rune : (c : ℕ) → IsScalar c → (c == 10) ≡ false → Good (encode_utf8 c)
 good_rune c scalar other = grind (arith, (by_index (encode_utf8 c)), (inside_one c), (append-nil (encode_utf8 c)), (IsUtf8-encode c scalar))
 
-good_shown : (c : ℕ) → IsScalar c → Good (text_rune c)
-good_shown c scalar = grind (arith, (good_plain (codes "\\\\") refl), (good_plain (codes "\\n") refl), (good_rune c scalar))
-
 good_text : (s : List ℕ) → AreRunes s → Good (text_shown s)
 good_text [] h = good_nil
-good_text (c ∷ s) h = grind (arith, (good_append (text_rune c) (text_shown s)), (good_shown c), (good_text s))
+good_text (c ∷ s) h = grind (arith, (good_append (text_rune c) (text_shown s)), (good_text s), good_plain, good_rune)
 
 good_name : (name : List ℕ) → AreRunes name → AllByRecursion (λ c. ((c == 32) ≡ false) × ((c == 10) ≡ false)) name → Good (flat_map encode_utf8 name)
 good_name [] runes h = good_nil

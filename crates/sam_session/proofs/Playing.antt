@@ -1,12 +1,12 @@
 -- Where the program stands between two pieces.
-use Rattle.std.proofs.Common.{◌≡◌, ◌∙◌, ℕ, ◌+◌, ◌-◌, ◌≤◌, List, [], ◌∷◌, ◌++◌, length, codes, Option, None, Some, IfSome, IfErr, OnOk, Result, Ok, Err, refl, sym, ap, subst, append-nil, length-append, arith, rules}
+use Rattle.std.proofs.Common.{◌≡◌, ◌∙◌, ℕ, ◌+◌, ◌-◌, ◌≤◌, List, [], ◌∷◌, ◌++◌, length, codes, Option, None, Some, IfSome, IfErr, OnOk, Result, Ok, Err, refl, sym, ap, subst, append-nil, length-append, arith}
 use Rattle.std.specs.Io.KnownBytes.{Appends, Consumes, IsAtEnd}
 use Rattle.std.proofs.KnownBytes.{Appends-nil, Appends-trans, Consumes-nil, Consumes-trans, Consumes-whole}
 use Rattle.sam_runes.specs.Texts.{max_runes, most_in_name}
 use Rattle.sam_mesg.specs.declared.tmesg.Tmesg.{Tmesg}
 use Rattle.sam_mesg.specs.declared.fault.MesgFault.{MesgFault}
 use Rattle.sam_frame.specs.Direction.{terminal}
-use Rattle.sam_frame.specs.Stream.{Shows, version_after, stream_of}
+use Rattle.sam_frame.specs.Stream.{version_after}
 use Rattle.sam_frame.specs.Framing.{Held, HasRoom, GaveAll, GaveUp, fresh}
 use Rattle.sam_frame.proofs.Fronts.{version_after-append}
 use Rattle.sam_frame.proofs.Cuttings.{Came, Splits-longer, Shows-longer, splits_more, comes_more}
@@ -16,12 +16,11 @@ use Rattle.sam_host.specs.declared.fault.HostFault.{HostFault}
 use Rattle.sam_host.proofs.SoundLaws.{starts_sound}
 use Rattle.sam_session.specs.Start.{host_of}
 use Rattle.sam_session.specs.Serving.{Served, serve}
-use Rattle.sam_session.specs.Outcome.{refusal_number, frame_number, Stops, stop_at, Plays, Written, OnSide}
+use Rattle.sam_session.specs.Outcome.{frame_number, Stops, stop_at, Plays, Written, OnSide}
 use Rattle.sam_session.specs.Pieces.{Answers, Refuses, AnswersBefore, HaltsBefore, Halts, MayEnd, PieceAnswers, PieceStops}
 use Rattle.sam_threads.specs.declared.stop.Stop.{Stop}
-use Rattle.sam_threads.specs.declared.stop.Stop.TheVariants.{Frame, Host}
+use Rattle.sam_threads.specs.declared.stop.Stop.TheVariants.{Frame}
 use Rattle.sam_session.specs.declared.fault.PlayFault.{PlayFault}
-use Rattle.sam_session.specs.declared.fault.PlayFault.TheVariants.{Script, Read, Write, Side, Threads, OutOfMemory}
 use Rattle.sam_session.proofs.Serving.{serve-append, serve-sound}
 
 -- what was read are the messages that a host, h0 at first, answered, and what the framer holds
@@ -145,22 +144,13 @@ ends_side h0 first now later before after k h left nothing (Err e) p reads none 
 pub on_side : (e : PlayFault) (P Q : Stop → Type 0) → ((s : Stop) → P s → Q s) → OnSide e P → OnSide e Q
 on_side e P Q u w = grind arith
 
--- messages that came whole were answered up to a refusal
-halts_at : (end : Result PlainHost HostFault) (why : HostFault) (version : ℕ) (rest : List ℕ) (s : Stop) → s ≡ Host (refusal_number why) → end ≡ Err why → Halts end version rest s
-halts_at end why version rest s e u = grind arith
-
 pub refused : {W : Type 0} (contents : W → Option (List ℕ)) (h : PlainHost) (w x : W) (k e : Held) (piece : List ℕ) (ms : List Tmesg) (f : PlayFault)
     → GaveAll terminal k piece ms e → OnSide f (Refuses contents h w x ms) → OnSide f (PieceStops contents h w x k piece)
-refused contents h w x k e piece ms f all = grind (arith, on_side, halts_at)
-
--- messages were answered before a fault
-halts_behind : (end : Result PlainHost HostFault) (version : ℕ) (rest : List ℕ) (fault : MesgFault) (s : Stop)
-    → Shows terminal version rest fault → HaltsBefore end (frame_number fault) s → Halts end version rest s
-halts_behind end version rest fault s e u = grind arith
+refused contents h w x k e piece ms f all = grind (arith, on_side)
 
 pub given_up : {W : Type 0} (contents : W → Option (List ℕ)) (h : PlainHost) (w x : W) (k e : Held) (piece : List ℕ) (ms : List Tmesg) (place : ℕ) (fault : MesgFault) (f : PlayFault)
     → GaveUp terminal k piece ms place fault e → OnSide f (AnswersBefore contents h w x ms (frame_number fault)) → OnSide f (PieceStops contents h w x k piece)
-given_up contents h w x k e piece ms place fault f up = grind (arith, on_side, halts_behind)
+given_up contents h w x k e piece ms place fault f up = grind (arith, on_side)
 
 -- behind messages that were all answered, and behind a refusal
 pub all_before : {W : Type 0} (contents : W → Option (List ℕ)) (h g : PlainHost) (w x : W) (ms : List Tmesg) (number : ℕ)

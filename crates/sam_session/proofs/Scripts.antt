@@ -1,5 +1,5 @@
 -- What comes of an input that is read as a script.
-use Rattle.std.proofs.Common.{◌≡◌, ◌⊎◌, inl, inr, refl, sym, subst, ℕ, ◌≤◌, List, length, Option, Some, None, IfSome, Result, Ok, Err, OnOk, IfOk, IfErr, arith, rules}
+use Rattle.std.proofs.Common.{◌≡◌, ◌⊎◌, ℕ, ◌≤◌, List, length, Option, IfSome, Result, Err, OnOk, IfOk, IfErr, arith}
 use Rattle.std.specs.Global.{Vec}
 use Rattle.std.specs.Result.{IsOkAnd}
 use Rattle.std.specs.Io.KnownBytes.{Appends}
@@ -13,7 +13,7 @@ use Rattle.sam_session.specs.Replaying.{of_script, IsReplay, IsReplayFault}
 use Rattle.sam_session.specs.Threading.{IsUnread}
 use Rattle.sam_session.specs.Status.{fault_line, IsTold}
 use Rattle.sam_session.specs.declared.fault.PlayFault.{PlayFault}
-use Rattle.sam_session.specs.declared.fault.PlayFault.TheVariants.{Script, Read, Write, Side, Threads, OutOfMemory}
+use Rattle.sam_session.specs.declared.fault.PlayFault.TheVariants.{Read, Write, OutOfMemory}
 
 -- ---- the input
 

@@ -1,5 +1,5 @@
 -- What a session of five threads comes to.
-use Rattle.std.proofs.Common.{◌≡◌, ◌≢◌, ◌∙◌, ◌⊎◌, inl, inr, ⊎_elim, refl, sym, ap, subst, arith, ℕ, ◌<◌, ◌≤◌, true, false, eqb, List, [], ◌∷◌, ◌++◌, length, map, Option, Some, None, IfSome, rules}
+use Rattle.std.proofs.Common.{◌≡◌, ◌≢◌, ◌∙◌, ◌⊎◌, inl, inr, ⊎_elim, refl, sym, ap, subst, arith, ℕ, ◌<◌, ◌≤◌, true, false, eqb, List, [], ◌∷◌, ◌++◌, length, map, Option, Some, None, IfSome}
 use Rattle.std.proofs.lemmas.Bool.Decides.{eqb_tells}
 use Rattle.std.proofs.lemmas.List.{append-nil}
 use Rattle.std.proofs.lemmas.List.Concat.{flat_map-cons}
@@ -28,7 +28,7 @@ use Rattle.sam_settling.proofs.SettlingLists.{loaded, items_mine, items_other, n
 use Rattle.sam_settling.proofs.SettlingClauses.{stop_none}
 use Rattle.sam_session.specs.Threading.{first_cause, of_cause, of_stops, IsWoven, HasAllUsers, PrintsSession, IsThreaded, IsSessionFault, IsThreadsFault, IsUnread}
 use Rattle.sam_session.specs.declared.fault.PlayFault.{PlayFault}
-use Rattle.sam_session.specs.declared.fault.PlayFault.TheVariants.{Script, Read, Write, Side, Threads, OutOfMemory}
+use Rattle.sam_session.specs.declared.fault.PlayFault.TheVariants.{Side, Threads, OutOfMemory}
 use Rattle.sam_session.proofs.Scripts.{weaker}
 
 -- ---- the events of keyboard and mouse are woven
@@ -170,12 +170,9 @@ pub session_shown : (input : Option (List ℕ)) (script : PlainScript) (lines : 
     → IfSome input (λ i. IsThreaded i lines)
 session_shown input script lines read prints = grind (arith, weaker)
 
-of_session : (script : PlainScript) (i : List ℕ) (e : PlayFault) → (length i ≤ 16777216) × Spells i script → IsSessionFault script e → IsThreadsFault i e
-of_session script i e u w = grind arith
-
 pub session_stops : (input : Option (List ℕ)) (script : PlainScript) (e : PlayFault) → IfSome input (λ i. (length i ≤ 16777216) × Spells i script) → IsSessionFault script e
     → IfSome input (λ i. IsThreadsFault i e)
-session_stops input script e read stop = grind (arith, weaker, of_session)
+session_stops input script e read stop = grind (arith, weaker)
 
 unread_first : (i : List ℕ) (e : PlayFault) → IsUnread i e → IsThreadsFault i e
 unread_first i e u = grind arith

@@ -1,5 +1,5 @@
 -- An input has one outcome.
-use Rattle.std.proofs.Common.{◌≡◌, ◌∙◌, ℕ, List, inl, inr, Option, None, Some, Result, Ok, Err, refl, sym, ap, ap₂, arith, rules}
+use Rattle.std.proofs.Common.{◌≡◌, ◌∙◌, ℕ, List, inl, inr, Option, None, Some, Result, Ok, Err, refl, sym, ap, ap₂}
 use Rattle.sam_frame.specs.Direction.{terminal}
 use Rattle.sam_frame.specs.Stream.{version_after}
 use Rattle.sam_frame.specs.Reading.{IsSound}

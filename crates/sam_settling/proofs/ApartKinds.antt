@@ -1,15 +1,15 @@
 -- What a host answers and what a terminal composes fits at its place of the stream: a case for each message and for each event.
-use Rattle.std.proofs.Common.{◌≡◌, ℕ, Bool, true, false, ◌==◌, List, [], ◌∷◌, ◌++◌, Option, Some, None, Ok, refl, sym, ap, ◌∙◌, subst, arith, rules}
-use Rattle.std.specs.Prelude.{min, drop, if◌then◌else◌}
+use Rattle.std.proofs.Common.{◌≡◌, ℕ, Bool, false, ◌==◌, List, [], ◌∷◌, ◌++◌, Option, Some, None, Ok, refl, sym, ap, ◌∙◌, subst, arith}
+use Rattle.std.specs.Prelude.{drop, if◌then◌else◌}
 use Rattle.sam_runes.specs.Checks.{first_of_checks}
 use Rattle.sam_runes.specs.Texts.{common_version}
 use Rattle.sam_runes.proofs.CheckLaws.{none_holds}
 use Rattle.sam_mesg.specs.HostKinds.{after_h}
 use Rattle.sam_mesg.specs.TerminalKinds.{after_t}
 use Rattle.sam_mesg.specs.declared.tmesg.Tmesg.{Tmesg}
-use Rattle.sam_mesg.specs.declared.tmesg.Tmesg.TheVariants.{Tversion, Tcut, Tsnarf, Tack}
+use Rattle.sam_mesg.specs.declared.tmesg.Tmesg.TheVariants.{Tversion}
 use Rattle.sam_mesg.specs.declared.hmesg.Hmesg.{Hmesg}
-use Rattle.sam_mesg.specs.declared.hmesg.Hmesg.TheVariants.{Hversion, Hcheck, Hunlock, Hunlockfile, Hack}
+use Rattle.sam_mesg.specs.declared.hmesg.Hmesg.TheVariants.{Hversion, Hunlock, Hack}
 use Rattle.sam_mesg.specs.declared.hmesg.HFrame.{HFrame}
 use Rattle.sam_frame.specs.Direction.{host, terminal}
 use Rattle.sam_frame.specs.Stream.{version_after}
@@ -20,14 +20,12 @@ use Rattle.sam_host.proofs.SoundLaws.{frames_fit, reply_stands, stays_sound}
 use Rattle.sam_protocol.specs.Frames.{is_version}
 use Rattle.sam_protocol.proofs.Versions.{IsPlain, plain_frames, reply_plain}
 use Rattle.sam_host.proofs.EachFrame.{reply_each}
-use Rattle.sam_term.specs.Term.{PlainTerminal, Made, window_at, cut_rasp, flushed, unsent_message, sends, sends_if, unchanged, requested, request_for, types, cuts_dot, has_empty_dot, event_outcome, made_by_type, made_by_cut, made_by_paste, made_by_snarf, made_by_view, frame_outcome, event_checks, has_long_text, took_unlockfile, act_of, act_on, decided, flush_of, take_of}
+use Rattle.sam_term.specs.Term.{PlainTerminal, Made, flushed, unsent_message, sends, sends_if, unchanged, requested, request_for, types, event_outcome, made_by_type, made_by_cut, made_by_paste, made_by_snarf, made_by_view, event_checks, has_long_text, act_of, act_on, decided, flush_of, take_of}
 use Rattle.sam_term.specs.declared.records.Unsent.{Unsent}
 use Rattle.sam_term.specs.declared.event.UserEvent.{UserEvent}
-use Rattle.sam_term.specs.declared.event.UserEvent.TheVariants.{Typed, Select, Cut, Paste, Snarf, View, SetSnarf, Flush}
 use Rattle.sam_term.specs.declared.event.Verdict.{Verdict}
-use Rattle.sam_term.specs.declared.event.Verdict.TheVariants.{Waits, Refuses}
 use Rattle.sam_term.specs.declared.event.Acted.{Acted}
-use Rattle.sam_term.specs.declared.event.Acted.TheVariants.{Idle, Locked, Done, Refused}
+use Rattle.sam_term.specs.declared.event.Acted.TheVariants.{Done}
 use Rattle.sam_term.specs.declared.fault.TermFault.TheVariants as fault
 use Rattle.sam_term.proofs.Acts.{none_holds as none_at, test_at}
 use Rattle.sam_world.specs.Sides.{Each, HostRuns}
@@ -121,12 +119,6 @@ flushed_is t = refl
 free-sends : (t : PlainTerminal) (change : PlainTerminal → PlainTerminal) (ms : List Tmesg) → AllFree ms → AllFree (sends t change ms).1
 free-sends t change ms p = free-append (flushed t).1 ms (free-flushed t) p
 
-free-cuts : (t : PlainTerminal) (f : ℕ) → AllFree (cuts_dot t f).1
-free-cuts t f =
-    let d = (window_at t f).dot in
-    free-if (has_empty_dot t f) (t, []) (sends t (λ u. cut_rasp u f d.0 d.1) (Tcut f d.0 d.1 ∷ [])) tt
-    (free-sends t (λ u. cut_rasp u f d.0 d.1) (Tcut f d.0 d.1 ∷ []) (tt, tt))
-
 free-types : (t : PlainTerminal) (f p : ℕ) (s : List ℕ) → AllFree (types t f p s).1
 free-types t f p s = grind (arith, free-append, free-flushed)
 
@@ -144,7 +136,7 @@ free-plain t ms p = free-sends t unchanged ms p
 -- what an event composes at a place with the terminal's version
 event_turn : (t : PlainTerminal) (e : UserEvent) (v : ℕ) → has_long_text t e ≡ false → v ≡ t.version → InTurn terminal v (event_outcome t e).1
 unfolding made_by_type made_by_cut made_by_paste made_by_snarf made_by_view
-event_turn t e v u w = grind (arith, free_turn, free-append, free-cuts, free-types, free-if, free-sends, free-plain, free-requested, flushed_is, free-flushed)
+event_turn t e v u w = grind (arith, free_turn, free-append, free-types, free-if, free-sends, free-plain, free-requested, flushed_is, free-flushed)
 
 -- ## Acts, flushes and frames
 
@@ -172,10 +164,6 @@ pub flush_turn : (t : PlainTerminal) (r : Made) (v : ℕ) → flush_of t ≡ Ok 
 unfolding flush_of
 flush_turn t r v e = subst (λ (x : Made). InTurn terminal v x.1) (counted-result (flushed t).0.sent (flushed t) r e) (free_turn v (flushed t).1 (free-flushed t))
 
-free-frame : (t : PlainTerminal) (m : Hmesg) → AllFree (frame_outcome t m).1
-unfolding took_unlockfile
-free-frame t m = grind (arith, free-requested, free-if, free-plain)
-
 pub take_turn : (t : PlainTerminal) (frame : HFrame) (r : Made) (v : ℕ) → take_of t frame ≡ Ok r → InTurn terminal v r.1
 unfolding take_of
-take_turn t frame r v e = grind (arith, free_turn, free-frame)
+take_turn t frame r v e = grind (arith, free_turn, free-requested, free-if, free-plain)

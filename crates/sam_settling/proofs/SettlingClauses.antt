@@ -1,5 +1,5 @@
 -- What the five ends of a session and the audits of its lines come to.
-use Rattle.std.proofs.Common.{◌≡◌, ◌⊎◌, inl, inr, refl, sym, ap, ◌∙◌, subst, ℕ, ◌+◌, ◌<◌, ◌≤◌, true, false, List, [], ◌∷◌, ◌++◌, length, map, take, Option, Some, None, Err, append_assoc, append-nil, arith, rules}
+use Rattle.std.proofs.Common.{◌≡◌, ◌⊎◌, inl, inr, refl, sym, ap, ◌∙◌, subst, ℕ, ◌+◌, ◌<◌, ◌≤◌, true, false, List, [], ◌∷◌, ◌++◌, map, take, Option, Some, None, Err, append_assoc, append-nil, arith}
 use Rattle.std.specs.Global.{Vec}
 use Rattle.std.specs.Prelude.{IsTrue}
 use Rattle.std.proofs.lemmas.Grind.{flat_map-append}
@@ -13,11 +13,11 @@ use Rattle.sam_mesg.specs.TerminalKinds.{FitsT, fits_t}
 use Rattle.sam_mesg.specs.HostKinds.{FitsH, fits_h}
 use Rattle.sam_frame.specs.Direction.{terminal, host, frame_of}
 use Rattle.sam_frame.specs.Stream.{version_after, stream_of, IsOpen, Shows}
-use Rattle.sam_host.specs.Host.{PlainHost, answer, new_host}
+use Rattle.sam_host.specs.Host.{PlainHost, answer}
 use Rattle.sam_host.specs.Laws.{AreGiven}
 use Rattle.sam_host.specs.declared.fault.HostFault.{HostFault}
 use Rattle.sam_host.specs.declared.fault.HostFault.TheVariants as refusal
-use Rattle.sam_term.specs.Term.{PlainTerminal, new_terminal, take_of}
+use Rattle.sam_term.specs.Term.{PlainTerminal, take_of}
 use Rattle.sam_term.specs.declared.event.UserEvent.{UserEvent}
 use Rattle.sam_term.specs.declared.fault.TermFault.{TermFault}
 use Rattle.sam_term.specs.declared.fault.TermFault.TheVariants as fault
@@ -29,17 +29,16 @@ use Rattle.sam_queue.proofs.Sorts.{items_of-append}
 use Rattle.sam_world.specs.declared.event.TermLog.{TermLog}
 use Rattle.sam_world.specs.Logs.{users}
 use Rattle.sam_world.specs.Reached.{IsSoundWorld}
-use Rattle.sam_world.specs.Sides.{Each, HostRuns, TermRuns}
+use Rattle.sam_world.specs.Sides.{Each}
 use Rattle.sam_world.specs.Streams.{Begins}
-use Rattle.sam_world.specs.World.{PlainWorld, new_world, run_of, merged, is_bad_log, is_quiet}
+use Rattle.sam_world.specs.World.{PlainWorld, new_world, run_of, merged, is_bad_log}
 use Rattle.sam_world.proofs.OrderLaws.{reached_in_order, quiet_means_agreement}
 use Rattle.sam_world.proofs.Settles.{each_append, each_front}
 use Rattle.sam_settling.specs.Apart.{Apart, Joined}
-use Rattle.sam_threads.specs.RealSides.{sides}
-use Rattle.sam_threads.specs.Inputs.{bytes_of, frames_in, users_in, frame_of_load}
+use Rattle.sam_threads.specs.Inputs.{bytes_of, frames_in, frame_of_load}
 use Rattle.sam_threads.specs.Lines.{LinesView}
 use Rattle.sam_threads.specs.Numbers.{refusal_number, fault_number}
-use Rattle.sam_threads.specs.WorkerEnds.{Told, UserStopped, HostStopped, ReaderStopped, TermStopped, ShowsFault, RefusesFrame, IsForeign, IsFullUp, IsPastCount, IsOwnExit}
+use Rattle.sam_threads.specs.WorkerEnds.{Told, HostStopped, ReaderStopped, TermStopped, ShowsFault, RefusesFrame, IsForeign, IsFullUp, IsPastCount}
 use Rattle.sam_settling.specs.Headline.{Headline}
 use Rattle.sam_settling.specs.Settling.{LinesGive}
 use Rattle.sam_settling.specs.Settled.{counts_left, stop_of, stops_of, IsFull, count_gone, AreFull, HasStreams, HasUsers, IsDrained, IsWhole, MissesHost}
@@ -77,9 +76,6 @@ given_of_files : (files : List (List ℕ × List ℕ)) → Each IsFile files →
 given_of_files [] a = tt
 given_of_files (f ∷ fs) a = let first = a.0 in (first.1, first.2, given_of_files fs a.1)
 
-quiet_of : (w : PlainWorld) → w.term.unsent ≡ None → w.up ≡ [] → w.down ≡ [] → is_quiet w ≡ true
-quiet_of w unsent up down = rw (unsent, up, down)
-
 pub stop_none : (o : Option Stop) → stop_of o ≡ [] → o ≡ None
 stop_none o e = grind arith
 
@@ -91,9 +87,6 @@ nothing_stopped a b c d e is = grind (arith, nothing_joined, stop_none)
 record IsFine (most : ℕ) (o : Option Stop) : Type 0 where
   full : Each IsFull (stop_of o)
   gone : count_gone (stop_of o) ≤ most
-
-user_fine : (n all : ℕ) (o : Option Stop) → UserStopped n all o → IsFine 0 o
-user_fine n all o e = grind arith
 
 count_joined : (xs ys : List Stop) → count_gone (xs ++ ys) ≡ count_gone xs + count_gone ys
 count_joined [] ys = omega arith
@@ -342,7 +335,7 @@ module _ (keys clicks : List UserEvent) (lines : LinesView) (e : Ends) (told : T
     term_fine (Some stop.Memory) s = (record { full = (tt, tt); gone = omega arith }, λ l. absurd (omega arith))
 
     pub are_full : (s : Settled) → s.stops.items ≡ stops_of e → s.world.term ≡ e.term.term → AreFull s
-    are_full s stops term = grind (arith, user_fine, host_fine, reader_fine, term_fine, count_joined, each_append)
+    are_full s stops term = grind (arith, host_fine, reader_fine, term_fine, count_joined, each_append)
 
     -- ## Where the sides were not stopped
 
@@ -418,4 +411,4 @@ module _ (keys clicks : List UserEvent) (lines : LinesView) (e : Ends) (told : T
     pub is_whole : (s : Settled) → s.schedule.items ≡ merged e.term.log.items e.host.host.taken
         → run_of (new_world e.host.files.items) (merged e.term.log.items e.host.host.taken) ≡ Some s.world → s.world.term ≡ e.term.term
         → s.stops.items ≡ stops_of e → s.stops.items ≡ [] → IsWhole e s
-    is_whole s schedule ran term stops none = grind (arith, term_went, handled_all, none_under_way, same_Some, runs, quiet_of)
+    is_whole s schedule ran term stops none = grind (arith, term_went, handled_all, none_under_way, same_Some, runs)

@@ -1,5 +1,5 @@
 -- What settling comes to, by the law of the two sides.
-use Rattle.std.proofs.Common.{◌≡◌, inl, inr, sym, ap, ◌∙◌, subst, ℕ, List, [], Some, None, arith, rules}
+use Rattle.std.proofs.Common.{◌≡◌, inl, inr, sym, ap, ◌∙◌, subst, ℕ, List, [], Some, None}
 use Rattle.sam_mesg.specs.declared.tmesg.Tmesg.{Tmesg}
 use Rattle.sam_mesg.specs.declared.hmesg.HFrame.{HFrame}
 use Rattle.sam_host.specs.Host.{PlainHost}
@@ -12,7 +12,7 @@ use Rattle.sam_threads.specs.Inputs.{frames_in}
 use Rattle.sam_settling.specs.Headline.{Headline}
 use Rattle.sam_threads.specs.WorkerEnds.{AreEnds}
 use Rattle.sam_threads.specs.declared.stop.Stop.TheVariants as stop
-use Rattle.sam_settling.specs.Settled.{stops_of, AreFull, HasStreams, HasUsers, IsDrained, IsWhole, MissesHost}
+use Rattle.sam_settling.specs.Settled.{stops_of, AreFull, HasStreams, HasUsers, IsWhole, MissesHost}
 use Rattle.sam_settling.specs.Settling.{LinesGive, IsSource, IsReplay, ComesTo, world_from}
 use Rattle.sam_threads.specs.declared.ends.Ends.{Ends}
 use Rattle.sam_settling.specs.declared.settled.Settled.{Settled}
@@ -20,7 +20,7 @@ use Rattle.sam_settling.specs.declared.settling.Source.{Source}
 use Rattle.sam_settling.specs.declared.settling.Source.TheVariants.{Sides, Run}
 use Rattle.sam_threads.proofs.ApartTurns.{each_h}
 use Rattle.sam_settling.proofs.ApartLaws.{joins, host_stops_for_a_count, terminal_stops_for_a_count, no_fault_upwards, no_fault_downwards, all_upwards, all_downwards}
-use Rattle.sam_settling.proofs.SettlingClauses.{Laws, apart, no_bad_log, no_stuck_run, headline, has_streams, has_users, are_full, is_drained, is_whole, misses_host, sides_lead, sides_kept}
+use Rattle.sam_settling.proofs.SettlingClauses.{Laws, apart, no_bad_log, no_stuck_run, headline, has_streams, has_users, are_full, is_whole, misses_host, sides_lead, sides_kept}
 
 laws_of : (given : List (List ℕ × List ℕ)) (entries : List TermLog) (h : PlainHost) (t : PlainTerminal) (composed handled : List Tmesg) (answered passed taken : List HFrame)
     → Apart given entries h t composed handled answered passed taken → Laws given entries h t composed handled answered passed taken
@@ -72,9 +72,6 @@ module _ (e : Ends) (s : Settled) (ends : AreEnds e) (c : ComesTo e s) where
 
   pub comes_streams : HasStreams e s
   comes_streams = has_streams ends.0 ends.1 ends.2 e ends.3 c.give (laws e ends c.give) s c.schedule c.ran comes_states.0 comes_states.1
-
-  pub comes_drained : IsDrained e s
-  comes_drained = is_drained ends.0 ends.1 ends.2 e ends.3 c.give s c.left
 
   pub comes_misses : e.term.stop ≡ Some stop.PeerGone → MissesHost e s
   comes_misses gone = misses_host ends.0 ends.1 ends.2 e ends.3 c.give (laws e ends c.give) s c.schedule c.ran comes_states.1 gone

@@ -1,5 +1,5 @@
 -- What an audited line says of its posts, and what the line of events carries.
-use Rattle.std.proofs.Common.{◌≡◌, ◌≢◌, ℕ, zero, suc, ◌+◌, ◌^◌, ◌<◌, ◌≤◌, ◌==◌, true, false, eqb, eqb-true, List, [], ◌∷◌, ◌++◌, length, map, filter_map, Option, Some, None, slice_get, Vec, refl, sym, ap, ◌∙◌, subst, ⊎_elim, append-nil, append_assoc, arith, length-append, rules}
+use Rattle.std.proofs.Common.{◌≡◌, ◌≢◌, ℕ, zero, suc, ◌+◌, ◌^◌, ◌<◌, ◌≤◌, ◌==◌, true, eqb-true, List, [], ◌∷◌, ◌++◌, length, map, filter_map, Option, Some, None, slice_get, Vec, refl, sym, ap, ◌∙◌, subst, append-nil, append_assoc, arith, length-append}
 use Rattle.std.specs.Global.{Global}
 use Rattle.std.specs.List.{sum_by}
 use Rattle.std.proofs.lemmas.Bool.Decides.{eqb_tells}
@@ -9,8 +9,8 @@ use Rattle.sam_mesg.specs.declared.hmesg.HFrame.{HFrame}
 use Rattle.sam_term.specs.declared.event.UserEvent.{UserEvent}
 use Rattle.sam_queue.specs.declared.rule.Entry.{Entry}
 use Rattle.sam_queue.specs.History.{loads, items_of, has_left, all_of}
-use Rattle.sam_queue.specs.Views.{LineView, PostView, TakeView}
-use Rattle.sam_queue.specs.Audits.{AllAccounted, HasHistory, ArePostsOf}
+use Rattle.sam_queue.specs.Views.{PostView, TakeView}
+use Rattle.sam_queue.specs.Audits.{AllAccounted, HasHistory}
 use Rattle.sam_queue.proofs.Histories.{loads_mine, loads_other, loads-append, none_after_mark, items_said}
 use Rattle.sam_queue.proofs.Lists.{found_at}
 use Rattle.sam_world.specs.Sides.{Each}
@@ -140,13 +140,10 @@ module _ {T : Type 0} where
   sum_before j zero e r less = refl
   sum_before j (suc n) e r less = grind (arith, items_other, (sum_before (suc j) n e r (omega arith)))
 
-  loaded_few : (o : Option T) → length (loaded o) ≤ 1
-  loaded_few o = grind arith
-
   sum_one_more : (j n : ℕ) (e : Entry T) (r : List (Entry T)) → sum_from j n (e ∷ r) ≤ 1 + sum_from j n r
   unfolding sum_from
   sum_one_more j zero e r = omega arith
-  sum_one_more j (suc n) e r = grind (arith, items_mine, length-append, loaded_few, sum_before, items_other, eqb_tells, (sum_one_more (suc j) n e r))
+  sum_one_more j (suc n) e r = grind (arith, items_mine, length-append, sum_before, items_other, eqb_tells, (sum_one_more (suc j) n e r))
 
   sum_few : (j n : ℕ) (r : List (Entry T)) → sum_from j n r ≤ length r
   unfolding sum_from
@@ -172,19 +169,6 @@ module _ {T : Type 0} where
       omega (arith, h.few)
 
   -- ## The posts of a line
-
-  pub one_post : (line : LineView) (p : PostView T) → line.senders ≡ 1 → p.line ≡ line → p.number ≡ 0 → ArePostsOf line (p ∷ [])
-  one_post line p many here first = record { many = sym many; each = go }
-    where
-      go : (k : ℕ) (q : PostView T) → slice_get (p ∷ []) k ≡ Some q → (q.line ≡ line) × (q.number ≡ k)
-      go k q e = grind arith
-
-  pub three_posts : (line : LineView) (a b c : PostView T) → line.senders ≡ 3 → (a.line ≡ line) × (a.number ≡ 0) → (b.line ≡ line) × (b.number ≡ 1) → (c.line ≡ line) × (c.number ≡ 2)
-      → ArePostsOf line (a ∷ b ∷ c ∷ [])
-  three_posts line a b c many first second third = record { many = sym many; each = go }
-    where
-      go : (k : ℕ) (q : PostView T) → slice_get (a ∷ b ∷ c ∷ []) k ≡ Some q → (q.line ≡ line) × (q.number ≡ k)
-      go k q e = grind arith
 
 -- ## The line of events
 

@@ -1,5 +1,5 @@
 -- An act that does nothing, and one that fails.
-use Rattle.std.proofs.Common.{◌≡◌, ℕ, List, [], Result, Ok, Err, arith}
+use Rattle.std.proofs.Common.{◌≡◌, ℕ, List, Result, Ok, Err, arith}
 use Rattle.sam_term.specs.Term.{PlainTerminal, act_of, if_countable}
 use Rattle.sam_mesg.specs.declared.tmesg.Tmesg.{Tmesg}
 use Rattle.sam_term.specs.declared.event.Acted.{Acted}

@@ -1,9 +1,9 @@
 -- The oldest event that is held, and what nothing stands against.
-use Rattle.std.proofs.Common.{◌≡◌, refl, sym, ap, ◌∙◌, ℕ, zero, suc, Bool, true, false, List, [], ◌∷◌, drop, Option, Some, None, Ok, arith, rules}
+use Rattle.std.proofs.Common.{◌≡◌, sym, ap, ◌∙◌, ℕ, zero, suc, Bool, true, false, List, [], ◌∷◌, drop, Option, Some, None, Ok, arith}
 use Rattle.std.specs.Prelude.{slice_get, not}
 use Rattle.sam_runes.specs.Checks.{Checks, first_of_checks}
 use Rattle.sam_term.specs.Term.{PlainTerminal, act_of, act_on, decided, event_checks, event_outcome, is_open, sends, unchanged}
-use Rattle.sam_term.specs.Events.{message_of, needs_open, file_of, lock_of}
+use Rattle.sam_term.specs.Events.{needs_open, file_of, lock_of}
 use Rattle.sam_term.specs.Taking.{done, not_done}
 use Rattle.sam_term.specs.Acting.{deed_of, first_event, free_first, made_first, is_typing, is_snarfing}
 use Rattle.sam_term.specs.declared.event.Deed.TheVariants.{Sends, Types, Selects, Cuts, Pastes, Snarfs, Views, SetsSnarf, Flushes}
@@ -11,7 +11,7 @@ use Rattle.sam_term.specs.Locking.{is_lockable}
 use Rattle.sam_term.specs.declared.event.Acted.TheVariants.{Idle}
 use Rattle.sam_term.specs.declared.event.Verdict.{Verdict}
 use Rattle.sam_term.specs.declared.event.UserEvent.{UserEvent}
-use Rattle.sam_term.specs.declared.event.UserEvent.TheVariants.{Typed, Select, Cut, Paste, Snarf, View, SetSnarf, Flush}
+use Rattle.sam_term.specs.declared.event.UserEvent.TheVariants.{Select, Cut, Paste, Snarf, View, Flush}
 use Rattle.sam_mesg.specs.declared.tmesg.Tmesg.{Tmesg}
 
 first-read : (es : List UserEvent) (e : UserEvent) → slice_get es 0 ≡ Some e → es ≡ e ∷ drop 1 es
@@ -81,12 +81,9 @@ abbrev can_lock : PlainTerminal → Option Tmesg → Bool
 can_lock t None = true
 can_lock t (Some m) = is_lockable t (lock_of m)
 
-lockable : (t : PlainTerminal) (e : UserEvent) → free_first t ≡ None → first_event t.held ≡ e → can_lock t (message_of t.files e) ≡ true
-lockable t e u w = grind (arith, opened_by)
-
 -- the message of the oldest event may take its lock
 pub lockable_first : (t : PlainTerminal) (m : Tmesg) → free_first t ≡ None → Sends m ≡ deed_of t (first_event t.held) → is_lockable t (lock_of m) ≡ true
-lockable_first t m n s = grind (arith, (lockable t))
+lockable_first t m n s = grind (arith, opened_by)
 
 -- an event that only sends a message
 pub made_sends : (t : PlainTerminal) (m : Tmesg) → Sends m ≡ deed_of t (first_event t.held) → made_first t ≡ sends (record t { held = drop 1 t.held }) unchanged (m ∷ [])

@@ -1,17 +1,15 @@
 -- Composing by the lock that a message takes, and what its steps leave.
-use Rattle.std.proofs.Common.{◌≡◌, refl, ap, ◌∙◌, ℕ, ◌+◌, Bool, true, false, [], ◌∷◌, length, Some, None, arith, rules}
+use Rattle.std.proofs.Common.{◌≡◌, ap, ◌∙◌, ℕ, ◌+◌, Bool, false, [], ◌∷◌, length, Some, None, arith}
 use Rattle.std.specs.Prelude.{◌||◌}
 use Rattle.sam_term.specs.Events.{lock_of}
-use Rattle.sam_term.specs.declared.lock.Lock.{Lock}
-use Rattle.sam_term.specs.declared.lock.Lock.TheVariants.{NoLock, CommandLock, FileLock}
-use Rattle.sam_term.specs.Locking.{lock_added, is_request, is_lockable}
+use Rattle.sam_term.specs.Locking.{lock_added, is_request}
 use Rattle.sam_term.specs.Term.{PlainTerminal, window_at, put_window, composed, all_composed, flushed, unsent_message, sends, unchanged}
 use Rattle.sam_term.proofs.CountLaws.{counts-flushed, sent-composed}
 use Rattle.sam_term.specs.declared.records.Unsent.{Unsent}
 use Rattle.sam_runes.proofs.SlotLaws.{slot-put_same, put_slot-put_slot}
 use Rattle.sam_term.specs.declared.records.Window.{Window}
 use Rattle.sam_mesg.specs.declared.tmesg.Tmesg.{Tmesg}
-use Rattle.sam_mesg.specs.declared.tmesg.Tmesg.TheVariants.{Trequest, Ttype}
+use Rattle.sam_mesg.specs.declared.tmesg.Tmesg.TheVariants.{Ttype}
 
 or-false : (b : Bool) → b ≡ (b || false)
 or-false b = grind arith
@@ -41,9 +39,6 @@ flushed-none t e = ap (λ o. (all_composed (record t { unsent = None }) (unsent_
 pub flushed-files : (t : PlainTerminal) → (flushed t).0.files ≡ t.files
 unfolding flushed
 flushed-files t = grind arith
-
-pub lockable-files : (t u : PlainTerminal) (l : Lock) → u.files ≡ t.files → is_lockable u l ≡ is_lockable t l
-lockable-files t u l e = grind arith
 
 pub flushed-sent : (t : PlainTerminal) → (flushed t).0.sent ≡ t.sent + length (unsent_message t.unsent)
 unfolding flushed

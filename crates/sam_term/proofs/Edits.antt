@@ -1,13 +1,12 @@
 -- What the events do that change a rasp, a dot or a view, or send runes.
-use Rattle.std.proofs.Common.{◌≡◌, refl, sym, ap, ◌∙◌, subst, ℕ, zero, suc, ◌≤◌, ◌<◌, ◌+◌, Bool, true, false, List, [], ◌∷◌, ◌++◌, length, drop, Some, None, Ok, Err, if◌then◌else◌, ◌==◌, ◌≢◌, nat_eq, arith, rules}
+use Rattle.std.proofs.Common.{◌≡◌, refl, sym, ap, ◌∙◌, subst, ℕ, zero, suc, ◌≤◌, ◌<◌, ◌+◌, Bool, true, false, List, [], ◌∷◌, ◌++◌, length, drop, Some, None, Ok, Err, if◌then◌else◌, ◌≢◌, arith}
 use Rattle.std.specs.Prelude.{◌||◌, nat_lt, Result, IsOk}
 use Rattle.sam_runes.specs.Checks.{Checks, first_of_checks}
 use Rattle.sam_runes.specs.Texts.{most_count}
-use Rattle.sam_term.specs.Term.{PlainTerminal, Made, event_checks, event_outcome, window_at, is_open, composed, all_composed, lock_taken, asked, flushed, unsent_message, sends, unchanged, has_bad_place, made_by_snarf, made_by_cut, made_by_paste, made_by_view, wanted, request_for, cuts_dot, cut_rasp, put_window, moved_unsent}
+use Rattle.sam_term.specs.Term.{PlainTerminal, Made, event_checks, event_outcome, window_at, is_open, composed, all_composed, lock_taken, asked, flushed, unsent_message, sends, unchanged, has_bad_place, made_by_snarf, made_by_cut, made_by_paste, made_by_view, wanted, cuts_dot, cut_rasp, put_window, moved_unsent}
 use Rattle.sam_term.specs.Taking.{done, countable, IsFailure}
 use Rattle.sam_term.specs.Acting.{first_event, free_first, made_first, is_snarfing}
 use Rattle.sam_term.specs.declared.lock.Lock.{Lock}
-use Rattle.sam_term.specs.declared.lock.Lock.TheVariants.{NoLock, CommandLock, FileLock}
 use Rattle.sam_term.specs.declared.event.Acted.{Acted}
 use Rattle.sam_term.specs.declared.event.Acted.TheVariants.{Done}
 use Rattle.sam_term.specs.declared.event.UserEvent.{UserEvent}
@@ -15,19 +14,18 @@ use Rattle.sam_term.specs.declared.event.UserEvent.TheVariants.{Select, Cut, Pas
 use Rattle.sam_term.specs.declared.fault.TermFault.{TermFault}
 use Rattle.sam_term.specs.declared.fault.TermFault.TheVariants as fault
 use Rattle.sam_mesg.specs.declared.tmesg.Tmesg.{Tmesg}
-use Rattle.sam_mesg.specs.declared.tmesg.Tmesg.TheVariants.{Trequest, Tcut, Tpaste, Tsnarf, Tsetsnarf}
+use Rattle.sam_mesg.specs.declared.tmesg.Tmesg.TheVariants.{Tcut, Tpaste, Tsnarf, Tsetsnarf}
 use Rattle.sam_term.proofs.Acts.{made_of}
 use Rattle.sam_term.proofs.Sounds.{loud_done, full_done, is_done}
 use Rattle.sam_term.proofs.Composes.{flushed-none}
 use Rattle.sam_term.proofs.CountLaws.{counts-event}
-use Rattle.sam_rasp.specs.Rasp.{place_after_del, hole_within}
+use Rattle.sam_rasp.specs.Rasp.{place_after_del}
 use Rattle.sam_term.specs.declared.records.Window.{Window}
 use Rattle.std.proofs.Common.{append_assoc, ◌⊎◌}
-use Rattle.std.specs.Prelude.{min}
 use Rattle.sam_term.specs.Editing.{shown_from}
-use Rattle.sam_term.proofs.Requests.{wanted-put, requested_some, requested_none}
+use Rattle.sam_term.proofs.Requests.{requested_some, requested_none}
 use Rattle.sam_runes.proofs.SlotLaws.{slot-put_same}
-use Rattle.std.proofs.lemmas.Bool.{ltb-false, ne_eqb, eq-eqb}
+use Rattle.std.proofs.lemmas.Bool.{ltb-false}
 
 -- ## An event that is done
 
@@ -132,12 +130,6 @@ failed_later made why es h = grind arith
 
 -- ## What an event makes
 
-pub empty-or : {X : Type 0} (a b : ℕ) (x y : X) → a ≡ b → (if a == b then x else y) ≡ x
-empty-or a b x y e = let same : nat_eq a b ≡ true = eq-eqb a b e in rw same refl
-
-pub filled-or : {X : Type 0} (a b : ℕ) (x y : X) → a ≢ b → (if a == b then x else y) ≡ y
-filled-or a b x y e = let other : nat_eq a b ≡ false = ne_eqb a b e in rw other refl
-
 pub made-snarf_none : (t : PlainTerminal) (f : ℕ) (d : ℕ × ℕ) → d ≡ (window_at t f).dot → d.0 ≡ d.1 → event_outcome t (Snarf f) ≡ (t, [])
 unfolding made_by_snarf
 made-snarf_none t f d e h = grind arith
@@ -228,14 +220,6 @@ two_more m0 m1 m2 m3 fl a b e0 e1 e2 e3 = grind (arith, append_assoc)
 
 pub views_within : (t : PlainTerminal) (f p n : ℕ) → free_first t ≡ None → first_event t.held ≡ View f p n → p ≤ length (window_at t f).rasp
 views_within t f p n e s = ltb-false (length (window_at t f).rasp) p (good_place t (View f p n) e s)
-
--- what a file wants that is shown from p on
-pub wanted-shown : (t : PlainTerminal) (f p n : ℕ) (w : Window) → window_at t f ≡ w → t.has_exited ≡ false → w.awaits ≡ false
-    → wanted (shown_from t f p n) f ≡ request_for f (hole_within w.rasp p (min (p + n) (length w.rasp)))
-wanted-shown t f p n w e x a = grind (arith, wanted-put)
-
-pub wanted-quiet : (t : PlainTerminal) (f p n : ℕ) (w : Window) → window_at t f ≡ w → (t.has_exited || w.awaits) ≡ true → wanted (shown_from t f p n) f ≡ None
-wanted-quiet t f p n w e h = grind (arith, wanted-put)
 
 pub made-view : (t : PlainTerminal) (f p n : ℕ) (m : Tmesg) → wanted (shown_from t f p n) f ≡ Some m → event_outcome t (View f p n) ≡ sends (shown_from t f p n) unchanged (m ∷ [])
 unfolding made_by_view

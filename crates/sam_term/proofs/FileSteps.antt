@@ -1,5 +1,5 @@
 -- A terminal stays sound as files are opened, closed, named and dropped.
-use Rattle.std.proofs.Common.{◌≡◌, refl, subst, ℕ, zero, suc, ◌≤◌, true, false, [], ◌∷◌, length, Some, None, is_some, ◌⊎◌, ◌≢◌, arith, rules}
+use Rattle.std.proofs.Common.{◌≡◌, subst, ℕ, suc, ◌≤◌, true, false, [], ◌∷◌, length, Some, None, is_some, ◌⊎◌, ◌≢◌, arith}
 use Rattle.std.specs.Prelude.{unwrap_or}
 use Rattle.sam_runes.specs.Texts.{most_in_message}
 use Rattle.sam_runes.specs.Slots.{Slots, slot, put_slot, free_slot, map_slots}

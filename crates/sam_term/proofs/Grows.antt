@@ -1,6 +1,6 @@
 -- A terminal stays sound as partial texts grow and shrink.
-use Rattle.std.proofs.Common.{◌≡◌, sym, ap, ◌∙◌, subst, ℕ, ◌≤◌, ◌<◌, ◌+◌, ◌-◌, true, false, List, length, Option, Some, None, ◌⊎◌, inl, inr, arith, length-append, rules}
-use Rattle.std.specs.Prelude.{IfSome, OnErr, OnOk, is_err, Result, Ok, Err, min}
+use Rattle.std.proofs.Common.{◌≡◌, sym, ap, ◌∙◌, subst, ℕ, ◌≤◌, ◌<◌, ◌+◌, ◌-◌, true, false, List, length, Option, Some, ◌⊎◌, inl, inr, arith, length-append}
+use Rattle.std.specs.Prelude.{IfSome, OnErr, OnOk, is_err, Result, min}
 use Rattle.std.proofs.lemmas.List.{length-take, length-drop, length-map}
 use Rattle.sam_runes.specs.Texts.{max_runes}
 use Rattle.sam_runes.specs.Slots.{put_slot}
@@ -109,10 +109,7 @@ pub unsent_within : (t : PlainTerminal) → IsSound t → IfSome t.unsent (λ u.
 unfolding FitsUnsent
 unsent_within t s = grind arith
 
-pub length-load_cells : (r : PartialText) (p : ℕ) (s : List ℕ) → p + length s ≤ length r → length (load_cells r p s) ≡ length r
-length-load_cells r p s l = grind (arith, length-append, length-take, length-drop, length-map)
-
 -- runes are loaded into places that are there
 pub sound-load : (t : PlainTerminal) (f p : ℕ) (s : List ℕ) → IsSound t → p + length s ≤ length (window_at t f).rasp
     → IsSound (put_window t f (record (window_at t f) { rasp = load_cells (window_at t f).rasp p s; awaits = false }))
-sound-load t f p s sound l = grind (arith, length-load_cells, (sound-put t f))
+sound-load t f p s sound l = grind (arith, (sound-put t f), length-append, length-take, length-drop, length-map)

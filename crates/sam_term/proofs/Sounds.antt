@@ -1,5 +1,5 @@
 -- A terminal stays sound.
-use Rattle.std.proofs.Common.{◌≡◌, refl, ℕ, ◌≤◌, false, List, length, Some, None, ◌⊎◌, ◌≢◌, inl, inr, arith, rules}
+use Rattle.std.proofs.Common.{◌≡◌, refl, ℕ, ◌≤◌, false, List, length, Some, None, ◌⊎◌, ◌≢◌, arith}
 use Rattle.sam_term.specs.Term.{PlainTerminal, window_at, put_window, Made, take_of, frame_outcome}
 use Rattle.sam_term.specs.declared.event.Acted.TheVariants.{Done}
 use Rattle.sam_term.specs.Taking.{done, countable, frame_fault, IsAnswer, IsFailure}

@@ -1,5 +1,5 @@
 -- Typing runes in the place of a dot.
-use Rattle.std.proofs.Common.{◌≡◌, subst, ℕ, ◌≤◌, ◌+◌, ◌-◌, ◌++◌, List, length, map, take, drop, Some, arith, rules}
+use Rattle.std.proofs.Common.{◌≡◌, subst, ℕ, ◌≤◌, ◌+◌, ◌-◌, ◌++◌, List, length, map, take, drop, Some, arith}
 use Rattle.std.proofs.lemmas.List.{length-map, length-take-le}
 use Rattle.sam_rasp.specs.Rasp.{PartialText, ins_cells, del_cells}
 use Rattle.sam_term.specs.Term.{window_after_ins, window_after_del}
@@ -12,15 +12,12 @@ use Rattle.std.proofs.Common.{None}
 use Rattle.sam_term.proofs.Grows.{sound-change, length-ins_cells, length-del_cells}
 use Rattle.std.proofs.Math.Seq.{take-append_seam, drop-append_seam}
 
-take-front : (a b : PartialText) (p : ℕ) → length a ≡ p → take p (a ++ b) ≡ a
-take-front a b p e = subst (λ n. take n (a ++ b) ≡ a) e (take-append_seam a b)
-
 drop-front : (a b : PartialText) (p : ℕ) → length a ≡ p → drop p (a ++ b) ≡ b
 drop-front a b p e = subst (λ n. drop n (a ++ b) ≡ b) e (drop-append_seam a b)
 
 -- what comes in where something was taken out
 over : (r : PartialText) (p q : ℕ) (cells : PartialText) → p ≤ length r → ins_cells (del_cells r p q) p cells ≡ take p r ++ cells ++ drop q r
-over r p q cells l = grind (arith, length-take-le, take-front, drop-front)
+over r p q cells l = grind (arith, length-take-le, drop-front, take-append_seam)
 
 -- a dot that is cut, and runes that come in its place
 pub typed-cut : (w : Window) (s : List ℕ) → w.dot.0 ≤ length w.rasp → record (window_after_ins (window_after_del w w.dot.0 w.dot.1) w.dot.0 (map Some s))

@@ -1,11 +1,11 @@
 -- What typing makes, in the order of the code: the window is changed first, and the messages are composed behind that.
-use Rattle.std.proofs.Common.{◌≡◌, refl, ap, ◌∙◌, ℕ, ◌≤◌, ◌<◌, ◌+◌, ◌-◌, ◌++◌, Bool, true, false, List, [], ◌∷◌, length, map, Option, Some, None, if◌then◌else◌, ◌==◌, ◌≢◌, ◌⊎◌, arith, length-append, rules}
+use Rattle.std.proofs.Common.{◌≡◌, refl, ap, ℕ, ◌≤◌, ◌<◌, ◌+◌, ◌-◌, ◌++◌, Bool, true, false, List, [], ◌∷◌, length, map, Option, Some, None, if◌then◌else◌, ◌==◌, ◌≢◌, ◌⊎◌, arith, length-append, nat_eq}
 use Rattle.std.specs.Prelude.{not, ◌&&◌, option_map}
 use Rattle.std.proofs.lemmas.List.{append-nil}
-use Rattle.std.proofs.lemmas.Bool.{ltb-false}
+use Rattle.std.proofs.lemmas.Bool.{ltb-false, eq-eqb, ne_eqb}
 use Rattle.sam_runes.specs.Texts.{is_empty, max_runes, most_count, most_in_message}
-use Rattle.sam_rasp.specs.Rasp.{PartialText, place_after_ins}
-use Rattle.sam_term.specs.Term.{PlainTerminal, Made, window_at, put_window, window_after_ins, window_after_del, moved_unsent, edited, cut_rasp, ins_rasp, set_dot_of, all_composed, flushed, unsent_message, and_then, joins, joined, kept_unsent, typed_rasp, types, cuts_dot, event_outcome, made_by_type}
+use Rattle.sam_rasp.specs.Rasp.{place_after_ins}
+use Rattle.sam_term.specs.Term.{PlainTerminal, Made, window_at, put_window, window_after_del, moved_unsent, edited, cut_rasp, ins_rasp, set_dot_of, all_composed, flushed, unsent_message, and_then, joins, joined, kept_unsent, typed_rasp, types, cuts_dot, event_outcome, made_by_type}
 use Rattle.sam_term.specs.Windows.{window_in}
 use Rattle.sam_term.specs.Events.{is_command_line}
 use Rattle.sam_term.specs.Editing.{typed_over, joined_at, lengthened, shortened, typed_file, typed_runes, cut_message, one_if, flushed_if}
@@ -26,14 +26,9 @@ use Rattle.std.proofs.Math.Seq.{take-append_seam}
 use Rattle.sam_term.proofs.Composes.{put-put, window-put_same, flushed-files}
 use Rattle.sam_term.proofs.Marks.{edited-window, edited-again}
 use Rattle.sam_term.proofs.CountLaws.{counts-event}
-use Rattle.sam_term.proofs.Edits.{later, overflows, fits_count, cut_made, cuts_none, cut-unsent, flushed-idle, flushed-messages, empty-or, filled-or}
+use Rattle.sam_term.proofs.Edits.{later, overflows, fits_count, cut_made, cuts_none, cut-unsent, flushed-idle, flushed-messages}
 
 -- ## The window
-
--- something is put in, and the dot is set
-set-after-ins : (t : PlainTerminal) (f p : ℕ) (cells : PartialText) (d : ℕ × ℕ) → set_dot_of (ins_rasp t f p cells) f d ≡ record
-    (put_window t f (record (window_after_ins (window_at t f) p cells) { dot = d })) { unsent = moved_unsent f (place_after_ins p (length cells)) t.unsent }
-set-after-ins t f p cells d = grind (arith, window-put_same, put-put)
 
 -- runes that begin no later than where something is put in stay where they are
 moved-kept : (f p n : ℕ) (j : Unsent) → j.place ≤ p → moved_unsent f (place_after_ins p n) (Some j) ≡ Some j
@@ -46,7 +41,7 @@ placed t f p s = set_dot_of (ins_rasp t f p (map Some s)) f (p + length s, p + l
 -- at an empty dot
 placed-empty : (t : PlainTerminal) (f : ℕ) (s : List ℕ) (j : Unsent) → (window_at t f).dot.0 ≡ (window_at t f).dot.1 → j.place ≤ (window_at t f).dot.0
     → placed (record t { unsent = Some j }) f (window_at t f).dot.0 s ≡ record (put_window t f (typed_over (window_at t f) s)) { unsent = Some j }
-placed-empty t f s j e l = grind (arith, set-after-ins, moved-kept, typed-in)
+placed-empty t f s j e l = grind (arith, moved-kept, typed-in, window-put_same, put-put)
 
 -- where a dot was cut
 placed-filled : (t : PlainTerminal) (f : ℕ) (s : List ℕ) (j : Unsent) (n : ℕ) → j.place ≤ (window_at t f).dot.0 → (window_at t f).dot.0 ≤ length (window_at t f).rasp
@@ -131,19 +126,15 @@ apart-filled t f s l = grind (arith, (same-window t f), (typed-filled (flushed t
 
 made-apart_none : (t : PlainTerminal) (f : ℕ) (s : List ℕ) → is_empty s ≡ false → (window_at t f).dot.0 ≡ (window_at t f).dot.1
     → joins t.unsent f (window_at t f).dot.0 s ≡ false → event_outcome t (Typed f s) ≡ made_apart t f s (window_at t f).dot
-made-apart_none t f s some e j = grind (arith, empty-or, (by-steps t f s some), (apart-empty t f s e))
+made-apart_none t f s some e j = grind (arith, (by-steps t f s some), (apart-empty t f s e), nat_eq, eq-eqb)
 
 made-apart_some : (t : PlainTerminal) (f : ℕ) (s : List ℕ) → is_empty s ≡ false → (window_at t f).dot.0 ≢ (window_at t f).dot.1
     → (window_at t f).dot.0 ≤ length (window_at t f).rasp → event_outcome t (Typed f s) ≡ made_apart t f s (window_at t f).dot
-made-apart_some t f s some e l = grind (arith, filled-or, by-steps, kept-idle, cut-unsent, apart-filled)
-
-made-apart_dot : (t : PlainTerminal) (f : ℕ) (s : List ℕ) → is_empty s ≡ false → (window_at t f).dot.0 ≤ length (window_at t f).rasp
-    → ((window_at t f).dot.0 == (window_at t f).dot.1 && joins t.unsent f (window_at t f).dot.0 s) ≡ false → event_outcome t (Typed f s) ≡ made_apart t f s (window_at t f).dot
-made-apart_dot t f s some l h = grind (arith, made-apart_none, made-apart_some)
+made-apart_some t f s some e l = grind (arith, by-steps, kept-idle, cut-unsent, apart-filled, nat_eq, ne_eqb)
 
 pub made-apart : (t : PlainTerminal) (f : ℕ) (s : List ℕ) (d : ℕ × ℕ) → d ≡ (window_at t f).dot → is_empty s ≡ false → d.0 ≤ length (window_at t f).rasp
     → (d.0 == d.1 && joins t.unsent f d.0 s) ≡ false → event_outcome t (Typed f s) ≡ made_apart t f s d
-made-apart t f s d same some l h = grind (arith, made-apart_dot)
+made-apart t f s d same some l h = grind (arith, made-apart_none, made-apart_some)
 
 -- without runes
 pub made-nothing_none : (t : PlainTerminal) (f : ℕ) (d : ℕ × ℕ) → d ≡ (window_at t f).dot → d.0 ≡ d.1 → event_outcome t (Typed f []) ≡ (t, [])

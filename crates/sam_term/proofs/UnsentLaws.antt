@@ -1,10 +1,10 @@
 -- What is composed first is the unsent runes.
 use Rattle.std.proofs.lemmas.Grind.{common_steps}
-use Rattle.std.proofs.Common.{◌≡◌, refl, sym, ap, ◌∙◌, subst, ℕ, ◌≤◌, Bool, true, false, List, [], ◌∷◌, ◌++◌, length, map, Option, Some, None, if◌then◌else◌, arith, rules}
+use Rattle.std.proofs.Common.{◌≡◌, sym, ap, ◌∙◌, subst, ℕ, ◌≤◌, Bool, true, false, List, [], ◌∷◌, ◌++◌, length, map, Option, Some, None, if◌then◌else◌, arith, rules}
 use Rattle.std.proofs.lemmas.List.{append-nil, append_assoc}
 use Rattle.sam_rasp.specs.Rasp.{place_after_ins}
 use Rattle.sam_mesg.specs.declared.tmesg.Tmesg.{Tmesg}
-use Rattle.sam_mesg.specs.declared.tmesg.Tmesg.TheVariants.{Ttype, Tsnarf, Tcut, Tack}
+use Rattle.sam_mesg.specs.declared.tmesg.Tmesg.TheVariants.{Tsnarf, Tcut, Tack}
 use Rattle.sam_mesg.specs.declared.hmesg.Hmesg.TheVariants.{Hcheck, Hunlockfile, Hack}
 use Rattle.sam_term.specs.Events.{is_command_line}
 use Rattle.sam_term.specs.declared.event.UserEvent.{UserEvent}

@@ -1,11 +1,11 @@
 -- What holds of all files stays so under each change.
-use Rattle.std.proofs.Common.{◌≡◌, ℕ, zero, suc, ◌<◌, ◌≤◌, List, [], ◌∷◌, length, true, Option, Some, None, refl, sym, ap, ◌∙◌, subst, arith, length-append, drop, ◌-◌, rules}
+use Rattle.std.proofs.Common.{◌≡◌, ℕ, zero, suc, ◌<◌, ◌≤◌, List, [], ◌∷◌, length, true, Option, Some, sym, subst, arith, length-append, drop, ◌-◌}
 use Rattle.std.specs.Prelude.{unwrap_or, is_some, option_map, IfSome, Result, Ok, Err, OnOk, OnErr, ⊤}
 use Rattle.std.proofs.lemmas.List.{length-drop, length-take-le}
 use Rattle.sam_runes.specs.Texts.{all_tags, part}
 use Rattle.sam_runes.specs.Slots.{Slots, slot, put_slot, free_slot}
 use Rattle.sam_runes.proofs.SlotLaws.{slot-put_same, slot-put_other, slot-free_same, slot-free_other, slot-map, slot_given, length-put_slot, length-free_slot, length-map_slots, put_slot-push}
-use Rattle.sam_text.specs.Files.{PlainFile, PlainFiles, blank_file, file_at, has_file, put_file, with_new, without_file, work_without, announced_file, announce_all, IsFit, HasShortName, IsWork, AreSoundFiles}
+use Rattle.sam_text.specs.Files.{PlainFile, PlainFiles, blank_file, file_at, has_file, put_file, with_new, without_file, announced_file, announce_all, IsFit, HasShortName, IsWork, AreSoundFiles}
 use Rattle.sam_text.proofs.FitLaws.{all-put, fit-put}
 use Rattle.sam_text.proofs.ViewLaws.{is_some-map}
 
@@ -31,19 +31,9 @@ kept_put fs g x all there fit short = grind (
 pub all-free : (P : PlainFile → Type 0) (fs : PlainFiles) (g : ℕ) → P blank_file → ((f : ℕ) → P (file_at fs f)) → (f : ℕ) → P (unwrap_or (slot (free_slot fs.slots g) f) blank_file)
 all-free P fs g none all f = grind (arith, slot-free_same, slot-free_other)
 
-work-free : (fs : PlainFiles) (g : ℕ) (w : Option ℕ) → IfSome w (IsWork fs) → IfSome (work_without g w) (IsWork (without_file fs g))
-work-free fs g w e = grind (arith, slot-free_other)
-
 -- a file that is not the command file is taken away
 pub kept_free : (fs : PlainFiles) (g : ℕ) → AreSoundFiles fs → 0 < g → AreSoundFiles (without_file fs g)
-kept_free fs g all positive = grind (
-  arith,
-  (length-free_slot fs.slots g),
-  (slot-free_other fs.slots g 0),
-  (work-free fs g fs.work all.2),
-  (all-free IsFit fs g),
-  (all-free HasShortName fs g),
-)
+kept_free fs g all positive = grind (arith, (length-free_slot fs.slots g), (slot-free_other fs.slots g 0), (all-free IsFit fs g), (all-free HasShortName fs g), slot-free_other)
 
 -- a file is added
 pub kept_new : (fs : PlainFiles) (x : PlainFile) → AreSoundFiles fs → length fs.slots < all_tags → IsFit x → HasShortName x → AreSoundFiles (with_new fs x)
@@ -67,18 +57,12 @@ all-announce P step [] all f = all f
 all-announce P step (s ∷ ss) all zero = all 0
 all-announce P step (s ∷ ss) all (suc f) = grind (arith, (slot-map announced_file ss f), (all-announced P step (slot ss f) (all (suc f))))
 
-given-announce : (ss : Slots PlainFile) (f : ℕ) → is_some (slot (announce_all ss) f) ≡ is_some (slot ss f)
-given-announce ss f = grind (arith, slot-map, is_some-map)
-
-length-announce : (ss : Slots PlainFile) → length (announce_all ss) ≡ length ss
-length-announce ss = grind (arith, length-map_slots)
-
 work-announce : (fs : PlainFiles) (w : Option ℕ) → IfSome w (IsWork fs) → IfSome w (IsWork (record fs { slots = announce_all fs.slots }))
-work-announce fs w e = grind (arith, given-announce)
+work-announce fs w e = grind (arith, slot-map, is_some-map)
 
 -- all files but the command file are announced
 pub kept_announce : (fs : PlainFiles) → AreSoundFiles fs → AreSoundFiles (record fs { slots = announce_all fs.slots })
-kept_announce fs all = grind (arith, (length-announce fs.slots), (work-announce fs fs.work all.2), (all-announce IsFit), (all-announce HasShortName))
+kept_announce fs all = grind (arith, (work-announce fs fs.work all.2), (all-announce IsFit), (all-announce HasShortName), length-map_slots)
 
 -- a file is put where one was, or nothing is changed
 pub kept_put_or : {E : Type 0} (fs : PlainFiles) (g : ℕ) (x : PlainFile) → AreSoundFiles fs → has_file fs g ≡ true → (r : Result ⊤ E) (after : Slots PlainFile)

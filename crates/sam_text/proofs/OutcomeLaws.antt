@@ -1,5 +1,5 @@
 -- What each line does can be put in: its file can be the work file, dot is a range of its text, name and pattern are within their limits.
-use Rattle.std.proofs.Common.{◌≡◌, ℕ, ◌≤◌, List, [], ◌∷◌, length, Option, Some, None, Result, Ok, Err, refl, sym, subst, ap, arith, rules}
+use Rattle.std.proofs.Common.{◌≡◌, ℕ, ◌≤◌, List, length, Option, Some, None, Result, sym, subst, ap, arith}
 use Rattle.std.specs.Prelude.{IfOk, IfSome, unwrap_or, option_map, option_and_then}
 use Rattle.sam_runes.specs.Texts.{most_in_name}
 use Rattle.sam_runes.specs.Slots.{slot}
@@ -7,7 +7,6 @@ use Rattle.sam_text.specs.declared.word.Word.{Word}
 use Rattle.sam_text.specs.declared.command.Command.{Command}
 use Rattle.sam_text.specs.declared.command.Command.TheVariants as command
 use Rattle.sam_text.specs.Reading.{◌>>=◌, command_of}
-use Rattle.sam_text.specs.Ranges.{address_range}
 use Rattle.sam_text.specs.Files.{PlainFile, PlainFiles, PlainOutcome, blank_file, file_at, file_after, IsFit, IsPattern, IsWork, IsOutcomeFor, IsOutcomeOf, AreSoundFiles}
 use Rattle.sam_text.specs.Meaning.{WorkFile, meaning, work_on, work_file, line_outcome, effect_of, effect_on, effect_of_line, or_wrong}
 use Rattle.sam_text.proofs.ReadLaws.{CommandOk, command-read}
@@ -28,11 +27,8 @@ short-then r f e = grind arith
 short-on : (f : WorkFile) (c : Command) → CommandOk c → IfOk (effect_on f c) HasShortParts
 short-on f c e = grind (arith, short-then)
 
-short-of : (f : Option WorkFile) (c : Command) → CommandOk c → IfOk (effect_of f c) HasShortParts
-short-of f c e = grind (arith, short-on)
-
 short-read : (f : Option WorkFile) (r : Result Command Word) → IfOk r CommandOk → IfOk (r >>= effect_of f) HasShortParts
-short-read f r e = grind (arith, short-of)
+short-read f r e = grind (arith, short-on)
 
 -- the name and the pattern of every line
 pub line_short : (f : Option WorkFile) (line : List ℕ) → HasShortParts (line_outcome f line)

@@ -1,5 +1,5 @@
 -- What is read of a line is within the limits: each pattern has 1 to most_in_pattern runes, and a name at most most_in_name.
-use Rattle.std.proofs.Common.{◌≡◌, ℕ, zero, suc, ◌+◌, ◌≤◌, List, [], ◌∷◌, length, Bool, true, false, cond, ◌||◌, ◌==◌, Option, Some, None, Result, Ok, Err, option_map, nat_lt, refl, arith, rules}
+use Rattle.std.proofs.Common.{◌≡◌, ℕ, zero, suc, ◌+◌, ◌≤◌, List, [], ◌∷◌, length, Bool, true, false, cond, ◌||◌, ◌==◌, Option, Some, None, Result, Ok, Err, option_map, nat_lt, refl, arith}
 use Rattle.std.specs.Prelude.{IfOk, IfSome, ⊤}
 use Rattle.std.proofs.lemmas.Bool.{ltb-false}
 use Rattle.sam_runes.specs.Texts.{most_in_name, most_in_pattern}
@@ -14,7 +14,7 @@ use Rattle.sam_text.specs.declared.command.Command.{Command}
 use Rattle.sam_text.specs.declared.command.Command.TheVariants as command
 use Rattle.sam_text.specs.Files.{IsPattern}
 use Rattle.sam_text.specs.Meaning.{side_pattern, address_pattern, steps_pattern, later}
-use Rattle.sam_text.specs.Reading.{◌>>=◌, is_blank, skip, quoted, pattern_at, behind_slash, side_of, side_at, second_side, address_at, kind_of, last_of, at_head, at_option, chain_at, trimmed, name_of, ended, behind_address, command_of}
+use Rattle.sam_text.specs.Reading.{◌>>=◌, skip, quoted, pattern_at, behind_slash, side_of, side_at, second_side, address_at, kind_of, last_of, at_head, at_option, chain_at, name_of, ended, behind_address, command_of}
 
 -- ## Ways to read
 
@@ -103,11 +103,8 @@ CommandOk (command.Run a ss l) = (AddressOk a) × (IfSome (steps_pattern ss) IsP
 CommandOk (command.Name n) = length n ≤ most_in_name
 CommandOk command.Quit = ⊤
 
-name_end : (n : List ℕ) (b : Bool) → nat_lt most_in_name (length n) ≡ b → IfOk (cond b (Err word.Name) (Ok (command.Name n))) CommandOk
-name_end n b e = grind (arith, ltb-false)
-
 name-read : (line : List ℕ) → IfOk (name_of line) CommandOk
-name-read line = grind (arith, ok_if, name_end)
+name-read line = grind (arith, ok_if)
 
 behind-read : (a : Option Address) (rest : List ℕ) → AddressOk a → IfOk (behind_address a rest) CommandOk
 behind-read None rest h = ok_then ChainOk CommandOk (chain_at (length rest + 1) rest) _ (chain-read (length rest + 1) rest) (λ c k. (h, k))

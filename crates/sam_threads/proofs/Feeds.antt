@@ -1,17 +1,16 @@
 -- What a terminal composes for frames, and what stops it.
-use Rattle.std.proofs.Common.{◌≡◌, ℕ, ◌≤◌, inl, inr, List, [], ◌∷◌, ◌++◌, length, Option, None, Some, Ok, Err, Bool, true, false, if◌then◌else◌, sym, subst, append-nil, append_assoc, length-append, arith, All, IsTrue, rules}
+use Rattle.std.proofs.Common.{◌≡◌, ℕ, ◌≤◌, inl, inr, List, [], ◌∷◌, ◌++◌, length, Option, None, Some, Ok, Bool, true, false, if◌then◌else◌, append-nil, append_assoc, length-append, arith, All, IsTrue}
 use Rattle.std.proofs.lemmas.List.Elements.{All-nil}
 use Rattle.sam_mesg.specs.declared.tmesg.Tmesg.{Tmesg}
 use Rattle.sam_mesg.specs.declared.tmesg.Tmesg.TheVariants.{Tack}
 use Rattle.sam_mesg.specs.declared.hmesg.Hmesg.{Hmesg}
-use Rattle.sam_mesg.specs.declared.hmesg.Hmesg.TheVariants.{Hcheck, Hunlockfile, Hack}
 use Rattle.sam_mesg.specs.declared.hmesg.HFrame.{HFrame}
 use Rattle.sam_mesg.specs.declared.fault.MesgFault.{MesgFault}
 use Rattle.sam_mesg.specs.HostKinds.{fits_h}
 use Rattle.sam_frame.specs.Direction.{host}
 use Rattle.sam_frame.specs.Stream.{FitInTurn}
 use Rattle.sam_frame.specs.Framing.{Held}
-use Rattle.sam_term.specs.Term.{PlainTerminal, Made, flushed, unsent_message, sends, sends_if, unchanged, requested, wanted, frame_outcome, made_unless, take_of, took_unlockfile}
+use Rattle.sam_term.specs.Term.{PlainTerminal, Made, flushed, unsent_message, sends, sends_if, unchanged, requested, wanted, frame_outcome, made_unless, take_of}
 use Rattle.sam_term.specs.declared.records.Unsent.{Unsent}
 use Rattle.sam_term.specs.declared.fault.TermFault.{TermFault}
 use Rattle.sam_term.specs.declared.fault.TermFault.TheVariants as fault
@@ -56,11 +55,8 @@ few_ack t false = few_sends t unchanged Tack
 few_from : (t : PlainTerminal) (m : Hmesg) → Few 2 (frame_outcome t m)
 few_from t m = grind (arith, few_requested, few_ack)
 
-few_counted : (b : Bool) (made : Made) (u : PlainTerminal) (ms : List Tmesg) → Few 2 made → (if b then Err fault.CountFull else Ok made) ≡ Ok (u, ms) → length ms ≤ 2
-few_counted b made u ms e w = grind arith
-
 few_unless : (o : Option TermFault) (made : Made) (u : PlainTerminal) (ms : List Tmesg) → Few 2 made → made_unless o made ≡ Ok (u, ms) → length ms ≤ 2
-few_unless o made u ms e w = grind (arith, few_counted)
+few_unless o made u ms e w = grind arith
 
 pub takes_few : (t u : PlainTerminal) (frame : HFrame) (ms : List Tmesg) → take_of t frame ≡ Ok (u, ms) → length ms ≤ 2
 unfolding take_of

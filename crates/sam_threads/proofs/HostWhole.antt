@@ -1,11 +1,11 @@
 -- All that the host's worker takes.
-use Rattle.std.proofs.Common.{◌≡◌, ◌∙◌, inl, inr, ℕ, ◌+◌, ◌^◌, ◌≤◌, List, [], ◌++◌, length, All, Option, Some, None, Ok, refl, sym, ap, subst, append_assoc, append-nil, length-append, arith, rules}
+use Rattle.std.proofs.Common.{◌≡◌, ◌∙◌, ℕ, ◌+◌, ◌≤◌, List, [], ◌++◌, length, All, Option, Some, None, Ok, refl, ap, subst, append_assoc, append-nil, length-append, arith}
 use Rattle.std.specs.Global.{Vec}
 use Rattle.sam_runes.specs.Texts.{most_files}
 use Rattle.sam_mesg.specs.declared.tmesg.Tmesg.{Tmesg}
 use Rattle.sam_mesg.specs.declared.hmesg.HFrame.{HFrame}
 use Rattle.sam_frame.specs.Direction.{terminal, host, frame_of}
-use Rattle.sam_frame.specs.Stream.{Splits, version_after, stream_of}
+use Rattle.sam_frame.specs.Stream.{Splits, stream_of}
 use Rattle.sam_frame.specs.Framing.{Held, fresh}
 use Rattle.sam_frame.proofs.Fronts.{version_after-append}
 use Rattle.sam_frame.proofs.Cuttings.{Came, comes_more, splits_more}
@@ -19,8 +19,8 @@ use Rattle.sam_queue.proofs.Laws.{items_of_item, items_of_mark}
 use Rattle.sam_queue.proofs.Sorts.{items_of-append}
 use Rattle.sam_world.specs.Given.{IsFile}
 use Rattle.sam_threads.specs.Inputs.{bytes_of}
-use Rattle.sam_threads.specs.WorkerEnds.{IsPastCount, HostStopped, HostTold}
-use Rattle.sam_threads.specs.Handling.{Handled, HandledFront, TakesPiece, Serves, Ends, Halts}
+use Rattle.sam_threads.specs.WorkerEnds.{HostStopped, HostTold}
+use Rattle.sam_threads.specs.Handling.{Handled, HandledFront, TakesPiece, Serves, Ends}
 use Rattle.sam_threads.specs.declared.stop.Stop.{Stop}
 use Rattle.sam_threads.specs.declared.stop.Stop.TheVariants as stop
 use Rattle.sam_threads.specs.declared.ends.HostEnd.{HostEnd}
@@ -49,13 +49,9 @@ going_item refuses h j k p q r held next a b sender piece fed one takes is going
   (comes_more terminal fresh (bytes_of (items_of 0 a.taken)) going.messages held piece.items ms next going.came),
 )
 
-going_mark : (h j : PlainHost) (p q : PostView (Vec ℕ)) (held : Held) (a b : TakeView (Vec ℕ)) (sender : ℕ)
-    → TakesNext a (record { sender = sender; load = None }) b → Going h j p q held a.taken → Going h j p q held b.taken
-going_mark h j p q held a b sender takes going = grind (arith, items_of_mark)
-
 pub going_left : (h j : PlainHost) (p q : PostView (Vec ℕ)) (held : Held) (a b : TakeView (Vec ℕ)) (got : Got (Vec ℕ)) (sender : ℕ)
     → got ≡ Left sender → Answers a got b → Going h j p q held a.taken → Going h j p q held b.taken
-going_left h j p q held a b got sender is answers going = grind (arith, going_mark)
+going_left h j p q held a b got sender is answers going = grind (arith, items_of_mark)
 
 -- how many bytes came with a piece
 came_is : (bytes : List ℕ) (ms : List Tmesg) (held : Held) (fed piece : List ℕ) → fed ≡ piece → Came terminal fresh bytes ms held
@@ -89,15 +85,6 @@ serves_nothing refuses h p taken none stops = grind (arith, (handled_nothing h p
 pub gate_refuses : (refuses : Type 0) (h k : PlainHost) (p q : PostView (Vec ℕ)) (taken : List (Entry (Vec ℕ))) (s : Option Stop) → Serves refuses h k p q taken s → s ≡ Some stop.Gate → refuses
 gate_refuses refuses h k p q taken s serves is = grind arith
 
--- where nothing stopped it the end mark was taken
-pub serves_ended : (refuses : Type 0) (h k : PlainHost) (p q : PostView (Vec ℕ)) (taken : List (Entry (Vec ℕ))) (s : Option Stop) (senders : ℕ)
-    → senders ≡ 1 → Serves refuses h k p q taken s → s ≡ None → IsEnded senders taken
-serves_ended refuses h k p q taken s senders one serves is = grind arith
-
--- so many bytes came, or more
-past_count : (taken more all : List (Entry (Vec ℕ))) → all ≡ taken ++ more → 2 ^ 64 ≤ length (bytes_of (items_of 0 taken)) → IsPastCount all
-past_count taken more all is past = grind (arith, items_of-append, bytes_append, length-append)
-
 -- what came after the stop was dropped
 ends_dropped : (refuses : Type 0) (e : HostEnd) (taken more : List (Entry (Vec ℕ))) (handled : List Tmesg) (unput rest : List ℕ) (s : Option Stop)
     → e.take.taken ≡ taken ++ more → (s ≡ None → more ≡ []) → Ends refuses e.host taken handled unput rest s
@@ -105,7 +92,7 @@ ends_dropped : (refuses : Type 0) (e : HostEnd) (taken more : List (Entry (Vec �
 ends_dropped refuses e taken more handled unput rest (Some (stop.Host n)) all none next =
     let dropped = bytes_of (items_of 0 more) in
     (next.0, next.1 ++ dropped, next.2, next.3, ap (λ (x : List ℕ). x ++ dropped) next.4 ∙ append_assoc (frame_of terminal next.0) next.1 dropped, next.5, next.6)
-ends_dropped refuses e taken more handled unput rest s u w q = grind (arith, append-nil, past_count)
+ends_dropped refuses e taken more handled unput rest s u w q = grind (arith, append-nil, items_of-append, bytes_append, length-append)
 
 pub told_of : (refuses : Type 0) (up down : LineView) (h : PlainHost) (p q : PostView (Vec ℕ)) (taken more : List (Entry (Vec ℕ))) (e : HostEnd)
     → p ≡ new_post down 0 → h ≡ new_host e.files.items → (length e.files.items ≤ most_files) × All IsFile e.files.items

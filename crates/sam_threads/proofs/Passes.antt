@@ -1,5 +1,5 @@
 -- Where the host reader stands between two pieces.
-use Rattle.std.proofs.Common.{◌≡◌, ◌∙◌, ℕ, ◌+◌, ◌^◌, ◌≤◌, inl, inr, List, [], ◌∷◌, ◌++◌, length, Option, None, Some, Bool, refl, sym, ap, subst, append-nil, append_assoc, length-append, arith, rules}
+use Rattle.std.proofs.Common.{◌≡◌, ◌∙◌, ℕ, ◌+◌, ◌^◌, ◌≤◌, inl, inr, List, [], ◌∷◌, ◌++◌, length, Option, None, Some, Bool, ap, subst, append-nil, append_assoc, length-append, arith}
 use Rattle.std.specs.Global.{Vec}
 use Rattle.std.proofs.lemmas.List.{map-append}
 use Rattle.std.proofs.lemmas.List.Concat.{flat_map-append}
@@ -20,14 +20,10 @@ use Rattle.sam_threads.specs.Passing.{sent_on, Sends, SendsBefore, StopsBehind, 
 use Rattle.sam_threads.specs.WorkerEnds.{IsPastCount, ReaderTold, ReaderStopped}
 use Rattle.sam_threads.specs.declared.ends.ReaderEnd.{ReaderEnd}
 use Rattle.sam_threads.specs.declared.input.Input.{Input}
-use Rattle.sam_threads.specs.declared.input.Input.TheVariants.{Host}
 use Rattle.sam_threads.specs.declared.stop.Stop.{Stop}
 use Rattle.sam_threads.specs.declared.stop.Stop.TheVariants as stop
 
 -- ---- what is sent on
-
-pub sent_none : (p : PostView Input) → p ≡ sent_on p []
-sent_none p = ap (λ (l : List Input). let r : PostView Input = record p { put = l } in r) (sym (append-nil p.put))
 
 pub sent_both : (p q r : PostView Input) (fs gs : List HFrame) → q ≡ sent_on p fs → r ≡ sent_on q gs → r ≡ sent_on p (fs ++ gs)
 sent_both p q r fs gs a b = grind (arith, append_assoc, map-append)
@@ -69,7 +65,7 @@ pub record SoFar (t u : TakeView (Vec ℕ)) (p q : PostView Input) (k : Held) : 
   pub sent : q ≡ sent_on p passed
 
 pub begins : (t : TakeView (Vec ℕ)) (p : PostView Input) (k : Held) → t ≡ new_take t.line → k ≡ fresh → SoFar t t p p k
-begins t p k new empty = grind (arith, sent_none)
+begins t p k new empty = grind (arith, append-nil)
 
 bytes_more : (taken : List (Entry (Vec ℕ))) (e : Entry (Vec ℕ)) → bytes_of (items_of 0 (taken ++ e ∷ [])) ≡ bytes_of (items_of 0 taken) ++ bytes_of (items_of 0 (e ∷ []))
 bytes_more taken e = ap bytes_of (items_of-append 0 taken (e ∷ [])) ∙ flat_map-append (λ (v : Vec ℕ). v.items) (items_of 0 taken) (items_of 0 (e ∷ []))
@@ -78,9 +74,6 @@ bytes_more taken e = ap bytes_of (items_of-append 0 taken (e ∷ [])) ∙ flat_m
 bytes_taken : (u v : TakeView (Vec ℕ)) (i : ℕ) (piece : Vec ℕ) → u.line.senders ≡ 1 → TakesNext u (record { sender = i; load = Some piece }) v
     → bytes_of (items_of 0 v.taken) ≡ bytes_of (items_of 0 u.taken) ++ piece.items
 bytes_taken u v i piece one next = grind (arith, append-nil, bytes_more)
-
-bytes_marked : (u v : TakeView (Vec ℕ)) (i : ℕ) → TakesNext u (record { sender = i; load = None }) v → bytes_of (items_of 0 v.taken) ≡ bytes_of (items_of 0 u.taken)
-bytes_marked u v i next = grind (arith, bytes_more, append-nil)
 
 pub goes_on : (t u v : TakeView (Vec ℕ)) (p q r : PostView Input) (k e : Held) (i : ℕ) (piece : Vec ℕ) → t.line.senders ≡ 1
     → SoFar t u p q k → TakesNext u (record { sender = i; load = Some piece }) v → PassesPiece k piece.items e q r None → SoFar t v p r e
@@ -92,7 +85,7 @@ goes_on t u v p q r k e i piece one far next (frames, all, sent) = grind (
 )
 
 pub leaves : (t u v : TakeView (Vec ℕ)) (p q : PostView Input) (k : Held) (i : ℕ) → SoFar t u p q k → TakesNext u (record { sender = i; load = None }) v → SoFar t v p q k
-leaves t u v p q k i far next = grind (arith, bytes_marked)
+leaves t u v p q k i far next = grind (arith, bytes_more, append-nil)
 
 -- how many bytes came with a piece
 came_is : (bytes : List ℕ) (frames : List HFrame) (k : Held) (piece : List ℕ) → Came host fresh bytes frames k

@@ -1,5 +1,5 @@
 -- Each answer frees just the lock that its message took, by its last frame.
-use Rattle.std.proofs.Common.{◌≡◌, refl, sym, ap, ◌∙◌, subst, ℕ, Bool, true, false, List, [], ◌∷◌, ◌++◌, if◌then◌else◌, arith, rules}
+use Rattle.std.proofs.Common.{◌≡◌, refl, ap, ◌∙◌, ℕ, Bool, true, false, List, [], ◌∷◌, ◌++◌, arith}
 use Rattle.sam_runes.specs.Texts.{common_version}
 use Rattle.sam_host.specs.Host.{PlainHost, reply_to, reply_version, reply_startsnarf}
 use Rattle.sam_host.proofs.EachFrame.{EachFrame, IsTold, Freed, Nothing, Command, File, end_frames, lock_freed, reply_ends}
@@ -7,10 +7,10 @@ use Rattle.sam_term.specs.declared.lock.Lock.{Lock}
 use Rattle.sam_term.specs.declared.lock.Lock.TheVariants.{NoLock, CommandLock, FileLock}
 use Rattle.sam_term.specs.Events.{lock_of, freed_by, one_lock, all_freed}
 use Rattle.sam_mesg.specs.declared.tmesg.Tmesg.{Tmesg}
-use Rattle.sam_mesg.specs.declared.tmesg.Tmesg.TheVariants.{Tversion, Trequest, Ttype, Tstartsnarf}
+use Rattle.sam_mesg.specs.declared.tmesg.Tmesg.TheVariants.{Tversion, Tstartsnarf}
 use Rattle.sam_mesg.specs.declared.hmesg.Hmesg.{Hmesg}
-use Rattle.sam_mesg.specs.declared.hmesg.Hmesg.TheVariants.{Hversion, Hunlock, Hunlockfile, Hexit}
-use Rattle.sam_world.specs.Telling.{AnswersFree, AnswersFreeLast, FreesLast, is_answered}
+use Rattle.sam_mesg.specs.declared.hmesg.Hmesg.TheVariants.{Hversion}
+use Rattle.sam_world.specs.Telling.{AnswersFree, AnswersFreeLast, is_answered}
 
 -- ## The lock that an answer frees is the one that its message took
 

@@ -1,5 +1,5 @@
 -- Runs, step by step, and what a drain has done.
-use Rattle.std.proofs.Common.{◌≡◌, ◌⊎◌, inl, inr, refl, sym, ap, ◌∙◌, subst, ◌<◌, ◌+◌, ◌-◌, ℕ, zero, suc, Bool, true, List, [], ◌∷◌, take, length, Option, Some, None, arith, rules}
+use Rattle.std.proofs.Common.{◌≡◌, ◌⊎◌, inl, inr, refl, ap, ◌∙◌, subst, ◌<◌, ◌+◌, ◌-◌, ℕ, zero, suc, Bool, true, List, [], ◌∷◌, take, length, Option, Some, None, arith}
 use Rattle.std.specs.Prelude.{option_and_then, slice_index_or, not, if◌then◌else◌, MatchOption}
 use Rattle.std.proofs.lemmas.Option.{same_Some}
 use Rattle.sam_runes.specs.Texts.{is_empty}
@@ -31,10 +31,6 @@ rule a b c d = if not a then Some HostTake else if not b then Some TermTake else
 -- one event, and then the others
 drained_on : (n : ℕ) (w v : PlainWorld) (e : Event) → next_event w ≡ Some e → step_of w e ≡ Some v → drained (suc n) w ≡ drained n v
 drained_on n w v e next stepped = grind arith
-
--- where the event that applies is no step
-drained_off : (n : ℕ) (w : PlainWorld) (e : Event) → next_event w ≡ Some e → step_of w e ≡ None → drained (suc n) w ≡ None
-drained_off n w e next stuck = grind arith
 
 -- where nothing applies, all stays
 drained_still : (n : ℕ) (w : PlainWorld) → next_event w ≡ None → drained n w ≡ Some w
@@ -103,7 +99,7 @@ full_is_none n w v d = go (next_event v) refl d.fault
   where
     go : (o : Option Event) → next_event v ≡ o → MatchOption o (CountFull ≡ OutOfMemory) (λ e. IsFaultOf v e CountFull) → drained n w ≡ None
     go None none f = absurd (full_differs f)
-    go (Some e) next f = grind (arith, (drained_then d.done (suc (n - d.done - 1)) w v d.leads), (drained_off (n - d.done - 1) v e next (passing_stops v e f)), (passing_stops v e f))
+    go (Some e) next f = grind (arith, (drained_then d.done (suc (n - d.done - 1)) w v d.leads), (passing_stops v e f))
 
 -- why an act that was tried was not made says why nothing more was
 pub tried_in_vain : (w : PlainWorld) (why : StepFault) → is_empty w.up ≡ true → is_empty w.down ≡ true → IsFaultOf w Act why → IsNextFault w why

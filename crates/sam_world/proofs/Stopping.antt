@@ -1,19 +1,18 @@
 -- Why a step of the world stops: it wants memory, or a count is full. Neither side refuses the other.
-use Rattle.std.proofs.Common.{◌≡◌, ◌⊎◌, inl, inr, refl, ℕ, true, [], drop, Some, None, Result, Ok, Err, arith, rules}
+use Rattle.std.proofs.Common.{◌≡◌, ◌⊎◌, inl, inr, ℕ, true, drop, Some, Err, arith}
 use Rattle.sam_host.specs.Host.{answer}
 use Rattle.sam_host.specs.declared.fault.HostFault.{HostFault}
 use Rattle.sam_host.specs.declared.fault.HostFault.TheVariants as host
-use Rattle.sam_term.specs.Term.{PlainTerminal, Made, act_of, flush_of, take_of}
+use Rattle.sam_term.specs.Term.{PlainTerminal, act_of, flush_of, take_of}
 use Rattle.sam_term.specs.declared.fault.TermFault.{TermFault}
 use Rattle.sam_term.specs.declared.fault.TermFault.TheVariants as term
 use Rattle.sam_mesg.specs.declared.tmesg.Tmesg.{Tmesg}
 use Rattle.sam_mesg.specs.declared.hmesg.HFrame.{HFrame}
-use Rattle.sam_world.specs.World.{PlainWorld, new_world, after_compose, is_quiet, IsSettled, HasOneVersion, IsAhead}
+use Rattle.sam_world.specs.World.{PlainWorld, new_world, is_quiet, IsSettled, HasOneVersion, IsAhead}
 use Rattle.sam_world.specs.UnderWay.{head}
 use Rattle.sam_world.specs.Reached.{WasReached}
 use Rattle.sam_world.specs.Order.{IsInOrder, IsCountable}
-use Rattle.sam_world.specs.Counts.{FullCountsStop, is_term_full}
-use Rattle.sam_world.specs.declared.event.Event.TheVariants.{User, Act, Flush, HostTake, TermTake}
+use Rattle.sam_world.specs.Counts.{FullCountsStop}
 use Rattle.sam_world.specs.declared.event.StepFault.TheVariants.{OutOfMemory}
 use Rattle.sam_world.proofs.Keeping.{first_rest}
 use Rattle.sam_world.proofs.OrderLaws.{starts_in_order, runs_in_order, host_never_refuses, terminal_never_refuses, only_counts_stop, quiet_means_agreement, free_means_one_version, free_means_ahead}
@@ -56,9 +55,6 @@ flush_stops t why (inr a) = inr ((only_counts_stop t why).1 a)
 
 -- ## A count that would be passed
 
-no_compose : (w : PlainWorld) (r : Result Made TermFault) → is_term_full r ≡ true → after_compose w r ≡ None
-no_compose w r e = grind arith
-
 -- it stops the step
 pub passing_stops : FullCountsStop
-passing_stops e u w = grind (arith, no_compose)
+passing_stops e u w = grind arith

@@ -1,5 +1,5 @@
 -- Batches one behind the other.
-use Rattle.std.proofs.Common.{◌≡◌, ℕ, false, ◌==◌, List, [], ◌∷◌, ◌++◌, length, map, append-nil, arith}
+use Rattle.std.proofs.Common.{◌≡◌, List, [], ◌∷◌, ◌++◌, map, append-nil, arith}
 use Rattle.std.proofs.lemmas.List.{append_assoc}
 use Rattle.sam_world.specs.UnderWay.{joined, AreFilled}
 
@@ -11,6 +11,3 @@ pub filled-behind : {B M : Type 0} (items : B → List M) (batches : List B) (ba
 filled-behind items [] batch filled there = (there, tt)
 filled-behind items (b ∷ bs) batch filled there = (filled.0, filled-behind items bs batch filled.1 there)
 
--- a list of some length is not empty
-pub some_length : {M : Type 0} (n : ℕ) (xs : List M) → n ≡ length xs → (n == 0) ≡ false → xs ≡ [] → ⊥
-some_length n xs len some none = absurd (cc)

@@ -1,20 +1,18 @@
 -- In every state of every run, what is under way is within the limits; and one step more is a run.
-use Rattle.std.proofs.Common.{◌≡◌, refl, subst, List, [], ◌∷◌, ◌++◌, Option, Some, None, Result, Ok, Err, arith, rules}
+use Rattle.std.proofs.Common.{◌≡◌, refl, subst, List, [], ◌∷◌, ◌++◌, Option, Some, Result, Ok, Err, arith}
 use Rattle.std.specs.Prelude.{option_and_then, All, IsTrue}
 use Rattle.std.proofs.lemmas.Option.{same_Some}
 use Rattle.sam_host.specs.Host.{PlainHost, answer}
 use Rattle.sam_host.specs.Laws.{IsSound}
 use Rattle.sam_host.proofs.LastVersion.{fit_in_last}
 use Rattle.sam_host.proofs.SoundLaws.{starts_sound, stays_sound, frames_fit}
-use Rattle.sam_term.specs.Term.{Made, flush_of}
-use Rattle.sam_term.specs.declared.fault.TermFault.{TermFault}
 use Rattle.sam_mesg.specs.HostKinds.{fits_h}
 use Rattle.sam_mesg.specs.declared.tmesg.Tmesg.{Tmesg}
 use Rattle.sam_mesg.specs.declared.hmesg.HFrame.{HFrame}
-use Rattle.sam_world.specs.World.{PlainWorld, new_world, step_of, run_of, after_compose, after_answer, host_takes}
+use Rattle.sam_world.specs.World.{PlainWorld, new_world, step_of, run_of, after_answer, host_takes}
 use Rattle.sam_world.specs.Reached.{WasReached}
 use Rattle.sam_world.specs.declared.event.Event.{Event}
-use Rattle.sam_world.specs.declared.event.Event.TheVariants.{User, Act, Flush, HostTake, TermTake}
+use Rattle.sam_world.specs.declared.event.Event.TheVariants.{HostTake}
 use Rattle.sam_host.specs.declared.fault.HostFault.{HostFault}
 use Rattle.sam_world.proofs.RunLaws.{run_keeps}
 
@@ -44,9 +42,6 @@ answer_keeps P keeps w next (Err why) m a s e = absurd (cc)
 answer_keeps P keeps w next (Ok r) m a s e =
     subst (λ x. P x.host) (same_Some (record w { host = r.0; down = w.down ++ r.1 }) next e) (keeps w.host r.0 m r.1 a s)
 
-compose_keeps : (P : PlainHost → Type 0) (w next : PlainWorld) (r : Result Made TermFault) → P w.host → after_compose w r ≡ Some next → P next.host
-compose_keeps P w next r e u = grind (arith, same_Some)
-
 pub host_step : (P : PlainHost → Type 0) → ((h g : PlainHost) (m : Tmesg) (frames : List HFrame) → answer h m ≡ Ok (g, frames) → P h → P g)
     → (w : PlainWorld) (e : Event) (next : PlainWorld) → P w.host → step_of w e ≡ Some next → P next.host
 host_step P keeps w HostTake next s e = go w.up e
@@ -54,7 +49,7 @@ host_step P keeps w HostTake next s e = go w.up e
     go : (ms : List Tmesg) → host_takes w ms ≡ Some next → P next.host
     go [] q = absurd (cc)
     go (m ∷ ms) q = answer_keeps P keeps (record w { up = ms }) next (answer w.host m) m refl s q
-host_step P u w e next q y = grind (arith, compose_keeps)
+host_step P u w e next q y = grind arith
 
 -- ## The host of a world is sound
 

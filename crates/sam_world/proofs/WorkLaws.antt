@@ -1,10 +1,9 @@
 -- The host's work file is open at the start, and stays so with each file that is added and each answer.
-use Rattle.std.proofs.Common.{◌≡◌, refl, ap, ◌∙◌, ℕ, zero, suc, true, List, [], ◌∷◌, Option, Some, None, arith, rules}
+use Rattle.std.proofs.Common.{◌≡◌, refl, ap, ◌∙◌, ℕ, true, List, Option, None, arith}
 use Rattle.std.specs.Prelude.{unwrap_or}
-use Rattle.sam_runes.specs.Slots.{Slots, slot}
 use Rattle.sam_runes.specs.Checks.{first_of_checks}
 use Rattle.sam_runes.proofs.SlotLaws.{slot-put_same, slot-map, slot-free_other}
-use Rattle.sam_text.specs.Files.{opened_file, without_file, PlainFile, PlainFiles, PlainOutcome, blank_file, file_at, put_file, put_outcome, committed, file_after, announce_all}
+use Rattle.sam_text.specs.Files.{opened_file, PlainFile, PlainFiles, PlainOutcome, blank_file, file_at, put_file, put_outcome, committed, announce_all}
 use Rattle.sam_host.proofs.Keeping.{IsKept, reply_keeps}
 use Rattle.sam_host.proofs.SoundLaws.{answer_is, of_answer}
 use Rattle.sam_host.specs.Host.{PlainHost, host_checks, reply_to}
@@ -29,18 +28,11 @@ work-committed fs o w = go o.file
 
 -- ## Each change
 
-opened-all-announced : (ss : Slots PlainFile) (f : ℕ) → (unwrap_or (slot (announce_all ss) f) blank_file).opened ≡ (unwrap_or (slot ss f) blank_file).opened
-opened-all-announced ss f = grind (arith, slot-map)
-
 work-announced : (fs : PlainFiles) → IsWorkOpen fs → IsWorkOpen (record fs { slots = announce_all fs.slots })
-work-announced fs w = grind (arith, opened-all-announced)
-
--- a file that is closed is the work file no longer
-work-close : (fs : PlainFiles) (f : ℕ) → IsWorkOpen fs → IsWorkOpen (without_file fs f)
-work-close fs f w = grind (arith, slot-free_other)
+work-announced fs w = grind (arith, slot-map)
 
 work_kept : IsKept IsWorkOpen
-work_kept = grind (arith, work-announced, open-there, work-put, work-close, work-committed)
+work_kept = grind (arith, work-announced, open-there, work-put, work-committed, slot-free_other)
 
 reply_work : (h : PlainHost) (m : Tmesg) → first_of_checks (host_checks h m) ≡ None → IsWorkOpen h.files → IsWorkOpen (reply_to h m).0.files
 reply_work h m checked w = reply_keeps IsWorkOpen work_kept h m checked (λ f is. open-there h.files f (opened_file (file_at h.files f)) refl) w

@@ -1,9 +1,10 @@
+use Rattle.sam_rasp.proofs.Splices.{take-below}
 use Rattle.std.proofs.Common.{arith}
-use Rattle.sam_rasp.proofs.Marking.{kept_before, moved_behind}
+use Rattle.sam_rasp.proofs.Marking.{moved_behind}
 use Rattle.sam_rasp.proofs.marks.moved.Goals as goal
 
 pub returns-then-mark-change : goal.returns-then-mark-change
-returns-then-mark-change c xs ys change begin = grind (arith, kept_before)
+returns-then-mark-change c xs ys change begin = grind (arith, take-below)
 
 pub returns : goal.returns
 returns c xs ys change begin =

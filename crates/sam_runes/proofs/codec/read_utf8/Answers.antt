@@ -1,15 +1,16 @@
+use Rattle.std.proofs.lemmas.Str.{length-encode}
 use Rattle.std.proofs.lemmas.Grind.{common_steps}
-use Rattle.std.proofs.Common.{arith, length}
+use Rattle.std.proofs.Common.{arith, length, length-drop}
 use Rattle.std.proofs.lemmas.Bool.Decides.{nat_tests}
 use Rattle.std.proofs.lemmas.Slice.{between_to_end}
-use Rattle.sam_runes.proofs.Codes.{read-more, read-shorter, read-all, left-none}
+use Rattle.sam_runes.proofs.Codes.{read-more, left-none}
 use Rattle.sam_runes.proofs.codec.read_utf8.Goals as goal
 
 pub returns-in_default-first_rune : goal.returns-in_default-first_rune
 returns-in_default-first_rune c = left-none c.loop-rest.runes.items c.args.bytes.now c.loop-rest.rest.now c.loop-rest.invariant c.in_default-first_rune.ensures (grind (arith, nat_tests))
 
 pub loop-rest-smaller : goal.loop-rest-smaller
-loop-rest-smaller c = grind (arith, read-shorter, between_to_end)
+loop-rest-smaller c = grind (arith, between_to_end, length-encode, length-drop)
 
 pub loop-rest-preserved : goal.loop-rest-preserved
 loop-rest-preserved c =
@@ -18,4 +19,4 @@ loop-rest-preserved c =
     (read-more l.runes.items l.rest.now _ c.args.bytes.now c.in-Some.rune c.in-Some.len l.invariant c.in-Some.ensures.1 (between_to_end l.rest.now c.in-Some.len (length l.rest.now) (omega arith)))
 
 pub returns : goal.returns
-returns c = grind (arith, common_steps, read-all, nat_tests)
+returns c = grind (arith, common_steps, nat_tests)

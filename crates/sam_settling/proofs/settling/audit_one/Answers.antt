@@ -1,9 +1,9 @@
 use Rattle.std.proofs.Common.{arith, rules}
-use Rattle.sam_settling.proofs.SettlingLists.{one_post, pushed_one, audited_line, audited_few, audited_count}
+use Rattle.sam_settling.proofs.SettlingLists.{pushed_one, audited_line, audited_few, audited_count}
 use Rattle.sam_settling.proofs.settling.audit_one.Goals as goal
 
 pub audit_within-found-requires-clause-posts : goal.audit_within-found-requires-clause-posts
-audit_within-found-requires-clause-posts g c = grind (arith, pushed_one, one_post)
+audit_within-found-requires-clause-posts g c = grind (arith, pushed_one)
 
 pub count-requires : goal.count-requires
 count-requires g c = search (rules, arith, audited_few)

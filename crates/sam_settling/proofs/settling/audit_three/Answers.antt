@@ -1,9 +1,9 @@
 use Rattle.std.proofs.Common.{arith, rules}
-use Rattle.sam_settling.proofs.SettlingLists.{three_posts, pushed_three, audited_line, audited_few, audited_count}
+use Rattle.sam_settling.proofs.SettlingLists.{pushed_three, audited_line, audited_few, audited_count}
 use Rattle.sam_settling.proofs.settling.audit_three.Goals as goal
 
 pub audit_within-found-requires-clause-posts : goal.audit_within-found-requires-clause-posts
-audit_within-found-requires-clause-posts g c = grind (arith, pushed_three, three_posts)
+audit_within-found-requires-clause-posts g c = grind (arith, pushed_three)
 
 pub count-requires : goal.count-requires
 count-requires g c = search (rules, arith, audited_few)

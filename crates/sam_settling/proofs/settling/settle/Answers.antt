@@ -1,5 +1,6 @@
+use Rattle.sam_settling.proofs.SettlingClauses.{is_drained}
 use Rattle.std.proofs.Common.{arith, rules}
-use Rattle.sam_settling.proofs.SettlingLaws.{comes_headline, comes_states, comes_streams, comes_users, comes_drained, comes_full, comes_misses, comes_whole}
+use Rattle.sam_settling.proofs.SettlingLaws.{comes_headline, comes_states, comes_streams, comes_users, comes_full, comes_misses, comes_whole}
 use Rattle.sam_settling.proofs.settling.settle.Goals as goal
 
 pub returns-in-Ok-clause-headline : goal.returns-in-Ok-clause-headline
@@ -15,7 +16,7 @@ pub returns-in-Ok-clause-users : goal.returns-in-Ok-clause-users
 returns-in-Ok-clause-users g c = grind (arith, comes_users)
 
 pub returns-in-Ok-clause-drained : goal.returns-in-Ok-clause-drained
-returns-in-Ok-clause-drained g c = search (rules, arith, comes_drained)
+returns-in-Ok-clause-drained g c = search (rules, arith, is_drained)
 
 pub returns-in-Ok-clause-counted : goal.returns-in-Ok-clause-counted
 returns-in-Ok-clause-counted g c = search (rules, arith, comes_full)

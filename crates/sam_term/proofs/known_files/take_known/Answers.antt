@@ -1,10 +1,9 @@
 use Rattle.std.proofs.Common.{arith, sym}
 use Rattle.sam_runes.proofs.SlotLaws.{slot-read, free_slot-set, slot_given}
-use Rattle.sam_term.proofs.SlotSteps.{not_none}
 use Rattle.sam_term.proofs.known_files.take_known.Goals as goal
 
 pub unreachable-requires : goal.unreachable-requires
-unreachable-requires c = grind (arith, not_none)
+unreachable-requires c = grind (arith, slot-read, slot_given)
 
 pub returns-clause-known : goal.returns-clause-known
 returns-clause-known c = grind (arith, slot-read)

@@ -1,7 +1,7 @@
 use Rattle.std.proofs.lemmas.Grind.{common_steps}
 use Rattle.std.proofs.Common.{rules, ◌≡◌, subst, sym, Err, arith}
 use Rattle.sam_ends.specs.TermEnds.{PlainTermEnd, FeedsIdle, Feeds}
-use Rattle.sam_ends.proofs.TermEndCalls.{call_brought, call_failed, fed_not, fed}
+use Rattle.sam_ends.proofs.TermEndCalls.{call_brought, call_failed, fed}
 use Rattle.sam_ends.proofs.term_end.TermEnd.feed.Goals as goal
 
 pub returns-in_err-resume : goal.returns-in_err-resume
@@ -12,7 +12,7 @@ returns-in_err-resume c =
     subst (λ r. Feeds c.args.self.now c.args.piece.now r g) (sym same) (call_failed c.args.self.now g why (λ m. FeedsIdle m c.args.piece.now (Err why) g) c.in_err-resume.ensures)
 
 pub returns-in_err-take_in : goal.returns-in_err-take_in
-returns-in_err-take_in c = grind (arith, call_brought, fed_not)
+returns-in_err-take_in c = grind (arith, call_brought)
 
 pub returns : goal.returns
 returns c = grind (arith, common_steps, call_brought, fed)

@@ -1,6 +1,6 @@
 use Rattle.std.proofs.Common.{rules, ◌≡◌, subst, sym, Err, arith}
 use Rattle.sam_ends.specs.TermEnds.{PlainTermEnd, FlushesIdle, Flushes}
-use Rattle.sam_ends.proofs.TermEndCalls.{call_brought, call_failed, flush_not, flushed_on}
+use Rattle.sam_ends.proofs.TermEndCalls.{call_brought, call_failed, flush_not}
 use Rattle.sam_ends.proofs.term_end.TermEnd.flush.Goals as goal
 
 pub returns-in_err-resume : goal.returns-in_err-resume
@@ -19,4 +19,4 @@ returns-in_err-compose_unsent c =
     (call_brought c.args.self.now m k (Err why) (λ x. FlushesIdle x (Err why) k) c.in_ok-resume.ensures (flush_not m k why c.in_err-compose_unsent.ensures))
 
 pub returns : goal.returns
-returns c = grind (arith, call_brought, flushed_on)
+returns c = grind (arith, call_brought)

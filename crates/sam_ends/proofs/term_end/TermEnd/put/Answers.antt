@@ -1,6 +1,6 @@
 use Rattle.std.proofs.Common.{Err, arith}
 use Rattle.sam_ends.specs.TermEnds.{PlainTermEnd, PutsIdle}
-use Rattle.sam_ends.proofs.TermEndCalls.{call_brought, call_failed, put_not, put_held}
+use Rattle.sam_ends.proofs.TermEndCalls.{call_brought, call_failed}
 use Rattle.sam_ends.proofs.term_end.TermEnd.put.Goals as goal
 
 pub returns-in_err-resume : goal.returns-in_err-resume
@@ -10,7 +10,7 @@ returns-in_err-resume c =
     grind (arith, (call_failed c.args.self.now g why (λ m. PutsIdle m c.args.event (Err why) g) c.in_err-resume.ensures))
 
 pub returns-in_err-hold : goal.returns-in_err-hold
-returns-in_err-hold c = grind (arith, call_brought, put_not)
+returns-in_err-hold c = grind (arith, call_brought)
 
 pub returns : goal.returns
-returns c = grind (arith, call_brought, put_held)
+returns c = grind (arith, call_brought)
