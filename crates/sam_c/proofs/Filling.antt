@@ -1,8 +1,8 @@
 -- A buffer that is filled rune by rune.
-use Rattle.std.proofs.Common.{◌≡◌, ◌∙◌, refl, sym, ap, subst, ℕ, ◌+◌, ◌<◌, ◌≤◌, List, [], ◌∷◌, ◌++◌, length, length-append, take, drop, Some, None, encode_utf8, arith, rules}
+use Rattle.std.proofs.Common.{◌≡◌, ◌∙◌, refl, sym, ap, ℕ, ◌+◌, ◌<◌, ◌≤◌, List, ◌++◌, length, length-append, take, drop, Some, None, encode_utf8, arith}
 use Rattle.std.specs.Str.{encode_utf8_all}
 use Rattle.std.proofs.Math.Seq.{take-append_seam, drop-append-add}
-use Rattle.std.proofs.lemmas.List.{append-nil, drop-drop, length-drop, take_all}
+use Rattle.std.proofs.lemmas.List.{append-nil, drop-drop, length-drop}
 use Rattle.std.proofs.Math.ListN.{get_or}
 use Rattle.sam_runes.proofs.Codes.{spelled-more, counted-more}
 use Rattle.sam_c.specs.Buffers.{Puts, Fills}

@@ -1,5 +1,5 @@
 -- An event that brings a text, and what a slot holds.
-use Rattle.std.proofs.Common.{◌≡◌, refl, sym, ap, ℕ, zero, suc, true, List, [], ◌∷◌, Option, Some, None, inl, slice_get, arith, rules}
+use Rattle.std.proofs.Common.{◌≡◌, ℕ, true, List, Option, arith}
 use Rattle.std.specs.Prelude.{is_some}
 use Rattle.std.specs.Str.{encode_utf8_all}
 use Rattle.sam_runes.specs.Reading.{AreRunes}

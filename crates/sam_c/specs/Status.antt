@@ -1,5 +1,5 @@
 -- The numbers by which C knows what came of a call: enum sam_status of include/sam.h.
-use Rattle.std.specs.Prelude.{ℕ, ◌+◌, List, Result, Ok, Err}
+use Rattle.std.specs.Prelude.{ℕ, List, Result, Ok, Err}
 use Rattle.sam_runes.specs.declared.codec.ReadFault.{ReadFault}
 use Rattle.sam_runes.specs.declared.codec.ReadFault.TheVariants as reading
 use Rattle.sam_host.specs.declared.fault.HostFault.{HostFault}

@@ -1,10 +1,10 @@
 -- What the calls of a terminal do.
-use Rattle.std.specs.Prelude.{◌≡◌, ◌⊎◌, ℕ, List, [], ◌∷◌, length, Bool, ◌||◌, nat_lt, Option, option_map, Some, None, Result, Ok, Err}
+use Rattle.std.specs.Prelude.{◌≡◌, ◌⊎◌, ℕ, List, [], ◌∷◌, length, Bool, ◌||◌, nat_lt, Option, option_map, Some, None, Result}
 use Rattle.std.specs.Str.{encode_utf8_all, IsUtf8}
 use Rattle.sam_runes.specs.Reading.{AreRunes}
 use Rattle.sam_runes.specs.Slots.{slot}
 use Rattle.sam_rasp.specs.Rasp.{hole_within}
-use Rattle.sam_term.specs.Term.{PlainTerminal, view_end, window_at, window_of}
+use Rattle.sam_term.specs.Term.{view_end, window_at, window_of}
 use Rattle.sam_term.specs.declared.event.UserEvent.{UserEvent}
 use Rattle.sam_term.specs.declared.fault.Refusal.{Refusal}
 use Rattle.sam_term.specs.declared.records.KnownFile.{KnownFile}

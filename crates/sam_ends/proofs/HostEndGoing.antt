@@ -82,15 +82,12 @@ goes_further e l k g gone first is = grind (arith, (first_gone e l k gone first)
 stops : (e l : PlainHostEnd) (ms : List Tmesg) (why : HostStop) → Answers e ms l → Answers e ms (stopped l why)
 stops e l ms why p = grind arith
 
-all_answered : (e l : PlainHostEnd) → (gone : HasGone e l) → l.waiting ≡ [] → Answers e e.waiting l
-all_answered e l gone none = grind (arith, append-nil)
-
 pub not_written : (e l k g : PlainHostEnd) (why : EndFault HostStop) → HasGone e l → AnswersFirst l k → Writes k (Err why) g → GoesOn e (Err why) g
 not_written e l k g why gone first writes = grind (arith, (first_gone e l k gone first))
 
 pub ends : (e l g : PlainHostEnd) (result : Answer) → HasGone e l → l.waiting ≡ [] → Ends l result g → GoesOn e result g
-ends e l g (Ok done) gone none (behind, is) = grind (arith, all_answered)
-ends e l g (Err (fault.Stopped (stop.Stream why))) gone none (behind, is) = grind (arith, (all_answered e l gone none))
+ends e l g (Ok done) gone none (behind, is) = grind (arith, append-nil)
+ends e l g (Err (fault.Stopped (stop.Stream why))) gone none (behind, is) = grind (arith, append-nil)
 ends e l g result u w q = grind arith
 
 -- ## Feeding

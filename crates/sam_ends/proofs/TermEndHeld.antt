@@ -1,11 +1,11 @@
 -- Events leave the held ones only as they are done or refused, one at a time; frames and flushes leave them all.
 use Rattle.std.proofs.Common.{◌≡◌, refl, ap, ◌∙◌, ℕ, ◌+◌, Bool, List, [], ◌∷◌, length, Option, Some, None, Result, Ok, Err, if◌then◌else◌, arith}
 use Rattle.sam_mesg.specs.declared.tmesg.Tmesg.{Tmesg}
-use Rattle.sam_mesg.specs.declared.tmesg.Tmesg.TheVariants.{Tcut, Tack}
+use Rattle.sam_mesg.specs.declared.tmesg.Tmesg.TheVariants.{Tack}
 use Rattle.sam_mesg.specs.declared.hmesg.Hmesg.{Hmesg}
 use Rattle.sam_mesg.specs.declared.hmesg.Hmesg.TheVariants.{Hcheck, Hunlockfile, Hack}
 use Rattle.sam_mesg.specs.declared.hmesg.HFrame.{HFrame}
-use Rattle.sam_term.specs.Term.{PlainTerminal, Made, act_of, act_on, decided, if_countable, flush_of, flushed, take_of, event_outcome, frame_outcome, all_composed, composed, sends, sends_if, requested, wanted, unchanged, cuts_dot, has_empty_dot, made_by_type, made_by_cut, made_by_paste, made_by_snarf, made_by_view, window_at, cut_rasp, took_bindname, took_data, took_grow, took_growdata, took_cut, took_unlockfile, took_close, took_exit}
+use Rattle.sam_term.specs.Term.{PlainTerminal, Made, act_of, act_on, decided, if_countable, flush_of, flushed, take_of, event_outcome, frame_outcome, all_composed, composed, sends, sends_if, requested, wanted, unchanged, has_empty_dot, made_by_type, made_by_cut, made_by_paste, made_by_snarf, made_by_view, cut_rasp, took_bindname, took_data, took_grow, took_growdata, took_cut, took_unlockfile, took_close, took_exit}
 use Rattle.sam_term.specs.declared.event.Verdict.{Verdict}
 use Rattle.sam_term.specs.declared.event.UserEvent.{UserEvent}
 use Rattle.sam_term.specs.declared.event.Acted.{Acted}
@@ -45,12 +45,9 @@ requested-keeps t f = go (wanted t f)
 dot-cut : (t : PlainTerminal) (f p q : ℕ) (ms : List Tmesg) → held_in (if has_empty_dot t f then (t, []) else sends t (λ u. cut_rasp u f p q) ms) ≡ t.held
 dot-cut t f p q ms = either-keeps (has_empty_dot t f) (t, []) (sends t (λ u. cut_rasp u f p q) ms) t.held refl (sends-keeps t (λ u. cut_rasp u f p q) ms (λ u. refl))
 
-cuts-keeps : (t : PlainTerminal) (f : ℕ) → held_in (cuts_dot t f) ≡ t.held
-cuts-keeps t f = let d = (window_at t f).dot in dot-cut t f d.0 d.1 (Tcut f d.0 d.1 ∷ [])
-
 type-keeps : (t : PlainTerminal) (f : ℕ) (s : List ℕ) → held_in (made_by_type t f s) ≡ t.held
 unfolding made_by_type
-type-keeps t f s = grind (arith, cuts-keeps, flushed-held)
+type-keeps t f s = grind (arith, flushed-held)
 
 -- what leaves the held events
 record Leaves (t : PlainTerminal) (made : Made) : Type 0 where
@@ -61,7 +58,7 @@ leaves-plain t ms = record { held = sends-plain t ms }
 
 pub event_keeps : (t : PlainTerminal) (e : UserEvent) → held_in (event_outcome t e) ≡ t.held
 unfolding made_by_cut made_by_paste made_by_snarf made_by_view
-event_keeps t e = grind (arith, type-keeps, dot-cut, sends-plain, cuts-keeps, either-keeps, requested-keeps, flushed-held, leaves-plain)
+event_keeps t e = grind (arith, type-keeps, dot-cut, sends-plain, either-keeps, requested-keeps, flushed-held, leaves-plain)
 
 pub frame_keeps : (t : PlainTerminal) (m : Hmesg) → held_in (frame_outcome t m) ≡ t.held
 unfolding took_bindname took_data took_grow took_growdata took_cut took_unlockfile took_close took_exit

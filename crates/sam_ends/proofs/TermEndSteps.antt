@@ -8,7 +8,7 @@ use Rattle.sam_mesg.specs.declared.hmesg.HFrame.{HFrame}
 use Rattle.sam_frame.specs.Direction.{host}
 use Rattle.sam_frame.specs.Framing.{Held}
 use Rattle.sam_term.specs.Fitting.{composed_in}
-use Rattle.sam_term.specs.Term.{PlainTerminal, act_of, flush_of, take_of}
+use Rattle.sam_term.specs.Term.{PlainTerminal, act_of, take_of}
 use Rattle.sam_term.specs.declared.event.Acted.{Acted}
 use Rattle.sam_term.specs.declared.event.Acted.TheVariants.{Idle, Locked}
 use Rattle.sam_term.proofs.ActLaws.{idle_still, locked_still}
@@ -21,7 +21,7 @@ use Rattle.sam_ends.specs.declared.fault.TermStop.TheVariants as stop
 use Rattle.sam_ends.specs.declared.fault.EndFault.{EndFault}
 use Rattle.sam_ends.specs.declared.fault.EndFault.TheVariants as fault
 use Rattle.sam_ends.proofs.TermEndHeld.{act_held, take_held}
-use Rattle.sam_ends.proofs.TermEndStamps.{act_counts, flush_counts}
+use Rattle.sam_ends.proofs.TermEndStamps.{act_counts}
 
 pub first_read : (frames : List HFrame) (frame : HFrame) → slice_get frames 0 ≡ Some frame → frames ≡ frame ∷ drop 1 frames
 first_read frames frame e = grind arith
@@ -67,13 +67,9 @@ refused_number e u acted act settled = let fewer = act_held e.term u acted act s
 pub acted_stamped : (e : PlainTermEnd) (u : PlainTerminal) (acted : Acted) → IsSound e → act_of e.term ≡ Ok (u, acted) → e.seen ≤ u.sent
 acted_stamped e u acted s act = omega (arith, act_counts e.term u acted act, s.stamped)
 
-pub flushed_stamped : (e : PlainTermEnd) (u : PlainTerminal) (ms : List Tmesg) → IsSound e → flush_of e.term ≡ Ok (u, ms) → e.seen ≤ u.sent
-flushed_stamped e u ms s flushed = omega (arith, flush_counts e.term u ms flushed, s.stamped)
-
 -- ## Faults
 
 -- the terminal did not receive the oldest frame
 pub receive_failed : (e h g : PlainTermEnd) (frame : HFrame) (rest : List HFrame) (u : PlainTerminal) (why : EndFault TermStop) → e.waiting ≡ frame ∷ rest
     → Tries {A = List Tmesg} e.term (take_of e.term frame) (Err why) u → h ≡ record e { term = u } → g ≡ stopped_by h why → Receives e (Err why) g
 receive_failed e h g frame rest u why w q y z = grind arith
-

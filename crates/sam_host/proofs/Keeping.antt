@@ -42,9 +42,6 @@ neither a b e = grind arith
 range_allowed : (h : PlainHost) (f p q : ℕ) → first_of_checks (unknown h f ∷ not_opened h f ∷ no_range h f p q ∷ []) ≡ None → InRange (length (file_at h.files f).text) (p, q)
 range_allowed h f p q e = grind arith
 
-place_allowed : (h : PlainHost) (f p : ℕ) → first_of_checks (unknown h f ∷ not_opened h f ∷ past_end h f p ∷ []) ≡ None → p ≤ length (file_at h.files f).text
-place_allowed h f p e = grind arith
-
 searched_for_within : (pattern : Option (List ℕ)) (t : List ℕ) (q : ℕ) → q ≤ length t → IfSome (searched_for pattern t q) (InRange (length t))
 searched_for_within pattern t q e = grind (arith, searched_within)
 
@@ -84,7 +81,7 @@ reply_keeps P k h (Ttype f p s) e started all =
     let line = line_to (file_at typed.files f).text (p + length s - 1) in
     keeps-if P ((f == 0) && ends_line s) (reply_line typed [] line) (typed, []) (λ b. keeps-line P k typed [] line there) (λ b. there)
 reply_keeps P k h (Tcut f p q) e started all = k.cut h.files f p q (range_allowed h f p q e) all
-reply_keeps P k h (Tpaste f p) e started all = grind (arith, keeps-if, place_allowed, ltb-false, neither)
+reply_keeps P k h (Tpaste f p) e started all = grind (arith, keeps-if, ltb-false, neither)
 reply_keeps P k h (Tsnarf f p q) e started all = k.snarfed h.files (part (file_at h.files f).text p q) all
 reply_keeps P k h Tstartnewfile e started all = grind (arith, keeps-if)
 reply_keeps P k h (Twrite f) e started all = k.written h.files f all
@@ -96,6 +93,6 @@ reply_keeps P k h (Tsend f p q) e started all =
     let shown = with_files h (after_print h.files s) in
     keeps-if P ((p == q) || not (has_room h.files s)) (h, _) (reply_line shown (printed h.files s) (last_line s)) (λ b. all)
     (λ b. keeps-line P k shown (printed h.files s) (last_line s) (k.printed h.files s all))
-reply_keeps P k h (Tdclick f p) e started all = grind (arith, word_at_within, place_allowed)
+reply_keeps P k h (Tdclick f p) e started all = grind (arith, word_at_within)
 reply_keeps P k h (Tsetsnarf s) e started all = k.snarfed h.files s all
 reply_keeps P k h _ e started all = all

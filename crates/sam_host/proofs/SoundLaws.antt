@@ -2,7 +2,7 @@
 use Rattle.std.proofs.Common.{◌≡◌, ℕ, suc, ◌+◌, ◌≤◌, List, [], ◌∷◌, length, Option, None, Ok, Err, refl, ap, subst, arith}
 use Rattle.std.specs.Prelude.{unwrap_or, All}
 use Rattle.std.proofs.lemmas.List.Elements.{All-nil, All-cons}
-use Rattle.sam_runes.specs.Texts.{Range, most_in_name}
+use Rattle.sam_runes.specs.Texts.{most_in_name}
 use Rattle.sam_runes.specs.Slots.{slot}
 use Rattle.sam_runes.specs.Checks.{first_of_checks}
 use Rattle.sam_runes.proofs.CheckLaws.{none_holds}
@@ -14,7 +14,7 @@ use Rattle.sam_mesg.specs.TerminalKinds.{after_t}
 use Rattle.sam_mesg.specs.declared.tmesg.Tmesg.{Tmesg}
 use Rattle.sam_mesg.specs.declared.hmesg.Hmesg.{Hmesg}
 use Rattle.sam_mesg.specs.declared.hmesg.HFrame.{HFrame}
-use Rattle.sam_host.specs.Host.{PlainHost, IsVersion, Reply, Answer, answer, counted, stamped, host_checks, new_file, given_slots, reply_found, reply_to}
+use Rattle.sam_host.specs.Host.{PlainHost, IsVersion, Reply, Answer, answer, counted, stamped, host_checks, new_file, given_slots, reply_to}
 use Rattle.sam_host.specs.Laws.{AreNamesShort, IsSound, AreGiven, StartsSound, StaysSound, FramesFit, AnswersAreCounted, IsSilentWhereDone, FitInPlace}
 use Rattle.sam_host.proofs.EachFrame.{replies_opened}
 use Rattle.sam_host.proofs.Keeping.{IsKept, reply_keeps}
@@ -66,14 +66,11 @@ reply_fits h m e all = reply_keeps AreFit fits_kept h m e (λ f is. fit-put h.fi
 abbrev Stands : PlainHost → Reply → Type 0
 Stands h r = (r.0.taken ≡ h.taken) × (r.0.version ≡ h.version)
 
-stands-found : (h : PlainHost) (f : ℕ) (d : Option Range) (frames : List Hmesg) → Stands h (reply_found h f d frames)
-stands-found h f d frames = grind arith
-
 -- no reply changes the count, and only that to Tversion the version
 pub reply_stands : (h : PlainHost) (m : Tmesg) → first_of_checks (host_checks h m) ≡ None
     → ((reply_to h m).0.taken ≡ h.taken) × ((reply_to h m).0.version ≡ after_t h.version m)
 unfolding replies_opened
-reply_stands h m e = grind (arith, none_holds, stands-found)
+reply_stands h m e = grind (arith, none_holds)
 
 reply_version-is : (h : PlainHost) (m : Tmesg) → first_of_checks (host_checks h m) ≡ None → IsVersion h.version → IsVersion (reply_to h m).0.version
 unfolding replies_opened

@@ -15,10 +15,6 @@ use Rattle.sam_host.specs.Typing.{typed, typed_line, sent}
 
 -- ## Putting the command file
 
--- a command file that was put is there, is what was put, and gives way to the next
-pub put_there : (h g : PlainHost) (x : PlainFile) → g ≡ with_file h 0 x → has_file g.files 0 ≡ true
-put_there h g x e = ap (λ (g : PlainHost). has_file g.files 0) e ∙ ap is_some (slot-put_same h.files.slots 0 x)
-
 pub put_here : (h g : PlainHost) (x : PlainFile) → g ≡ with_file h 0 x → file_at g.files 0 ≡ x
 put_here h g x e = ap (λ (g : PlainHost). file_at g.files 0) e ∙ ap (λ s. unwrap_or s blank_file) (slot-put_same h.files.slots 0 x)
 
@@ -38,7 +34,7 @@ del_ins t s p h = grind (arith, length-take, length-append, append_assoc, take_a
 -- what was typed can be taken out again, which gives the old text
 pub typed_ready : (h g : PlainHost) (p : ℕ) (s : List ℕ) → g ≡ typed h p s → p ≤ length (file_at h.files 0).text
     → (has_file g.files 0 ≡ true) × (p + length s ≤ length (file_at g.files 0).text) × (del (file_at g.files 0).text p (p + length s) ≡ (file_at h.files 0).text)
-typed_ready h g p s e place = grind (arith, put_here, put_there, length-ins, del_ins)
+typed_ready h g p s e place = grind (arith, put_here, length-ins, del_ins, slot-put_same)
 
 abbrev host_with : PlainHost → Slots PlainFile → PlainHost
 host_with h ss = with_files h (record h.files { slots = ss })

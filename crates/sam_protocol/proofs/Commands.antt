@@ -1,6 +1,6 @@
 -- The messages that take the command lock: from settled to settled.
 use Rattle.std.proofs.lemmas.Grind.{common_steps}
-use Rattle.std.proofs.Common.{◌≡◌, ℕ, ◌+◌, ◌<◌, ◌≤◌, Bool, true, false, not, ◌||◌, ◌&&◌, ◌==◌, if◌then◌else◌, List, [], ◌∷◌, ◌++◌, length, map, Option, Some, None, is_some, ◌⊎◌, inl, inr, refl, sym, ap, ◌∙◌, subst, true≢false, arith, append-nil, eqb-true, nat_le, leb-true, rules}
+use Rattle.std.proofs.Common.{◌≡◌, ℕ, ◌+◌, ◌≤◌, Bool, true, false, not, ◌||◌, ◌&&◌, ◌==◌, if◌then◌else◌, List, [], ◌∷◌, ◌++◌, length, map, Option, Some, None, is_some, ◌⊎◌, inl, inr, refl, sym, ap, ◌∙◌, subst, true≢false, arith, append-nil, eqb-true, nat_le, leb-true, rules}
 use Rattle.std.proofs.lemmas.List.{take_all, drop_all}
 use Rattle.std.proofs.lemmas.Bool.{cases_Bool}
 use Rattle.sam_runes.specs.Texts.{ins, is_empty, max_runes}
@@ -208,7 +208,7 @@ first_moves x d n s told e = grind arith
 
 pub sync_first : (h : PlainHost) → Ready h → Accepted h Tstartcmdfile → Synced h Tstartcmdfile
 unfolding reply_startcmdfile
-sync_first h r met = grind (arith, sync_by, unlocked_if, unlocked_only, opening, hidden)
+sync_first h r met = grind (arith, sync_by, unlocked_if, unlocked_only, opening)
   where
     there : IsThere h.files 0 false
     there = first_there h r
@@ -224,9 +224,6 @@ sync_first h r met = grind (arith, sync_by, unlocked_if, unlocked_only, opening,
 
     told : Told 0 (told_length 0 file) [] file.text
     told = told_opened 0 file (r.steady.fit 0).2
-
-    hidden : file.opened ≡ false → (file.opened ≡ true) ⊎ ((file.opened ≡ false) × (file.announced ≡ false)) → file.announced ≡ false
-    hidden e u = grind arith
 
     opening : file.opened ≡ false → file.announced ≡ false → Unlocked h (with_files h fs, (Hnewname 0 ∷ Hmovname 0 command_name ∷ Hbindname 0 ∷ told_length 0 file) ++ Hunlock ∷ [])
     opening w n =
@@ -355,14 +352,11 @@ sync_new h r met = grind (arith, sync_by, unlocked_if, nat_le, full, fresh)
     absent : a f ≡ Absent
     absent = not_given h.files.slots f (omega arith)
 
-    some : 0 < f
-    some = in_slots h.files 0 there.file there.there
-
     not_zero : (f == 0) ≡ false
     not_zero = go (cases_Bool (f == 0))
       where
         go : ((f == 0) ≡ true) ⊎ ((f == 0) ≡ false) → (f == 0) ≡ false
-        go e = grind (arith, eqb-true, some)
+        go e = grind (arith, eqb-true, in_slots)
 
     full : Unlocked h (with_files h (after_print h.files no_tag_left), printed h.files no_tag_left ++ Hunlock ∷ [])
     full =

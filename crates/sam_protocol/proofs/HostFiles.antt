@@ -14,9 +14,6 @@ use Rattle.sam_protocol.specs.Steady.{HasFiles}
 abbrev pub put : (ℕ → HFile) → ℕ → HFile → ℕ → HFile
 put m f x g = if g == f then x else m g
 
-pub put_other : (m : ℕ → HFile) (f : ℕ) (x : HFile) (g : ℕ) → (g == f) ≡ false → put m f x g ≡ m g
-put_other m f x g e = ap (λ (b : Bool). if b then x else m g) e
-
 pub put_same : (m : ℕ → HFile) (f : ℕ) (x : HFile) → put m f x f ≡ x
 put_same m f x = ap (λ (b : Bool). if b then x else m f) (eq-eqb f f refl)
 

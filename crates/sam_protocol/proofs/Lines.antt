@@ -30,7 +30,7 @@ use Rattle.sam_protocol.specs.View.{file_in}
 use Rattle.sam_protocol.specs.Steady.{HasFiles}
 use Rattle.sam_protocol.proofs.Accepting.{Synced, Accepted, Ready, first_there}
 use Rattle.sam_protocol.proofs.AllSettle.{settled_opened}
-use Rattle.sam_protocol.proofs.HostFiles.{IsThere, put, put_other, put_opened, Opens, work_opens, Lasts, lasts_same, lasts_then, lasts_opened, still_has, at_there}
+use Rattle.sam_protocol.proofs.HostFiles.{IsThere, put, put_opened, Opens, work_opens, Lasts, lasts_same, lasts_then, lasts_opened, still_has, at_there}
 use Rattle.sam_protocol.proofs.Tests.{open_tests, range_test}
 use Rattle.sam_protocol.proofs.Guards.{at_file-append}
 use Rattle.sam_protocol.proofs.Telling.{Told, told-append, told_if, told_given, told_edits, told_dot, told_check, told_dirty, told_name, told_pattern}
@@ -251,7 +251,7 @@ sync_line h r p s o ends = record {
     slot_of g w x (inl e) =
         let u = settled_opened w h.is_done h.version t (subst (IsSettled w h.is_done h.version) (ap (file_in h.files.slots) (eqb-true _ _ e) ∙ o.0.shown) x) in
         (Open (ins_cells u.0 p (map Some s)) 0, grind (arith, settled_opened, eqb-true), grind (arith, settled_opened, eqb-true, files, agrees_typed))
-    slot_of g w x (inr e) = grind (arith, files, put_other)
+    slot_of g w x (inr e) = grind (arith, files)
 
     each : (g : ℕ) (w : Lens) → IsSettled w h.is_done h.version (file_in h.files.slots g)
         → Settles (at_file g run.1) (commanded (if g == 0 then typed_in p s w else w)) run.0.is_done run.0.version (file_in run.0.files.slots g)

@@ -1,9 +1,8 @@
 -- The terminal takes each frame that comes, and both sides stay in order.
-use Rattle.std.proofs.Common.{◌≡◌, ℕ, ◌+◌, ◌-◌, ◌≤◌, Bool, true, false, ◌==◌, if◌then◌else◌, List, ◌∷◌, ◌++◌, length, Option, Some, None, refl, ap, subst, arith, length-append, length-drop, length-take-le}
-use Rattle.std.specs.Prelude.{unwrap_or}
+use Rattle.std.proofs.Common.{◌≡◌, ℕ, ◌+◌, ◌-◌, ◌≤◌, Bool, true, false, List, ◌∷◌, ◌++◌, length, Option, Some, None, refl, subst, arith, length-append, length-drop, length-take-le}
 use Rattle.std.proofs.lemmas.List.{length-map}
 use Rattle.std.proofs.lemmas.Bool.{ltb-false}
-use Rattle.sam_runes.specs.Slots.{slot, free_slot, map_slots}
+use Rattle.sam_runes.specs.Slots.{free_slot}
 use Rattle.sam_runes.specs.Checks.{Checks, first_of_checks}
 use Rattle.sam_runes.proofs.SlotLaws.{slot-free_same, slot-free_other, slot-map}
 use Rattle.sam_runes.proofs.CheckLaws.{none_holds}
@@ -12,8 +11,7 @@ use Rattle.sam_mesg.specs.declared.tmesg.Tmesg.{Tmesg}
 use Rattle.sam_mesg.specs.declared.hmesg.Hmesg.{Hmesg}
 use Rattle.sam_mesg.specs.declared.hmesg.Hmesg.TheVariants.{Hversion, Hbindname, Hcurrent, Hnewname, Hmovname, Hgrow, Hcheck, Hunlock, Hdata, Horigin, Hunlockfile, Hsetdot, Hgrowdata, Hmoveto, Hclean, Hdirty, Hcut, Hsetpat, Hdelname, Hclose, Hsetsnarf, Hsnarflen, Hack, Hexit}
 use Rattle.sam_host.specs.Host.{PlainHost}
-use Rattle.sam_term.specs.Term.{PlainTerminal, window_at, unsent_message, unsent_without, freed_known, unknown_file, not_opened, past_end, frame_checks, frame_outcome, took_bindname, took_data, took_grow, took_growdata, took_cut, took_unlockfile, took_close, took_exit}
-use Rattle.sam_term.specs.Windows.{blank_known, blank_window}
+use Rattle.sam_term.specs.Term.{PlainTerminal, window_at, unsent_message, past_end, frame_checks, frame_outcome, took_bindname, took_data, took_grow, took_growdata, took_cut, took_unlockfile, took_close, took_exit}
 use Rattle.sam_term.specs.declared.records.Unsent.{Unsent}
 use Rattle.sam_term.specs.declared.fault.TermFault.{TermFault}
 use Rattle.sam_term.specs.declared.fault.TermFault.TheVariants as fault
@@ -23,9 +21,9 @@ use Rattle.sam_protocol.proofs.Lenses.{IsFree}
 use Rattle.sam_protocol.specs.Frames.{action, only, at_file}
 use Rattle.sam_protocol.specs.View.{view, effect, Moves, file_in}
 use Rattle.sam_protocol.specs.Fold.{AllSettle}
-use Rattle.sam_protocol.specs.Order.{IsTidyWindow, AreTidy, IsHeldBack, views, InOrder}
+use Rattle.sam_protocol.specs.Order.{AreTidy, IsHeldBack, views, InOrder}
 use Rattle.sam_protocol.proofs.Runs.{first_is_quiet}
-use Rattle.sam_protocol.proofs.Folds.{frame_moves, term_takes}
+use Rattle.sam_protocol.proofs.Folds.{frame_moves}
 use Rattle.sam_protocol.proofs.FrameMoves.{take_law}
 use Rattle.sam_protocol.proofs.Views.{tidy-put, tidy-window}
 use Rattle.sam_protocol.proofs.Dots.{tidy-ins, tidy-del}
@@ -48,22 +46,15 @@ left_open a s v v2 d n file k o m = grind (arith, (quiet_frame a s v d n file k 
 elsewhere : (b : Bool) (a : Action) → is_crossing a ≡ true → is_crossing (only b a) ≡ false → b ≡ false
 elsewhere b a e u = grind arith
 
-kept_other : (f : ℕ) (u : Unsent) → (u.file == f) ≡ false → unsent_without f (Some u) ≡ Some u
-kept_other f u e = ap (λ (b : Bool). if b then None else Some u) e
-
 unsent_stays : (t : PlainTerminal) (m : Hmesg) (u : Unsent) → t.unsent ≡ Some u → is_crossing (action u.file m) ≡ false → (effect t m).unsent ≡ Some u
 unfolding took_bindname took_data took_grow took_growdata took_cut took_unlockfile took_close took_exit
-unsent_stays t m u e w = grind (arith, elsewhere, kept_other)
+unsent_stays t m u e w = grind (arith, elsewhere)
 
 unsent_none : (t : PlainTerminal) (m : Hmesg) → t.unsent ≡ None → (effect t m).unsent ≡ None
 unfolding took_bindname took_data took_grow took_growdata took_cut took_unlockfile took_close took_exit
 unsent_none t m e = grind arith
 
 -- ## Dots stay in their texts
-
--- what stands behind the two tests that the file is open
-behind_open : (t : PlainTerminal) (f : ℕ) (rest : Checks TermFault) → first_of_checks (unknown_file t f ∷ not_opened t f ∷ rest) ≡ None → first_of_checks rest ≡ None
-behind_open t f rest e = (none_holds (not_opened t f) rest (none_holds (unknown_file t f) (not_opened t f ∷ rest) e).1).1
 
 place_of : (t : PlainTerminal) (f p : ℕ) (rest : Checks TermFault) → first_of_checks (past_end t f p ∷ rest) ≡ None → p ≤ length (window_at t f).rasp
 place_of t f p rest e = ltb-false _ p (none_holds (past_end t f p) rest e).0
@@ -74,12 +65,9 @@ length-load r p s l = grind (arith, length-map, length-append, length-take-le, l
 tidy-free : (t : PlainTerminal) (f : ℕ) → AreTidy t → AreTidy (record t { files = free_slot t.files f })
 tidy-free t f all g = grind (arith, slot-free_same, slot-free_other)
 
-tidy-freed : (t : PlainTerminal) → AreTidy t → (g : ℕ) → IsTidyWindow (unwrap_or (unwrap_or (slot (map_slots freed_known t.files) g) blank_known).window blank_window)
-tidy-freed t all g = grind (arith, slot-map)
-
 tidy_effect : (t : PlainTerminal) (m : Hmesg) → first_of_checks (frame_checks t m) ≡ None → AreTidy t → AreTidy (effect t m)
 unfolding took_bindname took_data took_grow took_growdata took_cut took_unlockfile took_close took_exit
-tidy_effect t m e u = grind (arith, tidy-window, tidy-put, tidy-ins, place_of, behind_open, length-load, tidy-del, tidy-free, tidy-freed)
+tidy_effect t m e u = grind (arith, tidy-window, tidy-put, tidy-ins, place_of, length-load, tidy-del, tidy-free, slot-map)
 
 -- ## A frame is taken
 
@@ -96,11 +84,8 @@ effect_order h t up m down o v = by_unsent t.unsent refl
     at : (g : ℕ) → Settles (action g m ∷ s g) (view g t) k.ahead.is_done k.ahead.version (file_in k.ahead.files.slots g)
     at g = k.each g
 
-    taken : AllSettle h (views (effect t m)) (up ++ unsent_message t.unsent) down
-    taken = term_takes h (views t) (views (effect t m)) (up ++ unsent_message t.unsent) m down k v.moves
-
     made : (u : Option Unsent) → t.unsent ≡ u → (effect t m).unsent ≡ u → IsHeldBack (views (effect t m)) u → InOrder h (effect t m) up down
-    made u e e2 held = grind (arith, taken, tidy_effect)
+    made u e e2 held = grind (arith, tidy_effect)
 
     by_unsent : (u : Option Unsent) → t.unsent ≡ u → InOrder h (effect t m) up down
     by_unsent None e = made None e (unsent_none t m e) tt

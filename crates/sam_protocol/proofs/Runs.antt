@@ -23,9 +23,6 @@ pub record Stepped (a : Action) (rest : List Action) (v w : Lens) : Type 0 where
 pub stepped : (a : Action) (rest : List Action) (v w : Lens) → run (a ∷ rest) v ≡ Some w → Stepped a rest v w
 stepped a rest v w r = grind arith
 
-pub if_some : (b : Bool) (x w : Lens) → (if b then Some x else None) ≡ Some w → (b ≡ true) × (x ≡ w)
-if_some b x w e = grind arith
-
 -- what runs from a free lens frees nothing
 pub frees_nothing : (s : List Action) (v w : Lens) → IsFree v → run s v ≡ Some w → frees s ≡ false
 frees_nothing [] v w f r = refl
@@ -52,7 +49,7 @@ pub if_true : (b : Bool) (x : Lens) → b ≡ true → (if b then Some x else No
 if_true b x e = grind arith
 
 steps_more : (a : Action) (v m : Lens) → IsOpen v → move a v ≡ Some m → StepsMore a v m
-steps_more a v m e u = grind (arith, stays, if_some, if_true)
+steps_more a v m e u = grind (arith, stays, if_true)
 
 abbrev pub RunsMore : List Action → Lens → Lens → Type 0
 RunsMore s v w = (((closes s || exits s) ≡ true) × (run s (locked_more v) ≡ Some w)) ⊎ (IsOpen w × (run s (locked_more v) ≡ Some (locked_more w)) × ((closes s || exits s) ≡ false))
@@ -73,21 +70,18 @@ runs_more (a ∷ s) v w o r =
     let t = stepped a s v w r in
     first_step t.mid t.on (λ o2. runs_more s t.mid w o2 t.on) (steps_more a v t.mid o t.moves)
   where
-    goes : (x y : Lens) (z : Option Lens) → move a x ≡ Some y → run s y ≡ z → run (a ∷ s) x ≡ z
-    goes x y z e q = ap (λ (m : Option Lens). and_then m (run s)) e ∙ q
-
     later : (m : Lens) → move a (locked_more v) ≡ Some (locked_more m) → (is_close a || is_exit a) ≡ false → RunsMore s m w → RunsMore (a ∷ s) v w
-    later m e u q = grind (arith, or_right, goes, neither)
+    later m e u q = grind (arith, or_right, neither)
 
     first_step : (m : Lens) → run s m ≡ Some w → (IsOpen m → RunsMore s m w) → StepsMore a v m → RunsMore (a ∷ s) v w
-    first_step m e u q = grind (arith, or_left, goes, later)
+    first_step m e u q = grind (arith, or_left, later)
 
 the : {x y : Lens} → Some x ≡ Some y → x ≡ y
 the e = cc
 
 -- the terminal has exited exactly where an Hexit came
 exits_exactly : (a : Action) (v m : Lens) → move a v ≡ Some m → exited_of m ≡ (is_exit a || exited_of v)
-exits_exactly a v m e = grind (arith, the, if_some)
+exits_exactly a v m e = grind (arith, the)
 
 or_shift : (p q x : Bool) → (q || (p || x)) ≡ ((p || q) || x)
 or_shift p q x = grind arith
@@ -108,7 +102,7 @@ no_unlock (a ∷ s) v w r x = grind (arith, (no_unlock s))
 
 -- where no Hversion comes the version stays
 same_version_step : (a : Action) (v m : Lens) → move a v ≡ Some m → is_change a ≡ false → version_of m ≡ version_of v
-same_version_step a v m e u = grind (arith, the, if_some)
+same_version_step a v m e u = grind (arith, the)
 
 pub same_version : (s : List Action) (v w : Lens) → run s v ≡ Some w → changes s ≡ false → version_of w ≡ version_of v
 same_version [] v w r x = sym (ap version_of (the r))

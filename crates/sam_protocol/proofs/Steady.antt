@@ -1,9 +1,7 @@
 -- What holds of every host lasts under each message that is not refused.
 use Rattle.std.proofs.Common.{◌≡◌, ℕ, zero, suc, false, ◌==◌, sym, ◌∙◌, true≢false, arith}
-use Rattle.std.specs.Prelude.{unwrap_or}
-use Rattle.sam_runes.specs.Slots.{slot, free_slot}
 use Rattle.sam_runes.proofs.SlotLaws.{slot-map, slot-put_same, slot-put_other, slot-free_same, slot-free_other}
-use Rattle.sam_text.specs.Files.{PlainFile, PlainFiles, blank_file, file_at, put_file}
+use Rattle.sam_text.specs.Files.{PlainFile, PlainFiles, file_at, put_file}
 use Rattle.sam_host.proofs.SoundLaws.{reply_fits}
 use Rattle.sam_host.proofs.Keeping.{IsKept, reply_keeps}
 use Rattle.sam_host.specs.Host.{PlainHost, reply_to}
@@ -12,9 +10,6 @@ use Rattle.sam_protocol.proofs.Accepting.{Synced, Accepted, Ready}
 use Rattle.sam_protocol.specs.Steady.{OpenAnnounced, AllOpenAnnounced, IsSteady}
 
 -- ## Open files were announced
-
-none_open : OpenAnnounced blank_file
-none_open e = absurd (true≢false (sym e))
 
 announced-put : (fs : PlainFiles) (g : ℕ) (x : PlainFile) → AllOpenAnnounced fs → ((g == 0) ≡ false → OpenAnnounced x) → AllOpenAnnounced (put_file fs g x)
 announced-put fs g x all here f = grind (arith, slot-put_same, slot-put_other)
@@ -27,11 +22,8 @@ announced-same fs g x all o n = announced-put fs g x all (λ z e. n ∙ at g z (
     at zero z = absurd (true≢false z)
     at (suc k) z = all k
 
-announced-free : (fs : PlainFiles) (g : ℕ) → AllOpenAnnounced fs → (f : ℕ) → OpenAnnounced (unwrap_or (slot (free_slot fs.slots g) (suc f)) blank_file)
-announced-free fs g all f = grind (arith, slot-free_same, slot-free_other)
-
 announced_kept : IsKept AllOpenAnnounced
-announced_kept = grind (arith, announced-put, announced-same, announced-free, none_open, slot-map)
+announced_kept = grind (arith, announced-put, announced-same, slot-map, slot-free_same, slot-free_other)
 
 -- a host that is ready stays so, unless it is done
 pub steady_reply : (h : PlainHost) (m : Tmesg) → Ready h → Accepted h m → Synced h m → IsSteady (reply_to h m).0

@@ -15,7 +15,7 @@ use Rattle.sam_term.specs.Term.{PlainTerminal, Made, window_at, window_after_ins
 use Rattle.sam_term.specs.declared.records.Window.{Window}
 use Rattle.sam_term.specs.declared.records.Unsent.{Unsent}
 use Rattle.sam_term.proofs.Marks.{edited-window}
-use Rattle.sam_protocol.specs.Lens.{Lens, OpenAt, Anything}
+use Rattle.sam_protocol.specs.Lens.{Lens, OpenAt}
 use Rattle.sam_protocol.proofs.Lenses.{IsOpen}
 use Rattle.sam_protocol.proofs.Changes.{change_by, type_change, typed_in, changed}
 use Rattle.sam_protocol.specs.View.{view}
@@ -30,9 +30,6 @@ use Rattle.sam_protocol.proofs.Sending.{Goes, then_goes, MaySend, open_is, has_o
 -- the place and the length of what is typed
 Room : ℕ → List ℕ → List (Option ℕ) → Type 0
 Room p s r = (p ≤ length r) × (length r + length s ≤ max_runes)
-
-typed_open : (p : ℕ) (s : List ℕ) (P : List (Option ℕ) → Type 0) (v : Lens) → OpenAt P v → OpenAt Anything (typed_in p s v)
-typed_open p s P v e = grind arith
 
 open_typed : (b : Bool) (p : ℕ) (s : List ℕ) (v : Lens) → IsOpen v → IsOpen (if b then typed_in p s v else v)
 open_typed b p s v e = grind arith
@@ -110,9 +107,6 @@ module _ (h : PlainHost) (down : List Hmesg) (u : PlainTerminal) (f p : ℕ) (s 
       open_x : IsOpen (view f x)
       open_x = subst IsOpen (sym (a.same f)) open_u
 
-      shows : (g : ℕ) → view g t ≡ (if g == f then typed_in p s (view g u) else view g u)
-      shows g = typed_view x f p s open_x g ∙ ap (λ (v : Lens). (if g == f then typed_in p s v else v)) (a.same g)
-
       place_x : p ≤ length (window_at x f).rasp
       place_x = (has_open (Room p s) x f (subst (OpenAt (Room p s)) (sym (a.same f)) o)).0
 
@@ -123,7 +117,7 @@ module _ (h : PlainHost) (down : List Hmesg) (u : PlainTerminal) (f p : ℕ) (s 
       waits = unsent_typed x z up a
 
       go : (b : Bool) → line ≡ b → Goes h up down (if b then flushed t else (t, []))
-      go b e = grind (arith, shows, eq-eqb, append-nil, waits, tidy, typed_open, Room, eqb-true, and_parts, unsent-composed, tidy-composed)
+      go b e = grind (arith, eq-eqb, append-nil, waits, tidy, Room, eqb-true, and_parts, unsent-composed, tidy-composed, typed_view, open_x)
 
 -- ## The whole
 

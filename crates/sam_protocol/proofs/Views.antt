@@ -22,16 +22,13 @@ use Rattle.sam_protocol.specs.Order.{IsTidyWindow, AreTidy, IsHeldBack, views}
 pub view-put : (t : PlainTerminal) (f : ℕ) (x : KnownFile) (g : ℕ) → view g (put_known t f x) ≡ (if g == f then lens t.command_lock t.has_exited t.version (slot_of_window x.window) else view g t)
 view-put t f x g = grind (arith, slot-put_same, slot-put_other)
 
-pub view-window : (t : PlainTerminal) (f : ℕ) (w : Window) (g : ℕ) → view g (put_window t f w) ≡ (if g == f then lens t.command_lock t.has_exited t.version (Open w.rasp w.locks) else view g t)
-view-window t f w g = view-put t f (record (known_at t f) { window = Some w }) g
-
 -- what the lens of an open file says
 pub view-open : (t : PlainTerminal) (f : ℕ) → IsOpen (view f t) → view f t ≡ lens t.command_lock t.has_exited t.version (Open (window_at t f).rasp (window_at t f).locks)
 view-open t f o = grind arith
 
 -- a window of an open file whose partial text and locks stay
 pub view-kept : (t : PlainTerminal) (f : ℕ) (w : Window) → IsOpen (view f t) → w.rasp ≡ (window_at t f).rasp → w.locks ≡ (window_at t f).locks → (g : ℕ) → view g (put_window t f w) ≡ view g t
-view-kept t f w o r k g = grind (arith, view-window)
+view-kept t f w o r k g = grind (arith, view-put)
 
 -- the user's mark on an open file shows in no lens
 pub view-edited : (t : PlainTerminal) (f : ℕ) → IsOpen (view f t) → (g : ℕ) → view g (edited t f) ≡ view g t
@@ -41,7 +38,7 @@ view-edited t f o g = grind (arith, view-put)
 pub view-made : (t : PlainTerminal) (f : ℕ) (w : Window) (change : Lens → Lens) → IsOpen (view f t)
     → lens t.command_lock t.has_exited t.version (Open w.rasp w.locks) ≡ change (lens t.command_lock t.has_exited t.version (Open (window_at t f).rasp (window_at t f).locks)) → (g : ℕ)
     → view g (put_window t f w) ≡ (if g == f then change (view g t) else view g t)
-view-made t f w change o e g = grind (arith, view-window)
+view-made t f w change o e g = grind (arith, view-put)
 
 -- ## Locks
 

@@ -1,5 +1,5 @@
 -- Places in lists of sections.
-use Rattle.std.proofs.Common.{◌≡◌, sym, ap, ◌∙◌, subst, ℕ, zero, suc, ◌+◌, ◌-◌, ◌≤◌, ◌<◌, List, [], ◌∷◌, ◌++◌, map, replicate, take, drop, length, get_or, Some, None, arith, max, min, ◌⊎◌, inl, inr, false}
+use Rattle.std.proofs.Common.{◌≡◌, sym, ap, ◌∙◌, ℕ, zero, suc, ◌+◌, ◌-◌, ◌≤◌, ◌<◌, List, [], ◌∷◌, ◌++◌, map, replicate, take, drop, length, get_or, Some, None, arith, max, min, ◌⊎◌, inl, inr, false}
 use Rattle.std.specs.Prelude.{Option, slice_get, option_map}
 use Rattle.std.proofs.lemmas.List.{drop_more}
 use Rattle.std.proofs.lemmas.Bool.{cases_lt}
@@ -21,9 +21,6 @@ get-past s r k n e = grind arith
 pub cells-next : (xs : List Section) (i : ℕ) (x : Section) → i < length xs → x ≡ get_or xs i x → cells_of (drop i xs) ≡ cells x ++ cells_of (drop (i + 1) xs)
 cells-next xs i x l e = ap cells_of (drop_more xs i x l ∙ ap (λ y. y ∷ drop (i + 1) xs) (sym e))
 
-pub normal-next : (xs : List Section) (i : ℕ) (x : Section) → i < length xs → x ≡ get_or xs i x → IsNormal (drop i xs) → IsNormal (x ∷ drop (i + 1) xs)
-normal-next xs i x l e h = subst IsNormal (drop_more xs i x l ∙ ap (λ y. y ∷ drop (i + 1) xs) (sym e)) h
-
 -- the first hole in the range from p to q among the members r, the first of which stands at the place at
 abbrev pub hole_from : PartialText → ℕ → ℕ → ℕ → Option (ℕ × ℕ)
 hole_from r at p q = option_map (range_from (max p at)) (first_gaps (part r (p - at) (q - at)))
@@ -31,10 +28,6 @@ hole_from r at p q = option_map (range_from (max p at)) (first_gaps (part r (p -
 -- a member before the range
 pub step-before : (cell : Option ℕ) (r : PartialText) (at p q : ℕ) → at < p → hole_from (cell ∷ r) at p q ≡ hole_from r (at + 1) p q
 step-before cell r at p q l = grind arith
-
--- members behind the range
-pub none-behind : (r : PartialText) (at p q : ℕ) → p ≤ q → q ≤ at → hole_from r at p q ≡ None
-none-behind r at p q le l = grind arith
 
 -- what stands in the range from its start on
 pub from-start : (r : PartialText) (at p q : ℕ) → p ≤ at → hole_from r at p q ≡ option_map (range_from at) (first_gaps (take (q - at) r))
@@ -51,7 +44,7 @@ skip-loaded (c ∷ s) r at p q end le e = skip-rune c (map Some s ++ r) at p q l
 -- a hole outside the range
 pub skip-hole : (n : ℕ) (r : PartialText) (at p q end : ℕ) → p ≤ q → at + n ≡ end → min end q ≤ max at p → hole_from (replicate n None ++ r) at p q ≡ hole_from r end p q
 skip-hole zero r at p q end le e out = let same : at ≡ end = omega (arith, e) in ap (λ k. hole_from r k p q) same
-skip-hole (suc n) r at p q end le e out = grind (arith, (skip-hole n r (at + 1) p q end le), step-before, none-behind)
+skip-hole (suc n) r at p q end le e out = grind (arith, (skip-hole n r (at + 1) p q end le), step-before)
 
 in-front : (b n : ℕ) (r : PartialText) → gaps_in_front r ≡ 0 → gaps_in_front (take b (replicate n None ++ r)) ≡ min b n
 in-front (suc b) (suc n) r e = omega (arith, in-front b n r e)

@@ -36,17 +36,11 @@ pub record Begun (c n x y z w : ℕ) : Type 0 where
 abbrev pub BegunAt : ℕ → List ℕ → Type 0
 BegunAt c bs = Begun c (length bs) (get_or bs 0 0) (get_or bs 1 0) (get_or bs 2 0) (get_or bs 3 0)
 
-begun_2 : (c : ℕ) (rest : List ℕ) → 128 ≤ c → c < 2048 → BegunAt c ((192 + c / 64) ∷ (128 + c % 64) ∷ rest)
-begun_2 c rest low high = grind arith
-
 begun_3 : (c : ℕ) (rest : List ℕ) → 2048 ≤ c → c < 65536 → BegunAt c ((224 + c / 4096) ∷ (128 + (c / 64) % 64) ∷ (128 + c % 64) ∷ rest)
 begun_3 c rest low high = grind arith
 
-begun_4 : (c : ℕ) (rest : List ℕ) → 65536 ≤ c → c < 1114112 → BegunAt c ((240 + c / 262144) ∷ (128 + (c / 4096) % 64) ∷ (128 + (c / 64) % 64) ∷ (128 + c % 64) ∷ rest)
-begun_4 c rest low high = grind arith
-
 begun : (c : ℕ) (rest : List ℕ) → IsScalar c → BegunAt c (encode_utf8 c ++ rest)
-begun c rest is = grind (arith, encode_ascii, two, begun_2, three, begun_3, four, begun_4, cases_lt)
+begun c rest is = grind (arith, encode_ascii, two, three, begun_3, four, cases_lt)
 
 -- no rune begins bytes that are not so
 pub none_begins : (bs : List ℕ) → ((c : ℕ) → IsScalar c → BegunAt c bs → ⊥) → StartsWithNoChar bs
@@ -61,22 +55,16 @@ pub decoded : (bs : List ℕ) (n code : ℕ) (r : Option ℕ) → SomeIff r (IsS
 decoded bs n code None out within front only = none_begins bs (λ c is b. out (subst IsScalar (only c b) is))
 decoded bs n code (Some x) out within front only = (within, front ∙ ap encode_utf8 (sym out.1))
 
-front_2 : (bs : List ℕ) → 2 ≤ length bs → take 2 bs ≡ get_or bs 0 0 ∷ get_or bs 1 0 ∷ []
-front_2 bs e = grind arith
-
-front_3 : (bs : List ℕ) → 3 ≤ length bs → take 3 bs ≡ get_or bs 0 0 ∷ get_or bs 1 0 ∷ get_or bs 2 0 ∷ []
-front_3 bs e = grind (arith, front_2)
-
 abbrev IsTail : ℕ → ℕ → Type 0
 IsTail bits byte = (bits < 64) × (128 + bits ≡ byte)
 
 pub spelled_2 : (bs : List ℕ) (s code : ℕ) → 2 ≤ length bs
     → 192 ≤ get_or bs 0 0 → get_or bs 0 0 < 224 → IsTail s (get_or bs 1 0) → code ≡ (get_or bs 0 0 - 192) * 64 + s → 128 ≤ code → take 2 bs ≡ encode_utf8 code
-spelled_2 bs s code within least most second is low = grind (arith, get_or, front_2, two)
+spelled_2 bs s code within least most second is low = grind (arith, get_or, two)
 
 pub spelled_3 : (bs : List ℕ) (s t code : ℕ) → 3 ≤ length bs → 224 ≤ get_or bs 0 0 → get_or bs 0 0 < 240 → IsTail s (get_or bs 1 0) → IsTail t (get_or bs 2 0)
     → code ≡ ((get_or bs 0 0 - 224) * 64 + s) * 64 + t → 2048 ≤ code → take 3 bs ≡ encode_utf8 code
-spelled_3 bs s t code within least most second third is low = grind (arith, get_or, front_3, three)
+spelled_3 bs s t code within least most second third is low = grind (arith, get_or, three)
 
 pub spelled_4 : (bs : List ℕ) (s t u code : ℕ) → 4 ≤ length bs → 240 ≤ get_or bs 0 0 → IsTail s (get_or bs 1 0) → IsTail t (get_or bs 2 0) → IsTail u (get_or bs 3 0)
     → code ≡ (((get_or bs 0 0 - 240) * 64 + s) * 64 + t) * 64 + u → 65536 ≤ code → take 4 bs ≡ encode_utf8 code

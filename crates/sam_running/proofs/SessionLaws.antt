@@ -1,5 +1,5 @@
 -- What a settled session of a script is.
-use Rattle.std.proofs.Common.{◌≡◌, ℕ, List, [], ◌∷◌, ◌++◌, length, map, take, drop, Some, None, refl, sym, ap, ◌∙◌, subst, arith, rules}
+use Rattle.std.proofs.Common.{◌≡◌, ℕ, List, [], ◌∷◌, length, map, take, drop, Some, None, refl, sym, ap, ◌∙◌, arith}
 use Rattle.std.proofs.lemmas.List.{take-append-drop, map-append}
 use Rattle.sam_term.specs.declared.event.UserEvent.{UserEvent}
 use Rattle.sam_queue.specs.Views.{LineView}
@@ -7,7 +7,7 @@ use Rattle.sam_script.specs.Script.{PlainScript, keys_of, mouse_of}
 use Rattle.sam_world.specs.Streams.{Begins}
 use Rattle.sam_world.specs.World.{new_world, run_of, merged}
 use Rattle.sam_threads.specs.Lines.{LinesView}
-use Rattle.sam_threads.specs.WorkerEnds.{Told, UserTold, UserStopped, AllPassed, GatesTold}
+use Rattle.sam_threads.specs.WorkerEnds.{Told, UserTold, AllPassed, GatesTold}
 use Rattle.sam_settling.specs.Headline.{Headline}
 use Rattle.sam_settling.specs.Settled.{counts_left, stops_of, AreFull, HasStreams, HasUsers, IsDrained, IsWhole, MissesHost}
 use Rattle.sam_running.specs.Session.{IsSession}

@@ -16,7 +16,7 @@ use Rattle.sam_script.specs.declared.fault.LineFault.{LineFault}
 use Rattle.sam_world.specs.Given.{IsFile}
 use Rattle.sam_script.specs.Spelling.{SpellsParts, IsWord, SpellsFile, SpellsLine, SaysNothing, SaysSo, Says}
 use Rattle.sam_script.specs.Events.Part.{Rest}
-use Rattle.sam_script.specs.Reading.{event_at, fitting_name, fitting_text, file_text_at, file_at, bare, line_readers, is_silent, line_at, IsUnsaid}
+use Rattle.sam_script.specs.Reading.{fitting_name, fitting_text, file_text_at, file_at, bare, line_readers, is_silent, line_at, IsUnsaid}
 use Rattle.sam_script.specs.Words.{◌>>=◌, word_of, behind_word, word_at, Gives}
 use Rattle.sam_script.proofs.SpellingLaws.{bind_some, IsEnd, word_ends, word_split, word_says, word_read, utf8_tail, utf8_rear, utf8_front, text_says, text_read, ReadsAs, rows_say, event_says, event_read}
 
@@ -77,14 +77,11 @@ IsSaidBy word it bytes = SaysSo it (word ++ bytes)
 file_row : ReadsAs IsSaidBy (codes "file", λ bytes. file_at bytes >>= λ x. Some (said.File x.0 x.1))
 file_row bytes it u h = grind (arith, file_says)
 
-key_row : ReadsAs IsSaidBy (codes "k", λ bytes. event_at bytes >>= λ e. Some (said.Line (Key e)))
-key_row bytes it u h = grind (arith, event_says)
-
 bare_row : (line : Line) (word : List ℕ) → ((bytes : List ℕ) → bytes ≡ [] → SpellsLine line (word ++ bytes)) → ReadsAs IsSaidBy (word, bare line)
 bare_row line word spells bytes it u h = grind arith
 
 line_readers_say : AllByRecursion (ReadsAs IsSaidBy) line_readers
-line_readers_say = grind (arith, file_row, key_row, event_says)
+line_readers_say = grind (arith, file_row, event_says)
 
 silent_says : (bytes : List ℕ) → is_silent bytes ≡ true → SaysNothing bytes
 silent_says bytes e = grind (arith, eqb_tells, eqb-true)

@@ -1,11 +1,10 @@
 -- A run that was printed, replayed, shows the world to which it leads.
-use Rattle.std.proofs.Common.{◌≡◌, ◌≤◌, ◌∙◌, ◌+◌, ap, ℕ, List, [], ◌∷◌, ◌++◌, length, map, false, Some, Result, Ok, append-nil, arith}
+use Rattle.std.proofs.Common.{◌≡◌, ◌≤◌, ◌∙◌, ◌+◌, ap, ℕ, List, [], ◌∷◌, ◌++◌, length, map, Some, Result, Ok, append-nil, arith}
 use Rattle.std.specs.List.{AllByRecursion}
 use Rattle.std.proofs.lemmas.Option.{option_and_then_some, same_Some}
-use Rattle.sam_runes.specs.Texts.{is_empty, most_files}
+use Rattle.sam_runes.specs.Texts.{most_files}
 use Rattle.sam_world.specs.World.{PlainWorld, new_world, step_of, run_of}
 use Rattle.sam_world.specs.declared.event.Event.{Event}
-use Rattle.sam_world.specs.declared.event.Event.TheVariants.{TermTake}
 use Rattle.sam_script.specs.declared.line.Line.TheVariants as line
 use Rattle.sam_script.specs.Script.{PlainScript}
 use Rattle.sam_script.specs.Show.{show_lines}
@@ -16,12 +15,9 @@ use Rattle.sam_script.specs.declared.fault.ScriptFault.{ScriptFault}
 use Rattle.sam_script.proofs.ScriptLaws.{spells_one}
 use Rattle.sam_script.proofs.RunSpelled.{run_is_spelled}
 
-term_there : (w v : PlainWorld) → step_of w TermTake ≡ Some v → is_empty w.down ≡ false
-term_there w v h = grind arith
-
 -- a step is done by the line of its event
 line_steps : (n : ℕ) (w v : PlainWorld) (e : Event) → step_of w e ≡ Some v → after_line n w (line_of e) ≡ Ok v
-line_steps n w v e u = grind (arith, term_there)
+line_steps n w v e u = grind arith
 
 prints_nothing : (w : PlainWorld) (e : Event) → printed_by w (line_of e) ≡ []
 prints_nothing w e = grind arith

@@ -66,9 +66,6 @@ e32 = encode_ascii 32 (omega arith)
 e92 : encode_utf8 92 ≡ 92 ∷ []
 e92 = encode_ascii 92 (omega arith)
 
-e110 : encode_utf8 110 ≡ 110 ∷ []
-e110 = encode_ascii 110 (omega arith)
-
 drop_behind : (xs ys : List ℕ) → drop (length xs) (xs ++ ys) ≡ ys
 drop_behind [] ys = refl
 drop_behind (x ∷ xs) ys = drop_behind xs ys
@@ -132,7 +129,7 @@ abbrev escaped : List ℕ → List ℕ
 escaped = flat_map escape
 
 rune_encodes : (c : ℕ) → encode_utf8_all (escape c) ≡ text_rune c
-rune_encodes c = grind (arith, e92, e110, append-nil)
+rune_encodes c = grind (arith, e92, append-nil, encode_ascii)
 
 escaped_encodes : (s : List ℕ) → encode_utf8_all (escaped s) ≡ text_shown s
 escaped_encodes [] = refl
@@ -153,7 +150,7 @@ held false = []
 unescaped_says : (cs front : List ℕ) (is_escaped : Bool) (s : List ℕ) → unescaped front is_escaped cs ≡ Some s
     → (rest : List ℕ) × (s ≡ front ++ rest) × (held is_escaped ++ encode_utf8_all cs ≡ text_shown rest)
 unescaped_says (c ∷ cs) front false s h = grind (arith, e92, append_assoc, (unescaped_says cs front true s), (unescaped_says cs (front ++ c ∷ []) false s))
-unescaped_says (c ∷ cs) front true s h = grind (arith, append_assoc, e110, e92, (unescaped_says cs (front ++ 10 ∷ []) false s), (unescaped_says cs (front ++ 92 ∷ []) false s))
+unescaped_says (c ∷ cs) front true s h = grind (arith, append_assoc, e92, (unescaped_says cs (front ++ 10 ∷ []) false s), (unescaped_says cs (front ++ 92 ∷ []) false s), encode_ascii)
 unescaped_says cs front is_escaped s e = grind (arith, same_Some, append-nil)
 
 pub text_says : (bytes s : List ℕ) → IsUtf8 bytes → text_at bytes ≡ Some s → (bytes ≡ codes " " ++ text_shown s) ⊎ ((bytes ≡ []) × (s ≡ []))

@@ -1,5 +1,5 @@
 -- What a host answers to messages in turn.
-use Rattle.std.proofs.Common.{◌≡◌, ℕ, List, [], ◌∷◌, ◌++◌, Option, Ok, Err, refl, sym, ap, subst, flat_map, append_assoc, arith}
+use Rattle.std.proofs.Common.{◌≡◌, ℕ, List, [], ◌∷◌, ◌++◌, Option, Ok, Err, refl, ap, subst, flat_map, append_assoc, arith}
 use Rattle.std.specs.Io.KnownBytes.{Appends}
 use Rattle.std.proofs.KnownBytes.{Appends-trans}
 use Rattle.std.proofs.lemmas.List.Elements.{All-nil, All-cons}
@@ -29,9 +29,6 @@ answered_fit h g m frames is sound = fit_in_last h.version frames (frames_fit h 
 
 -- ---- one message after another
 
-behind-twice : (w x : List ℕ) (s : Served) → behind w (behind x s) ≡ behind (w ++ x) s
-behind-twice w x s = ap (λ written. let r : Served = record { written = written; end = s.end } in r) (sym (append_assoc w x s.written))
-
 -- a host that answered the first messages goes on to the others
 pub serve-append : (h g : PlainHost) (ms ns : List Tmesg) → (serve h ms).end ≡ Ok g → serve h (ms ++ ns) ≡ behind (serve h ms).written (serve g ns)
 serve-append h g [] ns is = let same : h ≡ g = cc in ap (λ d. serve d ns) same
@@ -39,7 +36,7 @@ serve-append h g (m ∷ ms) ns is = go (λ d e. serve-append d g ms ns e) (answe
   where
     go : ((d : PlainHost) → (serve d ms).end ≡ Ok g → serve d (ms ++ ns) ≡ behind (serve d ms).written (serve g ns)) → (r : Answer) → (served_on r (λ d. serve d ms)).end ≡ Ok g
         → served_on r (λ d. serve d (ms ++ ns)) ≡ behind (served_on r (λ d. serve d ms)).written (serve g ns)
-    go e r u = grind (arith, flat_map, behind-twice)
+    go e r u = grind (arith, flat_map, append_assoc)
 
 -- behind a refusal nothing is answered
 pub serve-refused : (h : PlainHost) (why : HostFault) (ms ns : List Tmesg) → (serve h ms).end ≡ Err why → serve h (ms ++ ns) ≡ serve h ms
@@ -63,4 +60,4 @@ serve-sound h g (m ∷ ms) sound is = go (λ d s e. serve-sound d g ms s e) (ans
 pub served_more : (before mid after : Option (List ℕ)) (w : List ℕ) (all : Served) (h g : PlainHost) (m : Tmesg) (rest left : List Tmesg) (out sent : List HFrame) → left ≡ m ∷ rest → sent ≡ out
     → Appends before mid w → all ≡ behind w (serve h left) → answer h m ≡ Ok (g, out) → Appends mid after (flat_map frame_h sent)
     → (x : List ℕ) × Appends before after x × (all ≡ behind x (serve g rest))
-served_more before mid after w all h g m rest left out sent is same wrote so_far answered writes = grind (arith, flat_map, Appends-trans, behind-twice)
+served_more before mid after w all h g m rest left out sent is same wrote so_far answered writes = grind (arith, flat_map, Appends-trans, append_assoc)

@@ -1,6 +1,6 @@
 -- What a host answers and what a terminal composes fits at its place of the stream: a case for each message and for each event.
-use Rattle.std.proofs.Common.{◌≡◌, ℕ, Bool, false, ◌==◌, List, [], ◌∷◌, ◌++◌, Option, Some, None, Ok, refl, sym, ap, ◌∙◌, subst, arith}
-use Rattle.std.specs.Prelude.{drop, if◌then◌else◌}
+use Rattle.std.proofs.Common.{◌≡◌, ℕ, false, ◌==◌, List, [], ◌∷◌, ◌++◌, Option, Some, None, Ok, refl, sym, ap, ◌∙◌, subst, arith}
+use Rattle.std.specs.Prelude.{drop}
 use Rattle.sam_runes.specs.Checks.{first_of_checks}
 use Rattle.sam_runes.specs.Texts.{common_version}
 use Rattle.sam_runes.proofs.CheckLaws.{none_holds}
@@ -20,7 +20,7 @@ use Rattle.sam_host.proofs.SoundLaws.{frames_fit, reply_stands, stays_sound}
 use Rattle.sam_protocol.specs.Frames.{is_version}
 use Rattle.sam_protocol.proofs.Versions.{IsPlain, plain_frames, reply_plain}
 use Rattle.sam_host.proofs.EachFrame.{reply_each}
-use Rattle.sam_term.specs.Term.{PlainTerminal, Made, flushed, unsent_message, sends, sends_if, unchanged, requested, request_for, types, event_outcome, made_by_type, made_by_cut, made_by_paste, made_by_snarf, made_by_view, event_checks, has_long_text, act_of, act_on, decided, flush_of, take_of}
+use Rattle.sam_term.specs.Term.{PlainTerminal, Made, flushed, unsent_message, sends, sends_if, unchanged, requested, request_for, event_outcome, made_by_type, made_by_cut, made_by_paste, made_by_snarf, made_by_view, event_checks, has_long_text, act_of, act_on, decided, flush_of, take_of}
 use Rattle.sam_term.specs.declared.records.Unsent.{Unsent}
 use Rattle.sam_term.specs.declared.event.UserEvent.{UserEvent}
 use Rattle.sam_term.specs.declared.event.Verdict.{Verdict}
@@ -102,9 +102,6 @@ free-append : (ms ns : List Tmesg) → AllFree ms → AllFree ns → AllFree (ms
 free-append [] ns a b = b
 free-append (m ∷ ms) ns a b = (a.0, free-append ms ns a.1 b)
 
-free-if : (b : Bool) (x y : Made) → AllFree x.1 → AllFree y.1 → AllFree (if b then x else y).1
-free-if b x y e u = grind arith
-
 free-unsent : (o : Option Unsent) → AllFree (unsent_message o)
 free-unsent o = grind arith
 
@@ -118,9 +115,6 @@ flushed_is t = refl
 
 free-sends : (t : PlainTerminal) (change : PlainTerminal → PlainTerminal) (ms : List Tmesg) → AllFree ms → AllFree (sends t change ms).1
 free-sends t change ms p = free-append (flushed t).1 ms (free-flushed t) p
-
-free-types : (t : PlainTerminal) (f p : ℕ) (s : List ℕ) → AllFree (types t f p s).1
-free-types t f p s = grind (arith, free-append, free-flushed)
 
 free-sends_if : (t : PlainTerminal) (o : Option (ℕ × ℕ)) (f : ℕ) → AllFree (sends_if (request_for f o) t).1
 free-sends_if t None f = tt
@@ -136,7 +130,7 @@ free-plain t ms p = free-sends t unchanged ms p
 -- what an event composes at a place with the terminal's version
 event_turn : (t : PlainTerminal) (e : UserEvent) (v : ℕ) → has_long_text t e ≡ false → v ≡ t.version → InTurn terminal v (event_outcome t e).1
 unfolding made_by_type made_by_cut made_by_paste made_by_snarf made_by_view
-event_turn t e v u w = grind (arith, free_turn, free-append, free-types, free-if, free-sends, free-plain, free-requested, flushed_is, free-flushed)
+event_turn t e v u w = grind (arith, free_turn, free-append, free-sends, free-plain, free-requested, flushed_is, free-flushed)
 
 -- ## Acts, flushes and frames
 
@@ -166,4 +160,4 @@ flush_turn t r v e = subst (λ (x : Made). InTurn terminal v x.1) (counted-resul
 
 pub take_turn : (t : PlainTerminal) (frame : HFrame) (r : Made) (v : ℕ) → take_of t frame ≡ Ok r → InTurn terminal v r.1
 unfolding take_of
-take_turn t frame r v e = grind (arith, free_turn, free-requested, free-if, free-plain)
+take_turn t frame r v e = grind (arith, free_turn, free-requested, free-plain)

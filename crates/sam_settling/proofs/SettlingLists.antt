@@ -203,9 +203,6 @@ frames_taken (e ∷ entries) keys clicks frames within k c f = grind (
 module _ {T : Type 0} where
   -- ## What an audit of these posts says
 
-  pub audited_line : (t : TakeView T) (posts real : List (PostView T)) (left : List (Vec T Global)) → real ≡ posts → AllAccounted t.taken real left → HasHistory t real left → Gives t posts
-  audited_line t posts real left same all history = grind arith
-
   pub audited_few : (t : TakeView T) (real : List (PostView T)) (left shown : List (Vec T Global)) → HasHistory t real left → shown ≡ left → t.line.capacity < 2 ^ 64
       → sum_by (λ v. length v.items) shown < 2 ^ 64
   audited_few t real left shown history same bound = grind (arith, (left_few t real left history))

@@ -1,10 +1,8 @@
 -- Runs of the plain world that stop.
-use Rattle.std.proofs.Common.{◌≡◌, sym, ap, ◌∙◌, ℕ, suc, true, List, ◌∷◌, take, slice_get, Option, Some, None, arith}
+use Rattle.std.proofs.Common.{◌≡◌, sym, ap, ◌∙◌, ℕ, suc, List, ◌∷◌, take, slice_get, Option, Some, None, arith}
 use Rattle.std.specs.Prelude.{option_and_then}
 use Rattle.std.proofs.lemmas.Option.{slice_get_cases}
-use Rattle.sam_runes.specs.Texts.{is_empty}
-use Rattle.sam_mesg.specs.declared.hmesg.HFrame.{HFrame}
-use Rattle.sam_world.specs.World.{PlainWorld, new_world, step_of, run_of, term_takes}
+use Rattle.sam_world.specs.World.{PlainWorld, new_world, step_of, run_of}
 use Rattle.sam_world.specs.Faults.{IsFaultOf, IsStoppedAt}
 use Rattle.sam_world.specs.declared.event.Event.{Event}
 use Rattle.sam_world.specs.declared.event.RunStop.{RunStop}
@@ -12,12 +10,9 @@ use Rattle.sam_world.specs.declared.event.StepFault.{StepFault}
 use Rattle.sam_world.specs.declared.event.StepFault.TheVariants.{OutOfMemory}
 use Rattle.sam_world.proofs.Stopping.{passing_stops}
 
-term_empty : (w : PlainWorld) (down : List HFrame) → is_empty down ≡ true → term_takes w down ≡ None
-term_empty w down e = grind arith
-
 -- a fault other than want of memory is of an event that is no step
 no_step : (w : PlainWorld) (e : Event) (why : StepFault) → IsFaultOf w e why → (why ≡ OutOfMemory → ⊥) → step_of w e ≡ None
-no_step w e why u q = grind (arith, term_empty, passing_stops)
+no_step w e why u q = grind (arith, passing_stops)
 
 no_run : (w v : PlainWorld) (es : List Event) (at : ℕ) (e : Event) → slice_get es at ≡ Some e → run_of w (take at es) ≡ Some v → step_of v e ≡ None → run_of w es ≡ None
 no_run w v (d ∷ es) (suc at) e is r s = go (step_of w d) (λ n q. no_run n v es at e is q s) r

@@ -37,9 +37,6 @@ pub answers : (t u : PlainTerminal) (e : UserEvent) (made : Made) (ms : List Tme
     → ms ≡ made.1 → u.sent ≤ most_count → done (made_first t) ≡ Ok (u, Done ms)
 answers t u e made ms first by a b l = grind (arith, made_of, loud_done)
 
-pub overflows : (t : PlainTerminal) (e : UserEvent) (made : Made) → first_event t.held ≡ e → event_outcome (later t) e ≡ made → most_count < made.0.sent → done (made_first t) ≡ Err fault.CountFull
-overflows t e made first by l = ap done (made_of t e first ∙ by) ∙ full_done made l
-
 pub fits_count : (t : PlainTerminal) (e : UserEvent) (made : Made) → first_event t.held ≡ e → event_outcome (later t) e ≡ made → made.0.sent ≤ most_count → IsOk (done (made_first t))
 fits_count t e made first by l = subst IsOk (sym (ap done (made_of t e first ∙ by))) (is_done made l)
 
@@ -203,7 +200,7 @@ made-sent t e made ms by m = grind (arith, counts-event, flushed-messages)
 pub refused_by : (t : PlainTerminal) (e : UserEvent) (made : Made) (ms : List Tmesg) (why : TermFault) (count : ℕ) → first_event t.held ≡ e
     → event_outcome (later t) e ≡ made → made.1 ≡ (flushed (later t)).1 ++ ms → count ≡ length ms + length (unsent_message t.unsent)
     → ((why ≡ fault.OutOfMemory) × (t.sent + count ≤ most_count)) ⊎ ((why ≡ fault.CountFull) × (most_count < t.sent + count)) → IsFailure (done (made_first t)) why
-refused_by t e made ms why count first by m n h = grind (arith, (made-sent (later t) e made ms by m), (fits_count t e made first by), (overflows t e made first by))
+refused_by t e made ms why count first by m n h = grind (arith, (made-sent (later t) e made ms by m), (fits_count t e made first by), made_of, full_done)
 
 pub loud_answer : (t u : PlainTerminal) (e : UserEvent) (made : Made) (a : Acted) (ms : List Tmesg) → first_event t.held ≡ e → event_outcome (later t) e ≡ made
     → u ≡ made.0 → a ≡ Done ms → ms ≡ made.1 → u.sent ≤ most_count → done (made_first t) ≡ Ok (u, a)

@@ -1,5 +1,5 @@
 -- A terminal stays sound as files are opened, closed, named and dropped.
-use Rattle.std.proofs.Common.{◌≡◌, subst, ℕ, suc, ◌≤◌, true, false, [], ◌∷◌, length, Some, None, is_some, ◌⊎◌, ◌≢◌, arith}
+use Rattle.std.proofs.Common.{◌≡◌, subst, ℕ, suc, ◌≤◌, true, false, [], ◌∷◌, length, Some, None, is_some, arith}
 use Rattle.std.specs.Prelude.{unwrap_or}
 use Rattle.sam_runes.specs.Texts.{most_in_message}
 use Rattle.sam_runes.specs.Slots.{Slots, slot, put_slot, free_slot, map_slots}
@@ -22,13 +22,8 @@ pub sound-same : (t : PlainTerminal) (later : Slots KnownFile) → IsSound t →
 unfolding FitsUnsent
 sound-same t later s same = grind arith
 
--- the windows after a file is put
-pub windows-put : (ss : Slots KnownFile) (f : ℕ) (k : KnownFile) (g : ℕ) → ((f ≡ g) × (window_in (put_slot ss f k) g ≡ unwrap_or k.window blank_window))
-    ⊎ ((f ≢ g) × (window_in (put_slot ss f k) g ≡ window_in ss g))
-windows-put ss f k g = grind (arith, slot-put_same, slot-put_other)
-
 same-put : (ss : Slots KnownFile) (f : ℕ) (k : KnownFile) → unwrap_or k.window blank_window ≡ window_in ss f → (g : ℕ) → window_in (put_slot ss f k) g ≡ window_in ss g
-same-put ss f k e g = grind (arith, windows-put)
+same-put ss f k e g = grind (arith, slot-put_same, slot-put_other)
 
 -- a file gets another name or mark, or its first
 pub sound-put_known : (t : PlainTerminal) (f : ℕ) (k : KnownFile) → IsSound t → unwrap_or k.window blank_window ≡ window_at t f → IsSound (put_known t f k)
@@ -41,7 +36,7 @@ sound-free t f s e = grind (arith, sound-same, slot-free_same, slot-free_other)
 -- a file is closed, and its unsent runes dropped
 pub sound-close : (t : PlainTerminal) (f : ℕ) → IsSound t → IsSound (record (put_known t f (record (known_at t f) { window = None })) { unsent = unsent_without f t.unsent })
 unfolding FitsUnsent IsShort
-sound-close t f s = grind (arith, windows-put)
+sound-close t f s = grind (arith, slot-put_same, slot-put_other)
 
 -- the window of a file after all locks are freed
 freed_fits : (n : ℕ) (ss : Slots KnownFile) (g : ℕ) → FitsWindow n (window_in ss g) → FitsWindow n (window_in (map_slots freed_known ss) g)

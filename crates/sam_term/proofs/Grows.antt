@@ -93,10 +93,6 @@ module _ (t : PlainTerminal) (f : ℕ) (w v : Window) (o : Option Unsent) (same 
   pub lent_del : (p q : ℕ) → v ≡ window_after_del w p q → o ≡ moved_unsent f (place_after_del p q) t.unsent → record (put_window t f v) { unsent = o } ≡ del_rasp t f p q
   lent_del p q e m = grind arith
 
--- what is true after a call is true where that failed
-pub on_err : {A E X : Type 0} (r : Result A E) → X → OnErr r X
-on_err r e = grind arith
-
 -- what is true where a call fails, and where it does not
 pub at_err : {A E X : Type 0} (r : Result A E) → is_err r ≡ true → OnErr r X → X
 at_err r e u = grind arith

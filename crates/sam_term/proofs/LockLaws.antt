@@ -8,7 +8,7 @@ use Rattle.sam_term.specs.declared.lock.Lock.{Lock}
 use Rattle.sam_term.specs.declared.lock.Lock.TheVariants.{NoLock, CommandLock, FileLock}
 use Rattle.sam_term.specs.Events.{lock_of, is_command_line}
 use Rattle.sam_term.specs.LockCounts.{locks_taken, takes_command, requests, locks_left, command_left, awaited_left}
-use Rattle.sam_term.specs.Term.{PlainTerminal, Made, known_at, window_at, put_known, put_window, edited, cut_rasp, lock_taken, asked, composed, all_composed, flushed, unsent_message, and_then, sends, sends_if, unchanged, requested, wanted, kept_unsent, typed_rasp, types, cuts_dot, event_outcome, made_by_type, made_by_cut, made_by_paste, made_by_snarf, made_by_view, frame_outcome, freed_known, took_bindname, took_data, took_grow, took_growdata, took_cut, took_unlockfile, took_close, took_exit}
+use Rattle.sam_term.specs.Term.{PlainTerminal, Made, known_at, window_at, put_known, put_window, edited, cut_rasp, lock_taken, asked, composed, all_composed, flushed, unsent_message, and_then, sends, sends_if, unchanged, requested, wanted, kept_unsent, typed_rasp, types, event_outcome, made_by_type, made_by_cut, made_by_paste, made_by_snarf, made_by_view, frame_outcome, freed_known, took_bindname, took_data, took_grow, took_growdata, took_cut, took_unlockfile, took_close, took_exit}
 use Rattle.sam_term.specs.Windows.{blank_window, blank_known}
 use Rattle.sam_term.specs.declared.records.Window.{Window}
 use Rattle.sam_term.specs.declared.records.KnownFile.{KnownFile}
@@ -132,9 +132,6 @@ held-edited f t g = held-same t g (record (known_at t g) { changed = true }) f r
 held-cut : (f g p q : ℕ) (u : PlainTerminal) → held_of f (cut_rasp u g p q) ≡ held_of f u
 held-cut f g p q u = held-window (edited u g) g _ f refl refl ∙ held-edited f u g
 
-holds-cuts : (f : ℕ) (t : PlainTerminal) (g : ℕ) → Holds f (held_of f t) (cuts_dot t g)
-holds-cuts f t g = search (arith, holds-if, holds-sends, held-cut)
-
 holds-kept : (f : ℕ) (t : PlainTerminal) (g p : ℕ) (s : List ℕ) → Holds f (held_of f t) (kept_unsent t g p s)
 holds-kept f t g p s = search (arith, holds-if, holds-then, holds-flushed)
 
@@ -152,10 +149,10 @@ holds-types f t g p s =
 
 holds-event : (f : ℕ) (t : PlainTerminal) (e : UserEvent) → Holds f (held_of f t) (event_outcome t e)
 unfolding made_by_type made_by_cut made_by_paste made_by_snarf made_by_view
-holds-event f t (Typed g s) = search (arith, holds-then, holds-cuts, holds-if, holds-types)
+holds-event f t (Typed g s) = search (arith, holds-then, holds-if, holds-types, holds-sends, held-cut)
 holds-event f t (Select g p q) = grind (arith, held-window)
 holds-event f t (Cut g) = search (arith, holds-if, holds-sends, held-cut)
-holds-event f t (Paste g) = search (arith, holds-then, holds-cuts, holds-plain)
+holds-event f t (Paste g) = search (arith, holds-then, holds-plain, holds-if, holds-sends, held-cut)
 holds-event f t (Snarf g) = grind (arith, (holds-plain f t))
 holds-event f t (View g p n) = grind (arith, holds-requested, held-window)
 holds-event f t Flush = holds-flushed f t

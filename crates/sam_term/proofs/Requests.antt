@@ -24,14 +24,10 @@ lockable_wanted t f m e = grind arith
 opened-put : (t : PlainTerminal) (f : ℕ) (w : Window) → is_open (put_window t f w) f ≡ true
 opened-put t f w = grind (arith, slot-put_same)
 
--- a window that is put asks for what it shows
-pub wanted-put : (t : PlainTerminal) (f : ℕ) (w : Window) → wanted (put_window t f w) f ≡ asks f true t.has_exited w
-wanted-put t f w = grind (arith, window-put_same)
-
 -- freeing a lock changes no request
 pub wanted-unlocked : (t : PlainTerminal) (f : ℕ) → is_open t f ≡ true → wanted (took_unlockfile t f) f ≡ wanted t f
 unfolding took_unlockfile
-wanted-unlocked t f o = grind (arith, wanted-put)
+wanted-unlocked t f o = grind (arith, window-put_same)
 
 pub requested_some : (t : PlainTerminal) (f : ℕ) (m : Tmesg) → wanted t f ≡ Some m → requested t f ≡ sends t unchanged (m ∷ [])
 unfolding requested

@@ -24,10 +24,6 @@ pub typed-cut : (w : Window) (s : List ℕ) → w.dot.0 ≤ length w.rasp → re
     { dot = (w.dot.0 + length s, w.dot.0 + length s) } ≡ typed_over w s
 typed-cut w s l = grind (arith, length-map, over)
 
--- runes that come in at an empty dot
-pub typed-in : (w : Window) (s : List ℕ) → w.dot.0 ≡ w.dot.1 → record (window_after_ins w w.dot.0 (map Some s)) { dot = (w.dot.0 + length s, w.dot.0 + length s) } ≡ typed_over w s
-typed-in w s e = grind (arith, length-map)
-
 -- places of a window in which runes were typed
 pub fits-typed : (n : ℕ) (w : Window) (s : List ℕ) → FitsWindow n w → length w.rasp + length s ≤ max_runes + (w.dot.1 - w.dot.0) → FitsWindow n (typed_over w s)
 fits-typed n w s h m = grind (arith, (length-map s Some), (length-del_cells w.rasp w.dot.0 w.dot.1), length-ins_cells, (typed-cut w s))

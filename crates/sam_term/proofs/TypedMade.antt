@@ -1,12 +1,11 @@
 -- What typing makes, in the order of the code: the window is changed first, and the messages are composed behind that.
+use Rattle.sam_term.proofs.Sounds.{full_done}
 use Rattle.std.proofs.Common.{◌≡◌, refl, ap, ℕ, ◌≤◌, ◌<◌, ◌+◌, ◌-◌, ◌++◌, Bool, true, false, List, [], ◌∷◌, length, map, Option, Some, None, if◌then◌else◌, ◌==◌, ◌≢◌, ◌⊎◌, arith, length-append, nat_eq}
 use Rattle.std.specs.Prelude.{not, ◌&&◌, option_map}
-use Rattle.std.proofs.lemmas.List.{append-nil}
+use Rattle.std.proofs.lemmas.List.{append-nil, length-map}
 use Rattle.std.proofs.lemmas.Bool.{ltb-false, eq-eqb, ne_eqb}
 use Rattle.sam_runes.specs.Texts.{is_empty, max_runes, most_count, most_in_message}
-use Rattle.sam_rasp.specs.Rasp.{place_after_ins}
-use Rattle.sam_term.specs.Term.{PlainTerminal, Made, window_at, put_window, window_after_del, moved_unsent, edited, cut_rasp, ins_rasp, set_dot_of, all_composed, flushed, unsent_message, and_then, joins, joined, kept_unsent, typed_rasp, types, cuts_dot, event_outcome, made_by_type}
-use Rattle.sam_term.specs.Windows.{window_in}
+use Rattle.sam_term.specs.Term.{PlainTerminal, Made, window_at, put_window, window_after_del, edited, cut_rasp, ins_rasp, set_dot_of, all_composed, flushed, unsent_message, and_then, joins, joined, typed_rasp, types, cuts_dot, event_outcome, made_by_type}
 use Rattle.sam_term.specs.Events.{is_command_line}
 use Rattle.sam_term.specs.Editing.{typed_over, joined_at, lengthened, shortened, typed_file, typed_runes, cut_message, one_if, flushed_if}
 use Rattle.sam_term.specs.Sound.{IsSound, FitsUnsent, IsShort}
@@ -20,19 +19,15 @@ use Rattle.sam_term.specs.declared.fault.TermFault.{TermFault}
 use Rattle.sam_term.specs.declared.fault.TermFault.TheVariants as fault
 use Rattle.sam_mesg.specs.declared.tmesg.Tmesg.{Tmesg}
 use Rattle.sam_mesg.specs.declared.tmesg.Tmesg.TheVariants.{Tcut}
-use Rattle.sam_term.proofs.Acts.{passes, test_at}
-use Rattle.sam_term.proofs.TypedLaws.{typed-cut, typed-in, sound-typed}
+use Rattle.sam_term.proofs.Acts.{passes, test_at, made_of}
+use Rattle.sam_term.proofs.TypedLaws.{typed-cut, sound-typed}
 use Rattle.std.proofs.Math.Seq.{take-append_seam}
 use Rattle.sam_term.proofs.Composes.{put-put, window-put_same, flushed-files}
 use Rattle.sam_term.proofs.Marks.{edited-window, edited-again}
 use Rattle.sam_term.proofs.CountLaws.{counts-event}
-use Rattle.sam_term.proofs.Edits.{later, overflows, fits_count, cut_made, cuts_none, cut-unsent, flushed-idle, flushed-messages}
+use Rattle.sam_term.proofs.Edits.{later, fits_count, cut_made, cuts_none, cut-unsent, flushed-idle, flushed-messages}
 
 -- ## The window
-
--- runes that begin no later than where something is put in stay where they are
-moved-kept : (f p n : ℕ) (j : Unsent) → j.place ≤ p → moved_unsent f (place_after_ins p n) (Some j) ≡ Some j
-moved-kept f p n j l = grind arith
 
 -- runes that come in at p, with the dot after them
 abbrev placed : PlainTerminal → ℕ → ℕ → List ℕ → PlainTerminal
@@ -41,13 +36,13 @@ placed t f p s = set_dot_of (ins_rasp t f p (map Some s)) f (p + length s, p + l
 -- at an empty dot
 placed-empty : (t : PlainTerminal) (f : ℕ) (s : List ℕ) (j : Unsent) → (window_at t f).dot.0 ≡ (window_at t f).dot.1 → j.place ≤ (window_at t f).dot.0
     → placed (record t { unsent = Some j }) f (window_at t f).dot.0 s ≡ record (put_window t f (typed_over (window_at t f) s)) { unsent = Some j }
-placed-empty t f s j e l = grind (arith, moved-kept, typed-in, window-put_same, put-put)
+placed-empty t f s j e l = grind (arith, window-put_same, put-put, length-map)
 
 -- where a dot was cut
 placed-filled : (t : PlainTerminal) (f : ℕ) (s : List ℕ) (j : Unsent) (n : ℕ) → j.place ≤ (window_at t f).dot.0 → (window_at t f).dot.0 ≤ length (window_at t f).rasp
     → placed (record (put_window t f (window_after_del (window_at t f) (window_at t f).dot.0 (window_at t f).dot.1)) { unsent = Some j; sent = n }) f
     (window_at t f).dot.0 s ≡ record (put_window t f (typed_over (window_at t f) s)) { unsent = Some j; sent = n }
-placed-filled t f s j n l within = grind (arith, window-put_same, put-put, moved-kept, typed-cut)
+placed-filled t f s j n l within = grind (arith, window-put_same, put-put, typed-cut)
 
 -- the user types runes at an empty dot
 typed-empty : (t : PlainTerminal) (f : ℕ) (s : List ℕ) (j : Unsent) → (window_at t f).dot.0 ≡ (window_at t f).dot.1 → j.place ≤ (window_at t f).dot.0
@@ -67,9 +62,6 @@ then-kept f p s u = (record u { unsent = Some (joined None f p s) }, [])
 
 abbrev kept-by : PlainTerminal → ℕ → ℕ → List ℕ → Bool → Option Unsent → Made
 kept-by t f p s b o = if b then (record t { unsent = Some (joined o f p s) }, []) else and_then (flushed t) (then-kept f p s)
-
-kept-idle : (t : PlainTerminal) (f p : ℕ) (s : List ℕ) → t.unsent ≡ None → kept_unsent t f p s ≡ (record t { unsent = Some (joined None f p s) }, [])
-kept-idle t f p s e = grind (arith, flushed-idle)
 
 -- ## The event
 
@@ -109,32 +101,25 @@ abbrev apart_with : PlainTerminal → ℕ → List ℕ → ℕ → Window → Li
 apart_with t f s p w ms =
     record (all_composed (put_window (edited (flushed t).0 f) f (typed_over w s)) ms) { unsent = Some (joined None f p s) }
 
-same-window : (t : PlainTerminal) (f : ℕ) → window_at (flushed t).0 f ≡ window_at t f
-same-window t f = ap (λ ss. window_in ss f) (flushed-files t)
-
 abbrev finish : Bool → List Tmesg → PlainTerminal → Made
 finish b ms u = ((flushed_if b u).0, ms ++ (flushed_if b u).1)
 
 apart-empty : (t : PlainTerminal) (f : ℕ) (s : List ℕ) → (window_at t f).dot.0 ≡ (window_at t f).dot.1
     → typed_rasp (record (flushed t).0 { unsent = Some (joined None f (window_at t f).dot.0 s) }) f (window_at t f).dot.0 s ≡ apart_with t f s (window_at t f).dot.0 (window_at t f) []
-apart-empty t f s e = grind (arith, (same-window t f), (typed-empty (flushed t).0 f s (joined None f (window_at (flushed t).0 f).dot.0 s)))
+apart-empty t f s e = grind (arith, (typed-empty (flushed t).0 f s (joined None f (window_at (flushed t).0 f).dot.0 s)), flushed-files)
 
 apart-filled : (t : PlainTerminal) (f : ℕ) (s : List ℕ) → (window_at t f).dot.0 ≤ length (window_at t f).rasp
     → typed_rasp (record (cut_made t f (window_at t f).dot).0 { unsent = Some (joined None f (window_at t f).dot.0 s) }) f (window_at t f).dot.0 s ≡
     apart_with t f s (window_at t f).dot.0 (window_at t f) (Tcut f (window_at t f).dot.0 (window_at t f).dot.1 ∷ [])
-apart-filled t f s l = grind (arith, (same-window t f), (typed-filled (flushed t).0 f s (joined None f (window_at (flushed t).0 f).dot.0 s) ((flushed t).0.sent + 1)))
+apart-filled t f s l = grind (arith, (typed-filled (flushed t).0 f s (joined None f (window_at (flushed t).0 f).dot.0 s) ((flushed t).0.sent + 1)), flushed-files)
 
 made-apart_none : (t : PlainTerminal) (f : ℕ) (s : List ℕ) → is_empty s ≡ false → (window_at t f).dot.0 ≡ (window_at t f).dot.1
     → joins t.unsent f (window_at t f).dot.0 s ≡ false → event_outcome t (Typed f s) ≡ made_apart t f s (window_at t f).dot
 made-apart_none t f s some e j = grind (arith, (by-steps t f s some), (apart-empty t f s e), nat_eq, eq-eqb)
 
-made-apart_some : (t : PlainTerminal) (f : ℕ) (s : List ℕ) → is_empty s ≡ false → (window_at t f).dot.0 ≢ (window_at t f).dot.1
-    → (window_at t f).dot.0 ≤ length (window_at t f).rasp → event_outcome t (Typed f s) ≡ made_apart t f s (window_at t f).dot
-made-apart_some t f s some e l = grind (arith, by-steps, kept-idle, cut-unsent, apart-filled, nat_eq, ne_eqb)
-
 pub made-apart : (t : PlainTerminal) (f : ℕ) (s : List ℕ) (d : ℕ × ℕ) → d ≡ (window_at t f).dot → is_empty s ≡ false → d.0 ≤ length (window_at t f).rasp
     → (d.0 == d.1 && joins t.unsent f d.0 s) ≡ false → event_outcome t (Typed f s) ≡ made_apart t f s d
-made-apart t f s d same some l h = grind (arith, made-apart_none, made-apart_some)
+made-apart t f s d same some l h = grind (arith, made-apart_none, by-steps, cut-unsent, apart-filled, nat_eq, ne_eqb, flushed-idle)
 
 -- without runes
 pub made-nothing_none : (t : PlainTerminal) (f : ℕ) (d : ℕ × ℕ) → d ≡ (window_at t f).dot → d.0 ≡ d.1 → event_outcome t (Typed f []) ≡ (t, [])
@@ -163,7 +148,7 @@ flush-count b t j e = grind (arith, flushed-messages)
 
 pub refused_full : (t : PlainTerminal) (e : UserEvent) (made : Made) (why : TermFault) (count : ℕ) → first_event t.held ≡ e → event_outcome (later t) e ≡ made
     → count ≡ length made.1 → ((why ≡ fault.OutOfMemory) × (t.sent + count ≤ most_count)) ⊎ ((why ≡ fault.CountFull) × (most_count < t.sent + count)) → IsFailure (done (made_first t)) why
-refused_full t e made why count first by n h = grind (arith, (counts-event (later t) e), (fits_count t e made first by), (overflows t e made first by))
+refused_full t e made why count first by n h = grind (arith, (counts-event (later t) e), (fits_count t e made first by), made_of, full_done)
 
 pub apart-count : (t : PlainTerminal) (f : ℕ) (s : List ℕ) (d : ℕ × ℕ) → length (made_apart t f s d).1 ≡ length (unsent_message t.unsent) + one_if (not (d.0 == d.1)) + one_if (is_command_line f s)
 apart-count t f s d = grind (arith, flushed-messages)

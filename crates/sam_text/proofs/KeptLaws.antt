@@ -7,7 +7,6 @@ use Rattle.sam_runes.specs.Slots.{Slots, slot, put_slot, free_slot}
 use Rattle.sam_runes.proofs.SlotLaws.{slot-put_same, slot-put_other, slot-free_same, slot-free_other, slot-map, slot_given, length-put_slot, length-free_slot, length-map_slots, put_slot-push}
 use Rattle.sam_text.specs.Files.{PlainFile, PlainFiles, blank_file, file_at, has_file, put_file, with_new, without_file, announced_file, announce_all, IsFit, HasShortName, IsWork, AreSoundFiles}
 use Rattle.sam_text.proofs.FitLaws.{all-put, fit-put}
-use Rattle.sam_text.proofs.ViewLaws.{is_some-map}
 
 -- a tag that has a file keeps one where a file is put
 pub given-put : {X : Type 0} (ss : Slots X) (f g : ℕ) (x : X) → is_some (slot ss g) ≡ true → is_some (slot (put_slot ss f x) g) ≡ true
@@ -57,12 +56,9 @@ all-announce P step [] all f = all f
 all-announce P step (s ∷ ss) all zero = all 0
 all-announce P step (s ∷ ss) all (suc f) = grind (arith, (slot-map announced_file ss f), (all-announced P step (slot ss f) (all (suc f))))
 
-work-announce : (fs : PlainFiles) (w : Option ℕ) → IfSome w (IsWork fs) → IfSome w (IsWork (record fs { slots = announce_all fs.slots }))
-work-announce fs w e = grind (arith, slot-map, is_some-map)
-
 -- all files but the command file are announced
 pub kept_announce : (fs : PlainFiles) → AreSoundFiles fs → AreSoundFiles (record fs { slots = announce_all fs.slots })
-kept_announce fs all = grind (arith, (work-announce fs fs.work all.2), (all-announce IsFit), (all-announce HasShortName), length-map_slots)
+kept_announce fs all = grind (arith, (all-announce IsFit), (all-announce HasShortName), length-map_slots, slot-map)
 
 -- a file is put where one was, or nothing is changed
 pub kept_put_or : {E : Type 0} (fs : PlainFiles) (g : ℕ) (x : PlainFile) → AreSoundFiles fs → has_file fs g ≡ true → (r : Result ⊤ E) (after : Slots PlainFile)

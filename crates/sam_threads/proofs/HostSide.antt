@@ -9,7 +9,7 @@ use Rattle.sam_mesg.specs.declared.fault.MesgFault.{MesgFault}
 use Rattle.sam_mesg.specs.TerminalKinds.{FitsT}
 use Rattle.sam_mesg.specs.HostKinds.{FitsH, IsHFrame, after_h}
 use Rattle.sam_frame.specs.Direction.{terminal, host, frame_of}
-use Rattle.sam_frame.specs.Stream.{CanEncode, FitInTurn, Splits, stream_of}
+use Rattle.sam_frame.specs.Stream.{CanEncode, FitInTurn, stream_of}
 use Rattle.sam_frame.specs.Framing.{Held, GaveAll, GaveUp}
 use Rattle.sam_frame.proofs.Fronts.{stream_of-append}
 use Rattle.sam_host.specs.Host.{PlainHost, answer}
@@ -131,19 +131,14 @@ leaves_halts refuses k version came left bytes stop.PeerGone fits l = l
 leaves_halts refuses k version came left bytes stop.Gate fits l = l
 leaves_halts refuses k version came left bytes why e u = grind arith
 
--- some messages of those that stand at the front of the bytes were handled
-some_front : (refuses : Type 0) (h k : PlainHost) (p q : PostView (Vec ℕ)) (version came : ℕ) (bytes : List ℕ) (ms : List Tmesg) (rest : List ℕ) (why : Stop)
-    → Splits terminal version bytes ms rest → HandledSome refuses h k p q ms why → HandledFront refuses h k p q version came bytes why
-some_front refuses h k p q version came bytes ms rest why splits s = grind (arith, stream_of-append, append_assoc, fit_front, leaves_halts, each_behind, each_t)
-
 pub piece_all : (refuses : Type 0) (h k : PlainHost) (p q : PostView (Vec ℕ)) (held fed next : Held) (piece : List ℕ) (ms : List Tmesg) (r : Result (Unit {0}) Stop)
     → next ≡ fed → GaveAll terminal held piece ms fed → HandlesAll refuses h k p q ms r → TakesPiece refuses h k p q held next piece r
-piece_all refuses h k p q held fed next piece ms r e u w = grind (arith, some_front)
+piece_all refuses h k p q held fed next piece ms r e u w = grind (arith, stream_of-append, append_assoc, fit_front, leaves_halts, each_behind, each_t)
 
 pub piece_before : (refuses : Type 0) (h k : PlainHost) (p q : PostView (Vec ℕ)) (held next : Held) (piece : List ℕ) (ms : List Tmesg) (place : ℕ) (fault : MesgFault) (why : Stop)
     → GaveUp terminal held piece ms place fault next → StopsBefore refuses h k p q ms (frame_number fault) why
     → HandledFront refuses h k p q held.version (held.offset + length held.bytes + length piece) (held.bytes ++ piece) why
-piece_before refuses h k p q held next piece ms place fault why up (inl some) = grind (arith, some_front)
+piece_before refuses h k p q held next piece ms place fault why up (inl some) = grind (arith, stream_of-append, append_assoc, fit_front, leaves_halts, each_behind, each_t)
 piece_before refuses h k p q held next piece ms place fault why up (inr all) = grind arith
 
 -- the piece was not fed

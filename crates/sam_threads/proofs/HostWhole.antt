@@ -12,10 +12,8 @@ use Rattle.sam_frame.proofs.Cuttings.{Came, comes_more, splits_more}
 use Rattle.sam_host.specs.Host.{PlainHost, new_host}
 use Rattle.sam_queue.specs.declared.rule.Entry.{Entry}
 use Rattle.sam_queue.specs.History.{items_of, IsEnded}
-use Rattle.sam_queue.specs.Views.{LineView, PostView, TakeView, TakesNext, Answers, new_post, closed_post}
-use Rattle.sam_queue.specs.declared.take.Got.{Got}
-use Rattle.sam_queue.specs.declared.take.Got.TheVariants.{Left}
-use Rattle.sam_queue.proofs.Laws.{items_of_item, items_of_mark}
+use Rattle.sam_queue.specs.Views.{LineView, PostView, TakeView, TakesNext, new_post, closed_post}
+use Rattle.sam_queue.proofs.Laws.{items_of_item}
 use Rattle.sam_queue.proofs.Sorts.{items_of-append}
 use Rattle.sam_world.specs.Given.{IsFile}
 use Rattle.sam_threads.specs.Inputs.{bytes_of}
@@ -48,10 +46,6 @@ going_item refuses h j k p q r held next a b sender piece fed one takes is going
   (item_is 1 a b sender piece refl one takes),
   (comes_more terminal fresh (bytes_of (items_of 0 a.taken)) going.messages held piece.items ms next going.came),
 )
-
-pub going_left : (h j : PlainHost) (p q : PostView (Vec ℕ)) (held : Held) (a b : TakeView (Vec ℕ)) (got : Got (Vec ℕ)) (sender : ℕ)
-    → got ≡ Left sender → Answers a got b → Going h j p q held a.taken → Going h j p q held b.taken
-going_left h j p q held a b got sender is answers going = grind (arith, items_of_mark)
 
 -- how many bytes came with a piece
 came_is : (bytes : List ℕ) (ms : List Tmesg) (held : Held) (fed piece : List ℕ) → fed ≡ piece → Came terminal fresh bytes ms held

@@ -43,16 +43,12 @@ drained_then (suc i) k w v d =
     let one : suc (i + k) ≡ suc i + k = omega arith in
     subst (λ n. drained n w ≡ drained k v) one (go (next_event w) (λ n r. drained_then i k n v r) refl d)
   where
-    past : (o : Option PlainWorld) → ((n : PlainWorld) → drained i n ≡ Some v → drained (i + k) n ≡ drained k v)
-        → option_and_then (drained i) o ≡ Some v → option_and_then (drained (i + k)) o ≡ drained k v
-    past o e u = grind arith
-
     go : (o : Option Event) → ((n : PlainWorld) → drained i n ≡ Some v → drained (i + k) n ≡ drained k v) → next_event w ≡ o → elim o [
       | None ↦ Some w
       | Some x ↦
           option_and_then (drained i) (step_of w x)
     ] ≡ Some v → elim o [ None ↦ Some w | Some x ↦ option_and_then (drained (i + k)) (step_of w x) ] ≡ drained k v
-    go o e u q = grind (arith, drained_still, same_Some, past)
+    go o e u q = grind (arith, drained_still, same_Some)
 
 -- one event more
 pub drained_more : (i : ℕ) (w v u : PlainWorld) → drained i w ≡ Some v → Advances v u → drained (i + 1) w ≡ Some u

@@ -1,7 +1,7 @@
 use Rattle.std.proofs.Common.{arith, sym, ◌∙◌}
 use Rattle.sam_text.specs.Files.{blank_file, IsSoundFile}
 use Rattle.sam_text.specs.Views.{plain_file, changed, given_text, FitsIn}
-use Rattle.sam_text.proofs.ViewLaws.{given-view, view-change, view-none, seen_there, seen_kept, keep_set, keep_changed}
+use Rattle.sam_text.proofs.ViewLaws.{given-view, view-change, seen_there, seen_kept, keep_set, keep_changed, slot-view_none}
 use Rattle.sam_text.proofs.files.change_in.Goals as goal
 
 pub returns-then-index-len-clause-plain : goal.returns-then-index-len-clause-plain
@@ -29,7 +29,7 @@ returns-in-Some-clause-rooms c =
     (keep_changed c.args.change c.args.index c.in-Some.file c.change.new.self fits c.change.ensures.plain c.change.ensures.room)
 
 pub returns-in-None-clause-plain : goal.returns-in-None-clause-plain
-returns-in-None-clause-plain c = grind (arith, view-none)
+returns-in-None-clause-plain c = grind (arith, slot-view_none)
 
 pub returns-in-None-clause-kept : goal.returns-in-None-clause-kept
-returns-in-None-clause-kept c = grind (arith, view-none)
+returns-in-None-clause-kept c = grind (arith, slot-view_none)

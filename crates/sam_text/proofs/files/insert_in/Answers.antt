@@ -3,7 +3,7 @@ use Rattle.std.proofs.lemmas.Result.{on_ok_weaker, on_err_weaker}
 use Rattle.sam_runes.specs.Texts.{max_runes}
 use Rattle.sam_text.specs.Files.{PlainFile, blank_file, IsSoundFile}
 use Rattle.sam_text.specs.Views.{plain_file, inserted_file}
-use Rattle.sam_text.proofs.ViewLaws.{given-view, view-change, view-same, view-none, seen_there, seen_kept, keep_set, keep_inserted, room_read, room_set}
+use Rattle.sam_text.proofs.ViewLaws.{given-view, view-change, view-same, seen_there, seen_kept, keep_set, keep_inserted, room_set, slot-view_some, slot-view_none}
 use Rattle.sam_text.proofs.files.insert_in.Goals as goal
 
 pub returns-then-index-len-clause-room : goal.returns-then-index-len-clause-room
@@ -44,7 +44,7 @@ pub returns-in-Some-clause-err_rooms : goal.returns-in-Some-clause-err_rooms
 returns-in-Some-clause-err_rooms c = grind (arith, on_err_weaker, view-same)
 
 pub returns-in-Some-clause-room : goal.returns-in-Some-clause-room
-returns-in-Some-clause-room c = grind (arith, room_read, room_set)
+returns-in-Some-clause-room c = grind (arith, room_set, slot-view_some)
 
 pub returns-in-Some-clause-keeps : goal.returns-in-Some-clause-keeps
 returns-in-Some-clause-keeps c =
@@ -55,4 +55,4 @@ returns-in-Some-clause-keeps c =
     c.insert-put.ensures.ok c.insert-put.ensures.err c.insert-put.ensures.nothing)
 
 pub returns-in-None-clause-room : goal.returns-in-None-clause-room
-returns-in-None-clause-room c = grind (arith, view-none)
+returns-in-None-clause-room c = grind (arith, slot-view_none)

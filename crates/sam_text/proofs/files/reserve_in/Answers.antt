@@ -3,7 +3,7 @@ use Rattle.std.proofs.lemmas.Result.{on_ok_weaker, on_err_weaker}
 use Rattle.sam_runes.specs.Texts.{max_runes}
 use Rattle.sam_text.specs.Files.{PlainFile, blank_file}
 use Rattle.sam_text.specs.Views.{plain_file}
-use Rattle.sam_text.proofs.ViewLaws.{given-view, view-none, view-same, seen_there, keep_set, room_read, room_set}
+use Rattle.sam_text.proofs.ViewLaws.{given-view, view-same, seen_there, keep_set, room_set, slot-view_some, slot-view_none}
 use Rattle.sam_text.proofs.files.reserve_in.Goals as goal
 
 pub reserve-requires : goal.reserve-requires
@@ -22,10 +22,10 @@ pub returns-then-index-len-clause-there : goal.returns-then-index-len-clause-the
 returns-then-index-len-clause-there c = grind (arith, given-view)
 
 pub returns-in-None-clause-there : goal.returns-in-None-clause-there
-returns-in-None-clause-there c = grind (arith, view-none)
+returns-in-None-clause-there c = grind (arith, slot-view_none)
 
 pub returns-in-Some-clause-there : goal.returns-in-Some-clause-there
-returns-in-Some-clause-there c = grind (arith, room_read, view-same)
+returns-in-Some-clause-there c = grind (arith, view-same, slot-view_some)
 
 pub returns-in-Some-clause-err : goal.returns-in-Some-clause-err
 returns-in-Some-clause-err c = grind (arith, on_err_weaker, view-same)

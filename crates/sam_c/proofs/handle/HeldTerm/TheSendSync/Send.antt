@@ -1,5 +1,4 @@
 -- A handle may go to another thread, since an end may, and since any thread may free a block of C's heap.
-use Rattle.std.proofs.Common.{arith, rules}
 use mir.Raw.{raw}
 use base.Shift.{Keyless}
 use denote.Memory.{lone}

@@ -1,5 +1,4 @@
 -- `into_box` makes a box of parts that hold a value.
-use Rattle.std.proofs.Common.{arith, rules}
 use Rattle.sam_c.proofs.Walks.{◌≡◌, List, [], ◌∷◌, ◌++◌, Some, is_some, true, refl, sym, ap, ◌∙◌, subst, Fn, inst_fn, Val, vptr, flft, fsep, ftrue, id⊢, WpFn, ◌⊑◌, fact, tables, Item, ‵}
 use Rattle.sam_c.proofs.Walks.{raw, some, later, prop, at_ret, ◌⊛◌, ◌$◌, ◌∵◌, !, qed, done, suffices, await, regoal, rewrite, move, drop, use1, join, split, split3, pick, fsplit, fjoin}
 use Rattle.sam_c.proofs.Walks.{feq_i, sub, whole, and_then, blocks, enter, exec, first, fld, no_more, of_opd, returns, stop, alloc_all, env, free_all, get, get_in, lands_last, look_at}

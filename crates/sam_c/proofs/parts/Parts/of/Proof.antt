@@ -1,5 +1,4 @@
 -- `of` takes a box apart.
-use Rattle.std.proofs.Common.{arith, rules}
 use Rattle.sam_c.proofs.Walks.{◌≡◌, List, [], ◌∷◌, ◌++◌, Some, refl, ap, Args, Dict, Fn, a_type, dcons, dnil, inst_fn, Val, flft, fsep, ftrue, id⊢, WpFn, ◌⊑◌, fact, tables, Item, ‵, raw}
 use Rattle.sam_c.proofs.Walks.{some, later, prop, ◌⊛◌, ◌$◌, ◌∵◌, !, qed, done, suffices, await, regoal, rewrite, move, drop, use1, join, split, split3, pick, fsplit, fjoin, fpick, feq_l}
 use Rattle.sam_c.proofs.Walks.{agg, sub, whole, and_then, enter, fld, no_more, of_opd, returns, stop, alloc_all, free_all, get, get_in, lands_as, look_at, pass_all, sets, no, bounded, Ptr}

@@ -1,12 +1,12 @@
+use Rattle.sam_ends.proofs.TermEndStamps.{flush_counts}
 use Rattle.sam_ends.proofs.TermEndHeld.{flush_held}
 use Rattle.std.proofs.Common.{ap, subst, Ok, arith}
 use Rattle.sam_ends.specs.TermEnds.{PlainTermEnd, shown}
 use Rattle.sam_ends.specs.TermSteps.{Composes}
-use Rattle.sam_ends.proofs.TermEndSteps.{flushed_stamped}
 use Rattle.sam_ends.proofs.term_end.TermEnd.compose_unsent.Goals as goal
 
 pub invariant_of-self : goal.invariant_of-self
-invariant_of-self c = grind (arith, (flushed_stamped (shown c.self.inside) c.flush_now.new.term c.in-Ok.composed c.self.invariant c.in-Ok.ensures.tries), flush_held)
+invariant_of-self c = grind (arith, flush_held, flush_counts)
 
 pub returns-in-Ok : goal.returns-in-Ok
 returns-in-Ok c =

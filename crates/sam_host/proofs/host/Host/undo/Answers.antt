@@ -1,11 +1,12 @@
+use Rattle.sam_runes.proofs.SlotLaws.{slot-put_same}
 use Rattle.std.proofs.Common.{ap, ◌∙◌, arith}
 use Rattle.sam_text.specs.Files.{PlainFile, file_at, cut_file}
 use Rattle.sam_host.specs.Host.{with_file}
-use Rattle.sam_host.proofs.TypingLaws.{put_there, put_here, put_again}
+use Rattle.sam_host.proofs.TypingLaws.{put_here, put_again}
 use Rattle.sam_host.proofs.host.Host.undo.Goals as goal
 
 pub set_command_dot-requires-clause-there : goal.set_command_dot-requires-clause-there
-set_command_dot-requires-clause-there c = grind (arith, put_there)
+set_command_dot-requires-clause-there c = grind (arith, slot-put_same)
 
 pub set_command_dot-requires-clause-range : goal.set_command_dot-requires-clause-range
 set_command_dot-requires-clause-range c = grind (arith, put_here)

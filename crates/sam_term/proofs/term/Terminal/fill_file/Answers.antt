@@ -5,14 +5,14 @@ use Rattle.sam_runes.specs.Texts.{max_runes}
 use Rattle.sam_rasp.specs.Rasp.{place_after_ins}
 use Rattle.sam_term.specs.Term.{window_at, moved_unsent}
 use Rattle.sam_term.specs.Sound.{IsSound, seen}
-use Rattle.sam_term.proofs.Grows.{lent_ins, lent_same, on_err, sound-ins, unsent_within}
+use Rattle.sam_term.proofs.Grows.{lent_ins, lent_same, sound-ins, unsent_within}
 use Rattle.sam_term.proofs.term.Terminal.fill_file.Goals as goal
 
 pub invariant_of-self : goal.invariant_of-self
 invariant_of-self c = grind (arith, lent_same)
 
 pub returns-in_err-fill_window-clause-err : goal.returns-in_err-fill_window-clause-err
-returns-in_err-fill_window-clause-err c = grind (arith, on_err, lent_same)
+returns-in_err-fill_window-clause-err c = grind (arith, lent_same)
 
 pub move_by_ins-requires-clause-within : goal.move_by_ins-requires-clause-within
 move_by_ins-requires-clause-within c = unsent_within (seen c.self.inside) c.self.invariant

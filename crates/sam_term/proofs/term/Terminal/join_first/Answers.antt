@@ -6,7 +6,7 @@ use Rattle.sam_term.specs.Editing.{typed_runes}
 use Rattle.sam_term.specs.Term.{window_at, joins}
 use Rattle.sam_term.specs.Sound.{seen}
 use Rattle.sam_term.proofs.Acts.{first_is}
-use Rattle.sam_term.proofs.Grows.{lent_same, on_err, at_err, at_ok}
+use Rattle.sam_term.proofs.Grows.{lent_same, at_err, at_ok}
 use Rattle.sam_term.proofs.TypedMade.{lengthened-joined, shortened-again, sound-joined}
 use Rattle.sam_term.proofs.term.Terminal.join_first.Goals as goal
 
@@ -14,7 +14,7 @@ pub invariant_of-self-then-is_err : goal.invariant_of-self-then-is_err
 invariant_of-self-then-is_err c = grind (arith, at_err, shortened-again, lent_same)
 
 pub returns-then-is_err-clause-err : goal.returns-then-is_err-clause-err
-returns-then-is_err-clause-err c = grind (arith, at_err, shortened-again, on_err, lent_same)
+returns-then-is_err-clause-err c = grind (arith, at_err, shortened-again, lent_same)
 
 pub invariant_of-self-else-is_err : goal.invariant_of-self-else-is_err
 invariant_of-self-else-is_err c = 

@@ -2,14 +2,14 @@ use Rattle.std.proofs.Common.{◌≤◌, sym, subst, length, arith}
 use Rattle.std.specs.Prelude.{◌+◌}
 use Rattle.sam_term.specs.Term.{window_at, took_data}
 use Rattle.sam_term.specs.Sound.{seen}
-use Rattle.sam_term.proofs.Grows.{lent_same, on_err, sound-load}
+use Rattle.sam_term.proofs.Grows.{lent_same, sound-load}
 use Rattle.sam_term.proofs.term.Terminal.load_file.Goals as goal
 
 pub invariant_of-self : goal.invariant_of-self
 invariant_of-self c = grind (arith, lent_same)
 
 pub returns-in_err-load_window-clause-err : goal.returns-in_err-load_window-clause-err
-returns-in_err-load_window-clause-err c = grind (arith, on_err, lent_same)
+returns-in_err-load_window-clause-err c = grind (arith, lent_same)
 
 pub invariant_of-self-2 : goal.invariant_of-self-2
 invariant_of-self-2 c =

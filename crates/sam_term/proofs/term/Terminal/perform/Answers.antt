@@ -1,5 +1,5 @@
 use Rattle.std.proofs.Common.{sym, ◌∙◌, arith}
-use Rattle.sam_term.proofs.Acts.{lockable_first, made_sends, types, selects, cuts, pastes, snarfs, views, sets_snarf, flushes}
+use Rattle.sam_term.proofs.Acts.{lockable_first, types, selects, cuts, pastes, snarfs, views, sets_snarf, flushes, made_sends}
 use Rattle.sam_term.proofs.term.Terminal.perform.Goals as goal
 
 pub send_for_event-requires : goal.send_for_event-requires

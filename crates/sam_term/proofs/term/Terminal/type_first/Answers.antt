@@ -6,7 +6,7 @@ use Rattle.sam_term.specs.Editing.{typed_over, typed_runes}
 use Rattle.sam_term.specs.Term.{window_at, put_window}
 use Rattle.sam_term.specs.Sound.{IsSound, seen}
 use Rattle.sam_term.proofs.Acts.{first_is}
-use Rattle.sam_term.proofs.Grows.{lent_same, on_err}
+use Rattle.sam_term.proofs.Grows.{lent_same}
 use Rattle.sam_term.proofs.TypedLaws.{sound-typed}
 use Rattle.sam_term.proofs.term.Terminal.type_first.Goals as goal
 
@@ -14,7 +14,7 @@ pub invariant_of-self : goal.invariant_of-self
 invariant_of-self c = grind (arith, lent_same)
 
 pub returns-in_err-type_over-clause-err : goal.returns-in_err-type_over-clause-err
-returns-in_err-type_over-clause-err c = grind (arith, on_err, lent_same)
+returns-in_err-type_over-clause-err c = grind (arith, lent_same)
 
 pub invariant_of-self-2 : goal.invariant_of-self-2
 invariant_of-self-2 c =

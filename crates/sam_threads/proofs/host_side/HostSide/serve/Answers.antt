@@ -1,6 +1,7 @@
+use Rattle.sam_queue.proofs.Laws.{items_of_mark}
 use Rattle.std.proofs.Common.{◌∙◌, ap, arith}
 use Rattle.sam_queue.specs.Views.{LineView}
-use Rattle.sam_threads.proofs.HostWhole.{going_item, going_left, going_stops}
+use Rattle.sam_threads.proofs.HostWhole.{going_item, going_stops}
 use Rattle.sam_threads.proofs.host_side.HostSide.serve.Goals as goal
 
 pub returns-in-Err-clause-serves : goal.returns-in-Err-clause-serves
@@ -18,4 +19,4 @@ loop-preserved-in-Item g c =
     )
 
 pub loop-preserved : goal.loop-preserved
-loop-preserved g c = grind (arith, going_left)
+loop-preserved g c = grind (arith, items_of_mark)
