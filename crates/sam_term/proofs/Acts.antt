@@ -2,7 +2,7 @@
 use Rattle.std.proofs.Common.{◌≡◌, sym, ap, ◌∙◌, ℕ, zero, suc, Bool, true, false, List, [], ◌∷◌, drop, Option, Some, None, Ok, arith}
 use Rattle.std.specs.Prelude.{slice_get, not}
 use Rattle.sam_runes.specs.Checks.{Checks, first_of_checks}
-use Rattle.sam_term.specs.Term.{PlainTerminal, act_of, act_on, decided, event_checks, event_outcome, is_open}
+use Rattle.sam_term.specs.Term.{PlainTerminal, act_of, act_on, decided, event_checks, event_outcome, is_open, sends, unchanged}
 use Rattle.sam_term.specs.Events.{needs_open, file_of, lock_of}
 use Rattle.sam_term.specs.Taking.{done, not_done}
 use Rattle.sam_term.specs.Acting.{deed_of, first_event, free_first, made_first, is_typing, is_snarfing}
@@ -84,6 +84,10 @@ can_lock t (Some m) = is_lockable t (lock_of m)
 -- the message of the oldest event may take its lock
 pub lockable_first : (t : PlainTerminal) (m : Tmesg) → free_first t ≡ None → Sends m ≡ deed_of t (first_event t.held) → is_lockable t (lock_of m) ≡ true
 lockable_first t m n s = grind (arith, opened_by)
+
+pub made_sends : (t : PlainTerminal) (m : Tmesg) → Sends m ≡ deed_of t (first_event t.held) → made_first t ≡ sends (record t { held = drop 1 t.held }) unchanged (m ∷ [])
+unfolding made_first
+made_sends t m s = grind arith
 
 -- ## The event by what it does
 
