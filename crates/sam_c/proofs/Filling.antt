@@ -1,9 +1,6 @@
 -- A buffer that is filled rune by rune.
-use Rattle.std.proofs.Common.{◌≡◌, ◌∙◌, refl, sym, ap, ℕ, ◌+◌, ◌<◌, ◌≤◌, List, ◌++◌, length, length-append, take, drop, Some, None, encode_utf8, arith}
-use Rattle.std.specs.Str.{encode_utf8_all}
+use Rattle.std.proofs.Common.{◌≡◌, ◌∙◌, refl, sym, ap, ℕ, ◌+◌, ◌<◌, ◌≤◌, List, ◌++◌, length, length-append, take, drop, Some, None, encode_utf8, arith, encode_utf8_all, append-nil, drop-drop, length-drop, get_or}
 use Rattle.std.proofs.Math.Seq.{take-append_seam, drop-append-add}
-use Rattle.std.proofs.lemmas.List.{append-nil, drop-drop, length-drop}
-use Rattle.std.proofs.Math.ListN.{get_or}
 use Rattle.sam_runes.proofs.Codes.{spelled-more, counted-more}
 use Rattle.sam_c.specs.Buffers.{Puts, Fills}
 use Rattle.sam_c.specs.declared.utf8.Filled.{Filled}
@@ -29,11 +26,14 @@ one-more runes before now after i bytes end r lt is s puts =
     let done = encode_utf8_all (take i runes) in
     let spelt = encode_utf8 r in
     let front : take bytes now ≡ done = ap (λ n. take n now) s.bytes_are ∙ ap (λ x. take (length done) x) s.now_is ∙ take-append_seam done (drop bytes before) in
-    let behind : drop end now ≡ drop end before = ap (λ n. drop n now) puts.0 ∙ ap (λ n. drop (n + length spelt) now) s.bytes_are ∙ ap (λ x. drop (length done + length spelt) x) s.now_is ∙ drop-append-add done (drop bytes before) (length spelt) ∙ drop-drop (length spelt) bytes before ∙ ap (λ n. drop n before) (sym puts.0) in
+    let behind : drop end now ≡ drop end before = ap (λ n. drop n now) puts.0 ∙ ap (λ n. drop (n + length spelt) now) s.bytes_are
+    ∙ ap (λ x. drop (length done + length spelt) x) s.now_is ∙ drop-append-add done (drop bytes before) (length spelt)
+    ∙ drop-drop (length spelt) bytes before ∙ ap (λ n. drop n before) (sym puts.0) in
     record {
       bytes_are = grind (arith, encode_utf8, counted-more);
       room = grind (arith, size-now);
-      now_is = puts.2 ∙ ap (λ x. (x ++ spelt) ++ drop end now) front ∙ ap (λ x. (done ++ spelt) ++ x) behind ∙ ap (λ x. x ++ drop end before) (sym (spelled-more runes i r lt is ∙ ap (λ x. done ++ x) (append-nil spelt)));
+      now_is = puts.2 ∙ ap (λ x. (x ++ spelt) ++ drop end now) front ∙ ap (λ x. (done ++ spelt) ++ x) behind ∙ ap (λ x. x ++ drop end before)
+          (sym (spelled-more runes i r lt is ∙ ap (λ x. done ++ x) (append-nil spelt)));
     }
 
 pub no-more : (runes before now : List ℕ) (filled : Filled) (r : ℕ) → filled.runes < length runes → r ≡ get_or runes filled.runes r

@@ -1,6 +1,6 @@
 -- Files that a host end begins with.
-use Rattle.std.proofs.Common.{◌≡◌, ◌≤◌, ℕ, false, List, length, None, arith}
-use Rattle.std.specs.Str.{chars, is_utf8, IsUtf8, encode_utf8_all}
+use Rattle.std.proofs.Common.{◌≡◌, ◌≤◌, ℕ, false, List, length, None, arith, chars, IsUtf8, encode_utf8_all}
+use Rattle.std.specs.Str.{is_utf8}
 use Rattle.std.proofs.lemmas.Str.{IsUtf8-from_is_utf8, chars_from_encodes}
 use Rattle.sam_runes.specs.Checks.{first_of_checks}
 use Rattle.sam_runes.specs.Reading.{AreRunes}

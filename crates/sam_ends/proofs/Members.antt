@@ -1,13 +1,10 @@
 -- Members of a partial text that are copied, section by section, into a buffer.
-use Rattle.std.proofs.Common.{◌≡◌, ◌∙◌, sym, ap, ℕ, ◌+◌, ◌-◌, ◌<◌, ◌≤◌, ◌⊎◌, inl, List, [], ◌∷◌, ◌++◌, length, length-append, take, drop, suc, Option, Some, slice_get, append_assoc, arith, rules}
-use Rattle.std.specs.Prelude.{map, min}
-use Rattle.std.proofs.Math.ListN.{get_or, set}
-use Rattle.std.proofs.Math.Seq.{take-append-add, drop-append-add, drop-cons, set-append_seam}
+use Rattle.std.proofs.Common.{◌≡◌, ◌∙◌, sym, ap, ℕ, ◌+◌, ◌-◌, ◌<◌, ◌≤◌, ◌⊎◌, inl, List, [], ◌∷◌, ◌++◌, length, length-append, take, drop, suc, Option, Some, slice_get, append_assoc, arith, rules, map, min, get_or, set, drop-cons, append-nil, take_all, take-append-drop, length-drop, length-take, get_or-drop, drop_of_length-le}
+use Rattle.std.proofs.Math.Seq.{take-append-add, drop-append-add, set-append_seam}
 use Rattle.std.proofs.lemmas.Option.{get_or_from_slice_get}
-use Rattle.std.proofs.lemmas.List.{append-nil, take-append-le, drop-append-le, take_all, take_more, take-append-drop, length-drop, length-take, length-map, get_or-drop, map-append}
-use Rattle.std.proofs.Math.ListN.{drop_of_length-le}
+use Rattle.std.proofs.lemmas.List.{take-append-le, drop-append-le, take_more, length-map, map-append}
 use Rattle.std.proofs.lemmas.Grind.{flat_map-append, common_steps}
-use Rattle.sam_rasp.specs.declared.section.Section.{Section}
+use Rattle.sam_rasp.specs.Types.{Section}
 use Rattle.sam_rasp.specs.Sections.{cells, cells_of}
 use Rattle.sam_ends.specs.Drawing.{Copies, Shows, drawn}
 

@@ -1,11 +1,10 @@
 -- The calls of a terminal end, of its steps.
 use Rattle.std.proofs.lemmas.Grind.{common_steps}
 use Rattle.std.proofs.Common.{◌≡◌, refl, ℕ, ◌+◌, inl, inr, List, [], ◌∷◌, ◌++◌, length, None, Ok, Err, arith, rules}
-use Rattle.sam_mesg.specs.declared.hmesg.HFrame.{HFrame}
-use Rattle.sam_term.specs.declared.event.Acted.{Acted}
-use Rattle.sam_ends.specs.declared.fault.TermStop.{TermStop}
+use Rattle.sam_mesg.specs.HostKinds.{HFrame}
+use Rattle.sam_term.specs.Types.{Acted}
+use Rattle.sam_ends.specs.Types.{TermStop, EndFault}
 use Rattle.sam_ends.specs.declared.fault.TermStop.TheVariants as stop
-use Rattle.sam_ends.specs.declared.fault.EndFault.{EndFault}
 use Rattle.sam_ends.specs.declared.fault.EndFault.TheVariants as fault
 use Rattle.sam_ends.specs.TermEnds.{PlainTermEnd, Calls, FeedsIdle, FlushesIdle, GoesOn, IsIdle, Moves, oldest}
 use Rattle.sam_ends.specs.TermSteps.{ActsAll, ActsFirst, Answer, Composes, Gains, ReceivesAll, ReceivesFirst, Resumes, Writes, written}
@@ -96,4 +95,3 @@ fed e k g piece result taken goes = inl (k, taken, goes)
 
 pub flush_not : (e k : PlainTermEnd) (why : EndFault TermStop) → Composes e (Err why) k → FlushesIdle e (Err why) k
 flush_not e k why u = grind arith
-

@@ -1,13 +1,12 @@
 -- What an end has received, done and written so far grows by its steps.
 use Rattle.std.proofs.Common.{◌≡◌, refl, ap, subst, ◌∙◌, ℕ, ◌+◌, List, [], ◌∷◌, ◌++◌, length, Ok, append_assoc, arith, append-nil, rules}
 use Rattle.std.proofs.lemmas.Grind.{flat_map-append, common_steps}
-use Rattle.sam_mesg.specs.declared.tmesg.Tmesg.{Tmesg}
-use Rattle.sam_mesg.specs.declared.hmesg.HFrame.{HFrame}
+use Rattle.sam_mesg.specs.TerminalKinds.{Tmesg}
+use Rattle.sam_mesg.specs.HostKinds.{HFrame}
 use Rattle.sam_frame.specs.Direction.{terminal}
 use Rattle.sam_frame.specs.Stream.{stream_of}
 use Rattle.sam_term.specs.Term.{PlainTerminal, act_of, take_of}
-use Rattle.sam_term.specs.declared.event.Acted.{Acted}
-use Rattle.sam_term.specs.declared.event.Acted.TheVariants.{Idle, Locked, Done, Refused}
+use Rattle.sam_term.specs.Types.{Acted, Idle, Locked, Done, Refused}
 use Rattle.sam_ends.specs.TermEnds.{PlainTermEnd, Acts, IsSettled, Moves, Receives, last_stamp, oldest, refusals_from}
 use Rattle.sam_ends.specs.TermSteps.{ActsFirst, ReceivesFirst, written}
 
@@ -46,15 +45,15 @@ moves_written e g frames acts m = grind (arith, append-nil)
 
 pub moves_received : (e g k : PlainTermEnd) (frames : List HFrame) → Moves e frames [] g → g.unwritten ≡ [] → (r : ReceivesFirst g k) → Moves e (frames ++ r.frame ∷ []) [] k
 moves_received e g k frames m none r = grind (
-    arith,
-    (receives-more e.term m.middle r.term frames r.frame m.composed r.composed m.receives (subst (λ t. take_of t r.frame ≡ Ok (r.term, r.composed)) m.acted r.taken)),
-    (append_assoc frames (r.frame ∷ []) r.rest),
-    (behind g.outbox e.outbox g.unwritten (e.unwritten ++ m.composed) r.composed none (m.bytes ∙ ap (λ ms. e.outbox ++ stream_of terminal ms) (append-nil (e.unwritten ++ m.composed)))),
-    (append-nil (e.unwritten ++ m.composed)),
-    (append_assoc e.unwritten m.composed r.composed),
-    (append-nil (e.unwritten ++ (m.composed ++ r.composed))),
-    (last-stamp-more e.seen frames r.frame),
-    behind,
+  arith,
+  (receives-more e.term m.middle r.term frames r.frame m.composed r.composed m.receives (subst (λ t. take_of t r.frame ≡ Ok (r.term, r.composed)) m.acted r.taken)),
+  (append_assoc frames (r.frame ∷ []) r.rest),
+  (behind g.outbox e.outbox g.unwritten (e.unwritten ++ m.composed) r.composed none (m.bytes ∙ ap (λ ms. e.outbox ++ stream_of terminal ms) (append-nil (e.unwritten ++ m.composed)))),
+  (append-nil (e.unwritten ++ m.composed)),
+  (append_assoc e.unwritten m.composed r.composed),
+  (append-nil (e.unwritten ++ (m.composed ++ r.composed))),
+  (last-stamp-more e.seen frames r.frame),
+  behind,
 )
 
 pub moves_acted : (e g k : PlainTermEnd) (frames : List HFrame) (acts : List Acted) → Moves e frames acts g → g.unwritten ≡ [] → oldest g ≡ oldest e + length acts

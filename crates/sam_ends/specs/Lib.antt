@@ -5,3 +5,4 @@ pub mod HostRuns
 pub mod TermEnds
 pub mod TermSteps
 pub mod Drawing
+pub mod Types

@@ -1,8 +1,7 @@
 -- Messages that are encoded one behind another.
-use Rattle.std.proofs.Common.{◌≡◌, subst, refl, ℕ, ◌+◌, ◌<◌, ◌≤◌, List, [], ◌++◌, length, take, get_or, true, false, append_assoc, arith, rules}
-use Rattle.std.specs.Prelude.{IsTrue, Decides}
+use Rattle.std.proofs.Common.{◌≡◌, subst, refl, ℕ, ◌+◌, ◌<◌, ◌≤◌, List, [], ◌++◌, length, take, get_or, true, false, append_assoc, arith, rules, IsTrue, Decides, take_all}
 use Rattle.std.proofs.Math.Seq.{take-append_seam}
-use Rattle.std.proofs.lemmas.List.{take_all, take_more}
+use Rattle.std.proofs.lemmas.List.{take_more}
 use Rattle.std.proofs.lemmas.List.Elements.{All-more}
 use Rattle.sam_frame.specs.Direction.{Direction, frame_of}
 use Rattle.sam_frame.specs.Stream.{CanEncode, stream_of}

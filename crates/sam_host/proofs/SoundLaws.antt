@@ -1,6 +1,5 @@
 -- The host stays sound, and its answers are counted.
-use Rattle.std.proofs.Common.{◌≡◌, ℕ, suc, ◌+◌, ◌≤◌, List, [], ◌∷◌, length, Option, None, Ok, Err, refl, ap, subst, arith}
-use Rattle.std.specs.Prelude.{unwrap_or, All}
+use Rattle.std.proofs.Common.{◌≡◌, ℕ, suc, ◌+◌, ◌≤◌, List, [], ◌∷◌, length, Option, None, Ok, Err, refl, ap, subst, arith, unwrap_or, All}
 use Rattle.std.proofs.lemmas.List.Elements.{All-nil, All-cons}
 use Rattle.sam_runes.specs.Texts.{most_in_name}
 use Rattle.sam_runes.specs.Slots.{slot}
@@ -10,10 +9,8 @@ use Rattle.sam_text.specs.Files.{opened_file, written_file, PlainFile, PlainFile
 use Rattle.sam_text.proofs.FitLaws.{all-put, fit-put, fit-typed, fit-cut, fit-pasted, fit-print, fit-committed}
 use Rattle.sam_text.proofs.KeptLaws.{all-free, all-announce}
 use Rattle.sam_text.proofs.OutcomeLaws.{HasShortParts, line_short, named-within}
-use Rattle.sam_mesg.specs.TerminalKinds.{after_t}
-use Rattle.sam_mesg.specs.declared.tmesg.Tmesg.{Tmesg}
-use Rattle.sam_mesg.specs.declared.hmesg.Hmesg.{Hmesg}
-use Rattle.sam_mesg.specs.declared.hmesg.HFrame.{HFrame}
+use Rattle.sam_mesg.specs.TerminalKinds.{after_t, Tmesg}
+use Rattle.sam_mesg.specs.HostKinds.{Hmesg, HFrame}
 use Rattle.sam_host.specs.Host.{PlainHost, IsVersion, Reply, Answer, answer, counted, stamped, host_checks, new_file, given_slots, reply_to}
 use Rattle.sam_host.specs.Laws.{AreNamesShort, IsSound, AreGiven, StartsSound, StaysSound, FramesFit, AnswersAreCounted, IsSilentWhereDone, FitInPlace}
 use Rattle.sam_host.proofs.EachFrame.{replies_opened}

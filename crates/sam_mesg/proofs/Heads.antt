@@ -1,8 +1,7 @@
 -- The head of a frame, whose length is written once the body stands behind it.
-use Rattle.std.proofs.Common.{◌≡◌, ℕ, ◌+◌, ◌-◌, ◌<◌, List, [], ◌∷◌, ◌++◌, length, take, drop, set, sym, ap, ◌∙◌, append_assoc, arith, length-append}
-use Rattle.std.proofs.lemmas.List.{length-set, set_split, take_more_set, drop-set-lt, take_at, drop_at}
-use Rattle.std.specs.Prelude.{suc}
-use Rattle.std.specs.Int.{w16, to_be_bytes}
+use Rattle.std.proofs.Common.{◌≡◌, ℕ, ◌+◌, ◌-◌, ◌<◌, List, [], ◌∷◌, ◌++◌, length, take, drop, set, sym, ap, ◌∙◌, append_assoc, arith, length-append, length-set, drop-set-lt, take_at, drop_at, suc, w16}
+use Rattle.std.proofs.lemmas.List.{set_split, take_more_set}
+use Rattle.std.specs.Int.{to_be_bytes}
 use Rattle.sam_mesg.specs.Spelling.{frame}
 
 -- two neighbours, written one after the other

@@ -109,6 +109,7 @@ kept_request s v d n file p m k o e = go (runs_more s v k.final o k.runs)
     running : (t : List ℕ) → file ≡ Opened t → (closes s ≡ true → file ≡ Gone) → (x : Lens) → run s (locked_more v) ≡ Some x → Settles (request_actions d (Opened t) p m) x d n (Opened t)
         → CanRequest d file × Settles (s ++ request_actions d file p m) (locked_more v) d n file
     running t q gone x r loads = grind (arith, run-append_some, guarded-append, closes-append)
+
     go : ((((closes s || exits s) ≡ true) × (run s (locked_more v) ≡ Some k.final)) ⊎ (IsOpen k.final × (run s (locked_more v) ≡ Some (locked_more k.final)) × ((closes s || exits s) ≡ false)))
         → CanRequest d file × Settles (s ++ request_actions d file p m) (locked_more v) d n file
     go (inl h) = ended h.1 (why (or_cases _ _ h.0))

@@ -1,13 +1,11 @@
 -- The answer to Tversion: from settled to settled.
-use Rattle.std.proofs.Common.{◌≡◌, ℕ, zero, suc, ◌+◌, ◌<◌, Bool, true, false, not, ◌==◌, if◌then◌else◌, List, [], ◌∷◌, ◌++◌, length, drop, Option, Some, None, refl, sym, ap, ◌∙◌, subst, arith, eq-eqb, nat_lt}
-use Rattle.std.specs.Prelude.{option_map, unwrap_or}
+use Rattle.std.proofs.Common.{◌≡◌, ℕ, zero, suc, ◌+◌, ◌<◌, Bool, true, false, not, ◌==◌, if◌then◌else◌, List, [], ◌∷◌, ◌++◌, length, drop, Option, Some, None, refl, sym, ap, ◌∙◌, subst, arith, eq-eqb, nat_lt, option_map, unwrap_or}
 use Rattle.sam_runes.specs.Texts.{common_version}
 use Rattle.sam_runes.specs.Slots.{Slots, slot}
 use Rattle.sam_runes.proofs.SlotLaws.{slot-map, length-map_slots}
 use Rattle.sam_text.specs.Files.{PlainFile, PlainFiles, blank_file, announced_file, announce_all}
-use Rattle.sam_mesg.specs.declared.tmesg.Tmesg.TheVariants.{Tversion}
-use Rattle.sam_mesg.specs.declared.hmesg.Hmesg.{Hmesg}
-use Rattle.sam_mesg.specs.declared.hmesg.Hmesg.TheVariants.{Hversion, Hnewname, Hmovname, Hack, Hunlock}
+use Rattle.sam_mesg.specs.TerminalKinds.{Tversion}
+use Rattle.sam_mesg.specs.HostKinds.{Hmesg, Hversion, Hnewname, Hmovname, Hack, Hunlock}
 use Rattle.sam_host.specs.Host.{PlainHost, when, told_names, reply_version}
 use Rattle.sam_protocol.specs.Lens.{Slot, lens, Action, Skip, Change, Free_command, HFile, Absent, Hidden, Named, Opened, Gone, IsOpened, IsCommandFile, Fits_slot, Settles}
 use Rattle.sam_protocol.proofs.Lenses.{AreSkips}

@@ -5,8 +5,8 @@ use Rattle.sam_rasp.proofs.RaspLaws.{agrees_typed, agrees_removed}
 use Rattle.sam_runes.specs.Texts.{ins, del, max_runes, part, line_start}
 use Rattle.sam_runes.specs.Checks.{first_of_checks}
 use Rattle.sam_text.specs.Files.{file_at, cut_file, typed_file}
-use Rattle.sam_mesg.specs.declared.tmesg.Tmesg.TheVariants.{Tcheck, Tworkfile, Ttype, Tcut, Tsnarf, Tstartsnarf, Tsetsnarf, Tack}
-use Rattle.sam_term.specs.declared.lock.Lock.TheVariants.{CommandLock, NoLock}
+use Rattle.sam_mesg.specs.TerminalKinds.{Tcheck, Tworkfile, Ttype, Tcut, Tsnarf, Tstartsnarf, Tsetsnarf, Tack}
+use Rattle.sam_term.specs.Types.{CommandLock, NoLock}
 use Rattle.sam_term.specs.Events.{is_command_line}
 use Rattle.sam_host.specs.Host.{PlainHost, Reply, host_checks, with_file, past_end, no_room, reply_check, reply_workfile, reply_cut, reply_snarf, reply_line, reply_type, reply_startsnarf, reply_setsnarf}
 use Rattle.sam_protocol.specs.Lens.{Open, Lens, lens, Action, Skip, move, is_crossing, is_close, HFile, Opened, IsSettled, Settles}
@@ -33,10 +33,10 @@ edit_case h k f text e o files done version keeps g w s = grind arith
 pub sync_cut : (h : PlainHost) → Ready h → (f p q : ℕ) → Accepted h (Tcut f p q) → Synced h (Tcut f p q)
 unfolding reply_cut
 sync_cut h r f p q a = record {
-    passes = grind (arith, open_tests, range_test);
-    each = edit_case h k f (del t p q) (cut_out p q) a.0 files refl refl (λ rasp x. (refl, refl, refl, (refl, agrees_removed rasp t p q x)));
-    gone = lasts.gone;
-    sound = grind (arith, still_has, lasts);
+  passes = grind (arith, open_tests, range_test);
+  each = edit_case h k f (del t p q) (cut_out p q) a.0 files refl refl (λ rasp x. (refl, refl, refl, (refl, agrees_removed rasp t p q x)));
+  gone = lasts.gone;
+  sound = grind (arith, still_has, lasts);
 }
   where
     t : List ℕ
@@ -61,10 +61,13 @@ pub sync_short : (h : PlainHost) (f p : ℕ) (s : List ℕ) → HasFiles h.files
     → is_command_line f s ≡ false → Synced h (Ttype f p s)
 unfolding reply_type
 sync_short h f p s sound o l room ends = record {
-    passes = type_passes h f p s o l room;
-    each = λ g w x. subst (λ (b : Bool). Settles (at_file g (if b then line else (typed, [])).1) (changed (type_change (if b then CommandLock else NoLock) f p s) g w) (if b then line else (typed, [])).0.is_done (if b then line else (typed, [])).0.version (file_in (if b then line else (typed, [])).0.files.slots g)) (sym ends) (edit_case h typed f (ins t p s) (typed_in p s) o files refl refl (λ r a. (refl, refl, refl, (refl, agrees_typed r t s p a))) g w x);
-    gone = grind (arith, lasts);
-    sound = grind (arith, still_has, lasts);
+  passes = type_passes h f p s o l room;
+  each = λ g w x. subst
+      (λ (b : Bool). let r : Reply = if b then line else (typed, []) in
+      Settles (at_file g r.1) (changed (type_change (if b then CommandLock else NoLock) f p s) g w) r.0.is_done r.0.version (file_in r.0.files.slots g)) (sym ends)
+      (edit_case h typed f (ins t p s) (typed_in p s) o files refl refl (λ r a. (refl, refl, refl, (refl, agrees_typed r t s p a))) g w x);
+  gone = grind (arith, lasts);
+  sound = grind (arith, still_has, lasts);
 }
   where
     t : List ℕ

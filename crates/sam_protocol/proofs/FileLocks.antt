@@ -1,9 +1,8 @@
 -- The messages that lock their file: from settled to settled.
 use Rattle.std.proofs.lemmas.Grind.{common_steps}
-use Rattle.std.proofs.Common.{◌≡◌, ℕ, ◌+◌, ◌<◌, ◌≤◌, min, Bool, true, false, not, ◌||◌, ◌&&◌, ◌==◌, if◌then◌else◌, List, [], ◌∷◌, ◌++◌, length, map, take, drop, Option, Some, None, is_some, refl, sym, ap, ◌∙◌, subst, arith, append_assoc, eq-eqb, nat_lt, rules}
-use Rattle.std.specs.Prelude.{IfSome}
-use Rattle.std.proofs.lemmas.List.{length-drop, take_min}
-use Rattle.std.proofs.lemmas.Bool.{ltb-false, or_parts}
+use Rattle.std.proofs.Common.{◌≡◌, ℕ, ◌+◌, ◌<◌, ◌≤◌, min, Bool, true, false, not, ◌||◌, ◌&&◌, ◌==◌, if◌then◌else◌, List, [], ◌∷◌, ◌++◌, length, map, take, drop, Option, Some, None, is_some, refl, sym, ap, ◌∙◌, subst, arith, append_assoc, eq-eqb, nat_lt, rules, IfSome, length-drop, ltb-false}
+use Rattle.std.proofs.lemmas.List.{take_min}
+use Rattle.std.proofs.lemmas.Bool.{or_parts}
 use Rattle.sam_rasp.specs.Rasp.{Agrees}
 use Rattle.sam_runes.specs.Texts.{Range, ins, is_empty, part, max_runes, lines_before, word_at, searched}
 use Rattle.sam_runes.specs.Slots.{slot}
@@ -11,10 +10,8 @@ use Rattle.sam_runes.specs.Checks.{first_of_checks}
 use Rattle.sam_runes.proofs.EditLaws.{length-ins}
 use Rattle.sam_runes.proofs.PlaceLaws.{InRange, searched_within, word_at_within, lines_before_within}
 use Rattle.sam_text.specs.Files.{PlainFile, file_at, has_file, pasted_file, searched_for, may_look}
-use Rattle.sam_mesg.specs.declared.tmesg.Tmesg.{Tmesg}
-use Rattle.sam_mesg.specs.declared.tmesg.Tmesg.TheVariants.{Trequest, Torigin, Tpaste, Twrite, Tlook, Tsearch, Tdclick}
-use Rattle.sam_mesg.specs.declared.hmesg.Hmesg.{Hmesg}
-use Rattle.sam_mesg.specs.declared.hmesg.Hmesg.TheVariants.{Horigin, Hunlockfile, Hsetdot, Hmoveto, Hcheck, Hsetpat, Hclean, Hdirty}
+use Rattle.sam_mesg.specs.TerminalKinds.{Tmesg, Trequest, Torigin, Tpaste, Twrite, Tlook, Tsearch, Tdclick}
+use Rattle.sam_mesg.specs.HostKinds.{Hmesg, Horigin, Hunlockfile, Hsetdot, Hmoveto, Hcheck, Hsetpat, Hclean, Hdirty}
 use Rattle.sam_host.specs.Host.{PlainHost, Reply, host_checks, reply_to, with_file, with_files, when, grown, past_end, no_range, reply_found, reply_request, reply_origin, reply_paste, reply_write, reply_look, reply_search, reply_dclick}
 use Rattle.sam_protocol.specs.Lens.{Open, lens, Action, Free_file, Opened, Settles}
 use Rattle.sam_protocol.proofs.Lenses.{AreSkips, request_actions}

@@ -1,8 +1,5 @@
 -- The files of the host by slot, as the crossing sees them: what is there, and what becomes of all where one is put or dropped.
-use Rattle.std.proofs.Common.{◌≡◌, ℕ, ◌<◌, ◌≤◌, Bool, true, false, if◌then◌else◌, ◌==◌, List, length, Option, Some, None, is_some, ◌⊎◌, inl, inr, refl, sym, ap, ◌∙◌, subst, arith, eq-eqb, nat_lt}
-use Rattle.std.specs.Prelude.{unwrap_or}
-use Rattle.std.proofs.lemmas.Bool.{le-ltb}
-use Rattle.std.proofs.lemmas.List.{length-append}
+use Rattle.std.proofs.Common.{◌≡◌, ℕ, ◌<◌, ◌≤◌, Bool, true, false, if◌then◌else◌, ◌==◌, List, length, Option, Some, None, is_some, ◌⊎◌, inl, inr, refl, sym, ap, ◌∙◌, subst, arith, eq-eqb, nat_lt, unwrap_or, le-ltb, length-append}
 use Rattle.sam_runes.specs.Slots.{Slots, slot, put_slot, free_slot}
 use Rattle.sam_runes.proofs.SlotLaws.{put_slot-push, slot-put_same, slot-put_other, slot-free_same, slot-free_other, slot_given, slot_past, length-put_slot, length-free_slot}
 use Rattle.sam_text.specs.Files.{PlainFile, PlainFiles, file_at, has_file, blank_file}

@@ -1,6 +1,5 @@
 -- Runes typed in two messages do what they do in one.
-use Rattle.std.proofs.Common.{◌≡◌, ℕ, ◌+◌, ◌-◌, ◌≤◌, Bool, true, false, ◌&&◌, ◌==◌, if◌then◌else◌, List, [], ◌∷◌, ◌++◌, length, Option, Some, None, refl, sym, ap, ◌∙◌, arith, append_assoc, append-nil, length-append, ◌⊎◌}
-use Rattle.std.specs.Prelude.{unwrap_or}
+use Rattle.std.proofs.Common.{◌≡◌, ℕ, ◌+◌, ◌-◌, ◌≤◌, Bool, true, false, ◌&&◌, ◌==◌, if◌then◌else◌, List, [], ◌∷◌, ◌++◌, length, Option, Some, None, refl, sym, ap, ◌∙◌, arith, append_assoc, append-nil, length-append, ◌⊎◌, unwrap_or}
 use Rattle.std.proofs.lemmas.Bool.{cases_Bool}
 use Rattle.std.proofs.lemmas.Option.{same_Some}
 use Rattle.sam_runes.specs.Texts.{max_runes, ins, ends_line, part, line_start}
@@ -10,9 +9,8 @@ use Rattle.sam_runes.proofs.EditLaws.{length-ins}
 use Rattle.sam_runes.proofs.PlaceLaws.{ends_line-append}
 use Rattle.sam_text.specs.Files.{PlainFile, PlainFiles, blank_file, file_at, put_file, typed_file}
 use Rattle.sam_text.proofs.TypeLaws.{typed_joined}
-use Rattle.sam_mesg.specs.declared.tmesg.Tmesg.{Tmesg}
-use Rattle.sam_mesg.specs.declared.tmesg.Tmesg.TheVariants.{Ttype}
-use Rattle.sam_mesg.specs.declared.hmesg.Hmesg.{Hmesg}
+use Rattle.sam_mesg.specs.TerminalKinds.{Tmesg, Ttype}
+use Rattle.sam_mesg.specs.HostKinds.{Hmesg}
 use Rattle.sam_host.specs.Host.{PlainHost, Reply, counted, with_file, unknown, not_opened, host_checks, reply_to, reply_line, reply_type}
 use Rattle.sam_protocol.specs.Lens.{Lens}
 use Rattle.sam_protocol.specs.Fold.{replied, reply_of, replied_then, answers, AllSettle}
@@ -153,10 +151,10 @@ answers_split h (m ∷ ms) ns x e =
 pub joins : (h : PlainHost) (views : ℕ → Lens) (line : List Tmesg) (down : List Hmesg) (f p c : ℕ) (s u : List ℕ) → ((f == 0) && ends_line s) ≡ false
     → AllSettle h views ((line ++ Ttype f p s ∷ []) ++ Ttype f (p + length s) (c ∷ u) ∷ []) down → AllSettle h views (line ++ Ttype f p (s ++ c ∷ u) ∷ []) down
 joins h views line down f p c s u plain k = grind (
-    arith,
-    ahead,
-    frames,
-    (answers-append h line (Ttype f p (s ++ c ∷ u) ∷ []) x.first j.reply x.now (one (Ttype f p (s ++ c ∷ u)) x.first.0 j.reply j.now)),
+  arith,
+  ahead,
+  frames,
+  (answers-append h line (Ttype f p (s ++ c ∷ u) ∷ []) x.first j.reply x.now (one (Ttype f p (s ++ c ∷ u)) x.first.0 j.reply j.now)),
 )
   where
     B : Tmesg

@@ -1,5 +1,5 @@
 -- Words of the proof about lenses and actions.
-use Rattle.std.specs.Prelude.{◌≡◌, ℕ, zero, suc, min, Bool, true, false, not, ◌&&◌, ◌||◌, List, [], ◌∷◌, length, take, drop}
+use Rattle.std.proofs.Common.{◌≡◌, ℕ, zero, suc, min, Bool, true, false, not, ◌&&◌, ◌||◌, List, [], ◌∷◌, length, take, drop}
 use Rattle.sam_runes.specs.Texts.{most_in_message}
 use Rattle.sam_protocol.specs.Lens.{Unknown, Known, Open, Lens, lens, Action, Skip, Fill, Change, Free_file, Free_command, Exit, is_crossing, frees, HFile, Absent, Hidden, Named, Opened, Gone}
 

@@ -1,6 +1,5 @@
 -- The two messages that run a command line, and what a line does: from settled to settled.
-use Rattle.std.proofs.Common.{◌≡◌, ℕ, ◌+◌, ◌-◌, Bool, true, false, not, ◌||◌, ◌&&◌, ◌==◌, if◌then◌else◌, List, [], ◌∷◌, ◌++◌, length, map, reverse, Option, Some, None, Result, unwrap_or, ◌⊎◌, inl, inr, refl, sym, ap, ◌∙◌, subst, eqb-true, arith}
-use Rattle.std.specs.Prelude.{option_map, option_and_then, flat_map}
+use Rattle.std.proofs.Common.{◌≡◌, ℕ, ◌+◌, ◌-◌, Bool, true, false, not, ◌||◌, ◌&&◌, ◌==◌, if◌then◌else◌, List, [], ◌∷◌, ◌++◌, length, map, reverse, Option, Some, None, Result, unwrap_or, ◌⊎◌, inl, inr, refl, sym, ap, ◌∙◌, subst, eqb-true, arith, option_map, option_and_then, flat_map}
 use Rattle.std.proofs.lemmas.Bool.{cases_Bool}
 use Rattle.sam_runes.specs.Texts.{Range, ins, is_empty, part, line_start, as_lines, last_line}
 use Rattle.sam_runes.specs.Slots.{slot}
@@ -8,8 +7,7 @@ use Rattle.sam_runes.proofs.EditLaws.{last_first_is_at_once, edits_fit}
 use Rattle.sam_runes.proofs.SlotLaws.{slot-put_same, slot-put_other}
 use Rattle.sam_rasp.specs.Rasp.{ins_cells}
 use Rattle.sam_rasp.proofs.RaspLaws.{agrees_typed}
-use Rattle.sam_text.specs.declared.word.Word.{Word}
-use Rattle.sam_text.specs.declared.command.Command.{Command}
+use Rattle.sam_text.specs.Types.{Word, Command}
 use Rattle.sam_text.specs.declared.command.Command.TheVariants as command
 use Rattle.sam_text.specs.Reading.{◌>>=◌, command_of}
 use Rattle.sam_text.specs.Files.{PlainFile, PlainFiles, PlainOutcome, file_at, put_file, typed_file, is_printed, after_print, printed_file, has_room, file_after, put_outcome, committed, AreFit}
@@ -17,9 +15,8 @@ use Rattle.sam_text.specs.Meaning.{WorkFile, meaning, work_on, work_file, line_o
 use Rattle.sam_text.specs.Outcomes.{Fits, IsRangeOf}
 use Rattle.sam_text.proofs.MeaningLaws.{line_fits}
 use Rattle.sam_text.proofs.FitLaws.{fit-put, fit-typed, fit-print}
-use Rattle.sam_mesg.specs.declared.tmesg.Tmesg.TheVariants.{Ttype, Tsend}
-use Rattle.sam_mesg.specs.declared.hmesg.Hmesg.{Hmesg}
-use Rattle.sam_mesg.specs.declared.hmesg.Hmesg.TheVariants.{Hmovname, Hdirty, Hsetpat, Hsetdot, Hcheck, Hexit, Hunlock}
+use Rattle.sam_mesg.specs.TerminalKinds.{Ttype, Tsend}
+use Rattle.sam_mesg.specs.HostKinds.{Hmesg, Hmovname, Hdirty, Hsetpat, Hsetdot, Hcheck, Hexit, Hunlock}
 use Rattle.sam_term.specs.Events.{is_command_line}
 use Rattle.sam_host.specs.Host.{PlainHost, Reply, with_file, with_files, when, when_given, printed, told_edit, told_outcome, no_range, reply_line, reply_type, reply_send}
 use Rattle.sam_protocol.specs.Lens.{Slot, Open, Lens, lens, Action, Free_command, HFile, Opened, Fits_slot, IsSettled, Settles}
@@ -201,10 +198,10 @@ line_sound k before line sound fit holds = grind (arith, (line_lasts k before li
 sync_line : (h : PlainHost) → Ready h → (p : ℕ) (s : List ℕ) → Accepted h (Ttype 0 p s) → is_command_line 0 s ≡ true → Synced h (Ttype 0 p s)
 unfolding reply_type
 sync_line h r p s o ends = record {
-    passes = type_passes h 0 p s o.0 o.1 o.2;
-    each = grind (arith, each);
-    gone = λ g e. ap (λ (b : Bool). file_in (if b then run else (typed_host, [])).0.files.slots g) ends ∙ line.gone g (lasts.gone g e);
-    sound = subst (λ (b : Bool). HasFiles (if b then run else (typed_host, [])).0.files) (sym ends) (line_sound typed_host [] text has fit holds2);
+  passes = type_passes h 0 p s o.0 o.1 o.2;
+  each = grind (arith, each);
+  gone = λ g e. ap (λ (b : Bool). file_in (if b then run else (typed_host, [])).0.files.slots g) ends ∙ line.gone g (lasts.gone g e);
+  sound = subst (λ (b : Bool). HasFiles (if b then run else (typed_host, [])).0.files) (sym ends) (line_sound typed_host [] text has fit holds2);
 }
   where
     there : IsThere h.files 0 false

@@ -1,14 +1,12 @@
 -- What the tests of an event say of the views, where none of them stands against it.
-use Rattle.std.proofs.Common.{◌≡◌, ℕ, suc, true, false, not, ◌&&◌, nat_lt, List, ◌∷◌, Some, None, arith}
-use Rattle.std.specs.Prelude.{unwrap_or}
+use Rattle.std.proofs.Common.{◌≡◌, ℕ, suc, true, false, not, ◌&&◌, nat_lt, List, ◌∷◌, Some, None, arith, unwrap_or}
 use Rattle.std.proofs.lemmas.Bool.{or_parts}
 use Rattle.sam_runes.specs.Slots.{Slots}
 use Rattle.sam_runes.specs.Checks.{first_of_checks}
 use Rattle.sam_term.specs.Term.{PlainTerminal, window_at, is_open, is_known, is_any_locked, event_checks, is_unknown, is_closed, is_file_locked, has_bad_place, makes_too_long}
-use Rattle.sam_term.specs.Events.{file_of, waits_for_all, is_bad_version, is_for_command_file, needs_open}
+use Rattle.sam_term.specs.Events.{file_of, waits_for_all, is_bad_version, is_for_command_file, needs_open, UserEvent}
 use Rattle.sam_term.specs.Windows.{blank_window, window_in}
-use Rattle.sam_term.specs.declared.records.KnownFile.{KnownFile}
-use Rattle.sam_term.specs.declared.event.UserEvent.{UserEvent}
+use Rattle.sam_term.specs.Types.{KnownFile}
 use Rattle.sam_term.specs.declared.fault.Refusal.TheVariants as refusal
 use Rattle.sam_rasp.specs.Rasp.{PartialText}
 use Rattle.sam_protocol.specs.Lens as lenses

@@ -1,6 +1,5 @@
 -- The first host, a new terminal and nothing under way are in order.
-use Rattle.std.proofs.Common.{◌≡◌, ℕ, suc, Bool, true, false, nat_lt, List, [], ◌∷◌, length, Option, Some, None, refl, sym, true≢false, arith}
-use Rattle.std.specs.Prelude.{unwrap_or}
+use Rattle.std.proofs.Common.{◌≡◌, ℕ, suc, Bool, true, false, nat_lt, List, [], ◌∷◌, length, Option, Some, None, refl, sym, true≢false, arith, unwrap_or}
 use Rattle.sam_runes.specs.Slots.{Slots, slot}
 use Rattle.sam_text.specs.Files.{PlainFile, blank_file}
 use Rattle.sam_host.specs.Host.{PlainHost, new_host, given_slots}

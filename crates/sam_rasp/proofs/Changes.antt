@@ -1,10 +1,10 @@
 -- Cutting and putting in, part by part.
-use Rattle.std.proofs.Common.{◌≡◌, refl, sym, ap, ◌∙◌, ℕ, zero, suc, ◌+◌, ◌-◌, ◌≤◌, List, [], ◌∷◌, ◌++◌, take, drop, length, arith, reverse, min, map, Some}
-use Rattle.std.proofs.lemmas.List.{append_assoc, reverse-reverse, take-append-le, drop-append-le, drop_min, take-append-drop, drop-take, take-take, map-append, drop-drop, length-append, length-take, length-drop}
+use Rattle.std.proofs.Common.{◌≡◌, refl, sym, ap, ◌∙◌, ℕ, zero, suc, ◌+◌, ◌-◌, ◌≤◌, List, [], ◌∷◌, ◌++◌, take, drop, length, arith, reverse, min, map, Some, append_assoc, take-append-drop, take-take, drop-drop, length-append, length-take, length-drop}
+use Rattle.std.proofs.lemmas.List.{reverse-reverse, take-append-le, drop-append-le, drop_min, drop-take, map-append}
 use Rattle.sam_rasp.specs.Rasp.{PartialText}
 use Rattle.sam_runes.specs.Texts.{del}
 use Rattle.sam_rasp.specs.Sections.{cells_of, cells_back}
-use Rattle.sam_rasp.specs.declared.section.Section.{Section}
+use Rattle.sam_rasp.specs.Types.{Section}
 
 pub unreversed : (old new : List Section) → new ≡ reverse old → cells_back new ≡ cells_of old
 unreversed old new e = ap cells_back e ∙ ap cells_of (reverse-reverse old)

@@ -1,12 +1,9 @@
 -- Marks as a list of sections changes.
-use Rattle.std.proofs.Common.{◌≡◌, sym, ap, ◌∙◌, ℕ, ◌+◌, ◌-◌, ◌<◌, List, take, drop, length, set, arith}
+use Rattle.std.proofs.Common.{◌≡◌, sym, ap, ◌∙◌, ℕ, ◌+◌, ◌-◌, ◌<◌, List, take, drop, length, set, arith, get_or-set_other, drop-drop, take-append-drop, length-append, length-drop}
 use Rattle.std.specs.List.{AllWithin}
 use Rattle.std.proofs.lemmas.List.Elements.{AllWithin-more_set}
-use Rattle.std.proofs.lemmas.List.{get_or-set_other, drop-drop, take-append-drop, length-append, length-drop}
 use Rattle.sam_rasp.specs.Sections.{cells_of, IsBegin, IsChange}
-use Rattle.sam_rasp.specs.declared.section.Section.{Section}
-use Rattle.sam_rasp.specs.declared.walking.Begin.{Begin}
-use Rattle.sam_rasp.specs.declared.marks.Change.{Change}
+use Rattle.sam_rasp.specs.Types.{Section, Begin, Change}
 use Rattle.sam_rasp.proofs.Splices.{cells-append}
 
 -- the cells before section number i and those from it on

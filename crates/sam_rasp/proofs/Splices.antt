@@ -1,14 +1,13 @@
 -- Sections taken out of a list and put back.
-use Rattle.std.proofs.Common.{◌≡◌, refl, sym, ap, ◌∙◌, subst, ℕ, ◌+◌, ◌-◌, ◌≤◌, ◌<◌, List, [], ◌∷◌, ◌++◌, take, drop, length, min, reverse, arith, ◌⊎◌}
-use Rattle.std.proofs.lemmas.List.{append-nil, append_assoc, drop-take, nil_from_length, take_at, drop_at, drop_min, drop-drop, take-take, take-append-drop, drop-append-le, length-append, length-reverse, length-take, length-drop, take-append-le, drop-append-le}
+use Rattle.std.proofs.Common.{◌≡◌, refl, sym, ap, ◌∙◌, subst, ℕ, ◌+◌, ◌-◌, ◌≤◌, ◌<◌, List, [], ◌∷◌, ◌++◌, take, drop, length, min, reverse, arith, ◌⊎◌, append-nil, append_assoc, take_at, drop_at, drop-drop, take-take, take-append-drop, length-append, length-take, length-drop, insert}
+use Rattle.std.proofs.lemmas.List.{drop-take, nil_from_length, drop_min, drop-append-le, length-reverse, take-append-le, drop-append-le}
 use Rattle.std.proofs.lemmas.List.Concat.{flat_map-append}
 use Rattle.sam_rasp.specs.Rasp.{PartialText}
 use Rattle.sam_rasp.specs.Sections.{cells, cells_of, cells_back, IsApart, StaysApart, IsNormal}
-use Rattle.sam_rasp.specs.declared.section.Section.{Section}
+use Rattle.sam_rasp.specs.Types.{Section}
 use Rattle.sam_rasp.proofs.SectionLaws.{normal-between}
 use Rattle.sam_rasp.proofs.Changes.{take-past, drop-past}
 use Rattle.sam_rasp.proofs.Runs.{normal-take, normal-drop}
-use Rattle.std.specs.List.{insert}
 
 pub take-below : {X : Type 0} (xs ys : List X) (n m : ℕ) → n ≤ m → take m xs ≡ take m ys → take n xs ≡ take n ys
 take-below xs ys n m le e = sym (take-take n m xs le) ∙ (ap (take n) e ∙ take-take n m ys le)

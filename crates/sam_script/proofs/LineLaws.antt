@@ -1,18 +1,13 @@
 -- What is read of a line is what it says, and each line says one thing.
-use Rattle.std.proofs.Common.{◌≡◌, ◌<◌, ◌≤◌, ◌∙◌, inl, inr, refl, sym, ap, subst, ℕ, List, [], ◌∷◌, ◌++◌, length, true, Some, Result, IfOk, IfErr, codes, flat_map, encode_utf8, arith}
-use Rattle.std.specs.Prelude.{chars, encode_utf8_all}
+use Rattle.std.proofs.Common.{◌≡◌, ◌<◌, ◌≤◌, ◌∙◌, inl, inr, refl, sym, ap, subst, ℕ, List, [], ◌∷◌, ◌++◌, length, true, Some, Result, IfOk, IfErr, codes, flat_map, encode_utf8, arith, chars, encode_utf8_all, IsUtf8, le-leb, eqb-true}
 use Rattle.std.specs.List.{AllByRecursion}
-use Rattle.std.specs.Str.{IsUtf8}
-use Rattle.std.proofs.lemmas.Bool.{le-leb, eqb-true, cases_Bool}
+use Rattle.std.proofs.lemmas.Bool.{cases_Bool}
 use Rattle.std.proofs.lemmas.Bool.Decides.{eqb_tells}
 use Rattle.std.proofs.lemmas.Option.{same_Some}
 use Rattle.std.proofs.lemmas.Str.{chars_from_encodes, encodes-chars}
 use Rattle.sam_runes.specs.Texts.{max_runes, most_in_name}
-use Rattle.sam_script.specs.declared.line.Line.{Line}
-use Rattle.sam_script.specs.declared.line.Line.TheVariants.{Key, Mouse}
-use Rattle.sam_script.specs.declared.line.Said.{Said}
+use Rattle.sam_script.specs.Types.{Line, Key, Mouse, Said, LineFault}
 use Rattle.sam_script.specs.declared.line.Said.TheVariants as said
-use Rattle.sam_script.specs.declared.fault.LineFault.{LineFault}
 use Rattle.sam_world.specs.Given.{IsFile}
 use Rattle.sam_script.specs.Spelling.{SpellsParts, IsWord, SpellsFile, SpellsLine, SaysNothing, SaysSo, Says}
 use Rattle.sam_script.specs.Events.Part.{Rest}

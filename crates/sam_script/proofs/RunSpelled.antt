@@ -1,23 +1,19 @@
 -- What `run_lines` writes is read back.
-use Rattle.std.proofs.Common.{◌≡◌, ◌≢◌, ◌<◌, ◌≤◌, ◌∙◌, ◌^◌, ◌+◌, refl, sym, ap, subst, ℕ, suc, List, [], ◌∷◌, ◌++◌, length, get_or, map, Bool, true, false, not, arith, codes, flat_map, append_assoc, append-nil, encode_utf8}
-use Rattle.std.specs.Prelude.{◌&&◌, ◌==◌, nat_lt}
-use Rattle.std.specs.Fmt.{decimal}
+use Rattle.std.proofs.Common.{◌≡◌, ◌≢◌, ◌<◌, ◌≤◌, ◌∙◌, ◌^◌, ◌+◌, refl, sym, ap, subst, ℕ, suc, List, [], ◌∷◌, ◌++◌, length, get_or, map, Bool, true, false, not, arith, codes, flat_map, append_assoc, append-nil, encode_utf8, ◌&&◌, ◌==◌, nat_lt, decimal, pow_mono, IsUtf8, ne_eqb}
 use Rattle.std.specs.Char.{IsScalar}
-use Rattle.std.proofs.Math.Pow.{pow_mono}
 use Rattle.sam_runes.specs.Texts.{most_files}
 use lib.Utf8.{scalar}
 use Rattle.std.specs.List.{AllByRecursion, AllZip, onto_first}
-use Rattle.std.specs.Str.{IsUtf8, all_ascii_digits}
-use Rattle.std.proofs.lemmas.Bool.{ne_eqb, and_parts}
+use Rattle.std.specs.Str.{all_ascii_digits}
+use Rattle.std.proofs.lemmas.Bool.{and_parts}
 use Rattle.std.proofs.lemmas.Fmt.{decimal_is_IsNumeral, digits_decimal}
 use Rattle.std.proofs.lemmas.Str.Parse.{numerals_by_value, tells_all_ascii_digits}
 use Rattle.std.proofs.lemmas.Str.{IsUtf8-nil, IsUtf8-append, IsUtf8-encode, inside_one, encode_ascii}
 use Rattle.sam_runes.specs.Reading.{AreRunes}
-use Rattle.sam_term.specs.declared.event.UserEvent.{UserEvent}
-use Rattle.sam_world.specs.declared.event.Event.{Event}
-use Rattle.sam_world.specs.declared.event.Event.TheVariants.{User, Act, Flush, HostTake, TermTake}
+use Rattle.sam_term.specs.Events.{UserEvent}
+use Rattle.sam_world.specs.Types.{Event, User, Act, Flush, HostTake, TermTake}
 use Rattle.sam_script.specs.declared.line.Line.TheVariants as line
-use Rattle.sam_script.specs.declared.line.Said.{Said}
+use Rattle.sam_script.specs.Types.{Said}
 use Rattle.sam_script.specs.declared.line.Said.TheVariants as said
 use Rattle.sam_script.specs.Script.{PlainScript}
 use Rattle.sam_script.specs.Show.{text_shown, text_rune}
@@ -238,12 +234,16 @@ their_lines n (file ∷ files) events = grind (arith, (their_lines (n + 1) files
 pub run_is_spelled : (files : List (List ℕ × List ℕ)) (events : List Event) → length files ≤ most_files → AllByRecursion CanBeNamed files
     → AllByRecursion CanBeWritten events → Spells (run_lines_of files events) (run_script files events)
 run_is_spelled files events count named written = record {
-    said = all_said files events;
-    each = subst (λ ls. AllZip Says (all_said files events) ls) (sym (lines files events named written)) (zip_many said_file file_bytes CanBeNamed (λ f can. ((file_good f can).utf8, file_is_said f can)) files (map said_event events ++ tail_said) (map event_bytes events ++ codes "show" ∷ [] ∷ []) named (zip_many said_event event_bytes CanBeWritten (λ e can. ((event_good e can).utf8, event_said e can)) events tail_said (codes "show" ∷ [] ∷ []) written (((good_plain (codes "show") refl).utf8, refl), ((IsUtf8-nil, tt), tt))));
-    ordered = files_first files events;
-    files = sym (their_files files events);
-    others = sym (their_lines 1 files events);
-    count = grind (arith, their_files);
+  said = all_said files events;
+  each = subst (λ ls. AllZip Says (all_said files events) ls) (sym (lines files events named written))
+      (zip_many said_file file_bytes CanBeNamed (λ f can. ((file_good f can).utf8, file_is_said f can)) files
+      (map said_event events ++ tail_said) (map event_bytes events ++ codes "show" ∷ [] ∷ []) named
+      (zip_many said_event event_bytes CanBeWritten (λ e can. ((event_good e can).utf8, event_said e can)) events
+      tail_said (codes "show" ∷ [] ∷ []) written (((good_plain (codes "show") refl).utf8, refl), ((IsUtf8-nil, tt), tt))));
+  ordered = files_first files events;
+  files = sym (their_files files events);
+  others = sym (their_lines 1 files events);
+  count = grind (arith, their_files);
 }
   where
     lines : (fs : List (List ℕ × List ℕ)) (es : List Event) → AllByRecursion CanBeNamed fs → AllByRecursion CanBeWritten es

@@ -1,13 +1,11 @@
 -- A list of lines spells at most one script, and one line more spells it with what the line says.
-use Rattle.std.proofs.Common.{◌≡◌, ◌<◌, ◌≤◌, ◌∙◌, ◌+◌, refl, sym, ap, ap₂, subst, ℕ, suc, List, [], ◌∷◌, ◌++◌, length, take, get_or, ◌-◌, arith, append_assoc, append-nil, length-append}
-use Rattle.std.specs.Prelude.{◌==◌}
+use Rattle.std.proofs.Common.{◌≡◌, ◌<◌, ◌≤◌, ◌∙◌, ◌+◌, refl, sym, ap, ap₂, subst, ℕ, suc, List, [], ◌∷◌, ◌++◌, length, take, get_or, ◌-◌, arith, append_assoc, append-nil, length-append, ◌==◌, take_all, length-take-le}
 use Rattle.std.specs.List.{AllZip}
-use Rattle.std.proofs.lemmas.List.{take_more, take_all, length-take-le}
+use Rattle.std.proofs.lemmas.List.{take_more}
 use Rattle.std.proofs.lemmas.List.Splits.{length-slice_split}
 use Rattle.std.proofs.lemmas.List.Sums.{count_by-le-length}
-use Rattle.sam_script.specs.declared.line.Said.{Said}
+use Rattle.sam_script.specs.Types.{Said, Wrong}
 use Rattle.sam_script.specs.declared.line.Said.TheVariants as said
-use Rattle.sam_script.specs.declared.fault.LineFault.TheVariants.{Wrong}
 use Rattle.sam_script.specs.Script.{PlainScript}
 use Rattle.sam_script.specs.Spelling.{Says, file_said, files_said, lines_said, AreFilesFirst, SpellsLines, lines_of, IsWrongLine}
 use Rattle.sam_script.specs.Reading.{Adds, AddsNone}

@@ -1,14 +1,12 @@
 -- What reading gives is what the grammar says, and what it says is read.
-use Rattle.std.proofs.Common.{◌≡◌, ◌<◌, ◌∙◌, ◌^◌, ◌⊎◌, inl, inr, refl, sym, ap, ap₂, subst, ℕ, List, [], ◌∷◌, ◌++◌, length, get_or, take, drop, Bool, true, false, cond, Option, Some, arith, codes, flat_map, append_assoc, append-nil, encode_utf8}
-use Rattle.std.specs.Prelude.{◌==◌, encode_utf8_all}
+use Rattle.std.proofs.Common.{◌≡◌, ◌<◌, ◌∙◌, ◌^◌, ◌⊎◌, inl, inr, refl, sym, ap, ap₂, subst, ℕ, List, [], ◌∷◌, ◌++◌, length, get_or, take, drop, Bool, true, false, cond, Option, Some, arith, codes, flat_map, append_assoc, append-nil, encode_utf8, ◌==◌, encode_utf8_all, IsUtf8, IsCharBoundary}
 use Rattle.std.specs.List.{AllByRecursion}
-use Rattle.std.specs.Str.{IsUtf8, all_ascii_digits, IsCharBoundary}
+use Rattle.std.specs.Str.{all_ascii_digits}
 use Rattle.std.proofs.lemmas.Bool.Decides.{eqb_tells}
 use Rattle.std.proofs.lemmas.Option.{same_Some}
 use Rattle.std.proofs.lemmas.Slice.Eq.{bytes_eq-Decides}
 use Rattle.std.proofs.lemmas.Str.{IsUtf8-drop, IsUtf8-take, IsUtf8-past_char, IsCharBoundary-end, chars_from_encodes, encodes-chars, encodes-append, encode_ascii}
-use Rattle.sam_term.specs.declared.event.UserEvent.{UserEvent}
-use Rattle.sam_term.specs.declared.event.UserEvent.TheVariants.{Typed, SetSnarf}
+use Rattle.sam_term.specs.Events.{UserEvent, Typed, SetSnarf}
 use Rattle.sam_term.specs.declared.event.UserEvent.TheVariants as user
 use Rattle.sam_script.specs.Show.{text_shown, text_rune}
 use Rattle.sam_script.specs.Spelling.{IsNumber, SpellsParts, SpellsEvent, IsWord}

@@ -6,3 +6,4 @@ pub mod Spelling
 pub mod Reading
 pub mod Replay
 pub mod RunLines
+pub mod Types

@@ -1,7 +1,5 @@
 -- What a parsed number says of its digits.
-use Rattle.std.proofs.Common.{◌≡◌, refl, sym, subst, ℕ, List, Bool, cond}
-use Rattle.std.proofs.lemmas.Bool.{ne_eqb}
-use Rattle.std.specs.Prelude.{slice_index, drop, Result, Ok}
+use Rattle.std.proofs.Common.{◌≡◌, refl, sym, subst, ℕ, List, Bool, cond, ne_eqb, slice_index, drop, Result, Ok}
 use Rattle.std.specs.Str.Parse.{IsNumeral, ParsesUnsigned, digits_value, without_leading_plus}
 use Rattle.clap.proofs.WalkLemmas.{first_value-rows}
 

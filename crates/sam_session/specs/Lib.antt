@@ -6,3 +6,4 @@ pub mod Status
 pub mod Words
 pub mod Replaying
 pub mod Threading
+pub mod Types

@@ -2,3 +2,4 @@ pub mod Apart
 pub mod Headline
 pub mod Settled
 pub mod Settling
+pub mod Types

@@ -1,14 +1,12 @@
 -- A terminal stays sound as files are opened, closed, named and dropped.
-use Rattle.std.proofs.Common.{◌≡◌, subst, ℕ, suc, ◌≤◌, true, false, [], ◌∷◌, length, Some, None, is_some, arith}
-use Rattle.std.specs.Prelude.{unwrap_or}
+use Rattle.std.proofs.Common.{◌≡◌, subst, ℕ, suc, ◌≤◌, true, false, [], ◌∷◌, length, Some, None, is_some, arith, unwrap_or}
 use Rattle.sam_runes.specs.Texts.{most_in_message}
 use Rattle.sam_runes.specs.Slots.{Slots, slot, put_slot, free_slot, map_slots}
 use Rattle.sam_runes.proofs.SlotLaws.{slot-put_same, slot-put_other, slot-free_same, slot-free_other}
 use Rattle.sam_term.specs.Term.{PlainTerminal, window_at, known_at, put_known, is_open, freed_known, unsent_without}
 use Rattle.sam_term.specs.Windows.{window_in, known_in, blank_window}
 use Rattle.sam_term.specs.Sound.{IsSound, FitsWindow, FitsUnsent, IsShort}
-use Rattle.sam_term.specs.declared.records.KnownFile.{KnownFile}
-use Rattle.sam_term.specs.declared.records.Unsent.{Unsent}
+use Rattle.sam_term.specs.Types.{KnownFile, Unsent}
 
 -- a file that is not open shows a blank window
 pub blank_where_shut : (ss : Slots KnownFile) (f : ℕ) → is_some (known_in ss f).window ≡ false → window_in ss f ≡ blank_window

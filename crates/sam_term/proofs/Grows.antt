@@ -1,15 +1,13 @@
 -- A terminal stays sound as partial texts grow and shrink.
-use Rattle.std.proofs.Common.{◌≡◌, sym, ap, ◌∙◌, subst, ℕ, ◌≤◌, ◌<◌, ◌+◌, ◌-◌, true, false, List, length, Option, Some, ◌⊎◌, inl, inr, arith, length-append}
-use Rattle.std.specs.Prelude.{IfSome, OnErr, OnOk, is_err, Result, min}
-use Rattle.std.proofs.lemmas.List.{length-take, length-drop, length-map}
+use Rattle.std.proofs.Common.{◌≡◌, sym, ap, ◌∙◌, subst, ℕ, ◌≤◌, ◌<◌, ◌+◌, ◌-◌, true, false, List, length, Option, Some, ◌⊎◌, inl, inr, arith, length-append, IfSome, OnErr, OnOk, is_err, Result, min, length-take, length-drop}
+use Rattle.std.proofs.lemmas.List.{length-map}
 use Rattle.sam_runes.specs.Texts.{max_runes}
 use Rattle.sam_runes.specs.Slots.{put_slot}
 use Rattle.sam_rasp.specs.Rasp.{PartialText, ins_cells, del_cells, load_cells, place_after_ins, place_after_del}
 use Rattle.sam_term.specs.Term.{PlainTerminal, window_at, is_open, put_window, window_after_ins, window_after_del, moved_unsent, ins_rasp, del_rasp}
 use Rattle.sam_term.specs.Windows.{known_in}
 use Rattle.sam_term.specs.Sound.{IsSound, FitsWindow, FitsUnsent, IsShort}
-use Rattle.sam_term.specs.declared.records.Window.{Window}
-use Rattle.sam_term.specs.declared.records.Unsent.{Unsent}
+use Rattle.sam_term.specs.Types.{Window, Unsent}
 use Rattle.sam_term.proofs.Sounds.{window-put, sound-put}
 use Rattle.sam_term.proofs.SlotSteps.{put_again}
 

@@ -1,13 +1,12 @@
 -- Requests for gaps.
-use Rattle.std.proofs.Common.{◌≡◌, refl, ap, ℕ, Bool, true, [], ◌∷◌, Option, Some, None, if◌then◌else◌, arith}
-use Rattle.std.specs.Prelude.{not, ◌&&◌, is_some}
+use Rattle.std.proofs.Common.{◌≡◌, refl, ap, ℕ, Bool, true, [], ◌∷◌, Option, Some, None, if◌then◌else◌, arith, not, ◌&&◌, is_some}
 use Rattle.sam_rasp.specs.Rasp.{hole_within}
 use Rattle.sam_runes.proofs.SlotLaws.{slot-put_same}
 use Rattle.sam_term.specs.Events.{lock_of}
 use Rattle.sam_term.specs.Locking.{is_lockable}
 use Rattle.sam_term.specs.Term.{PlainTerminal, put_window, is_open, wanted, request_for, view_end, took_unlockfile, sends_if, sends, requested, unchanged, window_of}
-use Rattle.sam_term.specs.declared.records.Window.{Window}
-use Rattle.sam_mesg.specs.declared.tmesg.Tmesg.{Tmesg}
+use Rattle.sam_term.specs.Types.{Window}
+use Rattle.sam_mesg.specs.TerminalKinds.{Tmesg}
 use Rattle.sam_term.specs.Editing.{shown_from}
 use Rattle.sam_term.proofs.Composes.{window-put_same}
 use Rattle.sam_term.proofs.SlotSteps.{put_again}

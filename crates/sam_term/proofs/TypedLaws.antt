@@ -1,10 +1,10 @@
 -- Typing runes in the place of a dot.
-use Rattle.std.proofs.Common.{◌≡◌, subst, ℕ, ◌≤◌, ◌+◌, ◌-◌, ◌++◌, List, length, map, take, drop, Some, arith}
-use Rattle.std.proofs.lemmas.List.{length-map, length-take-le}
+use Rattle.std.proofs.Common.{◌≡◌, subst, ℕ, ◌≤◌, ◌+◌, ◌-◌, ◌++◌, List, length, map, take, drop, Some, arith, length-take-le}
+use Rattle.std.proofs.lemmas.List.{length-map}
 use Rattle.sam_rasp.specs.Rasp.{PartialText, ins_cells, del_cells}
 use Rattle.sam_term.specs.Term.{window_after_ins, window_after_del}
 use Rattle.sam_term.specs.Editing.{typed_over}
-use Rattle.sam_term.specs.declared.records.Window.{Window}
+use Rattle.sam_term.specs.Types.{Window}
 use Rattle.sam_runes.specs.Texts.{max_runes}
 use Rattle.sam_term.specs.Term.{PlainTerminal, window_at, put_window}
 use Rattle.sam_term.specs.Sound.{IsSound, FitsWindow, FitsUnsent, IsShort}

@@ -1,7 +1,6 @@
 -- What holds of all files stays so under each change.
-use Rattle.std.proofs.Common.{◌≡◌, ℕ, zero, suc, ◌<◌, ◌≤◌, List, [], ◌∷◌, length, true, Option, Some, sym, subst, arith, length-append, drop, ◌-◌}
-use Rattle.std.specs.Prelude.{unwrap_or, is_some, option_map, IfSome, Result, Ok, Err, OnOk, OnErr, ⊤}
-use Rattle.std.proofs.lemmas.List.{length-drop, length-take-le}
+use Rattle.std.proofs.Common.{◌≡◌, ℕ, zero, suc, ◌<◌, ◌≤◌, List, [], ◌∷◌, length, true, Option, Some, sym, subst, arith, length-append, drop, ◌-◌, unwrap_or, is_some, option_map, IfSome, Result, Ok, Err, OnOk, OnErr, length-drop, length-take-le}
+use Rattle.std.specs.Prelude.{⊤}
 use Rattle.sam_runes.specs.Texts.{all_tags, part}
 use Rattle.sam_runes.specs.Slots.{Slots, slot, put_slot, free_slot}
 use Rattle.sam_runes.proofs.SlotLaws.{slot-put_same, slot-put_other, slot-free_same, slot-free_other, slot-map, slot_given, length-put_slot, length-free_slot, length-map_slots, put_slot-push}

@@ -1,16 +1,10 @@
 -- What is read of a line is within the limits: each pattern has 1 to most_in_pattern runes, and a name at most most_in_name.
-use Rattle.std.proofs.Common.{◌≡◌, ℕ, zero, suc, ◌+◌, ◌≤◌, List, [], ◌∷◌, length, Bool, true, false, cond, ◌||◌, ◌==◌, Option, Some, None, Result, Ok, Err, option_map, nat_lt, refl, arith}
-use Rattle.std.specs.Prelude.{IfOk, IfSome, ⊤}
-use Rattle.std.proofs.lemmas.Bool.{ltb-false}
+use Rattle.std.proofs.Common.{◌≡◌, ℕ, zero, suc, ◌+◌, ◌≤◌, List, [], ◌∷◌, length, Bool, true, false, cond, ◌||◌, ◌==◌, Option, Some, None, Result, Ok, Err, option_map, nat_lt, refl, arith, IfOk, IfSome, ltb-false}
+use Rattle.std.specs.Prelude.{⊤}
 use Rattle.sam_runes.specs.Texts.{most_in_name, most_in_pattern}
-use Rattle.sam_text.specs.declared.word.Word.{Word}
+use Rattle.sam_text.specs.Types.{Word, Side, Address, Step, Last, Command}
 use Rattle.sam_text.specs.declared.word.Word.TheVariants as word
-use Rattle.sam_text.specs.declared.command.Side.{Side}
-use Rattle.sam_text.specs.declared.command.Address.{Address}
 use Rattle.sam_text.specs.declared.command.Address.TheVariants as address
-use Rattle.sam_text.specs.declared.command.Step.{Step}
-use Rattle.sam_text.specs.declared.command.Last.{Last}
-use Rattle.sam_text.specs.declared.command.Command.{Command}
 use Rattle.sam_text.specs.declared.command.Command.TheVariants as command
 use Rattle.sam_text.specs.Files.{IsPattern}
 use Rattle.sam_text.specs.Meaning.{side_pattern, address_pattern, steps_pattern, later}

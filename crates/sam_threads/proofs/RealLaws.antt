@@ -1,11 +1,8 @@
 -- The real sides count as the law of two sides asks, their frames are told apart, and their world is the plain world.
-use Rattle.std.proofs.Common.{◌≡◌, suc, ◌≤◌, List, [], ◌∷◌, Option, Some, None, Result, Ok, refl, ap, ◌∙◌, arith}
-use Rattle.std.specs.Prelude.{option_map, option_and_then, All}
+use Rattle.std.proofs.Common.{◌≡◌, suc, ◌≤◌, List, [], ◌∷◌, Option, Some, None, Result, Ok, refl, ap, ◌∙◌, arith, option_map, option_and_then, All}
 use Rattle.std.proofs.lemmas.Option.{same_Some}
-use Rattle.sam_mesg.specs.declared.tmesg.Tmesg.{Tmesg}
-use Rattle.sam_mesg.specs.declared.hmesg.HFrame.{HFrame}
-use Rattle.sam_mesg.specs.TerminalKinds.{FitsT}
-use Rattle.sam_mesg.specs.HostKinds.{FitsH}
+use Rattle.sam_mesg.specs.TerminalKinds.{FitsT, Tmesg}
+use Rattle.sam_mesg.specs.HostKinds.{FitsH, HFrame}
 use Rattle.sam_mesg.proofs.TerminalLaws as upwards
 use Rattle.sam_mesg.proofs.HostLaws as downwards
 use Rattle.sam_frame.specs.Direction.{terminal, host, frame_of}
@@ -13,10 +10,9 @@ use Rattle.sam_frame.specs.Reading.{IsSound}
 use Rattle.sam_host.specs.Host.{PlainHost}
 use Rattle.sam_host.proofs.SoundLaws.{answers_are_counted}
 use Rattle.sam_term.specs.Term.{PlainTerminal, Made, flush_of, take_of}
-use Rattle.sam_term.specs.declared.fault.TermFault.{TermFault}
+use Rattle.sam_term.specs.Types.{TermFault, Acted}
 use Rattle.sam_term.specs.declared.fault.TermFault.TheVariants as fault
-use Rattle.sam_term.specs.declared.event.Acted.{Acted}
-use Rattle.sam_world.specs.declared.event.Event.{Event}
+use Rattle.sam_world.specs.Types.{Event}
 use Rattle.sam_world.specs.World.{PlainWorld, composed_by, step_of, run_of}
 use Rattle.sam_world.specs.Sides.{Each, Counts, World, and_then, step, run}
 use Rattle.sam_world.proofs.Carries.{PrefixFree}
@@ -44,13 +40,13 @@ acted_as r u ms e = grind arith
 
 pub counts : Counts sides
 counts = record {
-    taken = grind (arith, answers_are_counted, answered_as);
-    stamped = grind (arith, answers_are_counted, answered_as, each_of_all);
-    user = λ t e. refl;
-    act = grind (arith, acted_as, act-counts);
-    flush = λ t u ms e. flush-counts t (u, ms) (answered_as (flush_of t) (u, ms) e);
-    receive = λ t u frame ms e. take-counts t frame (u, ms) (answered_as (take_of t frame) (u, ms) e);
-    past = grind (arith, answered_as, taken_past);
+  taken = grind (arith, answers_are_counted, answered_as);
+  stamped = grind (arith, answers_are_counted, answered_as, each_of_all);
+  user = λ t e. refl;
+  act = grind (arith, acted_as, act-counts);
+  flush = λ t u ms e. flush-counts t (u, ms) (answered_as (flush_of t) (u, ms) e);
+  receive = λ t u frame ms e. take-counts t frame (u, ms) (answered_as (take_of t frame) (u, ms) e);
+  past = grind (arith, answered_as, taken_past);
 }
 
 -- ## The frames of both directions

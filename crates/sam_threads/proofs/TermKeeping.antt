@@ -1,22 +1,18 @@
 -- What is kept of the terminal's worker, step by step.
-use Rattle.std.proofs.Common.{◌≡◌, ◌⊎◌, refl, sym, ap, subst, ◌∙◌, ℕ, Bool, true, false, if◌then◌else◌, List, [], ◌∷◌, ◌++◌, Option, Some, None, is_some, append_assoc, append-nil, arith}
-use Rattle.std.specs.Global.{Vec}
-use Rattle.std.specs.Prelude.{MatchBool}
-use Rattle.sam_mesg.specs.declared.tmesg.Tmesg.{Tmesg}
-use Rattle.sam_mesg.specs.declared.hmesg.HFrame.{HFrame}
-use Rattle.sam_mesg.specs.TerminalKinds.{FitsT}
+use Rattle.std.proofs.Common.{◌≡◌, ◌⊎◌, refl, sym, ap, subst, ◌∙◌, ℕ, Bool, true, false, if◌then◌else◌, List, [], ◌∷◌, ◌++◌, Option, Some, None, is_some, append_assoc, append-nil, arith, Vec, MatchBool}
+use Rattle.sam_mesg.specs.HostKinds.{HFrame}
+use Rattle.sam_mesg.specs.TerminalKinds.{FitsT, Tmesg}
 use Rattle.sam_frame.specs.Direction.{terminal}
 use Rattle.sam_frame.specs.Stream.{stream_of}
 use Rattle.sam_frame.proofs.Fronts.{stream_of-append}
 use Rattle.sam_term.specs.Term.{PlainTerminal, new_terminal}
-use Rattle.sam_term.specs.declared.event.UserEvent.{UserEvent}
-use Rattle.sam_term.specs.declared.event.UserEvent.TheVariants.{Exit}
-use Rattle.sam_world.specs.declared.event.TermLog.{TermLog}
+use Rattle.sam_term.specs.Events.{UserEvent, Exit}
+use Rattle.sam_world.specs.Types.{TermLog}
 use Rattle.sam_world.specs.declared.event.TermLog.TheVariants as log
 use Rattle.sam_world.specs.Logs.{logged_users}
 use Rattle.sam_world.specs.Sides.{Each, TermRuns}
 use Rattle.sam_world.proofs.Settles.{term_more, each_append}
-use Rattle.sam_queue.specs.declared.rule.Entry.{Entry}
+use Rattle.sam_queue.specs.Types.{Entry}
 use Rattle.sam_queue.specs.History.{IsEnded, has_left}
 use Rattle.sam_queue.specs.Views.{TakeView, PostView, WasFull, closed_post, new_take, new_post}
 use Rattle.sam_threads.specs.RealSides.{sides}
@@ -26,10 +22,8 @@ use Rattle.sam_threads.specs.Cutting.{PutSome}
 use Rattle.sam_threads.proofs.Cut.{bytes_append}
 use Rattle.sam_threads.proofs.RealLaws.{counts}
 use Rattle.sam_threads.proofs.TermSteps.{did_nothing}
-use Rattle.sam_threads.specs.declared.input.Input.{Input}
-use Rattle.sam_threads.specs.declared.term_side.Found.{Found}
+use Rattle.sam_threads.specs.Types.{Input, Found, Stop}
 use Rattle.sam_threads.specs.declared.term_side.Found.TheVariants as found
-use Rattle.sam_threads.specs.declared.stop.Stop.{Stop}
 use Rattle.sam_threads.specs.declared.stop.Stop.TheVariants as stop
 
 -- ## Logs that grow
@@ -81,24 +75,24 @@ kept_step : (v : SideView) (logged : LoggedView) (to_send : List ℕ) (why : Opt
     → (why ≡ Some stop.PeerGone → has_left 2 v.take.taken ≡ true)
     → Ran (record { take = v.take; post = v.post; logged = logged; to_send = to_send; keyboard_left = v.keyboard_left; mouse_left = v.mouse_left; exit_put = v.exit_put; stop = why })
 kept_step v logged to_send why ms lost r running d fit grown so_far gone = record {
-    handled = r.handled;
-    dropped = [];
-    composed = r.composed ++ ms;
-    lost = lost;
-    own = r.own;
-    number = r.number;
-    senders = r.senders;
-    took = grind (arith, whole);
-    runs = subst (λ (x : List HFrame). TermRuns sides new_terminal logged.log x (r.composed ++ ms) logged.term) (append-nil (frames_in r.handled)) (runs_on v logged [] [] ms r d);
-    users = users_on v logged [] [] ms r d ∙ append-nil (users_in r.handled ++ r.own);
-    own_is = r.own_is;
-    all_left = r.all_left;
-    keyboard = r.keyboard;
-    mouse = r.mouse;
-    fit = grind (arith, each_append);
-    sent = grind (arith, whole, sent_on);
-    so_far = so_far;
-    gone = λ is. subst (λ (x : List (Entry Input)). has_left 2 x ≡ true) (all_handled v r running) (gone is);
+  handled = r.handled;
+  dropped = [];
+  composed = r.composed ++ ms;
+  lost = lost;
+  own = r.own;
+  number = r.number;
+  senders = r.senders;
+  took = grind (arith, whole);
+  runs = subst (λ (x : List HFrame). TermRuns sides new_terminal logged.log x (r.composed ++ ms) logged.term) (append-nil (frames_in r.handled)) (runs_on v logged [] [] ms r d);
+  users = users_on v logged [] [] ms r d ∙ append-nil (users_in r.handled ++ r.own);
+  own_is = r.own_is;
+  all_left = r.all_left;
+  keyboard = r.keyboard;
+  mouse = r.mouse;
+  fit = grind (arith, each_append);
+  sent = grind (arith, whole, sent_on);
+  so_far = so_far;
+  gone = λ is. subst (λ (x : List (Entry Input)). has_left 2 x ≡ true) (all_handled v r running) (gone is);
 }
 
 pub kept_done : (v : SideView) (logged : LoggedView) (to_send : List ℕ) (ms : List Tmesg) → Ran v → is_some v.stop ≡ false
@@ -147,7 +141,8 @@ kept_exit v logged r running d none k m =
       number = r.number;
       senders = r.senders;
       took = r.took;
-      runs = subst (λ (x : List Tmesg). TermRuns sides new_terminal logged.log (frames_in r.handled) x logged.term) (append-nil r.composed) (subst (λ (x : List HFrame). TermRuns sides new_terminal logged.log x (r.composed ++ []) logged.term) (append-nil (frames_in r.handled)) (runs_on v logged (Exit ∷ []) [] [] r d));
+      runs = subst (λ (x : List Tmesg). TermRuns sides new_terminal logged.log (frames_in r.handled) x logged.term) (append-nil r.composed)
+          (subst (λ (x : List HFrame). TermRuns sides new_terminal logged.log x (r.composed ++ []) logged.term) (append-nil (frames_in r.handled)) (runs_on v logged (Exit ∷ []) [] [] r d));
       users = users_on v logged (Exit ∷ []) [] [] r d ∙ ap (λ (x : List UserEvent). x ++ Exit ∷ []) (ap (λ (x : List UserEvent). users_in r.handled ++ x) own_none ∙ append-nil (users_in r.handled));
       own_is = refl;
       all_left = λ _. (k, m);
@@ -208,24 +203,24 @@ pub kept_new : (line : TakeView Input) (post : PostView (Vec ℕ)) (t : PlainTer
     → logged ≡ record { term = t; log = [] } → to_send ≡ [] → (why ≡ None) ⊎ (why ≡ Some stop.Gate)
     → Ran (record { take = line; post = post; logged = logged; to_send = to_send; keyboard_left = false; mouse_left = false; exit_put = false; stop = why })
 kept_new line post t logged to_send why fresh three first new laid empty is = record {
-    handled = [];
-    dropped = [];
-    composed = [];
-    lost = [];
-    own = [];
-    number = grind arith;
-    senders = three;
-    took = grind arith;
-    runs = grind arith;
-    users = grind arith;
-    own_is = refl;
-    all_left = λ is. absurd (cc);
-    keyboard = λ is. absurd (cc);
-    mouse = λ is. absurd (cc);
-    fit = tt;
-    sent = grind arith;
-    so_far = so_far why is;
-    gone = λ gone. absurd (not_gone why is gone);
+  handled = [];
+  dropped = [];
+  composed = [];
+  lost = [];
+  own = [];
+  number = grind arith;
+  senders = three;
+  took = grind arith;
+  runs = grind arith;
+  users = grind arith;
+  own_is = refl;
+  all_left = λ is. absurd (cc);
+  keyboard = λ is. absurd (cc);
+  mouse = λ is. absurd (cc);
+  fit = tt;
+  sent = grind arith;
+  so_far = so_far why is;
+  gone = λ gone. absurd (not_gone why is gone);
 }
   where
     not_gone : (o : Option Stop) → (o ≡ None) ⊎ (o ≡ Some stop.Gate) → o ≡ Some stop.PeerGone → ⊥

@@ -9,3 +9,4 @@ pub mod Cutting
 pub mod Feeding
 pub mod Handling
 pub mod Passing
+pub mod Types

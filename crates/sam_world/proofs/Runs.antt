@@ -1,14 +1,10 @@
 -- Runs, step by step, and what a drain has done.
-use Rattle.std.proofs.Common.{◌≡◌, ◌⊎◌, inl, inr, refl, ap, ◌∙◌, subst, ◌<◌, ◌+◌, ◌-◌, ℕ, zero, suc, Bool, true, List, [], ◌∷◌, take, length, Option, Some, None, arith}
-use Rattle.std.specs.Prelude.{option_and_then, slice_index_or, not, if◌then◌else◌, MatchOption}
+use Rattle.std.proofs.Common.{◌≡◌, ◌⊎◌, inl, inr, refl, ap, ◌∙◌, subst, ◌<◌, ◌+◌, ◌-◌, ℕ, zero, suc, Bool, true, List, [], ◌∷◌, take, length, Option, Some, None, arith, option_and_then, slice_index_or, not, if◌then◌else◌, MatchOption}
 use Rattle.std.proofs.lemmas.Option.{same_Some}
 use Rattle.sam_runes.specs.Texts.{is_empty}
 use Rattle.sam_world.specs.World.{PlainWorld, step_of, run_of, next_event, drained}
 use Rattle.sam_world.specs.Faults.{Advances, HasMade, IsDrainedUpTo, IsFaultOf, IsNextFault}
-use Rattle.sam_world.specs.declared.event.Event.{Event}
-use Rattle.sam_world.specs.declared.event.Event.TheVariants.{Act, Flush, HostTake, TermTake}
-use Rattle.sam_world.specs.declared.event.StepFault.{StepFault}
-use Rattle.sam_world.specs.declared.event.StepFault.TheVariants.{NothingThere, OutOfMemory, CountFull}
+use Rattle.sam_world.specs.Types.{Event, Act, Flush, HostTake, TermTake, StepFault, NothingThere, OutOfMemory, CountFull}
 use Rattle.sam_world.proofs.Stopping.{passing_stops}
 
 -- a run of the first i events and then the next one

@@ -1,6 +1,5 @@
 -- Batches one behind the other.
-use Rattle.std.proofs.Common.{◌≡◌, List, [], ◌∷◌, ◌++◌, map, append-nil, arith}
-use Rattle.std.proofs.lemmas.List.{append_assoc}
+use Rattle.std.proofs.Common.{◌≡◌, List, [], ◌∷◌, ◌++◌, map, append-nil, arith, append_assoc}
 use Rattle.sam_world.specs.UnderWay.{joined, AreFilled}
 
 pub joined-behind : {B M : Type 0} (items : B → List M) (batches : List B) (batch : B) → joined (map items (batches ++ batch ∷ [])) ≡ joined (map items batches) ++ items batch
@@ -10,4 +9,3 @@ joined-behind items (b ∷ bs) batch = grind (arith, append_assoc, (joined-behin
 pub filled-behind : {B M : Type 0} (items : B → List M) (batches : List B) (batch : B) → AreFilled (map items batches) → (items batch ≡ [] → ⊥) → AreFilled (map items (batches ++ batch ∷ []))
 filled-behind items [] batch filled there = (there, tt)
 filled-behind items (b ∷ bs) batch filled there = (filled.0, filled-behind items bs batch filled.1 there)
-

@@ -1,14 +1,13 @@
 -- The host's work file is open at the start, and stays so with each file that is added and each answer.
-use Rattle.std.proofs.Common.{◌≡◌, refl, ap, ◌∙◌, ℕ, true, List, Option, None, arith}
-use Rattle.std.specs.Prelude.{unwrap_or}
+use Rattle.std.proofs.Common.{◌≡◌, refl, ap, ◌∙◌, ℕ, true, List, Option, None, arith, unwrap_or}
 use Rattle.sam_runes.specs.Checks.{first_of_checks}
 use Rattle.sam_runes.proofs.SlotLaws.{slot-put_same, slot-map, slot-free_other}
 use Rattle.sam_text.specs.Files.{opened_file, PlainFile, PlainFiles, PlainOutcome, blank_file, file_at, put_file, put_outcome, committed, announce_all}
 use Rattle.sam_host.proofs.Keeping.{IsKept, reply_keeps}
 use Rattle.sam_host.proofs.SoundLaws.{answer_is, of_answer}
 use Rattle.sam_host.specs.Host.{PlainHost, host_checks, reply_to}
-use Rattle.sam_mesg.specs.declared.tmesg.Tmesg.{Tmesg}
-use Rattle.sam_mesg.specs.declared.hmesg.HFrame.{HFrame}
+use Rattle.sam_mesg.specs.TerminalKinds.{Tmesg}
+use Rattle.sam_mesg.specs.HostKinds.{HFrame}
 use Rattle.sam_world.specs.World.{PlainWorld, new_world}
 use Rattle.sam_world.specs.Reached.{WasReached}
 use Rattle.sam_world.specs.Telling.{IsWorkOpen, StartsWithWorkOpen, AddedFilesKeepWorkOpen, AnswersKeepWorkOpen}

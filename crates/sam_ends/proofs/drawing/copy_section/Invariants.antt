@@ -1,5 +1,4 @@
-use Rattle.std.proofs.Common.{◌≡◌, ◌++◌, ◌+◌, drop, length, take}
-use Rattle.std.specs.Prelude.{map}
+use Rattle.std.proofs.Common.{◌≡◌, ◌++◌, ◌+◌, drop, length, take, map}
 use Rattle.sam_rasp.specs.Sections.{cells}
 use Rattle.sam_ends.specs.Drawing.{drawn}
 use Rattle.sam_ends.proofs.drawing.copy_section.Given as goal

@@ -1,5 +1,4 @@
-use Rattle.std.proofs.Common.{arith}
-use Rattle.std.specs.Str.{chars}
+use Rattle.std.proofs.Common.{arith, chars}
 use Rattle.sam_mesg.proofs.Texts.{text_none, text_within, text_beyond}
 use Rattle.sam_mesg.proofs.reading.fault_without_memory.Goals as goal
 

@@ -1,5 +1,4 @@
-use Rattle.std.proofs.Common.{◌+◌, ◌++◌, length, arith}
-use Rattle.std.proofs.lemmas.List.{length-append}
+use Rattle.std.proofs.Common.{◌+◌, ◌++◌, length, arith, length-append}
 use Rattle.sam_rasp.specs.Sections.{cells, cells_of, cells_back}
 use Rattle.sam_rasp.proofs.SectionLaws.{length-cells}
 use Rattle.sam_rasp.proofs.Changes.{cut-cells}
@@ -20,7 +19,7 @@ returns-clause-cells c =
     c.cut.ensures.cells c.push_joined.ensures.cells c.drop_front-last.ensures.cells c.push_joined-2.ensures.cells c.join_all.ensures.cells
 
 pub push_joined-requires-clause-within : goal.push_joined-requires-clause-within
-push_joined-requires-clause-within c = 
+push_joined-requires-clause-within c =
     let first = c.move_before-first.result.0 in
     let a = cells_of c.move_before-first.new.out.items in
     let rest = cells_back c.move_before-first.new.rest.items in
@@ -33,7 +32,7 @@ push_joined-requires-clause-within c =
     )
 
 pub drop_front-last-requires : goal.drop_front-last-requires
-drop_front-last-requires c = 
+drop_front-last-requires c =
     let first = c.move_before-first.result.0 in
     let a = cells_of c.move_before-first.new.out.items in
     let rest = cells_back c.move_before-first.new.rest.items in
@@ -46,7 +45,7 @@ drop_front-last-requires c =
     )
 
 pub push_joined-requires-2-clause-within : goal.push_joined-requires-2-clause-within
-push_joined-requires-2-clause-within c = 
+push_joined-requires-2-clause-within c =
     let first = c.move_before-first.result.0 in
     let a = cells_of c.move_before-first.new.out.items in
     let rest = cells_back c.move_before-first.new.rest.items in
@@ -61,7 +60,7 @@ push_joined-requires-2-clause-within c =
     )
 
 pub join_all-requires-clause-within : goal.join_all-requires-clause-within
-join_all-requires-clause-within c = 
+join_all-requires-clause-within c =
     let first = c.move_before-first.result.0 in
     let a = cells_of c.move_before-first.new.out.items in
     let rest = cells_back c.move_before-first.new.rest.items in

@@ -1,5 +1,4 @@
-use Rattle.std.proofs.Common.{◌∙◌, ap, ◌+◌, ◌++◌, length, arith}
-use Rattle.std.proofs.lemmas.List.{length-drop, length-append}
+use Rattle.std.proofs.Common.{◌∙◌, ap, ◌+◌, ◌++◌, length, arith, length-drop, length-append}
 use Rattle.sam_runes.specs.Texts.{max_runes}
 use Rattle.sam_rasp.specs.Sections.{cells, cells_of, cells_back}
 use Rattle.sam_rasp.proofs.SectionLaws.{length-cells}
@@ -81,7 +80,7 @@ returns-clause-front c w f =
     w (c.push_joined-2.ensures.front w (c.join_all.ensures.front w (c.push_joined.ensures.front w (c.move_before-first.ensures.front w f)))))
 
 pub drop_front-last-requires : goal.drop_front-last-requires
-drop_front-last-requires c = 
+drop_front-last-requires c =
     let first = c.move_before-first.result.0 in
     let rest = cells_back c.move_before-first.new.rest.items in
     let a = cells_of c.move_before-first.new.out.items in
@@ -94,7 +93,7 @@ drop_front-last-requires c =
     )
 
 pub push_joined-requires-2-clause-within : goal.push_joined-requires-2-clause-within
-push_joined-requires-2-clause-within c = 
+push_joined-requires-2-clause-within c =
     let first = c.move_before-first.result.0 in
     let rest = cells_back c.move_before-first.new.rest.items in
     let a = cells_of c.move_before-first.new.out.items in

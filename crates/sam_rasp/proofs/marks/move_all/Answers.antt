@@ -1,6 +1,5 @@
 use Rattle.std.proofs.lemmas.Grind.{common_steps}
-use Rattle.std.proofs.Common.{arith}
-use Rattle.std.proofs.lemmas.List.{length-set}
+use Rattle.std.proofs.Common.{arith, length-set}
 use Rattle.sam_rasp.proofs.Marking.{written}
 use Rattle.sam_rasp.proofs.marks.move_all.Goals as goal
 

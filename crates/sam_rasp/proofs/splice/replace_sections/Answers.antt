@@ -1,6 +1,4 @@
-use Rattle.std.proofs.Common.{◌≡◌, ◌∙◌, ap, sym, subst, ◌++◌, ◌-◌, ◌+◌, ◌≤◌, drop, take, length, arith}
-use Rattle.std.specs.Option.{option_to_list}
-use Rattle.std.proofs.lemmas.List.{append_assoc, length-append, length-drop}
+use Rattle.std.proofs.Common.{◌≡◌, ◌∙◌, ap, sym, subst, ◌++◌, ◌-◌, ◌+◌, ◌≤◌, drop, take, length, arith, option_to_list, append_assoc, length-append, length-drop}
 use Rattle.sam_rasp.specs.Sections.{cells_of, cells_back, IsNormal}
 use Rattle.sam_rasp.proofs.Splices.{opened, closed, closed-normal, change-inside, change-length, cells-append, has-front, normal-front, nothing-behind}
 use Rattle.sam_rasp.proofs.splice.replace_sections.Goals as goal

@@ -1,5 +1,4 @@
-use Rattle.std.proofs.Common.{◌≡◌, ◌++◌, length}
-use Rattle.std.specs.Str.{encode_utf8_all}
+use Rattle.std.proofs.Common.{◌≡◌, ◌++◌, length, encode_utf8_all}
 use Rattle.sam_runes.proofs.codec.read_utf8.Given as goal
 
 abbrev pub invariant-loop-rest : goal.invariant-loop-rest

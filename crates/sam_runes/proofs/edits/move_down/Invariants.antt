@@ -1,5 +1,4 @@
-use Rattle.std.proofs.Common.{◌≡◌, ◌≤◌, ◌-◌, ◌++◌, take, drop, length}
-use Rattle.std.specs.List.{slice_range}
+use Rattle.std.proofs.Common.{◌≡◌, ◌≤◌, ◌-◌, ◌++◌, take, drop, length, slice_range}
 use Rattle.sam_runes.proofs.edits.move_down.Given as goal
 
 abbrev pub invariant-loop-at : goal.invariant-loop-at

@@ -1,8 +1,7 @@
-use Rattle.std.proofs.Common.{◌≡◌, ◌≢◌, ◌⊎◌, ◌≤◌, ◌∙◌, ◌+◌, [], ℕ, List, length, drop, ap, subst, inl, inr, arith, true, false}
+use Rattle.std.proofs.Common.{◌≡◌, ◌≢◌, ◌⊎◌, ◌≤◌, ◌∙◌, ◌+◌, [], ℕ, List, length, drop, ap, subst, inl, inr, arith, true, false, chars}
 use Rattle.std.proofs.lemmas.Iterator.{YieldsList-from_chars}
 use Rattle.std.proofs.lemmas.Iterator.Consumers.{YieldsList-turn, YieldsList-end}
 use Rattle.std.proofs.lemmas.List.{length_push}
-use Rattle.std.specs.Str.{chars}
 use Rattle.sam_script.specs.Words.{unescaped}
 use Rattle.sam_script.proofs.WordLaws.{turn_escape, turn_rune, turn_fails, turns_end}
 use Rattle.sam_script.proofs.words.unescape.Goals as goal
@@ -51,7 +50,7 @@ returns-then-is_escaped c =
     ∙ ap (λ b. unescaped c.loop-rune.runes.items b []) c.if-is_escaped.true
 
 pub returns : goal.returns
-returns c = 
+returns c =
     let t = YieldsList-end (YieldsList-from_chars c.args.escaped.now c.utf8.escaped cc) c.loop-rune.yielded _ c.loop-rune.yielded_by _ _ c.in-None.is c.next.ensures.steps in
     let all : length (chars c.args.escaped.now) ≤ length c.loop-rune.yielded = omega (arith, t.1) in
     grind (arith, t, (turns_end c.loop-rune.runes.items (chars c.args.escaped.now) (chars c.args.escaped.now) c.loop-rune.is_escaped (length c.loop-rune.yielded) c.loop-rune.invariant all))

@@ -1,5 +1,4 @@
-use Rattle.std.proofs.Common.{◌≡◌, length, drop, [], false}
-use Rattle.std.specs.Str.{chars}
+use Rattle.std.proofs.Common.{◌≡◌, length, drop, [], false, chars}
 use Rattle.sam_script.specs.Words.{unescaped}
 use Rattle.sam_script.proofs.words.unescape.Given as goal
 

@@ -1,5 +1,4 @@
-use Rattle.std.proofs.Common.{◌≡◌, length, take}
-use Rattle.std.specs.List.{sum_by}
+use Rattle.std.proofs.Common.{◌≡◌, length, take, sum_by}
 use Rattle.sam_settling.proofs.settling.count.Given as goal
 
 abbrev pub invariant-loop-list : goal.invariant-loop-list

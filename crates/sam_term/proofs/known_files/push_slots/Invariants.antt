@@ -1,5 +1,4 @@
-use Rattle.std.proofs.Common.{◌≡◌, ◌+◌, ◌≤◌, ◌++◌, replicate, None}
-use Rattle.std.specs.Prelude.{vec_len, vec_capacity}
+use Rattle.std.proofs.Common.{◌≡◌, ◌+◌, ◌≤◌, ◌++◌, replicate, None, vec_len, vec_capacity}
 use Rattle.sam_term.proofs.known_files.push_slots.Given as goal
 
 abbrev pub invariant-loop : goal.invariant-loop

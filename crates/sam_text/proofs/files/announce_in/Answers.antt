@@ -1,5 +1,4 @@
-use Rattle.std.proofs.Common.{arith}
-use Rattle.std.proofs.lemmas.List.{length-set}
+use Rattle.std.proofs.Common.{arith, length-set}
 use Rattle.sam_text.proofs.ViewLaws.{announced_behind, announced-none, announced-step, announced-done, rooms_step}
 use Rattle.sam_text.proofs.files.announce_in.Goals as goal
 

@@ -2,14 +2,14 @@ use Rattle.std.proofs.Common.{◌≡◌, ◌∙◌, sym, ap, subst, ◌++◌, �
 use Rattle.sam_ends.specs.Streams.{FitMessages}
 use Rattle.sam_term.specs.Fitting.{AllFit, composed_in}
 use Rattle.sam_term.specs.Term.{act_of}
-use Rattle.sam_term.specs.declared.event.Acted.TheVariants.{Idle, Locked, Done, Refused}
+use Rattle.sam_term.specs.Types.{Idle, Locked, Done, Refused}
 use Rattle.sam_ends.specs.TermEnds.{PlainTermEnd, IsQuiet, oldest, shown}
 use Rattle.sam_ends.specs.TermSteps.{ActsFirst}
 use Rattle.sam_ends.proofs.TermEndSteps.{idle_counted, locked_counted, settled_counted, acted_stamped, idle_quiet, locked_quiet, acted_first, refused_number}
 use Rattle.sam_ends.proofs.term_end.TermEnd.act_first.Goals as goal
 
 pub invariant_of-self-in-Ok-Idle : goal.invariant_of-self-in-Ok-Idle
-invariant_of-self-in-Ok-Idle c = 
+invariant_of-self-in-Ok-Idle c =
     let act : act_of c.self.inside.term ≡ Ok (c.act_now.new.term, Idle) = subst (λ a. act_of c.self.inside.term ≡ Ok (c.act_now.new.term, a)) c.in-Ok-Idle.field-0-is c.in-Ok-Idle.ensures.tries in
     grind (arith, (idle_counted (shown c.self.inside) c.act_now.new.term c.self.invariant act), (acted_stamped (shown c.self.inside) c.act_now.new.term Idle c.self.invariant act))
 

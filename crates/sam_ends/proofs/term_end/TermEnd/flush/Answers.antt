@@ -4,7 +4,7 @@ use Rattle.sam_ends.proofs.TermEndCalls.{call_brought, call_failed, flush_not}
 use Rattle.sam_ends.proofs.term_end.TermEnd.flush.Goals as goal
 
 pub returns-in_err-resume : goal.returns-in_err-resume
-returns-in_err-resume c = 
+returns-in_err-resume c =
     let g : PlainTermEnd = c.resume.new.self in
     let why = c.in_err-resume.field-0.0 in
     grind (arith, (call_failed c.args.self.now g why (λ m. FlushesIdle m (Err why) g) c.in_err-resume.ensures))

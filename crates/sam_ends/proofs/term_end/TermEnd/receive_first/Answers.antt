@@ -1,5 +1,4 @@
-use Rattle.std.proofs.Common.{◌≡◌, ◌∙◌, ap, refl, subst, sym, ◌∷◌, drop, Err}
-use Rattle.std.specs.Prelude.{option_copied}
+use Rattle.std.proofs.Common.{◌≡◌, ◌∙◌, ap, refl, subst, sym, ◌∷◌, drop, Err, option_copied}
 use Rattle.sam_ends.specs.Streams.{FitFrames, FitMessages}
 use Rattle.sam_ends.specs.TermEnds.{PlainTermEnd, shown}
 use Rattle.sam_ends.specs.TermSteps.{Receives, ReceivesFirst}

@@ -1,5 +1,4 @@
-use Rattle.std.proofs.Common.{◌≡◌, ◌++◌, ◌∷◌, [], Some, length}
-use Rattle.std.specs.Prelude.{reverse}
+use Rattle.std.proofs.Common.{◌≡◌, ◌++◌, ◌∷◌, [], Some, length, reverse}
 use Rattle.sam_text.specs.Files.{blank_file, first_files}
 use Rattle.sam_host.specs.Host.{command_name, given_slots}
 use Rattle.sam_host.specs.Given.{AreNames, given_of}

@@ -1,5 +1,4 @@
-use Rattle.std.proofs.Common.{arith}
-use Rattle.std.proofs.lemmas.Bool.{ltb-false}
+use Rattle.std.proofs.Common.{arith, ltb-false}
 use Rattle.sam_host.proofs.FrameLaws.{stamped_append}
 use Rattle.sam_host.proofs.TypingLaws.{send_runs}
 use Rattle.sam_host.proofs.host.Host.send.Goals as goal

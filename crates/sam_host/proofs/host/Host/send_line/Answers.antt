@@ -16,7 +16,7 @@ undo-requires-clause-range c =
     (omega arith, ready.1)
 
 pub undo-requires-clause-dot : goal.undo-requires-clause-dot
-undo-requires-clause-dot c = 
+undo-requires-clause-dot c =
     let place : c.text_len-len.result ≤ length (file_at c.args.self.now.files 0).text = omega (arith, c.text_len-len.ensures.len) in
     grind (arith, (typed_ready c.args.self.now c.run.new.self c.text_len-len.result c.args.runes.now (c.in-Err.ensures.unchanged ∙ c.in_ok-put_typed.ensures.ok) place))
 

@@ -1,5 +1,4 @@
-use Rattle.std.proofs.Common.{◌≡◌, ◌≤◌, ◌+◌, ◌++◌, take, length}
-use Rattle.std.specs.Prelude.{flat_map, reverse}
+use Rattle.std.proofs.Common.{◌≡◌, ◌≤◌, ◌+◌, ◌++◌, take, length, flat_map, reverse}
 use Rattle.sam_host.specs.Host.{stamped, told_edit}
 use Rattle.sam_host.proofs.host.Host.tell_edits.Given as goal
 

@@ -1,5 +1,4 @@
-use Rattle.std.proofs.Common.{sym, ap, ◌∙◌, arith}
-use Rattle.std.proofs.lemmas.List.{append-nil}
+use Rattle.std.proofs.Common.{sym, ap, ◌∙◌, arith, append-nil}
 use Rattle.sam_term.specs.Sound.{seen}
 use Rattle.sam_term.proofs.Sounds.{sound-unsent}
 use Rattle.sam_term.proofs.Composes.{flushed-some, flushed-none}
@@ -15,7 +14,7 @@ returns-in-Some-clause-flushed c =
     grind (arith, flushed-some c.args.self.now u e)
 
 pub returns-in-Some-clause-messages : goal.returns-in-Some-clause-messages
-returns-in-Some-clause-messages c = 
+returns-in-Some-clause-messages c =
     let e = ap (λ t. t.unsent) (sym c.self.view_is) ∙ (sym c.take.ensures.value ∙ c.in-Some.is) in
     grind (arith, (flushed-some c.args.self.now c.in-Some.unsent e))
 

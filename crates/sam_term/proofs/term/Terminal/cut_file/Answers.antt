@@ -1,5 +1,4 @@
-use Rattle.std.proofs.Common.{◌≤◌, sym, subst, arith, length}
-use Rattle.std.specs.Prelude.{◌+◌}
+use Rattle.std.proofs.Common.{◌≤◌, sym, subst, arith, length, ◌+◌}
 use Rattle.sam_term.specs.Term.{window_at}
 use Rattle.sam_term.specs.Sound.{seen}
 use Rattle.sam_term.proofs.Grows.{lent_del, sound-del}

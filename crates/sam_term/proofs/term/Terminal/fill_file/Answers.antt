@@ -1,5 +1,4 @@
-use Rattle.std.proofs.Common.{◌≡◌, ◌≤◌, sym, ap, ◌∙◌, subst, arith, length, Option, ℕ, map, Some}
-use Rattle.std.specs.Prelude.{◌+◌}
+use Rattle.std.proofs.Common.{◌≡◌, ◌≤◌, sym, ap, ◌∙◌, subst, arith, length, Option, ℕ, map, Some, ◌+◌}
 use Rattle.std.proofs.lemmas.List.{length-map}
 use Rattle.sam_runes.specs.Texts.{max_runes}
 use Rattle.sam_rasp.specs.Rasp.{place_after_ins}

@@ -1,5 +1,4 @@
-use Rattle.std.proofs.Common.{arith, refl}
-use Rattle.std.specs.Prelude.{◌-◌}
+use Rattle.std.proofs.Common.{arith, refl, ◌-◌}
 use Rattle.sam_term.specs.Term.{took_unlockfile}
 use Rattle.sam_term.specs.Sound.{seen}
 use Rattle.sam_term.proofs.Sounds.{sound_lent}

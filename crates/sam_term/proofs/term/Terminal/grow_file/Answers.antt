@@ -1,5 +1,4 @@
-use Rattle.std.proofs.Common.{◌≡◌, ◌≤◌, sym, ap, ◌∙◌, subst, arith, length, Option, ℕ, replicate, None}
-use Rattle.std.specs.Prelude.{◌+◌}
+use Rattle.std.proofs.Common.{◌≡◌, ◌≤◌, sym, ap, ◌∙◌, subst, arith, length, Option, ℕ, replicate, None, ◌+◌}
 use Rattle.std.proofs.lemmas.List.{length-replicate}
 use Rattle.sam_runes.specs.Texts.{max_runes}
 use Rattle.sam_rasp.specs.Rasp.{place_after_ins}

@@ -1,5 +1,4 @@
-use Rattle.std.proofs.Common.{◌≡◌, ◌≤◌, sym, ap, ◌∙◌, subst, length, List, ℕ, true, arith}
-use Rattle.std.specs.Prelude.{◌+◌, option_copied}
+use Rattle.std.proofs.Common.{◌≡◌, ◌≤◌, sym, ap, ◌∙◌, subst, length, List, ℕ, true, arith, ◌+◌, option_copied}
 use Rattle.sam_runes.specs.Texts.{max_runes}
 use Rattle.sam_term.specs.Acting.{first_event}
 use Rattle.sam_term.specs.Editing.{typed_runes}
@@ -17,7 +16,7 @@ pub returns-then-is_err-clause-err : goal.returns-then-is_err-clause-err
 returns-then-is_err-clause-err c = grind (arith, at_err, shortened-again, lent_same)
 
 pub invariant_of-self-else-is_err : goal.invariant_of-self-else-is_err
-invariant_of-self-else-is_err c = 
+invariant_of-self-else-is_err c =
     let t = seen c.self.inside in
     let f = c.args.tag in
     let s : List ℕ = typed_runes (first_event t.held) in

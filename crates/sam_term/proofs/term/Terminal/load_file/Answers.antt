@@ -1,5 +1,4 @@
-use Rattle.std.proofs.Common.{◌≤◌, sym, subst, length, arith}
-use Rattle.std.specs.Prelude.{◌+◌}
+use Rattle.std.proofs.Common.{◌≤◌, sym, subst, length, arith, ◌+◌}
 use Rattle.sam_term.specs.Term.{window_at, took_data}
 use Rattle.sam_term.specs.Sound.{seen}
 use Rattle.sam_term.proofs.Grows.{lent_same, sound-load}

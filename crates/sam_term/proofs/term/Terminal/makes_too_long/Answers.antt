@@ -1,6 +1,5 @@
-use Rattle.std.proofs.Common.{◌≡◌, arith, ℕ, ◌+◌, ◌-◌, ◌≤◌, ◌<◌, true}
-use Rattle.std.specs.Prelude.{nat_lt}
-use Rattle.std.proofs.lemmas.Bool.{ltb_from_iff, ltb-true, lt-ltb}
+use Rattle.std.proofs.Common.{◌≡◌, arith, ℕ, ◌+◌, ◌-◌, ◌≤◌, ◌<◌, true, nat_lt, ltb-true, lt-ltb}
+use Rattle.std.proofs.lemmas.Bool.{ltb_from_iff}
 use Rattle.sam_runes.specs.Texts.{max_runes}
 use Rattle.sam_term.proofs.term.Terminal.makes_too_long.Goals as goal
 

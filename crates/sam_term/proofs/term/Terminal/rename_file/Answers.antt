@@ -1,5 +1,4 @@
-use Rattle.std.proofs.Common.{ap}
-use Rattle.std.specs.Prelude.{unwrap_or}
+use Rattle.std.proofs.Common.{ap, unwrap_or}
 use Rattle.sam_term.specs.Windows.{blank_window}
 use Rattle.sam_term.specs.Sound.{seen}
 use Rattle.sam_term.proofs.FileSteps.{sound-put_known}

@@ -5,7 +5,7 @@ use Rattle.sam_term.proofs.Edits.{held-sends, sends-held, done_later, failed_lat
 use Rattle.sam_term.proofs.term.Terminal.send_for_event.Goals as goal
 
 pub returns-in-Err : goal.returns-in-Err
-returns-in-Err c = 
+returns-in-Err c =
     let t = c.args.self.now in
     let m = c.args.message in
     let es = drop 1 t.held in

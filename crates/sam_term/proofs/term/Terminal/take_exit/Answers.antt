@@ -5,7 +5,7 @@ use Rattle.sam_term.proofs.FileSteps.{sound-exit}
 use Rattle.sam_term.proofs.term.Terminal.take_exit.Goals as goal
 
 pub invariant_of-self : goal.invariant_of-self
-invariant_of-self c = 
+invariant_of-self c =
     let t = seen c.self.inside in
     grind (arith, (sound-exit t c.self.invariant))
 

@@ -7,7 +7,7 @@ use Rattle.sam_term.proofs.Sounds.{quiet, is_countable}
 use Rattle.sam_term.proofs.term.Terminal.take_newname.Goals as goal
 
 pub invariant_of-self-2 : goal.invariant_of-self-2
-invariant_of-self-2 c = 
+invariant_of-self-2 c =
     let t = seen c.self.inside in
     grind (arith, (sound-put_known t c.args.tag blank_known c.self.invariant (sym (blank_where_unknown t.files c.args.tag (ap (λ u. is_known u c.args.tag) c.self.view_is ∙ c.requires)))))
 

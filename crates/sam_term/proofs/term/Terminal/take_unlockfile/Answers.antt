@@ -1,5 +1,4 @@
-use Rattle.std.specs.Prelude.{IsOk}
-use Rattle.std.proofs.Common.{subst, sym, ap, ◌∙◌, refl, inl, inr, Err, [], ◌∷◌, length, arith}
+use Rattle.std.proofs.Common.{subst, sym, ap, ◌∙◌, refl, inl, inr, Err, [], ◌∷◌, length, arith, IsOk}
 use Rattle.sam_term.specs.Taking.{countable}
 use Rattle.sam_term.specs.Events.{lock_of}
 use Rattle.sam_term.specs.Locking.{is_lockable}

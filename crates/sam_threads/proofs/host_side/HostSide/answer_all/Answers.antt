@@ -9,7 +9,7 @@ returns-in-Err-clause-handles g c =
     so_far_stops (g.G.Gate.may_refuse c.args.gate.now 2) _ _ _ _ _ _ _ _ _ _ c.in-Err.stop left c.loop-message.invariant.so_far c.in-Err.ensures.handles
 
 pub loop-message-preserved : goal.loop-message-preserved
-loop-message-preserved g c = 
+loop-message-preserved g c =
     let left : into_iter_items c.loop-message.message-iterator ≡ c.in-Some.message ∷ into_iter_items c.next.new.self = search rules in
     let all = c.in-Ok.ensures.handles in
     grind (arith, (so_far_more _ _ _ _ _ _ _ _ _ _ all.0 left c.loop-message.invariant.so_far all.1))

@@ -11,7 +11,7 @@ returns-in-Err-clause-serves g c =
     _ _ _ _ _ _ c.in-Item.piece _ c.in-Err.stop one c.in-Item.ensures.answer c.as_slice.ensures.value c.loop.invariant.going c.in-Err.ensures.takes
 
 pub loop-preserved-in-Item : goal.loop-preserved-in-Item
-loop-preserved-in-Item g c = 
+loop-preserved-in-Item g c =
     let one = ap (λ (x : LineView). x.senders) c.loop.invariant.line ∙ c.requires.one in
     grind (
       arith,

@@ -1,5 +1,4 @@
-use Rattle.std.proofs.Common.{arith}
-use Rattle.std.proofs.lemmas.List.{append_assoc}
+use Rattle.std.proofs.Common.{arith, append_assoc}
 use Rattle.sam_world.proofs.UnderWayLaws.{joined-behind, filled-behind}
 use Rattle.sam_world.proofs.under_way.UnderWay.join.Goals as goal
 

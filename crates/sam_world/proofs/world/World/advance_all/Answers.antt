@@ -1,5 +1,4 @@
-use Rattle.std.proofs.Common.{◌≡◌, None, Some, sym, subst, arith}
-use Rattle.std.specs.Prelude.{MatchBool}
+use Rattle.std.proofs.Common.{◌≡◌, None, Some, sym, subst, arith, MatchBool}
 use Rattle.sam_world.specs.World.{drained, next_event, drain_limit}
 use Rattle.sam_world.specs.Faults.{Advances}
 use Rattle.sam_world.proofs.Runs.{drained_more, drained_rest}

@@ -1,5 +1,4 @@
-use Rattle.std.proofs.Common.{ap, sym, ◌∙◌, ◌++◌, Some}
-use Rattle.std.specs.Option.{option_copied}
+use Rattle.std.proofs.Common.{ap, sym, ◌∙◌, ◌++◌, Some, option_copied}
 use Rattle.sam_world.specs.World.{PlainWorld}
 use Rattle.sam_world.proofs.Keeping.{kept_answer}
 use Rattle.sam_world.proofs.Stopping.{host_stops}
