@@ -1,6 +1,6 @@
 -- Edits that ascend.
 use Rattle.std.proofs.Common.{ℕ, ◌≤◌, ◌+◌, List, [], ◌∷◌, ◌++◌, arith}
-use Rattle.sam_runes.specs.Types.{Edit}
+use Rattle.sam_runes.specs.declared.edit.Edit.{Edit}
 use Rattle.sam_runes.specs.Edits.{AscendFrom}
 
 pub ascend_push : (es : List Edit) (e : Edit) (a n m : ℕ) → AscendFrom a n es → n ≤ e.p → e.p ≤ e.q → e.q ≤ m → AscendFrom a m (es ++ e ∷ [])

@@ -1,7 +1,7 @@
 -- An event that brings a text, and what a slot holds.
 use Rattle.std.proofs.Common.{◌≡◌, ℕ, true, List, Option, arith, is_some, encode_utf8_all}
 use Rattle.sam_runes.specs.Reading.{AreRunes}
-use Rattle.sam_term.specs.Events.{UserEvent}
+use Rattle.sam_term.specs.declared.event.UserEvent.{UserEvent}
 use Rattle.sam_ends.specs.TermEnds.{PlainTermEnd}
 use Rattle.sam_c.specs.Terms.{TermPut, TermPutText}
 

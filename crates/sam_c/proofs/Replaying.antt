@@ -1,7 +1,7 @@
 -- What is handed out of a replay.
 use Rattle.std.proofs.Common.{◌≡◌, refl, ap, ap₂, ℕ, List, length, Ok, Err}
 use Rattle.sam_script.specs.Replay.{IsReplay, IsReplayFault}
-use Rattle.sam_script.specs.Types.{ScriptFault}
+use Rattle.sam_script.specs.declared.fault.ScriptFault.{ScriptFault}
 use Rattle.sam_c.specs.Scripts.{Replays, filled, handed, line_or}
 use Rattle.sam_c.specs.Status.{script_status}
 

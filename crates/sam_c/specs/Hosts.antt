@@ -3,7 +3,9 @@ use Rattle.std.specs.Prelude.{◌≡◌, ◌⊎◌, ℕ, List, [], ◌∷◌, �
 use Rattle.sam_runes.specs.Checks.{first_of_checks}
 use Rattle.sam_runes.specs.Slots.{slot}
 use Rattle.sam_text.specs.Files.{PlainFile, file_at}
-use Rattle.sam_ends.specs.Types.{EndFault, HostStop, OpenFault}
+use Rattle.sam_ends.specs.declared.fault.EndFault.{EndFault}
+use Rattle.sam_ends.specs.declared.fault.HostStop.{HostStop}
+use Rattle.sam_ends.specs.declared.fault.OpenFault.{OpenFault}
 use Rattle.sam_ends.specs.HostEnds.{PlainHostEnd, new_host_end, Feeds, IsOpenFault, open_checks, with_file}
 use Rattle.sam_c.specs.Status.{ok, no_memory, is_made, no_handle, nothing, add_status, host_status}
 use Rattle.sam_c.specs.Calls.{AtHandle}

@@ -1,7 +1,7 @@
 -- What the call that replays a script does.
 use Rattle.std.specs.Prelude.{◌≡◌, ℕ, List, ◌++◌, length, take, drop, Result, Ok, Err}
 use Rattle.sam_script.specs.Replay.{IsReplay, IsReplayFault}
-use Rattle.sam_script.specs.Types.{ScriptFault}
+use Rattle.sam_script.specs.declared.fault.ScriptFault.{ScriptFault}
 use Rattle.sam_script.specs.declared.fault.ScriptFault.TheVariants as fault
 use Rattle.sam_c.specs.Status.{replay_status}
 

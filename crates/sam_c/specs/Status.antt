@@ -1,15 +1,20 @@
 -- The numbers by which C knows what came of a call: enum sam_status of include/sam.h.
 use Rattle.std.specs.Prelude.{ℕ, List, Result, Ok, Err}
-use Rattle.sam_runes.specs.Types.{ReadFault}
+use Rattle.sam_runes.specs.declared.codec.ReadFault.{ReadFault}
 use Rattle.sam_runes.specs.declared.codec.ReadFault.TheVariants as reading
-use Rattle.sam_host.specs.Types.{HostFault}
+use Rattle.sam_host.specs.declared.fault.HostFault.{HostFault}
 use Rattle.sam_host.specs.declared.fault.HostFault.TheVariants as host
-use Rattle.sam_term.specs.Types.{TermFault, Refusal}
+use Rattle.sam_term.specs.declared.fault.TermFault.{TermFault}
+use Rattle.sam_term.specs.declared.fault.Refusal.{Refusal}
 use Rattle.sam_term.specs.declared.fault.TermFault.TheVariants as term
 use Rattle.sam_term.specs.declared.fault.Refusal.TheVariants as refusal
-use Rattle.sam_script.specs.Types.{ScriptFault}
+use Rattle.sam_script.specs.declared.fault.ScriptFault.{ScriptFault}
 use Rattle.sam_script.specs.declared.fault.ScriptFault.TheVariants as script
-use Rattle.sam_ends.specs.Types.{OpenFault, StreamFault, HostStop, TermStop, EndFault}
+use Rattle.sam_ends.specs.declared.fault.OpenFault.{OpenFault}
+use Rattle.sam_ends.specs.declared.fault.StreamFault.{StreamFault}
+use Rattle.sam_ends.specs.declared.fault.HostStop.{HostStop}
+use Rattle.sam_ends.specs.declared.fault.TermStop.{TermStop}
+use Rattle.sam_ends.specs.declared.fault.EndFault.{EndFault}
 use Rattle.sam_ends.specs.declared.fault.OpenFault.TheVariants as opening
 use Rattle.sam_ends.specs.declared.fault.StreamFault.TheVariants as stream
 use Rattle.sam_ends.specs.declared.fault.HostStop.TheVariants as host_stop

@@ -5,9 +5,12 @@ use Rattle.sam_runes.specs.Reading.{AreRunes}
 use Rattle.sam_runes.specs.Slots.{slot}
 use Rattle.sam_rasp.specs.Rasp.{hole_within}
 use Rattle.sam_term.specs.Term.{view_end, window_at, window_of}
-use Rattle.sam_term.specs.Events.{UserEvent}
-use Rattle.sam_term.specs.Types.{Refusal, KnownFile, Window}
-use Rattle.sam_ends.specs.Types.{EndFault, TermStop}
+use Rattle.sam_term.specs.declared.event.UserEvent.{UserEvent}
+use Rattle.sam_term.specs.declared.fault.Refusal.{Refusal}
+use Rattle.sam_term.specs.declared.records.KnownFile.{KnownFile}
+use Rattle.sam_term.specs.declared.records.Window.{Window}
+use Rattle.sam_ends.specs.declared.fault.EndFault.{EndFault}
+use Rattle.sam_ends.specs.declared.fault.TermStop.{TermStop}
 use Rattle.sam_ends.specs.TermEnds.{PlainTermEnd, new_term_end, Puts, Feeds, Flushes}
 use Rattle.sam_c.specs.Status.{ok, no_memory, is_made, no_handle, not_text, nothing, refusal_status, term_status}
 use Rattle.sam_c.specs.Calls.{AtHandle}

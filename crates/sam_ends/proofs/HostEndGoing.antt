@@ -1,13 +1,15 @@
 -- Going on with what waits, step by step.
 use Rattle.std.proofs.Common.{◌≡◌, refl, sym, subst, ◌∙◌, ℕ, List, [], ◌∷◌, ◌++◌, drop, true, Option, None, Ok, Err, inl, inr, append_assoc, append-nil, arith}
-use Rattle.sam_mesg.specs.TerminalKinds.{Tmesg}
-use Rattle.sam_mesg.specs.HostKinds.{HFrame}
+use Rattle.sam_mesg.specs.declared.tmesg.Tmesg.{Tmesg}
+use Rattle.sam_mesg.specs.declared.hmesg.HFrame.{HFrame}
 use Rattle.sam_frame.specs.Direction.{host, terminal}
 use Rattle.sam_frame.specs.Stream.{stream_of}
 use Rattle.sam_frame.specs.Framing.{Held}
 use Rattle.sam_frame.proofs.Fronts.{stream_of-append}
 use Rattle.sam_host.specs.Host.{PlainHost, answer}
-use Rattle.sam_ends.specs.Types.{StreamFault, HostStop, EndFault}
+use Rattle.sam_ends.specs.declared.fault.StreamFault.{StreamFault}
+use Rattle.sam_ends.specs.declared.fault.HostStop.{HostStop}
+use Rattle.sam_ends.specs.declared.fault.EndFault.{EndFault}
 use Rattle.sam_ends.specs.declared.fault.HostStop.TheVariants as stop
 use Rattle.sam_ends.specs.declared.fault.EndFault.TheVariants as fault
 use Rattle.sam_ends.specs.Streams.{Gives}

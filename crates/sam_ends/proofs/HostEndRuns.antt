@@ -1,9 +1,9 @@
 -- What every run of a host end comes to.
 use Rattle.std.proofs.Common.{◌≡◌, refl, sym, ap, subst, ◌∙◌, inl, inr, ℕ, List, [], ◌∷◌, ◌++◌, flat_map, Option, Some, None, Result, Ok, Err, append_assoc, append-nil, arith, option_map}
-use Rattle.sam_mesg.specs.Types.{MesgFault}
+use Rattle.sam_mesg.specs.declared.fault.MesgFault.{MesgFault}
 use Rattle.sam_mesg.specs.declared.fault.MesgFault.TheVariants as wrong
-use Rattle.sam_mesg.specs.TerminalKinds.{Tmesg}
-use Rattle.sam_mesg.specs.HostKinds.{HFrame}
+use Rattle.sam_mesg.specs.declared.tmesg.Tmesg.{Tmesg}
+use Rattle.sam_mesg.specs.declared.hmesg.HFrame.{HFrame}
 use Rattle.sam_frame.specs.Direction.{host, terminal}
 use Rattle.sam_frame.specs.Stream.{Splits, stream_of, version_after}
 use Rattle.sam_frame.specs.Framing.{Held}
@@ -11,8 +11,10 @@ use Rattle.sam_frame.specs.Reading.{IsStream}
 use Rattle.sam_frame.proofs.Fronts.{stream_of-append, version_after-append, Splits-then}
 use Rattle.sam_frame.proofs.Cuttings.{Splits-longer}
 use Rattle.sam_host.specs.Host.{PlainHost, answer}
-use Rattle.sam_host.specs.Types.{HostFault}
-use Rattle.sam_ends.specs.Types.{HostStop, StreamFault, BadKind, BadLength, BadText}
+use Rattle.sam_host.specs.declared.fault.HostFault.{HostFault}
+use Rattle.sam_ends.specs.declared.fault.HostStop.{HostStop}
+use Rattle.sam_ends.specs.declared.fault.StreamFault.{StreamFault}
+use Rattle.sam_ends.specs.declared.fault.StreamFault.TheVariants.{BadKind, BadLength, BadText}
 use Rattle.sam_ends.specs.declared.fault.EndFault.TheVariants as fault
 use Rattle.sam_ends.specs.Streams.{Gives, mesg_fault}
 use Rattle.sam_ends.specs.HostEnds.{PlainHostEnd, Answers, Feeds, FeedsAfter, FeedsIdle, GoesOn, IsIdle, Serves, TakesIn}
@@ -195,6 +197,6 @@ pub one_outcome : Reads → (h : PlainHost) (stream a b : List ℕ) (e g : Plain
     → (e.host ≡ g.host) × (a ++ e.outbox ≡ b ++ g.outbox) × (e.behind ≡ g.behind)
 one_outcome reads h stream a b e g s t i j =
     let one = reads 1 stream s.answered t.answered e.framer.bytes g.framer.bytes (option_map mesg_fault e.behind) (option_map mesg_fault g.behind) (idle_reads h stream a e s i.waiting)
-        (idle_reads h stream b g t j.waiting) in
+    (idle_reads h stream b g t j.waiting) in
     let same = one_service h t.answered s.frames t.frames s.writes t.writes e.host g.host (subst (λ (x : List Tmesg). Serves h x s.frames s.writes e.host) one.0 s.serves) t.serves in
     (same.0, idle_bytes h stream a e s i.unwritten ∙ ap (λ (x : List HFrame). stream_of host x) same.1 ∙ sym (idle_bytes h stream b g t j.unwritten), grind (arith, idle_reads, told_back))

@@ -4,7 +4,7 @@ use Rattle.std.proofs.Math.Seq.{take-append-add, drop-append-add, set-append_sea
 use Rattle.std.proofs.lemmas.Option.{get_or_from_slice_get}
 use Rattle.std.proofs.lemmas.List.{take-append-le, drop-append-le, take_more, length-map, map-append}
 use Rattle.std.proofs.lemmas.Grind.{flat_map-append, common_steps}
-use Rattle.sam_rasp.specs.Types.{Section}
+use Rattle.sam_rasp.specs.declared.section.Section.{Section}
 use Rattle.sam_rasp.specs.Sections.{cells, cells_of}
 use Rattle.sam_ends.specs.Drawing.{Copies, Shows, drawn}
 

@@ -1,9 +1,10 @@
 -- The calls of a terminal end, of its steps.
 use Rattle.std.proofs.lemmas.Grind.{common_steps}
 use Rattle.std.proofs.Common.{◌≡◌, refl, ℕ, ◌+◌, inl, inr, List, [], ◌∷◌, ◌++◌, length, None, Ok, Err, arith, rules}
-use Rattle.sam_mesg.specs.HostKinds.{HFrame}
-use Rattle.sam_term.specs.Types.{Acted}
-use Rattle.sam_ends.specs.Types.{TermStop, EndFault}
+use Rattle.sam_mesg.specs.declared.hmesg.HFrame.{HFrame}
+use Rattle.sam_term.specs.declared.event.Acted.{Acted}
+use Rattle.sam_ends.specs.declared.fault.TermStop.{TermStop}
+use Rattle.sam_ends.specs.declared.fault.EndFault.{EndFault}
 use Rattle.sam_ends.specs.declared.fault.TermStop.TheVariants as stop
 use Rattle.sam_ends.specs.declared.fault.EndFault.TheVariants as fault
 use Rattle.sam_ends.specs.TermEnds.{PlainTermEnd, Calls, FeedsIdle, FlushesIdle, GoesOn, IsIdle, Moves, oldest}

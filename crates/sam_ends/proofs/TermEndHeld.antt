@@ -1,10 +1,16 @@
 -- Events leave the held ones only as they are done or refused, one at a time; frames and flushes leave them all.
 use Rattle.std.proofs.Common.{◌≡◌, refl, ap, ◌∙◌, ℕ, ◌+◌, Bool, List, [], ◌∷◌, length, Option, Some, None, Result, Ok, Err, if◌then◌else◌, arith}
-use Rattle.sam_mesg.specs.TerminalKinds.{Tmesg, Tack}
-use Rattle.sam_mesg.specs.HostKinds.{Hmesg, Hcheck, Hunlockfile, Hack, HFrame}
-use Rattle.sam_term.specs.Term.{PlainTerminal, Made, act_of, act_on, decided, if_countable, flush_of, flushed, take_of, event_outcome, frame_outcome, all_composed, composed, sends, sends_if, requested, wanted, unchanged, has_empty_dot, made_by_type, made_by_cut, made_by_paste, made_by_snarf, made_by_view, cut_rasp, took_bindname, took_data, took_grow, took_growdata, took_cut, took_unlockfile, took_close, took_exit}
-use Rattle.sam_term.specs.Types.{Verdict, Acted, Done, TermFault}
-use Rattle.sam_term.specs.Events.{UserEvent}
+use Rattle.sam_mesg.specs.declared.tmesg.Tmesg.{Tmesg}
+use Rattle.sam_mesg.specs.declared.tmesg.Tmesg.TheVariants.{Tack}
+use Rattle.sam_mesg.specs.declared.hmesg.Hmesg.{Hmesg}
+use Rattle.sam_mesg.specs.declared.hmesg.Hmesg.TheVariants.{Hcheck, Hunlockfile, Hack}
+use Rattle.sam_mesg.specs.declared.hmesg.HFrame.{HFrame}
+use Rattle.sam_term.specs.Term.{PlainTerminal, Made, act_of, act_on, decided, if_countable, flush_of, flushed, take_of, event_outcome, frame_outcome, all_composed, composed, sends, sends_if, requested, wanted, unchanged, made_by_type, made_by_cut, made_by_paste, made_by_snarf, made_by_view, took_bindname, took_data, took_grow, took_growdata, took_cut, took_unlockfile, took_close, took_exit}
+use Rattle.sam_term.specs.declared.event.Verdict.{Verdict}
+use Rattle.sam_term.specs.declared.event.Acted.{Acted}
+use Rattle.sam_term.specs.declared.event.Acted.TheVariants.{Done}
+use Rattle.sam_term.specs.declared.fault.TermFault.{TermFault}
+use Rattle.sam_term.specs.declared.event.UserEvent.{UserEvent}
 use Rattle.sam_term.specs.declared.fault.TermFault.TheVariants as fault
 use Rattle.sam_term.proofs.ActLaws.{acted_in, term_in}
 use Rattle.sam_term.proofs.Edits.{held-composed, flushed-held}
@@ -35,10 +41,6 @@ requested-keeps t f = go (wanted t f)
     go None = refl
     go (Some m) = sends-keeps t (λ u. u) (m ∷ []) (λ u. refl)
 
--- the dot is cut, if it is not empty
-dot-cut : (t : PlainTerminal) (f p q : ℕ) (ms : List Tmesg) → held_in (if has_empty_dot t f then (t, []) else sends t (λ u. cut_rasp u f p q) ms) ≡ t.held
-dot-cut t f p q ms = either-keeps (has_empty_dot t f) (t, []) (sends t (λ u. cut_rasp u f p q) ms) t.held refl (sends-keeps t (λ u. cut_rasp u f p q) ms (λ u. refl))
-
 type-keeps : (t : PlainTerminal) (f : ℕ) (s : List ℕ) → held_in (made_by_type t f s) ≡ t.held
 unfolding made_by_type
 type-keeps t f s = grind (arith, flushed-held)
@@ -52,7 +54,7 @@ leaves-plain t ms = record { held = sends-plain t ms }
 
 pub event_keeps : (t : PlainTerminal) (e : UserEvent) → held_in (event_outcome t e) ≡ t.held
 unfolding made_by_cut made_by_paste made_by_snarf made_by_view
-event_keeps t e = grind (arith, type-keeps, dot-cut, sends-plain, either-keeps, requested-keeps, flushed-held, leaves-plain)
+event_keeps t e = grind (arith, type-keeps, sends-plain, either-keeps, requested-keeps, flushed-held, leaves-plain)
 
 pub frame_keeps : (t : PlainTerminal) (m : Hmesg) → held_in (frame_outcome t m) ≡ t.held
 unfolding took_bindname took_data took_grow took_growdata took_cut took_unlockfile took_close took_exit

@@ -1,10 +1,11 @@
 -- The count of composed messages never goes down, and no frame that is received has a stamp above it.
 use Rattle.std.proofs.Common.{◌≡◌, sym, subst, ℕ, ◌+◌, ◌≤◌, List, length, Option, None, Ok, arith}
-use Rattle.sam_mesg.specs.TerminalKinds.{Tmesg}
-use Rattle.sam_mesg.specs.HostKinds.{HFrame}
+use Rattle.sam_mesg.specs.declared.tmesg.Tmesg.{Tmesg}
+use Rattle.sam_mesg.specs.declared.hmesg.HFrame.{HFrame}
 use Rattle.sam_term.specs.Term.{PlainTerminal, Made, act_of, act_on, decided, flush_of, take_of, event_outcome}
-use Rattle.sam_term.specs.Types.{Verdict, Acted}
-use Rattle.sam_term.specs.Events.{UserEvent}
+use Rattle.sam_term.specs.declared.event.Verdict.{Verdict}
+use Rattle.sam_term.specs.declared.event.Acted.{Acted}
+use Rattle.sam_term.specs.declared.event.UserEvent.{UserEvent}
 use Rattle.sam_term.specs.declared.fault.TermFault.TheVariants as fault
 use Rattle.sam_term.proofs.ActLaws.{acted_in, term_in}
 use Rattle.sam_term.proofs.CountLaws.{counts-event, counts-flushed, counts-frame}

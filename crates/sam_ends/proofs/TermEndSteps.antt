@@ -1,15 +1,19 @@
 -- One step of a terminal end: what holds of the end after it.
 use Rattle.std.proofs.Common.{◌≡◌, sym, subst, ℕ, ◌-◌, ◌≤◌, false, List, [], ◌∷◌, ◌++◌, length, drop, Option, Some, None, Ok, Err, arith, slice_get, IsTrue}
 use Rattle.std.proofs.lemmas.List.Elements.{All-tail}
-use Rattle.sam_mesg.specs.HostKinds.{fits_h, HFrame}
-use Rattle.sam_mesg.specs.TerminalKinds.{Tmesg}
+use Rattle.sam_mesg.specs.HostKinds.{fits_h}
+use Rattle.sam_mesg.specs.declared.hmesg.HFrame.{HFrame}
+use Rattle.sam_mesg.specs.declared.tmesg.Tmesg.{Tmesg}
 use Rattle.sam_frame.specs.Direction.{host}
 use Rattle.sam_frame.specs.Framing.{Held}
 use Rattle.sam_term.specs.Fitting.{composed_in}
 use Rattle.sam_term.specs.Term.{PlainTerminal, act_of, take_of}
-use Rattle.sam_term.specs.Types.{Acted, Idle, Locked}
+use Rattle.sam_term.specs.declared.event.Acted.{Acted}
+use Rattle.sam_term.specs.declared.event.Acted.TheVariants.{Idle, Locked}
 use Rattle.sam_term.proofs.ActLaws.{idle_still, locked_still}
-use Rattle.sam_ends.specs.Types.{StreamFault, TermStop, EndFault}
+use Rattle.sam_ends.specs.declared.fault.StreamFault.{StreamFault}
+use Rattle.sam_ends.specs.declared.fault.TermStop.{TermStop}
+use Rattle.sam_ends.specs.declared.fault.EndFault.{EndFault}
 use Rattle.sam_ends.specs.Streams.{FitFrames, Gives}
 use Rattle.sam_ends.specs.TermEnds.{PlainTermEnd, IsQuiet, IsSettled, oldest, refusals_from}
 use Rattle.sam_ends.specs.TermSteps.{ActsFirst, IsSound, Receives, Tries, stopped_by}

@@ -3,8 +3,9 @@ use Rattle.std.specs.Prelude.{◌≡◌, ℕ, ◌+◌, ◌^◌, ◌≤◌, ◌�
 use Rattle.std.specs.Str.{chars, is_utf8}
 use Rattle.sam_runes.specs.Checks.{Checks}
 use Rattle.sam_runes.specs.Texts.{all_tags, max_runes, most_in_name}
-use Rattle.sam_mesg.specs.TerminalKinds.{Tmesg, Twrite}
-use Rattle.sam_mesg.specs.HostKinds.{HFrame}
+use Rattle.sam_mesg.specs.declared.tmesg.Tmesg.{Tmesg}
+use Rattle.sam_mesg.specs.declared.tmesg.Tmesg.TheVariants.{Twrite}
+use Rattle.sam_mesg.specs.declared.hmesg.HFrame.{HFrame}
 use Rattle.sam_frame.specs.Direction.{host, terminal}
 use Rattle.sam_frame.specs.Stream.{stream_of}
 use Rattle.sam_frame.specs.Framing.{Held, fresh}

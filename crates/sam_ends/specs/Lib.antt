@@ -5,4 +5,3 @@ pub mod HostRuns
 pub mod TermEnds
 pub mod TermSteps
 pub mod Drawing
-pub mod Types

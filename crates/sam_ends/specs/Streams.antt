@@ -1,8 +1,8 @@
 -- What both ends share: what can be written, and a stream that shows a fault.
 use Rattle.std.specs.Prelude.{◌≡◌, ℕ, ◌+◌, ◌^◌, ◌≤◌, List, length, Option, Some, None, Result, Ok, Err}
-use Rattle.sam_mesg.specs.HostKinds.{HFrame}
-use Rattle.sam_mesg.specs.TerminalKinds.{Tmesg}
-use Rattle.sam_mesg.specs.Types.{MesgFault}
+use Rattle.sam_mesg.specs.declared.hmesg.HFrame.{HFrame}
+use Rattle.sam_mesg.specs.declared.tmesg.Tmesg.{Tmesg}
+use Rattle.sam_mesg.specs.declared.fault.MesgFault.{MesgFault}
 use Rattle.sam_mesg.specs.declared.fault.MesgFault.TheVariants as wrong
 use Rattle.sam_frame.specs.Direction.{Direction, terminal, host}
 use Rattle.sam_frame.specs.Stream.{CanEncode}

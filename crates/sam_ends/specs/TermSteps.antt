@@ -1,13 +1,14 @@
 -- What the steps of a terminal end do, of which its calls are made.
 use Rattle.std.specs.Prelude.{◌≡◌, ℕ, ◌+◌, ◌-◌, ◌^◌, ◌≤◌, ◌⊎◌, List, [], ◌∷◌, ◌++◌, length, Bool, true, false, Some, None, Result, Ok, Err}
-use Rattle.sam_mesg.specs.TerminalKinds.{Tmesg}
-use Rattle.sam_mesg.specs.HostKinds.{HFrame}
+use Rattle.sam_mesg.specs.declared.tmesg.Tmesg.{Tmesg}
+use Rattle.sam_mesg.specs.declared.hmesg.HFrame.{HFrame}
 use Rattle.sam_frame.specs.Direction.{terminal}
 use Rattle.sam_frame.specs.Stream.{stream_of}
 use Rattle.sam_term.specs.Fitting.{composed_in}
 use Rattle.sam_term.specs.Term.{PlainTerminal, act_of, flush_of, take_of}
-use Rattle.sam_term.specs.Types.{Acted, TermFault}
-use Rattle.sam_term.specs.Events.{UserEvent}
+use Rattle.sam_term.specs.declared.event.Acted.{Acted}
+use Rattle.sam_term.specs.declared.fault.TermFault.{TermFault}
+use Rattle.sam_term.specs.declared.event.UserEvent.{UserEvent}
 use Rattle.sam_ends.specs.declared.fault.TermStop.{TermStop}
 use Rattle.sam_ends.specs.declared.fault.TermStop.TheVariants as stop
 use Rattle.sam_ends.specs.declared.fault.EndFault.{EndFault}

@@ -1,11 +1,12 @@
 -- Messages that are encoded one behind another.
-use Rattle.std.proofs.Common.{◌≡◌, subst, refl, ℕ, ◌+◌, ◌<◌, ◌≤◌, List, [], ◌++◌, length, take, get_or, true, false, append_assoc, arith, rules, IsTrue, Decides, take_all}
+use Rattle.std.proofs.Common.{◌≡◌, subst, refl, ℕ, ◌+◌, ◌<◌, ◌≤◌, List, ◌++◌, length, take, get_or, true, append_assoc, arith, IsTrue, Decides, take_all}
 use Rattle.std.proofs.Math.Seq.{take-append_seam}
 use Rattle.std.proofs.lemmas.List.{take_more}
 use Rattle.std.proofs.lemmas.List.Elements.{All-more}
 use Rattle.sam_frame.specs.Direction.{Direction, frame_of}
 use Rattle.sam_frame.specs.Stream.{CanEncode, stream_of}
 use Rattle.sam_frame.proofs.Fronts.{stream_of-append, stream_of-one}
+use Rattle.std.proofs.lemmas.Grind.{common_steps}
 
 -- one message more was written
 pub one_written : {M : Type 0} (d : Direction M) (before out next : List ℕ) (ms : List M) (i : ℕ) (m : M) → i < length ms → m ≡ get_or ms i m
@@ -24,11 +25,9 @@ pub one_fits : {M : Type 0} (d : Direction M) (ms : List M) (i : ℕ) (m : M) �
 one_fits {M} d ms i m l is fits so_far =
     All-more (λ (x : M). IsTrue (d.fits 2 x)) ms i m l so_far (subst (λ (x : M). IsTrue (d.fits 2 x)) is fits)
 
--- one message does not fit
-pub one_too_long : {M : Type 0} (d : Direction M) (ms : List M) (i : ℕ) (m : M) → i < length ms → m ≡ get_or ms i m → d.fits 2 m ≡ false
-    → Decides false (CanEncode d ms)
-one_too_long {M} d ms i m l is fails = grind arith
-
 -- all were looked at
 pub all_fit : {M : Type 0} (d : Direction M) (ms : List M) (i : ℕ) → length ms ≤ i → CanEncode d (take i ms) → Decides true (CanEncode d ms)
 all_fit {M} d ms i l fit = (λ _. subst (λ (x : List M). CanEncode d x) (take_all i ms l) fit, λ _. refl)
+
+-- what `encode_all` rests on
+pub ruleset encode_all_facts = (common_steps, one_written, cut_back)

@@ -24,6 +24,7 @@ pub fn can_encode<M: Wire>(messages: &[M]) -> bool
 /// `can_encode` tells. On a stream of version 1 the caller sends only what fits there.
 ///
 /// The only error is `OutOfMemory`, after which `out` is as before.
+#[tactic(auto, using(crate::proofs::Encoding::encode_all_facts))]
 pub fn encode_all<M: Wire>(messages: &[M], out: &mut Vec<u8>) -> Result<(), MesgFault>
     requires { CanEncode M.direction messages.now }
     ensures encoded { OnOk result (out.new.items ≡ out.old.items ++ stream_of M.direction messages.now) }

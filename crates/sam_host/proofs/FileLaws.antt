@@ -4,7 +4,8 @@ use Rattle.std.proofs.lemmas.Str.{length-encode}
 use Rattle.sam_runes.specs.Texts.{max_runes, part, last_snarf_limit}
 use Rattle.sam_runes.proofs.SlotLaws.{slot-put_same}
 use Rattle.sam_text.specs.Files.{PlainFile, PlainFiles, put_file, has_file}
-use Rattle.sam_mesg.specs.TerminalKinds.{fits_t, Tsetsnarf}
+use Rattle.sam_mesg.specs.TerminalKinds.{fits_t}
+use Rattle.sam_mesg.specs.declared.tmesg.Tmesg.TheVariants.{Tsetsnarf}
 
 -- a file that was put may be the work file
 pub put_is_work : (fs : PlainFiles) (f : ℕ) (x : PlainFile) → has_file (put_file fs f x) f ≡ true

@@ -2,9 +2,10 @@
 use Rattle.std.proofs.Common.{◌≡◌, refl, append_assoc, ap, ℕ, ◌+◌, ◌==◌, false, Bool, if◌then◌else◌, List, [], ◌∷◌, ◌++◌, Some, None, Ok, Err, arith}
 use Rattle.sam_runes.specs.Texts.{most_count}
 use Rattle.sam_runes.specs.Checks.{first_of_checks}
-use Rattle.sam_mesg.specs.TerminalKinds.{Tmesg}
-use Rattle.sam_mesg.specs.HostKinds.{Hmesg, HFrame}
-use Rattle.sam_host.specs.Types.{HostFault}
+use Rattle.sam_mesg.specs.declared.tmesg.Tmesg.{Tmesg}
+use Rattle.sam_mesg.specs.declared.hmesg.Hmesg.{Hmesg}
+use Rattle.sam_mesg.specs.declared.hmesg.HFrame.{HFrame}
+use Rattle.sam_host.specs.declared.fault.HostFault.{HostFault}
 use Rattle.sam_host.specs.Host.{PlainHost, stamped, answer, host_checks, reply_to, counted, Answer}
 
 -- frames that are stamped one after another are stamped at once

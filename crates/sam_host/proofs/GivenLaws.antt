@@ -1,7 +1,7 @@
 -- A host that is made from names and texts, a file further.
 use Rattle.std.proofs.lemmas.Grind.{common_steps}
 use Rattle.std.proofs.Common.{◌≡◌, ℕ, ◌≤◌, List, [], ◌∷◌, ◌++◌, length, Some, refl, ap, ◌∙◌, subst, rules, arith, reverse}
-use Rattle.std.proofs.lemmas.List.{reverse-append, reverse-reverse}
+use Rattle.std.proofs.lemmas.List.{reverse-append, reverse-reverse, nil_from_length}
 use Rattle.sam_runes.specs.Texts.{RoomyText, most_in_name}
 use Rattle.sam_runes.specs.Slots.{Slots, put_slot}
 use Rattle.sam_runes.proofs.SlotLaws.{put_slot-push}
@@ -34,3 +34,6 @@ adds_given given more = grind (arith, put_slot-push, behind)
     behind : (given : List (List ℕ × List ℕ)) → given_slots (given ++ more ∷ []) ≡ given_slots given ++ Some (given_file more) ∷ []
     behind [] = refl
     behind (g ∷ gs) = ap (λ ss. Some (given_file g) ∷ ss) (behind gs)
+
+-- what `new` rests on
+pub ruleset new_facts = (twice, given_step, names_step, common_steps, nil_from_length)

@@ -7,8 +7,9 @@ use Rattle.sam_runes.proofs.CheckLaws.{none_holds}
 use Rattle.sam_runes.proofs.PlaceLaws.{InRange, searched_within, word_at_within}
 use Rattle.sam_text.specs.Files.{PlainFiles, file_at, put_file, typed_file, cut_file, pasted_file, opened_file, written_file, new_file, announce_all, with_work, without_file, has_room, after_print, committed}
 use Rattle.sam_text.specs.Meaning.{meaning}
-use Rattle.sam_mesg.specs.TerminalKinds.{Tmesg, Tversion, Tstartcmdfile, Tstartfile, Tworkfile, Ttype, Tcut, Tpaste, Tsnarf, Tstartnewfile, Twrite, Tclose, Tlook, Tsearch, Tsend, Tdclick, Tsetsnarf}
-use Rattle.sam_mesg.specs.HostKinds.{Hmesg}
+use Rattle.sam_mesg.specs.declared.tmesg.Tmesg.{Tmesg}
+use Rattle.sam_mesg.specs.declared.tmesg.Tmesg.TheVariants.{Tversion, Tstartcmdfile, Tstartfile, Tworkfile, Ttype, Tcut, Tpaste, Tsnarf, Tstartnewfile, Twrite, Tclose, Tlook, Tsearch, Tsend, Tdclick, Tsetsnarf}
+use Rattle.sam_mesg.specs.declared.hmesg.Hmesg.{Hmesg}
 use Rattle.sam_host.specs.Host.{PlainHost, Reply, printed, host_checks, unknown, not_opened, past_end, no_range, no_room, with_file, with_files, reply_found, searched_for, reply_line, line_to, reply_to}
 use Rattle.sam_host.proofs.EachFrame.{replies_opened}
 

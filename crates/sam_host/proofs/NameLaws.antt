@@ -2,7 +2,8 @@
 use Rattle.std.proofs.Common.{◌≡◌, append_assoc, append-nil, ℕ, suc, ◌+◌, ◌<◌, ◌≤◌, List, ◌∷◌, ◌++◌, length, drop, arith, drop_of_length-le}
 use Rattle.sam_runes.specs.Slots.{Slots, slot}
 use Rattle.sam_text.specs.Files.{PlainFile}
-use Rattle.sam_mesg.specs.HostKinds.{Hmesg, HFrame}
+use Rattle.sam_mesg.specs.declared.hmesg.Hmesg.{Hmesg}
+use Rattle.sam_mesg.specs.declared.hmesg.HFrame.{HFrame}
 use Rattle.sam_host.specs.Host.{stamped, told_at, told_names}
 use Rattle.sam_host.proofs.FrameLaws.{stamped_append}
 

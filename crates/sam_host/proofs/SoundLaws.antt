@@ -9,8 +9,10 @@ use Rattle.sam_text.specs.Files.{opened_file, written_file, PlainFile, PlainFile
 use Rattle.sam_text.proofs.FitLaws.{all-put, fit-put, fit-typed, fit-cut, fit-pasted, fit-print, fit-committed}
 use Rattle.sam_text.proofs.KeptLaws.{all-free, all-announce}
 use Rattle.sam_text.proofs.OutcomeLaws.{HasShortParts, line_short, named-within}
-use Rattle.sam_mesg.specs.TerminalKinds.{after_t, Tmesg}
-use Rattle.sam_mesg.specs.HostKinds.{Hmesg, HFrame}
+use Rattle.sam_mesg.specs.TerminalKinds.{after_t}
+use Rattle.sam_mesg.specs.declared.tmesg.Tmesg.{Tmesg}
+use Rattle.sam_mesg.specs.declared.hmesg.Hmesg.{Hmesg}
+use Rattle.sam_mesg.specs.declared.hmesg.HFrame.{HFrame}
 use Rattle.sam_host.specs.Host.{PlainHost, IsVersion, Reply, Answer, answer, counted, stamped, host_checks, new_file, given_slots, reply_to}
 use Rattle.sam_host.specs.Laws.{AreNamesShort, IsSound, AreGiven, StartsSound, StaysSound, FramesFit, AnswersAreCounted, IsSilentWhereDone, FitInPlace}
 use Rattle.sam_host.proofs.EachFrame.{replies_opened}

@@ -7,7 +7,7 @@ use Rattle.sam_runes.specs.Slots.{Slots, slot, put_slot}
 use Rattle.sam_runes.proofs.SlotLaws.{slot-put_same}
 use Rattle.sam_runes.proofs.EditLaws.{length-ins}
 use Rattle.sam_text.specs.Files.{PlainFile, blank_file, file_at, has_file, typed_file, has_room, after_print}
-use Rattle.sam_mesg.specs.HostKinds.{Hunlock}
+use Rattle.sam_mesg.specs.declared.hmesg.Hmesg.TheVariants.{Hunlock}
 use Rattle.sam_host.specs.Host.{PlainHost, with_file, with_files, printed, reply_line, reply_type, reply_send}
 use Rattle.sam_host.specs.Typing.{typed, typed_line, sent}
 

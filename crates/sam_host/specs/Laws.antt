@@ -2,8 +2,9 @@
 use Rattle.std.specs.Prelude.{◌≡◌, ℕ, ◌+◌, ◌≤◌, ◌==◌, List, [], ◌∷◌, ◌++◌, length, true, false, All, Ok}
 use Rattle.sam_runes.specs.Texts.{most_count, max_runes, most_in_name}
 use Rattle.sam_text.specs.Files.{PlainFiles, file_at, AreFit}
-use Rattle.sam_mesg.specs.HostKinds.{after_h, fits_h, HFrame}
-use Rattle.sam_mesg.specs.TerminalKinds.{Tmesg}
+use Rattle.sam_mesg.specs.HostKinds.{after_h, fits_h}
+use Rattle.sam_mesg.specs.declared.hmesg.HFrame.{HFrame}
+use Rattle.sam_mesg.specs.declared.tmesg.Tmesg.{Tmesg}
 use Rattle.sam_host.specs.Host.{PlainHost, IsVersion, answer, counted, new_host, with_given}
 
 -- every name fits in a message

@@ -259,6 +259,7 @@ impl Host {
 
     /// Puts the outcome of a line in, with what it prints. The print comes first: it alone asks for memory, and it changes another file
     /// than the line does.
+    #[tactic(auto, using(crate::proofs::RunLaws::outcome_after_print, crate::proofs::RunLaws::commit_print))]
     fn put_outcome(&mut self, outcome: Outcome) -> Result<(), HostFault>
         requires { IsOutcomeOf self.old.files (effect outcome) }
         ensures ok { OnOk result (self.new ≡ (reply_outcome self.old [] (effect outcome)).0) }

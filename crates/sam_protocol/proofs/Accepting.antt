@@ -4,7 +4,7 @@ use Rattle.std.proofs.Common.{◌≡◌, ℕ, ◌+◌, ◌<◌, ◌≤◌, true,
 use Rattle.sam_runes.specs.Texts.{max_runes}
 use Rattle.sam_runes.specs.Checks.{first_of_checks}
 use Rattle.sam_text.specs.Files.{file_at}
-use Rattle.sam_mesg.specs.TerminalKinds.{Tmesg}
+use Rattle.sam_mesg.specs.declared.tmesg.Tmesg.{Tmesg}
 use Rattle.sam_host.specs.Host.{PlainHost, host_checks, reply_to}
 use Rattle.sam_protocol.specs.Lens.{Lens, Gone, IsCommandFile, IsSettled, Settles}
 use Rattle.sam_protocol.specs.Frames.{at_file}

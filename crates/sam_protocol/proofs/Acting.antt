@@ -6,11 +6,15 @@ use Rattle.sam_runes.specs.Texts.{max_runes, is_empty}
 use Rattle.sam_runes.proofs.EditLaws.{del-nothing}
 use Rattle.sam_runes.proofs.Choices.{if-same}
 use Rattle.sam_rasp.specs.Rasp.{del_cells}
-use Rattle.sam_mesg.specs.TerminalKinds.{Tmesg, Tversion, Trequest, Torigin, Ttype, Tcut, Tpaste, Tsnarf, Tdclick, Tack}
-use Rattle.sam_mesg.specs.HostKinds.{Hmesg}
+use Rattle.sam_mesg.specs.declared.tmesg.Tmesg.{Tmesg}
+use Rattle.sam_mesg.specs.declared.tmesg.Tmesg.TheVariants.{Tversion, Trequest, Torigin, Ttype, Tcut, Tpaste, Tsnarf, Tdclick, Tack}
+use Rattle.sam_mesg.specs.declared.hmesg.Hmesg.{Hmesg}
 use Rattle.sam_host.specs.Host.{PlainHost}
-use Rattle.sam_term.specs.Types.{CommandLock, NoLock, Window}
-use Rattle.sam_term.specs.Events.{is_command_line, UserEvent, Typed, Select, Cut, Paste, Snarf, Dclick, Scroll, View, Version, Flush}
+use Rattle.sam_term.specs.declared.lock.Lock.TheVariants.{CommandLock, NoLock}
+use Rattle.sam_term.specs.declared.records.Window.{Window}
+use Rattle.sam_term.specs.Events.{is_command_line}
+use Rattle.sam_term.specs.declared.event.UserEvent.{UserEvent}
+use Rattle.sam_term.specs.declared.event.UserEvent.TheVariants.{Typed, Select, Cut, Paste, Snarf, Dclick, Scroll, View, Version, Flush}
 use Rattle.sam_term.specs.Term.{PlainTerminal, Made, window_at, put_window, set_dot_of, is_open, is_any_locked, has_empty_dot, cut_rasp, composed, all_composed, flushed, sends, unchanged, requested, cuts_dot, types, event_outcome, made_by_type, made_by_cut, made_by_paste, made_by_snarf, made_by_view}
 use Rattle.sam_protocol.specs.Lens as lenses
 use Rattle.sam_protocol.specs.Lens.{Lens, OpenAt, Anything}

@@ -4,8 +4,9 @@ use Rattle.sam_runes.specs.Texts.{common_version}
 use Rattle.sam_runes.specs.Slots.{Slots, slot}
 use Rattle.sam_runes.proofs.SlotLaws.{slot-map, length-map_slots}
 use Rattle.sam_text.specs.Files.{PlainFile, PlainFiles, blank_file, announced_file, announce_all}
-use Rattle.sam_mesg.specs.TerminalKinds.{Tversion}
-use Rattle.sam_mesg.specs.HostKinds.{Hmesg, Hversion, Hnewname, Hmovname, Hack, Hunlock}
+use Rattle.sam_mesg.specs.declared.tmesg.Tmesg.TheVariants.{Tversion}
+use Rattle.sam_mesg.specs.declared.hmesg.Hmesg.{Hmesg}
+use Rattle.sam_mesg.specs.declared.hmesg.Hmesg.TheVariants.{Hversion, Hnewname, Hmovname, Hack, Hunlock}
 use Rattle.sam_host.specs.Host.{PlainHost, when, told_names, reply_version}
 use Rattle.sam_protocol.specs.Lens.{Slot, lens, Action, Skip, Change, Free_command, HFile, Absent, Hidden, Named, Opened, Gone, IsOpened, IsCommandFile, Fits_slot, Settles}
 use Rattle.sam_protocol.proofs.Lenses.{AreSkips}

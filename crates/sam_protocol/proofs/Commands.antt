@@ -8,10 +8,12 @@ use Rattle.sam_runes.specs.Slots.{slot}
 use Rattle.sam_runes.proofs.EditLaws.{length-ins}
 use Rattle.sam_runes.specs.Checks.{first_of_checks}
 use Rattle.sam_text.specs.Files.{PlainFile, PlainFiles, file_at, has_file, put_file, has_room, is_printed, after_print, printed_file, new_file, command_name}
-use Rattle.sam_mesg.specs.TerminalKinds.{Tmesg, Tstartcmdfile, Tstartfile, Tstartnewfile, Tclose, Texit}
-use Rattle.sam_mesg.specs.HostKinds.{Hmesg, Hcurrent, Hunlock, Hbindname, Hnewname, Hmovname, Hsetdot, Hcheck}
+use Rattle.sam_mesg.specs.declared.tmesg.Tmesg.{Tmesg}
+use Rattle.sam_mesg.specs.declared.tmesg.Tmesg.TheVariants.{Tstartcmdfile, Tstartfile, Tstartnewfile, Tclose, Texit}
+use Rattle.sam_mesg.specs.declared.hmesg.Hmesg.{Hmesg}
+use Rattle.sam_mesg.specs.declared.hmesg.Hmesg.TheVariants.{Hcurrent, Hunlock, Hbindname, Hnewname, Hmovname, Hsetdot, Hcheck}
 use Rattle.sam_host.specs.Host.{PlainHost, Reply, host_checks, reply_to, with_files, when, grown, told_length, printed, no_tag_left, is_command, reply_startcmdfile, reply_startfile, reply_startnewfile, reply_close, reply_exit}
-use Rattle.sam_host.specs.Types.{NoFile, CommandFile}
+use Rattle.sam_host.specs.declared.fault.HostFault.TheVariants.{NoFile, CommandFile}
 use Rattle.sam_protocol.specs.Lens.{Slot, Unknown, Known, Open, Lens, lens, Action, Needs_known, Join, Bind, Close, Leave, Free_command, Exit, move, run, and_then, closes, is_close, HFile, Absent, Hidden, Named, Opened, Gone, IsOpened, IsCommandFile, Fits_slot, Settles}
 use Rattle.sam_protocol.proofs.Lenses.{AreSkips}
 use Rattle.sam_protocol.specs.Frames.{at_file, only}

@@ -4,8 +4,9 @@ use Rattle.sam_rasp.specs.Rasp.{Agrees}
 use Rattle.sam_rasp.proofs.RaspLaws.{length_agrees}
 use Rattle.sam_runes.specs.Texts.{max_runes}
 use Rattle.sam_text.specs.Files.{PlainFiles, file_at}
-use Rattle.sam_mesg.specs.TerminalKinds.{Tmesg, Tversion}
-use Rattle.sam_mesg.specs.HostKinds.{Hmesg}
+use Rattle.sam_mesg.specs.declared.tmesg.Tmesg.{Tmesg}
+use Rattle.sam_mesg.specs.declared.tmesg.Tmesg.TheVariants.{Tversion}
+use Rattle.sam_mesg.specs.declared.hmesg.Hmesg.{Hmesg}
 use Rattle.sam_host.specs.Host.{PlainHost}
 use Rattle.sam_protocol.specs.Lens.{Lens, lens, Open, Action, HFile, Named, Opened, Settles, OpenAt, Anything}
 use Rattle.sam_protocol.proofs.Lenses.{IsFree, exited_of, command_of}

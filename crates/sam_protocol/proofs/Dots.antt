@@ -3,7 +3,7 @@ use Rattle.std.proofs.Common.{◌≡◌, ℕ, ◌+◌, ◌-◌, ◌<◌, ◌≤�
 use Rattle.sam_runes.specs.Texts.{ins, del}
 use Rattle.sam_rasp.specs.Rasp.{PartialText, place_after_ins, place_after_del}
 use Rattle.sam_term.specs.Term.{window_after_ins, window_after_del}
-use Rattle.sam_term.specs.Types.{Window}
+use Rattle.sam_term.specs.declared.records.Window.{Window}
 use Rattle.sam_protocol.specs.Order.{IsTidyWindow}
 
 pub length-ins_cells : {X : Type 0} (r cells : List X) (p : ℕ) → p ≤ length r → length (ins r p cells) ≡ length r + length cells

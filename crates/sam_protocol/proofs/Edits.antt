@@ -5,8 +5,8 @@ use Rattle.sam_rasp.proofs.RaspLaws.{agrees_typed, agrees_removed}
 use Rattle.sam_runes.specs.Texts.{ins, del, max_runes, part, line_start}
 use Rattle.sam_runes.specs.Checks.{first_of_checks}
 use Rattle.sam_text.specs.Files.{file_at, cut_file, typed_file}
-use Rattle.sam_mesg.specs.TerminalKinds.{Tcheck, Tworkfile, Ttype, Tcut, Tsnarf, Tstartsnarf, Tsetsnarf, Tack}
-use Rattle.sam_term.specs.Types.{CommandLock, NoLock}
+use Rattle.sam_mesg.specs.declared.tmesg.Tmesg.TheVariants.{Tcheck, Tworkfile, Ttype, Tcut, Tsnarf, Tstartsnarf, Tsetsnarf, Tack}
+use Rattle.sam_term.specs.declared.lock.Lock.TheVariants.{CommandLock, NoLock}
 use Rattle.sam_term.specs.Events.{is_command_line}
 use Rattle.sam_host.specs.Host.{PlainHost, Reply, host_checks, with_file, past_end, no_room, reply_check, reply_workfile, reply_cut, reply_snarf, reply_line, reply_type, reply_startsnarf, reply_setsnarf}
 use Rattle.sam_protocol.specs.Lens.{Open, Lens, lens, Action, Skip, move, is_crossing, is_close, HFile, Opened, IsSettled, Settles}

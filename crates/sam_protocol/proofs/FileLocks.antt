@@ -10,8 +10,10 @@ use Rattle.sam_runes.specs.Checks.{first_of_checks}
 use Rattle.sam_runes.proofs.EditLaws.{length-ins}
 use Rattle.sam_runes.proofs.PlaceLaws.{InRange, searched_within, word_at_within, lines_before_within}
 use Rattle.sam_text.specs.Files.{PlainFile, file_at, has_file, pasted_file, searched_for, may_look}
-use Rattle.sam_mesg.specs.TerminalKinds.{Tmesg, Trequest, Torigin, Tpaste, Twrite, Tlook, Tsearch, Tdclick}
-use Rattle.sam_mesg.specs.HostKinds.{Hmesg, Horigin, Hunlockfile, Hsetdot, Hmoveto, Hcheck, Hsetpat, Hclean, Hdirty}
+use Rattle.sam_mesg.specs.declared.tmesg.Tmesg.{Tmesg}
+use Rattle.sam_mesg.specs.declared.tmesg.Tmesg.TheVariants.{Trequest, Torigin, Tpaste, Twrite, Tlook, Tsearch, Tdclick}
+use Rattle.sam_mesg.specs.declared.hmesg.Hmesg.{Hmesg}
+use Rattle.sam_mesg.specs.declared.hmesg.Hmesg.TheVariants.{Horigin, Hunlockfile, Hsetdot, Hmoveto, Hcheck, Hsetpat, Hclean, Hdirty}
 use Rattle.sam_host.specs.Host.{PlainHost, Reply, host_checks, reply_to, with_file, with_files, when, grown, past_end, no_range, reply_found, reply_request, reply_origin, reply_paste, reply_write, reply_look, reply_search, reply_dclick}
 use Rattle.sam_protocol.specs.Lens.{Open, lens, Action, Free_file, Opened, Settles}
 use Rattle.sam_protocol.proofs.Lenses.{AreSkips, request_actions}

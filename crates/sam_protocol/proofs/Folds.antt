@@ -2,10 +2,11 @@
 use Rattle.std.proofs.Common.{◌≡◌, ℕ, Bool, true, false, if◌then◌else◌, ◌==◌, List, [], ◌∷◌, ◌++◌, map, Option, Some, None, ◌⊎◌, inl, inr, refl, sym, ap, ◌∙◌, subst, append-nil, append_assoc, eqb-true, eq-eqb, arith}
 use Rattle.std.proofs.lemmas.Bool.{cases_Bool}
 use Rattle.sam_runes.specs.Checks.{first_of_checks}
-use Rattle.sam_mesg.specs.TerminalKinds.{Tmesg, Trequest, Tack}
-use Rattle.sam_mesg.specs.HostKinds.{Hmesg}
+use Rattle.sam_mesg.specs.declared.tmesg.Tmesg.{Tmesg}
+use Rattle.sam_mesg.specs.declared.tmesg.Tmesg.TheVariants.{Trequest, Tack}
+use Rattle.sam_mesg.specs.declared.hmesg.Hmesg.{Hmesg}
 use Rattle.sam_host.specs.Host.{PlainHost, Reply, counted, host_checks, reply_to, reply_request}
-use Rattle.sam_host.specs.Types.{HostFault}
+use Rattle.sam_host.specs.declared.fault.HostFault.{HostFault}
 use Rattle.sam_protocol.proofs.Lenses.{locked_more, IsFree, IsAlike, IsOpen, exited_of, CanRequest, request_actions}
 use Rattle.sam_protocol.specs.Lens.{Lens, Action, move, HFile, Opened, Gone, Settles}
 use Rattle.sam_protocol.specs.Frames.{at_file, action, only, VersionsGuarded}

@@ -6,10 +6,13 @@ use Rattle.sam_runes.specs.Slots.{slot, put_slot}
 use Rattle.sam_runes.specs.Checks.{Checks, first_of_checks}
 use Rattle.sam_runes.proofs.SlotLaws.{slot-put_same, slot-put_other, slot-free_same, slot-free_other, slot-map}
 use Rattle.sam_rasp.specs.Rasp.{ins_cells, del_cells, load_cells}
-use Rattle.sam_mesg.specs.HostKinds.{Hmesg, Hversion, Hbindname, Hcurrent, Hnewname, Hmovname, Hgrow, Hcheck, Hunlock, Hdata, Horigin, Hunlockfile, Hsetdot, Hgrowdata, Hmoveto, Hclean, Hdirty, Hcut, Hsetpat, Hdelname, Hclose, Hsetsnarf, Hsnarflen, Hack, Hexit}
-use Rattle.sam_term.specs.Types.{Window, KnownFile, TermFault}
+use Rattle.sam_mesg.specs.declared.hmesg.Hmesg.{Hmesg}
+use Rattle.sam_mesg.specs.declared.hmesg.Hmesg.TheVariants.{Hversion, Hbindname, Hcurrent, Hnewname, Hmovname, Hgrow, Hcheck, Hunlock, Hdata, Horigin, Hunlockfile, Hsetdot, Hgrowdata, Hmoveto, Hclean, Hdirty, Hcut, Hsetpat, Hdelname, Hclose, Hsetsnarf, Hsnarflen, Hack, Hexit}
+use Rattle.sam_term.specs.declared.records.Window.{Window}
+use Rattle.sam_term.specs.declared.records.KnownFile.{KnownFile}
+use Rattle.sam_term.specs.declared.fault.TermFault.{TermFault}
 use Rattle.sam_term.specs.declared.fault.TermFault.TheVariants as fault
-use Rattle.sam_mesg.specs.TerminalKinds.{Tack}
+use Rattle.sam_mesg.specs.declared.tmesg.Tmesg.TheVariants.{Tack}
 use Rattle.sam_term.specs.Term.{PlainTerminal, sends_if, sends, unchanged, requested, took_bindname, took_data, took_grow, took_growdata, took_cut, took_unlockfile, took_close, took_exit}
 use Rattle.sam_term.specs.Windows.{blank_known, blank_window}
 use Rattle.sam_protocol.specs.Lens.{Slot, Unknown, Known, Open, Lens, lens, Action, Skip, Change, Needs_known, Needs_open, Join, Bind, Close, Grow, Fill, Insert, Cut, Place, Free_file, Free_command, Exit, move}

@@ -2,7 +2,7 @@
 use Rattle.std.proofs.Common.{◌≡◌, ℕ, Bool, true, false, not, ◌||◌, List, [], ◌∷◌, ◌++◌, Some, refl, sym, ap, ◌∙◌, true≢false, arith}
 use Rattle.std.proofs.lemmas.List.{map-append}
 use Rattle.std.proofs.lemmas.Bool.{and_parts, or_right}
-use Rattle.sam_mesg.specs.HostKinds.{Hmesg}
+use Rattle.sam_mesg.specs.declared.hmesg.Hmesg.{Hmesg}
 use Rattle.sam_protocol.specs.Lens.{Lens, Action, move, run, and_then, frees, closes, is_close, IsGuarded, HFile, IsSettled, Settles}
 use Rattle.sam_protocol.proofs.Lenses.{guard_holds, AreSkips}
 use Rattle.sam_protocol.specs.Frames.{action, at_file}

@@ -9,8 +9,9 @@ use Rattle.sam_runes.proofs.EditLaws.{length-ins}
 use Rattle.sam_runes.proofs.PlaceLaws.{ends_line-append}
 use Rattle.sam_text.specs.Files.{PlainFile, PlainFiles, blank_file, file_at, put_file, typed_file}
 use Rattle.sam_text.proofs.TypeLaws.{typed_joined}
-use Rattle.sam_mesg.specs.TerminalKinds.{Tmesg, Ttype}
-use Rattle.sam_mesg.specs.HostKinds.{Hmesg}
+use Rattle.sam_mesg.specs.declared.tmesg.Tmesg.{Tmesg}
+use Rattle.sam_mesg.specs.declared.tmesg.Tmesg.TheVariants.{Ttype}
+use Rattle.sam_mesg.specs.declared.hmesg.Hmesg.{Hmesg}
 use Rattle.sam_host.specs.Host.{PlainHost, Reply, counted, with_file, unknown, not_opened, host_checks, reply_to, reply_line, reply_type}
 use Rattle.sam_protocol.specs.Lens.{Lens}
 use Rattle.sam_protocol.specs.Fold.{replied, reply_of, replied_then, answers, AllSettle}

@@ -7,7 +7,8 @@ use Rattle.sam_runes.proofs.EditLaws.{last_first_is_at_once, edits_fit}
 use Rattle.sam_runes.proofs.SlotLaws.{slot-put_same, slot-put_other}
 use Rattle.sam_rasp.specs.Rasp.{ins_cells}
 use Rattle.sam_rasp.proofs.RaspLaws.{agrees_typed}
-use Rattle.sam_text.specs.Types.{Word, Command}
+use Rattle.sam_text.specs.declared.word.Word.{Word}
+use Rattle.sam_text.specs.declared.command.Command.{Command}
 use Rattle.sam_text.specs.declared.command.Command.TheVariants as command
 use Rattle.sam_text.specs.Reading.{◌>>=◌, command_of}
 use Rattle.sam_text.specs.Files.{PlainFile, PlainFiles, PlainOutcome, file_at, put_file, typed_file, is_printed, after_print, printed_file, has_room, file_after, put_outcome, committed, AreFit}
@@ -15,8 +16,9 @@ use Rattle.sam_text.specs.Meaning.{WorkFile, meaning, work_on, work_file, line_o
 use Rattle.sam_text.specs.Outcomes.{Fits, IsRangeOf}
 use Rattle.sam_text.proofs.MeaningLaws.{line_fits}
 use Rattle.sam_text.proofs.FitLaws.{fit-put, fit-typed, fit-print}
-use Rattle.sam_mesg.specs.TerminalKinds.{Ttype, Tsend}
-use Rattle.sam_mesg.specs.HostKinds.{Hmesg, Hmovname, Hdirty, Hsetpat, Hsetdot, Hcheck, Hexit, Hunlock}
+use Rattle.sam_mesg.specs.declared.tmesg.Tmesg.TheVariants.{Ttype, Tsend}
+use Rattle.sam_mesg.specs.declared.hmesg.Hmesg.{Hmesg}
+use Rattle.sam_mesg.specs.declared.hmesg.Hmesg.TheVariants.{Hmovname, Hdirty, Hsetpat, Hsetdot, Hcheck, Hexit, Hunlock}
 use Rattle.sam_term.specs.Events.{is_command_line}
 use Rattle.sam_host.specs.Host.{PlainHost, Reply, with_file, with_files, when, when_given, printed, told_edit, told_outcome, no_range, reply_line, reply_type, reply_send}
 use Rattle.sam_protocol.specs.Lens.{Slot, Open, Lens, lens, Action, Free_command, HFile, Opened, Fits_slot, IsSettled, Settles}

@@ -5,13 +5,15 @@ use Rattle.sam_runes.specs.Texts.{most_count}
 use Rattle.sam_runes.specs.Slots.{Slots}
 use Rattle.sam_rasp.specs.Rasp.{Agrees}
 use Rattle.sam_text.specs.Files.{PlainFiles, file_at}
-use Rattle.sam_mesg.specs.TerminalKinds.{Tmesg}
-use Rattle.sam_mesg.specs.HostKinds.{Hmesg, HFrame}
+use Rattle.sam_mesg.specs.declared.tmesg.Tmesg.{Tmesg}
+use Rattle.sam_mesg.specs.declared.hmesg.Hmesg.{Hmesg}
+use Rattle.sam_mesg.specs.declared.hmesg.HFrame.{HFrame}
 use Rattle.sam_host.specs.Host.{PlainHost, Reply, answer, stamped}
 use Rattle.sam_host.specs.declared.fault.HostFault.TheVariants as hostfault
 use Rattle.sam_term.specs.Term.{PlainTerminal, window_of, is_open, is_any_locked}
 use Rattle.sam_term.specs.Windows.{window_in}
-use Rattle.sam_term.specs.Types.{Window, KnownFile}
+use Rattle.sam_term.specs.declared.records.Window.{Window}
+use Rattle.sam_term.specs.declared.records.KnownFile.{KnownFile}
 use Rattle.sam_protocol.proofs.Lenses.{IsFree}
 use Rattle.sam_protocol.specs.View.{view}
 use Rattle.sam_protocol.specs.Fold.{reply_of}

@@ -4,9 +4,10 @@ use Rattle.std.proofs.lemmas.Bool.{or_parts}
 use Rattle.sam_runes.specs.Slots.{Slots}
 use Rattle.sam_runes.specs.Checks.{first_of_checks}
 use Rattle.sam_term.specs.Term.{PlainTerminal, window_at, is_open, is_known, is_any_locked, event_checks, is_unknown, is_closed, is_file_locked, has_bad_place, makes_too_long}
-use Rattle.sam_term.specs.Events.{file_of, waits_for_all, is_bad_version, is_for_command_file, needs_open, UserEvent}
+use Rattle.sam_term.specs.Events.{file_of, waits_for_all, is_bad_version, is_for_command_file, needs_open}
+use Rattle.sam_term.specs.declared.event.UserEvent.{UserEvent}
 use Rattle.sam_term.specs.Windows.{blank_window, window_in}
-use Rattle.sam_term.specs.Types.{KnownFile}
+use Rattle.sam_term.specs.declared.records.KnownFile.{KnownFile}
 use Rattle.sam_term.specs.declared.fault.Refusal.TheVariants as refusal
 use Rattle.sam_rasp.specs.Rasp.{PartialText}
 use Rattle.sam_protocol.specs.Lens as lenses

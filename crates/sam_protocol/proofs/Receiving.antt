@@ -1,16 +1,17 @@
 -- The terminal takes each frame that comes, and both sides stay in order.
 use Rattle.std.proofs.Common.{◌≡◌, ℕ, ◌+◌, ◌-◌, ◌≤◌, Bool, true, false, List, ◌∷◌, ◌++◌, length, Option, Some, None, refl, subst, arith, length-append, length-drop, length-take-le, ltb-false}
 use Rattle.std.proofs.lemmas.List.{length-map}
-use Rattle.sam_runes.specs.Slots.{free_slot}
 use Rattle.sam_runes.specs.Checks.{Checks, first_of_checks}
 use Rattle.sam_runes.proofs.SlotLaws.{slot-free_same, slot-free_other, slot-map}
 use Rattle.sam_runes.proofs.CheckLaws.{none_holds}
 use Rattle.sam_rasp.specs.Rasp.{PartialText, load_cells}
-use Rattle.sam_mesg.specs.TerminalKinds.{Tmesg}
-use Rattle.sam_mesg.specs.HostKinds.{Hmesg, Hversion, Hbindname, Hcurrent, Hnewname, Hmovname, Hgrow, Hcheck, Hunlock, Hdata, Horigin, Hunlockfile, Hsetdot, Hgrowdata, Hmoveto, Hclean, Hdirty, Hcut, Hsetpat, Hdelname, Hclose, Hsetsnarf, Hsnarflen, Hack, Hexit}
+use Rattle.sam_mesg.specs.declared.tmesg.Tmesg.{Tmesg}
+use Rattle.sam_mesg.specs.declared.hmesg.Hmesg.{Hmesg}
+use Rattle.sam_mesg.specs.declared.hmesg.Hmesg.TheVariants.{Hversion, Hbindname, Hcurrent, Hnewname, Hmovname, Hgrow, Hcheck, Hunlock, Hdata, Horigin, Hunlockfile, Hsetdot, Hgrowdata, Hmoveto, Hclean, Hdirty, Hcut, Hsetpat, Hdelname, Hclose, Hsetsnarf, Hsnarflen, Hack, Hexit}
 use Rattle.sam_host.specs.Host.{PlainHost}
 use Rattle.sam_term.specs.Term.{PlainTerminal, window_at, unsent_message, past_end, frame_checks, frame_outcome, took_bindname, took_data, took_grow, took_growdata, took_cut, took_unlockfile, took_close, took_exit}
-use Rattle.sam_term.specs.Types.{Unsent, TermFault}
+use Rattle.sam_term.specs.declared.records.Unsent.{Unsent}
+use Rattle.sam_term.specs.declared.fault.TermFault.{TermFault}
 use Rattle.sam_term.specs.declared.fault.TermFault.TheVariants as fault
 use Rattle.sam_protocol.specs.Lens as lenses
 use Rattle.sam_protocol.specs.Lens.{Lens, Action, move, is_crossing, Settles, HFile, OpenAt, Anything}
@@ -59,12 +60,9 @@ place_of t f p rest e = ltb-false _ p (none_holds (past_end t f p) rest e).0
 length-load : (r : PartialText) (p : ℕ) (s : List ℕ) → p + length s ≤ length r → length (load_cells r p s) ≡ length r
 length-load r p s l = grind (arith, length-map, length-append, length-take-le, length-drop)
 
-tidy-free : (t : PlainTerminal) (f : ℕ) → AreTidy t → AreTidy (record t { files = free_slot t.files f })
-tidy-free t f all g = grind (arith, slot-free_same, slot-free_other)
-
 tidy_effect : (t : PlainTerminal) (m : Hmesg) → first_of_checks (frame_checks t m) ≡ None → AreTidy t → AreTidy (effect t m)
 unfolding took_bindname took_data took_grow took_growdata took_cut took_unlockfile took_close took_exit
-tidy_effect t m e u = grind (arith, tidy-window, tidy-put, tidy-ins, place_of, length-load, tidy-del, tidy-free, slot-map)
+tidy_effect t m e u = grind (arith, tidy-window, tidy-put, tidy-ins, place_of, length-load, tidy-del, slot-map, slot-free_same, slot-free_other)
 
 -- ## A frame is taken
 

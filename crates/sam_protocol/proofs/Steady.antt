@@ -5,7 +5,7 @@ use Rattle.sam_text.specs.Files.{PlainFile, PlainFiles, file_at, put_file}
 use Rattle.sam_host.proofs.SoundLaws.{reply_fits}
 use Rattle.sam_host.proofs.Keeping.{IsKept, reply_keeps}
 use Rattle.sam_host.specs.Host.{PlainHost, reply_to}
-use Rattle.sam_mesg.specs.TerminalKinds.{Tmesg}
+use Rattle.sam_mesg.specs.declared.tmesg.Tmesg.{Tmesg}
 use Rattle.sam_protocol.proofs.Accepting.{Synced, Accepted, Ready}
 use Rattle.sam_protocol.specs.Steady.{OpenAnnounced, AllOpenAnnounced, IsSteady}
 

@@ -2,9 +2,9 @@
 use Rattle.std.proofs.Common.{◌≡◌, ℕ, Bool, true, false, List, [], ◌∷◌, ◌++◌, Option, Some, None, ◌⊎◌, refl, sym, ap, ◌∙◌, true≢false, arith}
 use Rattle.std.proofs.lemmas.Bool.{or_parts, false_from_ne_true}
 use Rattle.std.proofs.lemmas.Option.{same_Some}
-use Rattle.sam_term.specs.Types.{Unsent}
+use Rattle.sam_term.specs.declared.records.Unsent.{Unsent}
 use Rattle.sam_runes.specs.Checks.{first_of_checks}
-use Rattle.sam_mesg.specs.HostKinds.{Hmesg}
+use Rattle.sam_mesg.specs.declared.hmesg.Hmesg.{Hmesg}
 use Rattle.sam_host.specs.Host.{PlainHost, Reply, host_checks, reply_to, reply_version}
 use Rattle.sam_term.specs.Term.{PlainTerminal, unsent_message}
 use Rattle.sam_protocol.specs.Lens.{Lens, lens, HFile, IsSettled}
@@ -16,7 +16,8 @@ use Rattle.sam_protocol.specs.Order.{views, InOrder}
 use Rattle.sam_protocol.proofs.Runs.{no_unlock, same_version}
 use Rattle.sam_protocol.proofs.Versions.{unlocks_behind, unlock_frames, no_changes}
 use Rattle.sam_protocol.proofs.Folds.{answered}
-use Rattle.sam_mesg.specs.TerminalKinds.{after_t, Tmesg}
+use Rattle.sam_mesg.specs.TerminalKinds.{after_t}
+use Rattle.sam_mesg.specs.declared.tmesg.Tmesg.{Tmesg}
 use Rattle.sam_protocol.specs.Streams.{version_behind}
 use Rattle.sam_protocol.proofs.Composing.{not_done_ahead}
 use Rattle.sam_host.proofs.SoundLaws.{reply_stands}

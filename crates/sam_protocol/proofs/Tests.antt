@@ -4,7 +4,8 @@ use Rattle.sam_runes.specs.Texts.{max_runes}
 use Rattle.sam_runes.specs.Checks.{Checks, first_of_checks}
 use Rattle.sam_text.specs.Files.{file_at, has_file}
 use Rattle.sam_host.specs.Host.{PlainHost, unknown, not_opened, is_command, past_end, no_range, no_room}
-use Rattle.sam_host.specs.Types.{HostFault, NoFile, NotOpen, BadPosition, TooLong}
+use Rattle.sam_host.specs.declared.fault.HostFault.{HostFault}
+use Rattle.sam_host.specs.declared.fault.HostFault.TheVariants.{NoFile, NotOpen, BadPosition, TooLong}
 use Rattle.sam_protocol.proofs.HostFiles.{Opens}
 
 pub test : {E : Type 0} (b : Bool) (x : E) (rest : List (Bool × E)) → b ≡ false → first_of_checks {E = E} rest ≡ None → first_of_checks {E = E} ((b, x) ∷ rest) ≡ None

@@ -5,10 +5,13 @@ use Rattle.std.proofs.lemmas.Bool.{and_parts}
 use Rattle.sam_runes.specs.Texts.{ends_line, max_runes, most_in_message}
 use Rattle.sam_runes.proofs.PlaceLaws.{ends_line-append}
 use Rattle.sam_rasp.specs.Rasp.{place_after_ins}
-use Rattle.sam_mesg.specs.TerminalKinds.{Tmesg, Ttype}
-use Rattle.sam_mesg.specs.HostKinds.{Hmesg}
+use Rattle.sam_mesg.specs.declared.tmesg.Tmesg.{Tmesg}
+use Rattle.sam_mesg.specs.declared.tmesg.Tmesg.TheVariants.{Ttype}
+use Rattle.sam_mesg.specs.declared.hmesg.Hmesg.{Hmesg}
 use Rattle.sam_host.specs.Host.{PlainHost}
-use Rattle.sam_term.specs.Types.{CommandLock, NoLock, Window, Unsent}
+use Rattle.sam_term.specs.declared.lock.Lock.TheVariants.{CommandLock, NoLock}
+use Rattle.sam_term.specs.declared.records.Window.{Window}
+use Rattle.sam_term.specs.declared.records.Unsent.{Unsent}
 use Rattle.sam_term.specs.Events.{is_command_line}
 use Rattle.sam_term.specs.Term.{PlainTerminal, Made, window_at, window_after_ins, moved_unsent, edited, ins_rasp, set_dot_of, typed_rasp, joins, joined, types, flushed, unsent_message, and_then}
 use Rattle.sam_term.proofs.Marks.{edited-window}

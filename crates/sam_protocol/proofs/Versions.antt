@@ -1,8 +1,10 @@
 -- The two sides have the same version wherever the command lock is free: behind each Hversion stands an Hunlock.
 use Rattle.std.proofs.Common.{◌≡◌, ℕ, Bool, true, false, ◌||◌, List, [], ◌∷◌, ◌++◌, refl, sym, ◌∙◌, true≢false, arith, drop}
 use Rattle.std.proofs.lemmas.Bool.{or_parts, or_right}
-use Rattle.sam_mesg.specs.TerminalKinds.{Tmesg, Tversion, Tstartsnarf}
-use Rattle.sam_mesg.specs.HostKinds.{Hmesg, Hunlock, Hack}
+use Rattle.sam_mesg.specs.declared.tmesg.Tmesg.{Tmesg}
+use Rattle.sam_mesg.specs.declared.tmesg.Tmesg.TheVariants.{Tversion, Tstartsnarf}
+use Rattle.sam_mesg.specs.declared.hmesg.Hmesg.{Hmesg}
+use Rattle.sam_mesg.specs.declared.hmesg.Hmesg.TheVariants.{Hunlock, Hack}
 use Rattle.sam_host.proofs.EachFrame.{EachFrame, AreFrames, reply_each}
 use Rattle.sam_host.specs.Host.{reply_version, reply_startsnarf, PlainHost, told_names, reply_to}
 use Rattle.sam_protocol.proofs.Lenses.{changes, is_free_command, frees_command}

@@ -1,8 +1,11 @@
 -- What of the terminal concerns one file, after its steps of composing.
 use Rattle.std.proofs.Common.{◌≡◌, ℕ, suc, ◌+◌, Bool, true, ◌==◌, if◌then◌else◌, Option, Some, None, sym, ap, subst, arith, unwrap_or}
 use Rattle.sam_runes.proofs.SlotLaws.{slot-put_same, slot-put_other}
-use Rattle.sam_mesg.specs.TerminalKinds.{Tmesg}
-use Rattle.sam_term.specs.Types.{Lock, NoLock, CommandLock, FileLock, Window, KnownFile}
+use Rattle.sam_mesg.specs.declared.tmesg.Tmesg.{Tmesg}
+use Rattle.sam_term.specs.declared.lock.Lock.{Lock}
+use Rattle.sam_term.specs.declared.lock.Lock.TheVariants.{NoLock, CommandLock, FileLock}
+use Rattle.sam_term.specs.declared.records.Window.{Window}
+use Rattle.sam_term.specs.declared.records.KnownFile.{KnownFile}
 use Rattle.sam_term.specs.Events.{lock_of}
 use Rattle.sam_term.specs.Term.{PlainTerminal, known_at, window_at, put_known, put_window, edited, lock_taken, composed, flushed}
 use Rattle.sam_term.specs.Windows.{blank_known, blank_window}

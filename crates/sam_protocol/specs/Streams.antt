@@ -1,6 +1,7 @@
 -- The version at a place of the stream of messages.
 use Rattle.std.specs.Prelude.{ℕ, List, [], ◌∷◌}
-use Rattle.sam_mesg.specs.TerminalKinds.{after_t, Tmesg}
+use Rattle.sam_mesg.specs.TerminalKinds.{after_t}
+use Rattle.sam_mesg.specs.declared.tmesg.Tmesg.{Tmesg}
 
 -- the version behind messages of the terminal
 abbrev pub version_behind : ℕ → List Tmesg → ℕ

@@ -2,10 +2,13 @@
 use Rattle.std.specs.Prelude.{◌≡◌, ℕ, Bool, true, false, if◌then◌else◌, nat_lt, length, Option, Some, None}
 use Rattle.sam_runes.specs.Slots.{Slots, slot}
 use Rattle.sam_runes.specs.Checks.{first_of_checks}
-use Rattle.sam_mesg.specs.TerminalKinds.{Tmesg, Tack}
-use Rattle.sam_mesg.specs.HostKinds.{Hmesg, Hcheck, Hunlockfile, Hack}
+use Rattle.sam_mesg.specs.declared.tmesg.Tmesg.{Tmesg}
+use Rattle.sam_mesg.specs.declared.tmesg.Tmesg.TheVariants.{Tack}
+use Rattle.sam_mesg.specs.declared.hmesg.Hmesg.{Hmesg}
+use Rattle.sam_mesg.specs.declared.hmesg.Hmesg.TheVariants.{Hcheck, Hunlockfile, Hack}
 use Rattle.sam_text.specs.Files.{PlainFile}
-use Rattle.sam_term.specs.Types.{Window, KnownFile}
+use Rattle.sam_term.specs.declared.records.Window.{Window}
+use Rattle.sam_term.specs.declared.records.KnownFile.{KnownFile}
 use Rattle.sam_term.specs.Term.{PlainTerminal, frame_outcome, frame_checks, took_unlockfile, wanted, sends_if}
 use Rattle.sam_protocol.specs.Lens.{Slot, Unknown, Known, Open, Lens, lens, move, HFile, Absent, Hidden, Named, Opened, Gone}
 use Rattle.sam_protocol.specs.Frames.{action}

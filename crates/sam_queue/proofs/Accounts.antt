@@ -1,9 +1,12 @@
 -- What an audit says.
-use Rattle.std.proofs.Common.{◌≡◌, ℕ, suc, ◌<◌, ◌≤◌, List, [], ◌∷◌, ◌++◌, length, map, Some, slice_get, All, Vec, sym, ◌∙◌, subst, append-nil, arith, Global}
+use Rattle.std.proofs.Common.{◌≡◌, ℕ, suc, ◌<◌, ◌≤◌, List, [], ◌∷◌, ◌++◌, length, map, Some, slice_get, All, Vec, sym, ◌∙◌, subst, append-nil, arith}
+use Rattle.std.specs.Global.{Global}
 use mathlib.Core.Option.{some}
 use lib.ListN.{get_elem?}
 use Rattle.std.proofs.lemmas.Option.{slice_get_within}
-use Rattle.sam_queue.specs.Types.{Entry, Port, Receives}
+use Rattle.sam_queue.specs.declared.rule.Entry.{Entry}
+use Rattle.sam_queue.specs.declared.rule.Port.{Port}
+use Rattle.sam_queue.specs.declared.rule.Port.TheVariants.{Receives}
 use Rattle.sam_queue.specs.History.{loads, items_of, IsEnded, all_of}
 use Rattle.sam_queue.specs.Views.{PostView, TakeView}
 use Rattle.sam_queue.specs.Audits.{ArePostsOf, Accounted, AllAccounted, HasHistory}

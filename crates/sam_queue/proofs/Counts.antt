@@ -3,7 +3,8 @@ use Rattle.std.proofs.Common.{◌≡◌, ℕ, zero, suc, ◌+◌, ◌<◌, ◌�
 use mathlib.Core.Option.{some}
 use lib.ListN.{get_elem?}
 use Rattle.std.proofs.lemmas.List.Elements.{All-head, All-tail}
-use Rattle.sam_queue.specs.Types.{Entry, Sent}
+use Rattle.sam_queue.specs.declared.rule.Entry.{Entry}
+use Rattle.sam_queue.specs.declared.rule.Sent.{Sent}
 use Rattle.sam_queue.specs.History.{loads, all_of}
 use Rattle.sam_queue.proofs.Lists.{there}
 

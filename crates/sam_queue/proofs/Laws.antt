@@ -3,7 +3,8 @@ use Rattle.std.proofs.Common.{◌≡◌, ◌≢◌, ℕ, suc, ◌+◌, ◌<◌, 
 use Rattle.std.proofs.Common.{List, [], ◌∷◌, ◌++◌, length, slice_get, All, append-nil, length-append}
 use Rattle.std.proofs.lemmas.Bool.Decides.{eqb_tells}
 use Rattle.std.proofs.lemmas.List.Elements.{All-head, All-tail}
-use Rattle.sam_queue.specs.Types.{Entry, Part}
+use Rattle.sam_queue.specs.declared.rule.Entry.{Entry}
+use Rattle.sam_queue.specs.declared.rule.Part.{Part}
 use Rattle.sam_queue.specs.History.{loads, items_of, has_mark, all_of, StartsWith}
 use Rattle.sam_queue.specs.Views.{LineView, PostView, TakeView, part_of, take_told, KnowsOfNone, WasFull, IsAlone, IsFilled}
 use Rattle.sam_queue.specs.Audits.{ArePostsOf}

@@ -1,7 +1,8 @@
 -- What is left, sorted by sender into lists that have room for it.
-use Rattle.std.proofs.Common.{◌≡◌, ◌≢◌, ℕ, ◌<◌, ◌≤◌, List, [], ◌∷◌, ◌++◌, length, set, Option, Some, None, slice_get, All, Vec, vec_capacity, filter_map, ap, ◌∙◌, append-nil, length-append, arith, Global}
+use Rattle.std.proofs.Common.{◌≡◌, ◌≢◌, ℕ, ◌<◌, ◌≤◌, List, [], ◌∷◌, ◌++◌, length, set, Option, Some, None, slice_get, All, Vec, vec_capacity, filter_map, ap, ◌∙◌, append-nil, length-append, arith}
+use Rattle.std.specs.Global.{Global}
 use Rattle.std.proofs.lemmas.List.Elements.{Contains-append_right, filter_map-append}
-use Rattle.sam_queue.specs.Types.{Entry}
+use Rattle.sam_queue.specs.declared.rule.Entry.{Entry}
 use Rattle.sam_queue.specs.History.{loads, items_of}
 use Rattle.sam_queue.specs.Sorts.{IsRoom, IsSortedInto}
 use Rattle.sam_queue.proofs.Histories.{loads-append, loads_mine, loads_other}

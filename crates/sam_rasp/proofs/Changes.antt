@@ -4,7 +4,7 @@ use Rattle.std.proofs.lemmas.List.{reverse-reverse, take-append-le, drop-append-
 use Rattle.sam_rasp.specs.Rasp.{PartialText}
 use Rattle.sam_runes.specs.Texts.{del}
 use Rattle.sam_rasp.specs.Sections.{cells_of, cells_back}
-use Rattle.sam_rasp.specs.Types.{Section}
+use Rattle.sam_rasp.specs.declared.section.Section.{Section}
 
 pub unreversed : (old new : List Section) → new ≡ reverse old → cells_back new ≡ cells_of old
 unreversed old new e = ap cells_back e ∙ ap cells_of (reverse-reverse old)

@@ -1,9 +1,11 @@
 -- Marks as a list of sections changes.
-use Rattle.std.proofs.Common.{◌≡◌, sym, ap, ◌∙◌, ℕ, ◌+◌, ◌-◌, ◌<◌, List, take, drop, length, set, arith, get_or-set_other, drop-drop, take-append-drop, length-append, length-drop}
+use Rattle.std.proofs.Common.{◌≡◌, sym, ap, ◌∙◌, ℕ, ◌+◌, ◌-◌, ◌<◌, List, take, drop, length, set, arith, get_or-set_other, drop-drop, take-append-drop, length-append, length-drop, length-set}
 use Rattle.std.specs.List.{AllWithin}
 use Rattle.std.proofs.lemmas.List.Elements.{AllWithin-more_set}
 use Rattle.sam_rasp.specs.Sections.{cells_of, IsBegin, IsChange}
-use Rattle.sam_rasp.specs.Types.{Section, Begin, Change}
+use Rattle.sam_rasp.specs.declared.section.Section.{Section}
+use Rattle.sam_rasp.specs.declared.walking.Begin.{Begin}
+use Rattle.sam_rasp.specs.declared.marks.Change.{Change}
 use Rattle.sam_rasp.proofs.Splices.{cells-append}
 
 -- the cells before section number i and those from it on
@@ -22,3 +24,6 @@ moved_behind xs ys c m b change begin less ei ep =
 pub written : (P Q : Begin → Type 0) (ms : List Begin) (i n : ℕ) (b : Begin) → i < length ms → AllWithin P ms 0 i → AllWithin Q ms i n → P b
     → AllWithin P (set ms i b) 0 (i + 1) × AllWithin Q (set ms i b) (i + 1) n
 written P Q ms i n b less done left h = grind (arith, (AllWithin-more_set ms i b less P done h), (get_or-set_other ms i))
+
+-- what `move_all` rests on
+pub ruleset move_all_facts = (length-set)

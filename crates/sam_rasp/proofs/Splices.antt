@@ -1,10 +1,11 @@
 -- Sections taken out of a list and put back.
-use Rattle.std.proofs.Common.{◌≡◌, refl, sym, ap, ◌∙◌, subst, ℕ, ◌+◌, ◌-◌, ◌≤◌, ◌<◌, List, [], ◌∷◌, ◌++◌, take, drop, length, min, reverse, arith, ◌⊎◌, append-nil, append_assoc, take_at, drop_at, drop-drop, take-take, take-append-drop, length-append, length-take, length-drop, insert}
+use Rattle.sam_rasp.specs.declared.splice.Reach.{Reach}
+use Rattle.std.proofs.Common.{◌≡◌, refl, sym, ap, ◌∙◌, subst, ℕ, ◌+◌, ◌-◌, ◌≤◌, ◌<◌, List, [], ◌∷◌, ◌++◌, take, drop, length, min, reverse, arith, ◌⊎◌, append-nil, append_assoc, take_at, drop_at, drop-drop, take-take, take-append-drop, length-append, length-take, length-drop, insert, Option, option_to_list}
 use Rattle.std.proofs.lemmas.List.{drop-take, nil_from_length, drop_min, drop-append-le, length-reverse, take-append-le, drop-append-le}
 use Rattle.std.proofs.lemmas.List.Concat.{flat_map-append}
 use Rattle.sam_rasp.specs.Rasp.{PartialText}
-use Rattle.sam_rasp.specs.Sections.{cells, cells_of, cells_back, IsApart, StaysApart, IsNormal}
-use Rattle.sam_rasp.specs.Types.{Section}
+use Rattle.sam_rasp.specs.Sections.{cells, cells_of, cells_back, IsApart, StaysApart, IsNormal, IsReach}
+use Rattle.sam_rasp.specs.declared.section.Section.{Section}
 use Rattle.sam_rasp.proofs.SectionLaws.{normal-between}
 use Rattle.sam_rasp.proofs.Changes.{take-past, drop-past}
 use Rattle.sam_rasp.proofs.Runs.{normal-take, normal-drop}
@@ -131,6 +132,12 @@ opened xs o w z front number last begin first inner next le few ordered within b
       (length-reverse w),
       (length-append z d),
     )
+
+-- the same by the reach of a change
+pub reached : (xs o w : List Section) (next : Option Section) (p q : ℕ) (r : Reach) → IsReach xs p q r → o ++ reverse w ≡ take (r.last - r.front.index) (drop r.front.index xs)
+    → option_to_list next ++ drop (r.last + 1) xs ≡ drop r.last xs → length o ≡ r.first.index - r.front.index → Opened xs o w (option_to_list next) r.front.index r.last r.front.place r.first.place
+reached xs o w next p q r is inner behind few =
+    opened xs o w (option_to_list next) r.front.index r.first.index r.last r.front.place r.first.place inner behind is.3 few is.6 is.7 is.0.1 is.1.1
 
 -- a change inside t, with a before it and b behind it
 pub change-inside : (a t b m : PartialText) (p at n : ℕ) → length a + at ≡ p → at + n ≤ length t

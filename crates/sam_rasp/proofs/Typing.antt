@@ -4,7 +4,7 @@ use Rattle.std.proofs.lemmas.List.{take-append-le, drop-append-le}
 use Rattle.sam_runes.specs.Texts.{ins, most_in_message}
 use Rattle.sam_rasp.specs.Rasp.{PartialText}
 use Rattle.sam_rasp.specs.Sections.{cells, cells_of, size, is_loaded, IsNormal}
-use Rattle.sam_rasp.specs.Types.{Section}
+use Rattle.sam_rasp.specs.declared.section.Section.{Section}
 use Rattle.sam_rasp.proofs.SectionLaws.{length-cells}
 use Rattle.sam_rasp.proofs.Changes.{take-past, drop-past}
 use Rattle.sam_rasp.proofs.Runs.{three-parts}

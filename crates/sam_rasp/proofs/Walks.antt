@@ -5,7 +5,8 @@ use Rattle.std.proofs.lemmas.Bool.{cases_lt}
 use Rattle.sam_rasp.specs.Rasp.{PartialText, first_gaps, gaps_in_front, range_from}
 use Rattle.sam_runes.specs.Texts.{part}
 use Rattle.sam_rasp.specs.Sections.{cells, cells_of, size, IsNormal, StaysApart, is_loaded}
-use Rattle.sam_rasp.specs.Types.{Section, Loaded, Hole}
+use Rattle.sam_rasp.specs.declared.section.Section.{Section}
+use Rattle.sam_rasp.specs.declared.section.Section.TheVariants.{Loaded, Hole}
 
 pub get-left : {X : Type 0} (s r : List X) (k : ℕ) → k < length s → slice_get (s ++ r) k ≡ slice_get s k
 get-left (x ∷ s) r (suc k) l = get-left s r k (omega (arith, l))

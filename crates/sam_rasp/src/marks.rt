@@ -89,6 +89,7 @@ pub fn follow(marks: &mut Vec<Begin>, change: Change)
 }
 
 /// Moves the marks as the change moved their sections.
+#[tactic(auto, using(std::proofs::lemmas::Grind::common_steps, crate::proofs::Marking::written, crate::proofs::Marking::move_all_facts))]
 fn move_all(marks: &mut Vec<Begin>, change: Change)
     ensures { (xs ys : List Section) → IsChange xs ys change → All (IsBegin xs) marks.old.items → All (IsBegin ys) marks.new.items }
 {

@@ -35,11 +35,8 @@ pub record Begun (c n x y z w : ℕ) : Type 0 where
 abbrev pub BegunAt : ℕ → List ℕ → Type 0
 BegunAt c bs = Begun c (length bs) (get_or bs 0 0) (get_or bs 1 0) (get_or bs 2 0) (get_or bs 3 0)
 
-begun_3 : (c : ℕ) (rest : List ℕ) → 2048 ≤ c → c < 65536 → BegunAt c ((224 + c / 4096) ∷ (128 + (c / 64) % 64) ∷ (128 + c % 64) ∷ rest)
-begun_3 c rest low high = grind arith
-
 begun : (c : ℕ) (rest : List ℕ) → IsScalar c → BegunAt c (encode_utf8 c ++ rest)
-begun c rest is = grind (arith, encode_ascii, two, three, begun_3, four, cases_lt)
+begun c rest is = grind (arith, encode_ascii, two, three, four, cases_lt)
 
 -- no rune begins bytes that are not so
 pub none_begins : (bs : List ℕ) → ((c : ℕ) → IsScalar c → BegunAt c bs → ⊥) → StartsWithNoChar bs

@@ -1,16 +1,12 @@
 -- What the five joins hand on, of one gate, one script and one set of lines.
 use Rattle.std.proofs.Common.{◌≡◌, refl, subst, ℕ, List, Option, Some, Result, arith, IfSome, IsSomeAnd, IfOk}
-use Rattle.sam_term.specs.Events.{UserEvent}
+use Rattle.sam_term.specs.declared.event.UserEvent.{UserEvent}
 use Rattle.sam_threads.specs.Lines.{LinesView}
 use Rattle.sam_threads.specs.WorkerEnds.{RefusesSome}
 use Rattle.sam_running.specs.Promised.{AllKept, KeepPromises, PromisesOf, SomeRefused}
-use Rattle.sam_threads.specs.Types.{Ends}
+use Rattle.sam_threads.specs.declared.ends.Ends.{Ends}
 use Rattle.sam_running.specs.declared.run.RunFault.{RunFault}
 use Rattle.sam_running.specs.declared.spawning.Handles.{Handles}
-
-module _ {G : Type 0} (may : G → ℕ → Type 0) where
-
-module _ (refuses : ℕ → Type 0) (keys clicks : List UserEvent) (given : List (List ℕ × List ℕ)) (lines : LinesView) (e : Ends) (kept : AllKept refuses keys clicks given lines e) where
 
 -- what the joins hand on, where all five were started
 module _ {G : Type 0} (may : G → ℕ → Type 0) (gate : G) (keys clicks : List UserEvent) (given : List (List ℕ × List ℕ)) (lines : LinesView) (handles : Option (Handles G)) (ends : Option Ends)

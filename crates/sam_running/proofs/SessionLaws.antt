@@ -1,7 +1,7 @@
 -- What a settled session of a script is.
 use Rattle.std.proofs.Common.{◌≡◌, ℕ, List, [], ◌∷◌, length, map, take, drop, Some, None, refl, sym, ap, ◌∙◌, arith, take-append-drop}
 use Rattle.std.proofs.lemmas.List.{map-append}
-use Rattle.sam_term.specs.Events.{UserEvent}
+use Rattle.sam_term.specs.declared.event.UserEvent.{UserEvent}
 use Rattle.sam_queue.specs.Views.{LineView}
 use Rattle.sam_script.specs.Script.{PlainScript, keys_of, mouse_of}
 use Rattle.sam_world.specs.Streams.{Begins}
@@ -11,9 +11,11 @@ use Rattle.sam_threads.specs.WorkerEnds.{Told, UserTold, AllPassed, GatesTold}
 use Rattle.sam_settling.specs.Headline.{Headline}
 use Rattle.sam_settling.specs.Settled.{counts_left, stops_of, AreFull, HasStreams, HasUsers, IsDrained, IsWhole, MissesHost}
 use Rattle.sam_running.specs.Session.{IsSession}
-use Rattle.sam_threads.specs.Types.{User, Ends, UserEnd}
+use Rattle.sam_threads.specs.declared.input.Input.TheVariants.{User}
+use Rattle.sam_threads.specs.declared.ends.Ends.{Ends}
+use Rattle.sam_threads.specs.declared.ends.UserEnd.{UserEnd}
 use Rattle.sam_threads.specs.declared.stop.Stop.TheVariants as stop
-use Rattle.sam_settling.specs.Types.{Settled}
+use Rattle.sam_settling.specs.declared.settled.Settled.{Settled}
 
 take_all : {A : Type 0} (xs : List A) → take (length xs) xs ≡ xs
 take_all [] = refl

@@ -1,10 +1,15 @@
 -- What the join of each thread hands on. `refuses worker`: the gate may refuse it.
 use Rattle.std.specs.Prelude.{◌≡◌, ℕ, List, Bool, false, Option, Some, ◌⊎◌}
-use Rattle.sam_term.specs.Events.{UserEvent}
+use Rattle.sam_term.specs.declared.event.UserEvent.{UserEvent}
 use Rattle.sam_queue.specs.Views.{LineView}
 use Rattle.sam_threads.specs.Lines.{LinesView}
 use Rattle.sam_threads.specs.WorkerEnds.{UserTold, HostTold, ReaderTold, TermTold}
-use Rattle.sam_threads.specs.Types.{Stop, UserEnd, HostEnd, ReaderEnd, TermEnd, Ends}
+use Rattle.sam_threads.specs.declared.stop.Stop.{Stop}
+use Rattle.sam_threads.specs.declared.ends.UserEnd.{UserEnd}
+use Rattle.sam_threads.specs.declared.ends.HostEnd.{HostEnd}
+use Rattle.sam_threads.specs.declared.ends.ReaderEnd.{ReaderEnd}
+use Rattle.sam_threads.specs.declared.ends.TermEnd.{TermEnd}
+use Rattle.sam_threads.specs.declared.ends.Ends.{Ends}
 use Rattle.sam_threads.specs.declared.stop.Stop.TheVariants as stop
 use Rattle.sam_tasks.specs.declared.tasks.Tasks.{Tasks}
 use Rattle.sam_running.specs.declared.spawning.UserPromise.{UserPromise}

@@ -7,9 +7,10 @@ use Rattle.sam_threads.specs.Lines.{LinesView}
 use Rattle.sam_threads.specs.WorkerEnds.{Told, AllPassed, GatesTold}
 use Rattle.sam_settling.specs.Headline.{Headline}
 use Rattle.sam_settling.specs.Settled.{counts_left, stops_of, AreFull, HasStreams, HasUsers, IsDrained, IsWhole, MissesHost}
-use Rattle.sam_threads.specs.Types.{User, Ends}
+use Rattle.sam_threads.specs.declared.input.Input.TheVariants.{User}
+use Rattle.sam_threads.specs.declared.ends.Ends.{Ends}
 use Rattle.sam_threads.specs.declared.stop.Stop.TheVariants as stop
-use Rattle.sam_settling.specs.Types.{Settled}
+use Rattle.sam_settling.specs.declared.settled.Settled.{Settled}
 
 -- It was settled from the ends of a session in which each worker began and told this, the host began with the script's files, and keyboard
 -- and mouse put the first events that the script has of each: all of them where nothing stopped that worker

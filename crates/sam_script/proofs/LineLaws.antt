@@ -6,7 +6,10 @@ use Rattle.std.proofs.lemmas.Bool.Decides.{eqb_tells}
 use Rattle.std.proofs.lemmas.Option.{same_Some}
 use Rattle.std.proofs.lemmas.Str.{chars_from_encodes, encodes-chars}
 use Rattle.sam_runes.specs.Texts.{max_runes, most_in_name}
-use Rattle.sam_script.specs.Types.{Line, Key, Mouse, Said, LineFault}
+use Rattle.sam_script.specs.declared.line.Line.{Line}
+use Rattle.sam_script.specs.declared.line.Line.TheVariants.{Key, Mouse}
+use Rattle.sam_script.specs.declared.line.Said.{Said}
+use Rattle.sam_script.specs.declared.fault.LineFault.{LineFault}
 use Rattle.sam_script.specs.declared.line.Said.TheVariants as said
 use Rattle.sam_world.specs.Given.{IsFile}
 use Rattle.sam_script.specs.Spelling.{SpellsParts, IsWord, SpellsFile, SpellsLine, SaysNothing, SaysSo, Says}

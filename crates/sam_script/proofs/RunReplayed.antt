@@ -4,14 +4,14 @@ use Rattle.std.specs.List.{AllByRecursion}
 use Rattle.std.proofs.lemmas.Option.{option_and_then_some, same_Some}
 use Rattle.sam_runes.specs.Texts.{most_files}
 use Rattle.sam_world.specs.World.{PlainWorld, new_world, step_of, run_of}
-use Rattle.sam_world.specs.Types.{Event}
+use Rattle.sam_world.specs.declared.event.Event.{Event}
 use Rattle.sam_script.specs.declared.line.Line.TheVariants as line
 use Rattle.sam_script.specs.Script.{PlainScript}
 use Rattle.sam_script.specs.Show.{show_lines}
 use Rattle.sam_script.specs.Spelling.{Spells, lines_of}
 use Rattle.sam_script.specs.Replay.{after_line, printed_by, behind, and_on, replayed_from, replayed}
 use Rattle.sam_script.specs.RunLines.{run_lines_of, line_of, numbered_from, run_script, CanBeNamed, CanBeWritten}
-use Rattle.sam_script.specs.Types.{ScriptFault}
+use Rattle.sam_script.specs.declared.fault.ScriptFault.{ScriptFault}
 use Rattle.sam_script.proofs.ScriptLaws.{spells_one}
 use Rattle.sam_script.proofs.RunSpelled.{run_is_spelled}
 

@@ -4,7 +4,8 @@ use Rattle.std.specs.List.{AllZip}
 use Rattle.std.proofs.lemmas.List.{take_more}
 use Rattle.std.proofs.lemmas.List.Splits.{length-slice_split}
 use Rattle.std.proofs.lemmas.List.Sums.{count_by-le-length}
-use Rattle.sam_script.specs.Types.{Said, Wrong}
+use Rattle.sam_script.specs.declared.line.Said.{Said}
+use Rattle.sam_script.specs.declared.fault.LineFault.TheVariants.{Wrong}
 use Rattle.sam_script.specs.declared.line.Said.TheVariants as said
 use Rattle.sam_script.specs.Script.{PlainScript}
 use Rattle.sam_script.specs.Spelling.{Says, file_said, files_said, lines_said, AreFilesFirst, SpellsLines, lines_of, IsWrongLine}

@@ -6,7 +6,8 @@ use Rattle.std.proofs.lemmas.Bool.Decides.{eqb_tells}
 use Rattle.std.proofs.lemmas.Option.{same_Some}
 use Rattle.std.proofs.lemmas.Slice.Eq.{bytes_eq-Decides}
 use Rattle.std.proofs.lemmas.Str.{IsUtf8-drop, IsUtf8-take, IsUtf8-past_char, IsCharBoundary-end, chars_from_encodes, encodes-chars, encodes-append, encode_ascii}
-use Rattle.sam_term.specs.Events.{UserEvent, Typed, SetSnarf}
+use Rattle.sam_term.specs.declared.event.UserEvent.{UserEvent}
+use Rattle.sam_term.specs.declared.event.UserEvent.TheVariants.{Typed, SetSnarf}
 use Rattle.sam_term.specs.declared.event.UserEvent.TheVariants as user
 use Rattle.sam_script.specs.Show.{text_shown, text_rune}
 use Rattle.sam_script.specs.Spelling.{IsNumber, SpellsParts, SpellsEvent, IsWord}

@@ -6,4 +6,3 @@ pub mod Spelling
 pub mod Reading
 pub mod Replay
 pub mod RunLines
-pub mod Types

@@ -1,6 +1,6 @@
 -- Scripts: files, and the lines that follow them.
 use Rattle.std.specs.Prelude.{ℕ, List, [], ◌∷◌, flat_map}
-use Rattle.sam_term.specs.Events.{UserEvent}
+use Rattle.sam_term.specs.declared.event.UserEvent.{UserEvent}
 use Rattle.sam_script.specs.declared.line.Line.TheVariants.{Key, Mouse}
 use Rattle.sam_script.specs.declared.line.Numbered.{Numbered}
 

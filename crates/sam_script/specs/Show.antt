@@ -4,7 +4,8 @@ use Rattle.std.specs.Fmt.{decimal}
 use Rattle.sam_runes.specs.Slots.{Slots}
 use Rattle.sam_text.specs.Files.{PlainFile}
 use Rattle.sam_term.specs.Sound.{unsent_length}
-use Rattle.sam_term.specs.Types.{Window, KnownFile}
+use Rattle.sam_term.specs.declared.records.Window.{Window}
+use Rattle.sam_term.specs.declared.records.KnownFile.{KnownFile}
 use Rattle.sam_world.specs.World.{PlainWorld}
 
 -- a rune of a text, with backslash and newline escaped

@@ -3,8 +3,8 @@ use Rattle.std.proofs.Common.{◌≡◌, ◌∙◌, ℕ, ◌+◌, ◌-◌, ◌�
 use Rattle.std.specs.Io.KnownBytes.{Appends, Consumes, IsAtEnd}
 use Rattle.std.proofs.KnownBytes.{Appends-nil, Appends-trans, Consumes-nil, Consumes-trans, Consumes-whole}
 use Rattle.sam_runes.specs.Texts.{max_runes, most_in_name}
-use Rattle.sam_mesg.specs.TerminalKinds.{Tmesg}
-use Rattle.sam_mesg.specs.Types.{MesgFault}
+use Rattle.sam_mesg.specs.declared.tmesg.Tmesg.{Tmesg}
+use Rattle.sam_mesg.specs.declared.fault.MesgFault.{MesgFault}
 use Rattle.sam_frame.specs.Direction.{terminal}
 use Rattle.sam_frame.specs.Stream.{version_after}
 use Rattle.sam_frame.specs.Framing.{Held, HasRoom, GaveAll, GaveUp, fresh}
@@ -12,14 +12,15 @@ use Rattle.sam_frame.proofs.Fronts.{version_after-append}
 use Rattle.sam_frame.proofs.Cuttings.{Came, Splits-longer, Shows-longer, splits_more, comes_more}
 use Rattle.sam_host.specs.Host.{PlainHost}
 use Rattle.sam_host.specs.Laws.{IsSound}
-use Rattle.sam_host.specs.Types.{HostFault}
+use Rattle.sam_host.specs.declared.fault.HostFault.{HostFault}
 use Rattle.sam_host.proofs.SoundLaws.{starts_sound}
 use Rattle.sam_session.specs.Start.{host_of}
 use Rattle.sam_session.specs.Serving.{Served, serve}
 use Rattle.sam_session.specs.Outcome.{frame_number, Stops, stop_at, Plays, Written, OnSide}
 use Rattle.sam_session.specs.Pieces.{Answers, Refuses, AnswersBefore, HaltsBefore, Halts, MayEnd, PieceAnswers, PieceStops}
-use Rattle.sam_threads.specs.Types.{Stop, Frame}
-use Rattle.sam_session.specs.Types.{PlayFault}
+use Rattle.sam_threads.specs.declared.stop.Stop.{Stop}
+use Rattle.sam_threads.specs.declared.stop.Stop.TheVariants.{Frame}
+use Rattle.sam_session.specs.declared.fault.PlayFault.{PlayFault}
 use Rattle.sam_session.proofs.Serving.{serve-append, serve-sound}
 
 -- what was read are the messages that a host, h0 at first, answered, and what the framer holds

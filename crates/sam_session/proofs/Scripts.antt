@@ -1,16 +1,18 @@
 -- What comes of an input that is read as a script.
-use Rattle.std.proofs.Common.{◌≡◌, ◌⊎◌, ℕ, ◌≤◌, List, length, Option, IfSome, Result, Err, OnOk, IfOk, IfErr, arith, Vec, IsOkAnd}
+use Rattle.std.proofs.Common.{◌≡◌, ◌⊎◌, ℕ, ◌≤◌, List, length, Option, IfSome, Result, Err, OnOk, IfOk, IfErr, arith, IsOkAnd}
+use Rattle.std.specs.Global.{Vec}
 use Rattle.std.specs.Io.KnownBytes.{Appends}
 use Rattle.sam_script.specs.Script.{PlainScript}
 use Rattle.sam_script.specs.Spelling.{Spells, IsReadFault}
 use Rattle.sam_script.specs.Replay as replay
-use Rattle.sam_script.specs.Types.{ScriptFault}
+use Rattle.sam_script.specs.declared.fault.ScriptFault.{ScriptFault}
 use Rattle.sam_script.specs.declared.fault.ScriptFault.TheVariants as fault
 use Rattle.sam_session.specs.Outcome.{Written}
 use Rattle.sam_session.specs.Replaying.{of_script, IsReplay, IsReplayFault}
 use Rattle.sam_session.specs.Threading.{IsUnread}
 use Rattle.sam_session.specs.Status.{fault_line, IsTold}
-use Rattle.sam_session.specs.Types.{PlayFault, Read, Write, OutOfMemory}
+use Rattle.sam_session.specs.declared.fault.PlayFault.{PlayFault}
+use Rattle.sam_session.specs.declared.fault.PlayFault.TheVariants.{Read, Write, OutOfMemory}
 
 -- ---- the input
 

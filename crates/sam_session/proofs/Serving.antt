@@ -3,8 +3,10 @@ use Rattle.std.proofs.Common.{◌≡◌, ℕ, List, [], ◌∷◌, ◌++◌, Opt
 use Rattle.std.specs.Io.KnownBytes.{Appends}
 use Rattle.std.proofs.KnownBytes.{Appends-trans}
 use Rattle.std.proofs.lemmas.List.Elements.{All-nil, All-cons}
-use Rattle.sam_mesg.specs.TerminalKinds.{FitsT, Tmesg}
-use Rattle.sam_mesg.specs.HostKinds.{frame_h, HFrame}
+use Rattle.sam_mesg.specs.TerminalKinds.{FitsT}
+use Rattle.sam_mesg.specs.declared.tmesg.Tmesg.{Tmesg}
+use Rattle.sam_mesg.specs.HostKinds.{frame_h}
+use Rattle.sam_mesg.specs.declared.hmesg.HFrame.{HFrame}
 use Rattle.sam_mesg.proofs.Versions.{grows_t}
 use Rattle.sam_frame.specs.Direction.{terminal}
 use Rattle.sam_frame.specs.Stream.{FitInTurn}
@@ -12,7 +14,7 @@ use Rattle.sam_host.specs.Host.{PlainHost, Answer, answer}
 use Rattle.sam_host.specs.Laws.{IsSound}
 use Rattle.sam_host.proofs.LastVersion.{fit_in_last}
 use Rattle.sam_host.proofs.SoundLaws.{stays_sound, frames_fit}
-use Rattle.sam_host.specs.Types.{HostFault}
+use Rattle.sam_host.specs.declared.fault.HostFault.{HostFault}
 use Rattle.sam_session.specs.Serving.{Served, served_on, serve, behind}
 use Rattle.sam_session.specs.Pieces.{AllFit, FramesFit}
 

@@ -6,4 +6,3 @@ pub mod Status
 pub mod Words
 pub mod Replaying
 pub mod Threading
-pub mod Types

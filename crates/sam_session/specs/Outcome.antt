@@ -1,18 +1,19 @@
 -- What the program writes for an input of frames, and what stops it.
 use Rattle.std.specs.Prelude.{◌≡◌, ℕ, List, [], ◌∷◌, Option, Some, None, IfSome, Result, Ok, Err}
 use Rattle.std.specs.Io.KnownBytes.{Appends}
-use Rattle.sam_mesg.specs.TerminalKinds.{Tmesg}
-use Rattle.sam_mesg.specs.Types.{MesgFault}
+use Rattle.sam_mesg.specs.declared.tmesg.Tmesg.{Tmesg}
+use Rattle.sam_mesg.specs.declared.fault.MesgFault.{MesgFault}
 use Rattle.sam_mesg.specs.declared.fault.MesgFault.TheVariants as wrong
 use Rattle.sam_host.specs.Host.{PlainHost}
-use Rattle.sam_host.specs.Types.{HostFault}
+use Rattle.sam_host.specs.declared.fault.HostFault.{HostFault}
 use Rattle.sam_host.specs.declared.fault.HostFault.TheVariants as refusal
 use Rattle.sam_frame.specs.Direction.{terminal}
 use Rattle.sam_frame.specs.Stream.{Splits, version_after}
 use Rattle.sam_frame.specs.Splitting.{Ends}
 pub use Rattle.sam_threads.specs.Numbers.{refusal_number, frame_number}
 use Rattle.sam_session.specs.Serving.{serve}
-use Rattle.sam_threads.specs.Types.{Stop, Frame}
+use Rattle.sam_threads.specs.declared.stop.Stop.{Stop}
+use Rattle.sam_threads.specs.declared.stop.Stop.TheVariants.{Frame}
 use Rattle.sam_threads.specs.declared.stop.Stop.TheVariants.{Host}
 use Rattle.sam_session.specs.declared.fault.PlayFault.{PlayFault}
 use Rattle.sam_session.specs.declared.fault.PlayFault.TheVariants.{Script, Side, Threads}

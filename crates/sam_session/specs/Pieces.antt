@@ -2,18 +2,20 @@
 use Rattle.std.specs.Prelude.{◌≡◌, ℕ, List, [], ◌++◌, Option, Result, Ok, Err}
 use Rattle.std.specs.List.{All}
 use Rattle.std.specs.Io.KnownBytes.{Appends}
-use Rattle.sam_mesg.specs.HostKinds.{HFrame}
-use Rattle.sam_mesg.specs.Types.{MesgFault}
-use Rattle.sam_mesg.specs.TerminalKinds.{FitsT, Tmesg}
+use Rattle.sam_mesg.specs.declared.hmesg.HFrame.{HFrame}
+use Rattle.sam_mesg.specs.declared.fault.MesgFault.{MesgFault}
+use Rattle.sam_mesg.specs.TerminalKinds.{FitsT}
+use Rattle.sam_mesg.specs.declared.tmesg.Tmesg.{Tmesg}
 use Rattle.sam_host.specs.Host.{PlainHost}
-use Rattle.sam_host.specs.Types.{HostFault}
+use Rattle.sam_host.specs.declared.fault.HostFault.{HostFault}
 use Rattle.sam_host.specs.declared.fault.HostFault.TheVariants as refusal
 use Rattle.sam_frame.specs.Direction.{terminal, host}
 use Rattle.sam_frame.specs.Stream.{CanEncode, Splits, Shows, version_after}
 use Rattle.sam_frame.specs.Framing.{Held, GaveAll}
 use Rattle.sam_session.specs.Serving.{serve}
 use Rattle.sam_session.specs.Outcome.{refusal_number, frame_number}
-use Rattle.sam_threads.specs.Types.{Stop, Frame}
+use Rattle.sam_threads.specs.declared.stop.Stop.{Stop}
+use Rattle.sam_threads.specs.declared.stop.Stop.TheVariants.{Frame}
 use Rattle.sam_threads.specs.declared.stop.Stop.TheVariants.{Host}
 use Rattle.sam_session.specs.declared.fault.PlayFault.{PlayFault}
 use Rattle.sam_session.specs.declared.fault.PlayFault.TheVariants.{Side, OutOfMemory}

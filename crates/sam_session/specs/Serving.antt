@@ -1,9 +1,9 @@
 -- What a host answers to messages in turn, up to the first that it refuses.
 use Rattle.std.specs.Prelude.{ℕ, List, [], ◌∷◌, ◌++◌, Result, Ok, Err, flat_map}
-use Rattle.sam_mesg.specs.TerminalKinds.{Tmesg}
+use Rattle.sam_mesg.specs.declared.tmesg.Tmesg.{Tmesg}
 use Rattle.sam_mesg.specs.HostKinds.{frame_h}
 use Rattle.sam_host.specs.Host.{PlainHost, Answer, answer}
-use Rattle.sam_host.specs.Types.{HostFault}
+use Rattle.sam_host.specs.declared.fault.HostFault.{HostFault}
 
 -- the bytes of the frames that were answered, and the host behind the last message, or the refusal
 pub record Served : Type 0 where

@@ -5,13 +5,14 @@ use Rattle.sam_script.specs.RunLines.{run_lines_of}
 use Rattle.sam_script.specs.Script.{PlainScript, keys_of, mouse_of}
 use Rattle.sam_script.specs.Show.{show_lines}
 use Rattle.sam_script.specs.Spelling.{IsWrongLine}
-use Rattle.sam_term.specs.Events.{UserEvent, Exit}
+use Rattle.sam_term.specs.declared.event.UserEvent.{UserEvent}
+use Rattle.sam_term.specs.declared.event.UserEvent.TheVariants.{Exit}
 use Rattle.sam_world.specs.Logs.{users}
 use Rattle.sam_world.specs.World.{PlainWorld, new_world, run_of, IsSettled}
-use Rattle.sam_world.specs.Types.{Event}
+use Rattle.sam_world.specs.declared.event.Event.{Event}
 use Rattle.sam_running.specs.Session.{IsSession}
-use Rattle.sam_settling.specs.Types.{Settled}
-use Rattle.sam_threads.specs.Types.{Stop}
+use Rattle.sam_settling.specs.declared.settled.Settled.{Settled}
+use Rattle.sam_threads.specs.declared.stop.Stop.{Stop}
 use Rattle.sam_threads.specs.declared.stop.Stop.TheVariants as stop
 use Rattle.sam_session.specs.Replaying.{IsShort}
 use Rattle.sam_session.specs.declared.fault.PlayFault.{PlayFault}

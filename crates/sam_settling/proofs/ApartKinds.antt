@@ -3,20 +3,28 @@ use Rattle.std.proofs.Common.{◌≡◌, ℕ, false, ◌==◌, List, [], ◌∷�
 use Rattle.sam_runes.specs.Checks.{first_of_checks}
 use Rattle.sam_runes.specs.Texts.{common_version}
 use Rattle.sam_runes.proofs.CheckLaws.{none_holds}
-use Rattle.sam_mesg.specs.HostKinds.{after_h, Hmesg, Hversion, Hunlock, Hack, HFrame}
-use Rattle.sam_mesg.specs.TerminalKinds.{after_t, Tmesg, Tversion}
+use Rattle.sam_mesg.specs.HostKinds.{after_h}
+use Rattle.sam_mesg.specs.declared.hmesg.Hmesg.{Hmesg}
+use Rattle.sam_mesg.specs.declared.hmesg.Hmesg.TheVariants.{Hversion, Hunlock, Hack}
+use Rattle.sam_mesg.specs.declared.hmesg.HFrame.{HFrame}
+use Rattle.sam_mesg.specs.TerminalKinds.{after_t}
+use Rattle.sam_mesg.specs.declared.tmesg.Tmesg.{Tmesg}
+use Rattle.sam_mesg.specs.declared.tmesg.Tmesg.TheVariants.{Tversion}
 use Rattle.sam_frame.specs.Direction.{host, terminal}
 use Rattle.sam_frame.specs.Stream.{version_after}
 use Rattle.sam_host.specs.Host.{PlainHost, Reply, answer, host_checks, told_names, stamped, reply_version, reply_to}
 use Rattle.sam_host.specs.Laws.{IsSound, FitInPlace}
-use Rattle.sam_host.specs.Types.{BadVersion}
+use Rattle.sam_host.specs.declared.fault.HostFault.TheVariants.{BadVersion}
 use Rattle.sam_host.proofs.SoundLaws.{frames_fit, reply_stands, stays_sound}
 use Rattle.sam_protocol.specs.Frames.{is_version}
 use Rattle.sam_protocol.proofs.Versions.{IsPlain, plain_frames, reply_plain}
 use Rattle.sam_host.proofs.EachFrame.{reply_each}
 use Rattle.sam_term.specs.Term.{PlainTerminal, Made, flushed, unsent_message, sends, sends_if, unchanged, requested, request_for, event_outcome, made_by_type, made_by_cut, made_by_paste, made_by_snarf, made_by_view, event_checks, has_long_text, act_of, act_on, decided, flush_of, take_of}
-use Rattle.sam_term.specs.Types.{Unsent, Verdict, Acted, Done}
-use Rattle.sam_term.specs.Events.{UserEvent}
+use Rattle.sam_term.specs.declared.records.Unsent.{Unsent}
+use Rattle.sam_term.specs.declared.event.Verdict.{Verdict}
+use Rattle.sam_term.specs.declared.event.Acted.{Acted}
+use Rattle.sam_term.specs.declared.event.Acted.TheVariants.{Done}
+use Rattle.sam_term.specs.declared.event.UserEvent.{UserEvent}
 use Rattle.sam_term.specs.declared.fault.TermFault.TheVariants as fault
 use Rattle.sam_term.proofs.Acts.{none_holds as none_at, test_at}
 use Rattle.sam_world.specs.Sides.{Each, HostRuns}

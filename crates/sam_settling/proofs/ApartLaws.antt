@@ -2,9 +2,11 @@
 use Rattle.std.proofs.Common.{◌≡◌, ℕ, false, List, [], ◌∷◌, ◌++◌, Some, None, Err, refl, sym, ap, ◌∙◌, subst, append_assoc, arith, le-ltb, append-nil}
 use Rattle.std.proofs.lemmas.Bool.{or_from}
 use Rattle.std.proofs.lemmas.List.{append_cancel_left}
-use Rattle.sam_mesg.specs.Types.{MesgFault}
-use Rattle.sam_mesg.specs.TerminalKinds.{FitsT, Tmesg}
-use Rattle.sam_mesg.specs.HostKinds.{FitsH, HFrame}
+use Rattle.sam_mesg.specs.declared.fault.MesgFault.{MesgFault}
+use Rattle.sam_mesg.specs.TerminalKinds.{FitsT}
+use Rattle.sam_mesg.specs.declared.tmesg.Tmesg.{Tmesg}
+use Rattle.sam_mesg.specs.HostKinds.{FitsH}
+use Rattle.sam_mesg.specs.declared.hmesg.HFrame.{HFrame}
 use Rattle.sam_frame.specs.Direction.{Direction, terminal, host, frame_of}
 use Rattle.sam_frame.specs.Stream.{FitInTurn, version_after, stream_of, IsOpen, Shows}
 use Rattle.sam_frame.specs.Reading.{IsStream, IsSound}
@@ -12,13 +14,13 @@ use Rattle.sam_frame.proofs.Fronts.{stream_of-append, stream_of-one}
 use Rattle.sam_frame.proofs.Unique.{one_reading}
 use Rattle.sam_frame.proofs.Cuttings.{Shows-longer}
 use Rattle.sam_host.specs.Host.{PlainHost, answer, new_host}
-use Rattle.sam_host.specs.Types.{HostFault}
+use Rattle.sam_host.specs.declared.fault.HostFault.{HostFault}
 use Rattle.sam_host.specs.declared.fault.HostFault.TheVariants as hostfault
 use Rattle.sam_host.proofs.SoundLaws.{starts_sound}
 use Rattle.sam_term.specs.Term.{PlainTerminal, new_terminal, take_of}
-use Rattle.sam_term.specs.Types.{TermFault}
+use Rattle.sam_term.specs.declared.fault.TermFault.{TermFault}
 use Rattle.sam_term.specs.declared.fault.TermFault.TheVariants as fault
-use Rattle.sam_world.specs.Types.{TermLog}
+use Rattle.sam_world.specs.declared.event.TermLog.{TermLog}
 use Rattle.sam_world.specs.declared.event.TermLog.TheVariants as log
 use Rattle.sam_world.specs.Merging.{is_bad_entry}
 use Rattle.sam_world.specs.World.{PlainWorld, new_world, run_of, merged, is_bad_log}

@@ -2,20 +2,24 @@
 use Rattle.std.proofs.Common.{◌≡◌, ℕ, false, List, [], ◌∷◌, ◌++◌, Option, Some, None, Result, Ok, Err, refl, sym, ap, ◌∙◌, subst, true≢false, append_assoc, arith, append-nil}
 use Rattle.std.proofs.lemmas.Option.{same_Some}
 use Rattle.std.proofs.lemmas.Bool.{false_from_ne_true}
-use Rattle.sam_mesg.specs.HostKinds.{HFrame}
-use Rattle.sam_mesg.specs.TerminalKinds.{after_t, Tmesg}
+use Rattle.sam_mesg.specs.declared.hmesg.HFrame.{HFrame}
+use Rattle.sam_mesg.specs.TerminalKinds.{after_t}
+use Rattle.sam_mesg.specs.declared.tmesg.Tmesg.{Tmesg}
 use Rattle.sam_frame.specs.Direction.{terminal}
 use Rattle.sam_frame.specs.Stream.{version_after}
 use Rattle.sam_frame.proofs.Fronts.{version_after-append}
 use Rattle.sam_host.specs.Host.{PlainHost, answer}
-use Rattle.sam_host.specs.Types.{HostFault}
+use Rattle.sam_host.specs.declared.fault.HostFault.{HostFault}
 use Rattle.sam_term.specs.Term.{PlainTerminal, Made, act_of, flush_of, take_of, unsent_message}
-use Rattle.sam_term.specs.Types.{Acted, TermFault}
+use Rattle.sam_term.specs.declared.event.Acted.{Acted}
+use Rattle.sam_term.specs.declared.fault.TermFault.{TermFault}
 use Rattle.sam_protocol.specs.Order.{InOrder, views}
 use Rattle.sam_protocol.specs.Streams.{version_behind}
 use Rattle.sam_protocol.proofs.Composing.{not_done_ahead}
 use Rattle.sam_protocol.proofs.Streaming.{still_done}
-use Rattle.sam_world.specs.Types.{Event, User, Act, Flush, HostTake, TermTake, TermLog}
+use Rattle.sam_world.specs.declared.event.Event.{Event}
+use Rattle.sam_world.specs.declared.event.Event.TheVariants.{User, Act, Flush, HostTake, TermTake}
+use Rattle.sam_world.specs.declared.event.TermLog.{TermLog}
 use Rattle.sam_world.specs.declared.event.TermLog.TheVariants as log
 use Rattle.sam_world.specs.World.{PlainWorld, composed_by, after_act, after_compose, after_answer, host_takes, term_takes, step_of, merged}
 use Rattle.sam_world.specs.Order.{IsInOrder, mesgs}

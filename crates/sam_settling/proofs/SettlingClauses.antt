@@ -1,28 +1,31 @@
 -- What the five ends of a session and the audits of its lines come to.
-use Rattle.std.proofs.Common.{◌≡◌, ◌⊎◌, inl, inr, refl, sym, ap, ◌∙◌, subst, ℕ, ◌+◌, ◌<◌, ◌≤◌, true, false, List, [], ◌∷◌, ◌++◌, map, take, Option, Some, None, Err, append_assoc, append-nil, arith, Vec, IsTrue}
+use Rattle.std.proofs.Common.{◌≡◌, ◌⊎◌, inl, inr, refl, sym, ap, ◌∙◌, subst, ℕ, ◌+◌, ◌<◌, ◌≤◌, true, false, List, [], ◌∷◌, ◌++◌, map, take, Option, Some, None, Err, append_assoc, append-nil, arith, IsTrue}
+use Rattle.std.specs.Global.{Vec}
 use Rattle.std.proofs.lemmas.Grind.{flat_map-append}
 use Rattle.std.proofs.lemmas.Option.{same_Some}
 use Rattle.std.proofs.lemmas.List.{append_cancel_left, map-append}
 use Rattle.std.proofs.lemmas.List.Elements.{All-nil}
-use Rattle.sam_mesg.specs.Types.{MesgFault}
-use Rattle.sam_mesg.specs.TerminalKinds.{FitsT, fits_t, Tmesg}
-use Rattle.sam_mesg.specs.HostKinds.{FitsH, fits_h, HFrame}
+use Rattle.sam_mesg.specs.declared.fault.MesgFault.{MesgFault}
+use Rattle.sam_mesg.specs.TerminalKinds.{FitsT, fits_t}
+use Rattle.sam_mesg.specs.declared.tmesg.Tmesg.{Tmesg}
+use Rattle.sam_mesg.specs.HostKinds.{FitsH, fits_h}
+use Rattle.sam_mesg.specs.declared.hmesg.HFrame.{HFrame}
 use Rattle.sam_frame.specs.Direction.{terminal, host, frame_of}
 use Rattle.sam_frame.specs.Stream.{version_after, stream_of, IsOpen, Shows}
 use Rattle.sam_host.specs.Host.{PlainHost, answer}
 use Rattle.sam_host.specs.Laws.{AreGiven}
-use Rattle.sam_host.specs.Types.{HostFault}
+use Rattle.sam_host.specs.declared.fault.HostFault.{HostFault}
 use Rattle.sam_host.specs.declared.fault.HostFault.TheVariants as refusal
 use Rattle.sam_term.specs.Term.{PlainTerminal, take_of}
-use Rattle.sam_term.specs.Events.{UserEvent}
-use Rattle.sam_term.specs.Types.{TermFault}
+use Rattle.sam_term.specs.declared.event.UserEvent.{UserEvent}
+use Rattle.sam_term.specs.declared.fault.TermFault.{TermFault}
 use Rattle.sam_term.specs.declared.fault.TermFault.TheVariants as fault
 use Rattle.sam_world.specs.Given.{IsFile}
-use Rattle.sam_queue.specs.Types.{Entry}
+use Rattle.sam_queue.specs.declared.rule.Entry.{Entry}
 use Rattle.sam_queue.specs.History.{items_of}
 use Rattle.sam_queue.specs.Views.{PostView, LineView}
 use Rattle.sam_queue.proofs.Sorts.{items_of-append}
-use Rattle.sam_world.specs.Types.{TermLog}
+use Rattle.sam_world.specs.declared.event.TermLog.{TermLog}
 use Rattle.sam_world.specs.Logs.{users}
 use Rattle.sam_world.specs.Reached.{IsSoundWorld}
 use Rattle.sam_world.specs.Sides.{Each}
@@ -33,15 +36,18 @@ use Rattle.sam_world.proofs.Settles.{each_append, each_front}
 use Rattle.sam_settling.specs.Apart.{Apart, Joined}
 use Rattle.sam_threads.specs.Inputs.{bytes_of, frames_in, frame_of_load}
 use Rattle.sam_threads.specs.Lines.{LinesView}
-use Rattle.sam_threads.specs.Numbers.{refusal_number, fault_number}
+use Rattle.sam_threads.specs.Numbers.{fault_number, refusal_number}
 use Rattle.sam_threads.specs.WorkerEnds.{Told, HostStopped, ReaderStopped, TermStopped, ShowsFault, RefusesFrame, IsForeign, IsFullUp, IsPastCount}
 use Rattle.sam_settling.specs.Headline.{Headline}
 use Rattle.sam_settling.specs.Settling.{LinesGive}
 use Rattle.sam_settling.specs.Settled.{counts_left, stop_of, stops_of, IsFull, count_gone, AreFull, HasStreams, HasUsers, IsDrained, IsWhole, MissesHost}
-use Rattle.sam_threads.specs.Types.{Input, User, Stop, Ends}
+use Rattle.sam_threads.specs.declared.input.Input.{Input}
+use Rattle.sam_threads.specs.declared.input.Input.TheVariants.{User}
+use Rattle.sam_threads.specs.declared.stop.Stop.{Stop}
+use Rattle.sam_threads.specs.declared.ends.Ends.{Ends}
 use Rattle.sam_threads.specs.declared.input.Input.TheVariants.{Host}
 use Rattle.sam_threads.specs.declared.stop.Stop.TheVariants as stop
-use Rattle.sam_settling.specs.Types.{Settled}
+use Rattle.sam_settling.specs.declared.settled.Settled.{Settled}
 use Rattle.sam_threads.proofs.RealLaws.{each_of_all}
 use Rattle.sam_settling.proofs.SettlingLists.{Parts, parts_of, senders_within, nothing_joined, split_map, frames_taken, all_taken, all_before_mark, none_left_of_one, none_left_of_three, items_mine}
 

@@ -1,10 +1,10 @@
 -- What settling comes to, by the law of the two sides.
 use Rattle.std.proofs.Common.{◌≡◌, inl, inr, sym, ap, ◌∙◌, subst, ℕ, List, [], Some, None}
-use Rattle.sam_mesg.specs.TerminalKinds.{Tmesg}
-use Rattle.sam_mesg.specs.HostKinds.{HFrame}
+use Rattle.sam_mesg.specs.declared.tmesg.Tmesg.{Tmesg}
+use Rattle.sam_mesg.specs.declared.hmesg.HFrame.{HFrame}
 use Rattle.sam_host.specs.Host.{PlainHost}
 use Rattle.sam_term.specs.Term.{PlainTerminal}
-use Rattle.sam_world.specs.Types.{TermLog}
+use Rattle.sam_world.specs.declared.event.TermLog.{TermLog}
 use Rattle.sam_world.specs.Reached.{IsSoundWorld}
 use Rattle.sam_world.specs.World.{PlainWorld, new_world, run_of, merged}
 use Rattle.sam_settling.specs.Apart.{Apart}
@@ -14,8 +14,10 @@ use Rattle.sam_threads.specs.WorkerEnds.{AreEnds}
 use Rattle.sam_threads.specs.declared.stop.Stop.TheVariants as stop
 use Rattle.sam_settling.specs.Settled.{stops_of, AreFull, HasStreams, HasUsers, IsWhole, MissesHost}
 use Rattle.sam_settling.specs.Settling.{LinesGive, IsSource, IsReplay, ComesTo, world_from}
-use Rattle.sam_threads.specs.Types.{Ends}
-use Rattle.sam_settling.specs.Types.{Settled, Source, Sides, Run}
+use Rattle.sam_threads.specs.declared.ends.Ends.{Ends}
+use Rattle.sam_settling.specs.declared.settled.Settled.{Settled}
+use Rattle.sam_settling.specs.declared.settling.Source.{Source}
+use Rattle.sam_settling.specs.declared.settling.Source.TheVariants.{Sides, Run}
 use Rattle.sam_threads.proofs.ApartTurns.{each_h}
 use Rattle.sam_settling.proofs.ApartLaws.{joins, host_stops_for_a_count, terminal_stops_for_a_count, no_fault_upwards, no_fault_downwards, all_upwards, all_downwards}
 use Rattle.sam_settling.proofs.SettlingClauses.{Laws, apart, no_bad_log, no_stuck_run, headline, has_streams, has_users, are_full, is_whole, misses_host, sides_lead, sides_kept}

@@ -1,11 +1,12 @@
 -- What an audited line says of its posts, and what the line of events carries.
-use Rattle.std.proofs.Common.{◌≡◌, ◌≢◌, ℕ, zero, suc, ◌+◌, ◌^◌, ◌<◌, ◌≤◌, ◌==◌, true, eqb-true, List, [], ◌∷◌, ◌++◌, length, map, filter_map, Option, Some, None, slice_get, Vec, refl, sym, ap, ◌∙◌, subst, append-nil, append_assoc, arith, length-append, Global, sum_by}
+use Rattle.std.proofs.Common.{◌≡◌, ◌≢◌, ℕ, zero, suc, ◌+◌, ◌^◌, ◌<◌, ◌≤◌, ◌==◌, true, eqb-true, List, [], ◌∷◌, ◌++◌, length, map, filter_map, Option, Some, None, slice_get, Vec, refl, sym, ap, ◌∙◌, subst, append-nil, append_assoc, arith, length-append, sum_by}
+use Rattle.std.specs.Global.{Global}
 use Rattle.std.proofs.lemmas.Bool.Decides.{eqb_tells}
 use Rattle.std.proofs.lemmas.List.{nil_from_length}
 use Rattle.std.proofs.lemmas.List.Sums.{sum_by-cons}
-use Rattle.sam_mesg.specs.HostKinds.{HFrame}
-use Rattle.sam_term.specs.Events.{UserEvent}
-use Rattle.sam_queue.specs.Types.{Entry}
+use Rattle.sam_mesg.specs.declared.hmesg.HFrame.{HFrame}
+use Rattle.sam_term.specs.declared.event.UserEvent.{UserEvent}
+use Rattle.sam_queue.specs.declared.rule.Entry.{Entry}
 use Rattle.sam_queue.specs.History.{loads, items_of, has_left, all_of}
 use Rattle.sam_queue.specs.Views.{PostView, TakeView}
 use Rattle.sam_queue.specs.Audits.{AllAccounted, HasHistory}
@@ -16,7 +17,8 @@ use Rattle.sam_world.proofs.Settles.{each_front}
 use Rattle.sam_threads.specs.Inputs.{frames_in, frame_of_load}
 use Rattle.sam_settling.specs.Headline.{Gives}
 use Rattle.sam_settling.specs.Settled.{left_of, left_in}
-use Rattle.sam_threads.specs.Types.{Input, User}
+use Rattle.sam_threads.specs.declared.input.Input.{Input}
+use Rattle.sam_threads.specs.declared.input.Input.TheVariants.{User}
 use Rattle.sam_threads.specs.declared.input.Input.TheVariants.{Host}
 use Rattle.sam_threads.proofs.RealLaws.{each_of_all}
 

@@ -3,7 +3,10 @@ use Rattle.std.proofs.Common.{◌≡◌, sym, ap, ◌∙◌, ℕ, suc, List, ◌
 use Rattle.std.proofs.lemmas.Option.{slice_get_cases}
 use Rattle.sam_world.specs.World.{PlainWorld, new_world, step_of, run_of}
 use Rattle.sam_world.specs.Faults.{IsFaultOf, IsStoppedAt}
-use Rattle.sam_world.specs.Types.{Event, RunStop, StepFault, OutOfMemory}
+use Rattle.sam_world.specs.declared.event.Event.{Event}
+use Rattle.sam_world.specs.declared.event.RunStop.{RunStop}
+use Rattle.sam_world.specs.declared.event.StepFault.{StepFault}
+use Rattle.sam_world.specs.declared.event.StepFault.TheVariants.{OutOfMemory}
 use Rattle.sam_world.proofs.Stopping.{passing_stops}
 
 -- a fault other than want of memory is of an event that is no step

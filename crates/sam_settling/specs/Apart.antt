@@ -1,18 +1,20 @@
 -- What two sides did that worked apart from each other, joined by streams of bytes, and the one run that it is.
 use Rattle.std.specs.Prelude.{◌≡◌, ℕ, false, List, [], ◌∷◌, ◌++◌, Some, Err}
-use Rattle.sam_mesg.specs.Types.{MesgFault}
-use Rattle.sam_mesg.specs.TerminalKinds.{FitsT, Tmesg}
-use Rattle.sam_mesg.specs.HostKinds.{FitsH, HFrame}
+use Rattle.sam_mesg.specs.declared.fault.MesgFault.{MesgFault}
+use Rattle.sam_mesg.specs.TerminalKinds.{FitsT}
+use Rattle.sam_mesg.specs.declared.tmesg.Tmesg.{Tmesg}
+use Rattle.sam_mesg.specs.HostKinds.{FitsH}
+use Rattle.sam_mesg.specs.declared.hmesg.HFrame.{HFrame}
 use Rattle.sam_frame.specs.Direction.{terminal, host, frame_of}
 use Rattle.sam_frame.specs.Stream.{FitInTurn, stream_of, version_after, IsOpen, Shows}
 use Rattle.sam_host.specs.Host.{PlainHost, answer, new_host}
 use Rattle.sam_host.specs.Laws.{AreGiven}
-use Rattle.sam_host.specs.Types.{HostFault}
+use Rattle.sam_host.specs.declared.fault.HostFault.{HostFault}
 use Rattle.sam_host.specs.declared.fault.HostFault.TheVariants as refusal
 use Rattle.sam_term.specs.Term.{PlainTerminal, new_terminal, take_of}
-use Rattle.sam_term.specs.Types.{TermFault}
+use Rattle.sam_term.specs.declared.fault.TermFault.{TermFault}
 use Rattle.sam_term.specs.declared.fault.TermFault.TheVariants as fault
-use Rattle.sam_world.specs.Types.{TermLog}
+use Rattle.sam_world.specs.declared.event.TermLog.{TermLog}
 use Rattle.sam_world.specs.Logs.{logged_users, users}
 use Rattle.sam_threads.specs.RealSides.{sides}
 use Rattle.sam_world.specs.Sides.{Each, HostRuns, TermRuns}

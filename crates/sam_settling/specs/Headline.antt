@@ -5,9 +5,9 @@ use Rattle.std.specs.Prelude.{◌≡◌, List, [], ◌∷◌, ◌++◌, Some, Ve
 use Rattle.std.specs.Global.{Global}
 use Rattle.sam_queue.specs.Views.{PostView, TakeView}
 use Rattle.sam_queue.specs.Audits.{AllAccounted, HasHistory}
-use Rattle.sam_world.specs.Types.{Event}
+use Rattle.sam_world.specs.declared.event.Event.{Event}
 use Rattle.sam_world.specs.World.{PlainWorld, new_world, run_of, IsSettledWhereQuiet}
-use Rattle.sam_threads.specs.Types.{Ends}
+use Rattle.sam_threads.specs.declared.ends.Ends.{Ends}
 use Rattle.sam_settling.specs.declared.settled.Settled.{Settled}
 
 -- one history of all that was put into the line: what was taken and then the rest, of each sender what that one put, in order, and then its

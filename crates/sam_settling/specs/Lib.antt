@@ -2,4 +2,3 @@ pub mod Apart
 pub mod Headline
 pub mod Settled
 pub mod Settling
-pub mod Types

@@ -1,13 +1,13 @@
 -- What settling a session says beside its headline.
 use Rattle.std.specs.Prelude.{◌≡◌, ℕ, ◌+◌, ◌-◌, ◌<◌, ◌≤◌, true, false, List, [], ◌∷◌, ◌++◌, length, map, sum_by, Option, Some, None}
-use Rattle.sam_mesg.specs.TerminalKinds.{Tmesg}
-use Rattle.sam_mesg.specs.HostKinds.{HFrame}
+use Rattle.sam_mesg.specs.declared.tmesg.Tmesg.{Tmesg}
+use Rattle.sam_mesg.specs.declared.hmesg.HFrame.{HFrame}
 use Rattle.sam_frame.specs.Direction.{terminal, host}
 use Rattle.sam_frame.specs.Stream.{stream_of}
 use Rattle.sam_host.specs.Host.{new_host}
 use Rattle.sam_term.specs.Term.{new_terminal}
-use Rattle.sam_term.specs.Events.{UserEvent}
-use Rattle.sam_queue.specs.Types.{Entry}
+use Rattle.sam_term.specs.declared.event.UserEvent.{UserEvent}
+use Rattle.sam_queue.specs.declared.rule.Entry.{Entry}
 use Rattle.sam_queue.specs.History.{items_of, has_left}
 use Rattle.sam_queue.specs.Views.{PostView, TakeView}
 use Rattle.sam_world.specs.Logs.{users}
@@ -17,7 +17,9 @@ use Rattle.sam_world.specs.World.{is_quiet}
 use Rattle.sam_threads.specs.RealSides.{sides}
 use Rattle.sam_threads.specs.Inputs.{bytes_of, users_in}
 use Rattle.sam_threads.specs.WorkerEnds.{IsOwnExit}
-use Rattle.sam_threads.specs.Types.{Input, Stop, Ends}
+use Rattle.sam_threads.specs.declared.input.Input.{Input}
+use Rattle.sam_threads.specs.declared.stop.Stop.{Stop}
+use Rattle.sam_threads.specs.declared.ends.Ends.{Ends}
 use Rattle.sam_threads.specs.declared.input.Input.TheVariants.{Host}
 use Rattle.sam_threads.specs.declared.stop.Stop.TheVariants as stop
 use Rattle.sam_settling.specs.declared.settled.Settled.{Settled}

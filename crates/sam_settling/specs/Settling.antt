@@ -3,11 +3,12 @@ use Rattle.std.specs.Prelude.{◌≡◌, ◌⊎◌, ℕ, ◌^◌, ◌<◌, ◌�
 use Rattle.sam_host.specs.Host.{PlainHost}
 use Rattle.sam_term.specs.Term.{PlainTerminal}
 use Rattle.sam_queue.specs.Views.{LineView, sizes_of}
-use Rattle.sam_world.specs.Types.{TermLog}
+use Rattle.sam_world.specs.declared.event.TermLog.{TermLog}
 use Rattle.sam_world.specs.World.{PlainWorld, new_world, run_of, merged, is_bad_log}
 use Rattle.sam_settling.specs.Headline.{Gives}
 use Rattle.sam_settling.specs.Settled.{counts_left, stops_of}
-use Rattle.sam_threads.specs.Types.{Ends, Stop}
+use Rattle.sam_threads.specs.declared.ends.Ends.{Ends}
+use Rattle.sam_threads.specs.declared.stop.Stop.{Stop}
 use Rattle.sam_settling.specs.declared.settled.Settled.{Settled}
 use Rattle.sam_settling.specs.declared.settling.LineRoom.{LineRoom}
 use Rattle.sam_settling.specs.declared.settling.Prepared.{Prepared}

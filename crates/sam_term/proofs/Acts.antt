@@ -2,12 +2,16 @@
 use Rattle.std.proofs.Common.{◌≡◌, sym, ap, ◌∙◌, ℕ, zero, suc, Bool, true, false, List, [], ◌∷◌, drop, Option, Some, None, Ok, arith, slice_get, not}
 use Rattle.sam_runes.specs.Checks.{Checks, first_of_checks}
 use Rattle.sam_term.specs.Term.{PlainTerminal, act_of, act_on, decided, event_checks, event_outcome, is_open, sends, unchanged}
-use Rattle.sam_term.specs.Events.{needs_open, file_of, lock_of, UserEvent, Select, Cut, Paste, Snarf, View, Flush}
+use Rattle.sam_term.specs.Events.{needs_open, file_of, lock_of}
+use Rattle.sam_term.specs.declared.event.UserEvent.{UserEvent}
+use Rattle.sam_term.specs.declared.event.UserEvent.TheVariants.{Select, Cut, Paste, Snarf, View, Flush}
 use Rattle.sam_term.specs.Taking.{done, not_done}
 use Rattle.sam_term.specs.Acting.{deed_of, first_event, free_first, made_first, is_typing, is_snarfing}
-use Rattle.sam_term.specs.Types.{Sends, Types, Selects, Cuts, Pastes, Snarfs, Views, SetsSnarf, Flushes, Idle, Verdict}
+use Rattle.sam_term.specs.declared.event.Deed.TheVariants.{Sends, Types, Selects, Cuts, Pastes, Snarfs, Views, SetsSnarf, Flushes}
+use Rattle.sam_term.specs.declared.event.Acted.TheVariants.{Idle}
+use Rattle.sam_term.specs.declared.event.Verdict.{Verdict}
 use Rattle.sam_term.specs.Locking.{is_lockable}
-use Rattle.sam_mesg.specs.TerminalKinds.{Tmesg}
+use Rattle.sam_mesg.specs.declared.tmesg.Tmesg.{Tmesg}
 
 first-read : (es : List UserEvent) (e : UserEvent) → slice_get es 0 ≡ Some e → es ≡ e ∷ drop 1 es
 first-read es e u = grind arith

@@ -4,9 +4,11 @@ use Rattle.sam_term.specs.Events.{lock_of}
 use Rattle.sam_term.specs.Locking.{lock_added, is_request}
 use Rattle.sam_term.specs.Term.{PlainTerminal, window_at, put_window, composed, all_composed, flushed, unsent_message, sends, unchanged}
 use Rattle.sam_term.proofs.CountLaws.{counts-flushed, sent-composed}
-use Rattle.sam_term.specs.Types.{Unsent, Window}
+use Rattle.sam_term.specs.declared.records.Unsent.{Unsent}
+use Rattle.sam_term.specs.declared.records.Window.{Window}
 use Rattle.sam_runes.proofs.SlotLaws.{slot-put_same, put_slot-put_slot}
-use Rattle.sam_mesg.specs.TerminalKinds.{Tmesg, Ttype}
+use Rattle.sam_mesg.specs.declared.tmesg.Tmesg.{Tmesg}
+use Rattle.sam_mesg.specs.declared.tmesg.Tmesg.TheVariants.{Ttype}
 
 or-false : (b : Bool) → b ≡ (b || false)
 or-false b = grind arith

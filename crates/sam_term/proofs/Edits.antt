@@ -5,10 +5,16 @@ use Rattle.sam_runes.specs.Texts.{most_count}
 use Rattle.sam_term.specs.Term.{PlainTerminal, Made, event_checks, event_outcome, window_at, is_open, composed, all_composed, lock_taken, asked, flushed, unsent_message, sends, unchanged, has_bad_place, made_by_snarf, made_by_cut, made_by_paste, made_by_view, wanted, cuts_dot, cut_rasp, put_window, moved_unsent}
 use Rattle.sam_term.specs.Taking.{done, countable, IsFailure}
 use Rattle.sam_term.specs.Acting.{first_event, free_first, made_first, is_snarfing}
-use Rattle.sam_term.specs.Types.{Lock, Acted, Done, TermFault, Window}
-use Rattle.sam_term.specs.Events.{UserEvent, Select, Cut, Paste, Snarf, View, SetSnarf}
+use Rattle.sam_term.specs.declared.lock.Lock.{Lock}
+use Rattle.sam_term.specs.declared.event.Acted.{Acted}
+use Rattle.sam_term.specs.declared.event.Acted.TheVariants.{Done}
+use Rattle.sam_term.specs.declared.fault.TermFault.{TermFault}
+use Rattle.sam_term.specs.declared.records.Window.{Window}
+use Rattle.sam_term.specs.declared.event.UserEvent.{UserEvent}
+use Rattle.sam_term.specs.declared.event.UserEvent.TheVariants.{Select, Cut, Paste, Snarf, View, SetSnarf}
 use Rattle.sam_term.specs.declared.fault.TermFault.TheVariants as fault
-use Rattle.sam_mesg.specs.TerminalKinds.{Tmesg, Tcut, Tpaste, Tsnarf, Tsetsnarf}
+use Rattle.sam_mesg.specs.declared.tmesg.Tmesg.{Tmesg}
+use Rattle.sam_mesg.specs.declared.tmesg.Tmesg.TheVariants.{Tcut, Tpaste, Tsnarf, Tsetsnarf}
 use Rattle.sam_term.proofs.Acts.{made_of}
 use Rattle.sam_term.proofs.Sounds.{loud_done, full_done, is_done}
 use Rattle.sam_term.proofs.Composes.{flushed-none}

@@ -6,7 +6,8 @@ use Rattle.sam_runes.proofs.SlotLaws.{slot-put_same, slot-put_other, slot-free_s
 use Rattle.sam_term.specs.Term.{PlainTerminal, window_at, known_at, put_known, is_open, freed_known, unsent_without}
 use Rattle.sam_term.specs.Windows.{window_in, known_in, blank_window}
 use Rattle.sam_term.specs.Sound.{IsSound, FitsWindow, FitsUnsent, IsShort}
-use Rattle.sam_term.specs.Types.{KnownFile, Unsent}
+use Rattle.sam_term.specs.declared.records.KnownFile.{KnownFile}
+use Rattle.sam_term.specs.declared.records.Unsent.{Unsent}
 
 -- a file that is not open shows a blank window
 pub blank_where_shut : (ss : Slots KnownFile) (f : ℕ) → is_some (known_in ss f).window ≡ false → window_in ss f ≡ blank_window

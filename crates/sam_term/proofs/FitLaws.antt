@@ -3,13 +3,17 @@ use Rattle.std.proofs.Common.{◌≡◌, ◌≤◌, ◌++◌, refl, sym, ap, ◌
 use Rattle.sam_runes.specs.Texts.{is_empty, most_in_message}
 use Rattle.sam_runes.specs.Checks.{first_of_checks}
 use Rattle.sam_rasp.specs.Rasp.{place_after_ins, place_after_del, hole_within}
-use Rattle.sam_term.specs.Types.{Lock, Unsent}
-use Rattle.sam_term.specs.Events.{is_command_line, file_of, UserEvent, Typed, Select, Cut, Paste, Snarf, View, SetSnarf, Flush}
+use Rattle.sam_term.specs.declared.lock.Lock.{Lock}
+use Rattle.sam_term.specs.declared.records.Unsent.{Unsent}
+use Rattle.sam_term.specs.Events.{is_command_line, file_of}
+use Rattle.sam_term.specs.declared.event.UserEvent.{UserEvent}
+use Rattle.sam_term.specs.declared.event.UserEvent.TheVariants.{Typed, Select, Cut, Paste, Snarf, View, SetSnarf, Flush}
 use Rattle.sam_term.specs.Fitting.{all_fit}
 use Rattle.sam_term.specs.Sound.{IsSound, IsShort}
 use Rattle.sam_term.specs.Term.{PlainTerminal, Made, window_at, cut_rasp, lock_taken, asked, composed, all_composed, flushed, unsent_message, and_then, sends, sends_if, unchanged, requested, request_for, view_end, joins, joined, kept_unsent, typed_rasp, types, cuts_dot, event_outcome, made_by_type, made_by_cut, made_by_paste, made_by_snarf, made_by_view, frame_outcome, moved_unsent, event_checks, has_long_text, took_unlockfile}
-use Rattle.sam_mesg.specs.TerminalKinds.{Tmesg, Tpaste}
-use Rattle.sam_mesg.specs.HostKinds.{Hmesg}
+use Rattle.sam_mesg.specs.declared.tmesg.Tmesg.{Tmesg}
+use Rattle.sam_mesg.specs.declared.tmesg.Tmesg.TheVariants.{Tpaste}
+use Rattle.sam_mesg.specs.declared.hmesg.Hmesg.{Hmesg}
 use Rattle.sam_term.proofs.Acts.{none_holds, test_at}
 use Rattle.sam_term.proofs.Grows.{moved_short}
 

@@ -7,7 +7,8 @@ use Rattle.sam_rasp.specs.Rasp.{PartialText, ins_cells, del_cells, load_cells, p
 use Rattle.sam_term.specs.Term.{PlainTerminal, window_at, is_open, put_window, window_after_ins, window_after_del, moved_unsent, ins_rasp, del_rasp}
 use Rattle.sam_term.specs.Windows.{known_in}
 use Rattle.sam_term.specs.Sound.{IsSound, FitsWindow, FitsUnsent, IsShort}
-use Rattle.sam_term.specs.Types.{Window, Unsent}
+use Rattle.sam_term.specs.declared.records.Window.{Window}
+use Rattle.sam_term.specs.declared.records.Unsent.{Unsent}
 use Rattle.sam_term.proofs.Sounds.{window-put, sound-put}
 use Rattle.sam_term.proofs.SlotSteps.{put_again}
 

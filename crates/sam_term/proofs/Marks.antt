@@ -3,7 +3,8 @@ use Rattle.std.proofs.Common.{◌≡◌, sym, ap, ◌∙◌, ℕ, true, Some, is
 use Rattle.sam_runes.proofs.SlotLaws.{slot-put_same, put_slot-put_slot}
 use Rattle.sam_term.specs.Term.{PlainTerminal, known_at, window_at, is_open, put_known, put_window, edited}
 use Rattle.sam_term.specs.Windows.{blank_known, blank_window}
-use Rattle.sam_term.specs.Types.{Window, KnownFile}
+use Rattle.sam_term.specs.declared.records.Window.{Window}
+use Rattle.sam_term.specs.declared.records.KnownFile.{KnownFile}
 
 edited-known : (t : PlainTerminal) (f : ℕ) → known_at (edited t f) f ≡ record (known_at t f) { changed = true }
 edited-known t f = ap (λ s. unwrap_or s blank_known) (slot-put_same t.files f (record (known_at t f) { changed = true }))

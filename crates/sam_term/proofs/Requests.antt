@@ -5,8 +5,8 @@ use Rattle.sam_runes.proofs.SlotLaws.{slot-put_same}
 use Rattle.sam_term.specs.Events.{lock_of}
 use Rattle.sam_term.specs.Locking.{is_lockable}
 use Rattle.sam_term.specs.Term.{PlainTerminal, put_window, is_open, wanted, request_for, view_end, took_unlockfile, sends_if, sends, requested, unchanged, window_of}
-use Rattle.sam_term.specs.Types.{Window}
-use Rattle.sam_mesg.specs.TerminalKinds.{Tmesg}
+use Rattle.sam_term.specs.declared.records.Window.{Window}
+use Rattle.sam_mesg.specs.declared.tmesg.Tmesg.{Tmesg}
 use Rattle.sam_term.specs.Editing.{shown_from}
 use Rattle.sam_term.proofs.Composes.{window-put_same}
 use Rattle.sam_term.proofs.SlotSteps.{put_again}

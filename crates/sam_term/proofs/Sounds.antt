@@ -1,12 +1,15 @@
 -- A terminal stays sound.
 use Rattle.std.proofs.Common.{◌≡◌, refl, ℕ, ◌≤◌, false, List, length, Some, None, ◌⊎◌, ◌≢◌, arith, Result, IfOk, IfErr, OnErr, IsOk, nat_lt, Ok, Err, [], ◌<◌, ◌+◌, le-ltb}
 use Rattle.sam_term.specs.Term.{PlainTerminal, window_at, put_window, Made, take_of, frame_outcome}
-use Rattle.sam_term.specs.Types.{Done, TermFault, Window}
+use Rattle.sam_term.specs.declared.event.Acted.TheVariants.{Done}
+use Rattle.sam_term.specs.declared.fault.TermFault.{TermFault}
+use Rattle.sam_term.specs.declared.records.Window.{Window}
 use Rattle.sam_term.specs.Taking.{done, countable, frame_fault, IsAnswer, IsFailure}
-use Rattle.sam_mesg.specs.HostKinds.{Hmesg, HFrame}
+use Rattle.sam_mesg.specs.declared.hmesg.Hmesg.{Hmesg}
+use Rattle.sam_mesg.specs.declared.hmesg.HFrame.{HFrame}
 use Rattle.sam_term.specs.declared.fault.TermFault.TheVariants as fault
 use Rattle.sam_runes.specs.Texts.{most_count}
-use Rattle.sam_mesg.specs.TerminalKinds.{Tmesg}
+use Rattle.sam_mesg.specs.declared.tmesg.Tmesg.{Tmesg}
 use Rattle.sam_term.specs.Sound.{IsSound, FitsWindow, FitsUnsent, IsShort}
 use Rattle.sam_runes.proofs.SlotLaws.{slot-put_same, slot-put_other}
 

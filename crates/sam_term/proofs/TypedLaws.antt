@@ -4,7 +4,7 @@ use Rattle.std.proofs.lemmas.List.{length-map}
 use Rattle.sam_rasp.specs.Rasp.{PartialText, ins_cells, del_cells}
 use Rattle.sam_term.specs.Term.{window_after_ins, window_after_del}
 use Rattle.sam_term.specs.Editing.{typed_over}
-use Rattle.sam_term.specs.Types.{Window}
+use Rattle.sam_term.specs.declared.records.Window.{Window}
 use Rattle.sam_runes.specs.Texts.{max_runes}
 use Rattle.sam_term.specs.Term.{PlainTerminal, window_at, put_window}
 use Rattle.sam_term.specs.Sound.{IsSound, FitsWindow, FitsUnsent, IsShort}

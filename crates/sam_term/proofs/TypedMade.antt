@@ -4,14 +4,19 @@ use Rattle.std.proofs.Common.{◌≡◌, refl, ap, ℕ, ◌≤◌, ◌<◌, ◌+
 use Rattle.std.proofs.lemmas.List.{length-map}
 use Rattle.sam_runes.specs.Texts.{is_empty, max_runes, most_count, most_in_message}
 use Rattle.sam_term.specs.Term.{PlainTerminal, Made, window_at, put_window, window_after_del, edited, cut_rasp, ins_rasp, set_dot_of, all_composed, flushed, unsent_message, and_then, joins, joined, typed_rasp, types, cuts_dot, event_outcome, made_by_type}
-use Rattle.sam_term.specs.Events.{is_command_line, UserEvent, Typed}
+use Rattle.sam_term.specs.Events.{is_command_line}
+use Rattle.sam_term.specs.declared.event.UserEvent.{UserEvent}
+use Rattle.sam_term.specs.declared.event.UserEvent.TheVariants.{Typed}
 use Rattle.sam_term.specs.Editing.{typed_over, joined_at, lengthened, shortened, typed_file, typed_runes, cut_message, one_if, flushed_if}
 use Rattle.sam_term.specs.Sound.{IsSound, FitsUnsent, IsShort}
 use Rattle.sam_term.specs.Acting.{first_event, free_first, made_first, is_typing}
 use Rattle.sam_term.specs.Taking.{done, IsFailure}
-use Rattle.sam_term.specs.Types.{Window, Unsent, TermFault}
+use Rattle.sam_term.specs.declared.records.Window.{Window}
+use Rattle.sam_term.specs.declared.records.Unsent.{Unsent}
+use Rattle.sam_term.specs.declared.fault.TermFault.{TermFault}
 use Rattle.sam_term.specs.declared.fault.TermFault.TheVariants as fault
-use Rattle.sam_mesg.specs.TerminalKinds.{Tmesg, Tcut}
+use Rattle.sam_mesg.specs.declared.tmesg.Tmesg.{Tmesg}
+use Rattle.sam_mesg.specs.declared.tmesg.Tmesg.TheVariants.{Tcut}
 use Rattle.sam_term.proofs.Acts.{passes, test_at, made_of}
 use Rattle.sam_term.proofs.TypedLaws.{typed-cut, sound-typed}
 use Rattle.std.proofs.Math.Seq.{take-append_seam}

@@ -2,10 +2,13 @@
 use Rattle.std.proofs.lemmas.Grind.{common_steps}
 use Rattle.std.proofs.Common.{◌≡◌, sym, ap, ◌∙◌, subst, ℕ, ◌≤◌, Bool, true, false, List, [], ◌∷◌, ◌++◌, length, map, Option, Some, None, if◌then◌else◌, arith, rules, append-nil, append_assoc}
 use Rattle.sam_rasp.specs.Rasp.{place_after_ins}
-use Rattle.sam_mesg.specs.TerminalKinds.{Tmesg, Tsnarf, Tcut, Tack}
-use Rattle.sam_mesg.specs.HostKinds.{Hcheck, Hunlockfile, Hack}
-use Rattle.sam_term.specs.Events.{is_command_line, UserEvent, Typed, Select, Cut, Paste, Snarf, View, Flush}
-use Rattle.sam_term.specs.Types.{Unsent}
+use Rattle.sam_mesg.specs.declared.tmesg.Tmesg.{Tmesg}
+use Rattle.sam_mesg.specs.declared.tmesg.Tmesg.TheVariants.{Tsnarf, Tcut, Tack}
+use Rattle.sam_mesg.specs.declared.hmesg.Hmesg.TheVariants.{Hcheck, Hunlockfile, Hack}
+use Rattle.sam_term.specs.Events.{is_command_line}
+use Rattle.sam_term.specs.declared.event.UserEvent.{UserEvent}
+use Rattle.sam_term.specs.declared.event.UserEvent.TheVariants.{Typed, Select, Cut, Paste, Snarf, View, Flush}
+use Rattle.sam_term.specs.declared.records.Unsent.{Unsent}
 use Rattle.sam_term.specs.Term.{PlainTerminal, Made, and_then, unsent_message, flushed, sends, sends_if, unchanged, wanted, requested, joined, moved_unsent, kept_unsent, typed_rasp, types, cuts_dot, has_empty_dot, window_at, put_window, cut_rasp, made_by_type, made_by_cut, made_by_paste, made_by_snarf, made_by_view, event_outcome, took_unlockfile}
 use Rattle.sam_term.specs.Unsent.{SendsFirst, EventsSendFirst, FramesSendFirst}
 

@@ -3,9 +3,11 @@ use Rattle.std.specs.Prelude.{ℕ, ◌+◌, ◌-◌, ◌++◌, ◌∷◌, ◌==�
 use Rattle.sam_rasp.specs.Rasp.{place_after_ins, place_after_del}
 use Rattle.sam_term.specs.declared.records.Window.{Window}
 use Rattle.sam_term.specs.declared.records.Unsent.{Unsent}
-use Rattle.sam_term.specs.Events.{UserEvent, Typed}
+use Rattle.sam_term.specs.declared.event.UserEvent.{UserEvent}
+use Rattle.sam_term.specs.declared.event.UserEvent.TheVariants.{Typed}
 use Rattle.sam_term.specs.Term.{PlainTerminal, Made, window_at, put_window, flushed, joined}
-use Rattle.sam_mesg.specs.TerminalKinds.{Tmesg, Tcut}
+use Rattle.sam_mesg.specs.declared.tmesg.Tmesg.{Tmesg}
+use Rattle.sam_mesg.specs.declared.tmesg.Tmesg.TheVariants.{Tcut}
 
 -- a file is shown from p on, n places where it has so many
 abbrev pub shown_from : PlainTerminal → ℕ → ℕ → ℕ → PlainTerminal

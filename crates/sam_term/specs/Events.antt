@@ -3,10 +3,12 @@
 use Rattle.std.specs.Prelude.{[], ◌∷◌, ◌++◌, ℕ, Bool, true, false, ◌&&◌, if◌then◌else◌, ◌==◌, List, Option, Some, None}
 use Rattle.sam_runes.specs.Texts.{ends_line}
 use Rattle.sam_runes.specs.Slots.{Slots}
-use Rattle.sam_mesg.specs.TerminalKinds.{Tmesg, Tversion, Tstartcmdfile, Tcheck, Trequest, Torigin, Tstartfile, Tworkfile, Ttype, Tcut, Tpaste, Tsnarf, Tstartnewfile, Twrite, Tclose, Tlook, Tsearch, Tsend, Tdclick, Tstartsnarf, Tsetsnarf, Tack, Texit}
-use Rattle.sam_mesg.specs.HostKinds.{Hmesg, Hunlock, Hunlockfile, Hexit}
-pub use Rattle.sam_term.specs.declared.event.UserEvent.{UserEvent}
-pub use Rattle.sam_term.specs.declared.event.UserEvent.TheVariants.{Typed, Select, Cut, Paste, Snarf, Look, Search, Send, Dclick, Scroll, View, Open, Close, Write, Work, OpenCmd, New, Exit, Check, GetSnarf, SetSnarf, Version, Flush}
+use Rattle.sam_mesg.specs.declared.tmesg.Tmesg.{Tmesg}
+use Rattle.sam_mesg.specs.declared.tmesg.Tmesg.TheVariants.{Tversion, Tstartcmdfile, Tcheck, Trequest, Torigin, Tstartfile, Tworkfile, Ttype, Tcut, Tpaste, Tsnarf, Tstartnewfile, Twrite, Tclose, Tlook, Tsearch, Tsend, Tdclick, Tstartsnarf, Tsetsnarf, Tack, Texit}
+use Rattle.sam_mesg.specs.declared.hmesg.Hmesg.{Hmesg}
+use Rattle.sam_mesg.specs.declared.hmesg.Hmesg.TheVariants.{Hunlock, Hunlockfile, Hexit}
+use Rattle.sam_term.specs.declared.event.UserEvent.{UserEvent}
+use Rattle.sam_term.specs.declared.event.UserEvent.TheVariants.{Typed, Select, Cut, Paste, Snarf, Look, Search, Send, Dclick, Scroll, View, Open, Close, Write, Work, OpenCmd, New, Exit, Check, GetSnarf, SetSnarf, Version, Flush}
 use Rattle.sam_term.specs.declared.lock.Lock.{Lock}
 use Rattle.sam_term.specs.declared.lock.Lock.TheVariants.{NoLock, CommandLock, FileLock}
 use Rattle.sam_term.specs.declared.records.KnownFile.{KnownFile}

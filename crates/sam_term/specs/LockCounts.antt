@@ -3,8 +3,10 @@ use Rattle.std.specs.Prelude.{ℕ, ◌+◌, ◌-◌, Bool, true, false, ◌||◌
 use Rattle.sam_term.specs.declared.lock.Lock.{Lock}
 use Rattle.sam_term.specs.declared.lock.Lock.TheVariants.{NoLock, CommandLock, FileLock}
 use Rattle.sam_term.specs.Events.{lock_of}
-use Rattle.sam_mesg.specs.TerminalKinds.{Tmesg, Trequest}
-use Rattle.sam_mesg.specs.HostKinds.{Hmesg, Hbindname, Hnewname, Hunlock, Hdata, Hunlockfile, Hdelname, Hclose, Hexit}
+use Rattle.sam_mesg.specs.declared.tmesg.Tmesg.{Tmesg}
+use Rattle.sam_mesg.specs.declared.tmesg.Tmesg.TheVariants.{Trequest}
+use Rattle.sam_mesg.specs.declared.hmesg.Hmesg.{Hmesg}
+use Rattle.sam_mesg.specs.declared.hmesg.Hmesg.TheVariants.{Hbindname, Hnewname, Hunlock, Hdata, Hunlockfile, Hdelname, Hclose, Hexit}
 
 -- ## What messages take
 

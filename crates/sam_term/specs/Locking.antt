@@ -3,7 +3,8 @@ use Rattle.std.specs.Prelude.{Bool, true, false, ◌+◌, ◌||◌}
 use Rattle.sam_term.specs.declared.lock.Lock.{Lock}
 use Rattle.sam_term.specs.declared.lock.Lock.TheVariants.{NoLock, CommandLock, FileLock}
 use Rattle.sam_term.specs.Term.{PlainTerminal, is_open, window_at, put_window}
-use Rattle.sam_mesg.specs.TerminalKinds.{Tmesg, Trequest}
+use Rattle.sam_mesg.specs.declared.tmesg.Tmesg.{Tmesg}
+use Rattle.sam_mesg.specs.declared.tmesg.Tmesg.TheVariants.{Trequest}
 
 -- the lock can be taken: a lock of a file needs the file open
 abbrev pub is_lockable : PlainTerminal → Lock → Bool

@@ -7,9 +7,14 @@ use Rattle.sam_rasp.specs.Rasp.{PartialText, ins_cells, del_cells, load_cells, h
 use Rattle.sam_term.specs.declared.lock.Lock.{Lock}
 use Rattle.sam_term.specs.declared.lock.Lock.TheVariants.{NoLock, CommandLock, FileLock}
 use Rattle.sam_term.specs.Windows.{blank_window, blank_known, known_in}
-use Rattle.sam_term.specs.Events.{file_of, is_command_line, waits_for_all, is_bad_version, is_for_command_file, needs_open, message_of, lock_of, UserEvent, Typed, Select, Cut, Paste, Snarf, Dclick, View, SetSnarf}
-use Rattle.sam_mesg.specs.TerminalKinds.{Tmesg, Trequest, Ttype, Tcut, Tpaste, Tsnarf, Tsetsnarf, Tack}
-use Rattle.sam_mesg.specs.HostKinds.{Hmesg, Hversion, Hbindname, Hcurrent, Hnewname, Hmovname, Hgrow, Hcheck, Hunlock, Hdata, Horigin, Hunlockfile, Hsetdot, Hgrowdata, Hmoveto, Hclean, Hdirty, Hcut, Hsetpat, Hdelname, Hclose, Hsetsnarf, Hsnarflen, Hack, Hexit, HFrame}
+use Rattle.sam_term.specs.Events.{file_of, is_command_line, waits_for_all, is_bad_version, is_for_command_file, needs_open, message_of, lock_of}
+use Rattle.sam_term.specs.declared.event.UserEvent.{UserEvent}
+use Rattle.sam_term.specs.declared.event.UserEvent.TheVariants.{Typed, Select, Cut, Paste, Snarf, Dclick, View, SetSnarf}
+use Rattle.sam_mesg.specs.declared.tmesg.Tmesg.{Tmesg}
+use Rattle.sam_mesg.specs.declared.tmesg.Tmesg.TheVariants.{Trequest, Ttype, Tcut, Tpaste, Tsnarf, Tsetsnarf, Tack}
+use Rattle.sam_mesg.specs.declared.hmesg.Hmesg.{Hmesg}
+use Rattle.sam_mesg.specs.declared.hmesg.Hmesg.TheVariants.{Hversion, Hbindname, Hcurrent, Hnewname, Hmovname, Hgrow, Hcheck, Hunlock, Hdata, Horigin, Hunlockfile, Hsetdot, Hgrowdata, Hmoveto, Hclean, Hdirty, Hcut, Hsetpat, Hdelname, Hclose, Hsetsnarf, Hsnarflen, Hack, Hexit}
+use Rattle.sam_mesg.specs.declared.hmesg.HFrame.{HFrame}
 use Rattle.sam_term.specs.declared.records.Window.{Window}
 use Rattle.sam_term.specs.declared.records.KnownFile.{KnownFile}
 use Rattle.sam_term.specs.declared.records.Unsent.{Unsent}

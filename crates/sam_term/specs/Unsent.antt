@@ -1,8 +1,9 @@
 -- The unsent runes go first.
 use Rattle.std.specs.Prelude.{◌≡◌, ℕ, List, [], ◌∷◌, ◌++◌, Option, Some, None}
-use Rattle.sam_mesg.specs.TerminalKinds.{Tmesg, Ttype}
-use Rattle.sam_mesg.specs.HostKinds.{Hmesg}
-use Rattle.sam_term.specs.Events.{UserEvent}
+use Rattle.sam_mesg.specs.declared.tmesg.Tmesg.{Tmesg}
+use Rattle.sam_mesg.specs.declared.tmesg.Tmesg.TheVariants.{Ttype}
+use Rattle.sam_mesg.specs.declared.hmesg.Hmesg.{Hmesg}
+use Rattle.sam_term.specs.declared.event.UserEvent.{UserEvent}
 use Rattle.sam_term.specs.declared.records.Unsent.{Unsent}
 use Rattle.sam_term.specs.Term.{PlainTerminal, event_outcome, frame_outcome}
 

@@ -2,7 +2,8 @@
 use Rattle.std.proofs.Common.{◌≡◌, ℕ, ◌≤◌, List, length, Option, Some, None, Result, sym, subst, ap, arith, IfOk, IfSome, unwrap_or, option_map, option_and_then}
 use Rattle.sam_runes.specs.Texts.{most_in_name}
 use Rattle.sam_runes.specs.Slots.{slot}
-use Rattle.sam_text.specs.Types.{Word, Command}
+use Rattle.sam_text.specs.declared.word.Word.{Word}
+use Rattle.sam_text.specs.declared.command.Command.{Command}
 use Rattle.sam_text.specs.declared.command.Command.TheVariants as command
 use Rattle.sam_text.specs.Reading.{◌>>=◌, command_of}
 use Rattle.sam_text.specs.Files.{PlainFile, PlainFiles, PlainOutcome, blank_file, file_at, file_after, IsFit, IsPattern, IsWork, IsOutcomeFor, IsOutcomeOf, AreSoundFiles}

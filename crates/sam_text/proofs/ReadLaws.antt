@@ -2,7 +2,12 @@
 use Rattle.std.proofs.Common.{◌≡◌, ℕ, zero, suc, ◌+◌, ◌≤◌, List, [], ◌∷◌, length, Bool, true, false, cond, ◌||◌, ◌==◌, Option, Some, None, Result, Ok, Err, option_map, nat_lt, refl, arith, IfOk, IfSome, ltb-false}
 use Rattle.std.specs.Prelude.{⊤}
 use Rattle.sam_runes.specs.Texts.{most_in_name, most_in_pattern}
-use Rattle.sam_text.specs.Types.{Word, Side, Address, Step, Last, Command}
+use Rattle.sam_text.specs.declared.word.Word.{Word}
+use Rattle.sam_text.specs.declared.command.Side.{Side}
+use Rattle.sam_text.specs.declared.command.Address.{Address}
+use Rattle.sam_text.specs.declared.command.Step.{Step}
+use Rattle.sam_text.specs.declared.command.Last.{Last}
+use Rattle.sam_text.specs.declared.command.Command.{Command}
 use Rattle.sam_text.specs.declared.word.Word.TheVariants as word
 use Rattle.sam_text.specs.declared.command.Address.TheVariants as address
 use Rattle.sam_text.specs.declared.command.Command.TheVariants as command

@@ -1,7 +1,10 @@
 -- Messages that fit at their place of a stream, where they fit at all.
 use Rattle.std.proofs.Common.{◌≡◌, ℕ, true, List, [], ◌∷◌, ◌++◌, arith}
-use Rattle.sam_mesg.specs.TerminalKinds.{fits_t, FitsT, after_t, Tmesg, Tsetsnarf}
-use Rattle.sam_mesg.specs.HostKinds.{FitsH, after_h, HFrame}
+use Rattle.sam_mesg.specs.TerminalKinds.{fits_t, FitsT, after_t}
+use Rattle.sam_mesg.specs.declared.tmesg.Tmesg.{Tmesg}
+use Rattle.sam_mesg.specs.declared.tmesg.Tmesg.TheVariants.{Tsetsnarf}
+use Rattle.sam_mesg.specs.HostKinds.{FitsH, after_h}
+use Rattle.sam_mesg.specs.declared.hmesg.HFrame.{HFrame}
 use Rattle.sam_mesg.proofs.Versions.{grows_t, grows_h}
 use Rattle.sam_frame.specs.Direction.{Direction, terminal, host}
 use Rattle.sam_frame.specs.Stream.{FitInTurn, version_after}

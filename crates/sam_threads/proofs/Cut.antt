@@ -1,5 +1,6 @@
 -- Bytes put piece by piece.
-use Rattle.std.proofs.Common.{◌≡◌, ◌∙◌, ℕ, List, [], ◌∷◌, ◌++◌, ap, append-nil, arith, Vec}
+use Rattle.std.proofs.Common.{◌≡◌, ◌∙◌, ℕ, List, [], ◌∷◌, ◌++◌, ap, append-nil, arith}
+use Rattle.std.specs.Global.{Vec}
 use Rattle.std.proofs.lemmas.List.Concat.{flat_map-append}
 use Rattle.sam_queue.specs.Views.{PostView}
 use Rattle.sam_threads.specs.Inputs.{bytes_of}

@@ -1,18 +1,22 @@
 -- What a terminal composes for frames, and what stops it.
 use Rattle.std.proofs.Common.{◌≡◌, ℕ, ◌≤◌, inl, inr, List, [], ◌∷◌, ◌++◌, length, Option, None, Some, Ok, Bool, true, false, if◌then◌else◌, append-nil, append_assoc, length-append, arith, All, IsTrue}
 use Rattle.std.proofs.lemmas.List.Elements.{All-nil}
-use Rattle.sam_mesg.specs.TerminalKinds.{Tmesg, Tack}
-use Rattle.sam_mesg.specs.Types.{MesgFault}
-use Rattle.sam_mesg.specs.HostKinds.{fits_h, Hmesg, HFrame}
+use Rattle.sam_mesg.specs.declared.tmesg.Tmesg.{Tmesg}
+use Rattle.sam_mesg.specs.declared.tmesg.Tmesg.TheVariants.{Tack}
+use Rattle.sam_mesg.specs.declared.fault.MesgFault.{MesgFault}
+use Rattle.sam_mesg.specs.HostKinds.{fits_h}
+use Rattle.sam_mesg.specs.declared.hmesg.Hmesg.{Hmesg}
+use Rattle.sam_mesg.specs.declared.hmesg.HFrame.{HFrame}
 use Rattle.sam_frame.specs.Direction.{host}
 use Rattle.sam_frame.specs.Stream.{FitInTurn}
 use Rattle.sam_frame.specs.Framing.{Held}
 use Rattle.sam_term.specs.Term.{PlainTerminal, Made, flushed, unsent_message, sends, sends_if, unchanged, requested, wanted, frame_outcome, made_unless, take_of}
-use Rattle.sam_term.specs.Types.{Unsent, TermFault}
+use Rattle.sam_term.specs.declared.records.Unsent.{Unsent}
+use Rattle.sam_term.specs.declared.fault.TermFault.{TermFault}
 use Rattle.sam_term.specs.declared.fault.TermFault.TheVariants as fault
 use Rattle.sam_threads.specs.Feeding.{TakesAll, Gives, FeedsTerminal, StopsAt, TakesOne, TakesUpTo}
 use Rattle.sam_threads.specs.Numbers.{frame_number}
-use Rattle.sam_threads.specs.Types.{Stop}
+use Rattle.sam_threads.specs.declared.stop.Stop.{Stop}
 use Rattle.sam_threads.specs.declared.stop.Stop.TheVariants as stop
 
 -- ---- what fits at its place fits in version 2

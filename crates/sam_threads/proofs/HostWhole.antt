@@ -1,15 +1,16 @@
 -- All that the host's worker takes.
-use Rattle.std.proofs.Common.{◌≡◌, ◌∙◌, ℕ, ◌+◌, ◌≤◌, List, [], ◌++◌, length, All, Option, Some, None, Ok, refl, ap, subst, append_assoc, append-nil, length-append, arith, Vec}
+use Rattle.std.proofs.Common.{◌≡◌, ◌∙◌, ℕ, ◌+◌, ◌≤◌, List, [], ◌++◌, length, All, Option, Some, None, Ok, refl, ap, subst, append_assoc, append-nil, length-append, arith}
+use Rattle.std.specs.Global.{Vec}
 use Rattle.sam_runes.specs.Texts.{most_files}
-use Rattle.sam_mesg.specs.TerminalKinds.{Tmesg}
-use Rattle.sam_mesg.specs.HostKinds.{HFrame}
+use Rattle.sam_mesg.specs.declared.tmesg.Tmesg.{Tmesg}
+use Rattle.sam_mesg.specs.declared.hmesg.HFrame.{HFrame}
 use Rattle.sam_frame.specs.Direction.{terminal, host, frame_of}
 use Rattle.sam_frame.specs.Stream.{Splits, stream_of}
 use Rattle.sam_frame.specs.Framing.{Held, fresh}
 use Rattle.sam_frame.proofs.Fronts.{version_after-append}
 use Rattle.sam_frame.proofs.Cuttings.{Came, comes_more, splits_more}
 use Rattle.sam_host.specs.Host.{PlainHost, new_host}
-use Rattle.sam_queue.specs.Types.{Entry}
+use Rattle.sam_queue.specs.declared.rule.Entry.{Entry}
 use Rattle.sam_queue.specs.History.{items_of, IsEnded}
 use Rattle.sam_queue.specs.Views.{LineView, PostView, TakeView, TakesNext, new_post, closed_post}
 use Rattle.sam_queue.proofs.Laws.{items_of_item}
@@ -18,7 +19,8 @@ use Rattle.sam_world.specs.Given.{IsFile}
 use Rattle.sam_threads.specs.Inputs.{bytes_of}
 use Rattle.sam_threads.specs.WorkerEnds.{HostStopped, HostTold}
 use Rattle.sam_threads.specs.Handling.{Handled, HandledFront, TakesPiece, Serves, Ends}
-use Rattle.sam_threads.specs.Types.{Stop, HostEnd}
+use Rattle.sam_threads.specs.declared.stop.Stop.{Stop}
+use Rattle.sam_threads.specs.declared.ends.HostEnd.{HostEnd}
 use Rattle.sam_threads.specs.declared.stop.Stop.TheVariants as stop
 use Rattle.sam_threads.proofs.Cut.{bytes_append, bytes_snoc}
 use Rattle.sam_threads.proofs.HostSide.{handled_nothing, handled_on}

@@ -1,15 +1,16 @@
 -- Where the host reader stands between two pieces.
-use Rattle.std.proofs.Common.{◌≡◌, ◌∙◌, ℕ, ◌+◌, ◌^◌, ◌≤◌, inl, inr, List, [], ◌∷◌, ◌++◌, length, Option, None, Some, Bool, ap, subst, append-nil, append_assoc, length-append, arith, Vec}
+use Rattle.std.proofs.Common.{◌≡◌, ◌∙◌, ℕ, ◌+◌, ◌^◌, ◌≤◌, inl, inr, List, [], ◌∷◌, ◌++◌, length, Option, None, Some, Bool, ap, subst, append-nil, append_assoc, length-append, arith}
+use Rattle.std.specs.Global.{Vec}
 use Rattle.std.proofs.lemmas.List.{map-append}
 use Rattle.std.proofs.lemmas.List.Concat.{flat_map-append}
-use Rattle.sam_mesg.specs.HostKinds.{HFrame}
-use Rattle.sam_mesg.specs.Types.{MesgFault}
+use Rattle.sam_mesg.specs.declared.hmesg.HFrame.{HFrame}
+use Rattle.sam_mesg.specs.declared.fault.MesgFault.{MesgFault}
 use Rattle.sam_frame.specs.Direction.{Direction, host}
 use Rattle.sam_frame.specs.Stream.{FitInTurn, Splits, version_after, stream_of}
 use Rattle.sam_frame.specs.Framing.{Held, GaveAll, GaveUp, fresh}
 use Rattle.sam_frame.proofs.Fronts.{version_after-append, stream_of-append}
 use Rattle.sam_frame.proofs.Cuttings.{Came, splits_more, comes_more}
-use Rattle.sam_queue.specs.Types.{Entry}
+use Rattle.sam_queue.specs.declared.rule.Entry.{Entry}
 use Rattle.sam_queue.specs.History.{items_of, IsEnded, StartsWith}
 use Rattle.sam_queue.specs.Views.{LineView, PostView, TakeView, TakesNext, new_post, new_take, closed_post}
 use Rattle.sam_queue.proofs.Sorts.{items_of-append}
@@ -17,7 +18,9 @@ use Rattle.sam_threads.specs.Inputs.{bytes_of}
 use Rattle.sam_threads.specs.Numbers.{frame_number}
 use Rattle.sam_threads.specs.Passing.{sent_on, Sends, SendsBefore, StopsBehind, PassesPiece, Passes}
 use Rattle.sam_threads.specs.WorkerEnds.{IsPastCount, ReaderTold, ReaderStopped}
-use Rattle.sam_threads.specs.Types.{ReaderEnd, Input, Stop}
+use Rattle.sam_threads.specs.declared.ends.ReaderEnd.{ReaderEnd}
+use Rattle.sam_threads.specs.declared.input.Input.{Input}
+use Rattle.sam_threads.specs.declared.stop.Stop.{Stop}
 use Rattle.sam_threads.specs.declared.stop.Stop.TheVariants as stop
 
 -- ---- what is sent on

@@ -1,8 +1,10 @@
 -- The real sides count as the law of two sides asks, their frames are told apart, and their world is the plain world.
 use Rattle.std.proofs.Common.{◌≡◌, suc, ◌≤◌, List, [], ◌∷◌, Option, Some, None, Result, Ok, refl, ap, ◌∙◌, arith, option_map, option_and_then, All}
 use Rattle.std.proofs.lemmas.Option.{same_Some}
-use Rattle.sam_mesg.specs.TerminalKinds.{FitsT, Tmesg}
-use Rattle.sam_mesg.specs.HostKinds.{FitsH, HFrame}
+use Rattle.sam_mesg.specs.TerminalKinds.{FitsT}
+use Rattle.sam_mesg.specs.declared.tmesg.Tmesg.{Tmesg}
+use Rattle.sam_mesg.specs.HostKinds.{FitsH}
+use Rattle.sam_mesg.specs.declared.hmesg.HFrame.{HFrame}
 use Rattle.sam_mesg.proofs.TerminalLaws as upwards
 use Rattle.sam_mesg.proofs.HostLaws as downwards
 use Rattle.sam_frame.specs.Direction.{terminal, host, frame_of}
@@ -10,9 +12,10 @@ use Rattle.sam_frame.specs.Reading.{IsSound}
 use Rattle.sam_host.specs.Host.{PlainHost}
 use Rattle.sam_host.proofs.SoundLaws.{answers_are_counted}
 use Rattle.sam_term.specs.Term.{PlainTerminal, Made, flush_of, take_of}
-use Rattle.sam_term.specs.Types.{TermFault, Acted}
+use Rattle.sam_term.specs.declared.fault.TermFault.{TermFault}
+use Rattle.sam_term.specs.declared.event.Acted.{Acted}
 use Rattle.sam_term.specs.declared.fault.TermFault.TheVariants as fault
-use Rattle.sam_world.specs.Types.{Event}
+use Rattle.sam_world.specs.declared.event.Event.{Event}
 use Rattle.sam_world.specs.World.{PlainWorld, composed_by, step_of, run_of}
 use Rattle.sam_world.specs.Sides.{Each, Counts, World, and_then, step, run}
 use Rattle.sam_world.proofs.Carries.{PrefixFree}

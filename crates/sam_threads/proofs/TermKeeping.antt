@@ -1,18 +1,21 @@
 -- What is kept of the terminal's worker, step by step.
-use Rattle.std.proofs.Common.{◌≡◌, ◌⊎◌, refl, sym, ap, subst, ◌∙◌, ℕ, Bool, true, false, if◌then◌else◌, List, [], ◌∷◌, ◌++◌, Option, Some, None, is_some, append_assoc, append-nil, arith, Vec, MatchBool}
-use Rattle.sam_mesg.specs.HostKinds.{HFrame}
-use Rattle.sam_mesg.specs.TerminalKinds.{FitsT, Tmesg}
+use Rattle.std.proofs.Common.{◌≡◌, ◌⊎◌, refl, sym, ap, subst, ◌∙◌, ℕ, Bool, true, false, if◌then◌else◌, List, [], ◌∷◌, ◌++◌, Option, Some, None, is_some, append_assoc, append-nil, arith, MatchBool}
+use Rattle.std.specs.Global.{Vec}
+use Rattle.sam_mesg.specs.declared.hmesg.HFrame.{HFrame}
+use Rattle.sam_mesg.specs.TerminalKinds.{FitsT}
+use Rattle.sam_mesg.specs.declared.tmesg.Tmesg.{Tmesg}
 use Rattle.sam_frame.specs.Direction.{terminal}
 use Rattle.sam_frame.specs.Stream.{stream_of}
 use Rattle.sam_frame.proofs.Fronts.{stream_of-append}
 use Rattle.sam_term.specs.Term.{PlainTerminal, new_terminal}
-use Rattle.sam_term.specs.Events.{UserEvent, Exit}
-use Rattle.sam_world.specs.Types.{TermLog}
+use Rattle.sam_term.specs.declared.event.UserEvent.{UserEvent}
+use Rattle.sam_term.specs.declared.event.UserEvent.TheVariants.{Exit}
+use Rattle.sam_world.specs.declared.event.TermLog.{TermLog}
 use Rattle.sam_world.specs.declared.event.TermLog.TheVariants as log
 use Rattle.sam_world.specs.Logs.{logged_users}
 use Rattle.sam_world.specs.Sides.{Each, TermRuns}
 use Rattle.sam_world.proofs.Settles.{term_more, each_append}
-use Rattle.sam_queue.specs.Types.{Entry}
+use Rattle.sam_queue.specs.declared.rule.Entry.{Entry}
 use Rattle.sam_queue.specs.History.{IsEnded, has_left}
 use Rattle.sam_queue.specs.Views.{TakeView, PostView, WasFull, closed_post, new_take, new_post}
 use Rattle.sam_threads.specs.RealSides.{sides}
@@ -22,7 +25,9 @@ use Rattle.sam_threads.specs.Cutting.{PutSome}
 use Rattle.sam_threads.proofs.Cut.{bytes_append}
 use Rattle.sam_threads.proofs.RealLaws.{counts}
 use Rattle.sam_threads.proofs.TermSteps.{did_nothing}
-use Rattle.sam_threads.specs.Types.{Input, Found, Stop}
+use Rattle.sam_threads.specs.declared.input.Input.{Input}
+use Rattle.sam_threads.specs.declared.term_side.Found.{Found}
+use Rattle.sam_threads.specs.declared.stop.Stop.{Stop}
 use Rattle.sam_threads.specs.declared.term_side.Found.TheVariants as found
 use Rattle.sam_threads.specs.declared.stop.Stop.TheVariants as stop
 

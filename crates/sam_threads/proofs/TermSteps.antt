@@ -1,21 +1,24 @@
 -- Single steps of the terminal, as parts of its run.
 use Rattle.std.proofs.Common.{◌≡◌, ◌⊎◌, inl, inr, refl, ap, ◌∙◌, List, [], ◌∷◌, ◌++◌, Ok, Err, append-nil, arith, All, IsTrue}
 use Rattle.std.proofs.lemmas.List.Elements.{All-nil}
-use Rattle.sam_mesg.specs.TerminalKinds.{fits_t, Tmesg}
-use Rattle.sam_mesg.specs.HostKinds.{HFrame}
+use Rattle.sam_mesg.specs.TerminalKinds.{fits_t}
+use Rattle.sam_mesg.specs.declared.tmesg.Tmesg.{Tmesg}
+use Rattle.sam_mesg.specs.declared.hmesg.HFrame.{HFrame}
 use Rattle.sam_term.specs.Sound.{IsSound}
 use Rattle.sam_term.specs.Term.{PlainTerminal, act_of, flush_of, take_of}
-use Rattle.sam_term.specs.Events.{UserEvent}
-use Rattle.sam_term.specs.Types.{Idle, Locked, Done, Refused, Refusal, TermFault}
+use Rattle.sam_term.specs.declared.event.UserEvent.{UserEvent}
+use Rattle.sam_term.specs.declared.event.Acted.TheVariants.{Idle, Locked, Done, Refused}
+use Rattle.sam_term.specs.declared.fault.Refusal.{Refusal}
+use Rattle.sam_term.specs.declared.fault.TermFault.{TermFault}
 use Rattle.sam_term.specs.declared.fault.TermFault.TheVariants as fault
-use Rattle.sam_world.specs.Types.{TermLog}
+use Rattle.sam_world.specs.declared.event.TermLog.{TermLog}
 use Rattle.sam_world.specs.declared.event.TermLog.TheVariants as log
 use Rattle.sam_term.proofs.ActLaws.{idle_still, locked_still}
 use Rattle.sam_world.proofs.OrderLaws.{only_counts_stop}
 use Rattle.sam_term.proofs.Fits.{act_fits, flushed_fits, taken_fits}
 use Rattle.sam_threads.specs.WorkerEnds.{IsFullUp}
 use Rattle.sam_threads.specs.TermMoments.{LoggedView, Did, of_fault}
-use Rattle.sam_threads.specs.Types.{Stop}
+use Rattle.sam_threads.specs.declared.stop.Stop.{Stop}
 use Rattle.sam_threads.specs.declared.stop.Stop.TheVariants as stop
 
 none_fit : All (λ m. IsTrue (fits_t 2 m)) []

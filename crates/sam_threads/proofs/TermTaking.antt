@@ -1,15 +1,18 @@
 -- What is kept of the terminal's worker as it takes entries.
 use Rattle.std.proofs.Common.{◌≡◌, ◌≢◌, ◌⊎◌, inl, inr, refl, sym, ap, subst, ◌∙◌, ℕ, Bool, true, false, if◌then◌else◌, List, [], ◌∷◌, ◌++◌, Option, Some, None, is_some, append_assoc, append-nil, arith}
 use Rattle.std.proofs.lemmas.Grind.{flat_map-append}
-use Rattle.sam_mesg.specs.HostKinds.{HFrame}
-use Rattle.sam_mesg.specs.TerminalKinds.{FitsT, Tmesg}
+use Rattle.sam_mesg.specs.declared.hmesg.HFrame.{HFrame}
+use Rattle.sam_mesg.specs.TerminalKinds.{FitsT}
+use Rattle.sam_mesg.specs.declared.tmesg.Tmesg.{Tmesg}
 use Rattle.sam_frame.specs.Direction.{terminal}
 use Rattle.sam_frame.specs.Stream.{stream_of}
 use Rattle.sam_term.specs.Term.{new_terminal}
-use Rattle.sam_term.specs.Events.{UserEvent, Exit}
+use Rattle.sam_term.specs.declared.event.UserEvent.{UserEvent}
+use Rattle.sam_term.specs.declared.event.UserEvent.TheVariants.{Exit}
 use Rattle.sam_world.specs.Sides.{Each, TermRuns}
 use Rattle.sam_world.proofs.Settles.{each_append}
-use Rattle.sam_queue.specs.Types.{Entry, Got}
+use Rattle.sam_queue.specs.declared.rule.Entry.{Entry}
+use Rattle.sam_queue.specs.declared.take.Got.{Got}
 use Rattle.sam_queue.specs.History.{loads, has_mark, has_left}
 use Rattle.sam_queue.specs.Views.{LineView, TakeView, TakesNext, Answers}
 use Rattle.sam_queue.specs.declared.take.Got.TheVariants as got
@@ -17,7 +20,8 @@ use Rattle.sam_queue.proofs.Histories.{loads-append}
 use Rattle.sam_threads.specs.RealSides.{sides}
 use Rattle.sam_threads.specs.Inputs.{bytes_of, frames_in, users_in, frame_of_load, user_of_load}
 use Rattle.sam_threads.specs.TermMoments.{LoggedView, Did, SideView, SoFar, Ran, IsOfUser, WasNotHandled}
-use Rattle.sam_threads.specs.Types.{Input, Stop}
+use Rattle.sam_threads.specs.declared.input.Input.{Input}
+use Rattle.sam_threads.specs.declared.stop.Stop.{Stop}
 use Rattle.sam_threads.specs.declared.stop.Stop.TheVariants as stop
 use Rattle.sam_threads.proofs.TermSteps.{did_nothing}
 use Rattle.sam_threads.proofs.TermKeeping.{runs_on, users_on, whole, all_handled, sent_on, none_of}

@@ -1,12 +1,15 @@
 -- What the terminal's worker tells of its end.
-use Rattle.std.proofs.Common.{◌≡◌, ℕ, Bool, true, List, ◌++◌, Option, Some, arith, Vec}
+use Rattle.std.proofs.Common.{◌≡◌, ℕ, Bool, true, List, ◌++◌, Option, Some, arith}
+use Rattle.std.specs.Global.{Vec}
 use Rattle.sam_term.specs.Term.{PlainTerminal}
-use Rattle.sam_world.specs.Types.{TermLog}
-use Rattle.sam_queue.specs.Types.{Entry}
+use Rattle.sam_world.specs.declared.event.TermLog.{TermLog}
+use Rattle.sam_queue.specs.declared.rule.Entry.{Entry}
 use Rattle.sam_queue.specs.History.{has_left}
 use Rattle.sam_threads.specs.WorkerEnds.{TermTold, TermStopped, IsOwnExit}
 use Rattle.sam_threads.specs.TermMoments.{SideView, SoFar, Ran, IsDone}
-use Rattle.sam_threads.specs.Types.{TermEnd, Input, Stop}
+use Rattle.sam_threads.specs.declared.ends.TermEnd.{TermEnd}
+use Rattle.sam_threads.specs.declared.input.Input.{Input}
+use Rattle.sam_threads.specs.declared.stop.Stop.{Stop}
 use Rattle.sam_threads.specs.declared.stop.Stop.TheVariants as stop
 
 exits : (v : SideView) (r : Ran v) (b : Bool) → v.exit_put ≡ b → IsOwnExit r.own r.handled

@@ -1,12 +1,12 @@
 -- What a piece of the host's stream does to a terminal.
 use Rattle.std.specs.Prelude.{◌≡◌, ℕ, ◌+◌, ◌^◌, ◌≤◌, ◌⊎◌, List, [], ◌∷◌, ◌++◌, length, true, false, Option, Some, None, Ok, Err}
-use Rattle.sam_mesg.specs.TerminalKinds.{Tmesg}
-use Rattle.sam_mesg.specs.HostKinds.{HFrame}
-use Rattle.sam_mesg.specs.Types.{MesgFault}
+use Rattle.sam_mesg.specs.declared.tmesg.Tmesg.{Tmesg}
+use Rattle.sam_mesg.specs.declared.hmesg.HFrame.{HFrame}
+use Rattle.sam_mesg.specs.declared.fault.MesgFault.{MesgFault}
 use Rattle.sam_frame.specs.Direction.{host}
 use Rattle.sam_frame.specs.Framing.{Held, HasRoom, GaveAll, GaveUp}
 use Rattle.sam_term.specs.Term.{PlainTerminal, take_of}
-use Rattle.sam_term.specs.Types.{TermFault}
+use Rattle.sam_term.specs.declared.fault.TermFault.{TermFault}
 use Rattle.sam_threads.specs.Numbers.{frame_number, fault_number}
 use Rattle.sam_threads.specs.declared.stop.Stop.{Stop}
 use Rattle.sam_threads.specs.declared.stop.Stop.TheVariants as stop

@@ -1,15 +1,16 @@
 -- What the host's worker does between two moments.
 use Rattle.std.specs.Prelude.{◌≡◌, ℕ, ◌+◌, ◌⊎◌, List, [], ◌∷◌, ◌++◌, length, Option, Some, None, Result, Ok, Err}
 use Rattle.std.specs.Global.{Vec}
-use Rattle.sam_mesg.specs.TerminalKinds.{Tmesg}
-use Rattle.sam_mesg.specs.HostKinds.{FitsH, HFrame}
+use Rattle.sam_mesg.specs.declared.tmesg.Tmesg.{Tmesg}
+use Rattle.sam_mesg.specs.HostKinds.{FitsH}
+use Rattle.sam_mesg.specs.declared.hmesg.HFrame.{HFrame}
 use Rattle.sam_frame.specs.Direction.{terminal, host}
 use Rattle.sam_frame.specs.Stream.{FitInTurn, Splits, IsOpen, version_after, stream_of}
 use Rattle.sam_frame.specs.Framing.{Held, GaveAll}
 use Rattle.sam_host.specs.Host.{PlainHost, answer}
-use Rattle.sam_host.specs.Types.{HostFault}
+use Rattle.sam_host.specs.declared.fault.HostFault.{HostFault}
 use Rattle.sam_host.specs.declared.fault.HostFault.TheVariants as refusal
-use Rattle.sam_queue.specs.Types.{Entry}
+use Rattle.sam_queue.specs.declared.rule.Entry.{Entry}
 use Rattle.sam_queue.specs.History.{items_of, IsEnded}
 use Rattle.sam_queue.specs.Views.{PostView}
 use Rattle.sam_world.specs.Sides.{Each, HostRuns}

@@ -1,9 +1,9 @@
 -- What goes through the lines.
 use Rattle.std.specs.Prelude.{ℕ, List, [], ◌∷◌, flat_map, Option, Some, None}
 use Rattle.std.specs.Global.{Vec}
-use Rattle.sam_mesg.specs.HostKinds.{HFrame}
-use Rattle.sam_term.specs.Events.{UserEvent}
-use Rattle.sam_queue.specs.Types.{Entry}
+use Rattle.sam_mesg.specs.declared.hmesg.HFrame.{HFrame}
+use Rattle.sam_term.specs.declared.event.UserEvent.{UserEvent}
+use Rattle.sam_queue.specs.declared.rule.Entry.{Entry}
 use Rattle.sam_threads.specs.declared.input.Input.{Input}
 use Rattle.sam_threads.specs.declared.input.Input.TheVariants.{User, Host}
 

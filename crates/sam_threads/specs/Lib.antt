@@ -9,4 +9,3 @@ pub mod Cutting
 pub mod Feeding
 pub mod Handling
 pub mod Passing
-pub mod Types

@@ -1,11 +1,11 @@
 -- What the host reader does with the pieces of the host's stream.
 use Rattle.std.specs.Prelude.{◌≡◌, ℕ, ◌+◌, ◌⊎◌, List, ◌++◌, length, map, Option, Some, None}
 use Rattle.std.specs.Global.{Vec}
-use Rattle.sam_mesg.specs.HostKinds.{HFrame}
+use Rattle.sam_mesg.specs.declared.hmesg.HFrame.{HFrame}
 use Rattle.sam_frame.specs.Direction.{host}
 use Rattle.sam_frame.specs.Stream.{FitInTurn, Splits, version_after, stream_of, IsOpen}
 use Rattle.sam_frame.specs.Framing.{Held, GaveAll}
-use Rattle.sam_queue.specs.Types.{Entry}
+use Rattle.sam_queue.specs.declared.rule.Entry.{Entry}
 use Rattle.sam_queue.specs.History.{items_of, IsEnded}
 use Rattle.sam_queue.specs.Views.{PostView, TakeView}
 use Rattle.sam_threads.specs.Inputs.{bytes_of}

@@ -1,10 +1,11 @@
 -- The host and the terminal as two sides that hand messages to each other.
 use Rattle.std.specs.Prelude.{List, [], ◌∷◌, ◌++◌, Option, Some, None, Result, Ok, Err}
-use Rattle.sam_mesg.specs.TerminalKinds.{Tmesg}
-use Rattle.sam_mesg.specs.HostKinds.{HFrame}
+use Rattle.sam_mesg.specs.declared.tmesg.Tmesg.{Tmesg}
+use Rattle.sam_mesg.specs.declared.hmesg.HFrame.{HFrame}
 use Rattle.sam_host.specs.Host.{PlainHost, answer}
 use Rattle.sam_term.specs.Term.{PlainTerminal, act_of, flush_of, take_of}
-use Rattle.sam_term.specs.Types.{TermFault, Acted}
+use Rattle.sam_term.specs.declared.fault.TermFault.{TermFault}
+use Rattle.sam_term.specs.declared.event.Acted.{Acted}
 use Rattle.sam_world.specs.World.{composed_by}
 use Rattle.sam_world.specs.Sides.{Steps}
 

@@ -1,18 +1,20 @@
 -- What the terminal's worker has between two of its steps.
 use Rattle.std.specs.Prelude.{◌≡◌, ◌⊎◌, ◌<◌, ℕ, Bool, true, false, List, [], ◌∷◌, ◌++◌, All, IsTrue, Option, Some, None, if◌then◌else◌, is_some, Err}
 use Rattle.std.specs.Global.{Vec}
-use Rattle.sam_mesg.specs.HostKinds.{HFrame}
-use Rattle.sam_mesg.specs.TerminalKinds.{fits_t, FitsT, Tmesg}
+use Rattle.sam_mesg.specs.declared.hmesg.HFrame.{HFrame}
+use Rattle.sam_mesg.specs.TerminalKinds.{fits_t, FitsT}
+use Rattle.sam_mesg.specs.declared.tmesg.Tmesg.{Tmesg}
 use Rattle.sam_frame.specs.Direction.{terminal}
 use Rattle.sam_frame.specs.Stream.{stream_of}
 use Rattle.sam_term.specs.Term.{PlainTerminal, new_terminal, take_of}
-use Rattle.sam_term.specs.Events.{UserEvent, Exit}
-use Rattle.sam_term.specs.Types.{TermFault}
+use Rattle.sam_term.specs.declared.event.UserEvent.{UserEvent}
+use Rattle.sam_term.specs.declared.event.UserEvent.TheVariants.{Exit}
+use Rattle.sam_term.specs.declared.fault.TermFault.{TermFault}
 use Rattle.sam_term.specs.declared.fault.TermFault.TheVariants as fault
-use Rattle.sam_world.specs.Types.{TermLog}
+use Rattle.sam_world.specs.declared.event.TermLog.{TermLog}
 use Rattle.sam_world.specs.Logs.{logged_users}
 use Rattle.sam_world.specs.Sides.{Each, TermRuns}
-use Rattle.sam_queue.specs.Types.{Entry}
+use Rattle.sam_queue.specs.declared.rule.Entry.{Entry}
 use Rattle.sam_queue.specs.History.{has_left, IsEnded}
 use Rattle.sam_queue.specs.Views.{TakeView, PostView}
 use Rattle.sam_threads.specs.RealSides.{sides}

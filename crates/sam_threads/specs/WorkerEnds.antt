@@ -2,21 +2,25 @@
 use Rattle.std.specs.Prelude.{◌≡◌, ℕ, ◌^◌, ◌<◌, ◌≤◌, ◌⊎◌, true, false, List, [], ◌∷◌, ◌++◌, length, map, take, All, Option, Some, None, Err}
 use Rattle.std.specs.Global.{Vec}
 use Rattle.sam_runes.specs.Texts.{most_files}
-use Rattle.sam_mesg.specs.Types.{MesgFault}
-use Rattle.sam_mesg.specs.TerminalKinds.{FitsT, Tmesg}
-use Rattle.sam_mesg.specs.HostKinds.{fits_h, FitsH, HFrame}
+use Rattle.sam_mesg.specs.declared.fault.MesgFault.{MesgFault}
+use Rattle.sam_mesg.specs.TerminalKinds.{FitsT}
+use Rattle.sam_mesg.specs.declared.tmesg.Tmesg.{Tmesg}
+use Rattle.sam_mesg.specs.HostKinds.{fits_h, FitsH}
+use Rattle.sam_mesg.specs.declared.hmesg.HFrame.{HFrame}
 use Rattle.sam_frame.specs.Direction.{Direction, terminal, host, frame_of}
 use Rattle.sam_frame.specs.Stream.{FitInTurn, version_after, stream_of, IsOpen, Shows}
 use Rattle.sam_host.specs.Host.{PlainHost, answer, new_host}
-use Rattle.sam_host.specs.Types.{HostFault}
+use Rattle.sam_host.specs.declared.fault.HostFault.{HostFault}
 use Rattle.sam_term.specs.Term.{PlainTerminal, new_terminal, act_of, flush_of, take_of}
-use Rattle.sam_term.specs.Types.{TermFault, CountFull}
-use Rattle.sam_term.specs.Events.{UserEvent, Exit}
+use Rattle.sam_term.specs.declared.fault.TermFault.{TermFault}
+use Rattle.sam_term.specs.declared.fault.TermFault.TheVariants.{CountFull}
+use Rattle.sam_term.specs.declared.event.UserEvent.{UserEvent}
+use Rattle.sam_term.specs.declared.event.UserEvent.TheVariants.{Exit}
 use Rattle.sam_world.specs.Given.{IsFile}
 use Rattle.sam_world.specs.Logs.{logged_users}
 use Rattle.sam_world.specs.Sides.{Each, HostRuns, TermRuns}
 use Rattle.sam_threads.specs.RealSides.{sides}
-use Rattle.sam_queue.specs.Types.{Entry}
+use Rattle.sam_queue.specs.declared.rule.Entry.{Entry}
 use Rattle.sam_queue.specs.History.{items_of, has_left, IsEnded}
 use Rattle.sam_queue.specs.Views.{LineView}
 use Rattle.sam_threads.specs.Lines.{LinesView}

@@ -6,14 +6,17 @@ use Rattle.sam_host.specs.Host.{PlainHost, answer}
 use Rattle.sam_host.specs.Laws.{AreGiven}
 use Rattle.sam_term.specs.Sound.{IsSound}
 use Rattle.sam_term.specs.Term.{PlainTerminal, act_of, flush_of, take_of}
-use Rattle.sam_term.specs.Events.{UserEvent}
-use Rattle.sam_term.specs.Types.{Acted, Done}
-use Rattle.sam_mesg.specs.TerminalKinds.{fits_t, Tmesg}
-use Rattle.sam_mesg.specs.HostKinds.{fits_h, HFrame}
+use Rattle.sam_term.specs.declared.event.UserEvent.{UserEvent}
+use Rattle.sam_term.specs.declared.event.Acted.{Acted}
+use Rattle.sam_term.specs.declared.event.Acted.TheVariants.{Done}
+use Rattle.sam_mesg.specs.TerminalKinds.{fits_t}
+use Rattle.sam_mesg.specs.declared.tmesg.Tmesg.{Tmesg}
+use Rattle.sam_mesg.specs.HostKinds.{fits_h}
+use Rattle.sam_mesg.specs.declared.hmesg.HFrame.{HFrame}
 use Rattle.sam_world.specs.World.{PlainWorld, new_world, step_of, composed_by, after_act, after_compose, after_answer, host_takes, term_takes, is_quiet}
 use Rattle.sam_world.specs.UnderWay.{head}
 use Rattle.sam_world.specs.Reached.{IsSoundWorld}
-use Rattle.sam_world.specs.Types.{User, Act, Flush, HostTake, TermTake}
+use Rattle.sam_world.specs.declared.event.Event.TheVariants.{User, Act, Flush, HostTake, TermTake}
 use Rattle.sam_term.proofs.Fits.{act_fits, flushed_fits, taken_fits}
 use Rattle.sam_world.proofs.Within.{reached_step, answered_fits}
 

@@ -3,10 +3,13 @@ use Rattle.std.proofs.Common.{◌≡◌, refl, ap, ◌∙◌, ℕ, Bool, true, f
 use Rattle.sam_runes.specs.Texts.{common_version}
 use Rattle.sam_host.specs.Host.{PlainHost, reply_to, reply_version, reply_startsnarf}
 use Rattle.sam_host.proofs.EachFrame.{EachFrame, IsTold, Freed, Nothing, Command, File, end_frames, lock_freed, reply_ends}
-use Rattle.sam_term.specs.Types.{Lock, NoLock, CommandLock, FileLock}
+use Rattle.sam_term.specs.declared.lock.Lock.{Lock}
+use Rattle.sam_term.specs.declared.lock.Lock.TheVariants.{NoLock, CommandLock, FileLock}
 use Rattle.sam_term.specs.Events.{lock_of, freed_by, one_lock, all_freed}
-use Rattle.sam_mesg.specs.TerminalKinds.{Tmesg, Tversion, Tstartsnarf}
-use Rattle.sam_mesg.specs.HostKinds.{Hmesg, Hversion}
+use Rattle.sam_mesg.specs.declared.tmesg.Tmesg.{Tmesg}
+use Rattle.sam_mesg.specs.declared.tmesg.Tmesg.TheVariants.{Tversion, Tstartsnarf}
+use Rattle.sam_mesg.specs.declared.hmesg.Hmesg.{Hmesg}
+use Rattle.sam_mesg.specs.declared.hmesg.Hmesg.TheVariants.{Hversion}
 use Rattle.sam_world.specs.Telling.{AnswersFree, AnswersFreeLast, is_answered}
 
 -- ## The lock that an answer frees is the one that its message took

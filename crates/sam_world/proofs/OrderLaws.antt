@@ -6,16 +6,25 @@ use Rattle.std.proofs.lemmas.Bool.Decides.{eqb_tells}
 use Rattle.sam_runes.specs.Texts.{most_count}
 use Rattle.sam_runes.specs.Checks.{Checks, first_of_checks}
 use Rattle.sam_host.specs.Host.{PlainHost, Reply, Answer, answer, answer_unless, counted, host_checks, reply_to, stamped}
-use Rattle.sam_host.specs.Types.{HostFault}
+use Rattle.sam_host.specs.declared.fault.HostFault.{HostFault}
 use Rattle.sam_host.specs.declared.fault.HostFault.TheVariants as hostfault
 use Rattle.sam_term.specs.Term.{window_at, PlainTerminal, Made, unsent_message, if_countable, event_checks, act_of, act_on, decided, flush_of, flushed, take_of, event_outcome, frame_outcome, made_unless, frame_checks, known_at, put_window}
 use Rattle.sam_term.specs.Windows.{blank_window}
-use Rattle.sam_term.specs.Types.{Window, Verdict, Waits, Refuses, Acted, Idle, Locked, Done, TermFault, Lock, FileLock, KnownFile}
-use Rattle.sam_term.specs.Events.{UserEvent}
+use Rattle.sam_term.specs.declared.records.Window.{Window}
+use Rattle.sam_term.specs.declared.event.Verdict.{Verdict}
+use Rattle.sam_term.specs.declared.event.Verdict.TheVariants.{Waits, Refuses}
+use Rattle.sam_term.specs.declared.event.Acted.{Acted}
+use Rattle.sam_term.specs.declared.event.Acted.TheVariants.{Idle, Locked, Done}
+use Rattle.sam_term.specs.declared.fault.TermFault.{TermFault}
+use Rattle.sam_term.specs.declared.lock.Lock.{Lock}
+use Rattle.sam_term.specs.declared.lock.Lock.TheVariants.{FileLock}
+use Rattle.sam_term.specs.declared.records.KnownFile.{KnownFile}
+use Rattle.sam_term.specs.declared.event.UserEvent.{UserEvent}
 use Rattle.sam_term.specs.declared.fault.Refusal.TheVariants as refusal
 use Rattle.sam_term.specs.declared.fault.TermFault.TheVariants as fault
-use Rattle.sam_mesg.specs.TerminalKinds.{Tmesg}
-use Rattle.sam_mesg.specs.HostKinds.{Hmesg, HFrame}
+use Rattle.sam_mesg.specs.declared.tmesg.Tmesg.{Tmesg}
+use Rattle.sam_mesg.specs.declared.hmesg.Hmesg.{Hmesg}
+use Rattle.sam_mesg.specs.declared.hmesg.HFrame.{HFrame}
 use Rattle.sam_protocol.specs.Fold.{answers}
 use Rattle.sam_protocol.specs.Order.{InOrder}
 use Rattle.sam_protocol.proofs.Folds.{answered}
@@ -29,7 +38,8 @@ use Rattle.sam_protocol.proofs.Streaming.{one_version, version_at_place}
 use Rattle.sam_term.proofs.TermLaws.{known-put}
 use Rattle.sam_world.specs.World.{new_world, PlainWorld, composed_by, after_compose, term_takes, step_of, host_after_all}
 use Rattle.sam_world.specs.Order.{mesgs, IsInOrder, StartsInOrder, StepsInOrder, RunsInOrder, HostNeverRefuses, TerminalNeverRefuses, OnlyCountsStop, QuietMeansAgreement, FreeMeansAhead, FreeMeansOneVersion, OthersGoOn, ReachedInOrder, FreeMeansVersionAtPlace, OthersStayFree}
-use Rattle.sam_world.specs.Types.{Event, User, Act, Flush, HostTake, TermTake}
+use Rattle.sam_world.specs.declared.event.Event.{Event}
+use Rattle.sam_world.specs.declared.event.Event.TheVariants.{User, Act, Flush, HostTake, TermTake}
 use Rattle.sam_world.proofs.RunLaws.{run_keeps, counted-start, counted_step, answer-counts, counted-result, the_result}
 
 -- ## The start

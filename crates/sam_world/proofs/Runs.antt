@@ -4,7 +4,10 @@ use Rattle.std.proofs.lemmas.Option.{same_Some}
 use Rattle.sam_runes.specs.Texts.{is_empty}
 use Rattle.sam_world.specs.World.{PlainWorld, step_of, run_of, next_event, drained}
 use Rattle.sam_world.specs.Faults.{Advances, HasMade, IsDrainedUpTo, IsFaultOf, IsNextFault}
-use Rattle.sam_world.specs.Types.{Event, Act, Flush, HostTake, TermTake, StepFault, NothingThere, OutOfMemory, CountFull}
+use Rattle.sam_world.specs.declared.event.Event.{Event}
+use Rattle.sam_world.specs.declared.event.Event.TheVariants.{Act, Flush, HostTake, TermTake}
+use Rattle.sam_world.specs.declared.event.StepFault.{StepFault}
+use Rattle.sam_world.specs.declared.event.StepFault.TheVariants.{NothingThere, OutOfMemory, CountFull}
 use Rattle.sam_world.proofs.Stopping.{passing_stops}
 
 -- a run of the first i events and then the next one

@@ -2,10 +2,11 @@
 use Rattle.std.proofs.Common.{◌≡◌, ℕ, zero, suc, ◌+◌, ◌-◌, ◌<◌, ◌≤◌, max, List, [], ◌∷◌, ◌++◌, length, replicate, Some, ◌⊎◌, inl, inr, sym, ap, subst, ◌∙◌, refl, arith, append_assoc, append-nil, length-append}
 use Rattle.std.specs.Prelude.{⊤}
 use Rattle.std.proofs.lemmas.List.{nil_from_length}
-use Rattle.sam_world.specs.Types.{TermLog, Event}
+use Rattle.sam_world.specs.declared.event.TermLog.{TermLog}
+use Rattle.sam_world.specs.declared.event.Event.{Event}
 use Rattle.sam_world.specs.declared.event.TermLog.TheVariants as log
 use Rattle.sam_world.specs.declared.event.Event.TheVariants as event
-use Rattle.sam_term.specs.Events.{UserEvent}
+use Rattle.sam_term.specs.declared.event.UserEvent.{UserEvent}
 use Rattle.sam_world.specs.World.{merged_from, merged}
 use Rattle.sam_world.specs.Logs.{takes, logged_users, users}
 use Rattle.sam_world.specs.Sides.{Each, Steps, Counts, HostRuns, TermRuns, World, world, and_then, composed, answered, run}

@@ -1,19 +1,19 @@
 -- Why a step of the world stops: it wants memory, or a count is full. Neither side refuses the other.
 use Rattle.std.proofs.Common.{◌≡◌, ◌⊎◌, inl, inr, ℕ, true, drop, Some, Err, arith}
 use Rattle.sam_host.specs.Host.{answer}
-use Rattle.sam_host.specs.Types.{HostFault}
+use Rattle.sam_host.specs.declared.fault.HostFault.{HostFault}
 use Rattle.sam_host.specs.declared.fault.HostFault.TheVariants as host
 use Rattle.sam_term.specs.Term.{PlainTerminal, act_of, flush_of, take_of}
-use Rattle.sam_term.specs.Types.{TermFault}
+use Rattle.sam_term.specs.declared.fault.TermFault.{TermFault}
 use Rattle.sam_term.specs.declared.fault.TermFault.TheVariants as term
-use Rattle.sam_mesg.specs.TerminalKinds.{Tmesg}
-use Rattle.sam_mesg.specs.HostKinds.{HFrame}
+use Rattle.sam_mesg.specs.declared.tmesg.Tmesg.{Tmesg}
+use Rattle.sam_mesg.specs.declared.hmesg.HFrame.{HFrame}
 use Rattle.sam_world.specs.World.{PlainWorld, new_world, is_quiet, IsSettled, HasOneVersion, IsAhead}
 use Rattle.sam_world.specs.UnderWay.{head}
 use Rattle.sam_world.specs.Reached.{WasReached}
 use Rattle.sam_world.specs.Order.{IsInOrder, IsCountable}
 use Rattle.sam_world.specs.Counts.{FullCountsStop}
-use Rattle.sam_world.specs.Types.{OutOfMemory}
+use Rattle.sam_world.specs.declared.event.StepFault.TheVariants.{OutOfMemory}
 use Rattle.sam_world.proofs.Keeping.{first_rest}
 use Rattle.sam_world.proofs.OrderLaws.{starts_in_order, runs_in_order, host_never_refuses, terminal_never_refuses, only_counts_stop, quiet_means_agreement, free_means_one_version, free_means_ahead}
 

@@ -9,3 +9,6 @@ joined-behind items (b ∷ bs) batch = grind (arith, append_assoc, (joined-behin
 pub filled-behind : {B M : Type 0} (items : B → List M) (batches : List B) (batch : B) → AreFilled (map items batches) → (items batch ≡ [] → ⊥) → AreFilled (map items (batches ++ batch ∷ []))
 filled-behind items [] batch filled there = (there, tt)
 filled-behind items (b ∷ bs) batch filled there = (filled.0, filled-behind items bs batch filled.1 there)
+
+-- what `join` rests on
+pub ruleset join_facts = (filled-behind, joined-behind)

@@ -5,12 +5,14 @@ use Rattle.sam_host.specs.Host.{PlainHost, answer}
 use Rattle.sam_host.specs.Laws.{IsSound}
 use Rattle.sam_host.proofs.LastVersion.{fit_in_last}
 use Rattle.sam_host.proofs.SoundLaws.{starts_sound, stays_sound, frames_fit}
-use Rattle.sam_mesg.specs.HostKinds.{fits_h, HFrame}
-use Rattle.sam_mesg.specs.TerminalKinds.{Tmesg}
+use Rattle.sam_mesg.specs.HostKinds.{fits_h}
+use Rattle.sam_mesg.specs.declared.hmesg.HFrame.{HFrame}
+use Rattle.sam_mesg.specs.declared.tmesg.Tmesg.{Tmesg}
 use Rattle.sam_world.specs.World.{PlainWorld, new_world, step_of, run_of, after_answer, host_takes}
 use Rattle.sam_world.specs.Reached.{WasReached}
-use Rattle.sam_world.specs.Types.{Event, HostTake}
-use Rattle.sam_host.specs.Types.{HostFault}
+use Rattle.sam_world.specs.declared.event.Event.{Event}
+use Rattle.sam_world.specs.declared.event.Event.TheVariants.{HostTake}
+use Rattle.sam_host.specs.declared.fault.HostFault.{HostFault}
 use Rattle.sam_world.proofs.RunLaws.{run_keeps}
 
 -- ## One step more is a run

@@ -6,8 +6,8 @@ use Rattle.sam_text.specs.Files.{opened_file, PlainFile, PlainFiles, PlainOutcom
 use Rattle.sam_host.proofs.Keeping.{IsKept, reply_keeps}
 use Rattle.sam_host.proofs.SoundLaws.{answer_is, of_answer}
 use Rattle.sam_host.specs.Host.{PlainHost, host_checks, reply_to}
-use Rattle.sam_mesg.specs.TerminalKinds.{Tmesg}
-use Rattle.sam_mesg.specs.HostKinds.{HFrame}
+use Rattle.sam_mesg.specs.declared.tmesg.Tmesg.{Tmesg}
+use Rattle.sam_mesg.specs.declared.hmesg.HFrame.{HFrame}
 use Rattle.sam_world.specs.World.{PlainWorld, new_world}
 use Rattle.sam_world.specs.Reached.{WasReached}
 use Rattle.sam_world.specs.Telling.{IsWorkOpen, StartsWithWorkOpen, AddedFilesKeepWorkOpen, AnswersKeepWorkOpen}

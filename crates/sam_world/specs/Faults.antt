@@ -1,8 +1,8 @@
 -- Why a step of the world is not made.
 use Rattle.std.specs.Prelude.{◌≡◌, ◌⊎◌, ◌<◌, ℕ, true, false, List, length, take, slice_get, Some, IfSome, MatchOption}
-use Rattle.sam_host.specs.Types.{HostFault}
+use Rattle.sam_host.specs.declared.fault.HostFault.{HostFault}
 use Rattle.sam_host.specs.declared.fault.HostFault.TheVariants as host
-use Rattle.sam_term.specs.Types.{TermFault}
+use Rattle.sam_term.specs.declared.fault.TermFault.{TermFault}
 use Rattle.sam_term.specs.declared.fault.TermFault.TheVariants as term
 use Rattle.sam_world.specs.World.{PlainWorld, is_empty_take, step_of, run_of, next_event, drained}
 use Rattle.sam_world.specs.Counts.{passes_count}

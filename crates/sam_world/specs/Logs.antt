@@ -1,6 +1,6 @@
 -- What a terminal's log says.
 use Rattle.std.specs.Prelude.{ℕ, List, [], ◌∷◌, replicate}
-use Rattle.sam_term.specs.Events.{UserEvent}
+use Rattle.sam_term.specs.declared.event.UserEvent.{UserEvent}
 use Rattle.sam_world.specs.declared.event.TermLog.{TermLog}
 use Rattle.sam_world.specs.declared.event.TermLog.TheVariants as log
 use Rattle.sam_world.specs.declared.event.Event.{Event}

@@ -3,14 +3,18 @@ use Rattle.std.specs.Prelude.{◌≡◌, ℕ, ◌+◌, ◌≤◌, ◌==◌, fals
 use Rattle.sam_runes.specs.Texts.{most_count}
 use Rattle.sam_host.specs.Host.{answer}
 use Rattle.sam_host.specs.Laws.{AreGiven}
-use Rattle.sam_host.specs.Types.{HostFault}
+use Rattle.sam_host.specs.declared.fault.HostFault.{HostFault}
 use Rattle.sam_host.specs.declared.fault.HostFault.TheVariants as hostfault
 use Rattle.sam_term.specs.Term.{PlainTerminal, composed, unsent_message, act_of, flush_of, take_of, is_file_locked}
-use Rattle.sam_term.specs.Events.{file_of, waits_for_all, lock_of, UserEvent}
-use Rattle.sam_term.specs.Types.{TermFault, Locked, FileLock}
+use Rattle.sam_term.specs.Events.{file_of, waits_for_all, lock_of}
+use Rattle.sam_term.specs.declared.event.UserEvent.{UserEvent}
+use Rattle.sam_term.specs.declared.fault.TermFault.{TermFault}
+use Rattle.sam_term.specs.declared.event.Acted.TheVariants.{Locked}
+use Rattle.sam_term.specs.declared.lock.Lock.TheVariants.{FileLock}
 use Rattle.sam_term.specs.declared.fault.TermFault.TheVariants as fault
-use Rattle.sam_mesg.specs.TerminalKinds.{Tmesg}
-use Rattle.sam_mesg.specs.HostKinds.{Hmesg, HFrame}
+use Rattle.sam_mesg.specs.declared.tmesg.Tmesg.{Tmesg}
+use Rattle.sam_mesg.specs.declared.hmesg.Hmesg.{Hmesg}
+use Rattle.sam_mesg.specs.declared.hmesg.HFrame.{HFrame}
 use Rattle.sam_protocol.specs.Order.{InOrder}
 use Rattle.sam_protocol.specs.Streams.{version_behind}
 use Rattle.sam_world.specs.World.{PlainWorld, new_world, step_of, run_of, IsReached, is_locked, IsSettledWhereQuiet, IsAhead, HasOneVersion}

@@ -4,11 +4,14 @@ use Rattle.sam_runes.specs.Checks.{first_of_checks}
 use Rattle.sam_runes.specs.Texts.{ins, del}
 use Rattle.sam_text.specs.Files.{PlainFiles, AreFit, file_at, has_file}
 use Rattle.sam_host.specs.Host.{PlainHost, Reply, answer, host_checks, new_host, reply_to, with_given}
-use Rattle.sam_term.specs.Types.{Lock, NoLock}
+use Rattle.sam_term.specs.declared.lock.Lock.{Lock}
+use Rattle.sam_term.specs.declared.lock.Lock.TheVariants.{NoLock}
 use Rattle.sam_term.specs.Events.{lock_of, freed_by, one_lock, all_freed}
 use Rattle.sam_term.specs.Effect.{Tells}
-use Rattle.sam_mesg.specs.HostKinds.{Hmesg, HFrame}
-use Rattle.sam_mesg.specs.TerminalKinds.{Tmesg, Trequest, Ttype, Tcut}
+use Rattle.sam_mesg.specs.declared.hmesg.Hmesg.{Hmesg}
+use Rattle.sam_mesg.specs.declared.hmesg.HFrame.{HFrame}
+use Rattle.sam_mesg.specs.declared.tmesg.Tmesg.{Tmesg}
+use Rattle.sam_mesg.specs.declared.tmesg.Tmesg.TheVariants.{Trequest, Ttype, Tcut}
 
 -- a request for a file that is gone gets no answer
 abbrev pub is_answered : PlainHost → Tmesg → Bool

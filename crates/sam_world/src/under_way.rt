@@ -96,6 +96,7 @@ impl<M: Drop> UnderWay<M> {
     }
 
     /// Puts a batch behind the others, in room that `reserve` has made. It takes no memory. An empty batch changes nothing.
+    #[tactic(auto, using(std::proofs::Common::append_assoc, crate::proofs::UnderWayLaws::join_facts))]
     pub fn join(&mut self, batch: Vec<M>)
         requires { 0 < self.old.room }
         ensures { self.new.messages ≡ self.old.messages ++ batch.items }

@@ -1,5 +1,3 @@
-use Rattle.std.proofs.Common.{rules, ◌≡◌}
-use Rattle.sam_threads.specs.WorkerEnds.{AreEnds}
 use Rattle.sam_memory.proofs.sessions.settled.Goals as goal
 
 pub settled_again-requires : goal.settled_again-requires

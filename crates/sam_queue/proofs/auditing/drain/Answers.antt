@@ -1,7 +1,7 @@
 use Rattle.std.proofs.Common.{[], ◌∷◌, subst, arith, length-append, rules}
 use Rattle.crossbeam_queue.specs.Passes.{view}
 use Rattle.crossbeam_queue.specs.Fifo.{Held}
-use Rattle.sam_queue.specs.Types.{Port}
+use Rattle.sam_queue.specs.declared.rule.Port.{Port}
 use Rattle.sam_queue.specs.Rule.{Takes, Whole}
 use Rattle.sam_queue.specs.Ports.{seen_in}
 use Rattle.sam_queue.proofs.Drains.{full_wholes, full_takes, full_still, full_more, full_begins_still, full_until, full_drained}

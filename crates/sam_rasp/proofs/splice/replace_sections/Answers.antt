@@ -1,6 +1,6 @@
 use Rattle.std.proofs.Common.{◌≡◌, ◌∙◌, ap, sym, subst, ◌++◌, ◌-◌, ◌+◌, ◌≤◌, drop, take, length, arith, option_to_list, append_assoc, length-append, length-drop}
 use Rattle.sam_rasp.specs.Sections.{cells_of, cells_back, IsNormal}
-use Rattle.sam_rasp.proofs.Splices.{opened, closed, closed-normal, change-inside, change-length, cells-append, has-front, normal-front, nothing-behind}
+use Rattle.sam_rasp.proofs.Splices.{reached, closed, closed-normal, change-inside, change-length, cells-append, has-front, normal-front, nothing-behind}
 use Rattle.sam_rasp.proofs.splice.replace_sections.Goals as goal
 use Rattle.sam_rasp.proofs.Runs.{normal-drop}
 
@@ -9,138 +9,51 @@ change_members-requires-clause-normal c = grind (arith, normal-front)
 
 pub change_members-requires-clause-limit : goal.change_members-requires-clause-limit
 change_members-requires-clause-limit c =
-    let xs = c.args.sections.now.items in
-    let o = c.take_out-next.new.out.items in
-    let w = c.take_out-next.new.window.items in
-    let z = option_to_list c.take_out-next.result in
-    let r = c.requires.reach in
-    let k = opened xs o w z c.args.reach.front.index c.args.reach.first.index c.args.reach.last c.args.reach.front.place c.args.reach.first.place
-    c.take_out-next.ensures.window c.take_out-next.ensures.next r.3 (omega (arith, c.take_out-next.ensures.out, c.take_out-next.new.out.ok)) r.6 r.7 r.0.1 r.1.1 in
+    let u = c.take_out-next in
+    let k = reached _ u.new.out.items u.new.window.items u.result c.args.p c.args.q c.args.reach c.requires.reach u.ensures.window u.ensures.next (omega (arith, u.ensures.out, u.new.out.ok)) in
     omega (arith, k.lengths, c.requires.limit)
 
 pub change_members-requires-clause-total : goal.change_members-requires-clause-total
 change_members-requires-clause-total c =
-    let xs = c.args.sections.now.items in
-    let o = c.take_out-next.new.out.items in
-    let w = c.take_out-next.new.window.items in
-    let z = option_to_list c.take_out-next.result in
-    let r = c.requires.reach in
-    let k = opened xs o w z c.args.reach.front.index c.args.reach.first.index c.args.reach.last c.args.reach.front.place c.args.reach.first.place
-    c.take_out-next.ensures.window c.take_out-next.ensures.next r.3 (omega (arith, c.take_out-next.ensures.out, c.take_out-next.new.out.ok)) r.6 r.7 r.0.1 r.1.1 in
+    let u = c.take_out-next in
+    let k = reached _ u.new.out.items u.new.window.items u.result c.args.p c.args.q c.args.reach c.requires.reach u.ensures.window u.ensures.next (omega (arith, u.ensures.out, u.new.out.ok)) in
     omega (arith, k.lengths, c.requires.total)
 
 pub change_members-requires-clause-within : goal.change_members-requires-clause-within
 change_members-requires-clause-within c =
-    let xs = c.args.sections.now.items in
-    let o = c.take_out-next.new.out.items in
-    let w = c.take_out-next.new.window.items in
-    let z = option_to_list c.take_out-next.result in
-    let r = c.requires.reach in
-    let k = opened xs o w z c.args.reach.front.index c.args.reach.first.index c.args.reach.last c.args.reach.front.place c.args.reach.first.place
-    c.take_out-next.ensures.window c.take_out-next.ensures.next r.3 (omega (arith, c.take_out-next.ensures.out, c.take_out-next.new.out.ok)) r.6 r.7 r.0.1 r.1.1 in
-    omega (arith, k.before, k.ends, r.2, r.8, c.requires.ascending)
+    let u = c.take_out-next in
+    let k = reached _ u.new.out.items u.new.window.items u.result c.args.p c.args.q c.args.reach c.requires.reach u.ensures.window u.ensures.next (omega (arith, u.ensures.out, u.new.out.ok)) in
+    grind (arith, k)
 
 pub change_members-requires-clause-room : goal.change_members-requires-clause-room
 change_members-requires-clause-room c =
-    let xs = c.args.sections.now.items in
-    let o = c.take_out-next.new.out.items in
-    let w = c.take_out-next.new.window.items in
-    let z = option_to_list c.take_out-next.result in
-    let r = c.requires.reach in
-    let k = opened xs o w z c.args.reach.front.index c.args.reach.first.index c.args.reach.last c.args.reach.front.place c.args.reach.first.place
-    c.take_out-next.ensures.window c.take_out-next.ensures.next r.3 (omega (arith, c.take_out-next.ensures.out, c.take_out-next.new.out.ok)) r.6 r.7 r.0.1 r.1.1 in
-    omega (arith, k.count, c.take_out-next.new.out.ok, c.take_out-next.new.window.ok, c.args.sections.now.ok, c.requires.room, c.take_out-next.ensures.kept)
+    let u = c.take_out-next in
+    let k = reached _ u.new.out.items u.new.window.items u.result c.args.p c.args.q c.args.reach c.requires.reach u.ensures.window u.ensures.next (omega (arith, u.ensures.out, u.new.out.ok)) in
+    grind (arith, k)
 
 pub push_next-requires-clause-room : goal.push_next-requires-clause-room
 push_next-requires-clause-room c =
-    let xs = c.args.sections.now.items in
-    let o = c.take_out-next.new.out.items in
-    let w = c.take_out-next.new.window.items in
-    let z = option_to_list c.take_out-next.result in
-    let r = c.requires.reach in
-    let k = opened xs o w z c.args.reach.front.index c.args.reach.first.index c.args.reach.last c.args.reach.front.place c.args.reach.first.place
-    c.take_out-next.ensures.window c.take_out-next.ensures.next r.3 (omega (arith, c.take_out-next.ensures.out, c.take_out-next.new.out.ok)) r.6 r.7 r.0.1 r.1.1 in
-    omega (
-      arith,
-      k.count,
-      c.take_out-next.new.out.ok,
-      c.take_out-next.new.window.ok,
-      c.args.sections.now.ok,
-      c.requires.room,
-      c.take_out-next.ensures.kept,
-      c.change_members.ensures.len,
-      c.change_members.ensures.capacity,
-    )
+    let u = c.take_out-next in
+    let k = reached _ u.new.out.items u.new.window.items u.result c.args.p c.args.q c.args.reach c.requires.reach u.ensures.window u.ensures.next (omega (arith, u.ensures.out, u.new.out.ok)) in
+    grind (arith, k)
 
 pub push_next-requires-clause-within : goal.push_next-requires-clause-within
 push_next-requires-clause-within c =
-    let xs = c.args.sections.now.items in
-    let o = c.take_out-next.new.out.items in
-    let w = c.take_out-next.new.window.items in
-    let z = option_to_list c.take_out-next.result in
-    let r = c.requires.reach in
-    let k = opened xs o w z c.args.reach.front.index c.args.reach.first.index c.args.reach.last c.args.reach.front.place c.args.reach.first.place
-    c.take_out-next.ensures.window c.take_out-next.ensures.next r.3 (omega (arith, c.take_out-next.ensures.out, c.take_out-next.new.out.ok)) r.6 r.7 r.0.1 r.1.1 in
-    let t = cells_of o ++ cells_back w in
-    let m = cells_of c.args.more.now.items in
-    let at = length (cells_of o) + (c.args.p - c.args.reach.first.place) in
-    let n = c.args.q - c.args.p in
-    let sum = length-append (cells_of o) (cells_back w) in
-    let inside : at + n ≤ length t = omega (arith, sum, k.before, k.ends, r.2, r.8, c.requires.ascending) in
-    omega (arith, sum, ap length c.change_members.ensures.cells, change-length t m at (at + n) (omega arith) inside, k.lengths, c.requires.total)
+    let u = c.take_out-next in
+    let k = reached _ u.new.out.items u.new.window.items u.result c.args.p c.args.q c.args.reach c.requires.reach u.ensures.window u.ensures.next (omega (arith, u.ensures.out, u.new.out.ok)) in
+    grind (arith, k, length-append, change-length)
 
 pub put_back-requires-clause-room : goal.put_back-requires-clause-room
 put_back-requires-clause-room c =
-    let xs = c.args.sections.now.items in
-    let o = c.take_out-next.new.out.items in
-    let w = c.take_out-next.new.window.items in
-    let z = option_to_list c.take_out-next.result in
-    let r = c.requires.reach in
-    let k = opened xs o w z c.args.reach.front.index c.args.reach.first.index c.args.reach.last c.args.reach.front.place c.args.reach.first.place
-    c.take_out-next.ensures.window c.take_out-next.ensures.next r.3 (omega (arith, c.take_out-next.ensures.out, c.take_out-next.new.out.ok)) r.6 r.7 r.0.1 r.1.1 in
-    let behind = length-drop (c.args.reach.last + 1) xs in
-    omega (
-      arith,
-      k.count,
-      c.take_out-next.new.out.ok,
-      c.take_out-next.new.window.ok,
-      c.args.sections.now.ok,
-      c.requires.room,
-      c.take_out-next.ensures.kept,
-      behind,
-      c.take_out-next.ensures.len,
-      c.take_out-next.new.sections.ok,
-      c.change_members.ensures.len,
-      c.push_next.ensures.len,
-      c.take_out-next.ensures.capacity,
-      c.requires.list_room,
-    )
+    let u = c.take_out-next in
+    let k = reached _ u.new.out.items u.new.window.items u.result c.args.p c.args.q c.args.reach c.requires.reach u.ensures.window u.ensures.next (omega (arith, u.ensures.out, u.new.out.ok)) in
+    grind (arith, k, length-drop)
 
 pub returns-clause-len : goal.returns-clause-len
 returns-clause-len c =
-    let xs = c.args.sections.now.items in
-    let o = c.take_out-next.new.out.items in
-    let w = c.take_out-next.new.window.items in
-    let z = option_to_list c.take_out-next.result in
-    let r = c.requires.reach in
-    let k = opened xs o w z c.args.reach.front.index c.args.reach.first.index c.args.reach.last c.args.reach.front.place c.args.reach.first.place
-    c.take_out-next.ensures.window c.take_out-next.ensures.next r.3 (omega (arith, c.take_out-next.ensures.out, c.take_out-next.new.out.ok)) r.6 r.7 r.0.1 r.1.1 in
-    let behind = length-drop (c.args.reach.last + 1) xs in
-    omega (
-      arith,
-      k.count,
-      c.take_out-next.new.out.ok,
-      c.take_out-next.new.window.ok,
-      c.args.sections.now.ok,
-      c.requires.room,
-      c.take_out-next.ensures.kept,
-      behind,
-      c.take_out-next.ensures.len,
-      c.take_out-next.new.sections.ok,
-      c.change_members.ensures.len,
-      c.push_next.ensures.len,
-      c.put_back.ensures.len,
-    )
+    let u = c.take_out-next in
+    let k = reached _ u.new.out.items u.new.window.items u.result c.args.p c.args.q c.args.reach c.requires.reach u.ensures.window u.ensures.next (omega (arith, u.ensures.out, u.new.out.ok)) in
+    grind (arith, k, length-drop)
 
 pub returns-clause-cells : goal.returns-clause-cells
 returns-clause-cells c =
@@ -149,8 +62,8 @@ returns-clause-cells c =
     let w = c.take_out-next.new.window.items in
     let z = option_to_list c.take_out-next.result in
     let r = c.requires.reach in
-    let k = opened xs o w z c.args.reach.front.index c.args.reach.first.index c.args.reach.last c.args.reach.front.place c.args.reach.first.place
-    c.take_out-next.ensures.window c.take_out-next.ensures.next r.3 (omega (arith, c.take_out-next.ensures.out, c.take_out-next.new.out.ok)) r.6 r.7 r.0.1 r.1.1 in
+    let u = c.take_out-next in
+    let k = reached _ u.new.out.items u.new.window.items u.result c.args.p c.args.q c.args.reach c.requires.reach u.ensures.window u.ensures.next (omega (arith, u.ensures.out, u.new.out.ok)) in
     let t = cells_of o ++ cells_back w in
     let m = cells_of c.args.more.now.items in
     let at = length (cells_of o) + (c.args.p - c.args.reach.first.place) in
@@ -178,8 +91,8 @@ returns-clause-normal c =
     let w = c.take_out-next.new.window.items in
     let z = option_to_list c.take_out-next.result in
     let r = c.requires.reach in
-    let k = opened xs o w z c.args.reach.front.index c.args.reach.first.index c.args.reach.last c.args.reach.front.place c.args.reach.first.place
-    c.take_out-next.ensures.window c.take_out-next.ensures.next r.3 (omega (arith, c.take_out-next.ensures.out, c.take_out-next.new.out.ok)) r.6 r.7 r.0.1 r.1.1 in
+    let u = c.take_out-next in
+    let k = reached _ u.new.out.items u.new.window.items u.result c.args.p c.args.q c.args.reach c.requires.reach u.ensures.window u.ensures.next (omega (arith, u.ensures.out, u.new.out.ok)) in
     let d = drop (c.args.reach.last + 1) xs in
     let o' = c.push_next.new.out.items in
     let a = take c.args.reach.front.index xs in

@@ -3,7 +3,7 @@ use Rattle.std.proofs.lemmas.Result.{IfOk-weaker}
 use Rattle.clap.specs.Words.{is_simple, subcommand_of, subcommand_rows_of}
 use Rattle.clap.proofs.OnLiterals.{clap_on_literals}
 use Rattle.sam_session.specs.Words.{HoldsMode, attached, program}
-use Rattle.sam_session.specs.Types.{Mode}
+use Rattle.sam_session.specs.declared.words.Mode.{Mode}
 use Rattle.sam_session.proofs.words.mode_of.Goals as goal
 
 is_simple_program : is_simple program ≡ true

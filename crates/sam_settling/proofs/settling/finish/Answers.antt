@@ -1,7 +1,7 @@
 use Rattle.std.proofs.Common.{◌∙◌, [], ◌∷◌, Option, Some, subst, arith}
 use Rattle.sam_settling.specs.Settled.{stops_of}
 use Rattle.sam_settling.specs.Settling.{LinesGive, IsReplay}
-use Rattle.sam_settling.specs.Types.{Replay}
+use Rattle.sam_settling.specs.declared.settling.Replay.{Replay}
 use Rattle.sam_settling.proofs.SettlingLaws.{always_replays, source_leads}
 use Rattle.sam_settling.proofs.SettlingLists.{pushed_three}
 use Rattle.sam_settling.proofs.settling.finish.Goals as goal

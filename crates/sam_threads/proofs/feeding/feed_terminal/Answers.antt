@@ -1,5 +1,5 @@
 use Rattle.std.proofs.Common.{refl, arith}
-use Rattle.sam_mesg.specs.Types.{BadKind, BadLength, BadText}
+use Rattle.sam_mesg.specs.declared.fault.MesgFault.TheVariants.{BadKind, BadLength, BadText}
 use Rattle.sam_threads.proofs.Feeds.{all_fit, fed_all, fed_before}
 use Rattle.sam_threads.proofs.feeding.feed_terminal.Goals as goal
 

@@ -1,5 +1,5 @@
 use Rattle.std.proofs.Common.{refl}
-use Rattle.sam_mesg.specs.Types.{BadKind, BadLength, BadText}
+use Rattle.sam_mesg.specs.declared.fault.MesgFault.TheVariants.{BadKind, BadLength, BadText}
 use Rattle.sam_threads.proofs.Passes.{passed_all, passed_before}
 use Rattle.sam_threads.proofs.reader.pass_piece.Goals as goal
 

@@ -1,6 +1,6 @@
 use Rattle.std.proofs.Common.{◌≡◌, ◌++◌, map}
 use Rattle.std.specs.Vec.Iter.{into_iter_items}
-use Rattle.sam_threads.specs.Types.{User}
+use Rattle.sam_threads.specs.declared.input.Input.TheVariants.{User}
 use Rattle.sam_threads.proofs.users.put_events.Given as goal
 
 abbrev pub invariant-loop-event : goal.invariant-loop-event

@@ -6,7 +6,8 @@ use denote.RawPtr.{Ptr}
 use denote.Param.Send.{AllSend, IsSend, owning_send, sendable, struct_send}
 use denote.Struct.Owning.{fields, shape, to}
 use denote.Struct.Struct.{exits_of}
-use Rattle.std.proofs.Common.{Global, None, Option, Some}
+use Rattle.std.proofs.Common.{None, Option, Some}
+use Rattle.std.specs.Global.{Global}
 use Rattle.std.proofs.Crossing as heap
 use Rattle.std_alloc.proofs.SendSync.{lies, quiet}
 use Rattle.std_heap.proofs.Global.TheSendSync as handle

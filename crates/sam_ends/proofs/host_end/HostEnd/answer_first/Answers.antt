@@ -1,5 +1,5 @@
 use Rattle.std.proofs.Common.{◌≡◌, ◌∙◌, ◌++◌, refl, sym, ap, subst, List, ℕ, Ok}
-use Rattle.sam_mesg.specs.HostKinds.{HFrame}
+use Rattle.sam_mesg.specs.declared.hmesg.HFrame.{HFrame}
 use Rattle.sam_host.specs.Host.{answer}
 use Rattle.sam_host.specs.Laws.{FitInPlace}
 use Rattle.sam_ends.specs.HostEnds.{PlainHostEnd, writes_of}

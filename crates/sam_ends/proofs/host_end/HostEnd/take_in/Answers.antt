@@ -1,5 +1,5 @@
 use Rattle.std.proofs.Common.{refl, sym, subst, List}
-use Rattle.sam_mesg.specs.TerminalKinds.{Tmesg}
+use Rattle.sam_mesg.specs.declared.tmesg.Tmesg.{Tmesg}
 use Rattle.sam_frame.specs.Direction.{terminal}
 use Rattle.sam_ends.specs.Streams.{Gives}
 use Rattle.sam_ends.proofs.HostEndFits.{taken_sound}

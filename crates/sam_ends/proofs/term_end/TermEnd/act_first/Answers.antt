@@ -2,7 +2,7 @@ use Rattle.std.proofs.Common.{◌≡◌, ◌∙◌, sym, ap, subst, ◌++◌, �
 use Rattle.sam_ends.specs.Streams.{FitMessages}
 use Rattle.sam_term.specs.Fitting.{AllFit, composed_in}
 use Rattle.sam_term.specs.Term.{act_of}
-use Rattle.sam_term.specs.Types.{Idle, Locked, Done, Refused}
+use Rattle.sam_term.specs.declared.event.Acted.TheVariants.{Idle, Locked, Done, Refused}
 use Rattle.sam_ends.specs.TermEnds.{PlainTermEnd, IsQuiet, oldest, shown}
 use Rattle.sam_ends.specs.TermSteps.{ActsFirst}
 use Rattle.sam_ends.proofs.TermEndSteps.{idle_counted, locked_counted, settled_counted, acted_stamped, idle_quiet, locked_quiet, acted_first, refused_number}

@@ -1,6 +1,6 @@
 use Rattle.std.proofs.Common.{refl, arith, [], ◌∷◌, rules}
-use Rattle.sam_mesg.specs.TerminalKinds.{Tsnarf, Tcut}
-use Rattle.sam_term.specs.Events.{Cut}
+use Rattle.sam_mesg.specs.declared.tmesg.Tmesg.TheVariants.{Tsnarf, Tcut}
+use Rattle.sam_term.specs.declared.event.UserEvent.TheVariants.{Cut}
 use Rattle.sam_term.proofs.Composes.{flushed-sent}
 use Rattle.sam_term.proofs.CountLaws.{sent-composed}
 use Rattle.sam_term.proofs.Edits.{later, quiet_answer, loud_answer, two_more, refused_by, made-cut, made-cut_none}

@@ -1,7 +1,7 @@
 use Rattle.std.proofs.Common.{ap, ◌∙◌, sym, subst, drop}
 use Rattle.sam_term.specs.Term.{flush_of, flushed}
 use Rattle.sam_term.specs.Taking.{done, countable, IsFailure}
-use Rattle.sam_term.specs.Events.{Flush}
+use Rattle.sam_term.specs.declared.event.UserEvent.TheVariants.{Flush}
 use Rattle.sam_term.proofs.Acts.{made_of}
 use Rattle.sam_term.proofs.Edits.{held-flushed, flushed-held, done_later, failed_later}
 use Rattle.sam_term.proofs.term.Terminal.make_flush.Goals as goal

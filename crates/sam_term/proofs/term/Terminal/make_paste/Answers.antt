@@ -1,7 +1,7 @@
 use Rattle.std.proofs.Common.{ap, ◌∙◌, refl, arith, [], ◌∷◌}
 use Rattle.sam_term.specs.Term.{is_open, edited, flushed, composed}
-use Rattle.sam_mesg.specs.TerminalKinds.{Tpaste, Tcut}
-use Rattle.sam_term.specs.Events.{Paste}
+use Rattle.sam_mesg.specs.declared.tmesg.Tmesg.TheVariants.{Tpaste, Tcut}
+use Rattle.sam_term.specs.declared.event.UserEvent.TheVariants.{Paste}
 use Rattle.sam_term.proofs.Acts.{made_of, opened_by}
 use Rattle.sam_term.proofs.Composes.{flushed-sent}
 use Rattle.sam_term.proofs.CountLaws.{sent-composed}

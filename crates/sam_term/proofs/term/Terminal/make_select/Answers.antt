@@ -1,6 +1,6 @@
 use Rattle.std.proofs.Common.{ap, ◌∙◌, refl, arith}
 use Rattle.sam_term.specs.Term.{set_dot_of}
-use Rattle.sam_term.specs.Events.{Select}
+use Rattle.sam_term.specs.declared.event.UserEvent.TheVariants.{Select}
 use Rattle.sam_term.proofs.Acts.{opened_by}
 use Rattle.sam_term.proofs.Edits.{quiet_answer, selects_within}
 use Rattle.sam_term.proofs.term.Terminal.make_select.Goals as goal

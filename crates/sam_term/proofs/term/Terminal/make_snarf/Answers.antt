@@ -1,5 +1,5 @@
 use Rattle.std.proofs.Common.{arith, rules}
-use Rattle.sam_term.specs.Events.{Snarf}
+use Rattle.sam_term.specs.declared.event.UserEvent.TheVariants.{Snarf}
 use Rattle.sam_term.proofs.Acts.{made_of}
 use Rattle.sam_term.proofs.Edits.{later, quiet_answer, made-snarf, made-snarf_none}
 use Rattle.sam_term.proofs.term.Terminal.make_snarf.Goals as goal

@@ -1,6 +1,6 @@
 use Rattle.std.proofs.Common.{sym, ap, ◌∙◌, refl, arith, [], ◌∷◌, ◌++◌}
 use Rattle.sam_term.specs.Editing.{shown_from}
-use Rattle.sam_term.specs.Events.{View}
+use Rattle.sam_term.specs.declared.event.UserEvent.TheVariants.{View}
 use Rattle.sam_term.proofs.Acts.{opened_by}
 use Rattle.sam_term.proofs.Edits.{later, quiet_answer, loud_answer, refused_by, views_within, made-view, made-view_none, flushed-messages}
 use Rattle.sam_term.proofs.term.Terminal.make_view.Goals as goal

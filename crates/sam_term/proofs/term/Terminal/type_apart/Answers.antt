@@ -2,7 +2,7 @@ use Rattle.std.proofs.Common.{◌≤◌, sym, ap, ◌∙◌, refl, arith, ◌++�
 use Rattle.sam_term.specs.Acting.{first_event}
 use Rattle.sam_term.specs.Editing.{typed_over, typed_runes, cut_message, one_if, flushed_if}
 use Rattle.sam_term.specs.Term.{PlainTerminal, Made, window_at, edited, all_composed, unsent_message, flushed}
-use Rattle.sam_term.specs.Events.{Typed}
+use Rattle.sam_term.specs.declared.event.UserEvent.TheVariants.{Typed}
 use Rattle.sam_term.proofs.Acts.{opened_by}
 use Rattle.sam_term.proofs.Edits.{later, loud_answer, opened-put, flushed-messages}
 use Rattle.sam_term.proofs.Marks.{edited-put}

@@ -1,7 +1,8 @@
 use Rattle.std.proofs.Common.{sym, ap, ◌∙◌, refl, arith, Some, inl}
 use Rattle.sam_term.specs.Acting.{first_event}
 use Rattle.sam_term.specs.Editing.{typed_over, typed_runes, one_if, flushed_if}
-use Rattle.sam_term.specs.Events.{is_command_line, Typed}
+use Rattle.sam_term.specs.Events.{is_command_line}
+use Rattle.sam_term.specs.declared.event.UserEvent.TheVariants.{Typed}
 use Rattle.sam_term.specs.Term.{PlainTerminal, window_at, put_window, edited, joins, joined}
 use Rattle.sam_term.proofs.Acts.{opened_by}
 use Rattle.sam_term.proofs.Edits.{later, loud_answer, opened-put}

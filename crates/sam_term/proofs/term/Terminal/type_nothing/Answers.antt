@@ -1,6 +1,6 @@
 use Rattle.std.proofs.Common.{refl, arith, [], ◌∷◌, rules}
-use Rattle.sam_mesg.specs.TerminalKinds.{Tcut}
-use Rattle.sam_term.specs.Events.{Typed}
+use Rattle.sam_mesg.specs.declared.tmesg.Tmesg.TheVariants.{Tcut}
+use Rattle.sam_term.specs.declared.event.UserEvent.TheVariants.{Typed}
 use Rattle.sam_term.proofs.Composes.{flushed-sent}
 use Rattle.sam_term.proofs.Edits.{later, quiet_answer, loud_answer, one_more, refused_by}
 use Rattle.sam_term.proofs.TypedMade.{made-nothing, made-nothing_none}

@@ -1,6 +1,6 @@
 use Rattle.std.proofs.Common.{◌≡◌, sym, subst, false, [], List, is_some}
-use Rattle.sam_mesg.specs.TerminalKinds.{Tmesg}
-use Rattle.sam_term.specs.Types.{Acted}
+use Rattle.sam_mesg.specs.declared.tmesg.Tmesg.{Tmesg}
+use Rattle.sam_term.specs.declared.event.Acted.{Acted}
 use Rattle.sam_world.specs.World.{composed_by}
 use Rattle.sam_threads.specs.TermMoments.{Did}
 use Rattle.sam_threads.proofs.TermKeeping.{kept_done, kept_lost_messages, kept_silent}

@@ -1,5 +1,5 @@
 use Rattle.std.proofs.Common.{◌≡◌, sym, subst, false, [], List, is_some}
-use Rattle.sam_mesg.specs.TerminalKinds.{Tmesg}
+use Rattle.sam_mesg.specs.declared.tmesg.Tmesg.{Tmesg}
 use Rattle.sam_threads.specs.TermMoments.{Did}
 use Rattle.sam_threads.proofs.TermKeeping.{kept_done, kept_lost_messages}
 use Rattle.sam_threads.proofs.term_side.Side.flush.Goals as goal

@@ -1,6 +1,6 @@
 use Rattle.std.proofs.Common.{rules, arith, ◌≡◌, ℕ, ◌≤◌, sym, subst, false, List, Some, None, is_some}
 use Rattle.std.proofs.lemmas.Grind.{common_steps}
-use Rattle.sam_mesg.specs.TerminalKinds.{Tmesg}
+use Rattle.sam_mesg.specs.declared.tmesg.Tmesg.{Tmesg}
 use Rattle.sam_queue.specs.Views.{TakesNext}
 use Rattle.sam_threads.specs.Inputs.{user_of_load, frame_of_load}
 use Rattle.sam_threads.specs.TermMoments.{SideView, Did}
