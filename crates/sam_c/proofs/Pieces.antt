@@ -2,9 +2,7 @@
 use Rattle.std.proofs.Common.{arith}
 use seplogic.Ra.Ura.{Ura}
 use types.Logic.{Logic}
-use Rattle.sam_c.proofs.Walks.{◌≡◌, List, [], ◌∷◌, ◌++◌, Option, Some, is_some, true, true≢false, refl, ap, ◌∙◌, T, lit<, Ty, tcons, tnil, ty_ptr, ty_struct, Val, WT, has_ty}
-use Rattle.sam_c.proofs.Walks.{of_list, vcons, vnil, vstruct, Fml, id⊢, Goal, Item, Seq, Step, ‵, ◌$◌, step, move, drop, use1, fsplit, fjoin, fpick, fpack, feq_l, feq_i, RattleType, Valss}
-use Rattle.sam_c.proofs.Walks.{Ptr, RawPtr, ptr_val, nothing, shape, within, Fits, handle_tells, token, α, B, Bx, P, R, X, handle, and_tt}
+use Rattle.sam_c.proofs.Walks.{◌≡◌, List, [], ◌∷◌, ◌++◌, Option, Some, is_some, true, true≢false, refl, ap, ◌∙◌, T, lit<, Ty, tcons, tnil, ty_ptr, ty_struct, Val, WT, has_ty, of_list, vcons, vnil, vstruct, Fml, id⊢, Goal, Item, Seq, Step, ‵, ◌$◌, step, move, drop, use1, fsplit, fjoin, fpick, fpack, feq_l, feq_i, RattleType, Valss, Ptr, RawPtr, ptr_val, nothing, shape, within, Fits, handle_tells, token, α, B, Bx, P, R, X, handle, and_tt}
 use Rattle.sam_c.specs.Handles.{holds}
 use Rattle.sam_c.specs.contracts.parts.Parts as parts
 

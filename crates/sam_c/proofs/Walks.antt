@@ -10,8 +10,7 @@ pub use prog.Wp.{WpFn}
 pub use contract.BorrowLft.{◌⊑◌}
 pub use contract.Monad.{fact}
 pub use contract.Running.{tables}
-pub use types.Kit.{Goal, Item, Seq, Step, ‵, raw, some, later, prop, at_ret, ◌⊛◌, ◌$◌, ◌∵◌, !, qed, step, done, suffices, await, regoal, rewrite}
-pub use types.Kit.{move, drop, use1, join, split, split3, pick, fsplit, fjoin, fpick, fpack, feq_l, feq_i}
+pub use types.Kit.{Goal, Item, Seq, Step, ‵, raw, some, later, prop, at_ret, ◌⊛◌, ◌$◌, ◌∵◌, !, qed, step, done, suffices, await, regoal, rewrite, move, drop, use1, join, split, split3, pick, fsplit, fjoin, fpick, fpack, feq_l, feq_i}
 pub use types.Part.{agg, sub, whole}
 pub use types.Run.{and_then, blocks, enter, exec, first, fld, lit, no_more, of_opd, returns, stop}
 pub use types.ByLocal.{alloc_all, env, free_all, get, get_in, lands_as, lands_last, look_at, pass_all, sets}

@@ -1,13 +1,9 @@
 -- Files that a host end begins with.
-use Rattle.std.proofs.Common.{◌≡◌, ◌≤◌, ℕ, false, List, length, None, arith, chars, IsUtf8, encode_utf8_all}
+use Rattle.sam_ends.proofs.Common.{◌≡◌, ◌≤◌, ℕ, false, List, length, None, arith, chars, IsUtf8, encode_utf8_all, IsUtf8-from_is_utf8, chars_from_encodes, PlainHost, with_given, PlainHostEnd, open_checks, with_file}
 use Rattle.std.specs.Str.{is_utf8}
-use Rattle.std.proofs.lemmas.Str.{IsUtf8-from_is_utf8, chars_from_encodes}
 use Rattle.sam_runes.specs.Checks.{first_of_checks}
 use Rattle.sam_runes.specs.Reading.{AreRunes}
 use Rattle.sam_runes.specs.Texts.{most_in_name}
-use Rattle.sam_host.specs.Host.{PlainHost, with_given}
-use Rattle.sam_ends.specs.declared.fault.OpenFault.TheVariants as refusal
-use Rattle.sam_ends.specs.HostEnds.{PlainHostEnd, open_checks, with_file}
 
 pub not_text : (bytes : List ℕ) → (IsUtf8 bytes → ⊥) → is_utf8 bytes ≡ false
 not_text bytes none = grind (arith, IsUtf8-from_is_utf8)

@@ -1,18 +1,7 @@
 -- What waits in a host end fits: messages that a framer gave, and the frames of an answer.
-use Rattle.std.proofs.Common.{◌≡◌, subst, ℕ, false, List, [], ◌∷◌, Option, None, arith}
-use Rattle.std.proofs.lemmas.List.Elements.{All-nil, All-cons, All-tail}
-use Rattle.sam_mesg.specs.declared.tmesg.Tmesg.{Tmesg}
+use Rattle.sam_ends.proofs.Common.{◌≡◌, subst, ℕ, false, List, [], ◌∷◌, Option, None, arith, All-nil, All-cons, All-tail, Tmesg, terminal, FitInTurn, Held, FitInPlace, FitsLast, StreamFault, FitMessages, Gives, PlainHostEnd, IsSound}
 use Rattle.sam_mesg.proofs.Versions.{grows_t}
-use Rattle.sam_frame.specs.Direction.{terminal}
-use Rattle.sam_frame.specs.Stream.{FitInTurn}
-use Rattle.sam_frame.specs.Framing.{Held}
-use Rattle.sam_host.specs.Laws.{FitInPlace}
 use Rattle.sam_host.proofs.LastVersion.{fit_in_last}
-use Rattle.sam_term.specs.Fitting.{FitsLast}
-use Rattle.sam_ends.specs.declared.fault.StreamFault.{StreamFault}
-use Rattle.sam_ends.specs.Streams.{FitMessages, Gives}
-use Rattle.sam_ends.specs.HostEnds.{PlainHostEnd}
-use Rattle.sam_ends.specs.HostSteps.{IsSound}
 
 fit_in_turn : (version : ℕ) (ms : List Tmesg) → FitInTurn terminal version ms → FitMessages ms
 fit_in_turn version [] fit = All-nil FitsLast

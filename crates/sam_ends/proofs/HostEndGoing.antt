@@ -1,34 +1,16 @@
 -- Going on with what waits, step by step.
-use Rattle.std.proofs.Common.{◌≡◌, refl, sym, subst, ◌∙◌, ℕ, List, [], ◌∷◌, ◌++◌, drop, true, Option, None, Ok, Err, inl, inr, append_assoc, append-nil, arith}
-use Rattle.sam_mesg.specs.declared.tmesg.Tmesg.{Tmesg}
-use Rattle.sam_mesg.specs.declared.hmesg.HFrame.{HFrame}
-use Rattle.sam_frame.specs.Direction.{host, terminal}
-use Rattle.sam_frame.specs.Stream.{stream_of}
-use Rattle.sam_frame.specs.Framing.{Held}
-use Rattle.sam_frame.proofs.Fronts.{stream_of-append}
-use Rattle.sam_host.specs.Host.{PlainHost, answer}
-use Rattle.sam_ends.specs.declared.fault.StreamFault.{StreamFault}
-use Rattle.sam_ends.specs.declared.fault.HostStop.{HostStop}
-use Rattle.sam_ends.specs.declared.fault.EndFault.{EndFault}
+use Rattle.sam_ends.proofs.Common.{◌≡◌, refl, sym, subst, ◌∙◌, ℕ, List, [], ◌∷◌, ◌++◌, drop, true, Option, None, Ok, Err, inl, inr, append_assoc, append-nil, arith, Tmesg, HFrame, host, terminal, stream_of, Held, stream_of-append, PlainHost, answer, StreamFault, HostStop, EndFault, Gives, PlainHostEnd, Answers, Feeds, GoesOn, Serves, TakesIn, writes_of, Answer, AnswersFirst, Ends, Writes}
 use Rattle.sam_ends.specs.declared.fault.HostStop.TheVariants as stop
 use Rattle.sam_ends.specs.declared.fault.EndFault.TheVariants as fault
-use Rattle.sam_ends.specs.Streams.{Gives}
-use Rattle.sam_ends.specs.HostEnds.{PlainHostEnd, Answers, Feeds, GoesOn, Serves, TakesIn, writes_of}
-use Rattle.sam_ends.specs.HostSteps.{Answer, AnswersFirst, Ends, Writes, stopped, written}
+use Rattle.sam_ends.specs.HostSteps.{written}
 
 -- ## Answers one behind another
 
 pub serves_more : (h : PlainHost) (ms : List Tmesg) (first : List HFrame) (writes : List ℕ) (k : PlainHost) (ns : List Tmesg) (rest : List HFrame) (more : List ℕ) (g : PlainHost)
     → Serves h ms first writes k → Serves k ns rest more g → Serves h (ms ++ ns) (first ++ rest) (writes ++ more) g
 serves_more h [] first writes k ns rest more g p q = grind arith
-serves_more h (m ∷ ms) first writes k ns rest more g (middle, front, back, noted, answered, frames, notes, serves) q = grind (
-  arith,
-  append_assoc,
-  (serves_more middle ms back noted k ns rest more g serves q),
-)
-
-answers_none : (e : PlainHostEnd) → Answers e [] e
-answers_none e = grind (arith, append-nil)
+serves_more h (m ∷ ms) first writes k ns rest more g (middle, front, back, noted, answered, frames, notes, serves) q =
+    grind (arith, append_assoc, (serves_more middle ms back noted k ns rest more g serves q))
 
 bytes_more : (e k g : PlainHostEnd) (first rest : List HFrame) → k.outbox ++ stream_of host k.unwritten ≡ e.outbox ++ stream_of host (e.unwritten ++ first)
     → g.outbox ++ stream_of host g.unwritten ≡ k.outbox ++ stream_of host (k.unwritten ++ rest)
@@ -37,9 +19,6 @@ bytes_more e k g first rest p q = grind (arith, stream_of-append, append_assoc)
 
 answers_more : (e k g : PlainHostEnd) (ms ns : List Tmesg) → Answers e ms k → Answers k ns g → Answers e (ms ++ ns) g
 answers_more e k g ms ns p q = grind (arith, serves_more, append_assoc, bytes_more)
-
-written_answers : (e : PlainHostEnd) → Answers e [] (written e)
-written_answers e = grind (arith, append-nil)
 
 -- the oldest message was dropped
 pub first_waits : (waiting same left : List Tmesg) (m : Tmesg) → waiting ≡ same → same ≡ m ∷ drop 1 same → left ≡ drop 1 waiting → waiting ≡ m ∷ left
@@ -60,27 +39,19 @@ pub record HasGone (e l : PlainHostEnd) : Type 0 where
   pub goes : l.stop ≡ None
 
 then_written : (e k g : PlainHostEnd) (ms : List Tmesg) → Answers e ms k → k.stop ≡ None → g ≡ written k → HasGone e g
-then_written e k g ms p goes is = subst (λ (x : PlainHostEnd). HasGone e x) (sym is) (record {
-  messages = ms ++ [];
-  answers = answers_more e k (written k) ms [] p (written_answers k);
-  written = refl;
-  goes = goes;
-})
+then_written e k g ms p goes is = subst (λ (x : PlainHostEnd). HasGone e x) (sym is)
+    (record { messages = ms ++ []; answers = answers_more e k (written k) ms [] p (grind (arith, append-nil)); written = refl; goes = goes })
 
 first_gone : (e l k : PlainHostEnd) (gone : HasGone e l) (first : AnswersFirst l k) → Answers e (gone.messages ++ first.message ∷ []) k × (k.stop ≡ None)
 first_gone e l k gone first = grind (arith, answers_more, append-nil)
 
 pub starts : (e g : PlainHostEnd) → e.stop ≡ None → g ≡ written e → HasGone e g
-starts e g goes is = then_written e e g [] (answers_none e) goes is
+starts e g goes is = then_written e e g [] (grind (arith, append-nil)) goes is
 
 pub goes_further : (e l k g : PlainHostEnd) → HasGone e l → AnswersFirst l k → g ≡ written k → HasGone e g
 goes_further e l k g gone first is = grind (arith, (first_gone e l k gone first), (then_written e k g (gone.messages ++ first.message ∷ [])))
 
 -- ## Where it ends
-
--- the reason why it stops is no part of its answers
-stops : (e l : PlainHostEnd) (ms : List Tmesg) (why : HostStop) → Answers e ms l → Answers e ms (stopped l why)
-stops e l ms why p = grind arith
 
 pub not_written : (e l k g : PlainHostEnd) (why : EndFault HostStop) → HasGone e l → AnswersFirst l k → Writes k (Err why) g → GoesOn e (Err why) g
 not_written e l k g why gone first writes = grind (arith, (first_gone e l k gone first))

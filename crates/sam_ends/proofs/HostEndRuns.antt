@@ -1,24 +1,11 @@
 -- What every run of a host end comes to.
-use Rattle.std.proofs.Common.{◌≡◌, refl, sym, ap, subst, ◌∙◌, inl, inr, ℕ, List, [], ◌∷◌, ◌++◌, flat_map, Option, Some, None, Result, Ok, Err, append_assoc, append-nil, arith, option_map}
+use Rattle.sam_ends.proofs.Common.{◌≡◌, refl, sym, ap, subst, ◌∙◌, inl, inr, ℕ, List, [], ◌∷◌, ◌++◌, flat_map, Option, Some, None, Result, Ok, Err, append_assoc, append-nil, arith, option_map, Tmesg, HFrame, host, terminal, Splits, stream_of, version_after, Held, stream_of-append, version_after-append, Splits-then, PlainHost, answer, HostStop, StreamFault, Gives, mesg_fault, PlainHostEnd, Answers, Feeds, FeedsAfter, GoesOn, IsIdle, Serves, TakesIn, Answer}
 use Rattle.sam_mesg.specs.declared.fault.MesgFault.{MesgFault}
-use Rattle.sam_mesg.specs.declared.fault.MesgFault.TheVariants as wrong
-use Rattle.sam_mesg.specs.declared.tmesg.Tmesg.{Tmesg}
-use Rattle.sam_mesg.specs.declared.hmesg.HFrame.{HFrame}
-use Rattle.sam_frame.specs.Direction.{host, terminal}
-use Rattle.sam_frame.specs.Stream.{Splits, stream_of, version_after}
-use Rattle.sam_frame.specs.Framing.{Held}
 use Rattle.sam_frame.specs.Reading.{IsStream}
-use Rattle.sam_frame.proofs.Fronts.{stream_of-append, version_after-append, Splits-then}
 use Rattle.sam_frame.proofs.Cuttings.{Splits-longer}
-use Rattle.sam_host.specs.Host.{PlainHost, answer}
 use Rattle.sam_host.specs.declared.fault.HostFault.{HostFault}
-use Rattle.sam_ends.specs.declared.fault.HostStop.{HostStop}
-use Rattle.sam_ends.specs.declared.fault.StreamFault.{StreamFault}
-use Rattle.sam_ends.specs.declared.fault.StreamFault.TheVariants.{BadKind, BadLength, BadText}
 use Rattle.sam_ends.specs.declared.fault.EndFault.TheVariants as fault
-use Rattle.sam_ends.specs.Streams.{Gives, mesg_fault}
-use Rattle.sam_ends.specs.HostEnds.{PlainHostEnd, Answers, Feeds, FeedsAfter, FeedsIdle, GoesOn, IsIdle, Serves, TakesIn}
-use Rattle.sam_ends.specs.HostSteps.{Answer}
+use Rattle.sam_ends.specs.HostEnds.{FeedsIdle}
 use Rattle.sam_ends.specs.HostRuns.{Call, GoesOnAfter, HasServed, Runs, begun_with, came_in, went_out}
 use Rattle.sam_ends.proofs.HostEndGoing.{serves_more}
 
@@ -41,12 +28,13 @@ kept_answers h stream out e g ms a kept = record { served = grind (arith, append
 reads_more : (h k : Held) (stream piece : List ℕ) (before ms : List Tmesg) (behind : Option StreamFault) → Splits terminal 1 stream before h.bytes
     → h.version ≡ version_after terminal 1 before → Gives terminal h piece ms behind k
     → IsStream terminal 1 (stream ++ piece) (before ++ ms) k.bytes (option_map mesg_fault behind) × (k.version ≡ version_after terminal 1 (before ++ ms))
-reads_more h k stream piece before ms behind splits version gives = grind (
-  arith,
-  (Splits-longer terminal 1 stream before h.bytes piece splits),
-  (version_after-append terminal 1 before ms),
-  (Splits-then terminal 1 (stream ++ piece) before (h.bytes ++ piece) ms k.bytes),
-)
+reads_more h k stream piece before ms behind splits version gives =
+    grind (
+      arith,
+      (Splits-longer terminal 1 stream before h.bytes piece splits),
+      (version_after-append terminal 1 before ms),
+      (Splits-then terminal 1 (stream ++ piece) before (h.bytes ++ piece) ms k.bytes),
+    )
 
 kept_piece : (h : PlainHost) (stream out piece : List ℕ) (e k : PlainHostEnd) → e.waiting ≡ [] → TakesIn e piece k → Kept h stream out e → Kept h (stream ++ piece) out k
 kept_piece h stream out piece e k none (messages, behind, rest, gives, is) kept =
@@ -57,14 +45,7 @@ kept_piece h stream out piece e k none (messages, behind, rest, gives, is) kept 
     let version : e.framer.version ≡ version_after terminal 1 s.answered = kept.version ∙ ap (λ (x : List Tmesg). version_after terminal 1 x) all in
     let more = reads_more e.framer rest stream piece s.answered messages behind splits version gives in
     subst (λ (x : PlainHostEnd). Kept h (stream ++ piece) out x) (sym is) (record {
-      served = record {
-        answered = s.answered;
-        frames = s.frames;
-        writes = s.writes;
-        serves = s.serves;
-        reads = more.0;
-        bytes = s.bytes;
-      };
+      served = record { answered = s.answered; frames = s.frames; writes = s.writes; serves = s.serves; reads = more.0; bytes = s.bytes };
       version = more.1;
     })
 
@@ -82,22 +63,11 @@ kept_idle h stream out piece e g (Ok done) goes none (inl (k, takes, on)) kept =
     kept_goes_on h (stream ++ piece) out k g (Ok done) goes on (kept_piece h stream out piece e k none takes kept)
 kept_idle h stream out piece e g (Err fault.Unfinished) goes none (inl (k, takes, on)) kept =
     kept_goes_on h (stream ++ piece) out k g (Err fault.Unfinished) goes on (kept_piece h stream out piece e k none takes kept)
-kept_idle h stream out piece e g (Err fault.OutOfMemory) goes none (inl (k, takes, on)) kept = absurd on
-kept_idle h stream out piece e g (Err fault.CountFull) goes none (inl (k, takes, on)) kept = absurd on
+kept_idle h stream out piece e g (Err fault.OutOfMemory) goes none fed kept = kept_same h stream out e g (grind arith) kept
+kept_idle h stream out piece e g (Err fault.CountFull) goes none fed kept = kept_same h stream out e g (grind arith) kept
 kept_idle h stream out piece e g (Err (fault.Stopped why)) goes none fed kept = absurd goes
-kept_idle h stream out piece e g (Err fault.OutOfMemory) goes none (inr (inl (is, same))) kept = kept_same h stream out e g same kept
-kept_idle h stream out piece e g (Err fault.CountFull) goes none (inr (inr (is, full, same))) kept = kept_same h stream out e g same kept
-kept_idle h stream out piece e g (Ok done) goes none (inr (inl (is, same))) kept = absurd (cc)
-kept_idle h stream out piece e g (Ok done) goes none (inr (inr (is, full, same))) kept = absurd (cc)
-kept_idle h stream out piece e g (Err fault.Unfinished) goes none (inr (inl (is, same))) kept = absurd (cc)
-kept_idle h stream out piece e g (Err fault.Unfinished) goes none (inr (inr (is, full, same))) kept = absurd (cc)
-kept_idle h stream out piece e g (Err fault.OutOfMemory) goes none (inr (inr (is, full, same))) kept = absurd (cc)
-kept_idle h stream out piece e g (Err fault.CountFull) goes none (inr (inl (is, same))) kept = absurd (cc)
-
--- the fault with which a piece was not taken
-untaken : (h : PlainHost) (stream out piece : List ℕ) (e g : PlainHostEnd) (result : Answer) → result ≡ Err fault.OutOfMemory → g ≡ e → Kept h stream out e
-    → Kept h (stream ++ came_in (piece, Some result)) out g
-untaken h stream out piece e g result is same kept = grind (arith, (kept_same h stream out e g same kept))
+kept_idle h stream out piece e g (Ok done) goes none (inr fed) kept = absurd (grind arith)
+kept_idle h stream out piece e g (Err fault.Unfinished) goes none (inr fed) kept = absurd (grind arith)
 
 stopped_not : (result : Answer) (why : HostStop) → result ≡ Err (fault.Stopped why) → GoesOnAfter result → ⊥
 stopped_not result why is goes = subst GoesOnAfter is goes
@@ -107,7 +77,7 @@ kept_after : (h : PlainHost) (stream out piece : List ℕ) (e k g : PlainHostEnd
 kept_after h stream out piece e k g (Ok done) result goes on after kept =
     kept_idle h stream out piece k g result goes on.1.waiting after (kept_goes_on h stream out e k (Ok done) tt on kept)
 kept_after h stream out piece e k g (Err fault.Unfinished) result goes on (is, same) kept =
-    untaken h stream out piece k g result is same (kept_goes_on h stream out e k (Err fault.Unfinished) tt on kept)
+    grind (arith, (kept_same h stream out k g same (kept_goes_on h stream out e k (Err fault.Unfinished) tt on kept)))
 kept_after h stream out piece e k g first result u w q y = grind (arith, stopped_not)
 
 kept_feed : (h : PlainHost) (stream out piece : List ℕ) (e g : PlainHostEnd) (result : Answer) → GoesOnAfter result → Feeds e piece result g → Kept h stream out e
@@ -146,14 +116,7 @@ kept_run h stream out ((bytes, None) ∷ calls) e g (rest, is, runs) kept =
 
 pub runs_serve : (h : PlainHost) (calls : List Call) (g : PlainHostEnd) → Runs (begun_with h) calls g → HasServed h (flat_map came_in calls) (flat_map went_out calls) g
 runs_serve h calls g runs = (kept_run h [] [] calls (begun_with h) g runs (record {
-  served = record {
-    answered = [];
-    frames = [];
-    writes = [];
-    serves = (refl, refl, refl);
-    reads = record { splits = record { whole = refl; fit = tt }; ends = tt };
-    bytes = refl;
-  };
+  served = record { answered = []; frames = []; writes = []; serves = (refl, refl, refl); reads = record { splits = record { whole = refl; fit = tt }; ends = tt }; bytes = refl };
   version = refl;
 })).served
 
@@ -176,22 +139,12 @@ one_service : (h : PlainHost) (ms : List Tmesg) (a b : List HFrame) (v w : List 
 one_service h [] a b v w g k p q = (p.2 ∙ sym q.2, p.0 ∙ sym q.0)
 one_service h (m ∷ ms) a b v w g k (h1, a1, a2, v2, ans1, af, vf, p) (k1, b1, b2, w2, ans2, bf, wf, q) = grind (arith, (one_service k1 ms a2 b2 v2 w2 g k))
 
-abbrev told_fault : Option MesgFault → Option StreamFault
-told_fault None = None
-told_fault (Some wrong.BadKind) = Some BadKind
-told_fault (Some wrong.BadLength) = Some BadLength
-told_fault (Some wrong.BadText) = Some BadText
-told_fault (Some wrong.OutOfMemory) = None
-
-told_back : (o : Option StreamFault) → told_fault (option_map mesg_fault o) ≡ o
-told_back o = grind arith
+same_behind : (o p : Option StreamFault) → option_map mesg_fault o ≡ option_map mesg_fault p → o ≡ p
+same_behind o p e = grind arith
 
 idle_reads : (h : PlainHost) (stream out : List ℕ) (e : PlainHostEnd) (s : HasServed h stream out e) → e.waiting ≡ []
     → IsStream terminal 1 stream s.answered e.framer.bytes (option_map mesg_fault e.behind)
 idle_reads h stream out e s none = grind (arith, append-nil)
-
-idle_bytes : (h : PlainHost) (stream out : List ℕ) (e : PlainHostEnd) (s : HasServed h stream out e) → e.unwritten ≡ [] → out ++ e.outbox ≡ stream_of host s.frames
-idle_bytes h stream out e s none = grind (arith, append-nil)
 
 pub one_outcome : Reads → (h : PlainHost) (stream a b : List ℕ) (e g : PlainHostEnd) → HasServed h stream a e → HasServed h stream b g → IsIdle e → IsIdle g
     → (e.host ≡ g.host) × (a ++ e.outbox ≡ b ++ g.outbox) × (e.behind ≡ g.behind)
@@ -199,4 +152,4 @@ one_outcome reads h stream a b e g s t i j =
     let one = reads 1 stream s.answered t.answered e.framer.bytes g.framer.bytes (option_map mesg_fault e.behind) (option_map mesg_fault g.behind) (idle_reads h stream a e s i.waiting)
     (idle_reads h stream b g t j.waiting) in
     let same = one_service h t.answered s.frames t.frames s.writes t.writes e.host g.host (subst (λ (x : List Tmesg). Serves h x s.frames s.writes e.host) one.0 s.serves) t.serves in
-    (same.0, idle_bytes h stream a e s i.unwritten ∙ ap (λ (x : List HFrame). stream_of host x) same.1 ∙ sym (idle_bytes h stream b g t j.unwritten), grind (arith, idle_reads, told_back))
+    (same.0, grind (arith, append-nil), same_behind e.behind g.behind one.2)

@@ -1,3 +1,4 @@
+pub mod Common
 pub mod HostEndFits
 pub mod HostEndGoing
 pub mod HostEndFiles

@@ -1,12 +1,9 @@
 -- Members of a partial text that are copied, section by section, into a buffer.
-use Rattle.std.proofs.Common.{◌≡◌, ◌∙◌, sym, ap, ℕ, ◌+◌, ◌-◌, ◌<◌, ◌≤◌, ◌⊎◌, inl, List, [], ◌∷◌, ◌++◌, length, length-append, take, drop, suc, Option, Some, slice_get, append_assoc, arith, rules, map, min, get_or, set, drop-cons, append-nil, take_all, take-append-drop, length-drop, length-take, get_or-drop, drop_of_length-le}
+use Rattle.sam_ends.proofs.Common.{◌≡◌, ◌∙◌, sym, ap, ℕ, ◌+◌, ◌-◌, ◌<◌, ◌≤◌, ◌⊎◌, inl, List, [], ◌∷◌, ◌++◌, length, length-append, take, drop, suc, Option, Some, slice_get, append_assoc, arith, rules, map, min, get_or, set, drop-cons, append-nil, take_all, take-append-drop, length-drop, length-take, get_or-drop, drop_of_length-le, flat_map-append, common_steps, cells, cells_of, Copies, Shows, drawn}
 use Rattle.std.proofs.Math.Seq.{take-append-add, drop-append-add, set-append_seam}
 use Rattle.std.proofs.lemmas.Option.{get_or_from_slice_get}
 use Rattle.std.proofs.lemmas.List.{take-append-le, drop-append-le, take_more, length-map, map-append}
-use Rattle.std.proofs.lemmas.Grind.{flat_map-append, common_steps}
 use Rattle.sam_rasp.specs.declared.section.Section.{Section}
-use Rattle.sam_rasp.specs.Sections.{cells, cells_of}
-use Rattle.sam_ends.specs.Drawing.{Copies, Shows, drawn}
 
 either : (n m : ℕ) → (n ≤ m) ⊎ (m < n)
 either n m = grind arith
@@ -77,9 +74,10 @@ section-none front cells place count before now why shows = search (rules, commo
 -- where the buffer is full, the sections behind add nothing
 pub full-front : (sections : List Section) (i place count : ℕ) (before now : List ℕ) → length before ≤ count
     → Shows (cells_of (take i sections)) place before now count → Shows (cells_of sections) place before now count
-full-front sections i place count before now full shows = grind (
-  arith,
-  (flat_map-append cells (take i sections) (drop i sections)),
-  (take-append-drop i sections),
-  (section-none (cells_of (take i sections)) (cells_of (drop i sections)) place count before now (inl full) shows),
-)
+full-front sections i place count before now full shows =
+    grind (
+      arith,
+      (flat_map-append cells (take i sections) (drop i sections)),
+      (take-append-drop i sections),
+      (section-none (cells_of (take i sections)) (cells_of (drop i sections)) place count before now (inl full) shows),
+    )

@@ -1,14 +1,9 @@
 -- The calls of a terminal end, of its steps.
-use Rattle.std.proofs.lemmas.Grind.{common_steps}
-use Rattle.std.proofs.Common.{◌≡◌, refl, ℕ, ◌+◌, inl, inr, List, [], ◌∷◌, ◌++◌, length, None, Ok, Err, arith, rules}
-use Rattle.sam_mesg.specs.declared.hmesg.HFrame.{HFrame}
-use Rattle.sam_term.specs.declared.event.Acted.{Acted}
-use Rattle.sam_ends.specs.declared.fault.TermStop.{TermStop}
-use Rattle.sam_ends.specs.declared.fault.EndFault.{EndFault}
+use Rattle.sam_ends.proofs.Common.{common_steps, ◌≡◌, refl, ℕ, ◌+◌, inl, inr, List, [], ◌∷◌, length, length-append, None, Ok, Err, arith, rules, HFrame, Acted, TermStop, EndFault, PlainTermEnd, Calls, FeedsIdle, FlushesIdle, Moves, oldest, ActsAll, ActsFirst, Composes, Gains, ReceivesAll, ReceivesFirst, Resumes, written}
 use Rattle.sam_ends.specs.declared.fault.TermStop.TheVariants as stop
 use Rattle.sam_ends.specs.declared.fault.EndFault.TheVariants as fault
-use Rattle.sam_ends.specs.TermEnds.{PlainTermEnd, Calls, FeedsIdle, FlushesIdle, GoesOn, IsIdle, Moves, oldest}
-use Rattle.sam_ends.specs.TermSteps.{ActsAll, ActsFirst, Answer, Composes, Gains, ReceivesAll, ReceivesFirst, Resumes, Writes, written}
+use Rattle.sam_ends.specs.TermEnds.{GoesOn, IsIdle}
+use Rattle.sam_ends.specs.TermSteps.{Answer, Writes}
 use Rattle.sam_ends.proofs.TermEndHeld.{take_held}
 use Rattle.sam_ends.proofs.TermEndMoves.{moves_acted, moves_both, moves_none, moves_received, moves_written}
 
@@ -46,10 +41,6 @@ pub record Acting (e : PlainTermEnd) (g : PlainTermEnd) : Type 0 where
 pub acting_none : (e : PlainTermEnd) → IsIdle e → e.stop ≡ None → Acting e e
 acting_none e idle runs = record { acts = []; moves = moves_none e; number = omega arith; idle = idle; runs = runs }
 
-longer : (acts : List Acted) (acted : Acted) → length (acts ++ acted ∷ []) ≡ length acts + 1
-longer [] acted = refl
-longer (a ∷ acts) acted = let more = longer acts acted in omega (arith, more)
-
 -- after an event acted
 pub record HasActed (e : PlainTermEnd) (g : PlainTermEnd) : Type 0 where
   pub acts : List Acted
@@ -59,7 +50,7 @@ pub record HasActed (e : PlainTermEnd) (g : PlainTermEnd) : Type 0 where
   pub runs : g.stop ≡ None
 
 pub acting_more : (e g k : PlainTermEnd) → Acting e g → ActsFirst g k → HasActed e k
-acting_more e g k a f = grind (arith, (moves_acted e g k), (longer a.acts f.acted))
+acting_more e g k a f = grind (arith, (moves_acted e g k), (length-append a.acts (f.acted ∷ [])))
 
 pub acting_written : (e g : PlainTermEnd) → HasActed e g → Acting e (written g)
 acting_written e g a = grind (arith, moves_written)

@@ -1,13 +1,5 @@
 -- Frames that a framer gives fit in version 2.
-use Rattle.std.proofs.Common.{ℕ, List, [], ◌∷◌, Option, arith, IsTrue}
-use Rattle.std.proofs.lemmas.List.Elements.{All-nil}
-use Rattle.sam_mesg.specs.HostKinds.{fits_h}
-use Rattle.sam_mesg.specs.declared.hmesg.HFrame.{HFrame}
-use Rattle.sam_frame.specs.Direction.{host}
-use Rattle.sam_frame.specs.Stream.{FitInTurn}
-use Rattle.sam_frame.specs.Framing.{Held}
-use Rattle.sam_ends.specs.declared.fault.StreamFault.{StreamFault}
-use Rattle.sam_ends.specs.Streams.{FitFrames, Gives}
+use Rattle.sam_ends.proofs.Common.{ℕ, List, [], ◌∷◌, Option, arith, IsTrue, All-nil, fits_h, HFrame, host, FitInTurn, Held, StreamFault, FitFrames, Gives}
 
 pub frames_fit : (v : ℕ) (frames : List HFrame) → FitInTurn host v frames → FitFrames frames
 frames_fit v [] fit = All-nil (λ (frame : HFrame). IsTrue (fits_h 2 frame.msg))

@@ -1,20 +1,10 @@
 -- Events leave the held ones only as they are done or refused, one at a time; frames and flushes leave them all.
-use Rattle.std.proofs.Common.{◌≡◌, refl, ap, ◌∙◌, ℕ, ◌+◌, Bool, List, [], ◌∷◌, length, Option, Some, None, Result, Ok, Err, if◌then◌else◌, arith}
-use Rattle.sam_mesg.specs.declared.tmesg.Tmesg.{Tmesg}
+use Rattle.sam_ends.proofs.Common.{◌≡◌, refl, ap, ◌∙◌, ℕ, ◌+◌, Bool, List, [], ◌∷◌, length, Option, Some, None, Result, Ok, Err, if◌then◌else◌, arith, Tmesg, HFrame, PlainTerminal, Made, act_of, act_on, decided, if_countable, flush_of, flushed, take_of, event_outcome, frame_outcome, all_composed, composed, sends, sends_if, requested, wanted, unchanged, made_by_type, made_by_cut, made_by_paste, made_by_snarf, made_by_view, took_bindname, took_data, took_grow, took_growdata, took_cut, took_unlockfile, took_close, took_exit, Verdict, Acted, Done, UserEvent, acted_in, term_in, IsSettled}
 use Rattle.sam_mesg.specs.declared.tmesg.Tmesg.TheVariants.{Tack}
 use Rattle.sam_mesg.specs.declared.hmesg.Hmesg.{Hmesg}
 use Rattle.sam_mesg.specs.declared.hmesg.Hmesg.TheVariants.{Hcheck, Hunlockfile, Hack}
-use Rattle.sam_mesg.specs.declared.hmesg.HFrame.{HFrame}
-use Rattle.sam_term.specs.Term.{PlainTerminal, Made, act_of, act_on, decided, if_countable, flush_of, flushed, take_of, event_outcome, frame_outcome, all_composed, composed, sends, sends_if, requested, wanted, unchanged, made_by_type, made_by_cut, made_by_paste, made_by_snarf, made_by_view, took_bindname, took_data, took_grow, took_growdata, took_cut, took_unlockfile, took_close, took_exit}
-use Rattle.sam_term.specs.declared.event.Verdict.{Verdict}
-use Rattle.sam_term.specs.declared.event.Acted.{Acted}
-use Rattle.sam_term.specs.declared.event.Acted.TheVariants.{Done}
 use Rattle.sam_term.specs.declared.fault.TermFault.{TermFault}
-use Rattle.sam_term.specs.declared.event.UserEvent.{UserEvent}
-use Rattle.sam_term.specs.declared.fault.TermFault.TheVariants as fault
-use Rattle.sam_term.proofs.ActLaws.{acted_in, term_in}
 use Rattle.sam_term.proofs.Edits.{held-composed, flushed-held}
-use Rattle.sam_ends.specs.TermEnds.{IsSettled}
 
 -- the events that are held after messages were composed
 abbrev held_in : Made → List UserEvent

@@ -1,15 +1,6 @@
 -- What an end has received, done and written so far grows by its steps.
-use Rattle.std.proofs.Common.{◌≡◌, refl, ap, subst, ◌∙◌, ℕ, ◌+◌, List, [], ◌∷◌, ◌++◌, length, Ok, append_assoc, arith, append-nil, rules}
-use Rattle.std.proofs.lemmas.Grind.{flat_map-append, common_steps}
-use Rattle.sam_mesg.specs.declared.tmesg.Tmesg.{Tmesg}
-use Rattle.sam_mesg.specs.declared.hmesg.HFrame.{HFrame}
-use Rattle.sam_frame.specs.Direction.{terminal}
-use Rattle.sam_frame.specs.Stream.{stream_of}
-use Rattle.sam_term.specs.Term.{PlainTerminal, act_of, take_of}
-use Rattle.sam_term.specs.declared.event.Acted.{Acted}
-use Rattle.sam_term.specs.declared.event.Acted.TheVariants.{Idle, Locked, Done, Refused}
-use Rattle.sam_ends.specs.TermEnds.{PlainTermEnd, Acts, IsSettled, Moves, Receives, last_stamp, oldest, refusals_from}
-use Rattle.sam_ends.specs.TermSteps.{ActsFirst, ReceivesFirst, written}
+use Rattle.sam_ends.proofs.Common.{◌≡◌, refl, ap, subst, ◌∙◌, ℕ, ◌+◌, List, [], ◌∷◌, ◌++◌, length, Ok, append_assoc, arith, append-nil, rules, flat_map-append, common_steps, Tmesg, HFrame, terminal, stream_of, PlainTerminal, act_of, take_of, Acted, PlainTermEnd, Acts, IsSettled, Moves, last_stamp, oldest, refusals_from, ActsFirst, ReceivesFirst, written}
+use Rattle.sam_ends.specs.TermEnds.{Receives}
 
 receives-more : (t u v : PlainTerminal) (frames : List HFrame) (frame : HFrame) (ms ns : List Tmesg) → Receives t frames ms u
     → take_of u frame ≡ Ok (v, ns) → Receives t (frames ++ frame ∷ []) (ms ++ ns) v
@@ -23,10 +14,7 @@ acts-more t u v (a ∷ acts) acted (w, one, was, more) act settled = (w, one, wa
 -- one number more, whatever became of an event
 refusals-more : (n : ℕ) (acts : List Acted) (acted : Acted) → refusals_from n (acts ++ acted ∷ []) ≡ refusals_from n acts ++ refusals_from (n + length acts) (acted ∷ [])
 refusals-more n [] acted = ap (λ k. refusals_from k (acted ∷ [])) (omega arith)
-refusals-more n (Idle ∷ acts) acted = refusals-more (n + 1) acts acted ∙ ap (λ k. refusals_from (n + 1) acts ++ refusals_from k (acted ∷ [])) (omega arith)
-refusals-more n (Locked ∷ acts) acted = refusals-more (n + 1) acts acted ∙ ap (λ k. refusals_from (n + 1) acts ++ refusals_from k (acted ∷ [])) (omega arith)
-refusals-more n (Done ms ∷ acts) acted = refusals-more (n + 1) acts acted ∙ ap (λ k. refusals_from (n + 1) acts ++ refusals_from k (acted ∷ [])) (omega arith)
-refusals-more n (Refused why ∷ acts) acted = grind (arith, (refusals-more (n + 1) acts acted))
+refusals-more n (a ∷ acts) acted = let moved : n + 1 + length acts ≡ n + length (a ∷ acts) = omega arith in grind (arith, moved, (refusals-more (n + 1) acts acted))
 
 -- the last of the frames is the one that came last
 last-stamp-more : (before : ℕ) (frames : List HFrame) (frame : HFrame) → last_stamp before (frames ++ frame ∷ []) ≡ frame.seen

@@ -1,19 +1,7 @@
 -- The count of composed messages never goes down, and no frame that is received has a stamp above it.
-use Rattle.std.proofs.Common.{◌≡◌, sym, subst, ℕ, ◌+◌, ◌≤◌, List, length, Option, None, Ok, arith}
-use Rattle.sam_mesg.specs.declared.tmesg.Tmesg.{Tmesg}
-use Rattle.sam_mesg.specs.declared.hmesg.HFrame.{HFrame}
-use Rattle.sam_term.specs.Term.{PlainTerminal, Made, act_of, act_on, decided, flush_of, take_of, event_outcome}
-use Rattle.sam_term.specs.declared.event.Verdict.{Verdict}
-use Rattle.sam_term.specs.declared.event.Acted.{Acted}
-use Rattle.sam_term.specs.declared.event.UserEvent.{UserEvent}
-use Rattle.sam_term.specs.declared.fault.TermFault.TheVariants as fault
-use Rattle.sam_term.proofs.ActLaws.{acted_in, term_in}
+use Rattle.sam_ends.proofs.Common.{◌≡◌, sym, subst, ◌≤◌, List, Option, None, Ok, arith, Tmesg, HFrame, PlainTerminal, Made, act_of, act_on, decided, flush_of, take_of, event_outcome, Verdict, Acted, UserEvent, acted_in, term_in}
 use Rattle.sam_term.proofs.CountLaws.{counts-event, counts-flushed, counts-frame}
 use Rattle.sam_ends.proofs.TermEndHeld.{done-term}
-
--- what counts its messages counts no fewer than before
-no_fewer : (n m : ℕ) (ms : List Tmesg) → m ≡ n + length ms → n ≤ m
-no_fewer n m ms e = omega (arith, e)
 
 pub flush_counts : (t u : PlainTerminal) (ms : List Tmesg) → flush_of t ≡ Ok (u, ms) → t.sent ≤ u.sent
 unfolding flush_of
@@ -41,7 +29,8 @@ act_counts t u acted e = go t.held e
     decides : (x : UserEvent) (es : List UserEvent) (o : Option Verdict) → decided o t es (event_outcome (record t { held = es }) x) ≡ Ok (u, acted) → t.sent ≤ u.sent
     decides x es None q =
         let made : Made = event_outcome (record t { held = es }) x in
-        subst same (sym (done-term made.0.sent made.0 u made.1 acted q)) (no_fewer t.sent made.0.sent made.1 (counts-event (record t { held = es }) x).sent)
+        let more : t.sent ≤ made.0.sent = omega (arith, (counts-event (record t { held = es }) x).sent) in
+        subst same (sym (done-term made.0.sent made.0 u made.1 acted q)) more
     decides x es o e = grind (arith, term_in)
 
     go : (es : List UserEvent) → act_on t es ≡ Ok (u, acted) → t.sent ≤ u.sent

@@ -1,24 +1,6 @@
 -- One step of a terminal end: what holds of the end after it.
-use Rattle.std.proofs.Common.{◌≡◌, sym, subst, ℕ, ◌-◌, ◌≤◌, false, List, [], ◌∷◌, ◌++◌, length, drop, Option, Some, None, Ok, Err, arith, slice_get, IsTrue}
-use Rattle.std.proofs.lemmas.List.Elements.{All-tail}
-use Rattle.sam_mesg.specs.HostKinds.{fits_h}
-use Rattle.sam_mesg.specs.declared.hmesg.HFrame.{HFrame}
-use Rattle.sam_mesg.specs.declared.tmesg.Tmesg.{Tmesg}
-use Rattle.sam_frame.specs.Direction.{host}
-use Rattle.sam_frame.specs.Framing.{Held}
-use Rattle.sam_term.specs.Fitting.{composed_in}
-use Rattle.sam_term.specs.Term.{PlainTerminal, act_of, take_of}
-use Rattle.sam_term.specs.declared.event.Acted.{Acted}
-use Rattle.sam_term.specs.declared.event.Acted.TheVariants.{Idle, Locked}
-use Rattle.sam_term.proofs.ActLaws.{idle_still, locked_still}
-use Rattle.sam_ends.specs.declared.fault.StreamFault.{StreamFault}
-use Rattle.sam_ends.specs.declared.fault.TermStop.{TermStop}
-use Rattle.sam_ends.specs.declared.fault.EndFault.{EndFault}
-use Rattle.sam_ends.specs.Streams.{FitFrames, Gives}
-use Rattle.sam_ends.specs.TermEnds.{PlainTermEnd, IsQuiet, IsSettled, oldest, refusals_from}
-use Rattle.sam_ends.specs.TermSteps.{ActsFirst, IsSound, Receives, Tries, stopped_by}
-use Rattle.sam_ends.specs.declared.fault.TermStop.TheVariants as stop
-use Rattle.sam_ends.specs.declared.fault.EndFault.TheVariants as fault
+use Rattle.sam_ends.proofs.Common.{◌≡◌, sym, subst, ℕ, ◌-◌, ◌≤◌, false, List, [], ◌∷◌, ◌++◌, length, drop, Option, Some, None, Ok, Err, arith, slice_get, IsTrue, All-tail, fits_h, HFrame, Tmesg, host, Held, composed_in, PlainTerminal, act_of, take_of, Acted, StreamFault, TermStop, EndFault, FitFrames, Gives, PlainTermEnd, IsSettled, oldest, refusals_from, ActsFirst, Receives, Tries, stopped_by}
+use Rattle.sam_ends.specs.TermSteps.{IsSound}
 use Rattle.sam_ends.proofs.TermEndHeld.{act_held, take_held}
 use Rattle.sam_ends.proofs.TermEndStamps.{act_counts}
 
@@ -38,20 +20,8 @@ taken_counted e u frame ms s taken = subst (λ hs. length hs ≤ e.events) (sym 
 
 -- ## Events
 
-pub idle_counted : (e : PlainTermEnd) (u : PlainTerminal) → IsSound e → act_of e.term ≡ Ok (u, Idle) → length u.held ≤ e.events
-idle_counted e u s act = subst (λ t. length t.held ≤ e.events) (sym (idle_still e.term u act)) s.counted
-
-pub locked_counted : (e : PlainTermEnd) (u : PlainTerminal) → IsSound e → act_of e.term ≡ Ok (u, Locked) → length u.held ≤ e.events
-locked_counted e u s act = subst (λ t. length t.held ≤ e.events) (sym (locked_still e.term u act)) s.counted
-
 pub settled_counted : (e : PlainTermEnd) (u : PlainTerminal) (acted : Acted) → IsSound e → act_of e.term ≡ Ok (u, acted) → IsSettled acted → length u.held ≤ e.events
 settled_counted e u acted s act settled = omega (arith, act_held e.term u acted act settled, s.counted)
-
-pub idle_quiet : (e g : PlainTermEnd) (u : PlainTerminal) → act_of e.term ≡ Ok (u, Idle) → g ≡ record e { term = u } → IsQuiet e.term × (g ≡ e)
-idle_quiet e g u act same = grind (arith, (idle_still e.term u act))
-
-pub locked_quiet : (e g : PlainTermEnd) (u : PlainTerminal) → act_of e.term ≡ Ok (u, Locked) → g ≡ record e { term = u } → IsQuiet e.term × (g ≡ e)
-locked_quiet e g u act same = grind (arith, (locked_still e.term u act))
 
 pub acted_first : (e g : PlainTermEnd) (u : PlainTerminal) (acted : Acted) → IsSound e → act_of e.term ≡ Ok (u, acted) → IsSettled acted
     → g ≡ record e { term = u; unwritten = composed_in acted; refusals = e.refusals ++ refusals_from (oldest e) (acted ∷ []) } → ActsFirst e g

@@ -5,7 +5,7 @@ use anyhow::{Result, bail, ensure};
 use sam_frame::{FramerT, encode_all};
 use sam_host::Host;
 use sam_mesg::fits_t;
-use sam_runes::{Runes, Text};
+use sam_runes::{MOST_IN_NAME, Runes, Text};
 use std::alloc::{AllocError, Global};
 use std::mem;
 
@@ -22,7 +22,7 @@ impl ByteHost {
     /// A host with one file, whose tag is 1.
     pub fn new(alloc: Global, name: &str, text: &str) -> Result<ByteHost> {
         let name = Runes::from_str(alloc, name)?;
-        ensure!(name.len() <= 64, "a name that is too long");
+        ensure!(name.len() <= MOST_IN_NAME, "a name that is too long");
         let text = Text::from_runes(alloc, Runes::from_str(alloc, text)?.as_slice())?;
         let mut files = Vec::new(alloc);
         files.push((name, text)).map_err(AllocError::from)?;

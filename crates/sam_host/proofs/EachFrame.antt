@@ -1,17 +1,6 @@
 -- Which frames the answers have, kind by kind, and which lock the last one frees. So what holds of each of these frames holds of each frame
 -- of an answer.
-use Rattle.std.proofs.Common.{◌≡◌, ℕ, suc, ◌+◌, ◌-◌, ◌≤◌, List, [], ◌∷◌, ◌++◌, length, Bool, true, false, not, cond, Option, Some, None, refl, sym, subst, append_assoc, if◌then◌else◌, arith, ◌&&◌, ◌||◌, ◌==◌, min, nat_lt, nat_le, IfSome, flat_map, reverse, drop, unwrap_or}
-use Rattle.sam_runes.specs.declared.edit.Edit.{Edit}
-use Rattle.sam_runes.specs.Texts.{Range, part, is_empty, max_runes, most_in_message, most_in_pattern, searched, all_tags, ends_line, as_lines, last_line, most_in_name}
-use Rattle.sam_runes.specs.Slots.{Slots, slot}
-use Rattle.sam_text.specs.Files.{PlainFile, PlainFiles, PlainOutcome, blank_file, file_at, has_file, has_room, after_print, typed_file, IsPattern, may_look}
-use Rattle.sam_text.specs.Meaning.{work_file}
-use Rattle.sam_text.proofs.OutcomeLaws.{HasShortParts, line_short}
-use Rattle.sam_mesg.specs.declared.tmesg.Tmesg.{Tmesg}
-use Rattle.sam_mesg.specs.declared.tmesg.Tmesg.TheVariants.{Tversion, Tstartcmdfile, Tcheck, Trequest, Torigin, Tstartfile, Tworkfile, Ttype, Tcut, Tpaste, Tsnarf, Tstartnewfile, Twrite, Tclose, Tlook, Tsearch, Tsend, Tdclick, Tstartsnarf, Tsetsnarf, Tack, Texit}
-use Rattle.sam_mesg.specs.declared.hmesg.Hmesg.{Hmesg}
-use Rattle.sam_mesg.specs.declared.hmesg.Hmesg.TheVariants.{Hversion, Hsetsnarf, Hbindname, Hcurrent, Hnewname, Hmovname, Hcheck, Hunlock, Hdata, Horigin, Hunlockfile, Hsetdot, Hgrowdata, Hmoveto, Hclean, Hdirty, Hsetpat, Hdelname, Hclose, Hsnarflen, Hack, Hexit}
-use Rattle.sam_host.specs.Host.{PlainHost, Reply, when, when_given, grown, told_dirty, told_length, printed, told_edit, told_outcome, told_names, command_name, no_tag_left, with_file, with_files, reply_found, searched_for, reply_line, reply_to, reply_version, reply_startcmdfile, reply_check, reply_request, reply_origin, reply_startfile, reply_workfile, reply_type, reply_cut, reply_paste, reply_snarf, reply_startnewfile, reply_write, reply_close, reply_look, reply_search, reply_send, reply_dclick, reply_startsnarf, reply_setsnarf, reply_exit}
+use Rattle.sam_host.proofs.Common.{◌≡◌, ℕ, suc, ◌+◌, ◌-◌, ◌≤◌, List, [], ◌∷◌, ◌++◌, length, Bool, true, false, not, cond, Option, Some, None, refl, sym, subst, append_assoc, if◌then◌else◌, arith, ◌&&◌, ◌||◌, ◌==◌, min, nat_lt, nat_le, IfSome, flat_map, reverse, drop, unwrap_or, Edit, Range, part, is_empty, max_runes, most_in_message, most_in_pattern, searched, all_tags, ends_line, as_lines, last_line, most_in_name, Slots, slot, PlainFile, PlainFiles, PlainOutcome, blank_file, file_at, has_file, has_room, after_print, typed_file, IsPattern, may_look, work_file, HasShortParts, line_short, Tmesg, Tversion, Tstartcmdfile, Tcheck, Trequest, Torigin, Tstartfile, Tworkfile, Ttype, Tcut, Tpaste, Tsnarf, Tstartnewfile, Twrite, Tclose, Tlook, Tsearch, Tsend, Tdclick, Tstartsnarf, Tsetsnarf, Tack, Texit, Hmesg, Hversion, Hsetsnarf, Hbindname, Hcurrent, Hnewname, Hmovname, Hcheck, Hunlock, Hdata, Horigin, Hunlockfile, Hsetdot, Hgrowdata, Hmoveto, Hclean, Hdirty, Hsetpat, Hdelname, Hclose, Hsnarflen, Hack, Hexit, PlainHost, Reply, when, when_given, grown, told_dirty, told_length, printed, told_edit, told_outcome, told_names, command_name, no_tag_left, with_file, with_files, reply_found, searched_for, reply_line, reply_to, reply_version, reply_startcmdfile, reply_check, reply_request, reply_origin, reply_startfile, reply_workfile, reply_type, reply_cut, reply_paste, reply_snarf, reply_startnewfile, reply_write, reply_close, reply_look, reply_search, reply_send, reply_dclick, reply_startsnarf, reply_setsnarf, reply_exit}
 use Rattle.sam_host.proofs.FileLaws.{part_length}
 
 -- opens the answers to messages about a text

@@ -1,11 +1,6 @@
 -- Small laws of files: the one that was put, a part of a text, and a snarf buffer that a message holds.
-use Rattle.std.proofs.Common.{◌≡◌, ℕ, ◌-◌, ◌≤◌, List, [], ◌∷◌, length, drop, true, ap, arith, length-append, IsTrue, is_some, encode_utf8_all, length-take, leb-true}
+use Rattle.sam_host.proofs.Common.{◌≡◌, ℕ, ◌-◌, ◌≤◌, List, [], ◌∷◌, length, drop, true, ap, arith, length-append, IsTrue, is_some, encode_utf8_all, length-take, leb-true, max_runes, part, last_snarf_limit, slot-put_same, PlainFile, PlainFiles, put_file, has_file, fits_t, Tsetsnarf}
 use Rattle.std.proofs.lemmas.Str.{length-encode}
-use Rattle.sam_runes.specs.Texts.{max_runes, part, last_snarf_limit}
-use Rattle.sam_runes.proofs.SlotLaws.{slot-put_same}
-use Rattle.sam_text.specs.Files.{PlainFile, PlainFiles, put_file, has_file}
-use Rattle.sam_mesg.specs.TerminalKinds.{fits_t}
-use Rattle.sam_mesg.specs.declared.tmesg.Tmesg.TheVariants.{Tsetsnarf}
 
 -- a file that was put may be the work file
 pub put_is_work : (fs : PlainFiles) (f : ℕ) (x : PlainFile) → has_file (put_file fs f x) f ≡ true

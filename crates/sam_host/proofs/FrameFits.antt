@@ -1,15 +1,6 @@
 -- The frames of every answer fit.
-use Rattle.std.proofs.Common.{◌≡◌, ℕ, ◌≤◌, List, [], ◌∷◌, length, true, refl, arith, le-leb}
-use Rattle.sam_runes.specs.Texts.{snarf_limit, utf8_length, prefix_in_bytes, most_in_name}
-use Rattle.sam_runes.proofs.PlaceLaws.{prefix_within}
-use Rattle.sam_mesg.specs.HostKinds.{after_h, fits_h}
-use Rattle.sam_mesg.specs.declared.hmesg.Hmesg.{Hmesg}
-use Rattle.sam_mesg.specs.declared.hmesg.Hmesg.TheVariants.{Hsetsnarf}
+use Rattle.sam_host.proofs.Common.{◌≡◌, ℕ, ◌≤◌, List, [], ◌∷◌, length, true, refl, arith, le-leb, snarf_limit, utf8_length, prefix_in_bytes, most_in_name, prefix_within, after_h, fits_h, Hmesg, Hsetsnarf, Tmesg, Tversion, Tstartsnarf, PlainHost, stamped, reply_version, reply_startsnarf, reply_to, AreNamesShort, FitInPlace}
 use Rattle.sam_mesg.proofs.Versions.{grows_h}
-use Rattle.sam_mesg.specs.declared.tmesg.Tmesg.{Tmesg}
-use Rattle.sam_mesg.specs.declared.tmesg.Tmesg.TheVariants.{Tversion, Tstartsnarf}
-use Rattle.sam_host.specs.Host.{PlainHost, stamped, reply_version, reply_startsnarf, reply_to}
-use Rattle.sam_host.specs.Laws.{AreNamesShort, FitInPlace}
 use Rattle.sam_host.proofs.EachFrame.{EachFrame, AreFrames, reply_each}
 
 -- a message that fits in every version

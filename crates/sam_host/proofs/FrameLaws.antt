@@ -1,12 +1,6 @@
 -- Frames that are stamped one after another.
-use Rattle.std.proofs.Common.{◌≡◌, refl, append_assoc, ap, ℕ, ◌+◌, ◌==◌, false, Bool, if◌then◌else◌, List, [], ◌∷◌, ◌++◌, Some, None, Ok, Err, arith}
-use Rattle.sam_runes.specs.Texts.{most_count}
-use Rattle.sam_runes.specs.Checks.{first_of_checks}
-use Rattle.sam_mesg.specs.declared.tmesg.Tmesg.{Tmesg}
-use Rattle.sam_mesg.specs.declared.hmesg.Hmesg.{Hmesg}
-use Rattle.sam_mesg.specs.declared.hmesg.HFrame.{HFrame}
+use Rattle.sam_host.proofs.Common.{◌≡◌, refl, append_assoc, ap, ℕ, ◌+◌, ◌==◌, false, List, [], ◌∷◌, ◌++◌, Some, None, Ok, Err, arith, most_count, first_of_checks, Tmesg, Hmesg, HFrame, PlainHost, stamped, answer, host_checks, reply_to, counted}
 use Rattle.sam_host.specs.declared.fault.HostFault.{HostFault}
-use Rattle.sam_host.specs.Host.{PlainHost, stamped, answer, host_checks, reply_to, counted, Answer}
 
 -- frames that are stamped one after another are stamped at once
 pub stamped_append : (seen : ℕ) (ms ns : List Hmesg) → stamped seen (ms ++ ns) ≡ stamped seen ms ++ stamped seen ns
@@ -16,9 +10,6 @@ stamped_append seen (m ∷ ms) ns = ap (λ rest. record { seen = seen; msg = m }
 -- two lists that are told one after another
 pub told_both : (before : List HFrame) (seen : ℕ) (ms ns : List Hmesg) → before ++ stamped seen (ms ++ ns) ≡ (before ++ stamped seen ms) ++ stamped seen ns
 told_both before seen ms ns = grind (arith, stamped_append, append_assoc)
-
-third : (b c : Bool) (x y z : Answer) → b ≡ false → c ≡ false → (if b then x else if c then y else z) ≡ z
-third b c x y z l m = rw (l, m) refl
 
 -- an answer of the whole, from the parts that a reply gives
 pub answered : (h new : PlainHost) (m : Tmesg) (frames : List HFrame) → (h.taken == most_count) ≡ false → h.is_done ≡ false

@@ -1,13 +1,6 @@
 -- A host that is made from names and texts, a file further.
-use Rattle.std.proofs.lemmas.Grind.{common_steps}
-use Rattle.std.proofs.Common.{◌≡◌, ℕ, ◌≤◌, List, [], ◌∷◌, ◌++◌, length, Some, refl, ap, ◌∙◌, subst, rules, arith, reverse}
+use Rattle.sam_host.proofs.Common.{common_steps, ◌≡◌, ℕ, ◌≤◌, List, [], ◌∷◌, ◌++◌, length, Some, refl, ap, ◌∙◌, subst, rules, arith, reverse, RoomyText, most_in_name, Slots, put_slot, put_slot-push, PlainFile, given_file, given_slots, new_host, with_given, AreNames, given_of}
 use Rattle.std.proofs.lemmas.List.{reverse-append, reverse-reverse, nil_from_length}
-use Rattle.sam_runes.specs.Texts.{RoomyText, most_in_name}
-use Rattle.sam_runes.specs.Slots.{Slots, put_slot}
-use Rattle.sam_runes.proofs.SlotLaws.{put_slot-push}
-use Rattle.sam_text.specs.Files.{PlainFile}
-use Rattle.sam_host.specs.Host.{given_file, given_slots, new_host, with_given}
-use Rattle.sam_host.specs.Given.{AreNames, given_of}
 
 abbrev pub Given : Type 0
 Given = List ℕ × RoomyText

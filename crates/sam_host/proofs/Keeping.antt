@@ -1,16 +1,7 @@
 -- What the answers do to the files, kind by kind. So what each of these changes keeps, each answer keeps.
-use Rattle.std.proofs.Common.{◌≡◌, ℕ, ◌+◌, ◌≤◌, List, [], ◌∷◌, length, Bool, true, false, not, ◌&&◌, ◌||◌, ◌==◌, cond, Option, Some, None, refl, arith, IfSome, ◌-◌, ltb-false}
+use Rattle.sam_host.proofs.Common.{◌≡◌, ℕ, ◌+◌, ◌≤◌, List, [], ◌∷◌, length, Bool, true, false, not, ◌&&◌, ◌||◌, ◌==◌, cond, Option, Some, None, refl, arith, IfSome, ◌-◌, ltb-false, Range, max_runes, last_line, as_lines, part, ends_line, first_of_checks, none_holds, InRange, searched_within, word_at_within, PlainFiles, file_at, put_file, typed_file, cut_file, pasted_file, opened_file, written_file, announce_all, with_work, without_file, has_room, after_print, committed, meaning, Tmesg, Tversion, Tstartcmdfile, Tstartfile, Tworkfile, Ttype, Tcut, Tpaste, Tsnarf, Tstartnewfile, Twrite, Tclose, Tlook, Tsearch, Tsend, Tdclick, Tsetsnarf, Hmesg, PlainHost, Reply, printed, host_checks, unknown, not_opened, past_end, no_range, no_room, with_file, with_files, reply_found, searched_for, reply_line, line_to, reply_to}
 use Rattle.std.proofs.lemmas.Bool.{not-false}
-use Rattle.sam_runes.specs.Texts.{Range, max_runes, last_line, as_lines, part, ends_line}
-use Rattle.sam_runes.specs.Checks.{first_of_checks}
-use Rattle.sam_runes.proofs.CheckLaws.{none_holds}
-use Rattle.sam_runes.proofs.PlaceLaws.{InRange, searched_within, word_at_within}
-use Rattle.sam_text.specs.Files.{PlainFiles, file_at, put_file, typed_file, cut_file, pasted_file, opened_file, written_file, new_file, announce_all, with_work, without_file, has_room, after_print, committed}
-use Rattle.sam_text.specs.Meaning.{meaning}
-use Rattle.sam_mesg.specs.declared.tmesg.Tmesg.{Tmesg}
-use Rattle.sam_mesg.specs.declared.tmesg.Tmesg.TheVariants.{Tversion, Tstartcmdfile, Tstartfile, Tworkfile, Ttype, Tcut, Tpaste, Tsnarf, Tstartnewfile, Twrite, Tclose, Tlook, Tsearch, Tsend, Tdclick, Tsetsnarf}
-use Rattle.sam_mesg.specs.declared.hmesg.Hmesg.{Hmesg}
-use Rattle.sam_host.specs.Host.{PlainHost, Reply, printed, host_checks, unknown, not_opened, past_end, no_range, no_room, with_file, with_files, reply_found, searched_for, reply_line, line_to, reply_to}
+use Rattle.sam_text.specs.Files.{new_file}
 use Rattle.sam_host.proofs.EachFrame.{replies_opened}
 
 -- each change that an answer makes to the files keeps P, where places and ranges are in their text and there is room

@@ -1,9 +1,5 @@
 -- Frames that fit at their places fit in the last version.
-use Rattle.std.proofs.Common.{ℕ, List, [], ◌∷◌, arith, All, IsTrue}
-use Rattle.std.proofs.lemmas.List.Elements.{All-nil}
-use Rattle.sam_mesg.specs.HostKinds.{after_h, fits_h}
-use Rattle.sam_mesg.specs.declared.hmesg.HFrame.{HFrame}
-use Rattle.sam_host.specs.Laws.{FitInPlace}
+use Rattle.sam_host.proofs.Common.{ℕ, List, [], ◌∷◌, arith, All, IsTrue, All-nil, after_h, fits_h, HFrame, FitInPlace}
 
 pub fit_in_last : (version : ℕ) (frames : List HFrame) → FitInPlace version frames → All (λ frame. IsTrue (fits_h 2 frame.msg)) frames
 fit_in_last version [] fit = All-nil (λ (x : HFrame). IsTrue (fits_h 2 x.msg))

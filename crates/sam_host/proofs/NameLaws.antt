@@ -1,10 +1,5 @@
 -- The names that are told, a tag further.
-use Rattle.std.proofs.Common.{◌≡◌, append_assoc, append-nil, ℕ, suc, ◌+◌, ◌<◌, ◌≤◌, List, ◌∷◌, ◌++◌, length, drop, arith, drop_of_length-le}
-use Rattle.sam_runes.specs.Slots.{Slots, slot}
-use Rattle.sam_text.specs.Files.{PlainFile}
-use Rattle.sam_mesg.specs.declared.hmesg.Hmesg.{Hmesg}
-use Rattle.sam_mesg.specs.declared.hmesg.HFrame.{HFrame}
-use Rattle.sam_host.specs.Host.{stamped, told_at, told_names}
+use Rattle.sam_host.proofs.Common.{◌≡◌, append_assoc, append-nil, ℕ, suc, ◌+◌, ◌<◌, ◌≤◌, List, ◌∷◌, ◌++◌, length, drop, arith, drop_of_length-le, Slots, slot, PlainFile, Hmesg, HFrame, stamped, told_at, told_names}
 use Rattle.sam_host.proofs.FrameLaws.{stamped_append}
 
 names_at : (g f : ℕ) (ss : Slots PlainFile) → f < length ss → told_names g (drop f ss) ≡ told_at g (slot ss f) ++ told_names (1 + g) (drop (suc f) ss)

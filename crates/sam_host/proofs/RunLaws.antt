@@ -1,16 +1,7 @@
 -- What is printed and what a line leaves do not meet: a line never works on the command file.
-use Rattle.std.proofs.lemmas.Grind.{common_steps}
-use Rattle.std.proofs.Common.{◌≡◌, ℕ, zero, suc, ◌<◌, ◌≤◌, List, [], ◌∷◌, ◌++◌, length, take, get_or, Option, Some, None, refl, sym, subst, arith, rules, unwrap_or, option_map, option_and_then, IfSome, flat_map, reverse}
-use Rattle.sam_runes.specs.Texts.{max_runes, either}
+use Rattle.sam_host.proofs.Common.{common_steps, ◌≡◌, ℕ, zero, suc, ◌<◌, ◌≤◌, List, [], ◌∷◌, ◌++◌, length, take, get_or, Option, Some, None, refl, sym, subst, arith, rules, unwrap_or, option_map, option_and_then, IfSome, flat_map, reverse, max_runes, either, Edit, slot, meaning, work_on, line_outcome, PlainFile, PlainFiles, PlainOutcome, IsOutcomeOf, IsOutcomeFor, blank_file, after_print, put_outcome, committed, AreFit, IsFit, Hmesg, HFrame, stamped, printed, grown}
 use Rattle.sam_runes.specs.Edits.{inserted}
-use Rattle.sam_runes.specs.declared.edit.Edit.{Edit}
-use Rattle.sam_runes.specs.Slots.{slot}
-use Rattle.sam_text.specs.Meaning.{meaning, work_on, line_outcome}
 use Rattle.sam_text.proofs.MeaningLaws.{line_fits, without_work}
-use Rattle.sam_text.specs.Files.{PlainFile, PlainFiles, PlainOutcome, IsOutcomeOf, IsOutcomeFor, blank_file, after_print, put_outcome, committed, AreFit, IsFit}
-use Rattle.sam_mesg.specs.declared.hmesg.Hmesg.{Hmesg}
-use Rattle.sam_mesg.specs.declared.hmesg.HFrame.{HFrame}
-use Rattle.sam_host.specs.Host.{stamped, printed, grown}
 use Rattle.sam_host.proofs.FrameLaws.{told_both}
 
 -- a line works on another file than the command file

@@ -1,20 +1,7 @@
 -- The host stays sound, and its answers are counted.
-use Rattle.std.proofs.Common.{◌≡◌, ℕ, suc, ◌+◌, ◌≤◌, List, [], ◌∷◌, length, Option, None, Ok, Err, refl, ap, subst, arith, unwrap_or, All}
-use Rattle.std.proofs.lemmas.List.Elements.{All-nil, All-cons}
-use Rattle.sam_runes.specs.Texts.{most_in_name}
-use Rattle.sam_runes.specs.Slots.{slot}
-use Rattle.sam_runes.specs.Checks.{first_of_checks}
-use Rattle.sam_runes.proofs.CheckLaws.{none_holds}
-use Rattle.sam_text.specs.Files.{opened_file, written_file, PlainFile, PlainFiles, PlainOutcome, blank_file, file_at, put_file, typed_file, cut_file, pasted_file, put_outcome, HasShortName, IsFit, AreFit, AreSoundFiles}
+use Rattle.sam_host.proofs.Common.{◌≡◌, ℕ, suc, ◌+◌, ◌≤◌, List, [], ◌∷◌, length, Option, None, Ok, Err, refl, ap, subst, arith, unwrap_or, All, All-nil, All-cons, most_in_name, slot, first_of_checks, none_holds, opened_file, written_file, PlainFile, PlainFiles, PlainOutcome, blank_file, file_at, put_file, typed_file, cut_file, pasted_file, put_outcome, HasShortName, IsFit, AreFit, AreSoundFiles, HasShortParts, line_short, named-within, after_t, Tmesg, Hmesg, HFrame, PlainHost, IsVersion, Reply, Answer, answer, counted, stamped, host_checks, new_file, given_slots, reply_to, AreNamesShort, IsSound, AreGiven, StartsSound, StaysSound, FramesFit, AnswersAreCounted, IsSilentWhereDone, FitInPlace}
 use Rattle.sam_text.proofs.FitLaws.{all-put, fit-put, fit-typed, fit-cut, fit-pasted, fit-print, fit-committed}
 use Rattle.sam_text.proofs.KeptLaws.{all-free, all-announce}
-use Rattle.sam_text.proofs.OutcomeLaws.{HasShortParts, line_short, named-within}
-use Rattle.sam_mesg.specs.TerminalKinds.{after_t}
-use Rattle.sam_mesg.specs.declared.tmesg.Tmesg.{Tmesg}
-use Rattle.sam_mesg.specs.declared.hmesg.Hmesg.{Hmesg}
-use Rattle.sam_mesg.specs.declared.hmesg.HFrame.{HFrame}
-use Rattle.sam_host.specs.Host.{PlainHost, IsVersion, Reply, Answer, answer, counted, stamped, host_checks, new_file, given_slots, reply_to}
-use Rattle.sam_host.specs.Laws.{AreNamesShort, IsSound, AreGiven, StartsSound, StaysSound, FramesFit, AnswersAreCounted, IsSilentWhereDone, FitInPlace}
 use Rattle.sam_host.proofs.EachFrame.{replies_opened}
 use Rattle.sam_host.proofs.Keeping.{IsKept, reply_keeps}
 use Rattle.sam_host.proofs.FrameFits.{reply_frames_fit}

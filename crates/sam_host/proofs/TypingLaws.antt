@@ -1,14 +1,7 @@
 -- What is typed and taken out again leaves the host as it was, and typing and sending in terms of a line.
-use Rattle.std.proofs.lemmas.Grind.{common_steps}
-use Rattle.std.proofs.Common.{◌≡◌, ◌≢◌, ℕ, suc, ◌+◌, ◌<◌, ◌≤◌, List, [], ◌∷◌, ◌++◌, length, get_or, Bool, true, false, not, cond, Some, nat_eq, refl, ap, ◌∙◌, arith, append_assoc, append-nil, length-append, rules, unwrap_or, is_some, ◌&&◌, ◌||◌, ◌==◌, take_at, drop_at, take-append-drop, length-take}
+use Rattle.sam_host.proofs.Common.{common_steps, ◌≡◌, ◌≢◌, ℕ, suc, ◌+◌, ◌<◌, ◌≤◌, List, [], ◌∷◌, ◌++◌, length, get_or, Bool, true, false, not, cond, Some, nat_eq, refl, ap, ◌∙◌, arith, append_assoc, append-nil, length-append, rules, unwrap_or, is_some, ◌&&◌, ◌||◌, ◌==◌, take_at, drop_at, take-append-drop, length-take, Range, ins, del, part, is_empty, ends_line, as_lines, last_line, newline, max_runes, Slots, slot, put_slot, slot-put_same, PlainFile, blank_file, file_at, has_file, typed_file, has_room, after_print, Hunlock, PlainHost, with_file, with_files, printed, reply_line, reply_type, reply_send}
 use Rattle.std.proofs.Math.Seq.{take-length, drop-length}
-use Rattle.sam_runes.specs.Texts.{Range, ins, del, part, is_empty, ends_line, as_lines, last_line, newline, max_runes}
-use Rattle.sam_runes.specs.Slots.{Slots, slot, put_slot}
-use Rattle.sam_runes.proofs.SlotLaws.{slot-put_same}
 use Rattle.sam_runes.proofs.EditLaws.{length-ins}
-use Rattle.sam_text.specs.Files.{PlainFile, blank_file, file_at, has_file, typed_file, has_room, after_print}
-use Rattle.sam_mesg.specs.declared.hmesg.Hmesg.TheVariants.{Hunlock}
-use Rattle.sam_host.specs.Host.{PlainHost, with_file, with_files, printed, reply_line, reply_type, reply_send}
 use Rattle.sam_host.specs.Typing.{typed, typed_line, sent}
 
 -- ## Putting the command file

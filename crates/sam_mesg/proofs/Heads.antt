@@ -1,8 +1,5 @@
 -- The head of a frame, whose length is written once the body stands behind it.
-use Rattle.std.proofs.Common.{◌≡◌, ℕ, ◌+◌, ◌-◌, ◌<◌, List, [], ◌∷◌, ◌++◌, length, take, drop, set, sym, ap, ◌∙◌, append_assoc, arith, length-append, length-set, drop-set-lt, take_at, drop_at, suc, w16}
-use Rattle.std.proofs.lemmas.List.{set_split, take_more_set}
-use Rattle.std.specs.Int.{to_be_bytes}
-use Rattle.sam_mesg.specs.Spelling.{frame}
+use Rattle.sam_mesg.proofs.Common.{◌≡◌, ℕ, ◌+◌, ◌-◌, ◌<◌, List, [], ◌∷◌, ◌++◌, length, take, drop, set, sym, ap, ◌∙◌, append_assoc, arith, length-append, length-set, drop-set-lt, take_at, drop_at, suc, w16, set_split, take_more_set, to_be_bytes, frame}
 
 -- two neighbours, written one after the other
 pub set_both : (xs : List ℕ) (i j k a b : ℕ) → j ≡ i + 1 → k ≡ i + 2 → i + 1 < length xs → set (set xs i a) j b ≡ take i xs ++ (a ∷ b ∷ []) ++ drop k xs

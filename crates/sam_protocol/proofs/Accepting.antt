@@ -1,15 +1,6 @@
 -- A message that the crossing lets come to the host, and what the host then owes: from settled lenses, the message and the host's own
 -- answer to it lead to settled lenses.
-use Rattle.std.proofs.Common.{◌≡◌, ℕ, ◌+◌, ◌<◌, ◌≤◌, true, false, ◌==◌, length, None}
-use Rattle.sam_runes.specs.Texts.{max_runes}
-use Rattle.sam_runes.specs.Checks.{first_of_checks}
-use Rattle.sam_text.specs.Files.{file_at}
-use Rattle.sam_mesg.specs.declared.tmesg.Tmesg.{Tmesg}
-use Rattle.sam_host.specs.Host.{PlainHost, host_checks, reply_to}
-use Rattle.sam_protocol.specs.Lens.{Lens, Gone, IsCommandFile, IsSettled, Settles}
-use Rattle.sam_protocol.specs.Frames.{at_file}
-use Rattle.sam_protocol.specs.View.{file_in}
-use Rattle.sam_protocol.specs.Steady.{HasFiles, IsSteady}
+use Rattle.sam_protocol.proofs.Common.{◌≡◌, ℕ, ◌+◌, ◌<◌, ◌≤◌, true, false, ◌==◌, length, None, max_runes, first_of_checks, file_at, Tmesg, PlainHost, host_checks, reply_to, Lens, Gone, IsCommandFile, IsSettled, Settles, at_file, file_in, HasFiles, IsSteady}
 use Rattle.sam_protocol.proofs.HostFiles.{Opens, IsThere, is_there}
 use Rattle.sam_protocol.proofs.Changes.{Need, Nothing, Positive, InOpen, AtPlace, InRange, HasRoom, Startable, NamedOpen, NamedRange, need_of, changed, change_by}
 

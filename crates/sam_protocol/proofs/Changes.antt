@@ -1,13 +1,5 @@
 -- What the terminal changes on its own side as it composes a message, and what it has tested before.
-use Rattle.std.proofs.Common.{◌≡◌, ℕ, ◌+◌, ◌<◌, ◌≤◌, true, false, if◌then◌else◌, ◌==◌, List, length, map, Option, Some}
-use Rattle.sam_runes.specs.Texts.{max_runes}
-use Rattle.sam_rasp.specs.Rasp.{ins_cells, del_cells}
-use Rattle.sam_mesg.specs.declared.tmesg.Tmesg.{Tmesg}
-use Rattle.sam_mesg.specs.declared.tmesg.Tmesg.TheVariants.{Tversion, Tstartcmdfile, Tcheck, Trequest, Torigin, Tstartfile, Tworkfile, Ttype, Tcut, Tpaste, Tsnarf, Tstartnewfile, Twrite, Tclose, Tlook, Tsearch, Tsend, Tdclick, Tstartsnarf, Tsetsnarf, Tack, Texit}
-use Rattle.sam_term.specs.declared.lock.Lock.{Lock as TakenLock}
-use Rattle.sam_term.specs.declared.lock.Lock.TheVariants.{NoLock, CommandLock, FileLock}
-use Rattle.sam_term.specs.Events.{lock_of}
-use Rattle.sam_protocol.specs.Lens.{Unknown, Known, Open, Lens, lens, OpenAt, Anything}
+use Rattle.sam_protocol.proofs.Common.{◌≡◌, ℕ, ◌+◌, ◌<◌, ◌≤◌, true, false, if◌then◌else◌, ◌==◌, List, length, map, Option, Some, max_runes, ins_cells, del_cells, Tmesg, Tversion, Tcheck, Trequest, Torigin, Tstartfile, Tworkfile, Ttype, Tcut, Tpaste, Tsnarf, Twrite, Tclose, Tlook, Tsearch, Tsend, Tdclick, Lock as TakenLock, NoLock, CommandLock, FileLock, lock_of, Unknown, Open, Lens, lens, OpenAt, Anything}
 use Rattle.sam_protocol.proofs.Lenses.{IsFree, locked_more}
 
 -- what the terminal does to its own side when it composes a message
@@ -23,14 +15,12 @@ abbrev pub commanded : Lens → Lens
 commanded (lens c e n s) = lens true e n s
 
 abbrev pub typed_in : ℕ → List ℕ → Lens → Lens
-typed_in p s (lens c e n Unknown) = lens c e n Unknown
-typed_in p s (lens c e n Known) = lens c e n Known
 typed_in p s (lens c e n (Open r k)) = lens c e n (Open (ins_cells r p (map Some s)) k)
+typed_in p s v = v
 
 abbrev pub cut_out : ℕ → ℕ → Lens → Lens
-cut_out p q (lens c e n Unknown) = lens c e n Unknown
-cut_out p q (lens c e n Known) = lens c e n Known
 cut_out p q (lens c e n (Open r k)) = lens c e n (Open (del_cells r p q) k)
+cut_out p q v = v
 
 abbrev pub changed : Change → ℕ → Lens → Lens
 changed Same g v = v
@@ -48,9 +38,8 @@ change_of_lock (FileLock f) = Lock f
 
 -- what typing changes, by the lock that it takes
 abbrev pub type_change : TakenLock → ℕ → ℕ → List ℕ → Change
-type_change NoLock f p s = Types f p s
 type_change CommandLock f p s = Line p s
-type_change (FileLock g) f p s = Types f p s
+type_change _ f p s = Types f p s
 
 -- what composing the message changes: typing and cutting change the file, all else only takes its lock
 abbrev pub change_by : Tmesg → Change
@@ -60,8 +49,7 @@ change_by m = change_of_lock (lock_of m)
 
 abbrev pub KnownAt : Lens → Type 0
 KnownAt (lens c e n Unknown) = ⊥
-KnownAt (lens c e n Known) = Unit
-KnownAt (lens c e n (Open r k)) = Unit
+KnownAt v = Unit
 
 abbrev pub Within : ℕ → ℕ → List (Option ℕ) → Type 0
 Within p q r = (p ≤ q) × (q ≤ length r)
@@ -89,7 +77,6 @@ pub data Need : Type 0 where
 
 abbrev pub need_of : Tmesg → Need
 need_of (Tversion v) = Positive v
-need_of Tstartcmdfile = Nothing
 need_of (Tcheck f) = InOpen f
 need_of (Trequest f p n) = InOpen f
 need_of (Torigin f p n) = AtPlace f p
@@ -99,17 +86,13 @@ need_of (Ttype f p s) = HasRoom f p s
 need_of (Tcut f p q) = InRange f p q
 need_of (Tpaste f p) = AtPlace f p
 need_of (Tsnarf f p q) = InRange f p q
-need_of Tstartnewfile = Nothing
 need_of (Twrite f) = NamedOpen f
 need_of (Tclose f) = NamedOpen f
 need_of (Tlook f p q) = InRange f p q
 need_of (Tsearch f p q) = InRange f p q
 need_of (Tsend f p q) = InRange f p q
 need_of (Tdclick f p) = AtPlace f p
-need_of Tstartsnarf = Nothing
-need_of (Tsetsnarf s) = Nothing
-need_of Tack = Nothing
-need_of Texit = Nothing
+need_of _ = Nothing
 
 abbrev pub CanMeet : Need → (ℕ → Lens) → Type 0
 CanMeet Nothing views = Unit

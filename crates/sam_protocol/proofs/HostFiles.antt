@@ -1,11 +1,5 @@
 -- The files of the host by slot, as the crossing sees them: what is there, and what becomes of all where one is put or dropped.
-use Rattle.std.proofs.Common.{◌≡◌, ℕ, ◌<◌, ◌≤◌, Bool, true, false, if◌then◌else◌, ◌==◌, List, length, Option, Some, None, is_some, ◌⊎◌, inl, inr, refl, sym, ap, ◌∙◌, subst, arith, eq-eqb, nat_lt, unwrap_or, le-ltb, length-append}
-use Rattle.sam_runes.specs.Slots.{Slots, slot, put_slot, free_slot}
-use Rattle.sam_runes.proofs.SlotLaws.{put_slot-push, slot-put_same, slot-put_other, slot-free_same, slot-free_other, slot_given, slot_past, length-put_slot, length-free_slot}
-use Rattle.sam_text.specs.Files.{PlainFile, PlainFiles, file_at, has_file, blank_file}
-use Rattle.sam_protocol.specs.Lens.{HFile, Absent, Hidden, Named, Opened, Gone, IsOpened, IsCommandFile}
-use Rattle.sam_protocol.specs.View.{file_of, file_of_slot, file_in}
-use Rattle.sam_protocol.specs.Steady.{HasFiles}
+use Rattle.sam_protocol.proofs.Common.{◌≡◌, ℕ, ◌<◌, ◌≤◌, Bool, true, false, if◌then◌else◌, ◌==◌, List, length, Option, Some, None, is_some, ◌⊎◌, refl, sym, ap, ◌∙◌, subst, arith, eq-eqb, nat_lt, unwrap_or, le-ltb, length-append, Slots, slot, put_slot, free_slot, put_slot-push, slot-put_same, slot-put_other, slot-free_same, slot-free_other, slot_given, slot_past, length-put_slot, length-free_slot, PlainFile, PlainFiles, file_at, has_file, blank_file, HFile, Absent, Hidden, Named, Opened, Gone, IsOpened, IsCommandFile, file_of, file_of_slot, file_in, HasFiles}
 
 -- the files with another one at f
 abbrev pub put : (ℕ → HFile) → ℕ → HFile → ℕ → HFile
@@ -50,25 +44,13 @@ pub is_there : (fs : PlainFiles) (f : ℕ) (a : Bool) (P : HFile → Type 0) →
     → IsThere fs f a
 is_there fs f a P none gone other p = go (slot fs.slots f) refl (nat_lt f (length fs.slots)) p
   where
-    kind : (x : PlainFile) (o n a : Bool) → ((t : List ℕ) → P (if a then Hidden t else Named t) → ⊥) → x.opened ≡ o → x.announced ≡ n
-        → P (if o then Opened x.text else if n then Named x.text else Hidden x.text) → (x.opened ≡ true) ⊎ ((x.opened ≡ false) × (x.announced ≡ a))
-    kind x true n a other e q p = inl e
-    kind x false true true other e q p = inr (e, q)
-    kind x false false false other e q p = inr (e, q)
-    kind x false true false other e q p = absurd (other x.text p)
-    kind x false false true other e q p = absurd (other x.text p)
-
     go : (s : Option PlainFile) → slot fs.slots f ≡ s → (b : Bool) → P (file_of_slot b s) → IsThere fs f a
-    go None q true p = absurd (gone p)
-    go None q false p = absurd (none p)
-    go (Some x) q b p = grind (arith, kind, (at_there fs f x q), (kind x x.opened x.announced a other refl refl p))
-
-pub shown_there : (fs : PlainFiles) (f : ℕ) (x : PlainFile) → slot fs.slots f ≡ Some x → file_in fs.slots f ≡ file_of x
-shown_there fs f x e = ap (file_of_slot (nat_lt f (length fs.slots))) e
+    go None q b p = grind arith
+    go (Some x) q b p = grind (arith, (at_there fs f x q), (other x.text))
 
 -- the file there, as it is read by its tag
 pub shown_at : (fs : PlainFiles) (f : ℕ) (x : PlainFile) → slot fs.slots f ≡ Some x → file_in fs.slots f ≡ file_of (file_at fs f)
-shown_at fs f x e = shown_there fs f x e ∙ ap file_of (sym (at_there fs f x e))
+shown_at fs f x e = grind arith
 
 pub file_opened : (x : PlainFile) → x.opened ≡ true → file_of x ≡ Opened x.text
 file_opened x e = ap (λ (b : Bool). if b then Opened x.text else if x.announced then Named x.text else Hidden x.text) e

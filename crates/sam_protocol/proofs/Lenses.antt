@@ -1,26 +1,20 @@
 -- Words of the proof about lenses and actions.
-use Rattle.std.proofs.Common.{◌≡◌, ℕ, zero, suc, min, Bool, true, false, not, ◌&&◌, ◌||◌, List, [], ◌∷◌, length, take, drop}
-use Rattle.sam_runes.specs.Texts.{most_in_message}
-use Rattle.sam_protocol.specs.Lens.{Unknown, Known, Open, Lens, lens, Action, Skip, Fill, Change, Free_file, Free_command, Exit, is_crossing, frees, HFile, Absent, Hidden, Named, Opened, Gone}
+use Rattle.sam_protocol.proofs.Common.{◌≡◌, ℕ, suc, min, Bool, true, false, not, ◌&&◌, ◌||◌, List, [], ◌∷◌, length, take, drop, most_in_message, Unknown, Known, Open, Lens, lens, Action, Skip, Fill, Change, Free_file, Free_command, Exit, is_crossing, frees, HFile, Opened, Gone}
 
 -- the user may act on the file: no lock is held that keeps him out
 abbrev pub IsFree : Lens → Type 0
 IsFree (lens true e n s) = ⊥
-IsFree (lens false e n Unknown) = Unit
-IsFree (lens false e n Known) = Unit
-IsFree (lens false e n (Open r zero)) = Unit
 IsFree (lens false e n (Open r (suc k))) = ⊥
+IsFree _ = Unit
 
 abbrev pub IsOpen : Lens → Type 0
-IsOpen (lens c e n Unknown) = ⊥
-IsOpen (lens c e n Known) = ⊥
 IsOpen (lens c e n (Open r k)) = Unit
+IsOpen _ = ⊥
 
 -- one lock more of the file
 abbrev pub locked_more : Lens → Lens
-locked_more (lens c e n Unknown) = lens c e n Unknown
-locked_more (lens c e n Known) = lens c e n Known
 locked_more (lens c e n (Open r k)) = lens c e n (Open r (suc k))
+locked_more v = v
 
 abbrev pub exited_of : Lens → Bool
 exited_of (lens c e n s) = e
@@ -36,12 +30,7 @@ abbrev pub IsAlike : Lens → Lens → Type 0
 IsAlike (lens c e n Unknown) (lens c2 e2 n2 Unknown) = Unit
 IsAlike (lens c e n Known) (lens c2 e2 n2 Known) = Unit
 IsAlike (lens c e n (Open r k)) (lens c2 e2 n2 (Open r2 k2)) = Unit
-IsAlike (lens c e n Unknown) (lens c2 e2 n2 Known) = ⊥
-IsAlike (lens c e n Unknown) (lens c2 e2 n2 (Open r2 k2)) = ⊥
-IsAlike (lens c e n Known) (lens c2 e2 n2 Unknown) = ⊥
-IsAlike (lens c e n Known) (lens c2 e2 n2 (Open r2 k2)) = ⊥
-IsAlike (lens c e n (Open r k)) (lens c2 e2 n2 Unknown) = ⊥
-IsAlike (lens c e n (Open r k)) (lens c2 e2 n2 Known) = ⊥
+IsAlike _ _ = ⊥
 
 abbrev pub is_exit : Action → Bool
 is_exit Exit = true
@@ -54,20 +43,14 @@ exits (a ∷ rest) = is_exit a || exits rest
 -- a Trequest for the file is no refusal
 abbrev pub CanRequest : Bool → HFile → Type 0
 CanRequest true file = Unit
-CanRequest false Absent = ⊥
-CanRequest false (Hidden t) = ⊥
-CanRequest false (Named t) = ⊥
 CanRequest false (Opened t) = Unit
 CanRequest false Gone = Unit
+CanRequest false file = ⊥
 
 -- what its answer does at the file
 abbrev pub request_actions : Bool → HFile → ℕ → ℕ → List Action
-request_actions true file p m = []
-request_actions false Absent p m = []
-request_actions false (Hidden t) p m = []
-request_actions false (Named t) p m = []
 request_actions false (Opened t) p m = Fill (min p (length t)) (take (min m most_in_message) (drop p t)) ∷ Free_file ∷ []
-request_actions false Gone p m = []
+request_actions _ _ _ _ = []
 
 -- frames of other files
 abbrev pub AreSkips : List Action → Type 0

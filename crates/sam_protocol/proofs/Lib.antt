@@ -1,3 +1,4 @@
+pub mod Common
 pub mod Lenses
 pub mod Changes
 pub mod Accepting

@@ -1,23 +1,8 @@
 -- What follows for both sides where all is in order: no refusal, agreement where nothing is under way, and ahead of time.
-use Rattle.std.proofs.lemmas.Grind.{common_steps}
-use Rattle.std.proofs.Common.{◌≡◌, ℕ, suc, false, ◌||◌, ◌==◌, nat_lt, List, [], ◌∷◌, ◌++◌, map, Some, None, Ok, refl, ap, ◌∙◌, arith, rules}
-use Rattle.sam_runes.specs.Texts.{most_count}
-use Rattle.sam_runes.specs.Slots.{Slots}
-use Rattle.sam_rasp.specs.Rasp.{Agrees}
-use Rattle.sam_text.specs.Files.{PlainFiles, file_at}
-use Rattle.sam_mesg.specs.declared.tmesg.Tmesg.{Tmesg}
-use Rattle.sam_mesg.specs.declared.hmesg.Hmesg.{Hmesg}
+use Rattle.sam_protocol.proofs.Common.{common_steps, ◌≡◌, ℕ, suc, false, ◌==◌, List, [], ◌∷◌, ◌++◌, map, Some, None, Ok, refl, arith, rules, most_count, Slots, Agrees, PlainFiles, file_at, Tmesg, Hmesg, PlainHost, Reply, answer, stamped, PlainTerminal, window_of, is_open, is_any_locked, window_in, Window, KnownFile, view, reply_of, InOrder}
 use Rattle.sam_mesg.specs.declared.hmesg.HFrame.{HFrame}
-use Rattle.sam_host.specs.Host.{PlainHost, Reply, answer, stamped}
 use Rattle.sam_host.specs.declared.fault.HostFault.TheVariants as hostfault
-use Rattle.sam_term.specs.Term.{PlainTerminal, window_of, is_open, is_any_locked}
-use Rattle.sam_term.specs.Windows.{window_in}
-use Rattle.sam_term.specs.declared.records.Window.{Window}
-use Rattle.sam_term.specs.declared.records.KnownFile.{KnownFile}
 use Rattle.sam_protocol.proofs.Lenses.{IsFree}
-use Rattle.sam_protocol.specs.View.{view}
-use Rattle.sam_protocol.specs.Fold.{reply_of}
-use Rattle.sam_protocol.specs.Order.{InOrder}
 use Rattle.sam_protocol.proofs.AllSettle.{kept_free}
 
 -- ## The host goes on
@@ -36,7 +21,7 @@ msgs frames = map (λ (f : HFrame). f.msg) frames
 
 pub msgs_stamped : (n : ℕ) (ms : List Hmesg) → msgs (stamped n ms) ≡ ms
 msgs_stamped n [] = refl
-msgs_stamped n (m ∷ ms) = ap (λ (l : List Hmesg). m ∷ l) (msgs_stamped n ms)
+msgs_stamped n (m ∷ ms) = grind (arith, (msgs_stamped n ms))
 
 -- the answer with its stamps, where the count allows one more
 pub answer_is : (h : PlainHost) (m : Tmesg) (r : Reply) → reply_of h m ≡ Some r → (h.taken == most_count) ≡ false → answer h m ≡ Ok (r.0, stamped r.0.taken r.1)
@@ -58,9 +43,7 @@ free_shows h t up down o f free = grind (arith, kept_free)
 
 none_any : (ss : Slots KnownFile) → ((g : ℕ) → (window_in ss g).locks ≡ 0) → is_any_locked ss ≡ false
 none_any [] h = refl
-none_any (None ∷ ss) h = none_any ss (λ g. h (suc g))
-none_any (Some k ∷ ss) h =
-    ap (λ (n : ℕ). nat_lt 0 n || is_any_locked ss) (h 0) ∙ none_any ss (λ g. h (suc g))
+none_any (k ∷ ss) h = grind (arith, (none_any ss (λ g. h (suc g))), (h 0))
 
 -- no lock, agreement, and the same files open
 pub record Settled (h : PlainHost) (t : PlainTerminal) : Type 0 where

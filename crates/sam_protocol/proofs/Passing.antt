@@ -1,20 +1,10 @@
 -- What the tests of an event say of the views, where none of them stands against it.
-use Rattle.std.proofs.Common.{◌≡◌, ℕ, suc, true, false, not, ◌&&◌, nat_lt, List, ◌∷◌, Some, None, arith, unwrap_or}
-use Rattle.std.proofs.lemmas.Bool.{or_parts}
-use Rattle.sam_runes.specs.Slots.{Slots}
-use Rattle.sam_runes.specs.Checks.{first_of_checks}
-use Rattle.sam_term.specs.Term.{PlainTerminal, window_at, is_open, is_known, is_any_locked, event_checks, is_unknown, is_closed, is_file_locked, has_bad_place, makes_too_long}
-use Rattle.sam_term.specs.Events.{file_of, waits_for_all, is_bad_version, is_for_command_file, needs_open}
-use Rattle.sam_term.specs.declared.event.UserEvent.{UserEvent}
-use Rattle.sam_term.specs.Windows.{blank_window, window_in}
-use Rattle.sam_term.specs.declared.records.KnownFile.{KnownFile}
+use Rattle.sam_protocol.proofs.Common.{[], ◌≡◌, ℕ, true, false, not, ◌&&◌, nat_lt, List, ◌∷◌, None, arith, Slots, first_of_checks, PlainTerminal, window_at, is_open, is_known, is_any_locked, event_checks, is_unknown, is_closed, is_file_locked, has_bad_place, makes_too_long, waits_for_all, is_bad_version, is_for_command_file, needs_open, UserEvent, window_in, KnownFile, PartialText, OpenAt, view}
+use Rattle.sam_term.specs.Events.{file_of}
 use Rattle.sam_term.specs.declared.fault.Refusal.TheVariants as refusal
-use Rattle.sam_rasp.specs.Rasp.{PartialText}
 use Rattle.sam_protocol.specs.Lens as lenses
-use Rattle.sam_protocol.specs.Lens.{OpenAt}
 use Rattle.sam_protocol.proofs.Lenses.{IsFree, IsOpen}
 use Rattle.sam_protocol.proofs.Changes.{KnownAt}
-use Rattle.sam_protocol.specs.View.{view}
 
 -- each test of an event, none of which holds
 pub record Passed (t : PlainTerminal) (e : UserEvent) : Type 0 where
@@ -49,9 +39,8 @@ known_at_view t f k = grind arith
 
 -- where no file is locked, this one isn't
 pub none_locked : (ss : Slots KnownFile) (g : ℕ) → is_any_locked ss ≡ false → nat_lt 0 (window_in ss g).locks ≡ false
-none_locked (None ∷ ss) (suc g) e = none_locked ss g e
-none_locked (Some x ∷ ss) (suc g) e = none_locked ss g (or_parts (nat_lt 0 (unwrap_or x.window blank_window).locks) (is_any_locked ss) e).1
-none_locked ss g e = grind (arith, or_parts, nat_lt)
+none_locked [] g e = grind arith
+none_locked (x ∷ ss) g e = grind (arith, (none_locked ss))
 
 pub all_free : (t : PlainTerminal) → t.command_lock ≡ false → is_any_locked t.files ≡ false → (g : ℕ) → IsFree (view g t)
 all_free t c e g = free_at t g c (none_locked t.files g e)

@@ -1,18 +1,10 @@
 -- Runs of actions at one file.
-use Rattle.std.proofs.Common.{◌≡◌, Bool, true, false, ◌||◌, List, [], ◌∷◌, ◌++◌, Option, Some, None, ◌⊎◌, inr, refl, sym, ap, ◌∙◌, subst, if◌then◌else◌, arith}
-use Rattle.std.proofs.lemmas.Bool.{or_parts}
-use Rattle.sam_protocol.specs.Lens.{Lens, Action, move, run, and_then, is_crossing, is_freeing, frees, IsGuarded, is_close, closes}
+use Rattle.sam_protocol.proofs.Common.{◌≡◌, if◌then◌else◌, Bool, true, false, ◌||◌, List, [], ◌∷◌, ◌++◌, Some, None, ◌⊎◌, refl, arith, same_Some, Lens, Action, move, run, is_crossing, is_freeing, frees, IsGuarded, is_close, closes}
 use Rattle.sam_protocol.proofs.Lenses.{IsFree, IsOpen, IsAlike, locked_more, exited_of, command_of, version_of, is_change, changes, frees_command, is_exit, exits}
 
-and_then-and_then : (m : Option Lens) (f g h : Lens → Option Lens) → ((w : Lens) → h w ≡ and_then (f w) g) → and_then m h ≡ and_then (and_then m f) g
-and_then-and_then m f g h e = grind arith
-
-pub run-append : (s u : List Action) (v : Lens) → run (s ++ u) v ≡ and_then (run s v) (run u)
-run-append [] u v = refl
-run-append (a ∷ s) u v = and_then-and_then (move a v) (run s) (run u) (run (s ++ u)) (λ w. run-append s u w)
-
 pub run-append_some : (s u : List Action) (v w : Lens) → run s v ≡ Some w → run (s ++ u) v ≡ run u w
-run-append_some s u v w e = run-append s u v ∙ ap (λ (m : Option Lens). and_then m (run u)) e
+run-append_some [] u v w e = grind arith
+run-append_some (a ∷ s) u v w e = grind (arith, (run-append_some s u))
 
 -- a step that the run takes
 pub record Stepped (a : Action) (rest : List Action) (v w : Lens) : Type 0 where
@@ -41,56 +33,28 @@ still (a ∷ s) v w x f g l r = grind (arith, (frees_nothing s), (still s v w x 
 abbrev pub StepsMore : Action → Lens → Lens → Type 0
 StepsMore a v m = (((is_close a || is_exit a) ≡ true) × (move a (locked_more v) ≡ Some m)) ⊎ (IsOpen m × (move a (locked_more v) ≡ Some (locked_more m)) × ((is_close a || is_exit a) ≡ false))
 
-stays : (a : Action) (v x m : Lens) → move a (locked_more v) ≡ Some (locked_more x) → IsOpen x → x ≡ m → (is_close a || is_exit a) ≡ false → StepsMore a v m
-stays a v x m e o q i = inr (subst IsOpen q o, e ∙ ap (λ (y : Lens). Some (locked_more y)) q, i)
-
 -- a test that holds
 pub if_true : (b : Bool) (x : Lens) → b ≡ true → (if b then Some x else None) ≡ Some x
 if_true b x e = grind arith
 
 steps_more : (a : Action) (v m : Lens) → IsOpen v → move a v ≡ Some m → StepsMore a v m
-steps_more a v m e u = grind (arith, stays, if_true)
+steps_more a v m e u = grind arith
 
 abbrev pub RunsMore : List Action → Lens → Lens → Type 0
 RunsMore s v w = (((closes s || exits s) ≡ true) × (run s (locked_more v) ≡ Some w)) ⊎ (IsOpen w × (run s (locked_more v) ≡ Some (locked_more w)) × ((closes s || exits s) ≡ false))
 
-or_left : (a b c d : Bool) → (a || b) ≡ true → ((a || c) || (b || d)) ≡ true
-or_left a b c d e = grind arith
-
-neither : (a b c d : Bool) → (a || b) ≡ false → (c || d) ≡ false → ((a || c) || (b || d)) ≡ false
-neither a b c d e u = grind arith
-
-or_right : (a b c d : Bool) → (c || d) ≡ true → ((a || c) || (b || d)) ≡ true
-or_right a b c d e = grind arith
-
 -- the same run with one lock more ends with one lock more, or the lock was ended on the way
 pub runs_more : (s : List Action) (v w : Lens) → IsOpen v → run s v ≡ Some w → RunsMore s v w
-runs_more [] v w o r = let q : v ≡ w = cc in inr (subst IsOpen q o, ap (λ (y : Lens). Some (locked_more y)) q, refl)
-runs_more (a ∷ s) v w o r =
-    let t = stepped a s v w r in
-    first_step t.mid t.on (λ o2. runs_more s t.mid w o2 t.on) (steps_more a v t.mid o t.moves)
-  where
-    later : (m : Lens) → move a (locked_more v) ≡ Some (locked_more m) → (is_close a || is_exit a) ≡ false → RunsMore s m w → RunsMore (a ∷ s) v w
-    later m e u q = grind (arith, or_right, neither)
-
-    first_step : (m : Lens) → run s m ≡ Some w → (IsOpen m → RunsMore s m w) → StepsMore a v m → RunsMore (a ∷ s) v w
-    first_step m e u q = grind (arith, or_left, later)
-
-the : {x y : Lens} → Some x ≡ Some y → x ≡ y
-the e = cc
+runs_more [] v w o r = grind arith
+runs_more (a ∷ s) v w o r = let t = stepped a s v w r in grind (arith, (runs_more s t.mid w))
 
 -- the terminal has exited exactly where an Hexit came
 exits_exactly : (a : Action) (v m : Lens) → move a v ≡ Some m → exited_of m ≡ (is_exit a || exited_of v)
-exits_exactly a v m e = grind (arith, the)
-
-or_shift : (p q x : Bool) → (q || (p || x)) ≡ ((p || q) || x)
-or_shift p q x = grind arith
+exits_exactly a v m e = grind arith
 
 pub exited_after : (s : List Action) (v w : Lens) → run s v ≡ Some w → exited_of w ≡ (exits s || exited_of v)
-exited_after [] v w r = sym (ap exited_of (the r))
-exited_after (a ∷ s) v w r =
-    let t = stepped a s v w r in
-    exited_after s t.mid w t.on ∙ ap (λ (x : Bool). exits s || x) (exits_exactly a v t.mid t.moves) ∙ or_shift (is_exit a) (exits s) (exited_of v)
+exited_after [] v w r = grind (arith, same_Some)
+exited_after (a ∷ s) v w r = let t = stepped a s v w r in grind (arith, (exited_after s t.mid w t.on))
 
 pub no_exit : (s : List Action) (v w : Lens) → run s v ≡ Some w → command_of v ≡ false → exits s ≡ false
 no_exit [] v w r x = refl
@@ -102,14 +66,11 @@ no_unlock (a ∷ s) v w r x = grind (arith, (no_unlock s))
 
 -- where no Hversion comes the version stays
 same_version_step : (a : Action) (v m : Lens) → move a v ≡ Some m → is_change a ≡ false → version_of m ≡ version_of v
-same_version_step a v m e u = grind (arith, the)
+same_version_step a v m e u = grind arith
 
 pub same_version : (s : List Action) (v w : Lens) → run s v ≡ Some w → changes s ≡ false → version_of w ≡ version_of v
-same_version [] v w r x = sym (ap version_of (the r))
-same_version (a ∷ s) v w r x =
-    let t = stepped a s v w r in
-    let p = or_parts (is_change a) (changes s) x in
-    same_version s t.mid w t.on p.1 ∙ same_version_step a v t.mid t.moves p.0
+same_version [] v w r x = grind (arith, same_Some)
+same_version (a ∷ s) v w r x = let t = stepped a s v w r in grind (arith, (same_version s t.mid w t.on))
 
 -- no action of a free file's first frame needs the user kept out
 pub first_is_quiet : (a : Action) (s : List Action) (v w : Lens) → IsFree v → IsGuarded (a ∷ s) → run (a ∷ s) v ≡ Some w → is_crossing a ≡ false

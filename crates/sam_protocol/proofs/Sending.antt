@@ -1,21 +1,11 @@
 -- Messages that the terminal composes keep both sides in order.
-use Rattle.std.proofs.Common.{◌≡◌, ℕ, Bool, true, false, ◌==◌, if◌then◌else◌, List, [], ◌∷◌, ◌++◌, Option, None, refl, sym, ap, ◌∙◌, subst, append-nil, append_assoc, arith}
+use Rattle.sam_protocol.proofs.Common.{◌≡◌, if◌then◌else◌, ℕ, Bool, true, false, ◌==◌, List, [], ◌∷◌, ◌++◌, Option, None, refl, sym, ap, ◌∙◌, subst, append-nil, append_assoc, arith, del_cells, place_after_del, Tmesg, Ttype, Tcut, Hmesg, PlainHost, lock_of, PlainTerminal, Made, window_at, window_after_del, moved_unsent, del_rasp, edited, cut_rasp, composed, flushed, unsent_message, sends, unchanged, Lens, OpenAt, view, AllSettle, AreTidy, IsHeldBack, views, InOrder}
 use mathlib.Core.Path.{fun_ext}
-use Rattle.sam_rasp.specs.Rasp.{del_cells, place_after_del}
-use Rattle.sam_mesg.specs.declared.tmesg.Tmesg.{Tmesg}
-use Rattle.sam_mesg.specs.declared.tmesg.Tmesg.TheVariants.{Ttype, Tcut}
-use Rattle.sam_mesg.specs.declared.hmesg.Hmesg.{Hmesg}
-use Rattle.sam_host.specs.Host.{PlainHost}
-use Rattle.sam_term.specs.Events.{lock_of}
-use Rattle.sam_term.specs.Term.{PlainTerminal, Made, window_at, window_after_del, moved_unsent, del_rasp, edited, cut_rasp, composed, flushed, unsent_message, and_then, sends, unchanged}
-use Rattle.sam_protocol.specs.Lens.{Lens, OpenAt}
+use Rattle.sam_term.specs.Term.{and_then}
 use Rattle.sam_protocol.proofs.Lenses.{IsFree, IsOpen, exited_of, command_of}
 use Rattle.sam_protocol.proofs.Changes.{change_of_lock, change_by, cut_out, changed, Within, IsAllowed, CanCompose}
-use Rattle.sam_protocol.specs.View.{view}
-use Rattle.sam_protocol.specs.Fold.{AllSettle}
-use Rattle.sam_protocol.specs.Order.{AreTidy, IsHeldBack, views, InOrder}
 use Rattle.sam_protocol.proofs.Composing.{composes}
-use Rattle.sam_protocol.proofs.Views.{view-made, view-edited, view-open, LockOpens, view-composed, unsent-composed, view-flushed, unsent-flushed, tidy-composed, tidy-window, tidy-edited}
+use Rattle.sam_protocol.proofs.Views.{view-made, view-edited, LockOpens, view-composed, unsent-composed, view-flushed, unsent-flushed, tidy-composed, tidy-window, tidy-edited}
 use Rattle.sam_protocol.proofs.Dots.{tidy-del}
 
 -- what was made follows a terminal that is in order
@@ -61,7 +51,7 @@ ruleset opening = (open_is)
 
 -- the file that a message locks is open, since it rests on that
 opens_for : (m : Tmesg) (v : ℕ → Lens) → CanCompose m v → LockOpens (lock_of m) v
-opens_for m v e = grind arith
+opens_for m v e = grind (arith, open_is)
 
 -- a message that the fold carries, and what the terminal shows then
 pub carried : (h : PlainHost) (t t2 : PlainTerminal) (up : List Tmesg) (down : List Hmesg) (m : Tmesg) → InOrder h t up down → t.unsent ≡ None → t2.unsent ≡ None
@@ -79,27 +69,27 @@ send_one h t up down m o e plain may =
 pub sends_goes : (h : PlainHost) (t : PlainTerminal) (up : List Tmesg) (down : List Hmesg) (m : Tmesg) → InOrder h t up down → is_edit m ≡ false → MaySend (views t) m
     → Goes h up down (sends t unchanged (m ∷ []))
 sends_goes h t up down m o plain may =
-    then_goes h up down (flushed t) (λ u. (composed u m, m ∷ []))
-    (send_one h (flushed t).0 (up ++ (flushed t).1) down m (flushed_goes h t up down o) (unsent-flushed t) plain (subst (λ (v : ℕ → Lens). MaySend v m) (flushed_views t o.unsent) may))
+    let there = subst (λ (v : ℕ → Lens). MaySend v m) (flushed_views t o.unsent) may in
+    then_goes h up down (flushed t) (λ u. (composed u m, m ∷ [])) (send_one h (flushed t).0 (up ++ (flushed t).1) down m (flushed_goes h t up down o) (unsent-flushed t) plain there)
 
 -- ## A cut
 
 -- what an open file's partial text has
 pub has_open : (P : List (Option ℕ) → Type 0) (t : PlainTerminal) (f : ℕ) → OpenAt P (view f t) → P (window_at t f).rasp
-has_open P t f o = (subst (OpenAt P) (view-open t f (open_is P (view f t) o)) o).2
+has_open P t f o = grind arith
 
 -- the user's mark is no message
 edited_views : (t : PlainTerminal) (f : ℕ) → IsOpen (view f t) → views t ≡ views (edited t f)
 edited_views t f i = fun_ext (λ g. sym (view-edited t f i g))
 
 edited_order : (h : PlainHost) (t : PlainTerminal) (up : List Tmesg) (down : List Hmesg) (f : ℕ) → InOrder h t up down → IsOpen (view f t) → InOrder h (edited t f) up down
-edited_order h t up down f o i = grind (arith, tidy-edited, edited_views)
+edited_order h t up down f o i = grind (arith, tidy-edited, view-edited, fun_ext)
 
 del_view : (t : PlainTerminal) (f p q : ℕ) → IsOpen (view f t) → (g : ℕ) → view g (del_rasp t f p q) ≡ (if g == f then cut_out p q (view g t) else view g t)
 del_view t f p q o g = view-made t f (window_after_del (window_at t f) p q) (cut_out p q) o refl g
 
 pub cut_view : (t : PlainTerminal) (f p q : ℕ) → IsOpen (view f t) → (g : ℕ) → view g (cut_rasp t f p q) ≡ (if g == f then cut_out p q (view g t) else view g t)
-cut_view t f p q o g = search (arith, del_view, view-edited)
+cut_view t f p q o g = grind (arith, (view-made (edited t f) f (window_after_del (window_at (edited t f) f) p q) (cut_out p q)), view-edited)
 
 del_one : (h : PlainHost) (t : PlainTerminal) (up : List Tmesg) (down : List Hmesg) (f p q : ℕ) → InOrder h t up down → t.unsent ≡ None → MaySend (views t) (Tcut f p q)
     → InOrder h (composed (del_rasp t f p q) (Tcut f p q)) (up ++ Tcut f p q ∷ []) down

@@ -1,16 +1,6 @@
 -- The first host, a new terminal and nothing under way are in order.
-use Rattle.std.proofs.Common.{◌≡◌, ℕ, suc, Bool, true, false, nat_lt, List, [], ◌∷◌, length, Option, Some, None, refl, sym, true≢false, arith, unwrap_or}
-use Rattle.sam_runes.specs.Slots.{Slots, slot}
-use Rattle.sam_text.specs.Files.{PlainFile, blank_file}
-use Rattle.sam_host.specs.Host.{PlainHost, new_host, given_slots}
+use Rattle.sam_protocol.proofs.Common.{◌≡◌, ℕ, suc, Bool, true, false, nat_lt, List, [], ◌∷◌, length, Option, Some, None, refl, sym, true≢false, arith, unwrap_or, Slots, slot, PlainFile, blank_file, PlainHost, new_host, given_slots, starts_sound, new_terminal, Unknown, Fits_slot, view, file_of_slot, IsSteady, AllSettle, views, InOrder}
 use Rattle.sam_host.specs.Laws.{AreGiven}
-use Rattle.sam_host.proofs.SoundLaws.{starts_sound}
-use Rattle.sam_term.specs.Term.{new_terminal}
-use Rattle.sam_protocol.specs.Lens.{Unknown, Fits_slot}
-use Rattle.sam_protocol.specs.View.{view, file_of_slot}
-use Rattle.sam_protocol.specs.Steady.{IsSteady}
-use Rattle.sam_protocol.specs.Fold.{AllSettle}
-use Rattle.sam_protocol.specs.Order.{views, InOrder}
 
 -- neither open nor announced
 abbrev IsShut : Option PlainFile → Type 0
@@ -18,8 +8,8 @@ IsShut None = Unit
 IsShut (Some x) = (x.opened ≡ false) × (x.announced ≡ false)
 
 given_shut : (given : List (List ℕ × List ℕ)) (g : ℕ) → IsShut (slot (given_slots given) g)
-given_shut (x ∷ more) (suc g) = given_shut more g
-given_shut given g = grind arith
+given_shut [] g = grind arith
+given_shut (x ∷ more) g = grind (arith, (given_shut more))
 
 all_shut : (given : List (List ℕ × List ℕ)) (g : ℕ) → IsShut (slot (new_host given).files.slots g)
 all_shut given g = grind (arith, given_shut)

@@ -1,20 +1,8 @@
 -- What frames about one open file tell: they take a partial text that agrees with one text to one that agrees with another.
-use Rattle.std.proofs.lemmas.Grind.{common_steps}
-use Rattle.std.proofs.Common.{◌≡◌, ℕ, ◌+◌, ◌-◌, ◌≤◌, Bool, true, false, ◌&&◌, ◌==◌, List, [], ◌∷◌, ◌++◌, length, map, replicate, take, drop, Option, Some, None, refl, sym, ap, ◌∙◌, subst, arith, append-nil, take-append-drop, nat_le, nat_lt, le-leb, rules, flat_map}
-use Rattle.std.proofs.lemmas.List.{map-append}
-use Rattle.sam_runes.specs.Texts.{ins, del, max_runes}
+use Rattle.sam_protocol.proofs.Common.{common_steps, ◌≡◌, ℕ, ◌+◌, ◌-◌, ◌≤◌, Bool, true, false, ◌&&◌, ◌==◌, List, [], ◌∷◌, ◌++◌, length, map, replicate, take, drop, Option, Some, None, refl, sym, ap, ◌∙◌, subst, arith, append-nil, take-append-drop, nat_le, nat_lt, le-leb, rules, flat_map, map-append, ins, del, max_runes, del-nothing, length-del, ins_cells, del_cells, Agrees, length_agrees, agrees_typed, agrees_grown, agrees_removed, PlainFile, PlainFiles, file_at, Hmesg, Hmovname, Hcheck, Horigin, Hsetdot, Hmoveto, Hclean, Hdirty, Hcut, Hsetpat, when, when_given, grown, told_length, told_edit, Open, lens, Action, Skip, Needs_known, Needs_open, Grow, Insert, Cut, Place, move, run, closes, action, at_file, only}
 use Rattle.sam_runes.specs.declared.edit.Edit.{Edit}
 use Rattle.sam_runes.specs.Edits.{edited, all_edited, EditsFit}
-use Rattle.sam_runes.proofs.EditLaws.{del-nothing, length-del}
-use Rattle.sam_rasp.specs.Rasp.{ins_cells, del_cells, Agrees}
-use Rattle.sam_rasp.proofs.RaspLaws.{length_agrees, agrees_typed, agrees_grown, agrees_removed}
-use Rattle.sam_text.specs.Files.{PlainFile, PlainFiles, file_at}
-use Rattle.sam_mesg.specs.declared.hmesg.Hmesg.{Hmesg}
-use Rattle.sam_mesg.specs.declared.hmesg.Hmesg.TheVariants.{Hmovname, Hcheck, Horigin, Hsetdot, Hmoveto, Hclean, Hdirty, Hcut, Hsetpat}
-use Rattle.sam_host.specs.Host.{when, when_given, grown, told_length, told_edit}
-use Rattle.sam_protocol.specs.Lens.{Open, lens, Action, Skip, Needs_known, Needs_open, Grow, Insert, Cut, Place, move, run, closes}
 use Rattle.sam_protocol.proofs.Lenses.{AreSkips}
-use Rattle.sam_protocol.specs.Frames.{action, at_file, only}
 use Rattle.sam_protocol.proofs.Runs.{run-append_some, if_true}
 use Rattle.sam_protocol.proofs.Guards.{no_close_behind}
 

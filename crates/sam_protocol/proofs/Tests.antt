@@ -1,11 +1,5 @@
 -- The host's tests of a message, where its file is open and its places lie in the text.
-use Rattle.std.proofs.Common.{◌≡◌, ℕ, ◌+◌, ◌≤◌, Bool, false, not, ◌==◌, List, [], ◌∷◌, length, None, refl, ap, nat_lt, arith, le-ltb}
-use Rattle.sam_runes.specs.Texts.{max_runes}
-use Rattle.sam_runes.specs.Checks.{Checks, first_of_checks}
-use Rattle.sam_text.specs.Files.{file_at, has_file}
-use Rattle.sam_host.specs.Host.{PlainHost, unknown, not_opened, is_command, past_end, no_range, no_room}
-use Rattle.sam_host.specs.declared.fault.HostFault.{HostFault}
-use Rattle.sam_host.specs.declared.fault.HostFault.TheVariants.{NoFile, NotOpen, BadPosition, TooLong}
+use Rattle.sam_protocol.proofs.Common.{◌≡◌, ℕ, ◌+◌, ◌≤◌, Bool, false, not, ◌==◌, List, [], ◌∷◌, length, None, refl, ap, nat_lt, arith, le-ltb, max_runes, Checks, first_of_checks, file_at, has_file, PlainHost, unknown, not_opened, is_command, past_end, no_range, no_room, HostFault, NoFile, NotOpen, BadPosition, TooLong}
 use Rattle.sam_protocol.proofs.HostFiles.{Opens}
 
 pub test : {E : Type 0} (b : Bool) (x : E) (rest : List (Bool × E)) → b ≡ false → first_of_checks {E = E} rest ≡ None → first_of_checks {E = E} ((b, x) ∷ rest) ≡ None

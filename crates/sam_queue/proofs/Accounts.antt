@@ -1,17 +1,5 @@
 -- What an audit says.
-use Rattle.std.proofs.Common.{◌≡◌, ℕ, suc, ◌<◌, ◌≤◌, List, [], ◌∷◌, ◌++◌, length, map, Some, slice_get, All, Vec, sym, ◌∙◌, subst, append-nil, arith}
-use Rattle.std.specs.Global.{Global}
-use mathlib.Core.Option.{some}
-use lib.ListN.{get_elem?}
-use Rattle.std.proofs.lemmas.Option.{slice_get_within}
-use Rattle.sam_queue.specs.declared.rule.Entry.{Entry}
-use Rattle.sam_queue.specs.declared.rule.Port.{Port}
-use Rattle.sam_queue.specs.declared.rule.Port.TheVariants.{Receives}
-use Rattle.sam_queue.specs.History.{loads, items_of, IsEnded, all_of}
-use Rattle.sam_queue.specs.Views.{PostView, TakeView}
-use Rattle.sam_queue.specs.Audits.{ArePostsOf, Accounted, AllAccounted, HasHistory}
-use Rattle.sam_queue.specs.Ports.{sent_of, received_of, with_posts, IsRest}
-use Rattle.sam_queue.specs.Sorts.{IsSorted}
+use Rattle.sam_queue.proofs.Common.{◌≡◌, ℕ, suc, ◌<◌, ◌≤◌, List, [], ◌∷◌, ◌++◌, length, map, Some, slice_get, All, Vec, sym, ◌∙◌, subst, append-nil, arith, Global, some, get_elem?, slice_get_within, Entry, Port, Receives, loads, items_of, IsEnded, all_of, PostView, TakeView, ArePostsOf, Accounted, AllAccounted, HasHistory, sent_of, received_of, with_posts, IsRest, IsSorted}
 use Rattle.sam_queue.proofs.Histories.{loads-append, none_after_mark, items_said, has_mark_said}
 use Rattle.sam_queue.proofs.Lists.{found_at, all_by_place, all_right}
 use Rattle.sam_queue.proofs.Sorts.{items_of-append}

@@ -1,11 +1,5 @@
 -- How long a history is: as long as the parts of its senders together.
-use Rattle.std.proofs.Common.{◌≡◌, ℕ, zero, suc, ◌+◌, ◌<◌, ◌≤◌, List, [], ◌∷◌, length, All, sym, refl, ◌∙◌, arith}
-use mathlib.Core.Option.{some}
-use lib.ListN.{get_elem?}
-use Rattle.std.proofs.lemmas.List.Elements.{All-head, All-tail}
-use Rattle.sam_queue.specs.declared.rule.Entry.{Entry}
-use Rattle.sam_queue.specs.declared.rule.Sent.{Sent}
-use Rattle.sam_queue.specs.History.{loads, all_of}
+use Rattle.sam_queue.proofs.Common.{◌≡◌, ℕ, zero, suc, ◌+◌, ◌<◌, ◌≤◌, List, [], ◌∷◌, length, All, sym, refl, ◌∙◌, arith, some, get_elem?, All-head, All-tail, Entry, Sent, loads, all_of}
 use Rattle.sam_queue.proofs.Lists.{there}
 
 module _ {T : Type 0} where

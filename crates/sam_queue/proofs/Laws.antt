@@ -1,15 +1,6 @@
 -- Laws for callers.
-use Rattle.std.proofs.Common.{◌≡◌, ◌≢◌, ℕ, suc, ◌+◌, ◌<◌, true, false, eqb, ◌||◌, Option, Some, None, sym, refl, ap, ◌∙◌, ⊎_elim, arith}
-use Rattle.std.proofs.Common.{List, [], ◌∷◌, ◌++◌, length, slice_get, All, append-nil, length-append}
-use Rattle.std.proofs.lemmas.Bool.Decides.{eqb_tells}
-use Rattle.std.proofs.lemmas.List.Elements.{All-head, All-tail}
-use Rattle.sam_queue.specs.declared.rule.Entry.{Entry}
-use Rattle.sam_queue.specs.declared.rule.Part.{Part}
-use Rattle.sam_queue.specs.History.{loads, items_of, has_mark, all_of, StartsWith}
-use Rattle.sam_queue.specs.Views.{LineView, PostView, TakeView, part_of, take_told, KnowsOfNone, WasFull, IsAlone, IsFilled}
-use Rattle.sam_queue.specs.Audits.{ArePostsOf}
-use Rattle.sam_queue.specs.Views.{new_post, new_posts}
-use Rattle.sam_queue.proofs.Sorts.{items_of-append, one_item, no_item, mark_item}
+use Rattle.sam_queue.proofs.Common.{◌≡◌, ◌≢◌, ℕ, suc, ◌+◌, ◌<◌, true, false, eqb, ◌||◌, Option, Some, None, sym, refl, ap, ◌∙◌, ⊎_elim, arith, List, [], ◌∷◌, ◌++◌, length, All, append-nil, length-append, eqb_tells, All-head, All-tail, Entry, Part, loads, items_of, has_mark, all_of, StartsWith, LineView, PostView, TakeView, part_of, take_told, KnowsOfNone, WasFull, IsAlone, IsFilled, ArePostsOf, new_post, new_posts}
+use Rattle.sam_queue.proofs.Sorts.{items_of-append}
 use Rattle.sam_queue.proofs.Histories.{loads-append, loads_mine, loads_other, none_after_mark}
 use Rattle.sam_queue.proofs.Lists.{all_right}
 use Rattle.sam_queue.proofs.Tells.{has_mark-append}
@@ -19,17 +10,11 @@ module _ {T : Type 0} (line : LineView) where
   abbrev pub IsPost : PostView T → ℕ → Type 0
   IsPost p k = (p.line ≡ line) × (p.number ≡ k)
 
-  one_each : (a : PostView T) → IsPost a 0 → (k : ℕ) (p : PostView T) → slice_get (a ∷ []) k ≡ Some p → IsPost p k
-  one_each a e k p u = grind arith
-
   pub one_of : (a : PostView T) → line.senders ≡ 1 → IsPost a 0 → ArePostsOf line (a ∷ [])
-  one_of a many is_a = record { many = sym many; each = one_each a is_a }
-
-  three_each : (a b c : PostView T) → IsPost a 0 → IsPost b 1 → IsPost c 2 → (k : ℕ) (p : PostView T) → slice_get (a ∷ b ∷ c ∷ []) k ≡ Some p → IsPost p k
-  three_each a b c e u w k p q = grind arith
+  one_of a many is_a = record { many = sym many; each = λ k p u. grind arith }
 
   pub three_of : (a b c : PostView T) → line.senders ≡ 3 → IsPost a 0 → IsPost b 1 → IsPost c 2 → ArePostsOf line (a ∷ b ∷ c ∷ [])
-  three_of a b c many is_a is_b is_c = record { many = sym many; each = three_each a b c is_a is_b is_c }
+  three_of a b c many is_a is_b is_c = record { many = sym many; each = λ k p q. grind arith }
 
   -- the posts that `split` gives
   pub new_one : line.senders ≡ 1 → new_posts {T = T} line ≡ new_post line 0 ∷ []
@@ -41,13 +26,13 @@ module _ {T : Type 0} (line : LineView) where
 module _ {T : Type 0} where
   -- ---- what a caller knows of the items that it took, by one more entry
   pub items_of_item : (k : ℕ) (h : List (Entry T)) (e : Entry T) (m : T) → e.sender ≡ k → e.load ≡ Some m → items_of k (h ++ e ∷ []) ≡ items_of k h ++ m ∷ []
-  items_of_item k h e m is load = items_of-append k h (e ∷ []) ∙ ap (λ l. items_of k h ++ l) (one_item k e m load is)
+  items_of_item k h e m is load = grind (arith, (items_of-append k h (e ∷ [])), (loads_mine k e []))
 
   pub items_of_mark : (k : ℕ) (h : List (Entry T)) (e : Entry T) → e.load ≡ None → items_of k (h ++ e ∷ []) ≡ items_of k h
-  items_of_mark k h e load = items_of-append k h (e ∷ []) ∙ ap (λ l. items_of k h ++ l) (mark_item k e load) ∙ append-nil (items_of k h)
+  items_of_mark k h e load = grind (arith, (items_of-append k h (e ∷ [])), append-nil)
 
   pub items_of_other : (k : ℕ) (h : List (Entry T)) (e : Entry T) → e.sender ≢ k → items_of k (h ++ e ∷ []) ≡ items_of k h
-  items_of_other k h e ne = items_of-append k h (e ∷ []) ∙ ap (λ l. items_of k h ++ l) (no_item k e ne) ∙ append-nil (items_of k h)
+  items_of_other k h e ne = grind (arith, (items_of-append k h (e ∷ [])), (loads_other k e []), append-nil)
 
   -- ---- what a refusal for want of room says where the other senders are known to have left: the line can hold no more than what this post has put and does not know to be taken
   length_said : (put : List T) → length (all_of put false) ≡ length put

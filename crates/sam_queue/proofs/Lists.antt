@@ -1,8 +1,5 @@
 -- Lists by place.
-use Rattle.std.proofs.Common.{◌≡◌, ◌≢◌, ℕ, zero, suc, ◌<◌, List, [], ◌∷◌, ◌++◌, length, set, Some, slice_get, All, ◌⊎◌, refl, arith}
-use mathlib.Core.Option.{some}
-use lib.ListN.{get_elem?}
-use Rattle.std.proofs.lemmas.List.Elements.{All-nil, All-cons, All-tail}
+use Rattle.sam_queue.proofs.Common.{◌≡◌, ◌≢◌, ℕ, zero, suc, ◌<◌, List, [], ◌∷◌, ◌++◌, length, set, Some, slice_get, All, ◌⊎◌, refl, arith, some, get_elem?, All-nil, All-cons, All-tail}
 
 module _ {A : Type 0} where
   pub there : (l : List A) (i : ℕ) → i < length l → (a : A) × (get_elem? l i ≡ some a)

@@ -1,11 +1,6 @@
 -- What is left, sorted by sender into lists that have room for it.
-use Rattle.std.proofs.Common.{◌≡◌, ◌≢◌, ℕ, ◌<◌, ◌≤◌, List, [], ◌∷◌, ◌++◌, length, set, Option, Some, None, slice_get, All, Vec, vec_capacity, filter_map, ap, ◌∙◌, append-nil, length-append, arith}
-use Rattle.std.specs.Global.{Global}
-use Rattle.std.proofs.lemmas.List.Elements.{Contains-append_right, filter_map-append}
-use Rattle.sam_queue.specs.declared.rule.Entry.{Entry}
-use Rattle.sam_queue.specs.History.{loads, items_of}
-use Rattle.sam_queue.specs.Sorts.{IsRoom, IsSortedInto}
-use Rattle.sam_queue.proofs.Histories.{loads-append, loads_mine, loads_other}
+use Rattle.sam_queue.proofs.Common.{◌≡◌, ℕ, ◌<◌, ◌≤◌, List, [], ◌∷◌, ◌++◌, length, set, Option, Some, None, slice_get, All, Vec, vec_capacity, filter_map, ap, ◌∙◌, append-nil, length-append, arith, Global, Contains-append_right, filter_map-append, Entry, loads, items_of, IsRoom, IsSortedInto}
+use Rattle.sam_queue.proofs.Histories.{loads-append}
 use Rattle.sam_queue.proofs.Lists.{get_snoc, get_set}
 
 module _ {T : Type 0} where
@@ -24,8 +19,7 @@ module _ {T : Type 0} where
 
   length_items : (xs : List (Option T)) → length (filter_map (λ x. x) xs) ≤ length xs
   length_items [] = omega arith
-  length_items (None ∷ xs) = let a = length_items xs in omega arith
-  length_items (Some x ∷ xs) = let a = length_items xs in omega arith
+  length_items (x ∷ xs) = grind (arith, (length_items xs))
 
   -- there is room for one more
   pub room_left : (n k : ℕ) (entries after all : List (Entry T)) (e : Entry T) (left : List (Vec T Global)) (v : Vec T Global)
@@ -35,15 +29,6 @@ module _ {T : Type 0} where
 
   pub sender_within : (n : ℕ) (before after all : List (Entry T)) (e : Entry T) → All (λ x. x.sender < n) all → before ++ e ∷ after ≡ all → e.sender < n
   sender_within n before after all e within split = grind (arith, (Contains-append_right before (e ∷ after) e))
-
-  pub one_item : (k : ℕ) (e : Entry T) (m : T) → e.load ≡ Some m → e.sender ≡ k → items_of k (e ∷ []) ≡ m ∷ []
-  one_item k e m load is = ap (λ l. filter_map (λ x. x) l) (loads_mine k e [] is) ∙ ap (λ l. filter_map (λ x. x) (l ∷ [])) load
-
-  pub no_item : (k : ℕ) (e : Entry T) → e.sender ≢ k → items_of k (e ∷ []) ≡ []
-  no_item k e ne = ap (λ l. filter_map (λ x. x) l) (loads_other k e [] ne)
-
-  pub mark_item : (k : ℕ) (e : Entry T) → e.load ≡ None → items_of k (e ∷ []) ≡ []
-  mark_item k e load = grind arith
 
   -- an end mark adds no item
   pub sorted_mark : (n : ℕ) (entries : List (Entry T)) (left : List (Vec T Global)) (e : Entry T) → IsSortedInto n entries left → e.load ≡ None → IsSortedInto n (entries ++ e ∷ []) left

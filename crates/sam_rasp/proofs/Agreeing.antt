@@ -1,6 +1,5 @@
 -- Agreement, stretch by stretch.
-use Rattle.std.proofs.Common.{◌≡◌, true, ◌==◌, ℕ, ◌+◌, ◌-◌, ◌≤◌, ◌<◌, List, [], ◌∷◌, ◌++◌, map, take, drop, length, Some, None, arith, ◌↔◌, drop-drop, length-append, length-drop}
-use Rattle.sam_rasp.specs.Rasp.{PartialText, Agrees}
+use Rattle.sam_rasp.proofs.Common.{◌≡◌, true, ◌==◌, ℕ, ◌+◌, ◌-◌, ◌≤◌, ◌<◌, List, [], ◌∷◌, ◌++◌, map, take, drop, length, Some, None, arith, ◌↔◌, drop-drop, length-append, length-drop, PartialText, Agrees}
 use Rattle.sam_rasp.proofs.RaspLaws.{length_agrees}
 
 -- a front and the rest, against a text

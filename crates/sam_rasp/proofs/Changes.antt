@@ -1,10 +1,5 @@
 -- Cutting and putting in, part by part.
-use Rattle.std.proofs.Common.{◌≡◌, refl, sym, ap, ◌∙◌, ℕ, zero, suc, ◌+◌, ◌-◌, ◌≤◌, List, [], ◌∷◌, ◌++◌, take, drop, length, arith, reverse, min, map, Some, append_assoc, take-append-drop, take-take, drop-drop, length-append, length-take, length-drop}
-use Rattle.std.proofs.lemmas.List.{reverse-reverse, take-append-le, drop-append-le, drop_min, drop-take, map-append}
-use Rattle.sam_rasp.specs.Rasp.{PartialText}
-use Rattle.sam_runes.specs.Texts.{del}
-use Rattle.sam_rasp.specs.Sections.{cells_of, cells_back}
-use Rattle.sam_rasp.specs.declared.section.Section.{Section}
+use Rattle.sam_rasp.proofs.Common.{◌≡◌, sym, ap, ◌∙◌, ℕ, zero, suc, ◌+◌, ◌-◌, ◌≤◌, List, [], ◌∷◌, ◌++◌, take, drop, length, arith, reverse, min, map, Some, append_assoc, take-append-drop, take-take, drop-drop, reverse-reverse, take-append-le, drop-append-le, drop_min, drop-take, map-append, PartialText, del, cells_of, cells_back, Section}
 
 pub unreversed : (old new : List Section) → new ≡ reverse old → cells_back new ≡ cells_of old
 unreversed old new e = ap cells_back e ∙ ap cells_of (reverse-reverse old)
@@ -57,23 +52,6 @@ replace-cells t a s s₁ s₂ b r m l r' o₁ o₂ o₃ o₄ o₅ p n at end who
   (drop_min n s₂),
   (append_assoc o₃ l r'),
   (append_assoc (take p t ++ m) b (l ++ r')),
-)
-
--- what is put together is as long as the new list
-pub replace-fits : (t a s s₁ s₂ b r m l r' o₁ o₂ o₃ : PartialText) (p n at end most : ℕ)
-    → a ++ (s ++ r) ≡ t → length a + at ≡ p → at ≤ length s → length s₂ + at ≡ length s → end ≡ min n (length s₂)
-    → s₁ ≡ take at s → s₂ ≡ drop at s → b ≡ del s₂ 0 end → l ++ r' ≡ drop (n - end) r
-    → o₁ ≡ a ++ s₁ → o₂ ≡ o₁ ++ m → o₃ ≡ o₂ ++ b → length t + length m ≤ most + n → p + n ≤ length t
-    → length o₃ + (length l + length r') ≤ most
-replace-fits t a s s₁ s₂ b r m l r' o₁ o₂ o₃ p n at end most whole place inside size ends c₁ c₂ cut left e₁ e₂ e₃ total within = grind (
-  arith,
-  (replace-cells t a s s₁ s₂ b r m l r' o₁ o₂ o₃ (o₃ ++ l) ((o₃ ++ l) ++ r') p n at end whole place inside size ends c₁ c₂ cut left e₁ e₂ e₃ refl refl),
-  (length-append (o₃ ++ l) r'),
-  (length-append o₃ l),
-  (length-append (take p t ++ m) (drop (p + n) t)),
-  (length-append (take p t) m),
-  (length-take p t),
-  (length-drop (p + n) t),
 )
 
 -- one more stretch of a text

@@ -1,3 +1,4 @@
+pub mod Common
 pub mod SectionLaws
 pub mod Changes
 pub mod Walks

@@ -1,9 +1,6 @@
 -- Marks as a list of sections changes.
-use Rattle.std.proofs.Common.{◌≡◌, sym, ap, ◌∙◌, ℕ, ◌+◌, ◌-◌, ◌<◌, List, take, drop, length, set, arith, get_or-set_other, drop-drop, take-append-drop, length-append, length-drop, length-set}
-use Rattle.std.specs.List.{AllWithin}
+use Rattle.sam_rasp.proofs.Common.{◌≡◌, sym, ap, ◌∙◌, ℕ, ◌+◌, ◌-◌, ◌<◌, List, take, drop, length, set, arith, get_or-set_other, drop-drop, take-append-drop, length-append, length-drop, length-set, AllWithin, cells_of, IsBegin, IsChange, Section}
 use Rattle.std.proofs.lemmas.List.Elements.{AllWithin-more_set}
-use Rattle.sam_rasp.specs.Sections.{cells_of, IsBegin, IsChange}
-use Rattle.sam_rasp.specs.declared.section.Section.{Section}
 use Rattle.sam_rasp.specs.declared.walking.Begin.{Begin}
 use Rattle.sam_rasp.specs.declared.marks.Change.{Change}
 use Rattle.sam_rasp.proofs.Splices.{cells-append}

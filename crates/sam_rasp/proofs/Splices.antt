@@ -1,11 +1,6 @@
 -- Sections taken out of a list and put back.
 use Rattle.sam_rasp.specs.declared.splice.Reach.{Reach}
-use Rattle.std.proofs.Common.{◌≡◌, refl, sym, ap, ◌∙◌, subst, ℕ, ◌+◌, ◌-◌, ◌≤◌, ◌<◌, List, [], ◌∷◌, ◌++◌, take, drop, length, min, reverse, arith, ◌⊎◌, append-nil, append_assoc, take_at, drop_at, drop-drop, take-take, take-append-drop, length-append, length-take, length-drop, insert, Option, option_to_list}
-use Rattle.std.proofs.lemmas.List.{drop-take, nil_from_length, drop_min, drop-append-le, length-reverse, take-append-le, drop-append-le}
-use Rattle.std.proofs.lemmas.List.Concat.{flat_map-append}
-use Rattle.sam_rasp.specs.Rasp.{PartialText}
-use Rattle.sam_rasp.specs.Sections.{cells, cells_of, cells_back, IsApart, StaysApart, IsNormal, IsReach}
-use Rattle.sam_rasp.specs.declared.section.Section.{Section}
+use Rattle.sam_rasp.proofs.Common.{◌≡◌, refl, sym, ap, ◌∙◌, subst, ℕ, ◌+◌, ◌-◌, ◌≤◌, ◌<◌, List, [], ◌∷◌, ◌++◌, take, drop, length, min, reverse, arith, ◌⊎◌, append-nil, append_assoc, take_at, drop_at, drop-drop, take-take, take-append-drop, length-append, length-take, length-drop, insert, Option, option_to_list, drop-take, nil_from_length, drop_min, drop-append-le, length-reverse, take-append-le, flat_map-append, PartialText, cells, cells_of, cells_back, IsApart, StaysApart, IsNormal, IsReach, Section}
 use Rattle.sam_rasp.proofs.SectionLaws.{normal-between}
 use Rattle.sam_rasp.proofs.Changes.{take-past, drop-past}
 use Rattle.sam_rasp.proofs.Runs.{normal-take, normal-drop}
@@ -16,21 +11,10 @@ take-below xs ys n m le e = sym (take-take n m xs le) ∙ (ap (take n) e ∙ tak
 -- y in the place of what stood in v from number front to number end, as a write to a part of a vector leaves it
 pub behind-part : {X : Type 0} (v y old : List X) (front n end len : ℕ) → length v ≡ len → length y ≡ n → front + n ≡ end → end ≤ len
     → drop end (take len ((take front v ++ (y ++ drop n (drop front v))) ++ drop (length (take front v ++ (y ++ drop n (drop front v)))) old)) ≡ drop end v
-behind-part v y old front n end len lv ly sum within =
+behind-part {X = X} v y old front n end len lv ly sum within =
     let rest = drop n (drop front v) in
     let m = take front v ++ (y ++ rest) in
-    let same : length m ≡ len = omega (
-      arith,
-      length-append (take front v) (y ++ rest),
-      length-append y rest,
-      length-take front v,
-      length-drop n (drop front v),
-      length-drop front v,
-      lv,
-      ly,
-      sum,
-      within,
-    ) in
+    let same : length m ≡ len = omega (arith, length-append {A = X}, length-take {A = X}, length-drop {A = X}) in
     let la : length (take front v) + n ≡ end = omega (arith, length-take front v, lv, sum, within) in
     ap (drop end) (take_at m (drop (length m) old) len same)
     ∙ (drop-past (take front v) (y ++ rest) n end la ∙ (drop_at y rest n ly ∙ (drop-drop n front v ∙ ap (λ j. drop j v) sum)))

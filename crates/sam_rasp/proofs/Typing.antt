@@ -1,10 +1,5 @@
 -- Runes put into a loaded section that has room for them.
-use Rattle.std.proofs.Common.{◌≡◌, sym, ap, ◌∙◌, ℕ, suc, ◌+◌, ◌≤◌, ◌<◌, List, ◌∷◌, ◌++◌, take, drop, length, get_or, set, arith, true, append_assoc}
-use Rattle.std.proofs.lemmas.List.{take-append-le, drop-append-le}
-use Rattle.sam_runes.specs.Texts.{ins, most_in_message}
-use Rattle.sam_rasp.specs.Rasp.{PartialText}
-use Rattle.sam_rasp.specs.Sections.{cells, cells_of, size, is_loaded, IsNormal}
-use Rattle.sam_rasp.specs.declared.section.Section.{Section}
+use Rattle.sam_rasp.proofs.Common.{◌≡◌, ℕ, suc, ◌+◌, ◌≤◌, ◌<◌, List, ◌∷◌, ◌++◌, take, drop, length, get_or, set, arith, true, append_assoc, take-append-le, drop-append-le, ins, most_in_message, PartialText, cells, cells_of, size, is_loaded, IsNormal, Section}
 use Rattle.sam_rasp.proofs.SectionLaws.{length-cells}
 use Rattle.sam_rasp.proofs.Changes.{take-past, drop-past}
 use Rattle.sam_rasp.proofs.Runs.{three-parts}
@@ -31,18 +26,20 @@ inserted-inside xs i at p x x' m l e place inside c =
     let a = cells_of (take i xs) in
     let s = cells x in
     let r = cells_of (drop (i + 1) xs) in
-    let whole = three-parts xs i x l e in
-    let within : at ≤ length s = omega (arith, inside, length-cells x) in
-    let front : take p (cells_of xs) ≡ a ++ take at s = ap (take p) whole ∙ (take-past a (s ++ r) at p place ∙ ap (λ y. a ++ y) (take-append-le at s r within)) in
-    let back : drop p (cells_of xs) ≡ drop at s ++ r = ap (drop p) whole ∙ (drop-past a (s ++ r) at p place ∙ drop-append-le at s r within) in
-    cells-set xs i x' l
-    ∙ (ap (λ y. a ++ (y ++ r)) c
-    ∙ (ap (λ y. a ++ y) (append_assoc (take at s ++ m) (drop at s) r)
-    ∙ (ap (λ y. a ++ ((take at s ++ m) ++ y)) (sym back)
-    ∙ (ap (λ y. a ++ y) (append_assoc (take at s) m (drop p (cells_of xs)))
-    ∙ (sym (append_assoc a (take at s) (m ++ drop p (cells_of xs)))
-    ∙ (ap (λ y. y ++ (m ++ drop p (cells_of xs))) (sym front)
-    ∙ sym (append_assoc (take p (cells_of xs)) m (drop p (cells_of xs)))))))))
+    grind (
+      arith,
+      (cells-set xs i x' l),
+      (three-parts xs i x l e),
+      (length-cells x),
+      (take-past a (s ++ r) at p place),
+      (take-append-le at s r),
+      (drop-past a (s ++ r) at p place),
+      (drop-append-le at s r),
+      (append_assoc (take at s ++ m) (drop at s) r),
+      (append_assoc (take at s) m (drop at s ++ r)),
+      (append_assoc a (take at s) (m ++ (drop at s ++ r))),
+      (append_assoc (a ++ take at s) m (drop at s ++ r)),
+    )
 
 -- what `insert_inside` rests on
 pub ruleset insert_inside_facts = (inserted-inside, normal-set)

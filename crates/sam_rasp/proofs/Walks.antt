@@ -1,12 +1,6 @@
 -- Places in lists of sections.
-use Rattle.std.proofs.Common.{◌≡◌, sym, ap, ◌∙◌, ℕ, zero, suc, ◌+◌, ◌-◌, ◌≤◌, ◌<◌, List, [], ◌∷◌, ◌++◌, map, replicate, take, drop, length, get_or, Some, None, arith, max, min, ◌⊎◌, inl, inr, false, Option, slice_get, option_map}
-use Rattle.std.proofs.lemmas.List.{drop_more}
+use Rattle.sam_rasp.proofs.Common.{◌≡◌, sym, ap, ◌∙◌, ℕ, zero, suc, ◌+◌, ◌-◌, ◌≤◌, ◌<◌, List, [], ◌∷◌, ◌++◌, map, replicate, take, drop, length, get_or, Some, None, arith, max, min, ◌⊎◌, inl, inr, false, Option, slice_get, option_map, drop_more, PartialText, first_gaps, gaps_in_front, range_from, part, cells, cells_of, size, IsNormal, StaysApart, is_loaded, Section, Loaded, Hole}
 use Rattle.std.proofs.lemmas.Bool.{cases_lt}
-use Rattle.sam_rasp.specs.Rasp.{PartialText, first_gaps, gaps_in_front, range_from}
-use Rattle.sam_runes.specs.Texts.{part}
-use Rattle.sam_rasp.specs.Sections.{cells, cells_of, size, IsNormal, StaysApart, is_loaded}
-use Rattle.sam_rasp.specs.declared.section.Section.{Section}
-use Rattle.sam_rasp.specs.declared.section.Section.TheVariants.{Loaded, Hole}
 
 pub get-left : {X : Type 0} (s r : List X) (k : ℕ) → k < length s → slice_get (s ++ r) k ≡ slice_get s k
 get-left (x ∷ s) r (suc k) l = get-left s r k (omega (arith, l))

@@ -1,9 +1,6 @@
 -- Which bytes begin with a rune.
-use Rattle.std.proofs.Common.{◌≡◌, ℕ, ◌+◌, ◌-◌, ◌*◌, ◌/◌, ◌%◌, ◌<◌, ◌≤◌, List, [], ◌∷◌, ◌++◌, length, take, get_or, Option, Some, None, refl, sym, ap, subst, ◌∙◌, arith, le-ltb, lt-ltb, MatchOption, SomeIff}
-use Rattle.std.proofs.lemmas.Bool.{cases_lt}
-use Rattle.std.proofs.lemmas.Str.{encode_ascii}
-use Rattle.std.specs.Char.{encode_utf8, IsScalar}
-use Rattle.std.specs.Str.{StartsWithNoChar}
+use Rattle.sam_runes.proofs.Common.{◌≡◌, ℕ, ◌+◌, ◌-◌, ◌*◌, ◌/◌, ◌%◌, ◌<◌, ◌≤◌, List, [], ◌∷◌, ◌++◌, length, take, get_or, Option, Some, None, refl, sym, ap, subst, ◌∙◌, arith, le-ltb, lt-ltb, MatchOption, SomeIff, cases_lt, encode_ascii, IsScalar, StartsWithNoChar}
+use Rattle.std.specs.Char.{encode_utf8}
 
 abbrev Follows : ℕ → Type 0
 Follows b = (128 ≤ b) × (b < 192)

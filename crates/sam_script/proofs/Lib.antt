@@ -1,3 +1,4 @@
+pub mod Common
 pub mod ShowLaws
 pub mod Replays
 pub mod WordLaws

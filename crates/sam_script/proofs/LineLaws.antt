@@ -1,22 +1,11 @@
 -- What is read of a line is what it says, and each line says one thing.
-use Rattle.std.proofs.Common.{◌≡◌, ◌<◌, ◌≤◌, ◌∙◌, inl, inr, refl, sym, ap, subst, ℕ, List, [], ◌∷◌, ◌++◌, length, true, Some, Result, IfOk, IfErr, codes, flat_map, encode_utf8, arith, chars, encode_utf8_all, IsUtf8, le-leb, eqb-true}
-use Rattle.std.specs.List.{AllByRecursion}
-use Rattle.std.proofs.lemmas.Bool.{cases_Bool}
-use Rattle.std.proofs.lemmas.Bool.Decides.{eqb_tells}
-use Rattle.std.proofs.lemmas.Option.{same_Some}
-use Rattle.std.proofs.lemmas.Str.{chars_from_encodes, encodes-chars}
-use Rattle.sam_runes.specs.Texts.{max_runes, most_in_name}
+use Rattle.sam_script.proofs.Common.{◌≡◌, ◌<◌, ◌≤◌, ◌∙◌, refl, sym, ap, subst, ℕ, List, [], ◌∷◌, ◌++◌, length, true, Some, Result, IfOk, IfErr, codes, flat_map, encode_utf8, arith, chars, encode_utf8_all, IsUtf8, le-leb, eqb-true, AllByRecursion, eqb_tells, same_Some, chars_from_encodes, encodes-chars, max_runes, most_in_name, Said, SpellsParts, IsWord, SpellsFile, SpellsLine, SaysNothing, SaysSo, Says, Rest, fitting_name, fitting_text, file_text_at, file_at, bare, line_readers, is_silent, line_at, IsUnsaid, ◌>>=◌, word_of, behind_word, word_at, Gives}
 use Rattle.sam_script.specs.declared.line.Line.{Line}
 use Rattle.sam_script.specs.declared.line.Line.TheVariants.{Key, Mouse}
-use Rattle.sam_script.specs.declared.line.Said.{Said}
 use Rattle.sam_script.specs.declared.fault.LineFault.{LineFault}
 use Rattle.sam_script.specs.declared.line.Said.TheVariants as said
 use Rattle.sam_world.specs.Given.{IsFile}
-use Rattle.sam_script.specs.Spelling.{SpellsParts, IsWord, SpellsFile, SpellsLine, SaysNothing, SaysSo, Says}
-use Rattle.sam_script.specs.Events.Part.{Rest}
-use Rattle.sam_script.specs.Reading.{fitting_name, fitting_text, file_text_at, file_at, bare, line_readers, is_silent, line_at, IsUnsaid}
-use Rattle.sam_script.specs.Words.{◌>>=◌, word_of, behind_word, word_at, Gives}
-use Rattle.sam_script.proofs.SpellingLaws.{bind_some, IsEnd, word_ends, word_split, word_says, word_read, utf8_tail, utf8_rear, utf8_front, text_says, text_read, ReadsAs, rows_say, event_says, event_read}
+use Rattle.sam_script.proofs.SpellingLaws.{bind_some, word_ends, word_split, word_says, word_read, word_utf8, utf8_tail, utf8_rear, utf8_front, text_says, text_read, ReadsAs, rows_say, event_says, event_read}
 
 -- ## A file
 
@@ -45,26 +34,25 @@ file_says bytes x u h =
     let b = bind_some (fitting_name (chars a.0.0)) (λ name. file_text_at a.0.1 >>= λ text. Some (name, text)) x a.2 in
     let d = bind_some (file_text_at a.0.1) (λ text. Some (b.0, text)) x b.2 in
     let w = word_says bytes a.0 a.1 in
-    let n = name_says a.0.0 b.0 (utf8_part a.0.0 a.0.1 (subst IsUtf8 w.0 u) w.2) b.1 in
-    let t = file_text_says a.0.1 d.0 (utf8_rear (codes " " ++ a.0.0) a.0.1 (subst IsUtf8 w.0 u) w.2) d.1 in
+    let v = word_utf8 bytes a.0 u a.1 in
+    let n = name_says a.0.0 b.0 v.0 b.1 in
+    let t = file_text_says a.0.1 d.0 v.1 d.1 in
     subst (λ (y : List ℕ × List ℕ). SpellsFile y.0 y.1 (codes "file" ++ bytes)) (same_Some (b.0, d.0) x d.2)
     (a.0.1, ap (λ xs. codes "file" ++ xs) w.0 ∙ ap (λ xs. codes "file " ++ xs ++ a.0.1) n.0, subst IsWord n.0 w.1, (n.1, n.2, t.1), t.0)
-  where
-    utf8_part : (word rest : List ℕ) → IsUtf8 (codes " " ++ word ++ rest) → IsEnd rest → IsUtf8 word
-    utf8_part word rest v end = utf8_front word rest (utf8_tail (word ++ rest) v) end
 
 file_read : (bytes name text rest : List ℕ) → IsUtf8 bytes → bytes ≡ codes " " ++ flat_map encode_utf8 name ++ rest → IsWord (flat_map encode_utf8 name) → IsFile (name, text)
     → SpellsParts (Rest text ∷ []) rest → file_at bytes ≡ Some (name, text)
 unfolding file_at
-file_read bytes name text rest u is plain fits parts = grind (
-  arith,
-  (word_read bytes (flat_map encode_utf8 name) rest is plain),
-  (name_read name),
-  (utf8_front (flat_map encode_utf8 name) rest),
-  (utf8_tail (flat_map encode_utf8 name ++ rest)),
-  (file_text_read rest text),
-  (utf8_rear (codes " " ++ flat_map encode_utf8 name) rest),
-)
+file_read bytes name text rest u is plain fits parts =
+    grind (
+      arith,
+      (word_read bytes (flat_map encode_utf8 name) rest is plain),
+      (name_read name),
+      (utf8_front (flat_map encode_utf8 name) rest),
+      (utf8_tail (flat_map encode_utf8 name ++ rest)),
+      (file_text_read rest text),
+      (utf8_rear (codes " " ++ flat_map encode_utf8 name) rest),
+    )
 
 -- ## A line
 
@@ -86,13 +74,15 @@ silent_says bytes e = grind (arith, eqb_tells, eqb-true)
 
 pub line_says : (bytes : List ℕ) (it : Said) → IsUtf8 bytes → line_at bytes ≡ Some it → SaysSo it bytes
 unfolding line_at
-line_says bytes it u h = elim (cases_Bool (is_silent bytes)) [
-  | inl t ↦ let here = rw t at h in subst (λ i. SaysSo i bytes) (same_Some said.Nothing it here) (silent_says bytes t)
-  | inr t ↦
-      let here = rw t at h in
-      let utf8 = utf8_rear (word_of bytes) (behind_word bytes) (subst IsUtf8 (sym (word_split bytes)) u) (word_ends bytes) in
-      subst (SaysSo it) (word_split bytes) (rows_say IsSaidBy line_readers line_readers_say (word_of bytes) (behind_word bytes) it utf8 here)
-]
+line_says bytes it u h =
+    grind (
+      arith,
+      silent_says,
+      (rows_say IsSaidBy line_readers line_readers_say (word_of bytes) (behind_word bytes) it),
+      (utf8_rear (word_of bytes) (behind_word bytes)),
+      (word_split bytes),
+      (word_ends bytes),
+    )
 
 pub line_read : (bytes : List ℕ) (it : Said) → Says it bytes → line_at bytes ≡ Some it
 unfolding line_at

@@ -1,13 +1,7 @@
 -- What a replay has printed, line by line.
-use Rattle.std.proofs.Common.{◌≡◌, ◌<◌, ◌+◌, ℕ, suc, true, List, ◌∷◌, ◌++◌, length, drop, Result, Ok, Err, slice_index_or, append_assoc, arith}
-use Rattle.sam_world.specs.World.{PlainWorld}
+use Rattle.sam_script.proofs.Common.{◌≡◌, ◌<◌, ◌+◌, ℕ, suc, true, List, ◌∷◌, ◌++◌, length, drop, Result, Ok, Err, slice_index_or, append_assoc, arith, PlainWorld, Event, PlainScript, Spells, IsReadFault, after_line, printed_by, stepped, behind, replayed_from, replayed, IsReplayFault, IsStopOf, ScriptFault}
 use Rattle.sam_world.specs.Counts.{passes_count}
-use Rattle.sam_world.specs.declared.event.Event.{Event}
-use Rattle.sam_script.specs.Script.{PlainScript}
-use Rattle.sam_script.specs.Spelling.{Spells, IsReadFault}
-use Rattle.sam_script.specs.Replay.{after_line, printed_by, stepped, behind, replayed_from, replayed, IsReplayFault, IsStopOf}
 use Rattle.sam_script.specs.declared.line.Numbered.{Numbered}
-use Rattle.sam_script.specs.declared.fault.ScriptFault.{ScriptFault}
 use Rattle.sam_script.specs.declared.fault.ScriptFault.TheVariants as fault
 
 -- ---- a step that would pass a count

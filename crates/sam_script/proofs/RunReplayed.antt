@@ -1,17 +1,6 @@
 -- A run that was printed, replayed, shows the world to which it leads.
-use Rattle.std.proofs.Common.{◌≡◌, ◌≤◌, ◌∙◌, ◌+◌, ap, ℕ, List, [], ◌∷◌, ◌++◌, length, map, Some, Result, Ok, append-nil, arith}
-use Rattle.std.specs.List.{AllByRecursion}
-use Rattle.std.proofs.lemmas.Option.{option_and_then_some, same_Some}
-use Rattle.sam_runes.specs.Texts.{most_files}
-use Rattle.sam_world.specs.World.{PlainWorld, new_world, step_of, run_of}
-use Rattle.sam_world.specs.declared.event.Event.{Event}
+use Rattle.sam_script.proofs.Common.{◌≡◌, ◌≤◌, ◌∙◌, ◌+◌, ap, ℕ, List, [], ◌∷◌, ◌++◌, length, map, Some, Ok, append-nil, arith, AllByRecursion, option_and_then_some, same_Some, most_files, PlainWorld, new_world, step_of, run_of, Event, PlainScript, show_lines, Spells, lines_of, after_line, printed_by, replayed_from, replayed, run_lines_of, line_of, numbered_from, run_script, CanBeNamed, CanBeWritten}
 use Rattle.sam_script.specs.declared.line.Line.TheVariants as line
-use Rattle.sam_script.specs.Script.{PlainScript}
-use Rattle.sam_script.specs.Show.{show_lines}
-use Rattle.sam_script.specs.Spelling.{Spells, lines_of}
-use Rattle.sam_script.specs.Replay.{after_line, printed_by, behind, and_on, replayed_from, replayed}
-use Rattle.sam_script.specs.RunLines.{run_lines_of, line_of, numbered_from, run_script, CanBeNamed, CanBeWritten}
-use Rattle.sam_script.specs.declared.fault.ScriptFault.{ScriptFault}
 use Rattle.sam_script.proofs.ScriptLaws.{spells_one}
 use Rattle.sam_script.proofs.RunSpelled.{run_is_spelled}
 
@@ -22,19 +11,12 @@ line_steps n w v e u = grind arith
 prints_nothing : (w : PlainWorld) (e : Event) → printed_by w (line_of e) ≡ []
 prints_nothing w e = grind arith
 
-behind_nothing : (r : Result (List ℕ) ScriptFault) → behind [] r ≡ r
-behind_nothing r = grind arith
-
 lines_replay : (n : ℕ) (w v : PlainWorld) (events : List Event) → run_of w events ≡ Some v
     → replayed_from w (numbered_from n (map line_of events ++ line.Show ∷ [])) ≡ Ok (show_lines v)
 lines_replay n w v [] h = ap (λ out. Ok out) (append-nil (show_lines w) ∙ ap show_lines (same_Some w v h))
 lines_replay n w v (e ∷ events) h =
     option_and_then_some (λ next. run_of next events) (step_of w e) v h
-    (λ next is more.
-    ap (λ before. behind before (and_on (after_line n w (line_of e)) (λ x. replayed_from x (numbered_from (n + 1) (map line_of events ++ line.Show ∷ []))))) (prints_nothing w e)
-    ∙ behind_nothing (and_on (after_line n w (line_of e)) (λ x. replayed_from x (numbered_from (n + 1) (map line_of events ++ line.Show ∷ []))))
-    ∙ ap (λ r. and_on r (λ x. replayed_from x (numbered_from (n + 1) (map line_of events ++ line.Show ∷ [])))) (line_steps n w next e is)
-    ∙ lines_replay (n + 1) next v events more)
+    (λ next is more. grind (arith, (prints_nothing w e), (line_steps n w next e is), (lines_replay (n + 1) next v events more)))
 
 pub run_replayed : (files : List (List ℕ × List ℕ)) (events : List Event) (w : PlainWorld) (script : PlainScript) → length files ≤ most_files → AllByRecursion CanBeNamed files
     → AllByRecursion CanBeWritten events → run_of (new_world files) events ≡ Some w → Spells (run_lines_of files events) script → replayed script ≡ Ok (show_lines w)

@@ -1,7 +1,6 @@
 -- What is shown of one slot or section more.
-use Rattle.std.proofs.Common.{◌≡◌, refl, ap, ◌<◌, ◌+◌, ℕ, suc, List, [], ◌∷◌, ◌++◌, length, map, take, Option, Some, None, slice_index_or, arith, append-nil, append_assoc}
+use Rattle.sam_script.proofs.Common.{◌≡◌, refl, ap, ◌<◌, ◌+◌, ℕ, suc, List, [], ◌∷◌, ◌++◌, length, map, take, Option, Some, None, slice_index_or, arith, append-nil, append_assoc, slot_lines, rasp_shown, text_shown, text_rune}
 use Rattle.sam_runes.specs.Slots.{Slots, slot}
-use Rattle.sam_script.specs.Show.{slot_lines, rasp_shown, text_shown, text_rune}
 
 pub shown_loaded : (s : List ℕ) → rasp_shown (map Some s) ≡ text_shown s
 shown_loaded [] = refl

@@ -1,20 +1,8 @@
 -- What reading gives is what the grammar says, and what it says is read.
-use Rattle.std.proofs.Common.{◌≡◌, ◌<◌, ◌∙◌, ◌^◌, ◌⊎◌, inl, inr, refl, sym, ap, ap₂, subst, ℕ, List, [], ◌∷◌, ◌++◌, length, get_or, take, drop, Bool, true, false, cond, Option, Some, arith, codes, flat_map, append_assoc, append-nil, encode_utf8, ◌==◌, encode_utf8_all, IsUtf8, IsCharBoundary}
-use Rattle.std.specs.List.{AllByRecursion}
-use Rattle.std.specs.Str.{all_ascii_digits}
-use Rattle.std.proofs.lemmas.Bool.Decides.{eqb_tells}
-use Rattle.std.proofs.lemmas.Option.{same_Some}
+use Rattle.sam_script.proofs.Common.{◌≡◌, ◌<◌, ◌∙◌, ◌^◌, ◌⊎◌, inl, inr, refl, sym, ap, ap₂, subst, ℕ, List, [], ◌∷◌, ◌++◌, length, length-append, Bool, true, false, cond, Option, Some, arith, codes, flat_map, append_assoc, append-nil, encode_utf8, ◌==◌, encode_utf8_all, IsUtf8, IsCharBoundary, AllByRecursion, all_ascii_digits, eqb_tells, same_Some, IsUtf8-drop, IsUtf8-take, IsUtf8-past_char, IsCharBoundary-end, chars_from_encodes, encodes-chars, encodes-append, encode_ascii, UserEvent, text_shown, text_rune, IsNumber, SpellsParts, SpellsEvent, IsWord, Part, Tag, Place, form, Reader, by_tag, by_place, by_range, readers, Number, Rest, read_by, event_at, ◌>>=◌, word_of, behind_word, word_at, number_of, number_at, unescaped, text_at, ended, tag_alone, tag_and_place, tag_and_range, tag_and_text}
+use Rattle.std.proofs.Math.Seq.{drop-append_seam, take-append_seam, get_or-append_seam}
 use Rattle.std.proofs.lemmas.Slice.Eq.{bytes_eq-Decides}
-use Rattle.std.proofs.lemmas.Str.{IsUtf8-drop, IsUtf8-take, IsUtf8-past_char, IsCharBoundary-end, chars_from_encodes, encodes-chars, encodes-append, encode_ascii}
-use Rattle.sam_term.specs.declared.event.UserEvent.{UserEvent}
 use Rattle.sam_term.specs.declared.event.UserEvent.TheVariants.{Typed, SetSnarf}
-use Rattle.sam_term.specs.declared.event.UserEvent.TheVariants as user
-use Rattle.sam_script.specs.Show.{text_shown, text_rune}
-use Rattle.sam_script.specs.Spelling.{IsNumber, SpellsParts, SpellsEvent, IsWord}
-use Rattle.sam_script.specs.Events.{Part, Tag, Place, form, Reader, by_tag, by_place, by_range, readers}
-use Rattle.sam_script.specs.Events.Part.{Number, Rest}
-use Rattle.sam_script.specs.Reading.{read_by, event_at}
-use Rattle.sam_script.specs.Words.{◌>>=◌, word_of, behind_word, word_at, number_of, number_at, unescaped, text_at, ended, tag_alone, tag_and_place, tag_and_range, tag_and_text}
 
 -- ## Options and tests
 
@@ -59,39 +47,27 @@ word_read bytes word rest is plain end = ap word_at is ∙ ap₂ (λ w r. Some (
 
 -- ## UTF-8
 
-e32 : encode_utf8 32 ≡ 32 ∷ []
-e32 = encode_ascii 32 (omega arith)
-
 e92 : encode_utf8 92 ≡ 92 ∷ []
 e92 = encode_ascii 92 (omega arith)
 
-drop_behind : (xs ys : List ℕ) → drop (length xs) (xs ++ ys) ≡ ys
-drop_behind [] ys = refl
-drop_behind (x ∷ xs) ys = drop_behind xs ys
-
-take_before : (xs ys : List ℕ) → take (length xs) (xs ++ ys) ≡ xs
-take_before [] ys = refl
-take_before (x ∷ xs) ys = ap (λ zs. x ∷ zs) (take_before xs ys)
-
-get_behind : (xs : List ℕ) (y : ℕ) (ys : List ℕ) → get_or (xs ++ y ∷ ys) (length xs) 0 ≡ y
-get_behind [] y ys = refl
-get_behind (x ∷ xs) y ys = get_behind xs y ys
-
-longer : (xs : List ℕ) (y : ℕ) (ys : List ℕ) → length xs < length (xs ++ y ∷ ys)
-longer [] y ys = omega arith
-longer (x ∷ xs) y ys = let more = longer xs y ys in omega arith
-
 end_bounds : (word rest : List ℕ) → IsEnd rest → IsCharBoundary (word ++ rest) (length word)
-end_bounds word rest e = grind (arith, append-nil, IsCharBoundary-end, get_behind, longer)
+end_bounds word rest e = grind (arith, append-nil, IsCharBoundary-end, (get_or-append_seam word), (length-append word))
 
 pub utf8_rear : (word rest : List ℕ) → IsUtf8 (word ++ rest) → IsEnd rest → IsUtf8 rest
-utf8_rear word rest u end = subst IsUtf8 (drop_behind word rest) (IsUtf8-drop (word ++ rest) (length word) u (end_bounds word rest end))
+utf8_rear word rest u end = subst IsUtf8 (drop-append_seam word rest) (IsUtf8-drop (word ++ rest) (length word) u (end_bounds word rest end))
 
 pub utf8_front : (word rest : List ℕ) → IsUtf8 (word ++ rest) → IsEnd rest → IsUtf8 word
-utf8_front word rest u end = subst IsUtf8 (take_before word rest) (IsUtf8-take (word ++ rest) (length word) u (end_bounds word rest end))
+utf8_front word rest u end = subst IsUtf8 (take-append_seam word rest) (IsUtf8-take (word ++ rest) (length word) u (end_bounds word rest end))
 
 pub utf8_tail : (bytes : List ℕ) → IsUtf8 (32 ∷ bytes) → IsUtf8 bytes
-utf8_tail bytes u = IsUtf8-past_char (32 ∷ bytes) bytes 32 u (ap (λ xs. xs ++ bytes) (sym e32))
+utf8_tail bytes u = IsUtf8-past_char (32 ∷ bytes) bytes 32 u (ap (λ xs. xs ++ bytes) (sym (encode_ascii 32 (omega arith))))
+
+-- the word behind a space and what follows it are UTF-8
+pub word_utf8 : (bytes : List ℕ) (x : List ℕ × List ℕ) → IsUtf8 bytes → word_at bytes ≡ Some x → IsUtf8 x.0 × IsUtf8 x.1
+word_utf8 bytes x u e =
+    let w = word_says bytes x e in
+    let v = subst IsUtf8 w.0 u in
+    (utf8_front x.0 x.1 (utf8_tail (x.0 ++ x.1) v) w.2, utf8_rear (codes " " ++ x.0) x.1 v w.2)
 
 -- ## Numbers
 
@@ -99,19 +75,13 @@ digits_word : (word : List ℕ) → all_ascii_digits word ≡ true → IsWord wo
 digits_word [] h = tt
 digits_word (c ∷ word) h = grind (arith, (digits_word word))
 
-number_of_says : (bits : ℕ) (word : List ℕ) (n : ℕ) → number_of bits word ≡ Some n → IsNumber word n × (n < 2 ^ bits)
-number_of_says bits word n h = grind arith
-
 pub number_says : (bits : ℕ) (bytes : List ℕ) (x : ℕ × List ℕ) → number_at bits bytes ≡ Some x
     → (word : List ℕ) × (bytes ≡ codes " " ++ word ++ x.1) × IsNumber word x.0 × (x.0 < 2 ^ bits) × IsEnd x.1
 unfolding number_at
 number_says bits bytes x h =
     let a = bind_some (word_at bytes) (λ w. number_of bits w.0 >>= λ n. Some (n, w.1)) x h in
-    let b = bind_some (number_of bits a.0.0) (λ n. Some (n, a.0.1)) x a.2 in
     let w = word_says bytes a.0 a.1 in
-    let n = number_of_says bits a.0.0 b.0 b.1 in
-    subst (λ (y : ℕ × List ℕ). (word : List ℕ) × (bytes ≡ codes " " ++ word ++ y.1) × IsNumber word y.0 × (y.0 < 2 ^ bits) × IsEnd y.1) (same_Some (b.0, a.0.1) x b.2)
-    (a.0.0, w.0, n.0, n.1, w.2)
+    (a.0.0, grind (arith, w), grind arith, grind arith, grind (arith, w))
 
 pub number_read : (bits : ℕ) (bytes word rest : List ℕ) (n : ℕ) → bytes ≡ codes " " ++ word ++ rest → IsNumber word n → n < 2 ^ bits → IsEnd rest
     → number_at bits bytes ≡ Some (n, rest)
@@ -158,9 +128,8 @@ text_says bytes s e u = grind (arith, same_Some, unescaped_says, utf8_tail, enco
 -- ## What stands behind the word of an event
 
 pub parts_end : (parts : List Part) (bytes : List ℕ) → SpellsParts parts bytes → IsEnd bytes
-parts_end [] bytes h = subst IsEnd (sym h) tt
-parts_end (Number bits n ∷ parts) bytes h = subst IsEnd (sym h.2) refl
-parts_end (Rest s ∷ parts) bytes h = grind arith
+parts_end [] bytes h = grind arith
+parts_end (part ∷ parts) bytes h = grind arith
 
 -- a number stands first
 number_parts : (bits : ℕ) (bytes : List ℕ) (x : ℕ × List ℕ) (parts : List Part) → number_at bits bytes ≡ Some x → SpellsParts parts x.1
@@ -245,9 +214,6 @@ rows_say P (row ∷ rows) each word bytes x u h = grind (arith, bytes_eq-Decides
 abbrev IsEventOf : List ℕ → UserEvent → List ℕ → Type 0
 IsEventOf word e bytes = ((form e).0 ≡ word) × SpellsParts (form e).1 bytes
 
-formed : (word bytes : List ℕ) (parts : List Part) (d e : UserEvent) → form d ≡ (word, parts) → SpellsParts parts bytes → Some d ≡ Some e → IsEventOf word e bytes
-formed word bytes parts d e is spells same = grind arith
-
 tag_row : (make : ℕ → UserEvent) (word : List ℕ) → ((f : ℕ) → form (make f) ≡ (word, Tag f ∷ [])) → ReadsAs IsEventOf (word, by_tag make)
 tag_row make word is bytes e u h = grind (arith, tag_says)
 
@@ -259,7 +225,7 @@ range_row : (make : ℕ → ℕ → ℕ → UserEvent) (word : List ℕ) → ((f
 range_row make word is bytes e u h = grind (arith, range_says)
 
 bare_row : (d : UserEvent) (word : List ℕ) → form d ≡ (word, []) → ReadsAs IsEventOf (word, ended d)
-bare_row d word is bytes e u h = let n = ended_says d e bytes h in formed word bytes [] d e is n.0 (ap (λ g. Some g) n.1)
+bare_row d word is bytes e u h = grind arith
 
 type_row : ReadsAs IsEventOf (codes "type", λ bytes. tag_and_text bytes >>= λ x. Some (Typed x.0 x.1))
 type_row bytes e u h = grind (arith, typed_says)
@@ -300,7 +266,7 @@ unfolding event_at
 event_says bytes e u h =
     let a = bind_some (word_at bytes) (λ x. read_by readers x.0 x.1) e h in
     let w = word_says bytes a.0 a.1 in
-    let p = rows_say IsEventOf readers readers_say a.0.0 a.0.1 e (utf8_rear (codes " " ++ a.0.0) a.0.1 (subst IsUtf8 w.0 u) w.2) a.2 in
+    let p = rows_say IsEventOf readers readers_say a.0.0 a.0.1 e (word_utf8 bytes a.0 u a.1).1 a.2 in
     (a.0.0 ++ a.0.1, w.0, (a.0.1, ap (λ x. x ++ a.0.1) (sym p.0), p.1))
 
 pub event_read : (bytes event : List ℕ) (e : UserEvent) → IsUtf8 bytes → bytes ≡ codes " " ++ event → SpellsEvent e event → event_at bytes ≡ Some e

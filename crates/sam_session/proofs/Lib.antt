@@ -1,3 +1,4 @@
+pub mod Common
 pub mod Serving
 pub mod Playing
 pub mod Unique

@@ -1,7 +1,6 @@
 -- What a parsed number says of its digits.
-use Rattle.std.proofs.Common.{◌≡◌, refl, sym, subst, ℕ, List, Bool, cond, ne_eqb, slice_index, drop, Result, Ok}
+use Rattle.sam_session.proofs.Common.{◌≡◌, refl, sym, subst, ℕ, List, Bool, cond, ne_eqb, slice_index, drop, Result, Ok, first_value-rows}
 use Rattle.std.specs.Str.Parse.{IsNumeral, ParsesUnsigned, digits_value, without_leading_plus}
-use Rattle.clap.proofs.WalkLemmas.{first_value-rows}
 
 -- no plus sign stands in front
 pub plain : (bs : List ℕ) → (slice_index bs 0 ≡ 43 → ⊥) → without_leading_plus bs ≡ bs

@@ -1,26 +1,12 @@
 -- Where the program stands between two pieces.
-use Rattle.std.proofs.Common.{◌≡◌, ◌∙◌, ℕ, ◌+◌, ◌-◌, ◌≤◌, List, [], ◌∷◌, ◌++◌, length, codes, Option, None, Some, IfSome, IfErr, OnOk, Result, Ok, Err, refl, sym, ap, subst, append-nil, length-append, arith}
-use Rattle.std.specs.Io.KnownBytes.{Appends, Consumes, IsAtEnd}
-use Rattle.std.proofs.KnownBytes.{Appends-nil, Appends-trans, Consumes-nil, Consumes-trans, Consumes-whole}
+use Rattle.sam_session.proofs.Common.{◌≡◌, ◌∙◌, ℕ, ◌+◌, ◌-◌, ◌≤◌, List, [], ◌∷◌, ◌++◌, length, codes, Option, None, Some, IfSome, IfErr, OnOk, Result, Ok, Err, refl, sym, ap, subst, append-nil, length-append, arith, Appends, Consumes, IsAtEnd, Appends-nil, Appends-trans, Consumes-nil, Consumes-trans, Consumes-whole, Tmesg, terminal, version_after, PlainHost, IsSound, HostFault, starts_sound, Served, serve, frame_number, Stops, stop_at, Plays, Written, OnSide, Answers, Refuses, AnswersBefore, HaltsBefore, Halts, MayEnd, PieceAnswers, PieceStops, Stop, Frame, PlayFault}
 use Rattle.sam_runes.specs.Texts.{max_runes, most_in_name}
-use Rattle.sam_mesg.specs.declared.tmesg.Tmesg.{Tmesg}
 use Rattle.sam_mesg.specs.declared.fault.MesgFault.{MesgFault}
-use Rattle.sam_frame.specs.Direction.{terminal}
-use Rattle.sam_frame.specs.Stream.{version_after}
 use Rattle.sam_frame.specs.Framing.{Held, HasRoom, GaveAll, GaveUp, fresh}
 use Rattle.sam_frame.proofs.Fronts.{version_after-append}
 use Rattle.sam_frame.proofs.Cuttings.{Came, Splits-longer, Shows-longer, splits_more, comes_more}
-use Rattle.sam_host.specs.Host.{PlainHost}
-use Rattle.sam_host.specs.Laws.{IsSound}
-use Rattle.sam_host.specs.declared.fault.HostFault.{HostFault}
-use Rattle.sam_host.proofs.SoundLaws.{starts_sound}
+use Rattle.sam_session.specs.Limits.{most_input}
 use Rattle.sam_session.specs.Start.{host_of}
-use Rattle.sam_session.specs.Serving.{Served, serve}
-use Rattle.sam_session.specs.Outcome.{frame_number, Stops, stop_at, Plays, Written, OnSide}
-use Rattle.sam_session.specs.Pieces.{Answers, Refuses, AnswersBefore, HaltsBefore, Halts, MayEnd, PieceAnswers, PieceStops}
-use Rattle.sam_threads.specs.declared.stop.Stop.{Stop}
-use Rattle.sam_threads.specs.declared.stop.Stop.TheVariants.{Frame}
-use Rattle.sam_session.specs.declared.fault.PlayFault.{PlayFault}
 use Rattle.sam_session.proofs.Serving.{serve-append, serve-sound}
 
 -- what was read are the messages that a host, h0 at first, answered, and what the framer holds
@@ -28,7 +14,7 @@ pub record Progress (h0 : PlainHost) (first now before after : Option (List ℕ)
   pub got : List ℕ
   pub messages : List Tmesg
   pub read : Consumes first now got
-  pub count : length got + left ≡ 16777216
+  pub count : length got + left ≡ most_input
   pub came : Came terminal fresh got messages k
   pub start : IsSound h0
   pub state : (serve h0 messages).end ≡ Ok h
@@ -48,7 +34,7 @@ unfolding host_of
 first_sound text most = let short : 4 ≤ most_in_name = omega arith in starts_sound ((codes "file", text) ∷ []) (short, most, tt)
 
 -- nothing was read
-pub begins : (h0 : PlainHost) (first before : Option (List ℕ)) (k : Held) → IsSound h0 → k ≡ fresh → Progress h0 first first before before k h0 16777216
+pub begins : (h0 : PlainHost) (first before : Option (List ℕ)) (k : Held) → IsSound h0 → k ≡ fresh → Progress h0 first first before before k h0 most_input
 begins h0 first before k sound empty = grind (arith, (Consumes-nil first), (Appends-nil before))
 
 module _ {W : Type 0} (contents : W → Option (List ℕ)) where
@@ -108,7 +94,7 @@ module _ {W : Type 0} (contents : W → Option (List ℕ)) where
 -- the input is read to its end
 pub ends_with : (h0 : PlainHost) (first now later before after : Option (List ℕ)) (k : Held) (h : PlainHost) (left : ℕ) (nothing : List ℕ) (s : Option Stop)
     → Progress h0 first now before after k h left → Consumes now later nothing → nothing ≡ [] → IsAtEnd later → s ≡ stop_at None k.bytes
-    → Written first before after (λ input written. (length input ≤ 16777216) × Plays h0 input written s)
+    → Written first before after (λ input written. (length input ≤ most_input) × Plays h0 input written s)
 ends_with h0 first now later before after k h left nothing s p reads none at_end stopped = grind (arith, Consumes-trans, append-nil, Consumes-whole, stops)
 
 -- ---- the end of the input
@@ -120,13 +106,13 @@ stop_half : (rest : List ℕ) → (rest ≡ [] → ⊥) → Some (Frame 4) ≡ s
 stop_half rest e = grind arith
 
 only_plays : (input before after : Option (List ℕ)) (h0 : PlainHost) (s : Option Stop)
-    → Written input before after (λ i w. (length i ≤ 16777216) × Plays h0 i w s) → Written input before after (λ i w. Plays h0 i w s)
+    → Written input before after (λ i w. (length i ≤ most_input) × Plays h0 i w s) → Written input before after (λ i w. Plays h0 i w s)
 only_plays input before after h0 s e = grind arith
 
 -- what the program answers there
 pub ends_ok : (h0 : PlainHost) (first now later before after : Option (List ℕ)) (k : Held) (h : PlainHost) (left : ℕ) (nothing : List ℕ) (r : Result (Unit {0}) PlayFault)
     → Progress h0 first now before after k h left → Consumes now later nothing → nothing ≡ [] → IsAtEnd later → MayEnd k r
-    → OnOk r (Written first before after (λ input written. (length input ≤ 16777216) × Plays h0 input written None))
+    → OnOk r (Written first before after (λ input written. (length input ≤ most_input) × Plays h0 input written None))
 ends_ok h0 first now later before after k h left nothing (Ok done) p reads none at_end may =
     ends_with h0 first now later before after k h left nothing None p reads none at_end (stop_empty k.bytes may)
 ends_ok h0 first now later before after k h left nothing (Err e) p reads none at_end may = tt

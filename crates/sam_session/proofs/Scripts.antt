@@ -1,18 +1,12 @@
 -- What comes of an input that is read as a script.
-use Rattle.std.proofs.Common.{◌≡◌, ◌⊎◌, ℕ, ◌≤◌, List, length, Option, IfSome, Result, Err, OnOk, IfOk, IfErr, arith, IsOkAnd}
+use Rattle.sam_session.proofs.Common.{◌≡◌, ◌⊎◌, ℕ, ◌≤◌, List, length, Option, IfSome, Result, Err, OnOk, IfOk, IfErr, arith, IsOkAnd, Appends, PlainScript, Spells, IsReadFault, Written, IsUnread, PlayFault, Read, Write, OutOfMemory}
 use Rattle.std.specs.Global.{Vec}
-use Rattle.std.specs.Io.KnownBytes.{Appends}
-use Rattle.sam_script.specs.Script.{PlainScript}
-use Rattle.sam_script.specs.Spelling.{Spells, IsReadFault}
 use Rattle.sam_script.specs.Replay as replay
 use Rattle.sam_script.specs.declared.fault.ScriptFault.{ScriptFault}
 use Rattle.sam_script.specs.declared.fault.ScriptFault.TheVariants as fault
-use Rattle.sam_session.specs.Outcome.{Written}
 use Rattle.sam_session.specs.Replaying.{of_script, IsReplay, IsReplayFault}
-use Rattle.sam_session.specs.Threading.{IsUnread}
 use Rattle.sam_session.specs.Status.{fault_line, IsTold}
-use Rattle.sam_session.specs.declared.fault.PlayFault.{PlayFault}
-use Rattle.sam_session.specs.declared.fault.PlayFault.TheVariants.{Read, Write, OutOfMemory}
+use Rattle.sam_session.specs.Limits.{most_input}
 
 -- ---- the input
 
@@ -22,14 +16,14 @@ known input bytes P e u = grind arith
 pub weaker : (input : Option (List ℕ)) (P Q : List ℕ → Type 0) → ((i : List ℕ) → P i → Q i) → IfSome input P → IfSome input Q
 weaker input P Q e u = grind arith
 
-pub script_read : (input : Option (List ℕ)) (bytes : List ℕ) (script : PlainScript) → IfSome input (λ i. bytes ≡ i) → length bytes ≤ 16777216 → Spells bytes script
-    → IfSome input (λ i. (length i ≤ 16777216) × Spells i script)
-script_read input bytes script is short spelled = known input bytes (λ i. (length i ≤ 16777216) × Spells i script) is (short, spelled)
+pub script_read : (input : Option (List ℕ)) (bytes : List ℕ) (script : PlainScript) → IfSome input (λ i. bytes ≡ i) → length bytes ≤ most_input → Spells bytes script
+    → IfSome input (λ i. (length i ≤ most_input) × Spells i script)
+script_read input bytes script is short spelled = known input bytes (λ i. (length i ≤ most_input) × Spells i script) is (short, spelled)
 
-unread : (bytes : List ℕ) (why : ScriptFault) → length bytes ≤ 16777216 → IsReadFault bytes why → IsUnread bytes (of_script why)
+unread : (bytes : List ℕ) (why : ScriptFault) → length bytes ≤ most_input → IsReadFault bytes why → IsUnread bytes (of_script why)
 unread bytes why e u = grind arith
 
-pub script_wrong : (input : Option (List ℕ)) (bytes : List ℕ) (why : ScriptFault) → IfSome input (λ i. bytes ≡ i) → length bytes ≤ 16777216 → IsReadFault bytes why
+pub script_wrong : (input : Option (List ℕ)) (bytes : List ℕ) (why : ScriptFault) → IfSome input (λ i. bytes ≡ i) → length bytes ≤ most_input → IsReadFault bytes why
     → IfSome input (λ i. IsUnread i (of_script why))
 script_wrong input bytes why is short wrong = known input bytes (λ i. IsUnread i (of_script why)) is (unread bytes why short wrong)
 
@@ -38,13 +32,13 @@ input_failed input e u = grind arith
 
 -- ---- a replay
 
-pub replay_shown : (input : Option (List ℕ)) (bytes out : List ℕ) → IfSome input (λ i. bytes ≡ i) → length bytes ≤ 16777216 → replay.IsReplay bytes out → IfSome input (λ i. IsReplay i out)
+pub replay_shown : (input : Option (List ℕ)) (bytes out : List ℕ) → IfSome input (λ i. bytes ≡ i) → length bytes ≤ most_input → replay.IsReplay bytes out → IfSome input (λ i. IsReplay i out)
 replay_shown input bytes out is short ran = known input bytes (λ i. IsReplay i out) is (short, ran)
 
-faulty : (bytes : List ℕ) (why : ScriptFault) → length bytes ≤ 16777216 → replay.IsReplayFault bytes why → IsReplayFault bytes (of_script why)
+faulty : (bytes : List ℕ) (why : ScriptFault) → length bytes ≤ most_input → replay.IsReplayFault bytes why → IsReplayFault bytes (of_script why)
 faulty bytes why e u = grind arith
 
-pub replay_stopped : (input : Option (List ℕ)) (bytes : List ℕ) (why : ScriptFault) → IfSome input (λ i. bytes ≡ i) → length bytes ≤ 16777216 → replay.IsReplayFault bytes why
+pub replay_stopped : (input : Option (List ℕ)) (bytes : List ℕ) (why : ScriptFault) → IfSome input (λ i. bytes ≡ i) → length bytes ≤ most_input → replay.IsReplayFault bytes why
     → IfSome input (λ i. IsReplayFault i (of_script why))
 replay_stopped input bytes why is short stop = known input bytes (λ i. IsReplayFault i (of_script why)) is (faulty bytes why short stop)
 

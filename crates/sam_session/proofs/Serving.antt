@@ -1,22 +1,8 @@
 -- What a host answers to messages in turn.
-use Rattle.std.proofs.Common.{◌≡◌, ℕ, List, [], ◌∷◌, ◌++◌, Option, Ok, Err, refl, ap, subst, flat_map, append_assoc, arith}
-use Rattle.std.specs.Io.KnownBytes.{Appends}
-use Rattle.std.proofs.KnownBytes.{Appends-trans}
-use Rattle.std.proofs.lemmas.List.Elements.{All-nil, All-cons}
-use Rattle.sam_mesg.specs.TerminalKinds.{FitsT}
-use Rattle.sam_mesg.specs.declared.tmesg.Tmesg.{Tmesg}
+use Rattle.sam_session.proofs.Common.{◌≡◌, ℕ, List, [], ◌∷◌, ◌++◌, Option, Ok, Err, refl, ap, subst, flat_map, append_assoc, arith, Appends, Appends-trans, All-nil, All-cons, FitsT, Tmesg, HFrame, terminal, FitInTurn, PlainHost, Answer, answer, IsSound, stays_sound, frames_fit, HostFault, Served, served_on, serve, behind, AllFit, FramesFit}
 use Rattle.sam_mesg.specs.HostKinds.{frame_h}
-use Rattle.sam_mesg.specs.declared.hmesg.HFrame.{HFrame}
 use Rattle.sam_mesg.proofs.Versions.{grows_t}
-use Rattle.sam_frame.specs.Direction.{terminal}
-use Rattle.sam_frame.specs.Stream.{FitInTurn}
-use Rattle.sam_host.specs.Host.{PlainHost, Answer, answer}
-use Rattle.sam_host.specs.Laws.{IsSound}
 use Rattle.sam_host.proofs.LastVersion.{fit_in_last}
-use Rattle.sam_host.proofs.SoundLaws.{stays_sound, frames_fit}
-use Rattle.sam_host.specs.declared.fault.HostFault.{HostFault}
-use Rattle.sam_session.specs.Serving.{Served, served_on, serve, behind}
-use Rattle.sam_session.specs.Pieces.{AllFit, FramesFit}
 
 -- ---- what fits at its place fits in version 2
 

@@ -1,15 +1,12 @@
 -- What a session of five threads comes to.
-use Rattle.std.proofs.Common.{◌≡◌, ◌≢◌, ◌∙◌, ◌⊎◌, inl, inr, ⊎_elim, refl, sym, ap, subst, arith, ℕ, ◌<◌, ◌≤◌, true, false, eqb, List, [], ◌∷◌, ◌++◌, length, map, Option, Some, None, IfSome, append-nil}
+use Rattle.sam_session.proofs.Common.{◌≡◌, ◌≢◌, ◌∙◌, ◌⊎◌, inl, inr, ⊎_elim, refl, sym, ap, subst, arith, ℕ, ◌<◌, ◌≤◌, true, false, eqb, List, [], ◌∷◌, ◌++◌, length, map, Option, Some, None, IfSome, append-nil, HFrame, PlainScript, keys_of, mouse_of, Spells, User, Stop, Host, first_cause, of_cause, of_stops, IsWoven, HasAllUsers, PrintsSession, IsThreaded, IsSessionFault, IsThreadsFault, IsUnread, PlayFault, Side, OutOfMemory, Threads}
 use Rattle.std.proofs.lemmas.Bool.Decides.{eqb_tells}
 use Rattle.std.proofs.lemmas.List.Concat.{flat_map-cons}
-use Rattle.sam_mesg.specs.declared.hmesg.HFrame.{HFrame}
 use Rattle.sam_term.specs.declared.event.UserEvent.{UserEvent}
 use Rattle.sam_term.specs.declared.event.UserEvent.TheVariants.{Exit}
 use Rattle.sam_world.specs.Sides.{Each}
 use Rattle.sam_script.specs.RunLines.{run_lines_of}
-use Rattle.sam_script.specs.Script.{PlainScript, keys_of, mouse_of}
 use Rattle.sam_script.specs.Show.{show_lines}
-use Rattle.sam_script.specs.Spelling.{Spells}
 use Rattle.sam_queue.specs.declared.rule.Entry.{Entry}
 use Rattle.sam_queue.specs.History.{items_of}
 use Rattle.sam_queue.specs.Views.{LineView, PostView}
@@ -19,18 +16,12 @@ use Rattle.sam_settling.specs.Settled.{stops_of}
 use Rattle.sam_threads.specs.WorkerEnds.{IsOwnExit}
 use Rattle.sam_threads.specs.declared.ends.Ends.{Ends}
 use Rattle.sam_threads.specs.declared.input.Input.{Input}
-use Rattle.sam_threads.specs.declared.input.Input.TheVariants.{User}
-use Rattle.sam_threads.specs.declared.stop.Stop.{Stop}
-use Rattle.sam_threads.specs.declared.input.Input.TheVariants.{Host}
 use Rattle.sam_settling.specs.declared.settled.Settled.{Settled}
 use Rattle.sam_threads.specs.declared.stop.Stop.TheVariants as stop
 use Rattle.sam_settling.proofs.SettlingLists.{loaded, items_mine, items_other, nothing_joined, split_map, parts_of, senders_within}
 use Rattle.sam_settling.proofs.SettlingClauses.{stop_none}
-use Rattle.sam_session.specs.Threading.{first_cause, of_cause, of_stops, IsWoven, HasAllUsers, PrintsSession, IsThreaded, IsSessionFault, IsThreadsFault, IsUnread}
-use Rattle.sam_session.specs.declared.fault.PlayFault.{PlayFault}
-use Rattle.sam_session.specs.declared.fault.PlayFault.TheVariants.{Side, OutOfMemory}
-use Rattle.sam_session.specs.declared.fault.PlayFault.TheVariants.{Threads}
 use Rattle.sam_session.proofs.Scripts.{weaker}
+use Rattle.sam_session.specs.Limits.{most_input}
 
 -- ---- the events of keyboard and mouse are woven
 
@@ -167,11 +158,11 @@ not_printed script s e session (inr is) = stopped script s e session is
 
 -- ---- the session of an input
 
-pub session_shown : (input : Option (List ℕ)) (script : PlainScript) (lines : List ℕ) → IfSome input (λ i. (length i ≤ 16777216) × Spells i script) → PrintsSession lines script
+pub session_shown : (input : Option (List ℕ)) (script : PlainScript) (lines : List ℕ) → IfSome input (λ i. (length i ≤ most_input) × Spells i script) → PrintsSession lines script
     → IfSome input (λ i. IsThreaded i lines)
 session_shown input script lines read prints = grind (arith, weaker)
 
-pub session_stops : (input : Option (List ℕ)) (script : PlainScript) (e : PlayFault) → IfSome input (λ i. (length i ≤ 16777216) × Spells i script) → IsSessionFault script e
+pub session_stops : (input : Option (List ℕ)) (script : PlainScript) (e : PlayFault) → IfSome input (λ i. (length i ≤ most_input) × Spells i script) → IsSessionFault script e
     → IfSome input (λ i. IsThreadsFault i e)
 session_stops input script e read stop = grind (arith, weaker)
 

@@ -1,14 +1,7 @@
 -- An input has one outcome.
-use Rattle.std.proofs.Common.{◌≡◌, ◌∙◌, ℕ, List, inl, inr, Option, None, Some, Result, Ok, Err, refl, sym, ap, ap₂}
-use Rattle.sam_frame.specs.Direction.{terminal}
-use Rattle.sam_frame.specs.Stream.{version_after}
+use Rattle.sam_session.proofs.Common.{◌≡◌, ◌∙◌, ℕ, List, inl, inr, Option, None, Some, Result, Ok, Err, refl, sym, ap, ap₂, terminal, version_after, PlainHost, HostFault, Served, serve, Plays, Stops, stop_at, refusal_number, Stop}
 use Rattle.sam_frame.specs.Reading.{IsSound}
 use Rattle.sam_frame.proofs.Unique.{one_split, reads_on, two_fronts}
-use Rattle.sam_host.specs.Host.{PlainHost}
-use Rattle.sam_host.specs.declared.fault.HostFault.{HostFault}
-use Rattle.sam_session.specs.Serving.{Served, serve}
-use Rattle.sam_session.specs.Outcome.{Plays, Stops, stop_at, refusal_number}
-use Rattle.sam_threads.specs.declared.stop.Stop.{Stop}
 use Rattle.sam_threads.specs.declared.stop.Stop.TheVariants.{Host}
 use Rattle.sam_session.proofs.Serving.{serve-refused}
 

@@ -1,3 +1,4 @@
+pub mod Limits
 pub mod Start
 pub mod Serving
 pub mod Outcome

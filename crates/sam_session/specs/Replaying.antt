@@ -6,6 +6,7 @@ use Rattle.sam_script.specs.declared.fault.ScriptFault.TheVariants as fault
 use Rattle.sam_threads.specs.declared.stop.Stop.TheVariants.{Host}
 use Rattle.sam_session.specs.declared.fault.PlayFault.{PlayFault}
 use Rattle.sam_session.specs.declared.fault.PlayFault.TheVariants.{Script, Read, Write, Side, Threads, OutOfMemory}
+use Rattle.sam_session.specs.Limits.{most_input}
 
 -- what a fault of a script is for the program
 abbrev pub of_script : ScriptFault → PlayFault
@@ -15,7 +16,7 @@ of_script fault.OutOfMemory = OutOfMemory
 
 -- the input has at most 16,777,216 bytes
 abbrev pub IsShort : List ℕ → Type 0
-IsShort input = length input ≤ 16777216
+IsShort input = length input ≤ most_input
 
 -- what is written is what the script that the input spells prints, replayed to its end
 abbrev pub IsReplay : List ℕ → List ℕ → Type 0

@@ -6,6 +6,7 @@ use Rattle.sam_runes.specs.Texts.{max_runes}
 use Rattle.clap.specs.Words.{App, Row, Rule, Text, first_of, new_app, new_rule, subcommand_of, with_rule, with_subcommand}
 use Rattle.sam_session.specs.declared.words.Mode.{Mode}
 use Rattle.sam_session.specs.declared.words.Mode.TheVariants.{Bytes, Replay, Threads}
+use Rattle.sam_session.specs.Limits.{most_piece, most_capacity}
 
 -- an option `--name` that takes one value, or else this one
 abbrev pub option_of : Text → Text → Rule
@@ -53,7 +54,7 @@ HoldsMode (Some p) (Bytes text) =
 HoldsMode (Some p) Replay = p.0 ≡ codes "replay"
 HoldsMode (Some p) (Threads piece capacity) =
     (p.0 ≡ codes "threads")
-    × HoldsNumber (first_of (codes "piece") p.1) 65536 piece × HoldsNumber (first_of (codes "cap") p.1) 1024 capacity
+    × HoldsNumber (first_of (codes "piece") p.1) most_piece piece × HoldsNumber (first_of (codes "cap") p.1) most_capacity capacity
 
 -- the mode holds the values of clap's matches of the words
 abbrev pub IsModeOf : List Text → Mode → Type 0

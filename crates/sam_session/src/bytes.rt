@@ -4,6 +4,7 @@ ghost use Rattle.std.specs.Prelude.{◌≡◌, ◌≤◌, ◌++◌, Some, None, 
 ghost use Rattle.sam_runes.specs.Texts.{max_runes};
 ghost use Rattle.sam_frame.specs.Framing.{HasRoom};
 ghost use Rattle.sam_host.specs.Laws.{IsSound};
+ghost use Rattle.sam_session.specs.Limits.{most_input};
 ghost use Rattle.sam_session.specs.Start.{host_of};
 ghost use Rattle.sam_session.specs.Outcome.{OnSide, IsOfBytes, Plays, Written};
 ghost use Rattle.sam_session.specs.Pieces.{AllFit, AnswersBefore, PieceAnswers, PieceStops, MayEnd};
@@ -38,7 +39,7 @@ pub fn play_bytes<R: Read, W: Write>(
 ) -> Result<(), PlayFault>
     requires { length text.now ≤ max_runes }
     ensures ok { OnOk result (Written (R.remaining reader.old) (W.contents writer.old) (W.contents writer.new)
-        (λ input written. (length input ≤ 16777216) × Plays (host_of text.now) input written None)) }
+        (λ input written. (length input ≤ most_input) × Plays (host_of text.now) input written None)) }
     ensures side { IfErr result (λ e. OnSide e (λ stop. Written (R.remaining reader.old) (W.contents writer.old)
         (W.contents writer.new) (λ input written. Plays (host_of text.now) input written (Some stop)))) }
     ensures fault { IfErr result IsOfBytes }
@@ -58,7 +59,7 @@ fn answer_input<R: Read, W: Write>(
 ) -> Result<(), PlayFault>
     requires { IsSound host.old }
     ensures ok { OnOk result (Written (R.remaining reader.old) (W.contents writer.old) (W.contents writer.new)
-        (λ input written. (length input ≤ 16777216) × Plays host.old input written None)) }
+        (λ input written. (length input ≤ most_input) × Plays host.old input written None)) }
     ensures side { IfErr result (λ e. OnSide e (λ stop. Written (R.remaining reader.old) (W.contents writer.old)
         (W.contents writer.new) (λ input written. Plays host.old input written (Some stop)))) }
     ensures fault { IfErr result IsOfBytes }

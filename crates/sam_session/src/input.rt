@@ -3,6 +3,7 @@
 ghost use Rattle.std.specs.Prelude.{◌≡◌, ◌≤◌, ◌⊎◌, Err, IfOk, IfErr, IsErr, OnOk, IfSome, length};
 ghost use Rattle.std.specs.Io.KnownBytes.{Appends};
 ghost use Rattle.std.specs.Result.{IsOkAnd};
+ghost use Rattle.sam_session.specs.Limits.{most_input};
 ghost use Rattle.sam_session.specs.Status.{fault_line, IsTold};
 
 use crate::fault::PlayFault;
@@ -13,7 +14,7 @@ use std::io::{Read, Write};
 /// Reads all that the reader has. Errors: `Read` if a read fails or the input has more than `MOST_INPUT` bytes, and `OutOfMemory`,
 /// whichever comes first in the input.
 pub(crate) fn read_all<R: Read>(alloc: Global, reader: &mut R) -> Result<Vec<u8>, PlayFault>
-    ensures ok { IfOk result (λ bytes. (length bytes.items ≤ 16777216)
+    ensures ok { IfOk result (λ bytes. (length bytes.items ≤ most_input)
         × IfSome (R.remaining reader.old) (λ input. bytes.items ≡ input)) }
     ensures fault { IfErr result (λ e. (e ≡ PlayFault.Read) ⊎ (e ≡ PlayFault.OutOfMemory)) }
 {

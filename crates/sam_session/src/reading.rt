@@ -2,6 +2,7 @@
 
 ghost use Rattle.std.specs.Prelude.{◌≡◌, ◌<◌, ◌≤◌, IfOk, IfErr, take};
 ghost use Rattle.std.specs.Io.KnownBytes.{Consumes, IsAtEnd};
+ghost use Rattle.sam_session.specs.Limits.{piece};
 
 use crate::fault::PlayFault;
 use std::io::Read;
@@ -20,7 +21,7 @@ pub(crate) fn read_piece<R: Read>(
     most: usize,
 ) -> Result<usize, PlayFault>
     requires { 0 < most }
-    ensures count { IfOk result (λ n. (n ≤ most) × (n ≤ 4096)) }
+    ensures count { IfOk result (λ n. (n ≤ most) × (n ≤ piece)) }
     ensures bytes { IfOk result (λ n. Consumes (R.remaining reader.old) (R.remaining reader.new) (take n buffer.new)
         × (n ≡ 0 → IsAtEnd (R.remaining reader.new))) }
     ensures fault { IfErr result (λ e. e ≡ PlayFault.Read) }

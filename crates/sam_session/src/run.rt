@@ -2,6 +2,7 @@
 
 ghost use Rattle.std.specs.Prelude.{◌≤◌, ◌<◌, Some, None, IfErr, IfSome, OnOk, length};
 ghost use Rattle.sam_runes.specs.Texts.{max_runes};
+ghost use Rattle.sam_session.specs.Limits.{most_input};
 ghost use Rattle.sam_session.specs.Outcome.{OnSide, IsOfBytes, Plays, Written};
 ghost use Rattle.sam_session.specs.Start.{host_of};
 ghost use Rattle.sam_session.specs.Status.{IsTold};
@@ -51,7 +52,7 @@ pub fn play<T: Threads + Wait + Sync, R: Read, W: Write>(
     requires text { OnBytes mode (λ text. length text ≤ max_runes) }
     requires numbers { OnThreads mode (λ piece capacity. (0 < piece) × (0 < capacity)) }
     ensures ok { OnBytes mode (λ text. OnOk result (Written (R.remaining reader.old) (W.contents writer.old) (W.contents writer.new)
-        (λ input written. (length input ≤ 16777216) × Plays (host_of text) input written None))) }
+        (λ input written. (length input ≤ most_input) × Plays (host_of text) input written None))) }
     ensures side { OnBytes mode (λ text. IfErr result (λ e. OnSide e (λ stop. Written (R.remaining reader.old) (W.contents writer.old)
         (W.contents writer.new) (λ input written. Plays (host_of text) input written (Some stop))))) }
     ensures fault { OnBytes mode (λ text. IfErr result IsOfBytes) }

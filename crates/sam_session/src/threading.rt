@@ -4,6 +4,7 @@ ghost use Rattle.std.specs.Prelude.{◌≡◌, ◌≤◌, ◌<◌, ◌++◌, ◌
 ghost use Rattle.sam_script.specs.RunLines.{run_lines_of};
 ghost use Rattle.sam_script.specs.Show.{show_lines};
 ghost use Rattle.sam_script.specs.Spelling.{Spells};
+ghost use Rattle.sam_session.specs.Limits.{most_input};
 ghost use Rattle.sam_session.specs.Outcome.{Written};
 ghost use Rattle.sam_session.specs.Status.{IsTold};
 ghost use Rattle.sam_session.specs.Threading.{of_stops, IsThreaded, IsThreadsFault, IsSessionFault, IsUnread, PrintsSession};
@@ -70,7 +71,7 @@ fn threads_lines<T: Threads + Wait + Sync, R: Read>(
 /// those of the script.
 #[tactic(auto, using(crate::proofs::Scripts::script_read, crate::proofs::Scripts::script_wrong, crate::proofs::Scripts::input_failed))]
 fn script_in<R: Read>(alloc: Global, reader: &mut R) -> Result<Script, PlayFault>
-    ensures ok { IfOk result (λ script. IfSome (R.remaining reader.old) (λ input. (length input ≤ 16777216) × Spells input script)) }
+    ensures ok { IfOk result (λ script. IfSome (R.remaining reader.old) (λ input. (length input ≤ most_input) × Spells input script)) }
     ensures fault { IfErr result (λ fault. IfSome (R.remaining reader.old) (λ input. IsUnread input fault)) }
 {
     let input = match read_all(alloc, reader) {

@@ -1,38 +1,16 @@
 -- What a host answers and what a terminal composes fits at its place of the stream: a case for each message and for each event.
-use Rattle.std.proofs.Common.{◌≡◌, ℕ, false, ◌==◌, List, [], ◌∷◌, ◌++◌, Option, Some, None, Ok, refl, sym, ap, ◌∙◌, subst, arith, drop}
+use Rattle.sam_settling.proofs.Common.{◌≡◌, ℕ, false, List, [], ◌∷◌, ◌++◌, Option, Some, None, Ok, refl, arith, drop, after_h, HFrame, after_t, Tmesg, host, terminal, version_after, PlainHost, Reply, answer, host_checks, told_names, stamped, reply_version, reply_to, IsSound, FitInPlace, frames_fit, reply_stands, stays_sound, PlainTerminal, Made, flushed, sends, sends_if, unchanged, requested, request_for, event_outcome, made_by_type, made_by_cut, made_by_paste, made_by_snarf, made_by_view, event_checks, has_long_text, act_of, act_on, decided, flush_of, take_of, Acted, UserEvent, Each, HostRuns, composed_by, sides, answered_as, InTurn, InTurn-append, IsFree, free_turn}
 use Rattle.sam_runes.specs.Checks.{first_of_checks}
 use Rattle.sam_runes.specs.Texts.{common_version}
 use Rattle.sam_runes.proofs.CheckLaws.{none_holds}
-use Rattle.sam_mesg.specs.HostKinds.{after_h}
 use Rattle.sam_mesg.specs.declared.hmesg.Hmesg.{Hmesg}
 use Rattle.sam_mesg.specs.declared.hmesg.Hmesg.TheVariants.{Hversion, Hunlock, Hack}
-use Rattle.sam_mesg.specs.declared.hmesg.HFrame.{HFrame}
-use Rattle.sam_mesg.specs.TerminalKinds.{after_t}
-use Rattle.sam_mesg.specs.declared.tmesg.Tmesg.{Tmesg}
 use Rattle.sam_mesg.specs.declared.tmesg.Tmesg.TheVariants.{Tversion}
-use Rattle.sam_frame.specs.Direction.{host, terminal}
-use Rattle.sam_frame.specs.Stream.{version_after}
-use Rattle.sam_host.specs.Host.{PlainHost, Reply, answer, host_checks, told_names, stamped, reply_version, reply_to}
-use Rattle.sam_host.specs.Laws.{IsSound, FitInPlace}
-use Rattle.sam_host.specs.declared.fault.HostFault.TheVariants.{BadVersion}
-use Rattle.sam_host.proofs.SoundLaws.{frames_fit, reply_stands, stays_sound}
-use Rattle.sam_protocol.specs.Frames.{is_version}
 use Rattle.sam_protocol.proofs.Versions.{IsPlain, plain_frames, reply_plain}
 use Rattle.sam_host.proofs.EachFrame.{reply_each}
-use Rattle.sam_term.specs.Term.{PlainTerminal, Made, flushed, unsent_message, sends, sends_if, unchanged, requested, request_for, event_outcome, made_by_type, made_by_cut, made_by_paste, made_by_snarf, made_by_view, event_checks, has_long_text, act_of, act_on, decided, flush_of, take_of}
-use Rattle.sam_term.specs.declared.records.Unsent.{Unsent}
 use Rattle.sam_term.specs.declared.event.Verdict.{Verdict}
-use Rattle.sam_term.specs.declared.event.Acted.{Acted}
-use Rattle.sam_term.specs.declared.event.Acted.TheVariants.{Done}
-use Rattle.sam_term.specs.declared.event.UserEvent.{UserEvent}
-use Rattle.sam_term.specs.declared.fault.TermFault.TheVariants as fault
 use Rattle.sam_term.proofs.Acts.{none_holds as none_at, test_at}
-use Rattle.sam_world.specs.Sides.{Each, HostRuns}
-use Rattle.sam_world.specs.World.{composed_by}
 use Rattle.sam_world.proofs.RunLaws.{counted-result}
-use Rattle.sam_threads.specs.RealSides.{sides}
-use Rattle.sam_threads.proofs.RealLaws.{answered_as}
-use Rattle.sam_threads.proofs.ApartTurns.{InTurn, InTurn-append, IsFree, free_turn}
 
 -- ## What the host answers: its version is that behind its answers
 
@@ -41,27 +19,22 @@ record Tells (h : PlainHost) (m : Tmesg) (r : Reply) : Type 0 where
   behind : (seen : ℕ) → version_after host h.version (stamped seen r.1) ≡ r.0.version
   past : after_t h.version m ≡ r.0.version
 
-past_plain : (v : ℕ) (m : Hmesg) → is_version m ≡ false → after_h v m ≡ v
-past_plain v m e = grind arith
-
 plain-stamped : (v seen : ℕ) (ms : List Hmesg) → IsPlain ms → version_after host v (stamped seen ms) ≡ v
 plain-stamped v seen [] p = refl
-plain-stamped v seen (m ∷ ms) p = ap (λ (n : ℕ). version_after host n (stamped seen ms)) (past_plain v m p.0) ∙ plain-stamped v seen ms p.1
+plain-stamped v seen (m ∷ ms) p = grind (arith, (plain-stamped v seen ms p.1))
 
 -- a reply that says nothing of the version, and leaves it
 kept : (h : PlainHost) (m : Tmesg) (r : Reply) → after_t h.version m ≡ h.version → IsPlain r.1 → r.0.version ≡ after_t h.version m → Tells h m r
 kept h m r same plain version = grind (arith, plain-stamped)
 
-agrees : (version v : ℕ) → (v == 0) ≡ false → after_h version (Hversion (common_version v)) ≡ common_version v
-agrees version v e = grind arith
-
 tells_version : (h : PlainHost) (v : ℕ) → first_of_checks (host_checks h (Tversion v)) ≡ None → Tells h (Tversion v) (reply_version h v)
 unfolding reply_version
-tells_version h v e =
-    let sure : (v == 0) ≡ false = (none_holds (v == 0, BadVersion) [] e).0 in
-    let rest : List Hmesg = told_names 1 (drop 1 h.files.slots) ++ Hack ∷ Hunlock ∷ [] in
-    let plain : IsPlain rest = reply_each plain_frames h (Tversion v) (λ f. tt) in
-    record { behind = λ seen. plain-stamped (after_h h.version (Hversion (common_version v))) seen rest plain ∙ agrees h.version v sure; past = grind (arith, none_holds) }
+tells_version h v e = grind (
+  arith,
+  none_holds,
+  (reply_each plain_frames h (Tversion v)),
+  (λ (seen : ℕ). plain-stamped (after_h h.version (Hversion (common_version v))) seen (told_names 1 (drop 1 h.files.slots) ++ Hack ∷ Hunlock ∷ [])),
+)
 
 tells : (h : PlainHost) (m : Tmesg) → first_of_checks (host_checks h m) ≡ None → Tells h m (reply_to h m)
 tells h (Tversion v) e = tells_version h v e
@@ -84,13 +57,17 @@ place_turn v (f ∷ fs) p = ((λ g. record { is_message = g.is_message; fits = p
 
 -- what a sound host answers to messages one after another
 pub answers_turn : (ms : List Tmesg) (h k : PlainHost) (fs : List HFrame) → IsSound h → HostRuns sides h ms fs k → InTurn host h.version fs
-answers_turn [] h k fs s r = subst (InTurn host h.version) (sym r.0) tt
-answers_turn (m ∷ ms) h k fs s r =
-    let now : answer h m ≡ Ok (r.0, r.1) = answered_as (answer h m) (r.0, r.1) r.3 in
-    let first = place_turn h.version r.1 (frames_fit h r.0 m r.1 now s) in
-    let later = answers_turn ms r.0 k r.2 (stays_sound h r.0 m r.1 now s) r.5 in
-    let behind : version_after host h.version r.1 ≡ r.0.version = (answered h m (r.0, r.1) now).behind in
-    subst (InTurn host h.version) (sym r.4) (InTurn-append host h.version r.1 r.2 first (subst (λ (v : ℕ). InTurn host v r.2) (sym behind) later))
+answers_turn [] h k fs s r = grind arith
+answers_turn (m ∷ ms) h k fs s r = grind (
+  arith,
+  (answered_as (answer h m) (r.0, r.1) r.3),
+  place_turn,
+  (frames_fit h r.0 m r.1),
+  (stays_sound h r.0 m r.1),
+  (answered h m (r.0, r.1)),
+  (InTurn-append host h.version r.1 r.2),
+  (answers_turn ms r.0 k r.2),
+)
 
 -- ## What the terminal composes: only a snarf text has a limit that the version changes, and it is composed where the terminal may act
 
@@ -101,19 +78,12 @@ free-append : (ms ns : List Tmesg) → AllFree ms → AllFree ns → AllFree (ms
 free-append [] ns a b = b
 free-append (m ∷ ms) ns a b = (a.0, free-append ms ns a.1 b)
 
-free-unsent : (o : Option Unsent) → AllFree (unsent_message o)
-free-unsent o = grind arith
-
 free-flushed : (t : PlainTerminal) → AllFree (flushed t).1
 unfolding flushed
-free-flushed t = free-unsent t.unsent
-
-flushed_is : (t : PlainTerminal) → (flushed t).1 ≡ unsent_message t.unsent
-unfolding flushed
-flushed_is t = refl
+free-flushed t = grind arith
 
 free-sends : (t : PlainTerminal) (change : PlainTerminal → PlainTerminal) (ms : List Tmesg) → AllFree ms → AllFree (sends t change ms).1
-free-sends t change ms p = free-append (flushed t).1 ms (free-flushed t) p
+free-sends t change ms p = grind (arith, free-append, free-flushed)
 
 free-sends_if : (t : PlainTerminal) (o : Option (ℕ × ℕ)) (f : ℕ) → AllFree (sends_if (request_for f o) t).1
 free-sends_if t None f = tt
@@ -123,13 +93,10 @@ free-requested : (t : PlainTerminal) (f : ℕ) → AllFree (requested t f).1
 unfolding requested
 free-requested t f = grind (arith, free-sends_if)
 
-free-plain : (t : PlainTerminal) (ms : List Tmesg) → AllFree ms → AllFree (sends t unchanged ms).1
-free-plain t ms p = free-sends t unchanged ms p
-
 -- what an event composes at a place with the terminal's version
 event_turn : (t : PlainTerminal) (e : UserEvent) (v : ℕ) → has_long_text t e ≡ false → v ≡ t.version → InTurn terminal v (event_outcome t e).1
-unfolding made_by_type made_by_cut made_by_paste made_by_snarf made_by_view
-event_turn t e v u w = grind (arith, free_turn, free-append, free-sends, free-plain, free-requested, flushed_is, free-flushed)
+unfolding made_by_type made_by_cut made_by_paste made_by_snarf made_by_view flushed
+event_turn t e v u w = grind (arith, free_turn, free-append, free-sends, free-requested, free-flushed)
 
 -- ## Acts, flushes and frames
 
@@ -139,24 +106,24 @@ pub act_turn : (t : PlainTerminal) (r : PlainTerminal × Acted) (v : ℕ) → (t
 unfolding act_of test_at
 act_turn t r v place e = go t.held e
   where
-    P : PlainTerminal × Acted → Type 0
-    P x = InTurn terminal v (composed_by x.1)
+    verdict : (o : Option Verdict) (x : UserEvent) (es : List UserEvent) → first_of_checks (event_checks t x) ≡ o
+        → decided o t es (event_outcome (record t { held = es }) x) ≡ Ok r → InTurn terminal v (composed_by r.1)
+    verdict o x es n q = grind (
+      arith,
+      (counted-result {A = PlainTerminal × Acted} (event_outcome (record t { held = es }) x).0.sent),
+      (none_at (event_checks t x) 0),
+      (none_at (event_checks t x) 1),
+      (none_at (event_checks t x) 8),
+      (event_turn (record t { held = es }) x v),
+    )
 
-    verdict : (o : Option Verdict) (x : UserEvent) (es : List UserEvent) → first_of_checks (event_checks t x) ≡ o → decided o t es (event_outcome (record t { held = es }) x) ≡ Ok r → P r
-    verdict None x es n q =
-        let made : Made = event_outcome (record t { held = es }) x in
-        let same : (made.0, Done made.1) ≡ r = counted-result made.0.sent (made.0, Done made.1) r q in
-        let here : v ≡ t.version = place (none_at (event_checks t x) 1 n) (none_at (event_checks t x) 0 n) in
-        subst P same (event_turn (record t { held = es }) x v (none_at (event_checks t x) 8 n) here)
-    verdict o x es e u = grind arith
-
-    go : (es : List UserEvent) → act_on t es ≡ Ok r → P r
+    go : (es : List UserEvent) → act_on t es ≡ Ok r → InTurn terminal v (composed_by r.1)
     go es e = grind (arith, verdict)
 
 pub flush_turn : (t : PlainTerminal) (r : Made) (v : ℕ) → flush_of t ≡ Ok r → InTurn terminal v r.1
 unfolding flush_of
-flush_turn t r v e = subst (λ (x : Made). InTurn terminal v x.1) (counted-result (flushed t).0.sent (flushed t) r e) (free_turn v (flushed t).1 (free-flushed t))
+flush_turn t r v e = grind (arith, free_turn, free-flushed)
 
 pub take_turn : (t : PlainTerminal) (frame : HFrame) (r : Made) (v : ℕ) → take_of t frame ≡ Ok r → InTurn terminal v r.1
 unfolding take_of
-take_turn t frame r v e = grind (arith, free_turn, free-requested, free-plain)
+take_turn t frame r v e = grind (arith, free_turn, free-requested, (λ (u : PlainTerminal). free-sends u unchanged))

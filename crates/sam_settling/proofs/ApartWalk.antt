@@ -1,34 +1,11 @@
 -- The sides of a joined run with the messages that each has handled or composed so far: what was composed fits, each message at its place.
-use Rattle.std.proofs.Common.{◌≡◌, ℕ, false, List, [], ◌∷◌, ◌++◌, Option, Some, None, Result, Ok, Err, refl, sym, ap, ◌∙◌, subst, true≢false, append_assoc, arith, append-nil}
-use Rattle.std.proofs.lemmas.Option.{same_Some}
-use Rattle.std.proofs.lemmas.Bool.{false_from_ne_true}
-use Rattle.sam_mesg.specs.declared.hmesg.HFrame.{HFrame}
-use Rattle.sam_mesg.specs.TerminalKinds.{after_t}
-use Rattle.sam_mesg.specs.declared.tmesg.Tmesg.{Tmesg}
-use Rattle.sam_frame.specs.Direction.{terminal}
-use Rattle.sam_frame.specs.Stream.{version_after}
-use Rattle.sam_frame.proofs.Fronts.{version_after-append}
-use Rattle.sam_host.specs.Host.{PlainHost, answer}
-use Rattle.sam_host.specs.declared.fault.HostFault.{HostFault}
-use Rattle.sam_term.specs.Term.{PlainTerminal, Made, act_of, flush_of, take_of, unsent_message}
-use Rattle.sam_term.specs.declared.event.Acted.{Acted}
-use Rattle.sam_term.specs.declared.fault.TermFault.{TermFault}
+use Rattle.sam_settling.proofs.Common.{◌≡◌, ℕ, false, List, [], ◌∷◌, ◌++◌, Option, Some, None, Result, Ok, Err, refl, sym, ap, ◌∙◌, subst, append_assoc, arith, append-nil, same_Some, HFrame, after_t, Tmesg, terminal, version_after, version_after-append, PlainHost, answer, HostFault, PlainTerminal, act_of, flush_of, take_of, unsent_message, Event, TermLog, PlainWorld, after_answer, host_takes, step_of, merged, IsInOrder, mesgs, Steps, Counts, HostRuns, TermRuns, World, world, and_then, composed, answered, host_take, term_take, step, run, steps_in_order, version_at_its_place, settles, sides, unless_refused, acted, counts, answered_as, InTurn, InTurn-append}
 use Rattle.sam_protocol.specs.Order.{InOrder, views}
 use Rattle.sam_protocol.specs.Streams.{version_behind}
 use Rattle.sam_protocol.proofs.Composing.{not_done_ahead}
 use Rattle.sam_protocol.proofs.Streaming.{still_done}
-use Rattle.sam_world.specs.declared.event.Event.{Event}
 use Rattle.sam_world.specs.declared.event.Event.TheVariants.{User, Act, Flush, HostTake, TermTake}
-use Rattle.sam_world.specs.declared.event.TermLog.{TermLog}
 use Rattle.sam_world.specs.declared.event.TermLog.TheVariants as log
-use Rattle.sam_world.specs.World.{PlainWorld, composed_by, after_act, after_compose, after_answer, host_takes, term_takes, step_of, merged}
-use Rattle.sam_world.specs.Order.{IsInOrder, mesgs}
-use Rattle.sam_world.specs.Sides.{Steps, Counts, HostRuns, TermRuns, World, world, and_then, composed, answered, host_take, term_take, step, run}
-use Rattle.sam_world.proofs.OrderLaws.{steps_in_order, version_at_its_place}
-use Rattle.sam_world.proofs.Settles.{settles}
-use Rattle.sam_threads.specs.RealSides.{sides, unless_refused, acted}
-use Rattle.sam_threads.proofs.RealLaws.{counts}
-use Rattle.sam_threads.proofs.ApartTurns.{InTurn, InTurn-append}
 use Rattle.sam_settling.proofs.ApartKinds.{act_turn, flush_turn, take_turn, answered as answer_is}
 
 -- ## Sides with their messages
@@ -59,21 +36,15 @@ listing = record {
   seen = λ frame. frame.seen;
 }
 
-added_was : (l : List Tmesg) (o : Option (PlainTerminal × List Tmesg)) (u : TermSide) (ms : List Tmesg) → added l o ≡ Some (u, ms) → o ≡ Some (u.0, ms)
-added_was l o u ms e = grind arith
-
-took_was : (l : List Tmesg) (o : Option (PlainHost × List HFrame)) (k : HostSide) (fs : List HFrame) → took l o ≡ Some (k, fs) → o ≡ Some (k.0, fs)
-took_was l o k fs e = grind arith
-
 listing_counts : Counts listing
 listing_counts = record {
-  taken = λ h m k fs e. counts.taken h.0 m k.0 fs (took_was (h.1 ++ m ∷ []) (sides.handle h.0 m) k fs e);
-  stamped = λ h m k fs e. counts.stamped h.0 m k.0 fs (took_was (h.1 ++ m ∷ []) (sides.handle h.0 m) k fs e);
+  taken = λ h m k fs e. counts.taken h.0 m k.0 fs (grind arith);
+  stamped = λ h m k fs e. counts.stamped h.0 m k.0 fs (grind arith);
   user = λ t e. refl;
-  act = λ t u ms e. counts.act t.0 u.0 ms (added_was t.1 (sides.act t.0) u ms e);
-  flush = λ t u ms e. counts.flush t.0 u.0 ms (added_was t.1 (sides.flush t.0) u ms e);
-  receive = λ t u frame ms e. counts.receive t.0 u.0 frame ms (added_was t.1 (sides.receive t.0 frame) u ms e);
-  past = λ t u frame ms e. counts.past t.0 u.0 frame ms (added_was t.1 (sides.receive t.0 frame) u ms e);
+  act = λ t u ms e. counts.act t.0 u.0 ms (grind arith);
+  flush = λ t u ms e. counts.flush t.0 u.0 ms (grind arith);
+  receive = λ t u frame ms e. counts.receive t.0 u.0 frame ms (grind arith);
+  past = λ t u frame ms e. counts.past t.0 u.0 frame ms (grind arith);
 }
 
 host_lists : (ms : List Tmesg) (h k : PlainHost) (l : List Tmesg) (fs : List HFrame) → HostRuns sides h ms fs k → HostRuns listing (h, l) ms fs (k, l ++ ms)
@@ -92,8 +63,7 @@ term_lists (log.Take n ∷ es) t u l fs ms r = grind (arith, append_assoc, (term
 running : (h : PlainHost) (t : PlainTerminal) (up : List Tmesg) (down : List HFrame) → InOrder h t up (mesgs down) → t.command_lock ≡ false → t.has_exited ≡ false → h.is_done ≡ false
 running h t up down o c e =
     let line = up ++ unsent_message t.unsent in
-    let still = not_done_ahead h (views t) line (mesgs down) o.kept e c in
-    false_from_ne_true _ (λ q. true≢false (sym (still_done line h (o.kept.ahead, o.kept.frames) o.kept.folds q) ∙ still))
+    grind (arith, (not_done_ahead h (views t) line (mesgs down) o.kept e c), (still_done line h (o.kept.ahead, o.kept.frames) o.kept.folds))
 
 same_behind : (ms : List Tmesg) (v : ℕ) → version_after terminal v ms ≡ version_behind v ms
 same_behind [] v = refl
@@ -130,64 +100,49 @@ more_composed : (w : Listed) (down : List HFrame) (t : PlainTerminal) (ms : List
     → InTurn terminal (version_after terminal 1 w.term.1) ms → Walked (world w.host (t, w.term.1 ++ ms) (w.up ++ ms) down)
 more_composed w down t ms j order turn = grind (arith, append_assoc, InTurn-append)
 
+-- a step at which the terminal composed something, with this left on the way down
+composes : (w next : Listed) (o : Option (PlainTerminal × List Tmesg)) (down : List HFrame) (e : Event) → Walked w → composed (world w.host w.term w.up down) (added w.term.1 o) ≡ Some next
+    → ((t : PlainTerminal) (ms : List Tmesg) → o ≡ Some (t, ms)
+    → (step_of (bare w) e ≡ Some (record { host = w.host.0; term = t; up = w.up ++ ms; down = down })) × InTurn terminal (version_after terminal 1 w.term.1) ms)
+    → Walked next
+composes w next None down e j s made = absurd (cc)
+composes w next (Some p) down e j s made =
+    let after : Listed = world w.host (p.0, w.term.1 ++ p.1) (w.up ++ p.1) down in
+    let both = made p.0 p.1 refl in
+    subst Walked (same_Some after next s) (more_composed w down p.0 p.1 j (steps_in_order (bare w) (bare after) e j.order both.0) both.1)
+
+term_step : (w next : Listed) (down : List HFrame) → w.down ≡ down → Walked w → term_take listing w down ≡ Some next → Walked next
+term_step w next [] is j s = absurd (cc)
+term_step w next (frame ∷ frames) is j s =
+    composes w next (unless_refused (take_of w.term.0 frame)) frames TermTake j s
+    (λ t ms a. (grind arith, take_turn w.term.0 frame (t, ms) (version_after terminal 1 w.term.1) (answered_as (take_of w.term.0 frame) (t, ms) a)))
+
+host_step : (w next : Listed) (up : List Tmesg) → w.up ≡ up → Walked w → host_take listing w up ≡ Some next → Walked next
+host_step w next [] is j s = absurd (cc)
+host_step w next (m ∷ ms) is j s = taken (answer w.host.0 m) refl s
+  where
+    taken : (r : Result (PlainHost × List HFrame) HostFault) → answer w.host.0 m ≡ r → answered w ms (took (w.host.1 ++ m ∷ []) (unless_refused r)) ≡ Some next → Walked next
+    taken (Err why) a q = absurd (cc)
+    taken (Ok r) a q =
+        let after : Listed = world (r.0, w.host.1 ++ m ∷ []) w.term ms (w.down ++ r.1) in
+        let went : step_of (bare w) HostTake ≡ Some (bare after) = ap (host_takes (bare w)) is ∙ ap (after_answer (record (bare w) { up = ms })) a in
+        let now = answer_is w.host.0 m r a in
+        let whole : w.term.1 ≡ (w.host.1 ++ m ∷ []) ++ ms = grind (arith, append_assoc) in
+        let version : r.0.is_done ≡ false → version_after terminal 1 (w.host.1 ++ m ∷ []) ≡ r.0.version =
+        λ d. version_after-append terminal 1 w.host.1 (m ∷ []) ∙ (ap (λ (v : ℕ). after_t v m) (j.version (now.past d).0) ∙ (now.past d).1) in
+        subst Walked (same_Some after next q) (record { order = steps_in_order (bare w) (bare after) HostTake j.order went; whole = whole; turn = j.turn; version = version })
+
 walked_step : (w next : Listed) (e : Event) → Walked w → step listing w e ≡ Some next → Walked next
 walked_step w next (User x) j s = grind arith
-walked_step w next Act j s = go (act_of w.term.0) refl s
-  where
-    go : (r : Result (PlainTerminal × Acted) TermFault) → act_of w.term.0 ≡ r → composed w (added w.term.1 (acted r)) ≡ Some next → Walked next
-    go (Err why) a q = absurd (cc)
-    go (Ok r) a q =
-        let ms = composed_by r.1 in
-        let after : Listed = world w.host (r.0, w.term.1 ++ ms) (w.up ++ ms) w.down in
-        let order = steps_in_order (bare w) (bare after) Act j.order (ap (after_act (bare w)) a) in
-        let turn = act_turn w.term.0 r (version_after terminal 1 w.term.1) (λ c e. place w j c e) a in
-        subst Walked (same_Some after next q) (more_composed w w.down r.0 ms j order turn)
-walked_step w next Flush j s = go (flush_of w.term.0) refl s
-  where
-    go : (r : Result Made TermFault) → flush_of w.term.0 ≡ r → composed w (added w.term.1 (unless_refused r)) ≡ Some next → Walked next
-    go (Err why) a q = absurd (cc)
-    go (Ok r) a q =
-        let after : Listed = world w.host (r.0, w.term.1 ++ r.1) (w.up ++ r.1) w.down in
-        let order = steps_in_order (bare w) (bare after) Flush j.order (ap (after_compose (bare w)) a) in
-        subst Walked (same_Some after next q) (more_composed w w.down r.0 r.1 j order (flush_turn w.term.0 r (version_after terminal 1 w.term.1) a))
-walked_step w next HostTake j s = go w.up refl s
-  where
-    taken : (m : Tmesg) (ms : List Tmesg) (r : Result (PlainHost × List HFrame) HostFault) → w.up ≡ m ∷ ms → answer w.host.0 m ≡ r
-        → answered w ms (took (w.host.1 ++ m ∷ []) (unless_refused r)) ≡ Some next → Walked next
-    taken m ms (Err why) p a q = absurd (cc)
-    taken m ms (Ok r) p a q =
-        let after : Listed = world (r.0, w.host.1 ++ m ∷ []) w.term ms (w.down ++ r.1) in
-        let went : step_of (bare w) HostTake ≡ Some (bare after) = ap (host_takes (bare w)) p ∙ ap (after_answer (record (bare w) { up = ms })) a in
-        let is = answer_is w.host.0 m r a in
-        subst Walked (same_Some after next q) (record {
-          order = steps_in_order (bare w) (bare after) HostTake j.order went;
-          whole = j.whole ∙ (ap (λ (x : List Tmesg). w.host.1 ++ x) p ∙ sym (append_assoc w.host.1 (m ∷ []) ms));
-          turn = j.turn;
-          version = λ d.
-              let past = is.past d in
-              version_after-append terminal 1 w.host.1 (m ∷ []) ∙ (ap (λ (v : ℕ). after_t v m) (j.version past.0) ∙ past.1);
-        })
-
-    go : (up : List Tmesg) → w.up ≡ up → host_take listing w up ≡ Some next → Walked next
-    go [] p q = absurd (cc)
-    go (m ∷ ms) p q = taken m ms (answer w.host.0 m) p refl q
-walked_step w next TermTake j s = go w.down refl s
-  where
-    taken : (frame : HFrame) (frames : List HFrame) (r : Result Made TermFault) → w.down ≡ frame ∷ frames → take_of w.term.0 frame ≡ r
-        → composed (world w.host w.term w.up frames) (added w.term.1 (unless_refused r)) ≡ Some next → Walked next
-    taken frame frames (Err why) p a q = absurd (cc)
-    taken frame frames (Ok r) p a q =
-        let after : Listed = world w.host (r.0, w.term.1 ++ r.1) (w.up ++ r.1) frames in
-        let went : step_of (bare w) TermTake ≡ Some (bare after) = ap (term_takes (bare w)) p ∙ ap (after_compose (record (bare w) { down = frames })) a in
-        let order = steps_in_order (bare w) (bare after) TermTake j.order went in
-        subst Walked (same_Some after next q) (more_composed w frames r.0 r.1 j order (take_turn w.term.0 frame r (version_after terminal 1 w.term.1) a))
-
-    go : (down : List HFrame) → w.down ≡ down → term_take listing w down ≡ Some next → Walked next
-    go [] p q = absurd (cc)
-    go (frame ∷ frames) p q = taken frame frames (take_of w.term.0 frame) p refl q
+walked_step w next Act j s = composes w next (acted (act_of w.term.0)) w.down Act j s (grind (arith, act_turn, place))
+walked_step w next Flush j s =
+    composes w next (unless_refused (flush_of w.term.0)) w.down Flush j s
+    (λ t ms a. (grind arith, flush_turn w.term.0 (t, ms) (version_after terminal 1 w.term.1) (answered_as (flush_of w.term.0) (t, ms) a)))
+walked_step w next HostTake j s = host_step w next w.up refl j s
+walked_step w next TermTake j s = term_step w next w.down refl j s
 
 walked_run : (w last : Listed) (es : List Event) → Walked w → run listing w es ≡ Some last → Walked last
-walked_run w last [] j s = subst Walked (same_Some w last s) j
+walked_run w last [] j s = grind arith
 walked_run w last (e ∷ es) j s = go (step listing w e) refl (λ next a q. walked_run next last es (walked_step w next e j a) q) s
   where
     go : (o : Option Listed) → step listing w e ≡ o → ((next : Listed) → step listing w e ≡ Some next → run listing next es ≡ Some last → Walked last)
@@ -202,8 +157,6 @@ pub composed_turn : (entries : List TermLog) (g h : PlainHost) (u t : PlainTermi
 composed_turn entries g h u t composed handled left taken below none nothing first order hr tr whole =
     let start : Listed = world (g, []) (u, []) [] [] in
     let last : Listed = world (h, handled) (t, composed) left below in
-    let term = subst (λ (x : List Tmesg). TermRuns listing (u, []) entries taken x (t, composed)) whole (term_lists entries u t [] taken composed tr) in
-    let ran : run listing start (merged entries h.taken) ≡ Some last =
-    settles listing listing_counts entries (g, []) (h, handled) (u, []) (t, composed) handled left taken below none nothing (host_lists handled g h [] (taken ++ below) hr) term in
+    let ran = settles listing listing_counts entries (g, []) (h, handled) (u, []) (t, composed) handled left taken below none nothing (host_lists handled g h [] (taken ++ below) hr) in
     let begin : Walked start = record { order = order; whole = refl; turn = tt; version = λ d. sym first } in
-    (walked_run start last (merged entries h.taken) begin ran).turn
+    grind (arith, ran, (term_lists entries u t [] taken composed tr), (walked_run start last (merged entries h.taken) begin))

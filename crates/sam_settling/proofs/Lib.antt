@@ -1,3 +1,4 @@
+pub mod Common
 pub mod ApartKinds
 pub mod ApartWalk
 pub mod ApartLaws

@@ -1,9 +1,6 @@
 -- Runs of the plain world that stop.
-use Rattle.std.proofs.Common.{◌≡◌, sym, ap, ◌∙◌, ℕ, suc, List, ◌∷◌, take, slice_get, Option, Some, None, arith, option_and_then}
-use Rattle.std.proofs.lemmas.Option.{slice_get_cases}
-use Rattle.sam_world.specs.World.{PlainWorld, new_world, step_of, run_of}
+use Rattle.sam_settling.proofs.Common.{◌≡◌, ℕ, suc, List, ◌∷◌, take, slice_get, Some, None, arith, slice_get_cases, PlainWorld, new_world, step_of, run_of, Event}
 use Rattle.sam_world.specs.Faults.{IsFaultOf, IsStoppedAt}
-use Rattle.sam_world.specs.declared.event.Event.{Event}
 use Rattle.sam_world.specs.declared.event.RunStop.{RunStop}
 use Rattle.sam_world.specs.declared.event.StepFault.{StepFault}
 use Rattle.sam_world.specs.declared.event.StepFault.TheVariants.{OutOfMemory}
@@ -14,17 +11,10 @@ no_step : (w : PlainWorld) (e : Event) (why : StepFault) → IsFaultOf w e why �
 no_step w e why u q = grind (arith, passing_stops)
 
 no_run : (w v : PlainWorld) (es : List Event) (at : ℕ) (e : Event) → slice_get es at ≡ Some e → run_of w (take at es) ≡ Some v → step_of v e ≡ None → run_of w es ≡ None
-no_run w v (d ∷ es) (suc at) e is r s = go (step_of w d) (λ n q. no_run n v es at e is q s) r
-  where
-    go : (o : Option PlainWorld) → ((n : PlainWorld) → run_of n (take at es) ≡ Some v → run_of n es ≡ None) → option_and_then (λ next. run_of next (take at es)) o ≡ Some v
-        → option_and_then (λ next. run_of next es) o ≡ None
-    go o e u = grind arith
+no_run w v (d ∷ es) (suc at) e is r s = grind (arith, (λ (n : PlainWorld). no_run n v es at e))
 no_run w v es at e u q y = grind arith
-
-stopped_run : (w v : PlainWorld) (es : List Event) (stop : RunStop) → IsStoppedAt w es stop v → (stop.fault ≡ OutOfMemory → ⊥) → run_of w es ≡ None
-stopped_run w v es stop s ne = grind (arith, slice_get_cases, no_run, no_step)
 
 -- a run from the first world of these files that stopped for another reason than want of memory
 pub stopped_first : (files : List (List ℕ × List ℕ)) (w v : PlainWorld) (es : List Event) (stop : RunStop) → w ≡ new_world files → IsStoppedAt w es stop v
     → (stop.fault ≡ OutOfMemory → ⊥) → None ≡ run_of (new_world files) es
-stopped_first files w v es stop first s ne = sym (sym (ap (λ (x : PlainWorld). run_of x es) first) ∙ stopped_run w v es stop s ne)
+stopped_first files w v es stop first s ne = grind (arith, slice_get_cases, no_run, no_step)

@@ -1,11 +1,5 @@
 -- An act that does nothing, and one that fails.
-use Rattle.std.proofs.Common.{◌≡◌, ℕ, List, Result, Ok, Err, arith}
-use Rattle.sam_term.specs.Term.{PlainTerminal, act_of, if_countable}
-use Rattle.sam_mesg.specs.declared.tmesg.Tmesg.{Tmesg}
-use Rattle.sam_term.specs.declared.event.Acted.{Acted}
-use Rattle.sam_term.specs.declared.event.Acted.TheVariants.{Idle, Locked, Done}
-use Rattle.sam_term.specs.declared.fault.TermFault.{TermFault}
-use Rattle.sam_term.specs.declared.fault.TermFault.TheVariants as fault
+use Rattle.sam_term.proofs.Common.{◌≡◌, ℕ, List, Result, Ok, Err, arith, PlainTerminal, act_of, if_countable, Tmesg, Acted, Idle, Locked, Done, TermFault}
 
 -- what a result that is there says
 unfoldable pub acted_in : Result (PlainTerminal × Acted) TermFault → Acted → Acted

@@ -1,20 +1,6 @@
 -- The oldest event that is held, and what nothing stands against.
-use Rattle.std.proofs.Common.{◌≡◌, sym, ap, ◌∙◌, ℕ, zero, suc, Bool, true, false, List, [], ◌∷◌, drop, Option, Some, None, Ok, arith, slice_get, not}
-use Rattle.sam_runes.specs.Checks.{Checks, first_of_checks}
-use Rattle.sam_term.specs.Term.{PlainTerminal, act_of, act_on, decided, event_checks, event_outcome, is_open, sends, unchanged}
-use Rattle.sam_term.specs.Events.{needs_open, file_of, lock_of}
-use Rattle.sam_term.specs.declared.event.UserEvent.{UserEvent}
-use Rattle.sam_term.specs.declared.event.UserEvent.TheVariants.{Select, Cut, Paste, Snarf, View, Flush}
-use Rattle.sam_term.specs.Taking.{done, not_done}
-use Rattle.sam_term.specs.Acting.{deed_of, first_event, free_first, made_first, is_typing, is_snarfing}
+use Rattle.sam_term.proofs.Common.{◌≡◌, sym, ap, ◌∙◌, ℕ, zero, suc, Bool, true, false, List, [], ◌∷◌, drop, Some, None, Ok, arith, slice_get, Checks, first_of_checks, PlainTerminal, act_of, decided, event_checks, event_outcome, is_open, sends, unchanged, needs_open, file_of, lock_of, UserEvent, Select, Cut, Paste, Snarf, View, Flush, done, not_done, deed_of, first_event, free_first, made_first, is_typing, is_snarfing, Idle, Verdict, is_lockable, Tmesg}
 use Rattle.sam_term.specs.declared.event.Deed.TheVariants.{Sends, Types, Selects, Cuts, Pastes, Snarfs, Views, SetsSnarf, Flushes}
-use Rattle.sam_term.specs.declared.event.Acted.TheVariants.{Idle}
-use Rattle.sam_term.specs.declared.event.Verdict.{Verdict}
-use Rattle.sam_term.specs.Locking.{is_lockable}
-use Rattle.sam_mesg.specs.declared.tmesg.Tmesg.{Tmesg}
-
-first-read : (es : List UserEvent) (e : UserEvent) → slice_get es 0 ≡ Some e → es ≡ e ∷ drop 1 es
-first-read es e u = grind arith
 
 -- the oldest event, as it is read
 pub first_is : (es : List UserEvent) (e : UserEvent) → slice_get es 0 ≡ Some e → first_event es ≡ e
@@ -24,14 +10,11 @@ first_is es e u = grind arith
 pub act_first : (t : PlainTerminal) (e : UserEvent) → slice_get t.held 0 ≡ Some e → act_of t ≡ decided (first_of_checks (event_checks t e)) t (drop 1 t.held)
     (event_outcome (record t { held = drop 1 t.held }) e)
 unfolding act_of
-act_first t e s = ap (λ es. act_on t es) (first-read t.held e s)
+act_first t e s = grind arith
 
 pub act_none : (t : PlainTerminal) → slice_get t.held 0 ≡ None → act_of t ≡ Ok (t, Idle)
 unfolding act_of
 act_none t s = grind arith
-
-rest : {E : Type 0} (b : Bool) (x : E) (cs : Checks E) → first_of_checks ((b, x) ∷ cs) ≡ None → (b ≡ false) × (first_of_checks cs ≡ None)
-rest b x cs e = grind arith
 
 -- the test at a place of the list
 unfoldable pub test_at : {E : Type 0} → Checks E → ℕ → Bool
@@ -41,8 +24,8 @@ test_at (c ∷ cs) (suc k) = test_at cs k
 
 pub none_holds : {E : Type 0} (cs : Checks E) (k : ℕ) → first_of_checks cs ≡ None → test_at cs k ≡ false
 unfolding test_at
-none_holds (c ∷ cs) (suc k) e = none_holds cs k (rest c.0 c.1 cs e).1
-none_holds cs k e = grind (arith, rest)
+none_holds (c ∷ cs) (suc k) e = grind (arith, (none_holds cs k))
+none_holds cs k e = grind arith
 
 pub act_refused : (t : PlainTerminal) (e : UserEvent) (v : Verdict) → slice_get t.held 0 ≡ Some e → first_of_checks (event_checks t e) ≡ Some v → act_of t ≡ Ok (not_done v t)
 act_refused t e v s n = grind (arith, (act_first t e s))
@@ -67,18 +50,10 @@ pub passes : (t : PlainTerminal) (e : UserEvent) (k : ℕ) → free_first t ≡ 
 unfolding free_first
 passes t e k n s = none_holds (event_checks t e) k (ap (λ x. first_of_checks (event_checks t x)) (sym s) ∙ n)
 
-opened : (b : Bool) → (not b) ≡ false → b ≡ true
-opened b e = grind arith
-
 -- an event that needs its file open has it open
 pub opened_by : (t : PlainTerminal) (e : UserEvent) (f : ℕ) → free_first t ≡ None → first_event t.held ≡ e → needs_open e ≡ true → file_of e ≡ Some f → is_open t f ≡ true
 unfolding test_at
 opened_by t e f n s needs names = grind (arith, (passes t e 5 n s))
-
--- the lock of a message, where there is one, is there to be taken
-abbrev can_lock : PlainTerminal → Option Tmesg → Bool
-can_lock t None = true
-can_lock t (Some m) = is_lockable t (lock_of m)
 
 -- the message of the oldest event may take its lock
 pub lockable_first : (t : PlainTerminal) (m : Tmesg) → free_first t ≡ None → Sends m ≡ deed_of t (first_event t.held) → is_lockable t (lock_of m) ≡ true
@@ -113,6 +88,9 @@ sets_snarf t e u = grind arith
 
 pub flushes : (t : PlainTerminal) (e : UserEvent) → Flushes ≡ deed_of t e → e ≡ Flush
 flushes t e u = grind arith
+
+-- the event by what it does, and what it sends
+pub ruleset deeds = (lockable_first, made_sends, types, selects, cuts, pastes, snarfs, views, sets_snarf, flushes)
 
 -- what is done with the oldest event
 pub ruleset acts_on_first = (free, first_is, act_none, act_refused, act_done)

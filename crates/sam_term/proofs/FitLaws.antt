@@ -1,40 +1,13 @@
 -- What is composed fits in the terminal's version.
-use Rattle.std.proofs.Common.{◌≡◌, ◌≤◌, ◌++◌, refl, sym, ap, ◌∙◌, subst, ℕ, Bool, true, false, List, [], ◌∷◌, length, length-append, Option, Some, None, if◌then◌else◌, arith, ◌||◌, map, ltb-false, le-leb}
-use Rattle.sam_runes.specs.Texts.{is_empty, most_in_message}
-use Rattle.sam_runes.specs.Checks.{first_of_checks}
-use Rattle.sam_rasp.specs.Rasp.{place_after_ins, place_after_del, hole_within}
-use Rattle.sam_term.specs.declared.lock.Lock.{Lock}
-use Rattle.sam_term.specs.declared.records.Unsent.{Unsent}
-use Rattle.sam_term.specs.Events.{is_command_line, file_of}
-use Rattle.sam_term.specs.declared.event.UserEvent.{UserEvent}
-use Rattle.sam_term.specs.declared.event.UserEvent.TheVariants.{Typed, Select, Cut, Paste, Snarf, View, SetSnarf, Flush}
-use Rattle.sam_term.specs.Fitting.{all_fit}
-use Rattle.sam_term.specs.Sound.{IsSound, IsShort}
-use Rattle.sam_term.specs.Term.{PlainTerminal, Made, window_at, cut_rasp, lock_taken, asked, composed, all_composed, flushed, unsent_message, and_then, sends, sends_if, unchanged, requested, request_for, view_end, joins, joined, kept_unsent, typed_rasp, types, cuts_dot, event_outcome, made_by_type, made_by_cut, made_by_paste, made_by_snarf, made_by_view, frame_outcome, moved_unsent, event_checks, has_long_text, took_unlockfile}
-use Rattle.sam_mesg.specs.declared.tmesg.Tmesg.{Tmesg}
-use Rattle.sam_mesg.specs.declared.tmesg.Tmesg.TheVariants.{Tpaste}
-use Rattle.sam_mesg.specs.declared.hmesg.Hmesg.{Hmesg}
+use Rattle.sam_term.proofs.Common.{◌≡◌, ◌≤◌, ◌++◌, refl, sym, ap, ◌∙◌, subst, ℕ, Bool, true, false, List, [], ◌∷◌, length, length-append, Option, Some, None, if◌then◌else◌, arith, map, ltb-false, le-leb, is_empty, most_in_message, first_of_checks, place_after_ins, place_after_del, hole_within, Unsent, is_command_line, file_of, UserEvent, Typed, Select, Cut, Paste, Snarf, View, SetSnarf, Flush, all_fit, IsSound, IsShort, PlainTerminal, Made, window_at, cut_rasp, all_composed, flushed, unsent_message, and_then, sends, sends_if, unchanged, requested, request_for, view_end, joins, joined, kept_unsent, typed_rasp, types, cuts_dot, event_outcome, made_by_type, made_by_cut, made_by_paste, made_by_snarf, made_by_view, frame_outcome, moved_unsent, event_checks, has_long_text, took_unlockfile, Tmesg, Tpaste, Hmesg}
 use Rattle.sam_term.proofs.Acts.{none_holds, test_at}
+use Rattle.sam_term.proofs.Edits.{unsent-all, unsent-flushed}
 use Rattle.sam_term.proofs.Grows.{moved_short}
 
 -- the messages fit in version v, and so will the unsent runes
 record Good (v : ℕ) (made : Made) : Type 0 where
   fits : all_fit v made.1 ≡ true
   short : IsShort made.0.unsent
-
-unsent-lock : (l : Lock) (t : PlainTerminal) → (lock_taken l t).unsent ≡ t.unsent
-unsent-lock l t = grind arith
-
-unsent-asked : (m : Tmesg) (t : PlainTerminal) → (asked m t).unsent ≡ t.unsent
-unsent-asked m t = grind arith
-
-unsent-all : (t : PlainTerminal) (ms : List Tmesg) → (all_composed t ms).unsent ≡ t.unsent
-unsent-all t [] = refl
-unsent-all t (m ∷ ms) = grind (arith, (unsent-all (composed t m) ms))
-
-pub unsent-flushed : (t : PlainTerminal) → (flushed t).0.unsent ≡ None
-unfolding flushed
-unsent-flushed t = unsent-all (record t { unsent = None }) (unsent_message t.unsent)
 
 short-none : (o : Option Unsent) → o ≡ None → IsShort o
 unfolding IsShort
@@ -138,9 +111,6 @@ flush_fits t s = (good-flushed t.version t s.short).fits
 pub frame_fits : (t : PlainTerminal) (m : Hmesg) → IsSound t → all_fit t.version (frame_outcome t m).1 ≡ true
 unfolding took_unlockfile
 frame_fits t m e = grind (arith, good-requested, good-if, good-plain)
-
-or_left : (a b : Bool) → (a || b) ≡ false → a ≡ false
-or_left a b e = grind arith
 
 -- an event on a file that is done found neither the command lock nor a lock of the file
 pub event_finds_no_lock : (t : PlainTerminal) (e : UserEvent) (f : ℕ) → file_of e ≡ Some f → first_of_checks (event_checks t e) ≡ None → (t.command_lock ≡ false) × ((window_at t f).locks ≡ 0)

@@ -1,21 +1,9 @@
 -- What a terminal composes fits in its version, and so in version 2.
-use Rattle.std.proofs.Common.{◌≡◌, sym, ap, subst, ℕ, Bool, true, ◌&&◌, List, [], ◌∷◌, Option, None, Result, Ok, Err, arith}
+use Rattle.sam_term.proofs.Common.{◌≡◌, sym, ap, subst, ℕ, Bool, true, ◌&&◌, List, [], ◌∷◌, Option, None, Result, Ok, Err, arith, first_of_checks, IsSound, all_fit, FitsLast, AllFit, composed_in, PlainTerminal, Made, act_of, act_on, decided, if_countable, event_checks, flush_of, flushed, take_of, event_outcome, frame_outcome, Verdict, Acted, Done, TermFault, UserEvent, Tmesg, HFrame}
 use Rattle.std.proofs.lemmas.List.Elements.{All-nil, All-cons}
-use Rattle.sam_runes.specs.Checks.{first_of_checks}
-use Rattle.sam_term.specs.Sound.{IsSound}
-use Rattle.sam_term.specs.Fitting.{all_fit, FitsLast, AllFit, composed_in}
 use Rattle.sam_term.proofs.ActLaws.{acted_in, not_done}
 use Rattle.sam_term.proofs.FitLaws.{event_fits, flush_fits, frame_fits}
-use Rattle.sam_term.specs.Term.{PlainTerminal, Made, act_of, act_on, decided, if_countable, event_checks, flush_of, flushed, take_of, event_outcome, frame_outcome}
-use Rattle.sam_term.specs.declared.event.Verdict.{Verdict}
-use Rattle.sam_term.specs.declared.event.Acted.{Acted}
-use Rattle.sam_term.specs.declared.event.Acted.TheVariants.{Done}
-use Rattle.sam_term.specs.declared.fault.TermFault.{TermFault}
-use Rattle.sam_term.specs.declared.event.UserEvent.{UserEvent}
-use Rattle.sam_term.specs.declared.fault.TermFault.TheVariants as fault
 use Rattle.sam_mesg.specs.TerminalKinds.{fits_t}
-use Rattle.sam_mesg.specs.declared.tmesg.Tmesg.{Tmesg}
-use Rattle.sam_mesg.specs.declared.hmesg.HFrame.{HFrame}
 use Rattle.sam_mesg.proofs.Versions.{grows_t}
 
 both : (a b : Bool) → (a && b) ≡ true → (a ≡ true) × (b ≡ true)

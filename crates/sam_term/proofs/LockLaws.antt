@@ -1,22 +1,7 @@
 -- What events, flushes and frames do to the locks, and to the request that is awaited.
-use Rattle.std.proofs.Common.{◌≡◌, refl, ap, ◌∙◌, subst, ℕ, ◌+◌, ◌-◌, Bool, true, false, List, [], ◌∷◌, ◌++◌, Option, Some, None, if◌then◌else◌, ◌==◌, arith, ◌||◌, unwrap_or}
-use Rattle.sam_runes.specs.Slots.{slot, free_slot, map_slots}
-use Rattle.sam_runes.proofs.SlotLaws.{slot-free_same, slot-free_other, slot-map}
-use Rattle.sam_runes.proofs.Choices.{if-same}
-use Rattle.sam_term.specs.declared.lock.Lock.{Lock}
+use Rattle.sam_term.proofs.Common.{◌≡◌, refl, ap, ◌∙◌, subst, ℕ, ◌+◌, ◌-◌, Bool, true, false, List, [], ◌∷◌, ◌++◌, Option, Some, None, if◌then◌else◌, ◌==◌, arith, ◌||◌, unwrap_or, slot, free_slot, map_slots, slot-free_same, slot-free_other, slot-map, if-same, Lock, Window, KnownFile, lock_of, is_command_line, UserEvent, Typed, Select, Cut, Paste, Snarf, View, Flush, PlainTerminal, Made, known_at, window_at, put_known, put_window, edited, cut_rasp, lock_taken, asked, composed, all_composed, flushed, unsent_message, and_then, sends, sends_if, unchanged, requested, wanted, kept_unsent, typed_rasp, types, event_outcome, made_by_type, made_by_cut, made_by_paste, made_by_snarf, made_by_view, frame_outcome, freed_known, took_bindname, took_data, took_grow, took_growdata, took_cut, took_unlockfile, took_close, took_exit, blank_window, blank_known, Tmesg, Trequest, Tack, Hmesg, Hbindname, Hnewname, Hmovname, Hgrow, Hcheck, Hdata, Horigin, Hunlockfile, Hsetdot, Hgrowdata, Hmoveto, Hclean, Hdirty, Hcut, Hdelname, Hclose, Hack, Hexit}
 use Rattle.sam_term.specs.declared.lock.Lock.TheVariants.{NoLock, CommandLock, FileLock}
-use Rattle.sam_term.specs.declared.records.Window.{Window}
-use Rattle.sam_term.specs.declared.records.KnownFile.{KnownFile}
-use Rattle.sam_term.specs.Events.{lock_of, is_command_line}
-use Rattle.sam_term.specs.declared.event.UserEvent.{UserEvent}
-use Rattle.sam_term.specs.declared.event.UserEvent.TheVariants.{Typed, Select, Cut, Paste, Snarf, View, Flush}
 use Rattle.sam_term.specs.LockCounts.{locks_taken, takes_command, requests, locks_left, command_left, awaited_left}
-use Rattle.sam_term.specs.Term.{PlainTerminal, Made, known_at, window_at, put_known, put_window, edited, cut_rasp, lock_taken, asked, composed, all_composed, flushed, unsent_message, and_then, sends, sends_if, unchanged, requested, wanted, kept_unsent, typed_rasp, types, event_outcome, made_by_type, made_by_cut, made_by_paste, made_by_snarf, made_by_view, frame_outcome, freed_known, took_bindname, took_data, took_grow, took_growdata, took_cut, took_unlockfile, took_close, took_exit}
-use Rattle.sam_term.specs.Windows.{blank_window, blank_known}
-use Rattle.sam_mesg.specs.declared.tmesg.Tmesg.{Tmesg}
-use Rattle.sam_mesg.specs.declared.tmesg.Tmesg.TheVariants.{Trequest, Tack}
-use Rattle.sam_mesg.specs.declared.hmesg.Hmesg.{Hmesg}
-use Rattle.sam_mesg.specs.declared.hmesg.Hmesg.TheVariants.{Hbindname, Hnewname, Hmovname, Hgrow, Hcheck, Hdata, Horigin, Hunlockfile, Hsetdot, Hgrowdata, Hmoveto, Hclean, Hdirty, Hcut, Hdelname, Hclose, Hack, Hexit}
 use Rattle.sam_term.proofs.TermLaws.{known-put}
 
 -- the command lock, and of one file the locks and whether a request is awaited

@@ -1,10 +1,5 @@
 -- A file that the user changed here: its mark stands beside its window.
-use Rattle.std.proofs.Common.{◌≡◌, sym, ap, ◌∙◌, ℕ, true, Some, is_some, arith, unwrap_or}
-use Rattle.sam_runes.proofs.SlotLaws.{slot-put_same, put_slot-put_slot}
-use Rattle.sam_term.specs.Term.{PlainTerminal, known_at, window_at, is_open, put_known, put_window, edited}
-use Rattle.sam_term.specs.Windows.{blank_known, blank_window}
-use Rattle.sam_term.specs.declared.records.Window.{Window}
-use Rattle.sam_term.specs.declared.records.KnownFile.{KnownFile}
+use Rattle.sam_term.proofs.Common.{◌≡◌, sym, ap, ◌∙◌, ℕ, true, Some, is_some, arith, unwrap_or, slot-put_same, put_slot-put_slot, PlainTerminal, known_at, window_at, is_open, put_known, put_window, edited, blank_known, blank_window, Window, KnownFile}
 
 edited-known : (t : PlainTerminal) (f : ℕ) → known_at (edited t f) f ≡ record (known_at t f) { changed = true }
 edited-known t f = ap (λ s. unwrap_or s blank_known) (slot-put_same t.files f (record (known_at t f) { changed = true }))
@@ -34,3 +29,6 @@ edited-twice t f = grind (arith, put_slot-put_slot, edited-known)
 -- a file that is marked already, and its window put
 pub edited-again : (t : PlainTerminal) (f : ℕ) (w : Window) → edited (put_window (edited t f) f w) f ≡ put_window (edited t f) f w
 edited-again t f w = edited-put (edited t f) f w ∙ ap (λ u. put_window u f w) (edited-twice t f)
+
+-- what the mark leaves
+pub ruleset mark_facts = (edited-open, edited-window)

@@ -1,29 +1,13 @@
 -- What typing makes, in the order of the code: the window is changed first, and the messages are composed behind that.
-use Rattle.sam_term.proofs.Sounds.{full_done}
-use Rattle.std.proofs.Common.{◌≡◌, refl, ap, ℕ, ◌≤◌, ◌<◌, ◌+◌, ◌-◌, ◌++◌, Bool, true, false, List, [], ◌∷◌, length, map, Option, Some, None, if◌then◌else◌, ◌==◌, ◌≢◌, ◌⊎◌, arith, length-append, nat_eq, not, ◌&&◌, option_map, append-nil, ltb-false, eq-eqb, ne_eqb}
-use Rattle.std.proofs.lemmas.List.{length-map}
-use Rattle.sam_runes.specs.Texts.{is_empty, max_runes, most_count, most_in_message}
-use Rattle.sam_term.specs.Term.{PlainTerminal, Made, window_at, put_window, window_after_del, edited, cut_rasp, ins_rasp, set_dot_of, all_composed, flushed, unsent_message, and_then, joins, joined, typed_rasp, types, cuts_dot, event_outcome, made_by_type}
-use Rattle.sam_term.specs.Events.{is_command_line}
-use Rattle.sam_term.specs.declared.event.UserEvent.{UserEvent}
-use Rattle.sam_term.specs.declared.event.UserEvent.TheVariants.{Typed}
-use Rattle.sam_term.specs.Editing.{typed_over, joined_at, lengthened, shortened, typed_file, typed_runes, cut_message, one_if, flushed_if}
-use Rattle.sam_term.specs.Sound.{IsSound, FitsUnsent, IsShort}
-use Rattle.sam_term.specs.Acting.{first_event, free_first, made_first, is_typing}
-use Rattle.sam_term.specs.Taking.{done, IsFailure}
-use Rattle.sam_term.specs.declared.records.Window.{Window}
-use Rattle.sam_term.specs.declared.records.Unsent.{Unsent}
-use Rattle.sam_term.specs.declared.fault.TermFault.{TermFault}
-use Rattle.sam_term.specs.declared.fault.TermFault.TheVariants as fault
-use Rattle.sam_mesg.specs.declared.tmesg.Tmesg.{Tmesg}
-use Rattle.sam_mesg.specs.declared.tmesg.Tmesg.TheVariants.{Tcut}
-use Rattle.sam_term.proofs.Acts.{passes, test_at, made_of}
-use Rattle.sam_term.proofs.TypedLaws.{typed-cut, sound-typed}
-use Rattle.std.proofs.Math.Seq.{take-append_seam}
+use Rattle.sam_term.proofs.Edits.{make_facts, later, cut_made, cuts_none, cut-unsent, flushed-idle, flushed-messages}
+use Rattle.sam_term.proofs.Grows.{grown_facts}
+use Rattle.sam_term.proofs.FileSteps.{file_puts}
+use Rattle.sam_term.proofs.Acts.{first_is, passes, test_at, made_of}
+use Rattle.sam_term.proofs.Common.{◌≡◌, refl, ℕ, ◌≤◌, ◌+◌, ◌-◌, ◌++◌, Bool, true, false, List, [], ◌∷◌, length, map, Option, Some, None, ◌==◌, arith, length-append, nat_eq, not, ◌&&◌, option_map, ltb-false, eq-eqb, ne_eqb, length-map, is_empty, max_runes, most_in_message, PlainTerminal, Made, window_at, put_window, window_after_del, edited, cut_rasp, ins_rasp, set_dot_of, all_composed, flushed, unsent_message, and_then, joins, joined, typed_rasp, types, cuts_dot, event_outcome, made_by_type, is_command_line, UserEvent, Typed, typed_over, joined_at, lengthened, shortened, typed_file, typed_runes, cut_message, one_if, flushed_if, IsSound, FitsUnsent, IsShort, first_event, free_first, made_first, is_typing, Window, Unsent, Tmesg, Tcut, take-append_seam, slot-put_same, slot-put_other, length-take, length-drop}
+use Rattle.sam_term.proofs.TypedLaws.{typed-cut}
 use Rattle.sam_term.proofs.Composes.{put-put, window-put_same, flushed-files}
-use Rattle.sam_term.proofs.Marks.{edited-window, edited-again}
-use Rattle.sam_term.proofs.CountLaws.{counts-event}
-use Rattle.sam_term.proofs.Edits.{later, fits_count, cut_made, cuts_none, cut-unsent, flushed-idle, flushed-messages}
+use Rattle.sam_term.proofs.Marks.{edited-window, edited-again, edited-put}
+use Rattle.sam_term.proofs.SlotSteps.{open_known}
 
 -- ## The window
 
@@ -53,19 +37,7 @@ typed-filled : (t : PlainTerminal) (f : ℕ) (s : List ℕ) (j : Unsent) (n : �
     (put_window (edited t f) f (typed_over (window_at t f) s)) { unsent = Some j; sent = n }
 typed-filled t f s j n l within = grind (arith, (edited-window t f), (placed-filled (edited t f) f s j n), (edited-again t f))
 
--- ## What becomes unsent
-
-abbrev then-kept : ℕ → ℕ → List ℕ → PlainTerminal → Made
-then-kept f p s u = (record u { unsent = Some (joined None f p s) }, [])
-
-abbrev kept-by : PlainTerminal → ℕ → ℕ → List ℕ → Bool → Option Unsent → Made
-kept-by t f p s b o = if b then (record t { unsent = Some (joined o f p s) }, []) else and_then (flushed t) (then-kept f p s)
-
 -- ## The event
-
--- typed in, and sent at once where a command line ends
-abbrev then-typed : ℕ → ℕ → List ℕ → PlainTerminal → Made
-then-typed f p s u = flushed_if (is_command_line f s) (typed_rasp u f p s)
 
 by-steps : (t : PlainTerminal) (f : ℕ) (s : List ℕ) → is_empty s ≡ false → event_outcome t (Typed f s) ≡ and_then (cuts_dot t f) (λ u. types u f (window_at t f).dot.0 s)
 unfolding made_by_type
@@ -78,13 +50,9 @@ behind t f s d = record (put_window (edited t f) f (typed_over (window_at t f) s
 joins-place : (o : Option Unsent) (f p : ℕ) (s : List ℕ) → joins o f p s ≡ true → (joined o f p s).place ≤ p
 joins-place o f p s e = grind arith
 
-made-behind_dot : (t : PlainTerminal) (f : ℕ) (s : List ℕ) → is_empty s ≡ false → (window_at t f).dot.0 ≡ (window_at t f).dot.1
+pub made-behind_dot : (t : PlainTerminal) (f : ℕ) (s : List ℕ) → is_empty s ≡ false → (window_at t f).dot.0 ≡ (window_at t f).dot.1
     → joins t.unsent f (window_at t f).dot.0 s ≡ true → event_outcome t (Typed f s) ≡ flushed_if (is_command_line f s) (behind t f s (window_at t f).dot)
 made-behind_dot t f s some e j = grind (arith, (by-steps t f s some), (cuts_none t f (window_at t f).dot refl e), (typed-empty t f s), (joins-place t.unsent f))
-
-pub made-behind : (t : PlainTerminal) (f : ℕ) (s : List ℕ) (d : ℕ × ℕ) → d ≡ (window_at t f).dot → is_empty s ≡ false → d.0 ≡ d.1 → joins t.unsent f d.0 s ≡ true
-    → event_outcome t (Typed f s) ≡ flushed_if (is_command_line f s) (record (put_window (edited t f) f (typed_over (window_at t f) s)) { unsent = Some (joined t.unsent f d.0 s) })
-made-behind t f s d same some e j = grind (arith, made-behind_dot)
 
 -- apart from them
 abbrev pub apart : PlainTerminal → ℕ → List ℕ → ℕ × ℕ → PlainTerminal
@@ -99,9 +67,6 @@ abbrev apart_with : PlainTerminal → ℕ → List ℕ → ℕ → Window → Li
 apart_with t f s p w ms =
     record (all_composed (put_window (edited (flushed t).0 f) f (typed_over w s)) ms) { unsent = Some (joined None f p s) }
 
-abbrev finish : Bool → List Tmesg → PlainTerminal → Made
-finish b ms u = ((flushed_if b u).0, ms ++ (flushed_if b u).1)
-
 apart-empty : (t : PlainTerminal) (f : ℕ) (s : List ℕ) → (window_at t f).dot.0 ≡ (window_at t f).dot.1
     → typed_rasp (record (flushed t).0 { unsent = Some (joined None f (window_at t f).dot.0 s) }) f (window_at t f).dot.0 s ≡ apart_with t f s (window_at t f).dot.0 (window_at t f) []
 apart-empty t f s e = grind (arith, (typed-empty (flushed t).0 f s (joined None f (window_at (flushed t).0 f).dot.0 s)), flushed-files)
@@ -115,18 +80,9 @@ made-apart_none : (t : PlainTerminal) (f : ℕ) (s : List ℕ) → is_empty s �
     → joins t.unsent f (window_at t f).dot.0 s ≡ false → event_outcome t (Typed f s) ≡ made_apart t f s (window_at t f).dot
 made-apart_none t f s some e j = grind (arith, (by-steps t f s some), (apart-empty t f s e), nat_eq, eq-eqb)
 
-pub made-apart : (t : PlainTerminal) (f : ℕ) (s : List ℕ) (d : ℕ × ℕ) → d ≡ (window_at t f).dot → is_empty s ≡ false → d.0 ≤ length (window_at t f).rasp
-    → (d.0 == d.1 && joins t.unsent f d.0 s) ≡ false → event_outcome t (Typed f s) ≡ made_apart t f s d
-made-apart t f s d same some l h = grind (arith, made-apart_none, by-steps, cut-unsent, apart-filled, nat_eq, ne_eqb, flushed-idle)
-
--- without runes
-pub made-nothing_none : (t : PlainTerminal) (f : ℕ) (d : ℕ × ℕ) → d ≡ (window_at t f).dot → d.0 ≡ d.1 → event_outcome t (Typed f []) ≡ (t, [])
-unfolding made_by_type
-made-nothing_none t f d e h = ap (λ made. and_then made (λ u. (u, []))) (cuts_none t f d e h)
-
-pub made-nothing : (t : PlainTerminal) (f : ℕ) (d : ℕ × ℕ) → d ≡ (window_at t f).dot → d.0 ≢ d.1 → event_outcome t (Typed f []) ≡ cut_made t f d
-unfolding made_by_type
-made-nothing t f d e h = grind (arith, append-nil)
+pub made-apart : (t : PlainTerminal) (f : ℕ) (s : List ℕ) → is_empty s ≡ false → (window_at t f).dot.0 ≤ length (window_at t f).rasp
+    → ((window_at t f).dot.0 == (window_at t f).dot.1 && joins t.unsent f (window_at t f).dot.0 s) ≡ false → event_outcome t (Typed f s) ≡ made_apart t f s (window_at t f).dot
+made-apart t f s some l h = grind (arith, made-apart_none, by-steps, cut-unsent, apart-filled, nat_eq, ne_eqb, flushed-idle)
 
 -- ## Composing behind the change of the window
 
@@ -144,12 +100,14 @@ window-cut t f w d = grind (arith, window-put_same)
 pub flush-count : (b : Bool) (t : PlainTerminal) (j : Unsent) → t.unsent ≡ Some j → length (flushed_if b t).1 ≡ one_if b
 flush-count b t j e = grind (arith, flushed-messages)
 
-pub refused_full : (t : PlainTerminal) (e : UserEvent) (made : Made) (why : TermFault) (count : ℕ) → first_event t.held ≡ e → event_outcome (later t) e ≡ made
-    → count ≡ length made.1 → ((why ≡ fault.OutOfMemory) × (t.sent + count ≤ most_count)) ⊎ ((why ≡ fault.CountFull) × (most_count < t.sent + count)) → IsFailure (done (made_first t)) why
-refused_full t e made why count first by n h = grind (arith, (counts-event (later t) e), (fits_count t e made first by), made_of, full_done)
+pub behind_count : (t : PlainTerminal) (f : ℕ) (s : List ℕ) → first_event t.held ≡ Typed f s → is_empty s ≡ false → (window_at t f).dot.0 ≡ (window_at t f).dot.1
+    → joins t.unsent f (window_at t f).dot.0 s ≡ true → length (made_first t).1 ≡ one_if (is_command_line f s)
+behind_count t f s first some e j = grind (arith, (made_of t (Typed f s) first), (made-behind_dot (later t) f s some e j), flush-count)
 
-pub apart-count : (t : PlainTerminal) (f : ℕ) (s : List ℕ) (d : ℕ × ℕ) → length (made_apart t f s d).1 ≡ length (unsent_message t.unsent) + one_if (not (d.0 == d.1)) + one_if (is_command_line f s)
-apart-count t f s d = grind (arith, flushed-messages)
+pub apart_count : (t : PlainTerminal) (f : ℕ) (s : List ℕ) → first_event t.held ≡ Typed f s → is_empty s ≡ false → (window_at t f).dot.0 ≤ length (window_at t f).rasp
+    → ((window_at t f).dot.0 == (window_at t f).dot.1 && joins t.unsent f (window_at t f).dot.0 s) ≡ false
+    → length (made_first t).1 ≡ length (unsent_message t.unsent) + one_if (not ((window_at t f).dot.0 == (window_at t f).dot.1)) + one_if (is_command_line f s)
+apart_count t f s first some l h = grind (arith, (made_of t (Typed f s) first), (made-apart (later t) f s some l h), flushed-messages)
 
 -- ## The oldest event
 
@@ -165,23 +123,6 @@ pub typed-fits : (t : PlainTerminal) (f : ℕ) (s : List ℕ) → free_first t �
 unfolding test_at
 typed-fits t f s n h = grind (arith, (passes t (Typed f s) 9 n h))
 
--- a terminal stays sound as it keeps runes unsent
-pub sound-kept : (t : PlainTerminal) (j : Unsent) → IsSound t → j.place ≤ (window_at t j.file).dot.1 → length j.runes ≤ most_in_message → IsSound (record t { unsent = Some j })
-unfolding FitsUnsent IsShort
-sound-kept t j s l m = grind arith
-
-pub three-more : (m0 m1 m2 m3 fl cut last : List Tmesg) → m0 ≡ [] → m1 ≡ m0 ++ fl → m2 ≡ m1 ++ cut → m3 ≡ m2 ++ last → m3 ≡ (fl ++ cut) ++ last
-three-more m0 m1 m2 m3 fl cut last e0 e1 e2 e3 = grind arith
-
--- runes that join unsent ones: all fit in a message, and they begin in the same file
-pub joined-short : (o : Option Unsent) (f p : ℕ) (s : List ℕ) → joins o f p s ≡ true → length (joined o f p s).runes ≤ most_in_message
-joined-short o f p s e = grind (arith, length-append)
-
--- they begin before the dot that then stands behind them
-pub joined-within : (u : PlainTerminal) (o : Option Unsent) (f p : ℕ) (s : List ℕ) (w : Window) → joins o f p s ≡ true → window_at u f ≡ w → p ≤ w.dot.1
-    → (joined o f p s).place ≤ (window_at u (joined o f p s).file).dot.1
-joined-within u o f p s w e same l = grind arith
-
 -- unsent runes that get more behind them are those that they are joined to
 pub lengthened-joined : (o : Option Unsent) (f p : ℕ) (s : List ℕ) → joins o f p s ≡ true → option_map (lengthened s) o ≡ Some (joined o f p s)
 lengthened-joined o f p s e = grind arith
@@ -194,13 +135,17 @@ shortened-again (Some u) s = grind (arith, (length-append u.runes s), (take-appe
 -- a terminal stays sound as runes are typed behind the unsent ones
 pub sound-joined : (t : PlainTerminal) (f : ℕ) (s : List ℕ) → IsSound t → (window_at t f).dot.0 ≡ (window_at t f).dot.1 → length (window_at t f).rasp + length s ≤ max_runes
     → joins t.unsent f (window_at t f).dot.0 s ≡ true → IsSound (joined_at t f s)
-sound-joined t f s sound same fits e =
-    let p = (window_at t f).dot.0 in
-    let w = typed_over (window_at t f) s in
-    let u : PlainTerminal = record (put_window t f w) { unsent = None } in
-    let end : p ≤ w.dot.1 = omega arith in
-    sound-kept u (joined t.unsent f p s) (sound-typed t f s sound (omega arith)) (joined-within u t.unsent f p s w e (window-put_same t f w) end)
-    (joined-short t.unsent f p s e)
+unfolding FitsUnsent IsShort
+sound-joined t f s sound same fits e = grind (arith, slot-put_same, slot-put_other, length-append, length-map, length-take, length-drop)
 
 -- what `make_typed` rests on
 pub ruleset make_typed_facts = (typed-as, few-typed)
+
+-- what runes rest on that join the unsent ones
+pub ruleset joined_facts = (first_is, file_puts, grown_facts, lengthened-joined, shortened-again)
+
+-- what typing apart from the unsent runes rests on
+pub ruleset apart_facts = (make_facts, made-apart, put-flushed, window-cut, few-typed, typed-fits, edited-put, open_known, slot-put_same)
+
+-- what typing behind them rests on
+pub ruleset behind_facts = (make_facts, made-behind_dot, flush-count, typed-fits, edited-put, open_known, slot-put_same)

@@ -1,15 +1,5 @@
 -- What is composed first is the unsent runes.
-use Rattle.std.proofs.lemmas.Grind.{common_steps}
-use Rattle.std.proofs.Common.{◌≡◌, sym, ap, ◌∙◌, subst, ℕ, ◌≤◌, Bool, true, false, List, [], ◌∷◌, ◌++◌, length, map, Option, Some, None, if◌then◌else◌, arith, rules, append-nil, append_assoc}
-use Rattle.sam_rasp.specs.Rasp.{place_after_ins}
-use Rattle.sam_mesg.specs.declared.tmesg.Tmesg.{Tmesg}
-use Rattle.sam_mesg.specs.declared.tmesg.Tmesg.TheVariants.{Tsnarf, Tcut, Tack}
-use Rattle.sam_mesg.specs.declared.hmesg.Hmesg.TheVariants.{Hcheck, Hunlockfile, Hack}
-use Rattle.sam_term.specs.Events.{is_command_line}
-use Rattle.sam_term.specs.declared.event.UserEvent.{UserEvent}
-use Rattle.sam_term.specs.declared.event.UserEvent.TheVariants.{Typed, Select, Cut, Paste, Snarf, View, Flush}
-use Rattle.sam_term.specs.declared.records.Unsent.{Unsent}
-use Rattle.sam_term.specs.Term.{PlainTerminal, Made, and_then, unsent_message, flushed, sends, sends_if, unchanged, wanted, requested, joined, moved_unsent, kept_unsent, typed_rasp, types, cuts_dot, has_empty_dot, window_at, put_window, cut_rasp, made_by_type, made_by_cut, made_by_paste, made_by_snarf, made_by_view, event_outcome, took_unlockfile}
+use Rattle.sam_term.proofs.Common.{common_steps, ◌≡◌, sym, ap, ◌∙◌, subst, ℕ, ◌≤◌, Bool, true, false, List, [], ◌∷◌, ◌++◌, length, map, Option, Some, None, if◌then◌else◌, arith, rules, append-nil, append_assoc, place_after_ins, Tmesg, Tsnarf, Tcut, Tack, Hcheck, Hunlockfile, Hack, is_command_line, UserEvent, Typed, Select, Cut, Paste, Snarf, View, Flush, Unsent, PlainTerminal, Made, and_then, unsent_message, flushed, sends, sends_if, unchanged, wanted, requested, joined, moved_unsent, kept_unsent, typed_rasp, types, cuts_dot, has_empty_dot, window_at, put_window, cut_rasp, made_by_type, made_by_cut, made_by_paste, made_by_snarf, made_by_view, event_outcome, took_unlockfile}
 use Rattle.sam_term.specs.Unsent.{SendsFirst, EventsSendFirst, FramesSendFirst}
 
 -- what is unsent goes on what was unsent before
@@ -64,9 +54,6 @@ sending t change ms = send t (sends t change ms).0.unsent ms
 -- runes typed behind the unsent ones leave their start where it is
 moved : (f p n : ℕ) (u : Unsent) → u.place ≤ p → moved_unsent f (place_after_ins p n) (Some u) ≡ Some u
 moved f p n u within = grind arith
-
-grows : (o : Option Unsent) (f p : ℕ) (s : List ℕ) → Longer o (Some (joined o f p s))
-grows o f p s = grind arith
 
 keeps : (t : PlainTerminal) (f p : ℕ) (s : List ℕ) → GoesMade t (kept_unsent t f p s)
 keeps t f p s = grind (arith, (send t (Some (joined None f p s))))

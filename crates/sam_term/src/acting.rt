@@ -200,6 +200,7 @@ impl Terminal {
 
     /// Does the deed of the oldest held event, and drops the event. Errors, in this order: `CountFull`; `OutOfMemory`. The terminal is
     /// then unchanged.
+    #[tactic(auto, using(crate::proofs::Acts::deeds))]
     fn perform(&mut self, deed: Deed) -> Result<Acted, TermFault>
         requires free { free_first self.old ≡ None }
         requires deed { deed ≡ deed_of self.old (first_event self.old.held) }
@@ -220,6 +221,7 @@ impl Terminal {
 
     /// Composes the unsent runes and then the message of the oldest event, which is dropped. Errors, in this order: `CountFull`;
     /// `OutOfMemory`. The terminal is then unchanged.
+    #[tactic(auto, using(crate::proofs::Edits::held_facts), unfolding(crate::specs::Taking::done, crate::specs::Taking::countable))]
     pub(crate) fn send_for_event(&mut self, message: Tmesg) -> Result<Acted, TermFault>
         requires opened { IsTrue (is_lockable self.old (lock_of message)) }
         ensures { IsAnswer self.old self.new result

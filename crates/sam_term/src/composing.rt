@@ -20,6 +20,7 @@ use sam_runes::MOST_IN_MESSAGE;
 
 impl Terminal {
     /// Composes the unsent runes, if there are any. Errors, in this order: `CountFull`; `OutOfMemory`. The terminal is then unchanged.
+    #[tactic(auto, using(crate::proofs::Composes::flush_facts), unfolding(crate::specs::Term::flush_of, crate::specs::Taking::countable))]
     pub(crate) fn flush_now(&mut self) -> Result<Batch, TermFault>
         ensures { IsAnswer self.old self.new result (flush_of self.old) }
     {
@@ -49,6 +50,7 @@ impl Terminal {
     }
 
     /// Counts a message and takes a lock of an open file. `asks` tells that it is a request.
+    #[tactic(auto, using(crate::proofs::FileSteps::file_puts), unfolding(crate::specs::Sound::FitsUnsent))]
     fn lock_file(&mut self, tag: u16, asks: bool)
         requires counts { self.old.sent < most_count }
         requires opened { IsTrue (is_open self.old tag) }
@@ -83,6 +85,7 @@ impl Terminal {
     }
 
     /// Composes the unsent runes, if there are any. Nothing is unsent afterwards.
+    #[tactic(auto, unfolding(crate::specs::Sound::FitsUnsent, crate::specs::Sound::IsShort, crate::specs::Term::flushed))]
     pub(crate) fn compose_unsent(&mut self, out: &mut Outbox)
         requires counts { self.old.sent + length (unsent_message self.old.unsent) ≤ most_count }
         requires room { length (unsent_message self.old.unsent) ≤ out.old.room }
@@ -96,6 +99,7 @@ impl Terminal {
     }
 
     /// Composes the unsent runes and then the message. Errors, in this order: `CountFull`; `OutOfMemory`. The terminal is then unchanged.
+    #[tactic(auto, using(crate::proofs::Composes::flush_facts), unfolding(crate::specs::Taking::countable))]
     pub(crate) fn send(&mut self, message: Tmesg) -> Result<Batch, TermFault>
         requires opened { IsTrue (is_lockable self.old (lock_of message)) }
         ensures { IsAnswer self.old self.new result (countable (sends self.old unchanged (message ∷ []))) }
@@ -128,6 +132,7 @@ impl Terminal {
     }
 
     /// Composes the unsent runes and then the message into an outbox that has room for both.
+    #[tactic(auto, using(crate::proofs::Composes::flush_facts, std::proofs::Common::append_assoc))]
     pub(crate) fn send_prepared(&mut self, message: Tmesg, out: &mut Outbox)
         requires counts { self.old.sent + length (unsent_message self.old.unsent) < most_count }
         requires opened { IsTrue (is_lockable self.old (lock_of message)) }
@@ -155,6 +160,7 @@ impl Terminal {
 
     /// Returns the request that an open file will want once it is shown from `p` on, `n` runes and gaps at most. Its view is still the
     /// old one.
+    #[tactic(auto, using(crate::proofs::Edits::or_right, crate::proofs::Composes::put_facts))]
     pub(crate) fn wanted_from(&self, tag: u16, p: u32, n: u32) -> Option<Tmesg>
         requires opened { IsTrue (is_open self.now tag) }
         requires within { p ≤ length (window_at self.now tag).rasp }

@@ -18,6 +18,7 @@ use sam_runes::Runes;
 
 impl Terminal {
     /// Does a `Select`: sets the dot. It composes nothing and has no error.
+    #[tactic(auto, using(crate::proofs::Edits::select_facts), unfolding(crate::proofs::Edits::makes_opened))]
     pub(crate) fn make_select(&mut self, tag: u16, p: u32, q: u32) -> Result<Acted, TermFault>
         requires free { free_first self.old ≡ None }
         requires first { first_event self.old.held ≡ UserEvent.Select tag p q }
@@ -29,6 +30,7 @@ impl Terminal {
     }
 
     /// Does a `Cut`: composes `Tsnarf` and `Tcut` of the dot, which goes out of the rasp. An empty dot is left alone.
+    #[tactic(auto, using(crate::proofs::Edits::make_facts), unfolding(crate::proofs::Edits::makes_opened))]
     pub(crate) fn make_cut(&mut self, tag: u16) -> Result<Acted, TermFault>
         requires free { free_first self.old ≡ None }
         requires first { first_event self.old.held ≡ UserEvent.Cut tag }
@@ -54,6 +56,7 @@ impl Terminal {
 
     /// Does a `Paste`: composes `Tcut` of the dot, which goes out of the rasp, unless it is empty, and then `Tpaste` in its place. What
     /// is pasted comes with the host's answer, and a lock of the file is held until then.
+    #[tactic(auto, using(crate::proofs::Edits::paste_facts), unfolding(crate::proofs::Edits::makes_opened))]
     pub(crate) fn make_paste(&mut self, tag: u16) -> Result<Acted, TermFault>
         requires free { free_first self.old ≡ None }
         requires first { first_event self.old.held ≡ UserEvent.Paste tag }
@@ -77,6 +80,7 @@ impl Terminal {
     }
 
     /// Does a `Snarf`: composes `Tsnarf` of the dot, unless it is empty.
+    #[tactic(auto, using(crate::proofs::Edits::make_facts), unfolding(crate::proofs::Edits::makes_opened))]
     pub(crate) fn make_snarf(&mut self, tag: u16) -> Result<Acted, TermFault>
         requires free { free_first self.old ≡ None }
         requires first { first_event self.old.held ≡ UserEvent.Snarf tag }
@@ -91,6 +95,7 @@ impl Terminal {
     }
 
     /// Does a `View`: shows a file from `p` on, `n` runes and gaps at most, and composes the request that it then wants, if any.
+    #[tactic(auto, using(crate::proofs::Edits::view_facts), unfolding(crate::proofs::Edits::makes_opened))]
     pub(crate) fn make_view(&mut self, tag: u16, p: u32, n: u32) -> Result<Acted, TermFault>
         requires free { free_first self.old ≡ None }
         requires first { first_event self.old.held ≡ UserEvent.View tag p n }
@@ -114,6 +119,7 @@ impl Terminal {
     }
 
     /// Does a `SetSnarf`: composes its runes as `Tsetsnarf`.
+    #[tactic(auto, using(crate::proofs::Edits::make_facts), unfolding(crate::specs::Taking::done, crate::specs::Acting::made_first))]
     pub(crate) fn make_set_snarf(&mut self) -> Result<Acted, TermFault>
         requires free { free_first self.old ≡ None }
         requires first { IsTrue (is_snarfing (first_event self.old.held)) }
@@ -131,6 +137,7 @@ impl Terminal {
     }
 
     /// Does a `Flush`: composes the unsent runes, if there are any.
+    #[tactic(auto, using(crate::proofs::Edits::held_facts), unfolding(crate::proofs::Edits::made_opened))]
     pub(crate) fn make_flush(&mut self) -> Result<Acted, TermFault>
         requires free { free_first self.old ≡ None }
         requires first { first_event self.old.held ≡ UserEvent.Flush }
@@ -146,6 +153,7 @@ impl Terminal {
     }
 
     /// Marks a file that is known as changed by the user. It takes no memory.
+    #[tactic(auto, using(crate::proofs::FileSteps::file_puts), unfolding(crate::specs::Sound::FitsUnsent))]
     pub(crate) fn mark_changed(&mut self, tag: u16)
         requires { IsTrue (is_known self.old tag) }
         ensures { self.new ≡ edited self.old tag }
@@ -155,6 +163,7 @@ impl Terminal {
 
     /// Composes the unsent runes, and then takes the dot of a file out of its rasp, which marks the file as changed. The caller composes
     /// the cut.
+    #[tactic(auto, using(crate::proofs::Composes::flush_facts, crate::proofs::Marks::mark_facts, crate::proofs::SlotSteps::open_known))]
     pub(crate) fn cut_selected(&mut self, tag: u16, dot: (u32, u32), out: &mut Outbox)
         requires opened { IsTrue (is_open self.old tag) }
         requires dot { dot ≡ (window_at self.old tag).dot }
@@ -171,6 +180,7 @@ impl Terminal {
     }
 
     /// Shows an open file from `p` on, `n` runes and gaps at most.
+    #[tactic(auto, using(crate::proofs::FileSteps::file_puts), unfolding(crate::specs::Sound::FitsUnsent))]
     fn set_view(&mut self, tag: u16, p: u32, n: u32)
         requires opened { IsTrue (is_open self.old tag) }
         requires within { p ≤ length (window_at self.old tag).rasp }

@@ -17,6 +17,7 @@ use sam_runes::{Runes, agreed};
 impl Terminal {
     /// Takes a frame, as `Terminal::receive` says: its stamp is tested first, then what stands against its message. The terminal is
     /// unchanged after an error.
+    #[tactic(auto, unfolding(crate::specs::Term::take_of, crate::specs::Taking::countable))]
     pub(crate) fn take_frame(&mut self, frame: HFrame) -> Result<Batch, TermFault>
         ensures { IsAnswer self.old self.new result (take_of self.old frame) }
     {
@@ -30,6 +31,7 @@ impl Terminal {
     }
 
     /// Takes a message that nothing stands against. Errors, in this order: `CountFull`; `OutOfMemory`. The terminal is then unchanged.
+    #[tactic(auto, using(crate::proofs::Sounds::quiet), unfolding(crate::specs::Term::took_cut))]
     fn take(&mut self, message: Hmesg) -> Result<Batch, TermFault>
         requires { frame_fault self.old message ≡ None }
         ensures { IsAnswer self.old self.new result (countable (frame_outcome self.old message)) }
@@ -152,6 +154,7 @@ impl Terminal {
 
     /// Takes `Hunlockfile`: frees one lock of the file, and composes the request that it wants, if any, with the unsent runes before it.
     /// Count and memory are tested before the lock is freed.
+    #[tactic(auto, using(crate::proofs::Requests::unlock_facts), unfolding(crate::specs::Taking::countable))]
     fn take_unlockfile(&mut self, tag: u16) -> Result<Batch, TermFault>
         requires opened { IsTrue (is_open self.old tag) }
         requires locked { 0 < (window_at self.old tag).locks }
@@ -183,6 +186,7 @@ impl Terminal {
     }
 
     /// Takes `Hbindname`: opens a file that is known, with an empty rasp.
+    #[tactic(auto, using(crate::proofs::FileSteps::file_puts), unfolding(crate::proofs::FileSteps::unsent_opened))]
     fn open_file(&mut self, tag: u16)
         requires known { IsTrue (is_known self.old tag) }
         requires shut { is_open self.old tag ≡ false }
@@ -200,6 +204,7 @@ impl Terminal {
     }
 
     /// Takes `Hnewname`: makes the tag known, as a file that has no name yet and is not open.
+    #[tactic(auto, using(crate::proofs::FileSteps::file_puts), unfolding(crate::specs::Sound::FitsUnsent, crate::specs::Taking::countable))]
     fn take_newname(&mut self, tag: u16) -> Result<Batch, TermFault>
         requires { is_known self.old tag ≡ false }
         ensures { IsAnswer self.old self.new result (countable (frame_outcome self.old (Hmesg.Hnewname tag))) }
@@ -217,6 +222,7 @@ impl Terminal {
     }
 
     /// Takes `Hmovname`: gives a file that is known another name.
+    #[tactic(auto, using(crate::proofs::FileSteps::file_puts), unfolding(crate::specs::Sound::FitsUnsent))]
     fn rename_file(&mut self, tag: u16, name: Runes)
         requires { IsTrue (is_known self.old tag) }
         ensures { self.new ≡ put_known self.old tag (record (known_at self.old tag) { name = name }) }
@@ -225,6 +231,7 @@ impl Terminal {
     }
 
     /// Takes `Hdirty`: marks a file that is known as dirty. Whether the user changed it here stays as it is.
+    #[tactic(auto, using(crate::proofs::FileSteps::file_puts), unfolding(crate::specs::Sound::FitsUnsent))]
     fn mark_dirty(&mut self, tag: u16)
         requires { IsTrue (is_known self.old tag) }
         ensures { self.new ≡ put_known self.old tag (record (known_at self.old tag) { dirty = true }) }
@@ -233,6 +240,7 @@ impl Terminal {
     }
 
     /// Takes `Hclean`: a file that is known was written, so it is neither dirty nor changed here any more.
+    #[tactic(auto, using(crate::proofs::FileSteps::file_puts), unfolding(crate::specs::Sound::FitsUnsent))]
     fn mark_clean(&mut self, tag: u16)
         requires { IsTrue (is_known self.old tag) }
         ensures { self.new ≡ put_known self.old tag (record (known_at self.old tag) { dirty = false; changed = false }) }
@@ -243,6 +251,7 @@ impl Terminal {
     }
 
     /// Takes `Hdelname`: drops a file that is not open, whose tag is not known afterwards.
+    #[tactic(auto, using(crate::proofs::FileSteps::file_puts), unfolding(crate::specs::Sound::FitsUnsent))]
     fn drop_file(&mut self, tag: u16)
         requires known { IsTrue (is_known self.old tag) }
         requires shut { is_open self.old tag ≡ false }
@@ -252,6 +261,7 @@ impl Terminal {
     }
 
     /// Takes `Hgrow`: puts `n` gaps into the rasp at `p`.
+    #[tactic(auto, unfolding(crate::specs::Term::took_grow, crate::specs::Taking::countable))]
     fn take_grow(&mut self, tag: u16, p: u32, n: u32) -> Result<Batch, TermFault>
         requires opened { IsTrue (is_open self.old tag) }
         requires place { p ≤ length (window_at self.old tag).rasp }
@@ -266,6 +276,7 @@ impl Terminal {
     }
 
     /// Takes `Hdata`: loads runes into places that are there.
+    #[tactic(auto, unfolding(crate::specs::Term::took_data, crate::specs::Taking::countable))]
     fn take_data(&mut self, tag: u16, p: u32, text: Runes) -> Result<Batch, TermFault>
         requires opened { IsTrue (is_open self.old tag) }
         requires place { p + length text ≤ length (window_at self.old tag).rasp }
@@ -279,6 +290,7 @@ impl Terminal {
     }
 
     /// Takes `Hgrowdata`: puts runes into the rasp at `p`.
+    #[tactic(auto, unfolding(crate::specs::Term::took_growdata, crate::specs::Taking::countable))]
     fn take_growdata(&mut self, tag: u16, p: u32, text: Runes) -> Result<Batch, TermFault>
         requires opened { IsTrue (is_open self.old tag) }
         requires place { p ≤ length (window_at self.old tag).rasp }
@@ -293,6 +305,7 @@ impl Terminal {
     }
 
     /// Takes `Hclose`: drops the window of a file with its locks, and what was typed into it and is unsent.
+    #[tactic(auto, using(crate::proofs::FileSteps::file_puts), unfolding(crate::proofs::FileSteps::unsent_opened))]
     fn close_file(&mut self, tag: u16)
         requires { IsTrue (is_known self.old tag) }
         ensures { self.new ≡ took_close self.old tag }
@@ -302,6 +315,7 @@ impl Terminal {
     }
 
     /// Takes `Hexit`: the session is over, every lock is free and nothing is awaited.
+    #[tactic(auto, using(crate::proofs::FileSteps::exit_facts), unfolding(crate::specs::Sound::FitsUnsent, crate::specs::Term::took_exit))]
     fn take_exit(&mut self)
         ensures { self.new ≡ took_exit self.old }
     {

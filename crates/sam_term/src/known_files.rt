@@ -71,6 +71,7 @@ impl KnownFiles {
     }
 
     /// Lends a file that is known, to be changed.
+    #[tactic(auto, using(crate::proofs::SlotSteps::slot_facts))]
     pub fn file_mut(&mut self, tag: u16) -> &mut KnownFile
         requires { IsTrue (is_some (slot self.old tag)) }
         ensures* writes_back { sem 𝓛 (LendsFile self.entry tag result) }
@@ -120,6 +121,7 @@ impl KnownFiles {
 }
 
 /// Returns the file at an index, if there is one.
+#[tactic(auto, using(crate::proofs::SlotSteps::slot_facts))]
 fn known(files: &[Option<KnownFile>], index: usize) -> Option<&KnownFile>
     ensures { option_copied result ≡ slot files.now index }
 {
@@ -141,6 +143,7 @@ fn window(files: &[Option<KnownFile>], index: usize) -> Option<&Window>
 }
 
 /// Takes a file out of its slot, which stays in the list.
+#[tactic(auto, using(crate::proofs::SlotSteps::slot_facts))]
 fn take_known(files: &mut [Option<KnownFile>], index: usize) -> KnownFile
     requires { IsTrue (is_some (slot files.old index)) }
     ensures known { slot files.old index ≡ Some result }

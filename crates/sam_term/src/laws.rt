@@ -29,11 +29,13 @@ pub fn frame_changes_text()
 {}
 
 /// Says that each message which an event composes is counted.
+#[tactic(auto, using(crate::proofs::CountLaws::counts_facts))]
 pub fn event_counts()
     ensures { (t : PlainTerminal) (e : UserEvent) → (event_outcome t e).0.sent ≡ t.sent + length (event_outcome t e).1 }
 {}
 
 /// Says that each message which is composed in answer to a frame is counted.
+#[tactic(auto, using(crate::proofs::CountLaws::counts_facts))]
 pub fn frame_counts()
     ensures { (t : PlainTerminal) (m : Hmesg) → (frame_outcome t m).0.sent ≡ t.sent + length (frame_outcome t m).1 }
 {}

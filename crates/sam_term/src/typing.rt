@@ -199,6 +199,7 @@ impl Terminal {
     }
 
     /// Does a `Typed` with no runes, which only cuts the dot.
+    #[tactic(auto, using(crate::proofs::Edits::make_facts), unfolding(crate::proofs::Edits::makes_opened))]
     fn type_nothing(&mut self, tag: u16, dot: (u32, u32)) -> Result<Acted, TermFault>
         requires first { first_event self.old.held ≡ UserEvent.Typed tag [] }
         requires opened { IsTrue (is_open self.old tag) }
@@ -222,6 +223,7 @@ impl Terminal {
     }
 
     /// Does a `Typed` whose runes join the unsent ones. The dot is empty.
+    #[tactic(auto, using(crate::proofs::TypedMade::behind_facts), unfolding(crate::specs::Taking::done, crate::specs::Acting::made_first))]
     fn type_behind(&mut self, tag: u16, dot: (u32, u32), line: bool) -> Result<Acted, TermFault>
         requires free { free_first self.old ≡ None }
         requires first { first_event self.old.held ≡ UserEvent.Typed tag (typed_runes (first_event self.old.held)) }
@@ -248,6 +250,7 @@ impl Terminal {
 
     /// Does a `Typed` whose runes join no unsent ones: these are composed first, and then the cut of the dot. The new runes are then
     /// unsent.
+    #[tactic(auto, using(crate::proofs::TypedMade::apart_facts), unfolding(crate::specs::Taking::done, crate::specs::Acting::made_first))]
     fn type_apart(&mut self, tag: u16, dot: (u32, u32), line: bool) -> Result<Acted, TermFault>
         requires free { free_first self.old ≡ None }
         requires first { first_event self.old.held ≡ UserEvent.Typed tag (typed_runes (first_event self.old.held)) }
@@ -282,6 +285,7 @@ impl Terminal {
 
     /// Puts the runes of the oldest event in the place of the dot of their file, which is empty, and behind the unsent ones, which they
     /// join. The caller marks the file as changed. The only error is want of memory, and the terminal is then unchanged.
+    #[tactic(auto, using(crate::proofs::TypedMade::joined_facts), unfolding(crate::proofs::FileSteps::unsent_opened))]
     fn join_first(&mut self, tag: u16) -> Result<(), AllocError>
         requires opened { IsTrue (is_open self.old tag) }
         requires first { IsTrue (is_typing (first_event self.old.held)) }
@@ -344,6 +348,7 @@ impl Terminal {
     }
 
     /// Keeps typed runes unsent, or composes them at once if they end a command line.
+    #[tactic(auto, unfolding(crate::specs::Sound::FitsUnsent, crate::specs::Sound::IsShort))]
     fn keep_typed(&mut self, unsent: Unsent, line: bool, out: &mut Outbox)
         requires within { unsent.place ≤ (window_at self.old unsent.file).dot.1 }
         requires short { length unsent.runes ≤ most_in_message }
@@ -372,6 +377,7 @@ impl Terminal {
     /// Puts the runes of the oldest event in the place of the dot of their file, which the caller marks as changed. The unsent runes are
     /// handed over, since the place where they begin may go with the dot. The only error is want of memory, and the terminal is then
     /// unchanged.
+    #[tactic(auto, using(crate::proofs::FileSteps::typed_in_facts), unfolding(crate::proofs::FileSteps::unsent_opened))]
     pub(crate) fn type_first(&mut self, tag: u16) -> Result<Option<Unsent>, AllocError>
         requires opened { IsTrue (is_open self.old tag) }
         requires first { IsTrue (is_typing (first_event self.old.held)) }

@@ -87,6 +87,7 @@ impl Terminal {
     }
 
     /// Has the view of an open file begin at `p`.
+    #[tactic(auto, using(crate::proofs::FileSteps::file_puts), unfolding(crate::specs::Sound::FitsUnsent))]
     pub(crate) fn set_view_start(&mut self, tag: u16, p: u32)
         requires opened { IsTrue (is_open self.old tag) }
         requires within { p ≤ length (window_at self.old tag).rasp }
@@ -96,6 +97,7 @@ impl Terminal {
     }
 
     /// Sets the dot of an open file, from `p` to `q`.
+    #[tactic(auto, using(crate::proofs::FileSteps::file_puts), unfolding(crate::specs::Sound::FitsUnsent))]
     pub(crate) fn set_dot(&mut self, tag: u16, p: u32, q: u32)
         requires opened { IsTrue (is_open self.old tag) }
         requires ordered { p ≤ q }
@@ -107,6 +109,7 @@ impl Terminal {
 
     /// Puts `n` gaps into the rasp of an open file at `p`; dot, view and unsent runes move along. The only error is want of memory, and
     /// the terminal is then unchanged.
+    #[tactic(auto, using(crate::proofs::FileSteps::changed_facts), unfolding(crate::proofs::FileSteps::unsent_opened))]
     pub(crate) fn grow_file(&mut self, tag: u16, p: u32, n: u32) -> Result<(), AllocError>
         requires opened { IsTrue (is_open self.old tag) }
         requires place { p ≤ length (window_at self.old tag).rasp }
@@ -121,6 +124,7 @@ impl Terminal {
 
     /// Puts runes into the rasp of an open file at `p`; dot, view and unsent runes move along. The only error is want of memory, and the
     /// terminal is then unchanged.
+    #[tactic(auto, using(crate::proofs::FileSteps::changed_facts), unfolding(crate::proofs::FileSteps::unsent_opened))]
     pub(crate) fn fill_file(&mut self, tag: u16, p: u32, runes: &[char]) -> Result<(), AllocError>
         requires opened { IsTrue (is_open self.old tag) }
         requires place { p ≤ length (window_at self.old tag).rasp }
@@ -135,6 +139,7 @@ impl Terminal {
 
     /// Loads runes into the places of an open file from `p` on, whatever stood there. The file awaits nothing more, and no place moves.
     /// The only error is want of memory, and the terminal is then unchanged.
+    #[tactic(auto, using(crate::proofs::FileSteps::changed_facts), unfolding(crate::proofs::FileSteps::unsent_opened))]
     pub(crate) fn load_file(&mut self, tag: u16, p: u32, runes: &[char]) -> Result<(), AllocError>
         requires opened { IsTrue (is_open self.old tag) }
         requires place { p + length runes.now ≤ length (window_at self.old tag).rasp }
@@ -147,6 +152,7 @@ impl Terminal {
 
     /// Takes the `n` runes and gaps from `p` on out of the rasp of an open file; dot, view and unsent runes move along. It takes no
     /// memory.
+    #[tactic(auto, using(crate::proofs::FileSteps::changed_facts), unfolding(crate::proofs::FileSteps::unsent_opened))]
     pub(crate) fn cut_file(&mut self, tag: u16, p: u32, n: u32)
         requires opened { IsTrue (is_open self.old tag) }
         requires place { p + n ≤ length (window_at self.old tag).rasp }

@@ -1,29 +1,14 @@
 -- What holds of all files stays so under each change.
-use Rattle.std.proofs.Common.{◌≡◌, ℕ, zero, suc, ◌<◌, ◌≤◌, List, [], ◌∷◌, length, true, Option, Some, sym, subst, arith, length-append, drop, ◌-◌, unwrap_or, is_some, option_map, IfSome, Result, Ok, Err, OnOk, OnErr, length-drop, length-take-le}
-use Rattle.std.specs.Prelude.{⊤}
-use Rattle.sam_runes.specs.Texts.{all_tags, part}
-use Rattle.sam_runes.specs.Slots.{Slots, slot, put_slot, free_slot}
-use Rattle.sam_runes.proofs.SlotLaws.{slot-put_same, slot-put_other, slot-free_same, slot-free_other, slot-map, slot_given, length-put_slot, length-free_slot, length-map_slots, put_slot-push}
-use Rattle.sam_text.specs.Files.{PlainFile, PlainFiles, blank_file, file_at, has_file, put_file, with_new, without_file, announced_file, announce_all, IsFit, HasShortName, IsWork, AreSoundFiles}
+use Rattle.sam_text.proofs.Common.{◌≡◌, ℕ, zero, suc, ◌<◌, ◌≤◌, List, [], ◌∷◌, length, true, sym, subst, arith, length-append, ◌-◌, unwrap_or, is_some, Result, Ok, Err, OnOk, OnErr, length-drop, length-take-le, ⊤, all_tags, part, Slots, slot, put_slot, free_slot, slot-put_same, slot-put_other, slot-free_same, slot-free_other, slot-map, slot_given, length-put_slot, length-free_slot, length-map_slots, put_slot-push, PlainFile, PlainFiles, blank_file, file_at, has_file, put_file, with_new, without_file, announced_file, announce_all, IsFit, HasShortName, AreSoundFiles}
 use Rattle.sam_text.proofs.FitLaws.{all-put, fit-put}
 
 -- a tag that has a file keeps one where a file is put
 pub given-put : {X : Type 0} (ss : Slots X) (f g : ℕ) (x : X) → is_some (slot ss g) ≡ true → is_some (slot (put_slot ss f x) g) ≡ true
 given-put ss f g x e = grind (arith, slot-put_same, slot-put_other)
 
-work-put : (fs : PlainFiles) (g : ℕ) (x : PlainFile) (w : Option ℕ) → IfSome w (IsWork fs) → IfSome w (IsWork (put_file fs g x))
-work-put fs g x w e = grind (arith, given-put)
-
 -- a file is put where one was
 pub kept_put : (fs : PlainFiles) (g : ℕ) (x : PlainFile) → AreSoundFiles fs → has_file fs g ≡ true → IsFit x → HasShortName x → AreSoundFiles (put_file fs g x)
-kept_put fs g x all there fit short = grind (
-  arith,
-  (length-put_slot fs.slots g x (slot_given fs.slots g there)),
-  (given-put fs.slots g 0 x all.1),
-  (work-put fs g x fs.work all.2),
-  (fit-put fs g x all.5 fit),
-  (all-put HasShortName fs g x all.6 short),
-)
+kept_put fs g x all there fit short = grind (arith, length-put_slot, slot_given, given-put, fit-put, (all-put HasShortName))
 
 -- what holds of every file, and of a blank one, holds of every file once one is gone
 pub all-free : (P : PlainFile → Type 0) (fs : PlainFiles) (g : ℕ) → P blank_file → ((f : ℕ) → P (file_at fs f)) → (f : ℕ) → P (unwrap_or (slot (free_slot fs.slots g) f) blank_file)
@@ -31,29 +16,18 @@ all-free P fs g none all f = grind (arith, slot-free_same, slot-free_other)
 
 -- a file that is not the command file is taken away
 pub kept_free : (fs : PlainFiles) (g : ℕ) → AreSoundFiles fs → 0 < g → AreSoundFiles (without_file fs g)
-kept_free fs g all positive = grind (arith, (length-free_slot fs.slots g), (slot-free_other fs.slots g 0), (all-free IsFit fs g), (all-free HasShortName fs g), slot-free_other)
+kept_free fs g all positive = grind (arith, length-free_slot, slot-free_other, (all-free IsFit), (all-free HasShortName))
 
 -- a file is added
 pub kept_new : (fs : PlainFiles) (x : PlainFile) → AreSoundFiles fs → length fs.slots < all_tags → IsFit x → HasShortName x → AreSoundFiles (with_new fs x)
-kept_new fs x all free fit short = grind (
-  arith,
-  (put_slot-push fs.slots x),
-  (length-append fs.slots (Some x ∷ [])),
-  (given-put fs.slots (length fs.slots) 0 x all.1),
-  (work-put fs (length fs.slots) x fs.work all.2),
-  (fit-put fs (length fs.slots) x all.5 fit),
-  (all-put HasShortName fs (length fs.slots) x all.6 short),
-)
-
-all-announced : (P : PlainFile → Type 0) → ((x : PlainFile) → P x → P (announced_file x)) → (o : Option PlainFile) → P (unwrap_or o blank_file) → P (unwrap_or (option_map announced_file o) blank_file)
-all-announced P e o u = grind arith
+kept_new fs x all free fit short = grind (arith, put_slot-push, length-append, given-put, fit-put, (all-put HasShortName))
 
 -- what holds of every file, also once it is announced, holds of every file once all are announced
 pub all-announce : (P : PlainFile → Type 0) → ((x : PlainFile) → P x → P (announced_file x)) → (ss : Slots PlainFile)
     → ((f : ℕ) → P (unwrap_or (slot ss f) blank_file)) → (f : ℕ) → P (unwrap_or (slot (announce_all ss) f) blank_file)
 all-announce P step [] all f = all f
 all-announce P step (s ∷ ss) all zero = all 0
-all-announce P step (s ∷ ss) all (suc f) = grind (arith, (slot-map announced_file ss f), (all-announced P step (slot ss f) (all (suc f))))
+all-announce P step (s ∷ ss) all (suc f) = let here : P (unwrap_or (slot ss f) blank_file) = all (suc f) in grind (arith, (slot-map announced_file ss f))
 
 -- all files but the command file are announced
 pub kept_announce : (fs : PlainFiles) → AreSoundFiles fs → AreSoundFiles (record fs { slots = announce_all fs.slots })
@@ -72,9 +46,5 @@ pub kept_new_or : {E : Type 0} (fs : PlainFiles) (x : PlainFile) → AreSoundFil
 kept_new_or fs x all free fit short (Ok u) after same err = subst (λ ss. AreSoundFiles (record fs { slots = ss })) (sym same) (kept_new fs x all free fit short)
 kept_new_or fs x all free fit short (Err e) after same err = subst (λ ss. AreSoundFiles (record fs { slots = ss })) (sym err) all
 
--- how long a part of a text is
-pub length_part : {X : Type 0} (t : List X) (p q : ℕ) → p ≤ q → q ≤ length t → length (part t p q) ≡ q - p
-length_part t p q l h = let d = length-drop p t in length-take-le (q - p) (drop p t) (omega (arith, d, l, h))
-
 pub part_within : {X : Type 0} (t : List X) (p q : ℕ) → p ≤ q → q ≤ length t → length (part t p q) ≤ length t
-part_within t p q l h = let n = length_part t p q l h in omega (arith, n, l, h)
+part_within t p q l h = grind (arith, length-drop, length-take-le)

@@ -1,17 +1,8 @@
 -- What each line does can be put in: its file can be the work file, dot is a range of its text, name and pattern are within their limits.
-use Rattle.std.proofs.Common.{◌≡◌, ℕ, ◌≤◌, List, length, Option, Some, None, Result, sym, subst, ap, arith, IfOk, IfSome, unwrap_or, option_map, option_and_then}
-use Rattle.sam_runes.specs.Texts.{most_in_name}
-use Rattle.sam_runes.specs.Slots.{slot}
-use Rattle.sam_text.specs.declared.word.Word.{Word}
-use Rattle.sam_text.specs.declared.command.Command.{Command}
+use Rattle.sam_text.proofs.Common.{◌≡◌, ℕ, ◌≤◌, List, length, Option, Some, Result, arith, IfOk, IfSome, unwrap_or, most_in_name, Word, Command, ◌>>=◌, command_of, PlainFiles, PlainOutcome, file_at, file_after, IsFit, IsPattern, IsOutcomeFor, IsOutcomeOf, AreSoundFiles, WorkFile, meaning, work_file, line_outcome, effect_of, effect_on, effect_of_line, or_wrong}
 use Rattle.sam_text.specs.declared.command.Command.TheVariants as command
-use Rattle.sam_text.specs.Reading.{◌>>=◌, command_of}
-use Rattle.sam_text.specs.Files.{PlainFile, PlainFiles, PlainOutcome, blank_file, file_at, file_after, IsFit, IsPattern, IsWork, IsOutcomeFor, IsOutcomeOf, AreSoundFiles}
-use Rattle.sam_text.specs.Meaning.{WorkFile, meaning, work_on, work_file, line_outcome, effect_of, effect_on, effect_of_line, or_wrong}
 use Rattle.sam_text.proofs.ReadLaws.{CommandOk, command-read}
-use Rattle.sam_text.proofs.MeaningLaws.{line_fits, without_work}
-use Rattle.sam_text.proofs.FitLaws.{fit-after}
-use Rattle.sam_text.specs.Outcomes.{Fits}
+use Rattle.sam_text.proofs.FitLaws.{fit-meaning}
 
 -- the name and the pattern of an outcome are within their limits
 abbrev pub HasShortParts : PlainOutcome → Type 0
@@ -34,31 +25,18 @@ pub line_short : (f : Option WorkFile) (line : List ℕ) → HasShortParts (line
 unfolding line_outcome
 line_short f line = short-or (effect_of_line f line) (short-read f (command_of line) (command-read line))
 
-puts-none : (fs : PlainFiles) (o : PlainOutcome) → o.file ≡ None → IfSome o.file (IsOutcomeFor fs o)
-puts-none fs o e = subst (λ x. IfSome x (IsOutcomeFor fs o)) (sym e) tt
-
 puts-some : (fs : PlainFiles) (o : PlainOutcome) (x : Option ℕ) → ((g : ℕ) → x ≡ Some g → IsOutcomeFor fs o g) → IfSome x (IsOutcomeFor fs o)
 puts-some fs o x e = grind arith
 
 -- what a line does can be put in
 pub meaning_puts : (fs : PlainFiles) (line : List ℕ) → AreSoundFiles fs → IsOutcomeOf fs (meaning fs line)
-meaning_puts fs line all = (go fs.work all.2, short.0, short.1)
+meaning_puts fs line all = (puts-some fs (meaning fs line) (meaning fs line).file at, short.0, short.1)
   where
     short : HasShortParts (meaning fs line)
     short = line_short (work_file fs) line
 
-    at : (g : ℕ) (s : Option PlainFile) → slot fs.slots g ≡ s → IsWork fs g → (let o = line_outcome (option_map (work_on g) s) line in IfSome o.file (IsOutcomeFor fs o))
-    at g None e w = puts-none fs (line_outcome None line) (without_work line).0
-    at g (Some file) e w =
-        let here : file_at fs g ≡ file = ap (λ x. unwrap_or x blank_file) e in
-        let fit : IsFit file = subst IsFit here (all.5 g) in
-        let o = line_outcome (Some (work_on g file)) line in
-        let fits : Fits (work_on g file) o = line_fits (work_on g file) line fit in
-        puts-some fs o o.file
-        (λ k i. subst (λ n. IsOutcomeFor fs o n) (sym (fits.own k i)) (w, subst (λ x. IsFit (file_after x o)) (sym here) (fit-after g file o fit fits)))
-
-    go : (x : Option ℕ) → IfSome x (IsWork fs) → (let o = line_outcome (option_and_then (λ g. option_map (work_on g) (slot fs.slots g)) x) line in IfSome o.file (IsOutcomeFor fs o))
-    go x e = grind (arith, puts-none, without_work, at)
+    at : (g : ℕ) → (meaning fs line).file ≡ Some g → IsOutcomeFor fs (meaning fs line) g
+    at g e = let m = fit-meaning fs line g fs.work all.5 e in grind arith
 
 -- a name within the limit, or the old one, is within the limit
 pub named-within : (name : Option (List ℕ)) (old : List ℕ) → IfSome name (λ (name : List ℕ). length name ≤ most_in_name) → length old ≤ most_in_name → length (unwrap_or name old) ≤ most_in_name

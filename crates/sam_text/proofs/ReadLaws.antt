@@ -1,19 +1,8 @@
 -- What is read of a line is within the limits: each pattern has 1 to most_in_pattern runes, and a name at most most_in_name.
-use Rattle.std.proofs.Common.{◌≡◌, ℕ, zero, suc, ◌+◌, ◌≤◌, List, [], ◌∷◌, length, Bool, true, false, cond, ◌||◌, ◌==◌, Option, Some, None, Result, Ok, Err, option_map, nat_lt, refl, arith, IfOk, IfSome, ltb-false}
-use Rattle.std.specs.Prelude.{⊤}
-use Rattle.sam_runes.specs.Texts.{most_in_name, most_in_pattern}
-use Rattle.sam_text.specs.declared.word.Word.{Word}
-use Rattle.sam_text.specs.declared.command.Side.{Side}
-use Rattle.sam_text.specs.declared.command.Address.{Address}
-use Rattle.sam_text.specs.declared.command.Step.{Step}
-use Rattle.sam_text.specs.declared.command.Last.{Last}
-use Rattle.sam_text.specs.declared.command.Command.{Command}
+use Rattle.sam_text.proofs.Common.{ℕ, zero, suc, ◌+◌, ◌≤◌, List, [], ◌∷◌, length, Bool, true, false, cond, ◌||◌, ◌==◌, Option, Some, None, Result, Ok, Err, nat_lt, arith, IfOk, IfSome, ltb-false, ⊤, most_in_name, most_in_pattern, Word, Side, Address, Step, Last, Command, Read, IsPattern, side_pattern, address_pattern, steps_pattern, later, ◌>>=◌, skip, quoted, pattern_at, behind_slash, side_of, side_at, second_side, address_at, kind_of, last_of, at_head, at_option, chain_at, name_of, ended, behind_address, command_of}
 use Rattle.sam_text.specs.declared.word.Word.TheVariants as word
 use Rattle.sam_text.specs.declared.command.Address.TheVariants as address
 use Rattle.sam_text.specs.declared.command.Command.TheVariants as command
-use Rattle.sam_text.specs.Files.{IsPattern}
-use Rattle.sam_text.specs.Meaning.{side_pattern, address_pattern, steps_pattern, later}
-use Rattle.sam_text.specs.Reading.{◌>>=◌, skip, quoted, pattern_at, behind_slash, side_of, side_at, second_side, address_at, kind_of, last_of, at_head, at_option, chain_at, name_of, ended, behind_address, command_of}
 
 -- ## Ways to read
 
@@ -28,18 +17,18 @@ ok_if P b x y e u = grind arith
 
 -- ## Patterns
 
-pattern_end : (n : ℕ) (p : List ℕ × List ℕ) → n ≡ length p.0 → (a b : Bool) → (n == 0) ≡ a → nat_lt most_in_pattern n ≡ b
-    → IfOk (cond (a || b) (Err word.Pattern) (Ok p)) (λ (p : List ℕ × List ℕ). IsPattern p.0)
-pattern_end n p e a b u w = grind (arith, ltb-false)
+pattern_end : (r : Read (List ℕ)) → IfOk (r >>= (λ p. cond ((length p.0 == 0) || nat_lt most_in_pattern (length p.0)) (Err word.Pattern) (Ok p))) (λ (p : List ℕ × List ℕ). IsPattern p.0)
+pattern_end (Ok p) = grind (arith, ltb-false)
+pattern_end (Err w) = tt
 
 -- a pattern that is read is within its limits
 pub pattern-read : (line : List ℕ) → IfOk (pattern_at line) (λ (p : List ℕ × List ℕ). IsPattern p.0)
 unfolding pattern_at
-pattern-read line = ok_any (λ (p : List ℕ × List ℕ). IsPattern p.0) (quoted true false line) _ (λ p. pattern_end (length p.0) p refl _ _ refl refl)
+pattern-read line = pattern_end (quoted true false line)
 
 slash-pattern : (line : List ℕ) → IfOk (behind_slash pattern_at line) (λ (p : List ℕ × List ℕ). IsPattern p.0)
 slash-pattern [] = tt
-slash-pattern (c ∷ cs) = ok_if (λ (p : List ℕ × List ℕ). IsPattern p.0) (c == 47) (pattern_at cs) (Err word.Command) (pattern-read cs) tt
+slash-pattern (c ∷ cs) = grind (arith, (pattern-read cs))
 
 -- ## Addresses
 
@@ -53,28 +42,22 @@ side-read : (line : List ℕ) → IfOk (side_of line) SideOk
 side-read [] = tt
 side-read (c ∷ cs) = grind (arith, (pattern-read cs))
 
-later-ok : (a b : Option (List ℕ)) → IfSome a IsPattern → IfSome b IsPattern → IfSome (later a b) IsPattern
-later-ok a b e u = grind arith
-
-one-ok : (a : Option Side) → IfSome (side_pattern a) IsPattern → AddressOk (option_map address.One a)
-one-ok a e = grind arith
-
 second-side : (a : Option Side) (line : List ℕ) → IfSome (side_pattern a) IsPattern → IfOk (second_side a line) (λ (x : Option Address × List ℕ). AddressOk x.0)
 unfolding side_at
-second-side a [] h = one-ok a h
-second-side a (c ∷ cs) h =
-    ok_if (λ (x : Option Address × List ℕ). AddressOk x.0) (c == 44) _ _
-    (ok_then SideOk (λ (x : Option Address × List ℕ). AddressOk x.0) (side_of (skip cs)) _ (side-read (skip cs)) (λ b k. later-ok (side_pattern a) (side_pattern b.0) h k))
-    (one-ok a h)
+second-side a (c ∷ cs) h = grind (arith, (side-read (skip cs)))
+second-side a line h = grind arith
 
 address-read : (line : List ℕ) → IfOk (address_at line) (λ (x : Option Address × List ℕ). AddressOk x.0)
 unfolding address_at side_at
-address-read line = ok_then SideOk (λ (x : Option Address × List ℕ). AddressOk x.0) (side_of (skip line)) _ (side-read (skip line)) (λ a h. second-side a.0 (skip a.1) h)
+address-read line = grind (arith, (side-read (skip line)), second-side)
 
 -- ## Chains
 
 abbrev pub ChainOk : List Step × Last → Type 0
 ChainOk x = IfSome (steps_pattern x.0) IsPattern
+
+later-ok : (a b : Option (List ℕ)) → IfSome a IsPattern → IfSome b IsPattern → IfSome (later a b) IsPattern
+later-ok a b e u = grind arith
 
 head-ok : {A : Type 0} (P : A → Type 0) (line : List ℕ) (none : Result A Word) (some : ℕ → List ℕ → Result A Word) → IfOk none P
     → ((c : ℕ) (cs : List ℕ) → IfOk (some c cs) P) → IfOk (at_head line none some) P
@@ -103,7 +86,7 @@ CommandOk (command.Name n) = length n ≤ most_in_name
 CommandOk command.Quit = ⊤
 
 name-read : (line : List ℕ) → IfOk (name_of line) CommandOk
-name-read line = grind (arith, ok_if)
+name-read line = grind (arith, ltb-false)
 
 behind-read : (a : Option Address) (rest : List ℕ) → AddressOk a → IfOk (behind_address a rest) CommandOk
 behind-read None rest h = ok_then ChainOk CommandOk (chain_at (length rest + 1) rest) _ (chain-read (length rest + 1) rest) (λ c k. (h, k))

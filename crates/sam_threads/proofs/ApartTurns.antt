@@ -1,14 +1,6 @@
 -- Messages that fit at their place of a stream, where they fit at all.
-use Rattle.std.proofs.Common.{◌≡◌, ℕ, true, List, [], ◌∷◌, ◌++◌, arith}
-use Rattle.sam_mesg.specs.TerminalKinds.{fits_t, FitsT, after_t}
-use Rattle.sam_mesg.specs.declared.tmesg.Tmesg.{Tmesg}
-use Rattle.sam_mesg.specs.declared.tmesg.Tmesg.TheVariants.{Tsetsnarf}
-use Rattle.sam_mesg.specs.HostKinds.{FitsH, after_h}
-use Rattle.sam_mesg.specs.declared.hmesg.HFrame.{HFrame}
+use Rattle.sam_threads.proofs.Common.{◌≡◌, ℕ, true, List, [], ◌∷◌, ◌++◌, arith, fits_t, FitsT, after_t, Tmesg, Tsetsnarf, FitsH, after_h, HFrame, Direction, terminal, host, FitInTurn, version_after, Each}
 use Rattle.sam_mesg.proofs.Versions.{grows_t, grows_h}
-use Rattle.sam_frame.specs.Direction.{Direction, terminal, host}
-use Rattle.sam_frame.specs.Stream.{FitInTurn, version_after}
-use Rattle.sam_world.specs.Sides.{Each}
 
 -- each message that fits in version 2 fits at its place
 abbrev pub InTurn : {M : Type 0} → Direction M → ℕ → List M → Type 0
@@ -22,6 +14,10 @@ in_turn d v (m ∷ ms) p q = (p.0 q.0, in_turn d (d.after v m) ms p.1 q.1)
 pub InTurn-append : {M : Type 0} (d : Direction M) (v : ℕ) (ms ns : List M) → InTurn d v ms → InTurn d (version_after d v ms) ns → InTurn d v (ms ++ ns)
 InTurn-append d v [] ns p q = q
 InTurn-append d v (m ∷ ms) ns p q = (p.0, InTurn-append d (d.after v m) ms ns p.1 q)
+
+pub front_fits : {M : Type 0} (d : Direction M) (v : ℕ) (ms ns : List M) → FitInTurn d v (ms ++ ns) → FitInTurn d v ms
+front_fits d v [] ns fit = tt
+front_fits d v (m ∷ ms) ns fit = (fit.0, front_fits d (d.after v m) ms ns fit.1)
 
 -- ## What fits in some version fits in version 2
 

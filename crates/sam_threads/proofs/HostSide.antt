@@ -1,39 +1,13 @@
 -- The host's worker from one moment to the next.
-use Rattle.std.proofs.Common.{◌≡◌, ◌⊎◌, inl, inr, ℕ, ◌+◌, List, [], ◌∷◌, ◌++◌, length, Result, Ok, Err, refl, sym, subst, append_assoc, append-nil, arith, IsTrue}
-use Rattle.std.specs.Global.{Vec}
-use Rattle.std.proofs.lemmas.List.Elements.{All-nil, All-cons}
-use Rattle.sam_mesg.specs.declared.fault.MesgFault.{MesgFault}
-use Rattle.sam_mesg.specs.TerminalKinds.{FitsT}
-use Rattle.sam_mesg.specs.declared.tmesg.Tmesg.{Tmesg}
-use Rattle.sam_mesg.specs.HostKinds.{FitsH, IsHFrame, after_h}
-use Rattle.sam_mesg.specs.declared.hmesg.HFrame.{HFrame}
-use Rattle.sam_frame.specs.Direction.{terminal, host, frame_of}
-use Rattle.sam_frame.specs.Stream.{CanEncode, FitInTurn, stream_of}
-use Rattle.sam_frame.specs.Framing.{Held, GaveAll, GaveUp}
-use Rattle.sam_frame.proofs.Fronts.{stream_of-append}
-use Rattle.sam_host.specs.Host.{PlainHost, answer}
+use Rattle.sam_threads.proofs.Common.{flat_map-append, ◌≡◌, ◌⊎◌, inl, inr, ℕ, ◌+◌, List, [], ◌∷◌, ◌++◌, length, Result, Ok, Err, refl, append_assoc, append-nil, arith, IsTrue, Vec, All-nil, All-cons, MesgFault, FitsT, Tmesg, FitsH, IsHFrame, after_h, HFrame, terminal, host, frame_of, CanEncode, stream_of, Held, GaveAll, GaveUp, stream_of-append, PlainHost, answer, PostView, Each, host_more, each_append, sides, frame_number, bytes_of, PutSome, Handled, HandledSome, HandlesAll, HandledFront, TakesPiece, Halts, Leaves, StopsBefore, of_refusal, Stop}
 use Rattle.sam_host.specs.Laws.{FitInPlace}
 use Rattle.sam_host.specs.declared.fault.HostFault.{HostFault}
 use Rattle.sam_host.specs.declared.fault.HostFault.TheVariants as refusal
-use Rattle.sam_queue.specs.Views.{PostView}
-use Rattle.sam_world.specs.Sides.{Each}
-use Rattle.sam_world.proofs.Settles.{host_more, each_append}
-use Rattle.sam_threads.specs.RealSides.{sides}
-use Rattle.sam_threads.specs.Numbers.{refusal_number, frame_number}
-use Rattle.sam_threads.specs.Inputs.{bytes_of}
-use Rattle.sam_threads.specs.Cutting.{PutSome}
-use Rattle.sam_threads.specs.Handling.{Handled, HandledSome, HandlesAll, HandledFront, TakesPiece, Halts, Leaves, StopsBefore, of_refusal}
-use Rattle.sam_threads.specs.declared.stop.Stop.{Stop}
 use Rattle.sam_threads.specs.declared.stop.Stop.TheVariants as stop
-use Rattle.sam_threads.proofs.ApartTurns.{each_t}
-use Rattle.sam_threads.proofs.Cut.{bytes_append}
+use Rattle.sam_threads.proofs.ApartTurns.{each_t, front_fits}
 use Rattle.sam_threads.proofs.RealLaws.{counts}
 
 -- ## Messages that fit
-
-fit_front : (version : ℕ) (ms ns : List Tmesg) → FitInTurn terminal version (ms ++ ns) → FitInTurn terminal version ms
-fit_front version [] ns fit = tt
-fit_front version (m ∷ ms) ns fit = (fit.0, fit_front (terminal.after version m) ms ns fit.1)
 
 each_behind : {X : Type 0} (P : X → Type 0) (xs ys : List X) → Each P (xs ++ ys) → Each P ys
 each_behind P [] ys a = a
@@ -48,11 +22,6 @@ frames_fit version (f ∷ frames) fit known = grind (arith, (frames_fit (after_h
 
 pub handled_nothing : (h : PlainHost) (p : PostView (Vec ℕ)) → Handled h h p p [] [] []
 handled_nothing h p = record { runs = (refl, refl); answers_fit = tt; put = refl; line = refl; number = refl; closed = refl }
-
--- one message
-pub handled_one : (most : ℕ) (h k : PlainHost) (p q : PostView (Vec ℕ)) (m : Tmesg) (frames : List HFrame) (unput : List ℕ)
-    → answer h m ≡ Ok (k, frames) → Each (FitsH 2) frames → PutSome most p q (stream_of host frames) unput → Handled h k p q (m ∷ []) frames unput
-handled_one most h k p q m frames unput answered fit puts = grind (arith, (append-nil frames), (bytes_append p.put puts.pieces), (append_assoc (bytes_of p.put) (bytes_of puts.pieces) unput))
 
 pub handled_on : (h j k : PlainHost) (p q r : PostView (Vec ℕ)) (ms ns : List Tmesg) (fs gs : List HFrame) (unput : List ℕ)
     → Handled h j p q ms fs [] → Handled j k q r ns gs unput → Handled h k p r (ms ++ ns) (fs ++ gs) unput
@@ -74,31 +43,17 @@ so_far_more h j k p q r ms left rest m fs is s one = grind (arith, (append_assoc
 
 pub so_far_stops : (refuses : Type 0) (h j k : PlainHost) (p q r : PostView (Vec ℕ)) (ms left rest : List Tmesg) (m : Tmesg) (why : Stop)
     → left ≡ m ∷ rest → SoFar h j p q ms left → HandledSome ⊥ j k q r (m ∷ []) why → HandledSome refuses h k p r ms why
-so_far_stops refuses h j k p q r ms left rest m why is s one = grind (
-  arith,
-  (append_assoc one.handled one.left rest),
-  (append_assoc s.done one.handled (one.left ++ rest)),
-  (handled_on h j k p q r s.done one.handled s.answered one.answered one.unput s.did one.did),
-)
+so_far_stops refuses h j k p q r ms left rest m why is s one =
+    let did = handled_on h j k p q r s.done one.handled s.answered one.answered one.unput s.did one.did in
+    grind (arith, (append_assoc one.handled one.left rest), (append_assoc s.done one.handled (one.left ++ rest)), did)
 
 -- ## One message
-
-one_refused : (h : PlainHost) (p : PostView (Vec ℕ)) (m : Tmesg) (why : HostFault) (n : ℕ) → answer h m ≡ Err why → n ≡ refusal_number why → HandledSome ⊥ h h p p (m ∷ []) (stop.Host n)
-one_refused h p m why n refused is = grind (arith, (handled_nothing h p))
-
-one_without_memory : (h : PlainHost) (p : PostView (Vec ℕ)) (m : Tmesg) → HandledSome ⊥ h h p p (m ∷ []) stop.Memory
-one_without_memory h p m = record { handled = []; left = m ∷ []; answered = []; unput = []; whole = refl; did = handled_nothing h p; leaves = tt }
-
-one_unput : (h k : PlainHost) (p q : PostView (Vec ℕ)) (m : Tmesg) (frames : List HFrame) (unput : List ℕ) → Handled h k p q (m ∷ []) frames unput → HandledSome ⊥ h k p q (m ∷ []) stop.Memory
-one_unput h k p q m frames unput did = record { handled = m ∷ []; left = []; answered = frames; unput = unput; whole = refl; did = did; leaves = tt }
-
-here : (h k : PlainHost) (p : PostView (Vec ℕ)) (m : Tmesg) (why : Stop) → k ≡ h → HandledSome ⊥ h h p p (m ∷ []) why → HandledSome ⊥ h k p p (m ∷ []) why
-here h k p m why same s = subst (λ (x : PlainHost). HandledSome ⊥ h x p p (m ∷ []) why) (sym same) s
 
 -- a refusal changes nothing
 pub one_stops : (h k : PlainHost) (p : PostView (Vec ℕ)) (m : Tmesg) (why : HostFault) → k ≡ h → (why ≡ refusal.OutOfMemory) ⊎ (answer h m ≡ Err why)
     → HandledSome ⊥ h k p p (m ∷ []) (of_refusal why)
-one_stops h k p m why e u = grind (arith, here, one_without_memory, one_refused)
+one_stops h k p m why e (inl memory) = rw (e, memory) (record { handled = []; left = m ∷ []; answered = []; unput = []; whole = refl; did = handled_nothing h p; leaves = tt })
+one_stops h k p m why e (inr refused) = rw e (grind (arith, (handled_nothing h p)))
 
 pub known_fit : (version : ℕ) (frames slice : List HFrame) → slice ≡ frames → FitInPlace version frames → Each IsHFrame slice → Each (FitsH 2) slice
 known_fit version frames slice is fit known = grind (arith, frames_fit)
@@ -107,38 +62,35 @@ known_fit version frames slice is fit known = grind (arith, frames_fit)
 one_did : (most : ℕ) (h j k : PlainHost) (p q : PostView (Vec ℕ)) (m : Tmesg) (frames slice : List HFrame) (unput : List ℕ)
     → answer h m ≡ Ok (j, frames) → k ≡ j → slice ≡ frames → FitInPlace h.version frames → Each IsHFrame slice
     → PutSome most p q (stream_of host slice) unput → Handled h k p q (m ∷ []) slice unput
-one_did most h j k p q m frames slice unput answered same is fit known puts = grind (arith, (handled_one most h k p q m slice unput), (known_fit h.version frames slice is fit known))
+one_did most h j k p q m frames slice unput answered same is fit known puts =
+    grind (arith, (append-nil slice), (flat_map-append (λ (v : Vec ℕ). v.items) p.put puts.pieces), (append_assoc (bytes_of p.put) (bytes_of puts.pieces) unput), (known_fit h.version frames slice))
 
 pub one_all : (most : ℕ) (h j k : PlainHost) (p q : PostView (Vec ℕ)) (m : Tmesg) (frames slice : List HFrame)
     → answer h m ≡ Ok (j, frames) → k ≡ j → slice ≡ frames → FitInPlace h.version frames → Each IsHFrame slice
     → PutSome most p q (stream_of host slice) [] → (answered : List HFrame) × Handled h k p q (m ∷ []) answered []
-one_all most h j k p q m frames slice answered same is fit known puts = (slice, one_did most h j k p q m frames slice [] answered same is fit known puts)
+one_all most h j k p q m frames slice answered same is fit known puts = grind (arith, (one_did most h j k p q m frames slice []))
 
 pub one_cut : (most : ℕ) (h j k : PlainHost) (p q : PostView (Vec ℕ)) (m : Tmesg) (frames slice : List HFrame)
     → answer h m ≡ Ok (j, frames) → k ≡ j → slice ≡ frames → FitInPlace h.version frames → Each IsHFrame slice
     → (unput : List ℕ) × PutSome most p q (stream_of host slice) unput → HandledSome ⊥ h k p q (m ∷ []) stop.Memory
-one_cut most h j k p q m frames slice answered same is fit known puts =
-    one_unput h k p q m slice puts.0 (one_did most h j k p q m frames slice puts.0 answered same is fit known puts.1)
+one_cut most h j k p q m frames slice answered same is fit known puts = grind (arith, (one_did most h j k p q m frames slice puts.0))
 
 -- ## One piece
 
 leaves_halts : (refuses : Type 0) (k : PlainHost) (version came : ℕ) (left : List Tmesg) (bytes : List ℕ) (why : Stop) → Each (FitsT 2) left → Leaves refuses k left why
     → Halts refuses k version came (stream_of terminal left ++ bytes) why
 leaves_halts refuses k version came left bytes (stop.Host n) fits l = grind (arith, (append_assoc (frame_of terminal l.0) (stream_of terminal l.1) bytes))
-leaves_halts refuses k version came left bytes (stop.Term n) fits l = l
-leaves_halts refuses k version came left bytes stop.PeerGone fits l = l
-leaves_halts refuses k version came left bytes stop.Gate fits l = l
-leaves_halts refuses k version came left bytes why e u = grind arith
+leaves_halts refuses k version came left bytes why fits l = grind arith
 
 pub piece_all : (refuses : Type 0) (h k : PlainHost) (p q : PostView (Vec ℕ)) (held fed next : Held) (piece : List ℕ) (ms : List Tmesg) (r : Result (Unit {0}) Stop)
     → next ≡ fed → GaveAll terminal held piece ms fed → HandlesAll refuses h k p q ms r → TakesPiece refuses h k p q held next piece r
-piece_all refuses h k p q held fed next piece ms r e u w = grind (arith, stream_of-append, append_assoc, fit_front, leaves_halts, each_behind, each_t)
+piece_all refuses h k p q held fed next piece ms r e u w = grind (arith, stream_of-append, append_assoc, front_fits, leaves_halts, each_behind, each_t)
 
 pub piece_before : (refuses : Type 0) (h k : PlainHost) (p q : PostView (Vec ℕ)) (held next : Held) (piece : List ℕ) (ms : List Tmesg) (place : ℕ) (fault : MesgFault) (why : Stop)
     → GaveUp terminal held piece ms place fault next → StopsBefore refuses h k p q ms (frame_number fault) why
     → HandledFront refuses h k p q held.version (held.offset + length held.bytes + length piece) (held.bytes ++ piece) why
-piece_before refuses h k p q held next piece ms place fault why up (inl some) = grind (arith, stream_of-append, append_assoc, fit_front, leaves_halts, each_behind, each_t)
 piece_before refuses h k p q held next piece ms place fault why up (inr all) = grind arith
+piece_before refuses h k p q held next piece ms place fault why up (inl some) = grind (arith, stream_of-append, append_assoc, front_fits, leaves_halts, each_behind, each_t)
 
 -- the piece was not fed
 pub piece_unfed : (refuses : Type 0) (h : PlainHost) (p : PostView (Vec ℕ)) (version came : ℕ) (bytes : List ℕ) (why : Stop) → Halts refuses h version came bytes why

@@ -1,3 +1,4 @@
+pub mod Common
 pub mod TermSteps
 pub mod PiecesUp
 pub mod TermKeeping

@@ -1,12 +1,5 @@
 -- What the terminal is still to send.
-use Rattle.std.proofs.Common.{◌≡◌, ap, ◌∙◌, ℕ, suc, ◌≤◌, List, [], ◌∷◌, ◌++◌, length, drop, append-nil, arith}
-use Rattle.std.specs.Global.{Vec}
-use Rattle.std.proofs.lemmas.List.{drop-append-le}
-use Rattle.sam_mesg.specs.declared.tmesg.Tmesg.{Tmesg}
-use Rattle.sam_frame.specs.Direction.{terminal}
-use Rattle.sam_frame.specs.Stream.{stream_of}
-use Rattle.sam_queue.specs.Views.{PostView, with_item}
-use Rattle.sam_threads.specs.Cutting.{IsPiece, PutSome}
+use Rattle.sam_threads.proofs.Common.{◌≡◌, ap, ◌∙◌, ℕ, suc, ◌≤◌, List, [], ◌∷◌, ◌++◌, length, drop, append-nil, arith, Vec, drop-append-le, Tmesg, terminal, stream_of, PostView, with_item, IsPiece, PutSome}
 use Rattle.sam_threads.proofs.Cut.{put_none}
 
 -- nothing stands behind the last byte

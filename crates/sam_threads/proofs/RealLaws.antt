@@ -1,26 +1,13 @@
 -- The real sides count as the law of two sides asks, their frames are told apart, and their world is the plain world.
-use Rattle.std.proofs.Common.{◌≡◌, suc, ◌≤◌, List, [], ◌∷◌, Option, Some, None, Result, Ok, refl, ap, ◌∙◌, arith, option_map, option_and_then, All}
+use Rattle.sam_threads.proofs.Common.{◌≡◌, suc, ◌≤◌, List, [], ◌∷◌, Some, Result, Ok, refl, arith, option_map, All, FitsT, Tmesg, FitsH, HFrame, terminal, host, frame_of, PlainHost, PlainTerminal, Made, flush_of, take_of, TermFault, Acted, PlainWorld, composed_by, step_of, run_of, Each, Counts, World, step, run, sides, unless_refused, acted}
 use Rattle.std.proofs.lemmas.Option.{same_Some}
-use Rattle.sam_mesg.specs.TerminalKinds.{FitsT}
-use Rattle.sam_mesg.specs.declared.tmesg.Tmesg.{Tmesg}
-use Rattle.sam_mesg.specs.HostKinds.{FitsH}
-use Rattle.sam_mesg.specs.declared.hmesg.HFrame.{HFrame}
 use Rattle.sam_mesg.proofs.TerminalLaws as upwards
 use Rattle.sam_mesg.proofs.HostLaws as downwards
-use Rattle.sam_frame.specs.Direction.{terminal, host, frame_of}
 use Rattle.sam_frame.specs.Reading.{IsSound}
-use Rattle.sam_host.specs.Host.{PlainHost}
 use Rattle.sam_host.proofs.SoundLaws.{answers_are_counted}
-use Rattle.sam_term.specs.Term.{PlainTerminal, Made, flush_of, take_of}
-use Rattle.sam_term.specs.declared.fault.TermFault.{TermFault}
-use Rattle.sam_term.specs.declared.event.Acted.{Acted}
-use Rattle.sam_term.specs.declared.fault.TermFault.TheVariants as fault
 use Rattle.sam_world.specs.declared.event.Event.{Event}
-use Rattle.sam_world.specs.World.{PlainWorld, composed_by, step_of, run_of}
-use Rattle.sam_world.specs.Sides.{Each, Counts, World, and_then, step, run}
 use Rattle.sam_world.proofs.Carries.{PrefixFree}
 use Rattle.sam_world.proofs.RunLaws.{act-counts, flush-counts, take-counts}
-use Rattle.sam_threads.specs.RealSides.{sides, unless_refused, acted}
 
 -- ## What a step of the sides was
 
@@ -42,15 +29,19 @@ acted_as r u ms e = grind arith
 -- ## The counts count
 
 pub counts : Counts sides
-counts = record {
-  taken = grind (arith, answers_are_counted, answered_as);
-  stamped = grind (arith, answers_are_counted, answered_as, each_of_all);
-  user = λ t e. refl;
-  act = grind (arith, acted_as, act-counts);
-  flush = λ t u ms e. flush-counts t (u, ms) (answered_as (flush_of t) (u, ms) e);
-  receive = λ t u frame ms e. take-counts t frame (u, ms) (answered_as (take_of t frame) (u, ms) e);
-  past = grind (arith, answered_as, taken_past);
-}
+counts = grind (
+  arith,
+  answers_are_counted,
+  answered_as,
+  each_of_all,
+  acted_as,
+  act-counts,
+  (λ (t u : PlainTerminal) (ms : List Tmesg). flush-counts t (u, ms)),
+  (λ (t u : PlainTerminal) (frame : HFrame) (ms : List Tmesg). take-counts t frame (u, ms)),
+  (λ (t : PlainTerminal). answered_as (flush_of t)),
+  (λ (t : PlainTerminal) (frame : HFrame). answered_as (take_of t frame)),
+  taken_past,
+)
 
 -- ## The frames of both directions
 
@@ -72,18 +63,13 @@ down_free = record { free = λ a b x y p q e. (downwards.one_frame 2 a b x y p q
 abbrev pub plain : World PlainHost PlainTerminal Tmesg HFrame → PlainWorld
 plain w = record { host = w.host; term = w.term; up = w.up; down = w.down }
 
-pub same_step : (w : World PlainHost PlainTerminal Tmesg HFrame) (e : Event) → step_of (plain w) e ≡ option_map plain (step sides w e)
+same_step : (w : World PlainHost PlainTerminal Tmesg HFrame) (e : Event) → step_of (plain w) e ≡ option_map plain (step sides w e)
 same_step w e = grind arith
 
-pub same_run : (w : World PlainHost PlainTerminal Tmesg HFrame) (es : List Event) → run_of (plain w) es ≡ option_map plain (run sides w es)
-same_run w [] = refl
-same_run w (e ∷ es) =
-    ap (λ (o : Option PlainWorld). option_and_then (λ (next : PlainWorld). run_of next es) o) (same_step w e)
-    ∙ elim (step sides w e) as (λ o. option_and_then (λ (next : PlainWorld). run_of next es) (option_map plain o) ≡ option_map plain (and_then o (λ v. run sides v es))) [
-      | None ↦ refl
-      | Some v ↦ same_run v es
-    ]
+same_run : (es : List Event) (w : World PlainHost PlainTerminal Tmesg HFrame) → run_of (plain w) es ≡ option_map plain (run sides w es)
+same_run [] w = refl
+same_run (e ∷ es) w = grind (arith, same_step, (same_run es))
 
 -- a run of the two sides is a run of the plain world
 pub plain_run : (w last : World PlainHost PlainTerminal Tmesg HFrame) (es : List Event) → run sides w es ≡ Some last → run_of (plain w) es ≡ Some (plain last)
-plain_run w last es e = same_run w es ∙ ap (λ o. option_map plain o) e
+plain_run w last es e = grind (arith, same_run)

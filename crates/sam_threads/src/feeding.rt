@@ -43,6 +43,7 @@ pub struct Fed {
 /// - `Frame(1)`, `Frame(2)` or `Frame(3)` if the stream shows a fault behind the frames.
 ///
 /// The terminal is where the frames that it took leave it, and the framer is where its `feed` leaves it.
+#[tactic(auto, using(crate::proofs::Feeds::all_fit))]
 pub fn feed_terminal(
     alloc: Global,
     terminal: &mut Terminal,

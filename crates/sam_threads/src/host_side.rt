@@ -92,6 +92,7 @@ impl HostSide<'_> {
 
     /// Lets the host handle one message, and sends its answer. The errors are the host's refusal, and `Memory`; after `Memory` the host
     /// may have handled the message, and a part of the answer may be missing.
+    #[tactic(auto, using(crate::proofs::HostSide::one_stops, crate::proofs::HostSide::known_fit))]
     fn answer<R: Wait>(&mut self, rt: &R, message: Tmesg) -> Result<(), Stop>
         requires piece { 0 < self.old.piece }
         requires open { self.old.post.closed ≡ false }
@@ -163,6 +164,7 @@ impl HostSide<'_> {
     }
 
     /// Handles the messages that are whole with this piece, also those before a fault of the stream.
+    #[tactic(auto, using(crate::proofs::HostSide::piece_all, crate::proofs::HostSide::piece_unfed))]
     fn take_piece<R: Wait, G: Gate>(&mut self, rt: &R, gate: &G, piece: &[u8]) -> Result<(), Stop>
         requires piece { 0 < self.old.piece }
         requires open { self.old.post.closed ≡ false }
@@ -189,6 +191,7 @@ impl HostSide<'_> {
     }
 
     /// Handles what comes until the end mark. Returns what stopped it before that.
+    #[tactic(auto, using(sam_queue::proofs::Laws::items_of_mark))]
     fn serve<R: Wait, G: Gate>(
         &mut self,
         rt: &R,

@@ -82,6 +82,7 @@ fn leave<'q, R: Wait>(
 }
 
 /// Sends on the frames of the pieces that come, until the host has left. Returns what stopped it before that.
+#[tactic(auto, using(crate::proofs::Passes::goes_on, crate::proofs::Passes::leaves))]
 fn pass_pieces<R: Wait, G: Gate>(
     rt: &R,
     alloc: Global,

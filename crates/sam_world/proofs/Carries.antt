@@ -1,7 +1,5 @@
 -- What was handled begins what was composed.
-use Rattle.std.proofs.Common.{◌≡◌, ℕ, List, [], ◌∷◌, ◌++◌, refl, append_assoc, flat_map, arith}
-use Rattle.std.proofs.lemmas.List.{append_cancel_left}
-use Rattle.sam_world.specs.Sides.{Each}
+use Rattle.sam_world.proofs.Common.{◌≡◌, ℕ, List, [], ◌∷◌, ◌++◌, refl, append_assoc, flat_map, arith, append_cancel_left, Each}
 use Rattle.sam_world.specs.Streams.{Begins}
 
 -- no frame of a good message begins another good message's frame, and none is empty

@@ -1,16 +1,8 @@
 -- The files that a world is made with.
-use Rattle.std.proofs.Common.{◌≡◌, refl, ap, ℕ, zero, suc, ◌+◌, ◌≤◌, ◌<◌, List, [], ◌∷◌, ◌++◌, length, take, drop, All, arith, slice_index_or}
-use Rattle.std.proofs.lemmas.List.Elements.{All-head, All-tail}
-use Rattle.sam_runes.specs.Texts.{RoomyText, most_in_name}
-use Rattle.sam_host.specs.Given.{AreNames, given_of}
-use Rattle.sam_host.specs.Laws.{AreGiven}
-use Rattle.sam_world.specs.Given.{AreShort, IsFile}
+use Rattle.sam_world.proofs.Common.{◌≡◌, refl, ap, ℕ, suc, ◌+◌, ◌≤◌, ◌<◌, List, [], ◌∷◌, ◌++◌, length, take, drop, All, arith, drop_all, slice_index_or, All-head, All-tail, RoomyText, most_in_name, AreNames, given_of, AreGiven, AreShort, IsFile}
 
 pub none_left : (files : List (List ℕ × RoomyText)) (i : ℕ) → length files ≤ i → AreShort (drop i files)
-none_left [] zero l = tt
-none_left [] (suc i) l = tt
-none_left (file ∷ files) zero l = absurd (omega (arith, l))
-none_left (file ∷ files) (suc i) l = none_left files i (omega (arith, l))
+none_left files i l = grind (arith, drop_all)
 
 pub given_fits : (files : List (List ℕ × RoomyText)) → AreNames files → AreShort files → AreGiven (given_of files)
 given_fits [] names short = tt

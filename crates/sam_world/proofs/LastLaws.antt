@@ -1,16 +1,6 @@
 -- Each answer frees just the lock that its message took, by its last frame.
-use Rattle.std.proofs.Common.{◌≡◌, refl, ap, ◌∙◌, ℕ, Bool, true, false, List, [], ◌∷◌, ◌++◌, arith}
-use Rattle.sam_runes.specs.Texts.{common_version}
-use Rattle.sam_host.specs.Host.{PlainHost, reply_to, reply_version, reply_startsnarf}
-use Rattle.sam_host.proofs.EachFrame.{EachFrame, IsTold, Freed, Nothing, Command, File, end_frames, lock_freed, reply_ends}
-use Rattle.sam_term.specs.declared.lock.Lock.{Lock}
-use Rattle.sam_term.specs.declared.lock.Lock.TheVariants.{NoLock, CommandLock, FileLock}
-use Rattle.sam_term.specs.Events.{lock_of, freed_by, one_lock, all_freed}
-use Rattle.sam_mesg.specs.declared.tmesg.Tmesg.{Tmesg}
-use Rattle.sam_mesg.specs.declared.tmesg.Tmesg.TheVariants.{Tversion, Tstartsnarf}
-use Rattle.sam_mesg.specs.declared.hmesg.Hmesg.{Hmesg}
-use Rattle.sam_mesg.specs.declared.hmesg.Hmesg.TheVariants.{Hversion}
-use Rattle.sam_world.specs.Telling.{AnswersFree, AnswersFreeLast, is_answered}
+use Rattle.sam_world.proofs.Common.{◌≡◌, refl, ℕ, Bool, true, false, List, [], ◌∷◌, ◌++◌, arith, common_version, PlainHost, reply_to, reply_version, reply_startsnarf, EachFrame, IsTold, Freed, Nothing, Command, File, end_frames, lock_freed, reply_ends, Lock, NoLock, CommandLock, FileLock, Tmesg, Tversion, Tstartsnarf, Hmesg, Hversion, AnswersFree, AnswersFreeLast, is_answered}
+use Rattle.sam_term.specs.Events.{lock_of, all_freed}
 
 -- ## The lock that an answer frees is the one that its message took
 
@@ -34,20 +24,17 @@ record Frees (l : Freed) (frames : List Hmesg) : Type 0 where
 abbrev Any : List ℕ → Type 0
 Any s = Unit {0}
 
-told_frees : (m : Hmesg) → IsTold Any m → one_lock (freed_by m) ≡ []
-told_frees m e = grind arith
-
 freed-none : (ms : List Hmesg) → EachFrame (IsTold Any) ms → all_freed ms ≡ []
 unfolding all_freed
 freed-none [] told = refl
-freed-none (m ∷ ms) told = ap (λ front. front ++ all_freed ms) (told_frees m told.0) ∙ freed-none ms told.1
+freed-none (m ∷ ms) told = grind (arith, (freed-none ms told.1))
 
 frees : (h : PlainHost) (m : Tmesg) → Frees (lock_freed h m) (reply_to h m).1
 unfolding reply_version reply_startsnarf all_freed
 frees h (Tversion v) =
     let k = reply_ends Any (λ s short. tt) h (Tversion v) (λ f. tt) in
     let agreed = Hversion (common_version v) in
-    record { front = agreed ∷ k.front; quits = k.quits; is = ap (λ (ms : List Hmesg). agreed ∷ ms) k.is; none = freed-none k.front k.told }
+    record { front = agreed ∷ k.front; quits = k.quits; is = cc k.is; none = freed-none k.front k.told }
 frees h Tstartsnarf = record { front = (reply_startsnarf h).1; quits = false; is = refl; none = refl }
 frees h m = let k = reply_ends Any (λ s short. tt) h m (λ f. tt) in record { front = k.front; quits = k.quits; is = k.is; none = freed-none k.front k.told }
 
@@ -63,10 +50,4 @@ freed-append (x ∷ xs) ys = grind (arith, (freed-append xs ys))
 
 pub reply_frees : AnswersFree
 unfolding all_freed
-reply_frees h m e =
-    let k = frees h m in
-    let l = lock_freed h m in
-    grind (arith, (frees h m), (freed-append k.front (end_frames l k.quits)), (end l k.quits), (same_lock h m e))
-  where
-    end : (l : Freed) (b : Bool) → all_freed (end_frames l b) ≡ one_lock (lock_in l)
-    end l b = grind arith
+reply_frees h m e = grind (arith, (frees h m), freed-append, (same_lock h m e))

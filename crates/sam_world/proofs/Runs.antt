@@ -1,29 +1,13 @@
 -- Runs, step by step, and what a drain has done.
-use Rattle.std.proofs.Common.{◌≡◌, ◌⊎◌, inl, inr, refl, ap, ◌∙◌, subst, ◌<◌, ◌+◌, ◌-◌, ℕ, zero, suc, Bool, true, List, [], ◌∷◌, take, length, Option, Some, None, arith, option_and_then, slice_index_or, not, if◌then◌else◌, MatchOption}
-use Rattle.std.proofs.lemmas.Option.{same_Some}
-use Rattle.sam_runes.specs.Texts.{is_empty}
-use Rattle.sam_world.specs.World.{PlainWorld, step_of, run_of, next_event, drained}
-use Rattle.sam_world.specs.Faults.{Advances, HasMade, IsDrainedUpTo, IsFaultOf, IsNextFault}
-use Rattle.sam_world.specs.declared.event.Event.{Event}
-use Rattle.sam_world.specs.declared.event.Event.TheVariants.{Act, Flush, HostTake, TermTake}
+use Rattle.sam_world.proofs.Common.{◌≡◌, ◌⊎◌, inl, inr, refl, ap, ◌∙◌, ◌<◌, ◌+◌, ◌-◌, ℕ, zero, suc, true, List, [], ◌∷◌, take, length, Option, Some, None, arith, option_and_then, slice_index_or, is_empty, PlainWorld, step_of, run_of, next_event, drained, Advances, HasMade, IsDrainedUpTo, IsFaultOf, IsNextFault, Event, Act, NothingThere, OutOfMemory, CountFull}
 use Rattle.sam_world.specs.declared.event.StepFault.{StepFault}
-use Rattle.sam_world.specs.declared.event.StepFault.TheVariants.{NothingThere, OutOfMemory, CountFull}
 use Rattle.sam_world.proofs.Stopping.{passing_stops}
 
 -- a run of the first i events and then the next one
 pub run_more : (w v u : PlainWorld) (es : List Event) (i : ℕ) (d : Event)
     → i < length es → run_of w (take i es) ≡ Some v → step_of v (slice_index_or es i d) ≡ Some u → run_of w (take (i + 1) es) ≡ Some u
-run_more w v u (e ∷ es) (suc i) d l r s = grind (arith, (go (step_of w e) (λ n q. run_more n v u es i d (omega (arith, l)) q s) r))
-  where
-    go : (o : Option PlainWorld) → ((n : PlainWorld) → run_of n (take i es) ≡ Some v → run_of n (take (i + 1) es) ≡ Some u)
-        → option_and_then (λ n. run_of n (take i es)) o ≡ Some v → option_and_then (λ n. run_of n (take (i + 1) es)) o ≡ Some u
-    go o e w = grind arith
+run_more w v u (e ∷ es) (suc i) d l r s = grind (arith, (λ (n : PlainWorld) (q : run_of n (take i es) ≡ Some v). run_more n v u es i d (omega (arith, l)) q s))
 run_more w v u es i d e q y = grind arith
-
--- ## The rule
-
-rule : Bool → Bool → Bool → Bool → Option Event
-rule a b c d = if not a then Some HostTake else if not b then Some TermTake else if c then Some Act else if d then Some Flush else None
 
 -- ## Where a drain leads
 
@@ -39,15 +23,8 @@ drained_still n w e = grind arith
 drained_then : (i k : ℕ) (w v : PlainWorld) → drained i w ≡ Some v → drained (i + k) w ≡ drained k v
 drained_then zero k w v d = grind arith
 drained_then (suc i) k w v d =
-    let one : suc (i + k) ≡ suc i + k = omega arith in
-    subst (λ n. drained n w ≡ drained k v) one (go (next_event w) (λ n r. drained_then i k n v r) refl d)
-  where
-    go : (o : Option Event) → ((n : PlainWorld) → drained i n ≡ Some v → drained (i + k) n ≡ drained k v) → next_event w ≡ o → elim o [
-      | None ↦ Some w
-      | Some x ↦
-          option_and_then (drained i) (step_of w x)
-    ] ≡ Some v → elim o [ None ↦ Some w | Some x ↦ option_and_then (drained (i + k)) (step_of w x) ] ≡ drained k v
-    go o e u q = grind (arith, drained_still, same_Some)
+    let one : suc i + k ≡ suc (i + k) = omega arith in
+    rw one (grind (arith, drained_still, (λ (n : PlainWorld) (r : drained i n ≡ Some v). drained_then i k n v r)))
 
 -- one event more
 pub drained_more : (i : ℕ) (w v u : PlainWorld) → drained i w ≡ Some v → Advances v u → drained (i + 1) w ≡ Some u
@@ -64,8 +41,7 @@ drained_stops (suc n) w v d = go (next_event w) (λ u r. drained_stops n u v r) 
   where
     first : (x : Event) (u : PlainWorld) → step_of w x ≡ Some u → (next_event v ≡ None) ⊎ HasMade n u v → (next_event v ≡ None) ⊎ HasMade (suc n) w v
     first x u stepped (inl none) = inl none
-    first x u stepped (inr made) =
-        inr (record { events = x ∷ made.events; many = ap suc made.many; leads = ap (λ o. option_and_then (λ next. run_of next made.events) o) stepped ∙ made.leads })
+    first x u stepped (inr made) = inr (record { events = x ∷ made.events; many = ap suc made.many; leads = rw stepped made.leads })
 
     past : (x : Event) (o : Option PlainWorld) → step_of w x ≡ o → ((u : PlainWorld) → drained n u ≡ Some v → (next_event v ≡ None) ⊎ HasMade n u v)
         → option_and_then (drained n) o ≡ Some v → (next_event v ≡ None) ⊎ HasMade (suc n) w v
@@ -73,13 +49,9 @@ drained_stops (suc n) w v d = go (next_event w) (λ u r. drained_stops n u v r) 
 
     go : (o : Option Event) → ((u : PlainWorld) → drained n u ≡ Some v → (next_event v ≡ None) ⊎ HasMade n u v)
         → next_event w ≡ o → elim o [ None ↦ Some w | Some x ↦ option_and_then (drained n) (step_of w x) ] ≡ Some v → (next_event v ≡ None) ⊎ HasMade (suc n) w v
-    go None more none q = inl (subst (λ x. next_event x ≡ None) (same_Some w v q) none)
-    go (Some x) more next q = past x (step_of w x) refl more q
+    go o more next q = grind (arith, (λ (x : Event). past x (step_of w x) refl))
 
 -- ## Where it meets a fault
-
-differs : ◌≡◌ {A = StepFault} NothingThere OutOfMemory → ⊥
-differs e = cc
 
 full_differs : ◌≡◌ {A = StepFault} CountFull OutOfMemory → ⊥
 full_differs e = cc
@@ -90,13 +62,8 @@ never_nothing n w v d = grind arith
 
 -- a full count leads nowhere
 pub full_is_none : (n : ℕ) (w v : PlainWorld) → IsDrainedUpTo n w v CountFull → drained n w ≡ None
-full_is_none n w v d = go (next_event v) refl d.fault
-  where
-    go : (o : Option Event) → next_event v ≡ o → MatchOption o (CountFull ≡ OutOfMemory) (λ e. IsFaultOf v e CountFull) → drained n w ≡ None
-    go None none f = absurd (full_differs f)
-    go (Some e) next f = grind (arith, (drained_then d.done (suc (n - d.done - 1)) w v d.leads), (passing_stops v e f))
+full_is_none n w v d = grind (arith, full_differs, (drained_then d.done (suc (n - d.done - 1)) w v d.leads), (passing_stops v))
 
 -- why an act that was tried was not made says why nothing more was
 pub tried_in_vain : (w : PlainWorld) (why : StepFault) → is_empty w.up ≡ true → is_empty w.down ≡ true → IsFaultOf w Act why → IsNextFault w why
-unfolding rule
 tried_in_vain w why up down f = grind arith

@@ -1,6 +1,5 @@
 -- Batches one behind the other.
-use Rattle.std.proofs.Common.{◌≡◌, List, [], ◌∷◌, ◌++◌, map, append-nil, arith, append_assoc}
-use Rattle.sam_world.specs.UnderWay.{joined, AreFilled}
+use Rattle.sam_world.proofs.Common.{◌≡◌, List, [], ◌∷◌, ◌++◌, map, append-nil, arith, append_assoc, joined, AreFilled}
 
 pub joined-behind : {B M : Type 0} (items : B → List M) (batches : List B) (batch : B) → joined (map items (batches ++ batch ∷ [])) ≡ joined (map items batches) ++ items batch
 joined-behind items [] batch = append-nil (items batch)

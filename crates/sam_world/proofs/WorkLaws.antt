@@ -1,16 +1,7 @@
 -- The host's work file is open at the start, and stays so with each file that is added and each answer.
-use Rattle.std.proofs.Common.{◌≡◌, refl, ap, ◌∙◌, ℕ, true, List, Option, None, arith, unwrap_or}
-use Rattle.sam_runes.specs.Checks.{first_of_checks}
-use Rattle.sam_runes.proofs.SlotLaws.{slot-put_same, slot-map, slot-free_other}
-use Rattle.sam_text.specs.Files.{opened_file, PlainFile, PlainFiles, PlainOutcome, blank_file, file_at, put_file, put_outcome, committed, announce_all}
+use Rattle.sam_world.proofs.Common.{◌≡◌, refl, ap, ◌∙◌, ℕ, true, List, Option, None, arith, unwrap_or, first_of_checks, slot-put_same, slot-map, slot-free_other, opened_file, PlainFile, PlainFiles, PlainOutcome, blank_file, file_at, put_file, put_outcome, committed, answer_is, of_answer, PlainHost, host_checks, reply_to, Tmesg, HFrame, PlainWorld, new_world, WasReached, IsWorkOpen, AddedFilesKeepWorkOpen, AnswersKeepWorkOpen}
+use Rattle.sam_text.specs.Files.{announce_all}
 use Rattle.sam_host.proofs.Keeping.{IsKept, reply_keeps}
-use Rattle.sam_host.proofs.SoundLaws.{answer_is, of_answer}
-use Rattle.sam_host.specs.Host.{PlainHost, host_checks, reply_to}
-use Rattle.sam_mesg.specs.declared.tmesg.Tmesg.{Tmesg}
-use Rattle.sam_mesg.specs.declared.hmesg.HFrame.{HFrame}
-use Rattle.sam_world.specs.World.{PlainWorld, new_world}
-use Rattle.sam_world.specs.Reached.{WasReached}
-use Rattle.sam_world.specs.Telling.{IsWorkOpen, StartsWithWorkOpen, AddedFilesKeepWorkOpen, AnswersKeepWorkOpen}
 use Rattle.sam_world.proofs.RunLaws.{run_keeps}
 use Rattle.sam_world.proofs.TextLaws.{file_at-put, not-new, work-put}
 use Rattle.sam_world.proofs.Within.{host_step}
@@ -38,9 +29,6 @@ reply_work h m checked w = reply_keeps IsWorkOpen work_kept h m checked (λ f is
 
 -- ## The laws
 
-pub starts_with_work_open : StartsWithWorkOpen
-starts_with_work_open given = tt
-
 -- an open file is none under the next tag
 pub added_files_keep_work_open : AddedFilesKeepWorkOpen
 added_files_keep_work_open h given w = grind (arith, file_at-put, not-new)
@@ -53,4 +41,4 @@ answers_keep_work_open h g m frames e w =
 -- so it is open in every world
 pub work_of : (w : PlainWorld) → WasReached w → IsWorkOpen w.host.files
 work_of w r =
-    run_keeps (λ v. IsWorkOpen v.host.files) (host_step (λ h. IsWorkOpen h.files) answers_keep_work_open) (new_world r.given) r.reached.0 w (starts_with_work_open r.given) r.reached.1
+    run_keeps (λ v. IsWorkOpen v.host.files) (host_step (λ h. IsWorkOpen h.files) answers_keep_work_open) (new_world r.given) r.reached.0 w tt r.reached.1

@@ -1,6 +1,4 @@
-use Rattle.std.proofs.Common.{rules, arith, ◌∙◌, refl, length-set}
-use Rattle.sam_rasp.proofs.SectionLaws.{length-cells}
-use Rattle.sam_rasp.specs.Sections.{cells}
+use Rattle.sam_ends.proofs.Common.{rules, arith, ◌∙◌, refl, length-set, length-cells, cells}
 use Rattle.sam_ends.proofs.Members.{one-more}
 use Rattle.sam_ends.proofs.drawing.copy_section.Goals as goal
 

@@ -1,6 +1,4 @@
-use Rattle.std.proofs.Common.{◌≡◌, ◌++◌, ◌+◌, drop, length, take, map}
-use Rattle.sam_rasp.specs.Sections.{cells}
-use Rattle.sam_ends.specs.Drawing.{drawn}
+use Rattle.sam_ends.proofs.Common.{◌≡◌, ◌++◌, ◌+◌, drop, length, take, map, cells, drawn}
 use Rattle.sam_ends.proofs.drawing.copy_section.Given as goal
 
 abbrev pub invariant-loop-next : goal.invariant-loop-next

@@ -1,8 +1,5 @@
-use Rattle.std.proofs.Common.{rules, arith, ap, sym, subst, ◌+◌, ◌++◌, length, length-append, inr, take}
-use Rattle.sam_rasp.proofs.SectionLaws.{length-cells}
+use Rattle.sam_ends.proofs.Common.{rules, arith, ap, sym, subst, ◌+◌, ◌++◌, length, length-append, inr, take, length-cells, cells, cells_of, Shows}
 use Rattle.sam_rasp.proofs.Runs.{cells-before}
-use Rattle.sam_rasp.specs.Sections.{cells, cells_of}
-use Rattle.sam_ends.specs.Drawing.{Shows}
 use Rattle.sam_ends.proofs.Members.{full-front, section-more, section-none}
 use Rattle.sam_ends.proofs.drawing.read_cells.Goals.{then-skip-len, else-skip-len}
 use Rattle.sam_ends.proofs.drawing.read_cells.Goals as goal

@@ -1,6 +1,4 @@
-use Rattle.std.proofs.Common.{◌≡◌, ◌-◌, length, take}
-use Rattle.sam_rasp.specs.Sections.{cells_of}
-use Rattle.sam_ends.specs.Drawing.{Shows}
+use Rattle.sam_ends.proofs.Common.{◌≡◌, ◌-◌, length, take, cells_of, Shows}
 use Rattle.sam_ends.proofs.drawing.read_cells.Given as goal
 
 abbrev pub invariant-loop-section : goal.invariant-loop-section

@@ -1,5 +1,4 @@
-use Rattle.std.proofs.Common.{ap, ◌∙◌, length, List, ℕ, chars}
-use Rattle.std.proofs.lemmas.Str.{is_utf8-from_IsUtf8}
+use Rattle.sam_ends.proofs.Common.{ap, ◌∙◌, length, List, ℕ, chars, is_utf8-from_IsUtf8}
 use Rattle.sam_ends.proofs.HostEndFiles.{not_text}
 use Rattle.sam_ends.proofs.host_end.runes_in.Goals as goal
 

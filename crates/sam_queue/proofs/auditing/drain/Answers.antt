@@ -1,9 +1,4 @@
-use Rattle.std.proofs.Common.{[], ◌∷◌, subst, arith, length-append, rules}
-use Rattle.crossbeam_queue.specs.Passes.{view}
-use Rattle.crossbeam_queue.specs.Fifo.{Held}
-use Rattle.sam_queue.specs.declared.rule.Port.{Port}
-use Rattle.sam_queue.specs.Rule.{Takes, Whole}
-use Rattle.sam_queue.specs.Ports.{seen_in}
+use Rattle.sam_queue.proofs.Common.{[], ◌∷◌, subst, arith, length-append, rules, view, Held, Port, Takes, Whole, seen_in}
 use Rattle.sam_queue.proofs.Drains.{full_wholes, full_takes, full_still, full_more, full_begins_still, full_until, full_drained}
 use Rattle.sam_queue.proofs.auditing.drain.Goals as goal
 
@@ -17,19 +12,17 @@ pop_as-requires-clause-rule g c =
 
 pub unreachable-requires : goal.unreachable-requires
 unreachable-requires g c =
-    let T : Type 0 = g.row.T.Denot in
-    let none = subst (λ (v : Port T). Held 0 (Whole v)) c.loop.invariant.knows c.in-None.ensures.rule.1 in
+    let none = subst (λ (v : Port g.row.T.Denot). Held 0 (Whole v)) c.loop.invariant.knows c.in-None.ensures.rule.1 in
     let n = full_until (view c.args.pass.now) c.loop.entries.items (seen_in (view c.loop.pass)) c.len_as-held.result c.requires.knows c.len_as-held.ensures.rule.1 none in
     omega (arith, n, c.loop.invariant.many, c.loop-test.true)
 
 pub loop-preserved : goal.loop-preserved
 loop-preserved g c =
-    let T : Type 0 = g.row.T.Denot in
     let inv = c.loop.invariant in
     let e = c.in-Some.entry in
     let w = view c.pop_as.new.pass in
     let v = view c.args.pass.now in
-    let took = subst (λ (u : Port T). Takes u e w) inv.knows c.in-Some.ensures.rule in
+    let took = subst (λ (u : Port g.row.T.Denot). Takes u e w) inv.knows c.in-Some.ensures.rule in
     let pushed = c.push_reserved.ensures.items in
     grind (
       arith,
@@ -45,8 +38,7 @@ learn_as-requires-clause-rule g c =
 
 pub returns-clause-all : goal.returns-clause-all
 returns-clause-all g c =
-    let T : Type 0 = g.row.T.Denot in
     let inv = c.loop.invariant in
     let rule = c.learn_as.ensures.rule in
     full_drained (view c.args.pass.now) c.loop.entries.items (seen_in (view c.loop.pass)) c.len_as-held.result c.requires.knows inv.begins c.len_as-held.ensures.rule.1
-    (omega (arith, inv.many, c.loop-test.false, c.loop.auto.counter-end)) (rule.0, subst (λ (u : Port T). Whole u rule.0) inv.knows rule.1)
+    (omega (arith, inv.many, c.loop-test.false, c.loop.auto.counter-end)) (rule.0, subst (λ (u : Port g.row.T.Denot). Whole u rule.0) inv.knows rule.1)

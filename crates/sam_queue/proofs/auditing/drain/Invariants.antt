@@ -1,7 +1,4 @@
-use Rattle.std.proofs.Common.{◌≡◌, ◌≤◌, [], length, vec_capacity}
-use Rattle.crossbeam_queue.specs.Passes.{view}
-use Rattle.sam_queue.specs.History.{StartsWith}
-use Rattle.sam_queue.specs.Ports.{seen_in, took_all}
+use Rattle.sam_queue.proofs.Common.{◌≡◌, ◌≤◌, [], length, vec_capacity, view, StartsWith, seen_in, took_all}
 use Rattle.sam_queue.proofs.auditing.drain.Given as goal
 
 abbrev pub invariant-loop : goal.invariant-loop

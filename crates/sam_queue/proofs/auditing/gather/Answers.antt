@@ -1,9 +1,4 @@
-use Rattle.std.proofs.Common.{◌++◌, map, sym, ap, ◌∙◌}
-use Rattle.std.proofs.lemmas.List.{length-map}
-use Rattle.std.specs.Vec.Iter.{into_iter_items}
-use Rattle.crossbeam_queue.specs.Passes.{view}
-use Rattle.sam_queue.specs.Views.{PostView}
-use Rattle.sam_queue.specs.Ports.{sent_of}
+use Rattle.sam_queue.proofs.Common.{◌++◌, map, sym, ap, ◌∙◌, length-map, into_iter_items, view, PostView, sent_of}
 use Rattle.sam_queue.proofs.Drains.{bare_gathers, of_next}
 use Rattle.sam_queue.proofs.auditing.gather.Goals as goal
 

@@ -1,7 +1,4 @@
-use Rattle.std.proofs.Common.{◌≡◌, ◌≤◌, ◌++◌, length, map, vec_capacity}
-use Rattle.std.specs.Vec.Iter.{into_iter_items}
-use Rattle.crossbeam_queue.specs.Passes.{view, IsSamePass}
-use Rattle.sam_queue.specs.Ports.{sent_of, with_posts}
+use Rattle.sam_queue.proofs.Common.{◌≡◌, ◌≤◌, ◌++◌, length, map, vec_capacity, into_iter_items, view, IsSamePass, sent_of, with_posts}
 use Rattle.sam_queue.proofs.auditing.gather.Given as goal
 
 abbrev pub invariant-loop-post : goal.invariant-loop-post

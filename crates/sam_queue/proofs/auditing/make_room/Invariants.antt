@@ -1,5 +1,4 @@
-use Rattle.std.proofs.Common.{◌≡◌, ◌≤◌, [], length, vec_capacity}
-use Rattle.sam_queue.specs.Sorts.{IsRoom}
+use Rattle.sam_queue.proofs.Common.{◌≡◌, ◌≤◌, [], length, vec_capacity, IsRoom}
 use Rattle.sam_queue.proofs.auditing.make_room.Given as goal
 
 abbrev pub invariant-loop : goal.invariant-loop

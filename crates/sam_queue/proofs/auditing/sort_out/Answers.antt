@@ -1,8 +1,4 @@
-use Rattle.std.proofs.Common.{◌≡◌, [], ◌∷◌, ◌++◌, length, sym, refl, ◌∙◌, append_assoc, append-nil, arith, length-set}
-use Rattle.std.specs.Vec.Iter.{into_iter_items}
-use Rattle.sam_queue.specs.History.{items_of}
-use Rattle.std.proofs.lemmas.Option.{slice_get_read}
-use Rattle.std.proofs.lemmas.List.{nil_from_length}
+use Rattle.sam_queue.proofs.Common.{◌≡◌, [], ◌∷◌, ◌++◌, length, sym, refl, ◌∙◌, append_assoc, append-nil, arith, length-set, into_iter_items, items_of, slice_get_read, nil_from_length}
 use Rattle.sam_queue.proofs.Sorts.{room_left, sender_within, sorted_item, sorted_mark}
 use Rattle.sam_queue.proofs.auditing.sort_out.Goals as goal
 
@@ -10,46 +6,39 @@ pub push_reserved-requires : goal.push_reserved-requires
 push_reserved-requires g c =
     let inv = c.loop-entry.invariant in
     let before = c.loop-entry.yielded in
-    let all = c.args.entries.items in
     let e = c.in-Some.entry in
-    let after = into_iter_items c.next.new.self in
     let split = (λ k. before ++ sym c.in-Some.ensures.steps.0 k) ∙ inv.all in
-    let within = sender_within (length c.args.left.now.items) before after all e c.requires.senders split in
+    let within = sender_within (length c.args.left.now.items) before (into_iter_items c.next.new.self) c.args.entries.items e c.requires.senders split in
     let here = slice_get_read c.loop-entry.left.items _ e.sender c.index_mut.result.now refl (omega (arith, inv.many, within)) c.index_mut.ensures.value in
-    let room = room_left (length all) e.sender before after all e c.loop-entry.left.items c.index_mut.result.now inv.sorted here split refl in
+    let room = room_left (length c.args.entries.items) e.sender before (into_iter_items c.next.new.self) c.args.entries.items e
+    c.loop-entry.left.items c.index_mut.result.now inv.sorted here split refl in
     omega (arith, room, c.index_mut.result.now.ok.0)
 
 pub loop-entry-preserved-in-Some-load : goal.loop-entry-preserved-in-Some-load
 loop-entry-preserved-in-Some-load g c =
     let inv = c.loop-entry.invariant in
     let before = c.loop-entry.yielded in
-    let all = c.args.entries.items in
     let e = c.in-Some.entry in
-    let after = into_iter_items c.next.new.self in
     let split = (λ k. before ++ sym c.in-Some.ensures.steps.0 k) ∙ inv.all in
-    let within = sender_within (length c.args.left.now.items) before after all e c.requires.senders split in
+    let within = sender_within (length c.args.left.now.items) before (into_iter_items c.next.new.self) c.args.entries.items e c.requires.senders split in
     let here = slice_get_read c.loop-entry.left.items _ e.sender c.index_mut.result.now refl (omega (arith, inv.many, within)) c.index_mut.ensures.value in
     record {
       goes_on = (tt, tt);
-      all = append_assoc before (e ∷ []) after ∙ split;
+      all = append_assoc before (e ∷ []) (into_iter_items c.next.new.self) ∙ split;
       many = length-set c.loop-entry.left.items e.sender c.push_reserved.new.self ∙ inv.many;
-      sorted = sorted_item (length all) before c.loop-entry.left.items e c.in-Some-load.item
+      sorted = sorted_item (length c.args.entries.items) before c.loop-entry.left.items e c.in-Some-load.item
           c.index_mut.result.now c.push_reserved.new.self inv.sorted c.in-Some-load.is here c.push_reserved.ensures.items c.push_reserved.ensures.capacity;
     }
 
 pub loop-entry-preserved : goal.loop-entry-preserved
 loop-entry-preserved g c =
-    let inv = c.loop-entry.invariant in
     let before = c.loop-entry.yielded in
-    let all = c.args.entries.items in
-    let e = c.in-Some.entry in
-    let after = into_iter_items c.next.new.self in
-    let split = (λ k. before ++ sym c.in-Some.ensures.steps.0 k) ∙ inv.all in
+    let split = (λ k. before ++ sym c.in-Some.ensures.steps.0 k) ∙ c.loop-entry.invariant.all in
     record {
       goes_on = (tt, tt);
-      all = append_assoc before (e ∷ []) after ∙ split;
-      many = inv.many;
-      sorted = sorted_mark (length all) before c.loop-entry.left.items e inv.sorted c.in_default.is;
+      all = append_assoc before (c.in-Some.entry ∷ []) (into_iter_items c.next.new.self) ∙ split;
+      many = c.loop-entry.invariant.many;
+      sorted = sorted_mark (length c.args.entries.items) before c.loop-entry.left.items c.in-Some.entry c.loop-entry.invariant.sorted c.in_default.is;
     }
 
 pub returns-clause-sorted : goal.returns-clause-sorted

@@ -1,6 +1,4 @@
-use Rattle.std.proofs.Common.{◌≡◌, ◌++◌, length}
-use Rattle.std.specs.Vec.Iter.{into_iter_items}
-use Rattle.sam_queue.specs.Sorts.{IsSortedInto}
+use Rattle.sam_queue.proofs.Common.{◌≡◌, ◌++◌, length, into_iter_items, IsSortedInto}
 use Rattle.sam_queue.proofs.auditing.sort_out.Given as goal
 
 abbrev pub invariant-loop-entry : goal.invariant-loop-entry

@@ -1,7 +1,4 @@
-use Rattle.std.proofs.Common.{◌≡◌, List, length, All}
-use Rattle.std.specs.List.{AllWithin}
-use Rattle.sam_rasp.specs.Sections.{IsBegin, IsChange}
-use Rattle.sam_rasp.specs.declared.section.Section.{Section}
+use Rattle.sam_rasp.proofs.Common.{◌≡◌, List, length, All, AllWithin, IsBegin, IsChange, Section}
 use Rattle.sam_rasp.proofs.marks.move_all.Given as goal
 
 abbrev pub invariant-loop-i : goal.invariant-loop-i

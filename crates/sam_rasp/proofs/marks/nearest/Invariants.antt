@@ -1,5 +1,4 @@
-use Rattle.std.proofs.Common.{◌≤◌}
-use Rattle.sam_rasp.specs.Sections.{IsBegin}
+use Rattle.sam_rasp.proofs.Common.{◌≤◌, IsBegin}
 use Rattle.sam_rasp.proofs.marks.nearest.Given as goal
 
 abbrev pub invariant-loop-mark : goal.invariant-loop-mark

@@ -1,6 +1,4 @@
-use Rattle.std.proofs.Common.{◌≤◌, drop, length, ◌↔◌}
-use Rattle.sam_rasp.specs.Rasp.{Agrees}
-use Rattle.sam_rasp.specs.Sections.{cells_of}
+use Rattle.sam_rasp.proofs.Common.{◌≤◌, drop, length, ◌↔◌, Agrees, cells_of}
 use Rattle.sam_rasp.proofs.walking.agree_with.Given as goal
 
 abbrev pub invariant-loop-section : goal.invariant-loop-section

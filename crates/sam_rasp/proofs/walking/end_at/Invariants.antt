@@ -1,5 +1,4 @@
-use Rattle.std.proofs.Common.{◌≤◌, ◌-◌, length}
-use Rattle.sam_rasp.specs.Sections.{IsBegin}
+use Rattle.sam_rasp.proofs.Common.{◌≤◌, ◌-◌, length, IsBegin}
 use Rattle.sam_rasp.proofs.walking.end_at.Given as goal
 
 abbrev pub invariant-loop-at : goal.invariant-loop-at

@@ -1,8 +1,5 @@
-use Rattle.std.proofs.lemmas.Str.{length-encode}
-use Rattle.std.proofs.lemmas.Grind.{common_steps}
-use Rattle.std.proofs.Common.{arith, length, length-drop}
+use Rattle.sam_runes.proofs.Common.{length-encode, common_steps, arith, length, length-drop, between_to_end}
 use Rattle.std.proofs.lemmas.Bool.Decides.{nat_tests}
-use Rattle.std.proofs.lemmas.Slice.{between_to_end}
 use Rattle.sam_runes.proofs.Codes.{read-more, left-none}
 use Rattle.sam_runes.proofs.codec.read_utf8.Goals as goal
 

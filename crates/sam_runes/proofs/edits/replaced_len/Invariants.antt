@@ -1,5 +1,4 @@
-use Rattle.std.proofs.Common.{◌≡◌, ◌≤◌, ◌+◌, drop, length}
-use Rattle.sam_runes.specs.Edits.{AscendFrom, replaced_from, replace}
+use Rattle.sam_runes.proofs.Common.{◌≡◌, ◌≤◌, ◌+◌, drop, length, AscendFrom, replaced_from, replace}
 use Rattle.sam_runes.proofs.edits.replaced_len.Given as goal
 
 abbrev pub invariant-loop-edit : goal.invariant-loop-edit

@@ -1,5 +1,4 @@
-use Rattle.std.proofs.lemmas.Grind.{common_steps}
-use Rattle.std.proofs.Common.{arith}
+use Rattle.sam_runes.proofs.Common.{common_steps, arith}
 use Rattle.sam_runes.proofs.FirstRunes.{none_begins}
 use Rattle.sam_runes.proofs.first.first_rune.Goals as goal
 

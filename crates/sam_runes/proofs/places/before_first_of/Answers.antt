@@ -1,6 +1,4 @@
-use Rattle.std.proofs.Common.{◌≡◌, ◌==◌, drop, get_or, ap, ◌∙◌, position}
-use Rattle.std.proofs.lemmas.Grind.{get_or_default_zero}
-use Rattle.std.proofs.lemmas.List.{take_rest}
+use Rattle.sam_runes.proofs.Common.{◌≡◌, ◌==◌, drop, get_or, ap, ◌∙◌, position, get_or_default_zero, take_rest}
 use Rattle.sam_runes.proofs.places.before_first_of.Goals as goal
 
 pub returns : goal.returns

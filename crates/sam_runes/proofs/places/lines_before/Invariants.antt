@@ -1,5 +1,4 @@
-use Rattle.std.proofs.Common.{◌≡◌, ◌≤◌, length}
-use Rattle.sam_runes.specs.Texts.{lines_before}
+use Rattle.sam_runes.proofs.Common.{◌≡◌, ◌≤◌, length, lines_before}
 use Rattle.sam_runes.proofs.places.lines_before.Given as goal
 
 abbrev pub invariant-loop-at : goal.invariant-loop-at

@@ -1,5 +1,4 @@
-use Rattle.std.proofs.Common.{◌≡◌, ◌+◌, drop, length}
-use Rattle.sam_runes.specs.Texts.{prefix_in_bytes}
+use Rattle.sam_runes.proofs.Common.{◌≡◌, ◌+◌, drop, length, prefix_in_bytes}
 use Rattle.sam_runes.proofs.places.prefix_in_bytes.Given as goal
 
 abbrev pub invariant-loop-at : goal.invariant-loop-at

@@ -1,5 +1,4 @@
-use Rattle.std.proofs.Common.{◌≡◌, ◌++◌, take, flat_map, string_bytes}
-use Rattle.sam_script.specs.RunLines.{event_line}
+use Rattle.sam_script.proofs.Common.{◌≡◌, ◌++◌, take, flat_map, string_bytes, event_line}
 use Rattle.sam_script.proofs.lines_of_run.push_events.Given as goal
 
 abbrev pub invariant-loop-event : goal.invariant-loop-event

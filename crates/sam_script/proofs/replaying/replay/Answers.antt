@@ -1,5 +1,4 @@
-use Rattle.std.proofs.Common.{◌≡◌, ◌<◌, ◌++◌, subst, length, slice_index_or, string_bytes, Ok}
-use Rattle.sam_script.specs.Replay.{after_line, printed_by}
+use Rattle.sam_script.proofs.Common.{◌≡◌, ◌<◌, ◌++◌, subst, length, slice_index_or, string_bytes, Ok, after_line, printed_by}
 use Rattle.sam_script.proofs.Replays.{line_more}
 use Rattle.sam_script.proofs.replaying.replay.Goals as goal
 

@@ -1,6 +1,4 @@
-use Rattle.std.proofs.Common.{◌≡◌, drop, string_bytes}
-use Rattle.sam_world.specs.World.{new_world}
-use Rattle.sam_script.specs.Replay.{replayed_from, behind}
+use Rattle.sam_script.proofs.Common.{◌≡◌, drop, string_bytes, new_world, replayed_from, behind}
 use Rattle.sam_script.proofs.replaying.replay.Given as goal
 
 -- what was printed, and then what the lines that are left print

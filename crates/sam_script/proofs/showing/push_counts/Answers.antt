@@ -1,5 +1,4 @@
-use Rattle.std.proofs.Common.{append_assoc}
-use Rattle.std.proofs.lemmas.Result.{IfOk-equal}
+use Rattle.sam_script.proofs.Common.{append_assoc, IfOk-equal}
 use Rattle.sam_script.proofs.showing.push_counts.Goals as goal
 
 pub returns : goal.returns

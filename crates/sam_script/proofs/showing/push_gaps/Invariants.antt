@@ -1,5 +1,4 @@
-use Rattle.std.proofs.Common.{◌≡◌, ◌++◌, replicate, None, string_bytes}
-use Rattle.sam_script.specs.Show.{rasp_shown}
+use Rattle.sam_script.proofs.Common.{◌≡◌, ◌++◌, replicate, None, string_bytes, rasp_shown}
 use Rattle.sam_script.proofs.showing.push_gaps.Given as goal
 
 abbrev pub invariant-loop-gap : goal.invariant-loop-gap

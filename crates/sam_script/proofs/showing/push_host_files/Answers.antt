@@ -1,5 +1,4 @@
-use Rattle.std.proofs.Common.{◌++◌, ◌∙◌, ◌<◌, ap, None, string_bytes, subst}
-use Rattle.sam_script.specs.Show.{host_slot}
+use Rattle.sam_script.proofs.Common.{◌++◌, ◌∙◌, ◌<◌, ap, None, string_bytes, subst, host_slot}
 use Rattle.sam_script.proofs.ShowLaws.{slots_step, slot_there}
 use Rattle.sam_script.proofs.showing.push_host_files.Goals as goal
 

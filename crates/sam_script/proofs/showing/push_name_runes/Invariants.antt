@@ -1,5 +1,4 @@
-use Rattle.std.proofs.Common.{◌≡◌, ◌++◌, take, flat_map, string_bytes}
-use Rattle.sam_script.specs.Show.{name_rune}
+use Rattle.sam_script.proofs.Common.{◌≡◌, ◌++◌, take, flat_map, string_bytes, name_rune}
 use Rattle.sam_script.proofs.showing.push_name_runes.Given as goal
 
 abbrev pub invariant-loop-rune : goal.invariant-loop-rune

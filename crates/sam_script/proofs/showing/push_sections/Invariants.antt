@@ -1,6 +1,5 @@
-use Rattle.std.proofs.Common.{◌≡◌, ◌++◌, take, string_bytes}
+use Rattle.sam_script.proofs.Common.{◌≡◌, ◌++◌, take, string_bytes, rasp_shown}
 use Rattle.sam_rasp.specs.Sections.{cells_of}
-use Rattle.sam_script.specs.Show.{rasp_shown}
 use Rattle.sam_script.proofs.showing.push_sections.Given as goal
 
 abbrev pub invariant-loop-section : goal.invariant-loop-section

@@ -1,5 +1,4 @@
-use Rattle.std.proofs.Common.{◌++◌, ◌∙◌, ap, arith, string_bytes}
-use Rattle.sam_script.specs.Show.{term_slot}
+use Rattle.sam_script.proofs.Common.{◌++◌, ◌∙◌, ap, arith, string_bytes, term_slot}
 use Rattle.sam_script.proofs.ShowLaws.{slots_step}
 use Rattle.sam_script.proofs.showing.push_term_files.Goals as goal
 

@@ -1,5 +1,4 @@
-use Rattle.std.proofs.Common.{◌≡◌, ◌++◌, take, string_bytes}
-use Rattle.sam_script.specs.Show.{slot_lines, term_slot}
+use Rattle.sam_script.proofs.Common.{◌≡◌, ◌++◌, take, string_bytes, slot_lines, term_slot}
 use Rattle.sam_script.proofs.showing.push_term_files.Given as goal
 
 abbrev pub invariant-loop-tag : goal.invariant-loop-tag

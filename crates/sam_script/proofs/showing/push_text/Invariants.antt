@@ -1,5 +1,4 @@
-use Rattle.std.proofs.Common.{◌≡◌, ◌++◌, take, flat_map, string_bytes}
-use Rattle.sam_script.specs.Show.{text_rune}
+use Rattle.sam_script.proofs.Common.{◌≡◌, ◌++◌, take, flat_map, string_bytes, text_rune}
 use Rattle.sam_script.proofs.showing.push_text.Given as goal
 
 abbrev pub invariant-loop-rune : goal.invariant-loop-rune

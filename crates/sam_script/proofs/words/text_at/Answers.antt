@@ -1,5 +1,4 @@
-use Rattle.std.proofs.Common.{lit<, None, arith}
-use Rattle.std.proofs.lemmas.Str.Pattern.{strip_prefix_char}
+use Rattle.sam_script.proofs.Common.{lit<, None, arith, strip_prefix_char}
 use Rattle.sam_script.proofs.WordLaws.{no_text}
 use Rattle.sam_script.proofs.words.text_at.Goals as goal
 

@@ -1,5 +1,4 @@
-use Rattle.std.proofs.Common.{lit<, None}
-use Rattle.std.proofs.lemmas.Str.Pattern.{strip_prefix_char}
+use Rattle.sam_script.proofs.Common.{lit<, None, strip_prefix_char}
 use Rattle.sam_script.proofs.WordLaws.{no_word}
 use Rattle.sam_script.proofs.words.word_at.Goals as goal
 

@@ -1,9 +1,4 @@
-use Rattle.std.proofs.Common.{rules, ◌≡◌, ◌∷◌, subst, sym}
-use Rattle.std.proofs.lemmas.List.Elements.{All-head, All-tail}
-use Rattle.std.specs.Vec.Iter.{into_iter_items}
-use Rattle.sam_mesg.specs.TerminalKinds.{FitsT}
-use Rattle.sam_host.proofs.SoundLaws.{stays_sound}
-use Rattle.sam_session.specs.Pieces.{AllFit, FramesFit}
+use Rattle.sam_session.proofs.Common.{rules, ◌≡◌, ◌∷◌, subst, sym, All-head, All-tail, into_iter_items, FitsT, stays_sound, AllFit, FramesFit}
 use Rattle.sam_session.proofs.Serving.{served_more, answered_fit}
 use Rattle.sam_session.proofs.answering.answer_all.Goals as goal
 

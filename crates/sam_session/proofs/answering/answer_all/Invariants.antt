@@ -1,9 +1,4 @@
-use Rattle.std.proofs.Common.{◌≡◌, ℕ, List}
-use Rattle.std.specs.Io.KnownBytes.{Appends}
-use Rattle.std.specs.Vec.Iter.{into_iter_items}
-use Rattle.sam_host.specs.Laws.{IsSound}
-use Rattle.sam_session.specs.Serving.{serve, behind}
-use Rattle.sam_session.specs.Pieces.{AllFit}
+use Rattle.sam_session.proofs.Common.{◌≡◌, ℕ, List, Appends, into_iter_items, IsSound, serve, behind, AllFit}
 use Rattle.sam_session.proofs.answering.answer_all.Given as goal
 
 -- what was written, and then the answers to the messages that are left

@@ -1,5 +1,4 @@
-use Rattle.std.proofs.Common.{◌≡◌, [], take, ap, arith, length-take}
-use Rattle.std.proofs.lemmas.Result.{err_from_is_err_and}
+use Rattle.sam_session.proofs.Common.{◌≡◌, [], take, ap, arith, length-take, err_from_is_err_and}
 use Rattle.sam_session.proofs.Playing.{goes_on, host_sound, ends_side, on_side, stops}
 use Rattle.sam_session.proofs.bytes.answer_input.Goals as goal
 

@@ -1,8 +1,5 @@
-use Rattle.std.proofs.Common.{◌≡◌, ◌∙◌, ap, subst, ℕ, IfErr}
-use Rattle.std.proofs.lemmas.Result.{IfErr-weaker}
+use Rattle.sam_session.proofs.Common.{◌≡◌, ◌∙◌, ap, subst, ℕ, IfErr, IfErr-weaker, OnSide, AnswersBefore}
 use Rattle.sam_frame.specs.Faults.{fault_number}
-use Rattle.sam_session.specs.Outcome.{OnSide}
-use Rattle.sam_session.specs.Pieces.{AnswersBefore}
 use Rattle.sam_session.proofs.Serving.{all_fit}
 use Rattle.sam_session.proofs.Playing.{given_up}
 use Rattle.sam_session.proofs.bytes.feed_and_answer.Goals as goal

@@ -1,5 +1,4 @@
-use Rattle.std.proofs.Common.{◌≡◌, drop}
-use Rattle.sam_session.specs.Threading.{first_cause}
+use Rattle.sam_session.proofs.Common.{◌≡◌, drop, first_cause}
 use Rattle.sam_session.proofs.threading.fault_of.Given as goal
 
 -- those before had no cause of their own

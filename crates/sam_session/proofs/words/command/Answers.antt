@@ -1,7 +1,4 @@
-use Rattle.std.proofs.Common.{rules, ap, ap₂, ◌≡◌, ◌∙◌, Bool, ◌||◌}
-use Rattle.std.proofs.lemmas.Result.{IfOk-weaker}
-use Rattle.clap.specs.Words.{App, Shape, app_of, with_rule, with_subcommand}
-use Rattle.sam_session.specs.Words.{bytes_app, threads_app}
+use Rattle.sam_session.proofs.Common.{rules, ap, ap₂, ◌≡◌, ◌∙◌, Bool, ◌||◌, IfOk-weaker, App, Shape, app_of, with_rule, with_subcommand, bytes_app, threads_app}
 use Rattle.sam_session.proofs.words.command.Goals as goal
 
 abbrev top : App → Shape

@@ -1,8 +1,5 @@
-use Rattle.std.proofs.Common.{ap, ap₂, ◌≡◌, ◌∙◌, refl, true, map, string_bytes, subst}
-use Rattle.std.proofs.lemmas.Result.{IfOk-weaker}
-use Rattle.clap.specs.Words.{is_simple, subcommand_of, subcommand_rows_of}
+use Rattle.sam_session.proofs.Common.{ap, ap₂, ◌≡◌, ◌∙◌, refl, true, map, string_bytes, subst, IfOk-weaker, is_simple, subcommand_of, subcommand_rows_of, HoldsMode, attached, program}
 use Rattle.clap.proofs.OnLiterals.{clap_on_literals}
-use Rattle.sam_session.specs.Words.{HoldsMode, attached, program}
 use Rattle.sam_session.specs.declared.words.Mode.{Mode}
 use Rattle.sam_session.proofs.words.mode_of.Goals as goal
 

@@ -1,5 +1,4 @@
-use Rattle.std.proofs.Common.{arith}
-use Rattle.clap.proofs.WalkLemmas.{first_value-rows}
+use Rattle.sam_session.proofs.Common.{arith, first_value-rows}
 use Rattle.sam_session.proofs.words.text_in.Goals as goal
 
 pub returns-clause-value : goal.returns-clause-value

@@ -1,5 +1,4 @@
-use Rattle.std.proofs.Common.{◌≡◌, ◌++◌, map, drop, false, string_bytes}
-use Rattle.sam_session.specs.Words.{attached_from}
+use Rattle.sam_session.proofs.Common.{◌≡◌, ◌++◌, map, drop, false, string_bytes, attached_from}
 use Rattle.sam_session.proofs.words.with_text_attached.Given as goal
 
 -- what was put, and what is left to put

@@ -2,14 +2,8 @@ use Rattle.std.proofs.Common.{arith, rules}
 use Rattle.sam_settling.proofs.SettlingLists.{pushed_one, audited_few, audited_count}
 use Rattle.sam_settling.proofs.settling.audit_one.Goals as goal
 
-pub audit_within-found-requires-clause-posts : goal.audit_within-found-requires-clause-posts
-audit_within-found-requires-clause-posts g c = grind (arith, pushed_one)
-
 pub count-requires : goal.count-requires
 count-requires g c = search (rules, arith, audited_few)
-
-pub returns-clause-gives : goal.returns-clause-gives
-returns-clause-gives g c = grind (arith, pushed_one)
 
 pub returns-clause-left : goal.returns-clause-left
 returns-clause-left g c = search (rules, arith, pushed_one, audited_count)

@@ -1,5 +1,4 @@
-use Rattle.std.proofs.Common.{◌≡◌, drop}
-use Rattle.sam_term.specs.Term.{is_any_locked}
+use Rattle.sam_term.proofs.Common.{◌≡◌, drop, is_any_locked}
 use Rattle.sam_term.proofs.known_files.is_any_locked.Given as goal
 
 abbrev pub invariant-loop-file : goal.invariant-loop-file

@@ -1,5 +1,4 @@
-use Rattle.std.proofs.Common.{◌≡◌, ◌≤◌, ◌<◌, length}
-use Rattle.sam_text.specs.Views.{plain_slots, rooms}
+use Rattle.sam_text.proofs.Common.{◌≡◌, ◌≤◌, ◌<◌, length, plain_slots, rooms}
 use Rattle.sam_text.proofs.ViewLaws.{announced_behind}
 use Rattle.sam_text.proofs.files.announce_in.Given as goal
 

@@ -1,5 +1,4 @@
-use Rattle.std.proofs.Common.{◌≡◌, length, false}
-use Rattle.sam_text.specs.Reading.{quoted}
+use Rattle.sam_text.proofs.Common.{◌≡◌, length, false, quoted}
 use Rattle.sam_text.proofs.LineSteps.{with_front}
 use Rattle.sam_text.proofs.reading.push_quoted.Given as goal
 

@@ -1,5 +1,4 @@
-use Rattle.std.proofs.Common.{◌≡◌}
-use Rattle.sam_queue.specs.History.{StartsWith}
+use Rattle.sam_threads.proofs.Common.{◌≡◌, StartsWith}
 use Rattle.sam_threads.proofs.drain.drop_rest.Given as goal
 
 abbrev pub invariant-loop-turn : goal.invariant-loop-turn

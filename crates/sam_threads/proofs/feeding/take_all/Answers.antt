@@ -1,8 +1,4 @@
-use Rattle.std.proofs.Common.{◌≡◌, ◌∷◌, ◌++◌, [], List, ◌∙◌, ap, sym, subst, append_assoc, All, IsTrue, rules}
-use Rattle.std.proofs.lemmas.List.Elements.{All-tail}
-use Rattle.std.specs.Vec.Iter.{into_iter_items}
-use Rattle.sam_mesg.specs.HostKinds.{fits_h}
-use Rattle.sam_mesg.specs.declared.hmesg.HFrame.{HFrame}
+use Rattle.sam_threads.proofs.Common.{◌≡◌, ◌∷◌, ◌++◌, [], List, ◌∙◌, ap, sym, subst, append_assoc, All, IsTrue, rules, All-tail, into_iter_items, fits_h, HFrame}
 use Rattle.sam_threads.proofs.Feeds.{one_more}
 use Rattle.sam_threads.proofs.feeding.take_all.Goals as goal
 

@@ -1,7 +1,4 @@
-use Rattle.std.proofs.Common.{◌≡◌, ◌++◌, All, IsTrue}
-use Rattle.std.specs.Vec.Iter.{into_iter_items}
-use Rattle.sam_mesg.specs.HostKinds.{fits_h}
-use Rattle.sam_threads.specs.Feeding.{TakesAll}
+use Rattle.sam_threads.proofs.Common.{◌≡◌, ◌++◌, All, IsTrue, into_iter_items, fits_h, TakesAll}
 use Rattle.sam_threads.proofs.feeding.take_all.Given as goal
 
 abbrev pub invariant-loop-frame : goal.invariant-loop-frame

@@ -1,6 +1,4 @@
-use Rattle.std.proofs.Common.{drop}
-use Rattle.sam_mesg.specs.HostKinds.{IsHFrame}
-use Rattle.sam_world.specs.Sides.{Each}
+use Rattle.sam_threads.proofs.Common.{drop, IsHFrame, Each}
 use Rattle.sam_threads.proofs.host_side.frames_are_known.Given as goal
 
 abbrev pub invariant-loop-frame : goal.invariant-loop-frame

@@ -1,6 +1,4 @@
-use Rattle.std.proofs.Common.{◌∙◌, ℕ, ap, subst, arith}
-use Rattle.sam_queue.specs.History.{IsEnded}
-use Rattle.sam_queue.specs.Views.{LineView}
+use Rattle.sam_threads.proofs.Common.{◌∙◌, ℕ, ap, subst, IsEnded, LineView}
 use Rattle.sam_threads.proofs.HostWhole.{told_of, gate_refuses}
 use Rattle.sam_threads.proofs.host_side.serve_host.Goals as goal
 
@@ -14,6 +12,3 @@ returns-clause-told g c =
 
 pub returns-clause-way : goal.returns-clause-way
 returns-clause-way g c = gate_refuses (g.G.Gate.may_refuse c.args.gate.now 2) _ _ _ _ _ _ c.run-passed.ensures.serves
-
-pub drop_after-requires : goal.drop_after-requires
-drop_after-requires g c = grind arith

@@ -1,5 +1,4 @@
-use Rattle.std.proofs.Common.{length}
-use Rattle.sam_threads.specs.Cutting.{PutSome}
+use Rattle.sam_threads.proofs.Common.{length, PutSome}
 use Rattle.sam_threads.proofs.pieces.send_pieces.Given as goal
 
 abbrev pub invariant-loop-rest : goal.invariant-loop-rest

@@ -1,5 +1,4 @@
-use Rattle.std.proofs.Common.{refl}
-use Rattle.sam_mesg.specs.declared.fault.MesgFault.TheVariants.{BadKind, BadLength, BadText}
+use Rattle.sam_threads.proofs.Common.{refl, BadKind, BadLength, BadText}
 use Rattle.sam_threads.proofs.Passes.{passed_all, passed_before}
 use Rattle.sam_threads.proofs.reader.pass_piece.Goals as goal
 
@@ -8,8 +7,7 @@ returns-in-Ok-clause-passes g c = passed_all _ _ _ _ _ _ _ c.in-Ok.ensures c.sen
 
 pub returns-in-Err-BadKind-clause-passes : goal.returns-in-Err-BadKind-clause-passes
 returns-in-Err-BadKind-clause-passes g c =
-    let up = rw c.in-Err-BadKind.field-0-is at c.in-Err-BadKind.ensures in
-    passed_before _ _ _ _ _ _ _ BadKind 1 _ up refl c.send_before.ensures.sends
+    passed_before _ _ _ _ _ _ _ BadKind 1 _ (rw c.in-Err-BadKind.field-0-is at c.in-Err-BadKind.ensures) refl c.send_before.ensures.sends
 
 pub returns-in-Err-BadLength-clause-passes : goal.returns-in-Err-BadLength-clause-passes
 returns-in-Err-BadLength-clause-passes g c =

@@ -1,6 +1,5 @@
-use Rattle.std.proofs.Common.{List, ℕ, Some, subst, arith}
-use Rattle.sam_threads.specs.Passing.{PassesPiece}
-use Rattle.sam_threads.proofs.Passes.{goes_on, leaves, stops}
+use Rattle.sam_threads.proofs.Common.{List, ℕ, Some, subst, PassesPiece}
+use Rattle.sam_threads.proofs.Passes.{stops}
 use Rattle.sam_threads.proofs.reader.pass_pieces.Goals as goal
 
 pub returns-in-Some-pass_piece-clause-passes : goal.returns-in-Some-pass_piece-clause-passes
@@ -8,9 +7,3 @@ returns-in-Some-pass_piece-clause-passes g c =
     let P : List ℕ → Type 0 = λ b. PassesPiece c.loop-turn.framer b c.pass_piece.new.framer c.loop-turn.post c.pass_piece.new.post (Some c.in-Some-pass_piece.stop) in
     let passes = subst P c.deref.ensures.value c.in-Some-pass_piece.ensures.passes in
     stops _ _ _ _ _ _ _ c.pass_piece.new.framer _ _ _ c.requires.one c.loop-turn.invariant.so_far c.in-Item.ensures.answer passes
-
-pub loop-turn-preserved-in-Item : goal.loop-turn-preserved-in-Item
-loop-turn-preserved-in-Item g c = grind (arith, goes_on)
-
-pub loop-turn-preserved : goal.loop-turn-preserved
-loop-turn-preserved g c = grind (arith, goes_on, leaves)

@@ -1,6 +1,4 @@
-use Rattle.std.proofs.Common.{◌≡◌, ◌++◌}
-use Rattle.std.specs.Vec.Iter.{into_iter_items}
-use Rattle.sam_threads.specs.Passing.{sent_on}
+use Rattle.sam_threads.proofs.Common.{◌≡◌, ◌++◌, into_iter_items, sent_on}
 use Rattle.sam_threads.proofs.reader.send_on.Given as goal
 
 abbrev pub invariant-loop-frame : goal.invariant-loop-frame

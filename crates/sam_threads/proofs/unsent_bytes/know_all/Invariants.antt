@@ -1,6 +1,4 @@
-use Rattle.std.proofs.Common.{take}
-use Rattle.sam_mesg.specs.TerminalKinds.{FitsT}
-use Rattle.sam_world.specs.Sides.{Each}
+use Rattle.sam_threads.proofs.Common.{take, FitsT, Each}
 use Rattle.sam_threads.proofs.unsent_bytes.know_all.Given as goal
 
 abbrev pub invariant-loop-message : goal.invariant-loop-message

@@ -1,5 +1,4 @@
-use Rattle.std.proofs.Common.{◌≡◌, ◌++◌, map}
-use Rattle.std.specs.Vec.Iter.{into_iter_items}
+use Rattle.sam_threads.proofs.Common.{◌≡◌, ◌++◌, map, into_iter_items}
 use Rattle.sam_threads.specs.declared.input.Input.TheVariants.{User}
 use Rattle.sam_threads.proofs.users.put_events.Given as goal
 

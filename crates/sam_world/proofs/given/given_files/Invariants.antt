@@ -1,5 +1,4 @@
-use Rattle.std.proofs.Common.{◌≡◌, take, length}
-use Rattle.sam_host.specs.Given.{AreNames, given_of}
+use Rattle.sam_world.proofs.Common.{◌≡◌, take, length, AreNames, given_of}
 use Rattle.sam_world.proofs.given.given_files.Given as goal
 
 abbrev pub invariant-loop-file : goal.invariant-loop-file

@@ -1,5 +1,4 @@
-use Rattle.std.proofs.Common.{drop}
-use Rattle.sam_world.specs.Given.{AreShort}
+use Rattle.sam_world.proofs.Common.{drop, AreShort}
 use Rattle.sam_world.proofs.given.texts_are_short.Given as goal
 
 abbrev pub invariant-loop-file : goal.invariant-loop-file

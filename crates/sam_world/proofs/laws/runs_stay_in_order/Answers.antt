@@ -1,12 +1,6 @@
 use Rattle.sam_world.proofs.OrderLaws as laws
 use Rattle.sam_world.proofs.laws.runs_stay_in_order.Goals as goal
 
-pub returns-clause-start : goal.returns-clause-start
-returns-clause-start c = laws.starts_in_order
-
-pub returns-clause-step : goal.returns-clause-step
-returns-clause-step c = laws.steps_in_order
-
 pub returns-clause-run : goal.returns-clause-run
 returns-clause-run c = laws.runs_in_order
 

@@ -1,5 +1,4 @@
-use Rattle.std.proofs.Common.{◌≡◌, drop}
-use Rattle.sam_world.specs.World.{is_bad_log}
+use Rattle.sam_world.proofs.Common.{◌≡◌, drop, is_bad_log}
 use Rattle.sam_world.proofs.schedule.merge.Given as goal
 
 abbrev pub invariant-loop-entry : goal.invariant-loop-entry

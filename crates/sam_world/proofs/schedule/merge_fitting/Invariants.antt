@@ -1,5 +1,4 @@
-use Rattle.std.proofs.Common.{◌≡◌, ◌++◌, drop}
-use Rattle.sam_world.specs.World.{merged, merged_from}
+use Rattle.sam_world.proofs.Common.{◌≡◌, ◌++◌, drop, merged, merged_from}
 use Rattle.sam_world.proofs.schedule.merge_fitting.Given as goal
 
 abbrev pub invariant-loop-entry : goal.invariant-loop-entry

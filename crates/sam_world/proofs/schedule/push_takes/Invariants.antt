@@ -1,5 +1,4 @@
-use Rattle.std.proofs.Common.{◌≡◌, ◌++◌, replicate}
-use Rattle.sam_world.specs.declared.event.Event.TheVariants.{HostTake}
+use Rattle.sam_world.proofs.Common.{◌≡◌, ◌++◌, replicate, HostTake}
 use Rattle.sam_world.proofs.schedule.push_takes.Given as goal
 
 abbrev pub invariant-loop-made : goal.invariant-loop-made

@@ -1,7 +1,5 @@
 -- `into_parts` moves two fields, and what they own goes with them.
-use Rattle.sam_c.proofs.Walks.{List, [], ◌∷◌, ◌++◌, refl, Val, fsep, ftrue, WpFn, tables, ‵, prop, ◌⊛◌, ◌$◌, ◌∵◌, !, qed, done, suffices, regoal, move, drop, join, split, fsplit, fjoin, agg}
-use Rattle.sam_c.proofs.Walks.{sub, whole, and_then, enter, fld, no_more, of_opd, returns, stop, alloc_all, free_all, get, get_in, look_at, pass_all, sets, yes, nothing, Goes-dropped, Stays}
-use Rattle.sam_c.proofs.Walks.{ends_at, says, stay_dropped, walk_of, proved_at}
+use Rattle.sam_c.proofs.Walks.{List, [], ◌∷◌, ◌++◌, refl, Val, fsep, ftrue, WpFn, tables, ‵, prop, ◌⊛◌, ◌$◌, ◌∵◌, !, qed, done, suffices, regoal, move, drop, join, split, fsplit, fjoin, agg, sub, whole, and_then, enter, fld, no_more, of_opd, returns, stop, alloc_all, free_all, get, get_in, look_at, pass_all, sets, yes, nothing, Goes-dropped, Stays, ends_at, says, stay_dropped, walk_of, proved_at}
 use Rattle.sam_c.proofs.Pieces.{Pieces, pair, pair_typed, pieces_in, pieces_out, pointer_typed}
 use Rattle.sam_c.proofs.Ends.{TermBox as E, HeldTerms as From}
 use Rattle.sam_c.specs.contracts.handle.HeldTerm.into_parts as f

@@ -1,9 +1,5 @@
 -- `into_box` makes a box of parts that hold a value.
-use Rattle.sam_c.proofs.Walks.{◌≡◌, List, [], ◌∷◌, ◌++◌, Some, is_some, true, refl, sym, ap, ◌∙◌, subst, Fn, inst_fn, Val, vptr, flft, fsep, ftrue, id⊢, WpFn, ◌⊑◌, fact, tables, Item, ‵}
-use Rattle.sam_c.proofs.Walks.{raw, some, later, prop, at_ret, ◌⊛◌, ◌$◌, ◌∵◌, !, qed, done, suffices, await, regoal, rewrite, move, drop, use1, join, split, split3, pick, fsplit, fjoin}
-use Rattle.sam_c.proofs.Walks.{feq_i, sub, whole, and_then, blocks, enter, exec, first, fld, no_more, of_opd, returns, stop, alloc_all, env, free_all, get, get_in, lands_last, look_at}
-use Rattle.sam_c.proofs.Walks.{pass_all, sets, no, block_ptr, plain, heard, nothing, only, calls_at_last, Ended, triple_of, framed, Stays, ends_at, says, stay_dropped, walk_of, Goes-blank}
-use Rattle.sam_c.proofs.Walks.{after, proved_at, B, Bx, D, args, box_ty, box_typed, box_in, box_out}
+use Rattle.sam_c.proofs.Walks.{◌≡◌, List, [], ◌∷◌, ◌++◌, Some, is_some, true, refl, sym, ap, ◌∙◌, subst, Fn, inst_fn, Val, vptr, flft, fsep, ftrue, id⊢, WpFn, ◌⊑◌, fact, tables, Item, ‵, raw, some, later, prop, at_ret, ◌⊛◌, ◌$◌, ◌∵◌, !, qed, done, suffices, await, regoal, rewrite, move, drop, use1, join, split, split3, pick, fsplit, fjoin, feq_i, sub, whole, and_then, blocks, enter, exec, first, fld, no_more, of_opd, returns, stop, alloc_all, env, free_all, get, get_in, lands_last, look_at, pass_all, sets, no, block_ptr, plain, heard, nothing, only, calls_at_last, Ended, triple_of, framed, Stays, ends_at, says, stay_dropped, walk_of, Goes-blank, after, proved_at, B, Bx, D, args, box_ty, box_typed, box_in, box_out}
 use Rattle.sam_c.proofs.Pieces.{Good, Pieces, as_box}
 use Rattle.std_alloc.specs.contracts.boxed.Box.from_raw as whole_again
 use Rattle.std_alloc.proofs.boxed.Box.from_raw.Met.{met}

@@ -1,7 +1,5 @@
 -- `none` makes parts that own nothing.
-use Rattle.sam_c.proofs.Walks.{List, [], ◌∷◌, ◌++◌, None, refl, Fn, inst_fn, Val, flft, fsep, ftrue, WpFn, ◌⊑◌, fact, tables, ‵, raw, prop, ◌⊛◌, ◌$◌, ◌∵◌, !, qed, done, suffices, regoal}
-use Rattle.sam_c.proofs.Walks.{move, drop, join, split, fsplit, fjoin, agg, and_then, enter, lit, no_more, of_opd, returns, alloc_all, free_all, get, look_at, pass_all, sets, no, null_ptr}
-use Rattle.sam_c.proofs.Walks.{plain, nothing, Ended, Stays, ends_at, says, stay_dropped, walk_of, Goes-blank, handle_tells, proved_at, Bx, P, args}
+use Rattle.sam_c.proofs.Walks.{List, [], ◌∷◌, ◌++◌, None, refl, Fn, inst_fn, Val, flft, fsep, ftrue, WpFn, ◌⊑◌, fact, tables, ‵, raw, prop, ◌⊛◌, ◌$◌, ◌∵◌, !, qed, done, suffices, regoal, move, drop, join, split, fsplit, fjoin, agg, and_then, enter, lit, no_more, of_opd, returns, alloc_all, free_all, get, look_at, pass_all, sets, no, null_ptr, plain, nothing, Ended, Stays, ends_at, says, stay_dropped, walk_of, Goes-blank, handle_tells, proved_at, Bx, P, args}
 use Rattle.sam_c.proofs.Pieces.{Pieces, pair, pair_typed, pieces_in}
 use Rattle.sam_c.specs.contracts.parts.Parts.none as f
 use Rattle.sam_c.proofs.parts.Parts.none.Statement.{statement}

@@ -1,9 +1,5 @@
 -- `of` takes a box apart.
-use Rattle.sam_c.proofs.Walks.{◌≡◌, List, [], ◌∷◌, ◌++◌, Some, refl, ap, Args, Dict, Fn, a_type, dcons, dnil, inst_fn, Val, flft, fsep, ftrue, id⊢, WpFn, ◌⊑◌, fact, tables, Item, ‵, raw}
-use Rattle.sam_c.proofs.Walks.{some, later, prop, ◌⊛◌, ◌$◌, ◌∵◌, !, qed, done, suffices, await, regoal, rewrite, move, drop, use1, join, split, split3, pick, fsplit, fjoin, fpick, feq_l}
-use Rattle.sam_c.proofs.Walks.{agg, sub, whole, and_then, enter, fld, no_more, of_opd, returns, stop, alloc_all, free_all, get, get_in, lands_as, look_at, pass_all, sets, no, bounded, Ptr}
-use Rattle.sam_c.proofs.Walks.{RawPtr, plain, heard, nothing, only, Tuple, calls_at, Ended, triple_of, framed, Stays, ends_at, says, stay_dropped, walk_of, Goes-blank, handle_tells, token}
-use Rattle.sam_c.proofs.Walks.{proved_at, box_owns, B, Bx, P, R, box_typed, word, box_in, box_out}
+use Rattle.sam_c.proofs.Walks.{◌≡◌, List, [], ◌∷◌, ◌++◌, Some, refl, ap, Args, Dict, Fn, a_type, dcons, dnil, inst_fn, Val, flft, fsep, ftrue, id⊢, WpFn, ◌⊑◌, fact, tables, Item, ‵, raw, some, later, prop, ◌⊛◌, ◌$◌, ◌∵◌, !, qed, done, suffices, await, regoal, rewrite, move, drop, use1, join, split, split3, pick, fsplit, fjoin, fpick, feq_l, agg, sub, whole, and_then, enter, fld, no_more, of_opd, returns, stop, alloc_all, free_all, get, get_in, lands_as, look_at, pass_all, sets, no, bounded, Ptr, RawPtr, plain, heard, nothing, only, Tuple, calls_at, Ended, triple_of, framed, Stays, ends_at, says, stay_dropped, walk_of, Goes-blank, handle_tells, token, proved_at, box_owns, B, Bx, P, R, box_typed, word, box_in, box_out}
 use Rattle.sam_c.proofs.Pieces.{Pieces, pair, pair_is, pair_typed, pieces_in, pointer_typed}
 use Rattle.std_alloc.specs.contracts.boxed.Box.into_raw_with_allocator as apart
 use Rattle.std_alloc.proofs.boxed.Box.into_raw_with_allocator.Met.{met}

@@ -1,8 +1,4 @@
-use Rattle.std.proofs.Common.{◌≡◌, ◌∙◌, ◌++◌, refl, sym, ap, subst, List, ℕ, Ok}
-use Rattle.sam_mesg.specs.declared.hmesg.HFrame.{HFrame}
-use Rattle.sam_host.specs.Host.{answer}
-use Rattle.sam_host.specs.Laws.{FitInPlace}
-use Rattle.sam_ends.specs.HostEnds.{PlainHostEnd, writes_of}
+use Rattle.sam_ends.proofs.Common.{◌≡◌, ◌∙◌, ◌++◌, refl, sym, ap, subst, List, ℕ, Ok, HFrame, answer, FitInPlace, PlainHostEnd, writes_of}
 use Rattle.sam_ends.proofs.HostEndFits.{answered_sound}
 use Rattle.sam_ends.proofs.HostEndGoing.{first_done, first_waits}
 use Rattle.sam_ends.proofs.host_end.HostEnd.answer_first.Goals as goal

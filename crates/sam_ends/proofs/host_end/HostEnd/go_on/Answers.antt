@@ -1,6 +1,4 @@
-use Rattle.std.proofs.Common.{rules, ◌≡◌, sym, subst, Err, arith}
-use Rattle.sam_ends.specs.HostEnds.{GoesOn}
-use Rattle.sam_ends.specs.HostSteps.{Answer}
+use Rattle.sam_ends.proofs.Common.{rules, ◌≡◌, sym, subst, Err, arith, GoesOn, Answer}
 use Rattle.sam_ends.proofs.HostEndGoing.{goes_further, not_written}
 use Rattle.sam_ends.proofs.host_end.HostEnd.go_on.Goals as goal
 

@@ -1,7 +1,4 @@
-use Rattle.std.proofs.Common.{refl, sym, subst, List}
-use Rattle.sam_mesg.specs.declared.tmesg.Tmesg.{Tmesg}
-use Rattle.sam_frame.specs.Direction.{terminal}
-use Rattle.sam_ends.specs.Streams.{Gives}
+use Rattle.sam_ends.proofs.Common.{refl, sym, subst, List, Tmesg, terminal, Gives}
 use Rattle.sam_ends.proofs.HostEndFits.{taken_sound}
 use Rattle.sam_ends.proofs.HostEndGoing.{taken_in}
 use Rattle.sam_ends.proofs.host_end.HostEnd.take_in.Goals as goal

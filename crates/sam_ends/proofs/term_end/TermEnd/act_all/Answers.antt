@@ -1,20 +1,10 @@
-use Rattle.std.proofs.Common.{rules, ◌≡◌, subst, sym, Ok, Err, arith}
-use Rattle.sam_ends.specs.TermEnds.{PlainTermEnd}
-use Rattle.sam_ends.specs.TermSteps.{Acts, ActsAll, ActsFirst}
+use Rattle.sam_ends.proofs.Common.{rules, ◌≡◌, subst, sym, Ok, Err, arith, PlainTermEnd, ActsAll, ActsFirst}
+use Rattle.sam_ends.specs.TermSteps.{Acts}
 use Rattle.sam_ends.proofs.TermEndCalls.{acting_more, acting_none, acting_unwritten, acting_written}
 use Rattle.sam_ends.proofs.term_end.TermEnd.act_all.Goals as goal
 
 pub loop-self-init : goal.loop-self-init
 loop-self-init c = acting_none c.args.self.now c.requires.idle c.requires.running
-
-pub act_first-requires : goal.act_first-requires
-act_first-requires c = c.loop-self.invariant.idle.unwritten
-
-pub returns-in_err-act_first : goal.returns-in_err-act_first
-returns-in_err-act_first c = grind arith
-
-pub loop-self-smaller : goal.loop-self-smaller
-loop-self-smaller c = grind arith
 
 pub loop-self-preserved : goal.loop-self-preserved
 loop-self-preserved c = grind (arith, acting_written, acting_more)
@@ -27,6 +17,3 @@ returns-in_err-write_composed c =
     let same : c.from_residual-in_err-write_composed.result ≡ Err why = search rules in
     subst (λ x. ActsAll e x c.write_composed.new.self) (sym same)
     (acting_unwritten e c.act_first.new.self c.write_composed.new.self why (acting_more e c.loop-self.self c.act_first.new.self c.loop-self.invariant f) c.in_err-write_composed.ensures)
-
-pub returns : goal.returns
-returns c = grind arith

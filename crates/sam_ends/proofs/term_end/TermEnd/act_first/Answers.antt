@@ -1,42 +1,26 @@
-use Rattle.std.proofs.Common.{◌≡◌, ◌∙◌, sym, ap, subst, ◌++◌, ◌∷◌, ◌-◌, [], Ok, arith, append-nil}
-use Rattle.sam_ends.specs.Streams.{FitMessages}
-use Rattle.sam_term.specs.Fitting.{AllFit, composed_in}
-use Rattle.sam_term.specs.Term.{act_of}
-use Rattle.sam_term.specs.declared.event.Acted.TheVariants.{Idle, Locked, Done, Refused}
-use Rattle.sam_ends.specs.TermEnds.{PlainTermEnd, IsQuiet, oldest, shown}
-use Rattle.sam_ends.specs.TermSteps.{ActsFirst}
-use Rattle.sam_ends.proofs.TermEndSteps.{idle_counted, locked_counted, settled_counted, acted_stamped, idle_quiet, locked_quiet, acted_first, refused_number}
+use Rattle.sam_ends.proofs.Common.{◌≡◌, ◌∙◌, ap, subst, ◌-◌, [], Ok, arith, append-nil, AllFit, composed_in, act_of, idle_still, locked_still, Idle, Locked, Done, Refused, PlainTermEnd, IsQuiet, oldest, shown, ActsFirst}
+use Rattle.sam_ends.proofs.TermEndSteps.{settled_counted, acted_stamped, acted_first, refused_number}
 use Rattle.sam_ends.proofs.term_end.TermEnd.act_first.Goals as goal
 
 pub invariant_of-self-in-Ok-Idle : goal.invariant_of-self-in-Ok-Idle
 invariant_of-self-in-Ok-Idle c =
     let act : act_of c.self.inside.term ≡ Ok (c.act_now.new.term, Idle) = subst (λ a. act_of c.self.inside.term ≡ Ok (c.act_now.new.term, a)) c.in-Ok-Idle.field-0-is c.in-Ok-Idle.ensures.tries in
-    grind (arith, (idle_counted (shown c.self.inside) c.act_now.new.term c.self.invariant act), (acted_stamped (shown c.self.inside) c.act_now.new.term Idle c.self.invariant act))
+    grind (arith, (idle_still c.self.inside.term c.act_now.new.term act), (acted_stamped (shown c.self.inside) c.act_now.new.term Idle c.self.invariant act))
 
 pub invariant_of-self-in-Ok-Locked : goal.invariant_of-self-in-Ok-Locked
 invariant_of-self-in-Ok-Locked c =
     let act : act_of c.self.inside.term ≡ Ok (c.act_now.new.term, Locked) =
     subst (λ a. act_of c.self.inside.term ≡ Ok (c.act_now.new.term, a)) c.in-Ok-Locked.field-0-is c.in-Ok-Locked.ensures.tries in
-    record {
-      waiting = c.self.invariant.waiting;
-      unwritten = c.self.invariant.unwritten;
-      counted = locked_counted (shown c.self.inside) c.act_now.new.term c.self.invariant act;
-      stamped = acted_stamped (shown c.self.inside) c.act_now.new.term Locked c.self.invariant act;
-      reads = c.self.invariant.reads;
-    }
+    grind (arith, (locked_still c.self.inside.term c.act_now.new.term act), (acted_stamped (shown c.self.inside) c.act_now.new.term Locked c.self.invariant act))
 
 pub invariant_of-self-in-Ok-Done : goal.invariant_of-self-in-Ok-Done
 invariant_of-self-in-Ok-Done c =
     let act : act_of c.self.inside.term ≡ Ok (c.act_now.new.term, Done c.in-Ok-Done.composed) =
     subst (λ a. act_of c.self.inside.term ≡ Ok (c.act_now.new.term, a)) c.in-Ok-Done.field-0-is c.in-Ok-Done.ensures.tries in
     let fit : AllFit c.in-Ok-Done.composed = subst (λ a. AllFit (composed_in a)) c.in-Ok-Done.field-0-is c.in-Ok-Done.ensures.fit in
-    record {
-      waiting = c.self.invariant.waiting;
-      unwritten = subst (λ ms. FitMessages ms) (sym c.into_vec.ensures) fit;
-      counted = settled_counted (shown c.self.inside) c.act_now.new.term (Done c.in-Ok-Done.composed) c.self.invariant act tt;
-      stamped = acted_stamped (shown c.self.inside) c.act_now.new.term (Done c.in-Ok-Done.composed) c.self.invariant act;
-      reads = c.self.invariant.reads;
-    }
+    let counted = settled_counted (shown c.self.inside) c.act_now.new.term (Done c.in-Ok-Done.composed) c.self.invariant act tt in
+    let stamped = acted_stamped (shown c.self.inside) c.act_now.new.term (Done c.in-Ok-Done.composed) c.self.invariant act in
+    grind (arith, fit, c.into_vec.ensures, counted, stamped)
 
 pub overflow_sub-number : goal.overflow_sub-number
 overflow_sub-number c =
@@ -48,13 +32,9 @@ pub invariant_of-self-in-Ok-Refused : goal.invariant_of-self-in-Ok-Refused
 invariant_of-self-in-Ok-Refused c =
     let act : act_of c.self.inside.term ≡ Ok (c.act_now.new.term, Refused c.in-Ok-Refused.why) =
     subst (λ a. act_of c.self.inside.term ≡ Ok (c.act_now.new.term, a)) c.in-Ok-Refused.field-0-is c.in-Ok-Refused.ensures.tries in
-    record {
-      waiting = c.self.invariant.waiting;
-      unwritten = c.self.invariant.unwritten;
-      counted = settled_counted (shown c.self.inside) c.act_now.new.term (Refused c.in-Ok-Refused.why) c.self.invariant act tt;
-      stamped = acted_stamped (shown c.self.inside) c.act_now.new.term (Refused c.in-Ok-Refused.why) c.self.invariant act;
-      reads = c.self.invariant.reads;
-    }
+    let counted = settled_counted (shown c.self.inside) c.act_now.new.term (Refused c.in-Ok-Refused.why) c.self.invariant act tt in
+    let stamped = acted_stamped (shown c.self.inside) c.act_now.new.term (Refused c.in-Ok-Refused.why) c.self.invariant act in
+    grind (arith, counted, stamped)
 
 pub returns-in-Ok-Idle : goal.returns-in-Ok-Idle
 returns-in-Ok-Idle c =
@@ -62,7 +42,7 @@ returns-in-Ok-Idle c =
     let g : PlainTermEnd = record e { term = c.act_now.new.term; refusals = c.reserve.new.self.items } in
     let act : act_of c.self.inside.term ≡ Ok (c.act_now.new.term, Idle) = subst (λ a. act_of c.self.inside.term ≡ Ok (c.act_now.new.term, a)) c.in-Ok-Idle.field-0-is c.in-Ok-Idle.ensures.tries in
     subst (λ (x : PlainTermEnd). IsQuiet x.term × (g ≡ x)) c.self.view_is
-    (idle_quiet e g c.act_now.new.term act (ap (λ rs. record e { term = c.act_now.new.term; refusals = rs }) c.reserve.ensures.items))
+    (grind (arith, (idle_still e.term c.act_now.new.term act), c.reserve.ensures.items))
 
 pub returns-in-Ok-Locked : goal.returns-in-Ok-Locked
 returns-in-Ok-Locked c =
@@ -71,7 +51,7 @@ returns-in-Ok-Locked c =
     let act : act_of c.self.inside.term ≡ Ok (c.act_now.new.term, Locked) =
     subst (λ a. act_of c.self.inside.term ≡ Ok (c.act_now.new.term, a)) c.in-Ok-Locked.field-0-is c.in-Ok-Locked.ensures.tries in
     subst (λ (x : PlainTermEnd). IsQuiet x.term × (g ≡ x)) c.self.view_is
-    (locked_quiet e g c.act_now.new.term act (ap (λ rs. record e { term = c.act_now.new.term; refusals = rs }) c.reserve.ensures.items))
+    (grind (arith, (locked_still e.term c.act_now.new.term act), c.reserve.ensures.items))
 
 pub returns-in-Ok-Done : goal.returns-in-Ok-Done
 returns-in-Ok-Done c =
@@ -81,8 +61,7 @@ returns-in-Ok-Done c =
     let g : PlainTermEnd = record e { term = u; unwritten = c.into_vec.result.items; refusals = c.reserve.new.self.items } in
     subst (λ (x : PlainTermEnd). ActsFirst x g) c.self.view_is
     (acted_first e g u (Done c.in-Ok-Done.composed) c.self.invariant act tt
-    (ap (λ ms. record e { term = u; unwritten = ms; refusals = c.reserve.new.self.items }) c.into_vec.ensures
-    ∙ ap (λ rs. record e { term = u; unwritten = c.in-Ok-Done.composed; refusals = rs }) (c.reserve.ensures.items ∙ sym (append-nil c.self.inside.refusals.items))))
+    (grind (arith, c.into_vec.ensures, c.reserve.ensures.items, append-nil)))
 
 pub returns-in-Ok-Refused : goal.returns-in-Ok-Refused
 returns-in-Ok-Refused c =
@@ -95,7 +74,4 @@ returns-in-Ok-Refused c =
     let number : c.self.inside.events - c.held.result ≡ oldest e = ap (λ n. c.self.inside.events - n) c.held.ensures ∙ refused_number e u (Refused why) act tt in
     subst (λ (x : PlainTermEnd). ActsFirst x g) c.self.view_is
     (acted_first e g u (Refused why) c.self.invariant act tt
-    (ap (λ ms. record e { term = u; unwritten = ms; refusals = c.push_back_reserved.new.self.items }) none
-    ∙ ap (λ rs. record e { term = u; unwritten = []; refusals = rs }) (c.push_back_reserved.ensures.items
-    ∙ ap (λ rs. rs ++ (c.self.inside.events - c.held.result, why) ∷ []) c.reserve.ensures.items
-    ∙ ap (λ n. c.self.inside.refusals.items ++ (n, why) ∷ []) number)))
+    (grind (arith, none, number, c.push_back_reserved.ensures.items, c.reserve.ensures.items)))

@@ -1,8 +1,6 @@
 use Rattle.sam_ends.proofs.TermEndStamps.{flush_counts}
 use Rattle.sam_ends.proofs.TermEndHeld.{flush_held}
-use Rattle.std.proofs.Common.{ap, subst, Ok, arith}
-use Rattle.sam_ends.specs.TermEnds.{PlainTermEnd, shown}
-use Rattle.sam_ends.specs.TermSteps.{Composes}
+use Rattle.sam_ends.proofs.Common.{ap, subst, Ok, arith, PlainTermEnd, shown, Composes}
 use Rattle.sam_ends.proofs.term_end.TermEnd.compose_unsent.Goals as goal
 
 pub invariant_of-self : goal.invariant_of-self

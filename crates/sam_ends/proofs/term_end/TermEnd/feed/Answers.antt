@@ -1,6 +1,5 @@
-use Rattle.std.proofs.lemmas.Grind.{common_steps}
-use Rattle.std.proofs.Common.{rules, ◌≡◌, subst, sym, Err, arith}
-use Rattle.sam_ends.specs.TermEnds.{PlainTermEnd, FeedsIdle, Feeds}
+use Rattle.sam_ends.proofs.Common.{common_steps, rules, ◌≡◌, subst, sym, Err, arith, PlainTermEnd, FeedsIdle}
+use Rattle.sam_ends.specs.TermEnds.{Feeds}
 use Rattle.sam_ends.proofs.TermEndCalls.{call_brought, call_failed, fed}
 use Rattle.sam_ends.proofs.term_end.TermEnd.feed.Goals as goal
 

@@ -1,5 +1,4 @@
-use Rattle.std.proofs.Common.{rules, ◌≡◌, subst, sym, Err, arith}
-use Rattle.sam_ends.specs.TermEnds.{PlainTermEnd, FlushesIdle, Flushes}
+use Rattle.sam_ends.proofs.Common.{rules, ◌≡◌, subst, sym, Err, arith, PlainTermEnd, FlushesIdle, Flushes}
 use Rattle.sam_ends.proofs.TermEndCalls.{call_brought, call_failed, flush_not}
 use Rattle.sam_ends.proofs.term_end.TermEnd.flush.Goals as goal
 

@@ -1,5 +1,4 @@
-use Rattle.std.proofs.Common.{Err, arith}
-use Rattle.sam_ends.specs.TermEnds.{PlainTermEnd, PutsIdle}
+use Rattle.sam_ends.proofs.Common.{Err, arith, PlainTermEnd, PutsIdle}
 use Rattle.sam_ends.proofs.TermEndCalls.{call_brought, call_failed}
 use Rattle.sam_ends.proofs.term_end.TermEnd.put.Goals as goal
 

@@ -1,17 +1,9 @@
-use Rattle.std.proofs.Common.{rules, ◌≡◌, subst, sym, Ok, Err, arith, append-nil}
-use Rattle.sam_ends.specs.TermEnds.{PlainTermEnd}
-use Rattle.sam_ends.specs.TermSteps.{Receives, ReceivesAll, ReceivesFirst}
+use Rattle.sam_ends.proofs.Common.{rules, ◌≡◌, subst, sym, Ok, Err, arith, PlainTermEnd, Receives, ReceivesAll, ReceivesFirst}
 use Rattle.sam_ends.proofs.TermEndCalls.{receiving_none, receiving_written, receiving_more, writing_failed}
 use Rattle.sam_ends.proofs.term_end.TermEnd.receive_all.Goals as goal
 
 pub loop-self-init : goal.loop-self-init
 loop-self-init c = grind (arith, receiving_written, receiving_none)
-
-pub returns-in_err-receive_first : goal.returns-in_err-receive_first
-returns-in_err-receive_first c = grind arith
-
-pub loop-self-smaller : goal.loop-self-smaller
-loop-self-smaller c = grind arith
 
 pub loop-self-preserved : goal.loop-self-preserved
 loop-self-preserved c = grind (arith, receiving_written, receiving_more)
@@ -27,6 +19,3 @@ returns-in_err-write_composed-2 c =
     subst (λ x. ReceivesAll e x c.write_composed-in-loop-self.new.self) (sym same)
     (writing_failed e c.receive_first.new.self c.write_composed-in-loop-self.new.self why
     (receiving_more e c.loop-self.self c.receive_first.new.self i.so_far i.idle r) c.in_err-write_composed-2.ensures)
-
-pub returns : goal.returns
-returns c = grind (arith, append-nil)

@@ -1,7 +1,4 @@
-use Rattle.std.proofs.Common.{◌≡◌, ◌∙◌, ap, refl, subst, sym, ◌∷◌, drop, Err, option_copied}
-use Rattle.sam_ends.specs.Streams.{FitFrames, FitMessages}
-use Rattle.sam_ends.specs.TermEnds.{PlainTermEnd, shown}
-use Rattle.sam_ends.specs.TermSteps.{Receives, ReceivesFirst}
+use Rattle.sam_ends.proofs.Common.{◌≡◌, ◌∙◌, arith, ap, refl, subst, sym, ◌∷◌, drop, Err, option_copied, PlainTermEnd, shown, Receives, ReceivesFirst}
 use Rattle.sam_ends.proofs.TermEndStamps.{take_stamped}
 use Rattle.sam_ends.proofs.TermEndSteps.{first_read, receive_failed, rest_fit, taken_counted}
 use Rattle.sam_ends.proofs.term_end.TermEnd.receive_first.Goals as goal
@@ -11,13 +8,10 @@ invariant_of-self c =
     let frame = c.in-Some.frame.now in
     let first : c.self.inside.waiting.items ≡ frame ∷ drop 1 c.self.inside.waiting.items =
     first_read c.self.inside.waiting.items frame (sym c.first_frame.ensures ∙ ap (λ o. option_copied o) c.in-Some.is) in
-    record {
-      waiting = subst (λ frames. FitFrames frames) (sym c.drop_first.ensures) (rest_fit c.self.inside.waiting.items frame first c.self.invariant.waiting);
-      unwritten = subst (λ ms. FitMessages ms) (sym c.into_vec.ensures) c.in-Ok.ensures.fit;
-      counted = taken_counted (shown c.self.inside) c.receive_copy.new.term frame c.in-Ok.composed c.self.invariant c.in-Ok.ensures.tries;
-      stamped = take_stamped c.self.inside.term c.receive_copy.new.term frame c.in-Ok.composed c.in-Ok.ensures.tries;
-      reads = c.self.invariant.reads;
-    }
+    let fit = rest_fit c.self.inside.waiting.items frame first c.self.invariant.waiting in
+    let counted = taken_counted (shown c.self.inside) c.receive_copy.new.term frame c.in-Ok.composed c.self.invariant c.in-Ok.ensures.tries in
+    let stamped = take_stamped c.self.inside.term c.receive_copy.new.term frame c.in-Ok.composed c.in-Ok.ensures.tries in
+    grind (arith, fit, counted, stamped, c.drop_first.ensures, c.into_vec.ensures, c.in-Ok.ensures.fit)
 
 pub returns-in-Ok : goal.returns-in-Ok
 returns-in-Ok c =
@@ -32,8 +26,7 @@ returns-in-Ok c =
       composed = c.in-Ok.composed;
       waited = first_read c.self.inside.waiting.items frame (sym c.first_frame.ensures ∙ ap (λ o. option_copied o) c.in-Some.is);
       taken = c.in-Ok.ensures.tries;
-      after = ap (λ frames. record e { term = u; waiting = frames; unwritten = c.into_vec.result.items; seen = frame.seen }) c.drop_first.ensures
-          ∙ ap (λ ms. record e { term = u; waiting = drop 1 c.self.inside.waiting.items; unwritten = ms; seen = frame.seen }) c.into_vec.ensures;
+      after = grind (arith, c.drop_first.ensures, c.into_vec.ensures);
     })
 
 pub returns-in-Err : goal.returns-in-Err

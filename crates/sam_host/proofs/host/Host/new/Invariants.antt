@@ -1,7 +1,4 @@
-use Rattle.std.proofs.Common.{◌≡◌, ◌++◌, ◌∷◌, [], Some, length, reverse}
-use Rattle.sam_text.specs.Files.{blank_file, first_files}
-use Rattle.sam_host.specs.Host.{command_name, given_slots}
-use Rattle.sam_host.specs.Given.{AreNames, given_of}
+use Rattle.sam_host.proofs.Common.{◌≡◌, ◌++◌, ◌∷◌, [], Some, length, reverse, blank_file, first_files, command_name, given_slots, AreNames, given_of}
 use Rattle.sam_host.proofs.host.Host.new.Given as goal
 
 abbrev pub invariant-loop-file : goal.invariant-loop-file

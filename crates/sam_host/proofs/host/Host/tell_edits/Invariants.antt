@@ -1,5 +1,4 @@
-use Rattle.std.proofs.Common.{◌≡◌, ◌≤◌, ◌+◌, ◌++◌, take, length, flat_map, reverse}
-use Rattle.sam_host.specs.Host.{stamped, told_edit}
+use Rattle.sam_host.proofs.Common.{◌≡◌, ◌≤◌, ◌+◌, ◌++◌, take, length, flat_map, reverse, stamped, told_edit}
 use Rattle.sam_host.proofs.host.Host.tell_edits.Given as goal
 
 abbrev pub invariant-loop-left : goal.invariant-loop-left

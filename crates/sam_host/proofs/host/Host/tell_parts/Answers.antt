@@ -1,8 +1,4 @@
-use Rattle.std.proofs.Common.{◌+◌, not, [], ◌∷◌, ◌&&◌}
-use Rattle.sam_runes.specs.Texts.{is_empty}
-use Rattle.sam_mesg.specs.declared.hmesg.Hmesg.TheVariants.{Hdirty, Hmovname, Hsetpat, Hsetdot, Hcheck}
-use Rattle.sam_text.specs.Files.{file_at}
-use Rattle.sam_host.specs.Host.{told_edits, told_outcome, when, when_given}
+use Rattle.sam_host.proofs.Common.{◌+◌, not, [], ◌∷◌, ◌&&◌, is_empty, Hdirty, Hmovname, Hsetpat, Hsetdot, Hcheck, file_at, told_edits, told_outcome, when, when_given}
 use Rattle.sam_host.proofs.RunLaws.{six_told}
 use Rattle.sam_host.proofs.host.Host.tell_parts.Goals as goal
 

@@ -1,6 +1,4 @@
-use Rattle.std.proofs.Common.{◌≡◌, true, ap, sym, ◌∙◌, arith}
-use Rattle.sam_text.specs.Files.{has_file}
-use Rattle.sam_host.specs.Host.{PlainHost}
+use Rattle.sam_host.proofs.Common.{◌≡◌, true, ap, sym, ◌∙◌, arith, has_file, PlainHost}
 use Rattle.sam_host.proofs.TypingLaws.{typed_ready, undone}
 use Rattle.sam_host.proofs.host.Host.type_line.Goals as goal
 

@@ -1,7 +1,4 @@
-use Rattle.sam_runes.proofs.SlotLaws.{slot-put_same}
-use Rattle.std.proofs.Common.{ap, ◌∙◌, arith}
-use Rattle.sam_text.specs.Files.{PlainFile, file_at, cut_file}
-use Rattle.sam_host.specs.Host.{with_file}
+use Rattle.sam_host.proofs.Common.{slot-put_same, ap, ◌∙◌, arith, PlainFile, file_at, cut_file, with_file}
 use Rattle.sam_host.proofs.TypingLaws.{put_here, put_again}
 use Rattle.sam_host.proofs.host.Host.undo.Goals as goal
 

@@ -1,5 +1,4 @@
-use Rattle.std.proofs.Common.{sym, subst, All}
-use Rattle.sam_rasp.specs.Sections.{IsBegin}
+use Rattle.sam_rasp.proofs.Common.{sym, subst, All, IsBegin}
 use Rattle.sam_rasp.proofs.rasp.Rasp.put.Goals as goal
 
 pub replace_marked-requires-clause-marks : goal.replace_marked-requires-clause-marks

@@ -1,5 +1,4 @@
-use Rattle.std.proofs.Common.{◌≡◌, take, flat_map}
-use Rattle.sam_script.specs.Script.{key_of}
+use Rattle.sam_script.proofs.Common.{◌≡◌, take, flat_map, key_of}
 use Rattle.sam_script.proofs.script.Script.keys.Given as goal
 
 abbrev pub invariant-loop-numbered : goal.invariant-loop-numbered

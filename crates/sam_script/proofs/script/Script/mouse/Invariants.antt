@@ -1,5 +1,4 @@
-use Rattle.std.proofs.Common.{◌≡◌, take, flat_map}
-use Rattle.sam_script.specs.Script.{mouse_of_line}
+use Rattle.sam_script.proofs.Common.{◌≡◌, take, flat_map, mouse_of_line}
 use Rattle.sam_script.proofs.script.Script.mouse.Given as goal
 
 abbrev pub invariant-loop-numbered : goal.invariant-loop-numbered

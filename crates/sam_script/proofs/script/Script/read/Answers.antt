@@ -1,9 +1,5 @@
-use Rattle.std.proofs.Common.{◌≡◌, ◌≤◌, ◌+◌, ◌∙◌, length, sym, subst, arith, rules, tests, ◌==◌}
-use Rattle.std.proofs.lemmas.Iterator.Consumers.{YieldsList-turn, YieldsList-end}
+use Rattle.sam_script.proofs.Common.{◌≡◌, ◌≤◌, ◌+◌, ◌∙◌, length, sym, subst, arith, rules, tests, ◌==◌, YieldsList-turn, YieldsList-end, length_push, AddsNone, lines_of}
 use Rattle.std.proofs.lemmas.Iterator.Splits.{YieldsList-from_slice_split}
-use Rattle.std.proofs.lemmas.List.{length_push}
-use Rattle.sam_script.specs.Reading.{AddsNone}
-use Rattle.sam_script.specs.Spelling.{lines_of}
 use Rattle.sam_script.proofs.ScriptLaws.{read_more, read_wrong, read_all_lines, numbered}
 use Rattle.sam_script.proofs.script.Script.read.Goals as goal
 

@@ -1,5 +1,4 @@
-use Rattle.std.proofs.Common.{◌≡◌, length, take}
-use Rattle.sam_script.specs.Spelling.{SpellsLines, lines_of}
+use Rattle.sam_script.proofs.Common.{◌≡◌, length, take, SpellsLines, lines_of}
 use Rattle.sam_script.proofs.script.Script.read.Given as goal
 
 -- the lines so far spell the script so far

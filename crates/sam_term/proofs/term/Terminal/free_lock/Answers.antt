@@ -1,6 +1,4 @@
-use Rattle.std.proofs.Common.{arith, refl, ◌-◌}
-use Rattle.sam_term.specs.Term.{took_unlockfile}
-use Rattle.sam_term.specs.Sound.{seen}
+use Rattle.sam_term.proofs.Common.{arith, refl, ◌-◌, took_unlockfile, seen}
 use Rattle.sam_term.proofs.Sounds.{sound_lent}
 use Rattle.sam_term.proofs.term.Terminal.free_lock.Goals as goal
 

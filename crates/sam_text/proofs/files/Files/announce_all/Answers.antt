@@ -1,7 +1,4 @@
-use Rattle.std.proofs.Common.{sym, subst}
-use Rattle.sam_runes.specs.Slots.{Slots}
-use Rattle.sam_text.specs.Files.{PlainFile, PlainFiles, AreSoundFiles}
-use Rattle.sam_text.specs.Views.{plain_slots}
+use Rattle.sam_text.proofs.Common.{sym, subst, Slots, PlainFile, PlainFiles, AreSoundFiles, plain_slots}
 use Rattle.sam_text.proofs.KeptLaws.{kept_announce}
 use Rattle.sam_text.proofs.files.Files.announce_all.Goals as goal
 

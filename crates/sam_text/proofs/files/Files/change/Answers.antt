@@ -1,7 +1,4 @@
-use Rattle.std.proofs.Common.{◌≡◌, sym, subst, true}
-use Rattle.sam_runes.specs.Slots.{Slots}
-use Rattle.sam_text.specs.Files.{PlainFile, PlainFiles, RoomyFiles, has_file, file_at, AreSoundFiles}
-use Rattle.sam_text.specs.Views.{changed, plain_slots}
+use Rattle.sam_text.proofs.Common.{◌≡◌, sym, subst, true, Slots, PlainFile, PlainFiles, RoomyFiles, has_file, file_at, AreSoundFiles, changed, plain_slots}
 use Rattle.sam_text.proofs.KeptLaws.{kept_put}
 use Rattle.sam_text.proofs.files.Files.change.Goals as goal
 

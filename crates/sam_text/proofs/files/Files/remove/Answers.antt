@@ -1,6 +1,4 @@
-use Rattle.std.proofs.Common.{arith}
-use Rattle.sam_text.specs.Files.{PlainFiles}
-use Rattle.sam_text.specs.Views.{plain_slots}
+use Rattle.sam_text.proofs.Common.{arith, PlainFiles, plain_slots}
 use Rattle.sam_text.proofs.KeptLaws.{kept_free}
 use Rattle.sam_text.proofs.files.Files.remove.Goals as goal
 

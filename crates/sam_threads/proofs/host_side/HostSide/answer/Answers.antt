@@ -1,12 +1,5 @@
-use Rattle.std.proofs.Common.{arith}
-use Rattle.sam_threads.proofs.HostSide.{one_stops, one_all, one_cut, known_fit}
+use Rattle.sam_threads.proofs.HostSide.{one_all, one_cut}
 use Rattle.sam_threads.proofs.host_side.HostSide.answer.Goals as goal
-
-pub returns-in-Err-clause-handles : goal.returns-in-Err-clause-handles
-returns-in-Err-clause-handles g c = grind (arith, one_stops)
-
-pub send-requires-clause-fit : goal.send-requires-clause-fit
-send-requires-clause-fit g c = known_fit c.args.self.now.host.version _ _ c.as_slice-slice.ensures c.in-Ok.ensures.fit c.frames_are_known.ensures
 
 pub returns-in-Ok-send-clause-handles : goal.returns-in-Ok-send-clause-handles
 returns-in-Ok-send-clause-handles g c =

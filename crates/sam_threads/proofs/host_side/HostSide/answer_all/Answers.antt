@@ -1,5 +1,4 @@
-use Rattle.std.proofs.Common.{rules, ◌≡◌, ◌∷◌, arith}
-use Rattle.std.specs.Vec.Iter.{into_iter_items}
+use Rattle.sam_threads.proofs.Common.{rules, ◌≡◌, ◌∷◌, arith, into_iter_items}
 use Rattle.sam_threads.proofs.HostSide.{so_far_more, so_far_stops}
 use Rattle.sam_threads.proofs.host_side.HostSide.answer_all.Goals as goal
 

@@ -1,5 +1,4 @@
-use Rattle.std.proofs.Common.{◌≡◌}
-use Rattle.std.specs.Vec.Iter.{into_iter_items}
+use Rattle.sam_threads.proofs.Common.{◌≡◌, into_iter_items}
 use Rattle.sam_threads.proofs.HostSide.{SoFar}
 use Rattle.sam_threads.proofs.host_side.HostSide.answer_all.Given as goal
 

@@ -1,6 +1,4 @@
-use Rattle.sam_queue.proofs.Laws.{items_of_mark}
-use Rattle.std.proofs.Common.{◌∙◌, ap, arith}
-use Rattle.sam_queue.specs.Views.{LineView}
+use Rattle.sam_threads.proofs.Common.{◌∙◌, ap, arith, LineView}
 use Rattle.sam_threads.proofs.HostWhole.{going_item, going_stops}
 use Rattle.sam_threads.proofs.host_side.HostSide.serve.Goals as goal
 
@@ -17,6 +15,3 @@ loop-preserved-in-Item g c =
       arith,
       (going_item (g.G.Gate.may_refuse c.args.gate.now 2) _ _ _ _ _ _ _ _ _ _ _ c.in-Item.piece _ one c.in-Item.ensures.answer c.as_slice.ensures.value c.loop.invariant.going c.in-Ok.ensures.takes),
     )
-
-pub loop-preserved : goal.loop-preserved
-loop-preserved g c = grind (arith, items_of_mark)

@@ -1,5 +1,4 @@
-use Rattle.std.proofs.Common.{◌≡◌, ◌+◌, ◌≤◌, drop, length, map, min}
-use Rattle.sam_world.specs.UnderWay.{joined}
+use Rattle.sam_world.proofs.Common.{◌≡◌, ◌+◌, ◌≤◌, drop, length, map, min, joined}
 use Rattle.sam_world.proofs.under_way.UnderWay.count.Given as goal
 
 abbrev pub invariant-loop-at : goal.invariant-loop-at

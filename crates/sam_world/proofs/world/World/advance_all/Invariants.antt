@@ -1,5 +1,4 @@
-use Rattle.std.proofs.Common.{◌≡◌, Some}
-use Rattle.sam_world.specs.World.{drained}
+use Rattle.sam_world.proofs.Common.{◌≡◌, Some, drained}
 use Rattle.sam_world.proofs.world.World.advance_all.Given as goal
 
 abbrev pub invariant-loop-event : goal.invariant-loop-event

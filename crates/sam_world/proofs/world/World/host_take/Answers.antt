@@ -1,18 +1,15 @@
-use Rattle.std.proofs.Common.{ap, sym, ◌∙◌, ◌++◌, Some, option_copied}
-use Rattle.sam_world.specs.World.{PlainWorld}
+use Rattle.sam_world.proofs.Common.{ap, sym, ◌∙◌, ◌++◌, Some, option_copied}
 use Rattle.sam_world.proofs.Keeping.{kept_answer}
 use Rattle.sam_world.proofs.Stopping.{host_stops}
 use Rattle.sam_world.proofs.world.World.host_take.Goals as goal
 
 pub invariant_of-self-in-Ok : goal.invariant_of-self-in-Ok
 invariant_of-self-in-Ok c =
-    let before : PlainWorld = record { host = c.self.inside.host; term = c.self.inside.term; up = c.self.inside.up.messages; down = c.self.inside.down.messages } in
-    kept_answer before c.handle.new.self c.in_ok-message.message c.drop_first.new.self.messages c.in-Ok.frames c.join.new.self.messages c.self.invariant
+    kept_answer _ c.handle.new.self c.in_ok-message.message c.drop_first.new.self.messages c.in-Ok.frames c.join.new.self.messages c.self.invariant
     (sym c.first.ensures ∙ ap (λ o. option_copied o) c.in-Some.is ∙ ap (λ m. Some m) (sym c.in_ok-message.ensures)) c.in-Ok.ensures.answered c.drop_first.ensures.messages
     (c.join.ensures ∙ ap (λ x. x ++ c.into_vec.result.items) c.in_ok-reserve.ensures.messages ∙ ap (λ x. c.self.inside.down.messages ++ x) c.into_vec.ensures)
 
 pub fault_of_host-requires : goal.fault_of_host-requires
 fault_of_host-requires c =
-    let before : PlainWorld = record { host = c.self.inside.host; term = c.self.inside.term; up = c.self.inside.up.messages; down = c.self.inside.down.messages } in
-    host_stops before c.in_ok-message.message c.in-Err.fault c.self.invariant.reached
+    host_stops _ c.in_ok-message.message c.in-Err.fault c.self.invariant.reached
     (sym c.first.ensures ∙ ap (λ o. option_copied o) c.in-Some.is ∙ ap (λ m. Some m) (sym c.in_ok-message.ensures)) c.in-Err.ensures.refused

@@ -1,5 +1,4 @@
-use Rattle.std.proofs.Common.{◌≡◌, take, Some}
-use Rattle.sam_world.specs.World.{run_of}
+use Rattle.sam_world.proofs.Common.{◌≡◌, take, Some, run_of}
 use Rattle.sam_world.proofs.world.World.run.Given as goal
 
 abbrev pub invariant-loop-at : goal.invariant-loop-at

@@ -1,18 +1,15 @@
-use Rattle.std.proofs.Common.{ap, sym, ◌∙◌, ◌++◌, Some, option_copied}
-use Rattle.sam_world.specs.World.{PlainWorld}
+use Rattle.sam_world.proofs.Common.{ap, sym, ◌∙◌, ◌++◌, Some, option_copied}
 use Rattle.sam_world.proofs.Keeping.{kept_take}
 use Rattle.sam_world.proofs.Stopping.{take_stops}
 use Rattle.sam_world.proofs.world.World.term_take.Goals as goal
 
 pub invariant_of-self-in-Ok : goal.invariant_of-self-in-Ok
 invariant_of-self-in-Ok c =
-    let before : PlainWorld = record { host = c.self.inside.host; term = c.self.inside.term; up = c.self.inside.up.messages; down = c.self.inside.down.messages } in
-    kept_take before c.receive.new.self c.in_ok-frame.frame c.in-Ok.batch c.join.new.self.messages c.drop_first.new.self.messages c.self.invariant c.known.ensures
+    kept_take _ c.receive.new.self c.in_ok-frame.frame c.in-Ok.batch c.join.new.self.messages c.drop_first.new.self.messages c.self.invariant c.known.ensures
     (sym c.first.ensures ∙ ap (λ o. option_copied o) c.in-Some.is ∙ ap (λ m. Some m) (sym c.in_ok-frame.ensures)) c.in-Ok.ensures.taken
     (c.join.ensures ∙ ap (λ x. x ++ c.into_vec.result.items) c.in_ok-reserve.ensures.messages ∙ ap (λ x. c.self.inside.up.messages ++ x) c.into_vec.ensures) c.drop_first.ensures.messages
 
 pub fault_of_term-requires : goal.fault_of_term-requires
 fault_of_term-requires c =
-    let before : PlainWorld = record { host = c.self.inside.host; term = c.self.inside.term; up = c.self.inside.up.messages; down = c.self.inside.down.messages } in
-    take_stops before c.in_ok-frame.frame c.in-Err.fault c.self.invariant.reached
+    take_stops _ c.in_ok-frame.frame c.in-Err.fault c.self.invariant.reached
     (sym c.first.ensures ∙ ap (λ o. option_copied o) c.in-Some.is ∙ ap (λ m. Some m) (sym c.in_ok-frame.ensures)) c.in-Err.ensures.refused

@@ -1,8 +1,6 @@
-use Rattle.std.proofs.Common.{ap, ◌∙◌, ◌++◌, Ok}
-use Rattle.sam_world.specs.World.{PlainWorld, composed_by}
+use Rattle.sam_world.proofs.Common.{ap, ◌∙◌, ◌++◌, Ok, composed_by}
 use Rattle.sam_world.proofs.Keeping.{kept_done, kept_silent}
 use Rattle.sam_term.proofs.ActLaws.{idle_still, locked_still}
-use Rattle.sam_world.proofs.Stopping.{act_stops}
 use Rattle.sam_world.proofs.world.World.try_act.Goals as goal
 
 pub returns-in-Ok-Idle-clause-still : goal.returns-in-Ok-Idle-clause-still
@@ -15,28 +13,21 @@ returns-in-Ok-Locked-clause-still c =
 
 pub invariant_of-self-in-Ok-Done : goal.invariant_of-self-in-Ok-Done
 invariant_of-self-in-Ok-Done c =
-    let before : PlainWorld = record { host = c.self.inside.host; term = c.self.inside.term; up = c.self.inside.up.messages; down = c.self.inside.down.messages } in
-    kept_done before c.act.new.self c.in-Ok-Done.batch c.join.new.self.messages c.self.invariant c.known.ensures
+    kept_done _ c.act.new.self c.in-Ok-Done.batch c.join.new.self.messages c.self.invariant c.known.ensures
     (c.in-Ok-Done.ensures.acted ∙ ap (λ a. Ok (c.act.new.self, a)) c.in-Ok-Done.field-0-is)
     (c.join.ensures ∙ ap (λ x. x ++ c.into_vec.result.items) c.in_ok-reserve.ensures.messages ∙ ap (λ x. c.self.inside.up.messages ++ x) c.into_vec.ensures)
 
 pub invariant_of-self-in-Ok-Refused : goal.invariant_of-self-in-Ok-Refused
 invariant_of-self-in-Ok-Refused c =
-    let before : PlainWorld = record { host = c.self.inside.host; term = c.self.inside.term; up = c.self.inside.up.messages; down = c.self.inside.down.messages } in
-    kept_silent before c.act.new.self c.in-Ok-Refused.field-0 c.reserve.new.self.messages
+    kept_silent _ c.act.new.self c.in-Ok-Refused.field-0 c.reserve.new.self.messages
     c.self.invariant c.in-Ok-Refused.ensures.acted (ap (λ a. composed_by a) c.in-Ok-Refused.field-0-is) c.in_ok-reserve.ensures.messages
 
 pub invariant_of-self-in-Ok-Idle : goal.invariant_of-self-in-Ok-Idle
 invariant_of-self-in-Ok-Idle c =
-    let before : PlainWorld = record { host = c.self.inside.host; term = c.self.inside.term; up = c.self.inside.up.messages; down = c.self.inside.down.messages } in
-    kept_silent before c.act.new.self c.in-Ok-Idle.field-0 c.reserve.new.self.messages
+    kept_silent _ c.act.new.self c.in-Ok-Idle.field-0 c.reserve.new.self.messages
     c.self.invariant c.in-Ok-Idle.ensures.acted (ap (λ a. composed_by a) c.in-Ok-Idle.field-0-is) c.in_ok-reserve.ensures.messages
 
 pub invariant_of-self-in-Ok-Locked : goal.invariant_of-self-in-Ok-Locked
 invariant_of-self-in-Ok-Locked c =
-    let before : PlainWorld = record { host = c.self.inside.host; term = c.self.inside.term; up = c.self.inside.up.messages; down = c.self.inside.down.messages } in
-    kept_silent before c.act.new.self c.in-Ok-Locked.field-0 c.reserve.new.self.messages
+    kept_silent _ c.act.new.self c.in-Ok-Locked.field-0 c.reserve.new.self.messages
     c.self.invariant c.in-Ok-Locked.ensures.acted (ap (λ a. composed_by a) c.in-Ok-Locked.field-0-is) c.in_ok-reserve.ensures.messages
-
-pub fault_of_term-requires : goal.fault_of_term-requires
-fault_of_term-requires c = act_stops c.self.inside.term c.in-Err.fault c.in-Err.ensures.refused
