@@ -1,7 +1,7 @@
 -- What waits in a host end fits: messages that a framer gave, and the frames of an answer.
 use Rattle.sam_ends.proofs.Common.{◌≡◌, subst, ℕ, false, List, [], ◌∷◌, Option, None, arith, All-nil, All-cons, All-tail, Tmesg, terminal, FitInTurn, Held, FitInPlace, FitsLast, StreamFault, FitMessages, Gives, PlainHostEnd, IsSound}
 use Rattle.sam_mesg.proofs.Versions.{grows_t}
-use Rattle.sam_host.proofs.LastVersion.{fit_in_last}
+use Rattle.sam_host.proofs.FrameFits.{fit_in_last}
 
 fit_in_turn : (version : ℕ) (ms : List Tmesg) → FitInTurn terminal version ms → FitMessages ms
 fit_in_turn version [] fit = All-nil FitsLast

@@ -4,7 +4,6 @@ pub mod HostEndGoing
 pub mod HostEndFiles
 pub mod TermEndHeld
 pub mod TermEndStamps
-pub mod TermEndFits
 pub mod TermEndMoves
 pub mod TermEndSteps
 pub mod TermEndCalls

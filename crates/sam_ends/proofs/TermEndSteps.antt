@@ -1,5 +1,5 @@
 -- One step of a terminal end: what holds of the end after it.
-use Rattle.sam_ends.proofs.Common.{◌≡◌, sym, subst, ℕ, ◌-◌, ◌≤◌, false, List, [], ◌∷◌, ◌++◌, length, drop, Option, Some, None, Ok, Err, arith, slice_get, IsTrue, All-tail, fits_h, HFrame, Tmesg, host, Held, composed_in, PlainTerminal, act_of, take_of, Acted, StreamFault, TermStop, EndFault, FitFrames, Gives, PlainTermEnd, IsSettled, oldest, refusals_from, ActsFirst, Receives, Tries, stopped_by}
+use Rattle.sam_ends.proofs.Common.{◌≡◌, sym, subst, ℕ, ◌-◌, ◌≤◌, false, List, [], ◌∷◌, ◌++◌, length, drop, Option, Some, None, Ok, Err, arith, slice_get, IsTrue, All-tail, fits_h, HFrame, Tmesg, host, Held, composed_in, PlainTerminal, act_of, take_of, Acted, StreamFault, TermStop, EndFault, FitFrames, Gives, PlainTermEnd, IsSettled, oldest, refusals_from, ActsFirst, Receives, Tries, stopped_by, All-nil, FitInTurn}
 use Rattle.sam_ends.specs.TermSteps.{IsSound}
 use Rattle.sam_ends.proofs.TermEndHeld.{act_held, take_held}
 use Rattle.sam_ends.proofs.TermEndStamps.{act_counts}
@@ -42,3 +42,11 @@ acted_stamped e u acted s act = omega (arith, act_counts e.term u acted act, s.s
 pub receive_failed : (e h g : PlainTermEnd) (frame : HFrame) (rest : List HFrame) (u : PlainTerminal) (why : EndFault TermStop) → e.waiting ≡ frame ∷ rest
     → Tries {A = List Tmesg} e.term (take_of e.term frame) (Err why) u → h ≡ record e { term = u } → g ≡ stopped_by h why → Receives e (Err why) g
 receive_failed e h g frame rest u why w q y z = grind arith
+
+-- frames that a framer gives fit in version 2
+pub frames_fit : (v : ℕ) (frames : List HFrame) → FitInTurn host v frames → FitFrames frames
+frames_fit v [] fit = All-nil (λ (frame : HFrame). IsTrue (fits_h 2 frame.msg))
+frames_fit v (frame ∷ frames) fit = grind (arith, (frames_fit (host.after v frame) frames fit.1))
+
+pub given_fit : (h : Held) (piece : List ℕ) (frames : List HFrame) (behind : Option StreamFault) (k : Held) → Gives host h piece frames behind k → FitFrames frames
+given_fit h piece frames behind k e = grind (arith, frames_fit)

@@ -1,5 +1,5 @@
 -- The frames of every answer fit.
-use Rattle.sam_host.proofs.Common.{◌≡◌, ℕ, ◌≤◌, List, [], ◌∷◌, length, true, refl, arith, le-leb, snarf_limit, utf8_length, prefix_in_bytes, most_in_name, prefix_within, after_h, fits_h, Hmesg, Hsetsnarf, Tmesg, Tversion, Tstartsnarf, PlainHost, stamped, reply_version, reply_startsnarf, reply_to, AreNamesShort, FitInPlace}
+use Rattle.sam_host.proofs.Common.{◌≡◌, ℕ, ◌≤◌, List, [], ◌∷◌, length, true, refl, arith, le-leb, snarf_limit, utf8_length, prefix_in_bytes, most_in_name, prefix_within, after_h, fits_h, Hmesg, Hsetsnarf, Tmesg, Tversion, Tstartsnarf, PlainHost, stamped, reply_version, reply_startsnarf, reply_to, AreNamesShort, FitInPlace, All, IsTrue, All-nil, HFrame}
 use Rattle.sam_mesg.proofs.Versions.{grows_h}
 use Rattle.sam_host.proofs.EachFrame.{EachFrame, AreFrames, reply_each}
 
@@ -26,3 +26,8 @@ unfolding reply_version reply_startsnarf
 reply_frames_fit h (Tversion v) seen names = all-stamped h.version seen (reply_version h v).1 (λ v. refl, reply_each always h (Tversion v) names)
 reply_frames_fit h Tstartsnarf seen names = (snarf-fits h.version h.files.snarf, snarf-fits_later h.version h.files.snarf, tt)
 reply_frames_fit h m seen names = all-stamped h.version seen (reply_to h m).1 (reply_each always h m names)
+
+-- frames that fit at their places fit in the last version
+pub fit_in_last : (version : ℕ) (frames : List HFrame) → FitInPlace version frames → All (λ frame. IsTrue (fits_h 2 frame.msg)) frames
+fit_in_last version [] fit = All-nil (λ (x : HFrame). IsTrue (fits_h 2 x.msg))
+fit_in_last version (frame ∷ frames) fit = grind (arith, (fit_in_last (after_h version frame.msg) frames fit.2))

@@ -1,6 +1,6 @@
 -- Runes typed in two messages do what they do in one.
 use Rattle.sam_protocol.proofs.Common.{◌≡◌, ℕ, ◌+◌, ◌-◌, ◌≤◌, Bool, true, false, ◌&&◌, ◌==◌, if◌then◌else◌, List, [], ◌∷◌, ◌++◌, length, Option, Some, None, refl, sym, ap, ◌∙◌, arith, append_assoc, append-nil, length-append, same_Some, max_runes, ins, ends_line, part, line_start, first_of_checks, slot-put_same, put_slot-put_slot, length-ins, ends_line-append, file_at, typed_file, Tmesg, Ttype, Hmesg, PlainHost, Reply, counted, with_file, unknown, not_opened, host_checks, reply_to, reply_line, reply_type, Lens, reply_of, replied_then, answers, AllSettle}
-use Rattle.sam_text.proofs.TypeLaws.{typed_joined}
+use Rattle.sam_text.proofs.EditSteps.{typed_joined}
 use Rattle.sam_protocol.proofs.Folds.{plain_reply, answered, answers-append}
 
 -- the two are alike but for their counts

@@ -2,7 +2,7 @@
 use Rattle.sam_session.proofs.Common.{◌≡◌, ℕ, List, [], ◌∷◌, ◌++◌, Option, Ok, Err, refl, ap, subst, flat_map, append_assoc, arith, Appends, Appends-trans, All-nil, All-cons, FitsT, Tmesg, HFrame, terminal, FitInTurn, PlainHost, Answer, answer, IsSound, stays_sound, frames_fit, HostFault, Served, served_on, serve, behind, AllFit, FramesFit}
 use Rattle.sam_mesg.specs.HostKinds.{frame_h}
 use Rattle.sam_mesg.proofs.Versions.{grows_t}
-use Rattle.sam_host.proofs.LastVersion.{fit_in_last}
+use Rattle.sam_host.proofs.FrameFits.{fit_in_last}
 
 -- ---- what fits at its place fits in version 2
 

@@ -9,7 +9,7 @@ pub use Rattle.sam_mesg.specs.declared.hmesg.Hmesg.TheVariants.{Hack, Hbindname,
 pub use Rattle.sam_mesg.specs.declared.tmesg.Tmesg.{Tmesg}
 pub use Rattle.sam_mesg.specs.declared.tmesg.Tmesg.TheVariants.{Tack, Tcut, Tpaste, Trequest, Tsnarf}
 pub use Rattle.sam_rasp.specs.Rasp.{PartialText, del_cells, hole_within, ins_cells, load_cells, place_after_del, place_after_ins}
-pub use Rattle.sam_runes.proofs.Choices.{if-same}
+pub use Rattle.sam_runes.proofs.CheckLaws.{if-same}
 pub use Rattle.sam_runes.proofs.SlotLaws.{free_slot-set, put_slot-put_slot, put_slot-set, slot-free_other, slot-free_same, slot-map, slot-put_other, slot-put_same, slot-read, slot_given, slot_past}
 pub use Rattle.sam_runes.specs.Checks.{Checks, first_of_checks}
 pub use Rattle.sam_runes.specs.Slots.{Slots, free_slot, map_slots, put_slot, slot}

@@ -3,11 +3,9 @@ pub mod TermSteps
 pub mod PiecesUp
 pub mod TermKeeping
 pub mod TermTaking
-pub mod TermTelling
 pub mod HostWhole
 pub mod Passes
 pub mod RealLaws
 pub mod Feeds
 pub mod ApartTurns
-pub mod Cut
 pub mod HostSide

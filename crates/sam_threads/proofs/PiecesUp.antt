@@ -1,6 +1,9 @@
 -- What the terminal is still to send.
 use Rattle.sam_threads.proofs.Common.{◌≡◌, ap, ◌∙◌, ℕ, suc, ◌≤◌, List, [], ◌∷◌, ◌++◌, length, drop, append-nil, arith, Vec, drop-append-le, Tmesg, terminal, stream_of, PostView, with_item, IsPiece, PutSome}
-use Rattle.sam_threads.proofs.Cut.{put_none}
+
+-- nothing was put as yet
+pub put_none : (most : ℕ) (a : PostView (Vec ℕ)) (bytes : List ℕ) → PutSome most a a bytes bytes
+put_none most a bytes = grind (arith, append-nil)
 
 -- nothing stands behind the last byte
 pub nothing_behind : (xs : List ℕ) (n : ℕ) → n ≡ length xs → drop n xs ≡ []

@@ -1,5 +1,5 @@
 -- What is kept of the terminal's worker, step by step.
-use Rattle.sam_threads.proofs.Common.{◌≡◌, ◌⊎◌, refl, flat_map-append, ℕ, Bool, true, false, List, [], ◌∷◌, ◌++◌, Option, Some, None, is_some, append_assoc, append-nil, arith, MatchBool, Vec, HFrame, FitsT, Tmesg, terminal, stream_of, stream_of-append, PlainTerminal, new_terminal, UserEvent, Exit, TermLog, Each, TermRuns, term_more, each_append, IsEnded, has_left, TakeView, PostView, WasFull, closed_post, new_take, new_post, sides, frames_in, users_in, LoggedView, Did, SideView, SoFar, Ran, Goes, IsDone, IsQuiet, IsFound, PutSome, Input, Stop}
+use Rattle.sam_threads.proofs.Common.{◌≡◌, ◌⊎◌, refl, flat_map-append, ℕ, Bool, true, false, List, [], ◌∷◌, ◌++◌, Option, Some, None, is_some, append_assoc, append-nil, arith, MatchBool, Vec, HFrame, FitsT, Tmesg, terminal, stream_of, stream_of-append, PlainTerminal, new_terminal, UserEvent, Exit, TermLog, Each, TermRuns, term_more, each_append, IsEnded, has_left, TakeView, PostView, WasFull, closed_post, new_take, new_post, sides, frames_in, users_in, LoggedView, Did, SideView, SoFar, Ran, Goes, IsDone, IsQuiet, IsFound, PutSome, Input, Stop, TermTold}
 use Rattle.sam_world.specs.Logs.{logged_users}
 use Rattle.sam_threads.proofs.RealLaws.{counts}
 use Rattle.sam_threads.proofs.TermSteps.{did_nothing}
@@ -144,3 +144,8 @@ kept_new line post t logged to_send why fresh three first new laid empty is = re
 
 -- what a side rests on that puts a piece
 pub ruleset pieces_kept = (kept_pieces, kept_short, goes_put)
+
+-- what the worker tells of its end
+pub told : (v : SideView) (term : PlainTerminal) (log : Vec TermLog) (passed : Bool) → Ran v → IsDone v → record { term = term; log = log.items } ≡ v.logged
+    → TermTold v.take.line v.post.line (record { take = v.take; post = v.post; term = term; log = log; passed = passed; stop = v.stop })
+told v term log passed r d same = grind arith

@@ -73,7 +73,7 @@ struct HostSide<'q> {
 impl HostSide<'_> {
     /// Puts the bytes of the frames into the line down, and waits while it is full. Its only error is want of memory; the first of the
     /// bytes may then have been put.
-    #[tactic(auto, using(crate::proofs::HostSide::can_encode, crate::proofs::Cut::put_none))]
+    #[tactic(auto, using(crate::proofs::HostSide::can_encode, crate::proofs::PiecesUp::put_none))]
     fn send<R: Wait>(&mut self, rt: &R, frames: &[HFrame]) -> Result<(), AllocError>
         requires piece { 0 < self.old.piece }
         requires open { self.old.post.closed ≡ false }

@@ -437,7 +437,7 @@ impl<'q> Side<'q> {
     }
 
     /// Returns the worker's end.
-    #[tactic(auto, using(crate::proofs::TermTelling::told))]
+    #[tactic(auto, using(crate::proofs::TermKeeping::told))]
     fn into_end(self, passed: bool) -> TermEnd<'q>
         requires { IsDone self }
         ensures told { TermTold self.entry.take.line self.entry.post.line result }

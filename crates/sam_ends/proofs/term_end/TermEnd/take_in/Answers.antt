@@ -1,7 +1,6 @@
 use Rattle.std.proofs.Common.{ap, subst, arith}
 use Rattle.sam_ends.specs.TermEnds.{PlainTermEnd, TakesIn, shown}
-use Rattle.sam_ends.proofs.TermEndFits.{given_fit}
-use Rattle.sam_ends.proofs.TermEndSteps.{given_reads}
+use Rattle.sam_ends.proofs.TermEndSteps.{given_fit, given_reads}
 use Rattle.sam_ends.proofs.term_end.TermEnd.take_in.Goals as goal
 
 pub invariant_of-self-2 : goal.invariant_of-self-2
