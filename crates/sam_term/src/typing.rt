@@ -113,6 +113,20 @@ fn follows(unsent: &Unsent, tag: u16, p: u32, n: usize) -> bool
         && count + n <= MOST_IN_MESSAGE
 }
 
+/// For how many runes memory is asked at least where the unsent ones have no more room, so that most keys ask for none.
+const LEAST_ROOM: usize = 32;
+
+/// Puts `more` at the end of `runes`. The only error is want of memory, and nothing has changed then.
+fn put_behind(runes: &mut Vec<char>, more: &[char]) -> Result<(), AllocError>
+    ensures ok { OnOk result (runes.new.items ≡ runes.old.items ++ more.now) }
+    ensures err { OnErr result (runes.new.items ≡ runes.old.items) }
+{
+    if runes.capacity().saturating_sub(runes.len()) < more.len() {
+        runes.reserve(more.len().max(LEAST_ROOM))?;
+    }
+    runes.extend_from_slice(more)
+}
+
 /// Puts runes behind the unsent ones, if there are any. The only error is want of memory, and nothing has changed then.
 fn lengthen(unsent: &mut Option<Unsent>, more: &[char]) -> Result<(), AllocError>
     ensures ok { OnOk result (unsent.new ≡ option_map (lengthened more.now) unsent.old) }
@@ -122,7 +136,7 @@ fn lengthen(unsent: &mut Option<Unsent>, more: &[char]) -> Result<(), AllocError
         return Ok(());
     };
     let mut runes = before.runes.into_vec();
-    let grown = runes.extend_from_slice(more);
+    let grown = put_behind(&mut runes, more);
     *unsent = Some(Unsent {
         file: before.file,
         place: before.place,
