@@ -29,7 +29,7 @@ fn replaced(text: &[char], edits: &[Edit]) -> Option<Vec<char>> {
     Some(new)
 }
 
-pub fn replace_all(size: usize) -> Report {
+pub fn with_edits(size: usize) -> Report {
     let mut text = vec!['a'; size];
     let edits: Vec<Edit> = (0..size as u32)
         .map(|p| Edit { p, q: p + 1, text: if p % 2 == 0 { vec!['b', 'c'] } else { vec![] } })

@@ -57,7 +57,7 @@ fn main() {
         "encode" => codec::encode(size),
         "decode" => codec::decode(size),
         "find" => find(size),
-        "replace_all" => editing::replace_all(size),
+        "with_edits" => editing::with_edits(size),
         "x" => editing::each(size),
         "rasp_load" => loading::load(size),
         "rasp_type" => loading::typed(size),

@@ -55,7 +55,7 @@ fn report_of<R: AllocGlobal + Clock>(rt: &R, job: &str, size: u32) -> Result<Rep
         "encode" => codec::encode(rt, size),
         "decode" => codec::decode(rt, size),
         "find" => searching::find(rt, size),
-        "replace_all" => editing::replace_all(rt, size),
+        "with_edits" => editing::with_edits(rt, size),
         "x" => editing::each(rt, size),
         "rasp_load" => loading::load(rt, size),
         "rasp_type" => loading::typed(rt, size),

@@ -43,16 +43,16 @@ fn edits_of(alloc: Global, size: u32) -> Result<Vec<Edit>, AllocError>
 }
 
 /// Makes `size` edits in a text of as many runes.
-pub fn replace_all<R: AllocGlobal + Clock>(rt: &R, size: u32) -> Result<Report, Fault> {
+pub fn with_edits<R: AllocGlobal + Clock>(rt: &R, size: u32) -> Result<Report, Fault> {
     let runes: Vec<char> = vec![in rt.alloc(); 'a'; size as usize]?;
-    let Ok(mut text) = Text::from_runes(rt.alloc(), runes.as_slice()) else {
+    let Ok(text) = Text::from_runes(rt.alloc(), runes.as_slice()) else {
         return Err(Fault::Refused);
     };
     let edits = edits_of(rt.alloc(), size)?;
     let begin = Instant::now(rt)?;
-    if text.replace_all(edits.as_slice()).is_err() {
+    let Ok(text) = text.with_edits(edits.as_slice()) else {
         return Err(Fault::Refused);
-    }
+    };
     let took = begin.elapsed(rt)?;
     let check = check_of(text.slice(0, text.len()));
     Ok(Report { took, check })

@@ -122,7 +122,8 @@ fn cross_all(alloc: Global, file: &mut Text) -> Result<(), TextFault> {
         crossed(alloc, 4, 4),
         crossed(alloc, 5, 6),
     ];
-    file.replace_all(&edits)
+    *file = file.with_edits(&edits)?;
+    Ok(())
 }
 
 /// Whether the file is right once it was crossed, and whether a copy that was made before is as it was.

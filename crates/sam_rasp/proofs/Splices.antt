@@ -167,24 +167,11 @@ has-front front number n e le none = grind arith
 pub change-length : (t m : PartialText) (from to : ℕ) → from ≤ to → to ≤ length t → length ((take from t ++ m) ++ drop to t) + (to - from) ≡ length t + length m
 change-length t m from to ascending within = grind (arith, length-append, length-take, length-drop)
 
--- ## A section put in
-
-pub before-inserted : {X : Type 0} (new old first : List X) (x : X) (at : ℕ) → at ≤ length old → new ≡ insert old at x → take at old ≡ take at first
-    → take at new ≡ take at first
-before-inserted new old first x at within is same = grind (arith, take_at, length-take)
-
-pub behind-inserted : {X : Type 0} (new old first : List X) (x : X) (at n : ℕ) → at ≤ length old → new ≡ insert old at x → drop (at + n) old ≡ drop at first
-    → drop (at + (n + 1)) new ≡ drop at first
-behind-inserted new old first x at n within is same = grind (arith, (length-take at old), (drop-past (take at old) (x ∷ drop at old) (n + 1) (at + (n + 1))), (drop-drop n at old))
-
 -- what `fit` rests on
 pub ruleset fit_facts = (take-below)
 
 -- what `lift` rests on
 pub ruleset lift_facts = (behind-part)
 
--- what `turn_in` rests on
-pub ruleset turn_in_facts = (length-drop, behind-turned)
-
 -- what `widen` rests on
-pub ruleset widen_facts = (before-inserted, behind-inserted)
+pub ruleset widen_facts = (length-drop, behind-turned)

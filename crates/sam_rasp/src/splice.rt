@@ -179,45 +179,10 @@ fn narrow(sections: &mut Vec<Section>, from: usize, end: usize)
     sections.drain(from..end);
 }
 
-/// How many holes come into a list one by one at most: so many as cut a section in two. Each of them moves all sections behind it at
-/// once, where turning moves them one by one.
-const FEW: usize = 2;
-
-/// Puts an empty hole in before section number `at`. The caller makes sure that there is room for it.
-fn insert_hole(sections: &mut Vec<Section>, at: usize)
-    requires within { at ≤ vec_len sections.old }
-    requires room { vec_len sections.old < vec_capacity sections.old }
-    ensures items { sections.new.items ≡ insert sections.old.items at (Section.Hole 0) }
-    ensures len { vec_len sections.new ≡ vec_len sections.old + 1 }
-    ensures capacity { vec_capacity sections.old ≤ vec_capacity sections.new }
-{
-    if sections.insert(at, Section::Hole(0)).is_err() {
-        unreachable!();
-    }
-}
-
-/// Puts `more` empty holes in before section number `at`. The caller makes sure that there is room for them.
-#[tactic(auto, using(crate::proofs::Splices::widen_facts))]
+/// Puts `more` empty holes in before section number `at`. The caller makes sure that there is room for them. They are put at the end, and
+/// then turned into their place.
+#[tactic(auto, using(std::proofs::lemmas::List::take_all, crate::proofs::Splices::widen_facts))]
 fn widen(sections: &mut Vec<Section>, at: usize, more: usize)
-    requires within { at ≤ vec_len sections.old }
-    requires room { vec_len sections.old + more ≤ vec_capacity sections.old }
-    ensures before { take at sections.new.items ≡ take at sections.old.items }
-    ensures behind { drop (at + more) sections.new.items ≡ drop at sections.old.items }
-    ensures len { vec_len sections.new ≡ vec_len sections.old + more }
-    ensures capacity { vec_capacity sections.old ≤ vec_capacity sections.new }
-{
-    if FEW < more {
-        turn_in(sections, at, more);
-        return;
-    }
-    for _ in 0..more {
-        insert_hole(sections, at);
-    }
-}
-
-/// Does the work of [`widen`] by holes that are put at the end, and then turned into their place.
-#[tactic(auto, using(std::proofs::lemmas::List::take_all, crate::proofs::Splices::turn_in_facts))]
-fn turn_in(sections: &mut Vec<Section>, at: usize, more: usize)
     requires within { at ≤ vec_len sections.old }
     requires room { vec_len sections.old + more ≤ vec_capacity sections.old }
     ensures before { take at sections.new.items ≡ take at sections.old.items }

@@ -11,6 +11,6 @@ pub use Rattle.std.specs.List.{position_or_len, prefix_len, starts_with}
 pub use Rattle.std.specs.Str.{StartsWithNoChar, all_scalars}
 pub use Rattle.sam_runes.specs.Edits.{AscendFrom, EditsFit, all_edited, edited, inserted, removed, replace, replaced_from}
 pub use Rattle.sam_runes.specs.Reading.{AreRunes}
-pub use Rattle.sam_runes.specs.Texts.{OccursAt, Range, after_newlines, del, ends_line, ins, is_in_line, is_word, leftmost, line_after, line_length, line_range, line_start, lines_before, max_runes, newline, newlines, prefix_in_bytes, searched, utf8_length, word_at}
+pub use Rattle.sam_runes.specs.Texts.{IsLeftmost, IsNowhere, OccursAt, Range, after_newlines, del, ends_line, ins, is_in_line, is_word, leftmost, line_after, line_length, line_range, line_start, lines_before, max_runes, newline, newlines, prefix_in_bytes, searched, utf8_length, word_at}
 pub use Rattle.sam_runes.specs.declared.edit.Edit.{Edit}
 pub use mathlib.Core.List.{reverse-cons}
