@@ -336,11 +336,14 @@ impl<'q> Side<'q> {
         self.stop = Some(Stop::PeerGone);
     }
 
-    /// Tries the oldest held event. Returns true only if the session is over, and nothing is held, unsent or not put.
+    /// Tries the oldest held event once the session is over. Returns true only if it is over, and nothing is held, unsent or not put.
     fn is_quiet(&mut self) -> bool
         ensures goes { Goes self.old self.new }
         ensures quiet { IsTrue result → IsQuiet self.new }
     {
+        if !self.logged.exited() {
+            return false;
+        }
         match self.act_once() {
             Tried::Idle => self.logged.exited()
                 && !self.logged.has_unsent()
