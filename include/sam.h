@@ -10,6 +10,10 @@
  *     sam_host_out(&host, ..)            bytes for the terminal
  *     sam_term_feed(&term, ..)           what changed can be drawn
  *
+ * Words. A tag is a file's number. Tag 0 is the command file: a line that is typed into it is run as a command. The dot is what is
+ * selected. The snarf buffer, which the host holds, has what was cut or copied last. A lock holds events back until the host has
+ * answered. docs/GLOSSARY.md explains the others, docs/PROTOCOL.md the messages (Twrite, Texit) and the command language.
+ *
  * Units. Places and lengths of texts count runes (Unicode scalar values); a text has at most 1,000,000. Texts go in and out as
  * UTF-8 (RFC 3629), and their lengths in bytes stand beside the pointer. The runes that a terminal draws go out as numbers.
  *
@@ -20,8 +24,10 @@
  * SAM_NO_HANDLE, SAM_NO_MEMORY or SAM_NONE, and where a comment below says 'refused', what the pointers lead to is left as it was.
  *
  * Want of memory loses nothing and ends no handle. At SAM_NO_MEMORY what the call brought was not taken: make the same call
- * again. At SAM_UNFINISHED it was taken: the next call goes on with what waits, and feeding no bytes is such a call. Only a fault
- * of the other side's stream, or a message or frame that is refused, stops a handle; its readers and _out go on to work.
+ * again. At SAM_UNFINISHED it was taken: don't bring it again. The next feed goes on with what waits; at a terminal so does the next
+ * event, or sam_term_idle. Readers and _out don't. To go on, feed no bytes until that answers neither SAM_UNFINISHED nor
+ * SAM_NO_MEMORY: both mean then that memory is still short. Only a fault of the other side's stream, a message or frame that is
+ * refused, or a full count of messages stops a handle. Its readers and _out go on to work.
  *
  * What the caller owes, and nothing here can test: pointers other than handles are not NULL but for a length of 0, lengths are
  * right, buffers don't overlap, and a handle is in one call at a time. A handle may not move between threads while it is in a
@@ -46,7 +52,7 @@ typedef struct { void *at; uint64_t made; } sam_term;
 enum sam_status {
     SAM_OK = 0,
     SAM_NO_MEMORY = 1,  /* what the call brought was not taken: make it again */
-    SAM_UNFINISHED = 2, /* what the call brought was taken; the next call goes on with what waits */
+    SAM_UNFINISHED = 2, /* what the call brought was taken, and some of it waits: feed no bytes to go on */
     SAM_COUNT_FULL = 3, /* a stream of 2^64 bytes, or 2^64 events; what the call brought was not taken */
     SAM_NO_HANDLE = 4,  /* the handle is NULL, or empty: not made yet, or freed */
     SAM_MADE = 5,       /* the handle is made already */
@@ -127,7 +133,8 @@ uint32_t sam_host_out_len(sam_host *host, size_t *len);
 uint32_t sam_host_out(sam_host *host, uint8_t *into, size_t room, size_t *count);
 
 /* The tag of the next file that the terminal told the host to write (Twrite) and that this call has not handed out yet: now is the
- * time to write sam_host_saved of it to disk. SAM_NONE where there is none. */
+ * time to write sam_host_saved of it to disk. SAM_NONE where there is none. Ask after each feed: once the file is closed, its saved text
+ * is gone. */
 uint32_t sam_host_next_written(sam_host *host, uint16_t *tag);
 
 /* Whether the session is over: the terminal has sent Texit, or a command line was `q`. */
@@ -175,10 +182,11 @@ uint32_t sam_term_new(sam_term *term);
 /* Frees a terminal, with what was pending. SAM_NO_HANDLE where it is empty or NULL. */
 uint32_t sam_term_free(sam_term *term);
 
-/* What the user does. An event acts at once where it can, or is held until the locks that it waits for are free; each call also lets
- * events that are held act, in order. What is composed is then pending. An event that is refused is told by sam_term_next_refusal, now or
- * later. Each answers SAM_OK, SAM_NO_MEMORY, SAM_UNFINISHED, SAM_COUNT_FULL, SAM_NO_HANDLE, or why the terminal has stopped:
- * SAM_STREAM.., SAM_TERM_REFUSED... The two that bring a text answer SAM_NOT_TEXT first of all but SAM_NO_HANDLE. */
+/* What the user does. An event acts at once where it can, or is held until the locks that it waits for are free and the events before it
+ * have acted; each call also lets events that are held act, in order. What is composed is then pending. An event that is refused is told
+ * by sam_term_next_refusal, now or later. Each answers SAM_OK, SAM_NO_MEMORY, SAM_UNFINISHED, SAM_COUNT_FULL, SAM_NO_HANDLE, or why the
+ * terminal has stopped: SAM_STREAM.., SAM_TERM_REFUSED... The two that bring a text answer SAM_NOT_TEXT first of all but
+ * SAM_NO_HANDLE. */
 uint32_t sam_term_type(sam_term *term, uint16_t tag, const uint8_t *text, size_t len); /* in the place of the dot: at most 512 runes */
 uint32_t sam_term_select(sam_term *term, uint16_t tag, uint32_t start, uint32_t end);  /* sets the dot */
 uint32_t sam_term_cut(sam_term *term, uint16_t tag);                                   /* the dot, into the snarf buffer */
@@ -186,19 +194,24 @@ uint32_t sam_term_paste(sam_term *term, uint16_t tag);                          
 uint32_t sam_term_snarf(sam_term *term, uint16_t tag);                                 /* copies the dot into the snarf buffer */
 uint32_t sam_term_look(sam_term *term, uint16_t tag);                                  /* selects the next occurrence of the dot's text */
 uint32_t sam_term_search(sam_term *term, uint16_t tag);                                /* selects the next occurrence of the pattern */
-uint32_t sam_term_send(sam_term *term, uint16_t tag);                                  /* prints the dot's text, and runs its last line */
+uint32_t sam_term_send(sam_term *term, uint16_t tag);                                  /* prints the dot's text in the command file, and
+                                                                                        * runs its last line */
 uint32_t sam_term_dclick(sam_term *term, uint16_t tag, uint32_t place);                /* selects the word round a place */
 uint32_t sam_term_scroll(sam_term *term, uint16_t tag, uint32_t lines);                /* shows the file from that many lines further up */
-uint32_t sam_term_view(sam_term *term, uint16_t tag, uint32_t place, uint32_t len);    /* shows the file from a place on */
-uint32_t sam_term_open(sam_term *term, uint16_t tag);                                  /* opens a file */
+uint32_t sam_term_view(sam_term *term, uint16_t tag, uint32_t place, uint32_t len);    /* shows at most len runes from a place on, and asks
+                                                                                        * for those that are not loaded */
+uint32_t sam_term_open(sam_term *term, uint16_t tag);                                  /* opens a file; command lines work on it then */
 uint32_t sam_term_opencmd(sam_term *term);                                             /* opens the command file */
-uint32_t sam_term_new_file(sam_term *term);                                            /* makes an empty file, and opens it */
+uint32_t sam_term_new_file(sam_term *term);                                            /* makes an empty file, and opens it; command lines
+                                                                                        * work on it then */
 uint32_t sam_term_write(sam_term *term, uint16_t tag);                                 /* has the host write a file */
-uint32_t sam_term_close(sam_term *term, uint16_t tag);                                 /* closes a file */
+uint32_t sam_term_close(sam_term *term, uint16_t tag);                                 /* closes a file for good: the host drops its text,
+                                                                                        * written or not */
 uint32_t sam_term_work(sam_term *term, uint16_t tag);                                  /* makes a file the one that command lines work on */
 uint32_t sam_term_check(sam_term *term, uint16_t tag);                                 /* asks for the first gap that the view shows */
 uint32_t sam_term_getsnarf(sam_term *term);                                            /* asks for the host's snarf buffer */
-uint32_t sam_term_setsnarf(sam_term *term, const uint8_t *text, size_t len);           /* gives the host another snarf buffer */
+uint32_t sam_term_setsnarf(sam_term *term, const uint8_t *text, size_t len);           /* gives the host another snarf buffer: at most 4,096
+                                                                                        * bytes, 32,000 in version 2 */
 uint32_t sam_term_version(sam_term *term, uint16_t version);                           /* offers a version, and asks for all names */
 uint32_t sam_term_flush(sam_term *term);                                               /* sends typed runes, once events before it acted */
 uint32_t sam_term_exit(sam_term *term);                                                /* ends the session */
@@ -229,7 +242,8 @@ uint32_t sam_term_tags(sam_term *term, size_t *count);
 /* Whether the terminal knows a file of this tag. */
 uint32_t sam_term_is_known(sam_term *term, uint16_t tag, bool *known);
 
-/* The name of a known file, in UTF-8: as many whole runes as have room. SAM_NONE where the tag is not known. */
+/* The name of a known file, in UTF-8: as many whole runes as have room; 256 bytes are always enough. SAM_NONE where the tag is not
+ * known. */
 uint32_t sam_term_name(sam_term *term, uint16_t tag, uint8_t *into, size_t room, size_t *len);
 
 /* Whether a known file is dirty, as the host told last. SAM_NONE where the tag is not known. */
@@ -243,7 +257,8 @@ uint32_t sam_term_is_changed(sam_term *term, uint16_t tag, bool *changed);
 /* Whether a file is open. */
 uint32_t sam_term_is_open(sam_term *term, uint16_t tag, bool *open);
 
-/* The file that the host made current last. SAM_NONE where it made none. */
+/* The file that the host's answer to sam_term_work or sam_term_new_file named last, SAM_NONE before the first. It may be closed since.
+ * sam_term_open changes the file that command lines work on without telling it here. */
 uint32_t sam_term_current(sam_term *term, uint16_t *tag);
 
 /* The length of an open file in runes, gaps counted. SAM_NONE where it is not open; so too the next four. */
@@ -277,14 +292,16 @@ uint32_t sam_term_unsent(sam_term *term, uint32_t *runes);
 uint32_t sam_term_sent(sam_term *term, uint64_t *messages);
 
 /* How many of the composed messages the host has not taken, as far as its frames tell. 0 means that it has taken them all. Else it is an
- * upper bound: the host answers typing (but the end of a command line) and the cutting of a selection by no frame, and such a message
- * counts until the host answers a later one. sam_term_check asks for an answer that changes nothing. */
+ * upper bound: the host answers typing (but the end of a command line), the cutting of a selection, and the acknowledgement that the
+ * terminal sends behind each sam_term_version by no frame, and such a message counts until the host answers a later one. sam_term_check
+ * asks for an answer that changes no text. */
 uint32_t sam_term_under_way(sam_term *term, uint64_t *messages);
 
-/* The pattern that the host told last, in UTF-8: as many whole runes as have room. */
+/* The pattern that the host told last, in UTF-8: as many whole runes as have room; 512 bytes are always enough. */
 uint32_t sam_term_pattern(sam_term *term, uint8_t *into, size_t room, size_t *len);
 
-/* The snarfed text that the host sent last (sam_term_getsnarf), from a place on, in UTF-8: as many whole runes as have room. */
+/* The snarfed text that the host sent last (sam_term_getsnarf), from a place on, in UTF-8: as many whole runes as have room. It may be
+ * only the front of the host's buffer: at most 4,096 bytes come, 32,000 in version 2. */
 uint32_t sam_term_snarfed(sam_term *term, uint32_t place, uint8_t *into, size_t room, size_t *bytes, size_t *runes);
 
 /* How many runes the host's snarf buffer has, as it told last. */

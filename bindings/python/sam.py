@@ -20,11 +20,13 @@ is given may be a `str`, or its UTF-8 as `bytes`.
 `replay` runs a script of docs/SCRIPTS.md over a host and a terminal of its own.
 
 Errors: each family of status codes has an exception class below `SamError`, whose `code` is the `Status`. Want of memory is told by
-`NoMemory` (what the call brought was not taken: make it again) and by `Unfinished` (it was taken: any next call goes on, and
-`feed()` without bytes is one); both are `MemoryError`s, and neither ends anything.
+`NoMemory` (what the call brought was not taken: make it again) and by `Unfinished` (it was taken: don't bring it again. The next
+`feed`, event or `idle` goes on, and `feed()` without bytes does just that; it raises `NoMemory` while memory is still short). Both are
+`MemoryError`s, and neither ends anything.
 
-The shared library is the file that the environment variable SAM_LIBRARY names, else out/libsam.so of this repository. Calls keep
-the interpreter's lock, so threads may share a handle.
+The shared library is the file that the environment variable SAM_LIBRARY names, else out/libsam.so of this repository. Each call of
+the library keeps the interpreter's lock, so threads may share a handle; a free-threaded Python has no such lock, so use one of your own
+there. `text`, `saved` and `snarfed` read a long text by several calls: let no other thread change it meanwhile.
 """
 import ctypes
 import enum
@@ -108,7 +110,8 @@ class NoMemory(SamError, MemoryError):
 
 
 class Unfinished(SamError, MemoryError):
-    """Memory is wanting, but what the call brought was taken: the next call goes on with what waits (SAM_UNFINISHED)."""
+    """Memory is wanting, but what the call brought was taken: the next feed, event or `idle` goes on with what waits
+    (SAM_UNFINISHED)."""
 
 
 class CountFull(SamError, OverflowError):
@@ -213,6 +216,9 @@ _SIGNATURES = {
     "term_has_exited": (_BOOL,), "term_version_of": (_TAG,),
 }  # fmt: skip
 
+# The first number that is too great for a type of an argument.
+_END = {c_uint16: 2**16, c_uint32: 2**32}
+
 # The arguments of the one call that takes no handle.
 _REPLAY_SIGNATURE = (*_BYTES, *_BUFFER, _SIZE, _SIZE)
 
@@ -235,8 +241,8 @@ _LIBRARY = _load()
 
 
 def _bytes(text: Text) -> bytes:
-    """The text as bytes. A surrogate stays, so that the library refuses it."""
-    return text.encode("utf-8", "surrogatepass") if isinstance(text, str) else bytes(text)
+    """The text as bytes. A surrogate stays, so that the library refuses it. TypeError for what is neither text nor bytes."""
+    return text.encode("utf-8", "surrogatepass") if isinstance(text, str) else bytes(memoryview(text))
 
 
 def replay(script: Text) -> bytes:
@@ -265,8 +271,12 @@ class _Side:
         self._call("new")
 
     def _answer(self, name, *arguments) -> int:
-        """Makes a call, and answers its status."""
-        return getattr(_LIBRARY, f"{self._prefix}_{name}")(byref(self._handle), *arguments)
+        """Makes a call, and answers its status. ValueError for a number that C's type can't hold: ctypes would wrap it."""
+        function = getattr(_LIBRARY, f"{self._prefix}_{name}")
+        for kind, argument in zip(function.argtypes[1:], arguments):
+            if kind in _END and not 0 <= argument < _END[kind]:
+                raise ValueError(f"{argument} is not from 0 to {_END[kind] - 1}")
+        return function(byref(self._handle), *arguments)
 
     def _call(self, name, *arguments) -> None:
         """Makes a call. Raises what it answers other than SAM_OK."""
@@ -315,7 +325,7 @@ class _Side:
     def feed(self, data: bytes = b"") -> None:
         """Takes bytes of the other side, in whatever pieces they come, and does what they tell. Without bytes it goes on with what
         waits after `Unfinished`. Raises NoMemory, Unfinished, CountFull, or why this side has stopped, now or before."""
-        data = bytes(data)
+        data = bytes(memoryview(data))
         self._call("feed", data, len(data))
 
     @property
@@ -479,7 +489,7 @@ class Terminal(_Side):
         self._call("scroll", tag, lines)
 
     def view(self, tag: int, place: int, length: int) -> None:
-        """Shows so many runes of the file from a place on, and asks for those that are not loaded."""
+        """Shows at most so many runes of the file from a place on, and asks for those that are not loaded."""
         self._call("view", tag, place, length)
 
     def open(self, tag: int) -> None:
@@ -491,7 +501,7 @@ class Terminal(_Side):
         self._call("opencmd")
 
     def new_file(self) -> None:
-        """Makes an empty file, and opens it."""
+        """Makes an empty file, opens it, and makes it the work file."""
         self._call("new_file")
 
     def write(self, tag: int) -> None:
@@ -499,7 +509,7 @@ class Terminal(_Side):
         self._call("write", tag)
 
     def close_file(self, tag: int) -> None:
-        """Closes a file for good (sam_term_close; `close` frees the terminal)."""
+        """Closes a file for good: the host drops its text, written or not (sam_term_close; `close` frees the terminal)."""
         self._call("close", tag)
 
     def work(self, tag: int) -> None:
@@ -593,7 +603,7 @@ class Terminal(_Side):
 
     @property
     def current(self) -> Optional[int]:
-        """The file that the host made current last; None where it made none."""
+        """The file that the host's answer to `work` or `new_file` named last; None before the first. It may be closed since."""
         return self._read_if_any("current", c_uint16)
 
     def length(self, tag: int) -> int:
@@ -646,8 +656,9 @@ class Terminal(_Side):
     def under_way(self) -> int:
         """How many of the composed messages the host has not taken, as far as its frames tell; 0 means that it has taken them all.
 
-        Else it is an upper bound: the host answers typing and the cutting of a selection by no frame, and such a message counts until the
-        host answers a later one. `check` asks for an answer that changes nothing.
+        Else it is an upper bound: the host answers typing (but the end of a command line), the cutting of a selection, and the
+        acknowledgement that the terminal sends behind each `offer_version` by no frame, and such a message counts until the host answers
+        a later one. `check` asks for an answer that changes no text.
         """
         return self._read("under_way", c_uint64)
 

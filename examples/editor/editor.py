@@ -19,7 +19,7 @@ BY_PLACE = {
     "left", "right", "up", "down", "home", "end", "first", "last", "erase_left", "erase_right", "select_all", "word",
 }  # fmt: skip
 # Actions that ask first where a file was not written. What is held or not answered yet may still change one, so these wait for it.
-ASKING = {"close", "leave"}
+ASKING = {"close", "leave", "send"}
 # Actions that change no file: these go on without a host.
 READING = {"help", "switch", "next_window", "menu", "split", "unsplit", "page_up", "page_down", "leave"}
 
@@ -106,7 +106,8 @@ class Editor:
         """Takes a window off the screen."""
         at = self.files.index(window)
         self.files.remove(window)
-        self.active = self.files[max(0, at - 1)] if self.files else self.command
+        if self.active is window:
+            self.active = self.files[max(0, at - 1)] if self.files else self.command
         if self.focus is window:
             self.focus = self.active
         self.arrange(self._rows, self.command.width)
@@ -201,10 +202,10 @@ class Editor:
     def _must_wait(self, key: Input) -> bool:
         if isinstance(key, Key) and ACTIONS.get(key.name) in ASKING:
             return self._is_answer_due
-        if self.focus.is_settled or not self.focus.is_open:
-            return False
         if isinstance(key, Text):
-            return "\n" in key.runes and self.focus is self.command
+            return "\n" in key.runes and self.focus is self.command and self._is_answer_due
+        if self.focus.is_settled:
+            return False
         return isinstance(key, Mouse) or ACTIONS.get(key.name.replace("Shift-", "")) in BY_PLACE
 
     def _act(self, key: Input) -> None:
@@ -233,7 +234,7 @@ class Editor:
         if action in BY_PLACE:
             if self.focus.is_open:
                 getattr(self, f"do_{action}")(name.startswith("Shift-"))
-        elif action in ("leave", "close"):
+        elif action in ASKING:
             getattr(self, f"do_{action}")(asked == action)
         else:
             getattr(self, f"do_{action}")()
@@ -273,6 +274,15 @@ class Editor:
         line = self.command.read(self.command.line_start(end), end - self.command.line_start(end))
         return "".join(rune or "" for rune in line).strip(" \t") == "q"
 
+    def _sends_quit(self) -> bool:
+        """Whether the last line of the selection is `q`."""
+        if not self.focus.is_open:
+            return False
+        start, end = self.focus.dot
+        start = max(start, end - MOST_IN_EVENT)
+        text = "".join(rune or "" for rune in self.focus.read(start, end - start))
+        return text.removesuffix("\n").rpartition("\n")[2].strip(" \t") == "q"
+
     def _unwritten(self) -> str:
         return ", ".join(self.name(tag) for tag in self.terminal.files() if self.is_changed(tag))
 
@@ -293,6 +303,7 @@ class Editor:
             self._press(window, mouse)
 
     def _press(self, window: Window, mouse: Mouse) -> None:
+        self.asked = None  # what was asked was of another place
         self.go_to(window)
         window.goal = None
         if mouse.row == window.y or not window.is_settled:
@@ -398,7 +409,10 @@ class Editor:
         self.terminal.search(self.focus.tag)
         self.focus.anchor = None
 
-    def do_send(self) -> None:
+    def do_send(self, is_sure: bool) -> None:
+        if self._sends_quit() and self._unwritten() and not is_sure:
+            self.asked, self.message = "send", f"not written: {self._unwritten()}. ^E again leaves without them"
+            return
         self._work()
         self.terminal.send(self.focus.tag)
 

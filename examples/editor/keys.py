@@ -13,7 +13,7 @@ class Binding(NamedTuple):
 
 
 BINDINGS = (
-    Binding(("F1", "^G"), "help", "shows these keys; any key goes back"),
+    Binding(("F1", "^G"), "help", "shows these keys; arrows scroll, any other key goes back"),
     Binding(("Esc",), "switch", "goes to the command window, and back to the file"),
     Binding(("^P", "F6"), "next_window", "goes to the next window"),
     Binding(("^O", "F2"), "menu", "menu of files: arrows choose, Enter opens, Esc goes back"),

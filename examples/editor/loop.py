@@ -10,11 +10,12 @@ from typing import Dict, Optional
 from editor import Editor
 from keys import waiting
 from link import Link
-from sam import SamError, Terminal
+from sam import NoMemory, SamError, Terminal
 from screen import Screen
 
 KEYBOARD = 0
 ENDS = (signal.SIGTERM, signal.SIGHUP)
+RETRY = 100  # milliseconds until that for which memory was wanting is tried again
 
 
 class Loop:
@@ -22,6 +23,8 @@ class Loop:
 
     def __init__(self, terminal: Terminal, link: Link, screen: Screen, editor: Editor):
         self.terminal, self.link, self.screen, self.editor = terminal, link, screen, editor
+        self.untaken = b""  # bytes of the host for which the terminal had no memory yet
+        self.is_short = False  # memory was wanting since the last pause
         self.signals, wakes = os.pipe()
         for end in (self.signals, wakes):
             os.set_blocking(end, False)
@@ -50,12 +53,17 @@ class Loop:
 
     def _idle(self) -> Optional[int]:
         """Before it sleeps: sends what was typed, and draws. Returns how many milliseconds it may sleep; None where that has no end."""
+        self.is_short = False
+        if self.untaken:
+            self._do(self._feed)
         self._do(self.editor.update)
         if not self.editor.is_lost:
             self._do(self.editor.pause)
         self._send()
         longest = self.editor.way.milliseconds  # before it draws, so that a wait which ends in between is drawn then
         self.screen.draw(self.editor, self.link)
+        if self.is_short:
+            return RETRY if longest is None else min(longest, RETRY)
         return longest
 
     def _take_keys(self, ready: Dict[int, int]) -> None:
@@ -82,20 +90,30 @@ class Loop:
             for line in self.link.listen():
                 self.editor.message = line
         if self.link.source in ready and not self.link.is_lost:
-            data = self.link.receive()
-            self._do(lambda: self.editor.feed(data))
+            self.untaken += self.link.receive()
+            self._do(self._feed)
             self._do(self.editor.update)
         if self.link.is_lost and not self.editor.is_lost and not self.editor.is_over:
             self.editor.lose("the host is gone")
+
+    def _feed(self) -> None:
+        """Feeds what came from the host. Where memory is wanting it stays, and is fed again."""
+        data, self.untaken = self.untaken, b""
+        try:
+            self.editor.feed(data)
+        except NoMemory:
+            self.untaken = data
+            raise
 
     def _send(self) -> None:
         self.link.send(self.terminal.out())
 
     def _do(self, action) -> None:
-        """Does something that the terminal may refuse. Want of memory passes: the next call goes on with what waits."""
+        """Does something that the terminal may refuse. Want of memory passes: it is tried again, and goes on with what waits."""
         try:
             action()
         except MemoryError as error:
+            self.is_short = True
             self.editor.message = f"there is not enough memory ({error})"
         except SamError as error:
             if not self.editor.is_lost:

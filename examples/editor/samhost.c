@@ -28,6 +28,7 @@ enum {
     MOST_IN_NAME = 64,        /* runes of a name */
     NAME_ROOM = 256,          /* bytes of the longest name */
     MOST_SAVED_BESIDE = 1000, /* names that are tried for an unsaved text */
+    LONGEST_SAVED = 240,      /* bytes of a name behind which .sam-saved.1000 still has room */
     PAUSE = 100000000,        /* nanoseconds until memory is asked for again */
     MOST_PIECES_LEFT = 64     /* pieces of input that are still taken after a signal */
 };
@@ -40,7 +41,8 @@ enum ending { GOES_ON, LEFT, INPUT_ENDED, FAULT };
 struct document {
     char *path;      /* where it was read; NULL for a file that the terminal made */
     char *shown;     /* its name in the session, the end of a long path */
-    bool is_unsaved; /* the terminal believes it written, but it could not be */
+    bool is_unsaved; /* the terminal believes it written, but it is neither written nor saved aside */
+    char *aside;     /* where its text was saved when it could not be written last; NULL where that is nowhere */
 };
 
 /* The bytes that wait on both sides, and whether the terminal still listens. */
@@ -147,7 +149,7 @@ static int add_file(sam_host *host, const char *path)
         code = sam_host_add_file(host, (const uint8_t *)shown, strlen(shown), text, len, &tag);
     free(text);
     if (error == 0 && code == SAM_OK) {
-        documents[tag] = (struct document){own, shown, false};
+        documents[tag] = (struct document){own, shown, false, NULL};
         return STATUS_OK;
     }
     free(own);
@@ -218,8 +220,8 @@ static bool may_replace(const char *path)
 {
     struct stat old;
 
-    if (stat(path, &old) != 0)
-        return true;
+    if (stat(path, &old) != 0) /* a link that is there leads nowhere, or where nobody may look */
+        return errno == ENOENT && lstat(path, &old) != 0;
     if (!S_ISREG(old.st_mode)) {
         errno = S_ISDIR(old.st_mode) ? EISDIR : EINVAL;
         return false;
@@ -227,7 +229,8 @@ static bool may_replace(const char *path)
     return access(path, W_OK) == 0;
 }
 
-/* Gives a new file the owner and the mode bits of another. Without another it is the owner's alone. */
+/* Gives a new file the owner, the group and the mode bits of another, as far as the system allows it. Without another it is the owner's
+ * alone. */
 static bool copy_mode(const char *like, int file)
 {
     struct stat old, new;
@@ -238,10 +241,9 @@ static bool copy_mode(const char *like, int file)
         return fchmod(file, mode_of_new_files) == 0;
     if (fstat(file, &new) != 0)
         return false;
-    bool is_same = old.st_uid == new.st_uid && old.st_gid == new.st_gid;
-    if (!is_same && fchown(file, old.st_uid, old.st_gid) != 0)
-        return fchmod(file, old.st_mode & 0777) == 0;
-    return fchmod(file, old.st_mode & 07777) == 0;
+    bool has_group = old.st_gid == new.st_gid || fchown(file, (uid_t)-1, old.st_gid) == 0;
+    bool has_owner = old.st_uid == new.st_uid || fchown(file, old.st_uid, (gid_t)-1) == 0;
+    return fchmod(file, old.st_mode & (has_group && has_owner ? 07777 : 0777)) == 0;
 }
 
 /* The folder of a path, with the slash at its end, in memory of its own. */
@@ -298,21 +300,98 @@ static bool replace_file(sam_host *host, uint16_t tag, reader read_text, const c
     return is_written;
 }
 
-/* Writes the saved copy of a file to disk, behind a symbolic link too. */
+/* ---- Texts that were not written ---- */
+
+/* Writes a text to the first of NAME.sam-saved, NAME.sam-saved.2 and so on that isn't there yet. Returns its path, in memory of its own;
+ * NULL where it could not, with the reason in errno. */
+static char *save_as(sam_host *host, uint16_t tag, const char *name, const char *like)
+{
+    size_t room = strlen(name) + 32;
+    char *path = malloc(room);
+    struct stat status;
+
+    for (int at = 1; path != NULL && at <= MOST_SAVED_BESIDE; at++) {
+        snprintf(path, room, at == 1 ? "%s.sam-saved" : "%s.sam-saved.%d", name, at);
+        if (lstat(path, &status) != 0) {
+            if (replace_file(host, tag, sam_host_text, path, like))
+                return path;
+            break;
+        }
+    }
+    int error = errno;
+    free(path);
+    errno = error;
+    return NULL;
+}
+
+/* The same in the folder for temporary files. */
+static char *save_among_temporary(sam_host *host, uint16_t tag, const char *name, const char *unnamed)
+{
+    const char *temporary = getenv("TMPDIR"), *slash = strrchr(name, '/'), *last = slash == NULL ? name : slash + 1;
+    char *folder = joined(temporary == NULL ? "/tmp" : temporary, "/");
+    char *other = folder == NULL ? NULL : joined(folder, strlen(last) > LONGEST_SAVED ? unnamed : last);
+    char *saved = other == NULL ? NULL : save_as(host, tag, other, NULL);
+    int error = errno;
+
+    free(other);
+    free(folder);
+    errno = error;
+    return saved;
+}
+
+/* Saves a text where it was saved before, else beside its file, else in the folder for temporary files, and tells where. */
+static bool save_aside(sam_host *host, uint16_t tag)
+{
+    struct document *document = &documents[tag];
+    char unnamed[32];
+    char *path = path_of(host, tag);
+
+    snprintf(unnamed, sizeof unnamed, "unnamed-%u", (unsigned)tag);
+    const char *name = path == NULL ? unnamed : path;
+    if (document->aside == NULL || !replace_file(host, tag, sam_host_text, document->aside, document->aside)) {
+        free(document->aside);
+        document->aside = save_as(host, tag, name, name);
+        if (document->aside == NULL) {
+            tell("? write %s.sam-saved: %s", name, strerror(errno));
+            document->aside = save_among_temporary(host, tag, name, unnamed);
+        }
+    }
+    if (document->aside == NULL)
+        tell("the text of %s is lost: %s", name, strerror(errno));
+    else
+        tell("%s was not written; its text is in %s", name, document->aside);
+    free(path);
+    return document->aside != NULL;
+}
+
+/* Lets go of the copy of a text that is written by now. */
+static void drop_aside(uint16_t tag)
+{
+    if (documents[tag].aside != NULL)
+        unlink(documents[tag].aside);
+    free(documents[tag].aside);
+    documents[tag].aside = NULL;
+}
+
+/* Writes the saved copy of a file to disk, behind a symbolic link too. What can't be written is saved aside at once, since the terminal
+ * believes it written, and closes the file without a question. */
 static void write_file(sam_host *host, uint16_t tag)
 {
     char *path = path_of(host, tag);
-
-    if (path == NULL) {
-        tell("? write file %u: %s", (unsigned)tag, errno == ENOMEM ? strerror(errno) : "it has no name yet, or one that no file can have");
-        documents[tag].is_unsaved = true;
-        return;
-    }
-    char *target = realpath(path, NULL);
+    int error = errno;
+    char *target = path == NULL ? NULL : realpath(path, NULL);
     const char *place = target == NULL ? path : target;
-    documents[tag].is_unsaved = !replace_file(host, tag, sam_host_saved, place, place);
-    if (documents[tag].is_unsaved)
-        tell("? write %s: %s", path, strerror(errno));
+    bool is_written = path != NULL && replace_file(host, tag, sam_host_saved, place, place);
+
+    if (path != NULL)
+        error = errno;
+    documents[tag].is_unsaved = !is_written && !save_aside(host, tag);
+    if (is_written)
+        drop_aside(tag);
+    else if (path != NULL)
+        tell("? write %s: %s", path, strerror(error));
+    else
+        tell("? write file %u: %s", (unsigned)tag, error == ENOMEM ? strerror(error) : "it has no name yet, or one that no file can have");
     free(target);
     free(path);
 }
@@ -323,54 +402,6 @@ static void write_files(sam_host *host)
 
     while (sam_host_next_written(host, &tag) == SAM_OK)
         write_file(host, tag);
-}
-
-/* ---- Texts that were not written ---- */
-
-/* Writes a text to the first of NAME.sam-saved, NAME.sam-saved.2 and so on that isn't there yet, and tells which. */
-static bool save_as(sam_host *host, uint16_t tag, const char *name, const char *like)
-{
-    size_t room = strlen(name) + 32;
-    char *path = malloc(room);
-    struct stat status;
-    bool is_saved = false;
-
-    for (int at = 1; path != NULL && at <= MOST_SAVED_BESIDE; at++) {
-        snprintf(path, room, at == 1 ? "%s.sam-saved" : "%s.sam-saved.%d", name, at);
-        if (lstat(path, &status) != 0) {
-            is_saved = replace_file(host, tag, sam_host_text, path, like);
-            break;
-        }
-    }
-    if (is_saved)
-        tell("%s was not written; its text is in %s", name, path);
-    free(path);
-    return is_saved;
-}
-
-/* Saves a text beside its file, or where that can't be, in the folder for temporary files. */
-static bool save_aside(sam_host *host, uint16_t tag)
-{
-    const char *temporary = getenv("TMPDIR");
-    char unnamed[32];
-    char *path = path_of(host, tag);
-
-    snprintf(unnamed, sizeof unnamed, "unnamed-%u", (unsigned)tag);
-    const char *name = path == NULL ? unnamed : path;
-    bool is_saved = save_as(host, tag, name, name);
-    if (!is_saved) {
-        tell("? write %s.sam-saved: %s", name, strerror(errno));
-        const char *slash = strrchr(name, '/');
-        char *folder = joined(temporary == NULL ? "/tmp" : temporary, "/");
-        char *other = folder == NULL ? NULL : joined(folder, slash == NULL ? name : slash + 1);
-        is_saved = other != NULL && save_as(host, tag, other, NULL);
-        free(other);
-        free(folder);
-    }
-    if (!is_saved)
-        tell("the text of %s is lost: %s", name, strerror(errno));
-    free(path);
-    return is_saved;
 }
 
 /* Saves the texts that could not be written when the terminal said so, and all that are dirty unless the user left by himself. */

@@ -1,4 +1,5 @@
 """The screen: draws what changed since it was drawn last."""
+import contextlib
 import curses
 import sys
 from typing import Dict, List, Optional, Tuple
@@ -24,7 +25,8 @@ class Screen:
         self.drawn: Dict[int, tuple] = {}  # what stands in each row
         curses.raw()
         curses.nonl()
-        curses.use_default_colors()
+        with contextlib.suppress(curses.error):  # of a screen without colours
+            curses.use_default_colors()
         screen.keypad(True)
         screen.nodelay(True)
         curses.mousemask(MOUSE)

@@ -37,23 +37,25 @@ static void want(const char *what, uint32_t status)
 	if (status != SAM_OK) fail(what, status);
 }
 
-/* Feeds bytes to a side: at want of memory once more, and with no bytes where they were taken. */
+/* Feeds bytes to a side: once more at want of memory, until they are taken, and then no bytes until nothing waits. */
 static void feed_host(const uint8_t *bytes, size_t len)
 {
-	uint32_t status = sam_host_feed(&host, bytes, len);
-	while (status == SAM_NO_MEMORY || status == SAM_UNFINISHED) {
+	uint32_t status;
+	while ((status = sam_host_feed(&host, bytes, len)) == SAM_NO_MEMORY) again++;
+	while (status == SAM_UNFINISHED || status == SAM_NO_MEMORY) {
 		again++;
-		status = status == SAM_NO_MEMORY ? sam_host_feed(&host, bytes, len) : sam_host_feed(&host, NULL, 0);
+		status = sam_host_feed(&host, NULL, 0);
 	}
 	want("the host takes a piece", status);
 }
 
 static uint32_t settle_term(uint32_t status)
 {
-	while (status == SAM_UNFINISHED) {
+	if (status != SAM_UNFINISHED) return status;
+	do {
 		again++;
 		status = sam_term_feed(&term, NULL, 0);
-	}
+	} while (status == SAM_UNFINISHED || status == SAM_NO_MEMORY);
 	return status;
 }
 

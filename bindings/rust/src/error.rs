@@ -8,7 +8,8 @@ use std::fmt;
 pub enum Error {
     /// No memory, and what the call brought was not taken: make it again.
     NoMemory,
-    /// No memory, and what the call brought was taken: the next call goes on with what waits; feeding no bytes is such a call.
+    /// No memory, but what the call brought was taken: don't bring it again. The next feed, event or `idle` goes on with what waits, and
+    /// feeding no bytes does just that. It answers `NoMemory` while memory is still short.
     Unfinished,
     /// A stream of 2^64 bytes, or 2^64 events.
     CountFull,

@@ -35,7 +35,7 @@ impl Terminal {
         done(unsafe { raw::sam_term_type(&mut *self.handle, tag, text.as_ptr(), text.len()) })
     }
 
-    /// Gives the host another snarf buffer.
+    /// Gives the host another snarf buffer: at most 4,096 bytes, 32,000 in version 2.
     pub fn set_snarf(&mut self, text: &str) -> Result<(), Error> {
         done(unsafe { raw::sam_term_setsnarf(&mut *self.handle, text.as_ptr(), text.len()) })
     }
@@ -70,7 +70,7 @@ impl Terminal {
         done(unsafe { raw::sam_term_send(&mut *self.handle, tag) })
     }
 
-    /// Opens a file.
+    /// Opens a file, and makes it the one that command lines work on.
     pub fn open(&mut self, tag: u16) -> Result<(), Error> {
         done(unsafe { raw::sam_term_open(&mut *self.handle, tag) })
     }
@@ -80,7 +80,7 @@ impl Terminal {
         done(unsafe { raw::sam_term_write(&mut *self.handle, tag) })
     }
 
-    /// Closes a file.
+    /// Closes a file for good: the host drops its text, written or not.
     pub fn close(&mut self, tag: u16) -> Result<(), Error> {
         done(unsafe { raw::sam_term_close(&mut *self.handle, tag) })
     }
@@ -100,7 +100,7 @@ impl Terminal {
         done(unsafe { raw::sam_term_opencmd(&mut *self.handle) })
     }
 
-    /// Makes an empty file, and opens it.
+    /// Makes an empty file, opens it, and makes it the one that command lines work on.
     pub fn new_file(&mut self) -> Result<(), Error> {
         done(unsafe { raw::sam_term_new_file(&mut *self.handle) })
     }
@@ -135,7 +135,7 @@ impl Terminal {
         done(unsafe { raw::sam_term_scroll(&mut *self.handle, tag, lines) })
     }
 
-    /// Shows the file from a place on.
+    /// Shows at most so many runes of the file from a place on, and asks for those that are not loaded.
     pub fn view(&mut self, tag: u16, place: u32, len: u32) -> Result<(), Error> {
         done(unsafe { raw::sam_term_view(&mut *self.handle, tag, place, len) })
     }
