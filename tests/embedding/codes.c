@@ -1,6 +1,7 @@
 /*
- * Each call of sam.h once where it does its work, and once for each status that it can answer. The bytes and texts that are expected
- * stand in docs/PROTOCOL.md and RFC 3629. It prints a line for each group, and ends with status 0, or 1 and the line that failed.
+ * Each call of sam.h once where it does its work, and once for each status that it can answer, but for want of memory, which random.c
+ * meets, and full counts. The bytes and texts that are expected stand in docs/PROTOCOL.md and RFC 3629. It prints a line for each group,
+ * and ends with status 0, or 1 and the line that failed.
  */
 #include "sam.h"
 
@@ -428,6 +429,7 @@ static void session(void)
 	WANT(sam_host_name(&host, 2, bytes, sizeof bytes, &len), SAM_NONE);
 	WANT(sam_host_name(&host, 1, bytes, sizeof bytes, &len), SAM_OK);
 	WANT(len == 1 && bytes[0] == 'a', 1);
+	WANT(sam_host_len(&host, 1, &a), SAM_OK);
 	WANT(sam_host_len(&host, 2, &a), SAM_NONE);
 	WANT(sam_host_is_dirty(&host, 2, &is), SAM_NONE);
 	WANT(sam_host_text(&host, 2, 0, bytes, sizeof bytes, &len, &more), SAM_NONE);

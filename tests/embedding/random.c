@@ -10,7 +10,7 @@
 #include <stdlib.h>
 #include <string.h>
 
-enum { FILES = 4, PIECE = 64, TAGS = 16, PART = 512 };
+enum { FILES = 4, PIECE = 64, PART = 512 };
 
 static sam_host host;
 static sam_term term;
@@ -171,7 +171,8 @@ static unsigned long agree(uint16_t tag, uint32_t len)
 		want("the terminal's runes", sam_term_read(&term, tag, place, runes, PART, &count));
 		want("the host's runes", sam_host_text(&host, tag, place, bytes, sizeof bytes, &size, &spelt));
 		const uint8_t *at = bytes;
-		for (size_t i = 0; i < count && i < spelt; i++) {
+		if (spelt < count) fail("the host has fewer runes here", place);
+		for (size_t i = 0; i < count; i++) {
 			uint32_t rune = rune_at(&at);
 			if (runes[i] != SAM_GAP && runes[i] != rune) fail("a loaded rune is not the host's", runes[i]);
 			loaded += runes[i] != SAM_GAP;
@@ -196,10 +197,11 @@ static void compare(void)
 {
 	unsigned long loaded = 0, open = 0, all = 0;
 	bool locked = true;
-	size_t held = 1;
+	size_t held = 1, tags = 0;
 	want("held", sam_term_held(&term, &held));
 	if (held != 0) fail("events are held though nothing is on its way", (uint32_t)held);
-	for (uint16_t tag = 0; tag < TAGS; tag++) {
+	want("tags", sam_term_tags(&term, &tags));
+	for (uint16_t tag = 0; tag < tags; tag++) {
 		uint32_t mine = 0, theirs = 0;
 		want("locks", sam_term_is_locked(&term, tag, &locked));
 		if (locked) fail("a lock is held though nothing is on its way", tag);

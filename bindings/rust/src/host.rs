@@ -2,10 +2,13 @@
 
 use crate::raw::{self, Handle};
 use crate::{Error, PIECE, done, short_text, tells, told, whole_text};
+use std::cell::UnsafeCell;
 
 /// A host. It is dropped with what is pending.
+#[derive(Debug)]
 pub struct Host {
-    handle: Box<Handle>,
+    // Each call writes to the handle, those that only read included.
+    handle: Box<UnsafeCell<Handle>>,
 }
 
 // A handle shares nothing with another, and each call has it alone.
@@ -14,13 +17,13 @@ unsafe impl Send for Host {}
 impl Host {
     /// A host with the command file alone (tag 0). Its only error is `NoMemory`.
     pub fn new() -> Result<Host, Error> {
-        let mut handle = Box::new(Handle::EMPTY);
-        done(unsafe { raw::sam_host_new(&mut *handle) })?;
+        let handle = Box::new(UnsafeCell::new(Handle::EMPTY));
+        done(unsafe { raw::sam_host_new(handle.get()) })?;
         Ok(Host { handle })
     }
 
     fn at(&self) -> *mut Handle {
-        (&raw const *self.handle).cast_mut()
+        self.handle.get()
     }
 
     /// Adds a file and answers its tag: 1 for the first. Errors in order: `Begun`, `TooLong`, `NoTag`, `NoMemory`; the host is then as
@@ -28,14 +31,14 @@ impl Host {
     pub fn add_file(&mut self, name: &str, text: &str) -> Result<u16, Error> {
         let mut tag = 0;
         done(unsafe {
-            raw::sam_host_add_file(&mut *self.handle, name.as_ptr(), name.len(), text.as_ptr(), text.len(), &mut tag)
+            raw::sam_host_add_file(self.at(), name.as_ptr(), name.len(), text.as_ptr(), text.len(), &mut tag)
         })?;
         Ok(tag)
     }
 
     /// Takes bytes of the terminal's messages, in whatever pieces they come, and answers each that is whole.
     pub fn feed(&mut self, bytes: &[u8]) -> Result<(), Error> {
-        done(unsafe { raw::sam_host_feed(&mut *self.handle, bytes.as_ptr(), bytes.len()) })
+        done(unsafe { raw::sam_host_feed(self.at(), bytes.as_ptr(), bytes.len()) })
     }
 
     /// How many bytes are pending.
@@ -48,7 +51,7 @@ impl Host {
         std::iter::from_fn(|| {
             let mut piece = vec![0; PIECE.min(self.pending())];
             let mut count = 0;
-            unsafe { raw::sam_host_out(&mut *self.handle, piece.as_mut_ptr(), piece.len(), &mut count) };
+            unsafe { raw::sam_host_out(self.at(), piece.as_mut_ptr(), piece.len(), &mut count) };
             piece.truncate(count);
             (count > 0).then_some(piece)
         })
@@ -56,7 +59,7 @@ impl Host {
 
     /// The files that the terminal told the host to write since this was asked last, in order: write `saved` of each to disk.
     pub fn written(&mut self) -> impl Iterator<Item = u16> + '_ {
-        std::iter::from_fn(|| told(|tag| unsafe { raw::sam_host_next_written(&mut *self.handle, tag) }))
+        std::iter::from_fn(|| told(|tag| unsafe { raw::sam_host_next_written(self.at(), tag) }))
     }
 
     /// Whether the session is over.
@@ -127,6 +130,6 @@ impl Host {
 
 impl Drop for Host {
     fn drop(&mut self) {
-        unsafe { raw::sam_host_free(&mut *self.handle) };
+        unsafe { raw::sam_host_free(self.at()) };
     }
 }

@@ -1,5 +1,6 @@
 //! The calls of include/sam.h, as they are. The header says what each does.
 
+#[derive(Debug)]
 #[repr(C)]
 pub struct Handle {
     at: *mut u8,

@@ -2,6 +2,7 @@
 
 use crate::raw::{self, Handle};
 use crate::{Error, PIECE, Refusal, done, short_text, tells, told, whole_text};
+use std::cell::UnsafeCell;
 
 /// What `read` hands out for a rune that is not loaded.
 const GAP: u32 = u32::MAX;
@@ -11,8 +12,10 @@ const GAP: u32 = u32::MAX;
 /// Each event acts at once where it can, or is held until the locks that it waits for are free; each call also lets held events
 /// act. What is composed is then pending. Errors: `NoMemory`, `Unfinished`, `CountFull`, `Stream`, `TermRefused`. An event that is refused is no
 /// error: `refusals` tells it.
+#[derive(Debug)]
 pub struct Terminal {
-    handle: Box<Handle>,
+    // Each call writes to the handle, those that only read included.
+    handle: Box<UnsafeCell<Handle>>,
 }
 
 // A handle shares nothing with another, and each call has it alone.
@@ -21,138 +24,138 @@ unsafe impl Send for Terminal {}
 impl Terminal {
     /// A terminal that knows no file. Its only error is `NoMemory`.
     pub fn new() -> Result<Terminal, Error> {
-        let mut handle = Box::new(Handle::EMPTY);
-        done(unsafe { raw::sam_term_new(&mut *handle) })?;
+        let handle = Box::new(UnsafeCell::new(Handle::EMPTY));
+        done(unsafe { raw::sam_term_new(handle.get()) })?;
         Ok(Terminal { handle })
     }
 
     fn at(&self) -> *mut Handle {
-        (&raw const *self.handle).cast_mut()
+        self.handle.get()
     }
 
     /// Types a text, of at most 512 runes, in the place of the dot.
     pub fn type_text(&mut self, tag: u16, text: &str) -> Result<(), Error> {
-        done(unsafe { raw::sam_term_type(&mut *self.handle, tag, text.as_ptr(), text.len()) })
+        done(unsafe { raw::sam_term_type(self.at(), tag, text.as_ptr(), text.len()) })
     }
 
     /// Gives the host another snarf buffer: at most 4,096 bytes, 32,000 in version 2.
     pub fn set_snarf(&mut self, text: &str) -> Result<(), Error> {
-        done(unsafe { raw::sam_term_setsnarf(&mut *self.handle, text.as_ptr(), text.len()) })
+        done(unsafe { raw::sam_term_setsnarf(self.at(), text.as_ptr(), text.len()) })
     }
 
     /// Cuts the dot into the snarf buffer.
     pub fn cut(&mut self, tag: u16) -> Result<(), Error> {
-        done(unsafe { raw::sam_term_cut(&mut *self.handle, tag) })
+        done(unsafe { raw::sam_term_cut(self.at(), tag) })
     }
 
     /// Puts the snarf buffer in the place of the dot.
     pub fn paste(&mut self, tag: u16) -> Result<(), Error> {
-        done(unsafe { raw::sam_term_paste(&mut *self.handle, tag) })
+        done(unsafe { raw::sam_term_paste(self.at(), tag) })
     }
 
     /// Copies the dot into the snarf buffer.
     pub fn snarf(&mut self, tag: u16) -> Result<(), Error> {
-        done(unsafe { raw::sam_term_snarf(&mut *self.handle, tag) })
+        done(unsafe { raw::sam_term_snarf(self.at(), tag) })
     }
 
     /// Selects the next occurrence of the dot's text.
     pub fn look(&mut self, tag: u16) -> Result<(), Error> {
-        done(unsafe { raw::sam_term_look(&mut *self.handle, tag) })
+        done(unsafe { raw::sam_term_look(self.at(), tag) })
     }
 
     /// Selects the next occurrence of the pattern.
     pub fn search(&mut self, tag: u16) -> Result<(), Error> {
-        done(unsafe { raw::sam_term_search(&mut *self.handle, tag) })
+        done(unsafe { raw::sam_term_search(self.at(), tag) })
     }
 
     /// Prints the dot's text in the command file, and runs its last line as a command line.
     pub fn send(&mut self, tag: u16) -> Result<(), Error> {
-        done(unsafe { raw::sam_term_send(&mut *self.handle, tag) })
+        done(unsafe { raw::sam_term_send(self.at(), tag) })
     }
 
     /// Opens a file, and makes it the one that command lines work on.
     pub fn open(&mut self, tag: u16) -> Result<(), Error> {
-        done(unsafe { raw::sam_term_open(&mut *self.handle, tag) })
+        done(unsafe { raw::sam_term_open(self.at(), tag) })
     }
 
     /// Has the host write a file.
     pub fn write(&mut self, tag: u16) -> Result<(), Error> {
-        done(unsafe { raw::sam_term_write(&mut *self.handle, tag) })
+        done(unsafe { raw::sam_term_write(self.at(), tag) })
     }
 
     /// Closes a file for good: the host drops its text, written or not.
     pub fn close(&mut self, tag: u16) -> Result<(), Error> {
-        done(unsafe { raw::sam_term_close(&mut *self.handle, tag) })
+        done(unsafe { raw::sam_term_close(self.at(), tag) })
     }
 
     /// Makes a file the one that command lines work on.
     pub fn work(&mut self, tag: u16) -> Result<(), Error> {
-        done(unsafe { raw::sam_term_work(&mut *self.handle, tag) })
+        done(unsafe { raw::sam_term_work(self.at(), tag) })
     }
 
     /// Asks for the first gap that the view shows.
     pub fn check(&mut self, tag: u16) -> Result<(), Error> {
-        done(unsafe { raw::sam_term_check(&mut *self.handle, tag) })
+        done(unsafe { raw::sam_term_check(self.at(), tag) })
     }
 
     /// Opens the command file.
     pub fn open_command_file(&mut self) -> Result<(), Error> {
-        done(unsafe { raw::sam_term_opencmd(&mut *self.handle) })
+        done(unsafe { raw::sam_term_opencmd(self.at()) })
     }
 
     /// Makes an empty file, opens it, and makes it the one that command lines work on.
     pub fn new_file(&mut self) -> Result<(), Error> {
-        done(unsafe { raw::sam_term_new_file(&mut *self.handle) })
+        done(unsafe { raw::sam_term_new_file(self.at()) })
     }
 
     /// Asks for the host's snarf buffer.
     pub fn get_snarf(&mut self) -> Result<(), Error> {
-        done(unsafe { raw::sam_term_getsnarf(&mut *self.handle) })
+        done(unsafe { raw::sam_term_getsnarf(self.at()) })
     }
 
     /// Sends the typed runes, once the events before it acted.
     pub fn flush(&mut self) -> Result<(), Error> {
-        done(unsafe { raw::sam_term_flush(&mut *self.handle) })
+        done(unsafe { raw::sam_term_flush(self.at()) })
     }
 
     /// Ends the session.
     pub fn exit(&mut self) -> Result<(), Error> {
-        done(unsafe { raw::sam_term_exit(&mut *self.handle) })
+        done(unsafe { raw::sam_term_exit(self.at()) })
     }
 
     /// Sets the dot.
     pub fn select(&mut self, tag: u16, start: u32, end: u32) -> Result<(), Error> {
-        done(unsafe { raw::sam_term_select(&mut *self.handle, tag, start, end) })
+        done(unsafe { raw::sam_term_select(self.at(), tag, start, end) })
     }
 
     /// Selects the word round a place.
     pub fn double_click(&mut self, tag: u16, place: u32) -> Result<(), Error> {
-        done(unsafe { raw::sam_term_dclick(&mut *self.handle, tag, place) })
+        done(unsafe { raw::sam_term_dclick(self.at(), tag, place) })
     }
 
     /// Shows the file from so many lines further up.
     pub fn scroll(&mut self, tag: u16, lines: u32) -> Result<(), Error> {
-        done(unsafe { raw::sam_term_scroll(&mut *self.handle, tag, lines) })
+        done(unsafe { raw::sam_term_scroll(self.at(), tag, lines) })
     }
 
     /// Shows at most so many runes of the file from a place on, and asks for those that are not loaded.
     pub fn view(&mut self, tag: u16, place: u32, len: u32) -> Result<(), Error> {
-        done(unsafe { raw::sam_term_view(&mut *self.handle, tag, place, len) })
+        done(unsafe { raw::sam_term_view(self.at(), tag, place, len) })
     }
 
     /// Offers a version: 2 allows longer snarfed texts.
     pub fn version(&mut self, version: u16) -> Result<(), Error> {
-        done(unsafe { raw::sam_term_version(&mut *self.handle, version) })
+        done(unsafe { raw::sam_term_version(self.at(), version) })
     }
 
     /// Takes bytes of the host's frames, in whatever pieces they come, and then lets held events act.
     pub fn feed(&mut self, bytes: &[u8]) -> Result<(), Error> {
-        done(unsafe { raw::sam_term_feed(&mut *self.handle, bytes.as_ptr(), bytes.len()) })
+        done(unsafe { raw::sam_term_feed(self.at(), bytes.as_ptr(), bytes.len()) })
     }
 
     /// Composes the typed runes that are not sent yet: to be called when the user pauses.
     pub fn idle(&mut self) -> Result<(), Error> {
-        done(unsafe { raw::sam_term_idle(&mut *self.handle) })
+        done(unsafe { raw::sam_term_idle(self.at()) })
     }
 
     /// How many bytes are pending.
@@ -165,7 +168,7 @@ impl Terminal {
         std::iter::from_fn(|| {
             let mut piece = vec![0; PIECE.min(self.pending())];
             let mut count = 0;
-            unsafe { raw::sam_term_out(&mut *self.handle, piece.as_mut_ptr(), piece.len(), &mut count) };
+            unsafe { raw::sam_term_out(self.at(), piece.as_mut_ptr(), piece.len(), &mut count) };
             piece.truncate(count);
             (count > 0).then_some(piece)
         })
@@ -175,13 +178,14 @@ impl Terminal {
     pub fn refusals(&mut self) -> impl Iterator<Item = (u64, Refusal)> + '_ {
         std::iter::from_fn(|| {
             let mut why = 0;
-            told(|event| unsafe { raw::sam_term_next_refusal(&mut *self.handle, event, &mut why) })
+            told(|event| unsafe { raw::sam_term_next_refusal(self.at(), event, &mut why) })
                 .map(|event| (event, Refusal::of(why)))
         })
     }
 
     /// The runes of an open file from a place on, at most `most`: `None` for each that is not loaded. Nothing where it is not open.
     pub fn read(&self, tag: u16, place: u32, most: usize) -> Vec<Option<char>> {
+        let most = most.min(self.len(tag).unwrap_or(0).saturating_sub(place) as usize);
         let mut runes = vec![0; most];
         let mut count = 0;
         unsafe { raw::sam_term_read(self.at(), tag, place, runes.as_mut_ptr(), most, &mut count) };
@@ -317,6 +321,6 @@ impl Terminal {
 
 impl Drop for Terminal {
     fn drop(&mut self) {
-        unsafe { raw::sam_term_free(&mut *self.handle) };
+        unsafe { raw::sam_term_free(self.at()) };
     }
 }

@@ -67,6 +67,9 @@ fn gaps_are_told_and_fill() -> Result<(), Error> {
     carry(&mut term, &mut host)?;
     assert_eq!(term.first_gap(file, 0), None);
     assert_eq!(term.read(file, 1, 2), vec![Some('n'), Some('e')]);
+    assert_eq!(term.read(file, 2, usize::MAX), vec![Some('e'), Some('\n')]);
+    assert_eq!(term.read(file, 5, 1), vec![]);
+    assert_eq!(term.read(file + 1, 0, usize::MAX), vec![]);
     Ok(())
 }
 
