@@ -77,11 +77,11 @@ class Editor:
         """Shares so many rows among the windows."""
         self._rows = rows
         command_rows = rows if not self.files else min(max(5, rows // 4), max(2, rows // 2))
-        self.command.y, self.command.height, self.command.width = 0, max(1, command_rows - 1), columns
+        self.command.put(0, max(1, command_rows - 1), columns)
         y, left = command_rows, rows - command_rows
         for at, window in enumerate(self.files):
             share = left // (len(self.files) - at)
-            window.y, window.height, window.width = y, max(1, share - 1), columns
+            window.put(y, max(1, share - 1), columns)
             y, left = y + share, left - share
 
     def go_to(self, window: Window) -> None:
@@ -475,7 +475,7 @@ class Editor:
 
     def do_page_up(self) -> None:
         if self.focus.is_open:
-            self.focus.page_up()
+            self.focus.page_up(asks=not self.is_lost)
 
     def do_page_down(self) -> None:
         if self.focus.is_open:

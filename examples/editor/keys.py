@@ -1,6 +1,9 @@
 """The keys: what each does, and how curses tells of them."""
+import codecs
 import curses
+import locale
 import time
+from functools import lru_cache
 from typing import Dict, List, NamedTuple, Union
 
 
@@ -113,10 +116,16 @@ def _mouse() -> List[Input]:
             events.append(Mouse(what, row, column, time.monotonic()))
 
 
-def _decoded(code: Union[str, int]) -> List[Input]:
+@lru_cache(maxsize=None)
+def _decoder():
+    """Keeps the first bytes of a rune until the others come."""
+    return codecs.getincrementaldecoder(locale.nl_langinfo(locale.CODESET))("replace")
+
+
+def _decoded(code: int) -> List[Input]:
     """What curses handed out; nothing for what means nothing here."""
-    if isinstance(code, str):
-        return [_character(code)]
+    if code < 256:
+        return [_character(rune) for rune in _decoder().decode(bytes((code,)))]
     name = curses.keyname(code).decode("ascii", "replace")
     if name == "KEY_MOUSE":
         return _mouse()
@@ -131,16 +140,22 @@ def _decoded(code: Union[str, int]) -> List[Input]:
 def waiting(screen) -> List[Input]:
     """All keys that wait at the keyboard, typed runes that follow each other in one."""
     inputs: List[Input] = []
-    while True:
-        try:
-            code = screen.get_wch()
-        except curses.error:
-            return inputs
+    typed: List[str] = []
+
+    def end_text() -> None:
+        if typed:
+            inputs.append(Text("".join(typed)))
+            typed.clear()
+
+    while (code := screen.getch()) != -1:
         for key in _decoded(code):
-            if isinstance(key, Text) and inputs and isinstance(inputs[-1], Text):
-                inputs[-1] = Text(inputs[-1].runes + key.runes)
+            if isinstance(key, Text):
+                typed.append(key.runes)
             else:
+                end_text()
                 inputs.append(key)
+    end_text()
+    return inputs
 
 
 def table() -> List[str]:

@@ -2,6 +2,7 @@
 
 `read(place, count)` stands for a reader of runes: a list of one-character strings, None for a rune that is not loaded.
 """
+import ctypes
 import unicodedata
 from bisect import bisect_right
 from functools import lru_cache
@@ -16,6 +17,8 @@ NO_BASE = "◌"  # carries a combining rune that stands behind none
 PIECE = 1024  # runes that are read at once
 FAR_BACK = 8192  # runes that are looked at for the rows above a place
 
+_wcwidth = ctypes.CDLL(None).wcwidth  # the C library's, by which curses draws
+
 
 @lru_cache(maxsize=4096)
 def looks(rune: str) -> Tuple[str, int]:
@@ -25,6 +28,9 @@ def looks(rune: str) -> Tuple[str, int]:
         return ("^" + chr(ord(rune) ^ 64), 2) if ord(rune) < 128 else (NO_GLYPH, 1)
     if kind in ("Cn", "Cs", "Zl", "Zp"):
         return NO_GLYPH, 1
+    columns = _wcwidth(ord(rune))  # -1 where the locale lacks the rune
+    if columns >= 0:
+        return rune, columns
     if kind in ("Mn", "Me") or (kind == "Cf" and rune != "\u00ad") or "\u1160" <= rune <= "\u11ff":
         return rune, 0
     return rune, 2 if unicodedata.east_asian_width(rune) in "WF" else 1
@@ -130,10 +136,10 @@ class Layout:
         return row.end if self.is_whole and at == len(self.rows) - 1 or not row.cells else row.cells[-1].place
 
 
-def line_start(read: Reader, place: int) -> int:
-    """The start of the line of a place, or the place behind the nearest gap before it."""
-    while place > 0:
-        low = max(0, place - PIECE)
+def line_start(read: Reader, place: int, least: int = 0) -> int:
+    """The start of the line of a place, or the place behind the nearest gap before it; `least` where neither is behind that."""
+    while place > least:
+        low = max(least, place - PIECE)
         for at, rune in reversed(list(enumerate(read(low, place - low)))):
             if rune is None or rune == "\n":
                 return low + at + 1
@@ -153,7 +159,7 @@ def line_end(read: Reader, place: int) -> int:
 
 def row_start(read: Reader, place: int, width: int) -> int:
     """The start of the row of a place, of those that begin with its line."""
-    start = max(line_start(read, place), place - FAR_BACK)
+    start = line_start(read, place, max(0, place - FAR_BACK))
     return _starts_of_rows(read, start, place + 1, width)[-1]
 
 
@@ -165,7 +171,7 @@ def top_above(read: Reader, place: int, rows: int, width: int) -> Optional[int]:
         end = starts[0]
         if read(end - 1, 1) == [None]:
             return None
-        start = max(line_start(read, end - 1), end - FAR_BACK)
+        start = line_start(read, end - 1, max(0, end - FAR_BACK))
         if start > 0 and read(start - 1, 1) == [None]:
             return None
         starts = _starts_of_rows(read, start, end, width) + starts

@@ -82,8 +82,9 @@ class Loop:
             self.editor.is_over = True
         elif signal.SIGWINCH in numbers:
             columns, rows = os.get_terminal_size(KEYBOARD)
-            self.screen.resize(rows, columns)
-            self.editor.arrange(*self.screen.size)
+            if rows > 0 and columns > 0:  # some terminals tell of no size while they are hidden
+                self.screen.resize(rows, columns)
+                self.editor.arrange(*self.screen.size)
 
     def _take_bytes(self, ready: Dict[int, int]) -> None:
         if self.link.messages in ready and not self.link.is_quiet:

@@ -68,6 +68,12 @@ class Window:
             self._layout_of = layout_of
         return self._layout
 
+    def put(self, y: int, height: int, width: int) -> None:
+        """Gives it a place on the screen. A caret that was shown stays so."""
+        if (height, width) != (self.height, self.width) and self.is_open and self.layout().shows(self.caret):
+            self._followed = None
+        self.y, self.height, self.width = y, height, width
+
     # ---- What is shown
 
     def update(self) -> None:
@@ -168,14 +174,17 @@ class Window:
         if gap is not None and layout.shows(gap):
             rows = min(rows, layout.position_of(gap)[0]) or rows
         if not layout.is_whole:
-            self.wished_top = layout.rows[min(rows, len(layout.rows) - 1)].start
+            starts = [*(row.start for row in layout.rows), layout.end]
+            self.wished_top = starts[min(rows, max(1, len(layout.rows) - 1))]
             self._is_blind = self.wished_top > 0 and self.read(self.wished_top - 1, 1) == [None]
 
-    def page_up(self, rows: Optional[int] = None) -> None:
+    def page_up(self, rows: Optional[int] = None, asks: bool = True) -> None:
         self._is_blind = False
         if rows is None:
             rows = max(1, self.height - 1)
         top = top_above(self.read, self.top, rows, self.width)
+        if top is None and not asks:
+            top = max(0, self.top - rows * self.width)
         if top is None:
             self._have_host_scroll(self.top, rows)
         else:
