@@ -58,7 +58,7 @@ impl fmt::Display for Error {
     fn fmt(&self, f: &mut fmt::Formatter<'_>) -> fmt::Result {
         match self {
             Error::NoMemory => f.write_str("out of memory: make the call again"),
-            Error::Unfinished => f.write_str("out of memory: the next call goes on"),
+            Error::Unfinished => f.write_str("out of memory: the next feed goes on"),
             Error::CountFull => f.write_str("a count is full"),
             Error::NotText => f.write_str("not UTF-8"),
             Error::Begun => f.write_str("the host has been fed"),

@@ -9,9 +9,9 @@ const GAP: u32 = u32::MAX;
 
 /// A terminal. It is dropped with what is pending.
 ///
-/// Each event acts at once where it can, or is held until the locks that it waits for are free; each call also lets held events
-/// act. What is composed is then pending. Errors: `NoMemory`, `Unfinished`, `CountFull`, `Stream`, `TermRefused`. An event that is refused is no
-/// error: `refusals` tells it.
+/// Each event acts at once where it can, or is held until the locks that it waits for are free and the events before it have acted; each
+/// call also lets held events act. What is composed is then pending. Errors: `NoMemory`, `Unfinished`, `CountFull`, `Stream`,
+/// `TermRefused`. An event that is refused is no error: `refusals` tells it.
 #[derive(Debug)]
 pub struct Terminal {
     // Each call writes to the handle, those that only read included.
@@ -246,8 +246,9 @@ impl Terminal {
 
     /// How many of the composed messages the host has not taken, as far as its frames tell; 0 means that it has taken them all.
     ///
-    /// Else it is an upper bound: the host answers typing and the cutting of a selection by no frame, and such a message counts until the
-    /// host answers a later one. [`Terminal::check`] asks for an answer that changes nothing.
+    /// Else it is an upper bound: the host answers typing (but the end of a command line), the cutting of a selection, and the
+    /// acknowledgement that the terminal sends behind each [`Terminal::version`] by no frame, and such a message counts until the host
+    /// answers a later one. [`Terminal::check`] asks for an answer that changes no text.
     pub fn under_way(&self) -> u64 {
         tells(|value| unsafe { raw::sam_term_under_way(self.at(), value) })
     }
@@ -272,7 +273,8 @@ impl Terminal {
         told(|value| unsafe { raw::sam_term_is_dirty(self.at(), tag, value) })
     }
 
-    /// The file that the host made current last.
+    /// The file that the host's answer to `work` or `new_file` named last; `None` before the first. It may be closed since, and `open` is
+    /// not told here.
     pub fn current(&self) -> Option<u16> {
         told(|value| unsafe { raw::sam_term_current(self.at(), value) })
     }
