@@ -439,8 +439,8 @@ class Terminal(_Side):
     """The side with the windows. It begins without any file.
 
     Each event of the user acts at once where it can, or is held until the locks that it waits for are free and the events before it
-    have acted. An event that can't be done is told by `refusals`, now or later; `events` tells the number of the event that was made last. Each event may raise NoMemory,
-    Unfinished, CountFull, or why the terminal has stopped (StreamFault, TerminalRefused).
+    have acted. An event that can't be done is told by `refusals`, now or later; `events` tells the number of the event that was made
+    last. Each event may raise NoMemory, Unfinished, CountFull, or why the terminal has stopped (StreamFault, TerminalRefused).
     """
 
     _prefix = "sam_term"

@@ -35,6 +35,12 @@ WHY = {
 }
 
 
+def _says_quit(runes: List[Optional[str]]) -> bool:
+    """Whether the last line of these runes is `q`."""
+    text = "".join(rune or "" for rune in runes).removesuffix("\n")
+    return text.rpartition("\n")[2].strip(" \t") == "q"
+
+
 class Editor:
     """The terminal with its windows. Keys come in by `take`, bytes of the host by `feed`."""
 
@@ -272,7 +278,7 @@ class Editor:
             return False
         end = self.command.dot[0]
         line = self.command.read(self.command.line_start(end), end - self.command.line_start(end))
-        return "".join(rune or "" for rune in line).strip(" \t") == "q"
+        return _says_quit(line)
 
     def _sends_quit(self) -> bool:
         """Whether the last line of the selection is `q`."""
@@ -280,8 +286,7 @@ class Editor:
             return False
         start, end = self.focus.dot
         start = max(start, end - MOST_IN_EVENT)
-        text = "".join(rune or "" for rune in self.focus.read(start, end - start))
-        return text.removesuffix("\n").rpartition("\n")[2].strip(" \t") == "q"
+        return _says_quit(self.focus.read(start, end - start))
 
     def _unwritten(self) -> str:
         return ", ".join(self.name(tag) for tag in self.terminal.files() if self.is_changed(tag))
