@@ -15,7 +15,8 @@ pub(crate) const OK: u32 = 0;
 /// Memory was refused, and what the call brought was not taken: make it again.
 pub(crate) const NO_MEMORY: u32 = 1;
 
-/// Memory was refused, but what the call brought was taken: the next call goes on with what waits.
+/// Memory was refused, but what the call brought was taken: the next call that feeds, brings an event or lets the handle go on does what
+/// waits.
 const UNFINISHED: u32 = 2;
 
 /// The stream would have 2^64 bytes, or there would be 2^64 events. What the call brought was not taken.

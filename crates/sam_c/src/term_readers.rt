@@ -217,7 +217,8 @@ pub extern "C" fn sam_term_is_open(
     OK
 }
 
-/// Hands out the tag of the file that the host made current last. `SAM_NONE` if it made none.
+/// Hands out the tag of the file that the host named last in its answer to a change of the work file or to a new file. `SAM_NONE` if it
+/// named none.
 #[unsafe(no_mangle)]
 pub extern "C" fn sam_term_current(term: &mut SamTerm, tag: &mut u16, alloc: Global) -> u32
     ensures told { TellsSome term.old.held.end result tag.old tag.new (λ e. e.term.current) }

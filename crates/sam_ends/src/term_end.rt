@@ -364,7 +364,7 @@ impl TermEnd {
     /// frame that was received. It is an upper bound, and 0 means that the host has taken them all.
     ///
     /// The host answers a `Tcut`, a `Tack`, and a `Ttype` that ends no command line, by no frame. Such a message counts until the host
-    /// answers a later one. To learn that it arrived, compose one that is answered at once and changes nothing: `UserEvent::Check`.
+    /// answers a later one. To learn that it arrived, compose one that is answered at once and changes no text: `UserEvent::Check`.
     pub fn under_way(&self) -> u64
         ensures { result ≡ under_way self.now }
     {
