@@ -27,25 +27,26 @@ pub fn replay_bytes(alloc: Global, bytes: &[u8]) -> Result<Vec<u8>, ScriptFault>
         Ok(script) => script,
         Err(fault) => return Err(fault),
     };
-    replay(alloc, &script)
+    replay(alloc, script)
 }
 
-/// Does the lines of a script one after another, over the first world of its files, and returns all that its `show` lines print.
+/// Does the lines of a script one after another, over the first world of its files, and returns all that its `show` lines print. It uses
+/// the script up, so that no event is copied.
 ///
 /// The first line that can't be done stops it, and then nothing of what was printed is returned. The error is `Line(n)` if line n is
 /// `host` or `term` and nothing is under way to that side, and `CountFull` if the line's step, or an event of its drain, would take a
 /// count of messages past 2^64-1. `OutOfMemory` may come at any line, and before the first.
 #[tactic(auto, unfolding(crate::specs::Replay::replayed))]
-pub fn replay(alloc: Global, script: &Script) -> Result<Vec<u8>, ScriptFault>
-    ensures ok { IfOk result (λ out. replayed script.now ≡ Ok out.items) }
-    ensures stopped { IfErr result (λ why. IsStopOf (replayed script.now) why) }
+pub fn replay(alloc: Global, script: Script) -> Result<Vec<u8>, ScriptFault>
+    ensures ok { IfOk result (λ out. replayed script ≡ Ok out.items) }
+    ensures stopped { IfErr result (λ why. IsStopOf (replayed script) why) }
 {
     let Ok(mut world) = first_world(alloc, script.files()) else {
         return Err(ScriptFault::OutOfMemory);
     };
     let mut out = String::new(alloc);
-    for numbered in script.lines() {
-        match do_line(alloc, &mut world, &mut out, numbered) {
+    for numbered in script.into_lines() {
+        match do_line(&mut world, &mut out, numbered) {
             Ok(()) => {}
             Err(fault) => return Err(fault),
         }
@@ -54,25 +55,18 @@ pub fn replay(alloc: Global, script: &Script) -> Result<Vec<u8>, ScriptFault>
 }
 
 /// Does what a line asks for. What it prints stands behind what was printed before; at an error a part of that may stand there too.
-fn do_line(
-    alloc: Global,
-    world: &mut World,
-    out: &mut String,
-    numbered: &Numbered,
-) -> Result<(), ScriptFault>
-    ensures done { OnOk result (after_line numbered.now.number world.old numbered.now.line ≡ Ok world.new) }
-    ensures printed { OnOk result (string_bytes out.new ≡ string_bytes out.old ++ printed_by world.old numbered.now.line) }
-    ensures stopped { IfErr result (λ why. IsStopOf (after_line numbered.now.number world.old numbered.now.line) why) }
+fn do_line(world: &mut World, out: &mut String, numbered: Numbered) -> Result<(), ScriptFault>
+    ensures done { OnOk result (after_line numbered.number world.old numbered.line ≡ Ok world.new) }
+    ensures printed { OnOk result (string_bytes out.new ≡ string_bytes out.old ++ printed_by world.old numbered.line) }
+    ensures stopped { IfErr result (λ why. IsStopOf (after_line numbered.number world.old numbered.line) why) }
 {
-    match &numbered.line {
-        Line::Key(event) | Line::Mouse(event) => match event.copy(alloc) {
-            Ok(event) => do_step(world, numbered.number, Event::User(event)),
-            Err(_) => Err(ScriptFault::OutOfMemory),
-        },
-        Line::Act => do_step(world, numbered.number, Event::Act),
-        Line::Flush => do_step(world, numbered.number, Event::Flush),
-        Line::Host => do_step(world, numbered.number, Event::HostTake),
-        Line::Term => do_step(world, numbered.number, Event::TermTake),
+    let Numbered { number, line } = numbered;
+    match line {
+        Line::Key(event) | Line::Mouse(event) => do_step(world, number, Event::User(event)),
+        Line::Act => do_step(world, number, Event::Act),
+        Line::Flush => do_step(world, number, Event::Flush),
+        Line::Host => do_step(world, number, Event::HostTake),
+        Line::Term => do_step(world, number, Event::TermTake),
         Line::Drain => do_drain(world),
         Line::Show => match push_world(out, world) {
             Ok(()) => Ok(()),

@@ -19,7 +19,7 @@ use std::marker::Model;
 ///
 /// ```rust
 /// let script = Script::read(alloc, b"file a hello\nk version 1\nk open 1\nk type 1 X\ndrain\nshow\n")?;
-/// let shown = replay(alloc, &script)?; // the lines that `show` prints, such as `= h 1 o d a |Xhello|`
+/// let shown = replay(alloc, script)?; // the lines that `show` prints, such as `= h 1 o d a |Xhello|`
 /// ```
 #[derive(Drop)]
 pub struct Script {
@@ -105,6 +105,13 @@ impl Script {
         ensures { result.now ≡ self.now.lines }
     {
         self.lines.as_slice()
+    }
+
+    /// Hands out its other lines, with their numbers, in order, and lets go of its files.
+    pub fn into_lines(self) -> Vec<Numbered>
+        ensures { result.items ≡ self.lines }
+    {
+        self.lines
     }
 
     /// Returns copies of the events of its `k` lines, in order. The only error is want of memory.

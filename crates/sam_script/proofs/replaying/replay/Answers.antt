@@ -4,7 +4,7 @@ use Rattle.sam_script.proofs.replaying.replay.Goals as goal
 
 pub loop-numbered-preserved : goal.loop-numbered-preserved
 loop-numbered-preserved c =
-    let ls = c.args.script.now.lines in
+    let ls = c.args.script.lines in
     let i = c.loop-numbered.numbered-index in
     let d = c.numbered-item.result in
     let w = c.loop-numbered.world in
