@@ -158,7 +158,7 @@ uint32_t sam_host_name(sam_host *host, uint16_t tag, uint8_t *into, size_t room,
 /* The length of a file's text in runes. SAM_NONE where the tag has no file. */
 uint32_t sam_host_len(sam_host *host, uint16_t tag, uint32_t *runes);
 
-/* Whether a file has changed since it was made or written. SAM_NONE where the tag has no file. */
+/* Whether a file was edited since it was made or written; never for the command file, tag 0. SAM_NONE where the tag has no file. */
 uint32_t sam_host_is_dirty(sam_host *host, uint16_t tag, bool *dirty);
 
 /* A file's text from a place on, in UTF-8: as many whole runes as have room. Hands out how many bytes and how many runes; none where

@@ -1,5 +1,6 @@
 //! What C reads of a host: include/sam.h says of each call what it hands out. None of them changes the host. Each returns `SAM_NO_HANDLE`
-//! if the handle is empty; after that, and after `SAM_NONE`, what its other arguments lead to is as it was.
+//! if the handle is empty; after that, and after `SAM_NONE`, what its other arguments lead to is as it was. Places count runes from the
+//! beginning of the text.
 
 ghost use Rattle.std.specs.Prelude.{◌≡◌, drop, is_some, length, option_map};
 ghost use Rattle.sam_c.specs.Calls.{Tells, TellsName, TellsSome, TellsText, written};
@@ -129,7 +130,7 @@ pub extern "C" fn sam_host_len(host: &mut SamHost, tag: u16, runes: &mut u32, al
     status
 }
 
-/// Hands out whether a file has changed since it was made or written. `SAM_NONE` if the tag has no file.
+/// Hands out whether a file was edited since it was made or written; never for the command file, tag 0. `SAM_NONE` if the tag has no file.
 #[unsafe(no_mangle)]
 pub extern "C" fn sam_host_is_dirty(
     host: &mut SamHost,

@@ -31,25 +31,26 @@ pub(crate) const MADE: u32 = 5;
 /// The bytes are not UTF-8.
 pub(crate) const NOT_TEXT: u32 = 6;
 
-/// There is no such file, or nothing more to hand out.
+/// What was asked for is not there: no such file, none that is open, no saved text, no gap, no current file, or nothing more to hand out.
 pub(crate) const NONE: u32 = 7;
 
-/// The first number of why a file is not added. In each family of faults the fault's own number is added to the first number.
+/// Added to the number, from 1, of why a file is not added; so too in the families below. Bytes that are no text, and want of memory for a
+/// file or a script, are `NOT_TEXT` and `NO_MEMORY` in place of that.
 const ADD: u32 = 16;
 
-/// The first number of what is wrong with the other side's stream, which has stopped the handle.
+/// Added to the number of what is wrong with the other side's stream, which has stopped the handle.
 const STREAM: u32 = 32;
 
-/// The first number of why the host refused a message, which has stopped the handle.
+/// Added to the number of why the host refused a message, which has stopped the handle.
 const HOST_REFUSED: u32 = 64;
 
-/// The first number of why the terminal refused a frame, or could not count a message, which has stopped the handle.
+/// Added to the number of why the terminal refused a frame, or could not count a message, which has stopped the handle.
 const TERM_REFUSED: u32 = 96;
 
-/// The first number of why the terminal refused an event. The handle goes on.
+/// Added to the number of why the terminal refused an event. The handle goes on.
 const REFUSAL: u32 = 128;
 
-/// The first number of why a script is not replayed.
+/// Added to the number of why a script is not replayed.
 const SCRIPT: u32 = 160;
 
 /// Returns the number of why a file is not added.

@@ -1,6 +1,7 @@
 //! What C tells a terminal that the user did: include/sam.h says of each call what it does. An event acts at once if it can, or is held
 //! until the events before it have acted and the locks that it waits for are free. Each call also lets held events act, in order. What is
-//! composed is then pending. An event that is refused is told by `sam_term_next_refusal`, now or later.
+//! composed is then pending. An event that is refused is told by `sam_term_next_refusal`, now or later. Places count runes from the
+//! beginning of the text.
 //!
 //! Each returns `SAM_OK`, `SAM_NO_MEMORY`, `SAM_UNFINISHED`, `SAM_COUNT_FULL`, `SAM_NO_HANDLE`, or why the terminal has stopped, at this
 //! call or before: `SAM_STREAM..`, `SAM_TERM_REFUSED..`. `SAM_NO_HANDLE` comes first; the order of the others is that of `TermEnd::put`.
@@ -38,8 +39,9 @@ fn read_status(why: ReadFault) -> u32
     }
 }
 
-/// Types a text in the place of the dot: at most 512 runes, in UTF-8. Behind `SAM_NO_HANDLE`, and before all else, come `SAM_NOT_TEXT` if
-/// the text is not UTF-8, and `SAM_NO_MEMORY` if there is no memory for its runes.
+/// Types a text in the place of the dot: at most 512 runes, in UTF-8; a longer one is an event that is refused. Behind `SAM_NO_HANDLE`, and
+/// before all else, come `SAM_NOT_TEXT` if the text is not UTF-8, and `SAM_NO_MEMORY` if there is no memory for its runes. After these
+/// two the terminal is as it was.
 #[unsafe(no_mangle)]
 pub extern "C" fn sam_term_type(term: &mut SamTerm, tag: u16, text: &[u8], alloc: Global) -> u32
     ensures { TermPutText term.old.held.end text.now (λ runes. Typed tag runes) result term.new.held.end }
@@ -53,8 +55,9 @@ pub extern "C" fn sam_term_type(term: &mut SamTerm, tag: u16, text: &[u8], alloc
     }
 }
 
-/// Gives the host another snarf buffer, in UTF-8: at most 4,096 bytes, or 32,000 in version 2. Behind `SAM_NO_HANDLE`, and before all
-/// else, come `SAM_NOT_TEXT` if the text is not UTF-8, and `SAM_NO_MEMORY` if there is no memory for its runes.
+/// Gives the host another snarf buffer, in UTF-8: at most 4,096 bytes, or 32,000 in version 2; a longer one is an event that is refused.
+/// Behind `SAM_NO_HANDLE`, and before all else, come `SAM_NOT_TEXT` if the text is not UTF-8, and `SAM_NO_MEMORY` if there is no memory
+/// for its runes. After these two the terminal is as it was.
 #[unsafe(no_mangle)]
 pub extern "C" fn sam_term_setsnarf(term: &mut SamTerm, text: &[u8], alloc: Global) -> u32
     ensures { TermPutText term.old.held.end text.now (λ runes. SetSnarf runes) result term.new.held.end }
@@ -92,7 +95,7 @@ pub extern "C" fn sam_term_snarf(term: &mut SamTerm, tag: u16, alloc: Global) ->
     put(term, UserEvent::Snarf(tag), alloc)
 }
 
-/// Selects the next occurrence of the dot's text.
+/// Selects the next occurrence of the dot's text, which becomes the pattern. Does nothing if it is empty or too long for a pattern.
 #[unsafe(no_mangle)]
 pub extern "C" fn sam_term_look(term: &mut SamTerm, tag: u16, alloc: Global) -> u32
     ensures { TermPut term.old.held.end (Look tag) result term.new.held.end }
@@ -108,7 +111,8 @@ pub extern "C" fn sam_term_search(term: &mut SamTerm, tag: u16, alloc: Global) -
     put(term, UserEvent::Search(tag), alloc)
 }
 
-/// Runs the dot's text as a command line.
+/// Puts the dot's text at the end of the command file as lines, and runs the last of them. Does nothing if the dot is empty or the
+/// command file has no room for it.
 #[unsafe(no_mangle)]
 pub extern "C" fn sam_term_send(term: &mut SamTerm, tag: u16, alloc: Global) -> u32
     ensures { TermPut term.old.held.end (Send tag) result term.new.held.end }
@@ -116,7 +120,7 @@ pub extern "C" fn sam_term_send(term: &mut SamTerm, tag: u16, alloc: Global) -> 
     put(term, UserEvent::Send(tag), alloc)
 }
 
-/// Opens a file.
+/// Opens a file. Command lines work on it then.
 #[unsafe(no_mangle)]
 pub extern "C" fn sam_term_open(term: &mut SamTerm, tag: u16, alloc: Global) -> u32
     ensures { TermPut term.old.held.end (Open tag) result term.new.held.end }
@@ -148,7 +152,8 @@ pub extern "C" fn sam_term_work(term: &mut SamTerm, tag: u16, alloc: Global) -> 
     put(term, UserEvent::Work(tag), alloc)
 }
 
-/// Asks for the first gap that the view shows.
+/// Asks the host for an `Hcheck` of a file. When that comes, the terminal asks for the first gap that the view shows, unless it awaits one
+/// already.
 #[unsafe(no_mangle)]
 pub extern "C" fn sam_term_check(term: &mut SamTerm, tag: u16, alloc: Global) -> u32
     ensures { TermPut term.old.held.end (Check tag) result term.new.held.end }
@@ -208,7 +213,7 @@ pub extern "C" fn sam_term_opencmd(term: &mut SamTerm, alloc: Global) -> u32
     put(term, UserEvent::OpenCmd, alloc)
 }
 
-/// Makes an empty file, and opens it.
+/// Makes an empty file, and opens it. Command lines work on it then.
 #[unsafe(no_mangle)]
 pub extern "C" fn sam_term_new_file(term: &mut SamTerm, alloc: Global) -> u32
     ensures { TermPut term.old.held.end New result term.new.held.end }

@@ -1,5 +1,6 @@
 //! What C reads of a terminal: include/sam.h says of each call what it hands out. None of them changes the terminal. Each returns
-//! `SAM_NO_HANDLE` if the handle is empty; after that, and after `SAM_NONE`, what its other arguments lead to is as it was.
+//! `SAM_NO_HANDLE` if the handle is empty; after that, and after `SAM_NONE`, what its other arguments lead to is as it was. Places count
+//! runes from the beginning of the text.
 
 ghost use Rattle.std.specs.Prelude.{◌≡◌, Some, drop, is_some, length, option_and_then, option_copied, option_map};
 ghost use Rattle.sam_c.specs.Calls.{Tells, TellsCells, TellsName, TellsSome, TellsText, written};
@@ -123,7 +124,8 @@ pub extern "C" fn sam_term_sent(term: &mut SamTerm, messages: &mut u64, alloc: G
 }
 
 /// Hands out how many of the composed messages the host has not taken, as far as its frames tell. It is an upper bound: a message that
-/// the host answers by no frame counts until a later one is answered. 0 means that the host has taken them all.
+/// the host answers by no frame counts until a later one is answered, and for good once the session is over. 0 means that the host has
+/// taken them all.
 #[unsafe(no_mangle)]
 pub extern "C" fn sam_term_under_way(term: &mut SamTerm, messages: &mut u64, alloc: Global) -> u32
     ensures told { Tells term.old.held.end result messages.old messages.new under_way }

@@ -7,7 +7,8 @@ use sam_host::HostFault;
 use sam_term::TermFault;
 use thiserror::Error;
 
-/// Why a file is not added to a host, in the order of the tests. The host is then as it was. The C library tells a fault by its number.
+/// Why a file is not added to a host, in the order of the tests. The host is then as it was. The C library tells `Begun`, `TooLong` and
+/// `NoTag` by their numbers, and has numbers of its own for the other two.
 #[derive(Clone, Copy, Debug, PartialEq, Eq, Drop, Error)]
 pub enum OpenFault {
     /// The host end has taken a piece before, be it an empty one. From then on its files are those that it began with.
@@ -67,8 +68,8 @@ pub enum TermStop {
 pub enum EndFault<S> {
     /// Memory was refused before what the call brought was taken: bring it again. What waited before may have gone on.
     OutOfMemory,
-    /// Memory was refused after what the call brought was taken. The rest waits, and any call goes on with it; feeding no bytes does just
-    /// that.
+    /// Memory was refused after what the call brought was taken. The rest waits, and the next call that feeds, puts an event or flushes
+    /// goes on with it; feeding no bytes does just that.
     Unfinished,
     /// The stream would be longer than 2^64-1 bytes, or 2^64-1 events were taken before. What the call brought was not taken.
     CountFull,

@@ -61,7 +61,7 @@ fn note(writes: &mut VecDeque<u16>, tag: Option<u16>)
 /// A host that takes the bytes of a terminal's messages, answers them in order, and keeps the bytes of its frames until they are taken
 /// out.
 ///
-/// Want of memory loses nothing: what could not be answered or written waits, and the next call goes on with it. A fault of the stream,
+/// Want of memory loses nothing: what could not be answered or written waits, and the next `feed` goes on with it. A fault of the stream,
 /// or a message that the host refuses, stops the end for good, once the messages before it are answered.
 ///
 /// ```rust

@@ -19,10 +19,10 @@ use std::marker::Model;
 
 /// A terminal that takes the bytes of a host's frames and the user's events, and keeps the bytes of its messages until they are taken out.
 ///
-/// At each call frames are received in order, and then events act for as long as no lock holds the oldest back. Want of memory loses
-/// nothing: what could not be received, done or written waits, and the next call goes on with it. A fault of the stream, or a frame that
-/// the terminal refuses, stops the end for good, once the frames before it are received. An event that the terminal refuses stops nothing:
-/// `next_refusal` tells of it.
+/// At each `feed`, `put` and `flush` frames are received in order, and then events act for as long as no lock holds the oldest back. Want
+/// of memory loses nothing: what could not be received, done or written waits, and the next of these calls goes on with it. A fault of the
+/// stream, or a frame that the terminal refuses, stops the end for good, once the frames before it are received. An event that the
+/// terminal refuses stops nothing: `next_refusal` tells of it.
 ///
 /// ```rust
 /// let mut end = TermEnd::new(alloc);
@@ -363,8 +363,9 @@ impl TermEnd {
     /// Returns how many of the composed messages the host has not taken, as far as its frames tell: those above the stamp of the last
     /// frame that was received. It is an upper bound, and 0 means that the host has taken them all.
     ///
-    /// The host answers a `Tcut`, a `Tack`, and a `Ttype` that ends no command line, by no frame. Such a message counts until the host
-    /// answers a later one. To learn that it arrived, compose one that is answered at once and changes no text: `UserEvent::Check`.
+    /// The host answers a `Tcut`, a `Tack`, a `Ttype` that ends no command line, and a `Trequest` for a file that is gone, by no frame, and
+    /// answers nothing once it is done. Such a message counts until the host answers a later one. To learn that it arrived, compose one
+    /// that is answered at once and changes no text: `UserEvent::Check`. Once the session is over, what is under way counts for good.
     pub fn under_way(&self) -> u64
         ensures { result ≡ under_way self.now }
     {

@@ -35,8 +35,8 @@ impl Backoff {
         Backoff { tries: 0 }
     }
 
-    /// Returns whether the wait has given way to other threads often enough, so that it sleeps next. What is worth doing only
-    /// while nothing else comes is done then.
+    /// Returns whether the wait has given way to other threads often enough: after one more call, which sets the bell, it sleeps.
+    /// What is worth doing only while nothing else comes is done then.
     pub fn sleeps_next(&self) -> bool {
         self.tries >= YIELDS
     }

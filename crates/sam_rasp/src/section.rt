@@ -41,7 +41,7 @@ impl Section {
         }
     }
 
-    /// Returns the rune at `place`, which is counted from the start of the section, or `None` if a gap stands there.
+    /// Returns the rune at `place`, which is counted from the start of the section and below its length, or `None` if a gap stands there.
     #[tactic(auto, using(crate::proofs::SectionLaws::read_loaded, crate::proofs::SectionLaws::read_hole))]
     pub fn get(&self, place: u32) -> Option<char>
         requires { place < size self.now }
@@ -93,7 +93,8 @@ impl Section {
         }
     }
 
-    /// Puts the runes or gaps of `next` at its end. The caller makes sure that `may_join` is true of the two.
+    /// Puts the runes or gaps of `next` at its end. The caller makes sure that `may_join` is true of the two, and that they have at most
+    /// `MAX_RUNES` runes or gaps together.
     pub fn absorb(&mut self, next: Section)
         requires may { may_join self.old next ≡ true }
         requires within { size self.old + size next ≤ max_runes }

@@ -1,5 +1,5 @@
 //! The limits of texts, and of the messages that tell of them. Each stands here, and once more for contracts in specs/Texts.antt,
-//! under the same name in small letters; docs/PROTOCOL.md lists them.
+//! under the same name in small letters (`LAST_VERSION` as the 2 in `common_version`); docs/PROTOCOL.md lists them.
 
 ghost use Rattle.std.specs.Prelude.{◌≡◌};
 ghost use Rattle.sam_runes.specs.Texts.{agreed, common_version, snarf_limit};
@@ -43,7 +43,7 @@ pub fn snarf_limit(version: u16) -> usize
     }
 }
 
-/// Returns the version that both sides speak where one offers `offered`: that, or `LAST_VERSION` if it is above it.
+/// Returns the version that both sides speak where one offers `offered`, which is above 0: that, or `LAST_VERSION` if it is above it.
 pub fn common_version(offered: u16) -> u16
     ensures { result ≡ common_version offered }
 {

@@ -11,6 +11,7 @@ pub use Rattle.std.proofs.lemmas.Str.Parse.{numerals_by_value, parse_plain, tell
 pub use Rattle.std.proofs.lemmas.Str.Pattern.{find_char, strip_prefix_char}
 pub use Rattle.std.specs.List.{AllByRecursion, AllZip, onto_first}
 pub use Rattle.std.specs.Str.{all_ascii_digits}
+pub use Rattle.std.specs.Vec.Iter.{into_iter_items}
 pub use Rattle.sam_runes.specs.Texts.{max_runes, most_files, most_in_name}
 pub use Rattle.sam_script.specs.Events.{Part, Place, Reader, Tag, by_place, by_range, by_tag, form, readers}
 pub use Rattle.sam_script.specs.Events.Part.{Number, Rest}

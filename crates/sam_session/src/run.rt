@@ -26,15 +26,18 @@ use std::thread::Threads;
 /// let mode = mode_of(alloc, words)?;
 /// let played = play(rt, alloc, &mut reader, &mut writer, mode);
 /// let status = status_of(&played);
+/// writer.flush()?; // what was written may stand in the writer's memory still
 /// ```
 ///
 /// `Bytes` answers frames, with the faults that stand at [`play_bytes`]. Its text has at most `MAX_RUNES` runes.
 ///
 /// `Replay` and `Threads` read the input whole before they parse it, and parse the script whole before anything is done. They write what
-/// the mode prints, or in place of all that the line of the fault. The numbers of `Threads` are at least 1. The faults, in this order:
+/// the mode prints, or in place of all that the line of the fault. They don't flush the writer, where `Bytes` does behind each piece. The
+/// numbers of `Threads` are at least 1. The faults, in this order:
 ///
 /// - `Read` if a read failed, or if the input has more than `MOST_INPUT` bytes.
-/// - `Script(line)` at the first wrong line. If there is none, in `Replay`, at the first line that finds nothing to take.
+/// - `Script(line)` at the first wrong line. If there is none, `Replay` stops at the first line that can't be done: with `Script(line)` if
+///   it finds nothing to take, and with `Side` if it would pass a count.
 /// - `Threads` if the threads could not be started.
 /// - `Side(stop)` if a side stopped. In `Replay` it is `Stop::Host(6)`, whichever side had counted as many messages as it can. In
 ///   `Threads` it is the first stop of the session that has a cause of its own, which is a full count; if no stop has one, it is

@@ -48,7 +48,8 @@ const PIECE_HELP: &str = "The most bytes of a piece of the stream between thread
 
 const CAP_HELP: &str = "The capacity of a line between threads, from 1 to 1024";
 
-/// Why the words name no mode. The program then does nothing, and its exit status is 2, or 4 for want of memory.
+/// Why the words name no mode. The program then runs none: it writes the line of the fault, and for `Wrong` the usage on standard error.
+/// Its exit status is 2, or 4 for want of memory, or 5 if the line can't be written.
 #[derive(Clone, Copy, Debug, PartialEq, Eq, Error)]
 pub enum ArgFault {
     /// The words are none of the program's, or a value is out of its range. A wish for help is wrong, too.

@@ -5,8 +5,8 @@ ghost use Rattle.sam_settling.specs.Apart.{ApartSidesJoin, ApartSidesUnderstand}
 /// the number of messages that the host took, is a schedule that leads from the first world to the states of both sides. What was composed
 /// and not handled, and what was answered and not taken, is then under way.
 ///
-/// Neither side refuses the other's next message, unless a count is at its last value. Neither stream shows a fault, and a side that comes
-/// to the end of a stream has read all its messages. The function does nothing; its clauses are the laws.
+/// Neither side refuses the other's next message, unless a count of messages would pass 2^64-1. Neither stream shows a fault, and a side
+/// that comes to the end of a stream has read all its messages. The function does nothing; its clauses are the laws.
 pub fn apart_sides_join()
     ensures joined { ApartSidesJoin }
     ensures understood { ApartSidesUnderstand }

@@ -1,6 +1,6 @@
 //! The list of the terminal's files by tag. It finds, adds and frees what stands at a tag, and lends a file or its window to be
 //! changed. It holds no event back, composes no message and moves no unsent runes: the methods of `Terminal` in `windows` stand
-//! above it, and those of `records` stand in it.
+//! above it. What it keeps for a file stands in `records`.
 
 ghost use Rattle.std.specs.Prelude.{◌≡◌, ◌++◌, ◌∷◌, ◌+◌, ◌-◌, ◌<◌, ◌≤◌, ◌^◌, [], length, OnErr, OnOk, IsTrue, is_some, Some, None, option_copied, replicate, vec_len, vec_capacity, option_map, unwrap_or};
 ghost use Rattle.sam_runes.specs.Slots.{slot, put_slot, free_slot, map_slots};

@@ -66,8 +66,8 @@ pub fn frame_fits()
     ensures { (t : PlainTerminal) (m : Hmesg) → IsSound t → all_fit t.version (frame_outcome t m).1 ≡ true }
 {}
 
-/// Says that the messages of an event, or in answer to a frame, begin with the unsent runes if there are any, perhaps with runes behind
-/// them that the event typed.
+/// Says that where an event, or the answer to a frame, composes messages, the first has the unsent runes if there are any, perhaps with
+/// runes behind them that the event typed.
 #[tactic(auto, using(crate::proofs::UnsentLaws::events_send_first, crate::proofs::UnsentLaws::frames_send_first))]
 pub fn unsent_goes_first()
     ensures events { EventsSendFirst }

@@ -120,7 +120,7 @@ impl Files {
         }
     }
 
-    /// Returns whether the file of a tag was changed since it was made or written; false if the tag has no file.
+    /// Returns whether the file of a tag is dirty, as `File::is_dirty` tells it; false if the tag has no file.
     pub fn is_dirty(&self, tag: u16) -> bool
         ensures { result ≡ (file_at self.now.plain tag).dirty }
     {

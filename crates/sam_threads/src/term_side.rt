@@ -477,10 +477,10 @@ impl<'q> Side<'q> {
 /// Runs the terminal on what comes over the line of events, puts the bytes of its messages into the line up in pieces of at most `piece`
 /// bytes, and returns the worker's end. It is worker 4, the terminal. It begins with `term`, a new terminal.
 ///
-/// It never waits in a send: bytes for which the line has no room wait outside it. Once an entry is taken, held events act. Typed
-/// runes go up when the line of events has stayed empty for a while and nothing else is to be put, so that runes typed one after another
-/// go up together. Once keyboard and mouse have left it puts an Exit of its
-/// own behind the held events, unless the session is over.
+/// It never waits in a send: bytes for which the line has no room wait outside it. Once an entry is taken, held events act. Typed runes
+/// wait, so that those typed one after another go up together: until something else is composed, a `Flush` acts, runes come that don't
+/// join them, or the line of events has stayed empty for a while and nothing is left to put. Once keyboard and mouse have left it puts an
+/// Exit of its own behind the held events, unless the session is over.
 ///
 /// The end's `stop` is `None` if the host ended the session, everybody left, and nothing is held, unsent or not put. Else it is `Gate` if
 /// the gate refused the worker; `Frame(1)` or `Frame(2)` for an item that no worker of a session sends; `Term` if the terminal refused a
