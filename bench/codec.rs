@@ -105,9 +105,9 @@ impl Field for Vec<char> {
     }
 }
 
-/// The limit of a text of each sort.
-fn within(text: &[char], most_runes: usize, most_bytes: usize) -> bool {
-    text.len() <= most_runes && text.iter().map(|rune| rune.len_utf8()).sum::<usize>() <= most_bytes
+/// A snarfed text is within its limit, which is one of bytes.
+fn snarf_fits(text: &[char]) -> bool {
+    text.iter().map(|rune| rune.len_utf8()).sum::<usize>() <= 32_000
 }
 
 /// Writes a frame: kind, length of the body, body.
@@ -186,7 +186,7 @@ pub fn encode_h(out: &mut Vec<u8>, frame: &HFrame) {
 pub fn fits_t(message: &Tmesg) -> bool {
     match message {
         Tmesg::Type(_, _, text) => text.len() <= MOST_IN_MESSAGE,
-        Tmesg::SetSnarf(text) => within(text, usize::MAX, 32_000),
+        Tmesg::SetSnarf(text) => snarf_fits(text),
         _ => true,
     }
 }
@@ -196,7 +196,7 @@ pub fn fits_h(message: &Hmesg) -> bool {
         Hmesg::MovName(_, name) => name.len() <= 64,
         Hmesg::Data(_, _, text) | Hmesg::GrowData(_, _, text) => text.len() <= MOST_IN_MESSAGE,
         Hmesg::SetPat(text) => text.len() <= 128,
-        Hmesg::SetSnarf(text) => within(text, usize::MAX, 32_000),
+        Hmesg::SetSnarf(text) => snarf_fits(text),
         _ => true,
     }
 }
@@ -379,8 +379,11 @@ fn weight_t(message: &Tmesg) -> u64 {
 
 pub fn weight_h(frame: &HFrame) -> u64 {
     match &frame.msg {
-        Hmesg::Cut(_, p, n) => mix(*p as u64, *n as u64),
-        Hmesg::Data(_, _, text) | Hmesg::GrowData(_, _, text) | Hmesg::SetSnarf(text) => weight(text),
+        Hmesg::Cut(_, p, n) | Hmesg::Grow(_, p, n) => mix(*p as u64, *n as u64),
+        Hmesg::SetDot(_, p, q) => mix(*p as u64, *q as u64),
+        Hmesg::Origin(_, p) | Hmesg::MoveTo(_, p) => *p as u64,
+        Hmesg::SnarfLen(n) => *n as u64,
+        Hmesg::Data(_, _, text) | Hmesg::GrowData(_, _, text) | Hmesg::SetPat(text) | Hmesg::SetSnarf(text) => weight(text),
         _ => frame.seen,
     }
 }

@@ -1,6 +1,6 @@
 /* Types at a terminal with four open files through the C library, ten runes at a time into each file in turn, and carries the bytes to a
  * host and back: the calls of the job `embedded` of crates/sam_bench. The words are the job's name and how many runes are typed; it
- * prints them, the nanoseconds that the typing took, and a check value of what crossed. */
+ * prints them, the nanoseconds that the typing took, and a check value of how many bytes crossed. */
 #include <stdio.h>
 #include <stdlib.h>
 #include <string.h>
@@ -23,7 +23,7 @@ static uint64_t mix(uint64_t check, uint64_t value)
 	return check * 31 + value;
 }
 
-/* Carries bytes up and down until none wait. Returns what they add to the check value. */
+/* Carries bytes up and down until none wait. Returns what their numbers add to the check value. */
 static uint64_t carry(sam_host *host, sam_term *term)
 {
 	uint8_t piece[PIECE];

@@ -5,7 +5,6 @@ use crate::codec::{HFrame, Hmesg, MOST_IN_MESSAGE, Tmesg};
 use std::iter::zip;
 
 pub const MOST_RUNES: usize = 1_000_000;
-const MOST_FILES: usize = 65_536;
 const MOST_IN_PATTERN: usize = 128;
 const COMMAND_FILE: u16 = 0;
 
@@ -13,7 +12,6 @@ const COMMAND_FILE: u16 = 0;
 struct File {
     name: Vec<char>,
     text: Vec<char>,
-    saved: Vec<char>,
     dot: (u32, u32),
     open: bool,
     dirty: bool,
@@ -124,13 +122,12 @@ impl Host {
             Tmesg::Look(tag, p, q) => self.look(tag, p, q),
             Tmesg::Search(tag, p, q) => self.search(tag, p, q),
             Tmesg::Dclick(tag, p) => self.double_click(tag, p),
-            Tmesg::Write(tag) => self.write(tag),
             Tmesg::Ack => Some(vec![]),
             Tmesg::Exit => {
                 self.done = true;
                 Some(vec![Hmesg::Exit])
             }
-            Tmesg::Close(_) | Tmesg::Send(..) | Tmesg::StartSnarf => None,
+            Tmesg::Write(_) | Tmesg::Close(_) | Tmesg::Send(..) | Tmesg::StartSnarf => None,
         }
     }
 
@@ -188,7 +185,7 @@ impl Host {
     }
 
     fn start_new_file(&mut self) -> Option<Vec<Hmesg>> {
-        let tag = u16::try_from(self.files.len()).ok().filter(|_| self.files.len() < MOST_FILES)?;
+        let tag = u16::try_from(self.files.len()).ok()?;
         self.files.push(Some(File { open: true, announced: true, ..File::default() }));
         self.work = Some(tag);
         Some(vec![Hmesg::NewName(tag), Hmesg::BindName(tag), Hmesg::Current(tag), Hmesg::Unlock])
@@ -346,12 +343,5 @@ impl Host {
         file.range(p, p)?;
         file.dot = word_at(&file.text, p as usize);
         Some(vec![Hmesg::SetDot(tag, file.dot.0, file.dot.1), Hmesg::UnlockFile(tag)])
-    }
-
-    fn write(&mut self, tag: u16) -> Option<Vec<Hmesg>> {
-        let file = self.open(tag).filter(|_| tag != COMMAND_FILE)?;
-        file.saved = file.text.clone();
-        file.dirty = false;
-        Some(vec![Hmesg::Clean(tag), Hmesg::UnlockFile(tag)])
     }
 }

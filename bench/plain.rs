@@ -1,4 +1,5 @@
-//! The jobs of `sam_bench` in plain Rust, with the standard library alone. It prints the same line.
+//! The jobs of `sam_bench` in plain Rust, with the standard library alone. For each it prints the same line. `play` and `replay` do what
+//! `sam_play bytes` and `sam_play replay` do, and `frames` writes the input of `play`: they print no such line.
 
 use std::io::Write;
 use std::time::{Duration, Instant};

@@ -87,10 +87,18 @@ fn weight(messages: &[Tmesg]) -> u64 {
     })
 }
 
+/// Has the terminal take a frame. As in ours, its text is tested again, behind the framer.
+fn receive(terminal: &mut Terminal, frame: HFrame) -> Option<Vec<Tmesg>> {
+    if !fits_h(&frame.msg) {
+        return None;
+    }
+    terminal.receive(frame)
+}
+
 fn feed(framer: &mut Framer, terminal: &mut Terminal, piece: &[u8]) -> Option<u64> {
     let mut check = 0;
     for frame in framer.feed(piece)? {
-        check = mix(check, weight(&terminal.receive(frame)?));
+        check = mix(check, weight(&receive(terminal, frame)?));
     }
     Some(check)
 }

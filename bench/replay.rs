@@ -48,7 +48,6 @@ fn event(words: &str) -> Option<Event> {
         "work" => Some(Event::Work(rest.parse().ok()?)),
         "version" => Some(Event::Version(rest.parse().ok()?)),
         "opencmd" => Some(Event::OpenCmd),
-        "new" => Some(Event::New),
         _ => None,
     }
 }

@@ -46,7 +46,7 @@ fn open(session: &mut Session, steps: &mut Vec<Step>) -> Option<()> {
     Some(())
 }
 
-/// Types ten runes at a place of a file, and has a command put one in their place.
+/// Types ten runes at a place of a file, and has a command put one in the place of these and the next.
 fn turn(session: &mut Session, steps: &mut Vec<Step>, turn: usize) -> Option<()> {
     let tag = (turn % FILES as usize) as u16 + 1;
     let place = turn * 37 % (LENGTH - 100);

@@ -176,8 +176,14 @@ fn weight_t(message: &Tmesg) -> u64 {
 pub fn weight_h(frame: &HFrame) -> u64 {
     match &frame.msg {
         Hmesg::Hcut(_, p, n) => mix(*p as u64, *n as u64),
+        Hmesg::Hgrow(_, p, n) => mix(*p as u64, *n as u64),
+        Hmesg::Hsetdot(_, p, q) => mix(*p as u64, *q as u64),
+        Hmesg::Horigin(_, p) => *p as u64,
+        Hmesg::Hmoveto(_, p) => *p as u64,
+        Hmesg::Hsnarflen(n) => *n as u64,
         Hmesg::Hdata(_, _, text) => weight(text),
         Hmesg::Hgrowdata(_, _, text) => weight(text),
+        Hmesg::Hsetpat(text) => weight(text),
         Hmesg::Hsetsnarf(text) => weight(text),
         _ => frame.seen,
     }

@@ -25,7 +25,7 @@ const PIECE: usize = 4_096;
 /// How many runes each file has at the beginning.
 const LENGTH: usize = 512;
 
-/// Carries bytes up and down until none wait. Returns what they add to the check value.
+/// Carries bytes up and down until none wait. Returns what their numbers add to the check value.
 fn carry(host: &mut HostEnd, term: &mut TermEnd) -> Result<u64, Fault> {
     let mut piece = [0; PIECE];
     let mut check = 0;

@@ -10,8 +10,7 @@ use std::time::{Clock, Instant};
 /// How many runes a piece has.
 const PIECE: usize = 512;
 
-/// A number below 1024 pieces and above, that steps through all pieces in a scattered order: it is a prime, and no divisor
-/// of their number.
+/// A prime that does not divide the number of pieces, so that its multiples step through all pieces, in a scattered order.
 const STEP: usize = 1_000_003;
 
 /// Loads all pieces of the runes into gaps, in a scattered order.

@@ -72,7 +72,7 @@ pub fn mixed(alloc: Global, count: usize) -> Result<Vec<char>, AllocError> {
     Ok(runes)
 }
 
-/// Mixes a rune into a check value.
+/// Mixes a number into a check value.
 pub fn mix(check: u64, more: u64) -> u64 {
     check.wrapping_mul(31).wrapping_add(more)
 }
