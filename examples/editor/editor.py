@@ -1,12 +1,15 @@
 """The editor: what each key does to the terminal and to the windows."""
 from collections import deque
-from typing import Deque, Dict, List, Optional
+from typing import Deque, Dict, List, Optional, Tuple
 
 from keys import ACTIONS, Input, Key, Mouse, Text
+from layout import Reader, line_start
 from menus import Help, Menu
 from sam import Refusal, SamError, Status, Terminal
 from way import Way
 from windows import Window
+
+Spot = Tuple[Window, int]  # a window and a place
 
 COMMAND = 0  # the tag of the command file
 MOST_IN_EVENT = 512  # runes that are typed in one event
@@ -35,10 +38,16 @@ WHY = {
 }
 
 
-def _says_quit(runes: List[Optional[str]]) -> bool:
-    """Whether the last line of these runes is `q`."""
-    text = "".join(rune or "" for rune in runes).removesuffix("\n")
-    return text.rpartition("\n")[2].strip(" \t") == "q"
+def _action(key: Input) -> Optional[str]:
+    """What a key does; None for text, for the mouse, and for a key that does nothing."""
+    return ACTIONS.get(key.name.replace("Shift-", "")) if isinstance(key, Key) else None
+
+
+def _may_quit(read: Reader, start: int, end: int) -> bool:
+    """Whether the last line of a stretch is `q`, or may be, since what stands before its blanks is not loaded."""
+    first = line_start(read, end, start)
+    line = "".join(rune or "" for rune in read(first, end - first)).strip(" \t")
+    return line == "q" or (line == "" and first > start and read(first - 1, 1) == [None])
 
 
 class Editor:
@@ -55,10 +64,12 @@ class Editor:
         self.menu = None
         self.deferred: Deque[Input] = deque()
         self.message = "F1 or ^G shows the keys"
-        self.asked: Optional[str] = None  # the action that asked to be done again
+        self.question = self.asked = ""  # what the last key asked; the same once the user has seen it
         self.is_lost = self.is_leaving = self.is_over = self.has_begun = False
-        self._seen_current: Optional[int] = None
-        self._clicked = (0.0, -1)  # when and where the mouse was pressed last, by the time of the event: a click may wait for the host
+        self._awaits_file = False  # the host makes a file or closes one
+        # When and where the mouse was clicked last, by the time of the event: a click may wait for the host. Where its button is down.
+        self._clicked: Tuple[float, Optional[Spot]] = (0.0, None)
+        self._pressed: Optional[Spot] = None
         self._rows = 24
 
     # ---- Windows
@@ -95,18 +106,18 @@ class Editor:
         if window is not self.command:
             self.active = window
 
-    def show(self, tag: int) -> None:
-        """Shows a file: in its window, or in the one that was used last."""
+    def show(self, tag: int, replaces: bool = True) -> None:
+        """Shows a file: in its window, else in place of the one that was used last, or in another. Before that it is opened."""
         window = self.window_of(tag)
+        if not window.is_open and not self.is_lost:
+            self.terminal.open(tag)
         if window not in self.files:
-            if self.active in self.files:
+            if replaces and self.active in self.files:
                 self.files[self.files.index(self.active)] = window
             else:
                 self.files.append(window)
             self.arrange(self._rows, self.command.width)
         self.go_to(window)
-        if not window.is_open and not self.is_lost:
-            self.terminal.open(tag)
 
     def _drop(self, window: Window) -> None:
         """Takes a window off the screen."""
@@ -128,16 +139,23 @@ class Editor:
     def feed(self, data: bytes) -> None:
         self.feeds += 1
         self.terminal.feed(data)
-        self._meet_files()
 
     def pause(self) -> None:
-        """The user pauses: sends what was typed, and asks the host by the command file, unless a lock says that an answer is due."""
+        """The user pauses, and sees the message: sends what was typed, and asks the host by the command file, unless a lock says that an
+        answer is due."""
+        if self.message == self.question:
+            self.asked = self.question
         self.way.send(COMMAND if self.command.is_open and not self._is_answer_due else None)
 
     @property
     def _is_answer_due(self) -> bool:
         """Whether a lock is held, so that the host will answer, or an event waits for one."""
         return self.terminal.held > 0 or any(self.terminal.is_locked(tag) for tag in self.all_windows)
+
+    @property
+    def _are_windows_due(self) -> bool:
+        """Whether the host's answer will change the windows, and so where keys go: at the start, and behind `^N` and `^K`."""
+        return not self.has_begun or (self._awaits_file and self._is_answer_due)
 
     def lose(self, why: str) -> None:
         """The host is gone: what is loaded can still be read."""
@@ -152,28 +170,31 @@ class Editor:
             self._drop(window)
             del self.all_windows[window.tag]
         if not self.has_begun and self.command.is_open:
-            self.has_begun = True
             if known:
                 self.show(known[0])
             else:
                 self.message = "no file: ^N makes one, F1 shows the keys"
+            self.has_begun = True
         current = self.terminal.current
-        if current != self._seen_current:
-            self._seen_current = current
-            if current in known and self.window_of(current) not in self.files:
-                self.show(current)
+        if current in known and current not in self.all_windows:  # it was made; command lines work on a file that had a window
+            self.show(current)
 
     def update(self) -> None:
-        """After keys or bytes: keys that waited, refusals, what the windows show."""
+        """After keys or bytes: files that came or went, keys that waited, refusals, what the windows show."""
         if not self.is_lost:
-            while self.deferred and not self._must_wait(self.deferred[0]):
-                self._act(self.deferred.popleft())
+            self._meet_files()
+            self._awaits_file = self._awaits_file and self._is_answer_due
+            self._update_windows()  # so that keys wait for the text of a file that was opened
+            self._act_in_order()
             for refusal in self.terminal.refusals():
                 self._tell_refusal(refusal)
-            for window in self.windows:
-                window.update()
+            self._update_windows()
         if self.terminal.has_exited:
             self.is_over = True
+
+    def _update_windows(self) -> None:
+        for window in self.windows:
+            window.update()
 
     def _tell_refusal(self, refusal: Refusal) -> None:
         self.message = WHY.get(refusal.why, str(refusal.why))
@@ -181,89 +202,119 @@ class Editor:
     # ---- What comes from the user
 
     def take(self, key: Input) -> None:
-        """Does what a key says, now or when the file is free."""
-        if self.menu is not None and key != Key("^Q"):
-            self._take_in_menu(key)
-        elif self.is_lost:
-            if isinstance(key, Key) and ACTIONS.get(key.name) in READING:
-                self._act(key)
-        elif key == Key("^Q") and (self.is_leaving or key in self.deferred):
+        """Does what a key says, now or when what it acts on is settled."""
+        if key == Key("^Q") and (self.is_leaving or key in self.deferred):
             self.is_over = True
-        elif self.deferred or self._must_wait(key):
-            self.deferred.append(key)
-            if key == Key("^Q"):
-                self.message = "keys wait for the host; ^Q again leaves without them"
-        else:
-            self._act(key)
-
-    def _take_in_menu(self, key: Input) -> None:
-        if isinstance(key, Text) and len(key.runes) > 1:
-            for rune in key.runes:
-                self.take(Text(rune))
             return
-        self.menu.take(key)
-        if self.menu.is_over:
-            self.menu = None
+        self.deferred.append(key)
+        self._act_in_order()
+        if self.deferred and _action(key) in ASKING:
+            self.message = "keys wait for the host" + ("; ^Q again leaves without them" if key == Key("^Q") else "")
+
+    def _act_in_order(self) -> None:
+        """Does what the keys say, up to the first that has to wait."""
+        while self.deferred and not self._must_wait(self.deferred[0]):
+            self._act(self.deferred.popleft())
 
     def _must_wait(self, key: Input) -> bool:
-        if isinstance(key, Key) and ACTIONS.get(key.name) in ASKING:
-            return self._is_answer_due
-        if isinstance(key, Text):
-            return "\n" in key.runes and self.focus is self.command and self._is_answer_due
-        if self.focus.is_settled:
+        """Whether what a key acts on is not settled: the windows, what was changed, or the places in a window."""
+        action = _action(key)
+        if self.is_lost or self._is_for_menu(key) or action == "help":
             return False
-        return isinstance(key, Mouse) or ACTIONS.get(key.name.replace("Shift-", "")) in BY_PLACE
+        if self._are_windows_due:
+            return True
+        if action in ASKING or (isinstance(key, Text) and "\n" in key.runes and self.focus is self.command):
+            return self._is_answer_due
+        window = self._window_by_place(key)
+        return window is not None and not window.is_settled
+
+    def _window_by_place(self, key: Input) -> Optional[Window]:
+        """The window by whose places a key goes, if it does."""
+        if isinstance(key, Mouse) and key.what == "press":
+            return self._window_at(key.row)
+        is_by_place = key.what in ("move", "release") if isinstance(key, Mouse) else _action(key) in BY_PLACE
+        return self.focus if is_by_place else None
+
+    def _is_for_menu(self, key: Input) -> bool:
+        """Whether a menu lies over the windows, which takes all keys but `^Q`."""
+        return self.menu is not None and key != Key("^Q")
 
     def _act(self, key: Input) -> None:
+        """Does what a key says. A question is over then: the key answers it, or takes it back."""
+        if self.is_lost and not self._is_for_menu(key) and _action(key) not in READING:
+            return
+        self.message = self.question = ""
         try:
-            if isinstance(key, Mouse):
+            if self._is_for_menu(key):
+                self._act_in_menu(key)
+            elif isinstance(key, Mouse):
                 self._point(key)
-                return
-            self.message = ""
-            if isinstance(key, Text):
+            elif isinstance(key, Text):
                 self._type(key.runes)
             else:
-                self._do(key.name)
+                self._do(key)
+            if not self.is_lost:
+                self.focus.update()  # so that the next key waits where it goes by places that are not loaded
         except MemoryError as error:
             self.message = f"there is not enough memory ({error})"
         except SamError as error:
             self.lose(f"the session can't go on ({error})")
+        self.asked = ""
 
-    def _do(self, name: str) -> None:
-        action, asked = ACTIONS.get(name.replace("Shift-", "")), self.asked
-        self.asked = None
+    def _act_in_menu(self, key: Input) -> None:
+        if isinstance(key, Text):
+            key = Text(self._first_of(key.runes, 1))
+        try:
+            self.menu.take(key)
+        finally:
+            if self.menu.is_over:
+                self.menu = None
+
+    def _first_of(self, runes: str, count: int) -> str:
+        """The first runes of a text; those behind them come next, and may go elsewhere."""
+        if len(runes) > count:
+            self.deferred.appendleft(Text(runes[count:]))
+        return runes[:count]
+
+    def _is_sure(self, question: str) -> bool:
+        """Whether this key answers a question that the user has seen. If not, it is asked."""
+        if self.asked == question:
+            return True
+        self.message = self.question = question
+        return False
+
+    def _may_leave(self, key: str) -> bool:
+        """Whether all is written, or the user is sure. If not, it is asked; the same key answers."""
+        unwritten = ", ".join(self.name(tag) for tag in self.terminal.files() if self.is_changed(tag))
+        return not unwritten or self._is_sure(f"not written: {unwritten}. {key} again leaves without them")
+
+    def _do(self, key: Key) -> None:
+        action = _action(key)
         if action is None:
-            self.message = f"{name} does nothing; F1 or ^G shows the keys"
+            self.message = f"{key.name} does nothing; F1 or ^G shows the keys"
             return
         if action not in ("up", "down"):
             self.focus.goal = None
-        if action in BY_PLACE:
-            if self.focus.is_open:
-                getattr(self, f"do_{action}")(name.startswith("Shift-"))
-        elif action in ASKING:
-            getattr(self, f"do_{action}")(asked == action)
-        else:
+        if action not in BY_PLACE:
             getattr(self, f"do_{action}")()
+        elif self.focus.is_open:
+            getattr(self, f"do_{action}")(key.name.startswith("Shift-"))
 
     def _type(self, runes: str) -> None:
         window, self.focus.goal, self.focus.anchor = self.focus, None, None
-        if window is self.command:
-            runes, newline, rest = runes.partition("\n")
-            if rest:
-                self.deferred.appendleft(Text(rest))
+        ends_line = window is self.command and "\n" in runes
+        if ends_line:
+            runes = self._first_of(runes, runes.index("\n") + 1)[:-1]
         for at in range(0, len(runes), MOST_IN_EVENT):
             self.terminal.type(window.tag, runes[at : at + MOST_IN_EVENT])
-        if window is self.command and newline:
+        if ends_line:
             self._run_line()
-        else:
-            self.asked = None
 
     def _run_line(self) -> None:
-        """Ends a command line, which the host then runs on the file that was used last."""
-        if self._is_quit() and self.asked != "quit" and self._unwritten():
-            self.asked, self.message = "quit", f"not written: {self._unwritten()}. Enter again leaves without them"
+        """Ends the command line in which the caret stands. The host then runs it on the file that was used last."""
+        self.command.select(self.command.line_end(self.command.dot[1]))
+        if _may_quit(self.command.read, 0, self.command.caret) and not self._may_leave("Enter"):
             return
-        self.asked = None
         self._work()
         self.terminal.type(COMMAND, "\n")
 
@@ -272,60 +323,48 @@ class Editor:
         if self.active is not self.command and self.active.is_open:
             self.terminal.work(self.active.tag)
 
-    def _is_quit(self) -> bool:
-        """Whether the line that Enter would run is `q`."""
-        if not self.command.is_open:
-            return False
-        end = self.command.dot[0]
-        line = self.command.read(self.command.line_start(end), end - self.command.line_start(end))
-        return _says_quit(line)
-
-    def _sends_quit(self) -> bool:
-        """Whether the last line of the selection is `q`."""
-        if not self.focus.is_open:
-            return False
-        start, end = self.focus.dot
-        start = max(start, end - MOST_IN_EVENT)
-        return _says_quit(self.focus.read(start, end - start))
-
-    def _unwritten(self) -> str:
-        return ", ".join(self.name(tag) for tag in self.terminal.files() if self.is_changed(tag))
-
     # ---- The mouse
 
+    def _window_at(self, row: int) -> Optional[Window]:
+        """The window whose title or text stands in a row of the screen."""
+        return next((window for window in self.windows if window.y <= row <= window.y + window.height), None)
+
     def _point(self, mouse: Mouse) -> None:
-        if mouse.what == "move" or mouse.what == "release":
+        if mouse.what in ("move", "release"):
             self._drag(mouse)
-            return
-        window = next((window for window in self.windows if window.y <= mouse.row <= window.y + window.height), None)
+        if mouse.what in ("press", "release"):
+            self._pressed = None
+        window = self._window_at(mouse.row)
         if window is None or not window.is_open:
             return
         if mouse.what == "wheel up":
             window.page_up(WHEEL_ROWS)
         elif mouse.what == "wheel down":
             window.page_down(WHEEL_ROWS)
-        else:
+        elif mouse.what == "press":
             self._press(window, mouse)
 
     def _press(self, window: Window, mouse: Mouse) -> None:
-        self.asked = None  # what was asked was of another place
         self.go_to(window)
         window.goal = None
-        if mouse.row == window.y or not window.is_settled:
+        if mouse.row == window.y:
             return
         place = window.layout().place_at(mouse.row - window.y - 1, mouse.column)
-        when, where = self._clicked
-        if where == place and mouse.when - when < DOUBLE_CLICK:
+        when, spot = self._clicked
+        if spot == (window, place) and mouse.when - when < DOUBLE_CLICK:
             self.terminal.dclick(window.tag, place)
-            self._clicked, window.anchor = (0.0, -1), None
+            self._clicked, window.anchor = (0.0, None), None
             return
-        self._clicked = (mouse.when, place)
+        self._pressed = (window, place)
+        self._clicked = (mouse.when, self._pressed)
         window.select(place)
 
     def _drag(self, mouse: Mouse) -> None:
         """Selects from where the button was pressed."""
-        window, start = self.focus, self._clicked[1]
-        if start < 0 or not window.is_open or not window.is_settled or start > window.length:
+        if self._pressed is None or self._pressed[0] is not self.focus:
+            return
+        window, start = self._pressed
+        if start > window.length:
             return
         row = max(0, min(mouse.row - window.y - 1, window.height - 1))
         place = window.layout().place_at(row, mouse.column)
@@ -361,35 +400,32 @@ class Editor:
         elif self._rows * 3 // 4 < LEAST_ROWS * (len(self.files) + 1):
             self.message = "the screen is too small for another window"
         else:
-            self.active = self.command  # so that no window is replaced
-            self.show(other)
+            self.show(other, replaces=False)
 
     def do_unsplit(self) -> None:
         if self.focus is not self.command and len(self.files) > 1:
             self._drop(self.focus)
 
     def do_new(self) -> None:
+        self._awaits_file = True
         self.terminal.new_file()
 
     def do_write(self) -> None:
         if self.active is not self.command:
             self.terminal.write(self.active.tag)
 
-    def do_close(self, is_sure: bool) -> None:
+    def do_close(self) -> None:
         tag = self.focus.tag
         if tag == COMMAND:
             self.message = "the command window stays"
-        elif self.is_changed(tag) and not is_sure:
-            self.asked, self.message = "close", f"{self.name(tag)} was not written; ^K again closes it"
-        else:
+        elif not self.is_changed(tag) or self._is_sure(f"{self.name(tag)} was not written; ^K again closes it"):
+            self._awaits_file = True
             self.terminal.close_file(tag)
 
-    def do_leave(self, is_sure: bool) -> None:
+    def do_leave(self) -> None:
         if self.is_lost:
             self.is_over = True
-        elif self._unwritten() and not is_sure:
-            self.asked, self.message = "leave", f"not written: {self._unwritten()}. ^Q again leaves without them"
-        else:
+        elif self._may_leave("^Q"):
             self.terminal.exit()
             self.is_leaving, self.message = True, "leaving; ^Q again doesn't wait for the host"
 
@@ -414,12 +450,20 @@ class Editor:
         self.terminal.search(self.focus.tag)
         self.focus.anchor = None
 
-    def do_send(self, is_sure: bool) -> None:
-        if self._sends_quit() and self._unwritten() and not is_sure:
-            self.asked, self.message = "send", f"not written: {self._unwritten()}. ^E again leaves without them"
+    def do_send(self) -> None:
+        if self._sends_quit() and not self._may_leave("^E"):
             return
         self._work()
         self.terminal.send(self.focus.tag)
+
+    def _sends_quit(self) -> bool:
+        """Whether the last line of the selection is `q`, or may be."""
+        if not self.focus.is_open:
+            return False
+        start, end = self.focus.dot
+        if start < end and self.focus.read(end - 1, 1) == ["\n"]:
+            end -= 1
+        return _may_quit(self.focus.read, start, end)
 
     def do_word(self, _extends: bool) -> None:
         self.terminal.dclick(self.focus.tag, self.focus.caret)

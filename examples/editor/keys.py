@@ -116,10 +116,18 @@ def _mouse() -> List[Input]:
             events.append(Mouse(what, row, column, time.monotonic()))
 
 
+def codec() -> str:
+    """The codec of the characters of the locale; UTF-8 where Python has none for them."""
+    try:
+        return codecs.lookup(locale.nl_langinfo(locale.CODESET)).name
+    except LookupError:
+        return "utf-8"
+
+
 @lru_cache(maxsize=None)
 def _decoder():
     """Keeps the first bytes of a rune until the others come."""
-    return codecs.getincrementaldecoder(locale.nl_langinfo(locale.CODESET))("replace")
+    return codecs.getincrementaldecoder(codec())("replace")
 
 
 def _decoded(code: int) -> List[Input]:

@@ -37,12 +37,20 @@ enum { STATUS_OK = 0, STATUS_UNREADABLE = 1, STATUS_WORDS = 2, STATUS_FAULT = 3,
 
 enum ending { GOES_ON, LEFT, INPUT_ENDED, FAULT };
 
+/* A text that was saved aside. The user may put a file of his own in its place; by these marks the host tells them apart. */
+struct copy {
+    char *path; /* NULL where there is none */
+    dev_t device;
+    ino_t inode;
+    struct timespec written;
+};
+
 /* What the host doesn't know of a file. */
 struct document {
-    char *path;      /* where it was read; NULL for a file that the terminal made */
-    char *shown;     /* its name in the session, the end of a long path */
-    bool is_unsaved; /* the terminal believes it written, but it is neither written nor saved aside */
-    char *aside;     /* where its text was saved when it could not be written last; NULL where that is nowhere */
+    char *path;        /* where it was read; NULL for a file that the terminal made */
+    char *shown;       /* its name in the session, the end of a long path */
+    bool is_unsaved;   /* the terminal believes it written, but it is neither written nor saved aside */
+    struct copy aside; /* its text, since it could not be written last */
 };
 
 /* The bytes that wait on both sides, and whether the terminal still listens. */
@@ -149,7 +157,7 @@ static int add_file(sam_host *host, const char *path)
         code = sam_host_add_file(host, (const uint8_t *)shown, strlen(shown), text, len, &tag);
     free(text);
     if (error == 0 && code == SAM_OK) {
-        documents[tag] = (struct document){own, shown, false, NULL};
+        documents[tag] = (struct document){.path = own, .shown = shown};
         return STATUS_OK;
     }
     free(own);
@@ -229,8 +237,8 @@ static bool may_replace(const char *path)
     return access(path, W_OK) == 0;
 }
 
-/* Gives a new file the owner, the group and the mode bits of another, as far as the system allows it. Without another it is the owner's
- * alone. */
+/* Gives a new file the owner, the group and the mode bits of another, as far as the system allows it. What only the other's group may do
+ * is not for a group that takes its place. Without another file it is the owner's alone. */
 static bool copy_mode(const char *like, int file)
 {
     struct stat old, new;
@@ -243,7 +251,10 @@ static bool copy_mode(const char *like, int file)
         return false;
     bool has_group = old.st_gid == new.st_gid || fchown(file, (uid_t)-1, old.st_gid) == 0;
     bool has_owner = old.st_uid == new.st_uid || fchown(file, old.st_uid, (gid_t)-1) == 0;
-    return fchmod(file, old.st_mode & (has_group && has_owner ? 07777 : 0777)) == 0;
+    mode_t mode = old.st_mode & (has_group && has_owner ? 07777 : 0777);
+    if (!has_group)
+        mode &= 0707 | ((mode & 07) << 3);
+    return fchmod(file, mode) == 0;
 }
 
 /* The folder of a path, with the slash at its end, in memory of its own. */
@@ -339,38 +350,62 @@ static char *save_among_temporary(sam_host *host, uint16_t tag, const char *name
     return saved;
 }
 
+/* Marks a copy that was just saved. One that can't be looked at gets marks that no file has. */
+static void mark_copy(struct copy *copy)
+{
+    struct stat now = {0};
+
+    lstat(copy->path, &now);
+    copy->device = now.st_dev;
+    copy->inode = now.st_ino;
+    copy->written = now.st_mtim;
+}
+
+/* Whether a copy is still there as the host saved it, so that the host may replace or remove it. */
+static bool is_own(const struct copy *copy)
+{
+    struct stat now;
+
+    return copy->path != NULL && lstat(copy->path, &now) == 0 && now.st_dev == copy->device && now.st_ino == copy->inode
+        && now.st_mtim.tv_sec == copy->written.tv_sec && now.st_mtim.tv_nsec == copy->written.tv_nsec;
+}
+
 /* Saves a text where it was saved before, else beside its file, else in the folder for temporary files, and tells where. */
 static bool save_aside(sam_host *host, uint16_t tag)
 {
-    struct document *document = &documents[tag];
+    struct copy *aside = &documents[tag].aside;
     char unnamed[32];
     char *path = path_of(host, tag);
 
     snprintf(unnamed, sizeof unnamed, "unnamed-%u", (unsigned)tag);
     const char *name = path == NULL ? unnamed : path;
-    if (document->aside == NULL || !replace_file(host, tag, sam_host_text, document->aside, document->aside)) {
-        free(document->aside);
-        document->aside = save_as(host, tag, name, name);
-        if (document->aside == NULL) {
+    if (!is_own(aside) || !replace_file(host, tag, sam_host_text, aside->path, aside->path)) {
+        free(aside->path);
+        aside->path = save_as(host, tag, name, name);
+        if (aside->path == NULL) {
             tell("? write %s.sam-saved: %s", name, strerror(errno));
-            document->aside = save_among_temporary(host, tag, name, unnamed);
+            aside->path = save_among_temporary(host, tag, name, unnamed);
         }
     }
-    if (document->aside == NULL)
+    if (aside->path == NULL) {
         tell("the text of %s is lost: %s", name, strerror(errno));
-    else
-        tell("%s was not written; its text is in %s", name, document->aside);
+    } else {
+        mark_copy(aside);
+        tell("%s was not written; its text is in %s", name, aside->path);
+    }
     free(path);
-    return document->aside != NULL;
+    return aside->path != NULL;
 }
 
-/* Lets go of the copy of a text that is written by now. */
+/* Lets go of the copy of a text that is written by now: perhaps over that very copy, which then is the file. */
 static void drop_aside(uint16_t tag)
 {
-    if (documents[tag].aside != NULL)
-        unlink(documents[tag].aside);
-    free(documents[tag].aside);
-    documents[tag].aside = NULL;
+    struct copy *aside = &documents[tag].aside;
+
+    if (is_own(aside))
+        unlink(aside->path);
+    free(aside->path);
+    aside->path = NULL;
 }
 
 /* Writes the saved copy of a file to disk, behind a symbolic link too. What can't be written is saved aside at once, since the terminal

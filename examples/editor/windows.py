@@ -191,7 +191,8 @@ class Window:
             self.wished_top = top
 
     def select(self, place: int, extends: bool = False) -> None:
-        """Moves the caret; the anchor stays where the selection is extended."""
+        """Moves the caret, and shows it; the anchor stays where the selection is extended."""
+        self._followed = None
         if extends:
             if self.anchor is None or self.anchor not in self.dot:
                 start, end = self.dot
@@ -209,8 +210,9 @@ class Window:
         return max(0, min(at, self.length))
 
     def _is_on_another(self, place: int) -> bool:
-        rune = self.read(place, 1)[0]
-        return rune is not None and rune not in "\n\t" and looks(rune)[1] == 0
+        """Whether the rune behind a place shares the cell of the one before it. At the start of a line and behind a gap it can't."""
+        before, rune = self.read(place - 1, 2)
+        return None not in (before, rune) and before != "\n" and rune not in "\n\t" and looks(rune)[1] == 0
 
     def by_rows(self, place: int, rows: int) -> int:
         """The place so many rows below (above where negative), in the column that such moves keep to."""
