@@ -18,7 +18,7 @@ pub line_more : (all : Result (List ℕ) ScriptFault) (w v : PlainWorld) (before
     → after_line d.number w d.line ≡ Ok v
     → after ≡ before ++ printed_by w d.line
     → all ≡ behind after (replayed_from v rest)
-line_more all w v before after d left rest here so_far done printed = grind append_assoc
+line_more all w v before after d left rest here so_far done printed = grind (arith, append_assoc)
 
 -- ---- the script that bytes spell
 
