@@ -6,7 +6,7 @@
 #include <string.h>
 #include <time.h>
 
-#include "sam.h"
+#include "sulgrevad.h"
 
 enum { FILES = 4, STRETCH = 10, CARRIED = 1000, PIECE = 4096, LENGTH = 512 };
 
@@ -30,9 +30,9 @@ static uint64_t carry(sam_host *host, sam_term *term)
 	uint64_t check = 0;
 	for (;;) {
 		size_t up, down;
-		want(sam_term_out(term, piece, PIECE, &up));
+		want(sam_term_take_out(term, piece, PIECE, &up));
 		want(sam_host_feed(host, piece, up));
-		want(sam_host_out(host, piece, PIECE, &down));
+		want(sam_host_take_out(host, piece, PIECE, &down));
 		want(sam_term_feed(term, piece, down));
 		if (up == 0 && down == 0) return check;
 		check = mix(mix(check, up), down);
@@ -48,7 +48,7 @@ static void open_files(sam_host *host, sam_term *term)
 	want(sam_host_new(host));
 	for (int i = 0; i < FILES; i++) want(sam_host_add_file(host, (const uint8_t *)"a", 1, text, LENGTH, &tag));
 	want(sam_term_new(term));
-	want(sam_term_version(term, 2));
+	want(sam_term_offer_version(term, 2));
 	carry(host, term);
 	for (tag = 1; tag <= FILES; tag++) {
 		want(sam_term_open(term, tag));

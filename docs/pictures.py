@@ -63,16 +63,16 @@ FURTHEST = BOX_WIDTH / 2 - 12
 PLACES = {
     "sam_play": (520, 0, "the program"),
     "sam_session": (520, 1, "modes of the program"),
-    "sam_running": (520, 2, "five threads at work"),
-    "sam_settling": (520, 3, "their ends, one run"),
-    "sam_tasks": (300, 3, "what workers begin with"),
-    "sam_threads": (520, 4, "five workers"),
+    "sam_spawn": (520, 2, "five threads at work"),
+    "sam_settle": (520, 3, "their ends, one run"),
+    "sam_spawn": (300, 3, "what workers begin with"),
+    "sam_workers": (520, 4, "five workers"),
     "sam_script": (300, 4, "scripts, read and shown"),
     "sam_queue": (170, 5, "lines between threads"),
     "sam_world": (350, 6, "both sides as one state"),
-    "sam_protocol": (350, 7, "crossing messages agree"),
+    "sam_crossing": (350, 7, "crossing messages agree"),
     "sam_c": (740, 3, "the library for C"),
-    "sam_ends": (740, 7, "the ends of two streams"),
+    "sam_endpoint": (740, 7, "the ends of two streams"),
     "sam_host": (170, 8, "the host"),
     "sam_term": (520, 8, "the terminal"),
     "sam_frame": (700, 8, "streams of messages"),
@@ -82,8 +82,8 @@ PLACES = {
     "sam_runes": (350, 10, "texts as lists of runes"),
 }
 LEFT_OUT = {
-    *("sam_tests", "sam_codec_tests", "sam_base_tests", "sam_term_tests", "sam_session_tests", "sam_lending"),
-    *("sam_memory", "sam_memory_cases", "sam_bench", "sam_bench_jobs", "sam_examples"),
+    *("sam_tests_whole", "sam_tests_codec", "sam_tests_files", "sam_tests_term", "sam_tests_session", "sam_test_support"),
+    *("sam_oom", "sam_oom_cases", "sam_bench", "sam_bench_jobs", "sam_examples"),
 }
 
 

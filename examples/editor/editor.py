@@ -5,7 +5,7 @@ from typing import Deque, Dict, List, Optional, Tuple
 from keys import ACTIONS, Input, Key, Mouse, Text
 from layout import Reader, line_start
 from menus import Help, Menu
-from sam import Refusal, SamError, Status, Terminal
+from sulgrevad import Refusal, SamError, Status, Terminal
 from way import Way
 from windows import Window
 
@@ -134,7 +134,7 @@ class Editor:
     def begin(self) -> None:
         """The first events: the host tells the names of its files, and opens the command file."""
         self.terminal.offer_version(2)
-        self.terminal.open_command()
+        self.terminal.open_cmd()
 
     def feed(self, data: bytes) -> None:
         self.feeds += 1
@@ -150,7 +150,7 @@ class Editor:
     @property
     def _is_answer_due(self) -> bool:
         """Whether a lock is held, so that the host will answer, or an event waits for one."""
-        return self.terminal.held > 0 or any(self.terminal.is_locked(tag) for tag in self.all_windows)
+        return self.terminal.held > 0 or any(self.terminal.locked(tag) for tag in self.all_windows)
 
     @property
     def _are_windows_due(self) -> bool:
@@ -189,7 +189,7 @@ class Editor:
             for refusal in self.terminal.refusals():
                 self._tell_refusal(refusal)
             self._update_windows()
-        if self.terminal.has_exited:
+        if self.terminal.exited:
             self.is_over = True
 
     def _update_windows(self) -> None:
@@ -420,7 +420,7 @@ class Editor:
             self.message = "the command window stays"
         elif not self.is_changed(tag) or self._is_sure(f"{self.name(tag)} was not written; ^K again closes it"):
             self._awaits_file = True
-            self.terminal.close_file(tag)
+            self.terminal.close(tag)
 
     def do_leave(self) -> None:
         if self.is_lost:

@@ -10,7 +10,7 @@ from typing import Dict, Optional
 from editor import Editor
 from keys import waiting
 from link import Link
-from sam import NoMemory, SamError, Terminal
+from sulgrevad import NoMemory, SamError, Terminal
 from screen import Screen
 
 KEYBOARD = 0
@@ -107,7 +107,7 @@ class Loop:
             raise
 
     def _send(self) -> None:
-        self.link.send(self.terminal.out())
+        self.link.send(self.terminal.take_out())
 
     def _do(self, action) -> None:
         """Does something that the terminal may refuse. Want of memory passes: it is tried again, and goes on with what waits."""

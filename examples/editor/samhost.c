@@ -19,7 +19,7 @@
 #include <sys/stat.h>
 #include <unistd.h>
 
-#include "sam.h"
+#include "sulgrevad.h"
 
 enum {
     ROOM = 65536,             /* bytes that are read or written at once */
@@ -471,7 +471,7 @@ static void send_pending(sam_host *host)
     while (!wire.is_broken) {
         if (wire.sent == wire.output_len) {
             wire.sent = wire.output_len = 0;
-            if (sam_host_out(host, wire.output, ROOM, &wire.output_len) != SAM_OK || wire.output_len == 0)
+            if (sam_host_take_out(host, wire.output, ROOM, &wire.output_len) != SAM_OK || wire.output_len == 0)
                 return;
         }
         ssize_t count = write(STDOUT_FILENO, wire.output + wire.sent, wire.output_len - wire.sent);

@@ -156,9 +156,9 @@ def status(editor: Editor, link: Link) -> str:
 
 def locks_of(editor: Editor) -> str:
     """What an edit would wait for."""
-    if editor.terminal.is_command_locked:
+    if editor.terminal.command_locked:
         return "locked: all"
-    locked = [window for window in editor.windows if editor.terminal.is_locked(window.tag)]
+    locked = [window for window in editor.windows if editor.terminal.locked(window.tag)]
     if not locked:
         return "free"
     return "locked: this" if locked == [editor.active] else f"locked: {len(locked)}"

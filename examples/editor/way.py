@@ -2,7 +2,7 @@
 import time
 from typing import Optional
 
-from sam import Terminal
+from sulgrevad import Terminal
 
 TOLD_AFTER = 0.15  # seconds on the way before messages are told of, so that with a quick host nothing flickers
 
@@ -22,7 +22,7 @@ class Way:
     def send(self, tag: Optional[int]) -> None:
         """Sends what was typed, and asks by the file of this tag, which is open and free; by none where the tag is None."""
         self._note()
-        self.terminal.idle()
+        self.terminal.flush_now()
         arrived = self.terminal.sent - self.terminal.under_way
         if tag is not None and self.terminal.under_way > 0 and arrived >= self._asked:
             self.terminal.check(tag)

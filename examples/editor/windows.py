@@ -2,7 +2,7 @@
 from typing import Callable, Optional, Tuple
 
 from layout import Layout, line_end, line_start, looks, row_start, top_above
-from sam import Terminal
+from sulgrevad import Terminal
 
 MOST_IN_REQUEST = 512  # runes that the host answers at once
 
@@ -36,11 +36,11 @@ class Window:
     @property
     def is_settled(self) -> bool:
         """Whether places that are read now are those that an event made now acts on."""
-        return self.terminal.held == 0 and not self.terminal.is_locked(self.tag)
+        return self.terminal.held == 0 and not self.terminal.locked(self.tag)
 
     @property
     def length(self) -> int:
-        return self.terminal.length(self.tag)
+        return self.terminal.len(self.tag)
 
     @property
     def dot(self) -> Tuple[int, int]:

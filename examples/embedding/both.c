@@ -1,5 +1,5 @@
 /* A host and a terminal in one process: a file is opened, a word is typed into it, and both ends agree. */
-#include "sam.h"
+#include "sulgrevad.h"
 
 #include <stdio.h>
 #include <stdlib.h>
@@ -19,9 +19,9 @@ static void carry(sam_term *term, sam_host *host)
 	uint8_t piece[512];
 	size_t up = 1, down = 1;
 	while (up > 0 || down > 0) {
-		must(sam_term_out(term, piece, sizeof piece, &up));
+		must(sam_term_take_out(term, piece, sizeof piece, &up));
 		must(sam_host_feed(host, piece, up));
-		must(sam_host_out(host, piece, sizeof piece, &down));
+		must(sam_host_take_out(host, piece, sizeof piece, &down));
 		must(sam_term_feed(term, piece, down));
 	}
 }
@@ -34,7 +34,7 @@ int main(void)
 	must(sam_host_new(&host));
 	must(sam_host_add_file(&host, (const uint8_t *)"notes", 5, (const uint8_t *)"hello\n", 6, &file));
 	must(sam_term_new(&term));
-	must(sam_term_version(&term, 2)); /* asks for the names of the files, too */
+	must(sam_term_offer_version(&term, 2)); /* asks for the names of the files, too */
 	carry(&term, &host);
 
 	must(sam_term_open(&term, file));
@@ -42,7 +42,7 @@ int main(void)
 	must(sam_term_type(&term, file, (const uint8_t *)" world", 6));
 	must(sam_term_view(&term, file, 0, 80));                          /* loads what the window shows */
 	carry(&term, &host);
-	must(sam_term_idle(&term));                                       /* the user pauses: what was typed is sent */
+	must(sam_term_flush_now(&term));                                       /* the user pauses: what was typed is sent */
 	carry(&term, &host);
 
 	uint8_t text[64];

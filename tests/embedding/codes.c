@@ -1,9 +1,9 @@
 /*
- * Each call of sam.h once where it does its work, and once for each status that it can answer, but for want of memory, which random.c
+ * Each call of sulgrevad.h once where it does its work, and once for each status that it can answer, but for want of memory, which random.c
  * meets, and full counts. The bytes and texts that are expected stand in docs/PROTOCOL.md and RFC 3629. It prints a line for each group,
  * and ends with status 0, or 1 and the line that failed.
  */
-#include "sam.h"
+#include "sulgrevad.h"
 
 #include <stdio.h>
 #include <stdlib.h>
@@ -24,9 +24,9 @@ static void carry(sam_term *term, sam_host *host)
 	uint8_t piece[7];
 	size_t up = 1, down = 1;
 	while (up > 0 || down > 0) {
-		WANT(sam_term_out(term, piece, sizeof piece, &up), SAM_OK);
+		WANT(sam_term_take_out(term, piece, sizeof piece, &up), SAM_OK);
 		if (up > 0) WANT(sam_host_feed(host, piece, up), SAM_OK);
-		WANT(sam_host_out(host, piece, sizeof piece, &down), SAM_OK);
+		WANT(sam_host_take_out(host, piece, sizeof piece, &down), SAM_OK);
 		if (down > 0) WANT(sam_term_feed(term, piece, down), SAM_OK);
 	}
 }
@@ -43,8 +43,8 @@ static void no_handles(sam_host *host, sam_term *term)
 	WANT(sam_host_free(host), SAM_NO_HANDLE);
 	WANT(sam_host_add_file(host, BYTES("n"), BYTES("t"), &tag), SAM_NO_HANDLE);
 	WANT(sam_host_feed(host, BYTES("x")), SAM_NO_HANDLE);
-	WANT(sam_host_out_len(host, &len), SAM_NO_HANDLE);
-	WANT(sam_host_out(host, buffer, sizeof buffer, &len), SAM_NO_HANDLE);
+	WANT(sam_host_pending(host, &len), SAM_NO_HANDLE);
+	WANT(sam_host_take_out(host, buffer, sizeof buffer, &len), SAM_NO_HANDLE);
 	WANT(sam_host_next_written(host, &tag), SAM_NO_HANDLE);
 	WANT(sam_host_is_done(host, &is), SAM_NO_HANDLE);
 	WANT(sam_host_taken(host, &many), SAM_NO_HANDLE);
@@ -71,21 +71,21 @@ static void no_handles(sam_host *host, sam_term *term)
 	WANT(sam_term_scroll(term, 0, 0), SAM_NO_HANDLE);
 	WANT(sam_term_view(term, 0, 0, 0), SAM_NO_HANDLE);
 	WANT(sam_term_open(term, 0), SAM_NO_HANDLE);
-	WANT(sam_term_opencmd(term), SAM_NO_HANDLE);
+	WANT(sam_term_open_cmd(term), SAM_NO_HANDLE);
 	WANT(sam_term_new_file(term), SAM_NO_HANDLE);
 	WANT(sam_term_write(term, 0), SAM_NO_HANDLE);
 	WANT(sam_term_close(term, 0), SAM_NO_HANDLE);
 	WANT(sam_term_work(term, 0), SAM_NO_HANDLE);
 	WANT(sam_term_check(term, 0), SAM_NO_HANDLE);
-	WANT(sam_term_getsnarf(term), SAM_NO_HANDLE);
-	WANT(sam_term_setsnarf(term, BYTES("x")), SAM_NO_HANDLE);
-	WANT(sam_term_version(term, 2), SAM_NO_HANDLE);
+	WANT(sam_term_get_snarf(term), SAM_NO_HANDLE);
+	WANT(sam_term_set_snarf(term, BYTES("x")), SAM_NO_HANDLE);
+	WANT(sam_term_offer_version(term, 2), SAM_NO_HANDLE);
 	WANT(sam_term_flush(term), SAM_NO_HANDLE);
 	WANT(sam_term_exit(term), SAM_NO_HANDLE);
 	WANT(sam_term_feed(term, BYTES("x")), SAM_NO_HANDLE);
-	WANT(sam_term_idle(term), SAM_NO_HANDLE);
-	WANT(sam_term_out_len(term, &len), SAM_NO_HANDLE);
-	WANT(sam_term_out(term, buffer, sizeof buffer, &len), SAM_NO_HANDLE);
+	WANT(sam_term_flush_now(term), SAM_NO_HANDLE);
+	WANT(sam_term_pending(term, &len), SAM_NO_HANDLE);
+	WANT(sam_term_take_out(term, buffer, sizeof buffer, &len), SAM_NO_HANDLE);
 	WANT(sam_term_next_refusal(term, &many, &a), SAM_NO_HANDLE);
 	WANT(sam_term_events(term, &many), SAM_NO_HANDLE);
 	WANT(sam_term_tags(term, &len), SAM_NO_HANDLE);
@@ -100,8 +100,8 @@ static void no_handles(sam_host *host, sam_term *term)
 	WANT(sam_term_first_gap(term, 0, 0, &a), SAM_NO_HANDLE);
 	WANT(sam_term_dot(term, 0, &a, &b), SAM_NO_HANDLE);
 	WANT(sam_term_view_of(term, 0, &a, &b), SAM_NO_HANDLE);
-	WANT(sam_term_is_locked(term, 0, &is), SAM_NO_HANDLE);
-	WANT(sam_term_is_command_locked(term, &is), SAM_NO_HANDLE);
+	WANT(sam_term_locked(term, 0, &is), SAM_NO_HANDLE);
+	WANT(sam_term_command_locked(term, &is), SAM_NO_HANDLE);
 	WANT(sam_term_held(term, &len), SAM_NO_HANDLE);
 	WANT(sam_term_unsent(term, &a), SAM_NO_HANDLE);
 	WANT(sam_term_sent(term, &many), SAM_NO_HANDLE);
@@ -109,8 +109,8 @@ static void no_handles(sam_host *host, sam_term *term)
 	WANT(sam_term_pattern(term, buffer, sizeof buffer, &len), SAM_NO_HANDLE);
 	WANT(sam_term_snarfed(term, 0, buffer, sizeof buffer, &len, &more), SAM_NO_HANDLE);
 	WANT(sam_term_snarf_len(term, &a), SAM_NO_HANDLE);
-	WANT(sam_term_has_exited(term, &is), SAM_NO_HANDLE);
-	WANT(sam_term_version_of(term, &version), SAM_NO_HANDLE);
+	WANT(sam_term_exited(term, &is), SAM_NO_HANDLE);
+	WANT(sam_term_version(term, &version), SAM_NO_HANDLE);
 	/* What the pointers lead to is as it was. */
 	WANT(memcmp(buffer, "unused", 7), 0);
 	WANT(a == 1 && b == 2 && tag == 3 && version == 4 && many == 5 && len == 6 && more == 7 && is && runes[0] == 9, 1);
@@ -177,7 +177,7 @@ static uint32_t fed_term(const char *bytes, size_t len)
 		WANT(sam_term_feed(&term, NULL, 0), status);
 		WANT(sam_term_cut(&term, 0), status);
 		WANT(sam_term_type(&term, 0, BYTES("x")), status);
-		WANT(sam_term_idle(&term), status);
+		WANT(sam_term_flush_now(&term), status);
 	}
 	WANT(sam_term_free(&term), SAM_OK);
 	return status;
@@ -226,7 +226,7 @@ static void too_long(void)
 	WANT(sam_host_new(&host), SAM_OK);
 	WANT(sam_term_new(&term), SAM_OK);
 	WANT(sam_host_add_file(&host, BYTES("a"), letters, sizeof letters, &tag), SAM_OK);
-	WANT(sam_term_version(&term, 2), SAM_OK);
+	WANT(sam_term_offer_version(&term, 2), SAM_OK);
 	WANT(sam_term_open(&term, 1), SAM_OK); /* held until the names are told */
 	carry(&term, &host);
 	WANT(sam_term_next_refusal(&term, &event, &why), SAM_NONE);
@@ -282,21 +282,21 @@ static void session(void)
 	WANT(sam_host_add_file(&host, BYTES("a"), BYTES("one two one\n"), &tag), SAM_OK);
 	WANT(sam_term_new(&term), SAM_OK);
 	WANT(sam_term_current(&term, &tag), SAM_NONE);
-	WANT(sam_term_version(&term, 2), SAM_OK);
-	WANT(sam_term_out_len(&term, &len), SAM_OK);
+	WANT(sam_term_offer_version(&term, 2), SAM_OK);
+	WANT(sam_term_pending(&term, &len), SAM_OK);
 	WANT(len, 5);
-	WANT(sam_term_out(&term, bytes, sizeof bytes, &len), SAM_OK);
+	WANT(sam_term_take_out(&term, bytes, sizeof bytes, &len), SAM_OK);
 	WANT(memcmp(bytes, "\x01\0\x02\0\x02", 5), 0); /* Tversion 2 */
 	WANT(sam_host_feed(&host, bytes, len), SAM_OK);
-	WANT(sam_host_out_len(&host, &len), SAM_OK);
+	WANT(sam_host_pending(&host, &len), SAM_OK);
 	WANT(len > 0, 1);
 	carry(&term, &host);
-	WANT(sam_term_version_of(&term, &version), SAM_OK);
+	WANT(sam_term_version(&term, &version), SAM_OK);
 	WANT(version, 2);
 	WANT(sam_host_version(&host, &version), SAM_OK);
 	WANT(version, 2);
-	WANT(sam_term_opencmd(&term), SAM_OK);
-	WANT(sam_term_is_command_locked(&term, &is), SAM_OK);
+	WANT(sam_term_open_cmd(&term), SAM_OK);
+	WANT(sam_term_command_locked(&term, &is), SAM_OK);
 	WANT(is, 1);
 	carry(&term, &host);
 	WANT(sam_term_tags(&term, &len), SAM_OK);
@@ -330,7 +330,7 @@ static void session(void)
 	WANT(sam_term_dot(&term, 1, &a, &b), SAM_OK);
 	WANT(a == 0 && b == 3, 1);
 	WANT(sam_term_look(&term, 1), SAM_OK);
-	WANT(sam_term_is_locked(&term, 1, &is), SAM_OK);
+	WANT(sam_term_locked(&term, 1, &is), SAM_OK);
 	WANT(is, 1);
 	carry(&term, &host);
 	WANT(sam_term_dot(&term, 1, &a, &b), SAM_OK);
@@ -356,7 +356,7 @@ static void session(void)
 	WANT(sam_term_type(&term, 1, BYTES("\xC3\xA9")), SAM_OK); /* in the place of what was pasted */
 	WANT(sam_term_unsent(&term, &a), SAM_OK);
 	WANT(a, 1);
-	WANT(sam_term_idle(&term), SAM_OK);
+	WANT(sam_term_flush_now(&term), SAM_OK);
 	WANT(sam_term_unsent(&term, &a), SAM_OK);
 	WANT(a, 0);
 	wants_under_way(&term, 2); /* Tcut and Ttype */
@@ -393,12 +393,12 @@ static void session(void)
 	WANT(sam_host_dot(&host, 1, &a, &b), SAM_OK);
 	WANT(a == 5 && b == 8, 1); /* the word 'two' */
 	WANT(sam_term_snarf(&term, 1), SAM_OK);
-	WANT(sam_term_getsnarf(&term), SAM_OK);
+	WANT(sam_term_get_snarf(&term), SAM_OK);
 	carry(&term, &host);
 	WANT(sam_term_snarfed(&term, 1, bytes, sizeof bytes, &len, &more), SAM_OK);
 	WANT(len == 2 && more == 2 && memcmp(bytes, "wo", 2) == 0, 1);
-	WANT(sam_term_setsnarf(&term, BYTES(",x/o/c/0/\n")), SAM_OK);
-	WANT(sam_term_setsnarf(&term, BYTES("\xFF")), SAM_NOT_TEXT);
+	WANT(sam_term_set_snarf(&term, BYTES(",x/o/c/0/\n")), SAM_OK);
+	WANT(sam_term_set_snarf(&term, BYTES("\xFF")), SAM_NOT_TEXT);
 	WANT(sam_term_work(&term, 1), SAM_OK);
 	WANT(sam_term_paste(&term, 0), SAM_OK); /* into the command window */
 	carry(&term, &host);
@@ -443,7 +443,7 @@ static void session(void)
 	wants_refusal(&term, SAM_REFUSAL_TEXT_TOO_LONG);
 	WANT(sam_term_close(&term, 0), SAM_OK);
 	wants_refusal(&term, SAM_REFUSAL_COMMAND_FILE);
-	WANT(sam_term_version(&term, 0), SAM_OK);
+	WANT(sam_term_offer_version(&term, 0), SAM_OK);
 	wants_refusal(&term, SAM_REFUSAL_BAD_VERSION);
 	WANT(sam_term_sent(&term, &count), SAM_OK);
 	uint64_t taken;
@@ -455,7 +455,7 @@ static void session(void)
 	carry(&term, &host);
 	WANT(sam_host_is_done(&host, &is), SAM_OK);
 	WANT(is, 1);
-	WANT(sam_term_has_exited(&term, &is), SAM_OK);
+	WANT(sam_term_exited(&term, &is), SAM_OK);
 	WANT(is, 1);
 	WANT(sam_term_cut(&term, 1), SAM_OK);
 	wants_refusal(&term, SAM_REFUSAL_EXITED);
@@ -477,7 +477,7 @@ static void not_open(void)
 	WANT(sam_host_add_file(&host, BYTES("a"), BYTES("one"), &tag), SAM_OK);
 	WANT(sam_term_new(&term), SAM_OK);
 	WANT(sam_term_new(&term), SAM_MADE);
-	WANT(sam_term_version(&term, 1), SAM_OK);
+	WANT(sam_term_offer_version(&term, 1), SAM_OK);
 	carry(&term, &host);
 	WANT(sam_term_cut(&term, 1), SAM_OK);
 	wants_refusal(&term, SAM_REFUSAL_NOT_OPEN);

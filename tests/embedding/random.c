@@ -4,7 +4,7 @@
  * A call that wants memory is made again, so the end is the same whichever request for memory was refused.
  * It prints what it counted, and ends with status 0, or 1 and a line that says what is wrong.
  */
-#include "sam.h"
+#include "sulgrevad.h"
 
 #include <stdio.h>
 #include <stdlib.h>
@@ -71,7 +71,7 @@ static int carry_up(void)
 {
 	uint8_t piece[PIECE];
 	size_t count = 0;
-	want("the terminal's bytes", sam_term_out(&term, piece, 1 + pick(PIECE), &count));
+	want("the terminal's bytes", sam_term_take_out(&term, piece, 1 + pick(PIECE), &count));
 	if (count > 0) feed_host(piece, count);
 	sent_up += count;
 	return count > 0;
@@ -81,7 +81,7 @@ static int carry_down(void)
 {
 	uint8_t piece[PIECE];
 	size_t count = 0;
-	want("the host's bytes", sam_host_out(&host, piece, 1 + pick(PIECE), &count));
+	want("the host's bytes", sam_host_take_out(&host, piece, 1 + pick(PIECE), &count));
 	if (count > 0) feed_term(piece, count);
 	sent_down += count;
 	return count > 0;
@@ -110,13 +110,13 @@ static uint32_t do_event(uint32_t kind, uint16_t tag, uint32_t a, uint32_t b, co
 	case 18: return sam_term_write(&term, tag);
 	case 19: return sam_term_work(&term, tag);
 	case 20: return sam_term_check(&term, tag);
-	case 21: return sam_term_getsnarf(&term);
-	case 22: return sam_term_setsnarf(&term, bytes, strlen(text));
-	case 23: return sam_term_version(&term, (uint16_t)(1 + a % 3));
+	case 21: return sam_term_get_snarf(&term);
+	case 22: return sam_term_set_snarf(&term, bytes, strlen(text));
+	case 23: return sam_term_offer_version(&term, (uint16_t)(1 + a % 3));
 	case 24: return sam_term_flush(&term);
-	case 25: return sam_term_opencmd(&term);
+	case 25: return sam_term_open_cmd(&term);
 	case 26: return sam_term_new_file(&term);
-	default: return sam_term_idle(&term);
+	default: return sam_term_flush_now(&term);
 	}
 }
 
@@ -141,7 +141,7 @@ static void drain(void)
 	int more = 1;
 	while (more) {
 		uint32_t status;
-		while ((status = settle_term(sam_term_idle(&term))) == SAM_NO_MEMORY) again++;
+		while ((status = settle_term(sam_term_flush_now(&term))) == SAM_NO_MEMORY) again++;
 		want("the terminal is idle", status);
 		more = carry_up();
 		more |= carry_down();
@@ -203,7 +203,7 @@ static void compare(void)
 	want("tags", sam_term_tags(&term, &tags));
 	for (uint16_t tag = 0; tag < tags; tag++) {
 		uint32_t mine = 0, theirs = 0;
-		want("locks", sam_term_is_locked(&term, tag, &locked));
+		want("locks", sam_term_locked(&term, tag, &locked));
 		if (locked) fail("a lock is held though nothing is on its way", tag);
 		if (sam_term_len(&term, tag, &mine) != SAM_OK) continue;
 		want("the host has an open file", sam_host_len(&host, tag, &theirs));

@@ -3,7 +3,7 @@
  * then for all that is printed. A call that wants memory is made again, so the output is the same whichever request for memory was refused.
  * It ends with status 0, or 1 at a wrong script.
  */
-#include "sam.h"
+#include "sulgrevad.h"
 
 #include <stdio.h>
 #include <stdlib.h>

@@ -1,6 +1,6 @@
 /* stored TEXT: a host with one file, named `file`, of this text. It answers the messages on standard input, byte by byte, as mode `bytes`
  * of sam_play does. */
-#include "sam.h"
+#include "sulgrevad.h"
 
 #include <stdio.h>
 #include <string.h>
@@ -16,7 +16,7 @@ int main(int argc, char **argv)
 		size_t count = 1;
 		if (sam_host_feed(&host, &one, 1) != SAM_OK) return 1;
 		while (count > 0) {
-			if (sam_host_out(&host, answer, sizeof answer, &count) != SAM_OK) return 1;
+			if (sam_host_take_out(&host, answer, sizeof answer, &count) != SAM_OK) return 1;
 			fwrite(answer, 1, count, stdout);
 		}
 	}

@@ -2,13 +2,13 @@
 
 use std::fmt;
 
-/// Why a call did not do what it was asked. The faults of each family keep the numbers of include/sam.h.
+/// Why a call did not do what it was asked. The faults of each family keep the numbers of include/sulgrevad.h.
 #[derive(Clone, Copy, Debug, PartialEq, Eq)]
 #[non_exhaustive]
 pub enum Error {
     /// No memory, and what the call brought was not taken: make it again.
     NoMemory,
-    /// No memory, but what the call brought was taken: don't bring it again. The next feed, event or `idle` goes on with what waits, and
+    /// No memory, but what the call brought was taken: don't bring it again. The next feed, event or `flush_now` goes on with what waits, and
     /// feeding no bytes does just that. It answers `NoMemory` while memory is still short.
     Unfinished,
     /// A stream of 2^64 bytes, or 2^64 events.

@@ -43,15 +43,15 @@ impl Host {
 
     /// How many bytes are pending.
     pub fn pending(&self) -> usize {
-        tells(|len| unsafe { raw::sam_host_out_len(self.at(), len) })
+        tells(|len| unsafe { raw::sam_host_pending(self.at(), len) })
     }
 
     /// Takes the pending bytes, in pieces.
-    pub fn out(&mut self) -> impl Iterator<Item = Vec<u8>> + '_ {
+    pub fn take_out(&mut self) -> impl Iterator<Item = Vec<u8>> + '_ {
         std::iter::from_fn(|| {
             let mut piece = vec![0; PIECE.min(self.pending())];
             let mut count = 0;
-            unsafe { raw::sam_host_out(self.at(), piece.as_mut_ptr(), piece.len(), &mut count) };
+            unsafe { raw::sam_host_take_out(self.at(), piece.as_mut_ptr(), piece.len(), &mut count) };
             piece.truncate(count);
             (count > 0).then_some(piece)
         })

@@ -1,5 +1,5 @@
 //! A proved host and a proved terminal for editors whose screen and text live apart, after Rob Pike's sam: safe Rust over
-//! `libsam.a`, which `./build_c` makes. `include/sam.h` and `docs/EMBEDDING.md` have the whole story.
+//! `libsulgrevad.a`, which `./build_c` makes. `include/sulgrevad.h` and `docs/EMBEDDING.md` have the whole story.
 //!
 //! ```
 //! use sulgrevad::{Host, Terminal};
@@ -11,21 +11,21 @@
 //! // In an editor a pipe stands between the two.
 //! fn carry(term: &mut Terminal, host: &mut Host) -> Result<(), sulgrevad::Error> {
 //!     while term.pending() + host.pending() > 0 {
-//!         let up: Vec<u8> = term.out().flatten().collect();
+//!         let up: Vec<u8> = term.take_out().flatten().collect();
 //!         host.feed(&up)?;
-//!         let down: Vec<u8> = host.out().flatten().collect();
+//!         let down: Vec<u8> = host.take_out().flatten().collect();
 //!         term.feed(&down)?;
 //!     }
 //!     Ok(())
 //! }
 //!
-//! term.version(2)?; // asks for the names of the files, too
+//! term.offer_version(2)?; // asks for the names of the files, too
 //! carry(&mut term, &mut host)?;
 //! term.open(file)?;
 //! term.select(file, 5, 5)?; // waits until the file is open
-//! term.type_text(file, " world")?;
+//! term.type_(file, " world")?;
 //! carry(&mut term, &mut host)?;
-//! term.idle()?; // the user pauses: what was typed is sent
+//! term.flush_now()?; // the user pauses: what was typed is sent
 //! carry(&mut term, &mut host)?;
 //! assert_eq!(host.text(file).as_deref(), Some("hello world\n"));
 //! # Ok::<(), sulgrevad::Error>(())

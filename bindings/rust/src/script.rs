@@ -3,7 +3,7 @@
 use crate::raw;
 use crate::{Error, PIECE, done};
 
-/// SAM_SCRIPT_LINE of include/sam.h.
+/// SAM_SCRIPT_LINE of include/sulgrevad.h.
 const SCRIPT_LINE: u32 = 161;
 
 /// What the `show` lines of a script print; docs/SCRIPTS.md tells the language. Errors: `ScriptLine`, `ScriptCountFull`, `NoMemory`.

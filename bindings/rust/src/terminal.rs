@@ -34,13 +34,13 @@ impl Terminal {
     }
 
     /// Types a text, of at most 512 runes, in the place of the dot.
-    pub fn type_text(&mut self, tag: u16, text: &str) -> Result<(), Error> {
+    pub fn type_(&mut self, tag: u16, text: &str) -> Result<(), Error> {
         done(unsafe { raw::sam_term_type(self.at(), tag, text.as_ptr(), text.len()) })
     }
 
     /// Gives the host another snarf buffer: at most 4,096 bytes, 32,000 in version 2.
     pub fn set_snarf(&mut self, text: &str) -> Result<(), Error> {
-        done(unsafe { raw::sam_term_setsnarf(self.at(), text.as_ptr(), text.len()) })
+        done(unsafe { raw::sam_term_set_snarf(self.at(), text.as_ptr(), text.len()) })
     }
 
     /// Cuts the dot into the snarf buffer.
@@ -99,8 +99,8 @@ impl Terminal {
     }
 
     /// Opens the command file.
-    pub fn open_command_file(&mut self) -> Result<(), Error> {
-        done(unsafe { raw::sam_term_opencmd(self.at()) })
+    pub fn open_cmd(&mut self) -> Result<(), Error> {
+        done(unsafe { raw::sam_term_open_cmd(self.at()) })
     }
 
     /// Makes an empty file, opens it, and makes it the one that command lines work on.
@@ -110,7 +110,7 @@ impl Terminal {
 
     /// Asks for the host's snarf buffer.
     pub fn get_snarf(&mut self) -> Result<(), Error> {
-        done(unsafe { raw::sam_term_getsnarf(self.at()) })
+        done(unsafe { raw::sam_term_get_snarf(self.at()) })
     }
 
     /// Sends the typed runes, once the events before it acted.
@@ -129,7 +129,7 @@ impl Terminal {
     }
 
     /// Selects the word round a place.
-    pub fn double_click(&mut self, tag: u16, place: u32) -> Result<(), Error> {
+    pub fn dclick(&mut self, tag: u16, place: u32) -> Result<(), Error> {
         done(unsafe { raw::sam_term_dclick(self.at(), tag, place) })
     }
 
@@ -144,8 +144,8 @@ impl Terminal {
     }
 
     /// Offers a version: 2 allows longer snarfed texts.
-    pub fn version(&mut self, version: u16) -> Result<(), Error> {
-        done(unsafe { raw::sam_term_version(self.at(), version) })
+    pub fn offer_version(&mut self, version: u16) -> Result<(), Error> {
+        done(unsafe { raw::sam_term_offer_version(self.at(), version) })
     }
 
     /// Takes bytes of the host's frames, in whatever pieces they come, and then lets held events act.
@@ -154,21 +154,21 @@ impl Terminal {
     }
 
     /// Composes the typed runes that are not sent yet: to be called when the user pauses.
-    pub fn idle(&mut self) -> Result<(), Error> {
-        done(unsafe { raw::sam_term_idle(self.at()) })
+    pub fn flush_now(&mut self) -> Result<(), Error> {
+        done(unsafe { raw::sam_term_flush_now(self.at()) })
     }
 
     /// How many bytes are pending.
     pub fn pending(&self) -> usize {
-        tells(|len| unsafe { raw::sam_term_out_len(self.at(), len) })
+        tells(|len| unsafe { raw::sam_term_pending(self.at(), len) })
     }
 
     /// Takes the pending bytes, in pieces.
-    pub fn out(&mut self) -> impl Iterator<Item = Vec<u8>> + '_ {
+    pub fn take_out(&mut self) -> impl Iterator<Item = Vec<u8>> + '_ {
         std::iter::from_fn(|| {
             let mut piece = vec![0; PIECE.min(self.pending())];
             let mut count = 0;
-            unsafe { raw::sam_term_out(self.at(), piece.as_mut_ptr(), piece.len(), &mut count) };
+            unsafe { raw::sam_term_take_out(self.at(), piece.as_mut_ptr(), piece.len(), &mut count) };
             piece.truncate(count);
             (count > 0).then_some(piece)
         })
@@ -220,13 +220,13 @@ impl Terminal {
     }
 
     /// Whether the command lock or a lock of this file is held: an edit of the file would wait.
-    pub fn is_locked(&self, tag: u16) -> bool {
-        tells(|value| unsafe { raw::sam_term_is_locked(self.at(), tag, value) })
+    pub fn locked(&self, tag: u16) -> bool {
+        tells(|value| unsafe { raw::sam_term_locked(self.at(), tag, value) })
     }
 
     /// Whether the command lock is held.
-    pub fn is_command_locked(&self) -> bool {
-        tells(|value| unsafe { raw::sam_term_is_command_locked(self.at(), value) })
+    pub fn command_locked(&self) -> bool {
+        tells(|value| unsafe { raw::sam_term_command_locked(self.at(), value) })
     }
 
     /// How many events are held.
@@ -247,7 +247,7 @@ impl Terminal {
     /// How many of the composed messages the host has not taken, as far as its frames tell; 0 means that it has taken them all.
     ///
     /// Else it is an upper bound: the host answers typing (but the end of a command line), the cutting of a selection, and the
-    /// acknowledgement that the terminal sends behind each [`Terminal::version`] by no frame, and such a message counts until the host
+    /// acknowledgement that the terminal sends behind each [`Terminal::offer_version`] by no frame, and such a message counts until the host
     /// answers a later one. [`Terminal::check`] asks for an answer that changes no text.
     pub fn under_way(&self) -> u64 {
         tells(|value| unsafe { raw::sam_term_under_way(self.at(), value) })
@@ -259,13 +259,13 @@ impl Terminal {
     }
 
     /// Whether the host has ended the session.
-    pub fn has_exited(&self) -> bool {
-        tells(|value| unsafe { raw::sam_term_has_exited(self.at(), value) })
+    pub fn exited(&self) -> bool {
+        tells(|value| unsafe { raw::sam_term_exited(self.at(), value) })
     }
 
     /// The version of the protocol that both sides speak: 1 or 2.
-    pub fn version_spoken(&self) -> u16 {
-        tells(|value| unsafe { raw::sam_term_version_of(self.at(), value) })
+    pub fn version(&self) -> u16 {
+        tells(|value| unsafe { raw::sam_term_version(self.at(), value) })
     }
 
     /// Whether a known file is dirty, as the host told last; `None` where the tag is not known.

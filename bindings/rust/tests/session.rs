@@ -5,10 +5,10 @@ use sulgrevad::{Error, Host, Refusal, Terminal};
 /// Carries bytes both ways, cut into pieces, until neither side has any.
 fn carry(term: &mut Terminal, host: &mut Host) -> Result<(), Error> {
     while term.pending() + host.pending() > 0 {
-        for piece in term.out().flatten().collect::<Vec<u8>>().chunks(3) {
+        for piece in term.take_out().flatten().collect::<Vec<u8>>().chunks(3) {
             host.feed(piece)?;
         }
-        for piece in host.out().flatten().collect::<Vec<u8>>().chunks(5) {
+        for piece in host.take_out().flatten().collect::<Vec<u8>>().chunks(5) {
             term.feed(piece)?;
         }
     }
@@ -19,7 +19,7 @@ fn opened(text: &str) -> Result<(Host, Terminal, u16), Error> {
     let mut host = Host::new()?;
     let file = host.add_file("notes", text)?;
     let mut term = Terminal::new()?;
-    term.version(2)?;
+    term.offer_version(2)?;
     carry(&mut term, &mut host)?;
     term.open(file)?;
     carry(&mut term, &mut host)?;
@@ -30,12 +30,12 @@ fn opened(text: &str) -> Result<(Host, Terminal, u16), Error> {
 fn an_edit_that_would_cross_waits() -> Result<(), Error> {
     let (mut host, mut term, file) = opened("hello\n")?;
     term.look(file)?; // a lock of the file is held until it is answered
-    term.type_text(file, "é")?;
+    term.type_(file, "é")?;
     assert_eq!(term.held(), 1);
-    assert!(term.is_locked(file));
+    assert!(term.locked(file));
     carry(&mut term, &mut host)?;
     assert_eq!(term.held(), 0);
-    term.idle()?;
+    term.flush_now()?;
     carry(&mut term, &mut host)?;
     assert_eq!(host.text(file).as_deref(), Some("éhello\n"));
     assert_eq!(term.len(file), Some(7));
@@ -46,8 +46,8 @@ fn an_edit_that_would_cross_waits() -> Result<(), Error> {
 fn messages_without_an_answer_count_until_a_later_one_is_answered() -> Result<(), Error> {
     let (mut host, mut term, file) = opened("hello\n")?;
     assert_eq!(term.under_way(), 0);
-    term.type_text(file, "é")?;
-    term.idle()?;
+    term.type_(file, "é")?;
+    term.flush_now()?;
     carry(&mut term, &mut host)?;
     assert_eq!(host.text(file).as_deref(), Some("éhello\n"));
     assert_eq!(term.under_way(), 1);
@@ -88,7 +88,7 @@ fn a_written_file_is_told_once() -> Result<(), Error> {
 fn a_typed_file_is_changed_until_it_is_written() -> Result<(), Error> {
     let (mut host, mut term, file) = opened("one\n")?;
     assert!(!term.is_changed(file));
-    term.type_text(file, "é")?;
+    term.type_(file, "é")?;
     assert!(term.is_changed(file));
     assert_eq!(term.is_dirty(file), Some(false)); // the host tells nothing of typing
     term.write(file)?;

@@ -4,7 +4,7 @@
 use crate::fault::Fault;
 use crate::report::Report;
 use crate::sample::mix;
-use sam_ends::{HostEnd, TermEnd};
+use sam_endpoint::{HostEndpoint, TermEndpoint};
 use sam_runes::Runes;
 use sam_term::event::UserEvent;
 use std::alloc::Global;
@@ -26,7 +26,7 @@ const PIECE: usize = 4_096;
 const LENGTH: usize = 512;
 
 /// Carries bytes up and down until none wait. Returns what their numbers add to the check value.
-fn carry(host: &mut HostEnd, term: &mut TermEnd) -> Result<u64, Fault> {
+fn carry(host: &mut HostEndpoint, term: &mut TermEndpoint) -> Result<u64, Fault> {
     let mut piece = [0; PIECE];
     let mut check = 0;
     for _ in 0..u32::MAX {
@@ -48,7 +48,7 @@ fn carry(host: &mut HostEnd, term: &mut TermEnd) -> Result<u64, Fault> {
 }
 
 /// Puts an event in.
-fn put(term: &mut TermEnd, event: UserEvent) -> Result<(), Fault> {
+fn put(term: &mut TermEndpoint, event: UserEvent) -> Result<(), Fault> {
     match term.put(event) {
         Ok(()) => Ok(()),
         Err(_) => Err(Fault::Refused),
@@ -56,7 +56,7 @@ fn put(term: &mut TermEnd, event: UserEvent) -> Result<(), Fault> {
 }
 
 /// Opens the files at the terminal, each shown whole, with the dot at its end.
-fn open(host: &mut HostEnd, term: &mut TermEnd) -> Result<(), Fault> {
+fn open(host: &mut HostEndpoint, term: &mut TermEndpoint) -> Result<(), Fault> {
     put(term, UserEvent::Version(2))?;
     carry(host, term)?;
     for tag in 1..FILES + 1 {
@@ -72,8 +72,8 @@ fn open(host: &mut HostEnd, term: &mut TermEnd) -> Result<(), Fault> {
 /// Types `size` runes into the files in turn, and carries the bytes now and then. Returns the check value.
 fn type_all(
     alloc: Global,
-    host: &mut HostEnd,
-    term: &mut TermEnd,
+    host: &mut HostEndpoint,
+    term: &mut TermEndpoint,
     size: u32,
 ) -> Result<u64, Fault> {
     let mut check = 0;
@@ -91,8 +91,8 @@ fn type_all(
 }
 
 /// A host with the files.
-fn host_of_files(alloc: Global) -> Result<HostEnd, Fault> {
-    let mut host = HostEnd::new(alloc)?;
+fn host_of_files(alloc: Global) -> Result<HostEndpoint, Fault> {
+    let mut host = HostEndpoint::new(alloc)?;
     for _ in 0..FILES {
         if host.add_file(b"a", &[b'a'; LENGTH]).is_err() {
             return Err(Fault::System);
@@ -104,8 +104,8 @@ fn host_of_files(alloc: Global) -> Result<HostEnd, Fault> {
 /// Opens the files, and times the typing.
 fn timed<R: AllocGlobal + Clock>(
     rt: &R,
-    host: &mut HostEnd,
-    term: &mut TermEnd,
+    host: &mut HostEndpoint,
+    term: &mut TermEndpoint,
     size: u32,
 ) -> Result<Report, Fault> {
     open(host, term)?;
@@ -118,6 +118,6 @@ fn timed<R: AllocGlobal + Clock>(
 /// Types `size` runes at a terminal with four open files, ten at a time into each file in turn.
 pub fn typed<R: AllocGlobal + Clock>(rt: &R, size: u32) -> Result<Report, Fault> {
     let mut host = host_of_files(rt.alloc())?;
-    let mut term = TermEnd::new(rt.alloc());
+    let mut term = TermEndpoint::new(rt.alloc());
     timed(rt, &mut host, &mut term, size)
 }

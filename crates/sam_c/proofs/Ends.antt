@@ -5,10 +5,10 @@ use mir.Syntax.{dnil, impl, tnil}
 use Rattle.std_heap.specs.contracts.Global as Heap
 use Rattle.std_heap.specs.contracts.GlobalAllocator.TheImpl.{dict, ghosts}
 use Rattle.std_heap.proofs.Global.TheLaws as heap
-use Rattle.sam_ends.specs.contracts.host_end.HostEnd.{the_row as HostEnd}
-use Rattle.sam_ends.proofs.host_end.HostEnd.TheLaws.{the_row_laws as host_end}
-use Rattle.sam_ends.specs.contracts.term_end.TermEnd.{the_row as TermEnd}
-use Rattle.sam_ends.proofs.term_end.TermEnd.TheLaws.{the_row_laws as term_end}
+use Rattle.sam_endpoint.specs.contracts.host_endpoint.HostEndpoint.{the_row as HostEndpoint}
+use Rattle.sam_endpoint.proofs.host_endpoint.HostEndpoint.TheLaws.{the_row_laws as host_endpoint}
+use Rattle.sam_endpoint.specs.contracts.term_endpoint.TermEndpoint.{the_row as TermEndpoint}
+use Rattle.sam_endpoint.proofs.term_endpoint.TermEndpoint.TheLaws.{the_row_laws as term_endpoint}
 use Rattle.sam_c.specs.contracts.handle.HeldHost as HeldHost
 use Rattle.sam_c.specs.contracts.handle.HeldTerm as HeldTerm
 use Rattle.sam_c.specs.contracts.parts.Parts as Parts
@@ -17,19 +17,19 @@ abbrev boxed : (end : RattleType) → Laws end → Bx
 boxed end laws = record { row = end; laws = laws; al = record { row = Heap.the_row; laws = heap.the_row_laws; g = ghosts; d = dict; drops = impl [] tnil dnil } }
 
 abbrev pub HostBox : Bx
-HostBox = boxed HostEnd host_end
+HostBox = boxed HostEndpoint host_endpoint
 
 abbrev pub HostParts : Slot 0
-HostParts = plain (λ _. Parts.the_row HostEnd Heap.the_row ghosts)
+HostParts = plain (λ _. Parts.the_row HostEndpoint Heap.the_row ghosts)
 
 abbrev pub HeldHosts : Slot 0
 HeldHosts = plain (λ _. HeldHost.the_row)
 
 abbrev pub TermBox : Bx
-TermBox = boxed TermEnd term_end
+TermBox = boxed TermEndpoint term_endpoint
 
 abbrev pub TermParts : Slot 0
-TermParts = plain (λ _. Parts.the_row TermEnd Heap.the_row ghosts)
+TermParts = plain (λ _. Parts.the_row TermEndpoint Heap.the_row ghosts)
 
 abbrev pub HeldTerms : Slot 0
 HeldTerms = plain (λ _. HeldTerm.the_row)

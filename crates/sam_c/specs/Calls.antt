@@ -2,7 +2,7 @@
 use Rattle.std.specs.Prelude.{◌≡◌, ℕ, List, Option, Some, None}
 use Rattle.sam_c.specs.Status.{ok, no_handle, nothing}
 use Rattle.sam_c.specs.Buffers.{Fills}
-use Rattle.sam_ends.specs.Drawing.{Shows}
+use Rattle.sam_endpoint.specs.Drawing.{Shows}
 use Rattle.sam_c.specs.declared.utf8.Filled.{Filled}
 
 -- an empty handle answers so and stays empty; one that holds an end holds it changed
@@ -11,18 +11,18 @@ AtHandle None status after Does = (status ≡ no_handle) × (after ≡ None)
 AtHandle {E} (Some e) status after Does = (g : E) × (after ≡ Some g) × Does e status g
 
 -- what a reader hands out in the place of what stood there
-abbrev pub Tells : {E X : Type 0} → Option E → ℕ → X → X → (E → X) → Type 0
-Tells None status before after read = (status ≡ no_handle) × (after ≡ before)
-Tells (Some e) status before after read = (status ≡ ok) × (after ≡ read e)
+abbrev pub Reports : {E X : Type 0} → Option E → ℕ → X → X → (E → X) → Type 0
+Reports None status before after read = (status ≡ no_handle) × (after ≡ before)
+Reports (Some e) status before after read = (status ≡ ok) × (after ≡ read e)
 
 abbrev pub TellsOne : {X : Type 0} → Option X → ℕ → X → X → Type 0
 TellsOne None status before after = (status ≡ nothing) × (after ≡ before)
 TellsOne (Some x) status before after = (status ≡ ok) × (after ≡ x)
 
 -- the same of what may not be there
-abbrev pub TellsSome : {E X : Type 0} → Option E → ℕ → X → X → (E → Option X) → Type 0
-TellsSome None status before after read = (status ≡ no_handle) × (after ≡ before)
-TellsSome (Some e) status before after read = TellsOne (read e) status before after
+abbrev pub ReportsSome : {E X : Type 0} → Option E → ℕ → X → X → (E → Option X) → Type 0
+ReportsSome None status before after read = (status ≡ no_handle) × (after ≡ before)
+ReportsSome (Some e) status before after read = TellsOne (read e) status before after
 
 -- the buffer that a text goes into, and the counts of its bytes and runes
 pub record Written : Type 0 where
@@ -40,9 +40,9 @@ Writes (Some runes) status before after =
     × (after.bytes ≡ filled.bytes) × (after.runes ≡ filled.runes)
 
 -- a text that a reader puts into the buffer
-abbrev pub TellsText : {E : Type 0} → Option E → ℕ → Written → Written → (E → Option (List ℕ)) → Type 0
-TellsText None status before after read = (status ≡ no_handle) × (after ≡ before)
-TellsText (Some e) status before after read = Writes (read e) status before after
+abbrev pub ReportsText : {E : Type 0} → Option E → ℕ → Written → Written → (E → Option (List ℕ)) → Type 0
+ReportsText None status before after read = (status ≡ no_handle) × (after ≡ before)
+ReportsText (Some e) status before after read = Writes (read e) status before after
 
 -- a name that a reader puts into the buffer, with the count of its bytes
 abbrev pub WritesName : Option (List ℕ) → ℕ → List ℕ → List ℕ → ℕ → ℕ → Type 0
@@ -50,15 +50,15 @@ WritesName None status before after old_len new_len = (status ≡ nothing) × (a
 WritesName (Some name) status before after old_len new_len =
     (filled : Filled) × (status ≡ ok) × Fills name before after filled × (new_len ≡ filled.bytes)
 
-abbrev pub TellsName : {E : Type 0} → Option E → ℕ → List ℕ → List ℕ → ℕ → ℕ → (E → Option (List ℕ)) → Type 0
-TellsName None status before after old_len new_len read = (status ≡ no_handle) × (after ≡ before) × (new_len ≡ old_len)
-TellsName (Some e) status before after old_len new_len read = WritesName (read e) status before after old_len new_len
+abbrev pub ReportsName : {E : Type 0} → Option E → ℕ → List ℕ → List ℕ → ℕ → ℕ → (E → Option (List ℕ)) → Type 0
+ReportsName None status before after old_len new_len read = (status ≡ no_handle) × (after ≡ before) × (new_len ≡ old_len)
+ReportsName (Some e) status before after old_len new_len read = WritesName (read e) status before after old_len new_len
 
 -- the members of a partial text that a reader puts into the buffer, from a place on
 abbrev pub WritesCells : Option (List (Option ℕ)) → ℕ → ℕ → List ℕ → List ℕ → ℕ → ℕ → Type 0
 WritesCells None place status before after old_count new_count = (status ≡ nothing) × (after ≡ before) × (new_count ≡ old_count)
 WritesCells (Some cells) place status before after old_count new_count = (status ≡ ok) × Shows cells place before after new_count
 
-abbrev pub TellsCells : {E : Type 0} → Option E → ℕ → List ℕ → List ℕ → ℕ → ℕ → ℕ → (E → Option (List (Option ℕ))) → Type 0
-TellsCells None status before after old_count new_count place read = (status ≡ no_handle) × (after ≡ before) × (new_count ≡ old_count)
-TellsCells (Some e) status before after old_count new_count place read = WritesCells (read e) place status before after old_count new_count
+abbrev pub ReportsCells : {E : Type 0} → Option E → ℕ → List ℕ → List ℕ → ℕ → ℕ → ℕ → (E → Option (List (Option ℕ))) → Type 0
+ReportsCells None status before after old_count new_count place read = (status ≡ no_handle) × (after ≡ before) × (new_count ≡ old_count)
+ReportsCells (Some e) status before after old_count new_count place read = WritesCells (read e) place status before after old_count new_count

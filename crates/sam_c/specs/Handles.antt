@@ -8,8 +8,8 @@ use Rattle.std.specs.Box.Ownership.{box_owns}
 use Rattle.std.specs.Coded.{Coded, coded_option}
 use Rattle.std.specs.Global.{Global}
 use Rattle.std_heap.specs.contracts.GlobalAllocator.TheImpl.{ghosts}
-use Rattle.sam_ends.specs.contracts.host_end.HostEnd.{the_row as HostEnd}
-use Rattle.sam_ends.specs.contracts.term_end.TermEnd.{the_row as TermEnd}
+use Rattle.sam_endpoint.specs.contracts.host_endpoint.HostEndpoint.{the_row as HostEndpoint}
+use Rattle.sam_endpoint.specs.contracts.term_endpoint.TermEndpoint.{the_row as TermEndpoint}
 
 -- what a box of this value owns, its token being the right to free the block; nothing where there is no value
 abbrev pub holds : (Ty → Ptr → Fml) → (R : RattleType) → Ptr → Option R.Denot → Fml
@@ -17,17 +17,17 @@ holds token R at None = ftrue
 holds token R at (Some value) = box_owns token R at value
 
 -- the same of an end in C's heap
-abbrev pub holds_host : Global → Ptr → Option HostEnd.Denot → Fml
-holds_host alloc = holds (ghosts.dealloc_token alloc) HostEnd
+abbrev pub holds_host : Global → Ptr → Option HostEndpoint.Denot → Fml
+holds_host alloc = holds (ghosts.dealloc_token alloc) HostEndpoint
 
-abbrev pub holds_term : Global → Ptr → Option TermEnd.Denot → Fml
-holds_term alloc = holds (ghosts.dealloc_token alloc) TermEnd
+abbrev pub holds_term : Global → Ptr → Option TermEndpoint.Denot → Fml
+holds_term alloc = holds (ghosts.dealloc_token alloc) TermEndpoint
 
-abbrev pub held_host_coded : Coded (Option HostEnd.Denot)
-held_host_coded = coded_option HostEnd.coded
+abbrev pub held_host_coded : Coded (Option HostEndpoint.Denot)
+held_host_coded = coded_option HostEndpoint.coded
 
-abbrev pub held_term_coded : Coded (Option TermEnd.Denot)
-held_term_coded = coded_option TermEnd.coded
+abbrev pub held_term_coded : Coded (Option TermEndpoint.Denot)
+held_term_coded = coded_option TermEndpoint.coded
 
 -- "sam host" and "sam term", the first letter in the highest byte
 abbrev pub host_mark : ℕ

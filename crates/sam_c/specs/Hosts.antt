@@ -3,15 +3,15 @@ use Rattle.std.specs.Prelude.{◌≡◌, ◌⊎◌, ℕ, List, [], ◌∷◌, �
 use Rattle.sam_runes.specs.Checks.{first_of_checks}
 use Rattle.sam_runes.specs.Slots.{slot}
 use Rattle.sam_text.specs.Files.{PlainFile, file_at}
-use Rattle.sam_ends.specs.declared.fault.EndFault.{EndFault}
-use Rattle.sam_ends.specs.declared.fault.HostStop.{HostStop}
-use Rattle.sam_ends.specs.declared.fault.OpenFault.{OpenFault}
-use Rattle.sam_ends.specs.HostEnds.{PlainHostEnd, new_host_end, Feeds, IsOpenFault, open_checks, with_file}
+use Rattle.sam_endpoint.specs.declared.fault.EndpointFault.{EndpointFault}
+use Rattle.sam_endpoint.specs.declared.fault.HostStop.{HostStop}
+use Rattle.sam_endpoint.specs.declared.fault.AddFault.{AddFault}
+use Rattle.sam_endpoint.specs.HostEndpoints.{PlainHostEndpoint, new_host_end, Feeds, IsOpenFault, open_checks, with_file}
 use Rattle.sam_c.specs.Status.{ok, no_memory, is_made, no_handle, nothing, add_status, host_status}
 use Rattle.sam_c.specs.Calls.{AtHandle}
 
 -- a new host, or why there is none and the handle is as before
-abbrev pub HostMade : Option PlainHostEnd → ℕ → Option PlainHostEnd → Type 0
+abbrev pub HostMade : Option PlainHostEndpoint → ℕ → Option PlainHostEndpoint → Type 0
 HostMade None status after = ((status ≡ ok) × (after ≡ Some new_host_end)) ⊎ ((status ≡ no_memory) × (after ≡ None))
 HostMade (Some e) status after = (status ≡ is_made) × (after ≡ Some e)
 
@@ -20,30 +20,30 @@ abbrev pub Freed : {E : Type 0} → Option E → ℕ → Option E → Type 0
 Freed None status after = (status ≡ no_handle) × (after ≡ None)
 Freed (Some e) status after = (status ≡ ok) × (after ≡ None)
 
-abbrev pub HostFed : Option PlainHostEnd → List ℕ → ℕ → Option PlainHostEnd → Type 0
+abbrev pub HostFed : Option PlainHostEndpoint → List ℕ → ℕ → Option PlainHostEndpoint → Type 0
 HostFed before piece status after =
     AtHandle before status after
-    (λ e status g. (result : Result (Unit {0}) (EndFault HostStop)) × Feeds e piece result g × (status ≡ host_status result))
+    (λ e status g. (result : Result (Unit {0}) (EndpointFault HostStop)) × Feeds e piece result g × (status ≡ host_status result))
 
 -- a tag that was handed out, or what stood there before
-abbrev pub tag_or : ℕ → Result ℕ OpenFault → ℕ
+abbrev pub tag_or : ℕ → Result ℕ AddFault → ℕ
 tag_or before (Ok tag) = tag
 tag_or before (Err why) = before
 
-abbrev pub add_status_of : Result ℕ OpenFault → ℕ
+abbrev pub add_status_of : Result ℕ AddFault → ℕ
 add_status_of (Ok tag) = ok
 add_status_of (Err why) = add_status why
 
 -- what adding a file answers, and how it leaves the end
-abbrev pub Adds : PlainHostEnd → List ℕ → List ℕ → Result ℕ OpenFault → PlainHostEnd → Type 0
+abbrev pub Adds : PlainHostEndpoint → List ℕ → List ℕ → Result ℕ AddFault → PlainHostEndpoint → Type 0
 Adds e name text (Ok tag) g =
     (tag ≡ length e.host.files.slots) × (first_of_checks (open_checks e name text) ≡ None) × (g ≡ with_file e name text)
 Adds e name text (Err why) g = IsOpenFault (first_of_checks (open_checks e name text)) why × (g ≡ e)
 
-abbrev pub HostAdded : Option PlainHostEnd → List ℕ → List ℕ → ℕ → ℕ → ℕ → Option PlainHostEnd → Type 0
+abbrev pub HostAdded : Option PlainHostEndpoint → List ℕ → List ℕ → ℕ → ℕ → ℕ → Option PlainHostEndpoint → Type 0
 HostAdded None name text old_tag status new_tag after = (status ≡ no_handle) × (new_tag ≡ old_tag) × (after ≡ None)
 HostAdded (Some e) name text old_tag status new_tag after =
-    (g : PlainHostEnd) × (result : Result ℕ OpenFault) × (after ≡ Some g) × Adds e name text result g
+    (g : PlainHostEndpoint) × (result : Result ℕ AddFault) × (after ≡ Some g) × Adds e name text result g
     × (status ≡ add_status_of result) × (new_tag ≡ tag_or old_tag result)
 
 -- the first pending bytes went into the buffer, as many as have room
@@ -51,27 +51,27 @@ abbrev pub Takes : List ℕ → List ℕ → List ℕ → ℕ → List ℕ → T
 Takes pending before after count left =
     (count ≡ min (length pending) (length before)) × (after ≡ take count pending ++ drop count before) × (left ≡ drop count pending)
 
-abbrev pub HostTaken : Option PlainHostEnd → List ℕ → List ℕ → ℕ → ℕ → ℕ → Option PlainHostEnd → Type 0
+abbrev pub HostTaken : Option PlainHostEndpoint → List ℕ → List ℕ → ℕ → ℕ → ℕ → Option PlainHostEndpoint → Type 0
 HostTaken None before after old_count status new_count g = (status ≡ no_handle) × (after ≡ before) × (new_count ≡ old_count) × (g ≡ None)
 HostTaken (Some e) before after old_count status new_count g =
-    (left : List ℕ) × (status ≡ ok) × Takes e.outbox before after new_count left × (g ≡ Some (record e { outbox = left }))
+    (left : List ℕ) × (status ≡ ok) × Takes e.pending_bytes before after new_count left × (g ≡ Some (record e { pending_bytes = left }))
 
 -- the oldest tag that the host was told to write is handed out
-abbrev pub FirstWrite : PlainHostEnd → List ℕ → ℕ → ℕ → ℕ → Option PlainHostEnd → Type 0
+abbrev pub FirstWrite : PlainHostEndpoint → List ℕ → ℕ → ℕ → ℕ → Option PlainHostEndpoint → Type 0
 FirstWrite e [] old_tag status new_tag g = (status ≡ nothing) × (new_tag ≡ old_tag) × (g ≡ Some e)
 FirstWrite e (tag ∷ rest) old_tag status new_tag g = (status ≡ ok) × (new_tag ≡ tag) × (g ≡ Some (record e { writes = rest }))
 
-abbrev pub HostNextWritten : Option PlainHostEnd → ℕ → ℕ → ℕ → Option PlainHostEnd → Type 0
+abbrev pub HostNextWritten : Option PlainHostEndpoint → ℕ → ℕ → ℕ → Option PlainHostEndpoint → Type 0
 HostNextWritten None old_tag status new_tag g = (status ≡ no_handle) × (new_tag ≡ old_tag) × (g ≡ None)
 HostNextWritten (Some e) old_tag status new_tag g = FirstWrite e e.writes old_tag status new_tag g
 
 -- the file of a tag
-abbrev pub file_of : PlainHostEnd → ℕ → Option PlainFile
+abbrev pub file_of : PlainHostEndpoint → ℕ → Option PlainFile
 file_of e tag = slot e.host.files.slots tag
 
 -- what the file of a tag was when it was written last
-abbrev pub saved_of : PlainHostEnd → ℕ → Option (List ℕ)
+abbrev pub saved_of : PlainHostEndpoint → ℕ → Option (List ℕ)
 saved_of e tag = (file_at e.host.files tag).saved
 
-abbrev pub dot_of : PlainHostEnd → ℕ → Option (ℕ × ℕ)
+abbrev pub dot_of : PlainHostEndpoint → ℕ → Option (ℕ × ℕ)
 dot_of e tag = option_map (λ f. f.dot) (file_of e tag)

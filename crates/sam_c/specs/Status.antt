@@ -1,4 +1,4 @@
--- The numbers by which C knows what came of a call: enum sam_status of include/sam.h.
+-- The numbers by which C knows what came of a call: enum sam_status of include/sulgrevad.h.
 use Rattle.std.specs.Prelude.{ℕ, List, Result, Ok, Err}
 use Rattle.sam_runes.specs.declared.codec.ReadFault.{ReadFault}
 use Rattle.sam_runes.specs.declared.codec.ReadFault.TheVariants as reading
@@ -10,16 +10,16 @@ use Rattle.sam_term.specs.declared.fault.TermFault.TheVariants as term
 use Rattle.sam_term.specs.declared.fault.Refusal.TheVariants as refusal
 use Rattle.sam_script.specs.declared.fault.ScriptFault.{ScriptFault}
 use Rattle.sam_script.specs.declared.fault.ScriptFault.TheVariants as script
-use Rattle.sam_ends.specs.declared.fault.OpenFault.{OpenFault}
-use Rattle.sam_ends.specs.declared.fault.StreamFault.{StreamFault}
-use Rattle.sam_ends.specs.declared.fault.HostStop.{HostStop}
-use Rattle.sam_ends.specs.declared.fault.TermStop.{TermStop}
-use Rattle.sam_ends.specs.declared.fault.EndFault.{EndFault}
-use Rattle.sam_ends.specs.declared.fault.OpenFault.TheVariants as opening
-use Rattle.sam_ends.specs.declared.fault.StreamFault.TheVariants as stream
-use Rattle.sam_ends.specs.declared.fault.HostStop.TheVariants as host_stop
-use Rattle.sam_ends.specs.declared.fault.TermStop.TheVariants as term_stop
-use Rattle.sam_ends.specs.declared.fault.EndFault.TheVariants as fault
+use Rattle.sam_endpoint.specs.declared.fault.AddFault.{AddFault}
+use Rattle.sam_endpoint.specs.declared.fault.StreamFault.{StreamFault}
+use Rattle.sam_endpoint.specs.declared.fault.HostStop.{HostStop}
+use Rattle.sam_endpoint.specs.declared.fault.TermStop.{TermStop}
+use Rattle.sam_endpoint.specs.declared.fault.EndpointFault.{EndpointFault}
+use Rattle.sam_endpoint.specs.declared.fault.AddFault.TheVariants as opening
+use Rattle.sam_endpoint.specs.declared.fault.StreamFault.TheVariants as stream
+use Rattle.sam_endpoint.specs.declared.fault.HostStop.TheVariants as host_stop
+use Rattle.sam_endpoint.specs.declared.fault.TermStop.TheVariants as term_stop
+use Rattle.sam_endpoint.specs.declared.fault.EndpointFault.TheVariants as fault
 
 abbrev pub ok : ℕ
 ok = 0
@@ -51,7 +51,7 @@ read_status reading.NotText = not_text
 read_status reading.OutOfMemory = no_memory
 
 -- why a file is not added
-abbrev pub add_status : OpenFault → ℕ
+abbrev pub add_status : AddFault → ℕ
 add_status opening.Begun = 17
 add_status opening.NotText = not_text
 add_status opening.TooLong = 19
@@ -115,15 +115,15 @@ replay_status (Ok printed) = ok
 replay_status (Err why) = script_status why
 
 -- what a call to an end answers, where stops have these numbers
-abbrev pub call_status : {S : Type 0} → (S → ℕ) → Result (Unit {0}) (EndFault S) → ℕ
+abbrev pub call_status : {S : Type 0} → (S → ℕ) → Result (Unit {0}) (EndpointFault S) → ℕ
 call_status stopped (Ok done) = ok
 call_status stopped (Err fault.OutOfMemory) = no_memory
 call_status stopped (Err fault.Unfinished) = unfinished
 call_status stopped (Err fault.CountFull) = count_full
 call_status stopped (Err (fault.Stopped why)) = stopped why
 
-abbrev pub host_status : Result (Unit {0}) (EndFault HostStop) → ℕ
+abbrev pub host_status : Result (Unit {0}) (EndpointFault HostStop) → ℕ
 host_status result = call_status host_stop_status result
 
-abbrev pub term_status : Result (Unit {0}) (EndFault TermStop) → ℕ
+abbrev pub term_status : Result (Unit {0}) (EndpointFault TermStop) → ℕ
 term_status result = call_status term_stop_status result

@@ -9,73 +9,73 @@ use Rattle.sam_term.specs.declared.event.UserEvent.{UserEvent}
 use Rattle.sam_term.specs.declared.fault.Refusal.{Refusal}
 use Rattle.sam_term.specs.declared.records.KnownFile.{KnownFile}
 use Rattle.sam_term.specs.declared.records.Window.{Window}
-use Rattle.sam_ends.specs.declared.fault.EndFault.{EndFault}
-use Rattle.sam_ends.specs.declared.fault.TermStop.{TermStop}
-use Rattle.sam_ends.specs.TermEnds.{PlainTermEnd, new_term_end, Puts, Feeds, Flushes}
+use Rattle.sam_endpoint.specs.declared.fault.EndpointFault.{EndpointFault}
+use Rattle.sam_endpoint.specs.declared.fault.TermStop.{TermStop}
+use Rattle.sam_endpoint.specs.TermEndpoints.{PlainTermEndpoint, new_term_end, Puts, Feeds, Flushes}
 use Rattle.sam_c.specs.Status.{ok, no_memory, is_made, no_handle, not_text, nothing, refusal_status, term_status}
 use Rattle.sam_c.specs.Calls.{AtHandle}
 use Rattle.sam_c.specs.Hosts.{Takes}
 
 -- a new terminal, or why there is none and the handle is as before
-abbrev pub TermMade : Option PlainTermEnd → ℕ → Option PlainTermEnd → Type 0
+abbrev pub TermMade : Option PlainTermEndpoint → ℕ → Option PlainTermEndpoint → Type 0
 TermMade None status after = ((status ≡ ok) × (after ≡ Some new_term_end)) ⊎ ((status ≡ no_memory) × (after ≡ None))
 TermMade (Some e) status after = (status ≡ is_made) × (after ≡ Some e)
 
-abbrev pub TermPut : Option PlainTermEnd → UserEvent → ℕ → Option PlainTermEnd → Type 0
+abbrev pub TermPut : Option PlainTermEndpoint → UserEvent → ℕ → Option PlainTermEndpoint → Type 0
 TermPut before event status after =
     AtHandle before status after
-    (λ e status g. (result : Result (Unit {0}) (EndFault TermStop)) × Puts e event result g × (status ≡ term_status result))
+    (λ e status g. (result : Result (Unit {0}) (EndpointFault TermStop)) × Puts e event result g × (status ≡ term_status result))
 
-abbrev pub TermFed : Option PlainTermEnd → List ℕ → ℕ → Option PlainTermEnd → Type 0
+abbrev pub TermFed : Option PlainTermEndpoint → List ℕ → ℕ → Option PlainTermEndpoint → Type 0
 TermFed before piece status after =
     AtHandle before status after
-    (λ e status g. (result : Result (Unit {0}) (EndFault TermStop)) × Feeds e piece result g × (status ≡ term_status result))
+    (λ e status g. (result : Result (Unit {0}) (EndpointFault TermStop)) × Feeds e piece result g × (status ≡ term_status result))
 
-abbrev pub TermIdled : Option PlainTermEnd → ℕ → Option PlainTermEnd → Type 0
+abbrev pub TermIdled : Option PlainTermEndpoint → ℕ → Option PlainTermEndpoint → Type 0
 TermIdled before status after =
     AtHandle before status after
-    (λ e status g. (result : Result (Unit {0}) (EndFault TermStop)) × Flushes e result g × (status ≡ term_status result))
+    (λ e status g. (result : Result (Unit {0}) (EndpointFault TermStop)) × Flushes e result g × (status ≡ term_status result))
 
 -- an event that brings a text: the bytes spell its runes, or are not UTF-8, or memory for the runes was refused
-abbrev pub PutsText : PlainTermEnd → List ℕ → (List ℕ → UserEvent) → ℕ → PlainTermEnd → Type 0
+abbrev pub PutsText : PlainTermEndpoint → List ℕ → (List ℕ → UserEvent) → ℕ → PlainTermEndpoint → Type 0
 PutsText e text event status g =
-    ((runes : List ℕ) × (result : Result (Unit {0}) (EndFault TermStop))
+    ((runes : List ℕ) × (result : Result (Unit {0}) (EndpointFault TermStop))
     × AreRunes runes × (encode_utf8_all runes ≡ text) × Puts e (event runes) result g × (status ≡ term_status result))
     ⊎ (((status ≡ not_text) × (IsUtf8 text → ⊥) × (g ≡ e)) ⊎ ((status ≡ no_memory) × (g ≡ e)))
 
-abbrev pub TermPutText : Option PlainTermEnd → List ℕ → (List ℕ → UserEvent) → ℕ → Option PlainTermEnd → Type 0
+abbrev pub TermPutText : Option PlainTermEndpoint → List ℕ → (List ℕ → UserEvent) → ℕ → Option PlainTermEndpoint → Type 0
 TermPutText before text event status after = AtHandle before status after (λ e status g. PutsText e text event status g)
 
-abbrev pub TermTaken : Option PlainTermEnd → List ℕ → List ℕ → ℕ → ℕ → ℕ → Option PlainTermEnd → Type 0
+abbrev pub TermTaken : Option PlainTermEndpoint → List ℕ → List ℕ → ℕ → ℕ → ℕ → Option PlainTermEndpoint → Type 0
 TermTaken None before after old_count status new_count g = (status ≡ no_handle) × (after ≡ before) × (new_count ≡ old_count) × (g ≡ None)
 TermTaken (Some e) before after old_count status new_count g =
-    (left : List ℕ) × (status ≡ ok) × Takes e.outbox before after new_count left × (g ≡ Some (record e { outbox = left }))
+    (left : List ℕ) × (status ≡ ok) × Takes e.pending_bytes before after new_count left × (g ≡ Some (record e { pending_bytes = left }))
 
 -- the oldest refused event is handed out, with the number of why
-abbrev pub FirstRefusal : PlainTermEnd → List (ℕ × Refusal) → ℕ × ℕ → ℕ → ℕ × ℕ → Option PlainTermEnd → Type 0
+abbrev pub FirstRefusal : PlainTermEndpoint → List (ℕ × Refusal) → ℕ × ℕ → ℕ → ℕ × ℕ → Option PlainTermEndpoint → Type 0
 FirstRefusal e [] before status after g = (status ≡ nothing) × (after ≡ before) × (g ≡ Some e)
 FirstRefusal e (refused ∷ rest) before status after g =
     (status ≡ ok) × (after ≡ (refused.0, refusal_status refused.1)) × (g ≡ Some (record e { refusals = rest }))
 
-abbrev pub TermNextRefusal : Option PlainTermEnd → ℕ × ℕ → ℕ → ℕ × ℕ → Option PlainTermEnd → Type 0
+abbrev pub TermNextRefusal : Option PlainTermEndpoint → ℕ × ℕ → ℕ → ℕ × ℕ → Option PlainTermEndpoint → Type 0
 TermNextRefusal None before status after g = (status ≡ no_handle) × (after ≡ before) × (g ≡ None)
 TermNextRefusal (Some e) before status after g = FirstRefusal e e.refusals before status after g
 
 -- an edit of the file would wait
-abbrev pub is_held_back : PlainTermEnd → ℕ → Bool
+abbrev pub is_held_back : PlainTermEndpoint → ℕ → Bool
 is_held_back e tag = e.term.command_lock || nat_lt 0 (window_at e.term tag).locks
 
-abbrev pub dot_of : PlainTermEnd → ℕ → Option (ℕ × ℕ)
+abbrev pub dot_of : PlainTermEndpoint → ℕ → Option (ℕ × ℕ)
 dot_of e tag = option_map (λ w. w.dot) (window_of e.term tag)
 
-abbrev pub rasp_of : PlainTermEnd → ℕ → Option (List (Option ℕ))
+abbrev pub rasp_of : PlainTermEndpoint → ℕ → Option (List (Option ℕ))
 rasp_of e tag = option_map (λ w. w.rasp) (window_of e.term tag)
 
 -- what the terminal knows of a tag
-abbrev pub known_of : PlainTermEnd → ℕ → Option KnownFile
+abbrev pub known_of : PlainTermEndpoint → ℕ → Option KnownFile
 known_of e tag = slot e.term.files tag
 
-abbrev pub open_of : PlainTermEnd → ℕ → Option Window
+abbrev pub open_of : PlainTermEndpoint → ℕ → Option Window
 open_of e tag = window_of e.term tag
 
 -- what a window shows: the places where its view begins and ends

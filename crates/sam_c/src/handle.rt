@@ -3,11 +3,11 @@
 
 ghost use Rattle.std.specs.Prelude.{◌≡◌, None, Option, Some, eqb, is_some, option_map};
 ghost use Rattle.sam_c.specs.Handles.{held_host_coded, held_term_coded, holds_host, holds_term, host_mark, term_mark};
-ghost use Rattle.sam_ends.specs.HostEnds.{PlainHostEnd};
-ghost use Rattle.sam_ends.specs.TermEnds.{PlainTermEnd};
+ghost use Rattle.sam_endpoint.specs.HostEndpoints.{PlainHostEndpoint};
+ghost use Rattle.sam_endpoint.specs.TermEndpoints.{PlainTermEndpoint};
 
 use crate::parts::Parts;
-use sam_ends::{HostEnd, TermEnd};
+use sam_endpoint::{HostEndpoint, TermEndpoint};
 use std::alloc::Global;
 use std::marker::Model;
 
@@ -26,7 +26,7 @@ pub struct HeldHost {
     /// The allocator that the end's box came from.
     alloc: Global,
     /// The end behind the pointer, as contracts see it.
-    pub ghost end: { Option PlainHostEnd } by { held_host_coded },
+    pub ghost end: { Option PlainHostEndpoint } by { held_host_coded },
 }
 
 impl Model for HeldHost {
@@ -37,7 +37,7 @@ unsafe impl Send for HeldHost {}
 
 impl HeldHost {
     /// Keeps the parts of a box.
-    fn of_parts(parts: Parts<HostEnd, Global>) -> HeldHost
+    fn of_parts(parts: Parts<HostEndpoint, Global>) -> HeldHost
         ensures { result.end ≡ parts.value }
     {
         let Parts { at, alloc } = parts;
@@ -48,18 +48,18 @@ impl HeldHost {
     }
 
     /// Gives the parts back.
-    fn into_parts(self) -> Parts<HostEnd, Global>
+    fn into_parts(self) -> Parts<HostEndpoint, Global>
         ensures { result.value ≡ self.end }
     {
         let HeldHost { at, alloc } = self;
         Parts {
-            at: at as *mut HostEnd,
+            at: at as *mut HostEndpoint,
             alloc,
         }
     }
 }
 
-/// The handle of a host: `sam_host` of include/sam.h. It is empty, or holds an end, which clauses call `held.end`.
+/// The handle of a host: `sam_host` of include/sulgrevad.h. It is empty, or holds an end, which clauses call `held.end`.
 #[repr(C)]
 pub struct SamHost {
     /// The end, if the handle is made.
@@ -82,7 +82,7 @@ impl SamHost {
     }
 
     /// Returns the end; `None` if the handle is empty.
-    fn into_end(self) -> Option<Box<HostEnd>>
+    fn into_end(self) -> Option<Box<HostEndpoint>>
         ensures { option_map (λ end. end.value) result ≡ self.held.end }
     {
         let SamHost { held, made } = self;
@@ -101,7 +101,7 @@ impl SamHost {
     }
 
     /// Takes the end out of the handle, which is then empty. Returns `None` if it was empty.
-    pub(crate) fn take(&mut self, alloc: Global) -> Option<Box<HostEnd>>
+    pub(crate) fn take(&mut self, alloc: Global) -> Option<Box<HostEndpoint>>
         ensures end { option_map (λ end. end.value) result ≡ self.old.held.end }
         ensures empty { self.new.held.end ≡ None }
     {
@@ -112,7 +112,7 @@ impl SamHost {
     }
 
     /// Puts an end into the handle. An end that it held before is freed.
-    pub(crate) fn put(&mut self, end: Box<HostEnd>)
+    pub(crate) fn put(&mut self, end: Box<HostEndpoint>)
         ensures { self.new.held.end ≡ Some end.value }
     {
         *self = SamHost {
@@ -138,7 +138,7 @@ pub struct HeldTerm {
     /// The allocator that the end's box came from.
     alloc: Global,
     /// The end behind the pointer, as contracts see it.
-    pub ghost end: { Option PlainTermEnd } by { held_term_coded },
+    pub ghost end: { Option PlainTermEndpoint } by { held_term_coded },
 }
 
 impl Model for HeldTerm {
@@ -149,7 +149,7 @@ unsafe impl Send for HeldTerm {}
 
 impl HeldTerm {
     /// Keeps the parts of a box.
-    fn of_parts(parts: Parts<TermEnd, Global>) -> HeldTerm
+    fn of_parts(parts: Parts<TermEndpoint, Global>) -> HeldTerm
         ensures { result.end ≡ parts.value }
     {
         let Parts { at, alloc } = parts;
@@ -160,18 +160,18 @@ impl HeldTerm {
     }
 
     /// Gives the parts back.
-    fn into_parts(self) -> Parts<TermEnd, Global>
+    fn into_parts(self) -> Parts<TermEndpoint, Global>
         ensures { result.value ≡ self.end }
     {
         let HeldTerm { at, alloc } = self;
         Parts {
-            at: at as *mut TermEnd,
+            at: at as *mut TermEndpoint,
             alloc,
         }
     }
 }
 
-/// The handle of a terminal: `sam_term` of include/sam.h. It is empty, or holds an end, which clauses call `held.end`.
+/// The handle of a terminal: `sam_term` of include/sulgrevad.h. It is empty, or holds an end, which clauses call `held.end`.
 #[repr(C)]
 pub struct SamTerm {
     /// The end, if the handle is made.
@@ -194,7 +194,7 @@ impl SamTerm {
     }
 
     /// Returns the end; `None` if the handle is empty.
-    fn into_end(self) -> Option<Box<TermEnd>>
+    fn into_end(self) -> Option<Box<TermEndpoint>>
         ensures { option_map (λ end. end.value) result ≡ self.held.end }
     {
         let SamTerm { held, made } = self;
@@ -213,7 +213,7 @@ impl SamTerm {
     }
 
     /// Takes the end out of the handle, which is then empty. Returns `None` if it was empty.
-    pub(crate) fn take(&mut self, alloc: Global) -> Option<Box<TermEnd>>
+    pub(crate) fn take(&mut self, alloc: Global) -> Option<Box<TermEndpoint>>
         ensures end { option_map (λ end. end.value) result ≡ self.old.held.end }
         ensures empty { self.new.held.end ≡ None }
     {
@@ -224,7 +224,7 @@ impl SamTerm {
     }
 
     /// Puts an end into the handle. An end that it held before is freed.
-    pub(crate) fn put(&mut self, end: Box<TermEnd>)
+    pub(crate) fn put(&mut self, end: Box<TermEndpoint>)
         ensures { self.new.held.end ≡ Some end.value }
     {
         *self = SamTerm {

@@ -1,13 +1,13 @@
-//! What C calls of a host: include/sam.h says of each call what it does. A call returns a number of `sam_status`; after `SAM_NO_HANDLE`,
+//! What C calls of a host: include/sulgrevad.h says of each call what it does. A call returns a number of `sam_status`; after `SAM_NO_HANDLE`,
 //! `SAM_NONE` and `SAM_NO_MEMORY` what its other arguments lead to is as it was.
 
 ghost use Rattle.std.specs.Prelude.{◌≡◌, length};
-ghost use Rattle.sam_c.specs.Calls.{Tells};
+ghost use Rattle.sam_c.specs.Calls.{Reports};
 ghost use Rattle.sam_c.specs.Hosts.{Freed, HostAdded, HostFed, HostMade, HostNextWritten, HostTaken};
 
 use crate::handle::SamHost;
 use crate::status::{MADE, NO_HANDLE, NO_MEMORY, NONE, OK, add_status, host_status};
-use sam_ends::HostEnd;
+use sam_endpoint::HostEndpoint;
 use std::alloc::Global;
 
 /// Makes a host with the command file alone (tag 0). Errors, in this order: `SAM_MADE` if the handle is made already; `SAM_NO_MEMORY`.
@@ -19,7 +19,7 @@ pub extern "C" fn sam_host_new(host: &mut SamHost, alloc: Global) -> u32
     if host.is_made() {
         return MADE;
     }
-    let Ok(end) = HostEnd::new(alloc) else {
+    let Ok(end) = HostEndpoint::new(alloc) else {
         return NO_MEMORY;
     };
     let Ok(end) = Box::new(alloc, end) else {
@@ -74,7 +74,7 @@ pub extern "C" fn sam_host_add_file(
 ///
 /// Returns `SAM_OK`, `SAM_NO_MEMORY`, `SAM_UNFINISHED`, `SAM_COUNT_FULL`, `SAM_NO_HANDLE`, or why the host has stopped, at this call or
 /// before: `SAM_STREAM..`, `SAM_HOST_REFUSED..`. What stood before the fault is answered. `SAM_NO_HANDLE` comes first; the order of the
-/// others is that of [`HostEnd::feed`].
+/// others is that of [`HostEndpoint::feed`].
 #[unsafe(no_mangle)]
 pub extern "C" fn sam_host_feed(host: &mut SamHost, bytes: &[u8], alloc: Global) -> u32
     ensures { HostFed host.old.held.end bytes.now result host.new.held.end }
@@ -89,8 +89,8 @@ pub extern "C" fn sam_host_feed(host: &mut SamHost, bytes: &[u8], alloc: Global)
 
 /// Hands out how many bytes are pending. `SAM_NO_HANDLE` if the handle is empty.
 #[unsafe(no_mangle)]
-pub extern "C" fn sam_host_out_len(host: &mut SamHost, len: &mut usize, alloc: Global) -> u32
-    ensures told { Tells host.old.held.end result len.old len.new (λ e. length e.outbox) }
+pub extern "C" fn sam_host_pending(host: &mut SamHost, len: &mut usize, alloc: Global) -> u32
+    ensures told { Reports host.old.held.end result len.old len.new (λ e. length e.pending_bytes) }
     ensures kept { host.new.held.end ≡ host.old.held.end }
 {
     let Some(end) = host.take(alloc) else {
@@ -104,7 +104,7 @@ pub extern "C" fn sam_host_out_len(host: &mut SamHost, len: &mut usize, alloc: G
 /// Moves the first pending bytes into the buffer, as many as it has room for, and hands out how many. `SAM_NO_HANDLE` if the handle is
 /// empty.
 #[unsafe(no_mangle)]
-pub extern "C" fn sam_host_out(
+pub extern "C" fn sam_host_take_out(
     host: &mut SamHost,
     into: &mut [u8],
     count: &mut usize,
@@ -129,7 +129,7 @@ pub extern "C" fn sam_host_next_written(host: &mut SamHost, tag: &mut u16, alloc
     let Some(mut end) = host.take(alloc) else {
         return NO_HANDLE;
     };
-    let status = match end.next_write() {
+    let status = match end.next_written() {
         Some(written) => {
             *tag = written;
             OK

@@ -1,9 +1,9 @@
-//! What C reads of a host: include/sam.h says of each call what it hands out. None of them changes the host. Each returns `SAM_NO_HANDLE`
+//! What C reads of a host: include/sulgrevad.h says of each call what it hands out. None of them changes the host. Each returns `SAM_NO_HANDLE`
 //! if the handle is empty; after that, and after `SAM_NONE`, what its other arguments lead to is as it was. Places count runes from the
 //! beginning of the text.
 
 ghost use Rattle.std.specs.Prelude.{◌≡◌, drop, is_some, length, option_map};
-ghost use Rattle.sam_c.specs.Calls.{Tells, TellsName, TellsSome, TellsText, written};
+ghost use Rattle.sam_c.specs.Calls.{Reports, ReportsName, ReportsSome, ReportsText, written};
 ghost use Rattle.sam_c.specs.Hosts.{dot_of, file_of, saved_of};
 
 use crate::handle::SamHost;
@@ -14,7 +14,7 @@ use std::alloc::Global;
 /// Hands out whether the session is over: the terminal has sent Texit, or a command line was `q`.
 #[unsafe(no_mangle)]
 pub extern "C" fn sam_host_is_done(host: &mut SamHost, done: &mut bool, alloc: Global) -> u32
-    ensures told { Tells host.old.held.end result done.old done.new (λ e. e.host.is_done) }
+    ensures told { Reports host.old.held.end result done.old done.new (λ e. e.host.is_done) }
     ensures kept { host.new.held.end ≡ host.old.held.end }
 {
     let Some(end) = host.take(alloc) else {
@@ -28,7 +28,7 @@ pub extern "C" fn sam_host_is_done(host: &mut SamHost, done: &mut bool, alloc: G
 /// Hands out how many messages the host has taken and answered.
 #[unsafe(no_mangle)]
 pub extern "C" fn sam_host_taken(host: &mut SamHost, taken: &mut u64, alloc: Global) -> u32
-    ensures told { Tells host.old.held.end result taken.old taken.new (λ e. e.host.taken) }
+    ensures told { Reports host.old.held.end result taken.old taken.new (λ e. e.host.taken) }
     ensures kept { host.new.held.end ≡ host.old.held.end }
 {
     let Some(end) = host.take(alloc) else {
@@ -42,7 +42,7 @@ pub extern "C" fn sam_host_taken(host: &mut SamHost, taken: &mut u64, alloc: Glo
 /// Hands out the version of the protocol: 1 or 2.
 #[unsafe(no_mangle)]
 pub extern "C" fn sam_host_version(host: &mut SamHost, version: &mut u16, alloc: Global) -> u32
-    ensures told { Tells host.old.held.end result version.old version.new (λ e. e.host.version) }
+    ensures told { Reports host.old.held.end result version.old version.new (λ e. e.host.version) }
     ensures kept { host.new.held.end ≡ host.old.held.end }
 {
     let Some(end) = host.take(alloc) else {
@@ -56,7 +56,7 @@ pub extern "C" fn sam_host_version(host: &mut SamHost, version: &mut u16, alloc:
 /// Hands out how many tags were given, the command file's 0 included: the greatest is one less.
 #[unsafe(no_mangle)]
 pub extern "C" fn sam_host_tags(host: &mut SamHost, count: &mut usize, alloc: Global) -> u32
-    ensures told { Tells host.old.held.end result count.old count.new (λ e. length e.host.files.slots) }
+    ensures told { Reports host.old.held.end result count.old count.new (λ e. length e.host.files.slots) }
     ensures kept { host.new.held.end ≡ host.old.held.end }
 {
     let Some(end) = host.take(alloc) else {
@@ -75,7 +75,7 @@ pub extern "C" fn sam_host_has_file(
     has: &mut bool,
     alloc: Global,
 ) -> u32
-    ensures told { Tells host.old.held.end result has.old has.new (λ e. is_some (file_of e tag)) }
+    ensures told { Reports host.old.held.end result has.old has.new (λ e. is_some (file_of e tag)) }
     ensures kept { host.new.held.end ≡ host.old.held.end }
 {
     let Some(end) = host.take(alloc) else {
@@ -96,7 +96,7 @@ pub extern "C" fn sam_host_name(
     len: &mut usize,
     alloc: Global,
 ) -> u32
-    ensures told { TellsName host.old.held.end result into.old into.new len.old len.new (λ e. option_map (λ f. f.name) (file_of e tag)) }
+    ensures told { ReportsName host.old.held.end result into.old into.new len.old len.new (λ e. option_map (λ f. f.name) (file_of e tag)) }
     ensures kept { host.new.held.end ≡ host.old.held.end }
 {
     let Some(end) = host.take(alloc) else {
@@ -113,7 +113,7 @@ pub extern "C" fn sam_host_name(
 /// Hands out the length of a file's text in runes. `SAM_NONE` if the tag has no file.
 #[unsafe(no_mangle)]
 pub extern "C" fn sam_host_len(host: &mut SamHost, tag: u16, runes: &mut u32, alloc: Global) -> u32
-    ensures told { TellsSome host.old.held.end result runes.old runes.new (λ e. option_map (λ f. length f.text) (file_of e tag)) }
+    ensures told { ReportsSome host.old.held.end result runes.old runes.new (λ e. option_map (λ f. length f.text) (file_of e tag)) }
     ensures kept { host.new.held.end ≡ host.old.held.end }
 {
     let Some(end) = host.take(alloc) else {
@@ -138,7 +138,7 @@ pub extern "C" fn sam_host_is_dirty(
     dirty: &mut bool,
     alloc: Global,
 ) -> u32
-    ensures told { TellsSome host.old.held.end result dirty.old dirty.new (λ e. option_map (λ f. f.dirty) (file_of e tag)) }
+    ensures told { ReportsSome host.old.held.end result dirty.old dirty.new (λ e. option_map (λ f. f.dirty) (file_of e tag)) }
     ensures kept { host.new.held.end ≡ host.old.held.end }
 {
     let Some(end) = host.take(alloc) else {
@@ -163,7 +163,7 @@ pub extern "C" fn sam_host_dot(
     end: &mut u32,
     alloc: Global,
 ) -> u32
-    ensures told { TellsSome host.old.held.end result (start.old, end.old) (start.new, end.new) (λ e. dot_of e tag) }
+    ensures told { ReportsSome host.old.held.end result (start.old, end.old) (start.new, end.new) (λ e. dot_of e tag) }
     ensures kept { host.new.held.end ≡ host.old.held.end }
 {
     let Some(held) = host.take(alloc) else {
@@ -193,7 +193,7 @@ pub extern "C" fn sam_host_text(
     runes: &mut usize,
     alloc: Global,
 ) -> u32
-    ensures told { TellsText host.old.held.end result (written into.old bytes.old runes.old) (written into.new bytes.new runes.new)
+    ensures told { ReportsText host.old.held.end result (written into.old bytes.old runes.old) (written into.new bytes.new runes.new)
         (λ e. option_map (λ f. drop place f.text) (file_of e tag)) }
     ensures kept { host.new.held.end ≡ host.old.held.end }
 {
@@ -222,7 +222,7 @@ pub extern "C" fn sam_host_saved_len(
     runes: &mut usize,
     alloc: Global,
 ) -> u32
-    ensures told { TellsSome host.old.held.end result runes.old runes.new (λ e. option_map length (saved_of e tag)) }
+    ensures told { ReportsSome host.old.held.end result runes.old runes.new (λ e. option_map length (saved_of e tag)) }
     ensures kept { host.new.held.end ≡ host.old.held.end }
 {
     let Some(end) = host.take(alloc) else {
@@ -251,7 +251,7 @@ pub extern "C" fn sam_host_saved(
     runes: &mut usize,
     alloc: Global,
 ) -> u32
-    ensures told { TellsText host.old.held.end result (written into.old bytes.old runes.old) (written into.new bytes.new runes.new)
+    ensures told { ReportsText host.old.held.end result (written into.old bytes.old runes.old) (written into.new bytes.new runes.new)
         (λ e. option_map (λ s. drop place s) (saved_of e tag)) }
     ensures kept { host.new.held.end ≡ host.old.held.end }
 {

@@ -1,4 +1,4 @@
-//! What C calls to replay a script: include/sam.h says what the call does.
+//! What C calls to replay a script: include/sulgrevad.h says what the call does.
 
 ghost use Rattle.std.specs.Prelude.{◌≡◌};
 ghost use Rattle.sam_c.specs.Scripts.{Replays, filled, handed, line_or};

@@ -1,10 +1,10 @@
-//! The numbers by which C knows what came of a call: enum sam_status of include/sam.h.
+//! The numbers by which C knows what came of a call: enum sam_status of include/sulgrevad.h.
 
 ghost use Rattle.std.specs.Prelude.{◌≡◌};
 ghost use Rattle.sam_c.specs.Status.{add_status, host_refusal, host_status, refusal_status, script_status, stream_status};
 ghost use Rattle.sam_c.specs.Status.{term_refusal, term_status};
 
-use sam_ends::{EndFault, HostStop, OpenFault, StreamFault, TermStop};
+use sam_endpoint::{AddFault, EndpointFault, HostStop, StreamFault, TermStop};
 use sam_host::HostFault;
 use sam_script::ScriptFault;
 use sam_term::{Refusal, TermFault};
@@ -54,13 +54,13 @@ const REFUSAL: u32 = 128;
 const SCRIPT: u32 = 160;
 
 /// Returns the number of why a file is not added.
-pub(crate) fn add_status(why: OpenFault) -> u32
+pub(crate) fn add_status(why: AddFault) -> u32
     ensures { result ≡ add_status why }
 {
     match why {
-        OpenFault::NotText => NOT_TEXT,
-        OpenFault::OutOfMemory => NO_MEMORY,
-        OpenFault::Begun | OpenFault::TooLong | OpenFault::NoTag => ADD + why as u32,
+        AddFault::NotText => NOT_TEXT,
+        AddFault::OutOfMemory => NO_MEMORY,
+        AddFault::Begun | AddFault::TooLong | AddFault::NoTag => ADD + why as u32,
     }
 }
 
@@ -104,29 +104,29 @@ pub(crate) fn script_status(why: ScriptFault) -> u32
 }
 
 /// Returns the number of what came of a call to a host end.
-pub(crate) fn host_status(came: Result<(), EndFault<HostStop>>) -> u32
+pub(crate) fn host_status(came: Result<(), EndpointFault<HostStop>>) -> u32
     ensures { result ≡ host_status came }
 {
     match came {
         Ok(()) => OK,
-        Err(EndFault::OutOfMemory) => NO_MEMORY,
-        Err(EndFault::Unfinished) => UNFINISHED,
-        Err(EndFault::CountFull) => COUNT_FULL,
-        Err(EndFault::Stopped(HostStop::Stream(why))) => stream_status(why),
-        Err(EndFault::Stopped(HostStop::Refused(why))) => host_refusal(why),
+        Err(EndpointFault::OutOfMemory) => NO_MEMORY,
+        Err(EndpointFault::Unfinished) => UNFINISHED,
+        Err(EndpointFault::CountFull) => COUNT_FULL,
+        Err(EndpointFault::Stopped(HostStop::Stream(why))) => stream_status(why),
+        Err(EndpointFault::Stopped(HostStop::Refused(why))) => host_refusal(why),
     }
 }
 
 /// Returns the number of what came of a call to a terminal end.
-pub(crate) fn term_status(came: Result<(), EndFault<TermStop>>) -> u32
+pub(crate) fn term_status(came: Result<(), EndpointFault<TermStop>>) -> u32
     ensures { result ≡ term_status came }
 {
     match came {
         Ok(()) => OK,
-        Err(EndFault::OutOfMemory) => NO_MEMORY,
-        Err(EndFault::Unfinished) => UNFINISHED,
-        Err(EndFault::CountFull) => COUNT_FULL,
-        Err(EndFault::Stopped(TermStop::Stream(why))) => stream_status(why),
-        Err(EndFault::Stopped(TermStop::Refused(why))) => term_refusal(why),
+        Err(EndpointFault::OutOfMemory) => NO_MEMORY,
+        Err(EndpointFault::Unfinished) => UNFINISHED,
+        Err(EndpointFault::CountFull) => COUNT_FULL,
+        Err(EndpointFault::Stopped(TermStop::Stream(why))) => stream_status(why),
+        Err(EndpointFault::Stopped(TermStop::Refused(why))) => term_refusal(why),
     }
 }

@@ -1,14 +1,14 @@
-//! What C calls of a terminal beside the user's events: include/sam.h says of each call what it does. A call returns a number of
+//! What C calls of a terminal beside the user's events: include/sulgrevad.h says of each call what it does. A call returns a number of
 //! `sam_status`; after `SAM_NO_HANDLE` and `SAM_NONE` what its other arguments lead to is as it was.
 
 ghost use Rattle.std.specs.Prelude.{◌≡◌, length};
-ghost use Rattle.sam_c.specs.Calls.{Tells};
+ghost use Rattle.sam_c.specs.Calls.{Reports};
 ghost use Rattle.sam_c.specs.Hosts.{Freed};
 ghost use Rattle.sam_c.specs.Terms.{TermFed, TermIdled, TermMade, TermNextRefusal, TermTaken};
 
 use crate::handle::SamTerm;
 use crate::status::{MADE, NO_HANDLE, NO_MEMORY, NONE, OK, refusal_status, term_status};
-use sam_ends::TermEnd;
+use sam_endpoint::TermEndpoint;
 use std::alloc::Global;
 
 /// Makes a terminal that knows no file. Errors, in this order: `SAM_MADE` if the handle is made already; `SAM_NO_MEMORY`. After an error
@@ -20,7 +20,7 @@ pub extern "C" fn sam_term_new(term: &mut SamTerm, alloc: Global) -> u32
     if term.is_made() {
         return MADE;
     }
-    let Ok(end) = Box::new(alloc, TermEnd::new(alloc)) else {
+    let Ok(end) = Box::new(alloc, TermEndpoint::new(alloc)) else {
         return NO_MEMORY;
     };
     term.put(end);
@@ -41,7 +41,7 @@ pub extern "C" fn sam_term_free(term: &mut SamTerm, alloc: Global) -> u32
 /// Takes bytes of the host's frames, in whatever pieces they come, and then lets held events act.
 ///
 /// Returns `SAM_OK`, `SAM_NO_MEMORY`, `SAM_UNFINISHED`, `SAM_COUNT_FULL`, `SAM_NO_HANDLE`, or why the terminal has stopped, at this call
-/// or before: `SAM_STREAM..`, `SAM_TERM_REFUSED..`. `SAM_NO_HANDLE` comes first; the order of the others is that of [`TermEnd::feed`].
+/// or before: `SAM_STREAM..`, `SAM_TERM_REFUSED..`. `SAM_NO_HANDLE` comes first; the order of the others is that of [`TermEndpoint::feed`].
 #[unsafe(no_mangle)]
 pub extern "C" fn sam_term_feed(term: &mut SamTerm, bytes: &[u8], alloc: Global) -> u32
     ensures { TermFed term.old.held.end bytes.now result term.new.held.end }
@@ -57,23 +57,23 @@ pub extern "C" fn sam_term_feed(term: &mut SamTerm, bytes: &[u8], alloc: Global)
 /// Composes the typed runes that are not sent yet. A program calls it when the user pauses, before the program sleeps.
 ///
 /// Returns `SAM_OK`, `SAM_NO_MEMORY`, `SAM_UNFINISHED`, `SAM_NO_HANDLE`, or why the terminal has stopped, at this call or before:
-/// `SAM_STREAM..`, `SAM_TERM_REFUSED..`. `SAM_NO_HANDLE` comes first; the order of the others is that of [`TermEnd::flush`].
+/// `SAM_STREAM..`, `SAM_TERM_REFUSED..`. `SAM_NO_HANDLE` comes first; the order of the others is that of [`TermEndpoint::flush_now`].
 #[unsafe(no_mangle)]
-pub extern "C" fn sam_term_idle(term: &mut SamTerm, alloc: Global) -> u32
+pub extern "C" fn sam_term_flush_now(term: &mut SamTerm, alloc: Global) -> u32
     ensures { TermIdled term.old.held.end result term.new.held.end }
 {
     let Some(mut end) = term.take(alloc) else {
         return NO_HANDLE;
     };
-    let status = term_status(end.flush());
+    let status = term_status(end.flush_now());
     term.put(end);
     status
 }
 
 /// Hands out how many bytes are pending. `SAM_NO_HANDLE` if the handle is empty.
 #[unsafe(no_mangle)]
-pub extern "C" fn sam_term_out_len(term: &mut SamTerm, len: &mut usize, alloc: Global) -> u32
-    ensures told { Tells term.old.held.end result len.old len.new (λ e. length e.outbox) }
+pub extern "C" fn sam_term_pending(term: &mut SamTerm, len: &mut usize, alloc: Global) -> u32
+    ensures told { Reports term.old.held.end result len.old len.new (λ e. length e.pending_bytes) }
     ensures kept { term.new.held.end ≡ term.old.held.end }
 {
     let Some(end) = term.take(alloc) else {
@@ -87,7 +87,7 @@ pub extern "C" fn sam_term_out_len(term: &mut SamTerm, len: &mut usize, alloc: G
 /// Moves the first pending bytes into the buffer, as many as it has room for, and hands out how many. `SAM_NO_HANDLE` if the handle is
 /// empty.
 #[unsafe(no_mangle)]
-pub extern "C" fn sam_term_out(
+pub extern "C" fn sam_term_take_out(
     term: &mut SamTerm,
     into: &mut [u8],
     count: &mut usize,

@@ -1,10 +1,10 @@
-//! What C tells a terminal that the user did: include/sam.h says of each call what it does. An event acts at once if it can, or is held
+//! What C tells a terminal that the user did: include/sulgrevad.h says of each call what it does. An event acts at once if it can, or is held
 //! until the events before it have acted and the locks that it waits for are free. Each call also lets held events act, in order. What is
 //! composed is then pending. An event that is refused is told by `sam_term_next_refusal`, now or later. Places count runes from the
 //! beginning of the text.
 //!
 //! Each returns `SAM_OK`, `SAM_NO_MEMORY`, `SAM_UNFINISHED`, `SAM_COUNT_FULL`, `SAM_NO_HANDLE`, or why the terminal has stopped, at this
-//! call or before: `SAM_STREAM..`, `SAM_TERM_REFUSED..`. `SAM_NO_HANDLE` comes first; the order of the others is that of `TermEnd::put`.
+//! call or before: `SAM_STREAM..`, `SAM_TERM_REFUSED..`. `SAM_NO_HANDLE` comes first; the order of the others is that of `TermEndpoint::put`.
 
 ghost use Rattle.std.specs.Prelude.{◌≡◌};
 ghost use Rattle.sam_c.specs.Status.{read_status};
@@ -59,7 +59,7 @@ pub extern "C" fn sam_term_type(term: &mut SamTerm, tag: u16, text: &[u8], alloc
 /// Behind `SAM_NO_HANDLE`, and before all else, come `SAM_NOT_TEXT` if the text is not UTF-8, and `SAM_NO_MEMORY` if there is no memory
 /// for its runes. After these two the terminal is as it was.
 #[unsafe(no_mangle)]
-pub extern "C" fn sam_term_setsnarf(term: &mut SamTerm, text: &[u8], alloc: Global) -> u32
+pub extern "C" fn sam_term_set_snarf(term: &mut SamTerm, text: &[u8], alloc: Global) -> u32
     ensures { TermPutText term.old.held.end text.now (λ runes. SetSnarf runes) result term.new.held.end }
 {
     if !term.is_made() {
@@ -207,7 +207,7 @@ pub extern "C" fn sam_term_view(
 
 /// Opens the command file.
 #[unsafe(no_mangle)]
-pub extern "C" fn sam_term_opencmd(term: &mut SamTerm, alloc: Global) -> u32
+pub extern "C" fn sam_term_open_cmd(term: &mut SamTerm, alloc: Global) -> u32
     ensures { TermPut term.old.held.end OpenCmd result term.new.held.end }
 {
     put(term, UserEvent::OpenCmd, alloc)
@@ -223,7 +223,7 @@ pub extern "C" fn sam_term_new_file(term: &mut SamTerm, alloc: Global) -> u32
 
 /// Asks for the host's snarf buffer.
 #[unsafe(no_mangle)]
-pub extern "C" fn sam_term_getsnarf(term: &mut SamTerm, alloc: Global) -> u32
+pub extern "C" fn sam_term_get_snarf(term: &mut SamTerm, alloc: Global) -> u32
     ensures { TermPut term.old.held.end GetSnarf result term.new.held.end }
 {
     put(term, UserEvent::GetSnarf, alloc)
@@ -247,7 +247,7 @@ pub extern "C" fn sam_term_exit(term: &mut SamTerm, alloc: Global) -> u32
 
 /// Offers a version, and asks for the names of the host's files. Version 2 allows longer snarfed texts; there is no version 0.
 #[unsafe(no_mangle)]
-pub extern "C" fn sam_term_version(term: &mut SamTerm, version: u16, alloc: Global) -> u32
+pub extern "C" fn sam_term_offer_version(term: &mut SamTerm, version: u16, alloc: Global) -> u32
     ensures { TermPut term.old.held.end (Version version) result term.new.held.end }
 {
     put(term, UserEvent::Version(version), alloc)

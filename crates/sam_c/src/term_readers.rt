@@ -1,11 +1,11 @@
-//! What C reads of a terminal: include/sam.h says of each call what it hands out. None of them changes the terminal. Each returns
+//! What C reads of a terminal: include/sulgrevad.h says of each call what it hands out. None of them changes the terminal. Each returns
 //! `SAM_NO_HANDLE` if the handle is empty; after that, and after `SAM_NONE`, what its other arguments lead to is as it was. Places count
 //! runes from the beginning of the text.
 
 ghost use Rattle.std.specs.Prelude.{◌≡◌, Some, drop, is_some, length, option_and_then, option_copied, option_map};
-ghost use Rattle.sam_c.specs.Calls.{Tells, TellsCells, TellsName, TellsSome, TellsText, written};
+ghost use Rattle.sam_c.specs.Calls.{Reports, ReportsCells, ReportsName, ReportsSome, ReportsText, written};
 ghost use Rattle.sam_c.specs.Terms.{dot_of, gap_from, is_held_back, known_of, open_of, rasp_of, shown_of};
-ghost use Rattle.sam_ends.specs.TermEnds.{under_way};
+ghost use Rattle.sam_endpoint.specs.TermEndpoints.{under_way};
 ghost use Rattle.sam_rasp.specs.Rasp.{hole_within};
 ghost use Rattle.sam_term.specs.Sound.{unsent_length};
 ghost use Rattle.sam_term.specs.Term.{is_changed};
@@ -13,13 +13,13 @@ ghost use Rattle.sam_term.specs.Term.{is_changed};
 use crate::handle::SamTerm;
 use crate::status::{NO_HANDLE, NONE, OK};
 use crate::utf8::{runes_from, tell_name, tell_text};
-use sam_ends::{TermEnd, read_rasp};
+use sam_endpoint::{TermEndpoint, read_rasp};
 use sam_rasp::Rasp;
 use sam_term::records::KnownFile;
 use std::alloc::Global;
 
 /// Returns what the terminal knows of a tag; `None` if it knows no file of it.
-fn known_file(end: &TermEnd, tag: u16) -> Option<&KnownFile>
+fn known_file(end: &TermEndpoint, tag: u16) -> Option<&KnownFile>
     ensures { option_copied result ≡ known_of end.now tag }
 {
     let files = end.term().files();
@@ -33,7 +33,7 @@ fn known_file(end: &TermEnd, tag: u16) -> Option<&KnownFile>
 /// Hands out how many event calls were taken.
 #[unsafe(no_mangle)]
 pub extern "C" fn sam_term_events(term: &mut SamTerm, events: &mut u64, alloc: Global) -> u32
-    ensures told { Tells term.old.held.end result events.old events.new (λ e. e.events) }
+    ensures told { Reports term.old.held.end result events.old events.new (λ e. e.events) }
     ensures kept { term.new.held.end ≡ term.old.held.end }
 {
     let Some(end) = term.take(alloc) else {
@@ -46,13 +46,13 @@ pub extern "C" fn sam_term_events(term: &mut SamTerm, events: &mut u64, alloc: G
 
 /// Hands out whether the command lock or a lock of this file is held: an edit of the file would wait.
 #[unsafe(no_mangle)]
-pub extern "C" fn sam_term_is_locked(
+pub extern "C" fn sam_term_locked(
     term: &mut SamTerm,
     tag: u16,
     locked: &mut bool,
     alloc: Global,
 ) -> u32
-    ensures told { Tells term.old.held.end result locked.old locked.new (λ e. is_held_back e tag) }
+    ensures told { Reports term.old.held.end result locked.old locked.new (λ e. is_held_back e tag) }
     ensures kept { term.new.held.end ≡ term.old.held.end }
 {
     let Some(end) = term.take(alloc) else {
@@ -65,12 +65,12 @@ pub extern "C" fn sam_term_is_locked(
 
 /// Hands out whether the command lock is held.
 #[unsafe(no_mangle)]
-pub extern "C" fn sam_term_is_command_locked(
+pub extern "C" fn sam_term_command_locked(
     term: &mut SamTerm,
     locked: &mut bool,
     alloc: Global,
 ) -> u32
-    ensures told { Tells term.old.held.end result locked.old locked.new (λ e. e.term.command_lock) }
+    ensures told { Reports term.old.held.end result locked.old locked.new (λ e. e.term.command_lock) }
     ensures kept { term.new.held.end ≡ term.old.held.end }
 {
     let Some(end) = term.take(alloc) else {
@@ -84,7 +84,7 @@ pub extern "C" fn sam_term_is_command_locked(
 /// Hands out how many events are held.
 #[unsafe(no_mangle)]
 pub extern "C" fn sam_term_held(term: &mut SamTerm, events: &mut usize, alloc: Global) -> u32
-    ensures told { Tells term.old.held.end result events.old events.new (λ e. length e.term.held) }
+    ensures told { Reports term.old.held.end result events.old events.new (λ e. length e.term.held) }
     ensures kept { term.new.held.end ≡ term.old.held.end }
 {
     let Some(end) = term.take(alloc) else {
@@ -98,7 +98,7 @@ pub extern "C" fn sam_term_held(term: &mut SamTerm, events: &mut usize, alloc: G
 /// Hands out how many typed runes are not sent yet.
 #[unsafe(no_mangle)]
 pub extern "C" fn sam_term_unsent(term: &mut SamTerm, runes: &mut u32, alloc: Global) -> u32
-    ensures told { Tells term.old.held.end result runes.old runes.new (λ e. unsent_length e.term.unsent) }
+    ensures told { Reports term.old.held.end result runes.old runes.new (λ e. unsent_length e.term.unsent) }
     ensures kept { term.new.held.end ≡ term.old.held.end }
 {
     let Some(end) = term.take(alloc) else {
@@ -112,7 +112,7 @@ pub extern "C" fn sam_term_unsent(term: &mut SamTerm, runes: &mut u32, alloc: Gl
 /// Hands out how many messages were composed.
 #[unsafe(no_mangle)]
 pub extern "C" fn sam_term_sent(term: &mut SamTerm, messages: &mut u64, alloc: Global) -> u32
-    ensures told { Tells term.old.held.end result messages.old messages.new (λ e. e.term.sent) }
+    ensures told { Reports term.old.held.end result messages.old messages.new (λ e. e.term.sent) }
     ensures kept { term.new.held.end ≡ term.old.held.end }
 {
     let Some(end) = term.take(alloc) else {
@@ -128,7 +128,7 @@ pub extern "C" fn sam_term_sent(term: &mut SamTerm, messages: &mut u64, alloc: G
 /// taken them all.
 #[unsafe(no_mangle)]
 pub extern "C" fn sam_term_under_way(term: &mut SamTerm, messages: &mut u64, alloc: Global) -> u32
-    ensures told { Tells term.old.held.end result messages.old messages.new under_way }
+    ensures told { Reports term.old.held.end result messages.old messages.new under_way }
     ensures kept { term.new.held.end ≡ term.old.held.end }
 {
     let Some(end) = term.take(alloc) else {
@@ -142,7 +142,7 @@ pub extern "C" fn sam_term_under_way(term: &mut SamTerm, messages: &mut u64, all
 /// Hands out how many runes the host's snarf buffer has, as it told last.
 #[unsafe(no_mangle)]
 pub extern "C" fn sam_term_snarf_len(term: &mut SamTerm, runes: &mut u32, alloc: Global) -> u32
-    ensures told { Tells term.old.held.end result runes.old runes.new (λ e. e.term.snarf_length) }
+    ensures told { Reports term.old.held.end result runes.old runes.new (λ e. e.term.snarf_length) }
     ensures kept { term.new.held.end ≡ term.old.held.end }
 {
     let Some(end) = term.take(alloc) else {
@@ -155,8 +155,8 @@ pub extern "C" fn sam_term_snarf_len(term: &mut SamTerm, runes: &mut u32, alloc:
 
 /// Hands out whether the host has ended the session.
 #[unsafe(no_mangle)]
-pub extern "C" fn sam_term_has_exited(term: &mut SamTerm, exited: &mut bool, alloc: Global) -> u32
-    ensures told { Tells term.old.held.end result exited.old exited.new (λ e. e.term.has_exited) }
+pub extern "C" fn sam_term_exited(term: &mut SamTerm, exited: &mut bool, alloc: Global) -> u32
+    ensures told { Reports term.old.held.end result exited.old exited.new (λ e. e.term.has_exited) }
     ensures kept { term.new.held.end ≡ term.old.held.end }
 {
     let Some(end) = term.take(alloc) else {
@@ -169,8 +169,8 @@ pub extern "C" fn sam_term_has_exited(term: &mut SamTerm, exited: &mut bool, all
 
 /// Hands out the version of the protocol that both sides speak: 1 or 2.
 #[unsafe(no_mangle)]
-pub extern "C" fn sam_term_version_of(term: &mut SamTerm, version: &mut u16, alloc: Global) -> u32
-    ensures told { Tells term.old.held.end result version.old version.new (λ e. e.term.version) }
+pub extern "C" fn sam_term_version(term: &mut SamTerm, version: &mut u16, alloc: Global) -> u32
+    ensures told { Reports term.old.held.end result version.old version.new (λ e. e.term.version) }
     ensures kept { term.new.held.end ≡ term.old.held.end }
 {
     let Some(end) = term.take(alloc) else {
@@ -189,7 +189,7 @@ pub extern "C" fn sam_term_is_known(
     known: &mut bool,
     alloc: Global,
 ) -> u32
-    ensures told { Tells term.old.held.end result known.old known.new (λ e. is_some (known_of e tag)) }
+    ensures told { Reports term.old.held.end result known.old known.new (λ e. is_some (known_of e tag)) }
     ensures kept { term.new.held.end ≡ term.old.held.end }
 {
     let Some(end) = term.take(alloc) else {
@@ -208,7 +208,7 @@ pub extern "C" fn sam_term_is_open(
     opened: &mut bool,
     alloc: Global,
 ) -> u32
-    ensures told { Tells term.old.held.end result opened.old opened.new (λ e. is_some (open_of e tag)) }
+    ensures told { Reports term.old.held.end result opened.old opened.new (λ e. is_some (open_of e tag)) }
     ensures kept { term.new.held.end ≡ term.old.held.end }
 {
     let Some(end) = term.take(alloc) else {
@@ -223,7 +223,7 @@ pub extern "C" fn sam_term_is_open(
 /// named none.
 #[unsafe(no_mangle)]
 pub extern "C" fn sam_term_current(term: &mut SamTerm, tag: &mut u16, alloc: Global) -> u32
-    ensures told { TellsSome term.old.held.end result tag.old tag.new (λ e. e.term.current) }
+    ensures told { ReportsSome term.old.held.end result tag.old tag.new (λ e. e.term.current) }
     ensures kept { term.new.held.end ≡ term.old.held.end }
 {
     let Some(end) = term.take(alloc) else {
@@ -248,7 +248,7 @@ pub extern "C" fn sam_term_is_dirty(
     dirty: &mut bool,
     alloc: Global,
 ) -> u32
-    ensures told { TellsSome term.old.held.end result dirty.old dirty.new (λ e. option_map (λ f. f.dirty) (known_of e tag)) }
+    ensures told { ReportsSome term.old.held.end result dirty.old dirty.new (λ e. option_map (λ f. f.dirty) (known_of e tag)) }
     ensures kept { term.new.held.end ≡ term.old.held.end }
 {
     let Some(end) = term.take(alloc) else {
@@ -274,7 +274,7 @@ pub extern "C" fn sam_term_is_changed(
     changed: &mut bool,
     alloc: Global,
 ) -> u32
-    ensures told { Tells term.old.held.end result changed.old changed.new (λ e. is_changed e.term tag) }
+    ensures told { Reports term.old.held.end result changed.old changed.new (λ e. is_changed e.term tag) }
     ensures kept { term.new.held.end ≡ term.old.held.end }
 {
     let Some(end) = term.take(alloc) else {
@@ -288,7 +288,7 @@ pub extern "C" fn sam_term_is_changed(
 /// Hands out the length of an open file in runes, gaps counted. `SAM_NONE` if it is not open.
 #[unsafe(no_mangle)]
 pub extern "C" fn sam_term_len(term: &mut SamTerm, tag: u16, runes: &mut u32, alloc: Global) -> u32
-    ensures told { TellsSome term.old.held.end result runes.old runes.new (λ e. option_map (λ w. length w.rasp) (open_of e tag)) }
+    ensures told { ReportsSome term.old.held.end result runes.old runes.new (λ e. option_map (λ w. length w.rasp) (open_of e tag)) }
     ensures kept { term.new.held.end ≡ term.old.held.end }
 {
     let Some(end) = term.take(alloc) else {
@@ -314,7 +314,7 @@ pub extern "C" fn sam_term_dot(
     end: &mut u32,
     alloc: Global,
 ) -> u32
-    ensures told { TellsSome term.old.held.end result (start.old, end.old) (start.new, end.new) (λ e. dot_of e tag) }
+    ensures told { ReportsSome term.old.held.end result (start.old, end.old) (start.new, end.new) (λ e. dot_of e tag) }
     ensures kept { term.new.held.end ≡ term.old.held.end }
 {
     let Some(held) = term.take(alloc) else {
@@ -341,7 +341,7 @@ pub extern "C" fn sam_term_view_of(
     end: &mut u32,
     alloc: Global,
 ) -> u32
-    ensures told { TellsSome term.old.held.end result (start.old, end.old) (start.new, end.new) (λ e. option_map shown_of (open_of e tag)) }
+    ensures told { ReportsSome term.old.held.end result (start.old, end.old) (start.new, end.new) (λ e. option_map shown_of (open_of e tag)) }
     ensures kept { term.new.held.end ≡ term.old.held.end }
 {
     let Some(held) = term.take(alloc) else {
@@ -362,7 +362,7 @@ pub extern "C" fn sam_term_view_of(
 /// Hands out how many tags the terminal has room for: each file that it knows has a tag below this.
 #[unsafe(no_mangle)]
 pub extern "C" fn sam_term_tags(term: &mut SamTerm, count: &mut usize, alloc: Global) -> u32
-    ensures told { Tells term.old.held.end result count.old count.new (λ e. length e.term.files) }
+    ensures told { Reports term.old.held.end result count.old count.new (λ e. length e.term.files) }
     ensures kept { term.new.held.end ≡ term.old.held.end }
 {
     let Some(end) = term.take(alloc) else {
@@ -383,7 +383,7 @@ pub extern "C" fn sam_term_name(
     len: &mut usize,
     alloc: Global,
 ) -> u32
-    ensures told { TellsName term.old.held.end result into.old into.new len.old len.new (λ e. option_map (λ f. f.name) (known_of e tag)) }
+    ensures told { ReportsName term.old.held.end result into.old into.new len.old len.new (λ e. option_map (λ f. f.name) (known_of e tag)) }
     ensures kept { term.new.held.end ≡ term.old.held.end }
 {
     let Some(end) = term.take(alloc) else {
@@ -405,7 +405,7 @@ pub extern "C" fn sam_term_pattern(
     len: &mut usize,
     alloc: Global,
 ) -> u32
-    ensures told { TellsName term.old.held.end result into.old into.new len.old len.new (λ e. Some e.term.pattern) }
+    ensures told { ReportsName term.old.held.end result into.old into.new len.old len.new (λ e. Some e.term.pattern) }
     ensures kept { term.new.held.end ≡ term.old.held.end }
 {
     let Some(end) = term.take(alloc) else {
@@ -416,7 +416,7 @@ pub extern "C" fn sam_term_pattern(
     status
 }
 
-/// Puts the snarfed text that the host sent last (`sam_term_getsnarf`), from a place on, into the buffer in UTF-8, as many whole runes as
+/// Puts the snarfed text that the host sent last (`sam_term_get_snarf`), from a place on, into the buffer in UTF-8, as many whole runes as
 /// have room. Hands out how many bytes and how many runes.
 #[unsafe(no_mangle)]
 pub extern "C" fn sam_term_snarfed(
@@ -427,7 +427,7 @@ pub extern "C" fn sam_term_snarfed(
     runes: &mut usize,
     alloc: Global,
 ) -> u32
-    ensures told { TellsText term.old.held.end result (written into.old bytes.old runes.old) (written into.new bytes.new runes.new)
+    ensures told { ReportsText term.old.held.end result (written into.old bytes.old runes.old) (written into.new bytes.new runes.new)
         (λ e. Some (drop place e.term.snarf)) }
     ensures kept { term.new.held.end ≡ term.old.held.end }
 {
@@ -450,7 +450,7 @@ pub extern "C" fn sam_term_read(
     count: &mut usize,
     alloc: Global,
 ) -> u32
-    ensures told { TellsCells term.old.held.end result into.old into.new count.old count.new place (λ e. rasp_of e tag) }
+    ensures told { ReportsCells term.old.held.end result into.old into.new count.old count.new place (λ e. rasp_of e tag) }
     ensures kept { term.new.held.end ≡ term.old.held.end }
 {
     let Some(end) = term.take(alloc) else {
@@ -490,7 +490,7 @@ pub extern "C" fn sam_term_first_gap(
     gap: &mut u32,
     alloc: Global,
 ) -> u32
-    ensures told { TellsSome term.old.held.end result gap.old gap.new (λ e. option_and_then (gap_from place) (open_of e tag)) }
+    ensures told { ReportsSome term.old.held.end result gap.old gap.new (λ e. option_and_then (gap_from place) (open_of e tag)) }
     ensures kept { term.new.held.end ≡ term.old.held.end }
 {
     let Some(end) = term.take(alloc) else {

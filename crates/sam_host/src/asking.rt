@@ -2,7 +2,7 @@
 //! for a kind leaves the count of messages to its caller, and after an error the host is unchanged.
 
 ghost use Rattle.std.specs.Prelude.{◌≡◌, ◌<◌, ◌≤◌, ◌+◌, ◌^◌, IfOk, OnOk, OnErr, Err, None, length};
-ghost use Rattle.sam_host.specs.Host.{host_checks, Refuses, Tells, stamped, told_found, reply_check, reply_request, reply_origin, reply_look, reply_search, reply_dclick};
+ghost use Rattle.sam_host.specs.Host.{host_checks, Refuses, Appends, stamped, told_found, reply_check, reply_request, reply_origin, reply_look, reply_search, reply_dclick};
 ghost use Rattle.sam_runes.specs.Texts.{lines_before};
 ghost use Rattle.sam_runes.specs.Checks.{first_of_checks};
 ghost use Rattle.sam_text.specs.Files.{file_at};
@@ -126,7 +126,7 @@ impl Host {
         q: u32,
     ) -> Result<(), HostFault>
         requires count { self.now.taken + 1 < 2 ^ 64 }
-        ensures ok { OnOk result (Tells self.now frames.old.items frames.new.items (told_found tag (p, q))) }
+        ensures ok { OnOk result (Appends self.now frames.old.items frames.new.items (told_found tag (p, q))) }
         ensures memory { OnErr result (result ≡ Err HostFault.OutOfMemory) }
     {
         self.say(frames, Hmesg::Hsetdot(tag, p, q))?;

@@ -2,7 +2,7 @@
 //! method for a kind leaves the count of messages to its caller, and after an error the host is unchanged.
 
 ghost use Rattle.std.specs.Prelude.{◌≡◌, ◌<◌, ◌≤◌, ◌+◌, ◌∷◌, [], ◌^◌, IfOk, OnOk, OnErr, Err, None, IsTrue, true, length};
-ghost use Rattle.sam_host.specs.Host.{host_checks, Refuses, Tells, stamped, told_paste, with_file, reply_cut, reply_paste, reply_snarf, reply_setsnarf, reply_startsnarf, reply_write};
+ghost use Rattle.sam_host.specs.Host.{host_checks, Refuses, Appends, stamped, told_paste, with_file, reply_cut, reply_paste, reply_snarf, reply_setsnarf, reply_startsnarf, reply_write};
 ghost use Rattle.sam_runes.specs.Texts.{max_runes};
 ghost use Rattle.sam_runes.specs.Checks.{first_of_checks};
 ghost use Rattle.sam_text.specs.Files.{has_file, file_at, typed_file, pasted_file};
@@ -37,7 +37,7 @@ impl Host {
     /// Tells how a paste ends: the dot is what was pasted, from `p` to `q`, the terminal is to look for gaps, and the file is free.
     fn end_paste(&self, frames: &mut Vec<HFrame>, tag: u16, p: u32, q: u32) -> Result<(), HostFault>
         requires count { self.now.taken + 1 < 2 ^ 64 }
-        ensures ok { OnOk result (Tells self.now frames.old.items frames.new.items
+        ensures ok { OnOk result (Appends self.now frames.old.items frames.new.items
             (Hmesg.Hsetdot tag p q ∷ Hmesg.Hcheck tag ∷ Hmesg.Hunlockfile tag ∷ [])) }
         ensures memory { OnErr result (result ≡ Err HostFault.OutOfMemory) }
     {

@@ -3,7 +3,7 @@
 //! unchanged.
 
 ghost use Rattle.std.specs.Prelude.{◌≡◌, ◌<◌, ◌+◌, ◌∷◌, [], ◌^◌, IfOk, OnOk, OnErr, Err, None, Some, true, not, drop};
-ghost use Rattle.sam_host.specs.Host.{host_checks, Refuses, Tells, stamped, when, told_length, told_names, with_files, reply_version, reply_startcmdfile, reply_startfile, reply_workfile, reply_close, reply_exit};
+ghost use Rattle.sam_host.specs.Host.{host_checks, Refuses, Appends, stamped, when, told_length, told_names, with_files, reply_version, reply_startcmdfile, reply_startfile, reply_workfile, reply_close, reply_exit};
 ghost use Rattle.sam_runes.specs.Checks.{first_of_checks};
 ghost use Rattle.sam_text.specs.Files.{file_at, has_file, change_file};
 ghost use Rattle.sam_text.specs.Views.{changed, FitsIn};
@@ -18,7 +18,7 @@ impl Host {
     /// Tells how the answer to `Tversion` ends: the terminal is asked for a `Tack`, and the command lock is free.
     fn tell_ready(&self, frames: &mut Vec<HFrame>) -> Result<(), HostFault>
         requires count { self.now.taken + 1 < 2 ^ 64 }
-        ensures ok { OnOk result (Tells self.now frames.old.items frames.new.items (Hmesg.Hack ∷ Hmesg.Hunlock ∷ [])) }
+        ensures ok { OnOk result (Appends self.now frames.old.items frames.new.items (Hmesg.Hack ∷ Hmesg.Hunlock ∷ [])) }
         ensures memory { OnErr result (result ≡ Err HostFault.OutOfMemory) }
     {
         self.say(frames, Hmesg::Hack)?;
@@ -30,7 +30,7 @@ impl Host {
     #[tactic(auto, using(crate::proofs::NameLaws::names_done, crate::proofs::NameLaws::name_told))]
     fn tell_names(&self, frames: &mut Vec<HFrame>) -> Result<(), HostFault>
         requires count { self.now.taken + 1 < 2 ^ 64 }
-        ensures ok { OnOk result (Tells self.now frames.old.items frames.new.items (told_names 1 (drop 1 self.now.files.slots))) }
+        ensures ok { OnOk result (Appends self.now frames.old.items frames.new.items (told_names 1 (drop 1 self.now.files.slots))) }
         ensures memory { OnErr result (result ≡ Err HostFault.OutOfMemory) }
     {
         let tags = self.files.tags();
@@ -78,7 +78,7 @@ impl Host {
         ensures count { self.new.taken ≡ self.old.taken }
         ensures unchanged { OnErr result (self.new ≡ self.old) }
     {
-        self.files.known();
+        self.files.facts();
         let mut frames = Vec::new(self.alloc);
         if self.files.is_open(0) {
             self.say(&mut frames, Hmesg::Hunlock)?;
@@ -98,7 +98,7 @@ impl Host {
     #[tactic(auto, unfolding(crate::specs::Host::when))]
     fn tell_opening(&self, frames: &mut Vec<HFrame>, tag: u16) -> Result<(), HostFault>
         requires count { self.now.taken + 1 < 2 ^ 64 }
-        ensures ok { OnOk result (Tells self.now frames.old.items frames.new.items
+        ensures ok { OnOk result (Appends self.now frames.old.items frames.new.items
             (when (not (file_at self.now.files tag).opened) (Hmesg.Hbindname tag ∷ told_length tag (file_at self.now.files tag)))) }
         ensures memory { OnErr result (result ≡ Err HostFault.OutOfMemory) }
     {

@@ -38,9 +38,9 @@ impl Host {
     /// Tells what is true of every host: texts and names are within their limits, each dot is a range of its text, and the version is 1 or
     /// 2. It does nothing when the program runs.
     #[tactic(auto, using(crate::proofs::SoundLaws::known_sound))]
-    pub fn known(&self)
+    pub fn facts(&self)
         ensures { IsSound self.now }
     {
-        self.files.known();
+        self.files.facts();
     }
 }

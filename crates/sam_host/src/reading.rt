@@ -83,7 +83,7 @@ impl Host {
         ensures limit { OnOk result (q ≤ max_runes) }
     {
         self.wants_open(tag)?;
-        self.files.known_file(tag);
+        self.files.file_facts(tag);
         if self.files.lacks_range(tag, p, q) {
             return Err(HostFault::BadPosition);
         }

@@ -2,7 +2,7 @@
 //! will have. The only error of each is `OutOfMemory`, and the caller then drops the frames.
 
 ghost use Rattle.std.specs.Prelude.{◌≡◌, ◌<◌, ◌≤◌, ◌+◌, ◌++◌, ◌∷◌, [], ◌^◌, OnOk, OnErr, Err, drop, length};
-ghost use Rattle.sam_host.specs.Host.{Tells, grown, told_dirty, told_length, printed, told_at};
+ghost use Rattle.sam_host.specs.Host.{Appends, grown, told_dirty, told_length, printed, told_at};
 ghost use Rattle.sam_runes.specs.Texts.{max_runes};
 ghost use Rattle.sam_runes.specs.Slots.{slot};
 ghost use Rattle.sam_text.specs.Files.{file_at};
@@ -37,7 +37,7 @@ impl Host {
     ) -> Result<(), HostFault>
         requires count { self.now.taken + 1 < 2 ^ 64 }
         requires limit { length runes.now ≤ max_runes }
-        ensures ok { OnOk result (Tells self.now frames.old.items frames.new.items (grown self.now.files tag p runes.now)) }
+        ensures ok { OnOk result (Appends self.now frames.old.items frames.new.items (grown self.now.files tag p runes.now)) }
         ensures memory { OnErr result (result ≡ Err HostFault.OutOfMemory) }
     {
         if !self.files.is_open(tag) || runes.is_empty() {
@@ -54,7 +54,7 @@ impl Host {
     #[tactic(auto, unfolding(crate::specs::Host::when))]
     pub(crate) fn tell_dirty(&self, frames: &mut Vec<HFrame>, tag: u16) -> Result<(), HostFault>
         requires count { self.now.taken + 1 < 2 ^ 64 }
-        ensures ok { OnOk result (Tells self.now frames.old.items frames.new.items (told_dirty self.now.files tag)) }
+        ensures ok { OnOk result (Appends self.now frames.old.items frames.new.items (told_dirty self.now.files tag)) }
         ensures memory { OnErr result (result ≡ Err HostFault.OutOfMemory) }
     {
         if self.files.is_dirty(tag) || tag == 0 {
@@ -67,7 +67,7 @@ impl Host {
     #[tactic(auto, unfolding(crate::specs::Host::told_length, crate::specs::Host::when))]
     pub(crate) fn tell_length(&self, frames: &mut Vec<HFrame>, tag: u16) -> Result<(), HostFault>
         requires count { self.now.taken + 1 < 2 ^ 64 }
-        ensures ok { OnOk result (Tells self.now frames.old.items frames.new.items (told_length tag (file_at self.now.files tag))) }
+        ensures ok { OnOk result (Appends self.now frames.old.items frames.new.items (told_length tag (file_at self.now.files tag))) }
         ensures memory { OnErr result (result ≡ Err HostFault.OutOfMemory) }
     {
         let len = self.text_len(tag);
@@ -80,7 +80,7 @@ impl Host {
     /// Tells how a print ends: the command file's dot is empty at its new end, and the terminal is to look for gaps.
     fn end_print(&self, frames: &mut Vec<HFrame>, end: u32) -> Result<(), HostFault>
         requires count { self.now.taken + 1 < 2 ^ 64 }
-        ensures ok { OnOk result (Tells self.now frames.old.items frames.new.items (Hmesg.Hsetdot 0 end end ∷ Hmesg.Hcheck 0 ∷ [])) }
+        ensures ok { OnOk result (Appends self.now frames.old.items frames.new.items (Hmesg.Hsetdot 0 end end ∷ Hmesg.Hcheck 0 ∷ [])) }
         ensures memory { OnErr result (result ≡ Err HostFault.OutOfMemory) }
     {
         self.say(frames, Hmesg::Hsetdot(0, end, end))?;
@@ -96,7 +96,7 @@ impl Host {
         runes: &[char],
     ) -> Result<(), HostFault>
         requires count { self.now.taken + 1 < 2 ^ 64 }
-        ensures ok { OnOk result (Tells self.now frames.old.items frames.new.items (printed self.now.files runes.now)) }
+        ensures ok { OnOk result (Appends self.now frames.old.items frames.new.items (printed self.now.files runes.now)) }
         ensures memory { OnErr result (result ≡ Err HostFault.OutOfMemory) }
     {
         let len = self.text_len(0);
@@ -114,7 +114,7 @@ impl Host {
     #[tactic(auto, unfolding(crate::specs::Host::when))]
     pub(crate) fn tell_name(&self, frames: &mut Vec<HFrame>, tag: u16) -> Result<(), HostFault>
         requires count { self.now.taken + 1 < 2 ^ 64 }
-        ensures ok { OnOk result (Tells self.now frames.old.items frames.new.items (told_at tag (slot self.now.files.slots tag))) }
+        ensures ok { OnOk result (Appends self.now frames.old.items frames.new.items (told_at tag (slot self.now.files.slots tag))) }
         ensures memory { OnErr result (result ≡ Err HostFault.OutOfMemory) }
     {
         let Some(file) = self.files.file(tag) else {

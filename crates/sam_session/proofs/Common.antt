@@ -25,6 +25,6 @@ pub use Rattle.sam_session.specs.Threading.{HasAllUsers, IsSessionFault, IsThrea
 pub use Rattle.sam_session.specs.Words.{HoldsMode, attached, attached_from, bytes_app, program, threads_app}
 pub use Rattle.sam_session.specs.declared.fault.PlayFault.{PlayFault}
 pub use Rattle.sam_session.specs.declared.fault.PlayFault.TheVariants.{OutOfMemory, Read, Side, Threads, Write}
-pub use Rattle.sam_threads.specs.declared.input.Input.TheVariants.{Host, User}
-pub use Rattle.sam_threads.specs.declared.stop.Stop.{Stop}
-pub use Rattle.sam_threads.specs.declared.stop.Stop.TheVariants.{Frame}
+pub use Rattle.sam_workers.specs.declared.input.Input.TheVariants.{Host, User}
+pub use Rattle.sam_workers.specs.declared.stop.Stop.{Stop}
+pub use Rattle.sam_workers.specs.declared.stop.Stop.TheVariants.{Frame}

@@ -10,11 +10,11 @@ use Rattle.sam_host.specs.declared.fault.HostFault.TheVariants as refusal
 use Rattle.sam_frame.specs.Direction.{terminal}
 use Rattle.sam_frame.specs.Stream.{Splits, version_after}
 use Rattle.sam_frame.specs.Splitting.{Ends}
-pub use Rattle.sam_threads.specs.Numbers.{refusal_number, frame_number}
+pub use Rattle.sam_workers.specs.Numbers.{refusal_number, frame_number}
 use Rattle.sam_session.specs.Serving.{serve}
-use Rattle.sam_threads.specs.declared.stop.Stop.{Stop}
-use Rattle.sam_threads.specs.declared.stop.Stop.TheVariants.{Frame}
-use Rattle.sam_threads.specs.declared.stop.Stop.TheVariants.{Host}
+use Rattle.sam_workers.specs.declared.stop.Stop.{Stop}
+use Rattle.sam_workers.specs.declared.stop.Stop.TheVariants.{Frame}
+use Rattle.sam_workers.specs.declared.stop.Stop.TheVariants.{Host}
 use Rattle.sam_session.specs.declared.fault.PlayFault.{PlayFault}
 use Rattle.sam_session.specs.declared.fault.PlayFault.TheVariants.{Script, Side, Threads}
 

@@ -14,9 +14,9 @@ use Rattle.sam_frame.specs.Stream.{CanEncode, Splits, Shows, version_after}
 use Rattle.sam_frame.specs.Framing.{Held, GaveAll}
 use Rattle.sam_session.specs.Serving.{serve}
 use Rattle.sam_session.specs.Outcome.{refusal_number, frame_number}
-use Rattle.sam_threads.specs.declared.stop.Stop.{Stop}
-use Rattle.sam_threads.specs.declared.stop.Stop.TheVariants.{Frame}
-use Rattle.sam_threads.specs.declared.stop.Stop.TheVariants.{Host}
+use Rattle.sam_workers.specs.declared.stop.Stop.{Stop}
+use Rattle.sam_workers.specs.declared.stop.Stop.TheVariants.{Frame}
+use Rattle.sam_workers.specs.declared.stop.Stop.TheVariants.{Host}
 use Rattle.sam_session.specs.declared.fault.PlayFault.{PlayFault}
 use Rattle.sam_session.specs.declared.fault.PlayFault.TheVariants.{Side, OutOfMemory}
 

@@ -3,7 +3,7 @@ use Rattle.std.specs.Prelude.{◌≡◌, ◌≤◌, ℕ, List, length}
 use Rattle.sam_script.specs.Replay as replay
 use Rattle.sam_script.specs.declared.fault.ScriptFault.{ScriptFault}
 use Rattle.sam_script.specs.declared.fault.ScriptFault.TheVariants as fault
-use Rattle.sam_threads.specs.declared.stop.Stop.TheVariants.{Host}
+use Rattle.sam_workers.specs.declared.stop.Stop.TheVariants.{Host}
 use Rattle.sam_session.specs.declared.fault.PlayFault.{PlayFault}
 use Rattle.sam_session.specs.declared.fault.PlayFault.TheVariants.{Script, Read, Write, Side, Threads, OutOfMemory}
 use Rattle.sam_session.specs.Limits.{most_input}

@@ -8,12 +8,12 @@ use Rattle.sam_script.specs.Spelling.{IsWrongLine}
 use Rattle.sam_term.specs.declared.event.UserEvent.{UserEvent}
 use Rattle.sam_term.specs.declared.event.UserEvent.TheVariants.{Exit}
 use Rattle.sam_world.specs.Logs.{users}
-use Rattle.sam_world.specs.World.{PlainWorld, new_world, run_of, IsSettled}
+use Rattle.sam_world.specs.World.{PlainWorld, new_world, run_of, SidesAgree}
 use Rattle.sam_world.specs.declared.event.Event.{Event}
-use Rattle.sam_running.specs.Session.{IsSession}
-use Rattle.sam_settling.specs.declared.settled.Settled.{Settled}
-use Rattle.sam_threads.specs.declared.stop.Stop.{Stop}
-use Rattle.sam_threads.specs.declared.stop.Stop.TheVariants as stop
+use Rattle.sam_spawn.specs.Session.{IsSession}
+use Rattle.sam_settle.specs.declared.settled.Settled.{Settled}
+use Rattle.sam_workers.specs.declared.stop.Stop.{Stop}
+use Rattle.sam_workers.specs.declared.stop.Stop.TheVariants as stop
 use Rattle.sam_session.specs.Replaying.{IsShort}
 use Rattle.sam_session.specs.declared.fault.PlayFault.{PlayFault}
 use Rattle.sam_session.specs.declared.fault.PlayFault.TheVariants.{Script, Read, Write, Side, Threads, OutOfMemory}
@@ -69,7 +69,7 @@ pub record IsSchedule (script : PlainScript) (schedule : List Event) (world : Pl
   pub run : run_of (new_world script.files) schedule ≡ Some world
   pub users : HasAllUsers script schedule
   pub exited : world.term.has_exited ≡ true
-  pub settled : IsSettled world
+  pub settled : SidesAgree world
 
 -- what is written is a schedule of the script, as a script, and what its end shows
 abbrev pub PrintsSession : List ℕ → PlainScript → Type 0

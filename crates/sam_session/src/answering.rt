@@ -12,7 +12,7 @@ use sam_frame::encode_all;
 use sam_host::fault::HostFault;
 use sam_host::host::Host;
 use sam_mesg::{HFrame, Tmesg};
-use sam_threads::Stop;
+use sam_workers::Stop;
 use std::alloc::Global;
 use std::io::Write;
 

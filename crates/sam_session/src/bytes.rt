@@ -12,11 +12,11 @@ ghost use Rattle.sam_session.specs.Pieces.{AllFit, AnswersBefore, PieceAnswers, 
 use crate::answering::answer_all;
 use crate::fault::PlayFault;
 use crate::reading::{MOST_INPUT, PIECE, read_piece};
-use crate::start::first_host;
+use crate::start::host_of_text;
 use sam_frame::{FeedFault, FramerT};
 use sam_host::host::Host;
 use sam_mesg::Tmesg;
-use sam_threads::Stop;
+use sam_workers::Stop;
 use std::alloc::Global;
 use std::io::{Read, Write};
 
@@ -44,7 +44,7 @@ pub fn play_bytes<R: Read, W: Write>(
         (W.contents writer.new) (λ input written. Plays (host_of text.now) input written (Some stop)))) }
     ensures fault { IfErr result IsOfBytes }
 {
-    let Ok(mut host) = first_host(alloc, text) else {
+    let Ok(mut host) = host_of_text(alloc, text) else {
         return Err(PlayFault::OutOfMemory);
     };
     answer_input(alloc, reader, writer, &mut host)

@@ -18,9 +18,9 @@ pub use fault::{PlayFault, status_of};
 pub use law::one_outcome;
 pub use reading::{MOST_INPUT, PIECE};
 pub use run::play;
-pub use sam_running::{RunFault, run_ends, run_threads};
-pub use sam_settling::{SettleFault, Settled, settle};
-pub use sam_threads::{
+pub use sam_settle::{SettleFault, Settled, settle};
+pub use sam_spawn::{RunFault, run_ends, run_threads};
+pub use sam_workers::{
     Ends, Fed, FlagGate, Gate, HostEnd, Input, Lines, OpenGate, ReaderEnd, Starts, Stop, TermEnd,
     UserEnd, feed_terminal,
 };

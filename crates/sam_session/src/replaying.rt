@@ -8,7 +8,7 @@ ghost use Rattle.sam_session.specs.Status.{IsTold};
 use crate::fault::PlayFault;
 use crate::input::{read_all, write_or_tell};
 use sam_script::{ScriptFault, replay_bytes};
-use sam_threads::Stop;
+use sam_workers::Stop;
 use std::alloc::Global;
 use std::io::{Read, Write};
 

@@ -11,7 +11,7 @@ use std::alloc::Global;
 
 /// Makes the host whose file 1 is named `file` and holds the text, which has at most `MAX_RUNES` runes. The error is want of memory.
 #[tactic(auto, unfolding(crate::specs::Start::host_of))]
-pub(crate) fn first_host(alloc: Global, text: &[char]) -> Result<Host, HostFault>
+pub(crate) fn host_of_text(alloc: Global, text: &[char]) -> Result<Host, HostFault>
     requires { length text.now ≤ max_runes }
     ensures { IfOk result (λ h. h ≡ host_of text.now) }
 {

@@ -12,10 +12,10 @@ ghost use Rattle.sam_session.specs.Threading.{of_stops, IsThreaded, IsThreadsFau
 use crate::fault::PlayFault;
 use crate::input::{read_all, write_or_tell};
 use crate::replaying::of_script;
-use sam_running::{RunFault, run_threads};
 use sam_script::{Script, run_lines, show};
-use sam_settling::Settled;
-use sam_threads::{OpenGate, Stop};
+use sam_settle::Settled;
+use sam_spawn::{RunFault, run_threads};
+use sam_workers::{OpenGate, Stop};
 use std::alloc::Global;
 use std::io::{Read, Write};
 use std::sync::Wait;

@@ -24,7 +24,7 @@ pub use Rattle.sam_term.specs.Sound.{FitsWindow, IsSound, seen}
 unfoldable pub use Rattle.sam_term.specs.Sound.{FitsUnsent, IsShort}
 pub use Rattle.sam_term.specs.Taking.{IsAnswer, IsFailure, not_done}
 unfoldable pub use Rattle.sam_term.specs.Taking.{countable, done}
-pub use Rattle.sam_term.specs.Term.{Made, PlainTerminal, act_on, all_composed, and_then, asked, composed, cut_rasp, cuts_dot, decided, edited, event_checks, event_outcome, frame_outcome, freed_known, has_empty_dot, has_long_text, if_countable, ins_rasp, is_any_locked, is_open, joined, joins, kept_unsent, known_at, lock_taken, moved_unsent, put_known, put_window, rasp_at, request_for, sends, sends_if, set_dot_of, typed_rasp, types, unchanged, unsent_message, view_end, wanted, window_after_del, window_after_ins, window_at, window_of}
+pub use Rattle.sam_term.specs.Term.{Made, PlainTerminal, act_on, all_composed, made_then, asked, composed, cut_rasp, cuts_dot, decided, edited, event_checks, event_outcome, frame_outcome, freed_known, has_empty_dot, has_long_text, if_countable, ins_rasp, is_any_locked, is_open, joined, joins, kept_unsent, known_at, lock_taken, moved_unsent, put_known, put_window, rasp_at, request_for, sends, sends_if, set_dot_of, typed_rasp, types, unchanged, unsent_message, view_end, wanted, window_after_del, window_after_ins, window_at, window_of}
 unfoldable pub use Rattle.sam_term.specs.Term.{act_of, flush_of, flushed, made_by_cut, made_by_paste, made_by_snarf, made_by_type, made_by_view, requested, take_of, took_bindname, took_close, took_cut, took_data, took_exit, took_grow, took_growdata, took_unlockfile}
 pub use Rattle.sam_term.specs.Windows.{blank_known, blank_window, known_in, window_in}
 pub use Rattle.sam_term.specs.declared.event.Acted.{Acted}

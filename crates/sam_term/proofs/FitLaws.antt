@@ -1,5 +1,5 @@
 -- What is composed fits in the terminal's version.
-use Rattle.sam_term.proofs.Common.{◌≡◌, ◌≤◌, ◌++◌, refl, sym, ap, ◌∙◌, subst, ℕ, Bool, true, false, List, [], ◌∷◌, length, length-append, Option, Some, None, if◌then◌else◌, arith, map, ltb-false, le-leb, is_empty, most_in_message, first_of_checks, place_after_ins, place_after_del, hole_within, Unsent, is_command_line, file_of, UserEvent, Typed, Select, Cut, Paste, Snarf, View, SetSnarf, Flush, all_fit, IsSound, IsShort, PlainTerminal, Made, window_at, cut_rasp, all_composed, flushed, unsent_message, and_then, sends, sends_if, unchanged, requested, request_for, view_end, joins, joined, kept_unsent, typed_rasp, types, cuts_dot, event_outcome, made_by_type, made_by_cut, made_by_paste, made_by_snarf, made_by_view, frame_outcome, moved_unsent, event_checks, has_long_text, took_unlockfile, Tmesg, Tpaste, Hmesg}
+use Rattle.sam_term.proofs.Common.{◌≡◌, ◌≤◌, ◌++◌, refl, sym, ap, ◌∙◌, subst, ℕ, Bool, true, false, List, [], ◌∷◌, length, length-append, Option, Some, None, if◌then◌else◌, arith, map, ltb-false, le-leb, is_empty, most_in_message, first_of_checks, place_after_ins, place_after_del, hole_within, Unsent, is_command_line, file_of, UserEvent, Typed, Select, Cut, Paste, Snarf, View, SetSnarf, Flush, all_fit, IsSound, IsShort, PlainTerminal, Made, window_at, cut_rasp, all_composed, flushed, unsent_message, made_then, sends, sends_if, unchanged, requested, request_for, view_end, joins, joined, kept_unsent, typed_rasp, types, cuts_dot, event_outcome, made_by_type, made_by_cut, made_by_paste, made_by_snarf, made_by_view, frame_outcome, moved_unsent, event_checks, has_long_text, took_unlockfile, Tmesg, Tpaste, Hmesg}
 use Rattle.sam_term.proofs.Acts.{none_holds, test_at}
 use Rattle.sam_term.proofs.Edits.{unsent-all, unsent-flushed}
 use Rattle.sam_term.proofs.Grows.{moved_short}
@@ -25,7 +25,7 @@ good-flushed : (v : ℕ) (t : PlainTerminal) → IsShort t.unsent → Good v (fl
 unfolding flushed
 good-flushed v t k = grind (arith, fit-unsent, short-none)
 
-good-then : (v : ℕ) (made : Made) (next : PlainTerminal → Made) → Good v made → Good v (next made.0) → Good v (and_then made next)
+good-then : (v : ℕ) (made : Made) (next : PlainTerminal → Made) → Good v made → Good v (next made.0) → Good v (made_then made next)
 good-then v made next a b = record { fits = fit-append v made.1 (next made.0).1 a.fits b.fits; short = b.short }
 
 good-if : (v : ℕ) (b : Bool) (x y : Made) → (b ≡ true → Good v x) → (b ≡ false → Good v y) → Good v (if b then x else y)

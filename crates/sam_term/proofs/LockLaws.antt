@@ -1,5 +1,5 @@
 -- What events, flushes and frames do to the locks, and to the request that is awaited.
-use Rattle.sam_term.proofs.Common.{◌≡◌, refl, ap, ◌∙◌, subst, ℕ, ◌+◌, ◌-◌, Bool, true, false, List, [], ◌∷◌, ◌++◌, Option, Some, None, if◌then◌else◌, ◌==◌, arith, ◌||◌, unwrap_or, slot, free_slot, map_slots, slot-free_same, slot-free_other, slot-map, if-same, Lock, Window, KnownFile, lock_of, is_command_line, UserEvent, Typed, Select, Cut, Paste, Snarf, View, Flush, PlainTerminal, Made, known_at, window_at, put_known, put_window, edited, cut_rasp, lock_taken, asked, composed, all_composed, flushed, unsent_message, and_then, sends, sends_if, unchanged, requested, wanted, kept_unsent, typed_rasp, types, event_outcome, made_by_type, made_by_cut, made_by_paste, made_by_snarf, made_by_view, frame_outcome, freed_known, took_bindname, took_data, took_grow, took_growdata, took_cut, took_unlockfile, took_close, took_exit, blank_window, blank_known, Tmesg, Trequest, Tack, Hmesg, Hbindname, Hnewname, Hmovname, Hgrow, Hcheck, Hdata, Horigin, Hunlockfile, Hsetdot, Hgrowdata, Hmoveto, Hclean, Hdirty, Hcut, Hdelname, Hclose, Hack, Hexit}
+use Rattle.sam_term.proofs.Common.{◌≡◌, refl, ap, ◌∙◌, subst, ℕ, ◌+◌, ◌-◌, Bool, true, false, List, [], ◌∷◌, ◌++◌, Option, Some, None, if◌then◌else◌, ◌==◌, arith, ◌||◌, unwrap_or, slot, free_slot, map_slots, slot-free_same, slot-free_other, slot-map, if-same, Lock, Window, KnownFile, lock_of, is_command_line, UserEvent, Typed, Select, Cut, Paste, Snarf, View, Flush, PlainTerminal, Made, known_at, window_at, put_known, put_window, edited, cut_rasp, lock_taken, asked, composed, all_composed, flushed, unsent_message, made_then, sends, sends_if, unchanged, requested, wanted, kept_unsent, typed_rasp, types, event_outcome, made_by_type, made_by_cut, made_by_paste, made_by_snarf, made_by_view, frame_outcome, freed_known, took_bindname, took_data, took_grow, took_growdata, took_cut, took_unlockfile, took_close, took_exit, blank_window, blank_known, Tmesg, Trequest, Tack, Hmesg, Hbindname, Hnewname, Hmovname, Hgrow, Hcheck, Hdata, Horigin, Hunlockfile, Hsetdot, Hgrowdata, Hmoveto, Hclean, Hdirty, Hcut, Hdelname, Hclose, Hack, Hexit}
 use Rattle.sam_term.specs.declared.lock.Lock.TheVariants.{NoLock, CommandLock, FileLock}
 use Rattle.sam_term.specs.LockCounts.{locks_taken, takes_command, requests, locks_left, command_left, awaited_left}
 use Rattle.sam_term.proofs.TermLaws.{known-put}
@@ -83,7 +83,7 @@ holds-none f h t e = record { held = e }
 holds-all : (f : ℕ) (h : Held) (t : PlainTerminal) (ms : List Tmesg) → held_of f t ≡ h → Holds f h (all_composed t ms, ms)
 holds-all f h t ms e = record { held = held-all f t ms ∙ ap (λ x. with_all f ms x) e }
 
-holds-then : (f : ℕ) (h : Held) (made : Made) (next : PlainTerminal → Made) → Holds f h made → Holds f (held_of f made.0) (next made.0) → Holds f h (and_then made next)
+holds-then : (f : ℕ) (h : Held) (made : Made) (next : PlainTerminal → Made) → Holds f h made → Holds f (held_of f made.0) (next made.0) → Holds f h (made_then made next)
 holds-then f h made next a b = grind (arith, all-append)
 
 holds-if : (f : ℕ) (h : Held) (b : Bool) (x y : Made) → Holds f h x → Holds f h y → Holds f h (if b then x else y)

@@ -3,7 +3,7 @@ use Rattle.sam_term.proofs.Edits.{make_facts, later, cut_made, cuts_none, cut-un
 use Rattle.sam_term.proofs.Grows.{grown_facts}
 use Rattle.sam_term.proofs.FileSteps.{file_puts}
 use Rattle.sam_term.proofs.Acts.{first_is, passes, test_at, made_of}
-use Rattle.sam_term.proofs.Common.{◌≡◌, refl, ℕ, ◌≤◌, ◌+◌, ◌-◌, ◌++◌, Bool, true, false, List, [], ◌∷◌, length, map, Option, Some, None, ◌==◌, arith, length-append, nat_eq, not, ◌&&◌, option_map, ltb-false, eq-eqb, ne_eqb, length-map, is_empty, max_runes, most_in_message, PlainTerminal, Made, window_at, put_window, window_after_del, edited, cut_rasp, ins_rasp, set_dot_of, all_composed, flushed, unsent_message, and_then, joins, joined, typed_rasp, types, cuts_dot, event_outcome, made_by_type, is_command_line, UserEvent, Typed, typed_over, joined_at, lengthened, shortened, typed_file, typed_runes, cut_message, one_if, flushed_if, IsSound, FitsUnsent, IsShort, first_event, free_first, made_first, is_typing, Window, Unsent, Tmesg, Tcut, take-append_seam, slot-put_same, slot-put_other, length-take, length-drop}
+use Rattle.sam_term.proofs.Common.{◌≡◌, refl, ℕ, ◌≤◌, ◌+◌, ◌-◌, ◌++◌, Bool, true, false, List, [], ◌∷◌, length, map, Option, Some, None, ◌==◌, arith, length-append, nat_eq, not, ◌&&◌, option_map, ltb-false, eq-eqb, ne_eqb, length-map, is_empty, max_runes, most_in_message, PlainTerminal, Made, window_at, put_window, window_after_del, edited, cut_rasp, ins_rasp, set_dot_of, all_composed, flushed, unsent_message, made_then, joins, joined, typed_rasp, types, cuts_dot, event_outcome, made_by_type, is_command_line, UserEvent, Typed, typed_over, joined_at, lengthened, shortened, typed_file, typed_runes, cut_message, one_if, flushed_if, IsSound, FitsUnsent, IsShort, first_event, free_first, made_first, is_typing, Window, Unsent, Tmesg, Tcut, take-append_seam, slot-put_same, slot-put_other, length-take, length-drop}
 use Rattle.sam_term.proofs.TypedLaws.{typed-cut}
 use Rattle.sam_term.proofs.Composes.{put-put, window-put_same, flushed-files}
 use Rattle.sam_term.proofs.Marks.{edited-window, edited-again, edited-put}
@@ -39,7 +39,7 @@ typed-filled t f s j n l within = grind (arith, (edited-window t f), (placed-fil
 
 -- ## The event
 
-by-steps : (t : PlainTerminal) (f : ℕ) (s : List ℕ) → is_empty s ≡ false → event_outcome t (Typed f s) ≡ and_then (cuts_dot t f) (λ u. types u f (window_at t f).dot.0 s)
+by-steps : (t : PlainTerminal) (f : ℕ) (s : List ℕ) → is_empty s ≡ false → event_outcome t (Typed f s) ≡ made_then (cuts_dot t f) (λ u. types u f (window_at t f).dot.0 s)
 unfolding made_by_type
 by-steps t f s e = grind arith
 

@@ -1,5 +1,5 @@
 -- What is composed first is the unsent runes.
-use Rattle.sam_term.proofs.Common.{common_steps, ◌≡◌, sym, ap, ◌∙◌, subst, ℕ, ◌≤◌, Bool, true, false, List, [], ◌∷◌, ◌++◌, length, map, Option, Some, None, if◌then◌else◌, arith, rules, append-nil, append_assoc, place_after_ins, Tmesg, Tsnarf, Tcut, Tack, Hcheck, Hunlockfile, Hack, is_command_line, UserEvent, Typed, Select, Cut, Paste, Snarf, View, Flush, Unsent, PlainTerminal, Made, and_then, unsent_message, flushed, sends, sends_if, unchanged, wanted, requested, joined, moved_unsent, kept_unsent, typed_rasp, types, cuts_dot, has_empty_dot, window_at, put_window, cut_rasp, made_by_type, made_by_cut, made_by_paste, made_by_snarf, made_by_view, event_outcome, took_unlockfile}
+use Rattle.sam_term.proofs.Common.{common_steps, ◌≡◌, sym, ap, ◌∙◌, subst, ℕ, ◌≤◌, Bool, true, false, List, [], ◌∷◌, ◌++◌, length, map, Option, Some, None, if◌then◌else◌, arith, rules, append-nil, append_assoc, place_after_ins, Tmesg, Tsnarf, Tcut, Tack, Hcheck, Hunlockfile, Hack, is_command_line, UserEvent, Typed, Select, Cut, Paste, Snarf, View, Flush, Unsent, PlainTerminal, Made, made_then, unsent_message, flushed, sends, sends_if, unchanged, wanted, requested, joined, moved_unsent, kept_unsent, typed_rasp, types, cuts_dot, has_empty_dot, window_at, put_window, cut_rasp, made_by_type, made_by_cut, made_by_paste, made_by_snarf, made_by_view, event_outcome, took_unlockfile}
 use Rattle.sam_term.specs.Unsent.{SendsFirst, EventsSendFirst, FramesSendFirst}
 
 -- what is unsent goes on what was unsent before
@@ -43,7 +43,7 @@ GoesMade t made = Goes t.unsent made.0.unsent made.1
 chosen : (t : PlainTerminal) (b : Bool) (x y : Made) → GoesMade t x → GoesMade t y → GoesMade t (if b then x else y)
 chosen t b x y e u = grind arith
 
-followed : (t : PlainTerminal) (made : Made) (next : PlainTerminal → Made) → GoesMade t made → GoesMade made.0 (next made.0) → GoesMade t (and_then made next)
+followed : (t : PlainTerminal) (made : Made) (next : PlainTerminal → Made) → GoesMade t made → GoesMade made.0 (next made.0) → GoesMade t (made_then made next)
 followed t made next g h = both t.unsent made.0.unsent (next made.0).0.unsent made.1 (next made.0).1 g h
 
 sending : (t : PlainTerminal) (change : PlainTerminal → PlainTerminal) (ms : List Tmesg) → GoesMade t (sends t change ms)

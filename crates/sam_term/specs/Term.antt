@@ -156,8 +156,8 @@ free_window (Some w) = Some (record w { locks = 0; awaits = false })
 abbrev pub Made : Type 0
 Made = PlainTerminal × List Tmesg
 
-abbrev pub and_then : Made → (PlainTerminal → Made) → Made
-and_then made next = ((next made.0).0, made.1 ++ (next made.0).1)
+abbrev pub made_then : Made → (PlainTerminal → Made) → Made
+made_then made next = ((next made.0).0, made.1 ++ (next made.0).1)
 
 -- a request awaits its data
 abbrev pub asked : Tmesg → PlainTerminal → PlainTerminal
@@ -183,7 +183,7 @@ flushed t = (all_composed (record t { unsent = None }) (unsent_message t.unsent)
 
 -- the unsent runes are sent, then the terminal changes, and these messages are composed
 abbrev pub sends : PlainTerminal → (PlainTerminal → PlainTerminal) → List Tmesg → Made
-sends t change ms = and_then (flushed t) (λ u. (all_composed (change u) ms, ms))
+sends t change ms = made_then (flushed t) (λ u. (all_composed (change u) ms, ms))
 
 -- only a message that there is sends the unsent runes
 abbrev pub sends_if : Option Tmesg → PlainTerminal → Made
@@ -228,7 +228,7 @@ abbrev pub kept_unsent : PlainTerminal → ℕ → ℕ → List ℕ → Made
 kept_unsent t f p s =
     if joins t.unsent f p s
     then (record t { unsent = Some (joined t.unsent f p s) }, [])
-    else and_then (flushed t) (λ u. (record u { unsent = Some (joined None f p s) }, []))
+    else made_then (flushed t) (λ u. (record u { unsent = Some (joined None f p s) }, []))
 
 -- the user types s at p, with the dot after it
 abbrev pub typed_rasp : PlainTerminal → ℕ → ℕ → List ℕ → PlainTerminal
@@ -237,7 +237,7 @@ typed_rasp t f p s = set_dot_of (ins_rasp (edited t f) f p (map Some s)) f (p + 
 -- s typed at p, where the cut dot began
 abbrev pub types : PlainTerminal → ℕ → ℕ → List ℕ → Made
 types t f p s =
-    and_then (kept_unsent t f p s)
+    made_then (kept_unsent t f p s)
     (λ u. let typed = typed_rasp u f p s in if is_command_line f s then flushed typed else (typed, []))
 
 -- the dot is cut, if it is not empty
@@ -248,7 +248,7 @@ cuts_dot t f =
 
 unfoldable pub made_by_type : PlainTerminal → ℕ → List ℕ → Made
 made_by_type t f s =
-    and_then (cuts_dot t f) (λ u. if is_empty s then (u, []) else types u f (window_at t f).dot.0 s)
+    made_then (cuts_dot t f) (λ u. if is_empty s then (u, []) else types u f (window_at t f).dot.0 s)
 
 unfoldable pub made_by_cut : PlainTerminal → ℕ → Made
 made_by_cut t f =
@@ -259,7 +259,7 @@ made_by_cut t f =
 
 unfoldable pub made_by_paste : PlainTerminal → ℕ → Made
 made_by_paste t f =
-    and_then (cuts_dot t f) (λ u. sends u unchanged (Tpaste f (window_at t f).dot.0 ∷ []))
+    made_then (cuts_dot t f) (λ u. sends u unchanged (Tpaste f (window_at t f).dot.0 ∷ []))
 
 unfoldable pub made_by_snarf : PlainTerminal → ℕ → Made
 made_by_snarf t f =

@@ -151,7 +151,7 @@ impl Terminal {
     pub(crate) fn wanted(&self, tag: u16) -> Option<Tmesg>
         ensures { result ≡ wanted self.now tag }
     {
-        self.known_window(tag);
+        self.window_facts(tag);
         match self.files.window(tag) {
             Some(window) => self.wanted_from(tag, window.view_start, window.view_length),
             None => None,

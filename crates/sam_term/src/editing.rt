@@ -173,7 +173,7 @@ impl Terminal {
         ensures messages { out.new.messages ≡ out.old.messages ++ (flushed self.old).1 }
         ensures room { out.old.room ≤ out.new.room + length (unsent_message self.old.unsent) }
     {
-        self.known_window(tag);
+        self.window_facts(tag);
         self.compose_unsent(out);
         self.mark_changed(tag);
         self.cut_file(tag, dot.0, dot.1 - dot.0);

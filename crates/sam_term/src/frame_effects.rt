@@ -268,7 +268,7 @@ impl Terminal {
         requires size { length (window_at self.old tag).rasp + n ≤ max_runes }
         ensures { IsAnswer self.old self.new result (countable (frame_outcome self.old (Hmesg.Hgrow tag p n))) }
     {
-        self.known();
+        self.facts();
         if let Err(_) = self.grow_file(tag, p, n) {
             return Err(TermFault::OutOfMemory);
         }
@@ -282,7 +282,7 @@ impl Terminal {
         requires place { p + length text ≤ length (window_at self.old tag).rasp }
         ensures { IsAnswer self.old self.new result (countable (frame_outcome self.old (Hmesg.Hdata tag p text))) }
     {
-        self.known();
+        self.facts();
         if let Err(_) = self.load_file(tag, p, text.as_slice()) {
             return Err(TermFault::OutOfMemory);
         }
@@ -297,7 +297,7 @@ impl Terminal {
         requires size { length (window_at self.old tag).rasp + length text ≤ max_runes }
         ensures { IsAnswer self.old self.new result (countable (frame_outcome self.old (Hmesg.Hgrowdata tag p text))) }
     {
-        self.known();
+        self.facts();
         if let Err(_) = self.fill_file(tag, p, text.as_slice()) {
             return Err(TermFault::OutOfMemory);
         }

@@ -274,7 +274,7 @@ impl Terminal {
         requires apart { (dot.0 == dot.1 && joins self.old.unsent tag dot.0 (typed_runes (first_event self.old.held))) ≡ false }
         ensures { IsAnswer self.old self.new result (done (made_first self.old)) }
     {
-        self.known_window(tag);
+        self.window_facts(tag);
         let count = self.unsent_count() + cut_count(dot) + line_count(line);
         match self.prepare(count) {
             Ok(mut out) => {

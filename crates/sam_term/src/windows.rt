@@ -69,7 +69,7 @@ impl Terminal {
 
     /// Tells what is true of each window: dot and view lie within the rasp, which has at most `MAX_RUNES` runes and gaps, and it has no
     /// more locks than messages were composed. It does nothing when the program runs.
-    pub(crate) fn known_window(&self, tag: u16)
+    pub(crate) fn window_facts(&self, tag: u16)
         ensures { FitsWindow self.now.sent (window_at self.now tag) }
     {
         let _ = &self.alloc;
@@ -81,7 +81,7 @@ impl Terminal {
             ≡ max_runes + ((window_at self.now tag).dot.1 - (window_at self.now tag).dot.0) }
         ensures within { (window_at self.now tag).dot.1 - (window_at self.now tag).dot.0 ≤ length (window_at self.now tag).rasp }
     {
-        self.known_window(tag);
+        self.window_facts(tag);
         let dot = self.dot_of(tag);
         MAX_RUNES as usize - self.rasp_len(tag) + (dot.1 - dot.0) as usize
     }

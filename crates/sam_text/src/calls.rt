@@ -216,7 +216,7 @@ impl Files {
         ensures unchanged { OnErr result (self.new ≡ self.old) }
     {
         self.wants_range(tag, p, q)?;
-        self.known_file(tag);
+        self.file_facts(tag);
         let runes = self.copy_part(alloc, tag, p, q)?;
         self.put_snarf(runes);
         Ok(q - p)
@@ -418,7 +418,7 @@ impl Files {
         ensures room { StaysInRoom (room_at self.old.rooms 0) (room_at self.new.rooms 0) (length runes.now) result }
         ensures rooms { KeepRooms self.old self.new }
     {
-        self.known();
+        self.facts();
         let len = self.text_len(0);
         if self.passes_limit(0, runes.len()) {
             return Ok(false);

@@ -27,11 +27,11 @@ impl Files {
 
     /// Tells a proof what is always true of a file: its dot is a range of its text, its text has at most `MAX_RUNES` runes, and its name
     /// at most `MOST_IN_NAME`. It does nothing.
-    pub fn known_file(&self, tag: u16)
+    pub fn file_facts(&self, tag: u16)
         ensures fit { IsFit (file_at self.now.plain tag) }
         ensures name { HasShortName (file_at self.now.plain tag) }
     {
-        self.known();
+        self.facts();
     }
 
     /// Returns the text of a file, or `None` if the tag has no file.

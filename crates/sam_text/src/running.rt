@@ -9,8 +9,8 @@ ghost use Rattle.sam_text.specs.Views.{KeepRoomsBut};
 use crate::fault::FilesFault;
 use crate::file::{File, FileChange};
 use crate::files::Files;
-use crate::lines;
 use crate::outcome::Outcome;
+use crate::text_lines;
 use sam_runes::Runes;
 use std::alloc::Global;
 
@@ -26,8 +26,8 @@ impl Files {
         // The outcome can be committed while the files are as they were.
         ensures fits { IfOk result (λ o. IsOutcomeOf self.now.plain (effect o)) }
     {
-        self.known();
-        let outcome = lines::run_line(alloc, self.work_file(), line)?;
+        self.facts();
+        let outcome = text_lines::run_line(alloc, self.work_file(), line)?;
         Ok(outcome)
     }
 
@@ -62,7 +62,7 @@ impl Files {
             printed,
             quit: _,
         } = outcome;
-        self.known();
+        self.facts();
         if let Some(tag) = file {
             let edited = !edits.items.is_empty();
             self.change(tag, FileChange::Line(text, dot, name, edited));

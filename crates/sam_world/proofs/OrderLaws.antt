@@ -5,16 +5,16 @@ use Rattle.sam_term.specs.declared.records.Window.{Window}
 use Rattle.sam_term.specs.declared.records.KnownFile.{KnownFile}
 use Rattle.sam_term.specs.declared.fault.Refusal.TheVariants as refusal
 use Rattle.sam_term.specs.declared.fault.TermFault.TheVariants as fault
-use Rattle.sam_protocol.specs.Fold.{answers, reply_of}
-use Rattle.sam_protocol.specs.Order.{InOrder}
-use Rattle.sam_protocol.proofs.Folds.{answered}
-use Rattle.sam_protocol.proofs.Passing.{passed, held_passed, free_at}
-use Rattle.sam_protocol.proofs.Sending.{nothing_goes, flushed_goes}
-use Rattle.sam_protocol.proofs.Acting.{event_goes}
-use Rattle.sam_protocol.proofs.Receiving.{received}
-use Rattle.sam_protocol.proofs.Ordered.{HostGoes, host_goes, msgs_stamped, answer_is, free_shows, quiet_settles}
-use Rattle.sam_protocol.proofs.Starting.{starts}
-use Rattle.sam_protocol.proofs.Streaming.{one_version, version_at_place}
+use Rattle.sam_crossing.specs.Fold.{answers, reply_of}
+use Rattle.sam_crossing.specs.Order.{InOrder}
+use Rattle.sam_crossing.proofs.Folds.{answered}
+use Rattle.sam_crossing.proofs.Passing.{passed, held_passed, free_at}
+use Rattle.sam_crossing.proofs.Sending.{nothing_goes, flushed_goes}
+use Rattle.sam_crossing.proofs.Acting.{event_goes}
+use Rattle.sam_crossing.proofs.Receiving.{received}
+use Rattle.sam_crossing.proofs.Ordered.{HostGoes, host_goes, msgs_stamped, answer_is, free_shows, quiet_settles}
+use Rattle.sam_crossing.proofs.Starting.{starts}
+use Rattle.sam_crossing.proofs.Streaming.{one_version, version_at_place}
 use Rattle.sam_term.proofs.TermLaws.{known-put}
 use Rattle.sam_world.proofs.RunLaws.{run_keeps, act_is, counted-start, counted_step, answer-counts, counted-result}
 

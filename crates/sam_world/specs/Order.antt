@@ -15,9 +15,9 @@ use Rattle.sam_term.specs.declared.fault.TermFault.TheVariants as fault
 use Rattle.sam_mesg.specs.declared.tmesg.Tmesg.{Tmesg}
 use Rattle.sam_mesg.specs.declared.hmesg.Hmesg.{Hmesg}
 use Rattle.sam_mesg.specs.declared.hmesg.HFrame.{HFrame}
-use Rattle.sam_protocol.specs.Order.{InOrder}
-use Rattle.sam_protocol.specs.Streams.{version_behind}
-use Rattle.sam_world.specs.World.{PlainWorld, new_world, step_of, run_of, IsReached, is_locked, IsSettledWhereQuiet, IsAhead, HasOneVersion}
+use Rattle.sam_crossing.specs.Order.{InOrder}
+use Rattle.sam_crossing.specs.Streams.{version_behind}
+use Rattle.sam_world.specs.World.{PlainWorld, new_world, step_of, run_of, IsReached, is_locked, SidesAgreeWhereQuiet, IsAhead, HasOneVersion}
 use Rattle.sam_world.specs.declared.event.Event.{Event}
 
 -- each frame saw at most n messages
@@ -78,7 +78,7 @@ OnlyCountsStop =
     (t : PlainTerminal) (why : TermFault) → (act_of t ≡ Err why → why ≡ fault.CountFull) × (flush_of t ≡ Err why → why ≡ fault.CountFull)
 
 abbrev pub QuietMeansAgreement : Type 0
-QuietMeansAgreement = (w : PlainWorld) → IsInOrder w → IsSettledWhereQuiet w
+QuietMeansAgreement = (w : PlainWorld) → IsInOrder w → SidesAgreeWhereQuiet w
 
 abbrev pub FreeMeansAhead : Type 0
 FreeMeansAhead = (w : PlainWorld) (f : ℕ) → IsInOrder w → IsCountable w → IsAhead w f

@@ -58,9 +58,9 @@ pub record World (H T M F : Type 0) : Type 0 where
   pub up : List M
   pub down : List F
 
-abbrev pub and_then : {A B : Type 0} → Option A → (A → Option B) → Option B
-and_then None f = None
-and_then (Some a) f = f a
+abbrev pub if_given : {A B : Type 0} → Option A → (A → Option B) → Option B
+if_given None f = None
+if_given (Some a) f = f a
 
 module _ {H T M F : Type 0} where
   abbrev pub world : H → T → List M → List F → World H T M F
@@ -95,4 +95,4 @@ module _ {H T M F : Type 0} (s : Steps H T M F) where
   -- where a list of events leads, if each is a step
   abbrev pub run : World H T M F → List Event → Option (World H T M F)
   run w [] = Some w
-  run w (e ∷ es) = and_then (step w e) (λ v. run v es)
+  run w (e ∷ es) = if_given (step w e) (λ v. run v es)

@@ -11,14 +11,14 @@ use Rattle.std.specs.Global.{Global}
 use Rattle.std.proofs.Crossing as heap
 use Rattle.std_alloc.proofs.SendSync.{lies, quiet}
 use Rattle.std_heap.proofs.Global.TheSendSync as handle
-use Rattle.sam_ends.specs.contracts.host_end.HostEnd.{the_row as HostEnd}
-use Rattle.sam_ends.proofs.host_end.HostEnd.TheSendSync.{the_send as host_end}
+use Rattle.sam_endpoint.specs.contracts.host_endpoint.HostEndpoint.{the_row as HostEndpoint}
+use Rattle.sam_endpoint.proofs.host_endpoint.HostEndpoint.TheSendSync.{the_send as host_endpoint}
 use Rattle.sam_c.specs.Handles.{holds_host}
 use Rattle.sam_c.specs.contracts.handle.HeldHost.{the_row, the_type}
 
-lent : (alloc : Global) (at : Ptr) (held : Option HostEnd.Denot) → Keyless (holds_host alloc at held)
+lent : (alloc : Global) (at : Ptr) (held : Option HostEndpoint.Denot) → Keyless (holds_host alloc at held)
 lent alloc at None = tt
-lent alloc at (Some end) = (lies HostEnd host_end at end, heap.frees.frees alloc (raw (lone HostEnd.mir)) at)
+lent alloc at (Some end) = (lies HostEndpoint host_endpoint at end, heap.frees.frees alloc (raw (lone HostEndpoint.mir)) at)
 
 pub send : IsSend the_row
 send =

@@ -11,14 +11,14 @@ use Rattle.std.specs.Global.{Global}
 use Rattle.std.proofs.Crossing as heap
 use Rattle.std_alloc.proofs.SendSync.{lies, quiet}
 use Rattle.std_heap.proofs.Global.TheSendSync as handle
-use Rattle.sam_ends.specs.contracts.term_end.TermEnd.{the_row as TermEnd}
-use Rattle.sam_ends.proofs.term_end.TermEnd.TheSendSync.{the_send as term_end}
+use Rattle.sam_endpoint.specs.contracts.term_endpoint.TermEndpoint.{the_row as TermEndpoint}
+use Rattle.sam_endpoint.proofs.term_endpoint.TermEndpoint.TheSendSync.{the_send as term_endpoint}
 use Rattle.sam_c.specs.Handles.{holds_term}
 use Rattle.sam_c.specs.contracts.handle.HeldTerm.{the_row, the_type}
 
-lent : (alloc : Global) (at : Ptr) (held : Option TermEnd.Denot) → Keyless (holds_term alloc at held)
+lent : (alloc : Global) (at : Ptr) (held : Option TermEndpoint.Denot) → Keyless (holds_term alloc at held)
 lent alloc at None = tt
-lent alloc at (Some end) = (lies TermEnd term_end at end, heap.frees.frees alloc (raw (lone TermEnd.mir)) at)
+lent alloc at (Some end) = (lies TermEndpoint term_endpoint at end, heap.frees.frees alloc (raw (lone TermEndpoint.mir)) at)
 
 pub send : IsSend the_row
 send =

@@ -3,4 +3,4 @@ use Rattle.sam_host.proofs.RunLaws.{meaning_inserted}
 use Rattle.sam_host.proofs.host.Host.outcome.Goals as goal
 
 pub returns-in-Ok-clause-limit : goal.returns-in-Ok-clause-limit
-returns-in-Ok-clause-limit c = grind (arith, (meaning_inserted c.self.inside.files.plain c.args.line.now c.known.ensures.5))
+returns-in-Ok-clause-limit c = grind (arith, (meaning_inserted c.self.inside.files.plain c.args.line.now c.facts.ensures.5))

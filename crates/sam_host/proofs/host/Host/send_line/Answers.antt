@@ -21,6 +21,6 @@ undo-requires-clause-dot c =
 pub returns-in-Err-clause-unchanged : goal.returns-in-Err-clause-unchanged
 returns-in-Err-clause-unchanged c =
     let place : c.text_len-len.result ≤ length (file_at c.args.self.now.files 0).text = omega (arith, c.text_len-len.ensures.len) in
-    let there : has_file c.args.self.now.files 0 ≡ true = ap (λ (h : PlainHost). has_file h.files 0) (sym c.self.view_is) ∙ c.known.ensures.1 in
+    let there : has_file c.args.self.now.files 0 ≡ true = ap (λ (h : PlainHost). has_file h.files 0) (sym c.self.view_is) ∙ c.facts.ensures.1 in
     undone c.args.self.now c.run.new.self c.undo.new.self c.text_len-len.result c.args.runes.now c.command_dot-dot.result there place
     (c.in-Err.ensures.unchanged ∙ c.in_ok-put_typed.ensures.ok) c.undo.ensures c.command_dot-dot.ensures.value

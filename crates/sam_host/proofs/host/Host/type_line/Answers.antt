@@ -21,6 +21,6 @@ undo-requires-clause-dot c = grind (arith, (typed_ready c.args.self.now c.run_to
 
 pub returns-in-Err-clause-unchanged : goal.returns-in-Err-clause-unchanged
 returns-in-Err-clause-unchanged c =
-    let there : has_file c.args.self.now.files 0 ≡ true = ap (λ (h : PlainHost). has_file h.files 0) (sym c.self.view_is) ∙ c.known.ensures.1 in
+    let there : has_file c.args.self.now.files 0 ≡ true = ap (λ (h : PlainHost). has_file h.files 0) (sym c.self.view_is) ∙ c.facts.ensures.1 in
     undone c.args.self.now c.run_to.new.self c.undo.new.self c.args.p c.args.runes.now c.command_dot-dot.result there c.requires.place
     (c.in-Err.ensures.unchanged ∙ c.in_ok-put_typed.ensures.ok) c.undo.ensures c.command_dot-dot.ensures.value

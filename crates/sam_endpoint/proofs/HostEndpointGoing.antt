@@ -1,0 +1,74 @@
+-- Going on with what waits, step by step.
+use Rattle.sam_endpoint.proofs.Common.{◌≡◌, refl, sym, subst, ◌∙◌, ℕ, List, [], ◌∷◌, ◌++◌, drop, true, Option, None, Ok, Err, inl, inr, append_assoc, append-nil, arith, Tmesg, HFrame, host, terminal, stream_of, Held, stream_of-append, PlainHost, answer, StreamFault, HostStop, EndpointFault, Gives, PlainHostEndpoint, Answers, Feeds, GoesOn, Serves, TakesIn, writes_of, Answer, AnswersFirst, Ends, Writes}
+use Rattle.sam_endpoint.specs.declared.fault.HostStop.TheVariants as stop
+use Rattle.sam_endpoint.specs.declared.fault.EndpointFault.TheVariants as fault
+use Rattle.sam_endpoint.specs.HostSteps.{written}
+
+-- ## Answers one behind another
+
+pub serves_more : (h : PlainHost) (ms : List Tmesg) (first : List HFrame) (writes : List ℕ) (k : PlainHost) (ns : List Tmesg) (rest : List HFrame) (more : List ℕ) (g : PlainHost)
+    → Serves h ms first writes k → Serves k ns rest more g → Serves h (ms ++ ns) (first ++ rest) (writes ++ more) g
+serves_more h [] first writes k ns rest more g p q = grind arith
+serves_more h (m ∷ ms) first writes k ns rest more g (middle, front, back, noted, answered, frames, notes, serves) q =
+    grind (arith, append_assoc, (serves_more middle ms back noted k ns rest more g serves q))
+
+bytes_more : (e k g : PlainHostEndpoint) (first rest : List HFrame) → k.pending_bytes ++ stream_of host k.unwritten ≡ e.pending_bytes ++ stream_of host (e.unwritten ++ first)
+    → g.pending_bytes ++ stream_of host g.unwritten ≡ k.pending_bytes ++ stream_of host (k.unwritten ++ rest)
+    → g.pending_bytes ++ stream_of host g.unwritten ≡ e.pending_bytes ++ stream_of host (e.unwritten ++ (first ++ rest))
+bytes_more e k g first rest p q = grind (arith, stream_of-append, append_assoc)
+
+answers_more : (e k g : PlainHostEndpoint) (ms ns : List Tmesg) → Answers e ms k → Answers k ns g → Answers e (ms ++ ns) g
+answers_more e k g ms ns p q = grind (arith, serves_more, append_assoc, bytes_more)
+
+-- the oldest message was dropped
+pub first_waits : (waiting same left : List Tmesg) (m : Tmesg) → waiting ≡ same → same ≡ m ∷ drop 1 same → left ≡ drop 1 waiting → waiting ≡ m ∷ left
+first_waits waiting same left m is first dropped = grind arith
+
+pub first_done : (e before g : PlainHostEndpoint) (m : Tmesg) (rest : List Tmesg) (h : PlainHost) (frames : List HFrame) (writes : List ℕ) → before ≡ e
+    → g ≡ record before { host = h; waiting = rest; unwritten = frames; writes = writes } → before.waiting ≡ m ∷ rest → answer before.host m ≡ Ok (h, frames)
+    → writes ≡ before.writes ++ writes_of before.host m → AnswersFirst e g
+first_done e before g m rest h frames writes same after waited answered noted = grind arith
+
+-- ## The loop
+
+-- some messages were answered, and all their frames are written
+pub record HasGone (e l : PlainHostEndpoint) : Type 0 where
+  pub messages : List Tmesg
+  pub answers : Answers e messages l
+  pub written : l.unwritten ≡ []
+  pub goes : l.stop ≡ None
+
+then_written : (e k g : PlainHostEndpoint) (ms : List Tmesg) → Answers e ms k → k.stop ≡ None → g ≡ written k → HasGone e g
+then_written e k g ms p goes is = subst (λ (x : PlainHostEndpoint). HasGone e x) (sym is)
+    (record { messages = ms ++ []; answers = answers_more e k (written k) ms [] p (grind (arith, append-nil)); written = refl; goes = goes })
+
+first_gone : (e l k : PlainHostEndpoint) (gone : HasGone e l) (first : AnswersFirst l k) → Answers e (gone.messages ++ first.message ∷ []) k × (k.stop ≡ None)
+first_gone e l k gone first = grind (arith, answers_more, append-nil)
+
+pub starts : (e g : PlainHostEndpoint) → e.stop ≡ None → g ≡ written e → HasGone e g
+starts e g goes is = then_written e e g [] (grind (arith, append-nil)) goes is
+
+pub goes_further : (e l k g : PlainHostEndpoint) → HasGone e l → AnswersFirst l k → g ≡ written k → HasGone e g
+goes_further e l k g gone first is = grind (arith, (first_gone e l k gone first), (then_written e k g (gone.messages ++ first.message ∷ [])))
+
+-- ## Where it ends
+
+pub not_written : (e l k g : PlainHostEndpoint) (why : EndpointFault HostStop) → HasGone e l → AnswersFirst l k → Writes k (Err why) g → GoesOn e (Err why) g
+not_written e l k g why gone first writes = grind (arith, (first_gone e l k gone first))
+
+pub ends : (e l g : PlainHostEndpoint) (result : Answer) → HasGone e l → l.waiting ≡ [] → Ends l result g → GoesOn e result g
+ends e l g (Ok done) gone none (behind, is) = grind (arith, append-nil)
+ends e l g (Err (fault.Stopped (stop.Stream why))) gone none (behind, is) = grind (arith, append-nil)
+ends e l g result u w q = grind arith
+
+-- ## Feeding
+
+pub taken_in : (e before g : PlainHostEndpoint) (piece : List ℕ) (messages : List Tmesg) (behind : Option StreamFault) (rest : Held) → before ≡ e
+    → Gives terminal before.framer piece messages behind rest → g ≡ record before { framer = rest; is_begun = true; waiting = messages; behind = behind } → TakesIn e piece g
+taken_in e before g piece messages behind rest is gives after = subst (λ (x : PlainHostEndpoint). TakesIn x piece g) is (messages, behind, rest, gives, after)
+
+pub nothing_behind : (e k : PlainHostEndpoint) → GoesOn e (Ok tt) k → k.behind ≡ None
+nothing_behind e k on = on.0.behind ∙ on.2
+
+pub fed : (e k m g : PlainHostEndpoint) (piece : List ℕ) (result : Answer) → e.stop ≡ None → GoesOn e (Ok tt) k → TakesIn k piece m → GoesOn m result g → Feeds e piece result g
+fed e k m g piece result goes on takes further = inr (goes, k, Ok tt, on, inl (m, takes, further))

@@ -1,0 +1,155 @@
+-- What every run of a host end comes to.
+use Rattle.sam_endpoint.proofs.Common.{◌≡◌, refl, sym, ap, subst, ◌∙◌, inl, inr, ℕ, List, [], ◌∷◌, ◌++◌, flat_map, Option, Some, None, Result, Ok, Err, append_assoc, append-nil, arith, option_map, Tmesg, HFrame, host, terminal, Splits, stream_of, version_after, Held, stream_of-append, version_after-append, Splits-then, PlainHost, answer, HostStop, StreamFault, Gives, mesg_fault, PlainHostEndpoint, Answers, Feeds, FeedsAfter, GoesOn, IsIdle, Serves, TakesIn, Answer}
+use Rattle.sam_mesg.specs.declared.fault.MesgFault.{MesgFault}
+use Rattle.sam_frame.specs.Reading.{IsStream}
+use Rattle.sam_frame.proofs.Cuttings.{Splits-longer}
+use Rattle.sam_host.specs.declared.fault.HostFault.{HostFault}
+use Rattle.sam_endpoint.specs.declared.fault.EndpointFault.TheVariants as fault
+use Rattle.sam_endpoint.specs.HostEndpoints.{FeedsIdle}
+use Rattle.sam_endpoint.specs.HostRuns.{Call, GoesOnAfter, HasServed, Runs, begun_with, came_in, went_out}
+use Rattle.sam_endpoint.proofs.HostEndpointGoing.{serves_more}
+
+-- what the run keeps: what it comes to, and the version at this place of the stream
+pub record Kept (h : PlainHost) (stream out : List ℕ) (e : PlainHostEndpoint) : Type 0 where
+  pub served : HasServed h stream out e
+  pub version : e.framer.version ≡ version_after terminal 1 (served.answered ++ e.waiting)
+
+-- ## Steps
+
+kept_answers : (h : PlainHost) (stream out : List ℕ) (e g : PlainHostEndpoint) (ms : List Tmesg) → Answers e ms g → Kept h stream out e → Kept h stream out g
+kept_answers h stream out e g ms a kept = record { served = grind (arith, append_assoc, serves_more, bytes_on); version = grind (arith, append_assoc) }
+  where
+    bytes_on : (out : List ℕ) (e g : PlainHostEndpoint) (frames more : List HFrame) → (out ++ e.pending_bytes) ++ stream_of host e.unwritten ≡ stream_of host frames
+        → g.pending_bytes ++ stream_of host g.unwritten ≡ e.pending_bytes ++ stream_of host (e.unwritten ++ more)
+        → (out ++ g.pending_bytes) ++ stream_of host g.unwritten ≡ stream_of host (frames ++ more)
+    bytes_on out e g frames more p q = grind (arith, append_assoc, stream_of-append)
+
+-- a piece behind a stream
+reads_more : (h k : Held) (stream piece : List ℕ) (before ms : List Tmesg) (behind : Option StreamFault) → Splits terminal 1 stream before h.bytes
+    → h.version ≡ version_after terminal 1 before → Gives terminal h piece ms behind k
+    → IsStream terminal 1 (stream ++ piece) (before ++ ms) k.bytes (option_map mesg_fault behind) × (k.version ≡ version_after terminal 1 (before ++ ms))
+reads_more h k stream piece before ms behind splits version gives =
+    grind (
+      arith,
+      (Splits-longer terminal 1 stream before h.bytes piece splits),
+      (version_after-append terminal 1 before ms),
+      (Splits-then terminal 1 (stream ++ piece) before (h.bytes ++ piece) ms k.bytes),
+    )
+
+kept_piece : (h : PlainHost) (stream out piece : List ℕ) (e k : PlainHostEndpoint) → e.waiting ≡ [] → TakesIn e piece k → Kept h stream out e → Kept h (stream ++ piece) out k
+kept_piece h stream out piece e k none (messages, behind, rest, gives, is) kept =
+    let s = kept.served in
+    let all : s.answered ++ e.waiting ≡ s.answered = ap (λ (x : List Tmesg). s.answered ++ x) none ∙ append-nil s.answered in
+    let splits : Splits terminal 1 stream s.answered e.framer.bytes =
+    subst (λ (x : List Tmesg). Splits terminal 1 stream x e.framer.bytes) all s.reads.splits in
+    let version : e.framer.version ≡ version_after terminal 1 s.answered = kept.version ∙ ap (λ (x : List Tmesg). version_after terminal 1 x) all in
+    let more = reads_more e.framer rest stream piece s.answered messages behind splits version gives in
+    subst (λ (x : PlainHostEndpoint). Kept h (stream ++ piece) out x) (sym is) (record {
+      served = record { answered = s.answered; frames = s.frames; writes = s.writes; serves = s.serves; reads = more.0; bytes = s.bytes };
+      version = more.1;
+    })
+
+kept_goes_on : (h : PlainHost) (stream out : List ℕ) (e g : PlainHostEndpoint) (result : Answer) → GoesOnAfter result → GoesOn e result g → Kept h stream out e → Kept h stream out g
+kept_goes_on h stream out e g (Ok done) goes on kept = kept_answers h stream out e g e.waiting on.0 kept
+kept_goes_on h stream out e g (Err fault.Unfinished) goes (ms, a, going) kept = kept_answers h stream out e g ms a kept
+kept_goes_on h stream out e g result u w q = grind arith
+
+kept_same : (h : PlainHost) (stream out : List ℕ) (e g : PlainHostEndpoint) → g ≡ e → Kept h stream out e → Kept h (stream ++ []) out g
+kept_same h stream out e g is kept = grind (arith, append-nil)
+
+kept_idle : (h : PlainHost) (stream out piece : List ℕ) (e g : PlainHostEndpoint) (result : Answer) → GoesOnAfter result → e.waiting ≡ [] → FeedsIdle e piece result g
+    → Kept h stream out e → Kept h (stream ++ came_in (piece, Some result)) out g
+kept_idle h stream out piece e g (Ok done) goes none (inl (k, takes, on)) kept =
+    kept_goes_on h (stream ++ piece) out k g (Ok done) goes on (kept_piece h stream out piece e k none takes kept)
+kept_idle h stream out piece e g (Err fault.Unfinished) goes none (inl (k, takes, on)) kept =
+    kept_goes_on h (stream ++ piece) out k g (Err fault.Unfinished) goes on (kept_piece h stream out piece e k none takes kept)
+kept_idle h stream out piece e g (Err fault.OutOfMemory) goes none fed kept = kept_same h stream out e g (grind arith) kept
+kept_idle h stream out piece e g (Err fault.CountFull) goes none fed kept = kept_same h stream out e g (grind arith) kept
+kept_idle h stream out piece e g (Err (fault.Stopped why)) goes none fed kept = absurd goes
+kept_idle h stream out piece e g (Ok done) goes none (inr fed) kept = absurd (grind arith)
+kept_idle h stream out piece e g (Err fault.Unfinished) goes none (inr fed) kept = absurd (grind arith)
+
+stopped_not : (result : Answer) (why : HostStop) → result ≡ Err (fault.Stopped why) → GoesOnAfter result → ⊥
+stopped_not result why is goes = subst GoesOnAfter is goes
+
+kept_after : (h : PlainHost) (stream out piece : List ℕ) (e k g : PlainHostEndpoint) (first result : Answer) → GoesOnAfter result → GoesOn e first k
+    → FeedsAfter first k piece result g → Kept h stream out e → Kept h (stream ++ came_in (piece, Some result)) out g
+kept_after h stream out piece e k g (Ok done) result goes on after kept =
+    kept_idle h stream out piece k g result goes on.1.waiting after (kept_goes_on h stream out e k (Ok done) tt on kept)
+kept_after h stream out piece e k g (Err fault.Unfinished) result goes on (is, same) kept =
+    grind (arith, (kept_same h stream out k g same (kept_goes_on h stream out e k (Err fault.Unfinished) tt on kept)))
+kept_after h stream out piece e k g first result u w q y = grind (arith, stopped_not)
+
+kept_feed : (h : PlainHost) (stream out piece : List ℕ) (e g : PlainHostEndpoint) (result : Answer) → GoesOnAfter result → Feeds e piece result g → Kept h stream out e
+    → Kept h (stream ++ came_in (piece, Some result)) out g
+kept_feed h stream out piece e g result goes (inl (why, stops, is, same)) kept = absurd (stopped_not result why is goes)
+kept_feed h stream out piece e g result goes (inr (going, k, first, on, after)) kept = kept_after h stream out piece e k g first result goes on after kept
+
+kept_out : (h : PlainHost) (stream out bytes rest : List ℕ) (e : PlainHostEndpoint) → e.pending_bytes ≡ bytes ++ rest → Kept h stream out e
+    → Kept h (stream ++ []) (out ++ bytes) (record e { pending_bytes = rest })
+kept_out h stream out bytes rest e is kept =
+    let s = kept.served in
+    subst (λ (x : List ℕ). Kept h x (out ++ bytes) (record e { pending_bytes = rest })) (sym (append-nil stream)) (record {
+      served = record {
+        answered = s.answered;
+        frames = s.frames;
+        writes = s.writes;
+        serves = s.serves;
+        reads = s.reads;
+        bytes = ap (λ (x : List ℕ). x ++ stream_of host e.unwritten) (append_assoc out bytes rest ∙ ap (λ (x : List ℕ). out ++ x) (sym is)) ∙ s.bytes;
+      };
+      version = kept.version;
+    })
+
+-- ## Runs
+
+kept_run : (h : PlainHost) (stream out : List ℕ) (calls : List Call) (e g : PlainHostEndpoint) → Runs e calls g → Kept h stream out e
+    → Kept h (stream ++ flat_map came_in calls) (out ++ flat_map went_out calls) g
+kept_run h stream out [] e g is kept = grind (arith, append-nil)
+kept_run h stream out ((piece, Some answer) ∷ calls) e g (k, feeds, goes, runs) kept =
+    subst (λ (x : List ℕ). Kept h x (out ++ flat_map went_out calls) g) (append_assoc stream (came_in (piece, Some answer)) (flat_map came_in calls))
+    (kept_run h (stream ++ came_in (piece, Some answer)) out calls k g runs (kept_feed h stream out piece e k answer goes feeds kept))
+kept_run h stream out ((bytes, None) ∷ calls) e g (rest, is, runs) kept =
+    subst (λ (x : List ℕ). Kept h x (out ++ (bytes ++ flat_map went_out calls)) g) (append_assoc stream [] (flat_map came_in calls))
+    (subst (λ (x : List ℕ). Kept h ((stream ++ []) ++ flat_map came_in calls) x g) (append_assoc out bytes (flat_map went_out calls))
+    (kept_run h (stream ++ []) (out ++ bytes) calls (record e { pending_bytes = rest }) g runs (kept_out h stream out bytes rest e is kept)))
+
+pub runs_serve : (h : PlainHost) (calls : List Call) (g : PlainHostEndpoint) → Runs (begun_with h) calls g → HasServed h (flat_map came_in calls) (flat_map went_out calls) g
+runs_serve h calls g runs = (kept_run h [] [] calls (begun_with h) g runs (record {
+  served = record { answered = []; frames = []; writes = []; serves = (refl, refl, refl); reads = record { splits = record { whole = refl; fit = tt }; ends = tt }; bytes = refl };
+  version = refl;
+})).served
+
+-- ## One outcome
+
+abbrev Reads : Type 0
+Reads =
+    (version : ℕ) (bytes : List ℕ) (ms ns : List Tmesg) (z y : List ℕ) (o p : Option MesgFault)
+    → IsStream terminal version bytes ms z o → IsStream terminal version bytes ns y p → (ms ≡ ns) × (z ≡ y) × (o ≡ p)
+
+abbrev answered_host : PlainHost → Result (PlainHost × List HFrame) HostFault → PlainHost
+answered_host h (Ok r) = r.0
+answered_host h (Err why) = h
+
+abbrev answered_frames : Result (PlainHost × List HFrame) HostFault → List HFrame
+answered_frames (Ok r) = r.1
+answered_frames (Err why) = []
+
+one_service : (h : PlainHost) (ms : List Tmesg) (a b : List HFrame) (v w : List ℕ) (g k : PlainHost) → Serves h ms a v g → Serves h ms b w k → (g ≡ k) × (a ≡ b)
+one_service h [] a b v w g k p q = (p.2 ∙ sym q.2, p.0 ∙ sym q.0)
+one_service h (m ∷ ms) a b v w g k (h1, a1, a2, v2, ans1, af, vf, p) (k1, b1, b2, w2, ans2, bf, wf, q) = grind (arith, (one_service k1 ms a2 b2 v2 w2 g k))
+
+same_behind : (o p : Option StreamFault) → option_map mesg_fault o ≡ option_map mesg_fault p → o ≡ p
+same_behind o p e = grind arith
+
+idle_reads : (h : PlainHost) (stream out : List ℕ) (e : PlainHostEndpoint) (s : HasServed h stream out e) → e.waiting ≡ []
+    → IsStream terminal 1 stream s.answered e.framer.bytes (option_map mesg_fault e.behind)
+idle_reads h stream out e s none = grind (arith, append-nil)
+
+pub one_outcome : Reads → (h : PlainHost) (stream a b : List ℕ) (e g : PlainHostEndpoint) → HasServed h stream a e → HasServed h stream b g → IsIdle e → IsIdle g
+    → (e.host ≡ g.host) × (a ++ e.pending_bytes ≡ b ++ g.pending_bytes) × (e.behind ≡ g.behind)
+one_outcome reads h stream a b e g s t i j =
+    let one = reads 1 stream s.answered t.answered e.framer.bytes g.framer.bytes (option_map mesg_fault e.behind) (option_map mesg_fault g.behind) (idle_reads h stream a e s i.waiting)
+    (idle_reads h stream b g t j.waiting) in
+    let same = one_service h t.answered s.frames t.frames s.writes t.writes e.host g.host (subst (λ (x : List Tmesg). Serves h x s.frames s.writes e.host) one.0 s.serves) t.serves in
+    (same.0, grind (arith, append-nil), same_behind e.behind g.behind one.2)

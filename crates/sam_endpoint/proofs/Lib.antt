@@ -1,0 +1,11 @@
+pub mod Common
+pub mod HostEndFits
+pub mod HostEndpointGoing
+pub mod HostEndFiles
+pub mod TermEndpointHeld
+pub mod TermEndStamps
+pub mod TermEndpointMoves
+pub mod TermEndpointSteps
+pub mod TermEndpointCalls
+pub mod HostEndpointRuns
+pub mod Members

@@ -1,0 +1,54 @@
+-- What an end has received, done and written so far grows by its steps.
+use Rattle.sam_endpoint.proofs.Common.{◌≡◌, refl, ap, subst, ◌∙◌, ℕ, ◌+◌, List, [], ◌∷◌, ◌++◌, length, Ok, append_assoc, arith, append-nil, rules, flat_map-append, common_steps, Tmesg, HFrame, terminal, stream_of, PlainTerminal, act_of, take_of, Acted, PlainTermEndpoint, Acts, IsDecided, Moves, last_stamp, oldest, refusals_from, ActsFirst, ReceivesFirst, written}
+use Rattle.sam_endpoint.specs.TermEndpoints.{Receives}
+
+receives-more : (t u v : PlainTerminal) (frames : List HFrame) (frame : HFrame) (ms ns : List Tmesg) → Receives t frames ms u
+    → take_of u frame ≡ Ok (v, ns) → Receives t (frames ++ frame ∷ []) (ms ++ ns) v
+receives-more t u v [] frame ms ns (none, same) taken = grind (arith, (append-nil ns))
+receives-more t u v (f ∷ frames) frame ms ns (w, first, rest, one, all, more) taken = grind (arith, append_assoc, (receives-more w u v frames frame rest ns more taken))
+
+acts-more : (t u v : PlainTerminal) (acts : List Acted) (acted : Acted) → Acts t acts u → act_of u ≡ Ok (v, acted) → IsDecided acted → Acts t (acts ++ acted ∷ []) v
+acts-more t u v [] acted same act settled = (v, subst (λ w. act_of w ≡ Ok (v, acted)) same act, settled, refl)
+acts-more t u v (a ∷ acts) acted (w, one, was, more) act settled = (w, one, was, acts-more w u v acts acted more act settled)
+
+-- one number more, whatever became of an event
+refusals-more : (n : ℕ) (acts : List Acted) (acted : Acted) → refusals_from n (acts ++ acted ∷ []) ≡ refusals_from n acts ++ refusals_from (n + length acts) (acted ∷ [])
+refusals-more n [] acted = ap (λ k. refusals_from k (acted ∷ [])) (omega arith)
+refusals-more n (a ∷ acts) acted = let moved : n + 1 + length acts ≡ n + length (a ∷ acts) = omega arith in grind (arith, moved, (refusals-more (n + 1) acts acted))
+
+-- the last of the frames is the one that came last
+last-stamp-more : (before : ℕ) (frames : List HFrame) (frame : HFrame) → last_stamp before (frames ++ frame ∷ []) ≡ frame.seen
+last-stamp-more before [] frame = refl
+last-stamp-more before (f ∷ frames) frame = last-stamp-more f.seen frames frame
+
+-- where nothing is unwritten, what is composed next comes behind
+behind : (out base : List ℕ) (left before more : List Tmesg) → left ≡ [] → out ++ stream_of terminal left ≡ base ++ stream_of terminal before
+    → out ++ stream_of terminal more ≡ base ++ stream_of terminal (before ++ more)
+behind out base left before more none so_far = grind (arith, append_assoc, flat_map-append)
+
+pub moves_none : (e : PlainTermEndpoint) → Moves e [] [] e
+moves_none e = grind (arith, append-nil)
+
+pub moves_written : (e g : PlainTermEndpoint) (frames : List HFrame) (acts : List Acted) → Moves e frames acts g → Moves e frames acts (written g)
+moves_written e g frames acts m = grind (arith, append-nil)
+
+pub moves_received : (e g k : PlainTermEndpoint) (frames : List HFrame) → Moves e frames [] g → g.unwritten ≡ [] → (r : ReceivesFirst g k) → Moves e (frames ++ r.frame ∷ []) [] k
+moves_received e g k frames m none r = grind (
+  arith,
+  (receives-more e.term m.middle r.term frames r.frame m.composed r.composed m.receives (subst (λ t. take_of t r.frame ≡ Ok (r.term, r.composed)) m.acted r.taken)),
+  (append_assoc frames (r.frame ∷ []) r.rest),
+  (behind g.pending_bytes e.pending_bytes g.unwritten (e.unwritten ++ m.composed) r.composed none (m.bytes ∙ ap (λ ms. e.pending_bytes ++ stream_of terminal ms) (append-nil (e.unwritten ++ m.composed)))),
+  (append-nil (e.unwritten ++ m.composed)),
+  (append_assoc e.unwritten m.composed r.composed),
+  (append-nil (e.unwritten ++ (m.composed ++ r.composed))),
+  (last-stamp-more e.seen frames r.frame),
+  behind,
+)
+
+pub moves_acted : (e g k : PlainTermEndpoint) (frames : List HFrame) (acts : List Acted) → Moves e frames acts g → g.unwritten ≡ [] → oldest g ≡ oldest e + length acts
+    → (a : ActsFirst g k) → Moves e frames (acts ++ a.acted ∷ []) k
+moves_acted e g k frames acts m none number a = search (rules, common_steps, acts-more, refusals-more)
+
+-- frames are received, and then events act
+pub moves_both : (e m g : PlainTermEndpoint) (frames : List HFrame) (acts : List Acted) → Moves e frames [] m → m.unwritten ≡ [] → oldest m ≡ oldest e → Moves m [] acts g → Moves e frames acts g
+moves_both e m g frames acts a none number b = search (rules, common_steps)

@@ -1,0 +1,52 @@
+-- One step of a terminal end: what holds of the end after it.
+use Rattle.sam_endpoint.proofs.Common.{◌≡◌, sym, subst, ℕ, ◌-◌, ◌≤◌, false, List, [], ◌∷◌, ◌++◌, length, drop, Option, Some, None, Ok, Err, arith, slice_get, IsTrue, All-tail, fits_h, HFrame, Tmesg, host, Held, composed_in, PlainTerminal, act_of, take_of, Acted, StreamFault, TermStop, EndpointFault, FitFrames, Gives, PlainTermEndpoint, IsDecided, oldest, refusals_from, ActsFirst, Receives, Tries, stopped_by, All-nil, FitInTurn}
+use Rattle.sam_endpoint.specs.TermSteps.{IsSound}
+use Rattle.sam_endpoint.proofs.TermEndpointHeld.{act_held, take_held}
+use Rattle.sam_endpoint.proofs.TermEndStamps.{act_counts}
+
+pub first_read : (frames : List HFrame) (frame : HFrame) → slice_get frames 0 ≡ Some frame → frames ≡ frame ∷ drop 1 frames
+first_read frames frame e = grind arith
+
+-- ## Frames
+
+pub rest_fit : (frames : List HFrame) (frame : HFrame) → frames ≡ frame ∷ drop 1 frames → FitFrames frames → FitFrames (drop 1 frames)
+rest_fit frames frame first fit = All-tail (λ (x : HFrame). IsTrue (fits_h 2 x.msg)) frame (drop 1 frames) (subst (λ xs. FitFrames xs) first fit)
+
+pub given_reads : (h : Held) (piece : List ℕ) (frames : List HFrame) (behind : Option StreamFault) (k : Held) → Gives host h piece frames behind k → behind ≡ None → k.failed ≡ false
+given_reads h piece frames behind k e u = grind arith
+
+pub taken_counted : (e : PlainTermEndpoint) (u : PlainTerminal) (frame : HFrame) (ms : List Tmesg) → IsSound e → take_of e.term frame ≡ Ok (u, ms) → length u.held ≤ e.events
+taken_counted e u frame ms s taken = subst (λ hs. length hs ≤ e.events) (sym (take_held e.term u frame ms taken)) s.counted
+
+-- ## Events
+
+pub settled_counted : (e : PlainTermEndpoint) (u : PlainTerminal) (acted : Acted) → IsSound e → act_of e.term ≡ Ok (u, acted) → IsDecided acted → length u.held ≤ e.events
+settled_counted e u acted s act settled = omega (arith, act_held e.term u acted act settled, s.counted)
+
+pub acted_first : (e g : PlainTermEndpoint) (u : PlainTerminal) (acted : Acted) → IsSound e → act_of e.term ≡ Ok (u, acted) → IsDecided acted
+    → g ≡ record e { term = u; unwritten = composed_in acted; refusals = e.refusals ++ refusals_from (oldest e) (acted ∷ []) } → ActsFirst e g
+acted_first e g u acted s act settled same = grind (arith, act_held)
+
+-- the number of an event that is refused, as it is counted
+pub refused_number : (e : PlainTermEndpoint) (u : PlainTerminal) (acted : Acted) → act_of e.term ≡ Ok (u, acted) → IsDecided acted → e.events - length u.held ≡ oldest e
+refused_number e u acted act settled = let fewer = act_held e.term u acted act settled in omega (arith, fewer)
+
+-- ## Stamps
+
+pub acted_stamped : (e : PlainTermEndpoint) (u : PlainTerminal) (acted : Acted) → IsSound e → act_of e.term ≡ Ok (u, acted) → e.seen ≤ u.sent
+acted_stamped e u acted s act = omega (arith, act_counts e.term u acted act, s.stamped)
+
+-- ## Faults
+
+-- the terminal did not receive the oldest frame
+pub receive_failed : (e h g : PlainTermEndpoint) (frame : HFrame) (rest : List HFrame) (u : PlainTerminal) (why : EndpointFault TermStop) → e.waiting ≡ frame ∷ rest
+    → Tries {A = List Tmesg} e.term (take_of e.term frame) (Err why) u → h ≡ record e { term = u } → g ≡ stopped_by h why → Receives e (Err why) g
+receive_failed e h g frame rest u why w q y z = grind arith
+
+-- frames that a framer gives fit in version 2
+pub frames_fit : (v : ℕ) (frames : List HFrame) → FitInTurn host v frames → FitFrames frames
+frames_fit v [] fit = All-nil (λ (frame : HFrame). IsTrue (fits_h 2 frame.msg))
+frames_fit v (frame ∷ frames) fit = grind (arith, (frames_fit (host.after v frame) frames fit.1))
+
+pub given_fit : (h : Held) (piece : List ℕ) (frames : List HFrame) (behind : Option StreamFault) (k : Held) → Gives host h piece frames behind k → FitFrames frames
+given_fit h piece frames behind k e = grind (arith, frames_fit)

@@ -1,0 +1,137 @@
+-- A host behind a stream of bytes each way, and what feeding it does.
+use Rattle.std.specs.Prelude.{◌≡◌, ℕ, ◌+◌, ◌^◌, ◌≤◌, ◌⊎◌, List, [], ◌∷◌, ◌++◌, length, Bool, true, false, not, ◌&&◌, ◌||◌, nat_lt, nat_le, if◌then◌else◌, Option, Some, None, Result, Ok, Err}
+use Rattle.std.specs.Str.{chars, is_utf8}
+use Rattle.sam_runes.specs.Checks.{Checks}
+use Rattle.sam_runes.specs.Texts.{all_tags, max_runes, most_in_name}
+use Rattle.sam_mesg.specs.declared.tmesg.Tmesg.{Tmesg}
+use Rattle.sam_mesg.specs.declared.tmesg.Tmesg.TheVariants.{Twrite}
+use Rattle.sam_mesg.specs.declared.hmesg.HFrame.{HFrame}
+use Rattle.sam_frame.specs.Direction.{host, terminal}
+use Rattle.sam_frame.specs.Stream.{stream_of}
+use Rattle.sam_frame.specs.Framing.{Held, fresh}
+use Rattle.sam_host.specs.Host.{PlainHost, answer, new_host, with_given}
+use Rattle.sam_endpoint.specs.declared.fault.AddFault.{AddFault}
+use Rattle.sam_endpoint.specs.declared.fault.AddFault.TheVariants as refusal
+use Rattle.sam_endpoint.specs.declared.fault.StreamFault.{StreamFault}
+use Rattle.sam_endpoint.specs.declared.fault.HostStop.{HostStop}
+use Rattle.sam_endpoint.specs.declared.fault.HostStop.TheVariants as stop
+use Rattle.sam_endpoint.specs.declared.fault.EndpointFault.{EndpointFault}
+use Rattle.sam_endpoint.specs.declared.fault.EndpointFault.TheVariants as fault
+use Rattle.sam_endpoint.specs.Streams.{Gives}
+
+pub record PlainHostEndpoint : Type 0 where
+  pub framer : Held  -- what came of the terminal's stream and is no whole frame yet
+  pub host : PlainHost
+  pub is_begun : Bool  -- it was fed, so no file can be added any more
+  pub waiting : List Tmesg  -- messages that came and are not answered yet, for want of memory
+  pub behind : Option StreamFault  -- what is wrong with the stream behind them
+  pub unwritten : List HFrame  -- frames that were answered and are not in the pending_bytes yet, for want of memory
+  pub pending_bytes : List ℕ  -- bytes for the terminal that were not taken yet
+  pub writes : List ℕ  -- the tags that the host was told to write and that were not asked for yet, in order
+  pub stop : Option HostStop  -- why it has stopped for good
+
+abbrev pub new_host_end : PlainHostEndpoint
+new_host_end =
+    record {
+      framer = fresh;
+      host = new_host [];
+      is_begun = false;
+      waiting = [];
+      behind = None;
+      unwritten = [];
+      pending_bytes = [];
+      writes = [];
+      stop = None;
+    }
+
+-- the tag that a message tells the host to write; a host that is done writes nothing
+abbrev pub writes_of : PlainHost → Tmesg → List ℕ
+writes_of h (Twrite f) = if h.is_done then [] else f ∷ []
+writes_of h m = []
+
+-- the host answers the messages in order by these frames, and is told to write these tags
+abbrev pub Serves : PlainHost → List Tmesg → List HFrame → List ℕ → PlainHost → Type 0
+Serves h [] frames writes g = (frames ≡ []) × (writes ≡ []) × (g ≡ h)
+Serves h (m ∷ ms) frames writes g =
+    (k : PlainHost) × (first : List HFrame) × (rest : List HFrame) × (more : List ℕ)
+    × (answer h m ≡ Ok (k, first)) × (frames ≡ first ++ rest) × (writes ≡ writes_of h m ++ more) × Serves k ms rest more g
+
+-- of the messages that waited these were answered, and what was answered is written or waits to be
+pub record Answers (e : PlainHostEndpoint) (messages : List Tmesg) (g : PlainHostEndpoint) : Type 0 where
+  pub frames : List HFrame
+  pub more : List ℕ
+  pub serves : Serves e.host messages frames more g.host
+  pub waiting : e.waiting ≡ messages ++ g.waiting
+  pub bytes : g.pending_bytes ++ stream_of host g.unwritten ≡ e.pending_bytes ++ stream_of host (e.unwritten ++ frames)
+  pub writes : g.writes ≡ e.writes ++ more
+  pub framer : g.framer ≡ e.framer
+  pub begun : g.is_begun ≡ e.is_begun
+  pub behind : g.behind ≡ e.behind
+
+-- nothing is left to answer or to write
+pub record IsIdle (g : PlainHostEndpoint) : Type 0 where
+  pub waiting : g.waiting ≡ []
+  pub unwritten : g.unwritten ≡ []
+
+-- what going on with what waits leads to: all is answered; memory was refused first; or the end stops, at a message that the host
+-- refuses or at the stream's fault behind them all
+abbrev pub GoesOn : PlainHostEndpoint → Result (Unit {0}) (EndpointFault HostStop) → PlainHostEndpoint → Type 0
+GoesOn e (Ok done) g = Answers e e.waiting g × IsIdle g × (e.behind ≡ None) × (g.stop ≡ None)
+GoesOn e (Err fault.Unfinished) g = (messages : List Tmesg) × Answers e messages g × (g.stop ≡ None)
+GoesOn e (Err (fault.Stopped (stop.Stream why))) g =
+    Answers e e.waiting g × IsIdle g × (e.behind ≡ Some why) × (g.stop ≡ Some (stop.Stream why))
+GoesOn e (Err (fault.Stopped (stop.Refused why))) g =
+    (messages : List Tmesg) × (m : Tmesg) × (rest : List Tmesg)
+    × Answers e messages g × (g.waiting ≡ m ∷ rest) × (answer g.host m ≡ Err why) × (g.unwritten ≡ []) × (g.stop ≡ Some (stop.Refused why))
+GoesOn e (Err fault.OutOfMemory) g = ⊥
+GoesOn e (Err fault.CountFull) g = ⊥
+
+-- the framer took the piece in: its messages wait, and then perhaps a fault of the stream
+abbrev pub TakesIn : PlainHostEndpoint → List ℕ → PlainHostEndpoint → Type 0
+TakesIn e piece k =
+    (messages : List Tmesg) × (behind : Option StreamFault) × (rest : Held)
+    × Gives terminal e.framer piece messages behind rest
+    × (k ≡ record e { framer = rest; is_begun = true; waiting = messages; behind = behind })
+
+-- what an end does with a piece, where nothing waits any more
+abbrev pub FeedsIdle : PlainHostEndpoint → List ℕ → Result (Unit {0}) (EndpointFault HostStop) → PlainHostEndpoint → Type 0
+FeedsIdle e piece result g =
+    ((k : PlainHostEndpoint) × TakesIn e piece k × GoesOn k result g)
+    ⊎ (((result ≡ Err fault.OutOfMemory) × (g ≡ e))
+    ⊎ ((result ≡ Err fault.CountFull) × (2 ^ 64 ≤ e.framer.offset + length e.framer.bytes + length piece) × (g ≡ e)))
+
+-- what it does with the piece after it went on with what waited
+abbrev pub FeedsAfter : Result (Unit {0}) (EndpointFault HostStop) → PlainHostEndpoint → List ℕ → Result (Unit {0}) (EndpointFault HostStop) → PlainHostEndpoint
+    → Type 0
+FeedsAfter (Ok done) e piece result g = FeedsIdle e piece result g
+FeedsAfter (Err fault.Unfinished) e piece result g = (result ≡ Err fault.OutOfMemory) × (g ≡ e)
+FeedsAfter (Err (fault.Stopped why)) e piece result g = (result ≡ Err (fault.Stopped why)) × (g ≡ e)
+FeedsAfter (Err fault.OutOfMemory) e piece result g = ⊥
+FeedsAfter (Err fault.CountFull) e piece result g = ⊥
+
+-- what feeding a piece answers, and how it leaves the end: one that has stopped tells why again and stays as it is
+abbrev pub Feeds : PlainHostEndpoint → List ℕ → Result (Unit {0}) (EndpointFault HostStop) → PlainHostEndpoint → Type 0
+Feeds e piece result g =
+    ((why : HostStop) × (e.stop ≡ Some why) × (result ≡ Err (fault.Stopped why)) × (g ≡ e))
+    ⊎ ((e.stop ≡ None) × (middle : PlainHostEndpoint) × (first : Result (Unit {0}) (EndpointFault HostStop))
+    × GoesOn e first middle × FeedsAfter first middle piece result g)
+
+-- ## Files that the host begins with
+
+-- what stands against a file of this name and text, in bytes
+abbrev pub open_checks : PlainHostEndpoint → List ℕ → List ℕ → Checks AddFault
+open_checks e name text =
+    (e.is_begun, refusal.Begun)
+    ∷ (not (is_utf8 name && is_utf8 text), refusal.NotText)
+    ∷ (nat_lt most_in_name (length (chars name)) || nat_lt max_runes (length (chars text)), refusal.TooLong)
+    ∷ (nat_le all_tags (length e.host.files.slots), refusal.NoTag)
+    ∷ []
+
+-- the first test that holds, or want of memory where none does
+abbrev pub IsOpenFault : Option AddFault → AddFault → Type 0
+IsOpenFault None why = why ≡ refusal.OutOfMemory
+IsOpenFault (Some fault) why = why ≡ fault
+
+-- the end with one more file, of the runes that the bytes spell
+abbrev pub with_file : PlainHostEndpoint → List ℕ → List ℕ → PlainHostEndpoint
+with_file e name text = record e { host = with_given e.host (chars name, chars text) }

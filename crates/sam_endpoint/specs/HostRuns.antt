@@ -1,0 +1,67 @@
+-- A run of calls of a host end, and what it comes to.
+use Rattle.std.specs.Prelude.{◌≡◌, ℕ, List, [], ◌∷◌, ◌++◌, flat_map, Option, Some, None, option_map, Ok, Err}
+use Rattle.sam_mesg.specs.declared.tmesg.Tmesg.{Tmesg}
+use Rattle.sam_mesg.specs.declared.hmesg.HFrame.{HFrame}
+use Rattle.sam_frame.specs.Direction.{host, terminal}
+use Rattle.sam_frame.specs.Stream.{stream_of}
+use Rattle.sam_frame.specs.Reading.{IsStream}
+use Rattle.sam_host.specs.Host.{PlainHost}
+use Rattle.sam_endpoint.specs.declared.fault.EndpointFault.TheVariants as fault
+use Rattle.sam_endpoint.specs.Streams.{mesg_fault}
+use Rattle.sam_endpoint.specs.HostEndpoints.{PlainHostEndpoint, Feeds, IsIdle, Serves, new_host_end}
+use Rattle.sam_endpoint.specs.HostSteps.{Answer}
+
+-- a call: a piece that was fed and what feeding it answered, or bytes that were taken out
+abbrev pub Call : Type 0
+Call = List ℕ × Option Answer
+
+-- the end goes on behind this answer
+abbrev pub GoesOnAfter : Answer → Type 0
+GoesOnAfter (Err (fault.Stopped why)) = ⊥
+GoesOnAfter (Err _) = Unit {0}
+GoesOnAfter (Ok done) = Unit {0}
+
+-- these calls lead from one end to the other, and at none of them does it stop
+abbrev pub Runs : PlainHostEndpoint → List Call → PlainHostEndpoint → Type 0
+Runs e [] g = g ≡ e
+Runs e ((piece, Some answer) ∷ calls) g = (k : PlainHostEndpoint) × Feeds e piece answer k × GoesOnAfter answer × Runs k calls g
+Runs e ((bytes, None) ∷ calls) g = (rest : List ℕ) × (e.pending_bytes ≡ bytes ++ rest) × Runs (record e { pending_bytes = rest }) calls g
+
+-- the bytes of the call that the end has taken in: those of a piece, unless it was not taken
+abbrev pub came_in : Call → List ℕ
+came_in (piece, Some (Err fault.OutOfMemory)) = []
+came_in (piece, Some (Err fault.CountFull)) = []
+came_in (piece, Some answer) = piece
+came_in (bytes, None) = []
+
+-- the bytes that the call took out
+abbrev pub went_out : Call → List ℕ
+went_out (bytes, None) = bytes
+went_out (piece, Some answer) = []
+
+-- Of a stream that came in, the host has answered the first messages, and the others wait, with what is wrong behind them. All frames
+-- of the answers, in order, are what was taken out, what is pending and what is not written yet.
+pub record HasServed (first : PlainHost) (stream out : List ℕ) (e : PlainHostEndpoint) : Type 0 where
+  pub answered : List Tmesg
+  pub frames : List HFrame
+  pub writes : List ℕ
+  pub serves : Serves first answered frames writes e.host
+  pub reads : IsStream terminal 1 stream (answered ++ e.waiting) e.framer.bytes (option_map mesg_fault e.behind)
+  pub bytes : (out ++ e.pending_bytes) ++ stream_of host e.unwritten ≡ stream_of host frames
+
+-- a new end of this host
+abbrev pub begun_with : PlainHost → PlainHostEndpoint
+begun_with h = record new_host_end { host = h }
+
+-- ## The laws
+
+abbrev pub RunsServe : Type 0
+RunsServe =
+    (h : PlainHost) (calls : List Call) (g : PlainHostEndpoint) → Runs (begun_with h) calls g
+    → HasServed h (flat_map came_in calls) (flat_map went_out calls) g
+
+-- two ends to which the same stream came, in whatever pieces and with whatever want of memory, have the same host and the same bytes
+abbrev pub OneOutcome : Type 0
+OneOutcome =
+    (h : PlainHost) (stream a b : List ℕ) (e g : PlainHostEndpoint) → HasServed h stream a e → HasServed h stream b g → IsIdle e → IsIdle g
+    → (e.host ≡ g.host) × (a ++ e.pending_bytes ≡ b ++ g.pending_bytes) × (e.behind ≡ g.behind)

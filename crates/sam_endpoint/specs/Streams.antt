@@ -1,0 +1,45 @@
+-- What both ends share: what can be written, and a stream that shows a fault.
+use Rattle.std.specs.Prelude.{◌≡◌, ℕ, ◌+◌, ◌^◌, ◌≤◌, List, length, Option, Some, None, Result, Ok, Err}
+use Rattle.sam_mesg.specs.declared.hmesg.HFrame.{HFrame}
+use Rattle.sam_mesg.specs.declared.tmesg.Tmesg.{Tmesg}
+use Rattle.sam_mesg.specs.declared.fault.MesgFault.{MesgFault}
+use Rattle.sam_mesg.specs.declared.fault.MesgFault.TheVariants as wrong
+use Rattle.sam_frame.specs.Direction.{Direction, terminal, host}
+use Rattle.sam_frame.specs.Stream.{CanEncode}
+use Rattle.sam_frame.specs.Framing.{Held, GaveAll, GaveUp}
+use Rattle.sam_endpoint.specs.declared.fault.EndpointFault.{EndpointFault}
+use Rattle.sam_endpoint.specs.declared.fault.EndpointFault.TheVariants as fault
+use Rattle.sam_endpoint.specs.declared.fault.StreamFault.{StreamFault}
+use Rattle.sam_endpoint.specs.declared.fault.StreamFault.TheVariants.{BadKind, BadLength, BadText}
+use Rattle.sam_endpoint.specs.declared.incoming.Given.{Given}
+
+-- each frame fits in version 2, and so can be written
+abbrev pub FitFrames : List HFrame → Type 0
+FitFrames frames = CanEncode host frames
+
+-- each message fits in version 2, and so can be written
+abbrev pub FitMessages : List Tmesg → Type 0
+FitMessages messages = CanEncode terminal messages
+
+abbrev pub mesg_fault : StreamFault → MesgFault
+mesg_fault BadKind = wrong.BadKind
+mesg_fault BadLength = wrong.BadLength
+mesg_fault BadText = wrong.BadText
+
+-- the framer gave these messages for the piece, and behind them no fault or this one
+abbrev pub Gives : {M : Type 0} → Direction M → Held → List ℕ → List M → Option StreamFault → Held → Type 0
+Gives d h piece messages None k = GaveAll d h piece messages k
+Gives d h piece messages (Some fault) k = (place : ℕ) × GaveUp d h piece messages place (mesg_fault fault) k
+
+-- what the framer gave for the piece; or it took none of it and is as before
+abbrev pub GivesAs : {M S : Type 0} → Direction M → Held → List ℕ → Result (Given M) (EndpointFault S) → Held → Type 0
+GivesAs d h piece (Ok given) k = Gives d h piece given.messages.items given.behind k
+GivesAs d h piece (Err fault.OutOfMemory) k = k ≡ h
+GivesAs d h piece (Err fault.CountFull) k = (2 ^ 64 ≤ h.offset + length h.bytes + length piece) × (k ≡ h)
+GivesAs d h piece (Err fault.Unfinished) k = ⊥
+GivesAs d h piece (Err (fault.Stopped why)) k = ⊥
+
+-- want of memory before what the call brought was taken
+abbrev pub not_taken : {S : Type 0} → EndpointFault S → EndpointFault S
+not_taken fault.Unfinished = fault.OutOfMemory
+not_taken why = why

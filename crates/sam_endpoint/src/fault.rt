@@ -1,0 +1,91 @@
+//! Why a file is not added, why a call is not done, and why an end has stopped.
+
+ghost use Rattle.std.specs.Prelude.{◌≡◌};
+ghost use Rattle.sam_endpoint.specs.Streams.{not_taken};
+
+use sam_host::HostFault;
+use sam_term::TermFault;
+use thiserror::Error;
+
+/// Why a file is not added to a host, in the order of the tests. The host is then as it was. The C library tells `Begun`, `TooLong` and
+/// `NoTag` by their numbers, and has numbers of its own for the other two.
+#[derive(Clone, Copy, Debug, PartialEq, Eq, Drop, Error)]
+pub enum AddFault {
+    /// The host end has taken a piece before, be it an empty one. From then on its files are those that it began with.
+    #[error("the host has been fed")]
+    Begun = 1,
+    /// The name or the text is not UTF-8 (RFC 3629).
+    #[error("not UTF-8")]
+    NotText = 2,
+    /// The name has more than `MOST_IN_NAME` runes, or the text more than `MAX_RUNES`.
+    #[error("too long")]
+    TooLong = 3,
+    /// All tags were given.
+    #[error("no tag")]
+    NoTag = 4,
+    /// A request for memory was refused. The call may be made again.
+    #[error("out of memory")]
+    OutOfMemory = 5,
+}
+
+/// What is wrong with a stream. The end that reads it has stopped for good, since nothing behind a fault can be read. The numbers are
+/// those of `FeedFault`.
+#[derive(Clone, Copy, Debug, PartialEq, Eq, Drop, Error)]
+pub enum StreamFault {
+    /// The first byte of a frame is no kind of this direction.
+    #[error("no such kind")]
+    BadKind = 1,
+    /// The length of a body is none that its kind may have in the version at this place.
+    #[error("a wrong length")]
+    BadLength = 2,
+    /// A body is whole, and is that of no message: its text is not UTF-8, or is too long.
+    #[error("a wrong body")]
+    BadText = 3,
+}
+
+/// Why a host end has stopped for good. What stood in the stream before the cause is answered, and its frames can be taken out.
+#[derive(Clone, Copy, Debug, PartialEq, Eq, Drop)]
+pub enum HostStop {
+    /// The terminal's stream shows this fault behind the messages that were answered.
+    Stream(StreamFault),
+    /// The host refused a message for this reason, which is never `OutOfMemory`. The messages before it were answered.
+    Refused(HostFault),
+}
+
+/// Why a terminal end has stopped for good. What stood in the stream before the cause is received, and what it composed can be taken out.
+#[derive(Clone, Copy, Debug, PartialEq, Eq, Drop)]
+pub enum TermStop {
+    /// The host's stream shows this fault behind the frames that were received.
+    Stream(StreamFault),
+    /// The terminal refused a frame, or could not count the messages that an event or typed runes would compose (`CountFull`). The reason
+    /// is never `OutOfMemory`.
+    Refused(TermFault),
+}
+
+/// Why a call to an end has not done all that it was asked. Only `Stopped` is for good. After `OutOfMemory` and `CountFull` what the call
+/// brought is not taken; after `Unfinished` it is.
+#[derive(Clone, Copy, Debug, PartialEq, Eq, Drop)]
+pub enum EndpointFault<S> {
+    /// Memory was refused before what the call brought was taken: bring it again. What waited before may have gone on.
+    OutOfMemory,
+    /// Memory was refused after what the call brought was taken. The rest waits, and the next call that feeds, puts an event or flushes
+    /// goes on with it; feeding no bytes does just that.
+    Unfinished,
+    /// The stream would be longer than 2^64-1 bytes, or 2^64-1 events were taken before. What the call brought was not taken.
+    CountFull,
+    /// The end has stopped for good, at this call or before. An end that had stopped before is as it was.
+    Stopped(S),
+}
+
+impl<S: Copy> EndpointFault<S> {
+    /// Returns the fault of a call that could not take what it brought, since what waited before could not go on: `Unfinished` becomes
+    /// `OutOfMemory`.
+    pub(crate) fn not_taken(self) -> EndpointFault<S>
+        ensures { result ≡ not_taken self }
+    {
+        match self {
+            EndpointFault::Unfinished => EndpointFault::OutOfMemory,
+            fault => fault,
+        }
+    }
+}

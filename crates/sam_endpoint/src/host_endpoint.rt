@@ -1,0 +1,377 @@
+//! A host behind a stream of bytes each way.
+
+ghost use Rattle.std.specs.Prelude.{◌≡◌, ◌↔◌, ℕ, ◌+◌, ◌<◌, ◌≤◌, [], ◌∷◌, ◌++◌, IsTrue, IfOk, IfErr, OnOk, OnErr, MatchOption, drop, length, min, take, true, false, None, slice_get, option_to_list};
+ghost use Rattle.std.specs.Str.{chars, is_utf8};
+ghost use Rattle.std.specs.VecDeque.{deque_len, deque_capacity};
+ghost use Rattle.sam_runes.specs.Checks.{first_of_checks};
+ghost use Rattle.sam_term.specs.Fitting.{FitsLast};
+ghost use Rattle.sam_endpoint.specs.HostEndpoints.{Feeds, GoesOn, IsIdle, IsOpenFault, new_host_end, open_checks, with_file, writes_of};
+ghost use Rattle.sam_endpoint.specs.HostSteps.{Brings, Ends, Handles, Writes};
+
+use crate::fault::{AddFault, EndpointFault, HostStop, StreamFault};
+use crate::incoming::{drop_first, feed_framer};
+use crate::pending_bytes::PendingBytes;
+use sam_frame::FramerT;
+use sam_host::{Host, HostFault};
+use sam_mesg::{HFrame, Tmesg};
+use sam_runes::{ALL_TAGS, MAX_RUNES, MOST_IN_NAME, Text, read_utf8};
+use std::alloc::{AllocError, Global};
+use std::collections::VecDeque;
+use std::marker::Model;
+use std::str;
+
+/// Returns how many runes the text has.
+#[tactic(auto, using(std::proofs::lemmas::Str::chars_from_encodes))]
+fn count_runes(text: &str) -> usize
+    ensures { result ≡ length (chars text.now) }
+{
+    text.chars().count()
+}
+
+/// Returns how many runes the bytes spell; `None` if they are not UTF-8.
+fn runes_in(bytes: &[u8]) -> Option<usize>
+    ensures { MatchOption result (is_utf8 bytes.now ≡ false) (λ count. (is_utf8 bytes.now ≡ true) × (count ≡ length (chars bytes.now))) }
+{
+    match str::from_utf8(bytes) {
+        Ok(text) => Some(count_runes(text)),
+        Err(_) => None,
+    }
+}
+
+/// Returns the tag of the file that the host writes when it handles the message. A host that is done writes nothing.
+fn write_in(host: &Host, message: &Tmesg) -> Option<u16>
+    ensures { option_to_list result ≡ writes_of host.now message.now }
+{
+    match message {
+        Tmesg::Twrite(tag) => { if host.is_done() { None } else { Some(*tag) } }
+        _ => None,
+    }
+}
+
+/// Puts the tag behind the others, if there is one. There is room for it.
+fn note(writes: &mut VecDeque<u16>, tag: Option<u16>)
+    requires { deque_len writes.old < deque_capacity writes.old }
+    ensures { writes.new.items ≡ writes.old.items ++ option_to_list tag }
+{
+    if let Some(tag) = tag {
+        writes.push_back_reserved(tag);
+    }
+}
+
+/// A host that takes the bytes of a terminal's messages, answers them in order, and keeps the bytes of its frames until they are taken
+/// out.
+///
+/// Want of memory loses nothing: what could not be answered or written waits, and the next `feed` goes on with it. A fault of the stream,
+/// or a message that the host refuses, stops the end for good, once the messages before it are answered.
+///
+/// ```rust
+/// let mut end = HostEndpoint::new(alloc)?;
+/// let tag = end.add_file(b"notes", b"hello\n")?;
+/// end.feed(piece)?;                             // bytes that came from the terminal
+/// let count = end.take_out(&mut buffer);        // bytes that go to the terminal
+/// while let Some(tag) = end.next_written() { .. } // now write end.host().files().saved(tag) to disk
+/// ```
+#[derive(Drop)]
+pub struct HostEndpoint {
+    /// Where everything takes its memory from.
+    alloc: Global,
+    /// Cuts the terminal's stream into messages. It has not failed while `behind` is `None`.
+    framer: FramerT,
+    /// The host, as the messages answered so far left it.
+    host: Host,
+    /// Whether a piece was taken, be it an empty one. From then on no file is added.
+    begun: bool,
+    /// The messages that came and are not answered yet, the oldest first. There are none after a call that returned `Ok`.
+    waiting: VecDeque<Tmesg>,
+    /// What is wrong with the stream behind these messages; `None` if nothing is.
+    behind: Option<StreamFault>,
+    /// The frames of the last answer, while they are not in the pending_bytes. There are none after a call that returned `Ok`.
+    unwritten: Vec<HFrame>,
+    /// The bytes for the terminal that were not taken out yet.
+    pending_bytes: PendingBytes,
+    /// The tags of files that the host was told to write (Twrite) and `next_written` has not handed out, the oldest first.
+    writes: VecDeque<u16>,
+    /// Why the end has stopped for good; `None` while it goes on.
+    stop: Option<HostStop>,
+}
+
+impl Model for HostEndpoint {
+    ghost use Rattle.sam_endpoint.specs.HostEndpoints.{PlainHostEndpoint};
+    ghost use Rattle.sam_endpoint.specs.HostSteps.{IsSound};
+
+    ghost Value = { PlainHostEndpoint };
+
+    ghost view = { λ a. record {
+      framer = a.framer;
+      host = a.host;
+      is_begun = a.begun;
+      waiting = a.waiting.items;
+      behind = a.behind;
+      unwritten = a.unwritten.items;
+      pending_bytes = a.pending_bytes;
+      writes = a.writes.items;
+      stop = a.stop;
+    } };
+
+    ghost invariant = { λ a. IsSound (record {
+      framer = a.framer;
+      host = a.host;
+      is_begun = a.begun;
+      waiting = a.waiting.items;
+      behind = a.behind;
+      unwritten = a.unwritten.items;
+      pending_bytes = a.pending_bytes;
+      writes = a.writes.items;
+      stop = a.stop;
+    }) };
+}
+
+impl HostEndpoint {
+    /// Makes a host with no file but the command file, to which nothing was fed. Its only error is want of memory.
+    pub fn new(alloc: Global) -> Result<HostEndpoint, AllocError>
+        ensures { IfOk result (λ end. end ≡ new_host_end) }
+    {
+        let Ok(host) = Host::new(alloc, Vec::new(alloc)) else {
+            return Err(AllocError);
+        };
+        Ok(HostEndpoint {
+            alloc,
+            framer: FramerT::new(alloc),
+            host,
+            begun: false,
+            waiting: VecDeque::new(alloc),
+            behind: None,
+            unwritten: Vec::new(alloc),
+            pending_bytes: PendingBytes::new(alloc),
+            writes: VecDeque::new(alloc),
+            stop: None,
+        })
+    }
+
+    /// Returns the first test of `AddFault` that stands against a file of this name and text. Want of memory is not among them.
+    fn refusal(&self, name: &[u8], text: &[u8]) -> Option<AddFault>
+        ensures { result ≡ first_of_checks (open_checks self.now name.now text.now) }
+    {
+        if self.begun {
+            return Some(AddFault::Begun);
+        }
+        let Some(name) = runes_in(name) else {
+            return Some(AddFault::NotText);
+        };
+        let Some(text) = runes_in(text) else {
+            return Some(AddFault::NotText);
+        };
+        if name > MOST_IN_NAME || text > MAX_RUNES as usize {
+            return Some(AddFault::TooLong);
+        }
+        if self.host.files().tags() >= ALL_TAGS {
+            return Some(AddFault::NoTag);
+        }
+        None
+    }
+
+    /// Adds a file under the next tag, and returns the tag: 1 for the first file, 2 for the next, and so on. `name` and `text` are UTF-8
+    /// (RFC 3629). The file is clean and closed, and its name is not announced yet. The cost is that of the name and the text.
+    ///
+    /// Errors, in this order: `Begun` if a piece was taken before; `NotText` if the name or the text is not UTF-8; `TooLong` if the name
+    /// has more than `MOST_IN_NAME` runes or the text more than `MAX_RUNES`; `NoTag` if all tags were given; `OutOfMemory`. After an
+    /// error the end is as it was.
+    #[tactic(auto, using(crate::proofs::HostEndFiles::adds_files))]
+    pub fn add_file(&mut self, name: &[u8], text: &[u8]) -> Result<u16, AddFault>
+        ensures tag { IfOk result (λ tag. tag ≡ length self.old.host.files.slots) }
+        ensures added { OnOk result (self.new ≡ with_file self.old name.now text.now) }
+        ensures allowed { OnOk result (first_of_checks (open_checks self.old name.now text.now) ≡ None) }
+        ensures refused { IfErr result (IsOpenFault (first_of_checks (open_checks self.old name.now text.now))) }
+        ensures unchanged { OnErr result (self.new ≡ self.old) }
+    {
+        if let Some(fault) = self.refusal(name, text) {
+            return Err(fault);
+        }
+        let Ok(name) = read_utf8(self.alloc, name) else {
+            return Err(AddFault::OutOfMemory);
+        };
+        let Ok(runes) = read_utf8(self.alloc, text) else {
+            return Err(AddFault::OutOfMemory);
+        };
+        let Ok(text) = Text::from_runes(self.alloc, runes.as_slice()) else {
+            return Err(AddFault::OutOfMemory);
+        };
+        match self.host.add_file(name, text) {
+            Ok(tag) => Ok(tag),
+            Err(_) => Err(AddFault::OutOfMemory),
+        }
+    }
+
+    /// Takes a piece of the terminal's stream, of any length. The host answers the messages that are whole with it, in order, and the
+    /// bytes of its frames are then pending. Before that it goes on with what waited; with an empty piece it does just that.
+    ///
+    /// Errors, in this order:
+    ///
+    /// - `Stopped` if the end had stopped before. It is as it was.
+    /// - `OutOfMemory`, or `Stopped`, as what waited goes on. The piece is not taken.
+    /// - `CountFull` if the stream would be longer than 2^64-1 bytes, and then `OutOfMemory`. The piece is not taken, and nothing waits.
+    /// - `Unfinished` or `Stopped`, as the messages of the piece are answered. The piece is taken, and after `Unfinished` the next call
+    ///   goes on.
+    ///
+    /// It stops at a message that the host refuses, or at a fault of the stream behind all messages. What stands before that is answered.
+    pub fn feed(&mut self, piece: &[u8]) -> Result<(), EndpointFault<HostStop>>
+        ensures { Feeds self.old piece.now result self.new }
+    {
+        if let Some(why) = self.stopped() {
+            return Err(EndpointFault::Stopped(why));
+        }
+        if let Err(fault) = self.go_on() {
+            return Err(fault.not_taken());
+        }
+        self.take_in(piece)?;
+        self.go_on()
+    }
+
+    /// Returns how many bytes for the terminal wait to be taken out.
+    pub fn pending(&self) -> usize
+        ensures { result ≡ length self.now.pending_bytes }
+    {
+        self.pending_bytes.len()
+    }
+
+    /// Moves the first bytes for the terminal into the buffer, as many as wait and have room there, and returns how many. The rest of the
+    /// buffer stays as it was, and so does everything else of the end. It works on an end that has stopped, too. The cost is that of the
+    /// bytes it moves.
+    pub fn take_out(&mut self, into: &mut [u8]) -> usize
+        ensures count { result ≡ min (length self.old.pending_bytes) (length into.old) }
+        ensures bytes { into.new ≡ take result self.old.pending_bytes ++ drop result into.old }
+        ensures rest { self.new ≡ record self.old { pending_bytes = drop result self.old.pending_bytes } }
+    {
+        self.pending_bytes.take_into(into)
+    }
+
+    /// Hands out the oldest tag that the host was told to write (Twrite) and that was not handed out before. Returns `None` if there is
+    /// none.
+    pub fn next_written(&mut self) -> Option<u16>
+        ensures tag { result ≡ slice_get self.old.writes 0 }
+        ensures rest { self.new ≡ record self.old { writes = drop 1 self.old.writes } }
+    {
+        self.writes.pop_front()
+    }
+
+    /// Returns the host, to be read: its files, its version, and how many messages it has taken.
+    pub fn host(&self) -> &Host
+        ensures { result.now ≡ self.now.host }
+    {
+        &self.host
+    }
+
+    /// Returns why the end has stopped for good; `None` while it goes on.
+    pub fn stopped(&self) -> Option<HostStop>
+        ensures { result ≡ self.now.stop }
+    {
+        self.stop
+    }
+
+    /// Returns whether no message waits to be answered and no frame waits to be written. That is so whenever `feed` has returned `Ok`.
+    pub fn is_idle(&self) -> bool
+        ensures { IsTrue result ↔ IsIdle self.now }
+    {
+        self.waiting.is_empty() && self.unwritten.is_empty()
+    }
+
+    /// Returns whether a message waits to be answered.
+    fn is_waiting(&self) -> bool
+        ensures { IsTrue result ↔ (0 < length self.now.waiting) }
+    {
+        !self.waiting.is_empty()
+    }
+
+    /// Returns a copy of the oldest message that waits. Its only error is want of memory.
+    fn copy_first(&self) -> Result<Tmesg, AllocError>
+        requires { 0 < length self.now.waiting }
+        ensures first { IfOk result (λ message. self.now.waiting ≡ message ∷ drop 1 self.now.waiting) }
+        ensures fits { IfOk result FitsLast }
+    {
+        match self.waiting.front() {
+            Some(message) => message.copy(self.alloc),
+            None => unreachable!(),
+        }
+    }
+
+    /// Has the host answer the oldest message that waits, which then waits no longer. All memory is had before: after `Unfinished` all is
+    /// as it was. After `Stopped` the message waits on.
+    fn answer_first(&mut self) -> Result<(), EndpointFault<HostStop>>
+        requires { 0 < length self.old.waiting }
+        ensures { Handles self.old result self.new }
+    {
+        let Ok(message) = self.copy_first() else {
+            return Err(EndpointFault::Unfinished);
+        };
+        if self.writes.reserve(1).is_err() {
+            return Err(EndpointFault::Unfinished);
+        }
+        let tag = write_in(&self.host, &message);
+        match self.host.handle(message) {
+            Ok(frames) => {
+                drop_first(&mut self.waiting);
+                note(&mut self.writes, tag);
+                self.unwritten = frames.into_vec();
+                Ok(())
+            }
+            Err(HostFault::OutOfMemory) => Err(EndpointFault::Unfinished),
+            Err(fault) => {
+                self.stop = Some(HostStop::Refused(fault));
+                Err(EndpointFault::Stopped(HostStop::Refused(fault)))
+            }
+        }
+    }
+
+    /// Writes the frames of the last answer into the pending_bytes, all or none. Its only error is `Unfinished`.
+    fn write_answer(&mut self) -> Result<(), EndpointFault<HostStop>>
+        ensures { Writes self.old result self.new }
+    {
+        if self
+            .pending_bytes
+            .put_frames(self.unwritten.as_slice())
+            .is_err()
+        {
+            return Err(EndpointFault::Unfinished);
+        }
+        self.unwritten.clear();
+        Ok(())
+    }
+
+    /// Stops the end for good if the stream shows a fault, once all messages before it are answered.
+    fn end(&mut self) -> Result<(), EndpointFault<HostStop>>
+        ensures { Ends self.old result self.new }
+    {
+        match self.behind {
+            None => Ok(()),
+            Some(fault) => {
+                self.stop = Some(HostStop::Stream(fault));
+                Err(EndpointFault::Stopped(HostStop::Stream(fault)))
+            }
+        }
+    }
+
+    /// Goes on with what waits: it writes the last answer, and then answers and writes one message after another.
+    fn go_on(&mut self) -> Result<(), EndpointFault<HostStop>>
+        requires { self.old.stop ≡ None }
+        ensures { GoesOn self.old result self.new }
+    {
+        self.write_answer()?;
+        while self.is_waiting() {
+            self.answer_first()?;
+            self.write_answer()?;
+        }
+        self.end()
+    }
+
+    /// Feeds the piece to the framer when nothing waits. Then its messages wait, and perhaps a fault behind them.
+    fn take_in(&mut self, piece: &[u8]) -> Result<(), EndpointFault<HostStop>>
+        requires { self.old.behind ≡ None }
+        ensures { Brings self.old piece.now result self.new }
+    {
+        let given = feed_framer(&mut self.framer, piece)?;
+        self.begun = true;
+        self.waiting = VecDeque::from_vec(given.messages);
+        self.behind = given.behind;
+        Ok(())
+    }
+}

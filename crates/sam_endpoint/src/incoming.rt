@@ -1,0 +1,45 @@
+//! What came of the other side's stream.
+
+ghost use Rattle.std.specs.Prelude.{◌≡◌, drop, false};
+ghost use Rattle.sam_endpoint.specs.Streams.{GivesAs};
+
+use crate::fault::{EndpointFault, StreamFault};
+use sam_frame::{FeedFault, Framer, Wire};
+use std::collections::VecDeque;
+
+/// What a framer gave for a piece.
+#[derive(Drop)]
+pub(crate) struct Given<M: Drop> {
+    /// The messages that are whole now, in order.
+    pub(crate) messages: Vec<M>,
+    /// What is wrong with the stream behind them; `None` if nothing is.
+    pub(crate) behind: Option<StreamFault>,
+}
+
+/// Feeds a piece to a framer that has not failed. The errors are `CountFull` and then `OutOfMemory`, and leave the framer as it was.
+pub(crate) fn feed_framer<M: Wire, S>(
+    framer: &mut Framer<M>,
+    piece: &[u8],
+) -> Result<Given<M>, EndpointFault<S>>
+    requires { framer.old.failed ≡ false }
+    ensures { GivesAs M.direction framer.old piece.now result framer.new }
+{
+    let (messages, behind) = match framer.feed(piece) {
+        Ok(messages) => (messages, None),
+        Err(FeedFault::BadKind(messages, _)) => (messages, Some(StreamFault::BadKind)),
+        Err(FeedFault::BadLength(messages, _)) => (messages, Some(StreamFault::BadLength)),
+        Err(FeedFault::BadText(messages, _)) => (messages, Some(StreamFault::BadText)),
+        Err(FeedFault::OutOfMemory) => return Err(EndpointFault::OutOfMemory),
+        Err(FeedFault::CountFull) => return Err(EndpointFault::CountFull),
+        Err(FeedFault::Truncated) => unreachable!(),
+        Err(FeedFault::Failed) => unreachable!(),
+    };
+    Ok(Given { messages, behind })
+}
+
+/// Drops the oldest of what waits.
+pub(crate) fn drop_first<M: Drop>(waiting: &mut VecDeque<M>)
+    ensures { waiting.new.items ≡ drop 1 waiting.old.items }
+{
+    let _first = waiting.pop_front();
+}

@@ -1,0 +1,18 @@
+//! The two ends of a session as parts of any program: bytes of the other side go in, bytes for the other side come out, and the program
+//! carries them. Want of memory loses nothing: an end keeps what it could not do yet, and goes on with it at the next call that feeds it,
+//! puts an event or flushes.
+#![tactic(auto)]
+
+mod drawing;
+mod fault;
+mod host_endpoint;
+mod incoming;
+pub mod laws;
+mod pending_bytes;
+mod term_endpoint;
+
+pub use drawing::{GAP, read_rasp};
+pub use fault::{AddFault, EndpointFault, HostStop, StreamFault, TermStop};
+pub use host_endpoint::HostEndpoint;
+pub use pending_bytes::PendingBytes;
+pub use term_endpoint::TermEndpoint;

@@ -1,0 +1,443 @@
+//! A terminal behind a stream of bytes each way.
+
+ghost use Rattle.std.specs.Prelude.{◌≡◌, ◌↔◌, IfOk, IsTrue, None, [], ◌≤◌, drop, length, min, option_copied, take, slice_get, ◌++◌};
+ghost use Rattle.sam_endpoint.specs.TermEndpoints.{Feeds, Flushes, GoesOn, IsIdle, Puts, new_term_end, under_way};
+ghost use Rattle.sam_endpoint.specs.TermSteps.{Acts, ActsAll, Composes, Gains, Holds, Receives, ReceivesAll, Resumes, Tries, Writes, end_fault, stopped_by};
+ghost use Rattle.sam_mesg.specs.HostKinds.{fits_h};
+ghost use Rattle.sam_term.specs.Fitting.{AllFit, composed_in};
+ghost use Rattle.sam_term.specs.Term.{act_of, flush_of, take_of};
+
+use crate::fault::{EndpointFault, StreamFault, TermStop};
+use crate::incoming::{drop_first, feed_framer};
+use crate::pending_bytes::PendingBytes;
+use sam_frame::FramerH;
+use sam_mesg::{Batch, HFrame, Tmesg};
+use sam_term::{Acted, Refusal, TermFault, Terminal, UserEvent};
+use std::alloc::Global;
+use std::collections::VecDeque;
+use std::marker::Model;
+
+/// A terminal that takes the bytes of a host's frames and the user's events, and keeps the bytes of its messages until they are taken out.
+///
+/// At each `feed`, `put` and `flush_now` frames are received in order, and then events act for as long as no lock holds the oldest back. Want
+/// of memory loses nothing: what could not be received, done or written waits, and the next of these calls goes on with it. A fault of the
+/// stream, or a frame that the terminal refuses, stops the end for good, once the frames before it are received. An event that the
+/// terminal refuses stops nothing: `next_refusal` tells of it.
+///
+/// ```rust
+/// let mut end = TermEndpoint::new(alloc);
+/// end.put(UserEvent::Version(2))?;        // the user does something
+/// let count = end.take_out(&mut buffer);  // bytes that go to the host
+/// end.feed(piece)?;                       // bytes that came from the host
+/// let rasp = end.term().rasp(1);          // what can be drawn of file 1, if it is open
+/// ```
+#[derive(Drop)]
+pub struct TermEndpoint {
+    /// Where everything takes its memory from.
+    alloc: Global,
+    /// Cuts the host's stream into frames. It has not failed while `behind` is `None`.
+    framer: FramerH,
+    /// The terminal, as the frames and events so far left it. It holds at most as many events as `events` counts.
+    term: Terminal,
+    /// The frames that came and are not received yet, the oldest first. There are none after a call that returned `Ok`.
+    waiting: VecDeque<HFrame>,
+    /// What is wrong with the stream behind these frames; `None` if nothing is.
+    behind: Option<StreamFault>,
+    /// The messages that were composed last, while they are not in the pending_bytes. There are none after a call that returned `Ok`.
+    unwritten: Vec<Tmesg>,
+    /// The bytes for the host that were not taken out yet.
+    pending_bytes: PendingBytes,
+    /// The stamp of the last frame that was received: how many messages the host had taken when it made it; 0 before the first. It is at
+    /// most the count of the messages that the terminal composed.
+    seen: u64,
+    /// How many events were taken: the number of the last of them.
+    events: u64,
+    /// The events that were refused and `next_refusal` has not handed out, the oldest first: the number of each, from 1, and why.
+    refusals: VecDeque<(u64, Refusal)>,
+    /// Why the end has stopped for good; `None` while it goes on.
+    stop: Option<TermStop>,
+}
+
+impl Model for TermEndpoint {
+    ghost use Rattle.sam_endpoint.specs.TermEndpoints.{PlainTermEndpoint};
+    ghost use Rattle.sam_endpoint.specs.TermEndpoints.{shown};
+    ghost use Rattle.sam_endpoint.specs.TermSteps.{IsSound};
+
+    ghost Value = { PlainTermEndpoint };
+
+    ghost view = { shown };
+
+    ghost invariant = { λ a. IsSound (shown a) };
+}
+
+impl TermEndpoint {
+    /// Makes a terminal that knows no file, to which nothing was fed or put. It takes no memory.
+    pub fn new(alloc: Global) -> TermEndpoint
+        ensures { result ≡ new_term_end }
+    {
+        TermEndpoint {
+            alloc,
+            framer: FramerH::new(alloc),
+            term: Terminal::new(alloc),
+            waiting: VecDeque::new(alloc),
+            behind: None,
+            unwritten: Vec::new(alloc),
+            pending_bytes: PendingBytes::new(alloc),
+            seen: 0,
+            events: 0,
+            refusals: VecDeque::new(alloc),
+            stop: None,
+        }
+    }
+
+    /// Writes what was composed into the pending_bytes, all or none. Its only error is `Unfinished`.
+    fn write_composed(&mut self) -> Result<(), EndpointFault<TermStop>>
+        ensures { Writes self.old result self.new }
+    {
+        if self
+            .pending_bytes
+            .put_messages(self.unwritten.as_slice())
+            .is_err()
+        {
+            return Err(EndpointFault::Unfinished);
+        }
+        self.unwritten.clear();
+        Ok(())
+    }
+
+    /// Stops the end for good if the fault is `Stopped`, and returns the fault.
+    fn stop_by(&mut self, fault: EndpointFault<TermStop>) -> EndpointFault<TermStop>
+        ensures answer { result ≡ fault }
+        ensures stopped { self.new ≡ stopped_by self.old fault }
+    {
+        if let EndpointFault::Stopped(why) = fault {
+            self.stop = Some(why);
+        }
+        fault
+    }
+
+    /// Has the terminal receive the oldest frame that waits. Returns whether one waited.
+    fn receive_first(&mut self) -> Result<bool, EndpointFault<TermStop>>
+        ensures { Receives self.old result self.new }
+    {
+        let Some(frame) = first_frame(&self.waiting) else {
+            return Ok(false);
+        };
+        let stamp = frame.seen;
+        match receive_copy(&mut self.term, frame, self.alloc) {
+            Ok(composed) => {
+                drop_first(&mut self.waiting);
+                self.unwritten = composed.into_vec();
+                self.seen = stamp;
+                Ok(true)
+            }
+            Err(fault) => Err(self.stop_by(fault)),
+        }
+    }
+
+    /// Has the oldest held event act. Returns whether it could. Memory to tell of a refusal is had first.
+    fn act_first(&mut self) -> Result<bool, EndpointFault<TermStop>>
+        requires { self.old.unwritten ≡ [] }
+        ensures { Acts self.old result self.new }
+    {
+        if self.refusals.reserve(1).is_err() {
+            return Err(EndpointFault::Unfinished);
+        }
+        match act_now(&mut self.term) {
+            Ok(Acted::Idle) => Ok(false),
+            Ok(Acted::Locked) => Ok(false),
+            Ok(Acted::Done(composed)) => {
+                self.unwritten = composed.into_vec();
+                Ok(true)
+            }
+            Ok(Acted::Refused(why)) => {
+                let number = self.events - self.term.held() as u64;
+                self.refusals.push_back_reserved((number, why));
+                Ok(true)
+            }
+            Err(fault) => Err(self.stop_by(fault)),
+        }
+    }
+
+    /// Receives the frames that wait, and writes what they compose.
+    fn receive_all(&mut self) -> Result<(), EndpointFault<TermStop>>
+        requires { self.old.stop ≡ None }
+        ensures { ReceivesAll self.old result self.new }
+    {
+        self.write_composed()?;
+        while self.receive_first()? {
+            self.write_composed()?;
+        }
+        Ok(())
+    }
+
+    /// Has events act while one can, and writes what they compose.
+    fn act_all(&mut self) -> Result<(), EndpointFault<TermStop>>
+        requires idle { IsIdle self.old }
+        requires running { self.old.stop ≡ None }
+        ensures { ActsAll self.old result self.new }
+    {
+        while self.act_first()? {
+            self.write_composed()?;
+        }
+        Ok(())
+    }
+
+    /// Goes on with what waits: it writes, receives, stops at a fault of the stream, and then has events act.
+    #[tactic(auto, using(crate::proofs::TermEndpointCalls::going_acts))]
+    fn go_on(&mut self) -> Result<(), EndpointFault<TermStop>>
+        requires { self.old.stop ≡ None }
+        ensures { GoesOn self.old result self.new }
+    {
+        self.receive_all()?;
+        if let Some(why) = self.behind {
+            return Err(self.stop_by(EndpointFault::Stopped(TermStop::Stream(why))));
+        }
+        self.act_all()
+    }
+
+    /// Goes on with what waits, before the call's own work. An end that has stopped answers why.
+    fn resume(&mut self) -> Result<(), EndpointFault<TermStop>>
+        ensures { Resumes self.old result self.new }
+    {
+        if let Some(why) = self.stop {
+            return Err(EndpointFault::Stopped(why));
+        }
+        match self.go_on() {
+            Ok(()) => Ok(()),
+            Err(why) => Err(why.not_taken()),
+        }
+    }
+
+    /// Feeds the piece to the framer when nothing waits. Then its frames wait, and perhaps a fault behind them.
+    fn take_in(&mut self, piece: &[u8]) -> Result<(), EndpointFault<TermStop>>
+        requires { self.old.behind ≡ None }
+        ensures { Gains self.old piece.now result self.new }
+    {
+        let given = feed_framer(&mut self.framer, piece)?;
+        self.waiting = VecDeque::from_vec(given.messages);
+        self.behind = given.behind;
+        Ok(())
+    }
+
+    /// Holds an event behind the others, and counts it. The errors are `CountFull` and then `OutOfMemory`.
+    fn hold(&mut self, event: UserEvent) -> Result<(), EndpointFault<TermStop>>
+        ensures { Holds self.old event result self.new }
+    {
+        if self.events == u64::MAX {
+            return Err(EndpointFault::CountFull);
+        }
+        if self.term.user(event).is_err() {
+            return Err(EndpointFault::OutOfMemory);
+        }
+        self.events += 1;
+        Ok(())
+    }
+
+    /// Composes the runes that were typed and are in no message yet. The errors are `Stopped` for a full count and then `OutOfMemory`.
+    fn compose_unsent(&mut self) -> Result<(), EndpointFault<TermStop>>
+        requires { self.old.unwritten ≡ [] }
+        ensures { Composes self.old result self.new }
+    {
+        match flush_now(&mut self.term) {
+            Ok(composed) => {
+                self.unwritten = composed.into_vec();
+                Ok(())
+            }
+            Err(fault) => Err(self.stop_by(fault).not_taken()),
+        }
+    }
+
+    /// Takes an event of the user. It goes on with what waits, holds the event behind the others, and then has events act while one can.
+    /// An event that is refused is no error: `next_refusal` tells of it, by its number.
+    ///
+    /// Errors, in this order:
+    ///
+    /// - `Stopped` if the end had stopped before. It is as it was.
+    /// - `OutOfMemory`, or `Stopped`, as what waited goes on.
+    /// - `CountFull` if 2^64-1 events were taken before, and then `OutOfMemory` if there is no room for the event.
+    /// - `Unfinished` or `Stopped`, as events act. The event is taken, and after `Unfinished` the next call goes on.
+    ///
+    /// In all but the last case the event is dropped; after `OutOfMemory` it is to be put again.
+    pub fn put(&mut self, event: UserEvent) -> Result<(), EndpointFault<TermStop>>
+        ensures { Puts self.old event result self.new }
+    {
+        self.resume()?;
+        self.hold(event)?;
+        self.go_on()
+    }
+
+    /// Takes a piece of the host's stream, of any length. The terminal receives the frames that are whole with it, and then events act
+    /// while one can. Before that it goes on with what waited; with an empty piece it does just that.
+    ///
+    /// Errors, in this order:
+    ///
+    /// - `Stopped` if the end had stopped before. It is as it was.
+    /// - `OutOfMemory`, or `Stopped`, as what waited goes on. The piece is not taken.
+    /// - `CountFull` if the stream would be longer than 2^64-1 bytes, and then `OutOfMemory`. The piece is not taken.
+    /// - `Unfinished` or `Stopped`, as frames are received and events act. The piece is taken, and after `Unfinished` the next call goes
+    ///   on.
+    ///
+    /// It stops at a frame that the terminal refuses, at a fault of the stream behind all frames, or at an event whose messages can't be
+    /// counted.
+    pub fn feed(&mut self, piece: &[u8]) -> Result<(), EndpointFault<TermStop>>
+        ensures { Feeds self.old piece.now result self.new }
+    {
+        self.resume()?;
+        self.take_in(piece)?;
+        self.go_on()
+    }
+
+    /// Sends the runes that were typed and are in no message yet. A program calls it when there is nothing else to do, as when the user
+    /// pauses.
+    ///
+    /// Errors, in this order:
+    ///
+    /// - `Stopped` if the end had stopped before. It is as it was.
+    /// - `OutOfMemory`, or `Stopped`, as what waited goes on.
+    /// - `Stopped` if more than 2^64-1 messages would be composed, and then `OutOfMemory`. The runes are as they were, so after
+    ///   `OutOfMemory` it is to be called again.
+    /// - `Unfinished` or `Stopped`, as the message is written and events act. After `Unfinished` the next call goes on.
+    pub fn flush_now(&mut self) -> Result<(), EndpointFault<TermStop>>
+        ensures { Flushes self.old result self.new }
+    {
+        self.resume()?;
+        self.compose_unsent()?;
+        self.go_on()
+    }
+
+    /// Returns how many bytes for the host wait to be taken out.
+    pub fn pending(&self) -> usize
+        ensures { result ≡ length self.now.pending_bytes }
+    {
+        self.pending_bytes.len()
+    }
+
+    /// Moves the first bytes for the host into the buffer, as many as wait and have room there, and returns how many. The rest of the
+    /// buffer stays as it was, and so does everything else of the end. It works on an end that has stopped, too. The cost is that of the
+    /// bytes it moves.
+    pub fn take_out(&mut self, into: &mut [u8]) -> usize
+        ensures count { result ≡ min (length self.old.pending_bytes) (length into.old) }
+        ensures bytes { into.new ≡ take result self.old.pending_bytes ++ drop result into.old }
+        ensures rest { self.new ≡ record self.old { pending_bytes = drop result self.old.pending_bytes } }
+    {
+        self.pending_bytes.take_into(into)
+    }
+
+    /// Hands out the oldest event that was refused and was not handed out before: its number, counted from 1 over all events that were
+    /// taken, and why. Returns `None` if there is none.
+    pub fn next_refusal(&mut self) -> Option<(u64, Refusal)>
+        ensures told { result ≡ slice_get self.old.refusals 0 }
+        ensures rest { self.new ≡ record self.old { refusals = drop 1 self.old.refusals } }
+    {
+        self.refusals.pop_front()
+    }
+
+    /// Returns the terminal, to be read and drawn.
+    pub fn term(&self) -> &Terminal
+        ensures { result.now ≡ self.now.term }
+    {
+        &self.term
+    }
+
+    /// Returns why the end has stopped for good; `None` while it goes on.
+    pub fn stopped(&self) -> Option<TermStop>
+        ensures { result ≡ self.now.stop }
+    {
+        self.stop
+    }
+
+    /// Returns whether no frame waits to be received and no message waits to be written. Only a lock, want of memory or a stop can then
+    /// hold an event back. It is so whenever `put`, `feed` or `flush_now` has returned `Ok`.
+    pub fn is_idle(&self) -> bool
+        ensures { IsTrue result ↔ IsIdle self.now }
+    {
+        self.waiting.is_empty() && self.unwritten.is_empty()
+    }
+
+    /// Returns the stamp of the last frame that was received: how many messages the host had taken when it made that frame; 0 before the
+    /// first. It never goes down where the host keeps to the protocol, and it is at most the count of composed messages.
+    pub fn seen(&self) -> u64
+        ensures stamp { result ≡ self.now.seen }
+        ensures most { result ≤ self.now.term.sent }
+    {
+        self.seen
+    }
+
+    /// Returns how many of the composed messages the host has not taken, as far as its frames tell: those above the stamp of the last
+    /// frame that was received. It is an upper bound, and 0 means that the host has taken them all.
+    ///
+    /// The host answers a `Tcut`, a `Tack`, a `Ttype` that ends no command line, and a `Trequest` for a file that is gone, by no frame, and
+    /// answers nothing once it is done. Such a message counts until the host answers a later one. To learn that it arrived, compose one
+    /// that is answered at once and changes no text: `UserEvent::Check`. Once the session is over, what is under way counts for good.
+    pub fn under_way(&self) -> u64
+        ensures { result ≡ under_way self.now }
+    {
+        self.term.sent() - self.seen
+    }
+
+    /// Returns how many events were taken.
+    pub fn events(&self) -> u64
+        ensures { result ≡ self.now.events }
+    {
+        self.events
+    }
+}
+
+/// Returns what a fault of the terminal is for the end: want of memory leaves work unfinished, and any other fault stops it.
+fn end_fault(why: TermFault) -> EndpointFault<TermStop>
+    ensures { result ≡ end_fault why }
+{
+    match why {
+        TermFault::OutOfMemory => EndpointFault::Unfinished,
+        _ => EndpointFault::Stopped(TermStop::Refused(why)),
+    }
+}
+
+/// Returns the oldest frame.
+fn first_frame(frames: &VecDeque<HFrame>) -> Option<&HFrame>
+    ensures { option_copied result ≡ slice_get frames.now.items 0 }
+{
+    frames.front()
+}
+
+/// Has the terminal receive a copy of a frame, and returns what it composes. After an error the terminal is as it was.
+fn receive_copy(
+    term: &mut Terminal,
+    frame: &HFrame,
+    alloc: Global,
+) -> Result<Batch, EndpointFault<TermStop>>
+    requires { IsTrue (fits_h 2 frame.now.msg) }
+    ensures tries { Tries term.old (take_of term.old frame.now) result term.new }
+    ensures fit { IfOk result AllFit }
+{
+    let Ok(frame) = frame.copy(alloc) else {
+        return Err(EndpointFault::Unfinished);
+    };
+    match term.receive(frame) {
+        Ok(composed) => Ok(composed),
+        Err(why) => Err(end_fault(why)),
+    }
+}
+
+/// Has the terminal's oldest event act, and returns what became of it. After an error the terminal is as it was.
+fn act_now(term: &mut Terminal) -> Result<Acted, EndpointFault<TermStop>>
+    ensures tries { Tries term.old (act_of term.old) result term.new }
+    ensures fit { IfOk result (λ acted. AllFit (composed_in acted)) }
+{
+    match term.act() {
+        Ok(acted) => Ok(acted),
+        Err(why) => Err(end_fault(why)),
+    }
+}
+
+/// Has the terminal compose its unsent runes, and returns their message. After an error the terminal is as it was.
+fn flush_now(term: &mut Terminal) -> Result<Batch, EndpointFault<TermStop>>
+    ensures tries { Tries term.old (flush_of term.old) result term.new }
+    ensures fit { IfOk result AllFit }
+{
+    match term.flush() {
+        Ok(composed) => Ok(composed),
+        Err(why) => Err(end_fault(why)),
+    }
+}

@@ -1,0 +1,604 @@
+//! Typing, command lines, and new files. A line is run when its newline is typed into the command file, or when it is sent there. What it
+//! does is worked out first, then told, and put in last, so that want of memory changes nothing. The functions that tell add frames to
+//! those of the answer. The only error of a private function is `OutOfMemory`, and the host is then unchanged.
+
+ghost use Rattle.std.specs.Prelude.{◌≡◌, ◌<◌, ◌≤◌, ◌+◌, ◌-◌, ◌++◌, ◌∷◌, [], ◌^◌, IfOk, IsTrue, OnOk, OnErr, Err, None, Some, true, not, ◌&&◌, nat_lt, if◌then◌else◌, length};
+ghost use Rattle.sam_host.specs.Typing.{reply_line_to, typed_line, sent};
+ghost use Rattle.sam_host.specs.Host.{host_checks, Refuses, Appends, stamped, when, when_given, printed, told_edit, told_edits, told_outcome, with_file, with_files, no_tag_left, line_to, reply_outcome, reply_line, reply_type, reply_send, reply_startnewfile};
+ghost use Rattle.sam_runes.specs.Texts.{max_runes, del, is_empty, part, as_lines, last_line, ends_line};
+ghost use Rattle.sam_runes.specs.Edits.{inserted};
+ghost use Rattle.sam_runes.specs.Checks.{first_of_checks};
+ghost use Rattle.sam_text.specs.Files.{has_file, file_at, cut_file, after_print, IsOutcomeOf};
+ghost use Rattle.sam_text.specs.Outcomes.{effect};
+ghost use Rattle.sam_text.specs.Meaning.{meaning, nothing};
+
+use crate::fault::HostFault;
+use crate::host::Host;
+use sam_mesg::{HFrame, Hmesg, Tmesg};
+use sam_runes::places::start_of_line;
+use sam_runes::{ALL_TAGS, Edit, Runes};
+use sam_text::{FileChange, Outcome};
+
+impl Host {
+    /// Tells what an edit takes out: nothing if the range is empty.
+    #[tactic(auto, unfolding(crate::specs::Host::when))]
+    fn tell_cut(&self, frames: &mut Vec<HFrame>, tag: u16, p: u32, q: u32) -> Result<(), HostFault>
+        requires count { self.now.taken + 1 < 2 ^ 64 }
+        ensures ok { OnOk result (Appends self.now frames.old.items frames.new.items (when (nat_lt p q) (Hmesg.Hcut tag p (q - p) ∷ []))) }
+        ensures memory { OnErr result (result ≡ Err HostFault.OutOfMemory) }
+    {
+        if p < q {
+            return self.say(frames, Hmesg::Hcut(tag, p, q - p));
+        }
+        Ok(())
+    }
+
+    /// Tells one edit of a file: what goes, and then what comes.
+    #[tactic(auto, using(crate::proofs::FrameLaws::told_both), unfolding(crate::specs::Host::told_edit))]
+    fn tell_edit(&self, frames: &mut Vec<HFrame>, tag: u16, edit: &Edit) -> Result<(), HostFault>
+        requires count { self.now.taken + 1 < 2 ^ 64 }
+        requires limit { length edit.now.text ≤ max_runes }
+        ensures ok { OnOk result (Appends self.now frames.old.items frames.new.items (told_edit self.now.files tag edit.now)) }
+        ensures memory { OnErr result (result ≡ Err HostFault.OutOfMemory) }
+    {
+        self.tell_cut(frames, tag, edit.p, edit.q)?;
+        self.grown(frames, tag, edit.p, edit.text.as_slice())
+    }
+
+    /// Tells the edits of a file from the last to the first, so that each place is still true.
+    #[tactic(auto, using(crate::proofs::RunLaws::edit_told, crate::proofs::RunLaws::text_below_inserted))]
+    fn tell_edits(
+        &self,
+        frames: &mut Vec<HFrame>,
+        tag: u16,
+        edits: &[Edit],
+    ) -> Result<(), HostFault>
+        requires count { self.now.taken + 1 < 2 ^ 64 }
+        requires limit { inserted edits.now ≤ max_runes }
+        ensures ok { OnOk result (Appends self.now frames.old.items frames.new.items (told_edits self.now.files tag edits.now)) }
+        ensures memory { OnErr result (result ≡ Err HostFault.OutOfMemory) }
+    {
+        let mut left = edits.len();
+        while left > 0 {
+            left -= 1;
+            self.tell_edit(frames, tag, &edits[left])?;
+        }
+        Ok(())
+    }
+
+    /// Tells the name that a line sets, if it sets one.
+    #[tactic(auto, unfolding(crate::specs::Host::when_given))]
+    fn tell_new_name(
+        &self,
+        frames: &mut Vec<HFrame>,
+        tag: u16,
+        name: &Option<Runes>,
+    ) -> Result<(), HostFault>
+        requires count { self.now.taken + 1 < 2 ^ 64 }
+        ensures ok { OnOk result (Appends self.now frames.old.items frames.new.items (when_given name.now (Hmesg.Hmovname tag))) }
+        ensures memory { OnErr result (result ≡ Err HostFault.OutOfMemory) }
+    {
+        match name {
+            Some(name) => {
+                let copy = name.copy(self.alloc)?;
+                self.say(frames, Hmesg::Hmovname(tag, copy))
+            }
+            None => Ok(()),
+        }
+    }
+
+    /// Tells the pattern that a line leaves, if it has one.
+    #[tactic(auto, unfolding(crate::specs::Host::when_given))]
+    fn tell_pattern(
+        &self,
+        frames: &mut Vec<HFrame>,
+        pattern: &Option<Runes>,
+    ) -> Result<(), HostFault>
+        requires count { self.now.taken + 1 < 2 ^ 64 }
+        ensures ok { OnOk result (Appends self.now frames.old.items frames.new.items (when_given pattern.now Hmesg.Hsetpat)) }
+        ensures memory { OnErr result (result ≡ Err HostFault.OutOfMemory) }
+    {
+        match pattern {
+            Some(pattern) => {
+                let copy = pattern.copy(self.alloc)?;
+                self.say(frames, Hmesg::Hsetpat(copy))
+            }
+            None => Ok(()),
+        }
+    }
+
+    /// Tells the dot that a line leaves, if it leaves one.
+    #[tactic(auto, unfolding(crate::specs::Host::when_given))]
+    fn tell_dot(
+        &self,
+        frames: &mut Vec<HFrame>,
+        tag: u16,
+        dot: Option<(u32, u32)>,
+    ) -> Result<(), HostFault>
+        requires count { self.now.taken + 1 < 2 ^ 64 }
+        ensures ok { OnOk result (Appends self.now frames.old.items frames.new.items (when_given dot (λ d. Hmesg.Hsetdot tag d.0 d.1))) }
+        ensures memory { OnErr result (result ≡ Err HostFault.OutOfMemory) }
+    {
+        match dot {
+            Some((p, q)) => self.say(frames, Hmesg::Hsetdot(tag, p, q)),
+            None => Ok(()),
+        }
+    }
+
+    /// Tells that a clean file becomes dirty, if there is an edit.
+    #[tactic(auto, unfolding(crate::specs::Host::when))]
+    fn tell_edited(
+        &self,
+        frames: &mut Vec<HFrame>,
+        tag: u16,
+        edits: &[Edit],
+    ) -> Result<(), HostFault>
+        requires count { self.now.taken + 1 < 2 ^ 64 }
+        ensures ok { OnOk result (Appends self.now frames.old.items frames.new.items
+            (when (not (is_empty edits.now) && not (file_at self.now.files tag).dirty) (Hmesg.Hdirty tag ∷ []))) }
+        ensures memory { OnErr result (result ≡ Err HostFault.OutOfMemory) }
+    {
+        if edits.is_empty() || self.files.is_dirty(tag) {
+            return Ok(());
+        }
+        self.say(frames, Hmesg::Hdirty(tag))
+    }
+
+    /// Tells the terminal to look for gaps in a file, if there is an edit.
+    #[tactic(auto, unfolding(crate::specs::Host::when))]
+    fn tell_check(
+        &self,
+        frames: &mut Vec<HFrame>,
+        tag: u16,
+        edits: &[Edit],
+    ) -> Result<(), HostFault>
+        requires count { self.now.taken + 1 < 2 ^ 64 }
+        ensures ok { OnOk result (Appends self.now frames.old.items frames.new.items
+            (when (not (is_empty edits.now)) (Hmesg.Hcheck tag ∷ []))) }
+        ensures memory { OnErr result (result ≡ Err HostFault.OutOfMemory) }
+    {
+        if edits.is_empty() {
+            return Ok(());
+        }
+        self.say(frames, Hmesg::Hcheck(tag))
+    }
+
+    /// Tells what a line did to a file: its edits, the mark, the name, the pattern and the dot, in this order, and `Hcheck` last.
+    fn tell_parts(
+        &self,
+        frames: &mut Vec<HFrame>,
+        tag: u16,
+        edits: &[Edit],
+        name: &Option<Runes>,
+        pattern: &Option<Runes>,
+        dot: Option<(u32, u32)>,
+    ) -> Result<(), HostFault>
+        requires count { self.now.taken + 1 < 2 ^ 64 }
+        requires limit { inserted edits.now ≤ max_runes }
+        ensures ok { OnOk result (Appends self.now frames.old.items frames.new.items
+            (told_outcome (Some tag) self.now.files
+            (record nothing { edits = edits.now; name = name.now; pattern = pattern.now; dot = dot }))) }
+        ensures memory { OnErr result (result ≡ Err HostFault.OutOfMemory) }
+    {
+        self.tell_edits(frames, tag, edits)?;
+        self.tell_edited(frames, tag, edits)?;
+        self.tell_new_name(frames, tag, name)?;
+        self.tell_pattern(frames, pattern)?;
+        self.tell_dot(frames, tag, dot)?;
+        self.tell_check(frames, tag, edits)?;
+        Ok(())
+    }
+
+    /// Tells what a line did to its file. It hands the parts of the outcome to `tell_parts`.
+    #[tactic(auto, unfolding(crate::specs::Host::told_outcome))]
+    fn tell_changed(
+        &self,
+        frames: &mut Vec<HFrame>,
+        tag: u16,
+        outcome: &Outcome,
+    ) -> Result<(), HostFault>
+        requires count { self.now.taken + 1 < 2 ^ 64 }
+        requires limit { inserted (effect outcome.now).edits ≤ max_runes }
+        ensures ok { OnOk result (Appends self.now frames.old.items frames.new.items
+            (told_outcome (Some tag) self.now.files (effect outcome.now))) }
+        ensures memory { OnErr result (result ≡ Err HostFault.OutOfMemory) }
+    {
+        let edits = outcome.edits.items.as_slice();
+        self.tell_parts(
+            frames,
+            tag,
+            edits,
+            &outcome.name,
+            &outcome.pattern,
+            outcome.dot,
+        )
+    }
+
+    /// Tells what a line did. An outcome that names no file has at most a pattern to tell.
+    #[tactic(auto, unfolding(crate::specs::Host::told_outcome))]
+    fn tell_outcome(&self, frames: &mut Vec<HFrame>, outcome: &Outcome) -> Result<(), HostFault>
+        requires count { self.now.taken + 1 < 2 ^ 64 }
+        requires limit { inserted (effect outcome.now).edits ≤ max_runes }
+        ensures ok { OnOk result (Appends self.now frames.old.items frames.new.items
+            (told_outcome outcome.now.file self.now.files (effect outcome.now))) }
+        ensures memory { OnErr result (result ≡ Err HostFault.OutOfMemory) }
+    {
+        match outcome.file {
+            Some(tag) => self.tell_changed(frames, tag, outcome),
+            None => self.tell_pattern(frames, &outcome.pattern),
+        }
+    }
+
+    /// Tells how a line ends: the session is over, or the command lock is free.
+    fn tell_end(&self, frames: &mut Vec<HFrame>, quit: bool) -> Result<(), HostFault>
+        requires count { self.now.taken + 1 < 2 ^ 64 }
+        ensures ok { OnOk result (Appends self.now frames.old.items frames.new.items ((if quit then Hmesg.Hexit else Hmesg.Hunlock) ∷ [])) }
+        ensures memory { OnErr result (result ≡ Err HostFault.OutOfMemory) }
+    {
+        if quit {
+            self.say(frames, Hmesg::Hexit)
+        } else {
+            self.say(frames, Hmesg::Hunlock)
+        }
+    }
+
+    /// Tells a line: what it did, what it prints, and how it ends. The files are still as they were before the line.
+    #[tactic(auto, using(crate::proofs::RunLaws::told_line))]
+    fn tell_line(&self, frames: &mut Vec<HFrame>, outcome: &Outcome) -> Result<(), HostFault>
+        requires count { self.now.taken + 1 < 2 ^ 64 }
+        requires limit { inserted (effect outcome.now).edits ≤ max_runes }
+        requires fits { IsOutcomeOf self.now.files (effect outcome.now) }
+        ensures ok { OnOk result (Appends self.now frames.old.items frames.new.items (reply_outcome self.now [] (effect outcome.now)).1) }
+        ensures memory { OnErr result (result ≡ Err HostFault.OutOfMemory) }
+    {
+        self.tell_outcome(frames, outcome)?;
+        self.tell_print(frames, outcome.printed.as_slice())?;
+        self.tell_end(frames, outcome.quit)?;
+        Ok(())
+    }
+
+    /// Puts the outcome of a line in, with what it prints. The print comes first: it alone asks for memory, and it changes another file
+    /// than the line does.
+    #[tactic(auto, using(crate::proofs::RunLaws::outcome_after_print, crate::proofs::RunLaws::commit_print))]
+    fn put_outcome(&mut self, outcome: Outcome) -> Result<(), HostFault>
+        requires { IsOutcomeOf self.old.files (effect outcome) }
+        ensures ok { OnOk result (self.new ≡ (reply_outcome self.old [] (effect outcome)).0) }
+        ensures memory { OnErr result (result ≡ Err HostFault.OutOfMemory) }
+        ensures unchanged { OnErr result (self.new ≡ self.old) }
+    {
+        let quit = outcome.quit;
+        match self.files.print(outcome.printed.as_slice()) {
+            Ok(_) => {}
+            Err(_) => return Err(HostFault::OutOfMemory),
+        }
+        self.files.commit(outcome);
+        self.done = quit;
+        Ok(())
+    }
+
+    /// Works out what a line, without its newline, does. Nothing is changed. A wrong line is no error: its outcome prints a word.
+    fn outcome(&self, line: &[char]) -> Result<Outcome, HostFault>
+        ensures value { IfOk result (λ o. effect o ≡ meaning self.now.files line.now) }
+        ensures fits { IfOk result (λ o. IsOutcomeOf self.now.files (effect o)) }
+        ensures limit { IfOk result (λ o. inserted (effect o).edits ≤ max_runes) }
+        ensures memory { OnErr result (result ≡ Err HostFault.OutOfMemory) }
+    {
+        self.files.facts();
+        match self.files.run_line(self.alloc, line) {
+            Ok(outcome) => Ok(outcome),
+            Err(_) => Err(HostFault::OutOfMemory),
+        }
+    }
+
+    /// Runs a line, without its newline, whose text stands in the command file already, and adds its frames. The only error is
+    /// `OutOfMemory`, and the host is then unchanged.
+    pub(crate) fn run(&mut self, frames: &mut Vec<HFrame>, line: &[char]) -> Result<(), HostFault>
+        requires count { self.old.taken + 1 < 2 ^ 64 }
+        ensures host { OnOk result (self.new ≡ (reply_line self.old [] line.now).0) }
+        ensures frames { OnOk result (Tells self.old frames.old.items frames.new.items (reply_line self.old [] line.now).1) }
+        ensures memory { OnErr result (result ≡ Err HostFault.OutOfMemory) }
+        ensures unchanged { OnErr result (self.new ≡ self.old) }
+    {
+        let outcome = self.outcome(line)?;
+        self.tell_line(frames, &outcome)?;
+        self.put_outcome(outcome)
+    }
+
+    /// Takes out what stands from `p` to `q` in the command file.
+    fn cut_command(&mut self, p: u32, q: u32)
+        requires there { has_file self.old.files 0 ≡ true }
+        requires range { (p ≤ q) × (q ≤ length (file_at self.old.files 0).text) }
+        ensures { self.new ≡ with_file self.old 0 (cut_file 0 (file_at self.old.files 0) p q) }
+    {
+        self.files.change(0, FileChange::Cut(p, q, true));
+    }
+
+    /// Sets the dot of the command file.
+    fn set_command_dot(&mut self, dot: (u32, u32))
+        requires there { has_file self.old.files 0 ≡ true }
+        requires range { (dot.0 ≤ dot.1) × (dot.1 ≤ length (file_at self.old.files 0).text) }
+        ensures { self.new ≡ with_file self.old 0 (record (file_at self.old.files 0) { dot = dot }) }
+    {
+        self.files.change(0, FileChange::Dot(dot.0, dot.1));
+    }
+
+    /// Takes what was put into the command file last, from `p` to `q`, out of it again, and sets its dot back.
+    fn undo(&mut self, p: u32, q: u32, dot: (u32, u32))
+        requires there { has_file self.old.files 0 ≡ true }
+        requires range { (p ≤ q) × (q ≤ length (file_at self.old.files 0).text) }
+        requires dot { (dot.0 ≤ dot.1) × (dot.1 ≤ length (del (file_at self.old.files 0).text p q)) }
+        ensures { self.new ≡ with_file self.old 0
+            (record (file_at self.old.files 0) { text = del (file_at self.old.files 0).text p q; dot = dot }) }
+    {
+        self.cut_command(p, q);
+        self.set_command_dot(dot);
+    }
+
+    /// Returns the dot of the command file.
+    fn command_dot(&self) -> (u32, u32)
+        ensures value { result ≡ (file_at self.now.files 0).dot }
+        ensures range { (result.0 ≤ result.1) × (result.1 ≤ length (file_at self.now.files 0).text) }
+    {
+        match self.files.file(0) {
+            Some(file) => file.dot(),
+            None => (0, 0),
+        }
+    }
+
+    /// Copies the line of the command file that ends at `end`, without its newline.
+    fn line_to(&self, end: u32) -> Result<Runes, HostFault>
+        requires { end ≤ length (file_at self.now.files 0).text }
+        ensures ok { IfOk result (λ r. r ≡ line_to (file_at self.now.files 0).text end) }
+        ensures memory { OnErr result (result ≡ Err HostFault.OutOfMemory) }
+    {
+        match self.files.file(0) {
+            Some(file) => {
+                let start = file.text().line_start(end);
+                Ok(Runes::from_slice(self.alloc, file.text().slice(start, end))?)
+            }
+            None => Ok(Runes::from_slice(self.alloc, &[])?),
+        }
+    }
+
+    /// Runs the line of the command file that ends at `end`, where its newline stands, and returns its frames.
+    fn run_to(&mut self, end: u32) -> Result<Vec<HFrame>, HostFault>
+        requires count { self.old.taken + 1 < 2 ^ 64 }
+        requires place { end ≤ length (file_at self.old.files 0).text }
+        ensures host { OnOk result (self.new ≡ (reply_line_to self.old end).0) }
+        ensures frames { IfOk result (λ frames. frames.items ≡ stamped (self.old.taken + 1) (reply_line_to self.old end).1) }
+        ensures memory { OnErr result (result ≡ Err HostFault.OutOfMemory) }
+        ensures unchanged { OnErr result (self.new ≡ self.old) }
+    {
+        let line = self.line_to(end)?;
+        let mut frames = Vec::new(self.alloc);
+        self.run(&mut frames, line.as_slice())?;
+        Ok(frames)
+    }
+
+    /// Types runes that end in a newline into the command file at `p`, and runs the line that this newline ends. If the line meets want
+    /// of memory, what was typed is taken out again.
+    fn type_line(&mut self, p: u32, runes: &[char]) -> Result<Vec<HFrame>, HostFault>
+        requires count { self.old.taken + 1 < 2 ^ 64 }
+        requires filled { 0 < length runes.now }
+        requires place { p ≤ length (file_at self.old.files 0).text }
+        requires fits { length (file_at self.old.files 0).text + length runes.now ≤ max_runes }
+        ensures host { OnOk result (self.new ≡ (typed_line self.old p runes.now).0) }
+        ensures frames { IfOk result (λ frames. frames.items ≡ stamped (self.old.taken + 1) (typed_line self.old p runes.now).1) }
+        ensures memory { OnErr result (result ≡ Err HostFault.OutOfMemory) }
+        ensures count { self.new.taken ≡ self.old.taken }
+        ensures unchanged { OnErr result (self.new ≡ self.old) }
+    {
+        self.files.facts();
+        let dot = self.command_dot();
+        let end = p + runes.len() as u32;
+        self.put_typed(0, p, runes)?;
+        match self.run_to(end - 1) {
+            Ok(frames) => Ok(frames),
+            Err(why) => {
+                self.undo(p, end, dot);
+                Err(why)
+            }
+        }
+    }
+
+    /// Puts `runes` at the end of the command file, and runs `line`, which is their last line. If the line meets want of memory, what was
+    /// put there is taken out again.
+    fn send_line(
+        &mut self,
+        frames: Vec<HFrame>,
+        runes: &[char],
+        line: &[char],
+    ) -> Result<Vec<HFrame>, HostFault>
+        requires count { self.old.taken + 1 < 2 ^ 64 }
+        requires fits { length (file_at self.old.files 0).text + length runes.now ≤ max_runes }
+        ensures host { OnOk result (self.new ≡ (reply_line (sent self.old runes.now) [] line.now).0) }
+        ensures frames { IfOk result (λ all. Tells self.old frames.items all.items (reply_line (sent self.old runes.now) [] line.now).1) }
+        ensures memory { OnErr result (result ≡ Err HostFault.OutOfMemory) }
+        ensures count { self.new.taken ≡ self.old.taken }
+        ensures unchanged { OnErr result (self.new ≡ self.old) }
+    {
+        self.files.facts();
+        let dot = self.command_dot();
+        let len = self.text_len(0);
+        let mut frames = frames;
+        self.put_typed(0, len, runes)?;
+        match self.run(&mut frames, line) {
+            Ok(()) => Ok(frames),
+            Err(why) => {
+                self.undo(len, len + runes.len() as u32, dot);
+                Err(why)
+            }
+        }
+    }
+
+    /// Answers `Ttype`: puts the runes in at `p`, as the terminal has done already, and so with no frame. If they go into the command
+    /// file and end in a newline, the line that this newline ends is run, and its frames are the answer. Errors, in this order: `NoFile`;
+    /// `NotOpen`; `BadPosition` if `p` is past the end; `TooLong` if the text would have more than `MAX_RUNES` runes; `OutOfMemory`.
+    /// After an error the host is unchanged. The caller counts the message.
+    #[tactic(auto, using(crate::proofs::TypingLaws::type_as_line, crate::proofs::TypingLaws::type_alone))]
+    pub(crate) fn type_in(
+        &mut self,
+        tag: u16,
+        p: u32,
+        runes: &Runes,
+    ) -> Result<Vec<HFrame>, HostFault>
+        requires { self.old.taken + 1 < 2 ^ 64 }
+        ensures allowed { OnOk result (first_of_checks (host_checks self.old (Tmesg.Ttype tag p runes.now)) ≡ None) }
+        ensures host { OnOk result (self.new ≡ (reply_type self.old tag p runes.now).0) }
+        ensures frames { IfOk result (λ frames. frames.items ≡ stamped (self.old.taken + 1) (reply_type self.old tag p runes.now).1) }
+        ensures refused { Refuses self.old (Tmesg.Ttype tag p runes.now) result }
+        ensures count { self.new.taken ≡ self.old.taken }
+        ensures unchanged { OnErr result (self.new ≡ self.old) }
+    {
+        self.wants_place(tag, p)?;
+        if self.files.passes_limit(tag, runes.len()) {
+            return Err(HostFault::TooLong);
+        }
+        if tag == 0 && ends_line(runes.as_slice()) {
+            let frames = self.type_line(p, runes.as_slice())?;
+            return Ok(frames);
+        }
+        self.put_typed(tag, p, runes.as_slice())?;
+        Ok(Vec::new(self.alloc))
+    }
+
+    /// Copies what stands in a file from `p` to `q`, with a newline added if it ends in none.
+    fn lines_of(&self, tag: u16, p: u32, q: u32) -> Result<Runes, HostFault>
+        requires ascending { p ≤ q }
+        requires within { q ≤ length (file_at self.now.files tag).text }
+        ensures ok { IfOk result (λ r. r ≡ as_lines (part (file_at self.now.files tag).text p q)) }
+        ensures memory { OnErr result (result ≡ Err HostFault.OutOfMemory) }
+    {
+        let runes = self.part(tag, p, q)?;
+        if ends_line(runes.as_slice()) {
+            return Ok(runes);
+        }
+        let mut lines = runes.into_vec();
+        lines.push('\n')?;
+        Ok(Runes::from_vec(lines))
+    }
+
+    /// Answers a `Tsend` that sends nothing: the command lock is free.
+    fn nothing_sent(&self) -> Result<Vec<HFrame>, HostFault>
+        requires { self.now.taken + 1 < 2 ^ 64 }
+        ensures ok { IfOk result (λ frames. frames.items ≡ stamped (self.now.taken + 1) (Hmesg.Hunlock ∷ [])) }
+        ensures memory { OnErr result (result ≡ Err HostFault.OutOfMemory) }
+    {
+        let mut frames = Vec::new(self.alloc);
+        self.say(&mut frames, Hmesg::Hunlock)?;
+        Ok(frames)
+    }
+
+    /// Puts lines at the end of the command file, tells them as printed, and runs the last of them.
+    fn send_lines(&mut self, lines: &[char]) -> Result<Vec<HFrame>, HostFault>
+        requires count { self.old.taken + 1 < 2 ^ 64 }
+        requires filled { 0 < length lines.now }
+        requires fits { length (file_at self.old.files 0).text + length lines.now ≤ max_runes }
+        ensures host { OnOk result (self.new ≡ (reply_line (sent self.old lines.now) [] (last_line lines.now)).0) }
+        ensures frames { IfOk result (λ frames. Tells self.old
+            (stamped (self.old.taken + 1) (printed self.old.files lines.now)) frames.items
+            (reply_line (sent self.old lines.now) [] (last_line lines.now)).1) }
+        ensures memory { OnErr result (result ≡ Err HostFault.OutOfMemory) }
+        ensures count { self.new.taken ≡ self.old.taken }
+        ensures unchanged { OnErr result (self.new ≡ self.old) }
+    {
+        let mut frames = Vec::new(self.alloc);
+        self.tell_print(&mut frames, lines)?;
+        let end = lines.len() - 1;
+        let start = start_of_line(lines, end);
+        self.send_line(frames, lines, &lines[start..end])
+    }
+
+    /// Answers `Tsend`: prints what stands from `p` to `q` at the end of the command file, with a newline added if it ends in none, and
+    /// runs the last line of it. If the range is empty, or the command file has no room, nothing changes, and `Hunlock` is the one frame.
+    /// Errors, in this order: `NoFile`; `NotOpen`; `BadPosition` if the text has no such range; `OutOfMemory`. After an error the host is
+    /// unchanged. The caller counts the message.
+    #[tactic(auto, using(crate::proofs::TypingLaws::send_nothing, crate::proofs::TypingLaws::lines_filled))]
+    pub(crate) fn send(&mut self, tag: u16, p: u32, q: u32) -> Result<Vec<HFrame>, HostFault>
+        requires { self.old.taken + 1 < 2 ^ 64 }
+        ensures allowed { OnOk result (first_of_checks (host_checks self.old (Tmesg.Tsend tag p q)) ≡ None) }
+        ensures host { OnOk result (self.new ≡ (reply_send self.old tag p q).0) }
+        ensures frames { IfOk result (λ frames. frames.items ≡ stamped (self.old.taken + 1) (reply_send self.old tag p q).1) }
+        ensures refused { Refuses self.old (Tmesg.Tsend tag p q) result }
+        ensures count { self.new.taken ≡ self.old.taken }
+        ensures unchanged { OnErr result (self.new ≡ self.old) }
+    {
+        self.wants_range(tag, p, q)?;
+        if p == q {
+            let frames = self.nothing_sent()?;
+            return Ok(frames);
+        }
+        let lines = self.lines_of(tag, p, q)?;
+        if self.files.passes_limit(0, lines.len()) {
+            let frames = self.nothing_sent()?;
+            return Ok(frames);
+        }
+        let frames = self.send_lines(lines.as_slice())?;
+        Ok(frames)
+    }
+
+    /// Answers a `Tstartnewfile` after all tags were given: prints `? no tag`, and frees the command lock.
+    #[tactic(auto, using(crate::proofs::FrameLaws::stamped_append))]
+    fn no_tag_left(&mut self) -> Result<Vec<HFrame>, HostFault>
+        requires count { self.old.taken + 1 < 2 ^ 64 }
+        ensures host { OnOk result (self.new ≡ with_files self.old (after_print self.old.files no_tag_left)) }
+        ensures frames { IfOk result (λ frames. frames.items
+            ≡ stamped (self.old.taken + 1) (printed self.old.files no_tag_left ++ Hmesg.Hunlock ∷ [])) }
+        ensures memory { OnErr result (result ≡ Err HostFault.OutOfMemory) }
+        ensures unchanged { OnErr result (self.new ≡ self.old) }
+    {
+        let words = ['?', ' ', 'n', 'o', ' ', 't', 'a', 'g', '\n'];
+        let mut frames = Vec::new(self.alloc);
+        self.tell_print(&mut frames, &words)?;
+        self.say(&mut frames, Hmesg::Hunlock)?;
+        match self.files.print(&words) {
+            Ok(_) => Ok(frames),
+            Err(_) => Err(HostFault::OutOfMemory),
+        }
+    }
+
+    /// Answers `Tstartnewfile`: makes an empty, clean file with no name under the next tag, opens it, and makes it the work file. If all
+    /// tags were given, `? no tag` is printed instead. The only error is `OutOfMemory`, and the host is then unchanged. The caller
+    /// counts the message.
+    #[tactic(auto, using(crate::proofs::FileLaws::put_is_work), unfolding(crate::specs::Host::reply_startnewfile))]
+    pub(crate) fn start_new_file(&mut self) -> Result<Vec<HFrame>, HostFault>
+        requires { self.old.taken + 1 < 2 ^ 64 }
+        ensures allowed { OnOk result (first_of_checks (host_checks self.old Tmesg.Tstartnewfile) ≡ None) }
+        ensures host { OnOk result (self.new ≡ (reply_startnewfile self.old).0) }
+        ensures frames { IfOk result (λ frames. frames.items ≡ stamped (self.old.taken + 1) (reply_startnewfile self.old).1) }
+        ensures refused { Refuses self.old Tmesg.Tstartnewfile result }
+        ensures count { self.new.taken ≡ self.old.taken }
+        ensures unchanged { OnErr result (self.new ≡ self.old) }
+    {
+        let tags = self.files.tags();
+        if tags >= ALL_TAGS {
+            let frames = self.no_tag_left()?;
+            return Ok(frames);
+        }
+        let tag = tags as u16;
+        let mut frames = Vec::new(self.alloc);
+        self.say(&mut frames, Hmesg::Hnewname(tag))?;
+        self.say(&mut frames, Hmesg::Hbindname(tag))?;
+        self.say(&mut frames, Hmesg::Hcurrent(tag))?;
+        self.say(&mut frames, Hmesg::Hunlock)?;
+        match self.files.start_file(self.alloc) {
+            Ok(_) => {}
+            Err(_) => return Err(HostFault::OutOfMemory),
+        }
+        self.files.put_work(tag);
+        Ok(frames)
+    }
+}
+
+/// Returns whether the last rune is a newline; false if there are no runes.
+#[tactic(auto, using(crate::proofs::TypingLaws::last_ends))]
+fn ends_line(runes: &[char]) -> bool
+    ensures value { result ≡ ends_line runes.now }
+    ensures filled { IsTrue result → 0 < length runes.now }
+{
+    if runes.is_empty() {
+        return false;
+    }
+    let last = runes.len() - 1;
+    runes[last] == '\n'
+}

@@ -1,5 +1,0 @@
-use Rattle.sam_protocol.proofs.frames_move.Goals as goal
-use Rattle.sam_protocol.proofs.FrameMoves as moves
-
-pub returns : goal.returns
-returns c = record { take = moves.take_law }

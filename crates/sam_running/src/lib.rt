@@ -1,9 +1,0 @@
-//! A session of five threads: the workers are started and joined, and their ends are settled.
-#![tactic(auto)]
-
-mod run;
-mod session;
-mod spawning;
-
-pub use run::{RunFault, run_ends};
-pub use session::run_threads;

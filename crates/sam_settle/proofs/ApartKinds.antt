@@ -1,0 +1,129 @@
+-- What a host answers and what a terminal composes fits at its place of the stream: a case for each message and for each event.
+use Rattle.sam_settle.proofs.Common.{◌≡◌, ℕ, false, List, [], ◌∷◌, ◌++◌, Option, Some, None, Ok, refl, arith, drop, after_h, HFrame, after_t, Tmesg, host, terminal, version_after, PlainHost, Reply, answer, host_checks, told_names, stamped, reply_version, reply_to, IsSound, FitInPlace, frames_fit, reply_stands, stays_sound, PlainTerminal, Made, flushed, sends, sends_if, unchanged, requested, request_for, event_outcome, made_by_type, made_by_cut, made_by_paste, made_by_snarf, made_by_view, event_checks, has_long_text, act_of, act_on, decided, flush_of, take_of, Acted, UserEvent, Each, HostRuns, composed_by, sides, answered_as, InTurn, InTurn-append, IsFree, free_turn}
+use Rattle.sam_runes.specs.Checks.{first_of_checks}
+use Rattle.sam_runes.specs.Texts.{common_version}
+use Rattle.sam_runes.proofs.CheckLaws.{none_holds}
+use Rattle.sam_mesg.specs.declared.hmesg.Hmesg.{Hmesg}
+use Rattle.sam_mesg.specs.declared.hmesg.Hmesg.TheVariants.{Hversion, Hunlock, Hack}
+use Rattle.sam_mesg.specs.declared.tmesg.Tmesg.TheVariants.{Tversion}
+use Rattle.sam_crossing.proofs.Versions.{IsPlain, plain_frames, reply_plain}
+use Rattle.sam_host.proofs.EachFrame.{reply_each}
+use Rattle.sam_term.specs.declared.event.Verdict.{Verdict}
+use Rattle.sam_term.proofs.Acts.{none_holds as none_at, test_at}
+use Rattle.sam_world.proofs.RunLaws.{counted-result}
+
+-- ## What the host answers: its version is that behind its answers
+
+-- what a reply to a message says of the version: that of a version message, and otherwise nothing
+record Tells (h : PlainHost) (m : Tmesg) (r : Reply) : Type 0 where
+  behind : (seen : ℕ) → version_after host h.version (stamped seen r.1) ≡ r.0.version
+  past : after_t h.version m ≡ r.0.version
+
+plain-stamped : (v seen : ℕ) (ms : List Hmesg) → IsPlain ms → version_after host v (stamped seen ms) ≡ v
+plain-stamped v seen [] p = refl
+plain-stamped v seen (m ∷ ms) p = grind (arith, (plain-stamped v seen ms p.1))
+
+-- a reply that says nothing of the version, and leaves it
+kept : (h : PlainHost) (m : Tmesg) (r : Reply) → after_t h.version m ≡ h.version → IsPlain r.1 → r.0.version ≡ after_t h.version m → Tells h m r
+kept h m r same plain version = grind (arith, plain-stamped)
+
+tells_version : (h : PlainHost) (v : ℕ) → first_of_checks (host_checks h (Tversion v)) ≡ None → Tells h (Tversion v) (reply_version h v)
+unfolding reply_version
+tells_version h v e = grind (
+  arith,
+  none_holds,
+  (reply_each plain_frames h (Tversion v)),
+  (λ (seen : ℕ). plain-stamped (after_h h.version (Hversion (common_version v))) seen (told_names 1 (drop 1 h.files.slots) ++ Hack ∷ Hunlock ∷ [])),
+)
+
+tells : (h : PlainHost) (m : Tmesg) → first_of_checks (host_checks h m) ≡ None → Tells h m (reply_to h m)
+tells h (Tversion v) e = tells_version h v e
+tells h m e = kept h m (reply_to h m) refl (reply_plain h m) (reply_stands h m e).1
+
+-- ## Every answer
+
+-- the version behind the frames of an answer is the host's, and behind the message too unless the host is done
+pub record Answered (h : PlainHost) (m : Tmesg) (r : PlainHost × List HFrame) : Type 0 where
+  pub behind : version_after host h.version r.1 ≡ r.0.version
+  pub past : r.0.is_done ≡ false → (h.is_done ≡ false) × (after_t h.version m ≡ r.0.version)
+
+pub answered : (h : PlainHost) (m : Tmesg) (r : PlainHost × List HFrame) → answer h m ≡ Ok r → Answered h m r
+unfolding answer
+answered h m r e = grind (arith, (tells h m))
+
+place_turn : (v : ℕ) (fs : List HFrame) → FitInPlace v fs → InTurn host v fs
+place_turn v [] p = tt
+place_turn v (f ∷ fs) p = ((λ g. record { is_message = g.is_message; fits = p.0 }), place_turn (after_h v f.msg) fs p.2)
+
+-- what a sound host answers to messages one after another
+pub answers_turn : (ms : List Tmesg) (h k : PlainHost) (fs : List HFrame) → IsSound h → HostRuns sides h ms fs k → InTurn host h.version fs
+answers_turn [] h k fs s r = grind arith
+answers_turn (m ∷ ms) h k fs s r = grind (
+  arith,
+  (answered_as (answer h m) (r.0, r.1) r.3),
+  place_turn,
+  (frames_fit h r.0 m r.1),
+  (stays_sound h r.0 m r.1),
+  (answered h m (r.0, r.1)),
+  (InTurn-append host h.version r.1 r.2),
+  (answers_turn ms r.0 k r.2),
+)
+
+-- ## What the terminal composes: only a snarf text has a limit that the version changes, and it is composed where the terminal may act
+
+abbrev AllFree : List Tmesg → Type 0
+AllFree ms = Each IsFree ms
+
+free-append : (ms ns : List Tmesg) → AllFree ms → AllFree ns → AllFree (ms ++ ns)
+free-append [] ns a b = b
+free-append (m ∷ ms) ns a b = (a.0, free-append ms ns a.1 b)
+
+free-flushed : (t : PlainTerminal) → AllFree (flushed t).1
+unfolding flushed
+free-flushed t = grind arith
+
+free-sends : (t : PlainTerminal) (change : PlainTerminal → PlainTerminal) (ms : List Tmesg) → AllFree ms → AllFree (sends t change ms).1
+free-sends t change ms p = grind (arith, free-append, free-flushed)
+
+free-sends_if : (t : PlainTerminal) (o : Option (ℕ × ℕ)) (f : ℕ) → AllFree (sends_if (request_for f o) t).1
+free-sends_if t None f = tt
+free-sends_if t (Some h) f = free-sends t (λ u. u) _ (tt, tt)
+
+free-requested : (t : PlainTerminal) (f : ℕ) → AllFree (requested t f).1
+unfolding requested
+free-requested t f = grind (arith, free-sends_if)
+
+-- what an event composes at a place with the terminal's version
+event_turn : (t : PlainTerminal) (e : UserEvent) (v : ℕ) → has_long_text t e ≡ false → v ≡ t.version → InTurn terminal v (event_outcome t e).1
+unfolding made_by_type made_by_cut made_by_paste made_by_snarf made_by_view flushed
+event_turn t e v u w = grind (arith, free_turn, free-append, free-sends, free-requested, free-flushed)
+
+-- ## Acts, flushes and frames
+
+-- where the terminal may act, it has the version of the place
+pub act_turn : (t : PlainTerminal) (r : PlainTerminal × Acted) (v : ℕ) → (t.command_lock ≡ false → t.has_exited ≡ false → v ≡ t.version) → act_of t ≡ Ok r
+    → InTurn terminal v (composed_by r.1)
+unfolding act_of test_at
+act_turn t r v place e = go t.held e
+  where
+    verdict : (o : Option Verdict) (x : UserEvent) (es : List UserEvent) → first_of_checks (event_checks t x) ≡ o
+        → decided o t es (event_outcome (record t { held = es }) x) ≡ Ok r → InTurn terminal v (composed_by r.1)
+    verdict o x es n q = grind (
+      arith,
+      (counted-result {A = PlainTerminal × Acted} (event_outcome (record t { held = es }) x).0.sent),
+      (none_at (event_checks t x) 0),
+      (none_at (event_checks t x) 1),
+      (none_at (event_checks t x) 8),
+      (event_turn (record t { held = es }) x v),
+    )
+
+    go : (es : List UserEvent) → act_on t es ≡ Ok r → InTurn terminal v (composed_by r.1)
+    go es e = grind (arith, verdict)
+
+pub flush_turn : (t : PlainTerminal) (r : Made) (v : ℕ) → flush_of t ≡ Ok r → InTurn terminal v r.1
+unfolding flush_of
+flush_turn t r v e = grind (arith, free_turn, free-flushed)
+
+pub take_turn : (t : PlainTerminal) (frame : HFrame) (r : Made) (v : ℕ) → take_of t frame ≡ Ok r → InTurn terminal v r.1
+unfolding take_of
+take_turn t frame r v e = grind (arith, free_turn, free-requested, (λ (u : PlainTerminal). free-sends u unchanged))

@@ -1,0 +1,63 @@
+-- What the private functions of settling say.
+use Rattle.std.specs.Prelude.{◌≡◌, ◌⊎◌, ℕ, ◌^◌, ◌<◌, ◌≤◌, true, List, [], ◌∷◌, Option, Some, None, vec_capacity}
+use Rattle.sam_host.specs.Host.{PlainHost}
+use Rattle.sam_term.specs.Term.{PlainTerminal}
+use Rattle.sam_queue.specs.Views.{LineView, sizes_of}
+use Rattle.sam_world.specs.declared.event.TermLog.{TermLog}
+use Rattle.sam_world.specs.World.{PlainWorld, new_world, run_of, merged, is_bad_log}
+use Rattle.sam_settle.specs.Headline.{Gives}
+use Rattle.sam_settle.specs.Settled.{counts_left, stops_of}
+use Rattle.sam_workers.specs.declared.ends.Ends.{Ends}
+use Rattle.sam_workers.specs.declared.stop.Stop.{Stop}
+use Rattle.sam_settle.specs.declared.settled.Settled.{Settled}
+use Rattle.sam_settle.specs.declared.settle.LineRoom.{LineRoom}
+use Rattle.sam_settle.specs.declared.settle.Prepared.{Prepared}
+use Rattle.sam_settle.specs.declared.settle.Replay.{Replay}
+use Rattle.sam_settle.specs.declared.settle.Source.{Source}
+use Rattle.sam_settle.specs.declared.settle.Source.TheVariants.{Sides, Run}
+
+-- room for the audit of a line, and for so many posts
+pub record IsRoomFor {T : Type 0} (line : LineView) (posts : ℕ) (room : LineRoom T) : Type 0 where
+  pub sizes : room.audit ≡ sizes_of line
+  pub bound : line.capacity < 2 ^ 64
+  pub none : room.posts.items ≡ []
+  pub space : posts ≤ vec_capacity room.posts
+
+-- the sides only where no worker stopped; a world only where the merged schedule leads to it from these files
+abbrev pub IsSource : List (List ℕ × List ℕ) → List TermLog → ℕ → List Stop → Source → Type 0
+IsSource files entries taken stops Sides = stops ≡ []
+IsSource files entries taken stops (Run world) = run_of (new_world files) (merged entries taken) ≡ Some world
+
+-- the merged schedule with the source of its world; none only where the schedule is no run
+abbrev pub IsScheduled : List (List ℕ × List ℕ) → List TermLog → ℕ → List Stop → Option Replay → Type 0
+IsScheduled files entries taken stops (Some r) =
+    (r.schedule.items ≡ merged entries taken) × IsSource files entries taken stops r.source
+IsScheduled files entries taken stops None =
+    (is_bad_log entries taken ≡ true) ⊎ (run_of (new_world files) (merged entries taken) ≡ None)
+
+-- the world of a source, where the sides are these
+abbrev pub world_from : Source → PlainHost → PlainTerminal → PlainWorld
+world_from Sides host term = record { host = host; term = term; up = []; down = [] }
+world_from (Run world) host term = world
+
+pub record IsPrepared (e : Ends) (p : Prepared) : Type 0 where
+  pub up : IsRoomFor e.host.take.line 1 p.up
+  pub down : IsRoomFor e.reader.take.line 1 p.down
+  pub events : IsRoomFor e.term.take.line 3 p.events
+  pub left : (p.left.items ≡ []) × (3 ≤ vec_capacity p.left)
+  pub stops : p.stops.items ≡ stops_of e
+  pub replay : IsScheduled e.host.files.items e.term.log.items e.host.host.taken (stops_of e) p.replay
+
+-- the three lines of a session give what was put into them
+pub record LinesGive (e : Ends) : Type 0 where
+  pub up : Gives e.host.take (e.term.post ∷ [])
+  pub down : Gives e.reader.take (e.host.post ∷ [])
+  pub events : Gives e.term.take (e.keyboard.post ∷ e.mouse.post ∷ e.reader.post ∷ [])
+
+-- what the ends come to: all that is said of it follows from this by the law of the two sides
+pub record ComesTo (e : Ends) (s : Settled) : Type 0 where
+  pub give : LinesGive e
+  pub schedule : s.schedule.items ≡ merged e.term.log.items e.host.host.taken
+  pub ran : run_of (new_world e.host.files.items) (merged e.term.log.items e.host.host.taken) ≡ Some s.world
+  pub left : s.left.items ≡ counts_left e
+  pub stops : s.stops.items ≡ stops_of e

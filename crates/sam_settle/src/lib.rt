@@ -1,0 +1,11 @@
+//! What a session of five threads came to. [`settle`] puts the five ends together: the lines are audited, and both sides are one world, to
+//! which one schedule of all events leads. [`apart_sides_join`] is the law behind it.
+#![tactic(auto)]
+
+mod laws;
+mod settle;
+mod settled;
+
+pub use laws::apart_sides_join;
+pub use settle::settle;
+pub use settled::{SettleFault, Settled};

@@ -1,9 +1,0 @@
-use Rattle.std.proofs.Common.{arith, rules}
-use Rattle.sam_settling.proofs.SettlingLists.{pushed_three, audited_few, audited_count}
-use Rattle.sam_settling.proofs.settling.audit_three.Goals as goal
-
-pub count-requires : goal.count-requires
-count-requires g c = search (rules, arith, audited_few)
-
-pub returns-clause-left : goal.returns-clause-left
-returns-clause-left g c = search (rules, arith, pushed_three, audited_count)

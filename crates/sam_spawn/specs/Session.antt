@@ -1,0 +1,37 @@
+-- What a session of threads over a script comes to.
+use Rattle.std.specs.Prelude.{◌≡◌, ℕ, [], map, Some, None}
+use Rattle.sam_script.specs.Script.{PlainScript, keys_of, mouse_of}
+use Rattle.sam_world.specs.Streams.{Begins}
+use Rattle.sam_world.specs.World.{new_world, run_of, merged}
+use Rattle.sam_workers.specs.Lines.{LinesView}
+use Rattle.sam_workers.specs.WorkerEnds.{Told, AllPassed, GatesTold}
+use Rattle.sam_settle.specs.Headline.{Headline}
+use Rattle.sam_settle.specs.Settled.{counts_left, stops_of, AreFull, HasStreams, HasUsers, IsDrained, IsWhole, MissesHost}
+use Rattle.sam_workers.specs.declared.input.Input.TheVariants.{User}
+use Rattle.sam_workers.specs.declared.ends.Ends.{Ends}
+use Rattle.sam_workers.specs.declared.stop.Stop.TheVariants as stop
+use Rattle.sam_settle.specs.declared.settled.Settled.{Settled}
+
+-- It was settled from the ends of a session in which each worker began and told this, the host began with the script's files, and keyboard
+-- and mouse put the first events that the script has of each: all of them where nothing stopped that worker
+pub record IsSession (script : PlainScript) (refuses : ℕ → Type 0) (s : Settled) : Type 0 where
+  pub ends : Ends
+  pub lines : LinesView
+  pub told : Told (keys_of script.lines) (mouse_of script.lines) lines ends
+  pub begun : AllPassed ends
+  pub headline : Headline ends s
+  pub run : run_of (new_world script.files) s.schedule.items ≡ Some s.world
+  pub schedule : s.schedule.items ≡ merged ends.term.log.items ends.host.host.taken
+  pub streams : HasStreams ends s
+  pub users : HasUsers ends s
+  pub keys : Begins ends.keyboard.post.put (map User (keys_of script.lines))
+  pub all_keys : ends.keyboard.stop ≡ None → ends.keyboard.post.put ≡ map User (keys_of script.lines)
+  pub clicks : Begins ends.mouse.post.put (map User (mouse_of script.lines))
+  pub all_clicks : ends.mouse.stop ≡ None → ends.mouse.post.put ≡ map User (mouse_of script.lines)
+  pub left : s.left.items ≡ counts_left ends
+  pub drained : IsDrained ends s
+  pub stops : s.stops.items ≡ stops_of ends
+  pub full : AreFull s
+  pub misses : ends.term.stop ≡ Some stop.PeerGone → MissesHost ends s
+  pub gates : GatesTold refuses ends
+  pub whole : s.stops.items ≡ [] → IsWhole ends s

@@ -1,0 +1,10 @@
+//! A session of five threads: the workers are started and joined, and their ends are settled.
+#![tactic(auto)]
+
+mod run;
+mod session;
+mod spawning;
+mod tasks;
+
+pub use run::{RunFault, run_ends};
+pub use session::run_threads;

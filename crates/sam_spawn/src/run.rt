@@ -1,0 +1,133 @@
+//! Running the five workers: none begins before all are started.
+ghost use Rattle.std.specs.Prelude.{◌≡◌, ◌<◌, IfOk, IfSome, IsSomeAnd, IsTrue, IsFalse, Some, Err};
+ghost use Rattle.sam_script.specs.Script.{keys_of, mouse_of};
+ghost use Rattle.sam_spawn.specs.Promised.{KeepPromises, TasksKept, SomeRefused};
+ghost use Rattle.sam_spawn.specs.Tasks.{AreReady};
+ghost use Rattle.sam_workers.specs.WorkerEnds.{Told, AllPassed, GatesTold, RefusesSome};
+ghost use Rattle.sam_spawn.specs.declared.run.RunFault.TheVariants.{GateTimedOut};
+
+use crate::spawning::{Handles, join_all, spawn_all};
+use crate::tasks::{Tasks, ready_tasks};
+use sam_script::Script;
+use sam_workers::{Ends, Gate, Lines, Starts};
+use std::alloc::Global;
+use std::sync::{OnceLock, Wait};
+use std::thread;
+use std::thread::{Scope, Threads};
+use thiserror::Error;
+
+/// Why a session could not be run. The right to the ends of its lines is spent, so another try needs new lines.
+#[derive(Clone, Copy, Debug, PartialEq, Eq, Drop, Error)]
+pub enum RunFault {
+    /// The gate did not let some worker begin. The other workers may have begun, and have ended.
+    #[error("a worker was not let begin")]
+    GateTimedOut = 1,
+    /// A thread could not be started. No worker began.
+    #[error("no thread could be started")]
+    NoThread = 2,
+    /// A request for memory was refused: for the lines, for what the workers begin with, or for the settling.
+    #[error("out of memory")]
+    OutOfMemory = 3,
+}
+
+/// Runs the five workers of a session over its lines, and returns their ends. The user does at the keyboard and with the mouse what the
+/// script says, and the host begins with the script's files. `starts` came with `lines`, and is spent. Pieces on the lines have at most
+/// `piece` bytes, and `piece` is at least 1.
+///
+/// No worker begins before all five are started, and all memory that they begin with is had before. The call waits for its threads, which
+/// may never end.
+///
+/// Errors, in this order: `OutOfMemory` if there is no memory for what the workers begin with; `NoThread` if a thread could not be
+/// started; `GateTimedOut` if the gate did not let a worker begin. A worker that stops on its way is no error: its end tells why.
+pub fn run_ends<'q, R: Threads + Wait + Sync, G: Gate>(
+    rt: &R,
+    alloc: Global,
+    lines: &'q Lines,
+    starts: Starts,
+    script: &Script,
+    piece: usize,
+    gate: &G,
+) -> Result<Ends<'q>, RunFault>
+    requires together { starts ≡ lines.now }
+    requires piece { 0 < piece }
+    ensures ends { IfOk result (Told (keys_of script.now.lines) (mouse_of script.now.lines) lines.now) }
+    ensures files { IfOk result (λ e. e.host.files.items ≡ script.now.files) }
+    ensures begun { IfOk result AllPassed }
+    ensures gates { IfOk result (GatesTold (G.may_refuse gate.now)) }
+    ensures timed { result ≡ Err RunFault.GateTimedOut → RefusesSome (G.may_refuse gate.now) }
+{
+    let Ok(tasks) = ready_tasks(alloc, lines, starts, script) else {
+        return Err(RunFault::OutOfMemory);
+    };
+    let cell = OnceLock::new();
+    let start = &cell;
+    thread::scope(
+        thread::scope_env(),
+        rt,
+        move |scope| -> Result<Ends<'_>, RunFault>
+            requires { (0 < piece) × AreReady tasks.lines.now tasks }
+            ensures ends { IfOk result (TasksKept (G.may_refuse gate.entry.now) tasks.entry) }
+            ensures begun { IfOk result AllPassed }
+            ensures timed { result ≡ Err RunFault.GateTimedOut → RefusesSome (G.may_refuse gate.entry.now) }
+        { run_all(scope, rt, alloc, start, gate, piece, tasks) },
+    )
+}
+
+/// Starts the five threads, lets their workers begin if all could be started, and joins them.
+fn run_all<'s, 'e: 's, 'q: 's, R: Threads + Wait + Sync, G: Gate>(
+    scope: &'s Scope<'s, &'e ()>,
+    rt: &'s R,
+    alloc: Global,
+    start: &'s OnceLock<bool>,
+    gate: &'s G,
+    piece: usize,
+    tasks: Tasks<'q>,
+) -> Result<Ends<'q>, RunFault>
+    requires piece { 0 < piece }
+    requires tasks { AreReady tasks.lines.now tasks }
+    ensures ends { IfOk result (TasksKept (G.may_refuse gate.now) tasks.entry) }
+    ensures begun { IfOk result AllPassed }
+    ensures timed { result ≡ Err RunFault.GateTimedOut → RefusesSome (G.may_refuse gate.now) }
+{
+    let handles = spawn_all(scope, rt, alloc, start, gate, piece, tasks);
+    let _ = start.set(rt, handles.is_some());
+    begun(joined(rt, handles))
+}
+
+/// Joins the threads, if all could be started.
+fn joined<'s, 'q, R: Threads, G: Gate>(
+    rt: &R,
+    handles: Option<Handles<'s, 'q, G>>,
+) -> Option<Ends<'q>>
+    ensures { IfSome result (λ ends. IsSomeAnd handles.entry (λ h. KeepPromises G.may_refuse h ends)) }
+{
+    join_all(rt, handles?)
+}
+
+/// Returns the ends if each worker was let begin. The errors are `NoThread` if there are no ends, and `GateTimedOut` if a worker was
+/// refused.
+fn begun(ends: Option<Ends<'_>>) -> Result<Ends<'_>, RunFault>
+    ensures ends { IfOk result (λ e. ends.entry ≡ Some e) }
+    ensures begun { IfOk result AllPassed }
+    ensures timed { result ≡ Err RunFault.GateTimedOut → IsSomeAnd ends.entry SomeRefused }
+{
+    let Some(ends) = ends else {
+        return Err(RunFault::NoThread);
+    };
+    if !all_passed(&ends) {
+        return Err(RunFault::GateTimedOut);
+    }
+    Ok(ends)
+}
+
+/// Returns whether the gate let each worker begin.
+fn all_passed(ends: &Ends) -> bool
+    ensures passed { IsTrue result → AllPassed ends.now }
+    ensures refused { IsFalse result → SomeRefused ends.now }
+{
+    ends.keyboard.passed
+        && ends.mouse.passed
+        && ends.host.passed
+        && ends.reader.passed
+        && ends.term.passed
+}

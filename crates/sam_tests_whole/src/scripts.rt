@@ -1,0 +1,137 @@
+//! Scripts, read and written.
+
+use sam_script::{Line, Script, ScriptFault, run_lines};
+use sam_test_support::told_of;
+use sam_world::Event;
+use std::alloc::{AllocError, Global};
+
+/// The wrong line that a script is refused for, and 0 for want of memory.
+fn fault_of(alloc: Global, text: &[u8]) -> Option<usize> {
+    told_of(Script::read(alloc, text), |read| match read {
+        Ok(_) => None,
+        Err(ScriptFault::Line(line)) => Some(*line),
+        Err(_) => Some(0),
+    })
+}
+
+/// The first script that has another wrong line, or none where this one is wrong.
+fn wrong_fault<'a>(alloc: Global, rows: &[(&'a str, Option<usize>)]) -> Option<&'a str> {
+    for row in rows {
+        let (text, wanted) = *row;
+        if fault_of(alloc, text.as_bytes()) != wanted {
+            return Some(text);
+        }
+    }
+    None
+}
+
+#[test]
+fn the_first_wrong_line_is_the_fault(rt: HostRuntime) {
+    const ROWS: &[(&str, Option<usize>)] = &[
+        ("", None),
+        ("\n\n# a\n= b\n", None),
+        ("host", None),
+        (
+            "file a b c\\n\\\\d\nk type 1 X y\nm flush\nk exit\ndrain\nshow",
+            None,
+        ),
+        ("file a\nk type 1", None),
+        ("k select 1 2 3\nk scroll 1 4294967295", None),
+        ("host\nfile a b", Some(2)),
+        ("host ", Some(1)),
+        (" host", Some(1)),
+        ("host x", Some(1)),
+        ("k", Some(1)),
+        ("k type", Some(1)),
+        ("k select 1 2", Some(1)),
+        ("k select 1 2 3 4", Some(1)),
+        ("k select 1 2 +3", Some(1)),
+        ("k select 1  3", Some(1)),
+        ("k cut 65536", Some(1)),
+        ("k scroll 1 4294967296", Some(1)),
+        ("k version 65536", Some(1)),
+        ("show\nk type 1 a\\", Some(2)),
+        ("show\nk type 1 a\\x", Some(2)),
+        ("file", Some(1)),
+        ("file  a", Some(1)),
+        ("fly", Some(1)),
+        ("host\r", Some(1)),
+    ];
+    assert_eq!(rt; wrong_fault(rt.alloc(), ROWS), None);
+    assert_eq!(rt; fault_of(rt.alloc(), b"show\n# \xC3"), Some(2));
+}
+
+/// A line of each kind, as a run is written down.
+const EACH_KIND: &str = "file a\\b é\\\\\\n|\n\
+    file - \n\
+    k type 1 X y\\n\n\
+    k type 0 \n\
+    k select 65535 4294967295 0\n\
+    k cut 1\n\
+    k paste 2\n\
+    k snarf 3\n\
+    k look 4\n\
+    k search 5\n\
+    k send 6\n\
+    k dclick 7 8\n\
+    k scroll 9 10\n\
+    k view 11 12 13\n\
+    k open 14\n\
+    k close 15\n\
+    k write 16\n\
+    k work 17\n\
+    k opencmd\n\
+    k new\n\
+    k exit\n\
+    k check 18\n\
+    k getsnarf\n\
+    k setsnarf \\\\ \n\
+    k version 1\n\
+    k flush\n\
+    act\n\
+    flush\n\
+    host\n\
+    term\n\
+    show\n";
+
+/// The events of a script's lines, as far as they are events.
+fn events_of(alloc: Global, script: &Script) -> Result<Vec<Event>, AllocError> {
+    let mut events = Vec::new(alloc);
+    for numbered in script.lines() {
+        match &numbered.line {
+            Line::Key(e) => events.push(Event::User(e.copy(alloc)?))?,
+            Line::Act => events.push(Event::Act)?,
+            Line::Flush => events.push(Event::Flush)?,
+            Line::Host => events.push(Event::HostTake)?,
+            Line::Term => events.push(Event::TermTake)?,
+            Line::Mouse(_) | Line::Drain | Line::Show => {}
+        }
+    }
+    Ok(events)
+}
+
+/// The script as it is written down, read and written down again.
+fn written_again(alloc: Global, text: &str) -> Result<Vec<u8>, ScriptFault> {
+    let script = Script::read(alloc, text.as_bytes())?;
+    let events = events_of(alloc, &script)?;
+    run_lines(alloc, &script, events.as_slice())
+}
+
+/// Whether the script is the same once it was read and written down again.
+fn is_kept(alloc: Global, text: &str) -> bool {
+    match written_again(alloc, text) {
+        Ok(bytes) => bytes.as_slice() == text.as_bytes(),
+        Err(_) => false,
+    }
+}
+
+#[test]
+fn lines_of_a_run_are_read_as_its_events(rt: HostRuntime) {
+    let exit = "k exit\nact\nhost\nterm\nshow\n";
+    let kept = [
+        is_kept(rt.alloc(), "show\n"),
+        is_kept(rt.alloc(), exit),
+        is_kept(rt.alloc(), EACH_KIND),
+    ];
+    assert_eq!(rt; kept, [true; 3]);
+}

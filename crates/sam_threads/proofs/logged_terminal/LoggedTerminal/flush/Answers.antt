@@ -1,6 +1,0 @@
-use Rattle.std.proofs.Common.{arith}
-use Rattle.sam_world.proofs.OrderLaws.{only_counts_stop}
-use Rattle.sam_threads.proofs.logged_terminal.LoggedTerminal.flush.Goals as goal
-
-pub returns-in-Err-clause-refused : goal.returns-in-Err-clause-refused
-returns-in-Err-clause-refused c = grind (arith, (only_counts_stop c.self.inside.term c.in-Err.fault))

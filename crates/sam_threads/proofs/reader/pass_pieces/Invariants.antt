@@ -1,8 +1,0 @@
-use Rattle.sam_threads.proofs.Passes.{SoFar}
-use Rattle.sam_threads.proofs.reader.pass_pieces.Given as goal
-
-abbrev pub invariant-loop-turn : goal.invariant-loop-turn
-invariant-loop-turn g l = record {
-  goes_on : (goal.iterator-loop-turn g).can_next l._turn-iterator × (goal.iterator-loop-turn g).is_finite l._turn-iterator;
-  so_far : SoFar l.fn.take l.take l.fn.post l.post l.framer;
-}

@@ -1,9 +1,0 @@
-use Rattle.sam_threads.proofs.Common.{◌≡◌, ◌++◌, map, into_iter_items}
-use Rattle.sam_threads.specs.declared.input.Input.TheVariants.{User}
-use Rattle.sam_threads.proofs.users.put_events.Given as goal
-
-abbrev pub invariant-loop-event : goal.invariant-loop-event
-invariant-loop-event g l = record {
-  put : l.post ≡ record l.fn.post { put = map User l.yielded };
-  left : l.fn.events.items ≡ l.yielded ++ into_iter_items l.event-iterator;
-}

@@ -1,0 +1,45 @@
+-- What the proofs of this crate cite most from its definitions and from the crates below.
+pub use Rattle.std.proofs.Common.{All, Bool, Err, IsTrue, List, MatchBool, None, Ok, Option, Result, Some, [], ap, append-nil, append_assoc, arith, drop, false, inl, inr, is_some, length, length-append, map, option_map, refl, rules, subst, suc, sym, take, true, ℕ, ◌++◌, ◌+◌, ◌∙◌, ◌∷◌, ◌≡◌, ◌≤◌, ◌⊎◌}
+pub use Rattle.std.proofs.lemmas.List.{drop-append-le, map-append}
+pub use Rattle.std.proofs.lemmas.List.Concat.{flat_map-append}
+pub use Rattle.std.proofs.lemmas.List.Elements.{All-cons, All-nil, All-tail}
+pub use Rattle.std.specs.Global.{Vec}
+pub use Rattle.std.specs.Vec.Iter.{into_iter_items}
+pub use Rattle.sam_frame.proofs.Cuttings.{Came, comes_more, splits_more}
+pub use Rattle.sam_frame.proofs.Fronts.{stream_of-append, version_after-append}
+pub use Rattle.sam_frame.specs.Direction.{Direction, frame_of, host, terminal}
+pub use Rattle.sam_frame.specs.Framing.{GaveAll, GaveUp, Held, fresh}
+pub use Rattle.sam_frame.specs.Stream.{CanEncode, FitInTurn, Splits, stream_of, version_after}
+pub use Rattle.sam_host.specs.Host.{PlainHost, answer, new_host}
+pub use Rattle.sam_mesg.specs.HostKinds.{FitsH, IsHFrame, after_h, fits_h}
+pub use Rattle.sam_mesg.specs.TerminalKinds.{FitsT, after_t, fits_t}
+pub use Rattle.sam_mesg.specs.declared.fault.MesgFault.{MesgFault}
+pub use Rattle.sam_mesg.specs.declared.fault.MesgFault.TheVariants.{BadKind, BadLength, BadText}
+pub use Rattle.sam_mesg.specs.declared.hmesg.HFrame.{HFrame}
+pub use Rattle.sam_mesg.specs.declared.tmesg.Tmesg.{Tmesg}
+pub use Rattle.sam_mesg.specs.declared.tmesg.Tmesg.TheVariants.{Tack, Tsetsnarf}
+pub use Rattle.sam_queue.proofs.Sorts.{items_of-append}
+pub use Rattle.sam_queue.specs.History.{IsEnded, StartsWith, has_left, has_mark, items_of, loads}
+pub use Rattle.sam_queue.specs.Views.{Answers, LineView, PostView, TakeView, TakesNext, WasFull, closed_post, new_post, new_take, with_item}
+pub use Rattle.sam_queue.specs.declared.rule.Entry.{Entry}
+pub use Rattle.sam_term.specs.Term.{Made, PlainTerminal, flush_of, frame_outcome, made_unless, new_terminal, sends, sends_if, unchanged}
+unfoldable pub use Rattle.sam_term.specs.Term.{act_of, flushed, requested, take_of}
+pub use Rattle.sam_term.specs.declared.event.Acted.{Acted}
+pub use Rattle.sam_term.specs.declared.event.UserEvent.{UserEvent}
+pub use Rattle.sam_term.specs.declared.event.UserEvent.TheVariants.{Exit}
+pub use Rattle.sam_term.specs.declared.fault.TermFault.{TermFault}
+pub use Rattle.sam_workers.specs.Cutting.{IsPiece, PutSome}
+pub use Rattle.sam_workers.specs.Feeding.{FeedsTerminal, Gives, TakesAll, TakesOne, TakesUpTo}
+pub use Rattle.sam_workers.specs.Handling.{Ends, StopsAtRest, Handled, HandledFront, HandledSome, HandlesAll, Leaves, Serves, StopsBefore, TakesPiece, of_refusal}
+pub use Rattle.sam_workers.specs.Inputs.{bytes_of, frame_of_load, frames_in, user_of_load, users_in}
+pub use Rattle.sam_workers.specs.Numbers.{frame_number}
+pub use Rattle.sam_workers.specs.Passing.{Passes, PassesPiece, Sends, SendsBefore, sent_on}
+pub use Rattle.sam_workers.specs.RealSides.{acted, sides, unless_refused}
+pub use Rattle.sam_workers.specs.TermMoments.{Did, Goes, IsDone, IsFound, IsOfUser, IsQuiet, LoggedView, MayExit, Ran, SideView, SoFar, WasNotHandled}
+pub use Rattle.sam_workers.specs.WorkerEnds.{HostStopped, HostTold, ReaderTold, TermTold}
+pub use Rattle.sam_workers.specs.declared.input.Input.{Input}
+pub use Rattle.sam_workers.specs.declared.stop.Stop.{Stop}
+pub use Rattle.sam_world.proofs.ComesToSync.{each_append, host_more, term_more}
+pub use Rattle.sam_world.specs.Sides.{Counts, Each, TermRuns, World, run, step}
+pub use Rattle.sam_world.specs.World.{PlainWorld, composed_by, run_of, step_of}
+pub use Rattle.sam_world.specs.declared.event.TermLog.{TermLog}

@@ -1,0 +1,11 @@
+use Rattle.std.proofs.Common.{◌≡◌}
+use Rattle.sam_workers.proofs.HostWhole.{Going}
+use Rattle.sam_workers.proofs.host_side.HostSide.serve.Given as goal
+
+abbrev pub invariant-loop : goal.invariant-loop
+invariant-loop g l = record {
+  goes_on : (goal.iterator-loop g).can_next l.iterator' × (goal.iterator-loop g).is_finite l.iterator';
+  piece : l.self.piece ≡ l.initial.self.piece;
+  line : l.take.line ≡ l.initial.take.line;
+  going : Going l.initial.self.host l.self.host l.initial.self.post l.self.post l.self.framer l.take.taken;
+}

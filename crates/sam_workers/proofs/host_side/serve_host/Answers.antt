@@ -1,0 +1,14 @@
+use Rattle.sam_workers.proofs.Common.{◌∙◌, ℕ, ap, subst, IsEnded, LineView}
+use Rattle.sam_workers.proofs.HostWhole.{told_of, gate_refuses}
+use Rattle.sam_workers.proofs.host_side.serve_host.Goals as goal
+
+pub returns-clause-told : goal.returns-clause-told
+returns-clause-told g c =
+    let dropped = c.drop_after.ensures.taken in
+    let one = ap (λ (x : LineView). x.senders) (c.drop_after.ensures.line ∙ c.run-passed.ensures.line) ∙ c.requires.one in
+    told_of (g.G.Gate.may_refuse c.args.gate.now 2) _ _ _ _ _ _ dropped.0 _ c.requires.post c.requires.host c.requires.files c.run-passed.ensures.serves
+    c.close.ensures.closed (c.drop_after.ensures.line ∙ c.run-passed.ensures.line) dropped.1 dropped.2
+    (subst (λ (n : ℕ). IsEnded n c.drop_after.new.take.taken) one c.drop_after.ensures.ended)
+
+pub returns-clause-way : goal.returns-clause-way
+returns-clause-way g c = gate_refuses (g.G.Gate.may_refuse c.args.gate.now 2) _ _ _ _ _ _ c.run-passed.ensures.serves

@@ -1,0 +1,179 @@
+//! The worker of the host reader, which cuts the host's stream into frames.
+
+ghost use Rattle.std.specs.Prelude.{◌≡◌, false, Some};
+ghost use Rattle.sam_queue.specs.Views.{new_post, new_take};
+ghost use Rattle.sam_workers.specs.Passing.{Sends, SendsBefore, PassesPiece, Passes};
+ghost use Rattle.sam_workers.specs.WorkerEnds.{ReaderTold};
+
+use crate::drain::drop_rest;
+use crate::ends::ReaderEnd;
+use crate::gate::Gate;
+use crate::input::Input;
+use crate::stop::Stop;
+use sam_frame::{FeedFault, FramerH};
+use sam_mesg::HFrame;
+use sam_queue::{Got, Post, Take};
+use std::alloc::Global;
+use std::sync::Wait;
+
+/// The host reader's number among the workers.
+const WORKER: usize = 3;
+
+/// Takes the pieces of the host's stream, sends each frame on to the terminal, and returns the worker's end. It is worker 3, the host
+/// reader. It waits while the line down is empty or the line of events is full.
+///
+/// The end's `stop` tells why it stopped before the host had left: `Gate` if the gate refused it; `Frame(1)`, `Frame(2)` or `Frame(3)` for
+/// a fault of the stream, once the frames before the fault are sent on; `Frame(7)` if the stream is longer than 2^64-1 bytes; `Memory` for
+/// want of memory. Once stopped it closes its post, and takes and drops until the host has left, so that the host never waits forever for
+/// room.
+pub fn pass_frames<'q, R: Wait, G: Gate>(
+    rt: &R,
+    alloc: Global,
+    gate: &G,
+    mut take: Take<'q, Vec<u8>>,
+    mut post: Post<'q, Input>,
+) -> ReaderEnd<'q>
+    requires take { take ≡ new_take take.line }
+    requires one { take.line.senders ≡ 1 }
+    requires post { post ≡ new_post post.line 2 }
+    ensures told { ReaderTold take.entry.line post.entry.line result }
+    ensures begins { result.passed ≡ false → G.may_refuse gate.now 3 }
+    ensures way { result.stop ≡ Some Stop.Gate → G.may_refuse gate.now 3 }
+{
+    if !gate.pass(WORKER) {
+        return leave(rt, take, post, false, Stop::Gate);
+    }
+    match pass_pieces(rt, alloc, gate, &mut take, &mut post) {
+        Some(stop) => leave(rt, take, post, true, stop),
+        None => {
+            post.close(rt);
+            ReaderEnd {
+                take,
+                post,
+                passed: true,
+                stop: None,
+            }
+        }
+    }
+}
+
+/// Closes the post, takes and drops until the host has left, and returns the worker's end.
+fn leave<'q, R: Wait>(
+    rt: &R,
+    mut take: Take<'q, Vec<u8>>,
+    mut post: Post<'q, Input>,
+    passed: bool,
+    stop: Stop,
+) -> ReaderEnd<'q>
+    requires one { take.line.senders ≡ 1 }
+    requires so_far { Passes (new_take take.line) take (new_post post.line 2) post (Some stop) }
+    ensures told { ReaderTold take.entry.line post.entry.line result }
+    ensures passed { result.passed ≡ passed }
+    ensures stop { result.stop ≡ Some stop }
+{
+    post.close(rt);
+    drop_rest(rt, &mut take);
+    ReaderEnd {
+        take,
+        post,
+        passed,
+        stop: Some(stop),
+    }
+}
+
+/// Sends on the frames of the pieces that come, until the host has left. Returns what stopped it before that.
+#[tactic(auto, using(crate::proofs::Passes::goes_on, crate::proofs::Passes::leaves))]
+fn pass_pieces<R: Wait, G: Gate>(
+    rt: &R,
+    alloc: Global,
+    gate: &G,
+    take: &mut Take<Vec<u8>>,
+    post: &mut Post<Input>,
+) -> Option<Stop>
+    requires take { take.old ≡ new_take take.old.line }
+    requires one { take.old.line.senders ≡ 1 }
+    requires post { post.old ≡ new_post post.old.line 2 }
+    ensures passes { Passes take.old take.new post.old post.new result }
+    ensures way { result ≡ Some Stop.Gate → G.may_refuse gate.now 3 }
+{
+    let mut framer = FramerH::new(alloc);
+    let mut handled: u64 = 0;
+    for _turn in rt.forever() {
+        match take.recv(rt) {
+            Got::Item(_, piece) => {
+                if let Some(stop) = pass_piece(rt, gate, &mut framer, &piece, post, &mut handled) {
+                    return Some(stop);
+                }
+            }
+            Got::Left(_) => {}
+            Got::Ended => return None,
+            Got::Empty => unreachable!(),
+        }
+    }
+    unreachable!()
+}
+
+/// Sends on the frames that are whole with this piece, also those before a fault of the stream. Returns what stopped it.
+fn pass_piece<R: Wait, G: Gate>(
+    rt: &R,
+    gate: &G,
+    framer: &mut FramerH,
+    piece: &[u8],
+    post: &mut Post<Input>,
+    handled: &mut u64,
+) -> Option<Stop>
+    requires sound { framer.old.failed ≡ false }
+    requires opened { post.old.closed ≡ false }
+    ensures passes { PassesPiece framer.old piece.now framer.new post.old post.new result }
+    ensures way { result ≡ Some Stop.Gate → G.may_refuse gate.now 3 }
+{
+    match framer.feed(piece) {
+        Ok(frames) => send_on(rt, gate, frames, post, handled),
+        Err(FeedFault::BadKind(frames, _)) => send_before(rt, gate, frames, post, handled, 1),
+        Err(FeedFault::BadLength(frames, _)) => send_before(rt, gate, frames, post, handled, 2),
+        Err(FeedFault::BadText(frames, _)) => send_before(rt, gate, frames, post, handled, 3),
+        Err(FeedFault::CountFull) => Some(Stop::Frame(7)),
+        Err(FeedFault::OutOfMemory) => Some(Stop::Memory),
+        Err(FeedFault::Failed | FeedFault::Truncated) => unreachable!(),
+    }
+}
+
+/// Sends on the frames before a fault of this number. Returns what stopped it: the gate, or else the fault.
+fn send_before<R: Wait, G: Gate>(
+    rt: &R,
+    gate: &G,
+    frames: Vec<HFrame>,
+    post: &mut Post<Input>,
+    handled: &mut u64,
+    number: u8,
+) -> Option<Stop>
+    requires opened { post.old.closed ≡ false }
+    ensures sends { SendsBefore frames.items number post.old post.new result }
+    ensures way { result ≡ Some Stop.Gate → G.may_refuse gate.now 3 }
+{
+    send_on(rt, gate, frames, post, handled).or(Some(Stop::Frame(number)))
+}
+
+/// Sends the frames on for as long as the gate lets the worker go on, and counts them in `handled`. Returns `Gate` if it was refused.
+fn send_on<R: Wait, G: Gate>(
+    rt: &R,
+    gate: &G,
+    frames: Vec<HFrame>,
+    post: &mut Post<Input>,
+    handled: &mut u64,
+) -> Option<Stop>
+    requires opened { post.old.closed ≡ false }
+    ensures sends { Sends frames.items post.old post.new result }
+    ensures way { result ≡ Some Stop.Gate → G.may_refuse gate.now 3 }
+{
+    for frame in frames {
+        if !gate.go_on(WORKER, *handled) {
+            return Some(Stop::Gate);
+        }
+        if post.send(rt, Input::Host(frame)).is_err() {
+            unreachable!()
+        }
+        *handled = handled.saturating_add(1);
+    }
+    None
+}
