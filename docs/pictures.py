@@ -1,6 +1,10 @@
 #!/usr/bin/env python3
-"""Draws docs/crates.svg (from crates.txt) and docs/threads.svg. Run it after a crate came, went or stands on others."""
+"""Draws docs/crates.svg (from crates.txt) and docs/threads.svg. Run it after a crate came, went or stands on others.
 
+docs/pictures.py --check draws nothing: it says whether both are as they would be drawn now, and ends in 'N passed, M failed'.
+"""
+
+import sys
 from pathlib import Path
 
 DOCS = Path(__file__).resolve().parent
@@ -62,17 +66,16 @@ FURTHEST = BOX_WIDTH / 2 - 12
 # Where each crate stands (its middle, its row from the top), and what it has in a few words.
 PLACES = {
     "sam_play": (520, 0, "the program"),
-    "sam_session": (520, 1, "modes of the program"),
-    "sam_spawn": (520, 2, "five threads at work"),
-    "sam_settle": (520, 3, "their ends, one run"),
-    "sam_spawn": (300, 3, "what workers begin with"),
+    "sam_session": (520, 1, "the program by its modes"),
+    "sam_spawn": (520, 2, "starts and joins them"),
+    "sam_settle": (520, 3, "five ends, one run"),
     "sam_workers": (520, 4, "five workers"),
     "sam_script": (300, 4, "scripts, read and shown"),
     "sam_queue": (170, 5, "lines between threads"),
     "sam_world": (350, 6, "both sides as one state"),
     "sam_crossing": (350, 7, "crossing messages agree"),
     "sam_c": (740, 3, "the library for C"),
-    "sam_endpoint": (740, 7, "the ends of two streams"),
+    "sam_endpoint": (740, 7, "a side behind its bytes"),
     "sam_host": (170, 8, "the host"),
     "sam_term": (520, 8, "the terminal"),
     "sam_frame": (700, 8, "streams of messages"),
@@ -177,6 +180,25 @@ def threads_picture():
     return picture("Five workers and the three lines between them", 800, 390, parts)
 
 
+PICTURES = {"crates.svg": crates_picture, "threads.svg": threads_picture}
+
+
+def check():
+    """Says of each picture whether it is as it would be drawn now. Returns how many are not."""
+    old = [name for name, draw in PICTURES.items() if (DOCS / name).read_text(encoding="ascii") != draw()]
+    for name in PICTURES:
+        print(f"FAILED docs/{name} is old: run docs/pictures.py" if name in old else f"ok docs/{name}")
+    print(f"{len(PICTURES) - len(old)} passed, {len(old)} failed")
+    return len(old)
+
+
+def main(words):
+    if words == ["--check"]:
+        return 1 if check() else 0
+    for name, draw in PICTURES.items():
+        (DOCS / name).write_text(draw(), encoding="ascii")
+    return 0
+
+
 if __name__ == "__main__":
-    (DOCS / "crates.svg").write_text(crates_picture(), encoding="ascii")
-    (DOCS / "threads.svg").write_text(threads_picture(), encoding="ascii")
+    sys.exit(main(sys.argv[1:]))

@@ -19,11 +19,12 @@ fn read(name: &str, kind: &str) -> Option<Vec<u8>> {
 
 /// The names of the pairs of `sam_play replay` that need no device and no limit of its own.
 fn names() -> BTreeSet<String> {
-    let files = fs::read_dir(scripts()).expect("tests/scripts is there");
-    let name = |file: fs::DirEntry| file.file_name().into_string().expect("a name in ASCII").split('.').next().unwrap().to_owned();
+    let entries = |folder: PathBuf| fs::read_dir(folder).expect("a folder").map(|entry| entry.expect("an entry").path());
+    let files = entries(scripts()).flat_map(entries);
+    let name = |file: PathBuf| file.strip_prefix(scripts()).unwrap().to_str().expect("a name in ASCII").split('.').next().unwrap().to_owned();
     let status = |name: &str| read(name, "status").map_or("0".to_owned(), |text| String::from_utf8(text).expect("a number"));
     files
-        .map(|file| name(file.expect("a file")))
+        .map(name)
         .filter(|name| read(name, "args").is_none() && TOLD_BY_SCRIPT.contains(&status(name).trim()))
         .collect()
 }
