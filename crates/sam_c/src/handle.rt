@@ -11,6 +11,20 @@ use sam_endpoint::{HostEndpoint, TermEndpoint};
 use std::alloc::Global;
 use std::marker::Model;
 
+/// Takes the end out of a handle, gives what the body makes of it, and puts it back. Of an empty handle it returns `NO_HANDLE`.
+macro_rules! with_end {
+    ($handle:ident $alloc:ident $end:ident $body:block) => {{
+        let Some($end) = $handle.take($alloc) else {
+            return NO_HANDLE;
+        };
+        let status = $body;
+        $handle.put($end);
+        status
+    }};
+}
+
+pub(crate) use with_end;
+
 /// What stands in a host's handle that is made: "sam host" as a number. Any other number says that the handle is empty.
 const HOST_MARK: u64 = 8_314_046_373_061_161_844;
 

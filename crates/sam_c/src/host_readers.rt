@@ -6,7 +6,7 @@ ghost use Rattle.std.specs.Prelude.{◌≡◌, drop, is_some, length, option_map
 ghost use Rattle.sam_c.specs.Calls.{Reports, ReportsName, ReportsSome, ReportsText, written};
 ghost use Rattle.sam_c.specs.Hosts.{dot_of, file_of, saved_of};
 
-use crate::handle::SamHost;
+use crate::handle::{SamHost, with_end};
 use crate::status::{NO_HANDLE, NONE, OK};
 use crate::utf8::{runes_from, tell_name, tell_text};
 use std::alloc::Global;
@@ -17,12 +17,7 @@ pub extern "C" fn sam_host_is_done(host: &mut SamHost, done: &mut bool, alloc: G
     ensures told { Reports host.old.held.end result done.old done.new (λ e. e.host.is_done) }
     ensures kept { host.new.held.end ≡ host.old.held.end }
 {
-    let Some(end) = host.take(alloc) else {
-        return NO_HANDLE;
-    };
-    *done = end.host().is_done();
-    host.put(end);
-    OK
+    with_end!(host alloc end { *done = end.host().is_done(); OK })
 }
 
 /// Hands out how many messages the host has taken and answered.
@@ -31,12 +26,7 @@ pub extern "C" fn sam_host_taken(host: &mut SamHost, taken: &mut u64, alloc: Glo
     ensures told { Reports host.old.held.end result taken.old taken.new (λ e. e.host.taken) }
     ensures kept { host.new.held.end ≡ host.old.held.end }
 {
-    let Some(end) = host.take(alloc) else {
-        return NO_HANDLE;
-    };
-    *taken = end.host().taken();
-    host.put(end);
-    OK
+    with_end!(host alloc end { *taken = end.host().taken(); OK })
 }
 
 /// Hands out the version of the protocol: 1 or 2.
@@ -45,12 +35,7 @@ pub extern "C" fn sam_host_version(host: &mut SamHost, version: &mut u16, alloc:
     ensures told { Reports host.old.held.end result version.old version.new (λ e. e.host.version) }
     ensures kept { host.new.held.end ≡ host.old.held.end }
 {
-    let Some(end) = host.take(alloc) else {
-        return NO_HANDLE;
-    };
-    *version = end.host().version();
-    host.put(end);
-    OK
+    with_end!(host alloc end { *version = end.host().version(); OK })
 }
 
 /// Hands out how many tags were given, the command file's 0 included: the greatest is one less.
@@ -59,12 +44,7 @@ pub extern "C" fn sam_host_tags(host: &mut SamHost, count: &mut usize, alloc: Gl
     ensures told { Reports host.old.held.end result count.old count.new (λ e. length e.host.files.slots) }
     ensures kept { host.new.held.end ≡ host.old.held.end }
 {
-    let Some(end) = host.take(alloc) else {
-        return NO_HANDLE;
-    };
-    *count = end.host().files().tags();
-    host.put(end);
-    OK
+    with_end!(host alloc end { *count = end.host().files().tags(); OK })
 }
 
 /// Hands out whether the tag has a file now. A file that was closed has none.
@@ -78,12 +58,7 @@ pub extern "C" fn sam_host_has_file(
     ensures told { Reports host.old.held.end result has.old has.new (λ e. is_some (file_of e tag)) }
     ensures kept { host.new.held.end ≡ host.old.held.end }
 {
-    let Some(end) = host.take(alloc) else {
-        return NO_HANDLE;
-    };
-    *has = end.host().files().has(tag);
-    host.put(end);
-    OK
+    with_end!(host alloc end { *has = end.host().files().has(tag); OK })
 }
 
 /// Puts the name of a file into the buffer in UTF-8, as many whole runes as have room, and hands out how many bytes. 256 bytes are always
@@ -99,15 +74,12 @@ pub extern "C" fn sam_host_name(
     ensures told { ReportsName host.old.held.end result into.old into.new len.old len.new (λ e. option_map (λ f. f.name) (file_of e tag)) }
     ensures kept { host.new.held.end ≡ host.old.held.end }
 {
-    let Some(end) = host.take(alloc) else {
-        return NO_HANDLE;
-    };
-    let status = match end.host().files().name(tag) {
-        Some(name) => tell_name(name.as_slice(), into, len),
-        None => NONE,
-    };
-    host.put(end);
-    status
+    with_end!(host alloc end {
+        match end.host().files().name(tag) {
+            Some(name) => tell_name(name.as_slice(), into, len),
+            None => NONE,
+        }
+    })
 }
 
 /// Hands out the length of a file's text in runes. `SAM_NONE` if the tag has no file.
@@ -116,18 +88,15 @@ pub extern "C" fn sam_host_len(host: &mut SamHost, tag: u16, runes: &mut u32, al
     ensures told { ReportsSome host.old.held.end result runes.old runes.new (λ e. option_map (λ f. length f.text) (file_of e tag)) }
     ensures kept { host.new.held.end ≡ host.old.held.end }
 {
-    let Some(end) = host.take(alloc) else {
-        return NO_HANDLE;
-    };
-    let status = match end.host().files().text(tag) {
-        Some(text) => {
-            *runes = text.len();
-            OK
+    with_end!(host alloc end {
+        match end.host().files().text(tag) {
+            Some(text) => {
+                *runes = text.len();
+                OK
+            }
+            None => NONE,
         }
-        None => NONE,
-    };
-    host.put(end);
-    status
+    })
 }
 
 /// Hands out whether a file was edited since it was made or written; never for the command file, tag 0. `SAM_NONE` if the tag has no file.
@@ -141,17 +110,14 @@ pub extern "C" fn sam_host_is_dirty(
     ensures told { ReportsSome host.old.held.end result dirty.old dirty.new (λ e. option_map (λ f. f.dirty) (file_of e tag)) }
     ensures kept { host.new.held.end ≡ host.old.held.end }
 {
-    let Some(end) = host.take(alloc) else {
-        return NO_HANDLE;
-    };
-    let status = if end.host().files().has(tag) {
-        *dirty = end.host().files().is_dirty(tag);
-        OK
-    } else {
-        NONE
-    };
-    host.put(end);
-    status
+    with_end!(host alloc end {
+        if end.host().files().has(tag) {
+            *dirty = end.host().files().is_dirty(tag);
+            OK
+        } else {
+            NONE
+        }
+    })
 }
 
 /// Hands out the dot of a file: the places where the selection begins and ends. `SAM_NONE` if the tag has no file.
@@ -197,20 +163,17 @@ pub extern "C" fn sam_host_text(
         (λ e. option_map (λ f. drop place f.text) (file_of e tag)) }
     ensures kept { host.new.held.end ≡ host.old.held.end }
 {
-    let Some(end) = host.take(alloc) else {
-        return NO_HANDLE;
-    };
-    let status = match end.host().files().text(tag) {
-        Some(text) => tell_text(
-            runes_from(text.slice(0, text.len()), place),
-            into,
-            bytes,
-            runes,
-        ),
-        None => NONE,
-    };
-    host.put(end);
-    status
+    with_end!(host alloc end {
+        match end.host().files().text(tag) {
+            Some(text) => tell_text(
+                runes_from(text.slice(0, text.len()), place),
+                into,
+                bytes,
+                runes,
+            ),
+            None => NONE,
+        }
+    })
 }
 
 /// Hands out the length in runes of what a file was when it was written last (Twrite). `SAM_NONE` if it never was, or if the tag has no
@@ -225,18 +188,15 @@ pub extern "C" fn sam_host_saved_len(
     ensures told { ReportsSome host.old.held.end result runes.old runes.new (λ e. option_map length (saved_of e tag)) }
     ensures kept { host.new.held.end ≡ host.old.held.end }
 {
-    let Some(end) = host.take(alloc) else {
-        return NO_HANDLE;
-    };
-    let status = match end.host().files().saved(tag) {
-        Some(saved) => {
-            *runes = saved.len();
-            OK
+    with_end!(host alloc end {
+        match end.host().files().saved(tag) {
+            Some(saved) => {
+                *runes = saved.len();
+                OK
+            }
+            None => NONE,
         }
-        None => NONE,
-    };
-    host.put(end);
-    status
+    })
 }
 
 /// Puts what a file was when it was written last (Twrite), from a place on, into the buffer in UTF-8, as many whole runes as have room.
@@ -255,13 +215,10 @@ pub extern "C" fn sam_host_saved(
         (λ e. option_map (λ s. drop place s) (saved_of e tag)) }
     ensures kept { host.new.held.end ≡ host.old.held.end }
 {
-    let Some(end) = host.take(alloc) else {
-        return NO_HANDLE;
-    };
-    let status = match end.host().files().saved(tag) {
-        Some(saved) => tell_text(runes_from(saved.as_slice(), place), into, bytes, runes),
-        None => NONE,
-    };
-    host.put(end);
-    status
+    with_end!(host alloc end {
+        match end.host().files().saved(tag) {
+            Some(saved) => tell_text(runes_from(saved.as_slice(), place), into, bytes, runes),
+            None => NONE,
+        }
+    })
 }

@@ -10,7 +10,7 @@ ghost use Rattle.sam_rasp.specs.Rasp.{hole_within};
 ghost use Rattle.sam_term.specs.Sound.{unsent_length};
 ghost use Rattle.sam_term.specs.Term.{is_changed};
 
-use crate::handle::SamTerm;
+use crate::handle::{SamTerm, with_end};
 use crate::status::{NO_HANDLE, NONE, OK};
 use crate::utf8::{runes_from, tell_name, tell_text};
 use sam_endpoint::{TermEndpoint, read_rasp};
@@ -36,12 +36,7 @@ pub extern "C" fn sam_term_events(term: &mut SamTerm, events: &mut u64, alloc: G
     ensures told { Reports term.old.held.end result events.old events.new (λ e. e.events) }
     ensures kept { term.new.held.end ≡ term.old.held.end }
 {
-    let Some(end) = term.take(alloc) else {
-        return NO_HANDLE;
-    };
-    *events = end.events();
-    term.put(end);
-    OK
+    with_end!(term alloc end { *events = end.events(); OK })
 }
 
 /// Hands out whether the command lock or a lock of this file is held: an edit of the file would wait.
@@ -55,12 +50,7 @@ pub extern "C" fn sam_term_locked(
     ensures told { Reports term.old.held.end result locked.old locked.new (λ e. is_held_back e tag) }
     ensures kept { term.new.held.end ≡ term.old.held.end }
 {
-    let Some(end) = term.take(alloc) else {
-        return NO_HANDLE;
-    };
-    *locked = end.term().locked(tag);
-    term.put(end);
-    OK
+    with_end!(term alloc end { *locked = end.term().locked(tag); OK })
 }
 
 /// Hands out whether the command lock is held.
@@ -73,12 +63,7 @@ pub extern "C" fn sam_term_command_locked(
     ensures told { Reports term.old.held.end result locked.old locked.new (λ e. e.term.command_lock) }
     ensures kept { term.new.held.end ≡ term.old.held.end }
 {
-    let Some(end) = term.take(alloc) else {
-        return NO_HANDLE;
-    };
-    *locked = end.term().command_locked();
-    term.put(end);
-    OK
+    with_end!(term alloc end { *locked = end.term().command_locked(); OK })
 }
 
 /// Hands out how many events are held.
@@ -87,12 +72,7 @@ pub extern "C" fn sam_term_held(term: &mut SamTerm, events: &mut usize, alloc: G
     ensures told { Reports term.old.held.end result events.old events.new (λ e. length e.term.held) }
     ensures kept { term.new.held.end ≡ term.old.held.end }
 {
-    let Some(end) = term.take(alloc) else {
-        return NO_HANDLE;
-    };
-    *events = end.term().held();
-    term.put(end);
-    OK
+    with_end!(term alloc end { *events = end.term().held(); OK })
 }
 
 /// Hands out how many typed runes are not sent yet.
@@ -101,12 +81,7 @@ pub extern "C" fn sam_term_unsent(term: &mut SamTerm, runes: &mut u32, alloc: Gl
     ensures told { Reports term.old.held.end result runes.old runes.new (λ e. unsent_length e.term.unsent) }
     ensures kept { term.new.held.end ≡ term.old.held.end }
 {
-    let Some(end) = term.take(alloc) else {
-        return NO_HANDLE;
-    };
-    *runes = end.term().unsent();
-    term.put(end);
-    OK
+    with_end!(term alloc end { *runes = end.term().unsent(); OK })
 }
 
 /// Hands out how many messages were composed.
@@ -115,12 +90,7 @@ pub extern "C" fn sam_term_sent(term: &mut SamTerm, messages: &mut u64, alloc: G
     ensures told { Reports term.old.held.end result messages.old messages.new (λ e. e.term.sent) }
     ensures kept { term.new.held.end ≡ term.old.held.end }
 {
-    let Some(end) = term.take(alloc) else {
-        return NO_HANDLE;
-    };
-    *messages = end.term().sent();
-    term.put(end);
-    OK
+    with_end!(term alloc end { *messages = end.term().sent(); OK })
 }
 
 /// Hands out how many of the composed messages the host has not taken, as far as its frames tell. It is an upper bound: a message that
@@ -131,12 +101,7 @@ pub extern "C" fn sam_term_under_way(term: &mut SamTerm, messages: &mut u64, all
     ensures told { Reports term.old.held.end result messages.old messages.new under_way }
     ensures kept { term.new.held.end ≡ term.old.held.end }
 {
-    let Some(end) = term.take(alloc) else {
-        return NO_HANDLE;
-    };
-    *messages = end.under_way();
-    term.put(end);
-    OK
+    with_end!(term alloc end { *messages = end.under_way(); OK })
 }
 
 /// Hands out how many runes the host's snarf buffer has, as it told last.
@@ -145,12 +110,7 @@ pub extern "C" fn sam_term_snarf_len(term: &mut SamTerm, runes: &mut u32, alloc:
     ensures told { Reports term.old.held.end result runes.old runes.new (λ e. e.term.snarf_length) }
     ensures kept { term.new.held.end ≡ term.old.held.end }
 {
-    let Some(end) = term.take(alloc) else {
-        return NO_HANDLE;
-    };
-    *runes = end.term().snarf_len();
-    term.put(end);
-    OK
+    with_end!(term alloc end { *runes = end.term().snarf_len(); OK })
 }
 
 /// Hands out whether the host has ended the session.
@@ -159,12 +119,7 @@ pub extern "C" fn sam_term_exited(term: &mut SamTerm, exited: &mut bool, alloc: 
     ensures told { Reports term.old.held.end result exited.old exited.new (λ e. e.term.has_exited) }
     ensures kept { term.new.held.end ≡ term.old.held.end }
 {
-    let Some(end) = term.take(alloc) else {
-        return NO_HANDLE;
-    };
-    *exited = end.term().exited();
-    term.put(end);
-    OK
+    with_end!(term alloc end { *exited = end.term().exited(); OK })
 }
 
 /// Hands out the version of the protocol that both sides speak: 1 or 2.
@@ -173,12 +128,7 @@ pub extern "C" fn sam_term_version(term: &mut SamTerm, version: &mut u16, alloc:
     ensures told { Reports term.old.held.end result version.old version.new (λ e. e.term.version) }
     ensures kept { term.new.held.end ≡ term.old.held.end }
 {
-    let Some(end) = term.take(alloc) else {
-        return NO_HANDLE;
-    };
-    *version = end.term().version();
-    term.put(end);
-    OK
+    with_end!(term alloc end { *version = end.term().version(); OK })
 }
 
 /// Hands out whether the terminal knows a file of this tag.
@@ -192,12 +142,7 @@ pub extern "C" fn sam_term_is_known(
     ensures told { Reports term.old.held.end result known.old known.new (λ e. is_some (known_of e tag)) }
     ensures kept { term.new.held.end ≡ term.old.held.end }
 {
-    let Some(end) = term.take(alloc) else {
-        return NO_HANDLE;
-    };
-    *known = known_file(&end, tag).is_some();
-    term.put(end);
-    OK
+    with_end!(term alloc end { *known = known_file(&end, tag).is_some(); OK })
 }
 
 /// Hands out whether a file is open.
@@ -211,12 +156,7 @@ pub extern "C" fn sam_term_is_open(
     ensures told { Reports term.old.held.end result opened.old opened.new (λ e. is_some (open_of e tag)) }
     ensures kept { term.new.held.end ≡ term.old.held.end }
 {
-    let Some(end) = term.take(alloc) else {
-        return NO_HANDLE;
-    };
-    *opened = end.term().rasp(tag).is_some();
-    term.put(end);
-    OK
+    with_end!(term alloc end { *opened = end.term().rasp(tag).is_some(); OK })
 }
 
 /// Hands out the tag of the file that the host named last in its answer to a change of the work file or to a new file. `SAM_NONE` if it
@@ -226,18 +166,15 @@ pub extern "C" fn sam_term_current(term: &mut SamTerm, tag: &mut u16, alloc: Glo
     ensures told { ReportsSome term.old.held.end result tag.old tag.new (λ e. e.term.current) }
     ensures kept { term.new.held.end ≡ term.old.held.end }
 {
-    let Some(end) = term.take(alloc) else {
-        return NO_HANDLE;
-    };
-    let status = match end.term().current() {
-        Some(tag_now) => {
-            *tag = tag_now;
-            OK
+    with_end!(term alloc end {
+        match end.term().current() {
+            Some(tag_now) => {
+                *tag = tag_now;
+                OK
+            }
+            None => NONE,
         }
-        None => NONE,
-    };
-    term.put(end);
-    status
+    })
 }
 
 /// Hands out whether a known file is dirty, as the host told last. `SAM_NONE` if the tag is not known.
@@ -251,18 +188,15 @@ pub extern "C" fn sam_term_is_dirty(
     ensures told { ReportsSome term.old.held.end result dirty.old dirty.new (λ e. option_map (λ f. f.dirty) (known_of e tag)) }
     ensures kept { term.new.held.end ≡ term.old.held.end }
 {
-    let Some(end) = term.take(alloc) else {
-        return NO_HANDLE;
-    };
-    let status = match known_file(&end, tag) {
-        Some(file) => {
-            *dirty = file.dirty;
-            OK
+    with_end!(term alloc end {
+        match known_file(&end, tag) {
+            Some(file) => {
+                *dirty = file.dirty;
+                OK
+            }
+            None => NONE,
         }
-        None => NONE,
-    };
-    term.put(end);
-    status
+    })
 }
 
 /// Hands out whether a file may differ from what was written last: the host told that it is dirty, or the user typed into it or cut from
@@ -277,12 +211,7 @@ pub extern "C" fn sam_term_is_changed(
     ensures told { Reports term.old.held.end result changed.old changed.new (λ e. is_changed e.term tag) }
     ensures kept { term.new.held.end ≡ term.old.held.end }
 {
-    let Some(end) = term.take(alloc) else {
-        return NO_HANDLE;
-    };
-    *changed = end.term().is_changed(tag);
-    term.put(end);
-    OK
+    with_end!(term alloc end { *changed = end.term().is_changed(tag); OK })
 }
 
 /// Hands out the length of an open file in runes, gaps counted. `SAM_NONE` if it is not open.
@@ -291,18 +220,15 @@ pub extern "C" fn sam_term_len(term: &mut SamTerm, tag: u16, runes: &mut u32, al
     ensures told { ReportsSome term.old.held.end result runes.old runes.new (λ e. option_map (λ w. length w.rasp) (open_of e tag)) }
     ensures kept { term.new.held.end ≡ term.old.held.end }
 {
-    let Some(end) = term.take(alloc) else {
-        return NO_HANDLE;
-    };
-    let status = match end.term().rasp(tag) {
-        Some(rasp) => {
-            *runes = rasp.len();
-            OK
+    with_end!(term alloc end {
+        match end.term().rasp(tag) {
+            Some(rasp) => {
+                *runes = rasp.len();
+                OK
+            }
+            None => NONE,
         }
-        None => NONE,
-    };
-    term.put(end);
-    status
+    })
 }
 
 /// Hands out the dot of an open file: the places where the selection begins and ends. `SAM_NONE` if it is not open.
@@ -365,12 +291,7 @@ pub extern "C" fn sam_term_tags(term: &mut SamTerm, count: &mut usize, alloc: Gl
     ensures told { Reports term.old.held.end result count.old count.new (λ e. length e.term.files) }
     ensures kept { term.new.held.end ≡ term.old.held.end }
 {
-    let Some(end) = term.take(alloc) else {
-        return NO_HANDLE;
-    };
-    *count = end.term().files().len();
-    term.put(end);
-    OK
+    with_end!(term alloc end { *count = end.term().files().len(); OK })
 }
 
 /// Puts the name of a known file into the buffer in UTF-8, as many whole runes as have room, and hands out how many bytes. `SAM_NONE` if
@@ -386,15 +307,12 @@ pub extern "C" fn sam_term_name(
     ensures told { ReportsName term.old.held.end result into.old into.new len.old len.new (λ e. option_map (λ f. f.name) (known_of e tag)) }
     ensures kept { term.new.held.end ≡ term.old.held.end }
 {
-    let Some(end) = term.take(alloc) else {
-        return NO_HANDLE;
-    };
-    let status = match known_file(&end, tag) {
-        Some(file) => tell_name(file.name.as_slice(), into, len),
-        None => NONE,
-    };
-    term.put(end);
-    status
+    with_end!(term alloc end {
+        match known_file(&end, tag) {
+            Some(file) => tell_name(file.name.as_slice(), into, len),
+            None => NONE,
+        }
+    })
 }
 
 /// Puts the pattern that the host told last into the buffer in UTF-8, as many whole runes as have room, and hands out how many bytes.
@@ -408,12 +326,9 @@ pub extern "C" fn sam_term_pattern(
     ensures told { ReportsName term.old.held.end result into.old into.new len.old len.new (λ e. Some e.term.pattern) }
     ensures kept { term.new.held.end ≡ term.old.held.end }
 {
-    let Some(end) = term.take(alloc) else {
-        return NO_HANDLE;
-    };
-    let status = tell_name(end.term().pattern(), into, len);
-    term.put(end);
-    status
+    with_end!(term alloc end {
+        tell_name(end.term().pattern(), into, len)
+    })
 }
 
 /// Puts the snarfed text that the host sent last (`sam_term_get_snarf`), from a place on, into the buffer in UTF-8, as many whole runes as
@@ -431,12 +346,9 @@ pub extern "C" fn sam_term_snarfed(
         (λ e. Some (drop place e.term.snarf)) }
     ensures kept { term.new.held.end ≡ term.old.held.end }
 {
-    let Some(end) = term.take(alloc) else {
-        return NO_HANDLE;
-    };
-    let status = tell_text(runes_from(end.term().snarf(), place), into, bytes, runes);
-    term.put(end);
-    status
+    with_end!(term alloc end {
+        tell_text(runes_from(end.term().snarf(), place), into, bytes, runes)
+    })
 }
 
 /// Puts the runes of an open file from a place on into the buffer as numbers, as many as there are and have room, with `SAM_GAP` for each
@@ -453,18 +365,15 @@ pub extern "C" fn sam_term_read(
     ensures told { ReportsCells term.old.held.end result into.old into.new count.old count.new place (λ e. rasp_of e tag) }
     ensures kept { term.new.held.end ≡ term.old.held.end }
 {
-    let Some(end) = term.take(alloc) else {
-        return NO_HANDLE;
-    };
-    let status = match end.term().rasp(tag) {
-        Some(rasp) => {
-            *count = read_rasp(rasp, place, into);
-            OK
+    with_end!(term alloc end {
+        match end.term().rasp(tag) {
+            Some(rasp) => {
+                *count = read_rasp(rasp, place, into);
+                OK
+            }
+            None => NONE,
         }
-        None => NONE,
-    };
-    term.put(end);
-    status
+    })
 }
 
 /// Returns the first place of a rasp, at or behind a place, whose rune is not loaded.
