@@ -24,13 +24,9 @@ impl Terminal {
     pub(crate) fn flush_now(&mut self) -> Result<Batch, TermFault>
         ensures { IsAnswer self.old self.new result (flush_of self.old) }
     {
-        match self.prepare(self.unsent_count()) {
-            Ok(mut out) => {
-                self.compose_unsent(&mut out);
-                Ok(out.into_batch())
-            }
-            Err(why) => Err(why),
-        }
+        let mut out = self.prepare(self.unsent_count())?;
+        self.compose_unsent(&mut out);
+        Ok(out.into_batch())
     }
 
     /// Counts a message and takes its lock. `asks` tells that it is a request, whose file then awaits its data.
@@ -105,13 +101,9 @@ impl Terminal {
         ensures { IsAnswer self.old self.new result (countable (sends self.old unchanged (message ∷ []))) }
     {
         let count = 1 + self.unsent_count();
-        match self.prepare(count) {
-            Ok(mut out) => {
-                self.send_prepared(message, &mut out);
-                Ok(out.into_batch())
-            }
-            Err(why) => Err(why),
-        }
+        let mut out = self.prepare(count)?;
+        self.send_prepared(message, &mut out);
+        Ok(out.into_batch())
     }
 
     /// Makes an outbox with room for `count` messages, after a test that so many more can be counted. It comes before the first change of

@@ -42,16 +42,12 @@ impl Terminal {
             return Ok(self.done_quietly());
         }
         let count = 2 + self.unsent_count();
-        match self.prepare(count) {
-            Ok(mut out) => {
-                self.drop_first();
-                self.cut_selected(tag, dot, &mut out);
-                self.compose(Tmesg::Tsnarf(tag, dot.0, dot.1), &mut out);
-                self.compose(Tmesg::Tcut(tag, dot.0, dot.1), &mut out);
-                Ok(self.done_with(out))
-            }
-            Err(why) => Err(why),
-        }
+        let mut out = self.prepare(count)?;
+        self.drop_first();
+        self.cut_selected(tag, dot, &mut out);
+        self.compose(Tmesg::Tsnarf(tag, dot.0, dot.1), &mut out);
+        self.compose(Tmesg::Tcut(tag, dot.0, dot.1), &mut out);
+        Ok(self.done_with(out))
     }
 
     /// Does a `Paste`: composes `Tcut` of the dot, which goes out of the rasp, unless it is empty, and then `Tpaste` in its place. What
@@ -67,16 +63,12 @@ impl Terminal {
             return self.send_for_event(Tmesg::Tpaste(tag, selected.0));
         }
         let count = 2 + self.unsent_count();
-        match self.prepare(count) {
-            Ok(mut out) => {
-                self.drop_first();
-                self.cut_selected(tag, selected, &mut out);
-                self.compose(Tmesg::Tcut(tag, selected.0, selected.1), &mut out);
-                self.compose(Tmesg::Tpaste(tag, selected.0), &mut out);
-                Ok(self.done_with(out))
-            }
-            Err(why) => Err(why),
-        }
+        let mut out = self.prepare(count)?;
+        self.drop_first();
+        self.cut_selected(tag, selected, &mut out);
+        self.compose(Tmesg::Tcut(tag, selected.0, selected.1), &mut out);
+        self.compose(Tmesg::Tpaste(tag, selected.0), &mut out);
+        Ok(self.done_with(out))
     }
 
     /// Does a `Snarf`: composes `Tsnarf` of the dot, unless it is empty.
@@ -126,14 +118,10 @@ impl Terminal {
         ensures { IsAnswer self.old self.new result (done (made_first self.old)) }
     {
         let count = 1 + self.unsent_count();
-        match self.prepare(count) {
-            Ok(mut out) => {
-                let text = self.take_snarf();
-                self.send_prepared(Tmesg::Tsetsnarf(text), &mut out);
-                Ok(self.done_with(out))
-            }
-            Err(why) => Err(why),
-        }
+        let mut out = self.prepare(count)?;
+        let text = self.take_snarf();
+        self.send_prepared(Tmesg::Tsetsnarf(text), &mut out);
+        Ok(self.done_with(out))
     }
 
     /// Does a `Flush`: composes the unsent runes, if there are any.
@@ -143,13 +131,9 @@ impl Terminal {
         requires first { first_event self.old.held ≡ UserEvent.Flush }
         ensures { IsAnswer self.old self.new result (done (made_first self.old)) }
     {
-        match self.flush_now() {
-            Ok(batch) => {
-                self.drop_first();
-                Ok(Acted::Done(batch))
-            }
-            Err(why) => Err(why),
-        }
+        let batch = self.flush_now()?;
+        self.drop_first();
+        Ok(Acted::Done(batch))
     }
 
     /// Marks a file that is known as changed by the user. It takes no memory.

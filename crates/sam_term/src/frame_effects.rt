@@ -215,7 +215,7 @@ impl Terminal {
             changed: false,
             window: None,
         };
-        if let Err(_) = self.files.put_new(tag, file) {
+        if self.files.put_new(tag, file).is_err() {
             return Err(TermFault::OutOfMemory);
         }
         Ok(self.nothing())
@@ -269,7 +269,7 @@ impl Terminal {
         ensures { IsAnswer self.old self.new result (countable (frame_outcome self.old (Hmesg.Hgrow tag p n))) }
     {
         self.facts();
-        if let Err(_) = self.grow_file(tag, p, n) {
+        if self.grow_file(tag, p, n).is_err() {
             return Err(TermFault::OutOfMemory);
         }
         Ok(self.nothing())
@@ -283,7 +283,7 @@ impl Terminal {
         ensures { IsAnswer self.old self.new result (countable (frame_outcome self.old (Hmesg.Hdata tag p text))) }
     {
         self.facts();
-        if let Err(_) = self.load_file(tag, p, text.as_slice()) {
+        if self.load_file(tag, p, text.as_slice()).is_err() {
             return Err(TermFault::OutOfMemory);
         }
         Ok(self.nothing())
@@ -298,7 +298,7 @@ impl Terminal {
         ensures { IsAnswer self.old self.new result (countable (frame_outcome self.old (Hmesg.Hgrowdata tag p text))) }
     {
         self.facts();
-        if let Err(_) = self.fill_file(tag, p, text.as_slice()) {
+        if self.fill_file(tag, p, text.as_slice()).is_err() {
             return Err(TermFault::OutOfMemory);
         }
         Ok(self.nothing())

@@ -225,15 +225,11 @@ impl Terminal {
             return Ok(self.done_quietly());
         }
         let count = 1 + self.unsent_count();
-        match self.prepare(count) {
-            Ok(mut out) => {
-                self.drop_first();
-                self.cut_selected(tag, dot, &mut out);
-                self.compose(Tmesg::Tcut(tag, dot.0, dot.1), &mut out);
-                Ok(self.done_with(out))
-            }
-            Err(why) => Err(why),
-        }
+        let mut out = self.prepare(count)?;
+        self.drop_first();
+        self.cut_selected(tag, dot, &mut out);
+        self.compose(Tmesg::Tcut(tag, dot.0, dot.1), &mut out);
+        Ok(self.done_with(out))
     }
 
     /// Does a `Typed` whose runes join the unsent ones. The dot is empty.
