@@ -14,173 +14,178 @@
 
 static void want(const char *what, int line, unsigned long is, unsigned long should)
 {
-	if (is == should) return;
-	printf("line %d: %s is %lu and should be %lu\n", line, what, is, should);
-	exit(1);
+    if (is == should)
+        return;
+    printf("line %d: %s is %lu and should be %lu\n", line, what, is, should);
+    exit(1);
 }
 
 static void carry(sam_term *term, sam_host *host)
 {
-	uint8_t piece[7];
-	size_t up = 1, down = 1;
-	while (up > 0 || down > 0) {
-		WANT(sam_term_take_out(term, piece, sizeof piece, &up), SAM_OK);
-		if (up > 0) WANT(sam_host_feed(host, piece, up), SAM_OK);
-		WANT(sam_host_take_out(host, piece, sizeof piece, &down), SAM_OK);
-		if (down > 0) WANT(sam_term_feed(term, piece, down), SAM_OK);
-	}
+    uint8_t piece[7];
+    size_t up = 1, down = 1;
+    while (up > 0 || down > 0) {
+        WANT(sam_term_take_out(term, piece, sizeof piece, &up), SAM_OK);
+        if (up > 0)
+            WANT(sam_host_feed(host, piece, up), SAM_OK);
+        WANT(sam_host_take_out(host, piece, sizeof piece, &down), SAM_OK);
+        if (down > 0)
+            WANT(sam_term_feed(term, piece, down), SAM_OK);
+    }
 }
 
 /* A handle that is NULL, or empty: not made yet, or freed. */
 static void no_handles(sam_host *host, sam_term *term)
 {
-	uint8_t buffer[8] = "unused";
-	uint32_t runes[4] = {9, 9, 9, 9}, a = 1, b = 2;
-	uint16_t tag = 3, version = 4;
-	uint64_t many = 5;
-	size_t len = 6, more = 7;
-	bool is = true;
-	WANT(sam_host_free(host), SAM_NO_HANDLE);
-	WANT(sam_host_add_file(host, BYTES("n"), BYTES("t"), &tag), SAM_NO_HANDLE);
-	WANT(sam_host_feed(host, BYTES("x")), SAM_NO_HANDLE);
-	WANT(sam_host_pending(host, &len), SAM_NO_HANDLE);
-	WANT(sam_host_take_out(host, buffer, sizeof buffer, &len), SAM_NO_HANDLE);
-	WANT(sam_host_next_written(host, &tag), SAM_NO_HANDLE);
-	WANT(sam_host_is_done(host, &is), SAM_NO_HANDLE);
-	WANT(sam_host_taken(host, &many), SAM_NO_HANDLE);
-	WANT(sam_host_version(host, &version), SAM_NO_HANDLE);
-	WANT(sam_host_tags(host, &len), SAM_NO_HANDLE);
-	WANT(sam_host_has_file(host, 0, &is), SAM_NO_HANDLE);
-	WANT(sam_host_name(host, 0, buffer, sizeof buffer, &len), SAM_NO_HANDLE);
-	WANT(sam_host_len(host, 0, &a), SAM_NO_HANDLE);
-	WANT(sam_host_is_dirty(host, 0, &is), SAM_NO_HANDLE);
-	WANT(sam_host_text(host, 0, 0, buffer, sizeof buffer, &len, &more), SAM_NO_HANDLE);
-	WANT(sam_host_saved_len(host, 0, &len), SAM_NO_HANDLE);
-	WANT(sam_host_saved(host, 0, 0, buffer, sizeof buffer, &len, &more), SAM_NO_HANDLE);
-	WANT(sam_host_dot(host, 0, &a, &b), SAM_NO_HANDLE);
-	WANT(sam_term_free(term), SAM_NO_HANDLE);
-	WANT(sam_term_type(term, 0, BYTES("\xFF")), SAM_NO_HANDLE);
-	WANT(sam_term_select(term, 0, 0, 0), SAM_NO_HANDLE);
-	WANT(sam_term_cut(term, 0), SAM_NO_HANDLE);
-	WANT(sam_term_paste(term, 0), SAM_NO_HANDLE);
-	WANT(sam_term_snarf(term, 0), SAM_NO_HANDLE);
-	WANT(sam_term_look(term, 0), SAM_NO_HANDLE);
-	WANT(sam_term_search(term, 0), SAM_NO_HANDLE);
-	WANT(sam_term_send(term, 0), SAM_NO_HANDLE);
-	WANT(sam_term_dclick(term, 0, 0), SAM_NO_HANDLE);
-	WANT(sam_term_scroll(term, 0, 0), SAM_NO_HANDLE);
-	WANT(sam_term_view(term, 0, 0, 0), SAM_NO_HANDLE);
-	WANT(sam_term_open(term, 0), SAM_NO_HANDLE);
-	WANT(sam_term_open_cmd(term), SAM_NO_HANDLE);
-	WANT(sam_term_new_file(term), SAM_NO_HANDLE);
-	WANT(sam_term_write(term, 0), SAM_NO_HANDLE);
-	WANT(sam_term_close(term, 0), SAM_NO_HANDLE);
-	WANT(sam_term_work(term, 0), SAM_NO_HANDLE);
-	WANT(sam_term_check(term, 0), SAM_NO_HANDLE);
-	WANT(sam_term_get_snarf(term), SAM_NO_HANDLE);
-	WANT(sam_term_set_snarf(term, BYTES("x")), SAM_NO_HANDLE);
-	WANT(sam_term_offer_version(term, 2), SAM_NO_HANDLE);
-	WANT(sam_term_flush(term), SAM_NO_HANDLE);
-	WANT(sam_term_exit(term), SAM_NO_HANDLE);
-	WANT(sam_term_feed(term, BYTES("x")), SAM_NO_HANDLE);
-	WANT(sam_term_flush_now(term), SAM_NO_HANDLE);
-	WANT(sam_term_pending(term, &len), SAM_NO_HANDLE);
-	WANT(sam_term_take_out(term, buffer, sizeof buffer, &len), SAM_NO_HANDLE);
-	WANT(sam_term_next_refusal(term, &many, &a), SAM_NO_HANDLE);
-	WANT(sam_term_events(term, &many), SAM_NO_HANDLE);
-	WANT(sam_term_tags(term, &len), SAM_NO_HANDLE);
-	WANT(sam_term_is_known(term, 0, &is), SAM_NO_HANDLE);
-	WANT(sam_term_name(term, 0, buffer, sizeof buffer, &len), SAM_NO_HANDLE);
-	WANT(sam_term_is_dirty(term, 0, &is), SAM_NO_HANDLE);
-	WANT(sam_term_is_changed(term, 0, &is), SAM_NO_HANDLE);
-	WANT(sam_term_is_open(term, 0, &is), SAM_NO_HANDLE);
-	WANT(sam_term_current(term, &tag), SAM_NO_HANDLE);
-	WANT(sam_term_len(term, 0, &a), SAM_NO_HANDLE);
-	WANT(sam_term_read(term, 0, 0, runes, 4, &len), SAM_NO_HANDLE);
-	WANT(sam_term_first_gap(term, 0, 0, &a), SAM_NO_HANDLE);
-	WANT(sam_term_dot(term, 0, &a, &b), SAM_NO_HANDLE);
-	WANT(sam_term_view_of(term, 0, &a, &b), SAM_NO_HANDLE);
-	WANT(sam_term_locked(term, 0, &is), SAM_NO_HANDLE);
-	WANT(sam_term_command_locked(term, &is), SAM_NO_HANDLE);
-	WANT(sam_term_held(term, &len), SAM_NO_HANDLE);
-	WANT(sam_term_unsent(term, &a), SAM_NO_HANDLE);
-	WANT(sam_term_sent(term, &many), SAM_NO_HANDLE);
-	WANT(sam_term_under_way(term, &many), SAM_NO_HANDLE);
-	WANT(sam_term_pattern(term, buffer, sizeof buffer, &len), SAM_NO_HANDLE);
-	WANT(sam_term_snarfed(term, 0, buffer, sizeof buffer, &len, &more), SAM_NO_HANDLE);
-	WANT(sam_term_snarf_len(term, &a), SAM_NO_HANDLE);
-	WANT(sam_term_exited(term, &is), SAM_NO_HANDLE);
-	WANT(sam_term_version(term, &version), SAM_NO_HANDLE);
-	/* What the pointers lead to is as it was. */
-	WANT(memcmp(buffer, "unused", 7), 0);
-	WANT(a == 1 && b == 2 && tag == 3 && version == 4 && many == 5 && len == 6 && more == 7 && is && runes[0] == 9, 1);
+    uint8_t buffer[8] = "unused";
+    uint32_t runes[4] = {9, 9, 9, 9}, a = 1, b = 2;
+    uint16_t tag = 3, version = 4;
+    uint64_t many = 5;
+    size_t len = 6, more = 7;
+    bool is = true;
+    WANT(sam_host_free(host), SAM_NO_HANDLE);
+    WANT(sam_host_add_file(host, BYTES("n"), BYTES("t"), &tag), SAM_NO_HANDLE);
+    WANT(sam_host_feed(host, BYTES("x")), SAM_NO_HANDLE);
+    WANT(sam_host_pending(host, &len), SAM_NO_HANDLE);
+    WANT(sam_host_take_out(host, buffer, sizeof buffer, &len), SAM_NO_HANDLE);
+    WANT(sam_host_next_written(host, &tag), SAM_NO_HANDLE);
+    WANT(sam_host_is_done(host, &is), SAM_NO_HANDLE);
+    WANT(sam_host_taken(host, &many), SAM_NO_HANDLE);
+    WANT(sam_host_version(host, &version), SAM_NO_HANDLE);
+    WANT(sam_host_tags(host, &len), SAM_NO_HANDLE);
+    WANT(sam_host_has_file(host, 0, &is), SAM_NO_HANDLE);
+    WANT(sam_host_name(host, 0, buffer, sizeof buffer, &len), SAM_NO_HANDLE);
+    WANT(sam_host_len(host, 0, &a), SAM_NO_HANDLE);
+    WANT(sam_host_is_dirty(host, 0, &is), SAM_NO_HANDLE);
+    WANT(sam_host_text(host, 0, 0, buffer, sizeof buffer, &len, &more), SAM_NO_HANDLE);
+    WANT(sam_host_saved_len(host, 0, &len), SAM_NO_HANDLE);
+    WANT(sam_host_saved(host, 0, 0, buffer, sizeof buffer, &len, &more), SAM_NO_HANDLE);
+    WANT(sam_host_dot(host, 0, &a, &b), SAM_NO_HANDLE);
+    WANT(sam_term_free(term), SAM_NO_HANDLE);
+    WANT(sam_term_type(term, 0, BYTES("\xFF")), SAM_NO_HANDLE);
+    WANT(sam_term_select(term, 0, 0, 0), SAM_NO_HANDLE);
+    WANT(sam_term_cut(term, 0), SAM_NO_HANDLE);
+    WANT(sam_term_paste(term, 0), SAM_NO_HANDLE);
+    WANT(sam_term_snarf(term, 0), SAM_NO_HANDLE);
+    WANT(sam_term_look(term, 0), SAM_NO_HANDLE);
+    WANT(sam_term_search(term, 0), SAM_NO_HANDLE);
+    WANT(sam_term_send(term, 0), SAM_NO_HANDLE);
+    WANT(sam_term_dclick(term, 0, 0), SAM_NO_HANDLE);
+    WANT(sam_term_scroll(term, 0, 0), SAM_NO_HANDLE);
+    WANT(sam_term_view(term, 0, 0, 0), SAM_NO_HANDLE);
+    WANT(sam_term_open(term, 0), SAM_NO_HANDLE);
+    WANT(sam_term_open_cmd(term), SAM_NO_HANDLE);
+    WANT(sam_term_new_file(term), SAM_NO_HANDLE);
+    WANT(sam_term_write(term, 0), SAM_NO_HANDLE);
+    WANT(sam_term_close(term, 0), SAM_NO_HANDLE);
+    WANT(sam_term_work(term, 0), SAM_NO_HANDLE);
+    WANT(sam_term_check(term, 0), SAM_NO_HANDLE);
+    WANT(sam_term_get_snarf(term), SAM_NO_HANDLE);
+    WANT(sam_term_set_snarf(term, BYTES("x")), SAM_NO_HANDLE);
+    WANT(sam_term_offer_version(term, 2), SAM_NO_HANDLE);
+    WANT(sam_term_flush(term), SAM_NO_HANDLE);
+    WANT(sam_term_exit(term), SAM_NO_HANDLE);
+    WANT(sam_term_feed(term, BYTES("x")), SAM_NO_HANDLE);
+    WANT(sam_term_flush_now(term), SAM_NO_HANDLE);
+    WANT(sam_term_pending(term, &len), SAM_NO_HANDLE);
+    WANT(sam_term_take_out(term, buffer, sizeof buffer, &len), SAM_NO_HANDLE);
+    WANT(sam_term_next_refusal(term, &many, &a), SAM_NO_HANDLE);
+    WANT(sam_term_events(term, &many), SAM_NO_HANDLE);
+    WANT(sam_term_tags(term, &len), SAM_NO_HANDLE);
+    WANT(sam_term_is_known(term, 0, &is), SAM_NO_HANDLE);
+    WANT(sam_term_name(term, 0, buffer, sizeof buffer, &len), SAM_NO_HANDLE);
+    WANT(sam_term_is_dirty(term, 0, &is), SAM_NO_HANDLE);
+    WANT(sam_term_is_changed(term, 0, &is), SAM_NO_HANDLE);
+    WANT(sam_term_is_open(term, 0, &is), SAM_NO_HANDLE);
+    WANT(sam_term_current(term, &tag), SAM_NO_HANDLE);
+    WANT(sam_term_len(term, 0, &a), SAM_NO_HANDLE);
+    WANT(sam_term_read(term, 0, 0, runes, 4, &len), SAM_NO_HANDLE);
+    WANT(sam_term_first_gap(term, 0, 0, &a), SAM_NO_HANDLE);
+    WANT(sam_term_dot(term, 0, &a, &b), SAM_NO_HANDLE);
+    WANT(sam_term_view_of(term, 0, &a, &b), SAM_NO_HANDLE);
+    WANT(sam_term_locked(term, 0, &is), SAM_NO_HANDLE);
+    WANT(sam_term_command_locked(term, &is), SAM_NO_HANDLE);
+    WANT(sam_term_held(term, &len), SAM_NO_HANDLE);
+    WANT(sam_term_unsent(term, &a), SAM_NO_HANDLE);
+    WANT(sam_term_sent(term, &many), SAM_NO_HANDLE);
+    WANT(sam_term_under_way(term, &many), SAM_NO_HANDLE);
+    WANT(sam_term_pattern(term, buffer, sizeof buffer, &len), SAM_NO_HANDLE);
+    WANT(sam_term_snarfed(term, 0, buffer, sizeof buffer, &len, &more), SAM_NO_HANDLE);
+    WANT(sam_term_snarf_len(term, &a), SAM_NO_HANDLE);
+    WANT(sam_term_exited(term, &is), SAM_NO_HANDLE);
+    WANT(sam_term_version(term, &version), SAM_NO_HANDLE);
+    /* What the pointers lead to is as it was. */
+    WANT(memcmp(buffer, "unused", 7), 0);
+    WANT(a == 1 && b == 2 && tag == 3 && version == 4 && many == 5 && len == 6 && more == 7 && is && runes[0] == 9, 1);
 }
 
 /* Adding files: each refusal in its order, and the host as it was after it. */
 static void adding(void)
 {
-	static uint8_t letters[1000001];
-	sam_host host = {0};
-	uint16_t tag = 99;
-	size_t tags = 0;
-	memset(letters, 'x', sizeof letters);
-	WANT(sam_host_new(&host), SAM_OK);
-	WANT(sam_host_new(&host), SAM_MADE);
-	WANT(sam_host_add_file(&host, BYTES("\xFF"), BYTES("x"), &tag), SAM_NOT_TEXT);
-	WANT(sam_host_add_file(&host, BYTES("x"), BYTES("\xC3"), &tag), SAM_NOT_TEXT);
-	WANT(sam_host_add_file(&host, letters, 65, BYTES("\xC3"), &tag), SAM_NOT_TEXT);
-	WANT(sam_host_add_file(&host, letters, 65, BYTES("x"), &tag), SAM_ADD_TOO_LONG);
-	WANT(sam_host_add_file(&host, BYTES("x"), letters, 1000001, &tag), SAM_ADD_TOO_LONG);
-	WANT(tag, 99);
-	WANT(sam_host_add_file(&host, letters, 64, letters, 1000000, &tag), SAM_OK);
-	WANT(tag, 1);
-	WANT(sam_host_tags(&host, &tags), SAM_OK);
-	WANT(tags, 2);
-	WANT(sam_host_feed(&host, NULL, 0), SAM_OK);
-	WANT(sam_host_add_file(&host, BYTES("\xFF"), BYTES("x"), &tag), SAM_ADD_BEGUN);
-	WANT(sam_host_free(&host), SAM_OK);
-	WANT(sam_host_free(&host), SAM_NO_HANDLE);
+    static uint8_t letters[1000001];
+    sam_host host = {0};
+    uint16_t tag = 99;
+    size_t tags = 0;
+    memset(letters, 'x', sizeof letters);
+    WANT(sam_host_new(&host), SAM_OK);
+    WANT(sam_host_new(&host), SAM_MADE);
+    WANT(sam_host_add_file(&host, BYTES("\xFF"), BYTES("x"), &tag), SAM_NOT_TEXT);
+    WANT(sam_host_add_file(&host, BYTES("x"), BYTES("\xC3"), &tag), SAM_NOT_TEXT);
+    WANT(sam_host_add_file(&host, letters, 65, BYTES("\xC3"), &tag), SAM_NOT_TEXT);
+    WANT(sam_host_add_file(&host, letters, 65, BYTES("x"), &tag), SAM_ADD_TOO_LONG);
+    WANT(sam_host_add_file(&host, BYTES("x"), letters, 1000001, &tag), SAM_ADD_TOO_LONG);
+    WANT(tag, 99);
+    WANT(sam_host_add_file(&host, letters, 64, letters, 1000000, &tag), SAM_OK);
+    WANT(tag, 1);
+    WANT(sam_host_tags(&host, &tags), SAM_OK);
+    WANT(tags, 2);
+    WANT(sam_host_feed(&host, NULL, 0), SAM_OK);
+    WANT(sam_host_add_file(&host, BYTES("\xFF"), BYTES("x"), &tag), SAM_ADD_BEGUN);
+    WANT(sam_host_free(&host), SAM_OK);
+    WANT(sam_host_free(&host), SAM_NO_HANDLE);
 }
 
 static void all_tags(void)
 {
-	sam_host host = {0};
-	uint16_t tag = 0;
-	WANT(sam_host_new(&host), SAM_OK);
-	for (unsigned i = 1; i < 65536; i++) WANT(sam_host_add_file(&host, BYTES("n"), BYTES(""), &tag), SAM_OK);
-	WANT(tag, 65535);
-	WANT(sam_host_add_file(&host, BYTES("n"), BYTES(""), &tag), SAM_ADD_NO_TAG);
-	WANT(sam_host_free(&host), SAM_OK);
+    sam_host host = {0};
+    uint16_t tag = 0;
+    WANT(sam_host_new(&host), SAM_OK);
+    for (unsigned i = 1; i < 65536; i++)
+        WANT(sam_host_add_file(&host, BYTES("n"), BYTES(""), &tag), SAM_OK);
+    WANT(tag, 65535);
+    WANT(sam_host_add_file(&host, BYTES("n"), BYTES(""), &tag), SAM_ADD_NO_TAG);
+    WANT(sam_host_free(&host), SAM_OK);
 }
 
 /* Feeds bytes to a new host that has one file; answers the status, and that it stays. */
 static uint32_t fed_host(const char *bytes, size_t len)
 {
-	sam_host host = {0};
-	uint16_t tag;
-	WANT(sam_host_new(&host), SAM_OK);
-	WANT(sam_host_add_file(&host, BYTES("a"), BYTES("one"), &tag), SAM_OK);
-	uint32_t status = sam_host_feed(&host, (const uint8_t *)bytes, len);
-	if (status != SAM_OK) WANT(sam_host_feed(&host, NULL, 0), status);
-	WANT(sam_host_free(&host), SAM_OK);
-	return status;
+    sam_host host = {0};
+    uint16_t tag;
+    WANT(sam_host_new(&host), SAM_OK);
+    WANT(sam_host_add_file(&host, BYTES("a"), BYTES("one"), &tag), SAM_OK);
+    uint32_t status = sam_host_feed(&host, (const uint8_t *)bytes, len);
+    if (status != SAM_OK)
+        WANT(sam_host_feed(&host, NULL, 0), status);
+    WANT(sam_host_free(&host), SAM_OK);
+    return status;
 }
 
 #define HOST(bytes) fed_host(bytes, sizeof(bytes) - 1)
 
 static uint32_t fed_term(const char *bytes, size_t len)
 {
-	sam_term term = {0};
-	WANT(sam_term_new(&term), SAM_OK);
-	uint32_t status = sam_term_feed(&term, (const uint8_t *)bytes, len);
-	if (status != SAM_OK) {
-		WANT(sam_term_feed(&term, NULL, 0), status);
-		WANT(sam_term_cut(&term, 0), status);
-		WANT(sam_term_type(&term, 0, BYTES("x")), status);
-		WANT(sam_term_flush_now(&term), status);
-	}
-	WANT(sam_term_free(&term), SAM_OK);
-	return status;
+    sam_term term = {0};
+    WANT(sam_term_new(&term), SAM_OK);
+    uint32_t status = sam_term_feed(&term, (const uint8_t *)bytes, len);
+    if (status != SAM_OK) {
+        WANT(sam_term_feed(&term, NULL, 0), status);
+        WANT(sam_term_cut(&term, 0), status);
+        WANT(sam_term_type(&term, 0, BYTES("x")), status);
+        WANT(sam_term_flush_now(&term), status);
+    }
+    WANT(sam_term_free(&term), SAM_OK);
+    return status;
 }
 
 #define TERM(bytes) fed_term(bytes, sizeof(bytes) - 1)
@@ -192,312 +197,315 @@ static uint32_t fed_term(const char *bytes, size_t len)
 
 static void wrong_streams(void)
 {
-	WANT(HOST("\x17"), SAM_BAD_KIND);
-	WANT(HOST("\x01\0\x03"), SAM_BAD_LENGTH);
-	WANT(HOST("\x08\0\x07\0\x01\0\0\0\0\xFF"), SAM_BAD_TEXT);
-	WANT(HOST("\x06\0\x02\0\x09"), SAM_HOST_NO_FILE);
-	WANT(HOST("\x0d\0\x02\0\x01"), SAM_HOST_NOT_OPEN);
-	WANT(HOST("\x06\0\x02\0\x01\x09\0\x0a\0\x01\0\0\0\0\0\0\0\x09"), SAM_HOST_BAD_POSITION);
-	WANT(HOST("\x01\0\x02\0\0"), SAM_HOST_BAD_VERSION);
-	WANT(HOST("\x0e\0\x02\0\0"), SAM_HOST_COMMAND_FILE);
-	WANT(TERM("\x40"), SAM_BAD_KIND);
-	WANT(TERM("\x48\0\x09"), SAM_BAD_LENGTH);
-	WANT(TERM("\x45\0\x0b" SEEN "\0\x01\xFF"), SAM_BAD_TEXT);
-	WANT(TERM("\x48\0\x08\0\0\0\0\0\0\0\x01"), SAM_TERM_FROM_THE_FUTURE);
-	WANT(TERM("\x42\0\x0a" SEEN "\0\x05"), SAM_TERM_NO_FILE);
-	WANT(TERM(HNEWNAME_1 "\x47\0\x0a" SEEN "\0\x01"), SAM_TERM_NOT_OPEN);
-	WANT(TERM(HNEWNAME_1 HNEWNAME_1), SAM_TERM_ALREADY_BOUND);
-	WANT(TERM(HNEWNAME_1 HBINDNAME_1 "\x4c\0\x12" SEEN "\0\x01\0\0\0\0\0\0\0\x09"), SAM_TERM_BAD_POSITION);
-	WANT(TERM(HNEWNAME_1 HBINDNAME_1 "\x46\0\x12" SEEN "\0\x01\0\0\0\0\0\x0f\x42\x41"), SAM_TERM_TOO_LONG);
-	WANT(TERM("\x48\0\x08" SEEN), SAM_TERM_LOCK_NOT_HELD);
-	WANT(TERM(HNEWNAME_1 HBINDNAME_1), SAM_OK);
+    WANT(HOST("\x17"), SAM_BAD_KIND);
+    WANT(HOST("\x01\0\x03"), SAM_BAD_LENGTH);
+    WANT(HOST("\x08\0\x07\0\x01\0\0\0\0\xFF"), SAM_BAD_TEXT);
+    WANT(HOST("\x06\0\x02\0\x09"), SAM_HOST_NO_FILE);
+    WANT(HOST("\x0d\0\x02\0\x01"), SAM_HOST_NOT_OPEN);
+    WANT(HOST("\x06\0\x02\0\x01\x09\0\x0a\0\x01\0\0\0\0\0\0\0\x09"), SAM_HOST_BAD_POSITION);
+    WANT(HOST("\x01\0\x02\0\0"), SAM_HOST_BAD_VERSION);
+    WANT(HOST("\x0e\0\x02\0\0"), SAM_HOST_COMMAND_FILE);
+    WANT(TERM("\x40"), SAM_BAD_KIND);
+    WANT(TERM("\x48\0\x09"), SAM_BAD_LENGTH);
+    WANT(TERM("\x45\0\x0b" SEEN "\0\x01\xFF"), SAM_BAD_TEXT);
+    WANT(TERM("\x48\0\x08\0\0\0\0\0\0\0\x01"), SAM_TERM_FROM_THE_FUTURE);
+    WANT(TERM("\x42\0\x0a" SEEN "\0\x05"), SAM_TERM_NO_FILE);
+    WANT(TERM(HNEWNAME_1 "\x47\0\x0a" SEEN "\0\x01"), SAM_TERM_NOT_OPEN);
+    WANT(TERM(HNEWNAME_1 HNEWNAME_1), SAM_TERM_ALREADY_BOUND);
+    WANT(TERM(HNEWNAME_1 HBINDNAME_1 "\x4c\0\x12" SEEN "\0\x01\0\0\0\0\0\0\0\x09"), SAM_TERM_BAD_POSITION);
+    WANT(TERM(HNEWNAME_1 HBINDNAME_1 "\x46\0\x12" SEEN "\0\x01\0\0\0\0\0\x0f\x42\x41"), SAM_TERM_TOO_LONG);
+    WANT(TERM("\x48\0\x08" SEEN), SAM_TERM_LOCK_NOT_HELD);
+    WANT(TERM(HNEWNAME_1 HBINDNAME_1), SAM_OK);
 }
 
 /* A host that would pass the limit of a text refuses; so does a terminal, which goes on. */
 static void too_long(void)
 {
-	static uint8_t letters[1000000];
-	sam_host host = {0};
-	sam_term term = {0};
-	uint16_t tag;
-	uint64_t event;
-	uint32_t why;
-	memset(letters, 'x', sizeof letters);
-	WANT(sam_host_new(&host), SAM_OK);
-	WANT(sam_term_new(&term), SAM_OK);
-	WANT(sam_host_add_file(&host, BYTES("a"), letters, sizeof letters, &tag), SAM_OK);
-	WANT(sam_term_offer_version(&term, 2), SAM_OK);
-	WANT(sam_term_open(&term, 1), SAM_OK); /* held until the names are told */
-	carry(&term, &host);
-	WANT(sam_term_next_refusal(&term, &event, &why), SAM_NONE);
-	WANT(sam_term_type(&term, 1, BYTES("y")), SAM_OK);
-	WANT(sam_term_next_refusal(&term, &event, &why), SAM_OK);
-	WANT(event, 3);
-	WANT(why, SAM_REFUSAL_TOO_LONG);
-	WANT(sam_term_next_refusal(&term, &event, &why), SAM_NONE);
-	WANT(sam_host_feed(&host, BYTES("\x08\0\x07\0\x01\0\0\0\0y")), SAM_HOST_TOO_LONG);
-	WANT(sam_host_free(&host), SAM_OK);
-	WANT(sam_term_free(&term), SAM_OK);
+    static uint8_t letters[1000000];
+    sam_host host = {0};
+    sam_term term = {0};
+    uint16_t tag;
+    uint64_t event;
+    uint32_t why;
+    memset(letters, 'x', sizeof letters);
+    WANT(sam_host_new(&host), SAM_OK);
+    WANT(sam_term_new(&term), SAM_OK);
+    WANT(sam_host_add_file(&host, BYTES("a"), letters, sizeof letters, &tag), SAM_OK);
+    WANT(sam_term_offer_version(&term, 2), SAM_OK);
+    WANT(sam_term_open(&term, 1), SAM_OK); /* held until the names are told */
+    carry(&term, &host);
+    WANT(sam_term_next_refusal(&term, &event, &why), SAM_NONE);
+    WANT(sam_term_type(&term, 1, BYTES("y")), SAM_OK);
+    WANT(sam_term_next_refusal(&term, &event, &why), SAM_OK);
+    WANT(event, 3);
+    WANT(why, SAM_REFUSAL_TOO_LONG);
+    WANT(sam_term_next_refusal(&term, &event, &why), SAM_NONE);
+    WANT(sam_host_feed(&host, BYTES("\x08\0\x07\0\x01\0\0\0\0y")), SAM_HOST_TOO_LONG);
+    WANT(sam_host_free(&host), SAM_OK);
+    WANT(sam_term_free(&term), SAM_OK);
 }
 
 static void wants_refusal(sam_term *term, uint32_t should)
 {
-	uint64_t event, events;
-	uint32_t why;
-	WANT(sam_term_next_refusal(term, &event, &why), SAM_OK);
-	WANT(why, should);
-	WANT(sam_term_events(term, &events), SAM_OK);
-	WANT(event, events);
+    uint64_t event, events;
+    uint32_t why;
+    WANT(sam_term_next_refusal(term, &event, &why), SAM_OK);
+    WANT(why, should);
+    WANT(sam_term_events(term, &events), SAM_OK);
+    WANT(event, events);
 }
 
 static void wants_under_way(sam_term *term, uint64_t should)
 {
-	uint64_t messages = 99;
-	WANT(sam_term_under_way(term, &messages), SAM_OK);
-	WANT(messages, should);
+    uint64_t messages = 99;
+    WANT(sam_term_under_way(term, &messages), SAM_OK);
+    WANT(messages, should);
 }
 
 static void same_text(sam_host *host, uint16_t tag, const char *text)
 {
-	uint8_t bytes[256];
-	size_t len, runes;
-	WANT(sam_host_text(host, tag, 0, bytes, sizeof bytes, &len, &runes), SAM_OK);
-	WANT(len, strlen(text));
-	WANT(memcmp(bytes, text, len), 0);
+    uint8_t bytes[256];
+    size_t len, runes;
+    WANT(sam_host_text(host, tag, 0, bytes, sizeof bytes, &len, &runes), SAM_OK);
+    WANT(len, strlen(text));
+    WANT(memcmp(bytes, text, len), 0);
 }
 
 /* A whole session, each event at least once, with what the readers tell on the way. */
 static void session(void)
 {
-	static const uint8_t many[513] = {0};
-	sam_host host = {0};
-	sam_term term = {0};
-	uint16_t tag, version;
-	uint32_t a, b, runes[8];
-	uint64_t count;
-	size_t len, more;
-	uint8_t bytes[64];
-	bool is;
-	WANT(sam_host_new(&host), SAM_OK);
-	WANT(sam_host_add_file(&host, BYTES("a"), BYTES("one two one\n"), &tag), SAM_OK);
-	WANT(sam_term_new(&term), SAM_OK);
-	WANT(sam_term_current(&term, &tag), SAM_NONE);
-	WANT(sam_term_offer_version(&term, 2), SAM_OK);
-	WANT(sam_term_pending(&term, &len), SAM_OK);
-	WANT(len, 5);
-	WANT(sam_term_take_out(&term, bytes, sizeof bytes, &len), SAM_OK);
-	WANT(memcmp(bytes, "\x01\0\x02\0\x02", 5), 0); /* Tversion 2 */
-	WANT(sam_host_feed(&host, bytes, len), SAM_OK);
-	WANT(sam_host_pending(&host, &len), SAM_OK);
-	WANT(len > 0, 1);
-	carry(&term, &host);
-	WANT(sam_term_version(&term, &version), SAM_OK);
-	WANT(version, 2);
-	WANT(sam_host_version(&host, &version), SAM_OK);
-	WANT(version, 2);
-	WANT(sam_term_open_cmd(&term), SAM_OK);
-	WANT(sam_term_command_locked(&term, &is), SAM_OK);
-	WANT(is, 1);
-	carry(&term, &host);
-	WANT(sam_term_tags(&term, &len), SAM_OK);
-	WANT(len, 2);
-	WANT(sam_term_is_known(&term, 1, &is), SAM_OK);
-	WANT(is, 1);
-	WANT(sam_term_name(&term, 1, bytes, sizeof bytes, &len), SAM_OK);
-	WANT(len == 1 && bytes[0] == 'a', 1);
-	WANT(sam_term_is_open(&term, 1, &is), SAM_OK);
-	WANT(is, 0);
-	WANT(sam_term_dot(&term, 1, &a, &b), SAM_NONE);
-	WANT(sam_term_open(&term, 1), SAM_OK);
-	WANT(sam_term_type(&term, 1, BYTES("\xC3")), SAM_NOT_TEXT);
-	WANT(sam_term_select(&term, 1, 0, 3), SAM_OK); /* waits for the file */
-	WANT(sam_term_held(&term, &len), SAM_OK);
-	WANT(len, 1);
-	carry(&term, &host);
-	WANT(sam_term_len(&term, 1, &a), SAM_OK);
-	WANT(a, 12);
-	WANT(sam_term_first_gap(&term, 1, 0, &a), SAM_OK);
-	WANT(a, 0);
-	WANT(sam_term_read(&term, 1, 10, runes, 8, &len), SAM_OK);
-	WANT(len == 2 && runes[0] == SAM_GAP && runes[1] == SAM_GAP, 1);
-	WANT(sam_term_view(&term, 1, 0, 12), SAM_OK);
-	carry(&term, &host);
-	WANT(sam_term_view_of(&term, 1, &a, &b), SAM_OK);
-	WANT(a == 0 && b == 12, 1);
-	WANT(sam_term_first_gap(&term, 1, 0, &a), SAM_NONE);
-	WANT(sam_term_read(&term, 1, 10, runes, 8, &len), SAM_OK);
-	WANT(len == 2 && runes[0] == 'e' && runes[1] == '\n', 1);
-	WANT(sam_term_dot(&term, 1, &a, &b), SAM_OK);
-	WANT(a == 0 && b == 3, 1);
-	WANT(sam_term_look(&term, 1), SAM_OK);
-	WANT(sam_term_locked(&term, 1, &is), SAM_OK);
-	WANT(is, 1);
-	carry(&term, &host);
-	WANT(sam_term_dot(&term, 1, &a, &b), SAM_OK);
-	WANT(a == 8 && b == 11, 1); /* the second 'one' */
-	WANT(sam_term_is_changed(&term, 1, &is), SAM_OK);
-	WANT(is, 0);
-	WANT(sam_term_cut(&term, 1), SAM_OK);
-	WANT(sam_term_is_changed(&term, 1, &is), SAM_OK);
-	WANT(is, 1);
-	WANT(sam_term_is_dirty(&term, 1, &is), SAM_OK);
-	WANT(is, 0); /* the host tells nothing of what is cut here */
-	WANT(sam_term_is_changed(&term, 9, &is), SAM_OK);
-	WANT(is, 0); /* there is no such file */
-	carry(&term, &host);
-	same_text(&host, 1, "one two \n");
-	WANT(sam_term_snarf_len(&term, &a), SAM_OK);
-	WANT(a, 3);
-	WANT(sam_term_select(&term, 1, 0, 0), SAM_OK);
-	WANT(sam_term_paste(&term, 1), SAM_OK);
-	carry(&term, &host);
-	same_text(&host, 1, "oneone two \n");
-	wants_under_way(&term, 0);
-	WANT(sam_term_type(&term, 1, BYTES("\xC3\xA9")), SAM_OK); /* in the place of what was pasted */
-	WANT(sam_term_unsent(&term, &a), SAM_OK);
-	WANT(a, 1);
-	WANT(sam_term_flush_now(&term), SAM_OK);
-	WANT(sam_term_unsent(&term, &a), SAM_OK);
-	WANT(a, 0);
-	wants_under_way(&term, 2); /* Tcut and Ttype */
-	carry(&term, &host);
-	same_text(&host, 1, "\xC3\xA9one two \n");
-	wants_under_way(&term, 2); /* the host has taken both, and answers neither */
-	WANT(sam_term_check(&term, 1), SAM_OK);
-	wants_under_way(&term, 3);
-	carry(&term, &host);
-	wants_under_way(&term, 0);
-	WANT(sam_host_text(&host, 1, 0, bytes, 1, &len, &more), SAM_OK); /* no whole rune has room */
-	WANT(len == 0 && more == 0, 1);
-	WANT(sam_host_is_dirty(&host, 1, &is), SAM_OK);
-	WANT(is, 1);
-	WANT(sam_host_saved_len(&host, 1, &len), SAM_NONE);
-	WANT(sam_host_next_written(&host, &tag), SAM_NONE);
-	WANT(sam_term_is_changed(&term, 1, &is), SAM_OK);
-	WANT(is, 1);
-	WANT(sam_term_write(&term, 1), SAM_OK);
-	WANT(sam_term_is_changed(&term, 1, &is), SAM_OK);
-	WANT(is, 1); /* it is not written yet */
-	carry(&term, &host);
-	WANT(sam_term_is_changed(&term, 1, &is), SAM_OK);
-	WANT(is, 0);
-	WANT(sam_host_next_written(&host, &tag), SAM_OK);
-	WANT(tag, 1);
-	WANT(sam_host_next_written(&host, &tag), SAM_NONE);
-	WANT(sam_host_saved_len(&host, 1, &len), SAM_OK);
-	WANT(len, 10);
-	WANT(sam_host_saved(&host, 1, 5, bytes, sizeof bytes, &len, &more), SAM_OK);
-	WANT(len == 5 && more == 5 && memcmp(bytes, "two \n", 5) == 0, 1);
-	WANT(sam_term_dclick(&term, 1, 5), SAM_OK);
-	carry(&term, &host);
-	WANT(sam_host_dot(&host, 1, &a, &b), SAM_OK);
-	WANT(a == 5 && b == 8, 1); /* the word 'two' */
-	WANT(sam_term_snarf(&term, 1), SAM_OK);
-	WANT(sam_term_get_snarf(&term), SAM_OK);
-	carry(&term, &host);
-	WANT(sam_term_snarfed(&term, 1, bytes, sizeof bytes, &len, &more), SAM_OK);
-	WANT(len == 2 && more == 2 && memcmp(bytes, "wo", 2) == 0, 1);
-	WANT(sam_term_set_snarf(&term, BYTES(",x/o/c/0/\n")), SAM_OK);
-	WANT(sam_term_set_snarf(&term, BYTES("\xFF")), SAM_NOT_TEXT);
-	WANT(sam_term_work(&term, 1), SAM_OK);
-	WANT(sam_term_paste(&term, 0), SAM_OK); /* into the command window */
-	carry(&term, &host);
-	WANT(sam_term_current(&term, &tag), SAM_OK);
-	WANT(tag, 1);
-	WANT(sam_term_select(&term, 0, 0, 10), SAM_OK);
-	WANT(sam_term_send(&term, 0), SAM_OK);
-	carry(&term, &host);
-	same_text(&host, 1, "\xC3\xA9" "0ne tw0 \n");
-	WANT(sam_term_is_dirty(&term, 1, &is), SAM_OK);
-	WANT(is, 1); /* the host told it: the file was clean before the command */
-	WANT(sam_term_is_changed(&term, 1, &is), SAM_OK);
-	WANT(is, 1);
-	WANT(sam_term_pattern(&term, bytes, sizeof bytes, &len), SAM_OK);
-	WANT(len == 1 && bytes[0] == 'o', 1);
-	WANT(sam_term_search(&term, 1), SAM_OK);
-	WANT(sam_term_scroll(&term, 1, 1), SAM_OK);
-	WANT(sam_term_check(&term, 1), SAM_OK);
-	WANT(sam_term_flush(&term), SAM_OK);
-	WANT(sam_term_new_file(&term), SAM_OK);
-	carry(&term, &host);
-	WANT(sam_host_has_file(&host, 2, &is), SAM_OK);
-	WANT(is, 1);
-	WANT(sam_term_close(&term, 2), SAM_OK);
-	carry(&term, &host);
-	WANT(sam_host_has_file(&host, 2, &is), SAM_OK);
-	WANT(is, 0);
-	WANT(sam_host_name(&host, 2, bytes, sizeof bytes, &len), SAM_NONE);
-	WANT(sam_host_name(&host, 1, bytes, sizeof bytes, &len), SAM_OK);
-	WANT(len == 1 && bytes[0] == 'a', 1);
-	WANT(sam_host_len(&host, 1, &a), SAM_OK);
-	WANT(sam_host_len(&host, 2, &a), SAM_NONE);
-	WANT(sam_host_is_dirty(&host, 2, &is), SAM_NONE);
-	WANT(sam_host_text(&host, 2, 0, bytes, sizeof bytes, &len, &more), SAM_NONE);
-	WANT(sam_host_saved(&host, 2, 0, bytes, sizeof bytes, &len, &more), SAM_NONE);
-	WANT(sam_host_dot(&host, 2, &a, &b), SAM_NONE);
-	WANT(sam_term_cut(&term, 9), SAM_OK);
-	wants_refusal(&term, SAM_REFUSAL_NO_FILE);
-	WANT(sam_term_select(&term, 1, 0, 99), SAM_OK);
-	wants_refusal(&term, SAM_REFUSAL_BAD_POSITION);
-	WANT(sam_term_type(&term, 1, many, sizeof many), SAM_OK);
-	wants_refusal(&term, SAM_REFUSAL_TEXT_TOO_LONG);
-	WANT(sam_term_close(&term, 0), SAM_OK);
-	wants_refusal(&term, SAM_REFUSAL_COMMAND_FILE);
-	WANT(sam_term_offer_version(&term, 0), SAM_OK);
-	wants_refusal(&term, SAM_REFUSAL_BAD_VERSION);
-	WANT(sam_term_sent(&term, &count), SAM_OK);
-	uint64_t taken;
-	WANT(sam_host_taken(&host, &taken), SAM_OK);
-	WANT(taken, count);
-	WANT(sam_host_is_done(&host, &is), SAM_OK);
-	WANT(is, 0);
-	WANT(sam_term_exit(&term), SAM_OK);
-	carry(&term, &host);
-	WANT(sam_host_is_done(&host, &is), SAM_OK);
-	WANT(is, 1);
-	WANT(sam_term_exited(&term, &is), SAM_OK);
-	WANT(is, 1);
-	WANT(sam_term_cut(&term, 1), SAM_OK);
-	wants_refusal(&term, SAM_REFUSAL_EXITED);
-	WANT(sam_host_free(&host), SAM_OK);
-	WANT(sam_term_free(&term), SAM_OK);
-	no_handles(NULL, NULL);
-	WANT(sam_host_new(NULL), SAM_NO_HANDLE);
-	WANT(sam_term_new(NULL), SAM_NO_HANDLE);
-	no_handles(&host, &term);
+    static const uint8_t many[513] = {0};
+    sam_host host = {0};
+    sam_term term = {0};
+    uint16_t tag, version;
+    uint32_t a, b, runes[8];
+    uint64_t count;
+    size_t len, more;
+    uint8_t bytes[64];
+    bool is;
+    WANT(sam_host_new(&host), SAM_OK);
+    WANT(sam_host_add_file(&host, BYTES("a"), BYTES("one two one\n"), &tag), SAM_OK);
+    WANT(sam_term_new(&term), SAM_OK);
+    WANT(sam_term_current(&term, &tag), SAM_NONE);
+    WANT(sam_term_offer_version(&term, 2), SAM_OK);
+    WANT(sam_term_pending(&term, &len), SAM_OK);
+    WANT(len, 5);
+    WANT(sam_term_take_out(&term, bytes, sizeof bytes, &len), SAM_OK);
+    WANT(memcmp(bytes, "\x01\0\x02\0\x02", 5), 0); /* Tversion 2 */
+    WANT(sam_host_feed(&host, bytes, len), SAM_OK);
+    WANT(sam_host_pending(&host, &len), SAM_OK);
+    WANT(len > 0, 1);
+    carry(&term, &host);
+    WANT(sam_term_version(&term, &version), SAM_OK);
+    WANT(version, 2);
+    WANT(sam_host_version(&host, &version), SAM_OK);
+    WANT(version, 2);
+    WANT(sam_term_open_cmd(&term), SAM_OK);
+    WANT(sam_term_command_locked(&term, &is), SAM_OK);
+    WANT(is, 1);
+    carry(&term, &host);
+    WANT(sam_term_tags(&term, &len), SAM_OK);
+    WANT(len, 2);
+    WANT(sam_term_is_known(&term, 1, &is), SAM_OK);
+    WANT(is, 1);
+    WANT(sam_term_name(&term, 1, bytes, sizeof bytes, &len), SAM_OK);
+    WANT(len == 1 && bytes[0] == 'a', 1);
+    WANT(sam_term_is_open(&term, 1, &is), SAM_OK);
+    WANT(is, 0);
+    WANT(sam_term_dot(&term, 1, &a, &b), SAM_NONE);
+    WANT(sam_term_open(&term, 1), SAM_OK);
+    WANT(sam_term_type(&term, 1, BYTES("\xC3")), SAM_NOT_TEXT);
+    WANT(sam_term_select(&term, 1, 0, 3), SAM_OK); /* waits for the file */
+    WANT(sam_term_held(&term, &len), SAM_OK);
+    WANT(len, 1);
+    carry(&term, &host);
+    WANT(sam_term_len(&term, 1, &a), SAM_OK);
+    WANT(a, 12);
+    WANT(sam_term_first_gap(&term, 1, 0, &a), SAM_OK);
+    WANT(a, 0);
+    WANT(sam_term_read(&term, 1, 10, runes, 8, &len), SAM_OK);
+    WANT(len == 2 && runes[0] == SAM_GAP && runes[1] == SAM_GAP, 1);
+    WANT(sam_term_view(&term, 1, 0, 12), SAM_OK);
+    carry(&term, &host);
+    WANT(sam_term_view_of(&term, 1, &a, &b), SAM_OK);
+    WANT(a == 0 && b == 12, 1);
+    WANT(sam_term_first_gap(&term, 1, 0, &a), SAM_NONE);
+    WANT(sam_term_read(&term, 1, 10, runes, 8, &len), SAM_OK);
+    WANT(len == 2 && runes[0] == 'e' && runes[1] == '\n', 1);
+    WANT(sam_term_dot(&term, 1, &a, &b), SAM_OK);
+    WANT(a == 0 && b == 3, 1);
+    WANT(sam_term_look(&term, 1), SAM_OK);
+    WANT(sam_term_locked(&term, 1, &is), SAM_OK);
+    WANT(is, 1);
+    carry(&term, &host);
+    WANT(sam_term_dot(&term, 1, &a, &b), SAM_OK);
+    WANT(a == 8 && b == 11, 1); /* the second 'one' */
+    WANT(sam_term_is_changed(&term, 1, &is), SAM_OK);
+    WANT(is, 0);
+    WANT(sam_term_cut(&term, 1), SAM_OK);
+    WANT(sam_term_is_changed(&term, 1, &is), SAM_OK);
+    WANT(is, 1);
+    WANT(sam_term_is_dirty(&term, 1, &is), SAM_OK);
+    WANT(is, 0); /* the host tells nothing of what is cut here */
+    WANT(sam_term_is_changed(&term, 9, &is), SAM_OK);
+    WANT(is, 0); /* there is no such file */
+    carry(&term, &host);
+    same_text(&host, 1, "one two \n");
+    WANT(sam_term_snarf_len(&term, &a), SAM_OK);
+    WANT(a, 3);
+    WANT(sam_term_select(&term, 1, 0, 0), SAM_OK);
+    WANT(sam_term_paste(&term, 1), SAM_OK);
+    carry(&term, &host);
+    same_text(&host, 1, "oneone two \n");
+    wants_under_way(&term, 0);
+    WANT(sam_term_type(&term, 1, BYTES("\xC3\xA9")), SAM_OK); /* in the place of what was pasted */
+    WANT(sam_term_unsent(&term, &a), SAM_OK);
+    WANT(a, 1);
+    WANT(sam_term_flush_now(&term), SAM_OK);
+    WANT(sam_term_unsent(&term, &a), SAM_OK);
+    WANT(a, 0);
+    wants_under_way(&term, 2); /* Tcut and Ttype */
+    carry(&term, &host);
+    same_text(&host, 1, "\xC3\xA9one two \n");
+    wants_under_way(&term, 2); /* the host has taken both, and answers neither */
+    WANT(sam_term_check(&term, 1), SAM_OK);
+    wants_under_way(&term, 3);
+    carry(&term, &host);
+    wants_under_way(&term, 0);
+    WANT(sam_host_text(&host, 1, 0, bytes, 1, &len, &more), SAM_OK); /* no whole rune has room */
+    WANT(len == 0 && more == 0, 1);
+    WANT(sam_host_is_dirty(&host, 1, &is), SAM_OK);
+    WANT(is, 1);
+    WANT(sam_host_saved_len(&host, 1, &len), SAM_NONE);
+    WANT(sam_host_next_written(&host, &tag), SAM_NONE);
+    WANT(sam_term_is_changed(&term, 1, &is), SAM_OK);
+    WANT(is, 1);
+    WANT(sam_term_write(&term, 1), SAM_OK);
+    WANT(sam_term_is_changed(&term, 1, &is), SAM_OK);
+    WANT(is, 1); /* it is not written yet */
+    carry(&term, &host);
+    WANT(sam_term_is_changed(&term, 1, &is), SAM_OK);
+    WANT(is, 0);
+    WANT(sam_host_next_written(&host, &tag), SAM_OK);
+    WANT(tag, 1);
+    WANT(sam_host_next_written(&host, &tag), SAM_NONE);
+    WANT(sam_host_saved_len(&host, 1, &len), SAM_OK);
+    WANT(len, 10);
+    WANT(sam_host_saved(&host, 1, 5, bytes, sizeof bytes, &len, &more), SAM_OK);
+    WANT(len == 5 && more == 5 && memcmp(bytes, "two \n", 5) == 0, 1);
+    WANT(sam_term_dclick(&term, 1, 5), SAM_OK);
+    carry(&term, &host);
+    WANT(sam_host_dot(&host, 1, &a, &b), SAM_OK);
+    WANT(a == 5 && b == 8, 1); /* the word 'two' */
+    WANT(sam_term_snarf(&term, 1), SAM_OK);
+    WANT(sam_term_get_snarf(&term), SAM_OK);
+    carry(&term, &host);
+    WANT(sam_term_snarfed(&term, 1, bytes, sizeof bytes, &len, &more), SAM_OK);
+    WANT(len == 2 && more == 2 && memcmp(bytes, "wo", 2) == 0, 1);
+    WANT(sam_term_set_snarf(&term, BYTES(",x/o/c/0/\n")), SAM_OK);
+    WANT(sam_term_set_snarf(&term, BYTES("\xFF")), SAM_NOT_TEXT);
+    WANT(sam_term_work(&term, 1), SAM_OK);
+    WANT(sam_term_paste(&term, 0), SAM_OK); /* into the command window */
+    carry(&term, &host);
+    WANT(sam_term_current(&term, &tag), SAM_OK);
+    WANT(tag, 1);
+    WANT(sam_term_select(&term, 0, 0, 10), SAM_OK);
+    WANT(sam_term_send(&term, 0), SAM_OK);
+    carry(&term, &host);
+    same_text(&host, 1,
+              "\xC3\xA9"
+              "0ne tw0 \n");
+    WANT(sam_term_is_dirty(&term, 1, &is), SAM_OK);
+    WANT(is, 1); /* the host told it: the file was clean before the command */
+    WANT(sam_term_is_changed(&term, 1, &is), SAM_OK);
+    WANT(is, 1);
+    WANT(sam_term_pattern(&term, bytes, sizeof bytes, &len), SAM_OK);
+    WANT(len == 1 && bytes[0] == 'o', 1);
+    WANT(sam_term_search(&term, 1), SAM_OK);
+    WANT(sam_term_scroll(&term, 1, 1), SAM_OK);
+    WANT(sam_term_check(&term, 1), SAM_OK);
+    WANT(sam_term_flush(&term), SAM_OK);
+    WANT(sam_term_new_file(&term), SAM_OK);
+    carry(&term, &host);
+    WANT(sam_host_has_file(&host, 2, &is), SAM_OK);
+    WANT(is, 1);
+    WANT(sam_term_close(&term, 2), SAM_OK);
+    carry(&term, &host);
+    WANT(sam_host_has_file(&host, 2, &is), SAM_OK);
+    WANT(is, 0);
+    WANT(sam_host_name(&host, 2, bytes, sizeof bytes, &len), SAM_NONE);
+    WANT(sam_host_name(&host, 1, bytes, sizeof bytes, &len), SAM_OK);
+    WANT(len == 1 && bytes[0] == 'a', 1);
+    WANT(sam_host_len(&host, 1, &a), SAM_OK);
+    WANT(sam_host_len(&host, 2, &a), SAM_NONE);
+    WANT(sam_host_is_dirty(&host, 2, &is), SAM_NONE);
+    WANT(sam_host_text(&host, 2, 0, bytes, sizeof bytes, &len, &more), SAM_NONE);
+    WANT(sam_host_saved(&host, 2, 0, bytes, sizeof bytes, &len, &more), SAM_NONE);
+    WANT(sam_host_dot(&host, 2, &a, &b), SAM_NONE);
+    WANT(sam_term_cut(&term, 9), SAM_OK);
+    wants_refusal(&term, SAM_REFUSAL_NO_FILE);
+    WANT(sam_term_select(&term, 1, 0, 99), SAM_OK);
+    wants_refusal(&term, SAM_REFUSAL_BAD_POSITION);
+    WANT(sam_term_type(&term, 1, many, sizeof many), SAM_OK);
+    wants_refusal(&term, SAM_REFUSAL_TEXT_TOO_LONG);
+    WANT(sam_term_close(&term, 0), SAM_OK);
+    wants_refusal(&term, SAM_REFUSAL_COMMAND_FILE);
+    WANT(sam_term_offer_version(&term, 0), SAM_OK);
+    wants_refusal(&term, SAM_REFUSAL_BAD_VERSION);
+    WANT(sam_term_sent(&term, &count), SAM_OK);
+    uint64_t taken;
+    WANT(sam_host_taken(&host, &taken), SAM_OK);
+    WANT(taken, count);
+    WANT(sam_host_is_done(&host, &is), SAM_OK);
+    WANT(is, 0);
+    WANT(sam_term_exit(&term), SAM_OK);
+    carry(&term, &host);
+    WANT(sam_host_is_done(&host, &is), SAM_OK);
+    WANT(is, 1);
+    WANT(sam_term_exited(&term, &is), SAM_OK);
+    WANT(is, 1);
+    WANT(sam_term_cut(&term, 1), SAM_OK);
+    wants_refusal(&term, SAM_REFUSAL_EXITED);
+    WANT(sam_host_free(&host), SAM_OK);
+    WANT(sam_term_free(&term), SAM_OK);
+    no_handles(NULL, NULL);
+    WANT(sam_host_new(NULL), SAM_NO_HANDLE);
+    WANT(sam_term_new(NULL), SAM_NO_HANDLE);
+    no_handles(&host, &term);
 }
 
 /* A file that is known and not open: the events that want a window. */
 static void not_open(void)
 {
-	sam_host host = {0};
-	sam_term term = {0};
-	uint16_t tag;
-	WANT(sam_host_new(&host), SAM_OK);
-	WANT(sam_host_add_file(&host, BYTES("a"), BYTES("one"), &tag), SAM_OK);
-	WANT(sam_term_new(&term), SAM_OK);
-	WANT(sam_term_new(&term), SAM_MADE);
-	WANT(sam_term_offer_version(&term, 1), SAM_OK);
-	carry(&term, &host);
-	WANT(sam_term_cut(&term, 1), SAM_OK);
-	wants_refusal(&term, SAM_REFUSAL_NOT_OPEN);
-	WANT(sam_term_free(&term), SAM_OK);
-	WANT(sam_host_free(&host), SAM_OK);
+    sam_host host = {0};
+    sam_term term = {0};
+    uint16_t tag;
+    WANT(sam_host_new(&host), SAM_OK);
+    WANT(sam_host_add_file(&host, BYTES("a"), BYTES("one"), &tag), SAM_OK);
+    WANT(sam_term_new(&term), SAM_OK);
+    WANT(sam_term_new(&term), SAM_MADE);
+    WANT(sam_term_offer_version(&term, 1), SAM_OK);
+    carry(&term, &host);
+    WANT(sam_term_cut(&term, 1), SAM_OK);
+    wants_refusal(&term, SAM_REFUSAL_NOT_OPEN);
+    WANT(sam_term_free(&term), SAM_OK);
+    WANT(sam_host_free(&host), SAM_OK);
 }
 
 /* Replays a script into a buffer that has this room, with an untouched byte behind it; wants the status, the line, the number of bytes
  * that are printed, and those that fit. */
 static void replays(const char *script, size_t room, uint32_t status, size_t line, const char *printed)
 {
-	uint8_t buffer[80];
-	size_t len = 777, at = 888, all = strlen(printed), put = all < room ? all : room;
-	memset(buffer, 9, sizeof buffer);
-	WANT(room < sizeof buffer, 1);
-	WANT(sam_replay((const uint8_t *)script, strlen(script), room > 0 ? buffer : NULL, room, &len, &at), status);
-	WANT(len, status == SAM_OK ? all : 777);
-	WANT(at, status == SAM_SCRIPT_LINE ? line : 888);
-	WANT(memcmp(buffer, printed, put), 0);
-	for (size_t i = put; i < sizeof buffer; i++) WANT(buffer[i], 9);
+    uint8_t buffer[80];
+    size_t len = 777, at = 888, all = strlen(printed), put = all < room ? all : room;
+    memset(buffer, 9, sizeof buffer);
+    WANT(room < sizeof buffer, 1);
+    WANT(sam_replay((const uint8_t *)script, strlen(script), room > 0 ? buffer : NULL, room, &len, &at), status);
+    WANT(len, status == SAM_OK ? all : 777);
+    WANT(at, status == SAM_SCRIPT_LINE ? line : 888);
+    WANT(memcmp(buffer, printed, put), 0);
+    for (size_t i = put; i < sizeof buffer; i++)
+        WANT(buffer[i], 9);
 }
 
 /* What an empty host and an empty terminal show, and a host with one file. */
@@ -507,43 +515,43 @@ static void replays(const char *script, size_t room, uint32_t status, size_t lin
 /* The replay of scripts: with room, without, and with too little; wrong lines, and lines that can't be done. */
 static void replaying(void)
 {
-	size_t len = 777, line = 888;
-	uint8_t buffer[8];
-	WANT(sam_replay(NULL, 0, buffer, sizeof buffer, &len, &line), SAM_OK);
-	WANT(len == 0 && line == 888, 1);
-	replays("", 8, SAM_OK, 0, "");
-	replays("show\n", 79, SAM_OK, 0, SHOWN);
-	replays("show", sizeof SHOWN - 1, SAM_OK, 0, SHOWN);
-	replays("show", sizeof SHOWN - 2, SAM_OK, 0, SHOWN);
-	replays("show", 1, SAM_OK, 0, SHOWN);
-	replays("show", 0, SAM_OK, 0, SHOWN);
-	replays("file n t\ndrain\nshow\n", 79, SAM_OK, 0, SHOWN_FILE);
-	replays("show\nshow\n", 60, SAM_OK, 0, SHOWN SHOWN);
-	replays("show\nfly\nhost\n", 79, SAM_SCRIPT_LINE, 2, "");
-	replays("host\nfly\n", 79, SAM_SCRIPT_LINE, 2, ""); /* no line is done before all are read */
-	replays("show\nhost\nterm\n", 79, SAM_SCRIPT_LINE, 2, "");
-	replays("k version 1\nact\nhost\nterm\nterm\nterm\n", 79, SAM_OK, 0, ""); /* Hversion, Hack, Hunlock */
-	replays("k version 1\nact\nhost\nterm\nterm\nterm\nterm\n", 79, SAM_SCRIPT_LINE, 7, "");
-	replays("show\n\xFF\n", 79, SAM_SCRIPT_LINE, 2, "");
+    size_t len = 777, line = 888;
+    uint8_t buffer[8];
+    WANT(sam_replay(NULL, 0, buffer, sizeof buffer, &len, &line), SAM_OK);
+    WANT(len == 0 && line == 888, 1);
+    replays("", 8, SAM_OK, 0, "");
+    replays("show\n", 79, SAM_OK, 0, SHOWN);
+    replays("show", sizeof SHOWN - 1, SAM_OK, 0, SHOWN);
+    replays("show", sizeof SHOWN - 2, SAM_OK, 0, SHOWN);
+    replays("show", 1, SAM_OK, 0, SHOWN);
+    replays("show", 0, SAM_OK, 0, SHOWN);
+    replays("file n t\ndrain\nshow\n", 79, SAM_OK, 0, SHOWN_FILE);
+    replays("show\nshow\n", 60, SAM_OK, 0, SHOWN SHOWN);
+    replays("show\nfly\nhost\n", 79, SAM_SCRIPT_LINE, 2, "");
+    replays("host\nfly\n", 79, SAM_SCRIPT_LINE, 2, ""); /* no line is done before all are read */
+    replays("show\nhost\nterm\n", 79, SAM_SCRIPT_LINE, 2, "");
+    replays("k version 1\nact\nhost\nterm\nterm\nterm\n", 79, SAM_OK, 0, ""); /* Hversion, Hack, Hunlock */
+    replays("k version 1\nact\nhost\nterm\nterm\nterm\nterm\n", 79, SAM_SCRIPT_LINE, 7, "");
+    replays("show\n\xFF\n", 79, SAM_SCRIPT_LINE, 2, "");
 }
 
 int main(void)
 {
-	sam_host host = {0};
-	sam_term term = {0};
-	no_handles(&host, &term);
-	puts("empty handles");
-	adding();
-	all_tags();
-	puts("adding files");
-	wrong_streams();
-	puts("wrong streams");
-	too_long();
-	not_open();
-	puts("refusals");
-	session();
-	puts("a session");
-	replaying();
-	puts("replays");
-	return 0;
+    sam_host host = {0};
+    sam_term term = {0};
+    no_handles(&host, &term);
+    puts("empty handles");
+    adding();
+    all_tags();
+    puts("adding files");
+    wrong_streams();
+    puts("wrong streams");
+    too_long();
+    not_open();
+    puts("refusals");
+    session();
+    puts("a session");
+    replaying();
+    puts("replays");
+    return 0;
 }

@@ -20,254 +20,310 @@ static unsigned long sent_up, sent_down, refused, again;
 /* A number below `below`, by xorshift. */
 static uint32_t pick(uint32_t below)
 {
-	state ^= state << 13;
-	state ^= state >> 7;
-	state ^= state << 17;
-	return (uint32_t)(state >> 33) % below;
+    state ^= state << 13;
+    state ^= state >> 7;
+    state ^= state << 17;
+    return (uint32_t)(state >> 33) % below;
 }
 
 static void fail(const char *what, uint32_t status)
 {
-	printf("%s: %lu\n", what, (unsigned long)status);
-	exit(1);
+    printf("%s: %lu\n", what, (unsigned long)status);
+    exit(1);
 }
 
 static void want(const char *what, uint32_t status)
 {
-	if (status != SAM_OK) fail(what, status);
+    if (status != SAM_OK)
+        fail(what, status);
 }
 
 /* Feeds bytes to a side: once more at want of memory, until they are taken, and then no bytes until nothing waits. */
 static void feed_host(const uint8_t *bytes, size_t len)
 {
-	uint32_t status;
-	while ((status = sam_host_feed(&host, bytes, len)) == SAM_NO_MEMORY) again++;
-	while (status == SAM_UNFINISHED || status == SAM_NO_MEMORY) {
-		again++;
-		status = sam_host_feed(&host, NULL, 0);
-	}
-	want("the host takes a piece", status);
+    uint32_t status;
+    while ((status = sam_host_feed(&host, bytes, len)) == SAM_NO_MEMORY)
+        again++;
+    while (status == SAM_UNFINISHED || status == SAM_NO_MEMORY) {
+        again++;
+        status = sam_host_feed(&host, NULL, 0);
+    }
+    want("the host takes a piece", status);
 }
 
 static uint32_t settle_term(uint32_t status)
 {
-	if (status != SAM_UNFINISHED) return status;
-	do {
-		again++;
-		status = sam_term_feed(&term, NULL, 0);
-	} while (status == SAM_UNFINISHED || status == SAM_NO_MEMORY);
-	return status;
+    if (status != SAM_UNFINISHED)
+        return status;
+    do {
+        again++;
+        status = sam_term_feed(&term, NULL, 0);
+    } while (status == SAM_UNFINISHED || status == SAM_NO_MEMORY);
+    return status;
 }
 
 static void feed_term(const uint8_t *bytes, size_t len)
 {
-	uint32_t status;
-	while ((status = settle_term(sam_term_feed(&term, bytes, len))) == SAM_NO_MEMORY) again++;
-	want("the terminal takes a piece", status);
+    uint32_t status;
+    while ((status = settle_term(sam_term_feed(&term, bytes, len))) == SAM_NO_MEMORY)
+        again++;
+    want("the terminal takes a piece", status);
 }
 
 /* Carries one piece of random length from the terminal to the host. */
 static int carry_up(void)
 {
-	uint8_t piece[PIECE];
-	size_t count = 0;
-	want("the terminal's bytes", sam_term_take_out(&term, piece, 1 + pick(PIECE), &count));
-	if (count > 0) feed_host(piece, count);
-	sent_up += count;
-	return count > 0;
+    uint8_t piece[PIECE];
+    size_t count = 0;
+    want("the terminal's bytes", sam_term_take_out(&term, piece, 1 + pick(PIECE), &count));
+    if (count > 0)
+        feed_host(piece, count);
+    sent_up += count;
+    return count > 0;
 }
 
 static int carry_down(void)
 {
-	uint8_t piece[PIECE];
-	size_t count = 0;
-	want("the host's bytes", sam_host_take_out(&host, piece, 1 + pick(PIECE), &count));
-	if (count > 0) feed_term(piece, count);
-	sent_down += count;
-	return count > 0;
+    uint8_t piece[PIECE];
+    size_t count = 0;
+    want("the host's bytes", sam_host_take_out(&host, piece, 1 + pick(PIECE), &count));
+    if (count > 0)
+        feed_term(piece, count);
+    sent_down += count;
+    return count > 0;
 }
 
-static const char *const texts[] = {"a", "\n", "h\xC3\xA9llo", "x\xE2\x86\x92y\n", "\xF0\x9F\x90\xA6", "s/a/bb/\n", ",x/l/c/L/\n", "0\n", ",p\n", "f name\n"};
+static const char *const texts[] = {"a",           "\n",  "h\xC3\xA9llo", "x\xE2\x86\x92y\n", "\xF0\x9F\x90\xA6", "s/a/bb/\n",
+                                    ",x/l/c/L/\n", "0\n", ",p\n",         "f name\n"};
 
 /* One random thing that the user does; SAM_NO_MEMORY where it was not taken. */
 static uint32_t do_event(uint32_t kind, uint16_t tag, uint32_t a, uint32_t b, const char *text)
 {
-	const uint8_t *bytes = (const uint8_t *)text;
-	switch (kind) {
-	case 0: case 1: case 2: case 3: return sam_term_type(&term, tag, bytes, strlen(text));
-	case 4: case 5: return sam_term_select(&term, tag, a < b ? a : b, a < b ? b : a);
-	case 6: return sam_term_cut(&term, tag);
-	case 7: return sam_term_paste(&term, tag);
-	case 8: return sam_term_snarf(&term, tag);
-	case 9: return sam_term_look(&term, tag);
-	case 10: return sam_term_search(&term, tag);
-	case 11: return sam_term_send(&term, tag);
-	case 12: return sam_term_dclick(&term, tag, a);
-	case 13: return sam_term_scroll(&term, tag, b % 9);
-	case 14: return sam_term_view(&term, tag, a, 1 + b);
-	case 15: case 16: return sam_term_open(&term, tag);
-	case 17: return a < 4 ? sam_term_close(&term, tag) : sam_term_work(&term, tag);
-	case 18: return sam_term_write(&term, tag);
-	case 19: return sam_term_work(&term, tag);
-	case 20: return sam_term_check(&term, tag);
-	case 21: return sam_term_get_snarf(&term);
-	case 22: return sam_term_set_snarf(&term, bytes, strlen(text));
-	case 23: return sam_term_offer_version(&term, (uint16_t)(1 + a % 3));
-	case 24: return sam_term_flush(&term);
-	case 25: return sam_term_open_cmd(&term);
-	case 26: return sam_term_new_file(&term);
-	default: return sam_term_flush_now(&term);
-	}
+    const uint8_t *bytes = (const uint8_t *)text;
+    switch (kind) {
+    case 0:
+    case 1:
+    case 2:
+    case 3:
+        return sam_term_type(&term, tag, bytes, strlen(text));
+    case 4:
+    case 5:
+        return sam_term_select(&term, tag, a < b ? a : b, a < b ? b : a);
+    case 6:
+        return sam_term_cut(&term, tag);
+    case 7:
+        return sam_term_paste(&term, tag);
+    case 8:
+        return sam_term_snarf(&term, tag);
+    case 9:
+        return sam_term_look(&term, tag);
+    case 10:
+        return sam_term_search(&term, tag);
+    case 11:
+        return sam_term_send(&term, tag);
+    case 12:
+        return sam_term_dclick(&term, tag, a);
+    case 13:
+        return sam_term_scroll(&term, tag, b % 9);
+    case 14:
+        return sam_term_view(&term, tag, a, 1 + b);
+    case 15:
+    case 16:
+        return sam_term_open(&term, tag);
+    case 17:
+        return a < 4 ? sam_term_close(&term, tag) : sam_term_work(&term, tag);
+    case 18:
+        return sam_term_write(&term, tag);
+    case 19:
+        return sam_term_work(&term, tag);
+    case 20:
+        return sam_term_check(&term, tag);
+    case 21:
+        return sam_term_get_snarf(&term);
+    case 22:
+        return sam_term_set_snarf(&term, bytes, strlen(text));
+    case 23:
+        return sam_term_offer_version(&term, (uint16_t)(1 + a % 3));
+    case 24:
+        return sam_term_flush(&term);
+    case 25:
+        return sam_term_open_cmd(&term);
+    case 26:
+        return sam_term_new_file(&term);
+    default:
+        return sam_term_flush_now(&term);
+    }
 }
 
 static void user(void)
 {
-	uint32_t kind = pick(28), a = pick(40), b = pick(40), status;
-	uint16_t tag = (uint16_t)pick(FILES + 2);
-	const char *text = texts[pick(sizeof texts / sizeof texts[0])];
-	while ((status = settle_term(do_event(kind, tag, a, b, text))) == SAM_NO_MEMORY) again++;
-	want("an event", status);
-	for (;;) {
-		uint64_t event;
-		uint32_t why;
-		if (sam_term_next_refusal(&term, &event, &why) == SAM_NONE) break;
-		if (why <= SAM_REFUSAL || why > SAM_REFUSAL_BAD_VERSION) fail("a refusal", why);
-		refused++;
-	}
+    uint32_t kind = pick(28), a = pick(40), b = pick(40), status;
+    uint16_t tag = (uint16_t)pick(FILES + 2);
+    const char *text = texts[pick(sizeof texts / sizeof texts[0])];
+    while ((status = settle_term(do_event(kind, tag, a, b, text))) == SAM_NO_MEMORY)
+        again++;
+    want("an event", status);
+    for (;;) {
+        uint64_t event;
+        uint32_t why;
+        if (sam_term_next_refusal(&term, &event, &why) == SAM_NONE)
+            break;
+        if (why <= SAM_REFUSAL || why > SAM_REFUSAL_BAD_VERSION)
+            fail("a refusal", why);
+        refused++;
+    }
 }
 
 static void drain(void)
 {
-	int more = 1;
-	while (more) {
-		uint32_t status;
-		while ((status = settle_term(sam_term_flush_now(&term))) == SAM_NO_MEMORY) again++;
-		want("the terminal is idle", status);
-		more = carry_up();
-		more |= carry_down();
-	}
+    int more = 1;
+    while (more) {
+        uint32_t status;
+        while ((status = settle_term(sam_term_flush_now(&term))) == SAM_NO_MEMORY)
+            again++;
+        want("the terminal is idle", status);
+        more = carry_up();
+        more |= carry_down();
+    }
 }
 
 /* The next rune of UTF-8 that is known to be right. */
 static uint32_t rune_at(const uint8_t **at)
 {
-	const uint8_t *p = *at;
-	int more = p[0] < 0x80 ? 0 : p[0] < 0xE0 ? 1 : p[0] < 0xF0 ? 2 : 3;
-	uint32_t rune = more == 0 ? p[0] : p[0] & (0x3FU >> more);
-	for (int i = 1; i <= more; i++) rune = rune << 6 | (p[i] & 0x3FU);
-	*at = p + 1 + more;
-	return rune;
+    const uint8_t *p = *at;
+    int more = p[0] < 0x80 ? 0 : p[0] < 0xE0 ? 1 : p[0] < 0xF0 ? 2 : 3;
+    uint32_t rune = more == 0 ? p[0] : p[0] & (0x3FU >> more);
+    for (int i = 1; i <= more; i++)
+        rune = rune << 6 | (p[i] & 0x3FU);
+    *at = p + 1 + more;
+    return rune;
 }
 
 /* Whether each loaded rune of the file is the host's; answers how many are loaded. */
 static unsigned long agree(uint16_t tag, uint32_t len)
 {
-	unsigned long loaded = 0;
-	uint32_t place = 0;
-	while (place < len) {
-		uint8_t bytes[4 * PART];
-		uint32_t runes[PART];
-		size_t count = 0, size = 0, spelt = 0;
-		want("the terminal's runes", sam_term_read(&term, tag, place, runes, PART, &count));
-		want("the host's runes", sam_host_text(&host, tag, place, bytes, sizeof bytes, &size, &spelt));
-		const uint8_t *at = bytes;
-		if (spelt < count) fail("the host has fewer runes here", place);
-		for (size_t i = 0; i < count; i++) {
-			uint32_t rune = rune_at(&at);
-			if (runes[i] != SAM_GAP && runes[i] != rune) fail("a loaded rune is not the host's", runes[i]);
-			loaded += runes[i] != SAM_GAP;
-		}
-		if (count == 0) fail("no runes before the end", place);
-		place += (uint32_t)count;
-	}
-	return loaded;
+    unsigned long loaded = 0;
+    uint32_t place = 0;
+    while (place < len) {
+        uint8_t bytes[4 * PART];
+        uint32_t runes[PART];
+        size_t count = 0, size = 0, spelt = 0;
+        want("the terminal's runes", sam_term_read(&term, tag, place, runes, PART, &count));
+        want("the host's runes", sam_host_text(&host, tag, place, bytes, sizeof bytes, &size, &spelt));
+        const uint8_t *at = bytes;
+        if (spelt < count)
+            fail("the host has fewer runes here", place);
+        for (size_t i = 0; i < count; i++) {
+            uint32_t rune = rune_at(&at);
+            if (runes[i] != SAM_GAP && runes[i] != rune)
+                fail("a loaded rune is not the host's", runes[i]);
+            loaded += runes[i] != SAM_GAP;
+        }
+        if (count == 0)
+            fail("no runes before the end", place);
+        place += (uint32_t)count;
+    }
+    return loaded;
 }
 
 /* A file is changed as the terminal has it if and only if it is dirty as the host has it. The command file is never dirty. */
 static void compare_marks(uint16_t tag)
 {
-	bool changed = false, dirty = true;
-	if (tag == 0) return;
-	want("a mark of the terminal", sam_term_is_changed(&term, tag, &changed));
-	want("a mark of the host", sam_host_is_dirty(&host, tag, &dirty));
-	if (changed != dirty) fail("a file is changed on one side alone", tag);
+    bool changed = false, dirty = true;
+    if (tag == 0)
+        return;
+    want("a mark of the terminal", sam_term_is_changed(&term, tag, &changed));
+    want("a mark of the host", sam_host_is_dirty(&host, tag, &dirty));
+    if (changed != dirty)
+        fail("a file is changed on one side alone", tag);
 }
 
 static void compare(void)
 {
-	unsigned long loaded = 0, open = 0, all = 0;
-	bool locked = true;
-	size_t held = 1, tags = 0;
-	want("held", sam_term_held(&term, &held));
-	if (held != 0) fail("events are held though nothing is on its way", (uint32_t)held);
-	want("tags", sam_term_tags(&term, &tags));
-	for (uint16_t tag = 0; tag < tags; tag++) {
-		uint32_t mine = 0, theirs = 0;
-		want("locks", sam_term_locked(&term, tag, &locked));
-		if (locked) fail("a lock is held though nothing is on its way", tag);
-		if (sam_term_len(&term, tag, &mine) != SAM_OK) continue;
-		want("the host has an open file", sam_host_len(&host, tag, &theirs));
-		if (mine != theirs) fail("the lengths of a file differ", tag);
-		compare_marks(tag);
-		loaded += agree(tag, mine);
-		all += mine;
-		open++;
-	}
-	printf("%lu files open, %lu of %lu runes loaded, all as the host has them\n", open, loaded, all);
+    unsigned long loaded = 0, open = 0, all = 0;
+    bool locked = true;
+    size_t held = 1, tags = 0;
+    want("held", sam_term_held(&term, &held));
+    if (held != 0)
+        fail("events are held though nothing is on its way", (uint32_t)held);
+    want("tags", sam_term_tags(&term, &tags));
+    for (uint16_t tag = 0; tag < tags; tag++) {
+        uint32_t mine = 0, theirs = 0;
+        want("locks", sam_term_locked(&term, tag, &locked));
+        if (locked)
+            fail("a lock is held though nothing is on its way", tag);
+        if (sam_term_len(&term, tag, &mine) != SAM_OK)
+            continue;
+        want("the host has an open file", sam_host_len(&host, tag, &theirs));
+        if (mine != theirs)
+            fail("the lengths of a file differ", tag);
+        compare_marks(tag);
+        loaded += agree(tag, mine);
+        all += mine;
+        open++;
+    }
+    printf("%lu files open, %lu of %lu runes loaded, all as the host has them\n", open, loaded, all);
 }
 
 /* One thing that the user does for certain. */
 static void certain(uint32_t kind, uint16_t tag, uint32_t a, uint32_t b)
 {
-	uint32_t status;
-	while ((status = settle_term(do_event(kind, tag, a, b, texts[0]))) == SAM_NO_MEMORY) again++;
-	want("an event", status);
+    uint32_t status;
+    while ((status = settle_term(do_event(kind, tag, a, b, texts[0]))) == SAM_NO_MEMORY)
+        again++;
+    want("an event", status);
 }
 
 static void make(void)
 {
-	uint32_t status;
-	while ((status = sam_host_new(&host)) == SAM_NO_MEMORY) again++;
-	want("a host", status);
-	while ((status = sam_term_new(&term)) == SAM_NO_MEMORY) again++;
-	want("a terminal", status);
-	for (int i = 1; i <= FILES; i++) {
-		char name[16], text[64];
-		uint16_t tag = 0;
-		snprintf(name, sizeof name, "file %d", i);
-		snprintf(text, sizeof text, "%d: all of the text \xE2\x86\x92 here\nand a second line\n", i);
-		do status = sam_host_add_file(&host, (const uint8_t *)name, strlen(name), (const uint8_t *)text, strlen(text), &tag);
-		while (status == SAM_NO_MEMORY && ++again);
-		want("a file", status);
-		if (tag != i) fail("the tag of a file", tag);
-	}
+    uint32_t status;
+    while ((status = sam_host_new(&host)) == SAM_NO_MEMORY)
+        again++;
+    want("a host", status);
+    while ((status = sam_term_new(&term)) == SAM_NO_MEMORY)
+        again++;
+    want("a terminal", status);
+    for (int i = 1; i <= FILES; i++) {
+        char name[16], text[64];
+        uint16_t tag = 0;
+        snprintf(name, sizeof name, "file %d", i);
+        snprintf(text, sizeof text, "%d: all of the text \xE2\x86\x92 here\nand a second line\n", i);
+        do
+            status = sam_host_add_file(&host, (const uint8_t *)name, strlen(name), (const uint8_t *)text, strlen(text), &tag);
+        while (status == SAM_NO_MEMORY && ++again);
+        want("a file", status);
+        if (tag != i)
+            fail("the tag of a file", tag);
+    }
 }
 
 int main(int argc, char **argv)
 {
-	if (argc != 3) return 2;
-	state = strtoull(argv[1], NULL, 10) * 2654435769U + 88172645463325252U;
-	unsigned long events = strtoul(argv[2], NULL, 10);
-	setvbuf(stdout, NULL, _IONBF, 0);
-	make();
-	certain(23, 0, 1, 0); /* version 2, which asks for the names */
-	certain(25, 0, 0, 0); /* the command window */
-	for (uint16_t tag = 1; tag <= 2; tag++) {
-		certain(15, tag, 0, 0); /* open */
-		certain(14, tag, 0, 60); /* view */
-	}
-	for (unsigned long i = 0; i < events; i++) {
-		user();
-		while (pick(3) != 0 && (pick(2) ? carry_up() : carry_down())) {
-		}
-	}
-	drain();
-	compare();
-	bool done = true;
-	want("done", sam_host_is_done(&host, &done));
-	printf("%lu events, %lu refused, done %d\n", events, refused, done);
-	want("free the host", sam_host_free(&host));
-	want("free the terminal", sam_term_free(&term));
-	if (getenv("AGAIN")) printf("%lu calls made again, %lu bytes up, %lu down\n", again, sent_up, sent_down);
-	return 0;
+    if (argc != 3)
+        return 2;
+    state = strtoull(argv[1], NULL, 10) * 2654435769U + 88172645463325252U;
+    unsigned long events = strtoul(argv[2], NULL, 10);
+    setvbuf(stdout, NULL, _IONBF, 0);
+    make();
+    certain(23, 0, 1, 0); /* version 2, which asks for the names */
+    certain(25, 0, 0, 0); /* the command window */
+    for (uint16_t tag = 1; tag <= 2; tag++) {
+        certain(15, tag, 0, 0);  /* open */
+        certain(14, tag, 0, 60); /* view */
+    }
+    for (unsigned long i = 0; i < events; i++) {
+        user();
+        while (pick(3) != 0 && (pick(2) ? carry_up() : carry_down())) {
+        }
+    }
+    drain();
+    compare();
+    bool done = true;
+    want("done", sam_host_is_done(&host, &done));
+    printf("%lu events, %lu refused, done %d\n", events, refused, done);
+    want("free the host", sam_host_free(&host));
+    want("free the terminal", sam_term_free(&term));
+    if (getenv("AGAIN"))
+        printf("%lu calls made again, %lu bytes up, %lu down\n", again, sent_up, sent_down);
+    return 0;
 }

@@ -1,7 +1,7 @@
 //! The host: whole texts, commands, and the answers to a terminal's messages.
 
 use crate::raw::{self, Handle};
-use crate::{Error, PIECE, done, short_text, tells, told, whole_text};
+use crate::{done, short_text, tells, told, whole_text, Error, PIECE};
 use std::cell::UnsafeCell;
 
 /// A host. It is dropped with what is pending.
@@ -30,9 +30,7 @@ impl Host {
     /// it was.
     pub fn add_file(&mut self, name: &str, text: &str) -> Result<u16, Error> {
         let mut tag = 0;
-        done(unsafe {
-            raw::sam_host_add_file(self.at(), name.as_ptr(), name.len(), text.as_ptr(), text.len(), &mut tag)
-        })?;
+        done(unsafe { raw::sam_host_add_file(self.at(), name.as_ptr(), name.len(), text.as_ptr(), text.len(), &mut tag) })?;
         Ok(tag)
     }
 

@@ -37,12 +37,12 @@ mod raw;
 mod script;
 mod terminal;
 
-pub use error::{Error, Refusal};
+pub use error::{Error, HostFault, Refusal, StreamFault, TermFault};
 pub use host::Host;
 pub use script::replay;
 pub use terminal::Terminal;
 
-/// How many bytes one turn of `out` hands out at most, and the room that a replay is given first.
+/// How many bytes one turn of `take_out` hands out at most, and the room that a replay is given first.
 const PIECE: usize = 4096;
 
 const OK: u32 = 0;
@@ -88,6 +88,5 @@ fn whole_text(mut read: impl FnMut(u32, &mut [u8], &mut usize, &mut usize) -> u3
 fn short_text(read: impl FnOnce(&mut [u8], &mut usize) -> u32) -> Option<String> {
     let mut piece = [0; PIECE];
     let mut len = 0;
-    (read(&mut piece, &mut len) == OK)
-        .then(|| String::from_utf8(piece[..len].to_vec()).expect("the library writes UTF-8"))
+    (read(&mut piece, &mut len) == OK).then(|| String::from_utf8(piece[..len].to_vec()).expect("the library writes UTF-8"))
 }

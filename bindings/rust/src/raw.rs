@@ -9,7 +9,10 @@ pub struct Handle {
 
 impl Handle {
     /// A handle that holds nothing: all its bytes are zero.
-    pub const EMPTY: Handle = Handle { at: std::ptr::null_mut(), made: 0 };
+    pub const EMPTY: Handle = Handle {
+        at: std::ptr::null_mut(),
+        made: 0,
+    };
 }
 
 unsafe extern "C" {
@@ -30,7 +33,8 @@ unsafe extern "C" {
     pub fn sam_host_is_dirty(host: *mut Handle, tag: u16, dirty: *mut bool) -> u32;
     pub fn sam_host_text(host: *mut Handle, tag: u16, place: u32, into: *mut u8, room: usize, bytes: *mut usize, runes: *mut usize) -> u32;
     pub fn sam_host_saved_len(host: *mut Handle, tag: u16, runes: *mut usize) -> u32;
-    pub fn sam_host_saved(host: *mut Handle, tag: u16, place: u32, into: *mut u8, room: usize, bytes: *mut usize, runes: *mut usize) -> u32;
+    pub fn sam_host_saved(host: *mut Handle, tag: u16, place: u32, into: *mut u8, room: usize, bytes: *mut usize, runes: *mut usize)
+        -> u32;
     pub fn sam_host_dot(host: *mut Handle, tag: u16, start: *mut u32, end: *mut u32) -> u32;
 
     pub fn sam_term_new(term: *mut Handle) -> u32;

@@ -1,7 +1,7 @@
 //! Scripts, which are run over a host and a terminal of their own.
 
 use crate::raw;
-use crate::{Error, PIECE, done};
+use crate::{done, Error, PIECE};
 
 /// SAM_SCRIPT_LINE of include/sulgrevad.h.
 const SCRIPT_LINE: u32 = 161;

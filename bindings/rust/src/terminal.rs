@@ -1,7 +1,7 @@
 //! The terminal: windows, keyboard and mouse over partly loaded texts.
 
 use crate::raw::{self, Handle};
-use crate::{Error, PIECE, Refusal, done, short_text, tells, told, whole_text};
+use crate::{done, short_text, tells, told, whole_text, Error, Refusal, PIECE};
 use std::cell::UnsafeCell;
 
 /// What `read` hands out for a rune that is not loaded.
@@ -178,8 +178,7 @@ impl Terminal {
     pub fn refusals(&mut self) -> impl Iterator<Item = (u64, Refusal)> + '_ {
         std::iter::from_fn(|| {
             let mut why = 0;
-            told(|event| unsafe { raw::sam_term_next_refusal(self.at(), event, &mut why) })
-                .map(|event| (event, Refusal::of(why)))
+            told(|event| unsafe { raw::sam_term_next_refusal(self.at(), event, &mut why) }).map(|event| (event, Refusal::of(why)))
         })
     }
 
@@ -190,7 +189,10 @@ impl Terminal {
         let mut count = 0;
         unsafe { raw::sam_term_read(self.at(), tag, place, runes.as_mut_ptr(), most, &mut count) };
         runes.truncate(count);
-        runes.into_iter().map(|rune| if rune == GAP { None } else { char::from_u32(rune) }).collect()
+        runes
+            .into_iter()
+            .map(|rune| if rune == GAP { None } else { char::from_u32(rune) })
+            .collect()
     }
 
     /// How many events were taken.
@@ -308,8 +310,7 @@ impl Terminal {
 
     /// The pattern that the host told last.
     pub fn pattern(&self) -> String {
-        short_text(|into, len| unsafe { raw::sam_term_pattern(self.at(), into.as_mut_ptr(), into.len(), len) })
-            .expect("the handle is made")
+        short_text(|into, len| unsafe { raw::sam_term_pattern(self.at(), into.as_mut_ptr(), into.len(), len) }).expect("the handle is made")
     }
 
     /// The snarfed text that the host sent last.

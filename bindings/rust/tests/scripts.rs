@@ -4,7 +4,7 @@
 use std::collections::BTreeSet;
 use std::fs;
 use std::path::{Path, PathBuf};
-use sulgrevad::{Error, replay};
+use sulgrevad::{replay, Error};
 
 /// The statuses of a pair whose output is told by the script alone: it is replayed, or it is wrong.
 const TOLD_BY_SCRIPT: [&str; 2] = ["0", "1"];
@@ -21,7 +21,16 @@ fn read(name: &str, kind: &str) -> Option<Vec<u8>> {
 fn names() -> BTreeSet<String> {
     let entries = |folder: PathBuf| fs::read_dir(folder).expect("a folder").map(|entry| entry.expect("an entry").path());
     let files = entries(scripts()).flat_map(entries);
-    let name = |file: PathBuf| file.strip_prefix(scripts()).unwrap().to_str().expect("a name in ASCII").split('.').next().unwrap().to_owned();
+    let name = |file: PathBuf| {
+        file.strip_prefix(scripts())
+            .unwrap()
+            .to_str()
+            .expect("a name in ASCII")
+            .split('.')
+            .next()
+            .unwrap()
+            .to_owned()
+    };
     let status = |name: &str| read(name, "status").map_or("0".to_owned(), |text| String::from_utf8(text).expect("a number"));
     files
         .map(name)

@@ -1,6 +1,6 @@
 //! A session over the two ends: crossing edits wait, and both ends agree.
 
-use sulgrevad::{Error, Host, Refusal, Terminal};
+use sulgrevad::{Error, Host, Refusal, StreamFault, Terminal};
 
 /// Carries bytes both ways, cut into pieces, until neither side has any.
 fn carry(term: &mut Terminal, host: &mut Host) -> Result<(), Error> {
@@ -105,7 +105,7 @@ fn refusals_and_faults_have_names() -> Result<(), Error> {
     term.cut(9)?;
     let refused: Vec<(u64, Refusal)> = term.refusals().collect();
     assert_eq!(refused, vec![(3, Refusal::NoFile)]);
-    assert_eq!(host.feed(&[23]), Err(Error::Stream(1)));
+    assert_eq!(host.feed(&[23]), Err(Error::Stream(StreamFault::BadKind)));
     assert_eq!(host.add_file("a", "b"), Err(Error::Begun));
     Ok(())
 }

@@ -45,9 +45,6 @@ pub record SettledOpen (w : Lens) (d : Bool) (n : ℕ) (file : HFile) : Type 0 w
 pub synced_open : (w : Lens) (d : Bool) (n : ℕ) (file : HFile) → IsOpen w → IsSynced w d n file → SettledOpen w d n file
 synced_open w d n file e u = grind arith
 
-pub settled_opened : (w : Lens) (d : Bool) (n : ℕ) (t : List ℕ) → IsSynced w d n (Opened t) → (r : List (Option ℕ)) × (w ≡ lens false d n (Open r 0)) × Agrees r t
-settled_opened w d n t e = grind arith
-
 pub kept_more : (s : List Action) (v : Lens) (d : Bool) (n : ℕ) (file : HFile) → ComesToSync s v d n file → ComesToSync (s ++ []) v d n file
 kept_more s v d n file k = grind (arith, append-nil)
 

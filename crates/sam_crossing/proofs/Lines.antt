@@ -19,10 +19,6 @@ use Rattle.sam_crossing.proofs.Commands.{Moves, Unlocked, stays_put, Carries, ca
 
 -- ## What a line does to the work file
 
--- without a work file a line names no file
-nameless_read : (c : Result Command Word) (f : ℕ) → (or_wrong (c >>= effect_of None)).file ≡ Some f → ⊥
-nameless_read c f e = grind arith
-
 nameless : (line : List ℕ) (f : ℕ) → (line_outcome None line).file ≡ Some f → ⊥
 unfolding line_outcome
 nameless line f e = grind arith

@@ -15,9 +15,6 @@ use Rattle.sam_crossing.proofs.Acting.{requested_goes, acknowledged_goes}
 
 -- ## The unsent runes are left alone
 
-free_of : (v : Lens) → OpenAt Anything v → IsFree v
-free_of v e = grind arith
-
 -- a frame that comes doesn't touch a free file
 quiet_frame : (a : Action) (s : List Action) (v : Lens) (d : Bool) (n : ℕ) (file : HFile) → ComesToSync (a ∷ s) v d n file → OpenAt Anything v → is_crossing a ≡ false
 quiet_frame a s v d n file k o = grind (arith, first_is_quiet)

@@ -20,26 +20,16 @@ pub frees_nothing : (s : List Action) (v w : Lens) → IsFree v → run s v ≡ 
 frees_nothing [] v w f r = refl
 frees_nothing (a ∷ s) v w f r = grind (arith, (frees_nothing s))
 
--- an idle action from a free lens: it leaves that lens, and every lens that is alike
-pub idle : (a : Action) (v w x : Lens) → is_freeing a ≡ false → is_crossing a ≡ false → IsAlike v x → move a v ≡ Some w → (w ≡ v) × (move a x ≡ Some x)
-idle a v w x e u q y = grind arith
-
 -- what is under way moves no free lens, and would move none that is alike
 pub still : (s : List Action) (v w x : Lens) → IsFree v → IsGuarded s → IsAlike v x → run s v ≡ Some w → (w ≡ v) × (run s x ≡ Some x)
 still [] v w x f g l r = (cc, refl)
 still (a ∷ s) v w x f g l r = grind (arith, (frees_nothing s), (still s v w x f g.1 l))
 
--- a step with one lock more: the lock stays, or the step ends it
-abbrev pub StepsMore : Action → Lens → Lens → Type 0
-StepsMore a v m = (((is_close a || is_exit a) ≡ true) × (move a (locked_more v) ≡ Some m)) ⊎ (IsOpen m × (move a (locked_more v) ≡ Some (locked_more m)) × ((is_close a || is_exit a) ≡ false))
-
 -- a test that holds
 pub if_true : (b : Bool) (x : Lens) → b ≡ true → (if b then Some x else None) ≡ Some x
 if_true b x e = grind arith
 
-steps_more : (a : Action) (v m : Lens) → IsOpen v → move a v ≡ Some m → StepsMore a v m
-steps_more a v m e u = grind arith
-
+-- a run with one lock more: the lock stays, or the run ends it
 abbrev pub RunsMore : List Action → Lens → Lens → Type 0
 RunsMore s v w = (((closes s || exits s) ≡ true) × (run s (locked_more v) ≡ Some w)) ⊎ (IsOpen w × (run s (locked_more v) ≡ Some (locked_more w)) × ((closes s || exits s) ≡ false))
 
@@ -47,10 +37,6 @@ RunsMore s v w = (((closes s || exits s) ≡ true) × (run s (locked_more v) ≡
 pub runs_more : (s : List Action) (v w : Lens) → IsOpen v → run s v ≡ Some w → RunsMore s v w
 runs_more [] v w o r = grind arith
 runs_more (a ∷ s) v w o r = let t = stepped a s v w r in grind (arith, (runs_more s t.mid w))
-
--- the terminal has exited exactly where an Hexit came
-exits_exactly : (a : Action) (v m : Lens) → move a v ≡ Some m → exited_of m ≡ (is_exit a || exited_of v)
-exits_exactly a v m e = grind arith
 
 pub exited_after : (s : List Action) (v w : Lens) → run s v ≡ Some w → exited_of w ≡ (exits s || exited_of v)
 exited_after [] v w r = grind (arith, same_Some)
@@ -63,10 +49,6 @@ no_exit (a ∷ s) v w r x = grind (arith, (no_exit s))
 pub no_unlock : (s : List Action) (v w : Lens) → run s v ≡ Some w → command_of v ≡ false → frees_command s ≡ false
 no_unlock [] v w r x = refl
 no_unlock (a ∷ s) v w r x = grind (arith, (no_unlock s))
-
--- where no Hversion comes the version stays
-same_version_step : (a : Action) (v m : Lens) → move a v ≡ Some m → is_change a ≡ false → version_of m ≡ version_of v
-same_version_step a v m e u = grind arith
 
 pub same_version : (s : List Action) (v w : Lens) → run s v ≡ Some w → changes s ≡ false → version_of w ≡ version_of v
 same_version [] v w r x = grind (arith, same_Some)

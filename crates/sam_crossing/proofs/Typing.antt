@@ -13,9 +13,6 @@ use Rattle.sam_crossing.proofs.Sending.{Goes, then_goes, MaySend, open_is, has_o
 Room : ℕ → List ℕ → List (Option ℕ) → Type 0
 Room p s r = (p ≤ length r) × (length r + length s ≤ max_runes)
 
-open_typed : (b : Bool) (p : ℕ) (s : List ℕ) (v : Lens) → IsOpen v → IsOpen (if b then typed_in p s v else v)
-open_typed b p s v e = grind arith
-
 -- ## What typing shows
 
 pub typed_view : (x : PlainTerminal) (f p : ℕ) (s : List ℕ) → IsOpen (view f x) → (g : ℕ) → view g (typed_rasp x f p s) ≡ (if g == f then typed_in p s (view g x) else view g x)

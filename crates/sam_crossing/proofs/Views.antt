@@ -8,10 +8,6 @@ use Rattle.sam_crossing.proofs.Changes.{changed, change_of_lock}
 pub view-put : (t : PlainTerminal) (f : ℕ) (x : KnownFile) (g : ℕ) → view g (put_known t f x) ≡ (if g == f then lens t.command_lock t.has_exited t.version (slot_of_window x.window) else view g t)
 view-put t f x g = grind (arith, slot-put_same, slot-put_other)
 
--- what the lens of an open file says
-pub view-open : (t : PlainTerminal) (f : ℕ) → IsOpen (view f t) → view f t ≡ lens t.command_lock t.has_exited t.version (Open (window_at t f).rasp (window_at t f).locks)
-view-open t f o = grind arith
-
 -- a window of an open file whose partial text and locks stay
 pub view-kept : (t : PlainTerminal) (f : ℕ) (w : Window) → IsOpen (view f t) → w.rasp ≡ (window_at t f).rasp → w.locks ≡ (window_at t f).locks → (g : ℕ) → view g (put_window t f w) ≡ view g t
 view-kept t f w o r k g = grind (arith, view-put)
@@ -60,10 +56,6 @@ tidy-window t f w all here = tidy-put t f (record (known_at t f) { window = Some
 
 pub tidy-edited : (t : PlainTerminal) (f : ℕ) → AreTidy t → AreTidy (edited t f)
 tidy-edited t f all = tidy-put t f (record (known_at t f) { changed = true }) all (all f)
-
--- the window that was put
-pub window-put : (t : PlainTerminal) (f : ℕ) (w : Window) → window_at (put_window t f w) f ≡ w
-window-put t f w = ap (λ (s : Option KnownFile). unwrap_or (unwrap_or s blank_known).window blank_window) (slot-put_same t.files f (record (known_at t f) { window = Some w }))
 
 pub tidy-composed : (t : PlainTerminal) (m : Tmesg) → AreTidy t → AreTidy (composed t m)
 tidy-composed t m all = grind (arith, slot-put_same, slot-put_other)
