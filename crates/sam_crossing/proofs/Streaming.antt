@@ -4,7 +4,7 @@ use Rattle.sam_crossing.proofs.Runs.{no_unlock, same_version}
 use Rattle.sam_crossing.proofs.Versions.{unlocks-append, unlocks_behind, unlock_frames, no_changes}
 use Rattle.sam_crossing.proofs.Folds.{answered}
 use Rattle.sam_mesg.specs.TerminalKinds.{after_t}
-use Rattle.sam_crossing.specs.Streams.{version_behind}
+use Rattle.sam_crossing.specs.StreamVersions.{version_behind}
 use Rattle.sam_crossing.proofs.Composing.{not_done_ahead}
 
 -- ## Versions

@@ -4,4 +4,4 @@ pub mod View
 pub mod Steady
 pub mod Fold
 pub mod Order
-pub mod Streams
+pub mod StreamVersions

@@ -18,7 +18,7 @@
 //!
 //! 1. specs/Lens, Frames: a file as the terminal knows it (`Lens`), what a frame does to it (`action`, `move`), and that all that is under
 //!    way leads to what the host has (`ComesToSync`).
-//! 2. proofs/Runs: `still`. proofs/Lenses, Texts, AllComeToSync: each step at one file keeps `ComesToSync`; `kept_act` is the user's edit.
+//! 2. proofs/Runs: `still`. proofs/Lenses, AllComeToSync: each step at one file keeps `ComesToSync`; `kept_act` is the user's edit.
 //! 3. proofs/Changes, Accepting: what the terminal changes as it composes a message, by sam_term's `lock_of` (`change_by`), what a message
 //!    rests on at its file (`need_of`), at the terminal and then at the host (`Accepted`), and what a message with its answer must do
 //!    then (`Synced`).
@@ -29,7 +29,7 @@
 //!    Composing: these, with one message or frame more or less.
 //! 7. proofs/Starting, Passing, Views, Dots, Sending, Joins, Typing, Acting, Receiving: the first state is in order, and each event of
 //!    the user (`event_goes`) and each frame (`received`) keeps it so.
-//! 8. proofs/Ordered: the host's step (`host_goes`), and what follows. specs/Streams, proofs/Streaming: both sides have one version.
+//! 8. proofs/Ordered: the host's step (`host_goes`), and what follows. specs/StreamVersions, proofs/Streaming: both sides have one version.
 #![tactic(auto)]
 
 ghost use Rattle.sam_crossing.specs.View.{TakeLaw};

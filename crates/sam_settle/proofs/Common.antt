@@ -43,7 +43,7 @@ pub use Rattle.sam_world.proofs.ComesToSync.{FitsUnder, each_append, each_front,
 pub use Rattle.sam_world.specs.Order.{IsInOrder, mesgs}
 pub use Rattle.sam_world.specs.Reached.{IsSoundWorld}
 pub use Rattle.sam_world.specs.Sides.{Counts, Each, HostRuns, Steps, TermRuns, World, if_given, answered, composed, host_take, run, step, term_take, world}
-pub use Rattle.sam_world.specs.Streams.{Begins}
+pub use Rattle.sam_world.specs.Prefixes.{Begins}
 pub use Rattle.sam_world.specs.World.{PlainWorld, after_answer, composed_by, host_takes, is_bad_log, merged, new_world, run_of, step_of}
 pub use Rattle.sam_world.specs.declared.event.Event.{Event}
 pub use Rattle.sam_world.specs.declared.event.TermLog.{TermLog}

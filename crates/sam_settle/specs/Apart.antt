@@ -18,7 +18,7 @@ use Rattle.sam_world.specs.declared.event.TermLog.{TermLog}
 use Rattle.sam_world.specs.Logs.{logged_users, users}
 use Rattle.sam_workers.specs.RealSides.{sides}
 use Rattle.sam_world.specs.Sides.{Each, HostRuns, TermRuns}
-use Rattle.sam_world.specs.Streams.{Begins}
+use Rattle.sam_world.specs.Prefixes.{Begins}
 use Rattle.sam_world.specs.World.{PlainWorld, new_world, run_of, merged, is_bad_log}
 
 -- A host of these files handled messages and answered frames; a terminal went through its log, took some frames and composed messages. The

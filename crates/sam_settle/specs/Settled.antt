@@ -12,7 +12,7 @@ use Rattle.sam_queue.specs.History.{items_of, has_left}
 use Rattle.sam_queue.specs.Views.{PostView, TakeView}
 use Rattle.sam_world.specs.Logs.{users}
 use Rattle.sam_world.specs.Sides.{Each, HostRuns, TermRuns}
-use Rattle.sam_world.specs.Streams.{Begins}
+use Rattle.sam_world.specs.Prefixes.{Begins}
 use Rattle.sam_world.specs.World.{is_quiet}
 use Rattle.sam_workers.specs.RealSides.{sides}
 use Rattle.sam_workers.specs.Inputs.{bytes_of, users_in}

@@ -4,7 +4,7 @@ use Rattle.std.proofs.lemmas.List.{map-append}
 use Rattle.sam_term.specs.declared.event.UserEvent.{UserEvent}
 use Rattle.sam_queue.specs.Views.{LineView}
 use Rattle.sam_script.specs.Script.{PlainScript, keys_of, mouse_of}
-use Rattle.sam_world.specs.Streams.{Begins}
+use Rattle.sam_world.specs.Prefixes.{Begins}
 use Rattle.sam_world.specs.World.{new_world, run_of, merged}
 use Rattle.sam_workers.specs.Lines.{LinesView}
 use Rattle.sam_workers.specs.WorkerEnds.{Told, UserTold, AllPassed, GatesTold}

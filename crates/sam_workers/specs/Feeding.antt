@@ -29,16 +29,16 @@ TakesSome h piece k t u composed frames behind =
     (fault : Option MesgFault) × Gives h piece k (frames ++ behind) fault × TakesAll t frames composed u
 
 -- the framer refused the piece, and nothing has changed
-abbrev pub Refused : Held → Held → PlainTerminal → PlainTerminal → List Tmesg → Type 0
-Refused h k t u composed = (k ≡ h) × (u ≡ t) × (composed ≡ [])
+abbrev pub NothingTaken : Held → Held → PlainTerminal → PlainTerminal → List Tmesg → Type 0
+NothingTaken h k t u composed = (k ≡ h) × (u ≡ t) × (composed ≡ [])
 
 -- the stream shows a fault behind the frames, which were all taken; or the framer had failed before, or could not count the piece
 abbrev pub FrameStops : Held → List ℕ → Held → PlainTerminal → PlainTerminal → List Tmesg → ℕ → Type 0
 FrameStops h piece k t u composed n =
     ((frames : List HFrame) × (fault : MesgFault)
     × Gives h piece k frames (Some fault) × (n ≡ frame_number fault) × TakesAll t frames composed u)
-    ⊎ (((n ≡ 5) × (h.failed ≡ true) × Refused h k t u composed)
-    ⊎ ((n ≡ 7) × (h.failed ≡ false) × (2 ^ 64 ≤ h.offset + length h.bytes + length piece) × Refused h k t u composed))
+    ⊎ (((n ≡ 5) × (h.failed ≡ true) × NothingTaken h k t u composed)
+    ⊎ ((n ≡ 7) × (h.failed ≡ false) × (2 ^ 64 ≤ h.offset + length h.bytes + length piece) × NothingTaken h k t u composed))
 
 -- the terminal refused the next frame
 abbrev pub TermStops : Held → List ℕ → Held → PlainTerminal → PlainTerminal → List Tmesg → ℕ → Type 0
@@ -49,7 +49,7 @@ TermStops h piece k t u composed n =
 -- memory was wanted for the piece, or for the next frame
 abbrev pub MemoryStops : Held → List ℕ → Held → PlainTerminal → PlainTerminal → List Tmesg → Type 0
 MemoryStops h piece k t u composed =
-    ((h.failed ≡ false) × HasRoom h piece × Refused h k t u composed)
+    ((h.failed ≡ false) × HasRoom h piece × NothingTaken h k t u composed)
     ⊎ ((frames : List HFrame) × (frame : HFrame) × (behind : List HFrame) × TakesSome h piece k t u composed frames (frame ∷ behind))
 
 -- A piece came to a framer at h and a terminal t, which are left at k and u. The terminal composed these messages for the frames that it

@@ -1,6 +1,6 @@
 -- What was handled begins what was composed.
 use Rattle.sam_world.proofs.Common.{◌≡◌, ℕ, List, [], ◌∷◌, ◌++◌, refl, append_assoc, flat_map, arith, append_cancel_left, Each}
-use Rattle.sam_world.specs.Streams.{Begins}
+use Rattle.sam_world.specs.Prefixes.{Begins}
 
 -- no frame of a good message begins another good message's frame, and none is empty
 pub record PrefixFree {M : Type 0} (good : M → Type 0) (frame : M → List ℕ) : Type 0 where

@@ -16,7 +16,7 @@ use Rattle.sam_mesg.specs.declared.tmesg.Tmesg.{Tmesg}
 use Rattle.sam_mesg.specs.declared.hmesg.Hmesg.{Hmesg}
 use Rattle.sam_mesg.specs.declared.hmesg.HFrame.{HFrame}
 use Rattle.sam_crossing.specs.Order.{InOrder}
-use Rattle.sam_crossing.specs.Streams.{version_behind}
+use Rattle.sam_crossing.specs.StreamVersions.{version_behind}
 use Rattle.sam_world.specs.World.{PlainWorld, new_world, step_of, run_of, IsReached, is_locked, SidesAgreeWhereQuiet, IsAhead, HasOneVersion}
 use Rattle.sam_world.specs.declared.event.Event.{Event}
 
