@@ -4,7 +4,7 @@
 ghost use Rattle.std.specs.Prelude.{◌≡◌, ◌<◌, ◌≤◌, ◌+◌, ◌-◌, ◌∷◌, [], OnOk, OnErr, IfOk, Err, Some, None, true, false, length};
 ghost use Rattle.sam_runes.specs.Checks.{first_of_checks, unless};
 ghost use Rattle.sam_runes.specs.Texts.{max_runes, word_at, most_in_name};
-ghost use Rattle.sam_text.specs.Files.{blank_file, file_at, has_file, part_at, change_file, too_long, no_tag, file_checks, place_checks, range_checks, insert_checks, room_checks, IsChecked, with_dot, with_work, with_new, new_file, without_file, opened_file, announced_file, written_file, typed_file, cut_file, pasted_file, has_room, is_printed, after_print, search_of, with_found, may_look, look_of, with_look};
+ghost use Rattle.sam_text.specs.Files.{blank_file, file_at, has_file, part_at, change_file, too_long, no_tag, file_checks, place_checks, range_checks, insert_checks, room_checks, IsChecked, with_dot, with_work, with_new, with_opened, with_started, without_file, opened_file, announced_file, written_file, typed_file, cut_file, pasted_file, has_room, is_printed, after_print, search_of, with_found, may_look, look_of, with_look};
 ghost use Rattle.sam_text.specs.Views.{room_at, StaysInRoom, KeepRooms, KeepRoomsBut};
 
 use crate::fault::FilesFault;
@@ -12,11 +12,10 @@ use crate::file::{File, FileChange};
 use crate::files::Files;
 use crate::pattern::may_be_pattern;
 use sam_runes::{ALL_TAGS, MAX_RUNES, Runes, Text};
-use std::alloc::Global;
 
 impl Files {
-    /// Returns `NoFile` if the tag has no file.
-    fn wants_file(&self, tag: u16) -> Result<(), FilesFault>
+    /// Tests that the tag has a file. The only error is `NoFile`.
+    pub fn wants_file(&self, tag: u16) -> Result<(), FilesFault>
         ensures answer { result ≡ unless (first_of_checks (file_checks self.now.plain tag)) tt }
         ensures there { OnOk result (has_file self.now.plain tag ≡ true) }
     {
@@ -26,8 +25,8 @@ impl Files {
         Ok(())
     }
 
-    /// Returns `NoFile` if the tag has no file, or else `BadPosition` if `p` is past the end of its text.
-    fn wants_place(&self, tag: u16, p: u32) -> Result<(), FilesFault>
+    /// Tests that the tag has a file, and its text the place `p`. Errors, in this order: `NoFile`; `BadPosition` if `p` is past the end.
+    pub fn wants_place(&self, tag: u16, p: u32) -> Result<(), FilesFault>
         ensures answer { result ≡ unless (first_of_checks (place_checks self.now.plain tag p)) tt }
         ensures there { OnOk result (has_file self.now.plain tag ≡ true) }
         ensures within { OnOk result (p ≤ length (file_at self.now.plain tag).text) }
@@ -39,8 +38,9 @@ impl Files {
         Ok(())
     }
 
-    /// Returns `NoFile` if the tag has no file, or else `BadPosition` if `q` is less than `p` or past the end of its text.
-    fn wants_range(&self, tag: u16, p: u32, q: u32) -> Result<(), FilesFault>
+    /// Tests that the tag has a file, and its text the range from `p` to `q`. Errors, in this order: `NoFile`; `BadPosition` if `q` is
+    /// less than `p` or past the end.
+    pub fn wants_range(&self, tag: u16, p: u32, q: u32) -> Result<(), FilesFault>
         ensures answer { result ≡ unless (first_of_checks (range_checks self.now.plain tag p q)) tt }
         ensures there { OnOk result (has_file self.now.plain tag ≡ true) }
         ensures within { OnOk result ((p ≤ q) × (q ≤ length (file_at self.now.plain tag).text)) }
@@ -69,7 +69,7 @@ impl Files {
     /// Keeps a copy of the text of a file as its saved copy, and marks the file as clean. The caller makes sure that the tag is not 0.
     ///
     /// Errors, in this order: `NoFile` if the tag has no file; `OutOfMemory`. After an error the files are unchanged.
-    pub fn write(&mut self, alloc: Global, tag: u16) -> Result<(), FilesFault>
+    pub fn write(&mut self, tag: u16) -> Result<(), FilesFault>
         requires { 0 < tag }
         ensures checked { IsChecked (file_checks self.old.plain tag) result }
         ensures done { OnOk result (self.new.plain ≡ change_file self.old.plain tag written_file) }
@@ -77,7 +77,7 @@ impl Files {
         ensures unchanged { OnErr result (self.new ≡ self.old) }
     {
         self.wants_file(tag)?;
-        let copy = self.copy_text(alloc, tag)?;
+        let copy = self.copy_text(tag)?;
         self.change(tag, FileChange::Saved(copy));
         Ok(())
     }
@@ -108,6 +108,21 @@ impl Files {
         ensures unchanged { OnErr result (self.new ≡ self.old) }
     {
         self.wants_file(tag)?;
+        self.change(tag, FileChange::Open);
+        Ok(())
+    }
+
+    /// Marks a file as open, and makes it the work file; its dot stays. The caller makes sure that the tag is not 0. The only error is
+    /// `NoFile` if the tag has no file; the files are then unchanged.
+    pub fn open_work(&mut self, tag: u16) -> Result<(), FilesFault>
+        requires { 0 < tag }
+        ensures answer { result ≡ unless (first_of_checks (file_checks self.old.plain tag)) tt }
+        ensures done { OnOk result (self.new.plain ≡ with_opened self.old.plain tag) }
+        ensures rooms { KeepRooms self.old self.new }
+        ensures unchanged { OnErr result (self.new ≡ self.old) }
+    {
+        self.wants_file(tag)?;
+        self.put_work(tag);
         self.change(tag, FileChange::Open);
         Ok(())
     }
@@ -177,7 +192,7 @@ impl Files {
             return Err(FilesFault::TooLong);
         }
         let end = p + runes.len() as u32;
-        self.put_in(tag, p, runes, (end, end), tag == 0)
+        self.put_in(tag, p, runes, (end, end))
     }
 
     /// Makes room for `n` more runes in the text of a file, so that they can be put in without asking for memory. No text, name or mark
@@ -208,7 +223,7 @@ impl Files {
     /// Errors, in this order: `NoFile` if the tag has no file; `BadPosition` if `q` is less than `p` or past the end of the text;
     /// `OutOfMemory`. After an error the files and the snarf buffer are unchanged.
     #[tactic(auto, using(crate::proofs::KeptLaws::part_within))]
-    pub fn snarf(&mut self, alloc: Global, tag: u16, p: u32, q: u32) -> Result<u32, FilesFault>
+    pub fn snarf(&mut self, tag: u16, p: u32, q: u32) -> Result<u32, FilesFault>
         ensures checked { IsChecked (range_checks self.old.plain tag p q) result }
         ensures count { IfOk result (λ n. n ≡ q - p) }
         ensures done { OnOk result (self.new.plain ≡ record self.old.plain { snarf = part_at self.old.plain tag p q }) }
@@ -217,7 +232,7 @@ impl Files {
     {
         self.wants_range(tag, p, q)?;
         self.file_facts(tag);
-        let runes = self.copy_part(alloc, tag, p, q)?;
+        let runes = self.copy_part(tag, p, q)?;
         self.put_snarf(runes);
         Ok(q - p)
     }
@@ -225,7 +240,7 @@ impl Files {
     /// Copies `runes` into the snarf buffer.
     ///
     /// Errors, in this order: `TooLong` if there are more than `MAX_RUNES`; `OutOfMemory`. After an error the snarf buffer is unchanged.
-    pub fn set_snarf(&mut self, alloc: Global, runes: &[char]) -> Result<(), FilesFault>
+    pub fn set_snarf(&mut self, runes: &[char]) -> Result<(), FilesFault>
         ensures checked { IsChecked (too_long (length runes.now) ∷ []) result }
         ensures limit { OnOk result (length runes.now ≤ max_runes) }
         ensures done { OnOk result (self.new.plain ≡ record self.old.plain { snarf = runes.now }) }
@@ -235,7 +250,7 @@ impl Files {
         if runes.len() > MAX_RUNES as usize {
             return Err(FilesFault::TooLong);
         }
-        let copy = Runes::from_slice(alloc, runes)?;
+        let copy = Runes::from_slice(self.alloc(), runes)?;
         self.put_snarf(copy);
         Ok(())
     }
@@ -263,12 +278,7 @@ impl Files {
     ///
     /// Errors, in this order: `TooLong` if the text has more than `MAX_RUNES` runes; `NoTag` if all tags were given; `OutOfMemory`.
     /// After an error the files are unchanged.
-    pub fn new_file(
-        &mut self,
-        alloc: Global,
-        name: &[char],
-        text: &[char],
-    ) -> Result<u16, FilesFault>
+    pub fn new_file(&mut self, name: &[char], text: &[char]) -> Result<u16, FilesFault>
         requires { length name.now ≤ most_in_name }
         ensures checked { IsChecked (too_long (length text.now) ∷ no_tag self.old.plain ∷ []) result }
         ensures tag { IfOk result (λ tag. tag ≡ length self.old.plain.slots) }
@@ -282,8 +292,8 @@ impl Files {
         if self.tags() >= ALL_TAGS {
             return Err(FilesFault::NoTag);
         }
-        let name = Runes::from_slice(alloc, name)?;
-        let text = match Text::from_runes(alloc, text) {
+        let name = Runes::from_slice(self.alloc(), name)?;
+        let text = match Text::from_runes(self.alloc(), text) {
             Ok(text) => text,
             Err(_) => return Err(FilesFault::OutOfMemory),
         };
@@ -310,14 +320,15 @@ impl Files {
         Ok(tag as u16)
     }
 
-    /// Adds a file for the terminal under the next tag, and returns the tag. The file has an empty text and no name, and it is clean,
-    /// open and announced.
+    /// Adds a file for the terminal under the next tag, makes it the work file, and returns the tag. The file has an empty text and no
+    /// name, and it is clean, open and announced.
     ///
     /// Errors, in this order: `NoTag` if all tags were given; `OutOfMemory`. After an error the files are unchanged.
-    pub fn start_file(&mut self, alloc: Global) -> Result<u16, FilesFault>
+    #[tactic(auto, using(crate::proofs::KeptLaws::new_is_there))]
+    pub fn start_file(&mut self) -> Result<u16, FilesFault>
         ensures checked { IsChecked (no_tag self.old.plain ∷ []) result }
         ensures tag { IfOk result (λ tag. tag ≡ length self.old.plain.slots) }
-        ensures done { OnOk result (self.new.plain ≡ with_new self.old.plain new_file) }
+        ensures done { OnOk result (self.new.plain ≡ with_started self.old.plain) }
         ensures unchanged { OnErr result (self.new ≡ self.old) }
         ensures rooms { KeepRooms self.old self.new }
     {
@@ -325,7 +336,8 @@ impl Files {
         if tag >= ALL_TAGS {
             return Err(FilesFault::NoTag);
         }
-        self.add(File::for_terminal(alloc))?;
+        self.add(File::for_terminal(self.alloc()))?;
+        self.put_work(tag as u16);
         Ok(tag as u16)
     }
 
@@ -335,13 +347,7 @@ impl Files {
     ///
     /// Errors, in this order: `NoFile` if the tag has no file; `BadPosition` if `q` is less than `p` or past the end of the text;
     /// `OutOfMemory`. After an error files and pattern are unchanged.
-    pub fn look(
-        &mut self,
-        alloc: Global,
-        tag: u16,
-        p: u32,
-        q: u32,
-    ) -> Result<Option<(u32, u32)>, FilesFault>
+    pub fn look(&mut self, tag: u16, p: u32, q: u32) -> Result<Option<(u32, u32)>, FilesFault>
         ensures checked { IsChecked (range_checks self.old.plain tag p q) result }
         ensures found { IfOk result (λ found. found ≡ look_of self.old.plain tag (part_at self.old.plain tag p q) q) }
         ensures done { OnOk result (self.new.plain ≡ with_look self.old.plain tag (part_at self.old.plain tag p q) q) }
@@ -356,7 +362,7 @@ impl Files {
         if !may_be_pattern(lit) {
             return Ok(None);
         }
-        let pattern = Runes::from_slice(alloc, lit)?;
+        let pattern = Runes::from_slice(self.alloc(), lit)?;
         let found = self.find(tag, lit, q);
         self.put_pattern(pattern);
         if let Some((start, end)) = found {
@@ -400,7 +406,7 @@ impl Files {
         if self.passes_limit(tag, self.snarf_text().len()) {
             return Err(FilesFault::TooLong);
         }
-        self.put_snarf_in(tag, p, tag == 0)
+        self.put_snarf_in(tag, p)
     }
 
     /// Prints `runes`: puts them at the end of the command file, and sets its dot to the empty range at the new end. Returns false, and
@@ -427,7 +433,7 @@ impl Files {
             return Ok(true);
         }
         let end = (len + runes.len()) as u32;
-        self.put_in(0, len as u32, runes, (end, end), true)?;
+        self.put_in(0, len as u32, runes, (end, end))?;
         Ok(true)
     }
 }

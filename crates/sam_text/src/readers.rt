@@ -8,7 +8,7 @@ ghost use Rattle.sam_text.specs.Views.{room_at};
 
 use crate::files::Files;
 use sam_runes::{MAX_RUNES, Runes, Text};
-use std::alloc::{AllocError, Global};
+use std::alloc::AllocError;
 
 impl Files {
     /// Returns whether the tag has a file.
@@ -165,35 +165,19 @@ impl Files {
 
     /// Returns a copy of what stands in a file from place `p` to place `q`. The caller makes sure that this is a range of the text, which
     /// counts as empty if the tag has no file. The only error is want of memory.
-    pub fn copy_part(&self, alloc: Global, tag: u16, p: u32, q: u32) -> Result<Runes, AllocError>
+    pub fn copy_part(&self, tag: u16, p: u32, q: u32) -> Result<Runes, AllocError>
         requires ascending { p ≤ q }
         requires within { q ≤ length (file_at self.now.plain tag).text }
         ensures { IfOk result (λ r. r ≡ part (file_at self.now.plain tag).text p q) }
     {
-        Runes::from_slice(alloc, self.part(tag, p, q))
+        Runes::from_slice(self.alloc(), self.part(tag, p, q))
     }
 
     /// Returns a copy of the text of a file, or no runes if the tag has no file. The only error is want of memory.
-    pub fn copy_text(&self, alloc: Global, tag: u16) -> Result<Runes, AllocError>
+    pub(crate) fn copy_text(&self, tag: u16) -> Result<Runes, AllocError>
         ensures { IfOk result (λ r. r ≡ (file_at self.now.plain tag).text) }
     {
-        match self.file(tag) {
-            Some(file) => {
-                let text = file.text();
-                Runes::from_slice(alloc, text.slice(0, text.len()))
-            }
-            None => Runes::from_slice(alloc, &[]),
-        }
-    }
-
-    /// Returns a copy of the name of a file, or no runes if the tag has no file. The only error is want of memory.
-    pub fn copy_name(&self, alloc: Global, tag: u16) -> Result<Runes, AllocError>
-        ensures { IfOk result (λ r. r ≡ (file_at self.now.plain tag).name) }
-    {
-        match self.file(tag) {
-            Some(file) => Runes::from_slice(alloc, file.name().as_slice()),
-            None => Runes::from_slice(alloc, &[]),
-        }
+        self.copy_part(tag, 0, self.text_len(tag) as u32)
     }
 
     /// Returns the first occurrence of `lit` in a file that begins at or after place `from`, or else the first of the text, as the places

@@ -12,7 +12,6 @@ use crate::files::Files;
 use crate::outcome::Outcome;
 use crate::text_lines;
 use sam_runes::Runes;
-use std::alloc::Global;
 
 impl Files {
     /// Returns what a command line, given without its newline, does to the work file. Nothing is changed yet: `commit` puts the outcome
@@ -20,14 +19,14 @@ impl Files {
     ///
     /// The only error is `OutOfMemory`. If there are edits, the outcome holds the whole new text. The cost is linear in the length of the
     /// text, once for each step of a chain, and in what the edits put in.
-    pub fn run_line(&self, alloc: Global, line: &[char]) -> Result<Outcome, FilesFault>
+    pub fn run_line(&self, line: &[char]) -> Result<Outcome, FilesFault>
         ensures value { IfOk result (λ o. effect o ≡ meaning self.now.plain line.now) }
         ensures refused { OnErr result (result ≡ Err FilesFault.OutOfMemory) }
         // The outcome can be committed while the files are as they were.
         ensures fits { IfOk result (λ o. IsOutcomeOf self.now.plain (effect o)) }
     {
         self.facts();
-        let outcome = text_lines::run_line(alloc, self.work_file(), line)?;
+        let outcome = text_lines::run_line(self.alloc(), self.work_file(), line)?;
         Ok(outcome)
     }
 
