@@ -12,7 +12,6 @@ ghost use Rattle.sam_term.specs.Term.{is_open, window_at, put_window, all_compos
 
 use crate::event::{Acted, UserEvent};
 use crate::fault::TermFault;
-use crate::lock::ends_line;
 use crate::outbox::Outbox;
 use crate::records::{Unsent, Window};
 use crate::term::Terminal;
@@ -84,7 +83,7 @@ fn types_line(event: &UserEvent) -> bool
     ensures { result ≡ is_command_line (typed_file event.now) (typed_runes event.now) }
 {
     match event {
-        UserEvent::Typed(tag, text) => *tag == 0 && ends_line(text),
+        UserEvent::Typed(tag, text) => *tag == 0 && text.ends_line(),
         _ => unreachable!(),
     }
 }
