@@ -6,13 +6,13 @@ use Rattle.sam_text.specs.Files.{PlainFile, file_at}
 use Rattle.sam_endpoint.specs.declared.fault.EndpointFault.{EndpointFault}
 use Rattle.sam_endpoint.specs.declared.fault.HostStop.{HostStop}
 use Rattle.sam_endpoint.specs.declared.fault.AddFault.{AddFault}
-use Rattle.sam_endpoint.specs.HostEndpoints.{PlainHostEndpoint, new_host_end, Feeds, IsOpenFault, open_checks, with_file}
+use Rattle.sam_endpoint.specs.HostEndpoints.{PlainHostEndpoint, new_host_endpoint, Feeds, IsAddFault, add_checks, with_file}
 use Rattle.sam_c.specs.Status.{ok, no_memory, is_made, no_handle, nothing, add_status, host_status}
 use Rattle.sam_c.specs.Calls.{AtHandle}
 
 -- a new host, or why there is none and the handle is as before
 abbrev pub HostMade : Option PlainHostEndpoint → ℕ → Option PlainHostEndpoint → Type 0
-HostMade None status after = ((status ≡ ok) × (after ≡ Some new_host_end)) ⊎ ((status ≡ no_memory) × (after ≡ None))
+HostMade None status after = ((status ≡ ok) × (after ≡ Some new_host_endpoint)) ⊎ ((status ≡ no_memory) × (after ≡ None))
 HostMade (Some e) status after = (status ≡ is_made) × (after ≡ Some e)
 
 -- the handle is empty now, and this tells whether it was before
@@ -37,8 +37,8 @@ add_status_of (Err why) = add_status why
 -- what adding a file answers, and how it leaves the end
 abbrev pub Adds : PlainHostEndpoint → List ℕ → List ℕ → Result ℕ AddFault → PlainHostEndpoint → Type 0
 Adds e name text (Ok tag) g =
-    (tag ≡ length e.host.files.slots) × (first_of_checks (open_checks e name text) ≡ None) × (g ≡ with_file e name text)
-Adds e name text (Err why) g = IsOpenFault (first_of_checks (open_checks e name text)) why × (g ≡ e)
+    (tag ≡ length e.host.files.slots) × (first_of_checks (add_checks e name text) ≡ None) × (g ≡ with_file e name text)
+Adds e name text (Err why) g = IsAddFault (first_of_checks (add_checks e name text)) why × (g ≡ e)
 
 abbrev pub HostAdded : Option PlainHostEndpoint → List ℕ → List ℕ → ℕ → ℕ → ℕ → Option PlainHostEndpoint → Type 0
 HostAdded None name text old_tag status new_tag after = (status ≡ no_handle) × (new_tag ≡ old_tag) × (after ≡ None)

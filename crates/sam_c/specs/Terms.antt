@@ -11,14 +11,14 @@ use Rattle.sam_term.specs.declared.records.KnownFile.{KnownFile}
 use Rattle.sam_term.specs.declared.records.Window.{Window}
 use Rattle.sam_endpoint.specs.declared.fault.EndpointFault.{EndpointFault}
 use Rattle.sam_endpoint.specs.declared.fault.TermStop.{TermStop}
-use Rattle.sam_endpoint.specs.TermEndpoints.{PlainTermEndpoint, new_term_end, Puts, Feeds, Flushes}
+use Rattle.sam_endpoint.specs.TermEndpoints.{PlainTermEndpoint, new_term_endpoint, Puts, Feeds, Flushes}
 use Rattle.sam_c.specs.Status.{ok, no_memory, is_made, no_handle, not_text, nothing, refusal_status, term_status}
 use Rattle.sam_c.specs.Calls.{AtHandle}
 use Rattle.sam_c.specs.Hosts.{Takes}
 
 -- a new terminal, or why there is none and the handle is as before
 abbrev pub TermMade : Option PlainTermEndpoint → ℕ → Option PlainTermEndpoint → Type 0
-TermMade None status after = ((status ≡ ok) × (after ≡ Some new_term_end)) ⊎ ((status ≡ no_memory) × (after ≡ None))
+TermMade None status after = ((status ≡ ok) × (after ≡ Some new_term_endpoint)) ⊎ ((status ≡ no_memory) × (after ≡ None))
 TermMade (Some e) status after = (status ≡ is_made) × (after ≡ Some e)
 
 abbrev pub TermPut : Option PlainTermEndpoint → UserEvent → ℕ → Option PlainTermEndpoint → Type 0

@@ -4,7 +4,7 @@ pub use Rattle.std.proofs.lemmas.Grind.{common_steps, flat_map-append}
 pub use Rattle.std.proofs.lemmas.List.Elements.{All-cons, All-nil, All-tail}
 pub use Rattle.std.proofs.lemmas.Str.{IsUtf8-from_is_utf8, chars_from_encodes, is_utf8-from_IsUtf8}
 pub use Rattle.sam_endpoint.specs.Drawing.{Copies, Shows, drawn}
-pub use Rattle.sam_endpoint.specs.HostEndpoints.{Answers, Feeds, FeedsAfter, GoesOn, IsIdle, PlainHostEndpoint, Serves, TakesIn, open_checks, with_file, writes_of}
+pub use Rattle.sam_endpoint.specs.HostEndpoints.{Answers, Feeds, FeedsAfter, GoesOn, IsIdle, PlainHostEndpoint, Serves, TakesIn, add_checks, with_file, writes_of}
 pub use Rattle.sam_endpoint.specs.HostSteps.{Answer, AnswersFirst, Ends, IsSound, Writes}
 pub use Rattle.sam_endpoint.specs.Streams.{FitFrames, FitMessages, Gives, mesg_fault}
 pub use Rattle.sam_endpoint.specs.TermEndpoints.{Acts, Calls, FeedsIdle, Flushes, FlushesIdle, IsQuiet, IsDecided, Moves, PlainTermEndpoint, PutsIdle, last_stamp, oldest, refusals_from, shown}

@@ -1,5 +1,5 @@
 -- Files that a host end begins with.
-use Rattle.sam_endpoint.proofs.Common.{◌≡◌, ◌≤◌, ℕ, false, List, length, None, arith, chars, IsUtf8, encode_utf8_all, IsUtf8-from_is_utf8, chars_from_encodes, PlainHost, with_given, PlainHostEndpoint, open_checks, with_file}
+use Rattle.sam_endpoint.proofs.Common.{◌≡◌, ◌≤◌, ℕ, false, List, length, None, arith, chars, IsUtf8, encode_utf8_all, IsUtf8-from_is_utf8, chars_from_encodes, PlainHost, with_given, PlainHostEndpoint, add_checks, with_file}
 use Rattle.std.specs.Str.{is_utf8}
 use Rattle.sam_runes.specs.Checks.{first_of_checks}
 use Rattle.sam_runes.specs.Reading.{AreRunes}
@@ -13,7 +13,7 @@ pub read_runes : (runes bytes : List ℕ) → AreRunes runes → encode_utf8_all
 read_runes runes bytes are spell = chars_from_encodes runes bytes (runes, (are, spell)) spell
 
 -- a name against which nothing stands has at most most_in_name runes
-pub name_fits : (e : PlainHostEndpoint) (name text : List ℕ) → first_of_checks (open_checks e name text) ≡ None → length (chars name) ≤ most_in_name
+pub name_fits : (e : PlainHostEndpoint) (name text : List ℕ) → first_of_checks (add_checks e name text) ≡ None → length (chars name) ≤ most_in_name
 name_fits e name text none = grind arith
 
 pub file_added : (e before g : PlainHostEndpoint) (h : PlainHost) (name text n t : List ℕ) → before ≡ e → g ≡ record before { host = h }

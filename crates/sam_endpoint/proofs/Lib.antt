@@ -1,9 +1,9 @@
 pub mod Common
-pub mod HostEndFits
+pub mod HostEndpointFits
 pub mod HostEndpointGoing
-pub mod HostEndFiles
+pub mod HostEndpointFiles
 pub mod TermEndpointHeld
-pub mod TermEndStamps
+pub mod TermEndpointStamps
 pub mod TermEndpointMoves
 pub mod TermEndpointSteps
 pub mod TermEndpointCalls

@@ -2,7 +2,7 @@
 use Rattle.sam_endpoint.proofs.Common.{◌≡◌, sym, subst, ℕ, ◌-◌, ◌≤◌, false, List, [], ◌∷◌, ◌++◌, length, drop, Option, Some, None, Ok, Err, arith, slice_get, IsTrue, All-tail, fits_h, HFrame, Tmesg, host, Held, composed_in, PlainTerminal, act_of, take_of, Acted, StreamFault, TermStop, EndpointFault, FitFrames, Gives, PlainTermEndpoint, IsDecided, oldest, refusals_from, ActsFirst, Receives, Tries, stopped_by, All-nil, FitInTurn}
 use Rattle.sam_endpoint.specs.TermSteps.{IsSound}
 use Rattle.sam_endpoint.proofs.TermEndpointHeld.{act_held, take_held}
-use Rattle.sam_endpoint.proofs.TermEndStamps.{act_counts}
+use Rattle.sam_endpoint.proofs.TermEndpointStamps.{act_counts}
 
 pub first_read : (frames : List HFrame) (frame : HFrame) → slice_get frames 0 ≡ Some frame → frames ≡ frame ∷ drop 1 frames
 first_read frames frame e = grind arith

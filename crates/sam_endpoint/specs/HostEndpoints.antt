@@ -30,8 +30,8 @@ pub record PlainHostEndpoint : Type 0 where
   pub writes : List ℕ  -- the tags that the host was told to write and that were not asked for yet, in order
   pub stop : Option HostStop  -- why it has stopped for good
 
-abbrev pub new_host_end : PlainHostEndpoint
-new_host_end =
+abbrev pub new_host_endpoint : PlainHostEndpoint
+new_host_endpoint =
     record {
       framer = fresh;
       host = new_host [];
@@ -119,8 +119,8 @@ Feeds e piece result g =
 -- ## Files that the host begins with
 
 -- what stands against a file of this name and text, in bytes
-abbrev pub open_checks : PlainHostEndpoint → List ℕ → List ℕ → Checks AddFault
-open_checks e name text =
+abbrev pub add_checks : PlainHostEndpoint → List ℕ → List ℕ → Checks AddFault
+add_checks e name text =
     (e.is_begun, refusal.Begun)
     ∷ (not (is_utf8 name && is_utf8 text), refusal.NotText)
     ∷ (nat_lt most_in_name (length (chars name)) || nat_lt max_runes (length (chars text)), refusal.TooLong)
@@ -128,9 +128,9 @@ open_checks e name text =
     ∷ []
 
 -- the first test that holds, or want of memory where none does
-abbrev pub IsOpenFault : Option AddFault → AddFault → Type 0
-IsOpenFault None why = why ≡ refusal.OutOfMemory
-IsOpenFault (Some fault) why = why ≡ fault
+abbrev pub IsAddFault : Option AddFault → AddFault → Type 0
+IsAddFault None why = why ≡ refusal.OutOfMemory
+IsAddFault (Some fault) why = why ≡ fault
 
 -- the end with one more file, of the runes that the bytes spell
 abbrev pub with_file : PlainHostEndpoint → List ℕ → List ℕ → PlainHostEndpoint

@@ -8,7 +8,7 @@ use Rattle.sam_frame.specs.Reading.{IsStream}
 use Rattle.sam_host.specs.Host.{PlainHost}
 use Rattle.sam_endpoint.specs.declared.fault.EndpointFault.TheVariants as fault
 use Rattle.sam_endpoint.specs.Streams.{mesg_fault}
-use Rattle.sam_endpoint.specs.HostEndpoints.{PlainHostEndpoint, Feeds, IsIdle, Serves, new_host_end}
+use Rattle.sam_endpoint.specs.HostEndpoints.{PlainHostEndpoint, Feeds, IsIdle, Serves, new_host_endpoint}
 use Rattle.sam_endpoint.specs.HostSteps.{Answer}
 
 -- a call: a piece that was fed and what feeding it answered, or bytes that were taken out
@@ -51,7 +51,7 @@ pub record HasServed (first : PlainHost) (stream out : List ℕ) (e : PlainHostE
 
 -- a new end of this host
 abbrev pub begun_with : PlainHost → PlainHostEndpoint
-begun_with h = record new_host_end { host = h }
+begun_with h = record new_host_endpoint { host = h }
 
 -- ## The laws
 

@@ -48,8 +48,8 @@ shown a =
       stop = a.stop;
     }
 
-abbrev pub new_term_end : PlainTermEndpoint
-new_term_end =
+abbrev pub new_term_endpoint : PlainTermEndpoint
+new_term_endpoint =
     record {
       framer = fresh;
       term = new_terminal;

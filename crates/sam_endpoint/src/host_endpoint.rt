@@ -5,7 +5,7 @@ ghost use Rattle.std.specs.Str.{chars, is_utf8};
 ghost use Rattle.std.specs.VecDeque.{deque_len, deque_capacity};
 ghost use Rattle.sam_runes.specs.Checks.{first_of_checks};
 ghost use Rattle.sam_term.specs.Fitting.{FitsLast};
-ghost use Rattle.sam_endpoint.specs.HostEndpoints.{Feeds, GoesOn, IsIdle, IsOpenFault, new_host_end, open_checks, with_file, writes_of};
+ghost use Rattle.sam_endpoint.specs.HostEndpoints.{Feeds, GoesOn, IsIdle, IsAddFault, new_host_endpoint, add_checks, with_file, writes_of};
 ghost use Rattle.sam_endpoint.specs.HostSteps.{Brings, Ends, Handles, Writes};
 
 use crate::fault::{AddFault, EndpointFault, HostStop, StreamFault};
@@ -85,7 +85,7 @@ pub struct HostEndpoint {
     waiting: VecDeque<Tmesg>,
     /// What is wrong with the stream behind these messages; `None` if nothing is.
     behind: Option<StreamFault>,
-    /// The frames of the last answer, while they are not in the pending_bytes. There are none after a call that returned `Ok`.
+    /// The frames of the last answer, while their bytes are not pending. There are none after a call that returned `Ok`.
     unwritten: Vec<HFrame>,
     /// The bytes for the terminal that were not taken out yet.
     pending_bytes: PendingBytes,
@@ -129,7 +129,7 @@ impl Model for HostEndpoint {
 impl HostEndpoint {
     /// Makes a host with no file but the command file, to which nothing was fed. Its only error is want of memory.
     pub fn new(alloc: Global) -> Result<HostEndpoint, AllocError>
-        ensures { IfOk result (λ end. end ≡ new_host_end) }
+        ensures { IfOk result (λ end. end ≡ new_host_endpoint) }
     {
         let Ok(host) = Host::new(alloc, Vec::new(alloc)) else {
             return Err(AllocError);
@@ -150,7 +150,7 @@ impl HostEndpoint {
 
     /// Returns the first test of `AddFault` that stands against a file of this name and text. Want of memory is not among them.
     fn refusal(&self, name: &[u8], text: &[u8]) -> Option<AddFault>
-        ensures { result ≡ first_of_checks (open_checks self.now name.now text.now) }
+        ensures { result ≡ first_of_checks (add_checks self.now name.now text.now) }
     {
         if self.begun {
             return Some(AddFault::Begun);
@@ -176,12 +176,12 @@ impl HostEndpoint {
     /// Errors, in this order: `Begun` if a piece was taken before; `NotText` if the name or the text is not UTF-8; `TooLong` if the name
     /// has more than `MOST_IN_NAME` runes or the text more than `MAX_RUNES`; `NoTag` if all tags were given; `OutOfMemory`. After an
     /// error the end is as it was.
-    #[tactic(auto, using(crate::proofs::HostEndFiles::adds_files))]
+    #[tactic(auto, using(crate::proofs::HostEndpointFiles::adds_files))]
     pub fn add_file(&mut self, name: &[u8], text: &[u8]) -> Result<u16, AddFault>
         ensures tag { IfOk result (λ tag. tag ≡ length self.old.host.files.slots) }
         ensures added { OnOk result (self.new ≡ with_file self.old name.now text.now) }
-        ensures allowed { OnOk result (first_of_checks (open_checks self.old name.now text.now) ≡ None) }
-        ensures refused { IfErr result (IsOpenFault (first_of_checks (open_checks self.old name.now text.now))) }
+        ensures allowed { OnOk result (first_of_checks (add_checks self.old name.now text.now) ≡ None) }
+        ensures refused { IfErr result (IsAddFault (first_of_checks (add_checks self.old name.now text.now))) }
         ensures unchanged { OnErr result (self.new ≡ self.old) }
     {
         if let Some(fault) = self.refusal(name, text) {
@@ -322,7 +322,7 @@ impl HostEndpoint {
         }
     }
 
-    /// Writes the frames of the last answer into the pending_bytes, all or none. Its only error is `Unfinished`.
+    /// Writes the frames of the last answer into the pending bytes, all or none. Its only error is `Unfinished`.
     fn write_answer(&mut self) -> Result<(), EndpointFault<HostStop>>
         ensures { Writes self.old result self.new }
     {

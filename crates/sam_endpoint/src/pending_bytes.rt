@@ -36,7 +36,7 @@ impl Model for PendingBytes {
 }
 
 impl PendingBytes {
-    /// Makes an empty pending_bytes. It takes no memory.
+    /// Makes a queue of no bytes. It takes no memory.
     pub fn new(alloc: Global) -> PendingBytes
         ensures { result ≡ [] }
     {

@@ -1,7 +1,7 @@
 //! A terminal behind a stream of bytes each way.
 
 ghost use Rattle.std.specs.Prelude.{◌≡◌, ◌↔◌, IfOk, IsTrue, None, [], ◌≤◌, drop, length, min, option_copied, take, slice_get, ◌++◌};
-ghost use Rattle.sam_endpoint.specs.TermEndpoints.{Feeds, Flushes, GoesOn, IsIdle, Puts, new_term_end, under_way};
+ghost use Rattle.sam_endpoint.specs.TermEndpoints.{Feeds, Flushes, GoesOn, IsIdle, Puts, new_term_endpoint, under_way};
 ghost use Rattle.sam_endpoint.specs.TermSteps.{Acts, ActsAll, Composes, Gains, Holds, Receives, ReceivesAll, Resumes, Tries, Writes, end_fault, stopped_by};
 ghost use Rattle.sam_mesg.specs.HostKinds.{fits_h};
 ghost use Rattle.sam_term.specs.Fitting.{AllFit, composed_in};
@@ -43,7 +43,7 @@ pub struct TermEndpoint {
     waiting: VecDeque<HFrame>,
     /// What is wrong with the stream behind these frames; `None` if nothing is.
     behind: Option<StreamFault>,
-    /// The messages that were composed last, while they are not in the pending_bytes. There are none after a call that returned `Ok`.
+    /// The messages that were composed last, while their bytes are not pending. There are none after a call that returned `Ok`.
     unwritten: Vec<Tmesg>,
     /// The bytes for the host that were not taken out yet.
     pending_bytes: PendingBytes,
@@ -73,7 +73,7 @@ impl Model for TermEndpoint {
 impl TermEndpoint {
     /// Makes a terminal that knows no file, to which nothing was fed or put. It takes no memory.
     pub fn new(alloc: Global) -> TermEndpoint
-        ensures { result ≡ new_term_end }
+        ensures { result ≡ new_term_endpoint }
     {
         TermEndpoint {
             alloc,
@@ -90,7 +90,7 @@ impl TermEndpoint {
         }
     }
 
-    /// Writes what was composed into the pending_bytes, all or none. Its only error is `Unfinished`.
+    /// Writes what was composed into the pending bytes, all or none. Its only error is `Unfinished`.
     fn write_composed(&mut self) -> Result<(), EndpointFault<TermStop>>
         ensures { Writes self.old result self.new }
     {

@@ -1,5 +1,5 @@
 use Rattle.sam_endpoint.proofs.Common.{ap, ◌∙◌, length, List, ℕ, chars, is_utf8-from_IsUtf8}
-use Rattle.sam_endpoint.proofs.HostEndFiles.{not_text}
+use Rattle.sam_endpoint.proofs.HostEndpointFiles.{not_text}
 use Rattle.sam_endpoint.proofs.host_endpoint.runes_in.Goals as goal
 
 pub returns-in-Ok : goal.returns-in-Ok

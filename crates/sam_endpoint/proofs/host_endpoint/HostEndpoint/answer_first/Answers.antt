@@ -1,5 +1,5 @@
 use Rattle.sam_endpoint.proofs.Common.{◌≡◌, ◌∙◌, ◌++◌, refl, sym, ap, subst, List, ℕ, Ok, HFrame, answer, FitInPlace, PlainHostEndpoint, writes_of}
-use Rattle.sam_endpoint.proofs.HostEndFits.{answered_sound}
+use Rattle.sam_endpoint.proofs.HostEndpointFits.{answered_sound}
 use Rattle.sam_endpoint.proofs.HostEndpointGoing.{first_done, first_waits}
 use Rattle.sam_endpoint.proofs.host_endpoint.HostEndpoint.answer_first.Goals as goal
 

@@ -1,5 +1,5 @@
 use Rattle.sam_endpoint.proofs.Common.{refl, sym, subst, List, Tmesg, terminal, Gives}
-use Rattle.sam_endpoint.proofs.HostEndFits.{taken_sound}
+use Rattle.sam_endpoint.proofs.HostEndpointFits.{taken_sound}
 use Rattle.sam_endpoint.proofs.HostEndpointGoing.{taken_in}
 use Rattle.sam_endpoint.proofs.host_endpoint.HostEndpoint.take_in.Goals as goal
 

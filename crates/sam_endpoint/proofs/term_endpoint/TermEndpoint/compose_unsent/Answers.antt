@@ -1,4 +1,4 @@
-use Rattle.sam_endpoint.proofs.TermEndStamps.{flush_counts}
+use Rattle.sam_endpoint.proofs.TermEndpointStamps.{flush_counts}
 use Rattle.sam_endpoint.proofs.TermEndpointHeld.{flush_held}
 use Rattle.sam_endpoint.proofs.Common.{ap, subst, Ok, arith, PlainTermEndpoint, shown, Composes}
 use Rattle.sam_endpoint.proofs.term_endpoint.TermEndpoint.compose_unsent.Goals as goal

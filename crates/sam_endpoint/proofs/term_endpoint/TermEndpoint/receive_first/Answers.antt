@@ -1,5 +1,5 @@
 use Rattle.sam_endpoint.proofs.Common.{◌≡◌, ◌∙◌, arith, ap, refl, subst, sym, ◌∷◌, drop, Err, option_copied, PlainTermEndpoint, shown, Receives, ReceivesFirst}
-use Rattle.sam_endpoint.proofs.TermEndStamps.{take_stamped}
+use Rattle.sam_endpoint.proofs.TermEndpointStamps.{take_stamped}
 use Rattle.sam_endpoint.proofs.TermEndpointSteps.{first_read, receive_failed, rest_fit, taken_counted}
 use Rattle.sam_endpoint.proofs.term_endpoint.TermEndpoint.receive_first.Goals as goal
 
