@@ -33,7 +33,7 @@ pub enum AddFault {
 #[derive(Clone, Copy, Debug, PartialEq, Eq, Drop, Error)]
 pub enum StreamFault {
     /// The first byte of a frame is no kind of this direction.
-    #[error("no such kind")]
+    #[error("an unknown kind")]
     BadKind = 1,
     /// The length of a body is none that its kind may have in the version at this place.
     #[error("a wrong length")]
@@ -44,36 +44,44 @@ pub enum StreamFault {
 }
 
 /// Why a host end has stopped for good. What stood in the stream before the cause is answered, and its frames can be taken out.
-#[derive(Clone, Copy, Debug, PartialEq, Eq, Drop)]
+#[derive(Clone, Copy, Debug, PartialEq, Eq, Drop, Error)]
 pub enum HostStop {
-    /// The terminal's stream shows this fault behind the messages that were answered.
+    /// The terminal's stream shows this fault after the messages that were answered.
+    #[error("the terminal's stream has {0}")]
     Stream(StreamFault),
     /// The host refused a message for this reason, which is never `OutOfMemory`. The messages before it were answered.
+    #[error("the host refused a message: {0}")]
     Refused(HostFault),
 }
 
 /// Why a terminal end has stopped for good. What stood in the stream before the cause is received, and what it composed can be taken out.
-#[derive(Clone, Copy, Debug, PartialEq, Eq, Drop)]
+#[derive(Clone, Copy, Debug, PartialEq, Eq, Drop, Error)]
 pub enum TermStop {
-    /// The host's stream shows this fault behind the frames that were received.
+    /// The host's stream shows this fault after the frames that were received.
+    #[error("the host's stream has {0}")]
     Stream(StreamFault),
     /// The terminal refused a frame, or could not count the messages that an event or typed runes would compose (`CountFull`). The reason
     /// is never `OutOfMemory`.
+    #[error("the terminal refused: {0}")]
     Refused(TermFault),
 }
 
 /// Why a call to an end has not done all that it was asked. Only `Stopped` is for good. After `OutOfMemory` and `CountFull` what the call
 /// brought is not taken; after `Unfinished` it is.
-#[derive(Clone, Copy, Debug, PartialEq, Eq, Drop)]
+#[derive(Clone, Copy, Debug, PartialEq, Eq, Drop, Error)]
 pub enum EndpointFault<S> {
     /// Memory was refused before what the call brought was taken: bring it again. What waited before may have gone on.
+    #[error("out of memory")]
     OutOfMemory,
     /// Memory was refused after what the call brought was taken. The rest waits, and the next call that feeds, puts an event or flushes
     /// goes on with it; feeding no bytes does just that.
+    #[error("out of memory, and some of it waits")]
     Unfinished,
     /// The stream would be longer than 2^64-1 bytes, or 2^64-1 events were taken before. What the call brought was not taken.
+    #[error("a count is full")]
     CountFull,
     /// The end has stopped for good, at this call or before. An end that had stopped before is as it was.
+    #[error("stopped for good")]
     Stopped(S),
 }
 

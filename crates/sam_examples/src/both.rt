@@ -1,52 +1,75 @@
 //! A host and a terminal exchange bytes, cut in two at every place, until both agree.
 
-use crate::host::ByteHost;
-use crate::terminal::ByteTerminal;
-use anyhow::{Result, ensure};
+use crate::host::bytes_down;
+use crate::terminal::{bytes_up, type_text};
+use anyhow::{Result, bail, ensure};
+use sam_endpoint::{HostEndpoint, TermEndpoint};
 use sam_term::UserEvent;
 use std::alloc::Global;
 
-/// The user opens file 1, looks at its first five runes, and types behind them. What needs an answer of the host first
-/// waits in the terminal.
-fn edit(terminal: &mut ByteTerminal) -> Result<()> {
-    terminal.user(UserEvent::Version(2))?;
-    terminal.user(UserEvent::Open(1))?;
-    terminal.user(UserEvent::View(1, 0, 5))?;
-    terminal.user(UserEvent::Select(1, 5, 5))?;
-    terminal.type_text(1, " new")?;
-    terminal.user(UserEvent::Flush)
+/// The user opens file 1, looks at its first five runes, and types after them. What needs an answer of the host first waits in the
+/// terminal.
+fn edit(alloc: Global, terminal: &mut TermEndpoint) -> Result<()> {
+    terminal.put(UserEvent::Version(2))?;
+    terminal.put(UserEvent::Open(1))?;
+    terminal.put(UserEvent::View(1, 0, 5))?;
+    terminal.put(UserEvent::Select(1, 5, 5))?;
+    type_text(alloc, terminal, 1, " new")?;
+    terminal.put(UserEvent::Flush)?;
+    Ok(())
 }
 
-/// Lets the user edit, and carries bytes up to the host and answers down, each time in two pieces, until none are left.
-/// Both then have to agree. Returns the most bytes that went at a time.
-fn exchange(host: &mut ByteHost, terminal: &mut ByteTerminal, cut: usize) -> Result<usize> {
-    edit(terminal)?;
+/// Carries bytes up to the host and answers down, each time in two pieces, until none are left. Returns the most bytes that went at a
+/// time.
+fn carry(
+    alloc: Global,
+    host: &mut HostEndpoint,
+    terminal: &mut TermEndpoint,
+    cut: usize,
+) -> Result<usize> {
     let mut most = 0;
     // A loop has to have an end in Rattle; this one breaks off long before.
     for _ in 0..u64::MAX {
-        let up = terminal.take_out();
+        let up = bytes_up(alloc, terminal)?;
         if up.is_empty() {
             break;
         }
         let (front, back) = up.split_at(cut.min(up.len()));
         host.feed(front)?;
         host.feed(back)?;
-        let down = host.take_out();
+        let down = bytes_down(alloc, host)?;
         let (front, back) = down.split_at(cut.min(down.len()));
         terminal.feed(front)?;
         terminal.feed(back)?;
         most = most.max(up.len()).max(down.len());
     }
-    // Each rune that the terminal has is the host's rune at that place.
-    ensure!(terminal.agrees(1, host.text(1)), "host and terminal differ");
     Ok(most)
+}
+
+/// Each rune that the terminal has of the file is the host's rune at that place.
+fn agree(host: &HostEndpoint, terminal: &TermEndpoint, tag: u16) -> Result<()> {
+    let Some(text) = host.host().files().text(tag) else {
+        bail!("the host has no such file");
+    };
+    let Some(rasp) = terminal.term().rasp(tag) else {
+        bail!("the file is not open");
+    };
+    ensure!(
+        rasp.agrees(text.slice(0, text.len())),
+        "host and terminal differ"
+    );
+    Ok(())
 }
 
 /// A new host and a new terminal, whose bytes are cut at one place.
 fn session(alloc: Global, cut: usize) -> Result<usize> {
-    let mut host = ByteHost::new(alloc, "notes", "hello world")?;
-    let mut terminal = ByteTerminal::new(alloc);
-    exchange(&mut host, &mut terminal, cut)
+    let mut host = HostEndpoint::new(alloc)?;
+    host.add_file(b"notes", b"hello world")?;
+    let mut terminal = TermEndpoint::new(alloc);
+    edit(alloc, &mut terminal)?;
+    let most = carry(alloc, &mut host, &mut terminal, cut)?;
+    agree(&host, &terminal, 1)?;
+    Ok(most)
 }
 
 /// Runs the session once for each place where its bytes can be cut.

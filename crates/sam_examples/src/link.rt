@@ -1,4 +1,4 @@
-//! What the examples share: texts as runes, and bytes in hex.
+//! What the examples share: bytes in hex.
 
 use std::alloc::{AllocError, Global};
 
