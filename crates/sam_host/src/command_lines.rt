@@ -563,7 +563,7 @@ impl Host {
     /// Answers `Tstartnewfile`: makes an empty, clean file with no name under the next tag, opens it, and makes it the work file. If all
     /// tags were given, `? no tag` is printed instead. The only error is `OutOfMemory`, and the host is then unchanged. The caller
     /// counts the message.
-    #[tactic(auto, using(crate::proofs::FileLaws::put_is_work), unfolding(crate::specs::Host::reply_startnewfile))]
+    #[tactic(auto, unfolding(crate::specs::Host::reply_startnewfile))]
     pub(crate) fn start_new_file(&mut self) -> Result<Vec<HFrame>, HostFault>
         requires { self.old.taken + 1 < 2 ^ 64 }
         ensures allowed { OnOk result (first_of_checks (host_checks self.old Tmesg.Tstartnewfile) ≡ None) }

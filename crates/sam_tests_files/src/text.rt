@@ -25,8 +25,8 @@ impl From<FilesFault> for Refused {
 }
 
 /// Makes tag 1 the work file, named `a`, with this text and dot 0,0.
-fn begin(alloc: Global, files: &mut Files, text: &[char]) -> Result<(), Refused> {
-    files.new_file(alloc, ['a'].as_slice(), text)?;
+fn begin(files: &mut Files, text: &[char]) -> Result<(), Refused> {
+    files.new_file(['a'].as_slice(), text)?;
     files.set_work(1, 0, 0)?;
     Ok(())
 }
@@ -44,15 +44,15 @@ fn with_file<A, F: FnOnce(&mut Files) -> A>(alloc: Global, text: &[char], body: 
     requires { F.IsAlwaysCallable body }
 {
     let mut files = Files::new(alloc).ok()?;
-    begin(alloc, &mut files, text).ok()?;
+    begin(&mut files, text).ok()?;
     Some(body(&mut files))
 }
 
 /// What a line prints, run on a work file of this text.
 fn ran(alloc: Global, files: &mut Files, start: &[char], line: &str) -> Result<Runes, Refused> {
-    begin(alloc, files, start)?;
+    begin(files, start)?;
     let line = runes(alloc, line)?;
-    let outcome = files.run_line(alloc, line.as_slice())?;
+    let outcome = files.run_line(line.as_slice())?;
     Ok(files.commit(outcome))
 }
 
@@ -262,9 +262,9 @@ fn snarf_and_paste(rt: HostRuntime) {
     let alloc = rt.alloc();
     let told = with_file(alloc, &['x', 'y'], |files| {
         (
-            files.snarf(alloc, 1, 0, 2),
+            files.snarf(1, 0, 2),
             files.paste(1, 2).is_ok() && spells(files, 1, "xyxy"),
-            files.set_snarf(alloc, ['!'].as_slice()),
+            files.set_snarf(['!'].as_slice()),
             files.paste(1, 0).is_ok() && spells(files, 1, "!xyxy"),
         )
     });
@@ -285,7 +285,7 @@ fn a_written_file(rt: HostRuntime) {
     let told = with_file(alloc, &['x', 'y', 'z'], |files| {
         (
             files.double_click(1, 1),
-            files.write(alloc, 1),
+            files.write(1),
             has_saved(files, &['x', 'y', 'z']),
         )
     });
@@ -298,8 +298,8 @@ fn tags_are_given_once(rt: HostRuntime) {
     let told = with_file(alloc, &['x', 'y'], |files| {
         (
             files.close(1).is_ok(),
-            files.new_file(alloc, ['a'].as_slice(), [].as_slice()),
-            files.start_file(alloc),
+            files.new_file(['a'].as_slice(), [].as_slice()),
+            files.start_file(),
         )
     });
     assert_eq!(rt; told, Some((true, Ok(2), Ok(3))));
@@ -310,9 +310,9 @@ fn look_and_search(rt: HostRuntime) {
     let alloc = rt.alloc();
     let told = with_file(alloc, &['a', 'b', 'c', 'a', 'b'], |files| {
         (
-            files.look(alloc, 1, 0, 2),
+            files.look(1, 0, 2),
             files.search(1, 3, 5),
-            files.look(alloc, 1, 2, 2),
+            files.look(1, 2, 2),
             files.dot(1),
         )
     });

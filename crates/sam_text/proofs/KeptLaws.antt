@@ -22,9 +22,9 @@ kept_free fs g all positive = grind (arith, length-free_slot, slot-free_other, (
 pub kept_new : (fs : PlainFiles) (x : PlainFile) → AreSoundFiles fs → length fs.slots < all_tags → IsFit x → HasShortName x → AreSoundFiles (with_new fs x)
 kept_new fs x all free fit short = grind (arith, put_slot-push, length-append, given-put, fit-put, (all-put HasShortName))
 
--- a file that was added is there
-pub new_is_there : (fs : PlainFiles) (x : PlainFile) → has_file (with_new fs x) (length fs.slots) ≡ true
-new_is_there fs x = grind (arith, slot-put_same)
+-- a file that was put is there
+pub put_is_there : (fs : PlainFiles) (f : ℕ) (x : PlainFile) → has_file (put_file fs f x) f ≡ true
+put_is_there fs f x = grind (arith, slot-put_same)
 
 -- what holds of every file, also once it is announced, holds of every file once all are announced
 pub all-announce : (P : PlainFile → Type 0) → ((x : PlainFile) → P x → P (announced_file x)) → (ss : Slots PlainFile)

@@ -101,6 +101,7 @@ impl Files {
     ///
     /// Errors, in this order: `NoFile` if the tag has no file; `BadPosition` if `q` is less than `p` or past the end of the text. After
     /// an error the files are unchanged.
+    #[tactic(auto, using(crate::proofs::KeptLaws::put_is_there))]
     pub fn set_work(&mut self, tag: u16, p: u32, q: u32) -> Result<(), FilesFault>
         requires { 0 < tag }
         ensures answer { result ≡ unless (first_of_checks (range_checks self.old.plain tag p q)) tt }
@@ -108,9 +109,8 @@ impl Files {
         ensures rooms { KeepRooms self.old self.new }
         ensures unchanged { OnErr result (self.new ≡ self.old) }
     {
-        self.wants_range(tag, p, q)?;
+        self.set_dot(tag, p, q)?;
         self.put_work(tag);
-        self.change(tag, FileChange::Dot(p, q));
         Ok(())
     }
 
@@ -129,6 +129,7 @@ impl Files {
 
     /// Marks a file as open, and makes it the work file; its dot stays. The caller makes sure that the tag is not 0. The only error is
     /// `NoFile` if the tag has no file; the files are then unchanged.
+    #[tactic(auto, using(crate::proofs::KeptLaws::put_is_there))]
     pub fn open_work(&mut self, tag: u16) -> Result<(), FilesFault>
         requires { 0 < tag }
         ensures answer { result ≡ unless (first_of_checks (file_checks self.old.plain tag)) tt }
@@ -136,9 +137,8 @@ impl Files {
         ensures rooms { KeepRooms self.old self.new }
         ensures unchanged { OnErr result (self.new ≡ self.old) }
     {
-        self.wants_file(tag)?;
+        self.open(tag)?;
         self.put_work(tag);
-        self.change(tag, FileChange::Open);
         Ok(())
     }
 
@@ -336,7 +336,7 @@ impl Files {
     /// name, and it is clean, open and announced.
     ///
     /// Errors, in this order: `NoTag` if all tags were given; `OutOfMemory`. After an error the files are unchanged.
-    #[tactic(auto, using(crate::proofs::KeptLaws::new_is_there))]
+    #[tactic(auto, using(crate::proofs::KeptLaws::put_is_there))]
     pub fn start_file(&mut self) -> Result<u16, FilesFault>
         ensures checked { IsChecked (no_tag self.old.plain ∷ []) result }
         ensures tag { IfOk result (λ tag. tag ≡ length self.old.plain.slots) }
