@@ -1,7 +1,7 @@
 //! The answers to what changes a file or the snarf buffer: cutting, pasting, snarfing and writing, and how typed runes are put in. A
 //! method for a kind leaves the count of messages to its caller, and after an error the host is unchanged.
 
-ghost use Rattle.std.specs.Prelude.{◌≡◌, ◌<◌, ◌≤◌, ◌+◌, ◌∷◌, [], ◌^◌, IfOk, OnOk, OnErr, Err, None, IsTrue, true, length};
+ghost use Rattle.std.specs.Prelude.{◌≡◌, ◌<◌, ◌≤◌, ◌+◌, ◌∷◌, [], ◌^◌, IfOk, IfErr, OnOk, OnErr, Err, None, Some, IsTrue, true, length};
 ghost use Rattle.sam_host.specs.Host.{host_checks, Refuses, Appends, stamped, told_paste, with_file, reply_cut, reply_paste, reply_snarf, reply_setsnarf, reply_startsnarf, reply_write};
 ghost use Rattle.sam_runes.specs.Texts.{max_runes};
 ghost use Rattle.sam_runes.specs.Checks.{first_of_checks};
@@ -25,6 +25,8 @@ impl Host {
         ensures host { OnOk result (self.new ≡ (reply_cut self.old tag p q).0) }
         ensures frames { IfOk result (λ frames. frames.items ≡ stamped (self.old.taken + 1) (reply_cut self.old tag p q).1) }
         ensures refused { Refuses self.old (Tmesg.Tcut tag p q) result }
+        // It takes no memory.
+        ensures memory { IfErr result (λ why. first_of_checks (host_checks self.old (Tmesg.Tcut tag p q)) ≡ Some why) }
         ensures count { self.new.taken ≡ self.old.taken }
         ensures unchanged { OnErr result (self.new ≡ self.old) }
     {

@@ -120,7 +120,8 @@ impl Files {
         }
     }
 
-    /// Returns whether the file of a tag is dirty, as `File::is_dirty` tells it; false if the tag has no file.
+    /// Returns whether the file of a tag is dirty, as `File::is_dirty` tells it; false if the tag has no file. That tag 0 never is, `facts`
+    /// says.
     pub fn is_dirty(&self, tag: u16) -> bool
         ensures { result ≡ (file_at self.now.plain tag).dirty }
     {
