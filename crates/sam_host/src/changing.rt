@@ -1,5 +1,5 @@
-//! The answers to what changes a file or the snarf buffer: cutting, pasting, snarfing and writing, and how typed runes are put in. A
-//! method for a kind leaves the count of messages to its caller, and after an error the host is unchanged.
+//! The answers to what changes a file or the snarf buffer: cutting, pasting, snarfing and writing. A method for a kind
+//! leaves the count of messages to its caller, and after an error the host is unchanged.
 
 ghost use Rattle.std.specs.Prelude.{◌≡◌, ◌<◌, ◌≤◌, ◌+◌, ◌∷◌, [], ◌^◌, IfOk, IfErr, OnOk, OnErr, Err, None, Some, IsTrue, true, length};
 ghost use Rattle.sam_host.specs.Host.{host_checks, Refuses, Appends, stamped, told_paste, with_file, reply_cut, reply_paste, reply_snarf, reply_setsnarf, reply_startsnarf, reply_write};

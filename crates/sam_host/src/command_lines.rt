@@ -1,6 +1,6 @@
 //! Typing, command lines, and new files. A line is run when its newline is typed into the command file, or when it is sent there. What it
-//! does is worked out first, then told, and put in last, so that want of memory changes nothing. The functions that tell add frames to
-//! those of the answer. The only error of a private function is `OutOfMemory`, and the host is then unchanged.
+//! does is worked out first, then told, and put in last, so that nothing of it is changed when memory runs out. The functions that tell
+//! add frames to those of the answer. The only error of a private function is `OutOfMemory`, and the host is then unchanged.
 
 ghost use Rattle.std.specs.Prelude.{◌≡◌, ◌<◌, ◌≤◌, ◌+◌, ◌-◌, ◌++◌, ◌∷◌, [], ◌^◌, IfOk, IsTrue, OnOk, OnErr, Err, None, Some, true, not, ◌&&◌, nat_lt, if◌then◌else◌, length};
 ghost use Rattle.sam_host.specs.Typing.{reply_line_to, typed_line, sent};
@@ -386,8 +386,8 @@ impl Host {
         Ok(frames)
     }
 
-    /// Types runes that end in a newline into the command file at `p`, and runs the line that this newline ends. If the line meets want
-    /// of memory, what was typed is taken out again.
+    /// Types runes that end in a newline into the command file at `p`, and runs the line that this newline ends. The line is read where
+    /// it stands, so the runes are typed first. If memory then runs out, what was typed is taken out again, which asks for none.
     fn type_line(&mut self, p: u32, runes: &[char]) -> Result<Vec<HFrame>, HostFault>
         requires count { self.old.taken + 1 < 2 ^ 64 }
         requires filled { 0 < length runes.now }
@@ -412,8 +412,8 @@ impl Host {
         }
     }
 
-    /// Puts `runes` at the end of the command file, and runs `line`, which is their last line. If the line meets want of memory, what was
-    /// put there is taken out again.
+    /// Puts `runes` at the end of the command file, and runs `line`, which is their last line. If memory runs out for the line, what was
+    /// put there is taken out again, which asks for none.
     fn send_line(
         &mut self,
         frames: Vec<HFrame>,

@@ -1,6 +1,6 @@
 //! The answers to the version, to what opens, chooses or closes a file, and to the end of the session. (`start_new_file` stands in
-//! `command_lines`, since it may have to print.) A method for a kind leaves the count of messages to its caller, and after an error the host is
-//! unchanged.
+//! `command_lines`, since it may have to print.) A method for a kind leaves the count of messages to its caller, and after an error the
+//! host is unchanged.
 
 ghost use Rattle.std.specs.Prelude.{◌≡◌, ◌<◌, ◌+◌, ◌∷◌, [], ◌^◌, IfOk, OnOk, OnErr, Err, None, Some, true, not, drop};
 ghost use Rattle.sam_host.specs.Host.{host_checks, Refuses, Appends, stamped, when, told_length, told_names, with_files, reply_version, reply_startcmdfile, reply_startfile, reply_workfile, reply_close, reply_exit};

@@ -306,6 +306,49 @@ fn tags_are_given_once(rt: HostRuntime) {
 }
 
 #[test]
+fn marks_and_the_work_file(rt: HostRuntime) {
+    let alloc = rt.alloc();
+    let told = with_file(alloc, &['x', 'y'], |files| {
+        let before = (files.is_open(1), files.is_announced(1));
+        let marked = (files.announce(1), files.open(0), files.set_dot(1, 1, 2));
+        let begun = (files.start_file(), files.work(), files.open_work(1));
+        let after = (files.is_open(1), files.is_announced(1), files.is_open(0));
+        (before, marked, begun, after, files.work(), files.dot(1))
+    });
+    let marked = (Ok(()), Ok(()), Ok(()));
+    let begun = (Ok(2), Some(2), Ok(()));
+    let after = (true, true, true);
+    let wanted = ((false, false), marked, begun, after, Some(1), Some((1, 2)));
+    assert_eq!(rt; told, Some(wanted));
+}
+
+#[test]
+fn the_command_file_stays_clean(rt: HostRuntime) {
+    let alloc = rt.alloc();
+    let told = with_file(alloc, &['x', 'y'], |files| {
+        let typed = files.insert(0, 0, &['a', 'b', 'c']);
+        let changed = (
+            files.delete(0, 0, 1),
+            files.set_snarf(&['!']),
+            files.paste(0, 2),
+        );
+        let texts = (spells(files, 0, "bc!"), spells(files, 1, "xy"));
+        (
+            typed,
+            changed,
+            texts,
+            files.is_dirty(0),
+            files.is_dirty(1),
+            files.delete(1, 0, 1),
+            files.is_dirty(1),
+        )
+    });
+    let changed = (Ok(()), Ok(()), Ok(()));
+    let wanted = (Ok(()), changed, (true, true), false, false, Ok(()), true);
+    assert_eq!(rt; told, Some(wanted));
+}
+
+#[test]
 fn look_and_search(rt: HostRuntime) {
     let alloc = rt.alloc();
     let told = with_file(alloc, &['a', 'b', 'c', 'a', 'b'], |files| {
