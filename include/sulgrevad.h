@@ -199,7 +199,11 @@ uint32_t sam_term_send(sam_term *term, uint16_t tag);                           
 uint32_t sam_term_dclick(sam_term *term, uint16_t tag, uint32_t place);                /* selects the word round a place */
 uint32_t sam_term_scroll(sam_term *term, uint16_t tag, uint32_t lines);                /* shows the file from that many lines further up */
 uint32_t sam_term_view(sam_term *term, uint16_t tag, uint32_t place, uint32_t len);    /* shows at most len runes from a place on, and asks
-                                                                                        * for those that are not loaded */
+                                                                                        * for those that are not loaded: at most 512 at
+                                                                                        * a time, and then for the next */
+uint32_t sam_term_load(sam_term *term, uint16_t tag, uint32_t place, uint32_t len);    /* shows the same, and asks for all of those at
+                                                                                        * once: for at most 64 stretches of 512, so that
+                                                                                        * a page comes in one round trip */
 uint32_t sam_term_open(sam_term *term, uint16_t tag);                                  /* opens a file; command lines work on it then */
 uint32_t sam_term_open_cmd(sam_term *term);                                             /* opens the command file */
 uint32_t sam_term_new_file(sam_term *term);                                            /* makes an empty file, and opens it; command lines

@@ -202,7 +202,8 @@ _SIGNATURES = {
     "term_new": (), "term_free": (), "term_type": (c_uint16, *_BYTES), "term_select": (c_uint16, c_uint32, c_uint32),
     "term_cut": (c_uint16,), "term_paste": (c_uint16,), "term_snarf": (c_uint16,), "term_look": (c_uint16,),
     "term_search": (c_uint16,), "term_send": (c_uint16,), "term_dclick": (c_uint16, c_uint32), "term_scroll": (c_uint16, c_uint32),
-    "term_view": (c_uint16, c_uint32, c_uint32), "term_open": (c_uint16,), "term_open_cmd": (), "term_new_file": (),
+    "term_view": (c_uint16, c_uint32, c_uint32), "term_load": (c_uint16, c_uint32, c_uint32), "term_open": (c_uint16,),
+    "term_open_cmd": (), "term_new_file": (),
     "term_write": (c_uint16,), "term_close": (c_uint16,), "term_work": (c_uint16,), "term_check": (c_uint16,), "term_get_snarf": (),
     "term_set_snarf": _BYTES, "term_offer_version": (c_uint16,), "term_flush": (), "term_exit": (), "term_feed": _BYTES, "term_flush_now": (),
     "term_pending": (_SIZE,), "term_take_out": (*_BUFFER, _SIZE), "term_next_refusal": (_U64, _U32), "term_events": (_U64,),
@@ -489,8 +490,12 @@ class Terminal(_Side):
         self._call("scroll", tag, lines)
 
     def view(self, tag: int, place: int, length: int) -> None:
-        """Shows at most so many runes of the file from a place on, and asks for those that are not loaded."""
+        """Shows at most so many runes of the file from a place on, and asks for those that are not loaded, a stretch at a time."""
         self._call("view", tag, place, length)
+
+    def load(self, tag: int, place: int, length: int) -> None:
+        """Shows the same as `view`, and asks for all that is not loaded at once, so that it comes in one round trip."""
+        self._call("load", tag, place, length)
 
     def open(self, tag: int) -> None:
         """Opens a file, and makes it the work file."""

@@ -127,6 +127,8 @@ static uint32_t do_event(uint32_t kind, uint16_t tag, uint32_t a, uint32_t b, co
         return sam_term_scroll(&term, tag, b % 9);
     case 14:
         return sam_term_view(&term, tag, a, 1 + b);
+    case 27:
+        return sam_term_load(&term, tag, a, 1 + b);
     case 15:
     case 16:
         return sam_term_open(&term, tag);
@@ -157,7 +159,7 @@ static uint32_t do_event(uint32_t kind, uint16_t tag, uint32_t a, uint32_t b, co
 
 static void user(void)
 {
-    uint32_t kind = pick(28), a = pick(40), b = pick(40), status;
+    uint32_t kind = pick(29), a = pick(40), b = pick(40), status;
     uint16_t tag = (uint16_t)pick(FILES + 2);
     const char *text = texts[pick(sizeof texts / sizeof texts[0])];
     while ((status = settle_term(do_event(kind, tag, a, b, text))) == SAM_NO_MEMORY)

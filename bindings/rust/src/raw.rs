@@ -50,6 +50,7 @@ unsafe extern "C" {
     pub fn sam_term_dclick(term: *mut Handle, tag: u16, place: u32) -> u32;
     pub fn sam_term_scroll(term: *mut Handle, tag: u16, lines: u32) -> u32;
     pub fn sam_term_view(term: *mut Handle, tag: u16, place: u32, len: u32) -> u32;
+    pub fn sam_term_load(term: *mut Handle, tag: u16, place: u32, len: u32) -> u32;
     pub fn sam_term_open(term: *mut Handle, tag: u16) -> u32;
     pub fn sam_term_open_cmd(term: *mut Handle) -> u32;
     pub fn sam_term_new_file(term: *mut Handle) -> u32;
