@@ -15,7 +15,7 @@ use Rattle.sam_world.proofs.RunLaws.{counted-result}
 -- ## What the host answers: its version is that behind its answers
 
 -- what a reply to a message says of the version: that of a version message, and otherwise nothing
-record Tells (h : PlainHost) (m : Tmesg) (r : Reply) : Type 0 where
+record TellsVersion (h : PlainHost) (m : Tmesg) (r : Reply) : Type 0 where
   behind : (seen : ℕ) → version_after host h.version (stamped seen r.1) ≡ r.0.version
   past : after_t h.version m ≡ r.0.version
 
@@ -24,10 +24,10 @@ plain-stamped v seen [] p = refl
 plain-stamped v seen (m ∷ ms) p = grind (arith, (plain-stamped v seen ms p.1))
 
 -- a reply that says nothing of the version, and leaves it
-kept : (h : PlainHost) (m : Tmesg) (r : Reply) → after_t h.version m ≡ h.version → IsPlain r.1 → r.0.version ≡ after_t h.version m → Tells h m r
+kept : (h : PlainHost) (m : Tmesg) (r : Reply) → after_t h.version m ≡ h.version → IsPlain r.1 → r.0.version ≡ after_t h.version m → TellsVersion h m r
 kept h m r same plain version = grind (arith, plain-stamped)
 
-tells_version : (h : PlainHost) (v : ℕ) → first_of_checks (host_checks h (Tversion v)) ≡ None → Tells h (Tversion v) (reply_version h v)
+tells_version : (h : PlainHost) (v : ℕ) → first_of_checks (host_checks h (Tversion v)) ≡ None → TellsVersion h (Tversion v) (reply_version h v)
 unfolding reply_version
 tells_version h v e = grind (
   arith,
@@ -36,7 +36,7 @@ tells_version h v e = grind (
   (λ (seen : ℕ). plain-stamped (after_h h.version (Hversion (common_version v))) seen (told_names 1 (drop 1 h.files.slots) ++ Hack ∷ Hunlock ∷ [])),
 )
 
-tells : (h : PlainHost) (m : Tmesg) → first_of_checks (host_checks h m) ≡ None → Tells h m (reply_to h m)
+tells : (h : PlainHost) (m : Tmesg) → first_of_checks (host_checks h m) ≡ None → TellsVersion h m (reply_to h m)
 tells h (Tversion v) e = tells_version h v e
 tells h m e = kept h m (reply_to h m) refl (reply_plain h m) (reply_stands h m e).1
 
