@@ -10,7 +10,7 @@ use sulgrevad::{replay, Error};
 const TOLD_BY_SCRIPT: [&str; 2] = ["0", "1"];
 
 fn scripts() -> PathBuf {
-    Path::new(env!("CARGO_MANIFEST_DIR")).join("../../tests/scripts")
+    Path::new(env!("CARGO_MANIFEST_DIR")).join("../../../tests/scripts")
 }
 
 fn read(name: &str, kind: &str) -> Option<Vec<u8>> {
