@@ -76,6 +76,14 @@
   (run-hooks 'post-command-hook)
   (same "a raw byte goes back")
   (check "and nothing else does" (string-suffix-p "ü\0\r\n" (sulgrevad--text)))
+  (check "the kill ring has it" (string-suffix-p (string (unibyte-char-to-multibyte 255)) (car kill-ring)))
+  (goto-char (point-min))
+  (let ((text (sulgrevad--text)) (more (make-string 1000000 ?m)))
+    (insert more)
+    (run-hooks 'post-command-hook)
+    (check "a text that is too long goes back" (equal (sulgrevad--text) text) (buffer-size))
+    (same "to what the terminal has")
+    (check "the kill ring has that, too" (equal (car kill-ring) (concat more text))))
 
   ;; Command lines, which change the text from the other side, and undo of that.
   (sulgrevad-command ",c/one two one\\n/")

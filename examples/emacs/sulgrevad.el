@@ -11,7 +11,7 @@
 ;; - A hook can't refuse a change: Emacs takes off a hook that signals an error. So a buffer is read-only while its file is locked or not
 ;;   all loaded, and a command first waits until it is free. Code that changes it all the same wins over what the host did meanwhile.
 ;;
-;; Loading takes an answer of the host for each 512 characters. The module's build, examples/emacs/build, says what the GPL has to do with it.
+;; Loading takes an answer of the host for each 512 characters. examples/emacs/build, which builds the module, has a word on licences.
 
 ;;; Code:
 
@@ -55,6 +55,10 @@
   (cl-loop for at from sulgrevad-most-typed below (length text) by sulgrevad-most-typed
            do (sulgrevad--type sulgrevad--term sulgrevad--tag (substring text at (min (length text) (+ at sulgrevad-most-typed))))))
 
+(defun sulgrevad--fits (start end text)
+  "Whether there is room for TEXT in the place of the runes from START to END."
+  (<= (+ (sulgrevad--len sulgrevad--term sulgrevad--tag) (- start end) (length text)) sulgrevad-most-runes))
+
 (defun sulgrevad--text ()
   "The whole text of the buffer."
   (save-restriction (widen) (buffer-substring-no-properties (point-min) (point-max))))
@@ -77,11 +81,12 @@
 It signals no error, since Emacs would not call it again."
   (unless sulgrevad--is-taking
     (condition-case nil
-        (if (or sulgrevad--has-drifted (not (sulgrevad--is-free)))
-            (setq sulgrevad--has-drifted t)
+        (let ((from (1- start)) (to (+ (1- start) old)) (text (buffer-substring-no-properties start end))
+              (is-known (not sulgrevad--has-drifted)))
           (setq sulgrevad--has-drifted t)
-          (sulgrevad--edit (1- start) (+ (1- start) old) (buffer-substring-no-properties start end))
-          (setq sulgrevad--has-drifted nil))
+          (when (and is-known (sulgrevad--is-free) (sulgrevad--fits from to text))
+            (sulgrevad--edit from to text)
+            (setq sulgrevad--has-drifted nil)))
       (error nil))
     (setq sulgrevad--tick (buffer-chars-modified-tick))))
 
@@ -91,9 +96,12 @@ It signals no error, since Emacs would not call it again."
              (sulgrevad--is-free))
     (pcase (condition-case nil (sulgrevad--difference sulgrevad--term sulgrevad--tag (sulgrevad--text))
              (error 'not-text))
-      ('not-text (message "Sulgrevad: the buffer has what is no Unicode text; it goes back"))
+      ('not-text (sulgrevad--keep "the buffer has what is no Unicode text"))
       (`(,start ,end ,mine ,_)
-       (sulgrevad--edit start end (substring (sulgrevad--text) start mine))))
+       (let ((text (substring (sulgrevad--text) start mine)))
+         (if (sulgrevad--fits start end text)
+             (sulgrevad--edit start end text)
+           (sulgrevad--keep "the text is too long")))))
     (setq sulgrevad--has-drifted nil
           sulgrevad--tick (buffer-chars-modified-tick))
     (sulgrevad--take-over)))
@@ -154,12 +162,20 @@ With IS-PAUSING what was typed is sent, too."
             (when is-fed (sulgrevad--each #'sulgrevad--take-over))))
       (sulgrevad-error (sulgrevad--lose (cadr why))))))
 
+(defun sulgrevad--keep (why)
+  "Put the buffer's text into the kill ring, since it goes back to what the terminal has, because of WHY."
+  (kill-new (sulgrevad--text))
+  (message "Sulgrevad: %s; the kill ring has the buffer's text" why))
+
 (defun sulgrevad--report-refusals ()
   "Report the events that were refused, and go back to what the terminal has."
   (let (why)
     (while (setq why (sulgrevad--next-refusal sulgrevad--term))
-      (message "Sulgrevad: %s" why)
-      (sulgrevad--each #'sulgrevad--take-over))))
+      (sulgrevad--each
+       (lambda ()
+         (when (and (sulgrevad--is-free) (sulgrevad--difference sulgrevad--term sulgrevad--tag (sulgrevad--text)))
+           (sulgrevad--keep why)
+           (sulgrevad--take-over)))))))
 
 (defun sulgrevad--send ()
   "Send what is pending."
