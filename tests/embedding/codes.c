@@ -492,6 +492,105 @@ static void not_open(void)
     WANT(sam_host_free(&host), SAM_OK);
 }
 
+/* What the readers return of a tag that has no file, and of a file that is known and not open. */
+static void reads_no_file(sam_term *term, uint16_t tag, sam_status known)
+{
+    uint8_t bytes[8];
+    uint32_t runes[8], a, b;
+    size_t len;
+    bool is = true;
+    WANT(sam_term_is_known(term, tag, &is), SAM_OK);
+    WANT(is, known == SAM_OK);
+    WANT(sam_term_is_open(term, tag, &is), SAM_OK);
+    WANT(is, 0);
+    WANT(sam_term_is_changed(term, tag, &is), SAM_OK);
+    WANT(is, 0);
+    WANT(sam_term_is_dirty(term, tag, &is), known);
+    WANT(sam_term_name(term, tag, bytes, sizeof bytes, &len), known);
+    WANT(sam_term_len(term, tag, &a), SAM_NONE);
+    WANT(sam_term_read(term, tag, 0, runes, 8, &len), SAM_NONE);
+    WANT(sam_term_first_gap(term, tag, 0, &a), SAM_NONE);
+    WANT(sam_term_dot(term, tag, &a, &b), SAM_NONE);
+    WANT(sam_term_view_of(term, tag, &a, &b), SAM_NONE);
+}
+
+/* What the header says of tags without a file, at both sides. */
+static void tags_without_a_file(void)
+{
+    sam_host host = SAM_HOST_INIT;
+    sam_term term = SAM_TERM_INIT;
+    uint16_t tag;
+    uint8_t bytes[8];
+    uint32_t a, b;
+    size_t len, more;
+    bool is = true;
+    WANT(sam_host_new(&host), SAM_OK);
+    WANT(sam_host_add_file(&host, BYTES("a\0b"), BYTES("one"), &tag), SAM_OK); /* NUL is a rune like others */
+    WANT(sam_term_new(&term), SAM_OK);
+    WANT(sam_term_offer_version(&term, 2), SAM_OK);
+    WANT(sam_term_locked(&term, 9, &is), SAM_OK);
+    WANT(is, 1); /* the command lock is held */
+    carry(&term, &host);
+    WANT(sam_term_locked(&term, 9, &is), SAM_OK);
+    WANT(is, 0);
+    reads_no_file(&term, 9, SAM_NONE);
+    reads_no_file(&term, 1, SAM_OK);
+    WANT(sam_term_name(&term, 1, bytes, sizeof bytes, &len), SAM_OK);
+    WANT(len == 3 && memcmp(bytes, "a\0b", 3) == 0, 1);
+    WANT(sam_term_open(&term, 1), SAM_OK);
+    WANT(sam_term_write(&term, 1), SAM_OK);
+    WANT(sam_term_type(&term, 1, BYTES("x")), SAM_OK);
+    WANT(sam_term_write(&term, 1), SAM_OK);
+    WANT(sam_term_close(&term, 1), SAM_OK);
+    carry(&term, &host);
+    WANT(sam_host_next_written(&host, &tag), SAM_OK); /* each Twrite gives its tag once */
+    WANT(tag, 1);
+    WANT(sam_host_next_written(&host, &tag), SAM_OK);
+    WANT(tag, 1);
+    WANT(sam_host_next_written(&host, &tag), SAM_NONE);
+    reads_no_file(&term, 1, SAM_NONE);
+    WANT(sam_host_has_file(&host, 1, &is), SAM_OK);
+    WANT(is, 0);
+    WANT(sam_host_name(&host, 1, bytes, sizeof bytes, &len), SAM_NONE);
+    WANT(sam_host_len(&host, 1, &a), SAM_NONE);
+    WANT(sam_host_is_dirty(&host, 1, &is), SAM_NONE);
+    WANT(sam_host_text(&host, 1, 0, bytes, sizeof bytes, &len, &more), SAM_NONE);
+    WANT(sam_host_saved(&host, 1, 0, bytes, sizeof bytes, &len, &more), SAM_NONE);
+    WANT(sam_host_saved_len(&host, 1, &len), SAM_NONE);
+    WANT(sam_host_dot(&host, 1, &a, &b), SAM_NONE);
+    WANT(sam_term_free(&term), SAM_OK);
+    WANT(sam_host_free(&host), SAM_OK);
+}
+
+/* The command line that the header calls too long, in the text that it names. */
+static void long_line(void)
+{
+    enum { LINES = 250000, RUNES = 600000 };
+    static uint8_t text[RUNES];
+    sam_host host = SAM_HOST_INIT;
+    sam_term term = SAM_TERM_INIT;
+    uint16_t tag;
+    uint32_t len;
+    size_t bytes, runes;
+    uint8_t printed[7];
+    memset(text, 'y', sizeof text);
+    for (size_t i = 0; i < LINES; i++)
+        memcpy(text + 2 * i, "x\n", 2);
+    WANT(sam_host_new(&host), SAM_OK);
+    WANT(sam_host_add_file(&host, BYTES("a"), text, sizeof text, &tag), SAM_OK);
+    WANT(sam_term_new(&term), SAM_OK);
+    WANT(sam_term_offer_version(&term, 2), SAM_OK);
+    WANT(sam_term_open(&term, 1), SAM_OK);
+    WANT(sam_term_open_cmd(&term), SAM_OK);
+    WANT(sam_term_type(&term, 0, BYTES(",x/x\\n/c/y\\n/\n")), SAM_OK);
+    carry(&term, &host);
+    WANT(sam_host_len(&host, 0, &len), SAM_OK);
+    WANT(sam_host_text(&host, 0, len - 7, printed, sizeof printed, &bytes, &runes), SAM_OK);
+    WANT(bytes == 7 && memcmp(printed, "? long\n", 7) == 0, 1);
+    WANT(sam_term_free(&term), SAM_OK);
+    WANT(sam_host_free(&host), SAM_OK);
+}
+
 /* Replays a script into a buffer that has this room, with an untouched byte behind it; wants the status, the line, the number of bytes
  * that are printed, and those that fit. */
 static void replays(const char *script, size_t room, sam_status status, size_t line, const char *printed)
@@ -561,6 +660,9 @@ int main(void)
     too_long();
     not_open();
     puts("refusals");
+    tags_without_a_file();
+    long_line();
+    puts("what the header says of tags and of long lines");
     session();
     puts("a session");
     replaying();
