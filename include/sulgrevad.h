@@ -317,8 +317,11 @@ SAM_MUST_USE sam_status sam_term_set_snarf(sam_term *term, const uint8_t *text, 
 
 /* ---- Events: what is shown ---- */
 
-/* Shows at most len runes from a place on, and asks for those that are not loaded. */
+/* Shows at most len runes from a place on, and asks for those that are not loaded: at most 512 at a time, and then for the next. */
 SAM_MUST_USE sam_status sam_term_view(sam_term *term, uint16_t tag, uint32_t place, uint32_t len);
+
+/* Shows the same, and asks for all of those at once: for at most 64 stretches of 512, so that a page comes in one round trip. */
+SAM_MUST_USE sam_status sam_term_load(sam_term *term, uint16_t tag, uint32_t place, uint32_t len);
 
 /* Shows the file from that many lines further up. */
 SAM_MUST_USE sam_status sam_term_scroll(sam_term *term, uint16_t tag, uint32_t lines);

@@ -176,7 +176,7 @@ static const struct event events[] = {
     {"flush-now", sam_term_flush_now, NULL, NULL}, {"offer-version", NULL, sam_term_offer_version, NULL},
     {"open", NULL, sam_term_open, NULL},           {"write", NULL, sam_term_write, NULL},
     {"work", NULL, sam_term_work, NULL},           {"select", NULL, NULL, sam_term_select},
-    {"view", NULL, NULL, sam_term_view},
+    {"load", NULL, NULL, sam_term_load},
 };
 
 static emacs_value event(emacs_env *env, ptrdiff_t count, emacs_value *words, void *data)

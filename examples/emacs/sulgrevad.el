@@ -11,7 +11,7 @@
 ;; - A hook can't refuse a change: Emacs takes off a hook that signals an error. So a buffer is read-only while its file is locked or not
 ;;   all loaded, and a command first waits until it is free. Code that changes it all the same wins over what the host did meanwhile.
 ;;
-;; Loading takes an answer of the host for each 512 characters. examples/emacs/build, which builds the module, has a word on licences.
+;; A long text takes its time: its first 32,000 characters come at once, and then 512 with each answer of the host. examples/emacs/build, which builds the module, has a word on licences.
 
 ;;; Code:
 
@@ -240,7 +240,7 @@ With IS-PAUSING what was typed is sent, too."
       (with-current-buffer (generate-new-buffer name)
         (setq sulgrevad--tag tag buffer-read-only t buffer-undo-list t)
         (unless (= tag 0) (sulgrevad--open sulgrevad--term tag))
-        (sulgrevad--view sulgrevad--term tag 0 sulgrevad-most-runes)
+        (sulgrevad--load sulgrevad--term tag 0 sulgrevad-most-runes)
         (unless (sulgrevad--wait #'sulgrevad--is-free) (error "The host does not answer"))
         (setq sulgrevad--tick (buffer-chars-modified-tick))
         (sulgrevad--take-over)

@@ -73,6 +73,7 @@ static void no_handles(sam_host *host, sam_term *term)
     WANT(sam_term_dclick(term, 0, 0), SAM_NO_HANDLE);
     WANT(sam_term_scroll(term, 0, 0), SAM_NO_HANDLE);
     WANT(sam_term_view(term, 0, 0, 0), SAM_NO_HANDLE);
+    WANT(sam_term_load(term, 0, 0, 0), SAM_NO_HANDLE);
     WANT(sam_term_open(term, 0), SAM_NO_HANDLE);
     WANT(sam_term_open_cmd(term), SAM_NO_HANDLE);
     WANT(sam_term_new_file(term), SAM_NO_HANDLE);
@@ -279,7 +280,7 @@ static void session(void)
     sam_term term = {0};
     uint16_t tag, version;
     uint32_t a, b, runes[8];
-    uint64_t count;
+    uint64_t count, before;
     size_t len, more;
     uint8_t bytes[64];
     bool is;
@@ -325,7 +326,14 @@ static void session(void)
     WANT(a, 0);
     WANT(sam_term_read(&term, 1, 10, runes, 8, &len), SAM_OK);
     WANT(len == 2 && runes[0] == SAM_GAP && runes[1] == SAM_GAP, 1);
-    WANT(sam_term_view(&term, 1, 0, 12), SAM_OK);
+    WANT(sam_term_view(&term, 1, 4, 3), SAM_OK);
+    carry(&term, &host);
+    WANT(sam_term_first_gap(&term, 1, 4, &a), SAM_OK);
+    WANT(a, 7);
+    WANT(sam_term_sent(&term, &before), SAM_OK);
+    WANT(sam_term_load(&term, 1, 0, 12), SAM_OK); /* the gaps on both sides */
+    WANT(sam_term_sent(&term, &count), SAM_OK);
+    WANT(count - before, 2);
     carry(&term, &host);
     WANT(sam_term_view_of(&term, 1, &a, &b), SAM_OK);
     WANT(a == 0 && b == 12, 1);

@@ -127,6 +127,8 @@ static sam_status do_event(uint32_t kind, uint16_t tag, uint32_t a, uint32_t b, 
         return sam_term_scroll(&term, tag, b % 9);
     case 14:
         return sam_term_view(&term, tag, a, 1 + b);
+    case 27:
+        return sam_term_load(&term, tag, a, 1 + b);
     case 15:
     case 16:
         return sam_term_open(&term, tag);
@@ -157,7 +159,7 @@ static sam_status do_event(uint32_t kind, uint16_t tag, uint32_t a, uint32_t b, 
 
 static void user(void)
 {
-    uint32_t kind = pick(28), a = pick(40), b = pick(40);
+    uint32_t kind = pick(29), a = pick(40), b = pick(40);
     sam_status status;
     uint16_t tag = (uint16_t)pick(FILES + 2);
     const char *text = texts[pick(sizeof texts / sizeof texts[0])];

@@ -271,8 +271,12 @@ class Terminal(_Side):
         self._call("scroll", tag, lines)
 
     def view(self, tag: int, place: int, length: int) -> None:
-        """Shows at most so many runes of the file from a place on, and asks for those that are not loaded."""
+        """Shows at most so many runes of the file from a place on, and asks for those that are not loaded, a stretch at a time."""
         self._call("view", tag, place, length)
+
+    def load(self, tag: int, place: int, length: int) -> None:
+        """Shows the same as `view`, and asks for all that is not loaded at once, so that it comes in one round trip."""
+        self._call("load", tag, place, length)
 
     def open(self, tag: int) -> None:
         """Opens a file, and makes it the work file."""

@@ -64,7 +64,7 @@ const FIRST: u16 = 1;
 /// Makes a first file of `size` runes, all of them `a`, the work file.
 fn start_work(alloc: Global, files: &mut Files, size: u32) -> Result<(), Fault> {
     let runes: Vec<char> = vec![in alloc; 'a'; size as usize]?;
-    if files.new_file(alloc, &['f'], runes.as_slice()).is_err() {
+    if files.new_file(&['f'], runes.as_slice()).is_err() {
         return Err(Fault::Refused);
     }
     match files.set_work(FIRST, 0, 0) {
@@ -74,9 +74,9 @@ fn start_work(alloc: Global, files: &mut Files, size: u32) -> Result<(), Fault> 
 }
 
 /// Runs `,x/a/c/b/` on the work file, and puts the outcome in.
-fn run_line(alloc: Global, files: &mut Files) -> Result<(), Fault> {
+fn run_line(files: &mut Files) -> Result<(), Fault> {
     let line = [',', 'x', '/', 'a', '/', 'c', '/', 'b', '/'];
-    let Ok(outcome) = files.run_line(alloc, &line) else {
+    let Ok(outcome) = files.run_line(&line) else {
         return Err(Fault::System);
     };
     files.commit(outcome);
@@ -91,7 +91,7 @@ fn time_line<R: AllocGlobal + Clock>(
 ) -> Result<Report, Fault> {
     start_work(rt.alloc(), files, size)?;
     let begin = Instant::now(rt)?;
-    run_line(rt.alloc(), files)?;
+    run_line(files)?;
     let took = begin.elapsed(rt)?;
     match files.text(FIRST) {
         Some(text) => Ok(Report {

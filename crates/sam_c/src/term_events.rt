@@ -9,7 +9,7 @@
 ghost use Rattle.std.specs.Prelude.{◌≡◌};
 ghost use Rattle.sam_c.specs.Status.{read_status};
 ghost use Rattle.sam_c.specs.Terms.{TermPut, TermPutText};
-ghost use Rattle.sam_term.specs.declared.event.UserEvent.TheVariants.{Check, Close, Cut, Dclick, Exit, Flush, GetSnarf, Look, New, Open, OpenCmd, Paste, Scroll, Search, Select, Send, SetSnarf, Snarf, Typed, Version, View, Work, Write};
+ghost use Rattle.sam_term.specs.declared.event.UserEvent.TheVariants.{Check, Close, Cut, Dclick, Exit, Flush, GetSnarf, Load, Look, New, Open, OpenCmd, Paste, Scroll, Search, Select, Send, SetSnarf, Snarf, Typed, Version, View, Work, Write};
 
 use crate::handle::SamTerm;
 use crate::status::{NO_HANDLE, NO_MEMORY, NOT_TEXT, term_status};
@@ -191,7 +191,7 @@ pub extern "C" fn sam_term_scroll(term: &mut SamTerm, tag: u16, lines: u32, allo
     put(term, UserEvent::Scroll(tag, lines), alloc)
 }
 
-/// Shows the file from a place on, `len` runes of it. A gap there is asked for.
+/// Shows the file from a place on, `len` runes of it. The first gap there is asked for, and then the next ones.
 #[unsafe(no_mangle)]
 pub extern "C" fn sam_term_view(
     term: &mut SamTerm,
@@ -203,6 +203,21 @@ pub extern "C" fn sam_term_view(
     ensures { TermPut term.old.held.end (View tag place len) result term.new.held.end }
 {
     put(term, UserEvent::View(tag, place, len), alloc)
+}
+
+/// Shows the file from a place on, `len` runes of it, as `sam_term_view` does. All gaps there are asked for at once, in 64 messages of 512
+/// runes at most.
+#[unsafe(no_mangle)]
+pub extern "C" fn sam_term_load(
+    term: &mut SamTerm,
+    tag: u16,
+    place: u32,
+    len: u32,
+    alloc: Global,
+) -> u32
+    ensures { TermPut term.old.held.end (Load tag place len) result term.new.held.end }
+{
+    put(term, UserEvent::Load(tag, place, len), alloc)
 }
 
 /// Opens the command file.

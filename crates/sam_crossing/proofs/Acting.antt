@@ -1,6 +1,6 @@
 -- An event that nothing stands against keeps both sides in order.
-use Rattle.sam_crossing.proofs.Common.{◌≡◌, ℕ, ◌+◌, ◌-◌, ◌≤◌, Bool, true, false, not, ◌==◌, if◌then◌else◌, nat_lt, List, [], ◌∷◌, ◌++◌, length, Option, None, refl, sym, ap, ◌∙◌, subst, eqb-true, eq-eqb, append_assoc, arith, ltb-false, not-false, max_runes, is_empty, del-nothing, del_cells, Tmesg, Tversion, Trequest, Torigin, Ttype, Tcut, Tpaste, Tsnarf, Tdclick, Tack, Hmesg, PlainHost, CommandLock, NoLock, Window, is_command_line, UserEvent, PlainTerminal, window_at, put_window, is_open, has_empty_dot, cut_rasp, composed, all_composed, flushed, sends, unchanged, requested, cuts_dot, types, event_outcome, made_by_type, made_by_cut, made_by_paste, made_by_snarf, made_by_view, Lens, OpenAt, Anything, view, AreTidy, IsTidyWindow, views, InOrder}
-use Rattle.sam_term.specs.declared.event.UserEvent.TheVariants.{Typed, Select, Cut, Paste, Snarf, Dclick, Scroll, View, Version, Flush}
+use Rattle.sam_crossing.proofs.Common.{◌≡◌, ℕ, ◌+◌, ◌-◌, ◌≤◌, Bool, true, false, not, ◌==◌, if◌then◌else◌, nat_lt, List, [], ◌∷◌, ◌++◌, length, Option, None, refl, sym, ap, ◌∙◌, subst, eqb-true, eq-eqb, append_assoc, arith, ltb-false, not-false, max_runes, is_empty, del-nothing, del_cells, Tmesg, Tversion, Trequest, Torigin, Ttype, Tcut, Tpaste, Tsnarf, Tdclick, Tack, Hmesg, PlainHost, CommandLock, NoLock, Window, is_command_line, UserEvent, PlainTerminal, window_at, put_window, is_open, has_empty_dot, cut_rasp, composed, all_composed, flushed, sends, unchanged, requested, cuts_dot, types, event_outcome, made_by_type, made_by_cut, made_by_paste, made_by_snarf, made_by_view, made_by_load, all_wanted, gaps_shown, requests_for, sends_all, Lens, OpenAt, Anything, view, AreTidy, IsTidyWindow, views, InOrder}
+use Rattle.sam_term.specs.declared.event.UserEvent.TheVariants.{Typed, Select, Cut, Paste, Snarf, Dclick, Scroll, View, Load, Version, Flush}
 use Rattle.sam_crossing.specs.Lens as lenses
 use Rattle.sam_crossing.proofs.Lenses.{IsFree, IsOpen, exited_of, command_of}
 use Rattle.sam_crossing.proofs.Changes.{type_change, change_by, cut_out, Within, IsAllowed, CanCompose}
@@ -13,17 +13,48 @@ use Rattle.sam_crossing.proofs.Typing.{types_goes}
 
 -- ## Requests, and acknowledgements
 
+-- one request, under whatever locks
+one_request : (h : PlainHost) (t : PlainTerminal) (up : List Tmesg) (down : List Hmesg) (f p n : ℕ) → InOrder h t up down → t.unsent ≡ None → IsOpen (view f t) → t.has_exited ≡ false
+    → InOrder h (composed t (Trequest f p n)) (up ++ Trequest f p n ∷ []) down
+one_request h t up down f p n o e i here =
+    carried h t (composed t (Trequest f p n)) up down (Trequest f p n) o e (unsent-composed t (Trequest f p n) ∙ e)
+    (requests h (views t) _ down f p n o.kept i here) (λ g. sym (view-composed t (Trequest f p n) i g)) (tidy-composed t (Trequest f p n) o.tidy)
+
+-- which leaves the file open
+still_open : (t : PlainTerminal) (f p n : ℕ) → IsOpen (view f t) → IsOpen (view f (composed t (Trequest f p n)))
+still_open t f p n i = grind (arith, (view-composed t (Trequest f p n) i f), (eq-eqb f f refl))
+
+-- one request after another
+each_request : (h : PlainHost) (t : PlainTerminal) (up : List Tmesg) (down : List Hmesg) (f : ℕ) (xs : List (ℕ × ℕ)) → InOrder h t up down → t.unsent ≡ None → IsOpen (view f t) → t.has_exited ≡ false
+    → InOrder h (all_composed t (requests_for f xs)) (up ++ requests_for f xs) down
+each_request h t up down f [] o e i here = nothing_goes h t up down o
+each_request h t up down f (x ∷ xs) o e i here =
+    let m = Trequest f x.0 x.1 in
+    rw (← append_assoc up (m ∷ []) (requests_for f xs))
+    (each_request h (composed t m) (up ++ m ∷ []) down f xs (one_request h t up down f x.0 x.1 o e i here) (unsent-composed t m ∙ e) (still_open t f x.0 x.1 i) here)
+
+-- the unsent runes, and then these requests
+sent_requests : (h : PlainHost) (t : PlainTerminal) (up : List Tmesg) (down : List Hmesg) (f : ℕ) (xs : List (ℕ × ℕ)) → InOrder h t up down → IsOpen (view f t) → t.has_exited ≡ false
+    → Goes h up down (sends t unchanged (requests_for f xs))
+sent_requests h t up down f xs o is_open here =
+    let same = flushed_views t o.unsent in
+    then_goes h up down (flushed t) (λ u. (all_composed u (requests_for f xs), requests_for f xs))
+    (each_request h (flushed t).0 (up ++ (flushed t).1) down f xs (flushed_goes h t up down o) (unsent-flushed t) (subst (λ (x : ℕ → Lens). IsOpen (x f)) same is_open)
+    (sym (ap (λ (v : ℕ → Lens). exited_of (v 0)) same) ∙ here))
+
 sent_request : (h : PlainHost) (t : PlainTerminal) (up : List Tmesg) (down : List Hmesg) (f p n : ℕ) → InOrder h t up down → IsOpen (view f t) → t.has_exited ≡ false
     → Goes h up down (sends t (λ u. u) (Trequest f p n ∷ []))
-sent_request h t up down f p n o is_open here =
-    let same = flushed_views t o.unsent in
-    let e = unsent-flushed t in
-    let u = flushed_goes h t up down o in
-    let i : IsOpen (view f (flushed t).0) = subst (λ (x : ℕ → Lens). IsOpen (x f)) same is_open in
-    then_goes h up down (flushed t) (λ u. (composed u (Trequest f p n), Trequest f p n ∷ []))
-    (carried h (flushed t).0 (composed (flushed t).0 (Trequest f p n)) (up ++ (flushed t).1) down (Trequest f p n) u e (unsent-composed (flushed t).0 (Trequest f p n) ∙ e)
-    (requests h (views (flushed t).0) _ down f p n u.kept i (sym (ap (λ (v : ℕ → Lens). exited_of (v 0)) same) ∙ here))
-    (λ g. sym (view-composed (flushed t).0 (Trequest f p n) i g)) (tidy-composed (flushed t).0 (Trequest f p n) u.tidy))
+sent_request h t up down f p n o is_open here = sent_requests h t up down f ((p, n) ∷ []) o is_open here
+
+-- all gaps of a view
+loaded_goes : (h : PlainHost) (t : PlainTerminal) (up : List Tmesg) (down : List Hmesg) (f : ℕ) → InOrder h t up down → IsOpen (view f t) → t.has_exited ≡ false
+    → Goes h up down (sends_all (all_wanted t f) t)
+unfolding all_wanted
+loaded_goes h t up down f o is_open here = go (gaps_shown t f)
+  where
+    go : (xs : List (ℕ × ℕ)) → Goes h up down (sends_all (requests_for f xs) t)
+    go [] = nothing_goes h t up down o
+    go (x ∷ xs) = sent_requests h t up down f (x ∷ xs) o is_open here
 
 -- the request rule, whatever locks are held
 pub requested_goes : (h : PlainHost) (t : PlainTerminal) (up : List Tmesg) (down : List Hmesg) (f : ℕ) → InOrder h t up down → Goes h up down (requested t f)
@@ -97,7 +128,7 @@ sent h t up down m o p plain allowed can = sends_goes h t up down m o plain (rec
 
 -- an event that only sends its message needs no row
 pub event_goes : (h : PlainHost) (t : PlainTerminal) (up : List Tmesg) (down : List Hmesg) (e : UserEvent) → InOrder h t up down → Passed t e → Goes h up down (event_outcome t e)
-unfolding made_by_view made_by_snarf made_by_type made_by_paste made_by_cut
+unfolding made_by_view made_by_load made_by_snarf made_by_type made_by_paste made_by_cut
 event_goes h t up down (Typed f s) o pass = then_goes h up down (cuts_dot t f) (λ u. if is_empty s then (u, []) else types u f p s) (go s refl)
   where
     p : ℕ
@@ -158,6 +189,10 @@ event_goes h t up down (Scroll f n) o p =
     sent h t up down (Torigin f a n) o p refl (free_at t f p.free p.unlocked) (open_free (Within a a) t f p.free p.opened p.unlocked (omega arith, (o.tidy f).2))
 event_goes h t up down (View f a n) o p = requested_goes h _ up down f
     (shown_goes h t up down f (record (window_at t f) { view_start = a; view_length = n }) o (opened_at t f (not-false (is_open t f) p.opened)) refl refl (grind (arith, p.place, (o.tidy f))))
+event_goes h t up down (Load f a n) o p =
+    let w = record (window_at t f) { view_start = a; view_length = n } in
+    let i = opened_at t f (not-false (is_open t f) p.opened) in
+    loaded_goes h (put_window t f w) up down f (shown_goes h t up down f w o i refl refl (grind (arith, p.place, (o.tidy f)))) (rw (view-kept t f w i refl refl f) i) p.here
 event_goes h t up down (Version v) o p = grind (arith, (sent h t up down (Tversion v) o p refl (all_free t p.free p.all_unlocked)))
 event_goes h t up down Flush o p = flushed_goes h t up down o
 event_goes h t up down _ o p = search (sent, free_at, all_free, open_free Anything, dot_open, known_at_view)

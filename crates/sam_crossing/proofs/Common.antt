@@ -28,8 +28,8 @@ pub use Rattle.sam_runes.specs.Checks.{Checks, first_of_checks}
 pub use Rattle.sam_runes.specs.Slots.{Slots, free_slot, put_slot, slot}
 pub use Rattle.sam_runes.specs.Texts.{Range, as_lines, common_version, del, ends_line, ins, is_empty, last_line, line_start, max_runes, most_count, most_in_message, part, searched}
 pub use Rattle.sam_term.specs.Events.{is_bad_version, is_command_line, is_for_command_file, lock_of, needs_open, waits_for_all}
-pub use Rattle.sam_term.specs.Term.{Made, PlainTerminal, all_composed, composed, cut_rasp, cuts_dot, del_rasp, edited, event_checks, event_outcome, frame_checks, frame_outcome, has_bad_place, has_empty_dot, is_any_locked, is_closed, is_file_locked, is_known, is_open, is_unknown, joined, joins, known_at, makes_too_long, moved_unsent, new_terminal, put_known, put_window, sends, typed_rasp, types, unchanged, unsent_message, window_after_del, window_after_ins, window_at, window_of}
-unfoldable pub use Rattle.sam_term.specs.Term.{flushed, made_by_cut, made_by_paste, made_by_snarf, made_by_type, made_by_view, requested, took_bindname, took_close, took_cut, took_data, took_exit, took_grow, took_growdata, took_unlockfile}
+pub use Rattle.sam_term.specs.Term.{Made, PlainTerminal, all_composed, composed, cut_rasp, cuts_dot, del_rasp, edited, event_checks, event_outcome, frame_checks, frame_outcome, gaps_shown, has_bad_place, has_empty_dot, is_any_locked, is_closed, is_file_locked, is_known, is_open, is_unknown, joined, joins, known_at, makes_too_long, moved_unsent, new_terminal, put_known, put_window, requests_for, sends, sends_all, typed_rasp, types, unchanged, unsent_message, window_after_del, window_after_ins, window_at, window_of}
+unfoldable pub use Rattle.sam_term.specs.Term.{all_wanted, flushed, made_by_cut, made_by_load, made_by_paste, made_by_snarf, made_by_type, made_by_view, requested, took_bindname, took_close, took_cut, took_data, took_exit, took_grow, took_growdata, took_unlockfile}
 pub use Rattle.sam_term.specs.Windows.{blank_known, blank_window, window_in}
 pub use Rattle.sam_term.specs.declared.event.UserEvent.{UserEvent}
 pub use Rattle.sam_term.specs.declared.fault.TermFault.{TermFault}

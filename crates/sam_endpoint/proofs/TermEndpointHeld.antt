@@ -1,10 +1,12 @@
 -- Events leave the held ones only as they are done or refused, one at a time; frames and flushes leave them all.
-use Rattle.sam_endpoint.proofs.Common.{◌≡◌, refl, ap, ◌∙◌, ℕ, ◌+◌, Bool, List, [], ◌∷◌, length, Option, Some, None, Result, Ok, Err, if◌then◌else◌, arith, Tmesg, HFrame, PlainTerminal, Made, act_of, act_on, decided, if_countable, flush_of, flushed, take_of, event_outcome, frame_outcome, all_composed, composed, sends, sends_if, requested, wanted, unchanged, made_by_type, made_by_cut, made_by_paste, made_by_snarf, made_by_view, took_bindname, took_data, took_grow, took_growdata, took_cut, took_unlockfile, took_close, took_exit, Verdict, Acted, Done, UserEvent, acted_in, term_in, IsDecided}
+use Rattle.sam_endpoint.proofs.Common.{◌≡◌, refl, ap, ◌∙◌, ℕ, ◌+◌, Bool, List, [], ◌∷◌, length, Option, Some, None, Result, Ok, Err, if◌then◌else◌, arith, Tmesg, HFrame, PlainTerminal, Made, act_of, act_on, decided, if_countable, flush_of, flushed, take_of, event_outcome, frame_outcome, all_composed, composed, sends, sends_all, sends_if, requested, wanted, all_wanted, unchanged, made_by_type, made_by_cut, made_by_paste, made_by_snarf, made_by_view, made_by_load, took_bindname, took_data, took_grow, took_growdata, took_cut, took_unlockfile, took_close, took_exit, Verdict, Acted, Done, UserEvent, acted_in, term_in, IsDecided}
 use Rattle.sam_mesg.specs.declared.tmesg.Tmesg.TheVariants.{Tack}
 use Rattle.sam_mesg.specs.declared.hmesg.Hmesg.{Hmesg}
 use Rattle.sam_mesg.specs.declared.hmesg.Hmesg.TheVariants.{Hcheck, Hunlockfile, Hack}
 use Rattle.sam_term.specs.declared.fault.TermFault.{TermFault}
 use Rattle.sam_term.proofs.Edits.{held-composed, flushed-held}
+use Rattle.sam_term.specs.Editing.{shown_from}
+use Rattle.sam_term.specs.declared.event.UserEvent.TheVariants.{Load}
 
 -- the events that are held after messages were composed
 abbrev held_in : Made → List UserEvent
@@ -31,6 +33,10 @@ requested-keeps t f = go (wanted t f)
     go None = refl
     go (Some m) = sends-keeps t (λ u. u) (m ∷ []) (λ u. refl)
 
+all-keeps : (ms : List Tmesg) (t : PlainTerminal) → held_in (sends_all ms t) ≡ t.held
+all-keeps [] t = refl
+all-keeps (m ∷ ms) t = sends-plain t (m ∷ ms)
+
 type-keeps : (t : PlainTerminal) (f : ℕ) (s : List ℕ) → held_in (made_by_type t f s) ≡ t.held
 unfolding made_by_type
 type-keeps t f s = grind (arith, flushed-held)
@@ -43,7 +49,8 @@ leaves-plain : (t : PlainTerminal) (ms : List Tmesg) → Leaves t (sends t uncha
 leaves-plain t ms = record { held = sends-plain t ms }
 
 pub event_keeps : (t : PlainTerminal) (e : UserEvent) → held_in (event_outcome t e) ≡ t.held
-unfolding made_by_cut made_by_paste made_by_snarf made_by_view
+unfolding made_by_cut made_by_paste made_by_snarf made_by_view made_by_load
+event_keeps t (Load f p n) = all-keeps (all_wanted (shown_from t f p n) f) (shown_from t f p n)
 event_keeps t e = grind (arith, type-keeps, sends-plain, either-keeps, requested-keeps, flushed-held, leaves-plain)
 
 pub frame_keeps : (t : PlainTerminal) (m : Hmesg) → held_in (frame_outcome t m) ≡ t.held

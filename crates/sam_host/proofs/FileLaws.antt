@@ -1,10 +1,13 @@
--- Small laws of files: the one that was put, a part of a text, and a snarf buffer that a message holds.
-use Rattle.sam_host.proofs.Common.{◌≡◌, ℕ, ◌-◌, ◌≤◌, List, [], ◌∷◌, length, drop, true, ap, arith, length-append, IsTrue, is_some, encode_utf8_all, length-take, leb-true, max_runes, part, last_snarf_limit, slot-put_same, PlainFile, PlainFiles, put_file, has_file, fits_t, Tsetsnarf}
+-- Small laws of files: what may be put in, a part of a text, and a snarf buffer that a message holds.
+use Rattle.sam_host.proofs.Common.{◌≡◌, ℕ, ◌-◌, ◌≤◌, List, [], ◌∷◌, length, drop, true, ap, arith, length-append, first_of_checks, None, ◌+◌, file_at, IsTrue, is_some, encode_utf8_all, length-take, leb-true, max_runes, part, last_snarf_limit, slot-put_same, PlainFile, PlainFiles, put_file, has_file, fits_t, Tsetsnarf}
+use Rattle.std.proofs.Common.{le-ltb}
 use Rattle.std.proofs.lemmas.Str.{length-encode}
+use Rattle.sam_text.specs.Files.{insert_checks}
 
--- a file that was put may be the work file
-pub put_is_work : (fs : PlainFiles) (f : ℕ) (x : PlainFile) → has_file (put_file fs f x) f ≡ true
-put_is_work fs f x = ap is_some (slot-put_same fs.slots f x)
+-- nothing stands against putting n runes in where there is a file, a place and room for them
+pub insert_allowed : (fs : PlainFiles) (f p n : ℕ) → has_file fs f ≡ true → p ≤ length (file_at fs f).text → length (file_at fs f).text + n ≤ max_runes
+    → first_of_checks (insert_checks fs f p n) ≡ None
+insert_allowed fs f p n there place fits = grind (arith, le-ltb)
 
 pub part_length : (t : List ℕ) (a b : ℕ) → length (part t a b) ≤ b - a
 part_length t a b = omega (arith, length-take (b - a) (drop a t))

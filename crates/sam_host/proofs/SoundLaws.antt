@@ -84,7 +84,7 @@ all-seen seen (m ∷ ms) = All-cons (λ (frame : HFrame). frame.seen ≡ seen) (
 -- ## The laws
 
 pub known_sound : (h : PlainHost) → AreSoundFiles h.files → IsVersion h.version → IsSound h
-known_sound h (tags, command, work, snarf, pattern, fit, short) version = record { names = short; files = fit; version = version }
+known_sound h (tags, command, work, snarf, pattern, fit, short, clean) version = record { names = short; files = fit; version = version }
 
 pub stays_sound : StaysSound
 stays_sound h g m frames e sound =

@@ -1,7 +1,7 @@
 //! The answers to what the terminal asks of a file: a check, a stretch of its text, the start of a line, a word, an occurrence. A method
 //! for a kind leaves the count of messages to its caller, and after an error the host is unchanged.
 
-ghost use Rattle.std.specs.Prelude.{◌≡◌, ◌<◌, ◌≤◌, ◌+◌, ◌^◌, IfOk, OnOk, OnErr, Err, None, length};
+ghost use Rattle.std.specs.Prelude.{◌≡◌, ◌<◌, ◌≤◌, ◌+◌, ◌^◌, IfOk, OnOk, OnErr, Err, None, length, vec_len, vec_capacity};
 ghost use Rattle.sam_host.specs.Host.{host_checks, Refuses, Appends, stamped, told_found, reply_check, reply_request, reply_origin, reply_look, reply_search, reply_dclick};
 ghost use Rattle.sam_runes.specs.Texts.{lines_before};
 ghost use Rattle.sam_runes.specs.Checks.{first_of_checks};
@@ -11,7 +11,7 @@ use crate::fault::HostFault;
 use crate::host::Host;
 use sam_mesg::{HFrame, Hmesg, Tmesg};
 use sam_runes::MOST_IN_MESSAGE;
-use sam_text::{FileChange, may_be_pattern};
+use sam_text::may_be_pattern;
 
 impl Host {
     /// Answers `Tcheck` with `Hcheck`, which reaches the terminal after all that the host has said of the file. Errors, in this order:
@@ -109,30 +109,24 @@ impl Host {
         ensures unchanged { OnErr result (self.new ≡ self.old) }
     {
         self.wants_place(tag, p)?;
-        let (start, end) = self.files.word(tag, p);
-        let mut frames = Vec::new(self.alloc);
-        self.say(&mut frames, Hmesg::Hsetdot(tag, start, end))?;
-        self.say(&mut frames, Hmesg::Hunlockfile(tag))?;
-        self.files.change(tag, FileChange::Dot(start, end));
+        let mut frames = Vec::with_capacity(self.alloc, 2)?;
+        let (start, end) = self.files.double_click(tag, p)?;
+        self.put(&mut frames, Hmesg::Hsetdot(tag, start, end));
+        self.put(&mut frames, Hmesg::Hunlockfile(tag));
         Ok(frames)
     }
 
-    /// Tells an occurrence: it is the dot, the window has to show it, the terminal is to look for gaps, and the file is free.
-    fn tell_found(
-        &self,
-        frames: &mut Vec<HFrame>,
-        tag: u16,
-        p: u32,
-        q: u32,
-    ) -> Result<(), HostFault>
+    /// Tells an occurrence: it is the dot, the window has to show it, the terminal is to look for gaps, and the file is free. There is
+    /// room for these four frames.
+    fn put_found(&self, frames: &mut Vec<HFrame>, tag: u16, p: u32, q: u32)
         requires count { self.now.taken + 1 < 2 ^ 64 }
-        ensures ok { OnOk result (Appends self.now frames.old.items frames.new.items (told_found tag (p, q))) }
-        ensures memory { OnErr result (result ≡ Err HostFault.OutOfMemory) }
+        requires room { vec_len frames.old + 4 ≤ vec_capacity frames.old }
+        ensures { Appends self.now frames.old.items frames.new.items (told_found tag (p, q)) }
     {
-        self.say(frames, Hmesg::Hsetdot(tag, p, q))?;
-        self.say(frames, Hmesg::Hmoveto(tag, p))?;
-        self.say(frames, Hmesg::Hcheck(tag))?;
-        self.say(frames, Hmesg::Hunlockfile(tag))
+        self.put(frames, Hmesg::Hsetdot(tag, p, q));
+        self.put(frames, Hmesg::Hmoveto(tag, p));
+        self.put(frames, Hmesg::Hcheck(tag));
+        self.put(frames, Hmesg::Hunlockfile(tag));
     }
 
     /// Answers `Tlook`: what stands from `p` to `q` becomes the pattern, and its first occurrence from `q` on, else from the start,
@@ -150,23 +144,17 @@ impl Host {
         ensures unchanged { OnErr result (self.new ≡ self.old) }
     {
         self.wants_range(tag, p, q)?;
-        let lit = self.part(tag, p, q)?;
-        let mut frames = Vec::new(self.alloc);
-        if !may_be_pattern(lit.as_slice()) {
-            self.say(&mut frames, Hmesg::Hunlockfile(tag))?;
+        let mut frames = Vec::with_capacity(self.alloc, 5)?;
+        if !may_be_pattern(self.files.part(tag, p, q)) {
+            self.put(&mut frames, Hmesg::Hunlockfile(tag));
             return Ok(frames);
         }
-        match self.files.find(tag, lit.as_slice(), q) {
-            None => {
-                self.say(&mut frames, Hmesg::Hunlockfile(tag))?;
-                self.files.put_pattern(lit);
-            }
+        let pattern = self.part(tag, p, q)?;
+        match self.files.look(tag, p, q)? {
+            None => self.put(&mut frames, Hmesg::Hunlockfile(tag)),
             Some((start, end)) => {
-                let copy = lit.copy(self.alloc)?;
-                self.say(&mut frames, Hmesg::Hsetpat(copy))?;
-                self.tell_found(&mut frames, tag, start, end)?;
-                self.files.change(tag, FileChange::Dot(start, end));
-                self.files.put_pattern(lit);
+                self.put(&mut frames, Hmesg::Hsetpat(pattern));
+                self.put_found(&mut frames, tag, start, end);
             }
         }
         Ok(frames)
@@ -186,13 +174,10 @@ impl Host {
         ensures unchanged { OnErr result (self.new ≡ self.old) }
     {
         self.wants_range(tag, p, q)?;
-        let mut frames = Vec::new(self.alloc);
-        match self.files.search_from(tag, q) {
-            None => self.say(&mut frames, Hmesg::Hunlockfile(tag))?,
-            Some((start, end)) => {
-                self.tell_found(&mut frames, tag, start, end)?;
-                self.files.change(tag, FileChange::Dot(start, end));
-            }
+        let mut frames = Vec::with_capacity(self.alloc, 4)?;
+        match self.files.search(tag, p, q)? {
+            None => self.put(&mut frames, Hmesg::Hunlockfile(tag)),
+            Some((start, end)) => self.put_found(&mut frames, tag, start, end),
         }
         Ok(frames)
     }

@@ -1,7 +1,7 @@
-//! The answers to what changes a file or the snarf buffer: cutting, pasting, snarfing and writing, and how typed runes are put in. A
-//! method for a kind leaves the count of messages to its caller, and after an error the host is unchanged.
+//! The answers to what changes a file or the snarf buffer: cutting, pasting, snarfing and writing. A method for a kind
+//! leaves the count of messages to its caller, and after an error the host is unchanged.
 
-ghost use Rattle.std.specs.Prelude.{◌≡◌, ◌<◌, ◌≤◌, ◌+◌, ◌∷◌, [], ◌^◌, IfOk, OnOk, OnErr, Err, None, IsTrue, true, length};
+ghost use Rattle.std.specs.Prelude.{◌≡◌, ◌<◌, ◌≤◌, ◌+◌, ◌∷◌, [], ◌^◌, IfOk, IfErr, OnOk, OnErr, Err, None, Some, IsTrue, true, length};
 ghost use Rattle.sam_host.specs.Host.{host_checks, Refuses, Appends, stamped, told_paste, with_file, reply_cut, reply_paste, reply_snarf, reply_setsnarf, reply_startsnarf, reply_write};
 ghost use Rattle.sam_runes.specs.Texts.{max_runes};
 ghost use Rattle.sam_runes.specs.Checks.{first_of_checks};
@@ -13,7 +13,6 @@ use crate::host::Host;
 use sam_mesg::{HFrame, Hmesg, Tmesg};
 use sam_runes::places::prefix_in_bytes;
 use sam_runes::{Runes, snarf_limit};
-use sam_text::FileChange;
 
 impl Host {
     /// Answers `Tcut` with no frame: takes out what stands from `p` to `q`, as the terminal has done already. The dot is then empty, at
@@ -26,11 +25,13 @@ impl Host {
         ensures host { OnOk result (self.new ≡ (reply_cut self.old tag p q).0) }
         ensures frames { IfOk result (λ frames. frames.items ≡ stamped (self.old.taken + 1) (reply_cut self.old tag p q).1) }
         ensures refused { Refuses self.old (Tmesg.Tcut tag p q) result }
+        // It takes no memory.
+        ensures memory { IfErr result (λ why. first_of_checks (host_checks self.old (Tmesg.Tcut tag p q)) ≡ Some why) }
         ensures count { self.new.taken ≡ self.old.taken }
         ensures unchanged { OnErr result (self.new ≡ self.old) }
     {
-        self.wants_range(tag, p, q)?;
-        self.files.change(tag, FileChange::Cut(p, q, tag == 0));
+        self.wants_open(tag)?;
+        self.files.delete(tag, p, q)?;
         Ok(Vec::new(self.alloc))
     }
 
@@ -63,22 +64,6 @@ impl Host {
         Ok(frames)
     }
 
-    /// Puts pasted runes in at `p` and selects them. The only error is `OutOfMemory`, and the host is then unchanged.
-    fn put_pasted(&mut self, tag: u16, p: u32, runes: &[char]) -> Result<(), HostFault>
-        requires there { has_file self.old.files tag ≡ true }
-        requires place { p ≤ length (file_at self.old.files tag).text }
-        requires fits { length (file_at self.old.files tag).text + length runes.now ≤ max_runes }
-        ensures ok { OnOk result (self.new ≡ with_file self.old tag (pasted_file tag (file_at self.old.files tag) p runes.now)) }
-        ensures memory { OnErr result (result ≡ Err HostFault.OutOfMemory) }
-        ensures unchanged { OnErr result (self.new ≡ self.old) }
-    {
-        let end = p + runes.len() as u32;
-        match self.files.put_in(tag, p, runes, (p, end), tag == 0) {
-            Ok(()) => Ok(()),
-            Err(_) => Err(HostFault::OutOfMemory),
-        }
-    }
-
     /// Answers `Tpaste`: puts the snarf buffer in at `p`, selects it, and tells the terminal what came in. Any file but the command file
     /// is then dirty. If the buffer is empty, or the text would have more than `MAX_RUNES` runes, nothing changes, and `Hunlockfile` is
     /// the one frame. Errors, in this order: `NoFile`; `NotOpen`; `BadPosition` if `p` is past the end; `OutOfMemory`.
@@ -99,9 +84,8 @@ impl Host {
             self.say(&mut frames, Hmesg::Hunlockfile(tag))?;
             return Ok(frames);
         }
-        let runes = self.files.snarf_text().copy(self.alloc)?;
-        let frames = self.paste_frames(tag, p, runes.as_slice())?;
-        self.put_pasted(tag, p, runes.as_slice())?;
+        let frames = self.paste_frames(tag, p, self.files.snarf_text().as_slice())?;
+        self.files.paste(tag, p)?;
         Ok(frames)
     }
 
@@ -118,10 +102,9 @@ impl Host {
         ensures unchanged { OnErr result (self.new ≡ self.old) }
     {
         self.wants_range(tag, p, q)?;
-        let runes = self.part(tag, p, q)?;
         let mut frames = Vec::new(self.alloc);
         self.say(&mut frames, Hmesg::Hsnarflen(q - p))?;
-        self.files.put_snarf(runes);
+        self.files.snarf(tag, p, q)?;
         Ok(frames)
     }
 
@@ -177,28 +160,10 @@ impl Host {
     {
         self.wants_other(tag)?;
         self.wants_open(tag)?;
-        let runes = self.files.copy_text(self.alloc, tag)?;
         let mut frames = Vec::new(self.alloc);
         self.say(&mut frames, Hmesg::Hclean(tag))?;
         self.say(&mut frames, Hmesg::Hunlockfile(tag))?;
-        self.files.change(tag, FileChange::Saved(runes));
+        self.files.write(tag)?;
         Ok(frames)
-    }
-
-    /// Puts typed runes in at `p`. The dot is then empty, behind them, and any file but the command file is dirty. The only error is
-    /// `OutOfMemory`, and the host is then unchanged.
-    pub(crate) fn put_typed(&mut self, tag: u16, p: u32, runes: &[char]) -> Result<(), HostFault>
-        requires there { has_file self.old.files tag ≡ true }
-        requires place { p ≤ length (file_at self.old.files tag).text }
-        requires fits { length (file_at self.old.files tag).text + length runes.now ≤ max_runes }
-        ensures ok { OnOk result (self.new ≡ with_file self.old tag (typed_file tag (file_at self.old.files tag) p runes.now)) }
-        ensures memory { OnErr result (result ≡ Err HostFault.OutOfMemory) }
-        ensures unchanged { OnErr result (self.new ≡ self.old) }
-    {
-        let end = p + runes.len() as u32;
-        match self.files.put_in(tag, p, runes, (end, end), tag == 0) {
-            Ok(()) => Ok(()),
-            Err(_) => Err(HostFault::OutOfMemory),
-        }
     }
 }

@@ -1,6 +1,6 @@
 //! Typing, command lines, and new files. A line is run when its newline is typed into the command file, or when it is sent there. What it
-//! does is worked out first, then told, and put in last, so that want of memory changes nothing. The functions that tell add frames to
-//! those of the answer. The only error of a private function is `OutOfMemory`, and the host is then unchanged.
+//! does is worked out first, then told, and put in last, so that nothing of it is changed when memory runs out. The functions that tell
+//! add frames to those of the answer. The only error of a private function is `OutOfMemory`, and the host is then unchanged.
 
 ghost use Rattle.std.specs.Prelude.{◌≡◌, ◌<◌, ◌≤◌, ◌+◌, ◌-◌, ◌++◌, ◌∷◌, [], ◌^◌, IfOk, IsTrue, OnOk, OnErr, Err, None, Some, true, not, ◌&&◌, nat_lt, if◌then◌else◌, length};
 ghost use Rattle.sam_host.specs.Typing.{reply_line_to, typed_line, sent};
@@ -8,7 +8,7 @@ ghost use Rattle.sam_host.specs.Host.{host_checks, Refuses, Appends, stamped, wh
 ghost use Rattle.sam_runes.specs.Texts.{max_runes, del, is_empty, part, as_lines, last_line, ends_line};
 ghost use Rattle.sam_runes.specs.Edits.{inserted};
 ghost use Rattle.sam_runes.specs.Checks.{first_of_checks};
-ghost use Rattle.sam_text.specs.Files.{has_file, file_at, cut_file, after_print, IsOutcomeOf};
+ghost use Rattle.sam_text.specs.Files.{has_file, file_at, cut_file, typed_file, after_print, IsOutcomeOf};
 ghost use Rattle.sam_text.specs.Outcomes.{effect};
 ghost use Rattle.sam_text.specs.Meaning.{meaning, nothing};
 
@@ -17,10 +17,10 @@ use crate::host::Host;
 use sam_mesg::{HFrame, Hmesg, Tmesg};
 use sam_runes::places::start_of_line;
 use sam_runes::{ALL_TAGS, Edit, Runes};
-use sam_text::{FileChange, Outcome};
+use sam_text::Outcome;
 
 impl Host {
-    /// Tells what an edit takes out: nothing if the range is empty.
+    /// Appends what an edit takes out: nothing if the range is empty.
     #[tactic(auto, unfolding(crate::specs::Host::when))]
     fn tell_cut(&self, frames: &mut Vec<HFrame>, tag: u16, p: u32, q: u32) -> Result<(), HostFault>
         requires count { self.now.taken + 1 < 2 ^ 64 }
@@ -33,7 +33,7 @@ impl Host {
         Ok(())
     }
 
-    /// Tells one edit of a file: what goes, and then what comes.
+    /// Appends one edit of a file: what goes, and then what comes.
     #[tactic(auto, using(crate::proofs::FrameLaws::told_both), unfolding(crate::specs::Host::told_edit))]
     fn tell_edit(&self, frames: &mut Vec<HFrame>, tag: u16, edit: &Edit) -> Result<(), HostFault>
         requires count { self.now.taken + 1 < 2 ^ 64 }
@@ -45,7 +45,7 @@ impl Host {
         self.grown(frames, tag, edit.p, edit.text.as_slice())
     }
 
-    /// Tells the edits of a file from the last to the first, so that each place is still true.
+    /// Appends the edits of a file from the last to the first, so that each place is still true.
     #[tactic(auto, using(crate::proofs::RunLaws::edit_told, crate::proofs::RunLaws::text_below_inserted))]
     fn tell_edits(
         &self,
@@ -66,7 +66,7 @@ impl Host {
         Ok(())
     }
 
-    /// Tells the name that a line sets, if it sets one.
+    /// Appends the name that a line sets, if it sets one.
     #[tactic(auto, unfolding(crate::specs::Host::when_given))]
     fn tell_new_name(
         &self,
@@ -87,7 +87,7 @@ impl Host {
         }
     }
 
-    /// Tells the pattern that a line leaves, if it has one.
+    /// Appends the pattern that a line leaves, if it has one.
     #[tactic(auto, unfolding(crate::specs::Host::when_given))]
     fn tell_pattern(
         &self,
@@ -107,7 +107,7 @@ impl Host {
         }
     }
 
-    /// Tells the dot that a line leaves, if it leaves one.
+    /// Appends the dot that a line leaves, if it leaves one.
     #[tactic(auto, unfolding(crate::specs::Host::when_given))]
     fn tell_dot(
         &self,
@@ -125,7 +125,7 @@ impl Host {
         }
     }
 
-    /// Tells that a clean file becomes dirty, if there is an edit.
+    /// Appends that a clean file becomes dirty, if there is an edit.
     #[tactic(auto, unfolding(crate::specs::Host::when))]
     fn tell_edited(
         &self,
@@ -144,7 +144,7 @@ impl Host {
         self.say(frames, Hmesg::Hdirty(tag))
     }
 
-    /// Tells the terminal to look for gaps in a file, if there is an edit.
+    /// Appends the terminal to look for gaps in a file, if there is an edit.
     #[tactic(auto, unfolding(crate::specs::Host::when))]
     fn tell_check(
         &self,
@@ -163,7 +163,7 @@ impl Host {
         self.say(frames, Hmesg::Hcheck(tag))
     }
 
-    /// Tells what a line did to a file: its edits, the mark, the name, the pattern and the dot, in this order, and `Hcheck` last.
+    /// Appends what a line did to a file: its edits, the mark, the name, the pattern and the dot, in this order, and `Hcheck` last.
     fn tell_parts(
         &self,
         frames: &mut Vec<HFrame>,
@@ -189,7 +189,7 @@ impl Host {
         Ok(())
     }
 
-    /// Tells what a line did to its file. It hands the parts of the outcome to `tell_parts`.
+    /// Appends what a line did to its file. It hands the parts of the outcome to `tell_parts`.
     #[tactic(auto, unfolding(crate::specs::Host::told_outcome))]
     fn tell_changed(
         &self,
@@ -214,7 +214,7 @@ impl Host {
         )
     }
 
-    /// Tells what a line did. An outcome that names no file has at most a pattern to tell.
+    /// Appends what a line did. An outcome that names no file has at most a pattern to tell.
     #[tactic(auto, unfolding(crate::specs::Host::told_outcome))]
     fn tell_outcome(&self, frames: &mut Vec<HFrame>, outcome: &Outcome) -> Result<(), HostFault>
         requires count { self.now.taken + 1 < 2 ^ 64 }
@@ -229,7 +229,7 @@ impl Host {
         }
     }
 
-    /// Tells how a line ends: the session is over, or the command lock is free.
+    /// Appends how a line ends: the session is over, or the command lock is free.
     fn tell_end(&self, frames: &mut Vec<HFrame>, quit: bool) -> Result<(), HostFault>
         requires count { self.now.taken + 1 < 2 ^ 64 }
         ensures ok { OnOk result (Appends self.now frames.old.items frames.new.items ((if quit then Hmesg.Hexit else Hmesg.Hunlock) ∷ [])) }
@@ -242,7 +242,7 @@ impl Host {
         }
     }
 
-    /// Tells a line: what it did, what it prints, and how it ends. The files are still as they were before the line.
+    /// Appends a line: what it did, what it prints, and how it ends. The files are still as they were before the line.
     #[tactic(auto, using(crate::proofs::RunLaws::told_line))]
     fn tell_line(&self, frames: &mut Vec<HFrame>, outcome: &Outcome) -> Result<(), HostFault>
         requires count { self.now.taken + 1 < 2 ^ 64 }
@@ -253,8 +253,7 @@ impl Host {
     {
         self.tell_outcome(frames, outcome)?;
         self.tell_print(frames, outcome.printed.as_slice())?;
-        self.tell_end(frames, outcome.quit)?;
-        Ok(())
+        self.tell_end(frames, outcome.quit)
     }
 
     /// Puts the outcome of a line in, with what it prints. The print comes first: it alone asks for memory, and it changes another file
@@ -267,10 +266,7 @@ impl Host {
         ensures unchanged { OnErr result (self.new ≡ self.old) }
     {
         let quit = outcome.quit;
-        match self.files.print(outcome.printed.as_slice()) {
-            Ok(_) => {}
-            Err(_) => return Err(HostFault::OutOfMemory),
-        }
+        self.files.print(outcome.printed.as_slice())?;
         self.files.commit(outcome);
         self.done = quit;
         Ok(())
@@ -284,10 +280,7 @@ impl Host {
         ensures memory { OnErr result (result ≡ Err HostFault.OutOfMemory) }
     {
         self.files.facts();
-        match self.files.run_line(self.alloc, line) {
-            Ok(outcome) => Ok(outcome),
-            Err(_) => Err(HostFault::OutOfMemory),
-        }
+        Ok(self.files.run_line(line)?)
     }
 
     /// Runs a line, without its newline, whose text stands in the command file already, and adds its frames. The only error is
@@ -295,7 +288,7 @@ impl Host {
     pub(crate) fn run(&mut self, frames: &mut Vec<HFrame>, line: &[char]) -> Result<(), HostFault>
         requires count { self.old.taken + 1 < 2 ^ 64 }
         ensures host { OnOk result (self.new ≡ (reply_line self.old [] line.now).0) }
-        ensures frames { OnOk result (Tells self.old frames.old.items frames.new.items (reply_line self.old [] line.now).1) }
+        ensures frames { OnOk result (Appends self.old frames.old.items frames.new.items (reply_line self.old [] line.now).1) }
         ensures memory { OnErr result (result ≡ Err HostFault.OutOfMemory) }
         ensures unchanged { OnErr result (self.new ≡ self.old) }
     {
@@ -304,13 +297,29 @@ impl Host {
         self.put_outcome(outcome)
     }
 
+    /// Puts typed runes in at `p`. The dot is then empty, behind them, and any file but the command file is dirty.
+    #[tactic(auto, using(crate::proofs::FileLaws::insert_allowed))]
+    fn put_typed(&mut self, tag: u16, p: u32, runes: &[char]) -> Result<(), HostFault>
+        requires there { has_file self.old.files tag ≡ true }
+        requires place { p ≤ length (file_at self.old.files tag).text }
+        requires fits { length (file_at self.old.files tag).text + length runes.now ≤ max_runes }
+        ensures ok { OnOk result (self.new ≡ with_file self.old tag (typed_file tag (file_at self.old.files tag) p runes.now)) }
+        ensures memory { OnErr result (result ≡ Err HostFault.OutOfMemory) }
+        ensures unchanged { OnErr result (self.new ≡ self.old) }
+    {
+        self.files.insert(tag, p, runes)?;
+        Ok(())
+    }
+
     /// Takes out what stands from `p` to `q` in the command file.
     fn cut_command(&mut self, p: u32, q: u32)
         requires there { has_file self.old.files 0 ≡ true }
         requires range { (p ≤ q) × (q ≤ length (file_at self.old.files 0).text) }
         ensures { self.new ≡ with_file self.old 0 (cut_file 0 (file_at self.old.files 0) p q) }
     {
-        self.files.change(0, FileChange::Cut(p, q, true));
+        if self.files.delete(0, p, q).is_err() {
+            unreachable!()
+        }
     }
 
     /// Sets the dot of the command file.
@@ -319,7 +328,9 @@ impl Host {
         requires range { (dot.0 ≤ dot.1) × (dot.1 ≤ length (file_at self.old.files 0).text) }
         ensures { self.new ≡ with_file self.old 0 (record (file_at self.old.files 0) { dot = dot }) }
     {
-        self.files.change(0, FileChange::Dot(dot.0, dot.1));
+        if self.files.set_dot(0, dot.0, dot.1).is_err() {
+            unreachable!()
+        }
     }
 
     /// Takes what was put into the command file last, from `p` to `q`, out of it again, and sets its dot back.
@@ -375,8 +386,8 @@ impl Host {
         Ok(frames)
     }
 
-    /// Types runes that end in a newline into the command file at `p`, and runs the line that this newline ends. If the line meets want
-    /// of memory, what was typed is taken out again.
+    /// Types runes that end in a newline into the command file at `p`, and runs the line that this newline ends. The line is read where
+    /// it stands, so the runes are typed first. If memory then runs out, what was typed is taken out again, which asks for none.
     fn type_line(&mut self, p: u32, runes: &[char]) -> Result<Vec<HFrame>, HostFault>
         requires count { self.old.taken + 1 < 2 ^ 64 }
         requires filled { 0 < length runes.now }
@@ -401,8 +412,8 @@ impl Host {
         }
     }
 
-    /// Puts `runes` at the end of the command file, and runs `line`, which is their last line. If the line meets want of memory, what was
-    /// put there is taken out again.
+    /// Puts `runes` at the end of the command file, and runs `line`, which is their last line. If memory runs out for the line, what was
+    /// put there is taken out again, which asks for none.
     fn send_line(
         &mut self,
         frames: Vec<HFrame>,
@@ -412,7 +423,7 @@ impl Host {
         requires count { self.old.taken + 1 < 2 ^ 64 }
         requires fits { length (file_at self.old.files 0).text + length runes.now ≤ max_runes }
         ensures host { OnOk result (self.new ≡ (reply_line (sent self.old runes.now) [] line.now).0) }
-        ensures frames { IfOk result (λ all. Tells self.old frames.items all.items (reply_line (sent self.old runes.now) [] line.now).1) }
+        ensures frames { IfOk result (λ all. Appends self.old frames.items all.items (reply_line (sent self.old runes.now) [] line.now).1) }
         ensures memory { OnErr result (result ≡ Err HostFault.OutOfMemory) }
         ensures count { self.new.taken ≡ self.old.taken }
         ensures unchanged { OnErr result (self.new ≡ self.old) }
@@ -450,13 +461,10 @@ impl Host {
         ensures count { self.new.taken ≡ self.old.taken }
         ensures unchanged { OnErr result (self.new ≡ self.old) }
     {
-        self.wants_place(tag, p)?;
-        if self.files.passes_limit(tag, runes.len()) {
-            return Err(HostFault::TooLong);
-        }
+        self.wants_open(tag)?;
+        self.files.wants_insert(tag, p, runes.len())?;
         if tag == 0 && ends_line(runes.as_slice()) {
-            let frames = self.type_line(p, runes.as_slice())?;
-            return Ok(frames);
+            return self.type_line(p, runes.as_slice());
         }
         self.put_typed(tag, p, runes.as_slice())?;
         Ok(Vec::new(self.alloc))
@@ -495,7 +503,7 @@ impl Host {
         requires filled { 0 < length lines.now }
         requires fits { length (file_at self.old.files 0).text + length lines.now ≤ max_runes }
         ensures host { OnOk result (self.new ≡ (reply_line (sent self.old lines.now) [] (last_line lines.now)).0) }
-        ensures frames { IfOk result (λ frames. Tells self.old
+        ensures frames { IfOk result (λ frames. Appends self.old
             (stamped (self.old.taken + 1) (printed self.old.files lines.now)) frames.items
             (reply_line (sent self.old lines.now) [] (last_line lines.now)).1) }
         ensures memory { OnErr result (result ≡ Err HostFault.OutOfMemory) }
@@ -525,16 +533,13 @@ impl Host {
     {
         self.wants_range(tag, p, q)?;
         if p == q {
-            let frames = self.nothing_sent()?;
-            return Ok(frames);
+            return self.nothing_sent();
         }
         let lines = self.lines_of(tag, p, q)?;
         if self.files.passes_limit(0, lines.len()) {
-            let frames = self.nothing_sent()?;
-            return Ok(frames);
+            return self.nothing_sent();
         }
-        let frames = self.send_lines(lines.as_slice())?;
-        Ok(frames)
+        self.send_lines(lines.as_slice())
     }
 
     /// Answers a `Tstartnewfile` after all tags were given: prints `? no tag`, and frees the command lock.
@@ -551,16 +556,14 @@ impl Host {
         let mut frames = Vec::new(self.alloc);
         self.tell_print(&mut frames, &words)?;
         self.say(&mut frames, Hmesg::Hunlock)?;
-        match self.files.print(&words) {
-            Ok(_) => Ok(frames),
-            Err(_) => Err(HostFault::OutOfMemory),
-        }
+        self.files.print(&words)?;
+        Ok(frames)
     }
 
     /// Answers `Tstartnewfile`: makes an empty, clean file with no name under the next tag, opens it, and makes it the work file. If all
     /// tags were given, `? no tag` is printed instead. The only error is `OutOfMemory`, and the host is then unchanged. The caller
     /// counts the message.
-    #[tactic(auto, using(crate::proofs::FileLaws::put_is_work), unfolding(crate::specs::Host::reply_startnewfile))]
+    #[tactic(auto, unfolding(crate::specs::Host::reply_startnewfile))]
     pub(crate) fn start_new_file(&mut self) -> Result<Vec<HFrame>, HostFault>
         requires { self.old.taken + 1 < 2 ^ 64 }
         ensures allowed { OnOk result (first_of_checks (host_checks self.old Tmesg.Tstartnewfile) ≡ None) }
@@ -572,8 +575,7 @@ impl Host {
     {
         let tags = self.files.tags();
         if tags >= ALL_TAGS {
-            let frames = self.no_tag_left()?;
-            return Ok(frames);
+            return self.no_tag_left();
         }
         let tag = tags as u16;
         let mut frames = Vec::new(self.alloc);
@@ -581,11 +583,7 @@ impl Host {
         self.say(&mut frames, Hmesg::Hbindname(tag))?;
         self.say(&mut frames, Hmesg::Hcurrent(tag))?;
         self.say(&mut frames, Hmesg::Hunlock)?;
-        match self.files.start_file(self.alloc) {
-            Ok(_) => {}
-            Err(_) => return Err(HostFault::OutOfMemory),
-        }
-        self.files.put_work(tag);
+        self.files.start_file()?;
         Ok(frames)
     }
 }

@@ -1,6 +1,6 @@
 //! The answers to the version, to what opens, chooses or closes a file, and to the end of the session. (`start_new_file` stands in
-//! `lines`, since it may have to print.) A method for a kind leaves the count of messages to its caller, and after an error the host is
-//! unchanged.
+//! `command_lines`, since it may have to print.) A method for a kind leaves the count of messages to its caller, and after an error the
+//! host is unchanged.
 
 ghost use Rattle.std.specs.Prelude.{◌≡◌, ◌<◌, ◌+◌, ◌∷◌, [], ◌^◌, IfOk, OnOk, OnErr, Err, None, Some, true, not, drop};
 ghost use Rattle.sam_host.specs.Host.{host_checks, Refuses, Appends, stamped, when, told_length, told_names, with_files, reply_version, reply_startcmdfile, reply_startfile, reply_workfile, reply_close, reply_exit};
@@ -12,7 +12,6 @@ use crate::fault::HostFault;
 use crate::host::Host;
 use sam_mesg::{HFrame, Hmesg, Tmesg};
 use sam_runes::{Runes, common_version};
-use sam_text::FileChange;
 
 impl Host {
     /// Tells how the answer to `Tversion` ends: the terminal is asked for a `Tack`, and the command lock is free.
@@ -90,7 +89,7 @@ impl Host {
         self.say(&mut frames, Hmesg::Hbindname(0))?;
         self.tell_length(&mut frames, 0)?;
         self.say(&mut frames, Hmesg::Hunlock)?;
-        self.files.change(0, FileChange::Open);
+        self.files.open(0)?;
         Ok(frames)
     }
 
@@ -109,18 +108,6 @@ impl Host {
         self.tell_length(frames, tag)
     }
 
-    /// Makes a change of a file, and makes it the work file.
-    #[tactic(auto, using(crate::proofs::FileLaws::put_is_work))]
-    fn change_work(&mut self, tag: u16, change: FileChange)
-        requires there { has_file self.old.files tag ≡ true }
-        requires other { 0 < tag }
-        requires fits { FitsIn change (file_at self.old.files tag) }
-        ensures { self.new ≡ with_files self.old (record (change_file self.old.files tag (changed change)) { work = Some tag }) }
-    {
-        self.files.change(tag, change);
-        self.files.put_work(tag);
-    }
-
     /// Answers `Tstartfile`: opens a file and makes it the work file. Its window and its length are told only if it was not open before.
     /// Errors, in this order: `NoFile`; `CommandFile`; `OutOfMemory`.
     #[tactic(auto, using(crate::proofs::FrameLaws::stamped_append), unfolding(crate::specs::Host::reply_startfile))]
@@ -137,7 +124,7 @@ impl Host {
         let mut frames = Vec::new(self.alloc);
         self.tell_opening(&mut frames, tag)?;
         self.say(&mut frames, Hmesg::Hunlock)?;
-        self.change_work(tag, FileChange::Open);
+        self.files.open_work(tag)?;
         Ok(frames)
     }
 
@@ -157,7 +144,7 @@ impl Host {
         self.wants_range(tag, p, q)?;
         let mut frames = Vec::new(self.alloc);
         self.say(&mut frames, Hmesg::Hcurrent(tag))?;
-        self.change_work(tag, FileChange::Dot(p, q));
+        self.files.set_work(tag, p, q)?;
         Ok(frames)
     }
 
@@ -179,7 +166,7 @@ impl Host {
         self.say(&mut frames, Hmesg::Hclose(tag))?;
         self.say(&mut frames, Hmesg::Hdelname(tag))?;
         self.say(&mut frames, Hmesg::Hunlock)?;
-        self.files.remove(tag);
+        self.files.close(tag)?;
         Ok(frames)
     }
 

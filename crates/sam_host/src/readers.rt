@@ -2,6 +2,7 @@
 
 ghost use Rattle.std.specs.Prelude.{◌≡◌};
 ghost use Rattle.sam_host.specs.Laws.{IsSound};
+ghost use Rattle.sam_text.specs.Files.{IsCommandFileClean};
 
 use crate::host::Host;
 use sam_text::Files;
@@ -40,6 +41,13 @@ impl Host {
     #[tactic(auto, using(crate::proofs::SoundLaws::known_sound))]
     pub fn facts(&self)
         ensures { IsSound self.now }
+    {
+        self.files.facts();
+    }
+
+    /// Tells that the command file is never dirty, whatever is typed, pasted or printed there. It does nothing when the program runs.
+    pub fn command_file_facts(&self)
+        ensures { IsCommandFileClean self.now.files }
     {
         self.files.facts();
     }

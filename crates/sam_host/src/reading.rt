@@ -26,7 +26,7 @@ impl Host {
         ensures ok { IfOk result (λ r. r ≡ part (file_at self.now.files tag).text p q) }
         ensures memory { OnErr result (result ≡ Err HostFault.OutOfMemory) }
     {
-        Ok(self.files.copy_part(self.alloc, tag, p, q)?)
+        Ok(self.files.copy_part(tag, p, q)?)
     }
 
     /// Tests that the file is there, and is not the command file. Errors, in this order: `NoFile`; `CommandFile`.
@@ -35,9 +35,7 @@ impl Host {
         ensures there { OnOk result (has_file self.now.files tag ≡ true) }
         ensures other { OnOk result ((tag == 0) ≡ false) }
     {
-        if !self.files.has(tag) {
-            return Err(HostFault::NoFile);
-        }
+        self.files.wants_file(tag)?;
         if tag == 0 {
             return Err(HostFault::CommandFile);
         }
@@ -49,9 +47,7 @@ impl Host {
         ensures answer { result ≡ unless (first_of_checks (unknown self.now tag ∷ not_opened self.now tag ∷ [])) tt }
         ensures there { OnOk result (has_file self.now.files tag ≡ true) }
     {
-        if !self.files.has(tag) {
-            return Err(HostFault::NoFile);
-        }
+        self.files.wants_file(tag)?;
         if !self.files.is_open(tag) {
             return Err(HostFault::NotOpen);
         }
@@ -67,9 +63,7 @@ impl Host {
         ensures within { OnOk result (p ≤ length (file_at self.now.files tag).text) }
     {
         self.wants_open(tag)?;
-        if self.files.is_past_end(tag, p) {
-            return Err(HostFault::BadPosition);
-        }
+        self.files.wants_place(tag, p)?;
         Ok(())
     }
 
@@ -84,9 +78,7 @@ impl Host {
     {
         self.wants_open(tag)?;
         self.files.file_facts(tag);
-        if self.files.lacks_range(tag, p, q) {
-            return Err(HostFault::BadPosition);
-        }
+        self.files.wants_range(tag, p, q)?;
         Ok(())
     }
 }

@@ -1,7 +1,7 @@
 //! The frames that several answers share. Each function adds its frames to those of the answer, stamped with the count that the message
 //! will have. The only error of each is `OutOfMemory`, and the caller then drops the frames.
 
-ghost use Rattle.std.specs.Prelude.{◌≡◌, ◌<◌, ◌≤◌, ◌+◌, ◌++◌, ◌∷◌, [], ◌^◌, OnOk, OnErr, Err, drop, length};
+ghost use Rattle.std.specs.Prelude.{◌≡◌, ◌<◌, ◌≤◌, ◌+◌, ◌++◌, ◌∷◌, [], ◌^◌, OnOk, OnErr, Err, drop, length, vec_len, vec_capacity};
 ghost use Rattle.sam_host.specs.Host.{Appends, grown, told_dirty, told_length, printed, told_at};
 ghost use Rattle.sam_runes.specs.Texts.{max_runes};
 ghost use Rattle.sam_runes.specs.Slots.{slot};
@@ -23,6 +23,19 @@ impl Host {
         let seen = self.taken + 1;
         frames.push(HFrame { seen, msg })?;
         Ok(())
+    }
+
+    /// Adds one frame for which there is room already, so that no memory is asked for.
+    pub(crate) fn put(&self, frames: &mut Vec<HFrame>, msg: Hmesg)
+        requires count { self.now.taken + 1 < 2 ^ 64 }
+        requires room { vec_len frames.old < vec_capacity frames.old }
+        ensures frames { Appends self.now frames.old.items frames.new.items (msg ∷ []) }
+        ensures room { vec_capacity frames.old ≤ vec_capacity frames.new }
+    {
+        let seen = self.taken + 1;
+        if frames.push(HFrame { seen, msg }).is_err() {
+            unreachable!()
+        }
     }
 
     /// Tells that `runes` were put into the file at `p`: by `Hgrowdata` with the runes if there are at most `MOST_IN_MESSAGE`, else by

@@ -8,7 +8,7 @@ use std::alloc::Global;
 
 /// Makes a file with this text the work file.
 fn start_work(alloc: Global, files: &mut Files, text: &str) -> Result<(), SetUp> {
-    files.new_file(alloc, &['a'], Runes::from_str(alloc, text)?.as_slice())?;
+    files.new_file(&['a'], Runes::from_str(alloc, text)?.as_slice())?;
     files.set_work(1, 0, 0)?;
     Ok(())
 }
@@ -28,9 +28,9 @@ fn has_commas(files: &Files) -> bool {
 
 /// Whether the line leaves three commas in file 1, selected, and prints nothing. Where memory for it is refused, the files are
 /// to be their twin to every reader, and the line is run again.
-fn leaves_commas(alloc: Global, files: &mut Files, twin: &Files, line: &[char]) -> bool {
-    let run = match files.run_line(alloc, line) {
-        Err(FilesFault::OutOfMemory) if is_same_files(files, twin) => files.run_line(alloc, line),
+fn leaves_commas(files: &mut Files, twin: &Files, line: &[char]) -> bool {
+    let run = match files.run_line(line) {
+        Err(FilesFault::OutOfMemory) if is_same_files(files, twin) => files.run_line(line),
         run => run,
     };
     match run {
@@ -46,7 +46,7 @@ pub fn run_line(alloc: Global) -> Tried {
         |alloc| with_work(alloc, "a,b,,c"),
         |files, twin| {
             let line = Runes::from_str(alloc, ",y/,/d")?;
-            Ok(leaves_commas(alloc, files, twin, line.as_slice()))
+            Ok(leaves_commas(files, twin, line.as_slice()))
         },
     )
 }

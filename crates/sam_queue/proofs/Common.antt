@@ -9,16 +9,15 @@ pub use Rattle.std.specs.Vec.Iter.{into_iter_items}
 pub use Rattle.crossbeam_queue.specs.Fifo.{Forks, Held, Learns, Merges, Pops, Pushes}
 pub use Rattle.crossbeam_queue.specs.Passes.{IsSamePass, view}
 pub use Rattle.sam_queue.specs.Audits.{Accounted, AllAccounted, ArePostsOf, HasHistory}
-pub use Rattle.sam_queue.specs.History.{HasParts, IsEnded, IsKnown, StartsWith, all_of, has_left, has_mark, items_of, loads}
+pub use Rattle.sam_queue.specs.History.{IsEnded, StartsWith, all_of, has_left, has_mark, items_of, loads}
 pub use Rattle.sam_queue.specs.Marks.{Marks}
-pub use Rattle.sam_queue.specs.Ports.{HasAllPosts, HasNoPosts, IsRest, maker, post_in, received_of, seen_in, sent_of, take_in, taken_in, told_in, took_all, with_posts}
-pub use Rattle.sam_queue.specs.Rule.{Fits, FitsTake, Fresh, Ruled, Stands, State, Takes, Tells, Whole, closed_with, first_port, next_post, put_with, received_with, with_entry, with_made, with_post, with_sender, with_word, word_of}
+pub use Rattle.sam_queue.specs.Ports.{Gives, HasAllPosts, HasNoPosts, IsRest, maker, post_in, received_of, got_from, got_of, seen_in, sent_of, take_in, taken_in, took_all, with_posts}
+pub use Rattle.sam_queue.specs.Rule.{Fits, FitsTake, Fresh, Ruled, Stands, State, Takes, Tells, Whole, closed_with, first_port, next_post, put_with, received_with, with_entry, with_made, with_post, with_sender}
 pub use Rattle.sam_queue.specs.Sorts.{IsRoom, IsSorted, IsSortedInto}
-pub use Rattle.sam_queue.specs.Views.{IsAlone, IsFilled, KnowsOfNone, LineSizes, LineView, PostView, TakeView, WasFull, new_post, new_posts, part_of, take_told}
+pub use Rattle.sam_queue.specs.Views.{Answers, CanBeFull, LineSizes, LineView, PostView, TakeView, TakesNext, new_post, new_posts}
 pub use Rattle.sam_queue.specs.declared.rule.Entry.{Entry}
-pub use Rattle.sam_queue.specs.declared.rule.Part.{Part}
 pub use Rattle.sam_queue.specs.declared.rule.Port.{Port}
-pub use Rattle.sam_queue.specs.declared.rule.Port.TheVariants.{Receives, Sends, Spent, Word}
+pub use Rattle.sam_queue.specs.declared.rule.Port.TheVariants.{Receives, Sends, Spent}
 pub use Rattle.sam_queue.specs.declared.rule.Received.{Received}
 pub use Rattle.sam_queue.specs.declared.rule.Sent.{Sent}
 pub use lib.ListN.{get_elem?}

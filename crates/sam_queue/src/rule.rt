@@ -12,28 +12,7 @@ pub struct Entry<T> {
     pub load: Option<T>,
 }
 
-/// A sender's part of a history: its number, its items, and whether its end mark follows them. No value of it is made.
-pub struct Part<T> {
-    /// The number of the sender.
-    pub number: usize,
-    /// The items that it has put, in order.
-    pub put: LinkedList<T>,
-    /// Whether it has put its end mark behind them.
-    pub closed: bool,
-}
-
-/// What is known of a history: what was taken of it, how far it was seen, and parts that it has. No value of it is made.
-pub struct Known<T> {
-    /// What was taken by then, in order.
-    pub taken: LinkedList<Entry<T>>,
-    /// A beginning of the history, as far as it was seen.
-    pub seen: LinkedList<Entry<T>>,
-    /// Parts with which the history's parts of these senders begin.
-    pub told: LinkedList<Part<T>>,
-}
-
-/// What a post knows: its number, the number of senders, what it has put, and what it has learned of the take. No value of it is
-/// made.
+/// What a post knows: its number, the number of senders, and what it has put. No value of it is made.
 pub struct Sent<T> {
     /// The number of its sender, less than `senders`.
     pub number: usize,
@@ -43,12 +22,10 @@ pub struct Sent<T> {
     pub put: LinkedList<T>,
     /// Whether it has put its end mark.
     pub closed: bool,
-    /// What it learned of the take when it last did.
-    pub known: Known<T>,
 }
 
-/// What the take knows: how many posts were made, what was taken, how far the history was seen, what it has learned of posts, and
-/// what the posts that it has taken in had put. No value of it is made.
+/// What the take knows: how many posts were made, what was taken, how far the history was seen, and what the posts that it has taken
+/// in had put. No value of it is made.
 pub struct Received<T> {
     /// How many senders the line has.
     pub senders: usize,
@@ -58,8 +35,6 @@ pub struct Received<T> {
     pub taken: LinkedList<Entry<T>>,
     /// The history as it stood when an entry was last taken. It begins with `taken`.
     pub seen: LinkedList<Entry<T>>,
-    /// What it has learned of posts, the oldest first.
-    pub told: LinkedList<Part<T>>,
     /// What the posts had put that an audit has taken in, by their numbers. These posts are gone.
     pub gathered: LinkedList<Sent<T>>,
 }
@@ -70,8 +45,6 @@ pub enum Port<T> {
     Sends(Sent<T>),
     /// The pass of the take, and before the ends are made, that of the start.
     Receives(Received<T>),
-    /// What one end tells another, on its way.
-    Word(Known<T>),
     /// A pass that knows nothing any more.
     Spent,
 }
@@ -100,7 +73,7 @@ impl<T> Split<Port<T>> for Widen {
     ghost right = { λ v. Spent };
 }
 
-/// The step that makes the pass of the next post. That post has put and learned nothing.
+/// The step that makes the pass of the next post. That post has put nothing.
 pub struct NextPost;
 
 impl<T> Split<Port<T>> for NextPost {
@@ -123,31 +96,8 @@ impl<T> Join<Port<T>> for Gather {
     ghost spent = { Spent };
 }
 
-/// The step by which an end gives word of what it has put or taken. The end itself stays as it is.
-pub struct Tell;
-
-impl<T> Split<Port<T>> for Tell {
-    ghost use Rattle.sam_queue.specs.Rule.{word_of};
-
-    ghost left = { λ v. v };
-
-    ghost right = { word_of };
-}
-
-/// The step by which an end takes such a word in. The word is spent.
-pub struct Learn;
-
-impl<T> Join<Port<T>> for Learn {
-    ghost use Rattle.sam_queue.specs.declared.rule.Port.TheVariants.{Spent};
-    ghost use Rattle.sam_queue.specs.Rule.{with_word};
-
-    ghost both = { with_word };
-
-    ghost spent = { Spent };
-}
-
-/// A post's push, of an item or of its end mark. If it finds the line full, the post learns `Stands`: what the line held then fits
-/// with what the post has put and knows.
+/// A post's push, of an item or of its end mark. If it finds the line full, the post learns `Stands` of what the line held then: a line
+/// of one sender holds no more than its post has put.
 pub struct Sending;
 
 impl<T> Outcome<Entry<T>, Port<T>> for Sending {

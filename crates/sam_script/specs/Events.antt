@@ -1,7 +1,7 @@
 -- The word of each event of the user: how it is spelled, with what stands behind it, and how that is read.
 use Rattle.std.specs.Prelude.{ℕ, List, [], ◌∷◌, Option, Some, codes}
 use Rattle.sam_term.specs.declared.event.UserEvent.{UserEvent}
-use Rattle.sam_term.specs.declared.event.UserEvent.TheVariants.{Typed, Select, Cut, Paste, Snarf, Look, Search, Send, Dclick, Scroll, View, Open, Close, Write, Work, OpenCmd, New, Exit, Check, GetSnarf, SetSnarf, Version}
+use Rattle.sam_term.specs.declared.event.UserEvent.TheVariants.{Typed, Select, Cut, Paste, Snarf, Look, Search, Send, Dclick, Scroll, View, Load, Open, Close, Write, Work, OpenCmd, New, Exit, Check, GetSnarf, SetSnarf, Version}
 use Rattle.sam_term.specs.declared.event.UserEvent.TheVariants as user
 use Rattle.sam_script.specs.Words.{◌>>=◌, text_at, ended, tag_alone, tag_and_place, tag_and_range, tag_and_text}
 
@@ -32,6 +32,7 @@ form (Send f) = (codes "send", Tag f ∷ [])
 form (Dclick f p) = (codes "dclick", Tag f ∷ Place p ∷ [])
 form (Scroll f n) = (codes "scroll", Tag f ∷ Place n ∷ [])
 form (View f p n) = (codes "view", Tag f ∷ Place p ∷ Place n ∷ [])
+form (Load f p n) = (codes "load", Tag f ∷ Place p ∷ Place n ∷ [])
 form (Open f) = (codes "open", Tag f ∷ [])
 form (Close f) = (codes "close", Tag f ∷ [])
 form (Write f) = (codes "write", Tag f ∷ [])
@@ -70,7 +71,7 @@ abbrev pub readers : List (List ℕ × Reader UserEvent)
 readers =
     (codes "type", λ bytes. tag_and_text bytes >>= λ x. Some (Typed x.0 x.1))
     ∷ (codes "setsnarf", λ bytes. text_at bytes >>= λ s. Some (SetSnarf s))
-    ∷ (codes "select", by_range Select) ∷ (codes "view", by_range View)
+    ∷ (codes "select", by_range Select) ∷ (codes "view", by_range View) ∷ (codes "load", by_range Load)
     ∷ (codes "dclick", by_place Dclick) ∷ (codes "scroll", by_place Scroll)
     ∷ (codes "version", by_tag Version) ∷ (codes "opencmd", ended OpenCmd) ∷ (codes "new", ended New) ∷ (codes "getsnarf", ended GetSnarf)
     ∷ (codes "flush", ended user.Flush) ∷ (codes "exit", ended Exit) ∷ file_readers

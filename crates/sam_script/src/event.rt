@@ -43,6 +43,10 @@ fn read_event(alloc: Global, word: &str, rest: &str) -> Result<UserEvent, LineFa
             let (tag, place, len) = tag_and_range(rest)?;
             Ok(UserEvent::View(tag, place, len))
         }
+        "load" => {
+            let (tag, place, len) = tag_and_range(rest)?;
+            Ok(UserEvent::Load(tag, place, len))
+        }
         "dclick" => {
             let (tag, place) = tag_and_place(rest)?;
             Ok(UserEvent::Dclick(tag, place))
@@ -97,6 +101,7 @@ pub fn push_user(out: &mut String, event: &UserEvent) -> Result<(), AllocError>
         UserEvent::Dclick(tag, p) => push_place(out, "dclick", *tag, *p),
         UserEvent::Scroll(tag, n) => push_place(out, "scroll", *tag, *n),
         UserEvent::View(tag, p, n) => push_range(out, "view", *tag, *p, *n),
+        UserEvent::Load(tag, p, n) => push_range(out, "load", *tag, *p, *n),
         UserEvent::Open(tag) => push_number(out, "open", *tag),
         UserEvent::Close(tag) => push_number(out, "close", *tag),
         UserEvent::Write(tag) => push_number(out, "write", *tag),

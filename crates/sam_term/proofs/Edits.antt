@@ -1,6 +1,6 @@
 -- What the events do that change a rasp, a dot or a view, or send runes.
 use Rattle.sam_term.proofs.FileSteps.{file_puts}
-use Rattle.sam_term.proofs.Common.{◌≡◌, refl, ap, ◌∙◌, ℕ, ◌≤◌, ◌<◌, ◌+◌, Bool, true, List, [], ◌∷◌, ◌++◌, length, drop, Some, None, Ok, arith, ◌||◌, most_count, PlainTerminal, Made, event_outcome, window_at, composed, all_composed, flushed, unsent_message, sends, unchanged, made_by_view, wanted, cuts_dot, cut_rasp, moved_unsent, done, countable, IsFailure, first_event, free_first, made_first, Acted, Done, TermFault, UserEvent, Select, View, Tmesg, Tcut, place_after_del, append_assoc, ◌⊎◌, shown_from, made_by_cut, made_by_paste, made_by_snarf, made_by_type, requested, flush_of}
+use Rattle.sam_term.proofs.Common.{◌≡◌, refl, ap, ◌∙◌, ℕ, ◌≤◌, ◌<◌, ◌+◌, Bool, true, List, [], ◌∷◌, ◌++◌, length, drop, Some, None, Ok, arith, ◌||◌, most_count, PlainTerminal, Made, event_outcome, window_at, composed, all_composed, flushed, unsent_message, sends, unchanged, made_by_view, wanted, cuts_dot, cut_rasp, moved_unsent, done, countable, IsFailure, first_event, free_first, made_first, Acted, Done, TermFault, UserEvent, Select, View, Tmesg, Tcut, place_after_del, append_assoc, ◌⊎◌, shown_from, made_by_cut, made_by_load, made_by_paste, made_by_snarf, made_by_type, requested, flush_of}
 use Rattle.sam_term.specs.declared.fault.TermFault.TheVariants as fault
 use Rattle.sam_term.proofs.Acts.{made_of, opened_by, passes, test_at}
 use Rattle.sam_term.proofs.Composes.{flushed-files, flushed-sent}
@@ -112,7 +112,7 @@ pub ruleset held_facts = (held-flushed, flushed-held, held-sends, sends-held)
 
 -- opens what the events make
 unfoldable pub makes_opened : ℕ
-unfolding done made_first made_by_cut made_by_paste made_by_snarf made_by_type made_by_view requested
+unfolding done made_first made_by_cut made_by_load made_by_paste made_by_snarf made_by_type made_by_view requested
 makes_opened = 0
 
 -- the same, and what is composed of the unsent runes

@@ -1,5 +1,5 @@
 -- What is composed fits in the terminal's version.
-use Rattle.sam_term.proofs.Common.{◌≡◌, ◌≤◌, ◌++◌, refl, sym, ap, ◌∙◌, subst, ℕ, Bool, true, false, List, [], ◌∷◌, length, length-append, Option, Some, None, if◌then◌else◌, arith, map, ltb-false, le-leb, is_empty, most_in_message, first_of_checks, place_after_ins, place_after_del, hole_within, Unsent, is_command_line, file_of, UserEvent, Typed, Select, Cut, Paste, Snarf, View, SetSnarf, Flush, all_fit, IsSound, IsShort, PlainTerminal, Made, window_at, cut_rasp, all_composed, flushed, unsent_message, made_then, sends, sends_if, unchanged, requested, request_for, view_end, joins, joined, kept_unsent, typed_rasp, types, cuts_dot, event_outcome, made_by_type, made_by_cut, made_by_paste, made_by_snarf, made_by_view, frame_outcome, moved_unsent, event_checks, has_long_text, took_unlockfile, Tmesg, Tpaste, Hmesg}
+use Rattle.sam_term.proofs.Common.{◌≡◌, ◌≤◌, ◌++◌, refl, sym, ap, ◌∙◌, subst, ℕ, Bool, true, false, List, [], ◌∷◌, length, length-append, Option, Some, None, if◌then◌else◌, arith, map, ltb-false, le-leb, is_empty, most_in_message, first_of_checks, place_after_ins, place_after_del, hole_within, Unsent, is_command_line, file_of, UserEvent, Typed, Select, Cut, Paste, Snarf, View, Load, SetSnarf, Flush, all_fit, IsSound, IsShort, PlainTerminal, Made, window_at, cut_rasp, all_composed, flushed, unsent_message, made_then, sends, sends_all, sends_if, unchanged, requested, request_for, requests_for, gaps_shown, all_wanted, shown_from, view_end, joins, joined, kept_unsent, typed_rasp, types, cuts_dot, event_outcome, made_by_type, made_by_cut, made_by_paste, made_by_snarf, made_by_view, made_by_load, frame_outcome, moved_unsent, event_checks, has_long_text, took_unlockfile, Tmesg, Tpaste, Hmesg}
 use Rattle.sam_term.proofs.Acts.{none_holds, test_at}
 use Rattle.sam_term.proofs.Edits.{unsent-all, unsent-flushed}
 use Rattle.sam_term.proofs.Grows.{moved_short}
@@ -72,11 +72,23 @@ good-requested : (v : ℕ) (t : PlainTerminal) (f : ℕ) → IsShort t.unsent �
 unfolding requested
 good-requested v t f k = grind (arith, (good-sends_if v t (hole_within (window_at t f).rasp (window_at t f).view_start (view_end (window_at t f))) f k))
 
+fit-requests : (v f : ℕ) (xs : List (ℕ × ℕ)) → all_fit v (requests_for f xs) ≡ true
+fit-requests v f [] = refl
+fit-requests v f (x ∷ xs) = fit-requests v f xs
+
+fit-wanted : (v : ℕ) (t : PlainTerminal) (f : ℕ) → all_fit v (all_wanted t f) ≡ true
+unfolding all_wanted
+fit-wanted v t f = fit-requests v f (gaps_shown t f)
+
+good-sends_all : (v : ℕ) (ms : List Tmesg) (t : PlainTerminal) → IsShort t.unsent → all_fit v ms ≡ true → Good v (sends_all ms t)
+good-sends_all v [] t k e = record { fits = refl; short = k }
+good-sends_all v (m ∷ ms) t k e = good-plain v t (m ∷ ms) k e
+
 few_typed : (t : PlainTerminal) (f : ℕ) (s : List ℕ) → has_long_text t (Typed f s) ≡ false → length s ≤ most_in_message
 few_typed t f s e = ltb-false most_in_message (length s) e
 
 good-event : (t : PlainTerminal) (e : UserEvent) → IsShort t.unsent → has_long_text t e ≡ false → Good t.version (event_outcome t e)
-unfolding made_by_type made_by_cut made_by_paste made_by_snarf made_by_view
+unfolding made_by_type made_by_cut made_by_paste made_by_snarf made_by_view made_by_load
 good-event t (Typed f s) k h =
     let v = t.version in
     let cuts = good-cuts v t f k in
@@ -92,6 +104,7 @@ good-event t (Paste f) k h =
     (good-plain t.version (cuts_dot t f).0 (Tpaste f (window_at t f).dot.0 ∷ []) cuts.short refl)
 good-event t (Snarf f) k h = grind (arith, (good-plain t.version t))
 good-event t (View f p n) k h = grind (arith, (good-requested t.version))
+good-event t (Load f p n) k h = good-sends_all t.version (all_wanted (shown_from t f p n) f) (shown_from t f p n) k (fit-wanted t.version (shown_from t f p n) f)
 good-event t (SetSnarf s) k h = search (arith, ltb-false, le-leb, good-plain)
 good-event t Flush k h = good-flushed t.version t k
 good-event t _ k h = good-plain t.version t _ k refl

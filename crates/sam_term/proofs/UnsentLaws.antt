@@ -1,5 +1,5 @@
 -- What is composed first is the unsent runes.
-use Rattle.sam_term.proofs.Common.{common_steps, ◌≡◌, sym, ap, ◌∙◌, subst, ℕ, ◌≤◌, Bool, true, false, List, [], ◌∷◌, ◌++◌, length, map, Option, Some, None, if◌then◌else◌, arith, rules, append-nil, append_assoc, place_after_ins, Tmesg, Tsnarf, Tcut, Tack, Hcheck, Hunlockfile, Hack, is_command_line, UserEvent, Typed, Select, Cut, Paste, Snarf, View, Flush, Unsent, PlainTerminal, Made, made_then, unsent_message, flushed, sends, sends_if, unchanged, wanted, requested, joined, moved_unsent, kept_unsent, typed_rasp, types, cuts_dot, has_empty_dot, window_at, put_window, cut_rasp, made_by_type, made_by_cut, made_by_paste, made_by_snarf, made_by_view, event_outcome, took_unlockfile}
+use Rattle.sam_term.proofs.Common.{common_steps, ◌≡◌, sym, ap, ◌∙◌, subst, ℕ, ◌≤◌, Bool, true, false, List, [], ◌∷◌, ◌++◌, length, map, Option, Some, None, if◌then◌else◌, arith, rules, append-nil, append_assoc, place_after_ins, Tmesg, Tsnarf, Tcut, Tack, Hcheck, Hunlockfile, Hack, is_command_line, UserEvent, Typed, Select, Cut, Paste, Snarf, View, Load, Flush, Unsent, PlainTerminal, Made, made_then, unsent_message, flushed, sends, sends_all, sends_if, unchanged, wanted, all_wanted, requested, joined, moved_unsent, kept_unsent, typed_rasp, types, cuts_dot, has_empty_dot, window_at, put_window, cut_rasp, made_by_type, made_by_cut, made_by_paste, made_by_snarf, made_by_view, made_by_load, event_outcome, took_unlockfile}
 use Rattle.sam_term.specs.Unsent.{SendsFirst, EventsSendFirst, FramesSendFirst}
 
 -- what is unsent goes on what was unsent before
@@ -123,6 +123,17 @@ viewed : (t : PlainTerminal) (f p n : ℕ) → GoesMade t (made_by_view t f p n)
 unfolding made_by_view
 viewed t f p n = request (put_window t f (record (window_at t f) { view_start = p; view_length = n })) f
 
+loaded : (t : PlainTerminal) (f p n : ℕ) → GoesMade t (made_by_load t f p n)
+unfolding made_by_load
+loaded t f p n = go (all_wanted u f)
+  where
+    u : PlainTerminal
+    u = put_window t f (record (window_at t f) { view_start = p; view_length = n })
+
+    go : (ms : List Tmesg) → GoesMade u (sends_all ms u)
+    go [] = same u.unsent
+    go (m ∷ ms) = sending u unchanged (m ∷ ms)
+
 event : (t : PlainTerminal) (e : UserEvent) → GoesMade t (event_outcome t e)
 event t (Typed f s) = typed t f s
 event t (Select f p q) = same t.unsent
@@ -130,6 +141,7 @@ event t (Cut f) = cut t f
 event t (Paste f) = paste t f
 event t (Snarf f) = snarf t f
 event t (View f p n) = viewed t f p n
+event t (Load f p n) = loaded t f p n
 event t Flush = flush t _
 event t _ = sending t unchanged _
 

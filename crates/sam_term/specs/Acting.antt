@@ -4,10 +4,10 @@ use Rattle.sam_runes.specs.Checks.{first_of_checks}
 use Rattle.sam_term.specs.Term.{PlainTerminal, Made, event_outcome, event_checks}
 use Rattle.sam_term.specs.Events.{message_of}
 use Rattle.sam_term.specs.declared.event.UserEvent.{UserEvent}
-use Rattle.sam_term.specs.declared.event.UserEvent.TheVariants.{Typed, Select, Cut, Paste, Snarf, View, SetSnarf, Flush}
+use Rattle.sam_term.specs.declared.event.UserEvent.TheVariants.{Typed, Select, Cut, Paste, Snarf, View, Load, SetSnarf, Flush}
 use Rattle.sam_term.specs.declared.event.Verdict.{Verdict}
 use Rattle.sam_term.specs.declared.event.Deed.{Deed}
-use Rattle.sam_term.specs.declared.event.Deed.TheVariants.{Sends, Types, Selects, Cuts, Pastes, Snarfs, Views, SetsSnarf, Flushes}
+use Rattle.sam_term.specs.declared.event.Deed.TheVariants.{Sends, Types, Selects, Cuts, Pastes, Snarfs, Views, Loads, SetsSnarf, Flushes}
 use Rattle.sam_mesg.specs.declared.tmesg.Tmesg.{Tmesg}
 
 -- the oldest event; where none is held, one that does nothing
@@ -40,6 +40,7 @@ deed_by None (Cut f) = Cuts f
 deed_by None (Paste f) = Pastes f
 deed_by None (Snarf f) = Snarfs f
 deed_by None (View f p n) = Views f p n
+deed_by None (Load f p n) = Loads f p n
 deed_by None (SetSnarf s) = SetsSnarf
 deed_by None _ = Flushes
 

@@ -21,10 +21,10 @@ is_command_lock NoLock = false
 is_command_lock CommandLock = true
 is_command_lock (FileLock g) = false
 
--- the message asks for data of f
-abbrev pub asks_for : ℕ → Tmesg → Bool
-asks_for f (Trequest g p n) = g == f
-asks_for f _ = false
+-- how many requests for data of f the message is
+abbrev pub asks_for : ℕ → Tmesg → ℕ
+asks_for f (Trequest g p n) = if g == f then 1 else 0
+asks_for f _ = 0
 
 -- how many of the messages take a lock of f
 abbrev pub locks_taken : ℕ → List Tmesg → ℕ
@@ -36,10 +36,10 @@ abbrev pub takes_command : List Tmesg → Bool
 takes_command [] = false
 takes_command (m ∷ ms) = is_command_lock (lock_of m) || takes_command ms
 
--- one of the messages asks for data of f
-abbrev pub requests : ℕ → List Tmesg → Bool
-requests f [] = false
-requests f (m ∷ ms) = asks_for f m || requests f ms
+-- how many of the messages ask for data of f
+abbrev pub requests : ℕ → List Tmesg → ℕ
+requests f [] = 0
+requests f (m ∷ ms) = asks_for f m + requests f ms
 
 -- ## What a frame leaves
 
@@ -60,12 +60,13 @@ command_left Hunlock held = false
 command_left Hexit held = false
 command_left _ held = held
 
--- whether a request for data of f is awaited still
-abbrev pub awaited_left : Hmesg → ℕ → Bool → Bool
-awaited_left (Hbindname g) f awaited = if g == f then false else awaited
-awaited_left (Hnewname g) f awaited = if g == f then false else awaited
-awaited_left (Hdata g p s) f awaited = if g == f then false else awaited
-awaited_left (Hdelname g) f awaited = if g == f then false else awaited
-awaited_left (Hclose g) f awaited = if g == f then false else awaited
-awaited_left Hexit f awaited = false
-awaited_left _ f awaited = awaited
+-- of n awaited requests for data of f: none where f is opened, closed, made known or dropped, or where the session ends; one less, if
+-- there is one, where data come
+abbrev pub awaited_left : Hmesg → ℕ → ℕ → ℕ
+awaited_left (Hbindname g) f n = if g == f then 0 else n
+awaited_left (Hnewname g) f n = if g == f then 0 else n
+awaited_left (Hdata g p s) f n = if g == f then n - 1 else n
+awaited_left (Hdelname g) f n = if g == f then 0 else n
+awaited_left (Hclose g) f n = if g == f then 0 else n
+awaited_left Hexit f n = 0
+awaited_left _ f n = n

@@ -1,5 +1,5 @@
 -- What composing a message does, by its lock.
-use Rattle.std.specs.Prelude.{Bool, true, false, ◌+◌, ◌||◌}
+use Rattle.std.specs.Prelude.{ℕ, Bool, true, false, ◌+◌, if◌then◌else◌}
 use Rattle.sam_term.specs.declared.lock.Lock.{Lock}
 use Rattle.sam_term.specs.declared.lock.Lock.TheVariants.{NoLock, CommandLock, FileLock}
 use Rattle.sam_term.specs.Term.{PlainTerminal, is_open, window_at, put_window}
@@ -16,11 +16,20 @@ abbrev pub is_request : Tmesg → Bool
 is_request (Trequest f p n) = true
 is_request _ = false
 
+-- the count of awaited requests, behind a message that may be one
+abbrev pub awaited_with : Bool → ℕ → ℕ
+awaited_with asks n = if asks then n + 1 else n
+
+-- n requests of f are counted; each takes its lock, and awaits its data
+abbrev pub awaiting : PlainTerminal → ℕ → ℕ → PlainTerminal
+awaiting t f n =
+    let w = window_at t f in
+    record (put_window t f (record w { locks = w.locks + n; awaited = w.awaited + n })) { sent = t.sent + n }
+
 -- a message is counted, and its lock taken
 abbrev pub lock_added : Lock → Bool → PlainTerminal → PlainTerminal
 lock_added NoLock asks t = record t { sent = t.sent + 1 }
 lock_added CommandLock asks t = record t { sent = t.sent + 1; command_lock = true }
 lock_added (FileLock f) asks t =
-    record (put_window t f (record (window_at t f) { locks = (window_at t f).locks + 1; awaits = (window_at t f).awaits || asks })) {
-      sent = t.sent + 1;
-    }
+    let w = window_at t f in
+    record (put_window t f (record w { locks = w.locks + 1; awaited = awaited_with asks w.awaited })) { sent = t.sent + 1 }

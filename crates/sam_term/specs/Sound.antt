@@ -10,9 +10,11 @@ use Rattle.sam_term.specs.declared.records.KnownFile.{KnownFile}
 use Rattle.sam_term.specs.declared.records.Unsent.{Unsent}
 use Rattle.sam_term.specs.declared.term.Terminal.TheInside.{Inside}
 
--- places of a window stand in its partial text, which is no longer than a text may be, and each lock was counted
+-- places of a window stand in its partial text, which is no longer than a text may be, and each lock and each request that is awaited was
+-- counted
 pub record FitsWindow (sent : ℕ) (w : Window) : Type 0 where
   pub locks : w.locks ≤ sent
+  pub awaited : w.awaited ≤ sent
   pub dot_start : w.dot.0 ≤ w.dot.1
   pub dot_end : w.dot.1 ≤ length w.rasp
   pub view : w.view_start ≤ length w.rasp

@@ -1,5 +1,5 @@
 -- The plain terminal: what it composes for each event and frame, and its state after it.
-use Rattle.std.specs.Prelude.{ℕ, ◌+◌, ◌-◌, min, Bool, true, false, not, ◌&&◌, ◌||◌, if◌then◌else◌, ◌==◌, nat_lt, nat_le, List, [], ◌∷◌, ◌++◌, length, map, replicate, Option, Some, None, is_some, unwrap_or, Result, Ok, Err}
+use Rattle.std.specs.Prelude.{ℕ, zero, suc, ◌+◌, ◌-◌, min, Bool, true, false, not, ◌&&◌, ◌||◌, if◌then◌else◌, ◌==◌, nat_lt, nat_le, List, [], ◌∷◌, ◌++◌, length, map, replicate, Option, Some, None, is_some, unwrap_or, option_map, Result, Ok, Err}
 use Rattle.sam_runes.specs.Texts.{Range, is_empty, max_runes, most_count, most_in_message, snarf_limit, agreed, utf8_length}
 use Rattle.sam_runes.specs.Slots.{Slots, slot, put_slot, free_slot, map_slots}
 use Rattle.sam_runes.specs.Checks.{Checks, first_of_checks}
@@ -9,7 +9,7 @@ use Rattle.sam_term.specs.declared.lock.Lock.TheVariants.{NoLock, CommandLock, F
 use Rattle.sam_term.specs.Windows.{blank_window, blank_known, known_in}
 use Rattle.sam_term.specs.Events.{file_of, is_command_line, waits_for_all, is_bad_version, is_for_command_file, needs_open, message_of, lock_of}
 use Rattle.sam_term.specs.declared.event.UserEvent.{UserEvent}
-use Rattle.sam_term.specs.declared.event.UserEvent.TheVariants.{Typed, Select, Cut, Paste, Snarf, Dclick, View, SetSnarf}
+use Rattle.sam_term.specs.declared.event.UserEvent.TheVariants.{Typed, Select, Cut, Paste, Snarf, Look, Search, Send, Dclick, Scroll, View, Load, Open, Close, Write, Work, OpenCmd, New, Exit, Check, GetSnarf, SetSnarf, Version, Flush}
 use Rattle.sam_mesg.specs.declared.tmesg.Tmesg.{Tmesg}
 use Rattle.sam_mesg.specs.declared.tmesg.Tmesg.TheVariants.{Trequest, Ttype, Tcut, Tpaste, Tsnarf, Tsetsnarf, Tack}
 use Rattle.sam_mesg.specs.declared.hmesg.Hmesg.{Hmesg}
@@ -148,7 +148,7 @@ is_any_locked (Some known ∷ ss) = nat_lt 0 (unwrap_or known.window blank_windo
 -- no window holds a lock or awaits anything
 abbrev pub free_window : Option Window → Option Window
 free_window None = None
-free_window (Some w) = Some (record w { locks = 0; awaits = false })
+free_window (Some w) = Some (record w { locks = 0; awaited = 0 })
 
 -- ## Composing messages
 
@@ -159,9 +159,9 @@ Made = PlainTerminal × List Tmesg
 abbrev pub made_then : Made → (PlainTerminal → Made) → Made
 made_then made next = ((next made.0).0, made.1 ++ (next made.0).1)
 
--- a request awaits its data
+-- one more request awaits its data
 abbrev pub asked : Tmesg → PlainTerminal → PlainTerminal
-asked (Trequest f p n) t = put_window t f (record (window_at t f) { awaits = true })
+asked (Trequest f p n) t = put_window t f (record (window_at t f) { awaited = (window_at t f).awaited + 1 })
 asked _ t = t
 
 -- one message is composed: it is counted, and takes its lock
@@ -205,12 +205,45 @@ request_for f (Some h) = Some (Trequest f h.0 (min (h.1 - h.0) most_in_message))
 abbrev pub wanted : PlainTerminal → ℕ → Option Tmesg
 wanted t f =
     let w = window_at t f in
-    if is_open t f && not t.has_exited && not w.awaits
+    if is_open t f && not t.has_exited && w.awaited == 0
     then request_for f (hole_within w.rasp w.view_start (view_end w))
     else None
 
 unfoldable pub requested : PlainTerminal → ℕ → Made
 requested t f = sends_if (wanted t f) t
+
+-- ## Asking for all gaps at once
+
+-- the most requests that one event composes
+abbrev pub most_requests : ℕ
+most_requests = 64
+
+-- the front of a stretch, of which one message can ask, by its start and its length
+abbrev pub front_of : ℕ × ℕ → ℕ × ℕ
+front_of h = (h.0, min (h.1 - h.0) most_in_message)
+
+-- the gaps from p to q, first to last, in such stretches: the first n of them, or all if they are fewer
+unfoldable pub stretches : PartialText → ℕ → ℕ → ℕ → List (ℕ × ℕ)
+stretches rasp p q zero = []
+stretches rasp p q (suc n) =
+    elim (option_map front_of (hole_within rasp p q)) [ None ↦ [] | Some s ↦ s ∷ stretches rasp (s.0 + s.1) q n ]
+
+-- a request for each of these stretches
+abbrev pub requests_for : ℕ → List (ℕ × ℕ) → List Tmesg
+requests_for f = map (λ s. Trequest f s.0 s.1)
+
+-- the stretches of gaps inside the view of f
+abbrev pub gaps_shown : PlainTerminal → ℕ → List (ℕ × ℕ)
+gaps_shown t f = let w = window_at t f in stretches w.rasp w.view_start (view_end w) most_requests
+
+-- the requests for all of them
+unfoldable pub all_wanted : PlainTerminal → ℕ → List Tmesg
+all_wanted t f = requests_for f (gaps_shown t f)
+
+-- only messages that there are send the unsent runes
+abbrev pub sends_all : List Tmesg → PlainTerminal → Made
+sends_all [] t = (t, [])
+sends_all (m ∷ ms) t = sends t unchanged (m ∷ ms)
 
 -- ## User events, a function for each kind
 
@@ -269,6 +302,11 @@ made_by_snarf t f =
 unfoldable pub made_by_view : PlainTerminal → ℕ → ℕ → ℕ → Made
 made_by_view t f p n = requested (put_window t f (record (window_at t f) { view_start = p; view_length = n })) f
 
+-- as a view, but all gaps are asked for at once
+unfoldable pub made_by_load : PlainTerminal → ℕ → ℕ → ℕ → Made
+made_by_load t f p n =
+    let u = put_window t f (record (window_at t f) { view_start = p; view_length = n }) in sends_all (all_wanted u f) u
+
 -- what the event does, by that message
 abbrev pub outcome_by : Option Tmesg → PlainTerminal → UserEvent → Made
 outcome_by (Some m) t e = sends t unchanged (m ∷ [])
@@ -278,8 +316,25 @@ outcome_by None t (Cut f) = made_by_cut t f
 outcome_by None t (Paste f) = made_by_paste t f
 outcome_by None t (Snarf f) = made_by_snarf t f
 outcome_by None t (View f p n) = made_by_view t f p n
+outcome_by None t (Load f p n) = made_by_load t f p n
 outcome_by None t (SetSnarf s) = sends t unchanged (Tsetsnarf s ∷ [])
-outcome_by None t _ = flushed t
+outcome_by None t Flush = flushed t
+-- the others have a message
+outcome_by None t (Look f) = (t, [])
+outcome_by None t (Search f) = (t, [])
+outcome_by None t (Send f) = (t, [])
+outcome_by None t (Dclick f p) = (t, [])
+outcome_by None t (Scroll f n) = (t, [])
+outcome_by None t (Open f) = (t, [])
+outcome_by None t (Close f) = (t, [])
+outcome_by None t (Write f) = (t, [])
+outcome_by None t (Work f) = (t, [])
+outcome_by None t OpenCmd = (t, [])
+outcome_by None t New = (t, [])
+outcome_by None t Exit = (t, [])
+outcome_by None t (Check f) = (t, [])
+outcome_by None t GetSnarf = (t, [])
+outcome_by None t (Version v) = (t, [])
 
 -- what an event does that nothing stands against
 abbrev pub event_outcome : PlainTerminal → UserEvent → Made
@@ -303,6 +358,7 @@ abbrev pub has_bad_place : PlainTerminal → UserEvent → Bool
 has_bad_place t (Select f p q) = nat_lt q p || nat_lt (length (window_at t f).rasp) q
 has_bad_place t (Dclick f p) = nat_lt (length (window_at t f).rasp) p
 has_bad_place t (View f p n) = nat_lt (length (window_at t f).rasp) p
+has_bad_place t (Load f p n) = nat_lt (length (window_at t f).rasp) p
 has_bad_place t _ = false
 
 abbrev pub has_long_text : PlainTerminal → UserEvent → Bool
@@ -406,11 +462,11 @@ unsent_without f (Some u) = if u.file == f then None else Some u
 unfoldable pub took_bindname : PlainTerminal → ℕ → PlainTerminal
 took_bindname t f = put_window t f blank_window
 
--- the runes come into places that are there, and the request that awaited them is over
+-- the runes come into places that are there, and one request less is awaited
 unfoldable pub took_data : PlainTerminal → ℕ → ℕ → List ℕ → PlainTerminal
 took_data t f p s =
     let w = window_at t f in
-    put_window t f (record w { rasp = load_cells w.rasp p s; awaits = false })
+    put_window t f (record w { rasp = load_cells w.rasp p s; awaited = w.awaited - 1 })
 
 unfoldable pub took_grow : PlainTerminal → ℕ → ℕ → ℕ → PlainTerminal
 took_grow t f p n = ins_rasp t f p (replicate n None)

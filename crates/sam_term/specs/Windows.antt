@@ -5,7 +5,7 @@ use Rattle.sam_term.specs.declared.records.Window.{Window}
 use Rattle.sam_term.specs.declared.records.KnownFile.{KnownFile}
 
 abbrev pub blank_window : Window
-blank_window = record { rasp = []; dot = (0, 0); view_start = 0; view_length = 0; locks = 0; awaits = false }
+blank_window = record { rasp = []; dot = (0, 0); view_start = 0; view_length = 0; locks = 0; awaited = 0 }
 
 abbrev pub blank_known : KnownFile
 blank_known = record { name = []; dirty = false; changed = false; window = None }

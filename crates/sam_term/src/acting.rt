@@ -113,6 +113,7 @@ impl Terminal {
             UserEvent::Select(tag, p, q) => q < p || self.rasp_len(*tag) < *q as usize,
             UserEvent::Dclick(tag, p) => self.rasp_len(*tag) < *p as usize,
             UserEvent::View(tag, p, _) => self.rasp_len(*tag) < *p as usize,
+            UserEvent::Load(tag, p, _) => self.rasp_len(*tag) < *p as usize,
             _ => false,
         }
     }
@@ -180,6 +181,7 @@ impl Terminal {
             UserEvent::Paste(tag) => Deed::Pastes(*tag),
             UserEvent::Snarf(tag) => Deed::Snarfs(*tag),
             UserEvent::View(tag, p, n) => Deed::Views(*tag, *p, *n),
+            UserEvent::Load(tag, p, n) => Deed::Loads(*tag, *p, *n),
             UserEvent::SetSnarf(_) => Deed::SetsSnarf,
             UserEvent::Flush => Deed::Flushes,
         }
@@ -214,6 +216,7 @@ impl Terminal {
             Deed::Pastes(tag) => self.make_paste(tag),
             Deed::Snarfs(tag) => self.make_snarf(tag),
             Deed::Views(tag, p, n) => self.make_view(tag, p, n),
+            Deed::Loads(tag, p, n) => self.make_load(tag, p, n),
             Deed::SetsSnarf => self.make_set_snarf(),
             Deed::Flushes => self.make_flush(),
         }

@@ -29,7 +29,7 @@ impl Terminal {
         Ok(out.into_batch())
     }
 
-    /// Counts a message and takes its lock. `asks` tells that it is a request, whose file then awaits its data.
+    /// Counts a message and takes its lock. `asks` tells that it is a request, so that its file awaits one more.
     fn take_lock(&mut self, lock: Lock, asks: bool)
         requires counts { self.old.sent < most_count }
         requires opened { IsTrue (is_lockable self.old lock) }
@@ -54,7 +54,9 @@ impl Terminal {
     {
         let window = self.files.window_mut(tag);
         window.locks += 1;
-        window.awaits = window.awaits || asks;
+        if asks {
+            window.awaited += 1;
+        }
         self.sent += 1;
     }
 
@@ -161,7 +163,7 @@ impl Terminal {
         let Some(window) = self.files.window(tag) else {
             unreachable!()
         };
-        if self.exited || window.awaits {
+        if self.exited || 0 < window.awaited {
             return None;
         }
         request_from(window, tag, p, n)

@@ -165,7 +165,7 @@ impl Terminal {
 
     /// Shows an open file from `p` on, `n` runes and gaps at most.
     #[tactic(auto, using(crate::proofs::FileSteps::file_puts), unfolding(crate::specs::Sound::FitsUnsent))]
-    fn set_view(&mut self, tag: u16, p: u32, n: u32)
+    pub(crate) fn set_view(&mut self, tag: u16, p: u32, n: u32)
         requires opened { IsTrue (is_open self.old tag) }
         requires within { p ≤ length (window_at self.old tag).rasp }
         ensures { self.new ≡ shown_from self.old tag p n }

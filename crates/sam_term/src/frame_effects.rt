@@ -198,7 +198,7 @@ impl Terminal {
             view_start: 0,
             view_length: 0,
             locks: 0,
-            awaits: false,
+            awaited: 0,
         };
         self.files.file_mut(tag).window = Some(window);
     }

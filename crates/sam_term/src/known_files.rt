@@ -228,7 +228,7 @@ fn free_one(file: &mut Option<KnownFile>)
     if let Some(known) = file {
         if let Some(window) = &mut known.window {
             window.locks = 0;
-            window.awaits = false;
+            window.awaited = 0;
         }
     }
 }

@@ -6,6 +6,7 @@ ghost use Rattle.sam_mesg.specs.declared.hmesg.Hmesg.{Hmesg};
 ghost use Rattle.sam_runes.specs.Checks.{first_of_checks};
 ghost use Rattle.sam_term.specs.Effect.{shown, changed_by};
 ghost use Rattle.sam_term.specs.Fitting.{all_fit};
+ghost use Rattle.sam_term.specs.Loading.{EventsAskOnce, FramesAskOnce, LoadLaw, LoadsAll, LoadsFew, RuleWaits};
 ghost use Rattle.sam_term.specs.LockCounts.{locks_taken, takes_command, requests, locks_left, command_left, awaited_left};
 ghost use Rattle.sam_term.specs.Sound.{IsSound};
 ghost use Rattle.sam_term.specs.Unsent.{EventsSendFirst, FramesSendFirst};
@@ -74,8 +75,8 @@ pub fn unsent_goes_first()
     ensures frames { FramesSendFirst }
 {}
 
-/// Says what an event does to the locks: those that were held are held still, and the messages that it composes take theirs. A file
-/// awaits data if it did before, or if one of the messages asks for its data.
+/// Says what an event does to the locks: those that were held are held still, and the messages that it composes take theirs. The requests
+/// that a file awaited are awaited still, and beside them those among the messages.
 #[tactic(auto, using(crate::proofs::LockLaws::event_command, crate::proofs::LockLaws::event_locks, crate::proofs::LockLaws::event_awaits))]
 pub fn event_takes_locks()
     ensures command { (t : PlainTerminal) (e : UserEvent)
@@ -83,22 +84,22 @@ pub fn event_takes_locks()
     ensures files { (t : PlainTerminal) (e : UserEvent) (f : ℕ)
         → (window_at (event_outcome t e).0 f).locks ≡ (window_at t f).locks + locks_taken f (event_outcome t e).1 }
     ensures awaited { (t : PlainTerminal) (e : UserEvent) (f : ℕ)
-        → (window_at (event_outcome t e).0 f).awaits ≡ ((window_at t f).awaits || requests f (event_outcome t e).1) }
+        → (window_at (event_outcome t e).0 f).awaited ≡ (window_at t f).awaited + requests f (event_outcome t e).1 }
 {}
 
 /// Says what a flush does to the locks: those that were held are held still, and the message that it composes, if any, takes its lock. A
-/// file awaits data if it did before.
+/// file awaits what it did before.
 #[tactic(auto, using(crate::proofs::LockLaws::flush_command, crate::proofs::LockLaws::flush_locks, crate::proofs::LockLaws::flush_awaits))]
 pub fn flush_takes_locks()
     ensures command { (t : PlainTerminal) → (flushed t).0.command_lock ≡ (t.command_lock || takes_command (flushed t).1) }
     ensures files { (t : PlainTerminal) (f : ℕ)
         → (window_at (flushed t).0 f).locks ≡ (window_at t f).locks + locks_taken f (flushed t).1 }
     ensures awaited { (t : PlainTerminal) (f : ℕ)
-        → (window_at (flushed t).0 f).awaits ≡ ((window_at t f).awaits || requests f (flushed t).1) }
+        → (window_at (flushed t).0 f).awaited ≡ (window_at t f).awaited + requests f (flushed t).1 }
 {}
 
 /// Says what a frame does to the locks: it frees some and leaves the others, and the messages that are composed in answer take theirs. A
-/// file awaits data if it did and the frame leaves it so, or if one of the messages asks for its data.
+/// file awaits the requests that the frame leaves, and beside them those among the messages.
 #[tactic(auto, using(crate::proofs::LockLaws::frame_command, crate::proofs::LockLaws::frame_locks, crate::proofs::LockLaws::frame_awaits))]
 pub fn frame_changes_locks()
     ensures command { (t : PlainTerminal) (m : Hmesg)
@@ -106,5 +107,23 @@ pub fn frame_changes_locks()
     ensures files { (t : PlainTerminal) (m : Hmesg) (f : ℕ)
         → (window_at (frame_outcome t m).0 f).locks ≡ locks_left m f (window_at t f).locks + locks_taken f (frame_outcome t m).1 }
     ensures awaited { (t : PlainTerminal) (m : Hmesg) (f : ℕ)
-        → (window_at (frame_outcome t m).0 f).awaits ≡ (awaited_left m f (window_at t f).awaits || requests f (frame_outcome t m).1) }
+        → (window_at (frame_outcome t m).0 f).awaited ≡ awaited_left m f (window_at t f).awaited + requests f (frame_outcome t m).1 }
+{}
+
+/// Says which stretches a `Load` asks for: they are of gaps alone and lie one behind the other in the view, they are no more than it may
+/// ask for, and where they are fewer they have all gaps of the view.
+#[tactic(auto, using(crate::proofs::Stretches::load_law, crate::proofs::Loads::stretches_few, crate::proofs::Stretches::loads_all))]
+pub fn load_asks_for_gaps()
+    ensures gaps { LoadLaw }
+    ensures few { LoadsFew }
+    ensures all { LoadsAll }
+{}
+
+/// Says that the request rule composes nothing while a request is awaited, and so that a file never awaits more than one, as long as no
+/// `Load` acts.
+#[tactic(auto, using(crate::proofs::AskLaws::rule_waits, crate::proofs::AskLaws::events_ask_once, crate::proofs::AskLaws::frames_ask_once))]
+pub fn one_request_at_a_time()
+    ensures rule { RuleWaits }
+    ensures events { EventsAskOnce }
+    ensures frames { FramesAskOnce }
 {}

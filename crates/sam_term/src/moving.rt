@@ -1,7 +1,7 @@
 //! How a place moves as a text changes, and the changes of one `Window` with its dot and its view. They know nothing of tags or of the
 //! terminal. Only the functions for unsent runes are given a tag, since these may be of another file.
 
-ghost use Rattle.std.specs.Prelude.{◌≡◌, ◌+◌, ◌<◌, ◌≤◌, ◌^◌, length, OnErr, OnOk, Some, None, false, map, replicate, IfSome};
+ghost use Rattle.std.specs.Prelude.{◌≡◌, ◌+◌, ◌-◌, ◌<◌, ◌≤◌, ◌^◌, length, OnErr, OnOk, Some, None, false, map, replicate, IfSome};
 ghost use Rattle.sam_rasp.specs.Rasp.{place_after_ins, place_after_del, load_cells};
 ghost use Rattle.sam_runes.specs.Texts.{max_runes};
 ghost use Rattle.sam_term.specs.Sound.{AreWithin, shifted};
@@ -96,17 +96,17 @@ pub fn fill_window(window: &mut Window, p: u32, runes: &[char]) -> Result<(), Al
     Ok(())
 }
 
-/// Loads runes into the places of a window from `p` on, which then awaits nothing more. The only error is want of memory, and the window is
-/// then unchanged.
+/// Loads runes into the places of a window from `p` on, which then awaits one request less. The only error is want of memory, and the window
+/// is then unchanged.
 pub fn load_window(window: &mut Window, p: u32, runes: &[char]) -> Result<(), AllocError>
     requires { p + length runes.now ≤ length window.old.rasp }
-    ensures ok { OnOk result (window.new ≡ record window.old { rasp = load_cells window.old.rasp p runes.now; awaits = false }) }
+    ensures ok { OnOk result (window.new ≡ record window.old { rasp = load_cells window.old.rasp p runes.now; awaited = window.old.awaited - 1 }) }
     ensures err { OnErr result (window.new ≡ window.old) }
 {
     if window.rasp.data(p, runes).is_err() {
         return Err(AllocError);
     }
-    window.awaits = false;
+    window.awaited = window.awaited.saturating_sub(1);
     Ok(())
 }
 

@@ -18,8 +18,9 @@ pub struct Window {
     /// How many locks of the file are held, the command lock aside. No event on the file acts unless it is 0, and it is never more than
     /// the number of messages that the terminal has composed.
     pub locks: u64,
-    /// Whether a `Trequest` of the file was composed whose `Hdata` has not come. No other is composed until then.
-    pub awaits: bool,
+    /// How many `Trequest`s of the file were composed whose `Hdata` has not come. The request rule composes none until it is 0. It is never
+    /// more than the number of messages that the terminal has composed.
+    pub awaited: u64,
 }
 
 /// A file that the terminal knows. `Hnewname` makes it, with no name, clean, not changed here and not open, and `Hdelname` drops it.

@@ -68,7 +68,7 @@ impl Terminal {
     }
 
     /// Tells what is true of each window: dot and view lie within the rasp, which has at most `MAX_RUNES` runes and gaps, and it has no
-    /// more locks than messages were composed. It does nothing when the program runs.
+    /// more locks, nor awaits more requests, than messages were composed. It does nothing when the program runs.
     pub(crate) fn window_facts(&self, tag: u16)
         ensures { FitsWindow self.now.sent (window_at self.now tag) }
     {
@@ -137,7 +137,7 @@ impl Terminal {
         Ok(())
     }
 
-    /// Loads runes into the places of an open file from `p` on, whatever stood there. The file awaits nothing more, and no place moves.
+    /// Loads runes into the places of an open file from `p` on, whatever stood there. The file awaits one request less, and no place moves.
     /// The only error is want of memory, and the terminal is then unchanged.
     #[tactic(auto, using(crate::proofs::FileSteps::changed_facts), unfolding(crate::proofs::FileSteps::unsent_opened))]
     pub(crate) fn load_file(&mut self, tag: u16, p: u32, runes: &[char]) -> Result<(), AllocError>

@@ -122,8 +122,7 @@ fn cross_all(alloc: Global, file: &mut Text) -> Result<(), TextFault> {
         crossed(alloc, 4, 4),
         crossed(alloc, 5, 6),
     ];
-    *file = file.with_edits(&edits)?;
-    Ok(())
+    file.replace_all(&edits)
 }
 
 /// Whether the file is right once it was crossed, and whether a copy that was made before is as it was.
@@ -153,23 +152,24 @@ fn room_kept(rt: HostRuntime) {
 }
 
 /// What a text of one rune less than it may have tells.
-fn at_the_limit(file: &mut Text) -> ([Result<(), TextFault>; 3], u32) {
+fn at_the_limit(alloc: Global, file: &mut Text) -> ([Result<(), TextFault>; 4], u32) {
     let inserted = [file.insert(0, &['a', 'b']), file.insert(0, &['a'])];
+    let replaced = file.replace_all(&[crossed(alloc, 0, 0)]);
     let len = file.len();
-    ([inserted[0], inserted[1], file.reserve(1)], len)
+    ([inserted[0], inserted[1], replaced, file.reserve(1)], len)
 }
 
 /// The same of a new one.
-fn new_at_the_limit(alloc: Global) -> Option<([Result<(), TextFault>; 3], u32)> {
+fn new_at_the_limit(alloc: Global) -> Option<([Result<(), TextFault>; 4], u32)> {
     let runes = vec![in alloc; 'a'; 999_999].ok()?;
-    with_text(alloc, runes.as_slice(), |file| at_the_limit(file))
+    with_text(alloc, runes.as_slice(), |file| at_the_limit(alloc, file))
 }
 
 #[test]
 fn limit_of_runes(rt: HostRuntime) {
     let told = new_at_the_limit(rt.alloc());
     let too_long = Err(TextFault::TooLong);
-    assert_eq!(rt; told, Some(([too_long, Ok(()), too_long], MAX_RUNES)));
+    assert_eq!(rt; told, Some(([too_long, Ok(()), too_long, too_long], MAX_RUNES)));
 }
 
 /// How many bytes 4,095 runes of one byte and one of two have, and how many of the runes 4,096 bytes hold.

@@ -3,6 +3,8 @@
 #![tactic(auto)]
 
 #[cfg(test)]
+mod bells;
+#[cfg(test)]
 mod queue_lines;
 #[cfg(test)]
 mod rasp;

@@ -1,19 +1,16 @@
-//! The lines between threads: what their ends answer one by one, told of each other, and from three threads at once.
+//! The lines between threads: what their ends answer one by one, beside a plain list, and from three threads at once.
 
-ghost use Rattle.std.specs.Prelude.{◌≡◌, ◌<◌, ◌≤◌};
-ghost use Rattle.sam_queue.specs.Views.{new_post, new_take};
+ghost use Rattle.std.specs.Prelude.{◌<◌, ◌≤◌};
 
-use sam_queue::{Audit, Backoff, Got, Line, OutOfMemory, Post, Refused, Take, audit};
+use sam_queue::{Audit, Got, Line, OutOfMemory, Post, Refused, Take, audit};
 use sam_test_support::told_of;
-use std::alloc::Global;
+use std::alloc::{AllocError, Global};
 use std::sync::Wait;
-use std::test::Fail;
 use std::thread;
 use std::thread::Threads;
-use std::time::{Clock, Duration};
 
 /// Lends the ends of a new line to the body. Then a test has one exit, and not one for each thing that it asserts.
-fn tried<A, F: FnOnce(&mut [Post<'_, u32>], &mut Take<'_, u32>) -> A>(
+pub(crate) fn tried<A, F: FnOnce(&mut [Post<'_, u32>], &mut Take<'_, u32>) -> A>(
     alloc: Global,
     capacity: usize,
     senders: usize,
@@ -207,61 +204,151 @@ fn an_audit_gives_what_is_left(rt: HostRuntime) {
     assert_eq!(rt; told, Ok(([true; 3], Some((1, Some(true), true)))));
 }
 
-// The first item of a line with one sender goes through. It is proved that neither end refuses.
-#[tactic(auto, using(sam_queue::proofs::Laws::first_goes_through))]
-fn pass_first(rt: &impl Wait, post: &mut Post<'_, u32>, take: &mut Take<'_, u32>) -> Got<u32>
-    requires post { post.old ≡ new_post post.old.line 0 }
-    requires take { take.old ≡ new_take post.old.line }
-    requires line { (post.old.line.senders ≡ 1) × (0 < post.old.line.capacity) }
-    ensures { take.new.line ≡ post.new.line }
-{
-    let Ok(()) = post.try_send(rt, 7) else {
-        unreachable!()
-    };
-    take.learn_of(post);
-    let got = take.try_recv(rt);
-    if let Got::Empty = &got {
-        unreachable!()
-    }
-    got
+/// A line of which one thread has all ends, as a plain list: all that was put, and how much of it was taken.
+#[derive(Drop)]
+struct Plain {
+    put: Vec<(usize, Option<u32>)>,
+    taken: usize,
+    capacity: usize,
+    senders: usize,
+    closed: [bool; 3],
+    left: usize,
 }
 
-// What the next two sends and two receives answer, each end told of the other in between.
-fn learn_of_each_other(
+impl Plain {
+    fn is_full(&self) -> bool {
+        self.put.len().saturating_sub(self.taken) >= self.capacity
+    }
+
+    /// What `try_send` has to answer.
+    fn try_send(&mut self, sender: usize, item: u32) -> Result<Result<(), Refused<u32>>, AllocError>
+        requires { sender < 3 }
+    {
+        if self.closed[sender] {
+            return Ok(Err(Refused::Closed(item)));
+        }
+        if self.is_full() {
+            return Ok(Err(Refused::Full(item)));
+        }
+        self.put.push((sender, Some(item)))?;
+        Ok(Ok(()))
+    }
+
+    /// What `try_close` has to answer.
+    fn try_close(&mut self, sender: usize) -> Result<bool, AllocError>
+        requires { sender < 3 }
+    {
+        if self.closed[sender] {
+            return Ok(true);
+        }
+        if self.is_full() {
+            return Ok(false);
+        }
+        self.put.push((sender, None))?;
+        self.closed[sender] = true;
+        Ok(true)
+    }
+
+    /// What `try_recv` has to answer.
+    fn try_recv(&mut self) -> Got<u32> {
+        let Some((sender, load)) = self.put.get(self.taken).copied() else {
+            return if self.left == self.senders {
+                Got::Ended
+            } else {
+                Got::Empty
+            };
+        };
+        self.taken = self.taken.saturating_add(1);
+        let Some(item) = load else {
+            self.left = self.left.saturating_add(1);
+            return Got::Left(sender);
+        };
+        Got::Item(sender, item)
+    }
+}
+
+/// How many calls are made on each line. They close each sender in the end.
+const CALLS: u32 = 10_000;
+
+/// Makes one call, picked by a number, and returns whether it answers as the plain list does.
+fn agrees(
     rt: &impl Wait,
-    post: &mut Post<'_, u32>,
+    posts: &mut [Post<'_, u32>],
     take: &mut Take<'_, u32>,
-) -> (
-    Result<(), Refused<u32>>,
-    Result<(), Refused<u32>>,
-    Got<u32>,
-    Got<u32>,
-)
-    requires { take.old.line ≡ post.old.line }
+    plain: &mut Plain,
+    pick: u32,
+) -> Result<bool, AllocError> {
+    let sender = (pick % 3) as usize;
+    let kind = pick / 3 % 1_000;
+    if kind < 450 {
+        return Ok(take.try_recv(rt) == plain.try_recv());
+    }
+    let Some(post) = posts.get_mut(sender) else {
+        return Ok(true);
+    };
+    if kind < 996 {
+        return Ok(post.try_send(rt, pick) == plain.try_send(sender, pick)?);
+    }
+    Ok(post.try_close(rt) == plain.try_close(sender)?)
+}
+
+/// The number of the first call that answers otherwise than the plain list, counted from 0. The calls are the same in each run.
+fn first_other(
+    rt: &impl Wait,
+    posts: &mut [Post<'_, u32>],
+    take: &mut Take<'_, u32>,
+    plain: &mut Plain,
+) -> Result<Option<u32>, AllocError> {
+    let mut random = 1u64;
+    for call in 0..CALLS {
+        random = random
+            .wrapping_mul(6_364_136_223_846_793_005)
+            .wrapping_add(1_442_695_040_888_963_407);
+        let pick = (random >> 33) as u32;
+        if !agrees(rt, posts, take, plain, pick)? {
+            return Ok(Some(call));
+        }
+    }
+    Ok(None)
+}
+
+/// The same of the ends of a new line, and how many senders have left in the end.
+fn first_other_of_new(
+    rt: &impl Wait,
+    alloc: Global,
+    capacity: usize,
+    senders: usize,
+) -> Result<Result<(Option<u32>, usize), AllocError>, OutOfMemory>
+    requires room { 0 < capacity }
+    requires some { 0 < senders }
+    requires few { senders ≤ 3 }
 {
-    post.learn_of(take);
-    let second = post.try_send(rt, 8);
-    post.learn_of(take);
-    let third = post.try_send(rt, 9);
-    let got = take.try_recv(rt);
-    take.learn_of(post);
-    (second, third, got, take.try_recv(rt))
+    tried(alloc, capacity, senders, |posts, take| {
+        let mut plain = Plain {
+            put: Vec::new(alloc),
+            taken: 0,
+            capacity,
+            senders,
+            closed: [false; 3],
+            left: 0,
+        };
+        let other = first_other(rt, posts, take, &mut plain)?;
+        Ok((other, plain.left))
+    })
 }
 
 #[test]
-fn ends_learn_of_each_other(rt: HostRuntime) -> Result<(), Fail> {
-    let alloc: Global = rt.alloc();
-    let (line, start) = Line::<u32>::new(alloc, 1, 1)?;
-    let Ok((mut posts, mut take)) = start.split(alloc, &line) else {
-        return Err(Fail::new("memory"));
-    };
-    let post = &mut posts[0];
-    let first = pass_first(&rt, post, &mut take);
-    let (second, third, got, last) = learn_of_each_other(&rt, post, &mut take);
-    let told = (first, second, third, got, last);
-    let full = Err(Refused::Full(9));
-    assert!(rt; told == (Got::Item(0, 7), Ok(()), full, Got::Item(0, 8), Got::Empty));
-    Ok(())
+fn each_answer_in_one_thread_is_that_of_a_list(rt: HostRuntime) {
+    for senders in 1..4 {
+        for capacity in 1..6 {
+            let got = first_other_of_new(&rt, rt.alloc(), capacity, senders);
+            assert_eq!(rt;
+                got,
+                Ok(Ok((None, senders))),
+                "{senders} senders, {capacity} entries"
+            );
+        }
+    }
 }
 
 const ITEMS: u32 = 10_000;
@@ -343,65 +430,4 @@ fn three_threads_send_through_one_slot(rt: HostRuntime) {
 fn three_threads_send_through_many_slots(rt: HostRuntime) {
     let got = three_threads_send(&rt, rt.alloc(), 64);
     assert_eq!(rt; got, Ok(Some((3 * ITEMS, true, 3))));
-}
-
-// Milliseconds. Longer than an end gives way, and than its first sleeps take.
-const WHILE: u64 = 60;
-
-// Sends two items after a while, and closes.
-fn send_late<R: Wait + Clock>(rt: &R, post: &mut Post<'_, u32>) {
-    thread::sleep(rt, Duration::from_millis(WHILE));
-    let _ = post.send(rt, 7);
-    let _ = post.send(rt, 8);
-    post.close(rt);
-}
-
-// Takes the next entry by tries, with a wait after each one in vain.
-fn take_by_tries<R: Wait>(rt: &R, take: &mut Take<'_, u32>) -> Got<u32> {
-    let mut backoff = Backoff::new();
-    for _ in rt.forever() {
-        match take.try_recv(rt) {
-            Got::Empty => take.wait(rt, &mut backoff),
-            got => return got,
-        }
-    }
-    unreachable!()
-}
-
-// Takes an item that comes late, leaves the sender waiting for a while, and takes the rest.
-fn take_late<R: Wait + Clock>(rt: &R, take: &mut Take<'_, u32>) -> [Got<u32>; 4] {
-    let first = take_by_tries(rt, take);
-    thread::sleep(rt, Duration::from_millis(WHILE));
-    let second = take_by_tries(rt, take);
-    [first, second, take.recv(rt), take.recv(rt)]
-}
-
-// A sender and a taker that wait for each other, each in a thread of its own. What the taker got.
-fn join_two(
-    rt: &(impl Wait + Threads + Clock + Sync),
-    post: &mut Post<'_, u32>,
-    take: &mut Take<'_, u32>,
-) -> [Got<u32>; 4] {
-    let (_, got) = thread::join(rt, || send_late(rt, post), || take_late(rt, take));
-    got
-}
-
-// What the taker of two such threads got over a new line, where it has one post.
-fn wake_each_other(
-    rt: &(impl Wait + Threads + Clock + Sync),
-    alloc: Global,
-) -> Result<Option<[Got<u32>; 4]>, OutOfMemory> {
-    tried(alloc, 1, 1, |posts, take| {
-        let [post] = posts else {
-            return None;
-        };
-        Some(join_two(rt, post, take))
-    })
-}
-
-#[test]
-fn ends_that_sleep_are_woken(rt: HostRuntime) {
-    let got = wake_each_other(&rt, rt.alloc());
-    let rest = [Got::Item(0, 7), Got::Item(0, 8), Got::Left(0), Got::Ended];
-    assert!(rt; got == Ok(Some(rest)));
 }

@@ -25,8 +25,8 @@ impl From<FilesFault> for Refused {
 }
 
 /// Makes tag 1 the work file, named `a`, with this text and dot 0,0.
-fn begin(alloc: Global, files: &mut Files, text: &[char]) -> Result<(), Refused> {
-    files.new_file(alloc, ['a'].as_slice(), text)?;
+fn begin(files: &mut Files, text: &[char]) -> Result<(), Refused> {
+    files.new_file(['a'].as_slice(), text)?;
     files.set_work(1, 0, 0)?;
     Ok(())
 }
@@ -44,15 +44,15 @@ fn with_file<A, F: FnOnce(&mut Files) -> A>(alloc: Global, text: &[char], body: 
     requires { F.IsAlwaysCallable body }
 {
     let mut files = Files::new(alloc).ok()?;
-    begin(alloc, &mut files, text).ok()?;
+    begin(&mut files, text).ok()?;
     Some(body(&mut files))
 }
 
 /// What a line prints, run on a work file of this text.
 fn ran(alloc: Global, files: &mut Files, start: &[char], line: &str) -> Result<Runes, Refused> {
-    begin(alloc, files, start)?;
+    begin(files, start)?;
     let line = runes(alloc, line)?;
-    let outcome = files.run_line(alloc, line.as_slice())?;
+    let outcome = files.run_line(line.as_slice())?;
     Ok(files.commit(outcome))
 }
 
@@ -262,9 +262,9 @@ fn snarf_and_paste(rt: HostRuntime) {
     let alloc = rt.alloc();
     let told = with_file(alloc, &['x', 'y'], |files| {
         (
-            files.snarf(alloc, 1, 0, 2),
+            files.snarf(1, 0, 2),
             files.paste(1, 2).is_ok() && spells(files, 1, "xyxy"),
-            files.set_snarf(alloc, ['!'].as_slice()),
+            files.set_snarf(['!'].as_slice()),
             files.paste(1, 0).is_ok() && spells(files, 1, "!xyxy"),
         )
     });
@@ -285,7 +285,7 @@ fn a_written_file(rt: HostRuntime) {
     let told = with_file(alloc, &['x', 'y', 'z'], |files| {
         (
             files.double_click(1, 1),
-            files.write(alloc, 1),
+            files.write(1),
             has_saved(files, &['x', 'y', 'z']),
         )
     });
@@ -298,11 +298,54 @@ fn tags_are_given_once(rt: HostRuntime) {
     let told = with_file(alloc, &['x', 'y'], |files| {
         (
             files.close(1).is_ok(),
-            files.new_file(alloc, ['a'].as_slice(), [].as_slice()),
-            files.start_file(alloc),
+            files.new_file(['a'].as_slice(), [].as_slice()),
+            files.start_file(),
         )
     });
     assert_eq!(rt; told, Some((true, Ok(2), Ok(3))));
+}
+
+#[test]
+fn marks_and_the_work_file(rt: HostRuntime) {
+    let alloc = rt.alloc();
+    let told = with_file(alloc, &['x', 'y'], |files| {
+        let before = (files.is_open(1), files.is_announced(1));
+        let marked = (files.announce(1), files.open(0), files.set_dot(1, 1, 2));
+        let begun = (files.start_file(), files.work(), files.open_work(1));
+        let after = (files.is_open(1), files.is_announced(1), files.is_open(0));
+        (before, marked, begun, after, files.work(), files.dot(1))
+    });
+    let marked = (Ok(()), Ok(()), Ok(()));
+    let begun = (Ok(2), Some(2), Ok(()));
+    let after = (true, true, true);
+    let wanted = ((false, false), marked, begun, after, Some(1), Some((1, 2)));
+    assert_eq!(rt; told, Some(wanted));
+}
+
+#[test]
+fn the_command_file_stays_clean(rt: HostRuntime) {
+    let alloc = rt.alloc();
+    let told = with_file(alloc, &['x', 'y'], |files| {
+        let typed = files.insert(0, 0, &['a', 'b', 'c']);
+        let changed = (
+            files.delete(0, 0, 1),
+            files.set_snarf(&['!']),
+            files.paste(0, 2),
+        );
+        let texts = (spells(files, 0, "bc!"), spells(files, 1, "xy"));
+        (
+            typed,
+            changed,
+            texts,
+            files.is_dirty(0),
+            files.is_dirty(1),
+            files.delete(1, 0, 1),
+            files.is_dirty(1),
+        )
+    });
+    let changed = (Ok(()), Ok(()), Ok(()));
+    let wanted = (Ok(()), changed, (true, true), false, false, Ok(()), true);
+    assert_eq!(rt; told, Some(wanted));
 }
 
 #[test]
@@ -310,9 +353,9 @@ fn look_and_search(rt: HostRuntime) {
     let alloc = rt.alloc();
     let told = with_file(alloc, &['a', 'b', 'c', 'a', 'b'], |files| {
         (
-            files.look(alloc, 1, 0, 2),
+            files.look(1, 0, 2),
             files.search(1, 3, 5),
-            files.look(alloc, 1, 2, 2),
+            files.look(1, 2, 2),
             files.dot(1),
         )
     });

@@ -149,31 +149,69 @@ fn replays(alloc: Global, script: &Script, settled: &Settled) -> bool {
     })
 }
 
-/// Whether a session of this script, so stopped, replays.
-fn stopped_replays<T: Threads + Wait + Sync, G: Gate>(
+/// A session of which each worker has three steps or more to do, and in which nobody but the terminal exits.
+const LONG: &str =
+    "file a hello\\n\nk version 1\nk opencmd\nk open 1\nk type 1 X\nk type 0 ,x/l/d\\n\nm flush\nm flush\nm flush\n";
+
+/// How many events the keyboard of `LONG` has, and how many the mouse.
+const KEYS: u64 = 5;
+
+const CLICKS: u64 = 3;
+
+/// How many events of users and how many frames the terminal handled.
+fn handled_by_terminal(schedule: &[Event]) -> (u64, u64) {
+    let (mut users, mut frames) = (0u64, 0u64);
+    for event in schedule {
+        match event {
+            Event::User(_) => users = users.wrapping_add(1),
+            Event::TermTake => frames = frames.wrapping_add(1),
+            _ => {}
+        }
+    }
+    (users, frames)
+}
+
+/// Whether the gate stopped somebody, and the worker had then done as much as the gate says. An Exit of the terminal's own comes behind
+/// all events of users.
+fn has_stopped_at(settled: &Settled, gate: &StopsAt) -> bool {
+    let done = gate.handled;
+    let (users, frames) = handled_by_terminal(settled.schedule.as_slice());
+    let is_done = match gate.worker {
+        0 => users == done.wrapping_add(CLICKS + 1),
+        1 => users == done.wrapping_add(KEYS + 1),
+        2 => settled.world.host().taken() == done,
+        3 => frames == done,
+        _ => users.wrapping_add(frames) == done,
+    };
+    is_done && settled.stops.as_slice().contains(&Stop::Gate)
+}
+
+/// Whether a session of this script, so stopped, has stopped there, and whether it replays.
+fn stopped<T: Threads + Wait + Sync>(
     rt: &T,
     alloc: Global,
     script: &Script,
-    gate: &G,
-) -> bool {
+    gate: &StopsAt,
+) -> (bool, bool) {
     let came_to = run_threads(rt, alloc, script, 1, 1, gate);
     told_of(came_to, |came_to| match came_to {
-        Ok(settled) => replays(alloc, script, settled),
-        Err(_) => false,
+        Ok(settled) => (
+            has_stopped_at(settled, gate),
+            replays(alloc, script, settled),
+        ),
+        Err(_) => (false, false),
     })
 }
 
-/// Whether a session of this text, stopped at the worker's nth item for each of three n, replays.
-fn stops_replay<T: Threads + Wait + Sync>(rt: &T, alloc: Global, worker: usize) -> bool {
-    let Ok(script) = Script::read(alloc, HELLO.as_bytes()) else {
-        return false;
-    };
-    for handled in 0..3 {
-        if !stopped_replays(rt, alloc, &script, &StopsAt { worker, handled }) {
-            return false;
-        }
-    }
-    true
+/// The same of a session of `LONG`, where the worker is stopped once it has handled so many.
+fn stopped_long<T: Threads + Wait + Sync>(
+    rt: &T,
+    alloc: Global,
+    worker: usize,
+    handled: u64,
+) -> Option<(bool, bool)> {
+    let script = Script::read(alloc, LONG.as_bytes()).ok()?;
+    Some(stopped(rt, alloc, &script, &StopsAt { worker, handled }))
 }
 
 /// Whether the host was stopped before its first message, which is under way.
@@ -215,11 +253,21 @@ fn a_worker_that_may_not_begin_times_out(rt: HostRuntime) {
 }
 
 #[test]
-fn a_session_stopped_anywhere_replays(rt: HostRuntime) {
+fn a_session_stops_where_its_gate_says_and_replays(rt: HostRuntime) {
     for worker in 0..5 {
-        let replays = stops_replay(&rt, rt.alloc(), worker);
-        assert!(rt; replays, "worker {worker}");
+        for handled in 0..3 {
+            let got = stopped_long(&rt, rt.alloc(), worker, handled);
+            assert_eq!(rt; got, Some((true, true)), "worker {worker} at {handled}");
+        }
     }
+}
+
+#[test]
+fn a_gate_of_flags_refuses_until_all_are_up(rt: HostRuntime) {
+    let gate = FlagGate::new(10);
+    let without_one = [gate.pass(0), gate.pass(2), gate.pass(3), gate.pass(4)];
+    assert_eq!(rt; without_one, [false; 4]);
+    assert_eq!(rt; [gate.pass(1), gate.pass(0)], [true; 2]);
 }
 
 #[test]

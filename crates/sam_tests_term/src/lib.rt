@@ -6,6 +6,8 @@ mod editing;
 #[cfg(test)]
 mod end;
 #[cfg(test)]
+mod loading;
+#[cfg(test)]
 mod terminal;
 #[cfg(test)]
 mod trying;

@@ -1,14 +1,27 @@
 -- What holds of all files stays so under each change.
-use Rattle.sam_text.proofs.Common.{◌≡◌, ℕ, zero, suc, ◌<◌, ◌≤◌, List, [], ◌∷◌, length, true, sym, subst, arith, length-append, ◌-◌, unwrap_or, is_some, Result, Ok, Err, OnOk, OnErr, length-drop, length-take-le, ⊤, all_tags, part, Slots, slot, put_slot, free_slot, slot-put_same, slot-put_other, slot-free_same, slot-free_other, slot-map, slot_given, length-put_slot, length-free_slot, length-map_slots, put_slot-push, PlainFile, PlainFiles, blank_file, file_at, has_file, put_file, with_new, without_file, announced_file, announce_all, IsFit, HasShortName, AreSoundFiles}
+use Rattle.sam_text.proofs.Common.{◌≡◌, ◌==◌, ◌∙◌, refl, ap, false, Range, changed, ℕ, zero, suc, ◌<◌, ◌≤◌, List, [], ◌∷◌, length, true, sym, subst, arith, length-append, ◌-◌, unwrap_or, is_some, Result, Ok, Err, OnOk, OnErr, length-drop, length-take-le, ⊤, all_tags, part, Slots, slot, put_slot, free_slot, slot-put_same, slot-put_other, slot-free_same, slot-free_other, slot-map, slot_given, length-put_slot, length-free_slot, length-map_slots, put_slot-push, PlainFile, PlainFiles, blank_file, file_at, has_file, put_file, with_new, without_file, announced_file, announce_all, IsFit, HasShortName, AreSoundFiles}
 use Rattle.sam_text.proofs.FitLaws.{all-put, fit-put}
+use Rattle.sam_text.specs.Files.{IsCommandFileClean, IsSoundFile}
+use Rattle.sam_text.specs.Views.{KeepsClean, inserted_file}
+use Rattle.sam_text.specs.declared.file.FileChange.{FileChange}
 
 -- a tag that has a file keeps one where a file is put
 pub given-put : {X : Type 0} (ss : Slots X) (f g : ℕ) (x : X) → is_some (slot ss g) ≡ true → is_some (slot (put_slot ss f x) g) ≡ true
 given-put ss f g x e = grind (arith, slot-put_same, slot-put_other)
 
+-- the command file stays clean where another file is put, and where a clean one is put in its place
+pub clean-put : (fs : PlainFiles) (g : ℕ) (x : PlainFile) → IsCommandFileClean fs → (g ≡ 0 → x.dirty ≡ false) → IsCommandFileClean (put_file fs g x)
+clean-put fs zero x all new = ap (λ s. (unwrap_or s blank_file).dirty) (slot-put_same fs.slots 0 x) ∙ new refl
+clean-put fs (suc g) x all new = ap (λ s. (unwrap_or s blank_file).dirty) (slot-put_other fs.slots (suc g) 0 x (omega arith)) ∙ all
+
+-- a change that makes no file dirty leaves a clean one clean
+pub clean-changed : (change : FileChange) (file : PlainFile) → KeepsClean change → file.dirty ≡ false → (changed change file).dirty ≡ false
+clean-changed change file keeps clean = grind arith
+
 -- a file is put where one was
-pub kept_put : (fs : PlainFiles) (g : ℕ) (x : PlainFile) → AreSoundFiles fs → has_file fs g ≡ true → IsFit x → HasShortName x → AreSoundFiles (put_file fs g x)
-kept_put fs g x all there fit short = grind (arith, length-put_slot, slot_given, given-put, fit-put, (all-put HasShortName))
+pub kept_put : (fs : PlainFiles) (g : ℕ) (x : PlainFile) → AreSoundFiles fs → has_file fs g ≡ true → IsFit x → HasShortName x → (g ≡ 0 → x.dirty ≡ false)
+    → AreSoundFiles (put_file fs g x)
+kept_put fs g x all there fit short clean = grind (arith, length-put_slot, slot_given, given-put, fit-put, (all-put HasShortName), (clean-put fs g x all.7 clean))
 
 -- what holds of every file, and of a blank one, holds of every file once one is gone
 pub all-free : (P : PlainFile → Type 0) (fs : PlainFiles) (g : ℕ) → P blank_file → ((f : ℕ) → P (file_at fs f)) → (f : ℕ) → P (unwrap_or (slot (free_slot fs.slots g) f) blank_file)
@@ -20,11 +33,13 @@ kept_free fs g all positive = grind (arith, length-free_slot, slot-free_other, (
 
 -- a file is added
 pub kept_new : (fs : PlainFiles) (x : PlainFile) → AreSoundFiles fs → length fs.slots < all_tags → IsFit x → HasShortName x → AreSoundFiles (with_new fs x)
-kept_new fs x all free fit short = grind (arith, put_slot-push, length-append, given-put, fit-put, (all-put HasShortName))
+kept_new fs x all free fit short =
+    let clean : length fs.slots ≡ 0 → x.dirty ≡ false = λ e. absurd (omega (arith, e, slot_given fs.slots 0 all.1)) in
+    grind (arith, put_slot-push, length-append, given-put, fit-put, (all-put HasShortName), (clean-put fs (length fs.slots) x all.7 clean))
 
--- a file that was added is there
-pub new_is_there : (fs : PlainFiles) (x : PlainFile) → has_file (with_new fs x) (length fs.slots) ≡ true
-new_is_there fs x = grind (arith, slot-put_same)
+-- a file that was put is there
+pub put_is_there : (fs : PlainFiles) (f : ℕ) (x : PlainFile) → has_file (put_file fs f x) f ≡ true
+put_is_there fs f x = grind (arith, slot-put_same)
 
 -- what holds of every file, also once it is announced, holds of every file once all are announced
 pub all-announce : (P : PlainFile → Type 0) → ((x : PlainFile) → P x → P (announced_file x)) → (ss : Slots PlainFile)
@@ -33,15 +48,27 @@ all-announce P step [] all f = all f
 all-announce P step (s ∷ ss) all zero = all 0
 all-announce P step (s ∷ ss) all (suc f) = let here : P (unwrap_or (slot ss f) blank_file) = all (suc f) in grind (arith, (slot-map announced_file ss f))
 
+clean-announce : (fs : PlainFiles) (ss : Slots PlainFile) → (unwrap_or (slot ss 0) blank_file).dirty ≡ false → (unwrap_or (slot (announce_all ss) 0) blank_file).dirty ≡ false
+clean-announce fs [] clean = clean
+clean-announce fs (s ∷ ss) clean = clean
+
 -- all files but the command file are announced
 pub kept_announce : (fs : PlainFiles) → AreSoundFiles fs → AreSoundFiles (record fs { slots = announce_all fs.slots })
-kept_announce fs all = grind (arith, (all-announce IsFit), (all-announce HasShortName), length-map_slots, slot-map)
+kept_announce fs all = grind (arith, (all-announce IsFit), (all-announce HasShortName), length-map_slots, slot-map, (clean-announce fs fs.slots all.7))
 
--- a file is put where one was, or nothing is changed
-pub kept_put_or : {E : Type 0} (fs : PlainFiles) (g : ℕ) (x : PlainFile) → AreSoundFiles fs → has_file fs g ≡ true → (r : Result ⊤ E) (after : Slots PlainFile)
-    → OnOk r (after ≡ put_slot fs.slots g x) → OnOk r ((IsFit x) × (HasShortName x)) → OnErr r (after ≡ fs.slots) → AreSoundFiles (record fs { slots = after })
-kept_put_or fs g x all there (Ok u) after same kept err = subst (λ ss. AreSoundFiles (record fs { slots = ss })) (sym same) (kept_put fs g x all there kept.0 kept.1)
-kept_put_or fs g x all there (Err e) after same kept err = subst (λ ss. AreSoundFiles (record fs { slots = ss })) (sym err) all
+-- what is put in the command file leaves it clean
+clean-inserted : (fs : PlainFiles) (g p : ℕ) (s : List ℕ) (dot : Range) → IsCommandFileClean fs → g ≡ 0 → (inserted_file (file_at fs g) p s dot (g == 0)).dirty ≡ false
+clean-inserted fs zero p s dot clean e = clean
+clean-inserted fs (suc g) p s dot clean e = absurd (omega (arith, e))
+
+-- runes are put in a file, or nothing is changed
+pub kept_insert_or : {E : Type 0} (fs : PlainFiles) (g p : ℕ) (s : List ℕ) (dot : Range) → AreSoundFiles fs → has_file fs g ≡ true
+    → (r : Result ⊤ E) (after : Slots PlainFile) → OnOk r (after ≡ put_slot fs.slots g (inserted_file (file_at fs g) p s dot (g == 0)))
+    → OnOk r (IsSoundFile (inserted_file (file_at fs g) p s dot (g == 0))) → OnErr r (after ≡ fs.slots) → AreSoundFiles (record fs { slots = after })
+kept_insert_or fs g p s dot all there (Ok u) after same kept err =
+    subst (λ ss. AreSoundFiles (record fs { slots = ss })) (sym same)
+    (kept_put fs g (inserted_file (file_at fs g) p s dot (g == 0)) all there kept.0 kept.1 (clean-inserted fs g p s dot all.7))
+kept_insert_or fs g p s dot all there (Err e) after same kept err = subst (λ ss. AreSoundFiles (record fs { slots = ss })) (sym err) all
 
 -- a file is added, or nothing is changed
 pub kept_new_or : {E : Type 0} (fs : PlainFiles) (x : PlainFile) → AreSoundFiles fs → length fs.slots < all_tags → IsFit x → HasShortName x

@@ -52,6 +52,21 @@ impl Files {
         Ok(())
     }
 
+    /// Tests that the tag has a file, and that `n` runes can be put in at place `p` of its text. Errors, in this order: `NoFile`;
+    /// `BadPosition` if `p` is past the end; `TooLong` if the text would have more than `MAX_RUNES` runes.
+    pub fn wants_insert(&self, tag: u16, p: u32, n: usize) -> Result<(), FilesFault>
+        ensures answer { result ≡ unless (first_of_checks (insert_checks self.now.plain tag p n)) tt }
+        ensures there { OnOk result (has_file self.now.plain tag ≡ true) }
+        ensures within { OnOk result (p ≤ length (file_at self.now.plain tag).text) }
+        ensures fits { OnOk result (length (file_at self.now.plain tag).text + n ≤ max_runes) }
+    {
+        self.wants_place(tag, p)?;
+        if self.passes_limit(tag, n) {
+            return Err(FilesFault::TooLong);
+        }
+        Ok(())
+    }
+
     /// Closes a file: takes it away, with its saved copy. If it was the work file, there is none afterwards. The tag is not given again;
     /// the caller makes sure that it is not 0. The only error is `NoFile` if the tag has no file; the files are then unchanged.
     pub fn close(&mut self, tag: u16) -> Result<(), FilesFault>
@@ -86,6 +101,7 @@ impl Files {
     ///
     /// Errors, in this order: `NoFile` if the tag has no file; `BadPosition` if `q` is less than `p` or past the end of the text. After
     /// an error the files are unchanged.
+    #[tactic(auto, using(crate::proofs::KeptLaws::put_is_there))]
     pub fn set_work(&mut self, tag: u16, p: u32, q: u32) -> Result<(), FilesFault>
         requires { 0 < tag }
         ensures answer { result ≡ unless (first_of_checks (range_checks self.old.plain tag p q)) tt }
@@ -93,9 +109,8 @@ impl Files {
         ensures rooms { KeepRooms self.old self.new }
         ensures unchanged { OnErr result (self.new ≡ self.old) }
     {
-        self.wants_range(tag, p, q)?;
+        self.set_dot(tag, p, q)?;
         self.put_work(tag);
-        self.change(tag, FileChange::Dot(p, q));
         Ok(())
     }
 
@@ -114,6 +129,7 @@ impl Files {
 
     /// Marks a file as open, and makes it the work file; its dot stays. The caller makes sure that the tag is not 0. The only error is
     /// `NoFile` if the tag has no file; the files are then unchanged.
+    #[tactic(auto, using(crate::proofs::KeptLaws::put_is_there))]
     pub fn open_work(&mut self, tag: u16) -> Result<(), FilesFault>
         requires { 0 < tag }
         ensures answer { result ≡ unless (first_of_checks (file_checks self.old.plain tag)) tt }
@@ -121,9 +137,8 @@ impl Files {
         ensures rooms { KeepRooms self.old self.new }
         ensures unchanged { OnErr result (self.new ≡ self.old) }
     {
-        self.wants_file(tag)?;
+        self.open(tag)?;
         self.put_work(tag);
-        self.change(tag, FileChange::Open);
         Ok(())
     }
 
@@ -187,10 +202,7 @@ impl Files {
             room_at self.old.rooms tag ≤ room_at self.new.rooms tag + length runes.now) }
         ensures rooms { KeepRooms self.old self.new }
     {
-        self.wants_place(tag, p)?;
-        if self.passes_limit(tag, runes.len()) {
-            return Err(FilesFault::TooLong);
-        }
+        self.wants_insert(tag, p, runes.len())?;
         let end = p + runes.len() as u32;
         self.put_in(tag, p, runes, (end, end))
     }
@@ -324,7 +336,7 @@ impl Files {
     /// name, and it is clean, open and announced.
     ///
     /// Errors, in this order: `NoTag` if all tags were given; `OutOfMemory`. After an error the files are unchanged.
-    #[tactic(auto, using(crate::proofs::KeptLaws::new_is_there))]
+    #[tactic(auto, using(crate::proofs::KeptLaws::put_is_there))]
     pub fn start_file(&mut self) -> Result<u16, FilesFault>
         ensures checked { IsChecked (no_tag self.old.plain ∷ []) result }
         ensures tag { IfOk result (λ tag. tag ≡ length self.old.plain.slots) }
@@ -402,10 +414,7 @@ impl Files {
         ensures unchanged { OnErr result (self.new ≡ self.old) }
         ensures rooms { KeepRooms self.old self.new }
     {
-        self.wants_place(tag, p)?;
-        if self.passes_limit(tag, self.snarf_text().len()) {
-            return Err(FilesFault::TooLong);
-        }
+        self.wants_insert(tag, p, self.snarf_text().len())?;
         self.put_snarf_in(tag, p)
     }
 

@@ -56,7 +56,7 @@ impl Files {
     }
 
     /// Returns whether place `p` is past the end of the text of a file, which counts as empty if the tag has no file.
-    pub fn is_past_end(&self, tag: u16, p: u32) -> bool
+    pub(crate) fn is_past_end(&self, tag: u16, p: u32) -> bool
         ensures { result ≡ nat_lt (length (file_at self.now.plain tag).text) p }
     {
         self.text_len(tag) < p as usize
@@ -64,7 +64,7 @@ impl Files {
 
     /// Returns whether the text of a file, which counts as empty if the tag has no file, has no range from place `p` to place `q`: `q` is
     /// less than `p` or past the end.
-    pub fn lacks_range(&self, tag: u16, p: u32, q: u32) -> bool
+    pub(crate) fn lacks_range(&self, tag: u16, p: u32, q: u32) -> bool
         ensures { result ≡ nat_lt q p || nat_lt (length (file_at self.now.plain tag).text) q }
     {
         q < p || self.is_past_end(tag, q)
@@ -120,7 +120,8 @@ impl Files {
         }
     }
 
-    /// Returns whether the file of a tag is dirty, as `File::is_dirty` tells it; false if the tag has no file.
+    /// Returns whether the file of a tag is dirty, as `File::is_dirty` tells it; false if the tag has no file. That tag 0 never is, `facts`
+    /// says.
     pub fn is_dirty(&self, tag: u16) -> bool
         ensures { result ≡ (file_at self.now.plain tag).dirty }
     {
@@ -182,7 +183,7 @@ impl Files {
 
     /// Returns the first occurrence of `lit` in a file that begins at or after place `from`, or else the first of the text, as the places
     /// of its start and its end; `None` if there is none. The caller makes sure that `lit` is not empty, and `from` not past the end.
-    pub fn find(&self, tag: u16, lit: &[char], from: u32) -> Option<(u32, u32)>
+    pub(crate) fn find(&self, tag: u16, lit: &[char], from: u32) -> Option<(u32, u32)>
         requires filled { 0 < length lit.now }
         requires within { from ≤ length (file_at self.now.plain tag).text }
         ensures value { result ≡ searched (file_at self.now.plain tag).text lit.now from }
@@ -196,7 +197,7 @@ impl Files {
 
     /// Returns the word of a file that has place `p` inside it or at an edge, or the empty range at `p` if there is none. The caller
     /// makes sure that `p` is not past the end. A word is made of ASCII letters, digits and underscores, and of runes above U+007F.
-    pub fn word(&self, tag: u16, p: u32) -> (u32, u32)
+    pub(crate) fn word(&self, tag: u16, p: u32) -> (u32, u32)
         requires { p ≤ length (file_at self.now.plain tag).text }
         ensures value { result ≡ word_at (file_at self.now.plain tag).text p }
         ensures range { (result.0 ≤ result.1) × (result.1 ≤ length (file_at self.now.plain tag).text) }
@@ -209,7 +210,7 @@ impl Files {
 
     /// Returns the first occurrence of the pattern that was searched last in a file from place `from` on, or else the first of the text;
     /// `None` if there is no pattern or it stands nowhere. The caller makes sure that `from` is not past the end.
-    pub fn search_from(&self, tag: u16, from: u32) -> Option<(u32, u32)>
+    pub(crate) fn search_from(&self, tag: u16, from: u32) -> Option<(u32, u32)>
         requires { from ≤ length (file_at self.now.plain tag).text }
         ensures value { result ≡ search_of self.now.plain tag from }
         ensures range { IfSome result (λ r. (r.0 ≤ r.1) × (r.1 ≤ length (file_at self.now.plain tag).text)) }

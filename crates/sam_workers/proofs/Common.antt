@@ -20,7 +20,7 @@ pub use Rattle.sam_mesg.specs.declared.tmesg.Tmesg.{Tmesg}
 pub use Rattle.sam_mesg.specs.declared.tmesg.Tmesg.TheVariants.{Tack, Tsetsnarf}
 pub use Rattle.sam_queue.proofs.Sorts.{items_of-append}
 pub use Rattle.sam_queue.specs.History.{IsEnded, StartsWith, has_left, has_mark, items_of, loads}
-pub use Rattle.sam_queue.specs.Views.{Answers, LineView, PostView, TakeView, TakesNext, WasFull, closed_post, new_post, new_take, with_item}
+pub use Rattle.sam_queue.specs.Views.{Answers, CanBeFull, LineView, PostView, TakeView, TakesNext, closed_post, new_post, new_take, with_item}
 pub use Rattle.sam_queue.specs.declared.rule.Entry.{Entry}
 pub use Rattle.sam_term.specs.Term.{Made, PlainTerminal, flush_of, frame_outcome, made_unless, new_terminal, sends, sends_if, unchanged}
 unfoldable pub use Rattle.sam_term.specs.Term.{act_of, flushed, requested, take_of}

@@ -1,5 +1,5 @@
 -- What is kept of the terminal's worker, step by step.
-use Rattle.sam_workers.proofs.Common.{◌≡◌, ◌⊎◌, refl, flat_map-append, ℕ, Bool, true, false, List, [], ◌∷◌, ◌++◌, Option, Some, None, is_some, append_assoc, append-nil, arith, MatchBool, Vec, HFrame, FitsT, Tmesg, terminal, stream_of, stream_of-append, PlainTerminal, new_terminal, UserEvent, Exit, TermLog, Each, TermRuns, term_more, each_append, IsEnded, has_left, TakeView, PostView, WasFull, closed_post, new_take, new_post, sides, frames_in, users_in, LoggedView, Did, SideView, SoFar, Ran, Goes, IsDone, IsQuiet, IsFound, PutSome, Input, Stop, TermTold}
+use Rattle.sam_workers.proofs.Common.{◌≡◌, ◌⊎◌, refl, flat_map-append, ℕ, Bool, true, false, List, [], ◌∷◌, ◌++◌, Option, Some, None, is_some, append_assoc, append-nil, arith, MatchBool, Vec, HFrame, FitsT, Tmesg, terminal, stream_of, stream_of-append, PlainTerminal, new_terminal, UserEvent, Exit, TermLog, Each, TermRuns, term_more, each_append, IsEnded, has_left, TakeView, PostView, CanBeFull, closed_post, new_take, new_post, sides, frames_in, users_in, LoggedView, Did, SideView, SoFar, Ran, Goes, IsDone, IsQuiet, IsFound, PutSome, Input, Stop, TermTold}
 use Rattle.sam_world.specs.Logs.{logged_users}
 use Rattle.sam_workers.proofs.RealLaws.{counts}
 use Rattle.sam_workers.proofs.TermSteps.{did_nothing}
@@ -99,7 +99,7 @@ pub kept_short : (v : SideView) (post : PostView (Vec ℕ)) (to_send : List ℕ)
     → Ran (record { take = v.take; post = post; logged = v.logged; to_send = to_send; keyboard_left = v.keyboard_left; mouse_left = v.mouse_left; exit_put = v.exit_put; stop = Some stop.Memory })
 kept_short v post to_send most r running p = grind (arith, (kept_pieces v post to_send most r p))
 
-pub kept_closed : (v : SideView) (post : PostView (Vec ℕ)) (b : Bool) → Ran v → MatchBool b (post ≡ closed_post v.post) ((post ≡ v.post) × (v.post.closed ≡ false) × WasFull v.post)
+pub kept_closed : (v : SideView) (post : PostView (Vec ℕ)) (b : Bool) → Ran v → MatchBool b (post ≡ closed_post v.post) ((post ≡ v.post) × (v.post.closed ≡ false) × CanBeFull v.post)
     → Ran (record { take = v.take; post = post; logged = v.logged; to_send = v.to_send; keyboard_left = v.keyboard_left; mouse_left = v.mouse_left; exit_put = v.exit_put; stop = v.stop })
 kept_closed v post b e u = grind arith
 

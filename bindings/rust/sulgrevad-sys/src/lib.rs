@@ -142,6 +142,7 @@ extern "C" {
     pub fn sam_term_dclick(term: *mut sam_term, tag: u16, place: u32) -> sam_status;
     pub fn sam_term_scroll(term: *mut sam_term, tag: u16, lines: u32) -> sam_status;
     pub fn sam_term_view(term: *mut sam_term, tag: u16, place: u32, len: u32) -> sam_status;
+    pub fn sam_term_load(term: *mut sam_term, tag: u16, place: u32, len: u32) -> sam_status;
     pub fn sam_term_open(term: *mut sam_term, tag: u16) -> sam_status;
     pub fn sam_term_open_cmd(term: *mut sam_term) -> sam_status;
     pub fn sam_term_new_file(term: *mut sam_term) -> sam_status;

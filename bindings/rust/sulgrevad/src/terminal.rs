@@ -138,9 +138,14 @@ impl Terminal {
         done(unsafe { sys::sam_term_scroll(self.at(), tag, lines) })
     }
 
-    /// Shows at most so many runes of the file from a place on, and asks for those that are not loaded.
+    /// Shows at most so many runes of the file from a place on, and asks for those that are not loaded, a stretch at a time.
     pub fn view(&mut self, tag: u16, place: u32, len: u32) -> Result<(), Error> {
         done(unsafe { sys::sam_term_view(self.at(), tag, place, len) })
+    }
+
+    /// Shows the same as `view`, and asks for all that is not loaded at once, so that it comes in one round trip.
+    pub fn load(&mut self, tag: u16, place: u32, len: u32) -> Result<(), Error> {
+        done(unsafe { sys::sam_term_load(self.at(), tag, place, len) })
     }
 
     /// Offers a version: 2 allows longer snarfed texts.

@@ -74,6 +74,21 @@ fn gaps_are_told_and_fill() -> Result<(), Error> {
 }
 
 #[test]
+fn a_page_is_asked_for_at_once() -> Result<(), Error> {
+    let text = "x".repeat(1500);
+    let (mut host, mut term, file) = opened(&text)?;
+    let sent = term.sent();
+    term.load(file, 0, 1500)?;
+    assert_eq!(term.sent() - sent, 3); // 512, 512 and 476 runes
+    carry(&mut term, &mut host)?;
+    assert_eq!(term.sent() - sent, 3);
+    assert_eq!(term.first_gap(file, 0), None);
+    assert_eq!(term.view_of(file), Some((0, 1500)));
+    assert!(!term.locked(file));
+    Ok(())
+}
+
+#[test]
 fn a_written_file_is_told_once() -> Result<(), Error> {
     let (mut host, mut term, file) = opened("one\n")?;
     term.write(file)?;

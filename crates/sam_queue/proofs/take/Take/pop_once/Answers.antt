@@ -14,4 +14,4 @@ returns-in_default g c =
 pub invariant_of-self-2 : goal.invariant_of-self-2
 invariant_of-self-2 g c =
     let t = took _ c.in-Some.entry _ (subst (λ (v : Port g.row.T.Denot). Takes v c.in-Some.entry (view c.try_pop_as.new.pass)) c.self.invariant.2 c.in-Some.ensures.rule) in
-    (grind arith, grind arith, t.knows, c.self.invariant.3, subst (Marks c.mark.new.left) (sym t.taken) (c.mark.ensures _ c.self.invariant.4))
+    (grind arith, grind arith, t.knows, c.self.invariant.3, subst (Marks c.noted-got.new.left) (sym t.taken) (c.noted-got.ensures.marks _ c.self.invariant.4))

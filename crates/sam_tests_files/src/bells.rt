@@ -1,0 +1,293 @@
+//! How the ends of a line wake each other. A sleep also ends by itself, so a test measures how soon it ended, and asks that most of
+//! its wakes came sooner than a sleep ends. The others are left to a machine that has more to do.
+
+use crate::queue_lines::tried;
+use sam_queue::{Backoff, Line, OutOfMemory, Post, Take};
+use std::alloc::Global;
+use std::sync::Wait;
+use std::sync::atomic::{AtomicU64, Ordering};
+use std::thread::Threads;
+use std::time::{Clock, Duration, Instant};
+use std::{io, thread};
+
+/// How often an end is woken.
+const WAKES: u64 = 12;
+
+/// How many of these wakes have to come soon.
+const MANY: u64 = 8;
+
+/// Soon, in microseconds: a quarter of the longest sleep of an end.
+const SOON: u64 = 6_400;
+
+/// How often an end waits before each further sleep is as long as the longest, or some more.
+const DEEP: u64 = 212;
+
+/// Microseconds between two looks of a test at a count.
+const GLANCE: u64 = 100;
+
+/// Looks at a count that doesn't move, before a test gives up: ten seconds or more.
+const GLANCES: u32 = 100_000;
+
+/// What an end that waits and the thread that wakes it share.
+#[derive(Drop)]
+struct Watch {
+    /// How often the end has tried, or sent.
+    tries: AtomicU64,
+    /// Not 0 once the end need not wait any longer.
+    over: AtomicU64,
+}
+
+impl Watch {
+    fn new() -> Watch {
+        Watch {
+            tries: AtomicU64::new(0),
+            over: AtomicU64::new(0),
+        }
+    }
+
+    /// How often the end has tried so far.
+    fn tries(&self) -> u64 {
+        self.tries.load(Ordering::SeqCst)
+    }
+
+    /// Counts one try more.
+    fn count(&self) {
+        self.tries.fetch_add(1, Ordering::SeqCst);
+    }
+
+    /// Waits until the end has tried so often, and returns whether that was soon.
+    fn until<R: Clock>(&self, rt: &R, tries: u64) -> io::Result<bool> {
+        let begin = Instant::now(rt)?;
+        for _ in 0..GLANCES {
+            if self.tries() >= tries {
+                break;
+            }
+            thread::sleep(rt, Duration::from_micros(GLANCE));
+        }
+        Ok(begin.elapsed(rt)? < Duration::from_micros(SOON))
+    }
+}
+
+// Tries a line with a wait after each try, until the watch is over. Its later waits are as long as can be.
+fn try_on<R: Wait>(rt: &R, take: &mut Take<'_, u32>, watch: &Watch) {
+    let mut backoff = Backoff::new();
+    for _ in rt.forever() {
+        if watch.over.load(Ordering::SeqCst) > 0 {
+            return;
+        }
+        let _ = take.try_recv(rt);
+        watch.count();
+        take.wait(rt, &mut backoff);
+    }
+    unreachable!()
+}
+
+// Puts an item each time that the end has just begun to sleep, and counts how often that woke it soon.
+fn wake_by_items<R: Wait + Clock>(
+    rt: &R,
+    post: &mut Post<'_, u32>,
+    watch: &Watch,
+) -> io::Result<u64> {
+    watch.until(rt, DEEP)?;
+    let mut soon = 0u64;
+    for _ in 0..WAKES {
+        let next = watch.tries().saturating_add(1);
+        watch.until(rt, next)?;
+        let _ = post.try_send(rt, 7);
+        if watch.until(rt, next.saturating_add(1))? {
+            soon = soon.wrapping_add(1);
+        }
+    }
+    Ok(soon)
+}
+
+// An end that waits, and a thread that wakes it by items.
+fn join_by_items(
+    rt: &(impl Wait + Threads + Clock + Sync),
+    post: &mut Post<'_, u32>,
+    take: &mut Take<'_, u32>,
+    watch: &Watch,
+) -> io::Result<u64> {
+    let (_, soon) = thread::join(
+        rt,
+        || try_on(rt, take, watch),
+        || {
+            let soon = wake_by_items(rt, post, watch);
+            watch.over.store(1, Ordering::SeqCst);
+            soon
+        },
+    );
+    soon
+}
+
+// How often an item woke the take of a new line soon, where it has one post.
+fn woken_by_items(
+    rt: &(impl Wait + Threads + Clock + Sync),
+    alloc: Global,
+) -> Result<Option<io::Result<u64>>, OutOfMemory> {
+    let watch = Watch::new();
+    tried(alloc, 1, 1, |posts, take| {
+        let [post] = posts else {
+            return None;
+        };
+        Some(join_by_items(rt, post, take, &watch))
+    })
+}
+
+#[test]
+fn what_is_put_wakes_the_taker(rt: HostRuntime) {
+    let soon = woken_by_items(&rt, rt.alloc());
+    assert!(rt; matches!(soon, Ok(Some(Ok(MANY..)))), "{soon:?}");
+}
+
+// Takes an entry of another line each time that the end has just begun to sleep, and counts how often that woke it soon.
+fn wake_from_afar<R: Wait + Clock>(
+    rt: &R,
+    post: &mut Post<'_, u32>,
+    take: &mut Take<'_, u32>,
+    watch: &Watch,
+) -> io::Result<u64> {
+    watch.until(rt, DEEP)?;
+    let mut soon = 0u64;
+    for _ in 0..WAKES {
+        let _ = post.try_send(rt, 7);
+        let next = watch.tries().saturating_add(1);
+        watch.until(rt, next)?;
+        let _ = take.try_recv(rt);
+        if watch.until(rt, next.saturating_add(1))? {
+            soon = soon.wrapping_add(1);
+        }
+    }
+    Ok(soon)
+}
+
+// An end that waits, and a thread that wakes it by what it takes from another line.
+fn join_from_afar(
+    rt: &(impl Wait + Threads + Clock + Sync),
+    post: &mut Post<'_, u32>,
+    take: &mut Take<'_, u32>,
+    waits: &mut Take<'_, u32>,
+    watch: &Watch,
+) -> io::Result<u64> {
+    let (_, soon) = thread::join(
+        rt,
+        || try_on(rt, waits, watch),
+        || {
+            let soon = wake_from_afar(rt, post, take, watch);
+            watch.over.store(1, Ordering::SeqCst);
+            soon
+        },
+    );
+    soon
+}
+
+// How often what was taken from a line woke the take of another line soon.
+fn woken_from_afar(
+    rt: &(impl Wait + Threads + Clock + Sync),
+    alloc: Global,
+) -> Result<Option<io::Result<u64>>, OutOfMemory> {
+    let watch = Watch::new();
+    let (line, start) = Line::<u32>::new(alloc, 1, 1)?;
+    let (other, other_start) = Line::<u32>::new(alloc, 1, 1)?;
+    let Ok((mut posts, take)) = start.split(alloc, &line) else {
+        return Err(OutOfMemory);
+    };
+    let Ok((_, mut waits)) = other_start.split(alloc, &other) else {
+        return Err(OutOfMemory);
+    };
+    let mut take = take.waking(&other);
+    let Some(post) = posts.first_mut() else {
+        return Ok(None);
+    };
+    Ok(Some(join_from_afar(rt, post, &mut take, &mut waits, &watch)))
+}
+
+#[test]
+fn what_is_taken_wakes_the_taker_of_another_line(rt: HostRuntime) {
+    let soon = woken_from_afar(&rt, rt.alloc());
+    assert!(rt; matches!(soon, Ok(Some(Ok(MANY..)))), "{soon:?}");
+}
+
+/// Milliseconds. Longer than an end gives way, and than its first sleeps take.
+const WHILE: u64 = 60;
+
+// Sends one item after another, and counts them. The first finds room.
+fn send_on(rt: &impl Wait, post: &mut Post<'_, u32>, watch: &Watch) {
+    for _ in 0..=WAKES {
+        let _ = post.send(rt, 7);
+        watch.count();
+    }
+}
+
+// Leaves the sender waiting for a while each time before it takes an item, and counts how often that woke it soon.
+fn wake_by_room<R: Wait + Clock>(
+    rt: &R,
+    take: &mut Take<'_, u32>,
+    watch: &Watch,
+) -> io::Result<u64> {
+    let mut soon = 0u64;
+    for sent in 0..WAKES {
+        thread::sleep(rt, Duration::from_millis(WHILE));
+        let _ = take.recv(rt);
+        if watch.until(rt, sent.saturating_add(2))? {
+            soon = soon.wrapping_add(1);
+        }
+    }
+    Ok(soon)
+}
+
+// A sender that waits for room, and a thread that makes room.
+fn join_by_room(
+    rt: &(impl Wait + Threads + Clock + Sync),
+    post: &mut Post<'_, u32>,
+    take: &mut Take<'_, u32>,
+    watch: &Watch,
+) -> io::Result<u64> {
+    let (_, soon) = thread::join(
+        rt,
+        || send_on(rt, post, watch),
+        || wake_by_room(rt, take, watch),
+    );
+    soon
+}
+
+// How often an item that was taken woke the sender of a new line soon, where it has one post.
+fn woken_by_room(
+    rt: &(impl Wait + Threads + Clock + Sync),
+    alloc: Global,
+) -> Result<Option<io::Result<u64>>, OutOfMemory> {
+    let watch = Watch::new();
+    tried(alloc, 1, 1, |posts, take| {
+        let [post] = posts else {
+            return None;
+        };
+        Some(join_by_room(rt, post, take, &watch))
+    })
+}
+
+#[test]
+fn what_is_taken_wakes_the_sender(rt: HostRuntime) {
+    let soon = woken_by_room(&rt, rt.alloc());
+    assert!(rt; matches!(soon, Ok(Some(Ok(MANY..)))), "{soon:?}");
+}
+
+/// Waits of an end in a row, of which some give way and the others sleep.
+const WAITS: u32 = 400;
+
+// How often an end of an empty line waits before it says that it sleeps next.
+fn waits_before_sleep(rt: &impl Wait, take: &Take<'_, u32>) -> Option<u32> {
+    let mut backoff = Backoff::new();
+    for waits in 0..WAITS {
+        if backoff.sleeps_next() {
+            return Some(waits);
+        }
+        take.wait(rt, &mut backoff);
+    }
+    None
+}
+
+#[test]
+fn an_end_gives_way_before_it_says_that_it_sleeps(rt: HostRuntime) {
+    let waits = tried(rt.alloc(), 1, 1, |_, take| waits_before_sleep(&rt, take));
+    assert!(rt; matches!(waits, Ok(Some(100..))), "{waits:?}");
+}

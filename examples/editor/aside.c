@@ -1,0 +1,287 @@
+/* aside.c: saves texts that are not written.
+ *
+ * A changed text goes to NAME.sam-saved beside its file, or to a folder for temporary files where that can't be. It goes there when its
+ * file could not be written, when the user pauses, when its file is closed and when the session ends. It is removed once it is written.
+ */
+#define _XOPEN_SOURCE 700
+#include <errno.h>
+#include <stdlib.h>
+#include <string.h>
+#include <sys/stat.h>
+#include <unistd.h>
+
+#include "samhost.h"
+
+int take_text(struct session *session, uint16_t tag)
+{
+    struct text *text = &session->text;
+    size_t bytes = 0, runes = 1;
+    uint32_t place = 0;
+
+    for (text->len = 0; runes > 0; text->len += bytes) {
+        uint32_t code = sam_host_text(&session->host, tag, place, text->bytes + text->len, MOST_BYTES - text->len, &bytes, &runes);
+        if (code != SAM_OK)
+            return code == SAM_NO_MEMORY ? ENOMEM : ENOENT;
+        place += (uint32_t)runes;
+    }
+    return 0;
+}
+
+/* ---- Copies ---- */
+
+bool is_own(const struct copy *copy)
+{
+    struct stat now;
+
+    return copy->path != NULL && lstat(copy->path, &now) == 0 && now.st_dev == copy->device && now.st_ino == copy->inode
+        && (uint64_t)now.st_size == copy->content.len && now.st_mtim.tv_sec == copy->written.tv_sec
+        && now.st_mtim.tv_nsec == copy->written.tv_nsec;
+}
+
+void forget_aside(struct document *document)
+{
+    free(document->aside.path);
+    document->aside.path = NULL;
+}
+
+void drop_aside(struct document *document)
+{
+    if (is_own(&document->aside))
+        unlink(document->aside.path);
+    forget_aside(document);
+}
+
+/* What the text of a file is called in lines and in names of copies, in memory of its own: by its path, or where it has none by its
+ * tag. */
+static char *name_of(struct session *session, uint16_t tag)
+{
+    int error;
+    char *path = path_of(session, tag, &error);
+
+    return path != NULL || error == ENOMEM ? path : formatted(UNNAMED "%u", (unsigned)tag);
+}
+
+/* Saves the text in session->text where it was saved before, else in a new copy. */
+static int save_aside(struct session *session, uint16_t tag)
+{
+    struct copy *aside = &session->documents[tag].aside, copy;
+
+    if (is_own(aside) && (is_same(aside->content, content_of(&session->text)) || keep_again(&session->text, aside) == 0))
+        return 0;
+    char *name = name_of(session, tag);
+    int error = name == NULL ? ENOMEM : keep(&session->text, name, SAVED, &copy);
+    free(name);
+    if (error == 0) {
+        drop_aside(&session->documents[tag]); /* an older text that could not be replaced */
+        *aside = copy;
+    }
+    return error;
+}
+
+/* ---- Changed texts ---- */
+
+static bool has_file(struct session *session, size_t tag)
+{
+    bool has = false;
+
+    return sam_host_has_file(&session->host, (uint16_t)tag, &has) == SAM_OK && has;
+}
+
+/* Whether the text of a file may be nowhere on disk. */
+static bool is_changed(struct session *session, uint16_t tag)
+{
+    bool is_dirty = true;
+
+    if (tag == 0 || !has_file(session, tag))
+        return false;
+    return sam_host_is_dirty(&session->host, tag, &is_dirty) != SAM_OK || is_dirty || session->documents[tag].is_unsaved;
+}
+
+/* Whether its file has the text in session->text already. A copy may be removed any time, so it is no file, whatever it is named as. */
+static bool stands_in_its_file(struct session *session, uint16_t tag)
+{
+    int error;
+    char *path = path_of(session, tag, &error);
+    bool stands = path != NULL && owner_at(session, path) == NULL && is_same(content_at(path), content_of(&session->text));
+
+    free(path);
+    return stands;
+}
+
+int secure(struct session *session, uint16_t tag, enum place *place)
+{
+    *place = IN_ITS_FILE;
+    if (!is_changed(session, tag))
+        return 0;
+    int error = take_text(session, tag);
+    if (error == 0 && stands_in_its_file(session, tag)) {
+        drop_aside(&session->documents[tag]);
+        return 0;
+    }
+    *place = ASIDE;
+    return error != 0 ? error : save_aside(session, tag);
+}
+
+bool save_changed(struct session *session)
+{
+    size_t tags = 0;
+    bool all = true;
+    enum place place;
+
+    sam_host_tags(&session->host, &tags);
+    for (size_t tag = 1; tag < tags; tag++) {
+        struct document *document = &session->documents[tag];
+        int error = secure(session, (uint16_t)tag, &place);
+        if (error != 0 && !document->is_reported) {
+            char *name = name_of(session, (uint16_t)tag);
+            say("the text of %s can't be saved aside: %s", name == NULL ? "a file" : name, cause(error));
+            free(name);
+        }
+        document->is_reported = error != 0;
+        all &= error == 0;
+    }
+    return all;
+}
+
+struct document *owner_at(struct session *session, const char *path)
+{
+    struct stat status;
+    size_t tags = 0;
+
+    if (stat(path, &status) != 0)
+        return NULL;
+    sam_host_tags(&session->host, &tags);
+    for (size_t tag = 1; tag < tags; tag++) {
+        struct document *document = &session->documents[tag];
+        const struct copy *aside = &document->aside;
+        if (aside->path != NULL && aside->device == status.st_dev && aside->inode == status.st_ino && is_own(aside))
+            return document;
+    }
+    return NULL;
+}
+
+int move_aside(struct session *session, struct document *owner)
+{
+    uint16_t tag = (uint16_t)(owner - session->documents);
+    struct copy before = owner->aside;
+    int error = take_text(session, tag);
+
+    owner->aside.path = NULL;
+    if (error == 0)
+        error = save_aside(session, tag);
+    if (error == 0)
+        free(before.path);
+    else
+        owner->aside = before;
+    return error;
+}
+
+/* ---- Closing and leaving ---- */
+
+/* Saves a text that will not be written any more, and reports where it is. */
+static int save_for_good(struct session *session, uint16_t tag, const char *name)
+{
+    enum place place;
+    int error = secure(session, tag, &place);
+
+    if (error == 0 && place == ASIDE)
+        say("%s was not written; its text is in %s", name, session->documents[tag].aside.path);
+    return error;
+}
+
+/* Holds a text until the end, when it is tried again. */
+static void hold_closed(struct session *session, uint16_t tag, const char *name)
+{
+    int error = take_text(session, tag);
+    struct closed *closed = malloc(sizeof *closed);
+    uint8_t *bytes = malloc(session->text.len + 1);
+    char *own = formatted("%s", name);
+
+    if (error != 0 || closed == NULL || bytes == NULL || own == NULL) {
+        free(closed);
+        free(bytes);
+        free(own);
+        say("the text of %s is lost: %s", name, cause(ENOMEM));
+        session->is_lost = true;
+        return;
+    }
+    memcpy(bytes, session->text.bytes, session->text.len);
+    *closed = (struct closed){.next = session->closed, .name = own, .text = {bytes, session->text.len}};
+    session->closed = closed;
+}
+
+void save_closing(struct session *session, uint16_t tag)
+{
+    char *name = name_of(session, tag);
+    const char *known = name == NULL ? "a file" : name;
+    int error = save_for_good(session, tag, known);
+
+    if (error != 0) {
+        say("%s is closed, and its text can't be saved: %s", known, cause(error));
+        hold_closed(session, tag, known);
+    }
+    free(name);
+}
+
+void free_document(struct document *document)
+{
+    while (document->known != NULL) {
+        struct known *known = document->known;
+        document->known = known->next;
+        free(known->path);
+        free(known);
+    }
+    free(document->path);
+    free(document->shown);
+    free(document->aside.path);
+    *document = (struct document){0};
+}
+
+void forget_closed(struct session *session, uint16_t tag)
+{
+    if (!has_file(session, tag))
+        free_document(&session->documents[tag]);
+}
+
+/* Tries the texts again that could not be saved when their files were closed. */
+static bool save_closed(struct session *session)
+{
+    bool all = !session->is_lost;
+
+    while (session->closed != NULL) {
+        struct closed *closed = session->closed;
+        struct copy copy;
+        int error = keep(&closed->text, closed->name, SAVED, &copy);
+        if (error == 0)
+            say("%s was not written; its text is in %s", closed->name, copy.path);
+        else
+            say("the text of %s is lost: %s", closed->name, cause(error));
+        all &= error == 0;
+        session->closed = closed->next;
+        free(copy.path);
+        free(closed->name);
+        free(closed->text.bytes);
+        free(closed);
+    }
+    return all;
+}
+
+bool save_last(struct session *session)
+{
+    size_t tags = 0;
+    bool all = save_closed(session);
+
+    sam_host_tags(&session->host, &tags);
+    for (size_t tag = 1; tag < tags; tag++) {
+        if (!is_changed(session, (uint16_t)tag))
+            continue;
+        char *name = name_of(session, (uint16_t)tag);
+        const char *known = name == NULL ? "a file" : name;
+        int error = save_for_good(session, (uint16_t)tag, known);
+        if (error != 0)
+            say("the text of %s is lost: %s", known, cause(error));
+        all &= error == 0;
+        free(name);
+    }
+    return all;
+}

@@ -1,0 +1,356 @@
+/* disk.c: puts a text into a file.
+ *
+ * As a rule a new file takes the place of the old one, so that a crash never leaves half a file. Where that can't be, or would take
+ * something from the file (its other names, its owner, its access list), it is written in place. What it was is kept in a file of its
+ * own meanwhile.
+ */
+#define _XOPEN_SOURCE 700
+#include <errno.h>
+#include <fcntl.h>
+#include <stdio.h>
+#include <stdlib.h>
+#include <string.h>
+#include <sys/stat.h>
+#include <unistd.h>
+#ifdef __linux__
+#include <sys/xattr.h>
+#endif
+
+#include "samhost.h"
+
+enum {
+    MOST_KEPT = 1000,      /* names that are tried for a copy */
+    ATTRIBUTES_ROOM = 4096 /* bytes of the names of a file's attributes */
+};
+
+#define ACCESS_LIST "system.posix_acl_access"
+#define OF_THE_SYSTEM "security." /* what names of attributes begin with that the system gives to a new file by itself */
+
+/* ---- Access ---- */
+
+/* Whether a file has attributes that a new file would not have, an access list among them. */
+static bool has_attributes(const char *path)
+{
+#ifdef __linux__
+    char names[ATTRIBUTES_ROOM];
+    ssize_t len = listxattr(path, names, sizeof names);
+
+    for (const char *name = names; len > 0 && name < names + len; name += strlen(name) + 1) {
+        if (strncmp(name, OF_THE_SYSTEM, strlen(OF_THE_SYSTEM)) != 0)
+            return true;
+    }
+    return len < 0 && errno == ERANGE;
+#else
+    (void)path;
+    return false;
+#endif
+}
+
+/* Takes from a new file the access list that its folder gave it. Returns whether it has none. */
+static bool drop_access_list(int file)
+{
+#ifdef __linux__
+    return fremovexattr(file, ACCESS_LIST) == 0 || errno == ENODATA || errno == ENOTSUP;
+#else
+    (void)file;
+    return true;
+#endif
+}
+
+/* Gives a new file the owner, the group and the mode of the one in whose place it comes. EPERM where the system doesn't allow it. */
+static int take_access(int file, const struct stat *old)
+{
+    struct stat new;
+
+    if (!drop_access_list(file))
+        return EPERM;
+    if (fstat(file, &new) != 0)
+        return errno;
+    if ((new.st_uid != old->st_uid || new.st_gid != old->st_gid) && fchown(file, old->st_uid, old->st_gid) != 0)
+        return EPERM;
+    if (fchmod(file, old->st_mode & 07777) != 0 || fstat(file, &new) != 0)
+        return errno;
+    return new.st_mode == old->st_mode ? 0 : EPERM;
+}
+
+/* Gives a copy of a file the owner, the group and the mode of the file, as far as the system allows it, and nobody more than the file
+ * does. What only the file's group may do is not for a group that takes its place. Where the file has an access list, or isn't there, the
+ * copy is its owner's alone. */
+static int take_part_of_access(int file, const char *like)
+{
+    struct stat old, new;
+
+    if (like == NULL || stat(like, &old) != 0 || fstat(file, &new) != 0)
+        return 0;
+    bool has_group = old.st_gid == new.st_gid || fchown(file, (uid_t)-1, old.st_gid) == 0;
+    int taken = old.st_uid == new.st_uid ? 0 : fchown(file, old.st_uid, (gid_t)-1);
+    (void)taken; /* where its owner stays another, nobody has more of it */
+    mode_t mode = old.st_mode & 0777;
+    if (!drop_access_list(file) || has_attributes(like))
+        mode &= 0700;
+    else if (!has_group)
+        mode &= 0707 | ((mode & 07) << 3);
+    return fchmod(file, mode) == 0 ? 0 : errno;
+}
+
+/* ---- New files ---- */
+
+/* Has a file have just a text, and waits until the disk has it. */
+static int fill(int file, const struct text *text)
+{
+    for (size_t at = 0; at < text->len;) {
+        ssize_t count = pwrite(file, text->bytes + at, text->len - at, (off_t)at);
+        if (count <= 0)
+            return count < 0 ? errno : EIO;
+        at += (size_t)count;
+    }
+    return ftruncate(file, (off_t)text->len) == 0 && fsync(file) == 0 ? 0 : errno;
+}
+
+/* Closes a file that was written. What went wrong before counts more. */
+static int close_written(int file, int error)
+{
+    int closed = close(file) == 0 ? 0 : errno;
+
+    return error != 0 ? error : closed;
+}
+
+/* Has the disk keep the names of the folder of a path. Not every kind of file system can. */
+static void sync_folder(const char *path)
+{
+    char *folder = folder_of(path);
+    int file = folder == NULL ? -1 : open(*folder == '\0' ? "." : folder, O_RDONLY | O_DIRECTORY | O_CLOEXEC);
+
+    if (file >= 0) {
+        fsync(file);
+        close(file);
+    }
+    free(folder);
+}
+
+/* Makes a file beside a path, for what is to take that path when it is whole, and opens it. Hands out its path, in memory of the
+ * caller's. */
+static int make_temporary(const char *path, char **temporary, int *file)
+{
+    char base[BASE_ROOM];
+    char *folder = folder_of(path);
+
+    base_of(path, base);
+    *temporary = folder == NULL ? NULL : formatted("%s" TEMPORARY "%s-XXXXXX", folder, base);
+    *file = *temporary == NULL ? -1 : mkstemp(*temporary);
+    int error = *temporary == NULL ? ENOMEM : *file < 0 ? errno : 0;
+    free(folder);
+    if (error != 0) {
+        free(*temporary);
+        *temporary = NULL;
+    }
+    return error;
+}
+
+/* Removes what could not take its place. */
+static void drop_temporary(char *temporary, bool is_placed)
+{
+    if (temporary != NULL && !is_placed)
+        unlink(temporary);
+    free(temporary);
+}
+
+/* ---- Copies ---- */
+
+/* Moves a file to a name that nobody has. */
+static int move_to_free(const char *path, const char *name)
+{
+    if (link(path, name) == 0) {
+        unlink(path);
+        return 0;
+    }
+    if (errno == EEXIST)
+        return EEXIST;
+    /* Not every kind of file system has links. There an empty file takes the name before. */
+    int file = open(name, O_WRONLY | O_CREAT | O_EXCL | O_CLOEXEC, 0600);
+    if (file < 0)
+        return errno;
+    close(file);
+    if (rename(path, name) == 0)
+        return 0;
+    int error = errno;
+    unlink(name);
+    return error;
+}
+
+/* Moves a file to the first of NAME, NAME.2 and so on that nobody has, and hands out which, in memory of the caller's. */
+static int move_to_first(const char *path, const char *name, char **found)
+{
+    for (int at = 1; at <= MOST_KEPT; at++) {
+        *found = at == 1 ? formatted("%s", name) : formatted("%s.%d", name, at);
+        int error = *found == NULL ? ENOMEM : move_to_free(path, *found);
+        if (error == 0)
+            return 0;
+        free(*found);
+        *found = NULL;
+        if (error != EEXIST)
+            return error;
+    }
+    return EEXIST;
+}
+
+/* Makes a file of a text beside a path, which it is to take, and marks it as a copy. Hands out where it is. */
+static int make_copy(const struct text *text, const char *path, const char *like, struct copy *copy, char **temporary)
+{
+    struct stat made;
+    int file, error = make_temporary(path, temporary, &file);
+
+    if (error != 0)
+        return error;
+    error = take_part_of_access(file, like);
+    if (error == 0)
+        error = fill(file, text);
+    if (error == 0 && fstat(file, &made) != 0)
+        error = errno;
+    error = close_written(file, error);
+    if (error == 0) {
+        copy->device = made.st_dev;
+        copy->inode = made.st_ino;
+        copy->written = made.st_mtim;
+        copy->content = content_of(text);
+    }
+    return error;
+}
+
+/* Puts a text into a new file whose name begins with a path and a suffix. */
+static int keep_as(const struct text *text, const char *front, const char *suffix, const char *like, struct copy *copy)
+{
+    char *name = formatted("%s%s", front, suffix), *temporary = NULL;
+    int error = name == NULL ? ENOMEM : make_copy(text, front, like, copy, &temporary);
+
+    if (error == 0)
+        error = move_to_first(temporary, name, &copy->path);
+    if (error == 0)
+        sync_folder(copy->path);
+    drop_temporary(temporary, error == 0);
+    free(name);
+    return error;
+}
+
+int keep(const struct text *text, const char *name, const char *suffix, struct copy *copy)
+{
+    char base[BASE_ROOM];
+    char *folder = folder_of(name);
+    int error = ENOMEM;
+
+    *copy = (struct copy){0};
+    base_of(name, base);
+    for (int which = 0; folder != NULL; which++) {
+        char *front = formatted("%s%s", folder, base);
+        error = front == NULL ? ENOMEM : keep_as(text, front, suffix, which == 0 ? name : NULL, copy);
+        free(front);
+        free(folder);
+        if (error == 0)
+            break;
+        folder = temporary_folder(which);
+    }
+    return error;
+}
+
+int keep_again(const struct text *text, struct copy *copy)
+{
+    struct copy new = {.path = copy->path};
+    char *temporary = NULL;
+    int error = make_copy(text, copy->path, copy->path, &new, &temporary);
+
+    if (error == 0 && rename(temporary, copy->path) != 0)
+        error = errno;
+    if (error == 0) {
+        *copy = new;
+        sync_folder(copy->path);
+    }
+    drop_temporary(temporary, error == 0);
+    return error;
+}
+
+/* ---- Files ---- */
+
+/* Whether a file may be replaced: it has what is known, or what it is to have. A file that is gone may come again. */
+static bool may_replace(struct request *request, struct content found)
+{
+    request->found = found;
+    return found.kind == NOT_THERE || is_same(found, request->known) || is_same(found, content_of(request->text));
+}
+
+/* Puts a new file in the place of the old one, or where none is (`old` is NULL). */
+static int put_new(struct request *request, const struct stat *old)
+{
+    char *temporary = NULL;
+    int file, error = make_temporary(request->path, &temporary, &file);
+
+    if (error == 0) {
+        if (old != NULL)
+            error = take_access(file, old);
+        else if (fchmod(file, request->mode) != 0)
+            error = errno;
+        error = close_written(file, error != 0 ? error : fill(file, request->text));
+    }
+    if (error == 0 && !may_replace(request, content_at(request->path)))
+        error = IS_CHANGED;
+    if (error == 0 && rename(temporary, request->path) != 0)
+        error = errno;
+    if (error == 0)
+        sync_folder(request->path);
+    drop_temporary(temporary, error == 0);
+    return error;
+}
+
+/* Writes into an open file, which has `old`. Where that fails, it gets `old` back; where that fails, too, `old` stays where it is kept. */
+static int write_over(struct request *request, int file, const struct text *old)
+{
+    struct copy kept;
+    int error = keep(old, request->path, OLD, &kept);
+
+    if (error != 0)
+        return error;
+    error = fill(file, request->text);
+    if (error != 0 && fill(file, old) != 0) {
+        request->old = kept.path;
+        return error;
+    }
+    unlink(kept.path);
+    free(kept.path);
+    return error;
+}
+
+static int put_in_place(struct request *request)
+{
+    struct text old = {0};
+    int file = open(request->path, O_RDWR | O_CLOEXEC), error = file < 0 ? errno : 0;
+
+    if (error == 0)
+        error = read_all(file, MOST_BYTES, &old);
+    if (error == 0)
+        error = may_replace(request, content_of(&old)) ? write_over(request, file, &old) : IS_CHANGED;
+    if (file >= 0)
+        error = close_written(file, error);
+    free(old.bytes);
+    return error;
+}
+
+/* Whether an error means that no new file can take the place of one, while that one may yet be written. */
+static bool is_of_the_place(int error)
+{
+    return error == EACCES || error == EPERM || error == EROFS || error == EBUSY || error == EXDEV;
+}
+
+int put_file(struct request *request)
+{
+    struct stat old;
+
+    if (stat(request->path, &old) != 0)
+        return errno == ENOENT ? put_new(request, NULL) : errno;
+    if (!S_ISREG(old.st_mode))
+        return S_ISDIR(old.st_mode) ? EISDIR : NOT_REGULAR;
+    if (access(request->path, W_OK) != 0)
+        return errno;
+    if (old.st_nlink > 1 || has_attributes(request->path))
+        return put_in_place(request);
+    int error = put_new(request, &old);
+    return is_of_the_place(error) ? put_in_place(request) : error;
+}

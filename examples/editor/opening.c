@@ -1,0 +1,298 @@
+/* opening.c: reads the files at the start, and reports what an earlier session left beside them. */
+#define _XOPEN_SOURCE 700
+#include <dirent.h>
+#include <errno.h>
+#include <fcntl.h>
+#include <stdlib.h>
+#include <string.h>
+#include <sys/stat.h>
+#include <unistd.h>
+
+#include "samhost.h"
+
+/* ---- Reading files ---- */
+
+/* Reads a whole file into memory of the caller's; a file that isn't there is empty. */
+static int read_whole(const char *path, struct text *text)
+{
+    struct stat status;
+    int file = open(path, O_RDONLY | O_NONBLOCK | O_CLOEXEC), error = file < 0 ? errno : 0;
+
+    *text = (struct text){0};
+    if (file < 0)
+        return error == ENOENT ? 0 : error;
+    if (fstat(file, &status) != 0)
+        error = errno;
+    else if (!S_ISREG(status.st_mode))
+        error = S_ISDIR(status.st_mode) ? EISDIR : NOT_REGULAR;
+    else
+        error = read_all(file, MOST_BYTES, text);
+    close(file);
+    return error;
+}
+
+/* The name of a path in the session: the path, or of a long one its last runes after a sign that it was cut. */
+static char *shown_name(const char *path)
+{
+    size_t runes = 0;
+    const char *at = path + strlen(path);
+
+    for (const char *byte = path; *byte != '\0'; byte++)
+        runes += ((unsigned char)*byte & 0xC0) != 0x80;
+    if (runes <= MOST_IN_NAME)
+        return formatted("%s", path);
+    for (runes = 0; runes < MOST_IN_NAME - 1; runes += ((unsigned char)*at & 0xC0) != 0x80)
+        at--;
+    return formatted("\xE2\x80\xA6%s", at); /* U+2026, three dots */
+}
+
+static const char *why_not_added(uint32_t code)
+{
+    switch (code) {
+    case SAM_NOT_TEXT: return "it is not UTF-8";
+    case SAM_ADD_TOO_LONG: return "it is longer than 1,000,000 characters";
+    case SAM_ADD_NO_TAG: return "there are too many files";
+    case SAM_NO_MEMORY: return "out of memory";
+    default: return "the host doesn't take it";
+    }
+}
+
+/* Gives a document what was read at its path. */
+static int note_read(struct document *document, const char *path, const struct text *text)
+{
+    char *end = NULL;
+    bool is_there = access(path, F_OK) == 0;
+    int error = end_of_links(path, &end);
+
+    if (error == 0)
+        error = note_known(document, end, is_there ? content_of(text) : (struct content){.kind = NOT_THERE});
+    free(end);
+    return error;
+}
+
+/* Reads one file into the host. Returns the exit status. */
+static int add_file(struct session *session, const char *path)
+{
+    struct text text;
+    uint16_t tag = 0;
+    int error = read_whole(path, &text);
+    char *own = formatted("%s", path), *shown = shown_name(path);
+    uint32_t code = SAM_NO_MEMORY;
+
+    if (error == 0 && own != NULL && shown != NULL)
+        code = sam_host_add_file(&session->host, (const uint8_t *)shown, strlen(shown), text.bytes, text.len, &tag);
+    if (error == 0 && code == SAM_OK) {
+        session->documents[tag] = (struct document){.path = own, .shown = shown};
+        error = note_read(&session->documents[tag], path, &text);
+    } else {
+        free(own);
+        free(shown);
+    }
+    free(text.bytes);
+    if (error == 0 && code == SAM_OK)
+        return STATUS_OK;
+    say("%s: %s", path, error == EFBIG ? why_not_added(SAM_ADD_TOO_LONG) : error != 0 ? cause(error) : why_not_added(code));
+    return error == ENOMEM || (error == 0 && code == SAM_NO_MEMORY) ? STATUS_MEMORY : STATUS_UNREADABLE;
+}
+
+/* ---- Two names of one file ---- */
+
+/* What two names of one file have in common: its device and inode, or where it isn't there those of its folder, and its name there. */
+struct identity {
+    dev_t device;
+    ino_t inode;
+    char *name;
+};
+
+static int identify(const char *path, struct identity *identity)
+{
+    struct stat status;
+    char *end = NULL, *folder = NULL;
+    int error = end_of_links(path, &end);
+    bool is_there = error == 0 && stat(end, &status) == 0;
+
+    *identity = (struct identity){0};
+    if (error == 0 && !is_there) {
+        folder = folder_of(end);
+        const char *last = strrchr(end, '/');
+        identity->name = formatted("%s", last == NULL ? end : last + 1);
+        if (folder == NULL || identity->name == NULL)
+            error = ENOMEM;
+        else if (stat(*folder == '\0' ? "." : folder, &status) != 0)
+            error = errno;
+    }
+    if (error == 0) {
+        identity->device = status.st_dev;
+        identity->inode = status.st_ino;
+    }
+    free(folder);
+    free(end);
+    return error;
+}
+
+static bool is_one_file(const struct identity *one, const struct identity *other)
+{
+    return one->device == other->device && one->inode == other->inode && (one->name == NULL) == (other->name == NULL)
+        && (one->name == NULL || strcmp(one->name, other->name) == 0);
+}
+
+/* Whether no two paths are of one file. A path of which that can't be said will fail when it is read, or when it is written. */
+static int find_twice(char **paths, struct identity *identities, int count)
+{
+    bool is_known = false;
+
+    for (int at = 0; at < count; at++) {
+        is_known = identify(paths[at], &identities[at]) == 0;
+        for (int before = 0; is_known && before < at; before++) {
+            if (is_one_file(&identities[at], &identities[before])) {
+                say("%s: it stands twice among the words, first as %s", paths[at], paths[before]);
+                return STATUS_UNREADABLE;
+            }
+        }
+    }
+    return STATUS_OK;
+}
+
+int add_files(struct session *session, char **paths, int count)
+{
+    struct identity *identities = calloc((size_t)count + 1, sizeof *identities);
+    int status = identities == NULL ? STATUS_MEMORY : find_twice(paths, identities, count);
+
+    for (int at = 0; identities != NULL && at < count; at++)
+        free(identities[at].name);
+    free(identities);
+    for (int at = 0; status == STATUS_OK && at < count; at++)
+        status = add_file(session, paths[at]);
+    return status;
+}
+
+/* ---- What is left of earlier sessions ---- */
+
+/* A folder that is looked through. Where it is for temporary files, those of other users mean nothing. */
+struct folder {
+    const char *path; /* with the slash at its end; "" for the folder in which the program runs */
+    dev_t device;
+    ino_t inode;
+    bool is_temporary;
+};
+
+/* Whether what is in a folder under a name is another user's. */
+static bool is_foreign(const struct folder *folder, const char *entry)
+{
+    struct stat status;
+    char *path = formatted("%s%s", folder->path, entry);
+    bool is_foreign = path == NULL || lstat(path, &status) != 0 || status.st_uid != geteuid();
+
+    free(path);
+    return is_foreign;
+}
+
+/* Whether a name is a file's name, a suffix, and perhaps a number. Hands out the length of the file's name. */
+static bool has_suffix(const char *entry, const char *suffix, size_t *len)
+{
+    const char *at = NULL;
+
+    for (const char *next = strstr(entry, suffix); next != NULL; next = strstr(next + 1, suffix))
+        at = next;
+    if (at == NULL || at == entry)
+        return false;
+    *len = (size_t)(at - entry);
+    at += strlen(suffix);
+    if (*at == '.')
+        at += 1 + strspn(at + 1, "0123456789");
+    return *at == '\0';
+}
+
+/* Whether a file of the session is meant by the front of a copy's name. */
+static bool is_of(const char *path, const struct folder *folder, const char *entry, size_t len)
+{
+    char base[BASE_ROOM];
+    char *own = folder_of(path);
+    struct stat status;
+    bool is_of = own != NULL && (folder->is_temporary || (stat(*own == '\0' ? "." : own, &status) == 0
+        && status.st_dev == folder->device && status.st_ino == folder->inode));
+
+    base_of(path, base);
+    free(own);
+    return is_of && strlen(base) == len && strncmp(base, entry, len) == 0;
+}
+
+/* Reports a copy where it is one of a file of the session, as it is named or behind symbolic links. */
+static void report_copy(struct session *session, const struct folder *folder, const char *entry, size_t len, bool is_old)
+{
+    size_t tags = 0;
+
+    sam_host_tags(&session->host, &tags);
+    for (size_t tag = 1; tag < tags; tag++) {
+        const struct document *document = &session->documents[tag];
+        if (!is_of(document->path, folder, entry, len) && !is_of(document->known->path, folder, entry, len))
+            continue;
+        const char *or_another = folder->is_temporary ? ", or another file of that name," : "";
+        if (is_old)
+            say("%s%s may be broken: what it was before a write is in %s%s", document->path, or_another, folder->path, entry);
+        else
+            say("%s%s has a text that was not written: it is in %s%s", document->path, or_another, folder->path, entry);
+    }
+}
+
+static void report_entry(struct session *session, const struct folder *folder, const char *entry)
+{
+    size_t len;
+    bool is_temporary = strncmp(entry, TEMPORARY, strlen(TEMPORARY)) == 0;
+    bool is_saved = has_suffix(entry, SAVED, &len), is_old = !is_saved && has_suffix(entry, OLD, &len);
+
+    if ((!is_temporary && !is_saved && !is_old) || (folder->is_temporary && is_foreign(folder, entry)))
+        return;
+    if (is_saved || is_old)
+        report_copy(session, folder, entry, len, is_old);
+    if (is_temporary)
+        say("%s%s is left of a write that was broken off", folder->path, entry);
+    else if (is_saved && strncmp(entry, UNNAMED, strlen(UNNAMED)) == 0)
+        say("a file without a name was not written: its text is in %s%s", folder->path, entry);
+}
+
+/* The folders that were looked through. */
+struct seen {
+    struct folder *folders;
+    size_t count;
+};
+
+/* Looks through a folder, unless that was done. */
+static void report_folder(struct session *session, struct seen *seen, char *path, bool is_temporary)
+{
+    struct stat status;
+    const char *name = path == NULL || *path != '\0' ? path : ".";
+    bool is_new = name != NULL && stat(name, &status) == 0;
+
+    for (size_t at = 0; is_new && at < seen->count; at++)
+        is_new = seen->folders[at].device != status.st_dev || seen->folders[at].inode != status.st_ino;
+    DIR *entries = is_new ? opendir(name) : NULL;
+    if (entries != NULL) {
+        struct folder folder = {path, status.st_dev, status.st_ino, is_temporary};
+        for (struct dirent *entry = readdir(entries); entry != NULL; entry = readdir(entries))
+            report_entry(session, &folder, entry->d_name);
+        closedir(entries);
+        seen->folders[seen->count++] = folder;
+    }
+    free(path);
+}
+
+void report_left(struct session *session)
+{
+    size_t tags = 0;
+
+    sam_host_tags(&session->host, &tags);
+    struct seen seen = {.folders = calloc(2 * tags + 3, sizeof *seen.folders)}; /* two of each file, its own and two temporary ones */
+    if (seen.folders == NULL) {
+        say("out of memory: what is left of earlier sessions is not looked for");
+        return;
+    }
+    for (size_t tag = 1; tag < tags; tag++) {
+        report_folder(session, &seen, folder_of(session->documents[tag].path), false);
+        report_folder(session, &seen, folder_of(session->documents[tag].known->path), false);
+    }
+    report_folder(session, &seen, formatted(""), false);
+    for (int which = 0; which < 2; which++)
+        report_folder(session, &seen, temporary_folder(which), true);
+    free(seen.folders);
+}

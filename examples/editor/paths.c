@@ -1,0 +1,178 @@
+/* paths.c: names of files, and what stands in them. */
+#define _XOPEN_SOURCE 700
+#include <errno.h>
+#include <fcntl.h>
+#include <stdarg.h>
+#include <stdio.h>
+#include <stdlib.h>
+#include <string.h>
+#include <sys/stat.h>
+#include <unistd.h>
+
+#include "samhost.h"
+
+enum {
+    MOST_LINKS = 40,   /* symbolic links that are followed */
+    LINK_ROOM = 4096,  /* bytes of a path that a link has */
+    ROOM_FIRST = 65536 /* bytes that a file is expected to have */
+};
+
+/* FNV-1a of 64 bits. It has to tell two contents of one file apart, not to withstand an attack. */
+#define HASH_START UINT64_C(0xcbf29ce484222325)
+#define HASH_FACTOR UINT64_C(0x100000001b3)
+
+/* ---- Names ---- */
+
+char *formatted(const char *format, ...)
+{
+    va_list words;
+    va_start(words, format);
+    int len = vsnprintf(NULL, 0, format, words);
+    va_end(words);
+    char *line = len < 0 ? NULL : malloc((size_t)len + 1);
+    if (line != NULL) {
+        va_start(words, format);
+        vsnprintf(line, (size_t)len + 1, format, words);
+        va_end(words);
+    }
+    return line;
+}
+
+char *folder_of(const char *path)
+{
+    const char *slash = strrchr(path, '/');
+
+    return formatted("%.*s", slash == NULL ? 0 : (int)(slash - path + 1), path);
+}
+
+void base_of(const char *path, char base[BASE_ROOM])
+{
+    const char *slash = strrchr(path, '/'), *last = slash == NULL ? path : slash + 1;
+    size_t len = strlen(last);
+
+    if (len >= BASE_ROOM) {
+        len = BASE_ROOM - 1;
+        while (len > 0 && ((unsigned char)last[len] & 0xC0) == 0x80)
+            len--;
+    }
+    memcpy(base, last, len);
+    base[len] = '\0';
+}
+
+int end_of_links(const char *path, char **end)
+{
+    char target[LINK_ROOM];
+    char *at = formatted("%s", path);
+
+    for (int links = 0; at != NULL && links < MOST_LINKS; links++) {
+        ssize_t len = readlink(at, target, sizeof target - 1);
+        if (len < 0) { /* it is no link, or not there: what is wrong shows when it is used */
+            *end = at;
+            return 0;
+        }
+        target[len] = '\0';
+        char *folder = target[0] == '/' ? formatted("") : folder_of(at);
+        char *next = folder == NULL ? NULL : formatted("%s%s", folder, target);
+        free(folder);
+        free(at);
+        at = next;
+    }
+    if (at == NULL)
+        return ENOMEM;
+    free(at);
+    return ELOOP;
+}
+
+char *temporary_folder(int which)
+{
+    const char *named = getenv("TMPDIR");
+    bool is_named = named != NULL && *named != '\0';
+
+    if (which == 0 && is_named)
+        return formatted("%s/", named);
+    return which == (is_named ? 1 : 0) ? formatted("/tmp/") : NULL;
+}
+
+/* ---- Contents ---- */
+
+static void add_bytes(struct content *content, const uint8_t *bytes, size_t len)
+{
+    for (size_t at = 0; at < len; at++)
+        content->hash = (content->hash ^ bytes[at]) * HASH_FACTOR;
+    content->len += len;
+}
+
+struct content content_of(const struct text *text)
+{
+    struct content content = {.kind = READ, .hash = HASH_START};
+
+    add_bytes(&content, text->bytes, text->len);
+    return content;
+}
+
+/* What a file that can't be read, or is too long for a text, has: as far as its marks show. */
+static struct content marks_of(const struct stat *status)
+{
+    const uint64_t marks[] = {
+        (uint64_t)status->st_dev, (uint64_t)status->st_ino, (uint64_t)status->st_size, (uint64_t)status->st_ctim.tv_sec,
+        (uint64_t)status->st_ctim.tv_nsec,
+    };
+    struct content content = {.kind = NOT_READ, .hash = HASH_START};
+
+    add_bytes(&content, (const uint8_t *)marks, sizeof marks);
+    return content;
+}
+
+struct content content_at(const char *path)
+{
+    uint8_t piece[PIECE];
+    struct content content = {.kind = READ, .hash = HASH_START};
+    struct stat status;
+    ssize_t count = -1;
+
+    if (stat(path, &status) != 0)
+        return (struct content){.kind = errno == ENOENT || errno == ENOTDIR ? NOT_THERE : NOT_READ};
+    int file = S_ISREG(status.st_mode) ? open(path, O_RDONLY | O_NONBLOCK | O_CLOEXEC) : -1;
+    while (file >= 0 && content.len <= MOST_BYTES && (count = read(file, piece, sizeof piece)) > 0)
+        add_bytes(&content, piece, (size_t)count);
+    if (file >= 0)
+        close(file);
+    return count == 0 ? content : marks_of(&status);
+}
+
+bool is_same(struct content one, struct content other)
+{
+    return one.kind == other.kind && one.hash == other.hash && one.len == other.len;
+}
+
+int read_all(int file, size_t most, struct text *text)
+{
+    size_t room = ROOM_FIRST;
+    ssize_t count = 1;
+    int error = 0;
+
+    *text = (struct text){.bytes = malloc(room)};
+    if (text->bytes == NULL)
+        return ENOMEM;
+    while (error == 0 && count > 0) {
+        if (text->len == room) {
+            uint8_t *more = realloc(text->bytes, 2 * room);
+            if (more == NULL) {
+                error = ENOMEM;
+                break;
+            }
+            text->bytes = more;
+            room *= 2;
+        }
+        count = read(file, text->bytes + text->len, room - text->len);
+        if (count < 0)
+            error = errno;
+        else if ((text->len += (size_t)count) > most)
+            error = EFBIG;
+    }
+    if (error != 0) {
+        free(text->bytes);
+        *text = (struct text){0};
+    }
+    return error;
+}

@@ -1,0 +1,243 @@
+/* samhost.h: what the parts of samhost share.
+ *
+ *     samhost.c   the words of the command, and one session
+ *     opening.c   reads the files at the start, and reports what an earlier session left beside them
+ *     serving.c   carries bytes between the host and standard input and output, and sleeps
+ *     writing.c   writes a file when the terminal says so
+ *     aside.c     saves texts that are not written
+ *     disk.c      puts a text into a file: by a new file in its place, or in place
+ *     paths.c     names of files, and what stands in them
+ *
+ * Calls that can fail return 0 or an error number of errno.h, unless they say otherwise.
+ */
+#ifndef SAMHOST_H
+#define SAMHOST_H
+
+#include <signal.h>
+#include <stdbool.h>
+#include <stddef.h>
+#include <stdint.h>
+#include <sys/types.h>
+#include <time.h>
+
+#include "sulgrevad.h"
+
+enum {
+    ALL_TAGS = 65536,            /* tags of a session */
+    MOST_RUNES = 1000000,        /* runes of a text */
+    MOST_BYTES = 4 * MOST_RUNES, /* bytes of a text */
+    MOST_IN_NAME = 64,           /* runes of a name */
+    NAME_ROOM = 256,             /* bytes of the longest name */
+    BASE_ROOM = 201,             /* bytes of the front of a file's name that names of copies begin with, and the zero after it */
+    PIECE = 65536                /* bytes that are read or written at once */
+};
+
+enum { STATUS_OK = 0, STATUS_UNREADABLE = 1, STATUS_WORDS = 2, STATUS_FAULT = 3, STATUS_MEMORY = 4, STATUS_LOST = 5 };
+
+/* Why a session ends. */
+enum ending { GOES_ON, LEFT, INPUT_ENDED, FAULT };
+
+#define NOT_REGULAR EINVAL   /* the error number of what is there and is no regular file */
+#define IS_CHANGED ECANCELED /* the error number of a file that another program changed */
+#define TEMPORARY ".sam-"    /* what names of files begin with that are not whole yet */
+#define SAVED ".sam-saved"   /* what comes after the name of a file whose text was not written */
+#define OLD ".sam-old"       /* what comes after the name of a file for what it was, while it is written in place */
+#define UNNAMED "unnamed-"   /* what names of copies begin with of files that have no name */
+
+struct text {
+    uint8_t *bytes;
+    size_t len;
+};
+
+/* What a file has, by which a change is found: the hash of its bytes, or where they can't be read that of its marks (device, inode,
+ * time of change). */
+struct content {
+    enum { NOT_THERE, READ, NOT_READ } kind;
+    uint64_t hash, len;
+};
+
+/* What a document has read from a file or written to it last, or found there when it refused to write. */
+struct known {
+    struct known *next;
+    char *path; /* with no symbolic link at its end */
+    struct content content;
+};
+
+/* A text that was saved aside. The user may put a file of his own in its place; by these marks the host knows its own. */
+struct copy {
+    char *path; /* NULL where there is none */
+    dev_t device;
+    ino_t inode;
+    struct timespec written;
+    struct content content;
+};
+
+/* What the host of the library doesn't know of a file. */
+struct document {
+    char *path;  /* where it was read; NULL for a file that the terminal made */
+    char *shown; /* its name in the session, the end of a long path */
+    struct known *known;
+    struct copy aside;
+    bool is_unsaved;  /* the terminal believes it written, and it is not */
+    bool is_reported; /* it was said that its text can't be saved */
+};
+
+/* A text that could not be saved when its file was closed. */
+struct closed {
+    struct closed *next;
+    char *name;
+    struct text text;
+};
+
+/* The bytes that wait on both sides, and whether the terminal still listens. */
+struct wire {
+    uint8_t input[PIECE], output[PIECE];
+    size_t taken, input_len; /* bytes of `input`: taken by the host, and in all */
+    size_t left;             /* bytes that are still to be taken of a message that has begun */
+    size_t again;            /* bytes that were not taken, since memory is out */
+    uint16_t closing;        /* the file that was closed last */
+    size_t sent, output_len; /* bytes of `output`: sent, and in all */
+    bool is_short;           /* the host is out of memory */
+    bool is_broken;
+};
+
+/* When texts are saved aside by themselves. Times are milliseconds. */
+struct journal {
+    bool is_waiting;
+    int64_t first, last; /* when the first and the last input came since */
+};
+
+struct session {
+    sam_host host;
+    struct document *documents; /* ALL_TAGS of them */
+    struct text text;           /* room for one text (MOST_BYTES) */
+    struct closed *closed;
+    bool is_lost; /* a text of a closed file could neither be saved nor held in memory */
+    struct wire wire;
+    struct journal journal;
+    mode_t mode_of_new_files;
+};
+
+/* A text that is to stand in a file. */
+struct request {
+    const struct text *text;
+    const char *path;     /* with no symbolic link at its end */
+    struct content known; /* what the file may have: another content is another program's */
+    mode_t mode;          /* of a file that isn't there yet */
+    struct content found; /* out, at IS_CHANGED: what the file has */
+    char *old;            /* out: the path of what the file was, where it is broken now; the caller's. Else NULL */
+};
+
+/* samhost.c */
+
+/* Writes a line to standard error. Control characters in it come out as question marks. */
+void say(const char *format, ...);
+
+/* opening.c */
+
+/* Reads the files into the host. Returns the exit status: 0, or why the session can't begin. */
+int add_files(struct session *session, char **paths, int count);
+
+/* Reports what stands beside the files, and in the folders for temporary files, of sessions and writes that were broken off. */
+void report_left(struct session *session);
+
+/* serving.c */
+
+/* Lets SIGTERM, SIGHUP and SIGINT end the session, and no other signal that may come of its work. */
+void set_signals(sigset_t *mask);
+
+/* Carries bytes and does what they ask until the session ends. Returns why it ends. */
+enum ending serve(struct session *session, const sigset_t *mask);
+
+/* Sends the last answers, unless the terminal is gone or a signal comes. */
+void send_the_rest(struct session *session, const sigset_t *mask);
+
+/* writing.c */
+
+/* Writes the files that the terminal has said to write since it was asked last. */
+void write_files(struct session *session);
+
+/* Notes what a document has read from a path or written to it. */
+int note_known(struct document *document, const char *path, struct content content);
+
+/* The path of a file as it is named now, in memory of its own. NULL where it has none, with the reason in `error`. */
+char *path_of(struct session *session, uint16_t tag, int *error);
+
+/* What is wrong, by its error number. */
+const char *cause(int error);
+
+/* aside.c */
+
+/* Takes the text of a file into session->text. */
+int take_text(struct session *session, uint16_t tag);
+
+/* Has the text of a file stand on disk, and hands out where: in its file where that has it, else in the document's copy. */
+enum place { IN_ITS_FILE, ASIDE };
+int secure(struct session *session, uint16_t tag, enum place *place);
+
+/* Whether a copy is still there as the host saved it, so that the host may replace or remove it. */
+bool is_own(const struct copy *copy);
+
+/* Takes the copy of a text for the user's own from now on. */
+void forget_aside(struct document *document);
+
+/* Removes the copy of a text that is written by now, where it is the host's own. */
+void drop_aside(struct document *document);
+
+/* The document whose own copy stands at a path; NULL where there is none. */
+struct document *owner_at(struct session *session, const char *path);
+
+/* Has a document's copy stand at another path than now, since another document is to be written there. */
+int move_aside(struct session *session, struct document *owner);
+
+/* Saves all changed texts aside, and says of a text once that it can't be saved. Returns whether all are. */
+bool save_changed(struct session *session);
+
+/* Before the host closes a file: saves its text if it is changed. After it: forgets the document, if the host did close it. */
+void save_closing(struct session *session, uint16_t tag);
+void forget_closed(struct session *session, uint16_t tag);
+
+/* Frees what a document has. Its copy stays on disk. */
+void free_document(struct document *document);
+
+/* At the end: saves all changed texts, and says where they are. Returns whether none is lost. */
+bool save_last(struct session *session);
+
+/* disk.c */
+
+/* Puts a text into a file, whole or not at all. IS_CHANGED where the file has what is not known: then it stays as it is. */
+int put_file(struct request *request);
+
+/* Puts a text into a new file beside a file or, where that can't be, in a folder for temporary files. It is named after the file and
+ * the suffix; a number follows where that is there already. Hands out the copy, whose path is in memory of the caller's. */
+int keep(const struct text *text, const char *name, const char *suffix, struct copy *copy);
+
+/* Puts another text in the place of a copy. */
+int keep_again(const struct text *text, struct copy *copy);
+
+/* paths.c */
+
+/* Words put together, in memory of their own; NULL where there is no memory. */
+char *formatted(const char *format, ...);
+
+/* The folder of a path, with the slash at its end, in memory of its own: "" for a name alone. */
+char *folder_of(const char *path);
+
+/* The last part of a path, cut to whole runes where it is too long. */
+void base_of(const char *path, char base[BASE_ROOM]);
+
+/* The path that symbolic links at the end of a path lead to, in memory of the caller's. Nothing needs to be there. */
+int end_of_links(const char *path, char **end);
+
+/* The folders for temporary files, with the slash at their ends: $TMPDIR, where it is set and not empty, and /tmp. NULL comes last. In
+ * memory of its own; NULL where there is no memory. */
+char *temporary_folder(int which);
+
+struct content content_of(const struct text *text);
+struct content content_at(const char *path);
+bool is_same(struct content one, struct content other);
+
+/* Reads all of an open file, of at most `most` bytes, into memory of the caller's. EFBIG where it has more. */
+int read_all(int file, size_t most, struct text *text);
+
+#endif

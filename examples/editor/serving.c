@@ -1,0 +1,278 @@
+/* serving.c: carries bytes between the host and standard input and output, and sleeps.
+ *
+ * The host takes one message at a time, so that a file is written, or saved before it is closed, as it stands at its message. A while after
+ * the last message texts are saved aside.
+ */
+#define _XOPEN_SOURCE 700
+#include <errno.h>
+#include <fcntl.h>
+#include <string.h>
+#include <sys/select.h>
+#include <unistd.h>
+
+#include "samhost.h"
+
+enum {
+    IDLE = 2000,             /* milliseconds of quiet after which changed texts are saved aside */
+    LONGEST_UNSAVED = 10000, /* milliseconds after which they are, while messages still come */
+    PAUSE = 100,             /* milliseconds until memory is asked for again */
+    MOST_PIECES_LEFT = 64,   /* pieces of input that are still taken after a signal */
+    HEADER = 3,              /* bytes of a message before its body: its kind, and the length of the body */
+    KIND_CLOSE = 14,         /* Tclose, whose body is a tag of two bytes */
+    CLOSE_LEN = HEADER + 2
+};
+
+static volatile sig_atomic_t was_signalled;
+
+/* ---- The journal ---- */
+
+static int64_t now(void)
+{
+    struct timespec time = {0};
+
+    clock_gettime(CLOCK_MONOTONIC, &time);
+    return (int64_t)time.tv_sec * 1000 + time.tv_nsec / 1000000;
+}
+
+/* Notes that a message has come, which may have changed a text. */
+static void note_input(struct journal *journal)
+{
+    journal->last = now();
+    if (!journal->is_waiting)
+        journal->first = journal->last;
+    journal->is_waiting = true;
+}
+
+/* How many milliseconds are left until texts are to be saved aside. */
+static int64_t time_left(const struct journal *journal)
+{
+    int64_t idle = journal->last + IDLE, longest = journal->first + LONGEST_UNSAVED, due = idle < longest ? idle : longest;
+    int64_t left = due - now();
+
+    return left > 0 ? left : 0;
+}
+
+/* Saves changed texts aside where it is time. Where that fails it is tried again after LONGEST_UNSAVED, or at the next quiet. */
+static void keep_journal(struct session *session)
+{
+    struct journal *journal = &session->journal;
+
+    if (!journal->is_waiting || time_left(journal) > 0)
+        return;
+    journal->is_waiting = !save_changed(session);
+    journal->first = now();
+    journal->last = journal->first + LONGEST_UNSAVED - IDLE;
+}
+
+/* ---- Bytes ---- */
+
+/* Sends pending bytes, as many as go without waiting. */
+static void send_pending(struct session *session)
+{
+    struct wire *wire = &session->wire;
+
+    while (!wire->is_broken) {
+        if (wire->sent == wire->output_len) {
+            wire->sent = wire->output_len = 0;
+            if (sam_host_take_out(&session->host, wire->output, PIECE, &wire->output_len) != SAM_OK || wire->output_len == 0)
+                return;
+        }
+        ssize_t count = write(STDOUT_FILENO, wire->output + wire->sent, wire->output_len - wire->sent);
+        if (count >= 0)
+            wire->sent += (size_t)count;
+        else if (errno == EAGAIN || errno == EINTR)
+            return;
+        else
+            wire->is_broken = true; /* the end of the input will come, and what stands before it still counts */
+    }
+}
+
+/* How many of the bytes that were read are of the next message, or of the rest of one. 0 where too few have come to say. */
+static size_t next_piece(struct wire *wire, bool *is_close)
+{
+    const uint8_t *bytes = wire->input + wire->taken;
+    size_t have = wire->input_len - wire->taken;
+
+    *is_close = false;
+    if (wire->left == 0) {
+        if (have < HEADER)
+            return 0;
+        size_t len = HEADER + ((size_t)bytes[1] << 8 | bytes[2]);
+        *is_close = bytes[0] == KIND_CLOSE && len == CLOSE_LEN;
+        if (*is_close && have < CLOSE_LEN)
+            return 0;
+        wire->left = len;
+    }
+    return wire->left < have ? wire->left : have;
+}
+
+/* Has the host take some bytes that were read, and does what they ask. */
+static enum ending feed(struct session *session, size_t len)
+{
+    struct wire *wire = &session->wire;
+    bool is_done = false;
+    uint32_t code = sam_host_feed(&session->host, wire->input + wire->taken, len);
+
+    wire->again = code == SAM_NO_MEMORY ? len : 0;
+    if (code != SAM_NO_MEMORY) {
+        wire->taken += len;
+        wire->left -= len < wire->left ? len : wire->left;
+    }
+    write_files(session);
+    forget_closed(session, wire->closing);
+    if ((code == SAM_NO_MEMORY || code == SAM_UNFINISHED) && !wire->is_short)
+        say("out of memory; it is tried again");
+    wire->is_short = code == SAM_NO_MEMORY || code == SAM_UNFINISHED;
+    if (code != SAM_OK && !wire->is_short) {
+        say("the terminal's stream is wrong (status %u)", (unsigned)code);
+        return FAULT;
+    }
+    return sam_host_is_done(&session->host, &is_done) == SAM_OK && is_done ? LEFT : GOES_ON;
+}
+
+/* Has the host take a message that closes a file, whose text it drops then. */
+static enum ending feed_close(struct session *session)
+{
+    struct wire *wire = &session->wire;
+    const uint8_t *body = wire->input + wire->taken + HEADER;
+
+    wire->closing = (uint16_t)(body[0] << 8 | body[1]);
+    save_closing(session, wire->closing);
+    return feed(session, CLOSE_LEN);
+}
+
+/* Has the host take what was read, one message after the other, until too little is left or memory is out. */
+static enum ending take_input(struct session *session)
+{
+    struct wire *wire = &session->wire;
+    enum ending ending = GOES_ON;
+    bool is_close;
+    size_t len;
+
+    if (wire->is_short)
+        ending = feed(session, wire->again);
+    while (ending == GOES_ON && !wire->is_short && (len = next_piece(wire, &is_close)) > 0)
+        ending = is_close ? feed_close(session) : feed(session, len);
+    note_input(&session->journal);
+    send_pending(session);
+    return ending;
+}
+
+/* Reads bytes and takes them. At the end of the input the host takes what is left of a message, too, and says whether it is wrong. */
+static enum ending read_input(struct session *session)
+{
+    struct wire *wire = &session->wire;
+
+    memmove(wire->input, wire->input + wire->taken, wire->input_len - wire->taken);
+    wire->input_len -= wire->taken;
+    wire->taken = 0;
+    ssize_t count = read(STDIN_FILENO, wire->input + wire->input_len, PIECE - wire->input_len);
+    if (count < 0 && (errno == EAGAIN || errno == EINTR))
+        return GOES_ON;
+    if (count <= 0)
+        return feed(session, wire->input_len) == FAULT ? FAULT : INPUT_ENDED;
+    wire->input_len += (size_t)count;
+    return take_input(session);
+}
+
+/* ---- Waiting ---- */
+
+/* Sleeps until bytes have come, can be sent, a signal has come or something is to be tried again. Returns whether bytes have come. */
+static bool wait_for_bytes(const struct session *session, const sigset_t *mask, bool is_reading)
+{
+    const struct wire *wire = &session->wire;
+    fd_set in, out;
+    bool is_waiting = is_reading && session->journal.is_waiting;
+    int64_t left = is_waiting ? time_left(&session->journal) : PAUSE;
+
+    if (wire->is_short && left > PAUSE)
+        left = PAUSE;
+    struct timespec pause = {left / 1000, left % 1000 * 1000000};
+    FD_ZERO(&in);
+    FD_ZERO(&out);
+    if (is_reading && !wire->is_short)
+        FD_SET(STDIN_FILENO, &in);
+    if (!wire->is_broken && wire->sent < wire->output_len)
+        FD_SET(STDOUT_FILENO, &out);
+    if (pselect(STDOUT_FILENO + 1, &in, &out, NULL, is_waiting || wire->is_short ? &pause : NULL, mask) < 0)
+        return false;
+    return FD_ISSET(STDIN_FILENO, &in);
+}
+
+/* After a signal: takes what has come already. */
+static enum ending take_the_rest(struct session *session)
+{
+    enum ending ending = GOES_ON;
+    int flags = fcntl(STDIN_FILENO, F_GETFL);
+    struct wire *wire = &session->wire;
+    size_t before;
+
+    fcntl(STDIN_FILENO, F_SETFL, flags | O_NONBLOCK);
+    for (int pieces = 0; ending == GOES_ON && pieces < MOST_PIECES_LEFT && !wire->is_short; pieces++) {
+        before = wire->input_len - wire->taken;
+        ending = read_input(session);
+        if (ending == GOES_ON && wire->taken == 0 && wire->input_len == before)
+            break;
+    }
+    fcntl(STDIN_FILENO, F_SETFL, flags);
+    return ending == GOES_ON ? INPUT_ENDED : ending;
+}
+
+enum ending serve(struct session *session, const sigset_t *mask)
+{
+    enum ending ending = GOES_ON;
+
+    while (ending == GOES_ON) {
+        bool has_come = wait_for_bytes(session, mask, true);
+        send_pending(session);
+        if (was_signalled)
+            return take_the_rest(session);
+        if (session->wire.is_short)
+            ending = take_input(session);
+        else if (has_come)
+            ending = read_input(session);
+        keep_journal(session);
+    }
+    return ending;
+}
+
+void send_the_rest(struct session *session, const sigset_t *mask)
+{
+    struct wire *wire = &session->wire;
+
+    send_pending(session);
+    wire->is_short = false;
+    while (!wire->is_broken && wire->sent < wire->output_len && !was_signalled) {
+        wait_for_bytes(session, mask, false);
+        send_pending(session);
+    }
+}
+
+/* ---- Signals ---- */
+
+static void on_signal(int number)
+{
+    (void)number;
+    was_signalled = 1;
+}
+
+/* Those that end the session are let in only where the program sleeps, so a file is written whole. */
+void set_signals(sigset_t *mask)
+{
+    const int ends[] = {SIGTERM, SIGHUP, SIGINT};
+    struct sigaction action = {.sa_handler = on_signal};
+    sigset_t blocked;
+
+    sigemptyset(&blocked);
+    sigemptyset(&action.sa_mask);
+    for (size_t at = 0; at < sizeof ends / sizeof ends[0]; at++) {
+        sigaddset(&blocked, ends[at]);
+        sigaction(ends[at], &action, NULL);
+    }
+    sigprocmask(SIG_BLOCK, &blocked, mask);
+    for (size_t at = 0; at < sizeof ends / sizeof ends[0]; at++)
+        sigdelset(mask, ends[at]);
+    action.sa_handler = SIG_IGN;
+    sigaction(SIGPIPE, &action, NULL);
+    sigaction(SIGXFSZ, &action, NULL); /* a write then fails, as it does on a full disk */
+}

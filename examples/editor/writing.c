@@ -1,0 +1,166 @@
+/* writing.c: writes a file when the terminal says so.
+ *
+ * A file that another program changed is not replaced at once: that is reported, and only the next write replaces it. What can't be written
+ * is saved aside, since the terminal takes it for written, and closes the file without a question.
+ */
+#define _XOPEN_SOURCE 700
+#include <errno.h>
+#include <stdlib.h>
+#include <string.h>
+#include <sys/stat.h>
+
+#include "samhost.h"
+
+#define NO_NAME EDOM      /* the error number of a file that has no name yet, or one that no file can have */
+#define IS_THERE EALREADY /* the error number of a file that is there, and that nobody has asked for */
+
+const char *cause(int error)
+{
+    switch (error) {
+    case NOT_REGULAR: return "it is not a regular file";
+    case NO_NAME: return "it has no name yet, or one that no file can have";
+    case IS_THERE: return "it is there already, and the next write replaces it";
+    case IS_CHANGED: return "another program changed it, and the next write replaces it";
+    default: return strerror(error);
+    }
+}
+
+char *path_of(struct session *session, uint16_t tag, int *error)
+{
+    const struct document *document = &session->documents[tag];
+    char name[NAME_ROOM + 1];
+    size_t len = 0;
+
+    if (sam_host_name(&session->host, tag, (uint8_t *)name, NAME_ROOM, &len) != SAM_OK)
+        len = 0;
+    name[len] = '\0';
+    *error = len == 0 || strlen(name) != len ? NO_NAME : 0;
+    if (*error != 0)
+        return NULL;
+    bool is_cut = document->shown != NULL && strcmp(name, document->shown) == 0;
+    char *path = formatted("%s", is_cut ? document->path : name);
+    *error = path == NULL ? ENOMEM : 0;
+    return path;
+}
+
+/* ---- What is known of files ---- */
+
+static struct known *find_known(const struct document *document, const char *path)
+{
+    struct known *known = document->known;
+
+    while (known != NULL && strcmp(known->path, path) != 0)
+        known = known->next;
+    return known;
+}
+
+int note_known(struct document *document, const char *path, struct content content)
+{
+    struct known *known = find_known(document, path);
+
+    if (known == NULL) {
+        known = malloc(sizeof *known);
+        char *own = known == NULL ? NULL : formatted("%s", path);
+        if (own == NULL) {
+            free(known);
+            return ENOMEM;
+        }
+        *known = (struct known){.next = document->known, .path = own};
+        document->known = known;
+    }
+    known->content = content;
+    return 0;
+}
+
+/* What a document expects in a file: what the host has saved there for a document (`owner`), else what it has read there or written
+ * last. */
+static struct content expected_at(const struct document *document, const struct document *owner, const char *path)
+{
+    const struct known *known = find_known(document, path);
+
+    if (owner != NULL)
+        return owner->aside.content;
+    return known == NULL ? (struct content){.kind = NOT_THERE} : known->content;
+}
+
+/* ---- Writing ---- */
+
+/* After an attempt to write: notes what the file has, and lets go of the copy of a text that is written. Where memory is
+ * out, a file is not noted, and is taken for another program's at the next write. */
+static void note_put(struct document *document, const struct request *request, int error, bool is_copy)
+{
+    if (error == 0)
+        (void)note_known(document, request->path, content_of(request->text));
+    else if (error == IS_CHANGED)
+        (void)note_known(document, request->path, request->found);
+    if (error == 0 && is_copy) /* the copy is the file by now */
+        forget_aside(document);
+    else if (error == 0)
+        drop_aside(document);
+}
+
+/* Puts the text of a file where its path leads to. */
+static int put_text(struct session *session, uint16_t tag, const char *path)
+{
+    struct document *document = &session->documents[tag], *owner = NULL;
+    struct request request = {.text = &session->text, .mode = session->mode_of_new_files};
+    char *end = NULL;
+    int error = end_of_links(path, &end);
+
+    if (error == 0) {
+        owner = owner_at(session, end);
+        request.path = end;
+        request.known = expected_at(document, owner, end);
+    }
+    if (owner != NULL && owner != document)
+        error = move_aside(session, owner);
+    if (error == 0)
+        error = take_text(session, tag);
+    if (error == 0) {
+        error = put_file(&request);
+        note_put(document, &request, error, owner == document);
+    }
+    if (request.old != NULL)
+        say("%s is broken; what it was is in %s", path, request.old);
+    free(request.old);
+    free(end);
+    return error == IS_CHANGED && request.known.kind == NOT_THERE ? IS_THERE : error;
+}
+
+/* Saves a text that was not written, and reports why it was not, and where it is. */
+static void report_unwritten(struct session *session, uint16_t tag, const char *path, int why)
+{
+    enum place place;
+    int error = secure(session, tag, &place);
+    char *unnamed = path == NULL ? formatted("file %u", (unsigned)tag) : NULL;
+    const char *name = path != NULL ? path : unnamed != NULL ? unnamed : "a file";
+
+    if (error != 0)
+        say("? write %s: %s; its text could not be saved: %s", name, cause(why), cause(error));
+    else if (place == ASIDE)
+        say("? write %s: %s; its text is in %s", name, cause(why), session->documents[tag].aside.path);
+    else
+        say("? write %s: %s; it has this text already", name, cause(why));
+    free(unnamed);
+}
+
+static void write_file(struct session *session, uint16_t tag)
+{
+    int error;
+    char *path = path_of(session, tag, &error);
+
+    if (path != NULL)
+        error = put_text(session, tag, path);
+    session->documents[tag].is_unsaved = error != 0;
+    if (error != 0)
+        report_unwritten(session, tag, path, error);
+    free(path);
+}
+
+void write_files(struct session *session)
+{
+    uint16_t tag;
+
+    while (sam_host_next_written(&session->host, &tag) == SAM_OK)
+        write_file(session, tag);
+}
