@@ -26,6 +26,7 @@
  *
  * Status. Each call returns an enum sam_status, and hands other results out through pointers. After SAM_NO_HANDLE, SAM_NO_MEMORY
  * and SAM_NONE, and where a comment below says 'refused', what the pointers lead to is as it was. sam_status_text explains a status.
+ * A handle that has stopped says why at each feed, be it one of no bytes.
  *
  * Tags without a file. A tag that was never given and that of a file that was closed are alike. Asked about such a tag, the calls
  * that answer yes or no (sam_host_has_file, sam_term_is_known, _is_open, _is_changed) return SAM_OK and hand out false, and
