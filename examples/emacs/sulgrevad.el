@@ -236,10 +236,10 @@ With IS-PAUSING what was typed is sent, too."
 
 (defun sulgrevad--show (tag name)
   "The buffer NAME of the file TAG, which is opened and loaded first where it is not."
-  (or (cl-find tag sulgrevad--buffers :key (lambda (buffer) (buffer-local-value 'sulgrevad--tag buffer)))
+  (or (cl-find tag (cl-remove-if-not #'buffer-live-p sulgrevad--buffers) :key (lambda (buffer) (buffer-local-value 'sulgrevad--tag buffer)))
       (with-current-buffer (generate-new-buffer name)
         (setq sulgrevad--tag tag buffer-read-only t buffer-undo-list t)
-        (unless (= tag 0) (sulgrevad--open sulgrevad--term tag))
+        (unless (or (= tag 0) (sulgrevad--is-open sulgrevad--term tag)) (sulgrevad--open sulgrevad--term tag))
         (sulgrevad--load sulgrevad--term tag 0 sulgrevad-most-runes)
         (unless (sulgrevad--wait #'sulgrevad--is-free) (error "The host does not answer"))
         (setq sulgrevad--tick (buffer-chars-modified-tick))
