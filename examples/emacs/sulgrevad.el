@@ -301,7 +301,8 @@ With IS-PAUSING what was typed is sent, too."
   "End the session; ask first where a file was not written."
   (interactive)
   (sulgrevad--pump t)
-  (when (or (not (cl-some #'buffer-modified-p sulgrevad--buffers)) (yes-or-no-p "Some files were not written; leave? "))
+  (when (or (not (cl-some (lambda (file) (sulgrevad--is-changed sulgrevad--term (cdr file))) (sulgrevad--names)))
+            (yes-or-no-p "Some files were not written; leave? "))
     (sulgrevad--exit sulgrevad--term)
     (sulgrevad--wait (lambda () (or (null sulgrevad--term) (sulgrevad--exited sulgrevad--term))))
     (mapc #'kill-buffer (prog1 sulgrevad--buffers (sulgrevad--lose "the session is over")))
