@@ -1,5 +1,5 @@
 -- What a host answers and what a terminal composes fits at its place of the stream: a case for each message and for each event.
-use Rattle.sam_settle.proofs.Common.{◌≡◌, ℕ, false, List, [], ◌∷◌, ◌++◌, Option, Some, None, Ok, refl, arith, drop, after_h, HFrame, after_t, Tmesg, host, terminal, version_after, PlainHost, Reply, answer, host_checks, told_names, stamped, reply_version, reply_to, IsSound, FitInPlace, frames_fit, reply_stands, stays_sound, PlainTerminal, Made, flushed, sends, sends_if, unchanged, requested, request_for, event_outcome, made_by_type, made_by_cut, made_by_paste, made_by_snarf, made_by_view, event_checks, has_long_text, act_of, act_on, decided, flush_of, take_of, Acted, UserEvent, Each, HostRuns, composed_by, sides, answered_as, InTurn, InTurn-append, IsFree, free_turn}
+use Rattle.sam_settle.proofs.Common.{◌≡◌, ℕ, false, List, [], ◌∷◌, ◌++◌, Option, Some, None, Ok, refl, arith, drop, after_h, HFrame, after_t, Tmesg, host, terminal, version_after, PlainHost, Reply, answer, host_checks, told_names, stamped, reply_version, reply_to, IsSound, FitInPlace, frames_fit, reply_stands, stays_sound, PlainTerminal, Made, flushed, sends, sends_all, sends_if, unchanged, requested, request_for, requests_for, gaps_shown, all_wanted, event_outcome, made_by_type, made_by_cut, made_by_paste, made_by_snarf, made_by_view, made_by_load, event_checks, has_long_text, act_of, act_on, decided, flush_of, take_of, Acted, UserEvent, Each, HostRuns, composed_by, sides, answered_as, InTurn, InTurn-append, IsFree, free_turn}
 use Rattle.sam_runes.specs.Checks.{first_of_checks}
 use Rattle.sam_runes.specs.Texts.{common_version}
 use Rattle.sam_runes.proofs.CheckLaws.{none_holds}
@@ -11,11 +11,13 @@ use Rattle.sam_host.proofs.EachFrame.{reply_each}
 use Rattle.sam_term.specs.declared.event.Verdict.{Verdict}
 use Rattle.sam_term.proofs.Acts.{none_holds as none_at, test_at}
 use Rattle.sam_world.proofs.RunLaws.{counted-result}
+use Rattle.sam_term.specs.Editing.{shown_from}
+use Rattle.sam_term.specs.declared.event.UserEvent.TheVariants.{Load}
 
 -- ## What the host answers: its version is that behind its answers
 
 -- what a reply to a message says of the version: that of a version message, and otherwise nothing
-record Tells (h : PlainHost) (m : Tmesg) (r : Reply) : Type 0 where
+record TellsVersion (h : PlainHost) (m : Tmesg) (r : Reply) : Type 0 where
   behind : (seen : ℕ) → version_after host h.version (stamped seen r.1) ≡ r.0.version
   past : after_t h.version m ≡ r.0.version
 
@@ -24,10 +26,10 @@ plain-stamped v seen [] p = refl
 plain-stamped v seen (m ∷ ms) p = grind (arith, (plain-stamped v seen ms p.1))
 
 -- a reply that says nothing of the version, and leaves it
-kept : (h : PlainHost) (m : Tmesg) (r : Reply) → after_t h.version m ≡ h.version → IsPlain r.1 → r.0.version ≡ after_t h.version m → Tells h m r
+kept : (h : PlainHost) (m : Tmesg) (r : Reply) → after_t h.version m ≡ h.version → IsPlain r.1 → r.0.version ≡ after_t h.version m → TellsVersion h m r
 kept h m r same plain version = grind (arith, plain-stamped)
 
-tells_version : (h : PlainHost) (v : ℕ) → first_of_checks (host_checks h (Tversion v)) ≡ None → Tells h (Tversion v) (reply_version h v)
+tells_version : (h : PlainHost) (v : ℕ) → first_of_checks (host_checks h (Tversion v)) ≡ None → TellsVersion h (Tversion v) (reply_version h v)
 unfolding reply_version
 tells_version h v e = grind (
   arith,
@@ -36,7 +38,7 @@ tells_version h v e = grind (
   (λ (seen : ℕ). plain-stamped (after_h h.version (Hversion (common_version v))) seen (told_names 1 (drop 1 h.files.slots) ++ Hack ∷ Hunlock ∷ [])),
 )
 
-tells : (h : PlainHost) (m : Tmesg) → first_of_checks (host_checks h m) ≡ None → Tells h m (reply_to h m)
+tells : (h : PlainHost) (m : Tmesg) → first_of_checks (host_checks h m) ≡ None → TellsVersion h m (reply_to h m)
 tells h (Tversion v) e = tells_version h v e
 tells h m e = kept h m (reply_to h m) refl (reply_plain h m) (reply_stands h m e).1
 
@@ -93,9 +95,23 @@ free-requested : (t : PlainTerminal) (f : ℕ) → AllFree (requested t f).1
 unfolding requested
 free-requested t f = grind (arith, free-sends_if)
 
+free-requests : (f : ℕ) (xs : List (ℕ × ℕ)) → AllFree (requests_for f xs)
+free-requests f [] = tt
+free-requests f (x ∷ xs) = (tt, free-requests f xs)
+
+free-sends_all : (ms : List Tmesg) (t : PlainTerminal) → AllFree ms → AllFree (sends_all ms t).1
+free-sends_all [] t p = tt
+free-sends_all (m ∷ ms) t p = free-sends t unchanged (m ∷ ms) p
+
+free-wanted : (t : PlainTerminal) (f : ℕ) → AllFree (all_wanted t f)
+unfolding all_wanted
+free-wanted t f = free-requests f (gaps_shown t f)
+
 -- what an event composes at a place with the terminal's version
 event_turn : (t : PlainTerminal) (e : UserEvent) (v : ℕ) → has_long_text t e ≡ false → v ≡ t.version → InTurn terminal v (event_outcome t e).1
-unfolding made_by_type made_by_cut made_by_paste made_by_snarf made_by_view flushed
+unfolding made_by_type made_by_cut made_by_paste made_by_snarf made_by_view made_by_load flushed
+event_turn t (Load f p n) v u w =
+    free_turn v (event_outcome t (Load f p n)).1 (free-sends_all (all_wanted (shown_from t f p n) f) (shown_from t f p n) (free-wanted (shown_from t f p n) f))
 event_turn t e v u w = grind (arith, free_turn, free-append, free-sends, free-requested, free-flushed)
 
 -- ## Acts, flushes and frames

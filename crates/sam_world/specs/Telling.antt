@@ -7,7 +7,7 @@ use Rattle.sam_host.specs.Host.{PlainHost, Reply, answer, host_checks, new_host,
 use Rattle.sam_term.specs.declared.lock.Lock.{Lock}
 use Rattle.sam_term.specs.declared.lock.Lock.TheVariants.{NoLock}
 use Rattle.sam_term.specs.Events.{lock_of, freed_by, one_lock, all_freed}
-use Rattle.sam_term.specs.Effect.{Tells}
+use Rattle.sam_term.specs.Effect.{FramesRewrite}
 use Rattle.sam_mesg.specs.declared.hmesg.Hmesg.{Hmesg}
 use Rattle.sam_mesg.specs.declared.hmesg.HFrame.{HFrame}
 use Rattle.sam_mesg.specs.declared.tmesg.Tmesg.{Tmesg}
@@ -65,4 +65,4 @@ abbrev pub AnswersTell : Type 0
 AnswersTell =
     (h : PlainHost) (m : Tmesg) (f : ℕ) → first_of_checks (host_checks h m) ≡ None → AreFit h.files → IsWorkOpen h.files
     → (file_at h.files f).opened ≡ true → (file_at (reply_to h m).0.files f).opened ≡ true
-    → Tells f (reply_to h m).1 (own_edit m f (file_at h.files f).text) (text_in (reply_to h m) f)
+    → FramesRewrite f (reply_to h m).1 (own_edit m f (file_at h.files f).text) (text_in (reply_to h m) f)
