@@ -599,7 +599,7 @@ static void long_line(void)
     WANT(sam_host_free(&host), SAM_OK);
 }
 
-/* Replays a script into a buffer that has this room, with an untouched byte behind it; wants the status, the line, the number of bytes
+/* Replays a script into a buffer that has this room, with an untouched byte after it; wants the status, the line, the number of bytes
  * that are printed, and those that fit. */
 static void replays(const char *script, size_t room, sam_status status, size_t line, const char *printed)
 {
