@@ -5,29 +5,41 @@
  * what is pending, in order:
  *
  *     sam_term_type(&term, tag, ..)      an event of the user
- *     sam_term_take_out(&term, ..)            bytes for the host
+ *     sam_term_take_out(&term, ..)       bytes for the host
  *     sam_host_feed(&host, ..)           the host answers
- *     sam_host_take_out(&host, ..)            bytes for the terminal
+ *     sam_host_take_out(&host, ..)       bytes for the terminal
  *     sam_term_feed(&term, ..)           what changed can be drawn
  *
  * Words. A tag is a file's number. Tag 0 is the command file: a line that is typed into it is run as a command. The dot is what is
  * selected. The snarf buffer, which the host holds, has what was cut or copied last. A lock holds events back until the host has
- * answered. docs/GLOSSARY.md explains the others, docs/PROTOCOL.md the messages (Twrite, Texit) and the command language.
+ * answered. A message goes to the host, a frame to the terminal. docs/GLOSSARY.md explains the other words, docs/PROTOCOL.md the
+ * messages (Twrite, Texit) and the command language.
  *
  * Units. Places and lengths of texts count runes (Unicode scalar values); a text has at most 1,000,000. Texts go in and out as
- * UTF-8 (RFC 3629), and their lengths in bytes stand beside the pointer. The runes that a terminal draws go out as numbers.
+ * UTF-8 (RFC 3629), and their lengths in bytes stand beside the pointer. The runes that a terminal draws go out as numbers. Names
+ * and texts may hold NUL (U+0000) as they hold any other rune, and none is added at their end: go by the lengths.
  *
- * Handles. sam_host and sam_term are the caller's. A handle whose bytes are all zero is empty; sam_host_new or sam_term_new makes
- * it, and sam_host_free or sam_term_free leaves it empty again. The caller doesn't read, change or copy a handle that is made.
+ * Handles. sam_host and sam_term are the caller's, on the stack or wherever he likes. A handle whose bytes are all zero is empty:
+ * SAM_HOST_INIT and SAM_TERM_INIT are, and in C so is {0}. sam_host_new or sam_term_new makes it, and sam_host_free or sam_term_free
+ * leaves it empty again. The caller doesn't read, change or copy a handle that is made. Readers take it without const, since each
+ * call takes out what the handle holds and puts it back: two of them may not run at once.
  *
- * Status. Each call answers one number of enum sam_status, and hands other results out through pointers. Where a call answers
- * SAM_NO_HANDLE, SAM_NO_MEMORY or SAM_NONE, and where a comment below says 'refused', what the pointers lead to is left as it was.
+ * Status. Each call returns an enum sam_status, and hands other results out through pointers. After SAM_NO_HANDLE, SAM_NO_MEMORY
+ * and SAM_NONE, and where a comment below says 'refused', what the pointers lead to is as it was. sam_status_text explains a status.
+ * A handle that has stopped says why at each feed, be it one of no bytes.
  *
- * Want of memory loses nothing and ends no handle. At SAM_NO_MEMORY what the call brought was not taken: make the same call
+ * Tags without a file. A tag that was never given and that of a file that was closed are alike. Asked about such a tag, the calls
+ * that answer yes or no (sam_host_has_file, sam_term_is_known, _is_open, _is_changed) return SAM_OK and hand out false, and
+ * sam_term_locked says whether the command lock is held; all other readers return SAM_NONE. Of a known file that is not open a
+ * terminal has the name and the dirty mark alone: the readers of texts, dots and views return SAM_NONE there too. An event for a
+ * file that is not known or not open returns SAM_OK like any other, and is refused when it comes to act: sam_term_next_refusal
+ * then names SAM_REFUSAL_NO_FILE or SAM_REFUSAL_NOT_OPEN.
+ *
+ * Out of memory. That loses nothing and ends no handle. At SAM_NO_MEMORY what the call brought was not taken: make the same call
  * again. At SAM_UNFINISHED it was taken: don't bring it again. The next feed goes on with what waits; at a terminal so does the next
- * event, or sam_term_flush_now. Readers and _out don't. To go on, feed no bytes until that answers neither SAM_UNFINISHED nor
+ * event, or sam_term_flush_now. Readers and _take_out don't. To go on, feed no bytes until that returns neither SAM_UNFINISHED nor
  * SAM_NO_MEMORY: both mean then that memory is still short. Only a fault of the other side's stream, a message or frame that is
- * refused, or a full count of messages stops a handle. Its readers and _out go on to work.
+ * refused, or a full count of messages stops a handle. Its readers and _take_out go on to work.
  *
  * What the caller owes, and nothing here can test: pointers other than handles are not NULL but for a length of 0, lengths are
  * right, buffers don't overlap, and a handle is in one call at a time. A handle may not move between threads while it is in a
@@ -45,10 +57,33 @@
 extern "C" {
 #endif
 
-typedef struct { void *at; uint64_t made; } sam_host;
-typedef struct { void *at; uint64_t made; } sam_term;
+/* ---- The library's version ---- */
 
-/* What a call answers. Each family of faults has a range of its own: the first number of the range and the fault's number. */
+#define SAM_VERSION_MAJOR 0
+#define SAM_VERSION_MINOR 1
+#define SAM_VERSION_PATCH 0
+
+/* One number that grows with the version: what sam_library_version returns of the library that has this header. */
+#define SAM_VERSION (SAM_VERSION_MAJOR * 65536 + SAM_VERSION_MINOR * 256 + SAM_VERSION_PATCH)
+
+/* The version of the library that the program runs with, as SAM_VERSION has that of the header. Before 1.0 calls may change where the
+ * minor number grows, so a program can compare both. The protocol has a version of its own: sam_host_version, sam_term_version. */
+uint32_t sam_library_version(void);
+
+/* ---- What a call returns ---- */
+
+/* Has the compiler warn where a status is dropped, if it knows how. Define it empty before the include to have no such warning. */
+#ifndef SAM_MUST_USE
+#if defined(__cplusplus) && __cplusplus >= 201703L
+#define SAM_MUST_USE [[nodiscard]]
+#elif defined(__GNUC__)
+#define SAM_MUST_USE __attribute__((warn_unused_result))
+#else
+#define SAM_MUST_USE
+#endif
+#endif
+
+/* Each family of faults has a range of its own: the first number of the range and the fault's number. */
 enum sam_status {
     SAM_OK = 0,
     SAM_NO_MEMORY = 1,  /* what the call brought was not taken: make it again */
@@ -100,235 +135,345 @@ enum sam_status {
 
     SAM_SCRIPT = 160, /* why sam_replay did not replay a script */
     SAM_SCRIPT_LINE = SAM_SCRIPT + 1,
-    SAM_SCRIPT_COUNT_FULL = SAM_SCRIPT + 2
+    SAM_SCRIPT_COUNT_FULL = SAM_SCRIPT + 2,
+
+    SAM_STATUS_WIDTH = 0x7FFFFFFF /* never returned: it keeps the type at 32 bits under any compiler's options */
 };
+typedef enum sam_status sam_status;
 
-/* What sam_term_read hands out for a rune that is not loaded. */
-#define SAM_GAP UINT32_MAX
+/* The name of a status and a sentence about it, as "SAM_NOT_TEXT: the bytes are not UTF-8"; "unknown status" for any other number. The
+ * text ends in NUL, and is the library's: it stays, and may be read from any thread. */
+const char *sam_status_text(sam_status status);
 
-/* ---- The host ---- */
+/* ---- Handles ---- */
+
+struct sam_host {
+    void *at;
+    uint64_t made;
+};
+typedef struct sam_host sam_host;
+
+struct sam_term {
+    void *at;
+    uint64_t made;
+};
+typedef struct sam_term sam_term;
+
+/* Empty handles, as in `sam_host host = SAM_HOST_INIT;`. */
+/* clang-format off */
+#define SAM_HOST_INIT {NULL, 0}
+#define SAM_TERM_INIT {NULL, 0}
+/* clang-format on */
+
+/* ==== The host ==== */
+
+/* ---- The host: making and freeing ---- */
 
 /* Makes a host with the command file alone (tag 0). SAM_NO_HANDLE where the handle is NULL, SAM_MADE, SAM_NO_MEMORY: it is as it
  * was. */
-uint32_t sam_host_new(sam_host *host);
+SAM_MUST_USE sam_status sam_host_new(sam_host *host);
 
 /* Frees a host, with what was pending. SAM_NO_HANDLE where it is empty or NULL. */
-uint32_t sam_host_free(sam_host *host);
+sam_status sam_host_free(sam_host *host);
 
 /* Adds a file, clean and closed, and hands out its tag: 1 for the first, and so on. Refused, in this order: SAM_NO_HANDLE;
- * SAM_ADD_BEGUN after the first feed; SAM_NOT_TEXT; SAM_ADD_TOO_LONG for a name above 64 runes or a text above 1,000,000;
- * SAM_ADD_NO_TAG; SAM_NO_MEMORY. The host is then as it was. */
-uint32_t sam_host_add_file(sam_host *host, const uint8_t *name, size_t name_len, const uint8_t *text, size_t text_len,
-                           uint16_t *tag);
+ * SAM_ADD_BEGUN after the first feed, be it one of no bytes; SAM_NOT_TEXT; SAM_ADD_TOO_LONG for a name above 64 runes or a text above
+ * 1,000,000; SAM_ADD_NO_TAG after 65,535 files; SAM_NO_MEMORY. The host is then as it was. */
+SAM_MUST_USE sam_status sam_host_add_file(sam_host *host, const uint8_t *name, size_t name_len, const uint8_t *text, size_t text_len,
+                                          uint16_t *tag);
+
+/* ---- The host: bytes in and out ---- */
 
 /* Takes bytes of the terminal's messages, in whatever pieces they come, and answers each message that is whole. The answers are
  * then pending. SAM_OK, SAM_NO_MEMORY, SAM_UNFINISHED, SAM_COUNT_FULL, SAM_NO_HANDLE, or why the host has stopped, at this call
  * or before: SAM_STREAM.., SAM_HOST_REFUSED... What stood before the fault is answered. */
-uint32_t sam_host_feed(sam_host *host, const uint8_t *bytes, size_t len);
+SAM_MUST_USE sam_status sam_host_feed(sam_host *host, const uint8_t *bytes, size_t len);
 
 /* How many bytes are pending. */
-uint32_t sam_host_pending(sam_host *host, size_t *len);
+SAM_MUST_USE sam_status sam_host_pending(sam_host *host, size_t *len);
 
 /* Moves the first pending bytes into the buffer, as many as it has room for, and hands out how many. */
-uint32_t sam_host_take_out(sam_host *host, uint8_t *into, size_t room, size_t *count);
+SAM_MUST_USE sam_status sam_host_take_out(sam_host *host, uint8_t *into, size_t room, size_t *count);
 
-/* The tag of the next file that the terminal told the host to write (Twrite) and that this call has not handed out yet: now is the
- * time to write sam_host_saved of it to disk. SAM_NONE where there is none. Ask after each feed: once the file is closed, its saved text
- * is gone. */
-uint32_t sam_host_next_written(sam_host *host, uint16_t *tag);
+/* ---- The host: the session ---- */
 
 /* Whether the session is over: the terminal has sent Texit, or a command line was `q`. */
-uint32_t sam_host_is_done(sam_host *host, bool *done);
+SAM_MUST_USE sam_status sam_host_is_done(sam_host *host, bool *done);
 
 /* How many messages the host has answered. */
-uint32_t sam_host_taken(sam_host *host, uint64_t *taken);
+SAM_MUST_USE sam_status sam_host_taken(sam_host *host, uint64_t *taken);
 
 /* The version of the protocol: 1 or 2. */
-uint32_t sam_host_version(sam_host *host, uint16_t *version);
+SAM_MUST_USE sam_status sam_host_version(sam_host *host, uint16_t *version);
 
-/* How many tags were given, the command file's 0 included: the greatest is one less. */
-uint32_t sam_host_tags(sam_host *host, size_t *count);
+/* ---- The host: files that the terminal had written ---- */
 
-/* Whether the tag has a file now. A file that was closed has none. */
-uint32_t sam_host_has_file(sam_host *host, uint16_t tag, bool *has);
+/* The tag of a file that the terminal told the host to write (Twrite): now is the time to write sam_host_saved of it to disk. Each
+ * Twrite gives its tag once, in order, so a file that was written twice comes twice. SAM_NONE where there is none left. Ask after each
+ * feed: once the file is closed, its saved text is gone. */
+SAM_MUST_USE sam_status sam_host_next_written(sam_host *host, uint16_t *tag);
 
-/* The name of a file, in UTF-8: as many whole runes as have room. 256 bytes are always enough. SAM_NONE where the tag has no file. */
-uint32_t sam_host_name(sam_host *host, uint16_t tag, uint8_t *into, size_t room, size_t *len);
-
-/* The length of a file's text in runes. SAM_NONE where the tag has no file. */
-uint32_t sam_host_len(sam_host *host, uint16_t tag, uint32_t *runes);
-
-/* Whether a file was edited since it was made or written; never for the command file, tag 0. SAM_NONE where the tag has no file. */
-uint32_t sam_host_is_dirty(sam_host *host, uint16_t tag, bool *dirty);
-
-/* A file's text from a place on, in UTF-8: as many whole runes as have room. Hands out how many bytes and how many runes; none where
- * the place is at or behind the end. SAM_NONE where the tag has no file. */
-uint32_t sam_host_text(sam_host *host, uint16_t tag, uint32_t place, uint8_t *into, size_t room, size_t *bytes, size_t *runes);
-
-/* The length in runes of what a file was when it was written last (Twrite). SAM_NONE where it never was, or where there is no file. */
-uint32_t sam_host_saved_len(sam_host *host, uint16_t tag, size_t *runes);
+/* The length in runes of what a file was when it was written last (Twrite). SAM_NONE also where it never was. */
+SAM_MUST_USE sam_status sam_host_saved_len(sam_host *host, uint16_t tag, size_t *runes);
 
 /* What a file was when it was written last, from a place on; as sam_host_text. SAM_NONE also where it never was. */
-uint32_t sam_host_saved(sam_host *host, uint16_t tag, uint32_t place, uint8_t *into, size_t room, size_t *bytes, size_t *runes);
+SAM_MUST_USE sam_status sam_host_saved(sam_host *host, uint16_t tag, uint32_t place, uint8_t *into, size_t room, size_t *bytes,
+                                       size_t *runes);
 
-/* The dot of a file: the places where the selection begins and ends. SAM_NONE where the tag has no file. */
-uint32_t sam_host_dot(sam_host *host, uint16_t tag, uint32_t *start, uint32_t *end);
+/* ---- The host: files ---- */
 
-/* ---- The terminal ---- */
+/* How many tags were given, the command file's 0 included: the greatest is one less. */
+SAM_MUST_USE sam_status sam_host_tags(sam_host *host, size_t *count);
+
+/* Whether the tag has a file now. A file that was closed has none. */
+SAM_MUST_USE sam_status sam_host_has_file(sam_host *host, uint16_t tag, bool *has);
+
+/* The name of a file, in UTF-8: as many whole runes as have room. 256 bytes are always enough. */
+SAM_MUST_USE sam_status sam_host_name(sam_host *host, uint16_t tag, uint8_t *into, size_t room, size_t *len);
+
+/* The length of a file's text in runes. */
+SAM_MUST_USE sam_status sam_host_len(sam_host *host, uint16_t tag, uint32_t *runes);
+
+/* Whether a file was edited since it was made or written; never for the command file, tag 0. */
+SAM_MUST_USE sam_status sam_host_is_dirty(sam_host *host, uint16_t tag, bool *dirty);
+
+/* A file's text from a place on, in UTF-8: as many whole runes as have room. Hands out how many bytes and how many runes; none where
+ * the place is at or after the end, or where the buffer has less room than one rune wants: 4 bytes are enough for any. */
+SAM_MUST_USE sam_status sam_host_text(sam_host *host, uint16_t tag, uint32_t place, uint8_t *into, size_t room, size_t *bytes,
+                                      size_t *runes);
+
+/* The dot of a file: the places where the selection begins and ends. */
+SAM_MUST_USE sam_status sam_host_dot(sam_host *host, uint16_t tag, uint32_t *start, uint32_t *end);
+
+/* ==== The terminal ==== */
+
+/* ---- The terminal: making and freeing ---- */
 
 /* Makes a terminal that knows no file. SAM_NO_HANDLE where the handle is NULL, SAM_MADE, SAM_NO_MEMORY: it is as it was. */
-uint32_t sam_term_new(sam_term *term);
+SAM_MUST_USE sam_status sam_term_new(sam_term *term);
 
 /* Frees a terminal, with what was pending. SAM_NO_HANDLE where it is empty or NULL. */
-uint32_t sam_term_free(sam_term *term);
+sam_status sam_term_free(sam_term *term);
 
-/* What the user does. An event acts at once where it can, or is held until the locks that it waits for are free and the events before it
- * have acted; each call also lets events that are held act, in order. What is composed is then pending. An event that is refused is told
- * by sam_term_next_refusal, now or later. Each answers SAM_OK, SAM_NO_MEMORY, SAM_UNFINISHED, SAM_COUNT_FULL, SAM_NO_HANDLE, or why the
- * terminal has stopped: SAM_STREAM.., SAM_TERM_REFUSED... The two that bring a text answer SAM_NOT_TEXT first of all but
- * SAM_NO_HANDLE. */
-uint32_t sam_term_type(sam_term *term, uint16_t tag, const uint8_t *text, size_t len); /* in the place of the dot: at most 512 runes */
-uint32_t sam_term_select(sam_term *term, uint16_t tag, uint32_t start, uint32_t end);  /* sets the dot */
-uint32_t sam_term_cut(sam_term *term, uint16_t tag);                                   /* the dot, into the snarf buffer */
-uint32_t sam_term_paste(sam_term *term, uint16_t tag);                                 /* the snarf buffer, in the place of the dot */
-uint32_t sam_term_snarf(sam_term *term, uint16_t tag);                                 /* copies the dot into the snarf buffer */
-uint32_t sam_term_look(sam_term *term, uint16_t tag);                                  /* selects the next occurrence of the dot's text */
-uint32_t sam_term_search(sam_term *term, uint16_t tag);                                /* selects the next occurrence of the pattern */
-uint32_t sam_term_send(sam_term *term, uint16_t tag);                                  /* prints the dot's text in the command file, and
-                                                                                        * runs its last line */
-uint32_t sam_term_dclick(sam_term *term, uint16_t tag, uint32_t place);                /* selects the word round a place */
-uint32_t sam_term_scroll(sam_term *term, uint16_t tag, uint32_t lines);                /* shows the file from that many lines further up */
-uint32_t sam_term_view(sam_term *term, uint16_t tag, uint32_t place, uint32_t len);    /* shows at most len runes from a place on, and asks
-                                                                                        * for those that are not loaded: at most 512 at
-                                                                                        * a time, and then for the next */
-uint32_t sam_term_load(sam_term *term, uint16_t tag, uint32_t place, uint32_t len);    /* shows the same, and asks for all of those at
-                                                                                        * once: for at most 64 stretches of 512, so that
-                                                                                        * a page comes in one round trip */
-uint32_t sam_term_open(sam_term *term, uint16_t tag);                                  /* opens a file; command lines work on it then */
-uint32_t sam_term_open_cmd(sam_term *term);                                             /* opens the command file */
-uint32_t sam_term_new_file(sam_term *term);                                            /* makes an empty file, and opens it; command lines
-                                                                                        * work on it then */
-uint32_t sam_term_write(sam_term *term, uint16_t tag);                                 /* has the host write a file */
-uint32_t sam_term_close(sam_term *term, uint16_t tag);                                 /* closes a file for good: the host drops its text,
-                                                                                        * written or not */
-uint32_t sam_term_work(sam_term *term, uint16_t tag);                                  /* makes a file the one that command lines work on */
-uint32_t sam_term_check(sam_term *term, uint16_t tag);                                 /* asks for the first gap that the view shows */
-uint32_t sam_term_get_snarf(sam_term *term);                                            /* asks for the host's snarf buffer */
-uint32_t sam_term_set_snarf(sam_term *term, const uint8_t *text, size_t len);           /* gives the host another snarf buffer: at most 4,096
-                                                                                        * bytes, 32,000 in version 2 */
-uint32_t sam_term_offer_version(sam_term *term, uint16_t version);                           /* offers a version, and asks for all names */
-uint32_t sam_term_flush(sam_term *term);                                               /* sends typed runes, once events before it acted */
-uint32_t sam_term_exit(sam_term *term);                                                /* ends the session */
+/* ---- The terminal: bytes in and out ---- */
 
-/* Takes bytes of the host's frames, in whatever pieces they come, and then lets held events act. Answers as an event does. */
-uint32_t sam_term_feed(sam_term *term, const uint8_t *bytes, size_t len);
-
-/* Composes the typed runes that are not sent yet; to be called when the user pauses, before the program sleeps. Answers as an event
- * does, but never SAM_COUNT_FULL. */
-uint32_t sam_term_flush_now(sam_term *term);
+/* Takes bytes of the host's frames, in whatever pieces they come, and then lets held events act. Returns what an event does. */
+SAM_MUST_USE sam_status sam_term_feed(sam_term *term, const uint8_t *bytes, size_t len);
 
 /* How many bytes are pending. */
-uint32_t sam_term_pending(sam_term *term, size_t *len);
+SAM_MUST_USE sam_status sam_term_pending(sam_term *term, size_t *len);
 
 /* Moves the first pending bytes into the buffer, as many as it has room for, and hands out how many. */
-uint32_t sam_term_take_out(sam_term *term, uint8_t *into, size_t room, size_t *count);
+SAM_MUST_USE sam_status sam_term_take_out(sam_term *term, uint8_t *into, size_t room, size_t *count);
+
+/* Composes the typed runes that are not sent yet; to be called when the user pauses, before the program sleeps. Returns what an event
+ * does, but never SAM_COUNT_FULL. */
+SAM_MUST_USE sam_status sam_term_flush_now(sam_term *term);
+
+/* ---- Events: what the user does ----
+ *
+ * An event acts at once where it can, or is held until the locks that it waits for are free and the events before it have acted; each
+ * call also lets events that are held act, in order. What is composed is then pending. SAM_OK says that the event was taken, and not
+ * that it acted: an event that is refused is reported by number by sam_term_next_refusal, now or later. Each returns SAM_OK,
+ * SAM_NO_MEMORY, SAM_UNFINISHED, SAM_COUNT_FULL, SAM_NO_HANDLE, or why the terminal has stopped: SAM_STREAM.., SAM_TERM_REFUSED...
+ * The two that bring a text return SAM_NOT_TEXT first of all but SAM_NO_HANDLE. */
+
+/* ---- Events: texts ---- */
+
+/* Types a text in the place of the dot. One of more than 512 runes is refused by number (SAM_REFUSAL_TEXT_TOO_LONG): cut it into
+ * pieces. */
+SAM_MUST_USE sam_status sam_term_type(sam_term *term, uint16_t tag, const uint8_t *text, size_t len);
+
+/* Sets the dot. */
+SAM_MUST_USE sam_status sam_term_select(sam_term *term, uint16_t tag, uint32_t start, uint32_t end);
+
+/* Selects the word round a place. */
+SAM_MUST_USE sam_status sam_term_dclick(sam_term *term, uint16_t tag, uint32_t place);
+
+/* Selects the next occurrence of the dot's text, which becomes the pattern. */
+SAM_MUST_USE sam_status sam_term_look(sam_term *term, uint16_t tag);
+
+/* Selects the next occurrence of the pattern. */
+SAM_MUST_USE sam_status sam_term_search(sam_term *term, uint16_t tag);
+
+/* Sends the typed runes, once the events before it have acted. */
+SAM_MUST_USE sam_status sam_term_flush(sam_term *term);
+
+/* ---- Events: the snarf buffer ---- */
+
+/* Cuts the dot into the snarf buffer. */
+SAM_MUST_USE sam_status sam_term_cut(sam_term *term, uint16_t tag);
+
+/* Copies the dot into the snarf buffer. */
+SAM_MUST_USE sam_status sam_term_snarf(sam_term *term, uint16_t tag);
+
+/* Puts the snarf buffer in the place of the dot. */
+SAM_MUST_USE sam_status sam_term_paste(sam_term *term, uint16_t tag);
+
+/* Asks for the host's snarf buffer: sam_term_snarfed then has it. */
+SAM_MUST_USE sam_status sam_term_get_snarf(sam_term *term);
+
+/* Gives the host another snarf buffer: at most 4,096 bytes, 32,000 in version 2. */
+SAM_MUST_USE sam_status sam_term_set_snarf(sam_term *term, const uint8_t *text, size_t len);
+
+/* ---- Events: what is shown ---- */
+
+/* Shows at most len runes from a place on, and asks for those that are not loaded: at most 512 at a time, and then for the next. */
+SAM_MUST_USE sam_status sam_term_view(sam_term *term, uint16_t tag, uint32_t place, uint32_t len);
+
+/* Shows the same, and asks for all of those at once: for at most 64 stretches of 512, so that a page comes in one round trip. */
+SAM_MUST_USE sam_status sam_term_load(sam_term *term, uint16_t tag, uint32_t place, uint32_t len);
+
+/* Shows the file from that many lines further up. */
+SAM_MUST_USE sam_status sam_term_scroll(sam_term *term, uint16_t tag, uint32_t lines);
+
+/* Asks for the first gap that the view shows. The host answers it, and no text changes. */
+SAM_MUST_USE sam_status sam_term_check(sam_term *term, uint16_t tag);
+
+/* ---- Events: files ---- */
+
+/* Opens a file; command lines work on it then. All other events that name a file want it open. */
+SAM_MUST_USE sam_status sam_term_open(sam_term *term, uint16_t tag);
+
+/* Makes an empty file, and opens it; command lines work on it then. */
+SAM_MUST_USE sam_status sam_term_new_file(sam_term *term);
+
+/* Has the host write a file. */
+SAM_MUST_USE sam_status sam_term_write(sam_term *term, uint16_t tag);
+
+/* Closes a file for good: the host drops its text, written or not. */
+SAM_MUST_USE sam_status sam_term_close(sam_term *term, uint16_t tag);
+
+/* ---- Events: command lines ----
+ *
+ * A command line is a line that is typed into the command file, or sent to it. What it prints comes at the end of that file. A line
+ * that is wrong changes nothing and prints `? ` and a word. `? long` comes where the length of the text and all that the line puts in
+ * pass 1,000,000 runes together; what the line takes away is not counted, so `,x/x\n/c/y\n/` is too long in a text of 600,000 runes
+ * that has 250,000 such lines, though the text would stay as long as it is. */
+
+/* Opens the command file. */
+SAM_MUST_USE sam_status sam_term_open_cmd(sam_term *term);
+
+/* Makes a file the one that command lines work on. */
+SAM_MUST_USE sam_status sam_term_work(sam_term *term, uint16_t tag);
+
+/* Prints the dot's text in the command file, and runs its last line. */
+SAM_MUST_USE sam_status sam_term_send(sam_term *term, uint16_t tag);
+
+/* ---- Events: the session ---- */
+
+/* Offers a version of the protocol, and asks for all names. */
+SAM_MUST_USE sam_status sam_term_offer_version(sam_term *term, uint16_t version);
+
+/* Ends the session. */
+SAM_MUST_USE sam_status sam_term_exit(sam_term *term);
+
+/* ---- The terminal: what became of events and messages ---- */
 
 /* The oldest refused event that was not handed out yet: which one, counted from 1 over all event calls that were taken, and why
- * (SAM_REFUSAL..). SAM_NONE where there is none. */
-uint32_t sam_term_next_refusal(sam_term *term, uint64_t *event, uint32_t *why);
+ * (SAM_REFUSAL..). SAM_NONE where there is none. Refusals that nobody asks for are kept. */
+SAM_MUST_USE sam_status sam_term_next_refusal(sam_term *term, uint64_t *event, sam_status *why);
 
 /* How many event calls were taken. */
-uint32_t sam_term_events(sam_term *term, uint64_t *events);
-
-/* How many tags the terminal has room for: each file that it knows has a tag below this. */
-uint32_t sam_term_tags(sam_term *term, size_t *count);
-
-/* Whether the terminal knows a file of this tag. */
-uint32_t sam_term_is_known(sam_term *term, uint16_t tag, bool *known);
-
-/* The name of a known file, in UTF-8: as many whole runes as have room; 256 bytes are always enough. SAM_NONE where the tag is not
- * known. */
-uint32_t sam_term_name(sam_term *term, uint16_t tag, uint8_t *into, size_t room, size_t *len);
-
-/* Whether a known file is dirty, as the host told last. SAM_NONE where the tag is not known. */
-uint32_t sam_term_is_dirty(sam_term *term, uint16_t tag, bool *dirty);
-
-/* Whether a file may differ from what was written last: the host told that it is dirty, or the user typed into it or cut from it here
- * since. An event that is held has changed nothing yet. The command file, which is never written, stays changed. False where the tag is
- * not known. */
-uint32_t sam_term_is_changed(sam_term *term, uint16_t tag, bool *changed);
-
-/* Whether a file is open. */
-uint32_t sam_term_is_open(sam_term *term, uint16_t tag, bool *open);
-
-/* The file that the host's answer to sam_term_work or sam_term_new_file named last, SAM_NONE before the first. It may be closed since.
- * sam_term_open changes the file that command lines work on without telling it here. */
-uint32_t sam_term_current(sam_term *term, uint16_t *tag);
-
-/* The length of an open file in runes, gaps counted. SAM_NONE where it is not open; so too the next four. */
-uint32_t sam_term_len(sam_term *term, uint16_t tag, uint32_t *runes);
-
-/* The runes of an open file from a place on, as many as there are and have room, SAM_GAP for each that is not loaded. */
-uint32_t sam_term_read(sam_term *term, uint16_t tag, uint32_t place, uint32_t *into, size_t room, size_t *count);
-
-/* The first place of an open file, at or behind `place`, whose rune is not loaded. SAM_NONE also where all are loaded from there on. */
-uint32_t sam_term_first_gap(sam_term *term, uint16_t tag, uint32_t place, uint32_t *gap);
-
-/* The dot of an open file. */
-uint32_t sam_term_dot(sam_term *term, uint16_t tag, uint32_t *start, uint32_t *end);
-
-/* What an open file shows: the places where its view begins and ends. */
-uint32_t sam_term_view_of(sam_term *term, uint16_t tag, uint32_t *start, uint32_t *end);
-
-/* Whether the command lock or a lock of this file is held: an edit of the file would wait. */
-uint32_t sam_term_locked(sam_term *term, uint16_t tag, bool *locked);
-
-/* Whether the command lock is held. */
-uint32_t sam_term_command_locked(sam_term *term, bool *locked);
+SAM_MUST_USE sam_status sam_term_events(sam_term *term, uint64_t *events);
 
 /* How many events are held. */
-uint32_t sam_term_held(sam_term *term, size_t *events);
+SAM_MUST_USE sam_status sam_term_held(sam_term *term, size_t *events);
+
+/* Whether the command lock or a lock of this file is held: an edit of the file would wait. */
+SAM_MUST_USE sam_status sam_term_locked(sam_term *term, uint16_t tag, bool *locked);
+
+/* Whether the command lock is held. */
+SAM_MUST_USE sam_status sam_term_command_locked(sam_term *term, bool *locked);
 
 /* How many typed runes are not sent yet. */
-uint32_t sam_term_unsent(sam_term *term, uint32_t *runes);
+SAM_MUST_USE sam_status sam_term_unsent(sam_term *term, uint32_t *runes);
 
 /* How many messages were composed. */
-uint32_t sam_term_sent(sam_term *term, uint64_t *messages);
+SAM_MUST_USE sam_status sam_term_sent(sam_term *term, uint64_t *messages);
 
-/* How many of the composed messages the host has not taken, as far as its frames tell. 0 means that it has taken them all. Else it is an
+/* How many of the composed messages the host has not taken, as far as its frames say. 0 means that it has taken them all. Else it is an
  * upper bound: the host answers typing (but the end of a command line), the cutting of a selection, and the acknowledgement that the
- * terminal sends behind each sam_term_offer_version by no frame, and such a message counts until the host answers a later one. sam_term_check
- * asks for an answer that changes no text. */
-uint32_t sam_term_under_way(sam_term *term, uint64_t *messages);
+ * terminal sends after each sam_term_offer_version by no frame, and such a message counts until the host answers a later one.
+ * sam_term_check asks for an answer that changes no text. */
+SAM_MUST_USE sam_status sam_term_under_way(sam_term *term, uint64_t *messages);
 
-/* The pattern that the host told last, in UTF-8: as many whole runes as have room; 512 bytes are always enough. */
-uint32_t sam_term_pattern(sam_term *term, uint8_t *into, size_t room, size_t *len);
+/* Whether the host has ended the session. */
+SAM_MUST_USE sam_status sam_term_exited(sam_term *term, bool *exited);
+
+/* The version of the protocol that both sides speak: 1, or 2 where both know it: that allows longer snarfed texts. */
+SAM_MUST_USE sam_status sam_term_version(sam_term *term, uint16_t *version);
+
+/* ---- The terminal: files that it knows ---- */
+
+/* How many tags the terminal has room for: each file that it knows has a tag below this. */
+SAM_MUST_USE sam_status sam_term_tags(sam_term *term, size_t *count);
+
+/* Whether the terminal knows a file of this tag. */
+SAM_MUST_USE sam_status sam_term_is_known(sam_term *term, uint16_t tag, bool *known);
+
+/* Whether a file is open. */
+SAM_MUST_USE sam_status sam_term_is_open(sam_term *term, uint16_t tag, bool *open);
+
+/* The name of a known file, in UTF-8: as many whole runes as have room; 256 bytes are always enough. */
+SAM_MUST_USE sam_status sam_term_name(sam_term *term, uint16_t tag, uint8_t *into, size_t room, size_t *len);
+
+/* Whether a known file is dirty, as the host said last. */
+SAM_MUST_USE sam_status sam_term_is_dirty(sam_term *term, uint16_t tag, bool *dirty);
+
+/* Whether a file may differ from what was written last: the host said that it is dirty, or the user typed into it or cut from it here
+ * since. An event that is held has changed nothing yet. The command file, which is never written, stays changed. */
+SAM_MUST_USE sam_status sam_term_is_changed(sam_term *term, uint16_t tag, bool *changed);
+
+/* The file that the host's answer to sam_term_work or sam_term_new_file named last, SAM_NONE before the first. It may be closed since.
+ * sam_term_open changes the file that command lines work on without a word of it here. */
+SAM_MUST_USE sam_status sam_term_current(sam_term *term, uint16_t *tag);
+
+/* ---- The terminal: texts of open files ---- */
+
+/* What sam_term_read hands out for a rune that is not loaded. */
+#define SAM_GAP UINT32_MAX
+
+/* The length of an open file in runes, gaps counted. */
+SAM_MUST_USE sam_status sam_term_len(sam_term *term, uint16_t tag, uint32_t *runes);
+
+/* The runes of an open file from a place on, as many as there are and have room, SAM_GAP for each that is not loaded. */
+SAM_MUST_USE sam_status sam_term_read(sam_term *term, uint16_t tag, uint32_t place, uint32_t *into, size_t room, size_t *count);
+
+/* The first place of an open file, at or after `place`, whose rune is not loaded. SAM_NONE also where all are loaded from there on: ask
+ * sam_term_is_open to know the two apart. */
+SAM_MUST_USE sam_status sam_term_first_gap(sam_term *term, uint16_t tag, uint32_t place, uint32_t *gap);
+
+/* The dot of an open file. */
+SAM_MUST_USE sam_status sam_term_dot(sam_term *term, uint16_t tag, uint32_t *start, uint32_t *end);
+
+/* What an open file shows: the places where its view begins and ends. */
+SAM_MUST_USE sam_status sam_term_view_of(sam_term *term, uint16_t tag, uint32_t *start, uint32_t *end);
+
+/* ---- The terminal: pattern and snarf buffer ---- */
+
+/* The pattern that the host reported last, in UTF-8: as many whole runes as have room; 512 bytes are always enough. */
+SAM_MUST_USE sam_status sam_term_pattern(sam_term *term, uint8_t *into, size_t room, size_t *len);
 
 /* The snarfed text that the host sent last (sam_term_get_snarf), from a place on, in UTF-8: as many whole runes as have room. It may be
  * only the front of the host's buffer: at most 4,096 bytes come, 32,000 in version 2. */
-uint32_t sam_term_snarfed(sam_term *term, uint32_t place, uint8_t *into, size_t room, size_t *bytes, size_t *runes);
+SAM_MUST_USE sam_status sam_term_snarfed(sam_term *term, uint32_t place, uint8_t *into, size_t room, size_t *bytes, size_t *runes);
 
-/* How many runes the host's snarf buffer has, as it told last. */
-uint32_t sam_term_snarf_len(sam_term *term, uint32_t *runes);
+/* How many runes the host's snarf buffer has, as it said last. */
+SAM_MUST_USE sam_status sam_term_snarf_len(sam_term *term, uint32_t *runes);
 
-/* Whether the host has ended the session. */
-uint32_t sam_term_exited(sam_term *term, bool *exited);
+/* ==== Scripts ==== */
 
-/* The version of the protocol that both sides speak: 1, or 2 where both know it: that allows longer snarfed texts. */
-uint32_t sam_term_version(sam_term *term, uint16_t *version);
-
-/* ---- Scripts ---- */
-
-/* Runs a script over a host and a terminal of its own, and hands out what its `show` lines print: docs/SCRIPTS.md tells the language.
+/* Runs a script over a host and a terminal of its own, and hands out what its `show` lines print: docs/SCRIPTS.md explains the language.
  * It takes no handle. All lines are read before the first is done.
  *
  * SAM_OK: *out_len is the number of all bytes that are printed, and the first of them stand in `out`, as many as have room. The rest of
  * the buffer is as it was. Where *out_len is above out_room, call again with so much room: a script prints the same each time.
  * SAM_SCRIPT_LINE: *line, counted from 1, is the first wrong line. Where no line is wrong, the first that can't be done decides:
- * SAM_SCRIPT_LINE tells a `host` or `term` at which nothing is there to take, SAM_SCRIPT_COUNT_FULL a line that would count more than
+ * SAM_SCRIPT_LINE reports a `host` or `term` at which nothing is there to take, SAM_SCRIPT_COUNT_FULL a line that would count more than
  * 2^64-1 messages. SAM_NO_MEMORY may come at any line.
  * What the pointers lead to is as it was but for `out` and *out_len at SAM_OK, and *line at SAM_SCRIPT_LINE. */
-uint32_t sam_replay(const uint8_t *script, size_t script_len, uint8_t *out, size_t out_room, size_t *out_len, size_t *line);
+SAM_MUST_USE sam_status sam_replay(const uint8_t *script, size_t script_len, uint8_t *out, size_t out_room, size_t *out_len, size_t *line);
 
 #ifdef __cplusplus
 }

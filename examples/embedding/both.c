@@ -5,10 +5,10 @@
 #include <stdlib.h>
 #include <string.h>
 
-static void must(uint32_t status)
+static void must(sam_status status)
 {
     if (status != SAM_OK) {
-        fprintf(stderr, "status %u\n", status);
+        fprintf(stderr, "%s\n", sam_status_text(status));
         exit(1);
     }
 }
@@ -28,8 +28,8 @@ static void carry(sam_term *term, sam_host *host)
 
 int main(void)
 {
-    sam_host host = {0};
-    sam_term term = {0};
+    sam_host host = SAM_HOST_INIT;
+    sam_term term = SAM_TERM_INIT;
     uint16_t file;
     must(sam_host_new(&host));
     must(sam_host_add_file(&host, (const uint8_t *)"notes", 5, (const uint8_t *)"hello\n", 6, &file));

@@ -1,5 +1,5 @@
 /*
- * Each call of sulgrevad.h once where it does its work, and once for each status that it can answer, but for want of memory, which random.c
+ * Each call of sulgrevad.h once where it does its work, and once for each status that it can return, but for SAM_NO_MEMORY, which random.c
  * meets, and full counts. The bytes and texts that are expected stand in docs/PROTOCOL.md and RFC 3629. It prints a line for each group,
  * and ends with status 0, or 1 and the line that failed.
  */
@@ -158,14 +158,14 @@ static void all_tags(void)
     WANT(sam_host_free(&host), SAM_OK);
 }
 
-/* Feeds bytes to a new host that has one file; answers the status, and that it stays. */
-static uint32_t fed_host(const char *bytes, size_t len)
+/* Feeds bytes to a new host that has one file; returns the status, and wants that it stays. */
+static sam_status fed_host(const char *bytes, size_t len)
 {
     sam_host host = {0};
     uint16_t tag;
     WANT(sam_host_new(&host), SAM_OK);
     WANT(sam_host_add_file(&host, BYTES("a"), BYTES("one"), &tag), SAM_OK);
-    uint32_t status = sam_host_feed(&host, (const uint8_t *)bytes, len);
+    sam_status status = sam_host_feed(&host, (const uint8_t *)bytes, len);
     if (status != SAM_OK)
         WANT(sam_host_feed(&host, NULL, 0), status);
     WANT(sam_host_free(&host), SAM_OK);
@@ -174,11 +174,11 @@ static uint32_t fed_host(const char *bytes, size_t len)
 
 #define HOST(bytes) fed_host(bytes, sizeof(bytes) - 1)
 
-static uint32_t fed_term(const char *bytes, size_t len)
+static sam_status fed_term(const char *bytes, size_t len)
 {
     sam_term term = {0};
     WANT(sam_term_new(&term), SAM_OK);
-    uint32_t status = sam_term_feed(&term, (const uint8_t *)bytes, len);
+    sam_status status = sam_term_feed(&term, (const uint8_t *)bytes, len);
     if (status != SAM_OK) {
         WANT(sam_term_feed(&term, NULL, 0), status);
         WANT(sam_term_cut(&term, 0), status);
@@ -227,7 +227,7 @@ static void too_long(void)
     sam_term term = {0};
     uint16_t tag;
     uint64_t event;
-    uint32_t why;
+    sam_status why;
     memset(letters, 'x', sizeof letters);
     WANT(sam_host_new(&host), SAM_OK);
     WANT(sam_term_new(&term), SAM_OK);
@@ -246,10 +246,10 @@ static void too_long(void)
     WANT(sam_term_free(&term), SAM_OK);
 }
 
-static void wants_refusal(sam_term *term, uint32_t should)
+static void wants_refusal(sam_term *term, sam_status should)
 {
     uint64_t event, events;
-    uint32_t why;
+    sam_status why;
     WANT(sam_term_next_refusal(term, &event, &why), SAM_OK);
     WANT(why, should);
     WANT(sam_term_events(term, &events), SAM_OK);
@@ -272,7 +272,7 @@ static void same_text(sam_host *host, uint16_t tag, const char *text)
     WANT(memcmp(bytes, text, len), 0);
 }
 
-/* A whole session, each event at least once, with what the readers tell on the way. */
+/* A whole session, each event at least once, with what the readers say on the way. */
 static void session(void)
 {
     static const uint8_t many[513] = {0};
@@ -354,7 +354,7 @@ static void session(void)
     WANT(sam_term_is_changed(&term, 1, &is), SAM_OK);
     WANT(is, 1);
     WANT(sam_term_is_dirty(&term, 1, &is), SAM_OK);
-    WANT(is, 0); /* the host tells nothing of what is cut here */
+    WANT(is, 0); /* the host says nothing of what is cut here */
     WANT(sam_term_is_changed(&term, 9, &is), SAM_OK);
     WANT(is, 0); /* there is no such file */
     carry(&term, &host);
@@ -500,9 +500,108 @@ static void not_open(void)
     WANT(sam_host_free(&host), SAM_OK);
 }
 
-/* Replays a script into a buffer that has this room, with an untouched byte behind it; wants the status, the line, the number of bytes
+/* What the readers return of a tag that has no file, and of a file that is known and not open. */
+static void reads_no_file(sam_term *term, uint16_t tag, sam_status known)
+{
+    uint8_t bytes[8];
+    uint32_t runes[8], a, b;
+    size_t len;
+    bool is = true;
+    WANT(sam_term_is_known(term, tag, &is), SAM_OK);
+    WANT(is, known == SAM_OK);
+    WANT(sam_term_is_open(term, tag, &is), SAM_OK);
+    WANT(is, 0);
+    WANT(sam_term_is_changed(term, tag, &is), SAM_OK);
+    WANT(is, 0);
+    WANT(sam_term_is_dirty(term, tag, &is), known);
+    WANT(sam_term_name(term, tag, bytes, sizeof bytes, &len), known);
+    WANT(sam_term_len(term, tag, &a), SAM_NONE);
+    WANT(sam_term_read(term, tag, 0, runes, 8, &len), SAM_NONE);
+    WANT(sam_term_first_gap(term, tag, 0, &a), SAM_NONE);
+    WANT(sam_term_dot(term, tag, &a, &b), SAM_NONE);
+    WANT(sam_term_view_of(term, tag, &a, &b), SAM_NONE);
+}
+
+/* What the header says of tags without a file, at both sides. */
+static void tags_without_a_file(void)
+{
+    sam_host host = SAM_HOST_INIT;
+    sam_term term = SAM_TERM_INIT;
+    uint16_t tag;
+    uint8_t bytes[8];
+    uint32_t a, b;
+    size_t len, more;
+    bool is = true;
+    WANT(sam_host_new(&host), SAM_OK);
+    WANT(sam_host_add_file(&host, BYTES("a\0b"), BYTES("one"), &tag), SAM_OK); /* NUL is a rune like others */
+    WANT(sam_term_new(&term), SAM_OK);
+    WANT(sam_term_offer_version(&term, 2), SAM_OK);
+    WANT(sam_term_locked(&term, 9, &is), SAM_OK);
+    WANT(is, 1); /* the command lock is held */
+    carry(&term, &host);
+    WANT(sam_term_locked(&term, 9, &is), SAM_OK);
+    WANT(is, 0);
+    reads_no_file(&term, 9, SAM_NONE);
+    reads_no_file(&term, 1, SAM_OK);
+    WANT(sam_term_name(&term, 1, bytes, sizeof bytes, &len), SAM_OK);
+    WANT(len == 3 && memcmp(bytes, "a\0b", 3) == 0, 1);
+    WANT(sam_term_open(&term, 1), SAM_OK);
+    WANT(sam_term_write(&term, 1), SAM_OK);
+    WANT(sam_term_type(&term, 1, BYTES("x")), SAM_OK);
+    WANT(sam_term_write(&term, 1), SAM_OK);
+    WANT(sam_term_close(&term, 1), SAM_OK);
+    carry(&term, &host);
+    WANT(sam_host_next_written(&host, &tag), SAM_OK); /* each Twrite gives its tag once */
+    WANT(tag, 1);
+    WANT(sam_host_next_written(&host, &tag), SAM_OK);
+    WANT(tag, 1);
+    WANT(sam_host_next_written(&host, &tag), SAM_NONE);
+    reads_no_file(&term, 1, SAM_NONE);
+    WANT(sam_host_has_file(&host, 1, &is), SAM_OK);
+    WANT(is, 0);
+    WANT(sam_host_name(&host, 1, bytes, sizeof bytes, &len), SAM_NONE);
+    WANT(sam_host_len(&host, 1, &a), SAM_NONE);
+    WANT(sam_host_is_dirty(&host, 1, &is), SAM_NONE);
+    WANT(sam_host_text(&host, 1, 0, bytes, sizeof bytes, &len, &more), SAM_NONE);
+    WANT(sam_host_saved(&host, 1, 0, bytes, sizeof bytes, &len, &more), SAM_NONE);
+    WANT(sam_host_saved_len(&host, 1, &len), SAM_NONE);
+    WANT(sam_host_dot(&host, 1, &a, &b), SAM_NONE);
+    WANT(sam_term_free(&term), SAM_OK);
+    WANT(sam_host_free(&host), SAM_OK);
+}
+
+/* The command line that the header calls too long, in the text that it names. */
+static void long_line(void)
+{
+    enum { LINES = 250000, RUNES = 600000 };
+    static uint8_t text[RUNES];
+    sam_host host = SAM_HOST_INIT;
+    sam_term term = SAM_TERM_INIT;
+    uint16_t tag;
+    uint32_t len;
+    size_t bytes, runes;
+    uint8_t printed[7];
+    memset(text, 'y', sizeof text);
+    for (size_t i = 0; i < LINES; i++)
+        memcpy(text + 2 * i, "x\n", 2);
+    WANT(sam_host_new(&host), SAM_OK);
+    WANT(sam_host_add_file(&host, BYTES("a"), text, sizeof text, &tag), SAM_OK);
+    WANT(sam_term_new(&term), SAM_OK);
+    WANT(sam_term_offer_version(&term, 2), SAM_OK);
+    WANT(sam_term_open(&term, 1), SAM_OK);
+    WANT(sam_term_open_cmd(&term), SAM_OK);
+    WANT(sam_term_type(&term, 0, BYTES(",x/x\\n/c/y\\n/\n")), SAM_OK);
+    carry(&term, &host);
+    WANT(sam_host_len(&host, 0, &len), SAM_OK);
+    WANT(sam_host_text(&host, 0, len - 7, printed, sizeof printed, &bytes, &runes), SAM_OK);
+    WANT(bytes == 7 && memcmp(printed, "? long\n", 7) == 0, 1);
+    WANT(sam_term_free(&term), SAM_OK);
+    WANT(sam_host_free(&host), SAM_OK);
+}
+
+/* Replays a script into a buffer that has this room, with an untouched byte after it; wants the status, the line, the number of bytes
  * that are printed, and those that fit. */
-static void replays(const char *script, size_t room, uint32_t status, size_t line, const char *printed)
+static void replays(const char *script, size_t room, sam_status status, size_t line, const char *printed)
 {
     uint8_t buffer[80];
     size_t len = 777, at = 888, all = strlen(printed), put = all < room ? all : room;
@@ -543,10 +642,22 @@ static void replaying(void)
     replays("show\n\xFF\n", 79, SAM_SCRIPT_LINE, 2, "");
 }
 
+/* The calls that take no handle. */
+static void no_handle_needed(void)
+{
+    WANT(sam_library_version(), SAM_VERSION);
+    WANT(SAM_VERSION, SAM_VERSION_MAJOR * 65536 + SAM_VERSION_MINOR * 256 + SAM_VERSION_PATCH);
+    WANT(strcmp(sam_status_text(SAM_NOT_TEXT), "SAM_NOT_TEXT: the bytes are not UTF-8"), 0);
+    WANT(strcmp(sam_status_text(SAM_ADD), "unknown status"), 0);
+    WANT(strcmp(sam_status_text(SAM_STATUS_WIDTH), "unknown status"), 0);
+    WANT(sizeof(sam_status), 4);
+}
+
 int main(void)
 {
-    sam_host host = {0};
-    sam_term term = {0};
+    sam_host host = SAM_HOST_INIT;
+    sam_term term = SAM_TERM_INIT;
+    no_handle_needed();
     no_handles(&host, &term);
     puts("empty handles");
     adding();
@@ -557,6 +668,9 @@ int main(void)
     too_long();
     not_open();
     puts("refusals");
+    tags_without_a_file();
+    long_line();
+    puts("what the header says of tags and of long lines");
     session();
     puts("a session");
     replaying();

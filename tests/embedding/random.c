@@ -32,16 +32,16 @@ static void fail(const char *what, uint32_t status)
     exit(1);
 }
 
-static void want(const char *what, uint32_t status)
+static void want(const char *what, sam_status status)
 {
     if (status != SAM_OK)
         fail(what, status);
 }
 
-/* Feeds bytes to a side: once more at want of memory, until they are taken, and then no bytes until nothing waits. */
+/* Feeds bytes to a side: once more when it is out of memory, until they are taken, and then no bytes until nothing waits. */
 static void feed_host(const uint8_t *bytes, size_t len)
 {
-    uint32_t status;
+    sam_status status;
     while ((status = sam_host_feed(&host, bytes, len)) == SAM_NO_MEMORY)
         again++;
     while (status == SAM_UNFINISHED || status == SAM_NO_MEMORY) {
@@ -51,7 +51,7 @@ static void feed_host(const uint8_t *bytes, size_t len)
     want("the host takes a piece", status);
 }
 
-static uint32_t settle_term(uint32_t status)
+static sam_status settle_term(sam_status status)
 {
     if (status != SAM_UNFINISHED)
         return status;
@@ -64,7 +64,7 @@ static uint32_t settle_term(uint32_t status)
 
 static void feed_term(const uint8_t *bytes, size_t len)
 {
-    uint32_t status;
+    sam_status status;
     while ((status = settle_term(sam_term_feed(&term, bytes, len))) == SAM_NO_MEMORY)
         again++;
     want("the terminal takes a piece", status);
@@ -97,7 +97,7 @@ static const char *const texts[] = {"a",           "\n",  "h\xC3\xA9llo", "x\xE2
                                     ",x/l/c/L/\n", "0\n", ",p\n",         "f name\n"};
 
 /* One random thing that the user does; SAM_NO_MEMORY where it was not taken. */
-static uint32_t do_event(uint32_t kind, uint16_t tag, uint32_t a, uint32_t b, const char *text)
+static sam_status do_event(uint32_t kind, uint16_t tag, uint32_t a, uint32_t b, const char *text)
 {
     const uint8_t *bytes = (const uint8_t *)text;
     switch (kind) {
@@ -159,7 +159,8 @@ static uint32_t do_event(uint32_t kind, uint16_t tag, uint32_t a, uint32_t b, co
 
 static void user(void)
 {
-    uint32_t kind = pick(29), a = pick(40), b = pick(40), status;
+    uint32_t kind = pick(29), a = pick(40), b = pick(40);
+    sam_status status;
     uint16_t tag = (uint16_t)pick(FILES + 2);
     const char *text = texts[pick(sizeof texts / sizeof texts[0])];
     while ((status = settle_term(do_event(kind, tag, a, b, text))) == SAM_NO_MEMORY)
@@ -167,7 +168,7 @@ static void user(void)
     want("an event", status);
     for (;;) {
         uint64_t event;
-        uint32_t why;
+        sam_status why;
         if (sam_term_next_refusal(&term, &event, &why) == SAM_NONE)
             break;
         if (why <= SAM_REFUSAL || why > SAM_REFUSAL_BAD_VERSION)
@@ -180,7 +181,7 @@ static void drain(void)
 {
     int more = 1;
     while (more) {
-        uint32_t status;
+        sam_status status;
         while ((status = settle_term(sam_term_flush_now(&term))) == SAM_NO_MEMORY)
             again++;
         want("the terminal is idle", status);
@@ -270,7 +271,7 @@ static void compare(void)
 /* One thing that the user does for certain. */
 static void certain(uint32_t kind, uint16_t tag, uint32_t a, uint32_t b)
 {
-    uint32_t status;
+    sam_status status;
     while ((status = settle_term(do_event(kind, tag, a, b, texts[0]))) == SAM_NO_MEMORY)
         again++;
     want("an event", status);
@@ -278,7 +279,7 @@ static void certain(uint32_t kind, uint16_t tag, uint32_t a, uint32_t b)
 
 static void make(void)
 {
-    uint32_t status;
+    sam_status status;
     while ((status = sam_host_new(&host)) == SAM_NO_MEMORY)
         again++;
     want("a host", status);

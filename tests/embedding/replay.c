@@ -30,9 +30,9 @@ static void read_script(void)
     }
 }
 
-static uint32_t replay(uint8_t *out, size_t room, size_t *len, size_t *line)
+static sam_status replay(uint8_t *out, size_t room, size_t *len, size_t *line)
 {
-    uint32_t status;
+    sam_status status;
     while ((status = sam_replay(script, script_len, out, room, len, line)) == SAM_NO_MEMORY)
         ;
     return status;
@@ -43,7 +43,7 @@ int main(int argc, char **argv)
     size_t room = argc == 2 ? strtoul(argv[1], NULL, 10) : 0, len = 0, line = 0;
     uint8_t *out = block(NULL, room);
     read_script();
-    uint32_t status = replay(out, room, &len, &line);
+    sam_status status = replay(out, room, &len, &line);
     if (status == SAM_OK && len > room) {
         room = len;
         out = block(out, room);

@@ -1,14 +1,14 @@
 //! The host: whole texts, commands, and the answers to a terminal's messages.
 
-use crate::raw::{self, Handle};
 use crate::{done, short_text, tells, told, whole_text, Error, PIECE};
 use std::cell::UnsafeCell;
+use sulgrevad_sys::{self as sys, sam_host};
 
 /// A host. It is dropped with what is pending.
 #[derive(Debug)]
 pub struct Host {
     // Each call writes to the handle, those that only read included.
-    handle: Box<UnsafeCell<Handle>>,
+    handle: Box<UnsafeCell<sam_host>>,
 }
 
 // A handle shares nothing with another, and each call has it alone.
@@ -17,31 +17,31 @@ unsafe impl Send for Host {}
 impl Host {
     /// A host with the command file alone (tag 0). Its only error is `NoMemory`.
     pub fn new() -> Result<Host, Error> {
-        let handle = Box::new(UnsafeCell::new(Handle::EMPTY));
-        done(unsafe { raw::sam_host_new(handle.get()) })?;
+        let handle = Box::new(UnsafeCell::new(sam_host::INIT));
+        done(unsafe { sys::sam_host_new(handle.get()) })?;
         Ok(Host { handle })
     }
 
-    fn at(&self) -> *mut Handle {
+    fn at(&self) -> *mut sam_host {
         self.handle.get()
     }
 
-    /// Adds a file and answers its tag: 1 for the first. Errors in order: `Begun`, `TooLong`, `NoTag`, `NoMemory`; the host is then as
+    /// Adds a file and returns its tag: 1 for the first. Errors in order: `Begun`, `TooLong`, `NoTag`, `NoMemory`; the host is then as
     /// it was.
     pub fn add_file(&mut self, name: &str, text: &str) -> Result<u16, Error> {
         let mut tag = 0;
-        done(unsafe { raw::sam_host_add_file(self.at(), name.as_ptr(), name.len(), text.as_ptr(), text.len(), &mut tag) })?;
+        done(unsafe { sys::sam_host_add_file(self.at(), name.as_ptr(), name.len(), text.as_ptr(), text.len(), &mut tag) })?;
         Ok(tag)
     }
 
     /// Takes bytes of the terminal's messages, in whatever pieces they come, and answers each that is whole.
     pub fn feed(&mut self, bytes: &[u8]) -> Result<(), Error> {
-        done(unsafe { raw::sam_host_feed(self.at(), bytes.as_ptr(), bytes.len()) })
+        done(unsafe { sys::sam_host_feed(self.at(), bytes.as_ptr(), bytes.len()) })
     }
 
     /// How many bytes are pending.
     pub fn pending(&self) -> usize {
-        tells(|len| unsafe { raw::sam_host_pending(self.at(), len) })
+        tells(|len| unsafe { sys::sam_host_pending(self.at(), len) })
     }
 
     /// Takes the pending bytes, in pieces.
@@ -49,85 +49,86 @@ impl Host {
         std::iter::from_fn(|| {
             let mut piece = vec![0; PIECE.min(self.pending())];
             let mut count = 0;
-            unsafe { raw::sam_host_take_out(self.at(), piece.as_mut_ptr(), piece.len(), &mut count) };
+            unsafe { sys::sam_host_take_out(self.at(), piece.as_mut_ptr(), piece.len(), &mut count) };
             piece.truncate(count);
             (count > 0).then_some(piece)
         })
     }
 
-    /// The files that the terminal told the host to write since this was asked last, in order: write `saved` of each to disk.
+    /// The files that the terminal told the host to write since this was asked last, one for each Twrite, in order: write `saved` of each to
+    /// disk.
     pub fn written(&mut self) -> impl Iterator<Item = u16> + '_ {
-        std::iter::from_fn(|| told(|tag| unsafe { raw::sam_host_next_written(self.at(), tag) }))
+        std::iter::from_fn(|| told(|tag| unsafe { sys::sam_host_next_written(self.at(), tag) }))
     }
 
     /// Whether the session is over.
     pub fn is_done(&self) -> bool {
-        tells(|done| unsafe { raw::sam_host_is_done(self.at(), done) })
+        tells(|done| unsafe { sys::sam_host_is_done(self.at(), done) })
     }
 
     /// How many messages it has answered.
     pub fn taken(&self) -> u64 {
-        tells(|taken| unsafe { raw::sam_host_taken(self.at(), taken) })
+        tells(|taken| unsafe { sys::sam_host_taken(self.at(), taken) })
     }
 
     /// The version of the protocol: 1 or 2.
     pub fn version(&self) -> u16 {
-        tells(|version| unsafe { raw::sam_host_version(self.at(), version) })
+        tells(|version| unsafe { sys::sam_host_version(self.at(), version) })
     }
 
     /// How many tags were given, the command file's included.
     pub fn tags(&self) -> usize {
-        tells(|count| unsafe { raw::sam_host_tags(self.at(), count) })
+        tells(|count| unsafe { sys::sam_host_tags(self.at(), count) })
     }
 
     /// Whether the tag has a file now.
     pub fn has_file(&self, tag: u16) -> bool {
-        tells(|has| unsafe { raw::sam_host_has_file(self.at(), tag, has) })
+        tells(|has| unsafe { sys::sam_host_has_file(self.at(), tag, has) })
     }
 
     /// The name of a file; `None` where the tag has none, as for the readers below.
     pub fn name(&self, tag: u16) -> Option<String> {
-        short_text(|into, len| unsafe { raw::sam_host_name(self.at(), tag, into.as_mut_ptr(), into.len(), len) })
+        short_text(|into, len| unsafe { sys::sam_host_name(self.at(), tag, into.as_mut_ptr(), into.len(), len) })
     }
 
     /// The length of a file's text in runes.
     pub fn len(&self, tag: u16) -> Option<u32> {
-        told(|runes| unsafe { raw::sam_host_len(self.at(), tag, runes) })
+        told(|runes| unsafe { sys::sam_host_len(self.at(), tag, runes) })
     }
 
     /// Whether a file has changed since it was made or written.
     pub fn is_dirty(&self, tag: u16) -> Option<bool> {
-        told(|dirty| unsafe { raw::sam_host_is_dirty(self.at(), tag, dirty) })
+        told(|dirty| unsafe { sys::sam_host_is_dirty(self.at(), tag, dirty) })
     }
 
     /// A file's text.
     pub fn text(&self, tag: u16) -> Option<String> {
         whole_text(|place, into, bytes, runes| unsafe {
-            raw::sam_host_text(self.at(), tag, place, into.as_mut_ptr(), into.len(), bytes, runes)
+            sys::sam_host_text(self.at(), tag, place, into.as_mut_ptr(), into.len(), bytes, runes)
         })
     }
 
     /// What a file was when it was written last; `None` also where it never was.
     pub fn saved(&self, tag: u16) -> Option<String> {
         whole_text(|place, into, bytes, runes| unsafe {
-            raw::sam_host_saved(self.at(), tag, place, into.as_mut_ptr(), into.len(), bytes, runes)
+            sys::sam_host_saved(self.at(), tag, place, into.as_mut_ptr(), into.len(), bytes, runes)
         })
     }
 
     /// The length in runes of what a file was when it was written last.
     pub fn saved_len(&self, tag: u16) -> Option<usize> {
-        told(|runes| unsafe { raw::sam_host_saved_len(self.at(), tag, runes) })
+        told(|runes| unsafe { sys::sam_host_saved_len(self.at(), tag, runes) })
     }
 
     /// The dot of a file: the places where the selection begins and ends.
     pub fn dot(&self, tag: u16) -> Option<(u32, u32)> {
         let mut end = 0;
-        told(|start| unsafe { raw::sam_host_dot(self.at(), tag, start, &mut end) }).map(|start| (start, end))
+        told(|start| unsafe { sys::sam_host_dot(self.at(), tag, start, &mut end) }).map(|start| (start, end))
     }
 }
 
 impl Drop for Host {
     fn drop(&mut self) {
-        unsafe { raw::sam_host_free(self.at()) };
+        unsafe { sys::sam_host_free(self.at()) };
     }
 }

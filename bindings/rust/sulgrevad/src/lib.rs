@@ -1,5 +1,5 @@
-//! A proved host and a proved terminal for editors whose screen and text live apart, after Rob Pike's sam: safe Rust over
-//! `libsulgrevad.a`, which `./build_c` makes. `include/sulgrevad.h` and `docs/EMBEDDING.md` have the whole story.
+//! A proved host and a proved terminal for editors whose screen and text live apart, after Rob Pike's sam: safe Rust over the C library.
+//! `sulgrevad.h` and the page EMBEDDING of the repository have the whole story, and `sulgrevad-sys` says how the library is found.
 //!
 //! ```
 //! use sulgrevad::{Host, Terminal};
@@ -33,7 +33,6 @@
 
 mod error;
 mod host;
-mod raw;
 mod script;
 mod terminal;
 
@@ -42,15 +41,33 @@ pub use host::Host;
 pub use script::replay;
 pub use terminal::Terminal;
 
+use std::ffi::CStr;
+use sulgrevad_sys as sys;
+
 /// How many bytes one turn of `take_out` hands out at most, and the room that a replay is given first.
 const PIECE: usize = 4096;
 
-const OK: u32 = 0;
+/// The version of the library that the program runs with: the major, the minor and the patch number.
+pub fn library_version() -> (u32, u32, u32) {
+    let version = unsafe { sys::sam_library_version() };
+    (version >> 16, version >> 8 & 0xff, version & 0xff)
+}
+
+/// The name of a status of sulgrevad.h and a sentence about it; "unknown status" for any other number.
+///
+/// ```
+/// assert_eq!(sulgrevad::status_text(6), "SAM_NOT_TEXT: the bytes are not UTF-8");
+/// ```
+pub fn status_text(status: u32) -> &'static str {
+    // The text is the library's, in ASCII, and stays.
+    let text: &'static CStr = unsafe { CStr::from_ptr(sys::sam_status_text(status)) };
+    text.to_str().expect("the library writes UTF-8")
+}
 
 /// Whether a call did what it was asked.
 fn done(status: u32) -> Result<(), Error> {
     match status {
-        OK => Ok(()),
+        sys::SAM_OK => Ok(()),
         status => Err(Error::of(status)),
     }
 }
@@ -58,7 +75,7 @@ fn done(status: u32) -> Result<(), Error> {
 /// What a reader hands out where it answers that it did: `None` where there is no such thing.
 fn told<T: Default>(read: impl FnOnce(&mut T) -> u32) -> Option<T> {
     let mut value = T::default();
-    (read(&mut value) == OK).then_some(value)
+    (read(&mut value) == sys::SAM_OK).then_some(value)
 }
 
 /// What a reader always hands out of a handle that is made.
@@ -73,7 +90,7 @@ fn whole_text(mut read: impl FnMut(u32, &mut [u8], &mut usize, &mut usize) -> u3
     loop {
         let mut piece = [0; PIECE];
         let (mut bytes, mut runes) = (0, 0);
-        if read(place, &mut piece, &mut bytes, &mut runes) != OK {
+        if read(place, &mut piece, &mut bytes, &mut runes) != sys::SAM_OK {
             return None;
         }
         if runes == 0 {
@@ -88,5 +105,5 @@ fn whole_text(mut read: impl FnMut(u32, &mut [u8], &mut usize, &mut usize) -> u3
 fn short_text(read: impl FnOnce(&mut [u8], &mut usize) -> u32) -> Option<String> {
     let mut piece = [0; PIECE];
     let mut len = 0;
-    (read(&mut piece, &mut len) == OK).then(|| String::from_utf8(piece[..len].to_vec()).expect("the library writes UTF-8"))
+    (read(&mut piece, &mut len) == sys::SAM_OK).then(|| String::from_utf8(piece[..len].to_vec()).expect("the library writes UTF-8"))
 }

@@ -1,21 +1,21 @@
 //! The terminal: windows, keyboard and mouse over partly loaded texts.
 
-use crate::raw::{self, Handle};
 use crate::{done, short_text, tells, told, whole_text, Error, Refusal, PIECE};
 use std::cell::UnsafeCell;
+use sulgrevad_sys::{self as sys, sam_term};
 
 /// What `read` hands out for a rune that is not loaded.
-const GAP: u32 = u32::MAX;
+const GAP: u32 = sys::SAM_GAP;
 
 /// A terminal. It is dropped with what is pending.
 ///
 /// Each event acts at once where it can, or is held until the locks that it waits for are free and the events before it have acted; each
 /// call also lets held events act. What is composed is then pending. Errors: `NoMemory`, `Unfinished`, `CountFull`, `Stream`,
-/// `TermRefused`. An event that is refused is no error: `refusals` tells it.
+/// `TermRefused`. An event that is refused is no error: `refusals` reports it.
 #[derive(Debug)]
 pub struct Terminal {
     // Each call writes to the handle, those that only read included.
-    handle: Box<UnsafeCell<Handle>>,
+    handle: Box<UnsafeCell<sam_term>>,
 }
 
 // A handle shares nothing with another, and each call has it alone.
@@ -24,148 +24,148 @@ unsafe impl Send for Terminal {}
 impl Terminal {
     /// A terminal that knows no file. Its only error is `NoMemory`.
     pub fn new() -> Result<Terminal, Error> {
-        let handle = Box::new(UnsafeCell::new(Handle::EMPTY));
-        done(unsafe { raw::sam_term_new(handle.get()) })?;
+        let handle = Box::new(UnsafeCell::new(sam_term::INIT));
+        done(unsafe { sys::sam_term_new(handle.get()) })?;
         Ok(Terminal { handle })
     }
 
-    fn at(&self) -> *mut Handle {
+    fn at(&self) -> *mut sam_term {
         self.handle.get()
     }
 
-    /// Types a text, of at most 512 runes, in the place of the dot.
+    /// Types a text in the place of the dot; one of more than 512 runes is refused (`TextTooLong`).
     pub fn type_(&mut self, tag: u16, text: &str) -> Result<(), Error> {
-        done(unsafe { raw::sam_term_type(self.at(), tag, text.as_ptr(), text.len()) })
+        done(unsafe { sys::sam_term_type(self.at(), tag, text.as_ptr(), text.len()) })
     }
 
     /// Gives the host another snarf buffer: at most 4,096 bytes, 32,000 in version 2.
     pub fn set_snarf(&mut self, text: &str) -> Result<(), Error> {
-        done(unsafe { raw::sam_term_set_snarf(self.at(), text.as_ptr(), text.len()) })
+        done(unsafe { sys::sam_term_set_snarf(self.at(), text.as_ptr(), text.len()) })
     }
 
     /// Cuts the dot into the snarf buffer.
     pub fn cut(&mut self, tag: u16) -> Result<(), Error> {
-        done(unsafe { raw::sam_term_cut(self.at(), tag) })
+        done(unsafe { sys::sam_term_cut(self.at(), tag) })
     }
 
     /// Puts the snarf buffer in the place of the dot.
     pub fn paste(&mut self, tag: u16) -> Result<(), Error> {
-        done(unsafe { raw::sam_term_paste(self.at(), tag) })
+        done(unsafe { sys::sam_term_paste(self.at(), tag) })
     }
 
     /// Copies the dot into the snarf buffer.
     pub fn snarf(&mut self, tag: u16) -> Result<(), Error> {
-        done(unsafe { raw::sam_term_snarf(self.at(), tag) })
+        done(unsafe { sys::sam_term_snarf(self.at(), tag) })
     }
 
     /// Selects the next occurrence of the dot's text.
     pub fn look(&mut self, tag: u16) -> Result<(), Error> {
-        done(unsafe { raw::sam_term_look(self.at(), tag) })
+        done(unsafe { sys::sam_term_look(self.at(), tag) })
     }
 
     /// Selects the next occurrence of the pattern.
     pub fn search(&mut self, tag: u16) -> Result<(), Error> {
-        done(unsafe { raw::sam_term_search(self.at(), tag) })
+        done(unsafe { sys::sam_term_search(self.at(), tag) })
     }
 
     /// Prints the dot's text in the command file, and runs its last line as a command line.
     pub fn send(&mut self, tag: u16) -> Result<(), Error> {
-        done(unsafe { raw::sam_term_send(self.at(), tag) })
+        done(unsafe { sys::sam_term_send(self.at(), tag) })
     }
 
     /// Opens a file, and makes it the one that command lines work on.
     pub fn open(&mut self, tag: u16) -> Result<(), Error> {
-        done(unsafe { raw::sam_term_open(self.at(), tag) })
+        done(unsafe { sys::sam_term_open(self.at(), tag) })
     }
 
     /// Has the host write a file.
     pub fn write(&mut self, tag: u16) -> Result<(), Error> {
-        done(unsafe { raw::sam_term_write(self.at(), tag) })
+        done(unsafe { sys::sam_term_write(self.at(), tag) })
     }
 
     /// Closes a file for good: the host drops its text, written or not.
     pub fn close(&mut self, tag: u16) -> Result<(), Error> {
-        done(unsafe { raw::sam_term_close(self.at(), tag) })
+        done(unsafe { sys::sam_term_close(self.at(), tag) })
     }
 
     /// Makes a file the one that command lines work on.
     pub fn work(&mut self, tag: u16) -> Result<(), Error> {
-        done(unsafe { raw::sam_term_work(self.at(), tag) })
+        done(unsafe { sys::sam_term_work(self.at(), tag) })
     }
 
     /// Asks for the first gap that the view shows.
     pub fn check(&mut self, tag: u16) -> Result<(), Error> {
-        done(unsafe { raw::sam_term_check(self.at(), tag) })
+        done(unsafe { sys::sam_term_check(self.at(), tag) })
     }
 
     /// Opens the command file.
     pub fn open_cmd(&mut self) -> Result<(), Error> {
-        done(unsafe { raw::sam_term_open_cmd(self.at()) })
+        done(unsafe { sys::sam_term_open_cmd(self.at()) })
     }
 
     /// Makes an empty file, opens it, and makes it the one that command lines work on.
     pub fn new_file(&mut self) -> Result<(), Error> {
-        done(unsafe { raw::sam_term_new_file(self.at()) })
+        done(unsafe { sys::sam_term_new_file(self.at()) })
     }
 
     /// Asks for the host's snarf buffer.
     pub fn get_snarf(&mut self) -> Result<(), Error> {
-        done(unsafe { raw::sam_term_get_snarf(self.at()) })
+        done(unsafe { sys::sam_term_get_snarf(self.at()) })
     }
 
     /// Sends the typed runes, once the events before it acted.
     pub fn flush(&mut self) -> Result<(), Error> {
-        done(unsafe { raw::sam_term_flush(self.at()) })
+        done(unsafe { sys::sam_term_flush(self.at()) })
     }
 
     /// Ends the session.
     pub fn exit(&mut self) -> Result<(), Error> {
-        done(unsafe { raw::sam_term_exit(self.at()) })
+        done(unsafe { sys::sam_term_exit(self.at()) })
     }
 
     /// Sets the dot.
     pub fn select(&mut self, tag: u16, start: u32, end: u32) -> Result<(), Error> {
-        done(unsafe { raw::sam_term_select(self.at(), tag, start, end) })
+        done(unsafe { sys::sam_term_select(self.at(), tag, start, end) })
     }
 
     /// Selects the word round a place.
     pub fn dclick(&mut self, tag: u16, place: u32) -> Result<(), Error> {
-        done(unsafe { raw::sam_term_dclick(self.at(), tag, place) })
+        done(unsafe { sys::sam_term_dclick(self.at(), tag, place) })
     }
 
     /// Shows the file from so many lines further up.
     pub fn scroll(&mut self, tag: u16, lines: u32) -> Result<(), Error> {
-        done(unsafe { raw::sam_term_scroll(self.at(), tag, lines) })
+        done(unsafe { sys::sam_term_scroll(self.at(), tag, lines) })
     }
 
     /// Shows at most so many runes of the file from a place on, and asks for those that are not loaded, a stretch at a time.
     pub fn view(&mut self, tag: u16, place: u32, len: u32) -> Result<(), Error> {
-        done(unsafe { raw::sam_term_view(self.at(), tag, place, len) })
+        done(unsafe { sys::sam_term_view(self.at(), tag, place, len) })
     }
 
     /// Shows the same as `view`, and asks for all that is not loaded at once, so that it comes in one round trip.
     pub fn load(&mut self, tag: u16, place: u32, len: u32) -> Result<(), Error> {
-        done(unsafe { raw::sam_term_load(self.at(), tag, place, len) })
+        done(unsafe { sys::sam_term_load(self.at(), tag, place, len) })
     }
 
     /// Offers a version: 2 allows longer snarfed texts.
     pub fn offer_version(&mut self, version: u16) -> Result<(), Error> {
-        done(unsafe { raw::sam_term_offer_version(self.at(), version) })
+        done(unsafe { sys::sam_term_offer_version(self.at(), version) })
     }
 
     /// Takes bytes of the host's frames, in whatever pieces they come, and then lets held events act.
     pub fn feed(&mut self, bytes: &[u8]) -> Result<(), Error> {
-        done(unsafe { raw::sam_term_feed(self.at(), bytes.as_ptr(), bytes.len()) })
+        done(unsafe { sys::sam_term_feed(self.at(), bytes.as_ptr(), bytes.len()) })
     }
 
     /// Composes the typed runes that are not sent yet: to be called when the user pauses.
     pub fn flush_now(&mut self) -> Result<(), Error> {
-        done(unsafe { raw::sam_term_flush_now(self.at()) })
+        done(unsafe { sys::sam_term_flush_now(self.at()) })
     }
 
     /// How many bytes are pending.
     pub fn pending(&self) -> usize {
-        tells(|len| unsafe { raw::sam_term_pending(self.at(), len) })
+        tells(|len| unsafe { sys::sam_term_pending(self.at(), len) })
     }
 
     /// Takes the pending bytes, in pieces.
@@ -173,17 +173,19 @@ impl Terminal {
         std::iter::from_fn(|| {
             let mut piece = vec![0; PIECE.min(self.pending())];
             let mut count = 0;
-            unsafe { raw::sam_term_take_out(self.at(), piece.as_mut_ptr(), piece.len(), &mut count) };
+            unsafe { sys::sam_term_take_out(self.at(), piece.as_mut_ptr(), piece.len(), &mut count) };
             piece.truncate(count);
             (count > 0).then_some(piece)
         })
     }
 
     /// The events that were refused since this was asked last: which one, counted from 1 over all events, and why.
-    pub fn refusals(&mut self) -> impl Iterator<Item = (u64, Refusal)> + '_ {
+    /// A reason that this crate doesn't know is `Err`, with its number in sulgrevad.h.
+    pub fn refusals(&mut self) -> impl Iterator<Item = (u64, Result<Refusal, u32>)> + '_ {
         std::iter::from_fn(|| {
             let mut why = 0;
-            told(|event| unsafe { raw::sam_term_next_refusal(self.at(), event, &mut why) }).map(|event| (event, Refusal::of(why)))
+            let event = told(|event| unsafe { sys::sam_term_next_refusal(self.at(), event, &mut why) })?;
+            Some((event, Refusal::of(why).ok_or(why)))
         })
     }
 
@@ -192,7 +194,7 @@ impl Terminal {
         let most = most.min(self.len(tag).unwrap_or(0).saturating_sub(place) as usize);
         let mut runes = vec![0; most];
         let mut count = 0;
-        unsafe { raw::sam_term_read(self.at(), tag, place, runes.as_mut_ptr(), most, &mut count) };
+        unsafe { sys::sam_term_read(self.at(), tag, place, runes.as_mut_ptr(), most, &mut count) };
         runes.truncate(count);
         runes
             .into_iter()
@@ -202,126 +204,126 @@ impl Terminal {
 
     /// How many events were taken.
     pub fn events(&self) -> u64 {
-        tells(|value| unsafe { raw::sam_term_events(self.at(), value) })
+        tells(|value| unsafe { sys::sam_term_events(self.at(), value) })
     }
 
     /// How many tags it has room for: each file that it knows has a tag below this.
     pub fn tags(&self) -> usize {
-        tells(|value| unsafe { raw::sam_term_tags(self.at(), value) })
+        tells(|value| unsafe { sys::sam_term_tags(self.at(), value) })
     }
 
     /// Whether it knows a file of this tag.
     pub fn is_known(&self, tag: u16) -> bool {
-        tells(|value| unsafe { raw::sam_term_is_known(self.at(), tag, value) })
+        tells(|value| unsafe { sys::sam_term_is_known(self.at(), tag, value) })
     }
 
     /// Whether a file is open.
     pub fn is_open(&self, tag: u16) -> bool {
-        tells(|value| unsafe { raw::sam_term_is_open(self.at(), tag, value) })
+        tells(|value| unsafe { sys::sam_term_is_open(self.at(), tag, value) })
     }
 
-    /// Whether a file may differ from what was written last: the host told that it is dirty, or the user changed it here since. An event
+    /// Whether a file may differ from what was written last: the host said that it is dirty, or the user changed it here since. An event
     /// that is held has changed nothing yet. False where the tag is not known.
     pub fn is_changed(&self, tag: u16) -> bool {
-        tells(|value| unsafe { raw::sam_term_is_changed(self.at(), tag, value) })
+        tells(|value| unsafe { sys::sam_term_is_changed(self.at(), tag, value) })
     }
 
     /// Whether the command lock or a lock of this file is held: an edit of the file would wait.
     pub fn locked(&self, tag: u16) -> bool {
-        tells(|value| unsafe { raw::sam_term_locked(self.at(), tag, value) })
+        tells(|value| unsafe { sys::sam_term_locked(self.at(), tag, value) })
     }
 
     /// Whether the command lock is held.
     pub fn command_locked(&self) -> bool {
-        tells(|value| unsafe { raw::sam_term_command_locked(self.at(), value) })
+        tells(|value| unsafe { sys::sam_term_command_locked(self.at(), value) })
     }
 
     /// How many events are held.
     pub fn held(&self) -> usize {
-        tells(|value| unsafe { raw::sam_term_held(self.at(), value) })
+        tells(|value| unsafe { sys::sam_term_held(self.at(), value) })
     }
 
     /// How many typed runes are not sent yet.
     pub fn unsent(&self) -> u32 {
-        tells(|value| unsafe { raw::sam_term_unsent(self.at(), value) })
+        tells(|value| unsafe { sys::sam_term_unsent(self.at(), value) })
     }
 
     /// How many messages were composed.
     pub fn sent(&self) -> u64 {
-        tells(|value| unsafe { raw::sam_term_sent(self.at(), value) })
+        tells(|value| unsafe { sys::sam_term_sent(self.at(), value) })
     }
 
-    /// How many of the composed messages the host has not taken, as far as its frames tell; 0 means that it has taken them all.
+    /// How many of the composed messages the host has not taken, as far as its frames say; 0 means that it has taken them all.
     ///
     /// Else it is an upper bound: the host answers typing (but the end of a command line), the cutting of a selection, and the
-    /// acknowledgement that the terminal sends behind each [`Terminal::offer_version`] by no frame, and such a message counts until the host
+    /// acknowledgement that the terminal sends after each [`Terminal::offer_version`] by no frame, and such a message counts until the host
     /// answers a later one. [`Terminal::check`] asks for an answer that changes no text.
     pub fn under_way(&self) -> u64 {
-        tells(|value| unsafe { raw::sam_term_under_way(self.at(), value) })
+        tells(|value| unsafe { sys::sam_term_under_way(self.at(), value) })
     }
 
-    /// How many runes the host's snarf buffer has, as it told last.
+    /// How many runes the host's snarf buffer has, as it said last.
     pub fn snarf_len(&self) -> u32 {
-        tells(|value| unsafe { raw::sam_term_snarf_len(self.at(), value) })
+        tells(|value| unsafe { sys::sam_term_snarf_len(self.at(), value) })
     }
 
     /// Whether the host has ended the session.
     pub fn exited(&self) -> bool {
-        tells(|value| unsafe { raw::sam_term_exited(self.at(), value) })
+        tells(|value| unsafe { sys::sam_term_exited(self.at(), value) })
     }
 
     /// The version of the protocol that both sides speak: 1 or 2.
     pub fn version(&self) -> u16 {
-        tells(|value| unsafe { raw::sam_term_version(self.at(), value) })
+        tells(|value| unsafe { sys::sam_term_version(self.at(), value) })
     }
 
-    /// Whether a known file is dirty, as the host told last; `None` where the tag is not known.
+    /// Whether a known file is dirty, as the host said last; `None` where the tag is not known.
     pub fn is_dirty(&self, tag: u16) -> Option<bool> {
-        told(|value| unsafe { raw::sam_term_is_dirty(self.at(), tag, value) })
+        told(|value| unsafe { sys::sam_term_is_dirty(self.at(), tag, value) })
     }
 
     /// The file that the host's answer to `work` or `new_file` named last; `None` before the first. It may be closed since, and `open` is
-    /// not told here.
+    /// not reported here.
     pub fn current(&self) -> Option<u16> {
-        told(|value| unsafe { raw::sam_term_current(self.at(), value) })
+        told(|value| unsafe { sys::sam_term_current(self.at(), value) })
     }
 
     /// The length of an open file in runes, gaps counted; `None` where it is not open.
     pub fn len(&self, tag: u16) -> Option<u32> {
-        told(|value| unsafe { raw::sam_term_len(self.at(), tag, value) })
+        told(|value| unsafe { sys::sam_term_len(self.at(), tag, value) })
     }
 
-    /// The first place of an open file, at or behind `place`, whose rune is not loaded.
+    /// The first place of an open file, at or after `place`, whose rune is not loaded.
     pub fn first_gap(&self, tag: u16, place: u32) -> Option<u32> {
-        told(|gap| unsafe { raw::sam_term_first_gap(self.at(), tag, place, gap) })
+        told(|gap| unsafe { sys::sam_term_first_gap(self.at(), tag, place, gap) })
     }
 
     /// The dot of an open file.
     pub fn dot(&self, tag: u16) -> Option<(u32, u32)> {
         let mut end = 0;
-        told(|start| unsafe { raw::sam_term_dot(self.at(), tag, start, &mut end) }).map(|start| (start, end))
+        told(|start| unsafe { sys::sam_term_dot(self.at(), tag, start, &mut end) }).map(|start| (start, end))
     }
 
     /// What an open file shows: the places where its view begins and ends.
     pub fn view_of(&self, tag: u16) -> Option<(u32, u32)> {
         let mut end = 0;
-        told(|start| unsafe { raw::sam_term_view_of(self.at(), tag, start, &mut end) }).map(|start| (start, end))
+        told(|start| unsafe { sys::sam_term_view_of(self.at(), tag, start, &mut end) }).map(|start| (start, end))
     }
 
     /// The name of a known file; `None` where the tag is not known.
     pub fn name(&self, tag: u16) -> Option<String> {
-        short_text(|into, len| unsafe { raw::sam_term_name(self.at(), tag, into.as_mut_ptr(), into.len(), len) })
+        short_text(|into, len| unsafe { sys::sam_term_name(self.at(), tag, into.as_mut_ptr(), into.len(), len) })
     }
 
-    /// The pattern that the host told last.
+    /// The pattern that the host said last.
     pub fn pattern(&self) -> String {
-        short_text(|into, len| unsafe { raw::sam_term_pattern(self.at(), into.as_mut_ptr(), into.len(), len) }).expect("the handle is made")
+        short_text(|into, len| unsafe { sys::sam_term_pattern(self.at(), into.as_mut_ptr(), into.len(), len) }).expect("the handle is made")
     }
 
     /// The snarfed text that the host sent last.
     pub fn snarfed(&self) -> String {
         whole_text(|place, into, bytes, runes| unsafe {
-            raw::sam_term_snarfed(self.at(), place, into.as_mut_ptr(), into.len(), bytes, runes)
+            sys::sam_term_snarfed(self.at(), place, into.as_mut_ptr(), into.len(), bytes, runes)
         })
         .expect("the handle is made")
     }
@@ -329,6 +331,6 @@ impl Terminal {
 
 impl Drop for Terminal {
     fn drop(&mut self) {
-        unsafe { raw::sam_term_free(self.at()) };
+        unsafe { sys::sam_term_free(self.at()) };
     }
 }

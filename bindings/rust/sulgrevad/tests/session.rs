@@ -105,7 +105,7 @@ fn a_typed_file_is_changed_until_it_is_written() -> Result<(), Error> {
     assert!(!term.is_changed(file));
     term.type_(file, "é")?;
     assert!(term.is_changed(file));
-    assert_eq!(term.is_dirty(file), Some(false)); // the host tells nothing of typing
+    assert_eq!(term.is_dirty(file), Some(false)); // the host says nothing of typing
     term.write(file)?;
     assert!(term.is_changed(file)); // it is not written yet
     carry(&mut term, &mut host)?;
@@ -118,9 +118,16 @@ fn a_typed_file_is_changed_until_it_is_written() -> Result<(), Error> {
 fn refusals_and_faults_have_names() -> Result<(), Error> {
     let (mut host, mut term, _) = opened("one\n")?;
     term.cut(9)?;
-    let refused: Vec<(u64, Refusal)> = term.refusals().collect();
-    assert_eq!(refused, vec![(3, Refusal::NoFile)]);
+    assert_eq!(term.refusals().collect::<Vec<_>>(), vec![(3, Ok(Refusal::NoFile))]);
+    assert_eq!(Refusal::NoFile.to_string(), "the event was refused: no file has its tag");
     assert_eq!(host.feed(&[23]), Err(Error::Stream(StreamFault::BadKind)));
     assert_eq!(host.add_file("a", "b"), Err(Error::Begun));
+    assert_eq!(Error::Begun.status(), 17);
+    assert_eq!(Error::Begun.to_string(), "the host was fed already, and takes no more files");
+    assert_eq!(
+        sulgrevad::status_text(17),
+        "SAM_ADD_BEGUN: the host was fed already, and takes no more files"
+    );
+    assert_eq!(sulgrevad::library_version(), (0, 1, 0));
     Ok(())
 }

@@ -1,5 +1,5 @@
 //! Each script of tests/scripts that `sam_play replay` reads prints the output that is stored of it; docs/SCRIPTS.md says what the files
-//! of a pair are.
+//! of a pair are. Outside the repository it says that it is skipped.
 
 use std::collections::BTreeSet;
 use std::fs;
@@ -10,7 +10,7 @@ use sulgrevad::{replay, Error};
 const TOLD_BY_SCRIPT: [&str; 2] = ["0", "1"];
 
 fn scripts() -> PathBuf {
-    Path::new(env!("CARGO_MANIFEST_DIR")).join("../../tests/scripts")
+    Path::new(env!("CARGO_MANIFEST_DIR")).join("../../../tests/scripts")
 }
 
 fn read(name: &str, kind: &str) -> Option<Vec<u8>> {
@@ -80,6 +80,10 @@ fn printed(script: &[u8]) -> Result<Vec<u8>, Error> {
 
 #[test]
 fn each_script_prints_what_is_stored() {
+    if !scripts().is_dir() {
+        println!("skipped: {} is not there", scripts().display());
+        return;
+    }
     let names = names();
     assert!(names.len() > 60, "only {} scripts", names.len());
     for name in names {

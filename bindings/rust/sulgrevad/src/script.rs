@@ -1,12 +1,9 @@
 //! Scripts, which are run over a host and a terminal of their own.
 
-use crate::raw;
 use crate::{done, Error, PIECE};
+use sulgrevad_sys as sys;
 
-/// SAM_SCRIPT_LINE of include/sulgrevad.h.
-const SCRIPT_LINE: u32 = 161;
-
-/// What the `show` lines of a script print; docs/SCRIPTS.md tells the language. Errors: `ScriptLine`, `ScriptCountFull`, `NoMemory`.
+/// What the `show` lines of a script print; docs/SCRIPTS.md explains the language. Errors: `ScriptLine`, `ScriptCountFull`, `NoMemory`.
 ///
 /// ```
 /// let shown = sulgrevad::replay(b"file notes hello\nshow\n")?;
@@ -18,8 +15,8 @@ pub fn replay(script: &[u8]) -> Result<Vec<u8>, Error> {
     let mut out = vec![0; PIECE];
     loop {
         let (mut len, mut line) = (0, 0);
-        let status = unsafe { raw::sam_replay(script.as_ptr(), script.len(), out.as_mut_ptr(), out.len(), &mut len, &mut line) };
-        if status == SCRIPT_LINE {
+        let status = unsafe { sys::sam_replay(script.as_ptr(), script.len(), out.as_mut_ptr(), out.len(), &mut len, &mut line) };
+        if status == sys::SAM_SCRIPT_LINE {
             return Err(Error::ScriptLine(line));
         }
         done(status)?;

@@ -1,0 +1,64 @@
+"""A proved host and a proved terminal for editors whose screen and text live apart, after Rob Pike's sam.
+
+A `Host` holds whole texts and runs commands. A `Terminal` holds windows, and of each open text the parts that it has loaded. Neither
+of them reads or writes anything: the program carries the bytes.
+
+    with Host() as host, Terminal() as terminal:
+        tag = host.add_file("notes", "hello")
+        terminal.offer_version(2)
+        terminal.open(tag)
+        terminal.type(tag, "X")
+        while data := terminal.take_out():
+            host.feed(data)
+            terminal.feed(host.take_out())
+            terminal.flush_now()
+        assert host.text(tag) == "Xhello"
+
+Units: places and lengths count runes (Unicode scalar values, the characters of a `str`), and a text has at most 1,000,000. A text that
+is given may be a `str`, or its UTF-8 as `bytes`.
+
+`replay` runs a script of docs/SCRIPTS.md over a host and a terminal of its own.
+
+Errors: each family of status codes has an exception class below `SamError`, whose `code` is the `Status`; `status_text` explains one.
+Out of memory: `NoMemory` says that what the call brought was not taken: make it again. `Unfinished` says that it was taken: don't bring
+it again. The next `feed`, event or `flush_now` goes on, and `feed()` without bytes does just that; it raises `NoMemory` while memory is
+still short. Both are `MemoryError`s, and neither ends anything. A number that C's types can't hold is a `ValueError`, and what is no
+number or no text a `TypeError`, before the library is called.
+
+The shared library is the first of these that is there:
+
+1. the file that the environment variable SAM_LIBRARY names; where that can't be used, no other is tried;
+2. `out/libsulgrevad.so` of the repository or of the installed editor, where this package lies in one of these;
+3. `libsulgrevad.so.0`, where the system looks for shared libraries: /usr/local/lib after `ldconfig`, or the folders of LD_LIBRARY_PATH.
+
+Each call of the library keeps the interpreter's lock, so threads may share a handle; a free-threaded Python has no such lock, so use one
+of your own there. `text`, `saved` and `snarfed` read a long text by several calls: let no other thread change it meanwhile.
+"""
+from sulgrevad.scripts import replay
+from sulgrevad.sides import Host, Refusal, Terminal
+from sulgrevad.status import (
+    AddRefused,
+    CountFull,
+    HandleFault,
+    HostRefused,
+    Missing,
+    NoMemory,
+    NotText,
+    SamError,
+    ScriptFault,
+    Status,
+    StreamFault,
+    TerminalRefused,
+    Unfinished,
+    error_of,
+    library_version,
+    status_text,
+)
+
+__version__ = "0.1.0"
+
+__all__ = [
+    "AddRefused", "CountFull", "HandleFault", "Host", "HostRefused", "Missing", "NoMemory", "NotText", "Refusal", "SamError",
+    "ScriptFault", "Status", "StreamFault", "Terminal", "TerminalRefused", "Unfinished", "error_of", "library_version", "replay",
+    "status_text",
+]  # fmt: skip

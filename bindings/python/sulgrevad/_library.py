@@ -1,0 +1,104 @@
+"""The shared library, as ctypes sees it: where it is, and the arguments of each of its calls."""
+import ctypes
+import os
+from ctypes import POINTER, c_bool, c_char, c_char_p, c_size_t, c_uint16, c_uint32, c_uint64, c_void_p
+from pathlib import Path
+from typing import Any, Dict, Tuple, Union
+
+# What is taken as a text: its characters, or its UTF-8.
+Text = Union[str, bytes, bytearray, memoryview]
+
+SONAME = "libsulgrevad.so.0"
+VERSION = (0, 1)  # major and minor number of the library that this package is for
+
+# A text is read in pieces of so many bytes, and a replay is given so much room first.
+PIECE = 65_536
+
+
+class Handle(ctypes.Structure):
+    """sam_host and sam_term; empty where all bytes are zero."""
+
+    _fields_ = [("at", c_void_p), ("made", c_uint64)]
+
+
+_BYTES, _BUFFER, _RUNES = (c_char_p, c_size_t), (POINTER(c_char), c_size_t), (POINTER(c_uint32), c_size_t)
+_TAG, _U32, _SIZE = POINTER(c_uint16), POINTER(c_uint32), POINTER(c_size_t)
+_U64, _BOOL = POINTER(c_uint64), POINTER(c_bool)
+_TEXT_FROM = (c_uint32, *_BUFFER, _SIZE, _SIZE)
+
+# The arguments of each call after the handle.
+SIGNATURES: Dict[str, Tuple[Any, ...]] = {
+    "host_new": (), "host_free": (), "host_add_file": (*_BYTES, *_BYTES, _TAG), "host_feed": _BYTES, "host_pending": (_SIZE,),
+    "host_take_out": (*_BUFFER, _SIZE), "host_next_written": (_TAG,), "host_is_done": (_BOOL,), "host_taken": (_U64,),
+    "host_version": (_TAG,), "host_tags": (_SIZE,), "host_has_file": (c_uint16, _BOOL), "host_name": (c_uint16, *_BUFFER, _SIZE),
+    "host_len": (c_uint16, _U32), "host_is_dirty": (c_uint16, _BOOL), "host_text": (c_uint16, *_TEXT_FROM),
+    "host_saved_len": (c_uint16, _SIZE), "host_saved": (c_uint16, *_TEXT_FROM), "host_dot": (c_uint16, _U32, _U32),
+    "term_new": (), "term_free": (), "term_type": (c_uint16, *_BYTES), "term_select": (c_uint16, c_uint32, c_uint32),
+    "term_cut": (c_uint16,), "term_paste": (c_uint16,), "term_snarf": (c_uint16,), "term_look": (c_uint16,),
+    "term_search": (c_uint16,), "term_send": (c_uint16,), "term_dclick": (c_uint16, c_uint32), "term_scroll": (c_uint16, c_uint32),
+    "term_view": (c_uint16, c_uint32, c_uint32), "term_load": (c_uint16, c_uint32, c_uint32), "term_open": (c_uint16,),
+    "term_open_cmd": (), "term_new_file": (),
+    "term_write": (c_uint16,), "term_close": (c_uint16,), "term_work": (c_uint16,), "term_check": (c_uint16,), "term_get_snarf": (),
+    "term_set_snarf": _BYTES, "term_offer_version": (c_uint16,), "term_flush": (), "term_exit": (), "term_feed": _BYTES,
+    "term_flush_now": (), "term_pending": (_SIZE,), "term_take_out": (*_BUFFER, _SIZE), "term_next_refusal": (_U64, _U32),
+    "term_events": (_U64,), "term_tags": (_SIZE,), "term_is_known": (c_uint16, _BOOL), "term_name": (c_uint16, *_BUFFER, _SIZE),
+    "term_is_dirty": (c_uint16, _BOOL), "term_is_changed": (c_uint16, _BOOL), "term_is_open": (c_uint16, _BOOL),
+    "term_current": (_TAG,), "term_len": (c_uint16, _U32),
+    "term_read": (c_uint16, c_uint32, *_RUNES, _SIZE), "term_first_gap": (c_uint16, c_uint32, _U32),
+    "term_dot": (c_uint16, _U32, _U32), "term_view_of": (c_uint16, _U32, _U32), "term_locked": (c_uint16, _BOOL),
+    "term_command_locked": (_BOOL,), "term_held": (_SIZE,), "term_unsent": (_U32,), "term_sent": (_U64,),
+    "term_under_way": (_U64,), "term_pattern": (*_BUFFER, _SIZE), "term_snarfed": _TEXT_FROM, "term_snarf_len": (_U32,),
+    "term_exited": (_BOOL,), "term_version": (_TAG,),
+}  # fmt: skip
+
+# All arguments, and the result, of each call that takes no handle.
+FREE_SIGNATURES: Dict[str, Tuple[Tuple[Any, ...], Any]] = {
+    "library_version": ((), c_uint32),
+    "status_text": ((c_uint32,), c_char_p),
+    "replay": ((*_BYTES, *_BUFFER, _SIZE, _SIZE), c_uint32),
+}
+
+
+def path() -> str:
+    """What to load: a file, or the SONAME, which the system looks for."""
+    if named := os.environ.get("SAM_LIBRARY"):
+        return named
+    folder = Path(__file__).resolve().parent
+    if folder.parts[-3:] == ("bindings", "python", "sulgrevad"):
+        beside = folder.parents[2] / "out" / "libsulgrevad.so"
+        if beside.exists():
+            return str(beside)
+    return SONAME
+
+
+def load() -> ctypes.PyDLL:
+    """The library, with the arguments of each call set. ImportError where it is not there, lacks a call, or has another version."""
+    name = path()
+    try:
+        library = ctypes.PyDLL(name)
+        for call, arguments in SIGNATURES.items():
+            function = getattr(library, f"sam_{call}")
+            function.argtypes, function.restype = (POINTER(Handle), *arguments), c_uint32
+        for call, (arguments, result) in FREE_SIGNATURES.items():
+            function = getattr(library, f"sam_{call}")
+            function.argtypes, function.restype = arguments, result
+    except (OSError, AttributeError) as error:
+        raise ImportError(f"the library {name} can't be used: {error}") from error
+    version = version_of(library)
+    if version[:2] != VERSION:
+        raise ImportError(f"the library {name} has version {version}, and this package is for {VERSION}")
+    return library
+
+
+def version_of(library: ctypes.PyDLL) -> Tuple[int, int, int]:
+    """The library's version."""
+    number: int = library.sam_library_version()
+    return number >> 16, number >> 8 & 0xFF, number & 0xFF
+
+
+def bytes_of(text: Text) -> bytes:
+    """The text as bytes. A surrogate stays, so that the library refuses it. TypeError for what is neither text nor bytes."""
+    return text.encode("utf-8", "surrogatepass") if isinstance(text, str) else bytes(memoryview(text))
+
+
+LIBRARY = load()

@@ -1,0 +1,475 @@
+"""The two sides: what they share, the host, and the terminal."""
+import ctypes
+import operator
+from ctypes import byref, c_bool, c_size_t, c_uint16, c_uint32, c_uint64
+from types import TracebackType
+from typing import Any, Iterator, List, NamedTuple, Optional, Tuple, Type, TypeVar, Union
+
+from sulgrevad._library import LIBRARY, PIECE, Handle, Text, bytes_of
+from sulgrevad.status import Missing, Status, error_of
+
+MOST_IN_NAME = 256  # bytes of the longest name
+MOST_IN_PATTERN = 512  # bytes of the longest pattern
+GAP = 2**32 - 1  # what stands for a rune that is not loaded
+
+# The first number that is too great for a type of an argument.
+_END = {c_uint16: 2**16, c_uint32: 2**32}
+
+_AnySide = TypeVar("_AnySide", bound="_Side")
+
+
+class Refusal(NamedTuple):
+    """An event of the user that could not be done: which one, counted from 1 over all event calls, and why."""
+
+    event: int
+    why: Status
+
+
+def _least(most: Optional[int], there: int) -> int:
+    """The smaller of a wished number, where there is one, and of how many there are. ValueError for one below 0."""
+    if most is None:
+        return there
+    if most < 0:
+        raise ValueError(f"{most} is below 0")
+    return min(operator.index(most), there)
+
+
+class _Side:
+    """What host and terminal share: a handle, its calls, the pending bytes."""
+
+    _prefix = ""
+
+    def __init__(self) -> None:
+        self._handle = Handle()
+        self._call("new")
+
+    def _answer(self, name: str, *arguments: Any) -> int:
+        """Makes a call, and returns its status. ValueError for a number that C's type can't hold: ctypes would wrap it."""
+        function = getattr(LIBRARY, f"{self._prefix}_{name}")
+        for kind, argument in zip(function.argtypes[1:], arguments):
+            if kind in _END and not 0 <= operator.index(argument) < _END[kind]:
+                raise ValueError(f"{argument} is not from 0 to {_END[kind] - 1}")
+        status: int = function(byref(self._handle), *arguments)
+        return status
+
+    def _call(self, name: str, *arguments: Any) -> None:
+        """Makes a call. Raises what it answers other than SAM_OK."""
+        code = self._answer(name, *arguments)
+        if code != Status.OK:
+            raise error_of(code)
+
+    def _number(self, name: str, kind: Any, *arguments: Any) -> int:
+        """Makes a call that hands out one number."""
+        result = kind()
+        self._call(name, *arguments, byref(result))
+        return int(result.value)
+
+    def _number_if_any(self, name: str, kind: Any, *arguments: Any) -> Optional[int]:
+        """Makes a call that hands out one number; None where it answers SAM_NONE."""
+        try:
+            return self._number(name, kind, *arguments)
+        except Missing:
+            return None
+
+    def _truth(self, name: str, *arguments: Any) -> bool:
+        """Makes a call that hands out yes or no."""
+        return bool(self._number(name, c_bool, *arguments))
+
+    def _range(self, name: str, tag: int) -> Tuple[int, int]:
+        """Makes a call that hands out two places."""
+        start, end = c_uint32(), c_uint32()
+        self._call(name, tag, byref(start), byref(end))
+        return start.value, end.value
+
+    def _short_text(self, name: str, room: int, *arguments: Any) -> str:
+        """Makes a call that fills a buffer which is always great enough."""
+        into, length = ctypes.create_string_buffer(room), c_size_t()
+        self._call(name, *arguments, into, room, byref(length))
+        return ctypes.string_at(into, length.value).decode()
+
+    def _long_text(self, name: str, place: int, most: Optional[int], *arguments: Any) -> str:
+        """The runes of a text from a place on: `most` at most, all where that is None."""
+        into, count, runes = ctypes.create_string_buffer(PIECE), c_size_t(), c_size_t()
+        pieces: List[str] = []
+        left = _least(most, 2**32)
+        while True:
+            self._call(name, *arguments, place, into, PIECE, byref(count), byref(runes))
+            piece = ctypes.string_at(into, count.value).decode()[:left]
+            if not piece:
+                return "".join(pieces)
+            pieces.append(piece)
+            place += len(piece)
+            left -= len(piece)
+
+    def feed(self, data: Union[bytes, bytearray, memoryview] = b"") -> None:
+        """Takes bytes of the other side, in whatever pieces they come, and does what they say. Without bytes it goes on with what
+        waits after `Unfinished`. Raises NoMemory, Unfinished, CountFull, or why this side has stopped, now or before."""
+        data = bytes(memoryview(data))
+        self._call("feed", data, len(data))
+
+    @property
+    def pending(self) -> int:
+        """How many bytes are pending for the other side."""
+        return self._number("pending", c_size_t)
+
+    def take_out(self, most: Optional[int] = None) -> bytes:
+        """Moves out the pending bytes, all or the first `most`; b"" where there are none. ValueError where `most` is below 0."""
+        room = _least(most, self.pending)
+        if room == 0:
+            return b""
+        into, count = ctypes.create_string_buffer(room), c_size_t()
+        self._call("take_out", into, room, byref(count))
+        return ctypes.string_at(into, count.value)
+
+    def free(self) -> None:
+        """Frees it, with what was pending. Any later call but this one raises HandleFault."""
+        self._answer("free")
+
+    def __enter__(self: _AnySide) -> _AnySide:
+        return self
+
+    def __exit__(
+        self, kind: Optional[Type[BaseException]], error: Optional[BaseException], trace: Optional[TracebackType]
+    ) -> None:
+        self.free()
+
+    def __del__(self) -> None:
+        if hasattr(self, "_handle"):
+            self.free()
+
+
+class Host(_Side):
+    """The side that holds whole texts and runs commands. It begins with the command file alone, whose tag is 0."""
+
+    _prefix = "sam_host"
+
+    def add_file(self, name: Text, text: Text = "") -> int:
+        """Adds a file, clean and closed, and returns its tag: 1 for the first, and so on. Raises AddRefused after the first feed, be it
+        of no bytes, for a name above 64 runes or a text above 1,000,000, and where no tag is left; NotText; NoMemory. The host is then
+        as it was."""
+        name, text = bytes_of(name), bytes_of(text)
+        return self._number("add_file", c_uint16, name, len(name), text, len(text))
+
+    def next_written(self) -> Optional[int]:
+        """The tag of a file that the terminal told the host to write: now is the time to write `saved` of it to disk. Each Twrite gives
+        its tag once, in order; None where there is none left."""
+        return self._number_if_any("next_written", c_uint16)
+
+    def written(self) -> Iterator[int]:
+        """The tags of `next_written`, up to the last."""
+        while (tag := self.next_written()) is not None:
+            yield tag
+
+    @property
+    def is_done(self) -> bool:
+        """Whether the session is over."""
+        return self._truth("is_done")
+
+    @property
+    def taken(self) -> int:
+        """How many messages the host has answered."""
+        return self._number("taken", c_uint64)
+
+    @property
+    def version(self) -> int:
+        """The version of the protocol: 1 or 2."""
+        return self._number("version", c_uint16)
+
+    @property
+    def tags(self) -> int:
+        """How many tags were given, the command file's 0 included."""
+        return self._number("tags", c_size_t)
+
+    def has_file(self, tag: int) -> bool:
+        """Whether the tag has a file now."""
+        return self._truth("has_file", tag)
+
+    def files(self) -> List[int]:
+        """The tags of all files, ascending."""
+        return [tag for tag in range(self.tags) if self.has_file(tag)]
+
+    def name(self, tag: int) -> str:
+        """The name of a file. Raises Missing."""
+        return self._short_text("name", MOST_IN_NAME, tag)
+
+    def len(self, tag: int) -> int:
+        """The length of a file's text in runes. Raises Missing."""
+        return self._number("len", c_uint32, tag)
+
+    def is_dirty(self, tag: int) -> bool:
+        """Whether a file has changed since it was made or written. Raises Missing."""
+        return self._truth("is_dirty", tag)
+
+    def text(self, tag: int, place: int = 0, runes: Optional[int] = None) -> str:
+        """A file's text from a place on: so many runes, or all. Raises Missing."""
+        return self._long_text("text", place, runes, tag)
+
+    def saved_len(self, tag: int) -> Optional[int]:
+        """The length in runes of what a file was when it was written last; None where it never was."""
+        return self._number_if_any("saved_len", c_size_t, tag)
+
+    def saved(self, tag: int, place: int = 0, runes: Optional[int] = None) -> str:
+        """What a file was when it was written last, from a place on. Raises Missing where it never was."""
+        return self._long_text("saved", place, runes, tag)
+
+    def dot(self, tag: int) -> Tuple[int, int]:
+        """The places where the selection of a file begins and ends. Raises Missing."""
+        return self._range("dot", tag)
+
+
+class Terminal(_Side):
+    """The side with the windows. It begins without any file.
+
+    Each event of the user acts at once where it can, or is held until the locks that it waits for are free and the events before it
+    have acted. An event that can't be done is reported by `refusals`, now or later; `events` has the number of the event that was made
+    last. Each event may raise NoMemory, Unfinished, CountFull, or why the terminal has stopped (StreamFault, TerminalRefused).
+    """
+
+    _prefix = "sam_term"
+
+    # ---- Events of the user
+
+    def type(self, tag: int, text: Text) -> None:
+        """Puts a text in the place of the dot; one of more than 512 runes is refused by number. Raises NotText, too."""
+        text = bytes_of(text)
+        self._call("type", tag, text, len(text))
+
+    def select(self, tag: int, start: int, end: int) -> None:
+        """Sets the dot."""
+        self._call("select", tag, start, end)
+
+    def cut(self, tag: int) -> None:
+        """Cuts the dot into the snarf buffer."""
+        self._call("cut", tag)
+
+    def paste(self, tag: int) -> None:
+        """Puts the snarf buffer in the place of the dot."""
+        self._call("paste", tag)
+
+    def snarf(self, tag: int) -> None:
+        """Copies the dot into the snarf buffer."""
+        self._call("snarf", tag)
+
+    def look(self, tag: int) -> None:
+        """Selects the next occurrence of the dot's text."""
+        self._call("look", tag)
+
+    def search(self, tag: int) -> None:
+        """Selects the next occurrence of the pattern."""
+        self._call("search", tag)
+
+    def send(self, tag: int) -> None:
+        """Prints the dot's text in the command file, and runs its last line as a command line."""
+        self._call("send", tag)
+
+    def dclick(self, tag: int, place: int) -> None:
+        """Selects the word round a place."""
+        self._call("dclick", tag, place)
+
+    def scroll(self, tag: int, lines: int) -> None:
+        """Shows the file from so many lines further up."""
+        self._call("scroll", tag, lines)
+
+    def view(self, tag: int, place: int, length: int) -> None:
+        """Shows at most so many runes of the file from a place on, and asks for those that are not loaded, a stretch at a time."""
+        self._call("view", tag, place, length)
+
+    def load(self, tag: int, place: int, length: int) -> None:
+        """Shows the same as `view`, and asks for all that is not loaded at once, so that it comes in one round trip."""
+        self._call("load", tag, place, length)
+
+    def open(self, tag: int) -> None:
+        """Opens a file, and makes it the work file."""
+        self._call("open", tag)
+
+    def open_cmd(self) -> None:
+        """Opens the command file."""
+        self._call("open_cmd")
+
+    def new_file(self) -> None:
+        """Makes an empty file, opens it, and makes it the work file."""
+        self._call("new_file")
+
+    def write(self, tag: int) -> None:
+        """Has the host write a file."""
+        self._call("write", tag)
+
+    def close(self, tag: int) -> None:
+        """Closes a file for good: the host drops its text, written or not."""
+        self._call("close", tag)
+
+    def work(self, tag: int) -> None:
+        """Makes a file, with its dot, the one that command lines work on."""
+        self._call("work", tag)
+
+    def check(self, tag: int) -> None:
+        """Asks for the first gap that the view shows."""
+        self._call("check", tag)
+
+    def get_snarf(self) -> None:
+        """Asks for the host's snarf buffer, which `snarfed` then has."""
+        self._call("get_snarf")
+
+    def set_snarf(self, text: Text) -> None:
+        """Gives the host another snarf buffer: at most 4,096 bytes, 32,000 in version 2. Raises NotText, too."""
+        text = bytes_of(text)
+        self._call("set_snarf", text, len(text))
+
+    def offer_version(self, version: int) -> None:
+        """Offers a version of the protocol, and asks for the names of all files."""
+        self._call("offer_version", version)
+
+    def flush(self) -> None:
+        """Sends typed runes, once the events before it have acted."""
+        self._call("flush")
+
+    def exit(self) -> None:
+        """Ends the session."""
+        self._call("exit")
+
+    # ---- The program's own
+
+    def flush_now(self) -> None:
+        """Composes the typed runes that are not sent yet; to be called when the user pauses, before the program sleeps."""
+        self._call("flush_now")
+
+    def next_refusal(self) -> Optional[Refusal]:
+        """The oldest refused event that was not handed out yet; None where there is none."""
+        event, why = c_uint64(), c_uint32()
+        code = self._answer("next_refusal", byref(event), byref(why))
+        if code == Status.NONE:
+            return None
+        if code != Status.OK:
+            raise error_of(code)
+        return Refusal(event.value, Status(why.value))
+
+    def refusals(self) -> Iterator[Refusal]:
+        """The refused events that were not handed out yet, oldest first."""
+        while (refusal := self.next_refusal()) is not None:
+            yield refusal
+
+    # ---- What a screen draws
+
+    @property
+    def events(self) -> int:
+        """How many event calls were taken."""
+        return self._number("events", c_uint64)
+
+    @property
+    def tags(self) -> int:
+        """How many tags the terminal has room for: each file that it knows has a tag below this."""
+        return self._number("tags", c_size_t)
+
+    def is_known(self, tag: int) -> bool:
+        """Whether the terminal knows a file of this tag."""
+        return self._truth("is_known", tag)
+
+    def files(self) -> List[int]:
+        """The tags of all known files, ascending."""
+        return [tag for tag in range(self.tags) if self.is_known(tag)]
+
+    def name(self, tag: int) -> str:
+        """The name of a known file. Raises Missing."""
+        return self._short_text("name", MOST_IN_NAME, tag)
+
+    def is_dirty(self, tag: int) -> bool:
+        """Whether a known file is dirty, as the host said last. Raises Missing."""
+        return self._truth("is_dirty", tag)
+
+    def is_changed(self, tag: int) -> bool:
+        """Whether a file may differ from what was written last: the host said that it is dirty, or the user changed it here since.
+
+        An event that is held has changed nothing yet. False for a file that is not known.
+        """
+        return self._truth("is_changed", tag)
+
+    def is_open(self, tag: int) -> bool:
+        """Whether a file is open."""
+        return self._truth("is_open", tag)
+
+    @property
+    def current(self) -> Optional[int]:
+        """The file that the host's answer to `work` or `new_file` named last; None before the first. It may be closed since."""
+        return self._number_if_any("current", c_uint16)
+
+    def len(self, tag: int) -> int:
+        """The length of an open file in runes, gaps counted. Raises Missing."""
+        return self._number("len", c_uint32, tag)
+
+    def read(self, tag: int, place: int, count: int) -> List[Optional[str]]:
+        """The runes of an open file from a place on, at most `count`; None stands for one that is not loaded. Raises Missing,
+        and ValueError where a number is below 0."""
+        room = _least(count, max(0, self.len(tag) - place))
+        into, got = (c_uint32 * room)(), c_size_t()
+        self._call("read", tag, place, into, room, byref(got))
+        return [None if rune == GAP else chr(rune) for rune in into[: got.value]]
+
+    def first_gap(self, tag: int, place: int = 0) -> Optional[int]:
+        """The first place of an open file, there or after it, whose rune is not loaded; None where there is none, or it isn't open."""
+        return self._number_if_any("first_gap", c_uint32, tag, place)
+
+    def dot(self, tag: int) -> Tuple[int, int]:
+        """The places where the selection of an open file begins and ends. Raises Missing."""
+        return self._range("dot", tag)
+
+    def view_of(self, tag: int) -> Tuple[int, int]:
+        """The places where the view of an open file begins and ends. Raises Missing."""
+        return self._range("view_of", tag)
+
+    def locked(self, tag: int) -> bool:
+        """Whether an edit of the file would wait for the command lock, or for a lock of the file."""
+        return self._truth("locked", tag)
+
+    @property
+    def command_locked(self) -> bool:
+        """Whether the command lock is held."""
+        return self._truth("command_locked")
+
+    @property
+    def held(self) -> int:
+        """How many events are held."""
+        return self._number("held", c_size_t)
+
+    @property
+    def unsent(self) -> int:
+        """How many typed runes are not sent yet."""
+        return self._number("unsent", c_uint32)
+
+    @property
+    def sent(self) -> int:
+        """How many messages were composed."""
+        return self._number("sent", c_uint64)
+
+    @property
+    def under_way(self) -> int:
+        """How many of the composed messages the host has not taken, as far as its frames say; 0 means that it has taken them all.
+
+        Else it is an upper bound: the host answers typing (but the end of a command line), the cutting of a selection, and the
+        acknowledgement that the terminal sends after each `offer_version` by no frame, and such a message counts until the host answers
+        a later one. `check` asks for an answer that changes no text.
+        """
+        return self._number("under_way", c_uint64)
+
+    @property
+    def pattern(self) -> str:
+        """The pattern that the host reported last."""
+        return self._short_text("pattern", MOST_IN_PATTERN)
+
+    def snarfed(self, place: int = 0, runes: Optional[int] = None) -> str:
+        """The snarfed text that the host sent last (`get_snarf`), from a place on."""
+        return self._long_text("snarfed", place, runes)
+
+    @property
+    def snarf_len(self) -> int:
+        """How many runes the host's snarf buffer has, as it said last."""
+        return self._number("snarf_len", c_uint32)
+
+    @property
+    def exited(self) -> bool:
+        """Whether the host has ended the session."""
+        return self._truth("exited")
+
+    @property
+    def version(self) -> int:
+        """The version of the protocol that both sides speak: 1 or 2."""
+        return self._number("version", c_uint16)

@@ -1,0 +1,203 @@
+//! What a call returns that did not do what it was asked.
+
+use crate::status_text;
+use std::fmt;
+use sulgrevad_sys as sys;
+
+/// A family of faults: an enum whose variants have the numbers of sulgrevad.h.
+macro_rules! family {
+    ($(#[$about:meta])* $name:ident { $($(#[$each:meta])* $fault:ident = $status:ident,)* }) => {
+        $(#[$about])*
+        #[derive(Clone, Copy, Debug, PartialEq, Eq)]
+        #[non_exhaustive]
+        #[repr(u32)]
+        pub enum $name {
+            $($(#[$each])* $fault = sys::$status,)*
+        }
+
+        impl $name {
+            /// The fault of a status, if it is one of these.
+            pub(crate) fn of(status: u32) -> Option<$name> {
+                [$($name::$fault),*].into_iter().find(|fault| fault.status() == status)
+            }
+
+            /// Its number in sulgrevad.h.
+            pub fn status(self) -> u32 {
+                self as u32
+            }
+        }
+
+        impl fmt::Display for $name {
+            fn fmt(&self, f: &mut fmt::Formatter<'_>) -> fmt::Result {
+                f.write_str(sentence_of(self.status()))
+            }
+        }
+    };
+}
+
+family! {
+    /// What is wrong with a stream of bytes.
+    StreamFault {
+        /// A kind that this direction doesn't have.
+        BadKind = SAM_BAD_KIND,
+        /// A length that the kind can't have.
+        BadLength = SAM_BAD_LENGTH,
+        /// A text that is not UTF-8, or has too many runes.
+        BadText = SAM_BAD_TEXT,
+    }
+}
+
+family! {
+    /// Why the host refused a message.
+    HostFault {
+        /// No file has this tag.
+        NoFile = SAM_HOST_NO_FILE,
+        /// The file is not open.
+        NotOpen = SAM_HOST_NOT_OPEN,
+        /// A place after the end, or a range whose end is before its start.
+        BadPosition = SAM_HOST_BAD_POSITION,
+        /// The file would have more than 1,000,000 runes.
+        TooLong = SAM_HOST_TOO_LONG,
+        /// There is no version 0.
+        BadVersion = SAM_HOST_BAD_VERSION,
+        /// 2^64-1 messages were taken.
+        CountFull = SAM_HOST_COUNT_FULL,
+        /// The message is not for the command file.
+        CommandFile = SAM_HOST_COMMAND_FILE,
+    }
+}
+
+family! {
+    /// Why the terminal refused a frame.
+    TermFault {
+        /// The frame answers a message that was not sent yet.
+        FromTheFuture = SAM_TERM_FROM_THE_FUTURE,
+        /// The terminal knows no file of this tag.
+        NoFile = SAM_TERM_NO_FILE,
+        /// The file has no window.
+        NotOpen = SAM_TERM_NOT_OPEN,
+        /// The file is known or open already.
+        AlreadyBound = SAM_TERM_ALREADY_BOUND,
+        /// A place after the end, or a range whose end is before its start.
+        BadPosition = SAM_TERM_BAD_POSITION,
+        /// The file would have more than 1,000,000 runes.
+        TooLong = SAM_TERM_TOO_LONG,
+        /// The frame frees a lock that is not held.
+        LockNotHeld = SAM_TERM_LOCK_NOT_HELD,
+        /// 2^64-1 messages were composed.
+        CountFull = SAM_TERM_COUNT_FULL,
+    }
+}
+
+family! {
+    /// Why the terminal refused an event. It goes on.
+    Refusal {
+        /// The session has ended.
+        Exited = SAM_REFUSAL_EXITED,
+        /// The terminal knows no file of this tag.
+        NoFile = SAM_REFUSAL_NO_FILE,
+        /// The file has no window.
+        NotOpen = SAM_REFUSAL_NOT_OPEN,
+        /// A place after the end, or a range whose end is before its start.
+        BadPosition = SAM_REFUSAL_BAD_POSITION,
+        /// The file would have more than 1,000,000 runes.
+        TooLong = SAM_REFUSAL_TOO_LONG,
+        /// More than 512 runes typed, or a snarf buffer that is too long for a message.
+        TextTooLong = SAM_REFUSAL_TEXT_TOO_LONG,
+        /// The command file is never opened, closed or written so.
+        CommandFile = SAM_REFUSAL_COMMAND_FILE,
+        /// There is no version 0.
+        BadVersion = SAM_REFUSAL_BAD_VERSION,
+    }
+}
+
+/// Why a call did not do what it was asked. Each has its number in sulgrevad.h.
+#[derive(Clone, Copy, Debug, PartialEq, Eq)]
+#[non_exhaustive]
+pub enum Error {
+    /// Out of memory, and what the call brought was not taken: make it again.
+    NoMemory,
+    /// Out of memory, but what the call brought was taken: don't bring it again. The next feed, event or `flush_now` goes on with what
+    /// waits, and feeding no bytes does just that. It returns `NoMemory` while memory is still short.
+    Unfinished,
+    /// A stream of 2^64 bytes, or 2^64 events.
+    CountFull,
+    /// Bytes that are not UTF-8.
+    NotText,
+    /// A host that was fed takes no more files.
+    Begun,
+    /// A name above 64 runes, or a text above 1,000,000.
+    TooLong,
+    /// All 65,536 tags were given.
+    NoTag,
+    /// The other side's stream is wrong, and this side has stopped.
+    Stream(StreamFault),
+    /// The host refused a message, and has stopped.
+    HostRefused(HostFault),
+    /// The terminal refused a frame, and has stopped.
+    TermRefused(TermFault),
+    /// The first wrong line of a script, counted from 1; or where none is wrong the line at which nothing is there to take.
+    ScriptLine(usize),
+    /// A line of a script would count more than 2^64-1 messages.
+    ScriptCountFull,
+    /// A status that this crate doesn't know.
+    Unknown(u32),
+}
+
+impl Error {
+    /// The error of a status. That of a wrong script has no line yet.
+    pub(crate) fn of(status: u32) -> Error {
+        match status {
+            sys::SAM_NO_MEMORY => Error::NoMemory,
+            sys::SAM_UNFINISHED => Error::Unfinished,
+            sys::SAM_COUNT_FULL => Error::CountFull,
+            sys::SAM_NOT_TEXT => Error::NotText,
+            sys::SAM_ADD_BEGUN => Error::Begun,
+            sys::SAM_ADD_TOO_LONG => Error::TooLong,
+            sys::SAM_ADD_NO_TAG => Error::NoTag,
+            sys::SAM_SCRIPT_COUNT_FULL => Error::ScriptCountFull,
+            _ => StreamFault::of(status)
+                .map(Error::Stream)
+                .or_else(|| HostFault::of(status).map(Error::HostRefused))
+                .or_else(|| TermFault::of(status).map(Error::TermRefused))
+                .unwrap_or(Error::Unknown(status)),
+        }
+    }
+
+    /// Its number in sulgrevad.h, of which [`status_text`] has the name and a sentence.
+    pub fn status(self) -> u32 {
+        match self {
+            Error::NoMemory => sys::SAM_NO_MEMORY,
+            Error::Unfinished => sys::SAM_UNFINISHED,
+            Error::CountFull => sys::SAM_COUNT_FULL,
+            Error::NotText => sys::SAM_NOT_TEXT,
+            Error::Begun => sys::SAM_ADD_BEGUN,
+            Error::TooLong => sys::SAM_ADD_TOO_LONG,
+            Error::NoTag => sys::SAM_ADD_NO_TAG,
+            Error::Stream(why) => why.status(),
+            Error::HostRefused(why) => why.status(),
+            Error::TermRefused(why) => why.status(),
+            Error::ScriptLine(_) => sys::SAM_SCRIPT_LINE,
+            Error::ScriptCountFull => sys::SAM_SCRIPT_COUNT_FULL,
+            Error::Unknown(status) => status,
+        }
+    }
+}
+
+/// What the library says of a status, without its name.
+fn sentence_of(status: u32) -> &'static str {
+    let text = status_text(status);
+    text.split_once(": ").map_or(text, |(_, sentence)| sentence)
+}
+
+impl fmt::Display for Error {
+    fn fmt(&self, f: &mut fmt::Formatter<'_>) -> fmt::Result {
+        match self {
+            Error::ScriptLine(line) => write!(f, "line {line} of the script is wrong or can't be done"),
+            Error::Unknown(status) => write!(f, "status {status}"),
+            other => f.write_str(sentence_of(other.status())),
+        }
+    }
+}
+
+impl std::error::Error for Error {}

@@ -1,0 +1,58 @@
+/* The calls of the library that concern no handle: its version, and words for a status. They are C, and not proved. */
+#include "sulgrevad.h"
+
+uint32_t sam_library_version(void)
+{
+    return SAM_VERSION;
+}
+
+#define TEXT(status, sentence)                                                                                                             \
+    case status:                                                                                                                           \
+        return #status ": " sentence
+
+const char *sam_status_text(sam_status status)
+{
+    switch ((uint32_t)status) { /* as a number, since the first number of a family is no status */
+        TEXT(SAM_OK, "the call did what it was asked");
+        TEXT(SAM_NO_MEMORY, "out of memory; what the call brought was not taken, so make it again");
+        TEXT(SAM_UNFINISHED, "out of memory; what the call brought was taken, so feed no bytes to go on");
+        TEXT(SAM_COUNT_FULL, "a stream has 2^64 bytes, or there were 2^64 events");
+        TEXT(SAM_NO_HANDLE, "the handle is NULL or empty: it was not made yet, or it was freed");
+        TEXT(SAM_MADE, "the handle is made already");
+        TEXT(SAM_NOT_TEXT, "the bytes are not UTF-8");
+        TEXT(SAM_NONE, "there is no such file, or nothing more to hand out");
+        TEXT(SAM_ADD_BEGUN, "the host was fed already, and takes no more files");
+        TEXT(SAM_ADD_TOO_LONG, "the name has more than 64 runes, or the text more than 1,000,000");
+        TEXT(SAM_ADD_NO_TAG, "all 65,536 tags were given");
+        TEXT(SAM_BAD_KIND, "the stream is wrong: it has a message of an unknown kind");
+        TEXT(SAM_BAD_LENGTH, "the stream is wrong: a message has a length that its kind can't have");
+        TEXT(SAM_BAD_TEXT, "the stream is wrong: a text is not UTF-8, or too long");
+        TEXT(SAM_HOST_NO_FILE, "the host refused a message: no file has its tag");
+        TEXT(SAM_HOST_NOT_OPEN, "the host refused a message: its file is not open");
+        TEXT(SAM_HOST_BAD_POSITION, "the host refused a message: a place is after the end, or a range ends before it begins");
+        TEXT(SAM_HOST_TOO_LONG, "the host refused a message: the file would have more than 1,000,000 runes");
+        TEXT(SAM_HOST_BAD_VERSION, "the host refused a message: there is no version 0");
+        TEXT(SAM_HOST_COUNT_FULL, "the host refused a message: it has taken 2^64-1 of them");
+        TEXT(SAM_HOST_COMMAND_FILE, "the host refused a message: it is not for the command file");
+        TEXT(SAM_TERM_FROM_THE_FUTURE, "the terminal refused a frame: it answers a message that was not sent yet");
+        TEXT(SAM_TERM_NO_FILE, "the terminal refused a frame: no file has its tag");
+        TEXT(SAM_TERM_NOT_OPEN, "the terminal refused a frame: its file is not open");
+        TEXT(SAM_TERM_ALREADY_BOUND, "the terminal refused a frame: its file is known or open already");
+        TEXT(SAM_TERM_BAD_POSITION, "the terminal refused a frame: a place is after the end, or a range ends before it begins");
+        TEXT(SAM_TERM_TOO_LONG, "the terminal refused a frame: the file would have more than 1,000,000 runes");
+        TEXT(SAM_TERM_LOCK_NOT_HELD, "the terminal refused a frame: it frees a lock that is not held");
+        TEXT(SAM_TERM_COUNT_FULL, "the terminal has composed 2^64-1 messages");
+        TEXT(SAM_REFUSAL_EXITED, "the event was refused: the session is over");
+        TEXT(SAM_REFUSAL_NO_FILE, "the event was refused: no file has its tag");
+        TEXT(SAM_REFUSAL_NOT_OPEN, "the event was refused: its file is not open");
+        TEXT(SAM_REFUSAL_BAD_POSITION, "the event was refused: a place is after the end, or a range ends before it begins");
+        TEXT(SAM_REFUSAL_TOO_LONG, "the event was refused: the file would have more than 1,000,000 runes");
+        TEXT(SAM_REFUSAL_TEXT_TOO_LONG,
+             "the event was refused: more than 512 runes were typed, or the snarf buffer is too long for a message");
+        TEXT(SAM_REFUSAL_COMMAND_FILE, "the event was refused: the command file is never opened, closed or written so");
+        TEXT(SAM_REFUSAL_BAD_VERSION, "the event was refused: there is no version 0");
+        TEXT(SAM_SCRIPT_LINE, "the script has a line that is wrong or can't be done");
+        TEXT(SAM_SCRIPT_COUNT_FULL, "the script has a line that would count more than 2^64-1 messages");
+    }
+    return "unknown status";
+}
