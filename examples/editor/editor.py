@@ -1,30 +1,38 @@
-"""The editor: what each key does to the terminal and to the windows."""
+"""The editor: its windows, the keys that wait, and what comes from the host. What a key does stands in actions.py."""
+import time
 from collections import deque
-from typing import Deque, Dict, List, Optional, Tuple
+from typing import Callable, Deque, Dict, List, NamedTuple, Optional, Tuple
 
-from keys import ACTIONS, Input, Key, Mouse, Text
-from layout import Reader, line_start
-from menus import Help, Menu
+from actions import Actions
+from keeping import Keeping
+from keys import ACTIONS, Input, Key, Mouse, Paste, Text
+from lines import Numbers
+from notes import REPEAT, Notes, said
 from sulgrevad import Refusal, SamError, Status, Terminal
+from stream import CLEAN, CLOSE, MOVETO, ORIGIN, SETDOT, UNLOCK, Frame, Stream
+from texts import Texts
+from undo import Undo
 from way import Way
-from windows import Window
-
-Spot = Tuple[Window, int]  # a window and a place
+from windows import Window, ask
 
 COMMAND = 0  # the tag of the command file
-MOST_IN_EVENT = 512  # runes that are typed in one event
-DOUBLE_CLICK = 0.4  # seconds between the two clicks
-WHEEL_ROWS = 3
-LEAST_ROWS = 4  # rows of the least window, with its title
+SMALL = 2  # rows of a small command window, with its title
+BUSY = 0.25  # seconds after an edit or a move in which nothing more is asked for, so that the keys behind it need not wait
+LEAVING = "leaving; ^Q again doesn't wait for the host"
+WAITING = "keys wait for the host; ^Q again leaves without them"
 
-# Actions that go by places on the screen. While the file is locked the places may change, so these wait, with all keys behind them.
+# Actions that go by places on the screen, or change the text there. While the file is locked the places may change, so these wait, with
+# all keys behind them.
 BY_PLACE = {
-    "left", "right", "up", "down", "home", "end", "first", "last", "erase_left", "erase_right", "select_all", "word",
+    "left", "right", "up", "down", "word_left", "word_right", "home", "end", "first", "last", "erase_left", "erase_right", "select_all",
+    "word", "cut", "snarf", "paste", "undo", "redo", "find", "search_back",
 }  # fmt: skip
 # Actions that ask first where a file was not written. What is held or not answered yet may still change one, so these wait for it.
 ASKING = {"close", "leave", "send"}
 # Actions that change no file: these go on without a host.
-READING = {"help", "switch", "next_window", "menu", "split", "unsplit", "page_up", "page_down", "leave"}
+READING = {
+    "help", "switch", "next_window", "menu", "split", "unsplit", "page_up", "page_down", "leave", "small", "redraw", "suspend",
+}  # fmt: skip
 
 WHY = {
     Status.REFUSAL_EXITED: "the session is over",
@@ -38,45 +46,73 @@ WHY = {
 }
 
 
-def _action(key: Input) -> Optional[str]:
+class Pressed(NamedTuple):
+    """A key, the second at which it was pressed, and the question that it answers."""
+
+    key: Input
+    when: float
+    answers: str = ""
+
+
+def action_of(key: Input) -> Optional[str]:
     """What a key does; None for text, for the mouse, and for a key that does nothing."""
     return ACTIONS.get(key.name.replace("Shift-", "")) if isinstance(key, Key) else None
 
 
-def _may_quit(read: Reader, start: int, end: int) -> bool:
-    """Whether the last line of a stretch is `q`, or may be, since what stands before its blanks is not loaded."""
-    first = line_start(read, end, start)
-    line = "".join(rune or "" for rune in read(first, end - first)).strip(" \t")
-    return line == "q" or (line == "" and first > start and read(first - 1, 1) == [None])
+def _last_of(key: Input) -> Input:
+    """The key that a text ends in, where it was typed."""
+    return Text(key.runes[-1:]) if isinstance(key, Text) else key
 
 
-class Editor:
-    """The terminal with its windows. Keys come in by `take`, bytes of the host by `feed`."""
+class Editor(Actions):
+    """The terminal with its windows. Keys come in by `take`, bytes of the host by `feed`, lines of its standard error by `hear`."""
 
-    def __init__(self, terminal: Terminal):
-        self.terminal = terminal
-        self.way = Way(terminal)
-        self.feeds = 0  # pieces that came from the host
+    def __init__(self, terminal: Terminal, clock: Callable[[], float] = time.monotonic, indents: bool = True):
+        self.terminal, self.clock, self.indents = terminal, clock, indents
+        self.way, self.notes = Way(terminal, clock), Notes(clock)
+        self.texts = Texts(terminal)
+        self.log, self.numbers, self.keeping = Undo(terminal, self.texts), Numbers(self.texts), Keeping(self)
+        told = {CLEAN: self._meet_clean, CLOSE: self._meet_close, ORIGIN: self._meet_origin, MOVETO: self._meet_move}
+        told.update({SETDOT: self._meet_dot, UNLOCK: self._meet_unlock})
+        self.stream = Stream(terminal, self.texts, told)
         self.all_windows: Dict[int, Window] = {}
+        self.texts.listeners = [self.log.hear, self.numbers.hear, self.keeping.hear_change, self._tell_window]
         self.command = self.window_of(COMMAND)
         self.files: List[Window] = []  # the file windows on the screen, from top to bottom
         self.focus = self.active = self.command  # where keys go; the file window that they went to last
         self.menu = None
-        self.deferred: Deque[Input] = deque()
-        self.message = "F1 or ^G shows the keys"
-        self.question = self.asked = ""  # what the last key asked; the same once the user has seen it
-        self.is_lost = self.is_leaving = self.is_over = self.has_begun = False
+        self.deferred: Deque[Pressed] = deque()
+        self.is_lost = self.is_leaving = self.is_over = self.has_begun = self.is_small = False
+        self.offers_files = False  # shows the menu of files at the start
+        self.kept_here: List[str] = []  # what was told of texts that were written here
+        self.wishes: List[str] = []  # what the screen is to do: "redraw", "suspend"
+        self.clip: Optional[str] = None  # what the user's clipboard is to have
         self._awaits_file = False  # the host makes a file or closes one
-        # When and where the mouse was clicked last, by the time of the event: a click may wait for the host. Where its button is down.
-        self._clicked: Tuple[float, Optional[Spot]] = (0.0, None)
-        self._pressed: Optional[Spot] = None
-        self._rows = 24
+        self._wants_text = False  # the first key that waits needs text which is not loaded
+        self._edited_at = 0.0  # when the last key came that edits or moves
+        self._last = Pressed(Key(""), 0.0)
+        self._acting: Input = Key("")  # the key that acts now, and the one that made it ask
+        self._asked_by: Input = Key("")
+        self._answered = ""  # the question that the key which acts now answers
+        self._snarfed = ""  # what was cut or copied last, as far as it was loaded
+        self._sought: Optional[Tuple[int, int]] = None  # the file and the line that the host was told to select
+        self._leaves_at: Optional[float] = None  # when the user leaves without waiting for the host
+        self.rows = 24
+        self._begin_mouse()
+
+    @property
+    def message(self) -> str:
+        return self.notes.line
+
+    @message.setter
+    def message(self, message: str) -> None:
+        self.notes.say(message)
 
     # ---- Windows
 
     def window_of(self, tag: int) -> Window:
         if tag not in self.all_windows:
-            self.all_windows[tag] = Window(self.terminal, tag, lambda: (self.feeds, self.terminal.events))
+            self.all_windows[tag] = Window(self.texts, tag)
         return self.all_windows[tag]
 
     @property
@@ -84,16 +120,17 @@ class Editor:
         return [self.command, *self.files]
 
     def is_changed(self, tag: int) -> bool:
-        """Whether a file was not written since it was changed. The command file is never written."""
-        return tag != COMMAND and self.terminal.is_changed(tag)
+        """Whether a file was not written since it was changed, or its last write failed. The command file is never written."""
+        return tag != COMMAND and (self.terminal.is_changed(tag) or tag in self.keeping.unwritten)
 
     def name(self, tag: int) -> str:
         return self.terminal.name(tag) or f"(file {tag}, no name)" if self.terminal.is_known(tag) else "(closed)"
 
     def arrange(self, rows: int, columns: int) -> None:
         """Shares so many rows among the windows."""
-        self._rows = rows
-        command_rows = rows if not self.files else min(max(5, rows // 4), max(2, rows // 2))
+        self.rows = rows
+        share = SMALL if self.is_small and rows > SMALL else max(5, rows // 4)
+        command_rows = rows if not self.files else min(share, max(2, rows // 2))
         self.command.put(0, max(1, command_rows - 1), columns)
         y, left = command_rows, rows - command_rows
         for at, window in enumerate(self.files):
@@ -116,10 +153,10 @@ class Editor:
                 self.files[self.files.index(self.active)] = window
             else:
                 self.files.append(window)
-            self.arrange(self._rows, self.command.width)
+            self.arrange(self.rows, self.command.width)
         self.go_to(window)
 
-    def _drop(self, window: Window) -> None:
+    def drop(self, window: Window) -> None:
         """Takes a window off the screen."""
         at = self.files.index(window)
         self.files.remove(window)
@@ -127,405 +164,294 @@ class Editor:
             self.active = self.files[max(0, at - 1)] if self.files else self.command
         if self.focus is window:
             self.focus = self.active
-        self.arrange(self._rows, self.command.width)
+        self.arrange(self.rows, self.command.width)
 
     # ---- What comes from the host
 
     def begin(self) -> None:
-        """The first events: the host tells the names of its files, and opens the command file."""
+        """The first event: the host tells the names of its files."""
         self.terminal.offer_version(2)
-        self.terminal.open_cmd()
 
-    def feed(self, data: bytes) -> None:
-        self.feeds += 1
-        self.terminal.feed(data)
+    def feed(self, data: bytes = b"") -> None:
+        self.stream.feed(data)
+
+    def hear(self, line: str) -> None:
+        """A line of the host's standard error. What it says of a text stays on the screen until it is read."""
+        told = said(line)
+        self.keeping.hear_host(told)
+        if told.rank:
+            self.notes.keep(told.rank, line)
+        else:
+            self.message = line
+
+    def _meet_clean(self, frame: Frame) -> None:
+        """The host has written a file, or could not. It may say that a little later, so it is asked once more."""
+        self.keeping.meet_clean(frame.tag)
+        self.way.confirm()
+
+    def _meet_close(self, frame: Frame) -> None:
+        for memory in (self.log, self.numbers, self.keeping):
+            memory.drop(frame.tag)
+
+    def _meet_origin(self, frame: Frame) -> None:
+        self.window_of(frame.tag).begin_at(frame.place)
+
+    def _meet_move(self, frame: Frame) -> None:
+        self.window_of(frame.tag).follow()
+
+    def _meet_dot(self, frame: Frame) -> None:
+        if self._sought is not None and self._sought[0] == frame.tag:
+            self.numbers.set(frame.tag, frame.place, self._sought[1])
+
+    def _meet_unlock(self, _frame: Frame) -> None:
+        self._sought = None
+
+    def _tell_window(self, change) -> None:
+        if change.tag in self.all_windows:
+            self.all_windows[change.tag].hear(change)
 
     def pause(self) -> None:
-        """The user pauses, and sees the message: sends what was typed, and asks the host by the command file, unless a lock says that an
+        """The user pauses: sends what was typed, and asks the host by the command file whether it has arrived, unless a lock says that an
         answer is due."""
-        if self.message == self.question:
-            self.asked = self.question
-        self.way.send(COMMAND if self.command.is_open and not self._is_answer_due else None)
+        self.way.send(COMMAND if self.command.is_open and not self._is_lock_held else None)
 
     @property
-    def _is_answer_due(self) -> bool:
+    def _is_lock_held(self) -> bool:
         """Whether a lock is held, so that the host will answer, or an event waits for one."""
         return self.terminal.held > 0 or any(self.terminal.locked(tag) for tag in self.all_windows)
 
     @property
+    def _is_answer_due(self) -> bool:
+        return self._is_lock_held or not self.way.is_confirmed
+
+    @property
     def _are_windows_due(self) -> bool:
         """Whether the host's answer will change the windows, and so where keys go: at the start, and behind `^N` and `^K`."""
-        return not self.has_begun or (self._awaits_file and self._is_answer_due)
+        return not self.has_begun or (self._awaits_file and self._is_lock_held)
 
     def lose(self, why: str) -> None:
-        """The host is gone: what is loaded can still be read."""
+        """The host is gone: what is loaded can still be read. What was changed is written here."""
+        if self.is_lost:
+            return
         self.is_lost = True
+        self.kept_here = self.keeping.keep_here()
         self.deferred.clear()
-        self.message = f"{why}; what is loaded can still be read. ^Q leaves"
+        self.message = ""
+        for line in self.kept_here or ["what is loaded can still be read. ^Q leaves"]:
+            self.notes.keep(2, f"{why}; {line}")
+
+    @property
+    def typed_ahead(self) -> str:
+        """What was typed and still waits."""
+        return "".join(pressed.key.runes for pressed in self.deferred if isinstance(pressed.key, (Text, Paste)))
 
     def _meet_files(self) -> None:
         """Shows the first file, and a file that was made; drops the windows of files that were closed."""
         known = [tag for tag in self.terminal.files() if tag != COMMAND]
-        for window in [window for window in self.files if window.tag not in known]:
-            self._drop(window)
+        if not self.has_begun and not self.terminal.command_locked:
+            self._begin_with(known)
+        gone = [window for window in self.files if window.tag not in known]
+        for window in gone:
+            self.drop(window)
             del self.all_windows[window.tag]
-        if not self.has_begun and self.command.is_open:
-            if known:
-                self.show(known[0])
-            else:
-                self.message = "no file: ^N makes one, F1 shows the keys"
-            self.has_begun = True
         current = self.terminal.current
         if current in known and current not in self.all_windows:  # it was made; command lines work on a file that had a window
             self.show(current)
+        elif gone and not self.files and known:
+            is_in_command = self.focus is self.command and self.active is not self.command
+            self.show(next((tag for tag in known if self.terminal.is_open(tag)), known[0]))
+            if is_in_command:
+                self.go_to(self.command)
+
+    def _begin_with(self, known: List[int]) -> None:
+        """The names of the files are known: opens the first one, and has it loaded before the command file is opened."""
+        if known:
+            self.show(known[0])
+            ask(self.terminal, known[0], 0, self.active.width * self.active.height, 0)
+        else:
+            self.message = "no file: ^N makes one, F1 shows the keys"
+        self.terminal.open_cmd()
+        self.has_begun = True
+        if self.offers_files:
+            self.do_menu()
 
     def update(self) -> None:
         """After keys or bytes: files that came or went, keys that waited, refusals, what the windows show."""
         if not self.is_lost:
             self._meet_files()
-            self._awaits_file = self._awaits_file and self._is_answer_due
-            self._update_windows()  # so that keys wait for the text of a file that was opened
+            self._awaits_file = self._awaits_file and self._is_lock_held
             self._act_in_order()
             for refusal in self.terminal.refusals():
                 self._tell_refusal(refusal)
             self._update_windows()
-        if self.terminal.exited:
+        if self.terminal.exited or (self._leaves_at is not None and self.clock() >= self._leaves_at):
             self.is_over = True
 
     def _update_windows(self) -> None:
+        is_busy = self.is_busy
         for window in self.windows:
-            window.update()
+            window.update(is_busy)
+
+    @property
+    def is_busy(self) -> bool:
+        """Whether keys come, are held or wait, and not for text: nothing more is asked for then."""
+        return not self._wants_text and (self.busy_left > 0 or bool(self.deferred) or self.terminal.held > 0)
+
+    @property
+    def busy_left(self) -> float:
+        return self._edited_at + BUSY - self.clock()
+
+    def wakes_in(self) -> Optional[float]:
+        """Seconds until something is to be done though nothing comes; None where that has no end."""
+        waits = [self.way.seconds]
+        if not self.is_lost:
+            waits.append(self.busy_left if self.busy_left > 0 else None)
+        if self.deferred and self.deferred[0].answers:
+            waits.append(self.deferred[0].when + REPEAT - self.clock())
+        if self._leaves_at is not None:
+            waits.append(self._leaves_at - self.clock())
+        return min((max(0.0, wait) for wait in waits if wait is not None), default=None)
 
     def _tell_refusal(self, refusal: Refusal) -> None:
         self.message = WHY.get(refusal.why, str(refusal.why))
 
     # ---- What comes from the user
 
-    def take(self, key: Input) -> None:
+    def take(self, key: Input, when: Optional[float] = None) -> None:
         """Does what a key says, now or when what it acts on is settled."""
-        if key == Key("^Q") and (self.is_leaving or key in self.deferred):
-            self.is_over = True
+        when = self.clock() if when is None else when
+        pressed = Pressed(key, when, self._answer_of(key, when))
+        self._leaves_at = when + REPEAT if key == Key("^Q") and pressed.answers in (LEAVING, WAITING) else None
+        if self._leaves_at is not None:
             return
-        self.deferred.append(key)
+        if isinstance(key, (Text, Paste)) or action_of(key) in BY_PLACE:
+            self._edited_at = when
+        self.deferred.append(pressed)
         self._act_in_order()
-        if self.deferred and _action(key) in ASKING:
-            self.message = "keys wait for the host" + ("; ^Q again leaves without them" if key == Key("^Q") else "")
+        if self.deferred and action_of(key) in ASKING and not self.deferred[-1].answers:
+            if key == Key("^Q"):
+                self._ask(LEAVING if self.is_leaving else WAITING, key)
+            else:
+                self.message = "keys wait for the host"
+
+    def _answer_of(self, key: Input, when: float) -> str:
+        """The question that a key answers, which has to be the one that was asked. A key that is held down answers none: it comes again
+        at once, so an answer waits for that."""
+        key = _last_of(key)
+        last, self._last = self._last, Pressed(key, when)
+        if last.key == key and when - last.when < REPEAT:
+            if self.deferred:
+                self.deferred[-1] = self.deferred[-1]._replace(answers="")
+            return ""
+        return self.notes.answered(when) if key == self._asked_by else ""
 
     def _act_in_order(self) -> None:
         """Does what the keys say, up to the first that has to wait."""
+        self._wants_text = False
         while self.deferred and not self._must_wait(self.deferred[0]):
             self._act(self.deferred.popleft())
 
-    def _must_wait(self, key: Input) -> bool:
+    def _must_wait(self, pressed: Pressed) -> bool:
         """Whether what a key acts on is not settled: the windows, what was changed, or the places in a window."""
-        action = _action(key)
-        if self.is_lost or self._is_for_menu(key) or action == "help":
+        key, action = pressed.key, action_of(pressed.key)
+        if pressed.answers and self.clock() < pressed.when + REPEAT:
+            return True
+        if self.is_lost or action == "help":
             return False
+        if self._is_for_menu(key):
+            return self.menu.goes_by_place and not self.focus.is_settled
         if self._are_windows_due:
             return True
-        if action in ASKING or (isinstance(key, Text) and "\n" in key.runes and self.focus is self.command):
-            return self._is_answer_due
+        is_line = isinstance(key, (Text, Paste)) and "\n" in key.runes and self.focus is self.command
+        if action in ASKING or is_line:
+            return self._is_answer_due or (action in (None, "send") and self._lacks_text(self.active, "page_down"))
         window = self._window_by_place(key)
-        return window is not None and not window.is_settled
+        if window is None:
+            return False
+        return not window.is_settled or self._lacks_text(window, action)
+
+    def _lacks_text(self, window: Window, action: Optional[str]) -> bool:
+        """Whether a key has to wait for text that is shown, but not loaded. That is asked for, also while keys come."""
+        self._wants_text = window.is_open and window.lacks_text_for(action)
+        return self._wants_text
 
     def _window_by_place(self, key: Input) -> Optional[Window]:
         """The window by whose places a key goes, if it does."""
         if isinstance(key, Mouse) and key.what == "press":
-            return self._window_at(key.row)
-        is_by_place = key.what in ("move", "release") if isinstance(key, Mouse) else _action(key) in BY_PLACE
-        return self.focus if is_by_place else None
+            return self.window_at(key.row)
+        is_by_place = key.what in ("move", "release") if isinstance(key, Mouse) else action_of(key) in BY_PLACE | {"page_down"}
+        return self.focus if is_by_place or isinstance(key, (Text, Paste)) else None
 
     def _is_for_menu(self, key: Input) -> bool:
         """Whether a menu lies over the windows, which takes all keys but `^Q`."""
         return self.menu is not None and key != Key("^Q")
 
-    def _act(self, key: Input) -> None:
+    def _act(self, pressed: Pressed) -> None:
         """Does what a key says. A question is over then: the key answers it, or takes it back."""
-        if self.is_lost and not self._is_for_menu(key) and _action(key) not in READING:
+        key = pressed.key
+        if self.is_lost and not self._is_for_menu(key) and action_of(key) not in READING:
             return
-        self.message = self.question = ""
+        self._answered, self._acting = pressed.answers, key
+        self.notes.take(pressed.when)
         try:
             if self._is_for_menu(key):
-                self._act_in_menu(key)
+                self._act_in_menu(pressed)
             elif isinstance(key, Mouse):
-                self._point(key)
-            elif isinstance(key, Text):
-                self._type(key.runes)
+                self.point(key)
+            elif isinstance(key, (Text, Paste)):
+                self.type(pressed)
             else:
                 self._do(key)
             if not self.is_lost:
-                self.focus.update()  # so that the next key waits where it goes by places that are not loaded
+                self.focus.update(self.is_busy)  # so that the next key waits where it goes by places that are not loaded
         except MemoryError as error:
             self.message = f"there is not enough memory ({error})"
         except SamError as error:
             self.lose(f"the session can't go on ({error})")
-        self.asked = ""
+        self._answered = ""
 
-    def _act_in_menu(self, key: Input) -> None:
-        if isinstance(key, Text):
-            key = Text(self._first_of(key.runes, 1))
+    def _act_in_menu(self, pressed: Pressed) -> None:
+        key = pressed.key
+        if isinstance(key, (Text, Paste)):
+            key = Text(self.first_of(pressed, 1))
+        menu = self.menu
         try:
-            self.menu.take(key)
+            goes_on = menu.take(key)
         finally:
-            if self.menu.is_over:
+            if menu.is_over and self.menu is menu:
                 self.menu = None
+        if goes_on:
+            self.deferred.appendleft(pressed)
 
-    def _first_of(self, runes: str, count: int) -> str:
+    def first_of(self, pressed: Pressed, count: int) -> str:
         """The first runes of a text; those behind them come next, and may go elsewhere."""
+        runes = pressed.key.runes
         if len(runes) > count:
-            self.deferred.appendleft(Text(runes[count:]))
+            rest = pressed._replace(key=pressed.key._replace(runes=runes[count:]), answers="")
+            self.deferred.appendleft(rest)
         return runes[:count]
 
-    def _is_sure(self, question: str) -> bool:
-        """Whether this key answers a question that the user has seen. If not, it is asked."""
-        if self.asked == question:
+    def _ask(self, question: str, key: Input) -> None:
+        self._asked_by = _last_of(key)
+        self.notes.ask(question)
+
+    def say_leaving(self) -> None:
+        self._ask(LEAVING, Key("^Q"))
+
+    def is_sure(self, question: str) -> bool:
+        """Whether this key answers a question that the user has read. If not, it is asked."""
+        if self._answered == question:
             return True
-        self.message = self.question = question
+        self._ask(question, self._acting)
         return False
 
-    def _may_leave(self, key: str) -> bool:
-        """Whether all is written, or the user is sure. If not, it is asked; the same key answers."""
-        unwritten = ", ".join(self.name(tag) for tag in self.terminal.files() if self.is_changed(tag))
-        return not unwritten or self._is_sure(f"not written: {unwritten}. {key} again leaves without them")
-
     def _do(self, key: Key) -> None:
-        action = _action(key)
+        action = action_of(key)
         if action is None:
             self.message = f"{key.name} does nothing; F1 or ^G shows the keys"
             return
         if action not in ("up", "down"):
             self.focus.goal = None
-        if action not in BY_PLACE:
-            getattr(self, f"do_{action}")()
-        elif self.focus.is_open:
-            getattr(self, f"do_{action}")(key.name.startswith("Shift-"))
-
-    def _type(self, runes: str) -> None:
-        window, self.focus.goal, self.focus.anchor = self.focus, None, None
-        ends_line = window is self.command and "\n" in runes
-        if ends_line:
-            runes = self._first_of(runes, runes.index("\n") + 1)[:-1]
-        for at in range(0, len(runes), MOST_IN_EVENT):
-            self.terminal.type(window.tag, runes[at : at + MOST_IN_EVENT])
-        if ends_line:
-            self._run_line()
-
-    def _run_line(self) -> None:
-        """Ends the command line in which the caret stands. The host then runs it on the file that was used last."""
-        self.command.select(self.command.line_end(self.command.dot[1]))
-        if _may_quit(self.command.read, 0, self.command.caret) and not self._may_leave("Enter"):
+        if action in BY_PLACE and not self.focus.is_open:
             return
-        self._work()
-        self.terminal.type(COMMAND, "\n")
-
-    def _work(self) -> None:
-        """Has command lines work on the file that was used last, and on what is selected there."""
-        if self.active is not self.command and self.active.is_open:
-            self.terminal.work(self.active.tag)
-
-    # ---- The mouse
-
-    def _window_at(self, row: int) -> Optional[Window]:
-        """The window whose title or text stands in a row of the screen."""
-        return next((window for window in self.windows if window.y <= row <= window.y + window.height), None)
-
-    def _point(self, mouse: Mouse) -> None:
-        if mouse.what in ("move", "release"):
-            self._drag(mouse)
-        if mouse.what in ("press", "release"):
-            self._pressed = None
-        window = self._window_at(mouse.row)
-        if window is None or not window.is_open:
-            return
-        if mouse.what == "wheel up":
-            window.page_up(WHEEL_ROWS)
-        elif mouse.what == "wheel down":
-            window.page_down(WHEEL_ROWS)
-        elif mouse.what == "press":
-            self._press(window, mouse)
-
-    def _press(self, window: Window, mouse: Mouse) -> None:
-        self.go_to(window)
-        window.goal = None
-        if mouse.row == window.y:
-            return
-        place = window.layout().place_at(mouse.row - window.y - 1, mouse.column)
-        when, spot = self._clicked
-        if spot == (window, place) and mouse.when - when < DOUBLE_CLICK:
-            self.terminal.dclick(window.tag, place)
-            self._clicked, window.anchor = (0.0, None), None
-            return
-        self._pressed = (window, place)
-        self._clicked = (mouse.when, self._pressed)
-        window.select(place)
-
-    def _drag(self, mouse: Mouse) -> None:
-        """Selects from where the button was pressed."""
-        if self._pressed is None or self._pressed[0] is not self.focus:
-            return
-        window, start = self._pressed
-        if start > window.length:
-            return
-        row = max(0, min(mouse.row - window.y - 1, window.height - 1))
-        place = window.layout().place_at(row, mouse.column)
-        if place != window.caret:
-            window.anchor = start
-            window.select(place, extends=True)
-
-    # ---- Actions: windows and files
-
-    def do_help(self) -> None:
-        self.menu = Help()
-
-    def do_switch(self) -> None:
-        self.go_to(self.active if self.focus is self.command else self.command)
-
-    def do_next_window(self) -> None:
-        self.go_to(self.windows[(self.windows.index(self.focus) + 1) % len(self.windows)])
-
-    def do_menu(self) -> None:
-        tags = [tag for tag in self.terminal.files() if tag != COMMAND]
-        entries = [("* " if self.is_changed(tag) else "  ") + self.name(tag) for tag in tags]
-        if tags:
-            chosen = tags.index(self.active.tag) if self.active.tag in tags else 0
-            self.menu = Menu("Files", entries, chosen, lambda at: self.show(tags[at]))
-        else:
-            self.message = "no file: ^N makes one"
-
-    def do_split(self) -> None:
-        shown = [window.tag for window in self.windows]
-        other = next((tag for tag in self.terminal.files() if tag not in shown), None)
-        if other is None:
-            self.message = "every file has a window"
-        elif self._rows * 3 // 4 < LEAST_ROWS * (len(self.files) + 1):
-            self.message = "the screen is too small for another window"
-        else:
-            self.show(other, replaces=False)
-
-    def do_unsplit(self) -> None:
-        if self.focus is not self.command and len(self.files) > 1:
-            self._drop(self.focus)
-
-    def do_new(self) -> None:
-        self._awaits_file = True
-        self.terminal.new_file()
-
-    def do_write(self) -> None:
-        if self.active is not self.command:
-            self.terminal.write(self.active.tag)
-
-    def do_close(self) -> None:
-        tag = self.focus.tag
-        if tag == COMMAND:
-            self.message = "the command window stays"
-        elif not self.is_changed(tag) or self._is_sure(f"{self.name(tag)} was not written; ^K again closes it"):
-            self._awaits_file = True
-            self.terminal.close(tag)
-
-    def do_leave(self) -> None:
-        if self.is_lost:
-            self.is_over = True
-        elif self._may_leave("^Q"):
-            self.terminal.exit()
-            self.is_leaving, self.message = True, "leaving; ^Q again doesn't wait for the host"
-
-    # ---- Actions: the selection
-
-    def do_cut(self) -> None:
-        self.terminal.cut(self.focus.tag)
-        self.focus.anchor = None
-
-    def do_snarf(self) -> None:
-        self.terminal.snarf(self.focus.tag)
-
-    def do_paste(self) -> None:
-        self.terminal.paste(self.focus.tag)
-        self.focus.anchor = None
-
-    def do_look(self) -> None:
-        self.terminal.look(self.focus.tag)
-        self.focus.anchor = None
-
-    def do_search(self) -> None:
-        self.terminal.search(self.focus.tag)
-        self.focus.anchor = None
-
-    def do_send(self) -> None:
-        if self._sends_quit() and not self._may_leave("^E"):
-            return
-        self._work()
-        self.terminal.send(self.focus.tag)
-
-    def _sends_quit(self) -> bool:
-        """Whether the last line of the selection is `q`, or may be."""
-        if not self.focus.is_open:
-            return False
-        start, end = self.focus.dot
-        if start < end and self.focus.read(end - 1, 1) == ["\n"]:
-            end -= 1
-        return _may_quit(self.focus.read, start, end)
-
-    def do_word(self, _extends: bool) -> None:
-        self.terminal.dclick(self.focus.tag, self.focus.caret)
-        self.focus.anchor = None
-
-    def do_select_all(self, _extends: bool) -> None:
-        self.focus.anchor = None
-        self.terminal.select(self.focus.tag, 0, self.focus.length)
-
-    def _erase(self, step: int) -> None:
-        window, (start, end) = self.focus, self.focus.dot
-        if start == end:
-            place = window.beside(start, step) if step > 0 else max(0, start - 1)
-            if place == start:
-                return
-            self.terminal.select(window.tag, *sorted((start, place)))
-        self.terminal.type(window.tag, "")
-        window.anchor = None
-
-    def do_erase_left(self, _extends: bool) -> None:
-        self._erase(-1)
-
-    def do_erase_right(self, _extends: bool) -> None:
-        self._erase(1)
-
-    # ---- Actions: moving
-
-    def _move(self, step: int, extends: bool) -> None:
-        window, (start, end) = self.focus, self.focus.dot
-        if start < end and not extends:
-            window.select(end if step > 0 else start)
-        else:
-            window.select(window.beside(window.caret, step), extends)
-
-    def do_left(self, extends: bool) -> None:
-        self._move(-1, extends)
-
-    def do_right(self, extends: bool) -> None:
-        self._move(1, extends)
-
-    def do_up(self, extends: bool) -> None:
-        self.focus.select(self.focus.by_rows(self.focus.caret, -1), extends)
-
-    def do_down(self, extends: bool) -> None:
-        self.focus.select(self.focus.by_rows(self.focus.caret, 1), extends)
-
-    def do_home(self, extends: bool) -> None:
-        self.focus.select(self.focus.line_start(self.focus.caret), extends)
-
-    def do_end(self, extends: bool) -> None:
-        self.focus.select(self.focus.line_end(self.focus.caret), extends)
-
-    def do_first(self, _extends: bool) -> None:
-        self.focus.select(0)
-
-    def do_last(self, _extends: bool) -> None:
-        self.focus.select(self.focus.length)
-
-    def do_page_up(self) -> None:
-        if self.focus.is_open:
-            self.focus.page_up(asks=not self.is_lost)
-
-    def do_page_down(self) -> None:
-        if self.focus.is_open:
-            self.focus.page_down()
+        getattr(self, f"do_{action}")(*(["Shift-" in key.name] if action in self.EXTENDING else []))

@@ -1,14 +1,16 @@
 """How runes stand on a screen: rows of cells.
 
-`read(place, count)` stands for a reader of runes: a list of one-character strings, None for a rune that is not loaded.
+`read(place, count)` stands for a reader of runes: a text, with GAP for a rune that is not loaded.
 """
 import ctypes
 import unicodedata
 from bisect import bisect_right
 from functools import lru_cache
-from typing import Callable, List, NamedTuple, Optional, Tuple
+from typing import Callable, List, NamedTuple, Optional, Sequence, Tuple
 
-Reader = Callable[[int, int], List[Optional[str]]]
+from texts import GAP
+
+Reader = Callable[[int, int], str]
 
 TAB = 8  # columns between tab stops
 SHADE = "░"  # stands for a rune that is not loaded
@@ -36,14 +38,81 @@ def looks(rune: str) -> Tuple[str, int]:
     return rune, 2 if unicodedata.east_asian_width(rune) in "WF" else 1
 
 
-class Cell(NamedTuple):
-    """One or more columns of a row that belong together: a rune with those that stand on it."""
+class Strip(NamedTuple):
+    """A row of a line, by offsets from the line's start. A cell is one or more columns that belong together: a rune with those that
+    stand on it. All four lists are as long."""
 
-    place: int  # of its first rune
-    column: int
+    start: int
+    end: int
+    offsets: Sequence[int]  # of each cell's first rune
+    columns: Sequence[int]
+    texts: Sequence[str]  # what is drawn for each cell
+    gaps: Sequence[bool]  # whether it is not loaded; empty where all are loaded
     width: int
-    text: str
-    is_gap: bool
+
+
+class StripMaker:
+    """Puts the runes of a line into strips of a width."""
+
+    def __init__(self, width: int):
+        self.width = width
+        self.strips: List[Strip] = []
+        self._begin(0)
+
+    def _begin(self, start: int) -> None:
+        self.start, self.column = start, 0
+        self.offsets: List[int] = []
+        self.columns: List[int] = []
+        self.texts: List[List[str]] = []
+        self.gaps: List[bool] = []
+
+    def finish(self, end: int) -> None:
+        texts = ["".join(parts) for parts in self.texts]
+        gaps = self.gaps if any(self.gaps) else ()
+        self.strips.append(Strip(self.start, end, self.offsets, self.columns, texts, gaps, self.column))
+        self._begin(end)
+
+    def add(self, at: int, rune: str) -> None:
+        text, width = (SHADE, 1) if rune == GAP else (" ", TAB - self.column % TAB) if rune == "\t" else looks(rune)
+        if width == 0 and self.texts and not self.gaps[-1]:
+            self.texts[-1].append(text)
+            return
+        if width == 0:
+            text, width = NO_BASE + text, 1
+        if self.column >= self.width or (self.column + width > self.width and rune != "\t"):
+            self.finish(at)
+        width = min(width, self.width - self.column)
+        self.offsets.append(at)
+        self.columns.append(self.column)
+        self.texts.append([text.ljust(width) if rune == "\t" else text])
+        self.gaps.append(rune == GAP)
+        self.column += width
+
+
+@lru_cache(maxsize=2048)
+def strips_of(line: str, width: int, ends: bool) -> Tuple[Strip, ...]:
+    """The strips of a line without its newline; `ends` tells whether it has one. A carriage return before that is not shown."""
+    width = max(width, 2)
+    stop = len(line) - 1 if ends and line.endswith("\r") else len(line)
+    if (line.isascii() and line[:stop].isprintable()) or line.count(GAP) == stop:
+        return _plain_strips(line[:stop], width)
+    maker = StripMaker(width)
+    for at in range(stop):
+        maker.add(at, line[at])
+    maker.finish(stop)
+    return tuple(maker.strips)
+
+
+def _plain_strips(line: str, width: int) -> Tuple[Strip, ...]:
+    """The same of runes of one column each: all ASCII, or none of them loaded."""
+    is_gap = line.startswith(GAP)
+    text = SHADE * len(line) if is_gap else line
+    strips = []
+    for start in range(0, max(1, len(line)), width):
+        end = min(start + width, len(line))
+        gaps = (True,) * (end - start) if is_gap else ()
+        strips.append(Strip(start, end, range(start, end), range(end - start), text[start:end], gaps, end - start))
+    return tuple(strips)
 
 
 class Row(NamedTuple):
@@ -51,65 +120,60 @@ class Row(NamedTuple):
 
     start: int
     end: int
-    cells: Tuple[Cell, ...]
-    ends_line: bool  # its last rune is a newline, which has no cell
+    text_end: int  # where its newline begins, which has no cell; `end` where it has none
+    base: int  # the place from which its strip counts
+    strip: Strip
 
     @property
-    def width(self) -> int:
-        return self.cells[-1].column + self.cells[-1].width if self.cells else 0
+    def has_gap(self) -> bool:
+        return bool(self.strip.gaps)
 
+    def column_of(self, place: int) -> int:
+        if place >= self.text_end:
+            return self.strip.width
+        at = bisect_right(self.strip.offsets, place - self.base) - 1
+        return self.strip.columns[at] if at >= 0 else 0
 
-class RowMaker:
-    """Puts runes into rows of a width."""
-
-    def __init__(self, start: int, width: int):
-        self.width = max(width, 2)
-        self.rows: List[Row] = []
-        self._begin(start)
-
-    def _begin(self, start: int) -> None:
-        self.start, self.column, self.cells = start, 0, []
-
-    def finish(self, end: int, ends_line: bool = False) -> None:
-        self.rows.append(Row(self.start, end, tuple(self.cells), ends_line))
-        self._begin(end)
-
-    def add(self, place: int, rune: Optional[str]) -> None:
-        if rune == "\n":
-            self.finish(place + 1, ends_line=True)
-            return
-        text, width = (SHADE, 1) if rune is None else (" ", TAB - self.column % TAB) if rune == "\t" else looks(rune)
-        if width == 0 and self.cells and not self.cells[-1].is_gap:
-            self.cells[-1] = self.cells[-1]._replace(text=self.cells[-1].text + text)
-            return
-        if width == 0:
-            text, width = NO_BASE + text, 1
-        if self.column >= self.width or (self.column + width > self.width and rune != "\t"):
-            self.finish(place)
-        width = min(width, self.width - self.column)
-        self.cells.append(Cell(place, self.column, width, text.ljust(width) if rune == "\t" else text, rune is None))
-        self.column += width
+    def place_at(self, column: int) -> Optional[int]:
+        """The place of the cell in a column; None to the right of all."""
+        if column >= self.strip.width:
+            return None
+        return self.base + self.strip.offsets[max(0, bisect_right(self.strip.columns, column) - 1)]
 
 
 class Layout:
-    """The rows of a window that shows a text from the place `top` on."""
+    """The rows of a window that shows a text from the place `top` on. `likely` runes are read first, where that is known."""
 
-    def __init__(self, read: Reader, top: int, width: int, height: int):
-        maker, place, runes = RowMaker(top, width), top, read(top, PIECE)
-        while runes and len(maker.rows) < height:
-            for rune in runes:
-                maker.add(place, rune)
-                place += 1
-                if len(maker.rows) >= height:
-                    break
-            else:
-                runes = read(place, PIECE)
-        self.is_whole = len(maker.rows) < height  # the end of the text is shown
-        if self.is_whole:
-            maker.finish(place)
-        self.rows = maker.rows[:height]
+    def __init__(self, read: Reader, top: int, width: int, height: int, likely: int = 0):
+        self.width, self.height = max(width, 2), height
+        most, is_all, rows = self.width * height + 2, False, []
+        count = min(likely, most) or most
+        while len(rows) < height and not is_all:  # runes that stand on others need no room
+            text = read(top, count)
+            is_all = len(text) < count
+            rows = self._rows(text, top, is_all)
+            count = max(4 * count, most)
+        self.is_whole = is_all and len(rows) <= height  # the end of the text is shown
+        self.rows = rows[:height]
         self.top, self.end = top, self.rows[-1].end if self.rows else top
         self._starts = [row.start for row in self.rows]
+
+    def _rows(self, text: str, top: int, is_all: bool) -> List[Row]:
+        """The rows of a text, and perhaps some more than fit. Where the text goes on, its last row is not known."""
+        rows: List[Row] = []
+        at, goes_on = 0, True
+        while goes_on and len(rows) <= self.height:
+            newline = text.find("\n", at)
+            goes_on = newline >= 0
+            end = newline if goes_on else len(text)
+            strips = strips_of(text[at:end], self.width, goes_on)
+            rows += (Row(top + at + strip.start, top + at + strip.end, top + at + strip.end, top + at, strip) for strip in strips)
+            if goes_on:
+                rows[-1] = rows[-1]._replace(end=top + newline + 1)
+                at = newline + 1
+        if not goes_on and not is_all:
+            rows.pop()
+        return rows
 
     def shows(self, place: int) -> bool:
         return self.top <= place < self.end or (self.is_whole and place == self.end)
@@ -117,50 +181,50 @@ class Layout:
     def position_of(self, place: int) -> Tuple[int, int]:
         """Row and column of a place that is shown."""
         at = bisect_right(self._starts, place) - 1
-        row = self.rows[at]
-        if place >= row.end or (row.ends_line and place == row.end - 1):
-            return at, row.width
-        cells = [cell for cell in row.cells if cell.place <= place]
-        return at, cells[-1].column if cells else 0
+        return at, self.rows[at].column_of(place)
 
     def place_at(self, at: int, column: int) -> int:
         """The place that stands nearest to a row and column."""
         if at >= len(self.rows):
             return self.end
         row = self.rows[at]
-        for cell in row.cells:
-            if column < cell.column + cell.width:
-                return cell.place
-        if row.ends_line:
-            return row.end - 1
-        return row.end if self.is_whole and at == len(self.rows) - 1 or not row.cells else row.cells[-1].place
+        place = row.place_at(column)
+        if place is not None:
+            return place
+        if row.text_end < row.end or (self.is_whole and at == len(self.rows) - 1) or not row.strip.offsets:
+            return row.text_end
+        return row.base + row.strip.offsets[-1]
 
 
 def line_start(read: Reader, place: int, least: int = 0) -> int:
     """The start of the line of a place, or the place behind the nearest gap before it; `least` where neither is behind that."""
     while place > least:
         low = max(least, place - PIECE)
-        for at, rune in reversed(list(enumerate(read(low, place - low)))):
-            if rune is None or rune == "\n":
-                return low + at + 1
+        text = read(low, place - low)
+        at = max(text.rfind("\n"), text.rfind(GAP))
+        if at >= 0:
+            return low + at + 1
         place = low
     return place
 
 
 def line_end(read: Reader, place: int) -> int:
     """The end of the line of a place, before its newline, or the nearest gap behind it."""
-    while runes := read(place, PIECE):
-        for rune in runes:
-            if rune is None or rune == "\n":
-                return place
-            place += 1
-    return place
+    at = place
+    while text := read(at, PIECE):
+        ends = [end for end in (text.find("\n"), text.find(GAP)) if end >= 0]
+        if ends:
+            at += min(ends)
+            return at - 1 if at > place and read(at - 1, 2) == "\r\n" else at
+        at += len(text)
+    return at
 
 
 def row_start(read: Reader, place: int, width: int) -> int:
     """The start of the row of a place, of those that begin with its line."""
     start = line_start(read, place, max(0, place - FAR_BACK))
-    return _starts_of_rows(read, start, place + 1, width)[-1]
+    end = place + (2 if read(place, 2) == "\r\n" else 1)
+    return _starts_of_rows(read, start, end, width)[-1]
 
 
 def top_above(read: Reader, place: int, rows: int, width: int) -> Optional[int]:
@@ -169,26 +233,26 @@ def top_above(read: Reader, place: int, rows: int, width: int) -> Optional[int]:
     starts: List[int] = [place]
     while len(starts) <= rows and starts[0] > 0:
         end = starts[0]
-        if read(end - 1, 1) == [None]:
+        if read(end - 1, 1) == GAP:
             return None
         start = line_start(read, end - 1, max(0, end - FAR_BACK))
-        if start > 0 and read(start - 1, 1) == [None]:
+        if start > 0 and read(start - 1, 1) == GAP:
             return None
         starts = _starts_of_rows(read, start, end, width) + starts
     return starts[max(0, len(starts) - 1 - rows)]
 
 
 def _starts_of_rows(read: Reader, start: int, end: int, width: int) -> List[int]:
-    """The starts of the rows of a stretch that begins with a row."""
-    maker = RowMaker(start, width)
-    for at, rune in enumerate(read(start, end - start)):
-        maker.add(start + at, rune)
-    starts = [row.start for row in maker.rows]
-    return starts + [maker.start] if maker.start < end or not starts else starts
+    """The starts of the rows of a stretch of one line that begins with a row."""
+    text = read(start, end - start)
+    ends = text.endswith("\n")
+    return [start + strip.start for strip in strips_of(text[:-1] if ends else text, width, ends)]
 
 
 def fitted(text: str, width: int) -> str:
     """A text of exactly so many columns: cut, or filled with blanks."""
+    if text.isascii() and text.isprintable():
+        return text[:width].ljust(width)
     shown, used = "", 0
     for rune in text:
         looked, columns = (" ", 1) if rune in "\t\n" else looks(rune)

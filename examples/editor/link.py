@@ -2,16 +2,16 @@
 import os
 import select
 import subprocess
-import sys
 import time
-from typing import List
+from typing import Callable, List, Optional
 
 PIECE = 65_536  # bytes that are read at once
 SECONDS_TO_END = 10  # how long the host may take to end
+MOST_NOISE = 65_536  # bytes that may come before the stream
 
 
 class Link:
-    """A host's process. Nothing here waits, but for `wait_for_answer` and `close`."""
+    """A host's process. Nothing here waits, but for `wait_for_stream` and `close`."""
 
     def __init__(self, command: List[str]):
         pipe = subprocess.PIPE
@@ -24,8 +24,9 @@ class Link:
         self.waiting = bytearray()  # bytes that the pipe has not taken yet
         self.up = self.down = 0  # bytes that have gone each way
         self.is_lost = self.is_deaf = self.is_quiet = False  # the host writes, reads, tells nothing more
-        self.told: List[str] = []  # lines of its standard error
+        self.noise: List[str] = []  # lines that came before the stream
         self._line = b""
+        self.early = b""  # the first bytes of the stream
 
     def send(self, data: bytes = b"") -> None:
         """Sends bytes, as many as go; the others wait. A host that reads no more may still have written something."""
@@ -63,9 +64,7 @@ class Link:
             data = b""
         self.is_quiet = not data
         *lines, self._line = (self._line + data).split(b"\n") if data else [self._line, b""]
-        lines = [line.decode("utf-8", "replace") for line in lines if line]
-        self.told += lines
-        return lines
+        return [line.decode("utf-8", "replace") for line in lines if line]
 
     def wanted(self) -> dict:
         """What to wait for: events by descriptor."""
@@ -78,36 +77,55 @@ class Link:
             wanted[self.messages] = select.POLLIN
         return wanted
 
-    def wait_for_answer(self) -> bool:
-        """Waits until the host answers, and passes on what it tells meanwhile. Returns whether it answers."""
+    def wait_for_stream(self, first: bytes, hear: Callable[[str], None]) -> bool:
+        """Waits until the host's stream begins, with certain bytes. Other programs may have written something before, as a `.bashrc`
+        does. Passes on what the host tells meanwhile. Returns whether the stream begins."""
+        heard = b""
         poll = select.poll()
         poll.register(self.source, select.POLLIN)
         poll.register(self.messages, select.POLLIN)
-        while True:
+        while first not in heard and len(heard) <= MOST_NOISE and not self.is_lost:
             ready = dict(poll.poll())
             if self.messages in ready:
-                self._pass_on()
+                for line in self.listen():
+                    hear(line)
                 if self.is_quiet:
                     poll.unregister(self.messages)
             if self.source in ready:
-                return bool(ready[self.source] & select.POLLIN)
+                heard += self.receive()
+        noise, found, rest = heard.partition(first)
+        self.early = found + rest
+        self.noise = [line for line in noise.decode("utf-8", "replace").splitlines() if line.strip()]
+        return bool(found)
 
-    def close(self, seconds: float = SECONDS_TO_END) -> None:
-        """Ends the streams, passes on what the host still tells, and waits for its end."""
-        self.process.stdin.close()
-        self.process.stdout.close()
+    def close(self, hear: Callable[[str], None], seconds: float = SECONDS_TO_END) -> Optional[int]:
+        """Sends what waits, ends the streams, passes on what the host still tells, and waits for its end. Returns its exit status; None
+        where it doesn't end."""
         until = time.monotonic() + seconds
+        self._send_the_rest(until)
+        self.process.stdin.close()
         poll = select.poll()
-        poll.register(self.messages, select.POLLIN)
-        while not self.is_quiet and poll.poll(max(0, int((until - time.monotonic()) * 1000))):
-            self._pass_on()
+        for descriptor in (self.source, self.messages):
+            poll.register(descriptor, select.POLLIN)
+        while not self.is_quiet and (ready := poll.poll(max(0, int((until - time.monotonic()) * 1000)))):
+            if self.source in dict(ready) and not self.receive():  # else a host that still answers would wait for us
+                poll.unregister(self.source)
+            for line in self.listen():
+                hear(line)
         try:
-            self.process.wait(max(0.1, until - time.monotonic()))
+            return self.process.wait(max(0.1, until - time.monotonic()))
         except subprocess.TimeoutExpired:
             self.process.terminate()
-        self.process.stderr.close()
+            return None
+        finally:
+            self.process.stdout.close()
+            self.process.stderr.close()
 
-    def _pass_on(self) -> None:
-        for line in self.listen():
-            print(line, file=sys.stderr)
-        self.told.clear()
+    def _send_the_rest(self, until: float) -> None:
+        poll = select.poll()
+        poll.register(self.sink, select.POLLOUT)
+        poll.register(self.source, select.POLLIN)
+        while self.waiting and not self.is_deaf and (ready := poll.poll(max(0, int((until - time.monotonic()) * 1000)))):
+            if self.source in dict(ready) and not self.receive() and self.is_lost:
+                poll.unregister(self.source)
+            self.send()

@@ -5,31 +5,36 @@ What the user does goes one way: keys, the terminal, the link, the host, the lin
 import os
 import select
 import signal
-from typing import Dict, Optional
+import time
+from typing import Callable, Dict, List, Optional
 
+from decode import Decoder
 from editor import Editor
-from keys import waiting
+from keys import Input
 from link import Link
-from sulgrevad import NoMemory, SamError, Terminal
-from screen import Screen
+from sulgrevad import SamError, Terminal
+from screen import Screen, sequences
 
 KEYBOARD = 0
 ENDS = (signal.SIGTERM, signal.SIGHUP)
-RETRY = 100  # milliseconds until that for which memory was wanting is tried again
+SCREENS = (signal.SIGWINCH, signal.SIGCONT, signal.SIGTSTP)
+RETRY = 0.1  # seconds until that for which the memory was too small is tried again
+MOST_READ = 65_536  # bytes of keys that are read at once
 
 
 class Loop:
     """One session at a screen."""
 
-    def __init__(self, terminal: Terminal, link: Link, screen: Screen, editor: Editor):
-        self.terminal, self.link, self.screen, self.editor = terminal, link, screen, editor
-        self.untaken = b""  # bytes of the host for which the terminal had no memory yet
-        self.is_short = False  # memory was wanting since the last pause
+    def __init__(self, terminal: Terminal, link: Link, screen: Screen, editor: Editor, hear: Callable[[str], None]):
+        self.terminal, self.link, self.screen, self.editor, self.hear = terminal, link, screen, editor, hear
+        self.decoder = Decoder(sequences())
+        self.is_short = False  # memory was too small since the last pause
+        self.ended_by = 0  # the signal that ended the session
         self.signals, wakes = os.pipe()
         for end in (self.signals, wakes):
             os.set_blocking(end, False)
         signal.set_wakeup_fd(wakes, warn_on_full_buffer=False)
-        for number in (signal.SIGWINCH, *ENDS):
+        for number in (*SCREENS, *ENDS):
             signal.signal(number, lambda *_: None)
 
     def run(self) -> None:
@@ -44,78 +49,109 @@ class Loop:
             self._take_bytes(ready)
             self._send()
 
-    def _ready(self, milliseconds: Optional[int]) -> Dict[int, int]:
+    def _ready(self, seconds: Optional[float]) -> Dict[int, int]:
         """What is there to be read or written: events by descriptor. Sleeps until something is, or so long where a time is given."""
         poll = select.poll()
         for descriptor, events in {KEYBOARD: select.POLLIN, self.signals: select.POLLIN, **self.link.wanted()}.items():
             poll.register(descriptor, events)
-        return dict(poll.poll(milliseconds))
+        return dict(poll.poll(None if seconds is None else int(seconds * 1000 + 0.999)))
 
-    def _idle(self) -> Optional[int]:
-        """Before it sleeps: sends what was typed, and draws. Returns how many milliseconds it may sleep; None where that has no end."""
+    def _idle(self) -> Optional[float]:
+        """Before it sleeps: sends what was typed, and draws. Returns how many seconds it may sleep; None where that has no end."""
         self.is_short = False
-        if self.untaken:
-            self._do(self._feed)
+        if self.editor.stream.is_waiting:
+            self._do(self.editor.feed)
         self._do(self.editor.update)
         if not self.editor.is_lost:
             self._do(self.editor.pause)
         self._send()
-        longest = self.editor.way.milliseconds  # before it draws, so that a wait which ends in between is drawn then
-        self.screen.draw(self.editor, self.link)
+        waits = [self.editor.wakes_in(), self.decoder.delay(time.monotonic())]  # before it draws: what ends in between is drawn then
+        if self.editor.is_over:
+            return 0
+        waits.append(self.screen.draw(self.editor, self.link))
+        self.editor.notes.drawn()
         if self.is_short:
-            return RETRY if longest is None else min(longest, RETRY)
-        return longest
+            waits.append(RETRY)
+        return min((wait for wait in waits if wait is not None), default=None)
 
     def _take_keys(self, ready: Dict[int, int]) -> None:
+        now = time.monotonic()
         if ready.get(KEYBOARD, 0) & (select.POLLHUP | select.POLLERR | select.POLLNVAL):
-            self.editor.is_over = True
+            self._end(signal.SIGHUP)
         elif KEYBOARD in ready:
-            for key in waiting(self.screen.screen):
-                self.editor.take(key)
-            self._do(self.editor.update)
+            data = self._read_keys()
+            self._act_on(self.decoder.feed(data, now))
+        else:
+            self._act_on(self.decoder.flush(now))
+
+    def _read_keys(self) -> bytes:
+        try:
+            data = os.read(KEYBOARD, MOST_READ)
+        except BlockingIOError:
+            return b""
+        except OSError:
+            data = b""
+        if not data:
+            self._end(signal.SIGHUP)
+        return data
+
+    def _act_on(self, keys: List[Input]) -> None:
+        for key in keys:
+            self.editor.take(key)
+        if self.editor.clip is not None:
+            self.screen.put_on_clipboard(self.editor.clip)
+            self.editor.clip = None
+        for wish in self.editor.wishes:
+            getattr(self.screen, wish)()
+        self.editor.wishes.clear()
+
+    def _end(self, number: int) -> None:
+        self.editor.is_over, self.ended_by = True, number
 
     def _take_signals(self, ready: Dict[int, int]) -> None:
         if self.signals not in ready:
             return
         numbers = os.read(self.signals, 4096)
-        if any(number in ENDS for number in numbers):
-            self.editor.is_over = True
-        elif signal.SIGWINCH in numbers:
-            columns, rows = os.get_terminal_size(KEYBOARD)
-            if rows > 0 and columns > 0:  # some terminals tell of no size while they are hidden
-                self.screen.resize(rows, columns)
-                self.editor.arrange(*self.screen.size)
+        for number in ENDS:
+            if number in numbers and not self.ended_by:
+                self._end(number)
+        if self.editor.is_over:
+            return
+        if signal.SIGTSTP in numbers:
+            self.screen.suspend(is_group=False)
+        elif signal.SIGCONT in numbers:
+            self.screen.redraw()
+        if any(number in numbers for number in SCREENS):
+            self._fit()
+
+    def _fit(self) -> None:
+        """Takes the size that the screen has now."""
+        columns, rows = os.get_terminal_size(KEYBOARD)
+        if rows > 0 and columns > 0:  # some terminals tell of no size while they are hidden
+            self.screen.resize(rows, columns)
+            self.editor.arrange(*self.screen.size)
 
     def _take_bytes(self, ready: Dict[int, int]) -> None:
-        if self.link.messages in ready and not self.link.is_quiet:
+        data = self.link.receive() if self.link.source in ready and not self.link.is_lost else b""
+        if not self.link.is_quiet:  # what the host says of a text it says before it answers
             for line in self.link.listen():
-                self.editor.message = line
-        if self.link.source in ready and not self.link.is_lost:
-            self.untaken += self.link.receive()
-            self._do(self._feed)
+                self.hear(line)
+        if data:
+            self._do(lambda: self.editor.feed(data))
             self._do(self.editor.update)
-        if self.link.is_lost and not self.editor.is_lost and not self.editor.is_over:
+        if self.link.is_lost and not self.editor.is_over:
             self.editor.lose("the host is gone")
-
-    def _feed(self) -> None:
-        """Feeds what came from the host. Where memory is wanting it stays, and is fed again."""
-        data, self.untaken = self.untaken, b""
-        try:
-            self.editor.feed(data)
-        except NoMemory:
-            self.untaken = data
-            raise
 
     def _send(self) -> None:
         self.link.send(self.terminal.take_out())
 
     def _do(self, action) -> None:
-        """Does something that the terminal may refuse. Want of memory passes: it is tried again, and goes on with what waits."""
+        """Does something that the terminal may refuse. Memory may be too small for a while: it is tried again, and goes on with what
+        waits."""
         try:
             action()
         except MemoryError as error:
             self.is_short = True
             self.editor.message = f"there is not enough memory ({error})"
         except SamError as error:
-            if not self.editor.is_lost:
-                self.editor.lose(f"the host's stream is wrong ({error})")
+            self.editor.lose(f"the host's stream is wrong ({error})")

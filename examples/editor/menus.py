@@ -9,7 +9,7 @@ Line = Tuple[str, bool]  # a text, and whether it is the chosen one
 class Help:
     """The list of keys."""
 
-    title = "Keys"
+    title, is_box, goes_by_place = "Keys", True, False
 
     def __init__(self):
         self.is_over, self.first = False, 0
@@ -30,6 +30,8 @@ class Help:
 
 class Menu:
     """Entries of which one is chosen; `choose` is told which, as a number from 0."""
+
+    is_box, goes_by_place = True, False
 
     def __init__(self, title: str, entries: List[str], chosen: int, choose: Callable[[int], None]):
         self.title, self.entries, self.choose = title, entries, choose

@@ -1,11 +1,14 @@
 """The screen: draws what changed since it was drawn last."""
+import base64
 import contextlib
 import curses
+import os
+import signal
 import sys
+import time
 from typing import Dict, List, Optional, Tuple
 
 from editor import Editor
-from keys import MOUSE
 from layout import Row, fitted
 from link import Link
 from windows import Window
@@ -13,8 +16,28 @@ from windows import Window
 Run = Tuple[str, int]  # a text and its curses attributes
 
 MOST_IN_STATUS = 20  # runes of a name in the status line
+MOST_IN_CLIP = 74_994  # bytes of a text for the clipboard; xterm takes no more
 FOOT = 2  # the status line and the message line
-DRAG_ON, DRAG_OFF = "\x1b[?1002h", "\x1b[?1002l"  # have the user's terminal tell of a mouse that moves with its button down
+MOST_LINES = 4  # that a long message takes
+COUNTS_AFTER = 0.1  # seconds after which counts of bytes are drawn where nothing else changed
+# Have the user's terminal tell of the mouse, also of one that moves with its button down; and say where a paste begins and ends.
+MOUSE = ("\x1b[?1000;1002;1006h", "\x1b[?1006;1002;1000l")
+PASTES = ("\x1b[?2004h", "\x1b[?2004l")
+CLIPPING = ("xterm", "tmux", "screen", "rxvt-unicode", "alacritty", "foot", "kitty", "st-", "wezterm", "contour")  # that know OSC 52
+
+# Keys by the names that terminfo has for what a terminal sends.
+SENT = {
+    "kcuu1": "Up", "kcud1": "Down", "kcub1": "Left", "kcuf1": "Right", "khome": "Home", "kend": "End", "kpp": "Page Up",
+    "knp": "Page Down", "kdch1": "Delete", "kLFT": "Shift-Left", "kRIT": "Shift-Right", "kri": "Shift-Up", "kind": "Shift-Down",
+    "kHOM": "Shift-Home", "kEND": "Shift-End", **{f"kf{number}": f"F{number}" for number in range(1, 13)},
+}  # fmt: skip
+
+
+def sequences() -> Dict[bytes, str]:
+    """What the terminal of this session sends for keys, as far as it is more than a character; the longest first."""
+    known = {curses.tigetstr(name): key for name, key in SENT.items()}
+    sent = {sequence: key for sequence, key in known.items() if sequence and len(sequence) > 2 and sequence.startswith(b"\x1b")}
+    return dict(sorted(sent.items(), key=lambda entry: -len(entry[0])))
 
 
 class Screen:
@@ -23,23 +46,55 @@ class Screen:
     def __init__(self, screen):
         self.screen = screen
         self.drawn: Dict[int, tuple] = {}  # what stands in each row
+        self._shown: Optional[tuple] = None  # what was drawn last, but for the counts
+        self._counts, self._drawn_at = (0, 0), 0.0
         curses.raw()
         curses.nonl()
         with contextlib.suppress(curses.error):  # of a screen without colours
             curses.use_default_colors()
+        curses.typeahead(-1)  # keys are not read by curses
         screen.keypad(True)
-        screen.nodelay(True)
-        curses.mousemask(MOUSE)
-        curses.mouseinterval(0)
-        self._tell(DRAG_ON)
+        self.modes = [PASTES] if curses.tigetstr("cup") else []
+        if curses.tigetstr("kmous"):
+            self.modes.append(MOUSE)
+        screen.refresh()
+        self._open()
+
+    def _open(self) -> None:
+        self._tell("".join(on for on, _ in self.modes))
 
     def close(self) -> None:
-        self._tell(DRAG_OFF)
+        self._tell("".join(off for _, off in self.modes))
 
     def _tell(self, sequence: str) -> None:
-        if curses.has_key(curses.KEY_MOUSE):
+        with contextlib.suppress(OSError):  # of a screen that is gone
             sys.stdout.write(sequence)
             sys.stdout.flush()
+
+    def put_on_clipboard(self, text: str) -> None:
+        """Has the user's terminal keep a text, where it knows how. It may refuse without a word."""
+        data = text.encode("utf-8", "replace")
+        if os.environ.get("TERM", "").startswith(CLIPPING) and len(data) <= MOST_IN_CLIP:
+            self._tell(f"\x1b]52;c;{base64.b64encode(data).decode()}\x07")
+
+    def redraw(self) -> None:
+        """Sets the terminal up again, and draws all of it."""
+        curses.reset_prog_mode()
+        self._open()
+        self.screen.clearok(True)
+        self.screen.erase()
+        self.drawn.clear()
+        self._shown = None
+
+    def suspend(self, is_group: bool = True) -> None:
+        """Gives the terminal back to the shell, and stops until that goes on with this job."""
+        self.close()
+        curses.def_prog_mode()
+        curses.endwin()
+        before = signal.signal(signal.SIGTSTP, signal.SIG_DFL)
+        os.kill(0 if is_group else os.getpid(), signal.SIGTSTP)
+        signal.signal(signal.SIGTSTP, before)
+        self.redraw()
 
     @property
     def size(self) -> Tuple[int, int]:
@@ -51,20 +106,24 @@ class Screen:
         curses.resizeterm(rows, columns)
         self.screen.erase()
         self.drawn.clear()
+        self._shown = None
 
-    def draw(self, editor: Editor, link: Link) -> None:
+    def draw(self, editor: Editor, link: Link) -> Optional[float]:
+        """Draws what changed. Where that is the count of bytes alone it is drawn a little later: returns in how many seconds."""
         rows, columns = self.screen.getmaxyx()
-        frame: Dict[int, List[Run]] = {}
-        for window in editor.windows:
-            frame.update(window_rows(editor, window))
-        if editor.menu is not None:
-            frame.update(menu_rows(editor.menu, *self.size))
-        frame[rows - 2] = [(fitted(status(editor, link), columns), curses.A_REVERSE)]
-        frame[rows - 1] = [(fitted(editor.message, columns - 1), curses.A_BOLD)]
+        shown = (frame_of(editor, rows, columns), cursor_of(editor), status(editor, link))
+        left = self._drawn_at + COUNTS_AFTER - time.monotonic()
+        if shown == self._shown and left > 0:
+            return left if self._counts != (link.up, link.down) else None
+        self._shown, self._counts, self._drawn_at = shown, (link.up, link.down), time.monotonic()
+        frame, cursor, line = shown
+        text_rows = len(lines_of(editor.message, columns, rows))
+        frame = {**frame, rows - 1 - text_rows: [(fitted(f"{line} | up {link.up} down {link.down}", columns), curses.A_REVERSE)]}
         for y in range(rows):
             self._put(y, frame.get(y, []))
-        self._put_cursor(cursor_of(editor), rows, columns)
+        self._put_cursor(cursor, rows, columns)
         self.screen.refresh()
+        return None
 
     def _put(self, y: int, runs: List[Run]) -> None:
         if self.drawn.get(y) == tuple(runs):
@@ -87,6 +146,28 @@ class Screen:
             self.screen.move(min(cursor[0], rows - 1), min(cursor[1], columns - 1))
 
 
+def frame_of(editor: Editor, rows: int, columns: int) -> Dict[int, List[Run]]:
+    """What stands in each row of the screen, but for the status line."""
+    frame: Dict[int, List[Run]] = {}
+    for window in editor.windows:
+        frame.update(window_rows(editor, window))
+    if editor.menu is not None and editor.menu.is_box:
+        frame.update(menu_rows(editor.menu, max(1, rows - FOOT), columns))
+    lines = lines_of(editor.message, columns, rows)
+    frame.update((rows - len(lines) + at, [(line, curses.A_BOLD)]) for at, line in enumerate(lines))
+    return frame
+
+
+def lines_of(message: str, columns: int, rows: int) -> List[str]:
+    """A message in as many rows as it takes, but no more than half of them."""
+    lines, width = [], max(1, columns - 1)
+    while len(lines) < max(1, min(MOST_LINES, rows // 2)) and (message or not lines):
+        line = fitted(message, width)
+        lines.append(line)
+        message = message[max(1, len(line.rstrip())) :] if len(message) > len(line.rstrip()) else ""
+    return lines
+
+
 def window_rows(editor: Editor, window: Window) -> Dict[int, List[Run]]:
     """The title of a window and its rows, by the row of the screen."""
     is_focus = window is editor.focus
@@ -103,6 +184,10 @@ def window_rows(editor: Editor, window: Window) -> Dict[int, List[Run]]:
 
 def row_runs(row: Row, dot: Tuple[int, int], width: int, is_focus: bool) -> List[Run]:
     """A row as runs of equal attributes: the selection reversed, gaps dim, the caret of another window underlined."""
+    has_caret = not is_focus and row.start <= dot[0] == dot[1] < row.end
+    has_dot = dot[0] < dot[1] and dot[0] < row.end and row.start < dot[1]
+    if not (has_caret or has_dot or row.has_gap):
+        return [("".join(row.strip.texts), curses.A_NORMAL)] if row.strip.texts else []
     runs: List[Run] = []
 
     def add(text: str, attributes: int) -> None:
@@ -114,12 +199,13 @@ def row_runs(row: Row, dot: Tuple[int, int], width: int, is_focus: bool) -> List
     def attributes_at(place: int) -> int:
         if dot[0] <= place < dot[1]:
             return curses.A_REVERSE
-        return curses.A_UNDERLINE if not is_focus and place == dot[0] == dot[1] else curses.A_NORMAL
+        return curses.A_UNDERLINE if has_caret and place == dot[0] else curses.A_NORMAL
 
-    for cell in row.cells:
-        add(cell.text, attributes_at(cell.place) | (curses.A_DIM if cell.is_gap else curses.A_NORMAL))
-    if row.ends_line and row.width < width and attributes_at(row.end - 1):
-        add(" ", attributes_at(row.end - 1))
+    gaps = row.strip.gaps or (False,) * len(row.strip.texts)
+    for text, offset, is_gap in zip(row.strip.texts, row.strip.offsets, gaps):
+        add(text, attributes_at(row.base + offset) | (curses.A_DIM if is_gap else curses.A_NORMAL))
+    if row.text_end < row.end and row.strip.width < width and attributes_at(row.text_end):
+        add(" ", attributes_at(row.text_end))
     return runs
 
 
@@ -135,13 +221,14 @@ def menu_rows(menu, rows: int, columns: int) -> Dict[int, List[Run]]:
 
 
 def status(editor: Editor, link: Link) -> str:
-    """Name, mark of a change, dot, locks, held events, runes not sent, messages on the way, and the bytes of the link."""
+    """Name, mark of a change, dot, line, locks, held events, runes not sent, and messages on the way."""
     terminal, window = editor.terminal, editor.active
     name = editor.name(window.tag)
     parts = [("…" + name[-MOST_IN_STATUS:] if len(name) > MOST_IN_STATUS else name) + (" *" if editor.is_changed(window.tag) else "")]
     if window.is_open:
         start, end = window.dot
-        parts.append(f"{start},{end} of {window.length}")
+        line = editor.numbers.line(window.tag, window.caret)
+        parts.append(f"{start},{end} of {window.length}" + (f", line {line}" if line is not None else ""))
     if editor.is_lost:
         parts.append("HOST LOST")
     parts.append(locks_of(editor))
@@ -150,7 +237,6 @@ def status(editor: Editor, link: Link) -> str:
             parts.append(f"{name} {count}")
     if editor.way.told:
         parts.append(f"{editor.way.told} on the way")
-    parts.append(f"up {link.up} down {link.down}")
     return " | ".join(parts)
 
 
@@ -167,7 +253,7 @@ def locks_of(editor: Editor) -> str:
 def cursor_of(editor: Editor) -> Optional[Tuple[int, int]]:
     """Where the cursor stands; None where it is not to be seen."""
     window = editor.focus
-    if editor.menu is not None or not window.is_open:
+    if (editor.menu is not None and editor.menu.is_box) or not window.is_open:
         return None
     layout, caret = window.layout(), window.caret
     if not layout.shows(caret):

@@ -1,6 +1,5 @@
 """The way to the host: how many messages to tell of, and when to ask whether they have arrived."""
-import time
-from typing import Optional
+from typing import Callable, Optional
 
 from sulgrevad import Terminal
 
@@ -14,38 +13,49 @@ class Way:
     nothing, where the answer to the last one has come.
     """
 
-    def __init__(self, terminal: Terminal):
-        self.terminal = terminal
+    def __init__(self, terminal: Terminal, clock: Callable[[], float]):
+        self.terminal, self.clock = terminal, clock
         self._asked = 0  # the number of the message that asked last
+        self._confirms = 0  # the number of the message whose answer is waited for
+        self._is_unasked = False  # that one is not sent yet
         self._since: Optional[float] = None  # since when messages are on the way
+
+    @property
+    def _arrived(self) -> int:
+        return self.terminal.sent - self.terminal.under_way
+
+    def confirm(self) -> None:
+        """What the host has told by another way than its stream may come a little later. One question more, and it is here."""
+        self._is_unasked = True
+
+    @property
+    def is_confirmed(self) -> bool:
+        return not self._is_unasked and self._arrived >= self._confirms
 
     def send(self, tag: Optional[int]) -> None:
         """Sends what was typed, and asks by the file of this tag, which is open and free; by none where the tag is None."""
         self._note()
         self.terminal.flush_now()
-        arrived = self.terminal.sent - self.terminal.under_way
-        if tag is not None and self.terminal.under_way > 0 and arrived >= self._asked:
+        if tag is not None and (self.terminal.under_way > 0 or self._is_unasked) and self._arrived >= self._asked:
             self.terminal.check(tag)
             self._asked = self.terminal.sent
+            if self._is_unasked:
+                self._is_unasked, self._confirms = False, self._asked
         self._note()
 
     def _note(self) -> None:
         if self.terminal.under_way == 0:
             self._since = None
         elif self._since is None:
-            self._since = time.monotonic()
+            self._since = self.clock()
 
     @property
-    def _left(self) -> float:
-        """Seconds until the messages are to be told of."""
-        return 0.0 if self._since is None else self._since + TOLD_AFTER - time.monotonic()
+    def seconds(self) -> Optional[float]:
+        """How long until the messages are to be told of; None where they are told of, or there are none."""
+        left = 0.0 if self._since is None else self._since + TOLD_AFTER - self.clock()
+        return left if left > 0 else None
 
     @property
     def told(self) -> int:
         """How many messages are to be told of."""
-        return 0 if self._left > 0 else self.terminal.under_way
-
-    @property
-    def milliseconds(self) -> Optional[int]:
-        """How long to sleep at most, until messages are to be told of; None where that has no end."""
-        return int(self._left * 1000) + 1 if self._left > 0 else None
+        return 0 if self.seconds is not None else self.terminal.under_way

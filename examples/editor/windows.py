@@ -1,31 +1,38 @@
 """Windows: what of a file is shown, and how it follows the user and the host. No text is kept here, each look reads the terminal."""
-from typing import Callable, Optional, Tuple
+from typing import Optional, Tuple
 
 from layout import Layout, line_end, line_start, looks, row_start, top_above
 from sulgrevad import Terminal
+from texts import GAP, Change, Texts
 
 MOST_IN_REQUEST = 512  # runes that the host answers at once
+LONGEST_WORD = 4096  # runes that a move over a word looks at
+
+
+def ask(terminal: Terminal, tag: int, top: int, end: int, gap: int) -> None:
+    """Asks for what a window shows from `top` to `end`, whose first gap is at `gap`: for all of it with a page on either side, where the
+    terminal can; else for one piece, so that the file is free in between."""
+    load = getattr(terminal, "load", None)
+    if load is None:
+        terminal.view(tag, top, min(end, gap + MOST_IN_REQUEST) - top)
+    else:
+        start = max(0, 2 * top - end)
+        load(tag, start, 2 * end - top - start)
 
 
 class Window:
-    """A file on the screen: rows of text under a title.
+    """A file on the screen: rows of text under a title, from the place `top` on."""
 
-    Where the window begins is the view of the terminal, which moves with edits and when the host says so. `wished_top` stands for it
-    while the view can't be moved, since the file is locked.
-    """
-
-    def __init__(self, terminal: Terminal, tag: int, state: Callable[[], tuple]):
-        self.terminal, self.tag = terminal, tag
+    def __init__(self, texts: Texts, tag: int):
+        self.terminal, self.texts, self.tag = texts.terminal, texts, tag
         self.y, self.height, self.width = 0, 1, 80  # row of the title, rows of text, columns
         self.anchor: Optional[int] = None  # the end of the selection that stays while the user extends it
         self.goal: Optional[int] = None  # the column that moves by rows keep to
-        self.wished_top: Optional[int] = None
-        self._asked_top = 0  # where the view began when it was asked for
-        self._is_blind = False  # the window begins anywhere in a line that is not loaded
+        self._top = 0
         self._followed: Optional[Tuple[int, int]] = None  # the dot that was brought into view
-        self._state = state
         self._layout: Optional[Layout] = None
         self._layout_of: tuple = ()
+        self._loaded: Optional[Layout] = None  # what is shown, where all of it is loaded and the terminal was told so
 
     # ---- Reading
 
@@ -35,8 +42,27 @@ class Window:
 
     @property
     def is_settled(self) -> bool:
-        """Whether places that are read now are those that an event made now acts on."""
-        return self.terminal.held == 0 and not self.terminal.locked(self.tag)
+        """Whether the file is open, and places that are read now are those that an event made now acts on."""
+        return self.terminal.held == 0 and not self.terminal.locked(self.tag) and self.is_open
+
+    def lacks_text_for(self, action: Optional[str]) -> bool:
+        """Whether an action goes by text that is shown, but not loaded: Page Down by all of it, a move by the lines that it crosses, what
+        takes out the selection (None stands for typing) by that."""
+        layout, gap = self.layout(), self.terminal.first_gap(self.tag, self.top)
+        if gap is None or gap >= layout.end:
+            return False
+        start, end = self.dot
+        if start < end and action in (None, "cut", "paste", "erase_left", "erase_right"):
+            gap = self.terminal.first_gap(self.tag, max(start, layout.top))
+            return gap is not None and gap < min(end, layout.end)
+        place = self.caret
+        above, below = self.line_start(place), self.line_end(place)
+        edges = {
+            "page_down": (gap,), "left": (place - 1,), "right": (place,), "erase_left": (place - 1,), "erase_right": (place,),
+            "word_left": (place - 1, above - 1), "word_right": (place, below), "home": (above - 1,), "end": (below,),
+            "up": (above - 1, self.line_start(max(0, above - 1)) - 1), "down": (above - 1, below, self.line_end(below + 1)),
+        }.get(action, ())  # fmt: skip
+        return any(layout.top <= edge < layout.end and self.read(edge, 1) == GAP for edge in edges)
 
     @property
     def length(self) -> int:
@@ -55,16 +81,19 @@ class Window:
     @property
     def top(self) -> int:
         """Where the window begins."""
-        return self.terminal.view_of(self.tag)[0] if self.wished_top is None else min(self.wished_top, self.length)
+        return min(self._top, self.length)
 
-    def read(self, place: int, count: int) -> list:
-        return self.terminal.read(self.tag, place, count)
+    def read(self, place: int, count: int) -> str:
+        return self.texts.read(self.tag, place, count)
 
     def layout(self) -> Layout:
         """The rows that the window shows."""
-        layout_of = (self._state(), self.tag, self.top, self.width, self.height)
+        length = self.length
+        top = min(self._top, length)
+        layout_of = (self.texts.versions.get(self.tag, 0), length, top, self.width, self.height)
         if self._layout is None or self._layout_of != layout_of:
-            self._layout = Layout(self.read, self.top, self.width, self.height)
+            longest = 0 if self._layout is None else self._layout.end - self._layout.top + 2 * self.width
+            self._layout = Layout(self.read, top, self.width, self.height, longest)
             self._layout_of = layout_of
         return self._layout
 
@@ -76,25 +105,23 @@ class Window:
 
     # ---- What is shown
 
-    def update(self) -> None:
-        """Follows what the host and the user did, and has the terminal load what is shown."""
-        if self.is_open:
-            self._meet_host()
-            self._follow_dot()
-            self._load()
+    def hear(self, change: Change) -> None:
+        """A change of the text moves the place where the window begins."""
+        self._top = change.moved(self._top)
 
-    def _meet_host(self) -> None:
-        """After the host moved the view to a place that it found: shows it as before, or with some rows above it."""
-        start = self.terminal.view_of(self.tag)[0]
-        if start == self._asked_top or self.wished_top is not None:
-            return
-        before, self._asked_top = min(self._asked_top, self.length), start
-        if 0 < start == self.dot[0]:
-            if Layout(self.read, before, self.width, self.height).shows(start):
-                self.wished_top = before
-            else:
-                self._show_below(start, self.height // 3)
-            self._followed = self.dot
+    def begin_at(self, place: int) -> None:
+        """The host told where the window begins."""
+        self._top, self._loaded = place, None
+
+    def follow(self) -> None:
+        """Brings the dot into view, also where it stays."""
+        self._followed = self._loaded = None
+
+    def update(self, is_busy: bool = False) -> None:
+        """Follows what the host and the user did, and has the terminal load what is shown; while the user is busy only what he needs."""
+        if self.is_open:
+            self._follow_dot()
+            self._load(is_busy)
 
     def _follow_dot(self) -> None:
         """Brings a dot that has moved into view."""
@@ -123,63 +150,45 @@ class Window:
 
     def _show_below(self, place: int, rows: int) -> None:
         """Shows a place below so many rows; the host finds their start where they are not loaded."""
-        self._is_blind = False
         start = row_start(self.read, place, self.width)
         top = top_above(self.read, start, rows, self.width)
         if top is None:
             self._have_host_scroll(start, rows)
         else:
-            self.wished_top = top
+            self._top = top
 
     def _have_host_scroll(self, place: int, lines: int) -> None:
         self.terminal.view(self.tag, place, 0)
         self.terminal.scroll(self.tag, lines)
-        self.wished_top = None
-        self._asked_top = place
+        self._top, self._loaded = place, None
 
-    def _load(self) -> None:
-        """Tells the terminal what is shown, up to the first piece that is not loaded. One piece at a time: in between the file is free,
-        so that what the user does need not wait for all of them."""
-        if not self.is_settled:
-            return
-        self._begin_with_line()
+    def _load(self, is_busy: bool) -> None:
+        """Tells the terminal what is shown, and asks for what of it is not loaded."""
         layout = self.layout()
-        end, gap = layout.end, self.terminal.first_gap(self.tag, layout.top)
-        has_gap = gap is not None and gap < end
-        if has_gap:
-            end = min(end, gap + MOST_IN_REQUEST)
-        if has_gap or self.terminal.view_of(self.tag) != (layout.top, end):
-            self.terminal.view(self.tag, layout.top, end - layout.top)
-        self.wished_top, self._asked_top = None, layout.top
-
-    def _begin_with_line(self) -> None:
-        """After a page down over what was not loaded: begins with the first line that begins there."""
-        if not self._is_blind:
+        if layout is self._loaded or not self.is_settled:
             return
-        for at, rune in enumerate(self.read(self.top, self.width * self.height)):
-            if rune is None:
-                return
-            if rune == "\n":
-                self.wished_top = self.top + at + 1
-                break
-        self._is_blind = False
+        gap = self.terminal.first_gap(self.tag, layout.top)
+        if gap is None or gap >= layout.end:
+            self._loaded = layout
+            if self.terminal.view_of(self.tag) != (layout.top, layout.end):
+                self.terminal.view(self.tag, layout.top, layout.end - layout.top)
+        elif not (is_busy and layout.top <= self.caret <= gap and layout.top < gap):
+            ask(self.terminal, self.tag, layout.top, layout.end, gap)
 
     # ---- Moving
 
     def page_down(self, rows: Optional[int] = None) -> None:
-        """Shows what stands below; no more than is loaded goes by unseen."""
+        """Shows what stands below, as far as what is shown is loaded."""
         layout, gap = self.layout(), self.terminal.first_gap(self.tag, self.top)
         if rows is None:
             rows = max(1, self.height - 1)
         if gap is not None and layout.shows(gap):
-            rows = min(rows, layout.position_of(gap)[0]) or rows
-        if not layout.is_whole:
+            rows = min(rows, layout.position_of(gap)[0])
+        if not layout.is_whole and rows > 0:
             starts = [*(row.start for row in layout.rows), layout.end]
-            self.wished_top = starts[min(rows, max(1, len(layout.rows) - 1))]
-            self._is_blind = self.wished_top > 0 and self.read(self.wished_top - 1, 1) == [None]
+            self._top = starts[min(rows, max(1, len(layout.rows) - 1))]
 
     def page_up(self, rows: Optional[int] = None, asks: bool = True) -> None:
-        self._is_blind = False
         if rows is None:
             rows = max(1, self.height - 1)
         top = top_above(self.read, self.top, rows, self.width)
@@ -188,7 +197,7 @@ class Window:
         if top is None:
             self._have_host_scroll(self.top, rows)
         else:
-            self.wished_top = top
+            self._top = top
 
     def select(self, place: int, extends: bool = False) -> None:
         """Moves the caret, and shows it; the anchor stays where the selection is extended."""
@@ -212,7 +221,23 @@ class Window:
     def _is_on_another(self, place: int) -> bool:
         """Whether the rune behind a place shares the cell of the one before it. At the start of a line and behind a gap it can't."""
         before, rune = self.read(place - 1, 2)
-        return None not in (before, rune) and before != "\n" and rune not in "\n\t" and looks(rune)[1] == 0
+        if before + rune == "\r\n":
+            return True
+        return GAP not in before + rune and before != "\n" and rune not in "\n\t" and looks(rune)[1] == 0
+
+    def beside_word(self, place: int, step: int) -> int:
+        """The end of the next word to the right (1), or the start of the one to the left (-1); the nearest gap where that is not loaded."""
+        if step > 0:
+            text = self.read(place, LONGEST_WORD).partition(GAP)[0]
+        else:
+            low = max(0, place - LONGEST_WORD)
+            text = self.read(low, place - low).rpartition(GAP)[2][::-1]
+        at = 0
+        while at < len(text) and not (text[at].isalnum() or text[at] == "_"):
+            at += 1
+        while at < len(text) and (text[at].isalnum() or text[at] == "_"):
+            at += 1
+        return place + step * at
 
     def by_rows(self, place: int, rows: int) -> int:
         """The place so many rows below (above where negative), in the column that such moves keep to."""
@@ -233,3 +258,17 @@ class Window:
 
     def line_end(self, place: int) -> int:
         return line_end(self.read, place)
+
+    # ---- What a line looks like
+
+    def indentation(self, place: int) -> str:
+        """The blanks at the start of the line of a place, up to it."""
+        start = self.line_start(place)
+        line = self.read(start, min(place - start, MOST_IN_REQUEST))
+        return line[: len(line) - len(line.lstrip(" \t"))]
+
+    def newline(self, place: int) -> str:
+        """How lines end there: as the line above does, else as the one below."""
+        start = self.line_start(place)
+        end = start if start > 0 else self.line_end(place) + 2
+        return "\r\n" if end >= 2 and self.read(end - 2, 2) == "\r\n" else "\n"

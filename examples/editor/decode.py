@@ -1,0 +1,241 @@
+"""What the user's terminal sends for keys, mouse and pastes: bytes come in, keys go out. Each sequence is taken as one, also one that
+nobody here knows."""
+import codecs
+import locale
+import re
+from typing import Dict, List, Optional, Tuple
+
+from keys import Input, Key, Mouse, Paste, Text
+
+ESCAPE_DELAY = 0.025  # seconds after which an Esc was a key, and no sequence's begin
+REST_DELAY = 0.5  # the same for a sequence whose rest is missing
+PASTE_DELAY = 3.0  # the same for a paste whose end is missing
+PASTE_END = b"\x1b[201~"
+
+# The forms of a sequence: CSI with numbers (also of the Linux console, of rxvt with its `$`, and of a mouse with three bytes), SS3,
+# a string that ends in BEL or ST.
+SEQUENCE = re.compile(
+    rb"\x1b\[\[(?P<linux>[A-E])|\x1b\[M(?P<mouse>[\x00-\xff]{3})|\x1b\[(?P<shifted>\d+)\$|"
+    rb"\x1b\[(?![M\[])(?P<numbers>[0-?]*)(?P<between>[ -/]*)(?P<final>[@-~])|\x1bO(?P<ss3>[0-9;]*)(?P<key>[@-~])|"
+    rb"\x1b[\]PX^_][^\x1b\x07]*(?:\x07|\x1b\\)",
+    re.DOTALL,
+)
+BEGUN = re.compile(rb"\x1b(?:\[M.{0,2}|\[\[|\[[0-?]*[ -/]*|O[0-9;]*|[\]PX^_][^\x1b\x07]*\x1b?)?", re.DOTALL)
+
+LETTERS = {
+    "A": "Up", "B": "Down", "C": "Right", "D": "Left", "H": "Home", "F": "End", "P": "F1", "Q": "F2", "R": "F3", "S": "F4",
+    "Z": "Shift-Tab", "I": "", "O": "",
+}  # fmt: skip
+NUMBERS = {
+    1: "Home", 2: "Insert", 3: "Delete", 4: "End", 5: "Page Up", 6: "Page Down", 7: "Home", 8: "End", 11: "F1", 12: "F2", 13: "F3",
+    14: "F4", 15: "F5", 17: "F6", 18: "F7", 19: "F8", 20: "F9", 21: "F10", 23: "F11", 24: "F12",
+}  # fmt: skip
+RXVT = {"a": "Up", "b": "Down", "c": "Right", "d": "Left"}  # with Shift behind CSI, with Control behind SS3
+KEYPAD = {chr(ord("p") + digit): str(digit) for digit in range(10)}
+KEYPAD.update({"M": "\n", "X": "=", "j": "*", "k": "+", "l": ",", "m": "-", "n": ".", "o": "/", "I": "\t", " ": " "})
+LINUX = {"A": "F1", "B": "F2", "C": "F3", "D": "F4", "E": "F5"}
+MOTION, WHEEL, MODIFIERS = 32, 64, 4 | 8 | 16  # bits of a mouse's number
+
+
+def codec() -> str:
+    """The codec of the characters of the locale; UTF-8 where Python has none for them."""
+    try:
+        return codecs.lookup(locale.nl_langinfo(locale.CODESET)).name
+    except LookupError:
+        return "utf-8"
+
+
+def named(base: str, modifiers: int = 1) -> str:
+    """The name of a key with the modifiers of a number, as xterm counts them."""
+    bits = max(0, modifiers - 1)
+    control, alt, shift = "^" if bits & 4 else "", "Alt-" if bits & 10 else "", "Shift-" if bits & 1 else ""
+    return control + alt + shift + base if base else ""
+
+
+def control(rune: str) -> Input:
+    if rune in "\r\n":
+        return Text("\n")
+    if rune == "\t":
+        return Text(rune)
+    names = {"\x1b": "Esc", "\x7f": "Backspace", "\x08": "Backspace"}
+    return Key(names.get(rune) or "^" + chr(ord(rune) + 64))
+
+
+def rune_with(code: int, modifiers: int) -> Input:
+    """A character with modifiers, as some terminals send it by numbers."""
+    rune, bits = chr(code) if 0 < code < 0x110000 and not 0xD800 <= code < 0xE000 else "", max(0, modifiers - 1)
+    if code < 32 or code == 127:
+        return control(rune) if rune else Key("")
+    if bits & 4 and rune.isascii() and "@" <= rune.upper() <= "_":
+        return Key("^" + rune.upper())
+    return Text(rune) if bits <= 1 else Key(named(rune, modifiers))
+
+
+def mouse(button: int, column: int, row: int, is_up: bool, when: float) -> Input:
+    kind = button & ~MODIFIERS
+    if kind in (WHEEL, WHEEL + 1):
+        what = "wheel up" if kind == WHEEL else "wheel down"
+    elif kind == MOTION:
+        what = "move"
+    elif kind == 3 or (is_up and kind == 0):
+        what = "release"
+    else:
+        what = "press" if kind == 0 else ""
+    return Mouse(what, row, column, when) if what else Key("")
+
+
+class Decoder:
+    """Keeps the bytes of a sequence until it is whole, or until nothing more comes."""
+
+    def __init__(self, known: Optional[Dict[bytes, str]] = None):
+        self.known = known or {}  # sequences of this terminal, and their keys
+        self._bytes = bytearray()
+        self._pasted: Optional[bytearray] = None  # what was pasted so far
+        self._runes = codecs.getincrementaldecoder(codec())("replace")  # keeps the first bytes of a rune until the others come
+        self._since = 0.0
+
+    def delay(self, now: float) -> Optional[float]:
+        """Seconds until what is here is taken though it is not whole; None where nothing waits."""
+        if self._pasted is not None:
+            longest = PASTE_DELAY
+        elif not self._bytes:
+            return None
+        else:
+            longest = ESCAPE_DELAY if len(self._bytes) <= 2 else REST_DELAY
+        return max(0.0, self._since + longest - now)
+
+    def feed(self, data: bytes, now: float) -> List[Input]:
+        """The keys that bytes bring, typed runes that follow each other in one."""
+        self._bytes += data
+        self._since = now
+        return self._taken(now, False)
+
+    def flush(self, now: float) -> List[Input]:
+        """The keys of what stays alone."""
+        return self._taken(now, True) if self.delay(now) == 0.0 else []
+
+    def _taken(self, now: float, is_over: bool) -> List[Input]:
+        inputs: List[Input] = []
+        while self._bytes or (is_over and self._pasted is not None):
+            found = self._in_paste(is_over) if self._pasted is not None else self._next(now, is_over)
+            if found is None:
+                break
+            for key in found:
+                if isinstance(key, Text) and inputs and isinstance(inputs[-1], Text):
+                    inputs[-1] = Text(inputs[-1].runes + key.runes)
+                elif key not in (Text(""), Key("")):
+                    inputs.append(key)
+        return inputs
+
+    def _in_paste(self, is_over: bool) -> Optional[List[Input]]:
+        self._pasted += self._bytes
+        self._bytes.clear()
+        end = self._pasted.find(PASTE_END)
+        if end < 0 and not is_over:
+            return None
+        if end >= 0:
+            self._bytes += self._pasted[end + len(PASTE_END) :]
+            del self._pasted[end:]
+        text = self._pasted.decode(codec(), "replace").replace("\r\n", "\n").replace("\r", "\n")
+        self._pasted = None
+        return [Paste(text)] if text else []
+
+    def _cut(self, count: int) -> bytes:
+        data = bytes(self._bytes[:count])
+        del self._bytes[:count]
+        return data
+
+    def _next(self, now: float, is_over: bool) -> Optional[List[Input]]:
+        """The keys of the first bytes; None where more have to come."""
+        first = self._bytes[0]
+        if first == 0x1B:
+            return self._escape(now, is_over)
+        if first < 32 or first == 127:
+            return [control(chr(self._cut(1)[0]))]
+        end = next((at for at, byte in enumerate(self._bytes) if byte < 32 or byte == 127), len(self._bytes))
+        return [Text(self._runes.decode(self._cut(end)))]
+
+    def _escape(self, now: float, is_over: bool) -> Optional[List[Input]]:
+        known = next((sequence for sequence in self.known if self._bytes.startswith(sequence)), None)
+        if known is not None:
+            self._cut(len(known))
+            return [Key(self.known[known])]
+        at = 1 if self._bytes[1:2] == b"\x1b" and len(self._bytes) > 2 else 0  # rxvt sends Alt so
+        found = SEQUENCE.match(self._bytes, at)
+        if found:
+            key = self._key_of(found, now)
+            self._cut(found.end())
+            return [key._replace(name="Alt-" + key.name)] if at and isinstance(key, Key) and key.name else [key]
+        if not is_over and BEGUN.fullmatch(self._bytes, at):
+            return None
+        if len(self._bytes) == 1 or at:
+            self._cut(1)
+            return [Key("Esc")]
+        if self._bytes[1] == 0x1B:
+            self._cut(1)
+            return [Key("Esc")]
+        if is_over and len(self._bytes) > 2 and BEGUN.fullmatch(self._bytes):
+            self._cut(len(self._bytes))
+            return [Key("a sequence of which the rest is missing")]
+        return [self._alt()]
+
+    def _alt(self) -> Input:
+        """A character with Alt."""
+        count = 1 if self._bytes[1] < 0x80 else 2 if self._bytes[1] < 0xE0 else 3 if self._bytes[1] < 0xF0 else 4
+        rune = self._cut(1 + count)[1:].decode(codec(), "replace")
+        return Key("Alt-" + (rune if rune >= " " and rune != "\x7f" else control(rune).name if rune not in "\r\n\t" else "Enter"))
+
+    def _key_of(self, found, now: float) -> Input:
+        """The key of a whole sequence."""
+        if found["linux"] is not None:
+            return Key(LINUX[found["linux"].decode()])
+        if found["mouse"] is not None:
+            button, column, row = (byte - 32 for byte in found["mouse"])
+            return mouse(button, column - 1, row - 1, False, now)
+        if found["shifted"] is not None:
+            return Key(named(NUMBERS.get(int(found["shifted"]), ""), 2))
+        if found["key"] is not None:
+            return _ss3(found["key"].decode(), _numbers(found["ss3"]))
+        if found["final"] is None or found["between"]:
+            return Key("")
+        return self._csi(found["numbers"], found["final"].decode(), now)
+
+    def _csi(self, raw: bytes, final: str, now: float) -> Input:
+        numbers = _numbers(raw)
+        first, modifiers = (numbers + [1, 1])[0], numbers[1] if len(numbers) > 1 else 1
+        if raw[:1] == b"<" and final in "Mm" and len(numbers) == 3:
+            return mouse(numbers[0], numbers[1] - 1, numbers[2] - 1, final == "m", now)
+        if final == "M" and len(numbers) == 3:
+            return mouse(numbers[0] - 32, numbers[1] - 1, numbers[2] - 1, False, now)
+        if raw[:1] in (b"<", b"=", b">", b"?"):
+            return Key("")
+        if final == "~" and first == 200:
+            self._pasted = bytearray()
+            return Key("")
+        if final == "~" and first == 27 and len(numbers) == 3:
+            return rune_with(numbers[2], modifiers)
+        if final == "u":
+            return rune_with(first, modifiers)
+        if final in "~^@":
+            base = NUMBERS.get(first, "")
+            return Key(named(base, {"^": 5, "@": 6}.get(final, modifiers)) or _unknown(raw, final))
+        if final in RXVT:
+            return Key(named(RXVT[final], 2))
+        return Key(named(LETTERS[final], modifiers) if final in LETTERS else _unknown(raw, final))
+
+
+def _numbers(raw: bytes) -> List[int]:
+    return [int(number.split(b":")[0] or 1) for number in raw.lstrip(b"<=>?").split(b";") if number.split(b":")[0].isdigit() or not number]
+
+
+def _unknown(raw: bytes, final: str) -> str:
+    """The name of a sequence that nobody here knows; what a terminal answers by itself has none."""
+    return "" if final in "cnRyt" else f"the key that sends Esc [ {raw.decode('ascii', 'replace')}{final}"
+
+
+def _ss3(key: str, numbers: List[int]) -> Input:
+    if key in RXVT:
+        return Key(named(RXVT[key], 5))
+    if key in LETTERS and key not in "IO":
+        return Key(named(LETTERS[key], numbers[-1] if numbers and numbers[-1] else 1))
+    return Text(KEYPAD[key]) if key in KEYPAD else Key(f"the key that sends Esc O {key}")

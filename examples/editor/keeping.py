@@ -1,0 +1,96 @@
+"""What became of the texts: which could not be written, which the host has saved aside, and which have to be written here."""
+from collections import Counter
+from typing import Dict, List
+
+import rescue
+from notes import Said
+from texts import Change
+
+MOST_IN_NAME = 64  # runes of a name in the session; of a longer path the host shows the end
+
+
+def shown_name(path: str) -> str:
+    """The name in the session of a path that the host tells."""
+    return path if len(path) <= MOST_IN_NAME else "…" + path[1 - MOST_IN_NAME :]
+
+
+class Keeping:
+    """The texts of an editor, as far as they are not written."""
+
+    def __init__(self, editor):
+        self.editor, self.terminal = editor, editor.terminal
+        self.unwritten: Dict[int, bool] = {}  # files whose last write failed; whether that write is answered
+        self.is_hopeless = False  # a text could not be saved anywhere
+        self._writing: set = set()  # files whose write is not answered
+        self._changes: Counter = Counter()  # of each file
+        self._written: Dict[int, int] = {}  # how many of them there were at the last write
+        self._saved: Dict[int, int] = {}  # how many of them are in what the host has saved aside
+        self._dropped: Dict[str, str] = {}  # texts that were dropped with open eyes, until the host says that it has saved them
+
+    def name(self, tag: int) -> str:
+        return self.terminal.name(tag) or f"unnamed-{tag}"
+
+    def write(self, tag: int) -> None:
+        """The host is told to write a file."""
+        self._writing.add(tag)
+        self._written[tag] = self._changes[tag]
+
+    def meet_clean(self, tag: int) -> None:
+        """A write is answered. Whether it failed was told before, or is told later."""
+        if self.unwritten.get(tag, True):
+            self.unwritten.pop(tag, None)
+        else:
+            self.unwritten[tag] = True
+        self._writing.discard(tag)
+
+    def hear_change(self, change: Change) -> None:
+        self._changes[change.tag] += 1
+
+    def hear_host(self, told: Said) -> None:
+        """A line of the host's standard error."""
+        if told.what == "lost":
+            self.is_hopeless = True
+        for tag in self._tags_of(told):
+            if "failed" in told.what:
+                self.unwritten[tag] = tag not in self._writing
+            if "saved" in told.what:
+                self._saved[tag] = self._written.get(tag, -1) if "failed" in told.what else self._changes[tag]
+        if told.what == "saved":
+            self._dropped.pop(shown_name(told.name), None)
+
+    def _tags_of(self, told: Said) -> List[int]:
+        """The files that a line of the host is about."""
+        files = [tag for tag in self.terminal.files() if tag != 0]
+        if told.tag is not None:
+            return [tag for tag in files if tag == told.tag]
+        return [tag for tag in files if told.name and self.name(tag) == shown_name(told.name)]
+
+    def drop(self, tag: int) -> None:
+        """The file is closed."""
+        self.unwritten.pop(tag, None)
+
+    def let_go(self, tag: int) -> None:
+        """The user closes a file that was not written. Its text is kept until the host says that it has it."""
+        if self.terminal.is_open(tag):
+            self._dropped[self.name(tag)] = rescue.loaded(self.terminal, tag)
+
+    def keep_here(self) -> List[str]:
+        """Writes to files of this machine what nobody has saved, as far as it is loaded, and what was typed and still waits. Returns what
+        to tell of them."""
+        texts, self._dropped = self._dropped, {}
+        waiting = self.editor.typed_ahead
+        for tag in self.terminal.files():
+            is_typed = bool(waiting) and tag == self.editor.active.tag
+            is_safe = self._saved.get(tag) == self._changes[tag] and not is_typed
+            if tag != 0 and self.terminal.is_open(tag) and not is_safe and (self.editor.is_changed(tag) or is_typed):
+                more = f"\n[typed, and not put in yet:]\n{waiting}" if is_typed else ""
+                texts[self.name(tag)] = rescue.loaded(self.terminal, tag) + more
+                self._saved[tag] = self._changes[tag]
+        if waiting and self.editor.active.tag == 0:
+            texts["typed"] = waiting
+        return [self._kept(name, text) for name, text in texts.items()]
+
+    def _kept(self, name: str, text: str) -> str:
+        path = rescue.keep(name, text)
+        self.is_hopeless = self.is_hopeless or path is None
+        return f"what is loaded of {name} is here in {path}" if path else f"the text of {name} is lost: no file can be written here"

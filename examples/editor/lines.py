@@ -1,0 +1,76 @@
+"""Command lines, as far as a terminal has to know them; and the numbers of lines."""
+import re
+from typing import Dict, Optional, Tuple
+
+from texts import GAP, Change, Texts
+
+MOST_COUNTED = 65_536  # runes between a place whose line is known and another, over which lines are counted
+
+_BLANKS = r"[ \t]*"
+_PATTERN = r"/((?:\\.|[^/\\])*)(?:/|$)"
+_ADDRESS = re.compile(rf"(?:{_BLANKS}(?:#?{_BLANKS}\d+|{_PATTERN}|[$.,]))*{_BLANKS}")
+_STEP = re.compile(rf"([xygv]){_BLANKS}{_PATTERN}{_BLANKS}")
+
+
+def removes(line: str) -> Tuple[str, Optional[str]]:
+    """What a command line takes out of a text: ("nothing", None); ("pattern", the very text); or ("range", its address)."""
+    address = _ADDRESS.match(line)
+    at, pattern = address.end(), None
+    is_exact = False
+    while step := _STEP.match(line, at):
+        at = step.end()
+        if step[1] == "x":
+            pattern, is_exact = _unescaped(step[2]), True
+        elif step[1] == "y":
+            is_exact = False
+    if line[at : at + 1] not in ("c", "d"):
+        return "nothing", None
+    return ("pattern", pattern) if is_exact else ("range", address[0].strip(" \t") if pattern is None else None)
+
+
+def _unescaped(pattern: str) -> str:
+    return re.sub(r"\\(.)", lambda found: "\n" if found[1] == "n" else found[1], pattern, flags=re.DOTALL)
+
+
+def escaped(pattern: str) -> str:
+    """A pattern of a command line that stands for a text."""
+    return "".join("\\n" if rune == "\n" else f"\\{rune}" if re.match(r"[!-/:-@\[-`{-~]", rune) else rune for rune in pattern)
+
+
+class Numbers:
+    """The numbers of lines. Of each file one place is kept whose line is known; lines are counted from there."""
+
+    def __init__(self, texts: Texts):
+        self.texts = texts
+        self._known: Dict[int, Tuple[int, int]] = {}  # a place, and its line, counted from 1
+
+    def hear(self, change: Change) -> None:
+        place, line = self._known.get(change.tag, (0, 1))
+        if change.place >= place:
+            return
+        end = change.place + len(change.gone)
+        gone = change.gone[: place - change.place]
+        came = change.came if end < place else ""
+        if GAP in gone + came:
+            self._known.pop(change.tag, None)
+        else:
+            self._known[change.tag] = (change.moved(place), line - gone.count("\n") + came.count("\n"))
+
+    def drop(self, tag: int) -> None:
+        self._known.pop(tag, None)
+
+    def set(self, tag: int, place: int, line: int) -> None:
+        """The host found a line."""
+        self._known[tag] = (place, line)
+
+    def line(self, tag: int, place: int) -> Optional[int]:
+        """The line of a place, counted from 1; None where it is not known."""
+        for start, line in (self._known.get(tag, (0, 1)), (0, 1)):
+            low, high = sorted((start, place))
+            if high - low <= MOST_COUNTED:
+                text = self.texts.read(tag, low, high - low)
+                if GAP not in text:
+                    line += text.count("\n") if start <= place else -text.count("\n")
+                    self._known[tag] = (place, line)
+                    return line
+        return None

@@ -1,0 +1,93 @@
+"""The line at the bottom of the screen: what was said last, a question, or what the host has told until it is read."""
+import re
+from typing import Callable, List, NamedTuple, Optional, Tuple
+
+READ_AFTER = 0.5  # seconds that a line stands on the screen until a key counts as pressed by someone who read it
+REPEAT = 0.15  # seconds within which the same key again means that it is held down
+MOST_UNREAD = 100
+HINT = "F1 or ^G shows the keys"
+
+# What a host says of a text. Of a write that failed it says in the same line what became of the text.
+LOST = re.compile(r"the text of (.*) is lost: |(.*) is closed, and its text can't be saved: ")
+FAILED = re.compile(r"\? write (?:file (\d+)|(.*?)): ")
+IS_IN = "; its text is in "
+SAVED = re.compile(r"(.*) was not written" + IS_IN)
+
+
+class Said(NamedTuple):
+    """A line of the host's standard error: its rank, and the file that it is about."""
+
+    rank: int  # 3: a text is lost; 2: it was not written; 1: other words of the host; 0: of another program
+    what: str = ""  # "lost", "failed", "saved"; "failed and saved"
+    name: str = ""  # the file's name or path
+    tag: Optional[int] = None  # of a file without a name
+
+
+def said(line: str) -> Said:
+    words = line.removeprefix("samhost: ")
+    if found := LOST.match(words):
+        return Said(3, "lost" if found[1] else "", found[1] or found[2])
+    if found := FAILED.match(words):
+        rank, what = (3, "failed") if "could not be saved" in words else (2, "failed and saved" if IS_IN in words else "failed")
+        return Said(rank, what, found[2] or "", int(found[1]) if found[1] else None)
+    if found := SAVED.match(words):
+        return Said(1, "saved", found[1])
+    return Said(int(words != line))
+
+
+class Notes:
+    """What stands on the line, and when the user saw it."""
+
+    def __init__(self, clock: Callable[[], float]):
+        self.clock = clock
+        self.message = HINT
+        self.question = ""  # the message, where a key answers it
+        self.unread: List[Tuple[int, str]] = []  # what the host told, the worst first
+        self._drawn, self._drawn_at = "", 0.0
+
+    @property
+    def line(self) -> str:
+        """What stands on the line: that a text was not written first, other words of the host last."""
+        if not self._shows_unread:
+            return self.message
+        more = f" (and {len(self.unread) - 1} more)" if len(self.unread) > 1 else ""
+        return self.unread[0][1] + more
+
+    @property
+    def _shows_unread(self) -> bool:
+        return bool(self.unread) and (not self.message or self.unread[0][0] > 1)
+
+    def drawn(self) -> None:
+        """The line stands on the screen."""
+        if self.line != self._drawn:
+            self._drawn, self._drawn_at = self.line, self.clock()
+
+    def say(self, message: str) -> None:
+        self.message, self.question = message, ""
+
+    def ask(self, question: str) -> None:
+        """Asks; where it was asked already, the time to read it begins again."""
+        self.message = self.question = question
+        self._drawn = ""
+
+    def keep(self, rank: int, line: str) -> None:
+        """Shows a line until it is read, what is worse first."""
+        if self.message == HINT:
+            self.message = ""
+        if len(self.unread) < MOST_UNREAD and (rank, line) not in self.unread:
+            self.unread.append((rank, line))
+            self.unread.sort(key=lambda kept: -kept[0])
+
+    def is_read(self, when: float) -> bool:
+        """Whether a key of that time was pressed by someone who read the line."""
+        return self.line == self._drawn and when >= self._drawn_at + READ_AFTER
+
+    def answered(self, when: float) -> str:
+        """The question that a key of that time answers."""
+        return self.question if not self._shows_unread and self.is_read(when) else ""
+
+    def take(self, when: float) -> None:
+        """A key of that time acts: what was read goes."""
+        if self._shows_unread and self.is_read(when):
+            self.unread.pop(0)
+        self.say("")

@@ -1,0 +1,115 @@
+"""One session: the host is run, the editor goes on until the user leaves, and what nobody has saved is written here."""
+import contextlib
+import curses
+import shlex
+import sys
+from typing import List
+
+from editor import Editor
+from link import Link
+from loop import Loop
+from sulgrevad import SamError, Terminal
+from screen import Screen
+from stream import FIRST
+
+STATUS_NO_HOST, STATUS_LOST, STATUS_UNSAVED, STATUS_SIGNAL = 1, 3, 5, 128
+
+
+def say(line: str) -> None:
+    """Tells on standard error, where that is still there."""
+    with contextlib.suppress(OSError):
+        print(line, file=sys.stderr, flush=True)
+
+
+def say_all(lines: List[str]) -> None:
+    for line in lines:
+        say(f"samterm: {line}")
+
+
+class Session:
+    """The terminal, the editor and the link to the host."""
+
+    def __init__(self, terminal: Terminal, link: Link, editor: Editor):
+        self.terminal, self.link, self.editor = terminal, link, editor
+        self.told: List[str] = []  # what the host told while the screen hid standard error
+        self.ended_by = 0
+
+    def begin(self) -> bool:
+        """Waits for the host's stream. Returns whether it comes; why not is told."""
+        self.editor.begin()
+        self.link.send(self.terminal.take_out())
+        is_there = self.link.wait_for_stream(FIRST, self._hear_early)
+        for line in self.link.noise:
+            say(f"samterm: the host's command printed: {line}")
+        if is_there:
+            self.editor.feed(self.link.early)
+        if is_there and self.link.noise:
+            self.editor.notes.keep(1, f"the host's command printed: {self.link.noise[-1]}")
+        return is_there
+
+    def _hear_early(self, line: str) -> None:
+        say(line)
+        self.editor.hear(line)
+
+    def _hear(self, line: str) -> None:
+        self.told.append(line)
+        self.editor.hear(line)
+
+    def run(self) -> None:
+        """The user edits. An exception ends the session as well, and is raised again once all is told."""
+        try:
+            curses.wrapper(self._on_screen)
+        except curses.error:  # the screen is gone, and can't be set back
+            if not self.ended_by:
+                raise
+        finally:
+            self.status = self._end()
+
+    def _on_screen(self, window) -> None:
+        screen = Screen(window)
+        loop = Loop(self.terminal, self.link, screen, self.editor, self._hear)
+        try:
+            loop.run()
+        finally:
+            self.ended_by = loop.ended_by
+            screen.close()
+
+    def _end(self) -> int:
+        """Ends the link, and writes here what nobody has saved. Returns the exit status."""
+        keeping = self.editor.keeping
+        for line in self.told:
+            say(line)
+        self.told.clear()
+        status = None
+        with contextlib.suppress(KeyboardInterrupt):  # the user doesn't wait for the host any longer
+            status = self.link.close(self._hear)
+        for line in self.told:
+            say(line)
+        with contextlib.suppress(SamError):  # of a terminal that has stopped
+            say_all(self.editor.kept_here if self.editor.is_lost else keeping.keep_here())
+        if keeping.is_hopeless or status == STATUS_UNSAVED:
+            return STATUS_UNSAVED
+        if self.ended_by:
+            return STATUS_SIGNAL + self.ended_by
+        return STATUS_LOST if self.editor.is_lost else 0
+
+
+def edit(command: List[str], indents: bool = True, offers_files: bool = False, warnings: List[str] = ()) -> int:
+    """Runs a host by a command, and edits its files. Returns the exit status."""
+    with Terminal() as terminal:
+        editor = Editor(terminal, indents=indents)
+        editor.offers_files = offers_files
+        for line in warnings:
+            editor.notes.keep(1, line)
+        try:
+            link = Link(command)
+        except OSError as error:
+            say(f"samterm: {command[0]}: {error.strerror}")
+            return STATUS_NO_HOST
+        session = Session(terminal, link, editor)
+        if not session.begin():
+            link.close(say)
+            say(f"samterm: {shlex.join(command)}: the host doesn't answer")
+            return STATUS_NO_HOST
+        session.run()
+        return session.status
