@@ -19,14 +19,14 @@
  * UTF-8 (RFC 3629), and their lengths in bytes stand beside the pointer. The runes that a terminal draws go out as numbers. Names
  * and texts may hold NUL (U+0000) as they hold any other rune, and none is added at their end: go by the lengths.
  *
- * Handles. sam_host and sam_term are the caller's, on the stack or wherever he likes. A handle whose bytes are all zero is empty:
+ * Handles. sam_host and sam_term are the caller's, on the stack or wherever they like. A handle whose bytes are all zero is empty:
  * SAM_HOST_INIT and SAM_TERM_INIT are, and in C so is {0}. sam_host_new or sam_term_new makes it, and sam_host_free or sam_term_free
  * leaves it empty again. The caller doesn't read, change or copy a handle that is made. Readers take it without const, since each
  * call takes out what the handle holds and puts it back: two of them may not run at once.
  *
- * Status. Each call returns an enum sam_status, and hands other results out through pointers. After SAM_NO_HANDLE, SAM_NO_MEMORY
- * and SAM_NONE, and where a comment below says 'refused', what the pointers lead to is as it was. sam_status_text explains a status.
- * A handle that has stopped says why at each feed, be it one of no bytes.
+ * Status. Each call but sam_library_version and sam_status_text returns an enum sam_status, and hands other results out through
+ * pointers. After SAM_NO_HANDLE, SAM_NO_MEMORY and SAM_NONE, and where a comment below says 'refused', what the pointers lead to is as
+ * it was. A handle that has stopped says why at each feed, be it one of no bytes.
  *
  * Tags without a file. A tag that was never given and that of a file that was closed are alike. Asked about such a tag, the calls
  * that answer yes or no (sam_host_has_file, sam_term_is_known, _is_open, _is_changed) return SAM_OK and hand out false, and
