@@ -1,0 +1,5 @@
+use Rattle.sam_local.proofs.Lines as lemmas
+use Rattle.sam_local.proofs.laws.new_makes.Goals as goal
+
+pub returns : goal.returns
+returns c = lemmas.new_makes

@@ -1,0 +1,84 @@
+-- The editor without a network: each event of the user is carried through to its end before the next one begins.
+use Rattle.std.specs.Prelude.{ℕ, suc, false, List, [], ◌∷◌, ◌++◌, map, Option, Some, None, option_map}
+use Rattle.sam_runes.specs.Slots.{Slots}
+use Rattle.sam_runes.specs.Checks.{first_of_checks}
+use Rattle.sam_text.specs.Files.{PlainFiles, file_at}
+use Rattle.sam_host.specs.Host.{PlainHost, Reply, new_host}
+use Rattle.sam_mesg.specs.declared.tmesg.Tmesg.{Tmesg}
+use Rattle.sam_mesg.specs.declared.hmesg.Hmesg.{Hmesg}
+use Rattle.sam_term.specs.declared.records.Window.{Window}
+use Rattle.sam_term.specs.declared.records.KnownFile.{KnownFile}
+use Rattle.sam_term.specs.declared.event.UserEvent.{UserEvent}
+use Rattle.sam_term.specs.declared.event.Verdict.{Verdict}
+use Rattle.sam_term.specs.Windows.{blank_window}
+use Rattle.sam_term.specs.Term.{PlainTerminal, Made, new_terminal, event_checks, event_outcome, unsent_message}
+use Rattle.sam_crossing.specs.Fold.{answers}
+use Rattle.sam_crossing.specs.View.{effect}
+
+-- files with their texts, and windows that show them
+pub record PlainEditor : Type 0 where
+  pub host : PlainHost
+  pub term : PlainTerminal
+
+-- ## At rest
+
+-- a window that shows this whole text, with its dot and its view, and no lock
+abbrev pub whole_window : List ℕ → Window → Window
+whole_window text w = record blank_window { rasp = map Some text; dot = w.dot; view_start = w.view_start; view_length = w.view_length }
+
+abbrev pub whole_file : List ℕ → KnownFile → KnownFile
+whole_file text known = record known { window = option_map (whole_window text) known.window }
+
+-- the files of the terminal from tag f on, each open one with its whole text
+abbrev pub whole_slots : PlainFiles → ℕ → Slots KnownFile → Slots KnownFile
+whole_slots fs f [] = []
+whole_slots fs f (s ∷ ss) = option_map (whole_file (file_at fs f).text) s ∷ whole_slots fs (suc f) ss
+
+-- each window shows its whole text, nothing is unsent, held or locked, and messages are not counted
+abbrev pub at_rest : PlainHost → PlainTerminal → PlainEditor
+at_rest h t =
+    record {
+      host = record h { taken = 0 };
+      term = record t { files = whole_slots h.files 0 t.files; command_lock = false; unsent = None; held = []; sent = 0 };
+    }
+
+-- ## What is under way, carried through
+
+-- the terminal takes frames one after another, and composes nothing
+abbrev pub all_taken : PlainTerminal → List Hmesg → PlainTerminal
+all_taken t [] = t
+all_taken t (m ∷ ms) = all_taken (effect t m) ms
+
+-- the terminal takes the frames that were under way and then those of the answers
+abbrev pub answered_with : PlainHost → PlainTerminal → List Hmesg → Option Reply → PlainEditor
+answered_with h t down None = at_rest h t
+answered_with h t down (Some reply) = at_rest reply.0 (all_taken t (down ++ reply.1))
+
+-- What both sides come to where nothing new is begun: the host answers the messages that are under way to it and then the unsent runes,
+-- and the terminal takes all frames
+abbrev pub come_to : PlainHost → PlainTerminal → List Tmesg → List Hmesg → PlainEditor
+come_to h t up down = answered_with h t down (answers h (up ++ unsent_message t.unsent))
+
+-- ## Events
+
+-- what was made of an event is carried through, unless something stands against the event
+abbrev pub carried_unless : Option Verdict → PlainEditor → Made → PlainEditor
+carried_unless (Some why) editor made = editor
+carried_unless None editor made = come_to editor.host made.0 made.1 []
+
+-- the editor after an event of the user
+abbrev pub carried : PlainEditor → UserEvent → PlainEditor
+carried editor e = carried_unless (first_of_checks (event_checks editor.term e)) editor (event_outcome editor.term e)
+
+-- after events one after another
+abbrev pub carried_on : PlainEditor → List UserEvent → PlainEditor
+carried_on editor [] = editor
+carried_on editor (e ∷ es) = carried_on (carried editor e) es
+
+-- the editor with files of these names and texts
+abbrev pub new_editor : List (List ℕ × List ℕ) → PlainEditor
+new_editor given = at_rest (new_host given) new_terminal
+
+-- the editor with files of these names and texts, after these events
+abbrev pub carried_all : List (List ℕ × List ℕ) → List UserEvent → PlainEditor
+carried_all given es = carried_on (new_editor given) es

@@ -1,0 +1,154 @@
+//! The laws. Each is the clause of a function that does nothing: a caller who needs the law calls the function.
+//!
+//! First those of runs: every run of a world comes to what its events do to the editor without a network. Then what each of the 23 events
+//! of the user does to that editor, over its texts and dots alone. These hold of every editor to which events have led from files within
+//! the limits (`IsReached`), where nothing stands against the event (`May`); one that something stands against does nothing.
+ghost use Rattle.sam_local.specs.Worlds.{RunsAreAsIfLocal, RestIsAsIfLocal, OneRestForAll, WasAsIfLocal};
+ghost use Rattle.sam_local.specs.Editing.{RefusedDoesNothing, TypingReplaces, LineRuns, SelectSets, CutMoves, PasteReplaces, SnarfCopies, SetSnarfSets, GetSnarfFetches, EmptyDotKeeps, LookSelects, LookKeeps, SearchSelects, SendRuns, DclickSelects, ScrollShows, ViewShows, CheckAndFlushKeep, OpenOpens, CloseDrops, WriteSaves, WorkSets, CommandFileOpens, NewMakes, ExitEnds, VersionAgrees};
+
+use sam_world::World;
+
+/// Says that wherever a run stands, what the world comes to with no new event of the user is what the events that have acted so far, in
+/// their order, do to the editor without a network. These are all events of the run but those that are still held; an event that is
+/// refused does nothing there, too. An open file that is not locked is shown as that editor has it: its dot and its view, and its runes
+/// as far as they are loaded.
+///
+/// At rest, where nothing is unsent, under way or held, both sides are where all events of the run lead that editor, but for runes that
+/// are not loaded and for counts of messages: the texts, names, marks, saved copies, dots, snarf buffer, pattern, work file, version and
+/// end of the host, and the names, marks, dots, views, current file, pattern and snarfed text of the terminal. So two runs from the same
+/// files in which the user did the same, in the same order, differ in nothing else where they are at rest.
+#[tactic(auto, using(crate::proofs::Runs::runs_are_as_if_local, crate::proofs::Runs::rest_is_as_if_local, crate::proofs::Runs::one_rest_for_all))]
+pub fn runs_are_as_if_local()
+    ensures run { RunsAreAsIfLocal }
+    ensures rest { RestIsAsIfLocal }
+    ensures one { OneRestForAll }
+{}
+
+/// Says of this world that a run led to it from some files, and that what it comes to is what the events of the user that have acted in
+/// that run do to the editor without a network.
+#[tactic(auto, using(crate::proofs::Runs::was_as_if_local))]
+pub fn world_is_as_if_local(world: &World)
+    ensures { WasAsIfLocal world.now }
+{
+    world.facts();
+}
+
+/// Says that an event that something stands against changes nothing.
+#[tactic(auto, using(crate::proofs::Editing::refused_does_nothing))]
+pub fn refused_does_nothing()
+    ensures { RefusedDoesNothing }
+{}
+
+/// Says that typing puts its runes in the place of the dot, and the dot behind them, and leaves other files alone. Where they end a line
+/// of the command file, that line is run on the files as they are then: what it means is done.
+#[tactic(auto, using(crate::proofs::Lines::line_runs))]
+pub fn typing_replaces()
+    ensures text { TypingReplaces }
+    ensures line { LineRuns }
+{}
+
+/// Says that a select sets the dot.
+pub fn select_sets()
+    ensures { SelectSets }
+{}
+
+/// Says that a cut moves the text of the dot into the snarf buffer, and leaves other files alone.
+pub fn cut_moves()
+    ensures { CutMoves }
+{}
+
+/// Says that a paste puts the snarf buffer in the place of the dot, which then is what was pasted, and leaves other files alone.
+pub fn paste_replaces()
+    ensures { PasteReplaces }
+{}
+
+/// Says that a snarf copies the text of the dot into the snarf buffer.
+#[tactic(auto, using(crate::proofs::Editing::snarf_copies))]
+pub fn snarf_copies()
+    ensures { SnarfCopies }
+{}
+
+/// Says that the snarf buffer is what it is set to, and how much of it the terminal fetches.
+#[tactic(auto, using(crate::proofs::Editing::set_snarf_sets, crate::proofs::Looking::get_snarf_fetches))]
+pub fn snarf_buffer_is_set_and_fetched()
+    ensures set { SetSnarfSets }
+    ensures fetched { GetSnarfFetches }
+{}
+
+/// Says that where the dot is empty a cut, a snarf and a send change nothing.
+pub fn empty_dot_keeps()
+    ensures { EmptyDotKeeps }
+{}
+
+/// Says that a look selects the next place where the text of the dot stands, and makes it the pattern; where that text can't be a
+/// pattern, it changes nothing.
+#[tactic(auto, using(crate::proofs::Looking::look_keeps))]
+pub fn look_selects()
+    ensures found { LookSelects }
+    ensures none { LookKeeps }
+{}
+
+/// Says that a search selects the next place where the pattern stands.
+pub fn search_selects()
+    ensures { SearchSelects }
+{}
+
+/// Says that a double click selects the word at its place.
+pub fn dclick_selects()
+    ensures { DclickSelects }
+{}
+
+/// Says that a send prints the text of the dot as lines in the command file, and runs the last of them.
+#[tactic(auto, using(crate::proofs::Lines::send_runs))]
+pub fn send_runs()
+    ensures { SendRuns }
+{}
+
+/// Says what a view and a scroll show, and that a check and a flush change nothing, since all is loaded and sent.
+pub fn looking_changes_no_text()
+    ensures view { ViewShows }
+    ensures scroll { ScrollShows }
+    ensures keep { CheckAndFlushKeep }
+{}
+
+/// Says that a file that is opened is open and is the work file, and that the command file is open once it is opened.
+#[tactic(auto, using(crate::proofs::Lines::command_file_opens))]
+pub fn open_opens()
+    ensures file { OpenOpens }
+    ensures command { CommandFileOpens }
+{}
+
+/// Says that a new file stands under the next tag, and is the work file.
+pub fn new_makes()
+    ensures { NewMakes }
+{}
+
+/// Says that a file that is closed is gone.
+#[tactic(auto, using(crate::proofs::Editing::close_drops))]
+pub fn close_drops()
+    ensures { CloseDrops }
+{}
+
+/// Says that a file that is written is clean, and its text is saved.
+#[tactic(auto, using(crate::proofs::Editing::write_saves))]
+pub fn write_saves()
+    ensures { WriteSaves }
+{}
+
+/// Says that the work file is the one that was made so last.
+#[tactic(auto, using(crate::proofs::Editing::work_sets))]
+pub fn work_sets()
+    ensures { WorkSets }
+{}
+
+/// Says that an exit ends the session.
+#[tactic(auto, using(crate::proofs::Editing::exit_ends))]
+pub fn exit_ends()
+    ensures { ExitEnds }
+{}
+
+/// Says that a version that is offered is agreed on, as far as there is one.
+#[tactic(auto, using(crate::proofs::Editing::version_agrees))]
+pub fn version_agrees()
+    ensures { VersionAgrees }
+{}
