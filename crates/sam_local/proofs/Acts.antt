@@ -9,7 +9,7 @@ use Rattle.sam_term.specs.declared.event.Verdict.TheVariants.{Refuses}
 use Rattle.sam_term.specs.declared.fault.Refusal.{Refusal}
 use Rattle.sam_term.specs.Events.{about_dot}
 use Rattle.sam_term.specs.Editing.{cut_message}
-use Rattle.sam_term.specs.Term.{and_then, wanted, sends_if, view_end}
+use Rattle.sam_term.specs.Term.{made_then, wanted, sends_if, view_end}
 use Rattle.sam_crossing.proofs.Changes.{type_change, change_by, changed, IsAllowed}
 use Rattle.sam_crossing.proofs.Lenses.{IsFree}
 use Rattle.sam_crossing.proofs.Composing.{composes}
@@ -64,7 +64,7 @@ apart-cut t f s a = by (has_empty_dot t f) refl
 
 -- the cut of the dot, and then one message
 then-tail : (t : PlainTerminal) (f : ℕ) (next : PlainTerminal → Made) (m : Tmesg) → tail (next (cuts_dot t f).0) ≡ unsent_message (cuts_dot t f).0.unsent ++ m ∷ []
-    → tail (and_then (cuts_dot t f) next) ≡ unsent_message t.unsent ++ (cut_message f (window_at t f).dot ++ m ∷ [])
+    → tail (made_then (cuts_dot t f) next) ≡ unsent_message t.unsent ++ (cut_message f (window_at t f).dot ++ m ∷ [])
 then-tail t f next m e =
     let cut = cuts_dot t f in
     append_assoc cut.1 (next cut.0).1 (unsent_message (next cut.0).0.unsent) ∙ ap (λ (ms : List Tmesg). cut.1 ++ ms) e
@@ -198,7 +198,7 @@ module _ (h : PlainHost) (t : PlainTerminal) (up : List Tmesg) (down : List Hmes
       let e : UserEvent = Typed f (c ∷ s) in
       let one = Ttype y.file y.place (y.runes ++ c ∷ s) ∷ [] in
       let left : tail (event_outcome t e) ≡ one =
-      ap (λ (m : Made). tail (and_then m (λ u. types u f p (c ∷ s)))) (cuts-keep t f empty) ∙ types-joined t y f p (c ∷ s) eu file (omega (arith, place)) j in
+      ap (λ (m : Made). tail (made_then m (λ u. types u f p (c ∷ s)))) (cuts-keep t f empty) ∙ types-joined t y f p (c ∷ s) eu file (omega (arith, place)) j in
       let line : (up ++ unsent_message t.unsent) ++ Ttype f p (c ∷ s) ∷ [] ≡ (up ++ Ttype y.file y.place y.runes ∷ []) ++ Ttype y.file (y.place + length y.runes) (c ∷ s) ∷ [] =
       λ i. (up ++ unsent_message (eu i)) ++ Ttype (sym file i) (sym place i) (c ∷ s) ∷ [] in
       let folds : answers h ((up ++ unsent_message t.unsent) ++ told t e) ≡ Some (two.ahead, two.frames) =

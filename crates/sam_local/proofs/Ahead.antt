@@ -1,5 +1,5 @@
 -- Where both sides come to, and what is known of it while all is in order.
-use Rattle.sam_crossing.proofs.Common.{◌≡◌, ℕ, Bool, true, List, [], ◌∷◌, ◌++◌, ◌+◌, Option, Some, None, is_some, unwrap_or, option_map, refl, sym, ap, ◌∙◌, arith, same_Some, slot, slot-map, Tmesg, Trequest, Ttype, Hmesg, PlainHost, KnownFile, Window, Lock, NoLock, CommandLock, FileLock, lock_of, PlainTerminal, known_at, window_at, is_open, put_window, blank_window, composed, all_composed, flushed, unsent_message, Unsent, Lens, IsSettled, InOrder, at_file, action, run, view, effect, file_in}
+use Rattle.sam_crossing.proofs.Common.{◌≡◌, ℕ, Bool, true, List, [], ◌∷◌, ◌++◌, ◌+◌, Option, Some, None, is_some, unwrap_or, option_map, refl, sym, ap, ◌∙◌, arith, same_Some, slot, slot-map, Tmesg, Trequest, Ttype, Hmesg, PlainHost, KnownFile, Window, Lock, NoLock, CommandLock, FileLock, lock_of, PlainTerminal, known_at, window_at, is_open, put_window, blank_window, composed, all_composed, flushed, unsent_message, Unsent, Lens, IsSynced, InOrder, at_file, action, run, view, effect, file_in}
 use Rattle.sam_term.specs.Term.{lock_taken}
 use Rattle.sam_crossing.proofs.Lenses.{IsOpen}
 use Rattle.sam_crossing.proofs.Runs.{stepped}
@@ -28,7 +28,7 @@ module _ (h : PlainHost) (t : PlainTerminal) (up : List Tmesg) (down : List Hmes
   pub final-ahead : (g : ℕ) → (o.kept.each g).final ≡ view g term_ahead
   final-ahead g = same_Some _ _ (sym (o.kept.each g).runs ∙ run-ahead g)
 
-  pub settled-ahead : (g : ℕ) → IsSettled (view g term_ahead) o.kept.ahead.is_done o.kept.ahead.version (file_in o.kept.ahead.files.slots g)
+  pub settled-ahead : (g : ℕ) → IsSynced (view g term_ahead) o.kept.ahead.is_done o.kept.ahead.version (file_in o.kept.ahead.files.slots g)
   settled-ahead g = rw (final-ahead g) at (o.kept.each g).settled
 
   pub come-to-is : come_to h t up down ≡ at_rest o.kept.ahead term_ahead

@@ -1,5 +1,5 @@
 -- What stands against an event at the terminal stands against it ahead, and nothing else.
-use Rattle.sam_crossing.proofs.Common.{◌≡◌, ℕ, zero, suc, ◌+◌, ◌-◌, Bool, true, false, not, ◌||◌, ◌&&◌, if◌then◌else◌, List, [], ◌∷◌, ◌++◌, length, Option, Some, None, is_some, unwrap_or, refl, sym, ap, ◌∙◌, subst, inl, inr, ◌⊎◌, true≢false, arith, and_parts, same_Some, option_map, nat_lt, not-false, length-map, length_agrees, Checks, first_of_checks, Slots, slot, slot-map, PlainFiles, file_at, Tmesg, Hmesg, PlainHost, Window, KnownFile, UserEvent, PlainTerminal, known_at, window_at, is_known, is_open, is_any_locked, is_unknown, is_closed, is_file_locked, has_bad_place, makes_too_long, waits_for_all, is_bad_version, is_for_command_file, needs_open, event_checks, blank_known, blank_window, InOrder, Lens, Unknown, Known, Open, lens, IsSettled, file_in, view, at_file, max_runes}
+use Rattle.sam_crossing.proofs.Common.{◌≡◌, ℕ, zero, suc, ◌+◌, ◌-◌, Bool, true, false, not, ◌||◌, ◌&&◌, if◌then◌else◌, List, [], ◌∷◌, ◌++◌, length, Option, Some, None, is_some, unwrap_or, refl, sym, ap, ◌∙◌, subst, inl, inr, ◌⊎◌, true≢false, arith, and_parts, same_Some, option_map, nat_lt, not-false, length-map, length_agrees, Checks, first_of_checks, Slots, slot, slot-map, PlainFiles, file_at, Tmesg, Hmesg, PlainHost, Window, KnownFile, UserEvent, PlainTerminal, known_at, window_at, is_known, is_open, is_any_locked, is_unknown, is_closed, is_file_locked, has_bad_place, makes_too_long, waits_for_all, is_bad_version, is_for_command_file, needs_open, event_checks, blank_known, blank_window, InOrder, Lens, Unknown, Known, Open, lens, IsSynced, file_in, view, at_file, max_runes}
 use Rattle.sam_runes.specs.Texts.{snarf_limit, utf8_length}
 use Rattle.sam_term.specs.declared.event.UserEvent.TheVariants.{Typed, Select, Dclick, View, SetSnarf}
 use Rattle.sam_term.specs.declared.event.Verdict.{Verdict}
@@ -87,7 +87,7 @@ knows-alike t u f e = sym (seen t) ∙ ap (λ (x : PlainTerminal). is_known x f)
 alike-self : (v : Lens) → IsAlike v v
 alike-self v = grind arith
 
-pub agreed-length : (t : PlainTerminal) (fs : PlainFiles) (f : ℕ) (d : Bool) (n : ℕ) → IsSettled (view f t) d n (file_in fs.slots f) → is_open t f ≡ true
+pub agreed-length : (t : PlainTerminal) (fs : PlainFiles) (f : ℕ) (d : Bool) (n : ℕ) → IsSynced (view f t) d n (file_in fs.slots f) → is_open t f ≡ true
     → length (window_at t f).rasp ≡ length (file_at fs f).text
 agreed-length t fs f d n s o = grind (arith, length_agrees)
 
@@ -258,7 +258,7 @@ module _ (h : PlainHost) (t : PlainTerminal) (up : List Tmesg) (down : List Hmes
   pub length-rest : (f : ℕ) → IsFree (view f t) → is_open t f ≡ true → length (window_at term_rest f).rasp ≡ length (window_at t f).rasp
   length-rest f free open_here =
       ap (λ (w : Window). length w.rasp) (window-rest f free open_here) ∙ length-map (file_at o.kept.ahead.files f).text Some
-      ∙ sym (agreed-length t o.kept.ahead.files f _ _ (subst (λ (v : Lens). IsSettled v o.kept.ahead.is_done o.kept.ahead.version (file_in o.kept.ahead.files.slots f)) (still-ahead f free) (settled-ahead h t up down o f)) open_here)
+      ∙ sym (agreed-length t o.kept.ahead.files f _ _ (subst (λ (v : Lens). IsSynced v o.kept.ahead.is_done o.kept.ahead.version (file_in o.kept.ahead.files.slots f)) (still-ahead f free) (settled-ahead h t up down o f)) open_here)
 
   -- a file that the event needs open is open, and free
   abbrev IsHandy : UserEvent → Type 0

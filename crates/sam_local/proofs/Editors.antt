@@ -1,5 +1,5 @@
 -- Every editor that events lead to stands as both sides do where nothing is under way, and what an event does to it, by its messages.
-use Rattle.sam_crossing.proofs.Common.{◌≡◌, ℕ, ◌+◌, ◌≤◌, Bool, true, false, List, [], ◌∷◌, ◌++◌, length, map, Option, Some, None, is_some, unwrap_or, refl, sym, ap, ◌∙◌, subst, true≢false, arith, same_Some, option_map, not-false, ltb-false, append-nil, length-map, length-append, length-drop, length-take-le, slot, slot-map, slot-free_same, slot-free_other, Agrees, PartialText, load_cells, first_of_checks, Checks, PlainFiles, file_at, Tmesg, Hmesg, PlainHost, Reply, counted, reply_to, answers, reply_of, replied_then, Window, KnownFile, UserEvent, PlainTerminal, known_at, window_at, is_open, put_window, TermFault, frame_checks, event_checks, event_outcome, blank_window, Lens, Open, Fits_slot, HFile, Absent, Hidden, Named, Opened, Gone, IsSettled, InOrder, AllComeToSync, AreTidy, IsTidyWindow, at_file, action, run, effect, view, views, file_in, slot_of_window, took_bindname, took_data, took_grow, took_growdata, took_cut, took_unlockfile, took_close, took_exit}
+use Rattle.sam_crossing.proofs.Common.{◌≡◌, ℕ, ◌+◌, ◌≤◌, Bool, true, false, List, [], ◌∷◌, ◌++◌, length, map, Option, Some, None, is_some, unwrap_or, refl, sym, ap, ◌∙◌, subst, true≢false, arith, same_Some, option_map, not-false, ltb-false, append-nil, length-map, length-append, length-drop, length-take-le, slot, slot-map, slot-free_same, slot-free_other, Agrees, PartialText, load_cells, first_of_checks, Checks, PlainFiles, file_at, Tmesg, Hmesg, PlainHost, Reply, counted, reply_to, answers, reply_of, replied_then, Window, KnownFile, UserEvent, PlainTerminal, known_at, window_at, is_open, put_window, TermFault, frame_checks, event_checks, event_outcome, blank_window, Lens, Open, Fits_slot, HFile, Absent, Hidden, Named, Opened, Gone, IsSynced, InOrder, AllComeToSync, AreTidy, IsTidyWindow, at_file, action, run, effect, view, views, file_in, slot_of_window, took_bindname, took_data, took_grow, took_growdata, took_cut, took_unlockfile, took_close, took_exit}
 use Rattle.sam_runes.proofs.CheckLaws.{none_holds}
 use Rattle.sam_term.specs.Term.{past_end}
 use Rattle.sam_term.specs.declared.event.UserEvent.TheVariants.{Typed, View}
@@ -80,7 +80,7 @@ module _ (h : PlainHost) (t : PlainTerminal) (up : List Tmesg) (down : List Hmes
   abbrev rest_of : PlainTerminal
   rest_of = (at_rest o.kept.ahead (term_ahead h t up down o)).term
 
-  settled-rest : (g : ℕ) → IsSettled (view g rest_of) o.kept.ahead.is_done o.kept.ahead.version (file_in o.kept.ahead.files.slots g)
+  settled-rest : (g : ℕ) → IsSynced (view g rest_of) o.kept.ahead.is_done o.kept.ahead.version (file_in o.kept.ahead.files.slots g)
   settled-rest g =
       let s = settled-ahead h t up down o g in
       let z = term_ahead h t up down o in (
@@ -154,9 +154,9 @@ module _ (h : PlainHost) (t : PlainTerminal) (o : InOrder (rest h) (at_rest h t)
   abbrev term : PlainTerminal
   term = (at_rest h t).term
 
-  settled-here : (g : ℕ) → IsSettled (view g (at_rest h t).term) h.is_done h.version (file_in h.files.slots g)
+  settled-here : (g : ℕ) → IsSynced (view g (at_rest h t).term) h.is_done h.version (file_in h.files.slots g)
   settled-here g =
-      subst (λ (r : Reply). IsSettled (view g (all_taken (at_rest h t).term ([] ++ r.1))) r.0.is_done r.0.version (file_in r.0.files.slots g)) (sym (same_Some _ _ o.kept.folds))
+      subst (λ (r : Reply). IsSynced (view g (all_taken (at_rest h t).term ([] ++ r.1))) r.0.is_done r.0.version (file_in r.0.files.slots g)) (sym (same_Some _ _ o.kept.folds))
       (settled-ahead (rest h) (at_rest h t).term [] [] o g)
 
   pub open-here : (f : ℕ) → is_open t f ≡ is_open (at_rest h t).term f

@@ -3,7 +3,7 @@ use Rattle.sam_crossing.proofs.Common.{◌≡◌, ℕ, ◌+◌, ◌≤◌, Bool,
 use Rattle.sam_term.specs.declared.event.UserEvent.TheVariants.{Typed, Select, Cut, Paste, Snarf, Look, Search, Send, Dclick, Scroll, View, Open, Close, Write, Work, OpenCmd, New, Exit, Check, GetSnarf, SetSnarf, Version, Flush}
 use Rattle.sam_term.specs.Events.{about_dot, message_of}
 use Rattle.sam_term.specs.Editing.{cut_message}
-use Rattle.sam_term.specs.Term.{and_then, kept_unsent, wanted, sends_if}
+use Rattle.sam_term.specs.Term.{made_then, kept_unsent, wanted, sends_if}
 use Rattle.sam_crossing.proofs.Passing.{Passed}
 use Rattle.sam_crossing.proofs.Views.{unsent-flushed, unsent-composed}
 use Rattle.sam_local.specs.Local.{whole_window}
@@ -162,7 +162,7 @@ types-alters u f p s = sends_line (is_command_line f s) ∙ typed (kept_unsent u
     seen : IsSeen d
     seen = seen-turn (λ w. true) (typed_at p s) (λ w. refl) (λ w. refl)
 
-    kept : (b : Bool) → sight (turned (if b then (record u { unsent = Some (joined u.unsent f p s) }, []) else and_then (flushed u) (λ x. (record x { unsent = Some (joined None f p s) }, []))).0 f d) ≡ sight (turned u f d)
+    kept : (b : Bool) → sight (turned (if b then (record u { unsent = Some (joined u.unsent f p s) }, []) else made_then (flushed u) (λ x. (record x { unsent = Some (joined None f p s) }, []))).0 f d) ≡ sight (turned u f d)
     kept true = refl
     kept false = turned-alike (flushed u).0 u f d seen (sight-flushed u)
 
@@ -304,7 +304,7 @@ types-apart u f p s e = by (joins u.unsent f p s) e
     next x = let typed = typed_rasp x f p s in if is_command_line f s then flushed typed else (typed, [])
 
     by : (b : Bool) → b ≡ false
-        → tail (and_then (if b then (record u { unsent = Some (joined u.unsent f p s) }, []) else and_then (flushed u) (λ x. (record x { unsent = Some (joined None f p s) }, []))) next)
+        → tail (made_then (if b then (record u { unsent = Some (joined u.unsent f p s) }, []) else made_then (flushed u) (λ x. (record x { unsent = Some (joined None f p s) }, []))) next)
         ≡ unsent_message u.unsent ++ Ttype f p s ∷ []
     by true e = absurd (true≢false e)
     by false e =
@@ -321,7 +321,7 @@ types-joined u y f p s e ef l j = by (joins u.unsent f p s) j
     next x = let typed = typed_rasp x f p s in if is_command_line f s then flushed typed else (typed, [])
 
     by : (b : Bool) → b ≡ true
-        → tail (and_then (if b then (record u { unsent = Some (joined u.unsent f p s) }, []) else and_then (flushed u) (λ x. (record x { unsent = Some (joined None f p s) }, []))) next)
+        → tail (made_then (if b then (record u { unsent = Some (joined u.unsent f p s) }, []) else made_then (flushed u) (λ x. (record x { unsent = Some (joined None f p s) }, []))) next)
         ≡ Ttype y.file y.place (y.runes ++ s) ∷ []
     by true q = typed-tail (record u { unsent = Some (joined u.unsent f p s) }) (joined (Some y) f p s) f p s (ap (λ (o : Option Unsent). Some (joined o f p s)) e) ef l (is_command_line f s)
     by false q = absurd (true≢false (sym q))

@@ -2,7 +2,7 @@
 use Rattle.sam_crossing.proofs.Common.{◌≡◌, ℕ, Bool, true, false, List, [], ◌∷◌, Option, Some, None, if◌then◌else◌, refl, ◌∙◌, arith, Tmesg, Tversion, Tstartcmdfile, Tcheck, Torigin, Tstartfile, Tworkfile, Tcut, Tpaste, Tsnarf, Tstartnewfile, Twrite, Tclose, Tlook, Tsearch, Tsend, Tdclick, Tstartsnarf, Tsetsnarf, Tack, Texit, Hmesg, Hcheck, Hunlockfile, Hack, UserEvent, PlainTerminal, window_at, put_window, has_empty_dot, cut_rasp, cuts_dot, composed, flushed, sends, unchanged, requested, joins, joined, typed_rasp, types, is_command_line, event_outcome, frame_outcome, made_by_type, made_by_cut, made_by_paste, made_by_snarf, made_by_view, took_bindname, took_data, took_grow, took_growdata, took_cut, took_unlockfile, took_close, took_exit}
 use Rattle.sam_term.specs.declared.event.UserEvent.TheVariants.{Typed, Select, Cut, Paste, Snarf, Look, Search, Send, Dclick, Scroll, View, Open, Close, Write, Work, OpenCmd, New, Exit, Check, GetSnarf, SetSnarf, Version, Flush}
 use Rattle.sam_term.specs.Events.{about_dot}
-use Rattle.sam_term.specs.Term.{and_then, kept_unsent, wanted, sends_if}
+use Rattle.sam_term.specs.Term.{made_then, kept_unsent, wanted, sends_if}
 use Rattle.sam_term.proofs.Edits.{flushed-held}
 
 composed-held : (t : PlainTerminal) (m : Tmesg) → (composed t m).held ≡ t.held
@@ -25,7 +25,7 @@ types-held u f p s = line (is_command_line f s) ∙ kept (joins u.unsent f p s)
     line true = flushed-held (typed_rasp (kept_unsent u f p s).0 f p s)
     line false = refl
 
-    kept : (b : Bool) → (if b then (record u { unsent = Some (joined u.unsent f p s) }, []) else and_then (flushed u) (λ x. (record x { unsent = Some (joined None f p s) }, []))).0.held ≡ u.held
+    kept : (b : Bool) → (if b then (record u { unsent = Some (joined u.unsent f p s) }, []) else made_then (flushed u) (λ x. (record x { unsent = Some (joined None f p s) }, []))).0.held ≡ u.held
     kept true = refl
     kept false = flushed-held u
 

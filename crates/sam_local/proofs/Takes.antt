@@ -1,5 +1,5 @@
 -- The terminal takes a frame: both sides come to what they came to before.
-use Rattle.sam_crossing.proofs.Common.{◌≡◌, ℕ, ◌+◌, min, Bool, true, false, not, ◌&&◌, if◌then◌else◌, List, [], ◌∷◌, ◌++◌, length, Option, Some, None, is_some, option_map, refl, sym, ap, ◌∙◌, arith, append_assoc, append-nil, same_Some, part, most_in_message, first_of_checks, file_at, PlainFiles, Tmesg, Trequest, Tack, Hmesg, Hdata, Hunlockfile, Hcheck, PlainHost, Reply, NoFile, NotOpen, counted, host_checks, reply_to, reply_request, when, answers, reply_of, replied_then, Window, lock_of, KnownFile, PlainTerminal, known_at, window_at, is_open, put_window, frame_outcome, composed, flushed, unsent_message, Unsent, InOrder, IsHeldBack, OpenAt, Anything, IsSettled, Lens, is_crossing, action, at_file, effect, view, views, file_in, took_bindname, took_data, took_grow, took_growdata, took_cut, took_unlockfile, took_close, took_exit}
+use Rattle.sam_crossing.proofs.Common.{◌≡◌, ℕ, ◌+◌, min, Bool, true, false, not, ◌&&◌, if◌then◌else◌, List, [], ◌∷◌, ◌++◌, length, Option, Some, None, is_some, option_map, refl, sym, ap, ◌∙◌, arith, append_assoc, append-nil, same_Some, part, most_in_message, first_of_checks, file_at, PlainFiles, Tmesg, Trequest, Tack, Hmesg, Hdata, Hunlockfile, Hcheck, PlainHost, Reply, NoFile, NotOpen, counted, host_checks, reply_to, reply_request, when, answers, reply_of, replied_then, Window, lock_of, KnownFile, PlainTerminal, known_at, window_at, is_open, put_window, frame_outcome, composed, flushed, unsent_message, Unsent, InOrder, IsHeldBack, OpenAt, Anything, IsSynced, Lens, is_crossing, action, at_file, effect, view, views, file_in, took_bindname, took_data, took_grow, took_growdata, took_cut, took_unlockfile, took_close, took_exit}
 use Rattle.sam_term.specs.Term.{sends_if, wanted, request_for}
 use Rattle.sam_crossing.specs.Fold.{behind, replied}
 use Rattle.sam_crossing.specs.View.{composed_for}
@@ -49,7 +49,7 @@ open-sight t f = ap (λ (x : KnownFile). is_some x.window) (known-sight t f) ∙
     mapped (Some w) = refl
 
 -- what a settled lens says of its file
-pub settled-open : (t : PlainTerminal) (fs : PlainFiles) (f : ℕ) (d : Bool) (n : ℕ) → IsSettled (view f t) d n (file_in fs.slots f)
+pub settled-open : (t : PlainTerminal) (fs : PlainFiles) (f : ℕ) (d : Bool) (n : ℕ) → IsSynced (view f t) d n (file_in fs.slots f)
     → is_open t f ≡ (file_at fs f).opened
 settled-open t fs f d n s = grind arith
 
