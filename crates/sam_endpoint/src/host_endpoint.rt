@@ -326,11 +326,8 @@ impl HostEndpoint {
     fn write_answer(&mut self) -> Result<(), EndpointFault<HostStop>>
         ensures { Writes self.old result self.new }
     {
-        if self
-            .pending_bytes
-            .put_frames(self.unwritten.as_slice())
-            .is_err()
-        {
+        let written = self.pending_bytes.put_frames(self.unwritten.as_slice());
+        if written.is_err() {
             return Err(EndpointFault::Unfinished);
         }
         self.unwritten.clear();
