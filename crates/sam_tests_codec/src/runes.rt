@@ -169,7 +169,10 @@ fn new_at_the_limit(alloc: Global) -> Option<([Result<(), TextFault>; 4], u32)> 
 fn limit_of_runes(rt: HostRuntime) {
     let told = new_at_the_limit(rt.alloc());
     let too_long = Err(TextFault::TooLong);
-    assert_eq!(rt; told, Some(([too_long, Ok(()), too_long, too_long], MAX_RUNES)));
+    assert_eq!(rt;
+        told,
+        Some(([too_long, Ok(()), too_long, too_long], MAX_RUNES))
+    );
 }
 
 /// How many bytes 4,095 runes of one byte and one of two have, and how many of the runes 4,096 bytes hold.
