@@ -95,7 +95,7 @@ static int take_part_of_access(int file, const char *like)
 
 /* ---- New files ---- */
 
-/* Has a file have just a text, and waits until the disk has it. */
+/* Has a file have just a text. */
 static int fill(int file, const struct text *text)
 {
     for (size_t at = 0; at < text->len;) {
@@ -104,7 +104,13 @@ static int fill(int file, const struct text *text)
             return count < 0 ? errno : EIO;
         at += (size_t)count;
     }
-    return ftruncate(file, (off_t)text->len) == 0 && fsync(file) == 0 ? 0 : errno;
+    return ftruncate(file, (off_t)text->len) == 0 ? 0 : errno;
+}
+
+/* Waits until the disk has a file that was written, unless something went wrong before. */
+static int sync_written(int file, int error)
+{
+    return error == 0 && fsync(file) != 0 ? errno : error;
 }
 
 /* Closes a file that was written. What went wrong before counts more. */
@@ -202,12 +208,12 @@ static int make_copy(const struct text *text, const char *path, const char *like
 
     if (error != 0)
         return error;
-    error = take_part_of_access(file, like);
+    error = fill(file, text);
     if (error == 0)
-        error = fill(file, text);
+        error = take_part_of_access(file, like);
     if (error == 0 && fstat(file, &made) != 0)
         error = errno;
-    error = close_written(file, error);
+    error = close_written(file, sync_written(file, error));
     if (error == 0) {
         copy->device = made.st_dev;
         copy->inode = made.st_ino;
@@ -284,11 +290,10 @@ static int put_new(struct request *request, const struct stat *old)
     int file, error = make_temporary(request->path, &temporary, &file);
 
     if (error == 0) {
-        if (old != NULL)
-            error = take_access(file, old);
-        else if (fchmod(file, request->mode) != 0)
-            error = errno;
-        error = close_written(file, error != 0 ? error : fill(file, request->text));
+        error = fill(file, request->text); /* before its mode is set: a write takes some of it */
+        if (error == 0)
+            error = old != NULL ? take_access(file, old) : fchmod(file, request->mode) != 0 ? errno : 0;
+        error = close_written(file, sync_written(file, error));
     }
     if (error == 0 && !may_replace(request, content_at(request->path)))
         error = IS_CHANGED;
@@ -300,7 +305,21 @@ static int put_new(struct request *request, const struct stat *old)
     return error;
 }
 
-/* Writes into an open file, which has `old`. Where that fails, it gets `old` back; where that fails, too, `old` stays where it is kept. */
+/* Has an open file have another text, and its mode, and waits until the disk has it. */
+static int fill_again(int file, const struct text *text)
+{
+    struct stat before, after;
+
+    if (fstat(file, &before) != 0)
+        return errno;
+    int error = fill(file, text);
+    if (error == 0 && fstat(file, &after) == 0 && after.st_mode != before.st_mode)
+        fchmod(file, before.st_mode & 07777); /* where that may not be, nobody gets more by it */
+    return sync_written(file, error);
+}
+
+/* Writes into an open file, which has `old`, unless that has changed by now. Where the write fails, the file gets `old` back; where that
+ * fails, too, `old` stays where it is kept. */
 static int write_over(struct request *request, int file, const struct text *old)
 {
     struct copy kept;
@@ -308,8 +327,12 @@ static int write_over(struct request *request, int file, const struct text *old)
 
     if (error != 0)
         return error;
-    error = fill(file, request->text);
-    if (error != 0 && fill(file, old) != 0) {
+    request->found = content_at(request->path);
+    if (!is_same(request->found, kept.content))
+        error = IS_CHANGED;
+    else
+        error = fill_again(file, request->text);
+    if (error != 0 && error != IS_CHANGED && fill_again(file, old) != 0) {
         request->old = kept.path;
         return error;
     }

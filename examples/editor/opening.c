@@ -217,7 +217,7 @@ static bool is_of(const char *path, const struct folder *folder, const char *ent
     return is_of && strlen(base) == len && strncmp(base, entry, len) == 0;
 }
 
-/* Reports a copy where it is one of a file of the session, as it is named or behind symbolic links. */
+/* Reports a copy where it is one of a file of the session, as it is named or as its symbolic links name it. */
 static void report_copy(struct session *session, const struct folder *folder, const char *entry, size_t len, bool is_old)
 {
     size_t tags = 0;
@@ -257,12 +257,12 @@ struct seen {
     size_t count;
 };
 
-/* Looks through a folder, unless that was done. */
-static void report_folder(struct session *session, struct seen *seen, char *path, bool is_temporary)
+/* Looks through a folder, unless that was done. Returns whether the folder is there. */
+static bool report_folder(struct session *session, struct seen *seen, char *path, bool is_temporary)
 {
     struct stat status;
     const char *name = path == NULL || *path != '\0' ? path : ".";
-    bool is_new = name != NULL && stat(name, &status) == 0;
+    bool is_there = name != NULL && stat(name, &status) == 0, is_new = is_there;
 
     for (size_t at = 0; is_new && at < seen->count; at++)
         is_new = seen->folders[at].device != status.st_dev || seen->folders[at].inode != status.st_ino;
@@ -275,6 +275,7 @@ static void report_folder(struct session *session, struct seen *seen, char *path
         seen->folders[seen->count++] = folder;
     }
     free(path);
+    return is_there;
 }
 
 void report_left(struct session *session)
@@ -292,7 +293,7 @@ void report_left(struct session *session)
         report_folder(session, &seen, folder_of(session->documents[tag].known->path), false);
     }
     report_folder(session, &seen, formatted(""), false);
-    for (int which = 0; which < 2; which++)
-        report_folder(session, &seen, temporary_folder(which), true);
+    if (!report_folder(session, &seen, temporary_folder(0), true))
+        report_folder(session, &seen, temporary_folder(1), true);
     free(seen.folders);
 }

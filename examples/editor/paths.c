@@ -17,7 +17,7 @@ enum {
     ROOM_FIRST = 65536 /* bytes that a file is expected to have */
 };
 
-/* FNV-1a of 64 bits. It has to tell two contents of one file apart, not to withstand an attack. */
+/* FNV-1a of 64 bits. It has to show that a file has changed, not to withstand an attack. */
 #define HASH_START UINT64_C(0xcbf29ce484222325)
 #define HASH_FACTOR UINT64_C(0x100000001b3)
 
@@ -48,6 +48,9 @@ char *folder_of(const char *path)
 void base_of(const char *path, char base[BASE_ROOM])
 {
     const char *slash = strrchr(path, '/'), *last = slash == NULL ? path : slash + 1;
+
+    if (*last == '\0') /* a copy of this name would be hidden */
+        last = "unnamed";
     size_t len = strlen(last);
 
     if (len >= BASE_ROOM) {
