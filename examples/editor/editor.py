@@ -390,6 +390,7 @@ class Editor(Actions):
         """Does what a key says. A question is over then: the key answers it, or takes it back."""
         key = pressed.key
         if self.is_lost and not self._is_for_menu(key) and action_of(key) not in READING:
+            self.keeping.typed_late += key.runes if isinstance(key, (Text, Paste)) else ""
             return
         self._answered, self._acting = pressed.answers, key
         self.notes.take(pressed.when)

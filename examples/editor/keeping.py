@@ -21,6 +21,7 @@ class Keeping:
         self.editor, self.terminal = editor, editor.terminal
         self.unwritten: Dict[int, bool] = {}  # files whose last write failed; whether that write is answered
         self.is_hopeless = False  # a text could not be saved anywhere
+        self.typed_late = ""  # what was typed when the host was lost already
         self._writing: set = set()  # files whose write is not answered
         self._changes: Counter = Counter()  # of each file
         self._written: Dict[int, int] = {}  # how many of them there were at the last write
@@ -74,14 +75,14 @@ class Keeping:
         if self.terminal.is_open(tag):
             self._dropped[self.name(tag)] = rescue.loaded(self.terminal, tag)
 
-    def keep_here(self) -> List[str]:
+    def keep_here(self, trusts: bool = True) -> List[str]:
         """Writes to files of this machine what nobody has saved, as far as it is loaded, and what was typed and still waits. Returns what
-        to tell of them."""
+        to tell of them. Where the host may not have got all that was sent, what it has saved may lack something."""
         texts, self._dropped = self._dropped, {}
         waiting = self.editor.typed_ahead
         for tag in self.terminal.files():
             is_typed = bool(waiting) and tag == self.editor.active.tag
-            is_safe = self._saved.get(tag) == self._changes[tag] and not is_typed
+            is_safe = trusts and self._saved.get(tag) == self._changes[tag] and not is_typed
             if tag != 0 and self.terminal.is_open(tag) and not is_safe and (self.editor.is_changed(tag) or is_typed):
                 more = f"\n[typed, and not put in yet:]\n{waiting}" if is_typed else ""
                 texts[self.name(tag)] = rescue.loaded(self.terminal, tag) + more
@@ -89,6 +90,11 @@ class Keeping:
         if waiting and self.editor.active.tag == 0:
             texts["typed"] = waiting
         return [self._kept(name, text) for name, text in texts.items()]
+
+    def keep_late(self) -> List[str]:
+        """The same of what was typed when the host was lost already: some of it before the user could know."""
+        text, self.typed_late = self.typed_late, ""
+        return [self._kept("typed", text)] if text else []
 
     def _kept(self, name: str, text: str) -> str:
         path = rescue.keep(name, text)

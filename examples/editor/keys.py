@@ -1,4 +1,5 @@
 """The keys: what each does."""
+from itertools import groupby
 from typing import Dict, List, NamedTuple, Union
 
 
@@ -15,15 +16,15 @@ BINDINGS = (
     Binding(("Esc",), "switch", "goes to the command window, and back to the file"),
     Binding(("^P", "F6"), "next_window", "goes to the next window"),
     Binding(("^O", "F2"), "menu", "menu of files: arrows choose, Enter opens, Esc goes back"),
-    Binding(("^T", "F3"), "split", "another window, for the next file that no window shows"),
+    Binding(("^T", "F3"), "split", "another window, for the next file without one"),
     Binding(("^Y", "F4"), "unsplit", "takes the window off the screen; its file stays open"),
     Binding(("F8",), "small", "makes the command window small, and large again"),
     Binding(("F5",), "redraw", "draws the screen anew"),
     Binding(("^\\", "F12"), "suspend", "goes back to the shell, until its `fg`"),
     Binding(("^N",), "new", "makes a new file; the command line `f NAME` names it"),
     Binding(("^W",), "write", "writes the file"),
-    Binding(("^K",), "close", "closes the file for good; asks first if it was not written"),
-    Binding(("^Q",), "leave", "leaves; asks first if a file was not written"),
+    Binding(("^K",), "close", "closes the file for good; asks if it was not written"),
+    Binding(("^Q",), "leave", "leaves; asks if a file was not written"),
     Binding(("^Z",), "undo", "takes back the last change"),
     Binding(("^R",), "redo", "makes again what was taken back"),
     Binding(("^X",), "cut", "cuts the selection"),
@@ -31,25 +32,25 @@ BINDINGS = (
     Binding(("^V",), "paste", "pastes what was cut or copied last"),
     Binding(("^A",), "select_all", "selects the whole file"),
     Binding(("^D",), "word", "selects the word; so does a double click"),
-    Binding(("^S", "F7"), "find", "finds as you type; Down and Up: next and previous; Enter asks the host"),
-    Binding(("^L",), "look", "looks for the next place where the selected text stands"),
+    Binding(("^S", "F7"), "find", "finds as you type; Enter has the host look"),
+    Binding(("^L",), "look", "looks for the next place of the selected text"),
     Binding(("^F",), "search", "searches the last pattern again"),
     Binding(("^B",), "search_back", "searches it above, in what is loaded"),
     Binding(("^E",), "send", "runs the selection as a command line"),
-    Binding(("Backspace",), "erase_left", "erases the selection, or the character before it"),
-    Binding(("Delete",), "erase_right", "erases the selection, or the character after it"),
-    Binding(("Left",), "left", "moves; with Shift it selects"),
-    Binding(("Right",), "right", "moves; with Shift it selects"),
-    Binding(("Up",), "up", "moves; with Shift it selects"),
-    Binding(("Down",), "down", "moves; with Shift it selects"),
-    Binding(("^Left", "Alt-b"), "word_left", "goes to the start of the word; with Shift it selects"),
-    Binding(("^Right", "Alt-f"), "word_right", "goes to the end of the word; with Shift it selects"),
-    Binding(("Home",), "home", "goes to the start of the line; with Shift it selects"),
-    Binding(("End",), "end", "goes to the end of the line; with Shift it selects"),
-    Binding(("^Home",), "first", "goes to the start of the file"),
-    Binding(("^End",), "last", "goes to the end of the file"),
-    Binding(("Page Up",), "page_up", "shows what stands above; the selection stays"),
-    Binding(("Page Down",), "page_down", "shows what stands below; the selection stays"),
+    Binding(("Backspace",), "erase_left", "erase the selection, or a character"),
+    Binding(("Delete",), "erase_right", "erase the selection, or a character"),
+    Binding(("Left",), "left", "move; with Shift they select"),
+    Binding(("Right",), "right", "move; with Shift they select"),
+    Binding(("Up",), "up", "move; with Shift they select"),
+    Binding(("Down",), "down", "move; with Shift they select"),
+    Binding(("^Left", "Alt-b"), "word_left", "by words, the same"),
+    Binding(("^Right", "Alt-f"), "word_right", "by words, the same"),
+    Binding(("Home",), "home", "to the ends of the line, the same"),
+    Binding(("End",), "end", "to the ends of the line, the same"),
+    Binding(("^Home",), "first", "to the ends of the file"),
+    Binding(("^End",), "last", "to the ends of the file"),
+    Binding(("Page Up",), "page_up", "show what stands above or below; the selection stays"),
+    Binding(("Page Down",), "page_down", "show what stands above or below; the selection stays"),
 )
 
 ACTIONS: Dict[str, str] = {key: binding.action for binding in BINDINGS for key in binding.keys}
@@ -86,5 +87,9 @@ Input = Union[Text, Paste, Key, Mouse]
 
 
 def table() -> List[str]:
-    """The lines of the help window."""
-    return [f"{' or '.join(binding.keys):16} {binding.help}" for binding in BINDINGS]
+    """The lines of the help window; keys of which the same is said stand in one."""
+    lines = []
+    for words, bindings in groupby(BINDINGS, key=lambda binding: binding.help):
+        keys = ", ".join(" or ".join(binding.keys) for binding in bindings)
+        lines.append(f"{keys:21} {words}")
+    return lines

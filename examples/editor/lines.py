@@ -67,10 +67,10 @@ class Numbers:
         """The line of a place, counted from 1; None where it is not known."""
         for start, line in (self._known.get(tag, (0, 1)), (0, 1)):
             low, high = sorted((start, place))
-            if high - low <= MOST_COUNTED:
-                text = self.texts.read(tag, low, high - low)
-                if GAP not in text:
-                    line += text.count("\n") if start <= place else -text.count("\n")
-                    self._known[tag] = (place, line)
-                    return line
+            gap = self.texts.terminal.first_gap(tag, low)
+            if high - low <= MOST_COUNTED and (gap is None or gap >= high):
+                count = self.texts.read(tag, low, high - low).count("\n")
+                line += count if start <= place else -count
+                self._known[tag] = (place, line)
+                return line
         return None

@@ -9,6 +9,7 @@ HINT = "F1 or ^G shows the keys"
 
 # What a host says of a text. Of a write that failed it says in the same line what became of the text.
 LOST = re.compile(r"the text of (.*) is lost: |(.*) is closed, and its text can't be saved: ")
+UNSAFE = re.compile(r"the text of .* can't be saved aside: ")
 FAILED = re.compile(r"\? write (?:file (\d+)|(.*?)): ")
 IS_IN = "; its text is in "
 SAVED = re.compile(r"(.*) was not written" + IS_IN)
@@ -32,7 +33,7 @@ def said(line: str) -> Said:
         return Said(rank, what, found[2] or "", int(found[1]) if found[1] else None)
     if found := SAVED.match(words):
         return Said(1, "saved", found[1])
-    return Said(int(words != line))
+    return Said(2 if UNSAFE.match(words) else int(words != line))
 
 
 class Notes:

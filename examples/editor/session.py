@@ -80,13 +80,18 @@ class Session:
         for line in self.told:
             say(line)
         self.told.clear()
-        status = None
+        status, has_all = None, False
+        with contextlib.suppress(SamError):  # of a terminal that has stopped
+            self.terminal.flush_now()
+            self.link.send(self.terminal.take_out())
+            has_all = self.terminal.under_way == 0
         with contextlib.suppress(KeyboardInterrupt):  # the user doesn't wait for the host any longer
             status = self.link.close(self._hear)
         for line in self.told:
             say(line)
-        with contextlib.suppress(SamError):  # of a terminal that has stopped
-            say_all(self.editor.kept_here if self.editor.is_lost else keeping.keep_here())
+        with contextlib.suppress(SamError):
+            say_all(self.editor.kept_here if self.editor.is_lost else keeping.keep_here(has_all or status == 0))
+        say_all(keeping.keep_late())
         if keeping.is_hopeless or status == STATUS_UNSAVED:
             return STATUS_UNSAVED
         if self.ended_by:

@@ -5,6 +5,7 @@ from sulgrevad import Terminal
 from texts import GAP, Change, Texts
 
 MOST_STEPS = 10_000  # steps that are kept of a file
+MOST_TYPED = 80  # runes that are taken back at once, of those typed one behind the other
 
 
 class Step:
@@ -29,6 +30,8 @@ class Step:
         if not self.changes or self.kind != kind:
             return False
         last = self.changes[-1]
+        if len(last.came) >= MOST_TYPED:
+            return False
         return start == end == last.place + len(last.came) if kind == "type" else last.place in (start, end)
 
 
