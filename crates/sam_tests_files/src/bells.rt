@@ -11,10 +11,10 @@ use std::time::{Clock, Duration, Instant};
 use std::{io, thread};
 
 /// How often an end is woken.
-const WAKES: u64 = 12;
+const WAKES: u64 = 30;
 
 /// How many of these wakes have to come soon.
-const MANY: u64 = 8;
+const MANY: u64 = 18;
 
 /// Soon, in microseconds: a quarter of the longest sleep of an end.
 const SOON: u64 = 6_400;
