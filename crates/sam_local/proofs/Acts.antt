@@ -1,15 +1,17 @@
 -- An event that acts does where both sides come to what it does to the editor without a network.
-use Rattle.sam_crossing.proofs.Common.{◌≡◌, ℕ, ◌+◌, ◌≤◌, Bool, true, false, not, ◌==◌, ◌&&◌, if◌then◌else◌, List, [], ◌∷◌, ◌++◌, length, map, Option, Some, None, is_some, refl, sym, ap, ◌∙◌, subst, inl, inr, ◌⊎◌, ◌≢◌, true≢false, arith, and_parts, same_Some, nat_lt, nat_le, not-false, eqb-true, ltb-false, append_assoc, append-nil, max_runes, most_in_message, first_of_checks, file_at, Tmesg, Tversion, Tstartcmdfile, Tcheck, Torigin, Tstartfile, Tworkfile, Ttype, Tcut, Tpaste, Tsnarf, Tstartnewfile, Twrite, Tclose, Tlook, Tsearch, Tsend, Tdclick, Tstartsnarf, Tsetsnarf, Texit, Hmesg, PlainHost, Reply, answers, CommandLock, NoLock, Window, KnownFile, Unsent, is_command_line, UserEvent, PlainTerminal, Made, known_at, window_at, is_open, is_any_locked, put_window, has_empty_dot, cut_rasp, cuts_dot, moved_unsent, place_after_del, composed, flushed, unsent_message, sends, unchanged, requested, joins, types, event_checks, event_outcome, made_by_type, made_by_cut, made_by_paste, made_by_snarf, made_by_view, InOrder, AllComeToSync, IsHeldBack, views, view}
+use Rattle.sam_crossing.proofs.Common.{◌≡◌, ℕ, ◌+◌, ◌≤◌, Bool, true, false, not, ◌==◌, ◌&&◌, if◌then◌else◌, List, [], ◌∷◌, ◌++◌, length, map, Option, Some, None, is_some, option_map, refl, sym, ap, ◌∙◌, subst, inl, inr, ◌⊎◌, ◌≢◌, true≢false, arith, and_parts, same_Some, nat_lt, nat_le, not-false, eqb-true, ltb-false, append_assoc, append-nil, max_runes, most_in_message, first_of_checks, file_at, Tmesg, Tversion, Tstartcmdfile, Tcheck, Torigin, Tstartfile, Tworkfile, Ttype, Tcut, Tpaste, Tsnarf, Tstartnewfile, Twrite, Tclose, Tlook, Tsearch, Tsend, Tdclick, Tstartsnarf, Tsetsnarf, Texit, Hmesg, PlainHost, Reply, answers, CommandLock, NoLock, Window, KnownFile, Unsent, is_command_line, UserEvent, PlainTerminal, Made, known_at, window_at, is_open, is_any_locked, put_window, has_empty_dot, cut_rasp, cuts_dot, moved_unsent, place_after_del, composed, flushed, unsent_message, sends, unchanged, requested, joins, types, event_checks, event_outcome, made_by_type, made_by_cut, made_by_paste, made_by_snarf, made_by_view, made_by_load, all_wanted, gaps_shown, requests_for, sends_all, all_composed, InOrder, AllComeToSync, IsHeldBack, views, view}
 use Rattle.std.proofs.lemmas.List.{take-map, drop-map}
 use Rattle.sam_runes.proofs.CheckLaws.{if-same}
 use Rattle.sam_rasp.specs.Rasp.{hole_within, first_gaps}
-use Rattle.sam_term.specs.declared.event.UserEvent.TheVariants.{Typed, Select, Cut, Paste, Snarf, Look, Search, Send, Dclick, Scroll, View, Open, Close, Write, Work, OpenCmd, New, Exit, Check, GetSnarf, SetSnarf, Version, Flush}
+use Rattle.sam_term.specs.declared.event.UserEvent.TheVariants.{Typed, Select, Cut, Paste, Snarf, Look, Search, Send, Dclick, Scroll, View, Load, Open, Close, Write, Work, OpenCmd, New, Exit, Check, GetSnarf, SetSnarf, Version, Flush}
 use Rattle.sam_term.specs.declared.event.Verdict.{Verdict}
 use Rattle.sam_term.specs.declared.event.Verdict.TheVariants.{Refuses}
 use Rattle.sam_term.specs.declared.fault.Refusal.{Refusal}
 use Rattle.sam_term.specs.Events.{about_dot}
 use Rattle.sam_term.specs.Editing.{cut_message}
-use Rattle.sam_term.specs.Term.{made_then, wanted, sends_if, view_end}
+use Rattle.sam_term.specs.Term.{made_then, wanted, sends_if, view_end, stretches, front_of, most_requests}
+use Rattle.sam_term.proofs.Edits.{unsent-all}
+use Rattle.sam_term.proofs.Loads.{stretches-none}
 use Rattle.sam_crossing.proofs.Changes.{type_change, change_by, changed, IsAllowed}
 use Rattle.sam_crossing.proofs.Lenses.{IsFree}
 use Rattle.sam_crossing.proofs.Composing.{composes}
@@ -19,9 +21,9 @@ use Rattle.sam_local.specs.Local.{PlainEditor, whole_window, at_rest, all_taken,
 use Rattle.sam_local.proofs.Sights.{sight, sight-rest, rests, turned}
 use Rattle.sam_local.proofs.Frames.{turn, sight-taken, taken-append, known-put_other, cases}
 use Rattle.sam_local.proofs.Folds.{Parted, parted}
-use Rattle.sam_local.proofs.Ahead.{term_ahead, settled-ahead, come-to-is, window-put, sight-flushed}
+use Rattle.sam_local.proofs.Ahead.{term_ahead, settled-ahead, come-to-is, window-put, opened-put, sight-flushed}
 use Rattle.sam_local.proofs.Steps.{answered-alike}
-use Rattle.sam_local.proofs.Takes.{wanted-is, fits-flushed, settled-open, silent-asked, sends-silent}
+use Rattle.sam_local.proofs.Takes.{wanted-is, fits-flushed, settled-open, silent-asked, sends-silent, sends-requests}
 use Rattle.sam_local.proofs.Gentle.{CleansGuarded, AreGentle, past-frames}
 use Rattle.sam_local.proofs.Uncounted.{rest, rested, answers-rested, answered-rested}
 use Rattle.sam_local.proofs.Joined.{joined-answers}
@@ -43,12 +45,19 @@ wanted-none v f text e =
     ap (λ r. hole_within r (window_at v f).view_start (view_end (window_at v f))) e ∙ no-hole text (window_at v f).view_start (view_end (window_at v f)) in
     rw hole (if-same _ None)
 
+pub no-gaps-shown : (v : PlainTerminal) (f : ℕ) (text : List ℕ) → (window_at v f).rasp ≡ map Some text → gaps_shown v f ≡ []
+no-gaps-shown v f text e =
+    let w = window_at v f in
+    ap (λ r. stretches r w.view_start (view_end w) most_requests) e
+    ∙ stretches-none (map Some text) w.view_start (view_end w) most_requests (sym (ap (option_map front_of) (no-hole text w.view_start (view_end w))))
+
 -- ## What is left for the host, where no runes join and nothing is asked for
 
 abbrev pub IsApart : PlainTerminal → UserEvent → Type 0
 IsApart t (Typed f []) = Unit {0}
 IsApart t (Typed f (c ∷ s)) = has_empty_dot t f ≡ true → joins t.unsent f (window_at t f).dot.0 (c ∷ s) ≡ false
 IsApart t (View f a n) = wanted (put_window t f (record (window_at t f) { view_start = a; view_length = n })) f ≡ None
+IsApart t (Load f a n) = gaps_shown (put_window t f (record (window_at t f) { view_start = a; view_length = n })) f ≡ []
 IsApart t _ = Unit {0}
 
 cuts-keep : (t : PlainTerminal) (f : ℕ) → has_empty_dot t f ≡ true → cuts_dot t f ≡ (t, [])
@@ -72,7 +81,7 @@ then-tail t f next m e =
     ∙ append_assoc (unsent_message t.unsent) (cut_message f (window_at t f).dot) (m ∷ [])
 
 pub tail-apart : (t : PlainTerminal) (e : UserEvent) → IsApart t e → tail (event_outcome t e) ≡ unsent_message t.unsent ++ told t e
-unfolding made_by_type made_by_cut made_by_paste made_by_snarf made_by_view requested flushed
+unfolding made_by_type made_by_cut made_by_paste made_by_snarf made_by_view made_by_load all_wanted requested flushed
 tail-apart t (Typed f []) a = ap (λ (ms : List Tmesg). ms ++ unsent_message (cuts_dot t f).0.unsent) (append-nil (cuts_dot t f).1) ∙ cuts-tail t f
 tail-apart t (Typed f (c ∷ s)) a =
     let p = (window_at t f).dot.0 in
@@ -107,6 +116,9 @@ tail-apart t (Snarf f) a = by (has_empty_dot t f)
     by true = sym (append-nil (unsent_message t.unsent))
     by false = sent-tail t (Tsnarf f p q)
 tail-apart t (View f a n) x = ap (λ (o : Option Tmesg). tail (sends_if o (put_window t f (record (window_at t f) { view_start = a; view_length = n })))) x ∙ sym (append-nil (unsent_message t.unsent))
+tail-apart t (Load f a n) x =
+    ap (λ (xs : List (ℕ × ℕ)). tail (sends_all (requests_for f xs) (put_window t f (record (window_at t f) { view_start = a; view_length = n })))) x
+    ∙ sym (append-nil (unsent_message t.unsent))
 tail-apart t Flush a = ap (λ (o : Option Unsent). unsent_message t.unsent ++ unsent_message o) (unsent-flushed t)
 tail-apart t (SetSnarf s) a = sent-tail t (Tsetsnarf s)
 tail-apart t (Look f) a = sent-tail t (about_dot t.files f Tlook)
@@ -220,7 +232,7 @@ module _ (h : PlainHost) (t : PlainTerminal) (up : List Tmesg) (down : List Hmes
       by None eu true j = absurd (true≢false (sym (sym (ap (λ (u : Option Unsent). joins u f p (c ∷ s)) eu) ∙ j)))
       by u eu false j = came-apart h t up down (Typed f (c ∷ s)) pass (λ x. j) n
 
--- ## A view for which a request is composed
+-- ## A view for which requests are composed
 
 -- a turn opens no file, and closes none
 turned-open : (z : PlainTerminal) (f : ℕ) (x : Window → Bool) (y : Window → Window) (g : ℕ) → is_open z f ≡ true → is_open (turned z f (turn x y)) g ≡ is_open z g
@@ -231,6 +243,18 @@ turned-open z f x y g o = by (cases f g)
     by (inr n) = ap (λ (k : KnownFile). is_some k.window) (known-put_other z f g (turn x y (known_at z f)) n)
 
 module _ (h : PlainHost) (t : PlainTerminal) (up : List Tmesg) (down : List Hmesg) (o : InOrder h t up down) (cleans : (f : ℕ) → CleansGuarded f down) where
+  -- both sides have the same files open where what is under way has been taken
+  shown-opens : (f a n : ℕ) → IsFree (view f t) → is_open t f ≡ true → (g : ℕ)
+      → is_open (all_taken (flushed (altered t (View f a n))).0 (down ++ o.kept.frames)) g ≡ (file_at o.kept.ahead.files g).opened
+  shown-opens f a n free open_here g =
+      let v = altered t (View f a n) in
+      let y : Window → Window = λ w. record w { view_start = a; view_length = n } in
+      opens-alike (all_taken (flushed v).0 (down ++ o.kept.frames)) (all_taken v (down ++ o.kept.frames)) g (sight-taken (down ++ o.kept.frames) (flushed v).0 v (sight-flushed v))
+      ∙ opens-alike (all_taken v (down ++ o.kept.frames)) (turned (term_ahead h t up down o) f (turn (λ w. false) y)) g
+      (past-frames f (λ w. false) y (down ++ o.kept.frames) t (gentle-ahead h t up down o cleans f free))
+      ∙ turned-open (term_ahead h t up down o) f (λ w. false) y g (open-ahead h t up down o cleans f free ∙ open_here)
+      ∙ settled-open (term_ahead h t up down o) o.kept.ahead.files g _ _ (settled-ahead h t up down o g)
+
   came-viewed : (f a n : ℕ) → Passed t (View f a n) → (x : Tmesg) → wanted (put_window t f (record (window_at t f) { view_start = a; view_length = n })) f ≡ Some x
       → InOrder h (event_outcome t (View f a n)).0 (up ++ (event_outcome t (View f a n)).1) down → Came h t up down (View f a n)
   unfolding made_by_view requested
@@ -242,16 +266,8 @@ module _ (h : PlainHost) (t : PlainTerminal) (up : List Tmesg) (down : List Hmes
       z : PlainTerminal
       z = all_taken (flushed v).0 (down ++ o.kept.frames)
 
-      free : IsFree (view f t)
-      free = free_at t f pass.free pass.unlocked
-
       opens : (g : ℕ) → is_open z g ≡ (file_at o.kept.ahead.files g).opened
-      opens g =
-          opens-alike z (all_taken v (down ++ o.kept.frames)) g (sight-taken (down ++ o.kept.frames) (flushed v).0 v (sight-flushed v))
-          ∙ opens-alike (all_taken v (down ++ o.kept.frames)) (turned (term_ahead h t up down o) f (turn (λ w. false) (λ w. record w { view_start = a; view_length = n }))) g
-          (past-frames f (λ w. false) (λ w. record w { view_start = a; view_length = n }) (down ++ o.kept.frames) t (gentle-ahead h t up down o cleans f free))
-          ∙ turned-open (term_ahead h t up down o) f (λ w. false) (λ w. record w { view_start = a; view_length = n }) g (open-ahead h t up down o cleans f free ∙ not-false (is_open t f) pass.opened)
-          ∙ settled-open (term_ahead h t up down o) o.kept.ahead.files g _ _ (settled-ahead h t up down o g)
+      opens = shown-opens f a n (free_at t f pass.free pass.unlocked) (not-false (is_open t f) pass.opened)
 
       line : List Tmesg
       line = up ++ ((flushed v).1 ++ x ∷ [])
@@ -270,6 +286,38 @@ module _ (h : PlainHost) (t : PlainTerminal) (up : List Tmesg) (down : List Hmes
           (silent-asked o.kept.ahead z v x (wanted-is v f x e) opens)
           ∙ ap (λ (q : Option Tmesg). come_to h (sends_if q v).0 (up ++ (sends_if q v).1) down) (sym e)
 
+  came-loaded : (f a n : ℕ) → Passed t (Load f a n) → (x : ℕ × ℕ) (xs : List (ℕ × ℕ))
+      → gaps_shown (put_window t f (record (window_at t f) { view_start = a; view_length = n })) f ≡ x ∷ xs
+      → InOrder h (event_outcome t (Load f a n)).0 (up ++ (event_outcome t (Load f a n)).1) down → Came h t up down (Load f a n)
+  unfolding made_by_load all_wanted
+  came-loaded f a n pass x xs e later = record { comes = sym asked ∙ ap (λ (ms : List Tmesg). answered_with h v down (answers h ms)) (sym (append-nil (up ++ unsent_message t.unsent))); reply = (o.kept.ahead, o.kept.frames); folds = ap (answers h) (append-nil (up ++ unsent_message t.unsent)) ∙ o.kept.folds }
+    where
+      v : PlainTerminal
+      v = altered t (Load f a n)
+
+      ms : List Tmesg
+      ms = requests_for f (x ∷ xs)
+
+      line : List Tmesg
+      line = up ++ ((flushed v).1 ++ ms)
+
+      sent : InOrder h (all_composed (flushed v).0 ms) line down
+      sent = subst (λ (m : Made). InOrder h m.0 (up ++ m.1) down) (ap (λ (gaps : List (ℕ × ℕ)). sends_all (requests_for f gaps) v) e) later
+
+      both : answers h line ≡ Some (sent.kept.ahead, sent.kept.frames)
+      both =
+          sym (ap (λ (u : Option Unsent). answers h (line ++ unsent_message u)) (unsent-all (flushed v).0 ms ∙ unsent-flushed v) ∙ ap (answers h) (append-nil line))
+          ∙ sent.kept.folds
+
+      open_there : is_open (flushed v).0 f ≡ true
+      open_there = opens-alike (flushed v).0 v f (sight-flushed v) ∙ opened-put t f (record (window_at t f) { view_start = a; view_length = n })
+
+      asked : come_to h v up down ≡ come_to h (event_outcome t (Load f a n)).0 (up ++ (event_outcome t (Load f a n)).1) down
+      asked =
+          sends-requests h v f (x ∷ xs) up down (o.kept.ahead, o.kept.frames) (sent.kept.ahead, sent.kept.frames) open_there o.kept.folds both
+          (shown-opens f a n (free_at t f pass.free pass.unlocked) (not-false (is_open t f) pass.opened) f)
+          ∙ ap (λ (gaps : List (ℕ × ℕ)). come_to h (sends_all (requests_for f gaps) v).0 (up ++ (sends_all (requests_for f gaps) v).1) down) (sym e)
+
   came : (e : UserEvent) → Passed t e → InOrder h (event_outcome t e).0 (up ++ (event_outcome t e).1) down → Came h t up down e
   came (Typed f []) p n = came-apart h t up down (Typed f []) p tt n
   came (Typed f (c ∷ s)) p n = by (has_empty_dot t f) refl
@@ -282,6 +330,11 @@ module _ (h : PlainHost) (t : PlainTerminal) (up : List Tmesg) (down : List Hmes
       by : (x : Option Tmesg) → wanted (put_window t f (record (window_at t f) { view_start = a; view_length = k })) f ≡ x → Came h t up down (View f a k)
       by None e = came-apart h t up down (View f a k) p e n
       by (Some x) e = came-viewed f a k p x e n
+  came (Load f a k) p n = by (gaps_shown (put_window t f (record (window_at t f) { view_start = a; view_length = k })) f) refl
+    where
+      by : (xs : List (ℕ × ℕ)) → gaps_shown (put_window t f (record (window_at t f) { view_start = a; view_length = k })) f ≡ xs → Came h t up down (Load f a k)
+      by [] e = came-apart h t up down (Load f a k) p e n
+      by (x ∷ xs) e = came-loaded f a k p x xs e n
   came e p n = came-apart h t up down e p tt n
 
   -- ## Ahead
@@ -298,6 +351,7 @@ module _ (h : PlainHost) (t : PlainTerminal) (up : List Tmesg) (down : List Hmes
   gentle-turn (Cut f) p = gentle-ahead h t up down o cleans f (free_at t f p.free p.unlocked)
   gentle-turn (Paste f) p = gentle-ahead h t up down o cleans f (free_at t f p.free p.unlocked)
   gentle-turn (View f a n) p = gentle-ahead h t up down o cleans f (free_at t f p.free p.unlocked)
+  gentle-turn (Load f a n) p = gentle-ahead h t up down o cleans f (free_at t f p.free p.unlocked)
   gentle-turn e p = tt
 
   past-all : (u : Option Turning) → IsGentleTurn u → sight (all_taken (altered_by t u) (down ++ o.kept.frames)) ≡ sight (altered_by (term_ahead h t up down o) u)
@@ -332,6 +386,12 @@ module _ (h : PlainHost) (t : PlainTerminal) (up : List Tmesg) (down : List Hmes
       let u = term_rest h t up down o cleans in
       let w : Window = record (window_at u f) { view_start = a; view_length = n } in
       wanted-none (put_window u f w) f (file_at o.kept.ahead.files f).text
+      (ap (λ (x : Window). x.rasp) (window-put u f w)
+      ∙ ap (λ (x : Window). x.rasp) (window-rest h t up down o cleans f (free_at t f p.free p.unlocked) (not-false (is_open t f) p.opened)))
+  apart-rest (Load f a n) p =
+      let u = term_rest h t up down o cleans in
+      let w : Window = record (window_at u f) { view_start = a; view_length = n } in
+      no-gaps-shown (put_window u f w) f (file_at o.kept.ahead.files f).text
       (ap (λ (x : Window). x.rasp) (window-put u f w)
       ∙ ap (λ (x : Window). x.rasp) (window-rest h t up down o cleans f (free_at t f p.free p.unlocked) (not-false (is_open t f) p.opened)))
   apart-rest e p = tt

@@ -2,7 +2,7 @@
 use Rattle.sam_crossing.proofs.Common.{◌≡◌, ℕ, ◌+◌, ◌≤◌, Bool, true, false, List, [], ◌∷◌, ◌++◌, length, map, Option, Some, None, is_some, unwrap_or, refl, sym, ap, ◌∙◌, subst, true≢false, arith, same_Some, option_map, not-false, ltb-false, append-nil, length-map, length-append, length-drop, length-take-le, slot, slot-map, slot-free_same, slot-free_other, Agrees, PartialText, load_cells, first_of_checks, Checks, PlainFiles, file_at, Tmesg, Hmesg, PlainHost, Reply, counted, reply_to, answers, reply_of, replied_then, Window, KnownFile, UserEvent, PlainTerminal, known_at, window_at, is_open, put_window, TermFault, frame_checks, event_checks, event_outcome, blank_window, Lens, Open, Fits_slot, HFile, Absent, Hidden, Named, Opened, Gone, IsSynced, InOrder, AllComeToSync, AreTidy, IsTidyWindow, at_file, action, run, effect, view, views, file_in, slot_of_window, took_bindname, took_data, took_grow, took_growdata, took_cut, took_unlockfile, took_close, took_exit}
 use Rattle.sam_runes.proofs.CheckLaws.{none_holds}
 use Rattle.sam_term.specs.Term.{past_end}
-use Rattle.sam_term.specs.declared.event.UserEvent.TheVariants.{Typed, View}
+use Rattle.sam_term.specs.declared.event.UserEvent.TheVariants.{Typed, View, Load}
 use Rattle.sam_term.specs.declared.event.Verdict.{Verdict}
 use Rattle.sam_crossing.specs.Fold.{behind}
 use Rattle.sam_crossing.specs.View.{slot_of}
@@ -20,7 +20,7 @@ use Rattle.sam_local.proofs.Ahead.{term_ahead, settled-ahead, come-to-is, window
 use Rattle.sam_local.proofs.Checks.{slot-whole, rest-window, agreed-length}
 use Rattle.sam_local.proofs.Uncounted.{rest}
 use Rattle.sam_local.proofs.Events.{altered, opens-alike, told}
-use Rattle.sam_local.proofs.Acts.{IsApart, came-apart, wanted-none}
+use Rattle.sam_local.proofs.Acts.{IsApart, came-apart, wanted-none, no-gaps-shown}
 
 -- ## Dots stay in their texts
 
@@ -168,6 +168,10 @@ module _ (h : PlainHost) (t : PlainTerminal) (o : InOrder (rest h) (at_rest h t)
   apart-here (View f a n) p =
       let w : Window = record (window_at term f) { view_start = a; view_length = n } in
       wanted-none (put_window term f w) f (file_at h.files f).text
+      (ap (λ (x : Window). x.rasp) (window-put term f w) ∙ ap (λ (x : Window). x.rasp) (rest-window h t f (open-here f ∙ not-false (is_open term f) p.opened)))
+  apart-here (Load f a n) p =
+      let w : Window = record (window_at term f) { view_start = a; view_length = n } in
+      no-gaps-shown (put_window term f w) f (file_at h.files f).text
       (ap (λ (x : Window). x.rasp) (window-put term f w) ∙ ap (λ (x : Window). x.rasp) (rest-window h t f (open-here f ∙ not-false (is_open term f) p.opened)))
   apart-here e p = tt
 

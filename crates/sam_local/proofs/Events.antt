@@ -1,6 +1,6 @@
 -- What an event changes at the terminal, and what it leaves for the host.
-use Rattle.sam_crossing.proofs.Common.{◌≡◌, ℕ, ◌+◌, ◌≤◌, Bool, true, false, not, ◌==◌, ◌||◌, if◌then◌else◌, List, [], ◌∷◌, ◌++◌, length, map, Option, Some, None, is_some, unwrap_or, refl, sym, ap, ◌∙◌, true≢false, arith, append_assoc, append-nil, not-false, eq-eqb, Tmesg, Tversion, Tstartcmdfile, Tcheck, Torigin, Tstartfile, Tworkfile, Ttype, Tcut, Tpaste, Tsnarf, Tstartnewfile, Twrite, Tclose, Tlook, Tsearch, Tsend, Tdclick, Tstartsnarf, Tsetsnarf, Texit, Lock, FileLock, lock_of, Window, KnownFile, Unsent, is_command_line, UserEvent, PlainTerminal, Made, known_at, window_at, is_open, put_known, put_window, window_after_ins, window_after_del, has_empty_dot, cut_rasp, cuts_dot, moved_unsent, flushed, unsent_message, sends, unchanged, requested, joins, joined, typed_rasp, types, event_outcome, made_by_type, made_by_cut, made_by_paste, made_by_snarf, made_by_view, blank_window, place_after_del}
-use Rattle.sam_term.specs.declared.event.UserEvent.TheVariants.{Typed, Select, Cut, Paste, Snarf, Look, Search, Send, Dclick, Scroll, View, Open, Close, Write, Work, OpenCmd, New, Exit, Check, GetSnarf, SetSnarf, Version, Flush}
+use Rattle.sam_crossing.proofs.Common.{◌≡◌, ℕ, ◌+◌, ◌≤◌, Bool, true, false, not, ◌==◌, ◌||◌, if◌then◌else◌, List, [], ◌∷◌, ◌++◌, length, map, Option, Some, None, is_some, unwrap_or, refl, sym, ap, ◌∙◌, true≢false, arith, append_assoc, append-nil, not-false, eq-eqb, Tmesg, Tversion, Tstartcmdfile, Tcheck, Torigin, Tstartfile, Tworkfile, Ttype, Tcut, Tpaste, Tsnarf, Tstartnewfile, Twrite, Tclose, Tlook, Tsearch, Tsend, Tdclick, Tstartsnarf, Tsetsnarf, Texit, Lock, FileLock, lock_of, Window, KnownFile, Unsent, is_command_line, UserEvent, PlainTerminal, Made, known_at, window_at, is_open, put_known, put_window, window_after_ins, window_after_del, has_empty_dot, cut_rasp, cuts_dot, moved_unsent, flushed, unsent_message, sends, unchanged, requested, joins, joined, typed_rasp, types, event_outcome, made_by_type, made_by_cut, made_by_paste, made_by_snarf, made_by_view, made_by_load, all_wanted, gaps_shown, requests_for, sends_all, blank_window, place_after_del}
+use Rattle.sam_term.specs.declared.event.UserEvent.TheVariants.{Typed, Select, Cut, Paste, Snarf, Look, Search, Send, Dclick, Scroll, View, Load, Open, Close, Write, Work, OpenCmd, New, Exit, Check, GetSnarf, SetSnarf, Version, Flush}
 use Rattle.sam_term.specs.Events.{about_dot, message_of}
 use Rattle.sam_term.specs.Editing.{cut_message}
 use Rattle.sam_term.specs.Term.{made_then, kept_unsent, wanted, sends_if}
@@ -9,8 +9,8 @@ use Rattle.sam_crossing.proofs.Views.{unsent-flushed, unsent-composed}
 use Rattle.sam_local.specs.Local.{whole_window}
 use Rattle.sam_local.proofs.Sights.{sight, IsSeen, turned}
 use Rattle.sam_local.proofs.Frames.{IsSeenWindow, bare-window, in_window, sight-turned, together, turn, known-put_same}
-use Rattle.sam_local.proofs.Ahead.{sight-window, LockFits, sight-composed, sight-flushed}
-use Rattle.sam_local.proofs.Takes.{open-sight, wanted-is, fits-flushed}
+use Rattle.sam_local.proofs.Ahead.{sight-window, opened-put, LockFits, sight-composed, sight-flushed}
+use Rattle.sam_local.proofs.Takes.{open-sight, wanted-is, fits-flushed, sight-requests}
 
 -- ## Turns
 
@@ -41,6 +41,7 @@ turn_of (Select f p q) = Some (record { file = f; mark = λ w. false; window = �
 turn_of (Cut f) = Some (record { file = f; mark = is_cut; window = cut_window })
 turn_of (Paste f) = Some (record { file = f; mark = is_cut; window = cut_window })
 turn_of (View f p n) = Some (record { file = f; mark = λ w. false; window = λ w. record w { view_start = p; view_length = n } })
+turn_of (Load f p n) = Some (record { file = f; mark = λ w. false; window = λ w. record w { view_start = p; view_length = n } })
 turn_of _ = None
 
 abbrev pub altered_by : PlainTerminal → Option Turning → PlainTerminal
@@ -73,6 +74,7 @@ seen-turns (Select f p q) = ((λ w. refl), (λ w. refl))
 seen-turns (Cut f) = ((λ w. refl), seen-cut)
 seen-turns (Paste f) = ((λ w. refl), seen-cut)
 seen-turns (View f p n) = ((λ w. refl), (λ w. refl))
+seen-turns (Load f p n) = ((λ w. refl), (λ w. refl))
 seen-turns _ = tt
 
 pub seen-turn : (x : Window → Bool) (y : Window → Window) → ((w : Window) → x (whole_window [] w) ≡ x w) → IsSeenWindow y → IsSeen (turn x y)
@@ -170,8 +172,12 @@ types-alters u f p s = sends_line (is_command_line f s) ∙ typed (kept_unsent u
 file-open : (t : PlainTerminal) (f : ℕ) → not (is_open t f) ≡ false → is_open t f ≡ true
 file-open t f e = not-false (is_open t f) e
 
+all-alters : (v : PlainTerminal) (f : ℕ) (xs : List (ℕ × ℕ)) → is_open v f ≡ true → sight (sends_all (requests_for f xs) v).0 ≡ sight v
+all-alters v f [] o = refl
+all-alters v f (x ∷ xs) o = sight-requests (flushed v).0 f (x ∷ xs) (opens-alike (flushed v).0 v f (sight-flushed v) ∙ o) ∙ sight-flushed v
+
 pub event-alters : (t : PlainTerminal) (e : UserEvent) → Passed t e → sight (event_outcome t e).0 ≡ sight (altered t e)
-unfolding made_by_type made_by_cut made_by_paste made_by_snarf made_by_view requested
+unfolding made_by_type made_by_cut made_by_paste made_by_snarf made_by_view made_by_load all_wanted requested
 event-alters t (Typed f []) p = cuts-alters t f (file-open t f p.opened)
 event-alters t (Typed f (c ∷ s)) p =
     let at = (window_at t f).dot.0 in
@@ -214,6 +220,9 @@ event-alters t (View f a n) p = by (wanted v f) refl
     by : (o : Option Tmesg) → wanted v f ≡ o → sight (sends_if o v).0 ≡ sight v
     by None e = refl
     by (Some x) e = sight-composed (flushed v).0 x (fits-flushed v x (wanted-is v f x e)) ∙ sight-flushed v
+event-alters t (Load f a n) p =
+    let v = put_window t f (record (window_at t f) { view_start = a; view_length = n }) in
+    all-alters v f (gaps_shown v f) (opened-put t f (record (window_at t f) { view_start = a; view_length = n }))
 event-alters t Flush p = sight-flushed t
 event-alters t (SetSnarf s) p = sent-alters t (Tsetsnarf s) tt
 event-alters t (Send f) p = sent-alters t (about_dot t.files f Tsend) tt

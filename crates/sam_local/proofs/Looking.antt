@@ -1,11 +1,11 @@
 -- Events that only look, and those that find nothing to do.
 use Rattle.sam_crossing.proofs.Common.{◌≡◌, ℕ, ◌-◌, true, false, ◌==◌, [], ◌∷◌, Option, Some, None, refl, ap, ◌∙◌, not-false, part, may_look, first_of_checks, file_at, Tcheck, Torigin, Tlook, Tsend, Tstartsnarf, Hunlock, Hunlockfile, PlainHost, Reply, reply_to, reply_look, reply_send, reply_origin, reply_check, reply_startsnarf, Window, UserEvent, PlainTerminal, window_at, is_open, put_window, effect, took_unlockfile, event_checks, event_outcome, InOrder}
 use Rattle.sam_runes.specs.Texts.{lines_before, prefix_in_bytes, snarf_limit}
-use Rattle.sam_term.specs.declared.event.UserEvent.TheVariants.{Cut, Snarf, Send, Look, Scroll, View, Check, GetSnarf, Flush}
+use Rattle.sam_term.specs.declared.event.UserEvent.TheVariants.{Cut, Snarf, Send, Look, Scroll, View, Load, Check, GetSnarf, Flush}
 use Rattle.sam_term.specs.declared.event.Verdict.{Verdict}
 use Rattle.sam_crossing.proofs.Passing.{passed}
 use Rattle.sam_local.specs.Local.{PlainEditor, whole_window, at_rest, all_taken, carried_unless, carried}
-use Rattle.sam_local.specs.Editing.{text_in, dot_in, snarf_in, May, EmptyDotKeeps, LookKeeps, CheckAndFlushKeep, ViewShows, ScrollShows, GetSnarfFetches}
+use Rattle.sam_local.specs.Editing.{text_in, dot_in, snarf_in, May, EmptyDotKeeps, LookKeeps, CheckAndFlushKeep, ViewShows, LoadShows, ScrollShows, GetSnarfFetches}
 use Rattle.sam_local.proofs.Sights.{sight, sight-rest, rests, turned}
 use Rattle.sam_local.proofs.Frames.{turn}
 use Rattle.sam_local.proofs.Ahead.{sight-window, window-put, opened-put}
@@ -68,6 +68,17 @@ module _ (h : PlainHost) (t : PlainTerminal) (o : InOrder (rest h) (at_rest h t)
     unfolding reply_check
     check-keeps may = after-one h t o (Check f) (Tcheck f) may refl ∙ back (at_rest h t).term refl
 
+    load-shows : (p n : ℕ) → May (at_rest h t) (Load f p n) → let v = window_at (carried (at_rest h t) (Load f p n)).term f in
+        (v.view_start ≡ p) × (v.view_length ≡ n) × (v.dot ≡ w.dot) × ((carried (at_rest h t) (Load f p n)).host ≡ (at_rest h t).host)
+    load-shows p n may =
+        let x = (at_rest h t).term in
+        let y : Window → Window = λ w. record w { view_start = p; view_length = n } in
+        let is = after-none h t o (Load f p n) may refl in
+        let there : window_at (carried (at_rest h t) (Load f p n)).term f ≡ whole_window (file_at h.files f).text (y w) =
+        ap (λ (z : PlainEditor). window_at z.term f) is ∙ rest-window (rest h) (turned x f (turn (λ w. false) y)) f (opened-turned x f (λ w. false) y)
+        ∙ ap (whole_window (file_at h.files f).text) (window-turned x f (λ w. false) y) in
+        (ap (λ (z : Window). z.view_start) there, ap (λ (z : Window). z.view_length) there, ap (λ (z : Window). z.dot) there, ap (λ (z : PlainEditor). z.host) is)
+
     view-shows : (p n : ℕ) → May (at_rest h t) (View f p n) → let v = window_at (carried (at_rest h t) (View f p n)).term f in
         (v.view_start ≡ p) × (v.view_length ≡ n) × (v.dot ≡ w.dot) × ((carried (at_rest h t) (View f p n)).host ≡ (at_rest h t).host)
     view-shows p n may =
@@ -127,6 +138,13 @@ view_shows editor f p n r =
     (λ x. May x (View f p n) → let w = window_at (carried x (View f p n)).term f in
     (w.view_start ≡ p) × (w.view_length ≡ n) × (w.dot ≡ dot_in x f) × ((carried x (View f p n)).host ≡ x.host))
     (λ h t o. view-shows h t o f p n) editor r
+
+pub load_shows : LoadShows
+load_shows editor f p n r =
+    reached
+    (λ x. May x (Load f p n) → let w = window_at (carried x (Load f p n)).term f in
+    (w.view_start ≡ p) × (w.view_length ≡ n) × (w.dot ≡ dot_in x f) × ((carried x (Load f p n)).host ≡ x.host))
+    (λ h t o. load-shows h t o f p n) editor r
 
 pub scroll_shows : ScrollShows
 scroll_shows editor f n r =

@@ -1,5 +1,5 @@
 -- The terminal takes a frame: both sides come to what they came to before.
-use Rattle.sam_crossing.proofs.Common.{◌≡◌, ℕ, ◌+◌, min, Bool, true, false, not, ◌&&◌, if◌then◌else◌, List, [], ◌∷◌, ◌++◌, length, Option, Some, None, is_some, option_map, refl, sym, ap, ◌∙◌, arith, append_assoc, append-nil, same_Some, part, most_in_message, first_of_checks, file_at, PlainFiles, Tmesg, Trequest, Tack, Hmesg, Hdata, Hunlockfile, Hcheck, PlainHost, Reply, NoFile, NotOpen, counted, host_checks, reply_to, reply_request, when, answers, reply_of, replied_then, Window, lock_of, KnownFile, PlainTerminal, known_at, window_at, is_open, put_window, frame_outcome, composed, flushed, unsent_message, Unsent, InOrder, IsHeldBack, OpenAt, Anything, IsSynced, Lens, is_crossing, action, at_file, effect, view, views, file_in, took_bindname, took_data, took_grow, took_growdata, took_cut, took_unlockfile, took_close, took_exit}
+use Rattle.sam_crossing.proofs.Common.{◌≡◌, ℕ, ◌+◌, min, Bool, true, false, not, ◌&&◌, if◌then◌else◌, List, [], ◌∷◌, ◌++◌, length, Option, Some, None, is_some, option_map, refl, sym, ap, ◌∙◌, arith, append_assoc, append-nil, same_Some, part, most_in_message, first_of_checks, file_at, PlainFiles, Tmesg, Trequest, Tack, Hmesg, Hdata, Hunlockfile, Hcheck, PlainHost, Reply, NoFile, NotOpen, counted, host_checks, reply_to, reply_request, when, answers, reply_of, replied_then, Window, lock_of, KnownFile, PlainTerminal, known_at, window_at, is_open, put_window, frame_outcome, composed, all_composed, flushed, unsent_message, requests_for, Unsent, InOrder, IsHeldBack, OpenAt, Anything, IsSynced, Lens, is_crossing, action, at_file, effect, view, views, file_in, took_bindname, took_data, took_grow, took_growdata, took_cut, took_unlockfile, took_close, took_exit}
 use Rattle.sam_term.specs.Term.{sends_if, wanted, request_for}
 use Rattle.sam_crossing.specs.Fold.{behind, replied}
 use Rattle.sam_crossing.specs.View.{composed_for}
@@ -11,7 +11,7 @@ use Rattle.sam_crossing.proofs.Views.{unsent-flushed, unsent-composed}
 use Rattle.sam_local.specs.Local.{whole_window, at_rest, all_taken, answered_with, come_to}
 use Rattle.sam_local.proofs.Sights.{sight, known-sight, rests}
 use Rattle.sam_local.proofs.Frames.{sight-taken, taken-append, loaded_window}
-use Rattle.sam_local.proofs.Folds.{answers-more}
+use Rattle.sam_local.proofs.Folds.{answers-more, Parted, parted}
 use Rattle.sam_local.proofs.Ahead.{settled-ahead, sight-window, opened-put, LockFits, sight-composed, sight-flushed}
 use Rattle.sam_local.proofs.Steps.{flushes}
 
@@ -100,17 +100,11 @@ ack-silent a z s e = by a.is_done e
 
 -- ## A silent message more
 
-pub asks : (h : PlainHost) (k : PlainTerminal) (line : List Tmesg) (down : List Hmesg) (x : Tmesg) (r y : Reply) → k.unsent ≡ None → LockFits (lock_of x) k
-    → answers h line ≡ Some r → answers h (line ++ x ∷ []) ≡ Some y → IsSilent r.0 (all_taken k (down ++ r.1)) x
-    → come_to h k line down ≡ come_to h (composed k x) (line ++ x ∷ []) down
-asks h k line down x r y none fits now both silent =
-    ap (λ (o : Option Unsent). answered_with h k down (answers h (line ++ unsent_message o))) none
-    ∙ ap (λ (ms : List Tmesg). answered_with h k down (answers h ms)) (append-nil line) ∙ ap (answered_with h k down) now
-    ∙ last (reply_of r.0 x) refl
-    ∙ sym
-    (ap (λ (o : Option Unsent). answered_with h (composed k x) down (answers h ((line ++ x ∷ []) ++ unsent_message o))) (unsent-composed k x ∙ none)
-    ∙ ap (λ (ms : List Tmesg). answered_with h (composed k x) down (answers h ms)) (append-nil (line ++ x ∷ []))
-    ∙ ap (answered_with h (composed k x) down) whole)
+-- the host is as it was, its count aside, and so is what the terminal comes to
+silently : (h : PlainHost) (k : PlainTerminal) (line : List Tmesg) (down : List Hmesg) (x : Tmesg) (r y : Reply) → LockFits (lock_of x) k → answers h line ≡ Some r
+    → answers h (line ++ x ∷ []) ≡ Some y → IsSilent r.0 (all_taken k (down ++ r.1)) x
+    → (y.0 ≡ counted r.0) × (sight (all_taken (composed k x) (down ++ y.1)) ≡ sight (all_taken k (down ++ r.1)))
+silently h k line down x r y fits now both silent = last (reply_of r.0 x) refl
   where
     whole : answers h (line ++ x ∷ []) ≡ behind r.1 (replied_then (reply_of r.0 x) (λ j. Some (j, [])))
     whole = answers-more line (x ∷ []) h ∙ ap (λ (o : Option Reply). replied_then o (λ j. answers j (x ∷ []))) now
@@ -118,18 +112,94 @@ asks h k line down x r y none fits now both silent =
     z : PlainTerminal
     z = all_taken k (down ++ r.1)
 
-    last : (o : Option Reply) → reply_of r.0 x ≡ o
-        → at_rest r.0 (all_taken k (down ++ r.1)) ≡ answered_with h (composed k x) down (behind r.1 (replied_then o (λ j. Some (j, []))))
+    last : (o : Option Reply) → reply_of r.0 x ≡ o → (y.0 ≡ counted r.0) × (sight (all_taken (composed k x) (down ++ y.1)) ≡ sight z)
     last None q = absurd (grind (arith, whole, both, q))
     last (Some s) q =
         let one = silent s q in
+        let is : (s.0, r.1 ++ (s.1 ++ [])) ≡ y =
+        same_Some _ _ (sym (whole ∙ ap (λ (o : Option Reply). behind r.1 (replied_then o (λ j. Some (j, [])))) q) ∙ both) in
         let frames : down ++ (r.1 ++ (s.1 ++ [])) ≡ (down ++ r.1) ++ s.1 =
         ap (λ (fs : List Hmesg). down ++ (r.1 ++ fs)) (append-nil s.1) ∙ sym (append_assoc down r.1 s.1) in
         let same : sight (all_taken (composed k x) (down ++ (r.1 ++ (s.1 ++ [])))) ≡ sight z =
         sight-taken (down ++ (r.1 ++ (s.1 ++ []))) (composed k x) k (sight-composed k x fits)
         ∙ ap (λ (fs : List Hmesg). sight (all_taken k fs)) frames ∙ ap sight (taken-append (down ++ r.1) s.1 k) ∙ one.1 in
-        rests r.0 z (all_taken (composed k x) (down ++ (r.1 ++ (s.1 ++ [])))) (sym same)
-        ∙ ap (λ (a : PlainHost). at_rest a (all_taken (composed k x) (down ++ (r.1 ++ (s.1 ++ []))))) (sym one.0)
+        (ap (λ (a : Reply). a.0) (sym is) ∙ one.0, ap (λ (a : Reply). sight (all_taken (composed k x) (down ++ a.1))) (sym is) ∙ same)
+
+asks : (h : PlainHost) (k : PlainTerminal) (line : List Tmesg) (down : List Hmesg) (x : Tmesg) (r y : Reply) → k.unsent ≡ None → LockFits (lock_of x) k
+    → answers h line ≡ Some r → answers h (line ++ x ∷ []) ≡ Some y → IsSilent r.0 (all_taken k (down ++ r.1)) x
+    → come_to h k line down ≡ come_to h (composed k x) (line ++ x ∷ []) down
+asks h k line down x r y none fits now both silent =
+    ap (λ (o : Option Unsent). answered_with h k down (answers h (line ++ unsent_message o))) none
+    ∙ ap (λ (ms : List Tmesg). answered_with h k down (answers h ms)) (append-nil line) ∙ ap (answered_with h k down) now
+    ∙ rests r.0 (all_taken k (down ++ r.1)) u (sym after.1) ∙ ap (λ (a : PlainHost). at_rest a u) (sym after.0)
+    ∙ sym
+    (ap (λ (o : Option Unsent). answered_with h (composed k x) down (answers h ((line ++ x ∷ []) ++ unsent_message o))) (unsent-composed k x ∙ none)
+    ∙ ap (λ (ms : List Tmesg). answered_with h (composed k x) down (answers h ms)) (append-nil (line ++ x ∷ []))
+    ∙ ap (answered_with h (composed k x) down) both)
+  where
+    u : PlainTerminal
+    u = all_taken (composed k x) (down ++ y.1)
+
+    after : (y.0 ≡ counted r.0) × (sight u ≡ sight (all_taken k (down ++ r.1)))
+    after = silently h k line down x r y fits now both silent
+
+-- ## Requests for the gaps of an open file
+
+requested-open : (t : PlainTerminal) (f p n : ℕ) → is_open t f ≡ true → is_open (composed t (Trequest f p n)) f ≡ true
+requested-open t f p n o =
+    sym (open-sight (composed t (Trequest f p n)) f) ∙ ap (λ (z : PlainTerminal). is_open z f) (sight-composed t (Trequest f p n) o) ∙ open-sight t f ∙ o
+
+pub sight-requests : (t : PlainTerminal) (f : ℕ) (xs : List (ℕ × ℕ)) → is_open t f ≡ true → sight (all_composed t (requests_for f xs)) ≡ sight t
+sight-requests t f [] o = refl
+sight-requests t f (x ∷ xs) o =
+    let m = Trequest f x.0 x.1 in
+    sight-requests (composed t m) f xs (requested-open t f x.0 x.1 o) ∙ sight-composed t m o
+
+-- the file is open at the host and at the terminal, or at neither, once the answers are taken
+abbrev IsOpenAtBoth : ℕ → PlainTerminal → List Hmesg → Reply → Type 0
+IsOpenAtBoth f k down r = is_open (all_taken k (down ++ r.1)) f ≡ (file_at r.0.files f).opened
+
+-- one request after another
+asks-all : (h : PlainHost) (k : PlainTerminal) (f : ℕ) (xs : List (ℕ × ℕ)) (line : List Tmesg) (down : List Hmesg) (r y : Reply) → k.unsent ≡ None → is_open k f ≡ true
+    → answers h line ≡ Some r → answers h (line ++ requests_for f xs) ≡ Some y → IsOpenAtBoth f k down r
+    → come_to h k line down ≡ come_to h (all_composed k (requests_for f xs)) (line ++ requests_for f xs) down
+asks-all h k f [] line down r y none o now both opens = ap (λ (ms : List Tmesg). come_to h k ms down) (sym (append-nil line))
+asks-all h k f (x ∷ xs) line down r y none o now both opens =
+    asks h k line down m r parts.first none o now parts.now silent
+    ∙ asks-all h (composed k m) f xs (line ++ m ∷ []) down parts.first y (unsent-composed k m ∙ none) (requested-open k f x.0 x.1 o) parts.now all
+    (sym (open-sight z1 f) ∙ ap (λ (v : PlainTerminal). is_open v f) after.1 ∙ open-sight z f ∙ opens ∙ sym (ap (λ (a : PlainHost). (file_at a.files f).opened) after.0))
+    ∙ ap (λ (ms : List Tmesg). come_to h (all_composed (composed k m) (requests_for f xs)) ms down) (append_assoc line (m ∷ []) (requests_for f xs))
+  where
+    m : Tmesg
+    m = Trequest f x.0 x.1
+
+    all : answers h ((line ++ m ∷ []) ++ requests_for f xs) ≡ Some y
+    all = ap (answers h) (append_assoc line (m ∷ []) (requests_for f xs)) ∙ both
+
+    parts : Parted h (line ++ m ∷ []) (requests_for f xs) y
+    parts = parted h (line ++ m ∷ []) (requests_for f xs) y all
+
+    z : PlainTerminal
+    z = all_taken k (down ++ r.1)
+
+    z1 : PlainTerminal
+    z1 = all_taken (composed k m) (down ++ parts.first.1)
+
+    silent : IsSilent r.0 z m
+    silent = request-silent r.0 z f x.0 x.1 opens
+
+    after : (parts.first.0 ≡ counted r.0) × (sight z1 ≡ sight z)
+    after = silently h k line down m r parts.first o now parts.now silent
+
+-- the requests, behind the unsent runes
+pub sends-requests : (h : PlainHost) (u : PlainTerminal) (f : ℕ) (xs : List (ℕ × ℕ)) (up : List Tmesg) (down : List Hmesg) (r y : Reply) → is_open (flushed u).0 f ≡ true
+    → answers h (up ++ unsent_message u.unsent) ≡ Some r → answers h (up ++ ((flushed u).1 ++ requests_for f xs)) ≡ Some y → IsOpenAtBoth f (flushed u).0 down r
+    → come_to h u up down ≡ come_to h (all_composed (flushed u).0 (requests_for f xs)) (up ++ ((flushed u).1 ++ requests_for f xs)) down
+unfolding flushed
+sends-requests h u f xs up down r y o now both opens =
+    flushes h u up down
+    ∙ asks-all h (flushed u).0 f xs (up ++ (flushed u).1) down r y (unsent-flushed u) o now (ap (answers h) (append_assoc up (flushed u).1 (requests_for f xs)) ∙ both) opens
+    ∙ ap (λ (line : List Tmesg). come_to h (all_composed (flushed u).0 (requests_for f xs)) line down) (append_assoc up (flushed u).1 (requests_for f xs))
 
 -- ## A frame
 

@@ -227,6 +227,13 @@ ViewShows =
     → let w = window_at (carried editor (event.View f p n)).term f in
     (w.view_start ≡ p) × (w.view_length ≡ n) × (w.dot ≡ dot_in editor f) × ((carried editor (event.View f p n)).host ≡ editor.host)
 
+-- a load shows the file from a place on, too, so many runes; nothing changes at the host
+abbrev pub LoadShows : Type 0
+LoadShows =
+    (editor : PlainEditor) (f p n : ℕ) → IsReached editor → May editor (event.Load f p n)
+    → let w = window_at (carried editor (event.Load f p n)).term f in
+    (w.view_start ≡ p) × (w.view_length ≡ n) × (w.dot ≡ dot_in editor f) × ((carried editor (event.Load f p n)).host ≡ editor.host)
+
 -- the file is shown from so many lines further up on; nothing changes at the host
 abbrev pub ScrollShows : Type 0
 ScrollShows =

@@ -1,10 +1,10 @@
 //! The laws. Each is the clause of a function that does nothing: a caller who needs the law calls the function.
 //!
-//! First those of runs: every run of a world comes to what its events do to the editor without a network. Then what each of the 23 events
+//! First those of runs: every run of a world comes to what its events do to the editor without a network. Then what each of the 24 events
 //! of the user does to that editor, over its texts and dots alone. These hold of every editor to which events have led from files within
 //! the limits (`IsReached`), where nothing stands against the event (`May`); one that something stands against does nothing.
 ghost use Rattle.sam_local.specs.Worlds.{RunsAreAsIfLocal, RestIsAsIfLocal, OneRestForAll, WasAsIfLocal};
-ghost use Rattle.sam_local.specs.Editing.{RefusedDoesNothing, TypingReplaces, LineRuns, SelectSets, CutMoves, PasteReplaces, SnarfCopies, SetSnarfSets, GetSnarfFetches, EmptyDotKeeps, LookSelects, LookKeeps, SearchSelects, SendRuns, DclickSelects, ScrollShows, ViewShows, CheckAndFlushKeep, OpenOpens, CloseDrops, WriteSaves, WorkSets, CommandFileOpens, NewMakes, ExitEnds, VersionAgrees};
+ghost use Rattle.sam_local.specs.Editing.{RefusedDoesNothing, TypingReplaces, LineRuns, SelectSets, CutMoves, PasteReplaces, SnarfCopies, SetSnarfSets, GetSnarfFetches, EmptyDotKeeps, LookSelects, LookKeeps, SearchSelects, SendRuns, DclickSelects, ScrollShows, ViewShows, LoadShows, CheckAndFlushKeep, OpenOpens, CloseDrops, WriteSaves, WorkSets, CommandFileOpens, NewMakes, ExitEnds, VersionAgrees};
 
 use sam_world::World;
 
@@ -104,9 +104,10 @@ pub fn send_runs()
     ensures { SendRuns }
 {}
 
-/// Says what a view and a scroll show, and that a check and a flush change nothing, since all is loaded and sent.
+/// Says what a view, a load and a scroll show, and that a check and a flush change nothing, since all is loaded and sent.
 pub fn looking_changes_no_text()
     ensures view { ViewShows }
+    ensures load { LoadShows }
     ensures scroll { ScrollShows }
     ensures keep { CheckAndFlushKeep }
 {}

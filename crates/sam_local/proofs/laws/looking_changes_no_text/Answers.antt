@@ -4,6 +4,9 @@ use Rattle.sam_local.proofs.laws.looking_changes_no_text.Goals as goal
 pub returns-clause-view : goal.returns-clause-view
 returns-clause-view c = lemmas.view_shows
 
+pub returns-clause-load : goal.returns-clause-load
+returns-clause-load c = lemmas.load_shows
+
 pub returns-clause-scroll : goal.returns-clause-scroll
 returns-clause-scroll c = lemmas.scroll_shows
 
