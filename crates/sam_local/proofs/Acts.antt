@@ -21,9 +21,9 @@ use Rattle.sam_local.specs.Local.{PlainEditor, whole_window, at_rest, all_taken,
 use Rattle.sam_local.proofs.Sights.{sight, sight-rest, rests, turned}
 use Rattle.sam_local.proofs.Frames.{turn, sight-taken, taken-append, known-put_other, cases}
 use Rattle.sam_local.proofs.Folds.{Parted, parted}
-use Rattle.sam_local.proofs.Ahead.{term_ahead, settled-ahead, come-to-is, window-put, opened-put, sight-flushed}
+use Rattle.sam_local.proofs.Ahead.{term_ahead, synced-ahead, come-to-is, window-put, opened-put, sight-flushed}
 use Rattle.sam_local.proofs.Steps.{answered-alike}
-use Rattle.sam_local.proofs.Takes.{wanted-is, fits-flushed, settled-open, silent-asked, sends-silent, sends-requests}
+use Rattle.sam_local.proofs.Takes.{wanted-is, fits-flushed, synced-open, silent-asked, sends-silent, sends-requests}
 use Rattle.sam_local.proofs.Gentle.{CleansGuarded, AreGentle, past-frames}
 use Rattle.sam_local.proofs.Uncounted.{rest, rested, answers-rested, answered-rested}
 use Rattle.sam_local.proofs.Joined.{joined-answers}
@@ -253,7 +253,7 @@ module _ (h : PlainHost) (t : PlainTerminal) (up : List Tmesg) (down : List Hmes
       ∙ opens-alike (all_taken v (down ++ o.kept.frames)) (turned (term_ahead h t up down o) f (turn (λ w. false) y)) g
       (past-frames f (λ w. false) y (down ++ o.kept.frames) t (gentle-ahead h t up down o cleans f free))
       ∙ turned-open (term_ahead h t up down o) f (λ w. false) y g (open-ahead h t up down o cleans f free ∙ open_here)
-      ∙ settled-open (term_ahead h t up down o) o.kept.ahead.files g _ _ (settled-ahead h t up down o g)
+      ∙ synced-open (term_ahead h t up down o) o.kept.ahead.files g _ _ (synced-ahead h t up down o g)
 
   came-viewed : (f a n : ℕ) → Passed t (View f a n) → (x : Tmesg) → wanted (put_window t f (record (window_at t f) { view_start = a; view_length = n })) f ≡ Some x
       → InOrder h (event_outcome t (View f a n)).0 (up ++ (event_outcome t (View f a n)).1) down → Came h t up down (View f a n)

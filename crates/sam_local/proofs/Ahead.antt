@@ -28,8 +28,8 @@ module _ (h : PlainHost) (t : PlainTerminal) (up : List Tmesg) (down : List Hmes
   pub final-ahead : (g : ℕ) → (o.kept.each g).final ≡ view g term_ahead
   final-ahead g = same_Some _ _ (sym (o.kept.each g).runs ∙ run-ahead g)
 
-  pub settled-ahead : (g : ℕ) → IsSynced (view g term_ahead) o.kept.ahead.is_done o.kept.ahead.version (file_in o.kept.ahead.files.slots g)
-  settled-ahead g = rw (final-ahead g) at (o.kept.each g).synced
+  pub synced-ahead : (g : ℕ) → IsSynced (view g term_ahead) o.kept.ahead.is_done o.kept.ahead.version (file_in o.kept.ahead.files.slots g)
+  synced-ahead g = rw (final-ahead g) at (o.kept.each g).synced
 
   pub come-to-is : come_to h t up down ≡ at_rest o.kept.ahead term_ahead
   come-to-is = ap (answered_with h t down) o.kept.folds

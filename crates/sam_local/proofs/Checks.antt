@@ -15,7 +15,7 @@ use Rattle.sam_local.specs.Local.{whole_window, whole_file, whole_slots, at_rest
 use Rattle.sam_local.proofs.Sights.{bare, sight, sight-rest}
 use Rattle.sam_local.proofs.Gentle.{CleansGuarded, AreGentle, gentle_free, window-stays}
 use Rattle.sam_local.proofs.Cleans.{cleans-both, cleans-answers}
-use Rattle.sam_local.proofs.Ahead.{term_ahead, run-ahead, settled-ahead, opened-is, window-is}
+use Rattle.sam_local.proofs.Ahead.{term_ahead, run-ahead, synced-ahead, opened-is, window-is}
 use Rattle.sam_local.proofs.Events.{opens-alike}
 
 -- ## Windows at rest
@@ -258,7 +258,7 @@ module _ (h : PlainHost) (t : PlainTerminal) (up : List Tmesg) (down : List Hmes
   pub length-rest : (f : ℕ) → IsFree (view f t) → is_open t f ≡ true → length (window_at term_rest f).rasp ≡ length (window_at t f).rasp
   length-rest f free open_here =
       ap (λ (w : Window). length w.rasp) (window-rest f free open_here) ∙ length-map (file_at o.kept.ahead.files f).text Some
-      ∙ sym (agreed-length t o.kept.ahead.files f _ _ (subst (λ (v : Lens). IsSynced v o.kept.ahead.is_done o.kept.ahead.version (file_in o.kept.ahead.files.slots f)) (still-ahead f free) (settled-ahead h t up down o f)) open_here)
+      ∙ sym (agreed-length t o.kept.ahead.files f _ _ (subst (λ (v : Lens). IsSynced v o.kept.ahead.is_done o.kept.ahead.version (file_in o.kept.ahead.files.slots f)) (still-ahead f free) (synced-ahead h t up down o f)) open_here)
 
   -- a file that the event needs open is open, and free
   abbrev IsHandy : UserEvent → Type 0

@@ -16,7 +16,7 @@ use Rattle.sam_crossing.proofs.Views.{tidy-put, tidy-window}
 use Rattle.sam_local.specs.Local.{PlainEditor, whole_window, whole_file, at_rest, all_taken, answered_with, carried_unless, carried, carried_on, new_editor}
 use Rattle.sam_local.specs.Editing.{IsReached}
 use Rattle.sam_local.proofs.Sights.{sight-rest, rests}
-use Rattle.sam_local.proofs.Ahead.{term_ahead, settled-ahead, come-to-is, window-put}
+use Rattle.sam_local.proofs.Ahead.{term_ahead, synced-ahead, come-to-is, window-put}
 use Rattle.sam_local.proofs.Checks.{slot-whole, rest-window, agreed-length}
 use Rattle.sam_local.proofs.Uncounted.{rest}
 use Rattle.sam_local.proofs.Events.{altered, opens-alike, told}
@@ -80,9 +80,9 @@ module _ (h : PlainHost) (t : PlainTerminal) (up : List Tmesg) (down : List Hmes
   abbrev rest_of : PlainTerminal
   rest_of = (at_rest o.kept.ahead (term_ahead h t up down o)).term
 
-  settled-rest : (g : ℕ) → IsSynced (view g rest_of) o.kept.ahead.is_done o.kept.ahead.version (file_in o.kept.ahead.files.slots g)
-  settled-rest g =
-      let s = settled-ahead h t up down o g in
+  synced-rest : (g : ℕ) → IsSynced (view g rest_of) o.kept.ahead.is_done o.kept.ahead.version (file_in o.kept.ahead.files.slots g)
+  synced-rest g =
+      let s = synced-ahead h t up down o g in
       let z = term_ahead h t up down o in (
         refl,
         s.1,
@@ -101,7 +101,7 @@ module _ (h : PlainHost) (t : PlainTerminal) (up : List Tmesg) (down : List Hmes
       by true e =
           let tidy = ahead_tidy f in
           let same : length (map Some (file_at o.kept.ahead.files f).text) ≡ length (window_at z f).rasp =
-          length-map (file_at o.kept.ahead.files f).text Some ∙ sym (agreed-length z o.kept.ahead.files f _ _ (settled-ahead h t up down o f) e) in
+          length-map (file_at o.kept.ahead.files f).text Some ∙ sym (agreed-length z o.kept.ahead.files f _ _ (synced-ahead h t up down o f) e) in
           subst IsTidyWindow (sym (rest-window o.kept.ahead z f e)) (tidy.0, subst (λ (n : ℕ). (window_at z f).dot.1 ≤ n) (sym same) tidy.1, subst (λ (n : ℕ). (window_at z f).view_start ≤ n) (sym same) tidy.2)
       by false e = subst IsTidyWindow (sym (closed-blank rest_of f (opens-alike rest_of z f (sight-rest o.kept.ahead z) ∙ e))) (omega arith, omega arith, omega arith)
 
@@ -113,7 +113,7 @@ module _ (h : PlainHost) (t : PlainTerminal) (up : List Tmesg) (down : List Hmes
         ahead = rest o.kept.ahead;
         frames = [];
         folds = refl;
-        each = λ g. record { final = view g rest_of; runs = refl; settled = settled-rest g; guarded = tt; closed = λ e. absurd (true≢false (sym e)) };
+        each = λ g. record { final = view g rest_of; runs = refl; synced = synced-rest g; guarded = tt; closed = λ e. absurd (true≢false (sym e)) };
         steady = record { sound = o.kept.steady.sound; announced = o.kept.steady.announced; fit = o.kept.steady.fit };
         versions = tt;
       }
@@ -154,10 +154,10 @@ module _ (h : PlainHost) (t : PlainTerminal) (o : InOrder (rest h) (at_rest h t)
   abbrev term : PlainTerminal
   term = (at_rest h t).term
 
-  settled-here : (g : ℕ) → IsSynced (view g (at_rest h t).term) h.is_done h.version (file_in h.files.slots g)
-  settled-here g =
+  synced-here : (g : ℕ) → IsSynced (view g (at_rest h t).term) h.is_done h.version (file_in h.files.slots g)
+  synced-here g =
       subst (λ (r : Reply). IsSynced (view g (all_taken (at_rest h t).term ([] ++ r.1))) r.0.is_done r.0.version (file_in r.0.files.slots g)) (sym (same_Some _ _ o.kept.folds))
-      (settled-ahead (rest h) (at_rest h t).term [] [] o g)
+      (synced-ahead (rest h) (at_rest h t).term [] [] o g)
 
   pub open-here : (f : ℕ) → is_open t f ≡ is_open (at_rest h t).term f
   open-here f = sym (opens-alike (at_rest h t).term t f (sight-rest h t))
@@ -192,7 +192,7 @@ module _ (h : PlainHost) (t : PlainTerminal) (o : InOrder (rest h) (at_rest h t)
         is =
             ap (λ (v : Option Verdict). carried_unless v (at_rest h t) (event_outcome term e)) q ∙ came.comes
             ∙ ap (answered_with (rest h) (altered term e) []) came.folds;
-        running = sym (settled-here 0).1 ∙ p.here;
+        running = sym (synced-here 0).1 ∙ p.here;
       }
 
   pub after-none : (e : UserEvent) → first_of_checks (event_checks (at_rest h t).term e) ≡ None → told (at_rest h t).term e ≡ []

@@ -12,7 +12,7 @@ use Rattle.sam_local.specs.Local.{whole_window, at_rest, all_taken, answered_wit
 use Rattle.sam_local.proofs.Sights.{sight, known-sight, rests}
 use Rattle.sam_local.proofs.Frames.{sight-taken, taken-append, loaded_window}
 use Rattle.sam_local.proofs.Folds.{answers-more, Parted, parted}
-use Rattle.sam_local.proofs.Ahead.{settled-ahead, sight-window, opened-put, LockFits, sight-composed, sight-flushed}
+use Rattle.sam_local.proofs.Ahead.{synced-ahead, sight-window, opened-put, LockFits, sight-composed, sight-flushed}
 use Rattle.sam_local.proofs.Steps.{flushes}
 
 -- ## The unsent runes are left alone
@@ -48,10 +48,10 @@ open-sight t f = ap (λ (x : KnownFile). is_some x.window) (known-sight t f) ∙
     mapped None = refl
     mapped (Some w) = refl
 
--- what a settled lens says of its file
-pub settled-open : (t : PlainTerminal) (fs : PlainFiles) (f : ℕ) (d : Bool) (n : ℕ) → IsSynced (view f t) d n (file_in fs.slots f)
+-- what a synced lens says of its file
+pub synced-open : (t : PlainTerminal) (fs : PlainFiles) (f : ℕ) (d : Bool) (n : ℕ) → IsSynced (view f t) d n (file_in fs.slots f)
     → is_open t f ≡ (file_at fs f).opened
-settled-open t fs f d n s = grind arith
+synced-open t fs f d n s = grind arith
 
 data_silent : (z : PlainTerminal) (f p : ℕ) (s : List ℕ) → is_open z f ≡ true → sight (all_taken z (Hdata f p s ∷ Hunlockfile f ∷ [])) ≡ sight z
 unfolding loaded_window took_data took_unlockfile
@@ -265,7 +265,7 @@ term-takes h t up m down o n =
     opens f =
         sym (open-sight z f) ∙ ap (λ (x : PlainTerminal). is_open x f) (sight-taken (down ++ o.kept.frames) (flushed u).0 u (sight-flushed u))
         ∙ open-sight (all_taken u (down ++ o.kept.frames)) f
-        ∙ settled-open (all_taken u (down ++ o.kept.frames)) o.kept.ahead.files f _ _ (settled-ahead h t up (m ∷ down) o f)
+        ∙ synced-open (all_taken u (down ++ o.kept.frames)) o.kept.ahead.files f _ _ (synced-ahead h t up (m ∷ down) o f)
 
     second : (q : Option Tmesg) → composed_for t m ≡ q → InOrder h (sends_if q u).0 (up ++ (sends_if q u).1) down
         → come_to h u up down ≡ come_to h (sends_if q u).0 (up ++ (sends_if q u).1) down
