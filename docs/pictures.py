@@ -73,6 +73,7 @@ PLACES = {
     "sam_script": (300, 4, "scripts, read and shown"),
     "sam_queue": (170, 5, "lines between threads"),
     "sam_world": (350, 6, "both sides as one state"),
+    "sam_local": (170, 4, "as if no network"),
     "sam_crossing": (350, 7, "crossing messages agree"),
     "sam_c": (740, 3, "the library for C"),
     "sam_endpoint": (740, 7, "a side behind its bytes"),
