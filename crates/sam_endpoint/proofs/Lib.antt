@@ -8,4 +8,5 @@ pub mod TermEndpointMoves
 pub mod TermEndpointSteps
 pub mod TermEndpointCalls
 pub mod HostEndpointRuns
+pub mod Rests
 pub mod Members

@@ -1,4 +1,5 @@
 pub mod Common
+pub mod Rests
 pub mod ShowLaws
 pub mod Replays
 pub mod WordLaws
