@@ -13,7 +13,7 @@ returns-in-Ok-Locked-clause-still c =
 
 pub invariant_of-self-in-Ok-Done : goal.invariant_of-self-in-Ok-Done
 invariant_of-self-in-Ok-Done c =
-    kept_done _ c.act.new.self c.in-Ok-Done.batch c.join.new.self.messages c.self.invariant c.known.ensures
+    kept_done _ c.act.new.self c.in-Ok-Done.batch c.join.new.self.messages c.self.invariant c.facts.ensures
     (c.in-Ok-Done.ensures.acted ∙ ap (λ a. Ok (c.act.new.self, a)) c.in-Ok-Done.field-0-is)
     (c.join.ensures ∙ ap (λ x. x ++ c.into_vec.result.items) c.in_ok-reserve.ensures.messages ∙ ap (λ x. c.self.inside.up.messages ++ x) c.into_vec.ensures)
 
