@@ -64,11 +64,11 @@ type-plain : (h : PlainHost) (f p : ℕ) (s : List ℕ) → is_command_line f s 
 unfolding reply_type
 type-plain h f p s plain = rw plain refl
 
-replaced-none : (t : List ℕ) (p q : ℕ) → (p == q) ≡ true → t ≡ replaced t (p, q) []
+pub replaced-none : (t : List ℕ) (p q : ℕ) → (p == q) ≡ true → t ≡ replaced t (p, q) []
 replaced-none t p q e =
     sym (take-append-drop p t) ∙ ap (λ (xs : List ℕ). xs ++ drop p t) (sym (append-nil (take p t))) ∙ ap (λ (n : ℕ). (take p t ++ []) ++ drop n t) (eqb-true p q e)
 
-replaced-cut : (t : List ℕ) (p q : ℕ) → del t p q ≡ replaced t (p, q) []
+pub replaced-cut : (t : List ℕ) (p q : ℕ) → del t p q ≡ replaced t (p, q) []
 replaced-cut t p q = ap (λ (xs : List ℕ). xs ++ drop q t) (sym (append-nil (take p t)))
 
 pub replaced-ins : (t s : List ℕ) (p q : ℕ) → (p == q) ≡ true → ins t p s ≡ replaced t (p, q) s
@@ -89,7 +89,7 @@ place-first p q l = grind arith
 place-last : (p q : ℕ) → p ≤ q → place_after_del p q q ≡ p + 0
 place-last p q l = grind arith
 
-cut-dot : (w : Window) → w.dot.0 ≤ w.dot.1 → (cut_window w).dot ≡ (w.dot.0 + 0, w.dot.0 + 0)
+pub cut-dot : (w : Window) → w.dot.0 ≤ w.dot.1 → (cut_window w).dot ≡ (w.dot.0 + 0, w.dot.0 + 0)
 cut-dot w l = by (w.dot.0 == w.dot.1) refl
   where
     by : (b : Bool) → (w.dot.0 == w.dot.1) ≡ b → (cut_window w).dot ≡ (w.dot.0 + 0, w.dot.0 + 0)

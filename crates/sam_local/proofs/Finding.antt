@@ -1,11 +1,11 @@
 -- Events after which the host sets dot: a paste, a double click, a look and a search.
-use Rattle.sam_crossing.proofs.Common.{◌≡◌, ℕ, ◌+◌, ◌-◌, ◌≤◌, Bool, true, false, not, ◌==◌, List, [], ◌∷◌, ◌++◌, length, Option, Some, None, unwrap_or, refl, sym, ap, ◌∙◌, true≢false, arith, not-false, eq-eqb, nat_lt, length-map, length-ins, length-del, is_empty, max_runes, part, ins, del, searched, may_look, searched_for, Range, PlainFile, PlainFiles, file_at, put_file, cut_file, pasted_file, Tcut, Tpaste, Tlook, Tsearch, Tdclick, Hmesg, Hsetdot, Hmoveto, Hcheck, Hunlockfile, Hsetpat, PlainHost, Reply, counted, reply_to, with_file, with_files, reply_found, reply_cut, reply_paste, reply_look, reply_search, reply_dclick, grown, when, Window, KnownFile, PlainTerminal, known_at, window_at, is_open, effect, took_unlockfile, blank_window, InOrder}
+use Rattle.sam_crossing.proofs.Common.{◌||◌, ◌≡◌, ℕ, ◌+◌, ◌-◌, ◌≤◌, Bool, true, false, not, ◌==◌, List, [], ◌∷◌, ◌++◌, length, Option, Some, None, unwrap_or, refl, sym, ap, ◌∙◌, true≢false, arith, not-false, eq-eqb, nat_lt, length-map, length-ins, length-del, is_empty, max_runes, part, ins, del, searched, may_look, searched_for, Range, PlainFile, PlainFiles, file_at, put_file, cut_file, pasted_file, Tcut, Tpaste, Tlook, Tsearch, Tdclick, Hmesg, Hsetdot, Hmoveto, Hcheck, Hunlockfile, Hsetpat, PlainHost, Reply, counted, reply_to, with_file, with_files, reply_found, reply_cut, reply_paste, reply_look, reply_search, reply_dclick, grown, when, Window, KnownFile, PlainTerminal, known_at, window_at, is_open, effect, took_unlockfile, blank_window, InOrder}
 use Rattle.sam_runes.specs.Texts.{word_at}
 use Rattle.sam_host.specs.Host.{told_paste, told_dirty, told_found}
 use Rattle.sam_term.specs.declared.event.UserEvent.TheVariants.{Paste, Look, Search, Dclick}
 use Rattle.sam_crossing.proofs.Passing.{passed}
 use Rattle.sam_local.specs.Local.{PlainEditor, at_rest, all_taken, carried}
-use Rattle.sam_local.specs.Editing.{text_in, dot_in, snarf_in, May, replaced, OthersStay, PasteReplaces, DclickSelects, LookSelects, SearchSelects}
+use Rattle.sam_local.specs.Editing.{text_in, dot_in, snarf_in, May, replaced, OthersStay, PasteReplaces, PasteOfNothingCuts, DclickSelects, LookSelects, SearchSelects}
 use Rattle.sam_local.proofs.Sights.{turned}
 use Rattle.sam_local.proofs.Frames.{turn, taken-append, known-put_other}
 use Rattle.sam_local.proofs.Gentle.{AreGentle, window-stays}
@@ -14,7 +14,7 @@ use Rattle.sam_local.proofs.Checks.{rest-window}
 use Rattle.sam_local.proofs.Uncounted.{rest}
 use Rattle.sam_local.proofs.Events.{is_cut, cut_window}
 use Rattle.sam_local.proofs.Editors.{acted, after-one, after-two, open-here}
-use Rattle.sam_local.proofs.Editing.{file-put, file-other, reached, dot-any, replaced-ins, replaced-both}
+use Rattle.sam_local.proofs.Editing.{file-put, file-other, reached, dot-any, window-turned, cut-dot, replaced-none, replaced-cut, replaced-ins, replaced-both}
 
 -- ## The dot after frames
 
@@ -37,6 +37,11 @@ paste-plain : (h : PlainHost) (f p : ℕ) → is_empty h.files.snarf ≡ false �
     → reply_to h (Tpaste f p) ≡ (with_file h f (pasted_file f (file_at h.files f) p h.files.snarf), told_paste h.files f p h.files.snarf)
 unfolding reply_paste
 paste-plain h f p e l = rw (e, room-is (length (file_at h.files f).text + length h.files.snarf) max_runes l) refl
+
+paste-nothing : (h : PlainHost) (f p : ℕ) → (is_empty h.files.snarf || nat_lt max_runes (length (file_at h.files f).text + length h.files.snarf)) ≡ true
+    → reply_to h (Tpaste f p) ≡ (h, Hunlockfile f ∷ [])
+unfolding reply_paste
+paste-nothing h f p e = rw e refl
 
 gentle-both : (g : ℕ) (xs ys : List Hmesg) → AreGentle g xs → AreGentle g ys → AreGentle g (xs ++ ys)
 gentle-both g [] ys a b = b
@@ -160,6 +165,57 @@ module _ (h : PlainHost) (t : PlainTerminal) (o : InOrder (rest h) (at_rest h t)
             ),
           )
 
+  -- nothing comes
+  cut-dots : (k : PlainHost) → dot_in (at_rest k (effect (turned (at_rest h t).term f (turn is_cut cut_window)) (Hunlockfile f))) f ≡ (w.dot.0, w.dot.0)
+  cut-dots k =
+      let y = turned (at_rest h t).term f (turn is_cut cut_window) in
+      let none : w.dot.0 + 0 ≡ w.dot.0 = omega arith in
+      dot-any k (effect y (Hunlockfile f)) f ∙ dot-unlocked y f ∙ ap (λ (x : Window). x.dot) (window-turned (at_rest h t).term f is_cut cut_window)
+      ∙ cut-dot w (o.tidy f).0 ∙ (λ i. (none i, none i))
+
+  pasted-nothing : May (at_rest h t) (Paste f) → (is_empty snarf || nat_lt max_runes (length (replaced text w.dot snarf))) ≡ true
+      → (text_in (carried (at_rest h t) (Paste f)) f ≡ replaced text w.dot []) × (dot_in (carried (at_rest h t) (Paste f)) f ≡ (w.dot.0, w.dot.0))
+      × (snarf_in (carried (at_rest h t) (Paste f)) ≡ snarf)
+  unfolding reply_cut
+  pasted-nothing may none = by (w.dot.0 == w.dot.1) refl
+    where
+      p : ℕ
+      p = w.dot.0
+
+      q : ℕ
+      q = w.dot.1
+
+      term : PlainTerminal
+      term = (at_rest h t).term
+
+      y : PlainTerminal
+      y = turned term f (turn is_cut cut_window)
+
+      inside : Within
+      inside = within (not-false (is_open term f) (passed term (Paste f) may).opened)
+
+      by : (b : Bool) → (w.dot.0 == w.dot.1) ≡ b
+          → (text_in (carried (at_rest h t) (Paste f)) f ≡ replaced text w.dot []) × (dot_in (carried (at_rest h t) (Paste f)) f ≡ (w.dot.0, w.dot.0))
+          × (snarf_in (carried (at_rest h t) (Paste f)) ≡ snarf)
+      by true x =
+          let size : length (replaced text (p, q) snarf) ≡ length text + length snarf =
+          sym (ap (λ (l : List ℕ). length l) (replaced-ins text snarf p q x)) ∙ length-ins text snarf p (omega (arith, inside.first, inside.last)) in
+          let over = sym (ap (λ (n : ℕ). is_empty snarf || nat_lt max_runes n) size) ∙ none in
+          let is = after-one h t o (Paste f) (Tpaste f p) may (rw x refl) ∙ ap (λ (r : Reply). at_rest r.0 (all_taken y r.1)) (paste-nothing (rest h) f p over) in
+          (ap (λ (z : PlainEditor). text_in z f) is ∙ replaced-none text p q x, ap (λ (z : PlainEditor). dot_in z f) is ∙ cut-dots (rest h), ap snarf_in is)
+      by false x =
+          let cut = cut_file f (file_at h.files f) p q in
+          let c = counted cut_host in
+          let there : (file_at cut_files f).text ≡ del text p q = ap (λ (z : PlainFile). z.text) (file-put h.files f cut) in
+          let shorter = length-del text p q inside.first inside.last in
+          let size : length (replaced text (p, q) snarf) ≡ length (file_at cut_files f).text + length snarf =
+          sym (ap (λ (l : List ℕ). length l) (replaced-both text snarf p q (omega (arith, inside.first, inside.last))))
+          ∙ length-ins (del text p q) snarf p (omega (arith, inside.first, inside.last, shorter)) ∙ ap (λ (l : List ℕ). length l + length snarf) (sym there) in
+          let over = sym (ap (λ (n : ℕ). is_empty snarf || nat_lt max_runes n) size) ∙ none in
+          let is = after-two h t o (Paste f) (Tcut f p q) (Tpaste f p) cut_host may (rw x refl) refl (acted h t o (Paste f) may).running
+          ∙ ap (λ (r : Reply). at_rest r.0 (all_taken y ([] ++ r.1))) (paste-nothing c f p over) in
+          (ap (λ (z : PlainEditor). text_in z f) is ∙ there ∙ replaced-cut text p q, ap (λ (z : PlainEditor). dot_in z f) is ∙ cut-dots c, ap snarf_in is)
+
   -- ## Finding
 
   clicked : (p : ℕ) → May (at_rest h t) (Dclick f p)
@@ -234,6 +290,14 @@ paste_replaces editor f r =
     is_empty s ≡ false → length (replaced (text_in x f) d s) ≤ max_runes
     → (text_in (carried x (Paste f)) f ≡ replaced (text_in x f) d s) × (dot_in (carried x (Paste f)) f ≡ (d.0, d.0 + length s)) × OthersStay f x (carried x (Paste f)))
     (λ h t o. pasted h t o f) editor r
+
+pub paste_of_nothing_cuts : PasteOfNothingCuts
+paste_of_nothing_cuts editor f r =
+    reached
+    (λ x. May x (Paste f) → let d = dot_in x f in let s = snarf_in x in
+    (is_empty s || nat_lt max_runes (length (replaced (text_in x f) d s))) ≡ true
+    → (text_in (carried x (Paste f)) f ≡ replaced (text_in x f) d []) × (dot_in (carried x (Paste f)) f ≡ (d.0, d.0)) × (snarf_in (carried x (Paste f)) ≡ s))
+    (λ h t o. pasted-nothing h t o f) editor r
 
 pub dclick_selects : DclickSelects
 dclick_selects editor f p r =

@@ -20,7 +20,7 @@ use Rattle.sam_world.specs.World.{is_locked}
 use Rattle.sam_world.proofs.RunLaws.{counted-result}
 use Rattle.sam_world.proofs.OrderLaws.{starts_in_order, steps_in_order}
 use Rattle.sam_local.specs.Local.{PlainEditor, at_rest, answered_with, come_to, carried, carried_on, carried_all, new_editor}
-use Rattle.sam_local.specs.Worlds.{outlook, user_events, is_at_rest, ShowsFile, RunsAreAsIfLocal, RestIsAsIfLocal, OneRestForAll, WasAsIfLocal}
+use Rattle.sam_local.specs.Worlds.{outlook, user_events, is_at_rest, ShowsFile, RunsAreAsIfLocal, RestIsAsIfLocal, OneRestForAll, WasAsIfLocal, EndsAsIfLocal}
 use Rattle.sam_local.proofs.Gentle.{CleansGuarded}
 use Rattle.sam_local.proofs.Cleans.{cleans-both, cleans-reply_of}
 use Rattle.sam_local.proofs.Ahead.{come-to-is, window-is}
@@ -320,11 +320,8 @@ one_rest_for_all given es fs w v fit r q e a b =
 
 pub was_as_if_local : (w : PlainWorld) → WasReached w → WasAsIfLocal w
 was_as_if_local w r =
-    record {
-      given = r.given;
-      limits = r.limits;
-      run = r.reached.0;
-      led = r.reached.1;
-      is = runs_are_as_if_local r.given r.reached.0 w r.limits r.reached.1;
-      rests = rest_is_as_if_local r.given r.reached.0 w r.limits r.reached.1;
-    }
+    record { given = r.given; limits = r.limits; run = r.reached.0; led = r.reached.1; is = runs_are_as_if_local r.given r.reached.0 w r.limits r.reached.1 }
+
+pub ends_as_if_local : (w : PlainWorld) → WasReached w → is_at_rest w ≡ true → EndsAsIfLocal w
+ends_as_if_local w r e =
+    record { given = r.given; limits = r.limits; run = r.reached.0; led = r.reached.1; ends = rest_is_as_if_local r.given r.reached.0 w r.limits r.reached.1 e }

@@ -1,5 +1,5 @@
 -- What each event of the user does to the editor without a network, over its texts and dots.
-use Rattle.std.specs.Prelude.{◌≡◌, ℕ, ◌+◌, ◌-◌, ◌≤◌, true, false, ◌==◌, if◌then◌else◌, nat_le, List, [], ◌++◌, take, drop, length, Some, None, unwrap_or}
+use Rattle.std.specs.Prelude.{◌≡◌, ℕ, ◌+◌, ◌-◌, ◌≤◌, true, false, ◌==◌, ◌||◌, if◌then◌else◌, nat_le, nat_lt, List, [], ◌++◌, take, drop, length, Some, None, unwrap_or}
 use Rattle.sam_runes.specs.Texts.{Range, part, is_empty, max_runes, all_tags, common_version, searched, word_at, as_lines, last_line, lines_before, prefix_in_bytes, snarf_limit}
 use Rattle.sam_runes.specs.Checks.{first_of_checks}
 use Rattle.sam_text.specs.Files.{PlainFiles, file_at, has_file, put_file, cut_file, typed_file, committed, after_print, has_room, may_look, searched_for, new_file}
@@ -95,7 +95,7 @@ CutMoves =
     × (dot_in (carried editor (event.Cut f)) f ≡ (d.0, d.0))
     × OthersStay f editor (carried editor (event.Cut f))
 
--- the snarf buffer comes in the place of the dot, which then is what was pasted. Where it is empty, or too long, the dot is cut alone
+-- the snarf buffer comes in the place of the dot, which then is what was pasted
 abbrev pub PasteReplaces : Type 0
 PasteReplaces =
     (editor : PlainEditor) (f : ℕ) → IsReached editor → May editor (event.Paste f)
@@ -105,6 +105,17 @@ PasteReplaces =
     → (text_in (carried editor (event.Paste f)) f ≡ replaced (text_in editor f) d s)
     × (dot_in (carried editor (event.Paste f)) f ≡ (d.0, d.0 + length s))
     × OthersStay f editor (carried editor (event.Paste f))
+
+-- where the snarf buffer is empty, or too long, the dot goes and nothing comes
+abbrev pub PasteOfNothingCuts : Type 0
+PasteOfNothingCuts =
+    (editor : PlainEditor) (f : ℕ) → IsReached editor → May editor (event.Paste f)
+    → let d = dot_in editor f in
+    let s = snarf_in editor in
+    (is_empty s || nat_lt max_runes (length (replaced (text_in editor f) d s))) ≡ true
+    → (text_in (carried editor (event.Paste f)) f ≡ replaced (text_in editor f) d [])
+    × (dot_in (carried editor (event.Paste f)) f ≡ (d.0, d.0))
+    × (snarf_in (carried editor (event.Paste f)) ≡ s)
 
 -- the text of the dot is copied into the snarf buffer, and no text changes
 abbrev pub SnarfCopies : Type 0

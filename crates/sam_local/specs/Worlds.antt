@@ -45,26 +45,36 @@ pub record IsAsIfLocal (given : List (List ℕ × List ℕ)) (es : List Event) (
   pub comes : outlook w ≡ carried_all given acted
   pub shows : (f : ℕ) → is_locked w.term f ≡ false → is_open w.term f ≡ true → ShowsFile w (carried_all given acted) f
 
--- So it is for some run from files within the limits. At rest both sides are where all of its events lead without a network
+-- so it is for some run from files within the limits
 pub record WasAsIfLocal (w : PlainWorld) : Type 0 where
   pub given : List (List ℕ × List ℕ)
   pub limits : AreGiven given
   pub run : List Event
   pub led : run_of (new_world given) run ≡ Some w
   pub is : IsAsIfLocal given run w
-  pub rests : is_at_rest w ≡ true → at_rest w.host w.term ≡ carried_all given (user_events run)
+
+-- a run from files within the limits led to w, and both sides are where all of its events lead without a network, but for runes that
+-- are not loaded and for counts
+pub record EndsAsIfLocal (w : PlainWorld) : Type 0 where
+  pub given : List (List ℕ × List ℕ)
+  pub limits : AreGiven given
+  pub run : List Event
+  pub led : run_of (new_world given) run ≡ Some w
+  pub ends : at_rest w.host w.term ≡ carried_all given (user_events run)
 
 -- ## The laws
 
 -- at every moment of every run
 abbrev pub RunsAreAsIfLocal : Type 0
 RunsAreAsIfLocal =
-    (given : List (List ℕ × List ℕ)) (es : List Event) (w : PlainWorld) → AreGiven given → run_of (new_world given) es ≡ Some w → IsAsIfLocal given es w
+    (given : List (List ℕ × List ℕ)) (es : List Event) (w : PlainWorld) → AreGiven given → run_of (new_world given) es ≡ Some w
+    → IsAsIfLocal given es w
 
 -- at rest both sides are where the same events without a network end, but for runes that are not loaded and for counts
 abbrev pub RestIsAsIfLocal : Type 0
 RestIsAsIfLocal =
-    (given : List (List ℕ × List ℕ)) (es : List Event) (w : PlainWorld) → AreGiven given → run_of (new_world given) es ≡ Some w → is_at_rest w ≡ true
+    (given : List (List ℕ × List ℕ)) (es : List Event) (w : PlainWorld) → AreGiven given → run_of (new_world given) es ≡ Some w
+    → is_at_rest w ≡ true
     → at_rest w.host w.term ≡ carried_all given (user_events es)
 
 -- so two runs of the same events of the user, at rest, differ in nothing else

@@ -3,8 +3,9 @@
 //! First those of runs: every run of a world comes to what its events do to the editor without a network. Then what each of the 24 events
 //! of the user does to that editor, over its texts and dots alone. These hold of every editor to which events have led from files within
 //! the limits (`IsReached`), where nothing stands against the event (`May`); one that something stands against does nothing.
-ghost use Rattle.sam_local.specs.Worlds.{RunsAreAsIfLocal, RestIsAsIfLocal, OneRestForAll, WasAsIfLocal};
-ghost use Rattle.sam_local.specs.Editing.{RefusedDoesNothing, TypingReplaces, LineRuns, SelectSets, CutMoves, PasteReplaces, SnarfCopies, SetSnarfSets, GetSnarfFetches, EmptyDotKeeps, LookSelects, LookKeeps, SearchSelects, SendRuns, DclickSelects, ScrollShows, ViewShows, LoadShows, CheckAndFlushKeep, OpenOpens, CloseDrops, WriteSaves, WorkSets, CommandFileOpens, NewMakes, ExitEnds, VersionAgrees};
+ghost use Rattle.std.specs.Prelude.{◌≡◌, true};
+ghost use Rattle.sam_local.specs.Worlds.{RunsAreAsIfLocal, RestIsAsIfLocal, OneRestForAll, WasAsIfLocal, EndsAsIfLocal, is_at_rest};
+ghost use Rattle.sam_local.specs.Editing.{RefusedDoesNothing, TypingReplaces, LineRuns, SelectSets, CutMoves, PasteReplaces, PasteOfNothingCuts, SnarfCopies, SetSnarfSets, GetSnarfFetches, EmptyDotKeeps, LookSelects, LookKeeps, SearchSelects, SendRuns, DclickSelects, ScrollShows, ViewShows, LoadShows, CheckAndFlushKeep, OpenOpens, CloseDrops, WriteSaves, WorkSets, CommandFileOpens, NewMakes, ExitEnds, VersionAgrees};
 
 use sam_world::World;
 
@@ -25,10 +26,12 @@ pub fn runs_are_as_if_local()
 {}
 
 /// Says of this world that a run led to it from some files, and that what it comes to is what the events of the user that have acted in
-/// that run do to the editor without a network.
-#[tactic(auto, using(crate::proofs::Runs::was_as_if_local))]
+/// that run do to the editor without a network. At rest both sides are where all of its events lead that editor, but for runes that are
+/// not loaded and for counts of messages.
+#[tactic(auto, using(crate::proofs::Runs::was_as_if_local, crate::proofs::Runs::ends_as_if_local))]
 pub fn world_is_as_if_local(world: &World)
-    ensures { WasAsIfLocal world.now }
+    ensures now { WasAsIfLocal world.now }
+    ensures rest { is_at_rest world.now ≡ true → EndsAsIfLocal world.now }
 {
     world.facts();
 }
@@ -57,9 +60,11 @@ pub fn cut_moves()
     ensures { CutMoves }
 {}
 
-/// Says that a paste puts the snarf buffer in the place of the dot, which then is what was pasted, and leaves other files alone.
+/// Says that a paste puts the snarf buffer in the place of the dot, which then is what was pasted, and leaves other files alone. Where
+/// the buffer is empty, or the text would be too long, the dot goes and nothing comes.
 pub fn paste_replaces()
-    ensures { PasteReplaces }
+    ensures text { PasteReplaces }
+    ensures nothing { PasteOfNothingCuts }
 {}
 
 /// Says that a snarf copies the text of the dot into the snarf buffer.
