@@ -12,6 +12,11 @@
 
 #include "samhost.h"
 
+enum {
+    MOST_TRIES = 20,  /* attempts to save a text for good where memory is out */
+    PAUSE = 100000000 /* nanoseconds between two of them */
+};
+
 int take_text(struct session *session, uint16_t tag)
 {
     struct text *text = &session->text;
@@ -178,12 +183,26 @@ int move_aside(struct session *session, struct document *owner)
 
 /* ---- Closing and leaving ---- */
 
+/* Whether something that failed is to be tried once more: where memory is out, after a while. */
+static bool is_tried_again(int error, int *tries)
+{
+    const struct timespec pause = {0, PAUSE};
+
+    if (error != ENOMEM || ++*tries > MOST_TRIES)
+        return false;
+    nanosleep(&pause, NULL);
+    return true;
+}
+
 /* Saves a text that will not be written any more, and reports where it is. */
 static int save_for_good(struct session *session, uint16_t tag, const char *name)
 {
     enum place place;
-    int error = secure(session, tag, &place);
+    int error, tries = 0;
 
+    do
+        error = secure(session, tag, &place);
+    while (is_tried_again(error, &tries));
     if (error == 0 && place == ASIDE)
         say("%s was not written; its text is in %s", name, session->documents[tag].aside.path);
     return error;
@@ -251,7 +270,10 @@ static bool save_closed(struct session *session)
     while (session->closed != NULL) {
         struct closed *closed = session->closed;
         struct copy copy;
-        int error = keep(&closed->text, closed->name, SAVED, &copy);
+        int error, tries = 0;
+        do
+            error = keep(&closed->text, closed->name, SAVED, &copy);
+        while (is_tried_again(error, &tries));
         if (error == 0)
             say("%s was not written; its text is in %s", closed->name, copy.path);
         else
