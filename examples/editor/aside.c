@@ -38,9 +38,9 @@ bool is_own(const struct copy *copy)
 {
     struct stat now;
 
-    return copy->path != NULL && lstat(copy->path, &now) == 0 && now.st_dev == copy->device && now.st_ino == copy->inode
-        && (uint64_t)now.st_size == copy->content.len && now.st_mtim.tv_sec == copy->written.tv_sec
-        && now.st_mtim.tv_nsec == copy->written.tv_nsec;
+    return copy->path != NULL && lstat(copy->path, &now) == 0 && now.st_dev == copy->device && now.st_ino == copy->inode &&
+           (uint64_t)now.st_size == copy->content.len && now.st_mtim.tv_sec == copy->written.tv_sec &&
+           now.st_mtim.tv_nsec == copy->written.tv_nsec;
 }
 
 void forget_aside(struct document *document)
@@ -129,11 +129,10 @@ int secure(struct session *session, uint16_t tag, enum place *place)
 
 bool save_changed(struct session *session)
 {
-    size_t tags = 0;
+    size_t tags = count_tags(session);
     bool all = true;
     enum place place;
 
-    sam_host_tags(&session->host, &tags);
     for (size_t tag = 1; tag < tags; tag++) {
         struct document *document = &session->documents[tag];
         int error = secure(session, (uint16_t)tag, &place);
@@ -151,11 +150,10 @@ bool save_changed(struct session *session)
 struct document *owner_at(struct session *session, const char *path)
 {
     struct stat status;
-    size_t tags = 0;
+    size_t tags = count_tags(session);
 
     if (stat(path, &status) != 0)
         return NULL;
-    sam_host_tags(&session->host, &tags);
     for (size_t tag = 1; tag < tags; tag++) {
         struct document *document = &session->documents[tag];
         const struct copy *aside = &document->aside;
@@ -290,10 +288,9 @@ static bool save_closed(struct session *session)
 
 bool save_last(struct session *session)
 {
-    size_t tags = 0;
+    size_t tags = count_tags(session);
     bool all = save_closed(session);
 
-    sam_host_tags(&session->host, &tags);
     for (size_t tag = 1; tag < tags; tag++) {
         if (!is_changed(session, (uint16_t)tag))
             continue;

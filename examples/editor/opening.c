@@ -49,11 +49,16 @@ static char *shown_name(const char *path)
 static const char *why_not_added(uint32_t code)
 {
     switch (code) {
-    case SAM_NOT_TEXT: return "it is not UTF-8";
-    case SAM_ADD_TOO_LONG: return "it is longer than 1,000,000 characters";
-    case SAM_ADD_NO_TAG: return "there are too many files";
-    case SAM_NO_MEMORY: return "out of memory";
-    default: return "the host doesn't take it";
+    case SAM_NOT_TEXT:
+        return "it is not UTF-8";
+    case SAM_ADD_TOO_LONG:
+        return "it is longer than 1,000,000 characters";
+    case SAM_ADD_NO_TAG:
+        return "there are too many files";
+    case SAM_NO_MEMORY:
+        return "out of memory";
+    default:
+        return "the host doesn't take it";
     }
 }
 
@@ -132,8 +137,8 @@ static int identify(const char *path, struct identity *identity)
 
 static bool is_one_file(const struct identity *one, const struct identity *other)
 {
-    return one->device == other->device && one->inode == other->inode && (one->name == NULL) == (other->name == NULL)
-        && (one->name == NULL || strcmp(one->name, other->name) == 0);
+    return one->device == other->device && one->inode == other->inode && (one->name == NULL) == (other->name == NULL) &&
+           (one->name == NULL || strcmp(one->name, other->name) == 0);
 }
 
 /* Whether no two paths are of one file. A path of which that can't be said will fail when it is read, or when it is written. */
@@ -209,8 +214,8 @@ static bool is_of(const char *path, const struct folder *folder, const char *ent
     char base[BASE_ROOM];
     char *own = folder_of(path);
     struct stat status;
-    bool is_of = own != NULL && (folder->is_temporary || (stat(*own == '\0' ? "." : own, &status) == 0
-        && status.st_dev == folder->device && status.st_ino == folder->inode));
+    bool is_of = own != NULL && (folder->is_temporary || (stat(*own == '\0' ? "." : own, &status) == 0 && status.st_dev == folder->device &&
+                                                          status.st_ino == folder->inode));
 
     base_of(path, base);
     free(own);
@@ -220,9 +225,8 @@ static bool is_of(const char *path, const struct folder *folder, const char *ent
 /* Reports a copy where it is one of a file of the session, as it is named or as its symbolic links name it. */
 static void report_copy(struct session *session, const struct folder *folder, const char *entry, size_t len, bool is_old)
 {
-    size_t tags = 0;
+    size_t tags = count_tags(session);
 
-    sam_host_tags(&session->host, &tags);
     for (size_t tag = 1; tag < tags; tag++) {
         const struct document *document = &session->documents[tag];
         if (!is_of(document->path, folder, entry, len) && !is_of(document->known->path, folder, entry, len))
@@ -280,9 +284,8 @@ static bool report_folder(struct session *session, struct seen *seen, char *path
 
 void report_left(struct session *session)
 {
-    size_t tags = 0;
+    size_t tags = count_tags(session);
 
-    sam_host_tags(&session->host, &tags);
     struct seen seen = {.folders = calloc(2 * tags + 3, sizeof *seen.folders)}; /* two of each file, its own and two temporary ones */
     if (seen.folders == NULL) {
         say("out of memory: what is left of earlier sessions is not looked for");

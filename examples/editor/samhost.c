@@ -37,6 +37,13 @@ void say(const char *format, ...)
     fprintf(stderr, "samhost: %s\n", line);
 }
 
+size_t count_tags(struct session *session)
+{
+    size_t tags = 0;
+
+    return sam_host_tags(&session->host, &tags) == SAM_OK ? tags : 0;
+}
+
 /* Serves the files of a session that was opened. Returns the exit status. */
 static int run(struct session *session)
 {
@@ -71,9 +78,8 @@ static bool make_session(struct session *session)
 
 static void free_session(struct session *session)
 {
-    size_t tags = 0;
+    size_t tags = count_tags(session);
 
-    sam_host_tags(&session->host, &tags);
     sam_host_free(&session->host);
     for (size_t tag = 0; tag < tags; tag++)
         free_document(&session->documents[tag]);

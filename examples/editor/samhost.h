@@ -133,6 +133,9 @@ struct request {
 /* Writes a line to standard error. Control characters in it come out as question marks. */
 void say(const char *format, ...);
 
+/* How many tags the host has given; 0 where there is no host. */
+size_t count_tags(struct session *session);
+
 /* opening.c */
 
 /* Reads the files into the host. Returns the exit status: 0, or why the session can't begin. */

@@ -17,11 +17,16 @@
 const char *cause(int error)
 {
     switch (error) {
-    case NOT_REGULAR: return "it is not a regular file";
-    case NO_NAME: return "it has no name yet, or one that no file can have";
-    case IS_THERE: return "it is there already, and the next write replaces it";
-    case IS_CHANGED: return "another program changed it, and the next write replaces it";
-    default: return strerror(error);
+    case NOT_REGULAR:
+        return "it is not a regular file";
+    case NO_NAME:
+        return "it has no name yet, or one that no file can have";
+    case IS_THERE:
+        return "it is there already, and the next write replaces it";
+    case IS_CHANGED:
+        return "another program changed it, and the next write replaces it";
+    default:
+        return strerror(error);
     }
 }
 
