@@ -2,7 +2,7 @@
 from typing import Optional, Tuple
 
 from find import Find
-from keys import Mouse, Paste, Text
+from keys import Mouse, Paste
 from layout import line_start
 from lines import removes
 from menus import Help, Menu

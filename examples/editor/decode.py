@@ -3,7 +3,7 @@ nobody here knows."""
 import codecs
 import locale
 import re
-from typing import Dict, List, Optional, Tuple
+from typing import Dict, List, Optional
 
 from keys import Input, Key, Mouse, Paste, Text
 

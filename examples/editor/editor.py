@@ -47,11 +47,12 @@ WHY = {
 
 
 class Pressed(NamedTuple):
-    """A key, the second at which it was pressed, and the question that it answers."""
+    """A key, the second at which it was pressed, the question that it answers, and whether its user had read the line."""
 
     key: Input
     when: float
     answers: str = ""
+    has_read: bool = False
 
 
 def action_of(key: Input) -> Optional[str]:
@@ -267,7 +268,7 @@ class Editor(Actions):
         """The names of the files are known: opens the first one, and has it loaded before the command file is opened."""
         if known:
             self.show(known[0])
-            ask(self.terminal, known[0], 0, self.active.width * self.active.height, 0)
+            ask(self.terminal, known[0], 0, self.active.width * self.active.height)
         else:
             self.message = "no file: ^N makes one, F1 shows the keys"
         self.terminal.open_cmd()
@@ -320,7 +321,7 @@ class Editor(Actions):
     def take(self, key: Input, when: Optional[float] = None) -> None:
         """Does what a key says, now or when what it acts on is settled."""
         when = self.clock() if when is None else when
-        pressed = Pressed(key, when, self._answer_of(key, when))
+        pressed = Pressed(key, when, self._answer_of(key, when), self.notes.is_read)
         self._leaves_at = when + REPEAT if key == Key("^Q") and pressed.answers in (LEAVING, WAITING) else None
         if self._leaves_at is not None:
             return
@@ -343,7 +344,7 @@ class Editor(Actions):
             if self.deferred:
                 self.deferred[-1] = self.deferred[-1]._replace(answers="")
             return ""
-        return self.notes.answered(when) if key == self._asked_by else ""
+        return self.notes.answered if key == self._asked_by else ""
 
     def _act_in_order(self) -> None:
         """Does what the keys say, up to the first that has to wait."""
@@ -393,7 +394,7 @@ class Editor(Actions):
             self.keeping.typed_late += key.runes if isinstance(key, (Text, Paste)) else ""
             return
         self._answered, self._acting = pressed.answers, key
-        self.notes.take(pressed.when)
+        self.notes.take(pressed.has_read)
         try:
             if self._is_for_menu(key):
                 self._act_in_menu(pressed)

@@ -41,8 +41,10 @@ class Loop:
         """Returns when the user has left, or can't be reached any more."""
         self.editor.arrange(*self.screen.size)
         while not self.editor.is_over:
+            since = time.monotonic()
             ready = self._ready(0)
             if not ready:
+                self.editor.notes.settle(since)
                 ready = self._ready(self._idle())
             self._take_keys(ready)
             self._take_signals(ready)
@@ -70,6 +72,7 @@ class Loop:
             return 0
         waits.append(self.screen.draw(self.editor, self.link))
         self.editor.notes.drawn()
+        waits.append(self.editor.notes.left)
         if self.is_short:
             waits.append(RETRY)
         return min((wait for wait in waits if wait is not None), default=None)

@@ -45,6 +45,7 @@ class Notes:
         self.question = ""  # the message, where a key answers it
         self.unread: List[Tuple[int, str]] = []  # what the host told, the worst first
         self._drawn, self._drawn_at = "", 0.0
+        self._is_seen = False  # it stood there long enough while no key came
 
     @property
     def line(self) -> str:
@@ -61,7 +62,18 @@ class Notes:
     def drawn(self) -> None:
         """The line stands on the screen."""
         if self.line != self._drawn:
-            self._drawn, self._drawn_at = self.line, self.clock()
+            self._drawn, self._drawn_at, self._is_seen = self.line, self.clock(), False
+
+    def settle(self, since: float) -> None:
+        """No key waits at the keyboard that was pressed before a time. So where this program was held up, a key that was pressed early
+        doesn't count as a late one."""
+        self._is_seen = self._is_seen or (self.line == self._drawn and since >= self._drawn_at + READ_AFTER)
+
+    @property
+    def left(self) -> Optional[float]:
+        """Seconds until the line counts as read; None where it does, or need not."""
+        is_waiting = (self.question or self.unread) and not self._is_seen and self.line == self._drawn
+        return max(0.0, self._drawn_at + READ_AFTER - self.clock()) if is_waiting else None
 
     def say(self, message: str) -> None:
         self.message, self.question = message, ""
@@ -79,16 +91,18 @@ class Notes:
             self.unread.append((rank, line))
             self.unread.sort(key=lambda kept: -kept[0])
 
-    def is_read(self, when: float) -> bool:
-        """Whether a key of that time was pressed by someone who read the line."""
-        return self.line == self._drawn and when >= self._drawn_at + READ_AFTER
+    @property
+    def is_read(self) -> bool:
+        """Whether a key that comes now was pressed by someone who read the line."""
+        return self._is_seen and self.line == self._drawn
 
-    def answered(self, when: float) -> str:
-        """The question that a key of that time answers."""
-        return self.question if not self._shows_unread and self.is_read(when) else ""
+    @property
+    def answered(self) -> str:
+        """The question that a key which comes now answers."""
+        return self.question if not self._shows_unread and self.is_read else ""
 
-    def take(self, when: float) -> None:
-        """A key of that time acts: what was read goes."""
-        if self._shows_unread and self.is_read(when):
+    def take(self, has_read: bool) -> None:
+        """A key acts: what its user had read goes."""
+        if self._shows_unread and has_read:
             self.unread.pop(0)
         self.say("")

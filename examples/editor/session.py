@@ -42,10 +42,20 @@ class Session:
         for line in self.link.noise:
             say(f"samterm: the host's command printed: {line}")
         if is_there:
-            self.editor.feed(self.link.early)
+            is_there = self._takes(self.link.early)
         if is_there and self.link.noise:
             self.editor.notes.keep(1, f"the host's command printed: {self.link.noise[-1]}")
         return is_there
+
+    def _takes(self, data: bytes) -> bool:
+        try:
+            self.editor.feed(data)
+        except MemoryError:
+            pass  # the loop feeds it again
+        except SamError as error:
+            say(f"samterm: the host's stream is wrong ({error})")
+            return False
+        return True
 
     def _hear_early(self, line: str) -> None:
         say(line)

@@ -5,19 +5,14 @@ from layout import Layout, line_end, line_start, looks, row_start, top_above
 from sulgrevad import Terminal
 from texts import GAP, Change, Texts
 
-MOST_IN_REQUEST = 512  # runes that the host answers at once
+LONGEST_LOOK = 512  # runes of the line before that a new line takes its indentation from
 LONGEST_WORD = 4096  # runes that a move over a word looks at
 
 
-def ask(terminal: Terminal, tag: int, top: int, end: int, gap: int) -> None:
-    """Asks for what a window shows from `top` to `end`, whose first gap is at `gap`: for all of it with a page on either side, where the
-    terminal can; else for one piece, so that the file is free in between."""
-    load = getattr(terminal, "load", None)
-    if load is None:
-        terminal.view(tag, top, min(end, gap + MOST_IN_REQUEST) - top)
-    else:
-        start = max(0, 2 * top - end)
-        load(tag, start, 2 * end - top - start)
+def ask(terminal: Terminal, tag: int, top: int, end: int) -> None:
+    """Asks for what a window shows from `top` to `end`, and for a page on either side, in one round trip."""
+    start = max(0, 2 * top - end)
+    terminal.load(tag, start, 2 * end - top - start)
 
 
 class Window:
@@ -173,7 +168,7 @@ class Window:
             if self.terminal.view_of(self.tag) != (layout.top, layout.end):
                 self.terminal.view(self.tag, layout.top, layout.end - layout.top)
         elif not (is_busy and layout.top <= self.caret <= gap and layout.top < gap):
-            ask(self.terminal, self.tag, layout.top, layout.end, gap)
+            ask(self.terminal, self.tag, layout.top, layout.end)
 
     # ---- Moving
 
@@ -264,7 +259,7 @@ class Window:
     def indentation(self, place: int) -> str:
         """The blanks at the start of the line of a place, up to it."""
         start = self.line_start(place)
-        line = self.read(start, min(place - start, MOST_IN_REQUEST))
+        line = self.read(start, min(place - start, LONGEST_LOOK))
         return line[: len(line) - len(line.lstrip(" \t"))]
 
     def newline(self, place: int) -> str:

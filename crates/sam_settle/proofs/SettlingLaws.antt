@@ -1,7 +1,7 @@
 -- What settling comes to where the schedule is replayed.
 use Rattle.sam_settle.proofs.Common.{◌≡◌, [], Some, arith, IsSoundWorld, PlainWorld, new_world, run_of, merged, AreEnds, stops_of, LinesGive, IsSource, world_from, Ends}
-use Rattle.sam_settle.specs.declared.settle.Source.{Source}
-use Rattle.sam_settle.specs.declared.settle.Source.TheVariants.{Sides}
+use Rattle.sam_settle.specs.declared.settling.Source.{Source}
+use Rattle.sam_settle.specs.declared.settling.Source.TheVariants.{Sides}
 use Rattle.sam_settle.proofs.SettlingClauses.{sides_lead, sides_kept}
 
 module _ (e : Ends) (ends : AreEnds e) (give : LinesGive e) where

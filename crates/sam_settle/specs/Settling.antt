@@ -10,11 +10,11 @@ use Rattle.sam_settle.specs.Settled.{counts_left, stops_of}
 use Rattle.sam_workers.specs.declared.ends.Ends.{Ends}
 use Rattle.sam_workers.specs.declared.stop.Stop.{Stop}
 use Rattle.sam_settle.specs.declared.settled.Settled.{Settled}
-use Rattle.sam_settle.specs.declared.settle.LineRoom.{LineRoom}
-use Rattle.sam_settle.specs.declared.settle.Prepared.{Prepared}
-use Rattle.sam_settle.specs.declared.settle.Replay.{Replay}
-use Rattle.sam_settle.specs.declared.settle.Source.{Source}
-use Rattle.sam_settle.specs.declared.settle.Source.TheVariants.{Sides, Run}
+use Rattle.sam_settle.specs.declared.settling.LineRoom.{LineRoom}
+use Rattle.sam_settle.specs.declared.settling.Prepared.{Prepared}
+use Rattle.sam_settle.specs.declared.settling.Replay.{Replay}
+use Rattle.sam_settle.specs.declared.settling.Source.{Source}
+use Rattle.sam_settle.specs.declared.settling.Source.TheVariants.{Sides, Run}
 
 -- room for the audit of a line, and for so many posts
 pub record IsRoomFor {T : Type 0} (line : LineView) (posts : ℕ) (room : LineRoom T) : Type 0 where

@@ -3,9 +3,9 @@
 #![tactic(auto)]
 
 mod laws;
-mod settle;
 mod settled;
+mod settling;
 
 pub use laws::apart_sides_join;
-pub use settle::settle;
 pub use settled::{SettleFault, Settled};
+pub use settling::settle;

@@ -1,6 +1,6 @@
 use Rattle.std.proofs.Common.{arith, rules}
 use Rattle.sam_settle.proofs.SettlingLists.{pushed_three, audited_few, audited_count}
-use Rattle.sam_settle.proofs.settle.audit_three.Goals as goal
+use Rattle.sam_settle.proofs.settling.audit_three.Goals as goal
 
 pub count-requires : goal.count-requires
 count-requires g c = search (rules, arith, audited_few)

@@ -1,6 +1,6 @@
 use Rattle.std.proofs.Common.{arith, rules}
 use Rattle.sam_settle.proofs.SettlingClauses.{states, headline, is_drained, has_streams, has_users, are_full, misses_host, is_whole}
-use Rattle.sam_settle.proofs.settle.settle.Goals as goal
+use Rattle.sam_settle.proofs.settling.settle.Goals as goal
 
 pub returns-in-Ok-clause-headline : goal.returns-in-Ok-clause-headline
 returns-in-Ok-clause-headline g c = grind (arith, headline)

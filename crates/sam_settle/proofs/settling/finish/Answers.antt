@@ -1,7 +1,7 @@
 use Rattle.sam_settle.proofs.Common.{arith, LinesGive}
 use Rattle.sam_settle.proofs.SettlingClauses.{always_replays}
 use Rattle.sam_settle.proofs.SettlingLaws.{source_leads}
-use Rattle.sam_settle.proofs.settle.finish.Goals as goal
+use Rattle.sam_settle.proofs.settling.finish.Goals as goal
 
 pub unreachable-requires : goal.unreachable-requires
 unreachable-requires g c = grind (arith, always_replays)
