@@ -8,5 +8,4 @@ pub mod TermEndpointMoves
 pub mod TermEndpointSteps
 pub mod TermEndpointCalls
 pub mod HostEndpointRuns
-pub mod Rests
 pub mod Members

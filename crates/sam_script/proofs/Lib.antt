@@ -1,5 +1,4 @@
 pub mod Common
-pub mod Rests
 pub mod ShowLaws
 pub mod Replays
 pub mod WordLaws
