@@ -1,4 +1,4 @@
--- Messages that are encoded one behind another.
+-- Messages that are encoded one after another.
 use Rattle.std.proofs.Common.{◌≡◌, subst, refl, ℕ, ◌+◌, ◌<◌, ◌≤◌, List, ◌++◌, length, take, get_or, true, append_assoc, arith, IsTrue, Decides, take_all}
 use Rattle.std.proofs.Math.Seq.{take-append_seam}
 use Rattle.std.proofs.lemmas.List.{take_more}
@@ -13,7 +13,7 @@ pub one_written : {M : Type 0} (d : Direction M) (before out next : List ℕ) (m
     → out ≡ before ++ stream_of d (take i ms) → next ≡ out ++ frame_of d m → next ≡ before ++ stream_of d (take (i + 1) ms)
 one_written {M} d before out next ms i m l is so_far one = grind (arith, (take_more ms i m l), (stream_of-append d), (stream_of-one d m), (append_assoc before))
 
--- what was put behind is cut off again
+-- what was put after is cut off again
 pub cut_back : (before more out after : List ℕ) (n : ℕ) → n ≡ length before → out ≡ before ++ more → after ≡ take n out → after ≡ before
 cut_back before more out after n long put cut = grind (arith, take-append_seam)
 

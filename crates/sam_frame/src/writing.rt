@@ -1,4 +1,4 @@
-//! Messages written as bytes, one frame behind another.
+//! Messages written as bytes, one frame after another.
 
 ghost use Rattle.std.specs.Prelude.{◌≡◌, ◌++◌, OnOk, OnErr, IfErr, Decides};
 ghost use Rattle.sam_mesg.specs.declared.fault.MesgFault.TheVariants.{OutOfMemory};
@@ -21,7 +21,7 @@ pub fn can_encode<M: Wire>(messages: &[M]) -> bool
 }
 
 /// Puts the frames of the messages at the end of `out`, in order: all of them, or none. Each message has to fit in version 2, as
-/// `can_encode` tells. On a stream of version 1 the caller sends only what fits there.
+/// `can_encode` says. On a stream of version 1 the caller sends only what fits there.
 ///
 /// The only error is `OutOfMemory`, after which `out` is as before.
 #[tactic(auto, using(crate::proofs::Encoding::encode_all_facts))]

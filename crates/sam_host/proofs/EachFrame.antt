@@ -163,7 +163,7 @@ lock_freed h (Tdclick f p) = File f
 lock_freed h Texit = Command
 lock_freed h _ = Nothing
 
--- what is told of each kind: of Tversion behind the version, and nothing of Tstartsnarf
+-- what is told of each kind: of Tversion after the version, and nothing of Tstartsnarf
 abbrev pub EndsOf : (List ℕ → Type 0) → PlainHost → Tmesg → Type 0
 EndsOf Q h (Tversion v) = Ends Q Command (told_names 1 (drop 1 h.files.slots) ++ Hack ∷ Hunlock ∷ [])
 EndsOf Q h Tstartsnarf = Unit {0}

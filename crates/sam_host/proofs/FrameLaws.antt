@@ -40,3 +40,6 @@ pub refused_exactly : (h : PlainHost) (m : Tmesg) (why : HostFault) → (h.taken
     → IsRefusal (fault_of (answer h m)) why
 unfolding answer
 refused_exactly h m why less undone against = grind (arith, (exact-by (first_of_checks (host_checks h m)) (reply_to h m) why against))
+
+-- what the answer to a message rests on
+pub ruleset answer_facts = (answered, refused, refused_exactly)

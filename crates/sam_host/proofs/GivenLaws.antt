@@ -9,7 +9,7 @@ Given = List ℕ × RoomyText
 turned : (all rest : List Given) (g : Given) → all ≡ rest ++ g ∷ [] → reverse all ≡ g ∷ reverse rest
 turned all rest g e = ap reverse e ∙ reverse-append rest (g ∷ [])
 
--- the file that is popped last stands behind those that were added, in front of those that are left
+-- the file that is popped last stands after those that were added, in front of those that are left
 pub given_step : (ss : Slots PlainFile) (all rest : List Given) (g : Given) → all ≡ rest ++ g ∷ []
     → put_slot ss (length ss) (given_file (g.0, g.1.runes)) ++ given_slots (given_of (reverse rest)) ≡ ss ++ given_slots (given_of (reverse all))
 given_step ss all rest g e = search (rules, common_steps, put_slot-push)

@@ -90,7 +90,7 @@ pub told_line : (before : List HFrame) (seen : ℕ) (fs : PlainFiles) (o : Plain
     → before ++ stamped seen (a ++ printed (committed fs o) s ++ c) ≡ ((before ++ stamped seen a) ++ stamped seen (printed fs s)) ++ stamped seen c
 told_line before seen fs o s a c h = grind (arith, printed_committed, told_both)
 
--- the frames after six parts, each told behind those before it
+-- the frames after six parts, each told after those before it
 pub six_told : (before x1 x2 x3 x4 x5 x6 : List HFrame) (seen : ℕ) (a b c d e f : List Hmesg) → x1 ≡ before ++ stamped seen a → x2 ≡ x1 ++ stamped seen b
     → x3 ≡ x2 ++ stamped seen c → x4 ≡ x3 ++ stamped seen d → x5 ≡ x4 ++ stamped seen e → x6 ≡ x5 ++ stamped seen f
     → x6 ≡ before ++ stamped seen (a ++ b ++ c ++ d ++ e ++ f)

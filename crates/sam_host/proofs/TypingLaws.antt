@@ -44,10 +44,9 @@ undone h g k p s dot there place e f d = grind (arith, (undone-slots h h.files.s
 
 -- ## Lines
 
--- whether a text ends a line shows in its last rune
-pub last_ends : (t : List ℕ) (k d : ℕ) → suc k ≡ length t → ends_line t ≡ nat_eq (get_or t k d) 10
-last_ends (c ∷ b ∷ t) (suc k) d e = last_ends (b ∷ t) k d (omega arith)
-last_ends t k d e = grind arith
+-- what ends a line is not empty
+pub ends_filled : (t : List ℕ) → ends_line t ≡ true → 0 < length t
+ends_filled (c ∷ t) e = omega arith
 
 typed-as-line : (h : PlainHost) (f p : ℕ) (s : List ℕ) → f ≡ 0 → (nat_eq f 0 && ends_line s) ≡ true → reply_type h f p s ≡ typed_line h p s
 unfolding reply_type
@@ -60,6 +59,9 @@ type_as_line h f p s e ends = grind (arith, typed-as-line)
 pub type_alone : (h : PlainHost) (f p : ℕ) (s : List ℕ) → (nat_eq f 0 && ends_line s) ≡ false → reply_type h f p s ≡ (with_file h f (typed_file f (file_at h.files f) p s), [])
 unfolding reply_type
 type_alone h f p s test = grind arith
+
+-- what the answer to Ttype rests on
+pub ruleset type_facts = (type_as_line, type_alone, ends_filled)
 
 -- ## Sending
 
@@ -78,7 +80,7 @@ lines-or true (c ∷ s) e = omega arith
 pub lines_filled : (s : List ℕ) → 0 < length (as_lines s)
 lines_filled s = lines-or (ends_line s) s refl
 
--- a send of nothing, or without room, does nothing; any other runs its last line behind what it prints
+-- a send of nothing, or without room, does nothing; any other runs its last line after what it prints
 pub send_nothing : (h : PlainHost) (f p q : ℕ) → ((p == q) || not (has_room h.files (as_lines (part (file_at h.files f).text p q)))) ≡ true → reply_send h f p q ≡ (h, Hunlock ∷ [])
 unfolding reply_send
 send_nothing h f p q test = grind arith

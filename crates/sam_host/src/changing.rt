@@ -110,19 +110,20 @@ impl Host {
 
     /// Answers `Tsetsnarf`: these runes become the snarf buffer, and their number is told. The only error is `OutOfMemory`.
     #[tactic(auto, using(crate::proofs::FileLaws::snarf_short), unfolding(crate::specs::Host::reply_setsnarf))]
-    pub(crate) fn set_snarf(&mut self, runes: Runes) -> Result<Vec<HFrame>, HostFault>
+    pub(crate) fn set_snarf(&mut self, runes: &Runes) -> Result<Vec<HFrame>, HostFault>
         requires count { self.old.taken + 1 < 2 ^ 64 }
-        requires fits { IsTrue (fits_t 2 (Tmesg.Tsetsnarf runes)) }
-        ensures allowed { OnOk result (first_of_checks (host_checks self.old (Tmesg.Tsetsnarf runes)) ≡ None) }
-        ensures host { OnOk result (self.new ≡ (reply_setsnarf self.old runes).0) }
-        ensures frames { IfOk result (λ frames. frames.items ≡ stamped (self.old.taken + 1) (reply_setsnarf self.old runes).1) }
-        ensures refused { Refuses self.old (Tmesg.Tsetsnarf runes) result }
+        requires fits { IsTrue (fits_t 2 (Tmesg.Tsetsnarf runes.now)) }
+        ensures allowed { OnOk result (first_of_checks (host_checks self.old (Tmesg.Tsetsnarf runes.now)) ≡ None) }
+        ensures host { OnOk result (self.new ≡ (reply_setsnarf self.old runes.now).0) }
+        ensures frames { IfOk result (λ frames. frames.items ≡ stamped (self.old.taken + 1) (reply_setsnarf self.old runes.now).1) }
+        ensures refused { Refuses self.old (Tmesg.Tsetsnarf runes.now) result }
         ensures count { self.new.taken ≡ self.old.taken }
         ensures unchanged { OnErr result (self.new ≡ self.old) }
     {
         let mut frames = Vec::new(self.alloc);
         self.say(&mut frames, Hmesg::Hsnarflen(runes.len() as u32))?;
-        self.files.put_snarf(runes);
+        let copy = runes.copy(self.alloc)?;
+        self.files.put_snarf(copy);
         Ok(frames)
     }
 

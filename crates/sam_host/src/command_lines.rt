@@ -1,10 +1,10 @@
-//! Typing, command lines, and new files. A line is run when its newline is typed into the command file, or when it is sent there. What it
+//! Typing and command lines. A line is run when its newline is typed into the command file, or when it is sent there. What it
 //! does is worked out first, then told, and put in last, so that nothing of it is changed when memory runs out. The functions that tell
 //! add frames to those of the answer. The only error of a private function is `OutOfMemory`, and the host is then unchanged.
 
 ghost use Rattle.std.specs.Prelude.{◌≡◌, ◌<◌, ◌≤◌, ◌+◌, ◌-◌, ◌++◌, ◌∷◌, [], ◌^◌, IfOk, IsTrue, OnOk, OnErr, Err, None, Some, true, not, ◌&&◌, nat_lt, if◌then◌else◌, length};
 ghost use Rattle.sam_host.specs.Typing.{reply_line_to, typed_line, sent};
-ghost use Rattle.sam_host.specs.Host.{host_checks, Refuses, Appends, stamped, when, when_given, printed, told_edit, told_edits, told_outcome, with_file, with_files, no_tag_left, line_to, reply_outcome, reply_line, reply_type, reply_send, reply_startnewfile};
+ghost use Rattle.sam_host.specs.Host.{host_checks, Refuses, Appends, stamped, when, when_given, printed, told_edit, told_edits, told_outcome, with_file, line_to, reply_outcome, reply_line, reply_type, reply_send};
 ghost use Rattle.sam_runes.specs.Texts.{max_runes, del, is_empty, part, as_lines, last_line, ends_line};
 ghost use Rattle.sam_runes.specs.Edits.{inserted};
 ghost use Rattle.sam_runes.specs.Checks.{first_of_checks};
@@ -16,7 +16,7 @@ use crate::fault::HostFault;
 use crate::host::Host;
 use sam_mesg::{HFrame, Hmesg, Tmesg};
 use sam_runes::places::start_of_line;
-use sam_runes::{ALL_TAGS, Edit, Runes};
+use sam_runes::{Edit, Runes};
 use sam_text::Outcome;
 
 impl Host {
@@ -297,7 +297,7 @@ impl Host {
         self.put_outcome(outcome)
     }
 
-    /// Puts typed runes in at `p`. The dot is then empty, behind them, and any file but the command file is dirty.
+    /// Puts typed runes in at `p`. The dot is then empty, after them, and any file but the command file is dirty.
     #[tactic(auto, using(crate::proofs::FileLaws::insert_allowed))]
     fn put_typed(&mut self, tag: u16, p: u32, runes: &[char]) -> Result<(), HostFault>
         requires there { has_file self.old.files tag ≡ true }
@@ -446,7 +446,7 @@ impl Host {
     /// file and end in a newline, the line that this newline ends is run, and its frames are the answer. Errors, in this order: `NoFile`;
     /// `NotOpen`; `BadPosition` if `p` is past the end; `TooLong` if the text would have more than `MAX_RUNES` runes; `OutOfMemory`.
     /// After an error the host is unchanged. The caller counts the message.
-    #[tactic(auto, using(crate::proofs::TypingLaws::type_as_line, crate::proofs::TypingLaws::type_alone))]
+    #[tactic(auto, using(crate::proofs::TypingLaws::type_facts))]
     pub(crate) fn type_in(
         &mut self,
         tag: u16,
@@ -463,7 +463,7 @@ impl Host {
     {
         self.wants_open(tag)?;
         self.files.wants_insert(tag, p, runes.len())?;
-        if tag == 0 && ends_line(runes.as_slice()) {
+        if tag == 0 && runes.ends_line() {
             return self.type_line(p, runes.as_slice());
         }
         self.put_typed(tag, p, runes.as_slice())?;
@@ -478,7 +478,7 @@ impl Host {
         ensures memory { OnErr result (result ≡ Err HostFault.OutOfMemory) }
     {
         let runes = self.part(tag, p, q)?;
-        if ends_line(runes.as_slice()) {
+        if runes.ends_line() {
             return Ok(runes);
         }
         let mut lines = runes.into_vec();
@@ -541,62 +541,4 @@ impl Host {
         }
         self.send_lines(lines.as_slice())
     }
-
-    /// Answers a `Tstartnewfile` after all tags were given: prints `? no tag`, and frees the command lock.
-    #[tactic(auto, using(crate::proofs::FrameLaws::stamped_append))]
-    fn no_tag_left(&mut self) -> Result<Vec<HFrame>, HostFault>
-        requires count { self.old.taken + 1 < 2 ^ 64 }
-        ensures host { OnOk result (self.new ≡ with_files self.old (after_print self.old.files no_tag_left)) }
-        ensures frames { IfOk result (λ frames. frames.items
-            ≡ stamped (self.old.taken + 1) (printed self.old.files no_tag_left ++ Hmesg.Hunlock ∷ [])) }
-        ensures memory { OnErr result (result ≡ Err HostFault.OutOfMemory) }
-        ensures unchanged { OnErr result (self.new ≡ self.old) }
-    {
-        let words = ['?', ' ', 'n', 'o', ' ', 't', 'a', 'g', '\n'];
-        let mut frames = Vec::new(self.alloc);
-        self.tell_print(&mut frames, &words)?;
-        self.say(&mut frames, Hmesg::Hunlock)?;
-        self.files.print(&words)?;
-        Ok(frames)
-    }
-
-    /// Answers `Tstartnewfile`: makes an empty, clean file with no name under the next tag, opens it, and makes it the work file. If all
-    /// tags were given, `? no tag` is printed instead. The only error is `OutOfMemory`, and the host is then unchanged. The caller
-    /// counts the message.
-    #[tactic(auto, unfolding(crate::specs::Host::reply_startnewfile))]
-    pub(crate) fn start_new_file(&mut self) -> Result<Vec<HFrame>, HostFault>
-        requires { self.old.taken + 1 < 2 ^ 64 }
-        ensures allowed { OnOk result (first_of_checks (host_checks self.old Tmesg.Tstartnewfile) ≡ None) }
-        ensures host { OnOk result (self.new ≡ (reply_startnewfile self.old).0) }
-        ensures frames { IfOk result (λ frames. frames.items ≡ stamped (self.old.taken + 1) (reply_startnewfile self.old).1) }
-        ensures refused { Refuses self.old Tmesg.Tstartnewfile result }
-        ensures count { self.new.taken ≡ self.old.taken }
-        ensures unchanged { OnErr result (self.new ≡ self.old) }
-    {
-        let tags = self.files.tags();
-        if tags >= ALL_TAGS {
-            return self.no_tag_left();
-        }
-        let tag = tags as u16;
-        let mut frames = Vec::new(self.alloc);
-        self.say(&mut frames, Hmesg::Hnewname(tag))?;
-        self.say(&mut frames, Hmesg::Hbindname(tag))?;
-        self.say(&mut frames, Hmesg::Hcurrent(tag))?;
-        self.say(&mut frames, Hmesg::Hunlock)?;
-        self.files.start_file()?;
-        Ok(frames)
-    }
-}
-
-/// Returns whether the last rune is a newline; false if there are no runes.
-#[tactic(auto, using(crate::proofs::TypingLaws::last_ends))]
-fn ends_line(runes: &[char]) -> bool
-    ensures value { result ≡ ends_line runes.now }
-    ensures filled { IsTrue result → 0 < length runes.now }
-{
-    if runes.is_empty() {
-        return false;
-    }
-    let last = runes.len() - 1;
-    runes[last] == '\n'
 }

@@ -1,17 +1,16 @@
-//! The answers to the version, to what opens, chooses or closes a file, and to the end of the session. (`start_new_file` stands in
-//! `command_lines`, since it may have to print.) A method for a kind leaves the count of messages to its caller, and after an error the
-//! host is unchanged.
+//! The answers to the version, to what makes, opens, chooses or closes a file, and to the end of the session. A method for a kind leaves
+//! the count of messages to its caller, and after an error the host is unchanged.
 
-ghost use Rattle.std.specs.Prelude.{◌≡◌, ◌<◌, ◌+◌, ◌∷◌, [], ◌^◌, IfOk, OnOk, OnErr, Err, None, Some, true, not, drop};
-ghost use Rattle.sam_host.specs.Host.{host_checks, Refuses, Appends, stamped, when, told_length, told_names, with_files, reply_version, reply_startcmdfile, reply_startfile, reply_workfile, reply_close, reply_exit};
+ghost use Rattle.std.specs.Prelude.{◌≡◌, ◌<◌, ◌+◌, ◌++◌, ◌∷◌, [], ◌^◌, IfOk, OnOk, OnErr, Err, None, Some, true, not, drop};
+ghost use Rattle.sam_host.specs.Host.{host_checks, Refuses, Appends, stamped, when, told_length, told_names, with_files, printed, no_tag_left, reply_version, reply_startcmdfile, reply_startfile, reply_startnewfile, reply_workfile, reply_close, reply_exit};
 ghost use Rattle.sam_runes.specs.Checks.{first_of_checks};
-ghost use Rattle.sam_text.specs.Files.{file_at, has_file, change_file};
+ghost use Rattle.sam_text.specs.Files.{file_at, has_file, change_file, after_print};
 ghost use Rattle.sam_text.specs.Views.{changed, FitsIn};
 
 use crate::fault::HostFault;
 use crate::host::Host;
 use sam_mesg::{HFrame, Hmesg, Tmesg};
-use sam_runes::{Runes, common_version};
+use sam_runes::{ALL_TAGS, Runes, common_version};
 
 impl Host {
     /// Tells how the answer to `Tversion` ends: the terminal is asked for a `Tack`, and the command lock is free.
@@ -125,6 +124,51 @@ impl Host {
         self.tell_opening(&mut frames, tag)?;
         self.say(&mut frames, Hmesg::Hunlock)?;
         self.files.open_work(tag)?;
+        Ok(frames)
+    }
+
+    /// Answers a `Tstartnewfile` after all tags were given: prints `? no tag`, and frees the command lock.
+    #[tactic(auto, using(crate::proofs::FrameLaws::stamped_append))]
+    fn no_tag_left(&mut self) -> Result<Vec<HFrame>, HostFault>
+        requires count { self.old.taken + 1 < 2 ^ 64 }
+        ensures host { OnOk result (self.new ≡ with_files self.old (after_print self.old.files no_tag_left)) }
+        ensures frames { IfOk result (λ frames. frames.items
+            ≡ stamped (self.old.taken + 1) (printed self.old.files no_tag_left ++ Hmesg.Hunlock ∷ [])) }
+        ensures memory { OnErr result (result ≡ Err HostFault.OutOfMemory) }
+        ensures unchanged { OnErr result (self.new ≡ self.old) }
+    {
+        let words = ['?', ' ', 'n', 'o', ' ', 't', 'a', 'g', '\n'];
+        let mut frames = Vec::new(self.alloc);
+        self.tell_print(&mut frames, &words)?;
+        self.say(&mut frames, Hmesg::Hunlock)?;
+        self.files.print(&words)?;
+        Ok(frames)
+    }
+
+    /// Answers `Tstartnewfile`: makes an empty, clean file with no name under the next tag, opens it, and makes it the work file. If all
+    /// tags were given, `? no tag` is printed instead. The only error is `OutOfMemory`, and the host is then unchanged. The caller
+    /// counts the message.
+    #[tactic(auto, unfolding(crate::specs::Host::reply_startnewfile))]
+    pub(crate) fn start_new_file(&mut self) -> Result<Vec<HFrame>, HostFault>
+        requires { self.old.taken + 1 < 2 ^ 64 }
+        ensures allowed { OnOk result (first_of_checks (host_checks self.old Tmesg.Tstartnewfile) ≡ None) }
+        ensures host { OnOk result (self.new ≡ (reply_startnewfile self.old).0) }
+        ensures frames { IfOk result (λ frames. frames.items ≡ stamped (self.old.taken + 1) (reply_startnewfile self.old).1) }
+        ensures refused { Refuses self.old Tmesg.Tstartnewfile result }
+        ensures count { self.new.taken ≡ self.old.taken }
+        ensures unchanged { OnErr result (self.new ≡ self.old) }
+    {
+        let tags = self.files.tags();
+        if tags >= ALL_TAGS {
+            return self.no_tag_left();
+        }
+        let tag = tags as u16;
+        let mut frames = Vec::new(self.alloc);
+        self.say(&mut frames, Hmesg::Hnewname(tag))?;
+        self.say(&mut frames, Hmesg::Hbindname(tag))?;
+        self.say(&mut frames, Hmesg::Hcurrent(tag))?;
+        self.say(&mut frames, Hmesg::Hunlock)?;
+        self.files.start_file()?;
         Ok(frames)
     }
 

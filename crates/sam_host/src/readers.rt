@@ -36,7 +36,7 @@ impl Host {
         self.version
     }
 
-    /// Tells what is true of every host: texts and names are within their limits, each dot is a range of its text, and the version is 1 or
+    /// States what is true of every host: texts and names are within their limits, each dot is a range of its text, and the version is 1 or
     /// 2. It does nothing when the program runs.
     #[tactic(auto, using(crate::proofs::SoundLaws::known_sound))]
     pub fn facts(&self)

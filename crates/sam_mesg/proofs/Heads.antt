@@ -1,4 +1,4 @@
--- The head of a frame, whose length is written once the body stands behind it.
+-- The head of a frame, whose length is written once the body stands after it.
 use Rattle.sam_mesg.proofs.Common.{◌≡◌, ℕ, ◌+◌, ◌-◌, ◌<◌, List, [], ◌∷◌, ◌++◌, length, take, drop, set, sym, ap, ◌∙◌, append_assoc, arith, length-append, length-set, drop-set-lt, take_at, drop_at, suc, w16, set_split, take_more_set, to_be_bytes, frame}
 
 -- two neighbours, written one after the other

@@ -50,7 +50,7 @@ pub fn common_version(offered: u16) -> u16
     offered.min(LAST_VERSION)
 }
 
-/// Returns the version behind an offer, where it was `version` before. There is no version 0, so an offer of 0 leaves it.
+/// Returns the version after an offer, where it was `version` before. There is no version 0, so an offer of 0 leaves it.
 pub fn agreed(version: u16, offered: u16) -> u16
     ensures { result ≡ agreed version offered }
 {

@@ -56,7 +56,7 @@ cuts_none t f d e h = grind arith
 abbrev pub cut_made : PlainTerminal → ℕ → ℕ × ℕ → Made
 cut_made t f d = (composed (cut_rasp (flushed t).0 f d.0 d.1) (Tcut f d.0 d.1), (flushed t).1 ++ Tcut f d.0 d.1 ∷ [])
 
--- ## No runes are unsent behind a flush
+-- ## No runes are unsent after a flush
 
 pub unsent-all : (t : PlainTerminal) (ms : List Tmesg) → (all_composed t ms).unsent ≡ t.unsent
 unsent-all t [] = refl

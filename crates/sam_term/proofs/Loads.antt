@@ -56,7 +56,7 @@ pub stretches-over : (r : PartialText) (p q n : ℕ) → n ≡ 0 → stretches r
 unfolding stretches
 stretches-over r p q n e = grind arith
 
--- i of n stretches are behind, and this is the next
+-- i of n stretches are done, and this is the next
 pub stretches-next : (r : PartialText) (p q n i : ℕ) (s : ℕ × ℕ) → i < n → Some s ≡ option_map front_of (hole_within r p q)
     → stretches r p q (n - i) ≡ s ∷ stretches r (s.0 + s.1) q (n - (i + 1))
 stretches-next r p q n i s l e =

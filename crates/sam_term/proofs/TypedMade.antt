@@ -1,4 +1,4 @@
--- What typing makes, in the order of the code: the window is changed first, and the messages are composed behind that.
+-- What typing makes, in the order of the code: the window is changed first, and the messages are composed after that.
 use Rattle.sam_term.proofs.Edits.{make_facts, later, cut_made, cuts_none, cut-unsent, flushed-idle, flushed-messages}
 use Rattle.sam_term.proofs.Grows.{grown_facts}
 use Rattle.sam_term.proofs.FileSteps.{file_puts}
@@ -43,7 +43,7 @@ by-steps : (t : PlainTerminal) (f : ℕ) (s : List ℕ) → is_empty s ≡ false
 unfolding made_by_type
 by-steps t f s e = grind arith
 
--- behind unsent runes
+-- after unsent runes
 abbrev behind : (t : PlainTerminal) (f : ℕ) (s : List ℕ) (d : ℕ × ℕ) → PlainTerminal
 behind t f s d = record (put_window (edited t f) f (typed_over (window_at t f) s)) { unsent = Some (joined t.unsent f d.0 s) }
 
@@ -84,7 +84,7 @@ pub made-apart : (t : PlainTerminal) (f : ℕ) (s : List ℕ) → is_empty s ≡
     → ((window_at t f).dot.0 == (window_at t f).dot.1 && joins t.unsent f (window_at t f).dot.0 s) ≡ false → event_outcome t (Typed f s) ≡ made_apart t f s (window_at t f).dot
 made-apart t f s some l h = grind (arith, made-apart_none, by-steps, cut-unsent, apart-filled, nat_eq, ne_eqb, flushed-idle)
 
--- ## Composing behind the change of the window
+-- ## Composing after the change of the window
 
 -- the unsent runes are composed after the user changed a window, as if it were before
 pub put-flushed : (t : PlainTerminal) (f : ℕ) (w : Window) → all_composed (record (put_window (edited t f) f w) { unsent = None }) (unsent_message t.unsent) ≡ put_window (edited (flushed t).0 f) f w
@@ -123,7 +123,7 @@ pub typed-fits : (t : PlainTerminal) (f : ℕ) (s : List ℕ) → free_first t �
 unfolding test_at
 typed-fits t f s n h = grind (arith, (passes t (Typed f s) 9 n h))
 
--- unsent runes that get more behind them are those that they are joined to
+-- unsent runes that get more after them are those that they are joined to
 pub lengthened-joined : (o : Option Unsent) (f p : ℕ) (s : List ℕ) → joins o f p s ≡ true → option_map (lengthened s) o ≡ Some (joined o f p s)
 lengthened-joined o f p s e = grind arith
 
@@ -132,7 +132,7 @@ pub shortened-again : (o : Option Unsent) (s : List ℕ) → option_map (shorten
 shortened-again None s = refl
 shortened-again (Some u) s = grind (arith, (length-append u.runes s), (take-append_seam u.runes s))
 
--- a terminal stays sound as runes are typed behind the unsent ones
+-- a terminal stays sound as runes are typed after the unsent ones
 pub sound-joined : (t : PlainTerminal) (f : ℕ) (s : List ℕ) → IsSound t → (window_at t f).dot.0 ≡ (window_at t f).dot.1 → length (window_at t f).rasp + length s ≤ max_runes
     → joins t.unsent f (window_at t f).dot.0 s ≡ true → IsSound (joined_at t f s)
 unfolding FitsUnsent IsShort
@@ -147,5 +147,5 @@ pub ruleset joined_facts = (first_is, file_puts, grown_facts, lengthened-joined,
 -- what typing apart from the unsent runes rests on
 pub ruleset apart_facts = (make_facts, made-apart, put-flushed, window-cut, few-typed, typed-fits, edited-put, open_known, slot-put_same)
 
--- what typing behind them rests on
+-- what typing after them rests on
 pub ruleset behind_facts = (make_facts, made-behind_dot, flush-count, typed-fits, edited-put, open_known, slot-put_same)

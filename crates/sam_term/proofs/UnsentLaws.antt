@@ -25,7 +25,7 @@ later before middle after ms e u = grind (arith, append_assoc)
 both : (before middle after : Option Unsent) (ms ns : List Tmesg) → Goes before middle ms → Goes middle after ns → Goes before after (ms ++ ns)
 both before middle after ms ns e u = grind (arith, later)
 
--- the unsent runes are composed, and anything behind them
+-- the unsent runes are composed, and anything after them
 sent : (before after : Option Unsent) (ms : List Tmesg) → Goes before after (unsent_message before ++ ms)
 sent before after ms = grind (arith, append-nil)
 
@@ -51,7 +51,7 @@ sending t change ms = send t (sends t change ms).0.unsent ms
 
 -- ## Typing
 
--- runes typed behind the unsent ones leave their start where it is
+-- runes typed after the unsent ones leave their start where it is
 moved : (f p n : ℕ) (u : Unsent) → u.place ≤ p → moved_unsent f (place_after_ins p n) (Some u) ≡ Some u
 moved f p n u within = grind arith
 

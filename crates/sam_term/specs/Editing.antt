@@ -13,7 +13,7 @@ use Rattle.sam_mesg.specs.declared.tmesg.Tmesg.TheVariants.{Tcut}
 abbrev pub shown_from : PlainTerminal → ℕ → ℕ → ℕ → PlainTerminal
 shown_from t f p n = put_window t f (record (window_at t f) { view_start = p; view_length = n })
 
--- a window whose dot gives way to these runes, behind which it then stands
+-- a window whose dot gives way to these runes, after which it then stands
 abbrev pub typed_over : Window → List ℕ → Window
 typed_over w s =
     record w {
@@ -22,7 +22,7 @@ typed_over w s =
       view_start = place_after_ins w.dot.0 (length s) (place_after_del w.dot.0 w.dot.1 w.view_start);
     }
 
--- unsent runes with more behind them, and without the last n
+-- unsent runes with more after them, and without the last n
 abbrev pub lengthened : List ℕ → Unsent → Unsent
 lengthened s u = record u { runes = u.runes ++ s }
 

@@ -10,11 +10,11 @@ use Rattle.sam_term.specs.contracts.known_files.KnownFiles.{the_row}
 use Rattle.sam_term.specs.contracts.records.KnownFile.{the_row as file_row}
 use Rattle.sam_term.specs.contracts.records.Window.{the_row as window_row}
 
--- the file of f ends as it is left behind r
+-- the file of f ends as it is left after r
 abbrev pub LendsFile : MutBor (Slots KnownFile) → ℕ → MutBor KnownFile → Fml
 LendsFile s f r = Lends the_row file_row s r (put_slot s.now f)
 
--- the window of f ends as it is left behind r
+-- the window of f ends as it is left after r
 abbrev pub LendsWindow : MutBor (Slots KnownFile) → ℕ → MutBor Window → Fml
 LendsWindow s f r = Lends the_row window_row s r (λ w. put_slot s.now f (record (known_in s.now f) { window = Some w }))
 

@@ -16,7 +16,7 @@ abbrev pub is_request : Tmesg → Bool
 is_request (Trequest f p n) = true
 is_request _ = false
 
--- the count of awaited requests, behind a message that may be one
+-- the count of awaited requests, after a message that may be one
 abbrev pub awaited_with : Bool → ℕ → ℕ
 awaited_with asks n = if asks then n + 1 else n
 

@@ -11,7 +11,7 @@ use Rattle.sam_mesg.specs.declared.hmesg.Hmesg.{Hmesg}
 use Rattle.sam_term.specs.declared.fault.TermFault.{TermFault}
 use Rattle.sam_term.specs.declared.fault.TermFault.TheVariants.{OutOfMemory}
 
--- a call may fail as the definition refuses, and for want of memory only where the definition answers
+-- a call may fail as the definition refuses, and when out of memory only where the definition answers
 abbrev pub IsFailure : {A : Type 0} → Result A TermFault → TermFault → Type 0
 IsFailure answer why = ((why ≡ OutOfMemory) × (IsOk answer)) ⊎ (answer ≡ Err why)
 

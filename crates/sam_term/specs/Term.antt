@@ -256,7 +256,7 @@ abbrev pub joined : Option Unsent → ℕ → ℕ → List ℕ → Unsent
 joined None f p s = record { file = f; place = p; runes = s }
 joined (Some u) f p s = record u { runes = u.runes ++ s }
 
--- s becomes unsent behind the runes that it joins; others are sent first
+-- s becomes unsent after the runes that it joins; others are sent first
 abbrev pub kept_unsent : PlainTerminal → ℕ → ℕ → List ℕ → Made
 kept_unsent t f p s =
     if joins t.unsent f p s

@@ -8,7 +8,7 @@ use Rattle.sam_term.specs.declared.records.Unsent.{Unsent}
 use Rattle.sam_term.specs.Term.{PlainTerminal, event_outcome, frame_outcome}
 
 -- where anything is composed, the unsent runes are composed first, in their place of their file, perhaps with runes that were typed
--- behind them
+-- after them
 abbrev pub SendsFirst : Option Unsent → List Tmesg → Type 0
 SendsFirst None messages = Unit {0}
 SendsFirst (Some u) [] = Unit {0}

@@ -36,7 +36,7 @@ impl Terminal {
         }
     }
 
-    /// Returns what stands against an event: the first test that holds, in the order that `Refusal` tells, or `None`.
+    /// Returns what stands against an event: the first test that holds, in the order that `Refusal` says, or `None`.
     fn verdict(&self, event: &UserEvent) -> Option<Verdict>
         ensures { result ≡ first_of_checks (event_checks self.now event.now) }
     {

@@ -29,7 +29,7 @@ impl Terminal {
         Ok(out.into_batch())
     }
 
-    /// Counts a message and takes its lock. `asks` tells that it is a request, so that its file awaits one more.
+    /// Counts a message and takes its lock. `asks` says that it is a request, so that its file awaits one more.
     fn take_lock(&mut self, lock: Lock, asks: bool)
         requires counts { self.old.sent < most_count }
         requires opened { IsTrue (is_lockable self.old lock) }
@@ -45,7 +45,7 @@ impl Terminal {
         }
     }
 
-    /// Counts a message and takes a lock of an open file. `asks` tells that it is a request.
+    /// Counts a message and takes a lock of an open file. `asks` says that it is a request.
     #[tactic(auto, using(crate::proofs::FileSteps::file_puts), unfolding(crate::specs::Sound::FitsUnsent))]
     fn lock_file(&mut self, tag: u16, asks: bool)
         requires counts { self.old.sent < most_count }
@@ -60,7 +60,7 @@ impl Terminal {
         self.sent += 1;
     }
 
-    /// Composes a message: it is counted, takes its lock, and goes behind the others of the outbox. The caller makes sure of all that
+    /// Composes a message: it is counted, takes its lock, and goes after the others of the outbox. The caller makes sure of all that
     /// could stand against it, so it cannot fail.
     #[tactic(auto, using(crate::proofs::Composes::composed_by))]
     pub(crate) fn compose(&mut self, message: Tmesg, out: &mut Outbox)

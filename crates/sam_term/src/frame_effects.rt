@@ -18,31 +18,31 @@ impl Terminal {
     /// Takes a frame, as `Terminal::receive` says: its stamp is tested first, then what stands against its message. The terminal is
     /// unchanged after an error.
     #[tactic(auto, unfolding(crate::specs::Term::take_of, crate::specs::Taking::countable))]
-    pub(crate) fn take_frame(&mut self, frame: HFrame) -> Result<Batch, TermFault>
-        ensures { IsAnswer self.old self.new result (take_of self.old frame) }
+    pub(crate) fn take_frame(&mut self, frame: &HFrame) -> Result<Batch, TermFault>
+        ensures { IsAnswer self.old self.new result (take_of self.old frame.now) }
     {
         if self.sent < frame.seen {
             return Err(TermFault::FromTheFuture);
         }
         match self.refusal(&frame.msg) {
             Some(why) => Err(why),
-            None => self.take(frame.msg),
+            None => self.take(&frame.msg),
         }
     }
 
     /// Takes a message that nothing stands against. Errors, in this order: `CountFull`; `OutOfMemory`. The terminal is then unchanged.
     #[tactic(auto, using(crate::proofs::Sounds::quiet), unfolding(crate::specs::Term::took_cut))]
-    fn take(&mut self, message: Hmesg) -> Result<Batch, TermFault>
-        requires { frame_fault self.old message ≡ None }
-        ensures { IsAnswer self.old self.new result (countable (frame_outcome self.old message)) }
+    fn take(&mut self, message: &Hmesg) -> Result<Batch, TermFault>
+        requires { frame_fault self.old message.now ≡ None }
+        ensures { IsAnswer self.old self.new result (countable (frame_outcome self.old message.now)) }
     {
         match message {
             Hmesg::Hversion(version) => {
-                self.set_version(version);
+                self.set_version(*version);
                 Ok(self.nothing())
             }
             Hmesg::Hcurrent(tag) => {
-                self.current = Some(tag);
+                self.current = Some(*tag);
                 Ok(self.nothing())
             }
             Hmesg::Hunlock => {
@@ -50,68 +50,59 @@ impl Terminal {
                 Ok(self.nothing())
             }
             Hmesg::Horigin(tag, p) => {
-                self.set_view_start(tag, p);
+                self.set_view_start(*tag, *p);
                 Ok(self.nothing())
             }
             Hmesg::Hsetdot(tag, p, q) => {
-                self.set_dot(tag, p, q);
+                self.set_dot(*tag, *p, *q);
                 Ok(self.nothing())
             }
             Hmesg::Hmoveto(tag, p) => {
-                self.set_view_start(tag, p);
+                self.set_view_start(*tag, *p);
                 Ok(self.nothing())
             }
-            Hmesg::Hsetpat(pattern) => {
-                self.pattern = pattern;
-                Ok(self.nothing())
-            }
-            Hmesg::Hsetsnarf(text) => {
-                self.snarf = text;
-                Ok(self.nothing())
-            }
+            Hmesg::Hsetpat(pattern) => self.take_pattern(pattern),
+            Hmesg::Hsetsnarf(text) => self.take_snarf(text),
             Hmesg::Hack => self.take_ack(),
             Hmesg::Hsnarflen(length) => {
-                self.snarf_length = length;
+                self.snarf_length = *length;
                 Ok(self.nothing())
             }
             Hmesg::Hbindname(tag) => {
-                self.open_file(tag);
+                self.open_file(*tag);
                 Ok(self.nothing())
             }
-            Hmesg::Hnewname(tag) => self.take_newname(tag),
-            Hmesg::Hmovname(tag, name) => {
-                self.rename_file(tag, name);
-                Ok(self.nothing())
-            }
-            Hmesg::Hgrow(tag, p, n) => self.take_grow(tag, p, n),
-            Hmesg::Hdata(tag, p, text) => self.take_data(tag, p, text),
-            Hmesg::Hgrowdata(tag, p, text) => self.take_growdata(tag, p, text),
+            Hmesg::Hnewname(tag) => self.take_newname(*tag),
+            Hmesg::Hmovname(tag, name) => self.rename_file(*tag, name),
+            Hmesg::Hgrow(tag, p, n) => self.take_grow(*tag, *p, *n),
+            Hmesg::Hdata(tag, p, text) => self.take_data(*tag, *p, text),
+            Hmesg::Hgrowdata(tag, p, text) => self.take_growdata(*tag, *p, text),
             Hmesg::Hclean(tag) => {
-                self.mark_clean(tag);
+                self.mark_clean(*tag);
                 Ok(self.nothing())
             }
             Hmesg::Hdirty(tag) => {
-                self.mark_dirty(tag);
+                self.mark_dirty(*tag);
                 Ok(self.nothing())
             }
             Hmesg::Hcut(tag, p, n) => {
-                self.cut_file(tag, p, n);
+                self.cut_file(*tag, *p, *n);
                 Ok(self.nothing())
             }
             Hmesg::Hdelname(tag) => {
-                self.drop_file(tag);
+                self.drop_file(*tag);
                 Ok(self.nothing())
             }
             Hmesg::Hclose(tag) => {
-                self.close_file(tag);
+                self.close_file(*tag);
                 Ok(self.nothing())
             }
             Hmesg::Hexit => {
                 self.take_exit();
                 Ok(self.nothing())
             }
-            Hmesg::Hcheck(tag) => self.take_check(tag),
-            Hmesg::Hunlockfile(tag) => self.take_unlockfile(tag),
+            Hmesg::Hcheck(tag) => self.take_check(*tag),
+            Hmesg::Hunlockfile(tag) => self.take_unlockfile(*tag),
         }
     }
 
@@ -121,6 +112,30 @@ impl Terminal {
         ensures countable { self.now.sent ≤ most_count }
     {
         Batch::from_vec(Vec::new(self.alloc))
+    }
+
+    /// Takes `Hsetpat`: this is the pattern now.
+    #[tactic(auto, using(crate::proofs::Sounds::quiet), unfolding(crate::specs::Taking::countable))]
+    fn take_pattern(&mut self, pattern: &Runes) -> Result<Batch, TermFault>
+        ensures { IsAnswer self.old self.new result (countable (frame_outcome self.old (Hmesg.Hsetpat pattern.now))) }
+    {
+        let Ok(copy) = pattern.copy(self.alloc) else {
+            return Err(TermFault::OutOfMemory);
+        };
+        self.pattern = copy;
+        Ok(self.nothing())
+    }
+
+    /// Takes `Hsetsnarf`: this is the snarfed text now.
+    #[tactic(auto, using(crate::proofs::Sounds::quiet), unfolding(crate::specs::Taking::countable))]
+    fn take_snarf(&mut self, text: &Runes) -> Result<Batch, TermFault>
+        ensures { IsAnswer self.old self.new result (countable (frame_outcome self.old (Hmesg.Hsetsnarf text.now))) }
+    {
+        let Ok(copy) = text.copy(self.alloc) else {
+            return Err(TermFault::OutOfMemory);
+        };
+        self.snarf = copy;
+        Ok(self.nothing())
     }
 
     /// Takes the version that both sides speak. Version 0 changes nothing.
@@ -223,11 +238,15 @@ impl Terminal {
 
     /// Takes `Hmovname`: gives a file that is known another name.
     #[tactic(auto, using(crate::proofs::FileSteps::file_puts), unfolding(crate::specs::Sound::FitsUnsent))]
-    fn rename_file(&mut self, tag: u16, name: Runes)
+    fn rename_file(&mut self, tag: u16, name: &Runes) -> Result<Batch, TermFault>
         requires { IsTrue (is_known self.old tag) }
-        ensures { self.new ≡ put_known self.old tag (record (known_at self.old tag) { name = name }) }
+        ensures { IsAnswer self.old self.new result (countable (frame_outcome self.old (Hmesg.Hmovname tag name.now))) }
     {
-        self.files.file_mut(tag).name = name;
+        let Ok(copy) = name.copy(self.alloc) else {
+            return Err(TermFault::OutOfMemory);
+        };
+        self.files.file_mut(tag).name = copy;
+        Ok(self.nothing())
     }
 
     /// Takes `Hdirty`: marks a file that is known as dirty. Whether the user changed it here stays as it is.
@@ -277,10 +296,10 @@ impl Terminal {
 
     /// Takes `Hdata`: loads runes into places that are there.
     #[tactic(auto, unfolding(crate::specs::Term::took_data, crate::specs::Taking::countable))]
-    fn take_data(&mut self, tag: u16, p: u32, text: Runes) -> Result<Batch, TermFault>
+    fn take_data(&mut self, tag: u16, p: u32, text: &Runes) -> Result<Batch, TermFault>
         requires opened { IsTrue (is_open self.old tag) }
-        requires place { p + length text ≤ length (window_at self.old tag).rasp }
-        ensures { IsAnswer self.old self.new result (countable (frame_outcome self.old (Hmesg.Hdata tag p text))) }
+        requires place { p + length text.now ≤ length (window_at self.old tag).rasp }
+        ensures { IsAnswer self.old self.new result (countable (frame_outcome self.old (Hmesg.Hdata tag p text.now))) }
     {
         self.facts();
         if self.load_file(tag, p, text.as_slice()).is_err() {
@@ -291,11 +310,11 @@ impl Terminal {
 
     /// Takes `Hgrowdata`: puts runes into the rasp at `p`.
     #[tactic(auto, unfolding(crate::specs::Term::took_growdata, crate::specs::Taking::countable))]
-    fn take_growdata(&mut self, tag: u16, p: u32, text: Runes) -> Result<Batch, TermFault>
+    fn take_growdata(&mut self, tag: u16, p: u32, text: &Runes) -> Result<Batch, TermFault>
         requires opened { IsTrue (is_open self.old tag) }
         requires place { p ≤ length (window_at self.old tag).rasp }
-        requires size { length (window_at self.old tag).rasp + length text ≤ max_runes }
-        ensures { IsAnswer self.old self.new result (countable (frame_outcome self.old (Hmesg.Hgrowdata tag p text))) }
+        requires size { length (window_at self.old tag).rasp + length text.now ≤ max_runes }
+        ensures { IsAnswer self.old self.new result (countable (frame_outcome self.old (Hmesg.Hgrowdata tag p text.now))) }
     {
         self.facts();
         if self.fill_file(tag, p, text.as_slice()).is_err() {

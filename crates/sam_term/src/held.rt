@@ -41,7 +41,7 @@ impl HeldEvents {
         self.events.len()
     }
 
-    /// Puts an event behind the others. The only error is want of memory, and nothing has changed then.
+    /// Puts an event after the others. The only error is out of memory, and nothing has changed then.
     pub fn put(&mut self, event: UserEvent) -> Result<(), AllocError>
         ensures ok { OnOk result (self.new ≡ self.old ++ event ∷ []) }
         ensures err { OnErr result (self.new ≡ self.old) }

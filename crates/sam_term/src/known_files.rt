@@ -18,7 +18,7 @@ use std::marker::Model;
 /// the calls here, each of which leaves the other tags as they are; `free_all` alone changes all.
 #[derive(Drop)]
 pub struct KnownFiles {
-    /// What is known of each tag: `None` for a tag that is not known. A tag behind the end is not known either. It grows up to the
+    /// What is known of each tag: `None` for a tag that is not known. A tag after the end is not known either. It grows up to the
     /// highest tag that came, `ALL_TAGS` slots at most, and never shrinks.
     slots: Vec<Option<KnownFile>>,
 }
@@ -90,7 +90,7 @@ impl KnownFiles {
         open_window(&mut self.slots[tag as usize])
     }
 
-    /// Puts a file at a tag; what stood there is dropped. All memory is had before the first change: the only error is want of memory,
+    /// Puts a file at a tag; what stood there is dropped. All memory is had before the first change: the only error is out of memory,
     /// and nothing has changed then.
     #[tactic(auto, using(crate::proofs::SlotSteps::put_new_facts))]
     pub fn put_new(&mut self, tag: u16, file: KnownFile) -> Result<(), AllocError>

@@ -29,18 +29,6 @@ pub fn frame_changes_text()
         → rasp_at (frame_outcome t m).0 f ≡ shown f m (rasp_at t f) }
 {}
 
-/// Says that each message which an event composes is counted.
-#[tactic(auto, using(crate::proofs::CountLaws::counts_facts))]
-pub fn event_counts()
-    ensures { (t : PlainTerminal) (e : UserEvent) → (event_outcome t e).0.sent ≡ t.sent + length (event_outcome t e).1 }
-{}
-
-/// Says that each message which is composed in answer to a frame is counted.
-#[tactic(auto, using(crate::proofs::CountLaws::counts_facts))]
-pub fn frame_counts()
-    ensures { (t : PlainTerminal) (m : Hmesg) → (frame_outcome t m).0.sent ≡ t.sent + length (frame_outcome t m).1 }
-{}
-
 /// Says that an event on a file acts only while neither the command lock nor a lock of that file is held.
 #[tactic(auto, using(crate::proofs::FitLaws::event_finds_no_lock))]
 pub fn event_finds_no_lock()
@@ -68,7 +56,7 @@ pub fn frame_fits()
 {}
 
 /// Says that where an event, or the answer to a frame, composes messages, the first has the unsent runes if there are any, perhaps with
-/// runes behind them that the event typed.
+/// runes after them that the event typed.
 #[tactic(auto, using(crate::proofs::UnsentLaws::events_send_first, crate::proofs::UnsentLaws::frames_send_first))]
 pub fn unsent_goes_first()
     ensures events { EventsSendFirst }
@@ -110,7 +98,7 @@ pub fn frame_changes_locks()
         → (window_at (frame_outcome t m).0 f).awaited ≡ awaited_left m f (window_at t f).awaited + requests f (frame_outcome t m).1 }
 {}
 
-/// Says which stretches a `Load` asks for: they are of gaps alone and lie one behind the other in the view, they are no more than it may
+/// Says which stretches a `Load` asks for: they are of gaps alone and lie one after the other in the view, they are no more than it may
 /// ask for, and where they are fewer they have all gaps of the view.
 #[tactic(auto, using(crate::proofs::Stretches::load_law, crate::proofs::Loads::stretches_few, crate::proofs::Stretches::loads_all))]
 pub fn load_asks_for_gaps()

@@ -18,7 +18,7 @@ fn after_ins(p: u32, n: u32, place: u32) -> u32
     if p < place { place + n } else { place }
 }
 
-/// Returns where a place goes as the `n` runes or gaps from `p` on are taken out: one behind them moves back by `n`, and one among them
+/// Returns where a place goes as the `n` runes or gaps from `p` on are taken out: one after them moves back by `n`, and one among them
 /// goes to `p`.
 fn after_del(p: u32, n: u32, place: u32) -> u32
     ensures { result ≡ place_after_del p (p + n) place }
@@ -66,7 +66,7 @@ fn shift_window(window: &mut Window, p: u32, n: u32)
     window.view_start = after_ins(p, n, window.view_start);
 }
 
-/// Puts `n` gaps into a window at `p`. The only error is want of memory, and the window is then unchanged.
+/// Puts `n` gaps into a window at `p`. The only error is out of memory, and the window is then unchanged.
 pub fn grow_window(window: &mut Window, p: u32, n: u32) -> Result<(), AllocError>
     requires place { p ≤ length window.old.rasp }
     requires size { length window.old.rasp + n ≤ max_runes }
@@ -81,7 +81,7 @@ pub fn grow_window(window: &mut Window, p: u32, n: u32) -> Result<(), AllocError
     Ok(())
 }
 
-/// Puts runes into a window at `p`. The only error is want of memory, and the window is then unchanged.
+/// Puts runes into a window at `p`. The only error is out of memory, and the window is then unchanged.
 pub fn fill_window(window: &mut Window, p: u32, runes: &[char]) -> Result<(), AllocError>
     requires place { p ≤ length window.old.rasp }
     requires size { length window.old.rasp + length runes.now ≤ max_runes }
@@ -96,11 +96,12 @@ pub fn fill_window(window: &mut Window, p: u32, runes: &[char]) -> Result<(), Al
     Ok(())
 }
 
-/// Loads runes into the places of a window from `p` on, which then awaits one request less. The only error is want of memory, and the window
-/// is then unchanged.
+/// Loads runes into the places of a window from `p` on, which then awaits one request less. The only error is out of memory, and the
+/// window is then unchanged.
 pub fn load_window(window: &mut Window, p: u32, runes: &[char]) -> Result<(), AllocError>
     requires { p + length runes.now ≤ length window.old.rasp }
-    ensures ok { OnOk result (window.new ≡ record window.old { rasp = load_cells window.old.rasp p runes.now; awaited = window.old.awaited - 1 }) }
+    ensures ok { OnOk result (window.new
+        ≡ record window.old { rasp = load_cells window.old.rasp p runes.now; awaited = window.old.awaited - 1 }) }
     ensures err { OnErr result (window.new ≡ window.old) }
 {
     if window.rasp.data(p, runes).is_err() {

@@ -24,7 +24,7 @@ impl Model for Outbox {
 }
 
 impl Outbox {
-    /// Returns an outbox with no messages and room for `n`. The only error is want of memory.
+    /// Returns an outbox with no messages and room for `n`. The only error is out of memory.
     pub fn with_room(alloc: Global, n: usize) -> Result<Outbox, AllocError>
         ensures { IfOk result (λ out. out ≡ record { messages = []; room = n }) }
     {
@@ -33,7 +33,7 @@ impl Outbox {
         })
     }
 
-    /// Puts a message behind the others. The caller makes sure that there is room, so no memory is asked for.
+    /// Puts a message after the others. The caller makes sure that there is room, so no memory is asked for.
     pub fn put(&mut self, message: Tmesg)
         requires { 0 < self.old.room }
         ensures messages { self.new.messages ≡ self.old.messages ++ message ∷ [] }

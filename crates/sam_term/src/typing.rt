@@ -35,7 +35,7 @@ fn after_typing(p: u32, q: u32, n: u32, place: u32) -> u32
     if p < moved { moved + n } else { moved }
 }
 
-/// Puts runes in the place of the dot of a window, which is then empty and behind them. The only error is want of memory, and the window
+/// Puts runes in the place of the dot of a window, which is then empty and after them. The only error is out of memory, and the window
 /// is then unchanged.
 pub fn type_over(window: &mut Window, runes: &[char]) -> Result<(), AllocError>
     requires ordered { window.old.dot.0 ≤ window.old.dot.1 }
@@ -99,7 +99,7 @@ fn text_of(event: UserEvent) -> Runes
     }
 }
 
-/// Returns whether `n` runes typed at `p` stand right behind the unsent ones, in the same file, and all fit in one message.
+/// Returns whether `n` runes typed at `p` stand right after the unsent ones, in the same file, and all fit in one message.
 fn follows(unsent: &Unsent, tag: u16, p: u32, n: usize) -> bool
     requires before { length unsent.now.runes ≤ most_in_message }
     requires few { n ≤ most_in_message }
@@ -115,7 +115,7 @@ fn follows(unsent: &Unsent, tag: u16, p: u32, n: usize) -> bool
 /// For how many runes memory is asked at least where the unsent ones have no more room, so that most keys ask for none.
 const LEAST_ROOM: usize = 32;
 
-/// Puts `more` at the end of `runes`. The only error is want of memory, and nothing has changed then.
+/// Puts `more` at the end of `runes`. The only error is out of memory, and nothing has changed then.
 fn put_behind(runes: &mut Vec<char>, more: &[char]) -> Result<(), AllocError>
     ensures ok { OnOk result (runes.new.items ≡ runes.old.items ++ more.now) }
     ensures err { OnErr result (runes.new.items ≡ runes.old.items) }
@@ -126,7 +126,7 @@ fn put_behind(runes: &mut Vec<char>, more: &[char]) -> Result<(), AllocError>
     runes.extend_from_slice(more)
 }
 
-/// Puts runes behind the unsent ones, if there are any. The only error is want of memory, and nothing has changed then.
+/// Puts runes after the unsent ones, if there are any. The only error is out of memory, and nothing has changed then.
 fn lengthen(unsent: &mut Option<Unsent>, more: &[char]) -> Result<(), AllocError>
     ensures ok { OnOk result (unsent.new ≡ option_map (lengthened more.now) unsent.old) }
     ensures err { OnErr result (unsent.new ≡ unsent.old) }
@@ -292,8 +292,8 @@ impl Terminal {
         }
     }
 
-    /// Puts the runes of the oldest event in the place of the dot of their file, which is empty, and behind the unsent ones, which they
-    /// join. The caller marks the file as changed. The only error is want of memory, and the terminal is then unchanged.
+    /// Puts the runes of the oldest event in the place of the dot of their file, which is empty, and after the unsent ones, which they
+    /// join. The caller marks the file as changed. The only error is out of memory, and the terminal is then unchanged.
     #[tactic(auto, using(crate::proofs::TypedMade::joined_facts), unfolding(crate::proofs::FileSteps::unsent_opened))]
     fn join_first(&mut self, tag: u16) -> Result<(), AllocError>
         requires opened { IsTrue (is_open self.old tag) }
@@ -384,7 +384,7 @@ impl Terminal {
     }
 
     /// Puts the runes of the oldest event in the place of the dot of their file, which the caller marks as changed. The unsent runes are
-    /// handed over, since the place where they begin may go with the dot. The only error is want of memory, and the terminal is then
+    /// handed over, since the place where they begin may go with the dot. The only error is out of memory, and the terminal is then
     /// unchanged.
     #[tactic(auto, using(crate::proofs::FileSteps::typed_in_facts), unfolding(crate::proofs::FileSteps::unsent_opened))]
     pub(crate) fn type_first(&mut self, tag: u16) -> Result<Option<Unsent>, AllocError>

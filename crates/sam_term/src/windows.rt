@@ -67,7 +67,7 @@ impl Terminal {
         }
     }
 
-    /// Tells what is true of each window: dot and view lie within the rasp, which has at most `MAX_RUNES` runes and gaps, and it has no
+    /// States what is true of each window: dot and view lie within the rasp, which has at most `MAX_RUNES` runes and gaps, and it has no
     /// more locks, nor awaits more requests, than messages were composed. It does nothing when the program runs.
     pub(crate) fn window_facts(&self, tag: u16)
         ensures { FitsWindow self.now.sent (window_at self.now tag) }
@@ -107,7 +107,7 @@ impl Terminal {
         self.files.window_mut(tag).dot = (p, q);
     }
 
-    /// Puts `n` gaps into the rasp of an open file at `p`; dot, view and unsent runes move along. The only error is want of memory, and
+    /// Puts `n` gaps into the rasp of an open file at `p`; dot, view and unsent runes move along. The only error is out of memory, and
     /// the terminal is then unchanged.
     #[tactic(auto, using(crate::proofs::FileSteps::changed_facts), unfolding(crate::proofs::FileSteps::unsent_opened))]
     pub(crate) fn grow_file(&mut self, tag: u16, p: u32, n: u32) -> Result<(), AllocError>
@@ -122,7 +122,7 @@ impl Terminal {
         Ok(())
     }
 
-    /// Puts runes into the rasp of an open file at `p`; dot, view and unsent runes move along. The only error is want of memory, and the
+    /// Puts runes into the rasp of an open file at `p`; dot, view and unsent runes move along. The only error is out of memory, and the
     /// terminal is then unchanged.
     #[tactic(auto, using(crate::proofs::FileSteps::changed_facts), unfolding(crate::proofs::FileSteps::unsent_opened))]
     pub(crate) fn fill_file(&mut self, tag: u16, p: u32, runes: &[char]) -> Result<(), AllocError>
@@ -138,7 +138,7 @@ impl Terminal {
     }
 
     /// Loads runes into the places of an open file from `p` on, whatever stood there. The file awaits one request less, and no place moves.
-    /// The only error is want of memory, and the terminal is then unchanged.
+    /// The only error is out of memory, and the terminal is then unchanged.
     #[tactic(auto, using(crate::proofs::FileSteps::changed_facts), unfolding(crate::proofs::FileSteps::unsent_opened))]
     pub(crate) fn load_file(&mut self, tag: u16, p: u32, runes: &[char]) -> Result<(), AllocError>
         requires opened { IsTrue (is_open self.old tag) }

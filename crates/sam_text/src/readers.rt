@@ -25,7 +25,7 @@ impl Files {
         (tag as usize) < self.tags()
     }
 
-    /// Tells a proof what is always true of a file: its dot is a range of its text, its text has at most `MAX_RUNES` runes, and its name
+    /// States what is always true of a file: its dot is a range of its text, its text has at most `MAX_RUNES` runes, and its name
     /// at most `MOST_IN_NAME`. It does nothing.
     pub fn file_facts(&self, tag: u16)
         ensures fit { IsFit (file_at self.now.plain tag) }
@@ -120,7 +120,7 @@ impl Files {
         }
     }
 
-    /// Returns whether the file of a tag is dirty, as `File::is_dirty` tells it; false if the tag has no file. That tag 0 never is, `facts`
+    /// Returns whether the file of a tag is dirty, as `File::is_dirty` says it; false if the tag has no file. That tag 0 never is, `facts`
     /// says.
     pub fn is_dirty(&self, tag: u16) -> bool
         ensures { result ≡ (file_at self.now.plain tag).dirty }
@@ -165,7 +165,7 @@ impl Files {
     }
 
     /// Returns a copy of what stands in a file from place `p` to place `q`. The caller makes sure that this is a range of the text, which
-    /// counts as empty if the tag has no file. The only error is want of memory.
+    /// counts as empty if the tag has no file. The only error is out of memory.
     pub fn copy_part(&self, tag: u16, p: u32, q: u32) -> Result<Runes, AllocError>
         requires ascending { p ≤ q }
         requires within { q ≤ length (file_at self.now.plain tag).text }
@@ -174,7 +174,7 @@ impl Files {
         Runes::from_slice(self.alloc(), self.part(tag, p, q))
     }
 
-    /// Returns a copy of the text of a file, or no runes if the tag has no file. The only error is want of memory.
+    /// Returns a copy of the text of a file, or no runes if the tag has no file. The only error is out of memory.
     pub(crate) fn copy_text(&self, tag: u16) -> Result<Runes, AllocError>
         ensures { IfOk result (λ r. r ≡ (file_at self.now.plain tag).text) }
     {
