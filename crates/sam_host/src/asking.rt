@@ -96,8 +96,8 @@ impl Host {
         Ok(frames)
     }
 
-    /// Answers `Tdclick`: selects the word that has `p` inside it or at an edge, or the empty range at `p`, and tells `Hsetdot` and
-    /// `Hunlockfile`. Errors, in this order: `NoFile`; `NotOpen`; `BadPosition` if `p` is past the end; `OutOfMemory`.
+    /// Answers `Tdclick` with `Hsetdot` and `Hunlockfile`: selects the word that has `p` inside it or at an edge, or the empty range at
+    /// `p`. Errors, in this order: `NoFile`; `NotOpen`; `BadPosition` if `p` is past the end; `OutOfMemory`.
     #[tactic(auto, unfolding(crate::specs::Host::reply_dclick))]
     pub(crate) fn double_click(&mut self, tag: u16, p: u32) -> Result<Vec<HFrame>, HostFault>
         requires { self.old.taken + 1 < 2 ^ 64 }
@@ -116,8 +116,8 @@ impl Host {
         Ok(frames)
     }
 
-    /// Tells an occurrence: it is the dot, the window has to show it, the terminal is to look for gaps, and the file is free. There is
-    /// room for these four frames.
+    /// Adds the frames for an occurrence: it is the dot, the window has to show it, the terminal is to look for gaps, and the file is free.
+    /// There is room for these four.
     fn put_found(&self, frames: &mut Vec<HFrame>, tag: u16, p: u32, q: u32)
         requires count { self.now.taken + 1 < 2 ^ 64 }
         requires room { vec_len frames.old + 4 ≤ vec_capacity frames.old }

@@ -35,7 +35,7 @@ impl Host {
         Ok(Vec::new(self.alloc))
     }
 
-    /// Tells how a paste ends: the dot is what was pasted, from `p` to `q`, the terminal is to look for gaps, and the file is free.
+    /// Adds the end of a paste: the dot is what was pasted, from `p` to `q`, the terminal is to look for gaps, and the file is free.
     fn end_paste(&self, frames: &mut Vec<HFrame>, tag: u16, p: u32, q: u32) -> Result<(), HostFault>
         requires count { self.now.taken + 1 < 2 ^ 64 }
         ensures ok { OnOk result (Appends self.now frames.old.items frames.new.items
@@ -47,8 +47,8 @@ impl Host {
         self.say(frames, Hmesg::Hunlockfile(tag))
     }
 
-    /// Returns the frames that tell of a paste of these runes at `p`. They are made before the paste, which changes the dirty mark that
-    /// they go by.
+    /// Returns the frames for a paste of these runes at `p`. They are made before the paste, since it changes the dirty mark that they go
+    /// by.
     #[tactic(auto, using(crate::proofs::FrameLaws::stamped_append))]
     fn paste_frames(&self, tag: u16, p: u32, runes: &[char]) -> Result<Vec<HFrame>, HostFault>
         requires count { self.now.taken + 1 < 2 ^ 64 }
@@ -89,7 +89,7 @@ impl Host {
         Ok(frames)
     }
 
-    /// Answers `Tsnarf`: copies what stands from `p` to `q` into the snarf buffer, and tells its length in runes. Errors, in this order:
+    /// Answers `Tsnarf`: copies what stands from `p` to `q` into the snarf buffer, and reports its length in runes. Errors, in this order:
     /// `NoFile`; `NotOpen`; `BadPosition` if the text has no such range; `OutOfMemory`.
     #[tactic(auto, using(crate::proofs::FileLaws::part_length), unfolding(crate::specs::Host::reply_snarf))]
     pub(crate) fn snarf(&mut self, tag: u16, p: u32, q: u32) -> Result<Vec<HFrame>, HostFault>
@@ -108,7 +108,7 @@ impl Host {
         Ok(frames)
     }
 
-    /// Answers `Tsetsnarf`: these runes become the snarf buffer, and their number is told. The only error is `OutOfMemory`.
+    /// Answers `Tsetsnarf`: these runes become the snarf buffer, and their number is reported. The only error is `OutOfMemory`.
     #[tactic(auto, using(crate::proofs::FileLaws::snarf_short), unfolding(crate::specs::Host::reply_setsnarf))]
     pub(crate) fn set_snarf(&mut self, runes: &Runes) -> Result<Vec<HFrame>, HostFault>
         requires count { self.old.taken + 1 < 2 ^ 64 }

@@ -1,6 +1,7 @@
 //! Typing and command lines. A line is run when its newline is typed into the command file, or when it is sent there. What it
-//! does is worked out first, then told, and put in last, so that nothing of it is changed when memory runs out. The functions that tell
-//! add frames to those of the answer. The only error of a private function is `OutOfMemory`, and the host is then unchanged.
+//! does is worked out first. Then the frames are made, and the files are changed last, so that nothing is changed when memory runs out.
+//! The functions `tell_..` add frames to those of the answer. The only error of a private function is `OutOfMemory`, and the host is then
+//! unchanged.
 
 ghost use Rattle.std.specs.Prelude.{◌≡◌, ◌<◌, ◌≤◌, ◌+◌, ◌-◌, ◌++◌, ◌∷◌, [], ◌^◌, IfOk, IsTrue, OnOk, OnErr, Err, None, Some, true, not, ◌&&◌, nat_lt, if◌then◌else◌, length};
 ghost use Rattle.sam_host.specs.Typing.{reply_line_to, typed_line, sent};
@@ -20,7 +21,7 @@ use sam_runes::{Edit, Runes};
 use sam_text::Outcome;
 
 impl Host {
-    /// Appends what an edit takes out: nothing if the range is empty.
+    /// Adds `Hcut` for what an edit takes out; nothing if the range is empty.
     #[tactic(auto, unfolding(crate::specs::Host::when))]
     fn tell_cut(&self, frames: &mut Vec<HFrame>, tag: u16, p: u32, q: u32) -> Result<(), HostFault>
         requires count { self.now.taken + 1 < 2 ^ 64 }
@@ -33,7 +34,7 @@ impl Host {
         Ok(())
     }
 
-    /// Appends one edit of a file: what goes, and then what comes.
+    /// Adds the frames for one edit of a file: what goes, and then what comes.
     #[tactic(auto, using(crate::proofs::FrameLaws::told_both), unfolding(crate::specs::Host::told_edit))]
     fn tell_edit(&self, frames: &mut Vec<HFrame>, tag: u16, edit: &Edit) -> Result<(), HostFault>
         requires count { self.now.taken + 1 < 2 ^ 64 }
@@ -45,7 +46,7 @@ impl Host {
         self.grown(frames, tag, edit.p, edit.text.as_slice())
     }
 
-    /// Appends the edits of a file from the last to the first, so that each place is still true.
+    /// Adds the frames for the edits of a file, from the last to the first, so that each place is still true.
     #[tactic(auto, using(crate::proofs::RunLaws::edit_told, crate::proofs::RunLaws::text_below_inserted))]
     fn tell_edits(
         &self,
@@ -66,7 +67,7 @@ impl Host {
         Ok(())
     }
 
-    /// Appends the name that a line sets, if it sets one.
+    /// Adds `Hmovname` if a line sets a name.
     #[tactic(auto, unfolding(crate::specs::Host::when_given))]
     fn tell_new_name(
         &self,
@@ -87,7 +88,7 @@ impl Host {
         }
     }
 
-    /// Appends the pattern that a line leaves, if it has one.
+    /// Adds `Hsetpat` if a line has a pattern.
     #[tactic(auto, unfolding(crate::specs::Host::when_given))]
     fn tell_pattern(
         &self,
@@ -107,7 +108,7 @@ impl Host {
         }
     }
 
-    /// Appends the dot that a line leaves, if it leaves one.
+    /// Adds `Hsetdot` if a line sets the dot.
     #[tactic(auto, unfolding(crate::specs::Host::when_given))]
     fn tell_dot(
         &self,
@@ -125,7 +126,7 @@ impl Host {
         }
     }
 
-    /// Appends that a clean file becomes dirty, if there is an edit.
+    /// Adds `Hdirty` if there is an edit and the file was clean.
     #[tactic(auto, unfolding(crate::specs::Host::when))]
     fn tell_edited(
         &self,
@@ -144,7 +145,7 @@ impl Host {
         self.say(frames, Hmesg::Hdirty(tag))
     }
 
-    /// Appends the terminal to look for gaps in a file, if there is an edit.
+    /// Adds `Hcheck` if there is an edit: the terminal is to look for gaps.
     #[tactic(auto, unfolding(crate::specs::Host::when))]
     fn tell_check(
         &self,
@@ -163,7 +164,7 @@ impl Host {
         self.say(frames, Hmesg::Hcheck(tag))
     }
 
-    /// Appends what a line did to a file: its edits, the mark, the name, the pattern and the dot, in this order, and `Hcheck` last.
+    /// Adds what a line did to a file: its edits, the mark, the name, the pattern and the dot, in this order, and `Hcheck` last.
     fn tell_parts(
         &self,
         frames: &mut Vec<HFrame>,
@@ -189,7 +190,7 @@ impl Host {
         Ok(())
     }
 
-    /// Appends what a line did to its file. It hands the parts of the outcome to `tell_parts`.
+    /// Adds what a line did to its file. It hands the parts of the outcome to `tell_parts`.
     #[tactic(auto, unfolding(crate::specs::Host::told_outcome))]
     fn tell_changed(
         &self,
@@ -214,7 +215,7 @@ impl Host {
         )
     }
 
-    /// Appends what a line did. An outcome that names no file has at most a pattern to tell.
+    /// Adds what a line did. An outcome that names no file has at most a pattern.
     #[tactic(auto, unfolding(crate::specs::Host::told_outcome))]
     fn tell_outcome(&self, frames: &mut Vec<HFrame>, outcome: &Outcome) -> Result<(), HostFault>
         requires count { self.now.taken + 1 < 2 ^ 64 }
@@ -229,7 +230,7 @@ impl Host {
         }
     }
 
-    /// Appends how a line ends: the session is over, or the command lock is free.
+    /// Adds the end of a line: the session is over, or the command lock is free.
     fn tell_end(&self, frames: &mut Vec<HFrame>, quit: bool) -> Result<(), HostFault>
         requires count { self.now.taken + 1 < 2 ^ 64 }
         ensures ok { OnOk result (Appends self.now frames.old.items frames.new.items ((if quit then Hmesg.Hexit else Hmesg.Hunlock) ∷ [])) }
@@ -242,7 +243,7 @@ impl Host {
         }
     }
 
-    /// Appends a line: what it did, what it prints, and how it ends. The files are still as they were before the line.
+    /// Adds what a line did, what it prints, and its end. The files are still as they were before the line.
     #[tactic(auto, using(crate::proofs::RunLaws::told_line))]
     fn tell_line(&self, frames: &mut Vec<HFrame>, outcome: &Outcome) -> Result<(), HostFault>
         requires count { self.now.taken + 1 < 2 ^ 64 }
@@ -497,7 +498,7 @@ impl Host {
         Ok(frames)
     }
 
-    /// Puts lines at the end of the command file, tells them as printed, and runs the last of them.
+    /// Puts lines at the end of the command file, as a print does, and runs the last of them.
     fn send_lines(&mut self, lines: &[char]) -> Result<Vec<HFrame>, HostFault>
         requires count { self.old.taken + 1 < 2 ^ 64 }
         requires filled { 0 < length lines.now }

@@ -13,7 +13,7 @@ use sam_mesg::{HFrame, Hmesg, Tmesg};
 use sam_runes::{ALL_TAGS, Runes, common_version};
 
 impl Host {
-    /// Tells how the answer to `Tversion` ends: the terminal is asked for a `Tack`, and the command lock is free.
+    /// Adds the end of the answer to `Tversion`: the terminal is asked for a `Tack`, and the command lock is free.
     fn tell_ready(&self, frames: &mut Vec<HFrame>) -> Result<(), HostFault>
         requires count { self.now.taken + 1 < 2 ^ 64 }
         ensures ok { OnOk result (Appends self.now frames.old.items frames.new.items (Hmesg.Hack ∷ Hmesg.Hunlock ∷ [])) }
@@ -23,8 +23,8 @@ impl Host {
         self.say(frames, Hmesg::Hunlock)
     }
 
-    /// Tells the tag and the name of each file that was not announced, tags ascending. The command file is left out: `Tstartcmdfile`
-    /// tells its name.
+    /// Adds the tag and the name of each file that was not announced, tags ascending. The command file is left out: the answer to
+    /// `Tstartcmdfile` has its name.
     #[tactic(auto, using(crate::proofs::NameLaws::names_done, crate::proofs::NameLaws::name_told))]
     fn tell_names(&self, frames: &mut Vec<HFrame>) -> Result<(), HostFault>
         requires count { self.now.taken + 1 < 2 ^ 64 }
@@ -40,7 +40,7 @@ impl Host {
         Ok(())
     }
 
-    /// Answers `Tversion`: the smaller of `offered` and 2 becomes the version, the names that were not announced are told, and all files
+    /// Answers `Tversion`: the smaller of `offered` and 2 becomes the version, the names that were not announced are sent, and all files
     /// but the command file are then announced. Errors, in this order: `BadVersion` if 0 is offered; `OutOfMemory`.
     #[tactic(auto, using(crate::proofs::FrameLaws::stamped_append), unfolding(crate::specs::Host::reply_version))]
     pub(crate) fn agree(&mut self, offered: u16) -> Result<Vec<HFrame>, HostFault>
@@ -64,7 +64,7 @@ impl Host {
         Ok(frames)
     }
 
-    /// Answers `Tstartcmdfile`: opens the command file, and tells its name, its window and its length. If it is open already, nothing
+    /// Answers `Tstartcmdfile`: opens the command file, and sends its name, its window and its length. If it is open already, nothing
     /// changes, and `Hunlock` is the one frame. The only error is `OutOfMemory`.
     #[tactic(auto, using(crate::proofs::FrameLaws::stamped_append), unfolding(crate::specs::Host::reply_startcmdfile))]
     pub(crate) fn start_command_file(&mut self) -> Result<Vec<HFrame>, HostFault>
@@ -92,7 +92,7 @@ impl Host {
         Ok(frames)
     }
 
-    /// Tells the window and the length of a file that is being opened; nothing if it is open already.
+    /// Adds the window and the length of a file that is being opened; nothing if it is open already.
     #[tactic(auto, unfolding(crate::specs::Host::when))]
     fn tell_opening(&self, frames: &mut Vec<HFrame>, tag: u16) -> Result<(), HostFault>
         requires count { self.now.taken + 1 < 2 ^ 64 }
@@ -107,7 +107,7 @@ impl Host {
         self.tell_length(frames, tag)
     }
 
-    /// Answers `Tstartfile`: opens a file and makes it the work file. Its window and its length are told only if it was not open before.
+    /// Answers `Tstartfile`: opens a file and makes it the work file. Its window and its length are sent only if it was not open before.
     /// Errors, in this order: `NoFile`; `CommandFile`; `OutOfMemory`.
     #[tactic(auto, using(crate::proofs::FrameLaws::stamped_append), unfolding(crate::specs::Host::reply_startfile))]
     pub(crate) fn start_file(&mut self, tag: u16) -> Result<Vec<HFrame>, HostFault>

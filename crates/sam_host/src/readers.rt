@@ -45,7 +45,7 @@ impl Host {
         self.files.facts();
     }
 
-    /// Tells that the command file is never dirty, whatever is typed, pasted or printed there. It does nothing when the program runs.
+    /// States that the command file is never dirty, whatever is typed, pasted or printed there. It does nothing when the program runs.
     pub fn command_file_facts(&self)
         ensures { IsCommandFileClean self.now.files }
     {

@@ -38,8 +38,8 @@ impl Host {
         }
     }
 
-    /// Tells that `runes` were put into the file at `p`: by `Hgrowdata` with the runes if there are at most `MOST_IN_MESSAGE`, else by
-    /// `Hgrow` with their number alone. Nothing is told if the file is not open or there are no runes.
+    /// Adds the frame for `runes` that come in at `p`: `Hgrowdata` with the runes if there are at most `MOST_IN_MESSAGE`, else `Hgrow` with
+    /// their number alone. Nothing is added if the file is not open or there are no runes.
     #[tactic(auto, unfolding(crate::specs::Host::grown, crate::specs::Host::when))]
     pub(crate) fn grown(
         &self,
@@ -63,7 +63,7 @@ impl Host {
         self.say(frames, Hmesg::Hgrowdata(tag, p, copy))
     }
 
-    /// Tells that a file becomes dirty, if it was clean and is not the command file.
+    /// Adds `Hdirty` if the file was clean and is not the command file.
     #[tactic(auto, unfolding(crate::specs::Host::when))]
     pub(crate) fn tell_dirty(&self, frames: &mut Vec<HFrame>, tag: u16) -> Result<(), HostFault>
         requires count { self.now.taken + 1 < 2 ^ 64 }
@@ -76,7 +76,7 @@ impl Host {
         self.say(frames, Hmesg::Hdirty(tag))
     }
 
-    /// Tells how long the text of a file that is being opened is; nothing if it is empty.
+    /// Adds `Hgrow` by the length of a file that is being opened; nothing if it is empty.
     #[tactic(auto, unfolding(crate::specs::Host::told_length, crate::specs::Host::when))]
     pub(crate) fn tell_length(&self, frames: &mut Vec<HFrame>, tag: u16) -> Result<(), HostFault>
         requires count { self.now.taken + 1 < 2 ^ 64 }
@@ -90,7 +90,7 @@ impl Host {
         self.say(frames, Hmesg::Hgrow(tag, 0, len))
     }
 
-    /// Tells how a print ends: the command file's dot is empty at its new end, and the terminal is to look for gaps.
+    /// Adds the end of a print: the command file's dot is empty at its new end, and the terminal is to look for gaps.
     fn end_print(&self, frames: &mut Vec<HFrame>, end: u32) -> Result<(), HostFault>
         requires count { self.now.taken + 1 < 2 ^ 64 }
         ensures ok { OnOk result (Appends self.now frames.old.items frames.new.items (Hmesg.Hsetdot 0 end end ∷ Hmesg.Hcheck 0 ∷ [])) }
@@ -100,7 +100,7 @@ impl Host {
         self.say(frames, Hmesg::Hcheck(0))
     }
 
-    /// Tells what is about to be printed at the end of the command file. Nothing is told if there are no runes, if the command file has
+    /// Adds what is about to be printed at the end of the command file. Nothing is added if there are no runes, if the command file has
     /// no room for them, or if it is not open.
     #[tactic(auto, using(crate::proofs::FrameLaws::told_both), unfolding(crate::specs::Host::printed, crate::specs::Host::when))]
     pub(crate) fn tell_print(
@@ -123,7 +123,7 @@ impl Host {
         self.end_print(frames, len + runes.len() as u32)
     }
 
-    /// Tells the tag and the name of a file, if there is a file and it was not announced.
+    /// Adds the tag and the name of a file, if there is a file and it was not announced.
     #[tactic(auto, unfolding(crate::specs::Host::when))]
     pub(crate) fn tell_name(&self, frames: &mut Vec<HFrame>, tag: u16) -> Result<(), HostFault>
         requires count { self.now.taken + 1 < 2 ^ 64 }

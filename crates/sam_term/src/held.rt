@@ -11,7 +11,6 @@ use std::marker::Model;
 /// Contracts see a list with the oldest first.
 #[derive(Drop)]
 pub struct HeldEvents {
-    /// The events, the oldest in front.
     events: VecDeque<UserEvent>,
 }
 

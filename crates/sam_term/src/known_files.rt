@@ -183,7 +183,7 @@ fn open_window(slot: &mut Option<KnownFile>) -> &mut Window
     }
 }
 
-/// Adds empty slots up to that of an index; none if it is there already. All memory is had before the first: the only error is want of
+/// Adds empty slots up to that of an index; none if it is there already. All memory is had before the first: the only error is out of
 /// memory, and the list is unchanged then.
 fn add_slots(files: &mut Vec<Option<KnownFile>>, index: usize) -> Result<(), AllocError>
     requires { index < 2 ^ 32 }

@@ -10,7 +10,7 @@ use std::marker::Model;
 /// a message never fails halfway. Contracts see the messages and the room that is left.
 #[derive(Drop)]
 pub struct Outbox {
-    /// The messages, the first one composed in front. It never grows past the memory that it was made with.
+    /// It never grows past the memory that it was made with.
     messages: Vec<Tmesg>,
 }
 

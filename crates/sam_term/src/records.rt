@@ -26,10 +26,10 @@ pub struct Window {
 /// A file that the terminal knows. `Hnewname` makes it, with no name, clean, not changed here and not open, and `Hdelname` drops it.
 #[derive(Drop)]
 pub struct KnownFile {
-    /// The name that the last `Hmovname` told; empty before that.
+    /// The name that the last `Hmovname` gave; empty before that.
     pub name: Runes,
-    /// Whether the file is dirty, as the last `Hdirty` or `Hclean` told. What the user types and cuts does not set it, since no frame
-    /// tells of that.
+    /// Whether the file is dirty, as the last `Hdirty` or `Hclean` said. What the user types and cuts does not set it, since no frame
+    /// reports that.
     pub dirty: bool,
     /// Whether the user typed into the file or cut from it here since the last `Hclean`, or since it became known. A held event has not
     /// set it yet.

@@ -66,7 +66,6 @@ fn typed_runes(event: &UserEvent) -> &[char]
     }
 }
 
-/// Returns the file of a `Typed`.
 fn typed_file(event: &UserEvent) -> u16
     requires { IsTrue (is_typing event.now) }
     ensures { result ≡ typed_file event.now }
@@ -112,7 +111,7 @@ fn follows(unsent: &Unsent, tag: u16, p: u32, n: usize) -> bool
         && count + n <= MOST_IN_MESSAGE
 }
 
-/// For how many runes memory is asked at least where the unsent ones have no more room, so that most keys ask for none.
+/// The least room that is asked for, in runes, once the unsent ones have none left: so most keys ask for no memory.
 const LEAST_ROOM: usize = 32;
 
 /// Puts `more` at the end of `runes`. The only error is out of memory, and nothing has changed then.

@@ -13,14 +13,12 @@ use sam_runes::MAX_RUNES;
 use std::alloc::AllocError;
 
 impl Terminal {
-    /// Returns whether it knows the file.
     pub(crate) fn knows(&self, tag: u16) -> bool
         ensures { result ≡ is_known self.now tag }
     {
         self.files.known(tag).is_some()
     }
 
-    /// Returns whether the file is open.
     pub(crate) fn has_open(&self, tag: u16) -> bool
         ensures { result ≡ is_open self.now tag }
     {

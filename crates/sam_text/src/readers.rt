@@ -120,8 +120,8 @@ impl Files {
         }
     }
 
-    /// Returns whether the file of a tag is dirty, as `File::is_dirty` says it; false if the tag has no file. That tag 0 never is, `facts`
-    /// says.
+    /// Returns whether the file of a tag is dirty, as `File::is_dirty` says it; false if the tag has no file. `facts` says that tag 0 never
+    /// is.
     pub fn is_dirty(&self, tag: u16) -> bool
         ensures { result ≡ (file_at self.now.plain tag).dirty }
     {
