@@ -61,8 +61,8 @@ fn push_searches(alloc: Global, messages: &mut Vec<Tmesg>, tag: u16, p: u32) -> 
     Ok(())
 }
 
-/// A round for one file, which is as long behind it as before, in the order in which the messages come. `at` is where the command file
-/// ends: the round's line is typed there, and the result is where it ends then.
+/// Adds a round for one file, in the order in which its messages come. It leaves the length of the file. `at` is where the command file
+/// ends: the round's line is typed there. Returns where the command file ends then.
 fn push_round(
     alloc: Global,
     messages: &mut Vec<Tmesg>,
@@ -114,7 +114,7 @@ fn answer(host: &mut Host, message: Tmesg) -> Result<Frames, Fault> {
     }
 }
 
-/// Has the host answer a message. Returns what its frames add to the check value.
+/// The same. Returns what the frames add to the check value.
 fn handle(host: &mut Host, message: Tmesg) -> Result<u64, Fault> {
     Ok(weight(answer(host, message)?.as_slice()))
 }

@@ -139,14 +139,12 @@ fn pop_one<R: Wait>(rt: &R, queue: &ArrayQueue<(usize, u64)>) -> (usize, u64) {
     unreachable!()
 }
 
-/// Pushes that many items.
 fn push_all<R: Wait>(rt: &R, queue: &ArrayQueue<(usize, u64)>, sender: usize, count: u64) {
     for item in 0..count {
         push_one(rt, queue, (sender, item));
     }
 }
 
-/// Pops that many items.
 fn pop_all<R: Wait>(rt: &R, queue: &ArrayQueue<(usize, u64)>, count: u64) -> u64 {
     let mut check: u64 = 0;
     for _ in 0..count {

@@ -103,7 +103,7 @@ fn open(alloc: Global, world: &mut World, events: &mut Vec<Event>) -> Result<(),
     Ok(())
 }
 
-/// A command line that puts one rune in the place of those typed at `p` and the one behind them.
+/// A command line that puts one rune in the place of those typed at `p` and the one after them.
 fn line(alloc: Global, p: u32) -> Result<Runes, Fault> {
     let end = p.saturating_add(STRETCH + 1);
     let line = format!(in alloc; "#{p},#{end}c/y/\n")?;
@@ -150,7 +150,7 @@ fn plan(alloc: Global, world: &mut World, events: &mut Vec<Event>, size: u32) ->
     Ok(())
 }
 
-/// What a look at a world of no files tells, once `change` has changed it.
+/// What `change` returns of a world of no files.
 fn in_world<A: Drop, F: FnOnce(&mut World) -> Result<A, Fault>>(
     alloc: Global,
     change: F,

@@ -59,7 +59,6 @@ fn messages_t(alloc: Global) -> Result<Vec<Tmesg>, AllocError> {
     )
 }
 
-/// A frame of the host.
 fn frame(msg: Hmesg) -> HFrame {
     HFrame { seen: 77, msg }
 }
@@ -100,7 +99,7 @@ fn messages_h(alloc: Global) -> Result<Vec<HFrame>, AllocError> {
     Ok(frames)
 }
 
-/// Puts the frames of all messages at the end.
+/// Puts the frames of all messages at the end of `out`.
 fn put_all<M: Wire>(out: &mut Vec<u8>, messages: &[M]) -> Result<(), Fault> {
     if !can_encode(messages) || encode_all(messages, out).is_err() {
         return Err(Fault::Refused);
@@ -115,7 +114,7 @@ pub fn bytes_of<M: Wire>(alloc: Global, messages: &[M]) -> Result<Vec<u8>, Fault
     Ok(bytes)
 }
 
-/// Puts in place of what the bytes hold the frames of all messages, first the terminal's.
+/// Puts the frames of all messages in the place of what `out` holds, first the terminal's.
 fn encode_round(out: &mut Vec<u8>, messages: &[Tmesg], frames: &[HFrame]) -> Result<(), Fault> {
     out.clear();
     put_all(out, messages)?;

@@ -1,5 +1,5 @@
-//! Typing at a terminal behind bytes, whose host stands at the other end of them: what a program that embeds both does. `bench/embedded.c`
-//! makes the same calls through the C library.
+//! Typing at a terminal whose host stands at the other end of two streams of bytes: what a program that embeds both does.
+//! `bench/embedded.c` makes the same calls through the C library.
 
 use crate::fault::Fault;
 use crate::report::Report;
@@ -47,7 +47,6 @@ fn carry(host: &mut HostEndpoint, term: &mut TermEndpoint) -> Result<u64, Fault>
     Ok(check)
 }
 
-/// Puts an event in.
 fn put(term: &mut TermEndpoint, event: UserEvent) -> Result<(), Fault> {
     match term.put(event) {
         Ok(()) => Ok(()),

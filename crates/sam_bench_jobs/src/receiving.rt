@@ -63,7 +63,7 @@ fn opening(alloc: Global) -> Result<Vec<u8>, Fault> {
     bytes_of(alloc, frames.as_slice())
 }
 
-/// Frames that take something out of a file and put as much in: the terminal asks for a part of it, and is told.
+/// Frames that take something out of a file and put as much in: the terminal asks for a part of it, and gets it.
 fn push_texts(alloc: Global, frames: &mut Vec<HFrame>, tag: u16) -> Result<(), Fault> {
     frames.push(frame(Hmesg::Hcut(tag, 100, 512)))?;
     frames.push(frame(Hmesg::Hgrow(tag, 100, 512)))?;

@@ -125,7 +125,7 @@ impl Case {
         }
     }
 
-    /// Whether the call answers want of memory where it meets any, is then as if it had not been made, and answers right.
+    /// Whether the call answers right and, where memory runs out, says so and is then as if it had not been made.
     pub fn holds<R: Threads + Wait + Sync>(self, rt: &R, alloc: Global) -> Tried {
         match self {
             Case::EncodeT => codec::encode_terminal(alloc),

@@ -1,8 +1,8 @@
 //! Tries each call that takes memory as it is refused some.
 //!
-//! Each case makes its own start, calls, and, where the call answers want of memory, looks whether every reader tells what
-//! it told before and calls again. What it prints is the same whichever allocation is refused, so a library that refuses the
-//! first, the second and so on in turn, loaded before the program, shows what each call does then.
+//! Each case makes its own start, and calls. Where the call answers out of memory, the case looks whether every reader says what it said
+//! before, and calls again. What it prints is the same whichever allocation is refused. So a library that refuses the first, the second
+//! and so on in turn, loaded before the program, shows what each call does then.
 #![tactic(auto)]
 
 mod case;
@@ -73,7 +73,7 @@ fn run<R: Print + Threads + Wait + Sync>(rt: &R, alloc: Global, words: &[String]
     status
 }
 
-/// What is printed of a case.
+/// The word that is printed of a case.
 fn told(right: bool) -> &'static str {
     if right { "right" } else { "wrong" }
 }

@@ -13,7 +13,7 @@ fn is_seven(found: &Audit<u32>) -> bool {
     }
 }
 
-/// An audit gives the item that a line holds. Its readers are its ends, which come back where it is refused.
+/// An audit gives the item that a line holds. It takes the ends, which come back where it is refused.
 pub fn audit_one<R: Wait>(rt: &R, alloc: Global) -> Tried {
     let (line, start) = Line::<u32>::new(alloc, 2, 1)?;
     let Ok((mut posts, take)) = start.split(alloc, &line) else {

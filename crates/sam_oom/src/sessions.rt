@@ -98,7 +98,7 @@ fn are_unstopped(ends: &Ends<'_>) -> bool {
         && ends.term.stop.is_none()
 }
 
-/// Whether the readers tell of the ends what was read before.
+/// Whether the readers still say of the ends what was read before.
 fn is_as_read(alloc: Global, script: &Script, ends: &Ends<'_>, before: &Reading) -> Tried {
     let schedule = merged(alloc, ends)?;
     let lines = run_lines(alloc, script, schedule.as_slice())?;
@@ -111,7 +111,7 @@ fn is_as_read(alloc: Global, script: &Script, ends: &Ends<'_>, before: &Reading)
     )
 }
 
-/// What the ends settle to, if they are as they were read. None where anything else is told.
+/// What the ends settle to. `None` if they are not as they were read, or don't settle.
 fn settled_again<R: Wait>(
     rt: &R,
     alloc: Global,
@@ -130,8 +130,8 @@ fn settled_again<R: Wait>(
     }
 }
 
-/// What the ends settle to. Where memory for it is refused, they are to be as they were read, and are settled again. None where
-/// anything else is told.
+/// What the ends settle to. Where memory for it is refused, they have to be as they were read, and are settled again. `None` if anything
+/// goes otherwise.
 fn settled<R: Wait>(
     rt: &R,
     alloc: Global,
@@ -174,7 +174,7 @@ fn has_schedule(alloc: Global, script: &Script, settled: &Settled, before: &Read
     Ok(lines.as_slice() == before.lines.as_slice() && is_same_world(&settled.world, &before.world))
 }
 
-/// ComesToSync the ends, and tells whether they come to what was read of them.
+/// Whether the ends settle to what was read of them.
 fn settles<R: Wait>(
     rt: &R,
     alloc: Global,
@@ -223,7 +223,7 @@ pub fn settle_ends<R: Threads + Wait + Sync>(rt: &R, alloc: Global) -> Tried {
     settles_script(rt, alloc, &script)
 }
 
-/// Whether a worker stopped for want of memory, and no other for anything but that or since the other side was gone.
+/// Whether a worker stopped when out of memory, and each other that stopped did so for that too, or since the other side was gone.
 fn is_short(stops: &[Stop]) -> bool {
     for stop in stops {
         if *stop != Stop::Memory && *stop != Stop::PeerGone {
@@ -253,7 +253,7 @@ fn runs_whole<R: Threads + Wait + Sync>(rt: &R, alloc: Global, script: &Script) 
 #[derive(Clone, Copy, Debug, PartialEq, Eq)]
 enum Outcome {
     Whole,
-    /// It told want of memory, and rightly.
+    /// It ran out of memory, and said so.
     Short,
     Wrong,
 }
@@ -286,7 +286,8 @@ fn run_once<R: Threads + Wait + Sync>(
     })
 }
 
-/// A session comes to its end. Where memory is refused it is told, or a worker stopped for it and the session replays as far as it came.
+/// A session comes to its end. Where memory is refused, the call says so, or a worker stops for it and the session replays as far as it
+/// came.
 pub fn run_session<R: Threads + Wait + Sync>(rt: &R, alloc: Global) -> Tried {
     let script = Script::read(alloc, SCRIPT.as_bytes())?;
     match run_once(rt, alloc, &script)? {

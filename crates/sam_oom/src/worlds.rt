@@ -41,7 +41,7 @@ const ANSWERED: [(Side, usize, usize); 7] = [
     (Side::Term, 0, 0),
 ];
 
-/// Whether the readers tell the same of both.
+/// Whether the readers say the same of both worlds.
 pub fn is_same_world(world: &World, other: &World) -> bool {
     for tag in 0..TAGS {
         if world.agreed(tag) != other.agreed(tag) || world.locked(tag) != other.locked(tag) {
@@ -120,8 +120,8 @@ fn take(world: &mut World, side: Side) -> Result<(), StepFault> {
     }
 }
 
-/// Whether the side takes. Where memory for it is refused, the world is to be its twin to every reader, and the step is made again.
-/// The twin then makes it too.
+/// Whether the side takes. Where memory for it is refused, every reader has to say of the world what it says of the twin, and the step is
+/// made again. The twin then makes it too.
 fn takes(world: &mut World, twin: &mut World, side: Side) -> Tried {
     let mut taken = take(world, side);
     if taken == Err(StepFault::OutOfMemory) {
@@ -217,8 +217,8 @@ fn log(alloc: Global) -> Result<[TermLog; 4], SetUp> {
     ])
 }
 
-/// The schedule of the log. Where memory for it is refused, the log is to be as it was, and the schedule is asked for again. None where
-/// anything else is told.
+/// The schedule of the log. Where memory for it is refused, the log has to be as it was, and the schedule is asked for again. `None` if
+/// anything goes otherwise.
 fn schedule(alloc: Global, log: &[TermLog]) -> Option<Vec<Event>> {
     match merge(alloc, log, 2) {
         Err(MergeFault::OutOfMemory) if is_log(log) => merge(alloc, log, 2).ok(),

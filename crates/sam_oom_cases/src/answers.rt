@@ -8,7 +8,7 @@ use sam_mesg::{Frames, HFrame, Hmesg, Tmesg, fits_t};
 use sam_runes::{Runes, Text};
 use std::alloc::Global;
 
-/// Whether the readers tell the same of both.
+/// Whether the readers say the same of both hosts.
 pub fn is_same_host(host: &Host, other: &Host) -> bool {
     host.taken() == other.taken()
         && host.is_done() == other.is_done()
@@ -16,7 +16,7 @@ pub fn is_same_host(host: &Host, other: &Host) -> bool {
         && is_same_files(host.files(), other.files())
 }
 
-/// Hands over a message. One that does not fit is none that a case has.
+/// Hands over a message. The cases have none that does not fit.
 fn ask(host: &mut Host, message: Tmesg) -> Result<Frames, HostFault> {
     if !fits_t(2, &message) {
         return Err(HostFault::TooLong);
@@ -24,8 +24,8 @@ fn ask(host: &mut Host, message: Tmesg) -> Result<Frames, HostFault> {
     host.handle(message)
 }
 
-/// The answers to the message. Where memory for them is refused, the host is to be its twin to every reader, and the message
-/// is handed over again. None where anything else is told.
+/// The answers to the message. Where memory for them is refused, every reader has to say of the host what it says of the twin, and the
+/// message is handed over again. `None` if anything goes otherwise.
 fn answers(host: &mut Host, twin: &Host, message: Tmesg, again: Tmesg) -> Option<Frames> {
     match ask(host, message) {
         Err(HostFault::OutOfMemory) if is_same_host(host, twin) => ask(host, again).ok(),

@@ -26,8 +26,8 @@ fn has_commas(files: &Files) -> bool {
     }
 }
 
-/// Whether the line leaves three commas in file 1, selected, and prints nothing. Where memory for it is refused, the files are
-/// to be their twin to every reader, and the line is run again.
+/// Whether the line leaves three commas in file 1, selected, and prints nothing. Where memory for it is refused, every reader has to say
+/// of the files what it says of the twin, and the line is run again.
 fn leaves_commas(files: &mut Files, twin: &Files, line: &[char]) -> bool {
     let run = match files.run_line(line) {
         Err(FilesFault::OutOfMemory) if is_same_files(files, twin) => files.run_line(line),

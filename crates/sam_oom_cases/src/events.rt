@@ -28,7 +28,7 @@ fn is_same_window(terminal: &Terminal, other: &Terminal, tag: u16) -> bool {
         && is_same_part(terminal.rasp(tag), other.rasp(tag))
 }
 
-/// Whether the readers tell the same of both.
+/// Whether the readers say the same of both terminals.
 pub fn is_same_terminal(terminal: &Terminal, other: &Terminal) -> bool {
     for tag in 0..TAGS {
         if !is_same_window(terminal, other, tag) {
@@ -42,7 +42,7 @@ pub fn is_same_terminal(terminal: &Terminal, other: &Terminal) -> bool {
         && terminal.version() == other.version()
 }
 
-/// Hands over a frame. One that does not fit is none that a case has.
+/// Hands over a frame. The cases have none that does not fit.
 pub fn take(terminal: &mut Terminal, seen: u64, msg: Hmesg) -> Result<Batch, TermFault> {
     let frame = HFrame { seen, msg };
     if !fits_h(2, &frame.msg) {
@@ -68,8 +68,8 @@ fn messages_of(acted: Result<Acted, TermFault>) -> Option<Batch> {
     }
 }
 
-/// The messages that the oldest held event composes. Where memory for it is refused, the terminal is to be its twin to every
-/// reader, and the event is tried again. None where anything else is told.
+/// The messages that the oldest held event composes. Where memory for it is refused, every reader has to say of the terminal what it says
+/// of the twin, and the event is tried again. `None` if anything goes otherwise.
 fn composed(terminal: &mut Terminal, twin: &Terminal) -> Option<Batch> {
     match terminal.act() {
         Err(TermFault::OutOfMemory) if is_same_terminal(terminal, twin) => {
@@ -186,7 +186,7 @@ pub fn act_type(alloc: Global) -> Tried {
     beside_twin(alloc, to_type_over, types_over)
 }
 
-/// What a check has the terminal compose, as `composed` says it of an event.
+/// What a check has the terminal compose, tried as `composed` tries an event.
 fn checked(terminal: &mut Terminal, twin: &Terminal) -> Option<Batch> {
     match take(terminal, 3, Hmesg::Hcheck(1)) {
         Err(TermFault::OutOfMemory) if is_same_terminal(terminal, twin) => {

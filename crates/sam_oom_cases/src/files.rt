@@ -33,7 +33,6 @@ fn is_same_file(files: &Files, other: &Files, tag: u16) -> bool {
         && is_same_text(files.text(tag), other.text(tag))
 }
 
-/// Whether the readers tell the same of both.
 pub fn is_same_files(files: &Files, other: &Files) -> bool {
     for tag in 0..TAGS {
         if !is_same_file(files, other, tag) {

@@ -20,7 +20,7 @@ fn is_fresh(framer: &FramerT) -> bool {
 /// What a feed answers.
 type Fed = Result<Vec<Tmesg>, FeedFault<Tmesg>>;
 
-/// Feeds the piece. Where memory for it is refused, nothing is to seem to have been fed, and the piece is fed again.
+/// Feeds the piece. Where memory for it is refused, the framer has to be as if nothing had been fed, and the piece is fed again.
 fn fed(framer: &mut FramerT, piece: &[u8]) -> Fed {
     match framer.feed(piece) {
         Err(FeedFault::OutOfMemory) if is_fresh(framer) => framer.feed(piece),
@@ -36,7 +36,7 @@ fn gives_typed(fed: &Fed) -> bool {
     }
 }
 
-/// Whether the piece gave the message before its fault, and told where that is.
+/// Whether the piece gave the message before its fault, and the fault's place.
 fn gives_fault(fed: &Fed) -> bool {
     match fed {
         Err(FeedFault::BadKind(messages, 5)) => {

@@ -4,7 +4,7 @@ use crate::setup::{SetUp, Tried};
 use sam_rasp::{Rasp, RaspFault};
 use std::alloc::Global;
 
-/// Whether the readers tell the same of both.
+/// Whether the readers say the same of both rasps.
 pub fn is_same_rasp(rasp: &Rasp, other: &Rasp) -> bool {
     let len = rasp.len();
     if len != other.len() || rasp.sections() != other.sections() {

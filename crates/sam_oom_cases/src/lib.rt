@@ -1,7 +1,7 @@
-//! Cases of want of memory for the calls of the codec, the framer, the rasp, the files, the host and the terminal.
+//! Calls of the codec, the framer, the rasp, the files, the host and the terminal that run out of memory.
 //!
-//! Each case makes its own start, calls, and, where the call answers want of memory, looks whether every reader tells what it told
-//! before and calls again. The program sam_oom runs them, and has those of worlds, of lines and of sessions beside them.
+//! Each case makes its own start, and calls. Where the call answers out of memory, the case looks whether every reader says what it said
+//! before, and calls again. The program sam_oom runs them, and has those of worlds, of lines and of sessions beside them.
 #![tactic(auto)]
 
 pub mod answers;

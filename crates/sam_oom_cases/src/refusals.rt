@@ -1,4 +1,4 @@
-//! Calls that are refused for their own sake, whatever memory does: none of them may answer want of memory, and none changes anything.
+//! Calls that are refused whatever memory does: none of them may answer out of memory, and none changes anything.
 
 use crate::command_lines::with_work;
 use crate::events::{is_same_terminal, open, take};

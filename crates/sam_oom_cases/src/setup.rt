@@ -1,13 +1,13 @@
-//! Want of memory, or whatever else, in what a case needs before its call.
+//! Setting up a case, which may itself run out of memory: then it is retried.
 
 use std::alloc::Global;
 use std::error::Error;
 
-/// The start of a case was refused, so that nothing is known of its call: the case is to be tried again.
+/// Setting up a case was refused, so its call was not tried: the case is tried again.
 #[derive(Clone, Copy, Debug, PartialEq, Eq)]
 pub struct SetUp;
 
-/// Whether the call of a case was right, where its start was not refused.
+/// Whether the call of a case was right, if its start was not refused.
 pub type Tried = Result<bool, SetUp>;
 
 impl<E: Error + Drop> From<E> for SetUp {

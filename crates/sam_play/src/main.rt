@@ -74,8 +74,8 @@ fn words<R: Env + AllocGlobal>(rt: &R) -> Result<Vec<String>, Fault> {
     }
 }
 
-/// Tells a person, on standard error, what is wrong with the words. If it can't, it says nothing: standard output and the exit status tell
-/// of the fault.
+/// Says on standard error, for a person, what is wrong with the words. If it can't, it says nothing: standard output and the exit status
+/// report the fault.
 fn say_usage<R: Eprint + Env + AllocGlobal>(rt: &R) {
     let alloc = rt.alloc();
     let Ok(words) = words(rt) else {

@@ -1,4 +1,4 @@
-//! Framers, fed whole streams and pieces, and messages that are written one behind another.
+//! Framers, fed whole streams and pieces, and messages that are written one after another.
 use sam_frame::{FeedFault, Framer, FramerH, FramerT, Wire, can_encode, encode_all};
 use sam_mesg::{HFrame, Hmesg, Tmesg};
 use sam_runes::Runes;
@@ -21,7 +21,7 @@ fn told<M>(fed: &Result<Vec<M>, FeedFault<M>>) -> (usize, u8, u64) {
     }
 }
 
-/// Feeds the piece, and tells what it gave.
+/// Feeds the piece, and returns what it gave.
 fn feeds<M: Wire>(framer: &mut Framer<M>, piece: &[u8]) -> (usize, u8, u64) {
     told_of(framer.feed(piece), |fed| told(fed))
 }
@@ -41,7 +41,7 @@ fn has_failed<M: Wire>(framer: &Framer<M>) -> bool {
     matches!(framer.finish(), Err(FeedFault::Failed))
 }
 
-/// Whether the message is that Ttype.
+/// Whether the message is the Ttype of `FRONT_OF_HI`.
 fn is_hi(message: &Tmesg) -> bool {
     match message {
         Tmesg::Ttype(1, 0, text) => text.as_slice() == ['h', 'i'].as_slice(),
@@ -49,7 +49,6 @@ fn is_hi(message: &Tmesg) -> bool {
     }
 }
 
-/// Whether a feed gave one message, which is that Ttype.
 fn gave_hi(fed: &Result<Vec<Tmesg>, FeedFault<Tmesg>>) -> bool {
     match fed {
         Ok(messages) => messages.len() == 1 && messages.iter().all(|message| is_hi(message)),
@@ -84,7 +83,7 @@ fn one_byte_at_a_time(rt: HostRuntime) {
     assert_eq!(rt; told, (true, true, true));
 }
 
-/// What a new framer tells of the stream, and whether it fails from then on.
+/// What a new framer gives of the stream, and whether it fails from then on.
 fn fed_alone(alloc: Global, stream: &[u8]) -> ((usize, u8, u64), bool) {
     lent(FramerT::new(alloc), |framer| {
         (
@@ -125,7 +124,7 @@ fn faults_show_in_their_place(rt: HostRuntime) {
     assert_eq!(rt; wrong_row(rt.alloc()), None);
 }
 
-/// The bytes, and so many runes behind them.
+/// The bytes, and so many runes after them.
 fn stream_of(alloc: Global, bytes: &[u8], runes: usize) -> Result<Vec<u8>, AllocError> {
     let mut stream = Vec::from_slice(alloc, bytes)?;
     for _ in 0..runes {
@@ -139,7 +138,7 @@ const LONGEST: [u8; 9] = [8, 2, 6, 0, 1, 0, 0, 0, 0];
 
 const TOO_LONG: [u8; 9] = [8, 2, 7, 0, 1, 0, 0, 0, 0];
 
-/// Feeds the bytes and so many runes behind them. None where memory for these is refused.
+/// Feeds the bytes and so many runes after them. None where memory for these is refused.
 fn feeds_text(
     alloc: Global,
     framer: &mut FramerT,
@@ -199,7 +198,7 @@ fn frames_of_the_host(rt: HostRuntime) {
     assert_eq!(rt; told, (Some((1, Some(2), true)), 2, (0, 1, 13)));
 }
 
-/// Whether these bytes are one that is there before, 7, and behind it the frames of the messages.
+/// Whether encoding the messages after a byte that is there already, 7, gives these bytes.
 fn are_frames<M: Wire>(alloc: Global, messages: &[M], wanted: &[u8]) -> bool {
     lent(Vec::new(alloc), |out| {
         out.push(7).is_ok()
@@ -209,7 +208,7 @@ fn are_frames<M: Wire>(alloc: Global, messages: &[M], wanted: &[u8]) -> bool {
     })
 }
 
-/// The same of messages that are made, unless memory for them was refused.
+/// The same; false where memory for the messages was refused.
 fn are_frames_of<M: Wire>(alloc: Global, made: Result<Vec<M>, AllocError>, wanted: &[u8]) -> bool {
     told_of(made, |made| match made {
         Ok(messages) => are_frames(alloc, messages.as_slice(), wanted),

@@ -135,7 +135,7 @@ fn again_h(alloc: Global, version: u16, frame: &[u8]) -> Result<Vec<u8>, MesgFau
     })
 }
 
-/// Whether the frame of these lengths is the same once it was read, copied and written again.
+/// Whether the frame of these lengths stays the same when it is read, copied and written again.
 fn is_kept_t(
     alloc: Global,
     version: u16,
@@ -246,7 +246,6 @@ fn is_spelled_h(alloc: Global, frame: &HFrame, bytes: &[u8]) -> Result<bool, Mes
     Ok(fits_h(2, &frame.msg) && written.as_slice() == bytes)
 }
 
-/// Whether typing `hi` is spelled so.
 fn is_hi_spelled(alloc: Global) -> Result<bool, MesgFault> {
     let message = Tmesg::Ttype(1, 0, Runes::from_str(alloc, "hi")?);
     told_of(message, |message| is_spelled_t(alloc, message, &TYPE_HI))
@@ -262,7 +261,6 @@ const DATA_AB: [u8; 19] = [
     0x49, 0, 0x10, 0, 0, 0, 0, 0, 0, 0, 2, 0, 1, 0, 0, 0, 0, 0x61, 0x62,
 ];
 
-/// Whether `ab` at the start of file 1 is spelled so.
 fn is_ab_spelled(alloc: Global) -> Result<bool, MesgFault> {
     let frame = HFrame {
         seen: 2,

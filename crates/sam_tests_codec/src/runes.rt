@@ -6,7 +6,7 @@ use sam_runes::{Edit, MAX_RUNES, Runes, Text, TextFault, read_utf8, utf8_len, wr
 use sam_test_support::lent;
 use std::alloc::{AllocError, Global};
 
-/// Lends a text of these runes to the body. With no memory for it there is nothing.
+/// Lends a text of these runes to the body. `None` where memory for it is refused.
 fn with_text<A, F: FnOnce(&mut Text) -> A>(alloc: Global, runes: &[char], body: F) -> Option<A>
     requires { F.IsAlwaysCallable body }
 {
@@ -16,7 +16,7 @@ fn with_text<A, F: FnOnce(&mut Text) -> A>(alloc: Global, runes: &[char], body: 
     }
 }
 
-/// The same of a text that is spelled so.
+/// The same, with the runes of a string.
 fn with_letters<A, F: FnOnce(&mut Text) -> A>(alloc: Global, letters: &str, body: F) -> Option<A>
     requires { F.IsAlwaysCallable body }
 {
@@ -24,7 +24,6 @@ fn with_letters<A, F: FnOnce(&mut Text) -> A>(alloc: Global, letters: &str, body
     with_text(alloc, runes.as_slice(), body)
 }
 
-/// Whether the text is this.
 fn spells(text: &Text, wanted: &str) -> bool {
     text.slice(0, text.len()).iter().copied().eq(wanted.chars())
 }
@@ -70,7 +69,7 @@ fn looks(rt: HostRuntime) {
 const LINES: &str = "one\ntwo\nthree";
 
 /// The ranges of the lines 2 to 4, and where the lines begin that stand 0, 1, 2 and 9 before place 10, with the line of that place
-/// once more. There is nothing where the text has not 13 runes.
+/// once more. There are none where the text has not 13 runes.
 type Told = ([Option<(u32, u32)>; 3], [u32; 5]);
 
 fn lines_of(file: &Text) -> Option<Told> {
@@ -95,12 +94,11 @@ fn lines(rt: HostRuntime) {
     assert_eq!(rt; told, Some(Some((ranges, [8, 4, 0, 0, 8]))));
 }
 
-/// A copy of an `X`, or nothing where memory is refused.
 fn copied(alloc: Global) -> Result<Runes, AllocError> {
     Runes::from_slice(alloc, &['X'])?.copy(alloc)
 }
 
-/// An edit that puts an `X` in the place of what stands there. Where memory is refused it puts nothing, which the text then tells.
+/// An edit that puts an `X` in the place of what stands there. Where memory is refused it puts nothing, which the text then shows.
 fn crossed(alloc: Global, p: u32, q: u32) -> Edit
     ensures { (result.p ≡ p) × (result.q ≡ q) }
 {
@@ -125,7 +123,7 @@ fn cross_all(alloc: Global, file: &mut Text) -> Result<(), TextFault> {
     file.replace_all(&edits)
 }
 
-/// Whether the file is right once it was crossed, and whether a copy that was made before is as it was.
+/// Whether the file is right after `cross_all`, and whether a copy that was made before is as it was.
 fn crossed_beside_copy(alloc: Global, file: &mut Text) -> Result<(bool, bool), TextFault> {
     let saved = file.copy()?;
     cross_all(alloc, file)?;
@@ -151,7 +149,7 @@ fn room_kept(rt: HostRuntime) {
     assert_eq!(rt; told, Some(Some((Ok(()), Ok(()), true))));
 }
 
-/// What a text of one rune less than it may have tells.
+/// What four calls answer on a text that has one rune less than it may, and how many runes it has then.
 fn at_the_limit(alloc: Global, file: &mut Text) -> ([Result<(), TextFault>; 4], u32) {
     let inserted = [file.insert(0, &['a', 'b']), file.insert(0, &['a'])];
     let replaced = file.replace_all(&[crossed(alloc, 0, 0)]);
@@ -159,7 +157,7 @@ fn at_the_limit(alloc: Global, file: &mut Text) -> ([Result<(), TextFault>; 4], 
     ([inserted[0], inserted[1], replaced, file.reserve(1)], len)
 }
 
-/// The same of a new one.
+/// The same of a new text.
 fn new_at_the_limit(alloc: Global) -> Option<([Result<(), TextFault>; 4], u32)> {
     let runes = vec![in alloc; 'a'; 999_999].ok()?;
     with_text(alloc, runes.as_slice(), |file| at_the_limit(alloc, file))

@@ -19,7 +19,7 @@ const MANY: u64 = 18;
 /// Soon, in microseconds: a quarter of the longest sleep of an end.
 const SOON: u64 = 6_400;
 
-/// How often an end waits before each further sleep is as long as the longest, or some more.
+/// After so many waits each further sleep is as long as the longest; somewhat fewer would do.
 const DEEP: u64 = 212;
 
 /// Microseconds between two looks of a test at a count.
@@ -45,12 +45,10 @@ impl Watch {
         }
     }
 
-    /// How often the end has tried so far.
     fn tries(&self) -> u64 {
         self.tries.load(Ordering::SeqCst)
     }
 
-    /// Counts one try more.
     fn count(&self) {
         self.tries.fetch_add(1, Ordering::SeqCst);
     }

@@ -167,7 +167,7 @@ fn three_senders_leave(rt: HostRuntime) {
     assert_eq!(rt; wrong, Ok(None));
 }
 
-/// How many senders an audit tells of, what the first has left, and whether it has closed.
+/// How many senders an audit lists, what the first has left, and whether it has closed.
 fn told_of_audit(audit: &Audit<u32>) -> (usize, Option<bool>, bool) {
     let is_seven = match audit.left.first() {
         Some(items) => Some(items.as_slice() == [7].as_slice()),
@@ -177,7 +177,7 @@ fn told_of_audit(audit: &Audit<u32>) -> (usize, Option<bool>, bool) {
     (audit.left.len(), is_seven, is_open)
 }
 
-/// What two sends and a receive answer, and what an audit behind them tells.
+/// What two sends and a receive answer, and what an audit after them finds.
 fn audited(
     rt: &impl Wait,
     alloc: Global,
@@ -204,7 +204,8 @@ fn an_audit_gives_what_is_left(rt: HostRuntime) {
     assert_eq!(rt; told, Ok(([true; 3], Some((1, Some(true), true)))));
 }
 
-/// A line of which one thread has all ends, as a plain list: all that was put, and how much of it was taken.
+/// A line of which one thread has all ends, as a plain list: all that was put, and how much of it was taken. Its calls answer as the
+/// ends of the line have to.
 #[derive(Drop)]
 struct Plain {
     put: Vec<(usize, Option<u32>)>,
@@ -220,7 +221,6 @@ impl Plain {
         self.put.len().saturating_sub(self.taken) >= self.capacity
     }
 
-    /// What `try_send` has to answer.
     fn try_send(&mut self, sender: usize, item: u32) -> Result<Result<(), Refused<u32>>, AllocError>
         requires { sender < 3 }
     {
@@ -234,7 +234,6 @@ impl Plain {
         Ok(Ok(()))
     }
 
-    /// What `try_close` has to answer.
     fn try_close(&mut self, sender: usize) -> Result<bool, AllocError>
         requires { sender < 3 }
     {
@@ -249,7 +248,6 @@ impl Plain {
         Ok(true)
     }
 
-    /// What `try_recv` has to answer.
     fn try_recv(&mut self) -> Got<u32> {
         let Some((sender, load)) = self.put.get(self.taken).copied() else {
             return if self.left == self.senders {

@@ -14,7 +14,6 @@ enum Change<'a> {
     Replace(u32, u32, &'a [char]),
 }
 
-/// Makes the change.
 fn make(rasp: &mut Rasp, change: Change<'_>) -> Result<(), RaspFault> {
     match change {
         Change::Grow(p, n) => rasp.grow(p, n),
@@ -185,7 +184,7 @@ fn sections_are_few(rt: HostRuntime) {
     assert_eq!(rt; first_wrong_of_new(rt.alloc(), &FEW), None);
 }
 
-/// Whether the change is made, at the second call at the latest, with all as it was where the first was refused memory.
+/// Whether the change is made at the first call, or at the second where the first was refused memory and changed nothing.
 fn is_made(rasp: &mut Rasp, change: Change<'_>, before: &[Option<char>], sections: usize) -> bool {
     let answer = make(rasp, change);
     if answer != Err(RaspFault::OutOfMemory) {
@@ -204,7 +203,7 @@ fn are_made(rasp: &mut Rasp, rows: &[(Change<'_>, &[Option<char>], usize)]) -> b
     true
 }
 
-// Run once for each allocation that is refused, and once with none refused: each change is made at the second call at the latest.
+// Run once for each allocation that is refused, and once with none refused.
 #[test]
 fn a_refused_change_leaves_all_as_it_was(rt: HostRuntime) {
     let gaps = [None; 5];
@@ -381,7 +380,7 @@ fn say_the_same(random: &mut Random, rasp: &Rasp, list: &[Option<char>]) -> bool
         && rasp.loaded(len) == None
 }
 
-/// After how many turns, of so many at most, the rasp and the plain list first say otherwise.
+/// For how many turns, of so many at most, the rasp and the plain list say the same.
 fn turns_alike(alloc: Global, rasp: &mut Rasp, turns: u32) -> Result<u32, AllocError> {
     let mut random = Random {
         state: 2_463_534_242,
@@ -443,7 +442,7 @@ fn shorter_before(turn: u32, block: u32) -> u32 {
     before
 }
 
-/// Cuts the gap behind the `a` out of each block, in a scattered order.
+/// Cuts the gap after the `a` out of each block, in a scattered order.
 fn cut_in_blocks(rasp: &mut Rasp) -> Result<(), RaspFault> {
     for turn in 0..BLOCKS {
         let block = block_of(turn);

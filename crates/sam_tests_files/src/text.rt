@@ -31,7 +31,6 @@ fn begin(files: &mut Files, text: &[char]) -> Result<(), Refused> {
     Ok(())
 }
 
-/// Whether the text of the tag is this.
 fn spells(files: &Files, tag: u16, text: &str) -> bool {
     match files.text(tag) {
         Some(it) => it.slice(0, it.len()).iter().copied().eq(text.chars()),
@@ -39,7 +38,7 @@ fn spells(files: &Files, tag: u16, text: &str) -> bool {
     }
 }
 
-/// Lends files to the body whose work file is tag 1, named `a`, with this text and dot 0,0. With no memory for it there is nothing.
+/// Lends files to the body whose work file is tag 1, named `a`, with this text and dot 0,0. `None` where memory for them is refused.
 fn with_file<A, F: FnOnce(&mut Files) -> A>(alloc: Global, text: &[char], body: F) -> Option<A>
     requires { F.IsAlwaysCallable body }
 {
@@ -72,7 +71,7 @@ fn prints(
 /// What a line leaves of a file of this text: whether it prints this, the dot, and whether the text is this.
 type Left = (Option<bool>, Option<(u32, u32)>, bool);
 
-/// Runs a line on a work file, and tells what it leaves.
+/// Runs a line on a work file, and returns what it leaves.
 fn left_by(
     alloc: Global,
     start: &str,
@@ -128,7 +127,7 @@ fn wrong_row(alloc: Global) -> Option<usize> {
     None
 }
 
-/// Wrong lines, and what they print: each word by two lines, and before one that could come as well.
+/// Wrong lines, and what they print. The last line of each word has another fault too, which comes later.
 const WRONG: [(&str, &str); 16] = [
     (",x/\\q/d", "? escape\n"),
     ("a/x\\", "? escape\n"),
@@ -170,7 +169,7 @@ fn wrong_lines(rt: HostRuntime) {
     assert_eq!(rt; wrong_answer(rt.alloc()), None);
 }
 
-/// Runs a line on a work file of `n` runes `a`, and prints what it tells into the command file.
+/// Runs a line on a work file of `n` runes `a`, and prints what it returns into the command file.
 fn many(alloc: Global, files: &mut Files, n: usize, line: &str) -> Result<(), Refused> {
     let text = vec![in alloc; 'a'; n]?;
     let printed = ran(alloc, files, text.as_slice(), line)?;

@@ -209,7 +209,7 @@ impl Read for Full {
     }
 }
 
-/// Puts the bytes of a row, written as hexadecimal digits and blanks, behind the others.
+/// Puts the bytes of a row, written as hexadecimal digits and blanks, after the others.
 fn push_row(bytes: &mut Vec<u8>, row: &str) -> Result<(), AllocError> {
     let mut high: Option<u8> = None;
     for c in row.chars() {
@@ -271,7 +271,7 @@ fn is_written(played: Played, bytes: &[u8]) -> (bool, Result<(), PlayFault>) {
     (written.as_slice() == bytes, end)
 }
 
-/// For both ways of playing whether the rows of output come of the row of input, and the end.
+/// For both ways of playing: whether the row of input gives the rows of output, and the end.
 fn answers<T: Threads + Wait + Sync>(
     rt: &T,
     alloc: Global,

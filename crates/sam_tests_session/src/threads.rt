@@ -149,7 +149,7 @@ fn replays(alloc: Global, script: &Script, settled: &Settled) -> bool {
     })
 }
 
-/// A session of which each worker has three steps or more to do, and in which nobody but the terminal exits.
+/// A session in which each worker has three steps or more to do, and only the terminal exits.
 const LONG: &str =
     "file a hello\\n\nk version 1\nk opencmd\nk open 1\nk type 1 X\nk type 0 ,x/l/d\\n\nm flush\nm flush\nm flush\n";
 
@@ -171,7 +171,7 @@ fn handled_by_terminal(schedule: &[Event]) -> (u64, u64) {
     (users, frames)
 }
 
-/// Whether the gate stopped somebody, and the worker had then done as much as the gate says. An Exit of the terminal's own comes behind
+/// Whether the gate stopped somebody, and the worker had then done as much as the gate says. An Exit of the terminal's own comes after
 /// all events of users.
 fn has_stopped_at(settled: &Settled, gate: &StopsAt) -> bool {
     let done = gate.handled;

@@ -13,12 +13,11 @@ use sam_test_support::lent;
 use std::alloc::Global;
 use std::test::Fail;
 
-/// Types the runes, one event, and tells how many messages that composes.
+/// Types the runes as one event, and returns how many messages that composes.
 fn types(alloc: Global, terminal: &mut Terminal, tag: u16, text: &str) -> Option<usize> {
     typed(alloc, terminal, tag, text, |messages| messages.len())
 }
 
-/// Opens a file.
 fn opens(terminal: &mut Terminal, tag: u16) -> bool {
     takes(terminal, Hmesg::Hnewname(tag)) && takes(terminal, Hmesg::Hbindname(tag))
 }

@@ -1,4 +1,4 @@
-//! A terminal behind two streams of bytes: each public call on its way to the right end. The bytes are those of docs/PROTOCOL.md.
+//! A terminal at one end of two streams of bytes: each public call on its way to the right end. The bytes are those of docs/PROTOCOL.md.
 use sam_endpoint::TermEndpoint;
 use sam_runes::Runes;
 use sam_term::event::UserEvent;
@@ -6,12 +6,10 @@ use sam_term::fault::Refusal;
 use sam_test_support::lent;
 use std::alloc::Global;
 
-/// The event is taken, and nothing fails.
 fn puts(end: &mut TermEndpoint, event: UserEvent) -> bool {
     end.put(event).is_ok()
 }
 
-/// The bytes are taken, and nothing fails.
 fn feeds(end: &mut TermEndpoint, piece: &[u8]) -> bool {
     end.feed(piece).is_ok()
 }

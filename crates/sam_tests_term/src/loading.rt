@@ -1,4 +1,4 @@
-//! `Load`: what it asks for, what the request rule asks for behind it, and when it is refused.
+//! `Load`: what it asks for, what the request rule asks for after it, and when it is refused.
 
 use crate::trying::{
     composed, is_held, opens_five_gaps, refusal, take, takes, takes_runes, typing_is_held,

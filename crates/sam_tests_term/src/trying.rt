@@ -1,4 +1,4 @@
-//! How the tests try a terminal: each call in a word.
+//! The calls of the tests on a terminal, each under a short name.
 
 use sam_mesg::{Batch, HFrame, Hmesg, Tmesg, fits_h};
 use sam_runes::Runes;
@@ -38,18 +38,18 @@ pub(crate) fn takes_runes<F: FnOnce(Runes) -> Hmesg>(
     }
 }
 
-/// Why a message that has seen so many of the terminal's is refused.
+/// Why a message is refused that has seen so many of the terminal's.
 pub(crate) fn refused(terminal: &mut Terminal, seen: u64, msg: Hmesg) -> Option<TermFault> {
     take(terminal, seen, msg).err()
 }
 
-/// What becomes of an event that nothing is held before.
+/// What becomes of an event while no other is held.
 pub(crate) fn acts(terminal: &mut Terminal, event: UserEvent) -> Result<Acted, TermFault> {
     terminal.user(event)?;
     terminal.act()
 }
 
-/// What a look at the messages tells that an event composes, if it is done.
+/// What `look` returns of the messages that an event composes, if it is done.
 pub(crate) fn composed<A, F: FnOnce(&[Tmesg]) -> A>(
     terminal: &mut Terminal,
     event: UserEvent,
@@ -63,7 +63,7 @@ pub(crate) fn composed<A, F: FnOnce(&[Tmesg]) -> A>(
     }
 }
 
-/// What a look at the messages tells that typing these runes composes, if it is done.
+/// The same of an event that types these runes.
 pub(crate) fn typed<A, F: FnOnce(&[Tmesg]) -> A>(
     alloc: Global,
     terminal: &mut Terminal,

@@ -1,4 +1,4 @@
-//! A host behind a stream of bytes: its answers are those of the table at the end of docs/PROTOCOL.md.
+//! A host at one end of a stream of bytes: its answers are those of the table at the end of docs/PROTOCOL.md.
 
 use sam_endpoint::{AddFault, EndpointFault, HostEndpoint, HostStop, StreamFault};
 use sam_host::HostFault;
@@ -28,12 +28,10 @@ const WRITTEN: [u8; 20] = [
     0x06, 0, 2, 0, 1, 0x08, 0, 7, 0, 1, 0, 0, 0, 5, 0x21, 0x0d, 0, 2, 0, 1,
 ];
 
-/// Adds a file.
 fn adds(end: &mut HostEndpoint, name: &[u8], text: &[u8]) -> Result<u16, AddFault> {
     end.add_file(name, text)
 }
 
-/// Feeds a piece.
 fn feeds(end: &mut HostEndpoint, piece: &[u8]) -> Result<(), EndpointFault<HostStop>> {
     end.feed(piece)
 }

@@ -6,7 +6,7 @@ use sam_test_support::{lent, told_of};
 use sam_workers::{Fed, Stop, feed_terminal};
 use std::alloc::Global;
 
-/// What a look at what came of the piece tells.
+/// What `look` returns of what came of the piece.
 fn fed<A, F: FnOnce(&Fed) -> A>(
     alloc: Global,
     terminal: &mut Terminal,

@@ -5,7 +5,7 @@ use sam_test_support::told_of;
 use sam_world::Event;
 use std::alloc::{AllocError, Global};
 
-/// The wrong line that a script is refused for, and 0 for want of memory.
+/// The number of the wrong line for which a script is refused; 0 when out of memory.
 fn fault_of(alloc: Global, text: &[u8]) -> Option<usize> {
     told_of(Script::read(alloc, text), |read| match read {
         Ok(_) => None,

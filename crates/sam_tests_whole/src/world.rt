@@ -93,7 +93,7 @@ fn made_again(alloc: Global, world: World) -> World
     World::of_sides(alloc, host, term)
 }
 
-/// What the readers tell of a world that was taken apart and made again, or nothing if it is not quiet.
+/// What the readers say of a world that was taken apart and made again, or nothing if it is not quiet.
 fn is_over_again(alloc: Global, world: World) -> bool {
     if !world.quiet() {
         drop(world);
@@ -153,12 +153,10 @@ fn a_run_stops_where_nothing_is_there(rt: HostRuntime) -> Result<(), Fail> {
     Ok(())
 }
 
-/// The letters of the events.
 fn letters(alloc: Global, events: &[Event]) -> Result<Vec<char>, AllocError> {
     events.iter().map(letter).collect(alloc)
 }
 
-/// Whether the events have these letters.
 fn has_letters(
     alloc: Global,
     merged: &Result<Vec<Event>, MergeFault>,
