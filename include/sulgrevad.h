@@ -26,22 +26,22 @@
  *
  * Status. Each call but sam_library_version and sam_status_text returns an enum sam_status, and hands other results out through
  * pointers. After SAM_NO_HANDLE, SAM_NO_MEMORY and SAM_NONE, and where a comment below says 'refused', what the pointers lead to is as
- * it was. A handle that has stopped says why at each feed, be it one of no bytes.
+ * it was. A handle that has stopped says why at each feed, even of no bytes.
  *
- * Tags without a file. A tag that was never given and that of a file that was closed are alike. Asked about such a tag, the calls
+ * Tags without a file. A tag that was never given and the tag of a closed file are treated alike. Asked about such a tag, the calls
  * that answer yes or no (sam_host_has_file, sam_term_is_known, _is_open, _is_changed) return SAM_OK and hand out false, and
  * sam_term_locked says whether the command lock is held; all other readers return SAM_NONE. Of a known file that is not open a
  * terminal has the name and the dirty mark alone: the readers of texts, dots and views return SAM_NONE there too. An event for a
  * file that is not known or not open returns SAM_OK like any other, and is refused when it comes to act: sam_term_next_refusal
  * then names SAM_REFUSAL_NO_FILE or SAM_REFUSAL_NOT_OPEN.
  *
- * Out of memory. That loses nothing and ends no handle. At SAM_NO_MEMORY what the call brought was not taken: make the same call
+ * Out of memory. Nothing is lost, and no handle ends. At SAM_NO_MEMORY what the call brought was not taken: make the same call
  * again. At SAM_UNFINISHED it was taken: don't bring it again. The next feed goes on with what waits; at a terminal so does the next
  * event, or sam_term_flush_now. Readers and _take_out don't. To go on, feed no bytes until that returns neither SAM_UNFINISHED nor
  * SAM_NO_MEMORY: both mean then that memory is still short. Only a fault of the other side's stream, a message or frame that is
  * refused, or a full count of messages stops a handle. Its readers and _take_out go on to work.
  *
- * What the caller owes, and nothing here can test: pointers other than handles are not NULL but for a length of 0, lengths are
+ * What the caller owes, and no call can test: pointers other than handles are not NULL but for a length of 0, lengths are
  * right, buffers don't overlap, and a handle is in one call at a time. A handle may not move between threads while it is in a
  * call. No call is made from a signal handler, or in the child of a fork of a program with threads. malloc, realloc and free are
  * those of one allocator.
@@ -72,7 +72,7 @@ uint32_t sam_library_version(void);
 
 /* ---- What a call returns ---- */
 
-/* Has the compiler warn where a status is dropped, if it knows how. Define it empty before the include to have no such warning. */
+/* Has the compiler warn where a status is dropped, if it can. Define it empty before the include to have no such warning. */
 #ifndef SAM_MUST_USE
 #if defined(__cplusplus) && __cplusplus >= 201703L
 #define SAM_MUST_USE [[nodiscard]]
@@ -123,7 +123,7 @@ enum sam_status {
     SAM_TERM_LOCK_NOT_HELD = SAM_TERM_REFUSED + 7,
     SAM_TERM_COUNT_FULL = SAM_TERM_REFUSED + 8,
 
-    SAM_REFUSAL = 128, /* why sam_term_next_refusal says that an event was refused; the terminal goes on */
+    SAM_REFUSAL = 128, /* the reasons that sam_term_next_refusal gives; the terminal goes on */
     SAM_REFUSAL_EXITED = SAM_REFUSAL + 1,
     SAM_REFUSAL_NO_FILE = SAM_REFUSAL + 2,
     SAM_REFUSAL_NOT_OPEN = SAM_REFUSAL + 3,
@@ -177,7 +177,7 @@ SAM_MUST_USE sam_status sam_host_new(sam_host *host);
 sam_status sam_host_free(sam_host *host);
 
 /* Adds a file, clean and closed, and hands out its tag: 1 for the first, and so on. Refused, in this order: SAM_NO_HANDLE;
- * SAM_ADD_BEGUN after the first feed, be it one of no bytes; SAM_NOT_TEXT; SAM_ADD_TOO_LONG for a name above 64 runes or a text above
+ * SAM_ADD_BEGUN after the first feed, even of no bytes; SAM_NOT_TEXT; SAM_ADD_TOO_LONG for a name above 64 runes or a text above
  * 1,000,000; SAM_ADD_NO_TAG after 65,535 files; SAM_NO_MEMORY. The host is then as it was. */
 SAM_MUST_USE sam_status sam_host_add_file(sam_host *host, const uint8_t *name, size_t name_len, const uint8_t *text, size_t text_len,
                                           uint16_t *tag);
@@ -208,9 +208,9 @@ SAM_MUST_USE sam_status sam_host_version(sam_host *host, uint16_t *version);
 
 /* ---- The host: files that the terminal had written ---- */
 
-/* The tag of a file that the terminal told the host to write (Twrite): now is the time to write sam_host_saved of it to disk. Each
- * Twrite gives its tag once, in order, so a file that was written twice comes twice. SAM_NONE where there is none left. Ask after each
- * feed: once the file is closed, its saved text is gone. */
+/* The tag of a file that the terminal asked the host to write (Twrite): write sam_host_saved of it to disk now. Each Twrite gives its
+ * tag once, in order, so a file that was written twice comes twice. SAM_NONE where there is none left. Ask after each feed: once the file
+ * is closed, its saved text is gone. */
 SAM_MUST_USE sam_status sam_host_next_written(sam_host *host, uint16_t *tag);
 
 /* The length in runes of what a file was when it was written last (Twrite). SAM_NONE also where it never was. */
@@ -321,7 +321,7 @@ SAM_MUST_USE sam_status sam_term_set_snarf(sam_term *term, const uint8_t *text, 
 /* Shows at most len runes from a place on, and asks for those that are not loaded: at most 512 at a time, and then for the next. */
 SAM_MUST_USE sam_status sam_term_view(sam_term *term, uint16_t tag, uint32_t place, uint32_t len);
 
-/* Shows the same, and asks for all of those at once: for at most 64 stretches of 512, so that a page comes in one round trip. */
+/* Shows the same, and asks for all of those at once, in at most 64 stretches of 512: so a page comes in one round trip. */
 SAM_MUST_USE sam_status sam_term_load(sam_term *term, uint16_t tag, uint32_t place, uint32_t len);
 
 /* Shows the file from that many lines further up. */
@@ -393,8 +393,8 @@ SAM_MUST_USE sam_status sam_term_unsent(sam_term *term, uint32_t *runes);
 SAM_MUST_USE sam_status sam_term_sent(sam_term *term, uint64_t *messages);
 
 /* How many of the composed messages the host has not taken, as far as its frames say. 0 means that it has taken them all. Else it is an
- * upper bound: the host answers typing (but the end of a command line), the cutting of a selection, and the acknowledgement that the
- * terminal sends after each sam_term_offer_version by no frame, and such a message counts until the host answers a later one.
+ * upper bound. The host sends no frame for typing (but for the end of a command line), for the cutting of a selection, or for the
+ * acknowledgement that the terminal sends after each sam_term_offer_version. Such a message counts until the host answers a later one.
  * sam_term_check asks for an answer that changes no text. */
 SAM_MUST_USE sam_status sam_term_under_way(sam_term *term, uint64_t *messages);
 
@@ -426,7 +426,7 @@ SAM_MUST_USE sam_status sam_term_is_dirty(sam_term *term, uint16_t tag, bool *di
 SAM_MUST_USE sam_status sam_term_is_changed(sam_term *term, uint16_t tag, bool *changed);
 
 /* The file that the host's answer to sam_term_work or sam_term_new_file named last, SAM_NONE before the first. It may be closed since.
- * sam_term_open changes the file that command lines work on without a word of it here. */
+ * sam_term_open changes the file that command lines work on, too, but not what this hands out. */
 SAM_MUST_USE sam_status sam_term_current(sam_term *term, uint16_t *tag);
 
 /* ---- The terminal: texts of open files ---- */

@@ -1,4 +1,4 @@
-;;; What tests/emacs has Emacs do: it edits two files behind a slow link.  -*- lexical-binding: t -*-
+;;; What tests/emacs has Emacs do: it edits two files over a slow link.  -*- lexical-binding: t -*-
 ;; The words are the host's, and the folder of the files. It prints a line for each check that fails, and one with the numbers.
 
 (defvar passed 0)

@@ -233,7 +233,7 @@ static void too_long(void)
     WANT(sam_term_new(&term), SAM_OK);
     WANT(sam_host_add_file(&host, BYTES("a"), letters, sizeof letters, &tag), SAM_OK);
     WANT(sam_term_offer_version(&term, 2), SAM_OK);
-    WANT(sam_term_open(&term, 1), SAM_OK); /* held until the names are told */
+    WANT(sam_term_open(&term, 1), SAM_OK); /* held until the names have come */
     carry(&term, &host);
     WANT(sam_term_next_refusal(&term, &event, &why), SAM_NONE);
     WANT(sam_term_type(&term, 1, BYTES("y")), SAM_OK);
@@ -424,7 +424,7 @@ static void session(void)
               "\xC3\xA9"
               "0ne tw0 \n");
     WANT(sam_term_is_dirty(&term, 1, &is), SAM_OK);
-    WANT(is, 1); /* the host told it: the file was clean before the command */
+    WANT(is, 1); /* the host said so: the file was clean before the command */
     WANT(sam_term_is_changed(&term, 1, &is), SAM_OK);
     WANT(is, 1);
     WANT(sam_term_pattern(&term, bytes, sizeof bytes, &len), SAM_OK);

@@ -144,15 +144,15 @@ class Host(_Side):
     _prefix = "sam_host"
 
     def add_file(self, name: Text, text: Text = "") -> int:
-        """Adds a file, clean and closed, and returns its tag: 1 for the first, and so on. Raises AddRefused after the first feed, be it
+        """Adds a file, clean and closed, and returns its tag: 1 for the first, and so on. Raises AddRefused after the first feed, even
         of no bytes, for a name above 64 runes or a text above 1,000,000, and where no tag is left; NotText; NoMemory. The host is then
         as it was."""
         name, text = bytes_of(name), bytes_of(text)
         return self._number("add_file", c_uint16, name, len(name), text, len(text))
 
     def next_written(self) -> Optional[int]:
-        """The tag of a file that the terminal told the host to write: now is the time to write `saved` of it to disk. Each Twrite gives
-        its tag once, in order; None where there is none left."""
+        """The tag of a file that the terminal asked the host to write: write `saved` of it to disk now. Each Twrite gives its tag once,
+        in order; None where there is none left."""
         return self._number_if_any("next_written", c_uint16)
 
     def written(self) -> Iterator[int]:
@@ -444,9 +444,9 @@ class Terminal(_Side):
     def under_way(self) -> int:
         """How many of the composed messages the host has not taken, as far as its frames say; 0 means that it has taken them all.
 
-        Else it is an upper bound: the host answers typing (but the end of a command line), the cutting of a selection, and the
-        acknowledgement that the terminal sends after each `offer_version` by no frame, and such a message counts until the host answers
-        a later one. `check` asks for an answer that changes no text.
+        Else it is an upper bound. The host sends no frame for typing (but for the end of a command line), for the cutting of a selection,
+        or for the acknowledgement that the terminal sends after each `offer_version`. Such a message counts until the host answers a
+        later one. `check` asks for an answer that changes no text.
         """
         return self._number("under_way", c_uint64)
 

@@ -55,8 +55,8 @@ impl Host {
         })
     }
 
-    /// The files that the terminal told the host to write since this was asked last, one for each Twrite, in order: write `saved` of each to
-    /// disk.
+    /// The files that the terminal asked the host to write since this was called last, one for each Twrite, in order: write `saved` of each
+    /// to disk.
     pub fn written(&mut self) -> impl Iterator<Item = u16> + '_ {
         std::iter::from_fn(|| told(|tag| unsafe { sys::sam_host_next_written(self.at(), tag) }))
     }

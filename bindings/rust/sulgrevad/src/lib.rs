@@ -83,7 +83,7 @@ fn tells<T: Default>(read: impl FnOnce(&mut T) -> u32) -> T {
     told(read).expect("the handle is made")
 }
 
-/// A text that is read in pieces: `read` puts some of it into the buffer from a place on, and tells how many bytes and runes.
+/// A text that is read in pieces: `read` puts some of it into the buffer from a place on, and says how many bytes and runes.
 fn whole_text(mut read: impl FnMut(u32, &mut [u8], &mut usize, &mut usize) -> u32) -> Option<String> {
     let mut text = Vec::new();
     let mut place = 0;

@@ -179,7 +179,7 @@ impl Terminal {
         })
     }
 
-    /// The events that were refused since this was asked last: which one, counted from 1 over all events, and why.
+    /// The events that were refused since this was called last: which one, counted from 1 over all events, and why.
     /// A reason that this crate doesn't know is `Err`, with its number in sulgrevad.h.
     pub fn refusals(&mut self) -> impl Iterator<Item = (u64, Result<Refusal, u32>)> + '_ {
         std::iter::from_fn(|| {
@@ -255,8 +255,8 @@ impl Terminal {
 
     /// How many of the composed messages the host has not taken, as far as its frames say; 0 means that it has taken them all.
     ///
-    /// Else it is an upper bound: the host answers typing (but the end of a command line), the cutting of a selection, and the
-    /// acknowledgement that the terminal sends after each [`Terminal::offer_version`] by no frame, and such a message counts until the host
+    /// Else it is an upper bound. The host sends no frame for typing (but for the end of a command line), for the cutting of a selection,
+    /// or for the acknowledgement that the terminal sends after each [`Terminal::offer_version`]. Such a message counts until the host
     /// answers a later one. [`Terminal::check`] asks for an answer that changes no text.
     pub fn under_way(&self) -> u64 {
         tells(|value| unsafe { sys::sam_term_under_way(self.at(), value) })
@@ -282,8 +282,8 @@ impl Terminal {
         told(|value| unsafe { sys::sam_term_is_dirty(self.at(), tag, value) })
     }
 
-    /// The file that the host's answer to `work` or `new_file` named last; `None` before the first. It may be closed since, and `open` is
-    /// not reported here.
+    /// The file that the host's answer to `work` or `new_file` named last; `None` before the first. It may be closed since. `open`
+    /// doesn't change it.
     pub fn current(&self) -> Option<u16> {
         told(|value| unsafe { sys::sam_term_current(self.at(), value) })
     }
@@ -315,7 +315,7 @@ impl Terminal {
         short_text(|into, len| unsafe { sys::sam_term_name(self.at(), tag, into.as_mut_ptr(), into.len(), len) })
     }
 
-    /// The pattern that the host said last.
+    /// The pattern that the host reported last.
     pub fn pattern(&self) -> String {
         short_text(|into, len| unsafe { sys::sam_term_pattern(self.at(), into.as_mut_ptr(), into.len(), len) }).expect("the handle is made")
     }

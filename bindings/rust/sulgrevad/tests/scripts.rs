@@ -6,7 +6,7 @@ use std::fs;
 use std::path::{Path, PathBuf};
 use sulgrevad::{replay, Error};
 
-/// The statuses of a pair whose output is told by the script alone: it is replayed, or it is wrong.
+/// The statuses of a pair whose output follows from the script alone: it is replayed, or it is wrong.
 const TOLD_BY_SCRIPT: [&str; 2] = ["0", "1"];
 
 fn scripts() -> PathBuf {
