@@ -61,8 +61,8 @@ impl Terminal {
                 self.set_view_start(*tag, *p);
                 Ok(self.nothing())
             }
-            Hmesg::Hsetpat(pattern) => self.take_pattern(pattern),
-            Hmesg::Hsetsnarf(text) => self.take_snarf(text),
+            Hmesg::Hsetpat(pattern) => self.take_setpat(pattern),
+            Hmesg::Hsetsnarf(text) => self.take_setsnarf(text),
             Hmesg::Hack => self.take_ack(),
             Hmesg::Hsnarflen(length) => {
                 self.snarf_length = *length;
@@ -116,7 +116,7 @@ impl Terminal {
 
     /// Takes `Hsetpat`: this is the pattern now.
     #[tactic(auto, using(crate::proofs::Sounds::quiet), unfolding(crate::specs::Taking::countable))]
-    fn take_pattern(&mut self, pattern: &Runes) -> Result<Batch, TermFault>
+    fn take_setpat(&mut self, pattern: &Runes) -> Result<Batch, TermFault>
         ensures { IsAnswer self.old self.new result (countable (frame_outcome self.old (Hmesg.Hsetpat pattern.now))) }
     {
         let Ok(copy) = pattern.copy(self.alloc) else {
@@ -128,7 +128,7 @@ impl Terminal {
 
     /// Takes `Hsetsnarf`: this is the snarfed text now.
     #[tactic(auto, using(crate::proofs::Sounds::quiet), unfolding(crate::specs::Taking::countable))]
-    fn take_snarf(&mut self, text: &Runes) -> Result<Batch, TermFault>
+    fn take_setsnarf(&mut self, text: &Runes) -> Result<Batch, TermFault>
         ensures { IsAnswer self.old self.new result (countable (frame_outcome self.old (Hmesg.Hsetsnarf text.now))) }
     {
         let Ok(copy) = text.copy(self.alloc) else {
