@@ -1,5 +1,5 @@
 -- Small laws of files: what may be put in, a part of a text, and a snarf buffer that a message holds.
-use Rattle.sam_host.proofs.Common.{◌≡◌, ℕ, ◌-◌, ◌≤◌, List, [], ◌∷◌, length, drop, true, ap, arith, length-append, first_of_checks, None, ◌+◌, file_at, IsTrue, is_some, encode_utf8_all, length-take, leb-true, max_runes, part, last_snarf_limit, slot-put_same, PlainFile, PlainFiles, put_file, has_file, fits_t, Tsetsnarf}
+use Rattle.sam_host.proofs.Common.{◌≡◌, ℕ, ◌-◌, ◌≤◌, List, [], ◌∷◌, length, drop, true, arith, length-append, first_of_checks, None, ◌+◌, file_at, IsTrue, encode_utf8_all, length-take, leb-true, max_runes, part, last_snarf_limit, PlainFiles, has_file, fits_t, Tsetsnarf}
 use Rattle.std.proofs.Common.{le-ltb}
 use Rattle.std.proofs.lemmas.Str.{length-encode}
 use Rattle.sam_text.specs.Files.{insert_checks}

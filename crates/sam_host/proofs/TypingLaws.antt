@@ -1,5 +1,5 @@
 -- What is typed and taken out again leaves the host as it was, and typing and sending in terms of a line.
-use Rattle.sam_host.proofs.Common.{common_steps, ◌≡◌, ◌≢◌, ℕ, suc, ◌+◌, ◌<◌, ◌≤◌, List, [], ◌∷◌, ◌++◌, length, get_or, Bool, true, false, not, cond, Some, nat_eq, refl, ap, ◌∙◌, arith, append_assoc, append-nil, length-append, rules, unwrap_or, is_some, ◌&&◌, ◌||◌, ◌==◌, take_at, drop_at, take-append-drop, length-take, Range, ins, del, part, is_empty, ends_line, as_lines, last_line, newline, max_runes, Slots, slot, put_slot, slot-put_same, PlainFile, blank_file, file_at, has_file, typed_file, has_room, after_print, Hunlock, PlainHost, with_file, with_files, printed, reply_line, reply_type, reply_send}
+use Rattle.sam_host.proofs.Common.{common_steps, ◌≡◌, ◌≢◌, ℕ, ◌+◌, ◌<◌, ◌≤◌, List, [], ◌∷◌, ◌++◌, length, Bool, true, false, not, cond, Some, nat_eq, refl, ap, ◌∙◌, arith, append_assoc, append-nil, length-append, rules, unwrap_or, is_some, ◌&&◌, ◌||◌, ◌==◌, take_at, drop_at, take-append-drop, length-take, Range, ins, del, part, is_empty, ends_line, as_lines, last_line, newline, max_runes, Slots, slot, put_slot, slot-put_same, PlainFile, blank_file, file_at, has_file, typed_file, has_room, after_print, Hunlock, PlainHost, with_file, with_files, printed, reply_line, reply_type, reply_send}
 use Rattle.std.proofs.Math.Seq.{take-length, drop-length}
 use Rattle.sam_runes.proofs.EditLaws.{length-ins}
 use Rattle.sam_host.specs.Typing.{typed, typed_line, sent}
@@ -46,6 +46,7 @@ undone h g k p s dot there place e f d = grind (arith, (undone-slots h h.files.s
 
 -- what ends a line is not empty
 pub ends_filled : (t : List ℕ) → ends_line t ≡ true → 0 < length t
+ends_filled [] e = grind arith
 ends_filled (c ∷ t) e = omega arith
 
 typed-as-line : (h : PlainHost) (f p : ℕ) (s : List ℕ) → f ≡ 0 → (nat_eq f 0 && ends_line s) ≡ true → reply_type h f p s ≡ typed_line h p s
