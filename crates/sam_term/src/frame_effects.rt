@@ -237,7 +237,7 @@ impl Terminal {
     }
 
     /// Takes `Hmovname`: gives a file that is known another name.
-    #[tactic(auto, using(crate::proofs::FileSteps::file_puts), unfolding(crate::specs::Sound::FitsUnsent))]
+    #[tactic(auto, using(crate::proofs::FileSteps::file_puts), unfolding(crate::specs::Sound::FitsUnsent, crate::specs::Taking::countable))]
     fn rename_file(&mut self, tag: u16, name: &Runes) -> Result<Batch, TermFault>
         requires { IsTrue (is_known self.old tag) }
         ensures { IsAnswer self.old self.new result (countable (frame_outcome self.old (Hmesg.Hmovname tag name.now))) }
