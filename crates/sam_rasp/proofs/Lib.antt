@@ -7,3 +7,4 @@ pub mod Agreeing
 pub mod Trees
 pub mod Partings
 pub mod Readings
+pub mod Crossing

@@ -320,11 +320,17 @@ pub ruleset of_facts = (length-append, length-forked, all_loaded-append)
 -- what `split` rests on
 pub ruleset split_facts = (normal-back, normal-shorter)
 
--- what `pop_last` rests on
-pub ruleset pop_last_facts = (normal-popped, last-behind, append_assoc)
+-- what `raise_left` and `raise_right` rest on
+pub ruleset raise_facts = (normal-left, normal-right, shorter-left, shorter-right, normal-shorter, length-forked, append_assoc)
+
+-- what `link` rests on
+pub ruleset link_facts = (normal-left, normal-right, shorter-left, shorter-right, normal-shorter, length-forked, length-append, append_assoc)
+
+-- what `pop_first` and `pop_last` rest on
+pub ruleset pop_facts = (normal-popped, normal-right, last-behind, length-forked, length-append, append_assoc)
 
 -- what `merge` rests on
-pub ruleset merge_facts = (normal-left, normal-right, shorter-left, shorter-right, append_assoc)
+pub ruleset merge_facts = (append_assoc)
 
 -- what `section_at` rests on
 pub ruleset section_at_facts = (drop-forked)

@@ -20,52 +20,38 @@ pub struct Spare {
     piece: Piece,
 }
 
-/// What asks for the memory of sections. Each gets a rank that looks random, by Marsaglia's shifts of 13, 17 and 5.
+/// What asks for the memory of sections.
 #[derive(Drop)]
 pub struct Maker {
     alloc: Global,
-    state: u32,
 }
 
 impl Maker {
     pub fn new(alloc: Global) -> Maker {
-        Maker {
-            alloc,
-            state: 2_463_534_242,
-        }
-    }
-
-    /// Returns the section in memory of its own. The only error is want of memory.
-    fn fork(&mut self, section: Section) -> Result<Box<Fork>, AllocError>
-        ensures { IfOk result (λ f. f.value.section ≡ section) }
-    {
-        self.state ^= self.state << 13;
-        self.state ^= self.state >> 17;
-        self.state ^= self.state << 5;
-        Fork::new(self.alloc, section, self.state)
+        Maker { alloc }
     }
 
     /// Returns memory for the end of a section that is cut in two. The only error is want of memory.
-    pub fn spare(&mut self) -> Result<Spare, AllocError>
+    pub fn spare(&self) -> Result<Spare, AllocError>
         ensures { IfOk result (λ s. s.piece ≡ []) }
     {
         let piece = Piece::new(self.alloc)?;
-        let fork = self.fork(Section::Hole(0))?;
+        let fork = Fork::new(self.alloc, Section::Hole(0))?;
         Ok(Spare { fork, piece })
     }
 
     /// Returns `n` gaps as one section at most. The only error is want of memory.
-    pub fn gaps(&mut self, n: u32) -> Result<Tree, AllocError>
+    pub fn gaps(&self, n: u32) -> Result<Tree, AllocError>
         requires { n ≤ max_runes }
         ensures { IfOk result (λ t. cells_of t ≡ replicate n None) }
     {
-        let fork = self.fork(Section::Hole(n))?;
+        let fork = Fork::new(self.alloc, Section::Hole(n))?;
         Ok(Tree::new().push(fork))
     }
 
     /// Returns `runes` as loaded sections, of `MOST_IN_MESSAGE` runes each but for the last; without runes there is none. The only error
     /// is want of memory.
-    pub fn runes(&mut self, runes: &[char]) -> Result<Tree, AllocError>
+    pub fn runes(&self, runes: &[char]) -> Result<Tree, AllocError>
         requires { length runes.now ≤ max_runes }
         ensures { IfOk result (λ t. cells_of t ≡ map Some runes.now) }
     {
@@ -75,7 +61,7 @@ impl Maker {
             let end = runes.len().min(at + MOST_IN_MESSAGE);
             let mut piece = Piece::new(self.alloc)?;
             piece.extend(&runes[at..end]);
-            let fork = self.fork(Section::Loaded(piece))?;
+            let fork = Fork::new(self.alloc, Section::Loaded(piece))?;
             sections = sections.push(fork);
             at = end;
         }

@@ -12,7 +12,11 @@ use std::alloc::{AllocError, Global};
 use std::marker::Model;
 use std::mem;
 
-/// Sections in order, in the form of a rasp: none is empty, and no two neighbours are to be one.
+/// How many times as heavy as one side of a section the other may be. The weight is one more than the number of sections.
+const MOST_HEAVIER: usize = 3;
+
+/// Sections in order, in the form of a rasp: none is empty, and no two neighbours are to be one. Neither side of a section is heavier than
+/// `MOST_HEAVIER` times the other, so no way down is long.
 #[cycle(tree)]
 #[derive(Drop)]
 pub struct Tree {
@@ -36,8 +40,6 @@ pub struct Fork {
     pub section: Section,
     /// The sections after it.
     right: Tree,
-    /// No fork in `left` or `right` has a higher rank. Ranks look random, so that no way down is long.
-    rank: u32,
 }
 
 impl Model for Tree {
@@ -60,14 +62,13 @@ impl Model for Tree {
 
 impl Fork {
     /// Returns the section in memory of its own. The only error is want of memory.
-    pub fn new(alloc: Global, section: Section, rank: u32) -> Result<Box<Fork>, AllocError>
+    pub fn new(alloc: Global, section: Section) -> Result<Box<Fork>, AllocError>
         ensures { IfOk result (λ f. f.value.section ≡ section) }
     {
         let fork = Fork {
             left: Tree::new(),
             section,
             right: Tree::new(),
-            rank,
         };
         Ok(Box::new(alloc, fork)?)
     }
@@ -111,24 +112,19 @@ impl Tree {
         self.loaded
     }
 
-    /// Returns the rank of the section at which the list is parted, or 0 if there is none.
-    fn rank(&self) -> u32 {
-        match &self.root {
-            Some(fork) => fork.rank,
-            None => 0,
-        }
-    }
-
-    /// Returns the list that is parted at this section.
+    /// Returns the list of `left`, this section, and `right`.
     #[tactic(auto, using(crate::proofs::Trees::of_facts))]
-    fn of(fork: Box<Fork>) -> Tree
-        requires normal { IsNormal (fork.value.left ++ fork.value.section ∷ fork.value.right) }
-        requires limit { length (cells_of (fork.value.left ++ fork.value.section ∷ fork.value.right)) ≤ max_runes }
-        ensures { result ≡ fork.value.left ++ fork.value.section ∷ fork.value.right }
+    fn of(left: Tree, fork: Box<Fork>, right: Tree) -> Tree
+        requires normal { IsNormal (left ++ fork.value.section ∷ right) }
+        requires limit { length (cells_of (left ++ fork.value.section ∷ right)) ≤ max_runes }
+        ensures { result ≡ left ++ fork.value.section ∷ right }
     {
-        let len = fork.left.len() + fork.section.len() + fork.right.len();
-        let count = fork.left.count() + 1 + fork.right.count();
-        let loaded = fork.left.is_loaded() && fork.section.is_loaded() && fork.right.is_loaded();
+        let len = left.len() + fork.section.len() + right.len();
+        let count = left.count() + 1 + right.count();
+        let loaded = left.is_loaded() && fork.section.is_loaded() && right.is_loaded();
+        let mut fork = fork;
+        fork.left = left;
+        fork.right = right;
         Tree {
             root: Some(fork),
             len,
@@ -137,16 +133,117 @@ impl Tree {
         }
     }
 
+    /// Returns the section at which the list is parted, with the sections before it and those after it, or `None` if there is none.
+    fn opened(self) -> Option<(Tree, Box<Fork>, Tree)>
+        ensures parts { MatchOption result (self ≡ []) (λ r. self ≡ r.0 ++ r.1.value.section ∷ r.2) }
+        ensures form { IsNormal self }
+        ensures limit { length (cells_of self) ≤ max_runes }
+    {
+        let mut fork = self.root?;
+        let left = mem::replace(&mut fork.left, Tree::new());
+        let right = mem::replace(&mut fork.right, Tree::new());
+        Some((left, fork, right))
+    }
+
+    /// Returns the list parted at the section at which its front was.
+    #[tactic(auto, using(crate::proofs::Trees::raise_facts))]
+    fn raise_left(self) -> Tree
+        ensures { result ≡ self }
+    {
+        let Some((left, fork, right)) = self.opened() else {
+            return Tree::new();
+        };
+        let Some((outer, above, inner)) = left.opened() else {
+            return Tree::of(Tree::new(), fork, right);
+        };
+        Tree::of(outer, above, Tree::of(inner, fork, right))
+    }
+
+    /// Returns the list parted at the section at which its end was.
+    #[tactic(auto, using(crate::proofs::Trees::raise_facts))]
+    fn raise_right(self) -> Tree
+        ensures { result ≡ self }
+    {
+        let Some((left, fork, right)) = self.opened() else {
+            return Tree::new();
+        };
+        let Some((inner, above, outer)) = right.opened() else {
+            return Tree::of(left, fork, Tree::new());
+        };
+        Tree::of(Tree::of(left, fork, inner), above, outer)
+    }
+
+    /// Returns how heavy the two sides are of the section at which the list is parted: one more than the number of their sections.
+    fn weights(&self) -> (usize, usize)
+        ensures { (result.0 ≤ max_runes + 1) × (result.1 ≤ max_runes + 1) }
+    {
+        match &self.root {
+            Some(fork) => (fork.left.count() + 1, fork.right.count() + 1),
+            None => (1, 1),
+        }
+    }
+
+    /// Returns the list of `left`, this section, and `right`. A side that is too heavy, by a section that came or went, gives some of its
+    /// sections to the other.
+    fn balanced(left: Tree, fork: Box<Fork>, right: Tree) -> Tree
+        requires normal { IsNormal (left ++ fork.value.section ∷ right) }
+        requires limit { length (cells_of (left ++ fork.value.section ∷ right)) ≤ max_runes }
+        ensures { result ≡ left ++ fork.value.section ∷ right }
+    {
+        let front = left.count() + 1;
+        let end = right.count() + 1;
+        if end > MOST_HEAVIER * front {
+            let (inner, outer) = right.weights();
+            let right = if inner < 2 * outer {
+                right
+            } else {
+                right.raise_left()
+            };
+            return Tree::of(left, fork, right).raise_right();
+        }
+        if front > MOST_HEAVIER * end {
+            let (outer, inner) = left.weights();
+            let left = if inner < 2 * outer {
+                left
+            } else {
+                left.raise_right()
+            };
+            return Tree::of(left, fork, right).raise_left();
+        }
+        Tree::of(left, fork, right)
+    }
+
+    /// Returns the sections of this list, the section `fork`, and the sections of `next`.
+    #[tactic(auto, using(crate::proofs::Trees::link_facts))]
+    fn link(self, fork: Box<Fork>, next: Tree) -> Tree
+        requires normal { IsNormal (self ++ fork.value.section ∷ next) }
+        requires limit { length (cells_of (self ++ fork.value.section ∷ next)) ≤ max_runes }
+        ensures { result ≡ self ++ fork.value.section ∷ next }
+    {
+        let front = self.count() + 1;
+        let end = next.count() + 1;
+        if end > MOST_HEAVIER * front {
+            let Some((inner, above, outer)) = next.opened() else {
+                return Tree::of(self, fork, Tree::new());
+            };
+            return Tree::balanced(self.link(fork, inner), above, outer);
+        }
+        if front > MOST_HEAVIER * end {
+            let Some((outer, above, inner)) = self.opened() else {
+                return Tree::of(Tree::new(), fork, next);
+            };
+            return Tree::balanced(outer, above, inner.link(fork, next));
+        }
+        Tree::of(self, fork, next)
+    }
+
     /// Returns the list of this section alone.
     pub fn one(fork: Box<Fork>) -> Tree
         requires filled { IsFilled fork.value.section }
         requires limit { size fork.value.section ≤ max_runes }
         ensures { result ≡ fork.value.section ∷ [] }
     {
-        let mut fork = fork;
-        fork.left = Tree::new();
-        fork.right = Tree::new();
-        Tree::of(fork)
+        Tree::of(Tree::new(), fork, Tree::new())
     }
 
     /// Parts the list: the sections that end at or before place `p`, and the others.
@@ -157,21 +254,17 @@ impl Tree {
         ensures limit { length (cells_of self) ≤ max_runes }
         ensures behind { IfFirst result.1 (λ s. p < length (cells_of result.0) + size s) }
     {
-        let Some(mut fork) = self.root else {
+        let Some((left, fork, right)) = self.opened() else {
             return (Tree::new(), Tree::new());
         };
-        let start = fork.left.len();
+        let start = left.len();
         let end = start + fork.section.len();
         if p < end {
-            let left = mem::replace(&mut fork.left, Tree::new());
             let (front, back) = left.split(p);
-            fork.left = back;
-            return (front, Tree::of(fork));
+            return (front, back.link(fork, right));
         }
-        let right = mem::replace(&mut fork.right, Tree::new());
         let (front, back) = right.split(p - end);
-        fork.right = front;
-        (Tree::of(fork), back)
+        (left.link(fork, front), back)
     }
 
     /// Returns the sections of this list and those of `next` after them.
@@ -181,55 +274,36 @@ impl Tree {
         requires limit { length (cells_of (self ++ next)) ≤ max_runes }
         ensures { result ≡ self ++ next }
     {
-        if self.rank() < next.rank() {
-            let Some(mut fork) = next.root else {
-                return self;
-            };
-            let left = mem::replace(&mut fork.left, Tree::new());
-            fork.left = self.merge(left);
-            return Tree::of(fork);
+        match next.pop_first() {
+            Some((first, others)) => self.link(first, others),
+            None => self,
         }
-        let Some(mut fork) = self.root else {
-            return next;
-        };
-        let right = mem::replace(&mut fork.right, Tree::new());
-        fork.right = right.merge(next);
-        Tree::of(fork)
     }
 
     /// Returns the first section and the others, or `None` if there is none.
+    #[tactic(auto, using(crate::proofs::Trees::pop_facts))]
     pub fn pop_first(self) -> Option<(Box<Fork>, Tree)>
         ensures others { MatchOption result (self ≡ []) (λ r. self ≡ r.0.value.section ∷ r.1) }
         ensures form { IsNormal self }
     {
-        let Some(mut fork) = self.root else {
-            return None;
-        };
-        let left = mem::replace(&mut fork.left, Tree::new());
-        if let Some((first, left)) = left.pop_first() {
-            fork.left = left;
-            return Some((first, Tree::of(fork)));
+        let (left, fork, right) = self.opened()?;
+        match left.pop_first() {
+            Some((first, left)) => Some((first, left.link(fork, right))),
+            None => Some((fork, right)),
         }
-        let right = mem::replace(&mut fork.right, Tree::new());
-        Some((fork, right))
     }
 
     /// Returns the last section and the others, or `None` if there is none.
-    #[tactic(auto, using(crate::proofs::Trees::pop_last_facts))]
+    #[tactic(auto, using(crate::proofs::Trees::pop_facts))]
     pub fn pop_last(self) -> Option<(Tree, Box<Fork>)>
         ensures others { MatchOption result (self ≡ []) (λ r. self ≡ r.0 ++ r.1.value.section ∷ []) }
         ensures form { IsNormal self }
     {
-        let Some(mut fork) = self.root else {
-            return None;
-        };
-        let right = mem::replace(&mut fork.right, Tree::new());
-        if let Some((right, last)) = right.pop_last() {
-            fork.right = right;
-            return Some((Tree::of(fork), last));
+        let (left, fork, right) = self.opened()?;
+        match right.pop_last() {
+            Some((right, last)) => Some((left.link(fork, right), last)),
+            None => Some((left, fork)),
         }
-        let left = mem::replace(&mut fork.left, Tree::new());
-        Some((left, fork))
     }
 
     /// Returns the last section, if there is one.
