@@ -1,8 +1,14 @@
 -- Members of a partial text that are copied, section by section, into a buffer.
-use Rattle.sam_endpoint.proofs.Common.{◌≡◌, ◌∙◌, sym, ap, ℕ, ◌+◌, ◌-◌, ◌<◌, ◌≤◌, ◌⊎◌, inl, List, [], ◌∷◌, ◌++◌, length, length-append, take, drop, suc, Option, Some, slice_get, append_assoc, arith, rules, map, min, get_or, set, drop-cons, append-nil, take_all, take-append-drop, length-drop, length-take, get_or-drop, drop_of_length-le, flat_map-append, common_steps, cells, cells_of, Copies, Shows, drawn}
+use Rattle.sam_endpoint.proofs.Common.{◌≡◌, ◌∙◌, sym, ap, ℕ, ◌+◌, ◌-◌, ◌<◌, ◌≤◌, ◌⊎◌, List, [], ◌∷◌, ◌++◌, length, length-append, take, drop, suc, Option, Some, slice_get, append_assoc, arith, rules, map, min, get_or, set, drop-cons, append-nil, take_all, take-append-drop, length-drop, length-take, get_or-drop, drop_of_length-le, cells, Copies, Shows, drawn}
 use Rattle.std.proofs.Math.Seq.{take-append-add, drop-append-add, set-append_seam}
 use Rattle.std.proofs.lemmas.Option.{get_or_from_slice_get}
 use Rattle.std.proofs.lemmas.List.{take-append-le, drop-append-le, take_more, length-map, map-append}
+use Rattle.std.proofs.Common.{drop-drop, take-take, take_at}
+use Rattle.std.proofs.lemmas.List.{drop-take}
+use Rattle.sam_rasp.proofs.Changes.{drop-past}
+use Rattle.sam_rasp.proofs.Readings.{rest_at}
+use Rattle.sam_rasp.proofs.SectionLaws.{length-cells}
+use Rattle.sam_rasp.specs.Sections.{size}
 use Rattle.sam_rasp.specs.declared.section.Section.{Section}
 
 either : (n m : ℕ) → (n ≤ m) ⊎ (m < n)
@@ -46,38 +52,36 @@ one-more cells place at i c x before now after l room is number now_is after_is 
 
 -- ## All sections
 
--- how many members of the front stand in the buffer, and which
-size-shown : (cells : List (Option ℕ)) (place count : ℕ) (before : List ℕ) → count ≡ min (length before) (length cells - place)
-    → length (map drawn (take count (drop place cells))) ≡ count
-size-shown cells place count before count_is = grind (arith, length-map, length-take, length-drop)
-
--- the counts of the front and of one more section together
-pub record Counts (front cells : List (Option ℕ)) (place count got : ℕ) (before : List ℕ) : Type 0 where
-  count_is : count + got ≡ min (length before) (length (front ++ cells) - place)
-  front_is : take (count + got) (drop place front) ≡ take count (drop place front)
-  rest_is : (count + got) - length (drop place front) ≡ got
-
-counts : (front cells : List (Option ℕ)) (place count got : ℕ) (before : List ℕ) → count ≡ min (length before) (length front - place)
-    → got ≡ min (length before - count) (length cells - (place - length front)) → Counts front cells place count got before
-counts front cells place count got before count_is got_is = grind (arith, length-append, length-drop, take_all)
-
--- the members of one more section stand in the buffer
-pub section-more : (front cells : List (Option ℕ)) (place skip count got : ℕ) (before now after : List ℕ) → skip ≡ place - length front
-    → Shows front place before now count → Copies cells skip count now after got → Shows (front ++ cells) place before after (count + got)
-section-more front cells place skip count got before now after skip_is shows copies = search (rules, common_steps, arith, size-shown, drop-both, take-both)
-
--- members behind a full buffer, or in front of the place, add nothing
-pub section-none : (front cells : List (Option ℕ)) (place count : ℕ) (before now : List ℕ) → (length before ≤ count) ⊎ (length cells ≤ place - length front)
-    → Shows front place before now count → Shows (front ++ cells) place before now count
-section-none front cells place count before now why shows = search (rules, common_steps)
-
--- where the buffer is full, the sections behind add nothing
-pub full-front : (sections : List Section) (i place count : ℕ) (before now : List ℕ) → length before ≤ count
-    → Shows (cells_of (take i sections)) place before now count → Shows (cells_of sections) place before now count
-full-front sections i place count before now full shows =
+-- from the place `at` on more members were copied, of the section x that begins at the place a
+pub shown_more : (r : List (Option ℕ)) (x : Section) (a at place count got : ℕ) (before now after : List ℕ) → at ≡ place + count → a ≤ at → at < a + size x
+    → take (size x) (drop a r) ≡ cells x → count ≤ length before → length now ≡ length before → now ≡ map drawn (take count (drop place r)) ++ drop count before
+    → Copies (cells x) (at - a) count now after got → after ≡ map drawn (take (count + got) (drop place r)) ++ drop (count + got) before
+shown_more r x a at place count got before now after e l h is room long now_is copies =
+    let rest = rest_at r x a at l h is in
+    let d = drop place r in
+    let k = a + size x - at in
+    let few : got ≤ k = omega (arith, copies.count_is, ap length rest.0, length-take k (drop at r), length-drop (at - a) (cells x), length-cells x, h) in
+    let full : length (map drawn (take count d)) ≡ count = grind (arith, length-map, (length-take count d), (length-drop place r), rest) in
     grind (
       arith,
-      (flat_map-append cells (take i sections) (drop i sections)),
-      (take-append-drop i sections),
-      (section-none (cells_of (take i sections)) (cells_of (drop i sections)) place count before now (inl full) shows),
+      rest,
+      copies.after_is,
+      full,
+      (take-take got k (drop at r) few),
+      (drop-drop count place r),
+      (take-append-drop count (take (count + got) d)),
+      (take-take count (count + got) d),
+      (drop-take count got d),
+      (map-append drawn (take count d) (take got (drop at r))),
+      (take_at (map drawn (take count d)) (drop count before) count),
+      (drop-past (map drawn (take count d)) (drop count before) got (count + got)),
+      (drop-drop got count before),
     )
+
+-- how many members were copied, where the buffer is full or the partial text ends
+pub shown_end : (r : List (Option ℕ)) (at place count : ℕ) (before now : List ℕ) → at ≡ place + count → count ≤ length before → (count ≡ 0) ⊎ (at ≤ length r)
+    → (length before ≤ count) ⊎ (length r ≤ at) → now ≡ map drawn (take count (drop place r)) ++ drop count before → Shows r place before now count
+shown_end r at place count before now e room within why now_is = record { count_is = grind arith; after_is = now_is }
+
+-- what `read_rasp` rests on
+pub ruleset shown_facts = (shown_more, shown_end, rest_at)

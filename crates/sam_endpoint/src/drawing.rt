@@ -2,7 +2,7 @@
 
 ghost use Rattle.std.specs.Prelude.{◌≡◌, ◌≤◌, length};
 ghost use Rattle.sam_endpoint.specs.Drawing.{Copies, Shows, drawn};
-ghost use Rattle.sam_rasp.specs.Sections.{cells, cells_of, size};
+ghost use Rattle.sam_rasp.specs.Sections.{cells, size};
 
 use sam_rasp::{Rasp, Section};
 
@@ -33,31 +33,22 @@ fn copy_section(section: &Section, place: u32, into: &mut [u32], at: usize) -> u
     count
 }
 
-/// Puts the members of the sections from `place` on into the buffer, as many as there are and have room, and returns how many. The rest of
-/// the buffer stays as it was. It looks at each section up to the last that it reads, and at the members that it puts.
-fn read_cells(sections: &[Section], place: u32, into: &mut [u32]) -> usize
-    ensures { Shows (cells_of sections.now) place into.old into.new result }
-{
-    let mut skip = place;
-    let mut count = 0;
-    for section in sections {
-        if count == into.len() {
-            return count;
-        }
-        let len = section.len();
-        if skip < len {
-            count += copy_section(section, skip, into, count);
-        }
-        skip = skip.saturating_sub(len);
-    }
-    count
-}
-
 /// Reads the members of a partial text from a place on into the buffer, as many as there are and have room, and returns how many: none if
 /// the place is at the end or past it. A rune is read as its number, and one that is not loaded as `GAP`. The rest of the buffer stays as
-/// it was. The cost is that of the sections in front of the place, and of the members that it reads.
+/// it was. The cost is that of the members that it reads, and of finding the section of each.
+#[tactic(auto, using(crate::proofs::Members::shown_facts))]
 pub fn read_rasp(rasp: &Rasp, place: u32, into: &mut [u32]) -> usize
     ensures { Shows rasp.now place into.old into.new result }
 {
-    read_cells(rasp.parts(), place, into)
+    let mut at = place;
+    let mut count = 0;
+    while count < into.len() {
+        let Some((section, start)) = rasp.section_at(at) else {
+            return count;
+        };
+        let copied = copy_section(section, at - start, into, count);
+        count += copied;
+        at += copied as u32;
+    }
+    count
 }

@@ -1,6 +1,5 @@
 -- Agreement, stretch by stretch.
-use Rattle.sam_rasp.proofs.Common.{◌≡◌, true, ◌==◌, ℕ, ◌+◌, ◌-◌, ◌≤◌, ◌<◌, List, [], ◌∷◌, ◌++◌, map, take, drop, length, Some, None, arith, ◌↔◌, drop-drop, length-append, length-drop, PartialText, Agrees}
-use Rattle.sam_rasp.proofs.RaspLaws.{length_agrees}
+use Rattle.sam_rasp.proofs.Common.{◌≡◌, true, ◌==◌, ℕ, ◌+◌, ◌≤◌, List, [], ◌∷◌, ◌++◌, map, take, drop, length, Some, None, arith, ◌↔◌, drop-drop, length-drop, PartialText, Agrees}
 
 -- a front and the rest, against a text
 pub agrees_parted : (c r : PartialText) (t : List ℕ) → Agrees (c ++ r) t → Agrees c (take (length c) t) × Agrees r (drop (length c) t)
@@ -21,9 +20,6 @@ runes_same s t e = grind arith
 pub stretch : (c r whole : PartialText) (t part : List ℕ) (at len : ℕ)
     → whole ≡ c ++ r → length c ≡ len → part ≡ take len (drop at t) → Agrees whole (drop at t) ↔ (Agrees c part × Agrees r (drop (at + len) t))
 stretch c r whole t part at len e l p = grind (arith, drop-drop, agrees_parted, agrees_joined)
-
-pub too_long : (c r whole : PartialText) (t : List ℕ) (at len : ℕ) → whole ≡ c ++ r → length c ≡ len → length t - at < len → Agrees whole (drop at t) → ⊥
-too_long c r whole t at len e l past a = grind (arith, length-append, length_agrees, length-drop)
 
 -- where the sections end
 pub ended : (whole : PartialText) (t : List ℕ) (at : ℕ) → whole ≡ [] → at ≤ length t → (at == length t) ≡ true ↔ Agrees whole (drop at t)

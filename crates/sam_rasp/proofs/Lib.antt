@@ -1,10 +1,10 @@
 pub mod Common
 pub mod SectionLaws
 pub mod Changes
-pub mod Walks
 pub mod Runs
 pub mod RaspLaws
 pub mod Agreeing
-pub mod Typing
-pub mod Splices
-pub mod Marking
+pub mod Trees
+pub mod Partings
+pub mod Readings
+pub mod Crossing

@@ -1,171 +1,233 @@
-//! Changes of a list of sections: runes and gaps are cut out or replaced, or runes are put into a loaded section. Sections move as a
-//! whole, and their runes are copied only where a section is cut in two or joined with another. `loaded_sections` and `one_hole`, which
-//! make the sections to be put in, alone ask for memory.
+//! Changes of a list of sections: runes and gaps are cut out or put in. Sections move with their memory, and their runes are copied
+//! only where a section is cut in two or joined with another. `Maker` alone asks for memory.
 
-ghost use Rattle.std.specs.Prelude.{◌≡◌, ◌<◌, ◌≤◌, ◌+◌, [], map, length, replicate, take, drop, vec_len, vec_capacity, None, Some, IfOk, if◌then◌else◌, false, is_some, IfSome};
-ghost use Rattle.sam_runes.specs.Texts.{del, ins, max_runes};
+ghost use Rattle.std.specs.Prelude.{◌≡◌, ◌<◌, ◌≤◌, ◌+◌, ◌++◌, ◌∷◌, [], List, map, length, replicate, drop, None, Some, IfOk, true, false, if◌then◌else◌};
+ghost use Rattle.sam_runes.specs.Texts.{del, ins, max_runes, most_in_message};
 ghost use Rattle.sam_rasp.specs.declared.section.Section.{Section};
-ghost use Rattle.sam_rasp.specs.Rasp.{put_cells};
-ghost use Rattle.sam_rasp.specs.Sections.{cells_of, cells_back, cells_both, ends, IsApart, IsBegin, IsNormal};
+ghost use Rattle.sam_rasp.specs.Sections.{cells, cells_of, is_loaded, size, may_join, IfFirst, IsNormal};
 
-use crate::joining::{drop_front, join_all, move_before, push_joined};
 use crate::piece::Piece;
 use crate::section::Section;
-use crate::walking::{Begin, room_at};
+use crate::tree::{Fork, Tree};
 use sam_runes::MOST_IN_MESSAGE;
 use std::alloc::{AllocError, Global};
+use std::mem;
 
-/// Moves all of `rest`, which is held last to first, to the end of `out`, without the `n` runes and gaps from place `p` of `rest` on.
-/// The caller provides room in `out`.
-fn cut_members(out: &mut Vec<Section>, rest: &mut Vec<Section>, p: u32, n: u32)
-    requires normal { IsNormal out.old.items }
-    requires limit { length (cells_of out.old.items) + length (cells_back rest.old.items) ≤ max_runes }
-    requires within { p + n ≤ length (cells_back rest.old.items) }
-    requires room { vec_len out.old + vec_len rest.old ≤ vec_capacity out.old }
-    ensures cells { let at = length (cells_of out.old.items) + p in
-        cells_of out.new.items ≡ del (cells_both out.old.items rest.old.items) at (at + n) }
-    ensures normal { IsNormal out.new.items }
-    ensures front { (w : Section) → IsApart w out.old.items → IsApart w out.new.items }
-    ensures len { vec_len out.new ≤ vec_len out.old + vec_len rest.old }
-    ensures capacity { vec_capacity out.old ≤ vec_capacity out.new }
-    ensures empty { rest.new.items ≡ [] }
-    ensures kept { vec_capacity rest.old ≤ vec_capacity rest.new }
-{
-    let (mut first, at) = move_before(out, rest, p);
-    let end = (at + n).min(first.len());
-    first.cut(at, end);
-    push_joined(out, first);
-    let last = drop_front(rest, at + n - end);
-    push_joined(out, last);
-    join_all(out, rest);
+/// Memory for the end of a section that is cut in two.
+#[derive(Drop)]
+pub struct Spare {
+    fork: Box<Fork>,
+    piece: Piece,
 }
 
-/// Moves all of `rest`, which is held last to first, to the end of `out`. The sections `more` take the place of the `n` runes and gaps
-/// from place `p` of `rest` on. The caller provides all memory: room in `out`, and `tail` for the end of a section that is cut in two.
-/// Without a `tail` nothing is put in, and no section is cut in two.
-pub fn change_members(
-    out: &mut Vec<Section>,
-    rest: &mut Vec<Section>,
-    p: u32,
-    n: u32,
-    more: &mut Vec<Section>,
-    tail: Option<Piece>,
-)
-    requires normal { IsNormal out.old.items }
-    requires limit { length (cells_of out.old.items) + length (cells_back rest.old.items) ≤ max_runes }
-    requires total { length (cells_of out.old.items) + length (cells_back rest.old.items) + length (cells_of more.old.items)
-        ≤ max_runes + n }
-    requires within { p + n ≤ length (cells_back rest.old.items) }
-    requires unused { (is_some tail ≡ false → more.old.items ≡ []) × IfSome tail (λ t. t ≡ []) }
-    requires room { vec_len out.old + vec_len rest.old + vec_len more.old + ends tail ≤ vec_capacity out.old }
-    ensures cells { let at = length (cells_of out.old.items) + p in
-        cells_of out.new.items ≡ put_cells (cells_both out.old.items rest.old.items) at (at + n) (cells_of more.old.items) }
-    ensures normal { IsNormal out.new.items }
-    ensures front { (w : Section) → IsApart w out.old.items → IsApart w out.new.items }
-    ensures len { vec_len out.new ≤ vec_len out.old + vec_len rest.old + vec_len more.old + ends tail }
-    ensures capacity { vec_capacity out.old ≤ vec_capacity out.new }
-    ensures empty { rest.new.items ≡ [] }
-    ensures kept { vec_capacity rest.old ≤ vec_capacity rest.new }
-{
-    match tail {
-        Some(tail) => replace_members(out, rest, p, n, more, tail),
-        None => cut_members(out, rest, p, n),
+/// What asks for the memory of sections.
+#[derive(Drop)]
+pub struct Maker {
+    alloc: Global,
+}
+
+impl Maker {
+    pub fn new(alloc: Global) -> Maker {
+        Maker { alloc }
+    }
+
+    /// Returns memory for the end of a section that is cut in two. The only error is want of memory.
+    pub fn spare(&self) -> Result<Spare, AllocError>
+        ensures { IfOk result (λ s. s.piece ≡ []) }
+    {
+        let piece = Piece::new(self.alloc)?;
+        let fork = Fork::new(self.alloc, Section::Hole(0))?;
+        Ok(Spare { fork, piece })
+    }
+
+    /// Returns `n` gaps as one section at most. The only error is want of memory.
+    pub fn gaps(&self, n: u32) -> Result<Tree, AllocError>
+        requires { n ≤ max_runes }
+        ensures { IfOk result (λ t. cells_of t ≡ replicate n None) }
+    {
+        let fork = Fork::new(self.alloc, Section::Hole(n))?;
+        Ok(Tree::new().push(fork))
+    }
+
+    /// Returns `runes` as loaded sections, of `MOST_IN_MESSAGE` runes each but for the last; without runes there is none. The only error
+    /// is want of memory.
+    pub fn runes(&self, runes: &[char]) -> Result<Tree, AllocError>
+        requires { length runes.now ≤ max_runes }
+        ensures { IfOk result (λ t. cells_of t ≡ map Some runes.now) }
+    {
+        let mut sections = Tree::new();
+        let mut at = 0;
+        while at < runes.len() {
+            let end = runes.len().min(at + MOST_IN_MESSAGE);
+            let mut piece = Piece::new(self.alloc)?;
+            piece.extend(&runes[at..end]);
+            let fork = Fork::new(self.alloc, Section::Loaded(piece))?;
+            sections = sections.push(fork);
+            at = end;
+        }
+        Ok(sections)
     }
 }
 
-/// Moves all of `rest`, which is held last to first, to the end of `out`. The sections `more` take the place of the `n` runes and gaps
-/// from place `p` of `rest` on. The caller provides all memory: room in `out`, and `tail` for the end of a section that is cut in two.
-fn replace_members(
-    out: &mut Vec<Section>,
-    rest: &mut Vec<Section>,
-    p: u32,
-    n: u32,
-    more: &mut Vec<Section>,
-    tail: Piece,
-)
-    requires normal { IsNormal out.old.items }
-    requires limit { length (cells_of out.old.items) + length (cells_back rest.old.items) ≤ max_runes }
-    requires total { length (cells_of out.old.items) + length (cells_back rest.old.items) + length (cells_of more.old.items)
-        ≤ max_runes + n }
-    requires within { p + n ≤ length (cells_back rest.old.items) }
-    requires unused { tail ≡ [] }
-    requires room { vec_len out.old + vec_len rest.old + vec_len more.old + 2 ≤ vec_capacity out.old }
-    ensures cells { let at = length (cells_of out.old.items) + p in
-        cells_of out.new.items ≡ put_cells (cells_both out.old.items rest.old.items) at (at + n) (cells_of more.old.items) }
-    ensures normal { IsNormal out.new.items }
-    ensures front { (w : Section) → IsApart w out.old.items → IsApart w out.new.items }
-    ensures len { vec_len out.new ≤ vec_len out.old + vec_len rest.old + vec_len more.old + 2 }
-    ensures capacity { vec_capacity out.old ≤ vec_capacity out.new }
-    ensures empty { rest.new.items ≡ [] }
-    ensures kept { vec_capacity rest.old ≤ vec_capacity rest.new }
+/// Returns whether the section is loaded and has room for `count` more runes.
+fn has_room(section: &Section, count: usize) -> bool
+    requires { count ≤ max_runes }
+    ensures { result ≡ true → (is_loaded section.now ≡ true) × (size section.now + count ≤ most_in_message) }
 {
-    let (mut first, at) = move_before(out, rest, p);
-    let mut back = first.split(at, tail);
-    let end = n.min(back.len());
-    back.cut(0, end);
-    let last = drop_front(rest, n - end);
-    push_joined(out, first);
-    more.reverse();
-    join_all(out, more);
-    push_joined(out, back);
-    push_joined(out, last);
-    join_all(out, rest);
+    section.is_loaded() && section.len() as usize + count <= MOST_IN_MESSAGE
 }
 
-/// Puts `runes` in at place `p` if `room_at` finds a loaded section there with room for them, and returns that section; otherwise
-/// returns `None` and changes nothing. No other section moves. The walk begins at `near`.
-#[tactic(auto, using(std::proofs::lemmas::List::get_or_default, crate::proofs::Typing::insert_inside_facts))]
-pub fn insert_inside(
-    sections: &mut Vec<Section>,
-    near: Begin,
-    p: u32,
-    runes: &[char],
-) -> Option<Begin>
-    requires near { IsBegin sections.old.items near × (near.place ≤ p) }
-    requires normal { IsNormal sections.old.items }
-    requires limit { length (cells_of sections.old.items) ≤ max_runes }
-    requires count { length runes.now ≤ max_runes }
-    ensures cells { cells_of sections.new.items
-        ≡ (if is_some result then ins (cells_of sections.old.items) p (map Some runes.now) else cells_of sections.old.items) }
-    ensures normal { IsNormal sections.new.items }
-    ensures begin { IfSome result (λ b. IsBegin sections.new.items b) }
-    ensures kept { is_some result ≡ false → sections.new.items ≡ sections.old.items }
-    ensures len { vec_len sections.new ≡ vec_len sections.old }
-    ensures before { IfSome result (λ b. take b.index sections.new.items ≡ take b.index sections.old.items) }
-    ensures behind { IfSome result (λ b. drop (b.index + 1) sections.new.items ≡ drop (b.index + 1) sections.old.items) }
-{
-    let Some((begin, at)) = room_at(sections.as_slice(), near, p, runes.len()) else {
-        return None;
-    };
-    sections[begin.index].insert(at, runes);
-    Some(begin)
-}
-
-/// Returns `runes` as loaded sections, of `MOST_IN_MESSAGE` runes each but for the last; without runes there is none. The only error is
-/// want of memory.
-pub fn loaded_sections(alloc: Global, runes: &[char]) -> Result<Vec<Section>, AllocError>
-    requires { length runes.now ≤ max_runes }
-    ensures cells { IfOk result (λ v. cells_of v.items ≡ map Some runes.now) }
-    ensures len { IfOk result (λ v. vec_len v ≤ length runes.now) }
-{
-    let mut sections = Vec::new(alloc);
-    let mut at = 0;
-    while at < runes.len() {
-        let end = runes.len().min(at + MOST_IN_MESSAGE);
-        let mut piece = Piece::new(alloc)?;
-        piece.extend(&runes[at..end]);
-        sections.push(Section::Loaded(piece))?;
-        at = end;
+impl Tree {
+    /// Returns whether the last section and `section` are to be one section.
+    fn joins_last(&self, section: &Section) -> bool
+        ensures joins { result ≡ true → (xs : List Section) (a : Section) → self.now ≡ xs ++ a ∷ [] → may_join a section.now ≡ true }
+        ensures apart { result ≡ false → (xs : List Section) (a : Section) → self.now ≡ xs ++ a ∷ [] → may_join a section.now ≡ false }
+        ensures form { IsNormal self.now }
+    {
+        match self.last() {
+            Some(last) => last.may_join(section),
+            None => false,
+        }
     }
-    Ok(sections)
-}
 
-/// Returns `n` gaps as one section at most. The only error is want of memory.
-pub fn one_hole(alloc: Global, n: u32) -> Result<Vec<Section>, AllocError>
-    ensures cells { IfOk result (λ v. cells_of v.items ≡ replicate n None) }
-    ensures len { IfOk result (λ v. vec_len v ≤ 1) }
-{
-    let mut hole = Vec::with_capacity(alloc, 1)?;
-    hole.push(Section::Hole(n))?;
-    Ok(hole)
+    /// Puts a section at the end, joined with the last section if the two are to be one. An empty section is left out.
+    fn push(self, fork: Box<Fork>) -> Tree
+        requires { length (cells_of self) + size fork.value.section ≤ max_runes }
+        ensures cells { cells_of result ≡ cells_of self ++ cells fork.value.section }
+        ensures behind { (xs : List Section) → IsNormal (fork.value.section ∷ xs) → IsNormal (result ++ xs) }
+    {
+        if fork.section.len() == 0 {
+            return self;
+        }
+        if !self.joins_last(&fork.section) {
+            return self.merge(Tree::one(fork));
+        }
+        let Some((others, mut last)) = self.pop_last() else {
+            return Tree::one(fork);
+        };
+        let mut fork = fork;
+        let section = mem::replace(&mut fork.section, Section::Hole(0));
+        last.section.absorb(section);
+        others.merge(Tree::one(last))
+    }
+
+    /// Puts all sections of `next` at the end, with the two where they meet joined if they are to be one.
+    #[tactic(auto, using(crate::proofs::Partings::join_facts))]
+    fn join(self, next: Tree) -> Tree
+        requires { length (cells_of self) + length (cells_of next) ≤ max_runes }
+        ensures { cells_of result ≡ cells_of self ++ cells_of next }
+    {
+        match next.pop_first() {
+            Some((first, others)) => self.push(first).merge(others),
+            None => self,
+        }
+    }
+
+    /// Leaves out the first `n` runes and gaps.
+    #[tactic(auto, using(crate::proofs::Partings::skip_facts))]
+    fn skip(self, n: u32) -> Tree
+        ensures { cells_of result ≡ drop n (cells_of self) }
+    {
+        let (gone, kept) = self.split(n);
+        let Some((mut first, others)) = kept.pop_first() else {
+            return Tree::new();
+        };
+        first.section.cut(0, n - gone.len());
+        Tree::new().push(first).join(others)
+    }
+
+    /// Takes out `n` runes and gaps from place `p` on. No memory is asked for.
+    #[tactic(auto, using(crate::proofs::Partings::cut_facts))]
+    pub fn cut(self, p: u32, n: u32) -> Tree
+        requires { p + n ≤ length (cells_of self) }
+        ensures { cells_of result ≡ del (cells_of self) p (p + n) }
+    {
+        let (front, rest) = self.split(p);
+        let Some((mut first, rest)) = rest.pop_first() else {
+            return front;
+        };
+        let at = p - front.len();
+        let end = first.section.len().min(at + n);
+        first.section.cut(at, end);
+        front.push(first).join(rest.skip(at + n - end))
+    }
+
+    /// Puts the sections of `more` in at place `p`. No memory is asked for: `spare` serves where a section is cut in two.
+    #[tactic(auto, using(crate::proofs::Partings::insert_facts))]
+    pub fn insert(self, p: u32, more: Tree, spare: Spare) -> Tree
+        requires within { p ≤ length (cells_of self) }
+        requires limit { length (cells_of self) + length (cells_of more) ≤ max_runes }
+        requires empty { spare.piece ≡ [] }
+        ensures { cells_of result ≡ ins (cells_of self) p (cells_of more) }
+    {
+        let (front, rest) = self.split(p);
+        let Some((mut first, rest)) = rest.pop_first() else {
+            return front.join(more);
+        };
+        let at = p - front.len();
+        let Spare {
+            fork: mut back,
+            piece,
+        } = spare;
+        back.section = first.section.split(at, piece);
+        front.push(first).join(more).push(back).join(rest)
+    }
+
+    /// Puts `runes` in at the end of the last section if it is loaded and has room for them. Returns the sections, and whether it did.
+    #[tactic(auto, using(crate::proofs::Trees::fill_facts))]
+    fn fill_last(self, runes: &[char]) -> (Tree, bool)
+        requires { length (cells_of self) + length runes.now ≤ max_runes }
+        ensures cells { cells_of result.0 ≡ (if result.1 then cells_of self ++ map Some runes.now else cells_of self) }
+        ensures normal { (xs : List Section) → IsNormal (self ++ xs) → IsNormal (result.0 ++ xs) }
+    {
+        let Some((others, mut last)) = self.pop_last() else {
+            return (Tree::new(), false);
+        };
+        if !has_room(&last.section, runes.len()) {
+            return (others.merge(Tree::one(last)), false);
+        }
+        let end = last.section.len();
+        last.section.insert(end, runes);
+        (others.merge(Tree::one(last)), true)
+    }
+
+    /// Puts `runes` in at place `at` of the first section if it is loaded and has room for them. Returns the sections, and whether it did.
+    #[tactic(auto, using(crate::proofs::Trees::fill_facts))]
+    fn fill_first(self, at: u32, runes: &[char]) -> (Tree, bool)
+        requires limit { length (cells_of self) + length runes.now ≤ max_runes }
+        requires within { IfFirst self (λ s. at ≤ size s) }
+        ensures cells { cells_of result.0 ≡ (if result.1 then ins (cells_of self) at (map Some runes.now) else cells_of self) }
+        ensures normal { (xs : List Section) → IsNormal (xs ++ self) → IsNormal (xs ++ result.0) }
+    {
+        let Some((mut first, others)) = self.pop_first() else {
+            return (Tree::new(), false);
+        };
+        if !has_room(&first.section, runes.len()) {
+            return (Tree::one(first).merge(others), false);
+        }
+        first.section.insert(at, runes);
+        (Tree::one(first).merge(others), true)
+    }
+
+    /// Puts `runes` in at place `p` if there is a loaded section there with room for them. Returns the sections, and whether it did; if not,
+    /// they are as they were. Where two sections meet at `p`, the end of the first is tried before the start of the second. No memory is
+    /// asked for.
+    #[tactic(auto, using(crate::proofs::Trees::insert_inside_facts))]
+    pub fn insert_inside(self, p: u32, runes: &[char]) -> (Tree, bool)
+        requires { length (cells_of self) + length runes.now ≤ max_runes }
+        ensures { cells_of result.0 ≡ (if result.1 then ins (cells_of self) p (map Some runes.now) else cells_of self) }
+    {
+        let (front, rest) = self.split(p);
+        let at = p - front.len();
+        if at > 0 {
+            let (rest, done) = rest.fill_first(at, runes);
+            return (front.merge(rest), done);
+        }
+        let (front, done) = front.fill_last(runes);
+        if done {
+            return (front.merge(rest), true);
+        }
+        let (rest, done) = rest.fill_first(0, runes);
+        (front.merge(rest), done)
+    }
 }

@@ -11,14 +11,16 @@ use sam_runes::MOST_IN_MESSAGE;
 /// A stretch of a rasp: either runes that are loaded, or a hole, which keeps only how many gaps it has. In a rasp no section is
 /// empty, a loaded one has at most `MOST_IN_MESSAGE` runes, and no two neighbours are left that could be one section (see `may_join`).
 ///
-/// `Rasp::parts` returns the sections of a rasp in order:
+/// `Rasp::section_at` returns the section at a place, and where it begins, so a rasp is read section by section:
 ///
 /// ```rust
-/// for section in rasp.parts() {
+/// let mut place = 0;
+/// while let Some((section, start)) = rasp.section_at(place) {
 ///     match section {
 ///         Section::Loaded(text) => put_runes(text.as_slice()),
 ///         Section::Hole(count) => put_gaps(*count),
 ///     }
+///     place = start + section.len();
 /// }
 /// ```
 #[derive(Drop)]

@@ -1,8 +1,8 @@
 //! Prints the lines that show what a world is like.
 
-ghost use Rattle.std.specs.Prelude.{◌≡◌, ◌++◌, ◌<◌, ◌≤◌, IfOk, OnOk, IfErr, Some, None, string_bytes, flat_map, map, option_map, option_copied, replicate};
+ghost use Rattle.std.specs.Prelude.{◌≡◌, ◌++◌, ◌<◌, ◌≤◌, drop, IfOk, OnOk, IfErr, Some, None, string_bytes, flat_map, map, option_map, option_copied, replicate};
 ghost use Rattle.sam_runes.specs.Slots.{slot};
-ghost use Rattle.sam_rasp.specs.Sections.{cells, cells_of};
+ghost use Rattle.sam_rasp.specs.Sections.{cells, size};
 ghost use Rattle.sam_text.specs.Views.{plain_file};
 ghost use Rattle.sam_script.specs.Show.{host_line, term_line, host_slot, term_slot, window_line, slot_lines, state_line, show_lines, lock_shown, counts_line, text_rune, name_rune, text_shown, name_shown, rasp_shown};
 
@@ -195,30 +195,27 @@ fn push_name_runes(out: &mut String, name: &[char]) -> Result<(), AllocError>
 }
 
 /// Appends a rasp as a text in which each gap is `\_`, section by section.
+#[tactic(auto, using(crate::proofs::ShowLaws::rasp_facts))]
 fn push_rasp(out: &mut String, rasp: &Rasp) -> Result<(), AllocError>
     ensures { OnOk result (string_bytes out.new ≡ string_bytes out.old ++ rasp_shown rasp.now) }
 {
-    push_sections(out, rasp.parts())
-}
-
-/// Appends the sections of a rasp.
-fn push_sections(out: &mut String, sections: &[Section]) -> Result<(), AllocError>
-    ensures { OnOk result (string_bytes out.new ≡ string_bytes out.old ++ rasp_shown (cells_of sections.now)) }
-{
-    for section in sections {
-        push_section(out, section)?;
+    let mut at = 0;
+    while let Some((section, start)) = rasp.section_at(at) {
+        push_section(out, section, at - start)?;
+        at = start + section.len();
     }
     Ok(())
 }
 
-/// Appends one section: its runes, or its gaps.
-#[tactic(auto, using(crate::proofs::ShowLaws::shown_loaded))]
-fn push_section(out: &mut String, section: &Section) -> Result<(), AllocError>
-    ensures { OnOk result (string_bytes out.new ≡ string_bytes out.old ++ rasp_shown (cells section.now)) }
+/// Appends what a section has from `place` on: its runes, or its gaps.
+#[tactic(auto, using(crate::proofs::ShowLaws::section_facts))]
+fn push_section(out: &mut String, section: &Section, place: u32) -> Result<(), AllocError>
+    requires { place ≤ size section.now }
+    ensures { OnOk result (string_bytes out.new ≡ string_bytes out.old ++ rasp_shown (drop place (cells section.now))) }
 {
     match section {
-        Section::Loaded(text) => push_text(out, text.as_slice()),
-        Section::Hole(count) => push_gaps(out, *count),
+        Section::Loaded(text) => push_text(out, &text.as_slice()[place as usize..]),
+        Section::Hole(count) => push_gaps(out, *count - place),
     }
 }
 

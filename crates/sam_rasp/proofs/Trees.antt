@@ -1,0 +1,351 @@
+-- Lists of sections in a tree: what stands before a section, the section, and what stands after it.
+use Rattle.sam_rasp.proofs.Common.{◌≡◌, sym, ap, ◌∙◌, subst, ℕ, zero, suc, ◌+◌, ◌-◌, ◌≤◌, ◌<◌, List, [], ◌∷◌, ◌++◌, take, drop, length, arith, append_assoc, length-append, flat_map-append, refl, cells, cells_of, size, all_loaded, max_runes, ◌↔◌, Agrees, IsFilled, PartialText, Bool, true, false, prefix_len, is_sort, drop-append-le, length-drop, length-take, length-reverse, reverse, reverse-append, take-append-le, append-nil, map, map-append, Some, Loaded, Hole, ins, most_in_message, true≢false, is_loaded, ◌⊎◌, inl, inr, IsNormal, Section}
+use Rattle.std.specs.Prelude.{◌&&◌}
+use Rattle.sam_rasp.proofs.SectionLaws.{length-cells, cells-push, length_ins, normal-short, filled}
+use Rattle.std.proofs.lemmas.List.Folds.{prefix_len-append}
+use Rattle.std.proofs.lemmas.List.Sums.{prefix_len-le-length, prefix_len-drop_all}
+use Rattle.sam_rasp.specs.Rasp.{sort_from, sort_before}
+use Rattle.sam_rasp.proofs.Runs.{sort-all, sort-none, back, back-is, front, front-is, turned, turned-cells, back-all}
+use Rattle.std.proofs.lemmas.Bool.{cases_lt}
+use Rattle.std.proofs.lemmas.List.{take_all}
+use Rattle.sam_rasp.proofs.RaspLaws.{length_agrees}
+use Rattle.sam_rasp.proofs.Changes.{take-past, drop-past}
+use Rattle.sam_rasp.proofs.Agreeing.{stretch}
+
+pub cells_append : (xs ys : List Section) → cells_of (xs ++ ys) ≡ cells_of xs ++ cells_of ys
+cells_append xs ys = flat_map-append cells xs ys
+
+pub cells-forked : (l : List Section) (s : Section) (r : List Section) → cells_of (l ++ s ∷ r) ≡ cells_of l ++ (cells s ++ cells_of r)
+cells-forked l s r = cells_append l (s ∷ r)
+
+pub length-forked : (l : List Section) (s : Section) (r : List Section) → length (cells_of (l ++ s ∷ r)) ≡ length (cells_of l) + (size s + length (cells_of r))
+length-forked l s r = grind (arith, (cells-forked l s r), (length-append (cells_of l) (cells s ++ cells_of r)), (length-append (cells s) (cells_of r)), (length-cells s))
+
+pub normal-suffix : (xs ys : List Section) → IsNormal (xs ++ ys) → IsNormal ys
+normal-suffix [] ys h = h
+normal-suffix (x ∷ xs) ys h = normal-suffix xs ys h.2
+
+pub normal-prefix : (xs ys : List Section) → IsNormal (xs ++ ys) → IsNormal xs
+normal-prefix [] ys h = tt
+normal-prefix (x ∷ []) ys h = (h.0, tt, tt)
+normal-prefix (x ∷ y ∷ xs) ys h = (h.0, h.1, normal-prefix (y ∷ xs) ys h.2)
+
+-- fewer sections in front
+pub normal-back : (f b l xs : List Section) → f ++ b ≡ l → IsNormal (l ++ xs) → IsNormal (b ++ xs)
+normal-back f b l xs e h = normal-suffix f (b ++ xs) (subst IsNormal (append_assoc f b xs) (subst (λ y. IsNormal (y ++ xs)) (sym e) h))
+
+-- fewer sections at the end
+pub normal-front : (f b ys xs : List Section) → f ++ b ≡ ys → IsNormal (xs ++ ys) → IsNormal (xs ++ f)
+normal-front f b ys xs e h = normal-prefix (xs ++ f) b (subst IsNormal (sym (append_assoc xs f b)) (subst (λ y. IsNormal (xs ++ y)) (sym e) h))
+
+pub normal-shorter : (f b r l : List Section) (s : Section) → f ++ b ≡ r → IsNormal (l ++ s ∷ r) → IsNormal (l ++ s ∷ f)
+normal-shorter f b r l s e h = normal-front (s ∷ f) b (s ∷ r) l (ap (λ y. s ∷ y) e) h
+
+-- no section is empty
+pub normal-has : (l : List Section) (s : Section) (r : List Section) → IsNormal (l ++ s ∷ r) → 0 < size s
+normal-has l s r h = filled s (normal-suffix l (s ∷ r) h).0
+
+pub all_loaded-append : (xs ys : List Section) → all_loaded (xs ++ ys) ≡ (all_loaded xs && all_loaded ys)
+all_loaded-append [] ys = refl
+all_loaded-append (x ∷ xs) ys = grind (arith, (all_loaded-append xs ys))
+
+-- one section alone
+pub normal-alone : (l : List Section) (s : Section) (r : List Section) → IsNormal (l ++ s ∷ r) → IsFilled s
+normal-alone l s r h = (normal-suffix l (s ∷ r) h).0
+
+-- what a list shares with another one behind it or before it
+pub normal-left : (xs ys l q : List Section) → ys ≡ l ++ q → IsNormal (xs ++ ys) → IsNormal (xs ++ l)
+normal-left xs ys l q e h = normal-front l q ys xs (sym e) h
+
+pub normal-right : (xs ys l : List Section) (s : Section) (r : List Section) → xs ≡ l ++ s ∷ r → IsNormal (xs ++ ys) → IsNormal (r ++ ys)
+normal-right xs ys l s r e h = normal-back (l ++ s ∷ []) r xs ys (append_assoc l (s ∷ []) r ∙ sym e) h
+
+pub shorter-left : (xs ys l : List Section) (s : Section) (r : List Section) → ys ≡ l ++ s ∷ r → length (cells_of (xs ++ ys)) ≤ max_runes → length (cells_of (xs ++ l)) ≤ max_runes
+shorter-left xs ys l s r e h = grind (arith, (cells_append xs ys), (cells_append xs l), (length-forked l s r), (length-append (cells_of xs) (cells_of ys)), (length-append (cells_of xs) (cells_of l)))
+
+pub shorter-right : (xs ys l : List Section) (s : Section) (r : List Section) → xs ≡ l ++ s ∷ r → length (cells_of (xs ++ ys)) ≤ max_runes → length (cells_of (r ++ ys)) ≤ max_runes
+shorter-right xs ys l s r e h = grind (arith, (cells_append xs ys), (cells_append r ys), (length-forked l s r), (length-append (cells_of xs) (cells_of ys)), (length-append (cells_of r) (cells_of ys)))
+
+pub last-behind : (l : List Section) (s : Section) (r ys : List Section) (a : Section) → r ≡ ys ++ a ∷ [] → l ++ s ∷ r ≡ (l ++ s ∷ ys) ++ a ∷ []
+last-behind l s r ys a e = grind (arith, append_assoc)
+
+pub normal-popped : (l : List Section) (s : Section) (r ys : List Section) (a : Section) → r ≡ ys ++ a ∷ [] → IsNormal (l ++ s ∷ r) → IsNormal (l ++ s ∷ ys)
+normal-popped l s r ys a e h = normal-shorter ys (a ∷ []) r l s (sym e) h
+
+-- the cells before the place a + b + k of a list in three parts
+pub drop-forked : (l : List Section) (s : Section) (r : List Section) (a b k : ℕ) → length (cells_of l) ≡ a → size s ≡ b
+    → drop (a + b + k) (cells_of (l ++ s ∷ r)) ≡ drop k (cells_of r)
+drop-forked l s r a b k ea eb = grind (
+  arith,
+  (cells-forked l s r),
+  (length-cells s),
+  (drop-past (cells_of l) (cells s ++ cells_of r) (b + k) (a + b + k)),
+  (drop-past (cells s) (cells_of r) k (b + k)),
+)
+
+-- the same, against a text
+pub agrees_forked : (l : List Section) (s : Section) (r : List Section) (t : List ℕ) (a b : ℕ) → length (cells_of l) ≡ a → a + size s ≡ b
+    → Agrees (cells_of (l ++ s ∷ r)) t ↔ (Agrees (cells_of l) (take a t) × (Agrees (cells s) (take (b - a) (drop a t)) × Agrees (cells_of r) (drop b t)))
+agrees_forked l s r t a b ea eb = grind (
+  arith,
+  (cells-forked l s r),
+  (length-cells s),
+  (stretch (cells_of l) (cells s ++ cells_of r) (cells_of (l ++ s ∷ r)) t (take a t) 0 a),
+  (stretch (cells s) (cells_of r) (cells s ++ cells_of r) t (take (b - a) (drop a t)) a (b - a)),
+)
+
+pub agrees_long : (l : List Section) (s : Section) (r : List Section) (t : List ℕ) → length t < length (cells_of l) + size s → Agrees (cells_of (l ++ s ∷ r)) t → ⊥
+agrees_long l s r t short a = grind (arith, (length-forked l s r), (length_agrees (cells_of (l ++ s ∷ r)) t a))
+
+-- ## Stretches of one sort
+
+-- a stretch that goes on after the first of two lists, or ends in it
+pub from-cross : (b : Bool) (xs ys : PartialText) (p : ℕ) → p ≤ length xs → length xs - p ≤ sort_from b xs p → sort_from b (xs ++ ys) p ≡ (length xs - p) + prefix_len (is_sort b) ys
+from-cross b xs ys p l e = grind (arith, (drop-append-le p xs ys l), (prefix_len-append (is_sort b) (drop p xs) ys), (length-drop p xs), (prefix_len-le-length (is_sort b) (drop p xs)))
+
+pub from-stop : (b : Bool) (xs ys : PartialText) (p : ℕ) → p ≤ length xs → sort_from b xs p < length xs - p → sort_from b (xs ++ ys) p ≡ sort_from b xs p
+from-stop b xs ys p l e = grind (arith, (drop-append-le p xs ys l), (prefix_len-append (is_sort b) (drop p xs) ys), (length-drop p xs))
+
+-- a section of that sort from its place k on, or one of the other sort
+pub from-section : (b : Bool) (x : Section) (k : ℕ) → k ≤ size x → is_loaded x ≡ b → sort_from b (cells x) k ≡ size x - k
+from-section b x k l e = grind (arith, (back-is k x), (sort-all b (back k x) []), (append-nil (cells (back k x))))
+
+pub from-other : (b : Bool) (x : Section) (k : ℕ) (r : PartialText) → k < size x → (is_loaded x ≡ b → ⊥) → sort_from b (cells x ++ r) k ≡ 0
+from-other b x k r l e = grind (arith, (back-is k x), (sort-none b (back k x) r), (drop-append-le k (cells x) r), (length-cells x))
+
+-- the place p stands before the end of the section, or in it
+pub from-left : (b : Bool) (l : List Section) (s : Section) (r : List Section) (p : ℕ)
+    → sort_from b (cells_of l) p < length (cells_of l) - p → sort_from b (cells_of (l ++ s ∷ r)) p ≡ sort_from b (cells_of l) p
+from-left b l s r p e = grind (arith, (cells-forked l s r), (from-stop b (cells_of l) (cells s ++ cells_of r) p))
+
+pub from-ends : (b : Bool) (l : List Section) (s : Section) (r : List Section) (p : ℕ) → length (cells_of l) - p ≤ sort_from b (cells_of l) p
+    → p < length (cells_of l) + size s → IsNormal (l ++ s ∷ r) → (is_loaded s ≡ b → ⊥) → sort_from b (cells_of (l ++ s ∷ r)) p ≡ length (cells_of l) - p
+from-ends b l s r p e h n u = go (cases_lt p (length (cells_of l)))
+  where
+    go : ((p < length (cells_of l)) ⊎ (length (cells_of l) ≤ p)) → sort_from b (cells_of (l ++ s ∷ r)) p ≡ length (cells_of l) - p
+    go (inl m) = grind (arith, (cells-forked l s r), (from-cross b (cells_of l) (cells s ++ cells_of r) p), (from-other b s 0 (cells_of r)), (normal-has l s r n))
+    go (inr m) = grind (
+      arith,
+      (cells-forked l s r),
+      (drop-past (cells_of l) (cells s ++ cells_of r) (p - length (cells_of l)) p),
+      (from-other b s (p - length (cells_of l)) (cells_of r)),
+    )
+
+pub from-behind : (b : Bool) (l : List Section) (s : Section) (r : List Section) (p k : ℕ) → length (cells_of l) + size s + k ≡ p
+    → sort_from b (cells_of (l ++ s ∷ r)) p ≡ sort_from b (cells_of r) k
+from-behind b l s r p k e = grind (arith, (drop-forked l s r (length (cells_of l)) (size s) k))
+
+pub from-most : (b : Bool) (xs : PartialText) (p : ℕ) → sort_from b xs p ≤ length xs
+from-most b xs p = omega (arith, prefix_len-le-length (is_sort b) (drop p xs), length-drop p xs)
+
+pub from-goes-on : (b : Bool) (l : List Section) (s : Section) (r : List Section) (p : ℕ) → length (cells_of l) - p ≤ sort_from b (cells_of l) p
+    → p < length (cells_of l) + size s → is_loaded s ≡ b → sort_from b (cells_of (l ++ s ∷ r)) p ≡ (length (cells_of l) + size s - p) + sort_from b (cells_of r) 0
+from-goes-on b l s r p e h u = go (cases_lt p (length (cells_of l)))
+  where
+    go : ((p < length (cells_of l)) ⊎ (length (cells_of l) ≤ p))
+        → sort_from b (cells_of (l ++ s ∷ r)) p ≡ (length (cells_of l) + size s - p) + sort_from b (cells_of r) 0
+    go (inl m) = grind (arith, (cells-forked l s r), (from-cross b (cells_of l) (cells s ++ cells_of r) p), (sort-all b s (cells_of r)))
+    go (inr m) = grind (
+      arith,
+      (cells-forked l s r),
+      (length-cells s),
+      (drop-past (cells_of l) (cells s ++ cells_of r) (p - length (cells_of l)) p),
+      (from-section b s (p - length (cells_of l))),
+      (from-cross b (cells s) (cells_of r) (p - length (cells_of l))),
+    )
+
+-- sections that are all loaded stand for one text
+pub loaded-is : (xs : List Section) → all_loaded xs ≡ true → (t : List ℕ) × (cells_of xs ≡ cells (Loaded t))
+loaded-is [] e = ([], refl)
+loaded-is (Loaded s ∷ xs) e = let t = loaded-is xs e in (s ++ t.0, grind (arith, t.1, (map-append Some s t.0)))
+loaded-is (Hole n ∷ xs) e = absurd (true≢false (sym e))
+
+pub from-all : (xs : List Section) (p : ℕ) → all_loaded xs ≡ true → p ≤ length (cells_of xs) → sort_from true (cells_of xs) p ≡ length (cells_of xs) - p
+from-all xs p e l = let t = loaded-is xs e in grind (arith, t.1, (length-cells (Loaded t.0)), (from-section true (Loaded t.0) p))
+
+pub from-end : (b : Bool) (xs : PartialText) (p : ℕ) → length xs ≤ p → sort_from b xs p ≡ 0
+from-end b xs p l = prefix_len-drop_all (is_sort b) xs p l
+
+-- the same towards the front
+pub before-first : (b : Bool) (xs ys : PartialText) (p : ℕ) → p ≤ length xs → sort_before b (xs ++ ys) p ≡ sort_before b xs p
+before-first b xs ys p l = grind (arith, (take-append-le p xs ys l))
+
+pub before-cross : (b : Bool) (xs ys : PartialText) (p k : ℕ) → length xs + k ≡ p → k ≤ length ys → k ≤ sort_before b ys k → sort_before b (xs ++ ys) p ≡ k + prefix_len (is_sort b) (reverse xs)
+before-cross b xs ys p k e l h = grind (
+  arith,
+  (take-past xs ys k p e),
+  (reverse-append xs (take k ys)),
+  (prefix_len-append (is_sort b) (reverse (take k ys)) (reverse xs)),
+  (length-reverse (take k ys)),
+  (length-take k ys),
+  (prefix_len-le-length (is_sort b) (reverse (take k ys))),
+)
+
+pub before-stop : (b : Bool) (xs ys : PartialText) (p k : ℕ) → length xs + k ≡ p → k ≤ length ys → sort_before b ys k < k → sort_before b (xs ++ ys) p ≡ sort_before b ys k
+before-stop b xs ys p k e l h = grind (
+  arith,
+  (take-past xs ys k p e),
+  (reverse-append xs (take k ys)),
+  (prefix_len-append (is_sort b) (reverse (take k ys)) (reverse xs)),
+  (length-reverse (take k ys)),
+  (length-take k ys),
+)
+
+pub before-section : (b : Bool) (x : Section) (pre : PartialText) (k : ℕ) → k ≤ size x → is_loaded x ≡ b
+    → prefix_len (is_sort b) (reverse (pre ++ take k (cells x))) ≡ k + prefix_len (is_sort b) (reverse pre)
+before-section b x pre k l e = grind (arith, (front-is k x l), (back-all b pre (front k x)))
+
+turned-is : (x : Section) → (size (turned x) ≡ size x) × (is_loaded (turned x) ≡ is_loaded x)
+turned-is x = grind (arith, length-reverse)
+
+pub before-other : (b : Bool) (x : Section) (pre : PartialText) (k : ℕ) → 0 < k → k ≤ size x → (is_loaded x ≡ b → ⊥) → prefix_len (is_sort b) (reverse (pre ++ take k (cells x))) ≡ 0
+before-other b x pre k z l e = grind (
+  arith,
+  (front-is k x l),
+  (reverse-append pre (cells (front k x))),
+  (turned-cells (front k x)),
+  (sort-none b (turned (front k x)) (reverse pre)),
+  (turned-is (front k x)),
+)
+
+-- the whole section
+pub before-whole : (b : Bool) (x : Section) (pre : PartialText) → is_loaded x ≡ b → prefix_len (is_sort b) (reverse (pre ++ cells x)) ≡ size x + prefix_len (is_sort b) (reverse pre)
+before-whole b x pre e = back-all b pre x e
+
+pub before-none : (b : Bool) (x : Section) (pre : PartialText) → 0 < size x → (is_loaded x ≡ b → ⊥) → prefix_len (is_sort b) (reverse (pre ++ cells x)) ≡ 0
+before-none b x pre z u = grind (arith, (before-other b x pre (size x)), (take_all (size x) (cells x)), (length-cells x))
+
+pub before-behind : (b : Bool) (l : List Section) (s : Section) (r : List Section) (p : ℕ) → p ≤ length (cells_of l) → sort_before b (cells_of (l ++ s ∷ r)) p ≡ sort_before b (cells_of l) p
+before-behind b l s r p e = grind (arith, (cells-forked l s r), (before-first b (cells_of l) (cells s ++ cells_of r) p))
+
+-- the cells up to the section's end, and those after it
+pub cells-fore : (l : List Section) (s : Section) (r : List Section)
+    → (cells_of (l ++ s ∷ r) ≡ (cells_of l ++ cells s) ++ cells_of r) × (length (cells_of l ++ cells s) ≡ length (cells_of l) + size s)
+cells-fore l s r = grind (arith, (cells-forked l s r), (append_assoc (cells_of l) (cells s) (cells_of r)), (length-append (cells_of l) (cells s)), (length-cells s))
+
+pub before-stops : (b : Bool) (l : List Section) (s : Section) (r : List Section) (p k : ℕ) → k ≡ p - (length (cells_of l) + size s)
+    → p ≤ length (cells_of (l ++ s ∷ r)) → sort_before b (cells_of r) k < k → sort_before b (cells_of (l ++ s ∷ r)) p ≡ sort_before b (cells_of r) k
+before-stops b l s r p k e w h = grind (arith, (cells-fore l s r), (length-forked l s r), (before-stop b (cells_of l ++ cells s) (cells_of r) p k))
+
+pub before-ends : (b : Bool) (l : List Section) (s : Section) (r : List Section) (p k : ℕ) → k ≡ p - (length (cells_of l) + size s) → p ≤ length (cells_of (l ++ s ∷ r))
+    → k ≤ sort_before b (cells_of r) k → length (cells_of l) < p → IsNormal (l ++ s ∷ r) → (is_loaded s ≡ b → ⊥) → sort_before b (cells_of (l ++ s ∷ r)) p ≡ k
+before-ends b l s r p k e w h m n u = go (cases_lt (length (cells_of l) + size s) p)
+  where
+    go : ((length (cells_of l) + size s < p) ⊎ (p ≤ length (cells_of l) + size s)) → sort_before b (cells_of (l ++ s ∷ r)) p ≡ k
+    go (inl i) = grind (
+      arith,
+      (cells-fore l s r),
+      (length-forked l s r),
+      (before-cross b (cells_of l ++ cells s) (cells_of r) p k),
+      (before-none b s (cells_of l)),
+      (normal-has l s r n),
+    )
+    go (inr i) = grind (
+      arith,
+      (cells-forked l s r),
+      (length-cells s),
+      (take-past (cells_of l) (cells s ++ cells_of r) (p - length (cells_of l)) p),
+      (take-append-le (p - length (cells_of l)) (cells s) (cells_of r)),
+      (before-other b s (cells_of l) (p - length (cells_of l))),
+    )
+
+pub before-goes-on : (b : Bool) (l : List Section) (s : Section) (r : List Section) (p k : ℕ) → k ≡ p - (length (cells_of l) + size s) → p ≤ length (cells_of (l ++ s ∷ r))
+    → k ≤ sort_before b (cells_of r) k → length (cells_of l) < p → is_loaded s ≡ b
+    → sort_before b (cells_of (l ++ s ∷ r)) p ≡ (p - length (cells_of l)) + sort_before b (cells_of l) (length (cells_of l))
+before-goes-on b l s r p k e w h m u = go (cases_lt (length (cells_of l) + size s) p)
+  where
+    go : ((length (cells_of l) + size s < p) ⊎ (p ≤ length (cells_of l) + size s))
+        → sort_before b (cells_of (l ++ s ∷ r)) p ≡ (p - length (cells_of l)) + sort_before b (cells_of l) (length (cells_of l))
+    go (inl i) = grind (
+      arith,
+      (cells-fore l s r),
+      (length-forked l s r),
+      (before-cross b (cells_of l ++ cells s) (cells_of r) p k),
+      (before-whole b s (cells_of l)),
+      (take_all (length (cells_of l)) (cells_of l)),
+    )
+    go (inr i) = grind (
+      arith,
+      (cells-forked l s r),
+      (length-cells s),
+      (take-past (cells_of l) (cells s ++ cells_of r) (p - length (cells_of l)) p),
+      (take-append-le (p - length (cells_of l)) (cells s) (cells_of r)),
+      (before-section b s (cells_of l) (p - length (cells_of l))),
+      (take_all (length (cells_of l)) (cells_of l)),
+    )
+
+pub before-most : (b : Bool) (xs : PartialText) (p : ℕ) → sort_before b xs p ≤ p
+before-most b xs p = omega (arith, prefix_len-le-length (is_sort b) (reverse (take p xs)), length-reverse (take p xs), length-take p xs)
+
+pub all-taken : (xs : List Section) (p : ℕ) → all_loaded xs ≡ true → p ≤ length (cells_of xs) → sort_before true (cells_of xs) p ≡ p
+all-taken xs p e l = let t = loaded-is xs e in grind (arith, t.1, (length-cells (Loaded t.0)), (before-section true (Loaded t.0) [] p))
+
+-- ## Runes put into a section that has room for them
+
+-- b stands for a, and has as many runes or more
+pub record Grows (a b : Section) : Type 0 where
+  pub loaded : is_loaded a ≡ true
+  pub loaded_after : is_loaded b ≡ true
+  pub more : size a ≤ size b
+  pub limit : size b ≤ most_in_message
+
+pub normal-grown : (xs : List Section) (a b : Section) (ys : List Section) → Grows a b → IsNormal (xs ++ a ∷ ys) → IsNormal (xs ++ b ∷ ys)
+normal-grown (w ∷ v ∷ xs) a b ys g h = (h.0, h.1, normal-grown (v ∷ xs) a b ys g h.2)
+normal-grown xs a b ys g h = grind arith
+
+pub last-grown : (l : List Section) (a b : Section) (old xs : List Section) → old ≡ l ++ a ∷ [] → Grows a b → IsNormal (old ++ xs) → IsNormal ((l ++ b ∷ []) ++ xs)
+last-grown l a b old xs e g h = subst IsNormal (sym (append_assoc l (b ∷ []) xs)) (normal-grown l a b xs g (subst IsNormal (ap (λ y. y ++ xs) e ∙ append_assoc l (a ∷ []) xs) h))
+
+pub first-grown : (a b : Section) (r xs : List Section) → Grows a b → IsNormal (xs ++ (a ∷ r)) → IsNormal (xs ++ (b ∷ r))
+first-grown a b r xs g h = normal-grown xs a b r g h
+
+pub ins-first : (a b m : PartialText) (p : ℕ) → p ≤ length a → ins a p m ++ b ≡ ins (a ++ b) p m
+ins-first a b m p l = grind (arith, (take-append-le p a b l), (drop-append-le p a b l), (append_assoc (take p a ++ m) (drop p a) b))
+
+pub ins-past : (a b m : PartialText) (p k : ℕ) → length a + k ≡ p → a ++ ins b k m ≡ ins (a ++ b) p m
+ins-past a b m p k e = grind (
+  arith,
+  (take-past a b k p e),
+  (drop-past a b k p e),
+  (append_assoc a (take k b ++ m) (drop k b)),
+  (append_assoc a (take k b) m),
+)
+
+-- what `count` rests on
+pub ruleset count_facts = (normal-short)
+
+-- what `of` rests on
+pub ruleset of_facts = (length-append, length-forked, all_loaded-append)
+
+-- what `split` rests on
+pub ruleset split_facts = (normal-back, normal-shorter)
+
+-- what `raise_left` and `raise_right` rest on
+pub ruleset raise_facts = (normal-left, normal-right, shorter-left, shorter-right, normal-shorter, length-forked, append_assoc)
+
+-- what `link` rests on
+pub ruleset link_facts = (normal-left, normal-right, shorter-left, shorter-right, normal-shorter, length-forked, length-append, append_assoc)
+
+-- what `pop_first` and `pop_last` rest on
+pub ruleset pop_facts = (normal-popped, normal-right, last-behind, length-forked, length-append, append_assoc)
+
+-- what `merge` rests on
+pub ruleset merge_facts = (append_assoc)
+
+-- what `section_at` rests on
+pub ruleset section_at_facts = (drop-forked)
+
+-- what `agrees` rests on
+pub ruleset agrees_facts = (agrees_forked, agrees_long)
+
+-- what `sort_from` rests on
+pub ruleset sort_from_facts = (from-behind, from-most, from-left, from-ends, from-goes-on, from-all, from-end, length-forked)
+
+-- what `sort_before` rests on
+pub ruleset sort_before_facts = (before-behind, before-stops, before-ends, before-goes-on, before-most, all-taken, length-forked)
+
+-- what `fill_last` and `fill_first` rest on
+pub ruleset fill_facts = (last-grown, first-grown, normal-alone, cells-push, length-forked, length_ins, ins-first, append-nil, append_assoc)
+
+-- what `insert_inside` rests on
+pub ruleset insert_inside_facts = (ins-first, ins-past, cells_append, normal-suffix, normal-prefix)

@@ -1,8 +1,0 @@
-use Rattle.sam_rasp.proofs.Common.{◌≤◌, ◌-◌, length, IsBegin}
-use Rattle.sam_rasp.proofs.walking.end_at.Given as goal
-
-abbrev pub invariant-loop-at : goal.invariant-loop-at
-invariant-loop-at l = IsBegin l.sections l.at × (l.fn.first.index ≤ l.at.index)
-
-abbrev pub decreases-loop-at : goal.decreases-loop-at
-decreases-loop-at l = length l.sections - l.at.index
