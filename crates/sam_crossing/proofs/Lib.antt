@@ -29,3 +29,5 @@ pub mod Receiving
 pub mod Ordered
 pub mod Streaming
 pub mod Starting
+pub mod RunLaws
+pub mod OrderLaws

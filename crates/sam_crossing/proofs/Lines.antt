@@ -1,10 +1,6 @@
 -- The two messages that run a command line, and what a line does: from synced to synced.
-use Rattle.sam_crossing.proofs.Common.{rules, ◌≡◌, ℕ, ◌+◌, ◌-◌, Bool, true, false, not, ◌||◌, ◌==◌, if◌then◌else◌, List, [], ◌∷◌, ◌++◌, length, reverse, Option, Some, None, Result, unwrap_or, refl, sym, ap, ◌∙◌, subst, eqb-true, arith, flat_map, Range, ins, part, line_start, as_lines, last_line, slot, last_first_is_at_once, edits_fit, agrees_typed, PlainFile, PlainFiles, PlainOutcome, file_at, typed_file, after_print, has_room, file_after, put_outcome, committed, AreFit, Ttype, Tsend, Hmesg, Hsetdot, Hexit, Hunlock, is_command_line, CommandLock, NoLock, PlainHost, Reply, with_file, with_files, when_given, printed, told_edit, told_outcome, no_range, reply_line, reply_type, reply_send, Slot, Lens, lens, Action, Free_command, HFile, IsCommandFile, Opened, Fits_slot, ComesToSync, at_file, file_in, HasFiles}
-use Rattle.sam_text.specs.declared.word.Word.{Word}
-use Rattle.sam_text.specs.declared.command.Command.{Command}
-use Rattle.sam_text.specs.declared.command.Command.TheVariants as command
-use Rattle.sam_text.specs.Reading.{◌>>=◌}
-use Rattle.sam_text.specs.Meaning.{WorkFile, meaning, work_on, work_file, line_outcome, or_wrong, effect_of}
+use Rattle.sam_crossing.proofs.Common.{rules, ◌≡◌, ℕ, ◌+◌, ◌-◌, Bool, true, false, not, ◌||◌, ◌==◌, if◌then◌else◌, List, [], ◌∷◌, ◌++◌, length, reverse, Option, Some, None, unwrap_or, refl, sym, ap, ◌∙◌, subst, eqb-true, arith, flat_map, Range, ins, part, line_start, as_lines, last_line, slot, last_first_is_at_once, edits_fit, agrees_typed, PlainFile, PlainFiles, PlainOutcome, file_at, typed_file, after_print, has_room, file_after, put_outcome, committed, AreFit, Ttype, Tsend, Hmesg, Hsetdot, Hexit, Hunlock, is_command_line, CommandLock, NoLock, PlainHost, Reply, with_file, with_files, when_given, printed, told_edit, told_outcome, no_range, reply_line, reply_type, reply_send, Slot, Lens, lens, Action, Free_command, HFile, IsCommandFile, Opened, Fits_slot, ComesToSync, at_file, file_in, HasFiles}
+use Rattle.sam_text.specs.Meaning.{WorkFile, meaning, work_on, work_file, line_outcome}
 use Rattle.sam_text.specs.Outcomes.{Fits}
 use Rattle.sam_text.proofs.MeaningLaws.{line_fits}
 use Rattle.sam_text.proofs.FitLaws.{fit-put, fit-typed, fit-print}

@@ -1,7 +1,6 @@
 -- What follows for both sides where all is in order: no refusal, agreement where nothing is under way, and ahead of time.
-use Rattle.sam_crossing.proofs.Common.{common_steps, ◌≡◌, ℕ, suc, false, ◌==◌, List, [], ◌∷◌, ◌++◌, map, Some, None, Ok, refl, arith, rules, most_count, Slots, Agrees, PlainFiles, file_at, Tmesg, Hmesg, PlainHost, Reply, answer, stamped, PlainTerminal, window_of, is_open, is_any_locked, window_in, Window, KnownFile, view, reply_of, InOrder}
-use Rattle.sam_mesg.specs.declared.hmesg.HFrame.{HFrame}
-use Rattle.sam_host.specs.declared.fault.HostFault.TheVariants as hostfault
+use Rattle.sam_crossing.proofs.Common.{common_steps, ◌≡◌, ℕ, suc, false, ◌==◌, List, [], ◌∷◌, ◌++◌, Some, None, Ok, refl, arith, rules, most_count, Slots, Agrees, PlainFiles, file_at, Tmesg, Hmesg, PlainHost, Reply, answer, stamped, PlainTerminal, window_of, is_open, is_any_locked, window_in, Window, KnownFile, view, reply_of, InOrder}
+use Rattle.sam_crossing.specs.World.{mesgs}
 use Rattle.sam_crossing.proofs.Lenses.{IsFree}
 use Rattle.sam_crossing.proofs.AllComeToSync.{kept_free}
 
@@ -16,12 +15,9 @@ pub record HostGoes (h : PlainHost) (t : PlainTerminal) (m : Tmesg) (up : List T
 pub host_goes : (h : PlainHost) (t : PlainTerminal) (m : Tmesg) (up : List Tmesg) (down : List Hmesg) → InOrder h t (m ∷ up) down → HostGoes h t m up down
 host_goes h t m up down o = search (rules, common_steps)
 
-abbrev pub msgs : List HFrame → List Hmesg
-msgs frames = map (λ (f : HFrame). f.msg) frames
-
-pub msgs_stamped : (n : ℕ) (ms : List Hmesg) → msgs (stamped n ms) ≡ ms
-msgs_stamped n [] = refl
-msgs_stamped n (m ∷ ms) = grind (arith, (msgs_stamped n ms))
+pub mesgs_stamped : (n : ℕ) (ms : List Hmesg) → mesgs (stamped n ms) ≡ ms
+mesgs_stamped n [] = refl
+mesgs_stamped n (m ∷ ms) = grind (arith, (mesgs_stamped n ms))
 
 -- the answer with its stamps, where the count allows one more
 pub answer_is : (h : PlainHost) (m : Tmesg) (r : Reply) → reply_of h m ≡ Some r → (h.taken == most_count) ≡ false → answer h m ≡ Ok (r.0, stamped r.0.taken r.1)

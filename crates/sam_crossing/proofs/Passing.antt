@@ -1,8 +1,6 @@
 -- What the tests of an event say of the views, where none of them stands against it.
 use Rattle.sam_crossing.proofs.Common.{[], ◌≡◌, ℕ, true, false, not, ◌&&◌, nat_lt, List, ◌∷◌, None, arith, Slots, first_of_checks, PlainTerminal, window_at, is_open, is_known, is_any_locked, event_checks, is_unknown, is_closed, is_file_locked, has_bad_place, makes_too_long, waits_for_all, is_bad_version, is_for_command_file, needs_open, UserEvent, window_in, KnownFile, PartialText, OpenAt, view}
 use Rattle.sam_term.specs.Events.{file_of}
-use Rattle.sam_term.specs.declared.fault.Refusal.TheVariants as refusal
-use Rattle.sam_crossing.specs.Lens as lenses
 use Rattle.sam_crossing.proofs.Lenses.{IsFree, IsOpen}
 use Rattle.sam_crossing.proofs.Changes.{KnownAt}
 

@@ -2,9 +2,6 @@
 use Rattle.sam_crossing.proofs.Common.{◌≡◌, ℕ, ◌+◌, ◌≤◌, Bool, true, false, List, ◌∷◌, ◌++◌, length, Option, Some, None, refl, subst, arith, length-append, length-drop, length-take-le, ltb-false, length-map, Checks, first_of_checks, slot-free_same, slot-free_other, slot-map, PartialText, load_cells, Tmesg, Hmesg, Hcheck, Hunlockfile, Hack, PlainHost, PlainTerminal, window_at, unsent_message, frame_checks, frame_outcome, took_bindname, took_data, took_grow, took_growdata, took_cut, took_unlockfile, took_close, took_exit, Unsent, TermFault, Lens, Action, move, is_crossing, ComesToSync, HFile, OpenAt, Anything, action, only, at_file, view, effect, Moves, AreTidy, IsHeldBack, views, InOrder}
 use Rattle.sam_runes.proofs.CheckLaws.{none_holds}
 use Rattle.sam_term.specs.Term.{past_end}
-use Rattle.sam_term.specs.declared.fault.TermFault.TheVariants as fault
-use Rattle.sam_crossing.specs.Lens as lenses
-use Rattle.sam_crossing.proofs.Lenses.{IsFree}
 use Rattle.sam_crossing.proofs.Runs.{first_is_quiet}
 use Rattle.sam_crossing.proofs.Folds.{frame_moves}
 use Rattle.sam_crossing.proofs.FrameMoves.{take_law}

@@ -1,6 +1,6 @@
 -- Runs of actions at one file.
-use Rattle.sam_crossing.proofs.Common.{◌≡◌, if◌then◌else◌, Bool, true, false, ◌||◌, List, [], ◌∷◌, ◌++◌, Some, None, ◌⊎◌, refl, arith, same_Some, Lens, Action, move, run, is_crossing, is_freeing, frees, IsGuarded, is_close, closes}
-use Rattle.sam_crossing.proofs.Lenses.{IsFree, IsOpen, IsAlike, locked_more, exited_of, command_of, version_of, is_change, changes, frees_command, is_exit, exits}
+use Rattle.sam_crossing.proofs.Common.{◌≡◌, if◌then◌else◌, Bool, true, false, ◌||◌, List, [], ◌∷◌, ◌++◌, Some, None, ◌⊎◌, refl, arith, same_Some, Lens, Action, move, run, is_crossing, frees, IsGuarded, closes}
+use Rattle.sam_crossing.proofs.Lenses.{IsFree, IsOpen, IsAlike, locked_more, exited_of, command_of, version_of, changes, frees_command, exits}
 
 pub run-append_some : (s u : List Action) (v w : Lens) → run s v ≡ Some w → run (s ++ u) v ≡ run u w
 run-append_some [] u v w e = grind arith

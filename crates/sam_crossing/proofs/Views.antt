@@ -1,5 +1,5 @@
 -- What of the terminal concerns one file, after its steps of composing.
-use Rattle.sam_crossing.proofs.Common.{◌≡◌, if◌then◌else◌, ℕ, true, ◌==◌, Option, Some, None, ap, arith, unwrap_or, slot-put_same, slot-put_other, Tmesg, Lock, FileLock, Window, KnownFile, lock_of, PlainTerminal, known_at, window_at, put_known, put_window, edited, composed, flushed, blank_known, blank_window, Open, Lens, lens, slot_of_window, view, IsTidyWindow, AreTidy, IsHeldBack, views}
+use Rattle.sam_crossing.proofs.Common.{◌≡◌, if◌then◌else◌, ℕ, true, ◌==◌, Some, None, arith, unwrap_or, slot-put_same, slot-put_other, Tmesg, Lock, FileLock, Window, KnownFile, lock_of, PlainTerminal, known_at, window_at, put_known, put_window, edited, composed, flushed, blank_window, Open, Lens, lens, slot_of_window, view, IsTidyWindow, AreTidy, IsHeldBack, views}
 use Rattle.sam_crossing.proofs.Lenses.{IsOpen}
 use Rattle.sam_crossing.proofs.Changes.{changed, change_of_lock}
 

@@ -5,3 +5,5 @@ pub mod Steady
 pub mod Fold
 pub mod Order
 pub mod StreamVersions
+pub mod World
+pub mod RunOrder

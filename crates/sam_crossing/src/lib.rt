@@ -32,6 +32,8 @@
 //! 8. proofs/Ordered: the host's step (`host_goes`), and what follows. specs/StreamVersions, proofs/Streaming: both sides have one version.
 #![tactic(auto)]
 
+pub mod event;
+
 ghost use Rattle.sam_crossing.specs.View.{TakeLaw};
 
 /// Says that where no lens refuses a frame the terminal doesn't either. Each lens then moves as the frame's action says, and besides the

@@ -1,26 +1,25 @@
 -- What every run keeps: the outlook of the world is what the events that have acted do to the editor without a network.
-use Rattle.sam_world.proofs.Common.{◌≡◌, ℕ, Bool, true, false, not, List, [], ◌∷◌, ◌++◌, Option, Some, None, Result, Ok, Err, same_Some, Done, refl, sym, ap, ◌∙◌, subst, is_some, arith, append-nil, append_assoc, map-append, option_and_then, is_empty, first_of_checks, PlainHost, Reply, answer, HostFault, PlainTerminal, Made, act_of, act_on, decided, flush_of, flushed, take_of, frame_outcome, event_checks, event_outcome, if_countable, window_at, Verdict, Acted, TermFault, UserEvent, Tmesg, Hmesg, HFrame, AreGiven, new_world, PlainWorld, composed_by, step_of, run_of, after_act, after_answer, after_compose, host_takes, term_takes, mesgs, IsInOrder, stamped}
-use Rattle.std.proofs.Common.{true≢false}
-use Rattle.std.specs.Prelude.{◌&&◌, ◌||◌}
-use Rattle.sam_world.specs.Reached.{WasReached}
-use Rattle.sam_world.specs.declared.event.Event.{Event}
-use Rattle.sam_world.specs.declared.event.Event.TheVariants.{User, Act, Flush, HostTake, TermTake}
-use Rattle.sam_term.specs.Term.{is_open, is_file_locked, unsent_message}
-use Rattle.sam_term.specs.declared.records.Window.{Window}
-use Rattle.sam_term.specs.declared.records.Unsent.{Unsent}
+use Rattle.sam_crossing.proofs.Common.{◌≡◌, ℕ, Bool, true, false, not, List, [], ◌∷◌, ◌++◌, Option, Some, None, Result, Ok, refl, sym, ap, ◌∙◌, subst, is_some, arith, append-nil, append_assoc, same_Some, map-append, is_empty, first_of_checks, PlainHost, Reply, answer, stamped, HostFault, PlainTerminal, Made, flushed, frame_outcome, event_checks, event_outcome, window_at, TermFault, UserEvent, Tmesg, Hmesg, true≢false, ◌&&◌, ◌||◌, is_open, is_file_locked, unsent_message, Window, Unsent, answers, reply_of, InOrder, view}
+use Rattle.std.proofs.Common.{Err, option_and_then}
+use Rattle.sam_term.specs.declared.event.Acted.TheVariants.{Done}
+use Rattle.sam_term.specs.Term.{act_of, act_on, decided, flush_of, take_of, if_countable}
+use Rattle.sam_term.specs.declared.event.Verdict.{Verdict}
+use Rattle.sam_term.specs.declared.event.Acted.{Acted}
+use Rattle.sam_mesg.specs.declared.hmesg.HFrame.{HFrame}
+use Rattle.sam_host.specs.Laws.{AreGiven}
+use Rattle.sam_crossing.specs.World.{new_world, PlainWorld, composed_by, step_of, run_of, after_act, after_answer, after_compose, host_takes, term_takes, mesgs, user_events, is_locked, WasReached}
+use Rattle.sam_crossing.specs.RunOrder.{IsInOrder}
+use Rattle.sam_crossing.specs.declared.event.Event.{Event}
+use Rattle.sam_crossing.specs.declared.event.Event.TheVariants.{User, Act, Flush, HostTake, TermTake}
 use Rattle.sam_term.specs.declared.event.Verdict.TheVariants.{Waits, Refuses}
-use Rattle.sam_crossing.specs.Fold.{answers, reply_of}
-use Rattle.sam_crossing.specs.Order.{InOrder}
-use Rattle.sam_crossing.specs.View.{view}
 use Rattle.sam_crossing.proofs.Lenses.{IsFree}
 use Rattle.sam_crossing.proofs.Passing.{free_at}
-use Rattle.sam_crossing.proofs.Ordered.{HostGoes, host_goes, msgs_stamped, answer_is, free_shows}
+use Rattle.sam_crossing.proofs.Ordered.{HostGoes, host_goes, mesgs_stamped, free_shows}
 use Rattle.sam_term.proofs.Edits.{flushed-held}
-use Rattle.sam_world.specs.World.{is_locked}
-use Rattle.sam_world.proofs.RunLaws.{counted-result}
-use Rattle.sam_world.proofs.OrderLaws.{starts_in_order, steps_in_order}
+use Rattle.sam_crossing.proofs.RunLaws.{counted-result}
+use Rattle.sam_crossing.proofs.OrderLaws.{answer_gives, starts_in_order, steps_in_order}
 use Rattle.sam_local.specs.Local.{PlainEditor, at_rest, answered_with, come_to, carried, carried_on, carried_all, new_editor}
-use Rattle.sam_local.specs.Worlds.{outlook, user_events, is_at_rest, ShowsFile, RunsAreAsIfLocal, RestIsAsIfLocal, OneRestForAll, WasAsIfLocal, EndsAsIfLocal}
+use Rattle.sam_local.specs.Worlds.{outlook, is_at_rest, ShowsFile, RunsAreAsIfLocal, RestIsAsIfLocal, OneRestForAll, WasAsIfLocal, EndsAsIfLocal}
 use Rattle.sam_local.proofs.Gentle.{CleansGuarded}
 use Rattle.sam_local.proofs.Cleans.{cleans-both, cleans-reply_of}
 use Rattle.sam_local.proofs.Ahead.{come-to-is, window-is}
@@ -69,10 +68,6 @@ does {given} {w} {next} {acted} e k o c q h = record {
 
 -- ## The host
 
-answer_gives : (h : PlainHost) (m : Tmesg) (x : Reply) (r : PlainHost × List HFrame) → reply_of h m ≡ Some x → answer h m ≡ Ok r → r ≡ (x.0, stamped x.0.taken x.1)
-unfolding answer
-answer_gives h m x r a e = grind (arith, answer_is)
-
 host-steps : (given : List (List ℕ × List ℕ)) (w next : PlainWorld) (acted : List UserEvent) → IsKept given w acted → IsInOrder next → (u : List Tmesg) → w.up ≡ u
     → host_takes w u ≡ Some next → Steps given w next acted []
 host-steps given w next acted k o [] eu s = absurd (grind arith)
@@ -91,7 +86,7 @@ host-steps given w next acted k o (m ∷ ms) eu s = by (answer w.host m) refl s
     took = record { host = r.0; term = w.term; up = ms; down = w.down ++ stamped r.0.taken r.1 }
 
     frames : mesgs (w.down ++ stamped r.0.taken r.1) ≡ down ++ r.1
-    frames = map-append (λ (f : HFrame). f.msg) w.down (stamped r.0.taken r.1) ∙ ap (λ (fs : List Hmesg). down ++ fs) (msgs_stamped r.0.taken r.1)
+    frames = map-append (λ (f : HFrame). f.msg) w.down (stamped r.0.taken r.1) ∙ ap (λ (fs : List Hmesg). down ++ fs) (mesgs_stamped r.0.taken r.1)
 
     done : IsInOrder took → Steps given w took acted []
     done o = idles k o

@@ -1,29 +1,18 @@
 -- Runs of the world beside the editor without a network.
-use Rattle.std.specs.Prelude.{◌≡◌, ℕ, true, false, ◌&&◌, Bool, List, [], ◌∷◌, ◌++◌, Some}
+use Rattle.std.specs.Prelude.{◌≡◌, ℕ, true, false, ◌&&◌, Bool, List, ◌++◌, Some}
 use Rattle.sam_runes.specs.Texts.{is_empty}
 use Rattle.sam_rasp.specs.Rasp.{Agrees}
 use Rattle.sam_text.specs.Files.{file_at}
 use Rattle.sam_host.specs.Laws.{AreGiven}
 use Rattle.sam_term.specs.declared.event.UserEvent.{UserEvent}
 use Rattle.sam_term.specs.Term.{is_open, window_at}
-use Rattle.sam_world.specs.declared.event.Event.{Event}
-use Rattle.sam_world.specs.declared.event.Event.TheVariants.{User, Act, Flush, HostTake, TermTake}
-use Rattle.sam_world.specs.World.{PlainWorld, new_world, run_of, is_quiet, is_locked}
-use Rattle.sam_world.specs.Order.{mesgs}
+use Rattle.sam_crossing.specs.declared.event.Event.{Event}
+use Rattle.sam_crossing.specs.World.{PlainWorld, new_world, run_of, is_quiet, is_locked, mesgs, user_events}
 use Rattle.sam_local.specs.Local.{PlainEditor, at_rest, come_to, carried_all}
 
 -- what the world comes to where nothing new is begun
 abbrev pub outlook : PlainWorld → PlainEditor
 outlook w = come_to w.host w.term w.up (mesgs w.down)
-
--- what the user did
-abbrev pub user_events : List Event → List UserEvent
-user_events [] = []
-user_events (User e ∷ es) = e ∷ user_events es
-user_events (Act ∷ es) = user_events es
-user_events (Flush ∷ es) = user_events es
-user_events (HostTake ∷ es) = user_events es
-user_events (TermTake ∷ es) = user_events es
 
 -- nothing is unsent, under way, or held
 abbrev pub is_at_rest : PlainWorld → Bool

@@ -3,11 +3,8 @@
 //! First those of runs: every run of a world comes to what its events do to the editor without a network. Then what each of the 24 events
 //! of the user does to that editor, over its texts and dots alone. These hold of every editor to which events have led from files within
 //! the limits (`IsReached`), where nothing stands against the event (`May`); one that something stands against does nothing.
-ghost use Rattle.std.specs.Prelude.{◌≡◌, true};
-ghost use Rattle.sam_local.specs.Worlds.{RunsAreAsIfLocal, RestIsAsIfLocal, OneRestForAll, WasAsIfLocal, EndsAsIfLocal, is_at_rest};
+ghost use Rattle.sam_local.specs.Worlds.{RunsAreAsIfLocal, RestIsAsIfLocal, OneRestForAll};
 ghost use Rattle.sam_local.specs.Editing.{RefusedDoesNothing, TypingReplaces, LineRuns, SelectSets, CutMoves, PasteReplaces, PasteOfNothingCuts, SnarfCopies, SetSnarfSets, GetSnarfFetches, EmptyDotKeeps, LookSelects, LookKeeps, SearchSelects, SendRuns, DclickSelects, ScrollShows, ViewShows, LoadShows, CheckAndFlushKeep, OpenOpens, CloseDrops, WriteSaves, WorkSets, CommandFileOpens, NewMakes, ExitEnds, VersionAgrees};
-
-use sam_world::World;
 
 /// Says that wherever a run stands, what the world comes to with no new event of the user is what the events that have acted so far, in
 /// their order, do to the editor without a network. These are all events of the run but those that are still held; an event that is
@@ -24,17 +21,6 @@ pub fn runs_are_as_if_local()
     ensures rest { RestIsAsIfLocal }
     ensures one { OneRestForAll }
 {}
-
-/// Says of this world that a run led to it from some files, and that what it comes to is what the events of the user that have acted in
-/// that run do to the editor without a network. At rest both sides are where all of its events lead that editor, but for runes that are
-/// not loaded and for counts of messages.
-#[tactic(auto, using(crate::proofs::Runs::was_as_if_local, crate::proofs::Runs::ends_as_if_local))]
-pub fn world_is_as_if_local(world: &World)
-    ensures now { WasAsIfLocal world.now }
-    ensures rest { is_at_rest world.now ≡ true → EndsAsIfLocal world.now }
-{
-    world.facts();
-}
 
 /// Says that an event that something stands against changes nothing.
 #[tactic(auto, using(crate::proofs::Editing::refused_does_nothing))]

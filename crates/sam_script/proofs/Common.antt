@@ -28,5 +28,5 @@ unfoldable pub use Rattle.sam_script.specs.Words.{number_at, tag_alone, tag_and_
 pub use Rattle.sam_script.specs.declared.fault.ScriptFault.{ScriptFault}
 pub use Rattle.sam_script.specs.declared.line.Said.{Said}
 pub use Rattle.sam_term.specs.declared.event.UserEvent.{UserEvent}
-pub use Rattle.sam_world.specs.World.{PlainWorld, new_world, run_of, step_of}
-pub use Rattle.sam_world.specs.declared.event.Event.{Event}
+pub use Rattle.sam_crossing.specs.World.{PlainWorld, new_world, run_of, step_of}
+pub use Rattle.sam_crossing.specs.declared.event.Event.{Event}

@@ -1,8 +1,10 @@
 -- What replaying a script prints, and the script that bytes spell.
 use Rattle.std.specs.Prelude.{◌≡◌, ◌⊎◌, ℕ, if◌then◌else◌, List, [], ◌∷◌, ◌++◌, Option, Some, None, Result, Ok, Err}
-use Rattle.sam_world.specs.World.{PlainWorld, new_world, step_of, is_empty_take, drained, drain_limit}
-use Rattle.sam_world.specs.declared.event.Event.{Event}
-use Rattle.sam_world.specs.declared.event.Event.TheVariants as event
+use Rattle.sam_crossing.specs.World.{PlainWorld, new_world, step_of}
+use Rattle.sam_world.specs.Faults.{is_empty_take}
+use Rattle.sam_world.specs.Drain.{drained, drain_limit}
+use Rattle.sam_crossing.specs.declared.event.Event.{Event}
+use Rattle.sam_crossing.specs.declared.event.Event.TheVariants as event
 use Rattle.sam_script.specs.Script.{PlainScript}
 use Rattle.sam_script.specs.Show.{show_lines}
 use Rattle.sam_script.specs.Spelling.{Spells, IsWrongLine}

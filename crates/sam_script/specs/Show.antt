@@ -6,7 +6,7 @@ use Rattle.sam_text.specs.Files.{PlainFile}
 use Rattle.sam_term.specs.Sound.{unsent_length}
 use Rattle.sam_term.specs.declared.records.Window.{Window}
 use Rattle.sam_term.specs.declared.records.KnownFile.{KnownFile}
-use Rattle.sam_world.specs.World.{PlainWorld}
+use Rattle.sam_crossing.specs.World.{PlainWorld}
 
 -- a rune of a text, with backslash and newline escaped
 abbrev pub text_rune : ℕ → List ℕ

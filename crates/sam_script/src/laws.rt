@@ -3,8 +3,8 @@
 ghost use Rattle.std.specs.Prelude.{◌≡◌, ◌≤◌, ℕ, List, Some, Ok, length};
 ghost use Rattle.std.specs.List.{AllByRecursion};
 ghost use Rattle.sam_runes.specs.Texts.{most_files};
-ghost use Rattle.sam_world.specs.declared.event.Event.{Event};
-ghost use Rattle.sam_world.specs.World.{PlainWorld, new_world, run_of};
+ghost use Rattle.sam_crossing.specs.declared.event.Event.{Event};
+ghost use Rattle.sam_crossing.specs.World.{PlainWorld, new_world, run_of};
 ghost use Rattle.sam_script.specs.Replay.{replayed};
 ghost use Rattle.sam_script.specs.Show.{show_lines};
 ghost use Rattle.sam_script.specs.RunLines.{run_lines_of, run_script, CanBeNamed, CanBeWritten};

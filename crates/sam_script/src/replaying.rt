@@ -1,7 +1,7 @@
 //! Replays a script: its lines are done one after another, on one thread, over a world of its files.
 
 ghost use Rattle.std.specs.Prelude.{◌≡◌, ◌++◌, Ok, Err, IfOk, IfErr, OnOk, string_bytes};
-ghost use Rattle.sam_world.specs.World.{drained, drain_limit};
+ghost use Rattle.sam_world.specs.Drain.{drained, drain_limit};
 ghost use Rattle.sam_script.specs.Replay.{after_line, or_full, printed_by, stepped, replayed, IsReplay, IsReplayFault, IsStopOf};
 
 use crate::fault::ScriptFault;

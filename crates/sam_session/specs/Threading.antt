@@ -7,9 +7,8 @@ use Rattle.sam_script.specs.Show.{show_lines}
 use Rattle.sam_script.specs.Spelling.{IsWrongLine}
 use Rattle.sam_term.specs.declared.event.UserEvent.{UserEvent}
 use Rattle.sam_term.specs.declared.event.UserEvent.TheVariants.{Exit}
-use Rattle.sam_world.specs.Logs.{users}
-use Rattle.sam_world.specs.World.{PlainWorld, new_world, run_of, SidesAgree}
-use Rattle.sam_world.specs.declared.event.Event.{Event}
+use Rattle.sam_crossing.specs.World.{user_events, PlainWorld, new_world, run_of, SidesAgree}
+use Rattle.sam_crossing.specs.declared.event.Event.{Event}
 use Rattle.sam_spawn.specs.Session.{IsSession}
 use Rattle.sam_settle.specs.declared.settled.Settled.{Settled}
 use Rattle.sam_workers.specs.declared.stop.Stop.{Stop}
@@ -60,7 +59,7 @@ IsWoven keys clicks (event ∷ events) =
 -- the user's events are all those of the script's keyboard and mouse lines, and behind them at most one Exit of the terminal's own
 abbrev pub HasAllUsers : PlainScript → List Event → Type 0
 HasAllUsers script schedule =
-    (woven : List UserEvent) × (own : List UserEvent) × (users schedule ≡ woven ++ own)
+    (woven : List UserEvent) × (own : List UserEvent) × (user_events schedule ≡ woven ++ own)
     × IsWoven (keys_of script.lines) (mouse_of script.lines) woven × ((own ≡ []) ⊎ (own ≡ Exit ∷ []))
 
 -- a run from the script's files to this world, in which the user does all that the script says, and at whose end the session is over, no

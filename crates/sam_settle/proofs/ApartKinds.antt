@@ -10,7 +10,7 @@ use Rattle.sam_crossing.proofs.Versions.{IsPlain, plain_frames, reply_plain}
 use Rattle.sam_host.proofs.EachFrame.{reply_each}
 use Rattle.sam_term.specs.declared.event.Verdict.{Verdict}
 use Rattle.sam_term.proofs.Acts.{none_holds as none_at, test_at}
-use Rattle.sam_world.proofs.RunLaws.{counted-result}
+use Rattle.sam_crossing.proofs.RunLaws.{counted-result}
 use Rattle.sam_term.specs.Editing.{shown_from}
 use Rattle.sam_term.specs.declared.event.UserEvent.TheVariants.{Load}
 

@@ -4,7 +4,7 @@ use Rattle.sam_crossing.specs.Order.{InOrder, views}
 use Rattle.sam_crossing.specs.StreamVersions.{version_behind}
 use Rattle.sam_crossing.proofs.Composing.{not_done_ahead}
 use Rattle.sam_crossing.proofs.Streaming.{still_done}
-use Rattle.sam_world.specs.declared.event.Event.TheVariants.{User, Act, Flush, HostTake, TermTake}
+use Rattle.sam_crossing.specs.declared.event.Event.TheVariants.{User, Act, Flush, HostTake, TermTake}
 use Rattle.sam_world.specs.declared.event.TermLog.TheVariants as log
 use Rattle.sam_settle.proofs.ApartKinds.{act_turn, flush_turn, take_turn, answered as answer_is}
 

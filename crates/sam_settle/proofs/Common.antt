@@ -38,12 +38,13 @@ pub use Rattle.sam_workers.specs.WorkerEnds.{AreEnds, HostStopped, IsForeign, Is
 pub use Rattle.sam_workers.specs.declared.ends.Ends.{Ends}
 pub use Rattle.sam_workers.specs.declared.input.Input.{Input}
 pub use Rattle.sam_workers.specs.declared.input.Input.TheVariants.{Host, User}
-pub use Rattle.sam_world.proofs.OrderLaws.{host_never_refuses, quiet_means_agreement, reached_in_order, starts_in_order, steps_in_order, terminal_never_refuses, version_at_its_place}
+pub use Rattle.sam_crossing.proofs.OrderLaws.{host_never_refuses, quiet_means_agreement, reached_in_order, starts_in_order, steps_in_order, terminal_never_refuses, version_at_its_place}
 pub use Rattle.sam_world.proofs.ComesToSync.{FitsUnder, each_append, each_front, fits, settles, users_merged_from}
-pub use Rattle.sam_world.specs.Order.{IsInOrder, mesgs}
+pub use Rattle.sam_crossing.specs.RunOrder.{IsInOrder}
+pub use Rattle.sam_crossing.specs.World.{mesgs, PlainWorld, after_answer, composed_by, host_takes, new_world, run_of, step_of}
 pub use Rattle.sam_world.specs.Reached.{IsSoundWorld}
 pub use Rattle.sam_world.specs.Sides.{Counts, Each, HostRuns, Steps, TermRuns, World, if_given, answered, composed, host_take, run, step, term_take, world}
 pub use Rattle.sam_world.specs.Prefixes.{Begins}
-pub use Rattle.sam_world.specs.World.{PlainWorld, after_answer, composed_by, host_takes, is_bad_log, merged, new_world, run_of, step_of}
-pub use Rattle.sam_world.specs.declared.event.Event.{Event}
+pub use Rattle.sam_world.specs.Merging.{is_bad_log, merged}
+pub use Rattle.sam_crossing.specs.declared.event.Event.{Event}
 pub use Rattle.sam_world.specs.declared.event.TermLog.{TermLog}

@@ -15,11 +15,12 @@ use Rattle.sam_term.specs.Term.{PlainTerminal, new_terminal, take_of}
 use Rattle.sam_term.specs.declared.fault.TermFault.{TermFault}
 use Rattle.sam_term.specs.declared.fault.TermFault.TheVariants as fault
 use Rattle.sam_world.specs.declared.event.TermLog.{TermLog}
-use Rattle.sam_world.specs.Logs.{logged_users, users}
+use Rattle.sam_world.specs.Logs.{logged_users}
+use Rattle.sam_crossing.specs.World.{user_events, PlainWorld, new_world, run_of}
 use Rattle.sam_workers.specs.RealSides.{sides}
 use Rattle.sam_world.specs.Sides.{Each, HostRuns, TermRuns}
 use Rattle.sam_world.specs.Prefixes.{Begins}
-use Rattle.sam_world.specs.World.{PlainWorld, new_world, run_of, merged, is_bad_log}
+use Rattle.sam_world.specs.Merging.{merged, is_bad_log}
 
 -- A host of these files handled messages and answered frames; a terminal went through its log, took some frames and composed messages. The
 -- bytes of what the host handled begin those of what the terminal composed; the bytes of the frames that came through begin those of what
@@ -48,7 +49,7 @@ pub record Joined (given : List (List ℕ × List ℕ)) (entries : List TermLog)
   pub upwards : composed ≡ handled ++ world.up
   pub downwards : answered ≡ taken ++ world.down
   pub good : is_bad_log entries h.taken ≡ false
-  pub users_are : users (merged entries h.taken) ≡ logged_users entries
+  pub users_are : user_events (merged entries h.taken) ≡ logged_users entries
   pub composed_in_turn : FitInTurn terminal 1 composed
   pub answered_in_turn : FitInTurn host 1 answered
 

@@ -5,8 +5,8 @@ use Rattle.std.specs.Prelude.{◌≡◌, List, [], ◌∷◌, ◌++◌, Some, Ve
 use Rattle.std.specs.Global.{Global}
 use Rattle.sam_queue.specs.Views.{PostView, TakeView}
 use Rattle.sam_queue.specs.Audits.{AllAccounted, HasHistory}
-use Rattle.sam_world.specs.declared.event.Event.{Event}
-use Rattle.sam_world.specs.World.{PlainWorld, new_world, run_of, SidesAgreeWhereQuiet}
+use Rattle.sam_crossing.specs.declared.event.Event.{Event}
+use Rattle.sam_crossing.specs.World.{PlainWorld, new_world, run_of, SidesAgreeWhereQuiet}
 use Rattle.sam_workers.specs.declared.ends.Ends.{Ends}
 use Rattle.sam_settle.specs.declared.settled.Settled.{Settled}
 

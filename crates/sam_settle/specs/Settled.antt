@@ -10,10 +10,9 @@ use Rattle.sam_term.specs.declared.event.UserEvent.{UserEvent}
 use Rattle.sam_queue.specs.declared.rule.Entry.{Entry}
 use Rattle.sam_queue.specs.History.{items_of, has_left}
 use Rattle.sam_queue.specs.Views.{PostView, TakeView}
-use Rattle.sam_world.specs.Logs.{users}
+use Rattle.sam_crossing.specs.World.{user_events, is_quiet}
 use Rattle.sam_world.specs.Sides.{Each, HostRuns, TermRuns}
 use Rattle.sam_world.specs.Prefixes.{Begins}
-use Rattle.sam_world.specs.World.{is_quiet}
 use Rattle.sam_workers.specs.RealSides.{sides}
 use Rattle.sam_workers.specs.Inputs.{bytes_of, users_in}
 use Rattle.sam_workers.specs.WorkerEnds.{IsOwnExit}
@@ -124,7 +123,7 @@ pub record HasUsers (ends : Ends) (s : Settled) : Type 0 where
   pub dropped : List (Entry Input)
   pub own : List UserEvent
   pub took : ends.term.take.taken ≡ handled ++ dropped
-  pub events : users s.schedule.items ≡ users_in handled ++ own
+  pub events : user_events s.schedule.items ≡ users_in handled ++ own
   pub keyboard : Begins (items_of 0 handled) ends.keyboard.post.put
   pub mouse : Begins (items_of 1 handled) ends.mouse.post.put
   pub others : (frames : List HFrame) × (items_of 2 handled ≡ map Host frames)
@@ -134,7 +133,7 @@ pub record HasUsers (ends : Ends) (s : Settled) : Type 0 where
 
 -- all that keyboard and mouse have put is in the schedule, and both sides came to their end
 pub record IsWhole (ends : Ends) (s : Settled) : Type 0 where
-  pub events : (own : List UserEvent) × (users s.schedule.items ≡ users_in ends.term.take.taken ++ own) × IsOwnExit own ends.term.take.taken
+  pub events : (own : List UserEvent) × (user_events s.schedule.items ≡ users_in ends.term.take.taken ++ own) × IsOwnExit own ends.term.take.taken
   pub exited : s.world.term.has_exited ≡ true
   pub held : s.world.term.held ≡ []
   pub quiet : is_quiet s.world ≡ true

@@ -4,7 +4,8 @@ use Rattle.sam_host.specs.Host.{PlainHost}
 use Rattle.sam_term.specs.Term.{PlainTerminal}
 use Rattle.sam_queue.specs.Views.{LineView, sizes_of}
 use Rattle.sam_world.specs.declared.event.TermLog.{TermLog}
-use Rattle.sam_world.specs.World.{PlainWorld, new_world, run_of, merged, is_bad_log}
+use Rattle.sam_crossing.specs.World.{PlainWorld, new_world, run_of}
+use Rattle.sam_world.specs.Merging.{merged, is_bad_log}
 use Rattle.sam_settle.specs.Headline.{Gives}
 use Rattle.sam_settle.specs.Settled.{counts_left, stops_of}
 use Rattle.sam_workers.specs.declared.ends.Ends.{Ends}

@@ -3,11 +3,11 @@ ghost use Rattle.std.specs.Prelude.{◌≡◌, ◌+◌, ◌^◌, ◌<◌, ◌≤
 ghost use Rattle.sam_runes.specs.Texts.{most_files};
 ghost use Rattle.sam_world.specs.Given.{IsFile};
 ghost use Rattle.sam_world.specs.Reached.{IsSoundWorld};
-ghost use Rattle.sam_world.specs.World.{new_world, run_of, merged};
+ghost use Rattle.sam_crossing.specs.World.{new_world, run_of};
+ghost use Rattle.sam_world.specs.Merging.{merged};
 ghost use Rattle.sam_workers.specs.WorkerEnds.{AreEnds};
 ghost use Rattle.sam_settle.specs.Headline.{Gives, Headline};
-ghost use Rattle.sam_settle.specs.Settled.{left_in, counts_left, as_list, stops_of};
-ghost use Rattle.sam_settle.specs.Settled.{AreFull, HasStreams, HasUsers, IsDrained, IsWhole, MissesHost};
+ghost use Rattle.sam_settle.specs.Settled.{left_in, counts_left, as_list, stops_of, AreFull, HasStreams, HasUsers, IsDrained, IsWhole, MissesHost};
 ghost use Rattle.sam_settle.specs.Settling.{IsRoomFor, IsScheduled, IsPrepared, ComesTo, world_from};
 
 use crate::settled::{SettleFault, Settled};

@@ -2,7 +2,8 @@
 use Rattle.std.specs.Prelude.{◌≡◌, ℕ, [], map, Some, None}
 use Rattle.sam_script.specs.Script.{PlainScript, keys_of, mouse_of}
 use Rattle.sam_world.specs.Prefixes.{Begins}
-use Rattle.sam_world.specs.World.{new_world, run_of, merged}
+use Rattle.sam_crossing.specs.World.{new_world, run_of}
+use Rattle.sam_world.specs.Merging.{merged}
 use Rattle.sam_workers.specs.Lines.{LinesView}
 use Rattle.sam_workers.specs.WorkerEnds.{Told, AllPassed, GatesTold}
 use Rattle.sam_settle.specs.Headline.{Headline}

@@ -1,7 +1,7 @@
 //! Runs of a world, and a world of two sides.
 
 ghost use Rattle.std.specs.Prelude.{◌≡◌, true};
-ghost use Rattle.sam_world.specs.World.{is_quiet};
+ghost use Rattle.sam_crossing.specs.World.{is_quiet};
 
 use sam_runes::{Runes, Text};
 use sam_term::UserEvent;

@@ -41,5 +41,5 @@ pub use Rattle.sam_workers.specs.declared.input.Input.{Input}
 pub use Rattle.sam_workers.specs.declared.stop.Stop.{Stop}
 pub use Rattle.sam_world.proofs.ComesToSync.{each_append, host_more, term_more}
 pub use Rattle.sam_world.specs.Sides.{Counts, Each, TermRuns, World, run, step}
-pub use Rattle.sam_world.specs.World.{PlainWorld, composed_by, run_of, step_of}
+pub use Rattle.sam_crossing.specs.World.{PlainWorld, composed_by, run_of, step_of}
 pub use Rattle.sam_world.specs.declared.event.TermLog.{TermLog}

@@ -5,9 +5,9 @@ use Rattle.sam_mesg.proofs.TerminalLaws as upwards
 use Rattle.sam_mesg.proofs.HostLaws as downwards
 use Rattle.sam_frame.specs.Reading.{IsSound}
 use Rattle.sam_host.proofs.SoundLaws.{answers_are_counted}
-use Rattle.sam_world.specs.declared.event.Event.{Event}
+use Rattle.sam_crossing.specs.declared.event.Event.{Event}
 use Rattle.sam_world.proofs.Carries.{PrefixFree}
-use Rattle.sam_world.proofs.RunLaws.{act-counts, flush-counts, take-counts}
+use Rattle.sam_crossing.proofs.RunLaws.{act-counts, flush-counts, take-counts}
 
 -- ## What a step of the sides was
 

@@ -6,7 +6,7 @@ use Rattle.sam_host.specs.Host.{PlainHost, answer}
 use Rattle.sam_term.specs.Term.{PlainTerminal, act_of, flush_of, take_of}
 use Rattle.sam_term.specs.declared.fault.TermFault.{TermFault}
 use Rattle.sam_term.specs.declared.event.Acted.{Acted}
-use Rattle.sam_world.specs.World.{composed_by}
+use Rattle.sam_crossing.specs.World.{composed_by}
 use Rattle.sam_world.specs.Sides.{Steps}
 
 -- what was answered or composed, and none at a refusal

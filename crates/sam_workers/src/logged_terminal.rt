@@ -3,7 +3,7 @@
 ghost use Rattle.std.specs.Prelude.{◌≡◌, ◌⊎◌, [], ◌∷◌, ◌<◌, IsTrue, IfOk, IfErr, OnOk, OnErr, Ok, Some, None, is_some};
 ghost use Rattle.sam_mesg.specs.HostKinds.{fits_h};
 ghost use Rattle.sam_term.specs.Term.{new_terminal, act_of, take_of};
-ghost use Rattle.sam_world.specs.World.{composed_by};
+ghost use Rattle.sam_crossing.specs.World.{composed_by};
 ghost use Rattle.sam_workers.specs.Inputs.{frame_of_load, user_of_load};
 ghost use Rattle.sam_workers.specs.Numbers.{fault_number};
 ghost use Rattle.sam_workers.specs.WorkerEnds.{IsFullUp};

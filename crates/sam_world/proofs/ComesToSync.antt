@@ -3,8 +3,9 @@ use Rattle.sam_world.proofs.Common.{◌≡◌, ℕ, zero, suc, ◌+◌, ◌-◌,
 use Rattle.std.specs.Prelude.{⊤}
 use Rattle.sam_world.specs.declared.event.TermLog.{TermLog}
 use Rattle.sam_world.specs.declared.event.TermLog.TheVariants as log
-use Rattle.sam_world.specs.declared.event.Event.TheVariants as event
-use Rattle.sam_world.specs.Logs.{takes, logged_users, users}
+use Rattle.sam_crossing.specs.declared.event.Event.TheVariants as event
+use Rattle.sam_world.specs.Logs.{takes, logged_users}
+use Rattle.sam_crossing.specs.World.{user_events}
 
 -- no Take is above n
 abbrev pub EntryFits : TermLog → ℕ → Type 0
@@ -34,12 +35,12 @@ module _ {X : Type 0} where
   front [] ys z zs e = inl (refl, e)
   front (x ∷ xs) ys z zs e = grind arith
 
-users_takes : (n : ℕ) (es : List Event) → users (replicate n event.HostTake ++ es) ≡ users es
+users_takes : (n : ℕ) (es : List Event) → user_events (replicate n event.HostTake ++ es) ≡ user_events es
 users_takes zero es = refl
 users_takes (suc n) es = users_takes n es
 
 -- the schedule has the log's user events, in order
-pub users_merged_from : (done : ℕ) (es : List TermLog) (n : ℕ) → users (merged_from done es n) ≡ logged_users es
+pub users_merged_from : (done : ℕ) (es : List TermLog) (n : ℕ) → user_events (merged_from done es n) ≡ logged_users es
 users_merged_from done [] n = grind (arith, (append-nil (replicate (n - done) event.HostTake)), (users_takes (n - done)))
 users_merged_from done (e ∷ es) n = grind (arith, append_assoc, users_takes, (λ (k : ℕ). users_merged_from k es n))
 

@@ -4,7 +4,7 @@ use Rattle.sam_host.specs.declared.fault.HostFault.TheVariants as host
 use Rattle.sam_term.specs.declared.fault.TermFault.TheVariants as term
 use Rattle.sam_world.specs.Counts.{FullCountsStop}
 use Rattle.sam_world.proofs.Keeping.{first_rest}
-use Rattle.sam_world.proofs.OrderLaws.{starts_in_order, runs_in_order, host_never_refuses, terminal_never_refuses, quiet_means_agreement, free_means_one_version, free_means_ahead}
+use Rattle.sam_crossing.proofs.OrderLaws.{starts_in_order, runs_in_order, host_never_refuses, terminal_never_refuses, quiet_means_agreement, free_means_one_version, free_means_ahead}
 
 pub order_of : (w : PlainWorld) → WasReached w → IsInOrder w
 order_of w r = runs_in_order (new_world r.given) w r.reached.0 (starts_in_order r.given r.limits) r.reached.1

@@ -1,7 +1,7 @@
 -- In every state of every run, what is under way is within the limits; and one step more is a run.
 use Rattle.sam_world.proofs.Common.{◌≡◌, List, [], ◌∷◌, ◌++◌, Some, Ok, arith, All, IsTrue, PlainHost, answer, IsSound, starts_sound, stays_sound, frames_fit, fits_h, HFrame, Tmesg, PlainWorld, new_world, step_of, run_of, WasReached, Event}
 use Rattle.sam_host.proofs.FrameFits.{fit_in_last}
-use Rattle.sam_world.proofs.RunLaws.{run_keeps}
+use Rattle.sam_crossing.proofs.RunLaws.{run_keeps}
 
 -- ## One step more is a run
 

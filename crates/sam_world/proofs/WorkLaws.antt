@@ -2,7 +2,7 @@
 use Rattle.sam_world.proofs.Common.{◌≡◌, refl, ap, ◌∙◌, ℕ, true, List, Option, None, arith, unwrap_or, first_of_checks, slot-put_same, slot-map, slot-free_other, opened_file, PlainFile, PlainFiles, PlainOutcome, blank_file, file_at, put_file, put_outcome, committed, answer_is, of_answer, PlainHost, host_checks, reply_to, Tmesg, HFrame, PlainWorld, new_world, WasReached, IsWorkOpen, AddedFilesKeepWorkOpen, AnswersKeepWorkOpen}
 use Rattle.sam_text.specs.Files.{announce_all}
 use Rattle.sam_host.proofs.Keeping.{IsKept, reply_keeps}
-use Rattle.sam_world.proofs.RunLaws.{run_keeps}
+use Rattle.sam_crossing.proofs.RunLaws.{run_keeps}
 use Rattle.sam_world.proofs.TextLaws.{file_at-put, not-new, work-put}
 use Rattle.sam_world.proofs.Within.{host_step}
 

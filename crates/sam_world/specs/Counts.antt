@@ -8,9 +8,9 @@ use Rattle.sam_host.specs.declared.fault.HostFault.TheVariants as host
 use Rattle.sam_term.specs.Term.{PlainTerminal, act_of, flush_of, take_of}
 use Rattle.sam_term.specs.declared.fault.TermFault.{TermFault}
 use Rattle.sam_term.specs.declared.fault.TermFault.TheVariants as term
-use Rattle.sam_world.specs.World.{PlainWorld, step_of}
-use Rattle.sam_world.specs.declared.event.Event.{Event}
-use Rattle.sam_world.specs.declared.event.Event.TheVariants.{User, Act, Flush, HostTake, TermTake}
+use Rattle.sam_crossing.specs.World.{PlainWorld, step_of}
+use Rattle.sam_crossing.specs.declared.event.Event.{Event}
+use Rattle.sam_crossing.specs.declared.event.Event.TheVariants.{User, Act, Flush, HostTake, TermTake}
 
 -- the terminal would compose more messages than can be counted
 abbrev pub is_term_full : {A : Type 0} → Result A TermFault → Bool

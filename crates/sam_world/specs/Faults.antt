@@ -1,15 +1,24 @@
 -- Why a step of the world is not made.
-use Rattle.std.specs.Prelude.{◌≡◌, ◌⊎◌, ◌<◌, ℕ, true, false, List, length, take, slice_get, Some, IfSome, MatchOption}
+use Rattle.std.specs.Prelude.{◌≡◌, ◌⊎◌, ◌<◌, ℕ, Bool, true, false, List, length, take, slice_get, Some, IfSome, MatchOption}
+use Rattle.sam_runes.specs.Texts.{is_empty}
 use Rattle.sam_host.specs.declared.fault.HostFault.{HostFault}
 use Rattle.sam_host.specs.declared.fault.HostFault.TheVariants as host
 use Rattle.sam_term.specs.declared.fault.TermFault.{TermFault}
 use Rattle.sam_term.specs.declared.fault.TermFault.TheVariants as term
-use Rattle.sam_world.specs.World.{PlainWorld, is_empty_take, step_of, run_of, next_event, drained}
+use Rattle.sam_crossing.specs.World.{PlainWorld, step_of, run_of}
+use Rattle.sam_world.specs.Drain.{next_event, drained}
 use Rattle.sam_world.specs.Counts.{passes_count}
-use Rattle.sam_world.specs.declared.event.Event.{Event}
+use Rattle.sam_crossing.specs.declared.event.Event.{Event}
+use Rattle.sam_crossing.specs.declared.event.Event.TheVariants.{HostTake, TermTake}
 use Rattle.sam_world.specs.declared.event.RunStop.{RunStop}
 use Rattle.sam_world.specs.declared.event.StepFault.{StepFault}
 use Rattle.sam_world.specs.declared.event.StepFault.TheVariants.{NothingThere, OutOfMemory, CountFull}
+
+-- a take, from an empty list
+abbrev pub is_empty_take : PlainWorld → Event → Bool
+is_empty_take w HostTake = is_empty w.up
+is_empty_take w TermTake = is_empty w.down
+is_empty_take w _ = false
 
 -- a fault of the terminal, and the fault of the step that it stops
 abbrev pub IsTermStop : TermFault → StepFault → Type 0

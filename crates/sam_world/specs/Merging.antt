@@ -1,9 +1,11 @@
--- One entry of a terminal's log by itself.
-use Rattle.std.specs.Prelude.{ℕ, ◌-◌, max, Bool, false, nat_lt, List, [], ◌∷◌, ◌++◌, replicate}
-use Rattle.sam_world.specs.declared.event.Event.{Event}
-use Rattle.sam_world.specs.declared.event.Event.TheVariants.{User, Act, Flush, HostTake, TermTake}
+-- How a terminal's log becomes a schedule of both sides.
+use Rattle.std.specs.Prelude.{ℕ, ◌-◌, max, Bool, false, ◌||◌, nat_lt, List, [], ◌∷◌, ◌++◌, replicate}
+use Rattle.sam_crossing.specs.declared.event.Event.{Event}
+use Rattle.sam_crossing.specs.declared.event.Event.TheVariants.{User, Act, Flush, HostTake, TermTake}
 use Rattle.sam_world.specs.declared.event.TermLog.{TermLog}
 use Rattle.sam_world.specs.declared.event.TermLog.TheVariants as log
+
+-- ## One entry by itself
 
 -- the events that an entry stands for where the host has taken so many messages
 abbrev pub events_of : ℕ → TermLog → List Event
@@ -23,3 +25,18 @@ done_after done (log.Take k) = max done k
 abbrev pub is_bad_entry : TermLog → ℕ → Bool
 is_bad_entry (log.Take k) n = nat_lt n k
 is_bad_entry _ n = false
+
+-- ## The whole log
+
+-- before each Take(k), HostTakes until k are done, then the TermTake; the rest of the n HostTakes at the end
+abbrev pub merged_from : ℕ → List TermLog → ℕ → List Event
+merged_from done [] n = replicate (n - done) HostTake
+merged_from done (entry ∷ entries) n = events_of done entry ++ merged_from (done_after done entry) entries n
+
+abbrev pub merged : List TermLog → ℕ → List Event
+merged entries n = merged_from 0 entries n
+
+-- some Take is above n
+abbrev pub is_bad_log : List TermLog → ℕ → Bool
+is_bad_log [] n = false
+is_bad_log (entry ∷ entries) n = is_bad_entry entry n || is_bad_log entries n

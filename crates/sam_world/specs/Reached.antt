@@ -1,15 +1,8 @@
 -- The worlds that there are: those that a run leads to.
-use Rattle.std.specs.Prelude.{ℕ, List, All, IsTrue}
+use Rattle.std.specs.Prelude.{All, IsTrue}
 use Rattle.sam_mesg.specs.TerminalKinds.{fits_t}
 use Rattle.sam_mesg.specs.HostKinds.{fits_h}
-use Rattle.sam_host.specs.Laws.{AreGiven}
-use Rattle.sam_world.specs.World.{PlainWorld, IsReached}
-
--- a run leads from files within the limits to this world
-pub record WasReached (w : PlainWorld) : Type 0 where
-  pub given : List (List ℕ × List ℕ)
-  pub limits : AreGiven given
-  pub reached : IsReached given w
+use Rattle.sam_crossing.specs.World.{PlainWorld, WasReached}
 
 -- What is kept of every world: a run led to it, and all that is under way is within the limits of messages.
 pub record IsSoundWorld (w : PlainWorld) : Type 0 where

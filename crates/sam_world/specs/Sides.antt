@@ -3,8 +3,8 @@ use Rattle.std.specs.Prelude.{◌≡◌, ℕ, ◌+◌, ◌≤◌, List, [], ◌�
 use Rattle.sam_term.specs.declared.event.UserEvent.{UserEvent}
 use Rattle.sam_world.specs.declared.event.TermLog.{TermLog}
 use Rattle.sam_world.specs.declared.event.TermLog.TheVariants as log
-use Rattle.sam_world.specs.declared.event.Event.{Event}
-use Rattle.sam_world.specs.declared.event.Event.TheVariants as event
+use Rattle.sam_crossing.specs.declared.event.Event.{Event}
+use Rattle.sam_crossing.specs.declared.event.Event.TheVariants as event
 
 -- P holds of each member
 abbrev pub Each : {X : Type 0} → (X → Type 0) → List X → Type 0

@@ -4,7 +4,7 @@ ghost use Rattle.std.specs.Prelude.{◌≡◌, ◌≤◌, IfOk, All, length};
 ghost use Rattle.sam_runes.specs.Texts.{most_files};
 ghost use Rattle.sam_host.specs.Given.{AreNames, given_of};
 ghost use Rattle.sam_world.specs.Given.{AreShort, IsFile};
-ghost use Rattle.sam_world.specs.World.{new_world};
+ghost use Rattle.sam_crossing.specs.World.{new_world};
 
 use crate::world::World;
 use sam_runes::{Runes, Text, TextFault};

@@ -1,8 +1,7 @@
 //! How a terminal's log becomes a schedule of both sides.
 
 ghost use Rattle.std.specs.Prelude.{◌≡◌, ◌++◌, ◌↔◌, ℕ, IfOk, OnOk, Err, IsTrue, replicate, true, not};
-ghost use Rattle.sam_world.specs.World.{merged, is_bad_log};
-ghost use Rattle.sam_world.specs.Merging.{events_of, done_after, is_bad_entry};
+ghost use Rattle.sam_world.specs.Merging.{merged, is_bad_log, events_of, done_after, is_bad_entry};
 
 use crate::event::{Event, TermLog};
 use std::alloc::{AllocError, Global};

@@ -1,4 +1,4 @@
-use Rattle.sam_world.proofs.OrderLaws as laws
+use Rattle.sam_crossing.proofs.OrderLaws as laws
 use Rattle.sam_world.proofs.laws.neither_side_refuses.Goals as goal
 
 pub returns-clause-host : goal.returns-clause-host

@@ -1,4 +1,4 @@
-use Rattle.sam_world.proofs.OrderLaws as laws
+use Rattle.sam_crossing.proofs.OrderLaws as laws
 use Rattle.sam_world.proofs.laws.runs_stay_in_order.Goals as goal
 
 pub returns-clause-run : goal.returns-clause-run

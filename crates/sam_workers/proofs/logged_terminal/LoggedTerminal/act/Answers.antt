@@ -1,5 +1,5 @@
 use Rattle.std.proofs.Common.{arith}
-use Rattle.sam_world.proofs.OrderLaws.{only_counts_stop}
+use Rattle.sam_crossing.proofs.OrderLaws.{only_counts_stop}
 use Rattle.sam_workers.proofs.logged_terminal.LoggedTerminal.act.Goals as goal
 
 pub returns-in-Err-clause-refused : goal.returns-in-Err-clause-refused

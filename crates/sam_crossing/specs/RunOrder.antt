@@ -1,5 +1,5 @@
 -- What is kept in order in every state of a run, and what follows from it.
-use Rattle.std.specs.Prelude.{◌≡◌, ℕ, ◌+◌, ◌≤◌, ◌==◌, false, List, [], ◌∷◌, length, map, Some, Ok, Err}
+use Rattle.std.specs.Prelude.{◌≡◌, ℕ, ◌+◌, ◌≤◌, ◌==◌, false, List, [], ◌∷◌, length, Some, Ok, Err}
 use Rattle.sam_runes.specs.Texts.{most_count}
 use Rattle.sam_host.specs.Host.{answer}
 use Rattle.sam_host.specs.Laws.{AreGiven}
@@ -13,12 +13,11 @@ use Rattle.sam_term.specs.declared.event.Acted.TheVariants.{Locked}
 use Rattle.sam_term.specs.declared.lock.Lock.TheVariants.{FileLock}
 use Rattle.sam_term.specs.declared.fault.TermFault.TheVariants as fault
 use Rattle.sam_mesg.specs.declared.tmesg.Tmesg.{Tmesg}
-use Rattle.sam_mesg.specs.declared.hmesg.Hmesg.{Hmesg}
 use Rattle.sam_mesg.specs.declared.hmesg.HFrame.{HFrame}
 use Rattle.sam_crossing.specs.Order.{InOrder}
 use Rattle.sam_crossing.specs.StreamVersions.{version_behind}
-use Rattle.sam_world.specs.World.{PlainWorld, new_world, step_of, run_of, IsReached, is_locked, SidesAgreeWhereQuiet, IsAhead, HasOneVersion}
-use Rattle.sam_world.specs.declared.event.Event.{Event}
+use Rattle.sam_crossing.specs.World.{PlainWorld, mesgs, new_world, step_of, run_of, IsReached, is_locked, SidesAgreeWhereQuiet, IsAhead, HasOneVersion}
+use Rattle.sam_crossing.specs.declared.event.Event.{Event}
 
 -- each frame saw at most n messages
 abbrev pub Stamped : ℕ → List HFrame → Type 0
@@ -29,9 +28,6 @@ Stamped n (frame ∷ frames) = (frame.seen ≤ n) × Stamped n frames
 pub record IsCounted (w : PlainWorld) : Type 0 where
   pub all : w.host.taken + length w.up ≡ w.term.sent
   pub stamps : Stamped w.host.taken w.down
-
-abbrev pub mesgs : List HFrame → List Hmesg
-mesgs frames = map (λ (frame : HFrame). frame.msg) frames
 
 -- messages and frames are counted, and once all that is under way was handled, with nothing new begun, no lock is held and both
 -- sides agree
@@ -104,3 +100,9 @@ OthersGoOn =
     (t u : PlainTerminal) (e : UserEvent) (es : List UserEvent) → t.held ≡ e ∷ es
     → t.command_lock ≡ false → is_file_locked t (file_of e) ≡ false → waits_for_all e ≡ false → act_of t ≡ Ok (u, Locked)
     → ⊥
+
+-- the first frame that is under way to the terminal saw no more messages than the terminal has sent
+abbrev pub IsNeverFromTheFuture : Type 0
+IsNeverFromTheFuture =
+    (given : List (List ℕ × List ℕ)) (w : PlainWorld) (frame : HFrame) (frames : List HFrame)
+    → IsReached given w → w.down ≡ frame ∷ frames → frame.seen ≤ w.term.sent

@@ -1,9 +1,17 @@
 -- Every run keeps both sides in order; so neither refuses the other, and they agree wherever nothing is under way.
-use Rattle.sam_world.proofs.Common.{◌≡◌, ℕ, ◌+◌, ◌≤◌, false, ◌==◌, List, [], ◌∷◌, ◌++◌, length, Option, Some, None, Ok, Err, eqb-true, arith, length-append, unwrap_or, map-append, most_count, first_of_checks, PlainHost, Reply, answer, counted, stamped, HostFault, window_at, PlainTerminal, Made, act_of, decided, flush_of, flushed, take_of, frame_outcome, frame_checks, known_at, put_window, blank_window, Verdict, Acted, TermFault, UserEvent, Tmesg, Hmesg, HFrame, new_world, PlainWorld, composed_by, step_of, host_after_all, mesgs, IsInOrder, StartsInOrder, StepsInOrder, RunsInOrder, HostNeverRefuses, TerminalNeverRefuses, OnlyCountsStop, QuietMeansAgreement, FreeMeansAhead, FreeMeansOneVersion, ReachedInOrder, FreeMeansVersionAtPlace, OthersStayFree, Event, TermTake}
+use Rattle.sam_crossing.proofs.Common.{◌≡◌, ℕ, ◌+◌, ◌≤◌, false, ◌==◌, List, [], ◌∷◌, ◌++◌, length, Option, Some, None, Ok, eqb-true, arith, length-append, unwrap_or, map-append, most_count, first_of_checks, PlainHost, Reply, answer, stamped, HostFault, window_at, PlainTerminal, Made, flushed, frame_outcome, frame_checks, known_at, put_window, blank_window, TermFault, UserEvent, Tmesg, Hmesg}
+use Rattle.std.proofs.Common.{Err}
+use Rattle.sam_term.specs.Term.{act_of, decided, flush_of, take_of}
+use Rattle.sam_term.specs.declared.event.Verdict.{Verdict}
+use Rattle.sam_term.specs.declared.event.Acted.{Acted}
+use Rattle.sam_mesg.specs.declared.hmesg.HFrame.{HFrame}
+use Rattle.sam_crossing.specs.World.{new_world, PlainWorld, composed_by, step_of, host_after_all, mesgs}
+use Rattle.sam_crossing.specs.RunOrder.{IsInOrder, StartsInOrder, StepsInOrder, RunsInOrder, HostNeverRefuses, TerminalNeverRefuses, OnlyCountsStop, QuietMeansAgreement, FreeMeansAhead, FreeMeansOneVersion, ReachedInOrder, FreeMeansVersionAtPlace, OthersStayFree}
+use Rattle.sam_crossing.specs.declared.event.Event.{Event}
+use Rattle.sam_crossing.specs.declared.event.Event.TheVariants.{TermTake}
 use Rattle.sam_host.specs.declared.fault.HostFault.TheVariants as hostfault
 use Rattle.sam_term.specs.declared.records.Window.{Window}
 use Rattle.sam_term.specs.declared.records.KnownFile.{KnownFile}
-use Rattle.sam_term.specs.declared.fault.Refusal.TheVariants as refusal
 use Rattle.sam_term.specs.declared.fault.TermFault.TheVariants as fault
 use Rattle.sam_crossing.specs.Fold.{answers, reply_of}
 use Rattle.sam_crossing.specs.Order.{InOrder}
@@ -12,11 +20,11 @@ use Rattle.sam_crossing.proofs.Passing.{passed, held_passed, free_at}
 use Rattle.sam_crossing.proofs.Sending.{nothing_goes, flushed_goes}
 use Rattle.sam_crossing.proofs.Acting.{event_goes}
 use Rattle.sam_crossing.proofs.Receiving.{received}
-use Rattle.sam_crossing.proofs.Ordered.{HostGoes, host_goes, msgs_stamped, answer_is, free_shows, quiet_settles}
+use Rattle.sam_crossing.proofs.Ordered.{HostGoes, host_goes, mesgs_stamped, answer_is, free_shows, quiet_settles}
 use Rattle.sam_crossing.proofs.Starting.{starts}
 use Rattle.sam_crossing.proofs.Streaming.{one_version, version_at_place}
 use Rattle.sam_term.proofs.TermLaws.{known-put}
-use Rattle.sam_world.proofs.RunLaws.{run_keeps, act_is, counted-start, counted_step, answer-counts, counted-result}
+use Rattle.sam_crossing.proofs.RunLaws.{run_keeps, act_is, counted-start, counted_step, answer-counts, counted-result}
 
 -- ## The start
 
@@ -48,7 +56,7 @@ answer_full : (h : PlainHost) (m : Tmesg) (x : Reply) (why : HostFault) → repl
 unfolding answer
 answer_full h m x why a e = grind (arith, answer_is, eqb-true)
 
-answer_gives : (h : PlainHost) (m : Tmesg) (x : Reply) (r : PlainHost × List HFrame) → reply_of h m ≡ Some x → answer h m ≡ Ok r → r ≡ (x.0, stamped x.0.taken x.1)
+pub answer_gives : (h : PlainHost) (m : Tmesg) (x : Reply) (r : PlainHost × List HFrame) → reply_of h m ≡ Some x → answer h m ≡ Ok r → r ≡ (x.0, stamped x.0.taken x.1)
 unfolding answer
 answer_gives h m x r a e = grind (arith, answer_is)
 
@@ -56,7 +64,7 @@ answer_goes : (h : PlainHost) (t : PlainTerminal) (m : Tmesg) (up : List Tmesg) 
     → InOrder h t (m ∷ up) (mesgs down) → answer h m ≡ Ok r → InOrder r.0 t up (mesgs (down ++ r.1))
 answer_goes h t m up down r o e =
     let g : HostGoes h t m up (mesgs down) = host_goes h t m up (mesgs down) o in
-    rw (answer_gives h m g.reply r g.answers_it e, map-append, msgs_stamped) g.next
+    rw (answer_gives h m g.reply r g.answers_it e, map-append, mesgs_stamped) g.next
 
 -- ## Every step
 

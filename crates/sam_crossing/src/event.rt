@@ -1,0 +1,36 @@
+//! The events of a world.
+
+ghost use Rattle.std.specs.Prelude.{◌≡◌, IfOk};
+
+use sam_term::event::UserEvent;
+use std::alloc::{AllocError, Global};
+
+/// What happens next in a world. Each event is one step, and a run of a world is a list of them. `World::step` of sam_world makes one happen.
+#[derive(Drop)]
+pub enum Event {
+    /// The user does something: the terminal holds this behind the events that it holds already, and does nothing else yet.
+    User(UserEvent),
+    /// The terminal tries its oldest held event. Where it holds none, or a lock holds the oldest back, this changes nothing.
+    Act,
+    /// The terminal composes its unsent runes as one message. Where nothing is unsent, this changes nothing.
+    Flush,
+    /// The host handles the oldest message that is under way to it, and its answer goes under way. Not a step if there is none.
+    HostTake,
+    /// The terminal handles the oldest frame that is under way to it, and may compose messages for it. Not a step if there is none.
+    TermTake,
+}
+
+impl Event {
+    /// Returns a copy of the event. The only error is want of memory.
+    pub fn copy(&self, alloc: Global) -> Result<Event, AllocError>
+        ensures { IfOk result (λ e. e ≡ self.now) }
+    {
+        match self {
+            Event::User(e) => Ok(Event::User(e.copy(alloc)?)),
+            Event::Act => Ok(Event::Act),
+            Event::Flush => Ok(Event::Flush),
+            Event::HostTake => Ok(Event::HostTake),
+            Event::TermTake => Ok(Event::TermTake),
+        }
+    }
+}
