@@ -106,7 +106,7 @@ pub sync_close : (h : PlainHost) → Ready h → (f : ℕ) → Accepted h (Tclos
 unfolding reply_close
 sync_close h r f met = grind (arith, file_in-free, close_there)
 
--- a file that was not open: the frames u take its slot to an open one, and those behind tell of its text
+-- a file that was not open: the frames u take its slot to an open one, and those after tell of its text
 opens : (h : PlainHost) (fs : PlainFiles) (f : ℕ) (front back : List Hmesg) (u : List Action) (x : HFile) (first : Slot) (t : List ℕ) → HasFiles h.files → file_in h.files.slots f ≡ x
     → ((s : Slot) → Fits_slot s x → s ≡ first) → ((d : Bool) (n : ℕ) → run u (lens true d n first) ≡ Some (lens true d n (Open [] 0))) → closes u ≡ false → (x ≡ Gone → ⊥)
     → ((g : ℕ) → at_file g front ≡ map (only (g == f)) u) → Told f back [] t → ((g : ℕ) → file_in fs.slots g ≡ put (file_in h.files.slots) f (Opened t) g)

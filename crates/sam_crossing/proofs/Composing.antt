@@ -1,4 +1,4 @@
--- What the terminal may compose, the host will accept, and its answer is carried behind what is under way.
+-- What the terminal may compose, the host will accept, and its answer is carried after what is under way.
 use Rattle.sam_crossing.proofs.Common.{◌≡◌, ℕ, ◌+◌, ◌≤◌, false, List, [], ◌∷◌, ◌++◌, length, Option, arith, Agrees, length_agrees, max_runes, PlainFiles, file_at, Tmesg, Tversion, Hmesg, PlainHost, Lens, OpenAt, Anything, file_in, at_file, AllComeToSync}
 use Rattle.sam_crossing.proofs.Lenses.{IsFree, exited_of, command_of}
 use Rattle.sam_crossing.proofs.Changes.{Need, Startable, CanMeet, change_by, changed, Within, IsAllowed, CanCompose}

@@ -20,7 +20,7 @@ pub no_close_behind : (u rest : List Action) → closes u ≡ false → closes r
 no_close_behind [] rest e f = f
 no_close_behind (a ∷ u) rest e f = grind (arith, (no_close_behind u rest))
 
--- what frees a lock stands behind actions that close nothing
+-- what frees a lock stands after actions that close nothing
 pub kept_then : (u rest : List Action) (v mid final : Lens) (d : Bool) (n : ℕ) (file : HFile) → run u v ≡ Some mid → closes u ≡ false → run rest mid ≡ Some final → IsSynced final d n file
     → frees rest ≡ true → guard_holds rest ≡ true → closes rest ≡ false → ComesToSync (u ++ rest) v d n file
 kept_then u rest v mid final d n file r c r2 s f g c2 =

@@ -81,7 +81,7 @@ ended : (g : ℕ) (q : Bool) (u : List Action) (d : Bool) (n : ℕ) (s : Slot) (
 ended g true u d n s file e m = exits_kept u d n s file m
 ended g false u d n s file e m = subst (λ (x : Bool). ComesToSync (u ++ Free_command ∷ []) (lens true d n s) x n file) e (unlocks u d n s file m)
 
--- behind frames that lead to the files fs, the line leads on
+-- after frames that lead to the files fs, the line leads on
 line_runs : (h : PlainHost) (fs : PlainFiles) (before : List Hmesg) (line : List ℕ) → HasFiles fs → AreFit fs
     → Carries h.is_done h.version (file_in h.files.slots) before (file_in fs.slots) → h.is_done ≡ false
     → Unlocked h (reply_line (with_files h fs) before line)

@@ -13,7 +13,7 @@ pub record Ends (acts : List Action) (c e : Bool) (n : ℕ) (r : List (Option �
   pub is : run acts (lens c e n (Open r k)) ≡ Some (lens c e n (Open rasp k))
   pub agrees : Agrees rasp t
 
--- what agrees with t agrees with t2 behind them
+-- what agrees with t agrees with t2 after them
 pub record Rewrites (acts : List Action) (t t2 : List ℕ) : Type 0 where
   pub runs : (c e : Bool) (n : ℕ) (r : List (Option ℕ)) (k : ℕ) → Agrees r t → Ends acts c e n r k t2
   pub no_close : closes acts ≡ false

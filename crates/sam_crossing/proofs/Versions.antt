@@ -1,4 +1,4 @@
--- The two sides have the same version wherever the command lock is free: behind each Hversion stands an Hunlock.
+-- The two sides have the same version wherever the command lock is free: after each Hversion stands an Hunlock.
 use Rattle.sam_crossing.proofs.Common.{◌≡◌, ℕ, true, false, List, [], ◌∷◌, ◌++◌, refl, arith, Tmesg, Tversion, Hmesg, reply_version, reply_startsnarf, PlainHost, reply_to, at_file, unlocks_command, is_version, VersionsGuarded}
 use Rattle.sam_host.proofs.EachFrame.{EachFrame, AreFrames, reply_each}
 use Rattle.sam_crossing.proofs.Lenses.{changes, frees_command}

@@ -32,7 +32,7 @@ answers h [] = Some (h, [])
 answers h (m ∷ ms) = replied_then (reply_of h m) (λ k. answers k ms)
 
 -- Once all that is under way was handled and nothing new was begun, no lock is held and the two sides agree. `views` is what
--- the terminal shows of each file, `line` what is under way to the host with the unsent runes behind it, `down` what is under way
+-- the terminal shows of each file, `line` what is under way to the host with the unsent runes after it, `down` what is under way
 -- to the terminal
 pub record AllComeToSync (h : PlainHost) (views : ℕ → Lens) (line : List Tmesg) (down : List Hmesg) : Type 0 where
   pub ahead : PlainHost  -- the host once it has handled all

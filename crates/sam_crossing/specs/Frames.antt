@@ -51,7 +51,7 @@ abbrev pub is_version : Hmesg → Bool
 is_version (Hversion v) = true
 is_version _ = false
 
--- behind each Hversion stands an Hunlock
+-- after each Hversion stands an Hunlock
 abbrev pub VersionsGuarded : List Hmesg → Type 0
 VersionsGuarded [] = Unit
 VersionsGuarded (m ∷ ms) = (is_version m ≡ true → unlocks_command ms ≡ true) × VersionsGuarded ms

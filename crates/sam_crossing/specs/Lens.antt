@@ -95,7 +95,7 @@ abbrev pub run : List Action → Lens → Option Lens
 run [] v = Some v
 run (a ∷ rest) v = moved_then (move a v) (run rest)
 
--- an action that needs the user kept out, until a lock is freed behind it
+-- an action that needs the user kept out, until a lock is freed after it
 abbrev pub is_crossing : Action → Bool
 is_crossing Skip = false
 is_crossing Needs_known = false
@@ -115,7 +115,7 @@ abbrev pub frees : List Action → Bool
 frees [] = false
 frees (a ∷ rest) = is_freeing a || frees rest
 
--- behind each action that needs the user kept out stands one that frees a lock
+-- after each action that needs the user kept out stands one that frees a lock
 abbrev pub IsGuarded : List Action → Type 0
 IsGuarded [] = Unit
 IsGuarded (a ∷ rest) = (is_crossing a ≡ true → frees rest ≡ true) × IsGuarded rest

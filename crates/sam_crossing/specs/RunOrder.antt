@@ -82,7 +82,7 @@ FreeMeansAhead = (w : PlainWorld) (f : ℕ) → IsInOrder w → IsCountable w �
 abbrev pub FreeMeansOneVersion : Type 0
 FreeMeansOneVersion = (w : PlainWorld) → IsInOrder w → HasOneVersion w
 
--- where the terminal may act, its version is the one behind all messages that are under way, so what it composes next fits there
+-- where the terminal may act, its version is the one after all messages that are under way, so what it composes next fits there
 abbrev pub FreeMeansVersionAtPlace : Type 0
 FreeMeansVersionAtPlace =
     (w : PlainWorld) → IsInOrder w → w.term.command_lock ≡ false → w.term.has_exited ≡ false

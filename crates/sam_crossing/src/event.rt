@@ -8,7 +8,7 @@ use std::alloc::{AllocError, Global};
 /// What happens next in a world. Each event is one step, and a run of a world is a list of them. `World::step` of sam_world makes one happen.
 #[derive(Drop)]
 pub enum Event {
-    /// The user does something: the terminal holds this behind the events that it holds already, and does nothing else yet.
+    /// The user does something: the terminal holds this after the events that it holds already, and does nothing else yet.
     User(UserEvent),
     /// The terminal tries its oldest held event. Where it holds none, or a lock holds the oldest back, this changes nothing.
     Act,
@@ -21,7 +21,7 @@ pub enum Event {
 }
 
 impl Event {
-    /// Returns a copy of the event. The only error is want of memory.
+    /// Returns a copy of the event. The only error is out of memory.
     pub fn copy(&self, alloc: Global) -> Result<Event, AllocError>
         ensures { IfOk result (λ e. e ≡ self.now) }
     {

@@ -1,13 +1,13 @@
 //! Why no edit is lost where messages and frames cross. This crate computes nothing: it is proofs, from which `sam_world` makes its laws.
-//! docs/DESIGN.md tells the same in prose.
+//! docs/DESIGN.md says the same in prose.
 //!
 //! What they show: take any state that a run reaches, and let both sides handle what is under way and the unsent runes, with no new event
 //! of the user. Then nothing is refused, no lock is held at the end, and the rasp of each open file agrees with the host's text. And
-//! behind each frame that changes a file stands one that frees this file's lock or the command lock.
+//! after each frame that changes a file stands one that frees this file's lock or the command lock.
 //!
 //! One lemma carries all: `still` in proofs/Runs.antt. A user's edit acts only on a free file, where no lock keeps the user out. The
 //! terminal would refuse a frame that frees a lock which isn't held, and it refuses nothing; so no frame under way to a free file frees
-//! a lock. Then none changes the file either, since a frame that frees a lock would stand behind it. Those that are left do nothing to
+//! a lock. Then none changes the file either, since a frame that frees a lock would stand after it. Those that are left do nothing to
 //! the file, as it is before the edit and as it is after it: the edit moves past all that is under way.
 //!
 //! Nothing of the two sides is written here a second time: the messages are those of sam_mesg, the answers are sam_host's `reply_to`, the

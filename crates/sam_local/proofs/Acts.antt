@@ -396,7 +396,7 @@ module _ (h : PlainHost) (t : PlainTerminal) (up : List Tmesg) (down : List Hmes
       ∙ ap (λ (x : Window). x.rasp) (window-rest h t up down o cleans f (free_at t f p.free p.unlocked) (not-false (is_open t f) p.opened)))
   apart-rest e p = tt
 
-  -- the change and the messages, behind all that is under way, and at rest
+  -- the change and the messages, after all that is under way, and at rest
   meets : (e : UserEvent) → Passed t e → (x : Reply) → answers h ((up ++ unsent_message t.unsent) ++ told t e) ≡ Some x
       → answered_with h (altered t e) down (answers h ((up ++ unsent_message t.unsent) ++ told t e))
       ≡ answered_with (rest o.kept.ahead) (altered (term_rest h t up down o cleans) e) [] (answers (rest o.kept.ahead) (told (term_rest h t up down o cleans) e))

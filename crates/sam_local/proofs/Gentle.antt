@@ -12,7 +12,7 @@ abbrev pub is_clean : ℕ → Hmesg → Bool
 is_clean f (Hclean g) = f == g
 is_clean f _ = false
 
--- behind each Hclean of f stands a frame that frees a lock
+-- after each Hclean of f stands a frame that frees a lock
 abbrev pub CleansGuarded : ℕ → List Hmesg → Type 0
 CleansGuarded f [] = Unit {0}
 CleansGuarded f (m ∷ ms) = (is_clean f m ≡ true → frees (at_file f ms) ≡ true) × CleansGuarded f ms

@@ -73,7 +73,7 @@ joined h f p c s u r1 r2 false d plain e1 e2 =
 
 -- ## Behind other messages
 
--- two replies in turn and one reply, behind the same frames
+-- two replies in turn and one reply, after the same frames
 rested-alike : (x last one : Reply) (before : List Hmesg) → x ≡ (last.0, before ++ last.1) → AreAlike last.0 one.0 → last.1 ≡ one.1
     → Some (rest one.0, before ++ (one.1 ++ [])) ≡ rested (Some x)
 rested-alike x last one before e alike frames =
@@ -86,7 +86,7 @@ last-is first two rest_of last silent e whole =
     let end = same_Some _ _ e in
     whole ∙ (λ i. ((sym end i).0, silent i ++ (two.1 ++ (sym end i).1))) ∙ ap (λ (fs : List Hmesg). (two.0, fs)) (append-nil two.1)
 
--- one message behind others
+-- one message after others
 behind-others : (h : PlainHost) (line : List Tmesg) (m : Tmesg) (first one : Reply) → answers h line ≡ Some first → reply_of first.0 m ≡ Some one
     → rested (answers h (line ++ m ∷ [])) ≡ Some (rest one.0, first.1 ++ (one.1 ++ []))
 behind-others h line m first one e q =
@@ -97,7 +97,7 @@ behind-others h line m first one e q =
 whole-is : (x last two : Reply) (before : List Hmesg) → x ≡ (last.0, before ++ last.1) → last ≡ two → x ≡ (two.0, before ++ two.1)
 whole-is x last two before e q = e ∙ ap (λ (r : Reply). (r.0, before ++ r.1)) q
 
--- one message behind others in the place of two
+-- one message after others in the place of two
 one-for-two : (h : PlainHost) (line : List Tmesg) (m : Tmesg) (first one x last two : Reply) → answers h line ≡ Some first → reply_of first.0 m ≡ Some one
     → x ≡ (last.0, first.1 ++ last.1) → last ≡ two → AreAlike two.0 one.0 → two.1 ≡ one.1 → rested (answers h (line ++ m ∷ [])) ≡ rested (Some x)
 one-for-two h line m first one x last two e q w l alike frames =

@@ -191,7 +191,7 @@ asks-all h k f (x ∷ xs) line down r y none o now both opens =
     after : (parts.first.0 ≡ counted r.0) × (sight z1 ≡ sight z)
     after = silently h k line down m r parts.first o now parts.now silent
 
--- the requests, behind the unsent runes
+-- the requests, after the unsent runes
 pub sends-requests : (h : PlainHost) (u : PlainTerminal) (f : ℕ) (xs : List (ℕ × ℕ)) (up : List Tmesg) (down : List Hmesg) (r y : Reply) → is_open (flushed u).0 f ≡ true
     → answers h (up ++ unsent_message u.unsent) ≡ Some r → answers h (up ++ ((flushed u).1 ++ requests_for f xs)) ≡ Some y → IsOpenAtBoth f (flushed u).0 down r
     → come_to h u up down ≡ come_to h (all_composed (flushed u).0 (requests_for f xs)) (up ++ ((flushed u).1 ++ requests_for f xs)) down
@@ -225,7 +225,7 @@ fits-flushed t (Trequest f p n) e = sym (open-sight (flushed t).0 f) ∙ ap (λ 
 fits-flushed t Tack e = tt
 fits-flushed t x e = absurd e
 
--- a message of the terminal's own, behind the unsent runes
+-- a message of the terminal's own, after the unsent runes
 pub sends-silent : (h : PlainHost) (u : PlainTerminal) (up : List Tmesg) (down : List Hmesg) (x : Tmesg) (r y : Reply) → answers h (up ++ unsent_message u.unsent) ≡ Some r
     → answers h (up ++ ((flushed u).1 ++ x ∷ [])) ≡ Some y → LockFits (lock_of x) (flushed u).0 → IsSilent r.0 (all_taken (flushed u).0 (down ++ r.1)) x
     → come_to h u up down ≡ come_to h (composed (flushed u).0 x) (up ++ ((flushed u).1 ++ x ∷ [])) down

@@ -62,7 +62,7 @@ abbrev pub RefusedDoesNothing : Type 0
 RefusedDoesNothing =
     (editor : PlainEditor) (e : UserEvent) (why : Verdict) → first_of_checks (event_checks editor.term e) ≡ Some why → carried editor e ≡ editor
 
--- what is typed comes in the place of the dot, which then stands behind it. A line that the command file runs is told of apart
+-- what is typed comes in the place of the dot, which then stands after it. A line that the command file runs is told of apart
 abbrev pub TypingReplaces : Type 0
 TypingReplaces =
     (editor : PlainEditor) (f : ℕ) (s : List ℕ) → IsReached editor → May editor (event.Typed f s) → is_command_line f s ≡ false

@@ -28,7 +28,7 @@ pub fn refused_does_nothing()
     ensures { RefusedDoesNothing }
 {}
 
-/// Says that typing puts its runes in the place of the dot, and the dot behind them, and leaves other files alone. Where they end a line
+/// Says that typing puts its runes in the place of the dot, and the dot after them, and leaves other files alone. Where they end a line
 /// of the command file, that line is run on the files as they are then: what it means is done.
 #[tactic(auto, using(crate::proofs::Lines::line_runs))]
 pub fn typing_replaces()

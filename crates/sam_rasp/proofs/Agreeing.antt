@@ -16,7 +16,7 @@ pub runes_same : (s t : List ℕ) → Agrees (map Some s) t → s ≡ t
 runes_same (c ∷ s) (x ∷ t) a = λ i. a.0 i ∷ runes_same s t a.1 i
 runes_same s t e = grind arith
 
--- a stretch of the text from the place at on, and what is behind it
+-- a stretch of the text from the place at on, and what is after it
 pub stretch : (c r whole : PartialText) (t part : List ℕ) (at len : ℕ)
     → whole ≡ c ++ r → length c ≡ len → part ≡ take len (drop at t) → Agrees whole (drop at t) ↔ (Agrees c part × Agrees r (drop (at + len) t))
 stretch c r whole t part at len e l p = grind (arith, drop-drop, agrees_parted, agrees_joined)

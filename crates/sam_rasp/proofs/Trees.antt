@@ -53,7 +53,7 @@ all_loaded-append (x ∷ xs) ys = grind (arith, (all_loaded-append xs ys))
 pub normal-alone : (l : List Section) (s : Section) (r : List Section) → IsNormal (l ++ s ∷ r) → IsFilled s
 normal-alone l s r h = (normal-suffix l (s ∷ r) h).0
 
--- what a list shares with another one behind it or before it
+-- what a list shares with another one after it or before it
 pub normal-left : (xs ys l q : List Section) → ys ≡ l ++ q → IsNormal (xs ++ ys) → IsNormal (xs ++ l)
 normal-left xs ys l q e h = normal-front l q ys xs (sym e) h
 

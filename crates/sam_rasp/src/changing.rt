@@ -31,7 +31,7 @@ impl Maker {
         Maker { alloc }
     }
 
-    /// Returns memory for the end of a section that is cut in two. The only error is want of memory.
+    /// Returns memory for the end of a section that is cut in two. The only error is out of memory.
     pub fn spare(&self) -> Result<Spare, AllocError>
         ensures { IfOk result (λ s. s.piece ≡ []) }
     {
@@ -40,7 +40,7 @@ impl Maker {
         Ok(Spare { fork, piece })
     }
 
-    /// Returns `n` gaps as one section at most. The only error is want of memory.
+    /// Returns `n` gaps as one section at most. The only error is out of memory.
     pub fn gaps(&self, n: u32) -> Result<Tree, AllocError>
         requires { n ≤ max_runes }
         ensures { IfOk result (λ t. cells_of t ≡ replicate n None) }
@@ -50,7 +50,7 @@ impl Maker {
     }
 
     /// Returns `runes` as loaded sections, of `MOST_IN_MESSAGE` runes each but for the last; without runes there is none. The only error
-    /// is want of memory.
+    /// is out of memory.
     pub fn runes(&self, runes: &[char]) -> Result<Tree, AllocError>
         requires { length runes.now ≤ max_runes }
         ensures { IfOk result (λ t. cells_of t ≡ map Some runes.now) }

@@ -27,7 +27,7 @@ impl Model for Piece {
 }
 
 impl Piece {
-    /// Returns an empty piece with memory for `MOST_IN_MESSAGE` runes. The only error is want of memory.
+    /// Returns an empty piece with memory for `MOST_IN_MESSAGE` runes. The only error is out of memory.
     pub fn new(alloc: Global) -> Result<Piece, AllocError>
         ensures { IfOk result (λ a. a ≡ []) }
     {

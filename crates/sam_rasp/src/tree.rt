@@ -61,7 +61,7 @@ impl Model for Tree {
 }
 
 impl Fork {
-    /// Returns the section in memory of its own. The only error is want of memory.
+    /// Returns the section in memory of its own. The only error is out of memory.
     pub fn new(alloc: Global, section: Section) -> Result<Box<Fork>, AllocError>
         ensures { IfOk result (λ f. f.value.section ≡ section) }
     {
