@@ -44,7 +44,7 @@ impl<'a, 'q, G: Gate> Promise<Option<UserEnd<'q>>> for UserPromise<'a, 'q, G> {
     ghost use Rattle.std.specs.Prelude.{IfSome};
     ghost use Rattle.sam_spawn.specs.Promised.{KeepsUser};
 
-    ghost kept_by = { λ p r. IfSome r (KeepsUser G.may_refuse p) };
+    ghost kept_by = { λ p r. IfSome r (KeepsUser G.may_refuse G.must_refuse p) };
 }
 
 /// What the host's thread promises, and its join hands on: an end of the host's worker, with these files, on these lines. It is kept
@@ -75,7 +75,7 @@ impl<'a, 'q, G: Gate> Promise<Option<HostEnd<'q>>> for HostPromise<'a, 'q, G> {
     ghost use Rattle.std.specs.Prelude.{IfSome};
     ghost use Rattle.sam_spawn.specs.Promised.{KeepsHost};
 
-    ghost kept_by = { λ p r. IfSome r (KeepsHost G.may_refuse p) };
+    ghost kept_by = { λ p r. IfSome r (KeepsHost G.may_refuse G.must_refuse p) };
 }
 
 /// What the host reader's thread promises, and its join hands on: an end of the host reader, on these lines. It is kept beside the
@@ -103,7 +103,7 @@ impl<'a, 'q, G: Gate> Promise<Option<ReaderEnd<'q>>> for ReaderPromise<'a, 'q, G
     ghost use Rattle.std.specs.Prelude.{IfSome};
     ghost use Rattle.sam_spawn.specs.Promised.{KeepsReader};
 
-    ghost kept_by = { λ p r. IfSome r (KeepsReader G.may_refuse p) };
+    ghost kept_by = { λ p r. IfSome r (KeepsReader G.may_refuse G.must_refuse p) };
 }
 
 /// What the terminal's thread promises, and its join hands on: an end of the terminal's worker, on these lines. It is kept beside the
@@ -131,7 +131,7 @@ impl<'a, 'q, G: Gate> Promise<Option<TermEnd<'q>>> for TermPromise<'a, 'q, G> {
     ghost use Rattle.std.specs.Prelude.{IfSome};
     ghost use Rattle.sam_spawn.specs.Promised.{KeepsTerm};
 
-    ghost kept_by = { λ p r. IfSome r (KeepsTerm G.may_refuse p) };
+    ghost kept_by = { λ p r. IfSome r (KeepsTerm G.may_refuse G.must_refuse p) };
 }
 
 /// Waits for the start, and then runs the keyboard's or the mouse's worker. Returns `None` if the start was called off.
@@ -144,7 +144,7 @@ fn begin_user<'q, R: Wait, G: Gate>(
 ) -> Option<UserEnd<'q>>
     requires worker { worker < 5 }
     requires task { IsUserTask worker task.post.line task }
-    ensures { IfSome result (UserKept (G.may_refuse gate.now) worker task.entry.events.items task.entry.post.line) }
+    ensures { IfSome result (UserKept (G.may_refuse gate.now) (G.must_refuse gate.now) worker task.entry.events.items task.entry.post.line) }
 {
     if !*start.wait(rt) {
         return None;
@@ -168,7 +168,7 @@ fn begin_host<'q, R: Wait, G: Gate>(
 ) -> Option<HostEnd<'q>>
     requires piece { 0 < piece }
     requires task { IsHostTask task.take.line task.post.line task }
-    ensures { IfSome result (HostKept (G.may_refuse gate.now) task.entry.files.items task.entry.take.line task.entry.post.line) }
+    ensures { IfSome result (HostKept (G.may_refuse gate.now) (G.must_refuse gate.now) task.entry.files.items task.entry.take.line task.entry.post.line) }
 {
     if !*start.wait(rt) {
         return None;
@@ -192,7 +192,7 @@ fn begin_reader<'q, R: Wait, G: Gate>(
     task: ReaderTask<'q>,
 ) -> Option<ReaderEnd<'q>>
     requires task { IsReaderTask task.take.line task.post.line task }
-    ensures { IfSome result (ReaderKept (G.may_refuse gate.now) task.entry.take.line task.entry.post.line) }
+    ensures { IfSome result (ReaderKept (G.may_refuse gate.now) (G.must_refuse gate.now) task.entry.take.line task.entry.post.line) }
 {
     if !*start.wait(rt) {
         return None;
@@ -216,7 +216,7 @@ fn begin_terminal<'q, R: Wait, G: Gate>(
 ) -> Option<TermEnd<'q>>
     requires piece { 0 < piece }
     requires task { IsTermTask task.take.line task.post.line task }
-    ensures { IfSome result (TermKept (G.may_refuse gate.now) task.entry.take.line task.entry.post.line) }
+    ensures { IfSome result (TermKept (G.may_refuse gate.now) (G.must_refuse gate.now) task.entry.take.line task.entry.post.line) }
 {
     if !*start.wait(rt) {
         return None;
@@ -266,7 +266,7 @@ fn spawn_user<'s, 'e: 's, 'q: 's, R: Wait + Sync, G: Gate>(
         promise,
         move || -> Option<UserEnd<'_>>
             requires { (worker < 5) × IsUserTask worker task.post.line task }
-            ensures { IfSome result (UserKept (G.may_refuse gate.entry.now) worker task.entry.events.items task.entry.post.line) }
+            ensures { IfSome result (UserKept (G.may_refuse gate.entry.now) (G.must_refuse gate.entry.now) worker task.entry.events.items task.entry.post.line) }
         { begin_user(rt, start, gate, worker, task) },
     );
     child.ok()
@@ -299,7 +299,7 @@ fn spawn_host<'s, 'e: 's, 'q: 's, R: Wait + Sync, G: Gate>(
         move || -> Option<HostEnd<'_>>
             requires { (0 < piece) × IsHostTask task.take.line task.post.line task }
             ensures { IfSome result
-                (HostKept (G.may_refuse gate.entry.now) task.entry.files.items task.entry.take.line task.entry.post.line) }
+                (HostKept (G.may_refuse gate.entry.now) (G.must_refuse gate.entry.now) task.entry.files.items task.entry.take.line task.entry.post.line) }
         { begin_host(rt, alloc, start, gate, piece, task) },
     );
     child.ok()
@@ -324,7 +324,7 @@ fn spawn_reader<'s, 'e: 's, 'q: 's, R: Wait + Sync, G: Gate>(
         promise,
         move || -> Option<ReaderEnd<'_>>
             requires { IsReaderTask task.take.line task.post.line task }
-            ensures { IfSome result (ReaderKept (G.may_refuse gate.entry.now) task.entry.take.line task.entry.post.line) }
+            ensures { IfSome result (ReaderKept (G.may_refuse gate.entry.now) (G.must_refuse gate.entry.now) task.entry.take.line task.entry.post.line) }
         { begin_reader(rt, alloc, start, gate, task) },
     );
     child.ok()
@@ -351,7 +351,7 @@ fn spawn_terminal<'s, 'e: 's, 'q: 's, R: Wait + Sync, G: Gate>(
         promise,
         move || -> Option<TermEnd<'_>>
             requires { (0 < piece) × IsTermTask task.take.line task.post.line task }
-            ensures { IfSome result (TermKept (G.may_refuse gate.entry.now) task.entry.take.line task.entry.post.line) }
+            ensures { IfSome result (TermKept (G.may_refuse gate.entry.now) (G.must_refuse gate.entry.now) task.entry.take.line task.entry.post.line) }
         { begin_terminal(rt, alloc, start, gate, piece, task) },
     );
     child.ok()
@@ -419,7 +419,7 @@ pub fn join_all<'s, 'q, R: Threads, G: Gate>(
     rt: &R,
     handles: Handles<'s, 'q, G>,
 ) -> Option<Ends<'q>>
-    ensures { IfSome result (KeepPromises G.may_refuse handles.entry) }
+    ensures { IfSome result (KeepPromises G.may_refuse G.must_refuse handles.entry) }
 {
     let Handles {
         keyboard,
