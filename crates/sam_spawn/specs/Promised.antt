@@ -28,12 +28,14 @@ pub record GateMay (refuses : ℕ → Type 0) (must : ℕ → Option ℕ → Typ
   pub way : why ≡ Some stop.Gate → refuses worker
   pub let_in : passed ≡ true → must worker None → ⊥
 
-pub record UserKept (refuses : ℕ → Type 0) (must : ℕ → Option ℕ → Type 0) (worker : ℕ) (todo : List UserEvent) (events : LineView) (e : UserEnd) : Type 0 where
+pub record UserKept (refuses : ℕ → Type 0) (must : ℕ → Option ℕ → Type 0) (worker : ℕ) (todo : List UserEvent) (events : LineView)
+    (e : UserEnd) : Type 0 where
   pub told : UserTold worker todo events e
   pub gate : GateMay refuses must worker e.passed e.stop
   pub let_on : LetOn (must worker) 0 (length e.post.put)
 
-pub record HostKept (refuses : ℕ → Type 0) (must : ℕ → Option ℕ → Type 0) (given : List (List ℕ × List ℕ)) (up down : LineView) (e : HostEnd) : Type 0 where
+pub record HostKept (refuses : ℕ → Type 0) (must : ℕ → Option ℕ → Type 0) (given : List (List ℕ × List ℕ)) (up down : LineView)
+    (e : HostEnd) : Type 0 where
   pub told : HostTold up down e
   pub files : e.files.items ≡ given
   pub gate : GateMay refuses must 2 e.passed e.stop

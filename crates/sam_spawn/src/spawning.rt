@@ -1,6 +1,7 @@
 //! Starting the five threads, and joining them.
 ghost use Rattle.std.specs.Prelude.{◌≡◌, ◌<◌, IfSome, Some};
-ghost use Rattle.sam_spawn.specs.Promised.{UserKept, HostKept, ReaderKept, TermKept, KeepPromises, PromisesUser, PromisesHost, PromisesReader, PromisesTerm, TasksPromised};
+ghost use Rattle.sam_spawn.specs.Promised.{UserKept, HostKept, ReaderKept, TermKept, KeepPromises, PromisesUser, PromisesHost};
+ghost use Rattle.sam_spawn.specs.Promised.{PromisesReader, PromisesTerm, TasksPromised};
 ghost use Rattle.sam_spawn.specs.Tasks.{IsUserTask, IsHostTask, IsReaderTask, IsTermTask, AreReady};
 
 use crate::tasks::{HostTask, ReaderTask, Tasks, TermTask, UserTask};
@@ -144,7 +145,8 @@ fn begin_user<'q, R: Wait, G: Gate>(
 ) -> Option<UserEnd<'q>>
     requires worker { worker < 5 }
     requires task { IsUserTask worker task.post.line task }
-    ensures { IfSome result (UserKept (G.may_refuse gate.now) (G.must_refuse gate.now) worker task.entry.events.items task.entry.post.line) }
+    ensures { IfSome result (UserKept (G.may_refuse gate.now) (G.must_refuse gate.now) worker
+        task.entry.events.items task.entry.post.line) }
 {
     if !*start.wait(rt) {
         return None;
@@ -168,7 +170,8 @@ fn begin_host<'q, R: Wait, G: Gate>(
 ) -> Option<HostEnd<'q>>
     requires piece { 0 < piece }
     requires task { IsHostTask task.take.line task.post.line task }
-    ensures { IfSome result (HostKept (G.may_refuse gate.now) (G.must_refuse gate.now) task.entry.files.items task.entry.take.line task.entry.post.line) }
+    ensures { IfSome result (HostKept (G.may_refuse gate.now) (G.must_refuse gate.now)
+        task.entry.files.items task.entry.take.line task.entry.post.line) }
 {
     if !*start.wait(rt) {
         return None;
@@ -266,7 +269,8 @@ fn spawn_user<'s, 'e: 's, 'q: 's, R: Wait + Sync, G: Gate>(
         promise,
         move || -> Option<UserEnd<'_>>
             requires { (worker < 5) × IsUserTask worker task.post.line task }
-            ensures { IfSome result (UserKept (G.may_refuse gate.entry.now) (G.must_refuse gate.entry.now) worker task.entry.events.items task.entry.post.line) }
+            ensures { IfSome result (UserKept (G.may_refuse gate.entry.now) (G.must_refuse gate.entry.now) worker
+                task.entry.events.items task.entry.post.line) }
         { begin_user(rt, start, gate, worker, task) },
     );
     child.ok()
@@ -298,8 +302,8 @@ fn spawn_host<'s, 'e: 's, 'q: 's, R: Wait + Sync, G: Gate>(
         promise,
         move || -> Option<HostEnd<'_>>
             requires { (0 < piece) × IsHostTask task.take.line task.post.line task }
-            ensures { IfSome result
-                (HostKept (G.may_refuse gate.entry.now) (G.must_refuse gate.entry.now) task.entry.files.items task.entry.take.line task.entry.post.line) }
+            ensures { IfSome result (HostKept (G.may_refuse gate.entry.now) (G.must_refuse gate.entry.now)
+                task.entry.files.items task.entry.take.line task.entry.post.line) }
         { begin_host(rt, alloc, start, gate, piece, task) },
     );
     child.ok()
@@ -324,7 +328,8 @@ fn spawn_reader<'s, 'e: 's, 'q: 's, R: Wait + Sync, G: Gate>(
         promise,
         move || -> Option<ReaderEnd<'_>>
             requires { IsReaderTask task.take.line task.post.line task }
-            ensures { IfSome result (ReaderKept (G.may_refuse gate.entry.now) (G.must_refuse gate.entry.now) task.entry.take.line task.entry.post.line) }
+            ensures { IfSome result (ReaderKept (G.may_refuse gate.entry.now) (G.must_refuse gate.entry.now)
+                task.entry.take.line task.entry.post.line) }
         { begin_reader(rt, alloc, start, gate, task) },
     );
     child.ok()
@@ -351,7 +356,8 @@ fn spawn_terminal<'s, 'e: 's, 'q: 's, R: Wait + Sync, G: Gate>(
         promise,
         move || -> Option<TermEnd<'_>>
             requires { (0 < piece) × IsTermTask task.take.line task.post.line task }
-            ensures { IfSome result (TermKept (G.may_refuse gate.entry.now) (G.must_refuse gate.entry.now) task.entry.take.line task.entry.post.line) }
+            ensures { IfSome result (TermKept (G.may_refuse gate.entry.now) (G.must_refuse gate.entry.now)
+                task.entry.take.line task.entry.post.line) }
         { begin_terminal(rt, alloc, start, gate, piece, task) },
     );
     child.ok()
