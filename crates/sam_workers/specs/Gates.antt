@@ -1,4 +1,5 @@
--- What a gate let a worker do. `must None`: it never lets the worker begin. `must (Some n)`: it never lets it go on once it has done so much.
+-- What a gate let a worker do. `must None`: it never lets the worker begin. `must (Some n)`: it never lets it go on once it has done n
+-- steps.
 use Rattle.std.specs.Prelude.{◌≡◌, ℕ, ◌+◌, ◌-◌, ◌^◌, ◌<◌, ◌≤◌, true, List, ◌++◌, length, min, Option, Some, None}
 use Rattle.sam_mesg.specs.declared.tmesg.Tmesg.{Tmesg}
 use Rattle.sam_term.specs.Term.{new_terminal}
@@ -6,7 +7,7 @@ use Rattle.sam_term.specs.declared.event.UserEvent.{UserEvent}
 use Rattle.sam_world.specs.Logs.{logged_users}
 use Rattle.sam_world.specs.Sides.{TermRuns}
 use Rattle.sam_queue.specs.declared.rule.Entry.{Entry}
-use Rattle.sam_workers.specs.RealSides.{sides}
+use Rattle.sam_workers.specs.RealSides.{at_work}
 use Rattle.sam_workers.specs.Inputs.{frames_in, users_in}
 use Rattle.sam_workers.specs.WorkerEnds.{IsOwnExit}
 use Rattle.sam_workers.specs.declared.input.Input.{Input}
@@ -28,7 +29,7 @@ pub record TermHandled (many : ℕ) (e : TermEnd) : Type 0 where
   pub composed : List Tmesg
   pub own : List UserEvent
   pub took : e.take.taken ≡ handled ++ dropped
-  pub runs : TermRuns sides new_terminal e.log.items (frames_in handled) composed e.term
+  pub runs : TermRuns at_work new_terminal e.log.items (frames_in handled) composed e.term
   pub users : logged_users e.log.items ≡ users_in handled ++ own
   pub exits : IsOwnExit own handled
   pub many_is : IsCount many (length (users_in handled) + length (frames_in handled))

@@ -1,5 +1,6 @@
 -- What the terminal's worker has between two of its steps.
-use Rattle.std.specs.Prelude.{◌≡◌, ◌⊎◌, ◌<◌, ◌+◌, ℕ, length, Bool, true, false, List, [], ◌∷◌, ◌++◌, All, IsTrue, Option, Some, None, if◌then◌else◌, is_some, Err}
+use Rattle.std.specs.Prelude.{◌≡◌, ◌⊎◌, ◌<◌, ◌+◌, ℕ, length, Bool, true, false, List, [], ◌∷◌, ◌++◌, All, IsTrue, Option, Some, None}
+use Rattle.std.specs.Prelude.{if◌then◌else◌, is_some, Err}
 use Rattle.std.specs.Global.{Vec}
 use Rattle.sam_mesg.specs.declared.hmesg.HFrame.{HFrame}
 use Rattle.sam_mesg.specs.TerminalKinds.{fits_t, FitsT}
@@ -17,7 +18,7 @@ use Rattle.sam_world.specs.Sides.{Each, TermRuns}
 use Rattle.sam_queue.specs.declared.rule.Entry.{Entry}
 use Rattle.sam_queue.specs.History.{has_left, IsEnded}
 use Rattle.sam_queue.specs.Views.{TakeView, PostView}
-use Rattle.sam_workers.specs.RealSides.{sides}
+use Rattle.sam_workers.specs.RealSides.{at_work}
 use Rattle.sam_workers.specs.Gates.{IsCount}
 use Rattle.sam_workers.specs.Numbers.{fault_number}
 use Rattle.sam_workers.specs.Inputs.{bytes_of, frames_in, users_in}
@@ -40,7 +41,7 @@ pub record Did (a b : LoggedView) (events : List UserEvent) (frames : List HFram
   pub entries : List TermLog
   pub log : b.log ≡ a.log ++ entries
   pub users : logged_users entries ≡ events
-  pub runs : TermRuns sides a.term entries frames composed b.term
+  pub runs : TermRuns at_work a.term entries frames composed b.term
   pub fit : All (λ m. IsTrue (fits_t 2 m)) composed
 
 -- what a fault of the terminal is for its worker
@@ -99,7 +100,7 @@ pub record Ran (v : SideView) : Type 0 where
   pub number : v.post.number ≡ 0
   pub senders : v.take.line.senders ≡ 3
   pub took : v.take.taken ≡ handled ++ dropped
-  pub runs : TermRuns sides new_terminal v.logged.log (frames_in handled) composed v.logged.term
+  pub runs : TermRuns at_work new_terminal v.logged.log (frames_in handled) composed v.logged.term
   pub users : logged_users v.logged.log ≡ users_in handled ++ own
   pub own_is : own ≡ (if v.exit_put then Exit ∷ [] else [])
   pub all_left : v.exit_put ≡ true → (v.keyboard_left ≡ true) × (v.mouse_left ≡ true)
