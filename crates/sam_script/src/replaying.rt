@@ -44,17 +44,17 @@ pub fn replay(alloc: Global, script: &Script) -> Result<Vec<u8>, ScriptFault>
     let Ok(mut world) = first_world(alloc, script.files()) else {
         return Err(ScriptFault::OutOfMemory);
     };
-    let mut out = String::new(alloc);
+    let mut printed = String::new(alloc);
     for numbered in script.lines() {
         let Ok(line) = numbered.line.copy(alloc) else {
             return Err(ScriptFault::OutOfMemory);
         };
-        match do_line(&mut world, &mut out, numbered.number, line) {
+        match do_line(&mut world, &mut printed, numbered.number, line) {
             Ok(()) => {}
             Err(fault) => return Err(fault),
         }
     }
-    Ok(out.into_bytes())
+    Ok(printed.into_bytes())
 }
 
 /// Does what [`replay`] does, and uses the script up, so that no event is copied.
