@@ -7,7 +7,7 @@ ghost use Rattle.sam_workers.specs.Gates.{GatesLetIn, GatesLetOn};
 ghost use Rattle.sam_workers.specs.WorkerEnds.{Told, AllPassed, GatesTold, RefusesSome};
 ghost use Rattle.sam_spawn.specs.declared.run.RunFault.TheVariants.{GateTimedOut};
 
-use crate::spawning::{Handles, join_all, spawn_all};
+use crate::spawning::{Handles, Shared, join_all, spawn_all};
 use crate::tasks::{Tasks, ready_tasks};
 use sam_script::Script;
 use sam_workers::{Ends, Gate, Lines, Starts};
@@ -63,39 +63,43 @@ pub fn run_ends<'q, R: Threads + Wait + Sync, G: Gate>(
     let Ok(tasks) = ready_tasks(alloc, lines, starts, script) else {
         return Err(RunFault::OutOfMemory);
     };
-    let cell = OnceLock::new();
-    let start = &cell;
+    let start = OnceLock::new();
+    let shared = Shared {
+        rt,
+        alloc,
+        start: &start,
+        gate,
+        piece,
+    };
+    let shared = &shared;
     thread::scope(
         thread::scope_env(),
         rt,
         move |scope| -> Result<Ends<'_>, RunFault>
-            requires { (0 < piece) × AreReady tasks.lines.now tasks }
-            ensures ends { IfOk result (TasksKept (G.may_refuse gate.entry.now) (G.must_refuse gate.entry.now) tasks.entry) }
+            requires { (0 < shared.now.piece) × AreReady tasks.lines.now tasks }
+            ensures ends { IfOk result (TasksKept (G.may_refuse shared.entry.now.gate.now) (G.must_refuse shared.entry.now.gate.now)
+                tasks.entry) }
             ensures begun { IfOk result AllPassed }
-            ensures timed { result ≡ Err RunFault.GateTimedOut → RefusesSome (G.may_refuse gate.entry.now) }
-        { run_all(scope, rt, alloc, start, gate, piece, tasks) },
+            ensures timed { result ≡ Err RunFault.GateTimedOut → RefusesSome (G.may_refuse shared.entry.now.gate.now) }
+        { run_all(scope, shared, tasks) },
     )
 }
 
 /// Starts the five threads, lets their workers begin if all could be started, and joins them.
 fn run_all<'s, 'e: 's, 'q: 's, R: Threads + Wait + Sync, G: Gate>(
     scope: &'s Scope<'s, &'e ()>,
-    rt: &'s R,
-    alloc: Global,
-    start: &'s OnceLock<bool>,
-    gate: &'s G,
-    piece: usize,
+    shared: &'s Shared<'s, R, G>,
     tasks: Tasks<'q>,
 ) -> Result<Ends<'q>, RunFault>
-    requires piece { 0 < piece }
+    requires piece { 0 < shared.now.piece }
     requires tasks { AreReady tasks.lines.now tasks }
-    ensures ends { IfOk result (TasksKept (G.may_refuse gate.now) (G.must_refuse gate.now) tasks.entry) }
+    ensures ends { IfOk result (TasksKept (G.may_refuse shared.now.gate.now) (G.must_refuse shared.now.gate.now) tasks.entry) }
     ensures begun { IfOk result AllPassed }
-    ensures timed { result ≡ Err RunFault.GateTimedOut → RefusesSome (G.may_refuse gate.now) }
+    ensures timed { result ≡ Err RunFault.GateTimedOut → RefusesSome (G.may_refuse shared.now.gate.now) }
 {
-    let handles = spawn_all(scope, rt, alloc, start, gate, piece, tasks);
-    let _ = start.set(rt, handles.is_some());
-    begun(joined(rt, handles))
+    let handles = spawn_all(scope, shared, tasks);
+    let _ = shared.start.set(shared.rt, handles.is_some());
+    begun(joined(shared.rt, handles))
 }
 
 /// Joins the threads, if all could be started.
