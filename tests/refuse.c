@@ -1,14 +1,18 @@
 /*
- * Loaded before a program, this answers its request number REFUSE for memory with none, and then writes a byte to
- * descriptor 9. Only requests of the program itself count, from 1, whichever thread makes them, and not those that the C
- * library makes for it.
+ * Loaded before a program, this answers its request number REFUSE for memory with none, or its request number
+ * REFUSE_THREAD for a thread with EAGAIN, and then writes a byte to descriptor 9. Of memory only requests of the program
+ * itself count, from 1, whichever thread makes them, and not those that the C library makes for it. As the program ends,
+ * the number of threads that it made is written to descriptor 8.
  */
 #define _GNU_SOURCE
+#include <dlfcn.h>
 #include <errno.h>
 #include <link.h>
+#include <pthread.h>
 #include <stdatomic.h>
 #include <stddef.h>
 #include <stdint.h>
+#include <stdio.h>
 #include <stdlib.h>
 #include <unistd.h>
 
@@ -17,9 +21,11 @@ void *__libc_calloc(size_t, size_t);
 void *__libc_realloc(void *, size_t);
 void *__libc_memalign(size_t, size_t);
 
+typedef int make_thread(pthread_t *, const pthread_attr_t *, void *(*)(void *), void *);
+
 static uintptr_t first, last;
-static unsigned long refuse;
-static atomic_ulong asked;
+static unsigned long refuse, refuse_thread;
+static atomic_ulong asked, threads_asked, threads_made;
 
 /* The first of the loaded files is the program. */
 static int find_program(struct dl_phdr_info *file, size_t size, void *unused)
@@ -35,19 +41,35 @@ static int find_program(struct dl_phdr_info *file, size_t size, void *unused)
     return 1;
 }
 
+static unsigned long number_in(const char *name)
+{
+    const char *number = getenv(name);
+    return number ? strtoul(number, NULL, 10) : 0;
+}
+
 __attribute__((constructor)) static void start(void)
 {
-    const char *number = getenv("REFUSE");
-    refuse = number ? strtoul(number, NULL, 10) : 0;
+    refuse = number_in("REFUSE");
+    refuse_thread = number_in("REFUSE_THREAD");
     dl_iterate_phdr(find_program, NULL);
+}
+
+__attribute__((destructor)) static void end(void)
+{
+    dprintf(8, "%lu\n", threads_made);
+}
+
+static void note_refusal(void)
+{
+    if (write(9, "!", 1) != 1)
+        abort();
 }
 
 static int is_refused(void *caller)
 {
     if ((uintptr_t)caller < first || (uintptr_t)caller >= last || ++asked != refuse)
         return 0;
-    if (write(9, "!", 1) != 1)
-        abort();
+    note_refusal();
     errno = ENOMEM;
     return 1;
 }
@@ -77,4 +99,19 @@ int posix_memalign(void **p, size_t a, size_t n)
     if (made)
         *p = made;
     return made ? 0 : ENOMEM;
+}
+
+int pthread_create(pthread_t *thread, const pthread_attr_t *attributes, void *(*run)(void *), void *argument)
+{
+    static make_thread *make;
+    if (!make)
+        *(void **)&make = dlsym(RTLD_NEXT, "pthread_create");
+    if (++threads_asked == refuse_thread) {
+        note_refusal();
+        return EAGAIN;
+    }
+    int status = make(thread, attributes, run, argument);
+    if (!status)
+        threads_made++;
+    return status;
 }

@@ -1,7 +1,9 @@
 -- The word of each event of the user: how it is spelled, with what stands behind it, and how that is read.
 use Rattle.std.specs.Prelude.{ℕ, List, [], ◌∷◌, Option, Some, codes}
 use Rattle.sam_term.specs.declared.event.UserEvent.{UserEvent}
-use Rattle.sam_term.specs.declared.event.UserEvent.TheVariants.{Typed, Select, Cut, Paste, Snarf, Look, Search, Send, Dclick, Scroll, View, Load, Open, Close, Write, Work, OpenCmd, New, Exit, Check, GetSnarf, SetSnarf, Version}
+use Rattle.sam_term.specs.declared.event.UserEvent.TheVariants.{Typed, Select, Cut, Paste, Snarf, Look, Search, Send, Dclick, Scroll, View}
+use Rattle.sam_term.specs.declared.event.UserEvent.TheVariants.{Load, Open, Close, Write, Work, OpenCmd, New, Exit, Check, GetSnarf}
+use Rattle.sam_term.specs.declared.event.UserEvent.TheVariants.{SetSnarf, Version}
 use Rattle.sam_term.specs.declared.event.UserEvent.TheVariants as user
 use Rattle.sam_script.specs.Words.{◌>>=◌, text_at, ended, tag_alone, tag_and_place, tag_and_range, tag_and_text}
 

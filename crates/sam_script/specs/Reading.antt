@@ -1,5 +1,6 @@
 -- How lines are read, for the clauses of private functions; what a user must believe stands in Spelling and at the head of Events.
-use Rattle.std.specs.Prelude.{◌≡◌, ◌<◌, ◌==◌, ◌&&◌, ℕ, Bool, List, [], ◌∷◌, ◌++◌, Option, Some, None, codes, length, nat_lt, nat_le, true, ◌||◌, if◌then◌else◌, bytes_eq, chars}
+use Rattle.std.specs.Prelude.{◌≡◌, ◌<◌, ◌==◌, ◌&&◌, ℕ, Bool, List, [], ◌∷◌, ◌++◌, Option, Some, None, codes, length, nat_lt, nat_le, true}
+use Rattle.std.specs.Prelude.{◌||◌, if◌then◌else◌, bytes_eq, chars}
 use Rattle.sam_runes.specs.Texts.{max_runes, most_files, most_in_name}
 use Rattle.sam_term.specs.declared.event.UserEvent.{UserEvent}
 use Rattle.sam_script.specs.declared.line.Line.{Line}

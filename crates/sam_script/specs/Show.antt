@@ -1,5 +1,6 @@
 -- The lines that a run shows.
-use Rattle.std.specs.Prelude.{◌==◌, ◌+◌, ℕ, Bool, List, [], ◌∷◌, ◌++◌, Option, Some, None, codes, flat_map, encode_utf8, if◌then◌else◌, min, length}
+use Rattle.std.specs.Prelude.{◌==◌, ◌+◌, ℕ, Bool, List, [], ◌∷◌, ◌++◌, Option, Some, None, codes, flat_map, encode_utf8, if◌then◌else◌, min}
+use Rattle.std.specs.Prelude.{length}
 use Rattle.std.specs.Fmt.{decimal}
 use Rattle.sam_runes.specs.Slots.{Slots}
 use Rattle.sam_text.specs.Files.{PlainFile}

@@ -1,5 +1,6 @@
 -- How the words, numbers and texts of a line are read, for the clauses of private functions.
-use Rattle.std.specs.Prelude.{◌≡◌, ◌^◌, ◌==◌, ◌&&◌, ℕ, Bool, List, [], ◌∷◌, ◌++◌, Option, Some, None, Result, Ok, Err, length, nat_lt, true, false, not, if◌then◌else◌, chars}
+use Rattle.std.specs.Prelude.{◌≡◌, ◌^◌, ◌==◌, ◌&&◌, ℕ, Bool, List, [], ◌∷◌, ◌++◌, Option, Some, None, Result, Ok, Err, length, nat_lt, true}
+use Rattle.std.specs.Prelude.{false, not, if◌then◌else◌, chars}
 use Rattle.std.specs.Str.{all_ascii_digits}
 use Rattle.std.specs.Str.Parse.{digits_value}
 use Rattle.sam_script.specs.declared.fault.LineFault.{LineFault}

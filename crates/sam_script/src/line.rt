@@ -44,6 +44,24 @@ pub struct Numbered {
     pub line: Line,
 }
 
+impl Line {
+    /// Returns a copy, made with `alloc`. The only error is want of memory.
+    pub fn copy(&self, alloc: Global) -> Result<Line, AllocError>
+        ensures { IfOk result (λ line. line ≡ self.now) }
+    {
+        Ok(match self {
+            Line::Key(event) => Line::Key(event.copy(alloc)?),
+            Line::Mouse(event) => Line::Mouse(event.copy(alloc)?),
+            Line::Act => Line::Act,
+            Line::Flush => Line::Flush,
+            Line::Host => Line::Host,
+            Line::Term => Line::Term,
+            Line::Drain => Line::Drain,
+            Line::Show => Line::Show,
+        })
+    }
+}
+
 /// What a line says by itself, wherever it stands in its script.
 #[derive(Drop)]
 pub enum Said {

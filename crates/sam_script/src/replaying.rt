@@ -27,17 +27,39 @@ pub fn replay_bytes(alloc: Global, bytes: &[u8]) -> Result<Vec<u8>, ScriptFault>
         Ok(script) => script,
         Err(fault) => return Err(fault),
     };
-    replay(alloc, script)
+    replay_owned(alloc, script)
 }
 
-/// Does the lines of a script one after another, over the first world of its files, and returns all that its `show` lines print. It uses
-/// the script up, so that no event is copied.
+/// Does the lines of a script one after another, over the first world of its files, and returns all that its `show` lines print. It
+/// leaves the script as it is, and so copies each event before it happens; [`replay_owned`] copies none.
 ///
 /// The first line that can't be done stops it, and then nothing of what was printed is returned. The error is `Line(n)` if line n is
 /// `host` or `term` and nothing is under way to that side, and `CountFull` if the line's step, or an event of its drain, would take a
-/// count of messages past 2^64-1. `OutOfMemory` may come at any line, and before the first.
+/// count of messages past 2^64-1. `OutOfMemory` may come at any line, and before the first; the script can be replayed again.
 #[tactic(auto, unfolding(crate::specs::Replay::replayed))]
-pub fn replay(alloc: Global, script: Script) -> Result<Vec<u8>, ScriptFault>
+pub fn replay(alloc: Global, script: &Script) -> Result<Vec<u8>, ScriptFault>
+    ensures ok { IfOk result (λ out. replayed script.now ≡ Ok out.items) }
+    ensures stopped { IfErr result (λ why. IsStopOf (replayed script.now) why) }
+{
+    let Ok(mut world) = first_world(alloc, script.files()) else {
+        return Err(ScriptFault::OutOfMemory);
+    };
+    let mut printed = String::new(alloc);
+    for numbered in script.lines() {
+        let Ok(line) = numbered.line.copy(alloc) else {
+            return Err(ScriptFault::OutOfMemory);
+        };
+        match do_line(&mut world, &mut printed, numbered.number, line) {
+            Ok(()) => {}
+            Err(fault) => return Err(fault),
+        }
+    }
+    Ok(printed.into_bytes())
+}
+
+/// Does what [`replay`] does, and uses the script up, so that no event is copied.
+#[tactic(auto, unfolding(crate::specs::Replay::replayed))]
+pub fn replay_owned(alloc: Global, script: Script) -> Result<Vec<u8>, ScriptFault>
     ensures ok { IfOk result (λ out. replayed script ≡ Ok out.items) }
     ensures stopped { IfErr result (λ why. IsStopOf (replayed script) why) }
 {
@@ -46,7 +68,8 @@ pub fn replay(alloc: Global, script: Script) -> Result<Vec<u8>, ScriptFault>
     };
     let mut out = String::new(alloc);
     for numbered in script.into_lines() {
-        match do_line(&mut world, &mut out, numbered) {
+        let Numbered { number, line } = numbered;
+        match do_line(&mut world, &mut out, number, line) {
             Ok(()) => {}
             Err(fault) => return Err(fault),
         }
@@ -54,13 +77,18 @@ pub fn replay(alloc: Global, script: Script) -> Result<Vec<u8>, ScriptFault>
     Ok(out.into_bytes())
 }
 
-/// Does what a line asks for. What it prints stands behind what was printed before; at an error a part of that may stand there too.
-fn do_line(world: &mut World, out: &mut String, numbered: Numbered) -> Result<(), ScriptFault>
-    ensures done { OnOk result (after_line numbered.number world.old numbered.line ≡ Ok world.new) }
-    ensures printed { OnOk result (string_bytes out.new ≡ string_bytes out.old ++ printed_by world.old numbered.line) }
-    ensures stopped { IfErr result (λ why. IsStopOf (after_line numbered.number world.old numbered.line) why) }
+/// Does what a line of this number asks for. What it prints stands behind what was printed before; at an error a part of that may stand
+/// there too.
+fn do_line(
+    world: &mut World,
+    out: &mut String,
+    number: usize,
+    line: Line,
+) -> Result<(), ScriptFault>
+    ensures done { OnOk result (after_line number world.old line ≡ Ok world.new) }
+    ensures printed { OnOk result (string_bytes out.new ≡ string_bytes out.old ++ printed_by world.old line) }
+    ensures stopped { IfErr result (λ why. IsStopOf (after_line number world.old line) why) }
 {
-    let Numbered { number, line } = numbered;
     match line {
         Line::Key(event) | Line::Mouse(event) => do_step(world, number, Event::User(event)),
         Line::Act => do_step(world, number, Event::Act),

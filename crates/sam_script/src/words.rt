@@ -1,7 +1,8 @@
 //! Reads the parts of a line: words, each behind one space, numbers, and a text up to the end of the line.
 
 ghost use Rattle.std.specs.Prelude.{◌≡◌, [], false, chars};
-ghost use Rattle.sam_script.specs.Words.{Gives, word_of, behind_word, word_at, number_of, number_at, unescaped, meant, text_at, ended, tag_alone, tag_and_place, tag_and_range, tag_and_text};
+ghost use Rattle.sam_script.specs.Words.{Gives, word_of, behind_word, word_at, number_of, number_at, unescaped, meant, text_at, ended};
+ghost use Rattle.sam_script.specs.Words.{tag_alone, tag_and_place, tag_and_range, tag_and_text};
 
 use crate::fault::LineFault;
 use sam_runes::Runes;

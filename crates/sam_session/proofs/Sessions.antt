@@ -18,6 +18,8 @@ use Rattle.sam_workers.specs.declared.ends.Ends.{Ends}
 use Rattle.sam_workers.specs.declared.input.Input.{Input}
 use Rattle.sam_settle.specs.declared.settled.Settled.{Settled}
 use Rattle.sam_workers.specs.declared.stop.Stop.TheVariants as stop
+use Rattle.sam_spawn.specs.declared.run.RunFault.{RunFault}
+use Rattle.sam_session.specs.Threading.{of_run}
 use Rattle.sam_settle.proofs.SettlingLists.{loaded, items_mine, items_other, nothing_joined, split_map, parts_of, senders_within}
 use Rattle.sam_settle.proofs.SettlingClauses.{stop_none}
 use Rattle.sam_session.proofs.Scripts.{weaker}
@@ -102,8 +104,8 @@ users_unstopped e none = grind (arith, nothing_joined, stop_none)
 own_exit : (own : List UserEvent) (entries : List (Entry Input)) → IsOwnExit own entries → (own ≡ []) ⊎ (own ≡ Exit ∷ [])
 own_exit own entries e = grind arith
 
-all_users : (script : PlainScript) (refuses : ℕ → Type 0) (s : Settled) → IsSession script refuses s → s.stops.items ≡ [] → HasAllUsers script s.schedule.items
-all_users script refuses s session none =
+all_users : (script : PlainScript) (refuses : ℕ → Type 0) (must : ℕ → Option ℕ → Type 0) (s : Settled) → IsSession script refuses must s → s.stops.items ≡ [] → HasAllUsers script s.schedule.items
+all_users script refuses must s session none =
     let e : Ends = session.ends in
     let told = session.told in
     let whole = session.whole none in
@@ -124,9 +126,9 @@ all_users script refuses s session none =
 
 -- ---- what a session prints, and why it does not
 
-pub printed : (script : PlainScript) (refuses : ℕ → Type 0) (s : Settled) (lines : List ℕ) → IsSession script refuses s → of_stops s.stops.items ≡ None
+pub printed : (script : PlainScript) (refuses : ℕ → Type 0) (must : ℕ → Option ℕ → Type 0) (s : Settled) (lines : List ℕ) → IsSession script refuses must s → of_stops s.stops.items ≡ None
     → lines ≡ run_lines_of script.files s.schedule.items ++ show_lines s.world → PrintsSession lines script
-printed script refuses s lines session unstopped is =
+printed script refuses must s lines session unstopped is =
     let none = none_stopped s.stops.items unstopped in
     let whole = session.whole none in (
       s.schedule.items,
@@ -134,7 +136,7 @@ printed script refuses s lines session unstopped is =
       is,
       record {
         run = session.run;
-        users = all_users script refuses s session none;
+        users = all_users script refuses must s session none;
         exited = whole.exited;
         settled = session.headline.quiet s.schedule.items [] s.world (sym (append-nil s.schedule.items)) session.headline.run whole.quiet;
       },
@@ -144,14 +146,14 @@ printed script refuses s lines session unstopped is =
 of_cause_is : (cause : Option Stop) (stops : List Stop) (e : PlayFault) → of_cause cause stops ≡ Some e → (P : PlayFault → Type 0) → ((why : Stop) → P (Side why)) → P Threads → P OutOfMemory → P e
 of_cause_is cause stops e u P w q y = grind arith
 
-pub not_run : (script : PlainScript) (e : PlayFault) → (e ≡ Threads) ⊎ (e ≡ OutOfMemory) → IsSessionFault script e
-not_run script e u = grind arith
+pub not_run : (script : PlainScript) (why : RunFault) (e : PlayFault) → e ≡ of_run why → IsSessionFault script e
+not_run script why e is = grind arith
 
-stopped : (script : PlainScript) (s : Settled) (e : PlayFault) → IsSession script (λ _. ⊥) s → of_stops s.stops.items ≡ Some e → IsSessionFault script e
+stopped : (script : PlainScript) (s : Settled) (e : PlayFault) → IsSession script (λ _. ⊥) (λ _ _. ⊥) s → of_stops s.stops.items ≡ Some e → IsSessionFault script e
 stopped script s e session is =
     of_cause_is (first_cause s.stops.items) s.stops.items e is (λ f. of_stops s.stops.items ≡ Some f → IsSessionFault script f) (λ why same. (s, same, session)) (λ same. tt) (λ same. tt) is
 
-pub not_printed : (script : PlainScript) (s : Settled) (e : PlayFault) → IsSession script (λ _. ⊥) s → (e ≡ OutOfMemory) ⊎ (of_stops s.stops.items ≡ Some e)
+pub not_printed : (script : PlainScript) (s : Settled) (e : PlayFault) → IsSession script (λ _. ⊥) (λ _ _. ⊥) s → (e ≡ OutOfMemory) ⊎ (of_stops s.stops.items ≡ Some e)
     → IsSessionFault script e
 not_printed script s e session (inl is) = subst (IsSessionFault script) (sym is) tt
 not_printed script s e session (inr is) = stopped script s e session is

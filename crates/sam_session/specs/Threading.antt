@@ -13,9 +13,17 @@ use Rattle.sam_spawn.specs.Session.{IsSession}
 use Rattle.sam_settle.specs.declared.settled.Settled.{Settled}
 use Rattle.sam_workers.specs.declared.stop.Stop.{Stop}
 use Rattle.sam_workers.specs.declared.stop.Stop.TheVariants as stop
+use Rattle.sam_spawn.specs.declared.run.RunFault.{RunFault}
+use Rattle.sam_spawn.specs.declared.run.RunFault.TheVariants as run
 use Rattle.sam_session.specs.Replaying.{IsShort}
 use Rattle.sam_session.specs.declared.fault.PlayFault.{PlayFault}
 use Rattle.sam_session.specs.declared.fault.PlayFault.TheVariants.{Script, Read, Write, Side, Threads, OutOfMemory}
+
+-- what it is for the program that no session was run
+abbrev pub of_run : RunFault → PlayFault
+of_run run.GateTimedOut = Threads
+of_run run.NoThread = Threads
+of_run run.OutOfMemory = OutOfMemory
 
 -- what a stop is for the program
 abbrev pub of_stop : Stop → PlayFault
@@ -84,7 +92,7 @@ IsThreaded input written = IsShort input × OfScript input (PrintsSession writte
 
 -- a session of the script, at gates that refuse nobody, has stops of this cause
 abbrev pub StopsSession : PlayFault → PlainScript → Type 0
-StopsSession why script = (s : Settled) × (of_stops s.stops.items ≡ Some why) × IsSession script (λ _. ⊥) s
+StopsSession why script = (s : Settled) × (of_stops s.stops.items ≡ Some why) × IsSession script (λ _. ⊥) (λ _ _. ⊥) s
 
 -- what a session of the script can come to: a side's stop, no threads, or want of memory
 abbrev pub IsSessionFault : PlainScript → PlayFault → Type 0

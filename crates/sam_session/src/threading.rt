@@ -7,7 +7,7 @@ ghost use Rattle.sam_script.specs.Spelling.{Spells};
 ghost use Rattle.sam_session.specs.Limits.{most_input};
 ghost use Rattle.sam_session.specs.Outcome.{Written};
 ghost use Rattle.sam_session.specs.Status.{IsTold};
-ghost use Rattle.sam_session.specs.Threading.{of_stops, IsThreaded, IsThreadsFault, IsSessionFault, IsUnread, PrintsSession};
+ghost use Rattle.sam_session.specs.Threading.{of_run, of_stops, IsThreaded, IsThreadsFault, IsSessionFault, IsUnread, PrintsSession};
 
 use crate::fault::PlayFault;
 use crate::input::{read_all, write_or_tell};
@@ -154,7 +154,7 @@ fn fault_of(stops: &[Stop]) -> Option<PlayFault>
 
 /// Returns what it is for the program that no session was run.
 fn of_run(fault: RunFault) -> PlayFault
-    ensures { (result ≡ PlayFault.Threads) ⊎ (result ≡ PlayFault.OutOfMemory) }
+    ensures { result ≡ of_run fault }
 {
     match fault {
         RunFault::GateTimedOut | RunFault::NoThread => PlayFault::Threads,

@@ -31,7 +31,7 @@ pub use Rattle.sam_term.specs.declared.event.Acted.{Acted}
 pub use Rattle.sam_term.specs.declared.event.UserEvent.{UserEvent}
 pub use Rattle.sam_term.specs.declared.fault.TermFault.{TermFault}
 pub use Rattle.sam_workers.proofs.ApartTurns.{InTurn, InTurn-append, IsFree, each_h, each_t, free_turn, in_turn}
-pub use Rattle.sam_workers.proofs.RealLaws.{answered_as, counts, down_free, down_sound, each_of_all, plain_run, up_free, up_sound}
+pub use Rattle.sam_workers.proofs.RealLaws.{answered_as, counts, down_free, down_sound, each_of_all, plain_run, up_free, up_sound, works}
 pub use Rattle.sam_workers.specs.Inputs.{bytes_of, frame_of_load, frames_in}
 pub use Rattle.sam_workers.specs.RealSides.{acted, sides, unless_refused}
 pub use Rattle.sam_workers.specs.WorkerEnds.{AreEnds, HostStopped, IsForeign, IsFullUp, ReaderStopped, RefusesFrame, TermStopped, Told}

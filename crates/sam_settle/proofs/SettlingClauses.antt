@@ -1,5 +1,5 @@
 -- What the five ends of a session and the audits of its lines come to.
-use Rattle.sam_settle.proofs.Common.{◌≡◌, ◌⊎◌, inl, inr, refl, sym, ap, ◌∙◌, subst, ℕ, ◌+◌, ◌<◌, ◌≤◌, false, List, [], ◌∷◌, ◌++◌, map, take, Option, Some, None, Err, append_assoc, append-nil, arith, IsTrue, same_Some, append_cancel_left, map-append, MesgFault, FitsT, fits_t, Tmesg, FitsH, fits_h, HFrame, terminal, host, frame_of, version_after, stream_of, Shows, answer, AreGiven, HostFault, UserEvent, Entry, items_of, PostView, IsSoundWorld, Each, PlainWorld, new_world, run_of, merged, reached_in_order, quiet_means_agreement, each_append, each_front, Apart, Joined, bytes_of, frames_in, Told, HostStopped, ReaderStopped, TermStopped, RefusesFrame, IsForeign, IsFullUp, Headline, LinesGive, counts_left, as_list, stops_of, IsFull, count_gone, AreFull, HasStreams, HasUsers, IsDrained, IsWhole, MissesHost, Input, User, Ends, Host, Settled, each_of_all, AreEnds, Understood, ComesTo, IsScheduled, each_h}
+use Rattle.sam_settle.proofs.Common.{◌≡◌, ◌⊎◌, inl, inr, refl, sym, ap, ◌∙◌, subst, ℕ, ◌+◌, ◌<◌, ◌≤◌, false, List, [], ◌∷◌, ◌++◌, map, take, Option, Some, None, Err, append_assoc, append-nil, arith, IsTrue, same_Some, append_cancel_left, map-append, MesgFault, FitsT, fits_t, Tmesg, FitsH, fits_h, HFrame, terminal, host, frame_of, version_after, stream_of, Shows, answer, AreGiven, HostFault, UserEvent, Entry, items_of, PostView, IsSoundWorld, Each, PlainWorld, new_world, run_of, merged, reached_in_order, quiet_means_agreement, each_append, each_front, Apart, Joined, bytes_of, frames_in, Told, HostStopped, ReaderStopped, TermStopped, RefusesFrame, IsForeign, IsFullUp, Headline, LinesGive, counts_left, as_list, stops_of, IsFull, count_gone, AreFull, HasStreams, HasUsers, IsDrained, IsWhole, MissesHost, Input, User, Ends, Host, Settled, each_of_all, AreEnds, Understood, ComesTo, IsScheduled, each_h, new_terminal, works}
 use Rattle.std.proofs.lemmas.Grind.{flat_map-append}
 use Rattle.std.proofs.lemmas.List.Elements.{All-nil}
 use Rattle.sam_host.specs.declared.fault.HostFault.TheVariants as refusal
@@ -111,7 +111,15 @@ module _ (e : Ends) (ends : AreEnds e) (given : LinesGive e) where
   )
 
   apart : Apart e.host.files.items e.term.log.items e.host.host e.term.term composed handled answered passed frames
-  apart = grind (arith, given_of_files, each_of_all, up_bytes, down_bytes, passing)
+  apart = grind (
+    arith,
+    given_of_files,
+    each_of_all,
+    up_bytes,
+    down_bytes,
+    passing,
+    (works e.term.log.items new_terminal e.term.term frames composed told.term.runs),
+  )
 
   joined : Joined e.host.files.items e.term.log.items e.host.host e.term.term composed handled answered frames
   joined = joins e.host.files.items e.term.log.items e.host.host e.term.term composed handled answered passed frames apart
@@ -259,7 +267,7 @@ module _ (e : Ends) (ends : AreEnds e) (given : LinesGive e) where
     }
 
     pub has_streams : HasStreams e s
-    has_streams = grind (arith, joined, apart, passing, world_is, (map-append Host frames (frames_in told.term.dropped ++ passing.0)))
+    has_streams = grind (arith, joined, apart, told.term.runs, passing, world_is, (map-append Host frames (frames_in told.term.dropped ++ passing.0)))
 
     pub has_users : HasUsers e s
     has_users = grind (arith, append_assoc, items_of-append, frames_apart, key_parts, mouse_parts, joined)

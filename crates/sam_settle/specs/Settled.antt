@@ -13,7 +13,7 @@ use Rattle.sam_queue.specs.Views.{PostView, TakeView}
 use Rattle.sam_crossing.specs.World.{user_events, is_quiet}
 use Rattle.sam_world.specs.Sides.{Each, HostRuns, TermRuns}
 use Rattle.sam_world.specs.Prefixes.{Begins}
-use Rattle.sam_workers.specs.RealSides.{sides}
+use Rattle.sam_workers.specs.RealSides.{at_work, sides}
 use Rattle.sam_workers.specs.Inputs.{bytes_of, users_in}
 use Rattle.sam_workers.specs.WorkerEnds.{IsOwnExit}
 use Rattle.sam_workers.specs.declared.input.Input.{Input}
@@ -87,7 +87,8 @@ pub record AreFull (s : Settled) : Type 0 where
 
 -- ## Messages and frames
 
--- From the first files the host handled messages and answered frames. The terminal went through its log, took frames and composed messages.
+-- From the first files the host handled messages and answered frames. The terminal went through its log, took frames and composed messages;
+-- each Act of the log did or refused an event, and each Flush composed runes.
 -- The messages handled are a first part of those composed, and the frames taken a first part of those answered: the rest of each is under
 -- way in the world. What each side put are the first bytes of its messages. The frames taken are the first that the host reader put
 pub record HasStreams (ends : Ends) (s : Settled) : Type 0 where
@@ -96,7 +97,7 @@ pub record HasStreams (ends : Ends) (s : Settled) : Type 0 where
   pub answered : List HFrame
   pub taken : List HFrame
   pub host_ran : HostRuns sides (new_host ends.host.files.items) handled answered s.world.host
-  pub terminal_ran : TermRuns sides new_terminal ends.term.log.items taken composed s.world.term
+  pub terminal_ran : TermRuns at_work new_terminal ends.term.log.items taken composed s.world.term
   pub upwards : composed ≡ handled ++ s.world.up
   pub downwards : answered ≡ taken ++ s.world.down
   pub put_up : Begins (bytes_of ends.term.post.put) (stream_of terminal composed)

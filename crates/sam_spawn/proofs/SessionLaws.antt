@@ -1,5 +1,5 @@
 -- What a settled session of a script is.
-use Rattle.std.proofs.Common.{◌≡◌, ℕ, List, [], ◌∷◌, length, map, take, drop, Some, None, refl, sym, ap, ◌∙◌, arith, take-append-drop}
+use Rattle.std.proofs.Common.{◌≡◌, ℕ, List, [], ◌∷◌, length, map, take, drop, Option, Some, None, refl, sym, ap, ◌∙◌, arith, take-append-drop}
 use Rattle.std.proofs.lemmas.List.{map-append}
 use Rattle.sam_term.specs.declared.event.UserEvent.{UserEvent}
 use Rattle.sam_queue.specs.Views.{LineView}
@@ -8,6 +8,7 @@ use Rattle.sam_world.specs.Prefixes.{Begins}
 use Rattle.sam_crossing.specs.World.{new_world, run_of}
 use Rattle.sam_world.specs.Merging.{merged}
 use Rattle.sam_workers.specs.Lines.{LinesView}
+use Rattle.sam_workers.specs.Gates.{GatesLetIn, GatesLetOn}
 use Rattle.sam_workers.specs.WorkerEnds.{Told, UserTold, AllPassed, GatesTold}
 use Rattle.sam_settle.specs.Headline.{Headline}
 use Rattle.sam_settle.specs.Settled.{counts_left, stops_of, AreFull, HasStreams, HasUsers, IsDrained, IsWhole, MissesHost}
@@ -28,12 +29,12 @@ puts_first number events line e told = grind (arith, (take-append-drop told.many
 puts_all : (number : ℕ) (events : List UserEvent) (line : LineView) (e : UserEnd) → UserTold number events line e → e.stop ≡ None → e.post.put ≡ map User events
 puts_all number events line e told none = grind (arith, take_all)
 
-pub session_of : (script : PlainScript) (refuses : ℕ → Type 0) (lines : LinesView) (e : Ends) (s : Settled)
-    → Told (keys_of script.lines) (mouse_of script.lines) lines e → e.host.files.items ≡ script.files → AllPassed e → GatesTold refuses e
+pub session_of : (script : PlainScript) (refuses : ℕ → Type 0) (must : ℕ → Option ℕ → Type 0) (lines : LinesView) (e : Ends) (s : Settled)
+    → Told (keys_of script.lines) (mouse_of script.lines) lines e → e.host.files.items ≡ script.files → AllPassed e → GatesTold refuses e → GatesLetIn must → GatesLetOn must e
     → Headline e s → s.schedule.items ≡ merged e.term.log.items e.host.host.taken → HasStreams e s → HasUsers e s
     → s.stops.items ≡ stops_of e → s.left.items ≡ counts_left e → IsDrained e s → AreFull s → (e.term.stop ≡ Some stop.PeerGone → MissesHost e s) → (s.stops.items ≡ [] → IsWhole e s)
-    → IsSession script refuses s
-session_of script refuses lines e s told files begun gates headline schedule streams users stops left drained full misses whole = record {
+    → IsSession script refuses must s
+session_of script refuses must lines e s told files begun gates let_in let_on headline schedule streams users stops left drained full misses whole = record {
   ends = e;
   lines = lines;
   told = told;
@@ -53,5 +54,7 @@ session_of script refuses lines e s told files begun gates headline schedule str
   full = full;
   misses = misses;
   gates = gates;
+  let_in = let_in;
+  let_on = let_on;
   whole = whole;
 }

@@ -1,10 +1,11 @@
 -- What a session of threads over a script comes to.
-use Rattle.std.specs.Prelude.{◌≡◌, ℕ, [], map, Some, None}
+use Rattle.std.specs.Prelude.{◌≡◌, ℕ, [], map, Option, Some, None}
 use Rattle.sam_script.specs.Script.{PlainScript, keys_of, mouse_of}
 use Rattle.sam_world.specs.Prefixes.{Begins}
 use Rattle.sam_crossing.specs.World.{new_world, run_of}
 use Rattle.sam_world.specs.Merging.{merged}
 use Rattle.sam_workers.specs.Lines.{LinesView}
+use Rattle.sam_workers.specs.Gates.{GatesLetIn, GatesLetOn}
 use Rattle.sam_workers.specs.WorkerEnds.{Told, AllPassed, GatesTold}
 use Rattle.sam_settle.specs.Headline.{Headline}
 use Rattle.sam_settle.specs.Settled.{counts_left, stops_of, AreFull, HasStreams, HasUsers, IsDrained, IsWhole, MissesHost}
@@ -14,8 +15,9 @@ use Rattle.sam_workers.specs.declared.stop.Stop.TheVariants as stop
 use Rattle.sam_settle.specs.declared.settled.Settled.{Settled}
 
 -- It was settled from the ends of a session in which each worker began and told this, the host began with the script's files, and keyboard
--- and mouse put the first events that the script has of each: all of them where nothing stopped that worker
-pub record IsSession (script : PlainScript) (refuses : ℕ → Type 0) (s : Settled) : Type 0 where
+-- and mouse put the first events that the script has of each: all of them where nothing stopped that worker. A gate stopped only workers
+-- that it may refuse (`refuses`), and let nobody pass where it never does (`must`)
+pub record IsSession (script : PlainScript) (refuses : ℕ → Type 0) (must : ℕ → Option ℕ → Type 0) (s : Settled) : Type 0 where
   pub ends : Ends
   pub lines : LinesView
   pub told : Told (keys_of script.lines) (mouse_of script.lines) lines ends
@@ -35,4 +37,6 @@ pub record IsSession (script : PlainScript) (refuses : ℕ → Type 0) (s : Sett
   pub full : AreFull s
   pub misses : ends.term.stop ≡ Some stop.PeerGone → MissesHost ends s
   pub gates : GatesTold refuses ends
+  pub let_in : GatesLetIn must
+  pub let_on : GatesLetOn must ends
   pub whole : s.stops.items ≡ [] → IsWhole ends s

@@ -1,12 +1,13 @@
 //! Running the five workers: none begins before all are started.
-ghost use Rattle.std.specs.Prelude.{◌≡◌, ◌<◌, IfOk, IfSome, IsSomeAnd, IsTrue, IsFalse, Some, Err};
+ghost use Rattle.std.specs.Prelude.{◌≡◌, ◌<◌, IfOk, IfErr, IfSome, IsSomeAnd, IsTrue, IsFalse, Some, Err};
 ghost use Rattle.sam_script.specs.Script.{keys_of, mouse_of};
-ghost use Rattle.sam_spawn.specs.Promised.{KeepPromises, TasksKept, SomeRefused};
+ghost use Rattle.sam_spawn.specs.Promised.{KeepPromises, TasksKept, SomeRefused, fault_of};
 ghost use Rattle.sam_spawn.specs.Tasks.{AreReady};
+ghost use Rattle.sam_workers.specs.Gates.{GatesLetIn, GatesLetOn};
 ghost use Rattle.sam_workers.specs.WorkerEnds.{Told, AllPassed, GatesTold, RefusesSome};
 ghost use Rattle.sam_spawn.specs.declared.run.RunFault.TheVariants.{GateTimedOut};
 
-use crate::spawning::{Handles, join_all, spawn_all};
+use crate::spawning::{Handles, Shared, join_all, spawn_all};
 use crate::tasks::{Tasks, ready_tasks};
 use sam_script::Script;
 use sam_workers::{Ends, Gate, Lines, Starts};
@@ -39,6 +40,7 @@ pub enum RunFault {
 ///
 /// Errors, in this order: `OutOfMemory` if there is no memory for what the workers begin with; `NoThread` if a thread could not be
 /// started; `GateTimedOut` if the gate did not let a worker begin. A worker that stops on its way is no error: its end tells why.
+#[tactic(auto, using(crate::proofs::Kept::kept_let_in))]
 pub fn run_ends<'q, R: Threads + Wait + Sync, G: Gate>(
     rt: &R,
     alloc: Global,
@@ -54,44 +56,50 @@ pub fn run_ends<'q, R: Threads + Wait + Sync, G: Gate>(
     ensures files { IfOk result (λ e. e.host.files.items ≡ script.now.files) }
     ensures begun { IfOk result AllPassed }
     ensures gates { IfOk result (GatesTold (G.may_refuse gate.now)) }
+    ensures let_in { IfOk result (λ _. GatesLetIn (G.must_refuse gate.now)) }
+    ensures let_on { IfOk result (GatesLetOn (G.must_refuse gate.now)) }
     ensures timed { result ≡ Err RunFault.GateTimedOut → RefusesSome (G.may_refuse gate.now) }
 {
     let Ok(tasks) = ready_tasks(alloc, lines, starts, script) else {
         return Err(RunFault::OutOfMemory);
     };
-    let cell = OnceLock::new();
-    let start = &cell;
+    let start = OnceLock::new();
+    let shared = Shared {
+        rt,
+        alloc,
+        start: &start,
+        gate,
+        piece,
+    };
+    let shared = &shared;
     thread::scope(
         thread::scope_env(),
         rt,
         move |scope| -> Result<Ends<'_>, RunFault>
-            requires { (0 < piece) × AreReady tasks.lines.now tasks }
-            ensures ends { IfOk result (TasksKept (G.may_refuse gate.entry.now) tasks.entry) }
+            requires { (0 < shared.now.piece) × AreReady tasks.lines.now tasks }
+            ensures ends { IfOk result (TasksKept (G.may_refuse shared.entry.now.gate.now) (G.must_refuse shared.entry.now.gate.now)
+                tasks.entry) }
             ensures begun { IfOk result AllPassed }
-            ensures timed { result ≡ Err RunFault.GateTimedOut → RefusesSome (G.may_refuse gate.entry.now) }
-        { run_all(scope, rt, alloc, start, gate, piece, tasks) },
+            ensures timed { result ≡ Err RunFault.GateTimedOut → RefusesSome (G.may_refuse shared.entry.now.gate.now) }
+        { run_all(scope, shared, tasks) },
     )
 }
 
 /// Starts the five threads, lets their workers begin if all could be started, and joins them.
 fn run_all<'s, 'e: 's, 'q: 's, R: Threads + Wait + Sync, G: Gate>(
     scope: &'s Scope<'s, &'e ()>,
-    rt: &'s R,
-    alloc: Global,
-    start: &'s OnceLock<bool>,
-    gate: &'s G,
-    piece: usize,
+    shared: &'s Shared<'s, R, G>,
     tasks: Tasks<'q>,
 ) -> Result<Ends<'q>, RunFault>
-    requires piece { 0 < piece }
+    requires piece { 0 < shared.now.piece }
     requires tasks { AreReady tasks.lines.now tasks }
-    ensures ends { IfOk result (TasksKept (G.may_refuse gate.now) tasks.entry) }
+    ensures ends { IfOk result (TasksKept (G.may_refuse shared.now.gate.now) (G.must_refuse shared.now.gate.now) tasks.entry) }
     ensures begun { IfOk result AllPassed }
-    ensures timed { result ≡ Err RunFault.GateTimedOut → RefusesSome (G.may_refuse gate.now) }
+    ensures timed { result ≡ Err RunFault.GateTimedOut → RefusesSome (G.may_refuse shared.now.gate.now) }
 {
-    let handles = spawn_all(scope, rt, alloc, start, gate, piece, tasks);
-    let _ = start.set(rt, handles.is_some());
-    begun(joined(rt, handles))
+    let handles = spawn_all(scope, shared, tasks);
+    let _ = shared.start.set(shared.rt, handles.is_some());
+    begun(joined(shared.rt, handles))
 }
 
 /// Joins the threads, if all could be started.
@@ -99,7 +107,7 @@ fn joined<'s, 'q, R: Threads, G: Gate>(
     rt: &R,
     handles: Option<Handles<'s, 'q, G>>,
 ) -> Option<Ends<'q>>
-    ensures { IfSome result (λ ends. IsSomeAnd handles.entry (λ h. KeepPromises G.may_refuse h ends)) }
+    ensures { IfSome result (λ ends. IsSomeAnd handles.entry (λ h. KeepPromises G.may_refuse G.must_refuse h ends)) }
 {
     join_all(rt, handles?)
 }
@@ -110,6 +118,7 @@ fn begun(ends: Option<Ends<'_>>) -> Result<Ends<'_>, RunFault>
     ensures ends { IfOk result (λ e. ends.entry ≡ Some e) }
     ensures begun { IfOk result AllPassed }
     ensures timed { result ≡ Err RunFault.GateTimedOut → IsSomeAnd ends.entry SomeRefused }
+    ensures fault { IfErr result (λ why. why ≡ fault_of ends.entry) }
 {
     let Some(ends) = ends else {
         return Err(RunFault::NoThread);

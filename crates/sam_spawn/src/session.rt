@@ -2,6 +2,7 @@
 ghost use Rattle.std.specs.Prelude.{◌≡◌, ◌<◌, IfOk, IfErr, Err};
 ghost use Rattle.sam_script.specs.Script.{keys_of, mouse_of};
 ghost use Rattle.sam_spawn.specs.Session.{IsSession};
+ghost use Rattle.sam_workers.specs.Gates.{GatesLetIn, GatesLetOn};
 ghost use Rattle.sam_workers.specs.WorkerEnds.{AllPassed, GatesTold, RefusesSome, Told};
 ghost use Rattle.sam_spawn.specs.declared.run.RunFault.TheVariants.{GateTimedOut, OutOfMemory};
 
@@ -36,7 +37,7 @@ pub fn run_threads<R: Threads + Wait + Sync, G: Gate>(
 ) -> Result<Settled, RunFault>
     requires piece { 0 < piece }
     requires capacity { 0 < capacity }
-    ensures session { IfOk result (IsSession script.now (G.may_refuse gate.now)) }
+    ensures session { IfOk result (IsSession script.now (G.may_refuse gate.now) (G.must_refuse gate.now)) }
     ensures timed { result ≡ Err RunFault.GateTimedOut → RefusesSome (G.may_refuse gate.now) }
 {
     let Ok((lines, starts)) = Lines::new(alloc, capacity) else {
@@ -57,7 +58,7 @@ fn run_over<R: Threads + Wait + Sync, G: Gate>(
 ) -> Result<Settled, RunFault>
     requires together { starts ≡ lines.now }
     requires piece { 0 < piece }
-    ensures session { IfOk result (IsSession script.now (G.may_refuse gate.now)) }
+    ensures session { IfOk result (IsSession script.now (G.may_refuse gate.now) (G.must_refuse gate.now)) }
     ensures timed { result ≡ Err RunFault.GateTimedOut → RefusesSome (G.may_refuse gate.now) }
 {
     let ends = run_ends(rt, alloc, lines, starts, script, piece, gate)?;
@@ -77,7 +78,9 @@ fn settle_run<'q, R: Wait, G: Gate>(
     requires files { ends.host.files.items ≡ script.now.files }
     requires begun { AllPassed ends }
     requires gates { GatesTold (G.may_refuse gate.now) ends }
-    ensures session { IfOk result (IsSession script.now (G.may_refuse gate.now)) }
+    requires let_in { GatesLetIn (G.must_refuse gate.now) }
+    requires let_on { GatesLetOn (G.must_refuse gate.now) ends }
+    ensures session { IfOk result (IsSession script.now (G.may_refuse gate.now) (G.must_refuse gate.now)) }
     ensures memory { IfErr result (λ why. why ≡ RunFault.OutOfMemory) }
 {
     let Ok(settled) = settle(rt, alloc, ends) else {

@@ -1,6 +1,7 @@
 //! Starting the five threads, and joining them.
 ghost use Rattle.std.specs.Prelude.{◌≡◌, ◌<◌, IfSome, Some};
-ghost use Rattle.sam_spawn.specs.Promised.{UserKept, HostKept, ReaderKept, TermKept, KeepPromises, PromisesUser, PromisesHost, PromisesReader, PromisesTerm, TasksPromised};
+ghost use Rattle.sam_spawn.specs.Promised.{UserKept, HostKept, ReaderKept, TermKept, KeepPromises, PromisesUser, PromisesHost};
+ghost use Rattle.sam_spawn.specs.Promised.{PromisesReader, PromisesTerm, TasksPromised};
 ghost use Rattle.sam_spawn.specs.Tasks.{IsUserTask, IsHostTask, IsReaderTask, IsTermTask, AreReady};
 
 use crate::tasks::{HostTask, ReaderTask, Tasks, TermTask, UserTask};
@@ -15,6 +16,32 @@ use std::alloc::Global;
 use std::snapshot::Snapshot;
 use std::sync::{OnceLock, Wait};
 use std::thread::{Promise, PromisedHandle, Scope, Threads};
+
+/// What the five workers share.
+pub struct Shared<'s, R, G> {
+    /// The runtime, by which they wait.
+    pub rt: &'s R,
+    /// Where their memory comes from.
+    pub alloc: Global,
+    /// Whether they are to begin. It is set once all five threads were started, or some could not be.
+    pub start: &'s OnceLock<bool>,
+    /// The gate that they ask.
+    pub gate: &'s G,
+    /// The most bytes of a piece: at least 1.
+    pub piece: usize,
+}
+
+impl<'s, R, G> Drop for Shared<'s, R, G> {
+    fn drop(self) {
+        let Shared {
+            rt: _,
+            alloc: _,
+            start: _,
+            gate: _,
+            piece: _,
+        } = self;
+    }
+}
 
 /// What the thread of the keyboard or of the mouse promises, and its join hands on: an end of this worker, with these events, on this
 /// line. It is kept beside the thread's handle, for clauses alone.
@@ -44,7 +71,7 @@ impl<'a, 'q, G: Gate> Promise<Option<UserEnd<'q>>> for UserPromise<'a, 'q, G> {
     ghost use Rattle.std.specs.Prelude.{IfSome};
     ghost use Rattle.sam_spawn.specs.Promised.{KeepsUser};
 
-    ghost kept_by = { λ p r. IfSome r (KeepsUser G.may_refuse p) };
+    ghost kept_by = { λ p r. IfSome r (KeepsUser G.may_refuse G.must_refuse p) };
 }
 
 /// What the host's thread promises, and its join hands on: an end of the host's worker, with these files, on these lines. It is kept
@@ -75,7 +102,7 @@ impl<'a, 'q, G: Gate> Promise<Option<HostEnd<'q>>> for HostPromise<'a, 'q, G> {
     ghost use Rattle.std.specs.Prelude.{IfSome};
     ghost use Rattle.sam_spawn.specs.Promised.{KeepsHost};
 
-    ghost kept_by = { λ p r. IfSome r (KeepsHost G.may_refuse p) };
+    ghost kept_by = { λ p r. IfSome r (KeepsHost G.may_refuse G.must_refuse p) };
 }
 
 /// What the host reader's thread promises, and its join hands on: an end of the host reader, on these lines. It is kept beside the
@@ -103,7 +130,7 @@ impl<'a, 'q, G: Gate> Promise<Option<ReaderEnd<'q>>> for ReaderPromise<'a, 'q, G
     ghost use Rattle.std.specs.Prelude.{IfSome};
     ghost use Rattle.sam_spawn.specs.Promised.{KeepsReader};
 
-    ghost kept_by = { λ p r. IfSome r (KeepsReader G.may_refuse p) };
+    ghost kept_by = { λ p r. IfSome r (KeepsReader G.may_refuse G.must_refuse p) };
 }
 
 /// What the terminal's thread promises, and its join hands on: an end of the terminal's worker, on these lines. It is kept beside the
@@ -131,22 +158,21 @@ impl<'a, 'q, G: Gate> Promise<Option<TermEnd<'q>>> for TermPromise<'a, 'q, G> {
     ghost use Rattle.std.specs.Prelude.{IfSome};
     ghost use Rattle.sam_spawn.specs.Promised.{KeepsTerm};
 
-    ghost kept_by = { λ p r. IfSome r (KeepsTerm G.may_refuse p) };
+    ghost kept_by = { λ p r. IfSome r (KeepsTerm G.may_refuse G.must_refuse p) };
 }
 
 /// Waits for the start, and then runs the keyboard's or the mouse's worker. Returns `None` if the start was called off.
 fn begin_user<'q, R: Wait, G: Gate>(
-    rt: &R,
-    start: &OnceLock<bool>,
-    gate: &G,
+    shared: &Shared<'_, R, G>,
     worker: usize,
     task: UserTask<'q>,
 ) -> Option<UserEnd<'q>>
     requires worker { worker < 5 }
     requires task { IsUserTask worker task.post.line task }
-    ensures { IfSome result (UserKept (G.may_refuse gate.now) worker task.entry.events.items task.entry.post.line) }
+    ensures { IfSome result (UserKept (G.may_refuse shared.now.gate.now) (G.must_refuse shared.now.gate.now) worker
+        task.entry.events.items task.entry.post.line) }
 {
-    if !*start.wait(rt) {
+    if !*shared.start.wait(shared.rt) {
         return None;
     }
     let UserTask {
@@ -154,23 +180,20 @@ fn begin_user<'q, R: Wait, G: Gate>(
         events,
         held: _,
     } = task;
-    Some(send_events(rt, gate, worker, events, post))
+    Some(send_events(shared.rt, shared.gate, worker, events, post))
 }
 
 /// Waits for the start, and then runs the host's worker. Returns `None` if the start was called off.
 fn begin_host<'q, R: Wait, G: Gate>(
-    rt: &R,
-    alloc: Global,
-    start: &OnceLock<bool>,
-    gate: &G,
-    piece: usize,
+    shared: &Shared<'_, R, G>,
     task: HostTask<'q>,
 ) -> Option<HostEnd<'q>>
-    requires piece { 0 < piece }
+    requires piece { 0 < shared.now.piece }
     requires task { IsHostTask task.take.line task.post.line task }
-    ensures { IfSome result (HostKept (G.may_refuse gate.now) task.entry.files.items task.entry.take.line task.entry.post.line) }
+    ensures { IfSome result (HostKept (G.may_refuse shared.now.gate.now) (G.must_refuse shared.now.gate.now)
+        task.entry.files.items task.entry.take.line task.entry.post.line) }
 {
-    if !*start.wait(rt) {
+    if !*shared.start.wait(shared.rt) {
         return None;
     }
     let HostTask {
@@ -180,21 +203,28 @@ fn begin_host<'q, R: Wait, G: Gate>(
         host,
         held: _,
     } = task;
-    Some(serve_host(rt, alloc, gate, piece, take, post, files, host))
+    Some(serve_host(
+        shared.rt,
+        shared.alloc,
+        shared.gate,
+        shared.piece,
+        take,
+        post,
+        files,
+        host,
+    ))
 }
 
 /// Waits for the start, and then runs the host reader. Returns `None` if the start was called off.
 fn begin_reader<'q, R: Wait, G: Gate>(
-    rt: &R,
-    alloc: Global,
-    start: &OnceLock<bool>,
-    gate: &G,
+    shared: &Shared<'_, R, G>,
     task: ReaderTask<'q>,
 ) -> Option<ReaderEnd<'q>>
     requires task { IsReaderTask task.take.line task.post.line task }
-    ensures { IfSome result (ReaderKept (G.may_refuse gate.now) task.entry.take.line task.entry.post.line) }
+    ensures { IfSome result (ReaderKept (G.may_refuse shared.now.gate.now) (G.must_refuse shared.now.gate.now)
+        task.entry.take.line task.entry.post.line) }
 {
-    if !*start.wait(rt) {
+    if !*shared.start.wait(shared.rt) {
         return None;
     }
     let ReaderTask {
@@ -202,23 +232,20 @@ fn begin_reader<'q, R: Wait, G: Gate>(
         post,
         held: _,
     } = task;
-    Some(pass_frames(rt, alloc, gate, take, post))
+    Some(pass_frames(shared.rt, shared.alloc, shared.gate, take, post))
 }
 
 /// Waits for the start, and then runs the terminal's worker. Returns `None` if the start was called off.
 fn begin_terminal<'q, R: Wait, G: Gate>(
-    rt: &R,
-    alloc: Global,
-    start: &OnceLock<bool>,
-    gate: &G,
-    piece: usize,
+    shared: &Shared<'_, R, G>,
     task: TermTask<'q>,
 ) -> Option<TermEnd<'q>>
-    requires piece { 0 < piece }
+    requires piece { 0 < shared.now.piece }
     requires task { IsTermTask task.take.line task.post.line task }
-    ensures { IfSome result (TermKept (G.may_refuse gate.now) task.entry.take.line task.entry.post.line) }
+    ensures { IfSome result (TermKept (G.may_refuse shared.now.gate.now) (G.must_refuse shared.now.gate.now)
+        task.entry.take.line task.entry.post.line) }
 {
-    if !*start.wait(rt) {
+    if !*shared.start.wait(shared.rt) {
         return None;
     }
     let TermTask {
@@ -227,7 +254,15 @@ fn begin_terminal<'q, R: Wait, G: Gate>(
         term,
         held: _,
     } = task;
-    Some(run_terminal(rt, alloc, gate, piece, take, post, term))
+    Some(run_terminal(
+        shared.rt,
+        shared.alloc,
+        shared.gate,
+        shared.piece,
+        take,
+        post,
+        term,
+    ))
 }
 
 /// The handle of the keyboard's or the mouse's thread, with its promise.
@@ -245,19 +280,17 @@ type TermHandle<'s, 'q, G> = PromisedHandle<Option<TermEnd<'q>>, TermPromise<'s,
 /// Starts the thread of the keyboard or of the mouse. Returns `None` if it could not be started.
 fn spawn_user<'s, 'e: 's, 'q: 's, R: Wait + Sync, G: Gate>(
     scope: &'s Scope<'s, &'e ()>,
-    rt: &'s R,
-    start: &'s OnceLock<bool>,
-    gate: &'s G,
+    shared: &'s Shared<'s, R, G>,
     worker: usize,
     events: &'q Line<Input>,
     task: UserTask<'q>,
 ) -> Option<UserHandle<'s, 'q, G>>
     requires worker { worker < 5 }
     requires task { IsUserTask worker events.now task }
-    ensures { IfSome result (λ h. PromisesUser gate.now worker task.entry.events.items events.now h.promise) }
+    ensures { IfSome result (λ h. PromisesUser shared.now.gate.now worker task.entry.events.items events.now h.promise) }
 {
     let promise = UserPromise {
-        gate,
+        gate: shared.gate,
         worker,
         todo: Snapshot::of(&task.events),
         events,
@@ -266,8 +299,9 @@ fn spawn_user<'s, 'e: 's, 'q: 's, R: Wait + Sync, G: Gate>(
         promise,
         move || -> Option<UserEnd<'_>>
             requires { (worker < 5) × IsUserTask worker task.post.line task }
-            ensures { IfSome result (UserKept (G.may_refuse gate.entry.now) worker task.entry.events.items task.entry.post.line) }
-        { begin_user(rt, start, gate, worker, task) },
+            ensures { IfSome result (UserKept (G.may_refuse shared.entry.now.gate.now) (G.must_refuse shared.entry.now.gate.now) worker
+                task.entry.events.items task.entry.post.line) }
+        { begin_user(shared, worker, task) },
     );
     child.ok()
 }
@@ -275,21 +309,17 @@ fn spawn_user<'s, 'e: 's, 'q: 's, R: Wait + Sync, G: Gate>(
 /// Starts the thread of the host. Returns `None` if it could not be started.
 fn spawn_host<'s, 'e: 's, 'q: 's, R: Wait + Sync, G: Gate>(
     scope: &'s Scope<'s, &'e ()>,
-    rt: &'s R,
-    alloc: Global,
-    start: &'s OnceLock<bool>,
-    gate: &'s G,
-    piece: usize,
+    shared: &'s Shared<'s, R, G>,
     up: &'q Line<Vec<u8>>,
     down: &'q Line<Vec<u8>>,
     task: HostTask<'q>,
 ) -> Option<HostHandle<'s, 'q, G>>
-    requires piece { 0 < piece }
+    requires piece { 0 < shared.now.piece }
     requires task { IsHostTask up.now down.now task }
-    ensures { IfSome result (λ h. PromisesHost gate.now task.entry.files.items up.now down.now h.promise) }
+    ensures { IfSome result (λ h. PromisesHost shared.now.gate.now task.entry.files.items up.now down.now h.promise) }
 {
     let promise = HostPromise {
-        gate,
+        gate: shared.gate,
         files: Snapshot::of(&task.files),
         up,
         down,
@@ -297,10 +327,10 @@ fn spawn_host<'s, 'e: 's, 'q: 's, R: Wait + Sync, G: Gate>(
     let child = scope.spawn_with(
         promise,
         move || -> Option<HostEnd<'_>>
-            requires { (0 < piece) × IsHostTask task.take.line task.post.line task }
-            ensures { IfSome result
-                (HostKept (G.may_refuse gate.entry.now) task.entry.files.items task.entry.take.line task.entry.post.line) }
-        { begin_host(rt, alloc, start, gate, piece, task) },
+            requires { (0 < shared.now.piece) × IsHostTask task.take.line task.post.line task }
+            ensures { IfSome result (HostKept (G.may_refuse shared.entry.now.gate.now) (G.must_refuse shared.entry.now.gate.now)
+                task.entry.files.items task.entry.take.line task.entry.post.line) }
+        { begin_host(shared, task) },
     );
     child.ok()
 }
@@ -308,24 +338,26 @@ fn spawn_host<'s, 'e: 's, 'q: 's, R: Wait + Sync, G: Gate>(
 /// Starts the thread of the host reader. Returns `None` if it could not be started.
 fn spawn_reader<'s, 'e: 's, 'q: 's, R: Wait + Sync, G: Gate>(
     scope: &'s Scope<'s, &'e ()>,
-    rt: &'s R,
-    alloc: Global,
-    start: &'s OnceLock<bool>,
-    gate: &'s G,
+    shared: &'s Shared<'s, R, G>,
     down: &'q Line<Vec<u8>>,
     events: &'q Line<Input>,
     task: ReaderTask<'q>,
 ) -> Option<ReaderHandle<'s, 'q, G>>
     requires task { IsReaderTask down.now events.now task }
-    ensures { IfSome result (λ h. PromisesReader gate.now down.now events.now h.promise) }
+    ensures { IfSome result (λ h. PromisesReader shared.now.gate.now down.now events.now h.promise) }
 {
-    let promise = ReaderPromise { gate, down, events };
+    let promise = ReaderPromise {
+        gate: shared.gate,
+        down,
+        events,
+    };
     let child = scope.spawn_with(
         promise,
         move || -> Option<ReaderEnd<'_>>
             requires { IsReaderTask task.take.line task.post.line task }
-            ensures { IfSome result (ReaderKept (G.may_refuse gate.entry.now) task.entry.take.line task.entry.post.line) }
-        { begin_reader(rt, alloc, start, gate, task) },
+            ensures { IfSome result (ReaderKept (G.may_refuse shared.entry.now.gate.now) (G.must_refuse shared.entry.now.gate.now)
+                task.entry.take.line task.entry.post.line) }
+        { begin_reader(shared, task) },
     );
     child.ok()
 }
@@ -333,26 +365,27 @@ fn spawn_reader<'s, 'e: 's, 'q: 's, R: Wait + Sync, G: Gate>(
 /// Starts the thread of the terminal. Returns `None` if it could not be started.
 fn spawn_terminal<'s, 'e: 's, 'q: 's, R: Wait + Sync, G: Gate>(
     scope: &'s Scope<'s, &'e ()>,
-    rt: &'s R,
-    alloc: Global,
-    start: &'s OnceLock<bool>,
-    gate: &'s G,
-    piece: usize,
+    shared: &'s Shared<'s, R, G>,
     events: &'q Line<Input>,
     up: &'q Line<Vec<u8>>,
     task: TermTask<'q>,
 ) -> Option<TermHandle<'s, 'q, G>>
-    requires piece { 0 < piece }
+    requires piece { 0 < shared.now.piece }
     requires task { IsTermTask events.now up.now task }
-    ensures { IfSome result (λ h. PromisesTerm gate.now events.now up.now h.promise) }
+    ensures { IfSome result (λ h. PromisesTerm shared.now.gate.now events.now up.now h.promise) }
 {
-    let promise = TermPromise { gate, events, up };
+    let promise = TermPromise {
+        gate: shared.gate,
+        events,
+        up,
+    };
     let child = scope.spawn_with(
         promise,
         move || -> Option<TermEnd<'_>>
-            requires { (0 < piece) × IsTermTask task.take.line task.post.line task }
-            ensures { IfSome result (TermKept (G.may_refuse gate.entry.now) task.entry.take.line task.entry.post.line) }
-        { begin_terminal(rt, alloc, start, gate, piece, task) },
+            requires { (0 < shared.now.piece) × IsTermTask task.take.line task.post.line task }
+            ensures { IfSome result (TermKept (G.may_refuse shared.entry.now.gate.now) (G.must_refuse shared.entry.now.gate.now)
+                task.entry.take.line task.entry.post.line) }
+        { begin_terminal(shared, task) },
     );
     child.ok()
 }
@@ -375,16 +408,12 @@ pub struct Handles<'s, 'q, G: Gate> {
 /// to call the start off.
 pub fn spawn_all<'s, 'e: 's, 'q: 's, R: Wait + Sync, G: Gate>(
     scope: &'s Scope<'s, &'e ()>,
-    rt: &'s R,
-    alloc: Global,
-    start: &'s OnceLock<bool>,
-    gate: &'s G,
-    piece: usize,
+    shared: &'s Shared<'s, R, G>,
     tasks: Tasks<'q>,
 ) -> Option<Handles<'s, 'q, G>>
-    requires piece { 0 < piece }
+    requires piece { 0 < shared.now.piece }
     requires tasks { AreReady tasks.lines.now tasks }
-    ensures { IfSome result (TasksPromised gate.now tasks.entry) }
+    ensures { IfSome result (TasksPromised shared.now.gate.now tasks.entry) }
 {
     let Tasks {
         lines,
@@ -396,14 +425,14 @@ pub fn spawn_all<'s, 'e: 's, 'q: 's, R: Wait + Sync, G: Gate>(
     } = tasks;
     let (up, down, events) = (lines.up(), lines.down(), lines.events());
     let users = both(
-        spawn_user(scope, rt, start, gate, 0, events, keyboard),
-        spawn_user(scope, rt, start, gate, 1, events, mouse),
+        spawn_user(scope, shared, 0, events, keyboard),
+        spawn_user(scope, shared, 1, events, mouse),
     );
     let sides = both(
-        spawn_host(scope, rt, alloc, start, gate, piece, up, down, host),
-        spawn_terminal(scope, rt, alloc, start, gate, piece, events, up, term),
+        spawn_host(scope, shared, up, down, host),
+        spawn_terminal(scope, shared, events, up, term),
     );
-    let reader = spawn_reader(scope, rt, alloc, start, gate, down, events, reader);
+    let reader = spawn_reader(scope, shared, down, events, reader);
     let ((keyboard, mouse), ((host, term), reader)) = both(users, both(sides, reader))?;
     Some(Handles {
         keyboard,
@@ -419,7 +448,7 @@ pub fn join_all<'s, 'q, R: Threads, G: Gate>(
     rt: &R,
     handles: Handles<'s, 'q, G>,
 ) -> Option<Ends<'q>>
-    ensures { IfSome result (KeepPromises G.may_refuse handles.entry) }
+    ensures { IfSome result (KeepPromises G.may_refuse G.must_refuse handles.entry) }
 {
     let Handles {
         keyboard,

@@ -6,6 +6,7 @@ use std::alloc::{AllocError, Global};
 use std::io;
 use std::io::{ErrorKind, Read, Write};
 use std::sync::Wait;
+use std::sync::atomic::{AtomicU64, Ordering};
 use std::thread::Threads;
 
 /// The words of a line, parted by `|`.
@@ -170,6 +171,60 @@ impl Write for Cut {
     }
 
     fn flush(&mut self) -> io::Result<()> {
+        Ok(())
+    }
+}
+
+/// What a reader and a writer know of each other: 1 where it is so, and else 0.
+#[derive(Drop)]
+struct Wire {
+    /// Whether something was written.
+    written: AtomicU64,
+    /// Whether something was written since the last flush.
+    unflushed: AtomicU64,
+    /// Whether a read came while something was not flushed.
+    read_early: AtomicU64,
+}
+
+/// Gives one byte a read.
+#[derive(Drop)]
+struct WireReader<'a> {
+    wire: &'a Wire,
+    bytes: &'a [u8],
+}
+
+impl Read for WireReader<'_> {
+    fn read(&mut self, buffer: &mut [u8]) -> io::Result<usize> {
+        if self.wire.unflushed.load(Ordering::SeqCst) != 0 {
+            self.wire.read_early.store(1, Ordering::SeqCst);
+        }
+        let Some((first, rest)) = self.bytes.split_first() else {
+            return Ok(0);
+        };
+        if buffer.is_empty() {
+            return Ok(0);
+        }
+        buffer[0] = *first;
+        self.bytes = rest;
+        Ok(1)
+    }
+}
+
+/// Takes what it is given.
+#[derive(Drop)]
+struct WireWriter<'a> {
+    wire: &'a Wire,
+}
+
+impl Write for WireWriter<'_> {
+    fn write(&mut self, buffer: &[u8]) -> io::Result<usize> {
+        self.wire.written.store(1, Ordering::SeqCst);
+        self.wire.unflushed.store(1, Ordering::SeqCst);
+        Ok(buffer.len())
+    }
+
+    fn flush(&mut self) -> io::Result<()> {
+        self.wire.unflushed.store(0, Ordering::SeqCst);
         Ok(())
     }
 }
@@ -384,6 +439,29 @@ fn ends_at_failures(alloc: Global) -> Result<bool, AllocError> {
 #[test]
 fn a_failed_read_and_a_failed_write(rt: HostRuntime) {
     assert_eq!(rt; ends_at_failures(rt.alloc()), Ok(true));
+}
+
+/// Whether the row is answered, and whether a read comes while an answer is not flushed.
+fn answers_and_reads_early(alloc: Global) -> Result<(bool, bool), AllocError> {
+    let input = bytes_of(alloc, ROW, "")?;
+    let wire = Wire {
+        written: AtomicU64::new(0),
+        unflushed: AtomicU64::new(0),
+        read_early: AtomicU64::new(0),
+    };
+    let mut reader = WireReader {
+        wire: &wire,
+        bytes: input.as_slice(),
+    };
+    let _end = play_bytes(alloc, &mut reader, &mut WireWriter { wire: &wire }, &TEXT);
+    let has_written = wire.written.load(Ordering::SeqCst) != 0;
+    let has_read_early = wire.read_early.load(Ordering::SeqCst) != 0;
+    Ok((has_written, has_read_early))
+}
+
+#[test]
+fn answers_are_flushed_before_the_next_read(rt: HostRuntime) {
+    assert_eq!(rt; answers_and_reads_early(rt.alloc()), Ok((true, false)));
 }
 
 /// The end of an input of so many bytes.

@@ -86,9 +86,11 @@ struct StopsAt {
 }
 
 impl Gate for StopsAt {
-    ghost use Rattle.std.specs.Prelude.{◌≡◌};
+    ghost use Rattle.std.specs.Prelude.{◌≡◌, Some};
 
     ghost may_refuse = { λ gate worker. worker ≡ gate.worker };
+
+    ghost must_refuse = { λ gate worker when. (worker ≡ gate.worker) × (when ≡ Some gate.handled) };
 
     fn pass(&self, _worker: usize) -> bool {
         true
@@ -106,12 +108,18 @@ struct Bars {
 }
 
 impl Gate for Bars {
-    ghost use Rattle.std.specs.Prelude.{◌≡◌};
+    ghost use Rattle.std.specs.Prelude.{◌≡◌, None};
 
     ghost may_refuse = { λ gate worker. worker ≡ gate.worker };
 
+    ghost must_refuse = { λ gate worker when. (worker ≡ gate.worker) × (when ≡ None) };
+
     fn pass(&self, worker: usize) -> bool {
         worker != self.worker
+    }
+
+    fn go_on(&self, _worker: usize, _handled: u64) -> bool {
+        true
     }
 }
 

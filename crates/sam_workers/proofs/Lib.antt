@@ -9,3 +9,4 @@ pub mod RealLaws
 pub mod Feeds
 pub mod ApartTurns
 pub mod HostSide
+pub mod GateLaws

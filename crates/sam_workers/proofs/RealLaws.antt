@@ -1,11 +1,12 @@
 -- The real sides count as the law of two sides asks, their frames are told apart, and their world is the plain world.
-use Rattle.sam_workers.proofs.Common.{◌≡◌, suc, ◌≤◌, List, [], ◌∷◌, Some, Result, Ok, refl, arith, option_map, All, FitsT, Tmesg, FitsH, HFrame, terminal, host, frame_of, PlainHost, PlainTerminal, Made, flush_of, take_of, TermFault, Acted, PlainWorld, composed_by, step_of, run_of, Each, Counts, World, step, run, sides, unless_refused, acted}
+use Rattle.sam_workers.proofs.Common.{◌≡◌, suc, ◌≤◌, List, [], ◌∷◌, Some, Result, Ok, refl, arith, option_map, All, FitsT, Tmesg, FitsH, HFrame, terminal, host, frame_of, PlainHost, PlainTerminal, Made, flush_of, take_of, TermFault, Acted, PlainWorld, composed_by, step_of, run_of, Each, Counts, TermRuns, TermLog, World, step, run, act_of, at_work, did, sides, unless_refused, acted}
 use Rattle.std.proofs.lemmas.Option.{same_Some}
 use Rattle.sam_mesg.proofs.TerminalLaws as upwards
 use Rattle.sam_mesg.proofs.HostLaws as downwards
 use Rattle.sam_frame.specs.Reading.{IsSound}
 use Rattle.sam_host.proofs.SoundLaws.{answers_are_counted}
 use Rattle.sam_crossing.specs.declared.event.Event.{Event}
+use Rattle.sam_world.specs.declared.event.TermLog.TheVariants as log
 use Rattle.sam_world.proofs.Carries.{PrefixFree}
 use Rattle.sam_crossing.proofs.RunLaws.{act-counts, flush-counts, take-counts}
 
@@ -73,3 +74,34 @@ same_run (e ∷ es) w = grind (arith, same_step, (same_run es))
 -- a run of the two sides is a run of the plain world
 pub plain_run : (w last : World PlainHost PlainTerminal Tmesg HFrame) (es : List Event) → run sides w es ≡ Some last → run_of (plain w) es ≡ Some (plain last)
 plain_run w last es e = grind (arith, same_run)
+
+-- ## Sides at work
+
+-- each step of sides at work is one of the sides
+
+did_is : (t u : PlainTerminal) (ms : List Tmesg) → at_work.act t ≡ Some (u, ms) → sides.act t ≡ Some (u, ms)
+did_is t u ms e = go (act_of t) e
+  where
+    go : (r : Result (PlainTerminal × Acted) TermFault) → did r ≡ Some (u, ms) → acted r ≡ Some (u, ms)
+    go r e = grind arith
+
+flushed_is : (t u : PlainTerminal) (ms : List Tmesg) → at_work.flush t ≡ Some (u, ms) → sides.flush t ≡ Some (u, ms)
+flushed_is t u ms e = grind arith
+
+pub counts_at_work : Counts at_work
+counts_at_work = record {
+  taken = counts.taken;
+  stamped = counts.stamped;
+  user = counts.user;
+  act = λ t u ms e. counts.act t u ms (did_is t u ms e);
+  flush = λ t u ms e. counts.flush t u ms (flushed_is t u ms e);
+  receive = counts.receive;
+  past = counts.past;
+}
+
+pub works : (es : List TermLog) (t u : PlainTerminal) (fs : List HFrame) (ms : List Tmesg) → TermRuns at_work t es fs ms u → TermRuns sides t es fs ms u
+works [] t u fs ms r = r
+works (log.User e ∷ es) t u fs ms r = works es (sides.user t e) u fs ms r
+works (log.Act ∷ es) t u fs ms r = (r.0, r.1, r.2, did_is t r.0 r.1 r.3, r.4, works es r.0 u fs r.2 r.5)
+works (log.Flush ∷ es) t u fs ms r = (r.0, r.1, r.2, flushed_is t r.0 r.1 r.3, r.4, works es r.0 u fs r.2 r.5)
+works (log.Take k ∷ es) t u fs ms r = (r.0, r.1, r.2, r.3, r.4, r.5, r.6, r.7, r.8, works es r.2 u r.1 r.4 r.9)

@@ -1,9 +1,10 @@
 -- What is kept of the terminal's worker, step by step.
-use Rattle.sam_workers.proofs.Common.{◌≡◌, ◌⊎◌, refl, flat_map-append, ℕ, Bool, true, false, List, [], ◌∷◌, ◌++◌, Option, Some, None, is_some, append_assoc, append-nil, arith, MatchBool, Vec, HFrame, FitsT, Tmesg, terminal, stream_of, stream_of-append, PlainTerminal, new_terminal, UserEvent, Exit, TermLog, Each, TermRuns, term_more, each_append, IsEnded, has_left, TakeView, PostView, CanBeFull, closed_post, new_take, new_post, sides, frames_in, users_in, LoggedView, Did, SideView, SoFar, Ran, Goes, IsDone, IsQuiet, IsFound, PutSome, Input, Stop, TermTold}
+use Rattle.sam_workers.proofs.Common.{◌≡◌, ◌⊎◌, refl, flat_map-append, ℕ, Bool, true, false, List, [], ◌∷◌, ◌++◌, Option, Some, None, is_some, append_assoc, append-nil, arith, MatchBool, Vec, HFrame, FitsT, Tmesg, terminal, stream_of, stream_of-append, PlainTerminal, new_terminal, UserEvent, Exit, TermLog, Each, TermRuns, term_more, each_append, IsEnded, has_left, TakeView, PostView, CanBeFull, closed_post, new_take, new_post, at_work, frames_in, users_in, LoggedView, Did, SideView, SoFar, Ran, Goes, IsDone, IsQuiet, IsFound, PutSome, Input, Stop, TermTold}
 use Rattle.sam_world.specs.Logs.{logged_users}
-use Rattle.sam_workers.proofs.RealLaws.{counts}
+use Rattle.sam_workers.proofs.RealLaws.{counts_at_work}
 use Rattle.sam_workers.proofs.TermSteps.{did_nothing}
 use Rattle.sam_workers.specs.declared.term_side.Found.{Found}
+use Rattle.sam_workers.specs.Gates.{TermHandled}
 use Rattle.sam_workers.specs.declared.stop.Stop.TheVariants as stop
 
 -- ## Logs that grow
@@ -14,8 +15,8 @@ users_append (e ∷ es) fs = grind (arith, (users_append es fs))
 
 -- the run with what the logged did behind it
 pub runs_on : (v : SideView) (logged : LoggedView) (events : List UserEvent) (frames : List HFrame) (ms : List Tmesg) (r : Ran v) → Did v.logged logged events frames ms
-    → TermRuns sides new_terminal logged.log (frames_in r.handled ++ frames) (r.composed ++ ms) logged.term
-runs_on v logged events frames ms r d = grind (arith, (term_more sides counts v.logged.log new_terminal v.logged.term logged.term (frames_in r.handled) r.composed d.entries frames ms r.runs d.runs))
+    → TermRuns at_work new_terminal logged.log (frames_in r.handled ++ frames) (r.composed ++ ms) logged.term
+runs_on v logged events frames ms r d = grind (arith, (term_more at_work counts_at_work v.logged.log new_terminal v.logged.term logged.term (frames_in r.handled) r.composed d.entries frames ms r.runs d.runs))
 
 pub users_on : (v : SideView) (logged : LoggedView) (events : List UserEvent) (frames : List HFrame) (ms : List Tmesg) (r : Ran v) → Did v.logged logged events frames ms
     → logged_users logged.log ≡ (users_in r.handled ++ r.own) ++ events
@@ -45,7 +46,7 @@ sent_on put before lost after lost' composed ms sent none grown = grind (arith, 
 kept_step : (v : SideView) (logged : LoggedView) (to_send : List ℕ) (why : Option Stop) (ms : List Tmesg) (lost : List ℕ) → Ran v → v.stop ≡ None
     → Did v.logged logged [] [] ms → Each (FitsT 2) ms → to_send ++ lost ≡ v.to_send ++ stream_of terminal ms → SoFar logged.term [] lost why
     → (why ≡ Some stop.PeerGone → has_left 2 v.take.taken ≡ true)
-    → Ran (record { take = v.take; post = v.post; logged = logged; to_send = to_send; keyboard_left = v.keyboard_left; mouse_left = v.mouse_left; exit_put = v.exit_put; stop = why })
+    → Ran (record { take = v.take; post = v.post; logged = logged; to_send = to_send; keyboard_left = v.keyboard_left; mouse_left = v.mouse_left; exit_put = v.exit_put; steps = v.steps; stop = why })
 kept_step v logged to_send why ms lost r running d fit grown so_far gone = grind (
   arith,
   whole,
@@ -59,17 +60,17 @@ kept_step v logged to_send why ms lost r running d fit grown so_far gone = grind
 
 pub kept_done : (v : SideView) (logged : LoggedView) (to_send : List ℕ) (ms : List Tmesg) → Ran v → is_some v.stop ≡ false
     → Did v.logged logged [] [] ms → Each (FitsT 2) ms → to_send ≡ v.to_send ++ stream_of terminal ms
-    → Ran (record { take = v.take; post = v.post; logged = logged; to_send = to_send; keyboard_left = v.keyboard_left; mouse_left = v.mouse_left; exit_put = v.exit_put; stop = v.stop })
+    → Ran (record { take = v.take; post = v.post; logged = logged; to_send = to_send; keyboard_left = v.keyboard_left; mouse_left = v.mouse_left; exit_put = v.exit_put; steps = v.steps; stop = v.stop })
 kept_done v logged to_send ms r running d fit grown = grind (arith, (kept_step v logged to_send None ms), (append-nil to_send))
 
 -- what was composed could not be encoded, and is lost
 pub kept_lost_messages : (v : SideView) (logged : LoggedView) (to_send : List ℕ) (ms : List Tmesg) → Ran v → is_some v.stop ≡ false
     → Did v.logged logged [] [] ms → Each (FitsT 2) ms → to_send ≡ v.to_send
-    → Ran (record { take = v.take; post = v.post; logged = logged; to_send = to_send; keyboard_left = v.keyboard_left; mouse_left = v.mouse_left; exit_put = v.exit_put; stop = Some stop.Memory })
+    → Ran (record { take = v.take; post = v.post; logged = logged; to_send = to_send; keyboard_left = v.keyboard_left; mouse_left = v.mouse_left; exit_put = v.exit_put; steps = v.steps; stop = Some stop.Memory })
 kept_lost_messages v logged to_send ms r running d fit same = grind (arith, (kept_step v logged to_send (Some stop.Memory) ms (stream_of terminal ms) r (none_of v.stop running) d fit))
 
 pub kept_silent : (v : SideView) (logged : LoggedView) → Ran v → is_some v.stop ≡ false → Did v.logged logged [] [] []
-    → Ran (record { take = v.take; post = v.post; logged = logged; to_send = v.to_send; keyboard_left = v.keyboard_left; mouse_left = v.mouse_left; exit_put = v.exit_put; stop = v.stop })
+    → Ran (record { take = v.take; post = v.post; logged = logged; to_send = v.to_send; keyboard_left = v.keyboard_left; mouse_left = v.mouse_left; exit_put = v.exit_put; steps = v.steps; stop = v.stop })
 kept_silent v logged r running d = grind (arith, append-nil, (kept_done v logged v.to_send []))
 
 -- the host reader is gone, and the session not over
@@ -81,14 +82,14 @@ kept_lost v r running ended e = grind (arith, did_nothing, (kept_step v v.logged
 
 pub kept_exit : (v : SideView) (logged : LoggedView) → Ran v → is_some v.stop ≡ false → Did v.logged logged (Exit ∷ []) [] [] → v.exit_put ≡ false
     → v.keyboard_left ≡ true → v.mouse_left ≡ true
-    → Ran (record { take = v.take; post = v.post; logged = logged; to_send = v.to_send; keyboard_left = v.keyboard_left; mouse_left = v.mouse_left; exit_put = true; stop = v.stop })
+    → Ran (record { take = v.take; post = v.post; logged = logged; to_send = v.to_send; keyboard_left = v.keyboard_left; mouse_left = v.mouse_left; exit_put = true; steps = v.steps; stop = v.stop })
 kept_exit v logged r running d none k m = grind (arith, append-nil, (runs_on v logged (Exit ∷ []) [] [] r d), (users_on v logged (Exit ∷ []) [] [] r d))
 
 -- ## Its line
 
 -- pieces were put
 pub kept_pieces : (v : SideView) (post : PostView (Vec ℕ)) (to_send : List ℕ) (most : ℕ) → Ran v → PutSome most v.post post v.to_send to_send
-    → Ran (record { take = v.take; post = post; logged = v.logged; to_send = to_send; keyboard_left = v.keyboard_left; mouse_left = v.mouse_left; exit_put = v.exit_put; stop = v.stop })
+    → Ran (record { take = v.take; post = post; logged = v.logged; to_send = to_send; keyboard_left = v.keyboard_left; mouse_left = v.mouse_left; exit_put = v.exit_put; steps = v.steps; stop = v.stop })
 kept_pieces v post to_send most r p = grind (arith, flat_map-append, append_assoc)
 
 pub goes_put : (most : ℕ) (a b : PostView (Vec ℕ)) (bytes rest : List ℕ) → PutSome most a b bytes rest → b.line ≡ a.line
@@ -96,11 +97,11 @@ goes_put most a b bytes rest p = grind arith
 
 -- no memory for the next piece
 pub kept_short : (v : SideView) (post : PostView (Vec ℕ)) (to_send : List ℕ) (most : ℕ) → Ran v → is_some v.stop ≡ false → PutSome most v.post post v.to_send to_send
-    → Ran (record { take = v.take; post = post; logged = v.logged; to_send = to_send; keyboard_left = v.keyboard_left; mouse_left = v.mouse_left; exit_put = v.exit_put; stop = Some stop.Memory })
+    → Ran (record { take = v.take; post = post; logged = v.logged; to_send = to_send; keyboard_left = v.keyboard_left; mouse_left = v.mouse_left; exit_put = v.exit_put; steps = v.steps; stop = Some stop.Memory })
 kept_short v post to_send most r running p = grind (arith, (kept_pieces v post to_send most r p))
 
 pub kept_closed : (v : SideView) (post : PostView (Vec ℕ)) (b : Bool) → Ran v → MatchBool b (post ≡ closed_post v.post) ((post ≡ v.post) × (v.post.closed ≡ false) × CanBeFull v.post)
-    → Ran (record { take = v.take; post = post; logged = v.logged; to_send = v.to_send; keyboard_left = v.keyboard_left; mouse_left = v.mouse_left; exit_put = v.exit_put; stop = v.stop })
+    → Ran (record { take = v.take; post = post; logged = v.logged; to_send = v.to_send; keyboard_left = v.keyboard_left; mouse_left = v.mouse_left; exit_put = v.exit_put; steps = v.steps; stop = v.stop })
 kept_closed v post b e u = grind arith
 
 -- ## From one moment to another
@@ -120,7 +121,7 @@ done_quiet v q ended = grind arith
 pub kept_new : (line : TakeView Input) (post : PostView (Vec ℕ)) (t : PlainTerminal) (logged : LoggedView) (to_send : List ℕ) (why : Option Stop)
     → line ≡ new_take line.line → line.line.senders ≡ 3 → post ≡ new_post post.line 0 → t ≡ new_terminal
     → logged ≡ record { term = t; log = [] } → to_send ≡ [] → (why ≡ None) ⊎ (why ≡ Some stop.Gate)
-    → Ran (record { take = line; post = post; logged = logged; to_send = to_send; keyboard_left = false; mouse_left = false; exit_put = false; stop = why })
+    → Ran (record { take = line; post = post; logged = logged; to_send = to_send; keyboard_left = false; mouse_left = false; exit_put = false; steps = 0; stop = why })
 kept_new line post t logged to_send why fresh three first new laid empty is = record {
   handled = [];
   dropped = [];
@@ -140,6 +141,7 @@ kept_new line post t logged to_send why fresh three first new laid empty is = re
   sent = grind arith;
   so_far = grind arith;
   gone = grind arith;
+  counted = grind arith;
 }
 
 -- what a side rests on that puts a piece
@@ -149,3 +151,7 @@ pub ruleset pieces_kept = (kept_pieces, kept_short, goes_put)
 pub told : (v : SideView) (term : PlainTerminal) (log : Vec TermLog) (passed : Bool) → Ran v → IsDone v → record { term = term; log = log.items } ≡ v.logged
     → TermTold v.take.line v.post.line (record { take = v.take; post = v.post; term = term; log = log; passed = passed; stop = v.stop })
 told v term log passed r d same = grind arith
+
+pub told_handled : (v : SideView) (term : PlainTerminal) (log : Vec TermLog) (passed : Bool) → Ran v → record { term = term; log = log.items } ≡ v.logged
+    → TermHandled v.steps (record { take = v.take; post = v.post; term = term; log = log; passed = passed; stop = v.stop })
+told_handled v term log passed r same = grind arith

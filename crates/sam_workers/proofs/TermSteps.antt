@@ -1,5 +1,5 @@
 -- Single steps of the terminal, as parts of its run.
-use Rattle.sam_workers.proofs.Common.{◌≡◌, List, [], ◌∷◌, ◌++◌, Ok, append-nil, arith, Tmesg, HFrame, PlainTerminal, act_of, flush_of, take_of, UserEvent, TermLog, LoggedView, Did}
+use Rattle.sam_workers.proofs.Common.{◌≡◌, List, [], ◌∷◌, ◌++◌, true, is_some, Ok, append-nil, arith, Tmesg, HFrame, PlainTerminal, act_of, flush_of, take_of, UserEvent, TermLog, LoggedView, Did}
 use Rattle.sam_term.specs.Sound.{IsSound}
 use Rattle.sam_term.specs.declared.event.Acted.TheVariants.{Idle, Locked, Done, Refused}
 use Rattle.sam_term.specs.declared.fault.Refusal.{Refusal}
@@ -29,8 +29,8 @@ pub did_locked : (a : LoggedView) (t : PlainTerminal) (entries : List TermLog) �
 did_locked a t entries locked same = grind (arith, append-nil, (locked_still a.term t))
 
 pub did_flush : (a : LoggedView) (t : PlainTerminal) (entries : List TermLog) (ms : List Tmesg)
-    → IsSound a.term → flush_of a.term ≡ Ok (t, ms) → entries ≡ a.log ++ log.Flush ∷ [] → Did a (record { term = t; log = entries }) [] [] ms
-did_flush a t entries ms sound done logged = grind (arith, (append-nil ms), (flushed_fits a.term t ms sound done))
+    → IsSound a.term → is_some a.term.unsent ≡ true → flush_of a.term ≡ Ok (t, ms) → entries ≡ a.log ++ log.Flush ∷ [] → Did a (record { term = t; log = entries }) [] [] ms
+did_flush a t entries ms sound some done logged = grind (arith, (append-nil ms), (flushed_fits a.term t ms sound done))
 
 pub did_take : (a : LoggedView) (t : PlainTerminal) (entries : List TermLog) (frame : HFrame) (ms : List Tmesg)
     → IsSound a.term → take_of a.term frame ≡ Ok (t, ms) → entries ≡ a.log ++ log.Take frame.seen ∷ [] → Did a (record { term = t; log = entries }) [] (frame ∷ []) ms

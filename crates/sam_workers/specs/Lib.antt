@@ -3,6 +3,7 @@ pub mod Lines
 pub mod Numbers
 pub mod Inputs
 pub mod WorkerEnds
+pub mod Gates
 pub mod PiecesUp
 pub mod TermMoments
 pub mod Cutting

@@ -1,5 +1,6 @@
 -- What the terminal's worker has between two of its steps.
-use Rattle.std.specs.Prelude.{◌≡◌, ◌⊎◌, ◌<◌, ℕ, Bool, true, false, List, [], ◌∷◌, ◌++◌, All, IsTrue, Option, Some, None, if◌then◌else◌, is_some, Err}
+use Rattle.std.specs.Prelude.{◌≡◌, ◌⊎◌, ◌<◌, ◌+◌, ℕ, length, Bool, true, false, List, [], ◌∷◌, ◌++◌, All, IsTrue, Option, Some, None}
+use Rattle.std.specs.Prelude.{if◌then◌else◌, is_some, Err}
 use Rattle.std.specs.Global.{Vec}
 use Rattle.sam_mesg.specs.declared.hmesg.HFrame.{HFrame}
 use Rattle.sam_mesg.specs.TerminalKinds.{fits_t, FitsT}
@@ -17,7 +18,8 @@ use Rattle.sam_world.specs.Sides.{Each, TermRuns}
 use Rattle.sam_queue.specs.declared.rule.Entry.{Entry}
 use Rattle.sam_queue.specs.History.{has_left, IsEnded}
 use Rattle.sam_queue.specs.Views.{TakeView, PostView}
-use Rattle.sam_workers.specs.RealSides.{sides}
+use Rattle.sam_workers.specs.RealSides.{at_work}
+use Rattle.sam_workers.specs.Gates.{IsCount}
 use Rattle.sam_workers.specs.Numbers.{fault_number}
 use Rattle.sam_workers.specs.Inputs.{bytes_of, frames_in, users_in}
 use Rattle.sam_workers.specs.WorkerEnds.{RefusesFrame, IsForeign, IsFullUp}
@@ -39,7 +41,7 @@ pub record Did (a b : LoggedView) (events : List UserEvent) (frames : List HFram
   pub entries : List TermLog
   pub log : b.log ≡ a.log ++ entries
   pub users : logged_users entries ≡ events
-  pub runs : TermRuns sides a.term entries frames composed b.term
+  pub runs : TermRuns at_work a.term entries frames composed b.term
   pub fit : All (λ m. IsTrue (fits_t 2 m)) composed
 
 -- what a fault of the terminal is for its worker
@@ -65,7 +67,7 @@ WasNotHandled t sender input stop.Gate = ⊥
 WasNotHandled t sender input stop.Memory = Unit {0}
 
 -- the worker: its ends of the lines, the terminal and its log, the bytes that are not put, who has left, whether it has put an Exit of its
--- own, and what stopped it
+-- own, how many items it has handled, and what stopped it
 pub record SideView : Type 0 where
   pub take : TakeView Input
   pub post : PostView (Vec ℕ)
@@ -74,6 +76,7 @@ pub record SideView : Type 0 where
   pub keyboard_left : Bool
   pub mouse_left : Bool
   pub exit_put : Bool
+  pub steps : ℕ
   pub stop : Option Stop
 
 -- what was dropped, and what could not be encoded, by what stopped the worker
@@ -97,7 +100,7 @@ pub record Ran (v : SideView) : Type 0 where
   pub number : v.post.number ≡ 0
   pub senders : v.take.line.senders ≡ 3
   pub took : v.take.taken ≡ handled ++ dropped
-  pub runs : TermRuns sides new_terminal v.logged.log (frames_in handled) composed v.logged.term
+  pub runs : TermRuns at_work new_terminal v.logged.log (frames_in handled) composed v.logged.term
   pub users : logged_users v.logged.log ≡ users_in handled ++ own
   pub own_is : own ≡ (if v.exit_put then Exit ∷ [] else [])
   pub all_left : v.exit_put ≡ true → (v.keyboard_left ≡ true) × (v.mouse_left ≡ true)
@@ -107,11 +110,13 @@ pub record Ran (v : SideView) : Type 0 where
   pub sent : bytes_of v.post.put ++ (v.to_send ++ lost) ≡ stream_of terminal composed
   pub so_far : SoFar v.logged.term dropped lost v.stop
   pub gone : v.stop ≡ Some stop.PeerGone → has_left 2 handled ≡ true
+  pub counted : IsCount v.steps (length (users_in handled) + length (frames_in handled))
 
--- it stays at its lines, has taken nothing more, and was not stopped by its gate
+-- it stays at its lines, has taken and handled nothing more, and was not stopped by its gate
 pub record Goes (a b : SideView) : Type 0 where
   pub take : b.take ≡ a.take
   pub line : b.post.line ≡ a.post.line
+  pub steps : b.steps ≡ a.steps
   pub gate : b.stop ≡ Some stop.Gate → a.stop ≡ Some stop.Gate
 
 -- it has closed and taken all that came, and where nothing stopped it, all is done
@@ -133,6 +138,7 @@ new_side line post t why =
       keyboard_left = false;
       mouse_left = false;
       exit_put = false;
+      steps = 0;
       stop = why;
     }
 

@@ -19,7 +19,7 @@ use Rattle.sam_term.specs.declared.event.UserEvent.TheVariants.{Exit}
 use Rattle.sam_world.specs.Given.{IsFile}
 use Rattle.sam_world.specs.Logs.{logged_users}
 use Rattle.sam_world.specs.Sides.{Each, HostRuns, TermRuns}
-use Rattle.sam_workers.specs.RealSides.{sides}
+use Rattle.sam_workers.specs.RealSides.{at_work, sides}
 use Rattle.sam_queue.specs.declared.rule.Entry.{Entry}
 use Rattle.sam_queue.specs.History.{items_of, has_left, IsEnded}
 use Rattle.sam_queue.specs.Views.{LineView}
@@ -159,7 +159,8 @@ abbrev pub IsOwnExit : List UserEvent → List (Entry Input) → Type 0
 IsOwnExit own entries = (own ≡ []) ⊎ ((own ≡ Exit ∷ []) × (has_left 0 entries ≡ true) × (has_left 1 entries ≡ true))
 
 -- What it took, up to the last end mark, is what it handled, in order, and what it dropped. Its log goes through the user's events and
--- the frames that it handled, with at most one Exit of its own behind the last event, and composes the messages. The pieces that it put,
+-- the frames that it handled, with at most one Exit of its own behind the last event, and composes the messages; each Act did or refused
+-- an event, and each Flush composed runes. The pieces that it put,
 -- and what it could not put any more, are the frames of the messages
 pub record TermTold (events up : LineView) (e : TermEnd) : Type 0 where
   pub handled : List (Entry Input)
@@ -172,7 +173,7 @@ pub record TermTold (events up : LineView) (e : TermEnd) : Type 0 where
   pub number_is : e.post.number ≡ 0
   pub drained : IsEnded 3 e.take.taken
   pub took : e.take.taken ≡ handled ++ dropped
-  pub runs : TermRuns sides new_terminal e.log.items (frames_in handled) composed e.term
+  pub runs : TermRuns at_work new_terminal e.log.items (frames_in handled) composed e.term
   pub users : logged_users e.log.items ≡ users_in handled ++ own
   pub exits : IsOwnExit own handled
   pub fit : Each (FitsT 2) composed

@@ -1,5 +1,5 @@
 //! Gates, which let the workers of a session begin and go on, or stop them.
-ghost use Rattle.std.specs.Prelude.{ℕ, ◌<◌, IsFalse};
+ghost use Rattle.std.specs.Prelude.{ℕ, ◌<◌, IsFalse, IsTrue, Option, None, Some};
 
 use std::sync::atomic::{AtomicU64, Ordering};
 
@@ -9,21 +9,23 @@ pub trait Gate: Sync {
     /// The workers that the gate may refuse: it returns false for no other.
     ghost may_refuse: { Self → ℕ → Type 0 };
 
+    /// Where the gate never lets a worker pass: `None` as it begins, and `Some` once it has done so much.
+    ghost must_refuse: { Self → ℕ → Option ℕ → Type 0 };
+
     /// Returns whether the worker may begin. It is asked once, as the worker begins. A worker that is refused does no work, and the
     /// session counts as not run.
     fn pass(&self, worker: usize) -> bool
         requires { worker < 5 }
-        ensures { IsFalse result → may_refuse self.now worker };
+        ensures refused { IsFalse result → may_refuse self.now worker }
+        ensures let_in { IsTrue result → must_refuse self.now worker None → ⊥ };
 
     /// Returns whether the worker may go on. It is asked before each event that a worker sends (workers 0 and 1), message that it handles
     /// (2), frame that it sends on (3), or item that it handles (4). `handled` is how many of these the worker has done; once it is 2^64-1
     /// it stays there. A worker that is refused stops with [`Stop::Gate`](crate::Stop::Gate).
     fn go_on(&self, worker: usize, handled: u64) -> bool
         requires { worker < 5 }
-        ensures { IsFalse result → may_refuse self.now worker }
-    {
-        true
-    }
+        ensures refused { IsFalse result → may_refuse self.now worker }
+        ensures let_on { IsTrue result → must_refuse self.now worker (Some handled) → ⊥ };
 }
 
 /// A gate that refuses nobody. It is the one to use outside of tests.
@@ -33,7 +35,13 @@ pub struct OpenGate;
 impl Gate for OpenGate {
     ghost may_refuse = { λ _ _. ⊥ };
 
+    ghost must_refuse = { λ _ _ _. ⊥ };
+
     fn pass(&self, _worker: usize) -> bool {
+        true
+    }
+
+    fn go_on(&self, _worker: usize, _handled: u64) -> bool {
         true
     }
 }
@@ -75,7 +83,12 @@ impl FlagGate {
 }
 
 impl Gate for FlagGate {
+    ghost use Rattle.std.specs.Prelude.{◌≡◌, None};
+
     ghost may_refuse = { λ _ _. Unit {0} };
+
+    // Whether the others come to the gate no contract can say. A worker that may not look at the flags is refused.
+    ghost must_refuse = { λ gate _ when. (when ≡ None) × (gate.turns ≡ 0) };
 
     /// Raises the worker's flag, and returns true once it sees all five up. It returns false if it has looked `turns` times.
     fn pass(&self, worker: usize) -> bool {
@@ -86,5 +99,10 @@ impl Gate for FlagGate {
             }
         }
         false
+    }
+
+    /// A worker that has begun goes on.
+    fn go_on(&self, _worker: usize, _handled: u64) -> bool {
+        true
     }
 }

@@ -1,6 +1,6 @@
 //! The worker of the host.
 
-ghost use Rattle.std.specs.Prelude.{◌≡◌, ◌<◌, ◌≤◌, ◌++◌, ◌∷◌, [], List, ℕ, All, Some, None, false, length};
+ghost use Rattle.std.specs.Prelude.{◌≡◌, ◌<◌, ◌≤◌, ◌+◌, ◌++◌, ◌∷◌, [], List, ℕ, All, Some, None, true, false, length};
 ghost use Rattle.std.specs.Global.{Vec};
 ghost use Rattle.sam_runes.specs.Texts.{most_files};
 ghost use Rattle.sam_mesg.specs.HostKinds.{IsHFrame, FitsH};
@@ -15,6 +15,7 @@ ghost use Rattle.sam_queue.specs.Views.{new_take, new_post};
 ghost use Rattle.sam_world.specs.Given.{IsFile};
 ghost use Rattle.sam_world.specs.Sides.{Each};
 ghost use Rattle.sam_workers.specs.Cutting.{Puts};
+ghost use Rattle.sam_workers.specs.Gates.{LetOn};
 ghost use Rattle.sam_workers.specs.Handling.{HandlesAll, StopsBefore, TakesPiece, Serves, of_refusal};
 ghost use Rattle.sam_workers.specs.WorkerEnds.{HostTold};
 ghost use Rattle.sam_workers.specs.declared.stop.Stop.TheVariants.{Gate as GateStop};
@@ -66,8 +67,6 @@ struct HostSide<'q> {
     framer: FramerT,
     /// The worker's post to the line down, open until the worker has come to its end.
     post: Post<'q, Vec<u8>>,
-    /// How many messages were handled; once at 2^64-1 it stays there.
-    handled: u64,
 }
 
 impl HostSide<'_> {
@@ -100,6 +99,7 @@ impl HostSide<'_> {
         ensures piece { self.new.piece ≡ self.old.piece }
         ensures framer { self.new.framer ≡ self.old.framer }
         ensures handles { HandlesAll ⊥ self.old.host self.new.host self.old.post self.new.post (message ∷ []) result }
+        ensures counted { self.new.host.taken ≤ self.old.host.taken + 1 }
     {
         let frames = match self.host.handle(message) {
             Ok(frames) => frames,
@@ -127,16 +127,16 @@ impl HostSide<'_> {
         ensures framer { self.new.framer ≡ self.old.framer }
         ensures handles { HandlesAll (G.may_refuse gate.now 2) self.old.host self.new.host self.old.post self.new.post
             messages.items result }
+        ensures let_on { LetOn (G.must_refuse gate.now 2) self.old.host.taken self.new.host.taken }
     {
         for message in messages {
-            if !gate.go_on(2, self.handled) {
+            if !gate.go_on(2, self.host.taken()) {
                 return Err(Stop::Gate);
             }
             match self.answer(rt, message) {
                 Ok(()) => {}
                 Err(stop) => return Err(stop),
             }
-            self.handled = self.handled.saturating_add(1);
         }
         Ok(())
     }
@@ -156,6 +156,7 @@ impl HostSide<'_> {
         ensures framer { self.new.framer ≡ self.old.framer }
         ensures stops { StopsBefore (G.may_refuse gate.now 2) self.old.host self.new.host self.old.post self.new.post
             messages.items number result }
+        ensures let_on { LetOn (G.must_refuse gate.now 2) self.old.host.taken self.new.host.taken }
     {
         match self.answer_all(rt, gate, messages) {
             Ok(()) => Stop::Frame(number),
@@ -172,6 +173,7 @@ impl HostSide<'_> {
         ensures piece { self.new.piece ≡ self.old.piece }
         ensures takes { TakesPiece (G.may_refuse gate.now 2) self.old.host self.new.host self.old.post self.new.post
             self.old.framer self.new.framer piece.now result }
+        ensures let_on { LetOn (G.must_refuse gate.now 2) self.old.host.taken self.new.host.taken }
     {
         match self.framer.feed(piece) {
             Ok(messages) => self.answer_all(rt, gate, messages),
@@ -205,6 +207,7 @@ impl HostSide<'_> {
         requires one { take.old.line.senders ≡ 1 }
         ensures line { take.new.line ≡ take.old.line }
         ensures serves { Serves (G.may_refuse gate.now 2) self.old.host self.new.host self.old.post self.new.post take.new.taken result }
+        ensures let_on { LetOn (G.must_refuse gate.now 2) self.old.host.taken self.new.host.taken }
     {
         for _ in rt.forever() {
             match take.recv(rt) {
@@ -236,6 +239,8 @@ impl HostSide<'_> {
         ensures line { take.new.line ≡ take.old.line }
         ensures begins { result.0 ≡ false → G.may_refuse gate.now 2 }
         ensures serves { Serves (G.may_refuse gate.now 2) self.old.host self.new.host self.old.post self.new.post take.new.taken result.1 }
+        ensures let_in { result.0 ≡ true → G.must_refuse gate.now 2 None → ⊥ }
+        ensures let_on { LetOn (G.must_refuse gate.now 2) self.old.host.taken self.new.host.taken }
     {
         if !gate.pass(2) {
             return (false, Some(Stop::Gate));
@@ -285,6 +290,8 @@ pub fn serve_host<'q, R: Wait, G: Gate>(
     ensures files { result.files.items ≡ files.items }
     ensures begins { result.passed ≡ false → G.may_refuse gate.now 2 }
     ensures way { result.stop ≡ Some GateStop → G.may_refuse gate.now 2 }
+    ensures let_in { result.passed ≡ true → G.must_refuse gate.now 2 None → ⊥ }
+    ensures let_on { LetOn (G.must_refuse gate.now 2) 0 result.host.taken }
 {
     let mut take = take;
     let mut side = HostSide {
@@ -293,7 +300,6 @@ pub fn serve_host<'q, R: Wait, G: Gate>(
         host,
         framer: FramerT::new(alloc),
         post,
-        handled: 0,
     };
     let (passed, stop) = side.run(rt, gate, &mut take);
     side.post.close(rt);

@@ -1,6 +1,6 @@
 //! The terminal with its log.
 
-ghost use Rattle.std.specs.Prelude.{◌≡◌, ◌⊎◌, [], ◌∷◌, ◌<◌, IsTrue, IfOk, IfErr, OnOk, OnErr, Ok, Some, None, is_some};
+ghost use Rattle.std.specs.Prelude.{◌≡◌, ◌⊎◌, [], ◌∷◌, ◌<◌, IsTrue, IfOk, IfErr, OnOk, OnErr, Ok, Some, None, is_some, true};
 ghost use Rattle.sam_mesg.specs.HostKinds.{fits_h};
 ghost use Rattle.sam_term.specs.Term.{new_terminal, act_of, take_of};
 ghost use Rattle.sam_crossing.specs.World.{composed_by};
@@ -154,6 +154,7 @@ impl LoggedTerminal {
     /// before it; they leave terminal and log as they were.
     #[tactic(auto, using(crate::proofs::TermSteps::did_flush))]
     pub(crate) fn flush(&mut self) -> Result<Batch, Stop>
+        requires { is_some self.old.term.unsent ≡ true }
         ensures flushed { IfOk result (λ composed. Did self.old self.new [] [] composed) }
         ensures refused { IfErr result (λ why. (why ≡ Stop.Memory) ⊎ ((why ≡ Stop.Term 8) × IsFullUp self.old.term)) }
         ensures unchanged { OnErr result (self.new ≡ self.old) }

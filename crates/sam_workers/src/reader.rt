@@ -1,7 +1,8 @@
 //! The worker of the host reader, which cuts the host's stream into frames.
 
-ghost use Rattle.std.specs.Prelude.{◌≡◌, false, Some};
+ghost use Rattle.std.specs.Prelude.{◌≡◌, true, false, length, None, Some};
 ghost use Rattle.sam_queue.specs.Views.{new_post, new_take};
+ghost use Rattle.sam_workers.specs.Gates.{IsCount, LetOn};
 ghost use Rattle.sam_workers.specs.Passing.{Sends, SendsBefore, PassesPiece, Passes};
 ghost use Rattle.sam_workers.specs.WorkerEnds.{ReaderTold};
 
@@ -39,6 +40,8 @@ pub fn pass_frames<'q, R: Wait, G: Gate>(
     ensures told { ReaderTold take.entry.line post.entry.line result }
     ensures begins { result.passed ≡ false → G.may_refuse gate.now 3 }
     ensures way { result.stop ≡ Some Stop.Gate → G.may_refuse gate.now 3 }
+    ensures let_in { result.passed ≡ true → G.must_refuse gate.now 3 None → ⊥ }
+    ensures let_on { LetOn (G.must_refuse gate.now 3) 0 (length result.post.put) }
 {
     if !gate.pass(WORKER) {
         return leave(rt, take, post, false, Stop::Gate);
@@ -70,6 +73,7 @@ fn leave<'q, R: Wait>(
     ensures told { ReaderTold take.entry.line post.entry.line result }
     ensures passed { result.passed ≡ passed }
     ensures stop { result.stop ≡ Some stop }
+    ensures put { result.post.put ≡ post.entry.put }
 {
     post.close(rt);
     drop_rest(rt, &mut take);
@@ -95,6 +99,7 @@ fn pass_pieces<R: Wait, G: Gate>(
     requires post { post.old ≡ new_post post.old.line 2 }
     ensures passes { Passes take.old take.new post.old post.new result }
     ensures way { result ≡ Some Stop.Gate → G.may_refuse gate.now 3 }
+    ensures let_on { LetOn (G.must_refuse gate.now 3) 0 (length post.new.put) }
 {
     let mut framer = FramerH::new(alloc);
     let mut handled: u64 = 0;
@@ -124,8 +129,11 @@ fn pass_piece<R: Wait, G: Gate>(
 ) -> Option<Stop>
     requires sound { framer.old.failed ≡ false }
     requires opened { post.old.closed ≡ false }
+    requires counted { IsCount handled.old (length post.old.put) }
     ensures passes { PassesPiece framer.old piece.now framer.new post.old post.new result }
     ensures way { result ≡ Some Stop.Gate → G.may_refuse gate.now 3 }
+    ensures counted { IsCount handled.new (length post.new.put) }
+    ensures let_on { LetOn (G.must_refuse gate.now 3) (length post.old.put) (length post.new.put) }
 {
     match framer.feed(piece) {
         Ok(frames) => send_on(rt, gate, frames, post, handled),
@@ -148,8 +156,11 @@ fn send_before<R: Wait, G: Gate>(
     number: u8,
 ) -> Option<Stop>
     requires opened { post.old.closed ≡ false }
+    requires counted { IsCount handled.old (length post.old.put) }
     ensures sends { SendsBefore frames.items number post.old post.new result }
     ensures way { result ≡ Some Stop.Gate → G.may_refuse gate.now 3 }
+    ensures counted { IsCount handled.new (length post.new.put) }
+    ensures let_on { LetOn (G.must_refuse gate.now 3) (length post.old.put) (length post.new.put) }
 {
     send_on(rt, gate, frames, post, handled).or(Some(Stop::Frame(number)))
 }
@@ -163,8 +174,11 @@ fn send_on<R: Wait, G: Gate>(
     handled: &mut u64,
 ) -> Option<Stop>
     requires opened { post.old.closed ≡ false }
+    requires counted { IsCount handled.old (length post.old.put) }
     ensures sends { Sends frames.items post.old post.new result }
     ensures way { result ≡ Some Stop.Gate → G.may_refuse gate.now 3 }
+    ensures counted { IsCount handled.new (length post.new.put) }
+    ensures let_on { LetOn (G.must_refuse gate.now 3) (length post.old.put) (length post.new.put) }
 {
     for frame in frames {
         if !gate.go_on(WORKER, *handled) {

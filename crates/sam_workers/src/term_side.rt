@@ -4,6 +4,7 @@ ghost use Rattle.std.specs.Prelude.{◌≡◌, ◌⊎◌, ◌<◌, [], IsTrue, S
 ghost use Rattle.sam_term.specs.Term.{new_terminal};
 ghost use Rattle.sam_queue.specs.Views.{new_take, new_post, closed_post};
 ghost use Rattle.sam_queue.specs.History.{IsEnded};
+ghost use Rattle.sam_workers.specs.Gates.{LetOn, TermHandled, TermLetOn};
 ghost use Rattle.sam_workers.specs.WorkerEnds.{TermTold};
 ghost use Rattle.sam_workers.specs.TermMoments.{Goes, IsDone, IsFound, IsTried, IsQuiet, MayExit, new_side};
 
@@ -81,6 +82,7 @@ impl<'q> Model for Side<'q> {
       keyboard_left = s.keyboard_left;
       mouse_left = s.mouse_left;
       exit_put = s.exit_put;
+      steps = s.handled;
       stop = s.stop;
     } };
 
@@ -92,6 +94,7 @@ impl<'q> Model for Side<'q> {
       keyboard_left = s.keyboard_left;
       mouse_left = s.mouse_left;
       exit_put = s.exit_put;
+      steps = s.handled;
       stop = s.stop;
     }) };
 }
@@ -259,6 +262,7 @@ impl<'q> Side<'q> {
         ensures post { self.new.post ≡ self.old.post }
         ensures gate { self.new.stop ≡ Some Stop.Gate → G.may_refuse gate.now 4 }
         ensures found { IsFound self.new result }
+        ensures let_on { LetOn (G.must_refuse gate.now 4) self.old.steps self.new.steps }
     {
         match self.take.try_recv(rt) {
             Got::Empty => Found::Nothing,
@@ -280,12 +284,14 @@ impl<'q> Side<'q> {
                     self.stop = Some(Stop::Gate);
                     return Found::Entry;
                 }
-                self.handled = self.handled.saturating_add(1);
                 match self.logged.handle(sender, input) {
-                    Ok(batch) => match self.to_send.push_all(batch.as_slice()) {
-                        Ok(()) => {}
-                        Err(_) => self.stop = Some(Stop::Memory),
-                    },
+                    Ok(batch) => {
+                        self.handled = self.handled.saturating_add(1);
+                        match self.to_send.push_all(batch.as_slice()) {
+                            Ok(()) => {}
+                            Err(_) => self.stop = Some(Stop::Memory),
+                        }
+                    }
                     Err(stop) => self.stop = Some(stop),
                 }
                 Found::Entry
@@ -299,6 +305,7 @@ impl<'q> Side<'q> {
         ensures take { self.new.take.line ≡ self.old.take.line }
         ensures post { self.new.post ≡ self.old.post }
         ensures stop { self.new.stop ≡ self.old.stop }
+        ensures steps { self.new.steps ≡ self.old.steps }
         ensures ended { IsTrue result → IsEnded 3 self.new.take.taken }
     {
         match self.take.try_recv(rt) {
@@ -381,6 +388,7 @@ impl<'q> Side<'q> {
         ensures take { self.new.take.line ≡ self.old.take.line }
         ensures post { self.new.post.line ≡ self.old.post.line }
         ensures gate { self.new.stop ≡ Some Stop.Gate → G.may_refuse gate.now 4 }
+        ensures let_on { LetOn (G.must_refuse gate.now 4) self.old.steps self.new.steps }
         ensures done { IsTrue result → IsDone self.new }
     {
         let found = self.take_next(rt, gate);
@@ -407,6 +415,7 @@ impl<'q> Side<'q> {
         ensures take { self.new.take.line ≡ self.old.take.line }
         ensures post { self.new.post.line ≡ self.old.post.line }
         ensures stop { self.new.stop ≡ Some Stop.Gate → self.old.stop ≡ Some Stop.Gate }
+        ensures steps { self.new.steps ≡ self.old.steps }
         ensures done { IsTrue result → IsDone self.new }
     {
         let ended = self.drop_next(rt, backoff);
@@ -423,6 +432,7 @@ impl<'q> Side<'q> {
         ensures take { self.new.take.line ≡ self.old.take.line }
         ensures post { self.new.post.line ≡ self.old.post.line }
         ensures gate { self.new.stop ≡ Some Stop.Gate → G.may_refuse gate.now 4 }
+        ensures let_on { LetOn (G.must_refuse gate.now 4) self.old.steps self.new.steps }
         ensures done { IsDone self.new }
     {
         let mut backoff = Backoff::new();
@@ -446,6 +456,7 @@ impl<'q> Side<'q> {
         ensures told { TermTold self.entry.take.line self.entry.post.line result }
         ensures passed { result.passed ≡ passed }
         ensures stop { result.stop ≡ self.entry.stop }
+        ensures handled { TermHandled self.entry.steps result }
     {
         let Side {
             take,
@@ -503,6 +514,8 @@ pub fn run_terminal<'q, R: Wait, G: Gate>(
     ensures told { TermTold take.entry.line post.entry.line result }
     ensures begins { result.passed ≡ false → G.may_refuse gate.now 4 }
     ensures way { result.stop ≡ Some Stop.Gate → G.may_refuse gate.now 4 }
+    ensures let_in { result.passed ≡ true → G.must_refuse gate.now 4 None → ⊥ }
+    ensures let_on { TermLetOn (G.must_refuse gate.now 4) result }
 {
     let passed = gate.pass(4);
     let stop = if passed { None } else { Some(Stop::Gate) };

@@ -1,7 +1,8 @@
 //! The worker of the keyboard or of the mouse.
 
-ghost use Rattle.std.specs.Prelude.{◌≡◌, ℕ, ◌<◌, false, length, map, take, MatchBool, Some};
+ghost use Rattle.std.specs.Prelude.{◌≡◌, ℕ, ◌<◌, true, false, length, map, take, MatchBool, None, Some};
 ghost use Rattle.sam_queue.specs.Views.{new_post};
+ghost use Rattle.sam_workers.specs.Gates.{LetOn};
 ghost use Rattle.sam_workers.specs.WorkerEnds.{UserTold};
 ghost use Rattle.sam_workers.specs.declared.input.Input.TheVariants.{User};
 
@@ -30,6 +31,8 @@ pub fn send_events<'q, R: Wait, G: Gate>(
     ensures told { UserTold worker events.items post.entry.line result }
     ensures begins { result.passed ≡ false → G.may_refuse gate.now worker }
     ensures way { result.stop ≡ Some Stop.Gate → G.may_refuse gate.now worker }
+    ensures let_in { result.passed ≡ true → G.must_refuse gate.now worker None → ⊥ }
+    ensures let_on { LetOn (G.must_refuse gate.now worker) 0 (length result.post.put) }
 {
     if !gate.pass(worker) {
         post.close(rt);
@@ -58,8 +61,9 @@ fn put_events<R: Wait, G: Gate>(
 ) -> bool
     requires worker { worker < 5 }
     requires post { post.old ≡ new_post post.old.line worker }
-    ensures { (many : ℕ) × (post.new ≡ record post.old { put = map User (take many events.items) })
+    ensures some { (many : ℕ) × (post.new ≡ record post.old { put = map User (take many events.items) })
         × MatchBool result (many ≡ length events.items) (G.may_refuse gate.now worker) }
+    ensures let_on { LetOn (G.must_refuse gate.now worker) 0 (length post.new.put) }
 {
     let mut handled: u64 = 0;
     for event in events {

@@ -1,4 +1,5 @@
 use Rattle.std.proofs.Common.{◌≡◌}
+use Rattle.sam_workers.specs.Gates.{LetOn}
 use Rattle.sam_workers.proofs.HostWhole.{Going}
 use Rattle.sam_workers.proofs.host_side.HostSide.serve.Given as goal
 
@@ -8,4 +9,5 @@ invariant-loop g l = record {
   piece : l.self.piece ≡ l.initial.self.piece;
   line : l.take.line ≡ l.initial.take.line;
   going : Going l.initial.self.host l.self.host l.initial.self.post l.self.post l.self.framer l.take.taken;
+  let_on : LetOn (g.G.Gate.must_refuse l.gate 2) l.initial.self.host.taken l.self.host.taken;
 }

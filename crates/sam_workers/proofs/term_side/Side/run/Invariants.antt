@@ -1,4 +1,5 @@
 use Rattle.std.proofs.Common.{◌≡◌, Some}
+use Rattle.sam_workers.specs.Gates.{LetOn}
 use Rattle.sam_workers.specs.declared.stop.Stop.TheVariants as stop
 use Rattle.sam_workers.proofs.term_side.Side.run.Given as goal
 
@@ -8,4 +9,5 @@ invariant-loop-turn g l = record {
   take : l.self.take.line ≡ l.fn.self.take.line;
   post : l.self.post.line ≡ l.fn.self.post.line;
   gate : l.self.stop ≡ Some stop.Gate → g.G.Gate.may_refuse l.gate 4;
+  let_on : LetOn (g.G.Gate.must_refuse l.gate 4) l.fn.self.steps l.self.steps;
 }
