@@ -13,7 +13,7 @@
  * Words. A tag is a file's number. Tag 0 is the command file: a line that is typed into it is run as a command. The dot is what is
  * selected. The snarf buffer, which the host holds, has what was cut or copied last. A lock holds events back until the host has
  * answered. A message goes to the host, a frame to the terminal. docs/GLOSSARY.md explains the other words, docs/PROTOCOL.md the
- * messages (Twrite, Texit) and the command language.
+ * messages (Twrite, Texit), docs/COMMANDS.md the command language.
  *
  * Units. Places and lengths of texts count runes (Unicode scalar values); a text has at most 1,000,000. Texts go in and out as
  * UTF-8 (RFC 3629), and their lengths in bytes stand beside the pointer. The runes that a terminal draws go out as numbers. Names
