@@ -38,6 +38,7 @@ session_of script refuses lines e s told files begun gates headline schedule str
   lines = lines;
   told = told;
   begun = begun;
+  files = files;
   headline = headline;
   run = ap (λ f. run_of (new_world f) s.schedule.items) (sym files) ∙ headline.run;
   schedule = schedule;
