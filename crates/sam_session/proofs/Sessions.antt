@@ -5,6 +5,8 @@ use Rattle.std.proofs.lemmas.List.Concat.{flat_map-cons}
 use Rattle.sam_term.specs.declared.event.UserEvent.{UserEvent}
 use Rattle.sam_term.specs.declared.event.UserEvent.TheVariants.{Exit}
 use Rattle.sam_world.specs.Sides.{Each}
+use Rattle.sam_crossing.specs.World.{user_events}
+use Rattle.sam_local.specs.Local.{carried_all}
 use Rattle.sam_script.specs.RunLines.{run_lines_of}
 use Rattle.sam_script.specs.Show.{show_lines}
 use Rattle.sam_queue.specs.declared.rule.Entry.{Entry}
@@ -139,6 +141,7 @@ printed script refuses must s lines session unstopped is =
         users = all_users script refuses must s session none;
         exited = whole.exited;
         settled = session.headline.quiet s.schedule.items [] s.world (sym (append-nil s.schedule.items)) session.headline.run whole.quiet;
+        local = whole.local ∙ ap (λ files. carried_all files (user_events s.schedule.items)) session.files;
       },
     )
 

@@ -9,6 +9,7 @@ use Rattle.sam_term.specs.declared.event.UserEvent.{UserEvent}
 use Rattle.sam_term.specs.declared.event.UserEvent.TheVariants.{Exit}
 use Rattle.sam_crossing.specs.World.{user_events, PlainWorld, new_world, run_of, SidesAgree}
 use Rattle.sam_crossing.specs.declared.event.Event.{Event}
+use Rattle.sam_local.specs.Local.{at_rest, carried_all}
 use Rattle.sam_spawn.specs.Session.{IsSession}
 use Rattle.sam_settle.specs.declared.settled.Settled.{Settled}
 use Rattle.sam_workers.specs.declared.stop.Stop.{Stop}
@@ -70,13 +71,15 @@ HasAllUsers script schedule =
     (woven : List UserEvent) × (own : List UserEvent) × (user_events schedule ≡ woven ++ own)
     × IsWoven (keys_of script.lines) (mouse_of script.lines) woven × ((own ≡ []) ⊎ (own ≡ Exit ∷ []))
 
--- a run from the script's files to this world, in which the user does all that the script says, and at whose end the session is over, no
--- lock is held, and both sides agree
+-- A run from the script's files to this world, in which the user does all that the script says, and at whose end the session is over, no
+-- lock is held, and both sides agree. They are where its events lead an editor without a network, but for runes that are not loaded and
+-- for counts
 pub record IsSchedule (script : PlainScript) (schedule : List Event) (world : PlainWorld) : Type 0 where
   pub run : run_of (new_world script.files) schedule ≡ Some world
   pub users : HasAllUsers script schedule
   pub exited : world.term.has_exited ≡ true
   pub settled : SidesAgree world
+  pub local : at_rest world.host world.term ≡ carried_all script.files (user_events schedule)
 
 -- what is written is a schedule of the script, as a script, and what its end shows
 abbrev pub PrintsSession : List ℕ → PlainScript → Type 0

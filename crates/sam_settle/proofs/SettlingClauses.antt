@@ -4,6 +4,9 @@ use Rattle.std.proofs.lemmas.Grind.{flat_map-append}
 use Rattle.std.proofs.lemmas.List.Elements.{All-nil}
 use Rattle.sam_host.specs.declared.fault.HostFault.TheVariants as refusal
 use Rattle.sam_world.specs.Given.{IsFile}
+use Rattle.sam_crossing.specs.World.{is_quiet, user_events}
+use Rattle.sam_local.specs.Worlds.{IsAsIfLocal}
+use Rattle.sam_local.proofs.Runs.{runs_are_as_if_local, rests}
 use Rattle.sam_queue.proofs.Sorts.{items_of-append}
 use Rattle.sam_workers.specs.Numbers.{fault_number}
 use Rattle.sam_workers.specs.declared.stop.Stop.{Stop}
@@ -33,6 +36,13 @@ record IsFine (most : ℕ) (o : Option Stop) : Type 0 where
 count_joined : (xs ys : List Stop) → count_gone (xs ++ ys) ≡ count_gone xs + count_gone ys
 count_joined [] ys = omega arith
 count_joined (x ∷ xs) ys = grind (arith, (count_joined xs ys))
+
+-- ## The end of a session that nothing stopped
+
+record IsAtItsEnd (w : PlainWorld) : Type 0 where
+  exited : w.term.has_exited ≡ true
+  held : w.term.held ≡ []
+  quiet : is_quiet w ≡ true
 
 -- ## All of one session
 
@@ -264,6 +274,7 @@ module _ (e : Ends) (ends : AreEnds e) (given : LinesGive e) where
       host = states.0;
       term = states.1;
       quiet = λ done more w parts reached. quiet_means_agreement w (reached_in_order e.host.files.items w apart.given_fit (done, reached));
+      local = λ done more w parts reached. runs_are_as_if_local e.host.files.items done w apart.given_fit reached;
     }
 
     pub has_streams : HasStreams e s
@@ -286,5 +297,18 @@ module _ (e : Ends) (ends : AreEnds e) (given : LinesGive e) where
       none_under_way_down,
     )
 
+    at_its_end : s.stops.items ≡ [] → IsAtItsEnd s.world
+    at_its_end none = grind (arith, states, term_went, none_under_way, world_is)
+
     pub is_whole : s.stops.items ≡ [] → IsWhole e s
-    is_whole none = grind (arith, states, joined, term_went, handled_all, none_under_way, world_is)
+    is_whole none =
+        let end = at_its_end none in
+        let files = e.host.files.items in
+        let local : IsAsIfLocal files (user_events s.schedule.items) s.world = runs_are_as_if_local files s.schedule.items s.world apart.given_fit headline.run in
+        record {
+          events = grind (arith, joined, handled_all);
+          exited = end.exited;
+          held = end.held;
+          quiet = end.quiet;
+          local = rests files (user_events s.schedule.items) s.world local end.quiet end.held;
+        }

@@ -1,12 +1,14 @@
 -- In any schedule of the five threads, each queue gives what its senders put in, per sender in order, each once, nothing put after
 -- close and nothing missing once drained; and the two ends are where one run of the world leaves them, in which, whenever nothing is
--- unsent or under way, no lock is held and every loaded rune of a rasp is the host's rune there.
+-- unsent or under way, no lock is held and every loaded rune of a rasp is the host's rune there. And wherever that run stands, what the
+-- user did on the way has done what it does without a network.
 use Rattle.std.specs.Prelude.{◌≡◌, List, [], ◌∷◌, ◌++◌, Some, Vec}
 use Rattle.std.specs.Global.{Global}
 use Rattle.sam_queue.specs.Views.{PostView, TakeView}
 use Rattle.sam_queue.specs.Audits.{AllAccounted, HasHistory}
 use Rattle.sam_crossing.specs.declared.event.Event.{Event}
-use Rattle.sam_crossing.specs.World.{PlainWorld, new_world, run_of, SidesAgreeWhereQuiet}
+use Rattle.sam_crossing.specs.World.{PlainWorld, new_world, run_of, user_events, SidesAgreeWhereQuiet}
+use Rattle.sam_local.specs.Worlds.{IsAsIfLocal}
 use Rattle.sam_workers.specs.declared.ends.Ends.{Ends}
 use Rattle.sam_settle.specs.declared.settled.Settled.{Settled}
 
@@ -24,3 +26,5 @@ pub record Headline (ends : Ends) (s : Settled) : Type 0 where
   pub term : s.world.term ≡ ends.term.term
   pub quiet : (done : List Event) (more : List Event) (w : PlainWorld) → s.schedule.items ≡ done ++ more
       → run_of (new_world ends.host.files.items) done ≡ Some w → SidesAgreeWhereQuiet w
+  pub local : (done : List Event) (more : List Event) (w : PlainWorld) → s.schedule.items ≡ done ++ more
+      → run_of (new_world ends.host.files.items) done ≡ Some w → IsAsIfLocal ends.host.files.items (user_events done) w

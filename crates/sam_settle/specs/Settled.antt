@@ -11,6 +11,7 @@ use Rattle.sam_queue.specs.declared.rule.Entry.{Entry}
 use Rattle.sam_queue.specs.History.{items_of, has_left}
 use Rattle.sam_queue.specs.Views.{PostView, TakeView}
 use Rattle.sam_crossing.specs.World.{user_events, is_quiet}
+use Rattle.sam_local.specs.Local.{at_rest, carried_all}
 use Rattle.sam_world.specs.Sides.{Each, HostRuns, TermRuns}
 use Rattle.sam_world.specs.Prefixes.{Begins}
 use Rattle.sam_workers.specs.RealSides.{at_work, sides}
@@ -132,9 +133,11 @@ pub record HasUsers (ends : Ends) (s : Settled) : Type 0 where
 
 -- ## A session that nothing stopped
 
--- all that keyboard and mouse have put is in the schedule, and both sides came to their end
+-- All that keyboard and mouse have put is in the schedule, and both sides came to their end. They are where the events of the schedule lead
+-- an editor without a network, but for runes that are not loaded and for counts
 pub record IsWhole (ends : Ends) (s : Settled) : Type 0 where
   pub events : (own : List UserEvent) × (user_events s.schedule.items ≡ users_in ends.term.take.taken ++ own) × IsOwnExit own ends.term.take.taken
   pub exited : s.world.term.has_exited ≡ true
   pub held : s.world.term.held ≡ []
   pub quiet : is_quiet s.world ≡ true
+  pub local : at_rest s.world.host s.world.term ≡ carried_all ends.host.files.items (user_events s.schedule.items)

@@ -39,6 +39,7 @@ session_of script refuses must lines e s told files begun gates let_in let_on he
   lines = lines;
   told = told;
   begun = begun;
+  files = files;
   headline = headline;
   run = ap (λ f. run_of (new_world f) s.schedule.items) (sym files) ∙ headline.run;
   schedule = schedule;

@@ -22,6 +22,7 @@ pub record IsSession (script : PlainScript) (refuses : ℕ → Type 0) (must : �
   pub lines : LinesView
   pub told : Told (keys_of script.lines) (mouse_of script.lines) lines ends
   pub begun : AllPassed ends
+  pub files : ends.host.files.items ≡ script.files
   pub headline : Headline ends s
   pub run : run_of (new_world script.files) s.schedule.items ≡ Some s.world
   pub schedule : s.schedule.items ≡ merged ends.term.log.items ends.host.host.taken
