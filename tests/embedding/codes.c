@@ -41,11 +41,13 @@ static void no_handles(sam_host *host, sam_term *term)
     uint32_t runes[4] = {9, 9, 9, 9}, a = 1, b = 2;
     uint16_t tag = 3, version = 4;
     uint64_t many = 5;
-    size_t len = 6, more = 7;
+    size_t len = 6;
+    uint32_t more = 7;
     bool is = true;
     WANT(sam_host_free(host), SAM_NO_HANDLE);
     WANT(sam_host_add_file(host, BYTES("n"), BYTES("t"), &tag), SAM_NO_HANDLE);
     WANT(sam_host_feed(host, BYTES("x")), SAM_NO_HANDLE);
+    WANT(sam_host_finish(host), SAM_NO_HANDLE);
     WANT(sam_host_pending(host, &len), SAM_NO_HANDLE);
     WANT(sam_host_take_out(host, buffer, sizeof buffer, &len), SAM_NO_HANDLE);
     WANT(sam_host_next_written(host, &tag), SAM_NO_HANDLE);
@@ -58,7 +60,7 @@ static void no_handles(sam_host *host, sam_term *term)
     WANT(sam_host_len(host, 0, &a), SAM_NO_HANDLE);
     WANT(sam_host_is_dirty(host, 0, &is), SAM_NO_HANDLE);
     WANT(sam_host_text(host, 0, 0, buffer, sizeof buffer, &len, &more), SAM_NO_HANDLE);
-    WANT(sam_host_saved_len(host, 0, &len), SAM_NO_HANDLE);
+    WANT(sam_host_saved_len(host, 0, &a), SAM_NO_HANDLE);
     WANT(sam_host_saved(host, 0, 0, buffer, sizeof buffer, &len, &more), SAM_NO_HANDLE);
     WANT(sam_host_dot(host, 0, &a, &b), SAM_NO_HANDLE);
     WANT(sam_term_free(term), SAM_NO_HANDLE);
@@ -87,11 +89,13 @@ static void no_handles(sam_host *host, sam_term *term)
     WANT(sam_term_flush(term), SAM_NO_HANDLE);
     WANT(sam_term_exit(term), SAM_NO_HANDLE);
     WANT(sam_term_feed(term, BYTES("x")), SAM_NO_HANDLE);
+    WANT(sam_term_finish(term), SAM_NO_HANDLE);
     WANT(sam_term_flush_now(term), SAM_NO_HANDLE);
     WANT(sam_term_pending(term, &len), SAM_NO_HANDLE);
     WANT(sam_term_take_out(term, buffer, sizeof buffer, &len), SAM_NO_HANDLE);
     WANT(sam_term_next_refusal(term, &many, &a), SAM_NO_HANDLE);
     WANT(sam_term_events(term, &many), SAM_NO_HANDLE);
+    WANT(sam_term_decided(term, &many), SAM_NO_HANDLE);
     WANT(sam_term_tags(term, &len), SAM_NO_HANDLE);
     WANT(sam_term_is_known(term, 0, &is), SAM_NO_HANDLE);
     WANT(sam_term_name(term, 0, buffer, sizeof buffer, &len), SAM_NO_HANDLE);
@@ -100,13 +104,18 @@ static void no_handles(sam_host *host, sam_term *term)
     WANT(sam_term_is_open(term, 0, &is), SAM_NO_HANDLE);
     WANT(sam_term_current(term, &tag), SAM_NO_HANDLE);
     WANT(sam_term_len(term, 0, &a), SAM_NO_HANDLE);
-    WANT(sam_term_read(term, 0, 0, runes, 4, &len), SAM_NO_HANDLE);
+    WANT(sam_term_read(term, 0, 0, runes, 4, &a), SAM_NO_HANDLE);
+    WANT(sam_term_text(term, 0, 0, buffer, sizeof buffer, &len, &more), SAM_NO_HANDLE);
+    WANT(sam_term_bytes(term, 0, 0, 1, &len, &a), SAM_NO_HANDLE);
+    WANT(sam_term_place(term, 0, 0, 1, &a), SAM_NO_HANDLE);
+    WANT(sam_term_line(term, 0, 0, 1, &a), SAM_NO_HANDLE);
+    WANT(sam_term_changed(term, 0, &a, &b, &more), SAM_NO_HANDLE);
     WANT(sam_term_first_gap(term, 0, 0, &a), SAM_NO_HANDLE);
     WANT(sam_term_dot(term, 0, &a, &b), SAM_NO_HANDLE);
     WANT(sam_term_view_of(term, 0, &a, &b), SAM_NO_HANDLE);
     WANT(sam_term_locked(term, 0, &is), SAM_NO_HANDLE);
     WANT(sam_term_command_locked(term, &is), SAM_NO_HANDLE);
-    WANT(sam_term_held(term, &len), SAM_NO_HANDLE);
+    WANT(sam_term_held(term, &many), SAM_NO_HANDLE);
     WANT(sam_term_unsent(term, &a), SAM_NO_HANDLE);
     WANT(sam_term_sent(term, &many), SAM_NO_HANDLE);
     WANT(sam_term_under_way(term, &many), SAM_NO_HANDLE);
@@ -166,8 +175,10 @@ static sam_status fed_host(const char *bytes, size_t len)
     WANT(sam_host_new(&host), SAM_OK);
     WANT(sam_host_add_file(&host, BYTES("a"), BYTES("one"), &tag), SAM_OK);
     sam_status status = sam_host_feed(&host, (const uint8_t *)bytes, len);
-    if (status != SAM_OK)
+    if (status != SAM_OK) {
         WANT(sam_host_feed(&host, NULL, 0), status);
+        WANT(sam_host_finish(&host), status);
+    }
     WANT(sam_host_free(&host), SAM_OK);
     return status;
 }
@@ -184,6 +195,7 @@ static sam_status fed_term(const char *bytes, size_t len)
         WANT(sam_term_cut(&term, 0), status);
         WANT(sam_term_type(&term, 0, BYTES("x")), status);
         WANT(sam_term_flush_now(&term), status);
+        WANT(sam_term_finish(&term), status);
     }
     WANT(sam_term_free(&term), SAM_OK);
     return status;
@@ -217,6 +229,30 @@ static void wrong_streams(void)
     WANT(TERM(HNEWNAME_1 HBINDNAME_1 "\x46\0\x12" SEEN "\0\x01\0\0\0\0\0\x0f\x42\x41"), SAM_TERM_TOO_LONG);
     WANT(TERM("\x48\0\x08" SEEN), SAM_TERM_LOCK_NOT_HELD);
     WANT(TERM(HNEWNAME_1 HBINDNAME_1), SAM_OK);
+}
+
+/* Streams that end between two frames, and inside one: after its kind, in its length, before its last byte. The handle goes on. */
+static void ending_streams(void)
+{
+    static const uint8_t message[] = {1, 0, 2, 0, 2}; /* Tversion 2 */
+    static const char frames[] = HNEWNAME_1 HNEWNAME_1;
+    enum { HALF = sizeof frames / 2 };
+    sam_host host = SAM_HOST_INIT;
+    sam_term term = SAM_TERM_INIT;
+    WANT(sam_host_new(&host), SAM_OK);
+    WANT(sam_host_finish(&host), SAM_OK);
+    for (size_t i = 0; i < sizeof message; i++) {
+        WANT(sam_host_feed(&host, message + i, 1), SAM_OK);
+        WANT(sam_host_finish(&host), i + 1 < sizeof message ? SAM_TRUNCATED : SAM_OK);
+    }
+    WANT(sam_host_free(&host), SAM_OK);
+    WANT(sam_term_new(&term), SAM_OK);
+    WANT(sam_term_finish(&term), SAM_OK);
+    for (size_t i = 0; i < HALF; i++) {
+        WANT(sam_term_feed(&term, (const uint8_t *)frames + i, 1), SAM_OK);
+        WANT(sam_term_finish(&term), i + 1 < HALF ? SAM_TRUNCATED : SAM_OK);
+    }
+    WANT(sam_term_free(&term), SAM_OK);
 }
 
 /* A host that would pass the limit of a text refuses; so does a terminal, which goes on. */
@@ -266,7 +302,8 @@ static void wants_under_way(sam_term *term, uint64_t should)
 static void same_text(sam_host *host, uint16_t tag, const char *text)
 {
     uint8_t bytes[256];
-    size_t len, runes;
+    size_t len;
+    uint32_t runes;
     WANT(sam_host_text(host, tag, 0, bytes, sizeof bytes, &len, &runes), SAM_OK);
     WANT(len, strlen(text));
     WANT(memcmp(bytes, text, len), 0);
@@ -279,9 +316,9 @@ static void session(void)
     sam_host host = {0};
     sam_term term = {0};
     uint16_t tag, version;
-    uint32_t a, b, runes[8];
-    uint64_t count, before;
-    size_t len, more;
+    uint32_t a, b, more, runes[8];
+    uint64_t count, before, last;
+    size_t len;
     uint8_t bytes[64];
     bool is;
     WANT(sam_host_new(&host), SAM_OK);
@@ -317,15 +354,20 @@ static void session(void)
     WANT(sam_term_open(&term, 1), SAM_OK);
     WANT(sam_term_type(&term, 1, BYTES("\xC3")), SAM_NOT_TEXT);
     WANT(sam_term_select(&term, 1, 0, 3), SAM_OK); /* waits for the file */
-    WANT(sam_term_held(&term, &len), SAM_OK);
-    WANT(len, 1);
+    WANT(sam_term_held(&term, &count), SAM_OK);
+    WANT(count, 1);
+    WANT(sam_term_events(&term, &last), SAM_OK);
+    WANT(sam_term_decided(&term, &count), SAM_OK);
+    WANT(count, last - 1);
     carry(&term, &host);
+    WANT(sam_term_decided(&term, &count), SAM_OK);
+    WANT(count, last);
     WANT(sam_term_len(&term, 1, &a), SAM_OK);
     WANT(a, 12);
     WANT(sam_term_first_gap(&term, 1, 0, &a), SAM_OK);
     WANT(a, 0);
-    WANT(sam_term_read(&term, 1, 10, runes, 8, &len), SAM_OK);
-    WANT(len == 2 && runes[0] == SAM_GAP && runes[1] == SAM_GAP, 1);
+    WANT(sam_term_read(&term, 1, 10, runes, 8, &more), SAM_OK);
+    WANT(more == 2 && runes[0] == SAM_GAP && runes[1] == SAM_GAP, 1);
     WANT(sam_term_view(&term, 1, 4, 3), SAM_OK);
     carry(&term, &host);
     WANT(sam_term_first_gap(&term, 1, 4, &a), SAM_OK);
@@ -338,8 +380,8 @@ static void session(void)
     WANT(sam_term_view_of(&term, 1, &a, &b), SAM_OK);
     WANT(a == 0 && b == 12, 1);
     WANT(sam_term_first_gap(&term, 1, 0, &a), SAM_NONE);
-    WANT(sam_term_read(&term, 1, 10, runes, 8, &len), SAM_OK);
-    WANT(len == 2 && runes[0] == 'e' && runes[1] == '\n', 1);
+    WANT(sam_term_read(&term, 1, 10, runes, 8, &more), SAM_OK);
+    WANT(more == 2 && runes[0] == 'e' && runes[1] == '\n', 1);
     WANT(sam_term_dot(&term, 1, &a, &b), SAM_OK);
     WANT(a == 0 && b == 3, 1);
     WANT(sam_term_look(&term, 1), SAM_OK);
@@ -384,7 +426,7 @@ static void session(void)
     WANT(len == 0 && more == 0, 1);
     WANT(sam_host_is_dirty(&host, 1, &is), SAM_OK);
     WANT(is, 1);
-    WANT(sam_host_saved_len(&host, 1, &len), SAM_NONE);
+    WANT(sam_host_saved_len(&host, 1, &a), SAM_NONE);
     WANT(sam_host_next_written(&host, &tag), SAM_NONE);
     WANT(sam_term_is_changed(&term, 1, &is), SAM_OK);
     WANT(is, 1);
@@ -397,8 +439,8 @@ static void session(void)
     WANT(sam_host_next_written(&host, &tag), SAM_OK);
     WANT(tag, 1);
     WANT(sam_host_next_written(&host, &tag), SAM_NONE);
-    WANT(sam_host_saved_len(&host, 1, &len), SAM_OK);
-    WANT(len, 10);
+    WANT(sam_host_saved_len(&host, 1, &a), SAM_OK);
+    WANT(a, 10);
     WANT(sam_host_saved(&host, 1, 5, bytes, sizeof bytes, &len, &more), SAM_OK);
     WANT(len == 5 && more == 5 && memcmp(bytes, "two \n", 5) == 0, 1);
     WANT(sam_term_dclick(&term, 1, 5), SAM_OK);
@@ -451,6 +493,9 @@ static void session(void)
     WANT(sam_host_saved(&host, 2, 0, bytes, sizeof bytes, &len, &more), SAM_NONE);
     WANT(sam_host_dot(&host, 2, &a, &b), SAM_NONE);
     WANT(sam_term_cut(&term, 9), SAM_OK);
+    WANT(sam_term_events(&term, &last), SAM_OK);
+    WANT(sam_term_decided(&term, &count), SAM_OK);
+    WANT(count, last); /* a refused event is no longer held */
     wants_refusal(&term, SAM_REFUSAL_NO_FILE);
     WANT(sam_term_select(&term, 1, 0, 99), SAM_OK);
     wants_refusal(&term, SAM_REFUSAL_BAD_POSITION);
@@ -504,7 +549,7 @@ static void not_open(void)
 static void reads_no_file(sam_term *term, uint16_t tag, sam_status known)
 {
     uint8_t bytes[8];
-    uint32_t runes[8], a, b;
+    uint32_t runes[8], a, b, c;
     size_t len;
     bool is = true;
     WANT(sam_term_is_known(term, tag, &is), SAM_OK);
@@ -516,7 +561,12 @@ static void reads_no_file(sam_term *term, uint16_t tag, sam_status known)
     WANT(sam_term_is_dirty(term, tag, &is), known);
     WANT(sam_term_name(term, tag, bytes, sizeof bytes, &len), known);
     WANT(sam_term_len(term, tag, &a), SAM_NONE);
-    WANT(sam_term_read(term, tag, 0, runes, 8, &len), SAM_NONE);
+    WANT(sam_term_read(term, tag, 0, runes, 8, &a), SAM_NONE);
+    WANT(sam_term_text(term, tag, 0, bytes, sizeof bytes, &len, &a), SAM_NONE);
+    WANT(sam_term_bytes(term, tag, 0, 1, &len, &a), SAM_NONE);
+    WANT(sam_term_place(term, tag, 0, 1, &a), SAM_NONE);
+    WANT(sam_term_line(term, tag, 0, 0, &a), SAM_NONE);
+    WANT(sam_term_changed(term, tag, &a, &b, &c), SAM_NONE);
     WANT(sam_term_first_gap(term, tag, 0, &a), SAM_NONE);
     WANT(sam_term_dot(term, tag, &a, &b), SAM_NONE);
     WANT(sam_term_view_of(term, tag, &a, &b), SAM_NONE);
@@ -529,8 +579,8 @@ static void tags_without_a_file(void)
     sam_term term = SAM_TERM_INIT;
     uint16_t tag;
     uint8_t bytes[8];
-    uint32_t a, b;
-    size_t len, more;
+    uint32_t a, b, more;
+    size_t len;
     bool is = true;
     WANT(sam_host_new(&host), SAM_OK);
     WANT(sam_host_add_file(&host, BYTES("a\0b"), BYTES("one"), &tag), SAM_OK); /* NUL is a rune like others */
@@ -564,8 +614,154 @@ static void tags_without_a_file(void)
     WANT(sam_host_is_dirty(&host, 1, &is), SAM_NONE);
     WANT(sam_host_text(&host, 1, 0, bytes, sizeof bytes, &len, &more), SAM_NONE);
     WANT(sam_host_saved(&host, 1, 0, bytes, sizeof bytes, &len, &more), SAM_NONE);
-    WANT(sam_host_saved_len(&host, 1, &len), SAM_NONE);
+    WANT(sam_host_saved_len(&host, 1, &a), SAM_NONE);
     WANT(sam_host_dot(&host, 1, &a, &b), SAM_NONE);
+    WANT(sam_term_free(&term), SAM_OK);
+    WANT(sam_host_free(&host), SAM_OK);
+}
+
+/* The loaded text from a place on, in a buffer of this room, with an untouched byte after it. */
+static void wants_text(sam_term *term, uint32_t place, size_t room, const char *text, uint32_t runes)
+{
+    uint8_t bytes[16];
+    size_t len = 99;
+    uint32_t count = 99;
+    memset(bytes, 9, sizeof bytes);
+    WANT(sam_term_text(term, 1, place, bytes, room, &len, &count), SAM_OK);
+    WANT(len, strlen(text));
+    WANT(count, runes);
+    WANT(memcmp(bytes, text, len), 0);
+    WANT(bytes[len], 9);
+}
+
+static void wants_bytes(sam_term *term, uint32_t start, uint32_t end, size_t bytes, uint32_t gaps)
+{
+    size_t len = 99;
+    uint32_t count = 99;
+    WANT(sam_term_bytes(term, 1, start, end, &len, &count), SAM_OK);
+    WANT(len, bytes);
+    WANT(count, gaps);
+}
+
+static void wants_place(sam_term *term, uint32_t start, size_t bytes, uint32_t place)
+{
+    uint32_t is = 99;
+    WANT(sam_term_place(term, 1, start, bytes, &is), SAM_OK);
+    WANT(is, place);
+}
+
+static void wants_line(sam_term *term, uint32_t start, uint32_t lines, sam_status status, uint32_t place)
+{
+    uint32_t is = 99;
+    WANT(sam_term_line(term, 1, start, lines, &is), status);
+    WANT(is, status == SAM_OK ? place : 99);
+}
+
+/* Runes, bytes and lines of a text of which the places 1 to 8 are loaded, and then all: runes of 1, 2, 3 and 4 bytes, and three lines. */
+static void measures(void)
+{
+    static const char text[] = "a\n\xC3\xA9\xE2\x86\x92\n\xF0\x9F\x90\xA6z\nend"; /* a \n é → \n U+1F426 z \n e n d */
+    sam_host host = SAM_HOST_INIT;
+    sam_term term = SAM_TERM_INIT;
+    uint16_t tag;
+    WANT(sam_host_new(&host), SAM_OK);
+    WANT(sam_host_add_file(&host, BYTES("a"), BYTES(text), &tag), SAM_OK);
+    WANT(sam_term_new(&term), SAM_OK);
+    WANT(sam_term_offer_version(&term, 2), SAM_OK);
+    WANT(sam_term_open(&term, 1), SAM_OK);
+    WANT(sam_term_view(&term, 1, 1, 7), SAM_OK);
+    carry(&term, &host);
+    wants_text(&term, 0, 15, "", 0);
+    wants_text(&term, 1, 15, "\n\xC3\xA9\xE2\x86\x92\n\xF0\x9F\x90\xA6z\n", 7);
+    wants_text(&term, 2, 8, "\xC3\xA9\xE2\x86\x92\n", 3); /* two bytes are too few for the bird */
+    wants_text(&term, 2, 1, "", 0);
+    wants_text(&term, 8, 15, "", 0);
+    wants_text(&term, 99, 15, "", 0);
+    wants_bytes(&term, 0, 11, 13, 4);
+    wants_bytes(&term, 2, 4, 5, 0);
+    wants_bytes(&term, 5, 6, 4, 0);
+    wants_bytes(&term, 8, 99, 0, 3);
+    wants_bytes(&term, 4, 4, 0, 0);
+    wants_bytes(&term, 4, 3, 0, 0);
+    wants_bytes(&term, 99, 100, 0, 0);
+    wants_place(&term, 2, 0, 2);
+    wants_place(&term, 2, 1, 2);
+    wants_place(&term, 2, 5, 4);
+    wants_place(&term, 2, 9, 5);  /* three bytes are too few for the bird */
+    wants_place(&term, 2, 99, 8); /* the gap */
+    wants_place(&term, 0, 99, 0);
+    wants_place(&term, 99, 1, 99);
+    wants_line(&term, 0, 0, SAM_OK, 0);
+    wants_line(&term, 0, 1, SAM_NONE, 0);
+    wants_line(&term, 1, 1, SAM_OK, 2);
+    wants_line(&term, 1, 2, SAM_OK, 5);
+    wants_line(&term, 2, 2, SAM_OK, 8);
+    wants_line(&term, 2, 3, SAM_NONE, 0);
+    WANT(sam_term_load(&term, 1, 0, 11), SAM_OK);
+    carry(&term, &host);
+    wants_bytes(&term, 0, 11, 17, 0);
+    wants_place(&term, 0, 17, 11);
+    wants_place(&term, 0, 99, 11);
+    wants_line(&term, 0, 3, SAM_OK, 8);
+    wants_line(&term, 0, 4, SAM_NONE, 0);
+    wants_text(&term, 8, 15, "end", 3);
+    WANT(sam_term_free(&term), SAM_OK);
+    WANT(sam_host_free(&host), SAM_OK);
+}
+
+static void wants_change(sam_term *term, uint32_t start, uint32_t gone, uint32_t came)
+{
+    uint32_t a = 99, b = 99, c = 99;
+    WANT(sam_term_changed(term, 1, &a, &b, &c), SAM_OK);
+    if (b != 0 || c != 0 || gone != 0 || came != 0) /* where nothing changed, any place is right */
+        WANT(a, start);
+    WANT(b, gone);
+    WANT(c, came);
+}
+
+/* What changes in `one two one\n`, by events and by frames, one at a time and together. */
+static void changes(void)
+{
+    sam_host host = SAM_HOST_INIT;
+    sam_term term = SAM_TERM_INIT;
+    uint16_t tag;
+    WANT(sam_host_new(&host), SAM_OK);
+    WANT(sam_host_add_file(&host, BYTES("a"), BYTES("one two one\n"), &tag), SAM_OK);
+    WANT(sam_term_new(&term), SAM_OK);
+    WANT(sam_term_offer_version(&term, 2), SAM_OK);
+    WANT(sam_term_open(&term, 1), SAM_OK);
+    carry(&term, &host);
+    wants_change(&term, 0, 0, 12); /* twelve gaps came into an empty text */
+    wants_change(&term, 0, 0, 0);
+    WANT(sam_term_view(&term, 1, 4, 3), SAM_OK);
+    wants_change(&term, 0, 0, 0);
+    carry(&term, &host);
+    wants_change(&term, 4, 3, 3); /* `two` is loaded */
+    WANT(sam_term_select(&term, 1, 4, 7), SAM_OK);
+    wants_change(&term, 0, 0, 0);
+    WANT(sam_term_type(&term, 1, BYTES("\xC3\xA9\xC3\xA9")), SAM_OK);
+    wants_change(&term, 4, 3, 2);
+    WANT(sam_term_select(&term, 1, 0, 1), SAM_OK);
+    WANT(sam_term_cut(&term, 1), SAM_OK);
+    WANT(sam_term_select(&term, 1, 10, 10), SAM_OK);
+    WANT(sam_term_type(&term, 1, BYTES("x")), SAM_OK);
+    wants_change(&term, 0, 11, 11);       /* from the first place to the last edit, with what is between */
+    WANT(sam_term_cut(&term, 1), SAM_OK); /* an empty dot: nothing */
+    wants_change(&term, 0, 0, 0);
+    WANT(sam_term_select(&term, 1, 2, 3), SAM_OK);
+    WANT(sam_term_paste(&term, 1), SAM_OK);
+    wants_change(&term, 2, 1, 0); /* the dot is gone, and the host has not answered */
+    carry(&term, &host);
+    wants_change(&term, 2, 0, 1); /* the `o` that was cut comes */
+    WANT(sam_term_open_cmd(&term), SAM_OK);
+    WANT(sam_term_work(&term, 1), SAM_OK);
+    WANT(sam_term_type(&term, 0, BYTES(",d\n")), SAM_OK);
+    carry(&term, &host);
+    same_text(&host, 1, "");
+    wants_change(&term, 0, 11, 0);
+    WANT(sam_term_close(&term, 1), SAM_OK);
+    carry(&term, &host);
+    WANT(sam_term_changed(&term, 1, &(uint32_t){0}, &(uint32_t){0}, &(uint32_t){0}), SAM_NONE);
     WANT(sam_term_free(&term), SAM_OK);
     WANT(sam_host_free(&host), SAM_OK);
 }
@@ -578,8 +774,8 @@ static void long_line(void)
     sam_host host = SAM_HOST_INIT;
     sam_term term = SAM_TERM_INIT;
     uint16_t tag;
-    uint32_t len;
-    size_t bytes, runes;
+    uint32_t len, runes;
+    size_t bytes;
     uint8_t printed[7];
     memset(text, 'y', sizeof text);
     for (size_t i = 0; i < LINES; i++)
@@ -664,7 +860,8 @@ int main(void)
     all_tags();
     puts("adding files");
     wrong_streams();
-    puts("wrong streams");
+    ending_streams();
+    puts("wrong streams, and where a stream may end");
     too_long();
     not_open();
     puts("refusals");
@@ -673,6 +870,10 @@ int main(void)
     puts("what the header says of tags and of long lines");
     session();
     puts("a session");
+    measures();
+    puts("runes, bytes and lines");
+    changes();
+    puts("changes");
     replaying();
     puts("replays");
     return 0;

@@ -13,7 +13,7 @@ MOST_IN_PATTERN = 512  # bytes of the longest pattern
 GAP = 2**32 - 1  # what stands for a rune that is not loaded
 
 # The first number that is too great for a type of an argument.
-_END = {c_uint16: 2**16, c_uint32: 2**32}
+_END = {c_uint16: 2**16, c_uint32: 2**32, c_size_t: 2 ** (8 * ctypes.sizeof(c_size_t))}
 
 _AnySide = TypeVar("_AnySide", bound="_Side")
 
@@ -23,6 +23,14 @@ class Refusal(NamedTuple):
 
     event: int
     why: Status
+
+
+class Change(NamedTuple):
+    """A change of a text: from the place `start` on `gone` runes or gaps of the old text gave way to `came` of the new one."""
+
+    start: int
+    gone: int
+    came: int
 
 
 def _least(most: Optional[int], there: int) -> int:
@@ -89,7 +97,7 @@ class _Side:
 
     def _long_text(self, name: str, place: int, most: Optional[int], *arguments: Any) -> str:
         """The runes of a text from a place on: `most` at most, all where that is None."""
-        into, count, runes = ctypes.create_string_buffer(PIECE), c_size_t(), c_size_t()
+        into, count, runes = ctypes.create_string_buffer(PIECE), c_size_t(), c_uint32()
         pieces: List[str] = []
         left = _least(most, 2**32)
         while True:
@@ -106,6 +114,11 @@ class _Side:
         waits after `Unfinished`. Raises NoMemory, Unfinished, CountFull, or why this side has stopped, now or before."""
         data = bytes(memoryview(data))
         self._call("feed", data, len(data))
+
+    def finish(self) -> None:
+        """Says that the other side's stream has ended: nothing where it may end here. Raises StreamFault with the code TRUNCATED where it
+        ends inside a message or frame, Unfinished where some of what came waits, or why this side has stopped before."""
+        self._call("finish")
 
     @property
     def pending(self) -> int:
@@ -206,7 +219,7 @@ class Host(_Side):
 
     def saved_len(self, tag: int) -> Optional[int]:
         """The length in runes of what a file was when it was written last; None where it never was."""
-        return self._number_if_any("saved_len", c_size_t, tag)
+        return self._number_if_any("saved_len", c_uint32, tag)
 
     def saved(self, tag: int, place: int = 0, runes: Optional[int] = None) -> str:
         """What a file was when it was written last, from a place on. Raises Missing where it never was."""
@@ -356,6 +369,12 @@ class Terminal(_Side):
         return self._number("events", c_uint64)
 
     @property
+    def decided(self) -> int:
+        """How many of them have acted or were refused. Events are done in order, so the event that was made last is held where this is
+        below `events`."""
+        return self._number("decided", c_uint64)
+
+    @property
     def tags(self) -> int:
         """How many tags the terminal has room for: each file that it knows has a tag below this."""
         return self._number("tags", c_size_t)
@@ -400,9 +419,36 @@ class Terminal(_Side):
         """The runes of an open file from a place on, at most `count`; None stands for one that is not loaded. Raises Missing,
         and ValueError where a number is below 0."""
         room = _least(count, max(0, self.len(tag) - place))
-        into, got = (c_uint32 * room)(), c_size_t()
+        into, got = (c_uint32 * room)(), c_uint32()
         self._call("read", tag, place, into, room, byref(got))
         return [None if rune == GAP else chr(rune) for rune in into[: got.value]]
+
+    def text(self, tag: int, place: int = 0, runes: Optional[int] = None) -> str:
+        """The text of an open file from a place on, up to the first rune that is not loaded: so many runes, or all. Raises Missing."""
+        return self._long_text("text", place, runes, tag)
+
+    def bytes(self, tag: int, start: int, end: int) -> Tuple[int, int]:
+        """How many bytes the loaded runes of an open file from a place to a place take in UTF-8, and how many of its runes there are not
+        loaded. Raises Missing."""
+        count, gaps = c_size_t(), c_uint32()
+        self._call("bytes", tag, start, end, byref(count), byref(gaps))
+        return count.value, gaps.value
+
+    def place(self, tag: int, start: int, count: int) -> int:
+        """The place after the loaded runes of an open file from a place on that `count` bytes of UTF-8 hold whole: a gap or the end of the
+        text is the last place. Raises Missing."""
+        return self._number("place", c_uint32, tag, start, count)
+
+    def line(self, tag: int, start: int, lines: int) -> Optional[int]:
+        """The place after so many line ends of an open file from a place on; None where a gap or the end comes before, or it isn't open."""
+        return self._number_if_any("line", c_uint32, tag, start, lines)
+
+    def changed(self, tag: int) -> Change:
+        """What changed in an open file since this was asked of it last: the smallest stretch that holds what each frame and each event
+        touched, loading included. The first time its text was empty before. Raises Missing, and the first time NoMemory."""
+        start, gone, came = c_uint32(), c_uint32(), c_uint32()
+        self._call("changed", tag, byref(start), byref(gone), byref(came))
+        return Change(start.value, gone.value, came.value)
 
     def first_gap(self, tag: int, place: int = 0) -> Optional[int]:
         """The first place of an open file, there or after it, whose rune is not loaded; None where there is none, or it isn't open."""
@@ -428,7 +474,7 @@ class Terminal(_Side):
     @property
     def held(self) -> int:
         """How many events are held."""
-        return self._number("held", c_size_t)
+        return self._number("held", c_uint64)
 
     @property
     def unsent(self) -> int:

@@ -4,10 +4,12 @@
 ghost use Rattle.std.specs.Prelude.{◌≡◌, length};
 ghost use Rattle.sam_c.specs.Calls.{Reports};
 ghost use Rattle.sam_c.specs.Hosts.{Freed};
-ghost use Rattle.sam_c.specs.Terms.{TermFed, TermIdled, TermMade, TermNextRefusal, TermTaken};
+ghost use Rattle.sam_c.specs.Terms.{TermChanged, TermFed, TermFinished, TermIdled, TermMade, TermNextRefusal, TermTaken};
 
-use crate::handle::SamTerm;
-use crate::status::{MADE, NO_HANDLE, NO_MEMORY, NONE, OK, refusal_status, term_status};
+use crate::handle::{SamTerm, with_end};
+use crate::status::{
+    MADE, NO_HANDLE, NO_MEMORY, NONE, OK, refusal_status, term_finish_status, term_status,
+};
 use sam_endpoint::TermEndpoint;
 use std::alloc::Global;
 
@@ -52,6 +54,19 @@ pub extern "C" fn sam_term_feed(term: &mut SamTerm, bytes: &[u8], alloc: Global)
     let status = term_status(end.feed(bytes));
     term.put(end);
     status
+}
+
+/// Says whether the host's stream may end here: to be asked where the input of the terminal has ended. It changes nothing.
+///
+/// Returns `SAM_OK`, `SAM_NO_HANDLE`, why the terminal has stopped before (`SAM_STREAM..`, `SAM_TERM_REFUSED..`), `SAM_UNFINISHED` if some
+/// of what came or was composed waits, since memory was refused, or `SAM_TRUNCATED` if the stream ends inside a frame. `SAM_NO_HANDLE`
+/// comes first; the order of the others is that of [`TermEndpoint::finish`].
+#[unsafe(no_mangle)]
+pub extern "C" fn sam_term_finish(term: &mut SamTerm, alloc: Global) -> u32
+    ensures told { TermFinished term.old.held.end result }
+    ensures kept { term.new.held.end ≡ term.old.held.end }
+{
+    with_end!(term alloc end { term_finish_status(end.finish()) })
 }
 
 /// Composes the typed runes that are not sent yet. A program calls it when the user pauses, before the program sleeps.
@@ -124,6 +139,39 @@ pub extern "C" fn sam_term_next_refusal(
             OK
         }
         None => NONE,
+    };
+    term.put(end);
+    status
+}
+
+/// Hands out what changed in the text of an open file since this was asked of it last: in the old text `gone` runes or gaps from the place
+/// `start` on gave way to `came` of the new one, and all else is as it was. On the first call for a file its text was empty before.
+///
+/// Errors, in this order: `SAM_NO_HANDLE`; `SAM_NONE` if the file is not open; `SAM_NO_MEMORY`, on the first call for a file. The terminal
+/// is then as it was.
+#[unsafe(no_mangle)]
+pub extern "C" fn sam_term_changed(
+    term: &mut SamTerm,
+    tag: u16,
+    start: &mut u32,
+    gone: &mut u32,
+    came: &mut u32,
+    alloc: Global,
+) -> u32
+    ensures { TermChanged term.old.held.end tag (start.old, gone.old, came.old) result (start.new, gone.new, came.new) term.new.held.end }
+{
+    let Some(mut end) = term.take(alloc) else {
+        return NO_HANDLE;
+    };
+    let status = match end.changed(tag) {
+        Ok(Some(change)) => {
+            *start = change.start;
+            *gone = change.gone;
+            *came = change.came;
+            OK
+        }
+        Ok(None) => NONE,
+        Err(_) => NO_MEMORY,
     };
     term.put(end);
     status

@@ -3,6 +3,7 @@
 //! puts an event or flushes.
 #![tactic(auto)]
 
+mod changes;
 mod drawing;
 mod fault;
 mod host_endpoint;
@@ -11,8 +12,9 @@ pub mod laws;
 mod pending_bytes;
 mod term_endpoint;
 
+pub use changes::{Change, Changes, Kept, Touch};
 pub use drawing::{GAP, read_rasp};
-pub use fault::{AddFault, EndpointFault, HostStop, StreamFault, TermStop};
+pub use fault::{AddFault, EndpointFault, FinishFault, HostStop, StreamFault, TermStop};
 pub use host_endpoint::HostEndpoint;
 pub use pending_bytes::PendingBytes;
 pub use term_endpoint::TermEndpoint;

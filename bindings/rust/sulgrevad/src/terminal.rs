@@ -1,11 +1,22 @@
 //! The terminal: windows, keyboard and mouse over partly loaded texts.
 
-use crate::{done, short_text, tells, told, whole_text, Error, Refusal, PIECE};
+use crate::{done, short_text, tells, text_from, told, whole_text, Error, Refusal, PIECE};
 use std::cell::UnsafeCell;
 use sulgrevad_sys::{self as sys, sam_term};
 
 /// What `read` hands out for a rune that is not loaded.
 const GAP: u32 = sys::SAM_GAP;
+
+/// A change of a text: from the place `start` on `gone` runes or gaps of the old text gave way to `came` of the new one.
+#[derive(Clone, Copy, Debug, PartialEq, Eq)]
+pub struct Change {
+    /// The place, which is the same in both texts.
+    pub start: u32,
+    /// How many runes or gaps went.
+    pub gone: u32,
+    /// How many came.
+    pub came: u32,
+}
 
 /// A terminal. It is dropped with what is pending.
 ///
@@ -158,6 +169,12 @@ impl Terminal {
         done(unsafe { sys::sam_term_feed(self.at(), bytes.as_ptr(), bytes.len()) })
     }
 
+    /// Says that the host's stream has ended: `Ok` where it may end here. Errors in order: why the terminal has stopped before;
+    /// `Unfinished` where some of what came waits; `Stream(Truncated)` where the stream ends inside a frame.
+    pub fn finish(&self) -> Result<(), Error> {
+        done(unsafe { sys::sam_term_finish(self.at()) })
+    }
+
     /// Composes the typed runes that are not sent yet: to be called when the user pauses.
     pub fn flush_now(&mut self) -> Result<(), Error> {
         done(unsafe { sys::sam_term_flush_now(self.at()) })
@@ -195,16 +212,33 @@ impl Terminal {
         let mut runes = vec![0; most];
         let mut count = 0;
         unsafe { sys::sam_term_read(self.at(), tag, place, runes.as_mut_ptr(), most, &mut count) };
-        runes.truncate(count);
+        runes.truncate(count as usize);
         runes
             .into_iter()
             .map(|rune| if rune == GAP { None } else { char::from_u32(rune) })
             .collect()
     }
 
+    /// What changed in an open file since this was asked of it last: the smallest stretch that holds what each frame and each event touched,
+    /// loading included. The first time its text was empty before. `None` where it is not open; the only error is `NoMemory`, the first
+    /// time.
+    pub fn changed(&mut self, tag: u16) -> Result<Option<Change>, Error> {
+        let (mut start, mut gone, mut came) = (0, 0, 0);
+        match unsafe { sys::sam_term_changed(self.at(), tag, &mut start, &mut gone, &mut came) } {
+            sys::SAM_NONE => Ok(None),
+            status => done(status).map(|()| Some(Change { start, gone, came })),
+        }
+    }
+
     /// How many events were taken.
     pub fn events(&self) -> u64 {
         tells(|value| unsafe { sys::sam_term_events(self.at(), value) })
+    }
+
+    /// How many of them have acted or were refused. Events are done in order, so the event that was made last is held where this is below
+    /// `events`.
+    pub fn decided(&self) -> u64 {
+        tells(|value| unsafe { sys::sam_term_decided(self.at(), value) })
     }
 
     /// How many tags it has room for: each file that it knows has a tag below this.
@@ -239,7 +273,7 @@ impl Terminal {
     }
 
     /// How many events are held.
-    pub fn held(&self) -> usize {
+    pub fn held(&self) -> u64 {
         tells(|value| unsafe { sys::sam_term_held(self.at(), value) })
     }
 
@@ -296,6 +330,31 @@ impl Terminal {
     /// The first place of an open file, at or after `place`, whose rune is not loaded.
     pub fn first_gap(&self, tag: u16, place: u32) -> Option<u32> {
         told(|gap| unsafe { sys::sam_term_first_gap(self.at(), tag, place, gap) })
+    }
+
+    /// The text of an open file from a place on, up to the first rune that is not loaded; `None` where it is not open.
+    pub fn text(&self, tag: u16, place: u32) -> Option<String> {
+        text_from(place, |place, into, bytes, runes| unsafe {
+            sys::sam_term_text(self.at(), tag, place, into.as_mut_ptr(), into.len(), bytes, runes)
+        })
+    }
+
+    /// How many bytes the loaded runes of an open file from a place to a place take in UTF-8, and how many of its runes there are not
+    /// loaded; `None` where it is not open.
+    pub fn bytes(&self, tag: u16, start: u32, end: u32) -> Option<(usize, u32)> {
+        let mut gaps = 0;
+        told(|bytes| unsafe { sys::sam_term_bytes(self.at(), tag, start, end, bytes, &mut gaps) }).map(|bytes| (bytes, gaps))
+    }
+
+    /// The place after the loaded runes of an open file from a place on that so many bytes of UTF-8 hold whole: a gap or the end of the text
+    /// is the last place. `None` where it is not open.
+    pub fn place(&self, tag: u16, start: u32, bytes: usize) -> Option<u32> {
+        told(|place| unsafe { sys::sam_term_place(self.at(), tag, start, bytes, place) })
+    }
+
+    /// The place after so many line ends of an open file from a place on; `None` also where a gap or the end of the text comes before.
+    pub fn line(&self, tag: u16, start: u32, lines: u32) -> Option<u32> {
+        told(|place| unsafe { sys::sam_term_line(self.at(), tag, start, lines, place) })
     }
 
     /// The dot of an open file.

@@ -1,6 +1,6 @@
 //! A session over the two ends: crossing edits wait, and both ends agree.
 
-use sulgrevad::{Error, Host, Refusal, StreamFault, Terminal};
+use sulgrevad::{Change, Error, Host, Refusal, StreamFault, Terminal};
 
 /// Carries bytes both ways, cut into pieces, until neither side has any.
 fn carry(term: &mut Terminal, host: &mut Host) -> Result<(), Error> {
@@ -32,9 +32,11 @@ fn an_edit_that_would_cross_waits() -> Result<(), Error> {
     term.look(file)?; // a lock of the file is held until it is answered
     term.type_(file, "é")?;
     assert_eq!(term.held(), 1);
+    assert_eq!(term.decided(), term.events() - 1);
     assert!(term.locked(file));
     carry(&mut term, &mut host)?;
     assert_eq!(term.held(), 0);
+    assert_eq!(term.decided(), term.events());
     term.flush_now()?;
     carry(&mut term, &mut host)?;
     assert_eq!(host.text(file).as_deref(), Some("éhello\n"));
@@ -70,6 +72,45 @@ fn gaps_are_told_and_fill() -> Result<(), Error> {
     assert_eq!(term.read(file, 2, usize::MAX), vec![Some('e'), Some('\n')]);
     assert_eq!(term.read(file, 5, 1), vec![]);
     assert_eq!(term.read(file + 1, 0, usize::MAX), vec![]);
+    Ok(())
+}
+
+#[test]
+fn runes_bytes_and_lines() -> Result<(), Error> {
+    let (mut host, mut term, file) = opened("é\n→z")?;
+    term.view(file, 1, 3)?;
+    carry(&mut term, &mut host)?;
+    assert_eq!(term.text(file, 0).as_deref(), Some(""));
+    assert_eq!(term.text(file, 1).as_deref(), Some("\n→z"));
+    assert_eq!(term.bytes(file, 0, 4), Some((5, 1)));
+    assert_eq!(term.place(file, 1, 4), Some(3));
+    assert_eq!(term.place(file, 1, 3), Some(2));
+    assert_eq!(term.line(file, 1, 1), Some(2));
+    assert_eq!(term.line(file, 0, 1), None); // a gap comes before
+    assert_eq!(
+        (term.text(9, 0), term.bytes(9, 0, 1), term.place(9, 0, 1), term.line(9, 0, 0)),
+        (None, None, None, None)
+    );
+    Ok(())
+}
+
+#[test]
+fn what_changed_is_handed_out() -> Result<(), Error> {
+    let change = |start, gone, came| Ok(Some(Change { start, gone, came }));
+    let (mut host, mut term, file) = opened("one two\n")?;
+    assert_eq!(term.changed(file), change(0, 0, 8));
+    term.view(file, 0, 3)?;
+    carry(&mut term, &mut host)?;
+    assert_eq!(term.changed(file), change(0, 3, 3)); // three runes are loaded
+    term.select(file, 4, 7)?;
+    term.type_(file, "é")?;
+    assert_eq!(term.changed(file), change(4, 3, 1));
+    term.select(file, 0, 1)?;
+    term.cut(file)?;
+    term.select(file, 3, 3)?;
+    term.type_(file, "x")?;
+    assert_eq!(term.changed(file), change(0, 4, 4)); // with what is between
+    assert_eq!(term.changed(file + 1), Ok(None));
     Ok(())
 }
 
@@ -111,6 +152,26 @@ fn a_typed_file_is_changed_until_it_is_written() -> Result<(), Error> {
     carry(&mut term, &mut host)?;
     assert!(!term.is_changed(file));
     assert!(!term.is_changed(99));
+    Ok(())
+}
+
+#[test]
+fn a_stream_ends_between_two_messages() -> Result<(), Error> {
+    let truncated = Err(Error::Stream(StreamFault::Truncated));
+    let (mut host, mut term, file) = opened("one\n")?;
+    assert_eq!((host.finish(), term.finish()), (Ok(()), Ok(())));
+    term.check(file)?;
+    for byte in term.take_out().flatten().collect::<Vec<u8>>() {
+        host.feed(&[byte])?;
+        assert_eq!(host.finish(), if host.pending() == 0 { truncated } else { Ok(()) });
+    }
+    let frames: Vec<u8> = host.take_out().flatten().collect();
+    term.feed(&frames[..1])?;
+    assert_eq!(term.finish(), truncated);
+    term.feed(&frames[1..])?;
+    assert_eq!(term.finish(), Ok(()));
+    assert_eq!(host.feed(&[23]), Err(Error::Stream(StreamFault::BadKind)));
+    assert_eq!(host.finish(), Err(Error::Stream(StreamFault::BadKind)));
     Ok(())
 }
 
