@@ -5,7 +5,7 @@ use Rattle.sam_runes.proofs.Codes.{spelled-more, counted-more}
 use Rattle.sam_c.specs.Buffers.{Puts, Fills}
 use Rattle.sam_c.specs.declared.utf8.Filled.{Filled}
 
--- after the first i runes: their bytes stand in the buffer, and behind them what stood there before
+-- after the first i runes: their bytes stand in the buffer, and after them what stood there before
 pub record Stands (runes before now : List ℕ) (i bytes : ℕ) : Type 0 where
   bytes_are : bytes ≡ length (encode_utf8_all (take i runes))
   room : bytes ≤ length before

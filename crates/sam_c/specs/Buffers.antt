@@ -13,7 +13,7 @@ Puts rune at before after (Some end) =
 abbrev pub countable : List ℕ → List ℕ
 countable text = take (2 ^ 32 - 1) text
 
--- the first runes stand in the buffer in UTF-8, as many as have room whole, and behind them what stood there before
+-- the first runes stand in the buffer in UTF-8, as many as have room whole, and after them what stood there before
 pub record Fills (runes before after : List ℕ) (filled : Filled) : Type 0 where
   pub count : filled.runes ≤ length runes
   pub bytes_are : filled.bytes ≡ length (encode_utf8_all (take filled.runes runes))

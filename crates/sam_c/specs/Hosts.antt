@@ -16,7 +16,7 @@ abbrev pub HostMade : Option PlainHostEndpoint → ℕ → Option PlainHostEndpo
 HostMade None status after = ((status ≡ ok) × (after ≡ Some new_host_endpoint)) ⊎ ((status ≡ no_memory) × (after ≡ None))
 HostMade (Some e) status after = (status ≡ is_made) × (after ≡ Some e)
 
--- the handle is empty now, and this tells whether it was before
+-- the handle is empty now, and this says whether it was before
 abbrev pub Freed : {E : Type 0} → Option E → ℕ → Option E → Type 0
 Freed None status after = (status ≡ no_handle) × (after ≡ None)
 Freed (Some e) status after = (status ≡ ok) × (after ≡ None)

@@ -29,7 +29,7 @@ fitting (c ∷ cs) n = if nat_le (length (encode_utf8 c)) n then 1 + fitting cs 
 abbrev pub newline : ℕ
 newline = 10
 
--- the place behind so many line ends, if there are so many
+-- the place after so many line ends, if there are so many
 abbrev pub after_lines : ℕ → List ℕ → Option ℕ
 after_lines zero cs = Some 0
 after_lines (suc n) [] = None

@@ -19,7 +19,7 @@ abbrev pub ComesTo : List ℕ → Result (List ℕ) ScriptFault → Type 0
 ComesTo script (Ok printed) = IsReplay script printed
 ComesTo script (Err why) = IsReplayFault script why
 
--- the first bytes stand in the buffer, as many as have room, and behind them what stood there before
+-- the first bytes stand in the buffer, as many as have room, and after them what stood there before
 abbrev pub filled : List ℕ → List ℕ → List ℕ
 filled bytes before = take (length before) bytes ++ drop (length bytes) before
 

@@ -107,6 +107,6 @@ open_of e tag = window_of e.term tag
 abbrev pub shown_of : Window → ℕ × ℕ
 shown_of w = (w.view_start, view_end w)
 
--- the first gap at or behind a place
+-- the first gap at or after a place
 abbrev pub gap_from : ℕ → Window → Option ℕ
 gap_from place w = option_map (λ hole. hole.0) (hole_within w.rasp place (length w.rasp))

@@ -149,7 +149,7 @@ pub extern "C" fn sam_host_dot(
 }
 
 /// Puts a file's text from a place on into the buffer in UTF-8, as many whole runes as have room. Hands out how many bytes and how many
-/// runes: none if the place is at the end or behind it. `SAM_NONE` if the tag has no file.
+/// runes: none if the place is at the end or after it. `SAM_NONE` if the tag has no file.
 #[unsafe(no_mangle)]
 pub extern "C" fn sam_host_text(
     host: &mut SamHost,

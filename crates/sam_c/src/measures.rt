@@ -88,7 +88,7 @@ pub(crate) fn size_of_range(rasp: &Rasp, start: u32, end: u32) -> Sizes
     all
 }
 
-/// Returns the place behind the loaded runes from a place on that so many bytes hold whole in UTF-8: it is at a gap or at the end at the
+/// Returns the place after the loaded runes from a place on that so many bytes hold whole in UTF-8: it is at a gap or at the end at the
 /// latest.
 pub(crate) fn place_after(rasp: &Rasp, start: u32, bytes: usize) -> u32
     ensures { result ≡ place_after rasp.now start bytes }
@@ -108,7 +108,7 @@ pub(crate) fn place_after(rasp: &Rasp, start: u32, bytes: usize) -> u32
     end
 }
 
-/// Returns the place behind so many line ends from a place on; `None` if a gap or the end of the text comes before.
+/// Returns the place after so many line ends from a place on; `None` if a gap or the end of the text comes before.
 pub(crate) fn line_after(rasp: &Rasp, start: u32, lines: u32) -> Option<u32>
     ensures { result ≡ line_after rasp.now start lines }
 {

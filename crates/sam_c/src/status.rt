@@ -34,7 +34,7 @@ pub(crate) const NOT_TEXT: u32 = 6;
 /// What was asked for is not there: no such file, none that is open, no saved text, no gap, no current file, or nothing more to hand out.
 pub(crate) const NONE: u32 = 7;
 
-/// Added to the number, from 1, of why a file is not added; so too in the families below. Bytes that are no text, and want of memory for a
+/// Added to the number, from 1, of why a file is not added; so too in the families below. Bytes that are no text, and out of memory for a
 /// file or a script, are `NOT_TEXT` and `NO_MEMORY` in place of that.
 const ADD: u32 = 16;
 

@@ -105,7 +105,7 @@ pub extern "C" fn sam_term_sent(term: &mut SamTerm, messages: &mut u64, alloc: G
     with_end!(term alloc end { *messages = end.term().sent(); OK })
 }
 
-/// Hands out how many of the composed messages the host has not taken, as far as its frames tell. It is an upper bound: a message that
+/// Hands out how many of the composed messages the host has not taken, as far as its frames say. It is an upper bound: a message that
 /// the host answers by no frame counts until a later one is answered, and for good once the session is over. 0 means that the host has
 /// taken them all.
 #[unsafe(no_mangle)]
@@ -396,7 +396,7 @@ pub extern "C" fn sam_term_read(
     })
 }
 
-/// Returns the first place of a rasp, at or behind a place, whose rune is not loaded.
+/// Returns the first place of a rasp, at or after a place, whose rune is not loaded.
 fn gap_in(rasp: &Rasp, place: u32) -> Option<u32>
     ensures { result ≡ option_map (λ hole. hole.0) (hole_within rasp.now place (length rasp.now)) }
 {
@@ -409,7 +409,7 @@ fn gap_in(rasp: &Rasp, place: u32) -> Option<u32>
     }
 }
 
-/// Hands out the first place of an open file, at or behind `place`, whose rune is not loaded. `SAM_NONE` if the file is not open, or if
+/// Hands out the first place of an open file, at or after `place`, whose rune is not loaded. `SAM_NONE` if the file is not open, or if
 /// all runes are loaded from there on.
 #[unsafe(no_mangle)]
 pub extern "C" fn sam_term_first_gap(

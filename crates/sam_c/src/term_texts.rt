@@ -68,7 +68,7 @@ pub extern "C" fn sam_term_bytes(
     status
 }
 
-/// Hands out the place behind the loaded runes of an open file from the place `start` on that so many bytes hold whole in UTF-8: it is at a
+/// Hands out the place after the loaded runes of an open file from the place `start` on that so many bytes hold whole in UTF-8: it is at a
 /// gap or at the end of the text at the latest.
 #[unsafe(no_mangle)]
 pub extern "C" fn sam_term_place(
@@ -93,7 +93,7 @@ pub extern "C" fn sam_term_place(
     })
 }
 
-/// Hands out the place behind so many line ends of an open file from the place `start` on: where a line begins. `SAM_NONE` also if a gap or
+/// Hands out the place after so many line ends of an open file from the place `start` on: where a line begins. `SAM_NONE` also if a gap or
 /// the end of the text comes before.
 #[unsafe(no_mangle)]
 pub extern "C" fn sam_term_line(

@@ -15,7 +15,7 @@ pub struct Filled {
     pub runes: usize,
 }
 
-/// Puts a rune into the buffer at `at`, and returns the place behind it. Returns `None` if it has no room, and the buffer is as it was.
+/// Puts a rune into the buffer at `at`, and returns the place after it. Returns `None` if it has no room, and the buffer is as it was.
 pub(crate) fn put_rune(rune: char, into: &mut [u8], at: usize) -> Option<usize>
     requires { at ≤ length into.old }
     ensures { Puts rune at into.old into.new result }
@@ -46,7 +46,7 @@ pub fn fill_utf8(runes: &[char], into: &mut [u8]) -> Filled
     filled
 }
 
-/// Returns the runes from a place on: none if the place is at the end or behind it.
+/// Returns the runes from a place on: none if the place is at the end or after it.
 pub(crate) fn runes_from(runes: &[char], place: u32) -> &[char]
     ensures { result.now ≡ drop place runes.now }
 {

@@ -20,7 +20,7 @@ back-less old new b m less one other same = sym (last-last new m b less other) �
 front-less : (old new : PartialText) (a m : ℕ) → m ≤ a → take a new ≡ take a old → take m new ≡ take m old
 front-less old new a m less same = sym (take-take m a new less) ∙ ap (take m) same ∙ take-take m a old less
 
--- what an edit leaves in front of it and behind it
+-- what an edit leaves in front of it and after it
 front-put : (r cells : PartialText) (p q m : ℕ) → m ≤ p → p ≤ length r → take m (put_cells r p q cells) ≡ take m r
 front-put r cells p q m less within =
     ap (take m) (append_assoc (take p r) cells (drop q r))

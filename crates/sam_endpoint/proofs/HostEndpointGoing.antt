@@ -4,7 +4,7 @@ use Rattle.sam_endpoint.specs.declared.fault.HostStop.TheVariants as stop
 use Rattle.sam_endpoint.specs.declared.fault.EndpointFault.TheVariants as fault
 use Rattle.sam_endpoint.specs.HostSteps.{written}
 
--- ## Answers one behind another
+-- ## Answers one after another
 
 pub serves_more : (h : PlainHost) (ms : List Tmesg) (first : List HFrame) (writes : List ℕ) (k : PlainHost) (ns : List Tmesg) (rest : List HFrame) (more : List ℕ) (g : PlainHost)
     → Serves h ms first writes k → Serves k ns rest more g → Serves h (ms ++ ns) (first ++ rest) (writes ++ more) g

@@ -24,7 +24,7 @@ kept_answers h stream out e g ms a kept = record { served = grind (arith, append
         → (out ++ g.pending_bytes) ++ stream_of host g.unwritten ≡ stream_of host (frames ++ more)
     bytes_on out e g frames more p q = grind (arith, append_assoc, stream_of-append)
 
--- a piece behind a stream
+-- a piece after a stream
 reads_more : (h k : Held) (stream piece : List ℕ) (before ms : List Tmesg) (behind : Option StreamFault) → Splits terminal 1 stream before h.bytes
     → h.version ≡ version_after terminal 1 before → Gives terminal h piece ms behind k
     → IsStream terminal 1 (stream ++ piece) (before ++ ms) k.bytes (option_map mesg_fault behind) × (k.version ≡ version_after terminal 1 (before ++ ms))

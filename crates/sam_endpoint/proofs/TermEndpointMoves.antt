@@ -41,7 +41,7 @@ kept_acted-more t u (a ∷ acts) acted ks (w, one, was, more) =
     subst (λ v. kept_acted v (acts ++ acted ∷ []) then_ks ≡ kept_after (kept_acted v acts then_ks) (act_touch u acted)) (sym left)
     (kept_acted-more w u acts acted then_ks more)
 
--- where nothing is unwritten, what is composed next comes behind
+-- where nothing is unwritten, what is composed next comes after
 behind : (out base : List ℕ) (left before more : List Tmesg) → left ≡ [] → out ++ stream_of terminal left ≡ base ++ stream_of terminal before
     → out ++ stream_of terminal more ≡ base ++ stream_of terminal (before ++ more)
 behind out base left before more none so_far = grind (arith, append_assoc, flat_map-append)

@@ -9,7 +9,7 @@ abbrev pub drawn : Option ℕ → ℕ
 drawn None = gap
 drawn (Some rune) = rune
 
--- the members from a place on stand in the buffer, as many as there are and have room, and behind them what stood there before
+-- the members from a place on stand in the buffer, as many as there are and have room, and after them what stood there before
 pub record Shows (cells : List (Option ℕ)) (place : ℕ) (before after : List ℕ) (count : ℕ) : Type 0 where
   pub count_is : count ≡ min (length before) (length cells - place)
   pub after_is : after ≡ map drawn (take count (drop place cells)) ++ drop count before

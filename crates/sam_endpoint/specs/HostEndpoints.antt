@@ -1,4 +1,4 @@
--- A host behind a stream of bytes each way, and what feeding it does.
+-- A host at one end of a stream of bytes each way, and what feeding it does.
 use Rattle.std.specs.Prelude.{◌≡◌, ℕ, ◌+◌, ◌^◌, ◌<◌, ◌≤◌, ◌⊎◌, List, [], ◌∷◌, ◌++◌, length, Bool, true, false, not, ◌&&◌, ◌||◌, nat_lt, nat_le, if◌then◌else◌, Option, Some, None, Result, Ok, Err}
 use Rattle.std.specs.Str.{chars, is_utf8}
 use Rattle.sam_runes.specs.Checks.{Checks}
@@ -76,7 +76,7 @@ pub record IsIdle (g : PlainHostEndpoint) : Type 0 where
   pub unwritten : g.unwritten ≡ []
 
 -- what going on with what waits leads to: all is answered; memory was refused first; or the end stops, at a message that the host
--- refuses or at the stream's fault behind them all
+-- refuses or at the stream's fault after them all
 abbrev pub GoesOn : PlainHostEndpoint → Result (Unit {0}) (EndpointFault HostStop) → PlainHostEndpoint → Type 0
 GoesOn e (Ok done) g = Answers e e.waiting g × IsIdle g × (e.behind ≡ None) × (g.stop ≡ None)
 GoesOn e (Err fault.Unfinished) g = (messages : List Tmesg) × Answers e messages g × (g.stop ≡ None)
@@ -111,7 +111,7 @@ FeedsAfter (Err (fault.Stopped why)) e piece result g = (result ≡ Err (fault.S
 FeedsAfter (Err fault.OutOfMemory) e piece result g = ⊥
 FeedsAfter (Err fault.CountFull) e piece result g = ⊥
 
--- what feeding a piece answers, and how it leaves the end: one that has stopped tells why again and stays as it is
+-- what feeding a piece answers, and how it leaves the end: one that has stopped says why again and stays as it is
 abbrev pub Feeds : PlainHostEndpoint → List ℕ → Result (Unit {0}) (EndpointFault HostStop) → PlainHostEndpoint → Type 0
 Feeds e piece result g =
     ((why : HostStop) × (e.stop ≡ Some why) × (result ≡ Err (fault.Stopped why)) × (g ≡ e))
@@ -120,7 +120,7 @@ Feeds e piece result g =
 
 -- ## The end of the stream
 
--- all that came was answered and written, and no fault stands behind it
+-- all that came was answered and written, and no fault stands after it
 abbrev pub IsDone : PlainHostEndpoint → Type 0
 IsDone e = IsIdle e × (e.behind ≡ None)
 
@@ -142,7 +142,7 @@ add_checks e name text =
     ∷ (nat_le all_tags (length e.host.files.slots), refusal.NoTag)
     ∷ []
 
--- the first test that holds, or want of memory where none does
+-- the first test that holds, or out of memory where none does
 abbrev pub IsAddFault : Option AddFault → AddFault → Type 0
 IsAddFault None why = why ≡ refusal.OutOfMemory
 IsAddFault (Some fault) why = why ≡ fault

@@ -15,7 +15,7 @@ use Rattle.sam_endpoint.specs.HostSteps.{Answer}
 abbrev pub Call : Type 0
 Call = List ℕ × Option Answer
 
--- the end goes on behind this answer
+-- the end goes on after this answer
 abbrev pub GoesOnAfter : Answer → Type 0
 GoesOnAfter (Err (fault.Stopped why)) = ⊥
 GoesOnAfter (Err _) = Unit {0}
@@ -39,7 +39,7 @@ abbrev pub went_out : Call → List ℕ
 went_out (bytes, None) = bytes
 went_out (piece, Some answer) = []
 
--- Of a stream that came in, the host has answered the first messages, and the others wait, with what is wrong behind them. All frames
+-- Of a stream that came in, the host has answered the first messages, and the others wait, with what is wrong after them. All frames
 -- of the answers, in order, are what was taken out, what is pending and what is not written yet.
 pub record HasServed (first : PlainHost) (stream out : List ℕ) (e : PlainHostEndpoint) : Type 0 where
   pub answered : List Tmesg
@@ -60,7 +60,7 @@ RunsServe =
     (h : PlainHost) (calls : List Call) (g : PlainHostEndpoint) → Runs (begun_with h) calls g
     → HasServed h (flat_map came_in calls) (flat_map went_out calls) g
 
--- two ends to which the same stream came, in whatever pieces and with whatever want of memory, have the same host and the same bytes
+-- two ends to which the same stream came, in whatever pieces and however often they were out of memory, have the same host and the same bytes
 abbrev pub OneOutcome : Type 0
 OneOutcome =
     (h : PlainHost) (stream a b : List ℕ) (e g : PlainHostEndpoint) → HasServed h stream a e → HasServed h stream b g → IsIdle e → IsIdle g

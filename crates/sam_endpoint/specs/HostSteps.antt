@@ -56,7 +56,7 @@ Handles e (Err (fault.Stopped (stop.Stream why))) g = ⊥
 Handles e (Err fault.OutOfMemory) g = ⊥
 Handles e (Err fault.CountFull) g = ⊥
 
--- all is answered and written: it stops where the stream shows a fault behind, else it stays
+-- all is answered and written: it stops where the stream shows a fault after that, else it stays
 abbrev pub Ends : PlainHostEndpoint → Answer → PlainHostEndpoint → Type 0
 Ends e (Ok done) g = (e.behind ≡ None) × (g ≡ e)
 Ends e (Err (fault.Stopped (stop.Stream why))) g = (e.behind ≡ Some why) × (g ≡ stopped e (stop.Stream why))

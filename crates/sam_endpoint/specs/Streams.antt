@@ -26,7 +26,7 @@ mesg_fault BadKind = wrong.BadKind
 mesg_fault BadLength = wrong.BadLength
 mesg_fault BadText = wrong.BadText
 
--- the framer gave these messages for the piece, and behind them no fault or this one
+-- the framer gave these messages for the piece, and after them no fault or this one
 abbrev pub Gives : {M : Type 0} → Direction M → Held → List ℕ → List M → Option StreamFault → Held → Type 0
 Gives d h piece messages None k = GaveAll d h piece messages k
 Gives d h piece messages (Some fault) k = (place : ℕ) × GaveUp d h piece messages place (mesg_fault fault) k
@@ -39,7 +39,7 @@ GivesAs d h piece (Err fault.CountFull) k = (2 ^ 64 ≤ h.offset + length h.byte
 GivesAs d h piece (Err fault.Unfinished) k = ⊥
 GivesAs d h piece (Err (fault.Stopped why)) k = ⊥
 
--- want of memory before what the call brought was taken
+-- out of memory before what the call brought was taken
 abbrev pub not_taken : {S : Type 0} → EndpointFault S → EndpointFault S
 not_taken fault.Unfinished = fault.OutOfMemory
 not_taken why = why

@@ -1,4 +1,4 @@
--- A terminal behind a stream of bytes each way, and what its calls do.
+-- A terminal at one end of a stream of bytes each way, and what its calls do.
 use Rattle.std.specs.Prelude.{◌≡◌, ℕ, ◌+◌, ◌-◌, ◌^◌, ◌<◌, ◌≤◌, ◌⊎◌, List, [], ◌∷◌, ◌++◌, length, flat_map, true, false, Option, Some, None, Result, Ok, Err}
 use Rattle.sam_mesg.specs.declared.tmesg.Tmesg.{Tmesg}
 use Rattle.sam_mesg.specs.declared.hmesg.HFrame.{HFrame}
@@ -83,7 +83,7 @@ abbrev pub last_stamp : ℕ → List HFrame → ℕ
 last_stamp before [] = before
 last_stamp before (frame ∷ frames) = last_stamp frame.seen frames
 
--- how many messages the host has not taken, as far as its frames tell
+-- how many messages the host has not taken, as far as its frames say
 abbrev pub under_way : PlainTermEndpoint → ℕ
 under_way e = e.term.sent - e.seen
 
@@ -146,7 +146,7 @@ InOrder [] g = Unit {0}
 InOrder (acted ∷ rest) g = g.waiting ≡ []
 
 -- what going on with what waits leads to: all frames are received and events act while one can; memory was refused first; or the end
--- stops, at a frame that the terminal refuses, at the stream's fault behind them all, or at an event that can't be counted
+-- stops, at a frame that the terminal refuses, at the stream's fault after them all, or at an event that can't be counted
 abbrev pub GoesOn : PlainTermEndpoint → Result (Unit {0}) (EndpointFault TermStop) → PlainTermEndpoint → Type 0
 GoesOn e (Ok done) g = (acts : List Acted) × Moves e e.waiting acts g × IsIdle g × IsQuiet g.term × (e.behind ≡ None) × (g.stop ≡ None)
 GoesOn e (Err fault.Unfinished) g = (frames : List HFrame) × (acts : List Acted) × Moves e frames acts g × InOrder acts g × (g.stop ≡ None)
@@ -161,7 +161,7 @@ GoesOn e (Err (fault.Stopped (stop.Refused why))) g =
 GoesOn e (Err fault.OutOfMemory) g = ⊥
 GoesOn e (Err fault.CountFull) g = ⊥
 
--- a call to an end that has stopped tells why again and leaves it as it is; else the end first goes on with what waits, and then does
+-- a call to an end that has stopped says why again and leaves it as it is; else the end first goes on with what waits, and then does
 -- what the call brought
 abbrev pub Calls : PlainTermEndpoint → Result (Unit {0}) (EndpointFault TermStop) → PlainTermEndpoint → (PlainTermEndpoint → Type 0) → Type 0
 Calls e result g Brings =
@@ -190,7 +190,7 @@ FeedsIdle e piece result g =
     ⊎ (((result ≡ Err fault.OutOfMemory) × (g ≡ e))
     ⊎ ((result ≡ Err fault.CountFull) × (2 ^ 64 ≤ e.framer.offset + length e.framer.bytes + length piece) × (g ≡ e)))
 
--- the event is held behind the others
+-- the event is held after the others
 abbrev pub with_event : PlainTermEndpoint → UserEvent → PlainTermEndpoint
 with_event e event = record e { term = record e.term { held = e.term.held ++ event ∷ [] }; events = e.events + 1 }
 
@@ -232,7 +232,7 @@ Asks e tag (Err why) g = (is_open e.term tag ≡ true) × (g ≡ e)
 
 -- ## The end of the stream
 
--- all that came was received, what was composed is written, and no fault stands behind it
+-- all that came was received, what was composed is written, and no fault stands after it
 abbrev pub IsDone : PlainTermEndpoint → Type 0
 IsDone e = IsIdle e × (e.behind ≡ None)
 

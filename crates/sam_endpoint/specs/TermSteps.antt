@@ -44,7 +44,7 @@ stopped_by e fault.OutOfMemory = e
 stopped_by e fault.Unfinished = e
 stopped_by e fault.CountFull = e
 
--- want of memory leaves work unfinished, and any other fault of the terminal stops the end
+-- out of memory leaves work unfinished, and any other fault of the terminal stops the end
 abbrev pub end_fault : TermFault → EndpointFault TermStop
 end_fault refusal.OutOfMemory = fault.Unfinished
 end_fault why = fault.Stopped (stop.Refused why)
@@ -142,7 +142,7 @@ ActsAll e (Err (fault.Stopped (stop.Stream why))) g = ⊥
 ActsAll e (Err fault.OutOfMemory) g = ⊥
 ActsAll e (Err fault.CountFull) g = ⊥
 
--- an end that has stopped tells why again; else it goes on with what waits, and what the call brings is not taken if memory is refused
+-- an end that has stopped says why again; else it goes on with what waits, and what the call brings is not taken if memory is refused
 abbrev pub Resumes : PlainTermEndpoint → Answer → PlainTermEndpoint → Type 0
 Resumes e (Ok done) g = (e.stop ≡ None) × GoesOn e (Ok done) g
 Resumes e (Err fault.OutOfMemory) g = (e.stop ≡ None) × GoesOn e (Err fault.Unfinished) g
@@ -158,7 +158,7 @@ Gains e piece (Err fault.CountFull) g = (2 ^ 64 ≤ e.framer.offset + length e.f
 Gains e piece (Err fault.Unfinished) g = ⊥
 Gains e piece (Err (fault.Stopped why)) g = ⊥
 
--- the event is held behind the others, or all stays
+-- the event is held after the others, or all stays
 abbrev pub Holds : PlainTermEndpoint → UserEvent → Answer → PlainTermEndpoint → Type 0
 Holds e event (Ok done) g = g ≡ with_event e event
 Holds e event (Err fault.OutOfMemory) g = g ≡ e

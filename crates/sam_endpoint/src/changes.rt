@@ -50,7 +50,7 @@ const UNASKED: Kept = Kept {
     len: 0,
 };
 
-/// What is kept of each file, by its tag. Contracts see a list; a tag behind its end was never asked for.
+/// What is kept of each file, by its tag. Contracts see a list; a tag after its end was never asked for.
 #[derive(Drop)]
 pub struct Changes {
     kept: Vec<Kept>,
@@ -94,7 +94,7 @@ impl Changes {
     }
 
     /// Returns what changed in the text of a file, which has `len` runes and gaps, since this was asked last, and keeps all of it from now
-    /// on. Its only error is want of memory, and nothing has changed then.
+    /// on. Its only error is out of memory, and nothing has changed then.
     pub fn ask(&mut self, tag: u16, len: u32) -> Result<Change, AllocError>
         ensures change { IfOk result (λ change. change ≡ change_of (kept_at self.old tag) len) }
         ensures asked { OnOk result (self.new ≡ asked self.old tag len) }

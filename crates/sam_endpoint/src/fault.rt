@@ -28,7 +28,7 @@ pub enum AddFault {
     OutOfMemory = 5,
 }
 
-/// What is wrong with a stream. The end that reads it has stopped for good, since nothing behind a fault can be read. The numbers are
+/// What is wrong with a stream. The end that reads it has stopped for good, since nothing after a fault can be read. The numbers are
 /// those of `FeedFault`.
 #[derive(Clone, Copy, Debug, PartialEq, Eq, Drop, Error)]
 pub enum StreamFault {

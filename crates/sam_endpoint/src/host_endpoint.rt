@@ -1,4 +1,4 @@
-//! A host behind a stream of bytes each way.
+//! A host at one end of a stream of bytes each way.
 
 ghost use Rattle.std.specs.Prelude.{◌≡◌, ◌↔◌, ℕ, ◌+◌, ◌<◌, ◌≤◌, [], ◌∷◌, ◌++◌, IsTrue, IfOk, IfErr, OnOk, OnErr, MatchOption, drop, length, min, take, true, false, None, slice_get, option_to_list};
 ghost use Rattle.std.specs.Str.{chars, is_utf8};
@@ -48,7 +48,7 @@ fn write_in(host: &Host, message: &Tmesg) -> Option<u16>
     }
 }
 
-/// Puts the tag behind the others, if there is one. There is room for it.
+/// Puts the tag after the others, if there is one. There is room for it.
 fn note(writes: &mut VecDeque<u16>, tag: Option<u16>)
     requires { deque_len writes.old < deque_capacity writes.old }
     ensures { writes.new.items ≡ writes.old.items ++ option_to_list tag }
@@ -61,7 +61,7 @@ fn note(writes: &mut VecDeque<u16>, tag: Option<u16>)
 /// A host that takes the bytes of a terminal's messages, answers them in order, and keeps the bytes of its frames until they are taken
 /// out.
 ///
-/// Want of memory loses nothing: what could not be answered or written waits, and the next `feed` goes on with it. A fault of the stream,
+/// Out of memory loses nothing: what could not be answered or written waits, and the next `feed` goes on with it. A fault of the stream,
 /// or a message that the host refuses, stops the end for good, once the messages before it are answered.
 ///
 /// ```rust
@@ -83,7 +83,7 @@ pub struct HostEndpoint {
     begun: bool,
     /// The messages that came and are not answered yet, the oldest first. There are none after a call that returned `Ok`.
     waiting: VecDeque<Tmesg>,
-    /// What is wrong with the stream behind these messages; `None` if nothing is.
+    /// What is wrong with the stream after these messages; `None` if nothing is.
     behind: Option<StreamFault>,
     /// The frames of the last answer, while their bytes are not pending. There are none after a call that returned `Ok`.
     unwritten: Vec<HFrame>,
@@ -127,7 +127,7 @@ impl Model for HostEndpoint {
 }
 
 impl HostEndpoint {
-    /// Makes a host with no file but the command file, to which nothing was fed. Its only error is want of memory.
+    /// Makes a host with no file but the command file, to which nothing was fed. Its only error is out of memory.
     pub fn new(alloc: Global) -> Result<HostEndpoint, AllocError>
         ensures { IfOk result (λ end. end ≡ new_host_endpoint) }
     {
@@ -148,7 +148,7 @@ impl HostEndpoint {
         })
     }
 
-    /// Returns the first test of `AddFault` that stands against a file of this name and text. Want of memory is not among them.
+    /// Returns the first test of `AddFault` that stands against a file of this name and text. Out of memory is not among them.
     fn refusal(&self, name: &[u8], text: &[u8]) -> Option<AddFault>
         ensures { result ≡ first_of_checks (add_checks self.now name.now text.now) }
     {
@@ -213,7 +213,7 @@ impl HostEndpoint {
     /// - `Unfinished` or `Stopped`, as the messages of the piece are answered. The piece is taken, and after `Unfinished` the next call
     ///   goes on.
     ///
-    /// It stops at a message that the host refuses, or at a fault of the stream behind all messages. What stands before that is answered.
+    /// It stops at a message that the host refuses, or at a fault of the stream after all messages. What stands before that is answered.
     pub fn feed(&mut self, piece: &[u8]) -> Result<(), EndpointFault<HostStop>>
         ensures { Feeds self.old piece.now result self.new }
     {
@@ -300,7 +300,7 @@ impl HostEndpoint {
         !self.waiting.is_empty()
     }
 
-    /// Returns a copy of the oldest message that waits. Its only error is want of memory.
+    /// Returns a copy of the oldest message that waits. Its only error is out of memory.
     fn copy_first(&self) -> Result<Tmesg, AllocError>
         requires { 0 < length self.now.waiting }
         ensures first { IfOk result (λ message. self.now.waiting ≡ message ∷ drop 1 self.now.waiting) }
@@ -378,7 +378,7 @@ impl HostEndpoint {
         self.end()
     }
 
-    /// Feeds the piece to the framer when nothing waits. Then its messages wait, and perhaps a fault behind them.
+    /// Feeds the piece to the framer when nothing waits. Then its messages wait, and perhaps a fault after them.
     fn take_in(&mut self, piece: &[u8]) -> Result<(), EndpointFault<HostStop>>
         requires { self.old.behind ≡ None }
         ensures { Brings self.old piece.now result self.new }

@@ -12,7 +12,7 @@ use std::collections::VecDeque;
 pub(crate) struct Given<M: Drop> {
     /// The messages that are whole now, in order.
     pub(crate) messages: Vec<M>,
-    /// What is wrong with the stream behind them; `None` if nothing is.
+    /// What is wrong with the stream after them; `None` if nothing is.
     pub(crate) behind: Option<StreamFault>,
 }
 

@@ -79,7 +79,7 @@ impl PendingBytes {
         }
     }
 
-    /// Puts the bytes of the frames behind the others, all or none. Its only error is want of memory, and leaves the bytes as they were.
+    /// Puts the bytes of the frames after the others, all or none. Its only error is out of memory, which leaves the bytes as they were.
     pub fn put_frames(&mut self, frames: &[HFrame]) -> Result<(), AllocError>
         requires { FitFrames frames.now }
         ensures written { OnOk result (self.new ≡ self.old ++ stream_of host frames.now) }
@@ -92,7 +92,7 @@ impl PendingBytes {
         }
     }
 
-    /// Puts the bytes of the messages behind the others, all or none. Its only error is want of memory, and leaves the bytes as they were.
+    /// Puts the bytes of the messages after the others, all or none. Its only error is out of memory, which leaves the bytes as they were.
     pub fn put_messages(&mut self, messages: &[Tmesg]) -> Result<(), AllocError>
         requires { FitMessages messages.now }
         ensures written { OnOk result (self.new ≡ self.old ++ stream_of terminal messages.now) }

@@ -1,4 +1,4 @@
-//! A terminal behind a stream of bytes each way.
+//! A terminal at one end of a stream of bytes each way.
 
 ghost use Rattle.std.specs.Prelude.{◌≡◌, ◌↔◌, IfOk, IsTrue, None, [], ◌≤◌, drop, length, min, option_copied, take, slice_get, ◌++◌};
 ghost use Rattle.sam_endpoint.specs.TermEndpoints.{Asks, Feeds, Finishes, Flushes, GoesOn, IsIdle, Puts, decided, new_term_endpoint, under_way};
@@ -23,7 +23,7 @@ use std::marker::Model;
 /// At each `feed`, `put` and `flush_now` frames are received in order, and then events act for as long as no lock holds the oldest back. Want
 /// of memory loses nothing: what could not be received, done or written waits, and the next of these calls goes on with it. A fault of the
 /// stream, or a frame that the terminal refuses, stops the end for good, once the frames before it are received. An event that the
-/// terminal refuses stops nothing: `next_refusal` tells of it.
+/// terminal refuses stops nothing: `next_refusal` reports it.
 ///
 /// ```rust
 /// let mut end = TermEndpoint::new(alloc);
@@ -42,7 +42,7 @@ pub struct TermEndpoint {
     term: Terminal,
     /// The frames that came and are not received yet, the oldest first. There are none after a call that returned `Ok`.
     waiting: VecDeque<HFrame>,
-    /// What is wrong with the stream behind these frames; `None` if nothing is.
+    /// What is wrong with the stream after these frames; `None` if nothing is.
     behind: Option<StreamFault>,
     /// The messages that were composed last, while their bytes are not pending. There are none after a call that returned `Ok`.
     unwritten: Vec<Tmesg>,
@@ -217,7 +217,7 @@ impl TermEndpoint {
         }
     }
 
-    /// Feeds the piece to the framer when nothing waits. Then its frames wait, and perhaps a fault behind them.
+    /// Feeds the piece to the framer when nothing waits. Then its frames wait, and perhaps a fault after them.
     fn take_in(&mut self, piece: &[u8]) -> Result<(), EndpointFault<TermStop>>
         requires { self.old.behind ≡ None }
         ensures { Gains self.old piece.now result self.new }
@@ -228,7 +228,7 @@ impl TermEndpoint {
         Ok(())
     }
 
-    /// Holds an event behind the others, and counts it. The errors are `CountFull` and then `OutOfMemory`.
+    /// Holds an event after the others, and counts it. The errors are `CountFull` and then `OutOfMemory`.
     fn hold(&mut self, event: UserEvent) -> Result<(), EndpointFault<TermStop>>
         ensures { Holds self.old event result self.new }
     {
@@ -256,8 +256,8 @@ impl TermEndpoint {
         }
     }
 
-    /// Takes an event of the user. It goes on with what waits, holds the event behind the others, and then has events act while one can.
-    /// An event that is refused is no error: `next_refusal` tells of it, by its number.
+    /// Takes an event of the user. It goes on with what waits, holds the event after the others, and then has events act while one can.
+    /// An event that is refused is no error: `next_refusal` reports it by its number.
     ///
     /// Errors, in this order:
     ///
@@ -286,7 +286,7 @@ impl TermEndpoint {
     /// - `Unfinished` or `Stopped`, as frames are received and events act. The piece is taken, and after `Unfinished` the next call goes
     ///   on.
     ///
-    /// It stops at a frame that the terminal refuses, at a fault of the stream behind all frames, or at an event whose messages can't be
+    /// It stops at a frame that the terminal refuses, at a fault of the stream after all frames, or at an event whose messages can't be
     /// counted.
     pub fn feed(&mut self, piece: &[u8]) -> Result<(), EndpointFault<TermStop>>
         ensures { Feeds self.old piece.now result self.new }
@@ -360,7 +360,7 @@ impl TermEndpoint {
     }
 
     /// Returns the smallest stretch of an open file's text that is known to have changed since this was asked of it last: on the first
-    /// call the text was empty before. Loaded runes count as changed. `None` if the file is not open. Its only error is want of memory,
+    /// call the text was empty before. Loaded runes count as changed. `None` if the file is not open. Its only error is out of memory,
     /// on the first call for a tag; the end is then as it was.
     ///
     /// Each frame and each event narrows what stays by its own range, so a caller that asks after each of them gets each edit. The cost is
@@ -391,7 +391,7 @@ impl TermEndpoint {
         self.stop
     }
 
-    /// Returns whether no frame waits to be received and no message waits to be written. Only a lock, want of memory or a stop can then
+    /// Returns whether no frame waits to be received and no message waits to be written. Only a lock, out of memory or a stop can then
     /// hold an event back. It is so whenever `put`, `feed` or `flush_now` has returned `Ok`.
     pub fn is_idle(&self) -> bool
         ensures { IsTrue result ↔ IsIdle self.now }
@@ -408,7 +408,7 @@ impl TermEndpoint {
         self.seen
     }
 
-    /// Returns how many of the composed messages the host has not taken, as far as its frames tell: those above the stamp of the last
+    /// Returns how many of the composed messages the host has not taken, as far as its frames say: those above the stamp of the last
     /// frame that was received. It is an upper bound, and 0 means that the host has taken them all.
     ///
     /// The host answers a `Tcut`, a `Tack`, a `Ttype` that ends no command line, and a `Trequest` for a file that is gone, by no frame, and
@@ -436,7 +436,7 @@ impl TermEndpoint {
     }
 }
 
-/// Returns what a fault of the terminal is for the end: want of memory leaves work unfinished, and any other fault stops it.
+/// Returns what a fault of the terminal is for the end: out of memory leaves work unfinished, and any other fault stops it.
 fn end_fault(why: TermFault) -> EndpointFault<TermStop>
     ensures { result ≡ end_fault why }
 {

@@ -49,7 +49,7 @@ impl<T> Model for AuditRoom<T> {
 
 impl<T: Drop> AuditRoom<T> {
     /// Makes room for an audit of the take's line, or of any other line with as many senders and the same capacity. The only error is
-    /// want of memory.
+    /// out of memory.
     pub fn new(alloc: Global, take: &Take<'_, T>) -> Result<AuditRoom<T>, AllocError>
         ensures sizes { IfOk result (λ r. r ≡ sizes_of take.now.line) }
         ensures bound { IfOk result (λ r. r.capacity < 2 ^ 64) }
@@ -61,7 +61,7 @@ impl<T: Drop> AuditRoom<T> {
 
 /// Takes all ends of one line, the posts in the order of their numbers, and returns what is left of each sender and which have
 /// closed. Since no end is elsewhere, what is left is all that was put and not taken; where the take had ended, that is
-/// nothing. The only error is want of memory. It comes before anything is taken: the ends come back as they were, and may be
+/// nothing. The only error is out of memory. It comes before anything is taken: the ends come back as they were, and may be
 /// audited again.
 pub fn audit<'q, T: Drop, R: Wait>(
     rt: &R,

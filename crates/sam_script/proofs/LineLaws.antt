@@ -56,7 +56,7 @@ file_read bytes name text rest u is plain fits parts =
 
 -- ## A line
 
--- a word and what stands behind it say so
+-- a word and what stands after it say so
 abbrev IsSaidBy : List ℕ → Said → List ℕ → Type 0
 IsSaidBy word it bytes = SaysSo it (word ++ bytes)
 

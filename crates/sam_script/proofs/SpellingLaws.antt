@@ -62,7 +62,7 @@ utf8_front word rest u end = subst IsUtf8 (take-append_seam word rest) (IsUtf8-t
 pub utf8_tail : (bytes : List ℕ) → IsUtf8 (32 ∷ bytes) → IsUtf8 bytes
 utf8_tail bytes u = IsUtf8-past_char (32 ∷ bytes) bytes 32 u (ap (λ xs. xs ++ bytes) (sym (encode_ascii 32 (omega arith))))
 
--- the word behind a space and what follows it are UTF-8
+-- the word after a space and what follows it are UTF-8
 pub word_utf8 : (bytes : List ℕ) (x : List ℕ × List ℕ) → IsUtf8 bytes → word_at bytes ≡ Some x → IsUtf8 x.0 × IsUtf8 x.1
 word_utf8 bytes x u e =
     let w = word_says bytes x e in
@@ -125,7 +125,7 @@ unescaped_says cs front is_escaped s e = grind (arith, same_Some, append-nil)
 pub text_says : (bytes s : List ℕ) → IsUtf8 bytes → text_at bytes ≡ Some s → (bytes ≡ codes " " ++ text_shown s) ⊎ ((bytes ≡ []) × (s ≡ []))
 text_says bytes s e u = grind (arith, same_Some, unescaped_says, utf8_tail, encodes-chars)
 
--- ## What stands behind the word of an event
+-- ## What stands after the word of an event
 
 pub parts_end : (parts : List Part) (bytes : List ℕ) → SpellsParts parts bytes → IsEnd bytes
 parts_end [] bytes h = grind arith
@@ -140,7 +140,7 @@ parts_number : (bits : ℕ) (bytes : List ℕ) (n : ℕ) (parts : List Part) →
     → (rest : List ℕ) × (number_at bits bytes ≡ Some (n, rest)) × SpellsParts parts rest
 parts_number bits bytes n parts h = (h.1, number_read bits bytes h.0 h.1 n h.2 h.3 h.4 (parts_end parts h.1 h.5), h.5)
 
--- what stands behind a number is UTF-8
+-- what stands after a number is UTF-8
 number_utf8 : (bits : ℕ) (bytes : List ℕ) (x : ℕ × List ℕ) → IsUtf8 bytes → number_at bits bytes ≡ Some x → IsUtf8 x.1
 number_utf8 bits bytes x u is = let n = number_says bits bytes x is in utf8_rear (codes " " ++ n.0) x.1 (subst IsUtf8 n.1 u) n.4
 
@@ -236,7 +236,7 @@ snarf_row bytes e u h = grind (arith, text_says)
 readers_say : AllByRecursion (ReadsAs IsEventOf) readers
 readers_say = search (type_row, snarf_row, range_row, place_row, tag_row, bare_row)
 
--- the number that a form begins with, and what stands behind its first part
+-- the number that a form begins with, and what stands after its first part
 abbrev first : List Part → ℕ
 first [] = 0
 first (Number bits n ∷ parts) = n

@@ -1,4 +1,4 @@
--- The word of each event of the user: how it is spelled, with what stands behind it, and how that is read.
+-- The word of each event of the user: how it is spelled, with what stands after it, and how that is read.
 use Rattle.std.specs.Prelude.{ℕ, List, [], ◌∷◌, Option, Some, codes}
 use Rattle.sam_term.specs.declared.event.UserEvent.{UserEvent}
 use Rattle.sam_term.specs.declared.event.UserEvent.TheVariants.{Typed, Select, Cut, Paste, Snarf, Look, Search, Send, Dclick, Scroll, View}
@@ -9,7 +9,7 @@ use Rattle.sam_script.specs.Words.{◌>>=◌, text_at, ended, tag_alone, tag_and
 
 -- ## What is spelled
 
--- what stands behind a word: a number of so many bits, or a text that takes the rest of the line
+-- what stands after a word: a number of so many bits, or a text that takes the rest of the line
 pub data Part : Type 0 where
   Number : ℕ → ℕ → Part
   Rest : List ℕ → Part
@@ -50,7 +50,7 @@ form user.Flush = (codes "flush", [])
 
 -- ## What is read, for the clauses of private functions
 
--- the reader of each word, over what stands behind it
+-- the reader of each word, over what stands after it
 abbrev pub Reader : Type 0 → Type 0
 Reader X = List ℕ → Option X
 

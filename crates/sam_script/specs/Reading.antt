@@ -67,7 +67,7 @@ MayFollow script (said.File name text) = (script.lines ≡ []) × (length script
 MayFollow script (said.Line line) = Unit {0}
 MayFollow script said.Nothing = Unit {0}
 
--- a script with what the line of this number says behind it
+-- a script with what the line of this number says after it
 abbrev pub with_said : ℕ → PlainScript → Said → PlainScript
 with_said number script it = record { files = script.files ++ file_said it; lines = script.lines ++ lines_said number (it ∷ []) }
 

@@ -41,7 +41,7 @@ abbrev pub printed_by : PlainWorld → Line → List ℕ
 printed_by w Show = show_lines w
 printed_by w _ = []
 
--- behind what was printed before
+-- after what was printed before
 abbrev pub behind : List ℕ → Result (List ℕ) ScriptFault → Result (List ℕ) ScriptFault
 behind before (Ok out) = Ok (before ++ out)
 behind before (Err why) = Err why
@@ -91,7 +91,7 @@ ReplaysAsIfLocal script =
 
 -- ## What stops it
 
--- what a replay stops for: its own fault, or want of memory at any time
+-- what a replay stops for: its own fault, or out of memory at any time
 abbrev pub IsStopOf : {A : Type 0} → Result A ScriptFault → ScriptFault → Type 0
 IsStopOf replay (fault.Line number) = replay ≡ Err (fault.Line number)
 IsStopOf replay fault.CountFull = replay ≡ Err fault.CountFull

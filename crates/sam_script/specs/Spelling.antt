@@ -34,7 +34,7 @@ spelling words = words.0 ++ flat_map part_shown words.1
 abbrev pub IsNumber : List ℕ → ℕ → Type 0
 IsNumber word n = (0 < length word) × (all_ascii_digits word ≡ true) × (digits_value 10 word ≡ n)
 
--- each part behind one space; a text as it is shown, and an empty one may lack its space
+-- each part after one space; a text as it is shown, and an empty one may lack its space
 abbrev pub SpellsParts : List Part → List ℕ → Type 0
 SpellsParts [] bytes = bytes ≡ []
 SpellsParts (Number bits n ∷ parts) bytes =
@@ -68,7 +68,7 @@ SpellsLine Term bytes = bytes ≡ codes "term"
 SpellsLine Drain bytes = bytes ≡ codes "drain"
 SpellsLine Show bytes = bytes ≡ codes "show"
 
--- an empty line, a comment behind `#`, or a line that was printed, behind `=`
+-- an empty line, a comment after `#`, or a line that was printed, after `=`
 abbrev pub SaysNothing : List ℕ → Type 0
 SaysNothing [] = Unit {0}
 SaysNothing (byte ∷ bytes) = (byte ≡ 35) ⊎ (byte ≡ 61)
@@ -100,7 +100,7 @@ lines_said number (said.Line line ∷ more) = record { number = number; line = l
 lines_said number (said.File name text ∷ more) = lines_said (number + 1) more
 lines_said number (said.Nothing ∷ more) = lines_said (number + 1) more
 
--- no file is named behind another line
+-- no file is named after another line
 abbrev pub AreFilesFirst : List Said → Type 0
 AreFilesFirst [] = Unit {0}
 AreFilesFirst (said.Line line ∷ more) = files_said more ≡ []

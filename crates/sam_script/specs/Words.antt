@@ -29,7 +29,7 @@ abbrev pub behind_word : List ℕ → List ℕ
 behind_word [] = []
 behind_word (b ∷ bytes) = if b == 32 then b ∷ bytes else behind_word bytes
 
--- the word behind a space, and what follows it
+-- the word after a space, and what follows it
 abbrev pub word_at : List ℕ → Option (List ℕ × List ℕ)
 word_at [] = None
 word_at (b ∷ bytes) = if b == 32 then Some (word_of bytes, behind_word bytes) else None
@@ -47,7 +47,7 @@ abbrev pub meant : Bool → ℕ → Option ℕ
 meant true c = if c == 110 then Some 10 else if c == 92 then Some 92 else None
 meant false c = if c == 10 then None else Some c
 
--- the runes of a text, behind those that came before
+-- the runes of a text, after those that came before
 abbrev pub unescaped : List ℕ → Bool → List ℕ → Option (List ℕ)
 unescaped front true [] = None
 unescaped front false [] = Some front
@@ -63,7 +63,7 @@ abbrev pub ended : {X : Type 0} → X → List ℕ → Option X
 ended x [] = Some x
 ended x (b ∷ bytes) = None
 
--- what stands behind the word of an event
+-- what stands after the word of an event
 unfoldable pub tag_alone : List ℕ → Option ℕ
 tag_alone bytes = number_at 16 bytes >>= λ f. ended f.0 f.1
 

@@ -16,7 +16,7 @@ use sam_term::event::UserEvent;
 use std::alloc::{AllocError, Global};
 use std::fmt::Write;
 
-/// Reads the event that stands behind the first word of a line, from the space in front of it to the end of the line.
+/// Reads the event that stands after the first word of a line, from the space in front of it to the end of the line.
 #[tactic(auto, unfolding(crate::specs::Reading::event_at))]
 pub fn event_at(alloc: Global, text: &str) -> Result<UserEvent, LineFault>
     ensures { Gives (λ e. e) result (event_at text.now) }
@@ -25,7 +25,7 @@ pub fn event_at(alloc: Global, text: &str) -> Result<UserEvent, LineFault>
     read_event(alloc, word, rest)
 }
 
-/// Reads the event of this word, with `rest` behind it.
+/// Reads the event of this word, with `rest` after it.
 fn read_event(alloc: Global, word: &str, rest: &str) -> Result<UserEvent, LineFault>
     ensures { Gives (λ e. e) result (read_by readers word.now rest.now) }
 {
@@ -65,7 +65,7 @@ fn read_event(alloc: Global, word: &str, rest: &str) -> Result<UserEvent, LineFa
     }
 }
 
-/// Reads an event that has a tag behind its word and nothing more.
+/// Reads an event that has a tag after its word and nothing more.
 fn on_file(word: &str, rest: &str) -> Result<UserEvent, LineFault>
     ensures { Gives (λ e. e) result (read_by file_readers word.now rest.now) }
 {

@@ -17,7 +17,7 @@ use std::str;
 /// [`replay`](crate::replay) does one after another. A session of threads takes the events of the user alone.
 #[derive(Drop)]
 pub enum Line {
-    /// `k`: the user does this at the keyboard, and the terminal holds it behind the events that it holds already.
+    /// `k`: the user does this at the keyboard, and the terminal holds it after the events that it holds already.
     Key(UserEvent),
     /// `m`: the user does this with the mouse. A replay treats it as `Key`; in a session it has a thread of its own.
     Mouse(UserEvent),
@@ -45,7 +45,7 @@ pub struct Numbered {
 }
 
 impl Line {
-    /// Returns a copy, made with `alloc`. The only error is want of memory.
+    /// Returns a copy, made with `alloc`. The only error is out of memory.
     pub fn copy(&self, alloc: Global) -> Result<Line, AllocError>
         ensures { IfOk result (λ line. line ≡ self.now) }
     {
@@ -119,7 +119,7 @@ fn bare_line(word: &str, rest: &str) -> Result<Said, LineFault>
     }
 }
 
-/// Reads the name and the text of a `file` line, which stand behind its first word.
+/// Reads the name and the text of a `file` line, which stand after its first word.
 #[tactic(auto, unfolding(crate::specs::Reading::file_at))]
 fn file_at(alloc: Global, text: &str) -> Result<(Runes, Runes), LineFault>
     ensures { Gives (λ x. (x.0, x.1)) result (file_at text.now) }

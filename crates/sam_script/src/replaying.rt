@@ -83,7 +83,7 @@ pub fn replay_owned(alloc: Global, script: Script) -> Result<Vec<u8>, ScriptFaul
     Ok(out.into_bytes())
 }
 
-/// Does what a line of this number asks for. What it prints stands behind what was printed before; at an error a part of that may stand
+/// Does what a line of this number asks for. What it prints stands after what was printed before; at an error a part of that may stand
 /// there too.
 fn do_line(
     world: &mut World,

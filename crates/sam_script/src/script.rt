@@ -48,7 +48,7 @@ impl Script {
     ///
     /// The lines are read in their order, up to the first that is wrong or wants memory that is refused. `Line(n)` says that line n,
     /// counted from 1, is wrong: the n-1 lines before it spell a script, and with it they spell none. A line is wrong if it is not in the
-    /// grammar, if it is a `file` line behind a line that asks for something, or if it is a `file` line behind `MOST_FILES` others.
+    /// grammar, if it is a `file` line after a line that asks for something, or if it is a `file` line after `MOST_FILES` others.
     /// `OutOfMemory` may come at any line.
     pub fn read(alloc: Global, bytes: &[u8]) -> Result<Script, ScriptFault>
         ensures ok { IfOk result (λ script. Spells bytes.now script) }
@@ -70,7 +70,7 @@ impl Script {
         Ok(script)
     }
 
-    /// Adds what the line of this number says, unless it may not stand behind what was added before.
+    /// Adds what the line of this number says, unless it may not stand after what was added before.
     fn add(&mut self, alloc: Global, number: usize, bytes: &[u8]) -> Result<(), LineFault>
         ensures ok { OnOk result (Adds number bytes.now self.old self.new) }
         ensures wrong { IfErr result (AddsNone bytes.now self.old) }
@@ -114,7 +114,7 @@ impl Script {
         self.lines
     }
 
-    /// Returns copies of the events of its `k` lines, in order. The only error is want of memory.
+    /// Returns copies of the events of its `k` lines, in order. The only error is out of memory.
     pub fn keys(&self, alloc: Global) -> Result<Vec<UserEvent>, AllocError>
         ensures { IfOk result (λ events. events.items ≡ keys_of self.now.lines) }
     {
@@ -127,7 +127,7 @@ impl Script {
         Ok(out)
     }
 
-    /// Returns copies of the events of its `m` lines, in order. The only error is want of memory.
+    /// Returns copies of the events of its `m` lines, in order. The only error is out of memory.
     pub fn mouse(&self, alloc: Global) -> Result<Vec<UserEvent>, AllocError>
         ensures { IfOk result (λ events. events.items ≡ mouse_of self.now.lines) }
     {

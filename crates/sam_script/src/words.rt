@@ -1,4 +1,4 @@
-//! Reads the parts of a line: words, each behind one space, numbers, and a text up to the end of the line.
+//! Reads the parts of a line: words, each after one space, numbers, and a text up to the end of the line.
 
 ghost use Rattle.std.specs.Prelude.{◌≡◌, [], false, chars};
 ghost use Rattle.sam_script.specs.Words.{Gives, word_of, behind_word, word_at, number_of, number_at, unescaped, meant, text_at, ended};
@@ -19,7 +19,7 @@ pub fn split_word(text: &str) -> (&str, &str)
     }
 }
 
-/// Reads the word behind one space, and returns it with the rest of the line. The word may be empty.
+/// Reads the word after one space, and returns it with the rest of the line. The word may be empty.
 pub fn word_at(text: &str) -> Result<(&str, &str), LineFault>
     ensures { Gives (λ x. (x.0.now, x.1.now)) result (word_at text.now) }
 {
@@ -77,7 +77,7 @@ fn place_of(word: &str) -> Result<u32, LineFault>
     }
 }
 
-/// Reads the rest of the line as a text behind one space. An empty text may lack its space.
+/// Reads the rest of the line as a text after one space. An empty text may lack its space.
 pub fn text_at(alloc: Global, text: &str) -> Result<Runes, LineFault>
     ensures { Gives (λ runes. runes) result (text_at text.now) }
 {
@@ -110,7 +110,7 @@ fn unescape(alloc: Global, escaped: &str) -> Result<Runes, LineFault>
     Ok(Runes::from_vec(runes))
 }
 
-/// Returns what a rune means, by itself or behind a backslash, or `None` if it may not stand there. `unescape` asks for no backslash
+/// Returns what a rune means, by itself or after a backslash, or `None` if it may not stand there. `unescape` asks for no backslash
 /// by itself.
 fn meant(is_escaped: bool, rune: char) -> Option<char>
     ensures { result ≡ meant is_escaped rune }

@@ -59,7 +59,7 @@ module _ {W : Type 0} (contents : W → Option (List ℕ)) where
 known : (first now : Option (List ℕ)) (got : List ℕ) (P : List ℕ → Type 0) → Consumes first now got → ((more : List ℕ) → P (got ++ more)) → IfSome first P
 known first now got P e u = grind arith
 
--- what halts the program halts it whatever comes behind
+-- what halts the program halts it whatever comes after
 halted : (end : Result PlainHost HostFault) (version : ℕ) (rest unread : List ℕ) (s : Stop) → Halts end version rest s → Stops end version (rest ++ unread) (Some s)
 halted (Err why) version rest unread s is = ap Some is
 halted (Ok h) version rest unread s (fault, shows, is) = (Some fault, Shows-longer terminal version rest unread fault shows, ap Some is)
@@ -138,7 +138,7 @@ pub given_up : {W : Type 0} (contents : W → Option (List ℕ)) (h : PlainHost)
     → GaveUp terminal k piece ms place fault e → OnSide f (AnswersBefore contents h w x ms (frame_number fault)) → OnSide f (PieceStops contents h w x k piece)
 given_up contents h w x k e piece ms place fault f up = grind (arith, on_side)
 
--- behind messages that were all answered, and behind a refusal
+-- after messages that were all answered, and after a refusal
 pub all_before : {W : Type 0} (contents : W → Option (List ℕ)) (h g : PlainHost) (w x : W) (ms : List Tmesg) (number : ℕ)
     → Answers contents h g w x ms → AnswersBefore contents h w x ms number (Frame number)
 all_before contents h g w x ms number (end, wrote) = (subst (λ r. HaltsBefore r number (Frame number)) (sym end) refl, wrote)

@@ -24,7 +24,7 @@ serve-append h g (m ∷ ms) ns is = go (λ d e. serve-append d g ms ns e) (answe
         → served_on r (λ d. serve d (ms ++ ns)) ≡ behind (served_on r (λ d. serve d ms)).written (serve g ns)
     go e r u = grind (arith, flat_map, append_assoc)
 
--- behind a refusal nothing is answered
+-- after a refusal nothing is answered
 pub serve-refused : (h : PlainHost) (why : HostFault) (ms ns : List Tmesg) → (serve h ms).end ≡ Err why → serve h (ms ++ ns) ≡ serve h ms
 serve-refused h why [] ns is = absurd (cc)
 serve-refused h why (m ∷ ms) ns is = go (λ d e. serve-refused d why ms ns e) (answer h m) is

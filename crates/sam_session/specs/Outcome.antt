@@ -18,13 +18,13 @@ use Rattle.sam_workers.specs.declared.stop.Stop.TheVariants.{Host}
 use Rattle.sam_session.specs.declared.fault.PlayFault.{PlayFault}
 use Rattle.sam_session.specs.declared.fault.PlayFault.TheVariants.{Script, Side, Threads}
 
--- what stops the program behind the last message: the fault that the rest shows, or half a frame at the end of the input
+-- what stops the program after the last message: the fault that the rest shows, or half a frame at the end of the input
 abbrev pub stop_at : Option MesgFault → List ℕ → Option Stop
 stop_at (Some fault) rest = Some (Frame (frame_number fault))
 stop_at None [] = None
 stop_at None (byte ∷ rest) = Some (Frame 4)
 
--- a refusal stops the program, whatever comes behind its message; else the rest of the input decides
+-- a refusal stops the program, whatever comes after its message; else the rest of the input decides
 abbrev pub Stops : Result PlainHost HostFault → ℕ → List ℕ → Option Stop → Type 0
 Stops (Err why) version rest stopped = stopped ≡ Some (Host (refusal_number why))
 Stops (Ok h) version rest stopped = (fault : Option MesgFault) × Ends terminal version rest fault × (stopped ≡ stop_at fault rest)

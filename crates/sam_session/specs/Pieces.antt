@@ -44,12 +44,12 @@ abbrev pub of_refusal : HostFault → PlayFault
 of_refusal refusal.OutOfMemory = OutOfMemory
 of_refusal why = Side (Host (refusal_number why))
 
--- a message was refused, or all were answered and this number of a fault comes behind them
+-- a message was refused, or all were answered and this number of a fault comes after them
 abbrev pub HaltsBefore : Result PlainHost HostFault → ℕ → Stop → Type 0
 HaltsBefore (Err why) number stopped = stopped ≡ Host (refusal_number why)
 HaltsBefore (Ok h) number stopped = stopped ≡ Frame number
 
--- the messages were answered up to a refusal, or up to the fault behind them
+-- the messages were answered up to a refusal, or up to the fault after them
 abbrev pub AnswersBefore : {W : Type 0} → (W → Option (List ℕ)) → PlainHost → W → W → List Tmesg → ℕ → Stop → Type 0
 AnswersBefore contents h before after messages number stopped =
     HaltsBefore (serve h messages).end number stopped × Appends (contents before) (contents after) (serve h messages).written
@@ -59,7 +59,7 @@ abbrev pub Halts : Result PlainHost HostFault → ℕ → List ℕ → Stop → 
 Halts (Err why) version rest stopped = stopped ≡ Host (refusal_number why)
 Halts (Ok h) version rest stopped = (fault : MesgFault) × Shows terminal version rest fault × (stopped ≡ Frame (frame_number fault))
 
--- the messages of what was held and the piece were answered up to a refusal, or to the fault behind them
+-- the messages of what was held and the piece were answered up to a refusal, or to the fault after them
 abbrev pub PieceStops : {W : Type 0} → (W → Option (List ℕ)) → PlainHost → W → W → Held → List ℕ → Stop → Type 0
 PieceStops contents h before after held piece stopped =
     (messages : List Tmesg) × (rest : List ℕ) × Splits terminal held.version (held.bytes ++ piece) messages rest
@@ -71,7 +71,7 @@ abbrev pub PieceAnswers : {W : Type 0} → (W → Option (List ℕ)) → PlainHo
 PieceAnswers contents h g before after held next piece =
     (messages : List Tmesg) × GaveAll terminal held piece messages next × Answers contents h g before after messages
 
--- the stream ends behind a whole message, or is cut short
+-- the stream ends after a whole message, or is cut short
 abbrev pub MayEnd : Held → Result (Unit {0}) PlayFault → Type 0
 MayEnd held (Ok done) = held.bytes ≡ []
 MayEnd held (Err fault) = (fault ≡ Side (Frame 4)) × (held.bytes ≡ [] → ⊥)

@@ -5,7 +5,7 @@ use Rattle.sam_mesg.specs.HostKinds.{frame_h}
 use Rattle.sam_host.specs.Host.{PlainHost, Answer, answer}
 use Rattle.sam_host.specs.declared.fault.HostFault.{HostFault}
 
--- the bytes of the frames that were answered, and the host behind the last message, or the refusal
+-- the bytes of the frames that were answered, and the host after the last message, or the refusal
 pub record Served : Type 0 where
   pub written : List ℕ
   pub end : Result PlainHost HostFault
@@ -19,6 +19,6 @@ abbrev pub serve : PlainHost → List Tmesg → Served
 serve h [] = record { written = []; end = Ok h }
 serve h (m ∷ ms) = served_on (answer h m) (λ next. serve next ms)
 
--- the same behind what was written before
+-- the same after what was written before
 abbrev pub behind : List ℕ → Served → Served
 behind before served = record { written = before ++ served.written; end = served.end }

@@ -65,7 +65,7 @@ IsWoven keys clicks (event ∷ events) =
     ((more : List UserEvent) × (keys ≡ event ∷ more) × IsWoven more clicks events)
     ⊎ ((more : List UserEvent) × (clicks ≡ event ∷ more) × IsWoven keys more events)
 
--- the user's events are all those of the script's keyboard and mouse lines, and behind them at most one Exit of the terminal's own
+-- the user's events are all those of the script's keyboard and mouse lines, and after them at most one Exit of the terminal's own
 abbrev pub HasAllUsers : PlainScript → List Event → Type 0
 HasAllUsers script schedule =
     (woven : List UserEvent) × (own : List UserEvent) × (user_events schedule ≡ woven ++ own)
@@ -97,7 +97,7 @@ IsThreaded input written = IsShort input × OfScript input (PrintsSession writte
 abbrev pub StopsSession : PlayFault → PlainScript → Type 0
 StopsSession why script = (s : Settled) × (of_stops s.stops.items ≡ Some why) × IsSession script (λ _. ⊥) (λ _ _. ⊥) s
 
--- what a session of the script can come to: a side's stop, no threads, or want of memory
+-- what a session of the script can come to: a side's stop, no threads, or out of memory
 abbrev pub IsSessionFault : PlainScript → PlayFault → Type 0
 IsSessionFault script (Script line) = ⊥
 IsSessionFault script (Side stop) = StopsSession (Side stop) script

@@ -28,7 +28,7 @@ use std::io::{Read, Write};
 /// other side may wait for them.
 ///
 /// Errors, piece by piece: `Read` if a read fails or the input has more than `MOST_INPUT` bytes; `Side(Stop::Host(..))` for a message that
-/// the host refuses; `Side(Stop::Frame(..))` for a fault of the stream behind the messages, with 4 for half a frame at the end of the
+/// the host refuses; `Side(Stop::Frame(..))` for a fault of the stream after the messages, with 4 for half a frame at the end of the
 /// input; `Write` if a write fails, or if the flush does, which hides another fault of the piece. `OutOfMemory` may come at any place.
 #[tactic(auto, using(crate::proofs::Playing::first_sound))]
 pub fn play_bytes<R: Read, W: Write>(

@@ -41,7 +41,7 @@ pub(crate) fn read_all<R: Read>(alloc: Global, reader: &mut R) -> Result<Vec<u8>
 }
 
 /// Writes the lines, or in place of them the line of the fault, which it then returns. If a write fails the error is `Write`; if it was a
-/// write of the lines, it tries to write the line of that fault behind what went out.
+/// write of the lines, it tries to write the line of that fault after what went out.
 pub(crate) fn write_or_tell<W: Write>(
     writer: &mut W,
     lines: Result<Vec<u8>, PlayFault>,

@@ -32,7 +32,7 @@ use std::thread::Threads;
 /// `Bytes` answers frames, with the faults that stand at [`play_bytes`]. Its text has at most `MAX_RUNES` runes.
 ///
 /// `Replay` and `Threads` read the input whole before they parse it, and parse the script whole before anything is done. They write what
-/// the mode prints, or in place of all that the line of the fault. They don't flush the writer, where `Bytes` does behind each piece. The
+/// the mode prints, or in place of all that the line of the fault. They don't flush the writer, where `Bytes` does after each piece. The
 /// numbers of `Threads` are at least 1. The faults, in this order:
 ///
 /// - `Read` if a read failed, or if the input has more than `MOST_INPUT` bytes.

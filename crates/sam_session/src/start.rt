@@ -9,7 +9,7 @@ use sam_host::host::Host;
 use sam_runes::{Runes, Text};
 use std::alloc::Global;
 
-/// Makes the host whose file 1 is named `file` and holds the text, which has at most `MAX_RUNES` runes. The error is want of memory.
+/// Makes the host whose file 1 is named `file` and holds the text, which has at most `MAX_RUNES` runes. The error is out of memory.
 #[tactic(auto, unfolding(crate::specs::Start::host_of))]
 pub(crate) fn host_of_text(alloc: Global, text: &[char]) -> Result<Host, HostFault>
     requires { length text.now ≤ max_runes }

@@ -49,7 +49,7 @@ const PIECE_HELP: &str = "The most bytes of a piece of the stream between thread
 const CAP_HELP: &str = "The capacity of a line between threads, from 1 to 1024";
 
 /// Why the words name no mode. The program then runs none: it writes the line of the fault, and for `Wrong` the usage on standard error.
-/// Its exit status is 2, or 4 for want of memory, or 5 if the line can't be written.
+/// Its exit status is 2, or 4 when out of memory, or 5 if the line can't be written.
 #[derive(Clone, Copy, Debug, PartialEq, Eq, Error)]
 pub enum ArgFault {
     /// The words are none of the program's, or a value is out of its range. A wish for help is wrong, too.
@@ -93,7 +93,7 @@ pub fn mode_of(alloc: Global, words: Vec<String>) -> Result<Mode, ArgFault>
 }
 
 /// Returns what to tell a person whose words name no mode: the help that they wish for, or what is wrong with them. The first word is the
-/// program's name. Its only error is want of memory. What the text says is no promise.
+/// program's name. Its only error is out of memory. What the text says is no promise.
 pub fn usage(alloc: Global, words: Vec<String>) -> Result<String, AllocError> {
     let words = with_text_attached(alloc, &words)?;
     let mut command = command(alloc)?;

@@ -14,7 +14,7 @@ use Rattle.sam_crossing.proofs.RunLaws.{counted-result}
 use Rattle.sam_term.specs.Editing.{shown_from}
 use Rattle.sam_term.specs.declared.event.UserEvent.TheVariants.{Load}
 
--- ## What the host answers: its version is that behind its answers
+-- ## What the host answers: its version is that after its answers
 
 -- what a reply to a message says of the version: that of a version message, and otherwise nothing
 record TellsVersion (h : PlainHost) (m : Tmesg) (r : Reply) : Type 0 where
@@ -44,7 +44,7 @@ tells h m e = kept h m (reply_to h m) refl (reply_plain h m) (reply_stands h m e
 
 -- ## Every answer
 
--- the version behind the frames of an answer is the host's, and behind the message too unless the host is done
+-- the version after the frames of an answer is the host's, and after the message too unless the host is done
 pub record Answered (h : PlainHost) (m : Tmesg) (r : PlainHost × List HFrame) : Type 0 where
   pub behind : version_after host h.version r.1 ≡ r.0.version
   pub past : r.0.is_done ≡ false → (h.is_done ≡ false) × (after_t h.version m ≡ r.0.version)

@@ -78,14 +78,14 @@ Listed = World HostSide TermSide Tmesg HFrame
 abbrev bare : Listed → PlainWorld
 bare w = record { host = w.host.0; term = w.term.0; up = w.up; down = w.down }
 
--- what was composed is what was handled and what is under way, and fits in turn; the host has the version behind what it handled
+-- what was composed is what was handled and what is under way, and fits in turn; the host has the version after what it handled
 pub record Walked (w : Listed) : Type 0 where
   pub order : IsInOrder (bare w)
   pub whole : w.term.1 ≡ w.host.1 ++ w.up
   pub turn : InTurn terminal 1 w.term.1
   pub version : w.host.0.is_done ≡ false → version_after terminal 1 w.host.1 ≡ w.host.0.version
 
--- where the terminal may act, it has the version behind all that was composed
+-- where the terminal may act, it has the version after all that was composed
 place : (w : Listed) → Walked w → w.term.0.command_lock ≡ false → w.term.0.has_exited ≡ false → version_after terminal 1 w.term.1 ≡ w.term.0.version
 place w j c e = grind (
   arith,

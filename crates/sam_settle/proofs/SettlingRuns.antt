@@ -6,7 +6,7 @@ use Rattle.sam_world.specs.declared.event.StepFault.{StepFault}
 use Rattle.sam_world.specs.declared.event.StepFault.TheVariants.{OutOfMemory}
 use Rattle.sam_world.proofs.Stopping.{passing_stops}
 
--- a fault other than want of memory is of an event that is no step
+-- a fault other than out of memory is of an event that is no step
 no_step : (w : PlainWorld) (e : Event) (why : StepFault) → IsFaultOf w e why → (why ≡ OutOfMemory → ⊥) → step_of w e ≡ None
 no_step w e why u q = grind (arith, passing_stops)
 
@@ -14,7 +14,7 @@ no_run : (w v : PlainWorld) (es : List Event) (at : ℕ) (e : Event) → slice_g
 no_run w v (d ∷ es) (suc at) e is r s = grind (arith, (λ (n : PlainWorld). no_run n v es at e))
 no_run w v es at e u q y = grind arith
 
--- a run from the first world of these files that stopped for another reason than want of memory
+-- a run from the first world of these files that stopped for another reason than out of memory
 pub stopped_first : (files : List (List ℕ × List ℕ)) (w v : PlainWorld) (es : List Event) (stop : RunStop) → w ≡ new_world files → IsStoppedAt w es stop v
     → (stop.fault ≡ OutOfMemory → ⊥) → None ≡ run_of (new_world files) es
 stopped_first files w v es stop first s ne = grind (arith, slice_get_cases, no_run, no_step)

@@ -39,7 +39,7 @@ pub enum RunFault {
 /// may never end.
 ///
 /// Errors, in this order: `OutOfMemory` if there is no memory for what the workers begin with; `NoThread` if a thread could not be
-/// started; `GateTimedOut` if the gate did not let a worker begin. A worker that stops on its way is no error: its end tells why.
+/// started; `GateTimedOut` if the gate did not let a worker begin. A worker that stops on its way is no error: its end says why.
 #[tactic(auto, using(crate::proofs::Kept::kept_let_in))]
 pub fn run_ends<'q, R: Threads + Wait + Sync, G: Gate>(
     rt: &R,

@@ -26,7 +26,7 @@ use std::thread::Threads;
 ///
 /// Errors, in this order: `OutOfMemory` if there is no memory for the lines or for what the workers begin with; `NoThread` if a thread
 /// could not be started, and then no worker began; `GateTimedOut` if the gate did not let a worker begin; `OutOfMemory` if there is no
-/// memory for the settling. A worker that stops on its way, for want of memory too, is no error: `Settled::stops` tells it.
+/// memory for the settling. A worker that stops on its way, when out of memory too, is no error: `Settled::stops` says it.
 pub fn run_threads<R: Threads + Wait + Sync, G: Gate>(
     rt: &R,
     alloc: Global,

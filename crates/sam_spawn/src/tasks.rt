@@ -122,7 +122,7 @@ struct Roles {
 }
 
 /// Makes the tasks of a session: the ends of the lines, and what the script says that each worker does. `starts` came with `lines`, and
-/// is spent. Its only error is want of memory.
+/// is spent. Its only error is out of memory.
 pub fn ready_tasks<'q>(
     alloc: Global,
     lines: &'q Lines,

@@ -5,12 +5,12 @@ use Rattle.sam_workers.proofs.Common.{◌≡◌, ap, ◌∙◌, ℕ, suc, ◌≤
 pub put_none : (most : ℕ) (a : PostView (Vec ℕ)) (bytes : List ℕ) → PutSome most a a bytes bytes
 put_none most a bytes = grind (arith, append-nil)
 
--- nothing stands behind the last byte
+-- nothing stands after the last byte
 pub nothing_behind : (xs : List ℕ) (n : ℕ) → n ≡ length xs → drop n xs ≡ []
 nothing_behind (x ∷ xs) (suc n) e = nothing_behind xs n (omega arith)
 nothing_behind xs n e = grind arith
 
--- what is put behind all of the bytes is put behind those that are not taken yet
+-- what is put after all of the bytes is put after those that are not taken yet
 pub all_behind : (before after : List ℕ) (ms : List Tmesg) (n : ℕ) → after ≡ before ++ stream_of terminal ms → n ≤ length before
     → drop n after ≡ drop n before ++ stream_of terminal ms
 all_behind before after ms n e l = ap (λ (x : List ℕ). drop n x) e ∙ drop-append-le n before (stream_of terminal ms) l

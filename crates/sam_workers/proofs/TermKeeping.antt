@@ -13,7 +13,7 @@ users_append : (es fs : List TermLog) → logged_users (es ++ fs) ≡ logged_use
 users_append [] fs = refl
 users_append (e ∷ es) fs = grind (arith, (users_append es fs))
 
--- the run with what the logged did behind it
+-- the run with what the logged did after it
 pub runs_on : (v : SideView) (logged : LoggedView) (events : List UserEvent) (frames : List HFrame) (ms : List Tmesg) (r : Ran v) → Did v.logged logged events frames ms
     → TermRuns at_work new_terminal logged.log (frames_in r.handled ++ frames) (r.composed ++ ms) logged.term
 runs_on v logged events frames ms r d = grind (arith, (term_more at_work counts_at_work v.logged.log new_terminal v.logged.term logged.term (frames_in r.handled) r.composed d.entries frames ms r.runs d.runs))
@@ -34,7 +34,7 @@ whole v r e = grind arith
 pub all_handled : (v : SideView) (r : Ran v) → v.stop ≡ None → v.take.taken ≡ r.handled
 all_handled v r e = grind (arith, whole, append-nil)
 
--- the frames of more messages behind those of the others
+-- the frames of more messages after those of the others
 pub sent_on : (put before lost after lost' : List ℕ) (composed ms : List Tmesg)
     → put ++ (before ++ lost) ≡ stream_of terminal composed → lost ≡ [] → after ++ lost' ≡ before ++ stream_of terminal ms
     → put ++ (after ++ lost') ≡ stream_of terminal (composed ++ ms)

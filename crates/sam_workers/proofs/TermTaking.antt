@@ -38,7 +38,7 @@ items_more h e = grind (arith, append-nil, flat_map-append, length-append)
 
 -- ## An entry that is handled
 
--- behind its own Exit no event of the user comes
+-- after its own Exit no event of the user comes
 own_behind : (v : SideView) (r : Ran v) (e : Entry Input) → has_left e.sender v.take.taken ≡ false → v.take.taken ≡ r.handled → IsOfUser e.sender (user_of_load e.load)
     → (users_in r.handled ++ r.own) ++ user_of_load e.load ≡ (users_in r.handled ++ user_of_load e.load) ++ r.own
 own_behind v r e u w q = grind (arith, append-nil)

@@ -16,7 +16,7 @@ pub record PutSome (most : ℕ) (before after : PostView (Vec ℕ)) (bytes unput
   pub sizes : Each (IsPiece most) pieces
   pub whole : bytes_of pieces ++ unput ≡ bytes
 
--- all of the bytes were put, or for want of memory perhaps not the last of them
+-- all of the bytes were put, or, when out of memory, perhaps not the last of them
 abbrev pub Puts : {E : Type 0} → ℕ → PostView (Vec ℕ) → PostView (Vec ℕ) → List ℕ → Result (Unit {0}) E → Type 0
 Puts most before after bytes (Ok done) = PutSome most before after bytes []
 Puts most before after bytes (Err why) = (unput : List ℕ) × PutSome most before after bytes unput

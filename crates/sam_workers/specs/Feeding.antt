@@ -18,12 +18,12 @@ TakesAll t (frame ∷ frames) composed u =
     (v : PlainTerminal) × (some : List Tmesg) × (rest : List Tmesg)
     × (take_of t frame ≡ Ok (v, some)) × (composed ≡ some ++ rest) × TakesAll v frames rest u
 
--- the framer gave these frames for the piece, and behind them no fault or this one
+-- the framer gave these frames for the piece, and after them no fault or this one
 abbrev pub Gives : Held → List ℕ → Held → List HFrame → Option MesgFault → Type 0
 Gives h piece k frames None = GaveAll host h piece frames k
 Gives h piece k frames (Some fault) = (place : ℕ) × GaveUp host h piece frames place fault k
 
--- of the frames that the framer gave, the terminal took these first ones, and not the ones behind them
+-- of the frames that the framer gave, the terminal took these first ones, and not the ones after them
 abbrev pub TakesSome : Held → List ℕ → Held → PlainTerminal → PlainTerminal → List Tmesg → List HFrame → List HFrame → Type 0
 TakesSome h piece k t u composed frames behind =
     (fault : Option MesgFault) × Gives h piece k (frames ++ behind) fault × TakesAll t frames composed u
@@ -32,7 +32,7 @@ TakesSome h piece k t u composed frames behind =
 abbrev pub NothingTaken : Held → Held → PlainTerminal → PlainTerminal → List Tmesg → Type 0
 NothingTaken h k t u composed = (k ≡ h) × (u ≡ t) × (composed ≡ [])
 
--- the stream shows a fault behind the frames, which were all taken; or the framer had failed before, or could not count the piece
+-- the stream shows a fault after the frames, which were all taken; or the framer had failed before, or could not count the piece
 abbrev pub FrameStops : Held → List ℕ → Held → PlainTerminal → PlainTerminal → List Tmesg → ℕ → Type 0
 FrameStops h piece k t u composed n =
     ((frames : List HFrame) × (fault : MesgFault)
@@ -79,7 +79,7 @@ abbrev pub TakesOne : HFrame → PlainTerminal → PlainTerminal → List Tmesg 
 TakesOne frame t u before after None = (some : List Tmesg) × (take_of t frame ≡ Ok (u, some)) × (after ≡ before ++ some)
 TakesOne frame t u before after (Some s) = StopsAt t frame s × (u ≡ t) × (after ≡ before)
 
--- all the frames were taken and what stands behind them stopped it, or those before the one that stopped it
+-- all the frames were taken and what stands after them stopped it, or those before the one that stopped it
 abbrev pub TakesUpTo : List HFrame → Option Stop → PlainTerminal → PlainTerminal → List Tmesg → Option Stop → Type 0
 TakesUpTo frames behind t u composed stopped =
     (TakesAll t frames composed u × (stopped ≡ behind))

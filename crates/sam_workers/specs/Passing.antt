@@ -19,17 +19,17 @@ use Rattle.sam_workers.specs.declared.stop.Stop.TheVariants as stop
 abbrev pub sent_on : PostView Input → List HFrame → PostView Input
 sent_on p frames = record p { put = p.put ++ map Host frames }
 
--- the frames were sent on, or the gate stopped that behind some of them
+-- the frames were sent on, or the gate stopped that after some of them
 abbrev pub Sends : List HFrame → PostView Input → PostView Input → Option Stop → Type 0
 Sends frames p q None = q ≡ sent_on p frames
 Sends frames p q (Some s) = (done : List HFrame) × (more : List HFrame) × (frames ≡ done ++ more) × (q ≡ sent_on p done) × (s ≡ stop.Gate)
 
--- the same of the frames before a fault of this number, which stops it behind all of them
+-- the same of the frames before a fault of this number, which stops it after all of them
 abbrev pub SendsBefore : List HFrame → ℕ → PostView Input → PostView Input → Option Stop → Type 0
 SendsBefore frames n p q None = ⊥
 SendsBefore frames n p q (Some s) = Sends frames p q (Some s) ⊎ (Sends frames p q None × (s ≡ stop.Frame n))
 
--- what stands behind the frames that were sent on stops the reader so, once so many bytes of the stream came
+-- what stands after the frames that were sent on stops the reader so, once so many bytes of the stream came
 abbrev pub StopsBehind : ℕ → ℕ → List ℕ → Stop → Type 0
 StopsBehind version came rest (stop.Frame n) = StopsWith host version came rest n
 StopsBehind version came rest (stop.Host n) = ⊥

@@ -58,7 +58,7 @@ pub record UserTold (number : ℕ) (events : List UserEvent) (line : LineView) (
 abbrev pub IsPastCount : List (Entry (Vec ℕ)) → Type 0
 IsPastCount taken = 2 ^ 64 ≤ length (bytes_of (items_of 0 taken))
 
--- the stream shows a fault of this number behind these messages; what came after it was dropped
+-- the stream shows a fault of this number after these messages; what came after it was dropped
 abbrev pub ShowsFault : {M : Type 0} → Direction M → List M → List ℕ → ℕ → Type 0
 ShowsFault d messages rest n =
     (shown : List ℕ) × (dropped : List ℕ) × (fault : MesgFault)
@@ -159,7 +159,7 @@ abbrev pub IsOwnExit : List UserEvent → List (Entry Input) → Type 0
 IsOwnExit own entries = (own ≡ []) ⊎ ((own ≡ Exit ∷ []) × (has_left 0 entries ≡ true) × (has_left 1 entries ≡ true))
 
 -- What it took, up to the last end mark, is what it handled, in order, and what it dropped. Its log goes through the user's events and
--- the frames that it handled, with at most one Exit of its own behind the last event, and composes the messages; each Act did or refused
+-- the frames that it handled, with at most one Exit of its own after the last event, and composes the messages; each Act did or refused
 -- an event, and each Flush composed runes. The pieces that it put,
 -- and what it could not put any more, are the frames of the messages
 pub record TermTold (events up : LineView) (e : TermEnd) : Type 0 where

@@ -20,7 +20,7 @@ const MOST: usize = 2;
 pub struct Fed {
     /// The messages that the terminal composed for the frames that it took, in order.
     pub composed: Vec<Tmesg>,
-    /// What stopped it: `Frame` for a fault of the stream, `Term` for a frame that the terminal refused, `Memory` for want of memory.
+    /// What stopped it: `Frame` for a fault of the stream, `Term` for a frame that the terminal refused, `Memory` when out of memory.
     /// `None` if nothing did: then every frame that is whole with the piece was taken.
     pub stop: Option<Stop>,
 }
@@ -38,9 +38,9 @@ pub struct Fed {
 ///
 /// - `Frame(5)` if the framer had failed before, `Frame(7)` if the stream would be longer than 2^64-1 bytes, `Memory` if there is no
 ///   memory for the piece. Nothing has changed; after `Memory` the piece may be fed again.
-/// - For each frame: `Memory` if there is no memory for it, `Term` if the terminal refuses it. The frame is lost, and so are those behind
+/// - For each frame: `Memory` if there is no memory for it, `Term` if the terminal refuses it. The frame is lost, and so are those after
 ///   it.
-/// - `Frame(1)`, `Frame(2)` or `Frame(3)` if the stream shows a fault behind the frames.
+/// - `Frame(1)`, `Frame(2)` or `Frame(3)` if the stream shows a fault after the frames.
 ///
 /// The terminal is where the frames that it took leave it, and the framer is where its `feed` leaves it.
 #[tactic(auto, using(crate::proofs::Feeds::all_fit))]
@@ -89,7 +89,7 @@ fn nothing(alloc: Global, stop: Stop) -> Fed
     }
 }
 
-/// Lets the terminal take the frames in order, up to the first that stops it. `behind` is what stops it behind the last frame.
+/// Lets the terminal take the frames in order, up to the first that stops it. `behind` is what stops it after the last frame.
 fn take_all(
     alloc: Global,
     terminal: &mut Terminal,

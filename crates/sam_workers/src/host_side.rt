@@ -70,7 +70,7 @@ struct HostSide<'q> {
 }
 
 impl HostSide<'_> {
-    /// Puts the bytes of the frames into the line down, and waits while it is full. Its only error is want of memory; the first of the
+    /// Puts the bytes of the frames into the line down, and waits while it is full. Its only error is out of memory; the first of the
     /// bytes may then have been put.
     #[tactic(auto, using(crate::proofs::HostSide::can_encode, crate::proofs::PiecesUp::put_none))]
     fn send<R: Wait>(&mut self, rt: &R, frames: &[HFrame]) -> Result<(), AllocError>
@@ -266,9 +266,9 @@ fn drop_after<R: Wait>(rt: &R, take: &mut Take<Vec<u8>>, stop: Option<Stop>)
 /// end. It is worker 2, the host. It begins with `host`, a new host of `files`: at most `MOST_FILES` names and texts. It waits while the
 /// line up is empty or the line down is full.
 ///
-/// The end's `stop` tells why it stopped before the end mark: `Gate` if the gate refused it; `Host` if the host refused a message;
+/// The end's `stop` says why it stopped before the end mark: `Gate` if the gate refused it; `Host` if the host refused a message;
 /// `Frame(1)`, `Frame(2)` or `Frame(3)` for a fault of the stream, once the messages before the fault are handled; `Frame(7)` if the
-/// stream is longer than 2^64-1 bytes; `Memory` for want of memory, and then the end of the last answer may be missing. Once stopped it
+/// stream is longer than 2^64-1 bytes; `Memory` when out of memory, and then the end of the last answer may be missing. Once stopped it
 /// closes its post, and takes and drops until the end mark, so that the terminal's bytes always find room.
 pub fn serve_host<'q, R: Wait, G: Gate>(
     rt: &R,

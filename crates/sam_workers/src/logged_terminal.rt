@@ -81,7 +81,7 @@ impl LoggedTerminal {
         self.term.has_unsent()
     }
 
-    /// Puts an event of the user behind the held ones. Its only error is `Memory`, and leaves terminal and log as they were.
+    /// Puts an event of the user after the held ones. Its only error is `Memory`, and leaves terminal and log as they were.
     #[tactic(auto, using(crate::proofs::TermSteps::did_user))]
     pub(crate) fn user(&mut self, event: UserEvent) -> Result<(), Stop>
         ensures held { OnOk result (Did self.old self.new (event ∷ []) [] []) }

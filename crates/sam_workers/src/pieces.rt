@@ -20,7 +20,7 @@ fn send_piece<R: Wait>(rt: &R, post: &mut Post<Vec<u8>>, piece: Vec<u8>)
 }
 
 /// Puts the bytes in order, in pieces of `piece` bytes; the last piece may be shorter. It waits while the line is full. Its only error is
-/// want of memory; the first pieces have then been put, and the rest has not.
+/// out of memory; the first pieces have then been put, and the rest has not.
 pub(crate) fn send_pieces<R: Wait>(
     rt: &R,
     alloc: Global,

@@ -23,9 +23,9 @@ const WORKER: usize = 3;
 /// Takes the pieces of the host's stream, sends each frame on to the terminal, and returns the worker's end. It is worker 3, the host
 /// reader. It waits while the line down is empty or the line of events is full.
 ///
-/// The end's `stop` tells why it stopped before the host had left: `Gate` if the gate refused it; `Frame(1)`, `Frame(2)` or `Frame(3)` for
+/// The end's `stop` says why it stopped before the host had left: `Gate` if the gate refused it; `Frame(1)`, `Frame(2)` or `Frame(3)` for
 /// a fault of the stream, once the frames before the fault are sent on; `Frame(7)` if the stream is longer than 2^64-1 bytes; `Memory` for
-/// want of memory. Once stopped it closes its post, and takes and drops until the host has left, so that the host never waits forever for
+/// out of memory. Once stopped it closes its post, and takes and drops until the host has left, so that the host never waits forever for
 /// room.
 pub fn pass_frames<'q, R: Wait, G: Gate>(
     rt: &R,

@@ -11,7 +11,7 @@ pub enum Stop {
     /// the host reader sent, and 2 a frame that doesn't fit in version 2.
     #[error("bad frame ({0})")]
     Frame(u8),
-    /// The host refused a message, by a number of `HostFault`. Want of memory is `Memory`.
+    /// The host refused a message, by a number of `HostFault`. Out of memory is `Memory`.
     #[error("refused by the host ({0})")]
     Host(u8),
     /// The terminal refused a frame, or it could not count the messages that it would compose (8), by a number of `TermFault`. Want of

@@ -45,7 +45,7 @@ enum Tried {
     Stopped,
 }
 
-/// The terminal with its ends of the lines. Once `stop` tells why, it handles nothing more: it only takes and drops what comes, and
+/// The terminal with its ends of the lines. Once `stop` says why, it handles nothing more: it only takes and drops what comes, and
 /// closes its post.
 #[derive(Drop)]
 struct Side<'q> {
@@ -131,7 +131,7 @@ impl<'q> Side<'q> {
         }
     }
 
-    /// Tries the oldest held event, and puts what it composes behind the bytes that are to be sent.
+    /// Tries the oldest held event, and puts what it composes after the bytes that are to be sent.
     fn act_once(&mut self) -> Tried
         ensures goes { Goes self.old self.new }
         ensures tried { IsTried self.new result }
@@ -201,7 +201,7 @@ impl<'q> Side<'q> {
             && !self.logged.exited()
     }
 
-    /// Puts an Exit of its own behind the held events, if one is to be put.
+    /// Puts an Exit of its own after the held events, if one is to be put.
     fn put_exit(&mut self)
         ensures { Goes self.old self.new }
     {
@@ -491,11 +491,11 @@ impl<'q> Side<'q> {
 /// It never waits in a send: bytes for which the line has no room wait outside it. Once an entry is taken, held events act. Typed runes
 /// wait, so that those typed one after another go up together: until something else is composed, a `Flush` acts, runes come that don't
 /// join them, or the line of events has stayed empty for a while and nothing is left to put. Once keyboard and mouse have left it puts an
-/// Exit of its own behind the held events, unless the session is over.
+/// Exit of its own after the held events, unless the session is over.
 ///
 /// The end's `stop` is `None` if the host ended the session, everybody left, and nothing is held, unsent or not put. Else it is `Gate` if
 /// the gate refused the worker; `Frame(1)` or `Frame(2)` for an item that no worker of a session sends; `Term` if the terminal refused a
-/// frame or could not count a message; `PeerGone` if the host reader left before the session was over; `Memory` for want of memory. Once
+/// frame or could not count a message; `PeerGone` if the host reader left before the session was over; `Memory` when out of memory. Once
 /// stopped it closes its post, and takes and drops until everybody has left, so that nobody waits for it.
 pub fn run_terminal<'q, R: Wait, G: Gate>(
     rt: &R,

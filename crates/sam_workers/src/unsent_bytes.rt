@@ -65,7 +65,7 @@ impl Uncut {
         self.start == self.bytes.len()
     }
 
-    /// Adds the bytes of the messages behind the others, all or none. The only error is want of memory, after which all is as it was.
+    /// Adds the bytes of the messages after the others, all or none. The only error is out of memory, after which all is as it was.
     #[tactic(auto, using(crate::proofs::PiecesUp::all_behind))]
     fn push_all(&mut self, messages: &[Tmesg]) -> Result<(), AllocError>
         requires { CanEncode terminal messages.now }
@@ -90,7 +90,7 @@ impl Uncut {
         }
     }
 
-    /// Takes up to `most` bytes from the front as a piece. Returns `None` if there are none. After an error, which is want of memory, all
+    /// Takes up to `most` bytes from the front as a piece. Returns `None` if there are none. After an error, out of memory, all
     /// is as it was.
     #[tactic(auto, using(std::proofs::lemmas::List::Folds::drop_split))]
     fn cut(&mut self, alloc: Global, most: usize) -> Result<Option<Vec<u8>>, AllocError>
@@ -121,7 +121,7 @@ pub(crate) struct UnsentBytes {
     most: usize,
     /// The next piece, if it was cut and the line was full. It has 1 to `most` bytes.
     ready: Option<Vec<u8>>,
-    /// The bytes behind that piece.
+    /// The bytes after that piece.
     rest: Uncut,
 }
 
@@ -157,7 +157,7 @@ impl UnsentBytes {
         self.ready.is_none() && self.rest.is_empty()
     }
 
-    /// Adds the bytes of the messages behind the others, all or none. The only error is want of memory, after which all is as it was.
+    /// Adds the bytes of the messages after the others, all or none. The only error is out of memory, after which all is as it was.
     pub(crate) fn push_all(&mut self, messages: &[Tmesg]) -> Result<(), AllocError>
         requires { CanEncode terminal messages.now }
         ensures fit { Each (FitsT 2) messages.now }

@@ -1,4 +1,4 @@
--- Batches one behind the other.
+-- Batches one after the other.
 use Rattle.sam_world.proofs.Common.{◌≡◌, List, [], ◌∷◌, ◌++◌, map, append-nil, arith, append_assoc, joined, AreFilled}
 
 pub joined-behind : {B M : Type 0} (items : B → List M) (batches : List B) (batch : B) → joined (map items (batches ++ batch ∷ [])) ≡ joined (map items batches) ++ items batch

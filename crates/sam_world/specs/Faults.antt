@@ -29,7 +29,7 @@ abbrev pub IsHostStop : HostFault → StepFault → Type 0
 IsHostStop why s = ((why ≡ host.OutOfMemory) × (s ≡ OutOfMemory)) ⊎ ((why ≡ host.CountFull) × (s ≡ CountFull))
 
 -- nothing is there exactly where the event is a take from an empty list; CountFull is answered only where the step would take a count
--- past 2^64-1; want of memory may come at any other time
+-- past 2^64-1; out of memory may come at any other time
 abbrev pub IsFaultOf : PlainWorld → Event → StepFault → Type 0
 IsFaultOf w e NothingThere = is_empty_take w e ≡ true
 IsFaultOf w e CountFull = passes_count w e ≡ true

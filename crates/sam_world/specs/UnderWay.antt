@@ -11,7 +11,7 @@ abbrev pub head : {M : Type 0} → List M → Option M
 head [] = None
 head (m ∷ ms) = Some m
 
--- batches one behind the other
+-- batches one after the other
 abbrev pub joined : {M : Type 0} → List (List M) → List M
 joined [] = []
 joined (batch ∷ batches) = batch ++ joined batches

@@ -11,7 +11,7 @@ use sam_runes::{Runes, Text, TextFault};
 use std::alloc::{AllocError, Global};
 
 /// Makes the first world of files of these names and texts, as `World::new` does. There are at most `MOST_FILES` of them. Each name has 1
-/// to `MOST_IN_NAME` runes and each text at most `MAX_RUNES`, as in a script. The only error is want of memory.
+/// to `MOST_IN_NAME` runes and each text at most `MAX_RUNES`, as in a script. The only error is out of memory.
 #[tactic(auto, using(crate::proofs::GivenLaws::given_many))]
 pub fn first_world(alloc: Global, files: &[(Runes, Runes)]) -> Result<World, AllocError>
     requires count { length files.now ≤ most_files }
@@ -26,7 +26,7 @@ pub fn first_world(alloc: Global, files: &[(Runes, Runes)]) -> Result<World, All
 }
 
 /// Returns copies of files, names and texts, as `Host::new` and `World::new` take them. Each is as [`first_world`] wants it. The only error
-/// is want of memory.
+/// is out of memory.
 pub fn given_files(
     alloc: Global,
     files: &[(Runes, Runes)],

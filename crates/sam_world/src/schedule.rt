@@ -38,7 +38,7 @@ fn fits_entry(entry: &TermLog, host_taken: u64) -> bool
     }
 }
 
-/// Appends the events of one entry, before which the host has taken `done` messages. Returns how many it has taken behind them.
+/// Appends the events of one entry, before which the host has taken `done` messages. Returns how many it has taken after them.
 fn push_entry(
     alloc: Global,
     out: &mut Vec<Event>,

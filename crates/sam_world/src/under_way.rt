@@ -14,7 +14,7 @@ use std::marker::Model;
 pub struct UnderWay<M: Drop> {
     /// What is left of the oldest batch. It is empty if and only if nothing is under way.
     first: VecDeque<M>,
-    /// The batches behind `first`, the oldest first. None of them is empty, and where `first` is empty there are none.
+    /// The batches after `first`, the oldest first. None of them is empty, and where `first` is empty there are none.
     rest: VecDeque<VecDeque<M>>,
 }
 
@@ -44,7 +44,7 @@ impl<M: Drop> UnderWay<M> {
         }
     }
 
-    /// Makes room for one more batch, of any length. The messages stay as they are, also at the only error, want of memory.
+    /// Makes room for one more batch, of any length. The messages stay as they are, also at the only error, out of memory.
     pub fn reserve(&mut self) -> Result<(), AllocError>
         ensures messages { self.new.messages ≡ self.old.messages }
         ensures room { OnOk result (0 < self.new.room) }
@@ -95,7 +95,7 @@ impl<M: Drop> UnderWay<M> {
         }
     }
 
-    /// Puts a batch behind the others, in room that `reserve` has made. It takes no memory. An empty batch changes nothing.
+    /// Puts a batch after the others, in room that `reserve` has made. It takes no memory. An empty batch changes nothing.
     #[tactic(auto, using(std::proofs::Common::append_assoc, crate::proofs::UnderWayLaws::join_facts))]
     pub fn join(&mut self, batch: Vec<M>)
         requires { 0 < self.old.room }
