@@ -11,3 +11,4 @@ pub mod TermEndpointSteps
 pub mod TermEndpointCalls
 pub mod HostEndpointRuns
 pub mod Members
+pub mod Crossing
