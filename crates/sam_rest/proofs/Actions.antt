@@ -27,7 +27,7 @@ abbrev pub AwaitsAll : ℕ → List Action → Type 0
 AwaitsAll n [] = n ≡ 0
 AwaitsAll n (a ∷ rest) = (is_fill a ≡ true → 0 < n) × AwaitsAll (left a n) rest
 
--- ## What comes behind
+-- ## What comes after
 
 pub awaits-none : (u : List Action) → fills u ≡ false → AwaitsAll 0 u
 awaits-none [] e = refl

@@ -83,7 +83,7 @@ abbrev led : (PlainWorld → ℕ) → Option PlainWorld → ℕ
 led f None = 0
 led f (Some v) = f v
 
--- one event, and those behind it: `fewer` and `less` count them where it is an act, or not
+-- one event, and those after it: `fewer` and `less` count them where it is an act, or not
 abbrev count_one : (fewer less : PlainWorld → ℕ) → PlainWorld → Option Event → ℕ
 count_one fewer less w None = 0
 count_one fewer less w (Some Act) = 1 + led fewer (step_of w Act)
@@ -109,7 +109,7 @@ counts_held (suc k) w = counts (counts_held k) (left_in w) w
 unfoldable pub steps_left : PlainWorld → ℕ
 steps_left w = counts_held (length w.term.held) w
 
--- the same counts of what comes behind are the same count
+-- the same counts of what comes after are the same count
 stable-one : (fewer f g : PlainWorld → ℕ) (w : PlainWorld) → IsKept w → ((v : PlainWorld) → IsKept v → left_in v < left_in w → f v ≡ g v) → (o : Option Event) → next_event w ≡ o
     → count_one fewer f w o ≡ count_one fewer g w o
 stable-one fewer f g w k same None n = refl
