@@ -9,3 +9,4 @@ pub mod TermEndpointSteps
 pub mod TermEndpointCalls
 pub mod HostEndpointRuns
 pub mod Members
+pub mod Crossing
