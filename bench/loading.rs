@@ -6,6 +6,7 @@ use std::time::Instant;
 
 const PIECE: usize = 512;
 const STEP: usize = 1_000_003;
+const APART: usize = 18;
 
 pub trait PartialText {
     fn gaps(count: usize) -> Self;
@@ -261,4 +262,31 @@ pub fn load_list(size: usize) -> Report {
 
 pub fn typed_list(size: usize) -> Report {
     typed_as::<List>(size)
+}
+
+/// Sections of one rune and a hole each, made by scattered loads, then typed into at scattered places, asked about and cut out.
+pub fn sections(size: usize) -> Report {
+    let half = size / 2;
+    let begin = Instant::now();
+    let mut text = Chunks::gaps(half * APART);
+    for i in 0..half {
+        text.data(i.wrapping_mul(STEP) % half * APART, &['x']);
+    }
+    let mut state = 1;
+    for _ in 0..half {
+        state = next_state(state);
+        let place = (state >> 33) as usize % text.len().max(1);
+        text.type_in(place, 'y');
+    }
+    let end = text.len();
+    let mut asked = 0;
+    for _ in 0..half {
+        if let Some((start, _)) = text.first_gaps(end.saturating_sub(100), end) {
+            asked = mix(asked, start as u64);
+        }
+    }
+    let check = mix(check_of(&text), asked);
+    text.cut(1, end.saturating_sub(2));
+    let took = begin.elapsed();
+    Report { took, check }
 }

@@ -62,6 +62,7 @@ fn main() {
         "x" => editing::each(size),
         "rasp_load" => loading::load(size),
         "rasp_type" => loading::typed(size),
+        "rasp_sections" => loading::sections(size),
         "terminal" => typing::typed(size),
         "receive" => receiving::received(size),
         "handle" => handling::handled(size),

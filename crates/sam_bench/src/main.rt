@@ -59,6 +59,7 @@ fn report_of<R: AllocGlobal + Clock>(rt: &R, job: &str, size: u32) -> Result<Rep
         "x" => editing::each(rt, size),
         "rasp_load" => loading::load(rt, size),
         "rasp_type" => loading::typed(rt, size),
+        "rasp_sections" => loading::sections(rt, size),
         "terminal" => typing::typed(rt, size),
         "embedded" => embedded::typed(rt, size),
         "receive" => receiving::received(rt, size),

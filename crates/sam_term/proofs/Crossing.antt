@@ -1,8 +1,7 @@
 -- A terminal may go to another thread, since a rasp may. Rattle proves this itself of a type that reaches none that holds itself.
-use denote.Param.Send.{IsSend, sendable, view_send}
+use denote.Param.Send.{IsSend, sendable}
 use Rattle.std.proofs.Crossing.{crosses as heap}
 use Rattle.std.proofs.option.Option.TheSendSync as option
-use Rattle.std.proofs.alloc.Global.TheSendSync as global
 use Rattle.sam_rasp.proofs.Crossing.{rasp_send}
 use Rattle.sam_runes.proofs.runes.Runes.TheSendSync as runes
 use Rattle.sam_term.proofs.held.HeldEvents.TheSendSync as held
@@ -23,9 +22,3 @@ files_send = search (sendable, option.the_field_send, option.the_send, heap, kno
 
 pub terminal_send : IsSend Terminal.the_row
 terminal_send = search (sendable, heap, option.the_field_send, runes.the_send, held.the_send, unsent.the_field_send, files_send) depth 60 fits 20000
-
-t2 : IsSend Terminal.the_row
-t2 = search (sendable, heap, option.the_field_send, option.the_send, global.the_send, global.the_field_send, runes.the_send, held.the_send, unsent.the_field_send, unsent.the_send, files_send) depth 100 fits 50000
-
-t3 : IsSend Terminal.the_row
-t3 = view_send _ _ _ _ _ (search (sendable, heap, option.the_field_send, option.the_send, global.the_send, global.the_field_send, runes.the_send, held.the_send, unsent.the_field_send, unsent.the_send, files_send) depth 100 fits 50000)
