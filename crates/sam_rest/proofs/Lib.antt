@@ -1,0 +1,12 @@
+pub mod Actions
+pub mod Gaps
+pub mod Taking
+pub mod Frames
+pub mod Kept
+pub mod Quiet
+pub mod Steps
+pub mod Work
+pub mod Ends
+pub mod Done
+pub mod Rule
+pub mod Resting
