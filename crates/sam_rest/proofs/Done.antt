@@ -1,5 +1,6 @@
 -- Where nothing applies, all is done; and where all is done, nothing applies.
-use Rattle.sam_world.proofs.Common.{◌≡◌, ℕ, zero, suc, ◌+◌, ◌<◌, Bool, true, false, not, List, [], ◌∷◌, ◌++◌, length, is_some, Option, Some, None, Result, Ok, Err, ◌⊎◌, inl, inr, same_Some, refl, sym, ap, ◌∙◌, subst, arith, true≢false, append-nil, is_empty, PlainHost, answer, HostFault, PlainTerminal, Made, act_on, decided, event_outcome, first_of_checks, event_checks, if_countable, window_at, Verdict, Acted, Idle, Locked, Done, Refused, TermFault, UserEvent, Tmesg, Hmesg, HFrame, PlainWorld, step_of, after_act, after_answer, after_compose, host_takes, term_takes, composed_by, mesgs, IsInOrder, WasReached}
+use Rattle.std.proofs.Common.{true≢false}
+use Rattle.sam_world.proofs.Common.{◌≡◌, ℕ, zero, suc, ◌+◌, ◌<◌, Bool, true, false, not, List, [], ◌∷◌, ◌++◌, length, is_some, Option, Some, None, Result, Ok, Err, ◌⊎◌, inl, inr, same_Some, refl, sym, ap, ◌∙◌, subst, arith, append-nil, is_empty, PlainHost, answer, HostFault, PlainTerminal, Made, act_on, decided, event_outcome, first_of_checks, event_checks, if_countable, window_at, Verdict, Acted, Idle, Locked, Done, Refused, TermFault, UserEvent, Tmesg, Hmesg, HFrame, PlainWorld, step_of, after_act, after_answer, after_compose, host_takes, term_takes, composed_by, mesgs, IsInOrder, WasReached}
 use Rattle.std.specs.Prelude.{◌&&◌, ◌||◌}
 unfoldable use Rattle.sam_world.proofs.Common.{act_of, flush_of, flushed, take_of}
 use Rattle.sam_term.specs.Term.{is_any_locked, is_file_locked, unsent_message}
@@ -39,7 +40,7 @@ up-applies w m ms i room e stuck = by (answer w.host m) refl
     first = ap (passes_at w.host) (sym e) ∙ room
 
     by : (a : Result (PlainHost × List HFrame) HostFault) → answer w.host m ≡ a → ⊥
-    by (Err why) q = true≢false (ap (λ (x : HostFault). is_host_full (Err {A = PlainHost × List HFrame} x)) (sym (host_never_refuses w m ms why i e q).0) ∙ ap is_host_full (sym q) ∙ first)
+    by (Err why) q = true≢false (ap (λ (x : HostFault). is_host_full {A = PlainHost × List HFrame} (Err x)) (sym (host_never_refuses w m ms why i e q).0) ∙ ap is_host_full (sym q) ∙ first)
     by (Ok x) q =
         stuck HostTake (record w { host = x.0; up = ms; down = w.down ++ x.1 })
         (record {
@@ -56,7 +57,7 @@ down-applies w frame frames i room e stuck = by (take_of w.term frame) refl
     first = ap (composes_past w.term) (sym e) ∙ room
 
     by : (a : Result Made TermFault) → take_of w.term frame ≡ a → ⊥
-    by (Err why) q = true≢false (ap (λ (x : TermFault). is_term_full (Err {A = Made} x)) (sym (terminal_never_refuses w frame frames why i e q)) ∙ ap is_term_full (sym q) ∙ first)
+    by (Err why) q = true≢false (ap (λ (x : TermFault). is_term_full {A = Made} (Err x)) (sym (terminal_never_refuses w frame frames why i e q)) ∙ ap is_term_full (sym q) ∙ first)
     by (Ok x) q =
         stuck TermTake (record w { term = x.0; up = w.up ++ x.1; down = frames })
         (record {
@@ -65,22 +66,22 @@ down-applies w frame frames i room e stuck = by (take_of w.term frame) refl
           changes = λ same. longer frame frames (ap (λ (v : PlainWorld). v.down) same ∙ e);
         })
 
+flush-leaves : (t : PlainTerminal) (x : Made) → flush_of t ≡ Ok x → x.0.unsent ≡ None
+unfolding flush_of
+flush-leaves t x q = ap (λ (y : Made). y.0.unsent) (sym (counted-result (flushed t).0.sent (flushed t) x q)) ∙ unsent-flushed t
+
 -- runes are unsent
 unsent-applies : (w : PlainWorld) (u : Unsent) → passes_count w Flush ≡ false → w.term.unsent ≡ Some u → IsStuck w → ⊥
 unsent-applies w u room e stuck = by (flush_of w.term) refl
   where
-    made : (x : Made) → flush_of w.term ≡ Ok x → x.0.unsent ≡ None
-    unfolding flush_of
-    made x q = ap (λ (y : Made). y.0.unsent) (sym (counted-result (flushed w.term).0.sent (flushed w.term) x q)) ∙ unsent-flushed w.term
-
     by : (a : Result Made TermFault) → flush_of w.term ≡ a → ⊥
-    by (Err why) q = true≢false (ap (λ (x : TermFault). is_term_full (Err {A = Made} x)) (sym (refused_flush w.term why q)) ∙ ap is_term_full (sym q) ∙ room)
+    by (Err why) q = true≢false (ap (λ (x : TermFault). is_term_full {A = Made} (Err x)) (sym (refused_flush w.term why q)) ∙ ap is_term_full (sym q) ∙ room)
     by (Ok x) q =
         stuck Flush (record w { term = x.0; up = w.up ++ x.1 })
         (record {
           own = refl;
           stepped = ap (after_compose w) q;
-          changes = λ same. some-none (sym (made x q) ∙ ap (λ (v : PlainWorld). v.term.unsent) same ∙ e);
+          changes = λ same. some-none (sym (flush-leaves w.term x q) ∙ ap (λ (v : PlainWorld). v.term.unsent) same ∙ e);
         })
       where
         some-none : None ≡ Some u → ⊥
@@ -120,7 +121,7 @@ held-applies w e es room free none held stuck = by (act_of w.term) refl
 
     by : (a : Result (PlainTerminal × Acted) TermFault) → act_of w.term ≡ a → ⊥
     by (Err why) q =
-        true≢false (ap (λ (x : TermFault). is_term_full (Err {A = PlainTerminal × Acted} x)) (sym (refused_act w.term why q)) ∙ ap is_term_full (sym q) ∙ room)
+        true≢false (ap (λ (x : TermFault). is_term_full {A = PlainTerminal × Acted} (Err x)) (sym (refused_act w.term why q)) ∙ ap is_term_full (sym q) ∙ room)
     by (Ok x) q =
         stuck Act (record w { term = x.0; up = w.up ++ composed_by x.1 })
         (record {

@@ -1,5 +1,6 @@
 -- Steps come to an end.
-use Rattle.sam_world.proofs.Common.{◌≡◌, ℕ, zero, suc, ◌+◌, ◌<◌, ◌≤◌, true, false, List, [], ◌∷◌, ◌++◌, length, Option, Some, None, ◌⊎◌, inl, inr, same_Some, refl, sym, ap, ◌∙◌, subst, arith, true≢false, append-nil, PlainTerminal, Made, frame_outcome, event_outcome, first_of_checks, event_checks, UserEvent, Tmesg, Hmesg, HFrame, AreGiven, new_world, PlainWorld, step_of, run_of, mesgs, IsInOrder, WasReached}
+use Rattle.std.proofs.Common.{true≢false}
+use Rattle.sam_world.proofs.Common.{◌≡◌, ℕ, zero, suc, ◌+◌, ◌<◌, ◌≤◌, true, false, List, [], ◌∷◌, ◌++◌, length, Option, Some, None, ◌⊎◌, inl, inr, same_Some, refl, sym, ap, ◌∙◌, subst, arith, append-nil, PlainTerminal, Made, frame_outcome, event_outcome, first_of_checks, event_checks, UserEvent, Tmesg, Hmesg, HFrame, AreGiven, new_world, PlainWorld, step_of, run_of, mesgs, IsInOrder, WasReached}
 use Rattle.std.proofs.Common.{◌≢◌}
 use Rattle.sam_term.specs.Term.{unsent_message, window_at, all_composed}
 use Rattle.sam_term.specs.declared.records.Unsent.{Unsent}
@@ -227,16 +228,16 @@ abbrev BoundedBelow : ℕ → Type 0
 BoundedBelow k = (w : PlainWorld) → IsKept w → length w.term.held < k → IsBounded w
 
 bounded-left : (k : ℕ) → BoundedBelow k → (m : ℕ) (w : PlainWorld) → IsKept w → length w.term.held ≤ k → left_in w ≤ m → IsBounded w
-bounded-left k fewer zero w kept h l = bounded-all w kept (λ next kn lower. to next kn lower)
+bounded-left k fewer zero w kept h l = bounded-all w kept to
   where
     to : After w
     to next kn (inl lower) = fewer next kn (omega (arith, lower, h))
     to next kn (inr lower) = absurd (omega (arith, lower.0, l))
-bounded-left k fewer (suc m) w kept h l = bounded-all w kept to
+bounded-left k fewer (suc m) w kept h l = bounded-all w kept (to (λ v kv hv lv. bounded-left k fewer m v kv hv lv))
   where
-    to : After w
-    to next kn (inl lower) = fewer next kn (omega (arith, lower, h))
-    to next kn (inr lower) = bounded-left k fewer m next kn (omega (arith, ap (λ (es : List UserEvent). length es) lower.1, h)) (omega (arith, lower.0, l))
+    to : ((v : PlainWorld) → IsKept v → length v.term.held ≤ k → left_in v ≤ m → IsBounded v) → After w
+    to less next kn (inl lower) = fewer next kn (omega (arith, lower, h))
+    to less next kn (inr lower) = less next kn (omega (arith, ap (λ (es : List UserEvent). length es) lower.1, h)) (omega (arith, lower.0, l))
 
 bounded-below : (k : ℕ) → BoundedBelow k
 bounded-below zero w kept l = absurd (omega arith)

@@ -10,7 +10,7 @@ use Rattle.sam_rest.proofs.Actions.{is_fill, fills, Answer, NoAnswer}
 -- ## Gaps of a partial text
 
 pub gaps-append : (xs ys : PartialText) → gaps (xs ++ ys) ≡ gaps xs + gaps ys
-gaps-append [] ys = refl
+gaps-append [] ys = omega arith
 gaps-append (None ∷ xs) ys = omega (arith, gaps-append xs ys)
 gaps-append (Some c ∷ xs) ys = gaps-append xs ys
 
@@ -31,8 +31,8 @@ gaps-load r p s =
     let front = gaps-parts p r in
     let back = gaps-parts (length s) (drop p r) in
     let far : drop (length s) (drop p r) ≡ drop (p + length s) r = drop-drop (length s) p r in
-    let all : gaps (load_cells r p s) ≡ gaps (take p r) + (gaps (map Some s) + gaps (drop (p + length s) r)) =
-    gaps-append (take p r) (map Some s ++ drop (p + length s) r) ∙ ap (λ k. gaps (take p r) + k) (gaps-append (map Some s) (drop (p + length s) r)) in
+    let all : gaps (load_cells r p s) ≡ gaps (take p r) + gaps (map Some s) + gaps (drop (p + length s) r) =
+    gaps-append (take p r ++ map Some s) (drop (p + length s) r) ∙ ap (λ k. k + gaps (drop (p + length s) r)) (gaps-append (take p r) (map Some s)) in
     omega (arith, front, back, ap gaps far, all, gaps-loaded s)
 
 -- ## Gaps at one file
@@ -94,11 +94,11 @@ late-skips (a ∷ s) u k = grind (arith, (late-skips s u k), (fills-skips s u k)
 run-skips : (s u : List Action) (v : Lens) → AreSkips u → run (s ++ u) v ≡ run s v
 run-skips [] [] v k = refl
 run-skips [] (a ∷ u) v k = grind (arith, (run-skips [] u v k.1))
-run-skips (a ∷ s) u v k = go (move a v)
+run-skips (a ∷ s) u v k = go (move a v) (λ w. run-skips s u w k)
   where
-    go : (o : Option Lens) → moved_then o (run (s ++ u)) ≡ moved_then o (run s)
-    go None = refl
-    go (Some w) = run-skips s u w k
+    go : (o : Option Lens) → ((w : Lens) → run (s ++ u) w ≡ run s w) → moved_then o (run (s ++ u)) ≡ moved_then o (run s)
+    go None same = refl
+    go (Some w) same = same w
 
 pub wants-skips : (s u : List Action) (v : Lens) → AreSkips u → wants (s ++ u) v ≡ wants s v
 wants-skips s u v k = grind (arith, (late-skips s u k), (run-skips s u v k))

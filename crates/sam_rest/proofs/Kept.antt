@@ -1,5 +1,5 @@
 -- What every run keeps: each Hdata that comes was asked for, and in the end no request is awaited.
-use Rattle.sam_crossing.proofs.Common.{◌≡◌, ℕ, zero, suc, ◌+◌, Bool, true, false, not, ◌||◌, ◌==◌, if◌then◌else◌, List, [], ◌∷◌, ◌++◌, length, Option, Some, None, ◌⊎◌, inl, inr, refl, sym, ap, ◌∙◌, subst, true≢false, arith, append-nil, append_assoc, eq-eqb, eqb-true, not-false, first_of_checks, Tmesg, Trequest, Tack, Hmesg, Hcheck, Hunlockfile, Hack, Hdata, PlainHost, Reply, Window, Unsent, PlainTerminal, Made, window_at, is_open, put_window, frame_outcome, event_checks, event_outcome, flushed, unsent_message, sends, sends_all, unchanged, requests_for, all_wanted, requested, made_by_view, made_by_load, UserEvent, Lens, Action, Skip, Fill, Free_file, AllComeToSync, InOrder, at_file, action, only, answers, reply_of, replied_then, effect, view, views}
+use Rattle.sam_crossing.proofs.Common.{◌≡◌, ℕ, zero, suc, ◌+◌, Bool, true, false, not, ◌||◌, ◌==◌, if◌then◌else◌, List, [], ◌∷◌, ◌++◌, length, Option, Some, None, ◌⊎◌, inl, inr, refl, sym, ap, ◌∙◌, subst, true≢false, arith, append-nil, append_assoc, eq-eqb, eqb-true, not-false, first_of_checks, Tmesg, Trequest, Tack, Hmesg, Hcheck, Hunlockfile, Hack, Hdata, PlainHost, counted, Reply, Window, Unsent, PlainTerminal, Made, window_at, is_open, put_window, frame_outcome, event_checks, event_outcome, flushed, unsent_message, sends, sends_all, unchanged, requests_for, all_wanted, requested, made_by_view, made_by_load, UserEvent, Lens, Action, Skip, Fill, Free_file, AllComeToSync, InOrder, file_in, at_file, action, only, answers, reply_of, replied_then, effect, view, views}
 use Rattle.sam_term.specs.Term.{wanted, sends_if, request_for, gaps_shown}
 use Rattle.sam_term.specs.LockCounts.{asks_for, requests, awaited_left}
 use Rattle.sam_term.proofs.LockLaws.{event_awaits, flush_awaits, frame_awaits}
@@ -73,12 +73,12 @@ awaited-one f n h vs line down k p q o x a = by (answered_how s (vs f) _ _ _ (k.
     here : AwaitsAll n s
     here = subst (AwaitsAll n) now a
 
-    next : (frames : List Hmesg) → reply_of k.ahead (Trequest f p q) ≡ Some (_, frames) → coming_to f h (line ++ Trequest f p q ∷ []) down ≡ s ++ at_file f frames
+    next : (frames : List Hmesg) → reply_of k.ahead (Trequest f p q) ≡ Some (counted k.ahead, frames) → coming_to f h (line ++ Trequest f p q ∷ []) down ≡ s ++ at_file f frames
     next frames e =
-        ap (λ (o : Option Reply). at_file f (down ++ frames_of o)) (coming-one f h vs line down k (Trequest f p q) (_, frames) e)
+        ap (λ (o : Option Reply). at_file f (down ++ frames_of o)) (coming-one f h vs line down k (Trequest f p q) (counted k.ahead, frames) e)
         ∙ ap (at_file f) (sym (append_assoc down k.frames frames)) ∙ at_file-append f (down ++ k.frames) frames
 
-    by : NoAnswer s (vs f) _ _ ⊎ Answer s (vs f) _ _ → AwaitsAll (n + 1) (coming_to f h (line ++ Trequest f p q ∷ []) down)
+    by : NoAnswer s (vs f) k.ahead.is_done (file_in k.ahead.files.slots f) ⊎ Answer s (vs f) k.ahead.is_done (file_in k.ahead.files.slots f) → AwaitsAll (n + 1) (coming_to f h (line ++ Trequest f p q ∷ []) down)
     by (inl z) = subst (AwaitsAll (n + 1)) (sym (next [] (request-none k.ahead f p q z.none) ∙ append-nil s)) (awaits-ended s n z.ends here)
     by (inr z) =
         subst (AwaitsAll (n + 1))
@@ -106,7 +106,7 @@ awaited-requests f (y ∷ xs) n h vs line down k o x a =
     exited-still v x = grind (arith, (eq-eqb f f refl))
 
 pub requests-append : (f : ℕ) (ms ns : List Tmesg) → requests f (ms ++ ns) ≡ requests f ms + requests f ns
-requests-append f [] ns = refl
+requests-append f [] ns = omega arith
 requests-append f (m ∷ ms) ns = omega (arith, requests-append f ms ns)
 
 requests-there : (f : ℕ) (xs : List (ℕ × ℕ)) → requests f (requests_for f xs) ≡ length xs
@@ -147,15 +147,14 @@ awaited-sends h u up down k f xs y o x e g n a = by (f == g) refl
     by : (b : Bool) → (f == g) ≡ b → AwaitsAll (n + requests g (first ++ requests_for f xs)) (coming_to g h (up ++ (first ++ requests_for f xs)) down)
     by true q =
         let same : f ≡ g = eqb-true f g q in
-        let many : requests g (first ++ requests_for f xs) ≡ length xs =
-        requests-append g first (requests_for f xs) ∙ ap (λ (k : ℕ). k + requests g (requests_for f xs)) (unsent-asks g u.unsent) ∙ ap (λ (z : ℕ). requests g (requests_for z xs)) same
-        ∙ requests-there g xs in
+        let there : requests g (requests_for f xs) ≡ length xs = ap (λ (z : ℕ). requests g (requests_for z xs)) same ∙ requests-there g xs in
+        let many : requests g (first ++ requests_for f xs) ≡ length xs = omega (arith, requests-append g first (requests_for f xs), unsent-asks g u.unsent, there) in
         rw many
         (subst (λ (l : List Tmesg). AwaitsAll (n + length xs) (coming_to g h l down)) (append_assoc up first (requests_for f xs))
         (subst (λ (z : ℕ). AwaitsAll (n + length xs) (coming_to g h ((up ++ first) ++ requests_for z xs) down)) (sym same)
         (awaited-requests g xs n h (views u) (up ++ first) down k (subst (λ (z : ℕ). IsOpen (view z u)) same o) x flushes)))
     by false q =
         let none : requests g (first ++ requests_for f xs) ≡ 0 =
-        requests-append g first (requests_for f xs) ∙ ap (λ (k : ℕ). k + requests g (requests_for f xs)) (unsent-asks g u.unsent) ∙ requests-elsewhere g f xs q in
+        omega (arith, requests-append g first (requests_for f xs), unsent-asks g u.unsent, requests-elsewhere g f xs q) in
         let same : n + 0 ≡ n = omega arith in
         rw (none, same) (awaited-plain g n h up (first ++ requests_for f xs) down y e none a)

@@ -9,4 +9,4 @@ pub mod Work
 pub mod Ends
 pub mod Done
 pub mod Rule
-pub mod Resting
+pub mod Leading

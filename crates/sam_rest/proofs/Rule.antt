@@ -1,5 +1,6 @@
 -- A drain's rule without its limit: each event of it applies, and a number falls.
-use Rattle.sam_world.proofs.Common.{◌≡◌, ℕ, zero, suc, ◌+◌, ◌<◌, ◌≤◌, Bool, true, false, not, List, [], ◌∷◌, ◌++◌, length, is_some, Option, Some, None, Result, Ok, Err, ◌⊎◌, inl, inr, same_Some, refl, sym, ap, ◌∙◌, subst, arith, true≢false, is_empty, PlainTerminal, Made, act_on, decided, event_outcome, first_of_checks, event_checks, if_countable, Verdict, Acted, Idle, Locked, Done, Refused, TermFault, UserEvent, Tmesg, HFrame, PlainWorld, step_of, next_event, IsInOrder, WasReached, Advances, IsNextFault}
+use Rattle.std.proofs.Common.{true≢false}
+use Rattle.sam_world.proofs.Common.{◌≡◌, ℕ, zero, suc, ◌+◌, ◌<◌, ◌≤◌, Bool, true, false, not, List, [], ◌∷◌, ◌++◌, length, is_some, Option, Some, None, Result, Ok, Err, ◌⊎◌, inl, inr, same_Some, refl, sym, ap, ◌∙◌, subst, arith, is_empty, PlainTerminal, Made, act_on, decided, event_outcome, first_of_checks, event_checks, if_countable, Verdict, Acted, Idle, Locked, Done, Refused, TermFault, UserEvent, Tmesg, HFrame, PlainWorld, step_of, next_event, IsInOrder, WasReached, Advances, IsNextFault}
 use Rattle.std.proofs.Common.{if◌then◌else◌}
 unfoldable use Rattle.sam_world.proofs.Common.{act_of}
 use Rattle.sam_term.specs.declared.records.Unsent.{Unsent}

@@ -16,6 +16,7 @@ use Rattle.sam_local.proofs.Folds.{Parted, parted}
 use Rattle.sam_local.proofs.Takes.{unsent-left}
 use Rattle.sam_rest.proofs.Actions.{left, AwaitsAll}
 use Rattle.sam_rest.proofs.Kept.{frames_of, coming_to, AreAwaited, answers-up, awaited-plain, requests-append, flush-asks, awaited-sends}
+use Rattle.sam_rest.proofs.Frames.{eqb-sym}
 use Rattle.sam_rest.proofs.Quiet.{is_looking, quiet-event}
 
 -- ## The host takes a message
@@ -119,17 +120,8 @@ made-frame h t u up down Hack e k = by t.has_exited
   where
     by : (b : Bool) → Makes h t up down (sends_if (if b then None else Some Tack) u)
     by true = inl (λ g. refl)
-    by false = inl (λ g. requests-append g (flushed u).1 (Tack ∷ []) ∙ ap (λ (n : ℕ). n + 0) (flush-asks g u))
+    by false = inl (λ g. omega (arith, requests-append g (flushed u).1 (Tack ∷ []), flush-asks g u))
 made-frame h t u up down m e k = inl (λ g. grind arith)
-
-eqb-sym : (f g : ℕ) → (f == g) ≡ (g == f)
-eqb-sym f g = by (f == g) (g == f) refl refl
-  where
-    by : (a b : Bool) → (f == g) ≡ a → (g == f) ≡ b → a ≡ b
-    by true true p q = refl
-    by false false p q = refl
-    by true false p q = absurd (true≢false (sym (eq-eqb g f (sym (eqb-true f g p))) ∙ q))
-    by false true p q = absurd (true≢false (sym (eq-eqb f g (sym (eqb-true g f q))) ∙ p))
 
 left-is : (m : Hmesg) (f n : ℕ) → awaited_left m f n ≡ left (action f m) n
 left-is m f n = grind (arith, eqb-sym)

@@ -1,5 +1,5 @@
 -- How much is left to do: a number that each step but an act lowers.
-use Rattle.sam_crossing.proofs.Common.{◌≡◌, ℕ, zero, suc, ◌+◌, ◌<◌, ◌≤◌, Bool, true, false, not, ◌==◌, ◌&&◌, ◌-◌, min, option_map, same_Some, if◌then◌else◌, List, [], ◌∷◌, ◌++◌, length, length-append, Option, Some, None, ◌⊎◌, inl, inr, refl, sym, ap, ◌∙◌, subst, true≢false, arith, append-nil, append_assoc, eq-eqb, eqb-true, is_command_line, Tmesg, Trequest, Ttype, Tack, Hmesg, Hcheck, Hunlockfile, Hack, Hdata, PlainHost, Reply, counted, Unsent, PlainTerminal, Made, window_at, is_open, frame_outcome, slot-put_same, took_unlockfile, composed, flushed, unsent_message, sends, unchanged, most_in_message, part, replicate, PartialText, Lens, lens, Action, Fill, Free_file, move, run, Opened, AllComeToSync, InOrder, IsHeldBack, OpenAt, Anything, at_file, action, answers, reply_of, replied_then, effect, view, views}
+use Rattle.sam_crossing.proofs.Common.{◌≡◌, ℕ, zero, suc, ◌+◌, ◌<◌, ◌≤◌, Bool, true, false, not, ◌==◌, ◌&&◌, ◌-◌, min, option_map, same_Some, if◌then◌else◌, List, [], ◌∷◌, ◌++◌, length, length-append, Option, Some, None, ◌⊎◌, inl, inr, refl, sym, ap, ◌∙◌, subst, true≢false, arith, append-nil, append_assoc, eq-eqb, eqb-true, is_command_line, Tmesg, Trequest, Ttype, Tack, Hmesg, Hcheck, Hunlockfile, Hack, Hdata, PlainHost, Reply, counted, Unsent, PlainTerminal, Made, window_at, is_open, frame_outcome, slot-put_same, took_unlockfile, composed, flushed, unsent_message, sends, unchanged, most_in_message, part, replicate, PartialText, Lens, lens, Action, Fill, Free_file, move, run, Opened, AllComeToSync, InOrder, file_in, IsHeldBack, OpenAt, Anything, at_file, action, answers, reply_of, replied_then, effect, view, views}
 use Rattle.std.specs.Prelude.{◌*◌}
 use Rattle.sam_rasp.specs.Rasp.{hole_within}
 use Rattle.sam_term.specs.Term.{wanted, sends_if, request_for, view_end, front_of}
@@ -62,7 +62,7 @@ weigh-less v w [] l = omega arith
 weigh-less v w (m ∷ ms) l = omega (arith, weight-less v w m l, weigh-less v w ms l)
 
 weigh-append : (w : ℕ → ℕ) (ms ns : List Hmesg) → weigh w (ms ++ ns) ≡ weigh w ms + weigh w ns
-weigh-append w [] ns = refl
+weigh-append w [] ns = omega arith
 weigh-append w (m ∷ ms) ns = omega (arith, weigh-append w ms ns)
 
 weight-some : (w : ℕ → ℕ) (m : Hmesg) → 2 ≤ weight w m
@@ -103,24 +103,24 @@ work-alike a b fs gs vs ws e same =
     subst (λ (x : List Hmesg). weigh (all_wants x ws) x ≤ weigh (all_wants fs vs) fs) e
     (weigh-less (all_wants fs ws) (all_wants fs vs) fs (λ f. let here : all_wants fs ws f ≡ all_wants fs vs f = ap (wants (at_file f fs)) (same f) in omega (arith, here)))
 
+flushed-is : (t : PlainTerminal) → (flushed t).1 ≡ unsent_message t.unsent
+unfolding flushed
+flushed-is t = refl
+
 pub work-flush : (h : PlainHost) (t : PlainTerminal) (up : List Tmesg) (down : List Hmesg) (u : Unsent) → InOrder h t up down → t.unsent ≡ Some u
     → work h (flushed t).0 (up ++ (flushed t).1) down < work h t up down
 unfolding work
 work-flush h t up down u o e =
     let none = unsent-flushed t in
     let line : (up ++ (flushed t).1) ++ unsent_message (flushed t).0.unsent ≡ up ++ unsent_message t.unsent =
-    ap (λ (n : Option Unsent). (up ++ (flushed t).1) ++ unsent_message n) none ∙ append-nil (up ++ (flushed t).1) ∙ ap (λ (l : List Tmesg). up ++ l) (first t) in
+    ap (λ (n : Option Unsent). (up ++ (flushed t).1) ++ unsent_message n) none ∙ append-nil (up ++ (flushed t).1) ∙ ap (λ (l : List Tmesg). up ++ l) (flushed-is t) in
     let same : coming h t up down ≡ coming h (flushed t).0 (up ++ (flushed t).1) down = ap (λ (l : List Tmesg). down ++ frames_of (answers h l)) (sym line) in
     let less = work-alike 0 0 (coming h t up down) (coming h (flushed t).0 (up ++ (flushed t).1) down) (views t) (views (flushed t).0) same (view-sent t (no-line t o.unsent)) in
-    let one : length (flushed t).1 ≡ 1 = ap (λ (l : List Tmesg). length l) (first t ∙ ap unsent_message e) in
+    let one : length (flushed t).1 ≡ 1 = ap (λ (l : List Tmesg). length l) (flushed-is t ∙ ap unsent_message e) in
     let many : length (up ++ (flushed t).1) ≡ length up + length (flushed t).1 = length-append up (flushed t).1 in
     let was : length (unsent_message t.unsent) ≡ 1 = ap (λ (n : Option Unsent). length (unsent_message n)) e in
     let now : length (unsent_message (flushed t).0.unsent) ≡ 0 = ap (λ (n : Option Unsent). length (unsent_message n)) none in
     omega (arith, less, one, many, was, now)
-  where
-    first : (t : PlainTerminal) → (flushed t).1 ≡ unsent_message t.unsent
-    unfolding flushed
-    first t = refl
 
 -- ## A frame
 
@@ -255,27 +255,27 @@ asked h u up down k line f p q o x gap quiet = by (answered_how (at_file f frame
     here-view : view f z ≡ locked_more (view f u)
     here-view = shown u f p q f line o ∙ ap (λ (b : Bool). if b then locked_more (view f u) else view f u) (eq-eqb f f refl)
 
-    by : NoAnswer (at_file f frames) (view f u) _ _ ⊎ Answer (at_file f frames) (view f u) _ _
+    by : NoAnswer (at_file f frames) (view f u) k.ahead.is_done (file_in k.ahead.files.slots f) ⊎ Answer (at_file f frames) (view f u) k.ahead.is_done (file_in k.ahead.files.slots f)
         → work h z (up ++ ((flushed u).1 ++ Trequest f p q ∷ [])) down
         < work_of (length up) (length (unsent_message u.unsent)) (coming h u up down) (views u) + (2 + 4 * all_wants (coming h u up down) (views u) f)
-    by (inl no) =
-        let sent = sent-one h u up down (Trequest f p q) k (counted k.ahead, []) (request-none k.ahead f p q no.none) in
+    by (inl mute) =
+        let sent = sent-one h u up down (Trequest f p q) k (counted k.ahead, []) (request-none k.ahead f p q mute.none) in
         let wants-same : all_wants (frames ++ []) (views z) f ≡ all_wants frames (views u) f =
         ap (λ (fs : List Hmesg). wants (at_file f fs) (view f z)) (append-nil frames) ∙ ap (wants (at_file f frames)) here-view
-        ∙ ap (λ (r : Option Lens). gaps_in r + late (at_file f frames)) no.same in
+        ∙ ap (λ (r : Option Lens). gaps_in r + late (at_file f frames)) mute.same in
         let less = weigh-less (all_wants (frames ++ []) (views z)) (all_wants frames (views u)) frames (lower [] (λ g e. tt) (omega (arith, wants-same))) in
         let now : weigh (all_wants (coming h u up down ++ []) (views z)) (coming h u up down ++ []) ≡ weigh (all_wants (frames ++ []) (views z)) frames =
         ap (λ (fs : List Hmesg). weigh (all_wants (fs ++ []) (views z)) (fs ++ [])) same ∙ ap (weigh (all_wants (frames ++ []) (views z))) (append-nil frames) in
         omega (arith, sent.number, less, now, was)
-    by (inr yes) =
-        let told = Hdata f (data_at yes.text p) (data_of yes.text p q) ∷ Hunlockfile f ∷ [] in
-        let sent = sent-one h u up down (Trequest f p q) k (counted k.ahead, told) (request-data k.ahead f p q yes.text yes.runs yes.opened) in
+    by (inr answer) =
+        let told = Hdata f (data_at answer.text p) (data_of answer.text p q) ∷ Hunlockfile f ∷ [] in
+        let sent = sent-one h u up down (Trequest f p q) k (counted k.ahead, told) (request-data k.ahead f p q answer.text answer.runs answer.opened) in
         let w = all_wants (frames ++ told) (views z) in
-        let there : w f ≡ wants (at_file f frames ++ data_actions yes.text p q) (locked_more (view f u)) =
+        let there : w f ≡ wants (at_file f frames ++ data_actions answer.text p q) (locked_more (view f u)) =
         ap (wants (at_file f (frames ++ told))) here-view
-        ∙ ap (λ (s : List Action). wants s (locked_more (view f u))) (at_file-append f frames told ∙ ap (λ (s : List Action). at_file f frames ++ s) (data-there f (data_at yes.text p) (data_of yes.text p q))) in
-        let fewer : w f < all_wants frames (views u) f = omega (arith, there, wants-less (at_file f frames) (view f u) _ _ yes p q gap none) in
-        let less = weigh-less w (all_wants frames (views u)) frames (lower told (λ g e. data-elsewhere f g (data_at yes.text p) (data_of yes.text p q) e) (omega (arith, fewer))) in
+        ∙ ap (λ (s : List Action). wants s (locked_more (view f u))) (at_file-append f frames told ∙ ap (λ (s : List Action). at_file f frames ++ s) (data-there f (data_at answer.text p) (data_of answer.text p q))) in
+        let fewer : w f < all_wants frames (views u) f = omega (arith, there, wants-less (at_file f frames) (view f u) _ _ answer p q gap none) in
+        let less = weigh-less w (all_wants frames (views u)) frames (lower told (λ g e. data-elsewhere f g (data_at answer.text p) (data_of answer.text p q) e) (omega (arith, fewer))) in
         let now : weigh (all_wants (coming h u up down ++ told) (views z)) (coming h u up down ++ told) ≡ weigh w frames + (2 + ((2 + 4 * w f) + 0)) =
         ap (λ (fs : List Hmesg). weigh (all_wants (fs ++ told) (views z)) (fs ++ told)) same ∙ weigh-append w frames told in
         omega (arith, sent.number, less, now, was, fewer)
@@ -352,7 +352,7 @@ work-frame h t up m down o n awaits =
     -- a frame of f that asks for nothing of its own
     asks : (f : ℕ) (y : Hmesg) → y ≡ m → weight (all_wants fs (views u)) y ≡ 2 + 4 * all_wants fs (views u) f → ((n : ℕ) → left (action f y) n ≡ n) → IsAlike (effect t y) t f → Falls (wanted (effect t y) f)
     asks f y e weighs stays alike =
-        subst (λ (v : PlainTerminal). Falls (wanted v f)) (ap (effect t) e)
+        subst (λ (v : PlainTerminal). Falls (wanted v f)) (sym (ap (effect t) e))
         (wanting f (ap (weight (all_wants fs (views u))) (sym e) ∙ weighs) (subst (λ (v : PlainTerminal). (window_at v f).view_start ≤ length (window_at v f).rasp) (ap (effect t) e) tidy) quiet)
       where
         tidy : (window_at (effect t y) f).view_start ≤ length (window_at (effect t y) f).rasp

@@ -3,7 +3,6 @@ ghost use Rattle.sam_rest.specs.Rest.{DoneIsStuck, StepsEnd, StuckIsDone};
 
 /// Says that where no event but the user's would change anything, all is done: nothing is unsent, under way, held or locked, and no
 /// request awaits its data. This supposes that the counts of messages have room. And where all is done, no such event changes anything.
-#[tactic(auto, using(crate::proofs::Done::stuck_is_done, crate::proofs::Done::done_is_stuck))]
 pub fn stuck_is_done()
     ensures done { StuckIsDone }
     ensures stuck { DoneIsStuck }

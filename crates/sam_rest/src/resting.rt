@@ -14,7 +14,7 @@ use sam_world::{Event, StepFault, World};
 /// Errors: `CountFull` comes only if the next event would take a count of messages past 2^64-1. `OutOfMemory` may come at any event,
 /// and even where no event applies any more. `NothingThere` never comes. After an error the events before it have happened, and the next
 /// one has not.
-#[tactic(auto, using(crate::proofs::Resting::resting_facts))]
+#[tactic(auto, using(crate::proofs::Leading::resting_facts))]
 pub fn rest(world: &mut World) -> Result<(), StepFault>
     ensures done { OnOk result (ComesToRest world.old world.new) }
     ensures stopped { IfErr result (λ why. StopsOnTheWay world.old world.new why) }
@@ -24,7 +24,7 @@ pub fn rest(world: &mut World) -> Result<(), StepFault>
 }
 
 /// Makes the next event of a drain happen, and returns false if and only if none applies.
-#[tactic(auto, using(crate::proofs::Resting::event_facts))]
+#[tactic(auto, using(crate::proofs::Leading::event_facts))]
 fn advance(world: &mut World) -> Result<bool, StepFault>
     ensures advanced { IfOk result (λ went. MatchBool went (Advances world.old world.new)
         ((next_event world.old ≡ None) × (world.new ≡ world.old))) }

@@ -1,4 +1,4 @@
-use Rattle.sam_rest.proofs.Resting.{Led}
+use Rattle.sam_rest.proofs.Leading.{Led}
 use Rattle.sam_rest.proofs.Rule.{steps_left}
 use Rattle.sam_rest.proofs.resting.rest.Given as goal
 

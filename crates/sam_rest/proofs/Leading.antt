@@ -1,5 +1,6 @@
 -- What `rest` and its steps rest on.
-use Rattle.sam_world.proofs.Common.{◌≡◌, ℕ, ◌<◌, Bool, true, false, List, [], ◌∷◌, ◌++◌, length, is_some, Option, Some, None, ◌⊎◌, inl, inr, refl, sym, ap, ◌∙◌, subst, arith, true≢false, is_empty, UserEvent, Tmesg, HFrame, PlainWorld, step_of, next_event, WasReached, Advances, IsNextFault}
+use Rattle.std.proofs.Common.{true≢false}
+use Rattle.sam_world.proofs.Common.{◌≡◌, ℕ, ◌<◌, Bool, true, false, List, [], ◌∷◌, ◌++◌, length, is_some, Option, Some, None, ◌⊎◌, inl, inr, refl, sym, ap, ◌∙◌, subst, arith, is_empty, UserEvent, Tmesg, HFrame, PlainWorld, step_of, next_event, WasReached, Advances, IsNextFault}
 use Rattle.sam_world.specs.Faults.{IsFaultOf}
 use Rattle.sam_world.specs.World.{acts}
 unfoldable use Rattle.sam_world.proofs.Common.{act_of}
