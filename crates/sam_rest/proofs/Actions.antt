@@ -1,7 +1,7 @@
 -- How many requests of a file are awaited, through what is under way to it.
-use Rattle.sam_crossing.proofs.Common.{◌≡◌, ℕ, zero, suc, ◌+◌, ◌-◌, ◌<◌, Bool, true, false, not, ◌||◌, if◌then◌else◌, List, [], ◌∷◌, ◌++◌, Option, Some, ◌⊎◌, inl, inr, refl, sym, ap, ◌∙◌, subst, true≢false, append-nil, arith, or_cases, Lens, lens, Open, Action, Skip, Join, Bind, Close, Leave, Grow, Fill, Insert, Cut, Free_file, Exit, move, run, closes, HFile, Opened, Gone, ComesToSync, Agrees}
-use Rattle.sam_crossing.proofs.Lenses.{IsOpen, locked_more, exited_of, exits, AreSkips, request_actions}
-use Rattle.sam_crossing.proofs.Runs.{Stepped, stepped, RunsMore, runs_more, exited_after}
+use Rattle.sam_crossing.proofs.Common.{◌≡◌, ℕ, ◌+◌, ◌-◌, ◌<◌, Bool, true, false, ◌||◌, List, [], ◌∷◌, ◌++◌, Option, Some, ◌⊎◌, inl, inr, refl, sym, ap, ◌∙◌, arith, or_cases, Lens, lens, Open, Action, Join, Bind, Close, Leave, Fill, Free_file, Exit, run, closes, HFile, Opened, Gone, ComesToSync, Agrees}
+use Rattle.sam_crossing.proofs.Lenses.{IsOpen, locked_more, exited_of, exits}
+use Rattle.sam_crossing.proofs.Runs.{stepped, RunsMore, runs_more, exited_after}
 use Rattle.sam_crossing.proofs.AllComeToSync.{synced_open}
 
 abbrev pub is_fill : Action → Bool

@@ -1,17 +1,16 @@
 -- Where nothing applies, all is done; and where all is done, nothing applies.
 use Rattle.std.proofs.Common.{true≢false}
-use Rattle.sam_world.proofs.Common.{◌≡◌, ℕ, zero, suc, ◌+◌, ◌<◌, Bool, true, false, not, List, [], ◌∷◌, ◌++◌, length, is_some, Option, Some, None, Result, Ok, Err, ◌⊎◌, inl, inr, same_Some, refl, sym, ap, ◌∙◌, subst, arith, append-nil, is_empty, PlainHost, answer, HostFault, PlainTerminal, Made, act_on, decided, event_outcome, first_of_checks, event_checks, if_countable, window_at, Verdict, Acted, Idle, Locked, Done, Refused, TermFault, UserEvent, Tmesg, Hmesg, HFrame, PlainWorld, step_of, after_act, after_answer, after_compose, host_takes, term_takes, composed_by, mesgs, IsInOrder, WasReached}
-use Rattle.std.specs.Prelude.{◌&&◌, ◌||◌}
+use Rattle.sam_world.proofs.Common.{◌≡◌, ℕ, Bool, true, false, not, List, [], ◌∷◌, ◌++◌, length, is_some, Option, Some, None, Result, Ok, Err, ◌⊎◌, inl, inr, refl, sym, ap, ◌∙◌, subst, arith, is_empty, PlainHost, answer, HostFault, PlainTerminal, Made, act_on, decided, event_outcome, first_of_checks, event_checks, window_at, Verdict, Acted, Done, TermFault, UserEvent, Tmesg, HFrame, PlainWorld, step_of, after_act, after_answer, after_compose, host_takes, term_takes, composed_by, mesgs, IsInOrder, WasReached}
+use Rattle.std.specs.Prelude.{◌&&◌}
 unfoldable use Rattle.sam_world.proofs.Common.{act_of, flush_of, flushed, take_of}
-use Rattle.sam_term.specs.Term.{is_any_locked, is_file_locked, unsent_message}
-use Rattle.sam_term.specs.Events.{file_of, waits_for_all}
+use Rattle.sam_term.specs.Term.{is_any_locked, is_file_locked}
+use Rattle.sam_term.specs.Events.{file_of}
 use Rattle.sam_term.specs.declared.records.Unsent.{Unsent}
 use Rattle.sam_term.specs.declared.event.Verdict.TheVariants.{Waits, Refuses}
 use Rattle.sam_term.specs.declared.fault.TermFault.TheVariants as term
-use Rattle.sam_host.specs.declared.fault.HostFault.TheVariants as host
 use Rattle.std.proofs.Common.{if◌then◌else◌, nat_lt}
 use Rattle.sam_runes.specs.Texts.{most_count}
-use Rattle.sam_world.specs.World.{is_quiet, is_unlocked, SidesAgree, acts, next_event}
+use Rattle.sam_world.specs.World.{is_quiet, SidesAgree, acts, next_event}
 use Rattle.sam_world.specs.Counts.{is_term_full, is_host_full, passes_at, composes_past, passes_count}
 use Rattle.sam_world.specs.declared.event.Event.{Event}
 use Rattle.sam_world.specs.declared.event.Event.TheVariants.{User, Act, Flush, HostTake, TermTake}
@@ -21,10 +20,10 @@ use Rattle.sam_crossing.proofs.Passing.{none_locked}
 use Rattle.sam_crossing.proofs.Views.{unsent-flushed}
 use Rattle.sam_local.specs.Worlds.{is_at_rest}
 use Rattle.sam_local.proofs.Held.{event-held}
-use Rattle.sam_rest.specs.Rest.{is_user, Applies, IsStuck, HasRoom, IsDone, StuckIsDone, DoneIsStuck}
-use Rattle.sam_rest.proofs.Taking.{Idles, Acts, act-takes, Flushes, flush-takes}
+use Rattle.sam_rest.specs.Rest.{is_user, IsStuck, IsDone, StuckIsDone, DoneIsStuck}
+use Rattle.sam_rest.proofs.Taking.{Idles, Acts, act-takes, flush-takes}
 use Rattle.sam_rest.proofs.Actions.{AwaitsAll}
-use Rattle.sam_rest.proofs.Kept.{AreAwaited, coming_to}
+use Rattle.sam_rest.proofs.Kept.{coming_to}
 use Rattle.sam_rest.proofs.Ends.{IsKept, kept-of, nothing-flushed}
 
 -- ## What applies where something is left

@@ -1,8 +1,8 @@
 -- Which answers have data, and what a request is answered by.
-use Rattle.sam_crossing.proofs.Common.{◌≡◌, ℕ, suc, ◌+◌, ◌-◌, ◌<◌, slot, min, Bool, true, false, not, ◌||◌, ◌&&◌, ◌==◌, if◌then◌else◌, List, [], ◌∷◌, ◌++◌, length, drop, reverse, flat_map, Option, Some, None, ◌⊎◌, inl, inr, refl, sym, ap, ◌∙◌, subst, true≢false, arith, rules, common_steps, eq-eqb, eqb-true, same_Some, is_empty, part, Range, searched, max_runes, most_in_message, Slots, PlainFile, PlainFiles, PlainOutcome, file_at, has_file, Tmesg, Tversion, Tstartcmdfile, Tstartfile, Ttype, Tpaste, Tstartnewfile, Tclose, Tlook, Tsearch, Tsend, Trequest, Hmesg, Hdata, Hunlockfile, Hversion, Hack, Hunlock, Hexit, Hgrow, Hgrowdata, Hsetdot, Hcheck, Hcut, Hdirty, Hmovname, Hsetpat, nat_le, nat_lt, is_printed, committed, common_version, Hnewname, Hbindname, Hcurrent, command_name, no_tag_left, ends_line, typed_file, with_file, with_files, may_look, searched_for, as_lines, last_line, has_room, after_print, PlainHost, Reply, HostFault, counted, host_checks, first_of_checks, reply_to, reply_found, reply_line, reply_request, grown, printed, told_edit, told_length, told_names, told_outcome, when, when_given, answers, reply_of, replied_then, at_file, action, only, file_in, Opened, Gone}
+use Rattle.sam_crossing.proofs.Common.{◌≡◌, ℕ, ◌+◌, ◌-◌, ◌<◌, slot, min, Bool, true, false, not, ◌||◌, ◌&&◌, ◌==◌, if◌then◌else◌, List, [], ◌∷◌, ◌++◌, length, drop, reverse, flat_map, Option, Some, None, ◌⊎◌, inl, inr, refl, sym, ap, ◌∙◌, subst, true≢false, arith, eq-eqb, eqb-true, same_Some, is_empty, part, Range, searched, max_runes, most_in_message, Slots, PlainFile, PlainFiles, PlainOutcome, file_at, has_file, Tmesg, Tversion, Tstartcmdfile, Tstartfile, Ttype, Tpaste, Tstartnewfile, Tclose, Tlook, Tsearch, Tsend, Trequest, Hmesg, Hdata, Hunlockfile, Hversion, Hack, Hunlock, Hexit, Hgrow, Hgrowdata, Hsetdot, Hcheck, Hcut, Hdirty, Hmovname, Hsetpat, nat_le, nat_lt, is_printed, committed, common_version, Hnewname, Hbindname, Hcurrent, command_name, no_tag_left, ends_line, typed_file, with_file, with_files, may_look, searched_for, as_lines, last_line, has_room, after_print, PlainHost, Reply, HostFault, counted, host_checks, first_of_checks, reply_to, reply_found, reply_line, reply_request, grown, printed, told_edit, told_length, told_names, told_outcome, when, when_given, answers, reply_of, replied_then, at_file, file_in, Opened, Gone}
 unfoldable use Rattle.sam_host.proofs.EachFrame.{replies_opened}
 use Rattle.sam_runes.specs.declared.edit.Edit.{Edit}
-use Rattle.sam_host.specs.Host.{told_dirty, told_paste, told_found, told_at}
+use Rattle.sam_host.specs.Host.{told_dirty, told_found, told_at}
 use Rattle.sam_text.specs.Files.{opened_file}
 use Rattle.sam_runes.specs.Texts.{all_tags}
 use Rattle.sam_text.specs.Meaning.{meaning}
@@ -10,7 +10,7 @@ use Rattle.sam_term.specs.LockCounts.{asks_for, requests}
 use Rattle.sam_crossing.specs.Fold.{replied, behind}
 use Rattle.sam_crossing.proofs.HostFiles.{opens_at, gone_at}
 use Rattle.sam_crossing.proofs.Folds.{plain_reply}
-use Rattle.sam_rest.proofs.Actions.{is_fill, fills}
+use Rattle.sam_rest.proofs.Actions.{fills}
 use Rattle.sam_rest.proofs.Gaps.{data_at, data_of}
 
 -- ## Lists of frames without data of f

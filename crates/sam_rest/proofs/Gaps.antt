@@ -1,11 +1,11 @@
 -- The gaps of a file that are left once all that is under way has come, and what a request for one of them does to them.
-use Rattle.sam_crossing.proofs.Common.{◌≡◌, ℕ, zero, suc, ◌+◌, ◌-◌, ◌<◌, ◌≤◌, min, Bool, true, false, ◌||◌, if◌then◌else◌, nat_le, le-leb, List, [], ◌∷◌, ◌++◌, length, map, take, drop, replicate, Option, Some, None, ◌⊎◌, inl, inr, refl, sym, ap, ◌∙◌, append-nil, append_assoc, take-append-drop, length-take, length-drop, arith, most_in_message, part, length_agrees, Agrees, PartialText, load_cells, Lens, lens, Unknown, Known, Open, Action, Skip, Join, Bind, Close, Leave, Grow, Fill, Insert, Cut, Free_file, Exit, move, run, HFile}
+use Rattle.sam_crossing.proofs.Common.{◌≡◌, ℕ, zero, suc, ◌+◌, ◌-◌, ◌<◌, ◌≤◌, min, Bool, true, false, ◌||◌, if◌then◌else◌, le-leb, List, [], ◌∷◌, ◌++◌, length, map, take, drop, replicate, Option, Some, None, refl, sym, ap, ◌∙◌, take-append-drop, length-take, length-drop, arith, most_in_message, part, length_agrees, Agrees, PartialText, load_cells, Lens, lens, Unknown, Known, Open, Action, Join, Bind, Close, Leave, Grow, Fill, Insert, Cut, Free_file, move, run, HFile}
 use Rattle.std.proofs.lemmas.List.{drop-drop}
 use Rattle.sam_crossing.specs.Lens.{moved_then}
 use Rattle.sam_term.specs.Loading.{gaps}
-use Rattle.sam_crossing.proofs.Lenses.{IsOpen, locked_more, AreSkips}
-use Rattle.sam_crossing.proofs.Runs.{Stepped, stepped, run-append_some}
-use Rattle.sam_rest.proofs.Actions.{is_fill, fills, Answer, NoAnswer}
+use Rattle.sam_crossing.proofs.Lenses.{locked_more, AreSkips}
+use Rattle.sam_crossing.proofs.Runs.{stepped, run-append_some}
+use Rattle.sam_rest.proofs.Actions.{is_fill, fills, Answer}
 
 -- ## Gaps of a partial text
 

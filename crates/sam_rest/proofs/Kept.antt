@@ -1,16 +1,12 @@
 -- What every run keeps: each Hdata that comes was asked for, and in the end no request is awaited.
-use Rattle.sam_crossing.proofs.Common.{◌≡◌, ℕ, zero, suc, ◌+◌, Bool, true, false, not, ◌||◌, ◌==◌, if◌then◌else◌, List, [], ◌∷◌, ◌++◌, length, Option, Some, None, ◌⊎◌, inl, inr, refl, sym, ap, ◌∙◌, subst, true≢false, arith, append-nil, append_assoc, eq-eqb, eqb-true, not-false, first_of_checks, Tmesg, Trequest, Tack, Hmesg, Hcheck, Hunlockfile, Hack, Hdata, PlainHost, counted, Reply, Window, Unsent, PlainTerminal, Made, window_at, is_open, put_window, frame_outcome, event_checks, event_outcome, flushed, unsent_message, sends, sends_all, unchanged, requests_for, all_wanted, requested, made_by_view, made_by_load, UserEvent, Lens, Action, Skip, Fill, Free_file, AllComeToSync, InOrder, file_in, at_file, action, only, answers, reply_of, replied_then, effect, view, views}
-use Rattle.sam_term.specs.Term.{wanted, sends_if, request_for, gaps_shown}
-use Rattle.sam_term.specs.LockCounts.{asks_for, requests, awaited_left}
-use Rattle.sam_term.proofs.LockLaws.{event_awaits, flush_awaits, frame_awaits}
-use Rattle.sam_crossing.specs.Fold.{behind}
-use Rattle.sam_crossing.specs.View.{composed_for}
+use Rattle.sam_crossing.proofs.Common.{◌≡◌, ℕ, suc, ◌+◌, Bool, true, false, ◌==◌, List, [], ◌∷◌, ◌++◌, length, Option, Some, None, ◌⊎◌, inl, inr, refl, sym, ap, ◌∙◌, subst, arith, append-nil, append_assoc, eq-eqb, eqb-true, Tmesg, Trequest, Hmesg, Hunlockfile, Hdata, PlainHost, counted, Reply, Unsent, PlainTerminal, window_at, flushed, unsent_message, requests_for, Lens, Action, Fill, Free_file, AllComeToSync, InOrder, file_in, at_file, answers, reply_of, view, views}
+use Rattle.sam_term.specs.LockCounts.{requests}
 use Rattle.sam_crossing.proofs.Lenses.{IsOpen, exited_of, AreSkips}
 use Rattle.sam_crossing.proofs.Changes.{Lock, changed}
 use Rattle.sam_crossing.proofs.Folds as folds
 use Rattle.sam_crossing.proofs.Guards.{at_file-append}
 use Rattle.sam_local.proofs.Folds.{Parted, parted}
-use Rattle.sam_rest.proofs.Actions.{is_fill, left, AwaitsAll, awaits-more, awaits-ended, awaits-data, NoAnswer, Answer, answered_how}
+use Rattle.sam_rest.proofs.Actions.{AwaitsAll, awaits-more, awaits-ended, awaits-data, NoAnswer, Answer, answered_how}
 use Rattle.sam_rest.proofs.Gaps.{data_at, data_of}
 use Rattle.sam_rest.proofs.Frames.{none-answers, request-none, request-data}
 

@@ -1,15 +1,13 @@
 -- What `rest` and its steps rest on.
-use Rattle.std.proofs.Common.{true≢false}
-use Rattle.sam_world.proofs.Common.{◌≡◌, ℕ, ◌<◌, Bool, true, false, List, [], ◌∷◌, ◌++◌, length, is_some, Option, Some, None, ◌⊎◌, inl, inr, refl, sym, ap, ◌∙◌, subst, arith, is_empty, UserEvent, Tmesg, HFrame, PlainWorld, step_of, next_event, WasReached, Advances, IsNextFault}
-use Rattle.sam_world.specs.Faults.{IsFaultOf}
+use Rattle.sam_world.proofs.Common.{◌≡◌, ◌<◌, true, false, List, [], ◌∷◌, ◌++◌, length, Some, None, ◌⊎◌, inl, inr, refl, ap, arith, PlainWorld, step_of, next_event, WasReached, Advances, IsNextFault}
 use Rattle.sam_world.specs.World.{acts}
 unfoldable use Rattle.sam_world.proofs.Common.{act_of}
 use Rattle.sam_world.specs.declared.event.Event.{Event}
-use Rattle.sam_world.specs.declared.event.Event.TheVariants.{Act, Flush, HostTake, TermTake}
+use Rattle.sam_world.specs.declared.event.Event.TheVariants.{Act}
 use Rattle.sam_world.specs.declared.event.StepFault.{StepFault}
 use Rattle.sam_world.proofs.OrderLaws.{steps_in_order}
 use Rattle.sam_world.proofs.Runs.{tried_in_vain}
-use Rattle.sam_rest.specs.Rest.{LeadsOn, IsDone, ComesToRest, StopsOnTheWay}
+use Rattle.sam_rest.specs.Rest.{LeadsOn, ComesToRest, StopsOnTheWay}
 use Rattle.sam_rest.proofs.Taking.{Idles, Acts, act-takes}
 use Rattle.sam_rest.proofs.Ends.{IsKept, after-act, kept-of}
 use Rattle.sam_rest.proofs.Rule.{rule-applies, falls-by-rule, steps_left, leads-more}

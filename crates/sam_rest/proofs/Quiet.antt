@@ -1,5 +1,5 @@
 -- Which events ask for data: a View and a Load alone.
-use Rattle.sam_crossing.proofs.Common.{◌≡◌, ℕ, ◌+◌, Bool, true, false, List, [], ◌∷◌, ◌++◌, if◌then◌else◌, refl, arith, Tmesg, UserEvent, PlainTerminal, Made, flushed, sends, unchanged, types, event_outcome, made_by_type, made_by_cut, made_by_paste, made_by_snarf}
+use Rattle.sam_crossing.proofs.Common.{◌≡◌, ℕ, Bool, true, false, List, [], if◌then◌else◌, refl, arith, Tmesg, UserEvent, PlainTerminal, Made, flushed, sends, unchanged, types, event_outcome, made_by_type, made_by_cut, made_by_paste, made_by_snarf}
 use Rattle.sam_term.specs.Term.{made_then}
 use Rattle.sam_term.specs.LockCounts.{requests}
 use Rattle.sam_term.specs.declared.event.UserEvent.TheVariants.{Typed, Select, Cut, Paste, Snarf, View, Load, Flush}

@@ -1,17 +1,16 @@
 -- A drain's rule without its limit: each event of it applies, and a number falls.
 use Rattle.std.proofs.Common.{true≢false}
-use Rattle.sam_world.proofs.Common.{◌≡◌, ℕ, zero, suc, ◌+◌, ◌<◌, ◌≤◌, Bool, true, false, not, List, [], ◌∷◌, ◌++◌, length, is_some, Option, Some, None, Result, Ok, Err, ◌⊎◌, inl, inr, same_Some, refl, sym, ap, ◌∙◌, subst, arith, is_empty, PlainTerminal, Made, act_on, decided, event_outcome, first_of_checks, event_checks, if_countable, Verdict, Acted, Idle, Locked, Done, Refused, TermFault, UserEvent, Tmesg, HFrame, PlainWorld, step_of, next_event, IsInOrder, WasReached, Advances, IsNextFault}
+use Rattle.sam_world.proofs.Common.{◌≡◌, ℕ, zero, suc, ◌+◌, ◌<◌, ◌≤◌, Bool, true, false, not, List, [], ◌∷◌, ◌++◌, length, is_some, Option, Some, None, ◌⊎◌, inl, inr, same_Some, refl, sym, ap, ◌∙◌, subst, arith, is_empty, UserEvent, PlainWorld, step_of, next_event, IsInOrder}
 use Rattle.std.proofs.Common.{if◌then◌else◌}
 unfoldable use Rattle.sam_world.proofs.Common.{act_of}
 use Rattle.sam_term.specs.declared.records.Unsent.{Unsent}
 use Rattle.sam_world.specs.World.{acts}
 use Rattle.sam_world.specs.declared.event.Event.{Event}
 use Rattle.sam_world.specs.declared.event.Event.TheVariants.{User, Act, Flush, HostTake, TermTake}
-use Rattle.sam_world.specs.declared.event.StepFault.{StepFault}
 use Rattle.sam_world.proofs.OrderLaws.{steps_in_order}
-use Rattle.sam_rest.specs.Rest.{is_user, Applies, LeadsOn, IsDone}
+use Rattle.sam_rest.specs.Rest.{is_user, Applies, LeadsOn}
 use Rattle.sam_rest.proofs.Taking.{Idles, Acts, host-takes, term-takes, flush-takes, act-takes}
-use Rattle.sam_rest.proofs.Ends.{IsKept, IsLess, IsFewer, left_in, after-host, after-term, after-flush, after-act, keeps-step, kept-of}
+use Rattle.sam_rest.proofs.Ends.{IsKept, IsLess, IsFewer, left_in, after-host, after-term, after-flush, after-act, keeps-step}
 
 -- ## What the rule's next event does
 

@@ -1,23 +1,23 @@
 -- Every step keeps what is awaited.
-use Rattle.sam_crossing.proofs.Common.{◌≡◌, ℕ, zero, suc, ◌+◌, Bool, true, false, not, ◌==◌, if◌then◌else◌, List, [], ◌∷◌, ◌++◌, length, Option, Some, None, ◌⊎◌, inl, inr, refl, sym, ap, ◌∙◌, subst, true≢false, arith, ◌&&◌, append-nil, append_assoc, eq-eqb, eqb-true, not-false, first_of_checks, Tmesg, Trequest, Tack, Hmesg, Hcheck, Hunlockfile, Hack, PlainHost, Reply, Window, Unsent, PlainTerminal, Made, window_at, is_open, put_window, frame_outcome, event_checks, event_outcome, flushed, unsent_message, sends, sends_all, unchanged, requests_for, all_wanted, requested, made_by_view, made_by_load, UserEvent, Lens, Action, AllComeToSync, InOrder, at_file, action, answers, reply_of, replied_then, effect, view, views}
+use Rattle.sam_crossing.proofs.Common.{◌≡◌, ℕ, ◌+◌, Bool, true, false, not, if◌then◌else◌, List, [], ◌∷◌, ◌++◌, Option, Some, None, ◌⊎◌, inl, inr, refl, sym, ap, ◌∙◌, subst, arith, ◌&&◌, append_assoc, not-false, Tmesg, Trequest, Tack, Hmesg, Hcheck, Hunlockfile, Hack, PlainHost, Reply, Unsent, PlainTerminal, Made, window_at, is_open, put_window, frame_outcome, event_outcome, flushed, unsent_message, sends, sends_all, unchanged, requests_for, all_wanted, requested, made_by_view, made_by_load, UserEvent, Lens, AllComeToSync, InOrder, at_file, action, answers, reply_of, replied_then, effect, view, views}
 use mathlib.Core.Path.{fun_ext}
 use Rattle.sam_term.specs.Term.{wanted, sends_if, request_for, gaps_shown}
-use Rattle.sam_term.specs.LockCounts.{asks_for, requests, awaited_left}
+use Rattle.sam_term.specs.LockCounts.{requests, awaited_left}
 use Rattle.sam_term.specs.declared.event.UserEvent.TheVariants.{View, Load}
 use Rattle.sam_term.proofs.LockLaws.{event_awaits, flush_awaits, frame_awaits}
 use Rattle.sam_crossing.specs.Fold.{behind}
-use Rattle.sam_crossing.specs.View.{composed_for, Moves}
+use Rattle.sam_crossing.specs.View.{composed_for}
 use Rattle.sam_crossing.proofs.Lenses.{IsOpen}
 use Rattle.sam_crossing.proofs.Folds as folds
 use Rattle.sam_crossing.proofs.FrameMoves.{take_law}
 use Rattle.sam_crossing.proofs.Views.{view-kept}
-use Rattle.sam_crossing.proofs.Passing.{Passed, passed, held_passed, opened_at}
-use Rattle.sam_local.proofs.Folds.{Parted, parted}
+use Rattle.sam_crossing.proofs.Passing.{Passed}
+use Rattle.sam_local.proofs.Folds.{Parted}
 use Rattle.sam_local.proofs.Takes.{unsent-left}
 use Rattle.sam_rest.proofs.Actions.{left, AwaitsAll}
 use Rattle.sam_rest.proofs.Kept.{frames_of, coming_to, AreAwaited, answers-up, awaited-plain, requests-append, flush-asks, awaited-sends}
 use Rattle.sam_rest.proofs.Frames.{eqb-sym}
-use Rattle.sam_rest.proofs.Quiet.{is_looking, quiet-event}
+use Rattle.sam_rest.proofs.Quiet.{quiet-event}
 
 -- ## The host takes a message
 

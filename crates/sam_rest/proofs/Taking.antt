@@ -1,5 +1,5 @@
 -- What each step that is not the user's leads to.
-use Rattle.sam_world.proofs.Common.{◌≡◌, ℕ, true, false, List, [], ◌∷◌, ◌++◌, Option, Some, None, Result, Ok, Err, ◌⊎◌, inl, inr, same_Some, Done, refl, sym, ap, ◌∙◌, subst, arith, append-nil, map-append, first_of_checks, PlainHost, Reply, answer, HostFault, PlainTerminal, Made, act_of, act_on, decided, flush_of, flushed, take_of, frame_outcome, event_checks, event_outcome, if_countable, Verdict, Acted, TermFault, UserEvent, Tmesg, Hmesg, HFrame, PlainWorld, composed_by, step_of, after_act, after_answer, after_compose, host_takes, term_takes, mesgs, IsInOrder, stamped}
+use Rattle.sam_world.proofs.Common.{◌≡◌, true, false, List, [], ◌∷◌, ◌++◌, Option, Some, None, Result, Ok, Err, ◌⊎◌, inl, inr, same_Some, Done, refl, sym, ap, ◌∙◌, subst, arith, append-nil, map-append, first_of_checks, PlainHost, Reply, answer, HostFault, PlainTerminal, Made, act_of, act_on, decided, flush_of, flushed, take_of, frame_outcome, event_checks, event_outcome, if_countable, Verdict, Acted, TermFault, UserEvent, Tmesg, Hmesg, HFrame, PlainWorld, composed_by, step_of, after_act, after_answer, after_compose, host_takes, term_takes, mesgs, IsInOrder, stamped}
 use Rattle.sam_world.specs.World.{acts}
 use Rattle.sam_world.specs.declared.event.Event.TheVariants.{Act, Flush, HostTake, TermTake}
 use Rattle.sam_term.specs.declared.event.Verdict.TheVariants.{Waits, Refuses}

@@ -1,5 +1,5 @@
 -- How much is left to do: a number that each step but an act lowers.
-use Rattle.sam_crossing.proofs.Common.{◌≡◌, ℕ, zero, suc, ◌+◌, ◌<◌, ◌≤◌, Bool, true, false, not, ◌==◌, ◌&&◌, ◌-◌, min, option_map, same_Some, if◌then◌else◌, List, [], ◌∷◌, ◌++◌, length, length-append, Option, Some, None, ◌⊎◌, inl, inr, refl, sym, ap, ◌∙◌, subst, true≢false, arith, append-nil, append_assoc, eq-eqb, eqb-true, is_command_line, Tmesg, Trequest, Ttype, Tack, Hmesg, Hcheck, Hunlockfile, Hack, Hdata, PlainHost, Reply, counted, Unsent, PlainTerminal, Made, window_at, is_open, frame_outcome, slot-put_same, took_unlockfile, composed, flushed, unsent_message, sends, unchanged, most_in_message, part, replicate, PartialText, Lens, lens, Action, Fill, Free_file, move, run, Opened, AllComeToSync, InOrder, file_in, IsHeldBack, OpenAt, Anything, at_file, action, answers, reply_of, replied_then, effect, view, views}
+use Rattle.sam_crossing.proofs.Common.{◌≡◌, ℕ, ◌+◌, ◌<◌, ◌≤◌, Bool, true, false, not, ◌==◌, ◌&&◌, ◌-◌, min, option_map, same_Some, if◌then◌else◌, List, [], ◌∷◌, ◌++◌, length, length-append, Option, Some, None, ◌⊎◌, inl, inr, refl, sym, ap, ◌∙◌, subst, arith, append-nil, append_assoc, eq-eqb, eqb-true, is_command_line, Tmesg, Trequest, Tack, Hmesg, Hcheck, Hunlockfile, Hack, Hdata, PlainHost, Reply, counted, Unsent, PlainTerminal, Made, window_at, is_open, frame_outcome, slot-put_same, took_unlockfile, composed, flushed, unsent_message, most_in_message, PartialText, Lens, Action, AllComeToSync, InOrder, file_in, IsHeldBack, at_file, action, answers, reply_of, replied_then, effect, view, views}
 use Rattle.std.specs.Prelude.{◌*◌}
 use Rattle.sam_rasp.specs.Rasp.{hole_within}
 use Rattle.sam_term.specs.Term.{wanted, sends_if, request_for, view_end, front_of}
@@ -9,18 +9,16 @@ use Rattle.sam_term.proofs.Loads.{stretches-some}
 use Rattle.sam_term.proofs.Stretches.{load_law}
 use Rattle.sam_crossing.specs.Fold.{behind}
 use Rattle.sam_crossing.specs.View.{composed_for}
-use Rattle.sam_crossing.proofs.Lenses.{IsOpen, exited_of, locked_more, AreSkips}
-use Rattle.sam_crossing.proofs.Changes.{Lock, changed}
+use Rattle.sam_crossing.proofs.Lenses.{IsOpen, locked_more, AreSkips}
 use Rattle.sam_crossing.proofs.Folds as folds
 use Rattle.sam_crossing.proofs.FrameMoves.{take_law}
-use Rattle.sam_crossing.proofs.Views.{view-put, view-composed, view-flushed, unsent-flushed, unsent-composed}
+use Rattle.sam_crossing.proofs.Views.{view-put, view-composed, unsent-flushed, unsent-composed}
 use Rattle.sam_crossing.proofs.Guards.{at_file-append}
-use Rattle.sam_local.proofs.Folds.{Parted, parted}
 use Rattle.sam_local.proofs.Takes.{unsent-left}
-use Rattle.sam_rest.proofs.Actions.{is_fill, fills, left, AwaitsAll, awaits-quiet, NoAnswer, Answer, answered_how}
+use Rattle.sam_rest.proofs.Actions.{fills, left, AwaitsAll, awaits-quiet, NoAnswer, Answer, answered_how}
 use Rattle.sam_rest.proofs.Gaps.{wants, wants-skips, wants-first, wants-less, IsGap, data_at, data_of, data_actions, rasp_of, gaps_in, late}
 use Rattle.sam_rest.proofs.Frames.{request-none, request-data}
-use Rattle.sam_rest.proofs.Kept.{frames_of, coming_to, AreAwaited, awaited-plain, data-there, data-elsewhere, coming-one, requests-append, flush-asks}
+use Rattle.sam_rest.proofs.Kept.{frames_of, coming_to, AreAwaited, awaited-plain, data-there, data-elsewhere, coming-one}
 use Rattle.sam_rest.proofs.Steps.{taken, composes-is}
 
 -- ## The number
@@ -203,7 +201,7 @@ wanted-is t f m tidy e = by (is_open t f) t.has_exited ((window_at t f).awaited 
           here = y;
           none = eqb-true (window_at t f).awaited 0 z;
           gap = subst (λ (r : PartialText). IsGap r g.0 (min (g.1 - g.0) most_in_message)) (sym there.1) (gap-of (window_at t f).rasp (window_at t f).view_start (view_end (window_at t f)) (front_of g) (omega (arith, tidy)) (omega arith)
-          (sym (ap (λ (o : Option (ℕ × ℕ)). option_map front_of o) w)));
+              (sym (ap (λ (o : Option (ℕ × ℕ)). option_map front_of o) w)));
         }
     by o x b hole q y z w e = absurd (grind arith)
 
