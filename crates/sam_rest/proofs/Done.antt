@@ -132,13 +132,13 @@ held-applies w e es room free none held stuck = by (act_of w.term) refl
 
 -- ## At rest
 
-record RestParts (w : PlainWorld) : Type 0 where
-  up : w.up ≡ []
-  down : w.down ≡ []
-  unsent : w.term.unsent ≡ None
-  held : w.term.held ≡ []
+pub record RestParts (w : PlainWorld) : Type 0 where
+  pub up : w.up ≡ []
+  pub down : w.down ≡ []
+  pub unsent : w.term.unsent ≡ None
+  pub held : w.term.held ≡ []
 
-parts : (w : PlainWorld) → is_at_rest w ≡ true → RestParts w
+pub parts : (w : PlainWorld) → is_at_rest w ≡ true → RestParts w
 parts w e = by w.up w.down w.term.unsent w.term.held refl refl refl refl e
   where
     by : (up : List Tmesg) (down : List HFrame) (unsent : Option Unsent) (held : List UserEvent) → w.up ≡ up → w.down ≡ down → w.term.unsent ≡ unsent → w.term.held ≡ held

@@ -10,3 +10,4 @@ pub mod Ends
 pub mod Done
 pub mod Rule
 pub mod Leading
+pub mod Loaded

@@ -76,18 +76,18 @@ awaited-made h t up down made (inr asks) o f n a =
 
 -- ## A frame
 
-open-view : (t : PlainTerminal) (f : ℕ) → is_open t f ≡ true → IsOpen (view f t)
+pub open-view : (t : PlainTerminal) (f : ℕ) → is_open t f ≡ true → IsOpen (view f t)
 open-view t f o = grind arith
 
 -- what is wanted is a request, of a file that is open while the session goes on
-record Wants (t : PlainTerminal) (f : ℕ) (m : Tmesg) : Type 0 where
-  place : ℕ
-  many : ℕ
-  is : m ≡ Trequest f place many
-  opened : is_open t f ≡ true
-  here : t.has_exited ≡ false
+pub record Wants (t : PlainTerminal) (f : ℕ) (m : Tmesg) : Type 0 where
+  pub place : ℕ
+  pub many : ℕ
+  pub is : m ≡ Trequest f place many
+  pub opened : is_open t f ≡ true
+  pub here : t.has_exited ≡ false
 
-wants : (t : PlainTerminal) (f : ℕ) (m : Tmesg) → wanted t f ≡ Some m → Wants t f m
+pub wants : (t : PlainTerminal) (f : ℕ) (m : Tmesg) → wanted t f ≡ Some m → Wants t f m
 wants t f m e = by (is_open t f) t.has_exited _ _ refl refl e
   where
     by : (o x b : Bool) (hole : Option (ℕ × ℕ)) → is_open t f ≡ o → t.has_exited ≡ x → (if o && not x && b then request_for f hole else None) ≡ Some m → Wants t f m
@@ -150,7 +150,7 @@ awaited-frame h t up m down o n k f =
 
 -- ## An event
 
-looking : (h : PlainHost) (t : PlainTerminal) (up : List Tmesg) (down : List Hmesg) (f p n : ℕ) → InOrder h t up down → is_open t f ≡ true → t.has_exited ≡ false
+pub looking : (h : PlainHost) (t : PlainTerminal) (up : List Tmesg) (down : List Hmesg) (f p n : ℕ) → InOrder h t up down → is_open t f ≡ true → t.has_exited ≡ false
     → AllComeToSync h (views (put_window t f (record (window_at t f) { view_start = p; view_length = n })))
     (up ++ unsent_message t.unsent) down
 looking h t up down f p n o opened here =

@@ -68,28 +68,32 @@ weight-some w m = grind arith
 
 -- ## The host takes a message
 
+pub coming-host : (h : PlainHost) (t : PlainTerminal) (m : Tmesg) (up : List Tmesg) (down : List Hmesg) (r : Reply) → reply_of h m ≡ Some r → InOrder r.0 t up (down ++ r.1)
+    → coming h t (m ∷ up) down ≡ coming r.0 t up (down ++ r.1)
+coming-host h t m up down r e n =
+    let line = up ++ unsent_message t.unsent in
+    let both : answers h (m ∷ line) ≡ Some (n.kept.ahead, r.1 ++ n.kept.frames) = ap (λ (o : Option Reply). replied_then o (λ k. answers k line)) e ∙ ap (behind r.1) n.kept.folds in
+    ap (λ (o : Option Reply). down ++ frames_of o) both ∙ sym (append_assoc down r.1 n.kept.frames) ∙ sym (ap (λ (o : Option Reply). (down ++ r.1) ++ frames_of o) n.kept.folds)
+
 pub work-host : (h : PlainHost) (t : PlainTerminal) (m : Tmesg) (up : List Tmesg) (down : List Hmesg) (r : Reply) → reply_of h m ≡ Some r → InOrder r.0 t up (down ++ r.1)
     → work r.0 t up (down ++ r.1) < work h t (m ∷ up) down
 unfolding work
 work-host h t m up down r e n =
-    let line = up ++ unsent_message t.unsent in
-    let both : answers h (m ∷ line) ≡ Some (n.kept.ahead, r.1 ++ n.kept.frames) = ap (λ (o : Option Reply). replied_then o (λ k. answers k line)) e ∙ ap (behind r.1) n.kept.folds in
-    let same : coming h t (m ∷ up) down ≡ coming r.0 t up (down ++ r.1) =
-    ap (λ (o : Option Reply). down ++ frames_of o) both ∙ sym (append_assoc down r.1 n.kept.frames) ∙ sym (ap (λ (o : Option Reply). (down ++ r.1) ++ frames_of o) n.kept.folds) in
+    let same = coming-host h t m up down r e n in
     omega (arith, ap (λ (fs : List Hmesg). weigh (all_wants fs (views t)) fs) same)
 
 -- ## A flush
 
 -- unsent runes end no command line
-abbrev IsNoLine : Option Unsent → Type 0
+abbrev pub IsNoLine : Option Unsent → Type 0
 IsNoLine None = Unit {0}
 IsNoLine (Some u) = is_command_line u.file u.runes ≡ false
 
-view-sent : (t : PlainTerminal) → IsNoLine t.unsent → (g : ℕ) → view g (flushed t).0 ≡ view g t
+pub view-sent : (t : PlainTerminal) → IsNoLine t.unsent → (g : ℕ) → view g (flushed t).0 ≡ view g t
 unfolding flushed
 view-sent t e g = grind (arith, view-put)
 
-no-line : (t : PlainTerminal) → IsHeldBack (views t) t.unsent → IsNoLine t.unsent
+pub no-line : (t : PlainTerminal) → IsHeldBack (views t) t.unsent → IsNoLine t.unsent
 no-line t held = by t.unsent held
   where
     by : (u : Option Unsent) → IsHeldBack (views t) u → IsNoLine u
@@ -101,18 +105,22 @@ work-alike a b fs gs vs ws e same =
     subst (λ (x : List Hmesg). weigh (all_wants x ws) x ≤ weigh (all_wants fs vs) fs) e
     (weigh-less (all_wants fs ws) (all_wants fs vs) fs (λ f. let here : all_wants fs ws f ≡ all_wants fs vs f = ap (wants (at_file f fs)) (same f) in omega (arith, here)))
 
-flushed-is : (t : PlainTerminal) → (flushed t).1 ≡ unsent_message t.unsent
+pub flushed-is : (t : PlainTerminal) → (flushed t).1 ≡ unsent_message t.unsent
 unfolding flushed
 flushed-is t = refl
+
+pub coming-flush : (h : PlainHost) (t : PlainTerminal) (up : List Tmesg) (down : List Hmesg) → coming h t up down ≡ coming h (flushed t).0 (up ++ (flushed t).1) down
+coming-flush h t up down =
+    let line : (up ++ (flushed t).1) ++ unsent_message (flushed t).0.unsent ≡ up ++ unsent_message t.unsent =
+    ap (λ (n : Option Unsent). (up ++ (flushed t).1) ++ unsent_message n) (unsent-flushed t) ∙ append-nil (up ++ (flushed t).1) ∙ ap (λ (l : List Tmesg). up ++ l) (flushed-is t) in
+    ap (λ (l : List Tmesg). down ++ frames_of (answers h l)) (sym line)
 
 pub work-flush : (h : PlainHost) (t : PlainTerminal) (up : List Tmesg) (down : List Hmesg) (u : Unsent) → InOrder h t up down → t.unsent ≡ Some u
     → work h (flushed t).0 (up ++ (flushed t).1) down < work h t up down
 unfolding work
 work-flush h t up down u o e =
     let none = unsent-flushed t in
-    let line : (up ++ (flushed t).1) ++ unsent_message (flushed t).0.unsent ≡ up ++ unsent_message t.unsent =
-    ap (λ (n : Option Unsent). (up ++ (flushed t).1) ++ unsent_message n) none ∙ append-nil (up ++ (flushed t).1) ∙ ap (λ (l : List Tmesg). up ++ l) (flushed-is t) in
-    let same : coming h t up down ≡ coming h (flushed t).0 (up ++ (flushed t).1) down = ap (λ (l : List Tmesg). down ++ frames_of (answers h l)) (sym line) in
+    let same = coming-flush h t up down in
     let less = work-alike 0 0 (coming h t up down) (coming h (flushed t).0 (up ++ (flushed t).1) down) (views t) (views (flushed t).0) same (view-sent t (no-line t o.unsent)) in
     let one : length (flushed t).1 ≡ 1 = ap (λ (l : List Tmesg). length l) (flushed-is t ∙ ap unsent_message e) in
     let many : length (up ++ (flushed t).1) ≡ length up + length (flushed t).1 = length-append up (flushed t).1 in
@@ -142,12 +150,12 @@ work-taken h t up m down o =
     omega (arith, whole, unsent, weight-less (all_wants fs (views u)) (all_wants (m ∷ fs) (views t)) m lower, weigh-less (all_wants fs (views u)) (all_wants (m ∷ fs) (views t)) fs lower)
 
 -- what comes, and the number, where the unsent runes are sent and then one message
-record SentOne (h : PlainHost) (u : PlainTerminal) (up : List Tmesg) (down : List Hmesg) (x : Tmesg) (frames : List Hmesg) : Type 0 where
-  comes : coming h (composed (flushed u).0 x) (up ++ ((flushed u).1 ++ x ∷ [])) down ≡ coming h u up down ++ frames
-  number : work h (composed (flushed u).0 x) (up ++ ((flushed u).1 ++ x ∷ [])) down
+pub record SentOne (h : PlainHost) (u : PlainTerminal) (up : List Tmesg) (down : List Hmesg) (x : Tmesg) (frames : List Hmesg) : Type 0 where
+  pub comes : coming h (composed (flushed u).0 x) (up ++ ((flushed u).1 ++ x ∷ [])) down ≡ coming h u up down ++ frames
+  pub number : work h (composed (flushed u).0 x) (up ++ ((flushed u).1 ++ x ∷ [])) down
       ≡ length up + length (unsent_message u.unsent) + 1 + weigh (all_wants (coming h u up down ++ frames) (views (composed (flushed u).0 x))) (coming h u up down ++ frames)
 
-sent-one : (h : PlainHost) (u : PlainTerminal) (up : List Tmesg) (down : List Hmesg) (x : Tmesg) (k : AllComeToSync h (views u) (up ++ unsent_message u.unsent) down) (r : Reply)
+pub sent-one : (h : PlainHost) (u : PlainTerminal) (up : List Tmesg) (down : List Hmesg) (x : Tmesg) (k : AllComeToSync h (views u) (up ++ unsent_message u.unsent) down) (r : Reply)
     → reply_of k.ahead x ≡ Some r → SentOne h u up down x r.1
 unfolding flushed work
 sent-one h u up down x k r e =
@@ -207,7 +215,7 @@ wanted-is t f m tidy e = by (is_open t f) t.has_exited ((window_at t f).awaited 
 
 -- ## A request
 
-shown : (u : PlainTerminal) (f p q g : ℕ) → IsNoLine u.unsent → IsOpen (view f u)
+pub shown : (u : PlainTerminal) (f p q g : ℕ) → IsNoLine u.unsent → IsOpen (view f u)
     → view g (composed (flushed u).0 (Trequest f p q)) ≡ (if g == f then locked_more (view g u) else view g u)
 shown u f p q g line o =
     view-composed (flushed u).0 (Trequest f p q) (subst IsOpen (sym (view-sent u line f)) o) g ∙ ap (λ (v : Lens). if g == f then locked_more v else v) (view-sent u line g)
@@ -289,7 +297,7 @@ acked h u up down k line =
     omega (arith, sent.number, less)
 
 -- the window of f but for its locks
-record IsAlike (u t : PlainTerminal) (f : ℕ) : Type 0 where
+pub record IsAlike (u t : PlainTerminal) (f : ℕ) : Type 0 where
   start : (window_at u f).view_start ≡ (window_at t f).view_start
   rasp : (window_at u f).rasp ≡ (window_at t f).rasp
   awaited : (window_at u f).awaited ≡ (window_at t f).awaited

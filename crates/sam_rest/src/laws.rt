@@ -1,4 +1,5 @@
 //! The laws. Each is the clause of a function that does nothing: a caller who needs the law calls the function.
+ghost use Rattle.sam_rest.specs.Loaded.{ViewsAreLoaded};
 ghost use Rattle.sam_rest.specs.Rest.{DoneIsStuck, StepsEnd, StuckIsDone};
 
 /// Says that where no event but the user's would change anything, all is done: nothing is unsent, under way, held or locked, and no
@@ -13,4 +14,10 @@ pub fn stuck_is_done()
 #[tactic(auto, using(crate::proofs::Ends::steps_end))]
 pub fn steps_end()
     ensures { StepsEnd }
+{}
+
+/// Says that where a view is the only event that is held and nothing stands against it, no gap stands in the view of its file once all is
+/// done, with no further event of the user.
+pub fn views_are_loaded()
+    ensures { ViewsAreLoaded }
 {}

@@ -1,0 +1,537 @@
+-- What a view asked for has come once the session is at rest.
+use Rattle.sam_crossing.proofs.Common.{◌≡◌, ℕ, zero, suc, ◌+◌, ◌-◌, ◌<◌, ◌≤◌, Bool, true, false, not, ◌==◌, ◌&&◌, ◌||◌, if◌then◌else◌, List, [], ◌∷◌, ◌++◌, Option, Some, None, is_some, unwrap_or, ◌⊎◌, inl, inr, refl, sym, ap, ◌∙◌, subst, true≢false, arith, append-nil, append_assoc, eq-eqb, eqb-true, not-false, slot-put_same, slot-put_other, Tmesg, Trequest, Tack, Hmesg, Hclean, Hcheck, Hdata, Hunlockfile, Hack, PlainHost, Reply, counted, Unsent, KnownFile, Window, PlainTerminal, Made, known_at, window_at, window_of, is_open, frame_outcome, composed, flushed, unsent_message, took_unlockfile, took_bindname, took_data, took_grow, took_growdata, took_cut, took_close, took_exit, Lens, Action, Needs_open, Join, Bind, Close, Leave, Grow, Fill, Insert, Cut, Place, Free_file, Exit, closes, frees, IsGuarded, AllComeToSync, InOrder, file_in, at_file, action, answers, reply_of, effect, view, views, blank_window}
+use Rattle.sam_rasp.specs.Rasp.{hole_within}
+use Rattle.sam_runes.specs.Slots.{Slots}
+use Rattle.sam_term.specs.Term.{view_end, wanted, sends_if, request_for}
+use Rattle.sam_crossing.specs.Frames.{only}
+use Rattle.sam_crossing.specs.View.{composed_for}
+use Rattle.sam_local.proofs.Takes.{unsent-left}
+use Rattle.sam_rest.proofs.Steps.{taken, composes-is, Wants, wants, open-view, looking}
+use Rattle.sam_term.specs.Windows.{known_in}
+use Rattle.sam_term.proofs.Composes.{flushed-files}
+use Rattle.sam_local.proofs.Frames.{is_gentle}
+use Rattle.sam_local.proofs.Gentle.{window-stays}
+use Rattle.sam_world.proofs.Common.{length, Result, Ok, Err, same_Some, Done, first_of_checks, act_of, act_on, decided, if_countable, after_act, event_checks, event_outcome, Verdict, Acted, TermFault, UserEvent, HFrame, PlainWorld, step_of, mesgs, IsInOrder, WasReached, made_by_view, requested}
+use Rattle.sam_term.specs.declared.event.UserEvent.TheVariants.{View}
+use Rattle.sam_term.specs.Term.{put_window}
+use Rattle.sam_crossing.specs.declared.event.Event.{Event}
+use Rattle.sam_crossing.specs.declared.event.Event.TheVariants.{User, Act, Flush, HostTake, TermTake}
+use Rattle.sam_crossing.proofs.OrderLaws.{steps_in_order}
+use Rattle.sam_crossing.proofs.RunLaws.{counted-result}
+use Rattle.sam_crossing.proofs.Passing.{Passed, passed, held_passed, free_at}
+use Rattle.sam_crossing.proofs.Runs.{frees_nothing}
+use Rattle.sam_crossing.proofs.Views.{view-kept}
+use Rattle.sam_local.proofs.Ahead.{opened-put, window-put}
+use Rattle.sam_local.proofs.Held.{event-held}
+use Rattle.sam_rest.specs.Rest.{is_user, Applies, LeadsOn}
+use Rattle.sam_rest.specs.Loaded.{ViewsAreLoaded}
+use Rattle.sam_rest.proofs.Taking.{HostTakes, host-takes, TermTakes, term-takes, Flushes, flush-takes, Idles, Acts, act-takes}
+use Rattle.sam_rest.proofs.Ends.{IsKept, Lowers, kept-of, keeps-step, falls}
+use Rattle.sam_rest.proofs.Done.{parts}
+use Rattle.sam_crossing.proofs.Guards.{at_file-append}
+use Rattle.sam_rest.specs.Loaded.{IsLoaded}
+use Rattle.sam_rest.proofs.Gaps.{data_at, data_of}
+use Rattle.sam_rest.proofs.Frames.{request-none, request-data, eqb-sym}
+use Rattle.sam_rest.proofs.Kept.{frames_of, coming_to, AreAwaited, awaited-plain, data-there, data-elsewhere}
+use Rattle.sam_rest.proofs.Work.{coming, coming-host, coming-flush, SentOne, sent-one, IsNoLine, no-line}
+use Rattle.sam_crossing.proofs.Lenses.{IsFree, IsOpen, exits, exited_of, AreSkips}
+use Rattle.sam_rest.proofs.Actions.{is_fill, fills, left, AwaitsAll, NoAnswer, Answer, answered_how}
+
+-- ## What comes to a file whose view was set
+
+abbrev pub is_moving : Action → Bool
+is_moving Join = true
+is_moving Bind = true
+is_moving Close = true
+is_moving Leave = true
+is_moving (Grow p n) = true
+is_moving (Insert p s) = true
+is_moving (Cut p n) = true
+is_moving (Place p q) = true
+is_moving Exit = true
+is_moving _ = false
+
+abbrev pub is_asking : Action → Bool
+is_asking Needs_open = true
+is_asking Free_file = true
+is_asking _ = false
+
+-- some of them makes the terminal ask for a gap, if there is one
+abbrev pub brings : List Action → Bool
+brings [] = false
+brings (a ∷ s) = is_asking a || brings s
+
+-- nothing moves, and after each Hdata something makes the terminal ask again
+abbrev pub IsCalm : List Action → Type 0
+IsCalm [] = Unit {0}
+IsCalm (a ∷ s) = (is_moving a ≡ false) × (is_fill a ≡ true → brings s ≡ true) × IsCalm s
+
+brings-first : (s u : List Action) → brings s ≡ true → brings (s ++ u) ≡ true
+brings-first [] u e = absurd (true≢false (sym e))
+brings-first (a ∷ s) u e = grind (arith, (brings-first s u))
+
+brings-last : (s u : List Action) → brings u ≡ true → brings (s ++ u) ≡ true
+brings-last [] u e = e
+brings-last (a ∷ s) u e = grind (arith, (brings-last s u e))
+
+calm-both : (s u : List Action) → IsCalm s → IsCalm u → IsCalm (s ++ u)
+calm-both [] u c d = d
+calm-both (a ∷ s) u c d = (c.0, (λ e. brings-first s u (c.1 e)), calm-both s u c.2 d)
+
+calm-stays : (s : List Action) → IsCalm s → (closes s || exits s) ≡ false
+calm-stays [] c = refl
+calm-stays (a ∷ s) c = grind (arith, (calm-stays s c.2))
+
+calm-skips : (s : List Action) → AreSkips s → IsCalm s
+calm-skips [] k = tt
+calm-skips (a ∷ s) k = grind (arith, (calm-skips s k.1))
+
+-- where nothing makes it ask, nothing is awaited
+none-awaited : (s : List Action) (n : ℕ) → IsCalm s → brings s ≡ false → AwaitsAll n s → n ≡ 0
+none-awaited [] n c e k = k
+none-awaited (a ∷ s) n c e k = grind (arith, (none-awaited s (left a n)))
+
+-- what is under way to a free file is calm
+calm-free : (s : List Action) → IsGuarded s → frees s ≡ false → IsCalm s
+calm-free [] g e = tt
+calm-free (a ∷ s) g e = grind (arith, (calm-free s))
+
+-- ## The view of a file where nothing moves
+
+abbrev IsLoadedIn : Option Window → Type 0
+IsLoadedIn o = let w = unwrap_or o blank_window in hole_within w.rasp w.view_start (view_end w) ≡ None
+
+record SameView (u t : PlainTerminal) (f : ℕ) : Type 0 where
+  opened : is_open u f ≡ is_open t f
+  loaded : IsLoaded t f → IsLoaded u f
+
+same-window : (u t : PlainTerminal) (f : ℕ) → window_of u f ≡ window_of t f → SameView u t f
+same-window u t f e = record { opened = ap is_some e; loaded = λ l. subst IsLoadedIn (sym e) l }
+
+view-cleaned : (t : PlainTerminal) (f : ℕ) → window_of (effect t (Hclean f)) f ≡ window_of t f
+view-cleaned t f = grind (arith, slot-put_same)
+
+view-unlocked : (t : PlainTerminal) (f : ℕ) → is_open t f ≡ true → SameView (effect t (Hunlockfile f)) t f
+unfolding took_unlockfile
+view-unlocked t f o = grind (arith, slot-put_same)
+
+view-other : (t : PlainTerminal) (f : ℕ) (m : Hmesg) → is_gentle f m ≡ false → is_moving (action f m) ≡ false → is_fill (action f m) ≡ false → is_open t f ≡ true
+    → SameView (effect t m) t f
+view-other t f (Hclean g) q mv fl o =
+    let same : f ≡ g = eqb-true f g (not-false (f == g) q) in
+    subst (λ (x : ℕ). SameView (effect t (Hclean x)) t f) same (same-window (effect t (Hclean f)) t f (view-cleaned t f))
+view-other t f (Hunlockfile g) q mv fl o =
+    let same : f ≡ g = eqb-true f g (not-false (f == g) q) in
+    subst (λ (x : ℕ). SameView (effect t (Hunlockfile x)) t f) same (view-unlocked t f o)
+view-other t f m q mv fl o = absurd (grind arith)
+
+view-stays : (t : PlainTerminal) (f : ℕ) (m : Hmesg) → is_moving (action f m) ≡ false → is_fill (action f m) ≡ false → is_open t f ≡ true → SameView (effect t m) t f
+view-stays t f m mv fl o = by (is_gentle f m) refl
+  where
+    by : (b : Bool) → is_gentle f m ≡ b → SameView (effect t m) t f
+    by true q = same-window (effect t m) t f (window-stays f (m ∷ []) t (q, tt))
+    by false q = view-other t f m q mv fl o
+
+view-requested : (t : PlainTerminal) (g p q f : ℕ) → is_open t f ≡ true → SameView (composed t (Trequest g p q)) t f
+view-requested t g p q f o = by (g == f) refl
+  where
+    by : (b : Bool) → (g == f) ≡ b → SameView (composed t (Trequest g p q)) t f
+    by true e = subst (λ (x : ℕ). SameView (composed t (Trequest x p q)) t f) (sym (eqb-true g f e)) (grind (arith, slot-put_same))
+    by false e = same-window (composed t (Trequest g p q)) t f (elsewhere e)
+      where
+        elsewhere : (g == f) ≡ false → window_of (composed t (Trequest g p q)) f ≡ window_of t f
+        elsewhere e = grind (arith, slot-put_same, slot-put_other, (eq-eqb g f))
+
+view-flushed : (t : PlainTerminal) (f : ℕ) → SameView (flushed t).0 t f
+view-flushed t f = same-window (flushed t).0 t f (ap (λ (fs : Slots KnownFile). (known_in fs f).window) (flushed-files t))
+
+view-then : (u t s : PlainTerminal) (f : ℕ) → SameView u t f → SameView t s f → SameView u s f
+view-then u t s f a b = record { opened = a.opened ∙ b.opened; loaded = λ l. a.loaded (b.loaded l) }
+
+open-fill : (t : PlainTerminal) (f : ℕ) (m : Hmesg) → is_fill (action f m) ≡ true → is_open t f ≡ true → is_open (effect t m) f ≡ true
+unfolding took_data
+open-fill t f (Hdata g p s) e o = grind (arith, slot-put_same, slot-put_other, (eq-eqb g f))
+open-fill t f m e o = absurd (grind arith)
+
+here-stays : (t : PlainTerminal) (f : ℕ) (m : Hmesg) → is_moving (action f m) ≡ false → (effect t m).has_exited ≡ t.has_exited
+unfolding took_bindname took_data took_grow took_growdata took_cut took_unlockfile took_close took_exit
+here-stays t f m e = grind arith
+
+flushed-exited : (t : PlainTerminal) → (flushed t).0.has_exited ≡ t.has_exited
+unfolding flushed
+flushed-exited t = grind arith
+
+-- ## What is kept from the view on
+
+pub record IsShown (f : ℕ) (h : PlainHost) (t : PlainTerminal) (up : List Tmesg) (down : List Hmesg) : Type 0 where
+  pub calm : IsCalm (at_file f (coming h t up down))
+  pub opened : is_open t f ≡ true
+  pub here : t.has_exited ≡ false
+  pub served : IsLoaded t f ⊎ (brings (at_file f (coming h t up down)) ≡ true)
+
+-- the same comes, and the view is the same
+shown-same : (f : ℕ) (h k : PlainHost) (t u : PlainTerminal) (up line : List Tmesg) (down more : List Hmesg) → coming h t up down ≡ coming k u line more → SameView u t f → u.has_exited ≡ t.has_exited
+    → IsShown f h t up down → IsShown f k u line more
+shown-same f h k t u up line down more e v x s = record {
+  calm = subst (λ (fs : List Hmesg). IsCalm (at_file f fs)) e s.calm;
+  opened = v.opened ∙ s.opened;
+  here = x ∙ s.here;
+  served = by s.served;
+}
+  where
+    by : IsLoaded t f ⊎ (brings (at_file f (coming h t up down)) ≡ true) → IsLoaded u f ⊎ (brings (at_file f (coming k u line more)) ≡ true)
+    by (inl l) = inl (v.loaded l)
+    by (inr b) = inr (subst (λ (fs : List Hmesg). brings (at_file f fs) ≡ true) e b)
+
+-- ## What a request is answered by
+
+abbrev data_frames : ℕ → ℕ → List ℕ → List Hmesg
+data_frames g place x = Hdata g place x ∷ Hunlockfile g ∷ []
+
+record Mute (k : PlainHost) (s : List Action) (g p q : ℕ) : Type 0 where
+  replies : reply_of k (Trequest g p q) ≡ Some (counted k, [])
+  ends : (closes s || exits s) ≡ true
+
+record Tells (k : PlainHost) (g p q : ℕ) : Type 0 where
+  place : ℕ
+  runes : List ℕ
+  replies : reply_of k (Trequest g p q) ≡ Some (counted k, data_frames g place runes)
+
+reply-how : (h : PlainHost) (u : PlainTerminal) (up : List Tmesg) (down : List Hmesg) (k : AllComeToSync h (views u) (up ++ unsent_message u.unsent) down) (g p q : ℕ) → IsOpen (view g u) → u.has_exited ≡ false
+    → Mute k.ahead (at_file g (coming h u up down)) g p q ⊎ Tells k.ahead g p q
+reply-how h u up down k g p q o x = by (answered_how s (view g u) k.ahead.is_done k.ahead.version (file_in k.ahead.files.slots g) (k.each g) o x)
+  where
+    s : List Action
+    s = at_file g (down ++ k.frames)
+
+    by : NoAnswer s (view g u) k.ahead.is_done (file_in k.ahead.files.slots g) ⊎ Answer s (view g u) k.ahead.is_done (file_in k.ahead.files.slots g)
+        → Mute k.ahead (at_file g (coming h u up down)) g p q ⊎ Tells k.ahead g p q
+    by (inl mute) = inl (record {
+      replies = request-none k.ahead g p q mute.none;
+      ends = subst (λ (r : Option Reply). (closes (at_file g (down ++ frames_of r)) || exits (at_file g (down ++ frames_of r))) ≡ true) (sym k.folds) mute.ends;
+    })
+    by (inr answer) = inr (record {
+      place = data_at answer.text p;
+      runes = data_of answer.text p q;
+      replies = request-data k.ahead g p q answer.text answer.runs answer.opened;
+    })
+
+-- ## A frame
+
+module _ (f : ℕ) (h : PlainHost) (u : PlainTerminal) (up : List Tmesg) (down : List Hmesg) (k : AllComeToSync h (views u) (up ++ unsent_message u.unsent) down)
+    (calm : IsCalm (at_file f (coming h u up down))) (opened : is_open u f ≡ true) (here : u.has_exited ≡ false) where
+
+  abbrev Served : Type 0
+  Served = IsLoaded u f ⊎ (brings (at_file f (coming h u up down)) ≡ true)
+
+  silent : Served → IsShown f h u (up ++ []) down
+  silent served = subst (λ (l : List Tmesg). IsShown f h u l down) (sym (append-nil up)) (record { calm = calm; opened = opened; here = here; served = served })
+
+  -- one message more, that is answered by these frames and leaves the view
+  sent : (x : Tmesg) (r : Reply) → reply_of k.ahead x ≡ Some r → SameView (composed (flushed u).0 x) u f → (composed (flushed u).0 x).has_exited ≡ u.has_exited → IsCalm (at_file f r.1)
+      → Served ⊎ (brings (at_file f r.1) ≡ true) → IsShown f h (composed (flushed u).0 x) (up ++ ((flushed u).1 ++ x ∷ [])) down
+  sent x r e v same more served = record {
+    calm = subst IsCalm (sym comes) (calm-both (at_file f (coming h u up down)) (at_file f r.1) calm more);
+    opened = v.opened ∙ opened;
+    here = same ∙ here;
+    served = by served;
+  }
+    where
+      comes : at_file f (coming h (composed (flushed u).0 x) (up ++ ((flushed u).1 ++ x ∷ [])) down) ≡ at_file f (coming h u up down) ++ at_file f r.1
+      comes = ap (at_file f) (sent-one h u up down x k r e).comes ∙ at_file-append f (coming h u up down) r.1
+
+      by : Served ⊎ (brings (at_file f r.1) ≡ true)
+          → IsLoaded (composed (flushed u).0 x) f ⊎ (brings (at_file f (coming h (composed (flushed u).0 x) (up ++ ((flushed u).1 ++ x ∷ [])) down)) ≡ true)
+      by (inl (inl l)) = inl (v.loaded l)
+      by (inl (inr b)) = inr (ap brings comes ∙ brings-first (at_file f (coming h u up down)) (at_file f r.1) b)
+      by (inr b) = inr (ap brings comes ∙ brings-last (at_file f (coming h u up down)) (at_file f r.1) b)
+
+  acked : Served → IsShown f h (composed (flushed u).0 Tack) (up ++ ((flushed u).1 ++ Tack ∷ [])) down
+  acked served = sent Tack (counted k.ahead, []) (grind arith) (same-window (composed (flushed u).0 Tack) u f (ap (λ (fs : Slots KnownFile). (known_in fs f).window) (flushed-files u))) (flushed-exited u) tt (inl served)
+
+  asked : (g p q : ℕ) → IsOpen (view g u) → (g ≡ f) ⊎ Served → IsShown f h (composed (flushed u).0 (Trequest g p q)) (up ++ ((flushed u).1 ++ Trequest g p q ∷ [])) down
+  asked g p q o served = by (reply-how h u up down k g p q o here)
+    where
+      sees : SameView (composed (flushed u).0 (Trequest g p q)) u f
+      sees = view-then (composed (flushed u).0 (Trequest g p q)) (flushed u).0 u f (view-requested (flushed u).0 g p q f ((view-flushed u f).opened ∙ opened)) (view-flushed u f)
+
+      mute : (g ≡ f) ⊎ Served → Mute k.ahead (at_file g (coming h u up down)) g p q → Served
+      mute (inl same) m = absurd (true≢false (sym (subst (λ (y : ℕ). (closes (at_file y (coming h u up down)) || exits (at_file y (coming h u up down))) ≡ true) same m.ends) ∙ calm-stays (at_file f (coming h u up down)) calm))
+      mute (inr s) m = s
+
+      there : (t : Tells k.ahead g p q) → g ≡ f → at_file f (data_frames g t.place t.runes) ≡ Fill t.place t.runes ∷ Free_file ∷ []
+      there t same = subst (λ (y : ℕ). at_file y (data_frames g t.place t.runes) ≡ Fill t.place t.runes ∷ Free_file ∷ []) same (data-there g t.place t.runes)
+
+      tells : (t : Tells k.ahead g p q) (b : Bool) → (f == g) ≡ b → (g ≡ f) ⊎ Served → IsShown f h (composed (flushed u).0 (Trequest g p q)) (up ++ ((flushed u).1 ++ Trequest g p q ∷ [])) down
+      tells t true e s =
+          let is = there t (sym (eqb-true f g e)) in
+          sent (Trequest g p q) (counted k.ahead, data_frames g t.place t.runes) t.replies sees (flushed-exited u) (subst IsCalm (sym is) (refl, (λ c. refl), (refl, (λ c. absurd (true≢false (sym c))), tt)))
+          (inr (ap brings is))
+      tells t false e (inl same) = absurd (true≢false (sym (eq-eqb f g (sym same)) ∙ e))
+      tells t false e (inr s) =
+          sent (Trequest g p q) (counted k.ahead, data_frames g t.place t.runes) t.replies sees (flushed-exited u) (calm-skips (at_file f (data_frames g t.place t.runes)) (data-elsewhere g f t.place t.runes e)) (inl s)
+
+      by : Mute k.ahead (at_file g (coming h u up down)) g p q ⊎ Tells k.ahead g p q → IsShown f h (composed (flushed u).0 (Trequest g p q)) (up ++ ((flushed u).1 ++ Trequest g p q ∷ [])) down
+      by (inl m) = sent (Trequest g p q) (counted k.ahead, []) m.replies sees (flushed-exited u) tt (inl (mute served m))
+      by (inr t) = tells t (f == g) refl served
+
+-- where the request rule finds nothing to ask for, and nothing is awaited, the view has no gap
+loaded-none : (t : PlainTerminal) (f : ℕ) → wanted t f ≡ None → is_open t f ≡ true → t.has_exited ≡ false → (window_at t f).awaited ≡ 0 → IsLoaded t f
+loaded-none t f n o x a = by (is_open t f) t.has_exited ((window_at t f).awaited == 0) (hole_within (window_at t f).rasp (window_at t f).view_start (view_end (window_at t f))) o x (eq-eqb (window_at t f).awaited 0 a) refl n
+  where
+    by : (p q r : Bool) (hole : Option (ℕ × ℕ)) → p ≡ true → q ≡ false → r ≡ true
+        → hole_within (window_at t f).rasp (window_at t f).view_start (view_end (window_at t f)) ≡ hole → (if p && not q && r then request_for f hole else None) ≡ None → IsLoaded t f
+    by true false true None a b c e n = e
+    by true false true (Some g) a b c e n = absurd (grind arith)
+    by p q r hole a b c e n = absurd (grind arith)
+
+-- what the request rule makes
+wanting : (f : ℕ) (h : PlainHost) (u : PlainTerminal) (up : List Tmesg) (down : List Hmesg) (k : AllComeToSync h (views u) (up ++ unsent_message u.unsent) down) → IsCalm (at_file f (coming h u up down))
+    → is_open u f ≡ true → u.has_exited ≡ false → (g : ℕ) → ((f == g) ≡ false → IsLoaded u f ⊎ (brings (at_file f (coming h u up down)) ≡ true))
+    → ((f == g) ≡ true → AwaitsAll (window_at u f).awaited (at_file f (coming h u up down)))
+    → IsShown f h (sends_if (wanted u g) u).0 (up ++ (sends_if (wanted u g) u).1) down
+wanting f h u up down k calm opened here g other awaits = from (wanted u g) refl
+  where
+    frames : List Action
+    frames = at_file f (coming h u up down)
+
+    loaded : (b : Bool) → brings frames ≡ b → (f == g) ≡ true → wanted u g ≡ None → IsLoaded u f ⊎ (brings frames ≡ true)
+    loaded true q e n = inr q
+    loaded false q e n =
+        inl (loaded-none u f (ap (wanted u) (eqb-true f g e) ∙ n) opened here (none-awaited frames (window_at u f).awaited calm q (awaits e)))
+
+    served : (b : Bool) → (f == g) ≡ b → wanted u g ≡ None → IsLoaded u f ⊎ (brings frames ≡ true)
+    served true e n = loaded (brings frames) refl e n
+    served false e n = other e
+
+    which : (b : Bool) → (f == g) ≡ b → (g ≡ f) ⊎ (IsLoaded u f ⊎ (brings frames ≡ true))
+    which true e = inl (sym (eqb-true f g e))
+    which false e = inr (other e)
+
+    from : (x : Option Tmesg) → wanted u g ≡ x → IsShown f h (sends_if x u).0 (up ++ (sends_if x u).1) down
+    from None n = silent f h u up down k calm opened here (served (f == g) refl n)
+    from (Some x) n =
+        let w = wants u g x n in
+        subst (λ (y : Tmesg). IsShown f h (sends_if (Some y) u).0 (up ++ (sends_if (Some y) u).1) down) (sym w.is)
+        (asked f h u up down k calm opened here g w.place w.many (open-view u g w.opened) (which (f == g) refl))
+
+left-asking : (b : Bool) (n : ℕ) → (left (only b Needs_open) n ≡ n) × (left (only b Free_file) n ≡ n)
+left-asking true n = (refl, refl)
+left-asking false n = (refl, refl)
+
+awaited-unlocked : (t : PlainTerminal) (g f : ℕ) → (window_at (effect t (Hunlockfile g)) f).awaited ≡ (window_at t f).awaited
+unfolding took_unlockfile
+awaited-unlocked t g f = grind (arith, slot-put_same, slot-put_other)
+
+pub shown-frame : (f : ℕ) (h : PlainHost) (t : PlainTerminal) (up : List Tmesg) (m : Hmesg) (down : List Hmesg) → InOrder h t up (m ∷ down) → AreAwaited h t up (m ∷ down)
+    → IsShown f h t up (m ∷ down) → IsShown f h (frame_outcome t m).0 (up ++ (frame_outcome t m).1) down
+shown-frame f h t up m down o awaits s =
+    subst (λ (x : Made). IsShown f h x.0 (up ++ x.1) down) (sym (composes-is h t up m down o)) (by m refl)
+  where
+    u : PlainTerminal
+    u = effect t m
+
+    k : AllComeToSync h (views u) (up ++ unsent_message u.unsent) down
+    k = taken h t up m down o
+
+    frames : List Action
+    frames = at_file f (coming h u up down)
+
+    whole : coming h t up (m ∷ down) ≡ m ∷ coming h u up down
+    whole = ap (λ (n : Option Unsent). m ∷ (down ++ frames_of (answers h (up ++ unsent_message n)))) (sym (unsent-left h t up m down o))
+
+    calm : IsCalm (action f m ∷ frames)
+    calm = subst (λ (fs : List Hmesg). IsCalm (at_file f fs)) whole s.calm
+
+    here : u.has_exited ≡ false
+    here = here-stays t f m calm.0 ∙ s.here
+
+    opened : is_open u f ≡ true
+    opened = fills-or (is_fill (action f m)) refl
+      where
+        fills-or : (b : Bool) → is_fill (action f m) ≡ b → is_open u f ≡ true
+        fills-or true q = open-fill t f m q s.opened
+        fills-or false q = (view-stays t f m calm.0 q s.opened).opened ∙ s.opened
+
+    before : IsLoaded t f ⊎ (brings (action f m ∷ frames) ≡ true)
+    before = served s.served
+      where
+        served : IsLoaded t f ⊎ (brings (at_file f (coming h t up (m ∷ down))) ≡ true) → IsLoaded t f ⊎ (brings (action f m ∷ frames) ≡ true)
+        served (inl l) = inl l
+        served (inr b) = inr (subst (λ (fs : List Hmesg). brings (at_file f fs) ≡ true) whole b)
+
+    plain : is_asking (action f m) ≡ false → IsLoaded u f ⊎ (brings frames ≡ true)
+    plain mute = fills-or (is_fill (action f m)) refl before
+      where
+        fills-or : (b : Bool) → is_fill (action f m) ≡ b → IsLoaded t f ⊎ (brings (action f m ∷ frames) ≡ true) → IsLoaded u f ⊎ (brings frames ≡ true)
+        fills-or true q x = inr (calm.1 q)
+        fills-or false q (inl l) = inl ((view-stays t f m calm.0 q s.opened).loaded l)
+        fills-or false q (inr b) = inr (ap (λ (z : Bool). z || brings frames) (sym mute) ∙ b)
+
+    waits : AwaitsAll (left (action f m) (window_at t f).awaited) frames
+    waits = awaited-plain f (left (action f m) (window_at t f).awaited) h up (unsent_message u.unsent) down (k.ahead, k.frames) k.folds (grind arith) ((awaits f).1)
+
+    Out : Option Tmesg → Type 0
+    Out x = IsShown f h (sends_if x u).0 (up ++ (sends_if x u).1) down
+
+    asks : (g : ℕ) (y : Hmesg) → y ≡ m → ((f == g) ≡ false → is_asking (action f y) ≡ false) → ((n : ℕ) → left (action f y) n ≡ n) → (window_at (effect t y) f).awaited ≡ (window_at t f).awaited
+        → Out (wanted (effect t y) g)
+    asks g y e other stays same =
+        subst (λ (v : PlainTerminal). Out (wanted v g)) (sym (ap (effect t) e))
+        (wanting f h u up down k calm.2 opened here g (λ q. plain (ap (λ (z : Hmesg). is_asking (action f z)) (sym e) ∙ other q))
+        (λ q. subst (λ (n : ℕ). AwaitsAll n frames)
+        (ap (λ (z : Hmesg). left (action f z) (window_at t f).awaited) (sym e) ∙ stays (window_at t f).awaited ∙ sym same ∙ ap (λ (z : Hmesg). (window_at (effect t z) f).awaited) e) waits))
+
+    by : (y : Hmesg) → y ≡ m → Out (composed_for t y)
+    by (Hcheck g) e = asks g (Hcheck g) e (λ q. rw q refl) (λ n. (left-asking (f == g) n).0) refl
+    by (Hunlockfile g) e = asks g (Hunlockfile g) e (λ q. rw q refl) (λ n. (left-asking (f == g) n).1) (awaited-unlocked t g f)
+    by Hack e = sees t.has_exited
+      where
+        kept-still : Served f h u up down k calm.2 opened here
+        kept-still = plain (ap (λ (z : Hmesg). is_asking (action f z)) (sym e))
+
+        sees : (b : Bool) → Out (if b then None else Some Tack)
+        sees true = silent f h u up down k calm.2 opened here kept-still
+        sees false = acked f h u up down k calm.2 opened here kept-still
+    by y e = silent f h u up down k calm.2 opened here (plain (ap (λ (z : Hmesg). is_asking (action f z)) (sym e) ∙ (grind arith)))
+
+-- ## The act of a view
+
+outcome-shown : (f p n : ℕ) (h : PlainHost) (t : PlainTerminal) (up : List Tmesg) (down : List Hmesg) → InOrder h t up down → AreAwaited h t up down → Passed t (View f p n)
+    → IsShown f h (event_outcome t (View f p n)).0 (up ++ (event_outcome t (View f p n)).1) down
+unfolding made_by_view requested
+outcome-shown f p n h t up down o awaits pass =
+    wanting f h u up down k calm (opened-put t f (record (window_at t f) { view_start = p; view_length = n })) pass.here f (λ e. absurd (true≢false (sym (eq-eqb f f refl) ∙ e))) waits
+  where
+    u : PlainTerminal
+    u = put_window t f (record (window_at t f) { view_start = p; view_length = n })
+
+    opened : is_open t f ≡ true
+    opened = not-false (is_open t f) pass.opened
+
+    k : AllComeToSync h (views u) (up ++ unsent_message u.unsent) down
+    k = looking h t up down f p n o opened pass.here
+
+    free : IsFree (view f u)
+    free = subst IsFree (sym (view-kept t f (record (window_at t f) { view_start = p; view_length = n }) (open-view t f opened) refl refl f)) (free_at t f pass.free pass.unlocked)
+
+    calm : IsCalm (at_file f (coming h u up down))
+    calm = subst (λ (r : Option Reply). IsCalm (at_file f (down ++ frames_of r))) (sym k.folds)
+        (calm-free (at_file f (down ++ k.frames)) (k.each f).guarded (frees_nothing (at_file f (down ++ k.frames)) (view f u) (k.each f).final free (k.each f).runs))
+
+    same : (window_at u f).awaited ≡ (window_at t f).awaited
+    same = ap (λ (x : Window). x.awaited) (window-put t f (record (window_at t f) { view_start = p; view_length = n }))
+
+    waits : (f == f) ≡ true → AwaitsAll (window_at u f).awaited (at_file f (coming h u up down))
+    waits e = subst (λ (j : ℕ). AwaitsAll j (at_file f (coming h u up down))) (sym same)
+        (awaited-plain f (window_at t f).awaited h up (unsent_message u.unsent) down (k.ahead, k.frames) k.folds (grind arith) (awaits f))
+
+-- ## Runs
+
+abbrev At : ℕ → PlainWorld → Type 0
+At f w = IsShown f w.host w.term w.up (mesgs w.down)
+
+empty-held : {A : Type 0} (x : A) (xs : List A) → [] ≡ x ∷ xs → ⊥
+empty-held x xs e = grind arith
+
+shown-step : (f : ℕ) (w next : PlainWorld) (e : Event) → IsKept w → w.term.held ≡ [] → Applies w e next → At f w → At f next
+shown-step f w next e k none a s = by e refl
+  where
+    n : IsInOrder next
+    n = steps_in_order w next e k.order a.stepped
+
+    act : Idles w next ⊎ Acts w next → At f next
+    act (inl idle) = absurd (a.changes idle.same)
+    act (inr acts) = absurd (empty-held acts.first acts.rest (sym none ∙ acts.was))
+
+    host : HostTakes w next → At f next
+    host t =
+        let down = mesgs w.down in
+        let order : InOrder t.reply.0 w.term t.rest (mesgs w.down ++ t.reply.1) = grind (arith, n.ordered) in
+        let was : IsShown f w.host w.term (t.first ∷ t.rest) (mesgs w.down) = subst (λ (l : List Tmesg). IsShown f w.host w.term l (mesgs w.down)) t.was s in
+        let now : IsShown f t.reply.0 w.term t.rest (mesgs w.down ++ t.reply.1) =
+        shown-same f w.host t.reply.0 w.term w.term (t.first ∷ t.rest) t.rest (mesgs w.down) (mesgs w.down ++ t.reply.1)
+        (coming-host w.host w.term t.first t.rest (mesgs w.down) t.reply t.replies order) (same-window w.term w.term f refl) refl was in
+        subst (λ (x : PlainHost). IsShown f x next.term next.up (mesgs next.down)) (sym t.host)
+        (subst (λ (x : PlainTerminal). IsShown f t.reply.0 x next.up (mesgs next.down)) (sym t.term)
+        (subst (λ (x : List Tmesg). IsShown f t.reply.0 w.term x (mesgs next.down)) (sym t.up) (subst (IsShown f t.reply.0 w.term t.rest) (sym t.down) now)))
+
+    term : TermTakes w next → At f next
+    term t =
+        let m = t.first.msg in
+        let before : mesgs w.down ≡ t.first.msg ∷ mesgs t.rest = ap mesgs t.was in
+        let now : IsShown f w.host (frame_outcome w.term t.first.msg).0 (w.up ++ (frame_outcome w.term t.first.msg).1) (mesgs t.rest) =
+        shown-frame f w.host w.term w.up t.first.msg (mesgs t.rest) (subst (InOrder w.host w.term w.up) before k.order.ordered) (subst (AreAwaited w.host w.term w.up) before k.awaited)
+        (subst (IsShown f w.host w.term w.up) before s) in
+        subst (λ (x : PlainHost). IsShown f x next.term next.up (mesgs next.down)) (sym t.host)
+        (subst (λ (x : PlainTerminal). IsShown f w.host x next.up (mesgs next.down)) (sym t.term)
+        (subst (λ (x : List Tmesg). IsShown f w.host (frame_outcome w.term t.first.msg).0 x (mesgs next.down)) (sym t.up)
+        (subst (λ (x : List HFrame). IsShown f w.host (frame_outcome w.term t.first.msg).0 (w.up ++ (frame_outcome w.term t.first.msg).1) (mesgs x)) (sym t.down) now)))
+
+    flush : Flushes w next → At f next
+    flush t =
+        subst (At f) (sym t.is)
+        (shown-same f w.host w.host w.term (flushed w.term).0 w.up (w.up ++ (flushed w.term).1) (mesgs w.down) (mesgs w.down) (coming-flush w.host w.term w.up (mesgs w.down)) (view-flushed w.term f)
+        (flushed-exited w.term) s)
+
+    by : (x : Event) → e ≡ x → At f next
+    by (User x) q = absurd (true≢false (ap is_user (sym q) ∙ a.own))
+    by Act q = act (act-takes w next (ap (step_of w) (sym q) ∙ a.stepped))
+    by Flush q = flush (flush-takes w next (ap (step_of w) (sym q) ∙ a.stepped))
+    by HostTake q = host (host-takes w next k.order (ap (step_of w) (sym q) ∙ a.stepped))
+    by TermTake q = term (term-takes w next (ap (step_of w) (sym q) ∙ a.stepped))
+
+held-step : (w next : PlainWorld) (e : Event) → IsKept w → w.term.held ≡ [] → Applies w e next → next.term.held ≡ []
+held-step w next e k none a = by (falls w e next k a.own a.stepped)
+  where
+    by : (next ≡ w) ⊎ Lowers w next → next.term.held ≡ []
+    by (inl same) = absurd (a.changes same)
+    by (inr (inl fewer)) = let nothing = ap (λ (l : List UserEvent). length l) none in absurd (omega (arith, fewer, nothing))
+    by (inr (inr less)) = less.1 ∙ none
+
+shown-leads : (f : ℕ) (es : List Event) (w v : PlainWorld) → IsKept w → w.term.held ≡ [] → At f w → LeadsOn w es v → At f v
+shown-leads f [] w v k none s l = subst (At f) (sym l) s
+shown-leads f (e ∷ es) w v k none s l =
+    shown-leads f es l.0 v (keeps-step w e l.0 k l.1.stepped) (held-step w l.0 e k none l.1) (shown-step f w l.0 e k none l.1 s) l.2
+
+view-acts : (w next : PlainWorld) (f p n : ℕ) → IsKept w → w.term.held ≡ View f p n ∷ [] → first_of_checks (event_checks w.term (View f p n)) ≡ None → step_of w Act ≡ Some next
+    → At f next × (next.term.held ≡ [])
+unfolding act_of
+view-acts w next f p n k held none s = go (if_countable made.0.sent (made.0, Done made.1)) refl
+  where
+    t : PlainTerminal
+    t = record w.term { held = [] }
+
+    made : Made
+    made = event_outcome t (View f p n)
+
+    there : InOrder w.host t w.up (mesgs w.down)
+    there = record { kept = k.order.ordered.kept; tidy = k.order.ordered.tidy; unsent = k.order.ordered.unsent }
+
+    shown : At f (record w { term = made.0; up = w.up ++ made.1 })
+    shown = outcome-shown f p n w.host t w.up (mesgs w.down) there k.awaited (held_passed w.term [] (View f p n) (passed w.term (View f p n) none))
+
+    acted : after_act w (if_countable made.0.sent (made.0, Done made.1)) ≡ Some next
+    acted = sym (ap (λ (l : List UserEvent). after_act w (act_on w.term l)) held ∙ ap (λ (v : Option Verdict). after_act w (decided v w.term [] made)) none) ∙ s
+
+    go : (a : Result (PlainTerminal × Acted) TermFault) → if_countable made.0.sent (made.0, Done made.1) ≡ a → At f next × (next.term.held ≡ [])
+    go (Err why) q = absurd (grind (arith, acted))
+    go (Ok r) q =
+        let same : (made.0, Done made.1) ≡ r = counted-result made.0.sent (made.0, Done made.1) r q in
+        let is : record w { term = made.0; up = w.up ++ made.1 } ≡ next =
+        same_Some _ _ (ap (λ (x : PlainTerminal × Acted). after_act w (Ok x)) same ∙ ap (after_act w) (sym q) ∙ acted) in
+        (subst (At f) is shown, ap (λ (v : PlainWorld). v.term.held) (sym is) ∙ event-held t (View f p n))
+
+pub views_are_loaded : ViewsAreLoaded
+views_are_loaded w next v f p n es r held none s leads done =
+    let k = kept-of w r in
+    let acted = view-acts w next f p n k held none s in
+    let last = shown-leads f es next v (keeps-step w Act next k s) acted.1 acted.0 leads in
+    by last.served
+  where
+    quiet : coming v.host v.term v.up (mesgs v.down) ≡ []
+    quiet = let x = parts v done.rests in (λ i. mesgs (x.down i) ++ frames_of (answers v.host (x.up i ++ unsent_message (x.unsent i))))
+
+    by : IsLoaded v.term f ⊎ (brings (at_file f (coming v.host v.term v.up (mesgs v.down))) ≡ true) → IsLoaded v.term f
+    by (inl l) = l
+    by (inr b) = absurd (true≢false (sym b ∙ ap (λ (fs : List Hmesg). brings (at_file f fs)) quiet))

@@ -1,0 +1,23 @@
+-- A view that was set last has no gap once the session has come to rest.
+use Rattle.std.specs.Prelude.{◌≡◌, ℕ, List, [], ◌∷◌, Some, None}
+use Rattle.sam_runes.specs.Checks.{first_of_checks}
+use Rattle.sam_rasp.specs.Rasp.{hole_within}
+use Rattle.sam_term.specs.Term.{PlainTerminal, window_at, view_end, event_checks}
+use Rattle.sam_term.specs.declared.event.UserEvent.TheVariants.{View}
+use Rattle.sam_crossing.specs.World.{PlainWorld, step_of}
+use Rattle.sam_crossing.specs.World.{WasReached}
+use Rattle.sam_crossing.specs.declared.event.Event.{Event}
+use Rattle.sam_crossing.specs.declared.event.Event.TheVariants.{Act}
+use Rattle.sam_rest.specs.Rest.{LeadsOn, IsDone}
+
+-- no gap stands in the view of f
+abbrev pub IsLoaded : PlainTerminal → ℕ → Type 0
+IsLoaded t f = let w = window_at t f in hole_within w.rasp w.view_start (view_end w) ≡ None
+
+-- Where a view of f is the only event that is held, and nothing stands against it, it acts. Wherever all is done after that, with no
+-- further event of the user, no gap stands in the view of f
+abbrev pub ViewsAreLoaded : Type 0
+ViewsAreLoaded =
+    (w next v : PlainWorld) (f p n : ℕ) (es : List Event) → WasReached w → w.term.held ≡ View f p n ∷ []
+    → first_of_checks (event_checks w.term (View f p n)) ≡ None → step_of w Act ≡ Some next → LeadsOn next es v → IsDone v
+    → IsLoaded v.term f
