@@ -34,7 +34,7 @@ pub use Rattle.sam_workers.specs.Handling.{Ends, StopsAtRest, Handled, HandledFr
 pub use Rattle.sam_workers.specs.Inputs.{bytes_of, frame_of_load, frames_in, user_of_load, users_in}
 pub use Rattle.sam_workers.specs.Numbers.{frame_number}
 pub use Rattle.sam_workers.specs.Passing.{Passes, PassesPiece, Sends, SendsBefore, sent_on}
-pub use Rattle.sam_workers.specs.RealSides.{acted, at_work, did, sides, unless_refused}
+pub use Rattle.sam_workers.specs.RealSides.{acted, at_work, worked, sides, unless_refused}
 pub use Rattle.sam_workers.specs.TermMoments.{Did, Goes, IsDone, IsFound, IsOfUser, IsQuiet, LoggedView, MayExit, Ran, SideView, SoFar, WasNotHandled}
 pub use Rattle.sam_workers.specs.WorkerEnds.{HostStopped, HostTold, ReaderTold, TermTold}
 pub use Rattle.sam_workers.specs.declared.input.Input.{Input}

@@ -1,5 +1,5 @@
 -- The real sides count as the law of two sides asks, their frames are told apart, and their world is the plain world.
-use Rattle.sam_workers.proofs.Common.{◌≡◌, suc, ◌≤◌, List, [], ◌∷◌, Some, Result, Ok, refl, arith, option_map, All, FitsT, Tmesg, FitsH, HFrame, terminal, host, frame_of, PlainHost, PlainTerminal, Made, flush_of, take_of, TermFault, Acted, PlainWorld, composed_by, step_of, run_of, Each, Counts, TermRuns, TermLog, World, step, run, act_of, at_work, did, sides, unless_refused, acted}
+use Rattle.sam_workers.proofs.Common.{◌≡◌, suc, ◌≤◌, List, [], ◌∷◌, Some, Result, Ok, refl, arith, option_map, All, FitsT, Tmesg, FitsH, HFrame, terminal, host, frame_of, PlainHost, PlainTerminal, Made, flush_of, take_of, TermFault, Acted, PlainWorld, composed_by, step_of, run_of, Each, Counts, TermRuns, TermLog, World, step, run, act_of, at_work, worked, sides, unless_refused, acted}
 use Rattle.std.proofs.lemmas.Option.{same_Some}
 use Rattle.sam_mesg.proofs.TerminalLaws as upwards
 use Rattle.sam_mesg.proofs.HostLaws as downwards
@@ -82,7 +82,7 @@ plain_run w last es e = grind (arith, same_run)
 did_is : (t u : PlainTerminal) (ms : List Tmesg) → at_work.act t ≡ Some (u, ms) → sides.act t ≡ Some (u, ms)
 did_is t u ms e = go (act_of t) e
   where
-    go : (r : Result (PlainTerminal × Acted) TermFault) → did r ≡ Some (u, ms) → acted r ≡ Some (u, ms)
+    go : (r : Result (PlainTerminal × Acted) TermFault) → worked r ≡ Some (u, ms) → acted r ≡ Some (u, ms)
     go r e = grind arith
 
 flushed_is : (t u : PlainTerminal) (ms : List Tmesg) → at_work.flush t ≡ Some (u, ms) → sides.flush t ≡ Some (u, ms)

@@ -1,8 +1,9 @@
 -- What is kept of the terminal's worker as it takes entries.
-use Rattle.sam_workers.proofs.Common.{flat_map-append, ◌≡◌, ◌≤◌, ◌⊎◌, inl, inr, ℕ, Bool, true, false, List, [], ◌∷◌, ◌++◌, Option, Some, None, is_some, append_assoc, append-nil, arith, FitsT, Tmesg, terminal, stream_of, Each, each_append, Entry, loads, has_mark, has_left, TakeView, TakesNext, Answers, users_in, frames_in, length, length-append, ◌+◌, frame_of_load, user_of_load, LoggedView, Did, SideView, SoFar, Ran, IsOfUser, WasNotHandled, Input, Stop}
+use Rattle.sam_workers.proofs.Common.{flat_map-append, refl, ap, ◌≡◌, ◌≤◌, ◌⊎◌, inl, inr, ℕ, Bool, true, false, List, [], ◌∷◌, ◌++◌, Option, Some, None, is_some, append_assoc, append-nil, arith, FitsT, Tmesg, terminal, stream_of, Each, each_append, Entry, loads, has_mark, has_left, TakeView, TakesNext, Answers, users_in, frames_in, length, length-append, ◌+◌, frame_of_load, user_of_load, LoggedView, Did, SideView, SoFar, Ran, IsOfUser, WasNotHandled, Input, Stop}
 use Rattle.sam_queue.specs.declared.take.Got.{Got}
 use Rattle.sam_queue.proofs.Histories.{loads-append, loads_mine}
 use Rattle.sam_workers.specs.Gates.{IsCount}
+use Rattle.sam_workers.specs.declared.input.Input.TheVariants.{User, Host}
 use Rattle.sam_workers.specs.declared.stop.Stop.TheVariants as stop
 use Rattle.sam_workers.proofs.TermSteps.{did_nothing}
 use Rattle.sam_workers.proofs.TermKeeping.{runs_on, users_on, whole, all_handled, sent_on}
@@ -30,7 +31,8 @@ abbrev items_of_load : Option Input → ℕ
 items_of_load load = length (user_of_load load) + length (frame_of_load load)
 
 one_item : (input : Input) → items_of_load (Some input) ≡ 1
-one_item input = grind arith
+one_item (User event) = refl
+one_item (Host frame) = refl
 
 items_more : (h : List (Entry Input)) (e : Entry Input)
     → length (users_in (h ++ e ∷ [])) + length (frames_in (h ++ e ∷ [])) ≡ (length (users_in h) + length (frames_in h)) + items_of_load e.load
@@ -84,9 +86,11 @@ pub kept_item : (v : SideView) (line : TakeView Input) (sender : ℕ) (input : I
     → ((why ≡ v.stop) × (to_send ≡ v.to_send ++ stream_of terminal ms)) ⊎ ((why ≡ Some stop.Memory) × (to_send ≡ v.to_send))
     → Ran (record { take = line; post = v.post; logged = logged; to_send = to_send; keyboard_left = v.keyboard_left; mouse_left = v.mouse_left; exit_put = v.exit_put; steps = steps; stop = why })
 kept_item v line sender input logged to_send steps why ms r running next counts d of_user fit (inl encoded) =
-    grind (arith, append-nil, (one_item input), (kept_entry v line (record { sender = sender; load = Some input }) logged to_send v.keyboard_left v.mouse_left steps None ms []))
+    let more : IsCount steps (v.steps + items_of_load (Some input)) = omega (arith, counts, (one_item input)) in
+    grind (arith, append-nil, more, (kept_entry v line (record { sender = sender; load = Some input }) logged to_send v.keyboard_left v.mouse_left steps None ms []))
 kept_item v line sender input logged to_send steps why ms r running next counts d of_user fit (inr lost) =
-    grind (arith, (one_item input), (kept_entry v line (record { sender = sender; load = Some input }) logged to_send v.keyboard_left v.mouse_left steps (Some stop.Memory) ms (stream_of terminal ms)))
+    let more : IsCount steps (v.steps + items_of_load (Some input)) = omega (arith, counts, (one_item input)) in
+    grind (arith, more, (kept_entry v line (record { sender = sender; load = Some input }) logged to_send v.keyboard_left v.mouse_left steps (Some stop.Memory) ms (stream_of terminal ms)))
 
 mark_handled : (v : SideView) (line : TakeView Input) (e : Entry Input) (k m : Bool) (why : Option Stop) → Ran v → v.stop ≡ None → TakesNext v.take e line → e.load ≡ None
     → SoFar v.logged.term [] [] why
@@ -96,8 +100,9 @@ mark_handled : (v : SideView) (line : TakeView Input) (e : Entry Input) (k m : B
     → (why ≡ Some stop.PeerGone → e ≡ record { sender = 2; load = None })
     → Ran (record { take = line; post = v.post; logged = v.logged; to_send = v.to_send; keyboard_left = k; mouse_left = m; exit_put = v.exit_put; steps = v.steps; stop = why })
 mark_handled v line e k m why r running next mark so_far keeps_k keeps_m new_k new_m gone =
-    let still : IsCount v.steps (v.steps + items_of_load e.load) = grind (arith, r.counted) in
-    grind (arith, did_nothing, (kept_entry v line e v.logged v.to_send k m v.steps why [] []))
+    let none : items_of_load e.load ≡ 0 = ap (λ (load : Option Input). items_of_load load) mark in
+    let still : IsCount v.steps (v.steps + items_of_load e.load) = omega (arith, r.counted, none) in
+    grind (arith, did_nothing, still, (kept_entry v line e v.logged v.to_send k m v.steps why [] []))
 
 -- the keyboard, the mouse or the host reader has left
 pub kept_keyboard : (v : SideView) (line : TakeView Input) → Ran v → is_some v.stop ≡ false → TakesNext v.take (record { sender = 0; load = None }) line

@@ -35,8 +35,10 @@ pub record TermHandled (many : ℕ) (e : TermEnd) : Type 0 where
   pub many_is : IsCount many (length (users_in handled) + length (frames_in handled))
 
 -- the gate let the terminal's worker go on before each item that it handled
-abbrev pub TermLetOn : (Option ℕ → Type 0) → TermEnd → Type 0
-TermLetOn must e = (many : ℕ) × TermHandled many e × LetOn must 0 many
+pub record TermLetOn (must : Option ℕ → Type 0) (e : TermEnd) : Type 0 where
+  pub many : ℕ
+  pub handled : TermHandled many e
+  pub let_on : LetOn must 0 many
 
 -- The gate let each worker go on before each of its steps: an event that keyboard or mouse put, a message that the host handled, a frame
 -- that the host reader sent on, an item that the terminal handled

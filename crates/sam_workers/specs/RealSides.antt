@@ -38,13 +38,13 @@ unless_still t (Refused why) = Some (t, [])
 unless_still t Idle = None
 unless_still t Locked = None
 
-abbrev pub did : Result (PlainTerminal × Acted) TermFault → Option (PlainTerminal × List Tmesg)
-did (Ok p) = unless_still p.0 p.1
-did (Err why) = None
+abbrev pub worked : Result (PlainTerminal × Acted) TermFault → Option (PlainTerminal × List Tmesg)
+worked (Ok p) = unless_still p.0 p.1
+worked (Err why) = None
 
 -- The same sides, where a step that does nothing is none: an Act does or refuses an event, and a Flush composes unsent runes
 abbrev pub at_work : Steps PlainHost PlainTerminal Tmesg HFrame
 at_work = record sides {
-  act = λ t. did (act_of t);
+  act = λ t. worked (act_of t);
   flush = λ t. if is_some t.unsent then unless_refused (flush_of t) else None;
 }

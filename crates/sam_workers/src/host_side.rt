@@ -114,6 +114,7 @@ impl HostSide<'_> {
     }
 
     /// Handles the messages in order, up to the first at which something stops it, which is the error.
+    #[tactic(auto, using(crate::proofs::GateLaws::let_on_none))]
     fn answer_all<R: Wait, G: Gate>(
         &mut self,
         rt: &R,
@@ -165,7 +166,7 @@ impl HostSide<'_> {
     }
 
     /// Handles the messages that are whole with this piece, also those before a fault of the stream.
-    #[tactic(auto, using(crate::proofs::HostSide::piece_all, crate::proofs::HostSide::piece_unfed))]
+    #[tactic(auto, using(crate::proofs::HostSide::piece_all, crate::proofs::HostSide::piece_unfed, crate::proofs::GateLaws::let_on_none))]
     fn take_piece<R: Wait, G: Gate>(&mut self, rt: &R, gate: &G, piece: &[u8]) -> Result<(), Stop>
         requires piece { 0 < self.old.piece }
         requires open { self.old.post.closed ≡ false }
@@ -193,7 +194,7 @@ impl HostSide<'_> {
     }
 
     /// Handles what comes until the end mark. Returns what stopped it before that.
-    #[tactic(auto, using(sam_queue::proofs::Laws::items_of_mark))]
+    #[tactic(auto, using(sam_queue::proofs::Laws::items_of_mark, crate::proofs::GateLaws::let_on_none))]
     fn serve<R: Wait, G: Gate>(
         &mut self,
         rt: &R,
@@ -224,7 +225,7 @@ impl HostSide<'_> {
     }
 
     /// Serves if the gate lets the worker begin. Returns whether it did, and what stopped it.
-    #[tactic(auto, using(crate::proofs::HostWhole::serves_nothing))]
+    #[tactic(auto, using(crate::proofs::HostWhole::serves_nothing, crate::proofs::GateLaws::let_on_none))]
     fn run<R: Wait, G: Gate>(
         &mut self,
         rt: &R,

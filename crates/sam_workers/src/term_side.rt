@@ -255,7 +255,7 @@ impl<'q> Side<'q> {
 
     /// Takes the next entry, if there is one. It lets the terminal handle an item, and notes who has left. If the host reader has left
     /// before the session is over, it stops.
-    #[tactic(auto, using(crate::proofs::TermTaking::takes_kept))]
+    #[tactic(auto, using(crate::proofs::TermTaking::takes_kept, crate::proofs::GateLaws::let_on_none, crate::proofs::GateLaws::let_on_at))]
     fn take_next<R: Wait, G: Gate>(&mut self, rt: &R, gate: &G) -> Found
         requires running { is_some self.old.stop ≡ false }
         ensures take { self.new.take.line ≡ self.old.take.line }
@@ -382,7 +382,7 @@ impl<'q> Side<'q> {
 
     /// Makes one turn where nothing has stopped the worker: it takes, acts, puts, and tries to finish. If it took and put nothing, it
     /// waits a little for an entry, and composes the unsent runes before it would sleep. Returns whether all is done.
-    #[tactic(auto, using(crate::proofs::TermKeeping::goes_on, crate::proofs::TermKeeping::found_still))]
+    #[tactic(auto, using(crate::proofs::TermKeeping::goes_on, crate::proofs::TermKeeping::found_still, crate::proofs::GateLaws::let_on_to))]
     fn turn<R: Wait, G: Gate>(&mut self, rt: &R, gate: &G, backoff: &mut Backoff) -> bool
         requires running { is_some self.old.stop ≡ false }
         ensures take { self.new.take.line ≡ self.old.take.line }
@@ -427,6 +427,7 @@ impl<'q> Side<'q> {
     }
 
     /// Makes turns until all is done.
+    #[tactic(auto, using(crate::proofs::GateLaws::let_on_none, crate::proofs::GateLaws::let_on_more, crate::proofs::GateLaws::let_on_to))]
     fn run<R: Wait, G: Gate>(&mut self, rt: &R, gate: &G)
         requires gate { self.old.stop ≡ Some Stop.Gate → G.may_refuse gate.now 4 }
         ensures take { self.new.take.line ≡ self.old.take.line }
@@ -450,7 +451,7 @@ impl<'q> Side<'q> {
     }
 
     /// Returns the worker's end.
-    #[tactic(auto, using(crate::proofs::TermKeeping::told))]
+    #[tactic(auto, using(crate::proofs::TermKeeping::told, crate::proofs::TermKeeping::told_handled))]
     fn into_end(self, passed: bool) -> TermEnd<'q>
         requires { IsDone self }
         ensures told { TermTold self.entry.take.line self.entry.post.line result }
@@ -497,6 +498,7 @@ impl<'q> Side<'q> {
 /// the gate refused the worker; `Frame(1)` or `Frame(2)` for an item that no worker of a session sends; `Term` if the terminal refused a
 /// frame or could not count a message; `PeerGone` if the host reader left before the session was over; `Memory` for want of memory. Once
 /// stopped it closes its post, and takes and drops until everybody has left, so that nobody waits for it.
+#[tactic(auto, using(crate::proofs::GateLaws::term_let_on))]
 pub fn run_terminal<'q, R: Wait, G: Gate>(
     rt: &R,
     alloc: Global,

@@ -1,4 +1,5 @@
 use Rattle.sam_workers.proofs.Common.{◌∙◌, ℕ, ap, subst, IsEnded, LineView}
+use Rattle.sam_workers.proofs.GateLaws.{let_on_new}
 use Rattle.sam_workers.proofs.HostWhole.{told_of, gate_refuses}
 use Rattle.sam_workers.proofs.host_side.serve_host.Goals as goal
 
@@ -12,3 +13,6 @@ returns-clause-told g c =
 
 pub returns-clause-way : goal.returns-clause-way
 returns-clause-way g c = gate_refuses (g.G.Gate.may_refuse c.args.gate.now 2) _ _ _ _ _ _ c.run-passed.ensures.serves
+
+pub returns-clause-let_on : goal.returns-clause-let_on
+returns-clause-let_on g c = let_on_new (g.G.Gate.must_refuse c.args.gate.now 2) _ _ _ c.requires.host c.run-passed.ensures.let_on

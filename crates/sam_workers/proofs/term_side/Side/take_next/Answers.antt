@@ -14,13 +14,13 @@ invariant_of-self-else-not-exited g c = kept_reader _ _ _ c.self.invariant (rw (
 pub invariant_of-self-in-Ok-push_all : goal.invariant_of-self-in-Ok-push_all
 invariant_of-self-in-Ok-push_all g c =
     let did = rw (← c.as_slice.ensures) at c.in-Ok.ensures.handled in
-    kept_item _ _ _ _ _ _ _ _ c.self.invariant (rw (← c.self.view_is) at c.requires.running) c.in-Item.ensures.answer did
+    kept_item _ _ _ _ _ _ _ _ _ c.self.invariant (rw (← c.self.view_is) at c.requires.running) c.in-Item.ensures.answer (grind arith) did
     c.in-Ok.ensures.sender c.push_all.ensures.fit (inl (refl, c.in-Ok-push_all.ensures.encoded))
 
 pub invariant_of-self-in-Err-push_all : goal.invariant_of-self-in-Err-push_all
 invariant_of-self-in-Err-push_all g c =
     let did = rw (← c.as_slice.ensures) at c.in-Ok.ensures.handled in
-    kept_item _ _ _ _ _ _ _ _ c.self.invariant (rw (← c.self.view_is) at c.requires.running) c.in-Item.ensures.answer did
+    kept_item _ _ _ _ _ _ _ _ _ c.self.invariant (rw (← c.self.view_is) at c.requires.running) c.in-Item.ensures.answer (grind arith) did
     c.in-Ok.ensures.sender c.push_all.ensures.fit (inr (refl, c.in-Err-push_all.ensures.unchanged))
 
 pub invariant_of-self-then-not-exited : goal.invariant_of-self-then-not-exited
