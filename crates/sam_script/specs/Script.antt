@@ -1,6 +1,7 @@
 -- Scripts: files, and the lines that follow them.
-use Rattle.std.specs.Prelude.{ℕ, List, [], ◌∷◌, flat_map}
+use Rattle.std.specs.Prelude.{ℕ, List, [], ◌∷◌, flat_map, Option, Some, None}
 use Rattle.sam_term.specs.declared.event.UserEvent.{UserEvent}
+use Rattle.sam_script.specs.declared.line.Line.{Line}
 use Rattle.sam_script.specs.declared.line.Line.TheVariants.{Key, Mouse}
 use Rattle.sam_script.specs.declared.line.Numbered.{Numbered}
 
@@ -8,6 +9,15 @@ use Rattle.sam_script.specs.declared.line.Numbered.{Numbered}
 pub record PlainScript : Type 0 where
   pub files : List (List ℕ × List ℕ)
   pub lines : List Numbered
+
+-- the event that a line has for the keyboard, and that for the mouse
+abbrev pub key_in : Line → Option UserEvent
+key_in (Key event) = Some event
+key_in _ = None
+
+abbrev pub click_in : Line → Option UserEvent
+click_in (Mouse event) = Some event
+click_in _ = None
 
 -- what the user does at the keyboard by a line
 abbrev pub key_of : Numbered → List UserEvent

@@ -1,7 +1,8 @@
 //! Reads one line of a script.
 
-ghost use Rattle.std.specs.Prelude.{◌≡◌, IfOk, IfErr, chars};
+ghost use Rattle.std.specs.Prelude.{◌≡◌, IfOk, IfErr, chars, option_copied};
 ghost use Rattle.sam_script.specs.Reading.{IsUnsaid, line_at, file_at, file_text_at, fitting_name, read_by, bare_readers};
+ghost use Rattle.sam_script.specs.Script.{key_in, click_in};
 ghost use Rattle.sam_script.specs.Words.{Gives};
 ghost use Rattle.sam_script.specs.Spelling.{Says};
 
@@ -45,6 +46,27 @@ pub struct Numbered {
 }
 
 impl Line {
+    /// Returns the event of a `k` line, and `None` for any other. With it the lines of a script say what the user does at the keyboard,
+    /// and no memory is taken.
+    pub fn key(&self) -> Option<&UserEvent>
+        ensures { option_copied result ≡ key_in self.now }
+    {
+        match self {
+            Line::Key(event) => Some(event),
+            _ => None,
+        }
+    }
+
+    /// Returns the event of an `m` line, and `None` for any other. It takes no memory.
+    pub fn click(&self) -> Option<&UserEvent>
+        ensures { option_copied result ≡ click_in self.now }
+    {
+        match self {
+            Line::Mouse(event) => Some(event),
+            _ => None,
+        }
+    }
+
     /// Returns a copy, made with `alloc`. The only error is want of memory.
     pub fn copy(&self, alloc: Global) -> Result<Line, AllocError>
         ensures { IfOk result (λ line. line ≡ self.now) }

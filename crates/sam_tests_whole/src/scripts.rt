@@ -1,6 +1,6 @@
 //! Scripts, read and written.
 
-use sam_script::{Line, Script, ScriptFault, run_lines};
+use sam_script::{Line, Script, ScriptFault, replay, replay_owned, run_lines};
 use sam_test_support::told_of;
 use sam_world::Event;
 use std::alloc::{AllocError, Global};
@@ -134,4 +134,30 @@ fn lines_of_a_run_are_read_as_its_events(rt: HostRuntime) {
         is_kept(rt.alloc(), EACH_KIND),
     ];
     assert_eq!(rt; kept, [true; 3]);
+}
+
+/// A session that types into a file and runs a command on it.
+const HELLO: &str =
+    "file a hello\\n\nk version 1\nk opencmd\nk open 1\nk type 1 X\nk type 0 ,x/l/d\\n\nm flush\nk exit\ndrain\nshow\n";
+
+/// What its end shows.
+const SHOWN: &str =
+    "= h 0 o c ~~sam~~ |,x/l/d\\n|\n= h 1 o d a |Xheo\\n|\n= t 0 0 7 7 |,x/l/d\\n|\n= t 1 0 0 5 |X\\_\\_\\_\\_|\n= s 0 7 7 0 0 0\n";
+
+/// Whether a script shows this when it is replayed, when it is replayed again, and when it is used up.
+fn shows(alloc: Global, text: &str, shown: &str) -> Result<[bool; 3], ScriptFault> {
+    let script = Script::read(alloc, text.as_bytes())?;
+    let first = replay(alloc, &script)?;
+    let again = replay(alloc, &script)?;
+    let last = replay_owned(alloc, script)?;
+    Ok([
+        first.as_slice() == shown.as_bytes(),
+        again.as_slice() == shown.as_bytes(),
+        last.as_slice() == shown.as_bytes(),
+    ])
+}
+
+#[test]
+fn a_script_is_replayed_again_and_used_up(rt: HostRuntime) {
+    assert_eq!(rt; shows(rt.alloc(), HELLO, SHOWN), Ok([true; 3]));
 }
