@@ -12,6 +12,8 @@ use Rattle.sam_term.specs.declared.records.Window.{Window}
 use Rattle.sam_endpoint.specs.declared.fault.EndpointFault.{EndpointFault}
 use Rattle.sam_endpoint.specs.declared.fault.FinishFault.{FinishFault}
 use Rattle.sam_endpoint.specs.declared.fault.TermStop.{TermStop}
+use Rattle.sam_endpoint.specs.declared.changes.Change.{Change}
+use Rattle.sam_endpoint.specs.Changes.{asked, change_of, kept_at}
 use Rattle.sam_endpoint.specs.TermEndpoints.{PlainTermEndpoint, new_term_endpoint, Puts, Feeds, Finishes, Flushes}
 use Rattle.sam_c.specs.Status.{ok, no_memory, is_made, no_handle, not_text, nothing, refusal_status, term_status, term_finish_status}
 use Rattle.sam_c.specs.Calls.{AtHandle}
@@ -67,6 +69,22 @@ FirstRefusal e (refused ∷ rest) before status after g =
 abbrev pub TermNextRefusal : Option PlainTermEndpoint → ℕ × ℕ → ℕ → ℕ × ℕ → Option PlainTermEndpoint → Type 0
 TermNextRefusal None before status after g = (status ≡ no_handle) × (after ≡ before) × (g ≡ None)
 TermNextRefusal (Some e) before status after g = FirstRefusal e e.refusals before status after g
+
+-- a change in three numbers
+abbrev pub numbers : Change → ℕ × ℕ × ℕ
+numbers c = (c.start, c.gone, c.came)
+
+-- the change of a window's text is handed out, and the next one begins; or memory was refused; without a window there is none
+abbrev pub HandsChange : PlainTermEndpoint → ℕ → Option Window → ℕ × ℕ × ℕ → ℕ → ℕ × ℕ × ℕ → Option PlainTermEndpoint → Type 0
+HandsChange e tag None before status after g = (status ≡ nothing) × (after ≡ before) × (g ≡ Some e)
+HandsChange e tag (Some w) before status after g =
+    ((status ≡ ok) × (after ≡ numbers (change_of (kept_at e.kept tag) (length w.rasp)))
+    × (g ≡ Some (record e { kept = asked e.kept tag (length w.rasp) })))
+    ⊎ ((status ≡ no_memory) × (after ≡ before) × (g ≡ Some e))
+
+abbrev pub TermChanged : Option PlainTermEndpoint → ℕ → ℕ × ℕ × ℕ → ℕ → ℕ × ℕ × ℕ → Option PlainTermEndpoint → Type 0
+TermChanged None tag before status after g = (status ≡ no_handle) × (after ≡ before) × (g ≡ None)
+TermChanged (Some e) tag before status after g = HandsChange e tag (window_of e.term tag) before status after g
 
 -- an edit of the file would wait
 abbrev pub is_held_back : PlainTermEndpoint → ℕ → Bool
