@@ -7,7 +7,9 @@ ghost use Rattle.sam_c.specs.Hosts.{Freed};
 ghost use Rattle.sam_c.specs.Terms.{TermChanged, TermFed, TermFinished, TermIdled, TermMade, TermNextRefusal, TermTaken};
 
 use crate::handle::{SamTerm, with_end};
-use crate::status::{MADE, NO_HANDLE, NO_MEMORY, NONE, OK, refusal_status, term_finish_status, term_status};
+use crate::status::{
+    MADE, NO_HANDLE, NO_MEMORY, NONE, OK, refusal_status, term_finish_status, term_status,
+};
 use sam_endpoint::TermEndpoint;
 use std::alloc::Global;
 

@@ -35,7 +35,7 @@ back-put : (r cells : PartialText) (p q m : ℕ) → p ≤ q → q ≤ length r 
 back-put r cells p q m up within less =
     let left = take p r ++ cells in
     let size : length (put_cells r p q cells) - m ≡ length left + (length r - q - m) =
-        omega (arith, length-append (take p r ++ cells) (drop q r), length-drop q r) in
+    omega (arith, length-append (take p r ++ cells) (drop q r), length-drop q r) in
     ap (λ n. drop n (left ++ drop q r)) size
     ∙ drop-append-add left (drop q r) (length r - q - m)
     ∙ drop-drop (length r - q - m) q r
@@ -123,21 +123,23 @@ edit-case : (old text : PartialText) (ks : List Kept) (f front back : ℕ) (b : 
 edit-case old text ks f front back true same touched = same refl
 edit-case old text ks f front back false same touched = subst (λ k. IsKept old text k) (sym (kept-set_same ks f front back)) touched
 
-no-edit : (r cells : PartialText) (p q n : ℕ) → n ≡ length cells → (p == q && n == 0) ≡ true → put_cells r p q cells ≡ r
-no-edit r cells p q n many none =
-    let at : p ≡ q = grind arith in
+no-edit : (r cells : PartialText) (p q gone n : ℕ) → q ≡ p + gone → n ≡ length cells → (gone == 0 && n == 0) ≡ true → put_cells r p q cells ≡ r
+no-edit r cells p q gone n end many none =
+    let at : q ≡ p = grind arith in
     let empty : cells ≡ [] = no-cells cells (grind arith) in
-    ap (λ cs. put_cells r p q cs) empty ∙ ap (λ k. put_cells r p k []) (sym at) ∙ put-nothing r p
+    ap (λ cs. put_cells r p q cs) empty ∙ ap (λ k. put_cells r p k []) at ∙ put-nothing r p
 
-pub edit-keeps : (old r cells : PartialText) (ks : List Kept) (f p q n : ℕ) → p ≤ q → q ≤ length r → n ≡ length cells → IsKept old r (kept_at ks f)
-    → IsKept old (put_cells r p q cells) (kept_at (kept_after ks (edit_touch f (length r) p q n)) f)
-edit-keeps old r cells ks f p q n up within many is =
-    edit-case old (put_cells r p q cells) ks f p (length r - q) (p == q && n == 0)
-    (λ none. subst (λ x. IsKept old x (kept_at ks f)) (sym (no-edit r cells p q n many none)) is)
-    (put-keeps old r cells (kept_at ks f) p q up within is)
+pub edit-keeps : (old r cells : PartialText) (ks : List Kept) (f p q gone n : ℕ) → q ≡ p + gone → q ≤ length r → n ≡ length cells → IsKept old r (kept_at ks f)
+    → IsKept old (put_cells r p q cells) (kept_at (kept_after ks (edit_touch f (length r) p gone n)) f)
+edit-keeps old r cells ks f p q gone n end within many is =
+    let up : p ≤ q = omega (arith, end) in
+    let touched = put-keeps old r cells (kept_at ks f) p q up within is in
+    edit-case old (put_cells r p q cells) ks f p (length r - (p + gone)) (gone == 0 && n == 0)
+    (λ none. subst (λ x. IsKept old x (kept_at ks f)) (sym (no-edit r cells p q gone n end many none)) is)
+    (subst (λ k. IsKept old (put_cells r p q cells) (narrowed (kept_at ks f) p (length r - k))) end touched)
 
-pub edit-other : (ks : List Kept) (f g p q n many : ℕ) → f ≢ g → kept_at (kept_after ks (edit_touch g n p q many)) f ≡ kept_at ks f
-edit-other ks f g p q n many other = grind (arith, kept-set_other)
+pub edit-other : (ks : List Kept) (f g p gone n many : ℕ) → f ≢ g → kept_at (kept_after ks (edit_touch g n p gone many)) f ≡ kept_at ks f
+edit-other ks f g p gone n many other = grind (arith, kept-set_other)
 
 pub asking_begins : AskingBegins
 asking_begins ks f text = (grind (arith, common_steps), λ g other. grind (arith, common_steps, kept-set_other))

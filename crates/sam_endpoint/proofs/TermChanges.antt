@@ -1,6 +1,8 @@
 -- What the terminal's frames, events and flushes leave of a text that is kept.
-use Rattle.sam_endpoint.proofs.Common.{◌≡◌, refl, sym, ap, subst, ◌∙◌, ℕ, ◌+◌, ◌≤◌, ◌⊎◌, inl, inr, List, [], ◌∷◌, ◌++◌, length, length-take, map, take, drop, append-nil, Bool, true, false, if◌then◌else◌, option_map, Option, Some, None, Ok, arith, slice_get, Hmesg, HFrame, Tmesg, PlainTerminal, Made, act_of, act_on, decided, flush_of, take_of, frame_outcome, event_outcome, sends, unchanged, flushed, took_bindname, took_close, took_cut, took_data, took_exit, took_grow, took_growdata, took_unlockfile, Acted, Idle, Locked, Done, Refused, UserEvent, Verdict, acted_in, term_in, act_touch, frame_touch, kept_after, left_by, Err, Result}
-use Rattle.std.specs.Prelude.{◌≢◌, ◌==◌, nat_eq, replicate, length-map, length-replicate, unwrap_or, option_and_then}
+use Rattle.sam_endpoint.proofs.Common.{◌≡◌, refl, sym, ap, subst, ◌∙◌, ℕ, ◌+◌, ◌-◌, ◌≤◌, ◌⊎◌, inl, inr, List, [], ◌∷◌, ◌++◌, length, length-take, map, take, drop, append-nil, Bool, true, false, if◌then◌else◌, option_map, Option, Some, None, Ok, arith, slice_get, HFrame, Tmesg, PlainTerminal, Made, act_of, act_on, decided, flush_of, take_of, frame_outcome, event_outcome, sends, unchanged, flushed, took_bindname, took_close, took_cut, took_data, took_exit, took_grow, took_growdata, took_unlockfile, Acted, Idle, Locked, Done, Refused, UserEvent, Verdict, acted_in, term_in, act_touch, frame_touch, kept_after, left_by, Err, Result}
+use Rattle.std.specs.Prelude.{◌≢◌, ◌==◌, nat_eq, replicate, unwrap_or, option_and_then}
+use Rattle.std.proofs.lemmas.List.{length-map, length-replicate}
+use Rattle.sam_mesg.specs.declared.hmesg.Hmesg.{Hmesg}
 use Rattle.std.proofs.Math.Seq.{drop-append-add, take-append-le, take-append_seam}
 use Rattle.std.proofs.lemmas.Bool.Decides.{eqb_tells}
 use Rattle.sam_runes.specs.Checks.{first_of_checks}
@@ -20,30 +22,30 @@ use Rattle.sam_term.specs.declared.event.Verdict.TheVariants.{Waits, Refuses}
 use Rattle.sam_term.proofs.TermLaws.{known-put, rasp-put, rasp-stays, rasp-change, rasp-sends, rasp-requested, rasp-flushed, event_changes}
 use Rattle.sam_endpoint.specs.Changes.{ActsKeep, FlushesKeep, FramesKeep, IsKept, edit_touch, event_touch, kept_at, narrowed, oldest_touch, whole_touch}
 use Rattle.sam_endpoint.specs.declared.changes.Kept.{Kept}
-use Rattle.sam_endpoint.proofs.ChangeLaws.{asking_begins, edit-keeps, edit-other, kept-set_same, kept-set_other, kept_tells_change, unasked_is_kept, whole-keeps}
+use Rattle.sam_endpoint.proofs.ChangeLaws.{edit-keeps, edit-other, kept-set_same, kept-set_other, whole-keeps}
 use Rattle.sam_endpoint.proofs.TermEndpointHeld.{counted, done-term}
 
 -- ## One file among others
 
 -- an edit of the text of g, seen at f
-edit-of : (old after cells : PartialText) (t : PlainTerminal) (ks : List Kept) (f g p q n : ℕ) → after ≡ (if g == f then put_cells (rasp_at t f) p q cells else rasp_at t f)
-    → p ≤ q → q ≤ length (rasp_at t g) → n ≡ length cells → IsKept old (rasp_at t f) (kept_at ks f)
-    → IsKept old after (kept_at (kept_after ks (edit_touch g (length (rasp_at t g)) p q n)) f)
-edit-of old after cells t ks f g p q n is up within many kept = go (eqb_tells g f)
+edit-of : (old after cells : PartialText) (t : PlainTerminal) (ks : List Kept) (f g p q gone n : ℕ) → after ≡ (if g == f then put_cells (rasp_at t f) p q cells else rasp_at t f)
+    → q ≡ p + gone → q ≤ length (rasp_at t g) → n ≡ length cells → IsKept old (rasp_at t f) (kept_at ks f)
+    → IsKept old after (kept_at (kept_after ks (edit_touch g (length (rasp_at t g)) p gone n)) f)
+edit-of old after cells t ks f g p q gone n is end within many kept = go (eqb_tells g f)
   where
     touched : List Kept
-    touched = kept_after ks (edit_touch g (length (rasp_at t g)) p q n)
+    touched = kept_after ks (edit_touch g (length (rasp_at t g)) p gone n)
 
     go : ((nat_eq g f ≡ true) × (g ≡ f)) ⊎ ((nat_eq g f ≡ false) × (g ≢ f)) → IsKept old after (kept_at touched f)
     go (inl (e, here)) =
         let there : after ≡ put_cells (rasp_at t f) p q cells = is ∙ ap (λ b. if b then put_cells (rasp_at t f) p q cells else rasp_at t f) e in
-        let at_g = edit-keeps old (rasp_at t g) cells ks g p q n up within many (subst (λ x. IsKept old (rasp_at t x) (kept_at ks x)) (sym here) kept) in
+        let at_g = edit-keeps old (rasp_at t g) cells ks g p q gone n end within many (subst (λ x. IsKept old (rasp_at t x) (kept_at ks x)) (sym here) kept) in
         subst (λ x. IsKept old x (kept_at touched f)) (sym there)
         (subst (λ x. IsKept old (put_cells (rasp_at t x) p q cells) (kept_at touched x)) here at_g)
     go (inr (e, other)) =
         let same : after ≡ rasp_at t f = is ∙ ap (λ b. if b then put_cells (rasp_at t f) p q cells else rasp_at t f) e in
         subst (λ x. IsKept old x (kept_at touched f)) (sym same)
-        (subst (λ k. IsKept old (rasp_at t f) k) (sym (edit-other ks f g p q (length (rasp_at t g)) n (λ x. other (sym x)))) kept)
+        (subst (λ k. IsKept old (rasp_at t f) k) (sym (edit-other ks f g p gone (length (rasp_at t g)) n (λ x. other (sym x)))) kept)
 
 -- the text of g is empty afterwards, seen at f
 whole-of : (old after : PartialText) (t : PlainTerminal) (ks : List Kept) (f g : ℕ) → after ≡ (if g == f then [] else rasp_at t f)
@@ -91,14 +93,14 @@ message-keeps : (old : PartialText) (t : PlainTerminal) (m : Hmesg) (ks : List K
     → IsKept old (rasp_at t f) (kept_at ks f) → IsKept old (rasp_at (frame_outcome t m).0 f) (kept_at (kept_after ks (frame_touch t m)) f)
 unfolding took_bindname took_data took_grow took_growdata took_cut took_unlockfile took_close
 message-keeps old t (Hdata g p s) ks f free kept =
-    edit-of old _ (map Some s) t ks f g p (p + length s) (length s) (rasp-change (λ r. load_cells r p s) t g _ f refl) (omega arith) (grind arith) (sym (length-map Some s)) kept
+    edit-of old _ (map Some s) t ks f g p (p + length s) (length s) (length s) (rasp-change (λ r. load_cells r p s) t g _ f refl) refl (grind arith) (sym (length-map s Some)) kept
 message-keeps old t (Hgrow g p n) ks f free kept =
-    edit-of old _ (replicate n None) t ks f g p p n (rasp-change (λ r. ins_cells r p (replicate n None)) t g _ f refl) (omega arith) (grind arith) (sym (length-replicate n None)) kept
+    edit-of old _ (replicate n None) t ks f g p p 0 n (rasp-change (λ r. ins_cells r p (replicate n None)) t g _ f refl) (omega arith) (grind arith) (sym (length-replicate n None)) kept
 message-keeps old t (Hgrowdata g p s) ks f free kept =
-    edit-of old _ (map Some s) t ks f g p p (length s) (rasp-change (λ r. ins_cells r p (map Some s)) t g _ f refl) (omega arith) (grind arith) (sym (length-map Some s)) kept
+    edit-of old _ (map Some s) t ks f g p p 0 (length s) (rasp-change (λ r. ins_cells r p (map Some s)) t g _ f refl) (omega arith) (grind arith) (sym (length-map s Some)) kept
 message-keeps old t (Hcut g p n) ks f free kept =
     let cut : del_cells (rasp_at t g) p (p + n) ≡ put_cells (rasp_at t g) p (p + n) [] = ap (λ front. front ++ drop (p + n) (rasp_at t g)) (sym (append-nil (take p (rasp_at t g)))) in
-    edit-of old _ [] t ks f g p (p + n) 0 (rasp-change (λ r. put_cells r p (p + n) []) t g _ f cut) (omega arith) (grind arith) refl kept
+    edit-of old _ [] t ks f g p (p + n) n 0 (rasp-change (λ r. put_cells r p (p + n) []) t g _ f cut) refl (grind arith) refl kept
 message-keeps old t (Hbindname g) ks f free kept = whole-of old _ t ks f g (rasp-change (λ r. []) t g blank_window f refl) kept
 message-keeps old t (Hclose g) ks f free kept = whole-of old _ t ks f g (rasp-shut t g (record (known_at t g) { window = None }) f refl) kept
 message-keeps old t (Hnewname g) ks f free kept = whole-of old _ t ks f g (rasp-shut t g blank_known f refl) kept
@@ -158,15 +160,15 @@ event-keeps : (old : PartialText) (t : PlainTerminal) (e : UserEvent) (ks : List
 event-keeps old t (Typed g s) ks f sound kept =
     let d = (window_at t g).dot in
     let w = sound.windows g in
-    edit-of old _ (map Some s) t ks f g d.0 d.1 (length s) (typed-is t f g (map Some s) d.0 d.1 w.dot_start w.dot_end) w.dot_start w.dot_end (sym (length-map Some s)) kept
+    edit-of old _ (map Some s) t ks f g d.0 d.1 (d.1 - d.0) (length s) (typed-is t f g (map Some s) d.0 d.1 w.dot_start w.dot_end) (omega (arith, w.dot_start)) w.dot_end (sym (length-map s Some)) kept
 event-keeps old t (Cut g) ks f sound kept =
     let d = (window_at t g).dot in
     let w = sound.windows g in
-    edit-of old _ [] t ks f g d.0 d.1 0 (cut-is t f g d.0 d.1) w.dot_start w.dot_end refl kept
+    edit-of old _ [] t ks f g d.0 d.1 (d.1 - d.0) 0 (cut-is t f g d.0 d.1) (omega (arith, w.dot_start)) w.dot_end refl kept
 event-keeps old t (Paste g) ks f sound kept =
     let d = (window_at t g).dot in
     let w = sound.windows g in
-    edit-of old _ [] t ks f g d.0 d.1 0 (cut-is t f g d.0 d.1) w.dot_start w.dot_end refl kept
+    edit-of old _ [] t ks f g d.0 d.1 (d.1 - d.0) 0 (cut-is t f g d.0 d.1) (omega (arith, w.dot_start)) w.dot_end refl kept
 event-keeps old t e ks f sound kept = kept
 
 -- an event that is held no longer touches the same
@@ -176,7 +178,7 @@ same-touch t es (Cut g) = refl
 same-touch t es (Paste g) = refl
 same-touch t es e = refl
 
-acted-of : Result (PlainTerminal × Acted) TermFault → Acted
+abbrev acted-of : Result (PlainTerminal × Acted) TermFault → Acted
 acted-of (Ok x) = x.1
 acted-of (Err why) = Idle
 
@@ -215,6 +217,3 @@ acts_keep old t u acted ks f sound act kept = go t.held refl act
 pub flushes_keep : FlushesKeep
 unfolding flush_of
 flushes_keep t u ms f e = ap (λ v. rasp_at v f) (counted (flushed t).0.sent (flushed t) u ms e) ∙ rasp-flushed t f
-
--- what the law of changes rests on
-pub ruleset changes_hold = (asking_begins, unasked_is_kept, frames_keep, acts_keep, flushes_keep, kept_tells_change)

@@ -69,9 +69,9 @@ asked ks tag n = set (ks ++ replicate (tag + 1 - length ks) unasked) tag (all_ke
 
 -- ## What frames and events touch
 
--- members from p to q of a text of n give way to so many others; with none on either side nothing is touched
+-- so many members of a text of n, from p on, give way to so many others; with none on either side nothing is touched
 abbrev pub edit_touch : ℕ → ℕ → ℕ → ℕ → ℕ → Option Touch
-edit_touch tag n p q came = if p == q && came == 0 then None else Some (record { tag = tag; front = p; back = n - q })
+edit_touch tag n p gone came = if gone == 0 && came == 0 then None else Some (record { tag = tag; front = p; back = n - (p + gone) })
 
 -- the whole text of a file
 abbrev pub whole_touch : ℕ → Option Touch
@@ -79,10 +79,10 @@ whole_touch tag = Some (record { tag = tag; front = 0; back = 0 })
 
 -- a frame loads runes in the place of gaps, brings or cuts some, or begins or ends a text
 abbrev pub frame_touch : PlainTerminal → Hmesg → Option Touch
-frame_touch t (Hdata f p s) = edit_touch f (length (rasp_at t f)) p (p + length s) (length s)
-frame_touch t (Hgrow f p n) = edit_touch f (length (rasp_at t f)) p p n
-frame_touch t (Hgrowdata f p s) = edit_touch f (length (rasp_at t f)) p p (length s)
-frame_touch t (Hcut f p n) = edit_touch f (length (rasp_at t f)) p (p + n) 0
+frame_touch t (Hdata f p s) = edit_touch f (length (rasp_at t f)) p (length s) (length s)
+frame_touch t (Hgrow f p n) = edit_touch f (length (rasp_at t f)) p 0 n
+frame_touch t (Hgrowdata f p s) = edit_touch f (length (rasp_at t f)) p 0 (length s)
+frame_touch t (Hcut f p n) = edit_touch f (length (rasp_at t f)) p n 0
 frame_touch t (Hbindname f) = whole_touch f
 frame_touch t (Hclose f) = whole_touch f
 frame_touch t (Hnewname f) = whole_touch f
@@ -91,9 +91,9 @@ frame_touch t m = None
 
 -- the dot gives way to what is typed, or to nothing
 abbrev pub event_touch : PlainTerminal → UserEvent → Option Touch
-event_touch t (Typed f s) = let d = (window_at t f).dot in edit_touch f (length (rasp_at t f)) d.0 d.1 (length s)
-event_touch t (Cut f) = let d = (window_at t f).dot in edit_touch f (length (rasp_at t f)) d.0 d.1 0
-event_touch t (Paste f) = let d = (window_at t f).dot in edit_touch f (length (rasp_at t f)) d.0 d.1 0
+event_touch t (Typed f s) = let d = (window_at t f).dot in edit_touch f (length (rasp_at t f)) d.0 (d.1 - d.0) (length s)
+event_touch t (Cut f) = let d = (window_at t f).dot in edit_touch f (length (rasp_at t f)) d.0 (d.1 - d.0) 0
+event_touch t (Paste f) = let d = (window_at t f).dot in edit_touch f (length (rasp_at t f)) d.0 (d.1 - d.0) 0
 event_touch t e = None
 
 -- what the oldest event touches where it acts

@@ -1,15 +1,14 @@
 -- A terminal behind a stream of bytes each way, and what its calls do.
-use Rattle.std.specs.Prelude.{◌≡◌, ℕ, ◌+◌, ◌-◌, ◌^◌, ◌<◌, ◌≤◌, ◌⊎◌, List, [], ◌∷◌, ◌++◌, length, flat_map, Option, Some, None, Result, Ok, Err}
+use Rattle.std.specs.Prelude.{◌≡◌, ℕ, ◌+◌, ◌-◌, ◌^◌, ◌<◌, ◌≤◌, ◌⊎◌, List, [], ◌∷◌, ◌++◌, length, flat_map, true, false, Option, Some, None, Result, Ok, Err}
 use Rattle.sam_mesg.specs.declared.tmesg.Tmesg.{Tmesg}
 use Rattle.sam_mesg.specs.declared.hmesg.HFrame.{HFrame}
 use Rattle.sam_frame.specs.Direction.{host, terminal}
 use Rattle.sam_frame.specs.Stream.{stream_of}
 use Rattle.sam_frame.specs.Framing.{Held, fresh}
 use Rattle.sam_term.specs.Fitting.{composed_in}
-use Rattle.sam_term.specs.Term.{PlainTerminal, new_terminal, act_of, flush_of, take_of, window_of}
+use Rattle.sam_term.specs.Term.{PlainTerminal, new_terminal, act_of, flush_of, is_open, rasp_at, take_of}
 use Rattle.sam_term.specs.declared.event.Acted.{Acted}
 use Rattle.sam_term.specs.declared.event.Acted.TheVariants.{Idle, Locked, Done, Refused}
-use Rattle.sam_term.specs.declared.records.Window.{Window}
 use Rattle.sam_term.specs.declared.fault.Refusal.{Refusal}
 use Rattle.sam_term.specs.declared.fault.TermFault.{TermFault}
 use Rattle.sam_term.specs.declared.event.UserEvent.{UserEvent}
@@ -226,10 +225,10 @@ Flushes e result g = Calls e result g (λ middle. FlushesIdle middle result g)
 -- the change of an open file's text since this was asked last, and from now on; or it is not open; or memory was refused
 abbrev pub Asks : {E : Type 0} → PlainTermEndpoint → ℕ → Result (Option Change) E → PlainTermEndpoint → Type 0
 Asks e tag (Ok (Some change)) g =
-    (w : Window) × (window_of e.term tag ≡ Some w) × (change ≡ change_of (kept_at e.kept tag) (length w.rasp))
-    × (g ≡ record e { kept = asked e.kept tag (length w.rasp) })
-Asks e tag (Ok None) g = (window_of e.term tag ≡ None) × (g ≡ e)
-Asks e tag (Err why) g = (w : Window) × (window_of e.term tag ≡ Some w) × (g ≡ e)
+    (is_open e.term tag ≡ true) × (change ≡ change_of (kept_at e.kept tag) (length (rasp_at e.term tag)))
+    × (g ≡ record e { kept = asked e.kept tag (length (rasp_at e.term tag)) })
+Asks e tag (Ok None) g = (is_open e.term tag ≡ false) × (g ≡ e)
+Asks e tag (Err why) g = (is_open e.term tag ≡ true) × (g ≡ e)
 
 -- ## The end of the stream
 

@@ -1,7 +1,7 @@
 //! What changed in the texts of a terminal since it was asked last: three numbers for each file, and no copy of a text.
 
-ghost use Rattle.std.specs.Prelude.{◌≡◌, [], length, IfOk, OnErr, OnOk};
-ghost use Rattle.sam_term.specs.Term.{rasp_at, window_at};
+ghost use Rattle.std.specs.Prelude.{◌≡◌, ◌-◌, [], length, IfOk, OnErr, OnOk, Some, None, if◌then◌else◌};
+ghost use Rattle.sam_term.specs.Term.{is_open, rasp_at, window_at};
 ghost use Rattle.sam_endpoint.specs.Changes.{asked, change_of, edit_touch, event_touch, frame_touch, kept_after, kept_at, oldest_touch};
 
 use sam_mesg::Hmesg;
@@ -120,8 +120,21 @@ fn change_to(kept: Kept, len: u32) -> Change
 {
     Change {
         start: kept.front,
-        gone: kept.len.saturating_sub(kept.front).saturating_sub(kept.back),
+        gone: kept
+            .len
+            .saturating_sub(kept.front)
+            .saturating_sub(kept.back),
         came: len.saturating_sub(kept.front).saturating_sub(kept.back),
+    }
+}
+
+/// Returns how many runes and gaps the text of a file has; `None` if it is not open.
+pub(crate) fn len_if_open(term: &Terminal, tag: u16) -> Option<u32>
+    ensures { result ≡ (if is_open term.now tag then Some (length (rasp_at term.now tag)) else None) }
+{
+    match term.rasp(tag) {
+        Some(rasp) => Some(rasp.len()),
+        None => None,
     }
 }
 
@@ -135,17 +148,18 @@ fn len_of(term: &Terminal, tag: u16) -> u32
     }
 }
 
-/// Returns what an edit leaves, by which `came` runes or gaps come in the place of those from `from` to `to`; `None` if it changes nothing.
-fn edit_touch(term: &Terminal, tag: u16, from: u32, to: u64, came: usize) -> Option<Touch>
-    ensures { result ≡ edit_touch tag (length (rasp_at term.now tag)) from to came }
+/// Returns what an edit leaves, by which `came` runes or gaps come in the place of `gone` from `place` on; `None` if it changes nothing.
+fn edit_touch(term: &Terminal, tag: u16, place: u32, gone: usize, came: usize) -> Option<Touch>
+    ensures { result ≡ edit_touch tag (length (rasp_at term.now tag)) place gone came }
 {
-    if from as u64 == to && came == 0 {
+    if gone == 0 && came == 0 {
         return None;
     }
+    let behind = len_of(term, tag).saturating_sub(place) as usize;
     Some(Touch {
         tag,
-        front: from,
-        back: (len_of(term, tag) as u64).saturating_sub(to) as u32,
+        front: place,
+        back: behind.saturating_sub(gone) as u32,
     })
 }
 
@@ -154,36 +168,27 @@ pub(crate) fn frame_touch(term: &Terminal, msg: &Hmesg) -> Option<Touch>
     ensures { result ≡ frame_touch term.now msg.now }
 {
     match msg {
-        Hmesg::Hdata(tag, place, text) => {
-            edit_touch(term, *tag, *place, *place as u64 + text.len() as u64, text.len())
-        }
-        Hmesg::Hgrow(tag, place, count) => {
-            edit_touch(term, *tag, *place, *place as u64, *count as usize)
-        }
-        Hmesg::Hgrowdata(tag, place, text) => {
-            edit_touch(term, *tag, *place, *place as u64, text.len())
-        }
-        Hmesg::Hcut(tag, place, count) => {
-            edit_touch(term, *tag, *place, *place as u64 + *count as u64, 0)
-        }
-        Hmesg::Hbindname(tag)
-        | Hmesg::Hclose(tag)
-        | Hmesg::Hnewname(tag)
-        | Hmesg::Hdelname(tag) => Some(Touch {
-            tag: *tag,
-            front: 0,
-            back: 0,
-        }),
+        Hmesg::Hdata(tag, place, text) => edit_touch(term, *tag, *place, text.len(), text.len()),
+        Hmesg::Hgrow(tag, place, count) => edit_touch(term, *tag, *place, 0, *count as usize),
+        Hmesg::Hgrowdata(tag, place, text) => edit_touch(term, *tag, *place, 0, text.len()),
+        Hmesg::Hcut(tag, place, count) => edit_touch(term, *tag, *place, *count as usize, 0),
+        Hmesg::Hbindname(tag) | Hmesg::Hclose(tag) | Hmesg::Hnewname(tag) | Hmesg::Hdelname(tag) =>
+            Some(Touch {
+                tag: *tag,
+                front: 0,
+                back: 0,
+            }),
         _ => None,
     }
 }
 
 /// Returns what an edit of the dot of a file leaves, by which so many runes come in its place.
 fn dot_touch(term: &Terminal, tag: u16, came: usize) -> Option<Touch>
-    ensures { result ≡ edit_touch tag (length (rasp_at term.now tag)) (window_at term.now tag).dot.0 (window_at term.now tag).dot.1 came }
+    ensures { result ≡ (let d = (window_at term.now tag).dot in edit_touch tag (length (rasp_at term.now tag)) d.0 (d.1 - d.0) came) }
 {
     let dot = term.dot(tag).unwrap_or((0, 0));
-    edit_touch(term, tag, dot.0, dot.1 as u64, came)
+    let gone = dot.1.saturating_sub(dot.0) as usize;
+    edit_touch(term, tag, dot.0, gone, came)
 }
 
 /// Returns what an event leaves of the text of a file, before it acts; `None` if it touches no text.

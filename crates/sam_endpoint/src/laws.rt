@@ -23,7 +23,6 @@ pub fn host_one_outcome()
 
 /// States what `TermEndpoint::changed` hands out. So much of a text as is kept stands in it as it stood when that was asked last: it is so
 /// when it is asked, it stays so at each frame, event and flush, and so all else is the change.
-#[tactic(auto, using(crate::proofs::TermChanges::changes_hold))]
 pub fn changes_hold()
     ensures begins { AskingBegins }
     ensures unasked { UnaskedIsKept }

@@ -7,7 +7,7 @@ ghost use Rattle.sam_mesg.specs.HostKinds.{fits_h};
 ghost use Rattle.sam_term.specs.Fitting.{AllFit, composed_in};
 ghost use Rattle.sam_term.specs.Term.{act_of, flush_of, take_of};
 
-use crate::changes::{Change, Changes, frame_touch, oldest_touch};
+use crate::changes::{Change, Changes, frame_touch, len_if_open, oldest_touch};
 use crate::fault::{EndpointFault, FinishFault, StreamFault, TermStop};
 use crate::incoming::{drop_first, feed_framer};
 use crate::pending_bytes::PendingBytes;
@@ -368,12 +368,13 @@ impl TermEndpoint {
     pub fn changed(&mut self, tag: u16) -> Result<Option<Change>, AllocError>
         ensures { Asks self.old tag result self.new }
     {
-        let Some(rasp) = self.term.rasp(tag) else {
+        let Some(len) = len_if_open(&self.term, tag) else {
             return Ok(None);
         };
-        let len = rasp.len();
-        let change = self.changes.ask(tag, len)?;
-        Ok(Some(change))
+        match self.changes.ask(tag, len) {
+            Ok(change) => Ok(Some(change)),
+            Err(why) => Err(why),
+        }
     }
 
     /// Returns the terminal, to be read and drawn.
