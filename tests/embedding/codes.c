@@ -687,7 +687,7 @@ static void measures(void)
     wants_place(&term, 2, 0, 2);
     wants_place(&term, 2, 1, 2);
     wants_place(&term, 2, 5, 4);
-    wants_place(&term, 2, 9, 5); /* three bytes are too few for the bird */
+    wants_place(&term, 2, 9, 5);  /* three bytes are too few for the bird */
     wants_place(&term, 2, 99, 8); /* the gap */
     wants_place(&term, 0, 99, 0);
     wants_place(&term, 99, 1, 99);
@@ -745,7 +745,7 @@ static void changes(void)
     WANT(sam_term_cut(&term, 1), SAM_OK);
     WANT(sam_term_select(&term, 1, 10, 10), SAM_OK);
     WANT(sam_term_type(&term, 1, BYTES("x")), SAM_OK);
-    wants_change(&term, 0, 11, 11); /* from the first place to the last edit, with what is between */
+    wants_change(&term, 0, 11, 11);       /* from the first place to the last edit, with what is between */
     WANT(sam_term_cut(&term, 1), SAM_OK); /* an empty dot: nothing */
     wants_change(&term, 0, 0, 0);
     WANT(sam_term_select(&term, 1, 2, 3), SAM_OK);

@@ -197,14 +197,7 @@ extern "C" {
     pub fn sam_term_sent(term: *mut sam_term, messages: *mut u64) -> sam_status;
     pub fn sam_term_under_way(term: *mut sam_term, messages: *mut u64) -> sam_status;
     pub fn sam_term_pattern(term: *mut sam_term, into: *mut u8, room: usize, len: *mut usize) -> sam_status;
-    pub fn sam_term_snarfed(
-        term: *mut sam_term,
-        place: u32,
-        into: *mut u8,
-        room: usize,
-        bytes: *mut usize,
-        runes: *mut u32,
-    ) -> sam_status;
+    pub fn sam_term_snarfed(term: *mut sam_term, place: u32, into: *mut u8, room: usize, bytes: *mut usize, runes: *mut u32) -> sam_status;
     pub fn sam_term_snarf_len(term: *mut sam_term, runes: *mut u32) -> sam_status;
     pub fn sam_term_exited(term: *mut sam_term, exited: *mut bool) -> sam_status;
     pub fn sam_term_version(term: *mut sam_term, version: *mut u16) -> sam_status;
