@@ -8,7 +8,7 @@ use Rattle.sam_term.specs.declared.event.Verdict.{Verdict}
 use Rattle.sam_term.specs.declared.event.Acted.{Acted}
 use Rattle.sam_mesg.specs.declared.hmesg.HFrame.{HFrame}
 use Rattle.sam_host.specs.Laws.{AreGiven}
-use Rattle.sam_crossing.specs.World.{new_world, PlainWorld, composed_by, step_of, run_of, after_act, after_answer, after_compose, host_takes, term_takes, mesgs, user_events, is_locked, WasReached}
+use Rattle.sam_crossing.specs.World.{new_world, PlainWorld, composed_by, step_of, run_of, after_act, after_answer, after_compose, host_takes, term_takes, mesgs, user_events, is_locked, is_quiet, WasReached}
 use Rattle.sam_crossing.specs.RunOrder.{IsInOrder}
 use Rattle.sam_crossing.specs.declared.event.Event.{Event}
 use Rattle.sam_crossing.specs.declared.event.Event.TheVariants.{User, Act, Flush, HostTake, TermTake}
@@ -20,7 +20,7 @@ use Rattle.sam_term.proofs.Edits.{flushed-held}
 use Rattle.sam_crossing.proofs.RunLaws.{counted-result}
 use Rattle.sam_crossing.proofs.OrderLaws.{answer_gives, starts_in_order, steps_in_order}
 use Rattle.sam_local.specs.Local.{PlainEditor, at_rest, answered_with, come_to, carried, carried_on, carried_all, new_editor}
-use Rattle.sam_local.specs.Worlds.{outlook, is_at_rest, ShowsFile, IsAsIfLocal, HasLed, EndsAsIfLocal, ShowsAsIfLocal, WasAsIfLocal, RunsAreAsIfLocal, RestIsAsIfLocal, OneRestForAll}
+use Rattle.sam_local.specs.Worlds.{outlook, ShowsFile, IsAsIfLocal, HasLed, EndsAsIfLocal, ShowsAsIfLocal, WasAsIfLocal, RunsAreAsIfLocal, RestIsAsIfLocal, OneRestForAll}
 use Rattle.sam_local.proofs.Gentle.{CleansGuarded}
 use Rattle.sam_local.proofs.Cleans.{cleans-both, cleans-reply_of}
 use Rattle.sam_local.proofs.Ahead.{come-to-is, window-is}
@@ -342,7 +342,7 @@ pub ends_as_if_local : (w : PlainWorld) → is_quiet w ≡ true → EndsAsIfLoca
 ends_as_if_local w q given es acted led =
     (runs_are_as_if_local given es w led.limits led.run).quiet q ∙ ap (carried_all given) (same_acted given es acted w led)
 
-pub shows_as_if_local : (w : PlainWorld) (f : ℕ) → is_locked w.term f ≡ false → is_open w.term f ≡ true → ShowsAsIfLocal w f
+pub shows_as_if_local : (w : PlainWorld) (f : ℕ) → ShowsAsIfLocal w f
 shows_as_if_local w f locked opened given es acted led =
     subst (λ (events : List UserEvent). ShowsFile w (carried_all given events) f) (same_acted given es acted w led)
     ((runs_are_as_if_local given es w led.limits led.run).shows f locked opened)

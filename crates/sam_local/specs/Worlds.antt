@@ -51,10 +51,12 @@ EndsAsIfLocal w =
     (given : List (List ℕ × List ℕ)) (es : List Event) (acted : List UserEvent) → HasLed given es acted w
     → at_rest w.host w.term ≡ carried_all given acted
 
--- whichever run led to w, the file is shown as the events that have acted in it leave it in the editor without a network
+-- whichever run led to w, an open file that is not locked is shown as the events that have acted in it leave it in the editor without a
+-- network
 abbrev pub ShowsAsIfLocal : PlainWorld → ℕ → Type 0
 ShowsAsIfLocal w f =
-    (given : List (List ℕ × List ℕ)) (es : List Event) (acted : List UserEvent) → HasLed given es acted w → ShowsFile w (carried_all given acted) f
+    is_locked w.term f ≡ false → is_open w.term f ≡ true
+    → (given : List (List ℕ × List ℕ)) (es : List Event) (acted : List UserEvent) → HasLed given es acted w → ShowsFile w (carried_all given acted) f
 
 -- some run from files within the limits led to w, and whichever it was, w is as if there were no network
 pub record WasAsIfLocal (w : PlainWorld) : Type 0 where

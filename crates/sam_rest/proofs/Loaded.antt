@@ -220,7 +220,6 @@ reply-how h u up down k g p q o x = by (answered_how s (view g u) k.ahead.is_don
 
 module _ (f : ℕ) (h : PlainHost) (u : PlainTerminal) (up : List Tmesg) (down : List Hmesg) (k : AllComeToSync h (views u) (up ++ unsent_message u.unsent) down)
     (calm : IsCalm (at_file f (coming h u up down))) (opened : is_open u f ≡ true) (here : u.has_exited ≡ false) where
-
   abbrev Served : Type 0
   Served = IsLoaded u f ⊎ (brings (at_file f (coming h u up down)) ≡ true)
 
