@@ -1,13 +1,14 @@
 -- What every run keeps: the outlook of the world is what the events that have acted do to the editor without a network.
-use Rattle.sam_crossing.proofs.Common.{◌≡◌, ℕ, Bool, true, false, not, List, [], ◌∷◌, ◌++◌, Option, Some, None, Result, Ok, refl, sym, ap, ◌∙◌, subst, is_some, arith, append-nil, append_assoc, same_Some, map-append, is_empty, first_of_checks, PlainHost, Reply, answer, stamped, HostFault, PlainTerminal, Made, flushed, frame_outcome, event_checks, event_outcome, window_at, TermFault, UserEvent, Tmesg, Hmesg, true≢false, ◌&&◌, ◌||◌, is_open, is_file_locked, unsent_message, Window, Unsent, answers, reply_of, InOrder, view}
+use Rattle.sam_crossing.proofs.Common.{◌≡◌, ℕ, Bool, true, false, not, List, [], ◌∷◌, ◌++◌, Option, Some, None, Result, Ok, refl, sym, ap, ◌∙◌, subst, is_some, arith, append-nil, append_assoc, same_Some, map-append, is_empty, first_of_checks, PlainHost, Reply, answer, stamped, HostFault, PlainTerminal, Made, flushed, frame_outcome, event_checks, event_outcome, window_at, TermFault, UserEvent, Tmesg, Hmesg, true≢false, and_parts, ◌&&◌, ◌||◌, is_open, is_file_locked, unsent_message, Window, Unsent, answers, reply_of, InOrder, view}
 use Rattle.std.proofs.Common.{Err, option_and_then}
+use Rattle.std.proofs.lemmas.List.{append_cancel_right}
 use Rattle.sam_term.specs.declared.event.Acted.TheVariants.{Done}
 use Rattle.sam_term.specs.Term.{act_of, act_on, decided, flush_of, take_of, if_countable}
 use Rattle.sam_term.specs.declared.event.Verdict.{Verdict}
 use Rattle.sam_term.specs.declared.event.Acted.{Acted}
 use Rattle.sam_mesg.specs.declared.hmesg.HFrame.{HFrame}
 use Rattle.sam_host.specs.Laws.{AreGiven}
-use Rattle.sam_crossing.specs.World.{new_world, PlainWorld, composed_by, step_of, run_of, after_act, after_answer, after_compose, host_takes, term_takes, mesgs, user_events, is_locked, WasReached}
+use Rattle.sam_crossing.specs.World.{new_world, PlainWorld, composed_by, step_of, run_of, after_act, after_answer, after_compose, host_takes, term_takes, mesgs, user_events, is_locked, is_quiet, WasReached}
 use Rattle.sam_crossing.specs.RunOrder.{IsInOrder}
 use Rattle.sam_crossing.specs.declared.event.Event.{Event}
 use Rattle.sam_crossing.specs.declared.event.Event.TheVariants.{User, Act, Flush, HostTake, TermTake}
@@ -19,7 +20,7 @@ use Rattle.sam_term.proofs.Edits.{flushed-held}
 use Rattle.sam_crossing.proofs.RunLaws.{counted-result}
 use Rattle.sam_crossing.proofs.OrderLaws.{answer_gives, starts_in_order, steps_in_order}
 use Rattle.sam_local.specs.Local.{PlainEditor, at_rest, answered_with, come_to, carried, carried_on, carried_all, new_editor}
-use Rattle.sam_local.specs.Worlds.{outlook, is_at_rest, ShowsFile, RunsAreAsIfLocal, RestIsAsIfLocal, OneRestForAll, WasAsIfLocal, EndsAsIfLocal}
+use Rattle.sam_local.specs.Worlds.{outlook, ShowsFile, IsAsIfLocal, HasLed, EndsAsIfLocal, ShowsAsIfLocal, WasAsIfLocal, RunsAreAsIfLocal, RestIsAsIfLocal, OneRestForAll}
 use Rattle.sam_local.proofs.Gentle.{CleansGuarded}
 use Rattle.sam_local.proofs.Cleans.{cleans-both, cleans-reply_of}
 use Rattle.sam_local.proofs.Ahead.{come-to-is, window-is}
@@ -285,38 +286,63 @@ shows given w acted k f locked opened =
       view_length = sym (ap (λ (x : Window). x.view_length) there);
     })
 
+-- ## Where nothing is under way
+
+quiet_is : (w : PlainWorld) → is_quiet w ≡ true → outlook w ≡ at_rest w.host w.term
+quiet_is w e = by w.up w.down w.term.unsent refl refl refl e
+  where
+    by : (up : List Tmesg) (down : List HFrame) (unsent : Option Unsent) → w.up ≡ up → w.down ≡ down → w.term.unsent ≡ unsent
+        → (not (is_some unsent) && is_empty up && is_empty down) ≡ true → outlook w ≡ at_rest w.host w.term
+    by [] [] None eu ed en x = λ i. answered_with w.host w.term (mesgs (ed i)) (answers w.host (eu i ++ unsent_message (en i)))
+    by up down unsent eu ed en x = absurd (grind arith)
+
+-- ## The laws
+
 pub runs_are_as_if_local : RunsAreAsIfLocal
 runs_are_as_if_local given es w fit r =
     let all = ran given es (new_world given) w [] (starts given fit) r in
-    record { acted = all.more; are = all.held; comes = all.kept.comes; shows = shows given w all.more all.kept }
+    record {
+      acted = all.more;
+      are = all.held;
+      comes = all.kept.comes;
+      quiet = λ q. sym (quiet_is w q) ∙ all.kept.comes;
+      shows = shows given w all.more all.kept;
+    }
 
--- ## At rest
+none_held : (held : List UserEvent) → is_empty held ≡ true → held ≡ []
+none_held held e = grind arith
 
-rest_is : (w : PlainWorld) → is_at_rest w ≡ true → (outlook w ≡ at_rest w.host w.term) × (w.term.held ≡ [])
-rest_is w e = by w.up w.down w.term.unsent w.term.held refl refl refl refl e
-  where
-    Rests : List Tmesg → List HFrame → Option Unsent → PlainEditor
-    Rests up down unsent = answered_with w.host w.term (mesgs down) (answers w.host (up ++ unsent_message unsent))
-
-    by : (up : List Tmesg) (down : List HFrame) (unsent : Option Unsent) (held : List UserEvent) → w.up ≡ up → w.down ≡ down → w.term.unsent ≡ unsent → w.term.held ≡ held
-        → ((not (is_some unsent) && is_empty up && is_empty down) && is_empty held) ≡ true → (outlook w ≡ at_rest w.host w.term) × (w.term.held ≡ [])
-    by [] [] None [] eu ed en eh x = ((λ i. answered_with w.host w.term (mesgs (ed i)) (answers w.host (eu i ++ unsent_message (en i)))), eh)
-    by up down unsent held eu ed en eh x = absurd (grind arith)
+-- nothing is held either: all that the user did has acted
+pub rests : (given : List (List ℕ × List ℕ)) (said : List UserEvent) (w : PlainWorld) → IsAsIfLocal given said w → is_quiet w ≡ true → w.term.held ≡ []
+    → at_rest w.host w.term ≡ carried_all given said
+rests given said w l q none = l.quiet q ∙ ap (carried_all given) (sym (l.are ∙ ap (λ (es : List UserEvent). l.acted ++ es) none ∙ append-nil l.acted))
 
 pub rest_is_as_if_local : RestIsAsIfLocal
 rest_is_as_if_local given es w fit r e =
-    let all = runs_are_as_if_local given es w fit r in
-    let here = rest_is w e in
-    sym here.0 ∙ all.comes ∙ ap (carried_all given) (sym (all.are ∙ ap (λ (l : List UserEvent). all.acted ++ l) here.1 ∙ append-nil all.acted))
+    let parts = and_parts (is_quiet w) (is_empty w.term.held) e in
+    rests given (user_events es) w (runs_are_as_if_local given es w fit r) parts.0 (none_held w.term.held parts.1)
 
 pub one_rest_for_all : OneRestForAll
 one_rest_for_all given es fs w v fit r q e a b =
     rest_is_as_if_local given es w fit r a ∙ ap (carried_all given) e ∙ sym (rest_is_as_if_local given fs v fit q b)
 
-pub was_as_if_local : (w : PlainWorld) → WasReached w → WasAsIfLocal w
-was_as_if_local w r =
-    record { given = r.given; limits = r.limits; run = r.reached.0; led = r.reached.1; is = runs_are_as_if_local r.given r.reached.0 w r.limits r.reached.1 }
+-- ## One world
 
-pub ends_as_if_local : (w : PlainWorld) → WasReached w → is_at_rest w ≡ true → EndsAsIfLocal w
-ends_as_if_local w r e =
-    record { given = r.given; limits = r.limits; run = r.reached.0; led = r.reached.1; ends = rest_is_as_if_local r.given r.reached.0 w r.limits r.reached.1 e }
+pub was_as_if_local : (w : PlainWorld) → WasReached w → WasAsIfLocal w
+was_as_if_local w r = record { reached = r; is = λ given es fit led. runs_are_as_if_local given es w fit led }
+
+-- what has acted is known by what the user did and what is held
+same_acted : (given : List (List ℕ × List ℕ)) (es : List Event) (acted : List UserEvent) (w : PlainWorld) (led : HasLed given es acted w)
+    → (runs_are_as_if_local given es w led.limits led.run).acted ≡ acted
+same_acted given es acted w led =
+    let all = runs_are_as_if_local given es w led.limits led.run in
+    append_cancel_right all.acted acted w.term.held (sym all.are ∙ led.are)
+
+pub ends_as_if_local : (w : PlainWorld) → is_quiet w ≡ true → EndsAsIfLocal w
+ends_as_if_local w q given es acted led =
+    (runs_are_as_if_local given es w led.limits led.run).quiet q ∙ ap (carried_all given) (same_acted given es acted w led)
+
+pub shows_as_if_local : (w : PlainWorld) (f : ℕ) → ShowsAsIfLocal w f
+shows_as_if_local w f locked opened given es acted led =
+    subst (λ (events : List UserEvent). ShowsFile w (carried_all given events) f) (same_acted given es acted w led)
+    ((runs_are_as_if_local given es w led.limits led.run).shows f locked opened)

@@ -7,7 +7,7 @@ use Rattle.sam_host.specs.Laws.{AreGiven}
 use Rattle.sam_term.specs.declared.event.UserEvent.{UserEvent}
 use Rattle.sam_term.specs.Term.{is_open, window_at}
 use Rattle.sam_crossing.specs.declared.event.Event.{Event}
-use Rattle.sam_crossing.specs.World.{PlainWorld, new_world, run_of, is_quiet, is_locked, mesgs, user_events}
+use Rattle.sam_crossing.specs.World.{PlainWorld, WasReached, new_world, run_of, is_quiet, is_locked, mesgs, user_events}
 use Rattle.sam_local.specs.Local.{PlainEditor, at_rest, come_to, carried_all}
 
 -- what the world comes to where nothing new is begun
@@ -26,30 +26,43 @@ pub record ShowsFile (w : PlainWorld) (editor : PlainEditor) (f : ℕ) : Type 0 
   pub view_start : (window_at w.term f).view_start ≡ (window_at editor.term f).view_start
   pub view_length : (window_at w.term f).view_length ≡ (window_at editor.term f).view_length
 
--- The run `es` led to w. The events of the user that have acted or were refused, all but those that are still held, have done to what w
--- comes to just what they do, in the same order, to the editor without a network. And an open file that is not locked is shown as there
-pub record IsAsIfLocal (given : List (List ℕ × List ℕ)) (es : List Event) (w : PlainWorld) : Type 0 where
+-- The user has done all of `said` on the way from these files to w. What has acted of it or was refused, all but what is still held, has
+-- done to what w comes to just what it does, in the same order, to the editor without a network. Where nothing is unsent or under way,
+-- that is what both sides are, but for runes that are not loaded and for counts. And an open file that is not locked is shown as there
+pub record IsAsIfLocal (given : List (List ℕ × List ℕ)) (said : List UserEvent) (w : PlainWorld) : Type 0 where
   pub acted : List UserEvent
-  pub are : user_events es ≡ acted ++ w.term.held
+  pub are : said ≡ acted ++ w.term.held
   pub comes : outlook w ≡ carried_all given acted
+  pub quiet : is_quiet w ≡ true → at_rest w.host w.term ≡ carried_all given acted
   pub shows : (f : ℕ) → is_locked w.term f ≡ false → is_open w.term f ≡ true → ShowsFile w (carried_all given acted) f
 
--- so it is for some run from files within the limits
-pub record WasAsIfLocal (w : PlainWorld) : Type 0 where
-  pub given : List (List ℕ × List ℕ)
-  pub limits : AreGiven given
-  pub run : List Event
-  pub led : run_of (new_world given) run ≡ Some w
-  pub is : IsAsIfLocal given run w
+-- ## One world
 
--- a run from files within the limits led to w, and both sides are where all of its events lead without a network, but for runes that
--- are not loaded and for counts
-pub record EndsAsIfLocal (w : PlainWorld) : Type 0 where
-  pub given : List (List ℕ × List ℕ)
+-- a run from files within the limits led to w, and `acted` is all that the user did in it but what is still held
+pub record HasLed (given : List (List ℕ × List ℕ)) (es : List Event) (acted : List UserEvent) (w : PlainWorld) : Type 0 where
   pub limits : AreGiven given
-  pub run : List Event
-  pub led : run_of (new_world given) run ≡ Some w
-  pub ends : at_rest w.host w.term ≡ carried_all given (user_events run)
+  pub run : run_of (new_world given) es ≡ Some w
+  pub are : user_events es ≡ acted ++ w.term.held
+
+-- whichever run led to w, both sides are where the events that have acted in it lead the editor without a network, but for runes that are
+-- not loaded and for counts
+abbrev pub EndsAsIfLocal : PlainWorld → Type 0
+EndsAsIfLocal w =
+    (given : List (List ℕ × List ℕ)) (es : List Event) (acted : List UserEvent) → HasLed given es acted w
+    → at_rest w.host w.term ≡ carried_all given acted
+
+-- whichever run led to w, an open file that is not locked is shown as the events that have acted in it leave it in the editor without a
+-- network
+abbrev pub ShowsAsIfLocal : PlainWorld → ℕ → Type 0
+ShowsAsIfLocal w f =
+    is_locked w.term f ≡ false → is_open w.term f ≡ true
+    → (given : List (List ℕ × List ℕ)) (es : List Event) (acted : List UserEvent) → HasLed given es acted w → ShowsFile w (carried_all given acted) f
+
+-- some run from files within the limits led to w, and whichever it was, w is as if there were no network
+pub record WasAsIfLocal (w : PlainWorld) : Type 0 where
+  pub reached : WasReached w
+  pub is : (given : List (List ℕ × List ℕ)) (es : List Event) → AreGiven given → run_of (new_world given) es ≡ Some w
+      → IsAsIfLocal given (user_events es) w
 
 -- ## The laws
 
@@ -57,7 +70,7 @@ pub record EndsAsIfLocal (w : PlainWorld) : Type 0 where
 abbrev pub RunsAreAsIfLocal : Type 0
 RunsAreAsIfLocal =
     (given : List (List ℕ × List ℕ)) (es : List Event) (w : PlainWorld) → AreGiven given → run_of (new_world given) es ≡ Some w
-    → IsAsIfLocal given es w
+    → IsAsIfLocal given (user_events es) w
 
 -- at rest both sides are where the same events without a network end, but for runes that are not loaded and for counts
 abbrev pub RestIsAsIfLocal : Type 0

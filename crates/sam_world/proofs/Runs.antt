@@ -1,5 +1,6 @@
 -- Runs, step by step, and what a drain has done.
-use Rattle.sam_world.proofs.Common.{◌≡◌, ◌⊎◌, inl, inr, refl, ap, ◌∙◌, ◌<◌, ◌+◌, ◌-◌, ℕ, zero, suc, true, List, [], ◌∷◌, take, length, Option, Some, None, arith, option_and_then, slice_index_or, is_empty, PlainWorld, step_of, run_of, next_event, drained, Advances, HasMade, IsDrainedUpTo, IsFaultOf, IsNextFault, Event, Act, NothingThere, OutOfMemory, CountFull}
+use Rattle.sam_world.proofs.Common.{◌≡◌, ◌⊎◌, inl, inr, refl, ap, ◌∙◌, ◌<◌, ◌+◌, ◌-◌, ℕ, zero, suc, true, List, [], ◌∷◌, ◌++◌, take, length, Option, Some, None, arith, option_and_then, slice_index_or, is_empty, PlainWorld, step_of, run_of, next_event, drained, Advances, HasMade, IsDrainedUpTo, IsFaultOf, IsNextFault, Event, Act, NothingThere, OutOfMemory, CountFull}
+use Rattle.sam_crossing.specs.World.{user_events}
 use Rattle.sam_world.specs.declared.event.StepFault.{StepFault}
 use Rattle.sam_world.proofs.Stopping.{passing_stops}
 
@@ -50,6 +51,46 @@ drained_stops (suc n) w v d = go (next_event w) (λ u r. drained_stops n u v r) 
     go : (o : Option Event) → ((u : PlainWorld) → drained n u ≡ Some v → (next_event v ≡ None) ⊎ HasMade n u v)
         → next_event w ≡ o → elim o [ None ↦ Some w | Some x ↦ option_and_then (drained n) (step_of w x) ] ≡ Some v → (next_event v ≡ None) ⊎ HasMade (suc n) w v
     go o more next q = grind (arith, (λ (x : Event). past x (step_of w x) refl))
+
+-- ## A drain is a run
+
+-- events lead from w to v, and the user does nothing in them
+pub record DoesSilently (w v : PlainWorld) : Type 0 where
+  pub events : List Event
+  pub leads : run_of w events ≡ Some v
+  pub none : user_events events ≡ []
+
+no_user : (w : PlainWorld) (e : Event) → next_event w ≡ Some e → user_events (e ∷ []) ≡ []
+no_user w e next = grind arith
+
+still_none : (e : Event) (es : List Event) → user_events (e ∷ []) ≡ [] → user_events es ≡ [] → user_events (e ∷ es) ≡ []
+still_none e es one rest = grind arith
+
+pub drained_runs : (n : ℕ) (w v : PlainWorld) → drained n w ≡ Some v → DoesSilently w v
+drained_runs zero w v d = record { events = []; leads = d; none = refl }
+drained_runs (suc n) w v d = go (next_event w) (λ u r. drained_runs n u v r) refl d
+  where
+    past : (x : Event) (o : Option PlainWorld) → next_event w ≡ Some x → step_of w x ≡ o → ((u : PlainWorld) → drained n u ≡ Some v → DoesSilently u v)
+        → option_and_then (drained n) o ≡ Some v → DoesSilently w v
+    past x None next e more y = absurd (grind arith)
+    past x (Some u) next e more y =
+        let rest = more u y in
+        record { events = x ∷ rest.events; leads = rw e rest.leads; none = still_none x rest.events (no_user w x next) rest.none }
+
+    go : (o : Option Event) → ((u : PlainWorld) → drained n u ≡ Some v → DoesSilently u v)
+        → next_event w ≡ o → elim o [ None ↦ Some w | Some e ↦ option_and_then (drained n) (step_of w e) ] ≡ Some v → DoesSilently w v
+    go None more next q = record { events = []; leads = q; none = refl }
+    go (Some x) more next q = past x (step_of w x) next refl more q
+
+-- ## Runs one after another
+
+pub run_then : (w v u : PlainWorld) (es fs : List Event) → run_of w es ≡ Some v → run_of v fs ≡ Some u → run_of w (es ++ fs) ≡ Some u
+run_then w v u [] fs r s = grind arith
+run_then w v u (e ∷ es) fs r s = grind (arith, (λ (n : PlainWorld) (q : run_of n es ≡ Some v). run_then n v u es fs q s))
+
+pub users_then : (es fs : List Event) → user_events (es ++ fs) ≡ user_events es ++ user_events fs
+users_then [] fs = refl
+users_then (e ∷ es) fs = grind (arith, (users_then es fs))
 
 -- ## Where it meets a fault
 

@@ -5,6 +5,7 @@ use Rattle.sam_term.specs.declared.fault.TermFault.TheVariants as term
 use Rattle.sam_world.specs.Counts.{FullCountsStop}
 use Rattle.sam_world.proofs.Keeping.{first_rest}
 use Rattle.sam_crossing.proofs.OrderLaws.{starts_in_order, runs_in_order, host_never_refuses, terminal_never_refuses, quiet_means_agreement, free_means_one_version, free_means_ahead}
+use Rattle.sam_local.proofs.Runs.{ends_as_if_local}
 
 pub order_of : (w : PlainWorld) → WasReached w → IsInOrder w
 order_of w r = runs_in_order (new_world r.given) w r.reached.0 (starts_in_order r.given r.limits) r.reached.1
@@ -29,4 +30,4 @@ pub passing_stops : FullCountsStop
 passing_stops e u w = grind arith
 
 -- what holds of a quiet world
-pub ruleset quiet_facts = (order_of, quiet_means_agreement, free_means_one_version)
+pub ruleset quiet_facts = (order_of, quiet_means_agreement, free_means_one_version, ends_as_if_local)
