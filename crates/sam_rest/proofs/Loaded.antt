@@ -1,17 +1,17 @@
 -- What a view asked for has come once the session is at rest.
-use Rattle.sam_crossing.proofs.Common.{◌≡◌, ℕ, zero, suc, ◌+◌, ◌-◌, ◌<◌, ◌≤◌, Bool, true, false, not, ◌==◌, ◌&&◌, ◌||◌, if◌then◌else◌, List, [], ◌∷◌, ◌++◌, Option, Some, None, is_some, unwrap_or, ◌⊎◌, inl, inr, refl, sym, ap, ◌∙◌, subst, true≢false, arith, append-nil, append_assoc, eq-eqb, eqb-true, not-false, slot-put_same, slot-put_other, Tmesg, Trequest, Tack, Hmesg, Hclean, Hcheck, Hdata, Hunlockfile, Hack, PlainHost, Reply, counted, Unsent, KnownFile, Window, PlainTerminal, Made, known_at, window_at, window_of, is_open, frame_outcome, composed, flushed, unsent_message, took_unlockfile, took_bindname, took_data, took_grow, took_growdata, took_cut, took_close, took_exit, Lens, Action, Needs_open, Join, Bind, Close, Leave, Grow, Fill, Insert, Cut, Place, Free_file, Exit, closes, frees, IsGuarded, AllComeToSync, InOrder, file_in, at_file, action, answers, reply_of, effect, view, views, blank_window}
+use Rattle.sam_crossing.proofs.Common.{◌≡◌, ℕ, Bool, true, false, not, ◌==◌, ◌&&◌, ◌||◌, if◌then◌else◌, List, [], ◌∷◌, ◌++◌, Option, Some, None, is_some, unwrap_or, ◌⊎◌, inl, inr, refl, sym, ap, ◌∙◌, subst, true≢false, arith, append-nil, eq-eqb, eqb-true, not-false, slot-put_same, slot-put_other, Tmesg, Trequest, Tack, Hmesg, Hclean, Hcheck, Hdata, Hunlockfile, Hack, PlainHost, Reply, counted, Unsent, KnownFile, Window, PlainTerminal, Made, window_at, window_of, is_open, frame_outcome, composed, flushed, unsent_message, took_unlockfile, took_bindname, took_data, took_grow, took_growdata, took_cut, took_close, took_exit, Action, Needs_open, Join, Bind, Close, Leave, Grow, Fill, Insert, Cut, Place, Free_file, Exit, closes, frees, IsGuarded, AllComeToSync, InOrder, file_in, at_file, action, answers, reply_of, effect, view, views, blank_window}
 use Rattle.sam_rasp.specs.Rasp.{hole_within}
 use Rattle.sam_runes.specs.Slots.{Slots}
 use Rattle.sam_term.specs.Term.{view_end, wanted, sends_if, request_for}
 use Rattle.sam_crossing.specs.Frames.{only}
 use Rattle.sam_crossing.specs.View.{composed_for}
 use Rattle.sam_local.proofs.Takes.{unsent-left}
-use Rattle.sam_rest.proofs.Steps.{taken, composes-is, Wants, wants, open-view, looking}
+use Rattle.sam_rest.proofs.Steps.{taken, composes-is, wants, open-view, looking}
 use Rattle.sam_term.specs.Windows.{known_in}
 use Rattle.sam_term.proofs.Composes.{flushed-files}
 use Rattle.sam_local.proofs.Frames.{is_gentle}
 use Rattle.sam_local.proofs.Gentle.{window-stays}
-use Rattle.sam_world.proofs.Common.{length, Result, Ok, Err, same_Some, Done, first_of_checks, act_of, act_on, decided, if_countable, after_act, event_checks, event_outcome, Verdict, Acted, TermFault, UserEvent, HFrame, PlainWorld, step_of, mesgs, IsInOrder, WasReached, made_by_view, requested}
+use Rattle.sam_world.proofs.Common.{length, Result, Ok, Err, same_Some, Done, first_of_checks, act_of, act_on, decided, if_countable, after_act, event_checks, event_outcome, Verdict, Acted, TermFault, UserEvent, HFrame, PlainWorld, step_of, mesgs, IsInOrder, made_by_view, requested}
 use Rattle.sam_term.specs.declared.event.UserEvent.TheVariants.{View}
 use Rattle.sam_term.specs.Term.{put_window}
 use Rattle.sam_crossing.specs.declared.event.Event.{Event}
@@ -31,11 +31,11 @@ use Rattle.sam_rest.proofs.Done.{parts}
 use Rattle.sam_crossing.proofs.Guards.{at_file-append}
 use Rattle.sam_rest.specs.Loaded.{IsLoaded}
 use Rattle.sam_rest.proofs.Gaps.{data_at, data_of}
-use Rattle.sam_rest.proofs.Frames.{request-none, request-data, eqb-sym}
-use Rattle.sam_rest.proofs.Kept.{frames_of, coming_to, AreAwaited, awaited-plain, data-there, data-elsewhere}
-use Rattle.sam_rest.proofs.Work.{coming, coming-host, coming-flush, SentOne, sent-one, IsNoLine, no-line}
-use Rattle.sam_crossing.proofs.Lenses.{IsFree, IsOpen, exits, exited_of, AreSkips}
-use Rattle.sam_rest.proofs.Actions.{is_fill, fills, left, AwaitsAll, NoAnswer, Answer, answered_how}
+use Rattle.sam_rest.proofs.Frames.{request-none, request-data}
+use Rattle.sam_rest.proofs.Kept.{frames_of, AreAwaited, awaited-plain, data-there, data-elsewhere}
+use Rattle.sam_rest.proofs.Work.{coming, coming-host, coming-flush, sent-one}
+use Rattle.sam_crossing.proofs.Lenses.{IsFree, IsOpen, exits, AreSkips}
+use Rattle.sam_rest.proofs.Actions.{is_fill, left, AwaitsAll, NoAnswer, Answer, answered_how}
 
 -- ## What comes to a file whose view was set
 

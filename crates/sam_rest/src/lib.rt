@@ -1,8 +1,16 @@
 //! Coming to rest: no session is ever stuck.
 //!
-//! This crate computes nothing. Its definitions say which events apply in a world: those that are not the user's and change something
-//! (`Applies` in specs/Rest). Its laws say that such events come to an end, whatever their order, and that where none applies any more
-//! nothing is unsent, under way, held or locked, and no request awaits its data.
+//! An event applies in a world where it is not the user's and changes something (`Applies` in specs/Rest). The laws say that such events
+//! come to an end, whatever their order, and that where none applies any more nothing is unsent, under way, held or locked, and no request
+//! awaits its data; and that a view that was set last has no gap then. [`resting::rest`] makes such events happen until none applies.
+//!
+//! How it is proved. Each step but an act lowers a number (`work` in proofs/Work): the messages that are under way to the host, twice the
+//! unsent runes, and a weight for each frame that comes once the host has answered all of these. A frame that may make the terminal ask
+//! for a gap weighs four times what its file wants besides: the gaps that are left once all frames have come, and one for each frame that
+//! may move them and has no data after it (`wants` in proofs/Gaps). A request that gets an answer lowers that: none is awaited when it is
+//! composed, so no data are under way, and either a frame that moves gaps is, which then has data after it, or the gap is where it was
+//! and is filled. An act may raise the number, but there are only so many held events (proofs/Ends). Each Hdata that comes was asked for,
+//! and in the end no request is awaited (proofs/Actions, Kept, Steps).
 #![tactic(auto)]
 
 pub mod laws;
