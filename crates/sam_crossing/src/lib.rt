@@ -30,8 +30,6 @@
 //! 7. proofs/Starting, Passing, Views, Dots, Sending, Joins, Typing, Acting, Receiving: the first state is in order, and each event of
 //!    the user (`event_goes`) and each frame (`received`) keeps it so.
 //! 8. proofs/Ordered: the host's step (`host_goes`), and what follows. specs/StreamVersions, proofs/Streaming: both sides have one version.
-//! 9. specs/World: both sides and what is under way between them as one state, its steps and runs. specs/RunOrder, proofs/RunLaws,
-//!    OrderLaws: each step, and so each run, keeps all in order, and what follows from that.
 #![tactic(auto)]
 
 pub mod event;
