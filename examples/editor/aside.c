@@ -97,7 +97,7 @@ static bool is_changed(struct session *session, uint16_t tag)
 {
     bool is_dirty = true;
 
-    if (tag == 0 || !has_file(session, tag))
+    if (tag == 0 || tag == session->vault || !has_file(session, tag))
         return false;
     return sam_host_is_dirty(&session->host, tag, &is_dirty) != SAM_OK || is_dirty || session->documents[tag].is_unsaved;
 }

@@ -12,8 +12,7 @@
 
 /* ---- Reading files ---- */
 
-/* Reads a whole file into memory of the caller's; a file that isn't there is empty. */
-static int read_whole(const char *path, struct text *text)
+int read_whole(const char *path, struct text *text)
 {
     struct stat status;
     int file = open(path, O_RDONLY | O_NONBLOCK | O_CLOEXEC), error = file < 0 ? errno : 0;
@@ -75,24 +74,32 @@ static int note_read(struct document *document, const char *path, const struct t
     return error;
 }
 
+int add_text(struct session *session, const char *path, const struct text *text, uint32_t *code)
+{
+    uint16_t tag = 0;
+    char *own = formatted("%s", path), *shown = shown_name(path);
+
+    *code = SAM_NO_MEMORY;
+    if (own != NULL && shown != NULL)
+        *code = sam_host_add_file(&session->host, (const uint8_t *)shown, strlen(shown), text->bytes, text->len, &tag);
+    if (*code == SAM_OK) {
+        session->documents[tag] = (struct document){.path = own, .shown = shown};
+        return note_read(&session->documents[tag], path, text);
+    }
+    free(own);
+    free(shown);
+    return 0;
+}
+
 /* Reads one file into the host. Returns the exit status. */
 static int add_file(struct session *session, const char *path)
 {
     struct text text;
-    uint16_t tag = 0;
+    uint32_t code = SAM_OK;
     int error = read_whole(path, &text);
-    char *own = formatted("%s", path), *shown = shown_name(path);
-    uint32_t code = SAM_NO_MEMORY;
 
-    if (error == 0 && own != NULL && shown != NULL)
-        code = sam_host_add_file(&session->host, (const uint8_t *)shown, strlen(shown), text.bytes, text.len, &tag);
-    if (error == 0 && code == SAM_OK) {
-        session->documents[tag] = (struct document){.path = own, .shown = shown};
-        error = note_read(&session->documents[tag], path, &text);
-    } else {
-        free(own);
-        free(shown);
-    }
+    if (error == 0)
+        error = add_text(session, path, &text, &code);
     free(text.bytes);
     if (error == 0 && code == SAM_OK)
         return STATUS_OK;
@@ -158,17 +165,49 @@ static int find_twice(char **paths, struct identity *identities, int count)
     return STATUS_OK;
 }
 
+static bool is_folder(const char *path)
+{
+    struct stat status;
+
+    return stat(path, &status) == 0 && S_ISDIR(status.st_mode);
+}
+
+/* Notes the files among the words, so that no folder offers one of them again. */
+static int mark_files(const struct identity *identities, int count, struct marks *marks)
+{
+    int error = 0;
+
+    for (int at = 0; error == 0 && at < count; at++) {
+        if (identities[at].name == NULL)
+            error = add_mark(marks, identities[at].device, identities[at].inode);
+    }
+    return error;
+}
+
 int add_files(struct session *session, char **paths, int count)
 {
     struct identity *identities = calloc((size_t)count + 1, sizeof *identities);
+    struct marks marks = {0};
     int status = identities == NULL ? STATUS_MEMORY : find_twice(paths, identities, count);
 
+    if (status == STATUS_OK && mark_files(identities, count, &marks) != 0)
+        status = STATUS_MEMORY;
     for (int at = 0; identities != NULL && at < count; at++)
         free(identities[at].name);
     free(identities);
     for (int at = 0; status == STATUS_OK && at < count; at++)
-        status = add_file(session, paths[at]);
+        status = is_folder(paths[at]) ? add_folder(session, paths[at], &marks) : add_file(session, paths[at]);
+    free(marks.items);
     return status;
+}
+
+int add_vault(struct session *session)
+{
+    uint32_t code = sam_host_add_file(&session->host, (const uint8_t *)VAULT, strlen(VAULT), (const uint8_t *)"", 0, &session->vault);
+
+    if (code != SAM_OK)
+        say("%s: %s", VAULT, why_not_added(code));
+    return code == SAM_OK ? STATUS_OK : code == SAM_NO_MEMORY ? STATUS_MEMORY : STATUS_UNREADABLE;
 }
 
 /* ---- What is left of earlier sessions ---- */

@@ -1,4 +1,7 @@
-/* samhost [--] [FILE ..]: serves files to a terminal, over standard input and output.
+/* samhost [--undo] [--] [FILE ..]: serves files to a terminal, over standard input and output.
+ *
+ * A FILE may be a folder, which stands for the text files below it. With --undo it has one more file, ~~undo~~, that is nowhere on disk:
+ * there a terminal keeps text for undo.
  *
  * It reads the files, answers the terminal's messages, and writes a file when the terminal says so. It ends when the terminal leaves, at
  * the end of its input, and at SIGTERM, SIGHUP or SIGINT, which do as the end of the input. Texts that were not written are then in
@@ -88,28 +91,40 @@ static void free_session(struct session *session)
     free(session);
 }
 
+/* Opens a session and serves it. Returns the exit status. */
+static int serve_files(struct session *session, char **paths, int count, bool has_vault)
+{
+    if (!make_session(session)) {
+        say("out of memory");
+        return STATUS_MEMORY;
+    }
+    int status = add_files(session, paths, count);
+    if (status == STATUS_OK) {
+        report_left(session);
+        status = has_vault ? add_vault(session) : STATUS_OK;
+    }
+    return status == STATUS_OK ? run(session) : status;
+}
+
 int main(int count, char **words)
 {
     int first = 1, status = STATUS_MEMORY;
+    bool has_vault = first < count && strcmp(words[first], "--undo") == 0;
 
+    first += has_vault;
     if (first < count && words[first][0] == '-') {
         if (strcmp(words[first], "--") != 0) {
-            fputs("usage: samhost [--] [FILE ..]\n", stderr);
+            fputs("usage: samhost [--undo] [--] [FILE ..]\n", stderr);
             return STATUS_WORDS;
         }
         first++;
     }
     struct session *session = calloc(1, sizeof *session);
-    if (session != NULL && make_session(session)) {
-        status = add_files(session, words + first, count - first);
-        if (status == STATUS_OK) {
-            report_left(session);
-            status = run(session);
-        }
-    } else {
+    if (session == NULL) {
         say("out of memory");
-    }
-    if (session != NULL)
+    } else {
+        status = serve_files(session, words + first, count - first, has_vault);
         free_session(session);
+    }
     return status;
 }

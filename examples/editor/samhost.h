@@ -2,6 +2,7 @@
  *
  *     samhost.c   the words of the command, and one session
  *     opening.c   reads the files at the start, and reports what an earlier session left beside them
+ *     folders.c   reads the text files below a folder
  *     serving.c   carries bytes between the host and standard input and output, and sleeps
  *     writing.c   writes a file when the terminal says so
  *     aside.c     saves texts that are not written
@@ -17,6 +18,7 @@
 #include <stdbool.h>
 #include <stddef.h>
 #include <stdint.h>
+#include <sys/stat.h>
 #include <sys/types.h>
 #include <time.h>
 
@@ -43,6 +45,7 @@ enum ending { GOES_ON, LEFT, INPUT_ENDED, FAULT };
 #define SAVED ".sam-saved"   /* what comes after the name of a file whose text was not written */
 #define OLD ".sam-old"       /* what comes after the name of a file for what it was, while it is written in place */
 #define UNNAMED "unnamed-"   /* what names of copies begin with of files that have no name */
+#define VAULT "~~undo~~"     /* the name of the file in which a terminal keeps text for undo; it is nowhere on disk */
 
 struct text {
     uint8_t *bytes;
@@ -107,8 +110,20 @@ struct journal {
     int64_t first, last; /* when the first and the last input came since */
 };
 
+/* Files that were taken, by device and inode. */
+struct mark {
+    dev_t device;
+    ino_t inode;
+};
+
+struct marks {
+    struct mark *items;
+    size_t count;
+};
+
 struct session {
     sam_host host;
+    uint16_t vault;             /* the tag of the file for undo; 0 where there is none */
     struct document *documents; /* ALL_TAGS of them */
     struct text text;           /* room for one text (MOST_BYTES) */
     struct closed *closed;
@@ -138,11 +153,30 @@ size_t count_tags(struct session *session);
 
 /* opening.c */
 
-/* Reads the files into the host. Returns the exit status: 0, or why the session can't begin. */
+/* Reads the files, and those below the folders, into the host. Returns the exit status: 0, or why the session can't begin. */
 int add_files(struct session *session, char **paths, int count);
+
+/* Adds the file for undo, which is never written or saved. Returns the exit status. */
+int add_vault(struct session *session);
+
+/* Reads a whole file into memory of the caller's; a file that isn't there is empty. */
+int read_whole(const char *path, struct text *text);
+
+/* Adds a file that was read to the host, whose status it hands out. */
+int add_text(struct session *session, const char *path, const struct text *text, uint32_t *code);
 
 /* Reports what stands beside the files, and in the folders for temporary files, of sessions and writes that were broken off. */
 void report_left(struct session *session);
+
+/* folders.c */
+
+/* Whether a file was taken, and that it was. */
+bool has_mark(const struct marks *marks, const struct stat *status);
+int add_mark(struct marks *marks, dev_t device, ino_t inode);
+
+/* Reads the text files below a folder into the host, but for those that were taken, and says how many it leaves out. Returns the exit
+ * status. */
+int add_folder(struct session *session, const char *path, struct marks *marks);
 
 /* serving.c */
 

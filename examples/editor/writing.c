@@ -166,6 +166,8 @@ void write_files(struct session *session)
 {
     uint16_t tag;
 
-    while (sam_host_next_written(&session->host, &tag) == SAM_OK)
-        write_file(session, tag);
+    while (sam_host_next_written(&session->host, &tag) == SAM_OK) {
+        if (tag != session->vault)
+            write_file(session, tag);
+    }
 }
