@@ -2,7 +2,7 @@
 from typing import Optional, Tuple
 
 from find import Find
-from keys import Mouse, Paste
+from keys import Mouse, Paste, Text
 from layout import line_start
 from lines import removes
 from menus import Help, Menu
@@ -32,7 +32,7 @@ class Actions:
 
     def may_leave(self, key: str) -> bool:
         """Whether all is written, or the user is sure. If not, it is asked; the same key answers."""
-        unwritten = ", ".join(self.name(tag) for tag in self.terminal.files() if self.is_changed(tag))
+        unwritten = ", ".join(self.name(tag) for tag in self.tags if self.is_changed(tag))
         return not unwritten or self.is_sure(f"not written: {unwritten}. {key} again leaves without them")
 
     # ---- Typing
@@ -49,6 +49,7 @@ class Actions:
         if runes:
             self.texts.replace(COMMAND, runes)
         if ends_line:
+            self._acting = Text("\n")
             self._run_line()
 
     def _type_in_file(self, window: Window, runes: str, is_paste: bool) -> None:
@@ -67,7 +68,18 @@ class Actions:
         """Whether what is selected may go: it can be brought back, or the user is sure."""
         start, end = window.dot
         gaps = self.texts.read(window.tag, start, end - start).count(GAP) if window.tag != COMMAND else 0
-        return gaps == 0 or self.is_sure(f"{gaps} characters of it are not loaded: ^Z can't bring them back. {key} goes on")
+        question = f"{gaps} characters of it are not loaded: ^Z can't bring them back. {key} goes on"
+        return gaps == 0 or self._is_kept_or_sure(window.tag, start, end, question)
+
+    def _is_kept_or_sure(self, tag: int, start: int, end: int, question: str) -> bool:
+        """Whether a text may go that is not loaded: the host keeps it for `^Z`, or the user is sure. Where the host doesn't keep it yet
+        and can, it is told to, and this key acts again then."""
+        if self.vault.has(tag, start, end):
+            return True
+        if self._answered != question and self.vault.keep(tag, start, end):
+            self.act_again("the host keeps a copy of what is not loaded, for ^Z and ^R")
+            return False
+        return self.is_sure(question)
 
     # ---- Command lines
 
@@ -87,8 +99,9 @@ class Actions:
         if window is self.command or not window.is_open:
             return True
         what, detail = removes(line) if is_known else ("range", None)
+        question = f"this may take out text that is not loaded: ^Z can't bring it back. {key} again runs it"
         is_safe = what != "range" or self._is_loaded(window, detail)
-        if not is_safe and not self.is_sure(f"this may take out text that is not loaded: ^Z can't bring it back. {key} again runs it"):
+        if not is_safe and not self._is_kept_or_sure(window.tag, 0, window.length, question):
             return False
         self.log.begin(window.tag)
         self.log.goes = detail if what == "pattern" else ""
@@ -144,7 +157,7 @@ class Actions:
         if window is None or not window.is_open:
             return
         if mouse.what == "wheel up":
-            window.page_up(WHEEL_ROWS, asks=not self.is_lost)
+            window.page_up(WHEEL_ROWS)
         elif mouse.what == "wheel down":
             window.page_down(WHEEL_ROWS)
         elif mouse.what == "press":
@@ -190,7 +203,7 @@ class Actions:
         self.go_to(self.windows[(self.windows.index(self.focus) + 1) % len(self.windows)])
 
     def do_menu(self) -> None:
-        tags = [tag for tag in self.terminal.files() if tag != COMMAND]
+        tags = self.tags
         entries = [("* " if self.is_changed(tag) else "  ") + self.name(tag) for tag in tags]
         if tags:
             chosen = tags.index(self.active.tag) if self.active.tag in tags else 0
@@ -200,7 +213,7 @@ class Actions:
 
     def do_split(self) -> None:
         shown = [window.tag for window in self.windows]
-        other = next((tag for tag in self.terminal.files() if tag not in shown), None)
+        other = next((tag for tag in self.tags if tag not in shown), None)
         if other is None:
             self.message = "every file has a window"
         elif self.rows * 3 // 4 < LEAST_ROWS * (len(self.files) + 1):
@@ -295,7 +308,7 @@ class Actions:
         self.focus.anchor = None
 
     def do_search_back(self) -> None:
-        Find(self).go_back(self.terminal.pattern)
+        self._sought_above = Find(self).go_back(self.terminal.pattern, self._sought_above if self._is_again else None)
 
     def do_find(self) -> None:
         self.focus.anchor = None
@@ -343,27 +356,27 @@ class Actions:
     # ---- Actions: taking back
 
     def do_undo(self) -> None:
-        step = self._step(self.log.past, "nothing more to take back")
-        if step is None:
+        step = self.log.last(self.log.past, self.focus.tag)
+        if not self._can_turn(step, step and step.lacks, "nothing more to take back"):
             return
         count = self.log.unknown(step)
-        if count == 0 or self.is_sure(f"{count} characters of what goes are not loaded: ^R can't bring them again. ^Z again goes on"):
+        question = f"{count} characters of what goes are not loaded: ^R can't bring them again. ^Z again goes on"
+        if count == 0 or self._is_kept_or_sure(self.focus.tag, 0, self.focus.length, question):
             self.log.back(self.focus.tag)
 
     def do_redo(self) -> None:
-        if self._step(self.log.future, "nothing was taken back") is not None:
+        step = self.log.last(self.log.future, self.focus.tag)
+        if self._can_turn(step, step and step.lacks_again, "nothing was taken back"):
             self.log.again(self.focus.tag)
 
-    def _step(self, steps, nothing: str):
-        """The step that comes next, where it can be turned."""
+    def _can_turn(self, step, lacks, nothing: str) -> bool:
+        """Whether there is a step, and all of its text is known."""
         self.focus.anchor = None
-        step = self.log.last(steps, self.focus.tag)
         if step is None:
             self.message = nothing
-        elif step.lacks:
-            self.message = f"that can't be taken back: {step.lacks} characters of what went were not loaded"
-            return None
-        return step
+        elif lacks:
+            self.message = f"that can't be taken back: {lacks} characters of what went were not loaded"
+        return step is not None and not lacks
 
     # ---- Actions: moving
 
@@ -406,7 +419,7 @@ class Actions:
 
     def do_page_up(self) -> None:
         if self.focus.is_open:
-            self.focus.page_up(asks=not self.is_lost)
+            self.focus.page_up()
 
     def do_page_down(self) -> None:
         if self.focus.is_open:

@@ -1,10 +1,10 @@
 """The editor: its windows, the keys that wait, and what comes from the host. What a key does stands in actions.py."""
 import time
 from collections import deque
-from typing import Callable, Deque, Dict, List, NamedTuple, Optional, Tuple
+from typing import Callable, Deque, Dict, List, NamedTuple, Optional, Sequence, Tuple
 
 from actions import Actions
-from keeping import Keeping
+from keeping import Keeping, shown_name
 from keys import ACTIONS, Input, Key, Mouse, Paste, Text
 from lines import Numbers
 from notes import REPEAT, Notes, said
@@ -12,6 +12,7 @@ from sulgrevad import Refusal, SamError, Status, Terminal
 from stream import CLEAN, CLOSE, MOVETO, ORIGIN, SETDOT, UNLOCK, Frame, Stream
 from texts import Texts
 from undo import Undo
+from vault import Vault
 from way import Way
 from windows import Window, ask
 
@@ -27,6 +28,8 @@ BY_PLACE = {
     "left", "right", "up", "down", "word_left", "word_right", "home", "end", "first", "last", "erase_left", "erase_right", "select_all",
     "word", "cut", "snarf", "paste", "undo", "redo", "find", "search_back",
 }  # fmt: skip
+# Actions that go by the rows on the screen. These wait until all that is shown is loaded, and so lead to the same place over any link.
+BY_PLACES = BY_PLACE | {"page_up", "page_down"}
 # Actions that ask first where a file was not written. What is held or not answered yet may still change one, so these wait for it.
 ASKING = {"close", "leave", "send"}
 # Actions that change no file: these go on without a host.
@@ -53,6 +56,7 @@ class Pressed(NamedTuple):
     when: float
     answers: str = ""
     has_read: bool = False
+    is_again: bool = False  # it acted already, and goes on
 
 
 def action_of(key: Input) -> Optional[str]:
@@ -68,11 +72,15 @@ def _last_of(key: Input) -> Input:
 class Editor(Actions):
     """The terminal with its windows. Keys come in by `take`, bytes of the host by `feed`, lines of its standard error by `hear`."""
 
-    def __init__(self, terminal: Terminal, clock: Callable[[], float] = time.monotonic, indents: bool = True):
+    def __init__(
+        self, terminal: Terminal, clock: Callable[[], float] = time.monotonic, indents: bool = True, asked_for: Sequence[str] = ()
+    ):
         self.terminal, self.clock, self.indents = terminal, clock, indents
+        self.asked_for = [shown_name(path) for path in asked_for]  # the names that the files have whose paths the user gave
         self.way, self.notes = Way(terminal, clock), Notes(clock)
         self.texts = Texts(terminal)
-        self.log, self.numbers, self.keeping = Undo(terminal, self.texts), Numbers(self.texts), Keeping(self)
+        self.vault = Vault(terminal, self.texts)
+        self.log, self.numbers, self.keeping = Undo(terminal, self.texts, self.vault), Numbers(self.texts), Keeping(self)
         told = {CLEAN: self._meet_clean, CLOSE: self._meet_close, ORIGIN: self._meet_origin, MOVETO: self._meet_move}
         told.update({SETDOT: self._meet_dot, UNLOCK: self._meet_unlock})
         self.stream = Stream(terminal, self.texts, told)
@@ -84,7 +92,6 @@ class Editor(Actions):
         self.menu = None
         self.deferred: Deque[Pressed] = deque()
         self.is_lost = self.is_leaving = self.is_over = self.has_begun = self.is_small = False
-        self.offers_files = False  # shows the menu of files at the start
         self.kept_here: List[str] = []  # what was told of texts that were written here
         self.wishes: List[str] = []  # what the screen is to do: "redraw", "suspend"
         self.clip: Optional[str] = None  # what the user's clipboard is to have
@@ -94,6 +101,9 @@ class Editor(Actions):
         self._last = Pressed(Key(""), 0.0)
         self._acting: Input = Key("")  # the key that acts now, and the one that made it ask
         self._asked_by: Input = Key("")
+        self._again: Optional[Input] = None  # the key that acts again once the host has answered
+        self._is_again = False  # whether the key that acts does so again
+        self._sought_above: Optional[Tuple[int, int]] = None  # from where a search above goes on, and how much it loads next
         self._answered = ""  # the question that the key which acts now answers
         self._snarfed = ""  # what was cut or copied last, as far as it was loaded
         self._sought: Optional[Tuple[int, int]] = None  # the file and the line that the host was told to select
@@ -119,6 +129,11 @@ class Editor(Actions):
     @property
     def windows(self) -> List[Window]:
         return [self.command, *self.files]
+
+    @property
+    def tags(self) -> List[int]:
+        """The user's files."""
+        return [tag for tag in self.terminal.files() if tag not in (COMMAND, self.vault.tag)]
 
     def is_changed(self, tag: int) -> bool:
         """Whether a file was not written since it was changed, or its last write failed. The command file is never written."""
@@ -219,7 +234,7 @@ class Editor(Actions):
     @property
     def _is_lock_held(self) -> bool:
         """Whether a lock is held, so that the host will answer, or an event waits for one."""
-        return self.terminal.held > 0 or any(self.terminal.locked(tag) for tag in self.all_windows)
+        return self.vault.is_busy or self.terminal.held > 0 or any(self.terminal.locked(tag) for tag in self.all_windows)
 
     @property
     def _is_answer_due(self) -> bool:
@@ -235,6 +250,7 @@ class Editor(Actions):
         if self.is_lost:
             return
         self.is_lost = True
+        self.vault.stop()
         self.kept_here = self.keeping.keep_here()
         self.deferred.clear()
         self.message = ""
@@ -248,9 +264,10 @@ class Editor(Actions):
 
     def _meet_files(self) -> None:
         """Shows the first file, and a file that was made; drops the windows of files that were closed."""
-        known = [tag for tag in self.terminal.files() if tag != COMMAND]
         if not self.has_begun and not self.terminal.command_locked:
-            self._begin_with(known)
+            self.vault.find(self.tags)
+            self._begin_with(self.tags)
+        known = self.tags
         gone = [window for window in self.files if window.tag not in known]
         for window in gone:
             self.drop(window)
@@ -273,7 +290,7 @@ class Editor(Actions):
             self.message = "no file: ^N makes one, F1 shows the keys"
         self.terminal.open_cmd()
         self.has_begun = True
-        if self.offers_files:
+        if any(self.name(tag) not in self.asked_for for tag in known):  # of a folder the host has the files below it
             self.do_menu()
 
     def update(self) -> None:
@@ -281,12 +298,21 @@ class Editor(Actions):
         if not self.is_lost:
             self._meet_files()
             self._awaits_file = self._awaits_file and self._is_lock_held
+            self._go_on_with_vault()
+            for window in self.windows:
+                window.reach()
             self._act_in_order()
             for refusal in self.terminal.refusals():
                 self._tell_refusal(refusal)
             self._update_windows()
         if self.terminal.exited or (self._leaves_at is not None and self.clock() >= self._leaves_at):
             self.is_over = True
+
+    def _go_on_with_vault(self) -> None:
+        self.vault.go_on()
+        if self.vault.has_lost_copied and not self.vault.is_busy:
+            self.vault.has_lost_copied = False
+            self.message = "what was copied or cut last is lost: the host had no room to keep it beside what came back"
 
     def _update_windows(self) -> None:
         is_busy = self.is_busy
@@ -323,7 +349,7 @@ class Editor(Actions):
         when = self.clock() if when is None else when
         pressed = Pressed(key, when, self._answer_of(key, when), self.notes.is_read)
         self._leaves_at = when + REPEAT if key == Key("^Q") and pressed.answers in (LEAVING, WAITING) else None
-        if self._leaves_at is not None:
+        if self._leaves_at is not None or self._stops(key):
             return
         if isinstance(key, (Text, Paste)) or action_of(key) in BY_PLACE:
             self._edited_at = when
@@ -334,6 +360,14 @@ class Editor(Actions):
                 self._ask(LEAVING if self.is_leaving else WAITING, key)
             else:
                 self.message = "keys wait for the host"
+
+    def _stops(self, key: Input) -> bool:
+        """Whether a key stops a search that goes on."""
+        stops = key == Key("Esc") and bool(self.deferred) and self.deferred[0].is_again and action_of(self.deferred[0].key) == "search_back"
+        if stops:
+            self.deferred.popleft()
+            self.message = "stopped"
+        return stops
 
     def _answer_of(self, key: Input, when: float) -> str:
         """The question that a key answers, which has to be the one that was asked. A key that is held down answers none: it comes again
@@ -359,6 +393,8 @@ class Editor(Actions):
             return True
         if self.is_lost or action == "help":
             return False
+        if self.vault.is_busy:
+            return True
         if self._is_for_menu(key):
             return self.menu.goes_by_place and not self.focus.is_settled
         if self._are_windows_due:
@@ -367,9 +403,23 @@ class Editor(Actions):
         if action in ASKING or is_line:
             return self._is_answer_due or (action in (None, "send") and self._lacks_text(self.active, "page_down"))
         window = self._window_by_place(key)
-        if window is None:
-            return False
-        return not window.is_settled or self._lacks_text(window, action)
+        return window is not None and (not self._has_shown(window, key) or not window.is_settled or self._lacks_text(window, action))
+
+    def _has_shown(self, window: Window, key: Input) -> bool:
+        """Before a key goes by what a window shows, that shows what the last key did, and asks for what is missing. What is typed at the
+        caret needs none of that, and so nothing holds it up. Returns whether there was memory for it."""
+        start, end = window.dot if window.is_open else (0, 0)
+        if isinstance(key, Text) and "\n" not in key.runes and start == end:
+            return True
+        try:
+            window.update(self.is_busy)
+        except MemoryError as error:
+            self.message = f"there is not enough memory ({error})"
+        except SamError as error:
+            self.lose(f"the session can't go on ({error})")
+        else:
+            return True
+        return False
 
     def _lacks_text(self, window: Window, action: Optional[str]) -> bool:
         """Whether a key has to wait for text that is shown, but not loaded. That is asked for, also while keys come."""
@@ -380,7 +430,7 @@ class Editor(Actions):
         """The window by whose places a key goes, if it does."""
         if isinstance(key, Mouse) and key.what == "press":
             return self.window_at(key.row)
-        is_by_place = key.what in ("move", "release") if isinstance(key, Mouse) else action_of(key) in BY_PLACE | {"page_down"}
+        is_by_place = key.what in ("move", "release") if isinstance(key, Mouse) else action_of(key) in BY_PLACES
         return self.focus if is_by_place or isinstance(key, (Text, Paste)) else None
 
     def _is_for_menu(self, key: Input) -> bool:
@@ -393,7 +443,7 @@ class Editor(Actions):
         if self.is_lost and not self._is_for_menu(key) and action_of(key) not in READING:
             self.keeping.typed_late += key.runes if isinstance(key, (Text, Paste)) else ""
             return
-        self._answered, self._acting = pressed.answers, key
+        self._answered, self._acting, self._is_again = pressed.answers, key, pressed.is_again
         self.notes.take(pressed.has_read)
         try:
             if self._is_for_menu(key):
@@ -404,13 +454,18 @@ class Editor(Actions):
                 self.type(pressed)
             else:
                 self._do(key)
-            if not self.is_lost:
-                self.focus.update(self.is_busy)  # so that the next key waits where it goes by places that are not loaded
         except MemoryError as error:
             self.message = f"there is not enough memory ({error})"
         except SamError as error:
             self.lose(f"the session can't go on ({error})")
         self._answered = ""
+        if self._again is not None:
+            self.deferred.appendleft(pressed._replace(key=self._again, answers="", has_read=False, is_again=True))
+            self._again = None
+
+    def act_again(self, why: str) -> None:
+        """The key that acts now does so again, once the host has answered."""
+        self._again, self.message = self._acting, why
 
     def _act_in_menu(self, pressed: Pressed) -> None:
         key = pressed.key

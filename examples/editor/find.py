@@ -1,11 +1,12 @@
 """Finding as the user types: on what is loaded at once, and by the host at Enter."""
-from typing import Optional
+from typing import Optional, Tuple
 
 from keys import Input, Key, Text
 from lines import escaped
 from texts import GAP
 
 PIECE = 16_384  # runes that are searched at once
+FIRST_REACH, LONGEST_REACH = 4_096, 32_768  # runes that are loaded for a search above, in one round trip, twice as many each time
 MOST_IN_PATTERN = 128  # runes of the longest pattern
 AFTER = ("Down", "^S", "^F", "F7")  # keys to the next place, and to the one before
 BEFORE = ("Up", "^B")
@@ -20,7 +21,7 @@ class Find:
     def __init__(self, editor):
         self.editor, self.window, self.is_over = editor, editor.focus, False
         self.origin = self.window.dot
-        self.pattern, self._why = "", ""
+        self.pattern, self._why, self._gap = "", "", 0
 
     @property
     def line(self) -> str:
@@ -42,21 +43,31 @@ class Find:
         elif name in AFTER:
             self._show(self._after(self.window.dot[0] + 1))
         elif name in BEFORE:
-            self._show(self._before(self.window.dot[0]))
+            self._show(self._before(self.window.dot[0]), " (not in what is loaded above; there ^B looks behind Enter)")
         elif not isinstance(key, Text):
             self.is_over = True
             return True
         self.editor.message = "" if self.is_over else self.line
         return False
 
-    def go_back(self, pattern: str) -> None:
-        """Goes to the place before at which the last pattern stands."""
+    def go_back(self, pattern: str, goes_on: Optional[Tuple[int, int]]) -> Optional[Tuple[int, int]]:
+        """Goes to the place before at which the last pattern stands. Where the text above is not loaded, more and more of it is, in a
+        round trip each. Returns from where the same key, which acts again then, goes on, and how much it loads next; None at the end."""
         self.pattern = pattern
-        place = self._before(self.window.dot[0]) if pattern else None
-        if place is None:
-            self.editor.message = "not in what is loaded above" if pattern else "nothing was searched yet"
-        else:
+        start, reach = goes_on or (self.window.dot[0], FIRST_REACH)
+        place = self._before(start) if pattern else None
+        if place is not None:
             self._select(place, place + len(pattern))
+        elif not pattern:
+            self.editor.message = "nothing was searched yet"
+        elif self._gap == 0 or self.editor.is_lost:
+            self.editor.message = "it stands nowhere above"
+        else:
+            low = max(0, self._gap - reach)
+            self.editor.terminal.load(self.window.tag, low, self._gap - low)
+            self.editor.act_again(f"looks above place {self._gap}; Esc stops that")
+            return min(start, self._gap + len(pattern)), min(2 * reach, LONGEST_REACH)
+        return None
 
     def _seek(self, pattern: str) -> None:
         """Shows the first place from where the search began."""
@@ -66,11 +77,11 @@ class Find:
         else:
             self._select(*self.origin)
 
-    def _show(self, place: Optional[int]) -> None:
+    def _show(self, place: Optional[int], why: str = " (not in what is loaded; Enter asks the host)") -> None:
         if place is not None:
             self._select(place, place + len(self.pattern))
         elif self.pattern:
-            self._why = " (not in what is loaded; Enter asks the host)"
+            self._why = why
 
     def _select(self, start: int, end: int) -> None:
         self.window.select(start)
@@ -89,7 +100,8 @@ class Find:
         return None
 
     def _before(self, place: int) -> Optional[int]:
-        """The last place before, down to the next gap."""
+        """The last place before, down to the next gap, whose end `_gap` then is."""
+        self._gap = 0
         end = place + len(self.pattern) - 1
         while self.pattern and end > 0:
             low = max(0, end - PIECE)
@@ -98,6 +110,7 @@ class Find:
             if found > gap:
                 return low + found
             if gap >= 0 or low == 0:
+                self._gap = low + gap + 1 if gap >= 0 else 0
                 return None
             end = low + len(self.pattern) - 1
         return None

@@ -61,7 +61,7 @@ class Keeping:
 
     def _tags_of(self, told: Said) -> List[int]:
         """The files that a line of the host is about."""
-        files = [tag for tag in self.terminal.files() if tag != 0]
+        files = self.editor.tags
         if told.tag is not None:
             return [tag for tag in files if tag == told.tag]
         return [tag for tag in files if told.name and self.name(tag) == shown_name(told.name)]
@@ -80,10 +80,10 @@ class Keeping:
         to tell of them. Where the host may not have got all that was sent, what it has saved may lack something."""
         texts, self._dropped = self._dropped, {}
         waiting = self.editor.typed_ahead
-        for tag in self.terminal.files():
+        for tag in self.editor.tags:
             is_typed = bool(waiting) and tag == self.editor.active.tag
             is_safe = trusts and self._saved.get(tag) == self._changes[tag] and not is_typed
-            if tag != 0 and self.terminal.is_open(tag) and not is_safe and (self.editor.is_changed(tag) or is_typed):
+            if self.terminal.is_open(tag) and not is_safe and (self.editor.is_changed(tag) or is_typed):
                 more = f"\n[typed, and not put in yet:]\n{waiting}" if is_typed else ""
                 texts[self.name(tag)] = rescue.loaded(self.terminal, tag) + more
                 self._saved[tag] = self._changes[tag]

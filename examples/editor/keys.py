@@ -35,7 +35,7 @@ BINDINGS = (
     Binding(("^S", "F7"), "find", "finds as you type; Enter has the host look"),
     Binding(("^L",), "look", "looks for the next place of the selected text"),
     Binding(("^F",), "search", "searches the last pattern again"),
-    Binding(("^B",), "search_back", "searches it above, in what is loaded"),
+    Binding(("^B",), "search_back", "searches it above"),
     Binding(("^E",), "send", "runs the selection as a command line"),
     Binding(("Backspace",), "erase_left", "erase the selection, or a character"),
     Binding(("Delete",), "erase_right", "erase the selection, or a character"),

@@ -227,19 +227,20 @@ def row_start(read: Reader, place: int, width: int) -> int:
     return _starts_of_rows(read, start, end, width)[-1]
 
 
-def top_above(read: Reader, place: int, rows: int, width: int) -> Optional[int]:
-    """Where a window begins that has so many rows above the row that begins at a place, or all there are; None where a rune that is
-    not loaded is in the way."""
+def top_above(read: Reader, place: int, rows: int, width: int) -> Tuple[int, bool]:
+    """Where a window begins that has so many rows above the row that begins at a place, or all there are; and whether that is known.
+    It is not where a rune that is not loaded is in the way: then it is where the window begins if no line ends there."""
     starts: List[int] = [place]
-    while len(starts) <= rows and starts[0] > 0:
+    is_known = place == 0 or read(place - 1, 1) != GAP
+    while is_known and len(starts) <= rows and starts[0] > 0:
         end = starts[0]
-        if read(end - 1, 1) == GAP:
-            return None
         start = line_start(read, end - 1, max(0, end - FAR_BACK))
-        if start > 0 and read(start - 1, 1) == GAP:
-            return None
+        is_known = start == 0 or read(start - 1, 1) != GAP
         starts = _starts_of_rows(read, start, end, width) + starts
-    return starts[max(0, len(starts) - 1 - rows)]
+    missing = rows + 1 - len(starts)
+    if missing > 0 and not is_known:
+        return max(0, starts[0] - missing * width), False
+    return starts[max(0, -missing)], is_known
 
 
 def _starts_of_rows(read: Reader, start: int, end: int, width: int) -> List[int]:

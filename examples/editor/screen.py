@@ -242,7 +242,7 @@ def status(editor: Editor, link: Link) -> str:
 
 def locks_of(editor: Editor) -> str:
     """What an edit would wait for."""
-    if editor.terminal.command_locked:
+    if editor.terminal.command_locked or editor.vault.is_busy:
         return "locked: all"
     locked = [window for window in editor.windows if editor.terminal.locked(window.tag)]
     if not locked:

@@ -109,13 +109,11 @@ class Session:
         return STATUS_LOST if self.editor.is_lost else 0
 
 
-def edit(command: List[str], indents: bool = True, offers_files: bool = False, warnings: List[str] = ()) -> int:
-    """Runs a host by a command, and edits its files. Returns the exit status."""
+def edit(command: List[str], files: List[str], indents: bool = True) -> int:
+    """Runs a host by a command with the names of files after it, and edits these. Returns the exit status."""
     with Terminal() as terminal:
-        editor = Editor(terminal, indents=indents)
-        editor.offers_files = offers_files
-        for line in warnings:
-            editor.notes.keep(1, line)
+        editor = Editor(terminal, indents=indents, asked_for=files)
+        command = command + files
         try:
             link = Link(command)
         except OSError as error:

@@ -1,5 +1,5 @@
 """Windows: what of a file is shown, and how it follows the user and the host. No text is kept here, each look reads the terminal."""
-from typing import Optional, Tuple
+from typing import NamedTuple, Optional, Tuple
 
 from layout import Layout, line_end, line_start, looks, row_start, top_above
 from sulgrevad import Terminal
@@ -15,6 +15,14 @@ def ask(terminal: Terminal, tag: int, top: int, end: int) -> None:
     terminal.load(tag, start, 2 * end - top - start)
 
 
+class Aim(NamedTuple):
+    """A place that is to stand below so many rows; whether the text above it was asked for."""
+
+    place: int
+    rows: int
+    is_asked: bool = False
+
+
 class Window:
     """A file on the screen: rows of text under a title, from the place `top` on."""
 
@@ -25,6 +33,7 @@ class Window:
         self.goal: Optional[int] = None  # the column that moves by rows keep to
         self._top = 0
         self._followed: Optional[Tuple[int, int]] = None  # the dot that was brought into view
+        self._aim: Optional[Aim] = None  # what is to be shown once the text above it is loaded
         self._layout: Optional[Layout] = None
         self._layout_of: tuple = ()
         self._loaded: Optional[Layout] = None  # what is shown, where all of it is loaded and the terminal was told so
@@ -41,8 +50,8 @@ class Window:
         return self.terminal.held == 0 and not self.terminal.locked(self.tag) and self.is_open
 
     def lacks_text_for(self, action: Optional[str]) -> bool:
-        """Whether an action goes by text that is shown, but not loaded: Page Down by all of it, a move by the lines that it crosses, what
-        takes out the selection (None stands for typing) by that."""
+        """Whether an action goes by text that is shown, but not loaded: the page keys by all of it, a move by the lines that it crosses,
+        what takes out the selection (None stands for typing) by that."""
         layout, gap = self.layout(), self.terminal.first_gap(self.tag, self.top)
         if gap is None or gap >= layout.end:
             return False
@@ -53,7 +62,8 @@ class Window:
         place = self.caret
         above, below = self.line_start(place), self.line_end(place)
         edges = {
-            "page_down": (gap,), "left": (place - 1,), "right": (place,), "erase_left": (place - 1,), "erase_right": (place,),
+            "page_down": (gap,), "page_up": (gap,),
+            "left": (place - 1,), "right": (place,), "erase_left": (place - 1,), "erase_right": (place,),
             "word_left": (place - 1, above - 1), "word_right": (place, below), "home": (above - 1,), "end": (below,),
             "up": (above - 1, self.line_start(max(0, above - 1)) - 1), "down": (above - 1, below, self.line_end(below + 1)),
         }.get(action, ())  # fmt: skip
@@ -103,10 +113,12 @@ class Window:
     def hear(self, change: Change) -> None:
         """A change of the text moves the place where the window begins."""
         self._top = change.moved(self._top)
+        if self._aim is not None:
+            self._aim = self._aim._replace(place=change.moved(self._aim.place))
 
     def begin_at(self, place: int) -> None:
         """The host told where the window begins."""
-        self._top, self._loaded = place, None
+        self._top, self._loaded, self._aim = place, None, None
 
     def follow(self) -> None:
         """Brings the dot into view, also where it stays."""
@@ -115,8 +127,18 @@ class Window:
     def update(self, is_busy: bool = False) -> None:
         """Follows what the host and the user did, and has the terminal load what is shown; while the user is busy only what he needs."""
         if self.is_open:
+            self.reach()
             self._follow_dot()
             self._load(is_busy)
+
+    def reach(self) -> None:
+        """Shows what was aimed at, where the text above it has come."""
+        if self._aim is None or not self._aim.is_asked or not self.is_settled:
+            return
+        place, rows, _ = self._aim
+        place = min(place, self.length)
+        if not self._show_below(place, rows):  # the line is longer than what was loaded: the host finds its start
+            self._have_host_scroll(place, rows)
 
     def _follow_dot(self) -> None:
         """Brings a dot that has moved into view."""
@@ -129,7 +151,8 @@ class Window:
         if self.anchor is None and dot[0] < dot[1]:
             place = dot[0]
             is_shown = dot[0] < layout.end and layout.top < dot[1]
-        if not is_shown:
+        gap = self.terminal.first_gap(self.tag, layout.top)
+        if not is_shown or (gap is not None and gap < place):  # what is loaded before a place may push it out
             self._bring(place, layout)
 
     def _bring(self, place: int, layout: Layout) -> None:
@@ -143,19 +166,19 @@ class Window:
             rows = self.height // 3
         self._show_below(place, rows)
 
-    def _show_below(self, place: int, rows: int) -> None:
-        """Shows a place below so many rows; the host finds their start where they are not loaded."""
+    def _show_below(self, place: int, rows: int) -> bool:
+        """Shows a place below so many rows. Where these are not loaded the place is aimed at: it is shown where it stands if no line ends
+        in what is missing. Returns whether that is known."""
         start = row_start(self.read, place, self.width)
-        top = top_above(self.read, start, rows, self.width)
-        if top is None:
-            self._have_host_scroll(start, rows)
-        else:
-            self._top = top
+        self._top, is_known = top_above(self.read, start, rows, self.width)
+        self._aim = None if is_known else Aim(place, rows)
+        self._loaded = None
+        return is_known
 
     def _have_host_scroll(self, place: int, lines: int) -> None:
         self.terminal.view(self.tag, place, 0)
         self.terminal.scroll(self.tag, lines)
-        self._top, self._loaded = place, None
+        self._top, self._loaded, self._aim = place, None, None
 
     def _load(self, is_busy: bool) -> None:
         """Tells the terminal what is shown, and asks for what of it is not loaded."""
@@ -163,36 +186,39 @@ class Window:
         if layout is self._loaded or not self.is_settled:
             return
         gap = self.terminal.first_gap(self.tag, layout.top)
-        if gap is None or gap >= layout.end:
+        has_all = gap is None or gap >= layout.end
+        if has_all and self._aim is None:
             self._loaded = layout
-            if self.terminal.view_of(self.tag) != (layout.top, layout.end):
-                self.terminal.view(self.tag, layout.top, layout.end - layout.top)
-        elif not (is_busy and layout.top <= self.caret <= gap and layout.top < gap):
+            if self.terminal.view_of(self.tag) != (layout.top, layout.top):  # an empty view asks for nothing by itself: `ask` does at once
+                self.terminal.view(self.tag, layout.top, 0)
+        elif has_all or not (is_busy and layout.top <= self.caret <= gap and layout.top < gap):
             ask(self.terminal, self.tag, layout.top, layout.end)
+            if self._aim is not None:
+                self._aim = self._aim._replace(is_asked=True)
 
     # ---- Moving
 
     def page_down(self, rows: Optional[int] = None) -> None:
         """Shows what stands below, as far as what is shown is loaded."""
-        layout, gap = self.layout(), self.terminal.first_gap(self.tag, self.top)
         if rows is None:
             rows = max(1, self.height - 1)
+        if self._aim is not None and self._aim.rows >= rows:
+            self._show_below(self._aim.place, self._aim.rows - rows)
+            return
+        self._aim = None
+        layout, gap = self.layout(), self.terminal.first_gap(self.tag, self.top)
         if gap is not None and layout.shows(gap):
             rows = min(rows, layout.position_of(gap)[0])
         if not layout.is_whole and rows > 0:
             starts = [*(row.start for row in layout.rows), layout.end]
             self._top = starts[min(rows, max(1, len(layout.rows) - 1))]
 
-    def page_up(self, rows: Optional[int] = None, asks: bool = True) -> None:
+    def page_up(self, rows: Optional[int] = None) -> None:
+        """Shows what stands above."""
         if rows is None:
             rows = max(1, self.height - 1)
-        top = top_above(self.read, self.top, rows, self.width)
-        if top is None and not asks:
-            top = max(0, self.top - rows * self.width)
-        if top is None:
-            self._have_host_scroll(self.top, rows)
-        else:
-            self._top = top
+        place, below, _ = self._aim or Aim(self.top, 0)
+        self._show_below(place, below + rows)
 
     def select(self, place: int, extends: bool = False) -> None:
         """Moves the caret, and shows it; the anchor stays where the selection is extended."""
@@ -243,8 +269,8 @@ class Window:
             layout = Layout(self.read, start, self.width, rows + 1)
             at = min(rows, len(layout.rows) - 1)
             return self.length if at < rows else layout.place_at(at, self.goal)
-        top = top_above(self.read, start, -rows, self.width)
-        if top is None or start == 0:
+        top, is_known = top_above(self.read, start, -rows, self.width)
+        if start == 0 or not is_known:
             return max(start - 1, 0)
         return Layout(self.read, top, self.width, 2).place_at(0, self.goal)
 
