@@ -9,7 +9,7 @@ from keys import ACTIONS, Input, Key, Mouse, Paste, Text
 from lines import Numbers
 from notes import REPEAT, Notes, said
 from sulgrevad import Refusal, SamError, Status, Terminal
-from stream import CLEAN, CLOSE, MOVETO, ORIGIN, SETDOT, UNLOCK, Frame, Stream
+from stream import CLEAN, CLOSE, MOVETO, SETDOT, UNLOCK, Frame, Stream
 from texts import Texts
 from undo import Undo
 from vault import Vault
@@ -81,8 +81,7 @@ class Editor(Actions):
         self.texts = Texts(terminal)
         self.vault = Vault(terminal, self.texts)
         self.log, self.numbers, self.keeping = Undo(terminal, self.texts, self.vault), Numbers(self.texts), Keeping(self)
-        told = {CLEAN: self._meet_clean, CLOSE: self._meet_close, ORIGIN: self._meet_origin, MOVETO: self._meet_move}
-        told.update({SETDOT: self._meet_dot, UNLOCK: self._meet_unlock})
+        told = {CLEAN: self._meet_clean, CLOSE: self._meet_close, MOVETO: self._meet_move, SETDOT: self._meet_dot, UNLOCK: self._meet_unlock}
         self.stream = Stream(terminal, self.texts, told)
         self.all_windows: Dict[int, Window] = {}
         self.texts.listeners = [self.log.hear, self.numbers.hear, self.keeping.hear_change, self._tell_window]
@@ -209,9 +208,6 @@ class Editor(Actions):
         for memory in (self.log, self.numbers, self.keeping):
             memory.drop(frame.tag)
 
-    def _meet_origin(self, frame: Frame) -> None:
-        self.window_of(frame.tag).begin_at(frame.place)
-
     def _meet_move(self, frame: Frame) -> None:
         self.window_of(frame.tag).follow()
 
@@ -285,7 +281,8 @@ class Editor(Actions):
         """The names of the files are known: opens the first one, and has it loaded before the command file is opened."""
         if known:
             self.show(known[0])
-            ask(self.terminal, known[0], 0, self.active.width * self.active.height)
+            page = self.active.width * self.active.height
+            ask(self.terminal, known[0], 0, page, page)
         else:
             self.message = "no file: ^N makes one, F1 shows the keys"
         self.terminal.open_cmd()
@@ -299,8 +296,6 @@ class Editor(Actions):
             self._meet_files()
             self._awaits_file = self._awaits_file and self._is_lock_held
             self._go_on_with_vault()
-            for window in self.windows:
-                window.reach()
             self._act_in_order()
             for refusal in self.terminal.refusals():
                 self._tell_refusal(refusal)

@@ -66,7 +66,7 @@ class Find:
             low = max(0, self._gap - reach)
             self.editor.terminal.load(self.window.tag, low, self._gap - low)
             self.editor.act_again(f"looks above place {self._gap}; Esc stops that")
-            return min(start, self._gap + len(pattern)), min(2 * reach, LONGEST_REACH)
+            return min(start, self._gap), min(2 * reach, LONGEST_REACH)
         return None
 
     def _seek(self, pattern: str) -> None:

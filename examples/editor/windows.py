@@ -9,10 +9,10 @@ LONGEST_LOOK = 512  # runes of the line before that a new line takes its indenta
 LONGEST_WORD = 4096  # runes that a move over a word looks at
 
 
-def ask(terminal: Terminal, tag: int, top: int, end: int) -> None:
-    """Asks for what a window shows from `top` to `end`, and for a page on either side, in one round trip."""
-    start = max(0, 2 * top - end)
-    terminal.load(tag, start, 2 * end - top - start)
+def ask(terminal: Terminal, tag: int, top: int, end: int, page: int) -> None:
+    """Asks for what stands from `top` to `end`, and for a page of so many runes on either side, in one round trip."""
+    start = max(0, top - page)
+    terminal.load(tag, start, end + page - start)
 
 
 class Aim(NamedTuple):
@@ -116,10 +116,6 @@ class Window:
         if self._aim is not None:
             self._aim = self._aim._replace(place=change.moved(self._aim.place))
 
-    def begin_at(self, place: int) -> None:
-        """The host told where the window begins."""
-        self._top, self._loaded, self._aim = place, None, None
-
     def follow(self) -> None:
         """Brings the dot into view, also where it stays."""
         self._followed = self._loaded = None
@@ -127,18 +123,20 @@ class Window:
     def update(self, is_busy: bool = False) -> None:
         """Follows what the host and the user did, and has the terminal load what is shown; while the user is busy only what he needs."""
         if self.is_open:
-            self.reach()
+            self._reach()
             self._follow_dot()
             self._load(is_busy)
 
-    def reach(self) -> None:
-        """Shows what was aimed at, where the text above it has come."""
+    def _reach(self) -> None:
+        """Shows what was aimed at, where the text above it has come. Of a line that is longer, no place is known at which a row begins: it
+        is shown from where it is loaded."""
         if self._aim is None or not self._aim.is_asked or not self.is_settled:
             return
-        place, rows, _ = self._aim
-        place = min(place, self.length)
-        if not self._show_below(place, rows):  # the line is longer than what was loaded: the host finds its start
-            self._have_host_scroll(place, rows)
+        place = min(self._aim.place, self.length)
+        self._show_below(place, self._aim.rows)
+        gap = self.terminal.first_gap(self.tag, self._top)
+        if gap is None or gap >= place:
+            self._aim = None
 
     def _follow_dot(self) -> None:
         """Brings a dot that has moved into view."""
@@ -175,11 +173,6 @@ class Window:
         self._loaded = None
         return is_known
 
-    def _have_host_scroll(self, place: int, lines: int) -> None:
-        self.terminal.view(self.tag, place, 0)
-        self.terminal.scroll(self.tag, lines)
-        self._top, self._loaded, self._aim = place, None, None
-
     def _load(self, is_busy: bool) -> None:
         """Tells the terminal what is shown, and asks for what of it is not loaded."""
         layout = self.layout()
@@ -192,7 +185,8 @@ class Window:
             if self.terminal.view_of(self.tag) != (layout.top, layout.top):  # an empty view asks for nothing by itself: `ask` does at once
                 self.terminal.view(self.tag, layout.top, 0)
         elif has_all or not (is_busy and layout.top <= self.caret <= gap and layout.top < gap):
-            ask(self.terminal, self.tag, layout.top, layout.end)
+            end = layout.end if self._aim is None else max(layout.end, self._aim.place)
+            ask(self.terminal, self.tag, layout.top, end, layout.end - layout.top)
             if self._aim is not None:
                 self._aim = self._aim._replace(is_asked=True)
 
