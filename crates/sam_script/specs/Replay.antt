@@ -1,6 +1,8 @@
 -- What replaying a script prints, and the script that bytes spell.
 use Rattle.std.specs.Prelude.{◌≡◌, ◌⊎◌, ℕ, if◌then◌else◌, List, [], ◌∷◌, ◌++◌, Option, Some, None, Result, Ok, Err}
+use Rattle.sam_term.specs.declared.event.UserEvent.{UserEvent}
 use Rattle.sam_crossing.specs.World.{PlainWorld, new_world, step_of}
+use Rattle.sam_local.specs.Worlds.{IsAsIfLocal}
 use Rattle.sam_world.specs.Faults.{is_empty_take}
 use Rattle.sam_world.specs.Drain.{drained, drain_limit}
 use Rattle.sam_crossing.specs.declared.event.Event.{Event}
@@ -44,7 +46,7 @@ abbrev pub behind : List ℕ → Result (List ℕ) ScriptFault → Result (List 
 behind before (Ok out) = Ok (before ++ out)
 behind before (Err why) = Err why
 
-abbrev pub and_on : Result PlainWorld ScriptFault → (PlainWorld → Result (List ℕ) ScriptFault) → Result (List ℕ) ScriptFault
+abbrev pub and_on : {A : Type 0} → Result PlainWorld ScriptFault → (PlainWorld → Result A ScriptFault) → Result A ScriptFault
 and_on (Ok v) rest = rest v
 and_on (Err why) rest = Err why
 
@@ -58,6 +60,37 @@ replayed_from w (numbered ∷ more) =
 unfoldable pub replayed : PlainScript → Result (List ℕ) ScriptFault
 replayed script = replayed_from (new_world script.files) script.lines
 
+-- ## As if there were no network
+
+-- the world after lines one after another
+abbrev pub after_lines : PlainWorld → List Numbered → Result PlainWorld ScriptFault
+after_lines w [] = Ok w
+after_lines w (numbered ∷ more) = and_on (after_line numbered.number w numbered.line) (λ v. after_lines v more)
+
+-- what the user does by a line, and by lines
+abbrev pub user_of : Line → List UserEvent
+user_of (Key e) = e ∷ []
+user_of (Mouse e) = e ∷ []
+user_of Act = []
+user_of Flush = []
+user_of Host = []
+user_of Term = []
+user_of Drain = []
+user_of Show = []
+
+abbrev pub users_of : List Numbered → List UserEvent
+users_of [] = []
+users_of (numbered ∷ more) = user_of numbered.line ++ users_of more
+
+-- Wherever the replay stands, what the user did by the lines that are done has done what it does without a network. So it is in each world
+-- that a `show` prints
+abbrev pub ReplaysAsIfLocal : PlainScript → Type 0
+ReplaysAsIfLocal script =
+    (done more : List Numbered) (w : PlainWorld) → script.lines ≡ done ++ more → after_lines (new_world script.files) done ≡ Ok w
+    → IsAsIfLocal script.files (users_of done) w
+
+-- ## What stops it
+
 -- what a replay stops for: its own fault, or want of memory at any time
 abbrev pub IsStopOf : {A : Type 0} → Result A ScriptFault → ScriptFault → Type 0
 IsStopOf replay (fault.Line number) = replay ≡ Err (fault.Line number)
@@ -70,9 +103,9 @@ IsStopOf replay fault.OutOfMemory = Unit {0}
 abbrev pub OfScript : List ℕ → (PlainScript → Type 0) → Type 0
 OfScript bytes P = (script : PlainScript) × Spells bytes script × P script
 
--- this is what the script that the bytes spell prints, replayed to its end
+-- this is what the script that the bytes spell prints, replayed to its end, and each world that it prints is as if there were no network
 abbrev pub IsReplay : List ℕ → List ℕ → Type 0
-IsReplay bytes printed = OfScript bytes (λ script. replayed script ≡ Ok printed)
+IsReplay bytes printed = OfScript bytes (λ script. (replayed script ≡ Ok printed) × ReplaysAsIfLocal script)
 
 -- the replay of the script stops for this
 abbrev pub StopsReplay : ScriptFault → PlainScript → Type 0

@@ -2,7 +2,7 @@
 
 ghost use Rattle.std.specs.Prelude.{◌≡◌, ◌++◌, Ok, Err, IfOk, IfErr, OnOk, string_bytes};
 ghost use Rattle.sam_world.specs.Drain.{drained, drain_limit};
-ghost use Rattle.sam_script.specs.Replay.{after_line, or_full, printed_by, stepped, replayed, IsReplay, IsReplayFault, IsStopOf};
+ghost use Rattle.sam_script.specs.Replay.{after_line, or_full, printed_by, stepped, replayed, IsReplay, IsReplayFault, IsStopOf, ReplaysAsIfLocal};
 
 use crate::fault::ScriptFault;
 use crate::line::{Line, Numbered};
@@ -36,9 +36,14 @@ pub fn replay_bytes(alloc: Global, bytes: &[u8]) -> Result<Vec<u8>, ScriptFault>
 /// The first line that can't be done stops it, and then nothing of what was printed is returned. The error is `Line(n)` if line n is
 /// `host` or `term` and nothing is under way to that side, and `CountFull` if the line's step, or an event of its drain, would take a
 /// count of messages past 2^64-1. `OutOfMemory` may come at any line, and before the first.
-#[tactic(auto, unfolding(crate::specs::Replay::replayed))]
+///
+/// Wherever the replay stands, what the user did by the lines above, but for events that are still held, has done what it does in an editor
+/// without a network. So where a `show` stands with nothing unsent or under way, the host and the terminal that it prints are those of that
+/// editor, but for runes that are not loaded and for counts of messages.
+#[tactic(auto, using(crate::proofs::Replays::replays_as_if_local), unfolding(crate::specs::Replay::replayed))]
 pub fn replay(alloc: Global, script: Script) -> Result<Vec<u8>, ScriptFault>
     ensures ok { IfOk result (λ out. replayed script ≡ Ok out.items) }
+    ensures local { ReplaysAsIfLocal script }
     ensures stopped { IfErr result (λ why. IsStopOf (replayed script) why) }
 {
     let Ok(mut world) = first_world(alloc, script.files()) else {
