@@ -60,7 +60,11 @@ pub(crate) fn countable(runes: &[char]) -> &[char]
     ensures few { length result.now < 2 ^ 32 }
 {
     let most = u32::MAX as usize;
-    if runes.len() > most { &runes[..most] } else { runes }
+    if runes.len() > most {
+        &runes[..most]
+    } else {
+        runes
+    }
 }
 
 /// Returns how many runes there are.
