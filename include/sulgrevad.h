@@ -17,7 +17,8 @@
  *
  * Units. Places and lengths of texts count runes (Unicode scalar values); a text has at most 1,000,000. Texts go in and out as
  * UTF-8 (RFC 3629), and their lengths in bytes stand beside the pointer. The runes that a terminal draws go out as numbers. Names
- * and texts may hold NUL (U+0000) as they hold any other rune, and none is added at their end: go by the lengths.
+ * and texts may hold NUL (U+0000) as they hold any other rune, and none is added at their end: go by the lengths. Runes are counted
+ * by uint32_t; bytes, the room of a buffer, tags and lines of a script by size_t; events and messages by uint64_t.
  *
  * Handles. sam_host and sam_term are the caller's, on the stack or wherever they like. A handle whose bytes are all zero is empty:
  * SAM_HOST_INIT and SAM_TERM_INIT are, and in C so is {0}. sam_host_new or sam_term_new makes it, and sam_host_free or sam_term_free
@@ -103,6 +104,7 @@ enum sam_status {
     SAM_BAD_KIND = SAM_STREAM + 1,
     SAM_BAD_LENGTH = SAM_STREAM + 2,
     SAM_BAD_TEXT = SAM_STREAM + 3,
+    SAM_TRUNCATED = SAM_STREAM + 4, /* it ends inside a message or frame: sam_host_finish, sam_term_finish; the handle goes on */
 
     SAM_HOST_REFUSED = 64, /* the host refused a message, and has stopped */
     SAM_HOST_NO_FILE = SAM_HOST_REFUSED + 1,
@@ -189,6 +191,11 @@ SAM_MUST_USE sam_status sam_host_add_file(sam_host *host, const uint8_t *name, s
  * or before: SAM_STREAM.., SAM_HOST_REFUSED... What stood before the fault is answered. */
 SAM_MUST_USE sam_status sam_host_feed(sam_host *host, const uint8_t *bytes, size_t len);
 
+/* Whether the terminal's stream may end here: to be asked where the host's input has ended. It changes nothing. SAM_OK,
+ * SAM_NO_HANDLE, why the host has stopped before (SAM_STREAM.., SAM_HOST_REFUSED..), SAM_UNFINISHED where some of what came waits
+ * after want of memory, or SAM_TRUNCATED where the stream ends inside a message. */
+SAM_MUST_USE sam_status sam_host_finish(sam_host *host);
+
 /* How many bytes are pending. */
 SAM_MUST_USE sam_status sam_host_pending(sam_host *host, size_t *len);
 
@@ -214,11 +221,11 @@ SAM_MUST_USE sam_status sam_host_version(sam_host *host, uint16_t *version);
 SAM_MUST_USE sam_status sam_host_next_written(sam_host *host, uint16_t *tag);
 
 /* The length in runes of what a file was when it was written last (Twrite). SAM_NONE also where it never was. */
-SAM_MUST_USE sam_status sam_host_saved_len(sam_host *host, uint16_t tag, size_t *runes);
+SAM_MUST_USE sam_status sam_host_saved_len(sam_host *host, uint16_t tag, uint32_t *runes);
 
 /* What a file was when it was written last, from a place on; as sam_host_text. SAM_NONE also where it never was. */
 SAM_MUST_USE sam_status sam_host_saved(sam_host *host, uint16_t tag, uint32_t place, uint8_t *into, size_t room, size_t *bytes,
-                                       size_t *runes);
+                                       uint32_t *runes);
 
 /* ---- The host: files ---- */
 
@@ -240,7 +247,7 @@ SAM_MUST_USE sam_status sam_host_is_dirty(sam_host *host, uint16_t tag, bool *di
 /* A file's text from a place on, in UTF-8: as many whole runes as have room. Hands out how many bytes and how many runes; none where
  * the place is at or after the end, or where the buffer has less room than one rune wants: 4 bytes are enough for any. */
 SAM_MUST_USE sam_status sam_host_text(sam_host *host, uint16_t tag, uint32_t place, uint8_t *into, size_t room, size_t *bytes,
-                                      size_t *runes);
+                                      uint32_t *runes);
 
 /* The dot of a file: the places where the selection begins and ends. */
 SAM_MUST_USE sam_status sam_host_dot(sam_host *host, uint16_t tag, uint32_t *start, uint32_t *end);
@@ -260,6 +267,11 @@ sam_status sam_term_free(sam_term *term);
 /* Takes bytes of the host's frames, in whatever pieces they come, and then lets held events act. Returns what an event does. */
 SAM_MUST_USE sam_status sam_term_feed(sam_term *term, const uint8_t *bytes, size_t len);
 
+/* Whether the host's stream may end here: to be asked where the terminal's input has ended. It changes nothing. SAM_OK,
+ * SAM_NO_HANDLE, why the terminal has stopped before (SAM_STREAM.., SAM_TERM_REFUSED..), SAM_UNFINISHED where some of what came waits
+ * after want of memory, or SAM_TRUNCATED where the stream ends inside a frame. */
+SAM_MUST_USE sam_status sam_term_finish(sam_term *term);
+
 /* How many bytes are pending. */
 SAM_MUST_USE sam_status sam_term_pending(sam_term *term, size_t *len);
 
@@ -274,7 +286,8 @@ SAM_MUST_USE sam_status sam_term_flush_now(sam_term *term);
  *
  * An event acts at once where it can, or is held until the locks that it waits for are free and the events before it have acted; each
  * call also lets events that are held act, in order. What is composed is then pending. SAM_OK says that the event was taken, and not
- * that it acted: an event that is refused is reported by number by sam_term_next_refusal, now or later. Each returns SAM_OK,
+ * that it acted: sam_term_decided says whether it did, and an event that is refused is reported by number by sam_term_next_refusal, now
+ * or later. Each returns SAM_OK,
  * SAM_NO_MEMORY, SAM_UNFINISHED, SAM_COUNT_FULL, SAM_NO_HANDLE, or why the terminal has stopped: SAM_STREAM.., SAM_TERM_REFUSED...
  * The two that bring a text return SAM_NOT_TEXT first of all but SAM_NO_HANDLE. */
 
@@ -377,8 +390,12 @@ SAM_MUST_USE sam_status sam_term_next_refusal(sam_term *term, uint64_t *event, s
 /* How many event calls were taken. */
 SAM_MUST_USE sam_status sam_term_events(sam_term *term, uint64_t *events);
 
+/* How many of them have acted or were refused. Events are done in order: the event that was taken last, whose number sam_term_events
+ * hands out, has acted or was refused where both numbers are the same, and is held where this one is smaller. */
+SAM_MUST_USE sam_status sam_term_decided(sam_term *term, uint64_t *events);
+
 /* How many events are held. */
-SAM_MUST_USE sam_status sam_term_held(sam_term *term, size_t *events);
+SAM_MUST_USE sam_status sam_term_held(sam_term *term, uint64_t *events);
 
 /* Whether the command lock or a lock of this file is held: an edit of the file would wait. */
 SAM_MUST_USE sam_status sam_term_locked(sam_term *term, uint16_t tag, bool *locked);
@@ -438,7 +455,7 @@ SAM_MUST_USE sam_status sam_term_current(sam_term *term, uint16_t *tag);
 SAM_MUST_USE sam_status sam_term_len(sam_term *term, uint16_t tag, uint32_t *runes);
 
 /* The runes of an open file from a place on, as many as there are and have room, SAM_GAP for each that is not loaded. */
-SAM_MUST_USE sam_status sam_term_read(sam_term *term, uint16_t tag, uint32_t place, uint32_t *into, size_t room, size_t *count);
+SAM_MUST_USE sam_status sam_term_read(sam_term *term, uint16_t tag, uint32_t place, uint32_t *into, size_t room, uint32_t *count);
 
 /* The first place of an open file, at or after `place`, whose rune is not loaded. SAM_NONE also where all are loaded from there on: ask
  * sam_term_is_open to know the two apart. */
@@ -457,7 +474,7 @@ SAM_MUST_USE sam_status sam_term_pattern(sam_term *term, uint8_t *into, size_t r
 
 /* The snarfed text that the host sent last (sam_term_get_snarf), from a place on, in UTF-8: as many whole runes as have room. It may be
  * only the front of the host's buffer: at most 4,096 bytes come, 32,000 in version 2. */
-SAM_MUST_USE sam_status sam_term_snarfed(sam_term *term, uint32_t place, uint8_t *into, size_t room, size_t *bytes, size_t *runes);
+SAM_MUST_USE sam_status sam_term_snarfed(sam_term *term, uint32_t place, uint8_t *into, size_t room, size_t *bytes, uint32_t *runes);
 
 /* How many runes the host's snarf buffer has, as it said last. */
 SAM_MUST_USE sam_status sam_term_snarf_len(sam_term *term, uint32_t *runes);

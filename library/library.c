@@ -27,6 +27,7 @@ const char *sam_status_text(sam_status status)
         TEXT(SAM_BAD_KIND, "the stream is wrong: it has a message of an unknown kind");
         TEXT(SAM_BAD_LENGTH, "the stream is wrong: a message has a length that its kind can't have");
         TEXT(SAM_BAD_TEXT, "the stream is wrong: a text is not UTF-8, or too long");
+        TEXT(SAM_TRUNCATED, "the stream ends inside a message or frame");
         TEXT(SAM_HOST_NO_FILE, "the host refused a message: no file has its tag");
         TEXT(SAM_HOST_NOT_OPEN, "the host refused a message: its file is not open");
         TEXT(SAM_HOST_BAD_POSITION, "the host refused a message: a place is after the end, or a range ends before it begins");

@@ -20,14 +20,15 @@ enum {
 int take_text(struct session *session, uint16_t tag)
 {
     struct text *text = &session->text;
-    size_t bytes = 0, runes = 1;
+    size_t bytes = 0;
+    uint32_t runes = 1;
     uint32_t place = 0;
 
     for (text->len = 0; runes > 0; text->len += bytes) {
         uint32_t code = sam_host_text(&session->host, tag, place, text->bytes + text->len, MOST_BYTES - text->len, &bytes, &runes);
         if (code != SAM_OK)
             return code == SAM_NO_MEMORY ? ENOMEM : ENOENT;
-        place += (uint32_t)runes;
+        place += runes;
     }
     return 0;
 }

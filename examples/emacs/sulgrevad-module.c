@@ -236,6 +236,7 @@ static emacs_value reader(emacs_env *env, ptrdiff_t count, emacs_value *words, v
     uint16_t tag = count > 1 ? tag_of(env, words[1]) : 0;
     bool is = false;
     uint32_t one = 0, other = 0;
+    uint64_t events = 0;
     size_t size = 0;
     sam_status status;
     switch ((enum reader)((const char *const *)data - readers)) {
@@ -252,8 +253,8 @@ static emacs_value reader(emacs_env *env, ptrdiff_t count, emacs_value *words, v
         status = sam_term_exited(term, &is);
         return truth(env, status, is);
     case HELD:
-        status = sam_term_held(term, &size);
-        return number(env, status, size);
+        status = sam_term_held(term, &events);
+        return number(env, status, events);
     case TAGS:
         status = sam_term_tags(term, &size);
         return number(env, status, size);
@@ -282,7 +283,8 @@ static emacs_value difference(emacs_env *env, ptrdiff_t count, emacs_value *word
     (void)count, (void)data;
     static uint32_t theirs[MOST_RUNES];
     static uint8_t between[4 * MOST_RUNES];
-    size_t size = 0, len = 0, mine_len = 0, start = 0, same = 0;
+    uint32_t len = 0;
+    size_t size = 0, mine_len = 0, start = 0, same = 0;
     sam_status status = sam_term_read(term_of(env, words[0]), tag_of(env, words[1]), 0, theirs, MOST_RUNES, &len);
     if (status != SAM_OK)
         return fail(env, sam_status_text(status));

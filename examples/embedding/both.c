@@ -46,13 +46,13 @@ int main(void)
     carry(&term, &host);
 
     uint8_t text[64];
-    uint32_t runes[64];
-    size_t bytes, count;
+    uint32_t runes[64], count;
+    size_t bytes;
     must(sam_host_text(&host, file, 0, text, sizeof text, &bytes, &count));
     printf("host:     %.*s", (int)bytes, (const char *)text);
     must(sam_term_read(&term, file, 0, runes, 64, &count));
     printf("terminal: ");
-    for (size_t i = 0; i < count; i++)
+    for (uint32_t i = 0; i < count; i++)
         putchar(runes[i] == SAM_GAP ? '_' : (int)runes[i]);
     must(sam_term_free(&term));
     must(sam_host_free(&host));

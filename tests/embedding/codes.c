@@ -41,11 +41,13 @@ static void no_handles(sam_host *host, sam_term *term)
     uint32_t runes[4] = {9, 9, 9, 9}, a = 1, b = 2;
     uint16_t tag = 3, version = 4;
     uint64_t many = 5;
-    size_t len = 6, more = 7;
+    size_t len = 6;
+    uint32_t more = 7;
     bool is = true;
     WANT(sam_host_free(host), SAM_NO_HANDLE);
     WANT(sam_host_add_file(host, BYTES("n"), BYTES("t"), &tag), SAM_NO_HANDLE);
     WANT(sam_host_feed(host, BYTES("x")), SAM_NO_HANDLE);
+    WANT(sam_host_finish(host), SAM_NO_HANDLE);
     WANT(sam_host_pending(host, &len), SAM_NO_HANDLE);
     WANT(sam_host_take_out(host, buffer, sizeof buffer, &len), SAM_NO_HANDLE);
     WANT(sam_host_next_written(host, &tag), SAM_NO_HANDLE);
@@ -58,7 +60,7 @@ static void no_handles(sam_host *host, sam_term *term)
     WANT(sam_host_len(host, 0, &a), SAM_NO_HANDLE);
     WANT(sam_host_is_dirty(host, 0, &is), SAM_NO_HANDLE);
     WANT(sam_host_text(host, 0, 0, buffer, sizeof buffer, &len, &more), SAM_NO_HANDLE);
-    WANT(sam_host_saved_len(host, 0, &len), SAM_NO_HANDLE);
+    WANT(sam_host_saved_len(host, 0, &a), SAM_NO_HANDLE);
     WANT(sam_host_saved(host, 0, 0, buffer, sizeof buffer, &len, &more), SAM_NO_HANDLE);
     WANT(sam_host_dot(host, 0, &a, &b), SAM_NO_HANDLE);
     WANT(sam_term_free(term), SAM_NO_HANDLE);
@@ -87,11 +89,13 @@ static void no_handles(sam_host *host, sam_term *term)
     WANT(sam_term_flush(term), SAM_NO_HANDLE);
     WANT(sam_term_exit(term), SAM_NO_HANDLE);
     WANT(sam_term_feed(term, BYTES("x")), SAM_NO_HANDLE);
+    WANT(sam_term_finish(term), SAM_NO_HANDLE);
     WANT(sam_term_flush_now(term), SAM_NO_HANDLE);
     WANT(sam_term_pending(term, &len), SAM_NO_HANDLE);
     WANT(sam_term_take_out(term, buffer, sizeof buffer, &len), SAM_NO_HANDLE);
     WANT(sam_term_next_refusal(term, &many, &a), SAM_NO_HANDLE);
     WANT(sam_term_events(term, &many), SAM_NO_HANDLE);
+    WANT(sam_term_decided(term, &many), SAM_NO_HANDLE);
     WANT(sam_term_tags(term, &len), SAM_NO_HANDLE);
     WANT(sam_term_is_known(term, 0, &is), SAM_NO_HANDLE);
     WANT(sam_term_name(term, 0, buffer, sizeof buffer, &len), SAM_NO_HANDLE);
@@ -100,13 +104,13 @@ static void no_handles(sam_host *host, sam_term *term)
     WANT(sam_term_is_open(term, 0, &is), SAM_NO_HANDLE);
     WANT(sam_term_current(term, &tag), SAM_NO_HANDLE);
     WANT(sam_term_len(term, 0, &a), SAM_NO_HANDLE);
-    WANT(sam_term_read(term, 0, 0, runes, 4, &len), SAM_NO_HANDLE);
+    WANT(sam_term_read(term, 0, 0, runes, 4, &a), SAM_NO_HANDLE);
     WANT(sam_term_first_gap(term, 0, 0, &a), SAM_NO_HANDLE);
     WANT(sam_term_dot(term, 0, &a, &b), SAM_NO_HANDLE);
     WANT(sam_term_view_of(term, 0, &a, &b), SAM_NO_HANDLE);
     WANT(sam_term_locked(term, 0, &is), SAM_NO_HANDLE);
     WANT(sam_term_command_locked(term, &is), SAM_NO_HANDLE);
-    WANT(sam_term_held(term, &len), SAM_NO_HANDLE);
+    WANT(sam_term_held(term, &many), SAM_NO_HANDLE);
     WANT(sam_term_unsent(term, &a), SAM_NO_HANDLE);
     WANT(sam_term_sent(term, &many), SAM_NO_HANDLE);
     WANT(sam_term_under_way(term, &many), SAM_NO_HANDLE);
@@ -166,8 +170,10 @@ static sam_status fed_host(const char *bytes, size_t len)
     WANT(sam_host_new(&host), SAM_OK);
     WANT(sam_host_add_file(&host, BYTES("a"), BYTES("one"), &tag), SAM_OK);
     sam_status status = sam_host_feed(&host, (const uint8_t *)bytes, len);
-    if (status != SAM_OK)
+    if (status != SAM_OK) {
         WANT(sam_host_feed(&host, NULL, 0), status);
+        WANT(sam_host_finish(&host), status);
+    }
     WANT(sam_host_free(&host), SAM_OK);
     return status;
 }
@@ -184,6 +190,7 @@ static sam_status fed_term(const char *bytes, size_t len)
         WANT(sam_term_cut(&term, 0), status);
         WANT(sam_term_type(&term, 0, BYTES("x")), status);
         WANT(sam_term_flush_now(&term), status);
+        WANT(sam_term_finish(&term), status);
     }
     WANT(sam_term_free(&term), SAM_OK);
     return status;
@@ -217,6 +224,30 @@ static void wrong_streams(void)
     WANT(TERM(HNEWNAME_1 HBINDNAME_1 "\x46\0\x12" SEEN "\0\x01\0\0\0\0\0\x0f\x42\x41"), SAM_TERM_TOO_LONG);
     WANT(TERM("\x48\0\x08" SEEN), SAM_TERM_LOCK_NOT_HELD);
     WANT(TERM(HNEWNAME_1 HBINDNAME_1), SAM_OK);
+}
+
+/* Streams that end between two frames, and inside one: after its kind, in its length, before its last byte. The handle goes on. */
+static void ending_streams(void)
+{
+    static const uint8_t message[] = {1, 0, 2, 0, 2}; /* Tversion 2 */
+    static const char frames[] = HNEWNAME_1 HNEWNAME_1;
+    enum { HALF = sizeof frames / 2 };
+    sam_host host = SAM_HOST_INIT;
+    sam_term term = SAM_TERM_INIT;
+    WANT(sam_host_new(&host), SAM_OK);
+    WANT(sam_host_finish(&host), SAM_OK);
+    for (size_t i = 0; i < sizeof message; i++) {
+        WANT(sam_host_feed(&host, message + i, 1), SAM_OK);
+        WANT(sam_host_finish(&host), i + 1 < sizeof message ? SAM_TRUNCATED : SAM_OK);
+    }
+    WANT(sam_host_free(&host), SAM_OK);
+    WANT(sam_term_new(&term), SAM_OK);
+    WANT(sam_term_finish(&term), SAM_OK);
+    for (size_t i = 0; i < HALF; i++) {
+        WANT(sam_term_feed(&term, (const uint8_t *)frames + i, 1), SAM_OK);
+        WANT(sam_term_finish(&term), i + 1 < HALF ? SAM_TRUNCATED : SAM_OK);
+    }
+    WANT(sam_term_free(&term), SAM_OK);
 }
 
 /* A host that would pass the limit of a text refuses; so does a terminal, which goes on. */
@@ -266,7 +297,8 @@ static void wants_under_way(sam_term *term, uint64_t should)
 static void same_text(sam_host *host, uint16_t tag, const char *text)
 {
     uint8_t bytes[256];
-    size_t len, runes;
+    size_t len;
+    uint32_t runes;
     WANT(sam_host_text(host, tag, 0, bytes, sizeof bytes, &len, &runes), SAM_OK);
     WANT(len, strlen(text));
     WANT(memcmp(bytes, text, len), 0);
@@ -279,9 +311,9 @@ static void session(void)
     sam_host host = {0};
     sam_term term = {0};
     uint16_t tag, version;
-    uint32_t a, b, runes[8];
-    uint64_t count, before;
-    size_t len, more;
+    uint32_t a, b, more, runes[8];
+    uint64_t count, before, last;
+    size_t len;
     uint8_t bytes[64];
     bool is;
     WANT(sam_host_new(&host), SAM_OK);
@@ -317,15 +349,20 @@ static void session(void)
     WANT(sam_term_open(&term, 1), SAM_OK);
     WANT(sam_term_type(&term, 1, BYTES("\xC3")), SAM_NOT_TEXT);
     WANT(sam_term_select(&term, 1, 0, 3), SAM_OK); /* waits for the file */
-    WANT(sam_term_held(&term, &len), SAM_OK);
-    WANT(len, 1);
+    WANT(sam_term_held(&term, &count), SAM_OK);
+    WANT(count, 1);
+    WANT(sam_term_events(&term, &last), SAM_OK);
+    WANT(sam_term_decided(&term, &count), SAM_OK);
+    WANT(count, last - 1);
     carry(&term, &host);
+    WANT(sam_term_decided(&term, &count), SAM_OK);
+    WANT(count, last);
     WANT(sam_term_len(&term, 1, &a), SAM_OK);
     WANT(a, 12);
     WANT(sam_term_first_gap(&term, 1, 0, &a), SAM_OK);
     WANT(a, 0);
-    WANT(sam_term_read(&term, 1, 10, runes, 8, &len), SAM_OK);
-    WANT(len == 2 && runes[0] == SAM_GAP && runes[1] == SAM_GAP, 1);
+    WANT(sam_term_read(&term, 1, 10, runes, 8, &more), SAM_OK);
+    WANT(more == 2 && runes[0] == SAM_GAP && runes[1] == SAM_GAP, 1);
     WANT(sam_term_view(&term, 1, 4, 3), SAM_OK);
     carry(&term, &host);
     WANT(sam_term_first_gap(&term, 1, 4, &a), SAM_OK);
@@ -338,8 +375,8 @@ static void session(void)
     WANT(sam_term_view_of(&term, 1, &a, &b), SAM_OK);
     WANT(a == 0 && b == 12, 1);
     WANT(sam_term_first_gap(&term, 1, 0, &a), SAM_NONE);
-    WANT(sam_term_read(&term, 1, 10, runes, 8, &len), SAM_OK);
-    WANT(len == 2 && runes[0] == 'e' && runes[1] == '\n', 1);
+    WANT(sam_term_read(&term, 1, 10, runes, 8, &more), SAM_OK);
+    WANT(more == 2 && runes[0] == 'e' && runes[1] == '\n', 1);
     WANT(sam_term_dot(&term, 1, &a, &b), SAM_OK);
     WANT(a == 0 && b == 3, 1);
     WANT(sam_term_look(&term, 1), SAM_OK);
@@ -384,7 +421,7 @@ static void session(void)
     WANT(len == 0 && more == 0, 1);
     WANT(sam_host_is_dirty(&host, 1, &is), SAM_OK);
     WANT(is, 1);
-    WANT(sam_host_saved_len(&host, 1, &len), SAM_NONE);
+    WANT(sam_host_saved_len(&host, 1, &a), SAM_NONE);
     WANT(sam_host_next_written(&host, &tag), SAM_NONE);
     WANT(sam_term_is_changed(&term, 1, &is), SAM_OK);
     WANT(is, 1);
@@ -397,8 +434,8 @@ static void session(void)
     WANT(sam_host_next_written(&host, &tag), SAM_OK);
     WANT(tag, 1);
     WANT(sam_host_next_written(&host, &tag), SAM_NONE);
-    WANT(sam_host_saved_len(&host, 1, &len), SAM_OK);
-    WANT(len, 10);
+    WANT(sam_host_saved_len(&host, 1, &a), SAM_OK);
+    WANT(a, 10);
     WANT(sam_host_saved(&host, 1, 5, bytes, sizeof bytes, &len, &more), SAM_OK);
     WANT(len == 5 && more == 5 && memcmp(bytes, "two \n", 5) == 0, 1);
     WANT(sam_term_dclick(&term, 1, 5), SAM_OK);
@@ -451,6 +488,9 @@ static void session(void)
     WANT(sam_host_saved(&host, 2, 0, bytes, sizeof bytes, &len, &more), SAM_NONE);
     WANT(sam_host_dot(&host, 2, &a, &b), SAM_NONE);
     WANT(sam_term_cut(&term, 9), SAM_OK);
+    WANT(sam_term_events(&term, &last), SAM_OK);
+    WANT(sam_term_decided(&term, &count), SAM_OK);
+    WANT(count, last); /* a refused event is no longer held */
     wants_refusal(&term, SAM_REFUSAL_NO_FILE);
     WANT(sam_term_select(&term, 1, 0, 99), SAM_OK);
     wants_refusal(&term, SAM_REFUSAL_BAD_POSITION);
@@ -516,7 +556,7 @@ static void reads_no_file(sam_term *term, uint16_t tag, sam_status known)
     WANT(sam_term_is_dirty(term, tag, &is), known);
     WANT(sam_term_name(term, tag, bytes, sizeof bytes, &len), known);
     WANT(sam_term_len(term, tag, &a), SAM_NONE);
-    WANT(sam_term_read(term, tag, 0, runes, 8, &len), SAM_NONE);
+    WANT(sam_term_read(term, tag, 0, runes, 8, &a), SAM_NONE);
     WANT(sam_term_first_gap(term, tag, 0, &a), SAM_NONE);
     WANT(sam_term_dot(term, tag, &a, &b), SAM_NONE);
     WANT(sam_term_view_of(term, tag, &a, &b), SAM_NONE);
@@ -529,8 +569,8 @@ static void tags_without_a_file(void)
     sam_term term = SAM_TERM_INIT;
     uint16_t tag;
     uint8_t bytes[8];
-    uint32_t a, b;
-    size_t len, more;
+    uint32_t a, b, more;
+    size_t len;
     bool is = true;
     WANT(sam_host_new(&host), SAM_OK);
     WANT(sam_host_add_file(&host, BYTES("a\0b"), BYTES("one"), &tag), SAM_OK); /* NUL is a rune like others */
@@ -564,7 +604,7 @@ static void tags_without_a_file(void)
     WANT(sam_host_is_dirty(&host, 1, &is), SAM_NONE);
     WANT(sam_host_text(&host, 1, 0, bytes, sizeof bytes, &len, &more), SAM_NONE);
     WANT(sam_host_saved(&host, 1, 0, bytes, sizeof bytes, &len, &more), SAM_NONE);
-    WANT(sam_host_saved_len(&host, 1, &len), SAM_NONE);
+    WANT(sam_host_saved_len(&host, 1, &a), SAM_NONE);
     WANT(sam_host_dot(&host, 1, &a, &b), SAM_NONE);
     WANT(sam_term_free(&term), SAM_OK);
     WANT(sam_host_free(&host), SAM_OK);
@@ -578,8 +618,8 @@ static void long_line(void)
     sam_host host = SAM_HOST_INIT;
     sam_term term = SAM_TERM_INIT;
     uint16_t tag;
-    uint32_t len;
-    size_t bytes, runes;
+    uint32_t len, runes;
+    size_t bytes;
     uint8_t printed[7];
     memset(text, 'y', sizeof text);
     for (size_t i = 0; i < LINES; i++)
@@ -664,7 +704,8 @@ int main(void)
     all_tags();
     puts("adding files");
     wrong_streams();
-    puts("wrong streams");
+    ending_streams();
+    puts("wrong streams, and where a stream may end");
     too_long();
     not_open();
     puts("refusals");

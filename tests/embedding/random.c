@@ -46,6 +46,8 @@ static void feed_host(const uint8_t *bytes, size_t len)
         again++;
     while (status == SAM_UNFINISHED || status == SAM_NO_MEMORY) {
         again++;
+        if (sam_host_finish(&host) != SAM_UNFINISHED)
+            fail("the host says that nothing waits", status);
         status = sam_host_feed(&host, NULL, 0);
     }
     want("the host takes a piece", status);
@@ -209,14 +211,14 @@ static unsigned long agree(uint16_t tag, uint32_t len)
     uint32_t place = 0;
     while (place < len) {
         uint8_t bytes[4 * PART];
-        uint32_t runes[PART];
-        size_t count = 0, size = 0, spelt = 0;
+        uint32_t runes[PART], count = 0, spelt = 0;
+        size_t size = 0;
         want("the terminal's runes", sam_term_read(&term, tag, place, runes, PART, &count));
         want("the host's runes", sam_host_text(&host, tag, place, bytes, sizeof bytes, &size, &spelt));
         const uint8_t *at = bytes;
         if (spelt < count)
             fail("the host has fewer runes here", place);
-        for (size_t i = 0; i < count; i++) {
+        for (uint32_t i = 0; i < count; i++) {
             uint32_t rune = rune_at(&at);
             if (runes[i] != SAM_GAP && runes[i] != rune)
                 fail("a loaded rune is not the host's", runes[i]);
@@ -224,7 +226,7 @@ static unsigned long agree(uint16_t tag, uint32_t len)
         }
         if (count == 0)
             fail("no runes before the end", place);
-        place += (uint32_t)count;
+        place += count;
     }
     return loaded;
 }
@@ -245,10 +247,13 @@ static void compare(void)
 {
     unsigned long loaded = 0, open = 0, all = 0;
     bool locked = true;
-    size_t held = 1, tags = 0;
+    uint64_t held = 1;
+    size_t tags = 0;
     want("held", sam_term_held(&term, &held));
     if (held != 0)
         fail("events are held though nothing is on its way", (uint32_t)held);
+    want("the terminal's stream may end", sam_host_finish(&host));
+    want("the host's stream may end", sam_term_finish(&term));
     want("tags", sam_term_tags(&term, &tags));
     for (uint16_t tag = 0; tag < tags; tag++) {
         uint32_t mine = 0, theirs = 0;

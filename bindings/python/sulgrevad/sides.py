@@ -89,7 +89,7 @@ class _Side:
 
     def _long_text(self, name: str, place: int, most: Optional[int], *arguments: Any) -> str:
         """The runes of a text from a place on: `most` at most, all where that is None."""
-        into, count, runes = ctypes.create_string_buffer(PIECE), c_size_t(), c_size_t()
+        into, count, runes = ctypes.create_string_buffer(PIECE), c_size_t(), c_uint32()
         pieces: List[str] = []
         left = _least(most, 2**32)
         while True:
@@ -106,6 +106,11 @@ class _Side:
         waits after `Unfinished`. Raises NoMemory, Unfinished, CountFull, or why this side has stopped, now or before."""
         data = bytes(memoryview(data))
         self._call("feed", data, len(data))
+
+    def finish(self) -> None:
+        """Says that the other side's stream has ended: nothing where it may end here. Raises StreamFault with the code TRUNCATED where it
+        ends inside a message or frame, Unfinished where some of what came waits, or why this side has stopped before."""
+        self._call("finish")
 
     @property
     def pending(self) -> int:
@@ -206,7 +211,7 @@ class Host(_Side):
 
     def saved_len(self, tag: int) -> Optional[int]:
         """The length in runes of what a file was when it was written last; None where it never was."""
-        return self._number_if_any("saved_len", c_size_t, tag)
+        return self._number_if_any("saved_len", c_uint32, tag)
 
     def saved(self, tag: int, place: int = 0, runes: Optional[int] = None) -> str:
         """What a file was when it was written last, from a place on. Raises Missing where it never was."""
@@ -356,6 +361,12 @@ class Terminal(_Side):
         return self._number("events", c_uint64)
 
     @property
+    def decided(self) -> int:
+        """How many of them have acted or were refused. Events are done in order, so the event that was made last is held where this is
+        below `events`."""
+        return self._number("decided", c_uint64)
+
+    @property
     def tags(self) -> int:
         """How many tags the terminal has room for: each file that it knows has a tag below this."""
         return self._number("tags", c_size_t)
@@ -400,7 +411,7 @@ class Terminal(_Side):
         """The runes of an open file from a place on, at most `count`; None stands for one that is not loaded. Raises Missing,
         and ValueError where a number is below 0."""
         room = _least(count, max(0, self.len(tag) - place))
-        into, got = (c_uint32 * room)(), c_size_t()
+        into, got = (c_uint32 * room)(), c_uint32()
         self._call("read", tag, place, into, room, byref(got))
         return [None if rune == GAP else chr(rune) for rune in into[: got.value]]
 
@@ -428,7 +439,7 @@ class Terminal(_Side):
     @property
     def held(self) -> int:
         """How many events are held."""
-        return self._number("held", c_size_t)
+        return self._number("held", c_uint64)
 
     @property
     def unsent(self) -> int:

@@ -22,6 +22,7 @@ class Status(enum.IntEnum):
     BAD_KIND = 33
     BAD_LENGTH = 34
     BAD_TEXT = 35
+    TRUNCATED = 36
     HOST_NO_FILE = 65
     HOST_NOT_OPEN = 66
     HOST_BAD_POSITION = 67
@@ -106,7 +107,8 @@ class AddRefused(SamError, ValueError):
 
 
 class StreamFault(SamError):
-    """The other side's stream is wrong, and this side has stopped (SAM_BAD_..)."""
+    """The other side's stream is wrong, and this side has stopped (SAM_BAD_..); or `finish` found that it ends inside a message or frame
+    (SAM_TRUNCATED)."""
 
 
 class HostRefused(SamError):

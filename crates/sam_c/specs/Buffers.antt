@@ -1,5 +1,5 @@
 -- What stands in a buffer of the caller's.
-use Rattle.std.specs.Prelude.{◌≡◌, ℕ, ◌+◌, ◌<◌, ◌≤◌, List, ◌++◌, length, take, drop, Option, Some, None, encode_utf8}
+use Rattle.std.specs.Prelude.{◌≡◌, ℕ, ◌+◌, ◌-◌, ◌^◌, ◌<◌, ◌≤◌, List, ◌++◌, length, take, drop, Option, Some, None, encode_utf8}
 use Rattle.std.specs.Str.{encode_utf8_all}
 use Rattle.sam_c.specs.declared.utf8.Filled.{Filled}
 
@@ -8,6 +8,10 @@ abbrev pub Puts : ℕ → ℕ → List ℕ → List ℕ → Option ℕ → Type 
 Puts rune at before after None = (length before < at + length (encode_utf8 rune)) × (after ≡ before)
 Puts rune at before after (Some end) =
     (end ≡ at + length (encode_utf8 rune)) × (end ≤ length before) × (after ≡ take at before ++ encode_utf8 rune ++ drop end before)
+
+-- the runes of a text that a call counts by 32 bits: all, since no text has more than 1,000,000
+abbrev pub countable : List ℕ → List ℕ
+countable text = take (2 ^ 32 - 1) text
 
 -- the first runes stand in the buffer in UTF-8, as many as have room whole, and behind them what stood there before
 pub record Fills (runes before after : List ℕ) (filled : Filled) : Type 0 where

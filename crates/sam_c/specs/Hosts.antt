@@ -4,10 +4,11 @@ use Rattle.sam_runes.specs.Checks.{first_of_checks}
 use Rattle.sam_runes.specs.Slots.{slot}
 use Rattle.sam_text.specs.Files.{PlainFile, file_at}
 use Rattle.sam_endpoint.specs.declared.fault.EndpointFault.{EndpointFault}
+use Rattle.sam_endpoint.specs.declared.fault.FinishFault.{FinishFault}
 use Rattle.sam_endpoint.specs.declared.fault.HostStop.{HostStop}
 use Rattle.sam_endpoint.specs.declared.fault.AddFault.{AddFault}
-use Rattle.sam_endpoint.specs.HostEndpoints.{PlainHostEndpoint, new_host_endpoint, Feeds, IsAddFault, add_checks, with_file}
-use Rattle.sam_c.specs.Status.{ok, no_memory, is_made, no_handle, nothing, add_status, host_status}
+use Rattle.sam_endpoint.specs.HostEndpoints.{PlainHostEndpoint, new_host_endpoint, Feeds, Finishes, IsAddFault, add_checks, with_file}
+use Rattle.sam_c.specs.Status.{ok, no_memory, is_made, no_handle, nothing, add_status, host_status, host_finish_status}
 use Rattle.sam_c.specs.Calls.{AtHandle}
 
 -- a new host, or why there is none and the handle is as before
@@ -24,6 +25,12 @@ abbrev pub HostFed : Option PlainHostEndpoint → List ℕ → ℕ → Option Pl
 HostFed before piece status after =
     AtHandle before status after
     (λ e status g. (result : Result (Unit {0}) (EndpointFault HostStop)) × Feeds e piece result g × (status ≡ host_status result))
+
+-- whether the terminal's stream may end here
+abbrev pub HostFinished : Option PlainHostEndpoint → ℕ → Type 0
+HostFinished None status = status ≡ no_handle
+HostFinished (Some e) status =
+    (result : Result (Unit {0}) (FinishFault HostStop)) × Finishes e result × (status ≡ host_finish_status result)
 
 -- a tag that was handed out, or what stood there before
 abbrev pub tag_or : ℕ → Result ℕ AddFault → ℕ

@@ -20,6 +20,8 @@ use Rattle.sam_endpoint.specs.declared.fault.StreamFault.TheVariants as stream
 use Rattle.sam_endpoint.specs.declared.fault.HostStop.TheVariants as host_stop
 use Rattle.sam_endpoint.specs.declared.fault.TermStop.TheVariants as term_stop
 use Rattle.sam_endpoint.specs.declared.fault.EndpointFault.TheVariants as fault
+use Rattle.sam_endpoint.specs.declared.fault.FinishFault.{FinishFault}
+use Rattle.sam_endpoint.specs.declared.fault.FinishFault.TheVariants as ending
 
 abbrev pub ok : ℕ
 ok = 0
@@ -62,6 +64,10 @@ abbrev pub stream_status : StreamFault → ℕ
 stream_status stream.BadKind = 33
 stream_status stream.BadLength = 34
 stream_status stream.BadText = 35
+
+-- a stream that ends inside a frame
+abbrev pub truncated : ℕ
+truncated = 36
 
 abbrev pub host_refusal : HostFault → ℕ
 host_refusal host.NoFile = 65
@@ -127,3 +133,16 @@ host_status result = call_status host_stop_status result
 
 abbrev pub term_status : Result (Unit {0}) (EndpointFault TermStop) → ℕ
 term_status result = call_status term_stop_status result
+
+-- what the end of a stream answers, where stops have these numbers
+abbrev pub finish_status : {S : Type 0} → (S → ℕ) → Result (Unit {0}) (FinishFault S) → ℕ
+finish_status stopped (Ok done) = ok
+finish_status stopped (Err ending.Unfinished) = unfinished
+finish_status stopped (Err ending.Truncated) = truncated
+finish_status stopped (Err (ending.Stopped why)) = stopped why
+
+abbrev pub host_finish_status : Result (Unit {0}) (FinishFault HostStop) → ℕ
+host_finish_status result = finish_status host_stop_status result
+
+abbrev pub term_finish_status : Result (Unit {0}) (FinishFault TermStop) → ℕ
+term_finish_status result = finish_status term_stop_status result

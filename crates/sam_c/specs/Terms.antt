@@ -10,9 +10,10 @@ use Rattle.sam_term.specs.declared.fault.Refusal.{Refusal}
 use Rattle.sam_term.specs.declared.records.KnownFile.{KnownFile}
 use Rattle.sam_term.specs.declared.records.Window.{Window}
 use Rattle.sam_endpoint.specs.declared.fault.EndpointFault.{EndpointFault}
+use Rattle.sam_endpoint.specs.declared.fault.FinishFault.{FinishFault}
 use Rattle.sam_endpoint.specs.declared.fault.TermStop.{TermStop}
-use Rattle.sam_endpoint.specs.TermEndpoints.{PlainTermEndpoint, new_term_endpoint, Puts, Feeds, Flushes}
-use Rattle.sam_c.specs.Status.{ok, no_memory, is_made, no_handle, not_text, nothing, refusal_status, term_status}
+use Rattle.sam_endpoint.specs.TermEndpoints.{PlainTermEndpoint, new_term_endpoint, Puts, Feeds, Finishes, Flushes}
+use Rattle.sam_c.specs.Status.{ok, no_memory, is_made, no_handle, not_text, nothing, refusal_status, term_status, term_finish_status}
 use Rattle.sam_c.specs.Calls.{AtHandle}
 use Rattle.sam_c.specs.Hosts.{Takes}
 
@@ -35,6 +36,12 @@ abbrev pub TermIdled : Option PlainTermEndpoint → ℕ → Option PlainTermEndp
 TermIdled before status after =
     AtHandle before status after
     (λ e status g. (result : Result (Unit {0}) (EndpointFault TermStop)) × Flushes e result g × (status ≡ term_status result))
+
+-- whether the host's stream may end here
+abbrev pub TermFinished : Option PlainTermEndpoint → ℕ → Type 0
+TermFinished None status = status ≡ no_handle
+TermFinished (Some e) status =
+    (result : Result (Unit {0}) (FinishFault TermStop)) × Finishes e result × (status ≡ term_finish_status result)
 
 -- an event that brings a text: the bytes spell its runes, or are not UTF-8, or memory for the runes was refused
 abbrev pub PutsText : PlainTermEndpoint → List ℕ → (List ℕ → UserEvent) → ℕ → PlainTermEndpoint → Type 0

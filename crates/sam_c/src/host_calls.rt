@@ -3,10 +3,10 @@
 
 ghost use Rattle.std.specs.Prelude.{◌≡◌, length};
 ghost use Rattle.sam_c.specs.Calls.{Reports};
-ghost use Rattle.sam_c.specs.Hosts.{Freed, HostAdded, HostFed, HostMade, HostNextWritten, HostTaken};
+ghost use Rattle.sam_c.specs.Hosts.{Freed, HostAdded, HostFed, HostFinished, HostMade, HostNextWritten, HostTaken};
 
-use crate::handle::SamHost;
-use crate::status::{MADE, NO_HANDLE, NO_MEMORY, NONE, OK, add_status, host_status};
+use crate::handle::{SamHost, with_end};
+use crate::status::{MADE, NO_HANDLE, NO_MEMORY, NONE, OK, add_status, host_finish_status, host_status};
 use sam_endpoint::HostEndpoint;
 use std::alloc::Global;
 
@@ -85,6 +85,19 @@ pub extern "C" fn sam_host_feed(host: &mut SamHost, bytes: &[u8], alloc: Global)
     let status = host_status(end.feed(bytes));
     host.put(end);
     status
+}
+
+/// Says whether the terminal's stream may end here: to be asked where the input of the host has ended. It changes nothing.
+///
+/// Returns `SAM_OK`, `SAM_NO_HANDLE`, why the host has stopped before (`SAM_STREAM..`, `SAM_HOST_REFUSED..`), `SAM_UNFINISHED` if some of
+/// what came waits, since memory was refused, or `SAM_TRUNCATED` if the stream ends inside a message. `SAM_NO_HANDLE` comes first; the
+/// order of the others is that of [`HostEndpoint::finish`].
+#[unsafe(no_mangle)]
+pub extern "C" fn sam_host_finish(host: &mut SamHost, alloc: Global) -> u32
+    ensures told { HostFinished host.old.held.end result }
+    ensures kept { host.new.held.end ≡ host.old.held.end }
+{
+    with_end!(host alloc end { host_finish_status(end.finish()) })
 }
 
 /// Hands out how many bytes are pending. `SAM_NO_HANDLE` if the handle is empty.

@@ -3,12 +3,13 @@
 //! beginning of the text.
 
 ghost use Rattle.std.specs.Prelude.{◌≡◌, drop, is_some, length, option_map};
+ghost use Rattle.sam_c.specs.Buffers.{countable};
 ghost use Rattle.sam_c.specs.Calls.{Reports, ReportsName, ReportsSome, ReportsText, written};
 ghost use Rattle.sam_c.specs.Hosts.{dot_of, file_of, saved_of};
 
 use crate::handle::{SamHost, with_end};
 use crate::status::{NO_HANDLE, NONE, OK};
-use crate::utf8::{runes_from, tell_name, tell_text};
+use crate::utf8::{count, countable, runes_from, tell_name, tell_text};
 use std::alloc::Global;
 
 /// Hands out whether the session is over: the terminal has sent Texit, or a command line was `q`.
@@ -156,7 +157,7 @@ pub extern "C" fn sam_host_text(
     place: u32,
     into: &mut [u8],
     bytes: &mut usize,
-    runes: &mut usize,
+    runes: &mut u32,
     alloc: Global,
 ) -> u32
     ensures told { ReportsText host.old.held.end result (written into.old bytes.old runes.old) (written into.new bytes.new runes.new)
@@ -182,16 +183,16 @@ pub extern "C" fn sam_host_text(
 pub extern "C" fn sam_host_saved_len(
     host: &mut SamHost,
     tag: u16,
-    runes: &mut usize,
+    runes: &mut u32,
     alloc: Global,
 ) -> u32
-    ensures told { ReportsSome host.old.held.end result runes.old runes.new (λ e. option_map length (saved_of e tag)) }
+    ensures told { ReportsSome host.old.held.end result runes.old runes.new (λ e. option_map (λ s. length (countable s)) (saved_of e tag)) }
     ensures kept { host.new.held.end ≡ host.old.held.end }
 {
     with_end!(host alloc end {
         match end.host().files().saved(tag) {
             Some(saved) => {
-                *runes = saved.len();
+                *runes = count(countable(saved.as_slice()));
                 OK
             }
             None => NONE,
@@ -208,16 +209,16 @@ pub extern "C" fn sam_host_saved(
     place: u32,
     into: &mut [u8],
     bytes: &mut usize,
-    runes: &mut usize,
+    runes: &mut u32,
     alloc: Global,
 ) -> u32
     ensures told { ReportsText host.old.held.end result (written into.old bytes.old runes.old) (written into.new bytes.new runes.new)
-        (λ e. option_map (λ s. drop place s) (saved_of e tag)) }
+        (λ e. option_map (λ s. drop place (countable s)) (saved_of e tag)) }
     ensures kept { host.new.held.end ≡ host.old.held.end }
 {
     with_end!(host alloc end {
         match end.host().files().saved(tag) {
-            Some(saved) => tell_text(runes_from(saved.as_slice(), place), into, bytes, runes),
+            Some(saved) => tell_text(runes_from(countable(saved.as_slice()), place), into, bytes, runes),
             None => NONE,
         }
     })

@@ -1,10 +1,10 @@
 //! The numbers by which C knows what came of a call: enum sam_status of include/sulgrevad.h.
 
 ghost use Rattle.std.specs.Prelude.{◌≡◌};
-ghost use Rattle.sam_c.specs.Status.{add_status, host_refusal, host_status, refusal_status, script_status, stream_status};
-ghost use Rattle.sam_c.specs.Status.{term_refusal, term_status};
+ghost use Rattle.sam_c.specs.Status.{add_status, host_finish_status, host_refusal, host_status, refusal_status, script_status, stream_status};
+ghost use Rattle.sam_c.specs.Status.{term_finish_status, term_refusal, term_status};
 
-use sam_endpoint::{AddFault, EndpointFault, HostStop, StreamFault, TermStop};
+use sam_endpoint::{AddFault, EndpointFault, FinishFault, HostStop, StreamFault, TermStop};
 use sam_host::HostFault;
 use sam_script::ScriptFault;
 use sam_term::{Refusal, TermFault};
@@ -40,6 +40,9 @@ const ADD: u32 = 16;
 
 /// Added to the number of what is wrong with the other side's stream, which has stopped the handle.
 const STREAM: u32 = 32;
+
+/// The other side's stream ends inside a message or frame. Only the calls that ask whether it may end return it, and the handle goes on.
+const TRUNCATED: u32 = STREAM + 4;
 
 /// Added to the number of why the host refused a message, which has stopped the handle.
 const HOST_REFUSED: u32 = 64;
@@ -128,5 +131,31 @@ pub(crate) fn term_status(came: Result<(), EndpointFault<TermStop>>) -> u32
         Err(EndpointFault::CountFull) => COUNT_FULL,
         Err(EndpointFault::Stopped(TermStop::Stream(why))) => stream_status(why),
         Err(EndpointFault::Stopped(TermStop::Refused(why))) => term_refusal(why),
+    }
+}
+
+/// Returns the number of why a terminal's stream may not end, or that it may.
+pub(crate) fn host_finish_status(came: Result<(), FinishFault<HostStop>>) -> u32
+    ensures { result ≡ host_finish_status came }
+{
+    match came {
+        Ok(()) => OK,
+        Err(FinishFault::Unfinished) => UNFINISHED,
+        Err(FinishFault::Truncated) => TRUNCATED,
+        Err(FinishFault::Stopped(HostStop::Stream(why))) => stream_status(why),
+        Err(FinishFault::Stopped(HostStop::Refused(why))) => host_refusal(why),
+    }
+}
+
+/// Returns the number of why a host's stream may not end, or that it may.
+pub(crate) fn term_finish_status(came: Result<(), FinishFault<TermStop>>) -> u32
+    ensures { result ≡ term_finish_status came }
+{
+    match came {
+        Ok(()) => OK,
+        Err(FinishFault::Unfinished) => UNFINISHED,
+        Err(FinishFault::Truncated) => TRUNCATED,
+        Err(FinishFault::Stopped(TermStop::Stream(why))) => stream_status(why),
+        Err(FinishFault::Stopped(TermStop::Refused(why))) => term_refusal(why),
     }
 }

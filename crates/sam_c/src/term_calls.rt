@@ -4,10 +4,10 @@
 ghost use Rattle.std.specs.Prelude.{◌≡◌, length};
 ghost use Rattle.sam_c.specs.Calls.{Reports};
 ghost use Rattle.sam_c.specs.Hosts.{Freed};
-ghost use Rattle.sam_c.specs.Terms.{TermFed, TermIdled, TermMade, TermNextRefusal, TermTaken};
+ghost use Rattle.sam_c.specs.Terms.{TermFed, TermFinished, TermIdled, TermMade, TermNextRefusal, TermTaken};
 
-use crate::handle::SamTerm;
-use crate::status::{MADE, NO_HANDLE, NO_MEMORY, NONE, OK, refusal_status, term_status};
+use crate::handle::{SamTerm, with_end};
+use crate::status::{MADE, NO_HANDLE, NO_MEMORY, NONE, OK, refusal_status, term_finish_status, term_status};
 use sam_endpoint::TermEndpoint;
 use std::alloc::Global;
 
@@ -52,6 +52,19 @@ pub extern "C" fn sam_term_feed(term: &mut SamTerm, bytes: &[u8], alloc: Global)
     let status = term_status(end.feed(bytes));
     term.put(end);
     status
+}
+
+/// Says whether the host's stream may end here: to be asked where the input of the terminal has ended. It changes nothing.
+///
+/// Returns `SAM_OK`, `SAM_NO_HANDLE`, why the terminal has stopped before (`SAM_STREAM..`, `SAM_TERM_REFUSED..`), `SAM_UNFINISHED` if some
+/// of what came or was composed waits, since memory was refused, or `SAM_TRUNCATED` if the stream ends inside a frame. `SAM_NO_HANDLE`
+/// comes first; the order of the others is that of [`TermEndpoint::finish`].
+#[unsafe(no_mangle)]
+pub extern "C" fn sam_term_finish(term: &mut SamTerm, alloc: Global) -> u32
+    ensures told { TermFinished term.old.held.end result }
+    ensures kept { term.new.held.end ≡ term.old.held.end }
+{
+    with_end!(term alloc end { term_finish_status(end.finish()) })
 }
 
 /// Composes the typed runes that are not sent yet. A program calls it when the user pauses, before the program sleeps.

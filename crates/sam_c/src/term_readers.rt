@@ -5,14 +5,16 @@
 ghost use Rattle.std.specs.Prelude.{◌≡◌, Some, drop, is_some, length, option_and_then, option_copied, option_map};
 ghost use Rattle.sam_c.specs.Calls.{Reports, ReportsCells, ReportsName, ReportsSome, ReportsText, written};
 ghost use Rattle.sam_c.specs.Terms.{dot_of, gap_from, is_held_back, known_of, open_of, rasp_of, shown_of};
-ghost use Rattle.sam_endpoint.specs.TermEndpoints.{under_way};
+ghost use Rattle.sam_c.specs.Buffers.{countable};
+ghost use Rattle.sam_endpoint.specs.Drawing.{Shows};
+ghost use Rattle.sam_endpoint.specs.TermEndpoints.{decided, under_way};
 ghost use Rattle.sam_rasp.specs.Rasp.{hole_within};
 ghost use Rattle.sam_term.specs.Sound.{unsent_length};
 ghost use Rattle.sam_term.specs.Term.{is_changed};
 
 use crate::handle::{SamTerm, with_end};
 use crate::status::{NO_HANDLE, NONE, OK};
-use crate::utf8::{runes_from, tell_name, tell_text};
+use crate::utf8::{countable, runes_from, tell_name, tell_text};
 use sam_endpoint::{TermEndpoint, read_rasp};
 use sam_rasp::Rasp;
 use sam_term::records::KnownFile;
@@ -37,6 +39,16 @@ pub extern "C" fn sam_term_events(term: &mut SamTerm, events: &mut u64, alloc: G
     ensures kept { term.new.held.end ≡ term.old.held.end }
 {
     with_end!(term alloc end { *events = end.events(); OK })
+}
+
+/// Hands out how many of these events have acted or were refused. Events are done in order, so the event of number `n`, counted from 1, is
+/// held if and only if this is below `n`.
+#[unsafe(no_mangle)]
+pub extern "C" fn sam_term_decided(term: &mut SamTerm, events: &mut u64, alloc: Global) -> u32
+    ensures told { Reports term.old.held.end result events.old events.new decided }
+    ensures kept { term.new.held.end ≡ term.old.held.end }
+{
+    with_end!(term alloc end { *events = end.decided(); OK })
 }
 
 /// Hands out whether the command lock or a lock of this file is held: an edit of the file would wait.
@@ -68,11 +80,11 @@ pub extern "C" fn sam_term_command_locked(
 
 /// Hands out how many events are held.
 #[unsafe(no_mangle)]
-pub extern "C" fn sam_term_held(term: &mut SamTerm, events: &mut usize, alloc: Global) -> u32
+pub extern "C" fn sam_term_held(term: &mut SamTerm, events: &mut u64, alloc: Global) -> u32
     ensures told { Reports term.old.held.end result events.old events.new (λ e. length e.term.held) }
     ensures kept { term.new.held.end ≡ term.old.held.end }
 {
-    with_end!(term alloc end { *events = end.term().held(); OK })
+    with_end!(term alloc end { *events = end.term().held() as u64; OK })
 }
 
 /// Hands out how many typed runes are not sent yet.
@@ -339,16 +351,24 @@ pub extern "C" fn sam_term_snarfed(
     place: u32,
     into: &mut [u8],
     bytes: &mut usize,
-    runes: &mut usize,
+    runes: &mut u32,
     alloc: Global,
 ) -> u32
     ensures told { ReportsText term.old.held.end result (written into.old bytes.old runes.old) (written into.new bytes.new runes.new)
-        (λ e. Some (drop place e.term.snarf)) }
+        (λ e. Some (drop place (countable e.term.snarf))) }
     ensures kept { term.new.held.end ≡ term.old.held.end }
 {
     with_end!(term alloc end {
-        tell_text(runes_from(end.term().snarf(), place), into, bytes, runes)
+        tell_text(runes_from(countable(end.term().snarf()), place), into, bytes, runes)
     })
+}
+
+/// Puts the members of a rasp from a place on into the buffer, as many as there are and have room, and returns how many.
+fn read_members(rasp: &Rasp, place: u32, into: &mut [u32]) -> u32
+    ensures { Shows rasp.now place into.old into.new result }
+{
+    let most = rasp.len() as usize;
+    read_rasp(rasp, place, into).min(most) as u32
 }
 
 /// Puts the runes of an open file from a place on into the buffer as numbers, as many as there are and have room, with `SAM_GAP` for each
@@ -359,7 +379,7 @@ pub extern "C" fn sam_term_read(
     tag: u16,
     place: u32,
     into: &mut [u32],
-    count: &mut usize,
+    count: &mut u32,
     alloc: Global,
 ) -> u32
     ensures told { ReportsCells term.old.held.end result into.old into.new count.old count.new place (λ e. rasp_of e tag) }
@@ -368,7 +388,7 @@ pub extern "C" fn sam_term_read(
     with_end!(term alloc end {
         match end.term().rasp(tag) {
             Some(rasp) => {
-                *count = read_rasp(rasp, place, into);
+                *count = read_members(rasp, place, into);
                 OK
             }
             None => NONE,

@@ -1,7 +1,7 @@
 //! Runes as UTF-8 in a buffer of the caller's.
 
-ghost use Rattle.std.specs.Prelude.{◌≡◌, ◌≤◌, drop, length, Some};
-ghost use Rattle.sam_c.specs.Buffers.{Fills, Puts};
+ghost use Rattle.std.specs.Prelude.{◌≡◌, ◌^◌, ◌<◌, ◌≤◌, drop, length, Some};
+ghost use Rattle.sam_c.specs.Buffers.{Fills, Puts, countable};
 ghost use Rattle.sam_c.specs.Calls.{Writes, WritesName, written};
 
 use crate::status::OK;
@@ -54,13 +54,35 @@ pub(crate) fn runes_from(runes: &[char], place: u32) -> &[char]
     &runes[start..]
 }
 
+/// Returns the runes that 32 bits count: all, since no text has more than `MAX_RUNES`.
+pub(crate) fn countable(runes: &[char]) -> &[char]
+    ensures runes { result.now ≡ countable runes.now }
+    ensures few { length result.now < 2 ^ 32 }
+{
+    let most = u32::MAX as usize;
+    if runes.len() > most {
+        &runes[..most]
+    } else {
+        runes
+    }
+}
+
+/// Returns how many runes there are.
+pub(crate) fn count(runes: &[char]) -> u32
+    requires { length runes.now < 2 ^ 32 }
+    ensures { result ≡ length runes.now }
+{
+    runes.len() as u32
+}
+
 /// Puts the first runes of a text into the buffer, and hands out how many bytes and runes. Returns `OK`.
-pub(crate) fn tell_text(text: &[char], into: &mut [u8], bytes: &mut usize, runes: &mut usize) -> u32
+pub(crate) fn tell_text(text: &[char], into: &mut [u8], bytes: &mut usize, runes: &mut u32) -> u32
+    requires { length text.now < 2 ^ 32 }
     ensures { Writes (Some text.now) result (written into.old bytes.old runes.old) (written into.new bytes.new runes.new) }
 {
     let filled = fill_utf8(text, into);
     *bytes = filled.bytes;
-    *runes = filled.runes;
+    *runes = filled.runes as u32;
     OK
 }
 

@@ -1,5 +1,5 @@
 -- A host behind a stream of bytes each way, and what feeding it does.
-use Rattle.std.specs.Prelude.{◌≡◌, ℕ, ◌+◌, ◌^◌, ◌≤◌, ◌⊎◌, List, [], ◌∷◌, ◌++◌, length, Bool, true, false, not, ◌&&◌, ◌||◌, nat_lt, nat_le, if◌then◌else◌, Option, Some, None, Result, Ok, Err}
+use Rattle.std.specs.Prelude.{◌≡◌, ℕ, ◌+◌, ◌^◌, ◌<◌, ◌≤◌, ◌⊎◌, List, [], ◌∷◌, ◌++◌, length, Bool, true, false, not, ◌&&◌, ◌||◌, nat_lt, nat_le, if◌then◌else◌, Option, Some, None, Result, Ok, Err}
 use Rattle.std.specs.Str.{chars, is_utf8}
 use Rattle.sam_runes.specs.Checks.{Checks}
 use Rattle.sam_runes.specs.Texts.{all_tags, max_runes, most_in_name}
@@ -17,6 +17,8 @@ use Rattle.sam_endpoint.specs.declared.fault.HostStop.{HostStop}
 use Rattle.sam_endpoint.specs.declared.fault.HostStop.TheVariants as stop
 use Rattle.sam_endpoint.specs.declared.fault.EndpointFault.{EndpointFault}
 use Rattle.sam_endpoint.specs.declared.fault.EndpointFault.TheVariants as fault
+use Rattle.sam_endpoint.specs.declared.fault.FinishFault.{FinishFault}
+use Rattle.sam_endpoint.specs.declared.fault.FinishFault.TheVariants as ending
 use Rattle.sam_endpoint.specs.Streams.{Gives}
 
 pub record PlainHostEndpoint : Type 0 where
@@ -115,6 +117,19 @@ Feeds e piece result g =
     ((why : HostStop) × (e.stop ≡ Some why) × (result ≡ Err (fault.Stopped why)) × (g ≡ e))
     ⊎ ((e.stop ≡ None) × (middle : PlainHostEndpoint) × (first : Result (Unit {0}) (EndpointFault HostStop))
     × GoesOn e first middle × FeedsAfter first middle piece result g)
+
+-- ## The end of the stream
+
+-- all that came was answered and written, and no fault stands behind it
+abbrev pub IsDone : PlainHostEndpoint → Type 0
+IsDone e = IsIdle e × (e.behind ≡ None)
+
+-- whether the stream may end here: it may where all of it was answered, and it ends between two messages
+abbrev pub Finishes : PlainHostEndpoint → Result (Unit {0}) (FinishFault HostStop) → Type 0
+Finishes e (Err (ending.Stopped why)) = e.stop ≡ Some why
+Finishes e (Err ending.Unfinished) = (e.stop ≡ None) × (IsDone e → ⊥)
+Finishes e (Err ending.Truncated) = (e.stop ≡ None) × IsDone e × (0 < length e.framer.bytes)
+Finishes e (Ok done) = (e.stop ≡ None) × IsDone e × (e.framer.bytes ≡ [])
 
 -- ## Files that the host begins with
 

@@ -1,5 +1,5 @@
 -- A terminal behind a stream of bytes each way, and what its calls do.
-use Rattle.std.specs.Prelude.{◌≡◌, ℕ, ◌+◌, ◌-◌, ◌^◌, ◌≤◌, ◌⊎◌, List, [], ◌∷◌, ◌++◌, length, flat_map, Option, Some, None, Result, Ok, Err}
+use Rattle.std.specs.Prelude.{◌≡◌, ℕ, ◌+◌, ◌-◌, ◌^◌, ◌<◌, ◌≤◌, ◌⊎◌, List, [], ◌∷◌, ◌++◌, length, flat_map, Option, Some, None, Result, Ok, Err}
 use Rattle.sam_mesg.specs.declared.tmesg.Tmesg.{Tmesg}
 use Rattle.sam_mesg.specs.declared.hmesg.HFrame.{HFrame}
 use Rattle.sam_frame.specs.Direction.{host, terminal}
@@ -17,6 +17,8 @@ use Rattle.sam_endpoint.specs.declared.fault.TermStop.{TermStop}
 use Rattle.sam_endpoint.specs.declared.fault.TermStop.TheVariants as stop
 use Rattle.sam_endpoint.specs.declared.fault.EndpointFault.{EndpointFault}
 use Rattle.sam_endpoint.specs.declared.fault.EndpointFault.TheVariants as fault
+use Rattle.sam_endpoint.specs.declared.fault.FinishFault.{FinishFault}
+use Rattle.sam_endpoint.specs.declared.fault.FinishFault.TheVariants as ending
 use Rattle.sam_endpoint.specs.declared.term_endpoint.TermEndpoint.TheInside.{Inside}
 use Rattle.sam_endpoint.specs.Streams.{Gives}
 
@@ -78,6 +80,10 @@ last_stamp before (frame ∷ frames) = last_stamp frame.seen frames
 -- how many messages the host has not taken, as far as its frames tell
 abbrev pub under_way : PlainTermEndpoint → ℕ
 under_way e = e.term.sent - e.seen
+
+-- how many events were done or refused
+abbrev pub decided : PlainTermEndpoint → ℕ
+decided e = e.events - length e.term.held
 
 -- the event was done or refused, and so is held no longer
 abbrev pub IsDecided : Acted → Type 0
@@ -206,3 +212,16 @@ Puts e event result g = Calls e result g (λ middle. PutsIdle middle event resul
 
 abbrev pub Flushes : PlainTermEndpoint → Result (Unit {0}) (EndpointFault TermStop) → PlainTermEndpoint → Type 0
 Flushes e result g = Calls e result g (λ middle. FlushesIdle middle result g)
+
+-- ## The end of the stream
+
+-- all that came was received, what was composed is written, and no fault stands behind it
+abbrev pub IsDone : PlainTermEndpoint → Type 0
+IsDone e = IsIdle e × (e.behind ≡ None)
+
+-- whether the stream may end here: it may where all of it was received, and it ends between two frames
+abbrev pub Finishes : PlainTermEndpoint → Result (Unit {0}) (FinishFault TermStop) → Type 0
+Finishes e (Err (ending.Stopped why)) = e.stop ≡ Some why
+Finishes e (Err ending.Unfinished) = (e.stop ≡ None) × (IsDone e → ⊥)
+Finishes e (Err ending.Truncated) = (e.stop ≡ None) × IsDone e × (0 < length e.framer.bytes)
+Finishes e (Ok done) = (e.stop ≡ None) × IsDone e × (e.framer.bytes ≡ [])

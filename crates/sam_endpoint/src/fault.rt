@@ -85,6 +85,20 @@ pub enum EndpointFault<S> {
     Stopped(S),
 }
 
+/// Why the other side's stream may not end yet, in the order of the tests.
+#[derive(Clone, Copy, Debug, PartialEq, Eq, Drop, Error)]
+pub enum FinishFault<S> {
+    /// The end has stopped for good before.
+    #[error("stopped for good")]
+    Stopped(S),
+    /// Some of what came waits, since memory was refused: feed no bytes until that returns `Ok`, and ask again.
+    #[error("some of it waits")]
+    Unfinished,
+    /// The stream ends inside a message or frame.
+    #[error("half a frame at the end")]
+    Truncated,
+}
+
 impl<S: Copy> EndpointFault<S> {
     /// Returns the fault of a call that could not take what it brought, since what waited before could not go on: `Unfinished` becomes
     /// `OutOfMemory`.

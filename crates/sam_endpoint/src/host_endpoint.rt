@@ -5,10 +5,10 @@ ghost use Rattle.std.specs.Str.{chars, is_utf8};
 ghost use Rattle.std.specs.VecDeque.{deque_len, deque_capacity};
 ghost use Rattle.sam_runes.specs.Checks.{first_of_checks};
 ghost use Rattle.sam_term.specs.Fitting.{FitsLast};
-ghost use Rattle.sam_endpoint.specs.HostEndpoints.{Feeds, GoesOn, IsIdle, IsAddFault, new_host_endpoint, add_checks, with_file, writes_of};
+ghost use Rattle.sam_endpoint.specs.HostEndpoints.{Feeds, Finishes, GoesOn, IsIdle, IsAddFault, new_host_endpoint, add_checks, with_file, writes_of};
 ghost use Rattle.sam_endpoint.specs.HostSteps.{Brings, Ends, Handles, Writes};
 
-use crate::fault::{AddFault, EndpointFault, HostStop, StreamFault};
+use crate::fault::{AddFault, EndpointFault, FinishFault, HostStop, StreamFault};
 use crate::incoming::{drop_first, feed_framer};
 use crate::pending_bytes::PendingBytes;
 use sam_frame::FramerT;
@@ -225,6 +225,24 @@ impl HostEndpoint {
         }
         self.take_in(piece)?;
         self.go_on()
+    }
+
+    /// Says whether the terminal's stream may end here. Errors, in this order: `Stopped` if the end has stopped before; `Unfinished` if
+    /// some of what came waits, since memory was refused; `Truncated` if the stream ends inside a message. A program asks it where its
+    /// input has ended.
+    pub fn finish(&self) -> Result<(), FinishFault<HostStop>>
+        ensures { Finishes self.now result }
+    {
+        if let Some(why) = self.stop {
+            return Err(FinishFault::Stopped(why));
+        }
+        if self.behind.is_some() || !self.is_idle() {
+            return Err(FinishFault::Unfinished);
+        }
+        if self.framer.finish().is_err() {
+            return Err(FinishFault::Truncated);
+        }
+        Ok(())
     }
 
     /// Returns how many bytes for the terminal wait to be taken out.

@@ -12,7 +12,7 @@ mod pending_bytes;
 mod term_endpoint;
 
 pub use drawing::{GAP, read_rasp};
-pub use fault::{AddFault, EndpointFault, HostStop, StreamFault, TermStop};
+pub use fault::{AddFault, EndpointFault, FinishFault, HostStop, StreamFault, TermStop};
 pub use host_endpoint::HostEndpoint;
 pub use pending_bytes::PendingBytes;
 pub use term_endpoint::TermEndpoint;

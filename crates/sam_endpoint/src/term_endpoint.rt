@@ -1,13 +1,13 @@
 //! A terminal behind a stream of bytes each way.
 
 ghost use Rattle.std.specs.Prelude.{◌≡◌, ◌↔◌, IfOk, IsTrue, None, [], ◌≤◌, drop, length, min, option_copied, take, slice_get, ◌++◌};
-ghost use Rattle.sam_endpoint.specs.TermEndpoints.{Feeds, Flushes, GoesOn, IsIdle, Puts, new_term_endpoint, under_way};
+ghost use Rattle.sam_endpoint.specs.TermEndpoints.{Feeds, Finishes, Flushes, GoesOn, IsIdle, Puts, decided, new_term_endpoint, under_way};
 ghost use Rattle.sam_endpoint.specs.TermSteps.{Acts, ActsAll, Composes, Gains, Holds, Receives, ReceivesAll, Resumes, Tries, Writes, end_fault, stopped_by};
 ghost use Rattle.sam_mesg.specs.HostKinds.{fits_h};
 ghost use Rattle.sam_term.specs.Fitting.{AllFit, composed_in};
 ghost use Rattle.sam_term.specs.Term.{act_of, flush_of, take_of};
 
-use crate::fault::{EndpointFault, StreamFault, TermStop};
+use crate::fault::{EndpointFault, FinishFault, StreamFault, TermStop};
 use crate::incoming::{drop_first, feed_framer};
 use crate::pending_bytes::PendingBytes;
 use sam_frame::FramerH;
@@ -306,6 +306,24 @@ impl TermEndpoint {
         self.go_on()
     }
 
+    /// Says whether the host's stream may end here. Errors, in this order: `Stopped` if the end has stopped before; `Unfinished` if some
+    /// of what came or was composed waits, since memory was refused; `Truncated` if the stream ends inside a frame. A program asks it
+    /// where its input has ended.
+    pub fn finish(&self) -> Result<(), FinishFault<TermStop>>
+        ensures { Finishes self.now result }
+    {
+        if let Some(why) = self.stop {
+            return Err(FinishFault::Stopped(why));
+        }
+        if self.behind.is_some() || !self.is_idle() {
+            return Err(FinishFault::Unfinished);
+        }
+        if self.framer.finish().is_err() {
+            return Err(FinishFault::Truncated);
+        }
+        Ok(())
+    }
+
     /// Returns how many bytes for the host wait to be taken out.
     pub fn pending(&self) -> usize
         ensures { result ≡ length self.now.pending_bytes }
@@ -381,6 +399,14 @@ impl TermEndpoint {
         ensures { result ≡ self.now.events }
     {
         self.events
+    }
+
+    /// Returns how many of the events that were taken have acted or were refused. Events are done in order: that of number `n`, counted
+    /// from 1, is held if and only if this is below `n`.
+    pub fn decided(&self) -> u64
+        ensures { result ≡ decided self.now }
+    {
+        self.events - self.term.held() as u64
     }
 }
 

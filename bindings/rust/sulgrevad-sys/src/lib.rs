@@ -21,6 +21,7 @@ pub const SAM_ADD_NO_TAG: sam_status = 20;
 pub const SAM_BAD_KIND: sam_status = 33;
 pub const SAM_BAD_LENGTH: sam_status = 34;
 pub const SAM_BAD_TEXT: sam_status = 35;
+pub const SAM_TRUNCATED: sam_status = 36;
 pub const SAM_HOST_NO_FILE: sam_status = 65;
 pub const SAM_HOST_NOT_OPEN: sam_status = 66;
 pub const SAM_HOST_BAD_POSITION: sam_status = 67;
@@ -97,6 +98,7 @@ extern "C" {
         tag: *mut u16,
     ) -> sam_status;
     pub fn sam_host_feed(host: *mut sam_host, bytes: *const u8, len: usize) -> sam_status;
+    pub fn sam_host_finish(host: *mut sam_host) -> sam_status;
     pub fn sam_host_pending(host: *mut sam_host, len: *mut usize) -> sam_status;
     pub fn sam_host_take_out(host: *mut sam_host, into: *mut u8, room: usize, count: *mut usize) -> sam_status;
     pub fn sam_host_next_written(host: *mut sam_host, tag: *mut u16) -> sam_status;
@@ -115,9 +117,9 @@ extern "C" {
         into: *mut u8,
         room: usize,
         bytes: *mut usize,
-        runes: *mut usize,
+        runes: *mut u32,
     ) -> sam_status;
-    pub fn sam_host_saved_len(host: *mut sam_host, tag: u16, runes: *mut usize) -> sam_status;
+    pub fn sam_host_saved_len(host: *mut sam_host, tag: u16, runes: *mut u32) -> sam_status;
     pub fn sam_host_saved(
         host: *mut sam_host,
         tag: u16,
@@ -125,7 +127,7 @@ extern "C" {
         into: *mut u8,
         room: usize,
         bytes: *mut usize,
-        runes: *mut usize,
+        runes: *mut u32,
     ) -> sam_status;
     pub fn sam_host_dot(host: *mut sam_host, tag: u16, start: *mut u32, end: *mut u32) -> sam_status;
 
@@ -156,11 +158,13 @@ extern "C" {
     pub fn sam_term_flush(term: *mut sam_term) -> sam_status;
     pub fn sam_term_exit(term: *mut sam_term) -> sam_status;
     pub fn sam_term_feed(term: *mut sam_term, bytes: *const u8, len: usize) -> sam_status;
+    pub fn sam_term_finish(term: *mut sam_term) -> sam_status;
     pub fn sam_term_flush_now(term: *mut sam_term) -> sam_status;
     pub fn sam_term_pending(term: *mut sam_term, len: *mut usize) -> sam_status;
     pub fn sam_term_take_out(term: *mut sam_term, into: *mut u8, room: usize, count: *mut usize) -> sam_status;
     pub fn sam_term_next_refusal(term: *mut sam_term, event: *mut u64, why: *mut sam_status) -> sam_status;
     pub fn sam_term_events(term: *mut sam_term, events: *mut u64) -> sam_status;
+    pub fn sam_term_decided(term: *mut sam_term, events: *mut u64) -> sam_status;
     pub fn sam_term_tags(term: *mut sam_term, count: *mut usize) -> sam_status;
     pub fn sam_term_is_known(term: *mut sam_term, tag: u16, known: *mut bool) -> sam_status;
     pub fn sam_term_name(term: *mut sam_term, tag: u16, into: *mut u8, room: usize, len: *mut usize) -> sam_status;
@@ -169,13 +173,13 @@ extern "C" {
     pub fn sam_term_is_open(term: *mut sam_term, tag: u16, open: *mut bool) -> sam_status;
     pub fn sam_term_current(term: *mut sam_term, tag: *mut u16) -> sam_status;
     pub fn sam_term_len(term: *mut sam_term, tag: u16, runes: *mut u32) -> sam_status;
-    pub fn sam_term_read(term: *mut sam_term, tag: u16, place: u32, into: *mut u32, room: usize, count: *mut usize) -> sam_status;
+    pub fn sam_term_read(term: *mut sam_term, tag: u16, place: u32, into: *mut u32, room: usize, count: *mut u32) -> sam_status;
     pub fn sam_term_first_gap(term: *mut sam_term, tag: u16, place: u32, gap: *mut u32) -> sam_status;
     pub fn sam_term_dot(term: *mut sam_term, tag: u16, start: *mut u32, end: *mut u32) -> sam_status;
     pub fn sam_term_view_of(term: *mut sam_term, tag: u16, start: *mut u32, end: *mut u32) -> sam_status;
     pub fn sam_term_locked(term: *mut sam_term, tag: u16, locked: *mut bool) -> sam_status;
     pub fn sam_term_command_locked(term: *mut sam_term, locked: *mut bool) -> sam_status;
-    pub fn sam_term_held(term: *mut sam_term, events: *mut usize) -> sam_status;
+    pub fn sam_term_held(term: *mut sam_term, events: *mut u64) -> sam_status;
     pub fn sam_term_unsent(term: *mut sam_term, runes: *mut u32) -> sam_status;
     pub fn sam_term_sent(term: *mut sam_term, messages: *mut u64) -> sam_status;
     pub fn sam_term_under_way(term: *mut sam_term, messages: *mut u64) -> sam_status;
@@ -186,7 +190,7 @@ extern "C" {
         into: *mut u8,
         room: usize,
         bytes: *mut usize,
-        runes: *mut usize,
+        runes: *mut u32,
     ) -> sam_status;
     pub fn sam_term_snarf_len(term: *mut sam_term, runes: *mut u32) -> sam_status;
     pub fn sam_term_exited(term: *mut sam_term, exited: *mut bool) -> sam_status;

@@ -44,6 +44,8 @@ family! {
         BadLength = SAM_BAD_LENGTH,
         /// A text that is not UTF-8, or has too many runes.
         BadText = SAM_BAD_TEXT,
+        /// It ends inside a message or frame. Only `finish` returns it, and this side goes on.
+        Truncated = SAM_TRUNCATED,
     }
 }
 

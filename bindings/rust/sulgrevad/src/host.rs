@@ -39,6 +39,12 @@ impl Host {
         done(unsafe { sys::sam_host_feed(self.at(), bytes.as_ptr(), bytes.len()) })
     }
 
+    /// Says that the terminal's stream has ended: `Ok` where it may end here. Errors in order: why the host has stopped before;
+    /// `Unfinished` where some of what came waits; `Stream(Truncated)` where the stream ends inside a message.
+    pub fn finish(&self) -> Result<(), Error> {
+        done(unsafe { sys::sam_host_finish(self.at()) })
+    }
+
     /// How many bytes are pending.
     pub fn pending(&self) -> usize {
         tells(|len| unsafe { sys::sam_host_pending(self.at(), len) })
@@ -116,7 +122,7 @@ impl Host {
     }
 
     /// The length in runes of what a file was when it was written last.
-    pub fn saved_len(&self, tag: u16) -> Option<usize> {
+    pub fn saved_len(&self, tag: u16) -> Option<u32> {
         told(|runes| unsafe { sys::sam_host_saved_len(self.at(), tag, runes) })
     }
 

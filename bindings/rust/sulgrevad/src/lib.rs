@@ -84,7 +84,7 @@ fn tells<T: Default>(read: impl FnOnce(&mut T) -> u32) -> T {
 }
 
 /// A text that is read in pieces: `read` puts some of it into the buffer from a place on, and tells how many bytes and runes.
-fn whole_text(mut read: impl FnMut(u32, &mut [u8], &mut usize, &mut usize) -> u32) -> Option<String> {
+fn whole_text(mut read: impl FnMut(u32, &mut [u8], &mut usize, &mut u32) -> u32) -> Option<String> {
     let mut text = Vec::new();
     let mut place = 0;
     loop {
@@ -97,7 +97,7 @@ fn whole_text(mut read: impl FnMut(u32, &mut [u8], &mut usize, &mut usize) -> u3
             return Some(String::from_utf8(text).expect("the library writes UTF-8"));
         }
         text.extend_from_slice(&piece[..bytes]);
-        place += runes as u32;
+        place += runes;
     }
 }
 

@@ -158,6 +158,12 @@ impl Terminal {
         done(unsafe { sys::sam_term_feed(self.at(), bytes.as_ptr(), bytes.len()) })
     }
 
+    /// Says that the host's stream has ended: `Ok` where it may end here. Errors in order: why the terminal has stopped before;
+    /// `Unfinished` where some of what came waits; `Stream(Truncated)` where the stream ends inside a frame.
+    pub fn finish(&self) -> Result<(), Error> {
+        done(unsafe { sys::sam_term_finish(self.at()) })
+    }
+
     /// Composes the typed runes that are not sent yet: to be called when the user pauses.
     pub fn flush_now(&mut self) -> Result<(), Error> {
         done(unsafe { sys::sam_term_flush_now(self.at()) })
@@ -195,7 +201,7 @@ impl Terminal {
         let mut runes = vec![0; most];
         let mut count = 0;
         unsafe { sys::sam_term_read(self.at(), tag, place, runes.as_mut_ptr(), most, &mut count) };
-        runes.truncate(count);
+        runes.truncate(count as usize);
         runes
             .into_iter()
             .map(|rune| if rune == GAP { None } else { char::from_u32(rune) })
@@ -205,6 +211,12 @@ impl Terminal {
     /// How many events were taken.
     pub fn events(&self) -> u64 {
         tells(|value| unsafe { sys::sam_term_events(self.at(), value) })
+    }
+
+    /// How many of them have acted or were refused. Events are done in order, so the event that was made last is held where this is below
+    /// `events`.
+    pub fn decided(&self) -> u64 {
+        tells(|value| unsafe { sys::sam_term_decided(self.at(), value) })
     }
 
     /// How many tags it has room for: each file that it knows has a tag below this.
@@ -239,7 +251,7 @@ impl Terminal {
     }
 
     /// How many events are held.
-    pub fn held(&self) -> usize {
+    pub fn held(&self) -> u64 {
         tells(|value| unsafe { sys::sam_term_held(self.at(), value) })
     }
 

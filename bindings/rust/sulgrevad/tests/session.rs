@@ -32,9 +32,11 @@ fn an_edit_that_would_cross_waits() -> Result<(), Error> {
     term.look(file)?; // a lock of the file is held until it is answered
     term.type_(file, "é")?;
     assert_eq!(term.held(), 1);
+    assert_eq!(term.decided(), term.events() - 1);
     assert!(term.locked(file));
     carry(&mut term, &mut host)?;
     assert_eq!(term.held(), 0);
+    assert_eq!(term.decided(), term.events());
     term.flush_now()?;
     carry(&mut term, &mut host)?;
     assert_eq!(host.text(file).as_deref(), Some("éhello\n"));
@@ -111,6 +113,26 @@ fn a_typed_file_is_changed_until_it_is_written() -> Result<(), Error> {
     carry(&mut term, &mut host)?;
     assert!(!term.is_changed(file));
     assert!(!term.is_changed(99));
+    Ok(())
+}
+
+#[test]
+fn a_stream_ends_between_two_messages() -> Result<(), Error> {
+    let truncated = Err(Error::Stream(StreamFault::Truncated));
+    let (mut host, mut term, file) = opened("one\n")?;
+    assert_eq!((host.finish(), term.finish()), (Ok(()), Ok(())));
+    term.check(file)?;
+    for byte in term.take_out().flatten().collect::<Vec<u8>>() {
+        host.feed(&[byte])?;
+        assert_eq!(host.finish(), if host.pending() == 0 { truncated } else { Ok(()) });
+    }
+    let frames: Vec<u8> = host.take_out().flatten().collect();
+    term.feed(&frames[..1])?;
+    assert_eq!(term.finish(), truncated);
+    term.feed(&frames[1..])?;
+    assert_eq!(term.finish(), Ok(()));
+    assert_eq!(host.feed(&[23]), Err(Error::Stream(StreamFault::BadKind)));
+    assert_eq!(host.finish(), Err(Error::Stream(StreamFault::BadKind)));
     Ok(())
 }
 
