@@ -457,6 +457,13 @@ SAM_MUST_USE sam_status sam_term_len(sam_term *term, uint16_t tag, uint32_t *run
 /* The runes of an open file from a place on, as many as there are and have room, SAM_GAP for each that is not loaded. */
 SAM_MUST_USE sam_status sam_term_read(sam_term *term, uint16_t tag, uint32_t place, uint32_t *into, size_t room, uint32_t *count);
 
+/* What changed in an open file since this was asked of it last: in the old text `gone` runes or gaps from the place `start` on gave way to
+ * `came` of the new one, and all else is as it was. It is the smallest such stretch that holds what each frame and each event of the user
+ * touched by itself; gone and came are both 0 where none did. Loading touches what is loaded: gone and came are the same there. On the
+ * first call for a file its text was empty before. Asked after each event and after each frame, while no event is held, it hands out each
+ * edit: feed the frames one by one. SAM_NO_MEMORY comes on the first call for a file alone: nothing is handed out then. */
+SAM_MUST_USE sam_status sam_term_changed(sam_term *term, uint16_t tag, uint32_t *start, uint32_t *gone, uint32_t *came);
+
 /* The first place of an open file, at or after `place`, whose rune is not loaded. SAM_NONE also where all are loaded from there on: ask
  * sam_term_is_open to know the two apart. */
 SAM_MUST_USE sam_status sam_term_first_gap(sam_term *term, uint16_t tag, uint32_t place, uint32_t *gap);

@@ -105,6 +105,7 @@ static void no_handles(sam_host *host, sam_term *term)
     WANT(sam_term_current(term, &tag), SAM_NO_HANDLE);
     WANT(sam_term_len(term, 0, &a), SAM_NO_HANDLE);
     WANT(sam_term_read(term, 0, 0, runes, 4, &a), SAM_NO_HANDLE);
+    WANT(sam_term_changed(term, 0, &a, &b, &more), SAM_NO_HANDLE);
     WANT(sam_term_first_gap(term, 0, 0, &a), SAM_NO_HANDLE);
     WANT(sam_term_dot(term, 0, &a, &b), SAM_NO_HANDLE);
     WANT(sam_term_view_of(term, 0, &a, &b), SAM_NO_HANDLE);
@@ -544,7 +545,7 @@ static void not_open(void)
 static void reads_no_file(sam_term *term, uint16_t tag, sam_status known)
 {
     uint8_t bytes[8];
-    uint32_t runes[8], a, b;
+    uint32_t runes[8], a, b, c;
     size_t len;
     bool is = true;
     WANT(sam_term_is_known(term, tag, &is), SAM_OK);
@@ -557,6 +558,7 @@ static void reads_no_file(sam_term *term, uint16_t tag, sam_status known)
     WANT(sam_term_name(term, tag, bytes, sizeof bytes, &len), known);
     WANT(sam_term_len(term, tag, &a), SAM_NONE);
     WANT(sam_term_read(term, tag, 0, runes, 8, &a), SAM_NONE);
+    WANT(sam_term_changed(term, tag, &a, &b, &c), SAM_NONE);
     WANT(sam_term_first_gap(term, tag, 0, &a), SAM_NONE);
     WANT(sam_term_dot(term, tag, &a, &b), SAM_NONE);
     WANT(sam_term_view_of(term, tag, &a, &b), SAM_NONE);
@@ -606,6 +608,63 @@ static void tags_without_a_file(void)
     WANT(sam_host_saved(&host, 1, 0, bytes, sizeof bytes, &len, &more), SAM_NONE);
     WANT(sam_host_saved_len(&host, 1, &a), SAM_NONE);
     WANT(sam_host_dot(&host, 1, &a, &b), SAM_NONE);
+    WANT(sam_term_free(&term), SAM_OK);
+    WANT(sam_host_free(&host), SAM_OK);
+}
+
+static void wants_change(sam_term *term, uint32_t start, uint32_t gone, uint32_t came)
+{
+    uint32_t a = 99, b = 99, c = 99;
+    WANT(sam_term_changed(term, 1, &a, &b, &c), SAM_OK);
+    if (b != 0 || c != 0 || gone != 0 || came != 0) /* where nothing changed, any place is right */
+        WANT(a, start);
+    WANT(b, gone);
+    WANT(c, came);
+}
+
+/* What changes in `one two one\n`, by events and by frames, one at a time and together. */
+static void changes(void)
+{
+    sam_host host = SAM_HOST_INIT;
+    sam_term term = SAM_TERM_INIT;
+    uint16_t tag;
+    WANT(sam_host_new(&host), SAM_OK);
+    WANT(sam_host_add_file(&host, BYTES("a"), BYTES("one two one\n"), &tag), SAM_OK);
+    WANT(sam_term_new(&term), SAM_OK);
+    WANT(sam_term_offer_version(&term, 2), SAM_OK);
+    WANT(sam_term_open(&term, 1), SAM_OK);
+    carry(&term, &host);
+    wants_change(&term, 0, 0, 12); /* twelve gaps came into an empty text */
+    wants_change(&term, 0, 0, 0);
+    WANT(sam_term_view(&term, 1, 4, 3), SAM_OK);
+    wants_change(&term, 0, 0, 0);
+    carry(&term, &host);
+    wants_change(&term, 4, 3, 3); /* `two` is loaded */
+    WANT(sam_term_select(&term, 1, 4, 7), SAM_OK);
+    wants_change(&term, 0, 0, 0);
+    WANT(sam_term_type(&term, 1, BYTES("\xC3\xA9\xC3\xA9")), SAM_OK);
+    wants_change(&term, 4, 3, 2);
+    WANT(sam_term_select(&term, 1, 0, 1), SAM_OK);
+    WANT(sam_term_cut(&term, 1), SAM_OK);
+    WANT(sam_term_select(&term, 1, 10, 10), SAM_OK);
+    WANT(sam_term_type(&term, 1, BYTES("x")), SAM_OK);
+    wants_change(&term, 0, 11, 11);       /* from the first place to the last edit, with what is between */
+    WANT(sam_term_cut(&term, 1), SAM_OK); /* an empty dot: nothing */
+    wants_change(&term, 0, 0, 0);
+    WANT(sam_term_select(&term, 1, 2, 3), SAM_OK);
+    WANT(sam_term_paste(&term, 1), SAM_OK);
+    wants_change(&term, 2, 1, 0); /* the dot is gone, and the host has not answered */
+    carry(&term, &host);
+    wants_change(&term, 2, 0, 1); /* the `o` that was cut comes */
+    WANT(sam_term_open_cmd(&term), SAM_OK);
+    WANT(sam_term_work(&term, 1), SAM_OK);
+    WANT(sam_term_type(&term, 0, BYTES(",d\n")), SAM_OK);
+    carry(&term, &host);
+    same_text(&host, 1, "");
+    wants_change(&term, 0, 11, 0);
+    WANT(sam_term_close(&term, 1), SAM_OK);
+    carry(&term, &host);
+    WANT(sam_term_changed(&term, 1, &(uint32_t){0}, &(uint32_t){0}, &(uint32_t){0}), SAM_NONE);
     WANT(sam_term_free(&term), SAM_OK);
     WANT(sam_host_free(&host), SAM_OK);
 }
@@ -714,6 +773,8 @@ int main(void)
     puts("what the header says of tags and of long lines");
     session();
     puts("a session");
+    changes();
+    puts("changes");
     replaying();
     puts("replays");
     return 0;

@@ -1,6 +1,7 @@
 /*
  * random SEED EVENTS: a host and a terminal in one process, joined by byte pipes that are cut at random places. The user does EVENTS random
- * things; then all is sent until nothing is left, and every loaded rune of the terminal has to be the host's rune there.
+ * things; then all is sent until nothing is left, and every loaded rune of the terminal has to be the host's rune there. On the way a copy
+ * of each text is kept by sam_term_changed alone, and has to be the terminal's.
  * A call that wants memory is made again, so the end is the same whichever request for memory was refused.
  * It prints what it counted, and ends with status 0, or 1 and a line that says what is wrong.
  */
@@ -10,7 +11,7 @@
 #include <stdlib.h>
 #include <string.h>
 
-enum { FILES = 4, PIECE = 64, PART = 512 };
+enum { FILES = 4, PIECE = 64, PART = 512, COPIES = 32, MOST = 1 << 16 };
 
 static sam_host host;
 static sam_term term;
@@ -231,6 +232,46 @@ static unsigned long agree(uint16_t tag, uint32_t len)
     return loaded;
 }
 
+/* A text of an open file as it was when its change was asked for last. */
+struct copy {
+    uint32_t runes[MOST];
+    uint32_t len;
+};
+static struct copy copies[COPIES];
+
+/* Changes the copy of a file by what sam_term_changed hands out, and compares it with the whole text. */
+static void follow(uint16_t tag)
+{
+    static uint32_t now[MOST];
+    struct copy *copy = &copies[tag];
+    uint32_t start = 0, gone = 0, came = 0, len = 0, count = 0;
+    sam_status status;
+    while ((status = sam_term_changed(&term, tag, &start, &gone, &came)) == SAM_NO_MEMORY)
+        again++;
+    if (status == SAM_NONE)
+        return;
+    want("a change", status);
+    want("a length", sam_term_len(&term, tag, &len));
+    if (len > MOST)
+        fail("a text is too long for this test", len);
+    if (start + gone > copy->len || copy->len - gone + came != len)
+        fail("a change doesn't fit", tag);
+    memmove(copy->runes + start + came, copy->runes + start + gone, (copy->len - start - gone) * sizeof *copy->runes);
+    want("what came", sam_term_read(&term, tag, start, copy->runes + start, came, &count));
+    copy->len = len;
+    want("the whole text", sam_term_read(&term, tag, 0, now, MOST, &count));
+    if (count != len || memcmp(now, copy->runes, len * sizeof *now) != 0)
+        fail("a copy that was kept by changes differs", tag);
+}
+
+static void follow_all(void)
+{
+    size_t tags = 0;
+    want("tags", sam_term_tags(&term, &tags));
+    for (uint16_t tag = 0; tag < tags && tag < COPIES; tag++)
+        follow(tag);
+}
+
 /* A file is changed as the terminal has it if and only if it is dirty as the host has it. The command file is never dirty. */
 static void compare_marks(uint16_t tag)
 {
@@ -323,8 +364,11 @@ int main(int argc, char **argv)
         user();
         while (pick(3) != 0 && (pick(2) ? carry_up() : carry_down())) {
         }
+        if (i % 4 == 0)
+            follow_all();
     }
     drain();
+    follow_all();
     compare();
     bool done = true;
     want("done", sam_host_is_done(&host, &done));

@@ -35,7 +35,7 @@ Each call of the library keeps the interpreter's lock, so threads may share a ha
 of your own there. `text`, `saved` and `snarfed` read a long text by several calls: let no other thread change it meanwhile.
 """
 from sulgrevad.scripts import replay
-from sulgrevad.sides import Host, Refusal, Terminal
+from sulgrevad.sides import Change, Host, Refusal, Terminal
 from sulgrevad.status import (
     AddRefused,
     CountFull,
@@ -58,7 +58,7 @@ from sulgrevad.status import (
 __version__ = "0.1.0"
 
 __all__ = [
-    "AddRefused", "CountFull", "HandleFault", "Host", "HostRefused", "Missing", "NoMemory", "NotText", "Refusal", "SamError",
+    "AddRefused", "Change", "CountFull", "HandleFault", "Host", "HostRefused", "Missing", "NoMemory", "NotText", "Refusal", "SamError",
     "ScriptFault", "Status", "StreamFault", "Terminal", "TerminalRefused", "Unfinished", "error_of", "library_version", "replay",
     "status_text",
 ]  # fmt: skip

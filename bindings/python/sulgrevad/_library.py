@@ -28,7 +28,8 @@ _TEXT_FROM = (c_uint32, *_BUFFER, _SIZE, _U32)
 
 # The arguments of each call after the handle.
 SIGNATURES: Dict[str, Tuple[Any, ...]] = {
-    "host_new": (), "host_free": (), "host_add_file": (*_BYTES, *_BYTES, _TAG), "host_feed": _BYTES, "host_finish": (), "host_pending": (_SIZE,),
+    "host_new": (), "host_free": (), "host_add_file": (*_BYTES, *_BYTES, _TAG), "host_feed": _BYTES, "host_finish": (),
+    "host_pending": (_SIZE,),
     "host_take_out": (*_BUFFER, _SIZE), "host_next_written": (_TAG,), "host_is_done": (_BOOL,), "host_taken": (_U64,),
     "host_version": (_TAG,), "host_tags": (_SIZE,), "host_has_file": (c_uint16, _BOOL), "host_name": (c_uint16, *_BUFFER, _SIZE),
     "host_len": (c_uint16, _U32), "host_is_dirty": (c_uint16, _BOOL), "host_text": (c_uint16, *_TEXT_FROM),
@@ -40,11 +41,13 @@ SIGNATURES: Dict[str, Tuple[Any, ...]] = {
     "term_open_cmd": (), "term_new_file": (),
     "term_write": (c_uint16,), "term_close": (c_uint16,), "term_work": (c_uint16,), "term_check": (c_uint16,), "term_get_snarf": (),
     "term_set_snarf": _BYTES, "term_offer_version": (c_uint16,), "term_flush": (), "term_exit": (), "term_feed": _BYTES,
-    "term_finish": (), "term_decided": (_U64,), "term_flush_now": (), "term_pending": (_SIZE,), "term_take_out": (*_BUFFER, _SIZE), "term_next_refusal": (_U64, _U32),
-    "term_events": (_U64,), "term_tags": (_SIZE,), "term_is_known": (c_uint16, _BOOL), "term_name": (c_uint16, *_BUFFER, _SIZE),
+    "term_finish": (), "term_flush_now": (), "term_pending": (_SIZE,), "term_take_out": (*_BUFFER, _SIZE),
+    "term_next_refusal": (_U64, _U32), "term_events": (_U64,), "term_decided": (_U64,),
+    "term_tags": (_SIZE,), "term_is_known": (c_uint16, _BOOL), "term_name": (c_uint16, *_BUFFER, _SIZE),
     "term_is_dirty": (c_uint16, _BOOL), "term_is_changed": (c_uint16, _BOOL), "term_is_open": (c_uint16, _BOOL),
     "term_current": (_TAG,), "term_len": (c_uint16, _U32),
-    "term_read": (c_uint16, c_uint32, *_RUNES, _U32), "term_first_gap": (c_uint16, c_uint32, _U32),
+    "term_read": (c_uint16, c_uint32, *_RUNES, _U32), "term_changed": (c_uint16, _U32, _U32, _U32),
+    "term_first_gap": (c_uint16, c_uint32, _U32),
     "term_dot": (c_uint16, _U32, _U32), "term_view_of": (c_uint16, _U32, _U32), "term_locked": (c_uint16, _BOOL),
     "term_command_locked": (_BOOL,), "term_held": (_U64,), "term_unsent": (_U32,), "term_sent": (_U64,),
     "term_under_way": (_U64,), "term_pattern": (*_BUFFER, _SIZE), "term_snarfed": _TEXT_FROM, "term_snarf_len": (_U32,),

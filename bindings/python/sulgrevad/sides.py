@@ -25,6 +25,14 @@ class Refusal(NamedTuple):
     why: Status
 
 
+class Change(NamedTuple):
+    """A change of a text: from the place `start` on `gone` runes or gaps of the old text gave way to `came` of the new one."""
+
+    start: int
+    gone: int
+    came: int
+
+
 def _least(most: Optional[int], there: int) -> int:
     """The smaller of a wished number, where there is one, and of how many there are. ValueError for one below 0."""
     if most is None:
@@ -414,6 +422,13 @@ class Terminal(_Side):
         into, got = (c_uint32 * room)(), c_uint32()
         self._call("read", tag, place, into, room, byref(got))
         return [None if rune == GAP else chr(rune) for rune in into[: got.value]]
+
+    def changed(self, tag: int) -> Change:
+        """What changed in an open file since this was asked of it last: the smallest stretch that holds what each frame and each event
+        touched, loading included. The first time its text was empty before. Raises Missing, and the first time NoMemory."""
+        start, gone, came = c_uint32(), c_uint32(), c_uint32()
+        self._call("changed", tag, byref(start), byref(gone), byref(came))
+        return Change(start.value, gone.value, came.value)
 
     def first_gap(self, tag: int, place: int = 0) -> Optional[int]:
         """The first place of an open file, there or after it, whose rune is not loaded; None where there is none, or it isn't open."""

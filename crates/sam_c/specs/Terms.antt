@@ -1,10 +1,10 @@
 -- What the calls of a terminal do.
-use Rattle.std.specs.Prelude.{◌≡◌, ◌⊎◌, ℕ, List, [], ◌∷◌, length, Bool, ◌||◌, nat_lt, Option, option_map, Some, None, Result}
+use Rattle.std.specs.Prelude.{◌≡◌, ◌⊎◌, ℕ, List, [], ◌∷◌, length, Bool, true, false, ◌||◌, nat_lt, Option, option_map, Some, None, Result}
 use Rattle.std.specs.Str.{encode_utf8_all, IsUtf8}
 use Rattle.sam_runes.specs.Reading.{AreRunes}
 use Rattle.sam_runes.specs.Slots.{slot}
 use Rattle.sam_rasp.specs.Rasp.{hole_within}
-use Rattle.sam_term.specs.Term.{view_end, window_at, window_of}
+use Rattle.sam_term.specs.Term.{is_open, rasp_at, view_end, window_at, window_of}
 use Rattle.sam_term.specs.declared.event.UserEvent.{UserEvent}
 use Rattle.sam_term.specs.declared.fault.Refusal.{Refusal}
 use Rattle.sam_term.specs.declared.records.KnownFile.{KnownFile}
@@ -12,6 +12,8 @@ use Rattle.sam_term.specs.declared.records.Window.{Window}
 use Rattle.sam_endpoint.specs.declared.fault.EndpointFault.{EndpointFault}
 use Rattle.sam_endpoint.specs.declared.fault.FinishFault.{FinishFault}
 use Rattle.sam_endpoint.specs.declared.fault.TermStop.{TermStop}
+use Rattle.sam_endpoint.specs.declared.changes.Change.{Change}
+use Rattle.sam_endpoint.specs.Changes.{asked, change_of, kept_at}
 use Rattle.sam_endpoint.specs.TermEndpoints.{PlainTermEndpoint, new_term_endpoint, Puts, Feeds, Finishes, Flushes}
 use Rattle.sam_c.specs.Status.{ok, no_memory, is_made, no_handle, not_text, nothing, refusal_status, term_status, term_finish_status}
 use Rattle.sam_c.specs.Calls.{AtHandle}
@@ -67,6 +69,22 @@ FirstRefusal e (refused ∷ rest) before status after g =
 abbrev pub TermNextRefusal : Option PlainTermEndpoint → ℕ × ℕ → ℕ → ℕ × ℕ → Option PlainTermEndpoint → Type 0
 TermNextRefusal None before status after g = (status ≡ no_handle) × (after ≡ before) × (g ≡ None)
 TermNextRefusal (Some e) before status after g = FirstRefusal e e.refusals before status after g
+
+-- a change in three numbers
+abbrev pub numbers : Change → ℕ × ℕ × ℕ
+numbers c = (c.start, c.gone, c.came)
+
+-- the change of an open file's text is handed out, and the next one begins; or memory was refused; of a file that is not open there is none
+abbrev pub HandsChange : PlainTermEndpoint → ℕ → Bool → ℕ × ℕ × ℕ → ℕ → ℕ × ℕ × ℕ → Option PlainTermEndpoint → Type 0
+HandsChange e tag false before status after g = (status ≡ nothing) × (after ≡ before) × (g ≡ Some e)
+HandsChange e tag true before status after g =
+    ((status ≡ ok) × (after ≡ numbers (change_of (kept_at e.kept tag) (length (rasp_at e.term tag))))
+    × (g ≡ Some (record e { kept = asked e.kept tag (length (rasp_at e.term tag)) })))
+    ⊎ ((status ≡ no_memory) × (after ≡ before) × (g ≡ Some e))
+
+abbrev pub TermChanged : Option PlainTermEndpoint → ℕ → ℕ × ℕ × ℕ → ℕ → ℕ × ℕ × ℕ → Option PlainTermEndpoint → Type 0
+TermChanged None tag before status after g = (status ≡ no_handle) × (after ≡ before) × (g ≡ None)
+TermChanged (Some e) tag before status after g = HandsChange e tag (is_open e.term tag) before status after g
 
 -- an edit of the file would wait
 abbrev pub is_held_back : PlainTermEndpoint → ℕ → Bool

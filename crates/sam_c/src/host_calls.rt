@@ -6,7 +6,9 @@ ghost use Rattle.sam_c.specs.Calls.{Reports};
 ghost use Rattle.sam_c.specs.Hosts.{Freed, HostAdded, HostFed, HostFinished, HostMade, HostNextWritten, HostTaken};
 
 use crate::handle::{SamHost, with_end};
-use crate::status::{MADE, NO_HANDLE, NO_MEMORY, NONE, OK, add_status, host_finish_status, host_status};
+use crate::status::{
+    MADE, NO_HANDLE, NO_MEMORY, NONE, OK, add_status, host_finish_status, host_status,
+};
 use sam_endpoint::HostEndpoint;
 use std::alloc::Global;
 

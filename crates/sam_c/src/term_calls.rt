@@ -4,10 +4,12 @@
 ghost use Rattle.std.specs.Prelude.{◌≡◌, length};
 ghost use Rattle.sam_c.specs.Calls.{Reports};
 ghost use Rattle.sam_c.specs.Hosts.{Freed};
-ghost use Rattle.sam_c.specs.Terms.{TermFed, TermFinished, TermIdled, TermMade, TermNextRefusal, TermTaken};
+ghost use Rattle.sam_c.specs.Terms.{TermChanged, TermFed, TermFinished, TermIdled, TermMade, TermNextRefusal, TermTaken};
 
 use crate::handle::{SamTerm, with_end};
-use crate::status::{MADE, NO_HANDLE, NO_MEMORY, NONE, OK, refusal_status, term_finish_status, term_status};
+use crate::status::{
+    MADE, NO_HANDLE, NO_MEMORY, NONE, OK, refusal_status, term_finish_status, term_status,
+};
 use sam_endpoint::TermEndpoint;
 use std::alloc::Global;
 
@@ -137,6 +139,39 @@ pub extern "C" fn sam_term_next_refusal(
             OK
         }
         None => NONE,
+    };
+    term.put(end);
+    status
+}
+
+/// Hands out what changed in the text of an open file since this was asked of it last: in the old text `gone` runes or gaps from the place
+/// `start` on gave way to `came` of the new one, and all else is as it was. On the first call for a file its text was empty before.
+///
+/// Errors, in this order: `SAM_NO_HANDLE`; `SAM_NONE` if the file is not open; `SAM_NO_MEMORY`, on the first call for a file. The terminal
+/// is then as it was.
+#[unsafe(no_mangle)]
+pub extern "C" fn sam_term_changed(
+    term: &mut SamTerm,
+    tag: u16,
+    start: &mut u32,
+    gone: &mut u32,
+    came: &mut u32,
+    alloc: Global,
+) -> u32
+    ensures { TermChanged term.old.held.end tag (start.old, gone.old, came.old) result (start.new, gone.new, came.new) term.new.held.end }
+{
+    let Some(mut end) = term.take(alloc) else {
+        return NO_HANDLE;
+    };
+    let status = match end.changed(tag) {
+        Ok(Some(change)) => {
+            *start = change.start;
+            *gone = change.gone;
+            *came = change.came;
+            OK
+        }
+        Ok(None) => NONE,
+        Err(_) => NO_MEMORY,
     };
     term.put(end);
     status

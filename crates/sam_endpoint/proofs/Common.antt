@@ -3,6 +3,7 @@ pub use Rattle.std.proofs.Common.{Bool, Err, IsTrue, IsUtf8, List, None, Ok, Opt
 pub use Rattle.std.proofs.lemmas.Grind.{common_steps, flat_map-append}
 pub use Rattle.std.proofs.lemmas.List.Elements.{All-cons, All-nil, All-tail}
 pub use Rattle.std.proofs.lemmas.Str.{IsUtf8-from_is_utf8, chars_from_encodes, is_utf8-from_IsUtf8}
+pub use Rattle.sam_endpoint.specs.Changes.{act_touch, frame_touch, kept_acted, kept_after, kept_received, left_by}
 pub use Rattle.sam_endpoint.specs.Drawing.{Copies, Shows, drawn}
 pub use Rattle.sam_endpoint.specs.HostEndpoints.{Answers, Feeds, FeedsAfter, GoesOn, IsIdle, PlainHostEndpoint, Serves, TakesIn, add_checks, with_file, writes_of}
 pub use Rattle.sam_endpoint.specs.HostSteps.{Answer, AnswersFirst, Ends, IsSound, Writes}

@@ -4,6 +4,8 @@ pub mod HostEndpointGoing
 pub mod HostEndpointFiles
 pub mod TermEndpointHeld
 pub mod TermEndpointStamps
+pub mod ChangeLaws
+pub mod TermChanges
 pub mod TermEndpointMoves
 pub mod TermEndpointSteps
 pub mod TermEndpointCalls

@@ -1,6 +1,7 @@
 -- What an end has received, done and written so far grows by its steps.
-use Rattle.sam_endpoint.proofs.Common.{◌≡◌, refl, ap, subst, ◌∙◌, ℕ, ◌+◌, List, [], ◌∷◌, ◌++◌, length, Ok, append_assoc, arith, append-nil, rules, flat_map-append, common_steps, Tmesg, HFrame, terminal, stream_of, PlainTerminal, act_of, take_of, Acted, PlainTermEndpoint, Acts, IsDecided, Moves, last_stamp, oldest, refusals_from, ActsFirst, ReceivesFirst, written}
+use Rattle.sam_endpoint.proofs.Common.{◌≡◌, refl, ap, subst, ◌∙◌, ℕ, ◌+◌, List, [], ◌∷◌, ◌++◌, length, Ok, append_assoc, arith, append-nil, rules, flat_map-append, common_steps, sym, Tmesg, HFrame, act_touch, frame_touch, kept_acted, kept_after, kept_received, left_by, terminal, stream_of, PlainTerminal, act_of, take_of, Acted, PlainTermEndpoint, Acts, IsDecided, Moves, last_stamp, oldest, refusals_from, ActsFirst, ReceivesFirst, written}
 use Rattle.sam_endpoint.specs.TermEndpoints.{Receives}
+use Rattle.sam_endpoint.specs.declared.changes.Kept.{Kept}
 
 receives-more : (t u v : PlainTerminal) (frames : List HFrame) (frame : HFrame) (ms ns : List Tmesg) → Receives t frames ms u
     → take_of u frame ≡ Ok (v, ns) → Receives t (frames ++ frame ∷ []) (ms ++ ns) v
@@ -20,6 +21,25 @@ refusals-more n (a ∷ acts) acted = let moved : n + 1 + length acts ≡ n + len
 last-stamp-more : (before : ℕ) (frames : List HFrame) (frame : HFrame) → last_stamp before (frames ++ frame ∷ []) ≡ frame.seen
 last-stamp-more before [] frame = refl
 last-stamp-more before (f ∷ frames) frame = last-stamp-more f.seen frames frame
+
+-- what is kept after one frame more, and after one event more
+kept_received-more : (t u : PlainTerminal) (frames : List HFrame) (frame : HFrame) (ms : List Tmesg) (ks : List Kept) → Receives t frames ms u
+    → kept_received t (frames ++ frame ∷ []) ks ≡ kept_after (kept_received t frames ks) (frame_touch u frame.msg)
+kept_received-more t u [] frame ms ks (none, same) = ap (λ v. kept_after ks (frame_touch v frame.msg)) (sym same)
+kept_received-more t u (f ∷ frames) frame ms ks (w, first, rest, one, all, more) =
+    let left : left_by t (take_of t f) ≡ w = ap (left_by t) one in
+    let then_ks = kept_after ks (frame_touch t f.msg) in
+    subst (λ v. kept_received v (frames ++ frame ∷ []) then_ks ≡ kept_after (kept_received v frames then_ks) (frame_touch u frame.msg)) (sym left)
+    (kept_received-more w u frames frame rest then_ks more)
+
+kept_acted-more : (t u : PlainTerminal) (acts : List Acted) (acted : Acted) (ks : List Kept) → Acts t acts u
+    → kept_acted t (acts ++ acted ∷ []) ks ≡ kept_after (kept_acted t acts ks) (act_touch u acted)
+kept_acted-more t u [] acted ks same = ap (λ v. kept_after ks (act_touch v acted)) (sym same)
+kept_acted-more t u (a ∷ acts) acted ks (w, one, was, more) =
+    let left : left_by t (act_of t) ≡ w = ap (left_by t) one in
+    let then_ks = kept_after ks (act_touch t a) in
+    subst (λ v. kept_acted v (acts ++ acted ∷ []) then_ks ≡ kept_after (kept_acted v acts then_ks) (act_touch u acted)) (sym left)
+    (kept_acted-more w u acts acted then_ks more)
 
 -- where nothing is unwritten, what is composed next comes behind
 behind : (out base : List ℕ) (left before more : List Tmesg) → left ≡ [] → out ++ stream_of terminal left ≡ base ++ stream_of terminal before
@@ -42,12 +62,13 @@ moves_received e g k frames m none r = grind (
   (append_assoc e.unwritten m.composed r.composed),
   (append-nil (e.unwritten ++ (m.composed ++ r.composed))),
   (last-stamp-more e.seen frames r.frame),
+  (kept_received-more e.term m.middle frames r.frame m.composed e.kept m.receives),
   behind,
 )
 
 pub moves_acted : (e g k : PlainTermEndpoint) (frames : List HFrame) (acts : List Acted) → Moves e frames acts g → g.unwritten ≡ [] → oldest g ≡ oldest e + length acts
     → (a : ActsFirst g k) → Moves e frames (acts ++ a.acted ∷ []) k
-moves_acted e g k frames acts m none number a = search (rules, common_steps, acts-more, refusals-more)
+moves_acted e g k frames acts m none number a = search (rules, common_steps, acts-more, refusals-more, (kept_acted-more m.middle g.term acts a.acted (kept_received e.term frames e.kept) m.acted))
 
 -- frames are received, and then events act
 pub moves_both : (e m g : PlainTermEndpoint) (frames : List HFrame) (acts : List Acted) → Moves e frames [] m → m.unwritten ≡ [] → oldest m ≡ oldest e → Moves m [] acts g → Moves e frames acts g

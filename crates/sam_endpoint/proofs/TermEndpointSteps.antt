@@ -1,5 +1,5 @@
 -- One step of a terminal end: what holds of the end after it.
-use Rattle.sam_endpoint.proofs.Common.{◌≡◌, sym, subst, ℕ, ◌-◌, ◌≤◌, false, List, [], ◌∷◌, ◌++◌, length, drop, Option, Some, None, Ok, Err, arith, slice_get, IsTrue, All-tail, fits_h, HFrame, Tmesg, host, Held, composed_in, PlainTerminal, act_of, take_of, Acted, StreamFault, TermStop, EndpointFault, FitFrames, Gives, PlainTermEndpoint, IsDecided, oldest, refusals_from, ActsFirst, Receives, Tries, stopped_by, All-nil, FitInTurn}
+use Rattle.sam_endpoint.proofs.Common.{◌≡◌, sym, subst, ℕ, ◌-◌, ◌≤◌, false, List, [], ◌∷◌, ◌++◌, length, drop, Option, Some, None, Ok, Err, arith, slice_get, IsTrue, All-tail, fits_h, HFrame, Tmesg, host, Held, composed_in, PlainTerminal, act_of, take_of, Acted, StreamFault, TermStop, EndpointFault, FitFrames, Gives, PlainTermEndpoint, act_touch, kept_after, IsDecided, oldest, refusals_from, ActsFirst, Receives, Tries, stopped_by, All-nil, FitInTurn}
 use Rattle.sam_endpoint.specs.TermSteps.{IsSound}
 use Rattle.sam_endpoint.proofs.TermEndpointHeld.{act_held, take_held}
 use Rattle.sam_endpoint.proofs.TermEndpointStamps.{act_counts}
@@ -24,7 +24,7 @@ pub settled_counted : (e : PlainTermEndpoint) (u : PlainTerminal) (acted : Acted
 settled_counted e u acted s act settled = omega (arith, act_held e.term u acted act settled, s.counted)
 
 pub acted_first : (e g : PlainTermEndpoint) (u : PlainTerminal) (acted : Acted) → IsSound e → act_of e.term ≡ Ok (u, acted) → IsDecided acted
-    → g ≡ record e { term = u; unwritten = composed_in acted; refusals = e.refusals ++ refusals_from (oldest e) (acted ∷ []) } → ActsFirst e g
+    → g ≡ record e { term = u; unwritten = composed_in acted; refusals = e.refusals ++ refusals_from (oldest e) (acted ∷ []); kept = kept_after e.kept (act_touch e.term acted) } → ActsFirst e g
 acted_first e g u acted s act settled same = grind (arith, act_held)
 
 -- the number of an event that is refused, as it is counted

@@ -1,12 +1,12 @@
 -- A terminal behind a stream of bytes each way, and what its calls do.
-use Rattle.std.specs.Prelude.{◌≡◌, ℕ, ◌+◌, ◌-◌, ◌^◌, ◌<◌, ◌≤◌, ◌⊎◌, List, [], ◌∷◌, ◌++◌, length, flat_map, Option, Some, None, Result, Ok, Err}
+use Rattle.std.specs.Prelude.{◌≡◌, ℕ, ◌+◌, ◌-◌, ◌^◌, ◌<◌, ◌≤◌, ◌⊎◌, List, [], ◌∷◌, ◌++◌, length, flat_map, true, false, Option, Some, None, Result, Ok, Err}
 use Rattle.sam_mesg.specs.declared.tmesg.Tmesg.{Tmesg}
 use Rattle.sam_mesg.specs.declared.hmesg.HFrame.{HFrame}
 use Rattle.sam_frame.specs.Direction.{host, terminal}
 use Rattle.sam_frame.specs.Stream.{stream_of}
 use Rattle.sam_frame.specs.Framing.{Held, fresh}
 use Rattle.sam_term.specs.Fitting.{composed_in}
-use Rattle.sam_term.specs.Term.{PlainTerminal, new_terminal, act_of, flush_of, take_of}
+use Rattle.sam_term.specs.Term.{PlainTerminal, new_terminal, act_of, flush_of, is_open, rasp_at, take_of}
 use Rattle.sam_term.specs.declared.event.Acted.{Acted}
 use Rattle.sam_term.specs.declared.event.Acted.TheVariants.{Idle, Locked, Done, Refused}
 use Rattle.sam_term.specs.declared.fault.Refusal.{Refusal}
@@ -20,6 +20,9 @@ use Rattle.sam_endpoint.specs.declared.fault.EndpointFault.TheVariants as fault
 use Rattle.sam_endpoint.specs.declared.fault.FinishFault.{FinishFault}
 use Rattle.sam_endpoint.specs.declared.fault.FinishFault.TheVariants as ending
 use Rattle.sam_endpoint.specs.declared.term_endpoint.TermEndpoint.TheInside.{Inside}
+use Rattle.sam_endpoint.specs.declared.changes.Change.{Change}
+use Rattle.sam_endpoint.specs.declared.changes.Kept.{Kept}
+use Rattle.sam_endpoint.specs.Changes.{asked, change_of, kept_acted, kept_at, kept_received}
 use Rattle.sam_endpoint.specs.Streams.{Gives}
 
 pub record PlainTermEndpoint : Type 0 where
@@ -32,6 +35,7 @@ pub record PlainTermEndpoint : Type 0 where
   pub seen : ℕ  -- the stamp of the last frame that was received: how many messages the host had taken; 0 before the first
   pub events : ℕ  -- how many events the user made
   pub refusals : List (ℕ × Refusal)  -- the events that were refused and not asked for yet, each by its number, the first being 1
+  pub kept : List Kept  -- how much of each text is as it was when its change was asked for last, by the file's tag
   pub stop : Option TermStop  -- why it has stopped for good
 
 -- the end as contracts see it
@@ -47,6 +51,7 @@ shown a =
       seen = a.seen;
       events = a.events;
       refusals = a.refusals.items;
+      kept = a.changes;
       stop = a.stop;
     }
 
@@ -62,6 +67,7 @@ new_term_endpoint =
       seen = 0;
       events = 0;
       refusals = [];
+      kept = [];
       stop = None;
     }
 
@@ -124,6 +130,7 @@ pub record Moves (e : PlainTermEndpoint) (frames : List HFrame) (acts : List Act
   pub bytes : g.pending_bytes ++ stream_of terminal g.unwritten ≡ e.pending_bytes ++ stream_of terminal (e.unwritten ++ composed ++ composed_by acts)
   pub refusals : g.refusals ≡ e.refusals ++ refusals_from (oldest e) acts
   pub seen : g.seen ≡ last_stamp e.seen frames
+  pub kept : g.kept ≡ kept_acted middle acts (kept_received e.term frames e.kept)
   pub framer : g.framer ≡ e.framer
   pub events : g.events ≡ e.events
   pub behind : g.behind ≡ e.behind
@@ -212,6 +219,16 @@ Puts e event result g = Calls e result g (λ middle. PutsIdle middle event resul
 
 abbrev pub Flushes : PlainTermEndpoint → Result (Unit {0}) (EndpointFault TermStop) → PlainTermEndpoint → Type 0
 Flushes e result g = Calls e result g (λ middle. FlushesIdle middle result g)
+
+-- ## What changed in a text
+
+-- the change of an open file's text since this was asked last, and from now on; or it is not open; or memory was refused
+abbrev pub Asks : {E : Type 0} → PlainTermEndpoint → ℕ → Result (Option Change) E → PlainTermEndpoint → Type 0
+Asks e tag (Ok (Some change)) g =
+    (is_open e.term tag ≡ true) × (change ≡ change_of (kept_at e.kept tag) (length (rasp_at e.term tag)))
+    × (g ≡ record e { kept = asked e.kept tag (length (rasp_at e.term tag)) })
+Asks e tag (Ok None) g = (is_open e.term tag ≡ false) × (g ≡ e)
+Asks e tag (Err why) g = (is_open e.term tag ≡ true) × (g ≡ e)
 
 -- ## The end of the stream
 

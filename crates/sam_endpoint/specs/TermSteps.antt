@@ -14,6 +14,7 @@ use Rattle.sam_endpoint.specs.declared.fault.TermStop.TheVariants as stop
 use Rattle.sam_endpoint.specs.declared.fault.EndpointFault.{EndpointFault}
 use Rattle.sam_endpoint.specs.declared.fault.EndpointFault.TheVariants as fault
 use Rattle.sam_term.specs.declared.fault.TermFault.TheVariants as refusal
+use Rattle.sam_endpoint.specs.Changes.{act_touch, frame_touch, kept_after}
 use Rattle.sam_endpoint.specs.Streams.{FitFrames, FitMessages}
 use Rattle.sam_endpoint.specs.TermEndpoints.{PlainTermEndpoint, GoesOn, IsIdle, IsQuiet, IsDecided, Moves, TakesIn, oldest, refusals_from, with_event}
 
@@ -74,7 +75,13 @@ pub record ReceivesFirst (e : PlainTermEndpoint) (g : PlainTermEndpoint) : Type 
   pub composed : List Tmesg
   pub waited : e.waiting ≡ frame ∷ rest
   pub taken : take_of e.term frame ≡ Ok (term, composed)
-  pub after : g ≡ record e { term = term; waiting = rest; unwritten = composed; seen = frame.seen }
+  pub after : g ≡ record e {
+    term = term;
+    waiting = rest;
+    unwritten = composed;
+    seen = frame.seen;
+    kept = kept_after e.kept (frame_touch e.term frame.msg);
+  }
 
 -- it is received, or none waits, or all stays, or the terminal refuses it
 abbrev pub Receives : PlainTermEndpoint → Result Bool (EndpointFault TermStop) → PlainTermEndpoint → Type 0
@@ -94,7 +101,12 @@ pub record ActsFirst (e : PlainTermEndpoint) (g : PlainTermEndpoint) : Type 0 wh
   pub acted : Acted
   pub acts : act_of e.term ≡ Ok (term, acted)
   pub decided : IsDecided acted
-  pub after : g ≡ record e { term = term; unwritten = composed_in acted; refusals = e.refusals ++ refusals_from (oldest e) (acted ∷ []) }
+  pub after : g ≡ record e {
+    term = term;
+    unwritten = composed_in acted;
+    refusals = e.refusals ++ refusals_from (oldest e) (acted ∷ []);
+    kept = kept_after e.kept (act_touch e.term acted);
+  }
   pub next : oldest g ≡ oldest e + 1
   pub fewer : length g.term.held + 1 ≡ length e.term.held
 

@@ -1,5 +1,6 @@
 //! What holds of every run of an end, stated by the clauses of functions that do nothing.
 
+ghost use Rattle.sam_endpoint.specs.Changes.{ActsKeep, AskingBegins, FlushesKeep, FramesKeep, KeptTellsChange, UnaskedIsKept};
 ghost use Rattle.sam_endpoint.specs.HostRuns.{OneOutcome, RunsServe};
 
 use sam_frame::one_reading_t;
@@ -19,3 +20,14 @@ pub fn host_one_outcome()
 {
     one_reading_t();
 }
+
+/// States what `TermEndpoint::changed` hands out. So much of a text as is kept stands in it as it stood when that was asked last: it is so
+/// when it is asked, it stays so at each frame, event and flush, and so all else is the change.
+pub fn changes_hold()
+    ensures begins { AskingBegins }
+    ensures unasked { UnaskedIsKept }
+    ensures frames { FramesKeep }
+    ensures acts { ActsKeep }
+    ensures flushes { FlushesKeep }
+    ensures change { KeptTellsChange }
+{}

@@ -3,6 +3,7 @@
 //! puts an event or flushes.
 #![tactic(auto)]
 
+mod changes;
 mod drawing;
 mod fault;
 mod host_endpoint;
@@ -11,6 +12,7 @@ pub mod laws;
 mod pending_bytes;
 mod term_endpoint;
 
+pub use changes::{Change, Changes, Kept, Touch};
 pub use drawing::{GAP, read_rasp};
 pub use fault::{AddFault, EndpointFault, FinishFault, HostStop, StreamFault, TermStop};
 pub use host_endpoint::HostEndpoint;

@@ -1,19 +1,20 @@
 //! A terminal behind a stream of bytes each way.
 
 ghost use Rattle.std.specs.Prelude.{◌≡◌, ◌↔◌, IfOk, IsTrue, None, [], ◌≤◌, drop, length, min, option_copied, take, slice_get, ◌++◌};
-ghost use Rattle.sam_endpoint.specs.TermEndpoints.{Feeds, Finishes, Flushes, GoesOn, IsIdle, Puts, decided, new_term_endpoint, under_way};
+ghost use Rattle.sam_endpoint.specs.TermEndpoints.{Asks, Feeds, Finishes, Flushes, GoesOn, IsIdle, Puts, decided, new_term_endpoint, under_way};
 ghost use Rattle.sam_endpoint.specs.TermSteps.{Acts, ActsAll, Composes, Gains, Holds, Receives, ReceivesAll, Resumes, Tries, Writes, end_fault, stopped_by};
 ghost use Rattle.sam_mesg.specs.HostKinds.{fits_h};
 ghost use Rattle.sam_term.specs.Fitting.{AllFit, composed_in};
 ghost use Rattle.sam_term.specs.Term.{act_of, flush_of, take_of};
 
+use crate::changes::{Change, Changes, frame_touch, len_if_open, oldest_touch};
 use crate::fault::{EndpointFault, FinishFault, StreamFault, TermStop};
 use crate::incoming::{drop_first, feed_framer};
 use crate::pending_bytes::PendingBytes;
 use sam_frame::FramerH;
 use sam_mesg::{Batch, HFrame, Tmesg};
 use sam_term::{Acted, Refusal, TermFault, Terminal, UserEvent};
-use std::alloc::Global;
+use std::alloc::{AllocError, Global};
 use std::collections::VecDeque;
 use std::marker::Model;
 
@@ -54,6 +55,8 @@ pub struct TermEndpoint {
     events: u64,
     /// The events that were refused and `next_refusal` has not handed out, the oldest first: the number of each, from 1, and why.
     refusals: VecDeque<(u64, Refusal)>,
+    /// How much of each text is as it was when `changed` was asked of it last.
+    changes: Changes,
     /// Why the end has stopped for good; `None` while it goes on.
     stop: Option<TermStop>,
 }
@@ -86,6 +89,7 @@ impl TermEndpoint {
             seen: 0,
             events: 0,
             refusals: VecDeque::new(alloc),
+            changes: Changes::new(alloc),
             stop: None,
         }
     }
@@ -124,11 +128,13 @@ impl TermEndpoint {
             return Ok(false);
         };
         let stamp = frame.seen;
+        let touch = frame_touch(&self.term, &frame.msg);
         match receive_copy(&mut self.term, frame, self.alloc) {
             Ok(composed) => {
                 drop_first(&mut self.waiting);
                 self.unwritten = composed.into_vec();
                 self.seen = stamp;
+                self.changes.note(touch);
                 Ok(true)
             }
             Err(fault) => Err(self.stop_by(fault)),
@@ -143,11 +149,13 @@ impl TermEndpoint {
         if self.refusals.reserve(1).is_err() {
             return Err(EndpointFault::Unfinished);
         }
+        let touch = oldest_touch(&self.term);
         match act_now(&mut self.term) {
             Ok(Acted::Idle) => Ok(false),
             Ok(Acted::Locked) => Ok(false),
             Ok(Acted::Done(composed)) => {
                 self.unwritten = composed.into_vec();
+                self.changes.note(touch);
                 Ok(true)
             }
             Ok(Acted::Refused(why)) => {
@@ -349,6 +357,24 @@ impl TermEndpoint {
         ensures rest { self.new ≡ record self.old { refusals = drop 1 self.old.refusals } }
     {
         self.refusals.pop_front()
+    }
+
+    /// Returns the smallest stretch of an open file's text that is known to have changed since this was asked of it last: on the first
+    /// call the text was empty before. Loaded runes count as changed. `None` if the file is not open. Its only error is want of memory,
+    /// on the first call for a tag; the end is then as it was.
+    ///
+    /// Each frame and each event narrows what stays by its own range, so a caller that asks after each of them gets each edit. The cost is
+    /// constant.
+    pub fn changed(&mut self, tag: u16) -> Result<Option<Change>, AllocError>
+        ensures { Asks self.old tag result self.new }
+    {
+        let Some(len) = len_if_open(&self.term, tag) else {
+            return Ok(None);
+        };
+        match self.changes.ask(tag, len) {
+            Ok(change) => Ok(Some(change)),
+            Err(why) => Err(why),
+        }
     }
 
     /// Returns the terminal, to be read and drawn.

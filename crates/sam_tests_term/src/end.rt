@@ -1,5 +1,5 @@
 //! A terminal behind two streams of bytes: each public call on its way to the right end. The bytes are those of docs/PROTOCOL.md.
-use sam_endpoint::TermEndpoint;
+use sam_endpoint::{Change, FinishFault, TermEndpoint};
 use sam_runes::Runes;
 use sam_term::event::UserEvent;
 use sam_term::fault::Refusal;
@@ -132,4 +132,58 @@ fn refused_frame_leaves_the_stamp(rt: HostRuntime) {
         )
     });
     assert_eq!(rt; told, (true, false, true));
+}
+
+/// What changed in the text of file 1 since this was asked last.
+fn changed(end: &mut TermEndpoint) -> Option<Change> {
+    match end.changed(1) {
+        Ok(change) => change,
+        Err(_) => None,
+    }
+}
+
+/// A change, as it is handed out.
+fn change(start: u32, gone: u32, came: u32) -> Option<Change> {
+    Some(Change { start, gone, came })
+}
+
+#[test]
+fn changes_are_told_since_the_last_question(rt: HostRuntime) {
+    let alloc = rt.alloc();
+    // Hnewname, Hbindname and Hgrow of file 1, with five runes; Hdata of two of them; Hcut of the first.
+    let opening = [
+        68, 0, 10, 0, 0, 0, 0, 0, 0, 0, 0, 0, 1, 66, 0, 10, 0, 0, 0, 0, 0, 0, 0, 0, 0, 1, 70, 0,
+        18, 0, 0, 0, 0, 0, 0, 0, 0, 0, 1, 0, 0, 0, 0, 0, 0, 0, 5,
+    ];
+    let loaded = [73, 0, 16, 0, 0, 0, 0, 0, 0, 0, 0, 0, 1, 0, 0, 0, 2, 99, 100];
+    let cut = [
+        81, 0, 18, 0, 0, 0, 0, 0, 0, 0, 0, 0, 1, 0, 0, 0, 0, 0, 0, 0, 1,
+    ];
+    let told = lent(TermEndpoint::new(alloc), |end| {
+        (
+            changed(end) == None,
+            feeds(end, &opening) && changed(end) == change(0, 0, 5),
+            feeds(end, &loaded) && changed(end) == change(2, 2, 2),
+            types(alloc, end, 1, "ab") && feeds(end, &cut) && changed(end) == change(0, 0, 1),
+            puts(end, UserEvent::Select(1, 4, 6))
+                && puts(end, UserEvent::Cut(1))
+                && changed(end) == change(4, 2, 0),
+        )
+    });
+    assert_eq!(rt; told, (true, true, true, true, true));
+}
+
+#[test]
+fn a_stream_may_end_between_two_frames(rt: HostRuntime) {
+    let told = lent(TermEndpoint::new(rt.alloc()), |end| {
+        (
+            end.finish() == Ok(()),
+            puts(end, UserEvent::Version(2)) && puts(end, UserEvent::OpenCmd),
+            (end.events(), end.decided()),
+            feeds(end, &[72, 0, 8, 0]) && end.finish() == Err(FinishFault::Truncated),
+            feeds(end, &[0, 0, 0, 0, 0, 0, 1]) && end.finish() == Ok(()),
+            end.decided(),
+        )
+    });
+    assert_eq!(rt; told, (true, true, (2, 1), true, true, 2));
 }

@@ -1,6 +1,6 @@
 //! A host behind a stream of bytes: its answers are those of the table at the end of docs/PROTOCOL.md.
 
-use sam_endpoint::{AddFault, EndpointFault, HostEndpoint, HostStop, StreamFault};
+use sam_endpoint::{AddFault, EndpointFault, FinishFault, HostEndpoint, HostStop, StreamFault};
 use sam_host::HostFault;
 use sam_test_support::lent;
 use std::alloc::{AllocError, Global};
@@ -89,6 +89,22 @@ fn a_stream_is_answered(rt: HostRuntime) -> Result<(), Fail> {
         )
     });
     assert_eq!(rt; told, (true, Ok(()), true, Ok(true), 4));
+    Ok(())
+}
+
+#[test]
+fn a_stream_may_end_between_two_messages(rt: HostRuntime) -> Result<(), Fail> {
+    let told = lent(HostEndpoint::new(rt.alloc())?, |end| {
+        (
+            end.finish() == Ok(()),
+            // Tversion, in two pieces.
+            feeds(end, &[1, 0, 2, 0]),
+            end.finish() == Err(FinishFault::Truncated),
+            feeds(end, &[2]),
+            end.finish() == Ok(()),
+        )
+    });
+    assert_eq!(rt; told, (true, Ok(()), true, Ok(()), true));
     Ok(())
 }
 

@@ -174,6 +174,7 @@ extern "C" {
     pub fn sam_term_current(term: *mut sam_term, tag: *mut u16) -> sam_status;
     pub fn sam_term_len(term: *mut sam_term, tag: u16, runes: *mut u32) -> sam_status;
     pub fn sam_term_read(term: *mut sam_term, tag: u16, place: u32, into: *mut u32, room: usize, count: *mut u32) -> sam_status;
+    pub fn sam_term_changed(term: *mut sam_term, tag: u16, start: *mut u32, gone: *mut u32, came: *mut u32) -> sam_status;
     pub fn sam_term_first_gap(term: *mut sam_term, tag: u16, place: u32, gap: *mut u32) -> sam_status;
     pub fn sam_term_dot(term: *mut sam_term, tag: u16, start: *mut u32, end: *mut u32) -> sam_status;
     pub fn sam_term_view_of(term: *mut sam_term, tag: u16, start: *mut u32, end: *mut u32) -> sam_status;
@@ -184,14 +185,7 @@ extern "C" {
     pub fn sam_term_sent(term: *mut sam_term, messages: *mut u64) -> sam_status;
     pub fn sam_term_under_way(term: *mut sam_term, messages: *mut u64) -> sam_status;
     pub fn sam_term_pattern(term: *mut sam_term, into: *mut u8, room: usize, len: *mut usize) -> sam_status;
-    pub fn sam_term_snarfed(
-        term: *mut sam_term,
-        place: u32,
-        into: *mut u8,
-        room: usize,
-        bytes: *mut usize,
-        runes: *mut u32,
-    ) -> sam_status;
+    pub fn sam_term_snarfed(term: *mut sam_term, place: u32, into: *mut u8, room: usize, bytes: *mut usize, runes: *mut u32) -> sam_status;
     pub fn sam_term_snarf_len(term: *mut sam_term, runes: *mut u32) -> sam_status;
     pub fn sam_term_exited(term: *mut sam_term, exited: *mut bool) -> sam_status;
     pub fn sam_term_version(term: *mut sam_term, version: *mut u16) -> sam_status;

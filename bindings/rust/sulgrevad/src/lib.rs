@@ -39,7 +39,7 @@ mod terminal;
 pub use error::{Error, HostFault, Refusal, StreamFault, TermFault};
 pub use host::Host;
 pub use script::replay;
-pub use terminal::Terminal;
+pub use terminal::{Change, Terminal};
 
 use std::ffi::CStr;
 use sulgrevad_sys as sys;

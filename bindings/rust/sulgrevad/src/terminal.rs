@@ -7,6 +7,17 @@ use sulgrevad_sys::{self as sys, sam_term};
 /// What `read` hands out for a rune that is not loaded.
 const GAP: u32 = sys::SAM_GAP;
 
+/// A change of a text: from the place `start` on `gone` runes or gaps of the old text gave way to `came` of the new one.
+#[derive(Clone, Copy, Debug, PartialEq, Eq)]
+pub struct Change {
+    /// The place, which is the same in both texts.
+    pub start: u32,
+    /// How many runes or gaps went.
+    pub gone: u32,
+    /// How many came.
+    pub came: u32,
+}
+
 /// A terminal. It is dropped with what is pending.
 ///
 /// Each event acts at once where it can, or is held until the locks that it waits for are free and the events before it have acted; each
@@ -206,6 +217,17 @@ impl Terminal {
             .into_iter()
             .map(|rune| if rune == GAP { None } else { char::from_u32(rune) })
             .collect()
+    }
+
+    /// What changed in an open file since this was asked of it last: the smallest stretch that holds what each frame and each event touched,
+    /// loading included. The first time its text was empty before. `None` where it is not open; the only error is `NoMemory`, the first
+    /// time.
+    pub fn changed(&mut self, tag: u16) -> Result<Option<Change>, Error> {
+        let (mut start, mut gone, mut came) = (0, 0, 0);
+        match unsafe { sys::sam_term_changed(self.at(), tag, &mut start, &mut gone, &mut came) } {
+            sys::SAM_NONE => Ok(None),
+            status => done(status).map(|()| Some(Change { start, gone, came })),
+        }
     }
 
     /// How many events were taken.

@@ -1,6 +1,6 @@
 //! A session over the two ends: crossing edits wait, and both ends agree.
 
-use sulgrevad::{Error, Host, Refusal, StreamFault, Terminal};
+use sulgrevad::{Change, Error, Host, Refusal, StreamFault, Terminal};
 
 /// Carries bytes both ways, cut into pieces, until neither side has any.
 fn carry(term: &mut Terminal, host: &mut Host) -> Result<(), Error> {
@@ -72,6 +72,26 @@ fn gaps_are_told_and_fill() -> Result<(), Error> {
     assert_eq!(term.read(file, 2, usize::MAX), vec![Some('e'), Some('\n')]);
     assert_eq!(term.read(file, 5, 1), vec![]);
     assert_eq!(term.read(file + 1, 0, usize::MAX), vec![]);
+    Ok(())
+}
+
+#[test]
+fn what_changed_is_handed_out() -> Result<(), Error> {
+    let change = |start, gone, came| Ok(Some(Change { start, gone, came }));
+    let (mut host, mut term, file) = opened("one two\n")?;
+    assert_eq!(term.changed(file), change(0, 0, 8));
+    term.view(file, 0, 3)?;
+    carry(&mut term, &mut host)?;
+    assert_eq!(term.changed(file), change(0, 3, 3)); // three runes are loaded
+    term.select(file, 4, 7)?;
+    term.type_(file, "é")?;
+    assert_eq!(term.changed(file), change(4, 3, 1));
+    term.select(file, 0, 1)?;
+    term.cut(file)?;
+    term.select(file, 3, 3)?;
+    term.type_(file, "x")?;
+    assert_eq!(term.changed(file), change(0, 4, 4)); // with what is between
+    assert_eq!(term.changed(file + 1), Ok(None));
     Ok(())
 }
 

@@ -58,10 +58,10 @@ returns-in-Ok-Done c =
     let e : PlainTermEndpoint = shown c.self.inside in
     let u = c.act_now.new.term in
     let act : act_of c.self.inside.term ≡ Ok (u, Done c.in-Ok-Done.composed) = subst (λ a. act_of c.self.inside.term ≡ Ok (u, a)) c.in-Ok-Done.field-0-is c.in-Ok-Done.ensures.tries in
-    let g : PlainTermEndpoint = record e { term = u; unwritten = c.into_vec.result.items; refusals = c.reserve.new.self.items } in
+    let g : PlainTermEndpoint = record e { term = u; unwritten = c.into_vec.result.items; refusals = c.reserve.new.self.items; kept = c.note.new.self } in
     subst (λ (x : PlainTermEndpoint). ActsFirst x g) c.self.view_is
     (acted_first e g u (Done c.in-Ok-Done.composed) c.self.invariant act tt
-    (grind (arith, c.into_vec.ensures, c.reserve.ensures.items, append-nil)))
+    (grind (arith, c.into_vec.ensures, c.reserve.ensures.items, c.note.ensures, c.oldest_touch-touch.ensures, append-nil)))
 
 pub returns-in-Ok-Refused : goal.returns-in-Ok-Refused
 returns-in-Ok-Refused c =

@@ -18,7 +18,7 @@ returns-in-Ok c =
     let e : PlainTermEndpoint = shown c.self.inside in
     let frame = c.in-Some.frame.now in
     let u = c.receive_copy.new.term in
-    let g : PlainTermEndpoint = record e { term = u; waiting = c.drop_first.new.waiting.items; unwritten = c.into_vec.result.items; seen = frame.seen } in
+    let g : PlainTermEndpoint = record e { term = u; waiting = c.drop_first.new.waiting.items; unwritten = c.into_vec.result.items; seen = frame.seen; kept = c.note.new.self } in
     subst (λ (x : PlainTermEndpoint). ReceivesFirst x g) c.self.view_is (record {
       frame = frame;
       rest = drop 1 c.self.inside.waiting.items;
@@ -26,7 +26,7 @@ returns-in-Ok c =
       composed = c.in-Ok.composed;
       waited = first_read c.self.inside.waiting.items frame (sym c.first_frame.ensures ∙ ap (λ o. option_copied o) c.in-Some.is);
       taken = c.in-Ok.ensures.tries;
-      after = grind (arith, c.drop_first.ensures, c.into_vec.ensures);
+      after = grind (arith, c.drop_first.ensures, c.into_vec.ensures, c.note.ensures, c.frame_touch-touch.ensures);
     })
 
 pub returns-in-Err : goal.returns-in-Err
