@@ -457,6 +457,24 @@ SAM_MUST_USE sam_status sam_term_len(sam_term *term, uint16_t tag, uint32_t *run
 /* The runes of an open file from a place on, as many as there are and have room, SAM_GAP for each that is not loaded. */
 SAM_MUST_USE sam_status sam_term_read(sam_term *term, uint16_t tag, uint32_t place, uint32_t *into, size_t room, uint32_t *count);
 
+/* The text of an open file from a place on, up to the first rune that is not loaded, in UTF-8: as many whole runes as have room. Hands out
+ * how many bytes and how many runes; none where that rune or the end is at the place, or where the buffer has less room than one rune
+ * wants. */
+SAM_MUST_USE sam_status sam_term_text(sam_term *term, uint16_t tag, uint32_t place, uint8_t *into, size_t room, size_t *bytes,
+                                      uint32_t *runes);
+
+/* How many bytes the loaded runes of an open file from the place `start` to the place `end` take in UTF-8, and how many of its runes there
+ * are not loaded. What is after the end of the text counts as nothing, and so does all where `end` is not after `start`. */
+SAM_MUST_USE sam_status sam_term_bytes(sam_term *term, uint16_t tag, uint32_t start, uint32_t end, size_t *bytes, uint32_t *gaps);
+
+/* The place after the loaded runes of an open file from the place `start` on that `bytes` bytes of UTF-8 hold whole: a gap or the end of
+ * the text is the last place that it hands out. It is `start` where that is after the end. */
+SAM_MUST_USE sam_status sam_term_place(sam_term *term, uint16_t tag, uint32_t start, size_t bytes, uint32_t *place);
+
+/* The place after that many line ends (U+000A) of an open file from the place `start` on, where a line begins. SAM_NONE also where a gap or
+ * the end of the text comes before. These four cost by the runes from `start` on that they look at, and not by those before it. */
+SAM_MUST_USE sam_status sam_term_line(sam_term *term, uint16_t tag, uint32_t start, uint32_t lines, uint32_t *place);
+
 /* What changed in an open file since this was asked of it last: in the old text `gone` runes or gaps from the place `start` on gave way to
  * `came` of the new one, and all else is as it was. It is the smallest such stretch that holds what each frame and each event of the user
  * touched by itself; gone and came are both 0 where none did. Loading touches what is loaded: gone and came are the same there. On the

@@ -105,6 +105,10 @@ static void no_handles(sam_host *host, sam_term *term)
     WANT(sam_term_current(term, &tag), SAM_NO_HANDLE);
     WANT(sam_term_len(term, 0, &a), SAM_NO_HANDLE);
     WANT(sam_term_read(term, 0, 0, runes, 4, &a), SAM_NO_HANDLE);
+    WANT(sam_term_text(term, 0, 0, buffer, sizeof buffer, &len, &more), SAM_NO_HANDLE);
+    WANT(sam_term_bytes(term, 0, 0, 1, &len, &a), SAM_NO_HANDLE);
+    WANT(sam_term_place(term, 0, 0, 1, &a), SAM_NO_HANDLE);
+    WANT(sam_term_line(term, 0, 0, 1, &a), SAM_NO_HANDLE);
     WANT(sam_term_changed(term, 0, &a, &b, &more), SAM_NO_HANDLE);
     WANT(sam_term_first_gap(term, 0, 0, &a), SAM_NO_HANDLE);
     WANT(sam_term_dot(term, 0, &a, &b), SAM_NO_HANDLE);
@@ -558,6 +562,10 @@ static void reads_no_file(sam_term *term, uint16_t tag, sam_status known)
     WANT(sam_term_name(term, tag, bytes, sizeof bytes, &len), known);
     WANT(sam_term_len(term, tag, &a), SAM_NONE);
     WANT(sam_term_read(term, tag, 0, runes, 8, &a), SAM_NONE);
+    WANT(sam_term_text(term, tag, 0, bytes, sizeof bytes, &len, &a), SAM_NONE);
+    WANT(sam_term_bytes(term, tag, 0, 1, &len, &a), SAM_NONE);
+    WANT(sam_term_place(term, tag, 0, 1, &a), SAM_NONE);
+    WANT(sam_term_line(term, tag, 0, 0, &a), SAM_NONE);
     WANT(sam_term_changed(term, tag, &a, &b, &c), SAM_NONE);
     WANT(sam_term_first_gap(term, tag, 0, &a), SAM_NONE);
     WANT(sam_term_dot(term, tag, &a, &b), SAM_NONE);
@@ -608,6 +616,95 @@ static void tags_without_a_file(void)
     WANT(sam_host_saved(&host, 1, 0, bytes, sizeof bytes, &len, &more), SAM_NONE);
     WANT(sam_host_saved_len(&host, 1, &a), SAM_NONE);
     WANT(sam_host_dot(&host, 1, &a, &b), SAM_NONE);
+    WANT(sam_term_free(&term), SAM_OK);
+    WANT(sam_host_free(&host), SAM_OK);
+}
+
+/* The loaded text from a place on, in a buffer of this room, with an untouched byte after it. */
+static void wants_text(sam_term *term, uint32_t place, size_t room, const char *text, uint32_t runes)
+{
+    uint8_t bytes[16];
+    size_t len = 99;
+    uint32_t count = 99;
+    memset(bytes, 9, sizeof bytes);
+    WANT(sam_term_text(term, 1, place, bytes, room, &len, &count), SAM_OK);
+    WANT(len, strlen(text));
+    WANT(count, runes);
+    WANT(memcmp(bytes, text, len), 0);
+    WANT(bytes[len], 9);
+}
+
+static void wants_bytes(sam_term *term, uint32_t start, uint32_t end, size_t bytes, uint32_t gaps)
+{
+    size_t len = 99;
+    uint32_t count = 99;
+    WANT(sam_term_bytes(term, 1, start, end, &len, &count), SAM_OK);
+    WANT(len, bytes);
+    WANT(count, gaps);
+}
+
+static void wants_place(sam_term *term, uint32_t start, size_t bytes, uint32_t place)
+{
+    uint32_t is = 99;
+    WANT(sam_term_place(term, 1, start, bytes, &is), SAM_OK);
+    WANT(is, place);
+}
+
+static void wants_line(sam_term *term, uint32_t start, uint32_t lines, sam_status status, uint32_t place)
+{
+    uint32_t is = 99;
+    WANT(sam_term_line(term, 1, start, lines, &is), status);
+    WANT(is, status == SAM_OK ? place : 99);
+}
+
+/* Runes, bytes and lines of a text of which the places 1 to 8 are loaded, and then all: runes of 1, 2, 3 and 4 bytes, and three lines. */
+static void measures(void)
+{
+    static const char text[] = "a\n\xC3\xA9\xE2\x86\x92\n\xF0\x9F\x90\xA6z\nend"; /* a \n é → \n U+1F426 z \n e n d */
+    sam_host host = SAM_HOST_INIT;
+    sam_term term = SAM_TERM_INIT;
+    uint16_t tag;
+    WANT(sam_host_new(&host), SAM_OK);
+    WANT(sam_host_add_file(&host, BYTES("a"), BYTES(text), &tag), SAM_OK);
+    WANT(sam_term_new(&term), SAM_OK);
+    WANT(sam_term_offer_version(&term, 2), SAM_OK);
+    WANT(sam_term_open(&term, 1), SAM_OK);
+    WANT(sam_term_view(&term, 1, 1, 7), SAM_OK);
+    carry(&term, &host);
+    wants_text(&term, 0, 15, "", 0);
+    wants_text(&term, 1, 15, "\n\xC3\xA9\xE2\x86\x92\n\xF0\x9F\x90\xA6z\n", 7);
+    wants_text(&term, 2, 8, "\xC3\xA9\xE2\x86\x92\n", 3); /* two bytes are too few for the bird */
+    wants_text(&term, 2, 1, "", 0);
+    wants_text(&term, 8, 15, "", 0);
+    wants_text(&term, 99, 15, "", 0);
+    wants_bytes(&term, 0, 11, 13, 4);
+    wants_bytes(&term, 2, 4, 5, 0);
+    wants_bytes(&term, 5, 6, 4, 0);
+    wants_bytes(&term, 8, 99, 0, 3);
+    wants_bytes(&term, 4, 4, 0, 0);
+    wants_bytes(&term, 4, 3, 0, 0);
+    wants_bytes(&term, 99, 100, 0, 0);
+    wants_place(&term, 2, 0, 2);
+    wants_place(&term, 2, 1, 2);
+    wants_place(&term, 2, 5, 4);
+    wants_place(&term, 2, 9, 5);  /* three bytes are too few for the bird */
+    wants_place(&term, 2, 99, 8); /* the gap */
+    wants_place(&term, 0, 99, 0);
+    wants_place(&term, 99, 1, 99);
+    wants_line(&term, 0, 0, SAM_OK, 0);
+    wants_line(&term, 0, 1, SAM_NONE, 0);
+    wants_line(&term, 1, 1, SAM_OK, 2);
+    wants_line(&term, 1, 2, SAM_OK, 5);
+    wants_line(&term, 2, 2, SAM_OK, 8);
+    wants_line(&term, 2, 3, SAM_NONE, 0);
+    WANT(sam_term_load(&term, 1, 0, 11), SAM_OK);
+    carry(&term, &host);
+    wants_bytes(&term, 0, 11, 17, 0);
+    wants_place(&term, 0, 17, 11);
+    wants_place(&term, 0, 99, 11);
+    wants_line(&term, 0, 3, SAM_OK, 8);
+    wants_line(&term, 0, 4, SAM_NONE, 0);
+    wants_text(&term, 8, 15, "end", 3);
     WANT(sam_term_free(&term), SAM_OK);
     WANT(sam_host_free(&host), SAM_OK);
 }
@@ -773,6 +870,8 @@ int main(void)
     puts("what the header says of tags and of long lines");
     session();
     puts("a session");
+    measures();
+    puts("runes, bytes and lines");
     changes();
     puts("changes");
     replaying();

@@ -47,6 +47,8 @@ SIGNATURES: Dict[str, Tuple[Any, ...]] = {
     "term_is_dirty": (c_uint16, _BOOL), "term_is_changed": (c_uint16, _BOOL), "term_is_open": (c_uint16, _BOOL),
     "term_current": (_TAG,), "term_len": (c_uint16, _U32),
     "term_read": (c_uint16, c_uint32, *_RUNES, _U32), "term_changed": (c_uint16, _U32, _U32, _U32),
+    "term_text": (c_uint16, *_TEXT_FROM), "term_bytes": (c_uint16, c_uint32, c_uint32, _SIZE, _U32),
+    "term_place": (c_uint16, c_uint32, c_size_t, _U32), "term_line": (c_uint16, c_uint32, c_uint32, _U32),
     "term_first_gap": (c_uint16, c_uint32, _U32),
     "term_dot": (c_uint16, _U32, _U32), "term_view_of": (c_uint16, _U32, _U32), "term_locked": (c_uint16, _BOOL),
     "term_command_locked": (_BOOL,), "term_held": (_U64,), "term_unsent": (_U32,), "term_sent": (_U64,),

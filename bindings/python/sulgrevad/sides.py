@@ -13,7 +13,7 @@ MOST_IN_PATTERN = 512  # bytes of the longest pattern
 GAP = 2**32 - 1  # what stands for a rune that is not loaded
 
 # The first number that is too great for a type of an argument.
-_END = {c_uint16: 2**16, c_uint32: 2**32}
+_END = {c_uint16: 2**16, c_uint32: 2**32, c_size_t: 2 ** (8 * ctypes.sizeof(c_size_t))}
 
 _AnySide = TypeVar("_AnySide", bound="_Side")
 
@@ -422,6 +422,26 @@ class Terminal(_Side):
         into, got = (c_uint32 * room)(), c_uint32()
         self._call("read", tag, place, into, room, byref(got))
         return [None if rune == GAP else chr(rune) for rune in into[: got.value]]
+
+    def text(self, tag: int, place: int = 0, runes: Optional[int] = None) -> str:
+        """The text of an open file from a place on, up to the first rune that is not loaded: so many runes, or all. Raises Missing."""
+        return self._long_text("text", place, runes, tag)
+
+    def bytes(self, tag: int, start: int, end: int) -> Tuple[int, int]:
+        """How many bytes the loaded runes of an open file from a place to a place take in UTF-8, and how many of its runes there are not
+        loaded. Raises Missing."""
+        count, gaps = c_size_t(), c_uint32()
+        self._call("bytes", tag, start, end, byref(count), byref(gaps))
+        return count.value, gaps.value
+
+    def place(self, tag: int, start: int, count: int) -> int:
+        """The place after the loaded runes of an open file from a place on that `count` bytes of UTF-8 hold whole: a gap or the end of the
+        text is the last place. Raises Missing."""
+        return self._number("place", c_uint32, tag, start, count)
+
+    def line(self, tag: int, start: int, lines: int) -> Optional[int]:
+        """The place after so many line ends of an open file from a place on; None where a gap or the end comes before, or it isn't open."""
+        return self._number_if_any("line", c_uint32, tag, start, lines)
 
     def changed(self, tag: int) -> Change:
         """What changed in an open file since this was asked of it last: the smallest stretch that holds what each frame and each event

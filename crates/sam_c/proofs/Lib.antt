@@ -4,3 +4,4 @@ pub mod Ends
 pub mod Filling
 pub mod Putting
 pub mod Replaying
+pub mod Measuring

@@ -5,3 +5,4 @@ pub mod Calls
 pub mod Hosts
 pub mod Terms
 pub mod Scripts
+pub mod Measures

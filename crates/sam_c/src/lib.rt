@@ -6,12 +6,14 @@
 mod handle;
 mod host_calls;
 mod host_readers;
+mod measures;
 mod parts;
 mod scripts;
 mod status;
 mod term_calls;
 mod term_events;
 mod term_readers;
+mod term_texts;
 mod utf8;
 
 pub use handle::{SamHost, SamTerm};

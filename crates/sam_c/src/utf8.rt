@@ -16,7 +16,7 @@ pub struct Filled {
 }
 
 /// Puts a rune into the buffer at `at`, and returns the place behind it. Returns `None` if it has no room, and the buffer is as it was.
-fn put_rune(rune: char, into: &mut [u8], at: usize) -> Option<usize>
+pub(crate) fn put_rune(rune: char, into: &mut [u8], at: usize) -> Option<usize>
     requires { at ≤ length into.old }
     ensures { Puts rune at into.old into.new result }
 {

@@ -174,6 +174,18 @@ extern "C" {
     pub fn sam_term_current(term: *mut sam_term, tag: *mut u16) -> sam_status;
     pub fn sam_term_len(term: *mut sam_term, tag: u16, runes: *mut u32) -> sam_status;
     pub fn sam_term_read(term: *mut sam_term, tag: u16, place: u32, into: *mut u32, room: usize, count: *mut u32) -> sam_status;
+    pub fn sam_term_text(
+        term: *mut sam_term,
+        tag: u16,
+        place: u32,
+        into: *mut u8,
+        room: usize,
+        bytes: *mut usize,
+        runes: *mut u32,
+    ) -> sam_status;
+    pub fn sam_term_bytes(term: *mut sam_term, tag: u16, start: u32, end: u32, bytes: *mut usize, gaps: *mut u32) -> sam_status;
+    pub fn sam_term_place(term: *mut sam_term, tag: u16, start: u32, bytes: usize, place: *mut u32) -> sam_status;
+    pub fn sam_term_line(term: *mut sam_term, tag: u16, start: u32, lines: u32, place: *mut u32) -> sam_status;
     pub fn sam_term_changed(term: *mut sam_term, tag: u16, start: *mut u32, gone: *mut u32, came: *mut u32) -> sam_status;
     pub fn sam_term_first_gap(term: *mut sam_term, tag: u16, place: u32, gap: *mut u32) -> sam_status;
     pub fn sam_term_dot(term: *mut sam_term, tag: u16, start: *mut u32, end: *mut u32) -> sam_status;

@@ -84,9 +84,13 @@ fn tells<T: Default>(read: impl FnOnce(&mut T) -> u32) -> T {
 }
 
 /// A text that is read in pieces: `read` puts some of it into the buffer from a place on, and tells how many bytes and runes.
-fn whole_text(mut read: impl FnMut(u32, &mut [u8], &mut usize, &mut u32) -> u32) -> Option<String> {
+fn whole_text(read: impl FnMut(u32, &mut [u8], &mut usize, &mut u32) -> u32) -> Option<String> {
+    text_from(0, read)
+}
+
+/// The same from a place on.
+fn text_from(mut place: u32, mut read: impl FnMut(u32, &mut [u8], &mut usize, &mut u32) -> u32) -> Option<String> {
     let mut text = Vec::new();
-    let mut place = 0;
     loop {
         let mut piece = [0; PIECE];
         let (mut bytes, mut runes) = (0, 0);

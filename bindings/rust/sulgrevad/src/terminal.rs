@@ -1,6 +1,6 @@
 //! The terminal: windows, keyboard and mouse over partly loaded texts.
 
-use crate::{done, short_text, tells, told, whole_text, Error, Refusal, PIECE};
+use crate::{done, short_text, tells, text_from, told, whole_text, Error, Refusal, PIECE};
 use std::cell::UnsafeCell;
 use sulgrevad_sys::{self as sys, sam_term};
 
@@ -330,6 +330,31 @@ impl Terminal {
     /// The first place of an open file, at or after `place`, whose rune is not loaded.
     pub fn first_gap(&self, tag: u16, place: u32) -> Option<u32> {
         told(|gap| unsafe { sys::sam_term_first_gap(self.at(), tag, place, gap) })
+    }
+
+    /// The text of an open file from a place on, up to the first rune that is not loaded; `None` where it is not open.
+    pub fn text(&self, tag: u16, place: u32) -> Option<String> {
+        text_from(place, |place, into, bytes, runes| unsafe {
+            sys::sam_term_text(self.at(), tag, place, into.as_mut_ptr(), into.len(), bytes, runes)
+        })
+    }
+
+    /// How many bytes the loaded runes of an open file from a place to a place take in UTF-8, and how many of its runes there are not
+    /// loaded; `None` where it is not open.
+    pub fn bytes(&self, tag: u16, start: u32, end: u32) -> Option<(usize, u32)> {
+        let mut gaps = 0;
+        told(|bytes| unsafe { sys::sam_term_bytes(self.at(), tag, start, end, bytes, &mut gaps) }).map(|bytes| (bytes, gaps))
+    }
+
+    /// The place after the loaded runes of an open file from a place on that so many bytes of UTF-8 hold whole: a gap or the end of the text
+    /// is the last place. `None` where it is not open.
+    pub fn place(&self, tag: u16, start: u32, bytes: usize) -> Option<u32> {
+        told(|place| unsafe { sys::sam_term_place(self.at(), tag, start, bytes, place) })
+    }
+
+    /// The place after so many line ends of an open file from a place on; `None` also where a gap or the end of the text comes before.
+    pub fn line(&self, tag: u16, start: u32, lines: u32) -> Option<u32> {
+        told(|place| unsafe { sys::sam_term_line(self.at(), tag, start, lines, place) })
     }
 
     /// The dot of an open file.

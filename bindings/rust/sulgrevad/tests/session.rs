@@ -76,6 +76,25 @@ fn gaps_are_told_and_fill() -> Result<(), Error> {
 }
 
 #[test]
+fn runes_bytes_and_lines() -> Result<(), Error> {
+    let (mut host, mut term, file) = opened("é\n→z")?;
+    term.view(file, 1, 3)?;
+    carry(&mut term, &mut host)?;
+    assert_eq!(term.text(file, 0).as_deref(), Some(""));
+    assert_eq!(term.text(file, 1).as_deref(), Some("\n→z"));
+    assert_eq!(term.bytes(file, 0, 4), Some((5, 1)));
+    assert_eq!(term.place(file, 1, 4), Some(3));
+    assert_eq!(term.place(file, 1, 3), Some(2));
+    assert_eq!(term.line(file, 1, 1), Some(2));
+    assert_eq!(term.line(file, 0, 1), None); // a gap comes before
+    assert_eq!(
+        (term.text(9, 0), term.bytes(9, 0, 1), term.place(9, 0, 1), term.line(9, 0, 0)),
+        (None, None, None, None)
+    );
+    Ok(())
+}
+
+#[test]
 fn what_changed_is_handed_out() -> Result<(), Error> {
     let change = |start, gone, came| Ok(Some(Change { start, gone, came }));
     let (mut host, mut term, file) = opened("one two\n")?;

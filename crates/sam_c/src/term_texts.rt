@@ -1,0 +1,126 @@
+//! What C reads of the text of an open file, in runes, bytes and lines: include/sulgrevad.h says of each call what it hands out. None of them
+//! changes the terminal. Each returns `SAM_NO_HANDLE` if the handle is empty, and then `SAM_NONE` if the file is not open; after these
+//! what its other arguments lead to is as it was. Places count runes from the beginning of the text.
+
+ghost use Rattle.std.specs.Prelude.{◌≡◌, drop, option_and_then, option_map};
+ghost use Rattle.sam_c.specs.Calls.{ReportsSome, ReportsText, written};
+ghost use Rattle.sam_c.specs.Measures.{front_runes, line_after, place_after, sizes};
+ghost use Rattle.sam_c.specs.Terms.{rasp_of};
+
+use crate::handle::{SamTerm, with_end};
+use crate::measures::{line_after, place_after, size_of_range, tell_front};
+use crate::status::{NO_HANDLE, NONE, OK};
+use std::alloc::Global;
+
+/// Puts the text of an open file from a place on, up to the first gap, into the buffer in UTF-8, as many whole runes as have room. Hands out
+/// how many bytes and how many runes.
+#[unsafe(no_mangle)]
+pub extern "C" fn sam_term_text(
+    term: &mut SamTerm,
+    tag: u16,
+    place: u32,
+    into: &mut [u8],
+    bytes: &mut usize,
+    runes: &mut u32,
+    alloc: Global,
+) -> u32
+    ensures told { ReportsText term.old.held.end result (written into.old bytes.old runes.old) (written into.new bytes.new runes.new)
+        (λ e. option_map (λ text. front_runes (drop place text)) (rasp_of e tag)) }
+    ensures kept { term.new.held.end ≡ term.old.held.end }
+{
+    with_end!(term alloc end {
+        match end.term().rasp(tag) {
+            Some(rasp) => tell_front(rasp, place, into, bytes, runes),
+            None => NONE,
+        }
+    })
+}
+
+/// Hands out how many bytes the loaded runes of an open file from the place `start` to the place `end` take in UTF-8, and how many there
+/// are not loaded.
+#[unsafe(no_mangle)]
+pub extern "C" fn sam_term_bytes(
+    term: &mut SamTerm,
+    tag: u16,
+    start: u32,
+    end: u32,
+    bytes: &mut usize,
+    gaps: &mut u32,
+    alloc: Global,
+) -> u32
+    ensures told { ReportsSome term.old.held.end result (bytes.old, gaps.old) (bytes.new, gaps.new)
+        (λ e. option_map (λ text. sizes text start end) (rasp_of e tag)) }
+    ensures kept { term.new.held.end ≡ term.old.held.end }
+{
+    let Some(held) = term.take(alloc) else {
+        return NO_HANDLE;
+    };
+    let status = match held.term().rasp(tag) {
+        Some(rasp) => {
+            let all = size_of_range(rasp, start, end);
+            *bytes = all.bytes;
+            *gaps = all.gaps;
+            OK
+        }
+        None => NONE,
+    };
+    term.put(held);
+    status
+}
+
+/// Hands out the place behind the loaded runes of an open file from the place `start` on that so many bytes hold whole in UTF-8: it is at a
+/// gap or at the end of the text at the latest.
+#[unsafe(no_mangle)]
+pub extern "C" fn sam_term_place(
+    term: &mut SamTerm,
+    tag: u16,
+    start: u32,
+    bytes: usize,
+    place: &mut u32,
+    alloc: Global,
+) -> u32
+    ensures told { ReportsSome term.old.held.end result place.old place.new (λ e. option_map (λ text. place_after text start bytes) (rasp_of e tag)) }
+    ensures kept { term.new.held.end ≡ term.old.held.end }
+{
+    with_end!(term alloc end {
+        match end.term().rasp(tag) {
+            Some(rasp) => {
+                *place = place_after(rasp, start, bytes);
+                OK
+            }
+            None => NONE,
+        }
+    })
+}
+
+/// Hands out the place behind so many line ends of an open file from the place `start` on: where a line begins. `SAM_NONE` also if a gap or
+/// the end of the text comes before.
+#[unsafe(no_mangle)]
+pub extern "C" fn sam_term_line(
+    term: &mut SamTerm,
+    tag: u16,
+    start: u32,
+    lines: u32,
+    place: &mut u32,
+    alloc: Global,
+) -> u32
+    ensures told { ReportsSome term.old.held.end result place.old place.new (λ e. option_and_then (λ text. line_after text start lines) (rasp_of e tag)) }
+    ensures kept { term.new.held.end ≡ term.old.held.end }
+{
+    let Some(end) = term.take(alloc) else {
+        return NO_HANDLE;
+    };
+    let found = match end.term().rasp(tag) {
+        Some(rasp) => line_after(rasp, start, lines),
+        None => None,
+    };
+    let status = match found {
+        Some(behind) => {
+            *place = behind;
+            OK
+        }
+        None => NONE,
+    };
+    term.put(end);
+    status
+}
