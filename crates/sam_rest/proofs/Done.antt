@@ -1,8 +1,8 @@
 -- Where nothing applies, all is done; and where all is done, nothing applies.
 use Rattle.std.proofs.Common.{true≢false}
-use Rattle.sam_world.proofs.Common.{◌≡◌, ℕ, Bool, true, false, not, List, [], ◌∷◌, ◌++◌, length, is_some, Option, Some, None, Result, Ok, Err, ◌⊎◌, inl, inr, refl, sym, ap, ◌∙◌, subst, arith, is_empty, PlainHost, answer, HostFault, PlainTerminal, Made, act_on, decided, event_outcome, first_of_checks, event_checks, window_at, Verdict, Acted, Done, TermFault, UserEvent, Tmesg, HFrame, PlainWorld, step_of, after_act, after_answer, after_compose, host_takes, term_takes, composed_by, mesgs, IsInOrder, WasReached}
+use Rattle.sam_rest.proofs.Common.{◌≡◌, ℕ, Bool, true, false, not, List, [], ◌∷◌, ◌++◌, length, is_some, Option, Some, None, Result, Ok, Err, ◌⊎◌, inl, inr, refl, sym, ap, ◌∙◌, subst, arith, is_empty, PlainHost, answer, HostFault, PlainTerminal, Made, act_on, decided, event_outcome, first_of_checks, event_checks, window_at, Verdict, Acted, Done, TermFault, UserEvent, Tmesg, HFrame, PlainWorld, step_of, after_act, after_answer, after_compose, host_takes, term_takes, composed_by, mesgs, IsInOrder, WasReached}
 use Rattle.std.specs.Prelude.{◌&&◌}
-unfoldable use Rattle.sam_world.proofs.Common.{act_of, flush_of, flushed, take_of}
+unfoldable use Rattle.sam_rest.proofs.Common.{act_of, flush_of, flushed, take_of}
 use Rattle.sam_term.specs.Term.{is_any_locked, is_file_locked}
 use Rattle.sam_term.specs.Events.{file_of}
 use Rattle.sam_term.specs.declared.records.Unsent.{Unsent}

@@ -1,6 +1,6 @@
 -- Steps come to an end.
 use Rattle.std.proofs.Common.{true≢false}
-use Rattle.sam_world.proofs.Common.{◌≡◌, ℕ, zero, suc, ◌+◌, ◌<◌, ◌≤◌, false, List, [], ◌∷◌, ◌++◌, length, Option, Some, None, ◌⊎◌, inl, inr, same_Some, refl, sym, ap, ◌∙◌, subst, arith, append-nil, PlainTerminal, Made, frame_outcome, event_outcome, first_of_checks, event_checks, UserEvent, Tmesg, new_world, PlainWorld, step_of, mesgs, IsInOrder, WasReached}
+use Rattle.sam_rest.proofs.Common.{◌≡◌, ℕ, zero, suc, ◌+◌, ◌<◌, ◌≤◌, false, List, [], ◌∷◌, ◌++◌, length, Option, Some, None, ◌⊎◌, inl, inr, same_Some, refl, sym, ap, ◌∙◌, subst, arith, append-nil, PlainTerminal, Made, frame_outcome, event_outcome, first_of_checks, event_checks, UserEvent, Tmesg, new_world, PlainWorld, step_of, mesgs, IsInOrder, WasReached}
 use Rattle.sam_term.specs.Term.{unsent_message, all_composed}
 use Rattle.sam_term.specs.declared.records.Unsent.{Unsent}
 use Rattle.sam_term.proofs.Edits.{flushed-held}

@@ -1,7 +1,7 @@
 -- What `rest` and its steps rest on.
-use Rattle.sam_world.proofs.Common.{◌≡◌, ◌<◌, true, false, List, [], ◌∷◌, ◌++◌, length, Some, None, ◌⊎◌, inl, inr, refl, ap, arith, PlainWorld, step_of, next_event, WasReached, Advances, IsNextFault}
+use Rattle.sam_rest.proofs.Common.{◌≡◌, ◌<◌, true, false, List, [], ◌∷◌, ◌++◌, length, Some, None, ◌⊎◌, inl, inr, refl, ap, arith, PlainWorld, step_of, next_event, WasReached, Advances, IsNextFault}
 use Rattle.sam_world.specs.Drain.{acts}
-unfoldable use Rattle.sam_world.proofs.Common.{act_of}
+unfoldable use Rattle.sam_rest.proofs.Common.{act_of}
 use Rattle.sam_crossing.specs.declared.event.Event.{Event}
 use Rattle.sam_crossing.specs.declared.event.Event.TheVariants.{Act}
 use Rattle.sam_world.specs.declared.event.StepFault.{StepFault}

@@ -11,7 +11,7 @@ use Rattle.sam_term.specs.Windows.{known_in}
 use Rattle.sam_term.proofs.Composes.{flushed-files}
 use Rattle.sam_local.proofs.Frames.{is_gentle}
 use Rattle.sam_local.proofs.Gentle.{window-stays}
-use Rattle.sam_world.proofs.Common.{length, Result, Ok, Err, same_Some, Done, first_of_checks, act_of, act_on, decided, if_countable, after_act, event_checks, event_outcome, Verdict, Acted, TermFault, UserEvent, HFrame, PlainWorld, step_of, mesgs, IsInOrder, made_by_view, requested}
+use Rattle.sam_rest.proofs.Common.{length, Result, Ok, Err, same_Some, Done, first_of_checks, act_of, act_on, decided, if_countable, after_act, event_checks, event_outcome, Verdict, Acted, TermFault, UserEvent, HFrame, PlainWorld, step_of, mesgs, IsInOrder, made_by_view, requested}
 use Rattle.sam_term.specs.declared.event.UserEvent.TheVariants.{View}
 use Rattle.sam_term.specs.Term.{put_window}
 use Rattle.sam_crossing.specs.declared.event.Event.{Event}

@@ -1,8 +1,8 @@
 -- A drain's rule without its limit: each event of it applies, and a number falls.
 use Rattle.std.proofs.Common.{true≢false}
-use Rattle.sam_world.proofs.Common.{◌≡◌, ℕ, zero, suc, ◌+◌, ◌<◌, ◌≤◌, Bool, true, false, not, List, [], ◌∷◌, ◌++◌, length, is_some, Option, Some, None, ◌⊎◌, inl, inr, same_Some, refl, sym, ap, ◌∙◌, subst, arith, is_empty, UserEvent, PlainWorld, step_of, next_event, IsInOrder}
+use Rattle.sam_rest.proofs.Common.{◌≡◌, ℕ, zero, suc, ◌+◌, ◌<◌, ◌≤◌, Bool, true, false, not, List, [], ◌∷◌, ◌++◌, length, is_some, Option, Some, None, ◌⊎◌, inl, inr, same_Some, refl, sym, ap, ◌∙◌, subst, arith, is_empty, UserEvent, PlainWorld, step_of, next_event, IsInOrder}
 use Rattle.std.proofs.Common.{if◌then◌else◌}
-unfoldable use Rattle.sam_world.proofs.Common.{act_of}
+unfoldable use Rattle.sam_rest.proofs.Common.{act_of}
 use Rattle.sam_term.specs.declared.records.Unsent.{Unsent}
 use Rattle.sam_world.specs.Drain.{acts}
 use Rattle.sam_crossing.specs.declared.event.Event.{Event}

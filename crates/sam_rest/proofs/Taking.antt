@@ -1,11 +1,11 @@
 -- What each step that is not the user's leads to.
-use Rattle.sam_world.proofs.Common.{◌≡◌, true, false, List, [], ◌∷◌, ◌++◌, Option, Some, None, Result, Ok, Err, ◌⊎◌, inl, inr, same_Some, Done, refl, sym, ap, ◌∙◌, subst, arith, append-nil, map-append, first_of_checks, PlainHost, Reply, answer, HostFault, PlainTerminal, Made, act_of, act_on, decided, flush_of, flushed, take_of, frame_outcome, event_checks, event_outcome, if_countable, Verdict, Acted, TermFault, UserEvent, Tmesg, Hmesg, HFrame, PlainWorld, composed_by, step_of, after_act, after_answer, after_compose, host_takes, term_takes, mesgs, IsInOrder, stamped}
+use Rattle.sam_rest.proofs.Common.{◌≡◌, true, false, List, [], ◌∷◌, ◌++◌, Option, Some, None, Result, Ok, Err, ◌⊎◌, inl, inr, same_Some, Done, refl, sym, ap, ◌∙◌, subst, arith, append-nil, map-append, first_of_checks, PlainHost, Reply, answer, HostFault, PlainTerminal, Made, act_of, act_on, decided, flush_of, flushed, take_of, frame_outcome, event_checks, event_outcome, if_countable, Verdict, Acted, TermFault, UserEvent, Tmesg, Hmesg, HFrame, PlainWorld, composed_by, step_of, after_act, after_answer, after_compose, host_takes, term_takes, mesgs, IsInOrder, stamped}
 use Rattle.sam_world.specs.Drain.{acts}
 use Rattle.sam_crossing.specs.declared.event.Event.TheVariants.{Act, Flush, HostTake, TermTake}
 use Rattle.sam_term.specs.declared.event.Verdict.TheVariants.{Waits, Refuses}
 use Rattle.sam_crossing.specs.Fold.{reply_of}
 use Rattle.sam_crossing.specs.Order.{InOrder}
-use Rattle.sam_crossing.proofs.Ordered.{HostGoes, host_goes, msgs_stamped, answer_is}
+use Rattle.sam_crossing.proofs.Ordered.{HostGoes, host_goes, mesgs_stamped, answer_is}
 use Rattle.sam_crossing.proofs.RunLaws.{counted-result}
 
 -- ## The host takes a message
@@ -42,7 +42,7 @@ host-takes w next k s = from w.up refl s
         took = record { host = r.0; term = w.term; up = ms; down = w.down ++ stamped r.0.taken r.1 }
 
         frames : mesgs (w.down ++ stamped r.0.taken r.1) ≡ mesgs w.down ++ r.1
-        frames = map-append (λ (f : HFrame). f.msg) w.down (stamped r.0.taken r.1) ∙ ap (λ (fs : List Hmesg). mesgs w.down ++ fs) (msgs_stamped r.0.taken r.1)
+        frames = map-append (λ (f : HFrame). f.msg) w.down (stamped r.0.taken r.1) ∙ ap (λ (fs : List Hmesg). mesgs w.down ++ fs) (mesgs_stamped r.0.taken r.1)
 
         by : (a : Result (PlainHost × List HFrame) HostFault) → answer w.host m ≡ a → after_answer (record w { up = ms }) a ≡ Some next → HostTakes w next
         by (Err why) q e = absurd (grind arith)
