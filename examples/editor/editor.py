@@ -81,7 +81,8 @@ class Editor(Actions):
         self.texts = Texts(terminal)
         self.vault = Vault(terminal, self.texts)
         self.log, self.numbers, self.keeping = Undo(terminal, self.texts, self.vault), Numbers(self.texts), Keeping(self)
-        told = {CLEAN: self._meet_clean, CLOSE: self._meet_close, MOVETO: self._meet_move, SETDOT: self._meet_dot, UNLOCK: self._meet_unlock}
+        told = {CLEAN: self._meet_clean, CLOSE: self._meet_close, MOVETO: self._meet_move, SETDOT: self._meet_dot}
+        told[UNLOCK] = self._meet_unlock
         self.stream = Stream(terminal, self.texts, told)
         self.all_windows: Dict[int, Window] = {}
         self.texts.listeners = [self.log.hear, self.numbers.hear, self.keeping.hear_change, self._tell_window]

@@ -56,10 +56,15 @@ pub(crate) fn runes_from(runes: &[char], place: u32) -> &[char]
 
 /// Returns the runes that 32 bits count: all, since no text has more than `MAX_RUNES`.
 pub(crate) fn countable(runes: &[char]) -> &[char]
-    ensures { result.now ≡ countable runes.now }
+    ensures runes { result.now ≡ countable runes.now }
+    ensures few { length result.now < 2 ^ 32 }
 {
-    let most = runes.len().min(u32::MAX as usize);
-    &runes[..most]
+    let most = u32::MAX as usize;
+    if runes.len() > most {
+        &runes[..most]
+    } else {
+        runes
+    }
 }
 
 /// Returns how many runes there are.

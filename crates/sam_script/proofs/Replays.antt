@@ -1,5 +1,5 @@
 -- What a replay has printed, line by line.
-use Rattle.sam_script.proofs.Common.{◌≡◌, ℕ, true, List, [], ◌∷◌, ◌++◌, Some, Result, Ok, Err, refl, sym, ap, ◌∙◌, subst, append_assoc, arith, PlainWorld, new_world, step_of, run_of, Event, PlainScript, Spells, IsReadFault, after_line, printed_by, stepped, behind, replayed_from, replayed, IsReplayFault, IsStopOf, ScriptFault}
+use Rattle.sam_script.proofs.Common.{◌≡◌, ℕ, true, List, [], ◌∷◌, ◌++◌, Option, Some, Result, Ok, Err, refl, sym, ap, ◌∙◌, subst, append_assoc, arith, PlainWorld, new_world, step_of, run_of, Event, PlainScript, Spells, IsReadFault, after_line, printed_by, stepped, behind, replayed_from, replayed, IsReplayFault, IsStopOf, ScriptFault}
 use Rattle.std.specs.Prelude.{All}
 use Rattle.std.proofs.lemmas.List.Elements.{All-head, All-tail}
 use Rattle.sam_host.specs.Laws.{AreGiven}
@@ -45,6 +45,9 @@ record AreDone (w v : PlainWorld) (said : List UserEvent) : Type 0 where
 one_step : (number : ℕ) (w v : PlainWorld) (e : Event) → stepped number w e ≡ Ok v → step_of w e ≡ Some v
 one_step number w v e done = grind arith
 
+not_full : (o : Option PlainWorld) (v : PlainWorld) → or_full o ≡ Ok v → o ≡ Some v
+not_full o v e = grind arith
+
 step_done : (number : ℕ) (w v : PlainWorld) (e : Event) → stepped number w e ≡ Ok v → AreDone w v (user_events (e ∷ []))
 step_done number w v e done = record { events = e ∷ []; leads = rw (one_step number w v e done) refl; are = refl }
 
@@ -56,8 +59,7 @@ line_done number w v Flush done = step_done number w v event.Flush done
 line_done number w v Host done = step_done number w v event.HostTake done
 line_done number w v Term done = step_done number w v event.TermTake done
 line_done number w v Drain done =
-    let drains : drained drain_limit w ≡ Some v = grind arith in
-    let silent = drained_runs drain_limit w v drains in record { events = silent.events; leads = silent.leads; are = silent.none }
+    let silent = drained_runs drain_limit w v (not_full (drained drain_limit w) v done) in record { events = silent.events; leads = silent.leads; are = silent.none }
 line_done number w v Show done = record { events = []; leads = grind arith; are = refl }
 
 lines_done : (lines : List Numbered) (w v : PlainWorld) → after_lines w lines ≡ Ok v → AreDone w v (users_of lines)

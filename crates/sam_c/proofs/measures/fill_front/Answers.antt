@@ -21,8 +21,8 @@ returns-in_default-2 c =
     let ends = front-end c.args.rasp.now c.args.place c.loop-at.filled.runes c.loop-at.at c.loaded.result i.at c.loaded.ensures (λ r e. grind (arith, e)) in
     record { fills = no-rest _ _ _ c.loop-at.filled ends i.count i.stands; few = omega (arith, i.at) }
 
-pub returns-in_default-3 : goal.returns-in_default-3
-returns-in_default-3 c =
+pub returns-in_default-put_rune : goal.returns-in_default-put_rune
+returns-in_default-put_rune c =
     let i = c.loop-at.invariant in
     let there : slice_get c.args.rasp.now c.loop-at.at ≡ Some (Some c.in-Some-Some.rune) = grind arith in
     let next = front-next c.args.rasp.now c.args.place c.loop-at.filled.runes c.loop-at.at c.in-Some-Some.rune i.at i.count there in
