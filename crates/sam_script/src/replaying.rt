@@ -27,44 +27,21 @@ pub fn replay_bytes(alloc: Global, bytes: &[u8]) -> Result<Vec<u8>, ScriptFault>
         Ok(script) => script,
         Err(fault) => return Err(fault),
     };
-    replay_owned(alloc, script)
+    replay(alloc, script)
 }
 
 /// Does the lines of a script one after another, over the first world of its files, and returns all that its `show` lines print. It
-/// leaves the script as it is, and so copies each event before it happens; [`replay_owned`] copies none.
+/// uses the script up, so that no event is copied.
 ///
 /// The first line that can't be done stops it, and then nothing of what was printed is returned. The error is `Line(n)` if line n is
 /// `host` or `term` and nothing is under way to that side, and `CountFull` if the line's step, or an event of its drain, would take a
-/// count of messages past 2^64-1. `OutOfMemory` may come at any line, and before the first; the script can be replayed again.
+/// count of messages past 2^64-1. `OutOfMemory` may come at any line, and before the first.
 ///
 /// Wherever the replay stands, what the user did by the lines above, but for events that are still held, has done what it does in an editor
 /// without a network. So where a `show` stands with nothing unsent or under way, the host and the terminal that it prints are those of that
 /// editor, but for runes that are not loaded and for counts of messages.
 #[tactic(auto, using(crate::proofs::Replays::replays_as_if_local), unfolding(crate::specs::Replay::replayed))]
-pub fn replay(alloc: Global, script: &Script) -> Result<Vec<u8>, ScriptFault>
-    ensures ok { IfOk result (λ out. replayed script.now ≡ Ok out.items) }
-    ensures local { ReplaysAsIfLocal script.now }
-    ensures stopped { IfErr result (λ why. IsStopOf (replayed script.now) why) }
-{
-    let Ok(mut world) = first_world(alloc, script.files()) else {
-        return Err(ScriptFault::OutOfMemory);
-    };
-    let mut printed = String::new(alloc);
-    for numbered in script.lines() {
-        let Ok(line) = numbered.line.copy(alloc) else {
-            return Err(ScriptFault::OutOfMemory);
-        };
-        match do_line(&mut world, &mut printed, numbered.number, line) {
-            Ok(()) => {}
-            Err(fault) => return Err(fault),
-        }
-    }
-    Ok(printed.into_bytes())
-}
-
-/// Does what [`replay`] does, and uses the script up, so that no event is copied.
-#[tactic(auto, using(crate::proofs::Replays::replays_as_if_local), unfolding(crate::specs::Replay::replayed))]
-pub fn replay_owned(alloc: Global, script: Script) -> Result<Vec<u8>, ScriptFault>
+pub fn replay(alloc: Global, script: Script) -> Result<Vec<u8>, ScriptFault>
     ensures ok { IfOk result (λ out. replayed script ≡ Ok out.items) }
     ensures local { ReplaysAsIfLocal script }
     ensures stopped { IfErr result (λ why. IsStopOf (replayed script) why) }

@@ -1,7 +1,7 @@
-use Rattle.sam_script.proofs.Common.{◌≡◌, drop, string_bytes, new_world, replayed_from, behind}
+use Rattle.sam_script.proofs.Common.{◌≡◌, string_bytes, into_iter_items, new_world, replayed_from, behind}
 use Rattle.sam_script.proofs.replaying.replay.Given as goal
 
 -- what was printed, and then what the lines that are left print
 abbrev pub invariant-loop-numbered : goal.invariant-loop-numbered
 invariant-loop-numbered l =
-    replayed_from (new_world l.script.files) l.script.lines ≡ behind (string_bytes l.printed) (replayed_from l.world (drop l.numbered-index l.script.lines))
+    replayed_from (new_world l.fn.script.files) l.fn.script.lines ≡ behind (string_bytes l.out) (replayed_from l.world (into_iter_items l.numbered-iterator))
