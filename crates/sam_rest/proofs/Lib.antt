@@ -10,5 +10,4 @@ pub mod Work
 pub mod Ends
 pub mod Done
 pub mod Rule
-pub mod Leading
 pub mod Loaded

@@ -3,11 +3,9 @@ use Rattle.std.specs.Prelude.{◌≡◌, ◌≢◌, ◌≤◌, ℕ, Bool, true, 
 use Rattle.sam_term.specs.Term.{window_at}
 use Rattle.sam_crossing.specs.World.{PlainWorld, step_of, is_unlocked}
 use Rattle.sam_world.specs.Counts.{passes_count}
-use Rattle.sam_world.specs.Faults.{IsNextFault}
 use Rattle.sam_crossing.specs.World.{WasReached}
 use Rattle.sam_crossing.specs.declared.event.Event.{Event}
 use Rattle.sam_crossing.specs.declared.event.Event.TheVariants.{User}
-use Rattle.sam_world.specs.declared.event.StepFault.{StepFault}
 use Rattle.sam_local.specs.Worlds.{is_at_rest}
 
 abbrev pub is_user : Event → Bool
@@ -38,18 +36,6 @@ pub record IsDone (w : PlainWorld) : Type 0 where
   pub rests : is_at_rest w ≡ true
   pub free : is_unlocked w.term ≡ true
   pub answered : (f : ℕ) → (window_at w.term f).awaited ≡ 0
-
--- events, each of which applied, have led to a world where all is done
-pub record ComesToRest (w v : PlainWorld) : Type 0 where
-  pub events : List Event
-  pub leads : LeadsOn w events v
-  pub done : IsDone v
-
--- events, each of which applied, have led to a world where the next one met the fault
-pub record StopsOnTheWay (w v : PlainWorld) (why : StepFault) : Type 0 where
-  pub events : List Event
-  pub leads : LeadsOn w events v
-  pub fault : IsNextFault v why
 
 -- ## The laws
 

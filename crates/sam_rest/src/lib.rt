@@ -1,8 +1,8 @@
 //! Coming to rest: no session is ever stuck.
 //!
 //! An event applies in a world where it is not the user's and changes something (`Applies` in specs/Rest). The laws say that such events
-//! come to an end, whatever their order, and that where none applies any more nothing is unsent, under way, held or locked, and no request
-//! awaits its data; and that a view that was set last has no gap then. [`resting::rest`] makes such events happen until none applies.
+//! come to an end, whatever their order; that where none applies any more nothing is unsent, under way, held or locked, and no request
+//! awaits its data; and that a view that was set last has no gap then. The steps of a `drain` are such events.
 //!
 //! How it is proved. Each step but an act lowers a number (`work` in proofs/Work): the messages that are under way to the host, twice the
 //! unsent runes, and a weight for each frame that comes once the host has answered all of these. A frame that may make the terminal ask
@@ -14,4 +14,3 @@
 #![tactic(auto)]
 
 pub mod laws;
-pub mod resting;
