@@ -2,7 +2,6 @@
 use Rattle.std.specs.Prelude.{◌≡◌, ℕ, ◌≤◌, length, All}
 use Rattle.sam_runes.specs.Texts.{most_files}
 use Rattle.sam_host.specs.Host.{new_host}
-use Rattle.sam_term.specs.Term.{new_terminal}
 use Rattle.sam_world.specs.Given.{IsFile}
 use Rattle.sam_queue.specs.Views.{LineView, new_post, new_take}
 use Rattle.sam_workers.specs.Lines.{LinesView}
@@ -35,7 +34,6 @@ pub record IsTermTask (events up : LineView) (s : TermTask) : Type 0 where
   pub take : s.take ≡ new_take events
   pub three : events.senders ≡ 3
   pub post : s.post ≡ new_post up 0
-  pub term : s.term ≡ new_terminal
 
 -- the five begin at the ends of these lines
 pub record AreReady (lines : LinesView) (s : Tasks) : Type 0 where

@@ -8,6 +8,7 @@ use crate::tasks::{HostTask, ReaderTask, Tasks, TermTask, UserTask};
 use sam_queue::Line;
 use sam_runes::Runes;
 use sam_term::event::UserEvent;
+use sam_term::term::Terminal;
 use sam_workers::{
     Ends, Gate, HostEnd, Input, ReaderEnd, TermEnd, UserEnd, pass_frames, run_terminal,
     send_events, serve_host,
@@ -235,7 +236,7 @@ fn begin_reader<'q, R: Wait, G: Gate>(
     Some(pass_frames(shared.rt, shared.alloc, shared.gate, take, post))
 }
 
-/// Waits for the start, and then runs the terminal's worker. Returns `None` if the start was called off.
+/// Waits for the start, and then runs the worker of a new terminal. Returns `None` if the start was called off.
 fn begin_terminal<'q, R: Wait, G: Gate>(
     shared: &Shared<'_, R, G>,
     task: TermTask<'q>,
@@ -251,9 +252,9 @@ fn begin_terminal<'q, R: Wait, G: Gate>(
     let TermTask {
         take,
         post,
-        term,
         held: _,
     } = task;
+    let term = Terminal::new(shared.alloc);
     Some(run_terminal(
         shared.rt,
         shared.alloc,

@@ -12,7 +12,6 @@ use sam_queue::{Line, Post, Start, Take};
 use sam_runes::Runes;
 use sam_script::Script;
 use sam_term::event::UserEvent;
-use sam_term::term::Terminal;
 use sam_workers::{Input, Lines, Starts};
 use sam_world::given_files;
 use std::alloc::{AllocError, Global};
@@ -64,8 +63,6 @@ pub struct TermTask<'q> {
     pub take: Take<'q, Input>,
     /// The post to the line up.
     pub post: Post<'q, Vec<u8>>,
-    /// A new terminal.
-    pub term: Terminal,
     /// Ties the task to its lines.
     pub held: PhantomData<&'q Lines>,
 }
@@ -138,11 +135,11 @@ pub fn ready_tasks<'q>(
 {
     let roles = roles_of(alloc, script)?;
     let sides = split_lines(alloc, lines, starts)?;
-    Ok(tasks_of(alloc, lines, sides, roles))
+    Ok(tasks_of(lines, sides, roles))
 }
 
 /// Gives each worker its ends of the lines and its role.
-fn tasks_of<'q>(alloc: Global, lines: &'q Lines, sides: LineSides<'q>, roles: Roles) -> Tasks<'q>
+fn tasks_of<'q>(lines: &'q Lines, sides: LineSides<'q>, roles: Roles) -> Tasks<'q>
     requires sides { AreNewSides lines.now sides }
     requires host { IsHostRole roles }
     ensures lines { result.lines.now ≡ lines.now }
@@ -178,7 +175,6 @@ fn tasks_of<'q>(alloc: Global, lines: &'q Lines, sides: LineSides<'q>, roles: Ro
         term: TermTask {
             take: sides.events_take,
             post: sides.up_post,
-            term: Terminal::new(alloc),
             held: PhantomData,
         },
     }
