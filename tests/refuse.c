@@ -1,8 +1,8 @@
 /*
  * Loaded before a program, this answers its request number REFUSE for memory with none, or its request number
  * REFUSE_THREAD for a thread with EAGAIN, and then writes a byte to descriptor 9. Of memory only requests of the program
- * itself count, from 1, whichever thread makes them, and not those that the C library makes for it. As the program ends,
- * the number of threads that it made is written to descriptor 8.
+ * itself count, from 1, whichever thread makes them, and not those that the C library makes for it. For each thread
+ * that is made a byte is written to descriptor 8.
  */
 #define _GNU_SOURCE
 #include <dlfcn.h>
@@ -12,7 +12,6 @@
 #include <stdatomic.h>
 #include <stddef.h>
 #include <stdint.h>
-#include <stdio.h>
 #include <stdlib.h>
 #include <unistd.h>
 
@@ -25,7 +24,7 @@ typedef int make_thread(pthread_t *, const pthread_attr_t *, void *(*)(void *), 
 
 static uintptr_t first, last;
 static unsigned long refuse, refuse_thread;
-static atomic_ulong asked, threads_asked, threads_made;
+static atomic_ulong asked, threads_asked;
 
 /* The first of the loaded files is the program. */
 static int find_program(struct dl_phdr_info *file, size_t size, void *unused)
@@ -52,11 +51,6 @@ __attribute__((constructor)) static void start(void)
     refuse = number_in("REFUSE");
     refuse_thread = number_in("REFUSE_THREAD");
     dl_iterate_phdr(find_program, NULL);
-}
-
-__attribute__((destructor)) static void end(void)
-{
-    dprintf(8, "%lu\n", threads_made);
 }
 
 static void note_refusal(void)
@@ -111,7 +105,7 @@ int pthread_create(pthread_t *thread, const pthread_attr_t *attributes, void *(*
         return EAGAIN;
     }
     int status = make(thread, attributes, run, argument);
-    if (!status)
-        threads_made++;
+    if (!status && write(8, "!", 1) != 1)
+        abort();
     return status;
 }
