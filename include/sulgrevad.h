@@ -192,8 +192,8 @@ SAM_MUST_USE sam_status sam_host_add_file(sam_host *host, const uint8_t *name, s
 SAM_MUST_USE sam_status sam_host_feed(sam_host *host, const uint8_t *bytes, size_t len);
 
 /* Whether the terminal's stream may end here: to be asked where the host's input has ended. It changes nothing. SAM_OK,
- * SAM_NO_HANDLE, why the host has stopped before (SAM_STREAM.., SAM_HOST_REFUSED..), SAM_UNFINISHED where some of what came waits
- * after want of memory, or SAM_TRUNCATED where the stream ends inside a message. */
+ * SAM_NO_HANDLE, why the host has stopped before (SAM_STREAM.., SAM_HOST_REFUSED..), SAM_UNFINISHED where some of what came still
+ * waits for memory, or SAM_TRUNCATED where the stream ends inside a message. */
 SAM_MUST_USE sam_status sam_host_finish(sam_host *host);
 
 /* How many bytes are pending. */
@@ -264,12 +264,13 @@ sam_status sam_term_free(sam_term *term);
 
 /* ---- The terminal: bytes in and out ---- */
 
-/* Takes bytes of the host's frames, in whatever pieces they come, and then lets held events act. Returns what an event does. */
+/* Takes bytes of the host's frames, in whatever pieces they come, and then lets held events act. It returns what an event
+ * returns. */
 SAM_MUST_USE sam_status sam_term_feed(sam_term *term, const uint8_t *bytes, size_t len);
 
 /* Whether the host's stream may end here: to be asked where the terminal's input has ended. It changes nothing. SAM_OK,
- * SAM_NO_HANDLE, why the terminal has stopped before (SAM_STREAM.., SAM_TERM_REFUSED..), SAM_UNFINISHED where some of what came waits
- * after want of memory, or SAM_TRUNCATED where the stream ends inside a frame. */
+ * SAM_NO_HANDLE, why the terminal has stopped before (SAM_STREAM.., SAM_TERM_REFUSED..), SAM_UNFINISHED where some of what came or was
+ * composed still waits for memory, or SAM_TRUNCATED where the stream ends inside a frame. */
 SAM_MUST_USE sam_status sam_term_finish(sam_term *term);
 
 /* How many bytes are pending. */
@@ -278,18 +279,17 @@ SAM_MUST_USE sam_status sam_term_pending(sam_term *term, size_t *len);
 /* Moves the first pending bytes into the buffer, as many as it has room for, and hands out how many. */
 SAM_MUST_USE sam_status sam_term_take_out(sam_term *term, uint8_t *into, size_t room, size_t *count);
 
-/* Composes the typed runes that are not sent yet; to be called when the user pauses, before the program sleeps. Returns what an event
- * does, but never SAM_COUNT_FULL. */
+/* Composes the typed runes that are not sent yet; to be called when the user pauses, before the program sleeps. It returns what an
+ * event returns, but never SAM_COUNT_FULL. */
 SAM_MUST_USE sam_status sam_term_flush_now(sam_term *term);
 
 /* ---- Events: what the user does ----
  *
  * An event acts at once where it can, or is held until the locks that it waits for are free and the events before it have acted; each
  * call also lets events that are held act, in order. What is composed is then pending. SAM_OK says that the event was taken, and not
- * that it acted: sam_term_decided says whether it did, and an event that is refused is reported by number by sam_term_next_refusal, now
- * or later. Each returns SAM_OK,
- * SAM_NO_MEMORY, SAM_UNFINISHED, SAM_COUNT_FULL, SAM_NO_HANDLE, or why the terminal has stopped: SAM_STREAM.., SAM_TERM_REFUSED...
- * The two that bring a text return SAM_NOT_TEXT first of all but SAM_NO_HANDLE. */
+ * that it acted: sam_term_decided says whether it did, and sam_term_next_refusal reports an event that is refused by its number, now or
+ * later. Each returns SAM_OK, SAM_NO_MEMORY, SAM_UNFINISHED, SAM_COUNT_FULL, SAM_NO_HANDLE, or why the terminal has stopped:
+ * SAM_STREAM.., SAM_TERM_REFUSED... The two that bring a text return SAM_NOT_TEXT first of all but SAM_NO_HANDLE. */
 
 /* ---- Events: texts ---- */
 
@@ -309,7 +309,7 @@ SAM_MUST_USE sam_status sam_term_look(sam_term *term, uint16_t tag);
 /* Selects the next occurrence of the pattern. */
 SAM_MUST_USE sam_status sam_term_search(sam_term *term, uint16_t tag);
 
-/* Sends the typed runes, once the events before it have acted. */
+/* Sends the typed runes, once the events before this one have acted. */
 SAM_MUST_USE sam_status sam_term_flush(sam_term *term);
 
 /* ---- Events: the snarf buffer ---- */
@@ -326,7 +326,8 @@ SAM_MUST_USE sam_status sam_term_paste(sam_term *term, uint16_t tag);
 /* Asks for the host's snarf buffer: sam_term_snarfed then has it. */
 SAM_MUST_USE sam_status sam_term_get_snarf(sam_term *term);
 
-/* Gives the host another snarf buffer: at most 4,096 bytes, 32,000 in version 2. */
+/* Gives the host another snarf buffer: at most 4,096 bytes, 32,000 in version 2. A longer one is refused by number
+ * (SAM_REFUSAL_TEXT_TOO_LONG). */
 SAM_MUST_USE sam_status sam_term_set_snarf(sam_term *term, const uint8_t *text, size_t len);
 
 /* ---- Events: what is shown ---- */
@@ -334,7 +335,7 @@ SAM_MUST_USE sam_status sam_term_set_snarf(sam_term *term, const uint8_t *text, 
 /* Shows at most len runes from a place on, and asks for those that are not loaded: at most 512 at a time, and then for the next. */
 SAM_MUST_USE sam_status sam_term_view(sam_term *term, uint16_t tag, uint32_t place, uint32_t len);
 
-/* Shows the same, and asks for all of those at once, in at most 64 stretches of 512: so a page comes in one round trip. */
+/* Shows the same, and asks for all that is not loaded at once, in at most 64 stretches of 512 runes: so a page comes in one round trip. */
 SAM_MUST_USE sam_status sam_term_load(sam_term *term, uint16_t tag, uint32_t place, uint32_t len);
 
 /* Shows the file from that many lines further up. */
@@ -367,7 +368,7 @@ SAM_MUST_USE sam_status sam_term_close(sam_term *term, uint16_t tag);
 /* Opens the command file. */
 SAM_MUST_USE sam_status sam_term_open_cmd(sam_term *term);
 
-/* Makes a file the one that command lines work on. */
+/* Makes a file, with its dot, the one that command lines work on. */
 SAM_MUST_USE sam_status sam_term_work(sam_term *term, uint16_t tag);
 
 /* Prints the dot's text in the command file, and runs its last line. */

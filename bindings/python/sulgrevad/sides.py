@@ -117,7 +117,7 @@ class _Side:
 
     def finish(self) -> None:
         """Says that the other side's stream has ended: nothing where it may end here. Raises StreamFault with the code TRUNCATED where it
-        ends inside a message or frame, Unfinished where some of what came waits, or why this side has stopped before."""
+        ends inside a message or frame, Unfinished where some of what came or was composed waits, or why this side has stopped before."""
         self._call("finish")
 
     @property
@@ -264,7 +264,7 @@ class Terminal(_Side):
         self._call("snarf", tag)
 
     def look(self, tag: int) -> None:
-        """Selects the next occurrence of the dot's text."""
+        """Selects the next occurrence of the dot's text, which becomes the pattern."""
         self._call("look", tag)
 
     def search(self, tag: int) -> None:
@@ -284,15 +284,16 @@ class Terminal(_Side):
         self._call("scroll", tag, lines)
 
     def view(self, tag: int, place: int, length: int) -> None:
-        """Shows at most so many runes of the file from a place on, and asks for those that are not loaded, a stretch at a time."""
+        """Shows at most so many runes of the file from a place on, and asks for those that are not loaded: at most 512 at a time."""
         self._call("view", tag, place, length)
 
     def load(self, tag: int, place: int, length: int) -> None:
-        """Shows the same as `view`, and asks for all that is not loaded at once, so that it comes in one round trip."""
+        """Shows the same as `view`, and asks for all that is not loaded at once, in at most 64 stretches of 512 runes: so a page comes
+        in one round trip."""
         self._call("load", tag, place, length)
 
     def open(self, tag: int) -> None:
-        """Opens a file, and makes it the work file."""
+        """Opens a file; command lines work on it then. All other events that name a file want it open."""
         self._call("open", tag)
 
     def open_cmd(self) -> None:
@@ -300,7 +301,7 @@ class Terminal(_Side):
         self._call("open_cmd")
 
     def new_file(self) -> None:
-        """Makes an empty file, opens it, and makes it the work file."""
+        """Makes an empty file, and opens it; command lines work on it then."""
         self._call("new_file")
 
     def write(self, tag: int) -> None:
@@ -316,7 +317,7 @@ class Terminal(_Side):
         self._call("work", tag)
 
     def check(self, tag: int) -> None:
-        """Asks for the first gap that the view shows."""
+        """Asks for the first gap that the view shows. The host answers it, and no text changes."""
         self._call("check", tag)
 
     def get_snarf(self) -> None:
@@ -324,7 +325,8 @@ class Terminal(_Side):
         self._call("get_snarf")
 
     def set_snarf(self, text: Text) -> None:
-        """Gives the host another snarf buffer: at most 4,096 bytes, 32,000 in version 2. Raises NotText, too."""
+        """Gives the host another snarf buffer: at most 4,096 bytes, 32,000 in version 2; a longer one is refused by number. Raises NotText,
+        too."""
         text = bytes_of(text)
         self._call("set_snarf", text, len(text))
 
@@ -333,7 +335,7 @@ class Terminal(_Side):
         self._call("offer_version", version)
 
     def flush(self) -> None:
-        """Sends typed runes, once the events before it have acted."""
+        """Sends the typed runes, once the events before this one have acted."""
         self._call("flush")
 
     def exit(self) -> None:

@@ -99,7 +99,7 @@ class NotText(SamError, ValueError):
 
 
 class Missing(SamError, LookupError):
-    """There is no such file, or it is not open (SAM_NONE)."""
+    """There is no such file, it is not open, or it was never written (SAM_NONE)."""
 
 
 class AddRefused(SamError, ValueError):

@@ -76,7 +76,7 @@ family! {
         FromTheFuture = SAM_TERM_FROM_THE_FUTURE,
         /// The terminal knows no file of this tag.
         NoFile = SAM_TERM_NO_FILE,
-        /// The file has no window.
+        /// The file is not open.
         NotOpen = SAM_TERM_NOT_OPEN,
         /// The file is known or open already.
         AlreadyBound = SAM_TERM_ALREADY_BOUND,
@@ -98,7 +98,7 @@ family! {
         Exited = SAM_REFUSAL_EXITED,
         /// The terminal knows no file of this tag.
         NoFile = SAM_REFUSAL_NO_FILE,
-        /// The file has no window.
+        /// The file is not open.
         NotOpen = SAM_REFUSAL_NOT_OPEN,
         /// A place after the end, or a range whose end is before its start.
         BadPosition = SAM_REFUSAL_BAD_POSITION,
@@ -106,7 +106,7 @@ family! {
         TooLong = SAM_REFUSAL_TOO_LONG,
         /// More than 512 runes typed, or a snarf buffer that is too long for a message.
         TextTooLong = SAM_REFUSAL_TEXT_TOO_LONG,
-        /// The command file is never opened, closed or written so.
+        /// The command file is never opened, closed, written or worked on so.
         CommandFile = SAM_REFUSAL_COMMAND_FILE,
         /// There is no version 0.
         BadVersion = SAM_REFUSAL_BAD_VERSION,

@@ -49,7 +49,7 @@ impl Terminal {
         done(unsafe { sys::sam_term_type(self.at(), tag, text.as_ptr(), text.len()) })
     }
 
-    /// Gives the host another snarf buffer: at most 4,096 bytes, 32,000 in version 2.
+    /// Gives the host another snarf buffer: at most 4,096 bytes, 32,000 in version 2. A longer one is refused (`TextTooLong`).
     pub fn set_snarf(&mut self, text: &str) -> Result<(), Error> {
         done(unsafe { sys::sam_term_set_snarf(self.at(), text.as_ptr(), text.len()) })
     }
@@ -69,7 +69,7 @@ impl Terminal {
         done(unsafe { sys::sam_term_snarf(self.at(), tag) })
     }
 
-    /// Selects the next occurrence of the dot's text.
+    /// Selects the next occurrence of the dot's text, which becomes the pattern.
     pub fn look(&mut self, tag: u16) -> Result<(), Error> {
         done(unsafe { sys::sam_term_look(self.at(), tag) })
     }
@@ -84,7 +84,7 @@ impl Terminal {
         done(unsafe { sys::sam_term_send(self.at(), tag) })
     }
 
-    /// Opens a file, and makes it the one that command lines work on.
+    /// Opens a file; command lines work on it then. All other events that name a file want it open.
     pub fn open(&mut self, tag: u16) -> Result<(), Error> {
         done(unsafe { sys::sam_term_open(self.at(), tag) })
     }
@@ -99,12 +99,12 @@ impl Terminal {
         done(unsafe { sys::sam_term_close(self.at(), tag) })
     }
 
-    /// Makes a file the one that command lines work on.
+    /// Makes a file, with its dot, the one that command lines work on.
     pub fn work(&mut self, tag: u16) -> Result<(), Error> {
         done(unsafe { sys::sam_term_work(self.at(), tag) })
     }
 
-    /// Asks for the first gap that the view shows.
+    /// Asks for the first gap that the view shows. The host answers it, and no text changes.
     pub fn check(&mut self, tag: u16) -> Result<(), Error> {
         done(unsafe { sys::sam_term_check(self.at(), tag) })
     }
@@ -114,17 +114,17 @@ impl Terminal {
         done(unsafe { sys::sam_term_open_cmd(self.at()) })
     }
 
-    /// Makes an empty file, opens it, and makes it the one that command lines work on.
+    /// Makes an empty file, and opens it; command lines work on it then.
     pub fn new_file(&mut self) -> Result<(), Error> {
         done(unsafe { sys::sam_term_new_file(self.at()) })
     }
 
-    /// Asks for the host's snarf buffer.
+    /// Asks for the host's snarf buffer, which `snarfed` then has.
     pub fn get_snarf(&mut self) -> Result<(), Error> {
         done(unsafe { sys::sam_term_get_snarf(self.at()) })
     }
 
-    /// Sends the typed runes, once the events before it acted.
+    /// Sends the typed runes, once the events before this one have acted.
     pub fn flush(&mut self) -> Result<(), Error> {
         done(unsafe { sys::sam_term_flush(self.at()) })
     }
@@ -149,17 +149,18 @@ impl Terminal {
         done(unsafe { sys::sam_term_scroll(self.at(), tag, lines) })
     }
 
-    /// Shows at most so many runes of the file from a place on, and asks for those that are not loaded, a stretch at a time.
+    /// Shows at most so many runes of the file from a place on, and asks for those that are not loaded: at most 512 at a time.
     pub fn view(&mut self, tag: u16, place: u32, len: u32) -> Result<(), Error> {
         done(unsafe { sys::sam_term_view(self.at(), tag, place, len) })
     }
 
-    /// Shows the same as `view`, and asks for all that is not loaded at once, so that it comes in one round trip.
+    /// Shows the same as `view`, and asks for all that is not loaded at once, in at most 64 stretches of 512 runes: so a page comes in one
+    /// round trip.
     pub fn load(&mut self, tag: u16, place: u32, len: u32) -> Result<(), Error> {
         done(unsafe { sys::sam_term_load(self.at(), tag, place, len) })
     }
 
-    /// Offers a version: 2 allows longer snarfed texts.
+    /// Offers a version of the protocol, and asks for the names of all files. Version 2 allows longer snarfed texts.
     pub fn offer_version(&mut self, version: u16) -> Result<(), Error> {
         done(unsafe { sys::sam_term_offer_version(self.at(), version) })
     }
@@ -170,12 +171,12 @@ impl Terminal {
     }
 
     /// Says that the host's stream has ended: `Ok` where it may end here. Errors in order: why the terminal has stopped before;
-    /// `Unfinished` where some of what came waits; `Stream(Truncated)` where the stream ends inside a frame.
+    /// `Unfinished` where some of what came or was composed waits; `Stream(Truncated)` where the stream ends inside a frame.
     pub fn finish(&self) -> Result<(), Error> {
         done(unsafe { sys::sam_term_finish(self.at()) })
     }
 
-    /// Composes the typed runes that are not sent yet: to be called when the user pauses.
+    /// Composes the typed runes that are not sent yet: to be called when the user pauses, before the program sleeps.
     pub fn flush_now(&mut self) -> Result<(), Error> {
         done(unsafe { sys::sam_term_flush_now(self.at()) })
     }
@@ -219,9 +220,9 @@ impl Terminal {
             .collect()
     }
 
-    /// What changed in an open file since this was asked of it last: the smallest stretch that holds what each frame and each event touched,
-    /// loading included. The first time its text was empty before. `None` where it is not open; the only error is `NoMemory`, the first
-    /// time.
+    /// What changed in an open file since this was asked of it last: the smallest stretch that holds what each frame and each event
+    /// touched, loading included. The first time its text was empty before. `None` where it is not open. The only error is `NoMemory`,
+    /// the first time.
     pub fn changed(&mut self, tag: u16) -> Result<Option<Change>, Error> {
         let (mut start, mut gone, mut came) = (0, 0, 0);
         match unsafe { sys::sam_term_changed(self.at(), tag, &mut start, &mut gone, &mut came) } {
@@ -346,8 +347,8 @@ impl Terminal {
         told(|bytes| unsafe { sys::sam_term_bytes(self.at(), tag, start, end, bytes, &mut gaps) }).map(|bytes| (bytes, gaps))
     }
 
-    /// The place after the loaded runes of an open file from a place on that so many bytes of UTF-8 hold whole: a gap or the end of the text
-    /// is the last place. `None` where it is not open.
+    /// The place after the loaded runes of an open file from a place on that so many bytes of UTF-8 hold whole: a gap or the end of the
+    /// text is the last place. `None` where it is not open.
     pub fn place(&self, tag: u16, start: u32, bytes: usize) -> Option<u32> {
         told(|place| unsafe { sys::sam_term_place(self.at(), tag, start, bytes, place) })
     }
