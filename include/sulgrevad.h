@@ -67,13 +67,13 @@ extern "C" {
 /* One number that grows with the version: what sam_library_version returns of the library that has this header. */
 #define SAM_VERSION (SAM_VERSION_MAJOR * 65536 + SAM_VERSION_MINOR * 256 + SAM_VERSION_PATCH)
 
-/* The version of the library that the program runs with, as SAM_VERSION has that of the header. Before 1.0 calls may change where the
+/* The version of the library that the program runs with, as SAM_VERSION has that of the header. Before 1.0 calls may change when the
  * minor number grows, so a program can compare both. The protocol has a version of its own: sam_host_version, sam_term_version. */
 uint32_t sam_library_version(void);
 
 /* ---- What a call returns ---- */
 
-/* Has the compiler warn where a status is dropped, if it can. Define it empty before the include to have no such warning. */
+/* Has the compiler warn of a dropped status, if it can. Define it empty before the include to have no such warning. */
 #ifndef SAM_MUST_USE
 #if defined(__cplusplus) && __cplusplus >= 201703L
 #define SAM_MUST_USE [[nodiscard]]
@@ -171,11 +171,11 @@ typedef struct sam_term sam_term;
 
 /* ---- The host: making and freeing ---- */
 
-/* Makes a host with the command file alone (tag 0). SAM_NO_HANDLE where the handle is NULL, SAM_MADE, SAM_NO_MEMORY: it is as it
+/* Makes a host with the command file alone (tag 0). SAM_NO_HANDLE if the handle is NULL, SAM_MADE, SAM_NO_MEMORY: it is as it
  * was. */
 SAM_MUST_USE sam_status sam_host_new(sam_host *host);
 
-/* Frees a host, with what was pending. SAM_NO_HANDLE where it is empty or NULL. */
+/* Frees a host, with what was pending. SAM_NO_HANDLE if it is empty or NULL. */
 sam_status sam_host_free(sam_host *host);
 
 /* Adds a file, clean and closed, and hands out its tag: 1 for the first, and so on. Refused, in this order: SAM_NO_HANDLE;
@@ -191,9 +191,9 @@ SAM_MUST_USE sam_status sam_host_add_file(sam_host *host, const uint8_t *name, s
  * or before: SAM_STREAM.., SAM_HOST_REFUSED... What stood before the fault is answered. */
 SAM_MUST_USE sam_status sam_host_feed(sam_host *host, const uint8_t *bytes, size_t len);
 
-/* Whether the terminal's stream may end here: to be asked where the host's input has ended. It changes nothing. SAM_OK,
- * SAM_NO_HANDLE, why the host has stopped before (SAM_STREAM.., SAM_HOST_REFUSED..), SAM_UNFINISHED where some of what came still
- * waits for memory, or SAM_TRUNCATED where the stream ends inside a message. */
+/* Whether the terminal's stream may end here: to be asked once the host's input has ended. It changes nothing. SAM_OK,
+ * SAM_NO_HANDLE, why the host has stopped before (SAM_STREAM.., SAM_HOST_REFUSED..), SAM_UNFINISHED if some of what came still
+ * waits for memory, or SAM_TRUNCATED if the stream ends inside a message. */
 SAM_MUST_USE sam_status sam_host_finish(sam_host *host);
 
 /* How many bytes are pending. */
@@ -216,14 +216,14 @@ SAM_MUST_USE sam_status sam_host_version(sam_host *host, uint16_t *version);
 /* ---- The host: files that the terminal had written ---- */
 
 /* The tag of a file that the terminal asked the host to write (Twrite): write sam_host_saved of it to disk now. Each Twrite gives its
- * tag once, in order, so a file that was written twice comes twice. SAM_NONE where there is none left. Ask after each feed: once the file
+ * tag once, in order, so a file that was written twice comes twice. SAM_NONE if there is none left. Ask after each feed: once the file
  * is closed, its saved text is gone. */
 SAM_MUST_USE sam_status sam_host_next_written(sam_host *host, uint16_t *tag);
 
-/* The length in runes of what a file was when it was written last (Twrite). SAM_NONE also where it never was. */
+/* The length in runes of what a file was when it was written last (Twrite). SAM_NONE also if it never was. */
 SAM_MUST_USE sam_status sam_host_saved_len(sam_host *host, uint16_t tag, uint32_t *runes);
 
-/* What a file was when it was written last, from a place on; as sam_host_text. SAM_NONE also where it never was. */
+/* What a file was when it was written last, from a place on; as sam_host_text. SAM_NONE also if it never was. */
 SAM_MUST_USE sam_status sam_host_saved(sam_host *host, uint16_t tag, uint32_t place, uint8_t *into, size_t room, size_t *bytes,
                                        uint32_t *runes);
 
@@ -244,8 +244,8 @@ SAM_MUST_USE sam_status sam_host_len(sam_host *host, uint16_t tag, uint32_t *run
 /* Whether a file was edited since it was made or written; never for the command file, tag 0. */
 SAM_MUST_USE sam_status sam_host_is_dirty(sam_host *host, uint16_t tag, bool *dirty);
 
-/* A file's text from a place on, in UTF-8: as many whole runes as have room. Hands out how many bytes and how many runes; none where
- * the place is at or after the end, or where the buffer has less room than one rune wants: 4 bytes are enough for any. */
+/* A file's text from a place on, in UTF-8: as many whole runes as have room. Hands out how many bytes and how many runes; none if
+ * the place is at or after the end, or if the buffer has less room than one rune wants: 4 bytes are enough for any. */
 SAM_MUST_USE sam_status sam_host_text(sam_host *host, uint16_t tag, uint32_t place, uint8_t *into, size_t room, size_t *bytes,
                                       uint32_t *runes);
 
@@ -256,10 +256,10 @@ SAM_MUST_USE sam_status sam_host_dot(sam_host *host, uint16_t tag, uint32_t *sta
 
 /* ---- The terminal: making and freeing ---- */
 
-/* Makes a terminal that knows no file. SAM_NO_HANDLE where the handle is NULL, SAM_MADE, SAM_NO_MEMORY: it is as it was. */
+/* Makes a terminal that knows no file. SAM_NO_HANDLE if the handle is NULL, SAM_MADE, SAM_NO_MEMORY: it is as it was. */
 SAM_MUST_USE sam_status sam_term_new(sam_term *term);
 
-/* Frees a terminal, with what was pending. SAM_NO_HANDLE where it is empty or NULL. */
+/* Frees a terminal, with what was pending. SAM_NO_HANDLE if it is empty or NULL. */
 sam_status sam_term_free(sam_term *term);
 
 /* ---- The terminal: bytes in and out ---- */
@@ -268,9 +268,9 @@ sam_status sam_term_free(sam_term *term);
  * returns. */
 SAM_MUST_USE sam_status sam_term_feed(sam_term *term, const uint8_t *bytes, size_t len);
 
-/* Whether the host's stream may end here: to be asked where the terminal's input has ended. It changes nothing. SAM_OK,
- * SAM_NO_HANDLE, why the terminal has stopped before (SAM_STREAM.., SAM_TERM_REFUSED..), SAM_UNFINISHED where some of what came or was
- * composed still waits for memory, or SAM_TRUNCATED where the stream ends inside a frame. */
+/* Whether the host's stream may end here: to be asked once the terminal's input has ended. It changes nothing. SAM_OK,
+ * SAM_NO_HANDLE, why the terminal has stopped before (SAM_STREAM.., SAM_TERM_REFUSED..), SAM_UNFINISHED if some of what came or was
+ * composed still waits for memory, or SAM_TRUNCATED if the stream ends inside a frame. */
 SAM_MUST_USE sam_status sam_term_finish(sam_term *term);
 
 /* How many bytes are pending. */
@@ -285,7 +285,7 @@ SAM_MUST_USE sam_status sam_term_flush_now(sam_term *term);
 
 /* ---- Events: what the user does ----
  *
- * An event acts at once where it can, or is held until the locks that it waits for are free and the events before it have acted; each
+ * An event acts at once if it can, or is held until the locks that it waits for are free and the events before it have acted; each
  * call also lets events that are held act, in order. What is composed is then pending. SAM_OK says that the event was taken, and not
  * that it acted: sam_term_decided says whether it did, and sam_term_next_refusal reports an event that is refused by its number, now or
  * later. Each returns SAM_OK, SAM_NO_MEMORY, SAM_UNFINISHED, SAM_COUNT_FULL, SAM_NO_HANDLE, or why the terminal has stopped:
@@ -361,7 +361,7 @@ SAM_MUST_USE sam_status sam_term_close(sam_term *term, uint16_t tag);
 /* ---- Events: command lines ----
  *
  * A command line is a line that is typed into the command file, or sent to it. What it prints comes at the end of that file. A line
- * that is wrong changes nothing and prints `? ` and a word. `? long` comes where the length of the text and all that the line puts in
+ * that is wrong changes nothing and prints `? ` and a word. `? long` comes if the length of the text and all that the line puts in
  * pass 1,000,000 runes together; what the line takes away is not counted, so `,x/x\n/c/y\n/` is too long in a text of 600,000 runes
  * that has 250,000 such lines, though the text would stay as long as it is. */
 
@@ -385,14 +385,14 @@ SAM_MUST_USE sam_status sam_term_exit(sam_term *term);
 /* ---- The terminal: what became of events and messages ---- */
 
 /* The oldest refused event that was not handed out yet: which one, counted from 1 over all event calls that were taken, and why
- * (SAM_REFUSAL..). SAM_NONE where there is none. Refusals that nobody asks for are kept. */
+ * (SAM_REFUSAL..). SAM_NONE if there is none. Refusals that nobody asks for are kept. */
 SAM_MUST_USE sam_status sam_term_next_refusal(sam_term *term, uint64_t *event, sam_status *why);
 
 /* How many event calls were taken. */
 SAM_MUST_USE sam_status sam_term_events(sam_term *term, uint64_t *events);
 
 /* How many of them have acted or were refused. Events are done in order: the event that was taken last, whose number sam_term_events
- * hands out, has acted or was refused where both numbers are the same, and is held where this one is smaller. */
+ * hands out, has acted or was refused if both numbers are the same, and is held if this one is smaller. */
 SAM_MUST_USE sam_status sam_term_decided(sam_term *term, uint64_t *events);
 
 /* How many events are held. */
@@ -419,7 +419,7 @@ SAM_MUST_USE sam_status sam_term_under_way(sam_term *term, uint64_t *messages);
 /* Whether the host has ended the session. */
 SAM_MUST_USE sam_status sam_term_exited(sam_term *term, bool *exited);
 
-/* The version of the protocol that both sides speak: 1, or 2 where both know it: that allows longer snarfed texts. */
+/* The version of the protocol that both sides speak: 1, or 2 if both know it: that allows longer snarfed texts. */
 SAM_MUST_USE sam_status sam_term_version(sam_term *term, uint16_t *version);
 
 /* ---- The terminal: files that it knows ---- */
@@ -459,31 +459,31 @@ SAM_MUST_USE sam_status sam_term_len(sam_term *term, uint16_t tag, uint32_t *run
 SAM_MUST_USE sam_status sam_term_read(sam_term *term, uint16_t tag, uint32_t place, uint32_t *into, size_t room, uint32_t *count);
 
 /* The text of an open file from a place on, up to the first rune that is not loaded, in UTF-8: as many whole runes as have room. Hands out
- * how many bytes and how many runes; none where that rune or the end is at the place, or where the buffer has less room than one rune
+ * how many bytes and how many runes; none if that rune or the end is at the place, or if the buffer has less room than one rune
  * wants. */
 SAM_MUST_USE sam_status sam_term_text(sam_term *term, uint16_t tag, uint32_t place, uint8_t *into, size_t room, size_t *bytes,
                                       uint32_t *runes);
 
 /* How many bytes the loaded runes of an open file from the place `start` to the place `end` take in UTF-8, and how many of its runes there
- * are not loaded. What is after the end of the text counts as nothing, and so does all where `end` is not after `start`. */
+ * are not loaded. What is after the end of the text counts as nothing, and so does all if `end` is not after `start`. */
 SAM_MUST_USE sam_status sam_term_bytes(sam_term *term, uint16_t tag, uint32_t start, uint32_t end, size_t *bytes, uint32_t *gaps);
 
 /* The place after the loaded runes of an open file from the place `start` on that `bytes` bytes of UTF-8 hold whole: a gap or the end of
- * the text is the last place that it hands out. It is `start` where that is after the end. */
+ * the text is the last place that it hands out. It is `start` if that is after the end. */
 SAM_MUST_USE sam_status sam_term_place(sam_term *term, uint16_t tag, uint32_t start, size_t bytes, uint32_t *place);
 
-/* The place after that many line ends (U+000A) of an open file from the place `start` on, where a line begins. SAM_NONE also where a gap or
+/* The place after that many line ends (U+000A) of an open file from the place `start` on, where a line begins. SAM_NONE also if a gap or
  * the end of the text comes before. These four cost by the runes from `start` on that they look at, and not by those before it. */
 SAM_MUST_USE sam_status sam_term_line(sam_term *term, uint16_t tag, uint32_t start, uint32_t lines, uint32_t *place);
 
 /* What changed in an open file since this was asked of it last: in the old text `gone` runes or gaps from the place `start` on gave way to
  * `came` of the new one, and all else is as it was. It is the smallest such stretch that holds what each frame and each event of the user
- * touched by itself; gone and came are both 0 where none did. Loading touches what is loaded: gone and came are the same there. On the
+ * touched by itself; gone and came are both 0 if none did. Loading touches what is loaded: gone and came are the same there. On the
  * first call for a file its text was empty before. Asked after each event and after each frame, while no event is held, it hands out each
  * edit: feed the frames one by one. SAM_NO_MEMORY comes on the first call for a file alone: nothing is handed out then. */
 SAM_MUST_USE sam_status sam_term_changed(sam_term *term, uint16_t tag, uint32_t *start, uint32_t *gone, uint32_t *came);
 
-/* The first place of an open file, at or after `place`, whose rune is not loaded. SAM_NONE also where all are loaded from there on: ask
+/* The first place of an open file, at or after `place`, whose rune is not loaded. SAM_NONE also if all are loaded from there on: ask
  * sam_term_is_open to know the two apart. */
 SAM_MUST_USE sam_status sam_term_first_gap(sam_term *term, uint16_t tag, uint32_t place, uint32_t *gap);
 
@@ -511,8 +511,8 @@ SAM_MUST_USE sam_status sam_term_snarf_len(sam_term *term, uint32_t *runes);
  * It takes no handle. All lines are read before the first is done.
  *
  * SAM_OK: *out_len is the number of all bytes that are printed, and the first of them stand in `out`, as many as have room. The rest of
- * the buffer is as it was. Where *out_len is above out_room, call again with so much room: a script prints the same each time.
- * SAM_SCRIPT_LINE: *line, counted from 1, is the first wrong line. Where no line is wrong, the first that can't be done decides:
+ * the buffer is as it was. If *out_len is above out_room, call again with so much room: a script prints the same each time.
+ * SAM_SCRIPT_LINE: *line, counted from 1, is the first wrong line. If no line is wrong, the first that can't be done decides:
  * SAM_SCRIPT_LINE reports a `host` or `term` at which nothing is there to take, SAM_SCRIPT_COUNT_FULL a line that would count more than
  * 2^64-1 messages. SAM_NO_MEMORY may come at any line.
  * What the pointers lead to is as it was but for `out` and *out_len at SAM_OK, and *line at SAM_SCRIPT_LINE. */

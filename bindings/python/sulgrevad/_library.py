@@ -16,7 +16,7 @@ PIECE = 65_536
 
 
 class Handle(ctypes.Structure):
-    """sam_host and sam_term; empty where all bytes are zero."""
+    """sam_host and sam_term; empty if all bytes are zero."""
 
     _fields_ = [("at", c_void_p), ("made", c_uint64)]
 
@@ -77,7 +77,7 @@ def path() -> str:
 
 
 def load() -> ctypes.PyDLL:
-    """The library, with the arguments of each call set. ImportError where it is not there, lacks a call, or has another version."""
+    """The library, with the arguments of each call set. ImportError if it is not there, lacks a call, or has another version."""
     name = path()
     try:
         library = ctypes.PyDLL(name)

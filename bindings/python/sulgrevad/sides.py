@@ -34,7 +34,7 @@ class Change(NamedTuple):
 
 
 def _least(most: Optional[int], there: int) -> int:
-    """The smaller of a wished number, where there is one, and of how many there are. ValueError for one below 0."""
+    """The smaller of a wished number, if there is one, and of how many there are. ValueError for one below 0."""
     if most is None:
         return there
     if most < 0:
@@ -73,7 +73,7 @@ class _Side:
         return int(result.value)
 
     def _number_if_any(self, name: str, kind: Any, *arguments: Any) -> Optional[int]:
-        """Makes a call that hands out one number; None where it answers SAM_NONE."""
+        """Makes a call that hands out one number; None if it answers SAM_NONE."""
         try:
             return self._number(name, kind, *arguments)
         except Missing:
@@ -96,7 +96,7 @@ class _Side:
         return ctypes.string_at(into, length.value).decode()
 
     def _long_text(self, name: str, place: int, most: Optional[int], *arguments: Any) -> str:
-        """The runes of a text from a place on: `most` at most, all where that is None."""
+        """The runes of a text from a place on: `most` at most, all if that is None."""
         into, count, runes = ctypes.create_string_buffer(PIECE), c_size_t(), c_uint32()
         pieces: List[str] = []
         left = _least(most, 2**32)
@@ -116,8 +116,9 @@ class _Side:
         self._call("feed", data, len(data))
 
     def finish(self) -> None:
-        """Says that the other side's stream has ended: nothing where it may end here. Raises StreamFault with the code TRUNCATED where it
-        ends inside a message or frame, Unfinished where some of what came or was composed waits, or why this side has stopped before."""
+        """Asks whether the other side's stream may end here, once the input has ended. It changes nothing. Raises StreamFault with the
+        code TRUNCATED if it ends inside a message or frame, Unfinished if some of what came or was composed still waits for memory, or
+        why this side has stopped before."""
         self._call("finish")
 
     @property
@@ -126,7 +127,7 @@ class _Side:
         return self._number("pending", c_size_t)
 
     def take_out(self, most: Optional[int] = None) -> bytes:
-        """Moves out the pending bytes, all or the first `most`; b"" where there are none. ValueError where `most` is below 0."""
+        """Moves out the pending bytes, all or the first `most`; b"" if there are none. ValueError if `most` is below 0."""
         room = _least(most, self.pending)
         if room == 0:
             return b""
@@ -158,14 +159,14 @@ class Host(_Side):
 
     def add_file(self, name: Text, text: Text = "") -> int:
         """Adds a file, clean and closed, and returns its tag: 1 for the first, and so on. Raises AddRefused after the first feed, even
-        of no bytes, for a name above 64 runes or a text above 1,000,000, and where no tag is left; NotText; NoMemory. The host is then
+        of no bytes, for a name above 64 runes or a text above 1,000,000, or if no tag is left; NotText; NoMemory. The host is then
         as it was."""
         name, text = bytes_of(name), bytes_of(text)
         return self._number("add_file", c_uint16, name, len(name), text, len(text))
 
     def next_written(self) -> Optional[int]:
         """The tag of a file that the terminal asked the host to write: write `saved` of it to disk now. Each Twrite gives its tag once,
-        in order; None where there is none left."""
+        in order; None if there is none left."""
         return self._number_if_any("next_written", c_uint16)
 
     def written(self) -> Iterator[int]:
@@ -218,11 +219,11 @@ class Host(_Side):
         return self._long_text("text", place, runes, tag)
 
     def saved_len(self, tag: int) -> Optional[int]:
-        """The length in runes of what a file was when it was written last; None where it never was."""
+        """The length in runes of what a file was when it was written last; None if it never was."""
         return self._number_if_any("saved_len", c_uint32, tag)
 
     def saved(self, tag: int, place: int = 0, runes: Optional[int] = None) -> str:
-        """What a file was when it was written last, from a place on. Raises Missing where it never was."""
+        """What a file was when it was written last, from a place on. Raises Missing if it never was."""
         return self._long_text("saved", place, runes, tag)
 
     def dot(self, tag: int) -> Tuple[int, int]:
@@ -233,7 +234,7 @@ class Host(_Side):
 class Terminal(_Side):
     """The side with the windows. It begins without any file.
 
-    Each event of the user acts at once where it can, or is held until the locks that it waits for are free and the events before it
+    Each event of the user acts at once if it can, or is held until the locks that it waits for are free and the events before it
     have acted. An event that can't be done is reported by `refusals`, now or later; `events` has the number of the event that was made
     last. Each event may raise NoMemory, Unfinished, CountFull, or why the terminal has stopped (StreamFault, TerminalRefused).
     """
@@ -349,7 +350,7 @@ class Terminal(_Side):
         self._call("flush_now")
 
     def next_refusal(self) -> Optional[Refusal]:
-        """The oldest refused event that was not handed out yet; None where there is none."""
+        """The oldest refused event that was not handed out yet; None if there is none."""
         event, why = c_uint64(), c_uint32()
         code = self._answer("next_refusal", byref(event), byref(why))
         if code == Status.NONE:
@@ -372,7 +373,7 @@ class Terminal(_Side):
 
     @property
     def decided(self) -> int:
-        """How many of them have acted or were refused. Events are done in order, so the event that was made last is held where this is
+        """How many of them have acted or were refused. Events are done in order, so the event that was made last is held if this is
         below `events`."""
         return self._number("decided", c_uint64)
 
@@ -419,7 +420,7 @@ class Terminal(_Side):
 
     def read(self, tag: int, place: int, count: int) -> List[Optional[str]]:
         """The runes of an open file from a place on, at most `count`; None stands for one that is not loaded. Raises Missing,
-        and ValueError where a number is below 0."""
+        and ValueError if a number is below 0."""
         room = _least(count, max(0, self.len(tag) - place))
         into, got = (c_uint32 * room)(), c_uint32()
         self._call("read", tag, place, into, room, byref(got))
@@ -442,7 +443,7 @@ class Terminal(_Side):
         return self._number("place", c_uint32, tag, start, count)
 
     def line(self, tag: int, start: int, lines: int) -> Optional[int]:
-        """The place after so many line ends of an open file from a place on; None where a gap or the end comes before, or it isn't open."""
+        """The place after so many line ends of an open file from a place on; None if a gap or the end comes before, or it isn't open."""
         return self._number_if_any("line", c_uint32, tag, start, lines)
 
     def changed(self, tag: int) -> Change:
@@ -453,7 +454,7 @@ class Terminal(_Side):
         return Change(start.value, gone.value, came.value)
 
     def first_gap(self, tag: int, place: int = 0) -> Optional[int]:
-        """The first place of an open file, there or after it, whose rune is not loaded; None where there is none, or it isn't open."""
+        """The first place of an open file, there or after it, whose rune is not loaded; None if there is none, or it isn't open."""
         return self._number_if_any("first_gap", c_uint32, tag, place)
 
     def dot(self, tag: int) -> Tuple[int, int]:

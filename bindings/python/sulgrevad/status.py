@@ -120,8 +120,8 @@ class TerminalRefused(SamError):
 
 
 class ScriptFault(SamError, ValueError):
-    """A script can't be replayed (SAM_SCRIPT_..). `line` is its first wrong line, counted from 1, or where none is wrong the line at
-    which nothing is there to take; None where a count is full."""
+    """A script can't be replayed (SAM_SCRIPT_..). `line` is its first wrong line, counted from 1, or if none is wrong the line at
+    which nothing is there to take; None if a count is full."""
 
     line: Optional[int] = None
 

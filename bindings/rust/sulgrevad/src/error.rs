@@ -138,7 +138,7 @@ pub enum Error {
     HostRefused(HostFault),
     /// The terminal refused a frame, and has stopped.
     TermRefused(TermFault),
-    /// The first wrong line of a script, counted from 1; or where none is wrong the line at which nothing is there to take.
+    /// The first wrong line of a script, counted from 1; or if none is wrong the line at which nothing is there to take.
     ScriptLine(usize),
     /// A line of a script would count more than 2^64-1 messages.
     ScriptCountFull,

@@ -39,8 +39,8 @@ impl Host {
         done(unsafe { sys::sam_host_feed(self.at(), bytes.as_ptr(), bytes.len()) })
     }
 
-    /// Says that the terminal's stream has ended: `Ok` where it may end here. Errors in order: why the host has stopped before;
-    /// `Unfinished` where some of what came waits; `Stream(Truncated)` where the stream ends inside a message.
+    /// Asks whether the terminal's stream may end here, once the input has ended. It changes nothing. Errors in order: why the host has
+    /// stopped before; `Unfinished` if some of what came still waits for memory; `Stream(Truncated)` if the stream ends inside a message.
     pub fn finish(&self) -> Result<(), Error> {
         done(unsafe { sys::sam_host_finish(self.at()) })
     }
@@ -92,7 +92,7 @@ impl Host {
         tells(|has| unsafe { sys::sam_host_has_file(self.at(), tag, has) })
     }
 
-    /// The name of a file; `None` where the tag has none, as for the readers below.
+    /// The name of a file; `None` if the tag has none, as for the readers below.
     pub fn name(&self, tag: u16) -> Option<String> {
         short_text(|into, len| unsafe { sys::sam_host_name(self.at(), tag, into.as_mut_ptr(), into.len(), len) })
     }
@@ -114,7 +114,7 @@ impl Host {
         })
     }
 
-    /// What a file was when it was written last; `None` also where it never was.
+    /// What a file was when it was written last; `None` also if it never was.
     pub fn saved(&self, tag: u16) -> Option<String> {
         whole_text(|place, into, bytes, runes| unsafe {
             sys::sam_host_saved(self.at(), tag, place, into.as_mut_ptr(), into.len(), bytes, runes)

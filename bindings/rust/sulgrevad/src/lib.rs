@@ -72,7 +72,7 @@ fn done(status: u32) -> Result<(), Error> {
     }
 }
 
-/// What a reader hands out where it answers that it did: `None` where there is no such thing.
+/// What a reader hands out if it answers that it did: `None` if there is no such thing.
 fn told<T: Default>(read: impl FnOnce(&mut T) -> u32) -> Option<T> {
     let mut value = T::default();
     (read(&mut value) == sys::SAM_OK).then_some(value)

@@ -20,7 +20,7 @@ pub struct Change {
 
 /// A terminal. It is dropped with what is pending.
 ///
-/// Each event acts at once where it can, or is held until the locks that it waits for are free and the events before it have acted; each
+/// Each event acts at once if it can, or is held until the locks that it waits for are free and the events before it have acted; each
 /// call also lets held events act. What is composed is then pending. Errors: `NoMemory`, `Unfinished`, `CountFull`, `Stream`,
 /// `TermRefused`. An event that is refused is no error: `refusals` reports it.
 #[derive(Debug)]
@@ -170,8 +170,9 @@ impl Terminal {
         done(unsafe { sys::sam_term_feed(self.at(), bytes.as_ptr(), bytes.len()) })
     }
 
-    /// Says that the host's stream has ended: `Ok` where it may end here. Errors in order: why the terminal has stopped before;
-    /// `Unfinished` where some of what came or was composed waits; `Stream(Truncated)` where the stream ends inside a frame.
+    /// Asks whether the host's stream may end here, once the input has ended. It changes nothing. Errors in order: why the terminal has
+    /// stopped before; `Unfinished` if some of what came or was composed still waits for memory; `Stream(Truncated)` if the stream ends
+    /// inside a frame.
     pub fn finish(&self) -> Result<(), Error> {
         done(unsafe { sys::sam_term_finish(self.at()) })
     }
@@ -207,7 +208,7 @@ impl Terminal {
         })
     }
 
-    /// The runes of an open file from a place on, at most `most`: `None` for each that is not loaded. Nothing where it is not open.
+    /// The runes of an open file from a place on, at most `most`: `None` for each that is not loaded. Nothing if it is not open.
     pub fn read(&self, tag: u16, place: u32, most: usize) -> Vec<Option<char>> {
         let most = most.min(self.len(tag).unwrap_or(0).saturating_sub(place) as usize);
         let mut runes = vec![0; most];
@@ -221,7 +222,7 @@ impl Terminal {
     }
 
     /// What changed in an open file since this was asked of it last: the smallest stretch that holds what each frame and each event
-    /// touched, loading included. The first time its text was empty before. `None` where it is not open. The only error is `NoMemory`,
+    /// touched, loading included. The first time its text was empty before. `None` if it is not open. The only error is `NoMemory`,
     /// the first time.
     pub fn changed(&mut self, tag: u16) -> Result<Option<Change>, Error> {
         let (mut start, mut gone, mut came) = (0, 0, 0);
@@ -236,7 +237,7 @@ impl Terminal {
         tells(|value| unsafe { sys::sam_term_events(self.at(), value) })
     }
 
-    /// How many of them have acted or were refused. Events are done in order, so the event that was made last is held where this is below
+    /// How many of them have acted or were refused. Events are done in order, so the event that was made last is held if this is below
     /// `events`.
     pub fn decided(&self) -> u64 {
         tells(|value| unsafe { sys::sam_term_decided(self.at(), value) })
@@ -258,7 +259,7 @@ impl Terminal {
     }
 
     /// Whether a file may differ from what was written last: the host said that it is dirty, or the user changed it here since. An event
-    /// that is held has changed nothing yet. False where the tag is not known.
+    /// that is held has changed nothing yet. False if the tag is not known.
     pub fn is_changed(&self, tag: u16) -> bool {
         tells(|value| unsafe { sys::sam_term_is_changed(self.at(), tag, value) })
     }
@@ -312,7 +313,7 @@ impl Terminal {
         tells(|value| unsafe { sys::sam_term_version(self.at(), value) })
     }
 
-    /// Whether a known file is dirty, as the host said last; `None` where the tag is not known.
+    /// Whether a known file is dirty, as the host said last; `None` if the tag is not known.
     pub fn is_dirty(&self, tag: u16) -> Option<bool> {
         told(|value| unsafe { sys::sam_term_is_dirty(self.at(), tag, value) })
     }
@@ -323,7 +324,7 @@ impl Terminal {
         told(|value| unsafe { sys::sam_term_current(self.at(), value) })
     }
 
-    /// The length of an open file in runes, gaps counted; `None` where it is not open.
+    /// The length of an open file in runes, gaps counted; `None` if it is not open.
     pub fn len(&self, tag: u16) -> Option<u32> {
         told(|value| unsafe { sys::sam_term_len(self.at(), tag, value) })
     }
@@ -333,7 +334,7 @@ impl Terminal {
         told(|gap| unsafe { sys::sam_term_first_gap(self.at(), tag, place, gap) })
     }
 
-    /// The text of an open file from a place on, up to the first rune that is not loaded; `None` where it is not open.
+    /// The text of an open file from a place on, up to the first rune that is not loaded; `None` if it is not open.
     pub fn text(&self, tag: u16, place: u32) -> Option<String> {
         text_from(place, |place, into, bytes, runes| unsafe {
             sys::sam_term_text(self.at(), tag, place, into.as_mut_ptr(), into.len(), bytes, runes)
@@ -341,19 +342,19 @@ impl Terminal {
     }
 
     /// How many bytes the loaded runes of an open file from a place to a place take in UTF-8, and how many of its runes there are not
-    /// loaded; `None` where it is not open.
+    /// loaded; `None` if it is not open.
     pub fn bytes(&self, tag: u16, start: u32, end: u32) -> Option<(usize, u32)> {
         let mut gaps = 0;
         told(|bytes| unsafe { sys::sam_term_bytes(self.at(), tag, start, end, bytes, &mut gaps) }).map(|bytes| (bytes, gaps))
     }
 
     /// The place after the loaded runes of an open file from a place on that so many bytes of UTF-8 hold whole: a gap or the end of the
-    /// text is the last place. `None` where it is not open.
+    /// text is the last place. `None` if it is not open.
     pub fn place(&self, tag: u16, start: u32, bytes: usize) -> Option<u32> {
         told(|place| unsafe { sys::sam_term_place(self.at(), tag, start, bytes, place) })
     }
 
-    /// The place after so many line ends of an open file from a place on; `None` also where a gap or the end of the text comes before.
+    /// The place after so many line ends of an open file from a place on; `None` also if a gap or the end of the text comes before.
     pub fn line(&self, tag: u16, start: u32, lines: u32) -> Option<u32> {
         told(|place| unsafe { sys::sam_term_line(self.at(), tag, start, lines, place) })
     }
@@ -370,7 +371,7 @@ impl Terminal {
         told(|start| unsafe { sys::sam_term_view_of(self.at(), tag, start, &mut end) }).map(|start| (start, end))
     }
 
-    /// The name of a known file; `None` where the tag is not known.
+    /// The name of a known file; `None` if the tag is not known.
     pub fn name(&self, tag: u16) -> Option<String> {
         short_text(|into, len| unsafe { sys::sam_term_name(self.at(), tag, into.as_mut_ptr(), into.len(), len) })
     }
