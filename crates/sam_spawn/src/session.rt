@@ -65,7 +65,7 @@ fn run_over<R: Threads + Wait + Sync, G: Gate>(
     settle_run(rt, alloc, lines, script, gate, ends)
 }
 
-/// ComesToSync the ends that a run of the script over these lines left. The only error is `OutOfMemory`.
+/// Settles the ends that a run of the script over these lines left. The only error is `OutOfMemory`.
 fn settle_run<'q, R: Wait, G: Gate>(
     rt: &R,
     alloc: Global,

@@ -53,7 +53,6 @@ pub struct UserPromise<'a, 'q, G> {
     pub worker: usize,
     /// The events that the worker was given.
     pub todo: Snapshot<Vec<UserEvent>>,
-    /// The line of events.
     pub events: &'q Line<Input>,
 }
 
@@ -82,9 +81,7 @@ pub struct HostPromise<'a, 'q, G> {
     pub gate: &'a G,
     /// The names and texts that the host began with.
     pub files: Snapshot<Vec<(Runes, Runes)>>,
-    /// The line up.
     pub up: &'q Line<Vec<u8>>,
-    /// The line down.
     pub down: &'q Line<Vec<u8>>,
 }
 
@@ -111,9 +108,7 @@ impl<'a, 'q, G: Gate> Promise<Option<HostEnd<'q>>> for HostPromise<'a, 'q, G> {
 pub struct ReaderPromise<'a, 'q, G> {
     /// The gate that the worker asks.
     pub gate: &'a G,
-    /// The line down.
     pub down: &'q Line<Vec<u8>>,
-    /// The line of events.
     pub events: &'q Line<Input>,
 }
 
@@ -139,9 +134,7 @@ impl<'a, 'q, G: Gate> Promise<Option<ReaderEnd<'q>>> for ReaderPromise<'a, 'q, G
 pub struct TermPromise<'a, 'q, G> {
     /// The gate that the worker asks.
     pub gate: &'a G,
-    /// The line of events.
     pub events: &'q Line<Input>,
-    /// The line up.
     pub up: &'q Line<Vec<u8>>,
 }
 
@@ -393,15 +386,10 @@ fn spawn_terminal<'s, 'e: 's, 'q: 's, R: Wait + Sync, G: Gate>(
 
 /// The handles of the five threads, all started. `spawn_all` makes them, and `join_all` takes them.
 pub struct Handles<'s, 'q, G: Gate> {
-    /// The keyboard's thread.
     pub keyboard: UserHandle<'s, 'q, G>,
-    /// The mouse's thread.
     pub mouse: UserHandle<'s, 'q, G>,
-    /// The host's thread.
     pub host: HostHandle<'s, 'q, G>,
-    /// The host reader's thread.
     pub reader: ReaderHandle<'s, 'q, G>,
-    /// The terminal's thread.
     pub term: TermHandle<'s, 'q, G>,
 }
 

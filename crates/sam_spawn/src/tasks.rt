@@ -70,17 +70,11 @@ pub struct TermTask<'q> {
 /// What the five workers begin with, and their lines. The posts and takes are all of these lines.
 #[derive(Drop)]
 pub struct Tasks<'q> {
-    /// The lines of the session.
     pub lines: &'q Lines,
-    /// The task of the keyboard's worker.
     pub keyboard: UserTask<'q>,
-    /// The task of the mouse's worker.
     pub mouse: UserTask<'q>,
-    /// The task of the host's worker.
     pub host: HostTask<'q>,
-    /// The task of the host reader.
     pub reader: ReaderTask<'q>,
-    /// The task of the terminal's worker.
     pub term: TermTask<'q>,
 }
 
