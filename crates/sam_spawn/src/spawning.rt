@@ -4,13 +4,12 @@ ghost use Rattle.sam_spawn.specs.Promised.{UserKept, HostKept, ReaderKept, TermK
 ghost use Rattle.sam_spawn.specs.Promised.{PromisesReader, PromisesTerm, TasksPromised};
 ghost use Rattle.sam_spawn.specs.Tasks.{IsUserTask, IsHostTask, IsReaderTask, IsTermTask, AreReady};
 
-use crate::tasks::{HostTask, ReaderTask, Tasks, TermTask, UserTask};
+use crate::tasks::{ReaderTask, Tasks, TermTask, UserTask};
 use sam_queue::Line;
 use sam_runes::Runes;
 use sam_term::event::UserEvent;
-use sam_term::term::Terminal;
 use sam_workers::{
-    Ends, Gate, HostEnd, Input, ReaderEnd, TermEnd, UserEnd, pass_frames, run_terminal,
+    Ends, Gate, HostEnd, HostTask, Input, ReaderEnd, TermEnd, UserEnd, pass_frames, run_terminal,
     send_events, serve_host,
 };
 use std::alloc::Global;
@@ -190,22 +189,12 @@ fn begin_host<'q, R: Wait, G: Gate>(
     if !*shared.start.wait(shared.rt) {
         return None;
     }
-    let HostTask {
-        take,
-        post,
-        files,
-        host,
-        held: _,
-    } = task;
     Some(serve_host(
         shared.rt,
         shared.alloc,
         shared.gate,
         shared.piece,
-        take,
-        post,
-        files,
-        host,
+        task,
     ))
 }
 
@@ -247,7 +236,6 @@ fn begin_terminal<'q, R: Wait, G: Gate>(
         post,
         held: _,
     } = task;
-    let term = Terminal::new(shared.alloc);
     Some(run_terminal(
         shared.rt,
         shared.alloc,
@@ -255,7 +243,6 @@ fn begin_terminal<'q, R: Wait, G: Gate>(
         shared.piece,
         take,
         post,
-        term,
     ))
 }
 
