@@ -1,5 +1,5 @@
 -- Going on with what waits, step by step.
-use Rattle.sam_endpoint.proofs.Common.{◌≡◌, refl, sym, subst, ◌∙◌, ℕ, List, [], ◌∷◌, ◌++◌, drop, true, Option, None, Ok, Err, inl, inr, append_assoc, append-nil, arith, Tmesg, HFrame, host, terminal, stream_of, Held, stream_of-append, PlainHost, answer, StreamFault, HostStop, EndpointFault, Gives, PlainHostEndpoint, Answers, Feeds, GoesOn, Serves, TakesIn, writes_of, Answer, AnswersFirst, Ends, Writes}
+use Rattle.sam_endpoint.proofs.Common.{◌≡◌, refl, sym, subst, ◌∙◌, ℕ, List, [], ◌∷◌, ◌++◌, true, Option, None, Ok, Err, inl, inr, append_assoc, append-nil, arith, Tmesg, HFrame, host, terminal, stream_of, Held, stream_of-append, PlainHost, answer, StreamFault, HostStop, EndpointFault, Gives, PlainHostEndpoint, Answers, Feeds, GoesOn, Serves, TakesIn, writes_of, Answer, AnswersFirst, Ends, Writes}
 use Rattle.sam_endpoint.specs.declared.fault.HostStop.TheVariants as stop
 use Rattle.sam_endpoint.specs.declared.fault.EndpointFault.TheVariants as fault
 use Rattle.sam_endpoint.specs.HostSteps.{written}
@@ -20,10 +20,7 @@ bytes_more e k g first rest p q = grind (arith, stream_of-append, append_assoc)
 answers_more : (e k g : PlainHostEndpoint) (ms ns : List Tmesg) → Answers e ms k → Answers k ns g → Answers e (ms ++ ns) g
 answers_more e k g ms ns p q = grind (arith, serves_more, append_assoc, bytes_more)
 
--- the oldest message was dropped
-pub first_waits : (waiting same left : List Tmesg) (m : Tmesg) → waiting ≡ same → same ≡ m ∷ drop 1 same → left ≡ drop 1 waiting → waiting ≡ m ∷ left
-first_waits waiting same left m is first dropped = grind arith
-
+-- the oldest message was answered and dropped
 pub first_done : (e before g : PlainHostEndpoint) (m : Tmesg) (rest : List Tmesg) (h : PlainHost) (frames : List HFrame) (writes : List ℕ) → before ≡ e
     → g ≡ record before { host = h; waiting = rest; unwritten = frames; writes = writes } → before.waiting ≡ m ∷ rest → answer before.host m ≡ Ok (h, frames)
     → writes ≡ before.writes ++ writes_of before.host m → AnswersFirst e g

@@ -10,5 +10,6 @@ pub mod TermEndpointMoves
 pub mod TermEndpointSteps
 pub mod TermEndpointCalls
 pub mod HostEndpointRuns
+pub mod TermEndpointRuns
 pub mod Members
 pub mod Crossing

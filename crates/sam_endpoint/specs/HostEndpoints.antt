@@ -25,9 +25,9 @@ pub record PlainHostEndpoint : Type 0 where
   pub framer : Held  -- what came of the terminal's stream and is no whole frame yet
   pub host : PlainHost
   pub is_begun : Bool  -- it was fed, so no file can be added any more
-  pub waiting : List Tmesg  -- messages that came and are not answered yet, for want of memory
+  pub waiting : List Tmesg  -- messages that came and are not answered yet, since memory was refused
   pub behind : Option StreamFault  -- what is wrong with the stream behind them
-  pub unwritten : List HFrame  -- frames that were answered and are not in the pending_bytes yet, for want of memory
+  pub unwritten : List HFrame  -- frames that were answered and are not in the pending_bytes yet, since memory was refused
   pub pending_bytes : List ℕ  -- bytes for the terminal that were not taken yet
   pub writes : List ℕ  -- the tags that the host was told to write and that were not asked for yet, in order
   pub stop : Option HostStop  -- why it has stopped for good

@@ -6,3 +6,4 @@ pub mod Changes
 pub mod TermEndpoints
 pub mod TermSteps
 pub mod Drawing
+pub mod TermRuns

@@ -48,6 +48,17 @@ fn write_in(host: &Host, message: &Tmesg) -> Option<u16>
     }
 }
 
+/// Returns the oldest message.
+fn oldest(messages: &VecDeque<Tmesg>) -> &Tmesg
+    requires { 0 < length messages.now.items }
+    ensures { messages.now.items ≡ result.now ∷ drop 1 messages.now.items }
+{
+    match messages.front() {
+        Some(message) => message,
+        None => unreachable!(),
+    }
+}
+
 /// Puts the tag after the others, if there is one. There is room for it.
 fn note(writes: &mut VecDeque<u16>, tag: Option<u16>)
     requires { deque_len writes.old < deque_capacity writes.old }
@@ -300,32 +311,18 @@ impl HostEndpoint {
         !self.waiting.is_empty()
     }
 
-    /// Returns a copy of the oldest message that waits. Its only error is out of memory.
-    fn copy_first(&self) -> Result<Tmesg, AllocError>
-        requires { 0 < length self.now.waiting }
-        ensures first { IfOk result (λ message. self.now.waiting ≡ message ∷ drop 1 self.now.waiting) }
-        ensures fits { IfOk result FitsLast }
-    {
-        match self.waiting.front() {
-            Some(message) => message.copy(self.alloc),
-            None => unreachable!(),
-        }
-    }
-
     /// Has the host answer the oldest message that waits, which then waits no longer. All memory is had before: after `Unfinished` all is
     /// as it was. After `Stopped` the message waits on.
     fn answer_first(&mut self) -> Result<(), EndpointFault<HostStop>>
         requires { 0 < length self.old.waiting }
         ensures { Handles self.old result self.new }
     {
-        let Ok(message) = self.copy_first() else {
-            return Err(EndpointFault::Unfinished);
-        };
         if self.writes.reserve(1).is_err() {
             return Err(EndpointFault::Unfinished);
         }
-        let tag = write_in(&self.host, &message);
-        match self.host.handle(message) {
+        let message = oldest(&self.waiting);
+        let tag = write_in(&self.host, message);
+        match self.host.handle_lent(message) {
             Ok(frames) => {
                 drop_first(&mut self.waiting);
                 note(&mut self.writes, tag);

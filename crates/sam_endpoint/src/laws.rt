@@ -2,6 +2,7 @@
 
 ghost use Rattle.sam_endpoint.specs.Changes.{ActsKeep, AskingBegins, FlushesKeep, FramesKeep, KeptTellsChange, UnaskedIsKept};
 ghost use Rattle.sam_endpoint.specs.HostRuns.{OneOutcome, RunsServe};
+ghost use Rattle.sam_endpoint.specs.TermRuns.{RunsLead};
 
 use sam_frame::one_reading_t;
 
@@ -20,6 +21,14 @@ pub fn host_one_outcome()
 {
     one_reading_t();
 }
+
+/// States what every run of a terminal end that does not stop comes to, whatever the pieces are and whenever memory is refused. The
+/// terminal has received the first frames of the stream in order, and the others wait; it was given each event that was put, in order;
+/// and the messages that it composed are what was taken out, what is pending, and what is not written yet.
+#[tactic(auto, using(crate::proofs::TermEndpointRuns::runs_lead))]
+pub fn term_runs_lead()
+    ensures { RunsLead }
+{}
 
 /// States what `TermEndpoint::changed` hands out. So much of a text as is kept stands in it as it stood when that was asked last: it is so
 /// when it is asked, it stays so at each frame, event and flush, and so all else is the change.

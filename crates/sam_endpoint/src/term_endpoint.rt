@@ -21,8 +21,8 @@ use std::marker::Model;
 /// A terminal that takes the bytes of a host's frames and the user's events, and keeps the bytes of its messages until they are taken out.
 ///
 /// At each `feed`, `put` and `flush_now` frames are received in order, and then events act for as long as no lock holds the oldest back.
-/// Want of memory loses nothing: what could not be received, done or written waits, and the next of these calls goes on with it. A fault of the
-/// stream, or a frame that the terminal refuses, stops the end for good, once the frames before it are received. An event that the
+/// Out of memory loses nothing: what could not be received, done or written waits, and the next of these calls goes on with it. A fault
+/// of the stream, or a frame that the terminal refuses, stops the end for good, once the frames before it are received. An event that the
 /// terminal refuses stops nothing: `next_refusal` reports it.
 ///
 /// ```rust
@@ -34,8 +34,6 @@ use std::marker::Model;
 /// ```
 #[derive(Drop)]
 pub struct TermEndpoint {
-    /// Where everything takes its memory from.
-    alloc: Global,
     /// Cuts the host's stream into frames. It has not failed while `behind` is `None`.
     framer: FramerH,
     /// The terminal, as the frames and events so far left it. It holds at most as many events as `events` counts.
@@ -79,7 +77,6 @@ impl TermEndpoint {
         ensures { result ≡ new_term_endpoint }
     {
         TermEndpoint {
-            alloc,
             framer: FramerH::new(alloc),
             term: Terminal::new(alloc),
             waiting: VecDeque::new(alloc),
@@ -129,7 +126,7 @@ impl TermEndpoint {
         };
         let stamp = frame.seen;
         let touch = frame_touch(&self.term, &frame.msg);
-        match receive_copy(&mut self.term, frame, self.alloc) {
+        match receive_now(&mut self.term, frame) {
             Ok(composed) => {
                 drop_first(&mut self.waiting);
                 self.unwritten = composed.into_vec();
@@ -453,20 +450,16 @@ fn first_frame(frames: &VecDeque<HFrame>) -> Option<&HFrame>
     frames.front()
 }
 
-/// Has the terminal receive a copy of a frame, and returns what it composes. After an error the terminal is as it was.
-fn receive_copy(
+/// Has the terminal receive a frame, and returns what it composes. After an error the terminal is as it was.
+fn receive_now(
     term: &mut Terminal,
     frame: &HFrame,
-    alloc: Global,
 ) -> Result<Batch, EndpointFault<TermStop>>
     requires { IsTrue (fits_h 2 frame.now.msg) }
     ensures tries { Tries term.old (take_of term.old frame.now) result term.new }
     ensures fit { IfOk result AllFit }
 {
-    let Ok(frame) = frame.copy(alloc) else {
-        return Err(EndpointFault::Unfinished);
-    };
-    match term.receive(frame) {
+    match term.receive_lent(frame) {
         Ok(composed) => Ok(composed),
         Err(why) => Err(end_fault(why)),
     }

@@ -9,15 +9,15 @@ invariant_of-self c =
     let first : c.self.inside.waiting.items ≡ frame ∷ drop 1 c.self.inside.waiting.items =
     first_read c.self.inside.waiting.items frame (sym c.first_frame.ensures ∙ ap (λ o. option_copied o) c.in-Some.is) in
     let fit = rest_fit c.self.inside.waiting.items frame first c.self.invariant.waiting in
-    let counted = taken_counted (shown c.self.inside) c.receive_copy.new.term frame c.in-Ok.composed c.self.invariant c.in-Ok.ensures.tries in
-    let stamped = take_stamped c.self.inside.term c.receive_copy.new.term frame c.in-Ok.composed c.in-Ok.ensures.tries in
+    let counted = taken_counted (shown c.self.inside) c.receive_now.new.term frame c.in-Ok.composed c.self.invariant c.in-Ok.ensures.tries in
+    let stamped = take_stamped c.self.inside.term c.receive_now.new.term frame c.in-Ok.composed c.in-Ok.ensures.tries in
     grind (arith, fit, counted, stamped, c.drop_first.ensures, c.into_vec.ensures, c.in-Ok.ensures.fit)
 
 pub returns-in-Ok : goal.returns-in-Ok
 returns-in-Ok c =
     let e : PlainTermEndpoint = shown c.self.inside in
     let frame = c.in-Some.frame.now in
-    let u = c.receive_copy.new.term in
+    let u = c.receive_now.new.term in
     let g : PlainTermEndpoint = record e { term = u; waiting = c.drop_first.new.waiting.items; unwritten = c.into_vec.result.items; seen = frame.seen; kept = c.note.new.self } in
     subst (λ (x : PlainTermEndpoint). ReceivesFirst x g) c.self.view_is (record {
       frame = frame;
@@ -33,7 +33,7 @@ pub returns-in-Err : goal.returns-in-Err
 returns-in-Err c =
     let e : PlainTermEndpoint = shown c.self.inside in
     let frame = c.in-Some.frame.now in
-    let u = c.receive_copy.new.term in
+    let u = c.receive_now.new.term in
     let why = c.in-Err.fault in
     let failed : Receives e (Err why) c.stop_by.new.self =
     receive_failed e (record e { term = u }) c.stop_by.new.self frame (drop 1 c.self.inside.waiting.items) u why

@@ -1,0 +1,332 @@
+-- What every run of a terminal end comes to.
+use Rattle.sam_endpoint.proofs.Common.{◌≡◌, ◌⊎◌, refl, sym, ap, subst, ◌∙◌, inl, inr, ℕ, List, [], ◌∷◌, ◌++◌, flat_map, flat_map-append, Option, Ok, Err, append_assoc, append-nil, arith, option_map, Tmesg, HFrame, host, terminal, Splits, stream_of, version_after, Held, stream_of-append, version_after-append, Splits-then, PlainTerminal, Acted, flush_of, composed_in, UserEvent, TermStop, StreamFault, Gives, mesg_fault, PlainTermEndpoint, Acts, Moves}
+use Rattle.sam_frame.specs.Reading.{IsStream}
+use Rattle.sam_frame.proofs.Cuttings.{Splits-longer}
+use Rattle.sam_term.specs.Term.{new_terminal}
+use Rattle.sam_endpoint.specs.declared.fault.EndpointFault.TheVariants as fault
+use Rattle.sam_endpoint.specs.TermSteps.{Answer}
+use Rattle.sam_endpoint.specs.TermEndpoints.{Feeds, FeedsIdle, Flushes, FlushesIdle, GoesOn, Puts, PutsIdle, Receives, TakesIn, composed_by, new_term_endpoint, with_event}
+use Rattle.sam_endpoint.specs.declared.changes.Kept as changes
+use Rattle.sam_term.specs.declared.fault.Refusal.{Refusal}
+use Rattle.sam_endpoint.specs.TermRuns.{Call, GoesOnAfter, HasDone, Leads, Runs, Step, came_in, event_in, events_in, frame_in, frames_in, if_taken, put_in, went_out}
+use Rattle.sam_endpoint.specs.TermRuns as run
+
+-- ## Steps one after another
+
+leads_more : (t u v : PlainTerminal) (a b : List Step) (x y : List Tmesg) → Leads t a x u → Leads u b y v → Leads t (a ++ b) (x ++ y) v
+leads_more t u v [] b x y p q = grind arith
+leads_more t u v (run.Received frame ∷ a) b x y (w, first, rest, took, is, leads) q =
+    (w, first, rest ++ y, took, ap (λ (z : List Tmesg). z ++ y) is ∙ append_assoc first rest y, leads_more w u v a b rest y leads q)
+leads_more t u v (run.Held event ∷ a) b x y p q = leads_more (record t { held = t.held ++ event ∷ [] }) u v a b x y p q
+leads_more t u v (run.Decided acted ∷ a) b x y (w, rest, took, is_decided, is, leads) q =
+    (w, rest ++ y, took, is_decided, ap (λ (z : List Tmesg). z ++ y) is ∙ append_assoc (composed_in acted) rest y, leads_more w u v a b rest y leads q)
+leads_more t u v (run.Sent ∷ a) b x y (w, first, rest, took, is, leads) q =
+    (w, first, rest ++ y, took, ap (λ (z : List Tmesg). z ++ y) is ∙ append_assoc first rest y, leads_more w u v a b rest y leads q)
+
+abbrev received : List HFrame → List Step
+received [] = []
+received (frame ∷ frames) = run.Received frame ∷ received frames
+
+abbrev decided : List Acted → List Step
+decided [] = []
+decided (acted ∷ acts) = run.Decided acted ∷ decided acts
+
+receives_leads : (t u : PlainTerminal) (frames : List HFrame) (composed : List Tmesg) → Receives t frames composed u → Leads t (received frames) composed u
+receives_leads t u [] composed p = p
+receives_leads t u (frame ∷ frames) composed (v, first, rest, took, is, receives) = (v, first, rest, took, is, receives_leads v u frames rest receives)
+
+acts_lead : (t u : PlainTerminal) (acts : List Acted) → Acts t acts u → Leads t (decided acts) (composed_by acts) u
+acts_lead t u [] p = (refl, p)
+acts_lead t u (acted ∷ acts) (v, acts_as, is_decided, rest) = (v, composed_by acts, acts_as, is_decided, refl, acts_lead v u acts rest)
+
+frames_received : (frames : List HFrame) → frames_in (received frames) ≡ frames
+frames_received [] = refl
+frames_received (frame ∷ frames) = ap (λ (x : List HFrame). frame ∷ x) (frames_received frames)
+
+events_received : (frames : List HFrame) → events_in (received frames) ≡ []
+events_received [] = refl
+events_received (frame ∷ frames) = events_received frames
+
+frames_decided : (acts : List Acted) → frames_in (decided acts) ≡ []
+frames_decided [] = refl
+frames_decided (acted ∷ acts) = frames_decided acts
+
+events_decided : (acts : List Acted) → events_in (decided acts) ≡ []
+events_decided [] = refl
+events_decided (acted ∷ acts) = events_decided acts
+
+-- ## What a run keeps: what it comes to, and the version at this place of the stream
+
+record Kept (stream : List ℕ) (events : List UserEvent) (out : List ℕ) (e : PlainTermEndpoint) : Type 0 where
+  pub done : HasDone stream events out e
+  pub version : e.framer.version ≡ version_after host 1 (frames_in done.steps ++ e.waiting)
+
+-- ## One step of a run
+
+kept_moves : (stream : List ℕ) (events : List UserEvent) (out : List ℕ) (e g : PlainTermEndpoint) (frames : List HFrame) (acts : List Acted) → Moves e frames acts g
+    → Kept stream events out e → Kept stream events out g
+kept_moves stream events out e g frames acts m kept =
+    let d = kept.done in
+    let steps : List Step = d.steps ++ (received frames ++ decided acts) in
+    let frames_are : frames_in steps ++ g.waiting ≡ frames_in d.steps ++ e.waiting =
+    all_frames d.steps frames acts e.waiting g.waiting m.waiting in
+    record {
+      done = record {
+        steps = steps;
+        composed = d.composed ++ (m.composed ++ composed_by acts);
+        leads = leads_more new_terminal e.term g.term d.steps (received frames ++ decided acts) d.composed (m.composed ++ composed_by acts) d.leads
+            (leads_more e.term m.middle g.term (received frames) (decided acts) m.composed (composed_by acts)
+            (receives_leads e.term m.middle frames m.composed m.receives) (acts_lead m.middle g.term acts m.acted));
+        reads = reads_as stream e g (frames_in d.steps ++ e.waiting) (frames_in steps ++ g.waiting) frames_are m.framer m.behind d.reads;
+        given = all_events d.steps frames acts ∙ d.given;
+        bytes = bytes_on out e g d.composed m.composed (composed_by acts) d.bytes m.bytes;
+      };
+      version = ap (λ (x : Held). x.version) m.framer ∙ kept.version ∙ ap (λ (x : List HFrame). version_after host 1 x) (sym frames_are);
+    }
+  where
+    all_frames : (steps : List Step) (frames : List HFrame) (acts : List Acted) (before after : List HFrame) → before ≡ frames ++ after
+        → frames_in (steps ++ (received frames ++ decided acts)) ++ after ≡ frames_in steps ++ before
+    all_frames steps frames acts before after is =
+        grind (
+          arith,
+          append_assoc,
+          append-nil,
+          (flat_map-append frame_in steps (received frames ++ decided acts)),
+          (flat_map-append frame_in (received frames) (decided acts)),
+          (frames_received frames),
+          (frames_decided acts),
+        )
+    all_events : (steps : List Step) (frames : List HFrame) (acts : List Acted) → events_in (steps ++ (received frames ++ decided acts)) ≡ events_in steps
+    all_events steps frames acts =
+        grind (
+          arith,
+          append-nil,
+          (flat_map-append event_in steps (received frames ++ decided acts)),
+          (flat_map-append event_in (received frames) (decided acts)),
+          (events_received frames),
+          (events_decided acts),
+        )
+    reads_as : (stream : List ℕ) (e g : PlainTermEndpoint) (a b : List HFrame) → b ≡ a → g.framer ≡ e.framer → g.behind ≡ e.behind
+        → IsStream host 1 stream a e.framer.bytes (option_map mesg_fault e.behind) → IsStream host 1 stream b g.framer.bytes (option_map mesg_fault g.behind)
+    reads_as stream e g a b is framer behind reads = grind arith
+    bytes_on : (out : List ℕ) (e g : PlainTermEndpoint) (composed first more : List Tmesg) → (out ++ e.pending_bytes) ++ stream_of terminal e.unwritten ≡ stream_of terminal composed
+        → g.pending_bytes ++ stream_of terminal g.unwritten ≡ e.pending_bytes ++ stream_of terminal (e.unwritten ++ first ++ more)
+        → (out ++ g.pending_bytes) ++ stream_of terminal g.unwritten ≡ stream_of terminal (composed ++ (first ++ more))
+    bytes_on out e g composed first more p q = grind (arith, append_assoc, stream_of-append)
+
+kept_goes_on : (stream : List ℕ) (events : List UserEvent) (out : List ℕ) (e g : PlainTermEndpoint) (result : Answer) → GoesOnAfter result → GoesOn e result g
+    → Kept stream events out e → Kept stream events out g
+kept_goes_on stream events out e g (Ok done) goes on kept = kept_moves stream events out e g e.waiting on.0 on.1 kept
+kept_goes_on stream events out e g (Err fault.Unfinished) goes on kept = kept_moves stream events out e g on.0 on.1 on.2 kept
+kept_goes_on stream events out e g (Err fault.OutOfMemory) goes on kept = absurd on
+kept_goes_on stream events out e g (Err fault.CountFull) goes on kept = absurd on
+kept_goes_on stream events out e g (Err (fault.Stopped why)) goes on kept = absurd goes
+
+-- ## Calls
+
+-- a piece after a stream
+reads_more : (h k : Held) (stream piece : List ℕ) (before ms : List HFrame) (behind : Option StreamFault) → Splits host 1 stream before h.bytes
+    → h.version ≡ version_after host 1 before → Gives host h piece ms behind k
+    → IsStream host 1 (stream ++ piece) (before ++ ms) k.bytes (option_map mesg_fault behind) × (k.version ≡ version_after host 1 (before ++ ms))
+reads_more h k stream piece before ms behind splits version gives =
+    grind (
+      arith,
+      (Splits-longer host 1 stream before h.bytes piece splits),
+      (version_after-append host 1 before ms),
+      (Splits-then host 1 (stream ++ piece) before (h.bytes ++ piece) ms k.bytes),
+    )
+
+kept_piece : (stream : List ℕ) (events : List UserEvent) (out piece : List ℕ) (e k : PlainTermEndpoint) → e.waiting ≡ [] → TakesIn e piece k
+    → Kept stream events out e → Kept (stream ++ piece) events out k
+kept_piece stream events out piece e k none (frames, behind, rest, gives, is) kept =
+    let d = kept.done in
+    let all : frames_in d.steps ++ e.waiting ≡ frames_in d.steps = ap (λ (x : List HFrame). frames_in d.steps ++ x) none ∙ append-nil (frames_in d.steps) in
+    let splits : Splits host 1 stream (frames_in d.steps) e.framer.bytes =
+    subst (λ (x : List HFrame). Splits host 1 stream x e.framer.bytes) all d.reads.splits in
+    let version : e.framer.version ≡ version_after host 1 (frames_in d.steps) = kept.version ∙ ap (λ (x : List HFrame). version_after host 1 x) all in
+    let more = reads_more e.framer rest stream piece (frames_in d.steps) frames behind splits version gives in
+    subst (λ (x : PlainTermEndpoint). Kept (stream ++ piece) events out x) (sym is) (record {
+      done = record { steps = d.steps; composed = d.composed; leads = d.leads; reads = more.0; given = d.given; bytes = d.bytes };
+      version = more.1;
+    })
+
+-- an event is held
+kept_held : (stream : List ℕ) (events : List UserEvent) (out : List ℕ) (e : PlainTermEndpoint) (event : UserEvent) → Kept stream events out e
+    → Kept stream (events ++ event ∷ []) out (with_event e event)
+kept_held stream events out e event kept =
+    let d = kept.done in
+    let frames : frames_in (d.steps ++ run.Held event ∷ []) ≡ frames_in d.steps =
+    flat_map-append frame_in d.steps (run.Held event ∷ []) ∙ append-nil (frames_in d.steps) in
+    let composed : d.composed ++ [] ≡ d.composed = append-nil d.composed in
+    record {
+      done = record {
+        steps = d.steps ++ run.Held event ∷ [];
+        composed = d.composed ++ [];
+        leads = leads_more new_terminal e.term (with_event e event).term d.steps (run.Held event ∷ []) d.composed [] d.leads (refl, refl);
+        reads = subst (λ (x : List HFrame). IsStream host 1 stream (x ++ e.waiting) e.framer.bytes (option_map mesg_fault e.behind)) (sym frames) d.reads;
+        given = flat_map-append event_in d.steps (run.Held event ∷ []) ∙ ap (λ (x : List UserEvent). x ++ event ∷ []) d.given;
+        bytes = d.bytes ∙ ap (λ (x : List Tmesg). stream_of terminal x) (sym composed);
+      };
+      version = kept.version ∙ ap (λ (x : List HFrame). version_after host 1 (x ++ e.waiting)) (sym frames);
+    }
+
+-- the unsent runes were composed
+kept_sent : (stream : List ℕ) (events : List UserEvent) (out : List ℕ) (e : PlainTermEndpoint) (u : PlainTerminal) (composed : List Tmesg) → e.unwritten ≡ []
+    → flush_of e.term ≡ Ok (u, composed) → Kept stream events out e → Kept stream events out (record e { term = u; unwritten = composed })
+kept_sent stream events out e u composed none flushes kept =
+    let d = kept.done in
+    let frames : frames_in (d.steps ++ run.Sent ∷ []) ≡ frames_in d.steps = flat_map-append frame_in d.steps (run.Sent ∷ []) ∙ append-nil (frames_in d.steps) in
+    record {
+      done = record {
+        steps = d.steps ++ run.Sent ∷ [];
+        composed = d.composed ++ composed;
+        leads = leads_more new_terminal e.term u d.steps (run.Sent ∷ []) d.composed composed d.leads (u, composed, [], flushes, sym (append-nil composed), (refl, refl));
+        reads = subst (λ (x : List HFrame). IsStream host 1 stream (x ++ e.waiting) e.framer.bytes (option_map mesg_fault e.behind)) (sym frames) d.reads;
+        given = flat_map-append event_in d.steps (run.Sent ∷ []) ∙ append-nil (events_in d.steps) ∙ d.given;
+        bytes = bytes_on out e.pending_bytes e.unwritten d.composed composed none d.bytes;
+      };
+      version = kept.version ∙ ap (λ (x : List HFrame). version_after host 1 (x ++ e.waiting)) (sym frames);
+    }
+  where
+    bytes_on : (out pending : List ℕ) (unwritten composed more : List Tmesg) → unwritten ≡ [] → (out ++ pending) ++ stream_of terminal unwritten ≡ stream_of terminal composed
+        → (out ++ pending) ++ stream_of terminal more ≡ stream_of terminal (composed ++ more)
+    bytes_on out pending unwritten composed more none p = grind (arith, append-nil, stream_of-append)
+
+stopped_not : (result : Answer) (why : TermStop) → result ≡ Err (fault.Stopped why) → GoesOnAfter result → ⊥
+stopped_not result why is goes = subst GoesOnAfter is goes
+
+as_it_was : {A : Type 0} (result : Answer) (given : List A) → (result ≡ Err fault.OutOfMemory) ⊎ (result ≡ Err fault.CountFull) → if_taken result given ≡ []
+as_it_was result given (inl is) = ap (λ (x : Answer). if_taken x given) is
+as_it_was result given (inr is) = ap (λ (x : Answer). if_taken x given) is
+
+taken_on : (stream piece : List ℕ) (events : List UserEvent) (out : List ℕ) (k g : PlainTermEndpoint) (result : Answer) → GoesOnAfter result → GoesOn k result g
+    → Kept (stream ++ piece) events out k → Kept (stream ++ if_taken result piece) events out g
+taken_on stream piece events out k g (Ok done) goes on kept = kept_goes_on (stream ++ piece) events out k g (Ok done) goes on kept
+taken_on stream piece events out k g (Err fault.Unfinished) goes on kept = kept_goes_on (stream ++ piece) events out k g (Err fault.Unfinished) goes on kept
+taken_on stream piece events out k g (Err fault.OutOfMemory) goes on kept = absurd on
+taken_on stream piece events out k g (Err fault.CountFull) goes on kept = absurd on
+taken_on stream piece events out k g (Err (fault.Stopped why)) goes on kept = absurd goes
+
+held_on : (stream : List ℕ) (events more : List UserEvent) (out : List ℕ) (k g : PlainTermEndpoint) (result : Answer) → GoesOnAfter result → GoesOn k result g
+    → Kept stream (events ++ more) out k → Kept stream (events ++ if_taken result more) out g
+held_on stream events more out k g (Ok done) goes on kept = kept_goes_on stream (events ++ more) out k g (Ok done) goes on kept
+held_on stream events more out k g (Err fault.Unfinished) goes on kept = kept_goes_on stream (events ++ more) out k g (Err fault.Unfinished) goes on kept
+held_on stream events more out k g (Err fault.OutOfMemory) goes on kept = absurd on
+held_on stream events more out k g (Err fault.CountFull) goes on kept = absurd on
+held_on stream events more out k g (Err (fault.Stopped why)) goes on kept = absurd goes
+
+kept_fed : (stream : List ℕ) (events : List UserEvent) (out piece : List ℕ) (e g : PlainTermEndpoint) (result : Answer) → GoesOnAfter result → e.waiting ≡ []
+    → FeedsIdle e piece result g → Kept stream events out e → Kept (stream ++ if_taken result piece) events out g
+kept_fed stream events out piece e g result goes none (inl (k, takes, on)) kept =
+    taken_on stream piece events out k g result goes on (kept_piece stream events out piece e k none takes kept)
+kept_fed stream events out piece e g result goes none (inr (inl (is, same))) kept = grind (arith, append-nil, (as_it_was result piece (inl is)))
+kept_fed stream events out piece e g result goes none (inr (inr (is, full, same))) kept = grind (arith, append-nil, (as_it_was result piece (inr is)))
+
+kept_put : (stream : List ℕ) (events : List UserEvent) (out : List ℕ) (event : UserEvent) (e g : PlainTermEndpoint) (result : Answer) → GoesOnAfter result
+    → PutsIdle e event result g → Kept stream events out e → Kept stream (events ++ if_taken result (event ∷ [])) out g
+kept_put stream events out event e g result goes (inl on) kept =
+    held_on stream events (event ∷ []) out (with_event e event) g result goes on (kept_held stream events out e event kept)
+kept_put stream events out event e g result goes (inr (inl (is, same))) kept = grind (arith, append-nil, (as_it_was result (event ∷ []) (inl is)))
+kept_put stream events out event e g result goes (inr (inr (is, full, same))) kept = grind (arith, append-nil, (as_it_was result (event ∷ []) (inr is)))
+
+kept_flushed : (stream : List ℕ) (events : List UserEvent) (out : List ℕ) (e g : PlainTermEndpoint) (result : Answer) → GoesOnAfter result → e.unwritten ≡ []
+    → FlushesIdle e result g → Kept stream events out e → Kept stream events out g
+kept_flushed stream events out e g result goes none (inl (u, composed, flushes, on)) kept =
+    kept_goes_on stream events out (record e { term = u; unwritten = composed }) g result goes on (kept_sent stream events out e u composed none flushes kept)
+kept_flushed stream events out e g result goes none (inr (inl (is, same))) kept = subst (λ (x : PlainTermEndpoint). Kept stream events out x) (sym same) kept
+kept_flushed stream events out e g result goes none (inr (inr (why, fails, is, same))) kept = absurd (stopped_not result _ is goes)
+
+kept_feeds : (stream : List ℕ) (events : List UserEvent) (out piece : List ℕ) (e g : PlainTermEndpoint) (result : Answer) → GoesOnAfter result → Feeds e piece result g
+    → Kept stream events out e → Kept (stream ++ if_taken result piece) events out g
+kept_feeds stream events out piece e g result goes (inl (why, stops, is, same)) kept = absurd (stopped_not result why is goes)
+kept_feeds stream events out piece e g result goes (inr (going, k, Ok done, on, fed)) kept =
+    kept_fed stream events out piece k g result goes on.2.waiting fed (kept_goes_on stream events out e k (Ok done) tt on kept)
+kept_feeds stream events out piece e g result goes (inr (going, k, Err fault.Unfinished, on, (is, same))) kept =
+    let still : Kept stream events out k = kept_goes_on stream events out e k (Err fault.Unfinished) tt on kept in
+    grind (arith, append-nil, (as_it_was result piece (inl is)))
+kept_feeds stream events out piece e g result goes (inr (going, k, Err (fault.Stopped why), on, (is, same))) kept = absurd (stopped_not result why is goes)
+kept_feeds stream events out piece e g result goes (inr (going, k, Err fault.OutOfMemory, on, after)) kept = absurd on
+kept_feeds stream events out piece e g result goes (inr (going, k, Err fault.CountFull, on, after)) kept = absurd on
+
+kept_puts : (stream : List ℕ) (events : List UserEvent) (out : List ℕ) (event : UserEvent) (e g : PlainTermEndpoint) (result : Answer) → GoesOnAfter result
+    → Puts e event result g → Kept stream events out e → Kept stream (events ++ if_taken result (event ∷ [])) out g
+kept_puts stream events out event e g result goes (inl (why, stops, is, same)) kept = absurd (stopped_not result why is goes)
+kept_puts stream events out event e g result goes (inr (going, k, Ok done, on, puts)) kept =
+    kept_put stream events out event k g result goes puts (kept_goes_on stream events out e k (Ok done) tt on kept)
+kept_puts stream events out event e g result goes (inr (going, k, Err fault.Unfinished, on, (is, same))) kept =
+    let still : Kept stream events out k = kept_goes_on stream events out e k (Err fault.Unfinished) tt on kept in
+    grind (arith, append-nil, (as_it_was result (event ∷ []) (inl is)))
+kept_puts stream events out event e g result goes (inr (going, k, Err (fault.Stopped why), on, (is, same))) kept = absurd (stopped_not result why is goes)
+kept_puts stream events out event e g result goes (inr (going, k, Err fault.OutOfMemory, on, after)) kept = absurd on
+kept_puts stream events out event e g result goes (inr (going, k, Err fault.CountFull, on, after)) kept = absurd on
+
+kept_flushes : (stream : List ℕ) (events : List UserEvent) (out : List ℕ) (e g : PlainTermEndpoint) (result : Answer) → GoesOnAfter result → Flushes e result g
+    → Kept stream events out e → Kept stream events out g
+kept_flushes stream events out e g result goes (inl (why, stops, is, same)) kept = absurd (stopped_not result why is goes)
+kept_flushes stream events out e g result goes (inr (going, k, Ok done, on, flushes)) kept =
+    kept_flushed stream events out k g result goes on.2.unwritten flushes (kept_goes_on stream events out e k (Ok done) tt on kept)
+kept_flushes stream events out e g result goes (inr (going, k, Err fault.Unfinished, on, (is, same))) kept =
+    subst (λ (x : PlainTermEndpoint). Kept stream events out x) (sym same) (kept_goes_on stream events out e k (Err fault.Unfinished) tt on kept)
+kept_flushes stream events out e g result goes (inr (going, k, Err (fault.Stopped why), on, (is, same))) kept = absurd (stopped_not result why is goes)
+kept_flushes stream events out e g result goes (inr (going, k, Err fault.OutOfMemory, on, after)) kept = absurd on
+kept_flushes stream events out e g result goes (inr (going, k, Err fault.CountFull, on, after)) kept = absurd on
+
+kept_out : (stream : List ℕ) (events : List UserEvent) (out bytes rest : List ℕ) (e : PlainTermEndpoint) → e.pending_bytes ≡ bytes ++ rest → Kept stream events out e
+    → Kept stream events (out ++ bytes) (record e { pending_bytes = rest })
+kept_out stream events out bytes rest e is kept =
+    let d = kept.done in
+    record {
+      done = record {
+        steps = d.steps;
+        composed = d.composed;
+        leads = d.leads;
+        reads = d.reads;
+        given = d.given;
+        bytes = ap (λ (x : List ℕ). x ++ stream_of terminal e.unwritten) (append_assoc out bytes rest ∙ ap (λ (x : List ℕ). out ++ x) (sym is)) ∙ d.bytes;
+      };
+      version = kept.version;
+    }
+
+-- refusals or changes were asked for
+kept_asked : (stream : List ℕ) (events : List UserEvent) (out : List ℕ) (e : PlainTermEndpoint) (refusals : List (ℕ × Refusal)) (told : List changes.Kept) → Kept stream events out e
+    → Kept stream events out (record e { refusals = refusals; kept = told })
+kept_asked stream events out e refusals told kept =
+    let d = kept.done in
+    record {
+      done = record { steps = d.steps; composed = d.composed; leads = d.leads; reads = d.reads; given = d.given; bytes = d.bytes };
+      version = kept.version;
+    }
+
+-- ## Runs
+
+kept_run : (stream : List ℕ) (events : List UserEvent) (out : List ℕ) (calls : List Call) (e g : PlainTermEndpoint) → Runs e calls g → Kept stream events out e
+    → Kept (stream ++ flat_map came_in calls) (events ++ flat_map put_in calls) (out ++ flat_map went_out calls) g
+kept_run stream events out [] e g is kept = grind (arith, append-nil)
+kept_run stream events out (run.Feed piece answer ∷ calls) e g (k, feeds, goes, runs) kept =
+    subst (λ (x : List ℕ). Kept x (events ++ flat_map put_in calls) (out ++ flat_map went_out calls) g) (append_assoc stream (if_taken answer piece) (flat_map came_in calls))
+    (kept_run (stream ++ if_taken answer piece) events out calls k g runs (kept_feeds stream events out piece e k answer goes feeds kept))
+kept_run stream events out (run.Put event answer ∷ calls) e g (k, puts, goes, runs) kept =
+    subst (λ (x : List UserEvent). Kept (stream ++ flat_map came_in calls) x (out ++ flat_map went_out calls) g)
+    (append_assoc events (if_taken answer (event ∷ [])) (flat_map put_in calls))
+    (kept_run stream (events ++ if_taken answer (event ∷ [])) out calls k g runs (kept_puts stream events out event e k answer goes puts kept))
+kept_run stream events out (run.Flush answer ∷ calls) e g (k, flushes, goes, runs) kept =
+    kept_run stream events out calls k g runs (kept_flushes stream events out e k answer goes flushes kept)
+kept_run stream events out (run.TakeOut bytes ∷ calls) e g (rest, is, runs) kept =
+    subst (λ (x : List ℕ). Kept (stream ++ flat_map came_in calls) (events ++ flat_map put_in calls) x g) (append_assoc out bytes (flat_map went_out calls))
+    (kept_run stream events (out ++ bytes) calls (record e { pending_bytes = rest }) g runs (kept_out stream events out bytes rest e is kept))
+kept_run stream events out (run.Ask refusals told ∷ calls) e g runs kept =
+    kept_run stream events out calls (record e { refusals = refusals; kept = told }) g runs (kept_asked stream events out e refusals told kept)
+
+pub runs_lead : (calls : List Call) (g : PlainTermEndpoint) → Runs new_term_endpoint calls g
+    → HasDone (flat_map came_in calls) (flat_map put_in calls) (flat_map went_out calls) g
+runs_lead calls g runs = (kept_run [] [] [] calls new_term_endpoint g runs (record {
+  done = record {
+    steps = [];
+    composed = [];
+    leads = (refl, refl);
+    reads = record { splits = record { whole = refl; fit = tt }; ends = tt };
+    given = refl;
+    bytes = refl;
+  };
+  version = refl;
+})).done

@@ -1,0 +1,118 @@
+-- A run of calls of a terminal end, and what it comes to.
+use Rattle.std.specs.Prelude.{◌≡◌, ℕ, List, [], ◌∷◌, ◌++◌, flat_map, option_map, Ok, Err}
+use Rattle.sam_mesg.specs.declared.tmesg.Tmesg.{Tmesg}
+use Rattle.sam_mesg.specs.declared.hmesg.HFrame.{HFrame}
+use Rattle.sam_frame.specs.Direction.{host, terminal}
+use Rattle.sam_frame.specs.Stream.{stream_of}
+use Rattle.sam_frame.specs.Reading.{IsStream}
+use Rattle.sam_term.specs.Fitting.{composed_in}
+use Rattle.sam_term.specs.Term.{PlainTerminal, new_terminal, act_of, flush_of, take_of}
+use Rattle.sam_term.specs.declared.event.Acted.{Acted}
+use Rattle.sam_term.specs.declared.event.UserEvent.{UserEvent}
+use Rattle.sam_term.specs.declared.fault.Refusal.{Refusal}
+use Rattle.sam_endpoint.specs.declared.changes.Kept.{Kept}
+use Rattle.sam_endpoint.specs.declared.fault.EndpointFault.TheVariants as fault
+use Rattle.sam_endpoint.specs.Streams.{mesg_fault}
+use Rattle.sam_endpoint.specs.TermEndpoints.{PlainTermEndpoint, Feeds, Flushes, IsDecided, Puts, new_term_endpoint}
+use Rattle.sam_endpoint.specs.TermSteps.{Answer}
+
+-- ## What a terminal does
+
+pub data Step : Type 0 where
+  Received : HFrame → Step  -- it received this frame
+  Held : UserEvent → Step  -- it holds this event after the others
+  Decided : Acted → Step  -- its oldest event acted or was refused
+  Sent : Step  -- it composed its unsent runes
+
+-- these steps lead from one terminal to the other, and compose these messages
+abbrev pub Leads : PlainTerminal → List Step → List Tmesg → PlainTerminal → Type 0
+Leads t [] composed u = (composed ≡ []) × (u ≡ t)
+Leads t (Received frame ∷ steps) composed u =
+    (v : PlainTerminal) × (first : List Tmesg) × (rest : List Tmesg)
+    × (take_of t frame ≡ Ok (v, first)) × (composed ≡ first ++ rest) × Leads v steps rest u
+Leads t (Held event ∷ steps) composed u = Leads (record t { held = t.held ++ event ∷ [] }) steps composed u
+Leads t (Decided acted ∷ steps) composed u =
+    (v : PlainTerminal) × (rest : List Tmesg)
+    × (act_of t ≡ Ok (v, acted)) × IsDecided acted × (composed ≡ composed_in acted ++ rest) × Leads v steps rest u
+Leads t (Sent ∷ steps) composed u =
+    (v : PlainTerminal) × (first : List Tmesg) × (rest : List Tmesg)
+    × (flush_of t ≡ Ok (v, first)) × (composed ≡ first ++ rest) × Leads v steps rest u
+
+abbrev pub frame_in : Step → List HFrame
+frame_in (Received frame) = frame ∷ []
+frame_in _ = []
+
+abbrev pub event_in : Step → List UserEvent
+event_in (Held event) = event ∷ []
+event_in _ = []
+
+-- the frames that were received, in order
+abbrev pub frames_in : List Step → List HFrame
+frames_in steps = flat_map frame_in steps
+
+-- the events that were held, in order
+abbrev pub events_in : List Step → List UserEvent
+events_in steps = flat_map event_in steps
+
+-- ## Calls
+
+pub data Call : Type 0 where
+  Feed : List ℕ → Answer → Call  -- a piece was fed
+  Put : UserEvent → Answer → Call  -- the user did something
+  Flush : Answer → Call
+  TakeOut : List ℕ → Call  -- these bytes were taken out
+  Ask : List (ℕ × Refusal) → List Kept → Call  -- refusals or changes were asked for, and these are kept
+
+-- the end goes on after this answer
+abbrev pub GoesOnAfter : Answer → Type 0
+GoesOnAfter (Err (fault.Stopped why)) = ⊥
+GoesOnAfter (Err _) = Unit {0}
+GoesOnAfter (Ok done) = Unit {0}
+
+-- these calls lead from one end to the other, and at none of them does it stop
+abbrev pub Runs : PlainTermEndpoint → List Call → PlainTermEndpoint → Type 0
+Runs e [] g = g ≡ e
+Runs e (Feed piece answer ∷ calls) g = (k : PlainTermEndpoint) × Feeds e piece answer k × GoesOnAfter answer × Runs k calls g
+Runs e (Put event answer ∷ calls) g = (k : PlainTermEndpoint) × Puts e event answer k × GoesOnAfter answer × Runs k calls g
+Runs e (Flush answer ∷ calls) g = (k : PlainTermEndpoint) × Flushes e answer k × GoesOnAfter answer × Runs k calls g
+Runs e (TakeOut bytes ∷ calls) g = (rest : List ℕ) × (e.pending_bytes ≡ bytes ++ rest) × Runs (record e { pending_bytes = rest }) calls g
+Runs e (Ask refusals kept ∷ calls) g = Runs (record e { refusals = refusals; kept = kept }) calls g
+
+-- the call brought what it was given, unless it was not taken
+abbrev pub if_taken : {A : Type 0} → Answer → List A → List A
+if_taken (Err fault.OutOfMemory) given = []
+if_taken (Err fault.CountFull) given = []
+if_taken answer given = given
+
+-- the bytes that came in with the call
+abbrev pub came_in : Call → List ℕ
+came_in (Feed piece answer) = if_taken answer piece
+came_in _ = []
+
+-- the event that came in with the call
+abbrev pub put_in : Call → List UserEvent
+put_in (Put event answer) = if_taken answer (event ∷ [])
+put_in _ = []
+
+-- the bytes that the call took out
+abbrev pub went_out : Call → List ℕ
+went_out (TakeOut bytes) = bytes
+went_out _ = []
+
+-- ## The law
+
+-- The terminal has done steps. In them it received the first frames of the stream that came in, and the others wait, with what is wrong
+-- after them; and it was given these events, in order. All messages that it composed, in order, are what was taken out, what is pending
+-- and what is not written yet.
+pub record HasDone (stream : List ℕ) (events : List UserEvent) (out : List ℕ) (e : PlainTermEndpoint) : Type 0 where
+  pub steps : List Step
+  pub composed : List Tmesg
+  pub leads : Leads new_terminal steps composed e.term
+  pub reads : IsStream host 1 stream (frames_in steps ++ e.waiting) e.framer.bytes (option_map mesg_fault e.behind)
+  pub given : events_in steps ≡ events
+  pub bytes : (out ++ e.pending_bytes) ++ stream_of terminal e.unwritten ≡ stream_of terminal composed
+
+abbrev pub RunsLead : Type 0
+RunsLead =
+    (calls : List Call) (g : PlainTermEndpoint) → Runs new_term_endpoint calls g
+    → HasDone (flat_map came_in calls) (flat_map put_in calls) (flat_map went_out calls) g
