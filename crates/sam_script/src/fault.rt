@@ -22,12 +22,22 @@ pub enum ScriptFault {
 }
 
 impl From<AllocError> for ScriptFault {
+    ghost use Rattle.std.specs.Prelude.{◌≡◌};
+    ghost use Rattle.sam_script.specs.declared.fault.ScriptFault.{ScriptFault};
+
+    ghost from_gives = { λ _ e. e ≡ ScriptFault.OutOfMemory };
+
     fn from(_error: AllocError) -> ScriptFault {
         ScriptFault::OutOfMemory
     }
 }
 
 impl<T: Drop> From<AllocFailed<T>> for ScriptFault {
+    ghost use Rattle.std.specs.Prelude.{◌≡◌};
+    ghost use Rattle.sam_script.specs.declared.fault.ScriptFault.{ScriptFault};
+
+    ghost from_gives = { λ _ e. e ≡ ScriptFault.OutOfMemory };
+
     fn from(_error: AllocFailed<T>) -> ScriptFault {
         ScriptFault::OutOfMemory
     }
