@@ -3,6 +3,7 @@ use Rattle.std.specs.Prelude.{◌≡◌, ◌≢◌, ◌≤◌, ℕ, Bool, true, 
 use Rattle.sam_term.specs.Term.{window_at}
 use Rattle.sam_crossing.specs.World.{PlainWorld, step_of, is_unlocked}
 use Rattle.sam_world.specs.Counts.{passes_count}
+use Rattle.sam_world.specs.Drain.{drained}
 use Rattle.sam_crossing.specs.World.{WasReached}
 use Rattle.sam_crossing.specs.declared.event.Event.{Event}
 use Rattle.sam_crossing.specs.declared.event.Event.TheVariants.{User}
@@ -22,6 +23,12 @@ pub record Applies (w : PlainWorld) (e : Event) (next : PlainWorld) : Type 0 whe
 abbrev pub LeadsOn : PlainWorld → List Event → PlainWorld → Type 0
 LeadsOn w [] v = v ≡ w
 LeadsOn w (e ∷ es) v = (next : PlainWorld) × Applies w e next × LeadsOn next es v
+
+-- the events that a drain makes happen first, however many, lead from w to v, and each of them applies
+pub record GoesOn (w v : PlainWorld) : Type 0 where
+  pub events : List Event
+  pub first : drained (length events) w ≡ Some v
+  pub applied : LeadsOn w events v
 
 -- no event applies
 abbrev pub IsStuck : PlainWorld → Type 0

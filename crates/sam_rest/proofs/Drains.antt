@@ -1,0 +1,104 @@
+-- What `rest` rests on: a drain, however long, is events that apply, and the count of those left falls.
+use Rattle.std.proofs.Common.{true≢false, option_and_then}
+use Rattle.std.proofs.lemmas.List.{length-append}
+use Rattle.sam_rest.proofs.Common.{◌≡◌, ℕ, zero, suc, ◌+◌, ◌<◌, ◌≤◌, Bool, true, false, List, [], ◌∷◌, ◌++◌, length, Option, Some, None, same_Some, refl, sym, ap, ◌∙◌, subst, arith, PlainWorld, WasReached, step_of, next_event, IsNextFault}
+unfoldable use Rattle.sam_rest.proofs.Common.{act_of}
+use Rattle.sam_world.specs.declared.event.StepFault.{StepFault}
+use Rattle.sam_crossing.specs.declared.event.Event.{Event}
+use Rattle.sam_world.specs.Drain.{drained, drain_limit}
+use Rattle.sam_world.specs.Faults.{IsDrainedUpTo}
+use Rattle.sam_world.proofs.Runs.{drained_then}
+use Rattle.sam_local.specs.Worlds.{is_at_rest}
+use Rattle.sam_rest.specs.Rest.{LeadsOn, GoesOn, IsDone}
+use Rattle.sam_rest.proofs.Ends.{IsKept, kept-of, keeps-step}
+use Rattle.sam_rest.proofs.Rule.{rule-applies, falls-by-rule, steps_left}
+use Rattle.sam_rest.proofs.Done.{parts, none_is_done}
+
+-- ## One drain
+
+-- it has gone on, and no more is left than before; and less, unless nothing applied
+pub record Drains (w v : PlainWorld) : Type 0 where
+  pub goes : GoesOn w v
+  pub left : steps_left v ≤ steps_left w
+
+none-drains : (w v : PlainWorld) → Some w ≡ Some v → Drains w v
+none-drains w v e = subst (Drains w) (same_Some _ _ e) (record { goes = record { events = []; first = refl; applied = refl }; left = omega arith })
+
+first-drains : (w u v : PlainWorld) (e : Event) → IsKept w → next_event w ≡ Some e → step_of w e ≡ Some u → Drains u v → Drains w v
+first-drains w u v e k n s d = record {
+  goes = record {
+    events = e ∷ d.goes.events;
+    first = ap (λ (o : Option Event). elim o [ None ↦ Some w | Some x ↦ option_and_then (drained (length d.goes.events)) (step_of w x) ]) n
+        ∙ ap (option_and_then (drained (length d.goes.events))) s ∙ d.goes.first;
+    applied = (u, rule-applies w u e k n s, d.goes.applied);
+  };
+  left = let falls = falls-by-rule w u e k n s in let rest = d.left in omega (arith, falls, rest);
+}
+
+pub drains : (n : ℕ) (w v : PlainWorld) → IsKept w → drained n w ≡ Some v → Drains w v
+drains zero w v k d = none-drains w v d
+drains (suc n) w v k d = by (next_event w) refl d
+  where
+    past : (e : Event) (o : Option PlainWorld) → next_event w ≡ Some e → step_of w e ≡ o → option_and_then (drained n) o ≡ Some v → Drains w v
+    past e None q s r = absurd (grind arith)
+    past e (Some u) q s r = first-drains w u v e k q s (drains n u v (keeps-step w e u k s) r)
+
+    by : (o : Option Event) → next_event w ≡ o → elim o [ None ↦ Some w | Some x ↦ option_and_then (drained n) (step_of w x) ] ≡ Some v → Drains w v
+    by None q r = none-drains w v r
+    by (Some e) q r = past e (step_of w e) q refl r
+
+-- something applies, so less is left
+pub drains-less : (n : ℕ) (w v : PlainWorld) → IsKept w → 0 < n → (next_event w ≡ None → ⊥) → drained n w ≡ Some v → steps_left v < steps_left w
+drains-less zero w v k more some d = absurd (omega (arith, more))
+drains-less (suc n) w v k more some d = by (next_event w) refl d
+  where
+    past : (e : Event) (o : Option PlainWorld) → next_event w ≡ Some e → step_of w e ≡ o → option_and_then (drained n) o ≡ Some v → steps_left v < steps_left w
+    past e None q s r = absurd (grind arith)
+    past e (Some u) q s r =
+        let rest = (drains n u v (keeps-step w e u k s) r).left in
+        let falls = falls-by-rule w u e k q s in
+        omega (arith, rest, falls)
+
+    by : (o : Option Event) → next_event w ≡ o → elim o [ None ↦ Some w | Some x ↦ option_and_then (drained n) (step_of w x) ] ≡ Some v → steps_left v < steps_left w
+    by None q r = absurd (some q)
+    by (Some e) q r = past e (step_of w e) q refl r
+
+-- ## One after another
+
+applied-then : (es fs : List Event) (w v u : PlainWorld) → LeadsOn w es v → LeadsOn v fs u → LeadsOn w (es ++ fs) u
+applied-then [] fs w v u l m = subst (λ (x : PlainWorld). LeadsOn x fs u) l m
+applied-then (e ∷ es) fs w v u l m = (l.0, l.1, applied-then es fs l.0 v u l.2 m)
+
+pub goes_nowhere : (w : PlainWorld) → GoesOn w w
+goes_nowhere w = record { events = []; first = refl; applied = refl }
+
+goes-then : (w v u : PlainWorld) → GoesOn w v → GoesOn v u → GoesOn w u
+goes-then w v u g h = record {
+  events = g.events ++ h.events;
+  first = ap (λ (n : ℕ). drained n w) (length-append g.events h.events) ∙ drained_then (length g.events) (length h.events) w v g.first ∙ h.first;
+  applied = applied-then g.events h.events w v u g.applied h.applied;
+}
+
+pub goes_by_drain : (w v u : PlainWorld) → WasReached v → GoesOn w v → drained drain_limit v ≡ Some u → GoesOn w u
+goes_by_drain w v u r g d = goes-then w v u g (drains drain_limit v u (kept-of v r) d).goes
+
+pub goes_to_fault : (w v u : PlainWorld) (why : StepFault) → WasReached v → GoesOn w v → IsDrainedUpTo drain_limit v u why → GoesOn w u × IsNextFault u why
+goes_to_fault w v u why r g d = (goes-then w v u g (drains d.done v u (kept-of v r) d.leads).goes, d.fault)
+
+-- ## Where all is done
+
+-- nothing applies where nothing is unsent, under way or held
+rests-none : (w : PlainWorld) → is_at_rest w ≡ true → next_event w ≡ None
+unfolding act_of
+rests-none w e = let p = parts w e in grind (arith, p.up, p.down, p.unsent, p.held)
+
+pub rests_is_done : (w : PlainWorld) → WasReached w → is_at_rest w ≡ true → IsDone w
+rests_is_done w r e = none_is_done w r (rests-none w e)
+
+-- where something is left, a drain does some of it
+pub left_less : (v u : PlainWorld) → WasReached v → is_at_rest v ≡ false → drained drain_limit v ≡ Some u → steps_left u < steps_left v
+left_less v u r e d =
+    drains-less drain_limit v u (kept-of v r) (omega arith) (λ n. true≢false (sym (none_is_done v r n).rests ∙ e)) d
+
+-- what `rest` rests on
+pub ruleset resting_facts = (goes_nowhere, goes_by_drain, goes_to_fault, left_less)
