@@ -1,7 +1,7 @@
 -- What `rest` rests on: a drain, however long, is events that apply, and the count of those left falls.
 use Rattle.std.proofs.Common.{true≢false, option_and_then}
 use Rattle.std.proofs.lemmas.List.{length-append}
-use Rattle.sam_rest.proofs.Common.{◌≡◌, ℕ, zero, suc, ◌+◌, ◌<◌, ◌≤◌, Bool, true, false, List, [], ◌∷◌, ◌++◌, length, Option, Some, None, same_Some, refl, sym, ap, ◌∙◌, subst, arith, PlainWorld, WasReached, step_of, next_event, IsNextFault}
+use Rattle.sam_rest.proofs.Common.{◌≡◌, ℕ, zero, suc, ◌+◌, ◌<◌, ◌≤◌, Bool, true, false, List, [], ◌∷◌, ◌++◌, length, Option, Some, None, same_Some, refl, sym, ap, ◌∙◌, subst, arith, PlainWorld, WasReached, step_of, next_event}
 unfoldable use Rattle.sam_rest.proofs.Common.{act_of}
 use Rattle.sam_world.specs.declared.event.StepFault.{StepFault}
 use Rattle.sam_crossing.specs.declared.event.Event.{Event}
@@ -82,8 +82,8 @@ goes-then w v u g h = record {
 pub goes_by_drain : (w v u : PlainWorld) → WasReached v → GoesOn w v → drained drain_limit v ≡ Some u → GoesOn w u
 goes_by_drain w v u r g d = goes-then w v u g (drains drain_limit v u (kept-of v r) d).goes
 
-pub goes_to_fault : (w v u : PlainWorld) (why : StepFault) → WasReached v → GoesOn w v → IsDrainedUpTo drain_limit v u why → GoesOn w u × IsNextFault u why
-goes_to_fault w v u why r g d = (goes-then w v u g (drains d.done v u (kept-of v r) d.leads).goes, d.fault)
+pub goes_to_fault : (w v u : PlainWorld) (why : StepFault) → WasReached v → GoesOn w v → IsDrainedUpTo drain_limit v u why → GoesOn w u
+goes_to_fault w v u why r g d = goes-then w v u g (drains d.done v u (kept-of v r) d.leads).goes
 
 -- ## Where all is done
 
