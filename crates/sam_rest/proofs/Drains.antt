@@ -1,15 +1,13 @@
 -- What `rest` rests on: a drain, however long, is events that apply, and the count of those left falls.
 use Rattle.std.proofs.Common.{true≢false, option_and_then}
-use Rattle.std.proofs.lemmas.List.{length-append}
-use Rattle.sam_rest.proofs.Common.{◌≡◌, ℕ, zero, suc, ◌+◌, ◌<◌, ◌≤◌, Bool, true, false, List, [], ◌∷◌, ◌++◌, length, Option, Some, None, same_Some, refl, sym, ap, ◌∙◌, subst, arith, PlainWorld, WasReached, step_of, next_event}
+use Rattle.sam_rest.proofs.Common.{◌≡◌, ℕ, zero, suc, ◌<◌, ◌≤◌, Bool, true, false, List, [], ◌∷◌, ◌++◌, length, Option, Some, None, same_Some, refl, sym, ap, ◌∙◌, subst, arith, PlainWorld, WasReached, step_of, next_event}
 unfoldable use Rattle.sam_rest.proofs.Common.{act_of}
 use Rattle.sam_world.specs.declared.event.StepFault.{StepFault}
 use Rattle.sam_crossing.specs.declared.event.Event.{Event}
 use Rattle.sam_world.specs.Drain.{drained, drain_limit}
 use Rattle.sam_world.specs.Faults.{IsDrainedUpTo}
-use Rattle.sam_world.proofs.Runs.{drained_then}
 use Rattle.sam_local.specs.Worlds.{is_at_rest}
-use Rattle.sam_rest.specs.Rest.{LeadsOn, GoesOn, IsDone}
+use Rattle.sam_rest.specs.Rest.{LeadsInTurn, GoesOn, IsDone}
 use Rattle.sam_rest.proofs.Ends.{IsKept, kept-of, keeps-step}
 use Rattle.sam_rest.proofs.Rule.{rule-applies, falls-by-rule, steps_left}
 use Rattle.sam_rest.proofs.Done.{parts, none_is_done}
@@ -22,30 +20,27 @@ pub record Drains (w v : PlainWorld) : Type 0 where
   pub left : steps_left v ≤ steps_left w
 
 none-drains : (w v : PlainWorld) → Some w ≡ Some v → Drains w v
-none-drains w v e = subst (Drains w) (same_Some _ _ e) (record { goes = record { events = []; first = refl; applied = refl }; left = omega arith })
+none-drains w v e = subst (Drains w) (same_Some _ _ e) (record { goes = record { events = []; leads = refl }; left = omega arith })
 
 first-drains : (w u v : PlainWorld) (e : Event) → IsKept w → next_event w ≡ Some e → step_of w e ≡ Some u → Drains u v → Drains w v
 first-drains w u v e k n s d = record {
-  goes = record {
-    events = e ∷ d.goes.events;
-    first = ap (λ (o : Option Event). elim o [ None ↦ Some w | Some x ↦ option_and_then (drained (length d.goes.events)) (step_of w x) ]) n
-        ∙ ap (option_and_then (drained (length d.goes.events))) s ∙ d.goes.first;
-    applied = (u, rule-applies w u e k n s, d.goes.applied);
-  };
+  goes = record { events = e ∷ d.goes.events; leads = (u, n, rule-applies w u e k n s, d.goes.leads) };
   left = let falls = falls-by-rule w u e k n s in let rest = d.left in omega (arith, falls, rest);
 }
 
 pub drains : (n : ℕ) (w v : PlainWorld) → IsKept w → drained n w ≡ Some v → Drains w v
 drains zero w v k d = none-drains w v d
-drains (suc n) w v k d = by (next_event w) refl d
+drains (suc n) w v k d = by (λ u ku r. drains n u v ku r) (next_event w) refl d
   where
-    past : (e : Event) (o : Option PlainWorld) → next_event w ≡ Some e → step_of w e ≡ o → option_and_then (drained n) o ≡ Some v → Drains w v
-    past e None q s r = absurd (grind arith)
-    past e (Some u) q s r = first-drains w u v e k q s (drains n u v (keeps-step w e u k s) r)
+    past : ((u : PlainWorld) → IsKept u → drained n u ≡ Some v → Drains u v) → (e : Event) (o : Option PlainWorld) → next_event w ≡ Some e → step_of w e ≡ o
+        → option_and_then (drained n) o ≡ Some v → Drains w v
+    past more e None q s r = absurd (grind arith)
+    past more e (Some u) q s r = first-drains w u v e k q s (more u (keeps-step w e u k s) r)
 
-    by : (o : Option Event) → next_event w ≡ o → elim o [ None ↦ Some w | Some x ↦ option_and_then (drained n) (step_of w x) ] ≡ Some v → Drains w v
-    by None q r = none-drains w v r
-    by (Some e) q r = past e (step_of w e) q refl r
+    by : ((u : PlainWorld) → IsKept u → drained n u ≡ Some v → Drains u v) → (o : Option Event) → next_event w ≡ o
+        → elim o [ None ↦ Some w | Some x ↦ option_and_then (drained n) (step_of w x) ] ≡ Some v → Drains w v
+    by more None q r = none-drains w v r
+    by more (Some e) q r = past more e (step_of w e) q refl r
 
 -- something applies, so less is left
 pub drains-less : (n : ℕ) (w v : PlainWorld) → IsKept w → 0 < n → (next_event w ≡ None → ⊥) → drained n w ≡ Some v → steps_left v < steps_left w
@@ -65,19 +60,15 @@ drains-less (suc n) w v k more some d = by (next_event w) refl d
 
 -- ## One after another
 
-applied-then : (es fs : List Event) (w v u : PlainWorld) → LeadsOn w es v → LeadsOn v fs u → LeadsOn w (es ++ fs) u
-applied-then [] fs w v u l m = subst (λ (x : PlainWorld). LeadsOn x fs u) l m
-applied-then (e ∷ es) fs w v u l m = (l.0, l.1, applied-then es fs l.0 v u l.2 m)
+leads-then : (es fs : List Event) (w v u : PlainWorld) → LeadsInTurn w es v → LeadsInTurn v fs u → LeadsInTurn w (es ++ fs) u
+leads-then [] fs w v u l m = subst (λ (x : PlainWorld). LeadsInTurn x fs u) l m
+leads-then (e ∷ es) fs w v u l m = (l.0, l.1, l.2, leads-then es fs l.0 v u l.3 m)
 
 pub goes_nowhere : (w : PlainWorld) → GoesOn w w
-goes_nowhere w = record { events = []; first = refl; applied = refl }
+goes_nowhere w = record { events = []; leads = refl }
 
 goes-then : (w v u : PlainWorld) → GoesOn w v → GoesOn v u → GoesOn w u
-goes-then w v u g h = record {
-  events = g.events ++ h.events;
-  first = ap (λ (n : ℕ). drained n w) (length-append g.events h.events) ∙ drained_then (length g.events) (length h.events) w v g.first ∙ h.first;
-  applied = applied-then g.events h.events w v u g.applied h.applied;
-}
+goes-then w v u g h = record { events = g.events ++ h.events; leads = leads-then g.events h.events w v u g.leads h.leads }
 
 pub goes_by_drain : (w v u : PlainWorld) → WasReached v → GoesOn w v → drained drain_limit v ≡ Some u → GoesOn w u
 goes_by_drain w v u r g d = goes-then w v u g (drains drain_limit v u (kept-of v r) d).goes
@@ -101,4 +92,4 @@ left_less v u r e d =
     drains-less drain_limit v u (kept-of v r) (omega arith) (λ n. true≢false (sym (none_is_done v r n).rests ∙ e)) d
 
 -- what `rest` rests on
-pub ruleset resting_facts = (goes_nowhere, goes_by_drain, goes_to_fault, left_less)
+pub ruleset resting_facts = (goes_nowhere, goes_by_drain, goes_to_fault, left_less, rests_is_done)

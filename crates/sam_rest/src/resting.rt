@@ -1,5 +1,5 @@
 //! The call that brings a world to rest.
-ghost use Rattle.std.specs.Prelude.{◌≡◌, Err, IfErr, IsTrue, OnOk};
+ghost use Rattle.std.specs.Prelude.{◌≡◌, Err, IfErr, OnOk};
 ghost use Rattle.sam_crossing.specs.World.{WasReached};
 ghost use Rattle.sam_local.specs.Worlds.{is_at_rest};
 ghost use Rattle.sam_rest.specs.Rest.{GoesOn, IsDone};
@@ -27,18 +27,16 @@ impl Rest for World {
         ensures stopped { IfErr result (λ why. IsNextFault self.new why) }
         ensures something { (result ≡ Err StepFault.NothingThere) → ⊥ }
     {
-        'drains: while !is_done(self) {
+        'drains: while !is_resting(self) {
             self.drain()?;
         }
         Ok(())
     }
 }
 
-/// Returns true if and only if nothing is unsent, under way or held. Then nothing is locked, and no request awaits its data.
-#[tactic(auto, using(crate::proofs::Drains::rests_is_done))]
-fn is_done(world: &World) -> bool
+/// Returns true if and only if nothing is unsent, under way or held.
+fn is_resting(world: &World) -> bool
     ensures rests { result ≡ is_at_rest world.now }
-    ensures done { IsTrue result → IsDone world.now }
     ensures reached { WasReached world.now }
 {
     world.facts();
