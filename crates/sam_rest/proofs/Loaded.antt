@@ -447,7 +447,7 @@ requests-shown f g [] h v up down l e o s = subst (λ (k : List Tmesg). IsShown 
 requests-shown f g (x ∷ xs) h v up down l e o s =
     subst (λ (k : List Tmesg). IsShown f h (all_composed (composed v m) (requests_for g xs)) k down) (append_assoc up (m ∷ []) (requests_for g xs))
     (requests-shown f g xs h (composed v m) (up ++ m ∷ []) down
-    (subst (λ (z : Made). Lined h (composed z.0 m) (up ++ (z.1 ++ m ∷ [])) down) (flushed-none v e) (lined-request h v up down g x.0 x.1 l o s.here)) (unsent-composed v m ∙ e) ((view-requested v x.0 x.1 g o).opened ∙ o)
+    (subst (λ (z : Made). Lined h (composed z.0 m) (up ++ (z.1 ++ m ∷ [])) down) (flushed-none v e) (lined-request h v up down g x.0 x.1 l o s.here)) (unsent-composed v m ∙ e) ((view-requested v g x.0 x.1 g o).opened ∙ o)
     (subst (λ (z : Made). IsShown f h (composed z.0 m) (up ++ (z.1 ++ m ∷ [])) down) (flushed-none v e) (asked f h v up down l.kept s.calm s.opened s.here g x.0 x.1 (open-view v g o) (inr s.served))))
   where
     m : Tmesg
@@ -538,10 +538,9 @@ loads-shown f h u up down t (x ∷ xs) e =
 outcome-shown : (f : ℕ) (e : UserEvent) (h : PlainHost) (t : PlainTerminal) (up : List Tmesg) (down : List Hmesg) → Shows e f → InOrder h t up down → AreAwaited h t up down → Passed t e
     → IsShown f h (event_outcome t e).0 (up ++ (event_outcome t e).1) down
 unfolding made_by_view made_by_load requested all_wanted
-outcome-shown f (View g p n) h t up down shows o awaits pass = rw (← shows) (by (subst (λ (y : ℕ). Turned y h (turned t g p n) up down) refl (turns g p n h t up down o awaits pass.here pass.free pass.opened pass.unlocked)))
-  where
-    by : Turned g h (turned t g p n) up down → IsShown g h (event_outcome t (View g p n)).0 (up ++ (event_outcome t (View g p n)).1) down
-    by u = wanting g h (turned t g p n) up down u.lined.kept u.calm u.opened u.here g (λ e. absurd (true≢false (sym (eq-eqb g g refl) ∙ e))) (λ e. u.waits)
+outcome-shown f (View g p n) h t up down shows o awaits pass =
+    let u = turns g p n h t up down o awaits pass.here pass.free pass.opened pass.unlocked in
+    rw (← shows) (wanting g h (turned t g p n) up down u.lined.kept u.calm u.opened u.here g (λ e. absurd (true≢false (sym (eq-eqb g g refl) ∙ e))) (λ e. u.waits))
 outcome-shown f (Load g p n) h t up down shows o awaits pass =
     rw (← shows) (loads-shown g h (turned t g p n) up down (turns g p n h t up down o awaits pass.here pass.free pass.opened pass.unlocked) (gaps_shown (turned t g p n) g) refl)
 outcome-shown f e h t up down shows o awaits pass = absurd (grind arith)
