@@ -1,8 +1,9 @@
 -- What `rest` rests on: a drain, however long, is events that apply, and the count of those left falls.
 use Rattle.std.proofs.Common.{true≢false, option_and_then}
-use Rattle.sam_rest.proofs.Common.{◌≡◌, ℕ, zero, suc, ◌<◌, ◌≤◌, Bool, true, false, List, [], ◌∷◌, ◌++◌, length, Option, Some, None, same_Some, refl, sym, ap, ◌∙◌, subst, arith, PlainWorld, WasReached, step_of, next_event}
+use Rattle.sam_rest.proofs.Common.{◌≡◌, ℕ, zero, suc, ◌<◌, ◌≤◌, Bool, true, false, List, [], ◌∷◌, ◌++◌, length, Option, Some, None, Result, Ok, Err, same_Some, refl, sym, ap, ◌∙◌, subst, arith, PlainWorld, WasReached, step_of, next_event}
 unfoldable use Rattle.sam_rest.proofs.Common.{act_of}
 use Rattle.sam_world.specs.declared.event.StepFault.{StepFault}
+use Rattle.std.specs.Prelude.{OnErr}
 use Rattle.sam_crossing.specs.declared.event.Event.{Event}
 use Rattle.sam_world.specs.Drain.{drained, drain_limit}
 use Rattle.sam_world.specs.Faults.{IsDrainedUpTo}
@@ -86,10 +87,33 @@ rests-none w e = let p = parts w e in grind (arith, p.up, p.down, p.unsent, p.he
 pub rests_is_done : (w : PlainWorld) → WasReached w → is_at_rest w ≡ true → IsDone w
 rests_is_done w r e = none_is_done w r (rests-none w e)
 
+-- there nothing goes on
+pub rest_still : (w v : PlainWorld) → GoesOn w v → is_at_rest w ≡ true → v ≡ w
+rest_still w v g r = by g.events g.leads
+  where
+    none-some : {e : Event} → None ≡ Some e → ⊥
+    none-some x = grind arith
+
+    by : (es : List Event) → LeadsInTurn w es v → v ≡ w
+    by [] l = l
+    by (e ∷ es) l = absurd (none-some (sym (rests-none w r) ∙ l.1))
+
+pub left_first : (w v : PlainWorld) → GoesOn w v → is_at_rest v ≡ false → is_at_rest w ≡ false
+left_first w v g e = by (is_at_rest w) refl
+  where
+    by : (b : Bool) → is_at_rest w ≡ b → is_at_rest w ≡ false
+    by false q = q
+    by true q = absurd (true≢false (sym q ∙ sym (ap is_at_rest (rest_still w v g q)) ∙ e))
+
+-- so where something is left on the way, something was at first
+pub rest_left : {A E : Type 0} (r : Result A E) (w v : PlainWorld) (b : Bool) → b ≡ is_at_rest v → b ≡ false → GoesOn w v → OnErr r (is_at_rest w ≡ false)
+rest_left (Ok x) w v b is left g = tt
+rest_left (Err why) w v b is left g = left_first w v g (grind (arith, is, left))
+
 -- where something is left, a drain does some of it
 pub left_less : (v u : PlainWorld) → WasReached v → is_at_rest v ≡ false → drained drain_limit v ≡ Some u → steps_left u < steps_left v
 left_less v u r e d =
     drains-less drain_limit v u (kept-of v r) (omega arith) (λ n. true≢false (sym (none_is_done v r n).rests ∙ e)) d
 
 -- what `rest` rests on
-pub ruleset resting_facts = (goes_nowhere, goes_by_drain, goes_to_fault, left_less, rests_is_done)
+pub ruleset resting_facts = (goes_nowhere, goes_by_drain, goes_to_fault, left_less, rests_is_done, rest_still, left_first, rest_left)

@@ -1,5 +1,5 @@
 //! The call that brings a world to rest.
-ghost use Rattle.std.specs.Prelude.{◌≡◌, Err, IfErr, OnOk};
+ghost use Rattle.std.specs.Prelude.{◌≡◌, Err, false, IfErr, OnErr, OnOk, true};
 ghost use Rattle.sam_crossing.specs.World.{WasReached};
 ghost use Rattle.sam_local.specs.Worlds.{is_at_rest};
 ghost use Rattle.sam_rest.specs.Rest.{GoesOn, IsDone};
@@ -12,10 +12,11 @@ use sam_world::{StepFault, World};
 pub trait Rest {
     /// Makes events happen until none applies, without a limit, each of them the one that `World::drain` would make happen next. It ends
     /// in every world, however much is under way. The user does nothing in them. At `Ok` all is done: nothing is unsent, under way, held
-    /// or locked, and no request awaits its data. A world where all is done is left as it is, with no memory asked for.
+    /// or locked, and no request awaits its data. Where all is done already, it returns `Ok` and changes nothing.
     ///
     /// Errors: `CountFull` comes only if the next event would take a count of messages past 2^64-1. `OutOfMemory` may come at any event,
-    /// before `CountFull` too. `NothingThere` never comes. After an error the events before it have happened, and the next one has not.
+    /// before `CountFull` too, and also once none applies any more. `NothingThere` never comes. After an error the events before it have
+    /// happened, and the next one has not.
     fn rest(&mut self) -> Result<(), StepFault>;
 }
 
@@ -24,6 +25,8 @@ impl Rest for World {
     fn rest(&mut self) -> Result<(), StepFault>
         ensures led { GoesOn self.old self.new }
         ensures done { OnOk result (IsDone self.new) }
+        ensures rested { OnErr result (is_at_rest self.old ≡ false) }
+        ensures still { is_at_rest self.old ≡ true → self.new ≡ self.old }
         ensures stopped { IfErr result (λ why. IsNextFault self.new why) }
         ensures something { (result ≡ Err StepFault.NothingThere) → ⊥ }
     {
