@@ -10,4 +10,5 @@ pub mod Work
 pub mod Ends
 pub mod Done
 pub mod Rule
+pub mod Drains
 pub mod Loaded

@@ -1,8 +1,8 @@
 -- What a view asked for has come once the session is at rest.
-use Rattle.sam_crossing.proofs.Common.{◌≡◌, ℕ, Bool, true, false, not, ◌==◌, ◌&&◌, ◌||◌, if◌then◌else◌, List, [], ◌∷◌, ◌++◌, Option, Some, None, is_some, unwrap_or, ◌⊎◌, inl, inr, refl, sym, ap, ◌∙◌, subst, true≢false, arith, append-nil, eq-eqb, eqb-true, not-false, slot-put_same, slot-put_other, Tmesg, Trequest, Tack, Hmesg, Hclean, Hcheck, Hdata, Hunlockfile, Hack, PlainHost, Reply, counted, Unsent, KnownFile, Window, PlainTerminal, Made, window_at, window_of, is_open, frame_outcome, composed, flushed, unsent_message, took_unlockfile, took_bindname, took_data, took_grow, took_growdata, took_cut, took_close, took_exit, Action, Needs_open, Join, Bind, Close, Leave, Grow, Fill, Insert, Cut, Place, Free_file, Exit, closes, frees, IsGuarded, AllComeToSync, InOrder, file_in, at_file, action, answers, reply_of, effect, view, views, blank_window}
+use Rattle.sam_crossing.proofs.Common.{◌≡◌, ℕ, Bool, true, false, not, ◌==◌, ◌&&◌, ◌||◌, if◌then◌else◌, List, [], ◌∷◌, ◌++◌, Option, Some, None, is_some, unwrap_or, ◌⊎◌, inl, inr, refl, sym, ap, ◌∙◌, subst, true≢false, arith, append-nil, eq-eqb, eqb-true, not-false, slot-put_same, slot-put_other, Tmesg, Trequest, Tack, Hmesg, Hclean, Hcheck, Hdata, Hunlockfile, Hack, PlainHost, Reply, counted, Unsent, KnownFile, Window, PlainTerminal, Made, window_at, window_of, is_open, frame_outcome, composed, flushed, unsent_message, took_unlockfile, took_bindname, took_data, took_grow, took_growdata, took_cut, took_close, took_exit, Action, Needs_open, Join, Bind, Close, Leave, Grow, Fill, Insert, Cut, Place, Free_file, Exit, closes, frees, IsGuarded, AllComeToSync, InOrder, file_in, at_file, action, answers, reply_of, effect, view, views, blank_window, append_assoc, option_map, nat_lt, all_composed, requests_for, sends_all, gaps_shown, made_by_load, all_wanted, ◌-◌, ◌+◌, Lens}
 use Rattle.sam_rasp.specs.Rasp.{hole_within}
 use Rattle.sam_runes.specs.Slots.{Slots}
-use Rattle.sam_term.specs.Term.{view_end, wanted, sends_if, request_for}
+use Rattle.sam_term.specs.Term.{view_end, wanted, sends_if, request_for, front_of, most_requests, stretches}
 use Rattle.sam_crossing.specs.Frames.{only}
 use Rattle.sam_crossing.specs.View.{composed_for}
 use Rattle.sam_local.proofs.Takes.{unsent-left}
@@ -12,7 +12,7 @@ use Rattle.sam_term.proofs.Composes.{flushed-files}
 use Rattle.sam_local.proofs.Frames.{is_gentle}
 use Rattle.sam_local.proofs.Gentle.{window-stays}
 use Rattle.sam_rest.proofs.Common.{length, Result, Ok, Err, same_Some, Done, first_of_checks, act_of, act_on, decided, if_countable, after_act, event_checks, event_outcome, Verdict, Acted, TermFault, UserEvent, HFrame, PlainWorld, step_of, mesgs, IsInOrder, made_by_view, requested}
-use Rattle.sam_term.specs.declared.event.UserEvent.TheVariants.{View}
+use Rattle.sam_term.specs.declared.event.UserEvent.TheVariants.{View, Load}
 use Rattle.sam_term.specs.Term.{put_window}
 use Rattle.sam_crossing.specs.declared.event.Event.{Event}
 use Rattle.sam_crossing.specs.declared.event.Event.TheVariants.{User, Act, Flush, HostTake, TermTake}
@@ -20,11 +20,11 @@ use Rattle.sam_crossing.proofs.OrderLaws.{steps_in_order}
 use Rattle.sam_crossing.proofs.RunLaws.{counted-result}
 use Rattle.sam_crossing.proofs.Passing.{Passed, passed, held_passed, free_at}
 use Rattle.sam_crossing.proofs.Runs.{frees_nothing}
-use Rattle.sam_crossing.proofs.Views.{view-kept}
+use Rattle.sam_crossing.proofs.Views.{view-kept, view-composed, unsent-composed, unsent-flushed}
 use Rattle.sam_local.proofs.Ahead.{opened-put, window-put}
 use Rattle.sam_local.proofs.Held.{event-held}
 use Rattle.sam_rest.specs.Rest.{is_user, Applies, LeadsOn}
-use Rattle.sam_rest.specs.Loaded.{ViewsAreLoaded}
+use Rattle.sam_rest.specs.Loaded.{ViewsAreLoaded, Shows}
 use Rattle.sam_rest.proofs.Taking.{HostTakes, host-takes, TermTakes, term-takes, Flushes, flush-takes, Idles, Acts, act-takes}
 use Rattle.sam_rest.proofs.Ends.{IsKept, Lowers, kept-of, keeps-step, falls}
 use Rattle.sam_rest.proofs.Done.{parts}
@@ -36,6 +36,12 @@ use Rattle.sam_rest.proofs.Kept.{frames_of, AreAwaited, awaited-plain, data-ther
 use Rattle.sam_rest.proofs.Work.{coming, coming-host, coming-flush, sent-one}
 use Rattle.sam_crossing.proofs.Lenses.{IsFree, IsOpen, exits, AreSkips}
 use Rattle.sam_rest.proofs.Actions.{is_fill, left, AwaitsAll, NoAnswer, Answer, answered_how}
+use Rattle.sam_crossing.specs.Order.{IsHeldBack}
+use Rattle.sam_crossing.proofs.Changes.{Lock, changed}
+use Rattle.sam_crossing.proofs.Sending.{flushed_views}
+use Rattle.sam_term.proofs.Loads.{stretches-some}
+use mathlib.Core.Path.{fun_ext}
+use Rattle.sam_crossing.proofs.Folds as folds
 
 -- ## What comes to a file whose view was set
 
@@ -394,36 +400,150 @@ shown-frame f h t up m down o awaits s =
         sees false = acked f h u up down k calm.2 opened here kept-still
     by y e = silent f h u up down k calm.2 opened here (plain (ap (λ (z : Hmesg). is_asking (action f z)) (sym e) ∙ (grind arith)))
 
--- ## The act of a view
+-- ## One request after another
 
-outcome-shown : (f p n : ℕ) (h : PlainHost) (t : PlainTerminal) (up : List Tmesg) (down : List Hmesg) → InOrder h t up down → AreAwaited h t up down → Passed t (View f p n)
-    → IsShown f h (event_outcome t (View f p n)).0 (up ++ (event_outcome t (View f p n)).1) down
-unfolding made_by_view requested
-outcome-shown f p n h t up down o awaits pass =
-    wanting f h u up down k calm (opened-put t f (record (window_at t f) { view_start = p; view_length = n })) pass.here f (λ e. absurd (true≢false (sym (eq-eqb f f refl) ∙ e))) waits
+-- what is under way and what is composed come to sync, and the unsent runes are held back
+record Lined (h : PlainHost) (u : PlainTerminal) (up : List Tmesg) (down : List Hmesg) : Type 0 where
+  kept : AllComeToSync h (views u) (up ++ unsent_message u.unsent) down
+  unsent : IsHeldBack (views u) u.unsent
+
+flushed-none : (v : PlainTerminal) → v.unsent ≡ None → flushed v ≡ (v, [])
+unfolding flushed
+flushed-none v e = ap (λ (n : Option Unsent). (all_composed (record v { unsent = None }) (unsent_message n), unsent_message n)) e ∙ (λ i. (record v { unsent = sym e i }, []))
+
+lined-request : (h : PlainHost) (u : PlainTerminal) (up : List Tmesg) (down : List Hmesg) (g p q : ℕ) → Lined h u up down → is_open u g ≡ true → u.has_exited ≡ false
+    → Lined h (composed (flushed u).0 (Trequest g p q)) (up ++ ((flushed u).1 ++ Trequest g p q ∷ [])) down
+unfolding flushed
+lined-request h u up down g p q l o x = record {
+  kept = subst (λ (v : ℕ → Lens). AllComeToSync h v (more ++ unsent_message z.unsent) down) same (subst (λ (k : List Tmesg). AllComeToSync h (λ f. changed (Lock g) f (view f u)) k down) line (folds.requests h (views u) (up ++ unsent_message u.unsent) down g p q l.kept i x));
+  unsent = subst (IsHeldBack (views z)) (sym none) tt;
+}
+  where
+    z : PlainTerminal
+    z = composed (flushed u).0 (Trequest g p q)
+
+    more : List Tmesg
+    more = up ++ (unsent_message u.unsent ++ Trequest g p q ∷ [])
+
+    i : IsOpen (view g u)
+    i = open-view u g o
+
+    none : z.unsent ≡ None
+    none = unsent-composed (flushed u).0 (Trequest g p q) ∙ unsent-flushed u
+
+    line : (up ++ unsent_message u.unsent) ++ Trequest g p q ∷ [] ≡ more ++ unsent_message z.unsent
+    line = append_assoc up (unsent_message u.unsent) (Trequest g p q ∷ []) ∙ sym (append-nil more) ∙ sym (ap (λ (n : Option Unsent). more ++ unsent_message n) none)
+
+    flushes : views u ≡ views (flushed u).0
+    flushes = flushed_views u l.unsent
+
+    same : (λ f. changed (Lock g) f (view f u)) ≡ views z
+    same = fun_ext (λ f. ap (λ (v : ℕ → Lens). changed (Lock g) f (v f)) flushes ∙ sym (view-composed (flushed u).0 (Trequest g p q) (subst (λ (v : ℕ → Lens). IsOpen (v g)) flushes i) f))
+
+-- requests of one file, where nothing is unsent: of f, or where f was shown before
+requests-shown : (f g : ℕ) (xs : List (ℕ × ℕ)) (h : PlainHost) (v : PlainTerminal) (up : List Tmesg) (down : List Hmesg) → Lined h v up down → v.unsent ≡ None → is_open v g ≡ true → IsShown f h v up down
+    → IsShown f h (all_composed v (requests_for g xs)) (up ++ requests_for g xs) down
+requests-shown f g [] h v up down l e o s = subst (λ (k : List Tmesg). IsShown f h v k down) (sym (append-nil up)) s
+requests-shown f g (x ∷ xs) h v up down l e o s =
+    subst (λ (k : List Tmesg). IsShown f h (all_composed (composed v m) (requests_for g xs)) k down) (append_assoc up (m ∷ []) (requests_for g xs))
+    (requests-shown f g xs h (composed v m) (up ++ m ∷ []) down
+    (subst (λ (z : Made). Lined h (composed z.0 m) (up ++ (z.1 ++ m ∷ [])) down) (flushed-none v e) (lined-request h v up down g x.0 x.1 l o s.here)) (unsent-composed v m ∙ e) ((view-requested v g x.0 x.1 g o).opened ∙ o)
+    (subst (λ (z : Made). IsShown f h (composed z.0 m) (up ++ (z.1 ++ m ∷ [])) down) (flushed-none v e) (asked f h v up down l.kept s.calm s.opened s.here g x.0 x.1 (open-view v g o) (inr s.served))))
+  where
+    m : Tmesg
+    m = Trequest g x.0 x.1
+
+-- ## The act that shows a file
+
+-- the file from p on
+abbrev turned : PlainTerminal → ℕ → ℕ → ℕ → PlainTerminal
+turned t f p n = put_window t f (record (window_at t f) { view_start = p; view_length = n })
+
+record Turned (f : ℕ) (h : PlainHost) (u : PlainTerminal) (up : List Tmesg) (down : List Hmesg) : Type 0 where
+  lined : Lined h u up down
+  opened : is_open u f ≡ true
+  here : u.has_exited ≡ false
+  calm : IsCalm (at_file f (coming h u up down))
+  waits : AwaitsAll (window_at u f).awaited (at_file f (coming h u up down))
+
+turns : (f p n : ℕ) (h : PlainHost) (t : PlainTerminal) (up : List Tmesg) (down : List Hmesg) → InOrder h t up down → AreAwaited h t up down → t.has_exited ≡ false → t.command_lock ≡ false
+    → not (is_open t f) ≡ false → nat_lt 0 (window_at t f).locks ≡ false → Turned f h (turned t f p n) up down
+turns f p n h t up down o awaits here command closed locked = record {
+  lined = record { kept = k; unsent = subst (λ (v : ℕ → Lens). IsHeldBack v t.unsent) (fun_ext (λ g. sym (kept g))) o.unsent };
+  opened = opened-put t f (record (window_at t f) { view_start = p; view_length = n });
+  here = here;
+  calm = subst (λ (r : Option Reply). IsCalm (at_file f (down ++ frames_of r))) (sym k.folds)
+      (calm-free (at_file f (down ++ k.frames)) (k.each f).guarded (frees_nothing (at_file f (down ++ k.frames)) (view f u) (k.each f).final free (k.each f).runs));
+  waits = subst (λ (j : ℕ). AwaitsAll j (at_file f (coming h u up down))) (sym same)
+      (awaited-plain f (window_at t f).awaited h up (unsent_message u.unsent) down (k.ahead, k.frames) k.folds (grind arith) (awaits f));
+}
   where
     u : PlainTerminal
-    u = put_window t f (record (window_at t f) { view_start = p; view_length = n })
+    u = turned t f p n
 
     opened : is_open t f ≡ true
-    opened = not-false (is_open t f) pass.opened
+    opened = not-false (is_open t f) closed
 
     k : AllComeToSync h (views u) (up ++ unsent_message u.unsent) down
-    k = looking h t up down f p n o opened pass.here
+    k = looking h t up down f p n o opened here
+
+    kept : (g : ℕ) → view g u ≡ view g t
+    kept g = view-kept t f (record (window_at t f) { view_start = p; view_length = n }) (open-view t f opened) refl refl g
 
     free : IsFree (view f u)
-    free = subst IsFree (sym (view-kept t f (record (window_at t f) { view_start = p; view_length = n }) (open-view t f opened) refl refl f)) (free_at t f pass.free pass.unlocked)
-
-    calm : IsCalm (at_file f (coming h u up down))
-    calm = subst (λ (r : Option Reply). IsCalm (at_file f (down ++ frames_of r))) (sym k.folds)
-        (calm-free (at_file f (down ++ k.frames)) (k.each f).guarded (frees_nothing (at_file f (down ++ k.frames)) (view f u) (k.each f).final free (k.each f).runs))
+    free = subst IsFree (sym (kept f)) (free_at t f command locked)
 
     same : (window_at u f).awaited ≡ (window_at t f).awaited
     same = ap (λ (x : Window). x.awaited) (window-put t f (record (window_at t f) { view_start = p; view_length = n }))
 
-    waits : (f == f) ≡ true → AwaitsAll (window_at u f).awaited (at_file f (coming h u up down))
-    waits e = subst (λ (j : ℕ). AwaitsAll j (at_file f (coming h u up down))) (sym same)
-        (awaited-plain f (window_at t f).awaited h up (unsent_message u.unsent) down (k.ahead, k.frames) k.folds (grind arith) (awaits f))
+-- where no stretch of gaps is in the view, no gap is
+loaded-stretches : (u : PlainTerminal) (f : ℕ) → gaps_shown u f ≡ [] → IsLoaded u f
+loaded-stretches u f e = by (hole_within w.rasp w.view_start (view_end w)) refl
+  where
+    w : Window
+    w = window_at u f
+
+    by : (hole : Option (ℕ × ℕ)) → hole_within w.rasp w.view_start (view_end w) ≡ hole → IsLoaded u f
+    by None q = q
+    by (Some g) q =
+        absurd (empty-list (front_of g) (stretches w.rasp ((front_of g).0 + (front_of g).1) (view_end w) (most_requests - 1))
+        (sym e ∙ stretches-some w.rasp w.view_start (view_end w) most_requests (front_of g) (omega arith) (sym (ap (option_map front_of) q))))
+      where
+        empty-list : (x : ℕ × ℕ) (xs : List (ℕ × ℕ)) → [] ≡ x ∷ xs → ⊥
+        empty-list x xs e = grind arith
+
+-- all gaps of the view are asked for
+loads-shown : (f : ℕ) (h : PlainHost) (u : PlainTerminal) (up : List Tmesg) (down : List Hmesg) → Turned f h u up down → (xs : List (ℕ × ℕ)) → gaps_shown u f ≡ xs
+    → IsShown f h (sends_all (requests_for f xs) u).0 (up ++ (sends_all (requests_for f xs) u).1) down
+loads-shown f h u up down t [] e = silent f h u up down t.lined.kept t.calm t.opened t.here (inl (loaded-stretches u f e))
+loads-shown f h u up down t (x ∷ xs) e =
+    subst (λ (k : List Tmesg). IsShown f h (all_composed z (requests_for f xs)) k down) line
+    (requests-shown f f xs h z (up ++ ((flushed u).1 ++ m ∷ [])) down (lined-request h u up down f x.0 x.1 t.lined t.opened t.here) none first.opened first)
+  where
+    m : Tmesg
+    m = Trequest f x.0 x.1
+
+    z : PlainTerminal
+    z = composed (flushed u).0 m
+
+    first : IsShown f h z (up ++ ((flushed u).1 ++ m ∷ [])) down
+    first = asked f h u up down t.lined.kept t.calm t.opened t.here f x.0 x.1 (open-view u f t.opened) (inl refl)
+
+    none : z.unsent ≡ None
+    none = unsent-composed (flushed u).0 m ∙ unsent-flushed u
+
+    line : (up ++ ((flushed u).1 ++ m ∷ [])) ++ requests_for f xs ≡ up ++ ((flushed u).1 ++ m ∷ requests_for f xs)
+    line = append_assoc up ((flushed u).1 ++ m ∷ []) (requests_for f xs) ∙ ap (λ (k : List Tmesg). up ++ k) (append_assoc (flushed u).1 (m ∷ []) (requests_for f xs))
+
+outcome-shown : (f : ℕ) (e : UserEvent) (h : PlainHost) (t : PlainTerminal) (up : List Tmesg) (down : List Hmesg) → Shows e f → InOrder h t up down → AreAwaited h t up down → Passed t e
+    → IsShown f h (event_outcome t e).0 (up ++ (event_outcome t e).1) down
+unfolding made_by_view made_by_load requested all_wanted
+outcome-shown f (View g p n) h t up down shows o awaits pass =
+    let u = turns g p n h t up down o awaits pass.here pass.free pass.opened pass.unlocked in
+    rw (← shows) (wanting g h (turned t g p n) up down u.lined.kept u.calm u.opened u.here g (λ e. absurd (true≢false (sym (eq-eqb g g refl) ∙ e))) (λ e. u.waits))
+outcome-shown f (Load g p n) h t up down shows o awaits pass =
+    rw (← shows) (loads-shown g h (turned t g p n) up down (turns g p n h t up down o awaits pass.here pass.free pass.opened pass.unlocked) (gaps_shown (turned t g p n) g) refl)
+outcome-shown f e h t up down shows o awaits pass = absurd (grind arith)
 
 -- ## Runs
 
@@ -493,22 +613,22 @@ shown-leads f [] w v k none s l = subst (At f) (sym l) s
 shown-leads f (e ∷ es) w v k none s l =
     shown-leads f es l.0 v (keeps-step w e l.0 k l.1.stepped) (held-step w l.0 e k none l.1) (shown-step f w l.0 e k none l.1 s) l.2
 
-view-acts : (w next : PlainWorld) (f p n : ℕ) → IsKept w → w.term.held ≡ View f p n ∷ [] → first_of_checks (event_checks w.term (View f p n)) ≡ None → step_of w Act ≡ Some next
+view-acts : (w next : PlainWorld) (f : ℕ) (e : UserEvent) → Shows e f → IsKept w → w.term.held ≡ e ∷ [] → first_of_checks (event_checks w.term e) ≡ None → step_of w Act ≡ Some next
     → At f next × (next.term.held ≡ [])
 unfolding act_of
-view-acts w next f p n k held none s = go (if_countable made.0.sent (made.0, Done made.1)) refl
+view-acts w next f e shows k held none s = go (if_countable made.0.sent (made.0, Done made.1)) refl
   where
     t : PlainTerminal
     t = record w.term { held = [] }
 
     made : Made
-    made = event_outcome t (View f p n)
+    made = event_outcome t e
 
     there : InOrder w.host t w.up (mesgs w.down)
     there = record { kept = k.order.ordered.kept; tidy = k.order.ordered.tidy; unsent = k.order.ordered.unsent }
 
     shown : At f (record w { term = made.0; up = w.up ++ made.1 })
-    shown = outcome-shown f p n w.host t w.up (mesgs w.down) there k.awaited (held_passed w.term [] (View f p n) (passed w.term (View f p n) none))
+    shown = outcome-shown f e w.host t w.up (mesgs w.down) shows there k.awaited (held_passed w.term [] e (passed w.term e none))
 
     acted : after_act w (if_countable made.0.sent (made.0, Done made.1)) ≡ Some next
     acted = sym (ap (λ (l : List UserEvent). after_act w (act_on w.term l)) held ∙ ap (λ (v : Option Verdict). after_act w (decided v w.term [] made)) none) ∙ s
@@ -519,12 +639,12 @@ view-acts w next f p n k held none s = go (if_countable made.0.sent (made.0, Don
         let same : (made.0, Done made.1) ≡ r = counted-result made.0.sent (made.0, Done made.1) r q in
         let is : record w { term = made.0; up = w.up ++ made.1 } ≡ next =
         same_Some _ _ (ap (λ (x : PlainTerminal × Acted). after_act w (Ok x)) same ∙ ap (after_act w) (sym q) ∙ acted) in
-        (subst (At f) is shown, ap (λ (v : PlainWorld). v.term.held) (sym is) ∙ event-held t (View f p n))
+        (subst (At f) is shown, ap (λ (v : PlainWorld). v.term.held) (sym is) ∙ event-held t e)
 
 pub views_are_loaded : ViewsAreLoaded
-views_are_loaded w next v f p n es r held none s leads done =
+views_are_loaded w next v f e es shows r held none s leads done =
     let k = kept-of w r in
-    let acted = view-acts w next f p n k held none s in
+    let acted = view-acts w next f e shows k held none s in
     let last = shown-leads f es next v (keeps-step w Act next k s) acted.1 acted.0 leads in
     by last.served
   where

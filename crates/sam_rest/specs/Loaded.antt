@@ -1,9 +1,10 @@
--- A view that was set last has no gap once the session has come to rest.
+-- A view that was set last, by a View or a Load, has no gap once the session has come to rest.
 use Rattle.std.specs.Prelude.{◌≡◌, ℕ, List, [], ◌∷◌, Some, None}
 use Rattle.sam_runes.specs.Checks.{first_of_checks}
 use Rattle.sam_rasp.specs.Rasp.{hole_within}
 use Rattle.sam_term.specs.Term.{PlainTerminal, window_at, view_end, event_checks}
-use Rattle.sam_term.specs.declared.event.UserEvent.TheVariants.{View}
+use Rattle.sam_term.specs.declared.event.UserEvent.{UserEvent}
+use Rattle.sam_term.specs.declared.event.UserEvent.TheVariants.{View, Load}
 use Rattle.sam_crossing.specs.World.{PlainWorld, step_of}
 use Rattle.sam_crossing.specs.World.{WasReached}
 use Rattle.sam_crossing.specs.declared.event.Event.{Event}
@@ -14,10 +15,16 @@ use Rattle.sam_rest.specs.Rest.{LeadsOn, IsDone}
 abbrev pub IsLoaded : PlainTerminal → ℕ → Type 0
 IsLoaded t f = let w = window_at t f in hole_within w.rasp w.view_start (view_end w) ≡ None
 
--- Where a view of f is the only event that is held, and nothing stands against it, it acts. Wherever all is done after that, with no
--- further event of the user, no gap stands in the view of f
+-- the event shows f: a View, which asks for the first gap of its view, or a Load, which asks for all at once
+abbrev pub Shows : UserEvent → ℕ → Type 0
+Shows (View g p n) f = g ≡ f
+Shows (Load g p n) f = g ≡ f
+Shows _ f = ⊥
+
+-- Where an event that shows f is the only one that is held, and nothing stands against it, it acts. Wherever all is done after that,
+-- with no further event of the user, no gap stands in the view of f
 abbrev pub ViewsAreLoaded : Type 0
 ViewsAreLoaded =
-    (w next v : PlainWorld) (f p n : ℕ) (es : List Event) → WasReached w → w.term.held ≡ View f p n ∷ []
-    → first_of_checks (event_checks w.term (View f p n)) ≡ None → step_of w Act ≡ Some next → LeadsOn next es v → IsDone v
+    (w next v : PlainWorld) (f : ℕ) (e : UserEvent) (es : List Event) → Shows e f → WasReached w → w.term.held ≡ e ∷ []
+    → first_of_checks (event_checks w.term e) ≡ None → step_of w Act ≡ Some next → LeadsOn next es v → IsDone v
     → IsLoaded v.term f

@@ -3,6 +3,7 @@ use Rattle.std.specs.Prelude.{◌≡◌, ◌≢◌, ◌≤◌, ℕ, Bool, true, 
 use Rattle.sam_term.specs.Term.{window_at}
 use Rattle.sam_crossing.specs.World.{PlainWorld, step_of, is_unlocked}
 use Rattle.sam_world.specs.Counts.{passes_count}
+use Rattle.sam_world.specs.Drain.{next_event}
 use Rattle.sam_crossing.specs.World.{WasReached}
 use Rattle.sam_crossing.specs.declared.event.Event.{Event}
 use Rattle.sam_crossing.specs.declared.event.Event.TheVariants.{User}
@@ -22,6 +23,16 @@ pub record Applies (w : PlainWorld) (e : Event) (next : PlainWorld) : Type 0 whe
 abbrev pub LeadsOn : PlainWorld → List Event → PlainWorld → Type 0
 LeadsOn w [] v = v ≡ w
 LeadsOn w (e ∷ es) v = (next : PlainWorld) × Applies w e next × LeadsOn next es v
+
+-- events, each of which is the one that a drain makes happen next, and applies, lead from w to v
+abbrev pub LeadsInTurn : PlainWorld → List Event → PlainWorld → Type 0
+LeadsInTurn w [] v = v ≡ w
+LeadsInTurn w (e ∷ es) v = (next : PlainWorld) × (next_event w ≡ Some e) × Applies w e next × LeadsInTurn next es v
+
+-- such events, however many, lead from w to v
+pub record GoesOn (w v : PlainWorld) : Type 0 where
+  pub events : List Event
+  pub leads : LeadsInTurn w events v
 
 -- no event applies
 abbrev pub IsStuck : PlainWorld → Type 0

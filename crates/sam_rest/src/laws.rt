@@ -16,8 +16,8 @@ pub fn steps_end()
     ensures { StepsEnd }
 {}
 
-/// Says that where a view is the only event that is held and nothing stands against it, no gap stands in the view of its file once all is
-/// done, with no further event of the user.
+/// Says that where a `View` or a `Load` is the only event that is held and nothing stands against it, no gap stands in the view of its
+/// file once all is done, with no further event of the user. What no event covers here is a view that the user follows with other events.
 pub fn views_are_loaded()
     ensures { ViewsAreLoaded }
 {}

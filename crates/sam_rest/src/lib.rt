@@ -2,7 +2,8 @@
 //!
 //! An event applies in a world where it is not the user's and changes something (`Applies` in specs/Rest). The laws say that such events
 //! come to an end, whatever their order; that where none applies any more nothing is unsent, under way, held or locked, and no request
-//! awaits its data; and that a view that was set last has no gap then. The steps of a `drain` are such events.
+//! awaits its data; and that a view that was set last has no gap then. The steps of a `drain` are such events, and
+//! [`Rest::rest`](resting::Rest::rest) makes them happen until none applies.
 //!
 //! How it is proved. Each step but an act lowers a number (`work` in proofs/Work): the messages that are under way to the host, twice the
 //! unsent runes, and a weight for each frame that comes once the host has answered all of these. A frame that may make the terminal ask
@@ -14,3 +15,6 @@
 #![tactic(auto)]
 
 pub mod laws;
+pub mod resting;
+
+pub use resting::Rest;
