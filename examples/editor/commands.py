@@ -60,7 +60,7 @@ class Commands:
             self.terminal.work(self.active.tag)
 
     def run_aside(self, line: str) -> None:
-        """Runs a command line as if it were typed at the end of the command window. What stands there already is typed again behind it."""
+        """Runs a command line as if it were typed at the end of the command window. What stands there already is typed again after it."""
         end = self.terminal.len(COMMAND)
         begun = line_at(self.command, end).lstrip(GAP)
         self._work()

@@ -203,15 +203,15 @@ class Editor(Desk, Waiting, Actions):
             self.message = "what was copied or cut last is lost: the host had no room to keep it beside what came back"
 
     def _update_windows(self) -> None:
-        is_busy = self.is_busy
+        is_busy, rests = self.is_busy, self.rests
         for window in self.windows:
-            window.update(is_busy)
+            window.update(is_busy, rests)
 
     def wakes_in(self) -> Optional[float]:
         """Seconds until something is to be done though nothing comes; None where that has no end."""
         waits = [self.way.seconds]
         if not self.is_lost:
-            waits.append(self.busy_left if self.busy_left > 0 else None)
+            waits += [left for left in (self.busy_left, self.rest_left) if left > 0]
         if self.deferred and self.deferred[0].answers:
             waits.append(self.deferred[0].when + REPEAT - self.clock())
         if self._leaves_at is not None:

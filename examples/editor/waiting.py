@@ -8,12 +8,13 @@ from notes import REPEAT
 from sulgrevad import SamError
 from windows import Window
 
-BUSY = 0.25  # seconds after an edit or a move in which nothing more is asked for, so that the keys behind it need not wait
+BUSY = 0.25  # seconds after an edit or a move in which nothing more is asked for, so that the keys after it need not wait
+REST = 0.25  # seconds after the last key from which on it is asked for what the user may turn to next
 LEAVING = "leaving; ^Q again doesn't wait for the host"
 WAITING = "keys wait for the host; ^Q again leaves without them"
 
 # Actions that go by places on the screen, or change the text there. While the file is locked the places may change, so these wait, with
-# all keys behind them.
+# all keys after them.
 BY_PLACE = {
     "left", "right", "up", "down", "word_left", "word_right", "home", "end", "first", "last", "erase_left", "erase_right", "select_all",
     "word", "cut", "snarf", "paste", "undo", "redo", "find", "search_back",
@@ -51,6 +52,7 @@ class Waiting:
         self.deferred: Deque[Pressed] = deque()
         self._wants_text = False  # the first key that waits needs text which is not loaded
         self._edited_at = 0.0  # when the last key came that edits or moves
+        self._pressed_at = 0.0  # when the last key of any kind came
         self._last = Pressed(Key(""), 0.0)
         self._leaves_at: Optional[float] = None  # when the user leaves without waiting for the host
 
@@ -65,7 +67,7 @@ class Waiting:
 
     @property
     def _are_windows_due(self) -> bool:
-        """Whether the host's answer will change the windows, and so where keys go: at the start, and behind `^N` and `^K`."""
+        """Whether the host's answer will change the windows, and so where keys go: at the start, and after `^N` and `^K`."""
         return not self.has_begun or (self._awaits_file and self._is_lock_held)
 
     def take(self, key: Input, when: Optional[float] = None) -> None:
@@ -75,6 +77,7 @@ class Waiting:
         self._leaves_at = when + REPEAT if key == Key("^Q") and pressed.answers in (LEAVING, WAITING) else None
         if self._leaves_at is not None or self._stops(key):
             return
+        self._pressed_at = when
         if isinstance(key, (Text, Paste)) or action_of(key) in BY_PLACE:
             self._edited_at = when
         self.deferred.append(pressed)
@@ -162,7 +165,7 @@ class Waiting:
         return self.menu is not None and key != Key("^Q")
 
     def first_of(self, pressed: Pressed, count: int) -> str:
-        """The first runes of a text; those behind them come next, and may go elsewhere."""
+        """The first runes of a text; those after them come next, and may go elsewhere."""
         runes = pressed.key.runes
         if len(runes) > count:
             rest = pressed._replace(key=pressed.key._replace(runes=runes[count:]), answers="")
@@ -182,3 +185,12 @@ class Waiting:
     @property
     def busy_left(self) -> float:
         return self._edited_at + BUSY - self.clock()
+
+    @property
+    def rests(self) -> bool:
+        """Whether no key came for a while, and none waits."""
+        return self.rest_left <= 0 and not self.deferred and self.terminal.held == 0
+
+    @property
+    def rest_left(self) -> float:
+        return self._pressed_at + REST - self.clock()

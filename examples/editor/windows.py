@@ -37,6 +37,7 @@ class Window:
         self._layout: Optional[Layout] = None
         self._layout_of: tuple = ()
         self._loaded: Optional[Layout] = None  # what is shown, where all of it is loaded and the terminal was told so
+        self._turns = False  # the user turns pages, and those on either side were not asked for yet
 
     # ---- Reading
 
@@ -120,12 +121,15 @@ class Window:
         """Brings the dot into view, also where it stays."""
         self._followed = self._loaded = None
 
-    def update(self, is_busy: bool = False) -> None:
-        """Follows what the host and the user did, and has the terminal load what is shown; while the user is busy only what he needs."""
+    def update(self, is_busy: bool = False, rests: bool = False) -> None:
+        """Follows what the host and the user did, and has the terminal load what is shown; while the user is busy only what he needs, and
+        while he rests what he may turn to next."""
         if self.is_open:
             self._reach()
             self._follow_dot()
             self._load(is_busy)
+            if rests and self._turns:
+                self._load_beside()
 
     def _reach(self) -> None:
         """Shows what was aimed at, where the text above it has come. Of a line that is longer, no place is known at which a row begins: it
@@ -190,10 +194,21 @@ class Window:
             if self._aim is not None:
                 self._aim = self._aim._replace(is_asked=True)
 
+    def _load_beside(self) -> None:
+        """Asks for the pages on either side of one that the page keys led to, so that the next of these need not wait."""
+        layout = self.layout()
+        if layout is not self._loaded or not self.is_settled:
+            return
+        self._turns, page = False, layout.end - layout.top
+        gap = self.terminal.first_gap(self.tag, max(0, layout.top - page))
+        if gap is not None and gap < layout.end + page:
+            ask(self.terminal, self.tag, layout.top, layout.end, page)
+
     # ---- Moving
 
     def page_down(self, rows: Optional[int] = None) -> None:
         """Shows what stands below, as far as what is shown is loaded."""
+        self._turns = True
         if rows is None:
             rows = max(1, self.height - 1)
         if self._aim is not None and self._aim.rows >= rows:
@@ -209,6 +224,7 @@ class Window:
 
     def page_up(self, rows: Optional[int] = None) -> None:
         """Shows what stands above."""
+        self._turns = True
         if rows is None:
             rows = max(1, self.height - 1)
         place, below, _ = self._aim or Aim(self.top, 0)
@@ -234,7 +250,7 @@ class Window:
         return max(0, min(at, self.length))
 
     def _is_on_another(self, place: int) -> bool:
-        """Whether the rune behind a place shares the cell of the one before it. At the start of a line and behind a gap it can't."""
+        """Whether the rune after a place shares the cell of the one before it. At the start of a line and after a gap it can't."""
         before, rune = self.read(place - 1, 2)
         if before + rune == "\r\n":
             return True
