@@ -1,6 +1,7 @@
 """The keys that wait. Each acts once what it acts on is settled, in the order in which they came; so the same keys do the same over any
 line."""
 from collections import deque
+from itertools import islice
 from typing import Deque, NamedTuple, Optional
 
 from keys import ACTIONS, Input, Key, Mouse, Paste, Text
@@ -10,6 +11,7 @@ from windows import Window
 
 BUSY = 0.25  # seconds after an edit or a move in which nothing more is asked for, so that the keys after it need not wait
 REST = 0.25  # seconds after the last key from which on it is asked for what the user may turn to next
+MOST_TURNS = 32  # keys that wait, of which the page keys are counted
 LEAVING = "leaving; ^Q again doesn't wait for the host"
 WAITING = "keys wait for the host; ^Q again leaves without them"
 
@@ -139,7 +141,7 @@ class Waiting:
         if isinstance(key, Text) and "\n" not in key.runes and start == end:
             return True
         try:
-            window.update(self.is_busy)
+            window.update(self.is_busy, turns=self._turns)
         except MemoryError as error:
             self.message = f"there is not enough memory ({error})"
         except SamError as error:
@@ -178,13 +180,19 @@ class Waiting:
         return "".join(pressed.key.runes for pressed in self.deferred if isinstance(pressed.key, (Text, Paste)))
 
     @property
+    def _turns(self) -> int:
+        """How many page keys wait next: those down, less those up."""
+        actions = [action_of(pressed.key) for pressed in islice(self.deferred, MOST_TURNS)]
+        return actions.count("page_down") - actions.count("page_up")
+
+    @property
     def is_busy(self) -> bool:
         """Whether keys come, are held or wait, and not for text: nothing more is asked for then."""
         return not self._wants_text and (self.busy_left > 0 or bool(self.deferred) or self.terminal.held > 0)
 
     @property
     def busy_left(self) -> float:
-        return self._edited_at + BUSY - self.clock()
+        return self._left(self._edited_at, BUSY)
 
     @property
     def rests(self) -> bool:
@@ -193,4 +201,8 @@ class Waiting:
 
     @property
     def rest_left(self) -> float:
-        return self._pressed_at + REST - self.clock()
+        return self._left(self._pressed_at, REST)
+
+    def _left(self, since: float, seconds: float) -> float:
+        """How much is left of so many seconds since a time, to the microsecond."""
+        return round(since + seconds - self.clock(), 6)

@@ -7,12 +7,16 @@ from texts import GAP, Change, Texts
 
 LONGEST_LOOK = 512  # runes of the line before that a new line takes its indentation from
 LONGEST_WORD = 4096  # runes that a move over a word looks at
+MOST_IN_LOAD = 32_768  # runes that one Load asks for
 
 
-def ask(terminal: Terminal, tag: int, top: int, end: int, page: int) -> None:
-    """Asks for what stands from `top` to `end`, and for a page of so many runes on either side, in one round trip."""
-    start = max(0, top - page)
-    terminal.load(tag, start, end + page - start)
+def ask(terminal: Terminal, tag: int, top: int, end: int, page: int, turns: int = 0) -> None:
+    """Asks for what stands from `top` to `end`, and for a page of so many runes on either side, in one round trip; also for as many pages
+    below as page keys wait, or above where `turns` is negative, as far as one Load goes."""
+    most = max(0, MOST_IN_LOAD - (end - top) - 2 * page)
+    above, below = (page + min(most, max(0, pages) * page) for pages in (-turns, turns))
+    start = max(0, top - above)
+    terminal.load(tag, start, end + below - start)
 
 
 class Aim(NamedTuple):
@@ -121,13 +125,13 @@ class Window:
         """Brings the dot into view, also where it stays."""
         self._followed = self._loaded = None
 
-    def update(self, is_busy: bool = False, rests: bool = False) -> None:
+    def update(self, is_busy: bool = False, rests: bool = False, turns: int = 0) -> None:
         """Follows what the host and the user did, and has the terminal load what is shown; while the user is busy only what he needs, and
-        while he rests what he may turn to next."""
+        while he rests what he may turn to next. `turns` is how many page keys wait, as for `ask`."""
         if self.is_open:
             self._reach()
             self._follow_dot()
-            self._load(is_busy)
+            self._load(is_busy, turns)
             if rests and self._turns:
                 self._load_beside()
 
@@ -177,7 +181,7 @@ class Window:
         self._loaded = None
         return is_known
 
-    def _load(self, is_busy: bool) -> None:
+    def _load(self, is_busy: bool, turns: int) -> None:
         """Tells the terminal what is shown, and asks for what of it is not loaded."""
         layout = self.layout()
         if layout is self._loaded or not self.is_settled:
@@ -190,7 +194,7 @@ class Window:
                 self.terminal.view(self.tag, layout.top, 0)
         elif has_all or not (is_busy and layout.top <= self.caret <= gap and layout.top < gap):
             end = layout.end if self._aim is None else max(layout.end, self._aim.place)
-            ask(self.terminal, self.tag, layout.top, end, layout.end - layout.top)
+            ask(self.terminal, self.tag, layout.top, end, layout.end - layout.top, turns)
             if self._aim is not None:
                 self._aim = self._aim._replace(is_asked=True)
 

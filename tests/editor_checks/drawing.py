@@ -15,7 +15,7 @@ def check_runes(folder):
         expect(rows == wanted, f"rows {rows}")
         session.keys("End")
         session.wait_for("6,6 of")
-        column, row = session.tmux("display-message", "-p", "#{cursor_x} #{cursor_y}").split()
+        column, _ = session.tmux("display-message", "-p", "#{cursor_x} #{cursor_y}").split()
         expect(column == "9", f"the cursor stands in column {column}, wanted 9")
         session.keys("Down", "Home", "Right", "Right", "Right", "Right")
         session.wait_for("12,12 of")

@@ -28,6 +28,26 @@ def check_pages_wait(folder):
         expect(ends[0] == ends[1], f"seed {seed}: the windows begin at, and the dots are {ends}; {typed}")
 
 
+def check_page_keys_that_wait(folder):
+    """Of page keys that come quickly, as of one that is held down, those that wait are answered together."""
+    lines = "".join(f"line {at} {'x' * (at * 37 % 60)}\n" for at in range(5000))
+    for start, name in (("^Home", "Page Down"), ("^End", "Page Up")):
+        tops = []
+        for is_slow in (False, True):
+            pair, editor, key, _ = opened(lines, size=(30, 80))
+            pair.press(key(start))
+            for _ in range(30):
+                editor.take(key(name))
+                pair.settle() if is_slow else pair.finish()
+            trips = 0
+            while editor.deferred or pair.terminal.locked(1):
+                pair.trip()
+                trips += 1
+            expect(trips <= 5, f"30 times {name} take {trips} round trips")
+            tops.append(editor.focus.top)
+        expect(tops[0] == tops[1], f"30 times {name} lead to {tops}")
+
+
 def check_wheel(folder):
     """The wheel turns by as many rows where it is turned before the text has come."""
     lines = "".join(f"line {at} {'x' * (at * 37 % 150)}\n" for at in range(2000))
@@ -97,6 +117,17 @@ def check_key_after_jump(folder):
         editor.take(typed)
     pair.finish()
     expect(pair.host.text(1) == lines + "\n\tend", f"Enter doesn't wait for the blanks: the text ends in {pair.host.text(1)[-40:]!r}")
+
+
+def check_key_after_command(folder):
+    """What is typed right after a command line waits for its answer, and for no text."""
+    pair, editor, key, text = opened("".join(f"line {at} {'x' * 60}\n" for at in range(2000)), size=(30, 80))
+    for typed in (key("Esc"), text("#50000\n"), key("Esc"), text("typed")):
+        editor.take(typed)
+    pair.trip()
+    expect(pair.terminal.read(1, 50_000, 5) == list("typed"), "it waits for more than one answer")
+    pair.finish()
+    pair.check()
 
 
 def check_two_trips(folder):
