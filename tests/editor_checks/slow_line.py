@@ -26,6 +26,16 @@ def check_pages_wait(folder):
             pair.finish()
             ends.append((editor.focus.top, editor.focus.dot))
         expect(ends[0] == ends[1], f"seed {seed}: the windows begin at, and the dots are {ends}; {typed}")
+    tops = []
+    for is_slow in (False, True):  # while the user types, what a larger window shows is not asked for, until a page key needs it
+        pair, editor, key, text = opened(lines, size=(20, 80))
+        editor.arrange(120, 80)
+        for typed in (text("x"), key("Page Down")):
+            editor.take(typed)
+            pair.settle() if is_slow else pair.finish()
+        pair.finish()
+        tops.append(editor.focus.top)
+    expect(tops[0] == tops[1], f"a page key after a typed one leads to {tops}")
 
 
 def check_page_keys_that_wait(folder):
