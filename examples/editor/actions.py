@@ -1,39 +1,20 @@
-"""What each key and the mouse do. A method `do_NAME` stands for each action of the table of keys."""
-from typing import Optional, Tuple
-
+"""What each key does. A method `do_NAME` stands for each action of the table of keys, here or in moving.py."""
+from commands import Commands, line_at
 from find import Find
-from keys import Mouse, Paste, Text
-from layout import line_start
-from lines import removes
+from keys import Paste, Text
 from menus import Help, Menu
-from texts import GAP
+from moving import Moves
+from texts import COMMAND, GAP
 from windows import Window
 
-Spot = Tuple[Window, int]  # a window and a place
-
-COMMAND = 0  # the tag of the command file
-DOUBLE_CLICK = 0.4  # seconds between the two clicks
-WHEEL_ROWS = 3
 LEAST_ROWS = 4  # rows of the least window, with its title
 MOST_IN_ENTER = 8  # runes that may have come together with a typed newline; where there are more they were pasted
 
 
-def line_at(window: Window, place: int, least: int = 0) -> str:
-    """The text of the line of a place, up to it; GAP before what is not loaded."""
-    first = line_start(window.read, place, least)
-    line = window.read(first, place - first)
-    return GAP + line if first > least and window.read(first - 1, 1) == GAP else line
-
-
-class Actions:
+class Actions(Commands, Moves):
     """The part of the editor that acts."""
 
     EXTENDING = {"left", "right", "up", "down", "word_left", "word_right", "home", "end"}  # that select with Shift
-
-    def may_leave(self, key: str) -> bool:
-        """Whether all is written, or the user is sure. If not, it is asked; the same key answers."""
-        unwritten = ", ".join(self.name(tag) for tag in self.tags if self.is_changed(tag))
-        return not unwritten or self.is_sure(f"not written: {unwritten}. {key} again leaves without them")
 
     # ---- Typing
 
@@ -80,116 +61,6 @@ class Actions:
             self.act_again("the host keeps a copy of what is not loaded, for ^Z and ^R")
             return False
         return self.is_sure(question)
-
-    # ---- Command lines
-
-    def _run_line(self) -> None:
-        """Ends the command line in which the caret stands. The host then runs it on the file that was used last."""
-        self.command.select(self.command.line_end(self.command.dot[1]))
-        if self._may_run(line_at(self.command, self.command.caret), "Enter"):
-            self._work()
-            self.texts.replace(COMMAND, "\n")
-
-    def _may_run(self, line: str, key: str) -> bool:
-        """Whether a command line may run: nothing is lost by it, or the user is sure."""
-        is_known, line = not line.startswith(GAP), line.lstrip(GAP).strip(" \t")
-        if (line == "q" or (line == "" and not is_known)) and not self.may_leave(key):
-            return False
-        window = self.active
-        if window is self.command or not window.is_open:
-            return True
-        what, detail = removes(line) if is_known else ("range", None)
-        question = f"this may take out text that is not loaded: ^Z can't bring it back. {key} again runs it"
-        is_safe = what != "range" or self._is_loaded(window, detail)
-        if not is_safe and not self._is_kept_or_sure(window.tag, 0, window.length, question):
-            return False
-        self.log.begin(window.tag)
-        self.log.goes = detail if what == "pattern" else ""
-        if line.isdecimal() and int(line) > 0:
-            self._sought = (window.tag, int(line))
-        return True
-
-    def _is_loaded(self, window: Window, address: Optional[str]) -> bool:
-        """Whether the range of an address is loaded, as far as that is easily told."""
-        gap = self.terminal.first_gap(window.tag)
-        if gap is None:
-            return True
-        if address in ("", "."):
-            start, end = window.dot
-            return GAP not in self.texts.read(window.tag, start, end - start)
-        numbers = [part.strip() for part in (address or "").split(",")]
-        if not all(number.isdecimal() for number in numbers):
-            return False
-        return self.texts.read(window.tag, 0, gap).count("\n") >= max(map(int, numbers))
-
-    def _work(self) -> None:
-        """Has command lines work on the file that was used last, and on what is selected there."""
-        if self.active is not self.command and self.active.is_open:
-            self.terminal.work(self.active.tag)
-
-    def run_aside(self, line: str) -> None:
-        """Runs a command line as if it were typed at the end of the command window. What stands there already is typed again behind it."""
-        end = self.terminal.len(COMMAND)
-        begun = line_at(self.command, end).lstrip(GAP)
-        self._work()
-        self.terminal.select(COMMAND, end - len(begun), end)
-        self.texts.replace(COMMAND, line + "\n")
-        if begun:
-            self.terminal.type(COMMAND, begun)
-
-    # ---- The mouse
-
-    def _begin_mouse(self) -> None:
-        # When and where the mouse was clicked last, by the time of the event: a click may wait for the host. Where its button is down.
-        self._clicked: Tuple[float, Optional[Spot]] = (0.0, None)
-        self._pressed: Optional[Spot] = None
-
-    def window_at(self, row: int) -> Optional[Window]:
-        """The window whose title or text stands in a row of the screen."""
-        return next((window for window in self.windows if window.y <= row <= window.y + window.height), None)
-
-    def point(self, mouse: Mouse) -> None:
-        if mouse.what in ("move", "release"):
-            self._drag(mouse)
-        if mouse.what in ("press", "release"):
-            self._pressed = None
-        window = self.window_at(mouse.row)
-        if window is None or not window.is_open:
-            return
-        if mouse.what == "wheel up":
-            window.page_up(WHEEL_ROWS)
-        elif mouse.what == "wheel down":
-            window.page_down(WHEEL_ROWS)
-        elif mouse.what == "press":
-            self._press(window, mouse)
-
-    def _press(self, window: Window, mouse: Mouse) -> None:
-        self.go_to(window)
-        window.goal = None
-        if mouse.row == window.y:
-            return
-        place = window.layout().place_at(mouse.row - window.y - 1, mouse.column)
-        when, spot = self._clicked
-        if spot == (window, place) and mouse.when - when < DOUBLE_CLICK:
-            self.terminal.dclick(window.tag, place)
-            self._clicked, window.anchor = (0.0, None), None
-            return
-        self._pressed = (window, place)
-        self._clicked = (mouse.when, self._pressed)
-        window.select(place)
-
-    def _drag(self, mouse: Mouse) -> None:
-        """Selects from where the button was pressed."""
-        if self._pressed is None or self._pressed[0] is not self.focus:
-            return
-        window, start = self._pressed
-        if start > window.length:
-            return
-        row = max(0, min(mouse.row - window.y - 1, window.height - 1))
-        place = window.layout().place_at(row, mouse.column)
-        if place != window.caret:
-            window.anchor = start
-            window.select(place, extends=True)
 
     # ---- Actions: the screen
 
@@ -377,50 +248,3 @@ class Actions:
         elif lacks:
             self.message = f"that can't be taken back: {lacks} characters of what went were not loaded"
         return step is not None and not lacks
-
-    # ---- Actions: moving
-
-    def _move(self, step: int, extends: bool) -> None:
-        window, (start, end) = self.focus, self.focus.dot
-        if start < end and not extends:
-            window.select(end if step > 0 else start)
-        else:
-            window.select(window.beside(window.caret, step), extends)
-
-    def do_left(self, extends: bool) -> None:
-        self._move(-1, extends)
-
-    def do_right(self, extends: bool) -> None:
-        self._move(1, extends)
-
-    def do_word_left(self, extends: bool) -> None:
-        self.focus.select(self.focus.beside_word(self.focus.caret, -1), extends)
-
-    def do_word_right(self, extends: bool) -> None:
-        self.focus.select(self.focus.beside_word(self.focus.caret, 1), extends)
-
-    def do_up(self, extends: bool) -> None:
-        self.focus.select(self.focus.by_rows(self.focus.caret, -1), extends)
-
-    def do_down(self, extends: bool) -> None:
-        self.focus.select(self.focus.by_rows(self.focus.caret, 1), extends)
-
-    def do_home(self, extends: bool) -> None:
-        self.focus.select(self.focus.line_start(self.focus.caret), extends)
-
-    def do_end(self, extends: bool) -> None:
-        self.focus.select(self.focus.line_end(self.focus.caret), extends)
-
-    def do_first(self) -> None:
-        self.focus.select(0)
-
-    def do_last(self) -> None:
-        self.focus.select(self.focus.length)
-
-    def do_page_up(self) -> None:
-        if self.focus.is_open:
-            self.focus.page_up()
-
-    def do_page_down(self) -> None:
-        if self.focus.is_open:
-            self.focus.page_down()

@@ -30,7 +30,7 @@ NUMBERS = {
     1: "Home", 2: "Insert", 3: "Delete", 4: "End", 5: "Page Up", 6: "Page Down", 7: "Home", 8: "End", 11: "F1", 12: "F2", 13: "F3",
     14: "F4", 15: "F5", 17: "F6", 18: "F7", 19: "F8", 20: "F9", 21: "F10", 23: "F11", 24: "F12",
 }  # fmt: skip
-RXVT = {"a": "Up", "b": "Down", "c": "Right", "d": "Left"}  # with Shift behind CSI, with Control behind SS3
+RXVT = {"a": "Up", "b": "Down", "c": "Right", "d": "Left"}  # with Shift after CSI, with Control after SS3
 KEYPAD = {chr(ord("p") + digit): str(digit) for digit in range(10)}
 KEYPAD.update({"M": "\n", "X": "=", "j": "*", "k": "+", "l": ",", "m": "-", "n": ".", "o": "/", "I": "\t", " ": " "})
 LINUX = {"A": "F1", "B": "F2", "C": "F3", "D": "F4", "E": "F5"}

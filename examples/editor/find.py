@@ -43,7 +43,7 @@ class Find:
         elif name in AFTER:
             self._show(self._after(self.window.dot[0] + 1))
         elif name in BEFORE:
-            self._show(self._before(self.window.dot[0]), " (not in what is loaded above; there ^B looks behind Enter)")
+            self._show(self._before(self.window.dot[0]), " (not in what is loaded above; Enter, then ^B, looks there)")
         elif not isinstance(key, Text):
             self.is_over = True
             return True

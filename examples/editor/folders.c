@@ -1,6 +1,6 @@
 /* folders.c: reads the text files below a folder, as a terminal can open no other file later.
  *
- * Files of a folder come before those of the folders in it, by their names. None is taken that is hidden or behind a link to a folder.
+ * Files of a folder come before those of the folders in it, by their names. None is taken that is hidden or below a link to a folder.
  */
 #define _XOPEN_SOURCE 700
 #include <dirent.h>

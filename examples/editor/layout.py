@@ -15,7 +15,7 @@ Reader = Callable[[int, int], str]
 TAB = 8  # columns between tab stops
 SHADE = "░"  # stands for a rune that is not loaded
 NO_GLYPH = "\ufffd"  # stands for a rune that no screen can show
-NO_BASE = "◌"  # carries a combining rune that stands behind none
+NO_BASE = "◌"  # carries a combining rune that stands after none
 PIECE = 1024  # runes that are read at once
 FAR_BACK = 8192  # runes that are looked at for the rows above a place
 
@@ -197,7 +197,7 @@ class Layout:
 
 
 def line_start(read: Reader, place: int, least: int = 0) -> int:
-    """The start of the line of a place, or the place behind the nearest gap before it; `least` where neither is behind that."""
+    """The start of the line of a place, or the place after the nearest gap before it; `least` where neither is after that."""
     while place > least:
         low = max(least, place - PIECE)
         text = read(low, place - low)
@@ -209,7 +209,7 @@ def line_start(read: Reader, place: int, least: int = 0) -> int:
 
 
 def line_end(read: Reader, place: int) -> int:
-    """The end of the line of a place, before its newline, or the nearest gap behind it."""
+    """The end of the line of a place, before its newline, or the nearest gap after it."""
     at = place
     while text := read(at, PIECE):
         ends = [end for end in (text.find("\n"), text.find(GAP)) if end >= 0]

@@ -134,7 +134,7 @@ class Screen:
         for text, attributes in runs:
             try:
                 self.screen.addstr(text, attributes)
-            except curses.error:  # the cursor has no place behind the last column of the last row
+            except curses.error:  # the cursor has no place after the last column of the last row
                 return
 
     def _put_cursor(self, cursor: Optional[Tuple[int, int]], rows: int, columns: int) -> None:

@@ -1,15 +1,16 @@
 """One session: the host is run, the editor goes on until the user leaves, and what nobody has saved is written here."""
 import contextlib
 import curses
+import os
 import shlex
 import sys
 from typing import List
 
 from editor import Editor
 from link import Link
-from loop import Loop
+from loop import KEYBOARD, Loop
 from sulgrevad import SamError, Terminal
-from screen import Screen
+from screen import FOOT, Screen
 from stream import FIRST
 
 STATUS_NO_HOST, STATUS_LOST, STATUS_UNSAVED, STATUS_SIGNAL = 1, 3, 5, 128
@@ -35,7 +36,10 @@ class Session:
         self.ended_by = 0
 
     def begin(self) -> bool:
-        """Waits for the host's stream. Returns whether it comes; why not is told."""
+        """Waits for the host's stream, and asks for the first file while there is no screen yet. Returns whether the stream comes; why not
+        is told."""
+        columns, rows = os.get_terminal_size(KEYBOARD)
+        self.editor.arrange(max(1, rows - FOOT), columns)
         self.editor.begin()
         self.link.send(self.terminal.take_out())
         is_there = self.link.wait_for_stream(FIRST, self._hear_early)
@@ -50,8 +54,10 @@ class Session:
     def _takes(self, data: bytes) -> bool:
         try:
             self.editor.feed(data)
+            self.editor.update()
+            self.link.send(self.terminal.take_out())
         except MemoryError:
-            pass  # the loop feeds it again
+            pass  # the loop does it again
         except SamError as error:
             say(f"samterm: the host's stream is wrong ({error})")
             return False

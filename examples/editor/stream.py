@@ -11,7 +11,7 @@ FIRST = bytes.fromhex("41000a00000000000000010002")  # the frame that answers th
 
 
 class Frame(NamedTuple):
-    """The fields of a frame with a tag, which stand behind the stamp."""
+    """The fields of a frame with a tag, which stand after the stamp."""
 
     kind: int
     body: bytes

@@ -3,6 +3,7 @@ from typing import Callable, Dict, List, NamedTuple
 
 from sulgrevad import Terminal
 
+COMMAND = 0  # the tag of the command file
 GAP = "\ud800"  # stands for a rune that is not loaded: no rune is a surrogate
 MOST_IN_EVENT = 512  # runes that are typed in one event
 

@@ -6,7 +6,7 @@ from texts import GAP, Change, Texts
 from vault import Kept, Part, Vault
 
 MOST_STEPS = 10_000  # steps that are kept of a file
-MOST_TYPED = 80  # runes that are taken back at once, of those typed one behind the other
+MOST_TYPED = 80  # runes that are taken back at once, of those typed one after the other
 
 
 class Step:

@@ -24,12 +24,12 @@ class Part:
 
 
 class Kept(NamedTuple):
-    """What stood from one place of a file to another, and how many runes stood behind that."""
+    """What stood from one place of a file to another, and how many runes stood after that."""
 
     tag: int
     start: int
     end: int
-    behind: int
+    after: int
     part: Part
 
 
@@ -45,7 +45,7 @@ class Vault:
         self._parts: List[Part] = []
         self._steps: Deque[Callable[[], None]] = deque()
         self._file = 0  # whose text is moved
-        self._length = self._copied = 0  # runes of the vault, and behind these of what the user has copied
+        self._length = self._copied = 0  # runes of the vault, and after these of what the user has copied
         self._refused: Optional[tuple] = None  # what there was no room for
 
     def find(self, tags: List[int]) -> None:
@@ -91,7 +91,7 @@ class Vault:
 
     def put_back(self, kept: Kept, place: int, then: Callable[[], None]) -> None:
         """Has the host put a text back where it stood, in the place of what stands there now. The caret stands at a place afterwards."""
-        tag, end = kept.tag, self.terminal.len(kept.tag) - kept.behind
+        tag, end = kept.tag, self.terminal.len(kept.tag) - kept.after
         self._begin(tag)
         self._steps += [
             lambda: self._snarf(self.tag, kept.part.start, kept.part.end),

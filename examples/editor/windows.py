@@ -7,12 +7,16 @@ from texts import GAP, Change, Texts
 
 LONGEST_LOOK = 512  # runes of the line before that a new line takes its indentation from
 LONGEST_WORD = 4096  # runes that a move over a word looks at
+MOST_IN_LOAD = 32_768  # runes that one Load asks for
 
 
-def ask(terminal: Terminal, tag: int, top: int, end: int, page: int) -> None:
-    """Asks for what stands from `top` to `end`, and for a page of so many runes on either side, in one round trip."""
-    start = max(0, top - page)
-    terminal.load(tag, start, end + page - start)
+def ask(terminal: Terminal, tag: int, top: int, end: int, page: int, turns: int = 0) -> None:
+    """Asks for what stands from `top` to `end`, and for a page of so many runes on either side, in one round trip; also for as many pages
+    below as page keys wait, or above where `turns` is negative, as far as one Load goes."""
+    most = max(0, MOST_IN_LOAD - (end - top) - 2 * page)
+    above, below = (page + min(most, max(0, pages) * page) for pages in (-turns, turns))
+    start = max(0, top - above)
+    terminal.load(tag, start, end + below - start)
 
 
 class Aim(NamedTuple):
@@ -37,6 +41,7 @@ class Window:
         self._layout: Optional[Layout] = None
         self._layout_of: tuple = ()
         self._loaded: Optional[Layout] = None  # what is shown, where all of it is loaded and the terminal was told so
+        self._turns = False  # the user turns pages, and those on either side were not asked for yet
 
     # ---- Reading
 
@@ -120,12 +125,15 @@ class Window:
         """Brings the dot into view, also where it stays."""
         self._followed = self._loaded = None
 
-    def update(self, is_busy: bool = False) -> None:
-        """Follows what the host and the user did, and has the terminal load what is shown; while the user is busy only what he needs."""
+    def update(self, is_busy: bool = False, rests: bool = False, turns: int = 0) -> None:
+        """Follows what the host and the user did, and has the terminal load what is shown; while the user is busy only what he needs, and
+        while he rests what he may turn to next. `turns` is how many page keys wait, as for `ask`."""
         if self.is_open:
             self._reach()
             self._follow_dot()
-            self._load(is_busy)
+            self._load(is_busy, turns)
+            if rests and self._turns:
+                self._load_beside()
 
     def _reach(self) -> None:
         """Shows what was aimed at, where the text above it has come. Of a line that is longer, no place is known at which a row begins: it
@@ -173,7 +181,7 @@ class Window:
         self._loaded = None
         return is_known
 
-    def _load(self, is_busy: bool) -> None:
+    def _load(self, is_busy: bool, turns: int) -> None:
         """Tells the terminal what is shown, and asks for what of it is not loaded."""
         layout = self.layout()
         if layout is self._loaded or not self.is_settled:
@@ -186,14 +194,25 @@ class Window:
                 self.terminal.view(self.tag, layout.top, 0)
         elif has_all or not (is_busy and layout.top <= self.caret <= gap and layout.top < gap):
             end = layout.end if self._aim is None else max(layout.end, self._aim.place)
-            ask(self.terminal, self.tag, layout.top, end, layout.end - layout.top)
+            ask(self.terminal, self.tag, layout.top, end, layout.end - layout.top, turns)
             if self._aim is not None:
                 self._aim = self._aim._replace(is_asked=True)
+
+    def _load_beside(self) -> None:
+        """Asks for the pages on either side of one that the page keys led to, so that the next of these need not wait."""
+        layout = self.layout()
+        if layout is not self._loaded or not self.is_settled:
+            return
+        self._turns, page = False, layout.end - layout.top
+        gap = self.terminal.first_gap(self.tag, max(0, layout.top - page))
+        if gap is not None and gap < layout.end + page:
+            ask(self.terminal, self.tag, layout.top, layout.end, page)
 
     # ---- Moving
 
     def page_down(self, rows: Optional[int] = None) -> None:
         """Shows what stands below, as far as what is shown is loaded."""
+        self._turns = True
         if rows is None:
             rows = max(1, self.height - 1)
         if self._aim is not None and self._aim.rows >= rows:
@@ -209,6 +228,7 @@ class Window:
 
     def page_up(self, rows: Optional[int] = None) -> None:
         """Shows what stands above."""
+        self._turns = True
         if rows is None:
             rows = max(1, self.height - 1)
         place, below, _ = self._aim or Aim(self.top, 0)
@@ -234,7 +254,7 @@ class Window:
         return max(0, min(at, self.length))
 
     def _is_on_another(self, place: int) -> bool:
-        """Whether the rune behind a place shares the cell of the one before it. At the start of a line and behind a gap it can't."""
+        """Whether the rune after a place shares the cell of the one before it. At the start of a line and after a gap it can't."""
         before, rune = self.read(place - 1, 2)
         if before + rune == "\r\n":
             return True

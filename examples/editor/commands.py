@@ -1,0 +1,75 @@
+"""Command lines of the user: what has to hold before the host runs one."""
+from typing import Optional
+
+from layout import line_start
+from lines import removes
+from texts import COMMAND, GAP
+from windows import Window
+
+
+def line_at(window: Window, place: int, least: int = 0) -> str:
+    """The text of the line of a place, up to it; GAP before what is not loaded."""
+    first = line_start(window.read, place, least)
+    line = window.read(first, place - first)
+    return GAP + line if first > least and window.read(first - 1, 1) == GAP else line
+class Commands:
+    """The part of the editor that has the host run command lines."""
+
+    def _run_line(self) -> None:
+        """Ends the command line in which the caret stands. The host then runs it on the file that was used last."""
+        self.command.select(self.command.line_end(self.command.dot[1]))
+        if self._may_run(line_at(self.command, self.command.caret), "Enter"):
+            self._work()
+            self.texts.replace(COMMAND, "\n")
+
+    def _may_run(self, line: str, key: str) -> bool:
+        """Whether a command line may run: nothing is lost by it, or the user is sure."""
+        is_known, line = not line.startswith(GAP), line.lstrip(GAP).strip(" \t")
+        if (line == "q" or (line == "" and not is_known)) and not self.may_leave(key):
+            return False
+        window = self.active
+        if window is self.command or not window.is_open:
+            return True
+        what, detail = removes(line) if is_known else ("range", None)
+        question = f"this may take out text that is not loaded: ^Z can't bring it back. {key} again runs it"
+        is_safe = what != "range" or self._is_loaded(window, detail)
+        if not is_safe and not self._is_kept_or_sure(window.tag, 0, window.length, question):
+            return False
+        self.log.begin(window.tag)
+        self.log.goes = detail if what == "pattern" else ""
+        if line.isdecimal() and int(line) > 0:
+            self._sought = (window.tag, int(line))
+        return True
+
+    def _is_loaded(self, window: Window, address: Optional[str]) -> bool:
+        """Whether the range of an address is loaded, as far as that is easily told."""
+        gap = self.terminal.first_gap(window.tag)
+        if gap is None:
+            return True
+        if address in ("", "."):
+            start, end = window.dot
+            return GAP not in self.texts.read(window.tag, start, end - start)
+        numbers = [part.strip() for part in (address or "").split(",")]
+        if not all(number.isdecimal() for number in numbers):
+            return False
+        return self.texts.read(window.tag, 0, gap).count("\n") >= max(map(int, numbers))
+
+    def _work(self) -> None:
+        """Has command lines work on the file that was used last, and on what is selected there."""
+        if self.active is not self.command and self.active.is_open:
+            self.terminal.work(self.active.tag)
+
+    def run_aside(self, line: str) -> None:
+        """Runs a command line as if it were typed at the end of the command window. What stands there already is typed again after it."""
+        end = self.terminal.len(COMMAND)
+        begun = line_at(self.command, end).lstrip(GAP)
+        self._work()
+        self.terminal.select(COMMAND, end - len(begun), end)
+        self.texts.replace(COMMAND, line + "\n")
+        if begun:
+            self.terminal.type(COMMAND, begun)
+
+    def may_leave(self, key: str) -> bool:
+        """Whether all is written, or the user is sure. If not, it is asked; the same key answers."""
+        unwritten = ", ".join(self.name(tag) for tag in self.tags if self.is_changed(tag))
+        return not unwritten or self.is_sure(f"not written: {unwritten}. {key} again leaves without them")

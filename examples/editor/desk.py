@@ -1,0 +1,75 @@
+"""The desk: the windows on the screen, and the one to which the keys go."""
+from typing import Dict, List, Optional
+
+from texts import COMMAND, Change, Texts
+from windows import Window
+
+SMALL = 2  # rows of a small command window, with its title
+
+
+class Desk:
+    """The command window at the top, the windows of files below it."""
+
+    def __init__(self, texts: Texts):
+        self.texts = texts
+        self.all_windows: Dict[int, Window] = {}  # also of files that are not on the screen
+        self.command = self.window_of(COMMAND)
+        self.files: List[Window] = []  # the file windows on the screen, from top to bottom
+        self.focus = self.active = self.command  # where keys go; the file window that they went to last
+        self.rows, self.columns = 24, 80
+        self.is_small = False  # whether the command window is
+
+    def window_of(self, tag: int) -> Window:
+        if tag not in self.all_windows:
+            self.all_windows[tag] = Window(self.texts, tag)
+        return self.all_windows[tag]
+
+    @property
+    def windows(self) -> List[Window]:
+        return [self.command, *self.files]
+
+    def arrange(self, rows: int, columns: int) -> None:
+        """Shares so many rows among the windows."""
+        self.rows, self.columns = rows, columns
+        share = SMALL if self.is_small and rows > SMALL else max(5, rows // 4)
+        command_rows = rows if not self.files else min(share, max(2, rows // 2))
+        self.command.put(0, max(1, command_rows - 1), columns)
+        y, left = command_rows, rows - command_rows
+        for at, window in enumerate(self.files):
+            share = left // (len(self.files) - at)
+            window.put(y, max(1, share - 1), columns)
+            y, left = y + share, left - share
+
+    def go_to(self, window: Window) -> None:
+        self.focus = window
+        if window is not self.command:
+            self.active = window
+
+    def put_up(self, window: Window, replaces: bool = True) -> None:
+        """Puts a window on the screen, in place of the one that was used last or below all others. The keys go to it."""
+        if window not in self.files:
+            if replaces and self.active in self.files:
+                self.files[self.files.index(self.active)] = window
+            else:
+                self.files.append(window)
+            self.arrange(self.rows, self.columns)
+        self.go_to(window)
+
+    def drop(self, window: Window) -> None:
+        """Takes a window off the screen."""
+        at = self.files.index(window)
+        self.files.remove(window)
+        if self.active is window:
+            self.active = self.files[max(0, at - 1)] if self.files else self.command
+        if self.focus is window:
+            self.focus = self.active
+        self.arrange(self.rows, self.columns)
+
+    def hear_change(self, change: Change) -> None:
+        """A change of a text, which a window of it goes by."""
+        if change.tag in self.all_windows:
+            self.all_windows[change.tag].hear(change)
+
+    def window_at(self, row: int) -> Optional[Window]:
+        """The window whose title or text stands in a row of the screen."""
+        return next((window for window in self.windows if window.y <= row <= window.y + window.height), None)

@@ -1,0 +1,110 @@
+"""What stands on the screen, in tmux."""
+import re
+import time
+
+from .support import LINK, Session, expect, expect_sleep, made, wait_for_text, wait_until
+
+
+def check_runes(folder):
+    """Wide and combining runes, tabs, control characters and long lines."""
+    made(folder, a="日本語|\tx\ncafe\u0301|\nbell\x07|\n" + "m" * 100 + "\nend")
+    with Session(folder, "a.txt") as session:
+        session.wait_for("end")
+        rows = session.rows("a.txt")[:6]
+        wanted = ["日本語| x", "cafe\u0301|", "bell^G|", "m" * 80, "m" * 20, "end"]
+        expect(rows == wanted, f"rows {rows}")
+        session.keys("End")
+        session.wait_for("6,6 of")
+        column, _ = session.tmux("display-message", "-p", "#{cursor_x} #{cursor_y}").split()
+        expect(column == "9", f"the cursor stands in column {column}, wanted 9")
+        session.keys("Down", "Home", "Right", "Right", "Right", "Right")
+        session.wait_for("12,12 of")
+        session.keys("Left", "Delete")
+        session.wait_for("caf|")
+        session.leave_unwritten()
+
+
+def check_c_locale(folder):
+    """In the C locale, too, all characters can be typed and are drawn."""
+    (path,) = made(folder, a="豆b\n")
+    with Session(folder, "a.txt", settings="LC_ALL=C") as session:
+        session.wait_for("豆b")
+        session.type("é")
+        session.wait_for("é豆b")
+        session.keys("C-w")
+        wait_until(lambda: path.read_bytes() == "é豆b\n".encode(), lambda: f"a.txt has {path.read_bytes()}")
+        session.leave()
+
+
+def check_resize(folder):
+    made(folder, a="x" * 100 + "\nend\n")
+    with Session(folder, "a.txt") as session:
+        session.wait_for("end")
+        session.tmux("resize-window", "-x", "120", "-y", "30")
+        wait_until(lambda: session.rows("a.txt")[:2] == ["x" * 100, "end"], "the long line is still broken")
+        session.wait_for("| up ")
+        wait_until(lambda: "| up " in "".join(session.screen()[28:29]), "the status line stands elsewhere")
+        session.tmux("resize-window", "-x", "40", "-y", "12")
+        wait_until(lambda: session.rows("a.txt")[2:4] == ["x" * 20, "end"], "the long line is not broken")
+        session.tmux("resize-window", "-x", "4", "-y", "2")
+        time.sleep(0.2)
+        session.tmux("resize-window", "-x", "80", "-y", "24")
+        wait_until(lambda: session.rows("a.txt")[1:3] == ["x" * 20, "end"], "a small screen was too small")
+        session.leave()
+
+
+def check_large(folder):
+    """A file of 1,000,000 runes: only what is looked at crosses."""
+    lines = [f"{number:07} {'.' * 41}\n" for number in range(20_000)]
+    (path,) = made(folder, a="".join(lines))
+    expect(path.stat().st_size == 1_000_000, "this test is wrong")
+    with Session(folder, "a.txt") as session:
+        session.wait_for("0000010 ")
+        session.wait_for_quiet()
+        for last in (30, 45, 60):
+            session.keys("NPage")
+            session.wait_for(f"{last:07} ")
+            session.wait_for_quiet()
+        session.keys("PPage")
+        session.wait_for("0000036 ")
+        session.wait_for_quiet()
+        session.command("10000")
+        session.wait_for("0009999 ")
+        session.wait_for_quiet()
+        session.keys("C-End")
+        session.wait_for("0019999 ")
+        session.wait_for_quiet()
+        down = session.bytes_down()
+        expect(down < 20_000, f"{down} bytes crossed")
+        session.type("x")
+        session.wait_for("more than 1,000,000 characters")
+        session.keys(*["S-Left"] * 8)
+        session.type("the end")
+        session.keys("C-w")
+        wait_for_text(path, "".join(lines)[:-8] + "the end")
+        session.leave()
+
+
+def check_gaps(folder):
+    """What is not loaded is drawn as a shade, and fills."""
+    made(folder, a="".join(f"line {number}\n" for number in range(2000)))
+    with Session(folder, "a.txt", slow=LINK) as session:
+        session.wait_for("line 14")
+        session.wait_for_quiet()
+        session.keys("C-End")
+        session.wait_for("░░░░░")
+        wait_until(lambda: not session.shows("░"), "the shade never fills")
+        rows = session.rows("a.txt")
+        expect("line 1999" in rows and all(re.fullmatch(r"(line \d+)?", row) for row in rows), f"rows {rows}")
+        session.leave()
+
+
+def check_sleeps(folder):
+    """A quiet editor costs no processor time."""
+    made(folder, a="one\n")
+    with Session(folder, "a.txt") as session:
+        session.wait_for("one")
+        session.type("x")
+        session.wait_for_quiet()
+        expect_sleep(session)
+        session.leave_unwritten()

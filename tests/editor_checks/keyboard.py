@@ -1,0 +1,221 @@
+"""What terminals send for keys, pastes, finding, line numbers and the clipboard."""
+import time
+
+from .pairs import opened
+from .support import Session, expect, made, wait_for_text, wait_until
+
+
+def check_sequences(folder):
+    """What terminals send for keys is taken as one, and what nobody knows types nothing."""
+    from decode import Decoder
+
+    known = {
+        "^Left": ("[1;5D", "Od"), "^Right": ("[1;5C", "Oc"), "Shift-Left": ("[1;2D", "[d"), "Shift-Home": ("[1;2H", "[7$"),
+        "^Home": ("[1;5H", "[7^"), "Home": ("[H", "OH", "[1~", "[7~"), "End": ("[F", "OF", "[4~", "[8~"), "F1": ("OP", "[11~", "[[A"),
+        "F5": ("[15~", "[[E"), "F12": ("[24~",), "Alt-b": ("b",), "Up": ("[A", "OA"), "Alt-Up": ("[1;3A", "\x1b[A"), "Delete": ("[3~",),
+        "^Delete": ("[3;5~", "[3^"), "Alt-Backspace": ("\x7f",), "^A": ("[97;5u", "[27;5;97~"), "Shift-Tab": ("[Z",),
+    }  # fmt: skip
+    for name, forms in known.items():
+        for form in forms:
+            got = Decoder().feed(b"\x1b" + form.encode() + b"x", 0.0)
+            expect([tuple(key) for key in got] == [(name,), ("x",)], f"Esc {form!r} is taken for {got}")
+    for form in ("[I", "[O", "[?62;1c", "]11;rgb:0/0/0\x07", "]52;c;aGk=\x1b\\", "P>|xterm(380)\x1b\\", "[?2026;2$y", "[M~!!"):
+        for at in range(1, len(form)):
+            decoder = Decoder()
+            got = decoder.feed(b"\x1b" + form[:at].encode(), 0.0) + decoder.feed(form[at:].encode() + b"x", 0.1)
+            expect([tuple(key) for key in got] == [("x",)], f"Esc {form!r} in two parts is taken for {got}")
+    decoder = Decoder()
+    got = decoder.feed(b"\x1b[200~a\r\nb\x1b[A", 0.0) + decoder.feed(b"c\x1b[20", 0.1) + decoder.feed(b"1~d", 0.2)
+    expect([tuple(key) for key in got] == [("a\nb\x1b[Ac",), ("d",)], f"a paste is taken for {got}")
+    for alone, name in ((b"\x1b", "Esc"), (b"\x1b[", "Alt-["), (b"\x1bO", "Alt-O")):
+        decoder = Decoder()
+        got = decoder.feed(alone, 0.0) + decoder.flush(0.01) + decoder.flush(0.03)
+        expect([tuple(key) for key in got] == [(name,)], f"{alone} alone is taken for {got}")
+
+
+def check_unknown_keys(folder):
+    """On every kind of terminal, sequences that nobody knows change nothing; word moves move."""
+    unknown = ("1b 78", "1b 5b 49", "1b 5b 31 3b 37 41", "1b 5b 39 39 7e", "1b 4f 7a", "1b 5b 31 3b 33 43", "1b 5d 31 31 3b 78 07")
+    made(folder, a="one two three\n")
+    for term in ("xterm-256color", "screen", "linux", "rxvt", "tmux-256color"):
+        place = folder / term
+        place.mkdir()
+        (path,) = made(place, a="one two three\n")
+        with Session(place, "a.txt", settings=f"TERM={term}") as session:
+            session.wait_for("one two three")
+            for codes in unknown:
+                session.tmux("send-keys", "-H", *codes.split())
+                time.sleep(0.05)
+            session.tmux("send-keys", "-H", *"1b 5b 31 3b 35 43 1b 4f 63".split())  # Control-Right of xterm, and of rxvt
+            session.wait_for("7,7 of 14")
+            session.type("|")
+            session.keys("C-w")
+            wait_for_text(path, "one two| three\n")
+            session.leave()
+
+
+def check_paste_of_the_screen(folder):
+    """A paste of the user's terminal is one text: nothing is indented, and one key takes it back."""
+    (path,) = made(folder, a="  begin\n")
+    with Session(folder, "a.txt") as session:
+        session.wait_for("begin")
+        session.keys("End", "Enter")
+        session.wait_for("line 2")
+        session.tmux("set-buffer", "x\n  y\n\tz\x1b[A")
+        session.tmux("paste-buffer", "-p")
+        session.wait_for("z^[[A")
+        session.keys("C-w")
+        wait_for_text(path, "  begin\n  x\n  y\n\tz\x1b[A\n")
+        session.keys("C-z", "C-w")
+        wait_for_text(path, "  begin\n  \n")
+        session.leave()
+
+
+def check_indents(folder):
+    """Enter repeats the blanks before the line above, unless that is turned off. Lines that come together are not indented."""
+    for at, (words, wanted) in enumerate((((), "\tone\n\ttwo\n  x\n    y\n"), (("--no-indent",), "\tone\ntwo\n  x\n    y\n"))):
+        place = folder / str(at)
+        place.mkdir()
+        (path,) = made(place, a="\tone\n")
+        with Session(place, *words, "a.txt") as session:
+            session.wait_for("one")
+            session.keys("End", "Enter")
+            session.type("two")
+            session.keys("Down")
+            session.type("  x\n    y\n")
+            session.keys("C-w")
+            wait_for_text(path, wanted)
+            session.leave()
+
+
+def check_find(folder):
+    """Finding as the user types, next and previous; the host finds what is not loaded, and knows the pattern."""
+    lines = "".join(f"line {at}\n" for at in range(3000))
+    made(folder, a=lines)
+    with Session(folder, "a.txt", slow=50) as session:
+        session.wait_for("line 14")
+        session.wait_for_quiet()
+        before = session.bytes_down()
+        session.keys("C-s")
+        session.type("ne 1")
+        session.wait_for("find: ne 1")
+        session.wait_for(f"{lines.find('ne 1')},{lines.find('ne 1') + 4} of")
+        session.keys("Down", "Down", "Up")
+        session.wait_for(f"{lines.find('ne 10')},{lines.find('ne 10') + 4} of")
+        expect(session.bytes_down() == before, "the host is asked")
+        session.type("2")
+        session.wait_for(f"{lines.find('ne 12')},{lines.find('ne 12') + 5} of")
+        session.type("34")
+        session.wait_for("Enter asks the host")
+        session.keys("Enter")
+        session.wait_for(f"{lines.find('ne 1234')},{lines.find('ne 1234') + 7} of")
+        session.wait_for("line 1236")
+        session.keys("C-s")
+        session.type("zzz")
+        session.wait_for("find: zzz")
+        session.keys("Escape")
+        wait_until(lambda: not session.shows("find:"), "Esc doesn't go back")
+        session.wait_for(f"{lines.find('ne 1234')},{lines.find('ne 1234') + 7} of")
+        session.leave()
+
+
+def check_find_in_process(folder):
+    """A line that was begun in the command window outlives a search, and `^B` goes back."""
+    pair, editor, key, text = opened("one two one\n")
+    pair.press(key("Esc"), text("beg"), key("Esc"), key("^S"), text("one"), key("Down"), text("\n"))
+    expect(editor.focus.dot == (8, 11), f"it finds {editor.focus.dot}")
+    expect(pair.host.text(0) == "/one/\nbeg", f"the command window has {pair.host.text(0)!r}")
+    pair.press(key("^B"))
+    expect(editor.focus.dot == (0, 3), f"^B goes to {editor.focus.dot}")
+    pair.press(key("^S"), text("t"), key("End"), text("x"))
+    expect(pair.host.text(1) == "one two onex\n", f"another key is not done after the search: {pair.host.text(1)!r}")
+    pair.press(key("^S"), text("a.b\\c/"), text("\n"))
+    expect(pair.host.text(0).startswith("/one/\n/a\\.b\\\\c\\//\n? search"), f"the command window has {pair.host.text(0)!r}")
+
+
+def check_search_back(folder):
+    """`^B` also finds what stands above in text that is not loaded, and says where there is nothing. Esc stops it."""
+    lines = "".join(f"line {at} {'x' * 60}\n" for at in range(12_000))
+    pair, editor, key, text = opened(lines, size=(30, 80))
+    for at in (10, 4000):
+        pair.press(key("^Home"), key("^S"), text(f"line {at} "), text("\n"), key("^End"), key("^B"))
+        place = lines.index(f"line {at} ")
+        expect(editor.focus.dot == (place, place + 6 + len(str(at))), f"line {at}: ^B goes to {editor.focus.dot}; {editor.message}")
+    pair.press(key("^B"))
+    expect("nowhere above" in editor.message, f"it tells {editor.message!r}")
+    for at in range(1, 6):  # a place of which some is loaded by one round trip, and the rest by the next
+        pair, editor, key, text = opened(lines, size=(30, 80))
+        pair.press(key("^End"))
+        loaded = next(place for place in range(len(lines) - 1, 0, -1) if pair.terminal.first_gap(1, place) is not None) + 1
+        place = loaded - 4096 - at
+        whole = "a place" + lines[7:place] + "a place" + lines[place + 7 :]
+        pair, editor, key, text = opened(whole, size=(30, 80))
+        pair.press(key("^S"), text("a place"), text("\n"), key("^End"), key("^B"))
+        expect(editor.focus.dot == (place, place + 7), f"^B goes to {editor.focus.dot}, wanted {place}; {editor.message}")
+    pair, editor, key, text = opened(lines)
+    pair.press(key("^S"), text("line 3000 "), text("\n"), key("^End"))
+    place = editor.focus.dot
+    editor.take(key("^B"))
+    pair.settle()
+    expect("Esc stops" in editor.message, f"it tells {editor.message!r}")
+    editor.take(key("Esc"))
+    pair.finish()
+    expect(editor.focus.dot == place and editor.message == "stopped", f"it doesn't stop: {editor.focus.dot}, {editor.message!r}")
+
+
+def check_line_numbers(folder):
+    """The number of the caret's line, where it is known."""
+    lines = [f"line {at}\n" for at in range(1, 3001)]
+    pair, editor, key, text = opened("".join(lines))
+    editor.arrange(20, 80)
+    pair.finish()
+    numbers, window = editor.numbers, editor.focus
+
+    def line():
+        return numbers.line(window.tag, window.caret)
+
+    pair.press(key("Down"), key("Down"))
+    expect(line() == 3, f"line {line()}, wanted 3")
+    pair.press(key("^End"))
+    expect(line() is None, f"a line is told where it can't be known: {line()}")
+    pair.press(key("Esc"), text("2000\n"), key("Esc"))
+    expect(numbers.line(window.tag, window.dot[0]) == 2000, f"line {line()}, wanted 2000")
+    pair.press(key("Left"), text("a\nb\n"), key("Backspace"), key("Up"))
+    expect(line() == 2000, f"line {line()}, wanted 2000")
+    pair.press(key("Down"), key("Down"))
+    expect(line() == 2002, f"line {line()}, wanted 2002")
+    pair.press(key("Esc"), text("1,2d\n"), key("Esc"))
+    pair.press(key("Esc"), text("#0\n"), key("Esc"))
+    expect(line() == 1, f"line {line()}, wanted 1")
+
+
+def check_clipboard(folder):
+    """What is cut stands on the clipboard of the user's terminal."""
+    made(folder, a="one two\n")
+    with Session(folder, "a.txt") as session:
+        session.tmux("set-option", "-s", "set-clipboard", "on")
+        session.wait_for("one two")
+        session.keys("S-Right", "S-Right", "S-Right", "C-x")
+        wait_until(lambda: session.tmux("list-buffers"), "nothing is on the clipboard")
+        expect(session.tmux("show-buffer") == "one", f"the clipboard has {session.tmux('show-buffer')!r}")
+        session.leave_unwritten()
+
+
+def check_carriage_returns(folder):
+    """Lines that end in CR LF show no `^M`, keep their ends, and are one step of the caret and of an erasing key."""
+    path = folder / "a.txt"
+    path.write_bytes(b"one\r\ntwo\r\n")
+    with Session(folder, "a.txt") as session:
+        session.wait_for("two")
+        expect(not session.shows("^M"), "it shows a ^M")
+        session.keys("End")
+        session.wait_for("3,3 of 10")
+        session.keys("Right")
+        session.wait_for("5,5 of 10")
+        session.type("x")
+        session.keys("Enter")
+        session.wait_for("line 3")
+        session.keys("Down", "BSpace", "BSpace")
+        session.keys("C-w")
+        wait_until(lambda: path.read_bytes() == b"one\r\nx\r\ntw", lambda: f"the file has {path.read_bytes()}")
+        session.leave()

@@ -1,0 +1,171 @@
+"""An editor and a host in this process, with the bytes between them under way."""
+import random
+
+from .support import Failed, expect
+
+
+class Pair:
+    """An editor and a host in this process; bytes between them stay under way as long as the random numbers say."""
+
+    LINES = (",x/a/c/bb/", ",d", "2", "/b/", "#3,$", "f name", "nonsense")
+    SIZES = ((22, 80), (8, 20), (5, 7), (60, 200))
+
+    def __init__(self, random_numbers, texts, has_vault=False):
+        import keys
+        import sulgrevad
+        import screen
+        from editor import Editor
+        from texts import GAP
+
+        self.random, self.keys, self.screen, self.gap = random_numbers, keys, screen, GAP
+        self.host, self.terminal, self.now = sulgrevad.Host(), sulgrevad.Terminal(), 0.0
+        for at, text in enumerate(texts):
+            self.host.add_file(f"file{at}", text)
+        if has_vault:
+            self.host.add_file("~~undo~~")
+        self.editor = Editor(self.terminal, clock=lambda: self.now, asked_for=[f"file{at}" for at in range(len(texts))])
+        self.editor.begin()
+        self.editor.arrange(*self.random.choice(self.SIZES))
+        self.up, self.down = bytearray(self.terminal.take_out()), bytearray()
+        self.names = [key for binding in keys.BINDINGS for key in binding.keys if key != "^Q"]
+        self.names += [f"Shift-{name}" for name in ("Left", "Right", "Up", "Down", "Home", "End")]
+
+    def key(self):
+        """One key, mouse button or command line."""
+        keys, choose, draw = self.keys, self.random.choice, self.random.random()
+        if draw < 0.4:
+            self.editor.take(keys.Text(choose(("x", "yy\n", "日", "e\u0301"))))
+        elif draw < 0.88:
+            self.editor.take(keys.Key(choose(self.names)))
+        elif draw < 0.97:
+            what = choose(("press", "release", "move", "wheel up", "wheel down"))
+            self.editor.take(keys.Mouse(what, self.random.randrange(24), self.random.randrange(80), self.random.random()))
+        else:
+            self.editor.go_to(self.editor.command)
+            for key in (keys.Key("^End"), keys.Text(f"\n{choose(self.LINES)}\n")):
+                self.editor.take(key)
+
+    def carry(self):
+        """Some bytes arrive, on one side or the other."""
+        way = self.random.choice((self.up, self.down))
+        count = self.random.randint(0, len(way))
+        data = bytes(way[:count])
+        del way[:count]
+        if way is self.up:
+            self.host.feed(data)
+            self.down += self.host.take_out()
+        else:
+            self.editor.feed(data)
+
+    def settle(self):
+        self.editor.update()
+        self.up += self.terminal.take_out()
+        for window in self.editor.windows:
+            self.screen.window_rows(self.editor, window)
+        self.screen.cursor_of(self.editor)
+
+    def pause(self):
+        self.editor.notes.settle(self.now)
+        self.settle()
+        self.editor.pause()
+        self.up += self.terminal.take_out()
+        self.editor.notes.drawn()
+
+    def finish(self, seconds=1.0):
+        """Lets everything arrive, and so many seconds go by in which the user reads the line at the bottom."""
+        until = self.now + seconds
+        for _ in range(100_000):
+            self.pause()
+            waits = [wait for wait in (self.editor.wakes_in(), self.editor.notes.left) if wait]
+            if self.up or self.down:
+                self.carry()
+            elif waits and self.now + min(waits) <= until:
+                self.now += min(waits)
+            elif self.now < until:
+                self.now = until
+            else:
+                return
+        raise Failed("it never gets quiet")
+
+    def press(self, *keys, seconds=1.0):
+        """Keys one after another, each once all has arrived and the line at the bottom was read."""
+        for key in keys:
+            self.editor.take(key)
+            self.finish(seconds)
+
+    def trip(self):
+        """All that waits goes up, and the answers come down."""
+        self.pause()
+        self.host.feed(bytes(self.up))
+        self.up.clear()
+        self.editor.feed(self.host.take_out())
+        self.pause()
+
+    def check(self):
+        expect(self.terminal.held == 0 and not self.editor.deferred, "an event is held for ever")
+        expect(not self.editor.is_lost, self.editor.message)
+        expect(self.terminal.under_way == 0, "a message stays on the way")
+        for window in self.editor.windows:
+            if window.is_open:
+                shown = window.read(0, window.length)
+                text = self.host.text(window.tag)
+                expect(len(shown) == len(text), "the lengths differ")
+                expect(all(rune in (self.gap, wanted) for rune, wanted in zip(shown, text)), "the texts differ")
+                expect(not any(row.has_gap for row in window.layout().rows), "a gap stays on the screen")
+                expect(self.editor.is_changed(window.tag) == self.host.is_dirty(window.tag), "the mark of a file is wrong")
+
+
+def some_keys(numbers, keys):
+    """A key, or some that belong together; none that asks, and none that goes by how much is loaded."""
+    key, text, choose = keys.Key, keys.Text, numbers.choice
+    aside = ("page_up", "page_down", "close", "leave", "send")
+    names = [name for binding in keys.BINDINGS for name in binding.keys if binding.action not in aside]
+    mouse = [keys.Mouse(what, numbers.randrange(60), numbers.randrange(9), numbers.random() * 1e6) for what in ("press", "release")]
+    return choose(
+        (
+            [text(choose(("z", "uv", "w\n", "日")))],
+            [key("Esc"), text(choose((",x/a/c/bb/\n", "1d\n", "2\n", "f name\n"))), key("Esc")],
+            [key("^W"), key("^K")],
+            [key("F2"), key("Down"), text("\n")],
+            mouse,
+            *[[key(name)] for name in (choose(names), choose(names), choose(names))],
+        )
+    )
+
+
+def opened(*texts, has_vault=False, size=(60, 200)):
+    """A pair with a window for each text, and a screen of so many rows and columns."""
+    pair = Pair(random.Random(1), texts, has_vault)
+    pair.editor.arrange(*size)
+    pair.finish()
+    for _ in texts[1:]:
+        pair.editor.take(pair.keys.Key("^T"))
+        pair.finish()
+    return pair, pair.editor, pair.keys.Key, pair.keys.Text
+
+
+LONG = "".join(f"line {at} foo\n" for at in range(3000))
+
+
+def in_a_small_window(has_vault):
+    """A pair with a long text, of which little is loaded."""
+    return opened(LONG, has_vault=has_vault, size=(20, 80))
+
+
+def loads_of(pair):
+    """The Loads that the editor makes from now on: file, place, and count."""
+    made_loads, load = [], pair.terminal.load
+
+    def noted(*words):
+        made_loads.append(words)
+        load(*words)
+
+    pair.terminal.load = noted
+    return made_loads
+
+
+def is_loaded_beside(pair, tag, layout):
+    """Whether what a window shows is loaded, and a page on either side."""
+    page = layout.end - layout.top
+    gap = pair.terminal.first_gap(tag, max(0, layout.top - page))
+    return gap is None or gap >= layout.end + page

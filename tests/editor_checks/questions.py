@@ -1,0 +1,286 @@
+"""Questions, and texts that were not written."""
+import os
+import re
+import signal
+import time
+
+from .pairs import opened
+from .support import READ_AFTER, SAMHOST, Session, expect, host_that, made, wait_for_text, wait_until
+
+
+def check_quit_by_selection(folder):
+    """`^E` on a `q` asks as a `q` in the command window does."""
+    pair, editor, key, text = opened("q\n")
+    editor.take(text("x\n"))
+    pair.terminal.select(editor.focus.tag, 2, 3)
+    editor.take(key("^E"))
+    pair.finish()
+    expect(not editor.is_over and "not written" in editor.message, f"it doesn't ask: {editor.message}")
+    editor.take(key("^E"))
+    pair.finish()
+    expect(editor.is_over, "it doesn't leave")
+
+
+def check_question_of_a_window(folder):
+    """A question is of the window that it was asked about."""
+    pair, editor, key, text = opened("a\n", "b\n")
+    first, second = editor.files
+    for window in (second, first):
+        editor.go_to(window)
+        editor.take(text("x"))
+        pair.finish()
+    editor.take(key("^K"))
+    pair.finish()
+    expect("^K again" in editor.message, "it doesn't ask")
+    editor.take(pair.keys.Mouse("press", second.y + 1, 0, 0.0))
+    editor.take(key("^K"))
+    pair.finish()
+    expect(editor.files == [first, second], "a file is closed that was not asked about")
+
+
+def check_quit_waits(folder):
+    """A `q` waits for the answer to a paste before it asks."""
+    pair, editor, key, text = opened("a\n")
+    pair.terminal.set_snarf("pasted")
+    pair.finish()
+    for typed in (key("^V"), key("Esc"), text("q"), text("\n")):
+        editor.take(typed)
+    pair.finish()
+    expect(not editor.is_over and "not written" in editor.message, f"it doesn't ask: {editor.message}")
+
+
+def check_question_is_seen(folder):
+    """A key that was pressed before its question stood on the screen doesn't answer it."""
+    pair, editor, key, text = opened("q\nq\n", "b\n")
+    first, second = editor.files
+    editor.take(text("x"))
+    pair.terminal.set_snarf("pasted")
+    pair.finish()
+    for name in ("^V", "^K", "^K"):
+        editor.take(key(name))
+    expect("wait" in editor.message, "it doesn't tell that the key waits")
+    pair.finish()
+    expect(pair.host.has_file(second.tag), "the file is closed though the user has seen no question")
+    expect("^K again" in editor.message, f"it doesn't ask: {editor.message}")
+    editor.go_to(first)
+    pair.terminal.select(first.tag, 0, 1)
+    for name in ("^L", "^E", "^E"):
+        editor.take(key(name))
+    pair.finish()
+    expect(not editor.is_over and "^E again" in editor.message, f"it leaves though the user has seen no question: {editor.message}")
+    for name in ("^Q", "^Q"):
+        editor.take(key(name))
+    pair.finish()
+    expect(not editor.is_over and "^Q again" in editor.message, f"two keys at once leave: {editor.message}")
+    editor.take(key("^Q"))
+    pair.finish()
+    expect(editor.is_over, "it doesn't leave")
+
+
+def check_answer_waits(folder):
+    """An answer that waits, since a larger screen has text loaded, is one all the same."""
+    pair, editor, key, text = opened(("a long line " * 15 + "\n") * 250)
+    editor.arrange(10, 40)
+    for typed in (text("x"), key("Page Down"), key("^K")):
+        editor.take(typed)
+        pair.finish()
+    expect("^K again" in editor.message, f"it doesn't ask: {editor.message}")
+    editor.arrange(1000, 200)
+    editor.update()
+    expect(pair.terminal.locked(1), "this test is wrong")
+    editor.take(key("^K"))
+    pair.finish()
+    expect(not pair.host.has_file(1), f"it asks twice: {editor.message}")
+
+
+def check_quit_by_lines(folder):
+    """An Enter that came together with the `q` is no answer to its question."""
+    pair, editor, key, text = opened("a\n")
+    for typed in (text("x"), key("Esc"), text("q\n\n")):
+        editor.take(typed)
+    pair.finish()
+    expect(not editor.is_over and "Enter again" in editor.message, f"it doesn't ask: {editor.message}")
+    editor.take(text("\n"))
+    pair.finish()
+    expect(editor.is_over, "it doesn't leave")
+
+
+def check_quit_not_loaded(folder):
+    """A selection that ends in a `q` which is not loaded leaves no more unasked than another. Where its last line is known, that counts."""
+    for last, is_loaded, asks in (("q", False, True), ("q \n", False, True), ("q\n", True, True), ("end\n", True, False)):
+        pair, editor, key, text = opened("line\n" * 40_000 + last)
+        editor.take(text("x"))
+        if is_loaded:
+            editor.take(key("^End"))
+        pair.finish()
+        for name in ("^A", "^E"):
+            editor.take(key(name))
+        pair.finish()
+        expect(not editor.is_over, f"{last!r}: it leaves unasked")
+        expect(("not written" in editor.message) == asks, f"{last!r}: it tells {editor.message!r}")
+
+
+def check_question_after_menu(folder):
+    """A key that a menu takes takes a question back, too."""
+    pair, editor, key, text = opened("a\n", "b\n")
+    for typed in (text("x"), key("F2"), key("^Q")):
+        editor.take(typed)
+    pair.finish()
+    expect("^Q again" in editor.message, f"it doesn't ask: {editor.message}")
+    for typed in (text("\n"), key("^Q")):
+        editor.take(typed)
+    pair.finish()
+    expect(not editor.is_over and "^Q again" in editor.message, "it leaves by a question that was taken back")
+
+
+def check_quick_keys_answer_nothing(folder):
+    """Two quick keys, and one that is held down, answer no question; one that is pressed later does."""
+    for name, asks in (("^Q", "^Q again"), ("^K", "^K again")):
+        for gaps in ((0.03,), (0.3,), (0.47,), (0.03,) * 100, (0.25,) + (0.03,) * 50, (0.66,) + (0.03,) * 50, (1.0,) + (0.09,) * 50):
+            pair, editor, key, text = opened("a\n", "b\n")
+            pair.press(text("x"), key(name), seconds=0)
+            pair.now += 0.01
+            for gap in gaps:
+                pair.finish(gap)
+                editor.take(key(name))
+            pair.finish(0)
+            expect(not editor.is_over and len(editor.files) == 2, f"{name}, then again after {gaps[:2]}..: it is done")
+            pair.finish(0.3)
+            expect(asks in editor.message, f"{name}, then again after {gaps[:2]}..: {editor.message!r}")
+            pair.finish(0.3)
+            pair.press(key(name))
+            expect(editor.is_over or len(editor.files) == 1, f"{name}: it doesn't take an answer")
+
+
+def check_dropped_is_saved(folder):
+    """Two quick `^Q` do nothing. What is dropped with open eyes is saved aside once: by `^K`, and by `^Q`."""
+    made(folder, a="one\n", b="two\n")
+    with Session(folder, "a.txt", "b.txt") as session:
+        session.wait_for("one")
+        session.type("x")
+        session.keys("C-t")
+        session.wait_for("two")
+        session.type("y")
+        session.wait_for("ytwo")
+        session.wait_for_quiet()
+        for pause in (0.03, 0.2):  # by tmux itself, so that a busy machine doesn't make them longer
+            session.tmux("send-keys", "C-q", ";", "run-shell", f"sleep {pause}", ";", "send-keys", "C-q")
+            time.sleep(0.3)
+            expect(not session.status_file.exists(), f"two keys {pause} s apart leave")
+        session.keys("Left", "C-k")
+        session.answer("b.txt was not written", "C-k")
+        wait_until(lambda: not session.shows("ytwo"), "the file stays")
+        session.leave_unwritten()
+    for name, text in (("a.txt", "xone\n"), ("b.txt", "ytwo\n")):
+        texts = [path.read_text() for path in folder.glob(f"{name}.sam-*")]
+        expect(texts == [text], f"{name} is saved as {texts}")
+
+
+def check_late_word_of_a_write(folder):
+    """That a write failed may be told after its answer, as over ssh: the file is changed all the same. A later write takes that back."""
+    pair, editor, key, text = opened("a\n")
+    pair.press(text("x"), key("^W"))
+    expect(not editor.is_changed(1), "this test is wrong")
+    editor.hear("samhost: ? write file0: No space left on device")
+    expect(editor.is_changed(1), "the file is taken for written")
+    pair.press(key("^Q"))
+    pair.press(key("^Q"), seconds=0)
+    expect("not written" in editor.message, f"it doesn't ask: {editor.message}")
+    editor.take(key("^W"))
+    editor.hear("samhost: ? write file0: No space left on device")
+    pair.finish()
+    expect(editor.is_changed(1), "a write that failed again takes it back")
+    pair.press(key("^W"))
+    expect(not editor.is_changed(1), "a write that did not fail leaves the file changed")
+
+
+def check_worst_line_first(folder):
+    """What the host tells of a text stays until it is read, the worst first."""
+    pair, editor, key, text = opened("a\n")
+    for line in ("file0 was not written; its text is in /tmp/x", "the text of file0 is lost: no room", "? write file0: no room"):
+        editor.hear("samhost: " + line)
+    editor.hear("another program")
+    for wanted in ("is lost", "? write", "its text is in"):
+        expect(wanted in editor.message, f"it shows {editor.message!r}, wanted {wanted!r}")
+        editor.take(key("Left"))
+        expect(wanted in editor.message, "a line that nobody can have read goes with a key")
+        pair.finish()
+        pair.press(key("Left"), seconds=0)
+    expect(editor.message == "", f"it shows {editor.message!r}")
+
+
+def check_text_lost(folder):
+    """The exit status tells that a text could not be saved anywhere."""
+    made(folder, a="one\n")
+    host = host_that(folder, f"{SAMHOST} \"$@\"", "echo 'samhost: the text of a.txt is lost: no room' >&2", "exit 5")
+    with Session(folder, "a.txt", host=host) as session:
+        session.wait_for("one")
+        session.wait_for_quiet()
+        session.keys("C-q")
+        session.wait_for_end(5)
+
+
+def check_host_lost_with_a_text(folder):
+    """The host is lost: what was changed is written here, its gaps marked, and the screen and standard error name the file."""
+    made(folder, a="".join(f"line {number}\n" for number in range(3000)))
+    with Session(folder, "a.txt", slow=20) as session:
+        session.wait_for("line 14")
+        session.type("typed ")
+        session.wait_for("typed line 0")
+        session.wait_for_quiet()
+        os.kill(session.processes()[SAMHOST.name], signal.SIGKILL)
+        session.wait_for("the host is gone")
+        kept = folder / "a.txt.sam-here"
+        wait_until(lambda: kept.name in "".join(session.screen()), "the file is not named")
+        text = kept.read_text()
+        expect(text.startswith("typed line 0\nline 1\n"), f"the text begins with {text[:40]!r}")
+        expect(re.search(r"\[\d+ characters that were not loaded\]$", text) is not None, f"the text ends in {text[-60:]!r}")
+        expect(kept.stat().st_mode & 0o077 == 0, "others may read the text")
+        session.keys("C-q")
+        session.wait_for_end(3)
+    expect(len(list(folder.glob("a.txt.sam-here*"))) == 1, "it is written twice")
+
+
+def check_typed_ahead_is_kept(folder):
+    """What was typed and waits when the host is lost is written, too."""
+    pair, editor, key, text = opened("a\n")
+    import rescue
+
+    kept = {}
+    before, rescue.keep = rescue.keep, lambda name, text: kept.setdefault(name, text)
+    try:
+        pair.press(text("x"))
+        for typed in (key("^D"), text("after")):
+            editor.take(typed)
+        editor.lose("the host is gone")
+    finally:
+        rescue.keep = before
+    expect(list(kept) == ["file0"] and kept["file0"].startswith("xa\n") and "after" in kept["file0"], f"it keeps {kept}")
+
+
+def check_words_at_the_start(folder):
+    """What the host tells at the start stands on the screen. A line before the stream is shown as what it is, and harms nothing."""
+    (path,) = made(folder, a="one\n")
+    host = host_that(folder, "echo Welcome to A box", "echo 'samhost: a.txt.sam-saved is there' >&2", f"exec {SAMHOST} \"$@\"")
+    with Session(folder, "a.txt", host=host) as session:
+        session.wait_for("one")
+        shown = []
+        for _ in range(2):
+            shown.append(session.screen()[-1])
+            time.sleep(READ_AFTER)
+            session.keys("Left")
+            time.sleep(0.2)
+        expect(any("a.txt.sam-saved is there" in line for line in shown), f"the host's words are not shown: {shown}")
+        expect(any("printed: Welcome to A box" in line for line in shown), f"the noise is not shown: {shown}")
+        session.type("x")
+        session.keys("C-w")
+        wait_for_text(path, "xone\n")
+        session.leave()
+
+
+def check_noise_alone(folder):
+    """A command that is no host: what it printed is told."""
+    with Session(folder, "a.txt", host=host_that(folder, "echo no samhost here")) as session:
+        session.wait_for_end(1)
+    told = (folder / "stderr").read_text()
+    expect("no samhost here" in told and "doesn't answer" in told, f"it tells {told!r}")

@@ -1,0 +1,285 @@
+"""What a slow line costs: round trips, Loads and layouts."""
+import os
+import random
+
+from .pairs import Pair, is_loaded_beside, loads_of, opened
+from .support import Session, expect, made, stat_of
+
+
+def check_pages_wait(folder):
+    """The page keys and jumps go by what is shown: they lead to the same place however fast the link is. So they do in a window that
+    grows, where what comes in is not asked for while the user types."""
+    lines = "".join(f"line {at} {'x' * (at * 37 % 150)}\n" for at in range(2000))
+    names = ("Page Down", "Page Down", "Page Up", "Page Up", "^End", "^Home", "Up", "Down", "End", "typed", "typed", "grown", "grown")
+    for seed in range(8):
+        numbers, ends = random.Random(seed), []
+        typed = [numbers.choice(names) for _ in range(30)]
+        for is_slow in (False, True):
+            pair, editor, key, text = opened(lines, size=(20, 80))
+            for name in typed:
+                if name == "grown":  # no key: it doesn't wait
+                    pair.finish()
+                    editor.arrange(120 - editor.rows, 80)
+                else:
+                    editor.take(text("x") if name == "typed" else key(name))
+                pair.settle() if is_slow else pair.finish()
+            pair.finish()
+            ends.append((editor.focus.top, editor.focus.dot))
+        expect(ends[0] == ends[1], f"seed {seed}: the windows begin at, and the dots are {ends}; {typed}")
+    tops = []
+    for is_slow in (False, True):  # while the user types, what a larger window shows is not asked for, until a page key needs it
+        pair, editor, key, text = opened(lines, size=(20, 80))
+        editor.arrange(120, 80)
+        for typed in (text("x"), key("Page Down")):
+            editor.take(typed)
+            pair.settle() if is_slow else pair.finish()
+        pair.finish()
+        tops.append(editor.focus.top)
+    expect(tops[0] == tops[1], f"a page key after a typed one leads to {tops}")
+
+
+def check_page_keys_that_wait(folder):
+    """Of page keys that come quickly, as of one that is held down, those that wait are answered together."""
+    lines = "".join(f"line {at} {'x' * (at * 37 % 60)}\n" for at in range(5000))
+    for start, name in (("^Home", "Page Down"), ("^End", "Page Up")):
+        tops = []
+        for is_slow in (False, True):
+            pair, editor, key, _ = opened(lines, size=(30, 80))
+            pair.press(key(start))
+            for _ in range(30):
+                editor.take(key(name))
+                pair.settle() if is_slow else pair.finish()
+            trips = 0
+            while editor.deferred or pair.terminal.locked(1):
+                pair.trip()
+                trips += 1
+            expect(trips <= 5, f"30 times {name} take {trips} round trips")
+            tops.append(editor.focus.top)
+        expect(tops[0] == tops[1], f"30 times {name} lead to {tops}")
+
+
+def check_wheel(folder):
+    """The wheel turns by as many rows where it is turned before the text has come."""
+    lines = "".join(f"line {at} {'x' * (at * 37 % 150)}\n" for at in range(2000))
+    tops = []
+    for is_slow in (False, True):
+        pair, editor, key, text = opened(lines, size=(30, 80))
+        pair.press(key("^End"))
+        for at in range(60):
+            editor.take(pair.keys.Mouse("wheel down" if at % 7 == 6 else "wheel up", editor.focus.y + 1, 0, 0.0))
+            pair.settle() if is_slow else pair.finish()
+        pair.finish()
+        tops.append(editor.focus.top)
+    expect(tops[0] == tops[1] < len(lines) - 5000, f"the window begins at {tops}")
+
+
+def check_long_line(folder):
+    """A place in a line that is much longer than the screen is shown."""
+    pair, editor, key, text = opened("x" * 100_000 + "\nend", size=(30, 80))
+    for keys in ((key("Esc"), text("#50000\n"), key("Esc")), *((key(name),) for name in ("^End", "Up", "^Home", "End"))):
+        pair.press(*keys)
+        expect(not any(row.has_gap for row in editor.focus.layout().rows), f"{keys}: a gap stays on the screen")
+        window = editor.focus
+        expect(pair.screen.cursor_of(editor) is not None, f"{keys}: the caret at {window.dot} is not on the screen from {window.top}")
+
+
+def check_one_trip(folder):
+    """A jump, Page Down and Page Up over text that is not loaded show all of it after one round trip, without long lines."""
+    lines = "".join(f"line {at} {'x' * (at * 37 % 60)}\n" for at in range(5000))
+    pair, editor, key, text = opened(lines, size=(30, 80))
+
+    for name in ("^End", "Page Up", "Page Down"):
+        if name == "Page Down":
+            pair.press(key("^Home"))
+        for _ in range(20):  # up to one that shows text which is not loaded
+            editor.take(key(name))
+            editor.update()
+            if any(row.has_gap for row in editor.focus.layout().rows):
+                break
+            pair.finish()
+        expect(any(row.has_gap for row in editor.focus.layout().rows), f"{name}: this test is wrong, all is loaded")
+        pair.trip()
+        layout = editor.focus.layout()
+        expect(not any(row.has_gap for row in layout.rows), f"{name}: after a round trip a gap is on the screen")
+        expect(not pair.terminal.locked(1), f"{name}: after a round trip it asks for more")
+        expect(lines[layout.top - 1] == "\n", f"{name}: the window begins at {lines[layout.top : layout.top + 20]!r}")
+        pair.finish()
+
+
+def check_key_after_jump(folder):
+    """What is typed right after a jump stands on the screen at once, though no text round it is loaded; other keys wait for that."""
+    lines = "".join(f"\tline {at} {'x' * (at * 37 % 60)}\n" for at in range(5000))[:-1]
+    pair, editor, key, text = opened(lines, size=(30, 80))
+    for typed in (key("^End"), text("typed")):
+        editor.take(typed)
+    pair.pause()
+    expect(pair.terminal.read(1, len(lines), 5) == list("typed"), "a typed key waits")
+    expect(pair.screen.cursor_of(editor) is not None, "the caret is not on the screen")
+    for typed in (text("\n"), text("end"), key("Up"), text("!"), key("Home"), text("?")):
+        editor.take(typed)
+    pair.finish()
+    last = pair.host.text(1).rpartition("\n\t")[2]
+    expect(last == "end", f"Enter doesn't repeat the blanks: the text ends in {pair.host.text(1)[-40:]!r}")
+    expect(pair.host.text(1).splitlines()[-2].startswith("?\tlin!e 4999"), f"the text ends in {pair.host.text(1)[-80:]!r}")
+    pair.check()
+    pair, editor, key, text = opened(lines, size=(30, 80))
+    for typed in (key("^End"), text("\n"), text("end")):
+        editor.take(typed)
+    pair.finish()
+    expect(pair.host.text(1) == lines + "\n\tend", f"Enter doesn't wait for the blanks: the text ends in {pair.host.text(1)[-40:]!r}")
+
+
+def check_key_after_command(folder):
+    """What is typed right after a command line waits for its answer, and for no text."""
+    pair, editor, key, text = opened("".join(f"line {at} {'x' * 60}\n" for at in range(2000)), size=(30, 80))
+    for typed in (key("Esc"), text("#50000\n"), key("Esc"), text("typed")):
+        editor.take(typed)
+    pair.trip()
+    expect(pair.terminal.read(1, 50_000, 5) == list("typed"), "it waits for more than one answer")
+    pair.finish()
+    pair.check()
+
+
+def check_two_trips(folder):
+    """A search, and a line by its number, take a round trip more, in which the host finds the place."""
+    lines = "".join(f"line {at} {'x' * (at * 37 % 60)}{'here' if at % 1000 == 500 else ''}\n" for at in range(5000))
+    pair, editor, key, text = opened(lines, size=(30, 80))
+    for keys, shown in (
+        ((key("^S"), text("here"), text("\n")), "line 500 "),
+        ((key("^F"),), "line 1500 "),
+        ((key("^L"),), "line 2500 "),
+        ((key("Esc"), text("4000\n"), key("Esc")), "line 3999 "),
+    ):
+        for each in keys:
+            editor.take(each)
+        for _ in range(2):
+            pair.trip()
+        layout = editor.active.layout()
+        rows = pair.host.text(1)[layout.top : layout.end]
+        expect(f"\n{shown}" in rows, f"{keys}: the place is not shown, but {rows!r}")
+        expect(not any(row.has_gap for row in layout.rows), f"{keys}: after two round trips a gap is on the screen")
+        pair.finish()
+
+
+def check_first_trips(folder):
+    """The first screen takes three round trips: the names, the opened file, its text."""
+    pair = Pair(random.Random(1), ["".join(f"line {at} {'x' * 60}\n" for at in range(5000))])
+    for trips in range(1, 9):
+        pair.trip()
+        window = pair.editor.focus
+        if window.tag == 1 and window.is_open and not any(row.has_gap for row in window.layout().rows) and window.length:
+            break
+    expect(trips == 3, f"it takes {trips} round trips")
+
+
+def check_one_load(folder):
+    """What a window shows, and a page on either side, is asked for by one Load."""
+    lines = "".join(f"line {at} {'x' * (at * 37 % 60)}\n" for at in range(5000))
+    pair, editor, key, text = opened(lines, size=(30, 80))
+    loads = loads_of(pair)
+    for keys in ((key("^End"),), (key("Esc"), text("1000\n"), key("Esc")), (key("^S"), text("line 3000"), text("\n"))):
+        loads.clear()
+        pair.press(*keys)
+        asked = [load for load in loads if load[0] == 1]
+        expect(len(asked) == 1, f"{keys}: it asks by {asked}")
+        layout = editor.files[0].layout()
+        expect(is_loaded_beside(pair, 1, layout), f"{keys}: {layout.top} to {layout.end} is shown, and it asks by {asked}")
+
+
+def check_keys_before_loading(folder):
+    """While keys come, and the text at the caret is loaded, nothing more is asked for, though not all that is shown is loaded. Each key
+    stands in the text at once. Afterwards all is asked for."""
+    lines = "".join(f"line {at} {'x' * 60}\n" for at in range(2000))
+    pair, editor, key, text = opened(lines, size=(20, 80))
+    loads = loads_of(pair)
+    editor.arrange(200, 80)
+    for at, rune in enumerate("abcdefgh"):
+        editor.take(text(rune))
+        pair.pause()
+        expect(pair.terminal.read(1, 0, at + 1) == list("abcdefgh"[: at + 1]), f"the key {rune} waits")
+        pair.now += 0.1
+    expect(any(row.has_gap for row in editor.focus.layout().rows), "this test is wrong: all is loaded")
+    expect(not loads, f"while keys come it asks by {loads}")
+    pair.finish()
+    expect(len(loads) == 1, f"after them it asks by {loads}")
+    pair.check()
+
+
+def check_pages_ahead(folder):
+    """Who rests on a page, to read it, need not wait for the next. Before he rests nothing is asked for, so no key waits for it."""
+    lines = "".join(f"line {at} {'x' * 60}\n" for at in range(2000))
+    pair, editor, key, _ = opened(lines, size=(30, 80))
+    loads = loads_of(pair)
+    for name in ("Page Down",) * 4 + ("Page Up",) * 2:
+        loads.clear()
+        pair.press(key(name), seconds=0)
+        layout = editor.focus.layout()
+        expect(not loads and not any(row.has_gap for row in layout.rows), f"{name} shows a gap, or asks by {loads}")
+        pair.finish()
+        expect(is_loaded_beside(pair, 1, layout), f"{name}: the pages on either side are not asked for")
+    loads.clear()
+    pair.press(pair.keys.Text("x"))
+    expect(not loads, f"typing asks by {loads}")
+
+
+def check_first_file_first(folder):
+    """The first file is there before the command file is."""
+    pair = Pair(random.Random(1), ["text\n"])
+    for _ in range(1000):
+        pair.settle()
+        pair.carry()
+        if pair.editor.command.is_open:
+            break
+    expect(pair.terminal.is_open(1) and pair.terminal.first_gap(1) is None, "the command file comes first")
+
+
+def check_layouts(folder):
+    """A key that changes a row has the screen laid out once; a move not at all."""
+    import layout
+    import windows
+
+    pair, editor, key, text = opened("".join(f"line {at} {'x' * 50}\n" for at in range(500)))
+    editor.arrange(40, 80)
+    pair.finish()
+    made_layouts = []
+
+    class Counted(layout.Layout):
+        def __init__(self, *words):
+            made_layouts.append(words)
+            super().__init__(*words)
+
+    windows.Layout = Counted
+    try:
+        for count, name in ((200, None), (50, "Right")):
+            made_layouts.clear()
+            for _ in range(count):
+                editor.take(text("y") if name is None else key(name))
+                pair.pause()
+            most = count if name is None else 0
+            expect(len(made_layouts) <= most, f"{count} keys have the screen laid out {len(made_layouts)} times")
+    finally:
+        windows.Layout = layout.Layout
+
+
+def check_cost_of_a_key(folder):
+    """A typed key costs less than three milliseconds of processor time."""
+    made(folder, a="".join(f"line {at} {'x' * 60}\n" for at in range(500)))
+    with Session(folder, "a.txt", width=120, height=50) as session:
+        session.wait_for("line 20")
+        session.wait_for_quiet()
+        terminal = next(process for name, process in session.processes().items() if name.startswith("python"))
+
+        def used():
+            return sum(int(ticks) for ticks in stat_of(terminal)[11:13]) / os.sysconf("SC_CLK_TCK")
+
+        def cost():
+            before = used()
+            for at in range(200):
+                session.type("abcdefghij"[at % 10])
+            session.wait_for("abcdefghij" * 6)
+            session.wait_for_quiet()
+            return (used() - before) / 200
+
+        least = min(cost() for _ in range(3))  # other work on the machine makes single bursts dearer
+        expect(least < 0.003, f"a key costs {least * 1000:.1f} ms of processor time")
+        session.leave_unwritten()

@@ -1,0 +1,231 @@
+"""What the checks of the editor have in common: sessions in tmux, and files."""
+import os
+import re
+import subprocess
+import sys
+import time
+from pathlib import Path
+
+ROOT = Path(__file__).resolve().parent.parent.parent
+SAMTERM = ROOT / "examples" / "editor" / "samterm"
+SLOW = ROOT / "tools" / "slow"
+PAGE = ROOT / "docs" / "EDITOR.md"
+LIBRARY = Path(os.environ.get("SAM_LIBRARY") or ROOT / "out" / "libsulgrevad.so")
+SAMHOST = Path(os.environ.get("SAMHOST") or ROOT / "out" / "samhost")
+SECONDS = 20  # how long something may take on a busy machine
+sys.path[:0] = [str(SAMTERM.parent), str(ROOT / "bindings" / "python")]
+
+AT_ONCE = 0.050  # seconds from a key to the screen, of the middle one of several keys
+LINK = 300  # milliseconds each way
+NOBODY = 65534  # a user who may not do what root may
+READ_AFTER = 0.7  # seconds after which a key answers a question that stands on the screen
+
+
+class Failed(Exception):
+    """What does not hold."""
+
+
+def expect(holds, told):
+    if not holds:
+        raise Failed(told)
+
+
+def wait_until(holds, told, seconds=SECONDS):
+    """Waits until something holds; answers what it was."""
+    until = time.monotonic() + seconds
+    while True:
+        got = holds()
+        if got:
+            return got
+        expect(time.monotonic() < until, told() if callable(told) else told)
+        time.sleep(0.01)
+
+
+def stat_of(process):
+    """The fields of /proc/PROCESS/stat after the name; None where it is gone."""
+    try:
+        return Path(f"/proc/{process}/stat").read_text().rpartition(")")[2].split()
+    except OSError:
+        return None
+
+
+def children_of(process):
+    """The processes below a process, by the name of their command."""
+    found = {}
+    for entry in Path("/proc").iterdir():
+        stat = stat_of(entry.name) if entry.name.isdecimal() else None
+        if stat is not None and int(stat[1]) == process:
+            try:
+                found[Path(os.readlink(entry / "exe")).name] = int(entry.name)
+            except OSError:
+                continue
+            found.update(children_of(int(entry.name)))
+    return found
+
+
+def expect_sleep(session):
+    """Two seconds cost the processes of a session next to no processor time."""
+
+    def used():
+        return sum(int(ticks) for process in processes for ticks in stat_of(process)[11:13]) / os.sysconf("SC_CLK_TCK")
+
+    processes = session.processes().values()
+    before = used()
+    time.sleep(2)
+    cost = used() - before
+    expect(cost < 0.05, f"two quiet seconds cost {cost:.2f} s of processor time")
+
+
+class Session:
+    """A terminal in a tmux of its own."""
+
+    def __init__(self, folder, *files, slow=None, width=80, height=24, settings="", program=SAMTERM, host=None):
+        self.folder, self.status_file = folder, folder / "status"
+        self.tmux_words = ["tmux", "-S", str(folder / ".tmux"), "-f", "/dev/null", "-u"]
+        words = host or (f"{SLOW} {slow} {SAMHOST}" if slow is not None else str(SAMHOST))
+        host = f"--host '{words}'"
+        host = "" if words == str(ROOT / "out" / "samhost") else host  # it is what samterm takes by itself
+        command = f"cd {folder}; {settings} {program} {host} {' '.join(files)} 2> stderr; echo $? > status; exec sleep 1000"
+        environment = {**os.environ, "SAM_LIBRARY": str(LIBRARY), "LC_ALL": "C.UTF-8", "SHELL": "/bin/sh", "TMPDIR": str(folder)}
+        self.tmux("new-session", "-d", "-x", str(width), "-y", str(height), command, env=environment)
+
+    def __enter__(self):
+        return self
+
+    def __exit__(self, *_):
+        """Ends all of it, and waits for that: what still ends may save a text."""
+        processes = list(self.processes().values()) if self.is_there() else []
+        subprocess.run([*self.tmux_words, "kill-server"], capture_output=True)
+        until = time.monotonic() + SECONDS
+        while time.monotonic() < until and any((stat_of(process) or "Z")[0] != "Z" for process in processes):
+            time.sleep(0.01)
+
+    def is_there(self):
+        return subprocess.run([*self.tmux_words, "has-session"], capture_output=True).returncode == 0
+
+    def tmux(self, *words, **more):
+        return subprocess.run([*self.tmux_words, *words], check=True, capture_output=True, timeout=SECONDS, **more).stdout.decode()
+
+    def keys(self, *names):
+        self.tmux("send-keys", *names)
+
+    def type(self, text):
+        self.tmux("send-keys", "-l", text)
+
+    def mouse(self, *events):
+        """The bytes that a terminal sends for events (button, column, row), all at once: 0 pressed, 3 released, 64 and 65 the wheel."""
+        codes = (code for button, column, row in events for code in (27, 91, 77, 32 + button, 33 + column, 33 + row))
+        self.tmux("send-keys", "-H", *(f"{code:x}" for code in codes))
+
+    def command(self, line):
+        """Runs a command line, and goes back."""
+        self.keys("Escape")
+        time.sleep(0.1)  # else the key and what follows are one
+        self.type(line)
+        self.keys("Enter", "Escape")
+        time.sleep(0.1)
+
+    def rename(self, name):
+        """Names the file that was used last."""
+        self.command(f"f {name}")
+        wait_until(lambda: self.rows(name), lambda: f"no file is named {name}:\n" + "\n".join(self.screen()))
+
+    def screen(self):
+        return self.tmux("capture-pane", "-p").rstrip("\n").split("\n")
+
+    def shows(self, text):
+        return any(text in line for line in self.screen())
+
+    def wait_for(self, text, seconds=SECONDS):
+        wait_until(lambda: self.shows(text), lambda: f"no {text!r} on the screen:\n" + "\n".join(self.screen()), seconds)
+
+    def wait_for_quiet(self):
+        """Waits until no lock is held, nothing waits, and no message is told of as on the way."""
+
+        def is_quiet():
+            line = self.status()
+            return "free" in line and not any(word in line for word in ("held", "unsent", "on the way"))
+
+        wait_until(is_quiet, lambda: "it never gets quiet:\n" + "\n".join(self.screen()))
+
+    def rows(self, name):
+        """The rows of the window with a title; none while it isn't drawn."""
+        lines = self.screen()
+        at = next((at for at, line in enumerate(lines) if re.fullmatch(rf"[> ][* ] {re.escape(name)}\s*", line)), None)
+        if at is None:
+            return []
+        end = next((end for end in range(at + 1, len(lines)) if "| up " in lines[end]), len(lines))
+        return [row.rstrip() for row in lines[at + 1 : end]]
+
+    def status(self):
+        """The status line; empty while it isn't drawn."""
+        return next((line for line in self.screen() if "| up " in line), "")
+
+    def bytes_down(self):
+        return int(re.search(r"down (\d+)", "\n".join(self.screen())).group(1))
+
+    def processes(self):
+        return children_of(int(self.tmux("display-message", "-p", "#{pane_pid}")))
+
+    def wait_for_end(self, status):
+        wait_until(lambda: self.status_file.exists() and self.status_file.read_text(), "it doesn't end")
+        got = int(self.status_file.read_text())
+        expect(got == status, f"it ends with {got}, wanted {status}; it told: {(self.folder / 'stderr').read_text()}")
+
+    def leave(self):
+        self.wait_for_quiet()
+        self.keys("C-q")
+        self.wait_for_end(0)
+
+    def answer(self, question, key):
+        """Answers a question once it stands on the screen, as someone who has read it."""
+        self.wait_for(question)
+        time.sleep(READ_AFTER)
+        self.keys(key)
+
+    def read(self):
+        """Reads what the host told, line after line. Answers the lines."""
+        lines = []
+        while told := next((line for line in self.screen() if line.startswith("samhost: ")), ""):
+            lines.append(told)
+            time.sleep(READ_AFTER)
+            self.keys("Left")
+            time.sleep(0.1)
+        return lines
+
+    def leave_unwritten(self):
+        self.wait_for_quiet()
+        self.keys("C-q")
+        self.answer("not written", "C-q")
+        self.wait_for_end(0)
+
+
+def made(folder, **texts):
+    """Files NAME.txt with their texts; answers their paths."""
+    paths = []
+    for name, text in texts.items():
+        paths.append(folder / f"{name}.txt")
+        paths[-1].write_text(text, newline="")
+    return paths
+
+
+def wait_for_text(path, text):
+    def wrong():
+        got = path.read_text() if path.exists() else "no file"
+        return f"{path.name} has {got[:200]!r}, wanted {text[:200]!r}"
+
+    wait_until(lambda: path.exists() and path.read_text() == text, wrong)
+
+
+def not_of_root(folder, command):
+    """A command that another user runs where root would; the folder is open to all."""
+    folder.chmod(0o777)
+    return command if os.geteuid() != 0 else f"setpriv --reuid={NOBODY} --regid={NOBODY} --clear-groups {command}"
+
+
+def host_that(folder, *lines):
+    """A host's command that does something more, by lines for the shell."""
+    path = folder / "host"
+    path.write_text("\n".join(("#!/bin/sh", *lines, "")))
+    path.chmod(0o755)
+    return str(path)

@@ -1,0 +1,210 @@
+"""Undo and redo."""
+import random
+import time
+
+from .pairs import LONG, Pair, in_a_small_window, opened
+from .support import Session, expect, made, wait_for_text
+
+
+def check_undo_random(folder):
+    """Random changes with pastes and command lines, undone to the start and redone to the end, over a link of any delay."""
+    for seed in range(8):
+        numbers = random.Random(seed)
+        text = "".join(numbers.choice("ab c\n日") for _ in range(numbers.choice((0, 40, 400))))
+        pair, editor, key, typed = opened(text)
+        pair.random = numbers
+        lines = (",x/a/c/bb/", "1d", ",x/b/d", "#2,$d", "/a/c/long text/", "$a/end\\n/", ",y/a/d", ",c/" + "ab" * 400 + "/")
+        texts = [pair.host.text(1)]
+        for _ in range(30):
+            choose, draw = numbers.choice, numbers.random()
+            if draw < 0.4:
+                keys = [typed(choose(("x", "yy", "w\n", "日", "\n")))]
+            elif draw < 0.8:
+                names = ("Left", "Shift-Right", "Shift-Down", "^X", "^C", "^V", "Backspace", "Delete", "^A", "^End", "Up", "^L", "^D")
+                keys = [key(choose(names))]
+            else:
+                keys = [key("Esc"), typed(choose(lines) + "\n"), key("Esc")]
+            for each in keys:
+                editor.take(each)
+                numbers.choice((pair.carry, pair.settle))()
+            if numbers.random() < 0.3:
+                pair.finish()
+        pair.finish()
+        last = pair.host.text(1)
+        for name, wanted, message in (("^Z", texts[0], "nothing more"), ("^R", last, "nothing was"), ("^Z", texts[0], "nothing more")):
+            for _ in range(300):
+                pair.press(key(name))
+                if message in editor.message:
+                    break
+                if "loaded" in editor.message:
+                    pair.press(key(name))
+            got = pair.host.text(1)
+            expect(got == wanted, f"seed {seed}, {name}: {got[:80]!r}, wanted {wanted[:80]!r}, it tells {editor.message!r}")
+        pair.check()
+
+
+def check_undo_steps(folder):
+    """What is taken back at once: a word that was typed, characters erased in a row, a command line."""
+    pair, editor, key, text = opened("one two\n")
+    pair.press(*(text(rune) for rune in "abc"), key("Right"), text("d"), key("Backspace"), key("Backspace"), key("Backspace"))
+    pair.press(key("Esc"), text(",x/o/c/0/\n"), key("Esc"))
+    got = []
+    for name in ("^Z", "^Z", "^Z", "^Z", "^R", "^R", "^R", "^R"):
+        got.append(pair.host.text(1))
+        pair.press(key(name))
+    wanted = ["abne tw0\n", "abne two\n", "abcodne two\n", "abcone two\n", "one two\n", "abcone two\n", "abcodne two\n", "abne two\n"]
+    expect(got == wanted, f"the texts are {got}")
+    pair.press(key("^Z"), text("y"), key("^R"))
+    expect("nothing was taken back" in editor.message, "it makes again what was done before something else")
+
+
+def check_undo_without_vault(folder):
+    """Text that is not loaded, and a host that keeps none: what is the pattern of a command line can be brought back; what can't be is
+    told before."""
+    pair, editor, key, text = in_a_small_window(False)
+    pair.press(key("Esc"), text(",x/foo/c/barbar/\n"), key("Esc"))
+    expect(pair.host.text(1) == LONG.replace("foo", "barbar"), "the line is not run")
+    pair.press(key("^Z"))
+    expect(pair.host.text(1) == LONG, f"the pattern is not brought back: {editor.message}")
+    expect(pair.terminal.first_gap(1) is not None, "this test is wrong")
+    pair.press(key("Esc"), text("2000,2500d\n"))
+    expect(pair.host.text(1) == LONG and "can't bring it back" in editor.message, f"it isn't told: {editor.message}")
+    pair.press(key("Esc"), key("^A"), text("x"))
+    expect(pair.host.text(1) == LONG and "not loaded" in editor.message, f"it isn't told: {editor.message}")
+    pair.press(key("^A"), key("^X"))
+    expect(pair.host.text(1) == LONG and "not loaded" in editor.message, f"it isn't told: {editor.message}")
+    pair.press(key("^X"))
+    expect(pair.host.text(1) == "", f"an answer is not taken: {editor.message}")
+    pair.press(key("^Z"))
+    expect("can't be taken back" in editor.message, f"it takes back what is not known: {editor.message}")
+    pair.press(key("^V"))
+    expect(pair.host.text(1) == LONG, "this test is wrong")
+    pair.press(key("^Z"))
+    expect("^R can't" in editor.message, f"it isn't told that ^R can't bring it again: {editor.message}")
+    pair.press(key("^Z"))
+    expect(pair.host.text(1) == "", "an answer is not taken")
+
+
+def check_undo_not_loaded(folder):
+    """What goes and is not loaded the host keeps: it is taken back and made again, and what was copied stays so."""
+    pair, editor, key, text = in_a_small_window(True)
+    pair.press(key("Shift-End"), key("^C"), key("Home"))
+    lines = LONG.splitlines(True)
+    changes = (
+        ((key("^A"), key("^X")), ""),
+        ((key("^A"), text("x")), "x"),
+        ((key("^A"), key("Delete")), ""),
+        ((key("^A"), key("^V")), "line 0 foo"),
+        ((key("Esc"), text("81,2500d\n"), key("Esc")), "".join(lines[:80] + lines[2500:])),
+        ((key("Esc"), text(",y/e 1/c/long text/\n"), key("Esc")), "e 1".join(["long text"] * len(LONG.split("e 1")))),
+        ((key("Esc"), text(",d\n"), key("Esc")), ""),
+    )
+    for keys, wanted in changes:
+        pair.press(*keys)
+        expect(pair.host.text(1) == wanted, f"{keys}: the text is {pair.host.text(1)[:60]!r}; it tells {editor.message!r}")
+        for name, then in (("^Z", LONG), ("^R", wanted), ("^Z", LONG), ("^R", wanted), ("^Z", LONG)):
+            pair.press(key(name))
+            got = pair.host.text(1)
+            expect(got == then, f"{keys}, {name}: the text is {got[:60]!r}; it tells {editor.message!r}")
+            expect(pair.screen.cursor_of(editor) is not None, f"{keys}, {name}: the caret is not on the screen")
+        if key("^X") not in keys:
+            expect(pair.host.name(2) == "~~undo~~" and pair.terminal.snarf_len == 10, "what was copied has changed")
+        pair.press(key("^Home"), key("Shift-End"), key("^C"), key("Home"))
+    expect(pair.terminal.first_gap(1) is not None, "this test is wrong: all is loaded")
+    pair.press(key("^W"))
+    expect(2 not in editor.tags and editor.may_leave("^Q"), "the file for undo is one of the user's")
+    pair.press(key("Esc"), text("5000d\n"), key("Esc"), key("^V"))
+    expect(pair.host.text(1) == "line 0 foo" + LONG, "a line that changes nothing does")
+    pair.check()
+
+
+def check_undo_of_all_kinds(folder):
+    """Random changes in small windows over long texts, undone to the start and redone to the end, with a host that keeps what goes."""
+    for seed in range(6):
+        numbers = random.Random(seed)
+        first = "".join(numbers.choice("ab c\n日") for _ in range(4000))
+        pair = Pair(numbers, [first], has_vault=True)
+        editor, key, typed = pair.editor, pair.keys.Key, pair.keys.Text
+        editor.arrange(12, 20)
+        pair.finish()
+        lines = (",x/a/c/bb/", "3,100d", ",x/b /d", "#2,$d", "/a/,/b/c/long text/", "$a/end\\n/", ",y/a/d", "5,9y/b/c/q/")
+        lines += (",c/" + "ab" * 400 + "/",)
+        names = ("^A", "^A", "^X", "^V", "Backspace", "^End", "^Home", "Page Down", "Shift-Down", "^C")
+        for _ in range(25):
+            if numbers.random() < 0.4:
+                keys = [key("Esc"), typed(numbers.choice(lines) + "\n"), key("Esc")]
+            else:
+                keys = [numbers.choice((typed("x"), *map(key, names)))]
+            for each in keys:
+                editor.take(each)
+                numbers.choice((pair.carry, pair.settle))()
+            if numbers.random() < 0.3:
+                pair.finish()
+        pair.finish()
+        last = pair.host.text(1)
+        for name, wanted, message in (("^Z", first, "nothing more"), ("^R", last, "nothing was"), ("^Z", first, "nothing more")):
+            for _ in range(300):
+                pair.press(key(name))
+                if message in editor.message:
+                    break
+                expect("loaded" not in editor.message, f"seed {seed}, {name}: {editor.message}")
+            got = pair.host.text(1)
+            expect(got == wanted, f"seed {seed}, {name}: {got[:80]!r}, wanted {wanted[:80]!r}, it tells {editor.message!r}")
+        pair.check()
+
+
+def check_room_to_keep(folder):
+    """What the host has no room for is told before it goes. What undo doesn't need any more takes no room."""
+    pair, editor, key, text = opened("line\n" * 200_000, has_vault=True, size=(20, 80))
+    pair.press(key("Shift-End"), key("^C"), key("^A"), key("^X"))
+    expect(len(pair.host.text(1)) == 1_000_000 and "can't bring them back" in editor.message, f"it isn't told: {editor.message}")
+    pair.press(key("^X"))
+    expect(pair.host.text(1) == "", f"an answer is not taken: {editor.message}")
+    pair, editor, key, text = opened("line\n" * 60_000, has_vault=True, size=(20, 80))
+    for _ in range(4):
+        pair.press(key("^A"), key("^X"))
+        expect(pair.host.text(1) == "", f"there is no room: {editor.message}")
+        pair.press(key("^Z"), text("x"))
+
+
+def check_host_keeps_for_undo(folder):
+    """Over a slow link: lines that are not loaded go, and come back. The file for undo is neither shown, nor saved, nor asked about."""
+    (path,) = made(folder, a=LONG)
+    with Session(folder, "a.txt", slow=50) as session:
+        session.wait_for("line 14 foo")
+        session.command("100,2900d")
+        session.wait_for("line 2900 foo")
+        session.keys("C-z")
+        session.wait_for("line 99 foo")
+        session.wait_for_quiet()
+        session.keys("C-w")
+        wait_for_text(path, LONG)
+        session.keys("C-r")
+        session.wait_for("line 2900 foo")
+        session.keys("C-w")
+        lines = LONG.splitlines(True)
+        wait_for_text(path, "".join(lines[:99] + lines[2900:]))
+        session.keys("C-o")
+        session.wait_for("Files")
+        expect(not session.shows("~~undo~~"), "the file for undo is offered")
+        session.keys("Escape")
+        time.sleep(2.5)  # the host saves what has changed
+        session.leave()
+    left = {entry.name for entry in folder.iterdir()} - {"a.txt", "status", "stderr", ".tmux"}
+    expect(not left, f"other files are left: {left}")
+
+
+def check_undo(folder):
+    """Over a slow link: a command line and a word are taken back and made again, and written."""
+    (path,) = made(folder, a="one two\nthree two\n")
+    with Session(folder, "a.txt", slow=100) as session:
+        session.wait_for("three two")
+        session.type("Xyz ")
+        session.command(",x/two/c/2/")
+        session.keys("C-z", "C-z", "C-z")
+        session.wait_for("nothing more")
+        session.keys("C-r")
+        session.wait_for("Xyz one two")
+        session.keys("C-w")
+        wait_for_text(path, "Xyz one two\nthree two\n")
+        session.leave()

@@ -1,0 +1,54 @@
+"""Windows, and folders."""
+import random
+import time
+
+from .pairs import Pair
+from .support import READ_AFTER, Session, expect, made, wait_for_text, wait_until
+
+
+def check_close_shows_another(folder):
+    """When the last window's file is closed, another open file is shown."""
+    pair = Pair(random.Random(1), ["a\n", "b\n", "c\n"])
+    editor, key, text = pair.editor, pair.keys.Key, pair.keys.Text
+    editor.arrange(30, 80)
+    pair.finish()
+    pair.press(key("F2"), key("Down"), key("Down"), text("\n"), key("^K"))
+    expect([window.tag for window in editor.files] == [1] and editor.focus.tag == 1, "no file is shown, or one that is not open")
+    pair.press(key("^K"), text("x"))
+    expect(pair.host.text(2) == "xb\n", "keys go elsewhere")
+    pair.press(key("^Z"), key("^K"), key("^K"))
+    expect(editor.files == [] and editor.focus is editor.command, f"a window stays: {editor.message}")
+
+
+def check_small_command_window(folder):
+    made(folder, a="one\n")
+    with Session(folder, "a.txt") as session:
+        session.wait_for("one")
+        rows = [next(at for at, line in enumerate(session.screen()) if "a.txt" in line)]
+        session.keys("F8")
+        wait_until(lambda: session.screen()[2].startswith(">  a.txt"), "the command window is not small")
+        session.command("2p")
+        session.keys("F8")
+        wait_until(lambda: session.screen()[rows[0]].startswith(">  a.txt"), "it is not large again")
+        session.leave()
+
+
+def check_folder(folder):
+    """Of a folder the text files below it are offered, also over a link; what is left out is told."""
+    made(folder, z="zeta\n")
+    (folder / "d" / "e").mkdir(parents=True)
+    (folder / "d" / ".git").mkdir()
+    for name, data in (("b.txt", b"beta\n"), ("e/c.txt", b"gamma\n"), ("bin", b"\0\1"), (".git/config", b"x"), ("latin", b"\xe9")):
+        (folder / "d" / name).write_bytes(data)
+    with Session(folder, "z.txt", "d", slow=20) as session:
+        session.wait_for("Files")
+        session.wait_for("d/e/c.txt")
+        session.wait_for("2 files are left out")
+        expect(not session.shows("config") and not session.shows("latin"), "a file is offered that is no text, or is hidden")
+        time.sleep(READ_AFTER)
+        session.keys("Down", "Down", "Enter")
+        session.wait_for("gamma")
+        session.type("x")
+        session.keys("C-w")
+        wait_for_text(folder / "d" / "e" / "c.txt", "xgamma\n")
+        session.leave()
