@@ -1,13 +1,11 @@
 -- What the events change in a window.
-use Rattle.std.specs.Prelude.{ℕ, ◌+◌, ◌-◌, ◌++◌, ◌∷◌, ◌==◌, if◌then◌else◌, Bool, List, [], length, map, take, drop, Some}
+use Rattle.std.specs.Prelude.{ℕ, ◌+◌, ◌-◌, ◌++◌, if◌then◌else◌, Bool, List, [], length, map, take, drop, Some}
 use Rattle.sam_rasp.specs.Rasp.{place_after_ins, place_after_del}
 use Rattle.sam_term.specs.declared.records.Window.{Window}
 use Rattle.sam_term.specs.declared.records.Unsent.{Unsent}
 use Rattle.sam_term.specs.declared.event.UserEvent.{UserEvent}
 use Rattle.sam_term.specs.declared.event.UserEvent.TheVariants.{Typed}
 use Rattle.sam_term.specs.Term.{PlainTerminal, Made, window_at, put_window, flushed, joined}
-use Rattle.sam_mesg.specs.declared.tmesg.Tmesg.{Tmesg}
-use Rattle.sam_mesg.specs.declared.tmesg.Tmesg.TheVariants.{Tcut}
 
 -- a file is shown from p on, n places where it has so many
 abbrev pub shown_from : PlainTerminal → ℕ → ℕ → ℕ → PlainTerminal
@@ -44,10 +42,6 @@ typed_runes _ = []
 abbrev pub typed_file : UserEvent → ℕ
 typed_file (Typed f s) = f
 typed_file _ = 0
-
--- the cut of a dot as messages: one, or none where the dot is empty
-abbrev pub cut_message : ℕ → ℕ × ℕ → List Tmesg
-cut_message f d = if d.0 == d.1 then [] else Tcut f d.0 d.1 ∷ []
 
 abbrev pub one_if : Bool → ℕ
 one_if b = if b then 1 else 0

@@ -5,10 +5,10 @@ ghost use Rattle.std.specs.Prelude.{◌≡◌, ◌+◌, ◌-◌, ◌<◌, ◌≤
 ghost use Rattle.sam_rasp.specs.Rasp.{place_after_ins, place_after_del};
 ghost use Rattle.sam_runes.specs.Texts.{is_empty, max_runes, most_count, most_in_message};
 ghost use Rattle.sam_term.specs.Acting.{first_event, free_first, is_typing, made_first};
-ghost use Rattle.sam_term.specs.Editing.{typed_over, typed_runes, typed_file, joined_at, lengthened, shortened, cut_message, one_if, flushed_if};
+ghost use Rattle.sam_term.specs.Editing.{typed_over, typed_runes, typed_file, joined_at, lengthened, shortened, one_if, flushed_if};
 ghost use Rattle.sam_term.specs.Events.{is_command_line};
 ghost use Rattle.sam_term.specs.Taking.{IsAnswer, done};
-ghost use Rattle.sam_term.specs.Term.{is_open, window_at, put_window, all_composed, unsent_message, joins};
+ghost use Rattle.sam_term.specs.Term.{is_open, window_at, put_window, all_composed, cut_message, unsent_message, joins};
 
 use crate::event::{Acted, UserEvent};
 use crate::fault::TermFault;
