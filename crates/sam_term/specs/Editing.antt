@@ -23,7 +23,7 @@ typed_over w s =
 -- a window in which these runes come in the place of what stands from p to q; its dot moves as other places do
 abbrev pub replaced_in : Window → ℕ → ℕ → List ℕ → Window
 replaced_in w p q s =
-    let moved = λ place. place_after_ins p (length s) (place_after_del p q place) in
+    let moved : ℕ → ℕ = λ place. place_after_ins p (length s) (place_after_del p q place) in
     record w {
       rasp = take p w.rasp ++ map Some s ++ drop q w.rasp;
       dot = (moved w.dot.0, moved w.dot.1);
