@@ -8,7 +8,7 @@ use Rattle.sam_term.specs.Replacing.{TypeOn, all_typed, EditComposes, EditOfNoth
 
 -- ## The pieces
 
-pieces-none : (n p : ℕ) → pieces n p [] ≡ []
+pub pieces-none : (n p : ℕ) → pieces n p [] ≡ []
 unfolding pieces
 pieces-none zero p = refl
 pieces-none (suc n) p = refl
@@ -29,6 +29,7 @@ pieces-enough n k p (c ∷ s) a b = grind arith
 pub pieces-next : (p : ℕ) (s : List ℕ) → is_empty s ≡ false
     → pieces (length s) p s ≡ (p, take most_in_message s) ∷ pieces (length (drop most_in_message s)) (p + most_in_message) (drop most_in_message s)
 unfolding pieces
+pieces-next p [] e = grind arith
 pieces-next p (c ∷ s) e =
     ap (λ xs. (p, take most_in_message (c ∷ s)) ∷ xs)
     (pieces-enough (length s) (length (drop most_in_message (c ∷ s))) (p + most_in_message) (drop most_in_message (c ∷ s))
@@ -66,6 +67,13 @@ pieces-some n p (c ∷ s) l = refl
 pub pieces-over : (xs ys : List (ℕ × List ℕ)) (n p : ℕ) (s : List ℕ) → length (pieces n p s) ≡ 0 → xs ++ pieces n p s ≡ ys → xs ≡ ys
 pieces-over xs ys n p s l e = sym (append-nil xs) ∙ (ap (λ r. xs ++ r) (sym (nil_from_length (pieces n p s) l)) ∙ e)
 
+-- there are no more than runes
+pub pieces-few : (n p : ℕ) (s : List ℕ) → length (pieces n p s) ≤ n
+unfolding pieces
+pieces-few zero p s = omega arith
+pieces-few (suc n) p [] = omega arith
+pieces-few (suc n) p (c ∷ s) = omega (arith, pieces-few n (p + most_in_message) (drop most_in_message (c ∷ s)))
+
 -- ## How many there are
 
 pieces-size : (n p : ℕ) (s : List ℕ) → length s ≤ n → (length s ≤ length (pieces n p s) * 512) × (length (pieces n p s) * 512 < length s + 512)
@@ -79,7 +87,9 @@ pieces-size (suc n) p (c ∷ s) l =
 pieces-size n p s l = elim l [ ]
 
 parts-are : (x k : ℕ) → x ≤ k * 512 → k * 512 < x + 512 → x / 512 + min 1 (x % 512) ≡ k
-parts-are x k a b = grind (arith, (div-add-mod' x 512), (mod-lt x 512))
+parts-are x k a b =
+    let less : x % 512 < 512 = mod-lt x (omega arith) in
+    grind (arith, (div-add-mod' x 512), less)
 
 pub pieces-count : (p : ℕ) (s : List ℕ) → length s / 512 + min 1 (length s % 512) ≡ length (pieces (length s) p s)
 pieces-count p s = let size = pieces-size (length s) p s (omega arith) in parts-are (length s) (length (pieces (length s) p s)) size.0 size.1
@@ -141,4 +151,4 @@ edit_locks f p q s e =
 pub ruleset count_facts = (pieces-count)
 
 -- what cutting a text in pieces rests on
-pub ruleset cut_facts = (pieces-step, pieces-none, append_assoc, append-nil)
+pub ruleset cut_facts = (append_assoc)

@@ -3,7 +3,7 @@ use Rattle.sam_term.proofs.Edits.{make_facts, later, flushed-messages, unsent-fl
 use Rattle.sam_term.proofs.Grows.{grown_facts}
 use Rattle.sam_term.proofs.FileSteps.{file_puts}
 use Rattle.sam_term.proofs.Acts.{first_is, opened_by, passes, test_at, made_of}
-use Rattle.sam_term.proofs.Common.{◌≡◌, refl, ap, ◌∙◌, ℕ, ◌≤◌, ◌+◌, ◌-◌, ◌++◌, Bool, true, false, List, [], ◌∷◌, length, map, Some, None, ◌==◌, ◌&&◌, arith, length-append, length-map, nat_eq, not, ltb-false, eq-eqb, is_empty, max_runes, slot-put_same, slot-put_other, length-take, length-drop, take, drop, sym, subst, inl, inr, ◌⊎◌, ◌≢◌, Option, FitsWindow, IsSound, FitsUnsent, IsShort, PartialText, place_after_ins, place_after_del, cut_rasp, ins_rasp, PlainTerminal, Made, window_at, put_window, window_after_del, window_after_ins, edited, all_composed, composed, cut_message, edit_messages, event_outcome, flushed, made_by_edit, pieces, replaced, replaced_in, typed_pieces, unsent_message, edit_file, edit_range, edit_runes, one_if, UserEvent, Edit, is_editing, first_event, free_first, made_first, Window, Tmesg}
+use Rattle.sam_term.proofs.Common.{◌≡◌, refl, ap, ◌∙◌, ℕ, ◌≤◌, ◌+◌, ◌-◌, ◌++◌, Bool, true, false, List, [], ◌∷◌, length, map, Some, None, ◌==◌, ◌&&◌, arith, length-append, length-map, nat_eq, not, ltb-false, eq-eqb, is_empty, max_runes, slot-put_same, slot-put_other, length-take, length-drop, take, drop, sym, subst, inl, inr, ◌⊎◌, ◌≢◌, Option, FitsWindow, IsSound, FitsUnsent, IsShort, PartialText, place_after_ins, place_after_del, cut_rasp, ins_rasp, PlainTerminal, Made, window_at, put_window, window_after_del, window_after_ins, edited, all_composed, composed, cut_message, edit_messages, event_outcome, flushed, made_by_edit, pieces, replaced, replaced_in, typed_pieces, unsent_message, edit_file, edit_range, edit_runes, one_if, UserEvent, Edit, is_editing, first_event, free_first, made_first, Unsent, Window, Tmesg}
 use Rattle.std.proofs.lemmas.Bool.Decides.{eqb_tells}
 use Rattle.sam_term.proofs.TypedLaws.{over}
 use Rattle.sam_term.proofs.TypedMade.{put-flushed}
@@ -76,6 +76,13 @@ sound-replaced t f p q s sound o l room = record { countable = sound.countable; 
     by g (inl x) = subst (λ h. FitsWindow t.sent (window_at (put_window t f w) h)) x.1 (subst (λ v. FitsWindow t.sent v) (sym (window-put_same t f w)) fits)
     by g (inr x) = subst (λ v. FitsWindow t.sent v) (sym (window-put_other t f g w x.1)) (sound.windows g)
 
+pub sound-put : (t : PlainTerminal) (f p q : ℕ) (s : List ℕ) (w : Window) (u : Option Unsent) → IsSound t → p ≤ q → q ≤ length (window_at t f).rasp
+    → length (window_at t f).rasp + length s ≤ max_runes + (q - p) → w ≡ replaced_in (window_at t f) p q s → u ≡ None
+    → IsSound (record (put_window t f w) { unsent = u })
+sound-put t f p q s w u sound o l room e none =
+    subst (λ v. IsSound (record (put_window t f w) { unsent = v })) (sym none)
+    (subst (λ v. IsSound (record (put_window t f v) { unsent = None })) (sym e) (sound-replaced t f p q s sound o l room))
+
 -- ## The event
 
 pub made-edit : (t : PlainTerminal) (f p q : ℕ) (s : List ℕ) → (p == q && is_empty s) ≡ false → p ≤ length (window_at t f).rasp
@@ -108,6 +115,17 @@ pub edit_fits : (t : PlainTerminal) (f p q : ℕ) (s : List ℕ) → free_first 
     → length (window_at t f).rasp + length s ≤ max_runes + (q - p)
 unfolding test_at
 edit_fits t f p q s n h = grind (arith, (passes t (Edit f p q s) 9 n h), (edit_within t f p q s n h))
+
+-- its text fits, and lies within the longest text as it is typed
+pub edit_end : (t : PlainTerminal) (f p q : ℕ) (s : List ℕ) → free_first t ≡ None → first_event t.held ≡ Edit f p q s → p + length s ≤ max_runes
+edit_end t f p q s n h = let within = edit_within t f p q s n h in omega (arith, edit_fits t f p q s n h, within.0, within.1)
+
+pub edit_short : (t : PlainTerminal) (f p q : ℕ) (s : List ℕ) → free_first t ≡ None → first_event t.held ≡ Edit f p q s → length s ≤ max_runes
+edit_short t f p q s n h = omega (arith, edit_end t f p q s n h)
+
+pub made-edit_none : (t : PlainTerminal) (f p q : ℕ) (s : List ℕ) → (p == q && is_empty s) ≡ true → event_outcome t (Edit f p q s) ≡ (t, [])
+unfolding made_by_edit
+made-edit_none t f p q s e = grind arith
 
 -- what `make_edit` rests on
 pub ruleset make_edit_facts = (make_facts, first_is, edit-as, edit_within, edit_fits, nat_eq)
