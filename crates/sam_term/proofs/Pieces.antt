@@ -2,7 +2,7 @@
 use native.Mathlib.Nat.{div-add-mod', mod-lt}
 use Rattle.std.proofs.Common.{leb-true, leb-false, nat_le, ◌*◌, ◌/◌, ◌%◌}
 use Rattle.std.proofs.lemmas.List.{nil_from_length}
-use Rattle.sam_term.proofs.Common.{◌≡◌, refl, sym, ap, ◌∙◌, ℕ, zero, suc, ◌+◌, ◌-◌, ◌<◌, ◌≤◌, ◌++◌, ◌==◌, ◌&&◌, Bool, true, false, List, [], ◌∷◌, length, map, take, drop, Some, arith, length-take, length-drop, length-append, take-append-drop, append-nil, append_assoc, min, nat_eq, eq-eqb, is_empty, most_in_message, lock_of, PlainTerminal, cut_message, edit_messages, event_outcome, flushed, made_by_edit, pieces, typed_pieces, unsent_message, Edit, Tmesg, Ttype}
+use Rattle.sam_term.proofs.Common.{◌≡◌, refl, sym, ap, ◌∙◌, ℕ, zero, suc, ◌+◌, ◌<◌, ◌≤◌, ◌++◌, ◌==◌, ◌&&◌, Bool, true, false, List, [], ◌∷◌, length, take, drop, arith, length-take, length-drop, take-append-drop, append-nil, append_assoc, min, nat_eq, is_empty, most_in_message, PlainTerminal, cut_message, event_outcome, flushed, made_by_edit, pieces, typed_pieces, unsent_message, Edit}
 use Rattle.sam_term.specs.LockCounts.{locks_taken, takes_command}
 use Rattle.sam_term.specs.Replacing.{TypeOn, all_typed, EditComposes, EditOfNothing, EditLocksNothing}
 

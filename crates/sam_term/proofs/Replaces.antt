@@ -1,9 +1,7 @@
 -- What an Edit makes, in the order of the code: the window is changed first, and the messages are composed after that.
-use Rattle.sam_term.proofs.Edits.{make_facts, later, flushed-messages, unsent-flushed}
-use Rattle.sam_term.proofs.Grows.{grown_facts}
-use Rattle.sam_term.proofs.FileSteps.{file_puts}
-use Rattle.sam_term.proofs.Acts.{first_is, opened_by, passes, test_at, made_of}
-use Rattle.sam_term.proofs.Common.{◌≡◌, refl, ap, ◌∙◌, ℕ, ◌≤◌, ◌+◌, ◌-◌, ◌++◌, Bool, true, false, List, [], ◌∷◌, length, map, Some, None, ◌==◌, ◌&&◌, arith, length-append, length-map, nat_eq, not, ltb-false, eq-eqb, is_empty, max_runes, slot-put_same, slot-put_other, length-take, length-drop, take, drop, sym, subst, inl, inr, ◌⊎◌, ◌≢◌, Option, FitsWindow, IsSound, FitsUnsent, IsShort, PartialText, place_after_ins, place_after_del, cut_rasp, ins_rasp, PlainTerminal, Made, window_at, put_window, window_after_del, window_after_ins, edited, all_composed, composed, cut_message, edit_messages, event_outcome, flushed, made_by_edit, pieces, replaced, replaced_in, typed_pieces, unsent_message, edit_file, edit_range, edit_runes, one_if, UserEvent, Edit, is_editing, first_event, free_first, made_first, Unsent, Window, Tmesg}
+use Rattle.sam_term.proofs.Edits.{make_facts, flushed-messages, unsent-flushed}
+use Rattle.sam_term.proofs.Acts.{first_is, passes, test_at, made_of}
+use Rattle.sam_term.proofs.Common.{◌≡◌, refl, ap, ◌∙◌, ℕ, ◌≤◌, ◌+◌, ◌-◌, ◌++◌, true, false, List, [], ◌∷◌, length, map, Some, None, ◌==◌, ◌&&◌, arith, length-append, length-map, nat_eq, not, is_empty, max_runes, slot-put_same, slot-put_other, length-take, length-drop, take, drop, sym, subst, inl, inr, ◌⊎◌, ◌≢◌, Option, FitsWindow, IsSound, FitsUnsent, IsShort, PartialText, place_after_ins, place_after_del, cut_rasp, ins_rasp, PlainTerminal, window_at, put_window, window_after_del, window_after_ins, edited, all_composed, composed, edit_messages, event_outcome, flushed, made_by_edit, pieces, replaced, replaced_in, unsent_message, edit_file, edit_range, edit_runes, one_if, UserEvent, Edit, is_editing, first_event, free_first, made_first, Unsent, Window, Tmesg}
 use Rattle.std.proofs.lemmas.Bool.Decides.{eqb_tells}
 use Rattle.sam_term.proofs.TypedLaws.{over}
 use Rattle.sam_term.proofs.TypedMade.{put-flushed}

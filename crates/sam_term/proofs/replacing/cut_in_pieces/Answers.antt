@@ -1,4 +1,4 @@
-use Rattle.sam_term.proofs.Common.{◌≡◌, ◌+◌, ◌-◌, ◌≤◌, arith, refl, append_assoc, length, min}
+use Rattle.sam_term.proofs.Common.{arith, refl, append_assoc, length, min}
 use Rattle.sam_term.proofs.Pieces.{pieces-some, pieces-step, pieces-over}
 use Rattle.sam_term.proofs.replacing.cut_in_pieces.Goals as goal
 

@@ -1,4 +1,4 @@
-use Rattle.sam_term.proofs.Common.{arith, refl, [], ◌==◌, ◌&&◌, first_event, is_empty, nat_eq, eq-eqb}
+use Rattle.sam_term.proofs.Common.{arith, refl, [], first_event, nat_eq, eq-eqb}
 use Rattle.sam_term.proofs.Acts.{first_is}
 use Rattle.sam_term.proofs.Edits.{later, loud_answer}
 use Rattle.sam_term.proofs.Replaces.{edit-as, edit_short, made-edit_none}

@@ -1,4 +1,4 @@
-use Rattle.sam_term.proofs.Common.{◌≡◌, arith, refl, inl, append_assoc, length, drop, first_event, edit_runes, window_at, edited, flushed, replaced_in, cut_message, pieces, typed_pieces, Edit}
+use Rattle.sam_term.proofs.Common.{arith, refl, inl, append_assoc, length, first_event, edit_runes, window_at, replaced_in, Edit}
 use Rattle.sam_term.proofs.Edits.{later, loud_answer, flushed-messages, refused_count}
 use Rattle.sam_term.proofs.Marks.{edited-put}
 use Rattle.sam_term.proofs.Pieces.{pieces-few}
