@@ -8,8 +8,7 @@ use Rattle.sam_term.specs.declared.event.Verdict.{Verdict}
 use Rattle.sam_term.specs.declared.event.Verdict.TheVariants.{Refuses}
 use Rattle.sam_term.specs.declared.fault.Refusal.{Refusal}
 use Rattle.sam_term.specs.Events.{about_dot}
-use Rattle.sam_term.specs.Editing.{cut_message}
-use Rattle.sam_term.specs.Term.{made_then, wanted, sends_if, view_end, stretches, front_of, most_requests}
+use Rattle.sam_term.specs.Term.{cut_message, made_then, wanted, sends_if, view_end, stretches, front_of, most_requests}
 use Rattle.sam_term.proofs.Edits.{unsent-all}
 use Rattle.sam_term.proofs.Loads.{stretches-none}
 use Rattle.sam_crossing.proofs.Changes.{type_change, change_by, changed, IsAllowed}

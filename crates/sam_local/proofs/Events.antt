@@ -2,8 +2,7 @@
 use Rattle.sam_crossing.proofs.Common.{◌≡◌, ℕ, ◌+◌, ◌≤◌, Bool, true, false, not, ◌==◌, ◌||◌, if◌then◌else◌, List, [], ◌∷◌, ◌++◌, length, map, Option, Some, None, is_some, unwrap_or, refl, sym, ap, ◌∙◌, true≢false, arith, append_assoc, append-nil, not-false, eq-eqb, Tmesg, Tversion, Tstartcmdfile, Tcheck, Torigin, Tstartfile, Tworkfile, Ttype, Tcut, Tpaste, Tsnarf, Tstartnewfile, Twrite, Tclose, Tlook, Tsearch, Tsend, Tdclick, Tstartsnarf, Tsetsnarf, Texit, Lock, FileLock, lock_of, Window, KnownFile, Unsent, is_command_line, UserEvent, PlainTerminal, Made, known_at, window_at, is_open, put_known, put_window, window_after_ins, window_after_del, has_empty_dot, cut_rasp, cuts_dot, moved_unsent, flushed, unsent_message, sends, unchanged, requested, joins, joined, typed_rasp, types, event_outcome, made_by_type, made_by_cut, made_by_paste, made_by_snarf, made_by_view, made_by_load, all_wanted, gaps_shown, requests_for, sends_all, blank_window, place_after_del}
 use Rattle.sam_term.specs.declared.event.UserEvent.TheVariants.{Typed, Select, Cut, Paste, Snarf, Look, Search, Send, Dclick, Scroll, View, Load, Open, Close, Write, Work, OpenCmd, New, Exit, Check, GetSnarf, SetSnarf, Version, Flush}
 use Rattle.sam_term.specs.Events.{about_dot, message_of}
-use Rattle.sam_term.specs.Editing.{cut_message}
-use Rattle.sam_term.specs.Term.{made_then, kept_unsent, wanted, sends_if}
+use Rattle.sam_term.specs.Term.{cut_message, made_then, kept_unsent, wanted, sends_if}
 use Rattle.sam_crossing.proofs.Passing.{Passed}
 use Rattle.sam_crossing.proofs.Views.{unsent-flushed, unsent-composed}
 use Rattle.sam_local.specs.Local.{whole_window}
