@@ -1,5 +1,5 @@
 -- An event that nothing stands against keeps both sides in order.
-use Rattle.sam_crossing.proofs.Common.{◌&&◌, ◌≡◌, ℕ, ◌+◌, ◌-◌, ◌≤◌, Bool, true, false, not, ◌==◌, if◌then◌else◌, nat_lt, List, [], ◌∷◌, ◌++◌, length, Option, None, refl, sym, ap, ◌∙◌, subst, eqb-true, eq-eqb, append_assoc, arith, ltb-false, not-false, max_runes, is_empty, del-nothing, del_cells, Tmesg, Tversion, Trequest, Torigin, Ttype, Tcut, Tpaste, Tsnarf, Tdclick, Tack, Hmesg, PlainHost, CommandLock, NoLock, Window, is_command_line, UserEvent, PlainTerminal, window_at, put_window, is_open, has_empty_dot, cut_rasp, composed, all_composed, edit_messages, replaced, flushed, sends, unchanged, requested, cuts_dot, types, event_outcome, made_by_type, made_by_cut, made_by_paste, made_by_snarf, made_by_view, made_by_load, all_wanted, gaps_shown, requests_for, sends_all, Lens, OpenAt, Anything, view, AreTidy, IsTidyWindow, views, InOrder}
+use Rattle.sam_crossing.proofs.Common.{◌&&◌, ◌≡◌, ℕ, ◌+◌, ◌-◌, ◌≤◌, Bool, true, false, not, ◌==◌, if◌then◌else◌, nat_lt, List, [], ◌∷◌, ◌++◌, length, Option, None, refl, sym, ap, ◌∙◌, subst, eqb-true, eq-eqb, append_assoc, arith, ltb-false, not-false, max_runes, is_empty, del-nothing, del_cells, Tmesg, Tversion, Trequest, Torigin, Ttype, Tcut, Tpaste, Tsnarf, Tdclick, Tack, Hmesg, PlainHost, CommandLock, NoLock, Window, is_command_line, UserEvent, PlainTerminal, window_at, put_window, is_open, has_empty_dot, cut_rasp, composed, all_composed, edit_messages, replaced, flushed, sends, unchanged, requested, cuts_dot, types, event_outcome, made_by_type, made_by_cut, made_by_paste, made_by_snarf, made_by_view, made_by_load, made_by_edit, all_wanted, gaps_shown, requests_for, sends_all, Lens, OpenAt, Anything, view, AreTidy, IsTidyWindow, views, InOrder}
 use Rattle.sam_term.specs.declared.event.UserEvent.TheVariants.{Typed, Select, Cut, Paste, Snarf, Dclick, Scroll, View, Load, Edit, Version, Flush}
 use Rattle.sam_crossing.proofs.Lenses.{IsFree, IsOpen, exited_of, command_of}
 use Rattle.sam_crossing.proofs.Changes.{type_change, change_by, cut_out, Within, IsAllowed, CanCompose}

@@ -59,10 +59,28 @@ room_after p a b v o = grind (arith, length-ins_cells, length-map, length-append
 room_first : (p : ℕ) (a b : List ℕ) (v : Lens) → OpenAt (Room p (a ++ b)) v → OpenAt (Room p a) v
 room_first p a b v o = grind (arith, length-append)
 
-pieces-nothing : (n p : ℕ) → pieces n p [] ≡ []
+pub pieces-nothing : (n p : ℕ) → pieces n p [] ≡ []
 unfolding pieces
 pieces-nothing zero p = refl
 pieces-nothing (suc n) p = refl
+
+-- the first piece, and the pieces of the rest after it
+pub pieces_step : (n p c : ℕ) (s : List ℕ) → let a = take most_in_message (c ∷ s) in pieces (suc n) p (c ∷ s) ≡ (p, a) ∷ pieces n (p + length a) (drop most_in_message (c ∷ s))
+unfolding pieces
+pieces_step n p c s = ap (λ (xs : List (ℕ × List ℕ)). (p, take most_in_message (c ∷ s)) ∷ xs) (go (nat_le (length (c ∷ s)) most_in_message) refl)
+  where
+    a : List ℕ
+    a = take most_in_message (c ∷ s)
+
+    b : List ℕ
+    b = drop most_in_message (c ∷ s)
+
+    go : (short : Bool) → nat_le (length (c ∷ s)) most_in_message ≡ short → pieces n (p + most_in_message) b ≡ pieces n (p + length a) b
+    go true e =
+        let none : b ≡ [] = drop_all most_in_message (c ∷ s) (grind (arith, leb-true, e)) in
+        ap (λ (x : List ℕ). pieces n (p + most_in_message) x) none ∙ pieces-nothing n (p + most_in_message)
+        ∙ sym (ap (λ (x : List ℕ). pieces n (p + length a) x) none ∙ pieces-nothing n (p + length a))
+    go false e = ap (λ (m : ℕ). pieces n (p + m) b) (sym (length-take-le most_in_message (c ∷ s) (grind (arith, le-leb, e))))
 
 -- ## The fold
 
@@ -123,35 +141,19 @@ module _ (h : PlainHost) (down : List Hmesg) (f : ℕ) (plain : (f == 0) ≡ fal
   PiecesFold n = (p : ℕ) (s : List ℕ) (shown : ℕ → Lens) (line : List Tmesg) → length s ≤ n → MayType p s shown → Carried shown line
       → Carried (typed p s shown) (line ++ typed_pieces f (pieces n p s))
 
-  -- a text that one message has, and one with more
-  short_text : (n p c : ℕ) (s : List ℕ) (shown : ℕ → Lens) (line : List Tmesg) → length (c ∷ s) ≤ most_in_message → MayType p (c ∷ s) shown → Carried shown line
+  -- a piece, and the rest of the text
+  some_text : (n p c : ℕ) (s : List ℕ) (shown : ℕ → Lens) (line : List Tmesg) → PiecesFold n → length (c ∷ s) ≤ suc n → MayType p (c ∷ s) shown → Carried shown line
       → Carried (typed p (c ∷ s) shown) (line ++ typed_pieces f (pieces (suc n) p (c ∷ s)))
-  unfolding pieces
-  short_text n p c s shown line l may k =
-      rw (take_all most_in_message (c ∷ s) l, drop_all most_in_message (c ∷ s) l, pieces-nothing n (p + most_in_message)) (one_piece p (c ∷ s) shown line may k)
-
-  long_text : (n p c : ℕ) (s : List ℕ) (shown : ℕ → Lens) (line : List Tmesg) → PiecesFold n → most_in_message ≤ length (c ∷ s) → length (c ∷ s) ≤ suc n → MayType p (c ∷ s) shown → Carried shown line
-      → Carried (typed p (c ∷ s) shown) (line ++ typed_pieces f (pieces (suc n) p (c ∷ s)))
-  unfolding pieces
-  long_text n p c s shown line rest l fuel may k =
+  some_text n p c s shown line rest fuel may k =
       let a : List ℕ = take most_in_message (c ∷ s) in
       let b : List ℕ = drop most_in_message (c ∷ s) in
       let whole : a ++ b ≡ c ∷ s = take-append-drop most_in_message (c ∷ s) in
-      let size : length a ≡ most_in_message = length-take-le most_in_message (c ∷ s) l in
-      let left : length b ≤ n = omega (arith, length-drop most_in_message (c ∷ s)) in
+      let left : length b ≤ n = omega (arith, length-drop most_in_message (c ∷ s), fuel) in
       let both : MayType p (a ++ b) shown = subst (λ (x : List ℕ). MayType p x shown) (sym whole) may in
       let later = rest (p + length a) b (typed p a shown) (line ++ Ttype f p a ∷ []) left (may_rest p a b shown both) (one_piece p a shown line (may_first p a b shown both) k) in
-      subst (λ (x : List ℕ). Carried (typed p x shown) (line ++ Ttype f p a ∷ typed_pieces f (pieces n (p + most_in_message) b))) whole
-      (subst (λ (m : ℕ). Carried (typed p (a ++ b) shown) (line ++ Ttype f p a ∷ typed_pieces f (pieces n (p + m) b))) size
+      subst (λ (x : List ℕ). Carried (typed p x shown) (line ++ typed_pieces f (pieces (suc n) p (c ∷ s)))) whole
+      (subst (λ (xs : List (ℕ × List ℕ)). Carried (typed p (a ++ b) shown) (line ++ typed_pieces f xs)) (sym (pieces_step n p c s))
       (then_rest p a b shown line (typed_pieces f (pieces n (p + length a) b)) both later))
-
-  some_text : (n p c : ℕ) (s : List ℕ) (shown : ℕ → Lens) (line : List Tmesg) → PiecesFold n → length (c ∷ s) ≤ suc n → MayType p (c ∷ s) shown → Carried shown line
-      → Carried (typed p (c ∷ s) shown) (line ++ typed_pieces f (pieces (suc n) p (c ∷ s)))
-  some_text n p c s shown line rest fuel may k = go (nat_le (length (c ∷ s)) most_in_message) refl
-    where
-      go : (b : Bool) → nat_le (length (c ∷ s)) most_in_message ≡ b → Carried (typed p (c ∷ s) shown) (line ++ typed_pieces f (pieces (suc n) p (c ∷ s)))
-      go true e = short_text n p c s shown line (grind (arith, leb-true, e)) may k
-      go false e = long_text n p c s shown line rest (grind (arith, le-leb, e)) fuel may k
 
   -- all pieces of a text
   pieces_fold : (n : ℕ) → PiecesFold n

@@ -17,8 +17,9 @@ use Rattle.sam_term.specs.Windows.{blank_known, blank_window}
 use Rattle.sam_term.specs.declared.records.KnownFile.{KnownFile}
 use Rattle.sam_mesg.specs.declared.hmesg.Hmesg.TheVariants.{Hversion, Hbindname, Hcurrent, Hnewname, Hmovname, Hgrow, Hcheck, Hunlock, Hdata, Horigin, Hunlockfile, Hsetdot, Hgrowdata, Hmoveto, Hclean, Hdirty, Hcut, Hsetpat, Hdelname, Hclose, Hsetsnarf, Hsnarflen, Hack, Hexit}
 use Rattle.sam_mesg.specs.declared.tmesg.Tmesg.TheVariants.{Tack}
-use Rattle.sam_term.specs.declared.event.UserEvent.TheVariants.{Typed, Cut, Paste, Edit}
+use Rattle.sam_term.specs.declared.event.UserEvent.TheVariants.{Typed, Select, Cut, Paste, Dclick, View, Load, Edit}
 use Rattle.sam_term.specs.declared.event.Verdict.TheVariants.{Waits, Refuses}
+use Rattle.sam_term.proofs.Acts.{none_holds, test_at}
 use Rattle.sam_term.proofs.TermLaws.{known-put, rasp-put, rasp-stays, rasp-change, rasp-sends, rasp-requested, rasp-flushed, event_changes}
 use Rattle.sam_endpoint.specs.Changes.{ActsKeep, FlushesKeep, FramesKeep, IsKept, edit_touch, event_touch, kept_at, narrowed, oldest_touch, whole_touch}
 use Rattle.sam_endpoint.specs.declared.changes.Kept.{Kept}
@@ -174,9 +175,18 @@ event-keeps old t (Edit g p q s) ks f sound place kept =
     edit-of old _ (map Some s) t ks f g p q (q - p) (length s) (typed-is t f g (map Some s) p q range.0 range.1) (omega (arith, range.0)) range.1 (sym (length-map s Some)) kept
 event-keeps old t e ks f sound place kept = kept
 
+same-places : (t : PlainTerminal) (es : List UserEvent) (e : UserEvent) → has_bad_place (record t { held = es }) e ≡ has_bad_place t e
+same-places t es (Select f p q) = refl
+same-places t es (Dclick f p) = refl
+same-places t es (View f p n) = refl
+same-places t es (Load f p n) = refl
+same-places t es (Edit f p q s) = refl
+same-places t es _ = refl
+
 -- an event that nothing stands against names places of the text, also once it is held no longer
 names-places : (t : PlainTerminal) (es : List UserEvent) (e : UserEvent) → first_of_checks (event_checks t e) ≡ None → has_bad_place (record t { held = es }) e ≡ false
-names-places t es e free = grind arith
+unfolding test_at
+names-places t es e free = same-places t es e ∙ none_holds (event_checks t e) 7 free
 
 -- an event that is held no longer touches the same
 same-touch : (t : PlainTerminal) (es : List UserEvent) (e : UserEvent) → event_touch (record t { held = es }) e ≡ event_touch t e
