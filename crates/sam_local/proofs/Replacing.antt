@@ -125,13 +125,13 @@ module _ (f : ℕ) (plain : (f == 0) ≡ false) where
 
       go : (none : Bool) → (p == q) ≡ none → (s1 : List ℕ) → s ≡ s1 → answers h ((if none then [] else Tcut f p q ∷ []) ++ typed_pieces f (pieces (length s) p s)) ≡ Some r
           → Written h f (edited_file file p q s) r
-      go true same [] is q = absurd (true≢false (sym (ap (λ (b : Bool). b && true) same) ∙ ap (λ (z : List ℕ). (p == q) && is_empty z) (sym is) ∙ some))
-      go true same (c ∷ s1) is q = subst (λ (z : List ℕ). Written h f (edited_file file p q z) r) (sym is)
+      go true same [] is told = absurd (true≢false (sym (ap (λ (b : Bool). b && true) same) ∙ ap (λ (z : List ℕ). (p == q) && is_empty z) (sym is) ∙ some))
+      go true same (c ∷ s1) is told = subst (λ (z : List ℕ). Written h f (edited_file file p q z) r) (sym is)
           (subst (λ (z : PlainFile). Written h f z r) (typed-whole file p q c s1 same)
-          (subst (λ (z : List ℕ). Written h f (typed_if file p z) r) is (pieces-written (length s) h p s r d (omega arith) (omega (arith, up, within)) q)))
-      go false same s1 is q =
+          (subst (λ (z : List ℕ). Written h f (typed_if file p z) r) is (pieces-written (length s) h p s r d (omega arith) (omega (arith, up, within)) told)))
+      go false same s1 is told =
           let ms : List Tmesg = typed_pieces f (pieces (length s) p s) in
-          let parts : Answered h (Tcut f p q) ms r = answered h (Tcut f p q) ms r q in
+          let parts : Answered h (Tcut f p q) ms r = answered h (Tcut f p q) ms r told in
           let first : parts.first ≡ (k, []) = one-written h (Tcut f p q) x parts.first d refl parts.now in
           let later : answers k ms ≡ Some parts.rest = sym (ap (λ (z : Reply). answers z.0 ms) first) ∙ parts.later in
           let last = pieces-written (length s) k p s parts.rest d (omega arith) place later in
