@@ -30,14 +30,14 @@ quiet-types f t g p s = search (arith, quiet-then, quiet-if, quiet-none, quiet-f
 -- an edit only cuts and types
 quiet-pieces : (f g : ℕ) (xs : List (ℕ × List ℕ)) → requests f (typed_pieces g xs) ≡ 0
 quiet-pieces f g [] = refl
-quiet-pieces f g (x ∷ xs) = quiet-pieces f g xs
+quiet-pieces f g (x ∷ xs) = omega (arith, quiet-pieces f g xs)
 
 quiet-edit : (f g p q : ℕ) (s : List ℕ) → requests f (edit_messages g p q s) ≡ 0
 quiet-edit f g p q s = by (p == q)
   where
     by : (none : Bool) → requests f ((if none then [] else Tcut g p q ∷ []) ++ typed_pieces g (pieces (length s) p s)) ≡ 0
     by true = quiet-pieces f g (pieces (length s) p s)
-    by false = quiet-pieces f g (pieces (length s) p s)
+    by false = omega (arith, quiet-pieces f g (pieces (length s) p s))
 
 abbrev pub is_looking : UserEvent → Bool
 is_looking (View f p n) = true
