@@ -1,18 +1,20 @@
 -- What a host answers and what a terminal composes fits at its place of the stream: a case for each message and for each event.
-use Rattle.sam_settle.proofs.Common.{◌≡◌, ℕ, false, List, [], ◌∷◌, ◌++◌, Option, Some, None, Ok, refl, arith, drop, after_h, HFrame, after_t, Tmesg, host, terminal, version_after, PlainHost, Reply, answer, host_checks, told_names, stamped, reply_version, reply_to, IsSound, FitInPlace, frames_fit, reply_stands, stays_sound, PlainTerminal, Made, flushed, sends, sends_all, sends_if, unchanged, requested, request_for, requests_for, gaps_shown, all_wanted, event_outcome, made_by_type, made_by_cut, made_by_paste, made_by_snarf, made_by_view, made_by_load, event_checks, has_long_text, act_of, act_on, decided, flush_of, take_of, Acted, UserEvent, Each, HostRuns, composed_by, sides, answered_as, InTurn, InTurn-append, IsFree, free_turn}
+use Rattle.sam_settle.proofs.Common.{◌≡◌, ℕ, false, List, [], ◌∷◌, ◌++◌, Option, Some, None, Ok, refl, arith, drop, after_h, HFrame, after_t, Tmesg, host, terminal, version_after, PlainHost, Reply, answer, host_checks, told_names, stamped, reply_version, reply_to, IsSound, FitInPlace, frames_fit, reply_stands, stays_sound, PlainTerminal, Made, flushed, sends, sends_all, sends_if, unchanged, requested, request_for, requests_for, gaps_shown, all_wanted, event_outcome, made_by_type, made_by_cut, made_by_paste, made_by_snarf, made_by_view, made_by_load, made_by_edit, event_checks, has_long_text, act_of, act_on, decided, flush_of, take_of, Acted, UserEvent, Each, HostRuns, composed_by, sides, answered_as, InTurn, InTurn-append, IsFree, free_turn}
+use Rattle.std.specs.Prelude.{Bool, true, ◌==◌, ◌&&◌, if◌then◌else◌, length}
 use Rattle.sam_runes.specs.Checks.{first_of_checks}
-use Rattle.sam_runes.specs.Texts.{common_version}
+use Rattle.sam_runes.specs.Texts.{common_version, is_empty}
 use Rattle.sam_runes.proofs.CheckLaws.{none_holds}
 use Rattle.sam_mesg.specs.declared.hmesg.Hmesg.{Hmesg}
 use Rattle.sam_mesg.specs.declared.hmesg.Hmesg.TheVariants.{Hversion, Hunlock, Hack}
-use Rattle.sam_mesg.specs.declared.tmesg.Tmesg.TheVariants.{Tversion}
+use Rattle.sam_mesg.specs.declared.tmesg.Tmesg.TheVariants.{Tversion, Tcut}
 use Rattle.sam_crossing.proofs.Versions.{IsPlain, plain_frames, reply_plain}
 use Rattle.sam_host.proofs.EachFrame.{reply_each}
 use Rattle.sam_term.specs.declared.event.Verdict.{Verdict}
 use Rattle.sam_term.proofs.Acts.{none_holds as none_at, test_at}
 use Rattle.sam_crossing.proofs.RunLaws.{counted-result}
 use Rattle.sam_term.specs.Editing.{shown_from}
-use Rattle.sam_term.specs.declared.event.UserEvent.TheVariants.{Load}
+use Rattle.sam_term.specs.Term.{edit_messages, pieces, replaced, typed_pieces}
+use Rattle.sam_term.specs.declared.event.UserEvent.TheVariants.{Load, Edit}
 
 -- ## What the host answers: its version is that after its answers
 
@@ -107,11 +109,31 @@ free-wanted : (t : PlainTerminal) (f : ℕ) → AllFree (all_wanted t f)
 unfolding all_wanted
 free-wanted t f = free-requests f (gaps_shown t f)
 
+free-pieces : (f : ℕ) (xs : List (ℕ × List ℕ)) → AllFree (typed_pieces f xs)
+free-pieces f [] = tt
+free-pieces f (x ∷ xs) = (tt, free-pieces f xs)
+
+free-edit : (f p q : ℕ) (s : List ℕ) → AllFree (edit_messages f p q s)
+free-edit f p q s = by (p == q)
+  where
+    by : (none : Bool) → AllFree ((if none then [] else Tcut f p q ∷ []) ++ typed_pieces f (pieces (length s) p s))
+    by true = free-pieces f (pieces (length s) p s)
+    by false = (tt, free-pieces f (pieces (length s) p s))
+
+free-edited : (t : PlainTerminal) (f p q : ℕ) (s : List ℕ) → AllFree (made_by_edit t f p q s).1
+unfolding made_by_edit
+free-edited t f p q s = by (p == q && is_empty s)
+  where
+    by : (none : Bool) → AllFree (if none then (t, []) else sends t (λ u. replaced u f p q s) (edit_messages f p q s)).1
+    by true = tt
+    by false = free-sends t (λ u. replaced u f p q s) (edit_messages f p q s) (free-edit f p q s)
+
 -- what an event composes at a place with the terminal's version
 event_turn : (t : PlainTerminal) (e : UserEvent) (v : ℕ) → has_long_text t e ≡ false → v ≡ t.version → InTurn terminal v (event_outcome t e).1
 unfolding made_by_type made_by_cut made_by_paste made_by_snarf made_by_view made_by_load flushed
 event_turn t (Load f p n) v u w =
     free_turn v (event_outcome t (Load f p n)).1 (free-sends_all (all_wanted (shown_from t f p n) f) (shown_from t f p n) (free-wanted (shown_from t f p n) f))
+event_turn t (Edit f p q s) v u w = free_turn v (made_by_edit t f p q s).1 (free-edited t f p q s)
 event_turn t e v u w = grind (arith, free_turn, free-append, free-sends, free-requested, free-flushed)
 
 -- ## Acts, flushes and frames

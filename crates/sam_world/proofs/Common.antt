@@ -22,12 +22,12 @@ pub use Rattle.sam_runes.proofs.SlotLaws.{slot-free_other, slot-free_same, slot-
 pub use Rattle.sam_runes.specs.Checks.{first_of_checks}
 pub use Rattle.sam_runes.specs.Texts.{Range, RoomyText, common_version, del, ins, is_empty, most_in_name}
 pub use Rattle.sam_term.specs.Term.{PlainTerminal, new_terminal, put_known, window_at}
-unfoldable pub use Rattle.sam_term.specs.Term.{act_of, all_wanted, flush_of, flushed, made_by_cut, made_by_load, made_by_paste, made_by_snarf, made_by_type, made_by_view, requested, stretches, take_of, took_bindname, took_close, took_cut, took_data, took_exit, took_grow, took_growdata, took_unlockfile}
+unfoldable pub use Rattle.sam_term.specs.Term.{act_of, all_wanted, flush_of, flushed, made_by_cut, made_by_edit, made_by_load, made_by_paste, made_by_snarf, made_by_type, made_by_view, pieces, requested, stretches, take_of, took_bindname, took_close, took_cut, took_data, took_exit, took_grow, took_growdata, took_unlockfile}
 pub use Rattle.sam_term.specs.Windows.{blank_known, blank_window}
 pub use Rattle.sam_term.specs.declared.event.Acted.{Acted}
 pub use Rattle.sam_term.specs.declared.event.Acted.TheVariants.{Done, Locked, Refused}
 pub use Rattle.sam_term.specs.declared.event.UserEvent.{UserEvent}
-pub use Rattle.sam_term.specs.declared.event.UserEvent.TheVariants.{Check, Close, Cut, Exit, Load, Look, New, Open, OpenCmd, Paste, Select, SetSnarf, Typed, Version, View}
+pub use Rattle.sam_term.specs.declared.event.UserEvent.TheVariants.{Check, Close, Cut, Edit, Exit, Load, Look, New, Open, OpenCmd, Paste, Select, SetSnarf, Typed, Version, View}
 pub use Rattle.sam_term.specs.declared.fault.TermFault.{TermFault}
 pub use Rattle.sam_term.specs.declared.lock.Lock.{Lock}
 pub use Rattle.sam_term.specs.declared.lock.Lock.TheVariants.{CommandLock, FileLock, NoLock}
