@@ -1,6 +1,6 @@
 -- An event that nothing stands against keeps both sides in order.
-use Rattle.sam_crossing.proofs.Common.{◌≡◌, ℕ, ◌+◌, ◌-◌, ◌≤◌, Bool, true, false, not, ◌==◌, if◌then◌else◌, nat_lt, List, [], ◌∷◌, ◌++◌, length, Option, None, refl, sym, ap, ◌∙◌, subst, eqb-true, eq-eqb, append_assoc, arith, ltb-false, not-false, max_runes, is_empty, del-nothing, del_cells, Tmesg, Tversion, Trequest, Torigin, Ttype, Tcut, Tpaste, Tsnarf, Tdclick, Tack, Hmesg, PlainHost, CommandLock, NoLock, Window, is_command_line, UserEvent, PlainTerminal, window_at, put_window, is_open, has_empty_dot, cut_rasp, composed, all_composed, flushed, sends, unchanged, requested, cuts_dot, types, event_outcome, made_by_type, made_by_cut, made_by_paste, made_by_snarf, made_by_view, made_by_load, all_wanted, gaps_shown, requests_for, sends_all, Lens, OpenAt, Anything, view, AreTidy, IsTidyWindow, views, InOrder}
-use Rattle.sam_term.specs.declared.event.UserEvent.TheVariants.{Typed, Select, Cut, Paste, Snarf, Dclick, Scroll, View, Load, Version, Flush}
+use Rattle.sam_crossing.proofs.Common.{◌&&◌, ◌≡◌, ℕ, ◌+◌, ◌-◌, ◌≤◌, Bool, true, false, not, ◌==◌, if◌then◌else◌, nat_lt, List, [], ◌∷◌, ◌++◌, length, Option, None, refl, sym, ap, ◌∙◌, subst, eqb-true, eq-eqb, append_assoc, arith, ltb-false, not-false, max_runes, is_empty, del-nothing, del_cells, Tmesg, Tversion, Trequest, Torigin, Ttype, Tcut, Tpaste, Tsnarf, Tdclick, Tack, Hmesg, PlainHost, CommandLock, NoLock, Window, is_command_line, UserEvent, PlainTerminal, window_at, put_window, is_open, has_empty_dot, cut_rasp, composed, all_composed, edit_messages, replaced, flushed, sends, unchanged, requested, cuts_dot, types, event_outcome, made_by_type, made_by_cut, made_by_paste, made_by_snarf, made_by_view, made_by_load, made_by_edit, all_wanted, gaps_shown, requests_for, sends_all, Lens, OpenAt, Anything, view, AreTidy, IsTidyWindow, views, InOrder}
+use Rattle.sam_term.specs.declared.event.UserEvent.TheVariants.{Typed, Select, Cut, Paste, Snarf, Dclick, Scroll, View, Load, Edit, Version, Flush}
 use Rattle.sam_crossing.proofs.Lenses.{IsFree, IsOpen, exited_of, command_of}
 use Rattle.sam_crossing.proofs.Changes.{type_change, change_by, cut_out, Within, IsAllowed, CanCompose}
 use Rattle.sam_crossing.proofs.Folds.{requests, acknowledges}
@@ -9,6 +9,7 @@ use Rattle.sam_crossing.proofs.Dots.{length-del_cells}
 use Rattle.sam_crossing.proofs.Passing.{Passed, free_at, open_free, opened_at, known_at_view, all_free}
 use Rattle.sam_crossing.proofs.Sending.{Goes, then_goes, nothing_goes, flushed_goes, flushed_views, MaySend, is_edit, carried, send_one, sends_goes, cut_view, cut_one, open_is, exited_cut, command_cut, free_cut, open_cut}
 use Rattle.sam_crossing.proofs.Typing.{types_goes}
+use Rattle.sam_crossing.proofs.Replacing.{Wide, MayReplace, replaced_goes}
 
 -- ## Requests, and acknowledgements
 
@@ -127,7 +128,7 @@ sent h t up down m o p plain allowed can = sends_goes h t up down m o plain (rec
 
 -- an event that only sends its message needs no row
 pub event_goes : (h : PlainHost) (t : PlainTerminal) (up : List Tmesg) (down : List Hmesg) (e : UserEvent) → InOrder h t up down → Passed t e → Goes h up down (event_outcome t e)
-unfolding made_by_view made_by_load made_by_snarf made_by_type made_by_paste made_by_cut
+unfolding made_by_view made_by_load made_by_snarf made_by_type made_by_paste made_by_cut made_by_edit
 event_goes h t up down (Typed f s) o pass = then_goes h up down (cuts_dot t f) (λ u. if is_empty s then (u, []) else types u f p s) (go s refl)
   where
     p : ℕ
@@ -192,6 +193,16 @@ event_goes h t up down (Load f a n) o p =
     let w = record (window_at t f) { view_start = a; view_length = n } in
     let i = opened_at t f (not-false (is_open t f) p.opened) in
     loaded_goes h (put_window t f w) up down f (shown_goes h t up down f w o i refl refl (grind (arith, p.place, (o.tidy f)))) (rw (view-kept t f w i refl refl f) i) p.here
+event_goes h t up down (Edit f a b s) o pass = go (a == b && is_empty s)
+  where
+    may : MayReplace h down f pass.other a b s (views t)
+    may = record { here = pass.here; free = pass.free; room = open_free (Wide a b s) t f pass.free pass.opened pass.unlocked (grind (arith, pass.place, pass.room)) }
+
+    go : (none : Bool) → Goes h up down (if none then (t, []) else sends t (λ u. replaced u f a b s) (edit_messages f a b s))
+    go true = nothing_goes h t up down o
+    go false = then_goes h up down (flushed t) (λ u. (all_composed (replaced u f a b s) (edit_messages f a b s), edit_messages f a b s))
+        (replaced_goes h (flushed t).0 (up ++ (flushed t).1) down f a b s pass.other (flushed_goes h t up down o) (unsent-flushed t)
+        (subst (λ (v : ℕ → Lens). MayReplace h down f pass.other a b s v) (flushed_views t o.unsent) may))
 event_goes h t up down (Version v) o p = grind (arith, (sent h t up down (Tversion v) o p refl (all_free t p.free p.all_unlocked)))
 event_goes h t up down Flush o p = flushed_goes h t up down o
 event_goes h t up down _ o p = search (sent, free_at, all_free, open_free Anything, dot_open, known_at_view)

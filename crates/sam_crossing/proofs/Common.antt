@@ -20,7 +20,7 @@ pub use Rattle.sam_crossing.specs.Order.{AreTidy, InOrder, IsHeldBack, IsTidyWin
 pub use Rattle.sam_crossing.specs.Steady.{AllOpenAnnounced, HasFiles, IsSteady, OpenAnnounced}
 pub use Rattle.sam_crossing.specs.View.{Moves, NoneRefuses, effect, file_in, file_of, file_of_slot, slot_of_window, view}
 pub use Rattle.sam_rasp.proofs.RaspLaws.{agrees_grown, agrees_loaded, agrees_removed, agrees_typed, length_agrees}
-pub use Rattle.sam_rasp.specs.Rasp.{Agrees, PartialText, del_cells, ins_cells, load_cells, place_after_del}
+pub use Rattle.sam_rasp.specs.Rasp.{Agrees, PartialText, del_cells, ins_cells, load_cells, place_after_del, place_after_ins}
 pub use Rattle.sam_runes.proofs.EditLaws.{del-nothing, edits_fit, last_first_is_at_once, length-del, length-ins}
 pub use Rattle.sam_runes.proofs.PlaceLaws.{InRange, ends_line-append, lines_before_within, searched_within, word_at_within}
 pub use Rattle.sam_runes.proofs.SlotLaws.{length-free_slot, length-map_slots, length-put_slot, put_slot-push, put_slot-put_slot, slot-free_other, slot-free_same, slot-map, slot-put_other, slot-put_same, slot_given, slot_past}
@@ -28,8 +28,8 @@ pub use Rattle.sam_runes.specs.Checks.{Checks, first_of_checks}
 pub use Rattle.sam_runes.specs.Slots.{Slots, free_slot, put_slot, slot}
 pub use Rattle.sam_runes.specs.Texts.{Range, as_lines, common_version, del, ends_line, ins, is_empty, last_line, line_start, max_runes, most_count, most_in_message, part, searched}
 pub use Rattle.sam_term.specs.Events.{is_bad_version, is_command_line, is_for_command_file, lock_of, needs_open, waits_for_all}
-pub use Rattle.sam_term.specs.Term.{Made, PlainTerminal, all_composed, composed, cut_rasp, cuts_dot, del_rasp, edited, event_checks, event_outcome, frame_checks, frame_outcome, gaps_shown, has_bad_place, has_empty_dot, is_any_locked, is_closed, is_file_locked, is_known, is_open, is_unknown, joined, joins, known_at, makes_too_long, moved_unsent, new_terminal, put_known, put_window, requests_for, sends, sends_all, typed_rasp, types, unchanged, unsent_message, window_after_del, window_after_ins, window_at, window_of}
-unfoldable pub use Rattle.sam_term.specs.Term.{all_wanted, flushed, made_by_cut, made_by_load, made_by_paste, made_by_snarf, made_by_type, made_by_view, requested, took_bindname, took_close, took_cut, took_data, took_exit, took_grow, took_growdata, took_unlockfile}
+pub use Rattle.sam_term.specs.Term.{Made, PlainTerminal, all_composed, composed, cut_message, cut_rasp, cuts_dot, del_rasp, edit_messages, edited, event_checks, event_outcome, frame_checks, frame_outcome, gaps_shown, has_bad_place, has_empty_dot, ins_rasp, is_any_locked, is_closed, is_file_locked, is_known, is_open, is_unknown, joined, joins, known_at, makes_too_long, moved_unsent, new_terminal, put_known, put_window, replaced, requests_for, sends, sends_all, typed_pieces, typed_rasp, types, unchanged, unsent_message, window_after_del, window_after_ins, window_at, window_of}
+unfoldable pub use Rattle.sam_term.specs.Term.{all_wanted, flushed, made_by_cut, made_by_edit, made_by_load, made_by_paste, made_by_snarf, made_by_type, made_by_view, pieces, requested, took_bindname, took_close, took_cut, took_data, took_exit, took_grow, took_growdata, took_unlockfile}
 pub use Rattle.sam_term.specs.Windows.{blank_known, blank_window, window_in}
 pub use Rattle.sam_term.specs.declared.event.UserEvent.{UserEvent}
 pub use Rattle.sam_term.specs.declared.fault.TermFault.{TermFault}

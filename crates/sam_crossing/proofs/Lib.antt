@@ -24,6 +24,7 @@ pub mod Joins
 pub mod Passing
 pub mod Sending
 pub mod Typing
+pub mod Replacing
 pub mod Acting
 pub mod Receiving
 pub mod Ordered

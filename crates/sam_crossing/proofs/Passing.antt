@@ -1,6 +1,7 @@
 -- What the tests of an event say of the views, where none of them stands against it.
-use Rattle.sam_crossing.proofs.Common.{[], ◌≡◌, ℕ, true, false, not, ◌&&◌, nat_lt, List, ◌∷◌, None, arith, Slots, first_of_checks, PlainTerminal, window_at, is_open, is_known, is_any_locked, event_checks, is_unknown, is_closed, is_file_locked, has_bad_place, makes_too_long, waits_for_all, is_bad_version, is_for_command_file, needs_open, UserEvent, window_in, KnownFile, PartialText, OpenAt, view}
+use Rattle.sam_crossing.proofs.Common.{[], ◌≡◌, ℕ, true, false, not, ◌&&◌, nat_lt, List, ◌∷◌, None, arith, or_parts, Slots, first_of_checks, PlainTerminal, window_at, is_open, is_known, is_any_locked, event_checks, is_unknown, is_closed, is_file_locked, has_bad_place, makes_too_long, waits_for_all, is_bad_version, is_for_command_file, needs_open, UserEvent, window_in, KnownFile, PartialText, OpenAt, view}
 use Rattle.sam_term.specs.Events.{file_of}
+use Rattle.sam_term.proofs.Acts.{none_holds, test_at}
 use Rattle.sam_crossing.proofs.Lenses.{IsFree, IsOpen}
 use Rattle.sam_crossing.proofs.Changes.{KnownAt}
 
@@ -18,7 +19,22 @@ pub record Passed (t : PlainTerminal) (e : UserEvent) : Type 0 where
   pub room : makes_too_long t e ≡ false
 
 pub passed : (t : PlainTerminal) (e : UserEvent) → first_of_checks (event_checks t e) ≡ None → Passed t e
-passed t e h = grind arith
+unfolding test_at
+passed t e h =
+    let stands = none_holds (event_checks t e) in
+    let locks = or_parts (is_file_locked t (file_of e)) (waits_for_all e && is_any_locked t.files) (stands 6 h) in
+    record {
+      here = stands 0 h;
+      free = stands 1 h;
+      version = stands 2 h;
+      known = stands 3 h;
+      other = stands 4 h;
+      opened = stands 5 h;
+      unlocked = locks.0;
+      all_unlocked = locks.1;
+      place = stands 7 h;
+      room = stands 9 h;
+    }
 
 -- a file without locks is free, where the command lock is
 pub free_at : (t : PlainTerminal) (f : ℕ) → t.command_lock ≡ false → nat_lt 0 (window_at t f).locks ≡ false → IsFree (view f t)

@@ -28,8 +28,8 @@ pub use Rattle.sam_rasp.specs.Sections.{cells, cells_of}
 pub use Rattle.sam_term.proofs.ActLaws.{idle_still, locked_still}
 unfoldable pub use Rattle.sam_term.proofs.ActLaws.{acted_in, term_in}
 pub use Rattle.sam_term.specs.Fitting.{AllFit, FitsLast, composed_in}
-pub use Rattle.sam_term.specs.Term.{Made, PlainTerminal, act_on, all_composed, composed, decided, event_outcome, flushed, frame_outcome, if_countable, sends, sends_all, sends_if, unchanged, wanted}
-unfoldable pub use Rattle.sam_term.specs.Term.{act_of, all_wanted, flush_of, made_by_cut, made_by_load, made_by_paste, made_by_snarf, made_by_type, made_by_view, requested, take_of, took_bindname, took_close, took_cut, took_data, took_exit, took_grow, took_growdata, took_unlockfile}
+pub use Rattle.sam_term.specs.Term.{Made, PlainTerminal, act_on, all_composed, composed, decided, edit_messages, event_outcome, flushed, frame_outcome, if_countable, replaced, sends, sends_all, sends_if, unchanged, wanted}
+unfoldable pub use Rattle.sam_term.specs.Term.{act_of, all_wanted, flush_of, made_by_cut, made_by_edit, made_by_load, made_by_paste, made_by_snarf, made_by_type, made_by_view, requested, take_of, took_bindname, took_close, took_cut, took_data, took_exit, took_grow, took_growdata, took_unlockfile}
 pub use Rattle.sam_term.specs.declared.event.Acted.{Acted}
 pub use Rattle.sam_term.specs.declared.event.Acted.TheVariants.{Done, Idle, Locked, Refused}
 pub use Rattle.sam_term.specs.declared.event.UserEvent.{UserEvent}

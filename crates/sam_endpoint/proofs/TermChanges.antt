@@ -12,13 +12,14 @@ use Rattle.sam_rasp.specs.Rasp.{PartialText, del_cells, ins_cells, load_cells, p
 use Rattle.sam_term.specs.Effect.{changed_by}
 use Rattle.sam_term.specs.Sound.{IsSound}
 use Rattle.sam_term.specs.declared.fault.TermFault.{TermFault}
-use Rattle.sam_term.specs.Term.{frame_checks, if_countable, event_checks, put_known, put_window, known_at, rasp_at, window_at}
+use Rattle.sam_term.specs.Term.{frame_checks, if_countable, event_checks, has_bad_place, put_known, put_window, known_at, rasp_at, window_at}
 use Rattle.sam_term.specs.Windows.{blank_known, blank_window}
 use Rattle.sam_term.specs.declared.records.KnownFile.{KnownFile}
 use Rattle.sam_mesg.specs.declared.hmesg.Hmesg.TheVariants.{Hversion, Hbindname, Hcurrent, Hnewname, Hmovname, Hgrow, Hcheck, Hunlock, Hdata, Horigin, Hunlockfile, Hsetdot, Hgrowdata, Hmoveto, Hclean, Hdirty, Hcut, Hsetpat, Hdelname, Hclose, Hsetsnarf, Hsnarflen, Hack, Hexit}
 use Rattle.sam_mesg.specs.declared.tmesg.Tmesg.TheVariants.{Tack}
-use Rattle.sam_term.specs.declared.event.UserEvent.TheVariants.{Typed, Cut, Paste}
+use Rattle.sam_term.specs.declared.event.UserEvent.TheVariants.{Typed, Select, Cut, Paste, Dclick, View, Load, Edit}
 use Rattle.sam_term.specs.declared.event.Verdict.TheVariants.{Waits, Refuses}
+use Rattle.sam_term.proofs.Acts.{none_holds, test_at}
 use Rattle.sam_term.proofs.TermLaws.{known-put, rasp-put, rasp-stays, rasp-change, rasp-sends, rasp-requested, rasp-flushed, event_changes}
 use Rattle.sam_endpoint.specs.Changes.{ActsKeep, FlushesKeep, FramesKeep, IsKept, edit_touch, event_touch, kept_at, narrowed, oldest_touch, whole_touch}
 use Rattle.sam_endpoint.specs.declared.changes.Kept.{Kept}
@@ -155,27 +156,44 @@ cut-is : (t : PlainTerminal) (f g p q : ℕ)
     → (if g == f then del_cells (rasp_at t f) p q else rasp_at t f) ≡ (if g == f then put_cells (rasp_at t f) p q [] else rasp_at t f)
 cut-is t f g p q = ap (λ x. if g == f then x ++ drop q (rasp_at t f) else rasp_at t f) (sym (append-nil (take p (rasp_at t f))))
 
-event-keeps : (old : PartialText) (t : PlainTerminal) (e : UserEvent) (ks : List Kept) (f : ℕ) → IsSound t
+event-keeps : (old : PartialText) (t : PlainTerminal) (e : UserEvent) (ks : List Kept) (f : ℕ) → IsSound t → has_bad_place t e ≡ false
     → IsKept old (rasp_at t f) (kept_at ks f) → IsKept old (changed_by t e f (rasp_at t f)) (kept_at (kept_after ks (event_touch t e)) f)
-event-keeps old t (Typed g s) ks f sound kept =
+event-keeps old t (Typed g s) ks f sound place kept =
     let d = (window_at t g).dot in
     let w = sound.windows g in
     edit-of old _ (map Some s) t ks f g d.0 d.1 (d.1 - d.0) (length s) (typed-is t f g (map Some s) d.0 d.1 w.dot_start w.dot_end) (omega (arith, w.dot_start)) w.dot_end (sym (length-map s Some)) kept
-event-keeps old t (Cut g) ks f sound kept =
+event-keeps old t (Cut g) ks f sound place kept =
     let d = (window_at t g).dot in
     let w = sound.windows g in
     edit-of old _ [] t ks f g d.0 d.1 (d.1 - d.0) 0 (cut-is t f g d.0 d.1) (omega (arith, w.dot_start)) w.dot_end refl kept
-event-keeps old t (Paste g) ks f sound kept =
+event-keeps old t (Paste g) ks f sound place kept =
     let d = (window_at t g).dot in
     let w = sound.windows g in
     edit-of old _ [] t ks f g d.0 d.1 (d.1 - d.0) 0 (cut-is t f g d.0 d.1) (omega (arith, w.dot_start)) w.dot_end refl kept
-event-keeps old t e ks f sound kept = kept
+event-keeps old t (Edit g p q s) ks f sound place kept =
+    let range : (p ≤ q) × (q ≤ length (rasp_at t g)) = grind (arith, place) in
+    edit-of old _ (map Some s) t ks f g p q (q - p) (length s) (typed-is t f g (map Some s) p q range.0 range.1) (omega (arith, range.0)) range.1 (sym (length-map s Some)) kept
+event-keeps old t e ks f sound place kept = kept
+
+same-places : (t : PlainTerminal) (es : List UserEvent) (e : UserEvent) → has_bad_place (record t { held = es }) e ≡ has_bad_place t e
+same-places t es (Select f p q) = refl
+same-places t es (Dclick f p) = refl
+same-places t es (View f p n) = refl
+same-places t es (Load f p n) = refl
+same-places t es (Edit f p q s) = refl
+same-places t es _ = refl
+
+-- an event that nothing stands against names places of the text, also once it is held no longer
+names-places : (t : PlainTerminal) (es : List UserEvent) (e : UserEvent) → first_of_checks (event_checks t e) ≡ None → has_bad_place (record t { held = es }) e ≡ false
+unfolding test_at
+names-places t es e free = same-places t es e ∙ none_holds (event_checks t e) 7 free
 
 -- an event that is held no longer touches the same
 same-touch : (t : PlainTerminal) (es : List UserEvent) (e : UserEvent) → event_touch (record t { held = es }) e ≡ event_touch t e
 same-touch t es (Typed g s) = refl
 same-touch t es (Cut g) = refl
 same-touch t es (Paste g) = refl
+same-touch t es (Edit g p q s) = refl
 same-touch t es e = refl
 
 abbrev acted-of : Result (PlainTerminal × Acted) TermFault → Acted
@@ -196,9 +214,9 @@ acts_keep old t u acted ks f sound act kept = go t.held refl act
     to_goal : (v : PlainTerminal) (a : Acted) → u ≡ v → acted ≡ a → Goal v a → Goal u acted
     to_goal v a same become g = subst (λ x. Goal x acted) (sym same) (subst (λ x. Goal v x) (sym become) g)
 
-    decides : (e : UserEvent) (es : List UserEvent) (o : Option Verdict) → t.held ≡ e ∷ es
+    decides : (e : UserEvent) (es : List UserEvent) (o : Option Verdict) → first_of_checks (event_checks t e) ≡ o → t.held ≡ e ∷ es
         → decided o t es (event_outcome (record t { held = es }) e) ≡ Ok (u, acted) → Goal u acted
-    decides e es None held q =
+    decides e es None free held q =
         let after : PlainTerminal = record t { held = es } in
         let made : Made = event_outcome after e in
         let is = done-is made.0.sent made u acted q in
@@ -206,13 +224,13 @@ acts_keep old t u acted ks f sound act kept = go t.held refl act
         let touch : event_touch after e ≡ oldest_touch t = same-touch t es e ∙ ap (λ hs. option_and_then (event_touch t) (slice_get hs 0)) (sym held) in
         to_goal made.0 (Done made.1) is.0 is.1
         (subst (λ o. IsKept old (rasp_at made.0 f) (kept_at (kept_after ks o) f)) touch
-        (stay-of old (rasp_at made.0 f) _ _ (event_changes after e f) (event-keeps old after e ks f still kept)))
-    decides e es (Some Waits) held q = to_goal t Locked (sym (ap (left_by t) q)) (sym (ap acted-of q)) kept
-    decides e es (Some (Refuses r)) held q = to_goal (record t { held = es }) (Refused r) (sym (ap (left_by t) q)) (sym (ap acted-of q)) kept
+        (stay-of old (rasp_at made.0 f) _ _ (event_changes after e f) (event-keeps old after e ks f still (names-places t es e free) kept)))
+    decides e es (Some Waits) stands held q = to_goal t Locked (sym (ap (left_by t) q)) (sym (ap acted-of q)) kept
+    decides e es (Some (Refuses r)) stands held q = to_goal (record t { held = es }) (Refused r) (sym (ap (left_by t) q)) (sym (ap acted-of q)) kept
 
     go : (es : List UserEvent) → t.held ≡ es → act_on t es ≡ Ok (u, acted) → Goal u acted
     go [] held q = to_goal t Idle (sym (ap (left_by t) q)) (sym (ap acted-of q)) kept
-    go (e ∷ es) held q = decides e es (first_of_checks (event_checks t e)) held q
+    go (e ∷ es) held q = decides e es (first_of_checks (event_checks t e)) refl held q
 
 pub flushes_keep : FlushesKeep
 unfolding flush_of

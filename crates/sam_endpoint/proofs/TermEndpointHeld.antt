@@ -1,12 +1,14 @@
 -- Events leave the held ones only as they are done or refused, one at a time; frames and flushes leave them all.
-use Rattle.sam_endpoint.proofs.Common.{◌≡◌, refl, ap, ◌∙◌, ℕ, ◌+◌, Bool, List, [], ◌∷◌, length, Option, Some, None, Result, Ok, Err, if◌then◌else◌, arith, Tmesg, HFrame, PlainTerminal, Made, act_of, act_on, decided, if_countable, flush_of, flushed, take_of, event_outcome, frame_outcome, all_composed, composed, sends, sends_all, sends_if, requested, wanted, all_wanted, unchanged, made_by_type, made_by_cut, made_by_paste, made_by_snarf, made_by_view, made_by_load, took_bindname, took_data, took_grow, took_growdata, took_cut, took_unlockfile, took_close, took_exit, Verdict, Acted, Done, UserEvent, acted_in, term_in, IsDecided}
+use Rattle.sam_endpoint.proofs.Common.{◌≡◌, refl, ap, ◌∙◌, ℕ, ◌+◌, Bool, List, [], ◌∷◌, length, Option, Some, None, Result, Ok, Err, if◌then◌else◌, arith, Tmesg, HFrame, PlainTerminal, Made, act_of, act_on, decided, if_countable, flush_of, flushed, take_of, event_outcome, frame_outcome, all_composed, composed, sends, sends_all, sends_if, requested, wanted, all_wanted, unchanged, made_by_type, made_by_cut, made_by_paste, made_by_snarf, made_by_view, made_by_load, made_by_edit, replaced, edit_messages, took_bindname, took_data, took_grow, took_growdata, took_cut, took_unlockfile, took_close, took_exit, Verdict, Acted, Done, UserEvent, acted_in, term_in, IsDecided}
+use Rattle.std.specs.Prelude.{◌==◌, ◌&&◌}
+use Rattle.sam_runes.specs.Texts.{is_empty}
 use Rattle.sam_mesg.specs.declared.tmesg.Tmesg.TheVariants.{Tack}
 use Rattle.sam_mesg.specs.declared.hmesg.Hmesg.{Hmesg}
 use Rattle.sam_mesg.specs.declared.hmesg.Hmesg.TheVariants.{Hcheck, Hunlockfile, Hack}
 use Rattle.sam_term.specs.declared.fault.TermFault.{TermFault}
 use Rattle.sam_term.proofs.Edits.{held-composed, flushed-held}
 use Rattle.sam_term.specs.Editing.{shown_from}
-use Rattle.sam_term.specs.declared.event.UserEvent.TheVariants.{Load}
+use Rattle.sam_term.specs.declared.event.UserEvent.TheVariants.{Load, Edit}
 
 -- the events that are held after messages were composed
 abbrev held_in : Made → List UserEvent
@@ -49,8 +51,11 @@ leaves-plain : (t : PlainTerminal) (ms : List Tmesg) → Leaves t (sends t uncha
 leaves-plain t ms = record { held = sends-plain t ms }
 
 pub event_keeps : (t : PlainTerminal) (e : UserEvent) → held_in (event_outcome t e) ≡ t.held
-unfolding made_by_cut made_by_paste made_by_snarf made_by_view made_by_load
+unfolding made_by_cut made_by_paste made_by_snarf made_by_view made_by_load made_by_edit
 event_keeps t (Load f p n) = all-keeps (all_wanted (shown_from t f p n) f) (shown_from t f p n)
+event_keeps t (Edit f p q s) =
+    either-keeps (p == q && is_empty s) (t, []) (sends t (λ u. replaced u f p q s) (edit_messages f p q s)) t.held refl
+    (sends-keeps t (λ u. replaced u f p q s) (edit_messages f p q s) (λ u. refl))
 event_keeps t e = grind (arith, type-keeps, sends-plain, either-keeps, requested-keeps, flushed-held, leaves-plain)
 
 pub frame_keeps : (t : PlainTerminal) (m : Hmesg) → held_in (frame_outcome t m) ≡ t.held

@@ -10,7 +10,7 @@ use Rattle.sam_term.specs.Term.{PlainTerminal, act_of, flush_of, rasp_at, take_o
 use Rattle.sam_term.specs.declared.event.Acted.{Acted}
 use Rattle.sam_term.specs.declared.event.Acted.TheVariants.{Done}
 use Rattle.sam_term.specs.declared.event.UserEvent.{UserEvent}
-use Rattle.sam_term.specs.declared.event.UserEvent.TheVariants.{Cut, Paste, Typed}
+use Rattle.sam_term.specs.declared.event.UserEvent.TheVariants.{Cut, Edit, Paste, Typed}
 use Rattle.sam_term.specs.declared.fault.TermFault.{TermFault}
 use Rattle.sam_endpoint.specs.declared.changes.Change.{Change}
 use Rattle.sam_endpoint.specs.declared.changes.Kept.{Kept}
@@ -89,11 +89,12 @@ frame_touch t (Hnewname f) = whole_touch f
 frame_touch t (Hdelname f) = whole_touch f
 frame_touch t m = None
 
--- the dot gives way to what is typed, or to nothing
+-- the dot gives way to what is typed, or to nothing; the range of an edit to its text
 abbrev pub event_touch : PlainTerminal → UserEvent → Option Touch
 event_touch t (Typed f s) = let d = (window_at t f).dot in edit_touch f (length (rasp_at t f)) d.0 (d.1 - d.0) (length s)
 event_touch t (Cut f) = let d = (window_at t f).dot in edit_touch f (length (rasp_at t f)) d.0 (d.1 - d.0) 0
 event_touch t (Paste f) = let d = (window_at t f).dot in edit_touch f (length (rasp_at t f)) d.0 (d.1 - d.0) 0
+event_touch t (Edit f p q s) = edit_touch f (length (rasp_at t f)) p (q - p) (length s)
 event_touch t e = None
 
 -- what the oldest event touches where it acts

@@ -198,6 +198,10 @@ fn event_touch(term: &Terminal, event: &UserEvent) -> Option<Touch>
     match event {
         UserEvent::Typed(tag, text) => dot_touch(term, *tag, text.len()),
         UserEvent::Cut(tag) | UserEvent::Paste(tag) => dot_touch(term, *tag, 0),
+        UserEvent::Edit(tag, p, q, text) => {
+            let gone = q.saturating_sub(*p) as usize;
+            edit_touch(term, *tag, *p, gone, text.len())
+        }
         _ => None,
     }
 }

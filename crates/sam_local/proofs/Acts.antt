@@ -1,15 +1,14 @@
 -- An event that acts does where both sides come to what it does to the editor without a network.
-use Rattle.sam_crossing.proofs.Common.{◌≡◌, ℕ, ◌+◌, ◌≤◌, Bool, true, false, not, ◌==◌, ◌&&◌, if◌then◌else◌, List, [], ◌∷◌, ◌++◌, length, map, Option, Some, None, is_some, option_map, refl, sym, ap, ◌∙◌, subst, inl, inr, ◌⊎◌, ◌≢◌, true≢false, arith, and_parts, same_Some, nat_lt, nat_le, not-false, eqb-true, ltb-false, append_assoc, append-nil, max_runes, most_in_message, first_of_checks, file_at, Tmesg, Tversion, Tstartcmdfile, Tcheck, Torigin, Tstartfile, Tworkfile, Ttype, Tcut, Tpaste, Tsnarf, Tstartnewfile, Twrite, Tclose, Tlook, Tsearch, Tsend, Tdclick, Tstartsnarf, Tsetsnarf, Texit, Hmesg, PlainHost, Reply, answers, CommandLock, NoLock, Window, KnownFile, Unsent, is_command_line, UserEvent, PlainTerminal, Made, known_at, window_at, is_open, is_any_locked, put_window, has_empty_dot, cut_rasp, cuts_dot, moved_unsent, place_after_del, composed, flushed, unsent_message, sends, unchanged, requested, joins, types, event_checks, event_outcome, made_by_type, made_by_cut, made_by_paste, made_by_snarf, made_by_view, made_by_load, all_wanted, gaps_shown, requests_for, sends_all, all_composed, InOrder, AllComeToSync, IsHeldBack, views, view}
+use Rattle.sam_crossing.proofs.Common.{◌≡◌, ℕ, ◌+◌, ◌≤◌, Bool, true, false, not, ◌==◌, ◌&&◌, if◌then◌else◌, List, [], ◌∷◌, ◌++◌, length, map, Option, Some, None, is_some, option_map, refl, sym, ap, ◌∙◌, subst, inl, inr, ◌⊎◌, ◌≢◌, true≢false, arith, and_parts, same_Some, nat_lt, nat_le, not-false, eqb-true, ltb-false, append_assoc, append-nil, max_runes, most_in_message, first_of_checks, file_at, Tmesg, Tversion, Tstartcmdfile, Tcheck, Torigin, Tstartfile, Tworkfile, Ttype, Tcut, Tpaste, Tsnarf, Tstartnewfile, Twrite, Tclose, Tlook, Tsearch, Tsend, Tdclick, Tstartsnarf, Tsetsnarf, Texit, Hmesg, PlainHost, Reply, answers, CommandLock, NoLock, Window, KnownFile, Unsent, is_command_line, UserEvent, PlainTerminal, Made, known_at, window_at, is_open, is_any_locked, put_window, has_empty_dot, cut_rasp, cuts_dot, moved_unsent, place_after_del, composed, flushed, unsent_message, sends, unchanged, requested, joins, types, event_checks, event_outcome, made_by_type, made_by_cut, made_by_paste, made_by_snarf, made_by_view, made_by_load, made_by_edit, is_empty, all_wanted, gaps_shown, requests_for, sends_all, all_composed, InOrder, AllComeToSync, IsHeldBack, views, view}
 use Rattle.std.proofs.lemmas.List.{take-map, drop-map}
 use Rattle.sam_runes.proofs.CheckLaws.{if-same}
 use Rattle.sam_rasp.specs.Rasp.{hole_within, first_gaps}
-use Rattle.sam_term.specs.declared.event.UserEvent.TheVariants.{Typed, Select, Cut, Paste, Snarf, Look, Search, Send, Dclick, Scroll, View, Load, Open, Close, Write, Work, OpenCmd, New, Exit, Check, GetSnarf, SetSnarf, Version, Flush}
+use Rattle.sam_term.specs.declared.event.UserEvent.TheVariants.{Typed, Select, Cut, Paste, Snarf, Look, Search, Send, Dclick, Scroll, View, Load, Edit, Open, Close, Write, Work, OpenCmd, New, Exit, Check, GetSnarf, SetSnarf, Version, Flush}
 use Rattle.sam_term.specs.declared.event.Verdict.{Verdict}
 use Rattle.sam_term.specs.declared.event.Verdict.TheVariants.{Refuses}
 use Rattle.sam_term.specs.declared.fault.Refusal.{Refusal}
 use Rattle.sam_term.specs.Events.{about_dot}
-use Rattle.sam_term.specs.Editing.{cut_message}
-use Rattle.sam_term.specs.Term.{made_then, wanted, sends_if, view_end, stretches, front_of, most_requests}
+use Rattle.sam_term.specs.Term.{cut_message, made_then, wanted, sends_if, view_end, stretches, front_of, most_requests}
 use Rattle.sam_term.proofs.Edits.{unsent-all}
 use Rattle.sam_term.proofs.Loads.{stretches-none}
 use Rattle.sam_crossing.proofs.Changes.{type_change, change_by, changed, IsAllowed}
@@ -27,7 +26,7 @@ use Rattle.sam_local.proofs.Takes.{wanted-is, fits-flushed, synced-open, silent-
 use Rattle.sam_local.proofs.Gentle.{CleansGuarded, AreGentle, past-frames}
 use Rattle.sam_local.proofs.Uncounted.{rest, rested, answers-rested, answered-rested}
 use Rattle.sam_local.proofs.Joined.{joined-answers}
-use Rattle.sam_local.proofs.Events.{Turning, turn_of, altered_by, altered, seen-turns, altered-alike, opens-alike, opened-turned, event-alters, tail, told, sent-tail, cuts-tail, cuts-flush, types-apart, types-joined}
+use Rattle.sam_local.proofs.Events.{Turning, turn_of, altered_by, altered, seen-turns, altered-alike, opens-alike, opened-turned, event-alters, tail, told, sent-tail, edit-tail, edit_turn, cuts-tail, cuts-flush, types-apart, types-joined}
 use Rattle.sam_local.proofs.Checks.{any-stands, gentle-ahead, open-ahead, window-rest, passes-rest, stands-rest, term_rest}
 
 -- ## Nothing is asked for where all is loaded
@@ -81,7 +80,7 @@ then-tail t f next m e =
     ∙ append_assoc (unsent_message t.unsent) (cut_message f (window_at t f).dot) (m ∷ [])
 
 pub tail-apart : (t : PlainTerminal) (e : UserEvent) → IsApart t e → tail (event_outcome t e) ≡ unsent_message t.unsent ++ told t e
-unfolding made_by_type made_by_cut made_by_paste made_by_snarf made_by_view made_by_load all_wanted requested flushed
+unfolding made_by_type made_by_cut made_by_paste made_by_snarf made_by_view made_by_load made_by_edit all_wanted requested flushed
 tail-apart t (Typed f []) a = ap (λ (ms : List Tmesg). ms ++ unsent_message (cuts_dot t f).0.unsent) (append-nil (cuts_dot t f).1) ∙ cuts-tail t f
 tail-apart t (Typed f (c ∷ s)) a =
     let p = (window_at t f).dot.0 in
@@ -119,6 +118,7 @@ tail-apart t (View f a n) x = ap (λ (o : Option Tmesg). tail (sends_if o (put_w
 tail-apart t (Load f a n) x =
     ap (λ (xs : List (ℕ × ℕ)). tail (sends_all (requests_for f xs) (put_window t f (record (window_at t f) { view_start = a; view_length = n })))) x
     ∙ sym (append-nil (unsent_message t.unsent))
+tail-apart t (Edit f p q s) a = edit-tail t f p q s
 tail-apart t Flush a = ap (λ (o : Option Unsent). unsent_message t.unsent ++ unsent_message o) (unsent-flushed t)
 tail-apart t (SetSnarf s) a = sent-tail t (Tsetsnarf s)
 tail-apart t (Look f) a = sent-tail t (about_dot t.files f Tlook)
@@ -352,6 +352,11 @@ module _ (h : PlainHost) (t : PlainTerminal) (up : List Tmesg) (down : List Hmes
   gentle-turn (Paste f) p = gentle-ahead h t up down o cleans f (free_at t f p.free p.unlocked)
   gentle-turn (View f a n) p = gentle-ahead h t up down o cleans f (free_at t f p.free p.unlocked)
   gentle-turn (Load f a n) p = gentle-ahead h t up down o cleans f (free_at t f p.free p.unlocked)
+  gentle-turn (Edit f a b s) p = by (a == b && is_empty s)
+    where
+      by : (none : Bool) → IsGentleTurn (edit_turn none f a b s)
+      by true = tt
+      by false = gentle-ahead h t up down o cleans f (free_at t f p.free p.unlocked)
   gentle-turn e p = tt
 
   past-all : (u : Option Turning) → IsGentleTurn u → sight (all_taken (altered_by t u) (down ++ o.kept.frames)) ≡ sight (altered_by (term_ahead h t up down o) u)

@@ -1,7 +1,7 @@
 -- What stands against an event at the terminal stands against it ahead, and nothing else.
 use Rattle.sam_crossing.proofs.Common.{◌≡◌, ℕ, zero, suc, ◌+◌, ◌-◌, Bool, true, false, not, ◌||◌, ◌&&◌, if◌then◌else◌, List, [], ◌∷◌, ◌++◌, length, Option, Some, None, is_some, unwrap_or, refl, sym, ap, ◌∙◌, subst, inl, inr, ◌⊎◌, true≢false, arith, and_parts, same_Some, option_map, nat_lt, not-false, length-map, length_agrees, Checks, first_of_checks, Slots, slot, slot-map, PlainFiles, file_at, Tmesg, Hmesg, PlainHost, Window, KnownFile, UserEvent, PlainTerminal, known_at, window_at, is_known, is_open, is_any_locked, is_unknown, is_closed, is_file_locked, has_bad_place, makes_too_long, waits_for_all, is_bad_version, is_for_command_file, needs_open, event_checks, blank_known, blank_window, InOrder, Lens, Unknown, Known, Open, lens, IsSynced, file_in, view, at_file, max_runes}
 use Rattle.sam_runes.specs.Texts.{snarf_limit, utf8_length}
-use Rattle.sam_term.specs.declared.event.UserEvent.TheVariants.{Typed, Select, Dclick, View, Load, SetSnarf}
+use Rattle.sam_term.specs.declared.event.UserEvent.TheVariants.{Typed, Select, Dclick, View, Load, Edit, SetSnarf}
 use Rattle.sam_term.specs.declared.event.Verdict.{Verdict}
 use Rattle.sam_term.specs.declared.event.Verdict.TheVariants.{Waits, Refuses}
 use Rattle.sam_term.specs.declared.fault.Refusal.{Refusal}
@@ -26,7 +26,7 @@ slot-whole fs (s ∷ ss) f zero k e = let same : f ≡ k = omega (arith, e) in a
 slot-whole fs (s ∷ ss) f (suc g) k e = slot-whole fs ss (suc f) g k (omega (arith, e))
 
 module _ (h : PlainHost) (t : PlainTerminal) (f : ℕ) where
-  rest-known : known_at (at_rest h t).term f ≡ unwrap_or (option_map (whole_file (file_at h.files f).text) (slot t.files f)) blank_known
+  pub rest-known : known_at (at_rest h t).term f ≡ unwrap_or (option_map (whole_file (file_at h.files f).text) (slot t.files f)) blank_known
   rest-known = ap (λ (s : Option KnownFile). unwrap_or s blank_known) (slot-whole h.files t.files 0 f f (omega arith))
 
   pub rest-window : is_open t f ≡ true → window_at (at_rest h t).term f ≡ whole_window (file_at h.files f).text (window_at t f)
@@ -269,6 +269,7 @@ module _ (h : PlainHost) (t : PlainTerminal) (up : List Tmesg) (down : List Hmes
   same-place (Dclick f p) k = let x = k f refl refl in ap (λ (n : ℕ). nat_lt n p) (length-rest f x.0 x.1)
   same-place (View f p n) k = let x = k f refl refl in ap (λ (n : ℕ). nat_lt n p) (length-rest f x.0 x.1)
   same-place (Load f p n) k = let x = k f refl refl in ap (λ (n : ℕ). nat_lt n p) (length-rest f x.0 x.1)
+  same-place (Edit f p q s) k = let x = k f refl refl in ap (λ (n : ℕ). nat_lt q p || nat_lt n q) (length-rest f x.0 x.1)
   same-place e k = refl
 
   same-long : (e : UserEvent) → t.command_lock ≡ false → has_long_text term_rest e ≡ has_long_text t e
@@ -282,6 +283,7 @@ module _ (h : PlainHost) (t : PlainTerminal) (up : List Tmesg) (down : List Hmes
       let there = window-rest f x.0 x.1 in
       ap (λ (w : Window). nat_lt max_runes (length w.rasp - (w.dot.1 - w.dot.0) + length s)) there
       ∙ ap (λ (n : ℕ). nat_lt max_runes (n - (w.dot.1 - w.dot.0) + length s)) (sym (ap (λ (w : Window). length w.rasp) there) ∙ length-rest f x.0 x.1)
+  same-room (Edit f p q s) k = let x = k f refl refl in ap (λ (n : ℕ). nat_lt max_runes (n - (q - p) + length s)) (length-rest f x.0 x.1)
   same-room e k = refl
 
   unlocked-rest : (f : Option ℕ) → is_file_locked term_rest f ≡ false

@@ -35,7 +35,7 @@ dot-any k t f =
 pub file-other : (fs : PlainFiles) (f g : ℕ) (x : PlainFile) → (g == f) ≡ false → file_at (put_file fs f x) g ≡ file_at fs g
 file-other fs f g x e = ap (λ (s : Option PlainFile). unwrap_or s blank_file) (slot-put_other fs.slots f g x (λ q. true≢false (sym (eq-eqb g f (sym q)) ∙ e)))
 
-dot-other : (k : PlainHost) (t : PlainTerminal) (f g : ℕ) (x : Window → Bool) (y : Window → Window) → (g == f) ≡ false
+pub dot-other : (k : PlainHost) (t : PlainTerminal) (f g : ℕ) (x : Window → Bool) (y : Window → Window) → (g == f) ≡ false
     → dot_in (at_rest k (turned t f (turn x y))) g ≡ (window_at t g).dot
 dot-other k t f g x y e =
     dot-any k (turned t f (turn x y)) g
@@ -59,7 +59,7 @@ refused_does_nothing editor e why q = ap (λ (v : Option Verdict). carried_unles
 
 -- ## Typing
 
-type-plain : (h : PlainHost) (f p : ℕ) (s : List ℕ) → is_command_line f s ≡ false
+pub type-plain : (h : PlainHost) (f p : ℕ) (s : List ℕ) → is_command_line f s ≡ false
     → reply_to h (Ttype f p s) ≡ (with_file h f (typed_file f (file_at h.files f) p s), [])
 unfolding reply_type
 type-plain h f p s plain = rw plain refl

@@ -147,7 +147,7 @@ reached-stands editor r = subst Stands (sym r.is) (stands-on r.events (new_edito
 -- ## What an event does, by its messages
 
 -- the reply of a host that goes on, where it doesn't refuse
-replied-is : (h : PlainHost) (m : Tmesg) (r : Reply) → h.is_done ≡ false → reply_of h m ≡ Some r → r ≡ (counted (reply_to h m).0, (reply_to h m).1)
+pub replied-is : (h : PlainHost) (m : Tmesg) (r : Reply) → h.is_done ≡ false → reply_of h m ≡ Some r → r ≡ (counted (reply_to h m).0, (reply_to h m).1)
 replied-is h m r d e = grind arith
 
 module _ (h : PlainHost) (t : PlainTerminal) (o : InOrder (rest h) (at_rest h t).term [] []) where

@@ -1,9 +1,9 @@
 -- What an event changes at the terminal, and what it leaves for the host.
-use Rattle.sam_crossing.proofs.Common.{◌≡◌, ℕ, ◌+◌, ◌≤◌, Bool, true, false, not, ◌==◌, ◌||◌, if◌then◌else◌, List, [], ◌∷◌, ◌++◌, length, map, Option, Some, None, is_some, unwrap_or, refl, sym, ap, ◌∙◌, true≢false, arith, append_assoc, append-nil, not-false, eq-eqb, Tmesg, Tversion, Tstartcmdfile, Tcheck, Torigin, Tstartfile, Tworkfile, Ttype, Tcut, Tpaste, Tsnarf, Tstartnewfile, Twrite, Tclose, Tlook, Tsearch, Tsend, Tdclick, Tstartsnarf, Tsetsnarf, Texit, Lock, FileLock, lock_of, Window, KnownFile, Unsent, is_command_line, UserEvent, PlainTerminal, Made, known_at, window_at, is_open, put_known, put_window, window_after_ins, window_after_del, has_empty_dot, cut_rasp, cuts_dot, moved_unsent, flushed, unsent_message, sends, unchanged, requested, joins, joined, typed_rasp, types, event_outcome, made_by_type, made_by_cut, made_by_paste, made_by_snarf, made_by_view, made_by_load, all_wanted, gaps_shown, requests_for, sends_all, blank_window, place_after_del}
-use Rattle.sam_term.specs.declared.event.UserEvent.TheVariants.{Typed, Select, Cut, Paste, Snarf, Look, Search, Send, Dclick, Scroll, View, Load, Open, Close, Write, Work, OpenCmd, New, Exit, Check, GetSnarf, SetSnarf, Version, Flush}
+use Rattle.sam_crossing.proofs.Common.{◌≡◌, ℕ, ◌+◌, ◌≤◌, Bool, true, false, not, ◌==◌, ◌||◌, if◌then◌else◌, List, [], ◌∷◌, ◌++◌, length, map, Option, Some, None, is_some, unwrap_or, refl, sym, ap, ◌∙◌, true≢false, arith, append_assoc, append-nil, not-false, eq-eqb, Tmesg, Tversion, Tstartcmdfile, Tcheck, Torigin, Tstartfile, Tworkfile, Ttype, Tcut, Tpaste, Tsnarf, Tstartnewfile, Twrite, Tclose, Tlook, Tsearch, Tsend, Tdclick, Tstartsnarf, Tsetsnarf, Texit, Lock, FileLock, lock_of, Window, KnownFile, Unsent, is_command_line, UserEvent, PlainTerminal, Made, known_at, window_at, is_open, put_known, put_window, window_after_ins, window_after_del, has_empty_dot, cut_rasp, cuts_dot, moved_unsent, flushed, unsent_message, sends, unchanged, requested, joins, joined, typed_rasp, types, event_outcome, made_by_type, made_by_cut, made_by_paste, made_by_snarf, made_by_view, made_by_load, made_by_edit, edit_messages, typed_pieces, pieces, replaced, all_composed, is_empty, ◌&&◌, all_wanted, gaps_shown, requests_for, sends_all, blank_window, composed, place_after_del, place_after_ins}
+use Rattle.sam_term.specs.declared.event.UserEvent.TheVariants.{Typed, Select, Cut, Paste, Snarf, Look, Search, Send, Dclick, Scroll, View, Load, Edit, Open, Close, Write, Work, OpenCmd, New, Exit, Check, GetSnarf, SetSnarf, Version, Flush}
 use Rattle.sam_term.specs.Events.{about_dot, message_of}
-use Rattle.sam_term.specs.Editing.{cut_message}
-use Rattle.sam_term.specs.Term.{made_then, kept_unsent, wanted, sends_if}
+use Rattle.sam_term.specs.Term.{cut_message, made_then, kept_unsent, wanted, sends_if}
+use Rattle.sam_term.proofs.Edits.{unsent-all}
 use Rattle.sam_crossing.proofs.Passing.{Passed}
 use Rattle.sam_crossing.proofs.Views.{unsent-flushed, unsent-composed}
 use Rattle.sam_local.specs.Local.{whole_window}
@@ -34,6 +34,15 @@ typed_at p s w = record (window_after_ins w p (map Some s)) { dot = (p + length 
 abbrev pub typed_window : List ℕ → Window → Window
 typed_window s w = typed_at w.dot.0 s (cut_window w)
 
+-- a window in which s comes in the place of what stands from p to q
+abbrev pub replaced_window : ℕ → ℕ → List ℕ → Window → Window
+replaced_window p q s w = window_after_ins (window_after_del w p q) p (map Some s)
+
+-- an edit, where nothing goes and nothing comes or not
+abbrev pub edit_turn : Bool → ℕ → ℕ → ℕ → List ℕ → Option Turning
+edit_turn true f p q s = None
+edit_turn false f p q s = Some (record { file = f; mark = λ w. true; window = replaced_window p q s })
+
 abbrev pub turn_of : UserEvent → Option Turning
 turn_of (Typed f []) = Some (record { file = f; mark = is_cut; window = cut_window })
 turn_of (Typed f (c ∷ s)) = Some (record { file = f; mark = λ w. true; window = typed_window (c ∷ s) })
@@ -42,6 +51,7 @@ turn_of (Cut f) = Some (record { file = f; mark = is_cut; window = cut_window })
 turn_of (Paste f) = Some (record { file = f; mark = is_cut; window = cut_window })
 turn_of (View f p n) = Some (record { file = f; mark = λ w. false; window = λ w. record w { view_start = p; view_length = n } })
 turn_of (Load f p n) = Some (record { file = f; mark = λ w. false; window = λ w. record w { view_start = p; view_length = n } })
+turn_of (Edit f p q s) = edit_turn (p == q && is_empty s) f p q s
 turn_of _ = None
 
 abbrev pub altered_by : PlainTerminal → Option Turning → PlainTerminal
@@ -67,6 +77,10 @@ seen-cut w = by (w.dot.0 == w.dot.1)
 seen-typed : (s : List ℕ) → IsSeenWindow (typed_window s)
 seen-typed s w = ap (λ (x : Window). whole_window [] (typed_at w.dot.0 s x)) (seen-cut w)
 
+seen-edit : (none : Bool) (f p q : ℕ) (s : List ℕ) → IsSeenTurn (edit_turn none f p q s)
+seen-edit true f p q s = tt
+seen-edit false f p q s = ((λ w. refl), (λ w. refl))
+
 pub seen-turns : (e : UserEvent) → IsSeenTurn (turn_of e)
 seen-turns (Typed f []) = ((λ w. refl), seen-cut)
 seen-turns (Typed f (c ∷ s)) = ((λ w. refl), seen-typed (c ∷ s))
@@ -75,6 +89,7 @@ seen-turns (Cut f) = ((λ w. refl), seen-cut)
 seen-turns (Paste f) = ((λ w. refl), seen-cut)
 seen-turns (View f p n) = ((λ w. refl), (λ w. refl))
 seen-turns (Load f p n) = ((λ w. refl), (λ w. refl))
+seen-turns (Edit f p q s) = seen-edit (p == q && is_empty s) f p q s
 seen-turns _ = tt
 
 pub seen-turn : (x : Window → Bool) (y : Window → Window) → ((w : Window) → x (whole_window [] w) ≡ x w) → IsSeenWindow y → IsSeen (turn x y)
@@ -176,8 +191,40 @@ all-alters : (v : PlainTerminal) (f : ℕ) (xs : List (ℕ × ℕ)) → is_open 
 all-alters v f [] o = refl
 all-alters v f (x ∷ xs) o = sight-requests (flushed v).0 f (x ∷ xs) (opens-alike (flushed v).0 v f (sight-flushed v) ∙ o) ∙ sight-flushed v
 
+typed-composed : (t : PlainTerminal) (f p : ℕ) (s : List ℕ) → (f == 0) ≡ false → composed t (Ttype f p s) ≡ record t { sent = t.sent + 1 }
+typed-composed t f p s e = grind arith
+
+-- messages of an edit take no lock
+pieces-alter : (t : PlainTerminal) (f : ℕ) → (f == 0) ≡ false → (xs : List (ℕ × List ℕ)) → sight (all_composed t (typed_pieces f xs)) ≡ sight t
+pieces-alter t f e [] = refl
+pieces-alter t f e (x ∷ xs) = pieces-alter (composed t (Ttype f x.0 x.1)) f e xs ∙ ap sight (typed-composed t f x.0 x.1 e)
+
+edit-alters : (t : PlainTerminal) (f p q : ℕ) (s : List ℕ) → (f == 0) ≡ false → sight (all_composed t (edit_messages f p q s)) ≡ sight t
+edit-alters t f p q s e = by (p == q)
+  where
+    by : (none : Bool) → sight (all_composed t ((if none then [] else Tcut f p q ∷ []) ++ typed_pieces f (pieces (length s) p s))) ≡ sight t
+    by true = pieces-alter t f e (pieces (length s) p s)
+    by false = pieces-alter (composed t (Tcut f p q)) f e (pieces (length s) p s)
+
+replaced-alters : (t : PlainTerminal) (f p q : ℕ) (s : List ℕ) → sight (replaced (flushed t).0 f p q s) ≡ sight (turned t f (turn (λ w. true) (replaced_window p q s)))
+replaced-alters t f p q s =
+    ap sight (together (turned u f marked) f goes comes ∙ together u f marked (λ known. comes (goes known)))
+    ∙ turned-alike u t f (turn (λ w. true) (replaced_window p q s)) (seen-turn (λ w. true) (replaced_window p q s) (λ w. refl) (λ w. refl)) (sight-flushed t)
+  where
+    u : PlainTerminal
+    u = (flushed t).0
+
+    marked : KnownFile → KnownFile
+    marked known = record known { changed = true }
+
+    goes : KnownFile → KnownFile
+    goes = in_window (λ w. window_after_del w p q)
+
+    comes : KnownFile → KnownFile
+    comes = in_window (λ w. window_after_ins w p (map Some s))
+
 pub event-alters : (t : PlainTerminal) (e : UserEvent) → Passed t e → sight (event_outcome t e).0 ≡ sight (altered t e)
-unfolding made_by_type made_by_cut made_by_paste made_by_snarf made_by_view made_by_load all_wanted requested
+unfolding made_by_type made_by_cut made_by_paste made_by_snarf made_by_view made_by_load made_by_edit all_wanted requested
 event-alters t (Typed f []) p = cuts-alters t f (file-open t f p.opened)
 event-alters t (Typed f (c ∷ s)) p =
     let at = (window_at t f).dot.0 in
@@ -223,6 +270,11 @@ event-alters t (View f a n) p = by (wanted v f) refl
 event-alters t (Load f a n) p =
     let v = put_window t f (record (window_at t f) { view_start = a; view_length = n }) in
     all-alters v f (gaps_shown v f) (opened-put t f (record (window_at t f) { view_start = a; view_length = n }))
+event-alters t (Edit f p q s) pass = by (p == q && is_empty s)
+  where
+    by : (none : Bool) → sight (if none then (t, []) else sends t (λ u. replaced u f p q s) (edit_messages f p q s)).0 ≡ sight (altered_by t (edit_turn none f p q s))
+    by true = refl
+    by false = edit-alters (replaced (flushed t).0 f p q s) f p q s pass.other ∙ replaced-alters t f p q s
 event-alters t Flush p = sight-flushed t
 event-alters t (SetSnarf s) p = sent-alters t (Tsetsnarf s) tt
 event-alters t (Send f) p = sent-alters t (about_dot t.files f Tsend) tt
@@ -254,6 +306,7 @@ told t (Cut f) =
     let d = (window_at t f).dot in if has_empty_dot t f then [] else Tsnarf f d.0 d.1 ∷ Tcut f d.0 d.1 ∷ []
 told t (Paste f) = cut_message f (window_at t f).dot ++ Tpaste f (window_at t f).dot.0 ∷ []
 told t (Snarf f) = let d = (window_at t f).dot in if has_empty_dot t f then [] else Tsnarf f d.0 d.1 ∷ []
+told t (Edit f p q s) = edit_messages f p q s
 told t (SetSnarf s) = Tsetsnarf s ∷ []
 told t e = listed (message_of t.files e)
 
@@ -262,6 +315,34 @@ unfolding flushed
 sent-tail t m =
     ap (λ (o : Option Unsent). (unsent_message t.unsent ++ m ∷ []) ++ unsent_message o) (unsent-composed (flushed t).0 m ∙ unsent-flushed t)
     ∙ append-nil (unsent_message t.unsent ++ m ∷ [])
+
+-- where nothing goes and nothing comes nothing is told
+pub nothing-told : (f p q : ℕ) (s : List ℕ) → (p == q && is_empty s) ≡ true → edit_messages f p q s ≡ []
+unfolding pieces
+nothing-told f p q [] e = by (p == q) e
+  where
+    by : (b : Bool) → (b && true) ≡ true → (if b then [] else Tcut f p q ∷ []) ++ [] ≡ []
+    by true e = refl
+    by false e = absurd (true≢false (sym e))
+nothing-told f p q (c ∷ s) e = absurd (grind (arith, e))
+
+pub edit-tail : (t : PlainTerminal) (f p q : ℕ) (s : List ℕ)
+    → tail (if p == q && is_empty s then (t, []) else sends t (λ u. replaced u f p q s) (edit_messages f p q s)) ≡ unsent_message t.unsent ++ edit_messages f p q s
+unfolding flushed
+edit-tail t f p q s = by (p == q && is_empty s) refl
+  where
+    ms : List Tmesg
+    ms = edit_messages f p q s
+
+    n : ℕ
+    n = length (map {A = ℕ} {B = Option ℕ} Some s)
+
+    by : (none : Bool) → (p == q && is_empty s) ≡ none → tail (if none then (t, []) else sends t (λ u. replaced u f p q s) ms) ≡ unsent_message t.unsent ++ ms
+    by true e = sym (append-nil (unsent_message t.unsent)) ∙ ap (λ (l : List Tmesg). unsent_message t.unsent ++ l) (sym (nothing-told f p q s e))
+    by false e =
+        ap (λ (o : Option Unsent). (unsent_message t.unsent ++ ms) ++ unsent_message o)
+        (unsent-all (replaced (flushed t).0 f p q s) ms ∙ ap (λ (o : Option Unsent). moved_unsent f (place_after_ins p n) (moved_unsent f (place_after_del p q) o)) (unsent-flushed t))
+        ∙ append-nil (unsent_message t.unsent ++ ms)
 
 pub cuts-tail : (t : PlainTerminal) (f : ℕ) → tail (cuts_dot t f) ≡ unsent_message t.unsent ++ cut_message f (window_at t f).dot
 unfolding flushed

@@ -1,6 +1,6 @@
 -- An event that acts, a flush and a frame leave the events that are held.
-use Rattle.sam_crossing.proofs.Common.{◌≡◌, ℕ, Bool, true, false, List, [], ◌∷◌, Option, Some, None, if◌then◌else◌, refl, ◌∙◌, arith, Tmesg, Tversion, Tstartcmdfile, Tcheck, Torigin, Tstartfile, Tworkfile, Tcut, Tpaste, Tsnarf, Tstartnewfile, Twrite, Tclose, Tlook, Tsearch, Tsend, Tdclick, Tstartsnarf, Tsetsnarf, Tack, Texit, Hmesg, Hcheck, Hunlockfile, Hack, UserEvent, PlainTerminal, window_at, put_window, has_empty_dot, cut_rasp, cuts_dot, composed, all_composed, flushed, sends, unchanged, requested, joins, joined, typed_rasp, types, is_command_line, event_outcome, frame_outcome, made_by_type, made_by_cut, made_by_paste, made_by_snarf, made_by_view, made_by_load, all_wanted, sends_all, took_bindname, took_data, took_grow, took_growdata, took_cut, took_unlockfile, took_close, took_exit}
-use Rattle.sam_term.specs.declared.event.UserEvent.TheVariants.{Typed, Select, Cut, Paste, Snarf, Look, Search, Send, Dclick, Scroll, View, Load, Open, Close, Write, Work, OpenCmd, New, Exit, Check, GetSnarf, SetSnarf, Version, Flush}
+use Rattle.sam_crossing.proofs.Common.{◌≡◌, ℕ, Bool, true, false, List, [], ◌∷◌, Option, Some, None, if◌then◌else◌, refl, ◌∙◌, arith, Tmesg, Tversion, Tstartcmdfile, Tcheck, Torigin, Tstartfile, Tworkfile, Tcut, Tpaste, Tsnarf, Tstartnewfile, Twrite, Tclose, Tlook, Tsearch, Tsend, Tdclick, Tstartsnarf, Tsetsnarf, Tack, Texit, Hmesg, Hcheck, Hunlockfile, Hack, UserEvent, PlainTerminal, window_at, put_window, has_empty_dot, cut_rasp, cuts_dot, composed, all_composed, flushed, sends, unchanged, requested, joins, joined, typed_rasp, types, is_command_line, event_outcome, frame_outcome, made_by_type, made_by_cut, made_by_paste, made_by_snarf, made_by_view, made_by_load, made_by_edit, edit_messages, replaced, is_empty, ◌==◌, ◌&&◌, all_wanted, sends_all, took_bindname, took_data, took_grow, took_growdata, took_cut, took_unlockfile, took_close, took_exit}
+use Rattle.sam_term.specs.declared.event.UserEvent.TheVariants.{Typed, Select, Cut, Paste, Snarf, Look, Search, Send, Dclick, Scroll, View, Load, Edit, Open, Close, Write, Work, OpenCmd, New, Exit, Check, GetSnarf, SetSnarf, Version, Flush}
 use Rattle.sam_term.specs.Events.{about_dot}
 use Rattle.sam_term.specs.Term.{made_then, kept_unsent, wanted, sends_if}
 use Rattle.sam_term.proofs.Edits.{flushed-held}
@@ -42,7 +42,7 @@ all-held [] v = refl
 all-held (m ∷ ms) v = composed-all-held (flushed v).0 (m ∷ ms) ∙ flushed-held v
 
 pub event-held : (t : PlainTerminal) (e : UserEvent) → (event_outcome t e).0.held ≡ t.held
-unfolding made_by_type made_by_cut made_by_paste made_by_snarf made_by_view made_by_load requested
+unfolding made_by_type made_by_cut made_by_paste made_by_snarf made_by_view made_by_load made_by_edit requested
 event-held t (Typed f []) = cuts-held t f
 event-held t (Typed f (c ∷ s)) = types-held (cuts_dot t f).0 f (window_at t f).dot.0 (c ∷ s) ∙ cuts-held t f
 event-held t (Select f p q) = refl
@@ -60,6 +60,11 @@ event-held t (Snarf f) = by (has_empty_dot t f)
     by false = flushed-held t
 event-held t (View f a n) = let v = put_window t f (record (window_at t f) { view_start = a; view_length = n }) in asked-held (wanted v f) v
 event-held t (Load f a n) = let v = put_window t f (record (window_at t f) { view_start = a; view_length = n }) in all-held (all_wanted v f) v
+event-held t (Edit f p q s) = by (p == q && is_empty s)
+  where
+    by : (none : Bool) → (if none then (t, []) else sends t (λ u. replaced u f p q s) (edit_messages f p q s)).0.held ≡ t.held
+    by true = refl
+    by false = composed-all-held (replaced (flushed t).0 f p q s) (edit_messages f p q s) ∙ flushed-held t
 event-held t Flush = flushed-held t
 event-held t (SetSnarf s) = sent-held t (Tsetsnarf s)
 event-held t (Look f) = sent-held t (about_dot t.files f Tlook)

@@ -18,3 +18,4 @@ pub mod Editing
 pub mod Finding
 pub mod Lines
 pub mod Looking
+pub mod Replacing

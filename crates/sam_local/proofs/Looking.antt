@@ -16,7 +16,7 @@ use Rattle.sam_local.proofs.Editors.{after-none, after-one}
 use Rattle.sam_local.proofs.Editing.{reached, window-turned}
 
 -- where nothing stands against an event, or it changes nothing anyway
-keeps : (editor : PlainEditor) (e : UserEvent) → (May editor e → carried editor e ≡ editor) → carried editor e ≡ editor
+pub keeps : (editor : PlainEditor) (e : UserEvent) → (May editor e → carried editor e ≡ editor) → carried editor e ≡ editor
 keeps editor e same = by (first_of_checks (event_checks editor.term e)) refl
   where
     by : (v : Option Verdict) → first_of_checks (event_checks editor.term e) ≡ v → carried editor e ≡ editor
@@ -25,7 +25,7 @@ keeps editor e same = by (first_of_checks (event_checks editor.term e)) refl
 
 module _ (h : PlainHost) (t : PlainTerminal) (o : InOrder (rest h) (at_rest h t).term [] []) where
   -- a terminal of the same sight, at rest
-  back : (x : PlainTerminal) → sight x ≡ sight (at_rest h t).term → at_rest (rest h) x ≡ at_rest h t
+  pub back : (x : PlainTerminal) → sight x ≡ sight (at_rest h t).term → at_rest (rest h) x ≡ at_rest h t
   back x e = rests h x t (e ∙ sight-rest h t)
 
   unlocked : (f : ℕ) → is_open (at_rest h t).term f ≡ true → sight (effect (at_rest h t).term (Hunlockfile f)) ≡ sight (at_rest h t).term

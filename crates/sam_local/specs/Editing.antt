@@ -1,7 +1,8 @@
 -- What each event of the user does to the editor without a network, over its texts and dots.
-use Rattle.std.specs.Prelude.{◌≡◌, ℕ, ◌+◌, ◌-◌, ◌≤◌, true, false, ◌==◌, ◌||◌, if◌then◌else◌, nat_le, nat_lt, List, [], ◌++◌, take, drop, length, Some, None, unwrap_or}
+use Rattle.std.specs.Prelude.{◌≡◌, ℕ, ◌+◌, ◌-◌, ◌≤◌, true, false, ◌==◌, ◌&&◌, ◌||◌, if◌then◌else◌, nat_le, nat_lt, List, [], ◌++◌, take, drop, length, map, Some, None, unwrap_or}
 use Rattle.sam_runes.specs.Texts.{Range, part, is_empty, max_runes, all_tags, common_version, searched, word_at, as_lines, last_line, lines_before, prefix_in_bytes, snarf_limit}
 use Rattle.sam_runes.specs.Checks.{first_of_checks}
+use Rattle.sam_rasp.specs.Rasp.{place_after_ins, place_after_del}
 use Rattle.sam_text.specs.Files.{PlainFiles, file_at, has_file, put_file, cut_file, typed_file, committed, after_print, has_room, may_look, searched_for, new_file}
 use Rattle.sam_text.specs.Meaning.{meaning}
 use Rattle.sam_host.specs.Host.{PlainHost, line_to}
@@ -10,7 +11,8 @@ use Rattle.sam_term.specs.declared.event.UserEvent.{UserEvent}
 use Rattle.sam_term.specs.declared.event.UserEvent.TheVariants as event
 use Rattle.sam_term.specs.declared.event.Verdict.{Verdict}
 use Rattle.sam_term.specs.Events.{is_command_line}
-use Rattle.sam_term.specs.Term.{event_checks, window_at}
+use Rattle.sam_term.specs.declared.records.Window.{Window}
+use Rattle.sam_term.specs.Term.{event_checks, known_at, window_at}
 use Rattle.sam_local.specs.Local.{PlainEditor, carried, carried_all}
 
 -- ## What is looked at
@@ -39,6 +41,12 @@ May editor e = first_of_checks (event_checks editor.term e) ≡ None
 -- the text without what stands from p to q, with these runes in its place
 abbrev pub replaced : List ℕ → Range → List ℕ → List ℕ
 replaced t d s = take d.0 t ++ s ++ drop d.1 t
+
+-- the window that shows this text once s came in the place of what stood from p to q: its dot and its view move as other places do
+abbrev pub moved_window : ℕ → ℕ → List ℕ → List ℕ → Window → Window
+moved_window p q s text w =
+    let moved = λ (place : ℕ). place_after_ins p (length s) (place_after_del p q place) in
+    record w { rasp = map Some text; dot = (moved w.dot.0, moved w.dot.1); view_start = moved w.view_start }
 
 -- the texts and dots of all other files are as they were
 abbrev pub OthersStay : ℕ → PlainEditor → PlainEditor → Type 0
@@ -116,6 +124,23 @@ PasteOfNothingCuts =
     → (text_in (carried editor (event.Paste f)) f ≡ replaced (text_in editor f) d [])
     × (dot_in (carried editor (event.Paste f)) f ≡ (d.0, d.0))
     × (snarf_in (carried editor (event.Paste f)) ≡ s)
+
+-- a text of any length comes in the place of what stands from p to q. The file is dirty at the host, and changed at the terminal
+abbrev pub EditReplaces : Type 0
+EditReplaces =
+    (editor : PlainEditor) (f p q : ℕ) (s : List ℕ) → IsReached editor → May editor (event.Edit f p q s) → (p == q && is_empty s) ≡ false
+    → let after = carried editor (event.Edit f p q s) in
+    let text = replaced (text_in editor f) (p, q) s in
+    (file_at after.host.files f ≡ record (file_at editor.host.files f) { text = text; dot = (p + length s, p + length s); dirty = true })
+    × (known_at after.term f
+      ≡ record (known_at editor.term f) { changed = true; window = Some (moved_window p q s text (window_at editor.term f)) })
+    × OthersStay f editor after
+
+-- an edit by which nothing goes and nothing comes changes nothing at all
+abbrev pub EditOfNothingKeeps : Type 0
+EditOfNothingKeeps =
+    (editor : PlainEditor) (f p q : ℕ) (s : List ℕ) → IsReached editor → (p == q && is_empty s) ≡ true
+    → carried editor (event.Edit f p q s) ≡ editor
 
 -- the text of the dot is copied into the snarf buffer, and no text changes
 abbrev pub SnarfCopies : Type 0

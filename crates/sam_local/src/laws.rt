@@ -1,10 +1,10 @@
 //! The laws. Each is the clause of a function that does nothing: a caller who needs the law calls the function.
 //!
-//! First those of runs: every run of a world comes to what its events do to the editor without a network. Then what each of the 24 events
+//! First those of runs: every run of a world comes to what its events do to the editor without a network. Then what each of the 25 events
 //! of the user does to that editor, over its texts and dots alone. These hold of every editor to which events have led from files within
 //! the limits (`IsReached`), where nothing stands against the event (`May`); one that something stands against does nothing.
 ghost use Rattle.sam_local.specs.Worlds.{RunsAreAsIfLocal, RestIsAsIfLocal, OneRestForAll};
-ghost use Rattle.sam_local.specs.Editing.{RefusedDoesNothing, TypingReplaces, LineRuns, SelectSets, CutMoves, PasteReplaces, PasteOfNothingCuts, SnarfCopies, SetSnarfSets, GetSnarfFetches, EmptyDotKeeps, LookSelects, LookKeeps, SearchSelects, SendRuns, DclickSelects, ScrollShows, ViewShows, LoadShows, CheckAndFlushKeep, OpenOpens, CloseDrops, WriteSaves, WorkSets, CommandFileOpens, NewMakes, ExitEnds, VersionAgrees};
+ghost use Rattle.sam_local.specs.Editing.{RefusedDoesNothing, TypingReplaces, LineRuns, SelectSets, CutMoves, PasteReplaces, PasteOfNothingCuts, EditReplaces, EditOfNothingKeeps, SnarfCopies, SetSnarfSets, GetSnarfFetches, EmptyDotKeeps, LookSelects, LookKeeps, SearchSelects, SendRuns, DclickSelects, ScrollShows, ViewShows, LoadShows, CheckAndFlushKeep, OpenOpens, CloseDrops, WriteSaves, WorkSets, CommandFileOpens, NewMakes, ExitEnds, VersionAgrees};
 
 /// Says that wherever a run stands, what the world comes to with no new event of the user is what the events that have acted so far, in
 /// their order, do to the editor without a network. These are all events of the run but those that are still held; an event that is
@@ -51,6 +51,15 @@ pub fn cut_moves()
 pub fn paste_replaces()
     ensures text { PasteReplaces }
     ensures nothing { PasteOfNothingCuts }
+{}
+
+/// Says that an edit puts its text, of any length, in the place of its range: the file is dirty then, the window shows the new text with
+/// its dot and its view where they move as other places do, and other files are left alone. An edit by which nothing goes and nothing
+/// comes changes nothing.
+#[tactic(auto, using(crate::proofs::Replacing::edit_replaces, crate::proofs::Replacing::edit_of_nothing_keeps))]
+pub fn edit_replaces()
+    ensures text { EditReplaces }
+    ensures nothing { EditOfNothingKeeps }
 {}
 
 /// Says that a snarf copies the text of the dot into the snarf buffer.

@@ -1,6 +1,6 @@
 -- The oldest event that is held, and what nothing stands against.
-use Rattle.sam_term.proofs.Common.{◌≡◌, sym, ap, ◌∙◌, ℕ, zero, suc, Bool, true, false, List, [], ◌∷◌, drop, Some, None, Ok, arith, slice_get, Checks, first_of_checks, PlainTerminal, act_of, decided, event_checks, event_outcome, is_open, sends, unchanged, needs_open, file_of, lock_of, UserEvent, Select, Cut, Paste, Snarf, View, Load, Flush, done, not_done, deed_of, first_event, free_first, made_first, is_typing, is_snarfing, Idle, Verdict, is_lockable, Tmesg}
-use Rattle.sam_term.specs.declared.event.Deed.TheVariants.{Sends, Types, Selects, Cuts, Pastes, Snarfs, Views, Loads, SetsSnarf, Flushes}
+use Rattle.sam_term.proofs.Common.{◌≡◌, sym, ap, ◌∙◌, ℕ, zero, suc, Bool, true, false, List, [], ◌∷◌, drop, Some, None, Ok, arith, slice_get, Checks, first_of_checks, PlainTerminal, act_of, decided, event_checks, event_outcome, is_open, sends, unchanged, needs_open, file_of, lock_of, UserEvent, Select, Cut, Paste, Snarf, View, Load, Flush, done, not_done, deed_of, first_event, free_first, made_first, is_typing, is_snarfing, Idle, Verdict, is_lockable, Tmesg, is_editing}
+use Rattle.sam_term.specs.declared.event.Deed.TheVariants.{Sends, Types, Selects, Cuts, Pastes, Snarfs, Views, Loads, Edits, SetsSnarf, Flushes}
 
 -- the oldest event, as it is read
 pub first_is : (es : List UserEvent) (e : UserEvent) → slice_get es 0 ≡ Some e → first_event es ≡ e
@@ -86,6 +86,9 @@ views t e f p n u = grind arith
 pub loads : (t : PlainTerminal) (e : UserEvent) (f p n : ℕ) → Loads f p n ≡ deed_of t e → e ≡ Load f p n
 loads t e f p n u = grind arith
 
+pub edits : (t : PlainTerminal) (e : UserEvent) → Edits ≡ deed_of t e → is_editing e ≡ true
+edits t e u = grind arith
+
 pub sets_snarf : (t : PlainTerminal) (e : UserEvent) → SetsSnarf ≡ deed_of t e → is_snarfing e ≡ true
 sets_snarf t e u = grind arith
 
@@ -93,7 +96,7 @@ pub flushes : (t : PlainTerminal) (e : UserEvent) → Flushes ≡ deed_of t e �
 flushes t e u = grind arith
 
 -- the event by what it does, and what it sends
-pub ruleset deeds = (lockable_first, made_sends, types, selects, cuts, pastes, snarfs, views, loads, sets_snarf, flushes)
+pub ruleset deeds = (lockable_first, made_sends, types, selects, cuts, pastes, snarfs, views, loads, edits, sets_snarf, flushes)
 
 -- what is done with the oldest event
 pub ruleset acts_on_first = (free, first_is, act_none, act_refused, act_done)

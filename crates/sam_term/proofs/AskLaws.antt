@@ -1,5 +1,5 @@
 -- Without a Load a file awaits one request at most.
-use Rattle.sam_term.proofs.Common.{◌≡◌, refl, ℕ, ◌+◌, ◌≤◌, Bool, false, List, [], ◌∷◌, ◌++◌, Option, Some, None, if◌then◌else◌, arith, ◌==◌, eqb-true, slot-put_same, slot-put_other, UserEvent, Typed, Select, Cut, Paste, Snarf, View, Load, Flush, PlainTerminal, Made, window_at, put_window, flushed, made_then, sends, sends_if, unchanged, requested, wanted, shown_from, types, event_outcome, made_by_type, made_by_cut, made_by_paste, made_by_snarf, made_by_view, frame_outcome, took_unlockfile, Window, Tmesg, Tack, Hmesg, Hcheck, Hunlockfile, Hack}
+use Rattle.sam_term.proofs.Common.{◌≡◌, refl, ℕ, ◌+◌, ◌≤◌, Bool, false, List, [], ◌∷◌, ◌++◌, Option, Some, None, if◌then◌else◌, arith, ◌==◌, eqb-true, slot-put_same, slot-put_other, UserEvent, Typed, Select, Cut, Paste, Snarf, View, Load, Flush, PlainTerminal, Made, window_at, put_window, flushed, made_then, sends, sends_if, unchanged, requested, wanted, shown_from, types, event_outcome, made_by_type, made_by_cut, made_by_paste, made_by_snarf, made_by_view, frame_outcome, took_unlockfile, Window, Tmesg, Tack, Hmesg, Hcheck, Hunlockfile, Hack, made_by_edit, Edit, replaced, edit_messages, typed_pieces, pieces, is_empty, ◌&&◌, length}
 use Rattle.sam_term.specs.LockCounts.{asks_for, requests, awaited_left}
 use Rattle.sam_term.specs.Loading.{is_load, RuleWaits, EventsAskOnce, FramesAskOnce}
 use Rattle.sam_term.proofs.LockLaws.{event_awaits, frame_awaits}
@@ -31,6 +31,13 @@ quiet-none f t = record { none = refl }
 quiet-sends : (f : ℕ) (t : PlainTerminal) (change : PlainTerminal → PlainTerminal) (ms : List Tmesg) → requests f ms ≡ 0 → Quiet f (sends t change ms)
 quiet-sends f t change ms e = grind (arith, requests-append, (quiet-flushed f t))
 
+asks-pieces : (f g : ℕ) (xs : List (ℕ × List ℕ)) → requests f (typed_pieces g xs) ≡ 0
+asks-pieces f g [] = refl
+asks-pieces f g (x ∷ xs) = grind (arith, (asks-pieces f g xs))
+
+asks-edit : (f g p q : ℕ) (s : List ℕ) → requests f (edit_messages g p q s) ≡ 0
+asks-edit f g p q s = grind (arith, requests-append, (asks-pieces f g (pieces (length s) p s)))
+
 quiet-types : (f : ℕ) (t : PlainTerminal) (g p : ℕ) (s : List ℕ) → Quiet f (types t g p s)
 quiet-types f t g p s = search (arith, quiet-then, quiet-if, quiet-none, quiet-flushed)
 
@@ -57,7 +64,7 @@ awaited-put : (t : PlainTerminal) (g : ℕ) (w : Window) (f : ℕ) → w.awaited
 awaited-put t g w f e = grind (arith, slot-put_same, slot-put_other)
 
 once-event : (f : ℕ) (t : PlainTerminal) (e : UserEvent) → is_load e ≡ false → Once f t (event_outcome t e)
-unfolding made_by_type made_by_cut made_by_paste made_by_snarf made_by_view
+unfolding made_by_type made_by_cut made_by_paste made_by_snarf made_by_view made_by_edit
 once-event f t (Typed g s) l = once-quiet f t _ (search (arith, quiet-then, quiet-if, quiet-none, quiet-types, quiet-sends))
 once-event f t (Select g p q) l = once-quiet f t _ (quiet-none f _)
 once-event f t (Cut g) l = once-quiet f t _ (search (arith, quiet-if, quiet-none, quiet-sends))
@@ -65,6 +72,10 @@ once-event f t (Paste g) l = once-quiet f t _ (search (arith, quiet-then, quiet-
 once-event f t (Snarf g) l = once-quiet f t _ (search (arith, quiet-if, quiet-none, quiet-sends))
 once-event f t (View g p n) l = once-requested f t (shown_from t g p n) g (awaited-put t g _ f refl)
 once-event f t (Load g p n) l = grind arith
+once-event f t (Edit g p q s) l =
+    let change = λ (u : PlainTerminal). replaced u g p q s in
+    let quiet = quiet-sends f t change (edit_messages g p q s) (asks-edit f g p q s) in
+    once-quiet f t _ (quiet-if f (p == q && is_empty s) (t, []) (sends t change (edit_messages g p q s)) (quiet-none f t) quiet)
 once-event f t Flush l = once-quiet f t _ (quiet-flushed f t)
 once-event f t _ l = once-quiet f t _ (quiet-sends f t unchanged _ refl)
 

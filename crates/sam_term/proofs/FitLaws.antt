@@ -1,5 +1,5 @@
 -- What is composed fits in the terminal's version.
-use Rattle.sam_term.proofs.Common.{◌≡◌, ◌≤◌, ◌++◌, refl, sym, ap, ◌∙◌, subst, ℕ, Bool, true, false, List, [], ◌∷◌, length, length-append, Option, Some, None, if◌then◌else◌, arith, map, ltb-false, le-leb, is_empty, most_in_message, first_of_checks, place_after_ins, place_after_del, hole_within, Unsent, is_command_line, file_of, UserEvent, Typed, Select, Cut, Paste, Snarf, View, Load, SetSnarf, Flush, all_fit, IsSound, IsShort, PlainTerminal, Made, window_at, cut_rasp, all_composed, flushed, unsent_message, made_then, sends, sends_all, sends_if, unchanged, requested, request_for, requests_for, gaps_shown, all_wanted, shown_from, view_end, joins, joined, kept_unsent, typed_rasp, types, cuts_dot, event_outcome, made_by_type, made_by_cut, made_by_paste, made_by_snarf, made_by_view, made_by_load, frame_outcome, moved_unsent, event_checks, has_long_text, took_unlockfile, Tmesg, Tpaste, Hmesg}
+use Rattle.sam_term.proofs.Common.{◌≡◌, ◌≤◌, ◌++◌, refl, sym, ap, ◌∙◌, subst, ℕ, Bool, true, false, List, [], ◌∷◌, length, length-append, Option, Some, None, if◌then◌else◌, arith, map, ltb-false, le-leb, is_empty, most_in_message, first_of_checks, place_after_ins, place_after_del, hole_within, Unsent, is_command_line, file_of, UserEvent, Typed, Select, Cut, Paste, Snarf, View, Load, SetSnarf, Flush, all_fit, IsSound, IsShort, PlainTerminal, Made, window_at, cut_rasp, all_composed, flushed, unsent_message, made_then, sends, sends_all, sends_if, unchanged, requested, request_for, requests_for, gaps_shown, all_wanted, shown_from, view_end, joins, joined, kept_unsent, typed_rasp, types, cuts_dot, event_outcome, made_by_type, made_by_cut, made_by_paste, made_by_snarf, made_by_view, made_by_load, frame_outcome, moved_unsent, event_checks, has_long_text, took_unlockfile, Tmesg, Tpaste, Hmesg, made_by_edit, Edit, replaced, edit_messages, typed_pieces, pieces, cut_message, ◌&&◌, ◌==◌, ◌+◌, zero, suc, take, drop, length-take}
 use Rattle.sam_term.proofs.Acts.{none_holds, test_at}
 use Rattle.sam_term.proofs.Edits.{unsent-all, unsent-flushed}
 use Rattle.sam_term.proofs.Grows.{moved_short}
@@ -84,11 +84,26 @@ good-sends_all : (v : ℕ) (ms : List Tmesg) (t : PlainTerminal) → IsShort t.u
 good-sends_all v [] t k e = record { fits = refl; short = k }
 good-sends_all v (m ∷ ms) t k e = good-plain v t (m ∷ ms) k e
 
+fit-pieces : (v f n p : ℕ) (s : List ℕ) → all_fit v (typed_pieces f (pieces n p s)) ≡ true
+unfolding pieces
+fit-pieces v f zero p s = refl
+fit-pieces v f (suc n) p [] = refl
+fit-pieces v f (suc n) p (c ∷ s) = grind (arith, (fit-pieces v f n (p + most_in_message) (drop most_in_message (c ∷ s))), (length-take most_in_message (c ∷ s)), le-leb)
+
+fit-cut : (v f p q : ℕ) → all_fit v (cut_message f (p, q)) ≡ true
+fit-cut v f p q = grind arith
+
+fit-edit : (v f p q : ℕ) (s : List ℕ) → all_fit v (edit_messages f p q s) ≡ true
+fit-edit v f p q s = fit-append v (cut_message f (p, q)) (typed_pieces f (pieces (length s) p s)) (fit-cut v f p q) (fit-pieces v f (length s) p s)
+
+replaced-none : (f p q : ℕ) (s : List ℕ) (u : PlainTerminal) → u.unsent ≡ None → (replaced u f p q s).unsent ≡ None
+replaced-none f p q s u e = ap (λ o. moved_unsent f (place_after_ins p (length (map {A = ℕ} {B = Option ℕ} Some s))) o) (del-none f p q u e)
+
 few_typed : (t : PlainTerminal) (f : ℕ) (s : List ℕ) → has_long_text t (Typed f s) ≡ false → length s ≤ most_in_message
 few_typed t f s e = ltb-false most_in_message (length s) e
 
 good-event : (t : PlainTerminal) (e : UserEvent) → IsShort t.unsent → has_long_text t e ≡ false → Good t.version (event_outcome t e)
-unfolding made_by_type made_by_cut made_by_paste made_by_snarf made_by_view made_by_load
+unfolding made_by_type made_by_cut made_by_paste made_by_snarf made_by_view made_by_load made_by_edit
 good-event t (Typed f s) k h =
     let v = t.version in
     let cuts = good-cuts v t f k in
@@ -105,6 +120,10 @@ good-event t (Paste f) k h =
 good-event t (Snarf f) k h = grind (arith, (good-plain t.version t))
 good-event t (View f p n) k h = grind (arith, (good-requested t.version))
 good-event t (Load f p n) k h = good-sends_all t.version (all_wanted (shown_from t f p n) f) (shown_from t f p n) k (fit-wanted t.version (shown_from t f p n) f)
+good-event t (Edit f p q s) k h =
+    let change = λ (u : PlainTerminal). replaced u f p q s in
+    good-if t.version (p == q && is_empty s) (t, []) (sends t change (edit_messages f p q s)) (λ e. record { fits = refl; short = k })
+    (λ e. good-sends t.version t change (edit_messages f p q s) k (λ u n. replaced-none f p q s u n) (fit-edit t.version f p q s))
 good-event t (SetSnarf s) k h = search (arith, ltb-false, le-leb, good-plain)
 good-event t Flush k h = good-flushed t.version t k
 good-event t _ k h = good-plain t.version t _ k refl

@@ -1,5 +1,5 @@
 -- What events, flushes and frames do to the locks, and to the request that is awaited.
-use Rattle.sam_term.proofs.Common.{◌≡◌, refl, ap, ◌∙◌, subst, ℕ, ◌+◌, ◌-◌, Bool, true, false, List, [], ◌∷◌, ◌++◌, Option, Some, None, if◌then◌else◌, ◌==◌, arith, ◌||◌, unwrap_or, slot, free_slot, map_slots, slot-free_same, slot-free_other, slot-map, if-same, Lock, Window, KnownFile, lock_of, is_command_line, UserEvent, Typed, Select, Cut, Paste, Snarf, View, Load, Flush, PlainTerminal, Made, known_at, window_at, put_known, put_window, edited, cut_rasp, lock_taken, asked, composed, all_composed, flushed, unsent_message, made_then, sends, sends_all, sends_if, unchanged, requested, wanted, kept_unsent, typed_rasp, types, event_outcome, made_by_type, made_by_cut, made_by_paste, made_by_snarf, made_by_view, made_by_load, frame_outcome, freed_known, took_bindname, took_data, took_grow, took_growdata, took_cut, took_unlockfile, took_close, took_exit, blank_window, blank_known, Tmesg, Trequest, Tack, Hmesg, Hbindname, Hnewname, Hmovname, Hgrow, Hcheck, Hdata, Horigin, Hunlockfile, Hsetdot, Hgrowdata, Hmoveto, Hclean, Hdirty, Hcut, Hdelname, Hclose, Hack, Hexit}
+use Rattle.sam_term.proofs.Common.{◌≡◌, refl, ap, ◌∙◌, subst, ℕ, ◌+◌, ◌-◌, Bool, true, false, List, [], ◌∷◌, ◌++◌, Option, Some, None, if◌then◌else◌, ◌==◌, arith, ◌||◌, unwrap_or, slot, free_slot, map_slots, slot-free_same, slot-free_other, slot-map, if-same, Lock, Window, KnownFile, lock_of, is_command_line, UserEvent, Typed, Select, Cut, Paste, Snarf, View, Load, Flush, PlainTerminal, Made, known_at, window_at, put_known, put_window, edited, cut_rasp, lock_taken, asked, composed, all_composed, flushed, unsent_message, made_then, sends, sends_all, sends_if, unchanged, requested, wanted, kept_unsent, typed_rasp, types, event_outcome, made_by_type, made_by_cut, made_by_paste, made_by_snarf, made_by_view, made_by_load, frame_outcome, freed_known, took_bindname, took_data, took_grow, took_growdata, took_cut, took_unlockfile, took_close, took_exit, blank_window, blank_known, Tmesg, Trequest, Tack, Hmesg, Hbindname, Hnewname, Hmovname, Hgrow, Hcheck, Hdata, Horigin, Hunlockfile, Hsetdot, Hgrowdata, Hmoveto, Hclean, Hdirty, Hcut, Hdelname, Hclose, Hack, Hexit, made_by_edit, Edit, replaced}
 use Rattle.sam_term.specs.declared.lock.Lock.TheVariants.{NoLock, CommandLock, FileLock}
 use Rattle.sam_term.specs.LockCounts.{locks_taken, takes_command, requests, locks_left, command_left, awaited_left}
 use Rattle.sam_term.proofs.TermLaws.{known-put}
@@ -116,6 +116,9 @@ held-edited f t g = held-same t g (record (known_at t g) { changed = true }) f r
 held-cut : (f g p q : ℕ) (u : PlainTerminal) → held_of f (cut_rasp u g p q) ≡ held_of f u
 held-cut f g p q u = held-window (edited u g) g _ f refl refl ∙ held-edited f u g
 
+held-replaced : (f g p q : ℕ) (s : List ℕ) (u : PlainTerminal) → held_of f (replaced u g p q s) ≡ held_of f u
+held-replaced f g p q s u = held-window (cut_rasp u g p q) g _ f refl refl ∙ held-cut f g p q u
+
 holds-kept : (f : ℕ) (t : PlainTerminal) (g p : ℕ) (s : List ℕ) → Holds f (held_of f t) (kept_unsent t g p s)
 holds-kept f t g p s = search (arith, holds-if, holds-then, holds-flushed)
 
@@ -136,7 +139,7 @@ holds-sends_all f h [] t e = holds-none f h t e
 holds-sends_all f h (m ∷ ms) t e = subst (λ x. Holds f x (sends t unchanged (m ∷ ms))) e (holds-plain f t (m ∷ ms))
 
 holds-event : (f : ℕ) (t : PlainTerminal) (e : UserEvent) → Holds f (held_of f t) (event_outcome t e)
-unfolding made_by_type made_by_cut made_by_paste made_by_snarf made_by_view made_by_load
+unfolding made_by_type made_by_cut made_by_paste made_by_snarf made_by_view made_by_load made_by_edit
 holds-event f t (Typed g s) = search (arith, holds-then, holds-if, holds-types, holds-sends, held-cut)
 holds-event f t (Select g p q) = grind (arith, held-window)
 holds-event f t (Cut g) = search (arith, holds-if, holds-sends, held-cut)
@@ -144,6 +147,7 @@ holds-event f t (Paste g) = search (arith, holds-then, holds-plain, holds-if, ho
 holds-event f t (Snarf g) = grind (arith, (holds-plain f t))
 holds-event f t (View g p n) = grind (arith, holds-requested, held-window)
 holds-event f t (Load g p n) = grind (arith, holds-sends_all, held-window)
+holds-event f t (Edit g p q s) = search (arith, holds-if, holds-none, holds-sends, held-replaced)
 holds-event f t Flush = holds-flushed f t
 holds-event f t _ = holds-plain f t _
 

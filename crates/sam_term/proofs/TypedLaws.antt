@@ -5,7 +5,7 @@ drop-front : (a b : PartialText) (p : ℕ) → length a ≡ p → drop p (a ++ b
 drop-front a b p e = subst (λ n. drop n (a ++ b) ≡ b) e (drop-append_seam a b)
 
 -- what comes in where something was taken out
-over : (r : PartialText) (p q : ℕ) (cells : PartialText) → p ≤ length r → ins_cells (del_cells r p q) p cells ≡ take p r ++ cells ++ drop q r
+pub over : (r : PartialText) (p q : ℕ) (cells : PartialText) → p ≤ length r → ins_cells (del_cells r p q) p cells ≡ take p r ++ cells ++ drop q r
 over r p q cells l = grind (arith, length-take-le, drop-front, take-append_seam)
 
 -- a dot that is cut, and runes that come in its place

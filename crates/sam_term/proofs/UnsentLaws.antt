@@ -1,5 +1,5 @@
 -- What is composed first is the unsent runes.
-use Rattle.sam_term.proofs.Common.{common_steps, ◌≡◌, sym, ap, ◌∙◌, subst, ℕ, ◌≤◌, Bool, true, false, List, [], ◌∷◌, ◌++◌, length, map, Option, Some, None, if◌then◌else◌, arith, rules, append-nil, append_assoc, place_after_ins, Tmesg, Tsnarf, Tcut, Tack, Hcheck, Hunlockfile, Hack, is_command_line, UserEvent, Typed, Select, Cut, Paste, Snarf, View, Load, Flush, Unsent, PlainTerminal, Made, made_then, unsent_message, flushed, sends, sends_all, sends_if, unchanged, wanted, all_wanted, requested, joined, moved_unsent, kept_unsent, typed_rasp, types, cuts_dot, has_empty_dot, window_at, put_window, cut_rasp, made_by_type, made_by_cut, made_by_paste, made_by_snarf, made_by_view, made_by_load, event_outcome, took_unlockfile}
+use Rattle.sam_term.proofs.Common.{common_steps, ◌≡◌, sym, ap, ◌∙◌, subst, ℕ, ◌≤◌, Bool, true, false, List, [], ◌∷◌, ◌++◌, length, map, Option, Some, None, if◌then◌else◌, arith, rules, append-nil, append_assoc, place_after_ins, Tmesg, Tsnarf, Tcut, Tack, Hcheck, Hunlockfile, Hack, is_command_line, UserEvent, Typed, Select, Cut, Paste, Snarf, View, Load, Flush, Unsent, PlainTerminal, Made, made_then, unsent_message, flushed, sends, sends_all, sends_if, unchanged, wanted, all_wanted, requested, joined, moved_unsent, kept_unsent, typed_rasp, types, cuts_dot, has_empty_dot, window_at, put_window, cut_rasp, made_by_type, made_by_cut, made_by_paste, made_by_snarf, made_by_view, made_by_load, event_outcome, took_unlockfile, made_by_edit, edit_messages, replaced, is_empty, ◌==◌, ◌&&◌, Edit}
 use Rattle.sam_term.specs.Unsent.{SendsFirst, EventsSendFirst, FramesSendFirst}
 
 -- what is unsent goes on what was unsent before
@@ -134,6 +134,13 @@ loaded t f p n = go (all_wanted u f)
     go [] = same u.unsent
     go (m ∷ ms) = sending u unchanged (m ∷ ms)
 
+replace : (t : PlainTerminal) (f p q : ℕ) (s : List ℕ) → GoesMade t (made_by_edit t f p q s)
+unfolding made_by_edit
+replace t f p q s =
+    let change = λ (u : PlainTerminal). replaced u f p q s in
+    let messages = edit_messages f p q s in
+    chosen t (p == q && is_empty s) (t, []) (sends t change messages) (same t.unsent) (sending t change messages)
+
 event : (t : PlainTerminal) (e : UserEvent) → GoesMade t (event_outcome t e)
 event t (Typed f s) = typed t f s
 event t (Select f p q) = same t.unsent
@@ -142,6 +149,7 @@ event t (Paste f) = paste t f
 event t (Snarf f) = snarf t f
 event t (View f p n) = viewed t f p n
 event t (Load f p n) = loaded t f p n
+event t (Edit f p q s) = replace t f p q s
 event t Flush = flush t _
 event t _ = sending t unchanged _
 

@@ -4,10 +4,10 @@ use Rattle.sam_runes.specs.Checks.{first_of_checks}
 use Rattle.sam_term.specs.Term.{PlainTerminal, Made, event_outcome, event_checks}
 use Rattle.sam_term.specs.Events.{message_of}
 use Rattle.sam_term.specs.declared.event.UserEvent.{UserEvent}
-use Rattle.sam_term.specs.declared.event.UserEvent.TheVariants.{Typed, Select, Cut, Paste, Snarf, View, Load, SetSnarf, Flush}
+use Rattle.sam_term.specs.declared.event.UserEvent.TheVariants.{Typed, Select, Cut, Paste, Snarf, View, Load, Edit, SetSnarf, Flush}
 use Rattle.sam_term.specs.declared.event.Verdict.{Verdict}
 use Rattle.sam_term.specs.declared.event.Deed.{Deed}
-use Rattle.sam_term.specs.declared.event.Deed.TheVariants.{Sends, Types, Selects, Cuts, Pastes, Snarfs, Views, Loads, SetsSnarf, Flushes}
+use Rattle.sam_term.specs.declared.event.Deed.TheVariants.{Sends, Types, Selects, Cuts, Pastes, Snarfs, Views, Loads, Edits, SetsSnarf, Flushes}
 use Rattle.sam_mesg.specs.declared.tmesg.Tmesg.{Tmesg}
 
 -- the oldest event; where none is held, one that does nothing
@@ -27,6 +27,10 @@ abbrev pub is_typing : UserEvent → Bool
 is_typing (Typed f s) = true
 is_typing _ = false
 
+abbrev pub is_editing : UserEvent → Bool
+is_editing (Edit f p q s) = true
+is_editing _ = false
+
 abbrev pub is_snarfing : UserEvent → Bool
 is_snarfing (SetSnarf s) = true
 is_snarfing _ = false
@@ -41,6 +45,7 @@ deed_by None (Paste f) = Pastes f
 deed_by None (Snarf f) = Snarfs f
 deed_by None (View f p n) = Views f p n
 deed_by None (Load f p n) = Loads f p n
+deed_by None (Edit f p q s) = Edits
 deed_by None (SetSnarf s) = SetsSnarf
 deed_by None _ = Flushes
 

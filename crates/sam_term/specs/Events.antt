@@ -8,7 +8,7 @@ use Rattle.sam_mesg.specs.declared.tmesg.Tmesg.TheVariants.{Tversion, Tstartcmdf
 use Rattle.sam_mesg.specs.declared.hmesg.Hmesg.{Hmesg}
 use Rattle.sam_mesg.specs.declared.hmesg.Hmesg.TheVariants.{Hunlock, Hunlockfile, Hexit}
 use Rattle.sam_term.specs.declared.event.UserEvent.{UserEvent}
-use Rattle.sam_term.specs.declared.event.UserEvent.TheVariants.{Typed, Select, Cut, Paste, Snarf, Look, Search, Send, Dclick, Scroll, View, Load, Open, Close, Write, Work, OpenCmd, New, Exit, Check, GetSnarf, SetSnarf, Version, Flush}
+use Rattle.sam_term.specs.declared.event.UserEvent.TheVariants.{Typed, Select, Cut, Paste, Snarf, Look, Search, Send, Dclick, Scroll, View, Load, Edit, Open, Close, Write, Work, OpenCmd, New, Exit, Check, GetSnarf, SetSnarf, Version, Flush}
 use Rattle.sam_term.specs.declared.lock.Lock.{Lock}
 use Rattle.sam_term.specs.declared.lock.Lock.TheVariants.{NoLock, CommandLock, FileLock}
 use Rattle.sam_term.specs.declared.records.KnownFile.{KnownFile}
@@ -30,6 +30,7 @@ file_of (Dclick f p) = Some f
 file_of (Scroll f n) = Some f
 file_of (View f p n) = Some f
 file_of (Load f p n) = Some f
+file_of (Edit f p q s) = Some f
 file_of (Open f) = Some f
 file_of (Close f) = Some f
 file_of (Write f) = Some f
@@ -69,6 +70,7 @@ is_for_command_file (Open f) = f == 0
 is_for_command_file (Close f) = f == 0
 is_for_command_file (Write f) = f == 0
 is_for_command_file (Work f) = f == 0
+is_for_command_file (Edit f p q s) = f == 0
 is_for_command_file _ = false
 
 abbrev pub needs_open : UserEvent → Bool

@@ -1,5 +1,5 @@
 -- The plain terminal: what it composes for each event and frame, and its state after it.
-use Rattle.std.specs.Prelude.{ℕ, zero, suc, ◌+◌, ◌-◌, min, Bool, true, false, not, ◌&&◌, ◌||◌, if◌then◌else◌, ◌==◌, nat_lt, nat_le, List, [], ◌∷◌, ◌++◌, length, map, replicate, Option, Some, None, is_some, unwrap_or, option_map, Result, Ok, Err}
+use Rattle.std.specs.Prelude.{ℕ, zero, suc, ◌+◌, ◌-◌, min, Bool, true, false, not, ◌&&◌, ◌||◌, if◌then◌else◌, ◌==◌, nat_lt, nat_le, List, [], ◌∷◌, ◌++◌, length, map, replicate, take, drop, Option, Some, None, is_some, unwrap_or, option_map, Result, Ok, Err}
 use Rattle.sam_runes.specs.Texts.{Range, is_empty, max_runes, most_count, most_in_message, snarf_limit, agreed, utf8_length}
 use Rattle.sam_runes.specs.Slots.{Slots, slot, put_slot, free_slot, map_slots}
 use Rattle.sam_runes.specs.Checks.{Checks, first_of_checks}
@@ -9,7 +9,7 @@ use Rattle.sam_term.specs.declared.lock.Lock.TheVariants.{NoLock, CommandLock, F
 use Rattle.sam_term.specs.Windows.{blank_window, blank_known, known_in}
 use Rattle.sam_term.specs.Events.{file_of, is_command_line, waits_for_all, is_bad_version, is_for_command_file, needs_open, message_of, lock_of}
 use Rattle.sam_term.specs.declared.event.UserEvent.{UserEvent}
-use Rattle.sam_term.specs.declared.event.UserEvent.TheVariants.{Typed, Select, Cut, Paste, Snarf, Look, Search, Send, Dclick, Scroll, View, Load, Open, Close, Write, Work, OpenCmd, New, Exit, Check, GetSnarf, SetSnarf, Version, Flush}
+use Rattle.sam_term.specs.declared.event.UserEvent.TheVariants.{Typed, Select, Cut, Paste, Snarf, Look, Search, Send, Dclick, Scroll, View, Load, Edit, Open, Close, Write, Work, OpenCmd, New, Exit, Check, GetSnarf, SetSnarf, Version, Flush}
 use Rattle.sam_mesg.specs.declared.tmesg.Tmesg.{Tmesg}
 use Rattle.sam_mesg.specs.declared.tmesg.Tmesg.TheVariants.{Trequest, Ttype, Tcut, Tpaste, Tsnarf, Tsetsnarf, Tack}
 use Rattle.sam_mesg.specs.declared.hmesg.Hmesg.{Hmesg}
@@ -307,6 +307,33 @@ unfoldable pub made_by_load : PlainTerminal → ℕ → ℕ → ℕ → Made
 made_by_load t f p n =
     let u = put_window t f (record (window_at t f) { view_start = p; view_length = n }) in sends_all (all_wanted u f) u
 
+-- the cut of a range as messages: one, or none where the range is empty
+abbrev pub cut_message : ℕ → Range → List Tmesg
+cut_message f d = if d.0 == d.1 then [] else Tcut f d.0 d.1 ∷ []
+
+-- the text s in pieces that one message each can have, each with its place, the first at p; n pieces at most
+unfoldable pub pieces : ℕ → ℕ → List ℕ → List (ℕ × List ℕ)
+pieces zero p s = []
+pieces (suc n) p s =
+    if is_empty s then [] else (p, take most_in_message s) ∷ pieces n (p + most_in_message) (drop most_in_message s)
+
+-- a message for each of these pieces
+abbrev pub typed_pieces : ℕ → List (ℕ × List ℕ) → List Tmesg
+typed_pieces f = map (λ piece. Ttype f piece.0 piece.1)
+
+-- the messages by which s comes in the place of what stands from p to q: a text has no more pieces than runes
+abbrev pub edit_messages : ℕ → ℕ → ℕ → List ℕ → List Tmesg
+edit_messages f p q s = cut_message f (p, q) ++ typed_pieces f (pieces (length s) p s)
+
+-- what stands from p to q gives way to s, and the dot moves as other places do
+abbrev pub replaced : PlainTerminal → ℕ → ℕ → ℕ → List ℕ → PlainTerminal
+replaced t f p q s = ins_rasp (cut_rasp t f p q) f p (map Some s)
+
+-- nothing is done where nothing goes and nothing comes
+unfoldable pub made_by_edit : PlainTerminal → ℕ → ℕ → ℕ → List ℕ → Made
+made_by_edit t f p q s =
+    if p == q && is_empty s then (t, []) else sends t (λ u. replaced u f p q s) (edit_messages f p q s)
+
 -- what the event does, by that message
 abbrev pub outcome_by : Option Tmesg → PlainTerminal → UserEvent → Made
 outcome_by (Some m) t e = sends t unchanged (m ∷ [])
@@ -317,6 +344,7 @@ outcome_by None t (Paste f) = made_by_paste t f
 outcome_by None t (Snarf f) = made_by_snarf t f
 outcome_by None t (View f p n) = made_by_view t f p n
 outcome_by None t (Load f p n) = made_by_load t f p n
+outcome_by None t (Edit f p q s) = made_by_edit t f p q s
 outcome_by None t (SetSnarf s) = sends t unchanged (Tsetsnarf s ∷ [])
 outcome_by None t Flush = flushed t
 -- the others have a message
@@ -359,6 +387,7 @@ has_bad_place t (Select f p q) = nat_lt q p || nat_lt (length (window_at t f).ra
 has_bad_place t (Dclick f p) = nat_lt (length (window_at t f).rasp) p
 has_bad_place t (View f p n) = nat_lt (length (window_at t f).rasp) p
 has_bad_place t (Load f p n) = nat_lt (length (window_at t f).rasp) p
+has_bad_place t (Edit f p q s) = nat_lt q p || nat_lt (length (window_at t f).rasp) q
 has_bad_place t _ = false
 
 abbrev pub has_long_text : PlainTerminal → UserEvent → Bool
@@ -366,11 +395,12 @@ has_long_text t (Typed f s) = nat_lt most_in_message (length s)
 has_long_text t (SetSnarf s) = nat_lt (snarf_limit t.version) (utf8_length s)
 has_long_text t _ = false
 
--- what is left of the file's text beside the dot, with the new runes, would be too long
+-- what is left of the file's text beside the dot or the range, with the new runes, would be too long
 abbrev pub makes_too_long : PlainTerminal → UserEvent → Bool
 makes_too_long t (Typed f s) =
     let w = window_at t f in
     nat_lt max_runes (length w.rasp - (w.dot.1 - w.dot.0) + length s)
+makes_too_long t (Edit f p q s) = nat_lt max_runes (length (window_at t f).rasp - (q - p) + length s)
 makes_too_long t _ = false
 
 -- what stands against an event, in its order

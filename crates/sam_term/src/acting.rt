@@ -114,6 +114,7 @@ impl Terminal {
             UserEvent::Dclick(tag, p) => self.rasp_len(*tag) < *p as usize,
             UserEvent::View(tag, p, _) => self.rasp_len(*tag) < *p as usize,
             UserEvent::Load(tag, p, _) => self.rasp_len(*tag) < *p as usize,
+            UserEvent::Edit(tag, p, q, _) => q < p || self.rasp_len(*tag) < *q as usize,
             _ => false,
         }
     }
@@ -182,6 +183,7 @@ impl Terminal {
             UserEvent::Snarf(tag) => Deed::Snarfs(*tag),
             UserEvent::View(tag, p, n) => Deed::Views(*tag, *p, *n),
             UserEvent::Load(tag, p, n) => Deed::Loads(*tag, *p, *n),
+            UserEvent::Edit(_, _, _, _) => Deed::Edits,
             UserEvent::SetSnarf(_) => Deed::SetsSnarf,
             UserEvent::Flush => Deed::Flushes,
         }
@@ -217,6 +219,7 @@ impl Terminal {
             Deed::Snarfs(tag) => self.make_snarf(tag),
             Deed::Views(tag, p, n) => self.make_view(tag, p, n),
             Deed::Loads(tag, p, n) => self.make_load(tag, p, n),
+            Deed::Edits => self.make_edit(),
             Deed::SetsSnarf => self.make_set_snarf(),
             Deed::Flushes => self.make_flush(),
         }

@@ -8,14 +8,15 @@ ghost use Rattle.sam_term.specs.Effect.{shown, changed_by};
 ghost use Rattle.sam_term.specs.Fitting.{all_fit};
 ghost use Rattle.sam_term.specs.Loading.{EventsAskOnce, FramesAskOnce, LoadLaw, LoadsAll, LoadsFew, RuleWaits};
 ghost use Rattle.sam_term.specs.LockCounts.{locks_taken, takes_command, requests, locks_left, command_left, awaited_left};
+ghost use Rattle.sam_term.specs.Replacing.{EditComposes, EditLocksNothing, EditOfNothing, EditReplaces};
 ghost use Rattle.sam_term.specs.Sound.{IsSound};
 ghost use Rattle.sam_term.specs.Unsent.{EventsSendFirst, FramesSendFirst};
 ghost use Rattle.sam_term.specs.Term.{is_open, window_at, event_checks, flushed, frame_outcome, event_outcome, rasp_at, PlainTerminal};
 ghost use Rattle.sam_term.specs.Events.{file_of};
 ghost use Rattle.sam_term.specs.declared.event.UserEvent.{UserEvent};
 
-/// Says what an event does to the rasp of a file: `Typed`, `Cut` and `Paste` take the dot out, `Typed` puts its runes in that place, and
-/// no other event changes it.
+/// Says what an event does to the rasp of a file: `Typed`, `Cut` and `Paste` take the dot out, `Typed` puts its runes in that place, an
+/// `Edit` puts its runes in the place of its range, and no other event changes it.
 #[tactic(auto, using(crate::proofs::TermLaws::event_changes))]
 pub fn event_changes_text()
     ensures { (t : PlainTerminal) (e : UserEvent) (f : ℕ) → rasp_at (event_outcome t e).0 f ≡ changed_by t e f (rasp_at t f) }
@@ -105,6 +106,16 @@ pub fn load_asks_for_gaps()
     ensures gaps { LoadLaw }
     ensures few { LoadsFew }
     ensures all { LoadsAll }
+{}
+
+/// Says what an `Edit` does: its text comes in the place of its range, all of it; and what it composes after the unsent runes is the cut of
+/// the range, unless that is empty, and then messages whose runes one after another are the text. None of these takes a lock, as long as
+/// the file is not the command file. Where nothing goes and nothing comes, nothing is done.
+pub fn edit_replaces()
+    ensures text { EditReplaces }
+    ensures messages { EditComposes }
+    ensures locks { EditLocksNothing }
+    ensures nothing { EditOfNothing }
 {}
 
 /// Says that the request rule composes nothing while a request is awaited, and so that a file never awaits more than one, as long as no

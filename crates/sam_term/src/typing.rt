@@ -5,10 +5,10 @@ ghost use Rattle.std.specs.Prelude.{◌≡◌, ◌+◌, ◌-◌, ◌<◌, ◌≤
 ghost use Rattle.sam_rasp.specs.Rasp.{place_after_ins, place_after_del};
 ghost use Rattle.sam_runes.specs.Texts.{is_empty, max_runes, most_count, most_in_message};
 ghost use Rattle.sam_term.specs.Acting.{first_event, free_first, is_typing, made_first};
-ghost use Rattle.sam_term.specs.Editing.{typed_over, typed_runes, typed_file, joined_at, lengthened, shortened, cut_message, one_if, flushed_if};
+ghost use Rattle.sam_term.specs.Editing.{typed_over, typed_runes, typed_file, joined_at, lengthened, shortened, one_if, flushed_if};
 ghost use Rattle.sam_term.specs.Events.{is_command_line};
 ghost use Rattle.sam_term.specs.Taking.{IsAnswer, done};
-ghost use Rattle.sam_term.specs.Term.{is_open, window_at, put_window, all_composed, unsent_message, joins};
+ghost use Rattle.sam_term.specs.Term.{is_open, window_at, put_window, all_composed, cut_message, unsent_message, joins};
 
 use crate::event::{Acted, UserEvent};
 use crate::fault::TermFault;
@@ -20,7 +20,7 @@ use sam_runes::{MOST_IN_MESSAGE, Runes};
 use std::alloc::AllocError;
 
 /// Returns where a place goes as `n` runes come in the place of what stands from `p` to `q`.
-fn after_typing(p: u32, q: u32, n: u32, place: u32) -> u32
+pub fn after_typing(p: u32, q: u32, n: u32, place: u32) -> u32
     requires ordered { p ≤ q }
     requires fits { place + n < 2 ^ 32 }
     ensures { result ≡ place_after_ins p n (place_after_del p q place) }
@@ -160,7 +160,7 @@ fn shorten(unsent: &mut Option<Unsent>, n: usize)
 }
 
 /// Returns how many messages the cut of a dot makes: 1, or 0 if it is empty.
-fn cut_count(dot: (u32, u32)) -> usize
+pub fn cut_count(dot: (u32, u32)) -> usize
     ensures { result ≡ one_if (not (dot.0 == dot.1)) }
 {
     if dot.0 == dot.1 { 0 } else { 1 }
@@ -329,7 +329,7 @@ impl Terminal {
     }
 
     /// Composes runes that `type_first` handed over as they were unsent, if there were any.
-    fn compose_runes(&mut self, before: Option<Unsent>, out: &mut Outbox)
+    pub(crate) fn compose_runes(&mut self, before: Option<Unsent>, out: &mut Outbox)
         requires counts { self.old.sent + length (unsent_message before) ≤ most_count }
         requires room { length (unsent_message before) ≤ out.old.room }
         ensures composed { self.new ≡ all_composed self.old (unsent_message before) }
@@ -342,7 +342,7 @@ impl Terminal {
     }
 
     /// Composes the cut of a dot, if it is not empty. The rasp was cut before.
-    fn compose_cut(&mut self, tag: u16, dot: (u32, u32), out: &mut Outbox)
+    pub(crate) fn compose_cut(&mut self, tag: u16, dot: (u32, u32), out: &mut Outbox)
         requires counts { self.old.sent + one_if (not (dot.0 == dot.1)) ≤ most_count }
         requires room { one_if (not (dot.0 == dot.1)) ≤ out.old.room }
         ensures composed { self.new ≡ all_composed self.old (cut_message tag dot) }

@@ -1,0 +1,45 @@
+-- What an Edit does, in the words of a text.
+use Rattle.std.specs.Prelude.{◌≡◌, ℕ, ◌+◌, ◌≤◌, ◌<◌, Bool, true, false, ◌&&◌, ◌==◌, List, [], ◌∷◌, ◌++◌, length, map, take, drop, Some, ⊤}
+use Rattle.sam_runes.specs.Texts.{is_empty, most_in_message}
+use Rattle.sam_mesg.specs.declared.tmesg.Tmesg.{Tmesg}
+use Rattle.sam_mesg.specs.declared.tmesg.Tmesg.TheVariants.{Ttype}
+use Rattle.sam_term.specs.LockCounts.{locks_taken, takes_command}
+use Rattle.sam_term.specs.Term.{PlainTerminal, cut_message, edit_messages, event_outcome, rasp_at, unsent_message}
+use Rattle.sam_term.specs.declared.event.UserEvent.{UserEvent}
+use Rattle.sam_term.specs.declared.event.UserEvent.TheVariants.{Edit}
+
+-- the messages type into f from p on: each has a rune at least and no more than a message can have, and begins where the one before it
+-- ends
+abbrev pub TypeOn : ℕ → ℕ → List Tmesg → Type 0
+TypeOn f p [] = ⊤
+TypeOn f p (Ttype g a s ∷ ms) = (g ≡ f) × (a ≡ p) × (0 < length s) × (length s ≤ most_in_message) × TypeOn f (p + length s) ms
+TypeOn f p (m ∷ ms) = ⊥
+
+-- the runes that messages type, one message after another
+abbrev pub all_typed : List Tmesg → List ℕ
+all_typed [] = []
+all_typed (Ttype f p s ∷ ms) = s ++ all_typed ms
+all_typed (m ∷ ms) = all_typed ms
+
+-- an Edit composes the unsent runes, the cut of its range, and messages that type its text there
+abbrev pub EditComposes : Type 0
+EditComposes =
+    (t : PlainTerminal) (f p q : ℕ) (s : List ℕ) → (p == q && is_empty s) ≡ false
+    → (types : List Tmesg) × ((event_outcome t (Edit f p q s)).1 ≡ unsent_message t.unsent ++ (cut_message f (p, q) ++ types))
+    × TypeOn f p types × (all_typed types ≡ s)
+
+-- where nothing goes and nothing comes it does nothing
+abbrev pub EditOfNothing : Type 0
+EditOfNothing = (t : PlainTerminal) (f p : ℕ) → event_outcome t (Edit f p p []) ≡ (t, [])
+
+-- its text then stands in the place of its range
+abbrev pub EditReplaces : Type 0
+EditReplaces =
+    (t : PlainTerminal) (f p q : ℕ) (s : List ℕ) → p ≤ q → q ≤ length (rasp_at t f)
+    → rasp_at (event_outcome t (Edit f p q s)).0 f ≡ take p (rasp_at t f) ++ map Some s ++ drop q (rasp_at t f)
+
+-- its own messages take no lock
+abbrev pub EditLocksNothing : Type 0
+EditLocksNothing =
+    (f p q : ℕ) (s : List ℕ) → (f == 0) ≡ false
+    → (takes_command (edit_messages f p q s) ≡ false) × ((g : ℕ) → locks_taken g (edit_messages f p q s) ≡ 0)
