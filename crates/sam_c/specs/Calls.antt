@@ -61,4 +61,5 @@ WritesCells (Some cells) place status before after old_count new_count = (status
 
 abbrev pub ReportsCells : {E : Type 0} → Option E → ℕ → List ℕ → List ℕ → ℕ → ℕ → ℕ → (E → Option (List (Option ℕ))) → Type 0
 ReportsCells None status before after old_count new_count place read = (status ≡ no_handle) × (after ≡ before) × (new_count ≡ old_count)
-ReportsCells (Some e) status before after old_count new_count place read = WritesCells (read e) place status before after old_count new_count
+ReportsCells (Some e) status before after old_count new_count place read =
+    WritesCells (read e) place status before after old_count new_count

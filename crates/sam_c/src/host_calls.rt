@@ -1,5 +1,5 @@
-//! What C calls of a host: include/sulgrevad.h says of each call what it does. A call returns a number of `sam_status`; after `SAM_NO_HANDLE`,
-//! `SAM_NONE` and `SAM_NO_MEMORY` what its other arguments lead to is as it was.
+//! What C calls of a host: include/sulgrevad.h says of each call what it does. A call returns a number of `sam_status`; after
+//! `SAM_NO_HANDLE`, `SAM_NONE` and `SAM_NO_MEMORY` what its other arguments lead to is as it was.
 
 ghost use Rattle.std.specs.Prelude.{◌≡◌, length};
 ghost use Rattle.sam_c.specs.Calls.{Reports};

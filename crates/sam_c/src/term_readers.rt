@@ -279,7 +279,8 @@ pub extern "C" fn sam_term_view_of(
     end: &mut u32,
     alloc: Global,
 ) -> u32
-    ensures told { ReportsSome term.old.held.end result (start.old, end.old) (start.new, end.new) (λ e. option_map shown_of (open_of e tag)) }
+    ensures told { ReportsSome term.old.held.end result (start.old, end.old) (start.new, end.new)
+        (λ e. option_map shown_of (open_of e tag)) }
     ensures kept { term.new.held.end ≡ term.old.held.end }
 {
     let Some(held) = term.take(alloc) else {

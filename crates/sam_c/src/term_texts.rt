@@ -1,5 +1,5 @@
-//! What C reads of the text of an open file, in runes, bytes and lines: include/sulgrevad.h says of each call what it hands out. None of them
-//! changes the terminal. Each returns `SAM_NO_HANDLE` if the handle is empty, and then `SAM_NONE` if the file is not open; after these
+//! What C reads of the text of an open file, in runes, bytes and lines: include/sulgrevad.h says of each call what it hands out. None of
+//! them changes the terminal. Each returns `SAM_NO_HANDLE` if the handle is empty, and then `SAM_NONE` if the file is not open; after these
 //! what its other arguments lead to is as it was. Places count runes from the beginning of the text.
 
 ghost use Rattle.std.specs.Prelude.{◌≡◌, drop, option_and_then, option_map};
@@ -12,8 +12,8 @@ use crate::measures::{line_after, place_after, size_of_range, tell_front};
 use crate::status::{NO_HANDLE, NONE, OK};
 use std::alloc::Global;
 
-/// Puts the text of an open file from a place on, up to the first gap, into the buffer in UTF-8, as many whole runes as have room. Hands out
-/// how many bytes and how many runes.
+/// Puts the text of an open file from a place on, up to the first gap, into the buffer in UTF-8, as many whole runes as have room. Hands
+/// out how many bytes and how many runes.
 #[unsafe(no_mangle)]
 pub extern "C" fn sam_term_text(
     term: &mut SamTerm,
@@ -79,7 +79,8 @@ pub extern "C" fn sam_term_place(
     place: &mut u32,
     alloc: Global,
 ) -> u32
-    ensures told { ReportsSome term.old.held.end result place.old place.new (λ e. option_map (λ text. place_after text start bytes) (rasp_of e tag)) }
+    ensures told { ReportsSome term.old.held.end result place.old place.new
+        (λ e. option_map (λ text. place_after text start bytes) (rasp_of e tag)) }
     ensures kept { term.new.held.end ≡ term.old.held.end }
 {
     with_end!(term alloc end {
@@ -104,7 +105,8 @@ pub extern "C" fn sam_term_line(
     place: &mut u32,
     alloc: Global,
 ) -> u32
-    ensures told { ReportsSome term.old.held.end result place.old place.new (λ e. option_and_then (λ text. line_after text start lines) (rasp_of e tag)) }
+    ensures told { ReportsSome term.old.held.end result place.old place.new
+        (λ e. option_and_then (λ text. line_after text start lines) (rasp_of e tag)) }
     ensures kept { term.new.held.end ≡ term.old.held.end }
 {
     let Some(end) = term.take(alloc) else {

@@ -5,7 +5,8 @@ ghost use Rattle.std.specs.Prelude.{◌≡◌, IfOk};
 use sam_term::event::UserEvent;
 use std::alloc::{AllocError, Global};
 
-/// What happens next in a world. Each event is one step, and a run of a world is a list of them. `World::step` of sam_world makes one happen.
+/// What happens next in a world. Each event is one step, and a run of a world is a list of them. `World::step` of sam_world makes one
+/// happen.
 #[derive(Drop)]
 pub enum Event {
     /// The user does something: the terminal holds this after the events that it holds already, and does nothing else yet.

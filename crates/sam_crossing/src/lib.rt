@@ -1,4 +1,5 @@
-//! Why no edit is lost where messages and frames cross. This crate computes nothing: it is proofs, from which `sam_world` makes its laws.
+//! Why no edit is lost where messages and frames cross. This crate computes nothing: it has the events of a world
+//! ([`event`]), the definition of a world, and the proofs from which `sam_world`, `sam_local` and `sam_rest` make their laws.
 //! docs/DESIGN.md says the same in prose.
 //!
 //! What they show: take any state that a run reaches, and let both sides handle what is under way and the unsent runes, with no new event
@@ -30,6 +31,8 @@
 //! 7. proofs/Starting, Passing, Views, Dots, Sending, Joins, Typing, Acting, Receiving: the first state is in order, and each event of
 //!    the user (`event_goes`) and each frame (`received`) keeps it so.
 //! 8. proofs/Ordered: the host's step (`host_goes`), and what follows. specs/StreamVersions, proofs/Streaming: both sides have one version.
+//! 9. specs/World: both sides with all that is under way, what an event makes of it (`step_of`), and a run (`run_of`). specs/RunOrder,
+//!    proofs/OrderLaws, RunLaws: the laws of every step and run.
 #![tactic(auto)]
 
 pub mod event;

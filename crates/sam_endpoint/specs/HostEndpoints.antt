@@ -103,8 +103,8 @@ FeedsIdle e piece result g =
     ⊎ ((result ≡ Err fault.CountFull) × (2 ^ 64 ≤ e.framer.offset + length e.framer.bytes + length piece) × (g ≡ e)))
 
 -- what it does with the piece after it went on with what waited
-abbrev pub FeedsAfter : Result (Unit {0}) (EndpointFault HostStop) → PlainHostEndpoint → List ℕ → Result (Unit {0}) (EndpointFault HostStop) → PlainHostEndpoint
-    → Type 0
+abbrev pub FeedsAfter : Result (Unit {0}) (EndpointFault HostStop) → PlainHostEndpoint → List ℕ
+    → Result (Unit {0}) (EndpointFault HostStop) → PlainHostEndpoint → Type 0
 FeedsAfter (Ok done) e piece result g = FeedsIdle e piece result g
 FeedsAfter (Err fault.Unfinished) e piece result g = (result ≡ Err fault.OutOfMemory) × (g ≡ e)
 FeedsAfter (Err (fault.Stopped why)) e piece result g = (result ≡ Err (fault.Stopped why)) × (g ≡ e)

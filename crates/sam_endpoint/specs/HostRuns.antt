@@ -60,7 +60,8 @@ RunsServe =
     (h : PlainHost) (calls : List Call) (g : PlainHostEndpoint) → Runs (begun_with h) calls g
     → HasServed h (flat_map came_in calls) (flat_map went_out calls) g
 
--- two ends to which the same stream came, in whatever pieces and however often they were out of memory, have the same host and the same bytes
+-- two ends to which the same stream came, in whatever pieces and however often they were out of memory, have the same host and
+-- the same bytes
 abbrev pub OneOutcome : Type 0
 OneOutcome =
     (h : PlainHost) (stream a b : List ℕ) (e g : PlainHostEndpoint) → HasServed h stream a e → HasServed h stream b g → IsIdle e → IsIdle g

@@ -127,7 +127,8 @@ pub record Moves (e : PlainTermEndpoint) (frames : List HFrame) (acts : List Act
   pub receives : Receives e.term frames composed middle
   pub acted : Acts middle acts g.term
   pub waiting : e.waiting ≡ frames ++ g.waiting
-  pub bytes : g.pending_bytes ++ stream_of terminal g.unwritten ≡ e.pending_bytes ++ stream_of terminal (e.unwritten ++ composed ++ composed_by acts)
+  pub bytes : g.pending_bytes ++ stream_of terminal g.unwritten
+    ≡ e.pending_bytes ++ stream_of terminal (e.unwritten ++ composed ++ composed_by acts)
   pub refusals : g.refusals ≡ e.refusals ++ refusals_from (oldest e) acts
   pub seen : g.seen ≡ last_stamp e.seen frames
   pub kept : g.kept ≡ kept_acted middle acts (kept_received e.term frames e.kept)
@@ -163,7 +164,8 @@ GoesOn e (Err fault.CountFull) g = ⊥
 
 -- a call to an end that has stopped says why again and leaves it as it is; else the end first goes on with what waits, and then does
 -- what the call brought
-abbrev pub Calls : PlainTermEndpoint → Result (Unit {0}) (EndpointFault TermStop) → PlainTermEndpoint → (PlainTermEndpoint → Type 0) → Type 0
+abbrev pub Calls : PlainTermEndpoint → Result (Unit {0}) (EndpointFault TermStop) → PlainTermEndpoint → (PlainTermEndpoint → Type 0)
+    → Type 0
 Calls e result g Brings =
     ((why : TermStop) × (e.stop ≡ Some why) × (result ≡ Err (fault.Stopped why)) × (g ≡ e))
     ⊎ ((e.stop ≡ None) × (middle : PlainTermEndpoint) × (first : Result (Unit {0}) (EndpointFault TermStop))

@@ -68,7 +68,8 @@ Runs after fs line = let o = meaning fs line in (after.files ≡ after_print (co
 -- an event that something stands against changes nothing
 abbrev pub RefusedDoesNothing : Type 0
 RefusedDoesNothing =
-    (editor : PlainEditor) (e : UserEvent) (why : Verdict) → first_of_checks (event_checks editor.term e) ≡ Some why → carried editor e ≡ editor
+    (editor : PlainEditor) (e : UserEvent) (why : Verdict) → first_of_checks (event_checks editor.term e) ≡ Some why
+    → carried editor e ≡ editor
 
 -- what is typed comes in the place of the dot, which then stands after it. A line that the command file runs is told of apart
 abbrev pub TypingReplaces : Type 0
@@ -167,7 +168,8 @@ WriteSaves =
 -- the file is gone
 abbrev pub CloseDrops : Type 0
 CloseDrops =
-    (editor : PlainEditor) (f : ℕ) → IsReached editor → May editor (event.Close f) → has_file (carried editor (event.Close f)).host.files f ≡ false
+    (editor : PlainEditor) (f : ℕ) → IsReached editor → May editor (event.Close f)
+    → has_file (carried editor (event.Close f)).host.files f ≡ false
 
 -- command lines work on the file from now on
 abbrev pub WorkSets : Type 0
@@ -229,7 +231,8 @@ SendRuns =
 -- the command file is open
 abbrev pub CommandFileOpens : Type 0
 CommandFileOpens =
-    (editor : PlainEditor) → IsReached editor → May editor event.OpenCmd → (file_at (carried editor event.OpenCmd).host.files 0).opened ≡ true
+    (editor : PlainEditor) → IsReached editor → May editor event.OpenCmd
+    → (file_at (carried editor event.OpenCmd).host.files 0).opened ≡ true
 
 -- under the next tag there is a new file, on which command lines work. Where all tags are given that is printed instead
 abbrev pub NewMakes : Type 0

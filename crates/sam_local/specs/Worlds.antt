@@ -56,7 +56,8 @@ EndsAsIfLocal w =
 abbrev pub ShowsAsIfLocal : PlainWorld → ℕ → Type 0
 ShowsAsIfLocal w f =
     is_locked w.term f ≡ false → is_open w.term f ≡ true
-    → (given : List (List ℕ × List ℕ)) (es : List Event) (acted : List UserEvent) → HasLed given es acted w → ShowsFile w (carried_all given acted) f
+    → (given : List (List ℕ × List ℕ)) (es : List Event) (acted : List UserEvent) → HasLed given es acted w
+    → ShowsFile w (carried_all given acted) f
 
 -- some run from files within the limits led to w, and whichever it was, w is as if there were no network
 pub record WasAsIfLocal (w : PlainWorld) : Type 0 where

@@ -12,7 +12,7 @@ use sam_oom_cases::setup::{SetUp, Tried, prepared};
 use sam_runes::Runes;
 use sam_script::{Script, run_lines, show};
 use sam_settle::{SettleFault, Settled, settle};
-use sam_spawn::{RunFault, run_ends, run_threads};
+use sam_spawn::{Plan, RunFault, run_ends, run_threads};
 use sam_test_support::told_of;
 use sam_workers::{Ends, Lines, OpenGate, Starts, Stop};
 use sam_world::{Event, World, first_world, merge};
@@ -202,7 +202,12 @@ fn settles_over<R: Threads + Wait + Sync>(
 ) -> Tried
     requires { starts ≡ lines.now }
 {
-    let ends = run_ends(rt, alloc, lines, starts, script, PIECE, &OpenGate)?;
+    let plan = Plan {
+        script,
+        piece: PIECE,
+        gate: &OpenGate,
+    };
+    let ends = run_ends(rt, alloc, lines, starts, &plan)?;
     match read(alloc, script, &ends) {
         Ok(before) => told_of(before, |before| settles(rt, alloc, script, ends, before)),
         Err(refused) => {

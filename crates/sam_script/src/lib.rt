@@ -17,6 +17,6 @@ mod words;
 pub use fault::ScriptFault;
 pub use line::{Line, Numbered};
 pub use lines_of_run::run_lines;
-pub use replaying::{replay, replay_bytes};
+pub use replaying::{replay, replay_bytes, replay_owned};
 pub use script::Script;
 pub use showing::show;

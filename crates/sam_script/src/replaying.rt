@@ -2,7 +2,7 @@
 
 ghost use Rattle.std.specs.Prelude.{◌≡◌, ◌++◌, Ok, Err, IfOk, IfErr, OnOk, string_bytes};
 ghost use Rattle.sam_world.specs.Drain.{drained, drain_limit};
-ghost use Rattle.sam_script.specs.Replay.{after_line, or_full, printed_by, stepped, replayed, IsReplay, IsReplayFault, IsStopOf, ReplaysAsIfLocal};
+ghost use Rattle.sam_script.specs.Replay.{after_line, behind, or_full, printed_by, replayed_from, stepped, replayed, IsReplay, IsReplayFault, IsStopOf, ReplaysAsIfLocal};
 
 use crate::fault::ScriptFault;
 use crate::line::{Line, Numbered};
@@ -13,25 +13,21 @@ use sam_world::first_world;
 use sam_world::world::World;
 use std::alloc::Global;
 
-/// Reads the script that the bytes spell, as [`Script::read`] does, and returns what its `show` lines print, as [`replay`] does. All
+/// Reads the script that the bytes spell, as [`Script::read`] does, and returns what its `show` lines print, as [`replay_owned`] does. All
 /// lines are read before the first is done.
 ///
 /// The error is `Line(n)` if line n, counted from 1, is the first wrong line. If no line is wrong, the first line that can't be done
-/// decides: `Line(n)` or `CountFull`, as [`replay`] says. `OutOfMemory` may come at any line, and before the first.
+/// decides: `Line(n)` or `CountFull`, as [`replay_owned`] says. `OutOfMemory` may come at any line, and before the first.
 #[tactic(auto, using(crate::proofs::Replays::unread, crate::proofs::Replays::stopped))]
 pub fn replay_bytes(alloc: Global, bytes: &[u8]) -> Result<Vec<u8>, ScriptFault>
     ensures ok { IfOk result (λ printed. IsReplay bytes.now printed.items) }
     ensures fault { IfErr result (IsReplayFault bytes.now) }
 {
-    let script = match Script::read(alloc, bytes) {
-        Ok(script) => script,
-        Err(fault) => return Err(fault),
-    };
-    replay(alloc, script)
+    replay_owned(alloc, Script::read(alloc, bytes)?)
 }
 
-/// Does the lines of a script one after another, over the first world of its files, and returns all that its `show` lines print. It
-/// uses the script up, so that no event is copied.
+/// Does the lines of a script one after another, over the first world of its files, and returns all that its `show` lines print. The
+/// script stays as it is, so it can be replayed again. Each event is copied before it happens; [`replay_owned`] copies none.
 ///
 /// The first line that can't be done stops it, and then nothing of what was printed is returned. The error is `Line(n)` if line n is
 /// `host` or `term` and nothing is under way to that side, and `CountFull` if the line's step, or an event of its drain, would take a
@@ -41,7 +37,40 @@ pub fn replay_bytes(alloc: Global, bytes: &[u8]) -> Result<Vec<u8>, ScriptFault>
 /// without a network. So where a `show` stands with nothing unsent or under way, the host and the terminal that it prints are those of that
 /// editor, but for runes that are not loaded and for counts of messages.
 #[tactic(auto, using(crate::proofs::Replays::replays_as_if_local), unfolding(crate::specs::Replay::replayed))]
-pub fn replay(alloc: Global, script: Script) -> Result<Vec<u8>, ScriptFault>
+pub fn replay(alloc: Global, script: &Script) -> Result<Vec<u8>, ScriptFault>
+    ensures ok { IfOk result (λ out. replayed script.now ≡ Ok out.items) }
+    ensures local { ReplaysAsIfLocal script.now }
+    ensures stopped { IfErr result (λ why. IsStopOf (replayed script.now) why) }
+{
+    let Ok(mut world) = first_world(alloc, script.files()) else {
+        return Err(ScriptFault::OutOfMemory);
+    };
+    let mut printed = String::new(alloc);
+    do_lines(alloc, &mut world, &mut printed, script.lines())?;
+    Ok(printed.into_bytes())
+}
+
+/// Does copies of the lines one after another, up to the first that can't be done. What they print stands after what was printed before;
+/// at an error a part of that may stand there too.
+fn do_lines(
+    alloc: Global,
+    world: &mut World,
+    out: &mut String,
+    lines: &[Numbered],
+) -> Result<(), ScriptFault>
+    ensures done { OnOk result (behind (string_bytes out.old) (replayed_from world.old lines.now) ≡ Ok (string_bytes out.new)) }
+    ensures stopped { IfErr result (λ why. IsStopOf (behind (string_bytes out.old) (replayed_from world.old lines.now)) why) }
+{
+    for numbered in lines {
+        let line = numbered.line.copy(alloc)?;
+        do_line(world, out, numbered.number, line)?;
+    }
+    Ok(())
+}
+
+/// Does what [`replay`] does, and uses the script up, so that no event is copied.
+#[tactic(auto, using(crate::proofs::Replays::replays_as_if_local), unfolding(crate::specs::Replay::replayed))]
+pub fn replay_owned(alloc: Global, script: Script) -> Result<Vec<u8>, ScriptFault>
     ensures ok { IfOk result (λ out. replayed script ≡ Ok out.items) }
     ensures local { ReplaysAsIfLocal script }
     ensures stopped { IfErr result (λ why. IsStopOf (replayed script) why) }
@@ -52,10 +81,7 @@ pub fn replay(alloc: Global, script: Script) -> Result<Vec<u8>, ScriptFault>
     let mut out = String::new(alloc);
     for numbered in script.into_lines() {
         let Numbered { number, line } = numbered;
-        match do_line(&mut world, &mut out, number, line) {
-            Ok(()) => {}
-            Err(fault) => return Err(fault),
-        }
+        do_line(&mut world, &mut out, number, line)?;
     }
     Ok(out.into_bytes())
 }

@@ -19,7 +19,7 @@ use std::marker::Model;
 ///
 /// ```rust
 /// let script = Script::read(alloc, b"file a hello\nk version 1\nk open 1\nk type 1 X\ndrain\nshow\n")?;
-/// let shown = replay(alloc, script)?; // the lines that `show` prints, such as `= h 1 o d a |Xhello|`
+/// let shown = replay(alloc, &script)?; // the lines that `show` prints, such as `= h 1 o d a |Xhello|`
 /// ```
 #[derive(Drop)]
 pub struct Script {

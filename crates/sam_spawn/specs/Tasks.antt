@@ -5,10 +5,10 @@ use Rattle.sam_host.specs.Host.{new_host}
 use Rattle.sam_world.specs.Given.{IsFile}
 use Rattle.sam_queue.specs.Views.{LineView, new_post, new_take}
 use Rattle.sam_workers.specs.Lines.{LinesView}
+use Rattle.sam_workers.specs.declared.host_side.HostTask.{HostTask}
 use Rattle.sam_spawn.specs.declared.tasks.LineSides.{LineSides}
 use Rattle.sam_spawn.specs.declared.tasks.Roles.{Roles}
 use Rattle.sam_spawn.specs.declared.tasks.UserTask.{UserTask}
-use Rattle.sam_spawn.specs.declared.tasks.HostTask.{HostTask}
 use Rattle.sam_spawn.specs.declared.tasks.ReaderTask.{ReaderTask}
 use Rattle.sam_spawn.specs.declared.tasks.TermTask.{TermTask}
 use Rattle.sam_spawn.specs.declared.tasks.Tasks.{Tasks}

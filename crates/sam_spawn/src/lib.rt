@@ -6,5 +6,5 @@ mod session;
 mod spawning;
 mod tasks;
 
-pub use run::{RunFault, run_ends};
+pub use run::{Plan, RunFault, run_ends};
 pub use session::run_threads;

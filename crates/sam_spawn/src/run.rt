@@ -31,9 +31,27 @@ pub enum RunFault {
     OutOfMemory = 3,
 }
 
-/// Runs the five workers of a session over its lines, and returns their ends. The user does at the keyboard and with the mouse what the
-/// script says, and the host begins with the script's files. `starts` came with `lines`, and is spent. Pieces on the lines have at most
-/// `piece` bytes, and `piece` is at least 1.
+/// What the workers of a session are to play, in pieces of which size, and at which gate.
+pub struct Plan<'s, G> {
+    /// What the user does at the keyboard and with the mouse, and the files with which the host begins.
+    pub script: &'s Script,
+    /// The most bytes of a piece on the lines: at least 1.
+    pub piece: usize,
+    /// Each worker asks it as it begins and before each step.
+    pub gate: &'s G,
+}
+
+impl<'s, G> Drop for Plan<'s, G> {
+    fn drop(self) {
+        let Plan {
+            script: _,
+            piece: _,
+            gate: _,
+        } = self;
+    }
+}
+
+/// Runs the five workers of a session over its lines, and returns their ends. `starts` came with `lines`, and is spent.
 ///
 /// No worker begins before all five are started, and all memory that they begin with is had before. The call waits for its threads, which
 /// may never end.
@@ -46,21 +64,19 @@ pub fn run_ends<'q, R: Threads + Wait + Sync, G: Gate>(
     alloc: Global,
     lines: &'q Lines,
     starts: Starts,
-    script: &Script,
-    piece: usize,
-    gate: &G,
+    plan: &Plan<'_, G>,
 ) -> Result<Ends<'q>, RunFault>
     requires together { starts ≡ lines.now }
-    requires piece { 0 < piece }
-    ensures ends { IfOk result (Told (keys_of script.now.lines) (mouse_of script.now.lines) lines.now) }
-    ensures files { IfOk result (λ e. e.host.files.items ≡ script.now.files) }
+    requires piece { 0 < plan.now.piece }
+    ensures ends { IfOk result (Told (keys_of plan.now.script.now.lines) (mouse_of plan.now.script.now.lines) lines.now) }
+    ensures files { IfOk result (λ e. e.host.files.items ≡ plan.now.script.now.files) }
     ensures begun { IfOk result AllPassed }
-    ensures gates { IfOk result (GatesTold (G.may_refuse gate.now)) }
-    ensures let_in { IfOk result (λ _. GatesLetIn (G.must_refuse gate.now)) }
-    ensures let_on { IfOk result (GatesLetOn (G.must_refuse gate.now)) }
-    ensures timed { result ≡ Err RunFault.GateTimedOut → RefusesSome (G.may_refuse gate.now) }
+    ensures gates { IfOk result (GatesTold (G.may_refuse plan.now.gate.now)) }
+    ensures let_in { IfOk result (λ _. GatesLetIn (G.must_refuse plan.now.gate.now)) }
+    ensures let_on { IfOk result (GatesLetOn (G.must_refuse plan.now.gate.now)) }
+    ensures timed { result ≡ Err RunFault.GateTimedOut → RefusesSome (G.may_refuse plan.now.gate.now) }
 {
-    let Ok(tasks) = ready_tasks(alloc, lines, starts, script) else {
+    let Ok(tasks) = ready_tasks(alloc, lines, starts, plan.script) else {
         return Err(RunFault::OutOfMemory);
     };
     let start = OnceLock::new();
@@ -68,8 +84,8 @@ pub fn run_ends<'q, R: Threads + Wait + Sync, G: Gate>(
         rt,
         alloc,
         start: &start,
-        gate,
-        piece,
+        gate: plan.gate,
+        piece: plan.piece,
     };
     let shared = &shared;
     thread::scope(

@@ -6,7 +6,7 @@ ghost use Rattle.sam_workers.specs.Gates.{GatesLetIn, GatesLetOn};
 ghost use Rattle.sam_workers.specs.WorkerEnds.{AllPassed, GatesTold, RefusesSome, Told};
 ghost use Rattle.sam_spawn.specs.declared.run.RunFault.TheVariants.{GateTimedOut, OutOfMemory};
 
-use crate::run::{RunFault, run_ends};
+use crate::run::{Plan, RunFault, run_ends};
 use sam_script::Script;
 use sam_settle::{Settled, settle};
 use sam_workers::{Ends, Gate, Lines, Starts};
@@ -43,29 +43,32 @@ pub fn run_threads<R: Threads + Wait + Sync, G: Gate>(
     let Ok((lines, starts)) = Lines::new(alloc, capacity) else {
         return Err(RunFault::OutOfMemory);
     };
-    run_over(rt, alloc, &lines, starts, script, piece, gate)
+    let plan = Plan {
+        script,
+        piece,
+        gate,
+    };
+    run_over(rt, alloc, &lines, starts, &plan)
 }
 
-/// Runs the script over these lines, and settles what the session came to.
+/// Plays the plan over these lines, and settles what the session came to.
 fn run_over<R: Threads + Wait + Sync, G: Gate>(
     rt: &R,
     alloc: Global,
     lines: &Lines,
     starts: Starts,
-    script: &Script,
-    piece: usize,
-    gate: &G,
+    plan: &Plan<'_, G>,
 ) -> Result<Settled, RunFault>
     requires together { starts ≡ lines.now }
-    requires piece { 0 < piece }
-    ensures session { IfOk result (IsSession script.now (G.may_refuse gate.now) (G.must_refuse gate.now)) }
-    ensures timed { result ≡ Err RunFault.GateTimedOut → RefusesSome (G.may_refuse gate.now) }
+    requires piece { 0 < plan.now.piece }
+    ensures session { IfOk result (IsSession plan.now.script.now (G.may_refuse plan.now.gate.now) (G.must_refuse plan.now.gate.now)) }
+    ensures timed { result ≡ Err RunFault.GateTimedOut → RefusesSome (G.may_refuse plan.now.gate.now) }
 {
-    let ends = run_ends(rt, alloc, lines, starts, script, piece, gate)?;
-    settle_run(rt, alloc, lines, script, gate, ends)
+    let ends = run_ends(rt, alloc, lines, starts, plan)?;
+    settle_run(rt, alloc, lines, plan.script, plan.gate, ends)
 }
 
-/// ComesToSync the ends that a run of the script over these lines left. The only error is `OutOfMemory`.
+/// Settles the ends that a run of the script over these lines left. The only error is `OutOfMemory`.
 fn settle_run<'q, R: Wait, G: Gate>(
     rt: &R,
     alloc: Global,

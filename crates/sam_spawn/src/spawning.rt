@@ -4,13 +4,12 @@ ghost use Rattle.sam_spawn.specs.Promised.{UserKept, HostKept, ReaderKept, TermK
 ghost use Rattle.sam_spawn.specs.Promised.{PromisesReader, PromisesTerm, TasksPromised};
 ghost use Rattle.sam_spawn.specs.Tasks.{IsUserTask, IsHostTask, IsReaderTask, IsTermTask, AreReady};
 
-use crate::tasks::{HostTask, ReaderTask, Tasks, TermTask, UserTask};
+use crate::tasks::{ReaderTask, Tasks, TermTask, UserTask};
 use sam_queue::Line;
 use sam_runes::Runes;
 use sam_term::event::UserEvent;
-use sam_term::term::Terminal;
 use sam_workers::{
-    Ends, Gate, HostEnd, Input, ReaderEnd, TermEnd, UserEnd, pass_frames, run_terminal,
+    Ends, Gate, HostEnd, HostTask, Input, ReaderEnd, TermEnd, UserEnd, pass_frames, run_terminal,
     send_events, serve_host,
 };
 use std::alloc::Global;
@@ -53,7 +52,6 @@ pub struct UserPromise<'a, 'q, G> {
     pub worker: usize,
     /// The events that the worker was given.
     pub todo: Snapshot<Vec<UserEvent>>,
-    /// The line of events.
     pub events: &'q Line<Input>,
 }
 
@@ -82,9 +80,7 @@ pub struct HostPromise<'a, 'q, G> {
     pub gate: &'a G,
     /// The names and texts that the host began with.
     pub files: Snapshot<Vec<(Runes, Runes)>>,
-    /// The line up.
     pub up: &'q Line<Vec<u8>>,
-    /// The line down.
     pub down: &'q Line<Vec<u8>>,
 }
 
@@ -111,9 +107,7 @@ impl<'a, 'q, G: Gate> Promise<Option<HostEnd<'q>>> for HostPromise<'a, 'q, G> {
 pub struct ReaderPromise<'a, 'q, G> {
     /// The gate that the worker asks.
     pub gate: &'a G,
-    /// The line down.
     pub down: &'q Line<Vec<u8>>,
-    /// The line of events.
     pub events: &'q Line<Input>,
 }
 
@@ -139,9 +133,7 @@ impl<'a, 'q, G: Gate> Promise<Option<ReaderEnd<'q>>> for ReaderPromise<'a, 'q, G
 pub struct TermPromise<'a, 'q, G> {
     /// The gate that the worker asks.
     pub gate: &'a G,
-    /// The line of events.
     pub events: &'q Line<Input>,
-    /// The line up.
     pub up: &'q Line<Vec<u8>>,
 }
 
@@ -197,22 +189,12 @@ fn begin_host<'q, R: Wait, G: Gate>(
     if !*shared.start.wait(shared.rt) {
         return None;
     }
-    let HostTask {
-        take,
-        post,
-        files,
-        host,
-        held: _,
-    } = task;
     Some(serve_host(
         shared.rt,
         shared.alloc,
         shared.gate,
         shared.piece,
-        take,
-        post,
-        files,
-        host,
+        task,
     ))
 }
 
@@ -254,7 +236,6 @@ fn begin_terminal<'q, R: Wait, G: Gate>(
         post,
         held: _,
     } = task;
-    let term = Terminal::new(shared.alloc);
     Some(run_terminal(
         shared.rt,
         shared.alloc,
@@ -262,7 +243,6 @@ fn begin_terminal<'q, R: Wait, G: Gate>(
         shared.piece,
         take,
         post,
-        term,
     ))
 }
 
@@ -393,15 +373,10 @@ fn spawn_terminal<'s, 'e: 's, 'q: 's, R: Wait + Sync, G: Gate>(
 
 /// The handles of the five threads, all started. `spawn_all` makes them, and `join_all` takes them.
 pub struct Handles<'s, 'q, G: Gate> {
-    /// The keyboard's thread.
     pub keyboard: UserHandle<'s, 'q, G>,
-    /// The mouse's thread.
     pub mouse: UserHandle<'s, 'q, G>,
-    /// The host's thread.
     pub host: HostHandle<'s, 'q, G>,
-    /// The host reader's thread.
     pub reader: ReaderHandle<'s, 'q, G>,
-    /// The terminal's thread.
     pub term: TermHandle<'s, 'q, G>,
 }
 

@@ -12,7 +12,7 @@ use sam_queue::{Line, Post, Start, Take};
 use sam_runes::Runes;
 use sam_script::Script;
 use sam_term::event::UserEvent;
-use sam_workers::{Input, Lines, Starts};
+use sam_workers::{HostTask, Input, Lines, Starts};
 use sam_world::given_files;
 use std::alloc::{AllocError, Global};
 use std::marker::PhantomData;
@@ -26,21 +26,6 @@ pub struct UserTask<'q> {
     pub post: Post<'q, Input>,
     /// What the user does there, in order.
     pub events: Vec<UserEvent>,
-    /// Ties the task to its lines.
-    pub held: PhantomData<&'q Lines>,
-}
-
-/// What the host's worker begins with. Nothing is put, taken or handled yet.
-#[derive(Drop)]
-pub struct HostTask<'q> {
-    /// The take of the line up.
-    pub take: Take<'q, Vec<u8>>,
-    /// The post to the line down.
-    pub post: Post<'q, Vec<u8>>,
-    /// The names and texts of the host's files, by tags from 1: at most `MOST_FILES`.
-    pub files: Vec<(Runes, Runes)>,
-    /// A new host of these files.
-    pub host: Host,
     /// Ties the task to its lines.
     pub held: PhantomData<&'q Lines>,
 }
@@ -70,17 +55,11 @@ pub struct TermTask<'q> {
 /// What the five workers begin with, and their lines. The posts and takes are all of these lines.
 #[derive(Drop)]
 pub struct Tasks<'q> {
-    /// The lines of the session.
     pub lines: &'q Lines,
-    /// The task of the keyboard's worker.
     pub keyboard: UserTask<'q>,
-    /// The task of the mouse's worker.
     pub mouse: UserTask<'q>,
-    /// The task of the host's worker.
     pub host: HostTask<'q>,
-    /// The task of the host reader.
     pub reader: ReaderTask<'q>,
-    /// The task of the terminal's worker.
     pub term: TermTask<'q>,
 }
 

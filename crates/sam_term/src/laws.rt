@@ -1,5 +1,5 @@
 //! Laws of what a terminal does, for readers and for the crates above. They speak of the definitions that `act`, `flush` and `receive`
-//! compute; `Terminal::known` has what is true of each terminal. Each function does nothing: its clauses are the law.
+//! compute; `Terminal::facts` has what is true of each terminal. Each function does nothing: its clauses are the law.
 
 ghost use Rattle.std.specs.Prelude.{◌≡◌, ◌+◌, ◌||◌, ℕ, length, Some, None, true, false};
 ghost use Rattle.sam_mesg.specs.declared.hmesg.Hmesg.{Hmesg};

@@ -1,4 +1,5 @@
-//! A host at one end of a stream of bytes: its answers are those of the table at the end of docs/PROTOCOL.md.
+//! A host at one end of two streams of bytes: what it answers, what stops it, and which files it takes. The bytes are those of
+//! docs/PROTOCOL.md.
 
 use sam_endpoint::{AddFault, EndpointFault, FinishFault, HostEndpoint, HostStop, StreamFault};
 use sam_host::HostFault;

@@ -1,6 +1,6 @@
 //! Scripts, read and written.
 
-use sam_script::{Line, Script, ScriptFault, replay, run_lines};
+use sam_script::{Line, Script, ScriptFault, replay, replay_owned, run_lines};
 use sam_test_support::told_of;
 use sam_world::Event;
 use std::alloc::{AllocError, Global};
@@ -144,14 +144,20 @@ const HELLO: &str =
 const SHOWN: &str =
     "= h 0 o c ~~sam~~ |,x/l/d\\n|\n= h 1 o d a |Xheo\\n|\n= t 0 0 7 7 |,x/l/d\\n|\n= t 1 0 0 5 |X\\_\\_\\_\\_|\n= s 0 7 7 0 0 0\n";
 
-/// Whether a script shows this when it is replayed.
-fn shows(alloc: Global, text: &str, shown: &str) -> Result<bool, ScriptFault> {
+/// Whether a script shows this when it is replayed, when it is replayed again, and when a replay uses it up.
+fn shows(alloc: Global, text: &str, shown: &str) -> Result<[bool; 3], ScriptFault> {
     let script = Script::read(alloc, text.as_bytes())?;
-    let out = replay(alloc, script)?;
-    Ok(out.as_slice() == shown.as_bytes())
+    let first = replay(alloc, &script)?;
+    let again = replay(alloc, &script)?;
+    let last = replay_owned(alloc, script)?;
+    Ok([
+        first.as_slice() == shown.as_bytes(),
+        again.as_slice() == shown.as_bytes(),
+        last.as_slice() == shown.as_bytes(),
+    ])
 }
 
 #[test]
-fn a_replay_shows_the_end_of_its_script(rt: HostRuntime) {
-    assert_eq!(rt; shows(rt.alloc(), HELLO, SHOWN), Ok(true));
+fn a_script_is_replayed_again_and_used_up(rt: HostRuntime) {
+    assert_eq!(rt; shows(rt.alloc(), HELLO, SHOWN), Ok([true; 3]));
 }

@@ -24,6 +24,7 @@ use crate::drain::drop_rest;
 use crate::ends::HostEnd;
 use crate::gate::Gate;
 use crate::pieces::send_pieces;
+use crate::session_lines::Lines;
 use crate::stop::Stop;
 use sam_frame::{FeedFault, FramerT, encode_all};
 use sam_host::fault::HostFault;
@@ -32,6 +33,7 @@ use sam_mesg::{HFrame, Tmesg};
 use sam_queue::{Got, Post, Take};
 use sam_runes::Runes;
 use std::alloc::{AllocError, Global};
+use std::marker::PhantomData;
 use std::sync::Wait;
 
 /// Reads off each frame what is known of it: that it is a value of its type. It does nothing else.
@@ -250,6 +252,21 @@ impl HostSide<'_> {
     }
 }
 
+/// What the host's worker begins with. Nothing is put, taken or handled yet.
+#[derive(Drop)]
+pub struct HostTask<'q> {
+    /// The take of the line up.
+    pub take: Take<'q, Vec<u8>>,
+    /// The post to the line down.
+    pub post: Post<'q, Vec<u8>>,
+    /// The names and texts of the host's files, by tags from 1: at most `MOST_FILES`.
+    pub files: Vec<(Runes, Runes)>,
+    /// A new host of these files.
+    pub host: Host,
+    /// Ties the task to its lines. It holds nothing: with it a thread's closure that captures the task keeps its contract.
+    pub held: PhantomData<&'q Lines>,
+}
+
 /// Takes and drops the rest if something stopped the worker. If nothing did, the end mark was taken already.
 fn drop_after<R: Wait>(rt: &R, take: &mut Take<Vec<u8>>, stop: Option<Stop>)
     requires { stop ≡ None → IsEnded take.old.line.senders take.old.taken }
@@ -264,8 +281,7 @@ fn drop_after<R: Wait>(rt: &R, take: &mut Take<Vec<u8>>, stop: Option<Stop>)
 }
 
 /// Handles the messages that come up, sends the frames of the answers down in pieces of at most `piece` bytes, and returns the worker's
-/// end. It is worker 2, the host. It begins with `host`, a new host of `files`: at most `MOST_FILES` names and texts. It waits while the
-/// line up is empty or the line down is full.
+/// end. It is worker 2, the host. It waits while the line up is empty or the line down is full.
 ///
 /// The end's `stop` says why it stopped before the end mark: `Gate` if the gate refused it; `Host` if the host refused a message;
 /// `Frame(1)`, `Frame(2)` or `Frame(3)` for a fault of the stream, once the messages before the fault are handled; `Frame(7)` if the
@@ -276,25 +292,28 @@ pub fn serve_host<'q, R: Wait, G: Gate>(
     alloc: Global,
     gate: &G,
     piece: usize,
-    take: Take<'q, Vec<u8>>,
-    post: Post<'q, Vec<u8>>,
-    files: Vec<(Runes, Runes)>,
-    host: Host,
+    task: HostTask<'q>,
 ) -> HostEnd<'q>
     requires piece { 0 < piece }
-    requires take { take ≡ new_take take.line }
-    requires one { take.line.senders ≡ 1 }
-    requires post { post ≡ new_post post.line 0 }
-    requires files { (length files.items ≤ most_files) × All IsFile files.items }
-    requires host { host ≡ new_host files.items }
-    ensures told { HostTold take.entry.line post.entry.line result }
-    ensures files { result.files.items ≡ files.items }
+    requires take { task.take ≡ new_take task.take.line }
+    requires one { task.take.line.senders ≡ 1 }
+    requires post { task.post ≡ new_post task.post.line 0 }
+    requires files { (length task.files.items ≤ most_files) × All IsFile task.files.items }
+    requires host { task.host ≡ new_host task.files.items }
+    ensures told { HostTold task.entry.take.line task.entry.post.line result }
+    ensures files { result.files.items ≡ task.entry.files.items }
     ensures begins { result.passed ≡ false → G.may_refuse gate.now 2 }
     ensures way { result.stop ≡ Some GateStop → G.may_refuse gate.now 2 }
     ensures let_in { result.passed ≡ true → G.must_refuse gate.now 2 None → ⊥ }
     ensures let_on { LetOn (G.must_refuse gate.now 2) 0 result.host.taken }
 {
-    let mut take = take;
+    let HostTask {
+        mut take,
+        post,
+        files,
+        host,
+        held: _,
+    } = task;
     let mut side = HostSide {
         alloc,
         piece,

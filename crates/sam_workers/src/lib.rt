@@ -20,7 +20,7 @@ mod users;
 pub use ends::{Ends, HostEnd, ReaderEnd, TermEnd, UserEnd};
 pub use feeding::{Fed, feed_terminal};
 pub use gate::{FlagGate, Gate, OpenGate};
-pub use host_side::serve_host;
+pub use host_side::{HostTask, serve_host};
 pub use input::Input;
 pub use reader::pass_frames;
 pub use session_lines::{Lines, Starts};

@@ -11,7 +11,8 @@ use std::marker::Model;
 ///
 /// ```rust
 /// let (lines, starts) = Lines::new(alloc, 16)?;
-/// let ends = run_ends(rt, alloc, &lines, starts, &script, 64, &OpenGate)?;
+/// let plan = Plan { script: &script, piece: 64, gate: &OpenGate };
+/// let ends = run_ends(rt, alloc, &lines, starts, &plan)?;
 /// ```
 #[derive(Drop)]
 pub struct Lines {

@@ -487,7 +487,7 @@ impl<'q> Side<'q> {
 }
 
 /// Runs the terminal on what comes over the line of events, puts the bytes of its messages into the line up in pieces of at most `piece`
-/// bytes, and returns the worker's end. It is worker 4, the terminal. It begins with `term`, a new terminal.
+/// bytes, and returns the worker's end. It is worker 4, the terminal. It begins with a new terminal.
 ///
 /// It never waits in a send: bytes for which the line has no room wait outside it. Once an entry is taken, held events act. Typed runes
 /// wait, so that those typed one after another go up together: until something else is composed, a `Flush` acts, runes come that don't
@@ -506,13 +506,11 @@ pub fn run_terminal<'q, R: Wait, G: Gate>(
     piece: usize,
     take: Take<'q, Input>,
     post: Post<'q, Vec<u8>>,
-    term: Terminal,
 ) -> TermEnd<'q>
     requires piece { 0 < piece }
     requires take { take ≡ new_take take.line }
     requires three { take.line.senders ≡ 3 }
     requires post { post ≡ new_post post.line 0 }
-    requires term { term ≡ new_terminal }
     ensures told { TermTold take.entry.line post.entry.line result }
     ensures begins { result.passed ≡ false → G.may_refuse gate.now 4 }
     ensures way { result.stop ≡ Some Stop.Gate → G.may_refuse gate.now 4 }
@@ -521,6 +519,7 @@ pub fn run_terminal<'q, R: Wait, G: Gate>(
 {
     let passed = gate.pass(4);
     let stop = if passed { None } else { Some(Stop::Gate) };
+    let term = Terminal::new(alloc);
     let mut side = Side::new(alloc, piece, take, post, term, stop);
     side.run(rt, gate);
     side.into_end(passed)

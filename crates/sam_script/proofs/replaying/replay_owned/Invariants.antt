@@ -1,5 +1,5 @@
 use Rattle.sam_script.proofs.Common.{◌≡◌, string_bytes, into_iter_items, new_world, replayed_from, behind}
-use Rattle.sam_script.proofs.replaying.replay.Given as goal
+use Rattle.sam_script.proofs.replaying.replay_owned.Given as goal
 
 -- what was printed, and then what the lines that are left print
 abbrev pub invariant-loop-numbered : goal.invariant-loop-numbered
