@@ -289,13 +289,20 @@ SAM_MUST_USE sam_status sam_term_flush_now(sam_term *term);
  * call also lets events that are held act, in order. What is composed is then pending. SAM_OK says that the event was taken, and not
  * that it acted: sam_term_decided says whether it did, and sam_term_next_refusal reports an event that is refused by its number, now or
  * later. Each returns SAM_OK, SAM_NO_MEMORY, SAM_UNFINISHED, SAM_COUNT_FULL, SAM_NO_HANDLE, or why the terminal has stopped:
- * SAM_STREAM.., SAM_TERM_REFUSED... The two that bring a text return SAM_NOT_TEXT first of all but SAM_NO_HANDLE. */
+ * SAM_STREAM.., SAM_TERM_REFUSED... The three that bring a text return SAM_NOT_TEXT first of all but SAM_NO_HANDLE. */
 
 /* ---- Events: texts ---- */
 
 /* Types a text in the place of the dot. One of more than 512 runes is refused by number (SAM_REFUSAL_TEXT_TOO_LONG): cut it into
  * pieces. */
 SAM_MUST_USE sam_status sam_term_type(sam_term *term, uint16_t tag, const uint8_t *text, size_t len);
+
+/* Puts a text of any length in the place of the runes from start to end, all or nothing; an empty one takes them out. The dot moves as
+ * other places do, and the snarf buffer stays as it is. It waits for locks before its places count. Refused by number, in this order,
+ * and nothing is changed then: SAM_REFUSAL_NO_FILE, SAM_REFUSAL_COMMAND_FILE for tag 0, SAM_REFUSAL_NOT_OPEN,
+ * SAM_REFUSAL_BAD_POSITION if end is below start or after the end of the text, SAM_REFUSAL_TOO_LONG if the file would have more than
+ * 1,000,000 runes. */
+SAM_MUST_USE sam_status sam_term_edit(sam_term *term, uint16_t tag, uint32_t start, uint32_t end, const uint8_t *text, size_t len);
 
 /* Sets the dot. */
 SAM_MUST_USE sam_status sam_term_select(sam_term *term, uint16_t tag, uint32_t start, uint32_t end);

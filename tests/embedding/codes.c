@@ -65,6 +65,7 @@ static void no_handles(sam_host *host, sam_term *term)
     WANT(sam_host_dot(host, 0, &a, &b), SAM_NO_HANDLE);
     WANT(sam_term_free(term), SAM_NO_HANDLE);
     WANT(sam_term_type(term, 0, BYTES("\xFF")), SAM_NO_HANDLE);
+    WANT(sam_term_edit(term, 0, 0, 0, BYTES("\xFF")), SAM_NO_HANDLE);
     WANT(sam_term_select(term, 0, 0, 0), SAM_NO_HANDLE);
     WANT(sam_term_cut(term, 0), SAM_NO_HANDLE);
     WANT(sam_term_paste(term, 0), SAM_NO_HANDLE);
@@ -194,6 +195,7 @@ static sam_status fed_term(const char *bytes, size_t len)
         WANT(sam_term_feed(&term, NULL, 0), status);
         WANT(sam_term_cut(&term, 0), status);
         WANT(sam_term_type(&term, 0, BYTES("x")), status);
+        WANT(sam_term_edit(&term, 0, 0, 0, BYTES("x")), status);
         WANT(sam_term_flush_now(&term), status);
         WANT(sam_term_finish(&term), status);
     }
@@ -258,12 +260,15 @@ static void ending_streams(void)
 /* A host that would pass the limit of a text refuses; so does a terminal, which goes on. */
 static void too_long(void)
 {
-    static uint8_t letters[1000000];
+    static uint8_t letters[1000000], messages[1100000];
     sam_host host = {0};
     sam_term term = {0};
     uint16_t tag;
     uint64_t event;
     sam_status why;
+    uint8_t text[4];
+    uint32_t runes;
+    size_t bytes;
     memset(letters, 'x', sizeof letters);
     WANT(sam_host_new(&host), SAM_OK);
     WANT(sam_term_new(&term), SAM_OK);
@@ -276,7 +281,21 @@ static void too_long(void)
     WANT(sam_term_next_refusal(&term, &event, &why), SAM_OK);
     WANT(event, 3);
     WANT(why, SAM_REFUSAL_TOO_LONG);
+    WANT(sam_term_edit(&term, 1, 4, 6, BYTES("yyy")), SAM_OK);
+    WANT(sam_term_next_refusal(&term, &event, &why), SAM_OK);
+    WANT(event, 4);
+    WANT(why, SAM_REFUSAL_TOO_LONG);
+    WANT(sam_term_edit(&term, 1, 0, 1000000, letters, sizeof letters), SAM_OK); /* as long as it was: a Tcut and 1,954 Ttypes */
+    WANT(sam_term_edit(&term, 1, 4, 6, BYTES("yy")), SAM_OK);
     WANT(sam_term_next_refusal(&term, &event, &why), SAM_NONE);
+    WANT(sam_term_sent(&term, &event), SAM_OK);
+    WANT(event, 3 + 1 + 1954 + 2);
+    WANT(sam_term_take_out(&term, messages, sizeof messages, &bytes), SAM_OK);
+    WANT(sam_host_feed(&host, messages, bytes), SAM_OK);
+    WANT(sam_host_text(&host, 1, 3, text, sizeof text, &bytes, &runes), SAM_OK);
+    WANT(runes == 4 && memcmp(text, "xyyx", 4) == 0, 1);
+    WANT(sam_host_len(&host, 1, &runes), SAM_OK);
+    WANT(runes, 1000000);
     WANT(sam_host_feed(&host, BYTES("\x08\0\x07\0\x01\0\0\0\0y")), SAM_HOST_TOO_LONG);
     WANT(sam_host_free(&host), SAM_OK);
     WANT(sam_term_free(&term), SAM_OK);
@@ -525,6 +544,69 @@ static void session(void)
     WANT(sam_host_new(NULL), SAM_NO_HANDLE);
     WANT(sam_term_new(NULL), SAM_NO_HANDLE);
     no_handles(&host, &term);
+}
+
+/* An edit of any length goes at once, after the runes that were typed before; one that is refused changes nothing. */
+static void edits(void)
+{
+    static uint8_t many[1100];
+    sam_host host = {0};
+    sam_term term = {0};
+    uint16_t tag;
+    uint32_t runes, a, b;
+    uint64_t before, count;
+    bool is;
+    memset(many, 'm', sizeof many);
+    WANT(sam_host_new(&host), SAM_OK);
+    WANT(sam_host_add_file(&host, BYTES("a"), BYTES("one two\n"), &tag), SAM_OK);
+    WANT(sam_host_add_file(&host, BYTES("b"), BYTES("b"), &tag), SAM_OK);
+    WANT(sam_term_new(&term), SAM_OK);
+    WANT(sam_term_offer_version(&term, 2), SAM_OK);
+    WANT(sam_term_open_cmd(&term), SAM_OK);
+    WANT(sam_term_open(&term, 1), SAM_OK);
+    WANT(sam_term_select(&term, 1, 8, 8), SAM_OK);
+    carry(&term, &host);
+    WANT(sam_term_type(&term, 1, BYTES("x")), SAM_OK);
+    WANT(sam_term_unsent(&term, &runes), SAM_OK);
+    WANT(runes, 1);
+    WANT(sam_term_sent(&term, &before), SAM_OK);
+    WANT(sam_term_edit(&term, 0, 0, 0, BYTES("x")), SAM_OK);
+    wants_refusal(&term, SAM_REFUSAL_COMMAND_FILE);
+    WANT(sam_term_edit(&term, 2, 0, 0, BYTES("x")), SAM_OK);
+    wants_refusal(&term, SAM_REFUSAL_NOT_OPEN);
+    WANT(sam_term_edit(&term, 3, 0, 0, BYTES("x")), SAM_OK);
+    wants_refusal(&term, SAM_REFUSAL_NO_FILE);
+    WANT(sam_term_edit(&term, 1, 2, 1, BYTES("x")), SAM_OK);
+    wants_refusal(&term, SAM_REFUSAL_BAD_POSITION);
+    WANT(sam_term_edit(&term, 1, 0, 10, BYTES("x")), SAM_OK);
+    wants_refusal(&term, SAM_REFUSAL_BAD_POSITION);
+    WANT(sam_term_edit(&term, 1, 0, 9, BYTES("x\xFF")), SAM_NOT_TEXT);
+    WANT(sam_term_edit(&term, 1, 4, 4, NULL, 0), SAM_OK); /* nothing goes and nothing comes: the typed rune stays unsent */
+    WANT(sam_term_sent(&term, &count), SAM_OK);
+    WANT(count, before);
+    WANT(sam_term_edit(&term, 1, 4, 7, many, sizeof many), SAM_OK);
+    WANT(sam_term_sent(&term, &count), SAM_OK);
+    WANT(count - before, 5); /* a Ttype of the typed rune, a Tcut, and Ttypes of 512, 512 and 76 runes */
+    WANT(sam_term_unsent(&term, &runes), SAM_OK);
+    WANT(runes, 0);
+    WANT(sam_term_dot(&term, 1, &a, &b), SAM_OK);
+    WANT(a == 1106 && b == 1106, 1);
+    carry(&term, &host);
+    WANT(sam_host_len(&host, 1, &runes), SAM_OK);
+    WANT(runes, 1106);
+    WANT(sam_term_look(&term, 1), SAM_OK); /* its lock holds the next one back */
+    WANT(sam_term_edit(&term, 1, 4, 1104, BYTES("\xC3\xA9")), SAM_OK);
+    WANT(sam_term_held(&term, &count), SAM_OK);
+    WANT(count, 1);
+    carry(&term, &host);
+    same_text(&host, 1, "one \xC3\xA9\nx");
+    WANT(sam_term_edit(&term, 1, 0, 7, NULL, 0), SAM_OK);
+    carry(&term, &host);
+    same_text(&host, 1, "");
+    WANT(sam_term_is_changed(&term, 1, &is), SAM_OK);
+    WANT(is, 1);
+    WANT(sam_term_free(&term), SAM_OK);
+    WANT(sam_host_free(&host), SAM_OK);
 }
 
 /* A file that is known and not open: the events that want a window. */
@@ -869,7 +951,8 @@ int main(void)
     long_line();
     puts("what the header says of tags and of long lines");
     session();
-    puts("a session");
+    edits();
+    puts("a session, and edits");
     measures();
     puts("runes, bytes and lines");
     changes();

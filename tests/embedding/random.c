@@ -155,6 +155,9 @@ static sam_status do_event(uint32_t kind, uint16_t tag, uint32_t a, uint32_t b, 
         return sam_term_open_cmd(&term);
     case 26:
         return sam_term_new_file(&term);
+    case 28:
+    case 29:
+        return sam_term_edit(&term, tag, a < b ? a : b, a < b ? b : a, bytes, strlen(text));
     default:
         return sam_term_flush_now(&term);
     }
@@ -162,7 +165,7 @@ static sam_status do_event(uint32_t kind, uint16_t tag, uint32_t a, uint32_t b, 
 
 static void user(void)
 {
-    uint32_t kind = pick(29), a = pick(40), b = pick(40);
+    uint32_t kind = pick(31), a = pick(40), b = pick(40);
     sam_status status;
     uint16_t tag = (uint16_t)pick(FILES + 2);
     const char *text = texts[pick(sizeof texts / sizeof texts[0])];

@@ -10,7 +10,7 @@
 ghost use Rattle.std.specs.Prelude.{◌≡◌};
 ghost use Rattle.sam_c.specs.Status.{read_status};
 ghost use Rattle.sam_c.specs.Terms.{TermPut, TermPutText};
-ghost use Rattle.sam_term.specs.declared.event.UserEvent.TheVariants.{Check, Close, Cut, Dclick, Exit, Flush, GetSnarf, Load, Look, New, Open, OpenCmd, Paste, Scroll, Search, Select, Send, SetSnarf, Snarf, Typed, Version, View, Work, Write};
+ghost use Rattle.sam_term.specs.declared.event.UserEvent.TheVariants.{Check, Close, Cut, Dclick, Edit, Exit, Flush, GetSnarf, Load, Look, New, Open, OpenCmd, Paste, Scroll, Search, Select, Send, SetSnarf, Snarf, Typed, Version, View, Work, Write};
 
 use crate::handle::SamTerm;
 use crate::status::{NO_HANDLE, NO_MEMORY, NOT_TEXT, term_status};
@@ -52,6 +52,29 @@ pub extern "C" fn sam_term_type(term: &mut SamTerm, tag: u16, text: &[u8], alloc
     }
     match read_utf8(alloc, text) {
         Ok(runes) => put(term, UserEvent::Typed(tag, runes), alloc),
+        Err(why) => read_status(why),
+    }
+}
+
+/// Puts a text of any length, in UTF-8, in the place of what stands from the place `start` to the place `end`, all or nothing. The dot moves
+/// as other places do. After `SAM_NO_HANDLE`, and before all else, come `SAM_NOT_TEXT` if the text is not UTF-8, and `SAM_NO_MEMORY` if
+/// there is no memory for its runes. After these two the terminal is as it was.
+#[unsafe(no_mangle)]
+pub extern "C" fn sam_term_edit(
+    term: &mut SamTerm,
+    tag: u16,
+    start: u32,
+    end: u32,
+    text: &[u8],
+    alloc: Global,
+) -> u32
+    ensures { TermPutText term.old.held.end text.now (λ runes. Edit tag start end runes) result term.new.held.end }
+{
+    if !term.is_made() {
+        return NO_HANDLE;
+    }
+    match read_utf8(alloc, text) {
+        Ok(runes) => put(term, UserEvent::Edit(tag, start, end, runes), alloc),
         Err(why) => read_status(why),
     }
 }

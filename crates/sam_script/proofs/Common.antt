@@ -14,6 +14,7 @@ pub use Rattle.std.specs.Str.{all_ascii_digits}
 pub use Rattle.std.specs.Vec.Iter.{into_iter_items}
 pub use Rattle.sam_runes.specs.Texts.{max_runes, most_files, most_in_name}
 pub use Rattle.sam_script.specs.Events.{Part, Place, Reader, Tag, by_place, by_range, by_tag, form, readers}
+unfoldable pub use Rattle.sam_script.specs.Events.{edit_at}
 pub use Rattle.sam_script.specs.Events.Part.{Number, Rest}
 pub use Rattle.sam_script.specs.Reading.{Adds, AddsNone, IsUnsaid, bare, fitting_name, fitting_text, is_silent, line_readers, read_by}
 unfoldable pub use Rattle.sam_script.specs.Reading.{event_at, file_at, file_text_at, line_at}

@@ -1,8 +1,8 @@
 -- What reading gives is what the grammar says, and what it says is read.
-use Rattle.sam_script.proofs.Common.{◌≡◌, ◌<◌, ◌∙◌, ◌^◌, ◌⊎◌, inl, inr, refl, sym, ap, ap₂, subst, ℕ, List, [], ◌∷◌, ◌++◌, length, length-append, Bool, true, false, cond, Option, Some, arith, codes, flat_map, append_assoc, append-nil, encode_utf8, ◌==◌, encode_utf8_all, IsUtf8, IsCharBoundary, AllByRecursion, all_ascii_digits, eqb_tells, same_Some, IsUtf8-drop, IsUtf8-take, IsUtf8-past_char, IsCharBoundary-end, chars_from_encodes, encodes-chars, encodes-append, encode_ascii, UserEvent, text_shown, text_rune, IsNumber, SpellsParts, SpellsEvent, IsWord, Part, Tag, Place, form, Reader, by_tag, by_place, by_range, readers, Number, Rest, read_by, event_at, ◌>>=◌, word_of, behind_word, word_at, number_of, number_at, unescaped, text_at, ended, tag_alone, tag_and_place, tag_and_range, tag_and_text}
+use Rattle.sam_script.proofs.Common.{◌≡◌, ◌<◌, ◌∙◌, ◌^◌, ◌⊎◌, inl, inr, refl, sym, ap, ap₂, subst, ℕ, List, [], ◌∷◌, ◌++◌, length, length-append, Bool, true, false, cond, Option, Some, arith, codes, flat_map, append_assoc, append-nil, encode_utf8, ◌==◌, encode_utf8_all, IsUtf8, IsCharBoundary, AllByRecursion, all_ascii_digits, eqb_tells, same_Some, IsUtf8-drop, IsUtf8-take, IsUtf8-past_char, IsCharBoundary-end, chars_from_encodes, encodes-chars, encodes-append, encode_ascii, UserEvent, text_shown, text_rune, IsNumber, SpellsParts, SpellsEvent, IsWord, Part, Tag, Place, form, Reader, by_tag, by_place, by_range, readers, edit_at, Number, Rest, read_by, event_at, ◌>>=◌, word_of, behind_word, word_at, number_of, number_at, unescaped, text_at, ended, tag_alone, tag_and_place, tag_and_range, tag_and_text}
 use Rattle.std.proofs.Math.Seq.{drop-append_seam, take-append_seam, get_or-append_seam}
 use Rattle.std.proofs.lemmas.Slice.Eq.{bytes_eq-Decides}
-use Rattle.sam_term.specs.declared.event.UserEvent.TheVariants.{Typed, SetSnarf}
+use Rattle.sam_term.specs.declared.event.UserEvent.TheVariants.{Typed, SetSnarf, Edit}
 
 -- ## Options and tests
 
@@ -200,6 +200,31 @@ pub typed_read : (bytes : List ℕ) (f : ℕ) (s : List ℕ) → IsUtf8 bytes �
 unfolding tag_and_text
 typed_read bytes f s u h = grind (arith, (parts_number 16 bytes f (Rest s ∷ []) h), text_read, (number_utf8 16 bytes))
 
+pub edit_says : (bytes : List ℕ) (e : UserEvent) → IsUtf8 bytes → edit_at bytes ≡ Some e → ((form e).0 ≡ codes "edit") × SpellsParts (form e).1 bytes
+unfolding edit_at
+edit_says bytes e u h =
+    let a = bind_some (number_at 16 bytes) (λ f. number_at 32 f.1 >>= λ p. number_at 32 p.1 >>= λ q. text_at q.1 >>= λ s. Some (Edit f.0 p.0 q.0 s)) e h in
+    let b = bind_some (number_at 32 a.0.1) (λ p. number_at 32 p.1 >>= λ q. text_at q.1 >>= λ s. Some (Edit a.0.0 p.0 q.0 s)) e a.2 in
+    let d = bind_some (number_at 32 b.0.1) (λ q. text_at q.1 >>= λ s. Some (Edit a.0.0 b.0.0 q.0 s)) e b.2 in
+    let t = bind_some (text_at d.0.1) (λ s. Some (Edit a.0.0 b.0.0 d.0.0 s)) e d.2 in
+    let v = number_utf8 32 b.0.1 d.0 (number_utf8 32 a.0.1 b.0 (number_utf8 16 bytes a.0 u a.1) b.1) d.1 in
+    let texts = Rest t.0 ∷ [] in
+    subst (λ (x : UserEvent). ((form x).0 ≡ codes "edit") × SpellsParts (form x).1 bytes) (same_Some (Edit a.0.0 b.0.0 d.0.0 t.0) e t.2) (
+      refl,
+      number_parts 16 bytes a.0 (Place b.0.0 ∷ Place d.0.0 ∷ texts) a.1
+          (number_parts 32 a.0.1 b.0 (Place d.0.0 ∷ texts) b.1
+          (number_parts 32 b.0.1 d.0 texts d.1 (text_says d.0.1 t.0 v t.1, refl))),
+    )
+
+pub edit_read : (bytes : List ℕ) (f p q : ℕ) (s : List ℕ) → IsUtf8 bytes → SpellsParts (form (Edit f p q s)).1 bytes → edit_at bytes ≡ Some (Edit f p q s)
+unfolding edit_at
+edit_read bytes f p q s u h =
+    let a = parts_number 16 bytes f (Place p ∷ Place q ∷ Rest s ∷ []) h in
+    let b = parts_number 32 a.0 p (Place q ∷ Rest s ∷ []) a.2 in
+    let d = parts_number 32 b.0 q (Rest s ∷ []) b.2 in
+    let v = number_utf8 32 b.0 (q, d.0) (number_utf8 32 a.0 (p, b.0) (number_utf8 16 bytes (f, a.0) u a.1) b.1) d.1 in
+    grind (arith, a.1, b.1, d.1, (text_read d.0 s v d.2.0))
+
 -- ## The event of a word
 
 -- the reader of a word says what the word and the rest spell
@@ -230,11 +255,14 @@ bare_row d word is bytes e u h = grind arith
 type_row : ReadsAs IsEventOf (codes "type", λ bytes. tag_and_text bytes >>= λ x. Some (Typed x.0 x.1))
 type_row bytes e u h = grind (arith, typed_says)
 
+edit_row : ReadsAs IsEventOf (codes "edit", edit_at)
+edit_row bytes e u h = edit_says bytes e u h
+
 snarf_row : ReadsAs IsEventOf (codes "setsnarf", λ bytes. text_at bytes >>= λ s. Some (SetSnarf s))
 snarf_row bytes e u h = grind (arith, text_says)
 
 readers_say : AllByRecursion (ReadsAs IsEventOf) readers
-readers_say = search (type_row, snarf_row, range_row, place_row, tag_row, bare_row)
+readers_say = search (type_row, snarf_row, edit_row, range_row, place_row, tag_row, bare_row)
 
 -- the number that a form begins with, and what stands after its first part
 abbrev first : List Part → ℕ
@@ -259,6 +287,7 @@ three e = first (behind (behind (form e).1))
 parts_read : (e : UserEvent) (bytes : List ℕ) → IsUtf8 bytes → SpellsParts (form e).1 bytes → read_by readers (form e).0 bytes ≡ Some e
 parts_read (Typed f s) bytes u h = ap (λ o. o >>= λ x. Some (Typed x.0 x.1)) (typed_read bytes f s u h)
 parts_read (SetSnarf s) bytes u h = ap (λ o. o >>= λ x. Some (SetSnarf x)) (text_read bytes s u h.0)
+parts_read (Edit f p q s) bytes u h = edit_read bytes f p q s u h
 parts_read e bytes u h = grind (arith, (tag_read bytes (one e)), (place_read bytes (one e) (two e)), (range_read bytes (one e) (two e) (three e)))
 
 pub event_says : (bytes : List ℕ) (e : UserEvent) → IsUtf8 bytes → event_at bytes ≡ Some e → (event : List ℕ) × (bytes ≡ codes " " ++ event) × SpellsEvent e event

@@ -2,10 +2,10 @@
 use Rattle.std.specs.Prelude.{ℕ, List, [], ◌∷◌, Option, Some, codes}
 use Rattle.sam_term.specs.declared.event.UserEvent.{UserEvent}
 use Rattle.sam_term.specs.declared.event.UserEvent.TheVariants.{Typed, Select, Cut, Paste, Snarf, Look, Search, Send, Dclick, Scroll, View}
-use Rattle.sam_term.specs.declared.event.UserEvent.TheVariants.{Load, Open, Close, Write, Work, OpenCmd, New, Exit, Check, GetSnarf}
+use Rattle.sam_term.specs.declared.event.UserEvent.TheVariants.{Load, Edit, Open, Close, Write, Work, OpenCmd, New, Exit, Check, GetSnarf}
 use Rattle.sam_term.specs.declared.event.UserEvent.TheVariants.{SetSnarf, Version}
 use Rattle.sam_term.specs.declared.event.UserEvent.TheVariants as user
-use Rattle.sam_script.specs.Words.{◌>>=◌, text_at, ended, tag_alone, tag_and_place, tag_and_range, tag_and_text}
+use Rattle.sam_script.specs.Words.{◌>>=◌, number_at, text_at, ended, tag_alone, tag_and_place, tag_and_range, tag_and_text}
 
 -- ## What is spelled
 
@@ -35,6 +35,7 @@ form (Dclick f p) = (codes "dclick", Tag f ∷ Place p ∷ [])
 form (Scroll f n) = (codes "scroll", Tag f ∷ Place n ∷ [])
 form (View f p n) = (codes "view", Tag f ∷ Place p ∷ Place n ∷ [])
 form (Load f p n) = (codes "load", Tag f ∷ Place p ∷ Place n ∷ [])
+form (Edit f p q s) = (codes "edit", Tag f ∷ Place p ∷ Place q ∷ Rest s ∷ [])
 form (Open f) = (codes "open", Tag f ∷ [])
 form (Close f) = (codes "close", Tag f ∷ [])
 form (Write f) = (codes "write", Tag f ∷ [])
@@ -63,6 +64,10 @@ by_place event bytes = tag_and_place bytes >>= λ x. Some (event x.0 x.1)
 abbrev pub by_range : (ℕ → ℕ → ℕ → UserEvent) → Reader UserEvent
 by_range event bytes = tag_and_range bytes >>= λ x. Some (event x.0 x.1 x.2)
 
+unfoldable pub edit_at : Reader UserEvent
+edit_at bytes =
+    number_at 16 bytes >>= λ f. number_at 32 f.1 >>= λ p. number_at 32 p.1 >>= λ q. text_at q.1 >>= λ s. Some (Edit f.0 p.0 q.0 s)
+
 abbrev pub file_readers : List (List ℕ × Reader UserEvent)
 file_readers =
     (codes "cut", by_tag Cut) ∷ (codes "paste", by_tag Paste) ∷ (codes "snarf", by_tag Snarf) ∷ (codes "look", by_tag Look)
@@ -74,6 +79,7 @@ readers =
     (codes "type", λ bytes. tag_and_text bytes >>= λ x. Some (Typed x.0 x.1))
     ∷ (codes "setsnarf", λ bytes. text_at bytes >>= λ s. Some (SetSnarf s))
     ∷ (codes "select", by_range Select) ∷ (codes "view", by_range View) ∷ (codes "load", by_range Load)
+    ∷ (codes "edit", edit_at)
     ∷ (codes "dclick", by_place Dclick) ∷ (codes "scroll", by_place Scroll)
     ∷ (codes "version", by_tag Version) ∷ (codes "opencmd", ended OpenCmd) ∷ (codes "new", ended New) ∷ (codes "getsnarf", ended GetSnarf)
     ∷ (codes "flush", ended user.Flush) ∷ (codes "exit", ended Exit) ∷ file_readers

@@ -1,7 +1,7 @@
 //! Reads what the user does from the words of a `k` or `m` line, and writes it in these words.
 
 ghost use Rattle.std.specs.Prelude.{◌≡◌, ◌++◌, ◌∷◌, [], OnOk, string_bytes};
-ghost use Rattle.sam_script.specs.Events.{Tag, Place, form, readers, file_readers};
+ghost use Rattle.sam_script.specs.Events.{Tag, Place, form, readers, file_readers, edit_at};
 ghost use Rattle.sam_script.specs.Events.Part.{Rest};
 ghost use Rattle.sam_script.specs.Reading.{event_at, read_by};
 ghost use Rattle.sam_script.specs.Spelling.{spelling};
@@ -10,7 +10,8 @@ ghost use Rattle.sam_script.specs.Words.{Gives};
 use crate::fault::LineFault;
 use crate::showing::{push, push_text};
 use crate::words::{
-    ended, tag_alone, tag_and_place, tag_and_range, tag_and_text, text_at, word_at,
+    ended, place_at, tag_alone, tag_and_place, tag_and_range, tag_and_text, tag_at, text_at,
+    word_at,
 };
 use sam_term::event::UserEvent;
 use std::alloc::{AllocError, Global};
@@ -47,6 +48,7 @@ fn read_event(alloc: Global, word: &str, rest: &str) -> Result<UserEvent, LineFa
             let (tag, place, len) = tag_and_range(rest)?;
             Ok(UserEvent::Load(tag, place, len))
         }
+        "edit" => edit_at(alloc, rest),
         "dclick" => {
             let (tag, place) = tag_and_place(rest)?;
             Ok(UserEvent::Dclick(tag, place))
@@ -63,6 +65,18 @@ fn read_event(alloc: Global, word: &str, rest: &str) -> Result<UserEvent, LineFa
         "exit" => ended(UserEvent::Exit, rest),
         _ => on_file(word, rest),
     }
+}
+
+/// Reads an `edit` event after its word: a tag, two places, and a text that takes the rest of the line.
+#[tactic(auto, unfolding(crate::specs::Events::edit_at))]
+fn edit_at(alloc: Global, text: &str) -> Result<UserEvent, LineFault>
+    ensures { Gives (λ e. e) result (edit_at text.now) }
+{
+    let (tag, rest) = tag_at(text)?;
+    let (start, rest) = place_at(rest)?;
+    let (end, rest) = place_at(rest)?;
+    let runes = text_at(alloc, rest)?;
+    Ok(UserEvent::Edit(tag, start, end, runes))
 }
 
 /// Reads an event that has a tag after its word and nothing more.
@@ -102,6 +116,7 @@ pub fn push_user(out: &mut String, event: &UserEvent) -> Result<(), AllocError>
         UserEvent::Scroll(tag, n) => push_place(out, "scroll", *tag, *n),
         UserEvent::View(tag, p, n) => push_range(out, "view", *tag, *p, *n),
         UserEvent::Load(tag, p, n) => push_range(out, "load", *tag, *p, *n),
+        UserEvent::Edit(tag, p, q, text) => push_edit(out, *tag, *p, *q, text.as_slice()),
         UserEvent::Open(tag) => push_number(out, "open", *tag),
         UserEvent::Close(tag) => push_number(out, "close", *tag),
         UserEvent::Write(tag) => push_number(out, "write", *tag),
@@ -129,6 +144,14 @@ fn push_typed(out: &mut String, tag: u16, text: &[char]) -> Result<(), AllocErro
     ensures { OnOk result (string_bytes out.new ≡ string_bytes out.old ++ spelling (form (UserEvent.Typed tag text.now))) }
 {
     push_number(out, "type", tag)?;
+    push_with_text(out, "", text)
+}
+
+/// Appends an `edit` event.
+fn push_edit(out: &mut String, tag: u16, p: u32, q: u32, text: &[char]) -> Result<(), AllocError>
+    ensures { OnOk result (string_bytes out.new ≡ string_bytes out.old ++ spelling (form (UserEvent.Edit tag p q text.now))) }
+{
+    push_range(out, "edit", tag, p, q)?;
     push_with_text(out, "", text)
 }
 

@@ -106,7 +106,7 @@ family! {
         TooLong = SAM_REFUSAL_TOO_LONG,
         /// More than 512 runes typed, or a snarf buffer that is too long for a message.
         TextTooLong = SAM_REFUSAL_TEXT_TOO_LONG,
-        /// The command file is never opened, closed, written or worked on so.
+        /// The command file is never opened, closed, written, edited or worked on so.
         CommandFile = SAM_REFUSAL_COMMAND_FILE,
         /// There is no version 0.
         BadVersion = SAM_REFUSAL_BAD_VERSION,

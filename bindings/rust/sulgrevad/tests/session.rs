@@ -130,6 +130,24 @@ fn a_page_is_asked_for_at_once() -> Result<(), Error> {
 }
 
 #[test]
+fn an_edit_of_any_length_goes_at_once() -> Result<(), Error> {
+    let (mut host, mut term, file) = opened("one two\n")?;
+    let many = "é".repeat(1100);
+    let sent = term.sent();
+    term.edit(file, 4, 7, &many)?;
+    assert_eq!(term.sent() - sent, 4); // a Tcut, and Ttypes of 512, 512 and 76 runes
+    term.edit(file, 0, 4, "")?;
+    carry(&mut term, &mut host)?;
+    assert_eq!(host.text(file), Some(format!("{many}\n")));
+    assert_eq!(term.refusals().count(), 0);
+    term.edit(file, 0, 1102, "x")?; // its end is after that of the text
+    assert_eq!(term.refusals().map(|(_, why)| why).collect::<Vec<_>>(), [Ok(Refusal::BadPosition)]);
+    carry(&mut term, &mut host)?;
+    assert_eq!(term.len(file), Some(1101));
+    Ok(())
+}
+
+#[test]
 fn a_written_file_is_told_once() -> Result<(), Error> {
     let (mut host, mut term, file) = opened("one\n")?;
     term.write(file)?;
