@@ -1,15 +1,14 @@
 -- The pieces of a text, and what an Edit composes.
 use native.Mathlib.Nat.{div-add-mod', mod-lt}
-use Rattle.core.specs.Int.{div_ceil}
-use Rattle.std.proofs.Common.{leb-true, leb-false, nat_le, ◌*◌}
+use Rattle.std.proofs.Common.{leb-true, leb-false, nat_le, ◌*◌, ◌/◌, ◌%◌}
 use Rattle.std.proofs.lemmas.List.{nil_from_length}
-use Rattle.sam_term.proofs.Common.{◌≡◌, refl, sym, ap, ◌∙◌, ℕ, zero, suc, ◌+◌, ◌-◌, ◌<◌, ◌≤◌, ◌++◌, ◌==◌, ◌&&◌, Bool, true, false, List, [], ◌∷◌, length, map, take, drop, Some, arith, length-take, length-drop, length-append, take-append-drop, append-nil, append_assoc, min, nat_eq, eq-eqb, is_empty, most_in_message, lock_of, PlainTerminal, cut_message, edit_messages, event_outcome, flushed, made_by_edit, pieces, typed_pieces, unsent_message, Edit, Tmesg, Ttype}
+use Rattle.sam_term.proofs.Common.{◌≡◌, refl, sym, ap, ◌∙◌, ℕ, zero, suc, ◌+◌, ◌<◌, ◌≤◌, ◌++◌, ◌==◌, ◌&&◌, Bool, true, false, List, [], ◌∷◌, length, take, drop, arith, length-take, length-drop, take-append-drop, append-nil, append_assoc, min, nat_eq, is_empty, most_in_message, PlainTerminal, cut_message, event_outcome, flushed, made_by_edit, pieces, typed_pieces, unsent_message, Edit}
 use Rattle.sam_term.specs.LockCounts.{locks_taken, takes_command}
 use Rattle.sam_term.specs.Replacing.{TypeOn, all_typed, EditComposes, EditOfNothing, EditLocksNothing}
 
 -- ## The pieces
 
-pieces-none : (n p : ℕ) → pieces n p [] ≡ []
+pub pieces-none : (n p : ℕ) → pieces n p [] ≡ []
 unfolding pieces
 pieces-none zero p = refl
 pieces-none (suc n) p = refl
@@ -30,6 +29,7 @@ pieces-enough n k p (c ∷ s) a b = grind arith
 pub pieces-next : (p : ℕ) (s : List ℕ) → is_empty s ≡ false
     → pieces (length s) p s ≡ (p, take most_in_message s) ∷ pieces (length (drop most_in_message s)) (p + most_in_message) (drop most_in_message s)
 unfolding pieces
+pieces-next p [] e = grind arith
 pieces-next p (c ∷ s) e =
     ap (λ xs. (p, take most_in_message (c ∷ s)) ∷ xs)
     (pieces-enough (length s) (length (drop most_in_message (c ∷ s))) (p + most_in_message) (drop most_in_message (c ∷ s))
@@ -59,6 +59,21 @@ pieces-step p m s e some = go (nat_le (length s) most_in_message) refl
     go true h = pieces-last p m s (leb-true (length s) most_in_message h) (grind (arith, (leb-true (length s) most_in_message h))) some
     go false h = let full : m ≡ most_in_message = grind (arith, (leb-false (length s) most_in_message h)) in rw full (pieces-next p s some)
 
+pub pieces-some : (n p : ℕ) (s : List ℕ) → 0 < length (pieces n p s) → is_empty s ≡ false
+pieces-some n p [] l = grind (arith, (pieces-none n p))
+pieces-some n p (c ∷ s) l = refl
+
+-- after the last piece nothing is left
+pub pieces-over : (xs ys : List (ℕ × List ℕ)) (n p : ℕ) (s : List ℕ) → length (pieces n p s) ≡ 0 → xs ++ pieces n p s ≡ ys → xs ≡ ys
+pieces-over xs ys n p s l e = sym (append-nil xs) ∙ (ap (λ r. xs ++ r) (sym (nil_from_length (pieces n p s) l)) ∙ e)
+
+-- there are no more than runes
+pub pieces-few : (n p : ℕ) (s : List ℕ) → length (pieces n p s) ≤ n
+unfolding pieces
+pieces-few zero p s = omega arith
+pieces-few (suc n) p [] = omega arith
+pieces-few (suc n) p (c ∷ s) = omega (arith, pieces-few n (p + most_in_message) (drop most_in_message (c ∷ s)))
+
 -- ## How many there are
 
 pieces-size : (n p : ℕ) (s : List ℕ) → length s ≤ n → (length s ≤ length (pieces n p s) * 512) × (length (pieces n p s) * 512 < length s + 512)
@@ -71,10 +86,12 @@ pieces-size (suc n) p (c ∷ s) l =
     (omega (arith, rest.0, rest.1, size), omega (arith, rest.0, rest.1, size))
 pieces-size n p s l = elim l [ ]
 
-parts-are : (x k : ℕ) → x ≤ k * 512 → k * 512 < x + 512 → div_ceil x 512 ≡ k
-parts-are x k a b = grind (arith, (div-add-mod' x 512), (mod-lt x 512))
+parts-are : (x k : ℕ) → x ≤ k * 512 → k * 512 < x + 512 → x / 512 + min 1 (x % 512) ≡ k
+parts-are x k a b =
+    let less : x % 512 < 512 = mod-lt x (omega arith) in
+    grind (arith, (div-add-mod' x 512), less)
 
-pub pieces-count : (p : ℕ) (s : List ℕ) → div_ceil (length s) most_in_message ≡ length (pieces (length s) p s)
+pub pieces-count : (p : ℕ) (s : List ℕ) → length s / 512 + min 1 (length s % 512) ≡ length (pieces (length s) p s)
 pieces-count p s = let size = pieces-size (length s) p s (omega arith) in parts-are (length s) (length (pieces (length s) p s)) size.0 size.1
 
 -- ## What they type
@@ -134,4 +151,4 @@ edit_locks f p q s e =
 pub ruleset count_facts = (pieces-count)
 
 -- what cutting a text in pieces rests on
-pub ruleset cut_facts = (pieces-step, pieces-none, append_assoc, append-nil)
+pub ruleset cut_facts = (append_assoc)

@@ -1,11 +1,10 @@
 -- What an Edit does, in the words of a text.
-use Rattle.std.specs.Prelude.{◌≡◌, ℕ, ◌+◌, ◌≤◌, ◌<◌, Bool, true, false, ◌&&◌, ◌==◌, List, [], ◌∷◌, ◌++◌, length, map, take, drop, Some, ⊤}
+use Rattle.std.specs.Prelude.{◌≡◌, ℕ, ◌+◌, ◌≤◌, ◌<◌, false, ◌&&◌, ◌==◌, List, [], ◌∷◌, ◌++◌, length, map, take, drop, Some, ⊤}
 use Rattle.sam_runes.specs.Texts.{is_empty, most_in_message}
 use Rattle.sam_mesg.specs.declared.tmesg.Tmesg.{Tmesg}
 use Rattle.sam_mesg.specs.declared.tmesg.Tmesg.TheVariants.{Ttype}
 use Rattle.sam_term.specs.LockCounts.{locks_taken, takes_command}
 use Rattle.sam_term.specs.Term.{PlainTerminal, cut_message, edit_messages, event_outcome, rasp_at, unsent_message}
-use Rattle.sam_term.specs.declared.event.UserEvent.{UserEvent}
 use Rattle.sam_term.specs.declared.event.UserEvent.TheVariants.{Edit}
 
 -- the messages type into f from p on: each has a rune at least and no more than a message can have, and begins where the one before it

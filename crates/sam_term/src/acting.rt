@@ -130,12 +130,13 @@ impl Terminal {
         }
     }
 
-    /// Returns whether an event would type so many runes that the file has more than `MAX_RUNES`.
+    /// Returns whether an event would put so many runes in that the file has more than `MAX_RUNES`.
     fn makes_too_long(&self, event: &UserEvent) -> bool
         ensures { result ≡ makes_too_long self.now event.now }
     {
         match event {
             UserEvent::Typed(tag, text) => self.room_beside_dot(*tag) < text.len(),
+            UserEvent::Edit(tag, p, q, text) => self.room_beside(*tag, *p, *q) < text.len(),
             _ => false,
         }
     }

@@ -111,7 +111,7 @@ pub fn load_asks_for_gaps()
 /// Says what an `Edit` does: its text comes in the place of its range, all of it; and what it composes after the unsent runes is the cut of
 /// the range, unless that is empty, and then messages whose runes one after another are the text. None of these takes a lock, as long as
 /// the file is not the command file. Where nothing goes and nothing comes, nothing is done.
-#[tactic(auto, using(crate::proofs::Pieces::edit_law, crate::proofs::Pieces::edit_idle, crate::proofs::TermLaws::edit_text, crate::proofs::Pieces::edit_locks))]
+#[tactic(auto, using(crate::proofs::Pieces::edit_law, crate::proofs::Pieces::edit_idle, crate::proofs::TermLaws::edit_text))]
 pub fn edit_replaces()
     ensures text { EditReplaces }
     ensures messages { EditComposes }

@@ -31,8 +31,8 @@ pub struct KnownFile {
     /// Whether the file is dirty, as the last `Hdirty` or `Hclean` said. What the user types and cuts does not set it, since no frame
     /// reports that.
     pub dirty: bool,
-    /// Whether the user typed into the file or cut from it here since the last `Hclean`, or since it became known. A held event has not
-    /// set it yet.
+    /// Whether the user typed into the file, cut from it or edited it here since the last `Hclean`, or since it became known. A held event
+    /// has not set it yet.
     pub changed: bool,
     /// The window, if and only if the file is open.
     pub window: Option<Window>,

@@ -209,8 +209,8 @@ impl Terminal {
         ensures composed { self.new ≡ all_composed self.old (typed_pieces tag cut.items) }
         ensures messages { out.new.messages ≡ out.old.messages ++ typed_pieces tag cut.items }
     {
-        for (place, runes) in cut {
-            self.compose(Tmesg::Ttype(tag, place, runes), out);
+        for piece in cut {
+            self.compose(Tmesg::Ttype(tag, piece.0, piece.1), out);
         }
     }
 }

@@ -84,6 +84,15 @@ impl Terminal {
         MAX_RUNES as usize - self.rasp_len(tag) + (dot.1 - dot.0) as usize
     }
 
+    /// Returns how many more runes a file may have once what stands from `p` to `q` is gone. If `q` is less than `p`, nothing goes.
+    pub(crate) fn room_beside(&self, tag: u16, p: u32, q: u32) -> usize
+        ensures { result + (length (window_at self.now tag).rasp - (q - p)) ≡ max_runes }
+    {
+        self.window_facts(tag);
+        let left = self.rasp_len(tag).saturating_sub(q.saturating_sub(p) as usize);
+        MAX_RUNES as usize - left
+    }
+
     /// Has the view of an open file begin at `p`.
     #[tactic(auto, using(crate::proofs::FileSteps::file_puts), unfolding(crate::specs::Sound::FitsUnsent))]
     pub(crate) fn set_view_start(&mut self, tag: u16, p: u32)

@@ -8,6 +8,8 @@ mod end;
 #[cfg(test)]
 mod loading;
 #[cfg(test)]
+mod replacing;
+#[cfg(test)]
 mod terminal;
 #[cfg(test)]
 mod trying;
