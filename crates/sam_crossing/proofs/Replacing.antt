@@ -1,6 +1,6 @@
 -- An edit of any length keeps both sides in order: its messages one after another do what the terminal does at once.
 use Rattle.std.proofs.lemmas.List.{take_at, drop_at}
-use Rattle.sam_crossing.proofs.Common.{◌≡◌, ℕ, zero, suc, ◌+◌, ◌-◌, ◌≤◌, Bool, true, false, ◌==◌, if◌then◌else◌, nat_le, List, [], ◌∷◌, ◌++◌, length, map, take, drop, Option, Some, None, refl, sym, ap, ◌∙◌, subst, arith, append_assoc, append-nil, map-append, length-append, length-map, length-take-le, length-drop, take-append-drop, eqb-true, eq-eqb, le-leb, leb-true, del-nothing, ins, max_runes, most_in_message, take_all, drop_all, Tmesg, Ttype, Tcut, Hmesg, PlainHost, PlainTerminal, window_at, edited, window_after_ins, window_after_del, cut_rasp, ins_rasp, moved_unsent, Unsent, IsHeldBack, slot-put_same, del_cells, composed, all_composed, cut_message, pieces, typed_pieces, edit_messages, replaced, place_after_ins, place_after_del, unsent_message, Open, Lens, lens, OpenAt, view, AllComeToSync, AreTidy, views, InOrder}
+use Rattle.sam_crossing.proofs.Common.{◌≡◌, ℕ, zero, suc, ◌+◌, ◌-◌, ◌≤◌, Bool, true, false, ◌==◌, if◌then◌else◌, nat_le, List, [], ◌∷◌, ◌++◌, length, map, take, drop, Option, Some, None, refl, sym, ap, ◌∙◌, subst, arith, append_assoc, append-nil, map-append, length-append, length-map, length-take-le, length-drop, take-append-drop, eqb-true, eq-eqb, le-leb, leb-true, del-nothing, ins, max_runes, most_in_message, drop_all, Tmesg, Ttype, Tcut, Hmesg, PlainHost, PlainTerminal, window_at, edited, window_after_ins, window_after_del, cut_rasp, ins_rasp, moved_unsent, Unsent, IsHeldBack, slot-put_same, del_cells, composed, all_composed, pieces, typed_pieces, edit_messages, replaced, place_after_ins, place_after_del, unsent_message, Lens, OpenAt, view, AllComeToSync, AreTidy, views, InOrder}
 use mathlib.Core.Path.{fun_ext}
 use Rattle.sam_crossing.proofs.Lenses.{IsFree, IsOpen, exited_of, command_of}
 use Rattle.sam_crossing.proofs.Changes.{Change, Types, Cuts, change_by, typed_in, cut_out, changed, Within}

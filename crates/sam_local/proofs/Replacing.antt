@@ -1,8 +1,7 @@
 -- An edit of any length: its messages do to the host what it does at once.
-use Rattle.sam_crossing.proofs.Common.{◌≡◌, ℕ, zero, suc, ◌+◌, ◌≤◌, Bool, true, false, not, ◌==◌, ◌&&◌, if◌then◌else◌, List, [], ◌∷◌, ◌++◌, length, map, take, drop, Option, Some, None, unwrap_or, option_map, refl, sym, ap, ◌∙◌, subst, true≢false, arith, not-false, append-nil, same_Some, length-map, length-drop, length-ins, length-del, take-append-drop, slot-put_same, is_empty, most_in_message, ins, del, PlainFile, file_at, put_file, cut_file, typed_file, Tmesg, Ttype, Tcut, PlainHost, Reply, counted, reply_to, reply_cut, reply_of, answers, with_file, Window, KnownFile, UserEvent, PlainTerminal, known_at, window_at, is_open, blank_known, blank_window, pieces, typed_pieces, edit_messages, place_after_ins, place_after_del, InOrder}
+use Rattle.sam_crossing.proofs.Common.{◌≡◌, ℕ, zero, suc, ◌+◌, ◌≤◌, Bool, true, false, ◌==◌, ◌&&◌, if◌then◌else◌, List, [], ◌∷◌, ◌++◌, length, map, take, drop, Option, Some, unwrap_or, option_map, refl, sym, ap, ◌∙◌, subst, true≢false, arith, not-false, append-nil, same_Some, length-map, length-drop, length-ins, length-del, take-append-drop, slot-put_same, is_empty, most_in_message, ins, PlainFile, file_at, cut_file, typed_file, Tmesg, Ttype, Tcut, PlainHost, Reply, counted, reply_to, reply_cut, reply_of, answers, with_file, Window, KnownFile, UserEvent, PlainTerminal, known_at, window_at, is_open, blank_known, blank_window, pieces, typed_pieces, edit_messages, place_after_ins, place_after_del, InOrder}
 use Rattle.sam_text.proofs.EditSteps.{typed_joined}
 use Rattle.sam_term.specs.declared.event.UserEvent.TheVariants.{Edit}
-use Rattle.sam_term.specs.Events.{is_command_line}
 use Rattle.sam_runes.specs.Texts.{ends_line}
 use Rattle.sam_crossing.proofs.Passing.{Passed, passed}
 use Rattle.sam_crossing.proofs.Folds.{Answered, answered}
@@ -13,7 +12,7 @@ use Rattle.sam_local.proofs.Sights.{turned}
 use Rattle.sam_local.proofs.Frames.{turn}
 use Rattle.sam_local.proofs.Checks.{rest-known, rest-window}
 use Rattle.sam_local.proofs.Uncounted.{rest}
-use Rattle.sam_local.proofs.Events.{altered, altered_by, edit_turn, replaced_window, nothing-told}
+use Rattle.sam_local.proofs.Events.{altered_by, edit_turn, replaced_window, nothing-told}
 use Rattle.sam_local.proofs.Editors.{replied-is, Acted, acted, after-none, open-here}
 use Rattle.sam_local.proofs.Editing.{reached, file-put, file-other, dot-other, type-plain, replaced-cut, replaced-ins, replaced-both}
 use Rattle.sam_local.proofs.Looking.{keeps, back}
