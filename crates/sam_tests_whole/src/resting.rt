@@ -8,7 +8,7 @@ use std::alloc::{AllocError, Global};
 use std::test::Fail;
 
 /// A file of this name and text.
-fn file_of(alloc: Global, name: char, text: &str) -> Result<(Runes, Text), AllocError> {
+fn file_of(alloc: Global, name: char, text: &str) -> Result<(Runes, Text), Fail> {
     let name = Runes::from_slice(alloc, &[name])?;
     let text = Text::from_runes(alloc, Runes::from_str(alloc, text)?.as_slice())?;
     Ok((name, text))
