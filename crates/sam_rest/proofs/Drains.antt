@@ -1,6 +1,6 @@
 -- What `rest` rests on: a drain, however long, is events that apply, and the count of those left falls.
 use Rattle.std.proofs.Common.{true≢false, option_and_then}
-use Rattle.sam_rest.proofs.Common.{◌≡◌, ℕ, zero, suc, ◌<◌, ◌≤◌, Bool, true, false, List, [], ◌∷◌, ◌++◌, length, Option, Some, None, Result, Ok, Err, same_Some, refl, sym, ap, ◌∙◌, subst, arith, PlainWorld, WasReached, step_of, next_event}
+use Rattle.sam_rest.proofs.Common.{◌≡◌, ℕ, zero, suc, ◌<◌, ◌≤◌, Bool, true, false, List, [], ◌∷◌, ◌++◌, Option, Some, None, Result, Ok, Err, same_Some, refl, sym, ap, ◌∙◌, subst, arith, PlainWorld, WasReached, step_of, next_event}
 unfoldable use Rattle.sam_rest.proofs.Common.{act_of}
 use Rattle.sam_world.specs.declared.event.StepFault.{StepFault}
 use Rattle.std.specs.Prelude.{OnErr}

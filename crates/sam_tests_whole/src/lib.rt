@@ -9,6 +9,8 @@ mod feeding;
 #[cfg(test)]
 mod host;
 #[cfg(test)]
+mod resting;
+#[cfg(test)]
 mod scripts;
 #[cfg(test)]
 mod world;
