@@ -297,10 +297,10 @@ SAM_MUST_USE sam_status sam_term_flush_now(sam_term *term);
  * pieces. */
 SAM_MUST_USE sam_status sam_term_type(sam_term *term, uint16_t tag, const uint8_t *text, size_t len);
 
-/* Puts a text of any length in the place of the runes from start to end, all or nothing; an empty one takes them out. The dot moves as
- * other places do, and the snarf buffer stays as it is. It waits for locks before its places count. Refused by number, in this order,
- * and nothing is changed then: SAM_REFUSAL_NO_FILE, SAM_REFUSAL_COMMAND_FILE for tag 0, SAM_REFUSAL_NOT_OPEN,
- * SAM_REFUSAL_BAD_POSITION if end is below start or after the end of the text, SAM_REFUSAL_TOO_LONG if the file would have more than
+/* Puts a text of any length in the place of the runes from start to end, all or nothing; an empty one takes them out. The places are
+ * those of the file's text when the event acts. The dot moves as other places do, and the snarf buffer stays as it is. Refused by
+ * number, in this order, and nothing is changed then: SAM_REFUSAL_NO_FILE, SAM_REFUSAL_COMMAND_FILE for tag 0, SAM_REFUSAL_NOT_OPEN,
+ * SAM_REFUSAL_BAD_POSITION if end is below start or after the end of the file, SAM_REFUSAL_TOO_LONG if the file would have more than
  * 1,000,000 runes. */
 SAM_MUST_USE sam_status sam_term_edit(sam_term *term, uint16_t tag, uint32_t start, uint32_t end, const uint8_t *text, size_t len);
 

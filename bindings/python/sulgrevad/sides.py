@@ -249,9 +249,9 @@ class Terminal(_Side):
         self._call("type", tag, text, len(text))
 
     def edit(self, tag: int, start: int, end: int, text: Text) -> None:
-        """Puts a text of any length in the place of the runes from `start` to `end`, all or nothing; an empty one takes them out. The dot
-        moves as other places do. Refused by number for the command file, a range that the text doesn't have, and a text that would have more
-        than 1,000,000 runes. Raises NotText, too."""
+        """Puts a text of any length in the place of the runes from `start` to `end`, all or nothing; an empty one takes them out. The
+        dot moves as other places do. Refused by number: in the command file; a range that the file's text doesn't have; where the file
+        would have more than 1,000,000 runes. Raises NotText, too."""
         text = bytes_of(text)
         self._call("edit", tag, start, end, text, len(text))
 

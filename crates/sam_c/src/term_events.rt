@@ -56,9 +56,10 @@ pub extern "C" fn sam_term_type(term: &mut SamTerm, tag: u16, text: &[u8], alloc
     }
 }
 
-/// Puts a text of any length, in UTF-8, in the place of what stands from the place `start` to the place `end`, all or nothing. The dot moves
-/// as other places do. After `SAM_NO_HANDLE`, and before all else, come `SAM_NOT_TEXT` if the text is not UTF-8, and `SAM_NO_MEMORY` if
-/// there is no memory for its runes. After these two the terminal is as it was.
+/// Puts a text of any length, in UTF-8, in the place of what stands from the place `start` to the place `end`, all or nothing. The dot
+/// moves as other places do. An edit of the command file, of a range that the text doesn't have, or to more than 1,000,000 runes is an
+/// event that is refused. After `SAM_NO_HANDLE`, and before all else, come `SAM_NOT_TEXT` if the text is not UTF-8, and `SAM_NO_MEMORY`
+/// if there is no memory for its runes. After these two the terminal is as it was.
 #[unsafe(no_mangle)]
 pub extern "C" fn sam_term_edit(
     term: &mut SamTerm,

@@ -134,14 +134,7 @@ extern "C" {
     pub fn sam_term_new(term: *mut sam_term) -> sam_status;
     pub fn sam_term_free(term: *mut sam_term) -> sam_status;
     pub fn sam_term_type(term: *mut sam_term, tag: u16, text: *const u8, len: usize) -> sam_status;
-    pub fn sam_term_edit(
-        term: *mut sam_term,
-        tag: u16,
-        start: u32,
-        end: u32,
-        text: *const u8,
-        len: usize,
-    ) -> sam_status;
+    pub fn sam_term_edit(term: *mut sam_term, tag: u16, start: u32, end: u32, text: *const u8, len: usize) -> sam_status;
     pub fn sam_term_select(term: *mut sam_term, tag: u16, start: u32, end: u32) -> sam_status;
     pub fn sam_term_cut(term: *mut sam_term, tag: u16) -> sam_status;
     pub fn sam_term_paste(term: *mut sam_term, tag: u16) -> sam_status;

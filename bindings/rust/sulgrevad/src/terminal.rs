@@ -49,9 +49,9 @@ impl Terminal {
         done(unsafe { sys::sam_term_type(self.at(), tag, text.as_ptr(), text.len()) })
     }
 
-    /// Puts a text of any length in the place of the runes from `start` to `end`, all or nothing; an empty one takes them out. The dot moves
-    /// as other places do. Refused for the command file (`CommandFile`), for a range that the text doesn't have (`BadPosition`), and where
-    /// the file would have more than 1,000,000 runes (`TooLong`).
+    /// Puts a text of any length in the place of the runes from `start` to `end`, all or nothing; an empty one takes them out. The dot
+    /// moves as other places do. Refused in the command file (`CommandFile`), at a range that the file's text doesn't have
+    /// (`BadPosition`), and where the file would have more than 1,000,000 runes (`TooLong`).
     pub fn edit(&mut self, tag: u16, start: u32, end: u32, text: &str) -> Result<(), Error> {
         done(unsafe { sys::sam_term_edit(self.at(), tag, start, end, text.as_ptr(), text.len()) })
     }
