@@ -28,8 +28,8 @@
 //! 5. specs/View, proofs/FrameMoves: the terminal itself, seen as lenses, does what they do. [`frames_move`] sums it up.
 //! 6. specs/Steady, Fold, Order: all files and all that is under way at once (`AllComeToSync`, `InOrder`). proofs/Versions, Folds, Steady,
 //!    Composing: these, with one message or frame more or less.
-//! 7. proofs/Starting, Passing, Views, Dots, Sending, Joins, Typing, Acting, Receiving: the first state is in order, and each event of
-//!    the user (`event_goes`) and each frame (`received`) keeps it so.
+//! 7. proofs/Starting, Passing, Views, Dots, Sending, Joins, Typing, Replacing, Acting, Receiving: the first state is in order, and each
+//!    event of the user (`event_goes`) and each frame (`received`) keeps it so.
 //! 8. proofs/Ordered: the host's step (`host_goes`), and what follows. specs/StreamVersions, proofs/Streaming: both sides have one version.
 //! 9. specs/World: both sides with all that is under way, what an event makes of it (`step_of`), and a run (`run_of`). specs/RunOrder,
 //!    proofs/OrderLaws, RunLaws: the laws of every step and run.
