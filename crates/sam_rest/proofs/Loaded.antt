@@ -2,7 +2,7 @@
 use Rattle.sam_crossing.proofs.Common.{◌≡◌, ℕ, Bool, true, false, not, ◌==◌, ◌&&◌, ◌||◌, if◌then◌else◌, List, [], ◌∷◌, ◌++◌, Option, Some, None, is_some, unwrap_or, ◌⊎◌, inl, inr, refl, sym, ap, ◌∙◌, subst, true≢false, arith, append-nil, eq-eqb, eqb-true, not-false, slot-put_same, slot-put_other, Tmesg, Trequest, Tack, Hmesg, Hclean, Hcheck, Hdata, Hunlockfile, Hack, PlainHost, Reply, counted, Unsent, KnownFile, Window, PlainTerminal, Made, window_at, window_of, is_open, frame_outcome, composed, flushed, unsent_message, took_unlockfile, took_bindname, took_data, took_grow, took_growdata, took_cut, took_close, took_exit, Action, Needs_open, Join, Bind, Close, Leave, Grow, Fill, Insert, Cut, Place, Free_file, Exit, closes, frees, IsGuarded, AllComeToSync, InOrder, file_in, at_file, action, answers, reply_of, effect, view, views, blank_window, append_assoc, option_map, nat_lt, all_composed, requests_for, sends_all, gaps_shown, made_by_load, all_wanted, ◌-◌, ◌+◌, Lens}
 use Rattle.sam_rasp.specs.Rasp.{hole_within}
 use Rattle.sam_runes.specs.Slots.{Slots}
-use Rattle.sam_term.specs.Term.{view_end, wanted, sends_if, request_for, front_of, most_requests, stretches}
+use Rattle.sam_term.specs.Term.{view_end, wanted, sends_if, request_for, front_of, most_requests, stretches, set_dot_of}
 use Rattle.sam_crossing.specs.Frames.{only}
 use Rattle.sam_crossing.specs.View.{composed_for}
 use Rattle.sam_local.proofs.Takes.{unsent-left}
@@ -11,8 +11,8 @@ use Rattle.sam_term.specs.Windows.{known_in}
 use Rattle.sam_term.proofs.Composes.{flushed-files}
 use Rattle.sam_local.proofs.Frames.{is_gentle}
 use Rattle.sam_local.proofs.Gentle.{window-stays}
-use Rattle.sam_rest.proofs.Common.{length, Result, Ok, Err, same_Some, Done, first_of_checks, act_of, act_on, decided, if_countable, after_act, event_checks, event_outcome, Verdict, Acted, TermFault, UserEvent, HFrame, PlainWorld, step_of, mesgs, IsInOrder, made_by_view, requested}
-use Rattle.sam_term.specs.declared.event.UserEvent.TheVariants.{View, Load}
+use Rattle.sam_rest.proofs.Common.{Result, Ok, Err, same_Some, Done, first_of_checks, act_of, act_on, decided, if_countable, after_act, event_checks, event_outcome, Verdict, Acted, TermFault, UserEvent, HFrame, PlainWorld, step_of, mesgs, IsInOrder, made_by_view, requested}
+use Rattle.sam_term.specs.declared.event.UserEvent.TheVariants.{View, Load, Select}
 use Rattle.sam_term.specs.Term.{put_window}
 use Rattle.sam_crossing.specs.declared.event.Event.{Event}
 use Rattle.sam_crossing.specs.declared.event.Event.TheVariants.{User, Act, Flush, HostTake, TermTake}
@@ -24,9 +24,9 @@ use Rattle.sam_crossing.proofs.Views.{view-kept, view-composed, unsent-composed,
 use Rattle.sam_local.proofs.Ahead.{opened-put, window-put}
 use Rattle.sam_local.proofs.Held.{event-held}
 use Rattle.sam_rest.specs.Rest.{is_user, Applies, LeadsOn}
-use Rattle.sam_rest.specs.Loaded.{ViewsAreLoaded, Shows}
+use Rattle.sam_rest.specs.Loaded.{ViewsAreLoaded, Shows, only_looks, OnlyLook}
 use Rattle.sam_rest.proofs.Taking.{HostTakes, host-takes, TermTakes, term-takes, Flushes, flush-takes, Idles, Acts, act-takes}
-use Rattle.sam_rest.proofs.Ends.{IsKept, Lowers, kept-of, keeps-step, falls}
+use Rattle.sam_rest.proofs.Ends.{IsKept, kept-of, keeps-step, after-host, after-term}
 use Rattle.sam_rest.proofs.Done.{parts}
 use Rattle.sam_crossing.proofs.Guards.{at_file-append}
 use Rattle.sam_rest.specs.Loaded.{IsLoaded}
@@ -42,6 +42,8 @@ use Rattle.sam_crossing.proofs.Sending.{flushed_views}
 use Rattle.sam_term.proofs.Loads.{stretches-some}
 use mathlib.Core.Path.{fun_ext}
 use Rattle.sam_crossing.proofs.Folds as folds
+use Rattle.sam_term.proofs.Edits.{flushed-held}
+use Rattle.sam_term.specs.declared.event.UserEvent.TheVariants as user
 
 -- ## What comes to a file whose view was set
 
@@ -512,28 +514,31 @@ loaded-stretches u f e = by (hole_within w.rasp w.view_start (view_end w)) refl
         empty-list : (x : ℕ × ℕ) (xs : List (ℕ × ℕ)) → [] ≡ x ∷ xs → ⊥
         empty-list x xs e = grind arith
 
--- all gaps of the view are asked for
-loads-shown : (f : ℕ) (h : PlainHost) (u : PlainTerminal) (up : List Tmesg) (down : List Hmesg) → Turned f h u up down → (xs : List (ℕ × ℕ)) → gaps_shown u f ≡ xs
-    → IsShown f h (sends_all (requests_for f xs) u).0 (up ++ (sends_all (requests_for f xs) u).1) down
-loads-shown f h u up down t [] e = silent f h u up down t.lined.kept t.calm t.opened t.here (inl (loaded-stretches u f e))
-loads-shown f h u up down t (x ∷ xs) e =
-    subst (λ (k : List Tmesg). IsShown f h (all_composed z (requests_for f xs)) k down) line
-    (requests-shown f f xs h z (up ++ ((flushed u).1 ++ m ∷ [])) down (lined-request h u up down f x.0 x.1 t.lined t.opened t.here) none first.opened first)
+-- requests of a file: of f, or where f was shown before
+loads-shown : (f g : ℕ) (h : PlainHost) (u : PlainTerminal) (up : List Tmesg) (down : List Hmesg) → Lined h u up down → is_open u g ≡ true → IsCalm (at_file f (coming h u up down)) → is_open u f ≡ true
+    → u.has_exited ≡ false → (xs : List (ℕ × ℕ)) → (xs ≡ [] → IsLoaded u f ⊎ (brings (at_file f (coming h u up down)) ≡ true))
+    → (g ≡ f) ⊎ (IsLoaded u f ⊎ (brings (at_file f (coming h u up down)) ≡ true))
+    → IsShown f h (sends_all (requests_for g xs) u).0 (up ++ (sends_all (requests_for g xs) u).1) down
+loads-shown f g h u up down l og calm opened here [] none which = silent f h u up down l.kept calm opened here (none refl)
+loads-shown f g h u up down l og calm opened here (x ∷ xs) none which =
+    subst (λ (k : List Tmesg). IsShown f h (all_composed z (requests_for g xs)) k down) line
+    (requests-shown f g xs h z (up ++ ((flushed u).1 ++ m ∷ [])) down (lined-request h u up down g x.0 x.1 l og here) empty still
+    (asked f h u up down l.kept calm opened here g x.0 x.1 (open-view u g og) which))
   where
     m : Tmesg
-    m = Trequest f x.0 x.1
+    m = Trequest g x.0 x.1
 
     z : PlainTerminal
     z = composed (flushed u).0 m
 
-    first : IsShown f h z (up ++ ((flushed u).1 ++ m ∷ [])) down
-    first = asked f h u up down t.lined.kept t.calm t.opened t.here f x.0 x.1 (open-view u f t.opened) (inl refl)
+    empty : z.unsent ≡ None
+    empty = unsent-composed (flushed u).0 m ∙ unsent-flushed u
 
-    none : z.unsent ≡ None
-    none = unsent-composed (flushed u).0 m ∙ unsent-flushed u
+    still : is_open z g ≡ true
+    still = (view-requested (flushed u).0 g x.0 x.1 g ((view-flushed u g).opened ∙ og)).opened ∙ (view-flushed u g).opened ∙ og
 
-    line : (up ++ ((flushed u).1 ++ m ∷ [])) ++ requests_for f xs ≡ up ++ ((flushed u).1 ++ m ∷ requests_for f xs)
-    line = append_assoc up ((flushed u).1 ++ m ∷ []) (requests_for f xs) ∙ ap (λ (k : List Tmesg). up ++ k) (append_assoc (flushed u).1 (m ∷ []) (requests_for f xs))
+    line : (up ++ ((flushed u).1 ++ m ∷ [])) ++ requests_for g xs ≡ up ++ ((flushed u).1 ++ m ∷ requests_for g xs)
+    line = append_assoc up ((flushed u).1 ++ m ∷ []) (requests_for g xs) ∙ ap (λ (k : List Tmesg). up ++ k) (append_assoc (flushed u).1 (m ∷ []) (requests_for g xs))
 
 outcome-shown : (f : ℕ) (e : UserEvent) (h : PlainHost) (t : PlainTerminal) (up : List Tmesg) (down : List Hmesg) → Shows e f → InOrder h t up down → AreAwaited h t up down → Passed t e
     → IsShown f h (event_outcome t e).0 (up ++ (event_outcome t e).1) down
@@ -542,8 +547,47 @@ outcome-shown f (View g p n) h t up down shows o awaits pass =
     let u = turns g p n h t up down o awaits pass.here pass.free pass.opened pass.unlocked in
     rw (← shows) (wanting g h (turned t g p n) up down u.lined.kept u.calm u.opened u.here g (λ e. absurd (true≢false (sym (eq-eqb g g refl) ∙ e))) (λ e. u.waits))
 outcome-shown f (Load g p n) h t up down shows o awaits pass =
-    rw (← shows) (loads-shown g h (turned t g p n) up down (turns g p n h t up down o awaits pass.here pass.free pass.opened pass.unlocked) (gaps_shown (turned t g p n) g) refl)
+    let u = turns g p n h t up down o awaits pass.here pass.free pass.opened pass.unlocked in
+    rw (← shows) (loads-shown g g h (turned t g p n) up down u.lined u.opened u.calm u.opened u.here (gaps_shown (turned t g p n) g) (λ e. inl (loaded-stretches (turned t g p n) g e)) (inl refl))
 outcome-shown f e h t up down shows o awaits pass = absurd (grind arith)
+
+-- ## The acts of those that only look
+
+view-turned : (t : PlainTerminal) (g p n f : ℕ) → (g == f) ≡ false → SameView (turned t g p n) t f
+view-turned t g p n f e = same-window (turned t g p n) t f (grind (arith, slot-put_other, (eq-eqb g f)))
+
+view-selected : (t : PlainTerminal) (g p q f : ℕ) → is_open t g ≡ true → SameView (set_dot_of t g (p, q)) t f
+view-selected t g p q f o = by (g == f) refl
+  where
+    by : (b : Bool) → (g == f) ≡ b → SameView (set_dot_of t g (p, q)) t f
+    by true e = subst (λ (x : ℕ). SameView (set_dot_of t g (p, q)) t x) (eqb-true g f e) (grind (arith, slot-put_same))
+    by false e = same-window (set_dot_of t g (p, q)) t f (grind (arith, slot-put_other, (eq-eqb g f)))
+
+look-shown : (f : ℕ) (e : UserEvent) (h : PlainHost) (t : PlainTerminal) (up : List Tmesg) (down : List Hmesg) → only_looks e ≡ true → InOrder h t up down → AreAwaited h t up down → Passed t e
+    → IsShown f h t up down → IsShown f h (event_outcome t e).0 (up ++ (event_outcome t e).1) down
+unfolding made_by_view made_by_load requested all_wanted
+look-shown f (View g p n) h t up down look o awaits pass s = by (g == f) refl
+  where
+    by : (b : Bool) → (g == f) ≡ b → IsShown f h (event_outcome t (View g p n)).0 (up ++ (event_outcome t (View g p n)).1) down
+    by true e = outcome-shown f (View g p n) h t up down (eqb-true g f e) o awaits pass
+    by false e =
+        let u = turns g p n h t up down o awaits pass.here pass.free pass.opened pass.unlocked in
+        let now : IsShown f h (turned t g p n) up down = shown-same f h h t (turned t g p n) up up down down refl (view-turned t g p n f e) refl s in
+        wanting f h (turned t g p n) up down u.lined.kept now.calm now.opened now.here g (λ q. now.served) (λ q. absurd (true≢false (sym (eq-eqb g f (sym (eqb-true f g q))) ∙ e)))
+look-shown f (Load g p n) h t up down look o awaits pass s = by (g == f) refl
+  where
+    by : (b : Bool) → (g == f) ≡ b → IsShown f h (event_outcome t (Load g p n)).0 (up ++ (event_outcome t (Load g p n)).1) down
+    by true e = outcome-shown f (Load g p n) h t up down (eqb-true g f e) o awaits pass
+    by false e =
+        let u = turns g p n h t up down o awaits pass.here pass.free pass.opened pass.unlocked in
+        let now : IsShown f h (turned t g p n) up down = shown-same f h h t (turned t g p n) up up down down refl (view-turned t g p n f e) refl s in
+        loads-shown f g h (turned t g p n) up down u.lined u.opened now.calm now.opened now.here (gaps_shown (turned t g p n) g) (λ q. now.served) (inr now.served)
+look-shown f (Select g p q) h t up down look o awaits pass s =
+    subst (λ (k : List Tmesg). IsShown f h (set_dot_of t g (p, q)) k down) (sym (append-nil up))
+    (shown-same f h h t (set_dot_of t g (p, q)) up up down down refl (view-selected t g p q f (not-false (is_open t g) pass.opened)) refl s)
+look-shown f user.Flush h t up down look o awaits pass s =
+    shown-same f h h t (flushed t).0 up (up ++ (flushed t).1) down down (coming-flush h t up down) (view-flushed t f) (flushed-exited t) s
+look-shown f e h t up down look o awaits pass s = absurd (grind arith)
 
 -- ## Runs
 
@@ -553,15 +597,41 @@ At f w = IsShown f w.host w.term w.up (mesgs w.down)
 empty-held : {A : Type 0} (x : A) (xs : List A) → [] ≡ x ∷ xs → ⊥
 empty-held x xs e = grind arith
 
-shown-step : (f : ℕ) (w next : PlainWorld) (e : Event) → IsKept w → w.term.held ≡ [] → Applies w e next → At f w → At f next
-shown-step f w next e k none a s = by e refl
+shown-step : (f : ℕ) (w next : PlainWorld) (e : Event) → IsKept w → OnlyLook w.term.held → Applies w e next → At f w → At f next × OnlyLook next.term.held
+shown-step f w next e k looks a s = by e refl
   where
     n : IsInOrder next
     n = steps_in_order w next e k.order a.stepped
 
-    act : Idles w next ⊎ Acts w next → At f next
+    act : Idles w next ⊎ Acts w next → At f next × OnlyLook next.term.held
     act (inl idle) = absurd (a.changes idle.same)
-    act (inr acts) = absurd (empty-held acts.first acts.rest (sym none ∙ acts.was))
+    act (inr acts) = did acts.did
+      where
+        t : PlainTerminal
+        t = record w.term { held = acts.rest }
+
+        made : Made
+        made = event_outcome t acts.first
+
+        both : OnlyLook (acts.first ∷ acts.rest)
+        both = subst OnlyLook acts.was looks
+
+        there : InOrder w.host t w.up (mesgs w.down)
+        there = record { kept = k.order.ordered.kept; tidy = k.order.ordered.tidy; unsent = k.order.ordered.unsent }
+
+        now : At f (record w { term = t })
+        now = shown-same f w.host w.host w.term t w.up w.up (mesgs w.down) (mesgs w.down) refl (same-window t w.term f refl) refl s
+
+        did : (next ≡ record w { term = t })
+            ⊎ ((first_of_checks (event_checks w.term acts.first) ≡ None) × (next ≡ record w { term = made.0; up = w.up ++ made.1 }))
+            → At f next × OnlyLook next.term.held
+        did (inl is) = (subst (At f) (sym is) now, subst (λ (v : PlainWorld). OnlyLook v.term.held) (sym is) both.1)
+        did (inr done) =
+            (subst (At f) (sym done.1) (look-shown f acts.first w.host t w.up (mesgs w.down) both.0 there k.awaited (held_passed w.term acts.rest acts.first (passed w.term acts.first done.0)) now),
+            subst (λ (v : PlainWorld). OnlyLook v.term.held) (sym done.1) (subst OnlyLook (sym (event-held t acts.first)) both.1))
+
+    same-held : next.term.held ≡ w.term.held → OnlyLook next.term.held
+    same-held e = subst OnlyLook (sym e) looks
 
     host : HostTakes w next → At f next
     host t =
@@ -593,33 +663,26 @@ shown-step f w next e k none a s = by e refl
         (shown-same f w.host w.host w.term (flushed w.term).0 w.up (w.up ++ (flushed w.term).1) (mesgs w.down) (mesgs w.down) (coming-flush w.host w.term w.up (mesgs w.down)) (view-flushed w.term f)
         (flushed-exited w.term) s)
 
-    by : (x : Event) → e ≡ x → At f next
+    by : (x : Event) → e ≡ x → At f next × OnlyLook next.term.held
     by (User x) q = absurd (true≢false (ap is_user (sym q) ∙ a.own))
     by Act q = act (act-takes w next (ap (step_of w) (sym q) ∙ a.stepped))
-    by Flush q = flush (flush-takes w next (ap (step_of w) (sym q) ∙ a.stepped))
-    by HostTake q = host (host-takes w next k.order (ap (step_of w) (sym q) ∙ a.stepped))
-    by TermTake q = term (term-takes w next (ap (step_of w) (sym q) ∙ a.stepped))
+    by Flush q = let t = flush-takes w next (ap (step_of w) (sym q) ∙ a.stepped) in (flush t, same-held (ap (λ (v : PlainWorld). v.term.held) t.is ∙ flushed-held w.term))
+    by HostTake q = let t = host-takes w next k.order (ap (step_of w) (sym q) ∙ a.stepped) in (host t, same-held (after-host w next k n t).held)
+    by TermTake q = let t = term-takes w next (ap (step_of w) (sym q) ∙ a.stepped) in (term t, same-held (after-term w next k n t).held)
 
-held-step : (w next : PlainWorld) (e : Event) → IsKept w → w.term.held ≡ [] → Applies w e next → next.term.held ≡ []
-held-step w next e k none a = by (falls w e next k a.own a.stepped)
-  where
-    by : (next ≡ w) ⊎ Lowers w next → next.term.held ≡ []
-    by (inl same) = absurd (a.changes same)
-    by (inr (inl fewer)) = let nothing = ap (λ (l : List UserEvent). length l) none in absurd (omega (arith, fewer, nothing))
-    by (inr (inr less)) = less.1 ∙ none
+shown-leads : (f : ℕ) (es : List Event) (w v : PlainWorld) → IsKept w → OnlyLook w.term.held → At f w → LeadsOn w es v → At f v
+shown-leads f [] w v k looks s l = subst (At f) (sym l) s
+shown-leads f (e ∷ es) w v k looks s l =
+    let now = shown-step f w l.0 e k looks l.1 s in
+    shown-leads f es l.0 v (keeps-step w e l.0 k l.1.stepped) now.1 now.0 l.2
 
-shown-leads : (f : ℕ) (es : List Event) (w v : PlainWorld) → IsKept w → w.term.held ≡ [] → At f w → LeadsOn w es v → At f v
-shown-leads f [] w v k none s l = subst (At f) (sym l) s
-shown-leads f (e ∷ es) w v k none s l =
-    shown-leads f es l.0 v (keeps-step w e l.0 k l.1.stepped) (held-step w l.0 e k none l.1) (shown-step f w l.0 e k none l.1 s) l.2
-
-view-acts : (w next : PlainWorld) (f : ℕ) (e : UserEvent) → Shows e f → IsKept w → w.term.held ≡ e ∷ [] → first_of_checks (event_checks w.term e) ≡ None → step_of w Act ≡ Some next
-    → At f next × (next.term.held ≡ [])
+view-acts : (w next : PlainWorld) (f : ℕ) (e : UserEvent) (later : List UserEvent) → Shows e f → IsKept w → w.term.held ≡ e ∷ later → first_of_checks (event_checks w.term e) ≡ None → step_of w Act ≡ Some next
+    → At f next × (next.term.held ≡ later)
 unfolding act_of
-view-acts w next f e shows k held none s = go (if_countable made.0.sent (made.0, Done made.1)) refl
+view-acts w next f e later shows k held none s = go (if_countable made.0.sent (made.0, Done made.1)) refl
   where
     t : PlainTerminal
-    t = record w.term { held = [] }
+    t = record w.term { held = later }
 
     made : Made
     made = event_outcome t e
@@ -628,12 +691,12 @@ view-acts w next f e shows k held none s = go (if_countable made.0.sent (made.0,
     there = record { kept = k.order.ordered.kept; tidy = k.order.ordered.tidy; unsent = k.order.ordered.unsent }
 
     shown : At f (record w { term = made.0; up = w.up ++ made.1 })
-    shown = outcome-shown f e w.host t w.up (mesgs w.down) shows there k.awaited (held_passed w.term [] e (passed w.term e none))
+    shown = outcome-shown f e w.host t w.up (mesgs w.down) shows there k.awaited (held_passed w.term later e (passed w.term e none))
 
     acted : after_act w (if_countable made.0.sent (made.0, Done made.1)) ≡ Some next
-    acted = sym (ap (λ (l : List UserEvent). after_act w (act_on w.term l)) held ∙ ap (λ (v : Option Verdict). after_act w (decided v w.term [] made)) none) ∙ s
+    acted = sym (ap (λ (l : List UserEvent). after_act w (act_on w.term l)) held ∙ ap (λ (v : Option Verdict). after_act w (decided v w.term later made)) none) ∙ s
 
-    go : (a : Result (PlainTerminal × Acted) TermFault) → if_countable made.0.sent (made.0, Done made.1) ≡ a → At f next × (next.term.held ≡ [])
+    go : (a : Result (PlainTerminal × Acted) TermFault) → if_countable made.0.sent (made.0, Done made.1) ≡ a → At f next × (next.term.held ≡ later)
     go (Err why) q = absurd (grind (arith, acted))
     go (Ok r) q =
         let same : (made.0, Done made.1) ≡ r = counted-result made.0.sent (made.0, Done made.1) r q in
@@ -642,10 +705,10 @@ view-acts w next f e shows k held none s = go (if_countable made.0.sent (made.0,
         (subst (At f) is shown, ap (λ (v : PlainWorld). v.term.held) (sym is) ∙ event-held t e)
 
 pub views_are_loaded : ViewsAreLoaded
-views_are_loaded w next v f e es shows r held none s leads done =
+views_are_loaded w next v f e later es shows looks r held none s leads done =
     let k = kept-of w r in
-    let acted = view-acts w next f e shows k held none s in
-    let last = shown-leads f es next v (keeps-step w Act next k s) acted.1 acted.0 leads in
+    let acted = view-acts w next f e later shows k held none s in
+    let last = shown-leads f es next v (keeps-step w Act next k s) (subst OnlyLook (sym acted.1) looks) acted.0 leads in
     by last.served
   where
     quiet : coming v.host v.term v.up (mesgs v.down) ≡ []

@@ -1,10 +1,10 @@
--- A view that was set last, by a View or a Load, has no gap once the session has come to rest.
-use Rattle.std.specs.Prelude.{◌≡◌, ℕ, List, [], ◌∷◌, Some, None}
+-- A view that was set by a View or a Load, with no edit after it, has no gap once the session has come to rest.
+use Rattle.std.specs.Prelude.{◌≡◌, ℕ, Bool, true, false, List, [], ◌∷◌, Some, None}
 use Rattle.sam_runes.specs.Checks.{first_of_checks}
 use Rattle.sam_rasp.specs.Rasp.{hole_within}
 use Rattle.sam_term.specs.Term.{PlainTerminal, window_at, view_end, event_checks}
 use Rattle.sam_term.specs.declared.event.UserEvent.{UserEvent}
-use Rattle.sam_term.specs.declared.event.UserEvent.TheVariants.{View, Load}
+use Rattle.sam_term.specs.declared.event.UserEvent.TheVariants.{View, Load, Select, Flush}
 use Rattle.sam_crossing.specs.World.{PlainWorld, step_of}
 use Rattle.sam_crossing.specs.World.{WasReached}
 use Rattle.sam_crossing.specs.declared.event.Event.{Event}
@@ -21,10 +21,22 @@ Shows (View g p n) f = g ≡ f
 Shows (Load g p n) f = g ≡ f
 Shows _ f = ⊥
 
--- Where an event that shows f is the only one that is held, and nothing stands against it, it acts. Wherever all is done after that,
--- with no further event of the user, no gap stands in the view of f
+-- the event changes no text, and no view but one that it shows itself
+abbrev pub only_looks : UserEvent → Bool
+only_looks (View f p n) = true
+only_looks (Load f p n) = true
+only_looks (Select f p q) = true
+only_looks Flush = true
+only_looks _ = false
+
+abbrev pub OnlyLook : List UserEvent → Type 0
+OnlyLook [] = Unit {0}
+OnlyLook (e ∷ es) = (only_looks e ≡ true) × OnlyLook es
+
+-- Where an event that shows f is held, those held after it only look, and nothing stands against it, it acts. Wherever all is done after
+-- that, with no further event of the user, no gap stands in the view of f
 abbrev pub ViewsAreLoaded : Type 0
 ViewsAreLoaded =
-    (w next v : PlainWorld) (f : ℕ) (e : UserEvent) (es : List Event) → Shows e f → WasReached w → w.term.held ≡ e ∷ []
-    → first_of_checks (event_checks w.term e) ≡ None → step_of w Act ≡ Some next → LeadsOn next es v → IsDone v
+    (w next v : PlainWorld) (f : ℕ) (e : UserEvent) (later : List UserEvent) (es : List Event) → Shows e f → OnlyLook later → WasReached w
+    → w.term.held ≡ e ∷ later → first_of_checks (event_checks w.term e) ≡ None → step_of w Act ≡ Some next → LeadsOn next es v → IsDone v
     → IsLoaded v.term f

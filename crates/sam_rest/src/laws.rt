@@ -16,8 +16,9 @@ pub fn steps_end()
     ensures { StepsEnd }
 {}
 
-/// Says that where a `View` or a `Load` is the only event that is held and nothing stands against it, no gap stands in the view of its
-/// file once all is done, with no further event of the user. What no event covers here is a view that the user follows with other events.
+/// Says that where a `View` or a `Load` is held and nothing stands against it, no gap stands in the view of its file once all is done,
+/// with no further event of the user. The events that are held after it only look: each is a `View`, a `Load`, a `Select` or a `Flush`,
+/// of any file. Of a view after which other events act it says nothing.
 pub fn views_are_loaded()
     ensures { ViewsAreLoaded }
 {}

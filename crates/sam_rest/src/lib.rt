@@ -11,7 +11,8 @@
 //! may move them and has no data after it (`wants` in proofs/Gaps). A request that gets an answer lowers that: none is awaited when it is
 //! composed, so no data are under way, and either a frame that moves gaps is, which then has data after it, or the gap is where it was
 //! and is filled. An act may raise the number, but there are only so many held events (proofs/Ends). Each Hdata that comes was asked for,
-//! and in the end no request is awaited (proofs/Actions, Kept, Steps).
+//! and in the end no request is awaited (proofs/Actions, Kept, Steps). How many events of a drain are left is a count (`steps_left` in
+//! proofs/Rule), which falls at each drain of `rest` (proofs/Drains).
 #![tactic(auto)]
 
 pub mod laws;
