@@ -96,6 +96,7 @@ kept_moves stream events out e g frames acts m kept =
           (frames_received frames),
           (frames_decided acts),
         )
+
     all_events : (steps : List Step) (frames : List HFrame) (acts : List Acted) → events_in (steps ++ (received frames ++ decided acts)) ≡ events_in steps
     all_events steps frames acts =
         grind (
@@ -106,9 +107,11 @@ kept_moves stream events out e g frames acts m kept =
           (events_received frames),
           (events_decided acts),
         )
+
     reads_as : (stream : List ℕ) (e g : PlainTermEndpoint) (a b : List HFrame) → b ≡ a → g.framer ≡ e.framer → g.behind ≡ e.behind
         → IsStream host 1 stream a e.framer.bytes (option_map mesg_fault e.behind) → IsStream host 1 stream b g.framer.bytes (option_map mesg_fault g.behind)
     reads_as stream e g a b is framer behind reads = grind arith
+
     bytes_on : (out : List ℕ) (e g : PlainTermEndpoint) (composed first more : List Tmesg) → (out ++ e.pending_bytes) ++ stream_of terminal e.unwritten ≡ stream_of terminal composed
         → g.pending_bytes ++ stream_of terminal g.unwritten ≡ e.pending_bytes ++ stream_of terminal (e.unwritten ++ first ++ more)
         → (out ++ g.pending_bytes) ++ stream_of terminal g.unwritten ≡ stream_of terminal (composed ++ (first ++ more))

@@ -128,7 +128,7 @@ pub record Moves (e : PlainTermEndpoint) (frames : List HFrame) (acts : List Act
   pub acted : Acts middle acts g.term
   pub waiting : e.waiting ≡ frames ++ g.waiting
   pub bytes : g.pending_bytes ++ stream_of terminal g.unwritten
-    ≡ e.pending_bytes ++ stream_of terminal (e.unwritten ++ composed ++ composed_by acts)
+      ≡ e.pending_bytes ++ stream_of terminal (e.unwritten ++ composed ++ composed_by acts)
   pub refusals : g.refusals ≡ e.refusals ++ refusals_from (oldest e) acts
   pub seen : g.seen ≡ last_stamp e.seen frames
   pub kept : g.kept ≡ kept_acted middle acts (kept_received e.term frames e.kept)

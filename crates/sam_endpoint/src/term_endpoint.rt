@@ -451,10 +451,7 @@ fn first_frame(frames: &VecDeque<HFrame>) -> Option<&HFrame>
 }
 
 /// Has the terminal receive a frame, and returns what it composes. After an error the terminal is as it was.
-fn receive_now(
-    term: &mut Terminal,
-    frame: &HFrame,
-) -> Result<Batch, EndpointFault<TermStop>>
+fn receive_now(term: &mut Terminal, frame: &HFrame) -> Result<Batch, EndpointFault<TermStop>>
     requires { IsTrue (fits_h 2 frame.now.msg) }
     ensures tries { Tries term.old (take_of term.old frame.now) result term.new }
     ensures fit { IfOk result AllFit }

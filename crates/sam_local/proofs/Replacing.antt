@@ -210,8 +210,8 @@ module _ (h : PlainHost) (t : PlainTerminal) (o : InOrder (rest h) (at_rest h t)
 
       others : OthersStay f (at_rest h t) (carried (at_rest h t) e)
       others g n = (
-          ap (λ (z : PlainEditor). text_in z g) is ∙ ap (λ (z : PlainFile). z.text) (done.others g n),
-          ap (λ (z : PlainEditor). dot_in z g) is ∙ dot-other a.reply.0 term f g (λ w. true) (replaced_window p q s) n,
+        ap (λ (z : PlainEditor). text_in z g) is ∙ ap (λ (z : PlainFile). z.text) (done.others g n),
+        ap (λ (z : PlainEditor). dot_in z g) is ∙ dot-other a.reply.0 term f g (λ w. true) (replaced_window p q s) n,
       )
 
   nothing-keeps : (p == q && is_empty s) ≡ true → May (at_rest h t) e → carried (at_rest h t) e ≡ at_rest h t

@@ -134,7 +134,7 @@ EditReplaces =
     let text = replaced (text_in editor f) (p, q) s in
     (file_at after.host.files f ≡ record (file_at editor.host.files f) { text = text; dot = (p + length s, p + length s); dirty = true })
     × (known_at after.term f
-      ≡ record (known_at editor.term f) { changed = true; window = Some (moved_window p q s text (window_at editor.term f)) })
+    ≡ record (known_at editor.term f) { changed = true; window = Some (moved_window p q s text (window_at editor.term f)) })
     × OthersStay f editor after
 
 -- an edit by which nothing goes and nothing comes changes nothing at all

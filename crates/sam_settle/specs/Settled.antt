@@ -137,7 +137,7 @@ pub record HasUsers (ends : Ends) (s : Settled) : Type 0 where
 -- an editor without a network, but for runes that are not loaded and for counts
 pub record IsWhole (ends : Ends) (s : Settled) : Type 0 where
   pub events : (own : List UserEvent) × (user_events s.schedule.items ≡ users_in ends.term.take.taken ++ own)
-    × IsOwnExit own ends.term.take.taken
+      × IsOwnExit own ends.term.take.taken
   pub exited : s.world.term.has_exited ≡ true
   pub held : s.world.term.held ≡ []
   pub quiet : is_quiet s.world ≡ true

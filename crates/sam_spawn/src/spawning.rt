@@ -189,13 +189,7 @@ fn begin_host<'q, R: Wait, G: Gate>(
     if !*shared.start.wait(shared.rt) {
         return None;
     }
-    Some(serve_host(
-        shared.rt,
-        shared.alloc,
-        shared.gate,
-        shared.piece,
-        task,
-    ))
+    Some(serve_host(shared.rt, shared.alloc, shared.gate, shared.piece, task))
 }
 
 /// Waits for the start, and then runs the host reader. Returns `None` if the start was called off.

@@ -104,10 +104,14 @@ unfolding pieces
 type-at f zero p a s h = tt
 type-at f (suc n) p a [] h = tt
 type-at f (suc n) p a (c ∷ s) h =
-    let size = length-take most_in_message (c ∷ s) in
-    (refl, h refl, grind (arith, size), grind (arith, size),
+    let size = length-take most_in_message (c ∷ s) in (
+      refl,
+      h refl,
+      grind (arith, size),
+      grind (arith, size),
       type-at f n (p + most_in_message) (a + length (take most_in_message (c ∷ s))) (drop most_in_message (c ∷ s))
-      (λ e. grind (arith, size, (h refl), (length-drop most_in_message (c ∷ s)), (some-left (drop most_in_message (c ∷ s)) e))))
+          (λ e. grind (arith, size, (h refl), (length-drop most_in_message (c ∷ s)), (some-left (drop most_in_message (c ∷ s)) e))),
+    )
 
 all-typed : (f n p : ℕ) (s : List ℕ) → length s ≤ n → all_typed (typed_pieces f (pieces n p s)) ≡ s
 unfolding pieces

@@ -84,8 +84,10 @@ sound-put t f p q s w u sound o l room e none =
 -- ## The event
 
 pub made-edit : (t : PlainTerminal) (f p q : ℕ) (s : List ℕ) → (p == q && is_empty s) ≡ false → p ≤ length (window_at t f).rasp
-    → event_outcome t (Edit f p q s) ≡ (all_composed (put_window (edited (flushed t).0 f) f (replaced_in (window_at t f) p q s)) (edit_messages f p q s),
-    (flushed t).1 ++ edit_messages f p q s)
+    → event_outcome t (Edit f p q s) ≡ (
+      all_composed (put_window (edited (flushed t).0 f) f (replaced_in (window_at t f) p q s)) (edit_messages f p q s),
+      (flushed t).1 ++ edit_messages f p q s,
+    )
 unfolding made_by_edit
 made-edit t f p q s e l = grind (arith, (replaced-put (flushed t).0 f p q s (unsent-flushed t)), flushed-files)
 

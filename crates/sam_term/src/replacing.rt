@@ -87,7 +87,12 @@ fn count_pieces(p: u32, runes: &[char]) -> usize
 
 /// Returns the pieces of a text that is typed at `p`, of which there are `count`. The only error is out of memory.
 #[tactic(auto, using(crate::proofs::Pieces::cut_facts))]
-fn cut_in_pieces(alloc: Global, p: u32, runes: &[char], count: usize) -> Result<Vec<Piece>, AllocError>
+fn cut_in_pieces(
+    alloc: Global,
+    p: u32,
+    runes: &[char],
+    count: usize,
+) -> Result<Vec<Piece>, AllocError>
     requires within { p + length runes.now ≤ max_runes }
     requires all { count ≡ length (pieces (length runes.now) p runes.now) }
     ensures { IfOk result (λ cut. cut.items ≡ pieces (length runes.now) p runes.now) }

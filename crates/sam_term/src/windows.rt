@@ -89,7 +89,9 @@ impl Terminal {
         ensures { result + (length (window_at self.now tag).rasp - (q - p)) ≡ max_runes }
     {
         self.window_facts(tag);
-        let left = self.rasp_len(tag).saturating_sub(q.saturating_sub(p) as usize);
+        let left = self
+            .rasp_len(tag)
+            .saturating_sub(q.saturating_sub(p) as usize);
         MAX_RUNES as usize - left
     }
 

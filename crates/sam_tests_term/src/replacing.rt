@@ -46,13 +46,22 @@ fn edits<A, F: FnOnce(&[Tmesg]) -> A>(
 }
 
 /// Replaces a range of file 1, and returns how many messages that composes.
-fn edits_by(alloc: Global, terminal: &mut Terminal, range: (u32, u32), text: &str) -> Option<usize> {
+fn edits_by(
+    alloc: Global,
+    terminal: &mut Terminal,
+    range: (u32, u32),
+    text: &str,
+) -> Option<usize> {
     edits(alloc, terminal, range, text, |messages| messages.len())
 }
 
 /// Selects a range of file 1.
 fn selects(terminal: &mut Terminal, p: u32, q: u32) -> bool {
-    composed(terminal, UserEvent::Select(1, p, q), |messages| messages.len()) == Some(0)
+    composed(
+        terminal,
+        UserEvent::Select(1, p, q),
+        |messages| messages.len(),
+    ) == Some(0)
 }
 
 /// Why an edit of a file with these runes is refused.
@@ -88,8 +97,16 @@ fn an_edit_of_1300_runes_is_a_cut_and_three_types(rt: HostRuntime) -> Result<(),
                 }
             }),
             (rasp_len(terminal, 1), terminal.sent(), terminal.locks(1)),
-            (loaded(terminal, 1, 0), loaded(terminal, 1, 1), loaded(terminal, 1, 512)),
-            (loaded(terminal, 1, 513), loaded(terminal, 1, 1300), loaded(terminal, 1, 1301)),
+            (
+                loaded(terminal, 1, 0),
+                loaded(terminal, 1, 1),
+                loaded(terminal, 1, 512),
+            ),
+            (
+                loaded(terminal, 1, 513),
+                loaded(terminal, 1, 1300),
+                loaded(terminal, 1, 1301),
+            ),
         )
     });
     assert_eq!(rt;
@@ -161,12 +178,21 @@ fn an_edit_of_an_empty_range_types_its_text(rt: HostRuntime) {
                 _ => false,
             }),
             (rasp_len(terminal, 1), terminal.is_changed(1)),
-            (loaded(terminal, 1, 2), loaded(terminal, 1, 3), loaded(terminal, 1, 4)),
+            (
+                loaded(terminal, 1, 2),
+                loaded(terminal, 1, 3),
+                loaded(terminal, 1, 4),
+            ),
         )
     });
     assert_eq!(rt;
         told,
-        (true, Some(true), (Some(7), true), (Some('x'), Some('y'), None))
+        (
+            true,
+            Some(true),
+            (Some(7), true),
+            (Some('x'), Some('y'), None)
+        )
     );
 }
 
@@ -177,13 +203,27 @@ fn an_edit_of_nothing_does_nothing(rt: HostRuntime) {
         (
             opens_five_gaps(terminal),
             edits_by(alloc, terminal, (2, 2), ""),
-            (rasp_len(terminal, 1), terminal.sent(), terminal.is_changed(1)),
+            (
+                rasp_len(terminal, 1),
+                terminal.sent(),
+                terminal.is_changed(1),
+            ),
             typed(alloc, terminal, 1, "X", |messages| messages.len()),
             edits_by(alloc, terminal, (3, 3), ""),
             composed(terminal, UserEvent::Flush, |messages| messages.len()),
         )
     });
-    assert_eq!(rt; told, (true, Some(0), (Some(5), 0, false), Some(0), Some(0), Some(1)));
+    assert_eq!(rt;
+        told,
+        (
+            true,
+            Some(0),
+            (Some(5), 0, false),
+            Some(0),
+            Some(0),
+            Some(1)
+        )
+    );
 }
 
 #[test]
@@ -218,12 +258,19 @@ fn a_dot_round_the_range_stays_round_it_and_the_view_moves(rt: HostRuntime) {
     let told = lent(Terminal::new(alloc), |terminal| {
         (
             opens_five_gaps(terminal) && selects(terminal, 1, 4),
-            composed(terminal, UserEvent::View(1, 4, 0), |messages| messages.len()),
+            composed(
+                terminal,
+                UserEvent::View(1, 4, 0),
+                |messages| messages.len(),
+            ),
             edits_by(alloc, terminal, (2, 3), "xyz"),
             (terminal.dot(1), terminal.view(1)),
         )
     });
-    assert_eq!(rt; told, (true, Some(0), Some(2), (Some((1, 6)), Some((6, 6)))));
+    assert_eq!(rt;
+        told,
+        (true, Some(0), Some(2), (Some((1, 6)), Some((6, 6))))
+    );
 }
 
 #[test]
@@ -234,18 +281,30 @@ fn unsent_runes_go_before_an_edit(rt: HostRuntime) {
             opens_five_gaps(terminal),
             typed(alloc, terminal, 1, "X", |messages| messages.len()),
             edits(alloc, terminal, (3, 4), "yz", |messages| match messages {
-                [Tmesg::Ttype(1, 0, before), Tmesg::Tcut(1, 3, 4), Tmesg::Ttype(1, 3, text)] => {
-                    is_text(before, &['X']) && is_text(text, &['y', 'z'])
-                }
+                [
+                    Tmesg::Ttype(1, 0, before),
+                    Tmesg::Tcut(1, 3, 4),
+                    Tmesg::Ttype(1, 3, text),
+                ] => { is_text(before, &['X']) && is_text(text, &['y', 'z']) }
                 _ => false,
             }),
             composed(terminal, UserEvent::Flush, |messages| messages.len()),
-            (rasp_len(terminal, 1), loaded(terminal, 1, 3), loaded(terminal, 1, 4)),
+            (
+                rasp_len(terminal, 1),
+                loaded(terminal, 1, 3),
+                loaded(terminal, 1, 4),
+            ),
         )
     });
     assert_eq!(rt;
         told,
-        (true, Some(0), Some(true), Some(0), (Some(7), Some('y'), Some('z')))
+        (
+            true,
+            Some(0),
+            Some(true),
+            Some(0),
+            (Some(7), Some('y'), Some('z'))
+        )
     );
 }
 
@@ -282,7 +341,10 @@ fn edits_that_are_refused(rt: HostRuntime) {
                 why_not(alloc, terminal, 1, (3, 2), "a"),
                 why_not(alloc, terminal, 1, (5, 6), "a"),
             ),
-            (takes(terminal, Hmesg::Hexit), why_not(alloc, terminal, 0, (9, 8), "a")),
+            (
+                takes(terminal, Hmesg::Hexit),
+                why_not(alloc, terminal, 0, (9, 8), "a"),
+            ),
         )
     });
     assert_eq!(rt;

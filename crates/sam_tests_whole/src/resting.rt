@@ -61,7 +61,10 @@ fn held_after_two_acts(world: &mut World) -> Result<(usize, usize), StepFault> {
 }
 
 /// Hands the session in, and returns how many events wait for the lock that the first of them takes.
-fn begun(alloc: Global, world: &mut World) -> Result<Result<(usize, usize), StepFault>, AllocError> {
+fn begun(
+    alloc: Global,
+    world: &mut World,
+) -> Result<Result<(usize, usize), StepFault>, AllocError> {
     let events = session(alloc)?;
     if let Err(fault) = hand_in(world, events) {
         return Ok(Err(fault));
@@ -101,8 +104,11 @@ fn is_at_rest(world: &World) -> bool {
 fn seen(world: &World) -> (bool, bool, bool, (u64, u64)) {
     (
         is_at_rest(world),
-        shows(world, 1, &['1', 'o', 'n', 'e', ' ', 't', 'w', 'o', ' ', '2', '\n'])
-            && is_loaded(world, 1),
+        shows(
+            world,
+            1,
+            &['1', 'o', 'n', 'e', ' ', 't', 'w', 'o', ' ', '2', '\n'],
+        ) && is_loaded(world, 1),
         shows(world, 2, &['S', 'e', 'n', 'd', '\n']),
         (world.host().taken(), world.term().sent()),
     )
@@ -126,7 +132,13 @@ fn held_events_come_to_rest(rt: HostRuntime) -> Result<(), Fail> {
 /// What the world shows once it has come to rest, and once it has come to rest again.
 fn seen_twice(
     world: &mut World,
-) -> Result<((bool, bool, bool, (u64, u64)), (bool, bool, bool, (u64, u64))), StepFault> {
+) -> Result<
+    (
+        (bool, bool, bool, (u64, u64)),
+        (bool, bool, bool, (u64, u64)),
+    ),
+    StepFault,
+> {
     world.rest()?;
     let first = seen(world);
     world.rest()?;

@@ -40,8 +40,8 @@ returns-in-Ok-replace_first c =
     let w = replaced_in (window_at t f) p q s in
     let inside = edit_within c.args.self.now f p q s c.requires.free c.requires.first in
     loud_answer c.args.self.now c.compose_pieces.new.self (Edit f p q s) _ c.done_with.result c.compose_pieces.new.out.messages c.requires.first
-        (made-edit t f p q s c.requires.some (omega (arith, inside.0, inside.1)))
-        (grind (arith, (edited-put t f w), (put-flushed t f w), composed-more))
-        c.done_with.ensures.done
-        (grind (arith, flushed-messages, append_assoc))
-        c.done_with.ensures.countable
+    (made-edit t f p q s c.requires.some (omega (arith, inside.0, inside.1)))
+    (grind (arith, (edited-put t f w), (put-flushed t f w), composed-more))
+    c.done_with.ensures.done
+    (grind (arith, flushed-messages, append_assoc))
+    c.done_with.ensures.countable

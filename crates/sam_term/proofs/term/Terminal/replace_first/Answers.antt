@@ -7,4 +7,4 @@ pub invariant_of-self-2 : goal.invariant_of-self-2
 invariant_of-self-2 c =
     let t = seen c.self.inside in
     sound-put t c.args.tag c.args.range.0 c.args.range.1 (edit_runes (first_event t.held)) _ _ c.self.invariant c.requires.ordered (grind arith) (grind arith)
-        (grind (arith, first_is, c.in_ok-replace_window.ensures.ok, c.window_mut.ensures.value, c.edit_runes.ensures)) c.take.ensures.after
+    (grind (arith, first_is, c.in_ok-replace_window.ensures.ok, c.window_mut.ensures.value, c.edit_runes.ensures)) c.take.ensures.after
