@@ -31,6 +31,7 @@ pub enum Case {
     HandleSend,
     ActPaste,
     ActType,
+    ActEdit,
     ReceiveCheck,
     Step,
     Merge,
@@ -48,7 +49,7 @@ pub enum Case {
 
 impl Case {
     /// All cases, in the order in which they run.
-    pub const ALL: [Case; 34] = [
+    pub const ALL: [Case; 35] = [
         Case::EncodeT,
         Case::EncodeH,
         Case::EncodeAll,
@@ -70,6 +71,7 @@ impl Case {
         Case::HandleSend,
         Case::ActPaste,
         Case::ActType,
+        Case::ActEdit,
         Case::ReceiveCheck,
         Case::Step,
         Case::Merge,
@@ -109,6 +111,7 @@ impl Case {
             Case::HandleSend => "handle_send",
             Case::ActPaste => "act_paste",
             Case::ActType => "act_type",
+            Case::ActEdit => "act_edit",
             Case::ReceiveCheck => "receive_check",
             Case::Step => "step",
             Case::Merge => "merge",
@@ -149,6 +152,7 @@ impl Case {
             Case::HandleSend => answers::handle_send(alloc),
             Case::ActPaste => events::act_paste(alloc),
             Case::ActType => events::act_type(alloc),
+            Case::ActEdit => events::act_edit(alloc),
             Case::ReceiveCheck => events::receive_check(alloc),
             Case::Step => worlds::step(alloc),
             Case::Merge => worlds::merge_takes(alloc),

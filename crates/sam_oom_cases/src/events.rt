@@ -131,6 +131,21 @@ fn to_type_over(alloc: Global) -> Result<Terminal, SetUp> {
     prepared(Terminal::new(alloc), |terminal| hold_type(alloc, terminal))
 }
 
+/// Opens and shows a file, types `X`, and holds an edit whose text takes two messages.
+fn hold_edit(alloc: Global, terminal: &mut Terminal) -> Result<(), SetUp> {
+    open(terminal, 1, 5)?;
+    show(alloc, terminal, "ab cd")?;
+    does(terminal, UserEvent::Typed(1, Runes::from_str(alloc, "X")?))?;
+    let text = Runes::from_vec(vec![in alloc; 'z'; 600]?);
+    terminal.user(UserEvent::Edit(1, 3, 4, text))?;
+    Ok(())
+}
+
+/// A terminal where `X` is unsent and an edit of the same file is held.
+fn to_edit(alloc: Global) -> Result<Terminal, SetUp> {
+    prepared(Terminal::new(alloc), |terminal| hold_edit(alloc, terminal))
+}
+
 /// Shows three runes and two gaps of a file, asks whether it shows all, and types a line to be run.
 fn type_line(alloc: Global, terminal: &mut Terminal) -> Result<(), SetUp> {
     open(terminal, 0, 0)?;
@@ -184,6 +199,28 @@ fn types_over(terminal: &mut Terminal, twin: &mut Terminal) -> Tried {
 /// Typing over a dot cuts it and types, or does neither.
 pub fn act_type(alloc: Global) -> Tried {
     beside_twin(alloc, to_type_over, types_over)
+}
+
+fn edits(terminal: &mut Terminal, twin: &mut Terminal) -> Tried {
+    let Some(messages) = composed(terminal, twin) else {
+        return Ok(false);
+    };
+    let are_told = match messages.as_slice() {
+        [
+            Tmesg::Ttype(1, 0, _),
+            Tmesg::Tcut(1, 3, 4),
+            Tmesg::Ttype(1, 3, full),
+            Tmesg::Ttype(1, 515, rest),
+        ] => full.len() == 512 && rest.len() == 88,
+        _ => false,
+    };
+    let len = terminal.rasp(1).map(|part| part.len());
+    Ok(are_told && len == Some(605) && terminal.unsent() == 0)
+}
+
+/// An edit replaces its range and composes all of its messages, or does neither.
+pub fn act_edit(alloc: Global) -> Tried {
+    beside_twin(alloc, to_edit, edits)
 }
 
 /// What a check has the terminal compose, tried as `composed` tries an event.
