@@ -53,9 +53,9 @@ pub fn paste_replaces()
     ensures nothing { PasteOfNothingCuts }
 {}
 
-/// Says that an edit puts its text, of any length, in the place of its range: the file is dirty then, the window shows the new text with
-/// its dot and its view where they move as other places do, and other files are left alone. An edit by which nothing goes and nothing
-/// comes changes nothing.
+/// Says that an edit puts its text, of any length, in the place of its range. The file is changed then, the window shows the new text,
+/// its dot and its view move as other places do, and other files are left alone. An edit by which nothing goes and nothing comes changes
+/// nothing.
 #[tactic(auto, using(crate::proofs::Replacing::edit_of_nothing_keeps))]
 pub fn edit_replaces()
     ensures text { EditReplaces }
