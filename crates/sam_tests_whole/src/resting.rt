@@ -1,4 +1,7 @@
 //! Worlds that come to rest.
+
+ghost use Rattle.std.specs.Prelude.{◌≡◌, length, IfOk};
+
 use sam_rest::Rest;
 use sam_runes::{Runes, Text};
 use sam_term::UserEvent;
@@ -8,7 +11,9 @@ use std::alloc::{AllocError, Global};
 use std::test::Fail;
 
 /// A file of this name and text.
-fn file_of(alloc: Global, name: char, text: &str) -> Result<(Runes, Text), Fail> {
+fn file_of(alloc: Global, name: char, text: &str) -> Result<(Runes, Text), Fail>
+    ensures { IfOk result (λ file. length file.0 ≡ 1) }
+{
     let name = Runes::from_slice(alloc, &[name])?;
     let text = Text::from_runes(alloc, Runes::from_str(alloc, text)?.as_slice())?;
     Ok((name, text))
