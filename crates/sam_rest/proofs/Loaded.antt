@@ -626,9 +626,10 @@ shown-step f w next e k looks a s = by e refl
             ⊎ ((first_of_checks (event_checks w.term acts.first) ≡ None) × (next ≡ record w { term = made.0; up = w.up ++ made.1 }))
             → At f next × OnlyLook next.term.held
         did (inl is) = (subst (At f) (sym is) now, subst (λ (v : PlainWorld). OnlyLook v.term.held) (sym is) both.1)
-        did (inr done) =
-            (subst (At f) (sym done.1) (look-shown f acts.first w.host t w.up (mesgs w.down) both.0 there k.awaited (held_passed w.term acts.rest acts.first (passed w.term acts.first done.0)) now),
-            subst (λ (v : PlainWorld). OnlyLook v.term.held) (sym done.1) (subst OnlyLook (sym (event-held t acts.first)) both.1))
+        did (inr done) = (
+          subst (At f) (sym done.1) (look-shown f acts.first w.host t w.up (mesgs w.down) both.0 there k.awaited (held_passed w.term acts.rest acts.first (passed w.term acts.first done.0)) now),
+          subst (λ (v : PlainWorld). OnlyLook v.term.held) (sym done.1) (subst OnlyLook (sym (event-held t acts.first)) both.1),
+        )
 
     same-held : next.term.held ≡ w.term.held → OnlyLook next.term.held
     same-held e = subst OnlyLook (sym e) looks

@@ -27,7 +27,7 @@ fn world_of_two(alloc: Global) -> Result<World, Fail> {
     Ok(World::new(alloc, given).ok().ok_or("memory")?)
 }
 
-/// The events of a user who opens both files, moves the first word of file 1 behind a digit, looks for it, types over what is found, and
+/// The events of a user who opens both files, moves the first word of file 1 after a digit, looks for it, types over what is found, and
 /// has all of that file loaded. Meanwhile file 2 gets a letter.
 fn session(alloc: Global) -> Result<[UserEvent; 12], AllocError> {
     let first = Runes::from_str(alloc, "1")?;
@@ -66,7 +66,10 @@ fn held_after_two_acts(world: &mut World) -> Result<(usize, usize), StepFault> {
 }
 
 /// Hands the session in, and returns how many events wait for the lock that the first of them takes.
-fn begun(alloc: Global, world: &mut World) -> Result<Result<(usize, usize), StepFault>, AllocError> {
+fn begun(
+    alloc: Global,
+    world: &mut World,
+) -> Result<Result<(usize, usize), StepFault>, AllocError> {
     let events = session(alloc)?;
     if let Err(fault) = hand_in(world, events) {
         return Ok(Err(fault));
@@ -102,12 +105,19 @@ fn is_at_rest(world: &World) -> bool {
         && !world.locked(2)
 }
 
-/// What a world shows: whether it is at rest with these texts, and how many messages the host took and the terminal composed.
-fn seen(world: &World) -> (bool, bool, bool, (u64, u64)) {
+/// Whether a world is at rest, whether both sides have the texts of file 1 and of file 2, and how many messages the host took and the
+/// terminal composed.
+type Seen = (bool, bool, bool, (u64, u64));
+
+/// What a world shows.
+fn seen(world: &World) -> Seen {
     (
         is_at_rest(world),
-        shows(world, 1, &['1', 'o', 'n', 'e', ' ', 't', 'w', 'o', ' ', '2', '\n'])
-            && is_loaded(world, 1),
+        shows(
+            world,
+            1,
+            &['1', 'o', 'n', 'e', ' ', 't', 'w', 'o', ' ', '2', '\n'],
+        ) && is_loaded(world, 1),
         shows(world, 2, &['S', 'e', 'n', 'd', '\n']),
         (world.host().taken(), world.term().sent()),
     )
@@ -129,9 +139,7 @@ fn held_events_come_to_rest(rt: HostRuntime) -> Result<(), Fail> {
 }
 
 /// What the world shows once it has come to rest, and once it has come to rest again.
-fn seen_twice(
-    world: &mut World,
-) -> Result<((bool, bool, bool, (u64, u64)), (bool, bool, bool, (u64, u64))), StepFault> {
+fn seen_twice(world: &mut World) -> Result<(Seen, Seen), StepFault> {
     world.rest()?;
     let first = seen(world);
     world.rest()?;
