@@ -1,4 +1,7 @@
 //! Worlds that come to rest.
+
+ghost use Rattle.std.specs.Prelude.{◌≡◌, length, IfOk};
+
 use sam_rest::Rest;
 use sam_runes::{Runes, Text};
 use sam_term::UserEvent;
@@ -8,7 +11,9 @@ use std::alloc::{AllocError, Global};
 use std::test::Fail;
 
 /// A file of this name and text.
-fn file_of(alloc: Global, name: char, text: &str) -> Result<(Runes, Text), Fail> {
+fn file_of(alloc: Global, name: char, text: &str) -> Result<(Runes, Text), Fail>
+    ensures { IfOk result (λ file. length file.0 ≡ 1) }
+{
     let name = Runes::from_slice(alloc, &[name])?;
     let text = Text::from_runes(alloc, Runes::from_str(alloc, text)?.as_slice())?;
     Ok((name, text))
@@ -22,7 +27,7 @@ fn world_of_two(alloc: Global) -> Result<World, Fail> {
     Ok(World::new(alloc, given).ok().ok_or("memory")?)
 }
 
-/// The events of a user who opens both files, moves the first word of file 1 behind a digit, looks for it, types over what is found, and
+/// The events of a user who opens both files, moves the first word of file 1 after a digit, looks for it, types over what is found, and
 /// has all of that file loaded. Meanwhile file 2 gets a letter.
 fn session(alloc: Global) -> Result<[UserEvent; 12], AllocError> {
     let first = Runes::from_str(alloc, "1")?;
@@ -100,8 +105,12 @@ fn is_at_rest(world: &World) -> bool {
         && !world.locked(2)
 }
 
-/// What a world shows: whether it is at rest with these texts, and how many messages the host took and the terminal composed.
-fn seen(world: &World) -> (bool, bool, bool, (u64, u64)) {
+/// Whether a world is at rest, whether both sides have the texts of file 1 and of file 2, and how many messages the host took and the
+/// terminal composed.
+type Seen = (bool, bool, bool, (u64, u64));
+
+/// What a world shows.
+fn seen(world: &World) -> Seen {
     (
         is_at_rest(world),
         shows(
@@ -130,15 +139,7 @@ fn held_events_come_to_rest(rt: HostRuntime) -> Result<(), Fail> {
 }
 
 /// What the world shows once it has come to rest, and once it has come to rest again.
-fn seen_twice(
-    world: &mut World,
-) -> Result<
-    (
-        (bool, bool, bool, (u64, u64)),
-        (bool, bool, bool, (u64, u64)),
-    ),
-    StepFault,
-> {
+fn seen_twice(world: &mut World) -> Result<(Seen, Seen), StepFault> {
     world.rest()?;
     let first = seen(world);
     world.rest()?;
