@@ -21,8 +21,8 @@ use std::marker::Model;
 /// A terminal that takes the bytes of a host's frames and the user's events, and keeps the bytes of its messages until they are taken out.
 ///
 /// At each `feed`, `put` and `flush_now` frames are received in order, and then events act for as long as no lock holds the oldest back.
-/// Want of memory loses nothing: what could not be received, done or written waits, and the next of these calls goes on with it. A fault of the
-/// stream, or a frame that the terminal refuses, stops the end for good, once the frames before it are received. An event that the
+/// Want of memory loses nothing: what could not be received, done or written waits, and the next of these calls goes on with it. A fault
+/// of the stream, or a frame that the terminal refuses, stops the end for good, once the frames before it are received. An event that the
 /// terminal refuses stops nothing: `next_refusal` reports it.
 ///
 /// ```rust
