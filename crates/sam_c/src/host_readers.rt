@@ -1,6 +1,6 @@
 //! What C reads of a host: include/sulgrevad.h says of each call what it hands out. None of them changes the host. Each returns
-//! `SAM_NO_HANDLE` if the handle is empty; after that, and after `SAM_NONE`, what its other arguments lead to is as it was. Places count runes from the
-//! beginning of the text.
+//! `SAM_NO_HANDLE` if the handle is empty; after that, and after `SAM_NONE`, what its other arguments lead to is as it was. Places count
+//! runes from the beginning of the text.
 
 ghost use Rattle.std.specs.Prelude.{◌≡◌, drop, is_some, length, option_map};
 ghost use Rattle.sam_c.specs.Buffers.{countable};

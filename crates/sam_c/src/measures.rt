@@ -1,5 +1,5 @@
-//! Measures of a partial text, from a place on: runes, bytes and lines. They walk over the members of the range alone, and look each of them
-//! up in the rasp.
+//! Measures of a partial text, from a place on: runes, bytes and lines. They walk over the members of the range alone, and look each of
+//! them up in the rasp.
 
 ghost use Rattle.std.specs.Prelude.{◌≡◌, ◌^◌, ◌<◌, ◌≤◌, drop, option_to_list, Some};
 ghost use Rattle.sam_c.specs.Buffers.{Fills};

@@ -1,7 +1,7 @@
 //! What C tells a terminal that the user did: include/sulgrevad.h says of each call what it does. An event acts at once if it can, or is
-//! held until the events before it have acted and the locks that it waits for are free. Each call also lets held events act, in order. What is
-//! composed is then pending. An event that is refused is told by `sam_term_next_refusal`, now or later. Places count runes from the
-//! beginning of the text.
+//! held until the events before it have acted and the locks that it waits for are free. Each call also lets held events act, in order.
+//! What is composed is then pending. An event that is refused is told by `sam_term_next_refusal`, now or later. Places count runes from
+//! the beginning of the text.
 //!
 //! Each returns `SAM_OK`, `SAM_NO_MEMORY`, `SAM_UNFINISHED`, `SAM_COUNT_FULL`, `SAM_NO_HANDLE`, or why the terminal has stopped, at this
 //! call or before: `SAM_STREAM..`, `SAM_TERM_REFUSED..`. `SAM_NO_HANDLE` comes first; the order of the others is that of

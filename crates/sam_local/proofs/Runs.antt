@@ -346,3 +346,6 @@ pub shows_as_if_local : (w : PlainWorld) (f : ℕ) → ShowsAsIfLocal w f
 shows_as_if_local w f locked opened given es acted led =
     subst (λ (events : List UserEvent). ShowsFile w (carried_all given events) f) (same_acted given es acted w led)
     ((runs_are_as_if_local given es w led.limits led.run).shows f locked opened)
+
+-- what the law of runs takes
+pub ruleset run_facts = (runs_are_as_if_local, rest_is_as_if_local, one_rest_for_all)

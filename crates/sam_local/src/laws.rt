@@ -15,7 +15,7 @@ ghost use Rattle.sam_local.specs.Editing.{RefusedDoesNothing, TypingReplaces, Li
 /// are not loaded and for counts of messages: the texts, names, marks, saved copies, dots, snarf buffer, pattern, work file, version and
 /// end of the host, and the names, marks, dots, views, current file, pattern and snarfed text of the terminal. So two runs from the same
 /// files in which the user did the same, in the same order, differ in nothing else where they are at rest.
-#[tactic(auto, using(crate::proofs::Runs::runs_are_as_if_local, crate::proofs::Runs::rest_is_as_if_local, crate::proofs::Runs::one_rest_for_all))]
+#[tactic(auto, using(crate::proofs::Runs::run_facts))]
 pub fn runs_are_as_if_local()
     ensures run { RunsAreAsIfLocal }
     ensures rest { RestIsAsIfLocal }
