@@ -186,6 +186,24 @@ def check_one_load(folder):
         expect(is_loaded_beside(pair, 1, layout), f"{keys}: {layout.top} to {layout.end} is shown, and it asks by {asked}")
 
 
+def check_many_gaps(folder):
+    """After a command line over the whole text, and its undo, the text is loaded in many small pieces with gaps between them. A jump there
+    takes no more than a few round trips, and the file is free then."""
+    lines = "".join(f"line {at} the quick fox and the lazy dog, the cat and the cow\n" for at in range(1000))
+    pair, editor, key, text = opened(lines, size=(40, 80), has_vault=True)
+    pair.press(key("Esc"), text(",x/the/c/THE/\n"), key("Esc"), key("^Z"))
+    expect(pair.host.text(1) == lines, "this test is wrong: the undo is not done")
+    for typed in (key("Esc"), text("500\n"), key("Esc")):
+        editor.take(typed)
+    trips, window = 0, editor.files[0]
+    while trips == 0 or pair.terminal.locked(1) or any(row.has_gap for row in window.layout().rows):
+        pair.trip()
+        trips += 1
+        expect(trips <= 6, "after six round trips it still loads")
+    pair.finish()
+    pair.check()
+
+
 def check_keys_before_loading(folder):
     """While keys come, and the text at the caret is loaded, nothing more is asked for, though not all that is shown is loaded. Each key
     stands in the text at once. Afterwards all is asked for."""
