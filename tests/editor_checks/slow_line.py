@@ -197,6 +197,7 @@ def check_many_gaps(folder):
         editor.take(typed)
     trips, window = 0, editor.files[0]
     while trips == 0 or pair.terminal.locked(1) or any(row.has_gap for row in window.layout().rows):
+        pair.now += 0.6
         pair.trip()
         trips += 1
         expect(trips <= 6, "after six round trips it still loads")
