@@ -4,6 +4,7 @@ from typing import Optional, Tuple
 from keys import Input, Key, Text
 from lines import escaped
 from texts import GAP
+from windows import end_of_load
 
 PIECE = 16_384  # runes that are searched at once
 FIRST_REACH, LONGEST_REACH = 4_096, 32_768  # runes that are loaded for a search above, in one round trip, twice as many each time
@@ -64,7 +65,8 @@ class Find:
             self.editor.message = "it stands nowhere above"
         else:
             low = max(0, self._gap - reach)
-            self.editor.terminal.load(self.window.tag, low, self._gap - low)
+            terminal, tag = self.editor.terminal, self.window.tag
+            terminal.load(tag, low, end_of_load(terminal, tag, low, self._gap) - low)
             self.editor.act_again(f"looks above place {self._gap}; Esc stops that")
             return min(start, self._gap), min(2 * reach, LONGEST_REACH)
         return None

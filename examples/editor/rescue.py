@@ -1,8 +1,9 @@
 """What can't go to the host is written to files here."""
 import os
 import tempfile
+from itertools import groupby
 from pathlib import Path
-from typing import Optional
+from typing import List, Optional
 
 from sulgrevad import Terminal
 from texts import GAP
@@ -12,29 +13,23 @@ MOST_READ = 65_536  # runes that are read at once
 
 
 def loaded(terminal: Terminal, tag: int) -> str:
-    """An open file's text, where each stretch that is not loaded is told in words."""
-    parts, place, length = [], 0, terminal.len(tag)
-    while place < length:
-        gap = terminal.first_gap(tag, place)
-        end = length if gap is None else gap
-        if place < end:
-            end = min(end, place + MOST_READ)
-            parts.append("".join(terminal.read(tag, place, end - place)))
-        else:
-            end = _gap_end(terminal, tag, place, length)
-            parts.append(f"[{end - place} characters that were not loaded]")
-        place = end
-    return "".join(parts)
-
-
-def _gap_end(terminal: Terminal, tag: int, place: int, length: int) -> int:
-    while place < length:
-        runes = terminal.read(tag, place, MOST_READ)
-        for at, rune in enumerate(runes):
-            if rune is not None:
-                return place + at
+    """An open file's text, where each stretch that is not loaded is told in words. Each rune is read once, however many stretches there
+    are."""
+    parts: List[str] = []
+    place, missing = 0, 0
+    while runes := terminal.read(tag, place, MOST_READ):
         place += len(runes)
-    return length
+        for is_missing, stretch in groupby(runes, key=lambda rune: rune is None):
+            if is_missing:
+                missing += len(list(stretch))
+                continue
+            parts += [_told(missing), "".join(stretch)]
+            missing = 0
+    return "".join([*parts, _told(missing)])
+
+
+def _told(missing: int) -> str:
+    return f"[{missing} characters that were not loaded]" if missing else ""
 
 
 def keep(name: str, text: str) -> Optional[str]:

@@ -7,7 +7,8 @@ from texts import GAP, Change, Texts
 
 LONGEST_LOOK = 512  # runes of the line before that a new line takes its indentation from
 LONGEST_WORD = 4096  # runes that a move over a word looks at
-MOST_IN_LOAD = 32_768  # runes that one Load asks for
+MOST_STRETCHES, MOST_IN_STRETCH = 64, 512  # that one Load asks for, and the runes of each
+MOST_IN_LOAD = MOST_STRETCHES * MOST_IN_STRETCH
 
 
 def ask(terminal: Terminal, tag: int, top: int, end: int, page: int, turns: int = 0) -> None:
@@ -16,7 +17,23 @@ def ask(terminal: Terminal, tag: int, top: int, end: int, page: int, turns: int 
     most = max(0, MOST_IN_LOAD - (end - top) - 2 * page)
     above, below = (page + min(most, max(0, pages) * page) for pages in (-turns, turns))
     start = max(0, top - above)
-    terminal.load(tag, start, end + below - start)
+    last = end_of_load(terminal, tag, start, end + below)
+    if last < end:  # there are many gaps: what is shown comes first
+        start, last = top, end_of_load(terminal, tag, top, end)
+    terminal.load(tag, start, last - start)
+
+
+def end_of_load(terminal: Terminal, tag: int, start: int, end: int) -> int:
+    """Where a Load has to end that begins at a place and asks for all its gaps at once. Of a longer one the others would come one by one,
+    in a round trip each, and lock the file all the while."""
+    place = start
+    for _ in range(MOST_STRETCHES):
+        gap = terminal.first_gap(tag, place)
+        if gap is None or gap >= end:
+            return end
+        runes = terminal.read(tag, gap, min(MOST_IN_STRETCH, end - gap))
+        place = gap + next((at for at, rune in enumerate(runes) if rune is not None), len(runes))
+    return min(place, end)
 
 
 class Aim(NamedTuple):

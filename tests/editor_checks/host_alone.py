@@ -18,7 +18,7 @@ def check_host_words(folder):
     for words, status, told in (
         (["long.txt"], 1, "long.txt: it is longer than 1,000,000"),
         (["latin.txt"], 1, "latin.txt: it is not UTF-8"),
-        (["."], 0, ".: 2 files are left out"),  # one of them under two more names
+        (["."], 0, ".: 4 files are left out"),
         (["/dev/null"], 1, "/dev/null: it is not a regular file"),
         (["--nonsense"], 2, "usage"),
         (["a", "a"], 1, "twice"),

@@ -1,6 +1,7 @@
 """What a slow line costs: round trips, Loads and layouts."""
 import os
 import random
+import re
 
 from .pairs import Pair, is_loaded_beside, loads_of, opened
 from .support import Session, expect, made, stat_of
@@ -184,6 +185,43 @@ def check_one_load(folder):
         expect(len(asked) == 1, f"{keys}: it asks by {asked}")
         layout = editor.files[0].layout()
         expect(is_loaded_beside(pair, 1, layout), f"{keys}: {layout.top} to {layout.end} is shown, and it asks by {asked}")
+
+
+def rescue_of(pair, tag, most):
+    """What is written of a text when the host is lost, for which no more than so many runes are read."""
+    import rescue
+
+    counts, read = [], pair.terminal.read
+    pair.terminal.read = lambda *words: counts.append(len(found := read(*words))) or found
+    try:
+        kept = rescue.loaded(pair.terminal, tag)
+    finally:
+        del pair.terminal.read
+    expect(sum(counts) <= most, f"it reads {sum(counts)} runes")
+    return kept
+
+
+def check_many_gaps(folder):
+    """After a command line over the whole text, and its undo, the text is loaded in many small pieces with gaps between them. A jump there
+    takes no more than a few round trips, and the file is free then."""
+    lines = "".join(f"line {at} the quick fox and the lazy dog, the cat and the cow\n" for at in range(1000))
+    pair, editor, key, text = opened(lines, size=(40, 80), has_vault=True)
+    pair.press(key("Esc"), text(",x/the/c/THE/\n"), key("Esc"), key("^Z"))
+    expect(pair.host.text(1) == lines, "this test is wrong: the undo is not done")
+    for typed in (key("Esc"), text("500\n"), key("Esc")):
+        editor.take(typed)
+    trips, window = 0, editor.files[0]
+    runes = pair.terminal.read(1, 0, len(lines))
+    missing, kept = runes.count(None), rescue_of(pair, 1, 2 * len(lines))
+    told = re.findall(r"\[(\d+) characters that were not loaded\]", kept)
+    expect(len(told) > 1000 and sum(map(int, told)) == missing, f"of {missing} runes that are not loaded it tells {sum(map(int, told))}")
+    while trips == 0 or pair.terminal.locked(1) or any(row.has_gap for row in window.layout().rows):
+        pair.now += 0.6
+        pair.trip()
+        trips += 1
+        expect(trips <= 6, "after six round trips it still loads")
+    pair.finish()
+    pair.check()
 
 
 def check_keys_before_loading(folder):
