@@ -259,7 +259,9 @@ edit_row : ReadsAs IsEventOf (codes "edit", edit_at)
 edit_row bytes e u h = edit_says bytes e u h
 
 snarf_row : ReadsAs IsEventOf (codes "setsnarf", λ bytes. text_at bytes >>= λ s. Some (SetSnarf s))
-snarf_row bytes e u h = grind (arith, text_says)
+snarf_row bytes e u h =
+    let s = bind_some (text_at bytes) (λ x. Some (SetSnarf x)) e h in
+    subst (λ (x : UserEvent). IsEventOf (codes "setsnarf") x bytes) (same_Some (SetSnarf s.0) e s.2) (refl, (text_says bytes s.0 u s.1, refl))
 
 readers_say : AllByRecursion (ReadsAs IsEventOf) readers
 readers_say = search (type_row, snarf_row, edit_row, range_row, place_row, tag_row, bare_row)
