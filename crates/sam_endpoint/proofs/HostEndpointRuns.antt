@@ -1,23 +1,26 @@
 -- What every run of a host end comes to.
-use Rattle.sam_endpoint.proofs.Common.{◌≡◌, refl, sym, ap, subst, ◌∙◌, inl, inr, ℕ, List, [], ◌∷◌, ◌++◌, flat_map, Option, Some, None, Result, Ok, Err, append_assoc, append-nil, arith, option_map, Tmesg, HFrame, host, terminal, Splits, stream_of, version_after, Held, stream_of-append, version_after-append, Splits-then, PlainHost, answer, HostStop, StreamFault, Gives, mesg_fault, PlainHostEndpoint, Answers, Feeds, FeedsAfter, GoesOn, IsIdle, Serves, TakesIn, Answer}
+use Rattle.sam_endpoint.proofs.Common.{◌≡◌, refl, sym, ap, subst, ◌∙◌, inl, inr, ℕ, ◌+◌, ◌⊎◌, List, [], ◌∷◌, ◌++◌, flat_map, Option, Some, None, Result, Ok, Err, length, length-append, append_assoc, append-nil, arith, option_map, Tmesg, HFrame, host, terminal, Splits, stream_of, version_after, Held, stream_of-append, version_after-append, Splits-then, PlainHost, answer, HostStop, StreamFault, Gives, mesg_fault, PlainHostEndpoint, Answers, Feeds, FeedsAfter, GoesOn, IsIdle, Serves, TakesIn, Answer}
 use Rattle.sam_mesg.specs.declared.fault.MesgFault.{MesgFault}
+use Rattle.sam_frame.specs.Framing.{HasRoom}
 use Rattle.sam_frame.specs.Reading.{IsStream}
 use Rattle.sam_frame.proofs.Cuttings.{Splits-longer}
 use Rattle.sam_host.specs.declared.fault.HostFault.{HostFault}
 use Rattle.sam_endpoint.specs.declared.fault.EndpointFault.TheVariants as fault
-use Rattle.sam_endpoint.specs.HostEndpoints.{FeedsIdle}
-use Rattle.sam_endpoint.specs.HostRuns.{Call, GoesOnAfter, HasServed, Runs, begun_with, came_in, went_out}
+use Rattle.sam_endpoint.specs.declared.fault.HostStop.TheVariants as stop
+use Rattle.sam_endpoint.specs.HostEndpoints.{FeedsIdle, IsDone}
+use Rattle.sam_endpoint.specs.HostRuns.{Call, GoesOnAfter, HasServed, HasStopped, Runs, begun_with, came_in, went_out}
 use Rattle.sam_endpoint.proofs.HostEndpointGoing.{serves_more}
 
--- what the run keeps: what it comes to, and the version at this place of the stream
+-- what the run keeps: what it comes to, and the version and the place at this point of the stream
 pub record Kept (h : PlainHost) (stream out : List ℕ) (e : PlainHostEndpoint) : Type 0 where
   pub served : HasServed h stream out e
   pub version : e.framer.version ≡ version_after terminal 1 (served.answered ++ e.waiting)
+  pub place : e.framer.offset + length e.framer.bytes ≡ length stream
 
 -- ## Steps
 
 kept_answers : (h : PlainHost) (stream out : List ℕ) (e g : PlainHostEndpoint) (ms : List Tmesg) → Answers e ms g → Kept h stream out e → Kept h stream out g
-kept_answers h stream out e g ms a kept = record { served = grind (arith, append_assoc, serves_more, bytes_on); version = grind (arith, append_assoc) }
+kept_answers h stream out e g ms a kept = record { served = grind (arith, append_assoc, serves_more, bytes_on); version = grind (arith, append_assoc); place = grind arith }
   where
     bytes_on : (out : List ℕ) (e g : PlainHostEndpoint) (frames more : List HFrame) → (out ++ e.pending_bytes) ++ stream_of host e.unwritten ≡ stream_of host frames
         → g.pending_bytes ++ stream_of host g.unwritten ≡ e.pending_bytes ++ stream_of host (e.unwritten ++ more)
@@ -36,6 +39,17 @@ reads_more h k stream piece before ms behind splits version gives =
       (Splits-then terminal 1 (stream ++ piece) before (h.bytes ++ piece) ms k.bytes),
     )
 
+-- and how long it is
+place_after : (h k : Held) (stream piece : List ℕ) (ms : List Tmesg) → h.offset + length h.bytes ≡ length stream → k.offset ≡ h.offset + length (stream_of terminal ms)
+    → h.bytes ++ piece ≡ stream_of terminal ms ++ k.bytes → k.offset + length k.bytes ≡ length (stream ++ piece)
+place_after h k stream piece ms place offset whole =
+    omega (arith, place, offset, ap length whole, length-append h.bytes piece, length-append (stream_of terminal ms) k.bytes, length-append stream piece)
+
+place_more : (h k : Held) (stream piece : List ℕ) (ms : List Tmesg) (behind : Option StreamFault) → h.offset + length h.bytes ≡ length stream
+    → Gives terminal h piece ms behind k → k.offset + length k.bytes ≡ length (stream ++ piece)
+place_more h k stream piece ms None place gives = place_after h k stream piece ms place gives.gave.offset_is gives.gave.splits.whole
+place_more h k stream piece ms (Some why) place gives = place_after h k stream piece ms place gives.1.gave.offset_is gives.1.gave.splits.whole
+
 kept_piece : (h : PlainHost) (stream out piece : List ℕ) (e k : PlainHostEndpoint) → e.waiting ≡ [] → TakesIn e piece k → Kept h stream out e → Kept h (stream ++ piece) out k
 kept_piece h stream out piece e k none (messages, behind, rest, gives, is) kept =
     let s = kept.served in
@@ -47,6 +61,7 @@ kept_piece h stream out piece e k none (messages, behind, rest, gives, is) kept 
     subst (λ (x : PlainHostEndpoint). Kept h (stream ++ piece) out x) (sym is) (record {
       served = record { answered = s.answered; frames = s.frames; writes = s.writes; serves = s.serves; reads = more.0; bytes = s.bytes };
       version = more.1;
+      place = place_more e.framer rest stream piece messages behind kept.place gives;
     })
 
 kept_goes_on : (h : PlainHost) (stream out : List ℕ) (e g : PlainHostEndpoint) (result : Answer) → GoesOnAfter result → GoesOn e result g → Kept h stream out e → Kept h stream out g
@@ -80,12 +95,12 @@ kept_after h stream out piece e k g (Err fault.Unfinished) result goes on (is, s
     grind (arith, (kept_same h stream out k g same (kept_goes_on h stream out e k (Err fault.Unfinished) tt on kept)))
 kept_after h stream out piece e k g first result u w q y = grind (arith, stopped_not)
 
-kept_feed : (h : PlainHost) (stream out piece : List ℕ) (e g : PlainHostEndpoint) (result : Answer) → GoesOnAfter result → Feeds e piece result g → Kept h stream out e
+pub kept_feed : (h : PlainHost) (stream out piece : List ℕ) (e g : PlainHostEndpoint) (result : Answer) → GoesOnAfter result → Feeds e piece result g → Kept h stream out e
     → Kept h (stream ++ came_in (piece, Some result)) out g
 kept_feed h stream out piece e g result goes (inl (why, stops, is, same)) kept = absurd (stopped_not result why is goes)
 kept_feed h stream out piece e g result goes (inr (going, k, first, on, after)) kept = kept_after h stream out piece e k g first result goes on after kept
 
-kept_out : (h : PlainHost) (stream out bytes rest : List ℕ) (e : PlainHostEndpoint) → e.pending_bytes ≡ bytes ++ rest → Kept h stream out e
+pub kept_out : (h : PlainHost) (stream out bytes rest : List ℕ) (e : PlainHostEndpoint) → e.pending_bytes ≡ bytes ++ rest → Kept h stream out e
     → Kept h (stream ++ []) (out ++ bytes) (record e { pending_bytes = rest })
 kept_out h stream out bytes rest e is kept =
     let s = kept.served in
@@ -99,7 +114,84 @@ kept_out h stream out bytes rest e is kept =
         bytes = ap (λ (x : List ℕ). x ++ stream_of host e.unwritten) (append_assoc out bytes rest ∙ ap (λ (x : List ℕ). out ++ x) (sym is)) ∙ s.bytes;
       };
       version = kept.version;
+      place = kept.place;
     })
+
+-- ## Stops
+
+-- nothing was fed to an end of this host
+pub kept_begun : (h : PlainHost) → Kept h [] [] (begun_with h)
+kept_begun h = record {
+  served = record { answered = []; frames = []; writes = []; serves = (refl, refl, refl); reads = record { splits = record { whole = refl; fit = tt }; ends = tt }; bytes = refl };
+  version = refl;
+  place = refl;
+}
+
+-- a piece that was fed whole leaves nothing to do
+pub fed_done : (e g : PlainHostEndpoint) (piece : List ℕ) → Feeds e piece (Ok tt) g → IsDone g × (g.stop ≡ None)
+fed_done e g piece (inl (why, stops, is, same)) = absurd (cc)
+fed_done e g piece (inr (going, k, Ok done, on, inl (m, takes, last))) = ((last.1, last.0.behind ∙ last.2), last.3)
+fed_done e g piece (inr (going, k, Ok done, on, inr fed)) = absurd (grind arith)
+fed_done e g piece (inr (going, k, Err why, on, after)) = absurd (grind arith)
+
+feed_goes : (e g : PlainHostEndpoint) (piece : List ℕ) (result : Answer) → GoesOnAfter result → Feeds e piece result g → g.stop ≡ None
+feed_goes e g piece result goes feeds = grind arith
+
+run_goes : (e g : PlainHostEndpoint) (calls : List Call) → e.stop ≡ None → Runs e calls g → g.stop ≡ None
+run_goes e g [] goes is = grind arith
+run_goes e g ((piece, Some answer) ∷ calls) goes (k, feeds, goes_on, runs) = run_goes k g calls (feed_goes e k piece answer goes_on feeds) runs
+run_goes e g ((bytes, None) ∷ calls) goes (rest, is, runs) = run_goes (record e { pending_bytes = rest }) g calls goes runs
+
+-- going on stopped the end
+pub record KeptStop (h : PlainHost) (stream piece out : List ℕ) (why : HostStop) (g : PlainHostEndpoint) : Type 0 where
+  pub taken : List ℕ
+  pub whole : (taken ≡ piece) ⊎ (taken ≡ [])
+  pub kept : Kept h (stream ++ taken) out g
+  pub stops : HasStopped g why
+  pub says : g.stop ≡ Some why
+
+went_on : (h : PlainHost) (stream out : List ℕ) (e g : PlainHostEndpoint) (why : HostStop) → GoesOn e (Err (fault.Stopped why)) g → Kept h stream out e
+    → Kept h stream out g × HasStopped g why × (g.stop ≡ Some why)
+went_on h stream out e g (stop.Stream why) (a, idle, behind, says) kept = (kept_answers h stream out e g e.waiting a kept, (idle, a.behind ∙ behind), says)
+went_on h stream out e g (stop.Refused why) (ms, m, rest, a, waits, refuses, written, says) kept = (kept_answers h stream out e g ms a kept, (m, rest, waits, refuses, written), says)
+
+stopped_after : (h : PlainHost) (stream out piece : List ℕ) (e k g : PlainHostEndpoint) (first : Answer) (why : HostStop) → GoesOn e first k
+    → FeedsAfter first k piece (Err (fault.Stopped why)) g → Kept h stream out e → KeptStop h stream piece out why g
+stopped_after h stream out piece e k g (Ok done) why on (inl (m, takes, last)) kept =
+    let s = went_on h (stream ++ piece) out m g why last (kept_piece h stream out piece k m on.1.waiting takes (kept_goes_on h stream out e k (Ok done) tt on kept)) in
+    record { taken = piece; whole = inl refl; kept = s.0; stops = s.1; says = s.2 }
+stopped_after h stream out piece e k g (Ok done) why on (inr fed) kept = absurd (grind arith)
+stopped_after h stream out piece e k g (Err fault.Unfinished) why on (is, same) kept = absurd (cc)
+stopped_after h stream out piece e k g (Err (fault.Stopped first)) why on (is, same) kept =
+    let one : first ≡ why = cc in
+    let s = went_on h stream out e k first on kept in
+    subst (λ (x : PlainHostEndpoint). KeptStop h stream piece out why x) (sym same) (subst (λ (w : HostStop). KeptStop h stream piece out w k) one (record {
+      taken = [];
+      whole = inr refl;
+      kept = subst (λ (x : List ℕ). Kept h x out k) (sym (append-nil stream)) s.0;
+      stops = s.1;
+      says = s.2;
+    }))
+
+stopped_after h stream out piece e k g (Err fault.OutOfMemory) why on after kept = absurd on
+stopped_after h stream out piece e k g (Err fault.CountFull) why on after kept = absurd on
+
+-- a piece stopped an end that went on
+pub kept_stop : (h : PlainHost) (stream out piece : List ℕ) (e g : PlainHostEndpoint) (why : HostStop) → e.stop ≡ None → Feeds e piece (Err (fault.Stopped why)) g
+    → Kept h stream out e → KeptStop h stream piece out why g
+kept_stop h stream out piece e g why goes (inl (who, stops, is, same)) kept = absurd (cc)
+kept_stop h stream out piece e g why goes (inr (going, k, first, on, after)) kept = stopped_after h stream out piece e k g first why on after kept
+
+-- a piece that can be counted is no reason to refuse it
+pub none_full : (e g : PlainHostEndpoint) (piece : List ℕ) → HasRoom e.framer piece → Feeds e piece (Err fault.CountFull) g → ⊥
+none_full e g piece room (inl (why, stops, is, same)) = cc
+none_full e g piece room (inr (going, k, Ok done, on, inl (m, takes, last))) = last
+none_full e g piece room (inr (going, k, Ok done, on, inr (inl (is, same)))) = cc
+none_full e g piece room (inr (going, k, Ok done, on, inr (inr (is, full, same)))) = let one = on.0.framer in grind arith
+none_full e g piece room (inr (going, k, Err fault.Unfinished, on, (is, same))) = cc
+none_full e g piece room (inr (going, k, Err (fault.Stopped why), on, (is, same))) = cc
+none_full e g piece room (inr (going, k, Err fault.OutOfMemory, on, after)) = on
+none_full e g piece room (inr (going, k, Err fault.CountFull, on, after)) = on
 
 -- ## Runs
 
@@ -115,10 +207,13 @@ kept_run h stream out ((bytes, None) ∷ calls) e g (rest, is, runs) kept =
     (kept_run h (stream ++ []) (out ++ bytes) calls (record e { pending_bytes = rest }) g runs (kept_out h stream out bytes rest e is kept)))
 
 pub runs_serve : (h : PlainHost) (calls : List Call) (g : PlainHostEndpoint) → Runs (begun_with h) calls g → HasServed h (flat_map came_in calls) (flat_map went_out calls) g
-runs_serve h calls g runs = (kept_run h [] [] calls (begun_with h) g runs (record {
-  served = record { answered = []; frames = []; writes = []; serves = (refl, refl, refl); reads = record { splits = record { whole = refl; fit = tt }; ends = tt }; bytes = refl };
-  version = refl;
-})).served
+runs_serve h calls g runs = (kept_run h [] [] calls (begun_with h) g runs (kept_begun h)).served
+
+pub stops_serve : (h : PlainHost) (calls : List Call) (e g : PlainHostEndpoint) (piece : List ℕ) (why : HostStop) → Runs (begun_with h) calls e → Feeds e piece (Err (fault.Stopped why)) g
+    → (taken : List ℕ) × ((taken ≡ piece) ⊎ (taken ≡ [])) × HasServed h (flat_map came_in calls ++ taken) (flat_map went_out calls) g × HasStopped g why × (g.stop ≡ Some why)
+stops_serve h calls e g piece why runs feeds =
+    let s = kept_stop h (flat_map came_in calls) (flat_map went_out calls) piece e g why (run_goes (begun_with h) e calls refl runs) feeds (kept_run h [] [] calls (begun_with h) e runs (kept_begun h)) in
+    (s.taken, s.whole, s.kept.served, s.stops, s.says)
 
 -- ## One outcome
 

@@ -1,11 +1,13 @@
 -- A run of calls of a host end, and what it comes to.
-use Rattle.std.specs.Prelude.{◌≡◌, ℕ, List, [], ◌∷◌, ◌++◌, flat_map, Option, Some, None, option_map, Ok, Err}
+use Rattle.std.specs.Prelude.{◌≡◌, ◌⊎◌, ℕ, List, [], ◌∷◌, ◌++◌, flat_map, Option, Some, None, option_map, Ok, Err}
 use Rattle.sam_mesg.specs.declared.tmesg.Tmesg.{Tmesg}
 use Rattle.sam_mesg.specs.declared.hmesg.HFrame.{HFrame}
 use Rattle.sam_frame.specs.Direction.{host, terminal}
 use Rattle.sam_frame.specs.Stream.{stream_of}
 use Rattle.sam_frame.specs.Reading.{IsStream}
-use Rattle.sam_host.specs.Host.{PlainHost}
+use Rattle.sam_host.specs.Host.{PlainHost, answer}
+use Rattle.sam_endpoint.specs.declared.fault.HostStop.{HostStop}
+use Rattle.sam_endpoint.specs.declared.fault.HostStop.TheVariants as stop
 use Rattle.sam_endpoint.specs.declared.fault.EndpointFault.TheVariants as fault
 use Rattle.sam_endpoint.specs.Streams.{mesg_fault}
 use Rattle.sam_endpoint.specs.HostEndpoints.{PlainHostEndpoint, Feeds, IsIdle, Serves, new_host_endpoint}
@@ -49,6 +51,12 @@ pub record HasServed (first : PlainHost) (stream out : List ℕ) (e : PlainHostE
   pub reads : IsStream terminal 1 stream (answered ++ e.waiting) e.framer.bytes (option_map mesg_fault e.behind)
   pub bytes : (out ++ e.pending_bytes) ++ stream_of host e.unwritten ≡ stream_of host frames
 
+-- why it has stopped: the stream shows this fault after messages that are all answered, or the host refuses the oldest that waits
+abbrev pub HasStopped : PlainHostEndpoint → HostStop → Type 0
+HasStopped e (stop.Stream why) = IsIdle e × (e.behind ≡ Some why)
+HasStopped e (stop.Refused why) =
+    (message : Tmesg) × (rest : List Tmesg) × (e.waiting ≡ message ∷ rest) × (answer e.host message ≡ Err why) × (e.unwritten ≡ [])
+
 -- a new end of this host
 abbrev pub begun_with : PlainHost → PlainHostEndpoint
 begun_with h = record new_host_endpoint { host = h }
@@ -59,6 +67,14 @@ abbrev pub RunsServe : Type 0
 RunsServe =
     (h : PlainHost) (calls : List Call) (g : PlainHostEndpoint) → Runs (begun_with h) calls g
     → HasServed h (flat_map came_in calls) (flat_map went_out calls) g
+
+-- a run that a piece then stops, of which all was taken in or nothing
+abbrev pub StopsServe : Type 0
+StopsServe =
+    (h : PlainHost) (calls : List Call) (e g : PlainHostEndpoint) (piece : List ℕ) (why : HostStop) → Runs (begun_with h) calls e
+    → Feeds e piece (Err (fault.Stopped why)) g
+    → (taken : List ℕ) × ((taken ≡ piece) ⊎ (taken ≡ []))
+    × HasServed h (flat_map came_in calls ++ taken) (flat_map went_out calls) g × HasStopped g why × (g.stop ≡ Some why)
 
 -- two ends to which the same stream came, in whatever pieces and however often they were out of memory, have the same host and
 -- the same bytes

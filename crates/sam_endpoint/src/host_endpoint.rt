@@ -6,6 +6,7 @@ ghost use Rattle.std.specs.VecDeque.{deque_len, deque_capacity};
 ghost use Rattle.sam_runes.specs.Checks.{first_of_checks};
 ghost use Rattle.sam_term.specs.Fitting.{FitsLast};
 ghost use Rattle.sam_endpoint.specs.HostEndpoints.{Feeds, Finishes, GoesOn, IsIdle, IsAddFault, new_host_endpoint, add_checks, with_file, writes_of};
+ghost use Rattle.sam_endpoint.specs.HostRuns.{begun_with};
 ghost use Rattle.sam_endpoint.specs.HostSteps.{Brings, Ends, Handles, Writes};
 
 use crate::fault::{AddFault, EndpointFault, FinishFault, HostStop, StreamFault};
@@ -145,7 +146,14 @@ impl HostEndpoint {
         let Ok(host) = Host::new(alloc, Vec::new(alloc)) else {
             return Err(AllocError);
         };
-        Ok(HostEndpoint {
+        Ok(HostEndpoint::with_host(alloc, host))
+    }
+
+    /// Makes an end of this host, to which nothing was fed. It takes no memory.
+    pub fn with_host(alloc: Global, host: Host) -> HostEndpoint
+        ensures { result ≡ begun_with host }
+    {
+        HostEndpoint {
             alloc,
             framer: FramerT::new(alloc),
             host,
@@ -156,7 +164,7 @@ impl HostEndpoint {
             pending_bytes: PendingBytes::new(alloc),
             writes: VecDeque::new(alloc),
             stop: None,
-        })
+        }
     }
 
     /// Returns the first test of `AddFault` that stands against a file of this name and text. Out of memory is not among them.
@@ -272,6 +280,21 @@ impl HostEndpoint {
         ensures rest { self.new ≡ record self.old { pending_bytes = drop result self.old.pending_bytes } }
     {
         self.pending_bytes.take_into(into)
+    }
+
+    /// Lends the bytes for the terminal that wait to be taken out, in order.
+    pub fn pending_bytes(&self) -> &[u8]
+        ensures { result.now ≡ self.now.pending_bytes }
+    {
+        self.pending_bytes.as_slice()
+    }
+
+    /// Takes out the first `count` bytes for the terminal without moving them, or all if fewer wait. Everything else of the end stays as
+    /// it was. It works on an end that has stopped, too.
+    pub fn consume(&mut self, count: usize)
+        ensures { self.new ≡ record self.old { pending_bytes = drop count self.old.pending_bytes } }
+    {
+        self.pending_bytes.consume(count);
     }
 
     /// Hands out the oldest tag that the host was told to write (Twrite) and that was not handed out before. Returns `None` if there is

@@ -1,7 +1,7 @@
 //! What holds of every run of an end, stated by the clauses of functions that do nothing.
 
 ghost use Rattle.sam_endpoint.specs.Changes.{ActsKeep, AskingBegins, FlushesKeep, FramesKeep, KeptTellsChange, UnaskedIsKept};
-ghost use Rattle.sam_endpoint.specs.HostRuns.{OneOutcome, RunsServe};
+ghost use Rattle.sam_endpoint.specs.HostRuns.{OneOutcome, RunsServe, StopsServe};
 ghost use Rattle.sam_endpoint.specs.TermRuns.{RunsLead};
 
 use sam_frame::one_reading_t;
@@ -12,6 +12,12 @@ use sam_frame::one_reading_t;
 #[tactic(auto, using(crate::proofs::HostEndpointRuns::runs_serve))]
 pub fn host_runs_serve()
     ensures { RunsServe }
+{}
+
+/// States what a run of a host end comes to that a piece stops: the same, with the piece or with none of it, and the end shows why it
+/// stopped. The stream has the fault after messages that are all answered; or the host refuses the oldest message that waits.
+pub fn host_stops_serve()
+    ensures { StopsServe }
 {}
 
 /// States that two host ends to which the same stream came have the same host and the same bytes for the terminal, once nothing waits,

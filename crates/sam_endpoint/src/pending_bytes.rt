@@ -67,6 +67,20 @@ impl PendingBytes {
         count
     }
 
+    /// Lends the bytes, in order.
+    pub fn as_slice(&self) -> &[u8]
+        ensures { result.now ≡ self.now }
+    {
+        &self.bytes[self.taken..]
+    }
+
+    /// Takes the first `count` bytes without moving them, or all if there are fewer.
+    pub fn consume(&mut self, count: usize)
+        ensures { self.new ≡ drop count self.old }
+    {
+        self.taken += count.min(self.len());
+    }
+
     /// Forgets the bytes that were taken, once they are half of all. So a byte is moved at most once for each byte that is taken.
     fn compact(&mut self)
         ensures { self.new ≡ self.old }

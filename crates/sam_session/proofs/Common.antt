@@ -19,7 +19,7 @@ pub use Rattle.sam_mesg.specs.declared.tmesg.Tmesg.{Tmesg}
 pub use Rattle.sam_script.specs.Script.{PlainScript, keys_of, mouse_of}
 pub use Rattle.sam_script.specs.Spelling.{IsReadFault, Spells}
 pub use Rattle.sam_session.specs.Outcome.{OnSide, Plays, Stops, Written, frame_number, refusal_number, stop_at}
-pub use Rattle.sam_session.specs.Pieces.{AllFit, Answers, AnswersBefore, FramesFit, Halts, HaltsBefore, MayEnd, PieceAnswers, PieceStops, Refuses}
+pub use Rattle.sam_session.specs.Pieces.{Answers, MayEnd, StopsAt, of_host_stop}
 pub use Rattle.sam_session.specs.Serving.{Served, behind, serve, served_on}
 pub use Rattle.sam_session.specs.Threading.{HasAllUsers, IsSessionFault, IsThreaded, IsThreadsFault, IsUnread, IsWoven, PrintsSession, first_cause, of_cause, of_stops}
 pub use Rattle.sam_session.specs.Words.{HoldsMode, attached, attached_from, bytes_app, program, threads_app}

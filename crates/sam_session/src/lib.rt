@@ -1,7 +1,6 @@
 //! The program `sam_play` by its modes: bytes in and bytes out, over any reader and writer.
 #![tactic(auto)]
 
-mod answering;
 mod bytes;
 mod fault;
 mod input;

@@ -413,10 +413,13 @@ fn end_of_read(alloc: Global, bytes: &[u8], fails_at: usize) -> Result<(), PlayF
     play_bytes(alloc, &mut drip, &mut writer, &[])
 }
 
-/// The end where the nth write fails, counted from 0.
+/// The end where the nth write fails, counted from 0. Each read gives one byte, so that each answer is a write of its own.
 fn end_of_write(alloc: Global, bytes: &[u8], fails_at: usize) -> Result<(), PlayFault> {
-    let mut reader = bytes;
-    play_bytes(alloc, &mut reader, &mut Cut { fails_at }, &[])
+    let mut drip = Drip {
+        bytes,
+        fails_at: usize::MAX,
+    };
+    play_bytes(alloc, &mut drip, &mut Cut { fails_at }, &[])
 }
 
 /// Whether each read that fails, and each write, is the end.
