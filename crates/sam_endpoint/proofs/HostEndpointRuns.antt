@@ -172,7 +172,6 @@ stopped_after h stream out piece e k g (Err (fault.Stopped first)) why on (is, s
       stops = s.1;
       says = s.2;
     }))
-
 stopped_after h stream out piece e k g (Err fault.OutOfMemory) why on after kept = absurd on
 stopped_after h stream out piece e k g (Err fault.CountFull) why on after kept = absurd on
 
