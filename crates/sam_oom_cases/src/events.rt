@@ -201,21 +201,29 @@ pub fn act_type(alloc: Global) -> Tried {
     beside_twin(alloc, to_type_over, types_over)
 }
 
+/// Whether the message types so many runes into file 1 at this place.
+fn types_at(message: &Tmesg, place: u32, count: usize) -> bool {
+    match message {
+        Tmesg::Ttype(1, at, runes) => *at == place && runes.len() == count,
+        _ => false,
+    }
+}
+
+/// Whether the messages are the unsent `X`, the cut of the range, and the text in two pieces.
+fn are_of_edit(messages: &[Tmesg]) -> bool {
+    let [unsent, cut, full, rest] = messages else {
+        return false;
+    };
+    let cuts = matches!(cut, Tmesg::Tcut(1, 3, 4));
+    cuts && types_at(unsent, 0, 1) && types_at(full, 3, 512) && types_at(rest, 515, 88)
+}
+
 fn edits(terminal: &mut Terminal, twin: &mut Terminal) -> Tried {
     let Some(messages) = composed(terminal, twin) else {
         return Ok(false);
     };
-    let are_told = match messages.as_slice() {
-        [
-            Tmesg::Ttype(1, 0, _),
-            Tmesg::Tcut(1, 3, 4),
-            Tmesg::Ttype(1, 3, full),
-            Tmesg::Ttype(1, 515, rest),
-        ] => full.len() == 512 && rest.len() == 88,
-        _ => false,
-    };
     let len = terminal.rasp(1).map(|part| part.len());
-    Ok(are_told && len == Some(605) && terminal.unsent() == 0)
+    Ok(are_of_edit(messages.as_slice()) && len == Some(605) && terminal.unsent() == 0)
 }
 
 /// An edit replaces its range and composes all of its messages, or does neither.

@@ -1,24 +1,19 @@
 -- What the proofs of this crate cite most from its definitions and from the crates below.
-pub use Rattle.std.proofs.Common.{Bool, Err, IfErr, IfOk, IfSome, IsOkAnd, List, None, Ok, OnOk, Option, Result, Some, [], ap, append-nil, append_assoc, ap₂, arith, codes, cond, drop, eqb, false, flat_map, inl, inr, length, length-append, length-take, map, ne_eqb, refl, rules, slice_index, string_bytes, subst, sym, take, true, ℕ, ⊎_elim, ◌++◌, ◌+◌, ◌-◌, ◌<◌, ◌||◌, ◌∙◌, ◌∷◌, ◌≡◌, ◌≢◌, ◌≤◌, ◌⊎◌}
+pub use Rattle.std.proofs.Common.{Bool, Err, IfErr, IfOk, IfSome, IsOkAnd, List, None, Ok, OnOk, Option, Result, Some, [], ap, append-nil, append_assoc, ap₂, arith, cond, drop, eqb, false, flat_map, inl, inr, length, length-append, length-take, map, ne_eqb, refl, rules, slice_index, string_bytes, subst, sym, take, true, ℕ, ⊎_elim, ◌++◌, ◌+◌, ◌-◌, ◌<◌, ◌||◌, ◌∙◌, ◌∷◌, ◌≡◌, ◌≢◌, ◌≤◌, ◌⊎◌}
 pub use Rattle.std.proofs.KnownBytes.{Appends-nil, Appends-trans, Consumes-nil, Consumes-trans, Consumes-whole}
-pub use Rattle.std.proofs.lemmas.List.Elements.{All-cons, All-head, All-nil, All-tail}
-pub use Rattle.std.proofs.lemmas.Result.{IfErr-weaker, IfOk-weaker, err_from_is_err_and}
+pub use Rattle.std.proofs.lemmas.Result.{IfOk-weaker, err_from_is_err_and}
 pub use Rattle.std.specs.Io.KnownBytes.{Appends, Consumes, IsAtEnd}
-pub use Rattle.std.specs.Vec.Iter.{into_iter_items}
 pub use Rattle.clap.proofs.WalkLemmas.{first_value-rows}
 pub use Rattle.clap.specs.Words.{App, Shape, app_of, is_simple, subcommand_of, subcommand_rows_of, with_rule, with_subcommand}
 pub use Rattle.sam_frame.specs.Direction.{terminal}
-pub use Rattle.sam_frame.specs.Stream.{FitInTurn, version_after}
-pub use Rattle.sam_host.proofs.SoundLaws.{frames_fit, starts_sound, stays_sound}
+pub use Rattle.sam_frame.specs.Stream.{version_after}
 pub use Rattle.sam_host.specs.Host.{Answer, PlainHost, answer}
-pub use Rattle.sam_host.specs.Laws.{IsSound}
 pub use Rattle.sam_host.specs.declared.fault.HostFault.{HostFault}
-pub use Rattle.sam_mesg.specs.TerminalKinds.{FitsT}
 pub use Rattle.sam_mesg.specs.declared.hmesg.HFrame.{HFrame}
 pub use Rattle.sam_mesg.specs.declared.tmesg.Tmesg.{Tmesg}
 pub use Rattle.sam_script.specs.Script.{PlainScript, keys_of, mouse_of}
 pub use Rattle.sam_script.specs.Spelling.{IsReadFault, Spells}
-pub use Rattle.sam_session.specs.Outcome.{OnSide, Plays, Stops, Written, frame_number, refusal_number, stop_at}
+pub use Rattle.sam_session.specs.Outcome.{OnSide, Plays, Stops, Written, refusal_number, stop_at}
 pub use Rattle.sam_session.specs.Pieces.{Answers, MayEnd, StopsAt, of_host_stop}
 pub use Rattle.sam_session.specs.Serving.{Served, behind, serve, served_on}
 pub use Rattle.sam_session.specs.Threading.{HasAllUsers, IsSessionFault, IsThreaded, IsThreadsFault, IsUnread, IsWoven, PrintsSession, first_cause, of_cause, of_stops}

@@ -1,9 +1,9 @@
 -- Where the program stands between two pieces.
-use Rattle.sam_session.proofs.Common.{◌≡◌, ◌∙◌, ℕ, ◌+◌, ◌-◌, ◌≤◌, List, [], ◌∷◌, ◌++◌, length, Option, None, Some, IfSome, IfErr, OnOk, Result, Ok, Err, inl, inr, refl, sym, ap, subst, append_assoc, append-nil, length-append, arith, Appends, Consumes, IsAtEnd, Appends-nil, Appends-trans, Consumes-nil, Consumes-trans, Consumes-whole, Tmesg, terminal, version_after, PlainHost, HostFault, Answer, answer, Served, served_on, serve, behind, Stops, stop_at, Plays, Written, OnSide, Answers, StopsAt, MayEnd, of_host_stop, Stop, Frame, PlayFault}
+use Rattle.sam_session.proofs.Common.{◌≡◌, ◌∙◌, ℕ, ◌+◌, ◌-◌, ◌≤◌, List, [], ◌∷◌, ◌++◌, length, take, Option, None, Some, IfSome, IfErr, OnOk, Result, Ok, Err, inl, inr, refl, sym, ap, subst, append_assoc, append-nil, length-append, arith, Appends, Consumes, IsAtEnd, Appends-nil, Appends-trans, Consumes-nil, Consumes-trans, Consumes-whole, Tmesg, terminal, version_after, PlainHost, HostFault, Answer, answer, Served, served_on, serve, behind, Stops, stop_at, Plays, Written, OnSide, Answers, StopsAt, MayEnd, of_host_stop, Stop, Frame, PlayFault}
 use Rattle.sam_frame.specs.Direction.{host}
 use Rattle.sam_frame.specs.Framing.{HasRoom}
 use Rattle.sam_frame.specs.Splitting.{Ends}
-use Rattle.sam_frame.specs.Stream.{Splits, stream_of}
+use Rattle.sam_frame.specs.Stream.{stream_of}
 use Rattle.sam_frame.proofs.Cuttings.{Splits-longer, Shows-longer}
 use Rattle.sam_endpoint.specs.declared.fault.HostStop.{HostStop}
 use Rattle.sam_endpoint.specs.declared.fault.HostStop.TheVariants as reason
@@ -170,18 +170,22 @@ played : (h : PlainHost) (first now before after : Option (List ℕ)) (e : Plain
 played h first now before after e left p =
     subst (λ (x : List ℕ). Plays h p.got x (stop_at None e.framer.bytes)) (ap (λ (x : List ℕ). p.wrote ++ x) p.sent ∙ append-nil p.wrote) (plays_end h p.got p.wrote e p.kept.served p.done)
 
+-- a read of so many bytes, which are none only at the end of the input
+abbrev pub Reads : Option (List ℕ) → Option (List ℕ) → ℕ → List ℕ → Type 0
+Reads now later count buffer = Consumes now later (take count buffer) × (count ≡ 0 → IsAtEnd later)
+
 -- the input is read to its end
-pub ends_with : (h : PlainHost) (first now later before after : Option (List ℕ)) (e : PlainHostEndpoint) (left : ℕ) (nothing : List ℕ) (s : Option Stop)
-    → Progress h first now before after e left → Consumes now later nothing → nothing ≡ [] → IsAtEnd later → s ≡ stop_at None e.framer.bytes
+ends_with : (h : PlainHost) (first now later before after : Option (List ℕ)) (e : PlainHostEndpoint) (left count : ℕ) (buffer : List ℕ) (s : Option Stop)
+    → Progress h first now before after e left → Reads now later count buffer → count ≡ 0 → s ≡ stop_at None e.framer.bytes
     → Written first before after (λ input written. (length input ≤ most_input) × Plays h input written s)
-ends_with h first now later before after e left nothing s p reads none at_end stopped =
+ends_with h first now later before after e left count buffer s p reads zero stopped =
     let plays = played h first now before after e left p in
-    let all : Consumes first later p.got = subst (λ (x : List ℕ). Consumes first later x) (append-nil p.got) (Consumes-trans first now later p.got [] p.read (subst (λ (x : List ℕ). Consumes now later x) none reads)) in
-    let count = p.count in
+    let at_end = reads.1 zero in
+    let none : Consumes now later [] = subst (λ n. Consumes now later (take n buffer)) zero reads.0 in
+    let all : Consumes first later p.got = subst (λ (x : List ℕ). Consumes first later x) (append-nil p.got) (Consumes-trans first now later p.got [] p.read none) in
+    let size = p.count in
     let written = p.written in
     grind (arith, Consumes-whole)
-
--- ---- the end of the input
 
 stop_empty : (rest : List ℕ) → rest ≡ [] → None ≡ stop_at None rest
 stop_empty rest e = grind arith
@@ -194,20 +198,20 @@ only_plays : (input before after : Option (List ℕ)) (h : PlainHost) (s : Optio
 only_plays input before after h s e = grind arith
 
 -- what the program answers there
-pub ends_ok : (h : PlainHost) (first now later before after : Option (List ℕ)) (e : PlainHostEndpoint) (left : ℕ) (nothing : List ℕ) (r : Result (Unit {0}) PlayFault)
-    → Progress h first now before after e left → Consumes now later nothing → nothing ≡ [] → IsAtEnd later → MayEnd e.framer r
+pub ends_ok : (h : PlainHost) (first now later before after : Option (List ℕ)) (e : PlainHostEndpoint) (left count : ℕ) (buffer : List ℕ) (r : Result (Unit {0}) PlayFault)
+    → Progress h first now before after e left → Reads now later count buffer → count ≡ 0 → MayEnd e.framer r
     → OnOk r (Written first before after (λ input written. (length input ≤ most_input) × Plays h input written None))
-ends_ok h first now later before after e left nothing (Ok done) p reads none at_end may =
-    ends_with h first now later before after e left nothing None p reads none at_end (stop_empty e.framer.bytes may)
-ends_ok h first now later before after e left nothing (Err why) p reads none at_end may = tt
+ends_ok h first now later before after e left count buffer (Ok done) p reads zero may =
+    ends_with h first now later before after e left count buffer None p reads zero (stop_empty e.framer.bytes may)
+ends_ok h first now later before after e left count buffer (Err why) p reads zero may = tt
 
-pub ends_side : (h : PlainHost) (first now later before after : Option (List ℕ)) (e : PlainHostEndpoint) (left : ℕ) (nothing : List ℕ) (r : Result (Unit {0}) PlayFault)
-    → Progress h first now before after e left → Consumes now later nothing → nothing ≡ [] → IsAtEnd later → MayEnd e.framer r
-    → IfErr r (λ e. OnSide e (λ stop. Written first before after (λ input written. Plays h input written (Some stop))))
-ends_side h first now later before after e left nothing (Ok done) p reads none at_end may = tt
-ends_side h first now later before after e left nothing (Err why) p reads none at_end may =
-    subst (λ f. OnSide f (λ stop. Written first before after (λ input written. Plays h input written (Some stop)))) (sym may.0)
-    (only_plays first before after h (Some (Frame 4)) (ends_with h first now later before after e left nothing (Some (Frame 4)) p reads none at_end (stop_half e.framer.bytes may.1)))
+pub ends_side : (h : PlainHost) (first now later before after : Option (List ℕ)) (e : PlainHostEndpoint) (left count : ℕ) (buffer : List ℕ) (r : Result (Unit {0}) PlayFault)
+    → Progress h first now before after e left → Reads now later count buffer → count ≡ 0 → MayEnd e.framer r
+    → IfErr r (λ f. OnSide f (λ s. Written first before after (λ input written. Plays h input written (Some s))))
+ends_side h first now later before after e left count buffer (Ok done) p reads zero may = tt
+ends_side h first now later before after e left count buffer (Err why) p reads zero may =
+    subst (λ f. OnSide f (λ s. Written first before after (λ input written. Plays h input written (Some s)))) (sym may.0)
+    (only_plays first before after h (Some (Frame 4)) (ends_with h first now later before after e left count buffer (Some (Frame 4)) p reads zero (stop_half e.framer.bytes may.1)))
 
 -- ---- the faults of a side
 

@@ -1,5 +1,5 @@
 -- What a host answers to messages in turn.
-use Rattle.sam_session.proofs.Common.{◌≡◌, ℕ, List, [], ◌∷◌, ◌++◌, Ok, Err, ap, flat_map, append_assoc, arith, Tmesg, HFrame, PlainHost, Answer, answer, HostFault, served_on, serve, behind}
+use Rattle.sam_session.proofs.Common.{◌≡◌, ℕ, List, [], ◌∷◌, ◌++◌, Ok, Err, flat_map, append_assoc, arith, Tmesg, HFrame, PlainHost, Answer, answer, HostFault, served_on, serve, behind}
 use Rattle.sam_frame.specs.Direction.{host}
 use Rattle.sam_frame.specs.Stream.{stream_of}
 use Rattle.sam_frame.proofs.Fronts.{stream_of-append}

@@ -1,5 +1,5 @@
 -- What is done with one piece of the input.
-use Rattle.std.specs.Prelude.{◌≡◌, ℕ, List, [], ◌++◌, Option, Result, Ok, Err}
+use Rattle.std.specs.Prelude.{◌≡◌, ℕ, List, [], Option, Result, Ok, Err}
 use Rattle.std.specs.Io.KnownBytes.{Appends}
 use Rattle.sam_frame.specs.Framing.{Held}
 use Rattle.sam_endpoint.specs.declared.fault.EndpointFault.TheVariants.{Stopped}
