@@ -78,6 +78,25 @@ fn why_not(
     }
 }
 
+/// Whether the message types `count` times `rune` into file 1 at this place.
+fn types_at(message: &Tmesg, place: u32, count: usize, rune: char) -> bool {
+    match message {
+        Tmesg::Ttype(1, at, text) => *at == place && are(text, count, rune),
+        _ => false,
+    }
+}
+
+/// Whether the messages cut what stands from 1 to 3, and type 1,300 runes there in three pieces.
+fn are_a_cut_and_three_types(messages: &[Tmesg]) -> bool {
+    let [cut, first, second, third] = messages else {
+        return false;
+    };
+    matches!(cut, Tmesg::Tcut(1, 1, 3))
+        && types_at(first, 1, 512, 'a')
+        && types_at(second, 513, 512, 'b')
+        && types_at(third, 1025, 276, 'c')
+}
+
 #[test]
 fn an_edit_of_1300_runes_is_a_cut_and_three_types(rt: HostRuntime) -> Result<(), Fail> {
     let alloc = rt.alloc();
@@ -86,15 +105,7 @@ fn an_edit_of_1300_runes_is_a_cut_and_three_types(rt: HostRuntime) -> Result<(),
         (
             opens_five_gaps(terminal),
             composed(terminal, UserEvent::Edit(1, 1, 3, text), |messages| {
-                match messages {
-                    [
-                        Tmesg::Tcut(1, 1, 3),
-                        Tmesg::Ttype(1, 1, first),
-                        Tmesg::Ttype(1, 513, second),
-                        Tmesg::Ttype(1, 1025, third),
-                    ] => are(first, 512, 'a') && are(second, 512, 'b') && are(third, 276, 'c'),
-                    _ => false,
-                }
+                are_a_cut_and_three_types(messages)
             }),
             (rasp_len(terminal, 1), terminal.sent(), terminal.locks(1)),
             (
