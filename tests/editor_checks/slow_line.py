@@ -2,6 +2,7 @@
 import os
 import random
 import re
+import time
 
 from .pairs import Pair, is_loaded_beside, loads_of, opened
 from .support import Session, expect, made, stat_of
@@ -299,6 +300,20 @@ def check_layouts(folder):
         windows.Layout = layout.Layout
 
 
+QUIET_LOOP = 0.03  # seconds of processor time that `least_loop` takes on a quiet machine
+
+
+def least_loop():
+    """The least processor time that a fixed loop takes here, of three."""
+
+    def loop():
+        before = time.process_time()
+        sum(at * at for at in range(300_000))
+        return time.process_time() - before
+
+    return min(loop() for _ in range(3))
+
+
 def check_cost_of_a_key(folder):
     """A typed key costs less than three milliseconds of processor time."""
     made(folder, a="".join(f"line {at} {'x' * 60}\n" for at in range(500)))
@@ -319,5 +334,6 @@ def check_cost_of_a_key(folder):
             return (used() - before) / 200
 
         least = min(cost() for _ in range(3))  # other work on the machine makes single bursts dearer
-        expect(least < 0.003, f"a key costs {least * 1000:.1f} ms of processor time")
+        slowness = max(1, least_loop() / QUIET_LOOP)  # machines of one kind differ by two times, and from hour to hour
+        expect(least < 0.003 * slowness, f"a key costs {least * 1000:.1f} ms of processor time, {slowness:.1f} times slowed")
         session.leave_unwritten()
