@@ -300,7 +300,7 @@ def check_layouts(folder):
         windows.Layout = layout.Layout
 
 
-QUIET_LOOP = 0.03  # seconds of processor time that `least_loop` takes on a quiet machine
+QUIET_LOOP = 0.03  # seconds that `least_loop` is taken to need on a machine at full speed: an estimate, not measured
 
 
 def least_loop():
@@ -315,7 +315,7 @@ def least_loop():
 
 
 def check_cost_of_a_key(folder):
-    """A typed key costs less than three milliseconds of processor time."""
+    """A typed key costs less than three milliseconds of processor time, or as many times more as the machine is slow."""
     made(folder, a="".join(f"line {at} {'x' * 60}\n" for at in range(500)))
     with Session(folder, "a.txt", width=120, height=50) as session:
         session.wait_for("line 20")
