@@ -135,7 +135,7 @@ pub extern "C" fn sam_host_take_out(
     OK
 }
 
-/// Hands out the tag of the next file that the terminal told the host to write (Twrite) and that this call has not handed out yet: now is
+/// Hands out the tag of the next file that the terminal had the host write (Twrite) and that this call has not handed out yet: now is
 /// the time to write `sam_host_saved` of it to disk. `SAM_NO_HANDLE` if the handle is empty; `SAM_NONE` if there is no such tag.
 #[unsafe(no_mangle)]
 pub extern "C" fn sam_host_next_written(host: &mut SamHost, tag: &mut u16, alloc: Global) -> u32

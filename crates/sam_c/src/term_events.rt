@@ -1,6 +1,6 @@
-//! What C tells a terminal that the user did: include/sulgrevad.h says of each call what it does. An event acts at once if it can, or is
+//! What C says that the user did at a terminal: include/sulgrevad.h says of each call what it does. An event acts at once if it can, or is
 //! held until the events before it have acted and the locks that it waits for are free. Each call also lets held events act, in order.
-//! What is composed is then pending. An event that is refused is told by `sam_term_next_refusal`, now or later. Places count runes from
+//! What is composed is then pending. `sam_term_next_refusal` reports an event that is refused, now or later. Places count runes from
 //! the beginning of the text.
 //!
 //! Each returns `SAM_OK`, `SAM_NO_MEMORY`, `SAM_UNFINISHED`, `SAM_COUNT_FULL`, `SAM_NO_HANDLE`, or why the terminal has stopped, at this

@@ -116,7 +116,7 @@ pub extern "C" fn sam_term_under_way(term: &mut SamTerm, messages: &mut u64, all
     with_end!(term alloc end { *messages = end.under_way(); OK })
 }
 
-/// Hands out how many runes the host's snarf buffer has, as it told last.
+/// Hands out how many runes the host's snarf buffer has, as the host said last.
 #[unsafe(no_mangle)]
 pub extern "C" fn sam_term_snarf_len(term: &mut SamTerm, runes: &mut u32, alloc: Global) -> u32
     ensures told { Reports term.old.held.end result runes.old runes.new (λ e. e.term.snarf_length) }
@@ -189,7 +189,7 @@ pub extern "C" fn sam_term_current(term: &mut SamTerm, tag: &mut u16, alloc: Glo
     })
 }
 
-/// Hands out whether a known file is dirty, as the host told last. `SAM_NONE` if the tag is not known.
+/// Hands out whether a known file is dirty, as the host said last. `SAM_NONE` if the tag is not known.
 #[unsafe(no_mangle)]
 pub extern "C" fn sam_term_is_dirty(
     term: &mut SamTerm,
@@ -211,7 +211,7 @@ pub extern "C" fn sam_term_is_dirty(
     })
 }
 
-/// Hands out whether a file may differ from what was written last: the host told that it is dirty, or the user typed into it or cut from
+/// Hands out whether a file may differ from what was written last: the host said that it is dirty, or the user typed into it or cut from
 /// it here since. False if the tag is not known.
 #[unsafe(no_mangle)]
 pub extern "C" fn sam_term_is_changed(
@@ -328,7 +328,7 @@ pub extern "C" fn sam_term_name(
     })
 }
 
-/// Puts the pattern that the host told last into the buffer in UTF-8, as many whole runes as have room, and hands out how many bytes.
+/// Puts the pattern that the host sent last into the buffer in UTF-8, as many whole runes as have room, and hands out how many bytes.
 #[unsafe(no_mangle)]
 pub extern "C" fn sam_term_pattern(
     term: &mut SamTerm,

@@ -18,13 +18,13 @@ replied (Some why) r = None
 abbrev pub reply_of : PlainHost → Tmesg → Option Reply
 reply_of h m = if h.is_done then Some (counted h, []) else replied (first_of_checks (host_checks h m)) (reply_to h m)
 
-abbrev pub behind : List Hmesg → Option Reply → Option Reply
-behind frames None = None
-behind frames (Some r) = Some (r.0, frames ++ r.1)
+abbrev pub after_frames : List Hmesg → Option Reply → Option Reply
+after_frames frames None = None
+after_frames frames (Some r) = Some (r.0, frames ++ r.1)
 
 abbrev pub replied_then : Option Reply → (PlainHost → Option Reply) → Option Reply
 replied_then None next = None
-replied_then (Some r) next = behind r.1 (next r.0)
+replied_then (Some r) next = after_frames r.1 (next r.0)
 
 -- the answers to messages one after another
 abbrev pub answers : PlainHost → List Tmesg → Option Reply

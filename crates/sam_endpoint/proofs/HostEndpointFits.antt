@@ -7,18 +7,18 @@ fit_in_turn : (version : ℕ) (ms : List Tmesg) → FitInTurn terminal version m
 fit_in_turn version [] fit = All-nil FitsLast
 fit_in_turn version (m ∷ ms) fit = All-cons FitsLast m ms (grows_t version m fit.0.fits) (fit_in_turn (terminal.after version m) ms fit.1)
 
-given_fit : (h k : Held) (piece : List ℕ) (ms : List Tmesg) (behind : Option StreamFault) → Gives terminal h piece ms behind k → FitMessages ms
-given_fit h k piece ms behind e = grind (arith, fit_in_turn)
+given_fit : (h k : Held) (piece : List ℕ) (ms : List Tmesg) (broken_by : Option StreamFault) → Gives terminal h piece ms broken_by k → FitMessages ms
+given_fit h k piece ms broken_by e = grind (arith, fit_in_turn)
 
-given_reads : (h k : Held) (piece : List ℕ) (ms : List Tmesg) (behind : Option StreamFault) → Gives terminal h piece ms behind k → behind ≡ None → k.failed ≡ false
-given_reads h k piece ms behind e u = grind arith
+given_reads : (h k : Held) (piece : List ℕ) (ms : List Tmesg) (broken_by : Option StreamFault) → Gives terminal h piece ms broken_by k → broken_by ≡ None → k.failed ≡ false
+given_reads h k piece ms broken_by e u = grind arith
 
 -- the oldest message was answered
 pub answered_sound : (e g : PlainHostEndpoint) (version : ℕ) (m : Tmesg) → IsSound e → e.waiting ≡ m ∷ g.waiting → FitInPlace version g.unwritten
-    → g.behind ≡ e.behind → g.framer ≡ e.framer → IsSound g
-answered_sound e g version m sound waited fit behind framer = grind (arith, (All-tail FitsLast m g.waiting (subst FitMessages waited sound.waiting)), (fit_in_last version g.unwritten fit))
+    → g.broken_by ≡ e.broken_by → g.framer ≡ e.framer → IsSound g
+answered_sound e g version m sound waited fit broken_by framer = grind (arith, (All-tail FitsLast m g.waiting (subst FitMessages waited sound.waiting)), (fit_in_last version g.unwritten fit))
 
 -- a piece was taken in
-pub taken_sound : (e g : PlainHostEndpoint) (piece : List ℕ) → IsSound e → Gives terminal e.framer piece g.waiting g.behind g.framer
+pub taken_sound : (e g : PlainHostEndpoint) (piece : List ℕ) → IsSound e → Gives terminal e.framer piece g.waiting g.broken_by g.framer
     → g.unwritten ≡ e.unwritten → IsSound g
 taken_sound e g piece sound gave same = grind (arith, given_fit)

@@ -54,18 +54,18 @@ pub not_written : (e l k g : PlainHostEndpoint) (why : EndpointFault HostStop) �
 not_written e l k g why gone first writes = grind (arith, (first_gone e l k gone first))
 
 pub ends : (e l g : PlainHostEndpoint) (result : Answer) → HasGone e l → l.waiting ≡ [] → Ends l result g → GoesOn e result g
-ends e l g (Ok done) gone none (behind, is) = grind (arith, append-nil)
-ends e l g (Err (fault.Stopped (stop.Stream why))) gone none (behind, is) = grind (arith, append-nil)
+ends e l g (Ok done) gone none (broken_by, is) = grind (arith, append-nil)
+ends e l g (Err (fault.Stopped (stop.Stream why))) gone none (broken_by, is) = grind (arith, append-nil)
 ends e l g result u w q = grind arith
 
 -- ## Feeding
 
-pub taken_in : (e before g : PlainHostEndpoint) (piece : List ℕ) (messages : List Tmesg) (behind : Option StreamFault) (rest : Held) → before ≡ e
-    → Gives terminal before.framer piece messages behind rest → g ≡ record before { framer = rest; is_begun = true; waiting = messages; behind = behind } → TakesIn e piece g
-taken_in e before g piece messages behind rest is gives after = subst (λ (x : PlainHostEndpoint). TakesIn x piece g) is (messages, behind, rest, gives, after)
+pub taken_in : (e before g : PlainHostEndpoint) (piece : List ℕ) (messages : List Tmesg) (broken_by : Option StreamFault) (rest : Held) → before ≡ e
+    → Gives terminal before.framer piece messages broken_by rest → g ≡ record before { framer = rest; is_begun = true; waiting = messages; broken_by = broken_by } → TakesIn e piece g
+taken_in e before g piece messages broken_by rest is gives after = subst (λ (x : PlainHostEndpoint). TakesIn x piece g) is (messages, broken_by, rest, gives, after)
 
-pub nothing_behind : (e k : PlainHostEndpoint) → GoesOn e (Ok tt) k → k.behind ≡ None
-nothing_behind e k on = on.0.behind ∙ on.2
+pub nothing_behind : (e k : PlainHostEndpoint) → GoesOn e (Ok tt) k → k.broken_by ≡ None
+nothing_behind e k on = on.0.broken_by ∙ on.2
 
 pub fed : (e k m g : PlainHostEndpoint) (piece : List ℕ) (result : Answer) → e.stop ≡ None → GoesOn e (Ok tt) k → TakesIn k piece m → GoesOn m result g → Feeds e piece result g
 fed e k m g piece result goes on takes further = inr (goes, k, Ok tt, on, inl (m, takes, further))

@@ -28,10 +28,10 @@ kept_answers h stream out e g ms a kept = record { served = grind (arith, append
     bytes_on out e g frames more p q = grind (arith, append_assoc, stream_of-append)
 
 -- a piece after a stream
-reads_more : (h k : Held) (stream piece : List ℕ) (before ms : List Tmesg) (behind : Option StreamFault) → Splits terminal 1 stream before h.bytes
-    → h.version ≡ version_after terminal 1 before → Gives terminal h piece ms behind k
-    → IsStream terminal 1 (stream ++ piece) (before ++ ms) k.bytes (option_map mesg_fault behind) × (k.version ≡ version_after terminal 1 (before ++ ms))
-reads_more h k stream piece before ms behind splits version gives =
+reads_more : (h k : Held) (stream piece : List ℕ) (before ms : List Tmesg) (broken_by : Option StreamFault) → Splits terminal 1 stream before h.bytes
+    → h.version ≡ version_after terminal 1 before → Gives terminal h piece ms broken_by k
+    → IsStream terminal 1 (stream ++ piece) (before ++ ms) k.bytes (option_map mesg_fault broken_by) × (k.version ≡ version_after terminal 1 (before ++ ms))
+reads_more h k stream piece before ms broken_by splits version gives =
     grind (
       arith,
       (Splits-longer terminal 1 stream before h.bytes piece splits),
@@ -45,23 +45,23 @@ place_after : (h k : Held) (stream piece : List ℕ) (ms : List Tmesg) → h.off
 place_after h k stream piece ms place offset whole =
     omega (arith, place, offset, ap length whole, length-append h.bytes piece, length-append (stream_of terminal ms) k.bytes, length-append stream piece)
 
-place_more : (h k : Held) (stream piece : List ℕ) (ms : List Tmesg) (behind : Option StreamFault) → h.offset + length h.bytes ≡ length stream
-    → Gives terminal h piece ms behind k → k.offset + length k.bytes ≡ length (stream ++ piece)
+place_more : (h k : Held) (stream piece : List ℕ) (ms : List Tmesg) (broken_by : Option StreamFault) → h.offset + length h.bytes ≡ length stream
+    → Gives terminal h piece ms broken_by k → k.offset + length k.bytes ≡ length (stream ++ piece)
 place_more h k stream piece ms None place gives = place_after h k stream piece ms place gives.gave.offset_is gives.gave.splits.whole
 place_more h k stream piece ms (Some why) place gives = place_after h k stream piece ms place gives.1.gave.offset_is gives.1.gave.splits.whole
 
 kept_piece : (h : PlainHost) (stream out piece : List ℕ) (e k : PlainHostEndpoint) → e.waiting ≡ [] → TakesIn e piece k → Kept h stream out e → Kept h (stream ++ piece) out k
-kept_piece h stream out piece e k none (messages, behind, rest, gives, is) kept =
+kept_piece h stream out piece e k none (messages, broken_by, rest, gives, is) kept =
     let s = kept.served in
     let all : s.answered ++ e.waiting ≡ s.answered = ap (λ (x : List Tmesg). s.answered ++ x) none ∙ append-nil s.answered in
     let splits : Splits terminal 1 stream s.answered e.framer.bytes =
     subst (λ (x : List Tmesg). Splits terminal 1 stream x e.framer.bytes) all s.reads.splits in
     let version : e.framer.version ≡ version_after terminal 1 s.answered = kept.version ∙ ap (λ (x : List Tmesg). version_after terminal 1 x) all in
-    let more = reads_more e.framer rest stream piece s.answered messages behind splits version gives in
+    let more = reads_more e.framer rest stream piece s.answered messages broken_by splits version gives in
     subst (λ (x : PlainHostEndpoint). Kept h (stream ++ piece) out x) (sym is) (record {
       served = record { answered = s.answered; frames = s.frames; writes = s.writes; serves = s.serves; reads = more.0; bytes = s.bytes };
       version = more.1;
-      place = place_more e.framer rest stream piece messages behind kept.place gives;
+      place = place_more e.framer rest stream piece messages broken_by kept.place gives;
     })
 
 kept_goes_on : (h : PlainHost) (stream out : List ℕ) (e g : PlainHostEndpoint) (result : Answer) → GoesOnAfter result → GoesOn e result g → Kept h stream out e → Kept h stream out g
@@ -130,7 +130,7 @@ kept_begun h = record {
 -- a piece that was fed whole leaves nothing to do
 pub fed_done : (e g : PlainHostEndpoint) (piece : List ℕ) → Feeds e piece (Ok tt) g → IsDone g × (g.stop ≡ None)
 fed_done e g piece (inl (why, stops, is, same)) = absurd (cc)
-fed_done e g piece (inr (going, k, Ok done, on, inl (m, takes, last))) = ((last.1, last.0.behind ∙ last.2), last.3)
+fed_done e g piece (inr (going, k, Ok done, on, inl (m, takes, last))) = ((last.1, last.0.broken_by ∙ last.2), last.3)
 fed_done e g piece (inr (going, k, Ok done, on, inr fed)) = absurd (grind arith)
 fed_done e g piece (inr (going, k, Err why, on, after)) = absurd (grind arith)
 
@@ -152,7 +152,7 @@ pub record KeptStop (h : PlainHost) (stream piece out : List ℕ) (why : HostSto
 
 went_on : (h : PlainHost) (stream out : List ℕ) (e g : PlainHostEndpoint) (why : HostStop) → GoesOn e (Err (fault.Stopped why)) g → Kept h stream out e
     → Kept h stream out g × HasStopped g why × (g.stop ≡ Some why)
-went_on h stream out e g (stop.Stream why) (a, idle, behind, says) kept = (kept_answers h stream out e g e.waiting a kept, (idle, a.behind ∙ behind), says)
+went_on h stream out e g (stop.Stream why) (a, idle, broken_by, says) kept = (kept_answers h stream out e g e.waiting a kept, (idle, a.broken_by ∙ broken_by), says)
 went_on h stream out e g (stop.Refused why) (ms, m, rest, a, waits, refuses, written, says) kept = (kept_answers h stream out e g ms a kept, (m, rest, waits, refuses, written), says)
 
 stopped_after : (h : PlainHost) (stream out piece : List ℕ) (e k g : PlainHostEndpoint) (first : Answer) (why : HostStop) → GoesOn e first k
@@ -237,13 +237,13 @@ same_behind : (o p : Option StreamFault) → option_map mesg_fault o ≡ option_
 same_behind o p e = grind arith
 
 idle_reads : (h : PlainHost) (stream out : List ℕ) (e : PlainHostEndpoint) (s : HasServed h stream out e) → e.waiting ≡ []
-    → IsStream terminal 1 stream s.answered e.framer.bytes (option_map mesg_fault e.behind)
+    → IsStream terminal 1 stream s.answered e.framer.bytes (option_map mesg_fault e.broken_by)
 idle_reads h stream out e s none = grind (arith, append-nil)
 
 pub one_outcome : Reads → (h : PlainHost) (stream a b : List ℕ) (e g : PlainHostEndpoint) → HasServed h stream a e → HasServed h stream b g → IsIdle e → IsIdle g
-    → (e.host ≡ g.host) × (a ++ e.pending_bytes ≡ b ++ g.pending_bytes) × (e.behind ≡ g.behind)
+    → (e.host ≡ g.host) × (a ++ e.pending_bytes ≡ b ++ g.pending_bytes) × (e.broken_by ≡ g.broken_by)
 one_outcome reads h stream a b e g s t i j =
-    let one = reads 1 stream s.answered t.answered e.framer.bytes g.framer.bytes (option_map mesg_fault e.behind) (option_map mesg_fault g.behind) (idle_reads h stream a e s i.waiting)
+    let one = reads 1 stream s.answered t.answered e.framer.bytes g.framer.bytes (option_map mesg_fault e.broken_by) (option_map mesg_fault g.broken_by) (idle_reads h stream a e s i.waiting)
     (idle_reads h stream b g t j.waiting) in
     let same = one_service h t.answered s.frames t.frames s.writes t.writes e.host g.host (subst (λ (x : List Tmesg). Serves h x s.frames s.writes e.host) one.0 s.serves) t.serves in
-    (same.0, grind (arith, append-nil), same_behind e.behind g.behind one.2)
+    (same.0, grind (arith, append-nil), same_behind e.broken_by g.broken_by one.2)

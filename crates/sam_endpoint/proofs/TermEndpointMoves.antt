@@ -42,9 +42,9 @@ kept_acted-more t u (a ∷ acts) acted ks (w, one, was, more) =
     (kept_acted-more w u acts acted then_ks more)
 
 -- where nothing is unwritten, what is composed next comes after
-behind : (out base : List ℕ) (left before more : List Tmesg) → left ≡ [] → out ++ stream_of terminal left ≡ base ++ stream_of terminal before
+broken_by : (out base : List ℕ) (left before more : List Tmesg) → left ≡ [] → out ++ stream_of terminal left ≡ base ++ stream_of terminal before
     → out ++ stream_of terminal more ≡ base ++ stream_of terminal (before ++ more)
-behind out base left before more none so_far = grind (arith, append_assoc, flat_map-append)
+broken_by out base left before more none so_far = grind (arith, append_assoc, flat_map-append)
 
 pub moves_none : (e : PlainTermEndpoint) → Moves e [] [] e
 moves_none e = grind (arith, append-nil)
@@ -57,13 +57,13 @@ moves_received e g k frames m none r = grind (
   arith,
   (receives-more e.term m.middle r.term frames r.frame m.composed r.composed m.receives (subst (λ t. take_of t r.frame ≡ Ok (r.term, r.composed)) m.acted r.taken)),
   (append_assoc frames (r.frame ∷ []) r.rest),
-  (behind g.pending_bytes e.pending_bytes g.unwritten (e.unwritten ++ m.composed) r.composed none (m.bytes ∙ ap (λ ms. e.pending_bytes ++ stream_of terminal ms) (append-nil (e.unwritten ++ m.composed)))),
+  (broken_by g.pending_bytes e.pending_bytes g.unwritten (e.unwritten ++ m.composed) r.composed none (m.bytes ∙ ap (λ ms. e.pending_bytes ++ stream_of terminal ms) (append-nil (e.unwritten ++ m.composed)))),
   (append-nil (e.unwritten ++ m.composed)),
   (append_assoc e.unwritten m.composed r.composed),
   (append-nil (e.unwritten ++ (m.composed ++ r.composed))),
   (last-stamp-more e.seen frames r.frame),
   (kept_received-more e.term m.middle frames r.frame m.composed e.kept m.receives),
-  behind,
+  broken_by,
 )
 
 pub moves_acted : (e g k : PlainTermEndpoint) (frames : List HFrame) (acts : List Acted) → Moves e frames acts g → g.unwritten ≡ [] → oldest g ≡ oldest e + length acts

@@ -77,7 +77,7 @@ kept_moves stream events out e g frames acts m kept =
         leads = leads_more new_terminal e.term g.term d.steps (received frames ++ decided acts) d.composed (m.composed ++ composed_by acts) d.leads
             (leads_more e.term m.middle g.term (received frames) (decided acts) m.composed (composed_by acts)
             (receives_leads e.term m.middle frames m.composed m.receives) (acts_lead m.middle g.term acts m.acted));
-        reads = reads_as stream e g (frames_in d.steps ++ e.waiting) (frames_in steps ++ g.waiting) frames_are m.framer m.behind d.reads;
+        reads = reads_as stream e g (frames_in d.steps ++ e.waiting) (frames_in steps ++ g.waiting) frames_are m.framer m.broken_by d.reads;
         given = all_events d.steps frames acts ∙ d.given;
         bytes = bytes_on out e g d.composed m.composed (composed_by acts) d.bytes m.bytes;
       };
@@ -108,9 +108,9 @@ kept_moves stream events out e g frames acts m kept =
           (events_decided acts),
         )
 
-    reads_as : (stream : List ℕ) (e g : PlainTermEndpoint) (a b : List HFrame) → b ≡ a → g.framer ≡ e.framer → g.behind ≡ e.behind
-        → IsStream host 1 stream a e.framer.bytes (option_map mesg_fault e.behind) → IsStream host 1 stream b g.framer.bytes (option_map mesg_fault g.behind)
-    reads_as stream e g a b is framer behind reads = grind arith
+    reads_as : (stream : List ℕ) (e g : PlainTermEndpoint) (a b : List HFrame) → b ≡ a → g.framer ≡ e.framer → g.broken_by ≡ e.broken_by
+        → IsStream host 1 stream a e.framer.bytes (option_map mesg_fault e.broken_by) → IsStream host 1 stream b g.framer.bytes (option_map mesg_fault g.broken_by)
+    reads_as stream e g a b is framer broken_by reads = grind arith
 
     bytes_on : (out : List ℕ) (e g : PlainTermEndpoint) (composed first more : List Tmesg) → (out ++ e.pending_bytes) ++ stream_of terminal e.unwritten ≡ stream_of terminal composed
         → g.pending_bytes ++ stream_of terminal g.unwritten ≡ e.pending_bytes ++ stream_of terminal (e.unwritten ++ first ++ more)
@@ -128,10 +128,10 @@ kept_goes_on stream events out e g (Err (fault.Stopped why)) goes on kept = absu
 -- ## Calls
 
 -- a piece after a stream
-reads_more : (h k : Held) (stream piece : List ℕ) (before ms : List HFrame) (behind : Option StreamFault) → Splits host 1 stream before h.bytes
-    → h.version ≡ version_after host 1 before → Gives host h piece ms behind k
-    → IsStream host 1 (stream ++ piece) (before ++ ms) k.bytes (option_map mesg_fault behind) × (k.version ≡ version_after host 1 (before ++ ms))
-reads_more h k stream piece before ms behind splits version gives =
+reads_more : (h k : Held) (stream piece : List ℕ) (before ms : List HFrame) (broken_by : Option StreamFault) → Splits host 1 stream before h.bytes
+    → h.version ≡ version_after host 1 before → Gives host h piece ms broken_by k
+    → IsStream host 1 (stream ++ piece) (before ++ ms) k.bytes (option_map mesg_fault broken_by) × (k.version ≡ version_after host 1 (before ++ ms))
+reads_more h k stream piece before ms broken_by splits version gives =
     grind (
       arith,
       (Splits-longer host 1 stream before h.bytes piece splits),
@@ -141,13 +141,13 @@ reads_more h k stream piece before ms behind splits version gives =
 
 kept_piece : (stream : List ℕ) (events : List UserEvent) (out piece : List ℕ) (e k : PlainTermEndpoint) → e.waiting ≡ [] → TakesIn e piece k
     → Kept stream events out e → Kept (stream ++ piece) events out k
-kept_piece stream events out piece e k none (frames, behind, rest, gives, is) kept =
+kept_piece stream events out piece e k none (frames, broken_by, rest, gives, is) kept =
     let d = kept.done in
     let all : frames_in d.steps ++ e.waiting ≡ frames_in d.steps = ap (λ (x : List HFrame). frames_in d.steps ++ x) none ∙ append-nil (frames_in d.steps) in
     let splits : Splits host 1 stream (frames_in d.steps) e.framer.bytes =
     subst (λ (x : List HFrame). Splits host 1 stream x e.framer.bytes) all d.reads.splits in
     let version : e.framer.version ≡ version_after host 1 (frames_in d.steps) = kept.version ∙ ap (λ (x : List HFrame). version_after host 1 x) all in
-    let more = reads_more e.framer rest stream piece (frames_in d.steps) frames behind splits version gives in
+    let more = reads_more e.framer rest stream piece (frames_in d.steps) frames broken_by splits version gives in
     subst (λ (x : PlainTermEndpoint). Kept (stream ++ piece) events out x) (sym is) (record {
       done = record { steps = d.steps; composed = d.composed; leads = d.leads; reads = more.0; given = d.given; bytes = d.bytes };
       version = more.1;
@@ -166,7 +166,7 @@ kept_held stream events out e event kept =
         steps = d.steps ++ run.Held event ∷ [];
         composed = d.composed ++ [];
         leads = leads_more new_terminal e.term (with_event e event).term d.steps (run.Held event ∷ []) d.composed [] d.leads (refl, refl);
-        reads = subst (λ (x : List HFrame). IsStream host 1 stream (x ++ e.waiting) e.framer.bytes (option_map mesg_fault e.behind)) (sym frames) d.reads;
+        reads = subst (λ (x : List HFrame). IsStream host 1 stream (x ++ e.waiting) e.framer.bytes (option_map mesg_fault e.broken_by)) (sym frames) d.reads;
         given = flat_map-append event_in d.steps (run.Held event ∷ []) ∙ ap (λ (x : List UserEvent). x ++ event ∷ []) d.given;
         bytes = d.bytes ∙ ap (λ (x : List Tmesg). stream_of terminal x) (sym composed);
       };
@@ -184,7 +184,7 @@ kept_sent stream events out e u composed none flushes kept =
         steps = d.steps ++ run.Sent ∷ [];
         composed = d.composed ++ composed;
         leads = leads_more new_terminal e.term u d.steps (run.Sent ∷ []) d.composed composed d.leads (u, composed, [], flushes, sym (append-nil composed), (refl, refl));
-        reads = subst (λ (x : List HFrame). IsStream host 1 stream (x ++ e.waiting) e.framer.bytes (option_map mesg_fault e.behind)) (sym frames) d.reads;
+        reads = subst (λ (x : List HFrame). IsStream host 1 stream (x ++ e.waiting) e.framer.bytes (option_map mesg_fault e.broken_by)) (sym frames) d.reads;
         given = flat_map-append event_in d.steps (run.Sent ∷ []) ∙ append-nil (events_in d.steps) ∙ d.given;
         bytes = bytes_on out e.pending_bytes e.unwritten d.composed composed none d.bytes;
       };

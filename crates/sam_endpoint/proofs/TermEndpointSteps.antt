@@ -12,8 +12,8 @@ first_read frames frame e = grind arith
 pub rest_fit : (frames : List HFrame) (frame : HFrame) → frames ≡ frame ∷ drop 1 frames → FitFrames frames → FitFrames (drop 1 frames)
 rest_fit frames frame first fit = All-tail (λ (x : HFrame). IsTrue (fits_h 2 x.msg)) frame (drop 1 frames) (subst (λ xs. FitFrames xs) first fit)
 
-pub given_reads : (h : Held) (piece : List ℕ) (frames : List HFrame) (behind : Option StreamFault) (k : Held) → Gives host h piece frames behind k → behind ≡ None → k.failed ≡ false
-given_reads h piece frames behind k e u = grind arith
+pub given_reads : (h : Held) (piece : List ℕ) (frames : List HFrame) (broken_by : Option StreamFault) (k : Held) → Gives host h piece frames broken_by k → broken_by ≡ None → k.failed ≡ false
+given_reads h piece frames broken_by k e u = grind arith
 
 pub taken_counted : (e : PlainTermEndpoint) (u : PlainTerminal) (frame : HFrame) (ms : List Tmesg) → IsSound e → take_of e.term frame ≡ Ok (u, ms) → length u.held ≤ e.events
 taken_counted e u frame ms s taken = subst (λ hs. length hs ≤ e.events) (sym (take_held e.term u frame ms taken)) s.counted
@@ -48,5 +48,5 @@ pub frames_fit : (v : ℕ) (frames : List HFrame) → FitInTurn host v frames �
 frames_fit v [] fit = All-nil (λ (frame : HFrame). IsTrue (fits_h 2 frame.msg))
 frames_fit v (frame ∷ frames) fit = grind (arith, (frames_fit (host.after v frame) frames fit.1))
 
-pub given_fit : (h : Held) (piece : List ℕ) (frames : List HFrame) (behind : Option StreamFault) (k : Held) → Gives host h piece frames behind k → FitFrames frames
-given_fit h piece frames behind k e = grind (arith, frames_fit)
+pub given_fit : (h : Held) (piece : List ℕ) (frames : List HFrame) (broken_by : Option StreamFault) (k : Held) → Gives host h piece frames broken_by k → FitFrames frames
+given_fit h piece frames broken_by k e = grind (arith, frames_fit)

@@ -26,7 +26,7 @@ pub record PlainHostEndpoint : Type 0 where
   pub host : PlainHost
   pub is_begun : Bool  -- it was fed, so no file can be added any more
   pub waiting : List Tmesg  -- messages that came and are not answered yet, since memory was refused
-  pub behind : Option StreamFault  -- what is wrong with the stream behind them
+  pub broken_by : Option StreamFault  -- what is wrong with the stream after them
   pub unwritten : List HFrame  -- frames that were answered and are not in the pending_bytes yet, since memory was refused
   pub pending_bytes : List ℕ  -- bytes for the terminal that were not taken yet
   pub writes : List ℕ  -- the tags that the host was told to write and that were not asked for yet, in order
@@ -39,7 +39,7 @@ new_host_endpoint =
       host = new_host [];
       is_begun = false;
       waiting = [];
-      behind = None;
+      broken_by = None;
       unwritten = [];
       pending_bytes = [];
       writes = [];
@@ -68,7 +68,7 @@ pub record Answers (e : PlainHostEndpoint) (messages : List Tmesg) (g : PlainHos
   pub writes : g.writes ≡ e.writes ++ more
   pub framer : g.framer ≡ e.framer
   pub begun : g.is_begun ≡ e.is_begun
-  pub behind : g.behind ≡ e.behind
+  pub broken_by : g.broken_by ≡ e.broken_by
 
 -- nothing is left to answer or to write
 pub record IsIdle (g : PlainHostEndpoint) : Type 0 where
@@ -78,10 +78,10 @@ pub record IsIdle (g : PlainHostEndpoint) : Type 0 where
 -- what going on with what waits leads to: all is answered; memory was refused first; or the end stops, at a message that the host
 -- refuses or at the stream's fault after them all
 abbrev pub GoesOn : PlainHostEndpoint → Result (Unit {0}) (EndpointFault HostStop) → PlainHostEndpoint → Type 0
-GoesOn e (Ok done) g = Answers e e.waiting g × IsIdle g × (e.behind ≡ None) × (g.stop ≡ None)
+GoesOn e (Ok done) g = Answers e e.waiting g × IsIdle g × (e.broken_by ≡ None) × (g.stop ≡ None)
 GoesOn e (Err fault.Unfinished) g = (messages : List Tmesg) × Answers e messages g × (g.stop ≡ None)
 GoesOn e (Err (fault.Stopped (stop.Stream why))) g =
-    Answers e e.waiting g × IsIdle g × (e.behind ≡ Some why) × (g.stop ≡ Some (stop.Stream why))
+    Answers e e.waiting g × IsIdle g × (e.broken_by ≡ Some why) × (g.stop ≡ Some (stop.Stream why))
 GoesOn e (Err (fault.Stopped (stop.Refused why))) g =
     (messages : List Tmesg) × (m : Tmesg) × (rest : List Tmesg)
     × Answers e messages g × (g.waiting ≡ m ∷ rest) × (answer g.host m ≡ Err why) × (g.unwritten ≡ []) × (g.stop ≡ Some (stop.Refused why))
@@ -91,9 +91,9 @@ GoesOn e (Err fault.CountFull) g = ⊥
 -- the framer took the piece in: its messages wait, and then perhaps a fault of the stream
 abbrev pub TakesIn : PlainHostEndpoint → List ℕ → PlainHostEndpoint → Type 0
 TakesIn e piece k =
-    (messages : List Tmesg) × (behind : Option StreamFault) × (rest : Held)
-    × Gives terminal e.framer piece messages behind rest
-    × (k ≡ record e { framer = rest; is_begun = true; waiting = messages; behind = behind })
+    (messages : List Tmesg) × (broken_by : Option StreamFault) × (rest : Held)
+    × Gives terminal e.framer piece messages broken_by rest
+    × (k ≡ record e { framer = rest; is_begun = true; waiting = messages; broken_by = broken_by })
 
 -- what an end does with a piece, where nothing waits any more
 abbrev pub FeedsIdle : PlainHostEndpoint → List ℕ → Result (Unit {0}) (EndpointFault HostStop) → PlainHostEndpoint → Type 0
@@ -122,7 +122,7 @@ Feeds e piece result g =
 
 -- all that came was answered and written, and no fault stands after it
 abbrev pub IsDone : PlainHostEndpoint → Type 0
-IsDone e = IsIdle e × (e.behind ≡ None)
+IsDone e = IsIdle e × (e.broken_by ≡ None)
 
 -- whether the stream may end here: it may where all of it was answered, and it ends between two messages
 abbrev pub Finishes : PlainHostEndpoint → Result (Unit {0}) (FinishFault HostStop) → Type 0

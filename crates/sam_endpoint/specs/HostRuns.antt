@@ -48,12 +48,12 @@ pub record HasServed (first : PlainHost) (stream out : List ℕ) (e : PlainHostE
   pub frames : List HFrame
   pub writes : List ℕ
   pub serves : Serves first answered frames writes e.host
-  pub reads : IsStream terminal 1 stream (answered ++ e.waiting) e.framer.bytes (option_map mesg_fault e.behind)
+  pub reads : IsStream terminal 1 stream (answered ++ e.waiting) e.framer.bytes (option_map mesg_fault e.broken_by)
   pub bytes : (out ++ e.pending_bytes) ++ stream_of host e.unwritten ≡ stream_of host frames
 
 -- why it has stopped: the stream shows this fault after messages that are all answered, or the host refuses the oldest that waits
 abbrev pub HasStopped : PlainHostEndpoint → HostStop → Type 0
-HasStopped e (stop.Stream why) = IsIdle e × (e.behind ≡ Some why)
+HasStopped e (stop.Stream why) = IsIdle e × (e.broken_by ≡ Some why)
 HasStopped e (stop.Refused why) =
     (message : Tmesg) × (rest : List Tmesg) × (e.waiting ≡ message ∷ rest) × (answer e.host message ≡ Err why) × (e.unwritten ≡ [])
 
@@ -81,4 +81,4 @@ StopsServe =
 abbrev pub OneOutcome : Type 0
 OneOutcome =
     (h : PlainHost) (stream a b : List ℕ) (e g : PlainHostEndpoint) → HasServed h stream a e → HasServed h stream b g → IsIdle e → IsIdle g
-    → (e.host ≡ g.host) × (a ++ e.pending_bytes ≡ b ++ g.pending_bytes) × (e.behind ≡ g.behind)
+    → (e.host ≡ g.host) × (a ++ e.pending_bytes ≡ b ++ g.pending_bytes) × (e.broken_by ≡ g.broken_by)

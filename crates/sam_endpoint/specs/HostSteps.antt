@@ -16,7 +16,7 @@ use Rattle.sam_endpoint.specs.HostEndpoints.{PlainHostEndpoint, TakesIn, writes_
 pub record IsSound (e : PlainHostEndpoint) : Type 0 where
   pub waiting : FitMessages e.waiting
   pub unwritten : FitFrames e.unwritten
-  pub reads : e.behind ≡ None → e.framer.failed ≡ false
+  pub reads : e.broken_by ≡ None → e.framer.failed ≡ false
 
 abbrev pub Answer : Type 0
 Answer = Result (Unit {0}) (EndpointFault HostStop)
@@ -58,8 +58,8 @@ Handles e (Err fault.CountFull) g = ⊥
 
 -- all is answered and written: it stops where the stream shows a fault after that, else it stays
 abbrev pub Ends : PlainHostEndpoint → Answer → PlainHostEndpoint → Type 0
-Ends e (Ok done) g = (e.behind ≡ None) × (g ≡ e)
-Ends e (Err (fault.Stopped (stop.Stream why))) g = (e.behind ≡ Some why) × (g ≡ stopped e (stop.Stream why))
+Ends e (Ok done) g = (e.broken_by ≡ None) × (g ≡ e)
+Ends e (Err (fault.Stopped (stop.Stream why))) g = (e.broken_by ≡ Some why) × (g ≡ stopped e (stop.Stream why))
 Ends e (Err (fault.Stopped (stop.Refused why))) g = ⊥
 Ends e (Err fault.Unfinished) g = ⊥
 Ends e (Err fault.OutOfMemory) g = ⊥

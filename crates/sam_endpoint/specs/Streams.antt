@@ -33,7 +33,7 @@ Gives d h piece messages (Some fault) k = (place : ℕ) × GaveUp d h piece mess
 
 -- what the framer gave for the piece; or it took none of it and is as before
 abbrev pub GivesAs : {M S : Type 0} → Direction M → Held → List ℕ → Result (Given M) (EndpointFault S) → Held → Type 0
-GivesAs d h piece (Ok given) k = Gives d h piece given.messages.items given.behind k
+GivesAs d h piece (Ok given) k = Gives d h piece given.messages.items given.broken_by k
 GivesAs d h piece (Err fault.OutOfMemory) k = k ≡ h
 GivesAs d h piece (Err fault.CountFull) k = (2 ^ 64 ≤ h.offset + length h.bytes + length piece) × (k ≡ h)
 GivesAs d h piece (Err fault.Unfinished) k = ⊥

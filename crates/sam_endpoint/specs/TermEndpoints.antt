@@ -29,7 +29,7 @@ pub record PlainTermEndpoint : Type 0 where
   pub framer : Held  -- what came of the host's stream and is no whole frame yet
   pub term : PlainTerminal
   pub waiting : List HFrame  -- frames that came and are not received yet, since memory was refused
-  pub behind : Option StreamFault  -- what is wrong with the stream behind them
+  pub broken_by : Option StreamFault  -- what is wrong with the stream after them
   pub unwritten : List Tmesg  -- messages that were composed and are not in the pending_bytes yet, since memory was refused
   pub pending_bytes : List ℕ  -- bytes for the host that were not taken yet
   pub seen : ℕ  -- the stamp of the last frame that was received: how many messages the host had taken; 0 before the first
@@ -45,7 +45,7 @@ shown a =
       framer = a.framer;
       term = a.term;
       waiting = a.waiting.items;
-      behind = a.behind;
+      broken_by = a.broken_by;
       unwritten = a.unwritten.items;
       pending_bytes = a.pending_bytes;
       seen = a.seen;
@@ -61,7 +61,7 @@ new_term_endpoint =
       framer = fresh;
       term = new_terminal;
       waiting = [];
-      behind = None;
+      broken_by = None;
       unwritten = [];
       pending_bytes = [];
       seen = 0;
@@ -134,7 +134,7 @@ pub record Moves (e : PlainTermEndpoint) (frames : List HFrame) (acts : List Act
   pub kept : g.kept ≡ kept_acted middle acts (kept_received e.term frames e.kept)
   pub framer : g.framer ≡ e.framer
   pub events : g.events ≡ e.events
-  pub behind : g.behind ≡ e.behind
+  pub broken_by : g.broken_by ≡ e.broken_by
 
 -- nothing is left to receive or to write
 pub record IsIdle (g : PlainTermEndpoint) : Type 0 where
@@ -149,16 +149,16 @@ InOrder (acted ∷ rest) g = g.waiting ≡ []
 -- what going on with what waits leads to: all frames are received and events act while one can; memory was refused first; or the end
 -- stops, at a frame that the terminal refuses, at the stream's fault after them all, or at an event that can't be counted
 abbrev pub GoesOn : PlainTermEndpoint → Result (Unit {0}) (EndpointFault TermStop) → PlainTermEndpoint → Type 0
-GoesOn e (Ok done) g = (acts : List Acted) × Moves e e.waiting acts g × IsIdle g × IsQuiet g.term × (e.behind ≡ None) × (g.stop ≡ None)
+GoesOn e (Ok done) g = (acts : List Acted) × Moves e e.waiting acts g × IsIdle g × IsQuiet g.term × (e.broken_by ≡ None) × (g.stop ≡ None)
 GoesOn e (Err fault.Unfinished) g = (frames : List HFrame) × (acts : List Acted) × Moves e frames acts g × InOrder acts g × (g.stop ≡ None)
 GoesOn e (Err (fault.Stopped (stop.Stream why))) g =
-    Moves e e.waiting [] g × IsIdle g × (e.behind ≡ Some why) × (g.stop ≡ Some (stop.Stream why))
+    Moves e e.waiting [] g × IsIdle g × (e.broken_by ≡ Some why) × (g.stop ≡ Some (stop.Stream why))
 GoesOn e (Err (fault.Stopped (stop.Refused why))) g =
     ((frames : List HFrame) × (frame : HFrame) × (rest : List HFrame)
     × Moves e frames [] g × (g.waiting ≡ frame ∷ rest) × (take_of g.term frame ≡ Err why)
     × (g.unwritten ≡ []) × (g.stop ≡ Some (stop.Refused why)))
     ⊎ ((acts : List Acted)
-    × Moves e e.waiting acts g × IsIdle g × (e.behind ≡ None) × (act_of g.term ≡ Err why) × (g.stop ≡ Some (stop.Refused why)))
+    × Moves e e.waiting acts g × IsIdle g × (e.broken_by ≡ None) × (act_of g.term ≡ Err why) × (g.stop ≡ Some (stop.Refused why)))
 GoesOn e (Err fault.OutOfMemory) g = ⊥
 GoesOn e (Err fault.CountFull) g = ⊥
 
@@ -182,8 +182,8 @@ Calls e result g Brings =
 -- the framer took the piece in: its frames wait, and then perhaps a fault of the stream
 abbrev pub TakesIn : PlainTermEndpoint → List ℕ → PlainTermEndpoint → Type 0
 TakesIn e piece k =
-    (frames : List HFrame) × (behind : Option StreamFault) × (rest : Held)
-    × Gives host e.framer piece frames behind rest × (k ≡ record e { framer = rest; waiting = frames; behind = behind })
+    (frames : List HFrame) × (broken_by : Option StreamFault) × (rest : Held)
+    × Gives host e.framer piece frames broken_by rest × (k ≡ record e { framer = rest; waiting = frames; broken_by = broken_by })
 
 -- a piece of the host's stream, where nothing waits
 abbrev pub FeedsIdle : PlainTermEndpoint → List ℕ → Result (Unit {0}) (EndpointFault TermStop) → PlainTermEndpoint → Type 0
@@ -236,7 +236,7 @@ Asks e tag (Err why) g = (is_open e.term tag ≡ true) × (g ≡ e)
 
 -- all that came was received, what was composed is written, and no fault stands after it
 abbrev pub IsDone : PlainTermEndpoint → Type 0
-IsDone e = IsIdle e × (e.behind ≡ None)
+IsDone e = IsIdle e × (e.broken_by ≡ None)
 
 -- whether the stream may end here: it may where all of it was received, and it ends between two frames
 abbrev pub Finishes : PlainTermEndpoint → Result (Unit {0}) (FinishFault TermStop) → Type 0

@@ -108,7 +108,7 @@ pub record HasDone (stream : List ℕ) (events : List UserEvent) (out : List ℕ
   pub steps : List Step
   pub composed : List Tmesg
   pub leads : Leads new_terminal steps composed e.term
-  pub reads : IsStream host 1 stream (frames_in steps ++ e.waiting) e.framer.bytes (option_map mesg_fault e.behind)
+  pub reads : IsStream host 1 stream (frames_in steps ++ e.waiting) e.framer.bytes (option_map mesg_fault e.broken_by)
   pub given : events_in steps ≡ events
   pub bytes : (out ++ e.pending_bytes) ++ stream_of terminal e.unwritten ≡ stream_of terminal composed
 

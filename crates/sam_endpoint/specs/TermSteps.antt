@@ -24,7 +24,7 @@ pub record IsSound (e : PlainTermEndpoint) : Type 0 where
   pub unwritten : FitMessages e.unwritten
   pub counted : length e.term.held ≤ e.events
   pub stamped : e.seen ≤ e.term.sent
-  pub reads : e.behind ≡ None → e.framer.failed ≡ false
+  pub reads : e.broken_by ≡ None → e.framer.failed ≡ false
 
 abbrev pub Answer : Type 0
 Answer = Result (Unit {0}) (EndpointFault TermStop)

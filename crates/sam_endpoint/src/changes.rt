@@ -155,11 +155,11 @@ fn edit_touch(term: &Terminal, tag: u16, place: u32, gone: usize, came: usize) -
     if gone == 0 && came == 0 {
         return None;
     }
-    let behind = len_of(term, tag).saturating_sub(place) as usize;
+    let rest = len_of(term, tag).saturating_sub(place) as usize;
     Some(Touch {
         tag,
         front: place,
-        back: behind.saturating_sub(gone) as u32,
+        back: rest.saturating_sub(gone) as u32,
     })
 }
 

@@ -7,7 +7,7 @@ use sam_host::HostFault;
 use sam_term::TermFault;
 use thiserror::Error;
 
-/// Why a file is not added to a host, in the order of the tests. The host is then as it was. The C library tells `Begun`, `TooLong` and
+/// Why a file is not added to a host, in the order of the tests. The host is then as it was. The C library reports `Begun`, `TooLong` and
 /// `NoTag` by their numbers, and has numbers of its own for the other two.
 #[derive(Clone, Copy, Debug, PartialEq, Eq, Drop, Error)]
 pub enum AddFault {

@@ -87,7 +87,7 @@ fn note(writes: &mut VecDeque<u16>, tag: Option<u16>)
 pub struct HostEndpoint {
     /// Where everything takes its memory from.
     alloc: Global,
-    /// Cuts the terminal's stream into messages. It has not failed while `behind` is `None`.
+    /// Cuts the terminal's stream into messages. It has not failed while `broken_by` is `None`.
     framer: FramerT,
     /// The host, as the messages answered so far left it.
     host: Host,
@@ -96,12 +96,12 @@ pub struct HostEndpoint {
     /// The messages that came and are not answered yet, the oldest first. There are none after a call that returned `Ok`.
     waiting: VecDeque<Tmesg>,
     /// What is wrong with the stream after these messages; `None` if nothing is.
-    behind: Option<StreamFault>,
+    broken_by: Option<StreamFault>,
     /// The frames of the last answer, while their bytes are not pending. There are none after a call that returned `Ok`.
     unwritten: Vec<HFrame>,
     /// The bytes for the terminal that were not taken out yet.
     pending_bytes: PendingBytes,
-    /// The tags of files that the host was told to write (Twrite) and `next_written` has not handed out, the oldest first.
+    /// The tags of files that the terminal had the host write (Twrite) and `next_written` has not handed out, the oldest first.
     writes: VecDeque<u16>,
     /// Why the end has stopped for good; `None` while it goes on.
     stop: Option<HostStop>,
@@ -118,7 +118,7 @@ impl Model for HostEndpoint {
       host = a.host;
       is_begun = a.begun;
       waiting = a.waiting.items;
-      behind = a.behind;
+      broken_by = a.broken_by;
       unwritten = a.unwritten.items;
       pending_bytes = a.pending_bytes;
       writes = a.writes.items;
@@ -130,7 +130,7 @@ impl Model for HostEndpoint {
       host = a.host;
       is_begun = a.begun;
       waiting = a.waiting.items;
-      behind = a.behind;
+      broken_by = a.broken_by;
       unwritten = a.unwritten.items;
       pending_bytes = a.pending_bytes;
       writes = a.writes.items;
@@ -159,7 +159,7 @@ impl HostEndpoint {
             host,
             begun: false,
             waiting: VecDeque::new(alloc),
-            behind: None,
+            broken_by: None,
             unwritten: Vec::new(alloc),
             pending_bytes: PendingBytes::new(alloc),
             writes: VecDeque::new(alloc),
@@ -255,7 +255,7 @@ impl HostEndpoint {
         if let Some(why) = self.stop {
             return Err(FinishFault::Stopped(why));
         }
-        if self.behind.is_some() || !self.is_idle() {
+        if self.broken_by.is_some() || !self.is_idle() {
             return Err(FinishFault::Unfinished);
         }
         if self.framer.finish().is_err() {
@@ -297,8 +297,8 @@ impl HostEndpoint {
         self.pending_bytes.consume(count);
     }
 
-    /// Hands out the oldest tag that the host was told to write (Twrite) and that was not handed out before. Returns `None` if there is
-    /// none.
+    /// Hands out the oldest tag that the terminal had the host write (Twrite) and that was not handed out before. Returns `None` if there
+    /// is none.
     pub fn next_written(&mut self) -> Option<u16>
         ensures tag { result ≡ slice_get self.old.writes 0 }
         ensures rest { self.new ≡ record self.old { writes = drop 1 self.old.writes } }
@@ -376,7 +376,7 @@ impl HostEndpoint {
     fn end(&mut self) -> Result<(), EndpointFault<HostStop>>
         ensures { Ends self.old result self.new }
     {
-        match self.behind {
+        match self.broken_by {
             None => Ok(()),
             Some(fault) => {
                 self.stop = Some(HostStop::Stream(fault));
@@ -400,13 +400,13 @@ impl HostEndpoint {
 
     /// Feeds the piece to the framer when nothing waits. Then its messages wait, and perhaps a fault after them.
     fn take_in(&mut self, piece: &[u8]) -> Result<(), EndpointFault<HostStop>>
-        requires { self.old.behind ≡ None }
+        requires { self.old.broken_by ≡ None }
         ensures { Brings self.old piece.now result self.new }
     {
         let given = feed_framer(&mut self.framer, piece)?;
         self.begun = true;
         self.waiting = VecDeque::from_vec(given.messages);
-        self.behind = given.behind;
+        self.broken_by = given.broken_by;
         Ok(())
     }
 }

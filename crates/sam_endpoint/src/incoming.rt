@@ -13,7 +13,7 @@ pub(crate) struct Given<M: Drop> {
     /// The messages that are whole now, in order.
     pub(crate) messages: Vec<M>,
     /// What is wrong with the stream after them; `None` if nothing is.
-    pub(crate) behind: Option<StreamFault>,
+    pub(crate) broken_by: Option<StreamFault>,
 }
 
 /// Feeds a piece to a framer that has not failed. The errors are `CountFull` and then `OutOfMemory`, and leave the framer as it was.
@@ -24,7 +24,7 @@ pub(crate) fn feed_framer<M: Wire, S>(
     requires { framer.old.failed ≡ false }
     ensures { GivesAs M.direction framer.old piece.now result framer.new }
 {
-    let (messages, behind) = match framer.feed(piece) {
+    let (messages, broken_by) = match framer.feed(piece) {
         Ok(messages) => (messages, None),
         Err(FeedFault::BadKind(messages, _)) => (messages, Some(StreamFault::BadKind)),
         Err(FeedFault::BadLength(messages, _)) => (messages, Some(StreamFault::BadLength)),
@@ -34,7 +34,10 @@ pub(crate) fn feed_framer<M: Wire, S>(
         Err(FeedFault::Truncated) => unreachable!(),
         Err(FeedFault::Failed) => unreachable!(),
     };
-    Ok(Given { messages, behind })
+    Ok(Given {
+        messages,
+        broken_by,
+    })
 }
 
 /// Drops the oldest of what waits.

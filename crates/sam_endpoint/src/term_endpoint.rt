@@ -34,14 +34,14 @@ use std::marker::Model;
 /// ```
 #[derive(Drop)]
 pub struct TermEndpoint {
-    /// Cuts the host's stream into frames. It has not failed while `behind` is `None`.
+    /// Cuts the host's stream into frames. It has not failed while `broken_by` is `None`.
     framer: FramerH,
     /// The terminal, as the frames and events so far left it. It holds at most as many events as `events` counts.
     term: Terminal,
     /// The frames that came and are not received yet, the oldest first. There are none after a call that returned `Ok`.
     waiting: VecDeque<HFrame>,
     /// What is wrong with the stream after these frames; `None` if nothing is.
-    behind: Option<StreamFault>,
+    broken_by: Option<StreamFault>,
     /// The messages that were composed last, while their bytes are not pending. There are none after a call that returned `Ok`.
     unwritten: Vec<Tmesg>,
     /// The bytes for the host that were not taken out yet.
@@ -80,7 +80,7 @@ impl TermEndpoint {
             framer: FramerH::new(alloc),
             term: Terminal::new(alloc),
             waiting: VecDeque::new(alloc),
-            behind: None,
+            broken_by: None,
             unwritten: Vec::new(alloc),
             pending_bytes: PendingBytes::new(alloc),
             seen: 0,
@@ -138,7 +138,7 @@ impl TermEndpoint {
         }
     }
 
-    /// Has the oldest held event act. Returns whether it could. Memory to tell of a refusal is had first.
+    /// Has the oldest held event act. Returns whether it could. Memory to report a refusal is had first.
     fn act_first(&mut self) -> Result<bool, EndpointFault<TermStop>>
         requires { self.old.unwritten ≡ [] }
         ensures { Acts self.old result self.new }
@@ -195,7 +195,7 @@ impl TermEndpoint {
         ensures { GoesOn self.old result self.new }
     {
         self.receive_all()?;
-        if let Some(why) = self.behind {
+        if let Some(why) = self.broken_by {
             return Err(self.stop_by(EndpointFault::Stopped(TermStop::Stream(why))));
         }
         self.act_all()
@@ -216,12 +216,12 @@ impl TermEndpoint {
 
     /// Feeds the piece to the framer when nothing waits. Then its frames wait, and perhaps a fault after them.
     fn take_in(&mut self, piece: &[u8]) -> Result<(), EndpointFault<TermStop>>
-        requires { self.old.behind ≡ None }
+        requires { self.old.broken_by ≡ None }
         ensures { Gains self.old piece.now result self.new }
     {
         let given = feed_framer(&mut self.framer, piece)?;
         self.waiting = VecDeque::from_vec(given.messages);
-        self.behind = given.behind;
+        self.broken_by = given.broken_by;
         Ok(())
     }
 
@@ -320,7 +320,7 @@ impl TermEndpoint {
         if let Some(why) = self.stop {
             return Err(FinishFault::Stopped(why));
         }
-        if self.behind.is_some() || !self.is_idle() {
+        if self.broken_by.is_some() || !self.is_idle() {
             return Err(FinishFault::Unfinished);
         }
         if self.framer.finish().is_err() {

@@ -64,9 +64,9 @@ impl Host {
         Ok(frames)
     }
 
-    /// Answers `Tpaste`: puts the snarf buffer in at `p`, selects it, and tells the terminal what came in. Any file but the command file
-    /// is then dirty. If the buffer is empty, or the text would have more than `MAX_RUNES` runes, nothing changes, and `Hunlockfile` is
-    /// the one frame. Errors, in this order: `NoFile`; `NotOpen`; `BadPosition` if `p` is past the end; `OutOfMemory`.
+    /// Answers `Tpaste`: puts the snarf buffer in at `p`, selects it, and reports what came in to the terminal. Any file but the command
+    /// file is then dirty. If the buffer is empty, or the text would have more than `MAX_RUNES` runes, nothing changes, and `Hunlockfile`
+    /// is the one frame. Errors, in this order: `NoFile`; `NotOpen`; `BadPosition` if `p` is past the end; `OutOfMemory`.
     #[tactic(auto, unfolding(crate::specs::Host::reply_paste))]
     pub(crate) fn paste(&mut self, tag: u16, p: u32) -> Result<Vec<HFrame>, HostFault>
         requires { self.old.taken + 1 < 2 ^ 64 }

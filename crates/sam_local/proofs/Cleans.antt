@@ -3,7 +3,7 @@ use Rattle.sam_crossing.proofs.Common.{◌≡◌, ℕ, Bool, true, false, ◌==�
 unfoldable use Rattle.sam_host.proofs.EachFrame.{replies_opened}
 use Rattle.sam_host.proofs.EachFrame.{Ends, Command, Nothing, end_frames, reply_ends}
 use Rattle.sam_host.specs.Host.{told_dirty, told_paste}
-use Rattle.sam_crossing.specs.Fold.{replied, behind}
+use Rattle.sam_crossing.specs.Fold.{replied, after_frames}
 use Rattle.sam_local.proofs.Gentle.{CleansGuarded}
 
 -- ## Lists of frames
@@ -103,6 +103,6 @@ cleans-answers f (m ∷ ms) h r e = by (reply_of h m) refl e (cleans-answers f m
     by None q e more = grind arith
     by (Some s) q e more = go (answers s.0 ms) refl e
       where
-        go : (o : Option Reply) → answers s.0 ms ≡ o → behind s.1 o ≡ Some r → CleansGuarded f r.1
+        go : (o : Option Reply) → answers s.0 ms ≡ o → after_frames s.1 o ≡ Some r → CleansGuarded f r.1
         go None v w = grind arith
         go (Some y) v w = subst (CleansGuarded f) (ap (λ (x : Reply). x.1) (same_Some _ _ w)) (cleans-both f s.1 y.1 (cleans-reply_of f h m s q) (more s.0 y v))

@@ -4,7 +4,7 @@ use Rattle.sam_runes.proofs.CheckLaws.{none_holds}
 use Rattle.sam_term.specs.Term.{past_end}
 use Rattle.sam_term.specs.declared.event.UserEvent.TheVariants.{Typed, View, Load}
 use Rattle.sam_term.specs.declared.event.Verdict.{Verdict}
-use Rattle.sam_crossing.specs.Fold.{behind}
+use Rattle.sam_crossing.specs.Fold.{after_frames}
 use Rattle.sam_crossing.specs.View.{slot_of}
 use Rattle.sam_crossing.proofs.Acting.{event_goes}
 use Rattle.sam_crossing.proofs.Dots.{tidy-ins, tidy-del}
@@ -226,7 +226,7 @@ module _ (h : PlainHost) (t : PlainTerminal) (o : InOrder (rest h) (at_rest h t)
       a : Acted e
       a = acted e q
 
-      second : (r : Reply) → reply_of (rest h) m ≡ Some r → (y : Option Reply) → reply_of r.0 n ≡ y → behind r.1 (replied_then y (λ j. Some (j, []))) ≡ Some a.reply
+      second : (r : Reply) → reply_of (rest h) m ≡ Some r → (y : Option Reply) → reply_of r.0 n ≡ y → after_frames r.1 (replied_then y (λ j. Some (j, []))) ≡ Some a.reply
           → carried (at_rest h t) e ≡ at_rest (reply_to (counted k) n).0 (all_taken (altered (at_rest h t).term e) ((reply_to (rest h) m).1 ++ (reply_to (counted k) n).1))
       second r x None y z = absurd (grind arith)
       second r x (Some s) y z =

@@ -1,7 +1,7 @@
 -- Runes typed in two messages do what they do in one, to the host and in its frames.
 use Rattle.sam_crossing.proofs.Common.{◌≡◌, ℕ, ◌+◌, ◌-◌, ◌≤◌, Bool, true, false, ◌&&◌, ◌==◌, if◌then◌else◌, List, [], ◌∷◌, ◌++◌, length, Option, Some, None, refl, sym, ap, ◌∙◌, arith, append_assoc, append-nil, length-append, same_Some, max_runes, ins, ends_line, part, line_start, first_of_checks, slot-put_same, put_slot-put_slot, length-ins, ends_line-append, file_at, typed_file, Tmesg, Ttype, Hmesg, PlainHost, Reply, counted, with_file, unknown, not_opened, host_checks, reply_to, reply_line, reply_type, reply_of, replied_then, answers}
 use Rattle.sam_text.proofs.EditSteps.{typed_joined}
-use Rattle.sam_crossing.specs.Fold.{behind}
+use Rattle.sam_crossing.specs.Fold.{after_frames}
 use Rattle.sam_crossing.proofs.Folds.{plain_reply, answered}
 use Rattle.sam_crossing.proofs.Joins.{AreAlike}
 use Rattle.sam_local.proofs.Folds.{Parted, parted, answers-more}
@@ -87,11 +87,11 @@ last-is first two rest_of last silent e whole =
     whole ∙ (λ i. ((sym end i).0, silent i ++ (two.1 ++ (sym end i).1))) ∙ ap (λ (fs : List Hmesg). (two.0, fs)) (append-nil two.1)
 
 -- one message after others
-behind-others : (h : PlainHost) (line : List Tmesg) (m : Tmesg) (first one : Reply) → answers h line ≡ Some first → reply_of first.0 m ≡ Some one
+after_frames-others : (h : PlainHost) (line : List Tmesg) (m : Tmesg) (first one : Reply) → answers h line ≡ Some first → reply_of first.0 m ≡ Some one
     → rested (answers h (line ++ m ∷ [])) ≡ Some (rest one.0, first.1 ++ (one.1 ++ []))
-behind-others h line m first one e q =
+after_frames-others h line m first one e q =
     ap rested (answers-more line (m ∷ []) h) ∙ ap (λ (o : Option Reply). rested (replied_then o (λ k. answers k (m ∷ [])))) e
-    ∙ ap (λ (o : Option Reply). rested (behind first.1 (replied_then o (λ k. Some (k, []))))) q
+    ∙ ap (λ (o : Option Reply). rested (after_frames first.1 (replied_then o (λ k. Some (k, []))))) q
 
 -- the last of two replies in turn
 whole-is : (x last two : Reply) (before : List Hmesg) → x ≡ (last.0, before ++ last.1) → last ≡ two → x ≡ (two.0, before ++ two.1)
@@ -101,7 +101,7 @@ whole-is x last two before e q = e ∙ ap (λ (r : Reply). (r.0, before ++ r.1))
 one-for-two : (h : PlainHost) (line : List Tmesg) (m : Tmesg) (first one x last two : Reply) → answers h line ≡ Some first → reply_of first.0 m ≡ Some one
     → x ≡ (last.0, first.1 ++ last.1) → last ≡ two → AreAlike two.0 one.0 → two.1 ≡ one.1 → rested (answers h (line ++ m ∷ [])) ≡ rested (Some x)
 one-for-two h line m first one x last two e q w l alike frames =
-    behind-others h line m first one e q ∙ rested-alike x two one first.1 (whole-is x last two first.1 w l) alike frames
+    after_frames-others h line m first one e q ∙ rested-alike x two one first.1 (whole-is x last two first.1 w l) alike frames
 
 pub joined-answers : (h : PlainHost) (line : List Tmesg) (f p c : ℕ) (s u : List ℕ) (x : Reply) → ((f == 0) && ends_line s) ≡ false
     → answers h ((line ++ Ttype f p s ∷ []) ++ Ttype f (p + length s) (c ∷ u) ∷ []) ≡ Some x

@@ -1,6 +1,6 @@
 -- Each step but an act leaves where both sides come to.
 use Rattle.sam_crossing.proofs.Common.{◌≡◌, List, ◌∷◌, ◌++◌, Option, Some, None, sym, ap, ◌∙◌, append_assoc, append-nil, Tmesg, Hmesg, PlainHost, Reply, answers, reply_of, replied_then, PlainTerminal, flushed, unsent_message, Unsent, InOrder}
-use Rattle.sam_crossing.specs.Fold.{behind}
+use Rattle.sam_crossing.specs.Fold.{after_frames}
 use Rattle.sam_crossing.proofs.Views.{unsent-flushed}
 use Rattle.sam_local.specs.Local.{at_rest, all_taken, answered_with, come_to}
 use Rattle.sam_local.proofs.Sights.{sight, rests}
@@ -27,7 +27,7 @@ pub host-takes : (h : PlainHost) (t : PlainTerminal) (m : Tmesg) (up : List Tmes
 host-takes h t m up down r e n =
     let line = up ++ unsent_message t.unsent in
     ap (λ (o : Option Reply). answered_with h t down (replied_then o (λ k. answers k line))) e
-    ∙ ap (λ (o : Option Reply). answered_with h t down (behind r.1 o)) n.kept.folds
+    ∙ ap (λ (o : Option Reply). answered_with h t down (after_frames r.1 o)) n.kept.folds
     ∙ ap (λ (fs : List Hmesg). at_rest n.kept.ahead (all_taken t fs)) (sym (append_assoc down r.1 n.kept.frames))
     ∙ sym (come-to-is r.0 t up (down ++ r.1) n)
 

@@ -1,7 +1,7 @@
 -- The terminal takes a frame: both sides come to what they came to before.
 use Rattle.sam_crossing.proofs.Common.{◌≡◌, ℕ, ◌+◌, min, Bool, true, false, not, ◌&&◌, if◌then◌else◌, List, [], ◌∷◌, ◌++◌, length, Option, Some, None, is_some, option_map, refl, sym, ap, ◌∙◌, arith, append_assoc, append-nil, same_Some, part, most_in_message, first_of_checks, file_at, PlainFiles, Tmesg, Trequest, Tack, Hmesg, Hdata, Hunlockfile, Hcheck, PlainHost, Reply, NoFile, NotOpen, counted, host_checks, reply_to, reply_request, when, answers, reply_of, replied_then, Window, lock_of, KnownFile, PlainTerminal, known_at, window_at, is_open, put_window, frame_outcome, composed, all_composed, flushed, unsent_message, requests_for, Unsent, InOrder, IsHeldBack, OpenAt, Anything, IsSynced, Lens, is_crossing, action, at_file, effect, view, views, file_in, took_bindname, took_data, took_grow, took_growdata, took_cut, took_unlockfile, took_close, took_exit}
 use Rattle.sam_term.specs.Term.{sends_if, wanted, request_for}
-use Rattle.sam_crossing.specs.Fold.{behind, replied}
+use Rattle.sam_crossing.specs.Fold.{after_frames, replied}
 use Rattle.sam_crossing.specs.View.{composed_for}
 use Rattle.sam_crossing.proofs.Lenses.{IsFree}
 use Rattle.sam_crossing.proofs.Runs.{first_is_quiet}
@@ -106,7 +106,7 @@ silently : (h : PlainHost) (k : PlainTerminal) (line : List Tmesg) (down : List 
     → (y.0 ≡ counted r.0) × (sight (all_taken (composed k x) (down ++ y.1)) ≡ sight (all_taken k (down ++ r.1)))
 silently h k line down x r y fits now both silent = last (reply_of r.0 x) refl
   where
-    whole : answers h (line ++ x ∷ []) ≡ behind r.1 (replied_then (reply_of r.0 x) (λ j. Some (j, [])))
+    whole : answers h (line ++ x ∷ []) ≡ after_frames r.1 (replied_then (reply_of r.0 x) (λ j. Some (j, [])))
     whole = answers-more line (x ∷ []) h ∙ ap (λ (o : Option Reply). replied_then o (λ j. answers j (x ∷ []))) now
 
     z : PlainTerminal
@@ -117,7 +117,7 @@ silently h k line down x r y fits now both silent = last (reply_of r.0 x) refl
     last (Some s) q =
         let one = silent s q in
         let is : (s.0, r.1 ++ (s.1 ++ [])) ≡ y =
-        same_Some _ _ (sym (whole ∙ ap (λ (o : Option Reply). behind r.1 (replied_then o (λ j. Some (j, [])))) q) ∙ both) in
+        same_Some _ _ (sym (whole ∙ ap (λ (o : Option Reply). after_frames r.1 (replied_then o (λ j. Some (j, [])))) q) ∙ both) in
         let frames : down ++ (r.1 ++ (s.1 ++ [])) ≡ (down ++ r.1) ++ s.1 =
         ap (λ (fs : List Hmesg). down ++ (r.1 ++ fs)) (append-nil s.1) ∙ sym (append_assoc down r.1 s.1) in
         let same : sight (all_taken (composed k x) (down ++ (r.1 ++ (s.1 ++ [])))) ≡ sight z =

@@ -2,7 +2,7 @@
 use Rattle.sam_crossing.proofs.Common.{◌≡◌, ℕ, Bool, true, false, not, ◌==◌, ◌||◌, ◌&&◌, ◌+◌, if◌then◌else◌, List, [], ◌∷◌, length, Option, Some, None, refl, sym, ap, ◌∙◌, arith, same_Some, is_empty, ends_line, max_runes, nat_lt, nat_le, part, searched, may_look, searched_for, as_lines, has_room, Range, first_of_checks, file_at, Tmesg, Tstartcmdfile, Ttype, Tpaste, Tstartnewfile, Tlook, Tsearch, Tsend, Hmesg, Hsetpat, PlainHost, Reply, HostFault, counted, host_checks, reply_to, reply_found, with_files, answers, reply_of, replied_then, PlainTerminal}
 unfoldable use Rattle.sam_host.proofs.EachFrame.{replies_opened}
 use Rattle.sam_runes.specs.Texts.{all_tags}
-use Rattle.sam_crossing.specs.Fold.{replied, behind}
+use Rattle.sam_crossing.specs.Fold.{replied, after_frames}
 use Rattle.sam_local.specs.Local.{answered_with}
 
 abbrev pub rest : PlainHost → PlainHost
@@ -55,9 +55,9 @@ reply-rest h m = by h.is_done
     by true = refl
     by false = checked (first_of_checks (host_checks h m))
 
-rested-behind : (frames : List Hmesg) (o : Option Reply) → rested (behind frames o) ≡ behind frames (rested o)
-rested-behind frames None = refl
-rested-behind frames (Some r) = refl
+rested-after_frames : (frames : List Hmesg) (o : Option Reply) → rested (after_frames frames o) ≡ after_frames frames (rested o)
+rested-after_frames frames None = refl
+rested-after_frames frames (Some r) = refl
 
 then-rested : (a b : Option Reply) (next : PlainHost → Option Reply) → ((h : PlainHost) → rested (next (rest h)) ≡ rested (next h)) → rested a ≡ rested b
     → rested (replied_then a next) ≡ rested (replied_then b next)
@@ -66,8 +66,8 @@ then-rested None (Some y) next n e = grind arith
 then-rested (Some x) None next n e = grind arith
 then-rested (Some x) (Some y) next n e =
     let same = same_Some _ _ e in
-    rested-behind x.1 (next x.0) ∙ ap (behind x.1) (sym (n x.0)) ∙ (λ i. behind (same i).1 (rested (next (same i).0))) ∙ ap (behind y.1) (n y.0)
-    ∙ sym (rested-behind y.1 (next y.0))
+    rested-after_frames x.1 (next x.0) ∙ ap (after_frames x.1) (sym (n x.0)) ∙ (λ i. after_frames (same i).1 (rested (next (same i).0))) ∙ ap (after_frames y.1) (n y.0)
+    ∙ sym (rested-after_frames y.1 (next y.0))
 
 answers-rest : (ms : List Tmesg) (h : PlainHost) → rested (answers (rest h) ms) ≡ rested (answers h ms)
 answers-rest [] h = refl

@@ -1,4 +1,4 @@
-//! What the passes of a line know, the line's rule, and what each step of a pass tells. A pass is what one end knows of the
+//! What the passes of a line know, the line's rule, and what each step of a pass reports. A pass is what one end knows of the
 //! queue; it has no bytes. So of the types below only `Entry` has values when the program runs: the others are for proofs.
 use crossbeam_queue::protocol::{Join, Lesson, Outcome, Protocol, Split};
 use std::collections::LinkedList;
@@ -61,7 +61,7 @@ impl<T> Protocol<Entry<T>, Port<T>> for OneHistory {
     ghost first = { first_port };
 }
 
-/// The step that tells the first pass of one sender more. It comes before any post is made.
+/// The step that gives the first pass one sender more. It comes before any post is made.
 pub struct Widen;
 
 impl<T> Split<Port<T>> for Widen {

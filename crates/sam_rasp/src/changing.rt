@@ -209,9 +209,9 @@ impl Tree {
         (Tree::one(first).merge(others), true)
     }
 
-    /// Puts `runes` in at place `p` if there is a loaded section there with room for them. Returns the sections, and whether it did; if not,
-    /// they are as they were. Where two sections meet at `p`, the end of the first is tried before the start of the second. No memory is
-    /// asked for.
+    /// Puts `runes` in at place `p` if there is a loaded section there with room for them. Returns the sections, and whether it did; if
+    /// not, they are as they were. Where two sections meet at `p`, the end of the first is tried before the start of the second. No memory
+    /// is asked for.
     #[tactic(auto, using(crate::proofs::Trees::insert_inside_facts))]
     pub fn insert_inside(self, p: u32, runes: &[char]) -> (Tree, bool)
         requires { length (cells_of self) + length runes.now ≤ max_runes }

@@ -7,7 +7,7 @@ use Rattle.sam_text.specs.Files.{opened_file}
 use Rattle.sam_runes.specs.Texts.{all_tags}
 use Rattle.sam_text.specs.Meaning.{meaning}
 use Rattle.sam_term.specs.LockCounts.{asks_for, requests}
-use Rattle.sam_crossing.specs.Fold.{replied, behind}
+use Rattle.sam_crossing.specs.Fold.{replied, after_frames}
 use Rattle.sam_crossing.proofs.HostFiles.{opens_at, gone_at}
 use Rattle.sam_crossing.proofs.Folds.{plain_reply}
 use Rattle.sam_rest.proofs.Actions.{fills}
@@ -148,11 +148,11 @@ none-reply f h (Ttype g p s) e =
     none-if f ((g == 0) && ends_line s) _ (with_file h g (typed_file g (file_at h.files g) p s), []) (none-line f (with_file h g (typed_file g (file_at h.files g) p s)) [] _ refl) refl
 none-reply f h (Tpaste g p) e =
     let s = h.files.snarf in
-    let behind = Hsetdot g p (p + length s) ∷ Hcheck g ∷ Hunlockfile g ∷ [] in
+    let after_frames = Hsetdot g p (p + length s) ∷ Hcheck g ∷ Hunlockfile g ∷ [] in
     let x = grown h.files g p s in
     let y = told_dirty h.files g in
-    none-if f (is_empty s || nat_lt max_runes (length (file_at h.files g).text + length s)) (h, Hunlockfile g ∷ []) (_, x ++ y ++ behind) (grind arith)
-    (none-both f (x ++ y) behind (none-both f x y (none-grown f h.files g p s) (none-dirty f h.files g)) (grind arith))
+    none-if f (is_empty s || nat_lt max_runes (length (file_at h.files g).text + length s)) (h, Hunlockfile g ∷ []) (_, x ++ y ++ after_frames) (grind arith)
+    (none-both f (x ++ y) after_frames (none-both f x y (none-grown f h.files g p s) (none-dirty f h.files g)) (grind arith))
 none-reply f h Tstartnewfile e =
     let g = length h.files.slots in
     none-if f (nat_le all_tags g) (_, printed h.files no_tag_left ++ Hunlock ∷ []) (_, Hnewname g ∷ Hbindname g ∷ Hcurrent g ∷ Hunlock ∷ [])
@@ -191,7 +191,7 @@ none-answers f (m ∷ ms) h r a e = by (reply_of h m) refl e (λ k x. none-answe
     by None q e more = absurd (grind arith)
     by (Some s) q e more = go (answers s.0 ms) refl e
       where
-        go : (o : Option Reply) → answers s.0 ms ≡ o → behind s.1 o ≡ Some r → HasNone f r.1
+        go : (o : Option Reply) → answers s.0 ms ≡ o → after_frames s.1 o ≡ Some r → HasNone f r.1
         go None v w = absurd (grind arith)
         go (Some y) v w =
             subst (HasNone f) (ap (λ (x : Reply). x.1) (same_Some _ _ w)) (none-both f s.1 y.1 (none-reply_of f h m s (omega (arith, a)) q) (more s.0 y v))

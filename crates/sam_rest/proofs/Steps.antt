@@ -5,7 +5,7 @@ use Rattle.sam_term.specs.Term.{wanted, sends_if, request_for, gaps_shown}
 use Rattle.sam_term.specs.LockCounts.{requests, awaited_left}
 use Rattle.sam_term.specs.declared.event.UserEvent.TheVariants.{View, Load}
 use Rattle.sam_term.proofs.LockLaws.{event_awaits, flush_awaits, frame_awaits}
-use Rattle.sam_crossing.specs.Fold.{behind}
+use Rattle.sam_crossing.specs.Fold.{after_frames}
 use Rattle.sam_crossing.specs.View.{composed_for}
 use Rattle.sam_crossing.proofs.Lenses.{IsOpen}
 use Rattle.sam_crossing.proofs.Folds as folds
@@ -29,7 +29,7 @@ awaited-host h t m up down r e n k f = subst (AwaitsAll (window_at t f).awaited)
     p = answers-up r.0 t up (down ++ r.1) n
 
     both : answers h (m ∷ up) ≡ Some (p.first.0, r.1 ++ p.first.1)
-    both = ap (λ (o : Option Reply). replied_then o (λ k. answers k up)) e ∙ ap (behind r.1) p.now
+    both = ap (λ (o : Option Reply). replied_then o (λ k. answers k up)) e ∙ ap (after_frames r.1) p.now
 
     same : coming_to f h (m ∷ up) down ≡ coming_to f r.0 up (down ++ r.1)
     same = ap (λ (o : Option Reply). at_file f (down ++ frames_of o)) both ∙ ap (at_file f) (sym (append_assoc down r.1 p.first.1))

@@ -7,7 +7,7 @@ unfoldable use Rattle.sam_term.specs.Term.{stretches}
 use Rattle.sam_term.specs.Loading.{AreOfGaps}
 use Rattle.sam_term.proofs.Loads.{stretches-some}
 use Rattle.sam_term.proofs.Stretches.{load_law}
-use Rattle.sam_crossing.specs.Fold.{behind}
+use Rattle.sam_crossing.specs.Fold.{after_frames}
 use Rattle.sam_crossing.specs.View.{composed_for}
 use Rattle.sam_crossing.proofs.Lenses.{IsOpen, locked_more, AreSkips}
 use Rattle.sam_crossing.proofs.Folds as folds
@@ -72,7 +72,7 @@ pub coming-host : (h : PlainHost) (t : PlainTerminal) (m : Tmesg) (up : List Tme
     → coming h t (m ∷ up) down ≡ coming r.0 t up (down ++ r.1)
 coming-host h t m up down r e n =
     let line = up ++ unsent_message t.unsent in
-    let both : answers h (m ∷ line) ≡ Some (n.kept.ahead, r.1 ++ n.kept.frames) = ap (λ (o : Option Reply). replied_then o (λ k. answers k line)) e ∙ ap (behind r.1) n.kept.folds in
+    let both : answers h (m ∷ line) ≡ Some (n.kept.ahead, r.1 ++ n.kept.frames) = ap (λ (o : Option Reply). replied_then o (λ k. answers k line)) e ∙ ap (after_frames r.1) n.kept.folds in
     ap (λ (o : Option Reply). down ++ frames_of o) both ∙ sym (append_assoc down r.1 n.kept.frames) ∙ sym (ap (λ (o : Option Reply). (down ++ r.1) ++ frames_of o) n.kept.folds)
 
 pub work-host : (h : PlainHost) (t : PlainTerminal) (m : Tmesg) (up : List Tmesg) (down : List Hmesg) (r : Reply) → reply_of h m ≡ Some r → InOrder r.0 t up (down ++ r.1)

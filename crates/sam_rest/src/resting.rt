@@ -8,7 +8,7 @@ ghost use Rattle.sam_world.specs.Faults.{IsNextFault};
 use sam_world::{StepFault, World};
 
 /// What can be brought to rest: a [`World`]. It is a trait because `World` stands in a lower crate, which knows none of the laws that
-/// tell that this ends.
+/// say that this ends.
 pub trait Rest {
     /// Makes events happen until none applies, without a limit, each of them the one that `World::drain` would make happen next. It ends
     /// in every world, however much is under way. The user does nothing in them. At `Ok` all is done: nothing is unsent, under way, held

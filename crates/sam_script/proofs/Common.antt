@@ -18,7 +18,7 @@ unfoldable pub use Rattle.sam_script.specs.Events.{edit_at}
 pub use Rattle.sam_script.specs.Events.Part.{Number, Rest}
 pub use Rattle.sam_script.specs.Reading.{Adds, AddsNone, IsUnsaid, bare, fitting_name, fitting_text, is_silent, line_readers, read_by}
 unfoldable pub use Rattle.sam_script.specs.Reading.{event_at, file_at, file_text_at, line_at}
-pub use Rattle.sam_script.specs.Replay.{IsReplayFault, IsStopOf, after_line, behind, printed_by, replayed_from, stepped}
+pub use Rattle.sam_script.specs.Replay.{IsReplayFault, IsStopOf, after_line, after_output, printed_by, replayed_from, stepped}
 unfoldable pub use Rattle.sam_script.specs.Replay.{replayed}
 pub use Rattle.sam_script.specs.RunLines.{CanBeNamed, CanBeWritten, IsFitting, event_line, file_line, line_of, numbered_from, run_lines_of, run_script}
 pub use Rattle.sam_script.specs.Script.{PlainScript, key_of, mouse_of_line}

@@ -1,5 +1,5 @@
 -- What a replay has printed, line by line.
-use Rattle.sam_script.proofs.Common.{◌≡◌, ℕ, true, List, [], ◌∷◌, ◌++◌, Option, Some, Result, Ok, Err, refl, sym, ap, ◌∙◌, subst, append_assoc, arith, PlainWorld, new_world, step_of, run_of, Event, PlainScript, Spells, IsReadFault, after_line, printed_by, stepped, behind, replayed_from, replayed, IsReplayFault, IsStopOf, ScriptFault}
+use Rattle.sam_script.proofs.Common.{◌≡◌, ℕ, true, List, [], ◌∷◌, ◌++◌, Option, Some, Result, Ok, Err, refl, sym, ap, ◌∙◌, subst, append_assoc, arith, PlainWorld, new_world, step_of, run_of, Event, PlainScript, Spells, IsReadFault, after_line, printed_by, stepped, after_output, replayed_from, replayed, IsReplayFault, IsStopOf, ScriptFault}
 use Rattle.std.specs.Prelude.{All}
 use Rattle.std.proofs.lemmas.List.Elements.{All-head, All-tail}
 use Rattle.sam_host.specs.Laws.{AreGiven}
@@ -28,10 +28,10 @@ step_is_full number w e full = grind arith
 -- a line more
 pub line_more : (all : Result (List ℕ) ScriptFault) (w v : PlainWorld) (before after : List ℕ) (d : Numbered) (left rest : List Numbered)
     → left ≡ d ∷ rest
-    → all ≡ behind before (replayed_from w left)
+    → all ≡ after_output before (replayed_from w left)
     → after_line d.number w d.line ≡ Ok v
     → after ≡ before ++ printed_by w d.line
-    → all ≡ behind after (replayed_from v rest)
+    → all ≡ after_output after (replayed_from v rest)
 line_more all w v before after d left rest here so_far done printed = grind (arith, append_assoc)
 
 -- ---- as if there were no network

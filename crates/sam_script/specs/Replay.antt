@@ -42,9 +42,9 @@ printed_by w Show = show_lines w
 printed_by w _ = []
 
 -- after what was printed before
-abbrev pub behind : List ℕ → Result (List ℕ) ScriptFault → Result (List ℕ) ScriptFault
-behind before (Ok out) = Ok (before ++ out)
-behind before (Err why) = Err why
+abbrev pub after_output : List ℕ → Result (List ℕ) ScriptFault → Result (List ℕ) ScriptFault
+after_output before (Ok out) = Ok (before ++ out)
+after_output before (Err why) = Err why
 
 abbrev pub and_on : {A : Type 0} → Result PlainWorld ScriptFault → (PlainWorld → Result A ScriptFault) → Result A ScriptFault
 and_on (Ok v) rest = rest v
@@ -54,7 +54,7 @@ and_on (Err why) rest = Err why
 abbrev pub replayed_from : PlainWorld → List Numbered → Result (List ℕ) ScriptFault
 replayed_from w [] = Ok []
 replayed_from w (numbered ∷ more) =
-    behind (printed_by w numbered.line) (and_on (after_line numbered.number w numbered.line) (λ v. replayed_from v more))
+    after_output (printed_by w numbered.line) (and_on (after_line numbered.number w numbered.line) (λ v. replayed_from v more))
 
 -- what a script prints, over the first world of its files
 unfoldable pub replayed : PlainScript → Result (List ℕ) ScriptFault

@@ -2,7 +2,7 @@
 
 ghost use Rattle.std.specs.Prelude.{◌≡◌, ◌++◌, Ok, Err, IfOk, IfErr, OnOk, string_bytes};
 ghost use Rattle.sam_world.specs.Drain.{drained, drain_limit};
-ghost use Rattle.sam_script.specs.Replay.{after_line, behind, or_full, printed_by, replayed_from, stepped, replayed, IsReplay, IsReplayFault, IsStopOf, ReplaysAsIfLocal};
+ghost use Rattle.sam_script.specs.Replay.{after_line, after_output, or_full, printed_by, replayed_from, stepped, replayed, IsReplay, IsReplayFault, IsStopOf, ReplaysAsIfLocal};
 
 use crate::fault::ScriptFault;
 use crate::line::{Line, Numbered};
@@ -58,8 +58,8 @@ fn do_lines(
     out: &mut String,
     lines: &[Numbered],
 ) -> Result<(), ScriptFault>
-    ensures done { OnOk result (behind (string_bytes out.old) (replayed_from world.old lines.now) ≡ Ok (string_bytes out.new)) }
-    ensures stopped { IfErr result (λ why. IsStopOf (behind (string_bytes out.old) (replayed_from world.old lines.now)) why) }
+    ensures done { OnOk result (after_output (string_bytes out.old) (replayed_from world.old lines.now) ≡ Ok (string_bytes out.new)) }
+    ensures stopped { IfErr result (λ why. IsStopOf (after_output (string_bytes out.old) (replayed_from world.old lines.now)) why) }
 {
     for numbered in lines {
         let line = numbered.line.copy(alloc)?;

@@ -15,7 +15,7 @@ pub use Rattle.sam_script.specs.Script.{PlainScript, keys_of, mouse_of}
 pub use Rattle.sam_script.specs.Spelling.{IsReadFault, Spells}
 pub use Rattle.sam_session.specs.Outcome.{OnSide, Plays, Stops, Written, refusal_number, stop_at}
 pub use Rattle.sam_session.specs.Pieces.{Answers, MayEnd, StopsAt, of_host_stop}
-pub use Rattle.sam_session.specs.Serving.{Served, behind, serve, served_on}
+pub use Rattle.sam_session.specs.Serving.{Served, after_output, serve, served_on}
 pub use Rattle.sam_session.specs.Threading.{HasAllUsers, IsSessionFault, IsThreaded, IsThreadsFault, IsUnread, IsWoven, PrintsSession, first_cause, of_cause, of_stops}
 pub use Rattle.sam_session.specs.Words.{HoldsMode, attached, attached_from, bytes_app, program, threads_app}
 pub use Rattle.sam_session.specs.declared.fault.PlayFault.{PlayFault}

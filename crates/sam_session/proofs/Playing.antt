@@ -1,5 +1,5 @@
 -- Where the program stands between two pieces.
-use Rattle.sam_session.proofs.Common.{◌≡◌, ◌∙◌, ℕ, ◌+◌, ◌-◌, ◌≤◌, List, [], ◌∷◌, ◌++◌, length, take, Option, None, Some, IfSome, IfErr, OnOk, Result, Ok, Err, inl, inr, refl, sym, ap, subst, append_assoc, append-nil, length-append, arith, Appends, Consumes, IsAtEnd, Appends-nil, Appends-trans, Consumes-nil, Consumes-trans, Consumes-whole, Tmesg, terminal, version_after, PlainHost, HostFault, Answer, answer, Served, served_on, serve, behind, Stops, stop_at, Plays, Written, OnSide, Answers, StopsAt, MayEnd, of_host_stop, Stop, Frame, PlayFault}
+use Rattle.sam_session.proofs.Common.{◌≡◌, ◌∙◌, ℕ, ◌+◌, ◌-◌, ◌≤◌, List, [], ◌∷◌, ◌++◌, length, take, Option, None, Some, IfSome, IfErr, OnOk, Result, Ok, Err, inl, inr, refl, sym, ap, subst, append_assoc, append-nil, length-append, arith, Appends, Consumes, IsAtEnd, Appends-nil, Appends-trans, Consumes-nil, Consumes-trans, Consumes-whole, Tmesg, terminal, version_after, PlainHost, HostFault, Answer, answer, Served, served_on, serve, after_output, Stops, stop_at, Plays, Written, OnSide, Answers, StopsAt, MayEnd, of_host_stop, Stop, Frame, PlayFault}
 use Rattle.sam_frame.specs.Direction.{host}
 use Rattle.sam_frame.specs.Framing.{HasRoom}
 use Rattle.sam_frame.specs.Splitting.{Ends}
@@ -72,15 +72,15 @@ bytes_out : (h : PlainHost) (stream out : List ℕ) (e : PlainHostEndpoint) (s :
 bytes_out h stream out e s none = sym (append-nil (out ++ e.pending_bytes)) ∙ ap (λ fs. (out ++ e.pending_bytes) ++ stream_of host fs) (sym none) ∙ s.bytes
 
 -- the messages that were answered and those that wait
-served_all : (h : PlainHost) (stream out : List ℕ) (e : PlainHostEndpoint) (s : HasServed h stream out e) → serve h (s.answered ++ e.waiting) ≡ behind (stream_of host s.frames) (serve e.host e.waiting)
+served_all : (h : PlainHost) (stream out : List ℕ) (e : PlainHostEndpoint) (s : HasServed h stream out e) → serve h (s.answered ++ e.waiting) ≡ after_output (stream_of host s.frames) (serve e.host e.waiting)
 served_all h stream out e s = served_then h e.host s.answered e.waiting s.frames s.writes s.serves
 
 -- all were answered
 all_served : (h : PlainHost) (stream out : List ℕ) (e : PlainHostEndpoint) (s : HasServed h stream out e) → e.waiting ≡ [] → e.unwritten ≡ []
     → (out ++ e.pending_bytes ≡ (serve h (s.answered ++ e.waiting)).written) × ((serve h (s.answered ++ e.waiting)).end ≡ Ok e.host)
 all_served h stream out e s none written =
-    let all : serve h (s.answered ++ e.waiting) ≡ behind (stream_of host s.frames) (serve e.host []) =
-    served_all h stream out e s ∙ ap (λ ms. behind (stream_of host s.frames) (serve e.host ms)) none in
+    let all : serve h (s.answered ++ e.waiting) ≡ after_output (stream_of host s.frames) (serve e.host []) =
+    served_all h stream out e s ∙ ap (λ ms. after_output (stream_of host s.frames) (serve e.host ms)) none in
     (bytes_out h stream out e s written ∙ sym (append-nil (stream_of host s.frames)) ∙ sym (ap (λ (r : Served). r.written) all), ap (λ (r : Served). r.end) all)
 
 refused_on : (r : Answer) (why : HostFault) (ms : List Tmesg) → r ≡ Err why → served_on r (λ next. serve next ms) ≡ record { written = []; end = Err why }
@@ -90,8 +90,8 @@ refused_on r why ms is = ap (λ (a : Answer). served_on a (λ next. serve next m
 next_refused : (h : PlainHost) (stream out : List ℕ) (e : PlainHostEndpoint) (s : HasServed h stream out e) (m : Tmesg) (rest : List Tmesg) (why : HostFault) → e.waiting ≡ m ∷ rest
     → answer e.host m ≡ Err why → e.unwritten ≡ [] → (out ++ e.pending_bytes ≡ (serve h (s.answered ++ e.waiting)).written) × ((serve h (s.answered ++ e.waiting)).end ≡ Err why)
 next_refused h stream out e s m rest why waits refuses written =
-    let all : serve h (s.answered ++ e.waiting) ≡ behind (stream_of host s.frames) (record { written = []; end = Err why }) =
-    served_all h stream out e s ∙ ap (λ ms. behind (stream_of host s.frames) (serve e.host ms)) waits ∙ ap (behind (stream_of host s.frames)) (refused_on (answer e.host m) why rest refuses) in
+    let all : serve h (s.answered ++ e.waiting) ≡ after_output (stream_of host s.frames) (record { written = []; end = Err why }) =
+    served_all h stream out e s ∙ ap (λ ms. after_output (stream_of host s.frames) (serve e.host ms)) waits ∙ ap (after_output (stream_of host s.frames)) (refused_on (answer e.host m) why rest refuses) in
     (bytes_out h stream out e s written ∙ sym (append-nil (stream_of host s.frames)) ∙ sym (ap (λ (r : Served). r.written) all), ap (λ (r : Served). r.end) all)
 
 -- a stream at whose end all is answered

@@ -1,5 +1,5 @@
 -- What a host answers to messages in turn.
-use Rattle.sam_session.proofs.Common.{◌≡◌, ℕ, List, [], ◌∷◌, ◌++◌, Ok, Err, flat_map, append_assoc, arith, Tmesg, HFrame, PlainHost, Answer, answer, HostFault, served_on, serve, behind}
+use Rattle.sam_session.proofs.Common.{◌≡◌, ℕ, List, [], ◌∷◌, ◌++◌, Ok, Err, flat_map, append_assoc, arith, Tmesg, HFrame, PlainHost, Answer, answer, HostFault, served_on, serve, after_output}
 use Rattle.sam_frame.specs.Direction.{host}
 use Rattle.sam_frame.specs.Stream.{stream_of}
 use Rattle.sam_frame.proofs.Fronts.{stream_of-append}
@@ -7,13 +7,13 @@ use Rattle.sam_endpoint.specs.HostEndpoints.{Serves}
 
 -- a host that answered the first messages goes on to the others
 pub served_then : (h g : PlainHost) (ms ns : List Tmesg) (frames : List HFrame) (writes : List ℕ) → Serves h ms frames writes g
-    → serve h (ms ++ ns) ≡ behind (stream_of host frames) (serve g ns)
+    → serve h (ms ++ ns) ≡ after_output (stream_of host frames) (serve g ns)
 served_then h g [] ns frames writes (none, noted, is) = grind arith
 served_then h g (m ∷ ms) ns frames writes (k, first, rest, more, answered, is, noted, serves) =
     go (answer h m) answered (served_then k g ms ns rest more serves)
   where
-    go : (r : Answer) → r ≡ Ok (k, first) → serve k (ms ++ ns) ≡ behind (stream_of host rest) (serve g ns)
-        → served_on r (λ d. serve d (ms ++ ns)) ≡ behind (stream_of host frames) (serve g ns)
+    go : (r : Answer) → r ≡ Ok (k, first) → serve k (ms ++ ns) ≡ after_output (stream_of host rest) (serve g ns)
+        → served_on r (λ d. serve d (ms ++ ns)) ≡ after_output (stream_of host frames) (serve g ns)
     go r e u = grind (arith, append_assoc, (stream_of-append host first rest))
 
 -- after a refusal nothing is answered

@@ -20,5 +20,5 @@ serve h [] = record { written = []; end = Ok h }
 serve h (m ∷ ms) = served_on (answer h m) (λ next. serve next ms)
 
 -- the same after what was written before
-abbrev pub behind : List ℕ → Served → Served
-behind before served = record { written = before ++ served.written; end = served.end }
+abbrev pub after_output : List ℕ → Served → Served
+after_output before served = record { written = before ++ served.written; end = served.end }

@@ -92,7 +92,7 @@ pub fn mode_of(alloc: Global, words: Vec<String>) -> Result<Mode, ArgFault>
     mode_in(alloc, &matches)
 }
 
-/// Returns what to tell a person whose words name no mode: the help that they wish for, or what is wrong with them. The first word is the
+/// Returns what to say to a person whose words name no mode: the help that they wish for, or what is wrong with them. The first word is the
 /// program's name. Its only error is out of memory. What the text says is no promise.
 pub fn usage(alloc: Global, words: Vec<String>) -> Result<String, AllocError> {
     let words = with_text_attached(alloc, &words)?;

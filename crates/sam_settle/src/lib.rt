@@ -1,5 +1,5 @@
 //! What a session of five threads came to. [`settle`] puts the five ends together: the lines are audited, and both sides are one world, to
-//! which one schedule of all events leads. [`apart_sides_join`] is the law behind it.
+//! which one schedule of all events leads. [`apart_sides_join`] is the law that this rests on.
 #![tactic(auto)]
 
 mod laws;

@@ -142,7 +142,7 @@ impl Files {
         Ok(())
     }
 
-    /// Marks a file as announced: the terminal was told its name. The only error is `NoFile` if the tag has no file; the files are then
+    /// Marks a file as announced: the terminal knows its name. The only error is `NoFile` if the tag has no file; the files are then
     /// unchanged.
     pub fn announce(&mut self, tag: u16) -> Result<(), FilesFault>
         ensures answer { result ≡ unless (first_of_checks (file_checks self.old.plain tag)) tt }

@@ -131,7 +131,7 @@ impl Files {
         }
     }
 
-    /// Returns whether the terminal was told the name of the file of a tag; false if the tag has no file.
+    /// Returns whether the terminal knows the name of the file of a tag; false if the tag has no file.
     pub fn is_announced(&self, tag: u16) -> bool
         ensures { result ≡ (file_at self.now.plain tag).announced }
     {

@@ -25,8 +25,8 @@ Gives h piece k frames (Some fault) = (place : ℕ) × GaveUp host h piece frame
 
 -- of the frames that the framer gave, the terminal took these first ones, and not the ones after them
 abbrev pub TakesSome : Held → List ℕ → Held → PlainTerminal → PlainTerminal → List Tmesg → List HFrame → List HFrame → Type 0
-TakesSome h piece k t u composed frames behind =
-    (fault : Option MesgFault) × Gives h piece k (frames ++ behind) fault × TakesAll t frames composed u
+TakesSome h piece k t u composed frames later =
+    (fault : Option MesgFault) × Gives h piece k (frames ++ later) fault × TakesAll t frames composed u
 
 -- the framer refused the piece, and nothing has changed
 abbrev pub NothingTaken : Held → Held → PlainTerminal → PlainTerminal → List Tmesg → Type 0
@@ -43,14 +43,14 @@ FrameStops h piece k t u composed n =
 -- the terminal refused the next frame
 abbrev pub TermStops : Held → List ℕ → Held → PlainTerminal → PlainTerminal → List Tmesg → ℕ → Type 0
 TermStops h piece k t u composed n =
-    (frames : List HFrame) × (frame : HFrame) × (behind : List HFrame) × (why : TermFault)
-    × TakesSome h piece k t u composed frames (frame ∷ behind) × (take_of u frame ≡ Err why) × (n ≡ fault_number why)
+    (frames : List HFrame) × (frame : HFrame) × (later : List HFrame) × (why : TermFault)
+    × TakesSome h piece k t u composed frames (frame ∷ later) × (take_of u frame ≡ Err why) × (n ≡ fault_number why)
 
 -- memory was wanted for the piece, or for the next frame
 abbrev pub MemoryStops : Held → List ℕ → Held → PlainTerminal → PlainTerminal → List Tmesg → Type 0
 MemoryStops h piece k t u composed =
     ((h.failed ≡ false) × HasRoom h piece × NothingTaken h k t u composed)
-    ⊎ ((frames : List HFrame) × (frame : HFrame) × (behind : List HFrame) × TakesSome h piece k t u composed frames (frame ∷ behind))
+    ⊎ ((frames : List HFrame) × (frame : HFrame) × (later : List HFrame) × TakesSome h piece k t u composed frames (frame ∷ later))
 
 -- A piece came to a framer at h and a terminal t, which are left at k and u. The terminal composed these messages for the frames that it
 -- took, all that the framer gave unless something stopped it
@@ -81,7 +81,7 @@ TakesOne frame t u before after (Some s) = StopsAt t frame s × (u ≡ t) × (af
 
 -- all the frames were taken and what stands after them stopped it, or those before the one that stopped it
 abbrev pub TakesUpTo : List HFrame → Option Stop → PlainTerminal → PlainTerminal → List Tmesg → Option Stop → Type 0
-TakesUpTo frames behind t u composed stopped =
-    (TakesAll t frames composed u × (stopped ≡ behind))
+TakesUpTo frames last_stop t u composed stopped =
+    (TakesAll t frames composed u × (stopped ≡ last_stop))
     ⊎ ((done : List HFrame) × (frame : HFrame) × (rest : List HFrame) × (s : Stop)
     × (frames ≡ done ++ frame ∷ rest) × TakesAll t done composed u × (stopped ≡ Some s) × StopsAt u frame s)

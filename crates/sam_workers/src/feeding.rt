@@ -89,15 +89,15 @@ fn nothing(alloc: Global, stop: Stop) -> Fed
     }
 }
 
-/// Lets the terminal take the frames in order, up to the first that stops it. `behind` is what stops it after the last frame.
+/// Lets the terminal take the frames in order, up to the first that stops it. `last_stop` is what stops it after the last frame.
 fn take_all(
     alloc: Global,
     terminal: &mut Terminal,
     frames: Vec<HFrame>,
-    behind: Option<Stop>,
+    last_stop: Option<Stop>,
 ) -> Fed
     requires { All (λ frame. IsTrue (fits_h 2 frame.msg)) frames.items }
-    ensures { TakesUpTo frames.items behind terminal.old terminal.new result.composed.items result.stop }
+    ensures { TakesUpTo frames.items last_stop terminal.old terminal.new result.composed.items result.stop }
 {
     let mut composed = Vec::new(alloc);
     for frame in frames {
@@ -110,7 +110,7 @@ fn take_all(
     }
     Fed {
         composed,
-        stop: behind,
+        stop: last_stop,
     }
 }
 

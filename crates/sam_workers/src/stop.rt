@@ -3,7 +3,7 @@
 use thiserror::Error;
 
 /// Why a worker of a session stopped before its time. A number is that of the fault in the type that the variant names, so `Host(1)` is
-/// `HostFault::NoFile`. [`feed_terminal`](crate::feed_terminal) and the program's modes tell their stops by it, too.
+/// `HostFault::NoFile`. [`feed_terminal`](crate::feed_terminal) and the program's modes report their stops by it, too.
 #[derive(Clone, Copy, Debug, PartialEq, Eq, Error)]
 pub enum Stop {
     /// The stream to the side is wrong, by a number of `FeedFault`: 1 to 3 for a wrong frame, 4 if the stream ends within a frame, 5 if

@@ -48,7 +48,7 @@ pub fn given_files(
     Ok(given)
 }
 
-/// Makes known that each text is within the limit of texts. A text tells this when it is asked for its length, and the first world
+/// Makes known that each text is within the limit of texts. A text shows this when it is asked for its length, and the first world
 /// needs it.
 pub(crate) fn texts_are_short(files: &[(Runes, Text)])
     ensures { AreShort files.now }

@@ -11,6 +11,6 @@ returns c =
     let e : PlainTermEndpoint = shown c.self.inside in
     let given = c.in_ok-given.given in
     let framer = c.feed_framer.new.framer in
-    let g : PlainTermEndpoint = record e { framer = framer; waiting = c.from_vec.result.items; behind = given.behind } in
+    let g : PlainTermEndpoint = record e { framer = framer; waiting = c.from_vec.result.items; broken_by = given.broken_by } in
     subst (λ (x : PlainTermEndpoint). TakesIn x c.args.piece.now g) c.self.view_is
-    (given.messages.items, given.behind, framer, c.in_ok-given.ensures, ap (λ frames. record e { framer = framer; waiting = frames; behind = given.behind }) c.from_vec.ensures.items)
+    (given.messages.items, given.broken_by, framer, c.in_ok-given.ensures, ap (λ frames. record e { framer = framer; waiting = frames; broken_by = given.broken_by }) c.from_vec.ensures.items)
