@@ -5,6 +5,7 @@ pub mod Runs
 pub mod RaspLaws
 pub mod Agreeing
 pub mod Trees
+pub mod InPlace
 pub mod Partings
 pub mod Readings
 pub mod Crossing

@@ -49,10 +49,6 @@ pub all_loaded-append : (xs ys : List Section) → all_loaded (xs ++ ys) ≡ (al
 all_loaded-append [] ys = refl
 all_loaded-append (x ∷ xs) ys = grind (arith, (all_loaded-append xs ys))
 
--- one section alone
-pub normal-alone : (l : List Section) (s : Section) (r : List Section) → IsNormal (l ++ s ∷ r) → IsFilled s
-normal-alone l s r h = (normal-suffix l (s ∷ r) h).0
-
 -- what a list shares with another one after it or before it
 pub normal-left : (xs ys l q : List Section) → ys ≡ l ++ q → IsNormal (xs ++ ys) → IsNormal (xs ++ l)
 normal-left xs ys l q e h = normal-front l q ys xs (sym e) h
@@ -68,6 +64,9 @@ shorter-right xs ys l s r e h = grind (arith, (cells_append xs ys), (cells_appen
 
 pub last-behind : (l : List Section) (s : Section) (r ys : List Section) (a : Section) → r ≡ ys ++ a ∷ [] → l ++ s ∷ r ≡ (l ++ s ∷ ys) ++ a ∷ []
 last-behind l s r ys a e = grind (arith, append_assoc)
+
+pub first-before : (l : List Section) (s : Section) (r ys : List Section) (a : Section) → l ≡ a ∷ ys → l ++ s ∷ r ≡ a ∷ (ys ++ s ∷ r)
+first-before l s r ys a e = grind arith
 
 pub normal-popped : (l : List Section) (s : Section) (r ys : List Section) (a : Section) → r ≡ ys ++ a ∷ [] → IsNormal (l ++ s ∷ r) → IsNormal (l ++ s ∷ ys)
 normal-popped l s r ys a e h = normal-shorter ys (a ∷ []) r l s (sym e) h
@@ -293,12 +292,6 @@ pub normal-grown : (xs : List Section) (a b : Section) (ys : List Section) → G
 normal-grown (w ∷ v ∷ xs) a b ys g h = (h.0, h.1, normal-grown (v ∷ xs) a b ys g h.2)
 normal-grown xs a b ys g h = grind arith
 
-pub last-grown : (l : List Section) (a b : Section) (old xs : List Section) → old ≡ l ++ a ∷ [] → Grows a b → IsNormal (old ++ xs) → IsNormal ((l ++ b ∷ []) ++ xs)
-last-grown l a b old xs e g h = subst IsNormal (sym (append_assoc l (b ∷ []) xs)) (normal-grown l a b xs g (subst IsNormal (ap (λ y. y ++ xs) e ∙ append_assoc l (a ∷ []) xs) h))
-
-pub first-grown : (a b : Section) (r xs : List Section) → Grows a b → IsNormal (xs ++ (a ∷ r)) → IsNormal (xs ++ (b ∷ r))
-first-grown a b r xs g h = normal-grown xs a b r g h
-
 pub ins-first : (a b m : PartialText) (p : ℕ) → p ≤ length a → ins a p m ++ b ≡ ins (a ++ b) p m
 ins-first a b m p l = grind (arith, (take-append-le p a b l), (drop-append-le p a b l), (append_assoc (take p a ++ m) (drop p a) b))
 
@@ -343,9 +336,3 @@ pub ruleset sort_from_facts = (from-behind, from-most, from-left, from-ends, fro
 
 -- what `sort_before` rests on
 pub ruleset sort_before_facts = (before-behind, before-stops, before-ends, before-goes-on, before-most, all-taken, length-forked)
-
--- what `fill_last` and `fill_first` rest on
-pub ruleset fill_facts = (last-grown, first-grown, normal-alone, cells-push, length-forked, length_ins, ins-first, append-nil, append_assoc)
-
--- what `insert_inside` rests on
-pub ruleset insert_inside_facts = (ins-first, ins-past, cells_append, normal-suffix, normal-prefix)

@@ -4,11 +4,12 @@
 ghost use Rattle.std.specs.Prelude.{◌≡◌, ◌<◌, ◌≤◌, ◌+◌, ◌++◌, ◌∷◌, [], List, map, length, replicate, drop, None, Some, IfOk, true, false, if◌then◌else◌};
 ghost use Rattle.sam_runes.specs.Texts.{del, ins, max_runes, most_in_message};
 ghost use Rattle.sam_rasp.specs.declared.section.Section.{Section};
-ghost use Rattle.sam_rasp.specs.Sections.{cells, cells_of, is_loaded, size, may_join, IfFirst, IsNormal};
+ghost use Rattle.sam_rasp.specs.declared.section.Section.TheVariants.{Loaded};
+ghost use Rattle.sam_rasp.specs.Sections.{cells, cells_of, is_loaded, size, may_join, IsFilled, IsNormal};
 
 use crate::piece::Piece;
 use crate::section::Section;
-use crate::tree::{Fork, Tree};
+use crate::tree::{Fork, Incoming, NOTHING_BESIDE, Tree};
 use sam_runes::MOST_IN_MESSAGE;
 use std::alloc::{AllocError, Global};
 use std::mem;
@@ -49,6 +50,16 @@ impl Maker {
         Ok(Tree::new().push(fork))
     }
 
+    /// Returns `runes` as one loaded section. The only error is out of memory.
+    pub fn piece(&self, runes: &[char]) -> Result<Box<Fork>, AllocError>
+        requires { length runes.now ≤ most_in_message }
+        ensures { IfOk result (λ f. f.value.section ≡ Loaded runes.now) }
+    {
+        let mut piece = Piece::new(self.alloc)?;
+        piece.extend(runes);
+        Fork::new(self.alloc, Section::Loaded(piece))
+    }
+
     /// Returns `runes` as loaded sections, of `MOST_IN_MESSAGE` runes each but for the last; without runes there is none. The only error
     /// is out of memory.
     pub fn runes(&self, runes: &[char]) -> Result<Tree, AllocError>
@@ -59,22 +70,12 @@ impl Maker {
         let mut at = 0;
         while at < runes.len() {
             let end = runes.len().min(at + MOST_IN_MESSAGE);
-            let mut piece = Piece::new(self.alloc)?;
-            piece.extend(&runes[at..end]);
-            let fork = Fork::new(self.alloc, Section::Loaded(piece))?;
+            let fork = self.piece(&runes[at..end])?;
             sections = sections.push(fork);
             at = end;
         }
         Ok(sections)
     }
-}
-
-/// Returns whether the section is loaded and has room for `count` more runes.
-fn has_room(section: &Section, count: usize) -> bool
-    requires { count ≤ max_runes }
-    ensures { result ≡ true → (is_loaded section.now ≡ true) × (size section.now + count ≤ most_in_message) }
-{
-    section.is_loaded() && section.len() as usize + count <= MOST_IN_MESSAGE
 }
 
 impl Tree {
@@ -173,61 +174,21 @@ impl Tree {
         front.push(first).join(more).push(back).join(rest)
     }
 
-    /// Puts `runes` in at the end of the last section if it is loaded and has room for them. Returns the sections, and whether it did.
-    #[tactic(auto, using(crate::proofs::Trees::fill_facts))]
-    fn fill_last(self, runes: &[char]) -> (Tree, bool)
-        requires { length (cells_of self) + length runes.now ≤ max_runes }
-        ensures cells { cells_of result.0 ≡ (if result.1 then cells_of self ++ map Some runes.now else cells_of self) }
-        ensures normal { (xs : List Section) → IsNormal (self ++ xs) → IsNormal (result.0 ++ xs) }
+    /// Puts the loaded section `fork` in at place `p`. No memory is asked for: `spare` serves where a section is cut in two.
+    pub fn put_piece(&mut self, p: u32, fork: Box<Fork>, spare: Spare)
+        requires within { p ≤ length (cells_of self.old) }
+        requires limit { length (cells_of self.old) + size fork.value.section ≤ max_runes }
+        requires loaded { is_loaded fork.value.section ≡ true }
+        requires filled { IsFilled fork.value.section }
+        requires empty { spare.piece ≡ [] }
+        ensures { cells_of self.new ≡ ins (cells_of self.old) p (cells fork.value.section) }
     {
-        let Some((others, mut last)) = self.pop_last() else {
-            return (Tree::new(), false);
+        let Spare { fork: back, piece } = spare;
+        let incoming = Incoming { fork, back };
+        let Some(Incoming { fork, back }) = self.put(p, incoming, NOTHING_BESIDE, NOTHING_BESIDE) else {
+            return;
         };
-        if !has_room(&last.section, runes.len()) {
-            return (others.merge(Tree::one(last)), false);
-        }
-        let end = last.section.len();
-        last.section.insert(end, runes);
-        (others.merge(Tree::one(last)), true)
-    }
-
-    /// Puts `runes` in at place `at` of the first section if it is loaded and has room for them. Returns the sections, and whether it did.
-    #[tactic(auto, using(crate::proofs::Trees::fill_facts))]
-    fn fill_first(self, at: u32, runes: &[char]) -> (Tree, bool)
-        requires limit { length (cells_of self) + length runes.now ≤ max_runes }
-        requires within { IfFirst self (λ s. at ≤ size s) }
-        ensures cells { cells_of result.0 ≡ (if result.1 then ins (cells_of self) at (map Some runes.now) else cells_of self) }
-        ensures normal { (xs : List Section) → IsNormal (xs ++ self) → IsNormal (xs ++ result.0) }
-    {
-        let Some((mut first, others)) = self.pop_first() else {
-            return (Tree::new(), false);
-        };
-        if !has_room(&first.section, runes.len()) {
-            return (Tree::one(first).merge(others), false);
-        }
-        first.section.insert(at, runes);
-        (Tree::one(first).merge(others), true)
-    }
-
-    /// Puts `runes` in at place `p` if there is a loaded section there with room for them. Returns the sections, and whether it did; if
-    /// not, they are as they were. Where two sections meet at `p`, the end of the first is tried before the start of the second. No memory
-    /// is asked for.
-    #[tactic(auto, using(crate::proofs::Trees::insert_inside_facts))]
-    pub fn insert_inside(self, p: u32, runes: &[char]) -> (Tree, bool)
-        requires { length (cells_of self) + length runes.now ≤ max_runes }
-        ensures { cells_of result.0 ≡ (if result.1 then ins (cells_of self) p (map Some runes.now) else cells_of self) }
-    {
-        let (front, rest) = self.split(p);
-        let at = p - front.len();
-        if at > 0 {
-            let (rest, done) = rest.fill_first(at, runes);
-            return (front.merge(rest), done);
-        }
-        let (front, done) = front.fill_last(runes);
-        if done {
-            return (front.merge(rest), true);
-        }
-        let (rest, done) = rest.fill_first(0, runes);
-        (front.merge(rest), done)
+        let spare = Spare { fork: back, piece };
+        *self = mem::replace(self, Tree::new()).insert(p, Tree::one(fork), spare);
     }
 }

@@ -3,7 +3,7 @@
 ghost use Rattle.std.specs.Prelude.{◌≡◌, ◌<◌, ◌≤◌, ◌+◌, ◌-◌, ◌++◌, ◌↔◌, IsTrue, [], length, map, slice_get, take, drop, true, Some};
 ghost use Rattle.sam_runes.specs.Texts.{del, ins, max_runes, most_in_message};
 ghost use Rattle.sam_rasp.specs.Rasp.{Agrees};
-ghost use Rattle.sam_rasp.specs.Sections.{cells, size, may_join, is_loaded, joined, IsShort};
+ghost use Rattle.sam_rasp.specs.Sections.{cells, least, size, may_join, is_loaded, joined, IsShort};
 
 use crate::piece::Piece;
 use sam_runes::MOST_IN_MESSAGE;
@@ -78,6 +78,18 @@ impl Section {
         }
     }
 
+    /// Returns the fewest runes that count for it where it stands beside another section: its own if it is loaded, and `MOST_IN_MESSAGE` if
+    /// it is a hole, since no loaded section joins a hole.
+    pub(crate) fn least(&self) -> u32
+        ensures least { result ≡ least self.now }
+        ensures limit { result ≤ most_in_message }
+    {
+        match self {
+            Section::Loaded(text) => text.len() as u32,
+            Section::Hole(_) => MOST_IN_MESSAGE as u32,
+        }
+    }
+
     /// Returns whether this section and `next`, which follows it, are to be one section. Two holes always are; two loaded texts are
     /// if they have at most `MOST_IN_MESSAGE` runes together.
     pub fn may_join(&self, next: &Section) -> bool
@@ -138,6 +150,7 @@ impl Section {
         requires within { q ≤ size self.old }
         ensures cells { cells self.new ≡ del (cells self.old) p q }
         ensures size { size self.new + (q - p) ≡ size self.old }
+        ensures loaded { is_loaded self.new ≡ is_loaded self.old }
     {
         match self {
             Section::Loaded(text) => text.cut(p as usize, q as usize),

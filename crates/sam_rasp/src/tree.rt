@@ -5,7 +5,11 @@ ghost use Rattle.std.specs.List.{prefix_len};
 ghost use Rattle.sam_runes.specs.Texts.{ins, max_runes, most_in_message};
 ghost use Rattle.sam_rasp.specs.declared.section.Section.{Section};
 ghost use Rattle.sam_rasp.specs.Rasp.{Agrees, is_sort, sort_before, sort_from};
-ghost use Rattle.sam_rasp.specs.Sections.{all_loaded, cells, cells_of, is_loaded, size, IfFirst, IsFilled, IsLast, IsNormal};
+ghost use Rattle.sam_rasp.specs.Sections.{all_loaded, cells, cells_of, is_loaded, size, IfFirst, IsFilled, IsFirst, IsLast, IsNormal};
+
+mod in_place;
+
+pub use in_place::{Incoming, NOTHING_BESIDE};
 
 use crate::section::Section;
 use std::alloc::{AllocError, Global};
@@ -303,6 +307,19 @@ impl Tree {
         match right.pop_last() {
             Some((right, last)) => Some((left.link(fork, right), last)),
             None => Some((left, fork)),
+        }
+    }
+
+    /// Returns the first section, if there is one.
+    fn first(&self) -> Option<&Section>
+        ensures first { MatchOption result (self.now ≡ []) (λ s. IsFirst self.now s.now) }
+    {
+        let Some(fork) = &self.root else {
+            return None;
+        };
+        match fork.left.first() {
+            Some(first) => Some(first),
+            None => Some(&fork.section),
         }
     }
 

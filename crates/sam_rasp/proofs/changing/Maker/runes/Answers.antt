@@ -5,8 +5,7 @@ use Rattle.sam_rasp.proofs.changing.Maker.runes.Goals as goal
 pub loop-at-preserved : goal.loop-at-preserved
 loop-at-preserved c =
     let stretch = take (c.min-end.result - c.loop-at.at) (drop c.loop-at.at c.args.runes.now) in
-    let loaded : c.extend.new.self ≡ stretch = c.extend.ensures ∙ ap (λ x. x ++ stretch) c.in_ok-piece.ensures in
-    let section : cells c.in_ok-fork.fork.value.section ≡ map Some stretch = ap cells c.in_ok-fork.ensures ∙ ap (λ x. map Some x) loaded in
+    let section : cells c.in_ok-fork.fork.value.section ≡ map Some stretch = ap cells c.in_ok-fork.ensures in
     let pushed : cells_of c.push-sections.result ≡ cells_of c.loop-at.sections ++ map Some stretch =
     c.push-sections.ensures.cells ∙ ap (λ x. cells_of c.loop-at.sections ++ x) section in (
       one-more (cells_of c.loop-at.sections) (cells_of c.push-sections.result)
